@@ -1,0 +1,3 @@
+mod Masks
+pub mod SpinWordLemmas
+pub mod RwWordLemmas

@@ -1,0 +1,2 @@
+pub mod SpinWord
+pub mod RwWord
