@@ -1,0 +1,10 @@
+pub mod Moments
+pub mod Sameness
+pub mod Sharing
+pub mod Clauses
+pub mod Table
+pub mod OneMore
+pub mod QueueRoom
+pub mod Plain
+pub mod Telling
+pub mod Judging

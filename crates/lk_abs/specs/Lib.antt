@@ -1,0 +1,10 @@
+pub mod ListOf
+pub mod ListLends
+pub mod Names
+pub mod History
+pub mod Kicks
+pub mod Lawful
+pub mod Allowed
+pub mod Breaches
+pub mod Lists
+pub mod Judge

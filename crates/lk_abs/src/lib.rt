@@ -1,0 +1,23 @@
+//! What every other crate speaks of: names of locks and waiters, events, acts, and the jobs of the ledger. Its `specs/` say
+//! what a history of events tells of each lock, and when a history is lawful.
+#![tactic(auto)]
+
+mod events;
+mod judge;
+mod laws;
+mod ledger;
+mod list;
+mod lock_record;
+mod memory;
+mod names;
+
+pub use events::{Act, Breach, Event, How, Lists, RwHow, What};
+pub use judge::Judge;
+pub use laws::judge_is_exact;
+pub use ledger::{Entry, Job, Reply, Seen};
+pub use list::List;
+pub use memory::Memory;
+pub use names::{Kind, LockName, Mode, Topology, Waiter};
+
+#[cfg(test)]
+mod tests;

@@ -1,0 +1,120 @@
+// A list in memory that was taken at its start.
+ghost use Rattle.std.specs.Prelude.{◌≡◌, ◌<◌, [], ◌∷◌, ◌++◌, IfOk, length, slice_get, Some};
+ghost use Rattle.std.specs.Borrow.{sem};
+
+use crate::memory::Memory;
+use std::alloc::Global;
+use std::marker::Model;
+
+/// Items in order, in room that is taken when the list is made. Contracts see the items and the room; no call changes the room.
+#[derive(Drop)]
+pub struct List<T> {
+    items: Vec<T>,
+    room: usize,
+}
+
+impl<T> Model for List<T> {
+    ghost use Rattle.std.specs.Prelude.{◌≤◌, vec_capacity};
+    ghost use Rattle.lk_abs.specs.ListOf.{ListOf};
+
+    ghost Value = { ListOf T };
+
+    ghost view = { λ list. record { items = list.items.items; room = list.room } };
+
+    ghost invariant = { λ list. list.room ≤ vec_capacity list.items };
+}
+
+impl<T> List<T> {
+    ghost use Rattle.lk_abs.specs.ListLends.{LendsItem, LendsItems};
+
+    /// An empty list with this room, which is taken at once.
+    pub fn new(alloc: Global, room: usize) -> Result<List<T>, Memory>
+        ensures { IfOk result (λ list. list ≡ record { items = []; room = room }) }
+    {
+        let items = Vec::with_capacity(alloc, room)?;
+        Ok(List { items, room })
+    }
+
+    /// Appends an item.
+    pub fn push(&mut self, item: T)
+        requires { length self.old.items < self.old.room }
+        ensures { self.new ≡ record self.old { items = self.old.items ++ item ∷ [] } }
+    {
+        match self.items.push(item) {
+            Ok(()) => {}
+            Err(_) => unreachable!(),
+        }
+    }
+
+    /// Takes the last item off.
+    pub fn pop(&mut self) -> T
+        requires { 0 < length self.old.items }
+        ensures items { self.old.items ≡ self.new.items ++ result ∷ [] }
+        ensures room { self.new.room ≡ self.old.room }
+    {
+        match self.items.pop() {
+            Some(item) => item,
+            None => unreachable!(),
+        }
+    }
+
+    /// Takes the first item off, and moves the others up by one place.
+    pub fn pop_front(&mut self) -> T
+        requires { 0 < length self.old.items }
+        ensures items { self.old.items ≡ result ∷ self.new.items }
+        ensures room { self.new.room ≡ self.old.room }
+    {
+        self.as_mut_slice().rotate_left(1);
+        self.pop()
+    }
+
+    /// How many items there are.
+    pub fn len(&self) -> usize
+        ensures { result ≡ length self.now.items }
+    {
+        self.items.len()
+    }
+
+    /// The item at a place.
+    pub fn get(&self, at: usize) -> &T
+        requires { at < length self.now.items }
+        ensures { slice_get self.now.items at ≡ Some result.now }
+    {
+        &self.items[at]
+    }
+
+    /// The item at a place, for writing.
+    pub fn get_mut(&mut self, at: usize) -> &mut T
+        requires { at < length self.old.items }
+        ensures* writes_back { sem 𝓛 (LendsItem T.row self.entry at result) }
+        ensures value { slice_get self.old.items at ≡ Some result.now }
+    {
+        &mut self.items[at]
+    }
+
+    /// All items.
+    pub fn as_slice(&self) -> &[T]
+        ensures { result.now ≡ self.now.items }
+    {
+        self.items.as_slice()
+    }
+
+    /// All items, for writing.
+    pub fn as_mut_slice(&mut self) -> &mut [T]
+        ensures* writes_back { sem 𝓛 (LendsItems T.row self.entry result) }
+        ensures value { result.now ≡ self.old.items }
+    {
+        self.items.as_mut_slice()
+    }
+}
+
+impl<T: Copy> List<T> {
+    /// A full list of these items.
+    pub fn from_slice(alloc: Global, items: &[T]) -> Result<List<T>, Memory>
+        ensures { IfOk result (λ list. list ≡ record { items = items.now; room = length items.now }) }
+    {
+        let room = items.len();
+        let items = Vec::from_slice(alloc, items)?;
+        Ok(List { items, room })
+    }
+}

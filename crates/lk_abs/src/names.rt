@@ -1,0 +1,50 @@
+// Names of modes, locks and waiters.
+
+use crate::list::List;
+
+/// The lock family that a whole machine uses.
+#[derive(Clone, Copy, PartialEq, Eq)]
+pub enum Mode {
+    /// A spinning test-and-set lock, as Linux uses it under a hypervisor without paravirtual locks.
+    Virt,
+    /// The queued spinlock of Linux.
+    Native,
+    /// The compact NUMA-aware lock of Dice and Kogan.
+    Cna,
+    /// The paravirtual queued spinlock of Linux.
+    Pv,
+}
+
+/// What a declared lock is.
+#[derive(Clone, Copy, PartialEq, Eq)]
+pub enum Kind {
+    /// A spinlock.
+    Spin,
+    /// A queued reader-writer lock, which has a wait lock beside it.
+    Rw,
+}
+
+/// Who takes locks: a context of a processor. Context 0 is the task, context c the c-th nested interrupt.
+#[derive(Clone, Copy, Debug, PartialEq, Eq)]
+pub struct Waiter {
+    /// The processor, from 0.
+    pub cpu: u32,
+    /// The context, from 0 to 5.
+    pub ctx: u32,
+}
+
+/// A declared lock, or the wait lock of a declared reader-writer lock.
+#[derive(Clone, Copy, Debug, PartialEq, Eq)]
+pub struct LockName {
+    /// The number of the declared lock, from 0.
+    pub index: u32,
+    /// Whether its wait lock is meant.
+    pub wait: bool,
+}
+
+/// Where the processors stand.
+#[derive(Drop)]
+pub struct Topology {
+    /// For each processor the number of its socket.
+    pub sockets: List<u32>,
+}
