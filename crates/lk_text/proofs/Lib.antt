@@ -1,0 +1,9 @@
+pub mod Grown
+pub mod FeedLemmas
+pub mod Pieces
+pub mod Unread
+pub mod Limits
+pub mod Reasons
+pub mod Takes
+pub mod Decimal
+pub mod Conveyed

@@ -1,0 +1,18 @@
+use Rattle.std.proofs.KnownBytes.{Appends-kept}
+use Rattle.std.proofs.Common.{arith}
+use Rattle.lk_text.proofs.Grown.{Appends_more, front_of_text, count_fits}
+use Rattle.lk_text.proofs.sink.put.Goals as goal
+
+pub returns-in-Ok-eq0-clause-err : goal.returns-in-Ok-eq0-clause-err
+returns-in-Ok-eq0-clause-err g c =
+    front_of_text _ _ _ _ (Appends_more _ _ _ _ c.loop-done.done c.in-Ok-eq0.field-0 c.loop-done.invariant.grown c.in-Ok-eq0.ensures.bytes)
+
+pub loop-done-preserved : goal.loop-done-preserved
+loop-done-preserved g c = record {
+  in_range = count_fits _ _ _ c.loop-done.invariant.in_range c.in-Ok.ensures.bound;
+  grown = Appends_more _ _ _ _ c.loop-done.done c.in-Ok.count c.loop-done.invariant.grown c.in-Ok.ensures.bytes;
+  later = omega (arith, c.in-Ok.ensures.cause.later);
+}
+
+pub returns-in-Err-clause-err : goal.returns-in-Err-clause-err
+returns-in-Err-clause-err g c = front_of_text _ _ _ _ (Appends-kept _ _ _ _ c.loop-done.invariant.grown c.in-Err.ensures.bytes)

@@ -1,0 +1,12 @@
+pub mod Causes
+pub mod Bytes
+pub mod SureSource
+pub mod MemSource
+pub mod StdSource
+pub mod MemSink
+pub mod StdSink
+pub mod Line
+pub mod Block
+pub mod Feeds
+pub mod Lines
+pub mod Reader

@@ -1,0 +1,17 @@
+//! Sources and sinks of bytes, the lines of a source, and texts for a sink.
+#![tactic(auto)]
+
+mod block;
+mod digits;
+mod line;
+mod reader;
+mod sink;
+mod source;
+#[cfg(test)]
+mod tests;
+
+pub use block::Block;
+pub use line::LineBuf;
+pub use reader::{LineFault, LineReader};
+pub use sink::{MemSink, NullSink, Sink, StdSink, WriteFault, put};
+pub use source::{Failed, MemSource, Source, StdSource, SureSource};

@@ -1,0 +1,303 @@
+//! The lines of a source, read in fixed memory.
+ghost use Rattle.std.specs.Prelude.{◌≡◌, ◌≤◌, ◌<◌, ◌+◌, ◌-◌, ◌^◌, List, ℕ, Option, Some, None, true, false, IfOk, IfErr, OnErr, IfSome, Ok, Err, length, take, drop, slice_range, vec_len, Result};
+ghost use Rattle.std.specs.Io.KnownBytes.{ReadConsumes, Keeps, IsAtEnd};
+ghost use Rattle.lk_text.specs.Causes.{HasCause};
+ghost use Rattle.lk_text.specs.Feeds.{HasNoFeed, FeedAt};
+ghost use Rattle.lk_text.specs.Lines.{PassesLineLimit, PassesInputLimit};
+
+use crate::source::{Failed, Source};
+use lk_abs::Memory;
+use memchr::memchr;
+use std::alloc::Global;
+
+// The most bytes of a line, without its line feed.
+const MAX_LINE: usize = 4_096;
+
+// The most bytes of an input.
+const MAX_INPUT: u64 = 1 << 30;
+
+// The bytes that a reader takes ahead at most.
+const BLOCK: usize = 65_536;
+
+/// Why a reader of lines gives no next line, and answers so from then on.
+#[derive(Clone, Copy, Debug, PartialEq, Eq)]
+pub enum LineFault {
+    /// The source answered a fault: its count of faults rose in the call that answered this first.
+    ReadFault,
+
+    /// The line has more than 4,096 bytes, without its line feed. Where both limits are passed at
+    /// the same byte, this is answered.
+    TooLong,
+
+    /// Byte 2^30 + 1 of the input has to be looked at.
+    TooMuch,
+}
+
+/// Reads the lines of one source in fixed memory.
+#[derive(Drop)]
+pub struct LineReader {
+    // Bytes of the source. Those from `at` to `end` were taken and not looked at.
+    block: Vec<u8>,
+    at: usize,
+    end: usize,
+    // How many lines were given, and how many bytes were looked at.
+    lines: u64,
+    looked: u64,
+    // The fault that each later call answers.
+    kept: Option<LineFault>,
+    // Whether the end of input was met.
+    ended: bool,
+    ghost room: { vec_len block ≡ 65536 },
+    ghost ordered: { at ≤ end },
+    ghost in_block: { end ≤ 65536 },
+    ghost within: { looked ≤ 2 ^ 30 },
+    ghost counted: { lines ≤ looked },
+}
+
+// How far the line at the front goes: its bytes, and all of them with its line feed, where it has one.
+// With no byte at all there is no line, and the input is at its end.
+#[derive(Clone, Copy)]
+struct Span {
+    line: usize,
+    all: usize,
+}
+
+// Moves the bytes from `at` to `end` to the front, and reads more behind them.
+fn refill<S: Source>(
+    source: &mut S,
+    block: &mut [u8],
+    at: usize,
+    end: usize,
+) -> Result<usize, Failed>
+    requires ordered { at ≤ end }
+    requires within { end ≤ length block.old }
+    ensures bound { IfOk result (λ n. end - at + n ≤ length block.new) }
+    ensures front { take (end - at) block.new ≡ slice_range block.old at end }
+    ensures bytes { ReadConsumes (S.left source.old) (S.left source.new) result (drop (end - at) block.new) }
+    ensures cause { HasCause (S.faults source.old) (S.faults source.new) result }
+{
+    block.copy_within(at..end, 0);
+    let front = end - at;
+    source.read(&mut block[front..])
+}
+
+// How far the first line feed of the bytes from `at` to `end` lies behind `at`. The first `clear` bytes are known to be none.
+fn find_feed(block: &[u8], at: usize, clear: usize, end: usize) -> Option<usize>
+    requires ordered { at + clear ≤ end }
+    requires within { end ≤ length block.now }
+    requires plain { HasNoFeed (take clear (slice_range block.now at end)) }
+    ensures found { IfSome result (FeedAt (slice_range block.now at end)) }
+    ensures none { result ≡ None → HasNoFeed (slice_range block.now at end) }
+{
+    match memchr(b'\n', &block[at + clear..end]) {
+        Some(k) => Some(clear + k),
+        None => None,
+    }
+}
+
+// The limit that is passed, if one is, where the bytes of the span have to be looked at behind those that were.
+fn passed_limit(looked: u64, span: Span) -> Option<LineFault>
+    requires looked { looked ≤ 2 ^ 30 }
+    requires line { span.line ≤ 65536 }
+    requires all { span.all ≤ 65537 }
+    requires ordered { span.line ≤ span.all }
+    ensures none { result ≡ None → (span.line ≤ 4096) × (looked + span.all ≤ 2 ^ 30) }
+    ensures long { result ≡ Some LineFault.TooLong → (4096 < span.line) × (looked + 4096 ≤ 2 ^ 30) }
+    ensures much { result ≡ Some LineFault.TooMuch
+        → (2 ^ 30 < looked + span.all) × (4096 < span.line → 2 ^ 30 < looked + 4096) }
+    ensures only { result ≡ Some LineFault.ReadFault → ⊥ }
+{
+    if span.line > MAX_LINE && looked + MAX_LINE as u64 <= MAX_INPUT {
+        return Some(LineFault::TooLong);
+    }
+    if looked + span.all as u64 > MAX_INPUT {
+        return Some(LineFault::TooMuch);
+    }
+    None
+}
+
+impl LineReader {
+    ghost use Rattle.std.specs.Borrow.{sem};
+    ghost use Rattle.std.specs.Io.BufRead.{Rests};
+    ghost use Rattle.lk_text.specs.contracts.reader.LineReader.{the_row};
+    ghost use Rattle.lk_text.specs.declared.reader.LineFault.{LineFault};
+    ghost use Rattle.lk_text.specs.Reader.{IsFresh, pending, unread, kept, looked_at, lines_given, is_ended, KeepsPlace, EndsAt, GaveLine, MetEnd, GaveFault, NextLine, Reason};
+
+    /// Takes all its memory. No line was given, no byte was looked at, and no fault is kept.
+    pub fn new(alloc: Global) -> Result<LineReader, Memory>
+        ensures { IfOk result IsFresh }
+    {
+        let block = vec![in alloc; 0; BLOCK]?;
+        Ok(LineReader {
+            block,
+            at: 0,
+            end: 0,
+            lines: 0,
+            looked: 0,
+            kept: None,
+            ended: false,
+        })
+    }
+
+    /// How many lines were given so far.
+    pub fn lines(&self) -> u64
+        ensures { result ≡ lines_given self.now }
+    {
+        self.lines
+    }
+
+    // Reads more bytes behind those that are pending: none at the end of input.
+    fn fill<S: Source>(&mut self, source: &mut S) -> Result<usize, Failed>
+        requires { self.old.end - self.old.at < 65536 }
+        ensures bytes { Keeps (unread self.old (S.left source.old)) (unread self.new (S.left source.new)) }
+        ensures front { take (self.old.end - self.old.at) (pending self.new) ≡ pending self.old }
+        ensures more { IfOk result (λ n. self.new.end - self.new.at ≡ self.old.end - self.old.at + n) }
+        ensures same { OnErr result (self.new.end - self.new.at ≡ self.old.end - self.old.at) }
+        ensures end { result ≡ Ok 0 → IsAtEnd (S.left source.new) }
+        ensures place { KeepsPlace self.old self.new }
+        ensures cause { HasCause (S.faults source.old) (S.faults source.new) result }
+    {
+        let (at, end) = (self.at, self.end);
+        self.at = 0;
+        self.end = end - at;
+        let count = refill(source, &mut self.block, at, end)?;
+        self.end += count;
+        Ok(count)
+    }
+
+    // Looks for the end of a line in the bytes that are pending, of which the first `clear` are no line feeds.
+    fn look(&self, clear: usize) -> Result<Option<Span>, LineFault>
+        requires clear { clear ≤ self.now.end - self.now.at }
+        requires plain { HasNoFeed (take clear (pending self.now)) }
+        ensures found { IfOk result (λ found. IfSome found (λ span. (0 < span.all)
+            × ((left : Option (List ℕ)) → EndsAt (pending self.now) left (looked_at self.now) span.line span.all))) }
+        ensures fits { IfOk result (λ found. IfSome found (λ span. (self.now.at + span.all ≤ self.now.end)
+            × (span.line ≤ span.all) × (looked_at self.now + span.all ≤ 2 ^ 30))) }
+        ensures none { result ≡ Ok None → HasNoFeed (pending self.now) × (self.now.end - self.now.at ≤ 4096)
+            × (looked_at self.now + (self.now.end - self.now.at) ≤ 2 ^ 30) }
+        ensures long { result ≡ Err LineFault.TooLong
+            → ((left : Option (List ℕ)) → PassesLineLimit (unread self.now left) (looked_at self.now)) }
+        ensures much { result ≡ Err LineFault.TooMuch
+            → ((left : Option (List ℕ)) → PassesInputLimit (unread self.now left) (looked_at self.now)) }
+        ensures only { result ≡ Err LineFault.ReadFault → ⊥ }
+    {
+        let (at, end) = (self.at, self.end);
+        match find_feed(&self.block, at, clear, end) {
+            Some(line) => {
+                let span = Span {
+                    line,
+                    all: line + 1,
+                };
+                match passed_limit(self.looked, span) {
+                    Some(fault) => Err(fault),
+                    None => Ok(Some(span)),
+                }
+            }
+            None => {
+                let span = Span {
+                    line: end - at,
+                    all: end - at,
+                };
+                match passed_limit(self.looked, span) {
+                    Some(fault) => Err(fault),
+                    None => Ok(None),
+                }
+            }
+        }
+    }
+
+    // Looks for the end of the next line, and reads on until it is there or the input ends.
+    fn find_line<S: Source>(&mut self, source: &mut S) -> Result<Span, LineFault>
+        requires { is_ended self.old ≡ false }
+        ensures bytes { Keeps (unread self.old (S.left source.old)) (unread self.new (S.left source.new)) }
+        ensures place { KeepsPlace self.old self.new }
+        ensures span { IfOk result (λ span.
+            EndsAt (pending self.new) (S.left source.new) (looked_at self.new) span.line span.all) }
+        ensures fits { IfOk result (λ span. (self.new.at + span.all ≤ self.new.end)
+            × (span.line ≤ span.all) × (looked_at self.new + span.all ≤ 2 ^ 30)) }
+        ensures reason { IfErr result (Reason self.old self.new (S.left source.old) (S.left source.new)
+            (S.faults source.old) (S.faults source.new)) }
+        ensures later { S.faults source.old ≤ S.faults source.new }
+    {
+        let mut clear = 0;
+        'turn: loop {
+            match self.look(clear) {
+                Ok(Some(span)) => return Ok(span),
+                Ok(None) => {}
+                Err(fault) => return Err(fault),
+            }
+            clear = self.end - self.at;
+            match self.fill(source) {
+                Ok(0) => {
+                    return Ok(Span {
+                        line: clear,
+                        all: clear,
+                    });
+                }
+                Ok(_) => {}
+                Err(_) => return Err(LineFault::ReadFault),
+            }
+        }
+    }
+
+    // Takes the next line: where it stands in the block.
+    fn take_line<S: Source>(&mut self, source: &mut S) -> Result<Option<(usize, usize)>, LineFault>
+        ensures line { IfOk result (λ given. IfSome given (λ place. (place.0 ≤ place.1) × (place.1 ≤ 65536)
+            × GaveLine self.old self.new (S.left source.old) (S.left source.new)
+            (slice_range self.new.block.items place.0 place.1))) }
+        ensures end { result ≡ Ok None → MetEnd self.old self.new (S.left source.old) (S.left source.new) }
+        ensures fault { IfErr result (GaveFault self.old self.new (S.left source.old) (S.left source.new)
+            (S.faults source.old) (S.faults source.new)) }
+        ensures again { (fault : LineFault) → kept self.old ≡ Some fault
+            → (result ≡ Err fault) × (source.new ≡ source.old) }
+        ensures idle { is_ended self.old ≡ true → source.new ≡ source.old }
+        ensures later { S.faults source.old ≤ S.faults source.new }
+    {
+        if let Some(fault) = self.kept {
+            return Err(fault);
+        }
+        if self.ended {
+            return Ok(None);
+        }
+        match self.find_line(source) {
+            Ok(span) => {
+                self.ended = span.all == span.line;
+                if span.all == 0 {
+                    return Ok(None);
+                }
+                let start = self.at;
+                self.at = start + span.all;
+                self.looked += span.all as u64;
+                self.lines += 1;
+                Ok(Some((start, start + span.line)))
+            }
+            Err(fault) => {
+                self.kept = Some(fault);
+                Err(fault)
+            }
+        }
+    }
+
+    /// The next line, of at most 4,096 bytes, without its line feed. A last line without a line feed is
+    /// a line. `None` comes exactly at the end of input with no byte behind the last line feed, and each
+    /// later call then gives `None` and reads nothing. After a fault each later call answers the same
+    /// fault and reads nothing.
+    pub fn next_line<'a, S: Source>(
+        &'a mut self,
+        source: &mut S,
+    ) -> Result<Option<&'a [u8]>, LineFault>
+        ensures* after_borrow { sem 𝓛 (Rests the_row self.entry (λ new.
+            NextLine self.old new (S.left source.old) (S.left source.new)
+            (S.faults source.old) (S.faults source.new) result)) }
+        ensures again { (fault : LineFault) → kept self.old ≡ Some fault
+            → (result ≡ Err fault) × (source.new ≡ source.old) }
+        ensures idle { is_ended self.old ≡ true → source.new ≡ source.old }
+        ensures later { S.faults source.old ≤ S.faults source.new }
+    {
+        match self.take_line(source) {
+            Ok(Some((start, end))) => Ok(Some(&self.block[start..end])),
+            Ok(None) => Ok(None),
+            Err(fault) => Err(fault),
+        }
+    }
+}
