@@ -1,0 +1,3 @@
+pub mod Kept
+pub mod Release
+pub mod Rested

@@ -1,0 +1,10 @@
+pub mod Machine
+pub mod Programs
+pub mod Moves
+pub mod Row
+pub mod SpinRows
+pub mod QueueRows
+pub mod Rows
+pub mod Acts
+pub mod Run
+pub mod Ready

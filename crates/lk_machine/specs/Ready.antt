@@ -1,0 +1,35 @@
+-- What the code of a row needs of the machine; all of it holds of a sound one.
+use Rattle.std.specs.Prelude.{◌≡◌, ◌<◌, ◌≤◌, ◌-◌, ◌^◌, ℕ, Some, length}
+use Rattle.lk_machine.specs.declared.parts.Counts.{Counts}
+use Rattle.lk_machine.specs.declared.parts.Pc.{Pc}
+use Rattle.lk_machine.specs.Machine.{Machine, HasNode, top_frame, queued_at}
+use Rattle.lk_machine.specs.Moves.{CanMove}
+use Rattle.lk_machine.specs.Rows.{Target, FlagOf, NextOf, target}
+
+-- none of the ten counts is above this number
+pub record CountsWithin (n : ℕ) (c : Counts) : Type 0 where
+  pub lock_pending : c.lock_pending ≤ n
+  pub lock_slowpath : c.lock_slowpath ≤ n
+  pub lock_use_node2 : c.lock_use_node2 ≤ n
+  pub lock_use_node3 : c.lock_use_node3 ≤ n
+  pub lock_use_node4 : c.lock_use_node4 ≤ n
+  pub lock_no_node : c.lock_no_node ≤ n
+  pub pv_lock_stealing : c.pv_lock_stealing ≤ n
+  pub pv_wait_node : c.pv_wait_node ≤ n
+  pub pv_wait_head : c.pv_wait_head ≤ n
+  pub pv_kick_unlock : c.pv_kick_unlock ≤ n
+
+-- the node on which a row operates is there
+abbrev pub HasTarget : Machine → Target → Type 0
+HasTarget m (FlagOf n) = HasNode m n
+HasTarget m (NextOf n) = HasNode m n
+HasTarget m _ = Unit {0}
+
+-- The top frame of the processor can make its row: it can move, its lock and the node that it reaches are there, and no count is at
+-- its end.
+pub record IsReady (m : Machine) (p : ℕ) : Type 0 where
+  pub moves : CanMove m p
+  pub lock : (top_frame m p).lock.index < length m.locks
+  pub queued : queued_at m p ≤ 6
+  pub reaches : (c : Pc) → (top_frame m p).place ≡ Some c → HasTarget m (target c (top_frame m p))
+  pub counts : CountsWithin (2 ^ 64 - 2) m.counts

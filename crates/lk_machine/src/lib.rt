@@ -1,0 +1,11 @@
+//! The machine of queued locks as plain data: its parts, its readers and writers, and the written steps that move it, each of
+//! which stands once in `specs/`, as data.
+#![tactic(auto)]
+
+mod machine;
+mod parts;
+mod setup;
+
+pub use machine::{MAX_FRAMES, MAX_NODES, Machine};
+pub use parts::{Counts, Flag, Frame, Node, Pc, State, Why};
+pub use setup::{Op, Setup, Verb};

@@ -1,0 +1,384 @@
+// The machine's data, its readers and its writers.
+
+ghost use Rattle.std.specs.Prelude.{◌≡◌, ◌<◌, ◌≤◌, ◌-◌, Some, length, slice_get, position, IfSome, vec_capacity};
+ghost use Rattle.lk_machine.specs.Machine.{Machine as MachineValue, CpuState as CpuValue, LockState as LockValue, HasTop, HasNode, top_frame, frame_at, depth_at, queued_at, preempted_at, halted_at, kicked_at, handlers_at, word_at, node_at, set_word, set_node, set_top, set_queued, set_preempted, set_counts};
+ghost use Rattle.lk_machine.specs.Programs.{HasPrograms, handlers_of};
+ghost use Rattle.lk_machine.specs.Moves.{is_node, waiter_of};
+
+mod moves;
+mod rest;
+#[cfg(test)]
+mod tests;
+
+use crate::parts::{Counts, Frame, Node, Pc};
+use crate::setup::Setup;
+use lk_abs::{LockName, Mode, Waiter};
+use lk_word::{Fields, NodeName, RwFields};
+use std::marker::Model;
+
+/// How many frames a processor can have: its task, and five interrupts above it.
+pub const MAX_FRAMES: usize = 6;
+
+/// How many nodes a processor has, as in Linux.
+pub const MAX_NODES: usize = 4;
+
+/// One processor. The room for its frames is taken when it is made.
+#[derive(Drop)]
+struct CpuState {
+    /// By context, the top one last.
+    frames: Vec<Frame>,
+    nodes: [Node; MAX_NODES],
+    /// How many frames are in the slow path.
+    queued: u32,
+    preempted: bool,
+    halted: bool,
+    kicked: bool,
+    /// How many handlers were used.
+    handlers: u32,
+}
+
+impl Model for CpuState {
+    ghost Value = { CpuValue };
+
+    ghost view = { λ c. record {
+      frames = c.frames.items;
+      nodes = c.nodes;
+      queued = c.queued;
+      preempted = c.preempted;
+      halted = c.halted;
+      kicked = c.kicked;
+      handlers = c.handlers;
+    } };
+
+    ghost invariant = { λ c. (length c.frames.items ≤ 6) × (6 ≤ vec_capacity c.frames) };
+}
+
+/// One declared lock.
+#[derive(Drop)]
+struct LockState {
+    /// The word of a spinlock.
+    spin: Fields,
+    /// The word of a reader-writer lock.
+    rw: RwFields,
+    /// The word of a reader-writer lock's wait lock.
+    wait: Fields,
+}
+
+impl Model for LockState {
+    ghost Value = { LockValue };
+
+    ghost view = { λ l. record { spin = l.spin; rw = l.rw; wait = l.wait } };
+}
+
+/// A machine: the words of its locks, its processors, and what they counted.
+#[derive(Drop)]
+pub struct Machine {
+    setup: Setup,
+    locks: Vec<LockState>,
+    cpus: Vec<CpuState>,
+    hash: Vec<(LockName, NodeName)>,
+    counts: Counts,
+}
+
+impl Model for Machine {
+    ghost Value = { MachineValue };
+
+    ghost view = { λ m. record {
+      setup = m.setup;
+      locks = m.locks.items;
+      cpus = m.cpus.items;
+      hash = m.hash.items;
+      counts = m.counts;
+    } };
+
+    ghost invariant = { λ m. length m.cpus.items ≤ 64 };
+}
+
+// Whether a frame's own node has this name.
+fn is_node(own: Option<NodeName>, name: NodeName) -> bool
+    ensures { result ≡ is_node own name }
+{
+    match own {
+        Some(own) => own.cpu == name.cpu && own.index == name.index,
+        None => false,
+    }
+}
+
+// The context of the frame that has the node as its own.
+fn context_of(frames: &[Frame], name: NodeName) -> Option<usize>
+    ensures value { result ≡ position (λ f. is_node f.me name) frames.now }
+    ensures bound { IfSome result (λ ctx. ctx < length frames.now) }
+{
+    frames.iter().position(|frame| is_node(frame.me, name))
+}
+
+impl Machine {
+    /// The word of a spinlock or a wait lock.
+    #[inline]
+    #[tactic(auto, unfolding(crate::specs::Machine::word_at, crate::specs::Machine::lock_at))]
+    pub fn word(&self, lock: LockName) -> Fields
+        requires { lock.index < length self.now.locks }
+        ensures { result ≡ word_at self.now lock }
+    {
+        let state = &self.locks[lock.index as usize];
+        if lock.wait { state.wait } else { state.spin }
+    }
+
+    /// Stores the word of a spinlock or a wait lock.
+    #[inline]
+    #[tactic(auto, unfolding(crate::specs::Machine::lock_at, crate::specs::Machine::set_word, crate::specs::Machine::set_lock))]
+    pub fn set_word(&mut self, lock: LockName, fields: Fields)
+        requires { lock.index < length self.old.locks }
+        ensures { self.new ≡ set_word self.old lock fields }
+    {
+        let state = &mut self.locks[lock.index as usize];
+        if lock.wait {
+            state.wait = fields;
+        } else {
+            state.spin = fields;
+        }
+    }
+
+    /// A node.
+    #[inline]
+    #[tactic(auto, unfolding(crate::specs::Machine::node_at, crate::specs::Machine::cpu_at))]
+    pub fn node(&self, name: NodeName) -> Node
+        requires { HasNode self.now name }
+        ensures { result ≡ node_at self.now name }
+    {
+        let state = &self.cpus[name.cpu as usize];
+        state.nodes[name.index as usize]
+    }
+
+    /// Stores a node.
+    #[inline]
+    #[tactic(auto, unfolding(crate::specs::Machine::set_node, crate::specs::Machine::set_cpu, crate::specs::Machine::cpu_at))]
+    pub fn set_node(&mut self, name: NodeName, node: Node)
+        requires { HasNode self.old name }
+        ensures { self.new ≡ set_node self.old name node }
+    {
+        let state = &mut self.cpus[name.cpu as usize];
+        state.nodes[name.index as usize] = node;
+    }
+
+    /// The top frame of a processor.
+    #[inline]
+    #[tactic(auto, unfolding(crate::specs::Machine::frame_at, crate::specs::Machine::depth_at, crate::specs::Machine::cpu_at))]
+    pub fn frame(&self, cpu: u32) -> Frame
+        requires { HasTop self.now cpu }
+        ensures { result ≡ top_frame self.now cpu }
+    {
+        let state = &self.cpus[cpu as usize];
+        state.frames[state.frames.len() - 1]
+    }
+
+    /// Stores the top frame of a processor.
+    #[inline]
+    #[tactic(auto, unfolding(crate::specs::Machine::set_top, crate::specs::Machine::set_cpu, crate::specs::Machine::depth_at, crate::specs::Machine::cpu_at))]
+    pub fn set_frame(&mut self, cpu: u32, frame: Frame)
+        requires { HasTop self.old cpu }
+        ensures { self.new ≡ set_top self.old cpu frame }
+    {
+        let state = &mut self.cpus[cpu as usize];
+        let top = state.frames.len() - 1;
+        state.frames[top] = frame;
+    }
+
+    /// Stores the place of the top frame of a processor.
+    #[inline]
+    #[tactic(auto, unfolding(crate::specs::Machine::set_top, crate::specs::Machine::set_cpu, crate::specs::Machine::frame_at, crate::specs::Machine::depth_at, crate::specs::Machine::cpu_at))]
+    pub fn set_place(&mut self, cpu: u32, place: Pc)
+        requires { HasTop self.old cpu }
+        ensures { self.new ≡ set_top self.old cpu (record (top_frame self.old cpu) { place = Some place }) }
+    {
+        let state = &mut self.cpus[cpu as usize];
+        let top = state.frames.len() - 1;
+        state.frames[top].place = Some(place);
+    }
+
+    /// A frame of a processor.
+    #[inline]
+    #[tactic(auto, unfolding(crate::specs::Machine::frame_at, crate::specs::Machine::depth_at, crate::specs::Machine::cpu_at))]
+    pub fn frame_at(&self, cpu: u32, ctx: u32) -> Frame
+        requires cpu { cpu < length self.now.cpus }
+        requires ctx { ctx < depth_at self.now cpu }
+        ensures { frame_at self.now (record { cpu = cpu; ctx = ctx }) ≡ Some result }
+    {
+        let state = &self.cpus[cpu as usize];
+        state.frames[ctx as usize]
+    }
+
+    /// How many frames a processor has.
+    #[inline]
+    #[tactic(auto, unfolding(crate::specs::Machine::depth_at, crate::specs::Machine::cpu_at))]
+    pub fn depth(&self, cpu: u32) -> u32
+        requires { cpu < length self.now.cpus }
+        ensures { result ≡ depth_at self.now cpu }
+    {
+        let state = &self.cpus[cpu as usize];
+        state.frames.len() as u32
+    }
+
+    /// The row at which the top frame of a processor stands; none where it is finished.
+    #[inline]
+    #[tactic(auto, unfolding(crate::specs::Machine::frame_at, crate::specs::Machine::depth_at, crate::specs::Machine::cpu_at))]
+    pub fn place(&self, cpu: u32) -> Option<Pc>
+        requires { HasTop self.now cpu }
+        ensures { result ≡ (top_frame self.now cpu).place }
+    {
+        let state = &self.cpus[cpu as usize];
+        let top = state.frames.len() - 1;
+        state.frames[top].place
+    }
+
+    /// The waiter whose frame has the node as its own.
+    #[tactic(auto, unfolding(crate::specs::Moves::waiter_of, crate::specs::Machine::cpu_at))]
+    pub fn waiter_of(&self, name: NodeName) -> Waiter
+        requires { name.cpu < length self.now.cpus }
+        ensures { result ≡ waiter_of self.now name }
+    {
+        let state = &self.cpus[name.cpu as usize];
+        let ctx = context_of(&state.frames, name).unwrap_or(0);
+        Waiter {
+            cpu: name.cpu,
+            ctx: ctx as u32,
+        }
+    }
+
+    /// How many frames of a processor are in the slow path.
+    #[inline]
+    #[tactic(auto, unfolding(crate::specs::Machine::queued_at, crate::specs::Machine::cpu_at))]
+    pub fn queued(&self, cpu: u32) -> u32
+        requires { cpu < length self.now.cpus }
+        ensures { result ≡ queued_at self.now cpu }
+    {
+        let state = &self.cpus[cpu as usize];
+        state.queued
+    }
+
+    /// Stores how many frames of a processor are in the slow path.
+    #[inline]
+    #[tactic(auto, unfolding(crate::specs::Machine::set_queued, crate::specs::Machine::set_cpu, crate::specs::Machine::cpu_at))]
+    pub fn set_queued(&mut self, cpu: u32, count: u32)
+        requires { cpu < length self.old.cpus }
+        ensures { self.new ≡ set_queued self.old cpu count }
+    {
+        let state = &mut self.cpus[cpu as usize];
+        state.queued = count;
+    }
+
+    /// Whether a processor is preempted.
+    #[inline]
+    #[tactic(auto, unfolding(crate::specs::Machine::preempted_at, crate::specs::Machine::cpu_at))]
+    pub fn preempted(&self, cpu: u32) -> bool
+        requires { cpu < length self.now.cpus }
+        ensures { result ≡ preempted_at self.now cpu }
+    {
+        let state = &self.cpus[cpu as usize];
+        state.preempted
+    }
+
+    /// Stores whether a processor is preempted.
+    #[inline]
+    #[tactic(auto, unfolding(crate::specs::Machine::set_preempted, crate::specs::Machine::set_cpu, crate::specs::Machine::cpu_at))]
+    pub fn set_preempted(&mut self, cpu: u32, yes: bool)
+        requires { cpu < length self.old.cpus }
+        ensures { self.new ≡ set_preempted self.old cpu yes }
+    {
+        let state = &mut self.cpus[cpu as usize];
+        state.preempted = yes;
+    }
+
+    /// Whether a processor has halted.
+    #[inline]
+    #[tactic(auto, unfolding(crate::specs::Machine::halted_at, crate::specs::Machine::cpu_at))]
+    pub fn halted(&self, cpu: u32) -> bool
+        requires { cpu < length self.now.cpus }
+        ensures { result ≡ halted_at self.now cpu }
+    {
+        let state = &self.cpus[cpu as usize];
+        state.halted
+    }
+
+    /// Whether a kick of a processor is remembered.
+    #[inline]
+    #[tactic(auto, unfolding(crate::specs::Machine::kicked_at, crate::specs::Machine::cpu_at))]
+    pub fn kicked(&self, cpu: u32) -> bool
+        requires { cpu < length self.now.cpus }
+        ensures { result ≡ kicked_at self.now cpu }
+    {
+        let state = &self.cpus[cpu as usize];
+        state.kicked
+    }
+
+    /// How many interrupt handlers a processor has not used.
+    #[inline]
+    #[tactic(auto, unfolding(crate::specs::Machine::handlers_at, crate::specs::Machine::cpu_at, crate::specs::Programs::handlers_of))]
+    pub fn handlers_left(&self, cpu: u32) -> u32
+        requires cpu { cpu < length self.now.cpus }
+        requires programs { HasPrograms self.now.setup cpu }
+        ensures { result ≡ handlers_of self.now.setup cpu - handlers_at self.now cpu }
+    {
+        let state = &self.cpus[cpu as usize];
+        let handlers = self.setup.irqs.get(cpu as usize).len() as u32;
+        handlers.saturating_sub(state.handlers)
+    }
+
+    /// How often the machine took each of ten ways.
+    #[inline]
+    pub fn counts(&self) -> Counts
+        ensures { result ≡ self.now.counts }
+    {
+        self.counts
+    }
+
+    /// Stores how often the machine took each of ten ways.
+    #[inline]
+    #[tactic(auto, unfolding(crate::specs::Machine::set_counts))]
+    pub fn set_counts(&mut self, counts: Counts)
+        ensures { self.new ≡ set_counts self.old counts }
+    {
+        self.counts = counts;
+    }
+
+    /// How many processors there are.
+    #[inline]
+    pub fn cpus(&self) -> u32
+        ensures { result ≡ length self.now.cpus }
+    {
+        self.cpus.len() as u32
+    }
+
+    /// The lock family.
+    #[inline]
+    pub fn mode(&self) -> Mode
+        ensures { result ≡ self.now.setup.mode }
+    {
+        self.setup.mode
+    }
+
+    /// How many handovers of a CNA lock may stay on one socket while waiters stand aside.
+    #[inline]
+    pub fn threshold(&self) -> u32
+        ensures { result ≡ self.now.setup.threshold }
+    {
+        self.setup.threshold
+    }
+
+    /// How many turns a paravirtual waiter spins before it halts.
+    #[inline]
+    pub fn spins(&self) -> u32
+        ensures { result ≡ self.now.setup.spins }
+    {
+        self.setup.spins
+    }
+
+    /// The number of a processor's socket.
+    #[inline]
+    pub fn socket(&self, cpu: u32) -> u32
+        requires { cpu < length self.now.setup.topology.sockets.items }
+        ensures { slice_get self.now.setup.topology.sockets.items cpu ≡ Some result }
+    {
+        *self.setup.topology.sockets.get(cpu as usize)
+    }
+}

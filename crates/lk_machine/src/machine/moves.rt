@@ -1,0 +1,248 @@
+// How the top frame of a processor moves.
+
+ghost use Rattle.std.specs.Prelude.{◌≡◌, ◌≤◌, ◌<◌, ◌+◌, length, drop, slice_get};
+ghost use Rattle.lk_machine.specs.Machine.{HasTop, depth_at, handlers_at, push, pop};
+ghost use Rattle.lk_machine.specs.Programs.{HasPrograms, handlers_of, is_release, to_release};
+ghost use Rattle.lk_machine.specs.Moves.{CanMove, first_place, program_of, started, settled, skipped, done, granted, freed, missed, leave};
+ghost use Rattle.lk_machine.specs.Acts.{handler_frame};
+
+use crate::machine::Machine;
+use crate::machine::rest::rest_frame;
+use crate::parts::{Frame, Pc};
+use crate::setup::{Op, Verb};
+use lk_abs::{List, LockName, Mode};
+
+// The row at which an operation begins.
+fn first_place(mode: Mode, verb: Verb) -> Pc
+    ensures { result ≡ first_place mode verb }
+{
+    match verb {
+        Verb::Lock => Pc::F1,
+        Verb::Try => Pc::T1,
+        Verb::Unlock => match mode {
+            Mode::Pv => Pc::U2,
+            _ => Pc::U1,
+        },
+        Verb::Read => Pc::R1,
+        Verb::Write => Pc::Wr1,
+        Verb::TryRead => Pc::Y1,
+        Verb::TryWrite => Pc::Y4,
+        Verb::RUnlock => Pc::Z1,
+        Verb::WUnlock => Pc::Z2,
+    }
+}
+
+// The frame at the first row of an operation.
+pub(super) fn started(mode: Mode, frame: Frame, op: Op) -> Frame
+    ensures { result ≡ started mode frame op }
+{
+    Frame {
+        place: Some(first_place(mode, op.verb)),
+        lock: LockName {
+            index: op.lock,
+            wait: false,
+        },
+        ..frame
+    }
+}
+
+// Whether a verb releases.
+fn is_release(verb: Verb) -> bool
+    ensures { result ≡ is_release verb }
+{
+    matches!(verb, Verb::Unlock | Verb::RUnlock | Verb::WUnlock)
+}
+
+// How many operations follow from a position on up to the release of a lock, it included.
+fn to_release(program: &List<Op>, from: usize, lock: u32) -> usize
+    requires { from ≤ length program.now.items }
+    ensures value { result ≡ to_release (drop from program.now.items) lock }
+    ensures bound { from + result ≤ length program.now.items }
+{
+    for at in from..program.len() {
+        let op = program.get(at);
+        if is_release(op.verb) && op.lock == lock {
+            return at - from + 1;
+        }
+    }
+    program.len() - from
+}
+
+impl Machine {
+    // The operation at the position of a frame, where its program has not ended.
+    fn operation(&self, cpu: u32, frame: Frame) -> Option<Op>
+        requires programs { HasPrograms self.now.setup cpu }
+        requires known { frame.program ≤ handlers_of self.now.setup cpu }
+        ensures { result ≡ slice_get (program_of self.now cpu frame) frame.at }
+    {
+        let program = self.setup.program(cpu, frame.program);
+        let at = frame.at as usize;
+        if at < program.len() {
+            Some(*program.get(at))
+        } else {
+            None
+        }
+    }
+
+    // The top frame, which has ended an operation, goes on as this one.
+    fn settle(&mut self, cpu: u32, frame: Frame)
+        requires top { HasTop self.old cpu }
+        requires programs { HasPrograms self.old.setup cpu }
+        requires known { frame.program ≤ handlers_of self.old.setup cpu }
+        ensures { self.new ≡ settled self.old cpu frame }
+    {
+        match self.operation(cpu, frame) {
+            Some(op) => self.set_frame(cpu, started(self.setup.mode, frame, op)),
+            None if frame.ctx == 0 => self.set_frame(
+                cpu,
+                Frame {
+                    place: None,
+                    ..frame
+                },
+            ),
+            None => self.pop(cpu),
+        }
+    }
+
+    /// The operation of the top frame is done: the frame begins the next one; or its program has ended, and then it is finished,
+    /// and a handler is popped.
+    pub fn done(&mut self, cpu: u32)
+        requires { CanMove self.old cpu }
+        ensures { self.new ≡ done self.old cpu }
+    {
+        let frame = self.frame(cpu);
+        self.settle(
+            cpu,
+            Frame {
+                at: frame.at + 1,
+                ..frame
+            },
+        );
+    }
+
+    /// The lock is granted: to the operation, which is done, or, as a wait lock, to the frame, which goes on.
+    pub fn granted(&mut self, cpu: u32)
+        requires { CanMove self.old cpu }
+        ensures { self.new ≡ granted self.old cpu }
+    {
+        let frame = self.frame(cpu);
+        if frame.lock.wait {
+            self.set_frame(
+                cpu,
+                Frame {
+                    place: frame.then,
+                    ..frame
+                },
+            );
+        } else {
+            self.done(cpu);
+        }
+    }
+
+    /// The lock is freed: the operation is done, and with a wait lock the one for which it was taken.
+    pub fn freed(&mut self, cpu: u32)
+        requires { CanMove self.old cpu }
+        ensures { self.new ≡ freed self.old cpu }
+    {
+        self.done(cpu);
+    }
+
+    /// The try has failed: the frame goes on behind the release that would have ended it.
+    pub fn missed(&mut self, cpu: u32)
+        requires { CanMove self.old cpu }
+        ensures { self.new ≡ missed self.old cpu }
+    {
+        let frame = self.frame(cpu);
+        let skipped = self.skipped(cpu, frame);
+        self.settle(
+            cpu,
+            Frame {
+                at: frame.at + skipped,
+                ..frame
+            },
+        );
+    }
+
+    // How many operations a failed try skips: itself, and all up to the release that would have ended it.
+    fn skipped(&self, cpu: u32, frame: Frame) -> u32
+        requires programs { HasPrograms self.now.setup cpu }
+        requires known { frame.program ≤ handlers_of self.now.setup cpu }
+        requires short { length (program_of self.now cpu frame) ≤ 64 }
+        requires inside { frame.at ≤ length (program_of self.now cpu frame) }
+        ensures value { result ≡ skipped self.now cpu frame }
+        ensures bound { result ≤ 64 }
+    {
+        let program = self.setup.program(cpu, frame.program);
+        let after = program.len().min(frame.at as usize + 1);
+        (to_release(program, after, frame.lock.index) + 1) as u32
+    }
+
+    /// The top frame leaves the slow path, and gives its node back.
+    #[tactic(auto, using(crate::proofs::Kept::kept))]
+    pub fn leave(&mut self, cpu: u32)
+        requires { HasTop self.old cpu }
+        ensures { self.new ≡ leave self.old cpu }
+    {
+        let frame = self.frame(cpu);
+        let queued = self.queued(cpu);
+        self.set_frame(cpu, Frame { me: None, ..frame });
+        self.set_queued(cpu, queued.saturating_sub(1));
+    }
+
+    /// The next handler becomes the frame of the next context on top, and begins. The processor is not halted.
+    #[tactic(auto, using(crate::proofs::Kept::pushed))]
+    pub fn interrupt(&mut self, cpu: u32)
+        requires top { HasTop self.old cpu }
+        requires programs { HasPrograms self.old.setup cpu }
+        requires room { depth_at self.old cpu < 6 }
+        requires left { handlers_at self.old cpu < handlers_of self.old.setup cpu }
+        ensures { self.new ≡ settled (push self.old cpu (handler_frame self.old cpu)) cpu (handler_frame self.old cpu) }
+    {
+        let frame = self.handler_frame(cpu);
+        self.push(cpu, frame);
+        self.settle(cpu, frame);
+    }
+
+    // The frame of the next handler.
+    #[tactic(auto, unfolding(crate::specs::Machine::handlers_at, crate::specs::Machine::cpu_at))]
+    fn handler_frame(&self, cpu: u32) -> Frame
+        requires in_range { cpu < length self.now.cpus }
+        requires programs { HasPrograms self.now.setup cpu }
+        requires left { handlers_at self.now cpu < handlers_of self.now.setup cpu }
+        ensures { result ≡ handler_frame self.now cpu }
+    {
+        let state = &self.cpus[cpu as usize];
+        Frame {
+            ctx: self.depth(cpu),
+            program: state.handlers + 1,
+            ..rest_frame()
+        }
+    }
+
+    // A frame comes on top, and uses up a handler.
+    #[tactic(auto, unfolding(crate::specs::Machine::push, crate::specs::Machine::set_cpu, crate::specs::Machine::depth_at, crate::specs::Machine::handlers_at, crate::specs::Machine::cpu_at))]
+    fn push(&mut self, cpu: u32, frame: Frame)
+        requires in_range { cpu < length self.old.cpus }
+        requires room { depth_at self.old cpu < 6 }
+        requires few { handlers_at self.old cpu < 16 }
+        ensures { self.new ≡ push self.old cpu frame }
+    {
+        let state = &mut self.cpus[cpu as usize];
+        match state.frames.push(frame) {
+            Ok(()) => {}
+            Err(_) => unreachable!(),
+        }
+        state.handlers += 1;
+    }
+
+    // The top frame goes.
+    #[tactic(auto, unfolding(crate::specs::Machine::pop, crate::specs::Machine::set_cpu, crate::specs::Machine::depth_at, crate::specs::Machine::cpu_at))]
+    fn pop(&mut self, cpu: u32)
+        requires { HasTop self.old cpu }
+        ensures { self.new ≡ pop self.old cpu }
+    {
+        let state = &mut self.cpus[cpu as usize];
+        let top = state.frames.len() - 1;
+        state.frames.truncate(top);
+    }
+}

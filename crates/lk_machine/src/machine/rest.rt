@@ -1,0 +1,190 @@
+// The machine at rest.
+
+ghost use Rattle.std.specs.Prelude.{◌≡◌, ◌<◌, ◌≤◌, [], ◌∷◌, IfOk, length, replicate, slice_get, vec_capacity};
+ghost use Rattle.lk_machine.specs.Machine.{rest_word, rest_lock, rest_node, rest_frame, rest_counts};
+ghost use Rattle.lk_machine.specs.Run.{first_frame, rest_cpu, rest_cpus, at_rest};
+
+use crate::machine::moves::started;
+use crate::machine::{CpuState, LockState, MAX_FRAMES, MAX_NODES, Machine};
+use crate::parts::{Counts, Flag, Frame, Node, State, Why};
+use crate::setup::{Op, Setup};
+use lk_abs::{List, LockName, Memory, Mode};
+use lk_word::{Fields, Locked, RwFields};
+use std::alloc::Global;
+
+impl Machine {
+    /// The machine at rest. All its memory is taken here.
+    ///
+    /// # Errors
+    ///
+    /// There is not enough memory.
+    #[tactic(auto, using(crate::proofs::Rested::rested))]
+    pub fn new(alloc: Global, setup: Setup) -> Result<Machine, Memory>
+        requires few { length setup.topology.sockets.items ≤ 64 }
+        requires progs { length setup.progs.items ≡ length setup.topology.sockets.items }
+        ensures { IfOk result (λ machine. machine ≡ at_rest setup) }
+    {
+        let locks = rest_locks(alloc, setup.locks.len())?;
+        let cpus = rest_cpus(alloc, &setup)?;
+        Ok(Machine {
+            setup,
+            locks,
+            cpus,
+            hash: Vec::new(alloc),
+            counts: rest_counts(),
+        })
+    }
+}
+
+// So many locks at rest.
+fn rest_locks(alloc: Global, count: usize) -> Result<Vec<LockState>, Memory>
+    ensures { IfOk result (λ locks. locks.items ≡ replicate count rest_lock) }
+{
+    let mut locks = Vec::with_capacity(alloc, count)?;
+    for _ in 0..count {
+        locks.push(rest_lock()).map_err(|_| Memory)?;
+    }
+    Ok(locks)
+}
+
+// The processors at rest.
+#[tactic(auto, using(crate::proofs::Rested::rested))]
+fn rest_cpus(alloc: Global, setup: &Setup) -> Result<Vec<CpuState>, Memory>
+    requires { length setup.now.progs.items ≡ length setup.now.topology.sockets.items }
+    ensures { IfOk result (λ cpus. cpus.items ≡ rest_cpus setup.now 0 (length setup.now.topology.sockets.items)) }
+{
+    let count = setup.topology.sockets.len();
+    let mut cpus = Vec::with_capacity(alloc, count)?;
+    for cpu in 0..count {
+        let state = rest_cpu(alloc, setup, cpu)?;
+        cpus.push(state).map_err(|_| Memory)?;
+    }
+    Ok(cpus)
+}
+
+// A processor whose task stands at the first row of its program, or is finished where it has none.
+#[tactic(auto, unfolding(crate::specs::Programs::program_at))]
+fn rest_cpu(alloc: Global, setup: &Setup, cpu: usize) -> Result<CpuState, Memory>
+    requires { cpu < length setup.now.progs.items }
+    ensures { IfOk result (λ state. state ≡ rest_cpu setup.now cpu) }
+{
+    let first = first_frame(setup.mode, setup.progs.get(cpu));
+    let frames = lone_frame(alloc, first)?;
+    Ok(CpuState {
+        frames,
+        nodes: [rest_node(); MAX_NODES],
+        queued: 0,
+        preempted: false,
+        halted: false,
+        kicked: false,
+        handlers: 0,
+    })
+}
+
+// One frame, with room for those of interrupts.
+fn lone_frame(alloc: Global, frame: Frame) -> Result<Vec<Frame>, Memory>
+    ensures items { IfOk result (λ frames. frames.items ≡ frame ∷ []) }
+    ensures room { IfOk result (λ frames. 6 ≤ vec_capacity frames) }
+{
+    let mut frames = Vec::with_capacity(alloc, MAX_FRAMES)?;
+    frames.push(frame).map_err(|_| Memory)?;
+    Ok(frames)
+}
+
+// The frame of a task at the first row of its program, or finished where it has none.
+fn first_frame(mode: Mode, program: &List<Op>) -> Frame
+    ensures { result ≡ first_frame mode (slice_get program.now.items 0) }
+{
+    if program.len() == 0 {
+        rest_frame()
+    } else {
+        started(mode, rest_frame(), *program.get(0))
+    }
+}
+
+// A lock that nobody holds or wants.
+fn rest_lock() -> LockState
+    ensures { result ≡ rest_lock }
+{
+    LockState {
+        spin: rest_word(),
+        rw: RwFields {
+            readers: 0,
+            waiting: false,
+            writer: false,
+        },
+        wait: rest_word(),
+    }
+}
+
+// The word of a lock that nobody holds or wants.
+fn rest_word() -> Fields
+    ensures { result ≡ rest_word }
+{
+    Fields {
+        locked: Locked::Free,
+        pending: false,
+        tail: None,
+    }
+}
+
+// A node that nobody uses.
+fn rest_node() -> Node
+    ensures { result ≡ rest_node }
+{
+    Node {
+        flag: Flag::Unset,
+        next: None,
+        second_tail: None,
+        runs: 0,
+        state: State::Running,
+    }
+}
+
+// A new frame, which acts on nothing yet.
+pub(super) fn rest_frame() -> Frame
+    ensures { result ≡ rest_frame }
+{
+    Frame {
+        ctx: 0,
+        program: 0,
+        at: 0,
+        place: None,
+        lock: LockName {
+            index: 0,
+            wait: false,
+        },
+        me: None,
+        prev: None,
+        second: None,
+        y: None,
+        a: None,
+        b: None,
+        k: 0,
+        t: None,
+        why: Why::Append,
+        tailed: false,
+        left: 0,
+        hashed: false,
+        target: None,
+        then: None,
+    }
+}
+
+// Nothing counted yet.
+fn rest_counts() -> Counts
+    ensures { result ≡ rest_counts }
+{
+    Counts {
+        lock_pending: 0,
+        lock_slowpath: 0,
+        lock_use_node2: 0,
+        lock_use_node3: 0,
+        lock_use_node4: 0,
+        lock_no_node: 0,
+        pv_lock_stealing: 0,
+        pv_wait_node: 0,
+        pv_wait_head: 0,
+        pv_kick_unlock: 0,
+    }
+}
