@@ -1,0 +1,171 @@
+// The fast path, the try, the test-and-set loop, and the release.
+ghost use Rattle.std.specs.Prelude.{◌≡◌, None, Some};
+ghost use Rattle.lk_machine.specs.Machine.{top_frame};
+ghost use Rattle.lk_machine.specs.Ready.{IsReady};
+ghost use Rattle.lk_machine.specs.Moves.{missed};
+ghost use Rattle.lk_machine.specs.Rows.{row, on_word};
+ghost use Rattle.lk_machine.specs.SpinRows.{after_fast, to_queue, takes};
+
+use crate::word::{event, is_free, is_unlocked, word_met};
+use lk_abs::{Event, How, Mode, What};
+use lk_machine::{Machine, Pc};
+use lk_word::{Fields, Locked};
+
+// Takes the free word: no other field is set, so the word with the locked byte alone is what the exchange leaves.
+fn take(machine: &mut Machine, cpu: u32, how: How) -> Event
+    requires { IsReady machine.old cpu }
+    ensures next { machine.new ≡ (on_word machine.old cpu (top_frame machine.old cpu) (takes (top_frame machine.old cpu) how)).0 }
+    ensures event { Some result ≡ (on_word machine.old cpu (top_frame machine.old cpu) (takes (top_frame machine.old cpu) how)).1 }
+{
+    let frame = machine.frame(cpu);
+    machine.set_word(
+        frame.lock,
+        Fields {
+            locked: Locked::Held,
+            pending: false,
+            tail: None,
+        },
+    );
+    machine.granted(cpu);
+    event(
+        cpu,
+        frame,
+        What::Take {
+            lock: frame.lock,
+            how,
+        },
+    )
+}
+
+// Where a word that is pending or has a queue sends to: the queue; else the pending bit is free to be set.
+pub(crate) fn to_queue(word: Fields) -> Pc
+    ensures { result ≡ to_queue word }
+{
+    if word.pending || word.tail.is_some() {
+        Pc::G1
+    } else {
+        Pc::P1
+    }
+}
+
+// Where the fast path leads that met a word that was not free.
+fn after_fast(mode: Mode, word: Fields) -> Pc
+    ensures { result ≡ after_fast mode word }
+{
+    match mode {
+        Mode::Virt => Pc::V1,
+        Mode::Pv => Pc::G1,
+        _ if is_unlocked(word) && word.pending && word.tail.is_none() => Pc::P0,
+        _ => to_queue(word),
+    }
+}
+
+/// F1: swaps the word from free to locked. Who swaps is alone, since the word had no holder, no pending waiter and no queue.
+pub(crate) fn fast(machine: &mut Machine, cpu: u32) -> Option<Event>
+    requires ready { IsReady machine.old cpu }
+    requires here { (top_frame machine.old cpu).place ≡ Some Pc.F1 }
+    ensures next { machine.new ≡ (row machine.old cpu).0 }
+    ensures event { result ≡ (row machine.old cpu).1 }
+{
+    let word = word_met(machine, cpu);
+    if is_free(word) {
+        return Some(take(machine, cpu, How::Fast));
+    }
+    machine.set_place(cpu, after_fast(machine.mode(), word));
+    None
+}
+
+/// T1: looks whether the word is free; if not, the try has failed.
+pub(crate) fn try_look(machine: &mut Machine, cpu: u32) -> Option<Event>
+    requires ready { IsReady machine.old cpu }
+    requires here { (top_frame machine.old cpu).place ≡ Some Pc.T1 }
+    ensures next { machine.new ≡ (row machine.old cpu).0 }
+    ensures event { result ≡ (row machine.old cpu).1 }
+{
+    if is_free(word_met(machine, cpu)) {
+        machine.set_place(cpu, Pc::T2);
+        return None;
+    }
+    Some(miss(machine, cpu))
+}
+
+// The try of the top frame has failed.
+fn miss(machine: &mut Machine, cpu: u32) -> Event
+    requires { IsReady machine.old cpu }
+    ensures next { machine.new ≡ missed machine.old cpu }
+    ensures event { result ≡ record { by = record { cpu = cpu; ctx = (top_frame machine.old cpu).ctx }; what = What.Miss (top_frame machine.old cpu).lock } }
+{
+    let frame = machine.frame(cpu);
+    machine.missed(cpu);
+    event(cpu, frame, What::Miss { lock: frame.lock })
+}
+
+/// T2: swaps the word from free to locked, once; if another was faster, the try has failed.
+pub(crate) fn try_swap(machine: &mut Machine, cpu: u32) -> Option<Event>
+    requires ready { IsReady machine.old cpu }
+    requires here { (top_frame machine.old cpu).place ≡ Some Pc.T2 }
+    ensures next { machine.new ≡ (row machine.old cpu).0 }
+    ensures event { result ≡ (row machine.old cpu).1 }
+{
+    if is_free(word_met(machine, cpu)) {
+        return Some(take(machine, cpu, How::Try));
+    }
+    Some(miss(machine, cpu))
+}
+
+/// U1: stores free into the locked byte, and leaves a pending bit and a queue that came meanwhile.
+pub(crate) fn release(machine: &mut Machine, cpu: u32) -> Option<Event>
+    requires ready { IsReady machine.old cpu }
+    requires here { (top_frame machine.old cpu).place ≡ Some Pc.U1 }
+    ensures next { machine.new ≡ (row machine.old cpu).0 }
+    ensures event { result ≡ (row machine.old cpu).1 }
+{
+    let frame = machine.frame(cpu);
+    let word = machine.word(frame.lock);
+    machine.set_word(
+        frame.lock,
+        Fields {
+            locked: Locked::Free,
+            ..word
+        },
+    );
+    machine.freed(cpu);
+    Some(event(
+        cpu,
+        frame,
+        What::Release {
+            lock: frame.lock,
+            owing: None,
+        },
+    ))
+}
+
+/// V1: looks until the word is free. Nothing is stored, so the waiters do not disturb the holder.
+pub(crate) fn loop_look(machine: &mut Machine, cpu: u32) -> Option<Event>
+    requires ready { IsReady machine.old cpu }
+    requires here { (top_frame machine.old cpu).place ≡ Some Pc.V1 }
+    ensures next { machine.new ≡ (row machine.old cpu).0 }
+    ensures event { result ≡ (row machine.old cpu).1 }
+{
+    let place = if is_free(word_met(machine, cpu)) {
+        Pc::V2
+    } else {
+        Pc::V1
+    };
+    machine.set_place(cpu, place);
+    None
+}
+
+/// V2: swaps the word from free to locked; if another was faster, it looks again.
+pub(crate) fn loop_swap(machine: &mut Machine, cpu: u32) -> Option<Event>
+    requires ready { IsReady machine.old cpu }
+    requires here { (top_frame machine.old cpu).place ≡ Some Pc.V2 }
+    ensures next { machine.new ≡ (row machine.old cpu).0 }
+    ensures event { result ≡ (row machine.old cpu).1 }
+{
+    if is_free(word_met(machine, cpu)) {
+        return Some(take(machine, cpu, How::Virt));
+    }
+    machine.set_place(cpu, Pc::V1);
+    None
+}

@@ -1,0 +1,139 @@
+// The pending path: the first waiter behind a holder waits at the word itself.
+ghost use Rattle.std.specs.Prelude.{◌≡◌, Some};
+ghost use Rattle.lk_machine.specs.Machine.{top_frame};
+ghost use Rattle.lk_machine.specs.Ready.{IsReady};
+ghost use Rattle.lk_machine.specs.Rows.{row};
+ghost use Rattle.lk_machine.specs.SpinRows.{after_pending};
+
+use crate::fast::to_queue;
+use crate::word::{event, is_unlocked, word_met};
+use lk_abs::{Event, How, What};
+use lk_machine::{Frame, Machine, Pc};
+use lk_word::{Fields, Locked};
+
+/// P0: looks once more at a word that was pending alone, and so about to be taken.
+pub(crate) fn look_again(machine: &mut Machine, cpu: u32) -> Option<Event>
+    requires ready { IsReady machine.old cpu }
+    requires here { (top_frame machine.old cpu).place ≡ Some Pc.P0 }
+    ensures next { machine.new ≡ (row machine.old cpu).0 }
+    ensures event { result ≡ (row machine.old cpu).1 }
+{
+    let word = word_met(machine, cpu);
+    machine.set_place(cpu, to_queue(word));
+    None
+}
+
+// Where setting pending leads, by the word before it. Only who met no pending bit owns the one that it set.
+fn after_pending(word: Fields) -> Pc
+    ensures { result ≡ after_pending word }
+{
+    if word.pending {
+        Pc::G1
+    } else if word.tail.is_some() {
+        Pc::P2
+    } else if is_unlocked(word) {
+        Pc::P4
+    } else {
+        Pc::P3
+    }
+}
+
+/// P1: sets pending, and gets the word before it.
+pub(crate) fn set_pending(machine: &mut Machine, cpu: u32) -> Option<Event>
+    requires ready { IsReady machine.old cpu }
+    requires here { (top_frame machine.old cpu).place ≡ Some Pc.P1 }
+    ensures next { machine.new ≡ (row machine.old cpu).0 }
+    ensures event { result ≡ (row machine.old cpu).1 }
+{
+    let frame = machine.frame(cpu);
+    let word = machine.word(frame.lock);
+    machine.set_word(
+        frame.lock,
+        Fields {
+            pending: true,
+            ..word
+        },
+    );
+    machine.set_frame(
+        cpu,
+        Frame {
+            place: Some(after_pending(word)),
+            ..frame
+        },
+    );
+    None
+}
+
+/// P2: clears the pending bit that it set, since there is a queue that it has to join.
+pub(crate) fn clear_pending(machine: &mut Machine, cpu: u32) -> Option<Event>
+    requires ready { IsReady machine.old cpu }
+    requires here { (top_frame machine.old cpu).place ≡ Some Pc.P2 }
+    ensures next { machine.new ≡ (row machine.old cpu).0 }
+    ensures event { result ≡ (row machine.old cpu).1 }
+{
+    let frame = machine.frame(cpu);
+    let word = machine.word(frame.lock);
+    machine.set_word(
+        frame.lock,
+        Fields {
+            pending: false,
+            ..word
+        },
+    );
+    machine.set_frame(
+        cpu,
+        Frame {
+            place: Some(Pc::G1),
+            ..frame
+        },
+    );
+    None
+}
+
+/// P3: waits for the holder to release. Nobody else can take the lock then: the word is pending.
+pub(crate) fn watch(machine: &mut Machine, cpu: u32) -> Option<Event>
+    requires ready { IsReady machine.old cpu }
+    requires here { (top_frame machine.old cpu).place ≡ Some Pc.P3 }
+    ensures next { machine.new ≡ (row machine.old cpu).0 }
+    ensures event { result ≡ (row machine.old cpu).1 }
+{
+    let place = if is_unlocked(word_met(machine, cpu)) {
+        Pc::P4
+    } else {
+        Pc::P3
+    };
+    machine.set_place(cpu, place);
+    None
+}
+
+/// P4: takes the lock and clears pending in one store; a tail that came meanwhile stays.
+#[tactic(auto, using(lk_machine::proofs::Kept::kept), unfolding(lk_machine::specs::Machine::set_word, lk_machine::specs::Machine::set_lock))]
+pub(crate) fn take_pending(machine: &mut Machine, cpu: u32) -> Option<Event>
+    requires ready { IsReady machine.old cpu }
+    requires here { (top_frame machine.old cpu).place ≡ Some Pc.P4 }
+    ensures next { machine.new ≡ (row machine.old cpu).0 }
+    ensures event { result ≡ (row machine.old cpu).1 }
+{
+    let frame = machine.frame(cpu);
+    let word = machine.word(frame.lock);
+    let mut counts = machine.counts();
+    counts.lock_pending += 1;
+    machine.set_word(
+        frame.lock,
+        Fields {
+            locked: Locked::Held,
+            pending: false,
+            ..word
+        },
+    );
+    machine.set_counts(counts);
+    machine.granted(cpu);
+    Some(event(
+        cpu,
+        frame,
+        What::Take {
+            lock: frame.lock,
+            how: How::Pending,
+        },
+    ))
+}
