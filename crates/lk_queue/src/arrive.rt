@@ -1,0 +1,302 @@
+// A waiter on its way into the queue, up to where it leads.
+ghost use Rattle.std.specs.Prelude.{◌≡◌, ◌≤◌, ◌^◌, ◌-◌, Some, None};
+ghost use Rattle.lk_machine.specs.Machine.{top_frame};
+ghost use Rattle.lk_machine.specs.Moves.{node_of};
+ghost use Rattle.lk_machine.specs.Ready.{IsReady, CountsWithin};
+ghost use Rattle.lk_machine.specs.Row.{count_all, with_rest};
+ghost use Rattle.lk_machine.specs.Rows.{row, on_word};
+ghost use Rattle.lk_machine.specs.QueueRows.{own_node, after_entry, entry_counts, takes_out, after_arrival, after_link};
+ghost use Rattle.lk_queue.specs.Row.{HasOwn, frame_after};
+
+use crate::word::{event, is_free, word_met};
+use lk_abs::{Event, How, Mode, What};
+use lk_machine::{Counts, Flag, Frame, Machine, Node, Pc, State};
+use lk_word::{Fields, Locked, NodeName};
+
+// A node that no other can reach yet.
+const REST: Node = Node {
+    flag: Flag::Unset,
+    next: None,
+    second_tail: None,
+    runs: 0,
+    state: State::Running,
+};
+
+// The node that a frame gets where so many frames of its processor are in the slow path.
+fn own_node(cpu: u32, queued: u32) -> Option<NodeName>
+    ensures { result ≡ own_node cpu queued }
+{
+    if queued < 4 {
+        Some(NodeName { cpu, index: queued })
+    } else {
+        None
+    }
+}
+
+// Where a frame goes that got this node.
+fn after_entry(mode: Mode, me: Option<NodeName>) -> Pc
+    ensures { result ≡ after_entry mode me }
+{
+    match (mode, me) {
+        (Mode::Pv, _) => Pc::H1,
+        (_, None) => Pc::N1,
+        (_, Some(_)) => Pc::G2,
+    }
+}
+
+// The counts after an entry with so many frames before it.
+fn entry_counts(mode: Mode, queued: u32, mut counts: Counts) -> Counts
+    requires { CountsWithin (2 ^ 64 - 2) counts }
+    ensures { result ≡ count_all counts (entry_counts mode queued) }
+{
+    if !matches!(mode, Mode::Pv) {
+        counts.lock_slowpath += 1;
+    }
+    match queued {
+        0 => {}
+        1 => counts.lock_use_node2 += 1,
+        2 => counts.lock_use_node3 += 1,
+        3 => counts.lock_use_node4 += 1,
+        _ => counts.lock_no_node += 1,
+    }
+    counts
+}
+
+// The node of a frame at rest, where it has got one.
+fn reset(machine: &mut Machine, me: Option<NodeName>)
+    requires { HasOwn machine.old me }
+    ensures { machine.new ≡ with_rest machine.old me }
+{
+    if let Some(node) = me {
+        machine.set_node(node, REST);
+    }
+}
+
+/// G1: takes the next node of its processor, at rest, if one of the four is left. Frames nest, so the nodes below the count are
+/// those of the frames below.
+#[tactic(auto, using(lk_machine::proofs::Kept::kept, crate::proofs::Own::own_is_there), unfolding(lk_machine::specs::Machine::set_queued, lk_machine::specs::Machine::set_cpu))]
+pub(crate) fn enter(machine: &mut Machine, cpu: u32) -> Option<Event>
+    requires ready { IsReady machine.old cpu }
+    requires here { (top_frame machine.old cpu).place ≡ Some Pc.G1 }
+    ensures next { machine.new ≡ (row machine.old cpu).0 }
+    ensures event { result ≡ (row machine.old cpu).1 }
+{
+    let frame = machine.frame(cpu);
+    let queued = machine.queued(cpu);
+    let mode = machine.mode();
+    let counts = entry_counts(mode, queued, machine.counts());
+    let me = own_node(cpu, queued);
+    machine.set_queued(cpu, queued + 1);
+    machine.set_counts(counts);
+    reset(machine, me);
+    machine.set_frame(
+        cpu,
+        Frame {
+            me,
+            second: None,
+            hashed: false,
+            place: Some(after_entry(mode, me)),
+            ..frame
+        },
+    );
+    None
+}
+
+// Takes the free word, and leaves the slow path.
+pub(crate) fn take_out(machine: &mut Machine, cpu: u32, how: How) -> Event
+    requires { IsReady machine.old cpu }
+    ensures next { machine.new ≡ (on_word machine.old cpu (top_frame machine.old cpu) (takes_out (top_frame machine.old cpu) how)).0 }
+    ensures event { Some result ≡ (on_word machine.old cpu (top_frame machine.old cpu) (takes_out (top_frame machine.old cpu) how)).1 }
+{
+    let frame = machine.frame(cpu);
+    machine.set_word(
+        frame.lock,
+        Fields {
+            locked: Locked::Held,
+            pending: false,
+            tail: None,
+        },
+    );
+    machine.leave(cpu);
+    machine.granted(cpu);
+    event(
+        cpu,
+        frame,
+        What::Take {
+            lock: frame.lock,
+            how,
+        },
+    )
+}
+
+/// G2: looks once more whether the word is free, before it touches the queue.
+pub(crate) fn look_again(machine: &mut Machine, cpu: u32) -> Option<Event>
+    requires ready { IsReady machine.old cpu }
+    requires here { (top_frame machine.old cpu).place ≡ Some Pc.G2 }
+    ensures next { machine.new ≡ (row machine.old cpu).0 }
+    ensures event { result ≡ (row machine.old cpu).1 }
+{
+    let place = if is_free(word_met(machine, cpu)) {
+        Pc::G3
+    } else {
+        Pc::G4
+    };
+    machine.set_place(cpu, place);
+    None
+}
+
+/// G3: swaps the word from free to locked; if another was faster, it queues.
+pub(crate) fn swap_again(machine: &mut Machine, cpu: u32) -> Option<Event>
+    requires ready { IsReady machine.old cpu }
+    requires here { (top_frame machine.old cpu).place ≡ Some Pc.G3 }
+    ensures next { machine.new ≡ (row machine.old cpu).0 }
+    ensures event { result ≡ (row machine.old cpu).1 }
+{
+    if is_free(word_met(machine, cpu)) {
+        return Some(take_out(machine, cpu, How::Retry));
+    }
+    machine.set_place(cpu, Pc::G4);
+    None
+}
+
+// The frame after its waiter took the tail: without a node before it, it leads.
+fn arrived(mode: Mode, frame: Frame, met: Option<NodeName>) -> Frame
+    ensures { result ≡ frame_after frame (after_arrival mode met).leads }
+{
+    match met {
+        Some(_) => Frame {
+            prev: met,
+            place: Some(Pc::G5),
+            ..frame
+        },
+        None => Frame {
+            place: Some(match mode {
+                Mode::Pv => Pc::E1,
+                _ => Pc::G7,
+            }),
+            ..frame
+        },
+    }
+}
+
+/// G4: exchanges the tail with its own node, and keeps the locked byte and the pending bit. From here on it has its place in
+/// the queue, though the node before it does not know of it yet.
+pub(crate) fn exchange_tail(machine: &mut Machine, cpu: u32) -> Option<Event>
+    requires ready { IsReady machine.old cpu }
+    requires here { (top_frame machine.old cpu).place ≡ Some Pc.G4 }
+    ensures next { machine.new ≡ (row machine.old cpu).0 }
+    ensures event { result ≡ (row machine.old cpu).1 }
+{
+    let frame = machine.frame(cpu);
+    let word = machine.word(frame.lock);
+    let mode = machine.mode();
+    machine.set_word(
+        frame.lock,
+        Fields {
+            tail: frame.me,
+            ..word
+        },
+    );
+    machine.set_frame(cpu, arrived(mode, frame, word.tail));
+    Some(event(cpu, frame, What::Arrive { lock: frame.lock }))
+}
+
+// The node that a frame names; where it names none, its row is not reached.
+pub(crate) fn named(node: Option<NodeName>) -> NodeName
+    ensures { result ≡ node_of node }
+{
+    node.unwrap_or(NodeName { cpu: 0, index: 0 })
+}
+
+// Where a waiter goes that has linked its node.
+fn linked(mode: Mode, spins: u32, frame: Frame) -> Frame
+    ensures { result ≡ frame_after frame (after_link mode spins) }
+{
+    match mode {
+        Mode::Pv => Frame {
+            left: spins,
+            place: Some(Pc::W1),
+            ..frame
+        },
+        _ => Frame {
+            place: Some(Pc::G6),
+            ..frame
+        },
+    }
+}
+
+/// G5: links its node behind the one before it. Only this waiter links there: it met that node as the tail.
+#[tactic(auto, using(lk_machine::proofs::Kept::kept, crate::proofs::Leads::link_leads))]
+pub(crate) fn link(machine: &mut Machine, cpu: u32) -> Option<Event>
+    requires ready { IsReady machine.old cpu }
+    requires here { (top_frame machine.old cpu).place ≡ Some Pc.G5 }
+    ensures next { machine.new ≡ (row machine.old cpu).0 }
+    ensures event { result ≡ (row machine.old cpu).1 }
+{
+    let frame = machine.frame(cpu);
+    let prev = named(frame.prev);
+    let node = machine.node(prev);
+    let after = linked(machine.mode(), machine.spins(), frame);
+    machine.set_node(
+        prev,
+        Node {
+            next: frame.me,
+            ..node
+        },
+    );
+    machine.set_frame(cpu, after);
+    None
+}
+
+/// G6: waits for its own flag, which the front before it sets once.
+pub(crate) fn wait(machine: &mut Machine, cpu: u32) -> Option<Event>
+    requires ready { IsReady machine.old cpu }
+    requires here { (top_frame machine.old cpu).place ≡ Some Pc.G6 }
+    ensures next { machine.new ≡ (row machine.old cpu).0 }
+    ensures event { result ≡ (row machine.old cpu).1 }
+{
+    let frame = machine.frame(cpu);
+    match machine.node(named(frame.me)).flag {
+        Flag::Unset => machine.set_place(cpu, Pc::G6),
+        Flag::Go => machine.set_place(cpu, Pc::G7),
+        Flag::Second(node) => machine.set_frame(
+            cpu,
+            Frame {
+                second: Some(node),
+                place: Some(Pc::G7),
+                ..frame
+            },
+        ),
+    }
+    None
+}
+
+/// N1: looks until the word is free, without a node to queue with.
+pub(crate) fn look_bare(machine: &mut Machine, cpu: u32) -> Option<Event>
+    requires ready { IsReady machine.old cpu }
+    requires here { (top_frame machine.old cpu).place ≡ Some Pc.N1 }
+    ensures next { machine.new ≡ (row machine.old cpu).0 }
+    ensures event { result ≡ (row machine.old cpu).1 }
+{
+    let place = if is_free(word_met(machine, cpu)) {
+        Pc::N2
+    } else {
+        Pc::N1
+    };
+    machine.set_place(cpu, place);
+    None
+}
+
+/// N2: swaps the word from free to locked; if another was faster, it looks again.
+pub(crate) fn swap_bare(machine: &mut Machine, cpu: u32) -> Option<Event>
+    requires ready { IsReady machine.old cpu }
+    requires here { (top_frame machine.old cpu).place ≡ Some Pc.N2 }
+    ensures next { machine.new ≡ (row machine.old cpu).0 }
+    ensures event { result ≡ (row machine.old cpu).1 }
+{
+    if is_free(word_met(machine, cpu)) {
+        return Some(take_out(machine, cpu, How::NoNode));
+    }
+    machine.set_place(cpu, Pc::N1);
+    None
+}
