@@ -1,0 +1,10 @@
+pub mod Phase
+pub mod Snapshot
+pub mod Agree
+pub mod World
+pub mod Allowed
+pub mod Walk
+pub mod WorldLaws
+pub mod Known
+pub mod Sound
+pub mod MachineLaws

@@ -1,0 +1,39 @@
+-- The queue as it stands in words and nodes: the walk from the front's node, each node to the one behind it.
+use Rattle.std.specs.Prelude.{◌≡◌, ◌≢◌, ◌≤◌, ℕ, Option, Some, None, true, List, [], ◌∷◌, length, map}
+use Rattle.std.proofs.Common.{zero, suc}
+use Rattle.lk_abs.specs.History.{LockHistory}
+use Rattle.lk_abs.specs.declared.names.Waiter.{Waiter}
+use Rattle.lk_abs.specs.declared.names.LockName.{LockName}
+use Rattle.lk_word.specs.declared.spin_word.NodeName.{NodeName}
+use Rattle.lk_machine.specs.declared.parts.Node.{Node}
+use Rattle.lk_law.specs.Phase.{Phase, leads}
+use Rattle.lk_law.specs.Phase.Phase.{Links}
+use Rattle.lk_law.specs.Snapshot.{Snapshot}
+use Rattle.lk_law.specs.Agree.{Agrees}
+
+-- the walk from a node along its successors, for at most so many steps
+abbrev pub walk : (NodeName → Option NodeName) → ℕ → Option NodeName → List NodeName
+walk behind zero n = []
+walk behind (suc c) None = []
+walk behind (suc c) (Some n) = n ∷ walk behind c (behind n)
+
+-- Right behind a node stands the one that it names as its next; where it names none, the node of the waiter that has taken the tail
+-- from it and will link; and where there is no such waiter, none.
+pub record IsBehind (phase : Waiter → Phase) (own : Waiter → NodeName) (node : NodeName → Node) (behind : NodeName → Option NodeName) : Type 0 where
+  pub linked : (a b : NodeName) → (node a).next ≡ Some b → behind a ≡ Some b
+  pub linking : (a : NodeName) (u : Waiter) → (node a).next ≡ None → phase u ≡ Links a → behind a ≡ Some (own u)
+  pub none : (a : NodeName) → (node a).next ≡ None → ((u : Waiter) → phase u ≢ Links a) → behind a ≡ None
+
+-- the waiter leads the queue of the lock
+abbrev pub LeadsQueue : Snapshot → LockName → Waiter → Type 0
+LeadsQueue s l u = leads (s.phase l u) ((s.node (s.own u)).flag) ≡ true
+
+-- Where a waiter leads the queue, main has the waiters of the walk from its node, in their order; where none does, main is empty.
+pub record IsTheWalk (s : Snapshot) (h : LockHistory) (l : LockName) : Type 0 where
+  pub led : (behind : NodeName → Option NodeName) → IsBehind (s.phase l) s.own s.node behind → (u : Waiter) → LeadsQueue s l u
+      → (c : ℕ) → length h.main ≤ c → walk behind c (Some (s.own u)) ≡ map s.own h.main
+  pub unled : ((u : Waiter) → ¬ LeadsQueue s l u) → h.main ≡ []
+
+-- In every snapshot that agrees with its histories, main of each lock is the walk.
+abbrev pub MainIsTheWalk : Type 0
+MainIsTheWalk = (s : Snapshot) (hs : LockName → LockHistory) (l : LockName) → Agrees s hs → IsTheWalk s (hs l) l
