@@ -1,0 +1,180 @@
+-- An act adds one to some of the ten counts at most.
+use Rattle.std.proofs.Common.{◌≡◌, ℕ, Option, Some, None, Bool, true, false, List, [], ◌∷◌, inl, inr, arith, ap, ◌+◌, ◌≤◌, rules, refl, sym, ◌∙◌, subst}
+use Rattle.std.specs.Prelude.{if◌then◌else◌, ◌==◌}
+use Rattle.std.proofs.lemmas.Bool.{cases_Bool}
+use Rattle.lk_abs.specs.declared.names.Mode.{Mode}
+use Rattle.lk_abs.specs.declared.names.Mode.TheVariants.{Pv}
+use Rattle.lk_abs.specs.declared.events.Act.{Act}
+use Rattle.lk_abs.specs.declared.events.Act.TheVariants as act
+use Rattle.lk_word.specs.declared.spin_word.NodeName.{NodeName}
+use Rattle.lk_word.specs.declared.spin_word.Fields.{Fields}
+use Rattle.lk_machine.specs.declared.parts.Counts.{Counts}
+use Rattle.lk_machine.specs.declared.parts.Flag.{Flag}
+use Rattle.lk_machine.specs.declared.parts.Flag.TheVariants as flag
+use Rattle.lk_machine.specs.declared.parts.Frame.{Frame}
+use Rattle.lk_machine.specs.declared.parts.Pc.{Pc}
+use Rattle.lk_machine.specs.declared.parts.Pc.TheVariants.{F1, T1, T2, V2, P4, G3, G4, G6, G8, G10, N2}
+use Rattle.lk_machine.specs.Machine.{Machine, CpuState, LockState, word_at, node_at, queued_at, preempted_at, halted_at, top_frame, set_cpu, set_lock, set_counts}
+use Rattle.lk_machine.specs.Row.{Lead, Counter, LockPending, LockSlowpath, LockUseNode2, LockUseNode3, LockUseNode4, LockNoNode, moved, counted, count_all}
+use Rattle.lk_machine.specs.SpinRows.{spin_row, is_free}
+use Rattle.lk_machine.specs.QueueRows.{queue_row, entry_row, flag_row, next_row, index_count, entry_counts, is_sole, after_arrival}
+use Rattle.lk_machine.specs.Rows.{Target, SpinWord, QueueWord, Queued, FlagOf, NextOf, Unbuilt, target, stored_word, stored_flag, stored_next, stored_queued, row_on, row_at, row}
+use Rattle.lk_machine.specs.Acts.{idle, step_halted, step, next}
+use Rattle.lk_machine.specs.Ready.{CountsWithin}
+use Rattle.lk_core.proofs.Parts.{part-moved, part-stored_word, part-stored_flag, part-stored_next, part-stored_queued, part-step_halted, part-rest}
+
+-- no count rises by more than one
+record StepsUp (c d : Counts) : Type 0 where
+  pub lock_pending : d.lock_pending ≤ c.lock_pending + 1
+  pub lock_slowpath : d.lock_slowpath ≤ c.lock_slowpath + 1
+  pub lock_use_node2 : d.lock_use_node2 ≤ c.lock_use_node2 + 1
+  pub lock_use_node3 : d.lock_use_node3 ≤ c.lock_use_node3 + 1
+  pub lock_use_node4 : d.lock_use_node4 ≤ c.lock_use_node4 + 1
+  pub lock_no_node : d.lock_no_node ≤ c.lock_no_node + 1
+  pub pv_lock_stealing : d.pv_lock_stealing ≤ c.pv_lock_stealing + 1
+  pub pv_wait_node : d.pv_wait_node ≤ c.pv_wait_node + 1
+  pub pv_wait_head : d.pv_wait_head ≤ c.pv_wait_head + 1
+  pub pv_kick_unlock : d.pv_kick_unlock ≤ c.pv_kick_unlock + 1
+
+steps_within : (n : ℕ) (c d : Counts) → CountsWithin n c → StepsUp c d → CountsWithin (n + 1) d
+steps_within n c d w s =
+    record {
+      lock_pending = omega (arith, w.lock_pending, s.lock_pending);
+      lock_slowpath = omega (arith, w.lock_slowpath, s.lock_slowpath);
+      lock_use_node2 = omega (arith, w.lock_use_node2, s.lock_use_node2);
+      lock_use_node3 = omega (arith, w.lock_use_node3, s.lock_use_node3);
+      lock_use_node4 = omega (arith, w.lock_use_node4, s.lock_use_node4);
+      lock_no_node = omega (arith, w.lock_no_node, s.lock_no_node);
+      pv_lock_stealing = omega (arith, w.pv_lock_stealing, s.pv_lock_stealing);
+      pv_wait_node = omega (arith, w.pv_wait_node, s.pv_wait_node);
+      pv_wait_head = omega (arith, w.pv_wait_head, s.pv_wait_head);
+      pv_kick_unlock = omega (arith, w.pv_kick_unlock, s.pv_kick_unlock);
+    }
+
+-- counting these, no count rises by more than one
+abbrev AddsFew : List Counter → Type 0
+AddsFew cs = (c : Counts) → StepsUp c (count_all c cs)
+
+none_few : AddsFew []
+none_few c = search (arith, rules)
+
+pending_few : AddsFew (LockPending ∷ [])
+pending_few c = search (arith, rules)
+
+-- one of two lists
+either : (P : List Counter → Type 0) (t : Bool) (a b : List Counter) → P a → P b → P (if t then a else b)
+either P true a b x y = x
+either P false a b x y = y
+
+index_of : (P : List Counter → Type 0) → P [] → P (LockUseNode2 ∷ []) → P (LockUseNode3 ∷ []) → P (LockUseNode4 ∷ []) → P (LockNoNode ∷ []) → (i : ℕ) → P (index_count i)
+index_of P a b c d e i =
+    either P (i == 0) [] (if i == 1 then LockUseNode2 ∷ [] else (if i == 2 then LockUseNode3 ∷ [] else (if i == 3 then LockUseNode4 ∷ [] else LockNoNode ∷ []))) a
+    (either P (i == 1) (LockUseNode2 ∷ []) (if i == 2 then LockUseNode3 ∷ [] else (if i == 3 then LockUseNode4 ∷ [] else LockNoNode ∷ [])) b
+    (either P (i == 2) (LockUseNode3 ∷ []) (if i == 3 then LockUseNode4 ∷ [] else LockNoNode ∷ []) c
+    (either P (i == 3) (LockUseNode4 ∷ []) (LockNoNode ∷ []) d e)))
+
+entry_few : (mode : Mode) (i : ℕ) → AddsFew (entry_counts mode i)
+entry_few Pv i = index_of AddsFew none_few (λ c. search (arith, rules)) (λ c. search (arith, rules)) (λ c. search (arith, rules)) (λ c. search (arith, rules)) i
+entry_few _ i =
+    index_of (λ cs. AddsFew (LockSlowpath ∷ cs)) (λ c. search (arith, rules)) (λ c. search (arith, rules)) (λ c. search (arith, rules)) (λ c. search (arith, rules)) (λ c. search (arith, rules)) i
+
+spin_few : (mode : Mode) (c : Pc) (f : Frame) (x : Fields) → AddsFew (spin_row mode c f x).counts
+spin_few mode F1 f x = elim (cases_Bool (is_free x)) [ inl e ↦ rw e none_few | inr e ↦ rw e none_few ]
+spin_few mode T1 f x = elim (cases_Bool (is_free x)) [ inl e ↦ rw e none_few | inr e ↦ rw e none_few ]
+spin_few mode T2 f x = elim (cases_Bool (is_free x)) [ inl e ↦ rw e none_few | inr e ↦ rw e none_few ]
+spin_few mode V2 f x = elim (cases_Bool (is_free x)) [ inl e ↦ rw e none_few | inr e ↦ rw e none_few ]
+spin_few mode P4 f x = pending_few
+spin_few mode _ f x = none_few
+
+arrival_few : (mode : Mode) (o : Option NodeName) → AddsFew (after_arrival mode o).counts
+arrival_few Pv None = none_few
+arrival_few _ None = none_few
+arrival_few mode (Some n) = none_few
+
+queue_few : (mode : Mode) (c : Pc) (f : Frame) (x : Fields) → AddsFew (queue_row mode c f x).counts
+queue_few mode G3 f x = elim (cases_Bool (is_free x)) [ inl e ↦ rw e none_few | inr e ↦ rw e none_few ]
+queue_few mode G4 f x = arrival_few mode x.tail
+queue_few mode G8 f x = elim (cases_Bool (is_sole f x)) [ inl e ↦ rw e none_few | inr e ↦ rw e none_few ]
+queue_few mode N2 f x = elim (cases_Bool (is_free x)) [ inl e ↦ rw e none_few | inr e ↦ rw e none_few ]
+queue_few mode _ f x = none_few
+
+flag_few : (c : Pc) (f : Frame) (x : Flag) → AddsFew (flag_row c f x).counts
+flag_few G6 f flag.Unset = none_few
+flag_few G6 f flag.Go = none_few
+flag_few G6 f (flag.Second n) = none_few
+flag_few _ f x = none_few
+
+next_few : (mode : Mode) (turns : ℕ) (c : Pc) (f : Frame) (x : Option NodeName) → AddsFew (next_row mode turns c f x).counts
+next_few mode turns G10 f None = none_few
+next_few mode turns G10 f (Some n) = none_few
+next_few mode turns _ f x = none_few
+
+-- on a machine
+
+abbrev of : Machine → Counts
+of m = m.counts
+
+cpu : (m : Machine) (p : ℕ) (c : CpuState) → of (set_cpu m p c) ≡ of m
+unfolding set_cpu
+cpu m p c = refl
+
+lock : (m : Machine) (i : ℕ) (x : LockState) → of (set_lock m i x) ≡ of m
+unfolding set_lock
+lock m i x = refl
+
+counted_is : (m : Machine) (cs : List Counter) → of (counted m cs) ≡ count_all (of m) cs
+unfolding set_counts
+counted_is m [] = refl
+counted_is m (c ∷ cs) = refl
+
+-- the counts do not rise by more than one
+abbrev Rises : Machine → Machine → Type 0
+Rises m n = StepsUp (of m) (of n)
+
+still : (m n : Machine) → of n ≡ of m → Rises m n
+still m n e = subst (λ (c : Counts). StepsUp (of m) c) (sym e) (none_few (of m))
+
+applied_few : (m n : Machine) (p : ℕ) (f : Frame) (lead : Lead) (cs : List Counter) → of n ≡ of m → AddsFew cs → Rises m (moved (counted n cs) p f lead)
+applied_few m n p f lead cs e few =
+    subst (λ (c : Counts). StepsUp (of m) c) (sym (part-moved of cpu lock (counted n cs) p f lead ∙ counted_is n cs ∙ ap (λ (c : Counts). count_all c cs) e)) (few (of m))
+
+few_row_on : (m : Machine) (p : ℕ) (f : Frame) (c : Pc) (t : Target) → Rises m (row_on m p f c t).0
+few_row_on m p f c SpinWord =
+    let o = spin_row m.setup.mode c f (word_at m f.lock) in
+    applied_few m (stored_word m f o.stores) p f o.leads o.counts (part-stored_word of cpu lock m f o.stores) (spin_few m.setup.mode c f (word_at m f.lock))
+few_row_on m p f c QueueWord =
+    let o = queue_row m.setup.mode c f (word_at m f.lock) in
+    applied_few m (stored_word m f o.stores) p f o.leads o.counts (part-stored_word of cpu lock m f o.stores) (queue_few m.setup.mode c f (word_at m f.lock))
+few_row_on m p f c Queued =
+    let o = entry_row m.setup.mode p (queued_at m p) in
+    applied_few m (stored_queued m p o.stores) p f o.leads o.counts (part-stored_queued of cpu lock m p o.stores) (entry_few m.setup.mode (queued_at m p))
+few_row_on m p f c (FlagOf n) =
+    let o = flag_row c f (node_at m n).flag in
+    applied_few m (stored_flag m n o.stores) p f o.leads o.counts (part-stored_flag of cpu lock m n o.stores) (flag_few c f (node_at m n).flag)
+few_row_on m p f c (NextOf n) =
+    let o = next_row m.setup.mode m.setup.spins c f (node_at m n).next in
+    applied_few m (stored_next m n o.stores) p f o.leads o.counts (part-stored_next of cpu lock m n o.stores) (next_few m.setup.mode m.setup.spins c f (node_at m n).next)
+few_row_on m p f c Unbuilt = still m m refl
+
+few_row_at : (m : Machine) (p : ℕ) (f : Frame) (o : Option Pc) → Rises m (row_at m p f o).0
+few_row_at m p f None = still m m refl
+few_row_at m p f (Some c) = few_row_on m p f c (target c f)
+
+few_step : (m : Machine) (p : ℕ) → Rises m (step m p).0
+few_step m p = by (preempted_at m p) (halted_at m p)
+  where
+    by : (a b : Bool) → Rises m (if a then idle m else (if b then step_halted m p else row m p)).0
+    by true b = still m m refl
+    by false true = still m (step_halted m p).0 (part-step_halted of cpu lock m p)
+    by false false = few_row_at m p (top_frame m p) (top_frame m p).place
+
+few_next : (m : Machine) (a : Act) → Rises m (next m a).0
+few_next m (act.Step p) = few_step m p
+few_next m (act.Interrupt p) = still m (next m (act.Interrupt p)).0 (part-rest of cpu lock m p).0
+few_next m (act.Preempt p) = still m (next m (act.Preempt p)).0 (part-rest of cpu lock m p).1
+few_next m (act.Resume p) = still m (next m (act.Resume p)).0 (part-rest of cpu lock m p).2
+few_next m (act.Nudge p) = still m (next m (act.Nudge p)).0 (part-rest of cpu lock m p).3
+
+-- the counts of the next machine are within one more
+pub counts_within : (n : ℕ) (m : Machine) (a : Act) → CountsWithin n m.counts → CountsWithin (n + 1) (next m a).0.counts
+counts_within n m a w = steps_within n m.counts (next m a).0.counts w (few_next m a)

@@ -1,0 +1,71 @@
+-- The laws over machines: acts, the machine at rest, and runs.
+use Rattle.std.proofs.Common.{◌≡◌, ℕ, suc, Option, Some, None, List, [], ◌∷◌, ◌++◌, ap, refl, sym, ◌∙◌, subst, length, append_assoc}
+use Rattle.std.proofs.lemmas.List.{append-nil}
+use Rattle.lk_abs.specs.History.{LockHistory, history_of}
+use Rattle.lk_abs.specs.Lawful.{IsLawful}
+use Rattle.lk_abs.specs.declared.names.Mode.{Mode}
+use Rattle.lk_abs.specs.declared.names.Mode.TheVariants.{Virt, Native, Pv}
+use Rattle.lk_abs.specs.declared.names.LockName.{LockName}
+use Rattle.lk_abs.specs.declared.events.Act.{Act}
+use Rattle.lk_abs.specs.declared.events.Event.{Event}
+use Rattle.lk_abs.proofs.Moments.{history_of-push}
+use Rattle.lk_abs.proofs.OneMore.{lawful-nil}
+use Rattle.lk_machine.specs.declared.setup.Setup.{Setup}
+use Rattle.lk_machine.specs.Machine.{Machine}
+use Rattle.lk_machine.specs.Acts.{next}
+use Rattle.lk_machine.specs.Run.{at_rest, history_from, occurs, machine_after, events_of, Occurrence}
+use Rattle.lk_law.specs.World.{IsBuilt, told_on}
+use Rattle.lk_law.specs.Sound.{rules_of, ShowsAll, Shows}
+use Rattle.lk_law.specs.MachineLaws.{and_then, ShowsLawful, ActKeeps, AreInRange, RestShows, RunKeeps}
+use Rattle.lk_core.proofs.ActKept.{act_kept}
+use Rattle.lk_core.proofs.Setups.{setup_kept}
+use Rattle.lk_core.proofs.LawfulKept.{lawful_then}
+use Rattle.lk_core.proofs.Rest.{rest_shows_all}
+
+-- the histories of a list of events, told on, are those of the list with the event
+told_then : (es : List Event) (o : Option Event) → told_on (λ l. history_of l es) o ≡ (λ l. history_of l (and_then es o))
+told_then es None = refl
+told_then es (Some e) = (λ i l. sym (history_of-push l es e) i)
+
+not_pv : (mode : Mode) → IsBuilt mode → mode ≡ Pv → ⊥
+not_pv Virt b e = cc
+not_pv Native b e = cc
+not_pv _ b e = absurd b
+
+pub rest_shows : RestShows
+rest_shows setup ok = record { shows = rest_shows_all setup ok; lawful = lawful-nil (rules_of setup) }
+
+-- no act changes how many processors there are
+cpus_kept : (m n : Machine) (hs ks : LockName → LockHistory) → ShowsAll m hs → ShowsAll n ks → n.setup ≡ m.setup → length n.cpus ≡ length m.cpus
+cpus_kept m n hs ks a b e = b.whole.cpus ∙ ap (λ (s : Setup). length s.topology.sockets.items) e ∙ sym a.whole.cpus
+
+-- what happens in an act, and then in others
+events_then : (es : List Event) (o : Option Event) (n : ℕ) (os : List Occurrence) → and_then es o ++ events_of os ≡ es ++ events_of (occurs n o ++ os)
+events_then es None n os = refl
+events_then es (Some e) n os = append_assoc es (e ∷ []) (events_of os)
+
+pub acts_keep : ActKeeps
+acts_keep m es a range now =
+    let kept = act_kept m (λ l. history_of l es) now.shows a range in
+    let o = (next m a).1 in
+    let shown : Shows (next m a).0 (and_then es o) = subst (λ (hs : LockName → LockHistory). ShowsAll (next m a).0 hs) (told_then es o) kept.shows in
+    let lawful : IsLawful (rules_of m.setup) (and_then es o) =
+    lawful_then (rules_of m.setup) es o now.lawful (not_pv m.setup.mode now.shows.whole.built) kept.allowed (λ l. (shown.world.agrees.locks l).unpassed) in
+    record { shows = shown; lawful = subst (λ (s : Setup). IsLawful (rules_of s) (and_then es o)) (sym (setup_kept m a)) lawful }
+
+-- from any machine that shows a lawful history
+pub run_from : (acts : List Act) (n : ℕ) (m : Machine) (es : List Event) → AreInRange (length m.cpus) acts → ShowsLawful m es
+    → ShowsLawful (machine_after m acts) (es ++ events_of (history_from n m acts))
+run_from [] n m es range now = subst (λ (xs : List Event). ShowsLawful m xs) (sym (append-nil es)) now
+run_from (a ∷ acts) n m es range now =
+    let o = (next m a).1 in
+    let k = (next m a).0 in
+    let then : ShowsLawful k (and_then es o) = acts_keep m es a range.0 now in
+    let cpus = cpus_kept m k (λ l. history_of l es) (λ l. history_of l (and_then es o)) now.shows then.shows (setup_kept m a) in
+    let inside : AreInRange (length k.cpus) acts = subst (λ (i : ℕ). AreInRange i acts) (sym cpus) range.1 in
+    subst (λ (xs : List Event). ShowsLawful (machine_after k acts) xs) (events_then es o n (history_from (suc n) k acts)) (run_from acts (suc n) k (and_then es o) inside then)
+
+pub runs_keep : RunKeeps
+runs_keep setup acts ok range =
+    let rest = rest_shows setup ok in
+    run_from acts 1 (at_rest setup) [] (subst (λ (i : ℕ). AreInRange i acts) (sym rest.shows.whole.cpus) range) rest

@@ -1,0 +1,259 @@
+-- What the writes of rows and acts leave of a machine: its setup, and how much of everything there is. So a whole machine stays whole,
+-- and frames that fit go on to fit.
+use Rattle.std.proofs.Common.{◌≡◌, ◌≢◌, ℕ, Some, Bool, [], ◌∷◌, ◌++◌, inl, inr, arith, ap, ◌<◌, ◌≤◌, ◌+◌, ◌-◌, refl, sym, ◌∙◌, subst, slice_get, length, set, take}
+use Rattle.std.specs.Prelude.{if◌then◌else◌}
+use Rattle.std.proofs.lemmas.Bool.{cases_eq}
+use Rattle.std.proofs.lemmas.List.{length-set, length_push, length-take-le}
+use Rattle.lk_abs.specs.declared.names.Kind.{Kind}
+use Rattle.lk_abs.specs.declared.names.Kind.TheVariants.{Spin}
+use Rattle.lk_abs.specs.declared.names.Waiter.{Waiter}
+use Rattle.lk_abs.specs.declared.names.LockName.{LockName}
+use Rattle.lk_word.specs.declared.spin_word.NodeName.{NodeName}
+use Rattle.lk_word.specs.declared.spin_word.Fields.{Fields}
+use Rattle.lk_machine.specs.declared.setup.Setup.{Setup}
+use Rattle.lk_machine.specs.declared.parts.Frame.{Frame}
+use Rattle.lk_machine.specs.declared.parts.Node.{Node}
+use Rattle.lk_machine.specs.declared.parts.Counts.{Counts}
+use Rattle.lk_machine.specs.Machine.{Machine, CpuState, cpu_at, lock_at, depth_at, halted_at, handlers_at, top_of, set_cpu, set_lock, set_counts, set_word, set_node, set_top, set_queued, set_preempted, pop, push, HasTop}
+use Rattle.lk_machine.specs.Programs.{IsLawfulSetup, handlers_of, program_at}
+use Rattle.lk_law.specs.World.{IsBuilt}
+use Rattle.lk_law.specs.Sound.{IsWhole, Fits, Works}
+use Rattle.lk_core.proofs.Access.{cpu_same, cpu_other, cpu_part}
+
+-- the setup is kept, and how much there is; and no handler comes back
+pub record Keeps (m n : Machine) : Type 0 where
+  pub setup : n.setup ≡ m.setup
+  pub locks : length n.locks ≡ length m.locks
+  pub cpus : length n.cpus ≡ length m.cpus
+  pub nodes : (p : ℕ) → length (cpu_at n p).nodes ≡ length (cpu_at m p).nodes
+  pub halted : (p : ℕ) → halted_at n p ≡ halted_at m p
+  pub handlers : (p : ℕ) → handlers_at m p ≤ handlers_at n p
+
+-- and no frame comes or goes
+pub record Same (m n : Machine) : Type 0 where
+  pub keeps : Keeps m n
+  pub depth : (p : ℕ) → depth_at n p ≡ depth_at m p
+  pub handlers : (p : ℕ) → handlers_at n p ≡ handlers_at m p
+
+pub keeps_then : (a b c : Machine) → Keeps a b → Keeps b c → Keeps a c
+keeps_then a b c s t =
+    record {
+      setup = t.setup ∙ s.setup;
+      locks = t.locks ∙ s.locks;
+      cpus = t.cpus ∙ s.cpus;
+      nodes = λ p. t.nodes p ∙ s.nodes p;
+      halted = λ p. t.halted p ∙ s.halted p;
+      handlers = λ p. let x = s.handlers p in let y = t.handlers p in omega arith;
+    }
+
+pub same_then : (a b c : Machine) → Same a b → Same b c → Same a c
+same_then a b c s t = record { keeps = keeps_then a b c s.keeps t.keeps; depth = λ p. t.depth p ∙ s.depth p; handlers = λ p. t.handlers p ∙ s.handlers p }
+
+pub same_self : (m : Machine) → Same m m
+same_self m =
+    record {
+      keeps = record { setup = refl; locks = refl; cpus = refl; nodes = λ p. refl; halted = λ p. refl; handlers = λ p. omega arith };
+      depth = λ p. refl;
+      handlers = λ p. refl;
+    }
+
+-- the top is the same
+pub top_same : (m n : Machine) (p : ℕ) → Same m n → top_of n p ≡ top_of m p
+top_same m n p s = (λ i. record { cpu = p; ctx = s.depth p i - 1 })
+
+pub has_top_same : (m n : Machine) (p : ℕ) → Same m n → HasTop m p → HasTop n p
+has_top_same m n p s top = record { in_range = rw s.keeps.cpus top.in_range; some = rw (s.depth p) top.some; few = rw (s.depth p) top.few }
+
+-- a machine stays whole, where each processor has a top and uses no more handlers than there are
+pub whole_kept : (m n : Machine) → IsWhole m → Keeps m n → ((p : ℕ) → p < length m.cpus → HasTop n p) → ((p : ℕ) → handlers_at n p ≤ handlers_of m.setup p) → IsWhole n
+whole_kept m n w k tops handlers =
+    record {
+      setup = subst (λ (s : Setup). IsLawfulSetup s) (sym k.setup) w.setup;
+      built = subst (λ (s : Setup). IsBuilt s.mode) (sym k.setup) w.built;
+      spin = subst (λ (s : Setup). (i : ℕ) (d : Kind) → slice_get s.locks.items i ≡ Some d → d ≡ Spin) (sym k.setup) w.spin;
+      locks = k.locks ∙ w.locks ∙ ap (λ (s : Setup). length s.locks.items) (sym k.setup);
+      cpus = k.cpus ∙ w.cpus ∙ ap (λ (s : Setup). length s.topology.sockets.items) (sym k.setup);
+      nodes = λ p lt. k.nodes p ∙ w.nodes p (rw k.cpus at lt);
+      tops = λ p lt. tops p (rw k.cpus at lt);
+      awake = λ p. k.halted p ∙ w.awake p;
+      handlers = λ p. subst (λ (s : Setup). handlers_at n p ≤ handlers_of s p) (sym k.setup) (handlers p);
+    }
+
+pub whole_same : (m n : Machine) → IsWhole m → Same m n → IsWhole n
+whole_same m n w s = whole_kept m n w s.keeps (λ p lt. has_top_same m n p s (w.tops p lt)) (λ p. rw (s.handlers p) (w.handlers p))
+
+-- a frame goes on to fit
+pub fits_kept : (m n : Machine) (u : Waiter) (f : Frame) → Keeps m n → Fits m u f → Fits n u f
+fits_kept m n u f k fits =
+    record {
+      ctx = fits.ctx;
+      program = (fits.program.0, λ lt. let r = fits.program.1 lt in let h = k.handlers u.cpu in (r.0, omega (arith, r.1, h)));
+      within = subst (λ (s : Setup). f.«at» ≤ length (program_at s u.cpu f.program)) (sym k.setup) fits.within;
+      finished = λ e. subst (λ (s : Setup). f.«at» ≡ length (program_at s u.cpu f.program)) (sym k.setup) (fits.finished e);
+      working = λ c e. subst (λ (s : Setup). Works s.mode (program_at s u.cpu f.program) f c) (sym k.setup) (fits.working c e);
+    }
+
+-- a record of a processor that has as many frames, halts or not as before, and has as many handlers left
+pub record AsMany (old new : CpuState) : Type 0 where
+  pub nodes : length new.nodes ≡ length old.nodes
+  pub halted : new.halted ≡ old.halted
+  pub frames : length new.frames ≡ length old.frames
+  pub handlers : new.handlers ≡ old.handlers
+
+setup-set_cpu : (m : Machine) (p : ℕ) (c : CpuState) → (set_cpu m p c).setup ≡ m.setup
+unfolding set_cpu
+setup-set_cpu m p c = refl
+
+locks-set_cpu : (m : Machine) (p : ℕ) (c : CpuState) → length (set_cpu m p c).locks ≡ length m.locks
+unfolding set_cpu
+locks-set_cpu m p c = refl
+
+cpus-set_cpu : (m : Machine) (p : ℕ) (c : CpuState) → length (set_cpu m p c).cpus ≡ length m.cpus
+unfolding set_cpu
+cpus-set_cpu m p c = length-set m.cpus p c
+
+same_set_cpu : (m : Machine) (p : ℕ) (c : CpuState) → AsMany (cpu_at m p) c → Same m (set_cpu m p c)
+unfolding halted_at handlers_at depth_at
+same_set_cpu m p c a =
+    let handlers : (q : ℕ) → handlers_at (set_cpu m p c) q ≡ handlers_at m q = cpu_part (λ (d : CpuState). d.handlers) m p c a.handlers in
+    record {
+      keeps = record {
+        setup = setup-set_cpu m p c;
+        locks = locks-set_cpu m p c;
+        cpus = cpus-set_cpu m p c;
+        nodes = cpu_part (λ (d : CpuState). length d.nodes) m p c a.nodes;
+        halted = cpu_part (λ (d : CpuState). d.halted) m p c a.halted;
+        handlers = λ q. let e = handlers q in omega arith;
+      };
+      depth = cpu_part (λ (d : CpuState). length d.frames) m p c a.frames;
+      handlers = handlers;
+    }
+
+pub same_set_top : (m : Machine) (p : ℕ) (g : Frame) → Same m (set_top m p g)
+unfolding set_top
+same_set_top m p g =
+    same_set_cpu m p (record (cpu_at m p) { frames = set (cpu_at m p).frames (depth_at m p - 1) g }) (record { nodes = refl; halted = refl; frames = length-set (cpu_at m p).frames (depth_at m p - 1) g; handlers = refl })
+
+pub same_set_node : (m : Machine) (n : NodeName) (x : Node) → Same m (set_node m n x)
+unfolding set_node
+same_set_node m n x =
+    same_set_cpu m n.cpu (record (cpu_at m n.cpu) { nodes = set (cpu_at m n.cpu).nodes n.index x }) (record { nodes = length-set (cpu_at m n.cpu).nodes n.index x; halted = refl; frames = refl; handlers = refl })
+
+pub same_set_queued : (m : Machine) (p n : ℕ) → Same m (set_queued m p n)
+unfolding set_queued
+same_set_queued m p n = same_set_cpu m p (record (cpu_at m p) { queued = n }) (record { nodes = refl; halted = refl; frames = refl; handlers = refl })
+
+pub same_set_preempted : (m : Machine) (p : ℕ) (b : Bool) → Same m (set_preempted m p b)
+unfolding set_preempted
+same_set_preempted m p b = same_set_cpu m p (record (cpu_at m p) { preempted = b }) (record { nodes = refl; halted = refl; frames = refl; handlers = refl })
+
+pub same_set_word : (m : Machine) (l : LockName) (x : Fields) → Same m (set_word m l x)
+unfolding set_word set_lock cpu_at halted_at handlers_at depth_at
+same_set_word m l x =
+    record {
+      keeps = record {
+        setup = refl;
+        locks = length-set m.locks l.index (if l.wait then record (lock_at m l.index) { wait = x } else record (lock_at m l.index) { spin = x });
+        cpus = refl;
+        nodes = λ p. refl;
+        halted = λ p. refl;
+        handlers = λ p. omega arith;
+      };
+      depth = λ p. refl;
+      handlers = λ p. refl;
+    }
+
+pub same_set_counts : (m : Machine) (x : Counts) → Same m (set_counts m x)
+unfolding set_counts cpu_at halted_at handlers_at depth_at
+same_set_counts m x =
+    record {
+      keeps = record { setup = refl; locks = refl; cpus = refl; nodes = λ p. refl; halted = λ p. refl; handlers = λ p. omega arith };
+      depth = λ p. refl;
+      handlers = λ p. refl;
+    }
+
+-- the top frame goes
+
+pub keeps_pop : (m : Machine) (p : ℕ) → Keeps m (pop m p)
+unfolding pop halted_at handlers_at
+keeps_pop m p =
+    let c : CpuState = record (cpu_at m p) { frames = take (depth_at m p - 1) (cpu_at m p).frames } in
+    record {
+      setup = setup-set_cpu m p c;
+      locks = locks-set_cpu m p c;
+      cpus = cpus-set_cpu m p c;
+      nodes = cpu_part (λ (d : CpuState). length d.nodes) m p c refl;
+      halted = cpu_part (λ (d : CpuState). d.halted) m p c refl;
+      handlers = λ q. let e = cpu_part (λ (d : CpuState). d.handlers) m p c refl q in omega (arith, e);
+    }
+
+pub handlers_pop : (m : Machine) (p q : ℕ) → handlers_at (pop m p) q ≡ handlers_at m q
+unfolding pop handlers_at
+handlers_pop m p q = cpu_part (λ (d : CpuState). d.handlers) m p (record (cpu_at m p) { frames = take (depth_at m p - 1) (cpu_at m p).frames }) refl q
+
+depth_pop : (m : Machine) (p : ℕ) → HasTop m p → depth_at (pop m p) p ≡ depth_at m p - 1
+unfolding pop depth_at
+depth_pop m p top =
+    let c : CpuState = record (cpu_at m p) { frames = take (depth_at m p - 1) (cpu_at m p).frames } in
+    ap (λ (d : CpuState). length d.frames) (cpu_same m p c top.in_range) ∙ length-take-le (depth_at m p - 1) (cpu_at m p).frames (omega arith)
+
+depth_pop_other : (m : Machine) (p q : ℕ) → q ≢ p → depth_at (pop m p) q ≡ depth_at m q
+unfolding pop depth_at
+depth_pop_other m p q ne = ap (λ (d : CpuState). length d.frames) (cpu_other m p q (record (cpu_at m p) { frames = take (depth_at m p - 1) (cpu_at m p).frames }) ne)
+
+-- a frame above the task's was popped: each processor has a top
+pub tops_pop : (m : Machine) (p : ℕ) → HasTop m p → 0 < (top_of m p).ctx → (q : ℕ) → HasTop m q → HasTop (pop m p) q
+tops_pop m p top above q t =
+    let cpus = (keeps_pop m p).cpus in
+    elim (cases_eq q p) [
+      | inl e ↦
+          let d = depth_pop m p top in
+          subst (λ (r : ℕ). HasTop (pop m p) r) (sym e) (record { in_range = rw cpus top.in_range; some = omega arith; few = omega (arith, top.few) })
+      | inr ne ↦ let d = depth_pop_other m p q ne in record { in_range = rw cpus t.in_range; some = rw d t.some; few = rw d t.few }
+    ]
+
+-- a frame comes on top
+
+pub keeps_push : (m : Machine) (p : ℕ) (g : Frame) → p < length m.cpus → Keeps m (push m p g)
+unfolding push halted_at handlers_at
+keeps_push m p g lt =
+    let c : CpuState = record (cpu_at m p) { frames = (cpu_at m p).frames ++ g ∷ []; handlers = (cpu_at m p).handlers + 1 } in
+    record {
+      setup = setup-set_cpu m p c;
+      locks = locks-set_cpu m p c;
+      cpus = cpus-set_cpu m p c;
+      nodes = cpu_part (λ (d : CpuState). length d.nodes) m p c refl;
+      halted = cpu_part (λ (d : CpuState). d.halted) m p c refl;
+      handlers = λ q. elim (cases_eq q p) [
+        | inl e ↦ subst (λ (r : ℕ). (cpu_at m r).handlers ≤ (cpu_at (set_cpu m p c) r).handlers) (sym e) (let h = ap (λ (d : CpuState). d.handlers) (cpu_same m p c lt) in omega arith)
+        | inr ne ↦ let h = ap (λ (d : CpuState). d.handlers) (cpu_other m p q c ne) in omega arith
+      ];
+    }
+
+pub handlers_push : (m : Machine) (p : ℕ) (g : Frame) → p < length m.cpus → handlers_at (push m p g) p ≡ handlers_at m p + 1
+unfolding push handlers_at
+handlers_push m p g lt = ap (λ (d : CpuState). d.handlers) (cpu_same m p (record (cpu_at m p) { frames = (cpu_at m p).frames ++ g ∷ []; handlers = (cpu_at m p).handlers + 1 }) lt)
+
+pub handlers_push_other : (m : Machine) (p q : ℕ) (g : Frame) → q ≢ p → handlers_at (push m p g) q ≡ handlers_at m q
+unfolding push handlers_at
+handlers_push_other m p q g ne = ap (λ (d : CpuState). d.handlers) (cpu_other m p q (record (cpu_at m p) { frames = (cpu_at m p).frames ++ g ∷ []; handlers = (cpu_at m p).handlers + 1 }) ne)
+
+pub depth_push : (m : Machine) (p : ℕ) (g : Frame) → p < length m.cpus → depth_at (push m p g) p ≡ depth_at m p + 1
+unfolding push depth_at
+depth_push m p g lt =
+    ap (λ (d : CpuState). length d.frames) (cpu_same m p (record (cpu_at m p) { frames = (cpu_at m p).frames ++ g ∷ []; handlers = (cpu_at m p).handlers + 1 }) lt)
+    ∙ length_push (cpu_at m p).frames g
+
+depth_push_other : (m : Machine) (p q : ℕ) (g : Frame) → q ≢ p → depth_at (push m p g) q ≡ depth_at m q
+unfolding push depth_at
+depth_push_other m p q g ne = ap (λ (d : CpuState). length d.frames) (cpu_other m p q (record (cpu_at m p) { frames = (cpu_at m p).frames ++ g ∷ []; handlers = (cpu_at m p).handlers + 1 }) ne)
+
+pub tops_push : (m : Machine) (p : ℕ) (g : Frame) → p < length m.cpus → depth_at m p < 6 → (q : ℕ) → HasTop m q → HasTop (push m p g) q
+tops_push m p g lt room q t =
+    let cpus = (keeps_push m p g lt).cpus in
+    elim (cases_eq q p) [
+      | inl e ↦
+          let d = depth_push m p g lt in
+          subst (λ (r : ℕ). HasTop (push m p g) r) (sym e) (record { in_range = rw cpus lt; some = omega arith; few = omega arith })
+      | inr ne ↦ let d = depth_push_other m p q g ne in record { in_range = rw cpus t.in_range; some = rw d t.some; few = rw d t.few }
+    ]

@@ -1,0 +1,191 @@
+-- The top frame has ended an operation, or is a handler's that came on top: it begins the next operation, is finished, or is popped; and
+-- the machine shows what it showed.
+use Rattle.std.proofs.Common.{◌≡◌, ◌≢◌, ℕ, Option, Some, None, Bool, true, false, List, inl, inr, arith, ap, ◌<◌, ◌≤◌, refl, sym, ◌∙◌, subst, slice_get, length}
+use Rattle.std.specs.Prelude.{if◌then◌else◌, ◌==◌}
+use Rattle.std.proofs.lemmas.Bool.{cases_Bool, eqb-false}
+use Rattle.std.proofs.lemmas.Option.{same_Some, none-some}
+use Rattle.lk_abs.specs.Names.{same_waiter}
+use Rattle.lk_abs.specs.History.{LockHistory}
+use Rattle.lk_abs.specs.declared.names.Kind.TheVariants.{Spin}
+use Rattle.lk_abs.specs.declared.names.Mode.{Mode}
+use Rattle.lk_abs.specs.declared.names.Mode.TheVariants.{Virt, Native}
+use Rattle.lk_abs.specs.declared.names.Waiter.{Waiter}
+use Rattle.lk_abs.specs.declared.names.LockName.{LockName}
+use Rattle.lk_machine.specs.declared.setup.Op.{Op}
+use Rattle.lk_machine.specs.declared.setup.Verb.{Verb}
+use Rattle.lk_machine.specs.declared.setup.Verb.TheVariants.{Lock, Try, Unlock}
+use Rattle.lk_machine.specs.declared.parts.Frame.{Frame}
+use Rattle.lk_machine.specs.declared.parts.Pc.{Pc}
+use Rattle.lk_machine.specs.Machine.{Machine, frame_at, top_of, set_top, pop, HasTop}
+use Rattle.lk_machine.specs.Programs.{IsLawfulProgram, kind_of, way_at, way_before}
+use Rattle.lk_machine.specs.Moves.{first_place, program_of, started, settled, settled_at}
+use Rattle.lk_law.specs.World.{World, IsBuilt, IsSoundWorld, put_frame}
+use Rattle.lk_law.specs.Sound.{world, held_in, held_at, held_of, BelongsTo, RunsOne, Fits, IsWhole, ShowsAll}
+use Rattle.lk_law.proofs.Begins.{begin_keeps, end_keeps}
+use Rattle.lk_law.proofs.Cases.{waiter_cases}
+use Rattle.lk_law.proofs.Sames.{same_waiter-self}
+use Rattle.lk_law.proofs.Puts.{same_waiter-else}
+use Rattle.lk_core.proofs.Lists.{past_end}
+use Rattle.lk_core.proofs.Worlds.{alike, seated, world-set_top, world-pop}
+use Rattle.lk_core.proofs.Same.{Keeps, same_set_top, keeps_pop, handlers_pop, tops_pop, whole_kept, whole_same, fits_kept}
+
+-- what stands after an operation has ended and before the next one begins: the acting frame d has no place, and holds what h holds, which
+-- goes on in its place
+abbrev pub ended : Machine → Waiter → Frame → Frame → World
+ended n w d h = record (put_frame (world n) w (Some d)) { held = λ u l. if same_waiter u w then held_in (program_of n w.cpu h) h l else held_of n u l }
+
+-- The machine n, whose frame on top of p is to go on as h, is whole, and sound with d on top.
+pub record Between (n : Machine) (p : ℕ) (d h : Frame) (hs : LockName → LockHistory) : Type 0 where
+  pub whole : IsWhole n
+  pub range : p < length n.cpus
+  pub others : (u : Waiter) (f : Frame) → u ≢ top_of n p → frame_at n u ≡ Some f → Fits n u f
+  pub world : IsSoundWorld (ended n (top_of n p) d h) hs
+  pub place : d.place ≡ None
+  pub me : h.me ≡ d.me
+  pub second : h.second ≡ d.second
+  pub ctx : h.ctx ≡ (top_of n p).ctx
+  pub program : RunsOne n (top_of n p) h
+  pub within : h.«at» ≤ length (program_of n p h)
+
+-- each frame fits
+abbrev pub AllFit : Machine → Type 0
+AllFit m = (u : Waiter) (f : Frame) → frame_at m u ≡ Some f → Fits m u f
+
+-- where one frame has changed, all frames fit
+pub fits_all : (n m : Machine) (w : Waiter) (o : Option Frame) → Keeps n m → ((u : Waiter) → frame_at m u ≡ (if same_waiter u w then o else frame_at n u))
+    → ((g : Frame) → o ≡ Some g → Fits m w g) → ((u : Waiter) (f : Frame) → u ≢ w → frame_at n u ≡ Some f → Fits n u f) → AllFit m
+fits_all n m w o k frames here others u f e =
+    elim (waiter_cases u w) [
+      | inl i ↦
+          let at : frame_at m w ≡ o = frames w ∙ ap (λ (b : Bool). if b then o else frame_at n w) (same_waiter-self w) in
+          subst (λ (v : Waiter). Fits m v f) (sym i) (here f (sym at ∙ ap (frame_at m) (sym i) ∙ e))
+      | inr ne ↦
+          let at : frame_at m u ≡ frame_at n u = frames u ∙ ap (λ (b : Bool). if b then o else frame_at n u) (same_waiter-else u w ne) in
+          fits_kept n m u f k (others u f ne (sym at ∙ e))
+    ]
+
+-- an operation on a spinlock begins at a row of its own
+pub spin_first : (mode : Mode) (v : Verb) → IsBuilt mode → kind_of v ≡ Spin → BelongsTo mode v (first_place mode v)
+spin_first Virt Lock b k = refl
+spin_first Native Lock b k = refl
+spin_first Virt Try b k = inl refl
+spin_first Native Try b k = inl refl
+spin_first Virt Unlock b k = refl
+spin_first Native Unlock b k = refl
+spin_first Virt _ b k = cc
+spin_first Native _ b k = cc
+spin_first _ v b k = absurd b
+
+module _ (n : Machine) (p : ℕ) (d h : Frame) (hs : LockName → LockHistory) (b : Between n p d h hs) where
+  abbrev w : Waiter
+  w = top_of n p
+
+  abbrev ops : List Op
+  ops = program_of n p h
+
+  top : HasTop n p
+  top = b.whole.tops p b.range
+
+  lawful : IsLawfulProgram n.setup.locks.items ops
+  lawful = b.whole.setup.lawful p h.program
+
+  -- the frame g comes in the place of d, and holds the same
+  over : (g : Option Frame) → ((l : LockName) → held_at n w l g ≡ held_in ops h l) → seated n w g ≡ put_frame (ended n w d h) w g
+  over g same =
+      alike (seated n w g) (put_frame (ended n w d h) w g) (record {
+        mode = refl;
+        turns = refl;
+        word = λ l. refl;
+        node = λ k. refl;
+        frame = λ u. by (same_waiter u w) g (Some d) (frame_at n u);
+        held = λ u l. ap (λ x. if same_waiter u w then x else held_of n u l) (same l);
+        queued = λ q. refl;
+      })
+    where
+      by : (t : Bool) (x y z : Option Frame) → (if t then x else z) ≡ (if t then x else (if t then y else z))
+      by true x y z = refl
+      by false x y z = refl
+
+  here : (ended n w d h).frame w ≡ Some d
+  here = ap (λ (t : Bool). if t then Some d else frame_at n w) (same_waiter-self w)
+
+  idle : (d.place ≡ None) × (d.me ≡ None) × (d.second ≡ None)
+  idle =
+      let r = b.world.registers w d here in
+      (b.place, r.bare (rw b.place refl), r.second)
+
+  -- what a machine shows after a write of its top frame
+  shows : (m : Machine) (g : Option Frame) → world m ≡ seated n w g → ((l : LockName) → held_at n w l g ≡ held_in ops h l)
+      → Keeps n m → IsWhole m → ((f : Frame) → g ≡ Some f → Fits m w f) → IsSoundWorld (put_frame (ended n w d h) w g) hs → ShowsAll m hs
+  shows m g is same keeps whole fits sound =
+      record {
+        whole = whole;
+        world = subst (λ (x : World). IsSoundWorld x hs) (sym (is ∙ over g same)) sound;
+        fits = fits_all n m w g keeps (λ u. ap (λ (x : World). x.frame u) is) fits b.others;
+      }
+
+  -- the next operation begins
+  begins_on : (o : Op) → slice_get ops h.«at» ≡ Some o → ShowsAll (set_top n p (started n.setup.mode h o)) hs
+  begins_on o next =
+      let g : Frame = started n.setup.mode h o in
+      let m : Machine = set_top n p g in
+      let same = same_set_top n p g in
+      shows m (Some g) (world-set_top n p g top) (λ l. refl) same.keeps (whole_same n m b.whole same)
+      (λ f e. subst (λ (x : Frame). Fits m w x) (same_Some g f e) (fits_kept n m w g same.keeps fit))
+      (begin_keeps (ended n w d h) hs w d h o b.world here b.place held b.me b.second)
+    where
+      held : (ended n w d h).held w (record { index = o.lock; wait = false }) ≡ way_before o.verb
+      held = ap (λ (t : Bool). if t then way_at ops h.«at» o.lock else held_of n w (record { index = o.lock; wait = false })) (same_waiter-self w) ∙ lawful.fits h.«at» o next
+
+      kind : kind_of o.verb ≡ Spin
+      kind = b.whole.spin o.lock (kind_of o.verb) (lawful.declared h.«at» o next)
+
+      fit : Fits n w (started n.setup.mode h o)
+      fit =
+          record {
+            ctx = b.ctx;
+            program = b.program;
+            within = b.within;
+            finished = λ e. cc;
+            working = λ c e.
+                let at : first_place n.setup.mode o.verb ≡ c = same_Some (first_place n.setup.mode o.verb) c e in
+                record { op = o; is = next; lock = refl; row = subst (λ (x : Pc). BelongsTo n.setup.mode o.verb x) at (spin_first n.setup.mode o.verb b.whole.built kind) };
+          }
+
+  -- the program has ended
+
+  all : slice_get ops h.«at» ≡ None → h.«at» ≡ length ops
+  all e = let z = past_end ops h.«at» e in omega (arith, z, b.within)
+
+  finishes : slice_get ops h.«at» ≡ None → ShowsAll (set_top n p (record h { place = None })) hs
+  finishes e =
+      let g : Frame = record h { place = None } in
+      let m : Machine = set_top n p g in
+      let same = same_set_top n p g in
+      let fit : Fits n w g = record { ctx = b.ctx; program = b.program; within = b.within; finished = λ q. all e; working = λ c q. cc } in
+      shows m (Some g) (world-set_top n p g top) (λ l. refl) same.keeps (whole_same n m b.whole same)
+      (λ f q. subst (λ (x : Frame). Fits m w x) (same_Some g f q) (fits_kept n m w g same.keeps fit))
+      (end_keeps (ended n w d h) hs w (Some d) (Some g) b.world here idle (refl, b.me ∙ idle.1, b.second ∙ idle.2))
+
+  empty : slice_get ops h.«at» ≡ None → (l : LockName) → held_at n w l None ≡ held_in ops h l
+  empty e l = elim (cases_Bool l.wait) [ inl t ↦ rw t refl | inr t ↦ rw t (sym (ap (λ (i : ℕ). way_at ops i l.index) (all e) ∙ lawful.ends l.index)) ]
+
+  pops : slice_get ops h.«at» ≡ None → h.ctx ≢ 0 → ShowsAll (pop n p) hs
+  pops e above =
+      let m : Machine = pop n p in
+      let keeps = keeps_pop n p in
+      let up : 0 < (top_of n p).ctx = let z = b.ctx in omega arith in
+      let whole = whole_kept n m b.whole keeps (λ q lt. tops_pop n p top up q (b.whole.tops q lt)) (λ q. rw (handlers_pop n p q) (b.whole.handlers q)) in
+      shows m None (world-pop n p top) (empty e) keeps whole (λ f q. absurd (none-some f q))
+      (end_keeps (ended n w d h) hs w (Some d) None b.world here idle tt)
+
+  settled_by : (o : Option Op) → slice_get ops h.«at» ≡ o → ShowsAll (settled_at n p h o) hs
+  settled_by None e =
+      elim (cases_Bool (h.ctx == 0)) [
+        | inl z ↦ rw z (finishes e)
+        | inr z ↦ rw z (pops e (eqb-false h.ctx 0 z))
+      ]
+  settled_by (Some o) e = begins_on o e
+
+  pub settled_shows : ShowsAll (settled n p h) hs
+  settled_shows = settled_by (slice_get ops h.«at») refl

@@ -1,0 +1,66 @@
+-- No act changes the setup.
+use Rattle.std.proofs.Common.{◌≡◌, ℕ, Option, Some, None, Bool, true, false, List, [], ◌∷◌, refl, ◌∙◌}
+use Rattle.std.specs.Prelude.{if◌then◌else◌}
+use Rattle.lk_abs.specs.declared.events.Act.{Act}
+use Rattle.lk_abs.specs.declared.events.Act.TheVariants as act
+use Rattle.lk_machine.specs.declared.setup.Setup.{Setup}
+use Rattle.lk_machine.specs.declared.parts.Frame.{Frame}
+use Rattle.lk_machine.specs.declared.parts.Pc.{Pc}
+use Rattle.lk_machine.specs.Machine.{Machine, CpuState, LockState, word_at, node_at, queued_at, preempted_at, halted_at, top_frame, set_cpu, set_lock, set_counts}
+use Rattle.lk_machine.specs.Row.{Lead, Counter, moved, counted}
+use Rattle.lk_machine.specs.SpinRows.{spin_row}
+use Rattle.lk_machine.specs.QueueRows.{queue_row, entry_row, flag_row, next_row}
+use Rattle.lk_machine.specs.Rows.{Target, SpinWord, QueueWord, Queued, FlagOf, NextOf, Unbuilt, target, stored_word, stored_flag, stored_next, stored_queued, row_on, row_at, row}
+use Rattle.lk_machine.specs.Acts.{idle, step_halted, step, next}
+use Rattle.lk_core.proofs.Parts.{part-moved, part-stored_word, part-stored_flag, part-stored_next, part-stored_queued, part-step_halted, part-rest}
+
+abbrev of : Machine → Setup
+of m = m.setup
+
+cpu : (m : Machine) (p : ℕ) (c : CpuState) → of (set_cpu m p c) ≡ of m
+unfolding set_cpu
+cpu m p c = refl
+
+lock : (m : Machine) (i : ℕ) (x : LockState) → of (set_lock m i x) ≡ of m
+unfolding set_lock
+lock m i x = refl
+
+counts : (m : Machine) (cs : List Counter) → of (counted m cs) ≡ of m
+unfolding set_counts
+counts m [] = refl
+counts m (c ∷ cs) = refl
+
+applied_setup : (m n : Machine) (p : ℕ) (f : Frame) (lead : Lead) (cs : List Counter) → of n ≡ of m → of (moved (counted n cs) p f lead) ≡ of m
+applied_setup m n p f lead cs e = part-moved of cpu lock (counted n cs) p f lead ∙ counts n cs ∙ e
+
+setup_row_on : (m : Machine) (p : ℕ) (f : Frame) (c : Pc) (t : Target) → of (row_on m p f c t).0 ≡ of m
+setup_row_on m p f c SpinWord =
+    let o = spin_row m.setup.mode c f (word_at m f.lock) in applied_setup m (stored_word m f o.stores) p f o.leads o.counts (part-stored_word of cpu lock m f o.stores)
+setup_row_on m p f c QueueWord =
+    let o = queue_row m.setup.mode c f (word_at m f.lock) in applied_setup m (stored_word m f o.stores) p f o.leads o.counts (part-stored_word of cpu lock m f o.stores)
+setup_row_on m p f c Queued =
+    let o = entry_row m.setup.mode p (queued_at m p) in applied_setup m (stored_queued m p o.stores) p f o.leads o.counts (part-stored_queued of cpu lock m p o.stores)
+setup_row_on m p f c (FlagOf n) =
+    let o = flag_row c f (node_at m n).flag in applied_setup m (stored_flag m n o.stores) p f o.leads o.counts (part-stored_flag of cpu lock m n o.stores)
+setup_row_on m p f c (NextOf n) =
+    let o = next_row m.setup.mode m.setup.spins c f (node_at m n).next in applied_setup m (stored_next m n o.stores) p f o.leads o.counts (part-stored_next of cpu lock m n o.stores)
+setup_row_on m p f c Unbuilt = refl
+
+setup_row_at : (m : Machine) (p : ℕ) (f : Frame) (o : Option Pc) → of (row_at m p f o).0 ≡ of m
+setup_row_at m p f None = refl
+setup_row_at m p f (Some c) = setup_row_on m p f c (target c f)
+
+setup_step : (m : Machine) (p : ℕ) → of (step m p).0 ≡ of m
+setup_step m p = by (preempted_at m p) (halted_at m p)
+  where
+    by : (a b : Bool) → of (if a then idle m else (if b then step_halted m p else row m p)).0 ≡ of m
+    by true b = refl
+    by false true = part-step_halted of cpu lock m p
+    by false false = setup_row_at m p (top_frame m p) (top_frame m p).place
+
+pub setup_kept : (m : Machine) (a : Act) → (next m a).0.setup ≡ m.setup
+setup_kept m (act.Step p) = setup_step m p
+setup_kept m (act.Interrupt p) = (part-rest of cpu lock m p).0
+setup_kept m (act.Preempt p) = (part-rest of cpu lock m p).1
+setup_kept m (act.Resume p) = (part-rest of cpu lock m p).2
+setup_kept m (act.Nudge p) = (part-rest of cpu lock m p).3

@@ -1,0 +1,57 @@
+-- What a row stores: the machine after it as a world, before the frame moves.
+use Rattle.std.proofs.Common.{◌≡◌, ℕ, Option, Some, None, List, [], ◌∷◌, ◌<◌, refl, ◌∙◌, length}
+use Rattle.lk_abs.specs.declared.names.Waiter.{Waiter}
+use Rattle.lk_word.specs.declared.spin_word.NodeName.{NodeName}
+use Rattle.lk_word.specs.declared.spin_word.Fields.{Fields}
+use Rattle.lk_machine.specs.declared.parts.Flag.{Flag}
+use Rattle.lk_machine.specs.declared.parts.Frame.{Frame}
+use Rattle.lk_machine.specs.Machine.{Machine, cpu_at, frame_at, node_at, set_counts, HasNode}
+use Rattle.lk_machine.specs.Row.{Counter, counted, count_all}
+use Rattle.lk_machine.specs.Rows.{stored_word, stored_flag, stored_next, stored_queued}
+use Rattle.lk_law.specs.World.{World, stores_word, stores_flag, stores_next, stores_queued}
+use Rattle.lk_law.specs.Sound.{world}
+use Rattle.lk_core.proofs.Worlds.{world-set_word, world-set_node, world-set_queued, world-set_counts, frame-set_word, frame-set_node, frame-set_queued, frame-set_counts}
+use Rattle.lk_core.proofs.Same.{Same, same_then, same_self, same_set_word, same_set_node, same_set_queued, same_set_counts}
+
+-- The machine n is m after a store, or a count: it is this world, with the frames of m.
+pub record Stored (m n : Machine) (x : World) : Type 0 where
+  pub same : Same m n
+  pub frames : (u : Waiter) → frame_at n u ≡ frame_at m u
+  pub world : world n ≡ x
+
+pub counts_stored : (m n : Machine) (x : World) (cs : List Counter) → Stored m n x → Stored m (counted n cs) x
+counts_stored m n x [] s = s
+counts_stored m n x (c ∷ cs) s =
+    let k = count_all n.counts (c ∷ cs) in
+    record {
+      same = same_then m n (set_counts n k) s.same (same_set_counts n k);
+      frames = λ u. frame-set_counts n k u ∙ s.frames u;
+      world = world-set_counts n k ∙ s.world;
+    }
+
+nothing_stored : (m : Machine) → Stored m m (world m)
+nothing_stored m = record { same = same_self m; frames = λ u. refl; world = refl }
+
+pub word_stored : (m : Machine) (f : Frame) (o : Option Fields) → f.lock.index < length m.locks → Stored m (stored_word m f o) (stores_word (world m) f.lock o)
+word_stored m f None lt = nothing_stored m
+word_stored m f (Some x) lt = record { same = same_set_word m f.lock x; frames = λ u. frame-set_word m f.lock x u; world = world-set_word m f.lock x lt }
+
+pub queued_stored : (m : Machine) (p : ℕ) (o : Option ℕ) → p < length m.cpus → Stored m (stored_queued m p o) (stores_queued (world m) p o)
+queued_stored m p None lt = nothing_stored m
+queued_stored m p (Some i) lt = record { same = same_set_queued m p i; frames = λ u. frame-set_queued m p i u; world = world-set_queued m p i lt }
+
+-- each processor has four nodes
+module _ (m : Machine) (four : (p : ℕ) → p < length m.cpus → length (cpu_at m p).nodes ≡ 4) (n : NodeName) where
+  pub flag_stored : (o : Option Flag) → ((x : Flag) → o ≡ Some x → HasNode m n) → Stored m (stored_flag m n o) (stores_flag (world m) n o)
+  flag_stored None has = nothing_stored m
+  flag_stored (Some x) has =
+      let h = has x refl in
+      let y = record (node_at m n) { flag = x } in
+      record { same = same_set_node m n y; frames = λ u. frame-set_node m n y u; world = world-set_node m n y h (four n.cpu h.cpu) }
+
+  pub next_stored : (o : Option (Option NodeName)) → ((x : Option NodeName) → o ≡ Some x → HasNode m n) → Stored m (stored_next m n o) (stores_next (world m) n o)
+  next_stored None has = nothing_stored m
+  next_stored (Some x) has =
+      let h = has x refl in
+      let y = record (node_at m n) { next = x } in
+      record { same = same_set_node m n y; frames = λ u. frame-set_node m n y u; world = world-set_node m n y h (four n.cpu h.cpu) }
