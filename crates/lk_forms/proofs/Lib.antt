@@ -1,0 +1,14 @@
+pub mod WordLemmas
+pub mod NumberLemmas
+pub mod Decimals
+pub mod WalkLemmas
+pub mod OpsLemmas
+pub mod Changes
+pub mod Roomy
+pub mod Readings
+pub mod ScheduleLemmas
+pub mod LawfulPrograms
+pub mod Lawful
+pub mod TextLemmas
+pub mod TranscriptLemmas
+pub mod Places

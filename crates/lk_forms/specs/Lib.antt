@@ -1,0 +1,12 @@
+pub mod Words
+pub mod Keywords
+pub mod Operations
+pub mod Holds
+pub mod Grammar
+pub mod Agrees
+pub mod Reader
+pub mod Schedule
+pub mod Trace
+pub mod SetupLaws
+pub mod Texts
+pub mod TextLaws

@@ -1,0 +1,69 @@
+// The words behind the first word of a line.
+ghost use Rattle.std.specs.Prelude.{◌≡◌, ◌≤◌, ◌<◌, IfOk};
+ghost use Rattle.lk_forms.specs.Agrees.{IsAnswer};
+ghost use Rattle.lk_forms.specs.Words.{words};
+ghost use Rattle.lk_forms.specs.Grammar.{one_word, two_words, no_words, number_in, cpu_word};
+
+use crate::answers::{Fault, LineRefusal};
+use crate::words::{next_word, read_number};
+
+const TOO_MANY_OR_FEW: LineRefusal = LineRefusal::Bad(Fault::WordCount);
+
+/// Exactly one word.
+pub(crate) fn one_word(args: &[u8]) -> Result<&[u8], LineRefusal>
+    ensures { IsAnswer (one_word (words args.now)) (λ word. word.now) result }
+{
+    match next_word(args) {
+        None => Err(TOO_MANY_OR_FEW),
+        Some((word, rest)) => match next_word(rest) {
+            None => Ok(word),
+            Some(_) => Err(TOO_MANY_OR_FEW),
+        },
+    }
+}
+
+/// Exactly two words.
+pub(crate) fn two_words(args: &[u8]) -> Result<(&[u8], &[u8]), LineRefusal>
+    ensures { IsAnswer (two_words (words args.now)) (λ both. (both.0.now, both.1.now)) result }
+{
+    let Some((first, rest)) = next_word(args) else {
+        return Err(TOO_MANY_OR_FEW);
+    };
+    match one_word(rest) {
+        Ok(second) => Ok((first, second)),
+        Err(_) => Err(TOO_MANY_OR_FEW),
+    }
+}
+
+/// No word.
+pub(crate) fn no_words(args: &[u8]) -> Result<(), LineRefusal>
+    ensures { result ≡ no_words (words args.now) record {} }
+{
+    match next_word(args) {
+        None => Ok(()),
+        Some(_) => Err(TOO_MANY_OR_FEW),
+    }
+}
+
+/// A number within a range.
+pub(crate) fn number_in(low: u64, high: u64, word: &[u8]) -> Result<u64, LineRefusal>
+    ensures value { result ≡ number_in low high word.now }
+    ensures within { IfOk result (λ n. n ≤ high) }
+{
+    let n = read_number(word).ok_or(LineRefusal::Bad(Fault::BadNumber))?;
+    if low <= n && n <= high {
+        Ok(n)
+    } else {
+        Err(LineRefusal::Bad(Fault::OutOfRange))
+    }
+}
+
+/// The processor, one of so many, that a word names.
+pub(crate) fn cpu_word(cpus: u32, word: &[u8]) -> Result<u32, LineRefusal>
+    requires { 1 ≤ cpus }
+    ensures value { result ≡ cpu_word cpus word.now }
+    ensures within { IfOk result (λ p. p < cpus) }
+{
+    let cpu = number_in(0, u64::from(cpus - 1), word)?;
+    Ok(cpu as u32)
+}

@@ -1,0 +1,186 @@
+// A header is read line by line.
+ghost use Rattle.std.specs.Prelude.{◌≡◌, ◌<◌, IfOk, Some, None, false, true};
+ghost use Rattle.lk_forms.specs.Words.{words};
+ghost use Rattle.lk_forms.specs.Grammar.{header_line, default_setup, is_format};
+ghost use Rattle.lk_forms.specs.Agrees.{Agrees, IsRoomy};
+
+use crate::answers::{Fault, HeaderStep, LineRefusal};
+use crate::arguments::{no_words, one_word};
+use crate::keyword::{GO_RANK, Keyword};
+use crate::settings::{
+    cpus_line, irq_line, lock_line, mode_line, program_line, sockets_line, spins_line,
+    threshold_line,
+};
+use crate::tables::{no_handlers, no_programs, zero_sockets};
+use crate::words::{is_comment, is_text, next_word};
+use lk_abs::{List, Memory, Mode, Topology};
+use lk_machine::Setup;
+use std::alloc::Global;
+
+/// The most locks.
+const MAX_LOCKS: usize = 32;
+
+// What no line has said.
+fn default_setup(alloc: Global) -> Result<Setup, Memory>
+    ensures { IfOk result (λ s. s ≡ default_setup) }
+{
+    let sockets = zero_sockets(alloc, 1)?;
+    Ok(Setup {
+        mode: Mode::Virt,
+        topology: Topology { sockets },
+        threshold: 65_535,
+        spins: 32_768,
+        locks: List::new(alloc, MAX_LOCKS)?,
+        progs: no_programs(alloc, 1)?,
+        irqs: no_handlers(alloc, 1)?,
+    })
+}
+
+// A line of the header, by the words behind its keyword.
+fn header_line(
+    alloc: Global,
+    setup: &mut Setup,
+    keyword: Keyword,
+    args: &[u8],
+) -> Result<(), LineRefusal>
+    requires { IsRoomy setup.old }
+    ensures { Agrees (header_line keyword setup.old (words args.now)) setup.old setup.new result }
+{
+    match keyword {
+        Keyword::Mode => mode_line(setup, args),
+        Keyword::Cpus => cpus_line(alloc, setup, args),
+        Keyword::Sockets => sockets_line(alloc, setup, args),
+        Keyword::Threshold => threshold_line(setup, args),
+        Keyword::Spins => spins_line(setup, args),
+        Keyword::Lock => lock_line(setup, args),
+        Keyword::Prog => program_line(alloc, setup, args),
+        Keyword::Irq => irq_line(alloc, setup, args),
+        Keyword::Go => no_words(args),
+        _ => Err(LineRefusal::Bad(Fault::Misplaced)),
+    }
+}
+
+// The two words `qtrace` and `1`.
+fn is_format(first: &[u8], args: &[u8]) -> bool
+    ensures { result ≡ is_format first.now (words args.now) }
+{
+    match one_word(args) {
+        Ok(version) => first == b"qtrace".as_slice() && version == b"1".as_slice(),
+        Err(_) => false,
+    }
+}
+
+/// Reads the header of a trace, line by line. It keeps the allocator for what the lines say.
+#[derive(Drop)]
+pub struct HeaderReader {
+    alloc: Global,
+    rank: Option<u32>,
+    setup: Setup,
+    ghost roomy: { IsRoomy setup },
+}
+
+impl HeaderReader {
+    ghost use Rattle.std.specs.Prelude.{◌≡◌, ◌<◌, IfOk, Some, None, false, true};
+    ghost use Rattle.lk_forms.specs.Words.{words};
+    ghost use Rattle.lk_forms.specs.Grammar.{Reading, nothing_read, read, read_known, read_ranked, has_go, ending};
+    ghost use Rattle.lk_forms.specs.Reader.{reading, ReadsOn};
+
+    /// A reader that has read no line.
+    pub fn new(alloc: Global) -> Result<HeaderReader, Memory>
+        ensures { IfOk result (λ reader. reading reader ≡ nothing_read) }
+    {
+        let setup = default_setup(alloc)?;
+        Ok(HeaderReader {
+            alloc,
+            rank: None,
+            setup,
+        })
+    }
+
+    // A line with a keyword, behind one of rank `last`.
+    fn read_known(
+        &mut self,
+        last: u32,
+        keyword: Keyword,
+        args: &[u8],
+    ) -> Result<HeaderStep, LineRefusal>
+        requires last { self.old.rank ≡ Some last }
+        requires before { last < 9 }
+        ensures { ReadsOn (read_known (reading self.old) last (Some keyword) (words args.now))
+            (reading self.old) (reading self.new) result }
+    {
+        if let Some(fault) = keyword.fault_of_place(last) {
+            return Err(LineRefusal::Bad(fault));
+        }
+        header_line(self.alloc, &mut self.setup, keyword, args)?;
+        let rank = keyword.rank();
+        self.rank = Some(rank);
+        if rank == GO_RANK {
+            Ok(HeaderStep::Go)
+        } else {
+            Ok(HeaderStep::More)
+        }
+    }
+
+    /// Reads one more line of the header, without its line feed. It may be called until it gave `Go`
+    /// or a refusal; a refused line leaves the reader as it was. It takes memory for what the line
+    /// says.
+    pub fn line(&mut self, line: &[u8]) -> Result<HeaderStep, LineRefusal>
+        requires { has_go (reading self.old) ≡ false }
+        ensures { ReadsOn (read (reading self.old) line.now) (reading self.old) (reading self.new) result }
+    {
+        if !is_text(line) {
+            return Err(LineRefusal::Bad(Fault::NotText));
+        }
+        let Some((first, args)) = next_word(line) else {
+            return Ok(HeaderStep::More);
+        };
+        if is_comment(first) {
+            return Ok(HeaderStep::More);
+        }
+        let Some(last) = self.rank else {
+            return self.read_format(first, args);
+        };
+        match Keyword::of(first) {
+            None => Err(LineRefusal::Bad(Fault::UnknownWord)),
+            Some(keyword) => self.read_known(last, keyword, args),
+        }
+    }
+
+    // The first line that is neither blank nor a comment.
+    fn read_format(&mut self, first: &[u8], args: &[u8]) -> Result<HeaderStep, LineRefusal>
+        requires { self.old.rank ≡ None }
+        ensures { ReadsOn (read_ranked (reading self.old) None first.now (words args.now))
+            (reading self.old) (reading self.new) result }
+    {
+        if !is_format(first, args) {
+            return Err(LineRefusal::Bad(Fault::NoFormat));
+        }
+        self.rank = Some(0);
+        Ok(HeaderStep::More)
+    }
+
+    /// What is wrong where the input ends now.
+    pub fn ending(&self) -> Fault
+        ensures { result ≡ ending (reading self.now) }
+    {
+        if self.rank.is_some() {
+            Fault::NoEnd
+        } else {
+            Fault::NoFormat
+        }
+    }
+
+    /// The setup that the lines say; `go` has to be read.
+    pub fn finish(self) -> Setup
+        requires { has_go (reading self) ≡ true }
+        ensures { result ≡ (reading self).setup }
+    {
+        let HeaderReader {
+            alloc: _,
+            rank: _,
+            setup,
+        } = self;
+        setup
+    }
+}

@@ -1,0 +1,146 @@
+// The first words of the lines of a trace, and where such a line may stand.
+ghost use Rattle.std.specs.Prelude.{◌≡◌};
+ghost use Rattle.lk_forms.specs.Keywords.{keyword_of, rank_of, is_misplaced, is_repeated, fault_of_place};
+
+use crate::answers::Fault;
+
+/// The first word of a line of a trace.
+#[derive(Clone, Copy)]
+pub(crate) enum Keyword {
+    /// `qtrace`: the format.
+    Format,
+    /// `mode`: the lock family.
+    Mode,
+    /// `cpus`: how many processors there are.
+    Cpus,
+    /// `sockets`: the socket of each processor.
+    Sockets,
+    /// `threshold`: how many handovers may stay on one socket.
+    Threshold,
+    /// `spins`: how many turns a waiter spins.
+    Spins,
+    /// `lock`: one more lock.
+    Lock,
+    /// `prog`: the program of a processor.
+    Prog,
+    /// `irq`: one more interrupt handler of a processor.
+    Irq,
+    /// `go`: the header ends.
+    Go,
+    /// `step`: steps of a processor.
+    Step,
+    /// `int`: an interrupt of a processor.
+    Int,
+    /// `pre`: a processor is preempted.
+    Pre,
+    /// `res`: a processor goes on.
+    Res,
+    /// `nudge`: a halt of a processor ends.
+    Nudge,
+    /// `end`: the schedule ends.
+    End,
+}
+
+/// The rank of the line `go`.
+pub(crate) const GO_RANK: u32 = 9;
+
+/// The rank of the line `end`.
+pub(crate) const END_RANK: u32 = 11;
+
+impl Keyword {
+    /// The keyword that a word is, if it is one.
+    pub fn of(word: &[u8]) -> Option<Keyword>
+        ensures { result ≡ keyword_of word.now }
+    {
+        if word == b"step".as_slice() {
+            Some(Keyword::Step)
+        } else if word == b"int".as_slice() {
+            Some(Keyword::Int)
+        } else if word == b"pre".as_slice() {
+            Some(Keyword::Pre)
+        } else if word == b"res".as_slice() {
+            Some(Keyword::Res)
+        } else if word == b"nudge".as_slice() {
+            Some(Keyword::Nudge)
+        } else if word == b"end".as_slice() {
+            Some(Keyword::End)
+        } else if word == b"prog".as_slice() {
+            Some(Keyword::Prog)
+        } else if word == b"irq".as_slice() {
+            Some(Keyword::Irq)
+        } else if word == b"lock".as_slice() {
+            Some(Keyword::Lock)
+        } else if word == b"go".as_slice() {
+            Some(Keyword::Go)
+        } else if word == b"qtrace".as_slice() {
+            Some(Keyword::Format)
+        } else if word == b"mode".as_slice() {
+            Some(Keyword::Mode)
+        } else if word == b"cpus".as_slice() {
+            Some(Keyword::Cpus)
+        } else if word == b"sockets".as_slice() {
+            Some(Keyword::Sockets)
+        } else if word == b"threshold".as_slice() {
+            Some(Keyword::Threshold)
+        } else if word == b"spins".as_slice() {
+            Some(Keyword::Spins)
+        } else {
+            None
+        }
+    }
+
+    /// Lines come in the order of their ranks.
+    pub fn rank(self) -> u32
+        ensures { result ≡ rank_of self }
+    {
+        match self {
+            Keyword::Format => 0,
+            Keyword::Mode => 1,
+            Keyword::Cpus => 2,
+            Keyword::Sockets => 3,
+            Keyword::Threshold => 4,
+            Keyword::Spins => 5,
+            Keyword::Lock => 6,
+            Keyword::Prog => 7,
+            Keyword::Irq => 8,
+            Keyword::Go => 9,
+            Keyword::Step | Keyword::Int | Keyword::Pre | Keyword::Res | Keyword::Nudge => 10,
+            Keyword::End => 11,
+        }
+    }
+
+    /// What is wrong with the place of a line behind the lines up to one of rank `last`.
+    pub fn fault_of_place(self, last: u32) -> Option<Fault>
+        ensures { result ≡ fault_of_place last self }
+    {
+        if let Keyword::Format = self {
+            return Some(Fault::Repeated);
+        }
+        let rank = self.rank();
+        if is_misplaced(last, rank) {
+            Some(Fault::Misplaced)
+        } else if is_repeated(last, rank) {
+            Some(Fault::Repeated)
+        } else {
+            None
+        }
+    }
+}
+
+// Whether a line of a rank may not stand behind the lines up to one of rank `last`.
+fn is_misplaced(last: u32, rank: u32) -> bool
+    ensures { result ≡ is_misplaced last rank }
+{
+    let before_mode = last == 0 && rank != 1;
+    let too_late = rank < last;
+    let too_early = last < GO_RANK && rank > GO_RANK;
+    let second_go = last == GO_RANK && rank == GO_RANK;
+    before_mode || too_late || too_early || second_go || last == END_RANK
+}
+
+// Whether a line of a rank that may stand once comes a second time.
+fn is_repeated(last: u32, rank: u32) -> bool
+    ensures { result ≡ is_repeated last rank }
+{
+    rank == last && (1..=5).contains(&rank)
+}

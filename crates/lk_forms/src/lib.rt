@@ -1,0 +1,27 @@
+//! The forms of text: the grammar of traces, and the lines of a transcript. Its `specs/` say what
+//! each line of a trace says behind the lines before it, or why it is refused, and what each line
+//! of a transcript looks like.
+#![tactic(auto)]
+
+mod answers;
+mod arguments;
+mod header;
+mod keyword;
+mod laws;
+mod operations;
+mod page;
+mod programs;
+mod schedule;
+mod settings;
+mod tables;
+#[cfg(test)]
+mod tests;
+mod texts;
+mod words;
+
+pub use answers::{Fault, HeaderStep, LineRefusal, Sched, Which};
+pub use header::HeaderReader;
+pub use laws::{lines_say_lawful_setups, texts_tell_all};
+pub use schedule::schedule_line;
+pub use texts::{count_line, end_line, event_line, write_event};
+pub use words::read_number;

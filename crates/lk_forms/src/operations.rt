@@ -1,0 +1,251 @@
+// The operations of a program.
+ghost use Rattle.std.specs.Prelude.{◌≡◌, ◌≤◌, ◌<◌, ◌+◌, ◌++◌, ◌∷◌, [], ℕ, List, Option, IfSome, is_some, not, true, Some, None, ◌==◌, if◌then◌else◌, length, take, slice_get};
+ghost use Rattle.std.specs.Option.{option_map};
+ghost use Rattle.lk_machine.specs.Programs.{kind_of, is_try, is_release, op_way, way_after, way_before};
+ghost use Rattle.lk_forms.specs.Operations.{verb_of, way_after_all, same_way, same_holds, try_at, same_kind, is_declared, is_crossed, fault_of_hold, op_of};
+ghost use Rattle.lk_forms.specs.Holds.{manner_of};
+
+use crate::answers::Fault;
+use lk_abs::Kind;
+use lk_machine::{Op, Verb};
+
+/// How a lock is held.
+#[derive(Clone, Copy)]
+enum Hold {
+    /// As a spinlock.
+    Spin,
+    /// As a reader.
+    Reader,
+    /// As the writer.
+    Writer,
+}
+
+// The verb that a word is, if it is one.
+pub(crate) fn verb_of(word: &[u8]) -> Option<Verb>
+    ensures { result ≡ verb_of word.now }
+{
+    if word == b"lock".as_slice() {
+        Some(Verb::Lock)
+    } else if word == b"try".as_slice() {
+        Some(Verb::Try)
+    } else if word == b"unlock".as_slice() {
+        Some(Verb::Unlock)
+    } else if word == b"read".as_slice() {
+        Some(Verb::Read)
+    } else if word == b"tryread".as_slice() {
+        Some(Verb::TryRead)
+    } else if word == b"runlock".as_slice() {
+        Some(Verb::RUnlock)
+    } else if word == b"write".as_slice() {
+        Some(Verb::Write)
+    } else if word == b"trywrite".as_slice() {
+        Some(Verb::TryWrite)
+    } else if word == b"wunlock".as_slice() {
+        Some(Verb::WUnlock)
+    } else {
+        None
+    }
+}
+
+// The kind of lock that a verb is for.
+fn kind_of(verb: Verb) -> Kind
+    ensures { result ≡ kind_of verb }
+{
+    match verb {
+        Verb::Lock | Verb::Try | Verb::Unlock => Kind::Spin,
+        _ => Kind::Rw,
+    }
+}
+
+fn is_try(verb: Verb) -> bool
+    ensures { result ≡ is_try verb }
+{
+    matches!(verb, Verb::Try | Verb::TryRead | Verb::TryWrite)
+}
+
+fn is_release(verb: Verb) -> bool
+    ensures { result ≡ is_release verb }
+{
+    matches!(verb, Verb::Unlock | Verb::RUnlock | Verb::WUnlock)
+}
+
+// How the lock of a verb is held after it.
+fn hold_after(verb: Verb) -> Option<Hold>
+    ensures { option_map manner_of result ≡ way_after verb }
+{
+    match verb {
+        Verb::Lock | Verb::Try => Some(Hold::Spin),
+        Verb::Read | Verb::TryRead => Some(Hold::Reader),
+        Verb::Write | Verb::TryWrite => Some(Hold::Writer),
+        Verb::Unlock | Verb::RUnlock | Verb::WUnlock => None,
+    }
+}
+
+// How the lock of a verb has to be held before it.
+fn hold_before(verb: Verb) -> Option<Hold>
+    ensures { option_map manner_of result ≡ way_before verb }
+{
+    match verb {
+        Verb::Unlock => Some(Hold::Spin),
+        Verb::RUnlock => Some(Hold::Reader),
+        Verb::WUnlock => Some(Hold::Writer),
+        _ => None,
+    }
+}
+
+fn same_hold(hold: Option<Hold>, other: Option<Hold>) -> bool
+    ensures { result ≡ same_way (option_map manner_of hold) (option_map manner_of other) }
+{
+    match (hold, other) {
+        (None, None) => true,
+        (Some(Hold::Spin), Some(Hold::Spin)) => true,
+        (Some(Hold::Reader), Some(Hold::Reader)) => true,
+        (Some(Hold::Writer), Some(Hold::Writer)) => true,
+        _ => false,
+    }
+}
+
+// How one more operation leaves a lock held.
+fn hold_behind(hold: Option<Hold>, op: Op, lock: u32) -> Option<Hold>
+    ensures { option_map manner_of result ≡ op_way op lock (option_map manner_of hold) }
+{
+    if op.lock == lock {
+        hold_after(op.verb)
+    } else {
+        hold
+    }
+}
+
+// How the operations leave a lock held.
+#[tactic(auto, using(crate::proofs::WalkLemmas::way_steps))]
+fn hold_of(ops: &[Op], lock: u32) -> Option<Hold>
+    ensures { option_map manner_of result ≡ way_after_all ops.now lock }
+{
+    let mut hold = None;
+    for op in ops {
+        hold = hold_behind(hold, *op, lock);
+    }
+    hold
+}
+
+// Where the last operation on the lock stands, if that is a try: the one at `at`, or else `found`.
+fn try_behind(found: Option<usize>, at: usize, op: Op, lock: u32) -> Option<usize>
+    requires { IfSome found (λ n. n < at) }
+    ensures place { result
+        ≡ (if op.lock == lock then (if is_try op.verb then Some at else None) else found) }
+    ensures within { IfSome result (λ n. n ≤ at) }
+{
+    if op.lock != lock {
+        found
+    } else if is_try(op.verb) {
+        Some(at)
+    } else {
+        None
+    }
+}
+
+// Where the last operation on the lock stands, if that is a try.
+#[tactic(auto, using(crate::proofs::WalkLemmas::try_steps))]
+fn try_at(ops: &[Op], lock: u32) -> Option<usize>
+    ensures place { result ≡ try_at ops.now lock }
+    ensures within { IfSome result (λ at. at < length ops.now) }
+{
+    let mut found = None;
+    for (at, op) in ops.iter().enumerate() {
+        found = try_behind(found, at, *op, lock);
+    }
+    found
+}
+
+// Whether a lock is held behind the operation as it was before the one at `at`.
+#[tactic(auto, using(crate::proofs::WalkLemmas::push_steps))]
+fn is_kept(before: &[Op], op: Op, at: usize, lock: u32) -> bool
+    requires { at ≤ length before.now }
+    ensures { result ≡ same_way (way_after_all (take at before.now) lock)
+        (way_after_all (before.now ++ op ∷ []) lock) }
+{
+    let then = hold_of(&before[..at], lock);
+    let now = hold_behind(hold_of(before, lock), op, lock);
+    same_hold(then, now)
+}
+
+// Whether each lock below `locks` is held behind the operation as it was before the one at `at`.
+#[tactic(auto, using(crate::proofs::WalkLemmas::hold_steps))]
+fn are_kept(locks: u32, before: &[Op], op: Op, at: usize) -> bool
+    requires { at ≤ length before.now }
+    ensures { result ≡ same_holds locks (take at before.now) (before.now ++ op ∷ []) }
+{
+    for lock in 0..locks {
+        if !is_kept(before, op, at, lock) {
+            return false;
+        }
+    }
+    true
+}
+
+fn is_held(ops: &[Op], lock: u32) -> bool
+    ensures held { result ≡ is_some (way_after_all ops.now lock) }
+    ensures same { not result ≡ same_way (way_after_all ops.now lock) (way_after_all [] lock) }
+{
+    hold_of(ops, lock).is_some()
+}
+
+// Whether none of the locks below `locks` is held behind these operations.
+#[tactic(auto, using(crate::proofs::WalkLemmas::hold_steps))]
+pub(crate) fn is_nothing_held(locks: u32, ops: &[Op]) -> bool
+    ensures { result ≡ same_holds locks ops.now [] }
+{
+    for lock in 0..locks {
+        if is_held(ops, lock) {
+            return false;
+        }
+    }
+    true
+}
+
+// Whether an operation releases a lock that was taken by a try, and leaves other holds than there
+// were before the try.
+fn is_crossed(locks: u32, before: &[Op], op: Op) -> bool
+    ensures { result ≡ is_crossed locks before.now op }
+{
+    match try_at(before, op.lock) {
+        None => false,
+        Some(at) => !are_kept(locks, before, op, at),
+    }
+}
+
+// Whether the lock of this number is declared, and of the verb's kind.
+pub(crate) fn is_declared(kinds: &[Kind], lock: u64, verb: Verb) -> bool
+    ensures value { result ≡ is_declared (slice_get kinds.now lock) verb }
+    ensures within { result ≡ true → lock < length kinds.now }
+{
+    match kinds.get(lock as usize) {
+        None => false,
+        Some(kind) => same_kind(*kind, kind_of(verb)),
+    }
+}
+
+fn same_kind(kind: Kind, other: Kind) -> bool
+    ensures { result ≡ same_kind kind other }
+{
+    match (kind, other) {
+        (Kind::Spin, Kind::Spin) | (Kind::Rw, Kind::Rw) => true,
+        _ => false,
+    }
+}
+
+// What is wrong with an operation on a declared lock of its kind, behind these ones.
+pub(crate) fn fault_of_hold(locks: u32, before: &[Op], op: Op) -> Option<Fault>
+    ensures { result ≡ fault_of_hold locks before.now op }
+{
+    if !is_release(op.verb) {
+        if is_held(before, op.lock) {
+            return Some(Fault::Reheld);
+        }
+    } else if !same_hold(hold_of(before, op.lock), hold_before(op.verb)) {
+        return Some(Fault::NotHeld);
+    } else if is_crossed(locks, before, op) {
+        return Some(Fault::Crossed);
+    }
+    None
+}

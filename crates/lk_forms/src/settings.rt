@@ -1,0 +1,272 @@
+// The lines of a header, each by the words behind its keyword.
+ghost use Rattle.std.specs.Prelude.{◌≡◌, ◌≤◌, ◌<◌, ◌⊎◌, Ok, Err, IfOk, IfErr, length, []};
+ghost use Rattle.lk_forms.specs.Words.{words, number_of};
+ghost use Rattle.lk_forms.specs.Operations.{and_then, or_fault};
+ghost use Rattle.lk_forms.specs.declared.answers.Fault.TheVariants.{BadNumber};
+ghost use Rattle.lk_forms.specs.Grammar.{cpus_of, mode_of, is_built_mode, mode_word, mode_line, cpus_line, numbers_from, sockets_line, threshold_line, spins_line, kind_named, is_built_kind, kind_word, next_lock, lock_line, has_program, program_line, handler_line, is_built_irq, irq_line};
+ghost use Rattle.lk_forms.specs.Agrees.{Agrees, IsAnswer, IsRoomy};
+
+use crate::answers::{Fault, LineRefusal, Which};
+use crate::arguments::{cpu_word, number_in, one_word, two_words};
+use crate::programs::read_ops;
+use crate::tables::{MAX_HANDLERS, no_handlers, no_programs, zero_sockets};
+use crate::words::{next_word, read_number};
+use lk_abs::{Kind, List, Mode};
+use lk_machine::Setup;
+use std::alloc::Global;
+
+/// The most processors.
+const MAX_CPUS: u64 = 64;
+
+/// The greatest number of a socket.
+const MAX_SOCKET: u64 = 63;
+
+/// The greatest number of a lock.
+const MAX_LOCK: u64 = 31;
+
+/// The greatest threshold, and the greatest number of spins.
+const MAX_TURNS: u64 = 65_535;
+
+// The mode that a word is, if it is one.
+fn mode_of(word: &[u8]) -> Option<Mode>
+    ensures { result ≡ mode_of word.now }
+{
+    if word == b"virt".as_slice() {
+        Some(Mode::Virt)
+    } else if word == b"native".as_slice() {
+        Some(Mode::Native)
+    } else if word == b"cna".as_slice() {
+        Some(Mode::Cna)
+    } else if word == b"pv".as_slice() {
+        Some(Mode::Pv)
+    } else {
+        None
+    }
+}
+
+// The modes that are built.
+#[tactic(auto, unfolding(crate::specs::Grammar::is_built_mode))]
+fn is_built_mode(mode: Mode) -> bool
+    ensures { result ≡ is_built_mode mode }
+{
+    matches!(mode, Mode::Virt | Mode::Native)
+}
+
+fn mode_word(word: &[u8]) -> Result<Mode, LineRefusal>
+    ensures { result ≡ mode_word word.now }
+{
+    let mode = mode_of(word).ok_or(LineRefusal::Bad(Fault::UnknownWord))?;
+    if is_built_mode(mode) {
+        Ok(mode)
+    } else {
+        Err(LineRefusal::Bad(Fault::NotYet))
+    }
+}
+
+/// `mode m`
+pub(crate) fn mode_line(setup: &mut Setup, args: &[u8]) -> Result<(), LineRefusal>
+    ensures { Agrees (mode_line setup.old (words args.now)) setup.old setup.new result }
+{
+    let word = one_word(args)?;
+    setup.mode = mode_word(word)?;
+    Ok(())
+}
+
+/// `cpus n`
+pub(crate) fn cpus_line(alloc: Global, setup: &mut Setup, args: &[u8]) -> Result<(), LineRefusal>
+    ensures { Agrees (cpus_line setup.old (words args.now)) setup.old setup.new result }
+{
+    let word = one_word(args)?;
+    let cpus = number_in(1, MAX_CPUS, word)? as usize;
+    let sockets = zero_sockets(alloc, cpus)?;
+    let progs = no_programs(alloc, cpus)?;
+    let irqs = no_handlers(alloc, cpus)?;
+    setup.topology.sockets = sockets;
+    setup.progs = progs;
+    setup.irqs = irqs;
+    Ok(())
+}
+
+/// `threshold t`
+pub(crate) fn threshold_line(setup: &mut Setup, args: &[u8]) -> Result<(), LineRefusal>
+    ensures { Agrees (threshold_line setup.old (words args.now)) setup.old setup.new result }
+{
+    let word = one_word(args)?;
+    setup.threshold = number_in(0, MAX_TURNS, word)? as u32;
+    Ok(())
+}
+
+/// `spins s`
+pub(crate) fn spins_line(setup: &mut Setup, args: &[u8]) -> Result<(), LineRefusal>
+    ensures { Agrees (spins_line setup.old (words args.now)) setup.old setup.new result }
+{
+    let word = one_word(args)?;
+    setup.spins = number_in(1, MAX_TURNS, word)? as u32;
+    Ok(())
+}
+
+// The kind that a word is, if it is one.
+fn kind_named(word: &[u8]) -> Option<Kind>
+    ensures { result ≡ kind_named word.now }
+{
+    if word == b"spin".as_slice() {
+        Some(Kind::Spin)
+    } else if word == b"rw".as_slice() {
+        Some(Kind::Rw)
+    } else {
+        None
+    }
+}
+
+// The kinds of locks that are built.
+#[tactic(auto, unfolding(crate::specs::Grammar::is_built_kind))]
+fn is_built_kind(kind: Kind) -> bool
+    ensures { result ≡ is_built_kind kind }
+{
+    matches!(kind, Kind::Spin)
+}
+
+fn kind_word(word: &[u8]) -> Result<Kind, LineRefusal>
+    ensures { result ≡ kind_word word.now }
+{
+    let kind = kind_named(word).ok_or(LineRefusal::Bad(Fault::UnknownWord))?;
+    if is_built_kind(kind) {
+        Ok(kind)
+    } else {
+        Err(LineRefusal::Bad(Fault::NotYet))
+    }
+}
+
+// The number of the next lock, behind so many locks.
+fn next_lock(locks: usize, word: &[u8]) -> Result<(), LineRefusal>
+    ensures number { IsAnswer (and_then (or_fault BadNumber (number_of word.now)) (next_lock locks)) (λ u. locks) result }
+    ensures few { IfOk result (λ u. locks ≤ 31) }
+{
+    let lock = read_number(word).ok_or(LineRefusal::Bad(Fault::BadNumber))?;
+    if lock == locks as u64 && lock <= MAX_LOCK {
+        Ok(())
+    } else {
+        Err(LineRefusal::Bad(Fault::OutOfRange))
+    }
+}
+
+/// `lock i kind`
+pub(crate) fn lock_line(setup: &mut Setup, args: &[u8]) -> Result<(), LineRefusal>
+    requires { setup.old.locks.room ≡ 32 }
+    ensures { Agrees (lock_line setup.old (words args.now)) setup.old setup.new result }
+{
+    let (number, kind) = two_words(args)?;
+    next_lock(setup.locks.len(), number)?;
+    let kind = kind_word(kind)?;
+    setup.locks.push(kind);
+    Ok(())
+}
+
+// How many words there are.
+fn count_words(args: &[u8]) -> usize
+    ensures { result ≡ length (words args.now) }
+{
+    let mut count = 0;
+    let mut rest = args;
+    while let Some((_word, behind)) = next_word(rest) {
+        count += 1;
+        rest = behind;
+    }
+    count
+}
+
+// The sockets of so many processors, one for each.
+fn read_sockets(alloc: Global, cpus: usize, args: &[u8]) -> Result<List<u32>, LineRefusal>
+    requires { length (words args.now) ≡ cpus }
+    ensures ok { IfOk result (λ list. (numbers_from 0 63 [] (words args.now) ≡ Ok list.items) × (list.room ≡ cpus)) }
+    ensures err { IfErr result (λ why. (numbers_from 0 63 [] (words args.now) ≡ Err why) ⊎ (why ≡ LineRefusal.Memory)) }
+{
+    let mut sockets = List::new(alloc, cpus)?;
+    let mut rest = args;
+    while let Some((word, behind)) = next_word(rest) {
+        let socket = number_in(0, MAX_SOCKET, word)?;
+        sockets.push(socket as u32);
+        rest = behind;
+    }
+    Ok(sockets)
+}
+
+/// `sockets s0 s1 ..`
+pub(crate) fn sockets_line(alloc: Global, setup: &mut Setup, args: &[u8]) -> Result<(), LineRefusal>
+    ensures { Agrees (sockets_line setup.old (words args.now)) setup.old setup.new result }
+{
+    let cpus = setup.topology.sockets.len();
+    if count_words(args) != cpus {
+        return Err(LineRefusal::Bad(Fault::WordCount));
+    }
+    setup.topology.sockets = read_sockets(alloc, cpus, args)?;
+    Ok(())
+}
+
+// Whether a line `prog` gave the processor a program.
+#[tactic(auto, using(std::proofs::lemmas::Option::get_or_from_slice_get))]
+fn has_program(setup: &Setup, cpu: usize) -> bool
+    requires { cpu < length setup.now.progs.items }
+    ensures { result ≡ has_program setup.now cpu }
+{
+    setup.progs.get(cpu).len() > 0
+}
+
+/// `prog p ops`
+pub(crate) fn program_line(alloc: Global, setup: &mut Setup, args: &[u8]) -> Result<(), LineRefusal>
+    requires { IsRoomy setup.old }
+    ensures { Agrees (program_line setup.old (words args.now)) setup.old setup.new result }
+{
+    let Some((cpu, args)) = next_word(args) else {
+        return Err(LineRefusal::Bad(Fault::WordCount));
+    };
+    let cpu = cpu_word(setup.topology.sockets.len() as u32, cpu)? as usize;
+    if has_program(setup, cpu) {
+        return Err(LineRefusal::Bad(Fault::Repeated));
+    }
+    let ops = read_ops(alloc, setup.locks.as_slice(), args)?;
+    *setup.progs.get_mut(cpu) = ops;
+    Ok(())
+}
+
+// One more handler of a processor.
+fn handler_line(
+    alloc: Global,
+    setup: &mut Setup,
+    cpu: &[u8],
+    args: &[u8],
+) -> Result<(), LineRefusal>
+    requires { IsRoomy setup.old }
+    ensures { Agrees (handler_line setup.old cpu.now (words args.now)) setup.old setup.new result }
+{
+    let cpu = cpu_word(setup.topology.sockets.len() as u32, cpu)? as usize;
+    if setup.irqs.get(cpu).len() >= MAX_HANDLERS {
+        return Err(LineRefusal::Limit(Which::Handlers));
+    }
+    let ops = read_ops(alloc, setup.locks.as_slice(), args)?;
+    setup.irqs.get_mut(cpu).push(ops);
+    Ok(())
+}
+
+// Whether lines `irq` are built.
+#[tactic(auto, unfolding(crate::specs::Grammar::is_built_irq))]
+fn is_built_irq() -> bool
+    ensures { result ≡ is_built_irq }
+{
+    true
+}
+
+/// `irq p ops`
+pub(crate) fn irq_line(alloc: Global, setup: &mut Setup, args: &[u8]) -> Result<(), LineRefusal>
+    requires { IsRoomy setup.old }
+    ensures { Agrees (irq_line setup.old (words args.now)) setup.old setup.new result }
+{
+    let Some((cpu, args)) = next_word(args) else {
+        return Err(LineRefusal::Bad(Fault::WordCount));
+    };
+    if is_built_irq() {
+        handler_line(alloc, setup, cpu, args)
+    } else {
+        Err(LineRefusal::Bad(Fault::NotYet))
+    }
+}
