@@ -1,0 +1,10 @@
+pub mod RunLemmas
+pub mod Pieces
+pub mod Refusals
+pub mod ReadOn
+pub mod HeaderSteps
+pub mod ClosingLines
+pub mod Turns
+pub mod Answered
+pub mod Opened
+pub mod Complete

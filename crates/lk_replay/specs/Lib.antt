@@ -1,0 +1,8 @@
+pub mod Outside
+pub mod Transcript
+pub mod Outcome
+pub mod Reads
+pub mod Header
+pub mod Schedule
+pub mod Run
+pub mod Stands

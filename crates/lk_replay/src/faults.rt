@@ -1,0 +1,38 @@
+// What refusals and faults of reading come to.
+ghost use Rattle.std.specs.Prelude.{◌≡◌, ◌≢◌};
+ghost use Rattle.lk_replay.specs.Stands.{cut_at};
+ghost use Rattle.lk_replay.specs.Outcome.{as_replay_fault, refused_fault};
+ghost use Rattle.lk_forms.specs.declared.answers.LineRefusal.{LineRefusal};
+
+use crate::answers::RunFault;
+use lk_forms::{LineRefusal, Which};
+use lk_text::LineFault;
+
+/// What a fault of the reader means at this line.
+pub(crate) fn cut_fault(line: u64, fault: LineFault) -> RunFault
+    ensures { result ≡ cut_at line fault }
+{
+    match fault {
+        LineFault::ReadFault => RunFault::ReadFault,
+        LineFault::TooLong => RunFault::Limit {
+            line,
+            which: Which::Line,
+        },
+        LineFault::TooMuch => RunFault::Limit {
+            line,
+            which: Which::Input,
+        },
+    }
+}
+
+/// What a refusal of this line means, where it needed no memory.
+pub(crate) fn refusal_fault(line: u64, why: LineRefusal) -> RunFault
+    requires { why ≢ LineRefusal.Memory }
+    ensures { as_replay_fault result ≡ refused_fault line why }
+{
+    match why {
+        LineRefusal::Bad(fault) => RunFault::BadInput { line, fault },
+        LineRefusal::Limit(which) => RunFault::Limit { line, which },
+        LineRefusal::Memory => unreachable!(),
+    }
+}

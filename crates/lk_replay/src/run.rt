@@ -1,0 +1,113 @@
+// A run on its way: acts, made one after the other, and the lines of what happens in them.
+ghost use Rattle.std.specs.Prelude.{◌≡◌, ◌≤◌, ◌<◌, ◌+◌, ◌∷◌, [], ◌++◌, IfOk, OnOk, OnErr, length, replicate};
+ghost use Rattle.lk_text.specs.Causes.{HasCause};
+ghost use Rattle.lk_text.specs.Bytes.{AppendsFront, Conveys};
+ghost use Rattle.lk_text.specs.Block.{waiting};
+ghost use Rattle.lk_law.specs.MachineLaws.{IsBuiltSetup};
+ghost use Rattle.lk_machine.specs.Acts.{next, processor_of};
+ghost use Rattle.lk_machine.specs.Run.{occurs};
+ghost use Rattle.lk_forms.specs.Texts.{lines};
+
+use lk_abs::{Act, Event, Memory};
+use lk_core::rest_shows;
+use lk_forms::write_event;
+use lk_machine::{Machine, Setup};
+use lk_text::{Block, Sink, WriteFault};
+use std::alloc::Global;
+
+// Room for the line of an event.
+const EVENT_ROOM: usize = 128;
+
+/// A machine, and how many acts were made on it and events told of it.
+#[derive(Drop)]
+pub(crate) struct Run {
+    pub(crate) machine: Machine,
+    pub(crate) acts: u64,
+    pub(crate) events: u64,
+    ghost some: { events ≤ acts },
+}
+
+impl Run {
+    ghost use Rattle.lk_replay.specs.Run.{CanGoOn, RanTo, Makes, occurrences_in};
+
+    /// The machine at rest, on which no act was made. It takes all its memory here.
+    pub(crate) fn at_rest(alloc: Global, setup: Setup) -> Result<Run, Memory>
+        requires { IsBuiltSetup setup }
+        ensures nothing { IfOk result (λ run. RanTo run setup []) }
+        ensures ready { IfOk result CanGoOn }
+    {
+        rest_shows();
+        let machine = Machine::new(alloc, setup)?;
+        Ok(Run {
+            machine,
+            acts: 0,
+            events: 0,
+        })
+    }
+
+    /// How many processors there are.
+    #[inline]
+    pub(crate) fn cpus(&self) -> u32
+        ensures { result ≡ length self.now.machine.cpus }
+    {
+        self.machine.cpus()
+    }
+
+    // Makes one act.
+    #[inline]
+    fn act(&mut self, act: Act) -> Option<Event>
+        requires ready { CanGoOn self.old }
+        requires few { self.old.acts < 100000000 }
+        requires processor { processor_of act < length self.old.machine.cpus }
+        ensures told { occurs self.new.acts result ≡ occurrences_in self.old (act ∷ []) }
+        ensures ready { CanGoOn self.new }
+        ensures made { Makes self.old self.new (act ∷ []) }
+    {
+        let event = lk_core::act(&mut self.machine, act);
+        self.acts += 1;
+        self.events += u64::from(event.is_some());
+        event
+    }
+
+    // Makes one act, and writes what happens in it.
+    #[inline]
+    fn make<K: Sink>(&mut self, block: &mut Block, sink: &mut K, act: Act) -> Result<(), WriteFault>
+        requires ready { CanGoOn self.old }
+        requires few { self.old.acts < 100000000 }
+        requires processor { processor_of act < length self.old.machine.cpus }
+        ensures ok { OnOk result (Conveys (K.held sink.old) (K.held sink.new) (waiting block.old) (lines (occurrences_in self.old (act ∷ []))) (waiting block.new)) }
+        ensures err { OnErr result (AppendsFront (K.held sink.old) (K.held sink.new) (waiting block.old)) }
+        ensures ready { CanGoOn self.new }
+        ensures made { Makes self.old self.new (act ∷ []) }
+        ensures cause { HasCause (K.faults sink.old) (K.faults sink.new) result }
+    {
+        if let Some(event) = self.act(act) {
+            block.make_room(sink, EVENT_ROOM)?;
+            write_event(block, self.acts, &event);
+        }
+        Ok(())
+    }
+
+    /// Makes an act so many times, and writes what happens.
+    pub(crate) fn repeat<K: Sink>(
+        &mut self,
+        block: &mut Block,
+        sink: &mut K,
+        act: Act,
+        times: u64,
+    ) -> Result<(), WriteFault>
+        requires ready { CanGoOn self.old }
+        requires few { self.old.acts + times ≤ 100000000 }
+        requires processor { processor_of act < length self.old.machine.cpus }
+        ensures ok { OnOk result (Conveys (K.held sink.old) (K.held sink.new) (waiting block.old) (lines (occurrences_in self.old (replicate times act))) (waiting block.new)) }
+        ensures err { OnErr result (AppendsFront (K.held sink.old) (K.held sink.new) (waiting block.old ++ lines (occurrences_in self.old (replicate times act)))) }
+        ensures ready { OnOk result (CanGoOn self.new) }
+        ensures made { OnOk result (Makes self.old self.new (replicate times act)) }
+        ensures cause { HasCause (K.faults sink.old) (K.faults sink.new) result }
+    {
+        for _made in 0..times {
+            self.make(block, sink, act)?;
+        }
+        Ok(())
+    }
+}

@@ -1,0 +1,31 @@
+// The lines of the schedule.
+ghost use Rattle.std.specs.Prelude.{◌≡◌, ◌≤◌, ℕ, List, Ok, None, true, IfOk, IfErr, IfSome};
+ghost use Rattle.lk_text.specs.Reader.{is_ended, GaveLine, MetEnd, GaveFault};
+ghost use Rattle.lk_forms.specs.Schedule.{schedule_of};
+
+use lk_forms::{LineRefusal, Sched, schedule_line};
+use lk_text::{LineFault, LineReader, Source};
+
+/// What the next line of the schedule says, if there is one, or why it is refused.
+pub(crate) fn next_said<S: Source>(
+    reader: &mut LineReader,
+    source: &mut S,
+    cpus: u32,
+    acts: u64,
+    ended: bool,
+) -> Result<Option<Result<Sched, LineRefusal>>, LineFault>
+    requires some { 1 ≤ cpus }
+    requires few { acts ≤ 100000000 }
+    ensures given { IfOk result (λ given. IfSome given (λ said. (line : List ℕ)
+        × GaveLine reader.old reader.new (S.left source.old) (S.left source.new) line × (said ≡ schedule_of cpus acts ended line))) }
+    ensures end { result ≡ Ok None → MetEnd reader.old reader.new (S.left source.old) (S.left source.new) }
+    ensures fault { IfErr result (GaveFault reader.old reader.new (S.left source.old) (S.left source.new) (S.faults source.old) (S.faults source.new)) }
+    ensures idle { is_ended reader.old ≡ true → source.new ≡ source.old }
+    ensures later { S.faults source.old ≤ S.faults source.new }
+{
+    match reader.next_line(source) {
+        Ok(Some(line)) => Ok(Some(schedule_line(line, cpus, acts, ended))),
+        Ok(None) => Ok(None),
+        Err(fault) => Err(fault),
+    }
+}
