@@ -1,0 +1,57 @@
+// What a run of the program came to.
+ghost use Rattle.std.specs.Prelude.{◌≡◌};
+
+use lk_forms::{Fault, Which};
+use lk_replay::{ReplayFault, Summary};
+
+/// What a run of the program came to.
+#[derive(Clone, Copy, Debug, PartialEq, Eq)]
+pub enum Status {
+    /// All that was asked was read and written.
+    Done,
+    /// The words ask for nothing that there is.
+    Usage,
+    /// The grammar refuses this line.
+    BadInput { line: u64, fault: Fault },
+    /// A read failed.
+    ReadFault,
+    /// A write failed.
+    WriteFault,
+    /// There was no memory.
+    Memory,
+    /// This line passes a limit.
+    Limit { line: u64, which: Which },
+}
+
+impl Status {
+    ghost use Rattle.lk_cli.specs.Status.{number_of, status_of};
+
+    /// The program's exit status.
+    pub fn number(&self) -> u8
+        ensures { result ≡ number_of self.now }
+    {
+        match self {
+            Status::Done => 0,
+            Status::Usage => 2,
+            Status::BadInput { .. } => 3,
+            Status::ReadFault => 4,
+            Status::WriteFault => 5,
+            Status::Memory => 6,
+            Status::Limit { .. } => 7,
+        }
+    }
+
+    /// What a replay came to.
+    pub fn of(answer: Result<Summary, ReplayFault>) -> Status
+        ensures { result ≡ status_of answer }
+    {
+        match answer {
+            Ok(_) => Status::Done,
+            Err(ReplayFault::BadInput { line, fault }) => Status::BadInput { line, fault },
+            Err(ReplayFault::Limit { line, which }) => Status::Limit { line, which },
+            Err(ReplayFault::ReadFault) => Status::ReadFault,
+            Err(ReplayFault::WriteFault) => Status::WriteFault,
+            Err(ReplayFault::Memory) => Status::Memory,
+        }
+    }
+}
