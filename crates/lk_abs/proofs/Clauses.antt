@@ -7,7 +7,8 @@ use Rattle.std.proofs.lemmas.Bool.{cases_Bool, ltb-false, le-ltb}
 use Rattle.std.proofs.lemmas.List.{length-map, length-take, length-drop, length-replicate}
 use Rattle.std.proofs.lemmas.List.Elements.{All-nil, All-cons, All-head, All-tail}
 use Rattle.std.proofs.lemmas.Option.{none-some, slice_get_within}
-use Rattle.lk_abs.specs.History.{LockHistory, Spins, taken, passed}
+use Rattle.lk_abs.specs.History.{LockHistory, taken, passed}
+use Rattle.lk_abs.specs.declared.holder.Manner.TheVariants.{Spins}
 use Rattle.lk_abs.specs.Lawful.{Rules}
 use Rattle.lk_abs.specs.Breaches.{breach_if, beside, not_holder, twice, wrong_head, wrong_move, wrong_next, first_over, over_threshold, first_breach}
 use Rattle.lk_abs.specs.declared.names.Waiter.{Waiter}
@@ -96,3 +97,13 @@ none-over l t (u ∷ us) (n ∷ ns) fit e =
       | inl over ↦ absurd (none-some _ (sym (rw over at e)))
       | inr few ↦ All-cons (λ n. n ≤ t) n ns (ltb-false t n few) (none-over l t us ns (omega arith) (rw few at e))
     ]
+
+-- the first finding of seven, asked one after another
+pub or_chain : (a b c d e f g : Option Breach) → option_or (option_or (option_or (option_or (option_or (option_or a b) c) d) e) f) g ≡ option_or a (option_or b (option_or c (option_or d (option_or e (option_or f g)))))
+or_chain (Some x) b c d e f g = refl
+or_chain None (Some x) c d e f g = refl
+or_chain None None (Some x) d e f g = refl
+or_chain None None None (Some x) e f g = refl
+or_chain None None None None (Some x) f g = refl
+or_chain None None None None None (Some x) g = refl
+or_chain None None None None None None g = refl

@@ -4,7 +4,12 @@ pub mod Sharing
 pub mod Clauses
 pub mod Table
 pub mod OneMore
+pub mod Steps
 pub mod QueueRoom
-pub mod Plain
+pub mod Holding
 pub mod Telling
+pub mod Places
+pub mod Kicking
+pub mod Recording
+pub mod Unkicked
 pub mod Judging

@@ -1,6 +1,6 @@
 -- A lawful history with one event more: it is lawful exactly where the event is allowed, and in the paravirtual lock every front
 -- that sleeps by a free lock is owed a kick.
-use Rattle.std.proofs.Common.{◌≡◌, ◌≢◌, ◌≤◌, ◌↔◌, ℕ, List, [], ◌∷◌, ◌++◌, false, Some, None, length, refl, sym, ap, subst, ◌∙◌, inl, inr}
+use Rattle.std.proofs.Common.{◌≡◌, ◌≤◌, ◌↔◌, ℕ, List, [], ◌∷◌, ◌++◌, false, Some, None, length, refl, sym, ap, subst, ◌∙◌, inl, inr}
 use Rattle.std.specs.List.{All}
 use Rattle.std.proofs.lemmas.Bool.{cases_Bool}
 use Rattle.std.proofs.lemmas.List.Elements.{All-nil}
@@ -130,17 +130,18 @@ module _ (rules : Rules) (es : List Event) (e : Event) (ok : IsLawful rules es) 
   allowed_if_clear l clear =
       allowed_from_none rules (history_of l es) e.by e.what (AtEachMoment-now Shared es ok.exclusive.shared l) (AtEachMoment-now (Few rules.threshold) es ok.bounded l) (counts_fit rules es ok.ordered l) clear
 
-  -- outside the paravirtual lock an event on a lock keeps a history lawful exactly where it breaks no clause of the table
-  pub exact : rules.mode ≢ Pv → (l : LockName) → lock_of e.what ≡ Some l → IsLawful rules (es ++ e ∷ []) ↔ (first_breach rules (history_of l es) e.by e.what ≡ None)
-  exact plain l on = (
-    λ more. none_from_allowed rules (history_of l es) e.by e.what (allowed_from_lawful rules es e more l on),
-    λ clear.
-        lawful-push rules es e ok
-        (λ k at. subst (λ (j : LockName). IsAllowed rules (history_of j es) e.by e.what) (same_Some l k (sym on ∙ at)) (allowed_if_clear l clear))
-        (λ pv. absurd (plain pv)),
+  -- an event on a lock keeps a history lawful exactly where it breaks no clause of the table and leaves no front asleep
+  pub exact : (l : LockName) → lock_of e.what ≡ Some l → IsLawful rules (es ++ e ∷ []) ↔ ((first_breach rules (history_of l es) e.by e.what ≡ None) × (rules.mode ≡ Pv → (k : LockName) → FrontIsOwed (es ++ e ∷ []) k))
+  unfolding Owed
+  exact l on = (
+    λ more. (none_from_allowed rules (history_of l es) e.by e.what (allowed_from_lawful rules es e more l on), λ pv. AtEachMoment-now Owed (es ++ e ∷ []) (more.kicked pv)),
+    λ clear. lawful-push rules es e ok (λ k at. subst (λ (j : LockName). IsAllowed rules (history_of j es) e.by e.what) (same_Some l k (sym on ∙ at)) (allowed_if_clear l clear.0)) clear.1,
   )
 
-  -- and an event on no lock keeps it lawful
-  pub on_none : rules.mode ≢ Pv → lock_of e.what ≡ None → IsLawful rules (es ++ e ∷ [])
-  on_none plain off =
-      lawful-push rules es e ok (λ l on. absurd (none-some l (sym off ∙ on))) (λ pv. absurd (plain pv))
+  -- and an event on no lock exactly where it leaves no front asleep
+  pub exact_none : lock_of e.what ≡ None → IsLawful rules (es ++ e ∷ []) ↔ (rules.mode ≡ Pv → (k : LockName) → FrontIsOwed (es ++ e ∷ []) k)
+  unfolding Owed
+  exact_none off = (
+    λ more pv. AtEachMoment-now Owed (es ++ e ∷ []) (more.kicked pv),
+    λ owed. lawful-push rules es e ok (λ l on. absurd (none-some l (sym off ∙ on))) owed,
+  )

@@ -4,7 +4,9 @@ use Rattle.std.specs.List.{list_any, count_by}
 use Rattle.std.proofs.lemmas.Bool.{cases_Bool, or_parts, or_from}
 use Rattle.std.proofs.lemmas.List.{nil_from_length}
 use Rattle.std.proofs.lemmas.List.Sums.{sum_by-append, sum_by-cons}
-use Rattle.lk_abs.specs.History.{Holder, Manner, is_hold, without}
+use Rattle.lk_abs.specs.History.{is_hold, without}
+use Rattle.lk_abs.specs.declared.holder.Manner.{Manner}
+use Rattle.lk_abs.specs.declared.holder.Holder.{Holder}
 use Rattle.lk_abs.specs.Lawful.{IsShared, writes}
 use Rattle.lk_abs.specs.declared.names.Waiter.{Waiter}
 

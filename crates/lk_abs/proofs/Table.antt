@@ -5,7 +5,9 @@ use Rattle.std.specs.List.{list_any, slice_get, All}
 use Rattle.std.proofs.lemmas.Bool.{cases_Bool, or_parts, or_from, not-false, not_from_true, ltb-false, le-ltb, true≢false, false_from_ne_true}
 use Rattle.std.proofs.lemmas.List.Elements.{All-nil}
 use Rattle.std.proofs.lemmas.Option.{none-some}
-use Rattle.lk_abs.specs.History.{LockHistory, Holder, Spins, Reads, Writes, passed, changed}
+use Rattle.lk_abs.specs.History.{LockHistory, passed, changed}
+use Rattle.lk_abs.specs.declared.holder.Manner.TheVariants.{Spins, Reads, Writes}
+use Rattle.lk_abs.specs.declared.holder.Holder.{Holder}
 use Rattle.lk_abs.specs.Lawful.{Rules, IsShared, Holds, OwnsUp, IsFront, TakesInOrder, InOrder, lawful_moves, writes}
 use Rattle.lk_abs.specs.Allowed.{IsAllowed}
 use Rattle.lk_abs.specs.Breaches.{breach_if, holds, is_queued, beside_first, beside, not_holder, twice, not_front, wrong_head, wrong_move, wrong_next, over_threshold, first_breach}
@@ -59,7 +61,7 @@ module _ (h : LockHistory) (w : Waiter) where
   shared_if_clear (WRelease l) s e = shared-without w Writes h.holders s
   shared_if_clear _ s e = s
 
-  owned_if_clear : (what : What) → beside h w what ≡ None → not_holder h w what ≡ None → OwnsUp h w what
+  pub owned_if_clear : (what : What) → beside h w what ≡ None → not_holder h w what ≡ None → OwnsUp h w what
   owned_if_clear (Take l how) e f = nobody_holds h w (first-none l h.holders w e)
   owned_if_clear (RTake l how) e f = (apart_from_none l _ e).1
   owned_if_clear (WTake l how) e f = nobody_holds h w (first-none l h.holders w e)

@@ -5,7 +5,10 @@ use Rattle.std.proofs.Common.{suc}
 use Rattle.std.specs.List.{list_any}
 use Rattle.std.specs.Option.{option_or}
 use Rattle.lk_abs.specs.Names.{same_waiter}
-use Rattle.lk_abs.specs.History.{LockHistory, Holder, Manner, Spins, Reads, Writes, is_hold, changed}
+use Rattle.lk_abs.specs.History.{LockHistory, is_hold, changed}
+use Rattle.lk_abs.specs.declared.holder.Manner.{Manner}
+use Rattle.lk_abs.specs.declared.holder.Manner.TheVariants.{Spins, Reads, Writes}
+use Rattle.lk_abs.specs.declared.holder.Holder.{Holder}
 use Rattle.lk_abs.specs.Lawful.{Rules, writes, lawful_moves}
 use Rattle.lk_abs.specs.declared.names.Waiter.{Waiter}
 use Rattle.lk_abs.specs.declared.names.LockName.{LockName}
@@ -104,6 +107,11 @@ wrong_next h _ = None
 abbrev pub first_over : LockName → ℕ → List Waiter → List ℕ → Option Breach
 first_over l threshold (u ∷ us) (n ∷ ns) = if nat_lt threshold n then Some (OverThreshold l u n) else first_over l threshold us ns
 first_over l threshold _ _ = None
+
+-- the first of the waiters that a handover moves aside, where one handover is too many
+abbrev pub moved_over : LockName → ℕ → Option Waiter → ℕ → Option Breach
+moved_over l threshold None k = None
+moved_over l threshold (Some w) k = if nat_lt 0 k && nat_lt threshold 1 then Some (OverThreshold l w 1) else None
 
 -- after the event a waiter that stands aside has seen more handovers than the threshold
 abbrev pub over_threshold : Rules → LockHistory → Waiter → What → Option Breach

@@ -3,6 +3,9 @@
 use Rattle.std.specs.Prelude.{ℕ, Option, Some, None, Bool, true, false, List, [], ◌∷◌, ◌++◌, take, drop, map, replicate, ◌&&◌, if◌then◌else◌}
 use Rattle.std.proofs.Common.{suc}
 use Rattle.lk_abs.specs.Names.{same_lock, same_waiter}
+use Rattle.lk_abs.specs.declared.holder.Manner.{Manner}
+use Rattle.lk_abs.specs.declared.holder.Manner.TheVariants.{Spins, Reads, Writes}
+use Rattle.lk_abs.specs.declared.holder.Holder.{Holder}
 use Rattle.lk_abs.specs.declared.names.Waiter.{Waiter}
 use Rattle.lk_abs.specs.declared.names.LockName.{LockName}
 use Rattle.lk_abs.specs.declared.events.Event.{Event}
@@ -10,12 +13,6 @@ use Rattle.lk_abs.specs.declared.events.How.{How}
 use Rattle.lk_abs.specs.declared.events.How.TheVariants.{Sole}
 use Rattle.lk_abs.specs.declared.events.What.{What}
 use Rattle.lk_abs.specs.declared.events.What.TheVariants.{Take, Miss, Release, Kick, Arrive, Pass, Flush, Promote, Leave, Halt, Wake, Int, Nudge, RTake, RRelease, WTake, WRelease}
-
--- how a lock is held: a spinlock, or a reader-writer lock as a reader or as the writer
-pub data Manner : Type 0 where
-  Spins : Manner
-  Reads : Manner
-  Writes : Manner
 
 -- the manner admits no other holder
 abbrev pub is_writer : Manner → Bool
@@ -27,11 +24,6 @@ same_manner Spins Spins = true
 same_manner Reads Reads = true
 same_manner Writes Writes = true
 same_manner _ _ = false
-
--- who holds a lock, and how
-pub record Holder : Type 0 where
-  pub waiter : Waiter
-  pub manner : Manner
 
 -- the holders, the earliest first; the main queue, its front first; the second queue; and for each waiter of the second queue
 -- the handovers since its move

@@ -63,3 +63,24 @@ is_kicked p es = is_kicked_from p false es
 -- the processor is owed a kick: a release owes one that was not made, or one was made and has not ended a halt
 abbrev pub IsOwed : ℕ → List Event → Type 0
 IsOwed p es = (kicks_made p es < owing p es) ⊎ (is_kicked p es ≡ true)
+
+-- who sleeps, and for each processor how many releases owe it a kick, how many kicks were made, and whether one is remembered
+pub record KickState : Type 0 where
+  pub asleep : Waiter → Bool
+  pub owing : ℕ → ℕ
+  pub made : ℕ → ℕ
+  pub kicked : ℕ → Bool
+
+-- what a history says of halts and kicks
+abbrev pub kicks_of : List Event → KickState
+kicks_of es = record { asleep = λ w. sleeps w es; owing = λ p. owing p es; made = λ p. kicks_made p es; kicked = λ p. is_kicked p es }
+
+-- what is said of halts and kicks after one more event
+abbrev pub kicks_told : KickState → Event → KickState
+kicks_told s e =
+    record {
+      asleep = λ w. sleeps_after w (s.asleep w) e;
+      owing = λ p. owes p e.what + s.owing p;
+      made = λ p. kicks p e.what + s.made p;
+      kicked = λ p. kicked_after p (s.kicked p) e;
+    }

@@ -1,7 +1,10 @@
 -- When a history is lawful. Each law speaks of every prefix of the history, and so of what stands after every act.
 use Rattle.std.specs.Prelude.{◌≡◌, ℕ, ◌≤◌, ◌==◌, ◌⊎◌, Some, Bool, true, List, [], ◌∷◌, ◌++◌, not, length, if◌then◌else◌, slice_get, slice_index_or, count_by, All, Contains}
 use Rattle.std.proofs.Common.{suc}
-use Rattle.lk_abs.specs.History.{LockHistory, Holder, Manner, Spins, Reads, Writes, is_writer, history_of, lock_of}
+use Rattle.lk_abs.specs.History.{LockHistory, is_writer, history_of, lock_of}
+use Rattle.lk_abs.specs.declared.holder.Manner.{Manner}
+use Rattle.lk_abs.specs.declared.holder.Manner.TheVariants.{Spins, Reads, Writes}
+use Rattle.lk_abs.specs.declared.holder.Holder.{Holder}
 use Rattle.lk_abs.specs.Kicks.{sleeps, IsOwed}
 use Rattle.lk_abs.specs.declared.names.Mode.{Mode}
 use Rattle.lk_abs.specs.declared.names.Mode.TheVariants.{Cna, Pv}

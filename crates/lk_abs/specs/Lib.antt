@@ -8,3 +8,5 @@ pub mod Allowed
 pub mod Breaches
 pub mod Lists
 pub mod Judge
+pub mod Remembered
+pub mod NoKick

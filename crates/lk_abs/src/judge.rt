@@ -1,41 +1,46 @@
 // The judge of histories, one event at a time.
-ghost use Rattle.std.specs.Prelude.{◌≡◌, ℕ, ◌<◌, ◌≤◌, ◌*◌, ◌↔◌, [], ◌∷◌, ◌++◌, IfOk, OnOk, OnErr, IsOk, length, replicate};
+ghost use Rattle.std.specs.Prelude.{◌≡◌, ◌≢◌, ℕ, ◌<◌, ◌≤◌, ◌*◌, ◌↔◌, [], ◌∷◌, ◌++◌, IfOk, OnOk, OnErr, IsOk, None, length, replicate};
 ghost use Rattle.std.specs.Result.{result_err};
+ghost use Rattle.lk_abs.specs.Names.{lock_at, locks_from};
 ghost use Rattle.lk_abs.specs.History.{no_history};
 ghost use Rattle.lk_abs.specs.Lawful.{IsLawful};
+ghost use Rattle.lk_abs.specs.NoKick.{left_asleep, no_kick, unkicked};
+ghost use Rattle.lk_abs.specs.Remembered.{state_of};
 
 use crate::events::{Breach, Event, Lists};
+use crate::kick_record::KickRecord;
 use crate::list::List;
 use crate::lock_record::LockRecord;
 use crate::memory::Memory;
 use crate::names::{Kind, LockName, Mode, Topology};
+use crate::rulebook::Rulebook;
 use std::alloc::Global;
 use std::marker::Model;
 
-/// Judges the histories of spinlocks event by event, in the modes in which no waiter is moved aside and none halts, `virt` and
-/// `native`. Contracts see the rules that it goes by, and for each lock what the events so far say of it.
+/// Judges histories event by event. Contracts see the rules that it goes by, for each lock what the events so far say of it, and
+/// what they say of halts and kicks.
 #[derive(Drop)]
 pub struct Judge {
-    mode: Mode,
-    threshold: u32,
-    sockets: List<u32>,
+    rules: Rulebook,
     locks: List<LockRecord>,
+    kicks: KickRecord,
 }
 
 impl Model for Judge {
-    ghost use Rattle.std.specs.Prelude.{◌≡◌, ◌*◌, length, All};
-    ghost use Rattle.lk_abs.specs.Judge.{JudgeState, IsPlain};
+    ghost use Rattle.lk_abs.specs.Judge.{JudgeState, FitsTogether};
 
     ghost Value = { JudgeState };
 
-    ghost view = { λ j. record { rules = record { mode = j.mode; sockets = j.sockets.items; threshold = j.threshold }; locks = j.locks.items } };
+    ghost view = { λ j. record { rules = j.rules; locks = j.locks.items; kicks = j.kicks } };
 
-    ghost invariant = { λ j. IsPlain j.mode × All (λ k. k.room ≡ length j.sockets.items * 6) j.locks.items };
+    ghost invariant = { λ j. FitsTogether j.rules j.locks.items j.kicks };
 }
 
 /// Records of locks of which nothing is said, each with room for so many waiters.
 fn silent_locks(alloc: Global, locks: usize, waiters: usize) -> Result<List<LockRecord>, Memory>
-    ensures { IfOk result (λ list. list.items ≡ replicate locks (record { history = no_history; room = waiters })) }
+    requires { waiters ≤ 6144 }
+    ensures { IfOk result (λ list. list.items
+        ≡ replicate locks (record { history = no_history; room = waiters })) }
 {
     let mut list = List::new(alloc, locks)?;
     for _ in 0..locks {
@@ -45,7 +50,7 @@ fn silent_locks(alloc: Global, locks: usize, waiters: usize) -> Result<List<Lock
 }
 
 impl Judge {
-    ghost use Rattle.lk_abs.specs.Judge.{IsPlain, IsDeclared, IsInRange, history_at, breach_of, Events, TakesOne, HasTaken};
+    ghost use Rattle.lk_abs.specs.Judge.{IsDeclared, IsInRange, history_at, table_breach, breach_of, Events, TellsLocks, TakesOne, HasTaken};
 
     /// A judge that has taken no event, for a lock family, the sockets of up to 1,024 processors, the most handovers that may pass
     /// a waiter by, and the declared locks. It takes all its memory here.
@@ -56,42 +61,112 @@ impl Judge {
         threshold: u32,
         locks: &List<Kind>,
     ) -> Result<Judge, Memory>
-        requires plain { IsPlain mode }
         requires processors { length topology.now.sockets.items ≤ 1024 }
-        ensures rules { IfOk result (λ j. j.rules ≡ record { mode = mode; sockets = topology.now.sockets.items; threshold = threshold }) }
-        ensures locks { IfOk result (λ j. length j.locks ≡ length locks.now.items) }
+        requires threshold { threshold ≤ 65535 }
+        requires declared { length locks.now.items ≤ 32 }
+        ensures rules { IfOk result (λ j. j.rules
+            ≡ record { mode = mode; sockets = topology.now.sockets.items; threshold = threshold }) }
+        ensures locks { IfOk result (λ j. length j.locks ≡ length locks.now.items * 2) }
         ensures taken { IfOk result (λ j. HasTaken j []) }
     {
-        let waiters = topology.sockets.len() * 6;
+        let processors = topology.sockets.len();
         let sockets = List::from_slice(alloc, topology.sockets.as_slice())?;
-        let locks = silent_locks(alloc, locks.len(), waiters)?;
-        Ok(Judge {
+        let locks = silent_locks(alloc, locks.len() * 2, processors * 6)?;
+        let kicks = KickRecord::new(alloc, processors)?;
+        let rules = Rulebook {
             mode,
-            threshold,
             sockets,
+            threshold,
+        };
+        Ok(Judge {
+            rules,
             locks,
+            kicks,
         })
     }
 
-    /// Judges one event after those that were taken before. `Ok` says that the history with this event is lawful, and that the
-    /// event is taken; a breach names the first clause that it breaks, and leaves the judge as it was. It takes no memory, since a
-    /// waiter that stands in a queue does not arrive again, so that no queue is longer than there are waiters.
+    /// Judges one event after those that were taken before, fewer than 2^63. `Ok` says that the history with this event is
+    /// lawful, and that the event is taken; a breach names the first clause that it breaks. After `NoKick`, which is found last,
+    /// the event is told; after any other breach the judge is as it was. A judge that answered a breach is asked no more. It
+    /// takes no memory, since a waiter that stands in a queue does not arrive again, so that no queue is longer than there are
+    /// waiters.
     pub fn take(&mut self, event: &Event) -> Result<(), Breach>
         requires { IsInRange self.old event.now }
         ensures verdict { result_err result ≡ breach_of self.old event.now }
         ensures ok { OnOk result (TakesOne self.old self.new event.now) }
-        ensures err { OnErr result (self.new ≡ self.old) }
+        ensures err { table_breach self.old event.now ≢ None → self.new ≡ self.old }
 
         // After lawful events the answer is Ok exactly where the history with this event is lawful.
-        ensures exact { (es : Events) → HasTaken self.old es → (IsOk result ↔ IsLawful self.old.rules (es ++ event.now ∷ [])) }
-        ensures taken { OnOk result ((es : Events) → HasTaken self.old es → HasTaken self.new (es ++ event.now ∷ [])) }
+        ensures exact { (es : Events)
+            → HasTaken self.old es
+            → (IsOk result ↔ IsLawful self.old.rules (es ++ event.now ∷ [])) }
+        ensures taken { OnOk result ((es : Events)
+            → HasTaken self.old es
+            → HasTaken self.new (es ++ event.now ∷ [])) }
+    {
+        self.take_by_table(event)?;
+        self.kicks.tell(event);
+        match self.unkicked() {
+            Some(breach) => Err(breach),
+            None => Ok(()),
+        }
+    }
+
+    /// Judges an event by the table, and tells the history of its lock on where it breaks no clause.
+    fn take_by_table(&mut self, event: &Event) -> Result<(), Breach>
+        requires { IsInRange self.old event.now }
+        ensures verdict { result_err result ≡ table_breach self.old event.now }
+        ensures ok { OnOk result (TellsLocks self.old self.new event.now) }
+        ensures err { OnErr result (self.new ≡ self.old) }
     {
         match event.what.lock() {
             Some(lock) => self
                 .locks
-                .get_mut(lock.index as usize)
-                .take(event.by, event.what),
+                .get_mut(lock.place())
+                .take(&self.rules, event.by, event.what),
             None => Ok(()),
+        }
+    }
+
+    /// The breach that the front of the lock of that number is left asleep, if it is.
+    fn left_asleep(&self, place: usize) -> Option<Breach>
+        requires { place < length self.now.locks }
+        ensures { let lock = lock_at place in
+            result ≡ left_asleep (state_of self.now.kicks) lock (history_at self.now lock) }
+    {
+        match self.locks.get(place).free_front() {
+            Some(waiter) if self.kicks.is_left(waiter) => {
+                Some(Breach::NoKick {
+                    lock: LockName::at(place),
+                    waiter,
+                })
+            }
+            _ => None,
+        }
+    }
+
+    /// The first of the locks, by number, whose front is left asleep.
+    fn no_kick(&self) -> Option<Breach>
+        ensures { let locks = locks_from 0 (length self.now.locks) in
+            result ≡ no_kick (state_of self.now.kicks) (history_at self.now) locks }
+    {
+        for place in 0..self.locks.len() {
+            let breach = self.left_asleep(place);
+            if breach.is_some() {
+                return breach;
+            }
+        }
+        None
+    }
+
+    /// In `pv`, the first of the locks, by number, whose front is left asleep.
+    fn unkicked(&self) -> Option<Breach>
+        ensures { let kicks = state_of self.now.kicks in
+            result ≡ unkicked self.now.rules.mode kicks (history_at self.now) (length self.now.locks) }
+    {
+        match self.rules.mode {
+            Mode::Pv => self.no_kick(),
+            Mode::Virt | Mode::Native | Mode::Cna => None,
         }
     }
 
@@ -102,6 +177,6 @@ impl Judge {
         ensures second { result.now.second.items ≡ (history_at self.now lock).second }
         ensures passes { result.now.passes.items ≡ (history_at self.now lock).passes }
     {
-        self.locks.get(lock.index as usize).lists()
+        self.locks.get(lock.place()).lists()
     }
 }

@@ -1,6 +1,7 @@
 // A list in memory that was taken at its start.
-ghost use Rattle.std.specs.Prelude.{◌≡◌, ◌<◌, [], ◌∷◌, ◌++◌, IfOk, length, slice_get, Some};
+ghost use Rattle.std.specs.Prelude.{◌≡◌, ◌<◌, [], ◌∷◌, ◌++◌, IfOk, length, slice_get, Some, replicate};
 ghost use Rattle.std.specs.Borrow.{sem};
+ghost use Rattle.std.specs.List.{remove};
 
 use crate::memory::Memory;
 use std::alloc::Global;
@@ -68,6 +69,24 @@ impl<T> List<T> {
         self.pop()
     }
 
+    /// Takes the item at a place out, and moves the later ones up by one place.
+    pub fn remove(&mut self, at: usize) -> T
+        requires { at < length self.old.items }
+        ensures item { slice_get self.old.items at ≡ Some result }
+        ensures items { self.new ≡ record self.old { items = remove self.old.items at } }
+    {
+        self.items.remove(at)
+    }
+
+    /// Puts an item in front, and moves the others down by one place.
+    pub fn push_front(&mut self, item: T)
+        requires { length self.old.items < self.old.room }
+        ensures { self.new ≡ record self.old { items = item ∷ self.old.items } }
+    {
+        self.push(item);
+        self.as_mut_slice().rotate_right(1);
+    }
+
     /// How many items there are.
     pub fn len(&self) -> usize
         ensures { result ≡ length self.now.items }
@@ -108,13 +127,35 @@ impl<T> List<T> {
     }
 }
 
+impl<T: Drop> List<T> {
+    /// Takes all items out.
+    pub fn clear(&mut self)
+        ensures { self.new ≡ record self.old { items = [] } }
+    {
+        self.items.clear();
+    }
+}
+
 impl<T: Copy> List<T> {
     /// A full list of these items.
     pub fn from_slice(alloc: Global, items: &[T]) -> Result<List<T>, Memory>
-        ensures { IfOk result (λ list. list ≡ record { items = items.now; room = length items.now }) }
+        ensures { IfOk result (λ list. list
+            ≡ record { items = items.now; room = length items.now }) }
     {
         let room = items.len();
         let items = Vec::from_slice(alloc, items)?;
         Ok(List { items, room })
+    }
+
+    /// A full list of one item, so many times.
+    pub fn filled(alloc: Global, item: T, count: usize) -> Result<List<T>, Memory>
+        ensures { IfOk result (λ list. list
+            ≡ record { items = replicate count item; room = count }) }
+    {
+        let mut list = List::new(alloc, count)?;
+        for _ in 0..count {
+            list.push(item);
+        }
+        Ok(list)
     }
 }

@@ -86,7 +86,7 @@ pub top_frame-is : (m : Machine) (p : ℕ) (f : Frame) → frame_at m (top_of m 
 top_frame-is m p f h = ap (λ (o : Option Frame). unwrap_or o rest_frame) h
 
 -- what a write leaves in a lock's record stays
-lock_part : {A : Type 0} (F : LockState → A) (m : Machine) (i : ℕ) (y : LockState) → F y ≡ F (lock_at m i) → (j : ℕ) → F (lock_at (set_lock m i y) j) ≡ F (lock_at m j)
+pub lock_part : {A : Type 0} (F : LockState → A) (m : Machine) (i : ℕ) (y : LockState) → F y ≡ F (lock_at m i) → (j : ℕ) → F (lock_at (set_lock m i y) j) ≡ F (lock_at m j)
 unfolding lock_at set_lock
 lock_part F m i y e q =
     elim (cases_eq q i) [
@@ -97,11 +97,11 @@ lock_part F m i y e q =
       | inr ne ↦ ap F (get_or-set_other m.locks i q y rest_lock ne)
     ]
 
-lock_same : (m : Machine) (i : ℕ) (y : LockState) → i < length m.locks → lock_at (set_lock m i y) i ≡ y
+pub lock_same : (m : Machine) (i : ℕ) (y : LockState) → i < length m.locks → lock_at (set_lock m i y) i ≡ y
 unfolding lock_at set_lock
 lock_same m i y h = get_or-set_same m.locks i y rest_lock h
 
-lock_other : (m : Machine) (i j : ℕ) (y : LockState) → j ≢ i → lock_at (set_lock m i y) j ≡ lock_at m j
+pub lock_other : (m : Machine) (i j : ℕ) (y : LockState) → j ≢ i → lock_at (set_lock m i y) j ≡ lock_at m j
 unfolding lock_at set_lock
 lock_other m i j y h = get_or-set_other m.locks i j y rest_lock h
 

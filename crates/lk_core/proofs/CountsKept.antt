@@ -1,27 +1,33 @@
 -- An act adds one to some of the ten counts at most.
 use Rattle.std.proofs.Common.{◌≡◌, ℕ, Option, Some, None, Bool, true, false, List, [], ◌∷◌, inl, inr, arith, ap, ◌+◌, ◌≤◌, rules, refl, sym, ◌∙◌, subst}
-use Rattle.std.specs.Prelude.{if◌then◌else◌, ◌==◌}
+use Rattle.std.specs.Prelude.{if◌then◌else◌, ◌==◌, ◌&&◌, ◌-◌, is_some}
 use Rattle.std.proofs.lemmas.Bool.{cases_Bool}
 use Rattle.lk_abs.specs.declared.names.Mode.{Mode}
 use Rattle.lk_abs.specs.declared.names.Mode.TheVariants.{Pv}
+use Rattle.lk_abs.specs.declared.names.LockName.{LockName}
 use Rattle.lk_abs.specs.declared.events.Act.{Act}
 use Rattle.lk_abs.specs.declared.events.Act.TheVariants as act
 use Rattle.lk_word.specs.declared.spin_word.NodeName.{NodeName}
 use Rattle.lk_word.specs.declared.spin_word.Fields.{Fields}
 use Rattle.lk_machine.specs.declared.parts.Counts.{Counts}
 use Rattle.lk_machine.specs.declared.parts.Flag.{Flag}
+use Rattle.lk_machine.specs.declared.parts.State.{State}
 use Rattle.lk_machine.specs.declared.parts.Flag.TheVariants as flag
 use Rattle.lk_machine.specs.declared.parts.Frame.{Frame}
 use Rattle.lk_machine.specs.declared.parts.Pc.{Pc}
-use Rattle.lk_machine.specs.declared.parts.Pc.TheVariants.{F1, T1, T2, V2, P4, G3, G4, G6, G8, G10, N2}
-use Rattle.lk_machine.specs.Machine.{Machine, CpuState, LockState, word_at, node_at, queued_at, preempted_at, halted_at, top_frame, set_cpu, set_lock, set_counts}
-use Rattle.lk_machine.specs.Row.{Lead, Counter, LockPending, LockSlowpath, LockUseNode2, LockUseNode3, LockUseNode4, LockNoNode, moved, counted, count_all}
-use Rattle.lk_machine.specs.SpinRows.{spin_row, is_free}
+use Rattle.lk_machine.specs.declared.parts.Pc.TheVariants.{F1, T1, T2, V2, P4, G3, G4, G6, G8, G10, N2, C1, C2, C3, C6, C7, C8, C10, H2, W2, W4, W6, W7, E1, E4, E6, E7, E10, E13, E14, K1, U2, U5, R1, R2, R5, Wr1, Wr3, Wr6, Y1, Y2, Y4, Y5}
+use Rattle.lk_machine.specs.Machine.{Machine, CpuState, LockState, word_at, node_at, queued_at, preempted_at, halted_at, top_frame, set_cpu, set_lock, set_entry, entry_at, kicked_at, set_counts, rw_at}
+use Rattle.lk_machine.specs.Row.{Outcome, Lead, Counter, LockPending, LockSlowpath, LockUseNode2, LockUseNode3, LockUseNode4, LockNoNode, moved, counted, count_all}
+use Rattle.lk_machine.specs.SpinRows.{spin_row, is_free, is_unlocked}
 use Rattle.lk_machine.specs.QueueRows.{queue_row, entry_row, flag_row, next_row, index_count, entry_counts, is_sole, after_arrival}
-use Rattle.lk_machine.specs.Rows.{Target, SpinWord, QueueWord, Queued, FlagOf, NextOf, Unbuilt, target, stored_word, stored_flag, stored_next, stored_queued, row_on, row_at, row}
+use Rattle.lk_machine.specs.Rows.{Target, SpinWord, QueueWord, Queued, FlagOf, NextOf, ChoiceWord, ChoiceFlag, ChoiceNext, SecondTailOf, RunsOf, PvWord, PvFlag, PvNext, StateOf, HashEntry, Halted, KickOf, target, sight_at, stored_second, stored_runs, stored_state, stored_entry, stored_halted, stored_kicked, stored_word, stored_flag, stored_next, stored_queued, row_on, row_at, row, RwWord, stored_rw}
+use Rattle.lk_machine.specs.CnaRows.{Sight, may_stay, after_none, is_last, is_held, search_row, second_row, runs_row, handover_row, promotion_row}
+use Rattle.lk_machine.specs.PvRows.{is_set, is_running, is_halted, pv_row, pv_flag_row, pv_next_row, state_row, hash_row, halt_row, kick_row}
 use Rattle.lk_machine.specs.Acts.{idle, step_halted, step, next}
 use Rattle.lk_machine.specs.Ready.{CountsWithin}
-use Rattle.lk_core.proofs.Parts.{part-moved, part-stored_word, part-stored_flag, part-stored_next, part-stored_queued, part-step_halted, part-rest}
+use Rattle.lk_core.proofs.Parts.{part-moved, part-stored_word, part-stored_flag, part-stored_next, part-stored_second, part-stored_runs, part-stored_state, part-stored_entry, part-stored_halted, part-stored_kicked, part-stored_queued, part-step_halted, part-rest, part-stored_rw}
+use Rattle.lk_word.specs.declared.rw_word.RwFields.{RwFields}
+use Rattle.lk_machine.specs.RwRows.{rw_row, is_empty, is_open, is_cleared}
 
 -- no count rises by more than one
 record StepsUp (c d : Counts) : Type 0 where
@@ -78,6 +84,19 @@ entry_few Pv i = index_of AddsFew none_few (λ c. search (arith, rules)) (λ c. 
 entry_few _ i =
     index_of (λ cs. AddsFew (LockSlowpath ∷ cs)) (λ c. search (arith, rules)) (λ c. search (arith, rules)) (λ c. search (arith, rules)) (λ c. search (arith, rules)) (λ c. search (arith, rules)) i
 
+rw_few : (mode : Mode) (c : Pc) (f : Frame) (x : RwFields) → AddsFew (rw_row mode c f x).counts
+rw_few mode R1 f x = elim (cases_Bool (is_open x)) [ inl e ↦ rw e none_few | inr e ↦ rw e none_few ]
+rw_few mode R2 f x = elim (cases_Bool (x.writer)) [ inl e ↦ rw e none_few | inr e ↦ rw e none_few ]
+rw_few mode R5 f x = elim (cases_Bool (x.writer)) [ inl e ↦ rw e none_few | inr e ↦ rw e none_few ]
+rw_few mode Wr1 f x = elim (cases_Bool (is_empty x)) [ inl e ↦ rw e none_few | inr e ↦ rw e none_few ]
+rw_few mode Wr3 f x = elim (cases_Bool (is_empty x)) [ inl e ↦ rw e none_few | inr e ↦ rw e none_few ]
+rw_few mode Wr6 f x = elim (cases_Bool (is_cleared x)) [ inl e ↦ rw e none_few | inr e ↦ rw e none_few ]
+rw_few mode Y1 f x = elim (cases_Bool (is_open x)) [ inl e ↦ rw e none_few | inr e ↦ rw e none_few ]
+rw_few mode Y2 f x = elim (cases_Bool (is_open x)) [ inl e ↦ rw e none_few | inr e ↦ rw e none_few ]
+rw_few mode Y4 f x = elim (cases_Bool (is_empty x)) [ inl e ↦ rw e none_few | inr e ↦ rw e none_few ]
+rw_few mode Y5 f x = elim (cases_Bool (is_empty x)) [ inl e ↦ rw e none_few | inr e ↦ rw e none_few ]
+rw_few mode _ f x = none_few
+
 spin_few : (mode : Mode) (c : Pc) (f : Frame) (x : Fields) → AddsFew (spin_row mode c f x).counts
 spin_few mode F1 f x = elim (cases_Bool (is_free x)) [ inl e ↦ rw e none_few | inr e ↦ rw e none_few ]
 spin_few mode T1 f x = elim (cases_Bool (is_free x)) [ inl e ↦ rw e none_few | inr e ↦ rw e none_few ]
@@ -109,6 +128,76 @@ next_few mode turns G10 f None = none_few
 next_few mode turns G10 f (Some n) = none_few
 next_few mode turns _ f x = none_few
 
+-- one of two outcomes
+few_if : {A : Type 0} (t : Bool) (a b : Outcome A) → AddsFew a.counts → AddsFew b.counts → AddsFew (if t then a else b).counts
+few_if true a b x y = x
+few_if false a b x y = y
+
+after_none_few : (o : Option NodeName) → AddsFew (after_none o).counts
+after_none_few None = none_few
+after_none_few (Some n) = none_few
+
+search_few : (s : Sight) (c : Pc) (f : Frame) (x : Option NodeName) → AddsFew (search_row s c f x).counts
+search_few s C1 f None = after_none_few f.second
+search_few s C1 f (Some n) = few_if (may_stay s) _ _ (few_if (s.local n) _ _ none_few none_few) (few_if (is_some f.second) _ _ none_few none_few)
+search_few s C2 f None = few_if (is_some f.second) _ _ none_few none_few
+search_few s C2 f (Some n) = few_if (s.local n) _ _ (few_if (is_some f.second) _ _ none_few none_few) none_few
+search_few s _ f x = none_few
+
+second_few : (c : Pc) (f : Frame) (x : Option NodeName) → AddsFew (second_row c f x).counts
+second_few C3 f x = none_few
+second_few C6 f x = none_few
+second_few _ f x = none_few
+
+runs_few : (s : Sight) (c : Pc) (f : Frame) (x : ℕ) → AddsFew (runs_row s c f x).counts
+runs_few s C7 f x = none_few
+runs_few s _ f x = none_few
+
+handover_few : (c : Pc) (f : Frame) (x : Flag) → AddsFew (handover_row c f x).counts
+handover_few C8 f x = none_few
+handover_few _ f x = none_few
+
+promotion_few : (c : Pc) (f : Frame) (x : Fields) → AddsFew (promotion_row c f x).counts
+promotion_few C10 f x = few_if (is_last f x) _ _ none_few none_few
+promotion_few _ f x = none_few
+
+pv_few : (spins : ℕ) (c : Pc) (f : Frame) (x : Fields) → AddsFew (pv_row spins c f x).counts
+pv_few spins H2 f x = few_if (is_unlocked x.locked) _ _ (λ c. search (arith, rules)) none_few
+pv_few spins E4 f x = few_if (is_unlocked x.locked && x.pending) _ _ none_few (few_if (f.left - 1 == 0) _ _ none_few none_few)
+pv_few spins E7 f x = few_if (is_unlocked x.locked) _ _ none_few none_few
+pv_few spins E13 f x = few_if (is_last f x) _ _ none_few none_few
+pv_few spins U2 f x = few_if (is_held x.locked) _ _ none_few none_few
+pv_few spins _ f x = none_few
+
+pv_flag_few : (c : Pc) (f : Frame) (x : Flag) → AddsFew (pv_flag_row c f x).counts
+pv_flag_few W4 f x = few_if (is_set x) _ _ none_few (λ c. search (arith, rules))
+pv_flag_few _ f x = none_few
+
+pv_next_few : (c : Pc) (f : Frame) (x : Option NodeName) → AddsFew (pv_next_row c f x).counts
+pv_next_few E14 f None = none_few
+pv_next_few E14 f (Some n) = none_few
+pv_next_few _ f x = none_few
+
+state_few : (spins : ℕ) (c : Pc) (f : Frame) (x : State) → AddsFew (state_row spins c f x).counts
+state_few spins W2 f x = few_if (is_running x) _ _ (few_if (f.left - 1 == 0) _ _ none_few none_few) none_few
+state_few spins W7 f x = few_if (is_halted x) _ _ none_few none_few
+state_few spins E1 f x = λ c. search (arith, rules)
+state_few spins E10 f x = λ c. search (arith, rules)
+state_few spins K1 f x = few_if (is_halted x) _ _ none_few none_few
+state_few spins _ f x = none_few
+
+hash_few : (c : Pc) (f : Frame) (x : Option NodeName) → AddsFew (hash_row c f x).counts
+hash_few E6 f x = none_few
+hash_few _ f x = none_few
+
+halt_few : (c : Pc) (f : Frame) (x : Bool) → AddsFew (halt_row c f x).counts
+halt_few W6 f x = none_few
+halt_few _ f x = none_few
+
+kick_few : (c : Pc) (f : Frame) (x : Bool) → AddsFew (kick_row c f x).counts
+kick_few U5 f x = λ c. search (arith, rules)
+kick_few _ f x = none_few
+
 -- on a machine
 
 abbrev of : Machine → Counts
@@ -117,6 +206,11 @@ of m = m.counts
 cpu : (m : Machine) (p : ℕ) (c : CpuState) → of (set_cpu m p c) ≡ of m
 unfolding set_cpu
 cpu m p c = refl
+
+hash : (m : Machine) (l : LockName) (n : Option NodeName) → of (set_entry m l n) ≡ of m
+unfolding set_entry
+hash m l None = refl
+hash m l (Some n) = refl
 
 lock : (m : Machine) (i : ℕ) (x : LockState) → of (set_lock m i x) ≡ of m
 unfolding set_lock
@@ -154,7 +248,45 @@ few_row_on m p f c (FlagOf n) =
 few_row_on m p f c (NextOf n) =
     let o = next_row m.setup.mode m.setup.spins c f (node_at m n).next in
     applied_few m (stored_next m n o.stores) p f o.leads o.counts (part-stored_next of cpu lock m n o.stores) (next_few m.setup.mode m.setup.spins c f (node_at m n).next)
-few_row_on m p f c Unbuilt = still m m refl
+few_row_on m p f c RwWord =
+    let o = rw_row m.setup.mode c f (rw_at m f.lock.index) in
+    applied_few m (stored_rw m f.lock.index o.stores) p f o.leads o.counts (part-stored_rw of cpu lock m f.lock.index o.stores) (rw_few m.setup.mode c f (rw_at m f.lock.index))
+few_row_on m p f c ChoiceWord =
+    let o = promotion_row c f (word_at m f.lock) in
+    applied_few m (stored_word m f o.stores) p f o.leads o.counts (part-stored_word of cpu lock m f o.stores) (promotion_few c f (word_at m f.lock))
+few_row_on m p f c (ChoiceFlag n) =
+    let o = handover_row c f (node_at m n).flag in
+    applied_few m (stored_flag m n o.stores) p f o.leads o.counts (part-stored_flag of cpu lock m n o.stores) (handover_few c f (node_at m n).flag)
+few_row_on m p f c (ChoiceNext n) =
+    let o = search_row (sight_at m p f) c f (node_at m n).next in
+    applied_few m (stored_next m n o.stores) p f o.leads o.counts (part-stored_next of cpu lock m n o.stores) (search_few (sight_at m p f) c f (node_at m n).next)
+few_row_on m p f c (SecondTailOf n) =
+    let o = second_row c f (node_at m n).second_tail in
+    applied_few m (stored_second m n o.stores) p f o.leads o.counts (part-stored_second of cpu lock m n o.stores) (second_few c f (node_at m n).second_tail)
+few_row_on m p f c (RunsOf n) =
+    let o = runs_row (sight_at m p f) c f (node_at m n).runs in
+    applied_few m (stored_runs m n o.stores) p f o.leads o.counts (part-stored_runs of cpu lock m n o.stores) (runs_few (sight_at m p f) c f (node_at m n).runs)
+few_row_on m p f c PvWord =
+    let o = pv_row m.setup.spins c f (word_at m f.lock) in
+    applied_few m (stored_word m f o.stores) p f o.leads o.counts (part-stored_word of cpu lock m f o.stores) (pv_few m.setup.spins c f (word_at m f.lock))
+few_row_on m p f c (PvFlag n) =
+    let o = pv_flag_row c f (node_at m n).flag in
+    applied_few m (stored_flag m n o.stores) p f o.leads o.counts (part-stored_flag of cpu lock m n o.stores) (pv_flag_few c f (node_at m n).flag)
+few_row_on m p f c (PvNext n) =
+    let o = pv_next_row c f (node_at m n).next in
+    applied_few m (stored_next m n o.stores) p f o.leads o.counts (part-stored_next of cpu lock m n o.stores) (pv_next_few c f (node_at m n).next)
+few_row_on m p f c (StateOf n) =
+    let o = state_row m.setup.spins c f (node_at m n).state in
+    applied_few m (stored_state m n o.stores) p f o.leads o.counts (part-stored_state of cpu lock m n o.stores) (state_few m.setup.spins c f (node_at m n).state)
+few_row_on m p f c HashEntry =
+    let o = hash_row c f (entry_at m f.lock) in
+    applied_few m (stored_entry m f.lock o.stores) p f o.leads o.counts (part-stored_entry of hash m f.lock o.stores) (hash_few c f (entry_at m f.lock))
+few_row_on m p f c Halted =
+    let o = halt_row c f (halted_at m p) in
+    applied_few m (stored_halted m p o.stores) p f o.leads o.counts (part-stored_halted of cpu lock m p o.stores) (halt_few c f (halted_at m p))
+few_row_on m p f c (KickOf q) =
+    let o = kick_row c f (kicked_at m q) in
+    applied_few m (stored_kicked m q o.stores) p f o.leads o.counts (part-stored_kicked of cpu lock m q o.stores) (kick_few c f (kicked_at m q))
 
 few_row_at : (m : Machine) (p : ℕ) (f : Frame) (o : Option Pc) → Rises m (row_at m p f o).0
 few_row_at m p f None = still m m refl

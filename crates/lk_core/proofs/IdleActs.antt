@@ -1,7 +1,7 @@
 -- An act is idle exactly where it is said to be.
 use Rattle.std.proofs.Common.{◌≡◌, ℕ, Option, Some, None, Bool, true, false, inl, inr, arith, ap, ◌<◌, ◌+◌, refl, ◌∙◌, length}
 use Rattle.std.specs.Prelude.{if◌then◌else◌, ◌||◌, ◌&&◌, ◌==◌, not, nat_le, slice_get}
-use Rattle.std.proofs.lemmas.Bool.{le-leb, leb-true, false_from_ne_true, true_from_ne_false, or_left, or_right, or_cases, and_from, and_parts, not-true, not_from_false}
+use Rattle.std.proofs.lemmas.Bool.{cases_Bool, le-leb, leb-true, false_from_ne_true, true_from_ne_false, or_left, or_right, or_cases, and_from, and_parts, not-true, not_from_false}
 use Rattle.lk_abs.specs.History.{LockHistory}
 use Rattle.lk_abs.specs.declared.names.LockName.{LockName}
 use Rattle.lk_abs.specs.declared.events.Act.{Act}
@@ -9,15 +9,16 @@ use Rattle.lk_abs.specs.declared.events.Act.TheVariants as act
 use Rattle.lk_machine.specs.declared.setup.Op.{Op}
 use Rattle.lk_machine.specs.declared.parts.Frame.{Frame}
 use Rattle.lk_machine.specs.declared.parts.Pc.{Pc}
-use Rattle.lk_machine.specs.Machine.{Machine, CpuState, cpu_at, depth_at, preempted_at, halted_at, handlers_at, top_frame, set_preempted, set_top, push, pop}
+use Rattle.lk_machine.specs.Machine.{Machine, CpuState, cpu_at, depth_at, preempted_at, halted_at, kicked_at, handlers_at, top_frame, set_preempted, set_top, push, pop}
 use Rattle.lk_machine.specs.Programs.{handlers_of}
 use Rattle.lk_machine.specs.Moves.{settled, settled_at, program_of, started}
 use Rattle.lk_machine.specs.Row.{Answer}
 use Rattle.lk_machine.specs.Rows.{row, row_at}
-use Rattle.lk_machine.specs.Acts.{idle, halts, woken, step_halted, is_shut, handler_frame, awake, interrupted, next, processor_of, nudged}
+use Rattle.lk_machine.specs.Acts.{idle, halts, after_halt, woken, kicked_awake, step_halted, is_shut, handler_frame, awake, interrupted, next, processor_of, nudged}
 use Rattle.lk_law.specs.Sound.{ShowsAll}
 use Rattle.lk_core.proofs.Access.{cpu_same}
-use Rattle.lk_core.proofs.Same.{same_set_top, handlers_pop, handlers_push}
+use Rattle.lk_core.proofs.Same.{Same, same_then, same_self, same_set_top, same_set_halted, handlers_pop, handlers_push}
+use Rattle.lk_core.proofs.ActKept.{at_halt}
 use Rattle.lk_core.specs.Idle.{IsIdle, Happens}
 
 handlers_settled_at : (n : Machine) (p : ℕ) (h : Frame) (o : Option Op) (q : ℕ) → handlers_at (settled_at n p h o) q ≡ handlers_at n q
@@ -35,19 +36,47 @@ preempted_now : (m : Machine) (p : ℕ) (b : Bool) → p < length m.cpus → pre
 unfolding preempted_at set_preempted
 preempted_now m p b range = ap (λ (c : CpuState). c.preempted) (cpu_same m p (record (cpu_at m p) { preempted = b }) range)
 
-module _ (m : Machine) (hs : LockName → LockHistory) (shows : ShowsAll m hs) where
-  -- nobody has halted
-  awake_is : (p : ℕ) → halted_at m p ≡ false
-  awake_is p = shows.whole.awake p
+-- the end of a halt leaves how much of everything there is
+pub woken_same : (m : Machine) (p : ℕ) → Same m (woken m p)
+woken_same m p =
+    let g : Frame = record (top_frame m p) { place = after_halt (top_frame m p).place } in
+    same_then m (set_top m p g) (woken m p) (same_set_top m p g) (same_set_halted (set_top m p g) p false)
 
-  pub step_idle : (p : ℕ) → IsIdle m (act.Step p) → next m (act.Step p) ≡ (m, None)
-  step_idle p (inl e) = ap (λ (b : Bool). if b then idle m else (if halted_at m p then step_halted m p else row m p)) e
-  step_idle p (inr (inl e)) = absurd (let z = awake_is p in grind (arith, z, e.0))
-  step_idle p (inr (inr e)) = by (preempted_at m p)
+pub awake_same : (m : Machine) (p : ℕ) → Same m (awake m p)
+awake_same m p = by (halted_at m p)
+  where
+    by : (b : Bool) → Same m (if b then woken m p else m)
+    by true = woken_same m p
+    by false = same_self m
+
+module _ (m : Machine) (hs : LockName → LockHistory) (shows : ShowsAll m hs) where
+  -- a step of a processor that is not preempted
+  abbrev stepped : ℕ → Bool → Answer
+  stepped p b = if b then step_halted m p else row m p
+
+  halted_idle : (p : ℕ) → kicked_at m p ≡ false → step_halted m p ≡ (m, None)
+  halted_idle p e = ap (λ (b : Bool). if b then kicked_awake m p else idle m) e
+
+  halted_wakes : (p : ℕ) → kicked_at m p ≡ true → step_halted m p ≡ kicked_awake m p
+  halted_wakes p e = ap (λ (b : Bool). if b then kicked_awake m p else idle m) e
+
+  -- a processor whose top frame is finished has not halted
+  finished_awake : (p : ℕ) → p < length m.cpus → (top_frame m p).place ≡ None → halted_at m p ≡ false
+  finished_awake p range e =
+      false_from_ne_true (halted_at m p) (λ h. let z = at_halt m p hs shows range h in let y = ap halts e in grind (arith, z, y))
+
+  pub step_idle : (p : ℕ) → p < length m.cpus → IsIdle m (act.Step p) → next m (act.Step p) ≡ (m, None)
+  step_idle p range (inl e) = ap (λ (b : Bool). if b then idle m else stepped p (halted_at m p)) e
+  step_idle p range (inr (inl e)) = by (preempted_at m p)
     where
-      by : (b : Bool) → (if b then idle m else (if halted_at m p then step_halted m p else row m p)) ≡ (m, None)
+      by : (b : Bool) → (if b then idle m else stepped p (halted_at m p)) ≡ (m, None)
       by true = refl
-      by false = rw (awake_is p) (ap (λ (o : Option Pc). row_at m p (top_frame m p) o) e)
+      by false = ap (stepped p) e.0 ∙ halted_idle p e.1
+  step_idle p range (inr (inr e)) = by (preempted_at m p)
+    where
+      by : (b : Bool) → (if b then idle m else stepped p (halted_at m p)) ≡ (m, None)
+      by true = refl
+      by false = ap (stepped p) (finished_awake p range e) ∙ ap (λ (o : Option Pc). row_at m p (top_frame m p) o) e
 
   -- the tests that shut an interrupt out
   abbrev no_room : ℕ → Bool
@@ -80,20 +109,29 @@ module _ (m : Machine) (hs : LockName → LockHistory) (shows : ShowsAll m hs) w
     | inr a ↦ let d = and_parts (halts (top_frame m p).place) (not (halted_at m p)) a in inr (inr (inr (d.0, not-true (halted_at m p) d.1)))
   ]
 
-  pub idle_act : (a : Act) → IsIdle m a → next m a ≡ (m, None)
-  idle_act (act.Step p) e = step_idle p e
-  idle_act (act.Interrupt p) e = ap (λ (b : Bool). if b then idle m else interrupted m p) (shut p e)
-  idle_act (act.Preempt p) e = ap (λ (b : Bool). if b then idle m else (set_preempted m p true, None)) e
-  idle_act (act.Resume p) e = ap (λ (b : Bool). if b then (set_preempted m p false, None) else idle m) e
-  idle_act (act.Nudge p) (inl e) = ap (λ (b : Bool). if b then idle m else nudged m p) (or_left (preempted_at m p) (not (halted_at m p)) e)
-  idle_act (act.Nudge p) (inr e) = ap (λ (b : Bool). if b then idle m else nudged m p) (or_right (preempted_at m p) (not (halted_at m p)) (not_from_false (halted_at m p) e))
+  pub idle_act : (a : Act) → processor_of a < length m.cpus → IsIdle m a → next m a ≡ (m, None)
+  idle_act (act.Step p) range e = step_idle p range e
+  idle_act (act.Interrupt p) range e = ap (λ (b : Bool). if b then idle m else interrupted m p) (shut p e)
+  idle_act (act.Preempt p) range e = ap (λ (b : Bool). if b then idle m else (set_preempted m p true, None)) e
+  idle_act (act.Resume p) range e = ap (λ (b : Bool). if b then (set_preempted m p false, None) else idle m) e
+  idle_act (act.Nudge p) range (inl e) = ap (λ (b : Bool). if b then idle m else nudged m p) (or_left (preempted_at m p) (not (halted_at m p)) e)
+  idle_act (act.Nudge p) range (inr e) = ap (λ (b : Bool). if b then idle m else nudged m p) (or_right (preempted_at m p) (not (halted_at m p)) (not_from_false (halted_at m p) e))
 
   -- an act that is not idle
 
-  busy_step : (p : ℕ) → ¬ IsIdle m (act.Step p) → next m (act.Step p) ≡ row m p
-  busy_step p busy =
-      let calm : preempted_at m p ≡ false = false_from_ne_true (preempted_at m p) (λ e. busy (inl e)) in
-      ap (λ (b : Bool). if b then idle m else (if halted_at m p then step_halted m p else row m p)) calm ∙ ap (λ (b : Bool). if b then step_halted m p else row m p) (awake_is p)
+  busy_step : (p : ℕ) → ¬ IsIdle m (act.Step p) → Happens m (act.Step p) (next m (act.Step p)).0 (next m (act.Step p)).1
+  busy_step p busy = elim (cases_Bool (halted_at m p)) [
+    | inl h ↦
+        let kicked : kicked_at m p ≡ true = true_from_ne_false (kicked_at m p) (λ e. busy (inr (inl (h, e)))) in
+        let e : next m (act.Step p) ≡ kicked_awake m p = runs ∙ ap (stepped p) h ∙ halted_wakes p kicked in
+        inr (h, ap (λ (x : Answer). x.0) e, ap (λ (x : Answer). x.1) e)
+    | inr h ↦
+        let e : next m (act.Step p) ≡ row m p = runs ∙ ap (stepped p) h in
+        inl (h, ap (λ (x : Answer). x.0) e, ap (λ (x : Answer). x.1) e)
+  ]
+    where
+      runs : next m (act.Step p) ≡ stepped p (halted_at m p)
+      runs = ap (λ (b : Bool). if b then idle m else stepped p (halted_at m p)) (false_from_ne_true (preempted_at m p) (λ e. busy (inl e)))
 
   busy_interrupt : (p : ℕ) → p < length m.cpus → ¬ IsIdle m (act.Interrupt p) → next m (act.Interrupt p) ≡ interrupted m p
   busy_interrupt p range busy = ap (λ (b : Bool). if b then idle m else interrupted m p) (false_from_ne_true (is_shut m p) (λ e. busy (shut_idle p range e)))
@@ -101,11 +139,11 @@ module _ (m : Machine) (hs : LockName → LockHistory) (shows : ShowsAll m hs) w
   busy_handlers : (p : ℕ) → p < length m.cpus → handlers_at (interrupted m p).0 p ≡ handlers_at m p + 1
   busy_handlers p range =
       let f = handler_frame m p in
-      let still : awake m p ≡ m = ap (λ (b : Bool). if b then woken m p else m) (awake_is p) in
-      handlers_settled (push (awake m p) p f) p f p ∙ ap (λ (x : Machine). handlers_at (push x p f) p) still ∙ handlers_push m p f range
+      let same = awake_same m p in
+      handlers_settled (push (awake m p) p f) p f p ∙ handlers_push (awake m p) p f (rw same.keeps.cpus range) ∙ ap (λ (n : ℕ). n + 1) (same.handlers p)
 
   pub busy_act : (a : Act) → processor_of a < length m.cpus → ¬ IsIdle m a → Happens m a (next m a).0 (next m a).1
-  busy_act (act.Step p) range busy = let e = busy_step p busy in inl (awake_is p, ap (λ (x : Answer). x.0) e, ap (λ (x : Answer). x.1) e)
+  busy_act (act.Step p) range busy = busy_step p busy
   busy_act (act.Interrupt p) range busy =
       let e = busy_interrupt p range busy in
       (ap (λ (x : Answer). x.1) e, ap (λ (x : Answer). handlers_at x.0 p) e ∙ busy_handlers p range)
@@ -115,4 +153,7 @@ module _ (m : Machine) (hs : LockName → LockHistory) (shows : ShowsAll m hs) w
   busy_act (act.Resume p) range busy =
       let e : next m (act.Resume p) ≡ (set_preempted m p false, None) = ap (λ (b : Bool). if b then (set_preempted m p false, None) else idle m) (true_from_ne_false (preempted_at m p) busy) in
       (ap (λ (x : Answer). x.1) e, ap (λ (x : Answer). preempted_at x.0 p) e ∙ preempted_now m p false range)
-  busy_act (act.Nudge p) range busy = absurd (busy (inr (awake_is p)))
+  busy_act (act.Nudge p) range busy =
+      let calm : preempted_at m p ≡ false = false_from_ne_true (preempted_at m p) (λ e. busy (inl e)) in
+      let halted : halted_at m p ≡ true = true_from_ne_false (halted_at m p) (λ e. busy (inr e)) in
+      ap (λ (x : Answer). x.1) (ap (λ (b : Bool). if b || not (halted_at m p) then idle m else nudged m p) calm ∙ ap (λ (b : Bool). if not b then idle m else nudged m p) halted)

@@ -1,14 +1,18 @@
 mod Lists
 mod Access
+mod Entries
 mod Worlds
 mod Same
 mod Walks
 mod Settle
 mod RowsFit
+mod NodesFit
 mod Moved
 mod Leads
+mod Kicks
 mod Stores
 mod Reach
+mod RwMoved
 mod RowKept
 mod ActKept
 mod Parts
@@ -18,6 +22,6 @@ mod Rest
 mod Runs
 mod CountsKept
 mod IdleActs
+mod HashRoom
 mod ReadyRows
 mod ActDone
-mod Fixtures

@@ -1,27 +1,30 @@
 -- The top frame goes where its row leads: on every machine on which it is ready, the general application is the change of worlds, and
 -- the machine shows the histories that the world agrees with.
-use Rattle.std.proofs.Common.{◌≡◌, ℕ, Option, Some, None, Bool, true, false, List, [], ◌∷◌, inl, inr, arith, ap, ◌<◌, ◌≤◌, ◌+◌, refl, sym, ◌∙◌, subst, slice_get, length}
+use Rattle.std.proofs.Common.{◌≡◌, ℕ, Option, Some, None, true, List, [], ◌∷◌, inl, inr, arith, ap, ◌<◌, ◌≤◌, ◌+◌, refl, sym, ◌∙◌, subst, slice_get, length}
 use Rattle.std.specs.Prelude.{if◌then◌else◌, ◌&&◌}
 use Rattle.std.proofs.lemmas.Option.{same_Some, none-some, slice_get_within}
 use Rattle.lk_abs.specs.Names.{same_waiter, same_lock}
-use Rattle.lk_abs.specs.History.{LockHistory, Manner}
+use Rattle.lk_abs.specs.History.{LockHistory}
+use Rattle.lk_abs.specs.declared.holder.Manner.{Manner}
 use Rattle.lk_abs.specs.declared.names.Waiter.{Waiter}
 use Rattle.lk_abs.specs.declared.names.LockName.{LockName}
 use Rattle.lk_machine.specs.declared.parts.Frame.{Frame}
 use Rattle.lk_machine.specs.declared.parts.Pc.{Pc}
-use Rattle.lk_machine.specs.Machine.{Machine, frame_at, handlers_at, top_of, set_top, HasTop}
+use Rattle.lk_machine.specs.Machine.{Machine, frame_at, handlers_at, top_of, set_top, HasTop, HasNode}
 use Rattle.lk_machine.specs.declared.setup.Setup.{Setup}
-use Rattle.lk_machine.specs.Programs.{way_after, way_at, is_try, program_at}
+use Rattle.lk_machine.specs.Programs.{is_try, program_at}
 use Rattle.lk_machine.specs.Moves.{program_of, settled, skipped}
-use Rattle.lk_machine.specs.Row.{Change, Prev, Second, Y, Left, changed, changed_all}
-use Rattle.lk_law.specs.World.{World, IsSoundWorld, put_frame, put_held}
-use Rattle.lk_law.specs.Sound.{world, held_in, held_at, held_of, BelongsTo, Works, Fits, IsWhole, ShowsAll}
-use Rattle.lk_law.proofs.Cases.{waiter_cases, lock_cases}
-use Rattle.lk_law.proofs.Sames.{same_waiter-self, same_lock-self}
-use Rattle.lk_law.proofs.Puts.{same_waiter-else, same_lock-else}
+use Rattle.lk_machine.specs.Row.{Change, Prev, Second, Y, Left, A, B, K, T, Reason, Tailed, HashedIs, TargetIs, changed, changed_all}
+use Rattle.lk_law.specs.World.{World, put_frame, put_held}
+use Rattle.lk_law.specs.Sound.{world, held_in, held_at, held_of, Works, Fits, IsWhole, ShowsAll, held_idle, Stage, after_wait}
+use Rattle.lk_law.specs.Whole.{IsWholeWorld}
+use Rattle.lk_machine.specs.Moves.{rw_name}
+use Rattle.lk_law.proofs.Cases.{waiter_cases}
+use Rattle.lk_law.proofs.Sames.{same_waiter-self}
+use Rattle.lk_law.proofs.Puts.{same_waiter-else}
 use Rattle.lk_core.proofs.Worlds.{alike, world-set_top}
 use Rattle.lk_core.proofs.Same.{Same, top_same, same_set_top, whole_same, fits_kept}
-use Rattle.lk_core.proofs.Walks.{HoldsNow, works_plain, holds_done, holds_missed, skip_within}
+use Rattle.lk_core.proofs.Walks.{HoldsNow, IsOuter, NodesIn, holds_missed, skip_within}
 use Rattle.lk_core.proofs.Settle.{fits_all, settled_shows}
 
 -- the operation of a frame is the same
@@ -31,7 +34,8 @@ works_kept s t p f c e w =
       op = w.op;
       is = subst (λ (x : Setup). slice_get (program_at x p f.program) f.«at» ≡ Some w.op) (sym e) w.is;
       lock = w.lock;
-      row = subst (λ (x : Setup). BelongsTo x.mode w.op.verb c) (sym e) w.row;
+      stage = subst (λ (x : Setup). Stage x.mode w.op.verb f c) (sym e) w.stage;
+      after = w.after;
     }
 
 -- The machine is whole and its frames fit; f stands on top of p, at the row c.
@@ -41,6 +45,10 @@ pub record Ready (n : Machine) (p : ℕ) (f : Frame) (c : Pc) : Type 0 where
   pub fits : (u : Waiter) (g : Frame) → frame_at n u ≡ Some g → Fits n u g
   pub live : frame_at n (top_of n p) ≡ Some f
   pub works : Works n.setup.mode (program_of n p f) f c
+
+-- the nodes that the frame has met are the machine's
+abbrev pub ready_nodes : (n : Machine) (p : ℕ) (f : Frame) (c : Pc) → Ready n p f c → NodesIn (HasNode n) f
+ready_nodes n p f c r = let fit = r.fits (top_of n p) f r.live in record { prev = fit.prev; target = fit.target }
 
 -- a machine with other words or nodes is ready too
 abbrev pub ready_same : (n k : Machine) (p : ℕ) (f : Frame) (c : Pc) → Ready n p f c → Same n k → ((u : Waiter) → frame_at k u ≡ frame_at n u) → Ready k p f c
@@ -63,6 +71,8 @@ holding_same m w o held each =
     alike (holding m w o held) (put_frame m w o) (record {
       mode = refl;
       turns = refl;
+      threshold = refl;
+      sockets = refl;
       word = λ l. refl;
       node = λ n. refl;
       frame = λ u. refl;
@@ -73,15 +83,22 @@ holding_same m w o held each =
         | inr ne ↦ rw (same_waiter-else u w ne) refl
       ];
       queued = λ q. refl;
+      rw = λ i. refl;
+      kind = λ i. refl;
+      entry = λ k. refl;
+      halted = λ q. refl;
+      kicked = λ q. refl;
     })
 
 -- the frame of w changes, and its hold of one lock
-holding_put : (m : World) (w : Waiter) (o : Option Frame) (held : LockName → Option Manner) (k : LockName) (way : Option Manner)
+pub holding_put : (m : World) (w : Waiter) (o : Option Frame) (held : LockName → Option Manner) (k : LockName) (way : Option Manner)
     → ((l : LockName) → held l ≡ (if same_lock l k then way else m.held w l)) → holding m w o held ≡ put_held (put_frame m w o) w k way
 holding_put m w o held k way each =
     alike (holding m w o held) (put_held (put_frame m w o) w k way) (record {
       mode = refl;
       turns = refl;
+      threshold = refl;
+      sockets = refl;
       word = λ l. refl;
       node = λ n. refl;
       frame = λ u. refl;
@@ -92,7 +109,18 @@ holding_put m w o held k way each =
         | inr ne ↦ rw (same_waiter-else u w ne) refl
       ];
       queued = λ q. refl;
+      rw = λ i. refl;
+      kind = λ i. refl;
+      entry = λ k. refl;
+      halted = λ q. refl;
+      kicked = λ q. refl;
     })
+
+-- the frame stands at the same position of the same program
+pub record SamePlace (f g : Frame) : Type 0 where
+  pub ctx : g.ctx ≡ f.ctx
+  pub program : g.program ≡ f.program
+  pub position : g.«at» ≡ f.«at»
 
 -- changes of registers leave the rest of the frame
 pub record SameBut (f g : Frame) : Type 0 where
@@ -100,19 +128,28 @@ pub record SameBut (f g : Frame) : Type 0 where
   pub program : g.program ≡ f.program
   pub position : g.«at» ≡ f.«at»
   pub lock : g.lock ≡ f.lock
+  pub next : g.then ≡ f.then
 
 same_changed : (f : Frame) (c : Change) → SameBut f (changed f c)
-same_changed f (Prev n) = record { ctx = refl; program = refl; position = refl; lock = refl }
-same_changed f (Second n) = record { ctx = refl; program = refl; position = refl; lock = refl }
-same_changed f (Y n) = record { ctx = refl; program = refl; position = refl; lock = refl }
-same_changed f (Left n) = record { ctx = refl; program = refl; position = refl; lock = refl }
+same_changed f (Prev n) = record { ctx = refl; program = refl; position = refl; lock = refl; next = refl }
+same_changed f (Second n) = record { ctx = refl; program = refl; position = refl; lock = refl; next = refl }
+same_changed f (Y n) = record { ctx = refl; program = refl; position = refl; lock = refl; next = refl }
+same_changed f (Left n) = record { ctx = refl; program = refl; position = refl; lock = refl; next = refl }
+same_changed f (A n) = record { ctx = refl; program = refl; position = refl; lock = refl; next = refl }
+same_changed f (B n) = record { ctx = refl; program = refl; position = refl; lock = refl; next = refl }
+same_changed f (K n) = record { ctx = refl; program = refl; position = refl; lock = refl; next = refl }
+same_changed f (T n) = record { ctx = refl; program = refl; position = refl; lock = refl; next = refl }
+same_changed f (Reason n) = record { ctx = refl; program = refl; position = refl; lock = refl; next = refl }
+same_changed f (Tailed n) = record { ctx = refl; program = refl; position = refl; lock = refl; next = refl }
+same_changed f (HashedIs n) = record { ctx = refl; program = refl; position = refl; lock = refl; next = refl }
+same_changed f (TargetIs n) = record { ctx = refl; program = refl; position = refl; lock = refl; next = refl }
 
 pub same_changed_all : (f : Frame) (cs : List Change) → SameBut f (changed_all f cs)
-same_changed_all f [] = record { ctx = refl; program = refl; position = refl; lock = refl }
+same_changed_all f [] = record { ctx = refl; program = refl; position = refl; lock = refl; next = refl }
 same_changed_all f (c ∷ cs) =
     let a = same_changed f c in
     let b = same_changed_all (changed f c) cs in
-    record { ctx = b.ctx ∙ a.ctx; program = b.program ∙ a.program; position = b.position ∙ a.position; lock = b.lock ∙ a.lock }
+    record { ctx = b.ctx ∙ a.ctx; program = b.program ∙ a.program; position = b.position ∙ a.position; lock = b.lock ∙ a.lock; next = b.next ∙ a.next }
 
 module _ (n : Machine) (p : ℕ) (f : Frame) (c : Pc) (hs : LockName → LockHistory) (r : Ready n p f c) where
   abbrev w : Waiter
@@ -124,15 +161,13 @@ module _ (n : Machine) (p : ℕ) (f : Frame) (c : Pc) (hs : LockName → LockHis
   fit : Fits n w f
   fit = r.fits w f r.live
 
-  plain : f.lock.wait ≡ false
-  plain = works_plain n.setup.mode (program_of n p f) f c r.works
-
   held_here : (l : LockName) → held_of n w l ≡ held_in (program_of n p f) f l
   held_here l = ap (held_at n w l) r.live
 
-  -- a frame goes on in its operation
-  module _ (g : Frame) (d : Pc) (same : SameBut f g) (at : g.place ≡ Some d) (row : BelongsTo n.setup.mode r.works.op.verb d) where
-    goes_fit : Fits n w g
+  -- a frame goes on in its operation, and holds the lock k in this way
+  module _ (g : Frame) (d : Pc) (same : SamePlace f g) (at : g.place ≡ Some d) (lock : g.lock.index ≡ f.lock.index) (stage : Stage n.setup.mode r.works.op.verb g d)
+      (after : g.lock.wait ≡ true → g.then ≡ after_wait r.works.op.verb) (nodes : NodesIn (HasNode n) g) where
+    pub goes_fit : Fits n w g
     goes_fit =
         record {
           ctx = same.ctx ∙ fit.ctx;
@@ -144,70 +179,59 @@ module _ (n : Machine) (p : ℕ) (f : Frame) (c : Pc) (hs : LockName → LockHis
               record {
                 op = r.works.op;
                 is = subst (λ (i : ℕ). slice_get (program_of n p g) i ≡ Some r.works.op) (sym same.position) (subst (λ (i : ℕ). slice_get (program_at n.setup p i) f.«at» ≡ Some r.works.op) (sym same.program) r.works.is);
-                lock = same.lock ∙ r.works.lock;
-                row = subst (λ (y : Pc). BelongsTo n.setup.mode r.works.op.verb y) dx row;
+                lock = lock ∙ r.works.lock;
+                stage = subst (λ (y : Pc). Stage n.setup.mode r.works.op.verb g y) dx stage;
+                after = after;
               };
+          prev = nodes.prev;
+          target = nodes.target;
         }
 
-    goes_held : (l : LockName) → held_at n w l (Some g) ≡ held_of n w l
-    goes_held l = go l.wait ∙ sym (held_here l)
-      where
-        go : (b : Bool) → (if b then None else way_at (program_of n p g) g.«at» l.index) ≡ (if b then None else way_at (program_of n p f) f.«at» l.index)
-        go true = refl
-        go false =
-            subst (λ (i : ℕ). way_at (program_of n p g) i l.index ≡ way_at (program_of n p f) f.«at» l.index) (sym same.position)
-            (ap (λ (i : ℕ). way_at (program_at n.setup p i) f.«at» l.index) same.program)
-
-    goes_put : (l : LockName) → held_at n w l (Some g) ≡ (if same_lock l f.lock then held_of n w f.lock else held_of n w l)
-    goes_put l = goes_held l ∙ elim (lock_cases l f.lock) [
-      | inl e ↦ ap (λ (k : LockName). held_of n w k) e ∙ sym (ap (λ (b : Bool). if b then held_of n w f.lock else held_of n w l) (ap (λ (k : LockName). same_lock k f.lock) e ∙ same_lock-self f.lock))
-      | inr ne ↦ sym (ap (λ (b : Bool). if b then held_of n w f.lock else held_of n w l) (same_lock-else l f.lock ne))
-    ]
-
-    pub goes_shows : IsSoundWorld (put_held (put_frame (world n) w (Some g)) w f.lock (held_of n w f.lock)) hs → ShowsAll (set_top n p g) hs
-    goes_shows sound =
-        let k : Machine = set_top n p g in
+    pub goes_shows : (k : LockName) (way : Option Manner) → ((l : LockName) → held_at n w l (Some g) ≡ (if same_lock l k then way else held_of n w l))
+        → IsWholeWorld (put_held (put_frame (world n) w (Some g)) w k way) hs → ShowsAll (set_top n p g) hs
+    goes_shows k way each sound =
+        let m : Machine = set_top n p g in
         let s = same_set_top n p g in
         let is = world-set_top n p g top in
         record {
-          whole = whole_same n k r.whole s;
-          world = subst (λ (x : World). IsSoundWorld x hs) (sym (is ∙ holding_put (world n) w (Some g) (λ l. held_at n w l (Some g)) f.lock (held_of n w f.lock) goes_put)) sound;
-          fits = fits_all n k w (Some g) s.keeps (λ u. ap (λ (x : World). x.frame u) is)
-              (λ x e. subst (λ (y : Frame). Fits k w y) (same_Some g x e) (fits_kept n k w g s.keeps goes_fit)) (λ u x ne e. r.fits u x e);
+          whole = whole_same n m r.whole s;
+          world = subst (λ (x : World). IsWholeWorld x hs) (sym (is ∙ holding_put (world n) w (Some g) (λ l. held_at n w l (Some g)) k way each)) sound;
+          fits = fits_all n m w (Some g) s.keeps (λ u. ap (λ (x : World). x.frame u) is)
+              (λ x e. subst (λ (y : Frame). Fits m w y) (same_Some g x e) (fits_kept n m w g s.keeps goes_fit)) (λ u x ne e. r.fits u x e);
         }
 
   -- an operation has ended
-  module _ (d : Frame) (place : d.place ≡ None) (me : f.me ≡ d.me) (second : f.second ≡ d.second) where
-    ended_shows : (i : ℕ) (way : Option Manner) → i ≤ length (program_of n p f) → HoldsNow (program_of n p f) f (record f { «at» = i }) way
-        → IsSoundWorld (put_held (put_frame (world n) w (Some d)) w f.lock way) hs → ShowsAll (settled n p (record f { «at» = i })) hs
-    ended_shows i way low holds sound =
+  module _ (d : Frame) (place : d.place ≡ None) (me : f.me ≡ d.me) (lock : f.lock ≡ d.lock) (next : f.then ≡ d.then) where
+    pub ended_shows : (i : ℕ) (k : LockName) (way : Option Manner) → i ≤ length (program_of n p f) → HoldsNow (program_of n p f) f (record f { «at» = i }) k way
+        → IsWholeWorld (put_held (put_frame (world n) w (Some d)) w k way) hs → ShowsAll (settled n p (record f { «at» = i })) hs
+    ended_shows i k way low holds sound =
         let h : Frame = record f { «at» = i } in
-        let each : (l : LockName) → held_in (program_of n p h) h l ≡ (if same_lock l f.lock then way else held_of n w l) = λ l. holds l ∙ ap (λ (x : Option Manner). if same_lock l f.lock then way else x) (sym (held_here l)) in
+        let each : (l : LockName) → held_idle (program_of n p h) h l ≡ (if same_lock l k then way else held_of n w l) = λ l. holds l ∙ ap (λ (x : Option Manner). if same_lock l k then way else x) (sym (held_here l)) in
         settled_shows n p d h hs (record {
           whole = r.whole;
           range = r.range;
           others = λ u g ne e. r.fits u g e;
-          world = subst (λ (x : World). IsSoundWorld x hs) (sym (holding_put (world n) w (Some d) (λ l. held_in (program_of n p h) h l) f.lock way each)) sound;
+          world = subst (λ (x : World). IsWholeWorld x hs) (sym (holding_put (world n) w (Some d) (λ l. held_idle (program_of n p h) h l) k way each)) sound;
           place = place;
           me = me;
-          second = second;
+          lock = lock;
+          next = next;
           ctx = fit.ctx;
           program = fit.program;
           within = low;
+          nodes = record { prev = fit.prev; target = fit.target };
         })
 
-    pub done_shows : (way : Option Manner) → way_after r.works.op.verb ≡ way → IsSoundWorld (put_held (put_frame (world n) w (Some d)) w f.lock way) hs
+    pub done_shows : (k : LockName) (way : Option Manner) → HoldsNow (program_of n p f) f (record f { «at» = f.«at» + 1 }) k way → IsWholeWorld (put_held (put_frame (world n) w (Some d)) w k way) hs
         → ShowsAll (settled n p (record f { «at» = f.«at» + 1 })) hs
-    done_shows way after sound =
+    done_shows k way holds sound =
         let low = slice_get_within (program_of n p f) f.«at» r.works.op r.works.is in
-        ended_shows (f.«at» + 1) way (omega arith)
-        (subst (λ (x : Option Manner). HoldsNow (program_of n p f) f (record f { «at» = f.«at» + 1 }) x) after (holds_done n.setup.mode (program_of n p f) f (record f { «at» = f.«at» + 1 }) c r.works refl))
-        sound
+        ended_shows (f.«at» + 1) k way (omega arith) holds sound
 
-    pub missed_shows : is_try r.works.op.verb ≡ true → IsSoundWorld (put_held (put_frame (world n) w (Some d)) w f.lock (held_of n w f.lock)) hs
+    pub missed_shows : IsOuter f → is_try r.works.op.verb ≡ true → IsWholeWorld (put_held (put_frame (world n) w (Some d)) w (rw_name f.lock.index) (held_of n w (rw_name f.lock.index))) hs
         → ShowsAll (settled n p (record f { «at» = f.«at» + skipped n p f })) hs
-    missed_shows tries sound =
-        ended_shows (f.«at» + skipped n p f) (held_of n w f.lock) (skip_within (program_of n p f) f.«at» f.lock.index r.works.op r.works.is)
-        (subst (λ (x : Option Manner). HoldsNow (program_of n p f) f (record f { «at» = f.«at» + skipped n p f }) x) (sym (held_here f.lock))
-        (holds_missed n.setup.mode (program_of n p f) f (record f { «at» = f.«at» + skipped n p f }) c r.works n.setup.locks.items (r.whole.setup.lawful p f.program) tries refl))
+    missed_shows outer tries sound =
+        ended_shows (f.«at» + skipped n p f) (rw_name f.lock.index) (held_of n w (rw_name f.lock.index)) (skip_within (program_of n p f) f.«at» f.lock.index r.works.op r.works.is)
+        (subst (λ (x : Option Manner). HoldsNow (program_of n p f) f (record f { «at» = f.«at» + skipped n p f }) (rw_name f.lock.index) x) (sym (held_here (rw_name f.lock.index)))
+        (holds_missed (program_of n p f) f (record f { «at» = f.«at» + skipped n p f }) r.works.op r.works.is r.works.lock outer n.setup.locks.items (r.whole.setup.lawful p f.program) tries refl))
         sound

@@ -7,23 +7,35 @@ use Rattle.lk_word.specs.declared.spin_word.NodeName.{NodeName}
 use Rattle.lk_word.specs.declared.spin_word.Fields.{Fields}
 use Rattle.lk_machine.specs.declared.setup.Op.{Op}
 use Rattle.lk_machine.specs.declared.parts.Flag.{Flag}
+use Rattle.lk_machine.specs.declared.parts.State.{State}
 use Rattle.lk_machine.specs.declared.parts.Frame.{Frame}
 use Rattle.lk_machine.specs.declared.parts.Node.{Node}
-use Rattle.lk_machine.specs.Machine.{Machine, CpuState, LockState, cpu_at, lock_at, node_at, queued_at, depth_at, preempted_at, halted_at, kicked_at, top_frame, set_cpu, set_lock, set_word, set_node, set_top, set_queued, set_preempted, set_halted, set_kicked, pop, push, rest_node}
-use Rattle.lk_machine.specs.Moves.{settled, settled_at, program_of, started, done, granted, missed, skipped, leave}
-use Rattle.lk_machine.specs.Row.{Lead, Goes, Enters, Granted, Freed, Missed, Leaves, gone, entered, moved, with_rest}
-use Rattle.lk_machine.specs.Rows.{stored_word, stored_flag, stored_next, stored_queued}
+use Rattle.lk_machine.specs.Machine.{Machine, CpuState, LockState, cpu_at, lock_at, node_at, queued_at, depth_at, preempted_at, halted_at, kicked_at, top_frame, set_cpu, set_lock, set_word, set_node, set_top, set_queued, set_preempted, set_halted, set_kicked, set_entry, pop, push, rest_node, set_rw}
+use Rattle.lk_machine.specs.Moves.{settled, settled_at, program_of, started, done, granted, missed, skipped, leave, waiting}
+use Rattle.lk_machine.specs.Row.{Lead, Goes, Enters, Granted, Freed, Missed, Leaves, Yields, gone, entered, moved, with_rest, Done, TakesWait}
+use Rattle.lk_machine.specs.Rows.{stored_word, stored_rw, stored_flag, stored_next, stored_second, stored_runs, stored_state, stored_entry, stored_halted, stored_kicked, stored_queued}
 use Rattle.lk_machine.specs.Acts.{idle, woken, kicked_awake, step_halted, is_shut, handler_frame, awake, interrupted, nudged, next, after_halt}
+use Rattle.lk_word.specs.declared.rw_word.RwFields.{RwFields}
 
 -- one of two machines
 either : {A : Type 0} (F : Machine → A) (t : Bool) (a b : Machine) (x : A) → F a ≡ x → F b ≡ x → F (if t then a else b) ≡ x
 either F true a b x e d = e
 either F false a b x e d = d
 
+-- a store in the hash
+pub part-stored_entry : {A : Type 0} (F : Machine → A) → ((m : Machine) (l : LockName) (n : Option NodeName) → F (set_entry m l n) ≡ F m)
+    → (m : Machine) (l : LockName) (o : Option (Option NodeName)) → F (stored_entry m l o) ≡ F m
+part-stored_entry F entry m l None = refl
+part-stored_entry F entry m l (Some x) = entry m l x
+
 module _ {A : Type 0} (F : Machine → A) (cpu : (m : Machine) (p : ℕ) (c : CpuState) → F (set_cpu m p c) ≡ F m) (lock : (m : Machine) (i : ℕ) (x : LockState) → F (set_lock m i x) ≡ F m) where
   part-set_word : (m : Machine) (l : LockName) (x : Fields) → F (set_word m l x) ≡ F m
   unfolding set_word
   part-set_word m l x = lock m l.index (if l.wait then record (lock_at m l.index) { wait = x } else record (lock_at m l.index) { spin = x })
+
+  part-set_rw : (m : Machine) (i : ℕ) (x : RwFields) → F (set_rw m i x) ≡ F m
+  unfolding set_rw
+  part-set_rw m i x = lock m i (record (lock_at m i) { rw = x })
 
   part-set_node : (m : Machine) (n : NodeName) (x : Node) → F (set_node m n x) ≡ F m
   unfolding set_node
@@ -91,10 +103,17 @@ module _ {A : Type 0} (F : Machine → A) (cpu : (m : Machine) (p : ℕ) (c : Cp
   part-moved m p f Freed = part-done m p
   part-moved m p f Missed = part-missed m p
   part-moved m p f Leaves = part-granted (leave m p) p ∙ part-leave m p
+  part-moved m p f Done = part-done m p
+  part-moved m p f (Yields c cs) = part-set_top m p (gone f c cs)
+  part-moved m p f (TakesWait c) = part-set_top m p (waiting f c)
 
   pub part-stored_word : (m : Machine) (f : Frame) (o : Option Fields) → F (stored_word m f o) ≡ F m
   part-stored_word m f None = refl
   part-stored_word m f (Some x) = part-set_word m f.lock x
+
+  pub part-stored_rw : (m : Machine) (i : ℕ) (o : Option RwFields) → F (stored_rw m i o) ≡ F m
+  part-stored_rw m i None = refl
+  part-stored_rw m i (Some x) = part-set_rw m i x
 
   pub part-stored_flag : (m : Machine) (n : NodeName) (o : Option Flag) → F (stored_flag m n o) ≡ F m
   part-stored_flag m n None = refl
@@ -103,6 +122,26 @@ module _ {A : Type 0} (F : Machine → A) (cpu : (m : Machine) (p : ℕ) (c : Cp
   pub part-stored_next : (m : Machine) (n : NodeName) (o : Option (Option NodeName)) → F (stored_next m n o) ≡ F m
   part-stored_next m n None = refl
   part-stored_next m n (Some x) = part-set_node m n (record (node_at m n) { next = x })
+
+  pub part-stored_second : (m : Machine) (n : NodeName) (o : Option (Option NodeName)) → F (stored_second m n o) ≡ F m
+  part-stored_second m n None = refl
+  part-stored_second m n (Some x) = part-set_node m n (record (node_at m n) { second_tail = x })
+
+  pub part-stored_runs : (m : Machine) (n : NodeName) (o : Option ℕ) → F (stored_runs m n o) ≡ F m
+  part-stored_runs m n None = refl
+  part-stored_runs m n (Some x) = part-set_node m n (record (node_at m n) { runs = x })
+
+  pub part-stored_state : (m : Machine) (n : NodeName) (o : Option State) → F (stored_state m n o) ≡ F m
+  part-stored_state m n None = refl
+  part-stored_state m n (Some x) = part-set_node m n (record (node_at m n) { state = x })
+
+  pub part-stored_halted : (m : Machine) (p : ℕ) (o : Option Bool) → F (stored_halted m p o) ≡ F m
+  part-stored_halted m p None = refl
+  part-stored_halted m p (Some b) = part-set_halted m p b
+
+  pub part-stored_kicked : (m : Machine) (p : ℕ) (o : Option Bool) → F (stored_kicked m p o) ≡ F m
+  part-stored_kicked m p None = refl
+  part-stored_kicked m p (Some b) = part-set_kicked m p b
 
   pub part-stored_queued : (m : Machine) (p : ℕ) (o : Option ℕ) → F (stored_queued m p o) ≡ F m
   part-stored_queued m p None = refl

@@ -1,21 +1,36 @@
 -- On a sound machine the top frame can make its row.
-use Rattle.std.proofs.Common.{◌≡◌, ℕ, zero, suc, inl, inr, Some, Bool, true, false, arith, ap, ◌<◌, ◌≤◌, ◌+◌, ◌-◌, ◌^◌, length}
-use Rattle.std.specs.Prelude.{if◌then◌else◌}
+use Rattle.std.proofs.Common.{◌≡◌, ◌⊎◌, ℕ, zero, suc, inl, inr, Option, Some, None, Bool, true, false, arith, ap, ◌<◌, ◌≤◌, ◌+◌, ◌-◌, ◌*◌, ◌^◌, refl, sym, ◌∙◌, length}
+use Rattle.std.specs.Prelude.{if◌then◌else◌, is_some, slice_get}
 use Rattle.std.proofs.lemmas.Bool.{cases_eq}
 use Rattle.std.proofs.lemmas.Option.{slice_get_within}
 use Rattle.lk_abs.specs.History.{LockHistory}
 use Rattle.lk_abs.specs.declared.names.Waiter.{Waiter}
 use Rattle.lk_abs.specs.declared.names.LockName.{LockName}
+use Rattle.lk_word.specs.declared.spin_word.NodeName.{NodeName}
+use Rattle.lk_machine.specs.declared.parts.Frame.{Frame}
 use Rattle.lk_machine.specs.declared.parts.Pc.{Pc}
-use Rattle.lk_machine.specs.Machine.{Machine, frame_at, queued_at, top_of, top_frame}
+use Rattle.lk_machine.specs.Machine.{Machine, cpu_at, depth_at, frame_at, word_at, entry_at, queued_at, top_of, top_frame}
 use Rattle.lk_machine.specs.Programs.{HasPrograms, handlers_of, kind_of}
-use Rattle.lk_machine.specs.Moves.{CanMove}
+use Rattle.lk_machine.specs.Moves.{CanMove, node_of}
 use Rattle.lk_machine.specs.Ready.{CountsWithin, IsReady}
 use Rattle.lk_law.specs.Snapshot.{before}
-use Rattle.lk_law.specs.World.{slow_in}
-use Rattle.lk_law.specs.Sound.{Fits, ShowsAll}
+use Rattle.lk_law.specs.World.{slow_in, own_in, chooses, may_halt, phase_if}
+use Rattle.lk_law.specs.Whole.{spin_part, is_rw_row}
+use Rattle.lk_law.specs.Sound.{Fits, ShowsAll, world, held_at}
 use Rattle.lk_core.proofs.RowKept.{top_live}
-use Rattle.lk_core.proofs.Reach.{target_within}
+use Rattle.lk_law.proofs.KnowsCna.{run_is_short, skipped_is_queued, queue_is_distinct}
+use Rattle.lk_law.proofs.RwFew.{each_few, readers_are_few}
+use Rattle.lk_law.specs.Phase.{has_node}
+use Rattle.lk_cna.specs.Row.{is_cna_row, IsCnaReady}
+use Rattle.lk_rw.specs.Row.{IsRwReady}
+use Rattle.lk_core.proofs.Access.{frame_within}
+use Rattle.lk_core.proofs.Reach.{target_within, own_here, own_is, phase_there, kick_within}
+use Rattle.lk_core.proofs.HashRoom.{hash_room, front_acts}
+use Rattle.lk_law.specs.Agree.{halts}
+use Rattle.lk_law.specs.Known.{KnownHalting}
+use Rattle.lk_law.proofs.Knows.{row_knows, named_front_is_used}
+use Rattle.lk_pv.specs.Row.{is_pv_row, enters_hash, leaves_hash, IsPvReady}
+use Rattle.lk_machine.specs.declared.parts.Pc.TheVariants.{E6, E9, K3, U3, U5}
 
 before_le : (slow : Waiter → Bool) (p n : ℕ) → before slow p n ≤ n
 before_le slow p zero = omega arith
@@ -54,14 +69,14 @@ module _ (m : Machine) (hs : LockName → LockHistory) (shows : ShowsAll m hs) (
       }
 
   few_queued : queued_at m p ≤ 6
-  few_queued = let e = shows.world.agrees.nodes.counted p in let l = before_le (λ u. slow_in (frame_at m u)) p 6 in omega arith
+  few_queued = let e = shows.world.spins.agrees.nodes.counted p in let l = before_le (λ u. slow_in (frame_at m u)) p 6 in omega arith
 
   pub ready_at : (c : Pc) → (top_frame m p).place ≡ Some c → CountsWithin (2 ^ 64 - 2) m.counts → IsReady m p
   ready_at c at counts =
       let w = fit.working c at in
       let d = (shows.whole.setup.lawful p (top_frame m p).program).declared (top_frame m p).«at» w.op w.is in
       let r = slice_get_within m.setup.locks.items w.op.lock (kind_of w.op.verb) d in
-      let i = ap (λ (l : LockName). l.index) w.lock in
+      let i = w.lock in
       let n = shows.whole.locks in
       record {
         moves = can_move;
@@ -69,4 +84,137 @@ module _ (m : Machine) (hs : LockName → LockHistory) (shows : ShowsAll m hs) (
         queued = few_queued;
         reaches = λ x e. target_within m hs shows (top_of m p) (top_frame m p) (top_live m p hs shows range) x e;
         counts = counts;
+      }
+
+  cna_chooses : (c : Pc) → is_cna_row (Some c) ≡ true → chooses c ≡ true
+  cna_chooses c on = grind arith
+
+  cna_noded : (c : Pc) (prev y : NodeName) (b : Bool) → is_cna_row (Some c) ≡ true → has_node (phase_if (Some c) b prev y) ≡ true
+  cna_noded c prev y b on = grind arith
+
+  ctx_within : (u : Waiter) (f : Frame) → frame_at m u ≡ Some f → u.ctx < 6
+  unfolding frame_at depth_at
+  ctx_within u f e =
+      let top = shows.whole.tops u.cpu (frame_within m u f e) in
+      let low = slice_get_within (cpu_at m u.cpu).frames u.ctx f e in
+      omega (arith, top.few, low)
+
+  abbrev spins_of : LockName → LockHistory
+  spins_of = spin_part (world m).kind hs
+
+  -- a queue has no more waiters than there are frames
+  queue_few : (l : LockName) → length (spins_of l).main ≤ 384
+  queue_few l =
+      let all = queue_is_distinct (world m) (spin_part (world m).kind hs) l shows.world.spins in
+      let cpus = shows.whole.cpus in
+      let count = shows.whole.setup.few in
+      each_few 384 (λ u. (i : ℕ) × (slice_get (spins_of l).main i ≡ Some u)) (spins_of l).main
+      (record { inside = λ i u h. (i, h); place = λ u h. h; once = all.1 })
+      (λ u h. let f = all.0 h.0 u h.1 in
+      let in_cpu = frame_within m u f.0 f.1 in
+      let in_ctx = ctx_within u f.0 f.1 in
+      (in_ctx, omega arith))
+
+  pub cna_ready_at : (c : Pc) → (top_frame m p).place ≡ Some c → is_cna_row (Some c) ≡ true → CountsWithin (2 ^ 64 - 2) m.counts → IsCnaReady m p
+  cna_ready_at c at on counts =
+      let f = top_frame m p in
+      let live = top_live m p hs shows range in
+      record {
+        ready = ready_at c at counts;
+        own = own_here m hs shows (top_of m p) f live c at (cna_noded c (node_of f.prev) (node_of f.y) (is_some f.me) on);
+        few = λ q.
+            let u = skipped_is_queued (world m) (spin_part (world m).kind hs) (top_of m p) f shows.world.spins live q in
+            let low = slice_get_within (spins_of f.lock).main f.k u.0 u.1 in
+            let most = queue_few f.lock in
+            omega (arith, low, most);
+        short = λ q named.
+            let run = run_is_short (world m) (spin_part (world m).kind hs) (top_of m p) f shows.world.spins live q named in
+            let most = shows.whole.setup.threshold in
+            omega (arith, run, most);
+      }
+
+  pub rw_ready_at : (c : Pc) → (top_frame m p).place ≡ Some c → is_rw_row c ≡ true → CountsWithin (2 ^ 64 - 2) m.counts → IsRwReady m p
+  rw_ready_at c at on counts =
+      let f = top_frame m p in
+      let live = top_live m p hs shows range in
+      let cpus = shows.whole.cpus in
+      let count = shows.whole.setup.few in
+      let kind = (shows.world.fits (top_of m p) f live).rw c at on in
+      let few = readers_are_few 384 (world m) hs f.lock.index shows.world kind
+      (λ u d e. let in_cpu = frame_within m u d e in let in_ctx = ctx_within u d e in (in_ctx, omega arith)) (λ u l e. ap (held_at m u l) e) in
+      record { ready = ready_at c at counts; room = omega (arith, few) }
+
+  -- a row of the lock that halts processors, with what it asks besides: what is entered in the hash, and that it has room
+
+  pv_at : (c : Pc) → (top_frame m p).place ≡ Some c → is_pv_row (Some c) ≡ true → halts m.setup.mode ≡ true
+  pv_at c at on = (shows.world.spins.registers (top_of m p) (top_frame m p) (top_live m p hs shows range)).choice.halting c at (pv_halts c on)
+    where
+      pv_halts : (c : Pc) → is_pv_row (Some c) ≡ true → may_halt c ≡ true
+      pv_halts c on = grind arith
+
+  enters_at : (o : Option Pc) → enters_hash o ≡ true → (o ≡ Some E6) ⊎ (o ≡ Some K3)
+  enters_at (Some E6) e = inl refl
+  enters_at (Some K3) e = inr refl
+  enters_at (Some _) e = cc
+  enters_at None e = cc
+
+  leaves_at : (o : Option Pc) → leaves_hash o ≡ true → (o ≡ Some E9) ⊎ (o ≡ Some U3)
+  leaves_at (Some E9) e = inl refl
+  leaves_at (Some U3) e = inr refl
+  leaves_at (Some _) e = cc
+  leaves_at None e = cc
+
+  module _ (on : halts m.setup.mode ≡ true) where
+    abbrev f : Frame
+    f = top_frame m p
+
+    abbrev w : Waiter
+    w = top_of m p
+
+    live : frame_at m w ≡ Some f
+    live = top_live m p hs shows range
+
+    -- what the row meets
+    met : (c : Pc) → f.place ≡ Some c → KnownHalting c f (word_at m f.lock) (entry_at m f.lock)
+    met c at = (row_knows c (world m) spins_of w f shows.world.spins live at).2 on
+
+    own_named : f.place ≡ Some E6 → is_some f.me ≡ true
+    own_named at = (shows.world.spins.registers w f live).me (ap (λ (o : Option Pc). has_node (phase_if o (is_some f.me) (node_of f.prev) (node_of f.y))) at)
+
+    next_named : f.place ≡ Some K3 → is_some f.y ≡ true
+    next_named at = (shows.world.spins.registers w f live).choice.named K3 at refl
+
+    absent : enters_hash f.place ≡ true → entry_at m f.lock ≡ None
+    absent e = elim (enters_at f.place e) [ inl at ↦ met E6 at | inr at ↦ (met K3 at).1 ]
+
+    present : leaves_hash f.place ≡ true → is_some (entry_at m f.lock) ≡ true
+    present e = elim (leaves_at f.place e) [ inl at ↦ ap is_some (met E9 at).1 | inr at ↦ (met U3 at).1 ]
+
+    room : enters_hash f.place ≡ true → length m.hash < 4 * length m.cpus
+    room e = elim (enters_at f.place e) [
+      | inl at ↦
+          let own = own_here m hs shows w f live E6 at refl in
+          let placed = shows.world.spins.agrees.nodes.placed f.lock w (ap has_node (phase_there m hs shows w f live E6 at)) in
+          let is : node_of f.me ≡ own_in (frame_at m w) = sym (ap own_in live) in
+          hash_room m hs shows on f.lock (node_of f.me) w f live (f, live, own_is f.me (own_named at))
+          (record { cpu = ap (λ (k : NodeName). k.cpu) is ∙ ap (λ (k : NodeName). k.cpu) placed; index = own.index }) refl (absent e)
+      | inr at ↦
+          let u = named_front_is_used (world m) spins_of w f K3 shows.world.spins live at refl in
+          hash_room m hs shows on f.lock (node_of f.y) u.0 u.1.0 u.1.1 u.1 u.2 (front_acts m hs shows on f.lock u.0 u.1.0 u.1.1 u.3) (absent e)
+    ]
+
+    kicked : f.place ≡ Some U5 → (node_of f.target).cpu < length m.cpus
+    kicked at = kick_within m hs shows w f live (node_of f.target).cpu refl
+
+  pub pv_ready_at : (c : Pc) → (top_frame m p).place ≡ Some c → is_pv_row (Some c) ≡ true → CountsWithin (2 ^ 64 - 2) m.counts → IsPvReady m p
+  pv_ready_at c at row counts =
+      let on = pv_at c at row in
+      record {
+        ready = ready_at c at counts;
+        own = own_named on;
+        next = next_named on;
+        absent = absent on;
+        room = room on;
+        present = present on;
+        kicked = kicked on;
       }

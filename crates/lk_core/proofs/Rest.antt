@@ -1,6 +1,6 @@
 -- The machine at rest: each processor has its task's frame alone, nobody has touched a lock, and it shows the empty history.
 use Rattle.std.proofs.Common.{◌≡◌, ◌≢◌, ℕ, zero, suc, Option, Some, None, Bool, true, false, [], ◌∷◌, inl, inr, arith, ap, ◌<◌, ◌≤◌, ◌+◌, refl, sym, ◌∙◌, subst, slice_get, length, get_or, replicate}
-use Rattle.std.specs.Prelude.{if◌then◌else◌}
+use Rattle.std.specs.Prelude.{if◌then◌else◌, ◌==◌}
 use Rattle.std.proofs.lemmas.Bool.{cases_Bool, cases_lt}
 use Rattle.std.proofs.lemmas.List.{length-replicate, get_or_past}
 use Rattle.std.proofs.lemmas.Option.{same_Some, none-some}
@@ -8,32 +8,53 @@ use Rattle.lk_abs.specs.Names.{same_lock}
 use Rattle.lk_abs.specs.History.{no_history}
 use Rattle.lk_abs.specs.declared.names.Kind.TheVariants.{Spin}
 use Rattle.lk_abs.specs.declared.names.Mode.{Mode}
-use Rattle.lk_abs.specs.declared.names.Mode.TheVariants.{Virt, Native}
 use Rattle.lk_abs.specs.declared.names.Waiter.{Waiter}
 use Rattle.lk_abs.specs.declared.names.LockName.{LockName}
 use Rattle.lk_word.specs.declared.spin_word.NodeName.{NodeName}
 use Rattle.lk_machine.specs.declared.setup.Op.{Op}
 use Rattle.lk_machine.specs.declared.setup.Verb.{Verb}
-use Rattle.lk_machine.specs.declared.setup.Verb.TheVariants.{Unlock}
+use Rattle.lk_machine.specs.declared.setup.Verb.TheVariants.{Unlock, RUnlock, WUnlock}
 use Rattle.lk_machine.specs.declared.setup.Setup.{Setup}
 use Rattle.lk_machine.specs.declared.parts.Frame.{Frame}
 use Rattle.lk_machine.specs.declared.parts.Pc.{Pc}
 use Rattle.lk_machine.specs.declared.parts.Pc.TheVariants.{G5, G11}
-use Rattle.lk_machine.specs.Machine.{Machine, CpuState, LockState, cpu_at, lock_at, word_at, node_at, frame_at, queued_at, depth_at, halted_at, handlers_at, no_cpu, rest_lock, rest_node, rest_word, HasTop}
-use Rattle.lk_machine.specs.Programs.{program_at, way_at, way_before, kind_of}
+use Rattle.lk_machine.specs.Machine.{Machine, CpuState, LockState, cpu_at, lock_at, rw_at, rest_frame, word_at, node_at, frame_at, queued_at, depth_at, halted_at, kicked_at, entry_at, handlers_at, no_cpu, rest_lock, rest_node, rest_word, HasTop}
+use Rattle.lk_machine.specs.Programs.{IsLawfulSetup, program_at, way_at, way_before, kind_of}
 use Rattle.lk_machine.specs.Moves.{first_place, program_of, node_of}
 use Rattle.lk_machine.specs.Run.{first_frame, rest_cpu, rest_cpus, at_rest}
 use Rattle.lk_law.specs.Phase.{Phase, has_lock, queues, pends, claims, watches, has_node}
 use Rattle.lk_law.specs.Phase.Phase.{Idle, Seeks}
-use Rattle.lk_law.specs.Snapshot.{before, spins}
-use Rattle.lk_law.specs.Agree.{LockAgrees}
-use Rattle.lk_law.specs.World.{IsBuilt, RegistersFit, IsSoundWorld, phase_at, phase_of, phase_on, slow_in, is_slow, snapshot}
-use Rattle.lk_law.specs.Sound.{world, held_of, held_at, BelongsTo, Fits, IsWhole, ShowsAll}
-use Rattle.lk_law.specs.MachineLaws.{IsBuiltSetup}
+use Rattle.lk_law.specs.Stage.Stage.{Rests}
+use Rattle.lk_law.proofs.Worlds.{stage_calm, stage_on-rests}
+use Rattle.lk_law.specs.Pv.{Post, PostsAgree, sleeps}
+use Rattle.lk_law.specs.Pv.{agrees as suits}
+use Rattle.lk_word.specs.declared.spin_word.Locked.TheVariants.{Free}
+use Rattle.lk_machine.specs.declared.parts.State.{State}
+use Rattle.lk_law.specs.Pv.Post.{Off}
+use Rattle.lk_law.specs.Kicked.{ShowsKicks}
+use Rattle.lk_core.proofs.Kicks.{owed_at, owed_in, asleep_in, kicks_same}
+use Rattle.lk_law.proofs.RestWorld.{empty_world}
+use Rattle.lk_law.proofs.KicksShown.{empty_shows}
+use Rattle.lk_law.proofs.Turns.{quiet_choice, fit_placeless}
+use Rattle.lk_law.specs.Snapshot.{QueueAgrees, before, spins}
+use Rattle.lk_law.specs.Agree.{LockAgrees, Owed, state_of}
+use Rattle.lk_law.specs.World.{RegistersFit, IsSoundWorld, post_if, post_of, post_on, phase_at, phase_of, phase_on, stage_on, own_in, slow_in, is_slow, is_quiet_row, snapshot}
+use Rattle.lk_law.specs.Sound.{world, held_of, held_at, Stage, Fits, IsWhole, ShowsAll}
 use Rattle.lk_law.proofs.Cases.{lock_cases}
 use Rattle.lk_law.proofs.Puts.{same_lock-else}
 use Rattle.lk_core.proofs.Lists.{past_end}
-use Rattle.lk_core.proofs.Settle.{spin_first}
+use Rattle.lk_core.proofs.Settle.{first_stage, first_outer}
+use Rattle.lk_core.proofs.Walks.{IsOuter, outer_held}
+use Rattle.lk_law.specs.RwPhase.{RwPhase, is_counted, is_inner}
+use Rattle.lk_law.specs.RwPhase.RwPhase.{Away, Asks, Announces, Unreads, Unwrites}
+use Rattle.lk_law.specs.RwAgree.{RwAgrees}
+use Rattle.lk_law.specs.Whole.{IsWholeWorld, RwFits, rw_phase_at, rw_phase_of, rw_phase_on, rw_phases, rw_helds, rw_waits}
+use Rattle.lk_law.proofs.RestWorld.{none_told}
+use Rattle.lk_law.proofs.RwBegins.{begun_fits}
+use Rattle.lk_word.specs.declared.rw_word.RwFields.{RwFields}
+use Rattle.lk_machine.specs.Moves.{rw_name, wait_name}
+use Rattle.lk_abs.specs.declared.holder.Manner.TheVariants.{Spins, Writes}
+use Rattle.std.proofs.lemmas.Option.{get_or_from_slice_get}
 
 get_or-same : {A : Type 0} (n i : ℕ) (x : A) → get_or (replicate n x) i x ≡ x
 get_or-same zero i x = refl
@@ -69,18 +90,67 @@ quiet Idle h = record { has = refl; queues = refl; pends = refl; claims = refl; 
 quiet Seeks h = record { has = refl; queues = refl; pends = refl; claims = refl; watches = refl; noded = refl }
 quiet _ h = cc
 
+-- the phase has touched nothing of a reader-writer lock
+abbrev is_calm : RwPhase → Bool
+is_calm Away = true
+is_calm Asks = true
+is_calm _ = false
+
+-- such a phase has no part in any agreement either
+record IsCalm (r : RwPhase) : Type 0 where
+  pub counted : is_counted r None ≡ false
+  pub inner : is_inner r ≡ false
+  pub silent : r ≢ Announces
+  pub unread : r ≢ Unreads
+  pub unwrite : r ≢ Unwrites
+
+calm : (r : RwPhase) → is_calm r ≡ true → IsCalm r
+calm Away h = record { counted = refl; inner = refl; silent = λ e. grind arith; unread = λ e. grind arith; unwrite = λ e. grind arith }
+calm Asks h = record { counted = refl; inner = refl; silent = λ e. grind arith; unread = λ e. grind arith; unwrite = λ e. grind arith }
+calm _ h = cc
+
 -- where nothing is held the first row of an operation touches nothing
-first_untouched : (mode : Mode) (v : Verb) (a b : NodeName) → IsBuilt mode → way_before v ≡ None → (untouched (phase_at (first_place mode v) a b) ≡ true) × (is_slow (Some (first_place mode v)) ≡ false)
-first_untouched Virt Unlock a b t e = cc
-first_untouched Native Unlock a b t e = cc
-first_untouched Virt _ a b t e = (refl, refl)
-first_untouched Native _ a b t e = (refl, refl)
-first_untouched _ v a b t e = absurd t
+first_untouched : (mode : Mode) (v : Verb) (t : Bool) (a b : NodeName) (f : Frame) → way_before v ≡ None
+    → (untouched (phase_at (first_place mode v) t a b) ≡ true) × (is_slow (Some (first_place mode v)) ≡ false) × (is_quiet_row (first_place mode v) ≡ true) × (is_calm (rw_phase_at (first_place mode v) false) ≡ true)
+    × (post_if (Some (first_place mode v)) f ≡ Off) × (owed_at (Some (first_place mode v)) f ≡ None)
+first_untouched mode Unlock q a b f e = cc
+first_untouched mode RUnlock q a b f e = cc
+first_untouched mode WUnlock q a b f e = cc
+first_untouched mode _ q a b f e = (refl, refl, refl, refl, refl, refl)
+
+-- where all are at no post, all agrees
+calm_posts : (state : Waiter → State) (own : Waiter → NodeName) (owed : Waiter → Type 0) → PostsAgree Free None None (λ u. Off) state own owed
+calm_posts state own owed =
+    record {
+      fit = λ u f a b. refl;
+      bare_entry = λ u h. cc;
+      bare_slow = λ u h. cc;
+      bare_some = λ a h. cc;
+      full_entry = λ u h. cc;
+      full_slow = λ u h. cc;
+      full_some = λ n h. cc;
+      entered = λ n h. cc;
+      named = λ u n h. cc;
+      raw_slow = λ w h. cc;
+      raw_free = λ w u h. cc;
+      slow = λ u h. cc;
+      one = λ u h. cc;
+      called = λ w u h. cc;
+      dozed = λ w h. cc;
+      slept = λ w h. cc;
+      napped = λ w h. cc;
+    }
+
+-- and that it touches nothing suits no post
+suits_off : (r : Phase) → untouched r ≡ true → suits Off r ≡ true
+suits_off Idle h = refl
+suits_off Seeks h = refl
+suits_off _ h = cc
 
 differ : {A : Type 0} (b : Bool) → b ≡ false → b ≡ true → A
 differ b e f = absurd (grind (arith, e, f))
 
-module _ (setup : Setup) (ok : IsBuiltSetup setup) where
+module _ (setup : Setup) (ok : IsLawfulSetup setup) where
   abbrev m : Machine
   m = at_rest setup
 
@@ -120,6 +190,14 @@ module _ (setup : Setup) (ok : IsBuiltSetup setup) where
   unfolding halted_at
   halted p = each (λ c. c.halted ≡ false) p refl refl
 
+  kicked : (p : ℕ) → kicked_at m p ≡ false
+  unfolding kicked_at
+  kicked p = each (λ c. c.kicked ≡ false) p refl refl
+
+  entries : (l : LockName) → entry_at m l ≡ None
+  unfolding entry_at
+  entries l = refl
+
   handlers : (p : ℕ) → handlers_at m p ≡ 0
   unfolding handlers_at
   handlers p = each (λ c. c.handlers ≡ 0) p refl refl
@@ -136,15 +214,13 @@ module _ (setup : Setup) (ok : IsBuiltSetup setup) where
   whole : IsWhole m
   whole =
       record {
-        setup = ok.lawful;
-        built = ok.built;
-        spin = ok.spin;
+        setup = ok;
         locks = length-replicate (length setup.locks.items) rest_lock;
         cpus = length-rest_cpus setup 0 count;
         nodes = four;
         tops = tops;
-        awake = halted;
         handlers = λ p. rw (handlers p) (omega arith);
+        hash = tt;
       }
 
   -- the frames: each task at the first row of its program, or finished where it has none
@@ -168,24 +244,32 @@ module _ (setup : Setup) (ok : IsBuiltSetup setup) where
     pub untouched : untouched (phase_of f) ≡ true
     pub slow : is_slow f.place ≡ false
     pub position : f.«at» ≡ 0
-    pub registers : RegistersFit f
+    pub post : post_of f ≡ Off
+    pub owed : owed_in (Some f) ≡ None
+    pub calm : is_calm (rw_phase_of f) ≡ true
+    pub outer : IsOuter f
+    pub registers : RegistersFit setup.mode f
 
   first : (p : ℕ) (o : Option Op) → slice_get (program_at setup p 0) 0 ≡ o → IsFirst (first_frame setup.mode o)
-  first p None e = record { untouched = refl; slow = refl; position = refl; registers = record { me = λ q. cc; bare = λ q. refl; met = λ q. cc; next = λ q. cc; second = refl } }
+  first p None e = record { untouched = refl; slow = refl; position = refl; post = refl; owed = refl; calm = refl; outer = record { inner = refl; over = refl }; registers = fit_placeless (first_frame setup.mode None) refl refl }
   first p (Some o) e =
-      let fits : way_at (program_at setup p 0) 0 o.lock ≡ way_before o.verb = (ok.lawful.lawful p 0).fits 0 o e in
-      let quiet_first = first_untouched setup.mode o.verb (node_of None) (node_of None) ok.built (sym fits) in
+      let fits : way_at (program_at setup p 0) 0 o.lock ≡ way_before o.verb = (ok.lawful p 0).fits 0 o e in
+      let quiet_first = first_untouched setup.mode o.verb false (node_of None) (node_of None) (first_frame setup.mode (Some o)) (sym fits) in
       let no_node = (quiet (phase_of (first_frame setup.mode (Some o))) quiet_first.0).noded in
       record {
         untouched = quiet_first.0;
         slow = quiet_first.1;
         position = refl;
+        post = quiet_first.4;
+        owed = quiet_first.5;
+        calm = quiet_first.3;
+        outer = first_outer setup.mode o.verb (first_frame setup.mode (Some o)) refl refl;
         registers = record {
           me = λ q. differ (has_node (phase_of (first_frame setup.mode (Some o)))) no_node q;
           bare = λ q. refl;
           met = λ q. absurd (slow_not G5 q refl quiet_first.1);
           next = λ q. absurd (slow_not G11 q refl quiet_first.1);
-          second = refl;
+          choice = quiet_choice (first_frame setup.mode (Some o)) (λ d q. let same : first_place setup.mode o.verb ≡ d = same_Some (first_place setup.mode o.verb) d q in sym (ap is_quiet_row same) ∙ quiet_first.2);
         };
       }
     where
@@ -214,17 +298,33 @@ module _ (setup : Setup) (ok : IsBuiltSetup setup) where
     where
       go : (o : Option Frame) → frame_at m u ≡ o → held_at m u l o ≡ None
       go None e = refl
-      go (Some d) e = by l.wait
+      go (Some d) e = let first = of_tasks IsFirst firsts u d e in outer_held (program_of m u.cpu d) d first.outer l ∙ by l.wait first.position
         where
-          by : (b : Bool) → (if b then None else way_at (program_of m u.cpu d) d.«at» l.index) ≡ None
-          by true = refl
-          by false = ap (λ (i : ℕ). way_at (program_of m u.cpu d) i l.index) (of_tasks IsFirst firsts u d e).position
+          by : (b : Bool) → d.«at» ≡ 0 → (if b then None else way_at (program_of m u.cpu d) d.«at» l.index) ≡ None
+          by true z = refl
+          by false z = ap (λ (i : ℕ). way_at (program_of m u.cpu d) i l.index) z
 
   facts : (l : LockName) (u : Waiter) → IsQuiet (phase_on l (frame_at m u))
   facts l u = quiet (phase_on l (frame_at m u)) (phase_plain l u)
 
   spins_none : (l : LockName) (u : Waiter) → spins (held_of m u l) ≡ false
   spins_none l u = ap spins (held_plain u l)
+
+  -- nobody chooses
+  stage_plain : (l : LockName) (u : Waiter) → stage_on l (frame_at m u) ≡ Rests
+  stage_plain l u = go (frame_at m u) refl
+    where
+      go : (o : Option Frame) → frame_at m u ≡ o → stage_on l o ≡ Rests
+      go None e = refl
+      go (Some d) e = stage_on-rests l d (stage_calm d (λ q. let z = (of_tasks IsFirst firsts u d e).untouched in absurd (grind (arith, z, q))))
+
+  -- nobody halts, or owes a kick
+  posts_plain : (l : LockName) (u : Waiter) → post_on l (frame_at m u) ≡ Off
+  posts_plain l u = go (frame_at m u) refl
+    where
+      go : (o : Option Frame) → frame_at m u ≡ o → post_on l o ≡ Off
+      go None e = refl
+      go (Some d) e = elim (cases_Bool (same_lock d.lock l)) [ inl t ↦ rw t (of_tasks IsFirst firsts u d e).post | inr t ↦ rw t refl ]
 
   lock_agrees : (l : LockName) → LockAgrees (snapshot (world m)) no_history l
   lock_agrees l =
@@ -247,23 +347,41 @@ module _ (setup : Setup) (ok : IsBuiltSetup setup) where
           free = λ u h. refl;
           apart = λ u v h k. differ (watches (phase_on l (frame_at m u))) (facts l u).watches h;
         });
-        queue = rw w (record {
-          inside = λ i u h. absurd (none-some u h);
-          place = λ u h. differ (queues (phase_on l (frame_at m u))) (facts l u).queues h;
-          once = λ i j u h k. absurd (none-some u h);
-          no_tail = λ h. refl;
-          tail_is = λ i u h k. absurd (none-some u h);
-          first = λ u h. absurd (none-some u h);
-          behind = λ i u h. absurd (none-some u h);
-          linked = λ i u v h k r. absurd (none-some u h);
-          linking = λ i u v n h k r. absurd (none-some u h);
-          last = λ i u h k. absurd (none-some u h);
-          hand = λ u n h. differ (queues (phase_on l (frame_at m u))) (facts l u).queues (ap queues h);
-          fresh = λ u h. differ (has_node (phase_on l (frame_at m u))) (facts l u).noded (ap has_node h);
-        });
-        single = refl;
-        unpassed = refl;
+        posts = λ e. record {
+          posts =
+              let s = snapshot (world m) in
+              rw (w, entries l) (subst (λ (q : Waiter → Post). PostsAgree Free None None q (state_of s) s.own (λ u. Owed s u.cpu)) (λ i u. sym (posts_plain l u) i) (calm_posts (state_of s) s.own (λ u. Owed s u.cpu)));
+          suits = λ u. rw (posts_plain l u) (suits_off (phase_on l (frame_at m u)) (phase_plain l u));
+        };
+        lists = record {
+          flat = λ e. record { queue = rw w nobody; single = refl; unpassed = refl };
+          cna = λ e. record {
+            queue = rw w nobody;
+            second_ok = record { waits = λ i u h. absurd (none-some u h); once = λ i j u h k. absurd (none-some u h); linked = λ i u v h k. absurd (none-some u h); last = λ i u h. absurd (none-some u h) };
+            lead = λ v h. absurd (none-some v h);
+            empty = λ h. refl;
+            lengths = refl;
+            calm = λ u h. stage_plain l u;
+          };
+        };
       }
+    where
+      nobody : QueueAgrees None (λ u. phase_on l (frame_at m u)) (λ u. own_in (frame_at m u)) (λ n. node_at m n) []
+      nobody =
+          record {
+            inside = λ i u h. absurd (none-some u h);
+            place = λ u h. differ (queues (phase_on l (frame_at m u))) (facts l u).queues h;
+            once = λ i j u h k. absurd (none-some u h);
+            no_tail = λ h. refl;
+            tail_is = λ i u h k. absurd (none-some u h);
+            first = λ u h. absurd (none-some u h);
+            behind = λ i u h. absurd (none-some u h);
+            linked = λ i u v h k r. absurd (none-some u h);
+            linking = λ i u v n h k r. absurd (none-some u h);
+            last = λ i u h k. absurd (none-some u h);
+            hand = λ u n h. differ (queues (phase_on l (frame_at m u))) (facts l u).queues (ap queues h);
+            fresh = λ u h. differ (has_node (phase_on l (frame_at m u))) (facts l u).noded (ap has_node h);
+          }
 
   none_before : (p c : ℕ) → before (λ u. slow_in (frame_at m u)) p c ≡ 0
   none_before p zero = refl
@@ -280,11 +398,11 @@ module _ (setup : Setup) (ok : IsBuiltSetup setup) where
             | inr n ↦ absurd (h (rw (same_lock-else d.lock k n) refl))
           ]
 
-  sound : IsSoundWorld (world m) (λ l. no_history)
-  sound =
+  spins_sound : IsSoundWorld (world m) (λ l. no_history)
+  spins_sound =
       record {
-        built = ok.built;
-        plain = record { byte = λ l. rw (words l) (λ e. cc); flag = λ n k. rw (nodes n) (λ e. cc) };
+        plain = record { byte = λ off l. rw (words l) (λ e. cc); flag = λ flat n k. rw (nodes n) (λ e. cc) };
+        turning = ok.spins.0;
         agrees = record {
           locks = lock_agrees;
           nodes = record {
@@ -294,25 +412,92 @@ module _ (setup : Setup) (ok : IsBuiltSetup setup) where
             placed = λ l u h. differ (has_node (phase_on l (frame_at m u))) (facts l u).noded h;
           };
           alone = one_lock;
+          sleeper = λ e k l u z h. absurd (let q = posts_plain k u in grind (arith, q, h));
         };
         registers = λ u f e. (of_tasks IsFirst firsts u f e).registers;
+        asleep = λ u f e h. absurd (let q = (of_tasks IsFirst firsts u f e).post in grind (arith, q, h));
+        resting = λ p h. absurd (let q = halted p in grind (arith, q, h));
+      }
+
+  -- reader-writer locks
+
+  rws_rest : (i : ℕ) → rw_at m i ≡ record { readers = 0; waiting = false; writer = false }
+  unfolding rw_at lock_at
+  rws_rest i = ap (λ (x : LockState). x.rw) (get_or-same (length setup.locks.items) i rest_lock)
+
+  calm_plain : (i : ℕ) (u : Waiter) → IsCalm (rw_phase_on i (frame_at m u))
+  calm_plain i u = calm (rw_phase_on i (frame_at m u)) (go (frame_at m u) refl)
+    where
+      go : (o : Option Frame) → frame_at m u ≡ o → is_calm (rw_phase_on i o) ≡ true
+      go None e = refl
+      go (Some d) e = elim (cases_Bool (d.lock.index == i)) [ inl t ↦ rw t (of_tasks IsFirst firsts u d e).calm | inr t ↦ rw t refl ]
+
+  rw_agrees : (i : ℕ) → RwAgrees (rw_at m i) (rw_phases (world m) i) (rw_helds (world m) i) (rw_waits (world m) i) no_history
+  rw_agrees i =
+      subst (λ (x : RwFields). RwAgrees x (rw_phases (world m) i) (rw_helds (world m) i) (rw_waits (world m) i) no_history) (sym (rws_rest i)) (record {
+        counted = [];
+        readers = record {
+          each = record {
+            inside = λ j u h. absurd (none-some u h);
+            place = λ u h. differ (is_counted (rw_phase_on i (frame_at m u)) (held_of m u (rw_name i))) (ap (is_counted (rw_phase_on i (frame_at m u))) (held_plain u (rw_name i)) ∙ (calm_plain i u).counted) h;
+            once = λ j k u h q. absurd (none-some u h);
+          };
+          number = refl;
+        };
+        holds = record {
+          each = record {
+            inside = λ j x h. absurd (none-some x h);
+            place = λ x h. absurd (none-some x.manner (sym (held_plain x.waiter (rw_name i)) ∙ h));
+            once = λ j k x h q. absurd (none-some x h);
+          };
+          unspun = λ u h. none-some Spins (sym (held_plain u (rw_name i)) ∙ h);
+          written = λ h. absurd (grind arith);
+          writes = λ u h. absurd (none-some Writes (sym (held_plain u (rw_name i)) ∙ h));
+          alone = λ u v way h q. absurd (none-some Writes (sym (held_plain u (rw_name i)) ∙ h));
+          without = λ u h. held_plain u (rw_name i);
+          unreads = λ u h. absurd ((calm_plain i u).unread h);
+          unwrites = λ u h. absurd ((calm_plain i u).unwrite h);
+        };
+        waiting = record {
+          set = λ u h. absurd ((calm_plain i u).silent h);
+          someone = λ h. absurd (grind arith);
+          inner = λ u. spins_none (wait_name i) u ∙ sym (calm_plain i u).inner;
+        };
+        main = refl;
+        second = refl;
+        passes = refl;
+      })
+
+  -- a task's first operation is on a lock of its kind
+  task_kinds : (p : ℕ) (o : Option Op) → slice_get (program_at setup p 0) 0 ≡ o → RwFits (world m).kind (first_frame setup.mode o)
+  task_kinds p None e = record { rw = λ c q r. cc; inner = λ c q r i. cc; spin = λ c q r s. cc; waits = λ q. cc; after = λ q. cc }
+  task_kinds p (Some o) e = begun_fits (world m).kind setup.mode rest_frame o (get_or_from_slice_get setup.locks.items o.lock (kind_of o.verb) Spin ((ok.lawful p 0).declared 0 o e))
+
+  sound : IsWholeWorld (world m) (λ l. no_history)
+  sound =
+      record {
+        spins = subst (IsSoundWorld (world m)) (sym (none_told (world m).kind)) spins_sound;
+        rws = λ i k. rw_agrees i;
+        fits = of_tasks (RwFits (world m).kind) (λ p. task_kinds p (slice_get (program_at setup p 0) 0) refl);
       }
 
   -- each task fits
   task_fits : (p : ℕ) (o : Option Op) → slice_get (program_at setup p 0) 0 ≡ o → Fits m (record { cpu = p; ctx = 0 }) (first_frame setup.mode o)
   task_fits p None e =
       let z = past_end (program_at setup p 0) 0 e in
-      record { ctx = refl; program = (λ q. refl, λ q. absurd (omega arith)); within = omega arith; finished = λ q. omega arith; working = λ c q. cc }
+      record { ctx = refl; program = (λ q. refl, λ q. absurd (omega arith)); within = omega arith; finished = λ q. omega arith; working = λ c q. cc; prev = λ n q. absurd (none-some n q); target = λ n q. absurd (none-some n q) }
   task_fits p (Some o) e =
-      let kind : kind_of o.verb ≡ Spin = ok.spin o.lock (kind_of o.verb) ((ok.lawful.lawful p 0).declared 0 o e) in
       record {
         ctx = refl;
         program = (λ q. refl, λ q. absurd (omega arith));
         within = omega arith;
         finished = λ q. cc;
         working = λ c q.
+            let g : Frame = first_frame setup.mode (Some o) in
             let at : first_place setup.mode o.verb ≡ c = same_Some (first_place setup.mode o.verb) c q in
-            record { op = o; is = e; lock = refl; row = subst (λ (x : Pc). BelongsTo setup.mode o.verb x) at (spin_first setup.mode o.verb ok.built kind) };
+            record { op = o; is = e; lock = refl; stage = subst (λ (x : Pc). Stage setup.mode o.verb g x) at (first_stage setup.mode o.verb g refl); after = λ q. cc };
+        prev = λ n q. absurd (none-some n q);
+        target = λ n q. absurd (none-some n q);
       }
 
   fits : (u : Waiter) (f : Frame) → frame_at m u ≡ Some f → Fits m u f
@@ -324,3 +509,22 @@ module _ (setup : Setup) (ok : IsBuiltSetup setup) where
 
   pub rest_shows_all : ShowsAll (at_rest setup) (λ l. no_history)
   rest_shows_all = record { whole = whole; world = sound; fits = fits }
+
+  -- and nobody has halted, or is owed a kick
+  pub rest_shows_kicks : ShowsKicks (world (at_rest setup)) []
+  rest_shows_kicks =
+      let x = empty_world setup.mode setup.threshold setup.topology.sockets.items (world m).kind in
+      kicks_same x (world m) [] (record {
+        halted = λ p. halted p;
+        kicked = λ p. kicked p;
+        asleep = λ u. awake (frame_at m u) u refl;
+        owed = λ u. owes (frame_at m u) u refl;
+      }) (empty_shows setup.mode setup.threshold setup.topology.sockets.items (world m).kind)
+    where
+      awake : (o : Option Frame) → (u : Waiter) → frame_at m u ≡ o → asleep_in o ≡ false
+      awake None u e = refl
+      awake (Some d) u e = ap sleeps (of_tasks IsFirst firsts u d e).post
+
+      owes : (o : Option Frame) → (u : Waiter) → frame_at m u ≡ o → owed_in o ≡ None
+      owes None u e = refl
+      owes (Some d) u e = (of_tasks IsFirst firsts u d e).owed

@@ -1,11 +1,9 @@
 -- What the writes of rows and acts leave of a machine: its setup, and how much of everything there is. So a whole machine stays whole,
 -- and frames that fit go on to fit.
-use Rattle.std.proofs.Common.{◌≡◌, ◌≢◌, ℕ, Some, Bool, [], ◌∷◌, ◌++◌, inl, inr, arith, ap, ◌<◌, ◌≤◌, ◌+◌, ◌-◌, refl, sym, ◌∙◌, subst, slice_get, length, set, take}
+use Rattle.std.proofs.Common.{◌≡◌, ◌≢◌, ℕ, Option, Some, None, Bool, List, [], ◌∷◌, ◌++◌, inl, inr, arith, ap, ◌<◌, ◌≤◌, ◌+◌, ◌-◌, refl, sym, ◌∙◌, subst, length, set, take}
 use Rattle.std.specs.Prelude.{if◌then◌else◌}
 use Rattle.std.proofs.lemmas.Bool.{cases_eq}
 use Rattle.std.proofs.lemmas.List.{length-set, length_push, length-take-le}
-use Rattle.lk_abs.specs.declared.names.Kind.{Kind}
-use Rattle.lk_abs.specs.declared.names.Kind.TheVariants.{Spin}
 use Rattle.lk_abs.specs.declared.names.Waiter.{Waiter}
 use Rattle.lk_abs.specs.declared.names.LockName.{LockName}
 use Rattle.lk_word.specs.declared.spin_word.NodeName.{NodeName}
@@ -14,20 +12,21 @@ use Rattle.lk_machine.specs.declared.setup.Setup.{Setup}
 use Rattle.lk_machine.specs.declared.parts.Frame.{Frame}
 use Rattle.lk_machine.specs.declared.parts.Node.{Node}
 use Rattle.lk_machine.specs.declared.parts.Counts.{Counts}
-use Rattle.lk_machine.specs.Machine.{Machine, CpuState, cpu_at, lock_at, depth_at, halted_at, handlers_at, top_of, set_cpu, set_lock, set_counts, set_word, set_node, set_top, set_queued, set_preempted, pop, push, HasTop}
+use Rattle.lk_machine.specs.Machine.{Machine, CpuState, cpu_at, lock_at, depth_at, handlers_at, HasNode, without_entry, set_halted, set_kicked, set_entry, top_of, set_cpu, set_lock, set_counts, set_word, set_node, set_top, set_queued, set_preempted, pop, push, HasTop}
 use Rattle.lk_machine.specs.Programs.{IsLawfulSetup, handlers_of, program_at}
-use Rattle.lk_law.specs.World.{IsBuilt}
-use Rattle.lk_law.specs.Sound.{IsWhole, Fits, Works}
+use Rattle.lk_law.specs.Sound.{IsWhole, Fits, Works, IsEnteredOnce}
+use Rattle.lk_core.proofs.Entries.{Entry, once_without, once_with}
+use Rattle.lk_core.proofs.Worlds.{hashing}
 use Rattle.lk_core.proofs.Access.{cpu_same, cpu_other, cpu_part}
 
--- the setup is kept, and how much there is; and no handler comes back
+-- the setup is kept, and how much there is; no handler comes back; and each lock is entered once still
 pub record Keeps (m n : Machine) : Type 0 where
   pub setup : n.setup ≡ m.setup
   pub locks : length n.locks ≡ length m.locks
   pub cpus : length n.cpus ≡ length m.cpus
   pub nodes : (p : ℕ) → length (cpu_at n p).nodes ≡ length (cpu_at m p).nodes
-  pub halted : (p : ℕ) → halted_at n p ≡ halted_at m p
   pub handlers : (p : ℕ) → handlers_at m p ≤ handlers_at n p
+  pub hash : IsEnteredOnce m.hash → IsEnteredOnce n.hash
 
 -- and no frame comes or goes
 pub record Same (m n : Machine) : Type 0 where
@@ -42,8 +41,8 @@ keeps_then a b c s t =
       locks = t.locks ∙ s.locks;
       cpus = t.cpus ∙ s.cpus;
       nodes = λ p. t.nodes p ∙ s.nodes p;
-      halted = λ p. t.halted p ∙ s.halted p;
       handlers = λ p. let x = s.handlers p in let y = t.handlers p in omega arith;
+      hash = λ once. t.hash (s.hash once);
     }
 
 pub same_then : (a b c : Machine) → Same a b → Same b c → Same a c
@@ -52,7 +51,7 @@ same_then a b c s t = record { keeps = keeps_then a b c s.keeps t.keeps; depth =
 pub same_self : (m : Machine) → Same m m
 same_self m =
     record {
-      keeps = record { setup = refl; locks = refl; cpus = refl; nodes = λ p. refl; halted = λ p. refl; handlers = λ p. omega arith };
+      keeps = record { setup = refl; locks = refl; cpus = refl; nodes = λ p. refl; handlers = λ p. omega arith; hash = λ once. once };
       depth = λ p. refl;
       handlers = λ p. refl;
     }
@@ -69,18 +68,20 @@ pub whole_kept : (m n : Machine) → IsWhole m → Keeps m n → ((p : ℕ) → 
 whole_kept m n w k tops handlers =
     record {
       setup = subst (λ (s : Setup). IsLawfulSetup s) (sym k.setup) w.setup;
-      built = subst (λ (s : Setup). IsBuilt s.mode) (sym k.setup) w.built;
-      spin = subst (λ (s : Setup). (i : ℕ) (d : Kind) → slice_get s.locks.items i ≡ Some d → d ≡ Spin) (sym k.setup) w.spin;
       locks = k.locks ∙ w.locks ∙ ap (λ (s : Setup). length s.locks.items) (sym k.setup);
       cpus = k.cpus ∙ w.cpus ∙ ap (λ (s : Setup). length s.topology.sockets.items) (sym k.setup);
       nodes = λ p lt. k.nodes p ∙ w.nodes p (rw k.cpus at lt);
       tops = λ p lt. tops p (rw k.cpus at lt);
-      awake = λ p. k.halted p ∙ w.awake p;
       handlers = λ p. subst (λ (s : Setup). handlers_at n p ≤ handlers_of s p) (sym k.setup) (handlers p);
+      hash = k.hash w.hash;
     }
 
 pub whole_same : (m n : Machine) → IsWhole m → Same m n → IsWhole n
 whole_same m n w s = whole_kept m n w s.keeps (λ p lt. has_top_same m n p s (w.tops p lt)) (λ p. rw (s.handlers p) (w.handlers p))
+
+-- a node of the machine stays one
+pub node_kept : (m n : Machine) (x : NodeName) → Keeps m n → HasNode m x → HasNode n x
+node_kept m n x k has = record { cpu = rw k.cpus has.cpu; index = has.index }
 
 -- a frame goes on to fit
 pub fits_kept : (m n : Machine) (u : Waiter) (f : Frame) → Keeps m n → Fits m u f → Fits n u f
@@ -91,12 +92,13 @@ fits_kept m n u f k fits =
       within = subst (λ (s : Setup). f.«at» ≤ length (program_at s u.cpu f.program)) (sym k.setup) fits.within;
       finished = λ e. subst (λ (s : Setup). f.«at» ≡ length (program_at s u.cpu f.program)) (sym k.setup) (fits.finished e);
       working = λ c e. subst (λ (s : Setup). Works s.mode (program_at s u.cpu f.program) f c) (sym k.setup) (fits.working c e);
+      prev = λ x e. node_kept m n x k (fits.prev x e);
+      target = λ x e. node_kept m n x k (fits.target x e);
     }
 
--- a record of a processor that has as many frames, halts or not as before, and has as many handlers left
+-- a record of a processor that has as many frames, and as many handlers left
 pub record AsMany (old new : CpuState) : Type 0 where
   pub nodes : length new.nodes ≡ length old.nodes
-  pub halted : new.halted ≡ old.halted
   pub frames : length new.frames ≡ length old.frames
   pub handlers : new.handlers ≡ old.handlers
 
@@ -112,8 +114,12 @@ cpus-set_cpu : (m : Machine) (p : ℕ) (c : CpuState) → length (set_cpu m p c)
 unfolding set_cpu
 cpus-set_cpu m p c = length-set m.cpus p c
 
+hash-set_cpu : (m : Machine) (p : ℕ) (c : CpuState) → IsEnteredOnce m.hash → IsEnteredOnce (set_cpu m p c).hash
+unfolding set_cpu
+hash-set_cpu m p c once = once
+
 same_set_cpu : (m : Machine) (p : ℕ) (c : CpuState) → AsMany (cpu_at m p) c → Same m (set_cpu m p c)
-unfolding halted_at handlers_at depth_at
+unfolding handlers_at depth_at
 same_set_cpu m p c a =
     let handlers : (q : ℕ) → handlers_at (set_cpu m p c) q ≡ handlers_at m q = cpu_part (λ (d : CpuState). d.handlers) m p c a.handlers in
     record {
@@ -122,8 +128,8 @@ same_set_cpu m p c a =
         locks = locks-set_cpu m p c;
         cpus = cpus-set_cpu m p c;
         nodes = cpu_part (λ (d : CpuState). length d.nodes) m p c a.nodes;
-        halted = cpu_part (λ (d : CpuState). d.halted) m p c a.halted;
         handlers = λ q. let e = handlers q in omega arith;
+        hash = hash-set_cpu m p c;
       };
       depth = cpu_part (λ (d : CpuState). length d.frames) m p c a.frames;
       handlers = handlers;
@@ -132,23 +138,45 @@ same_set_cpu m p c a =
 pub same_set_top : (m : Machine) (p : ℕ) (g : Frame) → Same m (set_top m p g)
 unfolding set_top
 same_set_top m p g =
-    same_set_cpu m p (record (cpu_at m p) { frames = set (cpu_at m p).frames (depth_at m p - 1) g }) (record { nodes = refl; halted = refl; frames = length-set (cpu_at m p).frames (depth_at m p - 1) g; handlers = refl })
+    same_set_cpu m p (record (cpu_at m p) { frames = set (cpu_at m p).frames (depth_at m p - 1) g }) (record { nodes = refl; frames = length-set (cpu_at m p).frames (depth_at m p - 1) g; handlers = refl })
 
 pub same_set_node : (m : Machine) (n : NodeName) (x : Node) → Same m (set_node m n x)
 unfolding set_node
 same_set_node m n x =
-    same_set_cpu m n.cpu (record (cpu_at m n.cpu) { nodes = set (cpu_at m n.cpu).nodes n.index x }) (record { nodes = length-set (cpu_at m n.cpu).nodes n.index x; halted = refl; frames = refl; handlers = refl })
+    same_set_cpu m n.cpu (record (cpu_at m n.cpu) { nodes = set (cpu_at m n.cpu).nodes n.index x }) (record { nodes = length-set (cpu_at m n.cpu).nodes n.index x; frames = refl; handlers = refl })
 
 pub same_set_queued : (m : Machine) (p n : ℕ) → Same m (set_queued m p n)
 unfolding set_queued
-same_set_queued m p n = same_set_cpu m p (record (cpu_at m p) { queued = n }) (record { nodes = refl; halted = refl; frames = refl; handlers = refl })
+same_set_queued m p n = same_set_cpu m p (record (cpu_at m p) { queued = n }) (record { nodes = refl; frames = refl; handlers = refl })
 
 pub same_set_preempted : (m : Machine) (p : ℕ) (b : Bool) → Same m (set_preempted m p b)
 unfolding set_preempted
-same_set_preempted m p b = same_set_cpu m p (record (cpu_at m p) { preempted = b }) (record { nodes = refl; halted = refl; frames = refl; handlers = refl })
+same_set_preempted m p b = same_set_cpu m p (record (cpu_at m p) { preempted = b }) (record { nodes = refl; frames = refl; handlers = refl })
+
+pub same_set_halted : (m : Machine) (p : ℕ) (b : Bool) → Same m (set_halted m p b)
+unfolding set_halted
+same_set_halted m p b = same_set_cpu m p (record (cpu_at m p) { halted = b }) (record { nodes = refl; frames = refl; handlers = refl })
+
+pub same_set_kicked : (m : Machine) (p : ℕ) (b : Bool) → Same m (set_kicked m p b)
+unfolding set_kicked
+same_set_kicked m p b = same_set_cpu m p (record (cpu_at m p) { kicked = b }) (record { nodes = refl; frames = refl; handlers = refl })
+
+same_hashing : (m : Machine) (es : List Entry) → (IsEnteredOnce m.hash → IsEnteredOnce es) → Same m (hashing m es)
+unfolding cpu_at handlers_at depth_at
+same_hashing m es once =
+    record {
+      keeps = record { setup = refl; locks = refl; cpus = refl; nodes = λ p. refl; handlers = λ p. omega arith; hash = once };
+      depth = λ p. refl;
+      handlers = λ p. refl;
+    }
+
+pub same_set_entry : (m : Machine) (l : LockName) (x : Option NodeName) → Same m (set_entry m l x)
+unfolding set_entry
+same_set_entry m l None = same_hashing m (without_entry l m.hash) (once_without l m.hash)
+same_set_entry m l (Some n) = same_hashing m ((l, n) ∷ without_entry l m.hash) (once_with l n m.hash)
 
 pub same_set_word : (m : Machine) (l : LockName) (x : Fields) → Same m (set_word m l x)
-unfolding set_word set_lock cpu_at halted_at handlers_at depth_at
+unfolding set_word set_lock cpu_at handlers_at depth_at
 same_set_word m l x =
     record {
       keeps = record {
@@ -156,18 +184,18 @@ same_set_word m l x =
         locks = length-set m.locks l.index (if l.wait then record (lock_at m l.index) { wait = x } else record (lock_at m l.index) { spin = x });
         cpus = refl;
         nodes = λ p. refl;
-        halted = λ p. refl;
         handlers = λ p. omega arith;
+        hash = λ once. once;
       };
       depth = λ p. refl;
       handlers = λ p. refl;
     }
 
 pub same_set_counts : (m : Machine) (x : Counts) → Same m (set_counts m x)
-unfolding set_counts cpu_at halted_at handlers_at depth_at
+unfolding set_counts cpu_at handlers_at depth_at
 same_set_counts m x =
     record {
-      keeps = record { setup = refl; locks = refl; cpus = refl; nodes = λ p. refl; halted = λ p. refl; handlers = λ p. omega arith };
+      keeps = record { setup = refl; locks = refl; cpus = refl; nodes = λ p. refl; handlers = λ p. omega arith; hash = λ once. once };
       depth = λ p. refl;
       handlers = λ p. refl;
     }
@@ -175,7 +203,7 @@ same_set_counts m x =
 -- the top frame goes
 
 pub keeps_pop : (m : Machine) (p : ℕ) → Keeps m (pop m p)
-unfolding pop halted_at handlers_at
+unfolding pop handlers_at
 keeps_pop m p =
     let c : CpuState = record (cpu_at m p) { frames = take (depth_at m p - 1) (cpu_at m p).frames } in
     record {
@@ -183,8 +211,8 @@ keeps_pop m p =
       locks = locks-set_cpu m p c;
       cpus = cpus-set_cpu m p c;
       nodes = cpu_part (λ (d : CpuState). length d.nodes) m p c refl;
-      halted = cpu_part (λ (d : CpuState). d.halted) m p c refl;
       handlers = λ q. let e = cpu_part (λ (d : CpuState). d.handlers) m p c refl q in omega (arith, e);
+      hash = hash-set_cpu m p c;
     }
 
 pub handlers_pop : (m : Machine) (p q : ℕ) → handlers_at (pop m p) q ≡ handlers_at m q
@@ -215,7 +243,7 @@ tops_pop m p top above q t =
 -- a frame comes on top
 
 pub keeps_push : (m : Machine) (p : ℕ) (g : Frame) → p < length m.cpus → Keeps m (push m p g)
-unfolding push halted_at handlers_at
+unfolding push handlers_at
 keeps_push m p g lt =
     let c : CpuState = record (cpu_at m p) { frames = (cpu_at m p).frames ++ g ∷ []; handlers = (cpu_at m p).handlers + 1 } in
     record {
@@ -223,7 +251,7 @@ keeps_push m p g lt =
       locks = locks-set_cpu m p c;
       cpus = cpus-set_cpu m p c;
       nodes = cpu_part (λ (d : CpuState). length d.nodes) m p c refl;
-      halted = cpu_part (λ (d : CpuState). d.halted) m p c refl;
+      hash = hash-set_cpu m p c;
       handlers = λ q. elim (cases_eq q p) [
         | inl e ↦ subst (λ (r : ℕ). (cpu_at m r).handlers ≤ (cpu_at (set_cpu m p c) r).handlers) (sym e) (let h = ap (λ (d : CpuState). d.handlers) (cpu_same m p c lt) in omega arith)
         | inr ne ↦ let h = ap (λ (d : CpuState). d.handlers) (cpu_other m p q c ne) in omega arith

@@ -1,11 +1,12 @@
 -- A machine as a world after each write.
-use Rattle.std.proofs.Common.{◌≡◌, ◌≢◌, ℕ, Option, Some, None, Bool, List, [], ◌∷◌, ◌++◌, inl, inr, arith, ap, ◌<◌, ◌+◌, ◌-◌, refl, sym, ◌∙◌, subst, slice_get, length, get_or, set, take}
-use Rattle.std.specs.Prelude.{if◌then◌else◌, ◌==◌}
-use Rattle.std.proofs.lemmas.Bool.{cases_eq, cases_order, eq-eqb, ne_eqb}
+use Rattle.std.proofs.Common.{◌≡◌, ◌≢◌, ℕ, Option, Some, None, Bool, true, false, List, [], ◌∷◌, ◌++◌, inl, inr, arith, ap, ◌<◌, ◌+◌, ◌-◌, refl, sym, ◌∙◌, subst, slice_get, length, get_or, set, take}
+use Rattle.std.specs.Prelude.{if◌then◌else◌, ◌==◌, slice_index_or}
+use Rattle.std.proofs.lemmas.Bool.{cases_eq, cases_lt, cases_order, eq-eqb, ne_eqb}
 use Rattle.std.proofs.lemmas.Option.{slice_get_past}
 use Rattle.lk_machine.specs.declared.setup.Setup.{Setup}
-use Rattle.std.proofs.lemmas.List.{get_or-set_same, get_or-set_other}
-use Rattle.lk_abs.specs.Names.{same_waiter}
+use Rattle.std.proofs.lemmas.List.{get_or-set_same, get_or-set_other, set_past}
+use Rattle.lk_abs.specs.Names.{same_waiter, same_lock}
+use Rattle.lk_abs.specs.declared.names.Kind.TheVariants.{Spin}
 use Rattle.lk_abs.specs.declared.names.Waiter.{Waiter}
 use Rattle.lk_abs.specs.declared.names.LockName.{LockName}
 use Rattle.lk_word.specs.declared.spin_word.NodeName.{NodeName}
@@ -13,35 +14,51 @@ use Rattle.lk_word.specs.declared.spin_word.Fields.{Fields}
 use Rattle.lk_machine.specs.declared.parts.Frame.{Frame}
 use Rattle.lk_machine.specs.declared.parts.Node.{Node}
 use Rattle.lk_machine.specs.declared.parts.Counts.{Counts}
-use Rattle.lk_machine.specs.Machine.{Machine, CpuState, cpu_at, lock_at, word_at, node_at, frame_at, queued_at, depth_at, top_of, set_cpu, set_lock, set_counts, set_word, set_node, set_top, set_queued, set_preempted, pop, push, rest_node, HasTop, HasNode}
-use Rattle.lk_law.specs.World.{World, put_word, put_node, put_frame, put_queued, same_node}
+use Rattle.lk_machine.specs.Machine.{Machine, CpuState, LockState, rest_lock, cpu_at, lock_at, word_at, rw_at, node_at, frame_at, queued_at, entry_at, halted_at, kicked_at, depth_at, top_of, set_cpu, set_lock, set_counts, set_word, set_node, set_top, set_queued, set_preempted, set_halted, set_kicked, set_entry, without_entry, pop, push, rest_node, HasTop, HasNode}
+use Rattle.lk_law.specs.World.{World, put_word, put_node, put_frame, put_queued, put_entry, put_halted, put_kicked}
+use Rattle.lk_law.specs.Snapshot.{same_node}
 use Rattle.lk_law.specs.Sound.{world, held_at, held_of}
 use Rattle.lk_law.proofs.Cases.{waiter_cases, node_cases}
 use Rattle.lk_law.proofs.Sames.{same_waiter-self}
 use Rattle.lk_law.proofs.Puts.{same_waiter-else, same_node-self, same_node-else}
 use Rattle.lk_core.proofs.Lists.{get-set_same, get-set_other, get-take_below, get-take_end, get-push_end, get-push_other}
+use Rattle.lk_core.proofs.Entries.{Entry, entered_now, removed_now}
 use Rattle.lk_core.proofs.Access.{cpu_same, cpu_other, cpu_part, frame_changed, word_set_word}
 
 -- two worlds agree everywhere
 pub record Alike (a b : World) : Type 0 where
   pub mode : a.mode ≡ b.mode
   pub turns : a.turns ≡ b.turns
+  pub threshold : a.threshold ≡ b.threshold
+  pub sockets : a.sockets ≡ b.sockets
   pub word : (l : LockName) → a.word l ≡ b.word l
   pub node : (n : NodeName) → a.node n ≡ b.node n
   pub frame : (u : Waiter) → a.frame u ≡ b.frame u
   pub held : (u : Waiter) (l : LockName) → a.held u l ≡ b.held u l
   pub queued : (p : ℕ) → a.queued p ≡ b.queued p
+  pub rw : (i : ℕ) → a.rw i ≡ b.rw i
+  pub kind : (i : ℕ) → a.kind i ≡ b.kind i
+  pub entry : (l : LockName) → a.entry l ≡ b.entry l
+  pub halted : (p : ℕ) → a.halted p ≡ b.halted p
+  pub kicked : (p : ℕ) → a.kicked p ≡ b.kicked p
 
 pub alike : (a b : World) → Alike a b → a ≡ b
 alike a b e =
     (λ i. record {
       mode = e.mode i;
       turns = e.turns i;
+      threshold = e.threshold i;
+      sockets = e.sockets i;
       word = λ l. e.word l i;
       node = λ n. e.node n i;
       frame = λ u. e.frame u i;
       held = λ u l. e.held u l i;
       queued = λ p. e.queued p i;
+      rw = λ j. e.rw j i;
+      kind = λ j. e.kind j i;
+      entry = λ l. e.entry l i;
+      halted = λ p. e.halted p i;
+      kicked = λ p. e.kicked p i;
     })
 
 -- the world of a machine with another frame of w, which holds locks as its program does
@@ -54,7 +71,7 @@ unfolding set_cpu
 held-set_cpu m p c u l None = refl
 held-set_cpu m p c u l (Some d) = refl
 
-held-set_lock : (m : Machine) (x : Fields) (k : LockName) (u : Waiter) (l : LockName) (o : Option Frame) → held_at (set_word m k x) u l o ≡ held_at m u l o
+pub held-set_lock : (m : Machine) (x : Fields) (k : LockName) (u : Waiter) (l : LockName) (o : Option Frame) → held_at (set_word m k x) u l o ≡ held_at m u l o
 unfolding set_word set_lock
 held-set_lock m x k u l None = refl
 held-set_lock m x k u l (Some d) = refl
@@ -72,9 +89,37 @@ turns-set_cpu : (m : Machine) (p : ℕ) (c : CpuState) → (world (set_cpu m p c
 unfolding set_cpu
 turns-set_cpu m p c = refl
 
+threshold-set_cpu : (m : Machine) (p : ℕ) (c : CpuState) → (world (set_cpu m p c)).threshold ≡ m.setup.threshold
+unfolding set_cpu
+threshold-set_cpu m p c = refl
+
+sockets-set_cpu : (m : Machine) (p : ℕ) (c : CpuState) → (world (set_cpu m p c)).sockets ≡ m.setup.topology.sockets.items
+unfolding set_cpu
+sockets-set_cpu m p c = refl
+
+entry-set_cpu : (m : Machine) (p : ℕ) (c : CpuState) (l : LockName) → entry_at (set_cpu m p c) l ≡ entry_at m l
+unfolding entry_at set_cpu
+entry-set_cpu m p c l = refl
+
+halted-set_cpu : (m : Machine) (p : ℕ) (c : CpuState) → c.halted ≡ (cpu_at m p).halted → (q : ℕ) → halted_at (set_cpu m p c) q ≡ halted_at m q
+unfolding halted_at
+halted-set_cpu m p c e q = cpu_part (λ (d : CpuState). d.halted) m p c e q
+
+kicked-set_cpu : (m : Machine) (p : ℕ) (c : CpuState) → c.kicked ≡ (cpu_at m p).kicked → (q : ℕ) → kicked_at (set_cpu m p c) q ≡ kicked_at m q
+unfolding kicked_at
+kicked-set_cpu m p c e q = cpu_part (λ (d : CpuState). d.kicked) m p c e q
+
 word-set_cpu : (m : Machine) (p : ℕ) (c : CpuState) (l : LockName) → word_at (set_cpu m p c) l ≡ word_at m l
 unfolding word_at lock_at set_cpu
 word-set_cpu m p c l = refl
+
+rw-set_cpu : (m : Machine) (p : ℕ) (c : CpuState) (i : ℕ) → rw_at (set_cpu m p c) i ≡ rw_at m i
+unfolding rw_at lock_at set_cpu
+rw-set_cpu m p c i = refl
+
+kind-set_cpu : (m : Machine) (p : ℕ) (c : CpuState) (i : ℕ) → (world (set_cpu m p c)).kind i ≡ (world m).kind i
+unfolding set_cpu
+kind-set_cpu m p c i = refl
 
 node-set_cpu : (m : Machine) (p : ℕ) (c : CpuState) → c.nodes ≡ (cpu_at m p).nodes → (n : NodeName) → node_at (set_cpu m p c) n ≡ node_at m n
 unfolding node_at
@@ -89,17 +134,25 @@ unfolding frame_at
 frame-set_cpu m p c e u = cpu_part (λ (d : CpuState). slice_get d.frames u.ctx) m p c (ap (λ (fs : List Frame). slice_get fs u.ctx) e) u.cpu
 
 -- a write that changes nothing that the world shows
-pub world-set_cpu : (m : Machine) (p : ℕ) (c : CpuState) → c.frames ≡ (cpu_at m p).frames → c.nodes ≡ (cpu_at m p).nodes → c.queued ≡ (cpu_at m p).queued → world (set_cpu m p c) ≡ world m
-world-set_cpu m p c frames nodes queued =
+pub world-set_cpu : (m : Machine) (p : ℕ) (c : CpuState) → c.frames ≡ (cpu_at m p).frames → c.nodes ≡ (cpu_at m p).nodes → c.queued ≡ (cpu_at m p).queued
+    → c.halted ≡ (cpu_at m p).halted → c.kicked ≡ (cpu_at m p).kicked → world (set_cpu m p c) ≡ world m
+world-set_cpu m p c frames nodes queued halted kicked =
     let frame = frame-set_cpu m p c frames in
     alike (world (set_cpu m p c)) (world m) (record {
       mode = mode-set_cpu m p c;
       turns = turns-set_cpu m p c;
+      threshold = threshold-set_cpu m p c;
+      sockets = sockets-set_cpu m p c;
       word = λ l. word-set_cpu m p c l;
       node = λ n. node-set_cpu m p c nodes n;
       frame = λ u. frame u;
       held = λ u l. held-set_cpu m p c u l (frame_at (set_cpu m p c) u) ∙ ap (held_at m u l) (frame u);
       queued = λ q. queued-set_cpu m p c queued q;
+      rw = λ i. rw-set_cpu m p c i;
+      kind = λ i. kind-set_cpu m p c i;
+      entry = λ l. entry-set_cpu m p c l;
+      halted = λ q. halted-set_cpu m p c halted q;
+      kicked = λ q. kicked-set_cpu m p c kicked q;
     })
 
 -- what a change of a processor's frames has to be: at one place the frame is this one, and the rest stays
@@ -109,6 +162,8 @@ pub record Reseats (m : Machine) (w : Waiter) (o : Option Frame) (c : CpuState) 
   pub others : (i : ℕ) → i ≢ w.ctx → slice_get c.frames i ≡ slice_get (cpu_at m w.cpu).frames i
   pub nodes : c.nodes ≡ (cpu_at m w.cpu).nodes
   pub queued : c.queued ≡ (cpu_at m w.cpu).queued
+  pub halted : c.halted ≡ (cpu_at m w.cpu).halted
+  pub kicked : c.kicked ≡ (cpu_at m w.cpu).kicked
 
 world-reseated : (m : Machine) (w : Waiter) (o : Option Frame) (c : CpuState) → Reseats m w o c → world (set_cpu m w.cpu c) ≡ seated m w o
 world-reseated m w o c r =
@@ -117,11 +172,18 @@ world-reseated m w o c r =
     alike (world n) (seated m w o) (record {
       mode = mode-set_cpu m w.cpu c;
       turns = turns-set_cpu m w.cpu c;
+      threshold = threshold-set_cpu m w.cpu c;
+      sockets = sockets-set_cpu m w.cpu c;
       word = λ l. word-set_cpu m w.cpu c l;
       node = λ k. node-set_cpu m w.cpu c r.nodes k;
       frame = λ u. frame u;
       held = λ u l. held-set_cpu m w.cpu c u l (frame_at n u) ∙ ap (held_at m u l) (frame u) ∙ split u l;
       queued = λ q. queued-set_cpu m w.cpu c r.queued q;
+      rw = λ i. rw-set_cpu m w.cpu c i;
+      kind = λ i. kind-set_cpu m w.cpu c i;
+      entry = λ l. entry-set_cpu m w.cpu c l;
+      halted = λ q. halted-set_cpu m w.cpu c r.halted q;
+      kicked = λ q. kicked-set_cpu m w.cpu c r.kicked q;
     })
   where
     split : (u : Waiter) (l : LockName) → held_at m u l (if same_waiter u w then o else frame_at m u) ≡ (if same_waiter u w then held_at m w l o else held_of m u l)
@@ -142,6 +204,8 @@ world-set_top m p g top =
       others = λ i ne. get-set_other (cpu_at m p).frames (depth_at m p - 1) i g ne;
       nodes = refl;
       queued = refl;
+      halted = refl;
+      kicked = refl;
     })
 
 pub world-pop : (m : Machine) (p : ℕ) → HasTop m p → world (pop m p) ≡ seated m (top_of m p) None
@@ -159,6 +223,8 @@ world-pop m p top =
       ];
       nodes = refl;
       queued = refl;
+      halted = refl;
+      kicked = refl;
     })
 
 -- the waiter of the next context
@@ -174,11 +240,13 @@ world-push m p g lt =
       others = λ i ne. get-push_other (cpu_at m p).frames g i ne;
       nodes = refl;
       queued = refl;
+      halted = refl;
+      kicked = refl;
     })
 
 pub world-set_preempted : (m : Machine) (p : ℕ) (b : Bool) → world (set_preempted m p b) ≡ world m
 unfolding set_preempted
-world-set_preempted m p b = world-set_cpu m p (record (cpu_at m p) { preempted = b }) refl refl refl
+world-set_preempted m p b = world-set_cpu m p (record (cpu_at m p) { preempted = b }) refl refl refl refl refl
 
 queued_changed : (m : Machine) (p : ℕ) (c : CpuState) → p < length m.cpus → (q : ℕ) → queued_at (set_cpu m p c) q ≡ (if q == p then c.queued else queued_at m q)
 unfolding queued_at
@@ -198,12 +266,157 @@ world-set_queued m p n lt =
     alike (world (set_cpu m p c)) (put_queued (world m) p n) (record {
       mode = mode-set_cpu m p c;
       turns = turns-set_cpu m p c;
+      threshold = threshold-set_cpu m p c;
+      sockets = sockets-set_cpu m p c;
       word = λ l. word-set_cpu m p c l;
       node = λ k. node-set_cpu m p c refl k;
       frame = λ u. frame u;
       held = λ u l. held-set_cpu m p c u l (frame_at (set_cpu m p c) u) ∙ ap (held_at m u l) (frame u);
       queued = λ q. queued_changed m p c lt q;
+      rw = λ i. rw-set_cpu m p c i;
+      kind = λ i. kind-set_cpu m p c i;
+      entry = λ l. entry-set_cpu m p c l;
+      halted = λ q. halted-set_cpu m p c refl q;
+      kicked = λ q. kicked-set_cpu m p c refl q;
     })
+
+halted_changed : (m : Machine) (p : ℕ) (c : CpuState) → p < length m.cpus → (q : ℕ) → halted_at (set_cpu m p c) q ≡ (if q == p then c.halted else halted_at m q)
+unfolding halted_at
+halted_changed m p c lt q =
+    elim (cases_eq q p) [
+      | inl e ↦
+          let P : ℕ → Type 0 = λ r. (cpu_at (set_cpu m p c) r).halted ≡ (if r == p then c.halted else (cpu_at m r).halted) in
+          subst P (sym e) (ap (λ (d : CpuState). d.halted) (cpu_same m p c lt) ∙ sym (ap (λ (b : Bool). if b then c.halted else (cpu_at m p).halted) (eq-eqb p p refl)))
+      | inr ne ↦ ap (λ (d : CpuState). d.halted) (cpu_other m p q c ne) ∙ sym (ap (λ (b : Bool). if b then c.halted else (cpu_at m q).halted) (ne_eqb q p ne))
+    ]
+
+pub frame-set_halted : (m : Machine) (p : ℕ) (b : Bool) (u : Waiter) → frame_at (set_halted m p b) u ≡ frame_at m u
+unfolding set_halted
+frame-set_halted m p b u = frame-set_cpu m p (record (cpu_at m p) { halted = b }) refl u
+
+pub world-set_halted : (m : Machine) (p : ℕ) (b : Bool) → p < length m.cpus → world (set_halted m p b) ≡ put_halted (world m) p b
+unfolding set_halted
+world-set_halted m p b lt =
+    let c : CpuState = record (cpu_at m p) { halted = b } in
+    let frame = frame-set_cpu m p c refl in
+    alike (world (set_cpu m p c)) (put_halted (world m) p b) (record {
+      mode = mode-set_cpu m p c;
+      turns = turns-set_cpu m p c;
+      threshold = threshold-set_cpu m p c;
+      sockets = sockets-set_cpu m p c;
+      word = λ l. word-set_cpu m p c l;
+      node = λ k. node-set_cpu m p c refl k;
+      frame = λ u. frame u;
+      held = λ u l. held-set_cpu m p c u l (frame_at (set_cpu m p c) u) ∙ ap (held_at m u l) (frame u);
+      queued = λ q. queued-set_cpu m p c refl q;
+      rw = λ i. rw-set_cpu m p c i;
+      kind = λ i. kind-set_cpu m p c i;
+      entry = λ l. entry-set_cpu m p c l;
+      halted = λ q. halted_changed m p c lt q;
+      kicked = λ q. kicked-set_cpu m p c refl q;
+    })
+
+kicked_changed : (m : Machine) (p : ℕ) (c : CpuState) → p < length m.cpus → (q : ℕ) → kicked_at (set_cpu m p c) q ≡ (if q == p then c.kicked else kicked_at m q)
+unfolding kicked_at
+kicked_changed m p c lt q =
+    elim (cases_eq q p) [
+      | inl e ↦
+          let P : ℕ → Type 0 = λ r. (cpu_at (set_cpu m p c) r).kicked ≡ (if r == p then c.kicked else (cpu_at m r).kicked) in
+          subst P (sym e) (ap (λ (d : CpuState). d.kicked) (cpu_same m p c lt) ∙ sym (ap (λ (b : Bool). if b then c.kicked else (cpu_at m p).kicked) (eq-eqb p p refl)))
+      | inr ne ↦ ap (λ (d : CpuState). d.kicked) (cpu_other m p q c ne) ∙ sym (ap (λ (b : Bool). if b then c.kicked else (cpu_at m q).kicked) (ne_eqb q p ne))
+    ]
+
+pub frame-set_kicked : (m : Machine) (p : ℕ) (b : Bool) (u : Waiter) → frame_at (set_kicked m p b) u ≡ frame_at m u
+unfolding set_kicked
+frame-set_kicked m p b u = frame-set_cpu m p (record (cpu_at m p) { kicked = b }) refl u
+
+pub world-set_kicked : (m : Machine) (p : ℕ) (b : Bool) → p < length m.cpus → world (set_kicked m p b) ≡ put_kicked (world m) p b
+unfolding set_kicked
+world-set_kicked m p b lt =
+    let c : CpuState = record (cpu_at m p) { kicked = b } in
+    let frame = frame-set_cpu m p c refl in
+    alike (world (set_cpu m p c)) (put_kicked (world m) p b) (record {
+      mode = mode-set_cpu m p c;
+      turns = turns-set_cpu m p c;
+      threshold = threshold-set_cpu m p c;
+      sockets = sockets-set_cpu m p c;
+      word = λ l. word-set_cpu m p c l;
+      node = λ k. node-set_cpu m p c refl k;
+      frame = λ u. frame u;
+      held = λ u l. held-set_cpu m p c u l (frame_at (set_cpu m p c) u) ∙ ap (held_at m u l) (frame u);
+      queued = λ q. queued-set_cpu m p c refl q;
+      rw = λ i. rw-set_cpu m p c i;
+      kind = λ i. kind-set_cpu m p c i;
+      entry = λ l. entry-set_cpu m p c l;
+      halted = λ q. halted-set_cpu m p c refl q;
+      kicked = λ q. kicked_changed m p c lt q;
+    })
+
+-- a machine with another hash
+abbrev pub hashing : Machine → List Entry → Machine
+hashing m es = record m { hash = es }
+
+held-hashing : (m : Machine) (es : List Entry) (u : Waiter) (l : LockName) (o : Option Frame) → held_at (hashing m es) u l o ≡ held_at m u l o
+held-hashing m es u l None = refl
+held-hashing m es u l (Some d) = refl
+
+pub frame-hashing : (m : Machine) (es : List Entry) (u : Waiter) → frame_at (hashing m es) u ≡ frame_at m u
+unfolding frame_at cpu_at
+frame-hashing m es u = refl
+
+node-hashing : (m : Machine) (es : List Entry) (n : NodeName) → node_at (hashing m es) n ≡ node_at m n
+unfolding node_at cpu_at
+node-hashing m es n = refl
+
+queued-hashing : (m : Machine) (es : List Entry) (p : ℕ) → queued_at (hashing m es) p ≡ queued_at m p
+unfolding queued_at cpu_at
+queued-hashing m es p = refl
+
+word-hashing : (m : Machine) (es : List Entry) (l : LockName) → word_at (hashing m es) l ≡ word_at m l
+unfolding word_at lock_at
+word-hashing m es l = refl
+
+rw-hashing : (m : Machine) (es : List Entry) (i : ℕ) → rw_at (hashing m es) i ≡ rw_at m i
+unfolding rw_at lock_at
+rw-hashing m es i = refl
+
+halted-hashing : (m : Machine) (es : List Entry) (q : ℕ) → halted_at (hashing m es) q ≡ halted_at m q
+unfolding halted_at cpu_at
+halted-hashing m es q = refl
+
+kicked-hashing : (m : Machine) (es : List Entry) (q : ℕ) → kicked_at (hashing m es) q ≡ kicked_at m q
+unfolding kicked_at cpu_at
+kicked-hashing m es q = refl
+
+world-hashing : (m : Machine) (l : LockName) (x : Option NodeName) (es : List Entry) → ((k : LockName) → entry_at (hashing m es) k ≡ (if same_lock k l then x else entry_at m k))
+    → world (hashing m es) ≡ put_entry (world m) l x
+world-hashing m l x es entries =
+    alike (world (hashing m es)) (put_entry (world m) l x) (record {
+      mode = refl;
+      turns = refl;
+      threshold = refl;
+      sockets = refl;
+      word = λ k. word-hashing m es k;
+      node = λ n. node-hashing m es n;
+      frame = λ u. frame-hashing m es u;
+      held = λ u k. held-hashing m es u k (frame_at (hashing m es) u) ∙ ap (held_at m u k) (frame-hashing m es u);
+      queued = λ p. queued-hashing m es p;
+      rw = λ i. rw-hashing m es i;
+      kind = λ i. refl;
+      entry = entries;
+      halted = λ q. halted-hashing m es q;
+      kicked = λ q. kicked-hashing m es q;
+    })
+
+pub world-set_entry : (m : Machine) (l : LockName) (x : Option NodeName) → world (set_entry m l x) ≡ put_entry (world m) l x
+unfolding set_entry entry_at
+world-set_entry m l None = world-hashing m l None (without_entry l m.hash) (λ k. removed_now k l m.hash)
+world-set_entry m l (Some n) = world-hashing m l (Some n) ((l, n) ∷ without_entry l m.hash) (λ k. entered_now k l n m.hash)
+
+pub frame-set_entry : (m : Machine) (l : LockName) (x : Option NodeName) (u : Waiter) → frame_at (set_entry m l x) u ≡ frame_at m u
+unfolding set_entry
+frame-set_entry m l None u = frame-hashing m (without_entry l m.hash) u
+frame-set_entry m l (Some n) u = frame-hashing m ((l, n) ∷ without_entry l m.hash) u
 
 node_changed : (m : Machine) (n : NodeName) (c : CpuState) (x : Node) → n.cpu < length m.cpus → n.index < length (cpu_at m n.cpu).nodes → c.nodes ≡ set (cpu_at m n.cpu).nodes n.index x
     → (k : NodeName) → node_at (set_cpu m n.cpu c) k ≡ (if same_node k n then x else node_at m k)
@@ -231,6 +444,14 @@ pub frame-set_node : (m : Machine) (n : NodeName) (x : Node) (u : Waiter) → fr
 unfolding set_node
 frame-set_node m n x u = frame-set_cpu m n.cpu (record (cpu_at m n.cpu) { nodes = set (cpu_at m n.cpu).nodes n.index x }) refl u
 
+pub halted-set_node : (m : Machine) (n : NodeName) (x : Node) (q : ℕ) → halted_at (set_node m n x) q ≡ halted_at m q
+unfolding set_node
+halted-set_node m n x q = halted-set_cpu m n.cpu (record (cpu_at m n.cpu) { nodes = set (cpu_at m n.cpu).nodes n.index x }) refl q
+
+pub kicked-set_node : (m : Machine) (n : NodeName) (x : Node) (q : ℕ) → kicked_at (set_node m n x) q ≡ kicked_at m q
+unfolding set_node
+kicked-set_node m n x q = kicked-set_cpu m n.cpu (record (cpu_at m n.cpu) { nodes = set (cpu_at m n.cpu).nodes n.index x }) refl q
+
 pub frame-set_queued : (m : Machine) (p n : ℕ) (u : Waiter) → frame_at (set_queued m p n) u ≡ frame_at m u
 unfolding set_queued
 frame-set_queued m p n u = frame-set_cpu m p (record (cpu_at m p) { queued = n }) refl u
@@ -243,11 +464,18 @@ world-set_node m n x has four =
     alike (world (set_cpu m n.cpu c)) (put_node (world m) n x) (record {
       mode = mode-set_cpu m n.cpu c;
       turns = turns-set_cpu m n.cpu c;
+      threshold = threshold-set_cpu m n.cpu c;
+      sockets = sockets-set_cpu m n.cpu c;
       word = λ l. word-set_cpu m n.cpu c l;
       node = λ k. node_changed m n c x has.cpu (omega (arith, four, has.index)) refl k;
       frame = λ u. frame u;
       held = λ u l. held-set_cpu m n.cpu c u l (frame_at (set_cpu m n.cpu c) u) ∙ ap (held_at m u l) (frame u);
       queued = λ q. queued-set_cpu m n.cpu c refl q;
+      rw = λ i. rw-set_cpu m n.cpu c i;
+      kind = λ i. kind-set_cpu m n.cpu c i;
+      entry = λ l. entry-set_cpu m n.cpu c l;
+      halted = λ q. halted-set_cpu m n.cpu c refl q;
+      kicked = λ q. kicked-set_cpu m n.cpu c refl q;
     })
 
 pub frame-set_word : (m : Machine) (l : LockName) (x : Fields) (u : Waiter) → frame_at (set_word m l x) u ≡ frame_at m u
@@ -266,16 +494,51 @@ setup-set_word : (m : Machine) (l : LockName) (x : Fields) → (set_word m l x).
 unfolding set_word set_lock
 setup-set_word m l x = refl
 
+rw-set_word : (m : Machine) (l : LockName) (x : Fields) (i : ℕ) → rw_at (set_word m l x) i ≡ rw_at m i
+unfolding rw_at lock_at set_word set_lock
+rw-set_word m l x i =
+    let y : LockState = (if l.wait then record (get_or m.locks l.index rest_lock) { wait = x } else record (get_or m.locks l.index rest_lock) { spin = x }) in
+    elim (cases_eq i l.index) [
+      | inl s ↦ elim (cases_lt l.index (length m.locks)) [
+        | inl lt ↦ ap (λ n. (get_or (set m.locks l.index y) n rest_lock).rw) s ∙ ap (λ (z : LockState). z.rw) (get_or-set_same m.locks l.index y rest_lock lt) ∙ by l.wait (get_or m.locks l.index rest_lock) ∙ ap (λ n. (get_or m.locks n rest_lock).rw) (sym s)
+        | inr ge ↦ ap (λ ls. (get_or ls i rest_lock).rw) (set_past m.locks l.index y ge)
+      ]
+      | inr ne ↦ ap (λ (z : LockState). z.rw) (get_or-set_other m.locks l.index i y rest_lock ne)
+    ]
+  where
+    by : (b : Bool) (z : LockState) → (if b then record z { wait = x } else record z { spin = x }).rw ≡ z.rw
+    by true z = refl
+    by false z = refl
+
+entry-set_word : (m : Machine) (l : LockName) (x : Fields) (k : LockName) → entry_at (set_word m l x) k ≡ entry_at m k
+unfolding entry_at set_word set_lock
+entry-set_word m l x k = refl
+
+halted-set_word : (m : Machine) (l : LockName) (x : Fields) (q : ℕ) → halted_at (set_word m l x) q ≡ halted_at m q
+unfolding halted_at cpu_at set_word set_lock
+halted-set_word m l x q = refl
+
+kicked-set_word : (m : Machine) (l : LockName) (x : Fields) (q : ℕ) → kicked_at (set_word m l x) q ≡ kicked_at m q
+unfolding kicked_at cpu_at set_word set_lock
+kicked-set_word m l x q = refl
+
 pub world-set_word : (m : Machine) (l : LockName) (x : Fields) → l.index < length m.locks → world (set_word m l x) ≡ put_word (world m) l x
 world-set_word m l x lt =
     alike (world (set_word m l x)) (put_word (world m) l x) (record {
       mode = ap (λ (s : Setup). s.mode) (setup-set_word m l x);
       turns = ap (λ (s : Setup). s.spins) (setup-set_word m l x);
+      threshold = ap (λ (s : Setup). s.threshold) (setup-set_word m l x);
+      sockets = ap (λ (s : Setup). s.topology.sockets.items) (setup-set_word m l x);
       word = λ k. word_set_word m l x lt k;
       node = λ n. node-set_word m l x n;
       frame = λ u. frame-set_word m l x u;
       held = λ u k. held-set_lock m x l u k (frame_at (set_word m l x) u) ∙ ap (held_at m u k) (frame-set_word m l x u);
       queued = λ p. queued-set_word m l x p;
+      rw = λ i. rw-set_word m l x i;
+      kind = λ i. ap (λ (s : Setup). slice_index_or s.locks.items i Spin) (setup-set_word m l x);
+      entry = λ k. entry-set_word m l x k;
+      halted = λ q. halted-set_word m l x q;
+      kicked = λ q. kicked-set_word m l x q;
     })
 
 pub frame-set_counts : (m : Machine) (x : Counts) (u : Waiter) → frame_at (set_counts m x) u ≡ frame_at m u
@@ -298,14 +561,37 @@ setup-set_counts : (m : Machine) (x : Counts) → (set_counts m x).setup ≡ m.s
 unfolding set_counts
 setup-set_counts m x = refl
 
+rw-set_counts : (m : Machine) (x : Counts) (i : ℕ) → rw_at (set_counts m x) i ≡ rw_at m i
+unfolding rw_at lock_at set_counts
+rw-set_counts m x i = refl
+
+entry-set_counts : (m : Machine) (x : Counts) (k : LockName) → entry_at (set_counts m x) k ≡ entry_at m k
+unfolding entry_at set_counts
+entry-set_counts m x k = refl
+
+halted-set_counts : (m : Machine) (x : Counts) (q : ℕ) → halted_at (set_counts m x) q ≡ halted_at m q
+unfolding halted_at cpu_at set_counts
+halted-set_counts m x q = refl
+
+kicked-set_counts : (m : Machine) (x : Counts) (q : ℕ) → kicked_at (set_counts m x) q ≡ kicked_at m q
+unfolding kicked_at cpu_at set_counts
+kicked-set_counts m x q = refl
+
 pub world-set_counts : (m : Machine) (x : Counts) → world (set_counts m x) ≡ world m
 world-set_counts m x =
     alike (world (set_counts m x)) (world m) (record {
       mode = ap (λ (s : Setup). s.mode) (setup-set_counts m x);
       turns = ap (λ (s : Setup). s.spins) (setup-set_counts m x);
+      threshold = ap (λ (s : Setup). s.threshold) (setup-set_counts m x);
+      sockets = ap (λ (s : Setup). s.topology.sockets.items) (setup-set_counts m x);
       word = λ k. word-set_counts m x k;
       node = λ n. node-set_counts m x n;
       frame = λ u. frame-set_counts m x u;
       held = λ u k. held-set_counts m x u k (frame_at (set_counts m x) u) ∙ ap (held_at m u k) (frame-set_counts m x u);
       queued = λ p. queued-set_counts m x p;
+      rw = λ i. rw-set_counts m x i;
+      kind = λ i. ap (λ (s : Setup). slice_index_or s.locks.items i Spin) (setup-set_counts m x);
+      entry = λ k. entry-set_counts m x k;
+      halted = λ q. halted-set_counts m x q;
+      kicked = λ q. kicked-set_counts m x q;
     })

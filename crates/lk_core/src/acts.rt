@@ -1,22 +1,27 @@
 // One act.
 
-ghost use Rattle.std.specs.Prelude.{◌≡◌, ◌<◌, ◌+◌, ◌-◌, ◌^◌, ℕ, None, Some, List, length};
+ghost use Rattle.std.specs.Prelude.{◌≡◌, ◌&&◌, not, ◌<◌, ◌+◌, ◌-◌, ◌^◌, ℕ, None, Some, List, length};
 ghost use Rattle.lk_abs.specs.declared.events.Act.TheVariants as act;
 ghost use Rattle.lk_abs.specs.declared.events.Event.{Event as EventValue};
-ghost use Rattle.lk_machine.specs.Acts.{next, processor_of};
+ghost use Rattle.lk_machine.specs.Acts.{next, processor_of, halts, after_halt, woken, awake, step_halted};
+ghost use Rattle.lk_machine.specs.Machine.{HasTop, top_frame, halted_at};
 ghost use Rattle.lk_machine.specs.Ready.{CountsWithin};
 ghost use Rattle.lk_spin.specs.Row.{is_spin_row};
+ghost use Rattle.lk_cna.specs.Row.{is_cna_row};
+ghost use Rattle.lk_rw.specs.Row.{is_rw_row};
+ghost use Rattle.lk_pv.specs.Row.{is_pv_row, is_holder_row};
 ghost use Rattle.lk_law.specs.Sound.{IsSound};
-ghost use Rattle.lk_law.specs.MachineLaws.{ShowsLawful, and_then};
+ghost use Rattle.lk_law.specs.MachineLaws.{ShowsLawful};
+ghost use Rattle.lk_law.specs.Kicked.{and_then};
 ghost use Rattle.lk_core.specs.Idle.{IsIdle, Happens};
 
 use lk_abs::{Act, Event, Waiter, What};
-use lk_machine::{MAX_FRAMES, Machine, Pc};
+use lk_cna::cna_row;
+use lk_machine::{Frame, MAX_FRAMES, Machine, Pc};
+use lk_pv::pv_row;
 use lk_queue::queue_row;
+use lk_rw::rw_row;
 use lk_spin::spin_row;
-
-#[cfg(test)]
-mod tests;
 
 /// Does one act, and gives its event where it has one. It has no refusal and takes no memory: an act that is idle changes nothing.
 #[inline]
@@ -49,12 +54,11 @@ pub fn act(machine: &mut Machine, act: Act) -> Option<Event>
             machine.set_preempted(cpu, false);
             None
         }
-        // Nobody has halted: the rows that halt are those of the paravirtual lock.
-        Act::Nudge(_) => None,
+        Act::Nudge(cpu) => nudge(machine, cpu),
     }
 }
 
-// The row of the top frame. A processor that is preempted stands still, and a frame that is finished has no row.
+// The row of the top frame, or the end of a halt. A processor that is preempted stands still, and a frame that is finished has no row.
 #[inline]
 fn step(machine: &mut Machine, cpu: u32) -> Option<Event>
     requires range { cpu < length machine.old.cpus }
@@ -66,9 +70,15 @@ fn step(machine: &mut Machine, cpu: u32) -> Option<Event>
     if machine.preempted(cpu) {
         return None;
     }
+    if machine.halted(cpu) {
+        return wake(machine, cpu);
+    }
     match machine.place(cpu) {
         None => None,
         Some(place) if needs_no_queue(place) => spin_row(machine, cpu),
+        Some(place) if chooses_next(place) => cna_row(machine, cpu),
+        Some(place) if shares(place) => rw_row(machine, cpu),
+        Some(place) if may_halt(place) => pv_row(machine, cpu),
         Some(_) => queue_row(machine, cpu),
     }
 }
@@ -94,8 +104,190 @@ fn needs_no_queue(place: Pc) -> bool
     )
 }
 
-// The next handler comes on top, where there is one left and the processor has room for a frame. Since no frame stands at a halt,
-// interrupts are never off.
+// Whether a row is one of the choice of the next.
+#[inline]
+fn chooses_next(place: Pc) -> bool
+    ensures { result ≡ is_cna_row (Some place) }
+{
+    matches!(
+        place,
+        Pc::C1 | Pc::C2 | Pc::C3 | Pc::C4 | Pc::C5 | Pc::C6 | Pc::C7 | Pc::C8 | Pc::C9 | Pc::C10
+    )
+}
+
+// Whether a row is one of a reader or a writer.
+#[inline]
+fn shares(place: Pc) -> bool
+    ensures { result ≡ is_rw_row (Some place) }
+{
+    matches!(
+        place,
+        Pc::R1
+            | Pc::R2
+            | Pc::R3
+            | Pc::R4
+            | Pc::R5
+            | Pc::Wr1
+            | Pc::Wr2
+            | Pc::Wr3
+            | Pc::Wr4
+            | Pc::Wr5
+            | Pc::Wr6
+            | Pc::Y1
+            | Pc::Y2
+            | Pc::Y3
+            | Pc::Y4
+            | Pc::Y5
+            | Pc::Z1
+            | Pc::Z2
+    )
+}
+
+// Whether a row is one of the lock that halts processors.
+#[inline]
+fn may_halt(place: Pc) -> bool
+    ensures { result ≡ is_pv_row (Some place) }
+{
+    if looks_after(place) {
+        return true;
+    }
+    matches!(
+        place,
+        Pc::H1
+            | Pc::H2
+            | Pc::W1
+            | Pc::W2
+            | Pc::W3
+            | Pc::W4
+            | Pc::W5
+            | Pc::W6
+            | Pc::W7
+            | Pc::E1
+            | Pc::E2
+            | Pc::E3
+            | Pc::E4
+            | Pc::E5
+            | Pc::E6
+            | Pc::E7
+            | Pc::E8
+            | Pc::E9
+            | Pc::E10
+            | Pc::E11
+            | Pc::E12
+    )
+}
+
+// Whether a row is one of its holder.
+#[inline]
+fn looks_after(place: Pc) -> bool
+    ensures { result ≡ is_holder_row (Some place) }
+{
+    matches!(
+        place,
+        Pc::E13 | Pc::E14 | Pc::E15 | Pc::K1 | Pc::K2 | Pc::K3 | Pc::U2 | Pc::U3 | Pc::U4 | Pc::U5
+    )
+}
+
+// Whether a place is a row at which a processor halts.
+#[inline]
+fn stands_halting(place: Option<Pc>) -> bool
+    ensures { result ≡ halts place }
+{
+    matches!(place, Some(Pc::W6 | Pc::E12))
+}
+
+// The place behind a halt.
+#[inline]
+fn behind_halt(place: Option<Pc>) -> Option<Pc>
+    ensures { result ≡ after_halt place }
+{
+    match place {
+        Some(Pc::W6) => Some(Pc::W7),
+        Some(Pc::E12) => Some(Pc::E2),
+        _ => place,
+    }
+}
+
+// Whether a processor is between the last test before a halt and the halt.
+fn is_about_to_halt(machine: &Machine, cpu: u32) -> bool
+    requires { HasTop machine.now cpu }
+    ensures { result ≡ (halts (top_frame machine.now cpu).place && not (halted_at machine.now cpu)) }
+{
+    stands_halting(machine.place(cpu)) && !machine.halted(cpu)
+}
+
+// The halt of a processor ends, and its top frame goes on behind it.
+#[tactic(auto, using(lk_machine::proofs::Kept::kept))]
+fn end_halt(machine: &mut Machine, cpu: u32)
+    requires { HasTop machine.old cpu }
+    ensures { machine.new ≡ woken machine.old cpu }
+{
+    let frame = machine.frame(cpu);
+    machine.set_frame(
+        cpu,
+        Frame {
+            place: behind_halt(frame.place),
+            ..frame
+        },
+    );
+    machine.set_halted(cpu, false);
+}
+
+// The halt of a processor ends, if it has halted.
+fn end_any_halt(machine: &mut Machine, cpu: u32)
+    requires { HasTop machine.old cpu }
+    ensures { machine.new ≡ awake machine.old cpu }
+{
+    if machine.halted(cpu) {
+        end_halt(machine, cpu);
+    }
+}
+
+// A kick that is remembered ends the halt of a processor. It is remembered no more.
+#[tactic(auto, using(lk_machine::proofs::Kept::kept))]
+fn wake(machine: &mut Machine, cpu: u32) -> Option<Event>
+    requires { HasTop machine.old cpu }
+    ensures next { machine.new ≡ (step_halted machine.old cpu).0 }
+    ensures event { result ≡ (step_halted machine.old cpu).1 }
+{
+    if !machine.kicked(cpu) {
+        return None;
+    }
+    let frame = machine.frame(cpu);
+    end_halt(machine, cpu);
+    machine.set_kicked(cpu, false);
+    Some(Event {
+        by: Waiter {
+            cpu,
+            ctx: frame.ctx,
+        },
+        what: What::Wake { lock: frame.lock },
+    })
+}
+
+// A halt ends without a kick; a kick that is remembered stays.
+fn nudge(machine: &mut Machine, cpu: u32) -> Option<Event>
+    requires range { cpu < length machine.old.cpus }
+    requires sound { IsSound machine.old }
+    ensures next { machine.new ≡ (next machine.old (act.Nudge cpu)).0 }
+    ensures event { result ≡ (next machine.old (act.Nudge cpu)).1 }
+{
+    if machine.preempted(cpu) || !machine.halted(cpu) {
+        return None;
+    }
+    let frame = machine.frame(cpu);
+    end_halt(machine, cpu);
+    Some(Event {
+        by: Waiter {
+            cpu,
+            ctx: frame.ctx,
+        },
+        what: What::Nudge,
+    })
+}
+
+// The next handler comes on top, where there is one left and the processor has room for a frame; a halt ends. Between the last test before
+// a halt and the halt interrupts are off.
 fn interrupt(machine: &mut Machine, cpu: u32) -> Option<Event>
     requires range { cpu < length machine.old.cpus }
     requires sound { IsSound machine.old }
@@ -103,9 +295,14 @@ fn interrupt(machine: &mut Machine, cpu: u32) -> Option<Event>
     ensures event { result ≡ (next machine.old (act.Interrupt cpu)).1 }
 {
     let ctx = machine.depth(cpu);
-    if machine.preempted(cpu) || ctx as usize == MAX_FRAMES || machine.handlers_left(cpu) == 0 {
+    if machine.preempted(cpu)
+        || ctx as usize == MAX_FRAMES
+        || machine.handlers_left(cpu) == 0
+        || is_about_to_halt(machine, cpu)
+    {
         return None;
     }
+    end_any_halt(machine, cpu);
     machine.interrupt(cpu);
     Some(Event {
         by: Waiter { cpu, ctx },

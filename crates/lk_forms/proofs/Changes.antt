@@ -7,8 +7,8 @@ use Rattle.lk_machine.specs.declared.setup.Op.{Op}
 use Rattle.lk_machine.specs.declared.setup.Setup.{Setup}
 use Rattle.lk_forms.specs.Words.{number_of}
 use Rattle.lk_forms.specs.Operations.{and_then, or_fault, ops_of}
-use Rattle.lk_forms.specs.Grammar.{one_word, two_words, no_words, in_range, number_in, numbers_from, cpus_of, cpu_word, with_cpus, with_sockets, with_lock, with_program, with_handler, has_program, handlers_of, mode_of, mode_word, built_mode, is_built_mode, kind_named, kind_word, built_kind, is_built_kind, next_lock, is_built_irq, mode_line, cpus_line, sockets_line, threshold_line, spins_line, lock_line, program_line, handler_line, irq_line, header_line}
-use Rattle.lk_forms.specs.declared.answers.Fault.TheVariants.{UnknownWord, WordCount, BadNumber, OutOfRange, Repeated, NotYet}
+use Rattle.lk_forms.specs.Grammar.{one_word, two_words, no_words, in_range, number_in, numbers_from, cpus_of, cpu_word, with_cpus, with_sockets, with_lock, with_program, with_handler, has_program, handlers_of, mode_word, kind_word, next_lock, mode_line, cpus_line, sockets_line, threshold_line, spins_line, lock_line, program_line, handler_line, irq_line, header_line}
+use Rattle.lk_forms.specs.declared.answers.Fault.TheVariants.{WordCount, BadNumber, OutOfRange, Repeated}
 use Rattle.lk_forms.specs.declared.answers.Which.TheVariants.{Handlers}
 use Rattle.lk_forms.specs.declared.answers.LineRefusal.{LineRefusal}
 use Rattle.lk_forms.specs.declared.answers.LineRefusal.TheVariants.{Bad, Limit}
@@ -17,12 +17,12 @@ use Rattle.lk_forms.specs.declared.keyword.Keyword.TheVariants as keyword
 
 -- what one line may make of a setup
 pub data Changes (s : Setup) : Setup → Type 0 where
-  to_mode : (m : Mode) → is_built_mode m ≡ true → Changes s (record s { mode = m })
+  to_mode : (m : Mode) → Changes s (record s { mode = m })
   to_cpus : (n : ℕ) → 1 ≤ n → n ≤ 64 → Changes s (with_cpus s n)
   to_sockets : (ns : List ℕ) → length ns ≡ cpus_of s → Changes s (with_sockets s ns)
   to_threshold : (t : ℕ) → t ≤ 65535 → Changes s (record s { threshold = t })
   to_spins : (n : ℕ) → 1 ≤ n → n ≤ 65535 → Changes s (record s { spins = n })
-  one_lock : (k : Kind) → is_built_kind k ≡ true → length s.locks.items ≤ 31 → Changes s (with_lock s k)
+  one_lock : (k : Kind) → length s.locks.items ≤ 31 → Changes s (with_lock s k)
   one_program : (p : ℕ) (words : List (List ℕ)) (ops : List Op) → p ≤ cpus_of s - 1 → ops_of s.locks.items words ≡ Ok ops → Changes s (with_program s p ops)
   one_handler : (p : ℕ) (words : List (List ℕ)) (ops : List Op) → p ≤ cpus_of s - 1 → length (handlers_of s p).items ≤ 15 → ops_of s.locks.items words ≡ Ok ops → Changes s (with_handler s p ops)
   nothing : Changes s s
@@ -64,10 +64,7 @@ mode_line-ok : (s : Setup) (args : List (List ℕ)) (s' : Setup) → mode_line s
 mode_line-ok s args s' is =
     let word = and_then-ok (one_word args) (λ word. and_then (mode_word word) (λ m. Ok (record s { mode = m }))) s' is in
     let mode = and_then-ok (mode_word word.0) (λ m. Ok (record s { mode = m })) s' word.2 in
-    let named = and_then-ok (or_fault UnknownWord (mode_of word.0)) (λ m. built_mode m) mode.0 mode.1 in
-    let built = if-ok (is_built_mode named.0) (Ok named.0) (Bad NotYet) mode.0 named.2 in
-    let same : named.0 ≡ mode.0 = cc (built.1) in
-    changed s _ s' (to_mode mode.0 (rw same at built.0)) mode.2
+    changed s _ s' (to_mode mode.0) mode.2
 
 cpus_line-ok : (s : Setup) (args : List (List ℕ)) (s' : Setup) → cpus_line s args ≡ Ok s' → Changes s s'
 cpus_line-ok s args s' is =
@@ -106,10 +103,7 @@ lock_line-ok s args s' is =
     let fits = if-ok ((number.0 == locks) && nat_le number.0 31) (Ok number.0) (Bad OutOfRange) next.0 next.1 in
     let few : locks ≤ 31 = grind (arith, nat_tests, fits.0) in
     let kind = and_then-ok (kind_word both.0.1) (λ k. Ok (with_lock s k)) s' next.2 in
-    let named = and_then-ok (or_fault UnknownWord (kind_named both.0.1)) (λ k. built_kind k) kind.0 kind.1 in
-    let built = if-ok (is_built_kind named.0) (Ok named.0) (Bad NotYet) kind.0 named.2 in
-    let same : named.0 ≡ kind.0 = cc (built.1) in
-    changed s _ s' (one_lock kind.0 (rw same at built.0) few) kind.2
+    changed s _ s' (one_lock kind.0 few) kind.2
 
 program_line-ok : (s : Setup) (args : List (List ℕ)) (s' : Setup) → program_line s args ≡ Ok s' → Changes s s'
 program_line-ok s [] s' is = cc
@@ -129,7 +123,7 @@ handler_line-ok s cpu args s' is =
 
 irq_line-ok : (s : Setup) (args : List (List ℕ)) (s' : Setup) → irq_line s args ≡ Ok s' → Changes s s'
 irq_line-ok s [] s' is = cc
-irq_line-ok s (cpu ∷ args) s' is = handler_line-ok s cpu args s' (if-ok is_built_irq (handler_line s cpu args) (Bad NotYet) s' is).1
+irq_line-ok s (cpu ∷ args) s' is = handler_line-ok s cpu args s' is
 
 -- an accepted line makes one of these changes
 pub header_line-changes : (k : Keyword) (s : Setup) (args : List (List ℕ)) (s' : Setup) → header_line k s args ≡ Ok s' → Changes s s'

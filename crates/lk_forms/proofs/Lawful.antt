@@ -1,4 +1,4 @@
--- The setup that lines say is lawful, and all of it is built.
+-- The setup that lines say is lawful.
 use Rattle.std.proofs.Common.{◌≡◌, ◌≤◌, ◌<◌, ◌-◌, ◌==◌, ◌⊎◌, inl, inr, ℕ, Bool, true, false, List, [], ◌∷◌, ◌++◌, None, Some, length, refl, ap, ◌∙◌, arith, if◌then◌else◌}
 use Rattle.std.specs.Prelude.{All, slice_get, slice_index_or}
 use Rattle.std.proofs.lemmas.Bool.{cases_lt}
@@ -11,7 +11,7 @@ use Rattle.lk_abs.specs.declared.names.Kind.{Kind}
 use Rattle.lk_machine.specs.Programs.{program_at, handlers_of, IsLawfulProgram, IsLawfulSetup}
 use Rattle.lk_machine.specs.declared.setup.Op.{Op}
 use Rattle.lk_machine.specs.declared.setup.Setup.{Setup}
-use Rattle.lk_forms.specs.Grammar.{Reading, has_go, reading_of, cpus_of, list_of, default_setup, is_built_mode, is_built_kind, handlers_of as more_of, with_more}
+use Rattle.lk_forms.specs.Grammar.{Reading, has_go, reading_of, cpus_of, list_of, default_setup, handlers_of as more_of, with_more}
 use Rattle.lk_forms.specs.Agrees.{IsRoomy}
 use Rattle.lk_forms.specs.Keywords.{rank_of, fault_of_place, fault_of_ranks}
 use Rattle.lk_forms.specs.declared.keyword.Keyword.{Keyword}
@@ -37,8 +37,6 @@ record IsSaid (s : Setup) : Type 0 where
   spins : (0 < s.spins) × (s.spins ≤ 65535)
   progs : All (λ program. IsGood s.locks.items program) s.progs.items
   irqs : All (λ handlers. AreGood s.locks.items handlers) s.irqs.items
-  mode : is_built_mode s.mode ≡ true
-  kinds : All (λ k. is_built_kind k ≡ true) s.locks.items
 
 -- the empty program
 
@@ -76,27 +74,23 @@ are_good_more kinds k handlers good = (good.0, All-weaker (λ h. IsGood kinds h)
 -- each change
 
 said-changed : (s s' : Setup) → Changes s s' → IsSaid s → IsSaid s'
-said-changed s _ (to_mode m built) said = record { roomy = roomy-changed s _ (to_mode m built) said.roomy; threshold = said.threshold; spins = said.spins; progs = said.progs; irqs = said.irqs; mode = built; kinds = said.kinds }
+said-changed s _ (to_mode m) said = record { roomy = roomy-changed s _ (to_mode m) said.roomy; threshold = said.threshold; spins = said.spins; progs = said.progs; irqs = said.irqs }
 said-changed s _ (to_cpus n some few) said = record {
   roomy = roomy-changed s _ (to_cpus n some few) said.roomy;
   threshold = said.threshold;
   spins = said.spins;
   progs = All-replicate (λ program. IsGood s.locks.items program) n (list_of 0 []) (good_empty s.locks.items 0);
   irqs = All-replicate (λ handlers. AreGood s.locks.items handlers) n (list_of 16 []) (are_good_empty s.locks.items 16);
-  mode = said.mode;
-  kinds = said.kinds;
 }
-said-changed s _ (to_sockets ns many) said = record { roomy = roomy-changed s _ (to_sockets ns many) said.roomy; threshold = said.threshold; spins = said.spins; progs = said.progs; irqs = said.irqs; mode = said.mode; kinds = said.kinds }
-said-changed s _ (to_threshold t within) said = record { roomy = roomy-changed s _ (to_threshold t within) said.roomy; threshold = within; spins = said.spins; progs = said.progs; irqs = said.irqs; mode = said.mode; kinds = said.kinds }
-said-changed s _ (to_spins n some within) said = record { roomy = roomy-changed s _ (to_spins n some within) said.roomy; threshold = said.threshold; spins = (omega arith, within); progs = said.progs; irqs = said.irqs; mode = said.mode; kinds = said.kinds }
-said-changed s _ (one_lock k built few) said = record {
-  roomy = roomy-changed s _ (one_lock k built few) said.roomy;
+said-changed s _ (to_sockets ns many) said = record { roomy = roomy-changed s _ (to_sockets ns many) said.roomy; threshold = said.threshold; spins = said.spins; progs = said.progs; irqs = said.irqs }
+said-changed s _ (to_threshold t within) said = record { roomy = roomy-changed s _ (to_threshold t within) said.roomy; threshold = within; spins = said.spins; progs = said.progs; irqs = said.irqs }
+said-changed s _ (to_spins n some within) said = record { roomy = roomy-changed s _ (to_spins n some within) said.roomy; threshold = said.threshold; spins = (omega arith, within); progs = said.progs; irqs = said.irqs }
+said-changed s _ (one_lock k few) said = record {
+  roomy = roomy-changed s _ (one_lock k few) said.roomy;
   threshold = said.threshold;
   spins = said.spins;
   progs = All-weaker (λ program. IsGood s.locks.items program) (λ program. IsGood (s.locks.items ++ k ∷ []) program) (good_more s.locks.items k) s.progs.items said.progs;
   irqs = All-weaker (λ handlers. AreGood s.locks.items handlers) (λ handlers. AreGood (s.locks.items ++ k ∷ []) handlers) (are_good_more s.locks.items k) s.irqs.items said.irqs;
-  mode = said.mode;
-  kinds = All-push (λ k. is_built_kind k ≡ true) s.locks.items k said.kinds built;
 }
 said-changed s _ (one_program p words ops below read) said = record {
   roomy = roomy-changed s _ (one_program p words ops below read) said.roomy;
@@ -104,8 +98,6 @@ said-changed s _ (one_program p words ops below read) said = record {
   spins = said.spins;
   progs = All-set (λ program. IsGood s.locks.items program) s.progs.items p (list_of 64 ops) (lawful_program s.locks.items words ops read) said.progs;
   irqs = said.irqs;
-  mode = said.mode;
-  kinds = said.kinds;
 }
 said-changed s _ (one_handler p words ops below few read) said =
     let inside : p < length s.irqs.items = rw said.roomy.irqs (below_cpus p (cpus_of s) below said.roomy.some) in
@@ -120,23 +112,18 @@ said-changed s _ (one_handler p words ops below few read) said =
       spins = said.spins;
       progs = said.progs;
       irqs = All-set (λ handlers. AreGood s.locks.items handlers) s.irqs.items p (with_more (more_of s p) ops) more said.irqs;
-      mode = said.mode;
-      kinds = said.kinds;
     }
 said-changed s _ nothing said = said
 
 -- all lines
 
 said-first : IsSaid default_setup
-unfolding is_built_mode
 said-first = record {
   roomy = record { some = omega arith; few = omega arith; locks = omega arith; lock_room = refl; progs = refl; irqs = refl; irq_rooms = All-replicate (λ handlers. handlers.room ≡ 16) 1 (list_of 16 []) refl };
   threshold = omega arith;
   spins = (omega arith, omega arith);
   progs = All-replicate (λ program. IsGood [] program) 1 (list_of 0 []) (good_empty [] 0);
   irqs = All-replicate (λ handlers. AreGood [] handlers) 1 (list_of 16 []) (are_good_empty [] 16);
-  mode = refl;
-  kinds = All-nil (λ k. is_built_kind k ≡ true);
 }
 
 said-step : (r r' : Reading) → Steps r r' → IsSaid r.setup → IsSaid r'.setup
@@ -199,16 +186,6 @@ lawful_setup lines =
       short = λ p h. (program_good s said p h).1;
       lawful = λ p h. (program_good s said p h).0;
     }
-
--- of a mode that is built
-pub built_mode_said : (lines : List (List ℕ)) → is_built_mode (reading_of lines).setup.mode ≡ true
-built_mode_said lines = (said-lines lines).mode
-
--- with locks of kinds that are built
-pub built_kinds_said : (lines : List (List ℕ)) (i : ℕ) (k : Kind) → slice_get (reading_of lines).setup.locks.items i ≡ Some k → is_built_kind k ≡ true
-built_kinds_said lines i k here =
-    let kinds = (reading_of lines).setup.locks.items in
-    rw (get_or_from_slice_get kinds i k k here) at (All-get_or (λ k. is_built_kind k ≡ true) kinds i k (slice_get_within kinds i k here) (said-lines lines).kinds)
 
 -- before `go` there are no acts
 

@@ -8,7 +8,8 @@ use Rattle.std.proofs.lemmas.List.{get_or_append_left, take-append-drop, take-ap
 use Rattle.std.proofs.Math.Nat.{eq-or-lt_of_le}
 use Rattle.lk_forms.proofs.NumberLemmas.{and_split}
 use Rattle.std.proofs.Math.Seq.{take-append_seam, get_or-append_seam, take-append-add}
-use Rattle.lk_abs.specs.History.{Manner, Spins, Reads, Writes}
+use Rattle.lk_abs.specs.declared.holder.Manner.{Manner}
+use Rattle.lk_abs.specs.declared.holder.Manner.TheVariants.{Spins, Reads, Writes}
 use Rattle.lk_abs.specs.declared.names.Kind.{Kind}
 use Rattle.lk_abs.specs.declared.names.Kind.TheVariants.{Spin, Rw}
 use Rattle.lk_machine.specs.Programs.{kind_of, is_try, is_release, way_from, way_at, way_after, way_before, op_way, to_release, IsLawfulProgram}

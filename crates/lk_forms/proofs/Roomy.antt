@@ -13,7 +13,7 @@ pub below_cpus : (p n : ℕ) → p ≤ n - 1 → 1 ≤ n → p < n
 below_cpus p n h some = omega arith
 
 pub roomy-changed : (s s' : Setup) → Changes s s' → IsRoomy s → IsRoomy s'
-roomy-changed s _ (to_mode m built) r = record { some = r.some; few = r.few; locks = r.locks; lock_room = r.lock_room; progs = r.progs; irqs = r.irqs; irq_rooms = r.irq_rooms }
+roomy-changed s _ (to_mode m) r = record { some = r.some; few = r.few; locks = r.locks; lock_room = r.lock_room; progs = r.progs; irqs = r.irqs; irq_rooms = r.irq_rooms }
 roomy-changed s _ (to_cpus n some few) r = record {
   some = rw length-replicate some;
   few = rw length-replicate few;
@@ -26,7 +26,7 @@ roomy-changed s _ (to_cpus n some few) r = record {
 roomy-changed s _ (to_sockets ns many) r = record { some = rw many r.some; few = rw many r.few; locks = r.locks; lock_room = r.lock_room; progs = r.progs ∙ sym many; irqs = r.irqs ∙ sym many; irq_rooms = r.irq_rooms }
 roomy-changed s _ (to_threshold t within) r = record { some = r.some; few = r.few; locks = r.locks; lock_room = r.lock_room; progs = r.progs; irqs = r.irqs; irq_rooms = r.irq_rooms }
 roomy-changed s _ (to_spins n some within) r = record { some = r.some; few = r.few; locks = r.locks; lock_room = r.lock_room; progs = r.progs; irqs = r.irqs; irq_rooms = r.irq_rooms }
-roomy-changed s _ (one_lock k built few) r = record { some = r.some; few = r.few; locks = omega (arith, length-append s.locks.items (k ∷ [])); lock_room = r.lock_room; progs = r.progs; irqs = r.irqs; irq_rooms = r.irq_rooms }
+roomy-changed s _ (one_lock k few) r = record { some = r.some; few = r.few; locks = omega (arith, length-append s.locks.items (k ∷ [])); lock_room = r.lock_room; progs = r.progs; irqs = r.irqs; irq_rooms = r.irq_rooms }
 roomy-changed s _ (one_program p words ops below read) r = record { some = r.some; few = r.few; locks = r.locks; lock_room = r.lock_room; progs = length-set s.progs.items p _ ∙ r.progs; irqs = r.irqs; irq_rooms = r.irq_rooms }
 roomy-changed s _ (one_handler p words ops below few read) r = record {
   some = r.some;

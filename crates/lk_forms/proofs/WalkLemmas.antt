@@ -5,7 +5,7 @@ use Rattle.lk_forms.proofs.NumberLemmas.{and_false}
 use Rattle.std.proofs.lemmas.List.{take_more, take_all}
 use Rattle.std.proofs.Math.Seq.{drop-cons}
 use Rattle.std.proofs.Math.ListN.{drop_of_length-le}
-use Rattle.lk_abs.specs.History.{Manner}
+use Rattle.lk_abs.specs.declared.holder.Manner.{Manner}
 use Rattle.lk_machine.specs.Programs.{way_from, op_way, is_try}
 use Rattle.lk_machine.specs.declared.setup.Op.{Op}
 use Rattle.lk_forms.specs.Operations.{way_after_all, same_way, same_holds, try_from}

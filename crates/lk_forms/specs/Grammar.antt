@@ -16,7 +16,7 @@ use Rattle.lk_forms.specs.Words.{words, is_text, is_comment, number_of}
 use Rattle.lk_forms.specs.Keywords.{keyword_of, rank_of, fault_of_place}
 use Rattle.lk_forms.specs.Operations.{and_then, unless, or_fault, ops_of}
 use Rattle.lk_forms.specs.declared.answers.Fault.{Fault}
-use Rattle.lk_forms.specs.declared.answers.Fault.TheVariants.{NoFormat, NotText, UnknownWord, WordCount, BadNumber, OutOfRange, Misplaced, Repeated, NotYet, NoEnd}
+use Rattle.lk_forms.specs.declared.answers.Fault.TheVariants.{NoFormat, NotText, UnknownWord, WordCount, BadNumber, OutOfRange, Misplaced, Repeated, NoEnd}
 use Rattle.lk_forms.specs.declared.answers.Which.TheVariants.{Handlers, Acts}
 use Rattle.lk_forms.specs.declared.answers.LineRefusal.{LineRefusal}
 use Rattle.lk_forms.specs.declared.answers.LineRefusal.TheVariants.{Bad, Limit}
@@ -92,17 +92,8 @@ mode_of word =
     else if bytes_eq word (codes "pv") then Some Pv
     else None
 
--- the modes that are built
-unfoldable pub is_built_mode : Mode → Bool
-is_built_mode Virt = true
-is_built_mode Native = true
-is_built_mode _ = false
-
-abbrev pub built_mode : Mode → Result Mode LineRefusal
-built_mode m = if is_built_mode m then Ok m else Err (Bad NotYet)
-
 abbrev pub mode_word : List ℕ → Result Mode LineRefusal
-mode_word word = and_then (or_fault UnknownWord (mode_of word)) (λ m. built_mode m)
+mode_word word = or_fault UnknownWord (mode_of word)
 
 -- `mode m`
 abbrev pub mode_line : Setup → List (List ℕ) → Result Setup LineRefusal
@@ -134,16 +125,8 @@ spins_line s args = and_then (one_word args) (λ word. and_then (number_in 1 655
 abbrev pub kind_named : List ℕ → Option Kind
 kind_named word = if bytes_eq word (codes "spin") then Some Spin else if bytes_eq word (codes "rw") then Some Rw else None
 
--- the kinds of locks that are built
-unfoldable pub is_built_kind : Kind → Bool
-is_built_kind Spin = true
-is_built_kind Rw = false
-
-abbrev pub built_kind : Kind → Result Kind LineRefusal
-built_kind k = if is_built_kind k then Ok k else Err (Bad NotYet)
-
 abbrev pub kind_word : List ℕ → Result Kind LineRefusal
-kind_word word = and_then (or_fault UnknownWord (kind_named word)) (λ k. built_kind k)
+kind_word word = or_fault UnknownWord (kind_named word)
 
 -- the number of the next lock, behind so many locks
 abbrev pub next_lock : ℕ → ℕ → Result ℕ LineRefusal
@@ -191,10 +174,6 @@ program_line s (cpu ∷ args) =
     if has_program s p then Err (Bad Repeated)
     else and_then (ops_of s.locks.items args) (λ ops. Ok (with_program s p ops)))
 
--- lines `irq` are built
-unfoldable pub is_built_irq : Bool
-is_built_irq = true
-
 -- one more handler of the processor
 abbrev pub handler_line : Setup → List ℕ → List (List ℕ) → Result Setup LineRefusal
 handler_line s cpu args =
@@ -205,7 +184,7 @@ handler_line s cpu args =
 -- `irq p ops`
 abbrev pub irq_line : Setup → List (List ℕ) → Result Setup LineRefusal
 irq_line s [] = Err (Bad WordCount)
-irq_line s (cpu ∷ args) = if is_built_irq then handler_line s cpu args else Err (Bad NotYet)
+irq_line s (cpu ∷ args) = handler_line s cpu args
 
 -- what a line of the header makes of the setup, by the words behind its keyword
 abbrev pub header_line : Keyword → Setup → List (List ℕ) → Result Setup LineRefusal

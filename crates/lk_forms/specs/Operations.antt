@@ -2,7 +2,8 @@
 use Rattle.std.specs.Prelude.{ℕ, ◌==◌, ◌&&◌, nat_le, not, Bool, true, false, List, [], ◌∷◌, ◌++◌, Option, None, Some, is_some, Result, Ok, Err, length, take, slice_get, codes, if◌then◌else◌}
 use Rattle.std.proofs.Common.{zero, suc}
 use Rattle.std.specs.Str.{bytes_eq}
-use Rattle.lk_abs.specs.History.{Manner, same_manner}
+use Rattle.lk_abs.specs.History.{same_manner}
+use Rattle.lk_abs.specs.declared.holder.Manner.{Manner}
 use Rattle.lk_abs.specs.declared.names.Kind.{Kind}
 use Rattle.lk_abs.specs.declared.names.Kind.TheVariants.{Spin, Rw}
 use Rattle.lk_machine.specs.Programs.{kind_of, is_try, is_release, way_at, way_before}

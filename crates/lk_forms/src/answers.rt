@@ -34,8 +34,6 @@ pub enum Fault {
     Crossed,
     /// The input ends before the line `end`.
     NoEnd,
-    /// A part of the grammar that is not built yet.
-    NotYet,
 }
 
 /// A quantity that passes its limit.

@@ -1,13 +1,10 @@
 // Laws of the forms: each is the contract of a function that does nothing.
-ghost use Rattle.lk_forms.specs.SetupLaws.{SetupsAreLawful, ModesAreBuilt, KindsAreBuilt, ActsComeLast};
+ghost use Rattle.lk_forms.specs.SetupLaws.{SetupsAreLawful, ActsComeLast};
 ghost use Rattle.lk_forms.specs.TextLaws.{EventsAreTold, EndsAreTold, CountsAreTold, TranscriptsAreTold};
 
-/// What accepted lines say is a lawful setup, of a mode and of kinds of locks that are built; and
-/// before `go` they say no acts.
+/// What accepted lines say is a lawful setup, and before `go` they say no acts.
 pub fn lines_say_lawful_setups()
     ensures lawful { SetupsAreLawful }
-    ensures mode { ModesAreBuilt }
-    ensures kinds { KindsAreBuilt }
     ensures acts { ActsComeLast }
 {}
 

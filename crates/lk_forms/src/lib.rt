@@ -14,8 +14,6 @@ mod programs;
 mod schedule;
 mod settings;
 mod tables;
-#[cfg(test)]
-mod tests;
 mod texts;
 mod words;
 

@@ -3,7 +3,7 @@ ghost use Rattle.std.specs.Prelude.{◌≡◌, ◌≤◌, ◌<◌, ◌⊎◌, Ok
 ghost use Rattle.lk_forms.specs.Words.{words, number_of};
 ghost use Rattle.lk_forms.specs.Operations.{and_then, or_fault};
 ghost use Rattle.lk_forms.specs.declared.answers.Fault.TheVariants.{BadNumber};
-ghost use Rattle.lk_forms.specs.Grammar.{cpus_of, mode_of, is_built_mode, mode_word, mode_line, cpus_line, numbers_from, sockets_line, threshold_line, spins_line, kind_named, is_built_kind, kind_word, next_lock, lock_line, has_program, program_line, handler_line, is_built_irq, irq_line};
+ghost use Rattle.lk_forms.specs.Grammar.{cpus_of, mode_of, mode_word, mode_line, cpus_line, numbers_from, sockets_line, threshold_line, spins_line, kind_named, kind_word, next_lock, lock_line, has_program, program_line, handler_line, irq_line};
 ghost use Rattle.lk_forms.specs.Agrees.{Agrees, IsAnswer, IsRoomy};
 
 use crate::answers::{Fault, LineRefusal, Which};
@@ -44,23 +44,10 @@ fn mode_of(word: &[u8]) -> Option<Mode>
     }
 }
 
-// The modes that are built.
-#[tactic(auto, unfolding(crate::specs::Grammar::is_built_mode))]
-fn is_built_mode(mode: Mode) -> bool
-    ensures { result ≡ is_built_mode mode }
-{
-    matches!(mode, Mode::Virt | Mode::Native)
-}
-
 fn mode_word(word: &[u8]) -> Result<Mode, LineRefusal>
     ensures { result ≡ mode_word word.now }
 {
-    let mode = mode_of(word).ok_or(LineRefusal::Bad(Fault::UnknownWord))?;
-    if is_built_mode(mode) {
-        Ok(mode)
-    } else {
-        Err(LineRefusal::Bad(Fault::NotYet))
-    }
+    mode_of(word).ok_or(LineRefusal::Bad(Fault::UnknownWord))
 }
 
 /// `mode m`
@@ -118,23 +105,10 @@ fn kind_named(word: &[u8]) -> Option<Kind>
     }
 }
 
-// The kinds of locks that are built.
-#[tactic(auto, unfolding(crate::specs::Grammar::is_built_kind))]
-fn is_built_kind(kind: Kind) -> bool
-    ensures { result ≡ is_built_kind kind }
-{
-    matches!(kind, Kind::Spin)
-}
-
 fn kind_word(word: &[u8]) -> Result<Kind, LineRefusal>
     ensures { result ≡ kind_word word.now }
 {
-    let kind = kind_named(word).ok_or(LineRefusal::Bad(Fault::UnknownWord))?;
-    if is_built_kind(kind) {
-        Ok(kind)
-    } else {
-        Err(LineRefusal::Bad(Fault::NotYet))
-    }
+    kind_named(word).ok_or(LineRefusal::Bad(Fault::UnknownWord))
 }
 
 // The number of the next lock, behind so many locks.
@@ -248,14 +222,6 @@ fn handler_line(
     Ok(())
 }
 
-// Whether lines `irq` are built.
-#[tactic(auto, unfolding(crate::specs::Grammar::is_built_irq))]
-fn is_built_irq() -> bool
-    ensures { result ≡ is_built_irq }
-{
-    true
-}
-
 /// `irq p ops`
 pub(crate) fn irq_line(alloc: Global, setup: &mut Setup, args: &[u8]) -> Result<(), LineRefusal>
     requires { IsRoomy setup.old }
@@ -264,9 +230,5 @@ pub(crate) fn irq_line(alloc: Global, setup: &mut Setup, args: &[u8]) -> Result<
     let Some((cpu, args)) = next_word(args) else {
         return Err(LineRefusal::Bad(Fault::WordCount));
     };
-    if is_built_irq() {
-        handler_line(alloc, setup, cpu, args)
-    } else {
-        Err(LineRefusal::Bad(Fault::NotYet))
-    }
+    handler_line(alloc, setup, cpu, args)
 }

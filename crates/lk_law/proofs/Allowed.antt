@@ -1,6 +1,8 @@
 -- Each event that a row tells is allowed on the histories before it.
 use Rattle.std.proofs.Common.{◌≡◌, Option, Some, None, true, false, List, arith, ap, refl, sym, ◌∙◌, subst, slice_get}
-use Rattle.lk_abs.specs.History.{LockHistory, Holder, Spins, taken, with_holder, lock_of}
+use Rattle.lk_abs.specs.History.{LockHistory, taken, with_holder, lock_of}
+use Rattle.lk_abs.specs.declared.holder.Manner.TheVariants.{Spins}
+use Rattle.lk_abs.specs.declared.holder.Holder.{Holder}
 use Rattle.lk_abs.specs.Lawful.{Rules, IsShared, Holds, IsOutside, IsFront, TakesInOrder}
 use Rattle.lk_abs.specs.declared.names.Waiter.{Waiter}
 use Rattle.lk_abs.specs.declared.names.LockName.{LockName}
@@ -16,7 +18,8 @@ use Rattle.lk_law.specs.Snapshot.{Snapshot}
 use Rattle.lk_law.specs.Agree.{Agrees, sole}
 use Rattle.lk_law.specs.Allowed.{IsAllowed, IsAllowedOn}
 use Rattle.lk_law.proofs.Before.{nodes_apart}
-use Rattle.lk_law.proofs.QueueLead.{lead_first}
+use Rattle.lk_law.specs.Cna.{moves_aside}
+use Rattle.lk_law.proofs.Families.{lists_main, lists_second, lists_front}
 use Rattle.lk_law.proofs.Told.{sole_taken, sole_freed}
 use Rattle.lk_law.proofs.Holders.{outside_is, holds_is, holds_so, shared_sole}
 
@@ -31,17 +34,17 @@ shared_by holder e = subst IsShared (sym e) (shared_sole holder)
 module _ {s : Snapshot} {hs : LockName → LockHistory} (ok : Agrees s hs) (w : Waiter) (l : LockName) where
   -- who is in no phase of the queue stands outside of it
   pub outside : queues (s.phase l w) ≡ false → IsOutside (hs l) w
-  outside out = let o = ok.locks l in outside_is (hs l) w (λ i p. grind (arith, o.queue.inside i w p)) o.single
+  outside out = let o = ok.locks l in outside_is (hs l) w (λ i p. grind (arith, lists_main o.lists i w p)) (λ i p. grind (arith, lists_second o.lists i w p))
 
   pub first_is : leads (s.phase l w) ((s.node (s.own w)).flag) ≡ true → IsFront (hs l) w
-  first_is lead = lead_first (ok.locks l).queue w lead
+  first_is lead = lists_front (ok.locks l).lists w lead
 
   unheld : (s.word l).locked ≡ Free → ¬ Holds (hs l) w
   unheld free c = let o = ok.locks l in let n = o.hold.free free in let m = holds_is (hs l) w o.holder o.holders c in grind arith
 
 module _ (rules : Rules) {s : Snapshot} {hs : LockName → LockHistory} (ok : Agrees s hs) (w : Waiter) (l : LockName) where
   -- a take of the free lock
-  take_on : (how : How) → (s.word l).locked ≡ Free → (taken (hs l) w how).holders ≡ (with_holder (hs l) w Spins).holders → TakesInOrder (hs l) w how
+  pub take_on : (how : How) → (s.word l).locked ≡ Free → (taken (hs l) w how).holders ≡ (with_holder (hs l) w Spins).holders → TakesInOrder (hs l) w how
       → IsAllowed rules hs (record { by = w; what = Take l how })
   take_on how free plain order =
       let o = ok.locks l in
@@ -92,9 +95,9 @@ module _ (rules : Rules) {s : Snapshot} {hs : LockName → LockHistory} (ok : Ag
       })
 
 -- The waiter whose node the front knows as the next is the second of the queue.
-pub next_is : {s : Snapshot} {hs : LockName → LockHistory} → Agrees s hs → (w : Waiter) (l : LockName) (n : NodeName) → s.phase l w ≡ Hands n
+pub next_is : {s : Snapshot} {hs : LockName → LockHistory} → Agrees s hs → (w : Waiter) (l : LockName) (n : NodeName) → moves_aside s.mode ≡ false → s.phase l w ≡ Hands n
     → (k : LockName) (to : Waiter) → has_node (s.phase k to) ≡ true → s.own to ≡ n → slice_get (hs l).main 1 ≡ Some to
-next_is {s = s} ok w l n was k to p e =
-    let v = (ok.locks l).queue.hand w n was in
+next_is {s = s} ok w l n plain was k to p e =
+    let v = ((ok.locks l).lists.flat plain).queue.hand w n was in
     let same : to ≡ v.0 = nodes_apart ok.nodes k l to v.0 p (grind (arith, v.2)) (e ∙ sym v.3) in
     v.1 ∙ ap Some (sym same)

@@ -1,5 +1,9 @@
 -- What a step on one lock leaves alone: the other locks, the nodes of their waiters, and that a waiter acts on one lock at a time.
-use Rattle.std.proofs.Common.{◌≡◌, ◌≢◌, ℕ, Option, Bool, true, false, inl, inr, arith, ap, ◌<◌, refl, sym, ◌∙◌, subst}
+use Rattle.lk_word.specs.declared.spin_word.NodeName.{NodeName}
+use Rattle.lk_machine.specs.declared.parts.Node.{Node}
+use Rattle.lk_law.specs.Pv.{sleeps}
+use Rattle.lk_law.proofs.PvKeep.{pv_keep, agrees-noded}
+use Rattle.std.proofs.Common.{◌≡◌, ◌≢◌, ℕ, Option, Bool, true, false, inl, inr, arith, ap, ◌<◌, refl, sym, ◌∙◌, subst, slice_get}
 use Rattle.std.proofs.lemmas.Bool.{cases_eq}
 use Rattle.lk_abs.specs.History.{LockHistory}
 use Rattle.lk_abs.specs.declared.names.Waiter.{Waiter}
@@ -7,13 +11,14 @@ use Rattle.lk_abs.specs.declared.names.LockName.{LockName}
 use Rattle.lk_word.specs.declared.spin_word.Fields.{Fields}
 use Rattle.lk_law.specs.Phase.{Phase, has_node, queues}
 use Rattle.lk_law.specs.Phase.Phase.{Idle, Prepared}
-use Rattle.lk_law.specs.Snapshot.{Snapshot, Moves, HolderAgrees, PendingAgrees, QueueAgrees, NodesAgree, before, spins}
-use Rattle.lk_law.specs.Agree.{LockAgrees, Agrees, Step, Stays, Leaves}
+use Rattle.lk_law.specs.Snapshot.{Snapshot, Moves, HolderAgrees, PendingAgrees, NodesAgree, before, spins}
+use Rattle.lk_law.specs.Agree.{LockAgrees, Agrees, Step, Stays, Leaves, ParaAgrees, halts, Owed, state_of}
 use Rattle.lk_law.proofs.Cases.{waiter_cases, lock_cases}
-use Rattle.lk_law.proofs.Before.{before_same, before_drop, before_else}
+use Rattle.lk_law.proofs.Before.{nodes_apart, before_same, before_drop, before_else}
 use Rattle.lk_law.proofs.Hold.{hold_keep}
 use Rattle.lk_law.proofs.Pend.{pend_still}
-use Rattle.lk_law.proofs.QueueKeep.{queue_keep}
+use Rattle.lk_law.specs.Cna.{ListsAgree, moves_aside}
+use Rattle.lk_law.proofs.Families.{lists_keep, lists_rest, lists_main}
 
 -- a waiter acts on one lock at a time
 abbrev pub ActsAlone : (LockName → Waiter → Phase) → Type 0
@@ -129,28 +134,81 @@ module _ {s s' : Snapshot} {w : Waiter} {l : LockName} {r r' : Phase} {x : Field
   else_pend k ne o =
       rw (step.words k ne) (pend_still o (else_acts k ne) refl refl refl)
 
-  else_queue : (k : LockName) → k ≢ l → (h : LockHistory) → LeavesOthers s s' l → QueueAgrees (s.word k).tail (s.phase k) s.own s.node h.main
-      → QueueAgrees (s'.word k).tail (s'.phase k) s'.own s'.node h.main
-  else_queue k ne h away o =
-      rw (step.words k ne) (queue_keep o
-      (λ u p. (step.phases k ne u, own_same u (grind arith), rw (own_same u (grind arith)) (away k u ne (grind arith))))
+  else_lists : NodesAgree s.phase s.own s.slow s.queued → (k : LockName) → k ≢ l → (h : LockHistory) → LeavesOthers s s' l
+      → ListsAgree (moves_aside s.mode) (s.word k).tail (s.phase k) s.own s.node s.local s.threshold (s.stage k) s.kept h.main h.second h.passes
+      → ListsAgree (moves_aside s'.mode) (s'.word k).tail (s'.phase k) s'.own s'.node s'.local s'.threshold (s'.stage k) s'.kept h.main h.second h.passes
+  else_lists nodes k ne h away o =
+      rw (step.words k ne, step.mode, step.local, step.threshold) (lists_keep o
+      (λ u p. let nw = acts_else k ne u (queue_node (s.phase k u) p) in
+      (step.phases k ne u, own_same u (grind arith), rw (own_same u (grind arith)) (away k u ne (grind arith)), step.stages k u nw, step.kepts u nw))
       (λ u p. step.phases k ne u)
-      (λ u p. let q : s.phase k u ≡ Prepared = sym (step.phases k ne u) ∙ p in rw (own_same u (grind arith)) (away k u ne (grind arith) ∙ o.fresh u q)))
+      (λ u p. let q : s.phase k u ≡ Prepared = sym (step.phases k ne u) ∙ p in rw (own_same u (grind arith)) (away k u ne (grind arith) ∙ lists_rest o u q))
+      (λ was u p. elim (waiter_cases u w) [ inl e ↦ ap (s'.stage k) e ∙ step.calm k ne | inr nw ↦ step.stages k u nw ∙ was u (λ q. p (step.phases k ne u ∙ q)) ])
+      (λ u z p q e. nodes_apart nodes k k u z p q e)
+      (λ u p z q e. let f : s.phase k u ≡ Prepared = sym (step.phases k ne u) ∙ p in
+      let same : u ≡ z = nodes_apart nodes k k u z (grind arith) (queue_node (s.phase k z) q) (sym (own_same u (grind arith)) ∙ e) in
+      absurd (grind (arith, ap (s.phase k) same, f, q))))
     where
       own_same : (u : Waiter) → has_node (s.phase k u) ≡ true → s'.own u ≡ s.own u
       own_same u p = step.owns u (acts_else k ne u p)
 
-  pub elsewhere : LeavesOthers s s' l → (k : LockName) → k ≢ l → (h : LockHistory) → LockAgrees s h k → LockAgrees s' h k
-  elsewhere away k ne h o =
+  else_posts : NodesAgree s.phase s.own s.slow s.queued → (k : LockName) → k ≢ l → (h : LockHistory) → LeavesOthers s s' l → LockAgrees s h k
+      → halts s'.mode ≡ true → ParaAgrees s' h k
+  else_posts nodes k ne h away o on =
+      let was : halts s.mode ≡ true = ap halts (sym step.mode) ∙ on in
+      let p = o.posts was in
+      let same : s'.post k ≡ s.post k = (λ i u. else_post u i) in
+      record {
+        posts = rw (step.words k ne, step.entries k ne, same) (pv_keep (s.word k).locked (s.entry k) (slice_get h.main 0) (s.post k) (state_of s) (state_of s') s.own s'.own (λ u. Owed s u.cpu) (λ u. Owed s' u.cpu) p.posts
+            (λ u q. both u (agrees-noded (s.post k u) (s.phase k u) (p.suits u) q)) (λ z f. both z (queue_node (s.phase k z) (lists_main o.lists 0 z f)))
+            (λ z q d. step.owed was k z ne q d));
+        suits = λ u. rw (else_post u, step.phases k ne u) (p.suits u);
+      }
+    where
+      else_post : (u : Waiter) → s'.post k u ≡ s.post k u
+      else_post u = elim (waiter_cases u w) [ inl e ↦ ap (s'.post k) e ∙ step.off k ne ∙ sym (ap (s.post k) e ∙ step.were_off k ne) | inr nw ↦ step.posts k u nw ]
+
+      both : (u : Waiter) → has_node (s.phase k u) ≡ true → (state_of s' u ≡ state_of s u) × (s'.own u ≡ s.own u)
+      both u p = let e = step.owns u (acts_else k ne u p) in (ap (λ (n : NodeName). (s'.node n).state) e ∙ ap (λ (n : Node). n.state) (away k u ne p), e)
+
+  -- who sleeps afterwards slept before, or is the only one of its processor
+  still_sleeper : (halts s.mode ≡ true → (k m : LockName) (u z : Waiter) → sleeps (s.post k u) ≡ true → sleeps (s.post m z) ≡ true → u.cpu ≡ z.cpu → u ≡ z)
+      → halts s'.mode ≡ true → (k m : LockName) (u z : Waiter) → sleeps (s'.post k u) ≡ true → sleeps (s'.post m z) ≡ true → u.cpu ≡ z.cpu → u ≡ z
+  still_sleeper lone on k m u z a b e =
+      elim (waiter_cases u w) [
+        | inl q ↦ elim (waiter_cases z w) [
+          | inl r ↦ q ∙ sym r
+          | inr nz ↦ q ∙ sym (step.lone was (mine k (ap (λ v. sleeps (s'.post k v)) (sym q) ∙ a)) m z (sym e ∙ ap (λ (v : Waiter). v.cpu) q) (old m z nz b))
+        ]
+        | inr nu ↦ elim (waiter_cases z w) [
+          | inl r ↦ step.lone was (mine m (ap (λ v. sleeps (s'.post m v)) (sym r) ∙ b)) k u (e ∙ ap (λ (v : Waiter). v.cpu) r) (old k u nu a) ∙ sym r
+          | inr nz ↦ lone was k m u z (old k u nu a) (old m z nz b) e
+        ]
+      ]
+    where
+      was : halts s.mode ≡ true
+      was = ap halts (sym step.mode) ∙ on
+
+      old : (k : LockName) (v : Waiter) → v ≢ w → sleeps (s'.post k v) ≡ true → sleeps (s.post k v) ≡ true
+      old k v ne h = ap sleeps (sym (step.posts k v ne)) ∙ h
+
+      mine : (k : LockName) → sleeps (s'.post k w) ≡ true → sleeps (s'.post l w) ≡ true
+      mine k h = elim (lock_cases k l) [ inl q ↦ ap (λ m. sleeps (s'.post m w)) (sym q) ∙ h | inr ne ↦ absurd (let o = step.off k ne in grind (arith, ap sleeps o, h)) ]
+
+  pub elsewhere : NodesAgree s.phase s.own s.slow s.queued → LeavesOthers s s' l → (k : LockName) → k ≢ l → (h : LockHistory) → LockAgrees s h k → LockAgrees s' h k
+  elsewhere nodes away k ne h o =
       record {
         holder = o.holder;
         holders = o.holders;
         hold = else_hold k ne o.hold;
         pend = else_pend k ne o.pend;
-        queue = else_queue k ne h away o.queue;
-        single = o.single;
-        unpassed = o.unpassed;
+        posts = else_posts nodes k ne h away o;
+        lists = else_lists nodes k ne h away o.lists;
       }
+
+  -- where the family does not halt processors there are no posts
+  pub no_posts : {A : Type 0} → halts s.mode ≡ false → halts s'.mode ≡ true → A
+  no_posts awake on = absurd (let e = ap halts step.mode in grind (arith, e, awake, on))
 
   -- the whole, from the lock of the step
   pub agrees_after : {hs : LockName → LockHistory} → Agrees s hs → (hs' : LockName → LockHistory) → NodesAgree s'.phase s'.own s'.slow s'.queued
@@ -160,8 +218,9 @@ module _ {s s' : Snapshot} {w : Waiter} {l : LockName} {r r' : Phase} {x : Field
       record {
         locks = λ k. elim (lock_cases k l) [
           | inl e ↦ let P : LockName → Type 0 = λ m. LockAgrees s' (hs' m) m in subst P (sym e) here
-          | inr ne ↦ rw (told k ne) (elsewhere away k ne (hs k) (ok.locks k))
+          | inr ne ↦ rw (told k ne) (elsewhere ok.nodes away k ne (hs k) (ok.locks k))
         ];
         nodes = nodes;
         alone = still_alone ok.alone;
+        sleeper = still_sleeper ok.sleeper;
       }

@@ -1,8 +1,11 @@
 -- Who holds a lock of which one waiter at most is the holder; and who stands in no queue.
 use Rattle.std.specs.Prelude.{Contains}
-use Rattle.std.proofs.Common.{◌≡◌, ◌≢◌, ℕ, zero, suc, Option, Some, None, List, [], length, slice_get, inl, inr, arith, ap, refl, sym, ◌∙◌, subst}
+use Rattle.std.proofs.Common.{◌≡◌, ◌≢◌, ℕ, zero, suc, Option, Some, None, List, length, slice_get, inl, inr, arith, ap, refl, sym, ◌∙◌, subst}
 use Rattle.std.proofs.lemmas.Option.{slice_get_read}
-use Rattle.lk_abs.specs.History.{LockHistory, Holder, Manner, Spins}
+use Rattle.lk_abs.specs.History.{LockHistory}
+use Rattle.lk_abs.specs.declared.holder.Manner.{Manner}
+use Rattle.lk_abs.specs.declared.holder.Manner.TheVariants.{Spins}
+use Rattle.lk_abs.specs.declared.holder.Holder.{Holder}
 use Rattle.lk_abs.specs.Lawful.{IsShared, HoldsSo, Holds, IsOutside}
 use Rattle.lk_abs.specs.declared.names.Waiter.{Waiter}
 use Rattle.lk_law.specs.Agree.{sole}
@@ -11,9 +14,9 @@ use Rattle.lk_law.specs.Agree.{sole}
 pub contains_at : {A : Type 0} (xs : List A) (x : A) → Contains xs x → (i : ℕ) × (slice_get xs i ≡ Some x)
 contains_at xs x c = (c.0, slice_get_read xs (length xs) c.0 x refl c.1 (sym c.2))
 
-pub outside_is : (h : LockHistory) (w : Waiter) → ((i : ℕ) → slice_get h.main i ≢ Some w) → h.second ≡ [] → IsOutside h w
-outside_is h w away none =
-    (λ c. let p = contains_at h.main w c in away p.0 p.1, λ c. let p = contains_at h.second w c in grind (arith, p.1, none))
+pub outside_is : (h : LockHistory) (w : Waiter) → ((i : ℕ) → slice_get h.main i ≢ Some w) → ((i : ℕ) → slice_get h.second i ≢ Some w) → IsOutside h w
+outside_is h w away aside =
+    (λ c. let p = contains_at h.main w c in away p.0 p.1, λ c. let p = contains_at h.second w c in aside p.0 p.1)
 
 -- the one holder is who holds
 sole_holds : (holder : Option Waiter) (w : Waiter) (m : Manner) → Contains (sole holder) (record { waiter = w; manner = m }) → holder ≡ Some w

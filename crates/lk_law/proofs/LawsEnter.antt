@@ -9,13 +9,13 @@ use Rattle.lk_machine.specs.Machine.{rest_node}
 use Rattle.lk_law.specs.Phase.{has_node}
 use Rattle.lk_law.specs.Phase.Phase.{Seeks, Prepared}
 use Rattle.lk_law.specs.Snapshot.{Snapshot, Rewrites, NodesAgree, before}
-use Rattle.lk_law.specs.Agree.{Agrees, Step, Enters}
+use Rattle.lk_law.specs.Agree.{Agrees, Step, Enters, halts, ParaAgrees}
 use Rattle.lk_law.proofs.Cases.{waiter_cases, lock_cases}
 use Rattle.lk_law.proofs.Before.{before_same, before_else, before_grow, before_top, node_used}
 use Rattle.lk_law.proofs.Hold.{hold_keep}
 use Rattle.lk_law.proofs.Pend.{pend_still}
-use Rattle.lk_law.proofs.Frame.{noded, agrees_after}
-use Rattle.lk_law.proofs.LawsOutside.{SameNodes, queue_outside}
+use Rattle.lk_law.proofs.Frame.{queue_node, noded, agrees_after, no_posts}
+use Rattle.lk_law.proofs.LawsOutside.{SameNodes, lists_outside}
 
 -- the node that a waiter of this processor gets next
 abbrev pub next_node : Snapshot → Waiter → NodeName
@@ -105,9 +105,9 @@ module _ {s s' : Snapshot} {w : Waiter} (nodes : NodesAgree s.phase s.own s.slow
 
 module _ {s s' : Snapshot} {hs : LockName → LockHistory} {w : Waiter} {l : LockName} (ok : Agrees s hs) where
   -- The waiter enters with a node, which is at rest then.
-  pub law_enter : Step s s' w l Seeks Prepared (s.word l) false false → Enters s s' w → s.queued w.cpu < 4 → s'.own w ≡ next_node s w
-      → Rewrites s.node s'.node (next_node s w) rest_node → Agrees s' hs
-  law_enter step enters room gets writes =
+  pub law_enter_as : Step s s' w l Seeks Prepared (s.word l) false false → Enters s s' w → s.queued w.cpu < 4 → s'.own w ≡ next_node s w
+      → Rewrites s.node s'.node (next_node s w) rest_node → (halts s'.mode ≡ true → ParaAgrees s' (hs l) l) → Agrees s' hs
+  law_enter_as step enters room gets writes posts =
       let o = ok.locks l in
       agrees_after step ok hs (nodes_enter ok.nodes enters step room gets) (λ k u ne p. enter_used ok.nodes enters writes k u p) (λ k ne. refl)
       (record {
@@ -115,14 +115,14 @@ module _ {s s' : Snapshot} {hs : LockName → LockHistory} {w : Waiter} {l : Loc
         holders = o.holders;
         hold = rw step.word (hold_keep o.hold step.acts step.holds refl (λ p. refl) (λ p. absurd (grind arith)));
         pend = rw step.word (pend_still o.pend step.acts refl refl refl);
-        queue = rw step.word (queue_outside o.queue step refl refl (λ p. rw gets writes.now) (λ u ne p. enter_used ok.nodes enters writes l u p));
-        single = o.single;
-        unpassed = o.unpassed;
+        posts = posts;
+        lists = rw step.word (lists_outside ok step refl refl (λ p. rw gets writes.now)
+            (λ p z q e. node_used ok.nodes w enters.slow.was enters.on_top.top enters.on_top.low l z (queue_node (s.phase l z) q) (sym e ∙ gets)) (λ u ne p. enter_used ok.nodes enters writes l u p));
       })
 
   -- The waiter enters without a node, and seeks on.
-  pub law_enter_bare : Step s s' w l Seeks Seeks (s.word l) false false → Enters s s' w → SameNodes s s' → Agrees s' hs
-  law_enter_bare step enters nodes =
+  pub law_enter_bare_as : Step s s' w l Seeks Seeks (s.word l) false false → Enters s s' w → SameNodes s s' → (halts s'.mode ≡ true → ParaAgrees s' (hs l) l) → Agrees s' hs
+  law_enter_bare_as step enters nodes posts =
       let o = ok.locks l in
       agrees_after step ok hs (nodes_enter_bare ok.nodes enters step) (λ k u ne p. nodes (s.own u)) (λ k ne. refl)
       (record {
@@ -130,7 +130,16 @@ module _ {s s' : Snapshot} {hs : LockName → LockHistory} {w : Waiter} {l : Loc
         holders = o.holders;
         hold = rw step.word (hold_keep o.hold step.acts step.holds refl (λ p. refl) (λ p. absurd (grind arith)));
         pend = rw step.word (pend_still o.pend step.acts refl refl refl);
-        queue = rw step.word (queue_outside o.queue step refl refl (λ p. absurd (grind arith)) (λ u ne p. nodes (s.own u)));
-        single = o.single;
-        unpassed = o.unpassed;
+        posts = posts;
+        lists = rw step.word (lists_outside ok step refl refl (λ p. absurd (grind arith)) (λ p. absurd (grind arith)) (λ u ne p. nodes (s.own u)));
       })
+
+module _ {s s' : Snapshot} {hs : LockName → LockHistory} {w : Waiter} {l : LockName} (ok : Agrees s hs) (awake : halts s.mode ≡ false) where
+  -- The waiter enters with a node, which is at rest then.
+  pub law_enter : Step s s' w l Seeks Prepared (s.word l) false false → Enters s s' w → s.queued w.cpu < 4 → s'.own w ≡ next_node s w
+      → Rewrites s.node s'.node (next_node s w) rest_node → Agrees s' hs
+  law_enter step enters room gets writes = law_enter_as ok step enters room gets writes (λ e. no_posts step awake e)
+
+  -- The waiter enters without a node, and seeks on.
+  pub law_enter_bare : Step s s' w l Seeks Seeks (s.word l) false false → Enters s s' w → SameNodes s s' → Agrees s' hs
+  law_enter_bare step enters nodes = law_enter_bare_as ok step enters nodes (λ e. no_posts step awake e)

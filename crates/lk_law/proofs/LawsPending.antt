@@ -10,21 +10,18 @@ use Rattle.lk_word.specs.declared.spin_word.Locked.{Locked}
 use Rattle.lk_word.specs.declared.spin_word.Locked.TheVariants.{Free, Held}
 use Rattle.lk_law.specs.Phase.{Phase, has_node, has_lock, pends, claims, watches, stakes, queues}
 use Rattle.lk_law.specs.Phase.Phase.{Idle, Seeks, Undoes, Watches, Claims}
-use Rattle.lk_law.specs.Snapshot.{Snapshot, PendingAgrees, QueueAgrees}
-use Rattle.lk_law.specs.Agree.{Agrees, Step, Stays}
+use Rattle.lk_law.specs.Snapshot.{Snapshot, PendingAgrees}
+use Rattle.lk_law.specs.Agree.{Agrees, Step, Stays, halts}
 use Rattle.lk_law.proofs.Hold.{hold_keep, hold_take}
 use Rattle.lk_law.proofs.Pend.{pend_keep, pend_set, pend_clear}
-use Rattle.lk_law.proofs.QueueArrive.{no_queue}
-use Rattle.lk_law.proofs.Frame.{agrees_after}
+use Rattle.lk_law.proofs.Families.{lists_none}
+use Rattle.lk_law.proofs.Frame.{agrees_after, no_posts}
 use Rattle.lk_law.proofs.Told.{told_lock, told_others, sole_taken}
-use Rattle.lk_law.proofs.LawsOutside.{SameNodes, queue_outside, noded_keep, claim_cases}
+use Rattle.lk_law.proofs.LawsOutside.{SameNodes, lists_outside, noded_keep, claim_cases}
 
 -- what a phase that has set the pending bit is not
-pends_unnoded : (r : Phase) → pends r ≡ true → has_node r ≡ false
-pends_unnoded r p = grind arith
-
-pends_unqueued : (r : Phase) → pends r ≡ true → queues r ≡ false
-pends_unqueued r p = grind arith
+pends_unnoded : (r : Phase) → pends r ≡ true → queues r ≡ false → has_node r ≡ false
+pends_unnoded r p q = grind arith
 
 pends_unstaked : (r : Phase) → pends r ≡ true → stakes r ≡ false
 pends_unstaked r p = grind arith
@@ -44,23 +41,22 @@ claims_alone {phase = phase} p w was u ne c =
       | inr b ↦ p.apart w u (grind (arith, was)) b.0
     ]
 
-module _ {s s' : Snapshot} {hs : LockName → LockHistory} {w : Waiter} {l : LockName} (ok : Agrees s hs) where
+module _ {s s' : Snapshot} {hs : LockName → LockHistory} {w : Waiter} {l : LockName} (ok : Agrees s hs) (awake : halts s.mode ≡ false) where
   -- The pending bit is set, where it was clear: to undo that, where there is a tail; else to wait for the holder, or to take the free lock.
   pub law_pend : {r' : Phase} → Step s s' w l Seeks r' (record { locked = (s.word l).locked; pending = true; tail = (s.word l).tail }) false false
-      → Stays s s' w → SameNodes s s' → (s.word l).pending ≡ false → pends r' ≡ true → (watches r' ≡ true → (s.word l).tail ≡ None)
+      → Stays s s' w → SameNodes s s' → (s.word l).pending ≡ false → pends r' ≡ true → queues r' ≡ false → (watches r' ≡ true → (s.word l).tail ≡ None)
       → (claims r' ≡ true → (s.word l).locked ≡ Free) → Agrees s' hs
-  law_pend {r' = r'} step stays nodes clear sets empty low =
+  law_pend {r' = r'} step stays nodes clear sets out empty low =
       let o = ok.locks l in
-      agrees_after step ok hs (noded_keep ok step (pends_unnoded r' sets) (inl stays)) (λ k u ne p. nodes (s.own u)) (λ k ne. refl)
+      agrees_after step ok hs (noded_keep ok step (pends_unnoded r' sets out) (inl stays)) (λ k u ne p. nodes (s.own u)) (λ k ne. refl)
       (record {
         holder = o.holder;
         holders = o.holders;
         hold = rw step.word (hold_keep o.hold step.acts step.holds (pends_lacks r' sets) (λ p. refl) (λ p. absurd (grind arith)));
         pend = rw step.word (pend_set o.pend step.acts clear sets low (pends_unstaked r' sets)
-            (λ p v q. let e = empty p in let a : QueueAgrees None (s.phase l) s.own s.node (hs l).main = rw e at o.queue in no_queue a v (stakes_queue (s.phase l v) q)));
-        queue = rw step.word (queue_outside o.queue step refl (pends_unqueued r' sets) (λ p. absurd (grind arith)) (λ u ne p. nodes (s.own u)));
-        single = o.single;
-        unpassed = o.unpassed;
+            (λ p v q. lists_none o.lists (empty p) v (stakes_queue (s.phase l v) q)));
+        posts = no_posts step awake;
+        lists = rw step.word (lists_outside ok step refl out (λ p. absurd (grind arith)) (λ p. absurd (grind arith)) (λ u ne p. nodes (s.own u)));
       })
 
   -- The pending bit is cleared again.
@@ -74,9 +70,8 @@ module _ {s s' : Snapshot} {hs : LockName → LockHistory} {w : Waiter} {l : Loc
         holders = o.holders;
         hold = rw step.word (hold_keep o.hold step.acts step.holds refl (λ p. refl) (λ p. absurd (grind arith)));
         pend = rw step.word (pend_clear o.pend step.acts (s.word l).locked refl refl refl refl (λ u n p. o.pend.free u p));
-        queue = rw step.word (queue_outside o.queue step refl refl (λ p. absurd (grind arith)) (λ u ne p. nodes (s.own u)));
-        single = o.single;
-        unpassed = o.unpassed;
+        posts = no_posts step awake;
+        lists = rw step.word (lists_outside ok step refl refl (λ p. absurd (grind arith)) (λ p. absurd (grind arith)) (λ u ne p. nodes (s.own u)));
       })
 
   -- Who waits with the pending bit sees the lock free.
@@ -89,9 +84,8 @@ module _ {s s' : Snapshot} {hs : LockName → LockHistory} {w : Waiter} {l : Loc
         holders = o.holders;
         hold = rw step.word (hold_keep o.hold step.acts step.holds refl (λ p. refl) (λ p. absurd (grind arith)));
         pend = rw step.word (pend_keep o.pend step.acts (s.word l).locked refl (λ p. low) refl (λ p. absurd (grind arith)) (λ u n p. low));
-        queue = rw step.word (queue_outside o.queue step refl refl (λ p. absurd (grind arith)) (λ u ne p. nodes (s.own u)));
-        single = o.single;
-        unpassed = o.unpassed;
+        posts = no_posts step awake;
+        lists = rw step.word (lists_outside ok step refl refl (λ p. absurd (grind arith)) (λ p. absurd (grind arith)) (λ u ne p. nodes (s.own u)));
       })
 
   -- The lock is taken by the pending bit, which is cleared in the same step.
@@ -107,7 +101,6 @@ module _ {s s' : Snapshot} {hs : LockName → LockHistory} {w : Waiter} {l : Loc
         holders = sole_taken (hs l) w o.holder o.holders (o.hold.free free);
         hold = rw step.word (hold_take o.hold step.acts step.holds free refl (λ p. absurd (grind arith)) (λ p. absurd (grind arith)));
         pend = rw step.word (pend_clear o.pend step.acts Held refl refl refl refl (λ u n p. absurd (claims_alone o.pend w step.acts.was u n p)));
-        queue = rw step.word (queue_outside o.queue step refl refl (λ p. absurd (grind arith)) (λ u ne p. nodes (s.own u)));
-        single = o.single;
-        unpassed = o.unpassed;
+        posts = no_posts step awake;
+        lists = rw step.word (lists_outside ok step refl refl (λ p. absurd (grind arith)) (λ p. absurd (grind arith)) (λ u ne p. nodes (s.own u)));
       }))

@@ -7,7 +7,7 @@ use Rattle.lk_abs.specs.declared.names.Waiter.{Waiter}
 use Rattle.lk_abs.specs.declared.names.LockName.{LockName}
 use Rattle.lk_word.specs.declared.spin_word.NodeName.{NodeName}
 use Rattle.lk_machine.specs.declared.parts.Node.{Node}
-use Rattle.lk_law.specs.World.{same_node}
+use Rattle.lk_law.specs.Snapshot.{same_node}
 use Rattle.lk_law.specs.Snapshot.{Moves, Rewrites}
 use Rattle.lk_law.proofs.Sames.{same_lock-self, same_lock-true, same_waiter-self, same_waiter-true}
 

@@ -30,6 +30,10 @@ module _ {tail : Option NodeName} {phase phase' : Waiter → Phase} {own own' : 
       let zero_is : s.0 ≡ 0 = ok.once s.0 0 w here sole-at in
       grind (arith, s.3, zero_is)
 
+  -- nobody stands behind it
+  pub sole_second : slice_get main 1 ≡ None
+  sole_second = sole-end (last_cases main)
+
   sole-none : (i : ℕ) → slice_get main (suc i) ≡ None
   sole-none zero = sole-end (last_cases main)
   sole-none (suc i) = get-none_up main (suc i) (sole-none i)
@@ -42,7 +46,7 @@ module _ {tail : Option NodeName} {phase phase' : Waiter → Phase} {own own' : 
       go u ne zero p = grind (arith, sole-at)
       go u ne (suc i) p = grind (arith, sole-none i)
 
-  sole_empty : (i : ℕ) → slice_get (drop 1 main) i ≡ None
+  pub sole_empty : (i : ℕ) → slice_get (drop 1 main) i ≡ None
   sole_empty i = rw get-drop_one (sole-none i)
 
   pub queue_sole : QueueAgrees None phase' own' node (drop 1 main)

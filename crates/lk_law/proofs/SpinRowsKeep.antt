@@ -1,8 +1,10 @@
 -- The rows on a word that need no queue keep every sound world.
+use Rattle.lk_law.specs.Pv.Post.{Off}
 use Rattle.std.proofs.Common.{◌≡◌, ◌≢◌, inl, Option, Some, None, Bool, true, false, arith, ap, refl, sym, ◌∙◌}
 use Rattle.std.specs.Prelude.{if◌then◌else◌, is_some, ◌&&◌, not}
 use Rattle.lk_abs.specs.Lawful.{IsOutside, TakesInOrder}
-use Rattle.lk_abs.specs.History.{Spins, taken, with_holder}
+use Rattle.lk_abs.specs.History.{taken, with_holder}
+use Rattle.lk_abs.specs.declared.holder.Manner.TheVariants.{Spins}
 use Rattle.lk_abs.specs.declared.names.Mode.{Mode}
 use Rattle.lk_abs.specs.declared.names.Mode.TheVariants.{Virt, Native, Cna, Pv}
 use Rattle.lk_abs.specs.declared.events.How.{How}
@@ -12,6 +14,7 @@ use Rattle.lk_word.specs.declared.spin_word.NodeName.{NodeName}
 use Rattle.lk_word.specs.declared.spin_word.Locked.{Locked}
 use Rattle.lk_word.specs.declared.spin_word.Locked.TheVariants.{Free, Held, Slow}
 use Rattle.lk_word.specs.declared.spin_word.Fields.{Fields}
+use Rattle.lk_machine.specs.declared.parts.Frame.{Frame}
 use Rattle.lk_machine.specs.declared.parts.Pc.{Pc}
 use Rattle.lk_machine.specs.declared.parts.Pc.TheVariants.{F1, T1, T2, U1, V1, V2, P0, P1, G1, G5, G11}
 use Rattle.lk_machine.specs.Moves.{node_of}
@@ -19,14 +22,15 @@ use Rattle.lk_machine.specs.Row.{Outcome, Says, Granted, Freed, Missed, looks, m
 use Rattle.lk_machine.specs.SpinRows.{is_unlocked, is_free, held_word, takes, to_queue, after_fast}
 use Rattle.lk_law.specs.Phase.{has_node, seeks, queues}
 use Rattle.lk_law.specs.Phase.Phase.{Seeks, Releases}
-use Rattle.lk_law.specs.World.{snapshot, phase_of, phase_at, is_slow, put_word, led, lead_on, stores_word, IsBuilt}
+use Rattle.lk_law.specs.World.{chooses, is_unaware, hands_plainly, snapshot, phase_of, phase_at, is_slow, put_word, led, lead_on, stores_word, post_at, may_halt}
+use Rattle.lk_law.specs.Agree.{halts}
 use Rattle.lk_law.specs.WorldLaws.{RowKeeps}
 use Rattle.lk_law.proofs.LawsOutside.{law_turn, law_take, law_release, turn_misses}
 use Rattle.lk_law.proofs.Told.{law_miss}
 use Rattle.lk_law.proofs.Allowed.{allow_take, allow_miss, allow_release}
 use Rattle.lk_law.proofs.Puts.{if_cases, put_word-here}
-use Rattle.lk_law.proofs.Turns.{same_turn, word_turn, word_plain}
-use Rattle.lk_law.proofs.Acting.{Acting, Stands, Kept, row_keeps, fit_here, phase_here, phase_shown, held_not, held_so, IsAlike, looks_kept, granted_place, Ending, ending_step, ending_stays, ends_kept}
+use Rattle.lk_law.proofs.Turns.{same_turn, word_turn, word_plain, quiet_none}
+use Rattle.lk_law.proofs.Acting.{Acting, Stands, Kept, row_keeps, fit_here, phase_here, phase_shown, held_not, held_so, IsAlike, looks_kept, granted_place, Ending, ending_step, ending_stays, ends_kept, awake_here, KeepsIn}
 
 -- what a row on the word makes of a sound world by its outcome
 abbrev pub WordKept : Acting → Outcome Fields → Type 0
@@ -51,51 +55,56 @@ unlocked_free Slow h = cc
 
 -- the row is before the lock, outside of the slow path
 record IsEarly (c : Pc) : Type 0 where
-  phase : (prev y : NodeName) → phase_at c prev y ≡ Seeks
+  phase : (b : Bool) (prev y : NodeName) → phase_at c b prev y ≡ Seeks
   fast : is_slow (Some c) ≡ false
   unlinked : c ≢ G5
   unhanded : c ≢ G11
+  post : (f : Frame) → post_at c f ≡ Off
+  fixed : chooses c ≡ false
+  awake : may_halt c ≡ false
+  aware : is_unaware c ≡ false
+  before : hands_plainly c ≡ false
 
 early_V1 : IsEarly V1
-early_V1 = record { phase = λ p y. refl; fast = refl; unlinked = λ e. grind arith; unhanded = λ e. grind arith }
+early_V1 = record { phase = λ b p y. refl; fast = refl; unlinked = λ e. grind arith; unhanded = λ e. grind arith; post = λ f. refl; fixed = refl; awake = refl; aware = refl; before = refl }
 
 early_P0 : IsEarly P0
-early_P0 = record { phase = λ p y. refl; fast = refl; unlinked = λ e. grind arith; unhanded = λ e. grind arith }
+early_P0 = record { phase = λ b p y. refl; fast = refl; unlinked = λ e. grind arith; unhanded = λ e. grind arith; post = λ f. refl; fixed = refl; awake = refl; aware = refl; before = refl }
 
 early_P1 : IsEarly P1
-early_P1 = record { phase = λ p y. refl; fast = refl; unlinked = λ e. grind arith; unhanded = λ e. grind arith }
+early_P1 = record { phase = λ b p y. refl; fast = refl; unlinked = λ e. grind arith; unhanded = λ e. grind arith; post = λ f. refl; fixed = refl; awake = refl; aware = refl; before = refl }
 
 early_G1 : IsEarly G1
-early_G1 = record { phase = λ p y. refl; fast = refl; unlinked = λ e. grind arith; unhanded = λ e. grind arith }
+early_G1 = record { phase = λ b p y. refl; fast = refl; unlinked = λ e. grind arith; unhanded = λ e. grind arith; post = λ f. refl; fixed = refl; awake = refl; aware = refl; before = refl }
 
 early_F1 : IsEarly F1
-early_F1 = record { phase = λ p y. refl; fast = refl; unlinked = λ e. grind arith; unhanded = λ e. grind arith }
+early_F1 = record { phase = λ b p y. refl; fast = refl; unlinked = λ e. grind arith; unhanded = λ e. grind arith; post = λ f. refl; fixed = refl; awake = refl; aware = refl; before = refl }
 
 early_T1 : IsEarly T1
-early_T1 = record { phase = λ p y. refl; fast = refl; unlinked = λ e. grind arith; unhanded = λ e. grind arith }
+early_T1 = record { phase = λ b p y. refl; fast = refl; unlinked = λ e. grind arith; unhanded = λ e. grind arith; post = λ f. refl; fixed = refl; awake = refl; aware = refl; before = refl }
 
 early_T2 : IsEarly T2
-early_T2 = record { phase = λ p y. refl; fast = refl; unlinked = λ e. grind arith; unhanded = λ e. grind arith }
+early_T2 = record { phase = λ b p y. refl; fast = refl; unlinked = λ e. grind arith; unhanded = λ e. grind arith; post = λ f. refl; fixed = refl; awake = refl; aware = refl; before = refl }
 
 early_V2 : IsEarly V2
-early_V2 = record { phase = λ p y. refl; fast = refl; unlinked = λ e. grind arith; unhanded = λ e. grind arith }
+early_V2 = record { phase = λ b p y. refl; fast = refl; unlinked = λ e. grind arith; unhanded = λ e. grind arith; post = λ f. refl; fixed = refl; awake = refl; aware = refl; before = refl }
 
 early_alike : {c d : Pc} → IsEarly c → IsEarly d → IsAlike c d
-early_alike c d = record { phase = λ p y. d.phase p y ∙ sym (c.phase p y); slow = d.fast ∙ sym c.fast; unlinked = d.unlinked; unhanded = d.unhanded }
+early_alike c d = record { phase = λ b p y. d.phase b p y ∙ sym (c.phase b p y); slow = d.fast ∙ sym c.fast; unlinked = d.unlinked; unhanded = d.unhanded; post = λ f. d.post _ ∙ sym (c.post f); was_fixed = c.fixed; fixed = d.fixed; awake = d.awake; unaware = λ e. absurd (grind (arith, d.aware, e)); plainly = λ e. absurd (grind (arith, d.before, e)) }
 
 early_queue : (x : Fields) → IsEarly (to_queue x)
 early_queue x =
     if_cases IsEarly x.pending G1 (if is_some x.tail then G1 else P1) (λ e. early_G1) (λ e. if_cases IsEarly (is_some x.tail) G1 P1 (λ t. early_G1) (λ t. early_P1))
 
-early_fast : (mode : Mode) (x : Fields) → IsBuilt mode → IsEarly (after_fast mode x)
+early_fast : (mode : Mode) (x : Fields) → halts mode ≡ false → IsEarly (after_fast mode x)
 early_fast Virt x built = early_V1
 early_fast Native x built = if_cases IsEarly (is_unlocked x.locked && x.pending && not (is_some x.tail)) P0 (to_queue x) (λ e. early_P0) (λ e. early_queue x)
-early_fast Cna x built = absurd built
-early_fast Pv x built = absurd built
+early_fast Cna x built = if_cases IsEarly (is_unlocked x.locked && x.pending && not (is_some x.tail)) P0 (to_queue x) (λ e. early_P0) (λ e. early_queue x)
+early_fast Pv x built = cc
 
 module _ {a : Acting} {c : Pc} (at : Stands a c) (early : IsEarly c) where
   seeks_here : phase_of a.frame ≡ Seeks
-  seeks_here = phase_here at ∙ early.phase (node_of a.frame.prev) (node_of a.frame.y)
+  seeks_here = phase_here at ∙ early.phase (is_some a.frame.me) (node_of a.frame.prev) (node_of a.frame.y)
 
   bare_here : a.frame.me ≡ None
   bare_here = (fit_here at).bare (ap has_node seeks_here)
@@ -119,10 +128,9 @@ module _ {a : Acting} {c : Pc} (at : Stands a c) (early : IsEarly c) where
         was = seeks_here;
         place = granted_place at;
         me = bare_here;
-        second = refl;
       } in
       ends_kept at on (Says (Take l h))
-      (law_take at.sound.agrees h (ending_step on (held_not at (ap seeks seeks_here)) refl) (inl (ending_stays at on refl early.fast (λ p. refl))) (λ k. refl) refl refl (free_word (m.word l) free) plain)
+      (law_take at.sound.agrees (awake_here at) h (ending_step (awake_here at) on (held_not at (ap seeks seeks_here)) refl) (inl (ending_stays at on refl early.fast (λ p. refl))) (λ k. refl) refl refl (free_word (m.word l) free) plain)
       (allow_take a.rules at.sound.agrees a.by l h (ap queues shown_seeks) (ap (λ (x : Fields). x.locked) (free_word (m.word l) free)) plain order)
 
   -- the try has failed
@@ -138,56 +146,55 @@ module _ {a : Acting} {c : Pc} (at : Stands a c) (early : IsEarly c) where
         word = refl;
         plain = at.sound.plain;
         was = seeks_here;
-        place = refl;
+        place = quiet_none None refl;
         me = bare_here;
-        second = refl;
       } in
       let held = held_not at (ap seeks seeks_here) in
       ends_kept at on (Says (Miss l))
-      (law_miss a.by l (law_turn at.sound.agrees (ending_step on held held) (ending_stays at on refl early.fast (λ p. refl)) (λ k. refl) turn_misses))
+      (law_miss a.by l (law_turn at.sound.agrees (awake_here at) (ending_step (awake_here at) on held held) (ending_stays at on refl early.fast (λ p. refl)) (λ k. refl) turn_misses))
       (allow_miss a.rules at.sound.agrees a.by l)
 
   -- it looks, and goes on before the lock
   early_kept : (d : Pc) → IsEarly d → WordKept a (looks d)
   early_kept d e = looks_kept at d (early_alike early e)
 
-pub fast_keeps : RowKeeps F1
-fast_keeps =
-    row_keeps F1 (λ a at goes.
+pub fast_awake : KeepsIn false F1
+fast_awake =
+    (λ a at goes.
     let x = a.world.word a.frame.lock in
     if_cases (WordKept a) (is_free x) (takes a.frame how.Fast) (looks (after_fast a.world.mode x))
-    (λ e. takes_kept at early_F1 how.Fast e refl (λ p. p)) (λ e. early_kept at early_F1 (after_fast a.world.mode x) (early_fast a.world.mode x at.sound.built)))
+    (λ e. takes_kept at early_F1 how.Fast e refl (λ p. p)) (λ e. early_kept at early_F1 (after_fast a.world.mode x) (early_fast a.world.mode x at.kind)))
 
-pub try_look_keeps : RowKeeps T1
-try_look_keeps =
-    row_keeps T1 (λ a at goes.
+pub try_look_awake : KeepsIn false T1
+try_look_awake =
+    (λ a at goes.
     if_cases (WordKept a) (is_free (a.world.word a.frame.lock)) (looks T2) (misses (Miss a.frame.lock))
     (λ e. early_kept at early_T1 T2 early_T2) (λ e. misses_kept at early_T1))
 
-pub try_take_keeps : RowKeeps T2
-try_take_keeps =
-    row_keeps T2 (λ a at goes.
+pub try_take_awake : KeepsIn false T2
+try_take_awake =
+    (λ a at goes.
     if_cases (WordKept a) (is_free (a.world.word a.frame.lock)) (takes a.frame how.Try) (misses (Miss a.frame.lock))
     (λ e. takes_kept at early_T2 how.Try e refl (λ p. p)) (λ e. misses_kept at early_T2))
 
 pub loop_look_keeps : RowKeeps V1
 loop_look_keeps =
-    row_keeps V1 (λ a at goes.
+    row_keeps V1 refl (λ a at goes.
     early_kept at early_V1 (if is_free (a.world.word a.frame.lock) then V2 else V1)
     (if_cases IsEarly (is_free (a.world.word a.frame.lock)) V2 V1 (λ e. early_V2) (λ e. early_V1)))
 
 pub loop_take_keeps : RowKeeps V2
 loop_take_keeps =
-    row_keeps V2 (λ a at goes.
+    row_keeps V2 refl (λ a at goes.
     if_cases (WordKept a) (is_free (a.world.word a.frame.lock)) (takes a.frame how.Virt) (looks V1)
     (λ e. takes_kept at early_V2 how.Virt e refl (λ p. p)) (λ e. early_kept at early_V2 V1 early_V1))
 
 pub pending_look_keeps : RowKeeps P0
-pending_look_keeps = row_keeps P0 (λ a at goes. early_kept at early_P0 (to_queue (a.world.word a.frame.lock)) (early_queue (a.world.word a.frame.lock)))
+pending_look_keeps = row_keeps P0 refl (λ a at goes. early_kept at early_P0 (to_queue (a.world.word a.frame.lock)) (early_queue (a.world.word a.frame.lock)))
 
 pub release_keeps : RowKeeps U1
 release_keeps =
-    row_keeps U1 (λ a at goes.
+    row_keeps U1 refl (λ a at goes.
     let m = a.world in
     let l = a.frame.lock in
     let x : Fields = record (m.word l) { locked = Free } in
@@ -199,10 +206,9 @@ release_keeps =
       word = put_word-here m.word l x;
       plain = word_plain m l x at.sound.plain (λ e. grind arith);
       was = was;
-      place = refl;
+      place = quiet_none None refl;
       me = (fit_here at).bare (ap has_node was);
-      second = refl;
     } in
     ends_kept at on (Says (Release l None))
-    (law_release at.sound.agrees (ending_step on (held_so at was) refl) (ending_stays at on refl refl (λ p. refl)) (λ k. refl))
+    (law_release at.sound.agrees (awake_here at) (ending_step (awake_here at) on (held_so at was) refl) (ending_stays at on refl refl (λ p. refl)) (λ k. refl))
     (allow_release a.rules at.sound.agrees a.by l (phase_shown at ∙ was)))

@@ -1,12 +1,17 @@
 -- The main queue is the walk.
+use Rattle.lk_machine.specs.declared.parts.Flag.{Flag}
+use Rattle.lk_law.specs.Cna.{part, front_cut, first_node}
+use Rattle.lk_law.specs.Phase.Phase.{Waits}
+use Rattle.lk_law.proofs.Parts.{part_cases, shown_flag}
+use Rattle.lk_law.proofs.Families.{lists_front}
 use Rattle.std.proofs.Common.{◌≡◌, ℕ, zero, suc, Option, Some, None, true, List, [], ◌∷◌, length, inl, inr, arith, ap, slice_get, refl, sym, ◌∙◌, ◌≤◌, map}
 use Rattle.lk_abs.specs.declared.names.Waiter.{Waiter}
 use Rattle.lk_word.specs.declared.spin_word.NodeName.{NodeName}
 use Rattle.lk_machine.specs.declared.parts.Node.{Node}
-use Rattle.lk_law.specs.Phase.{Phase, has_node, queues}
+use Rattle.lk_law.specs.Phase.{Phase, has_node, queues, leads}
 use Rattle.lk_law.specs.Phase.Phase.{Links}
 use Rattle.lk_law.specs.Snapshot.{QueueAgrees}
-use Rattle.lk_law.specs.Walk.{walk, IsBehind, MainIsTheWalk}
+use Rattle.lk_law.specs.Walk.{walk, IsBehind, MainIsTheWalk, MainIsTheShownWalk, SecondIsTheWalk}
 use Rattle.lk_law.proofs.Lists.{get_cases, get-none_up}
 use Rattle.lk_law.proofs.QueueLead.{follows_cases, lead_first}
 use Rattle.lk_law.proofs.LawsQueue.{apart_on}
@@ -66,8 +71,8 @@ module _ {tail : Option NodeName} {phase : Waiter → Phase} {own : Waiter → N
   walk_led u at c h = ap (λ o. walk behind c (own_of own o)) (sym at) ∙ walk_main c h
 
 pub main_is_the_walk : MainIsTheWalk
-main_is_the_walk s hs l ok =
-    let q = (ok.locks l).queue in
+main_is_the_walk s hs l ok flat =
+    let q = ((ok.locks l).lists.flat flat).queue in
     record {
       led = λ behind is u lead c h. walk_led q is (apart_on ok.nodes l) u (lead_first q u lead) c h;
       unled = λ none. empty (hs l).main (λ u at. none u (q.first u at));
@@ -76,3 +81,46 @@ main_is_the_walk s hs l ok =
     empty : (us : List Waiter) → ((u : Waiter) → slice_get us 0 ≡ Some u → ⊥) → us ≡ []
     empty [] no_first = refl
     empty (u ∷ us) no_first = absurd (no_first u refl)
+
+-- a phase that is shown with a node has one
+shown_noded : (second : List Waiter) (phase : Waiter → Phase) → ((i : ℕ) (u : Waiter) → slice_get second i ≡ Some u → phase u ≡ Waits) → (u : Waiter)
+    → has_node (part second phase u) ≡ true → has_node (phase u) ≡ true
+shown_noded second phase waits u h = elim (part_cases second phase u) [ inl q ↦ ap has_node (waits q.0 u q.1) | inr q ↦ ap has_node (sym q.0) ∙ h ]
+
+-- who stands first leads
+front_leads : (second : List Waiter) (phase : Waiter → Phase) (u : Waiter) (f : Flag) → leads (part second phase u) f ≡ true → leads (phase u) f ≡ true
+front_leads second phase u f h = elim (part_cases second phase u) [ inl q ↦ absurd (let a = ap (λ (r : Phase). leads r f) (sym q.2) ∙ h in cc a) | inr q ↦ ap (λ (r : Phase). leads r f) (sym q.0) ∙ h ]
+
+pub main_is_the_shown_walk : MainIsTheShownWalk
+main_is_the_shown_walk s hs l ok aside =
+    let o = (ok.locks l).lists.cna aside in
+    let noded = shown_noded (hs l).second (s.phase l) (λ i u h. (o.second_ok.waits i u h).0) in
+    record {
+      led = λ behind is u lead c h. walk_led o.queue is (λ a b p q e. apart_on ok.nodes l a b (noded a p) (noded b q) e) u (lists_front (ok.locks l).lists u lead) c h;
+      unled = λ none. go (hs l).main (λ u at. none u (front_leads (hs l).second (s.phase l) u ((s.node (s.own u)).flag)
+          (rw (sym (shown_flag (front_cut s.own (s.stage l) (slice_get (hs l).main 0)) s.node (s.own u))) (o.queue.first u at))));
+    }
+  where
+    go : (us : List Waiter) → ((u : Waiter) → slice_get us 0 ≡ Some u → ⊥) → us ≡ []
+    go [] none = refl
+    go (u ∷ us) none = absurd (none u refl)
+
+-- a list in which each names the one behind it is the walk of as many steps
+walk_along : (next : NodeName → Option NodeName) (own : Waiter → NodeName) (us : List Waiter)
+    → ((i : ℕ) (u v : Waiter) → slice_get us i ≡ Some u → slice_get us (suc i) ≡ Some v → next (own u) ≡ Some (own v))
+    → walk next (length us) (first_node own us) ≡ map own us
+walk_along next own [] each = refl
+walk_along next own (u ∷ []) each = refl
+walk_along next own (u ∷ v ∷ us) each =
+    let rest = walk_along next own (v ∷ us) (λ i a b p q. each (suc i) a b p q) in
+    let step : next (own u) ≡ Some (own v) = each 0 u v refl refl in
+    ap (λ (o : Option NodeName). own u ∷ walk next (length (v ∷ us)) o) step ∙ ap (λ (ns : List NodeName). own u ∷ ns) rest
+
+pub second_is_the_walk : SecondIsTheWalk
+second_is_the_walk s hs l ok aside =
+    let o = (ok.locks l).lists.cna aside in
+    record {
+      walked = walk_along (λ n. (s.node n).next) s.own (hs l).second (λ i u v p q. o.second_ok.linked i u v p q);
+      ended = o.second_ok.last;
+      known = λ u lead some. (o.lead u (lists_front (ok.locks l).lists u lead)).names (inr some);
+    }

@@ -1,8 +1,6 @@
 -- What is proved of acts and runs of a machine.
-use Rattle.std.specs.Prelude.{◌≡◌, ◌<◌, ◌≤◌, ℕ, Option, Some, None, List, [], ◌∷◌, ◌++◌, length, slice_get}
+use Rattle.std.specs.Prelude.{◌<◌, ℕ, List, [], ◌∷◌, length}
 use Rattle.lk_abs.specs.Lawful.{IsLawful}
-use Rattle.lk_abs.specs.declared.names.Kind.{Kind}
-use Rattle.lk_abs.specs.declared.names.Kind.TheVariants.{Spin}
 use Rattle.lk_abs.specs.declared.events.Act.{Act}
 use Rattle.lk_abs.specs.declared.events.Event.{Event}
 use Rattle.lk_machine.specs.declared.setup.Setup.{Setup}
@@ -10,17 +8,13 @@ use Rattle.lk_machine.specs.Machine.{Machine}
 use Rattle.lk_machine.specs.Programs.{IsLawfulSetup}
 use Rattle.lk_machine.specs.Acts.{next, processor_of}
 use Rattle.lk_machine.specs.Run.{at_rest, history, machine_after, events_of}
-use Rattle.lk_law.specs.World.{IsBuilt}
-use Rattle.lk_law.specs.Sound.{Shows, rules_of}
+use Rattle.lk_law.specs.Sound.{Shows, rules_of, world}
+use Rattle.lk_law.specs.Kicked.{ShowsKicks, and_then}
 
--- the events with one more, if something happened
-abbrev pub and_then : List Event → Option Event → List Event
-and_then es None = es
-and_then es (Some e) = es ++ e ∷ []
-
--- the machine shows the history, and the history is lawful
+-- the machine shows the history, in its locks and in its halts and kicks, and the history is lawful
 pub record ShowsLawful (m : Machine) (es : List Event) : Type 0 where
   pub shows : Shows m es
+  pub kicks : ShowsKicks (world m) es
   pub lawful : IsLawful (rules_of m.setup) es
 
 -- Every act keeps it, whatever the machine, the history and the act.
@@ -32,17 +26,11 @@ abbrev pub AreInRange : ℕ → List Act → Type 0
 AreInRange cpus [] = Unit {0}
 AreInRange cpus (a ∷ acts) = (processor_of a < cpus) × AreInRange cpus acts
 
--- a setup whose family and locks are built
-pub record IsBuiltSetup (setup : Setup) : Type 0 where
-  pub lawful : IsLawfulSetup setup
-  pub built : IsBuilt setup.mode
-  pub spin : (i : ℕ) (k : Kind) → slice_get setup.locks.items i ≡ Some k → k ≡ Spin
-
 -- The machine at rest shows the empty history, which is lawful.
 abbrev pub RestShows : Type 0
-RestShows = (setup : Setup) → IsBuiltSetup setup → ShowsLawful (at_rest setup) []
+RestShows = (setup : Setup) → IsLawfulSetup setup → ShowsLawful (at_rest setup) []
 
 -- Every schedule from rest has a lawful history, which the machine shows after it.
 abbrev pub RunKeeps : Type 0
-RunKeeps = (setup : Setup) (acts : List Act) → IsBuiltSetup setup → AreInRange (length setup.topology.sockets.items) acts
+RunKeeps = (setup : Setup) (acts : List Act) → IsLawfulSetup setup → AreInRange (length setup.topology.sockets.items) acts
     → ShowsLawful (machine_after (at_rest setup) acts) (events_of (history (at_rest setup) acts))

@@ -31,6 +31,8 @@ pub data Phase : Type 0 where
   Holds : Phase
   -- the same, and it knows the node to which it hands the lead
   Hands : NodeName → Phase
+  -- it leads the queue, and has set pending so that nobody steals the lock
+  Presses : Phase
   -- it was moved to the second queue, and waits there
   Aside : Phase
   -- it has handed the lead on, holds the lock, and looks after the node that leads now
@@ -48,6 +50,7 @@ abbrev pub pends : Phase → Bool
 pends Undoes = true
 pends Watches = true
 pends Claims = true
+pends Presses = true
 pends _ = false
 
 -- the phase will take the lock by the pending bit
@@ -75,6 +78,7 @@ queues Leads = true
 queues Stakes = true
 queues Holds = true
 queues (Hands n) = true
+queues Presses = true
 queues _ = false
 
 -- the phase has a node of its own
@@ -87,6 +91,7 @@ has_node Stakes = true
 has_node Holds = true
 has_node (Hands n) = true
 has_node Aside = true
+has_node Presses = true
 has_node (Tends n) = true
 has_node _ = false
 
@@ -102,6 +107,7 @@ leads Leads f = true
 leads Stakes f = true
 leads Holds f = true
 leads (Hands n) f = true
+leads Presses f = true
 leads Waits Go = true
 leads Waits (Second n) = true
 leads _ _ = false

@@ -1,7 +1,9 @@
 -- What the laws read of a machine or of running processors, as functions; and when its parts agree with the history of a lock.
-use Rattle.std.specs.Prelude.{◌≡◌, ◌≢◌, ◌+◌, ◌<◌, ℕ, Option, if◌then◌else◌, Some, None, Bool, true, false, List, slice_get}
+use Rattle.std.specs.Prelude.{◌==◌, ◌&&◌, ◌≡◌, ◌≢◌, ◌+◌, ◌<◌, ℕ, Option, if◌then◌else◌, Some, None, Bool, true, false, List, slice_get}
 use Rattle.std.proofs.Common.{zero, suc}
-use Rattle.lk_abs.specs.History.{Manner, Spins}
+use Rattle.lk_abs.specs.declared.names.Mode.{Mode}
+use Rattle.lk_abs.specs.declared.holder.Manner.{Manner}
+use Rattle.lk_abs.specs.declared.holder.Manner.TheVariants.{Spins}
 use Rattle.lk_abs.specs.declared.names.Waiter.{Waiter}
 use Rattle.lk_abs.specs.declared.names.LockName.{LockName}
 use Rattle.lk_word.specs.declared.spin_word.NodeName.{NodeName}
@@ -11,10 +13,16 @@ use Rattle.lk_word.specs.declared.spin_word.Locked.TheVariants.{Free}
 use Rattle.lk_machine.specs.declared.parts.Flag.TheVariants.{Unset}
 use Rattle.lk_machine.specs.declared.parts.Node.{Node}
 use Rattle.lk_machine.specs.Machine.{rest_node}
+use Rattle.lk_law.specs.Stage.{Stage}
+use Rattle.lk_law.specs.Pv.{Post}
 use Rattle.lk_law.specs.Phase.{Phase, has_lock, seeks, pends, watches, stakes, claims, queues, has_node, follows, leads}
 use Rattle.lk_law.specs.Phase.Phase.{Releases, Links, Waits, Hands, Prepared}
 
 pub record Snapshot : Type 0 where
+  pub mode : Mode
+  -- how many handovers may pass a moved waiter by, and which nodes are of a waiter's own socket
+  pub threshold : ℕ
+  pub local : Waiter → NodeName → Bool
   pub word : LockName → Fields
   pub phase : LockName → Waiter → Phase
   -- the node of a waiter
@@ -26,6 +34,18 @@ pub record Snapshot : Type 0 where
   pub slow : Waiter → Bool
   -- how many waiters of a processor are in the slow path
   pub queued : ℕ → ℕ
+  -- how far a front has come with its choice of the next
+  pub stage : LockName → Waiter → Stage
+  -- the first node of the second queue, as the waiter knows it
+  pub kept : Waiter → Option NodeName
+  -- where processors halt: what a waiter does besides its phase, the lock's entry in the hash, and of which processors a kick is remembered
+  pub post : LockName → Waiter → Post
+  pub entry : LockName → Option NodeName
+  pub kicked : ℕ → Bool
+
+-- the two are one node
+abbrev pub same_node : NodeName → NodeName → Bool
+same_node a b = (a.cpu == b.cpu) && (a.index == b.index)
 
 -- the manner is that of a spinlock
 abbrev pub spins : Option Manner → Bool

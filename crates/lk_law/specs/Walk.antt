@@ -1,5 +1,5 @@
 -- The queue as it stands in words and nodes: the walk from the front's node, each node to the one behind it.
-use Rattle.std.specs.Prelude.{◌≡◌, ◌≢◌, ◌≤◌, ℕ, Option, Some, None, true, List, [], ◌∷◌, length, map}
+use Rattle.std.specs.Prelude.{◌≡◌, ◌≢◌, ◌≤◌, ℕ, Option, Some, None, true, false, List, [], ◌∷◌, length, map, slice_get}
 use Rattle.std.proofs.Common.{zero, suc}
 use Rattle.lk_abs.specs.History.{LockHistory}
 use Rattle.lk_abs.specs.declared.names.Waiter.{Waiter}
@@ -9,6 +9,7 @@ use Rattle.lk_machine.specs.declared.parts.Node.{Node}
 use Rattle.lk_law.specs.Phase.{Phase, leads}
 use Rattle.lk_law.specs.Phase.Phase.{Links}
 use Rattle.lk_law.specs.Snapshot.{Snapshot}
+use Rattle.lk_law.specs.Cna.{moves_aside, part, shown, front_cut, front_tip, first_node, named_by}
 use Rattle.lk_law.specs.Agree.{Agrees}
 
 -- the walk from a node along its successors, for at most so many steps
@@ -34,6 +35,28 @@ pub record IsTheWalk (s : Snapshot) (h : LockHistory) (l : LockName) : Type 0 wh
       → (c : ℕ) → length h.main ≤ c → walk behind c (Some (s.own u)) ≡ map s.own h.main
   pub unled : ((u : Waiter) → ¬ LeadsQueue s l u) → h.main ≡ []
 
--- In every snapshot that agrees with its histories, main of each lock is the walk.
+-- In every snapshot that agrees with its histories, main of each lock is the walk, where the family moves nobody aside.
 abbrev pub MainIsTheWalk : Type 0
-MainIsTheWalk = (s : Snapshot) (hs : LockName → LockHistory) (l : LockName) → Agrees s hs → IsTheWalk s (hs l) l
+MainIsTheWalk = (s : Snapshot) (hs : LockName → LockHistory) (l : LockName) → Agrees s hs → moves_aside s.mode ≡ false → IsTheWalk s (hs l) l
+
+-- Where waiters are moved aside the same is true of what is shown of the lock: those that stand aside are not in the queue, and a link that
+-- the front has cut, or will make good when it hands the lead on, is there.
+pub record IsTheShownWalk (s : Snapshot) (h : LockHistory) (l : LockName) : Type 0 where
+  pub led : (behind : NodeName → Option NodeName) → IsBehind (part h.second (s.phase l)) s.own (shown (front_cut s.own (s.stage l) (slice_get h.main 0)) s.node) behind
+      → (u : Waiter) → LeadsQueue s l u → (c : ℕ) → length h.main ≤ c → walk behind c (Some (s.own u)) ≡ map s.own h.main
+  pub unled : ((u : Waiter) → ¬ LeadsQueue s l u) → h.main ≡ []
+
+abbrev pub MainIsTheShownWalk : Type 0
+MainIsTheShownWalk = (s : Snapshot) (hs : LockName → LockHistory) (l : LockName) → Agrees s hs → moves_aside s.mode ≡ true → IsTheShownWalk s (hs l) l
+
+-- The second queue is the walk from its first: each names the next one of it, as many as it has. The last names none, but where the front
+-- has tied those that it passed over behind it: then it names the first of those. And who leads knows the first, by its register, or by its
+-- flag before it looked at it.
+pub record IsTheSecondWalk (s : Snapshot) (h : LockHistory) (l : LockName) : Type 0 where
+  pub walked : walk (λ n. (s.node n).next) (length h.second) (first_node s.own h.second) ≡ map s.own h.second
+  pub ended : (i : ℕ) (u : Waiter) → slice_get h.second i ≡ Some u → slice_get h.second (suc i) ≡ None
+      → (s.node (s.own u)).next ≡ front_tip (s.stage l) (slice_get h.main 0)
+  pub known : (u : Waiter) → LeadsQueue s l u → h.second ≢ [] → named_by (s.phase l u) (s.node (s.own u)).flag (s.kept u) ≡ first_node s.own h.second
+
+abbrev pub SecondIsTheWalk : Type 0
+SecondIsTheWalk = (s : Snapshot) (hs : LockName → LockHistory) (l : LockName) → Agrees s hs → moves_aside s.mode ≡ true → IsTheSecondWalk s (hs l) l

@@ -1,16 +1,32 @@
 // The laws, as clauses of functions that do nothing: who calls one may use its law.
 
 ghost use Rattle.lk_machine.specs.declared.parts.Pc.{Pc};
-ghost use Rattle.lk_machine.specs.declared.parts.Pc.TheVariants.{F1, T1, T2, U1, V1, V2, P0, P1, P2, P3, P4, G1, G2, G3, G4, G5, G6, G7, G8, G9, G10, G11, N1, N2};
-ghost use Rattle.lk_law.specs.Known.{RowKnows, TailIsUsed, NextIsUsed, NodeIsOnes};
-ghost use Rattle.lk_law.specs.Walk.{MainIsTheWalk};
-ghost use Rattle.lk_law.specs.WorldLaws.{RowKeeps, BeginKeeps, EndKeeps};
+ghost use Rattle.lk_machine.specs.declared.parts.Pc.TheVariants.{F1, T1, T2, U1, V1, V2, P0, P1, P2, P3, P4, G1, G2, G3, G4, G5, G6, G7, G8, G9, G10, G11, N1, N2, C1, C2, C3, C4, C5, C6, C7, C8, C9, C10, R1, R5, Wr1, Wr6, Z1, Z2};
+ghost use Rattle.lk_law.specs.Known.{RowKnows, TailIsUsed, NextIsUsed, NodeIsOnes, ChoiceIsUsed, PassesAreBounded, RunIsShort, SkippedIsQueued, QueueIsDistinct, HaltingNextIsUsed, NamedFrontIsUsed, EntryIsUsed, NobodyHalts};
+ghost use Rattle.lk_law.specs.Walk.{MainIsTheWalk, MainIsTheShownWalk, SecondIsTheWalk};
+ghost use Rattle.lk_law.specs.WorldLaws.{RowKeeps, BeginKeeps, EndKeeps, WakeKeeps, NudgeKeeps, IntKeeps, RousedIsAwake, TopIsAwake, InterruptKeeps};
+ghost use Rattle.lk_law.specs.RwKnown.{RwRowKnows, ReadersAreFew};
+ghost use Rattle.lk_law.specs.Whole.{WholeKeeps, WholeBegins, WholeEnds};
+ghost use Rattle.lk_law.specs.WholeHalts.{WholeWakes, WholeNudges, WholeInts, WholeInterrupts, WholeFrontsAreOwed};
+ghost use Rattle.lk_law.specs.Kicked.{RowShows, BeginShows, EndShows, WakeShows, NudgeShows, IntShows, IntAwakeShows, InterruptShows, FrontsAreOwed};
 
 /// In every snapshot that agrees with its histories, the main queue of a lock is the walk from the node of the waiter that leads
 /// it: each node names the one behind it, or the waiter that has taken the tail from it will link its own.
 #[tactic(auto, using(crate::proofs::Walks::main_is_the_walk))]
 pub fn main_is_the_walk()
     ensures walk { MainIsTheWalk }
+{}
+
+/// Where waiters are moved aside the same is true of what is shown of the queue: without those that stand aside, and with the link that
+/// the front has cut and will make good.
+#[tactic(auto, using(crate::proofs::Walks::main_is_the_shown_walk))]
+pub fn main_is_the_shown_walk()
+    ensures walk { MainIsTheShownWalk }
+{}
+
+/// The second queue is the walk from its first, whom the front knows.
+pub fn second_is_the_walk()
+    ensures walk { SecondIsTheWalk }
 {}
 
 /// Each row on a word that needs no queue keeps every sound world, whatever word it meets: the world afterwards is sound with the
@@ -48,16 +64,84 @@ pub fn queue_rows_keep()
     ensures bare_take { RowKeeps N2 }
 {}
 
-/// Every row keeps every sound world; one that is not built changes nothing.
+/// Each row in which a front of Dice and Kogan's lock chooses the next keeps every sound world in the same way: it looks for a waiter of
+/// its own socket, moves those that it passed over to the second queue, tells the next how many handovers were made, hands the lead on,
+/// and lets the second queue return. The handover moves only waiters of other sockets, and names the one behind them.
+pub fn choice_rows_keep()
+    ensures look { RowKeeps C1 }
+    ensures scan { RowKeeps C2 }
+    ensures tail { RowKeeps C3 }
+    ensures tie { RowKeeps C4 }
+    ensures cut { RowKeeps C5 }
+    ensures hang { RowKeeps C6 }
+    ensures count { RowKeeps C7 }
+    ensures hand { RowKeeps C8 }
+    ensures flush { RowKeeps C9 }
+    ensures promote { RowKeeps C10 }
+{}
+
+/// In every sound world no waiter that stands aside was passed by more handovers than the threshold, and a front that is about to tell the
+/// next of such a waiter has made fewer.
+pub fn passes_are_bounded()
+    ensures bounded { PassesAreBounded }
+    ensures short { RunIsShort }
+{}
+
+/// Each row of a reader or a writer keeps every sound world, whatever word it meets: readers come in, wait, go back and release, writers
+/// take, wait and release, and tries fail; with the wait lock taken before, and freed after, by the rows of spinlocks.
+pub fn rw_rows_keep()
+    ensures reader_first { WholeKeeps R1 }
+    ensures reader_waits { WholeKeeps R5 }
+    ensures writer_first { WholeKeeps Wr1 }
+    ensures writer_claims { WholeKeeps Wr6 }
+    ensures reader_releases { WholeKeeps Z1 }
+    ensures writer_releases { WholeKeeps Z2 }
+{}
+
+/// Every row keeps every sound world, with spinlocks, reader-writer locks and their wait locks, in each family of locks.
 pub fn every_row_keeps()
-    ensures rows { (c : Pc) → RowKeeps c }
+    ensures rows { (c : Pc) → WholeKeeps c }
 {}
 
 /// What happens to a frame between its operations keeps every sound world, with the histories as they were: it begins an operation,
-/// before which its waiter holds the lock as the verb wants; or it comes, goes or changes without a place.
+/// before which its waiter holds the lock as the verb wants; or it comes, goes or changes without a place. One comes only where no frame
+/// of its processor sleeps.
 pub fn frames_keep()
-    ensures begin { BeginKeeps }
-    ensures end { EndKeeps }
+    ensures begin { WholeBegins }
+    ensures end { WholeEnds }
+{}
+
+/// The end of a halt keeps every sound world: by a kick, which is remembered no more, by a nudge, or by an interrupt, and its event is
+/// allowed. A processor is halted only with its newest frame at a row at which it halts; and after the halt's end, or where the newest
+/// frame stands elsewhere, no frame of the processor sleeps, so that a new one may come.
+pub fn halts_end()
+    ensures wake { WakeKeeps }
+    ensures nudge { NudgeKeeps }
+    ensures interrupt { IntKeeps }
+    ensures roused { RousedIsAwake }
+    ensures top { TopIsAwake }
+    ensures nobody { NobodyHalts }
+    ensures interrupted { InterruptKeeps }
+    ensures whole_wakes { WholeWakes }
+    ensures whole_nudges { WholeNudges }
+    ensures whole_interrupt { WholeInts }
+    ensures whole_interrupted { WholeInterrupts }
+{}
+
+/// What the events so far say of halts and kicks is what the world shows, after each row, between the operations, and after each end of a
+/// halt: who sleeps, which kicks are remembered, and how many releases owe one still. And where it is, a front that sleeps while nobody
+/// holds its lock is owed a kick by the history.
+pub fn kicks_are_shown()
+    ensures rows { (c : Pc) → RowShows c }
+    ensures begin { BeginShows }
+    ensures end { EndShows }
+    ensures wake { WakeShows }
+    ensures nudge { NudgeShows }
+    ensures interrupt { IntShows }
+    ensures interrupt_awake { IntAwakeShows }
+    ensures interrupted { InterruptShows }
+    ensures owed { FrontsAreOwed }
+    ensures whole_owed { WholeFrontsAreOwed }
 {}
 
 /// What every sound world says of the word and the nodes that a row meets.
@@ -65,10 +149,24 @@ pub fn rows_know()
     ensures rows { (c : Pc) → RowKnows c }
 {}
 
+/// What every sound world says of the word that a row of a reader or a writer meets.
+pub fn rw_rows_know()
+    ensures rows { (c : Pc) → RwRowKnows c }
+    ensures few { ReadersAreFew }
+{}
+
 /// In every sound world a tail is the node of a waiter that uses it, the node that a front is about to hand on to is used by the
-/// second of the queue, and a node is used by one waiter at most, as one of the four of its processor.
+/// second of the queue, and a node is used by one waiter at most, as one of the four of its processor; and who stands in the main queue
+/// has a frame, and stands in it once. Where processors halt, the node of a lock's entry, and one that a holder looks after or a releaser
+/// will kick, is used by the first of the queue.
 pub fn nodes_are_used()
     ensures tail { TailIsUsed }
     ensures next { NextIsUsed }
     ensures once { NodeIsOnes }
+    ensures choice { ChoiceIsUsed }
+    ensures skipped { SkippedIsQueued }
+    ensures distinct { QueueIsDistinct }
+    ensures halting_next { HaltingNextIsUsed }
+    ensures named_front { NamedFrontIsUsed }
+    ensures entry { EntryIsUsed }
 {}

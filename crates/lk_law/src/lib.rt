@@ -4,6 +4,7 @@
 mod laws;
 
 pub use laws::{
-    every_row_keeps, frames_keep, main_is_the_walk, nodes_are_used, queue_rows_keep, rows_know,
-    spin_rows_keep,
+    choice_rows_keep, every_row_keeps, frames_keep, halts_end, kicks_are_shown,
+    main_is_the_shown_walk, main_is_the_walk, nodes_are_used, passes_are_bounded, queue_rows_keep,
+    rows_know, rw_rows_keep, rw_rows_know, second_is_the_walk, spin_rows_keep,
 };

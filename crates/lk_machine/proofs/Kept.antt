@@ -1,5 +1,5 @@
 -- What a write keeps of what the next call requires.
-use Rattle.std.proofs.Common.{◌≡◌, ℕ, ◌+◌, ◌-◌, [], ◌∷◌, length-append, ◌<◌, ◌≤◌, None, Bool, List, length, length-set, get_or, set, slice_get, arith, ap, subst, sym, refl, ◌∙◌, inl, inr}
+use Rattle.std.proofs.Common.{◌≡◌, ℕ, ◌+◌, ◌-◌, [], ◌∷◌, length-append, ◌<◌, ◌≤◌, Option, Some, None, Bool, List, length, length-set, get_or, set, slice_get, arith, ap, subst, sym, refl, ◌∙◌, inl, inr}
 use Rattle.std.specs.Prelude.{unwrap_or}
 use Rattle.std.proofs.lemmas.Bool.{cases_eq, cases_lt}
 use Rattle.std.proofs.lemmas.Option.{unwrap_or-slice_get}
@@ -7,11 +7,12 @@ use Rattle.std.proofs.lemmas.List.{get_or-set_same, get_or-set_other, set_past}
 use Rattle.lk_abs.specs.declared.names.LockName.{LockName}
 use Rattle.lk_word.specs.declared.spin_word.NodeName.{NodeName}
 use Rattle.lk_word.specs.declared.spin_word.Fields.{Fields}
+use Rattle.lk_word.specs.declared.rw_word.RwFields.{RwFields}
 use Rattle.lk_machine.specs.declared.parts.Counts.{Counts}
 use Rattle.lk_machine.specs.declared.parts.Frame.{Frame}
 use Rattle.lk_machine.specs.declared.parts.Node.{Node}
 use Rattle.lk_machine.specs.declared.setup.Setup.{Setup}
-use Rattle.lk_machine.specs.Machine.{Machine, CpuState, HasTop, HasNode, no_cpu, rest_frame, cpu_at, frame_at, depth_at, top_frame, set_cpu, set_lock, set_word, set_node, set_top, set_queued, set_preempted, set_counts, push}
+use Rattle.lk_machine.specs.Machine.{Machine, CpuState, HasTop, HasNode, no_cpu, rest_frame, cpu_at, frame_at, depth_at, top_frame, set_cpu, set_lock, set_word, set_rw, set_node, set_top, set_queued, set_preempted, set_halted, set_kicked, set_entry, set_counts, push}
 use Rattle.lk_machine.specs.Programs.{HasPrograms, handlers_of}
 use Rattle.lk_machine.specs.Moves.{CanMove, leave}
 
@@ -83,6 +84,10 @@ pub IsAlike-set_word : (m : Machine) (l : LockName) (x : Fields) → IsAlike m (
 unfolding set_word set_lock depth_at frame_at cpu_at
 IsAlike-set_word m l x = record { setup = refl; cpus = refl; depth = λ q. refl; program = λ q. refl; «at» = λ q. refl }
 
+pub IsAlike-set_rw : (m : Machine) (i : ℕ) (x : RwFields) → IsAlike m (set_rw m i x)
+unfolding set_rw set_lock depth_at frame_at cpu_at
+IsAlike-set_rw m i x = record { setup = refl; cpus = refl; depth = λ q. refl; program = λ q. refl; «at» = λ q. refl }
+
 pub IsAlike-set_counts : (m : Machine) (x : Counts) → IsAlike m (set_counts m x)
 unfolding set_counts depth_at frame_at cpu_at
 IsAlike-set_counts m x = record { setup = refl; cpus = refl; depth = λ q. refl; program = λ q. refl; «at» = λ q. refl }
@@ -98,6 +103,19 @@ IsAlike-set_queued m p n = same_frames m p _ refl
 pub IsAlike-set_preempted : (m : Machine) (p : ℕ) (b : Bool) → IsAlike m (set_preempted m p b)
 unfolding set_preempted
 IsAlike-set_preempted m p b = same_frames m p _ refl
+
+pub IsAlike-set_halted : (m : Machine) (p : ℕ) (b : Bool) → IsAlike m (set_halted m p b)
+unfolding set_halted
+IsAlike-set_halted m p b = same_frames m p _ refl
+
+pub IsAlike-set_kicked : (m : Machine) (p : ℕ) (b : Bool) → IsAlike m (set_kicked m p b)
+unfolding set_kicked
+IsAlike-set_kicked m p b = same_frames m p _ refl
+
+pub IsAlike-set_entry : (m : Machine) (l : LockName) (n : Option NodeName) → IsAlike m (set_entry m l n)
+unfolding set_entry depth_at frame_at cpu_at
+IsAlike-set_entry m l None = record { setup = refl; cpus = refl; depth = λ q. refl; program = λ q. refl; «at» = λ q. refl }
+IsAlike-set_entry m l (Some n) = record { setup = refl; cpus = refl; depth = λ q. refl; program = λ q. refl; «at» = λ q. refl }
 
 depth-set_top : (m : Machine) (p : ℕ) (f : Frame) (q : ℕ) → depth_at (set_top m p f) q ≡ depth_at m q
 unfolding set_top depth_at
@@ -132,6 +150,10 @@ pub setup-set_word : (m : Machine) (l : LockName) (x : Fields) → (set_word m l
 unfolding set_word set_lock
 setup-set_word m l x = refl
 
+pub setup-set_rw : (m : Machine) (i : ℕ) (x : RwFields) → (set_rw m i x).setup ≡ m.setup
+unfolding set_rw set_lock
+setup-set_rw m i x = refl
+
 pub setup-set_counts : (m : Machine) (x : Counts) → (set_counts m x).setup ≡ m.setup
 unfolding set_counts
 setup-set_counts m x = refl
@@ -148,6 +170,17 @@ pub setup-set_preempted : (m : Machine) (p : ℕ) (b : Bool) → (set_preempted 
 unfolding set_preempted set_cpu
 setup-set_preempted m p b = refl
 
+pub setup-set_halted : (m : Machine) (p : ℕ) (b : Bool) → (set_halted m p b).setup ≡ m.setup
+unfolding set_halted set_cpu
+setup-set_halted m p b = refl
+
+pub setup-set_kicked : (m : Machine) (p : ℕ) (b : Bool) → (set_kicked m p b).setup ≡ m.setup
+unfolding set_kicked set_cpu
+setup-set_kicked m p b = refl
+
+pub setup-set_entry : (m : Machine) (l : LockName) (n : Option NodeName) → (set_entry m l n).setup ≡ m.setup
+setup-set_entry m l n = (IsAlike-set_entry m l n).setup
+
 pub setup-set_top : (m : Machine) (p : ℕ) (f : Frame) → (set_top m p f).setup ≡ m.setup
 unfolding set_top set_cpu
 setup-set_top m p f = refl
@@ -161,6 +194,10 @@ setup-leave m p = refl
 pub length-locks-set_word : (m : Machine) (l : LockName) (x : Fields) → length (set_word m l x).locks ≡ length m.locks
 unfolding set_word set_lock
 length-locks-set_word m l x = length-set m.locks l.index _
+
+pub length-locks-set_rw : (m : Machine) (i : ℕ) (x : RwFields) → length (set_rw m i x).locks ≡ length m.locks
+unfolding set_rw set_lock
+length-locks-set_rw m i x = length-set m.locks i _
 
 pub length-locks-set_counts : (m : Machine) (x : Counts) → length (set_counts m x).locks ≡ length m.locks
 unfolding set_counts
@@ -178,6 +215,19 @@ pub length-locks-set_preempted : (m : Machine) (p : ℕ) (b : Bool) → length (
 unfolding set_preempted set_cpu
 length-locks-set_preempted m p b = refl
 
+pub length-locks-set_halted : (m : Machine) (p : ℕ) (b : Bool) → length (set_halted m p b).locks ≡ length m.locks
+unfolding set_halted set_cpu
+length-locks-set_halted m p b = refl
+
+pub length-locks-set_kicked : (m : Machine) (p : ℕ) (b : Bool) → length (set_kicked m p b).locks ≡ length m.locks
+unfolding set_kicked set_cpu
+length-locks-set_kicked m p b = refl
+
+pub length-locks-set_entry : (m : Machine) (l : LockName) (n : Option NodeName) → length (set_entry m l n).locks ≡ length m.locks
+unfolding set_entry
+length-locks-set_entry m l None = refl
+length-locks-set_entry m l (Some n) = refl
+
 pub length-locks-set_top : (m : Machine) (p : ℕ) (f : Frame) → length (set_top m p f).locks ≡ length m.locks
 unfolding set_top set_cpu
 length-locks-set_top m p f = refl
@@ -191,6 +241,10 @@ length-locks-leave m p = refl
 pub length-cpus-set_word : (m : Machine) (l : LockName) (x : Fields) → length (set_word m l x).cpus ≡ length m.cpus
 unfolding set_word set_lock
 length-cpus-set_word m l x = refl
+
+pub length-cpus-set_rw : (m : Machine) (i : ℕ) (x : RwFields) → length (set_rw m i x).cpus ≡ length m.cpus
+unfolding set_rw set_lock
+length-cpus-set_rw m i x = refl
 
 pub length-cpus-set_counts : (m : Machine) (x : Counts) → length (set_counts m x).cpus ≡ length m.cpus
 unfolding set_counts
@@ -208,6 +262,17 @@ pub length-cpus-set_preempted : (m : Machine) (p : ℕ) (b : Bool) → length (s
 unfolding set_preempted set_cpu
 length-cpus-set_preempted m p b = length-set m.cpus p _
 
+pub length-cpus-set_halted : (m : Machine) (p : ℕ) (b : Bool) → length (set_halted m p b).cpus ≡ length m.cpus
+unfolding set_halted set_cpu
+length-cpus-set_halted m p b = length-set m.cpus p _
+
+pub length-cpus-set_kicked : (m : Machine) (p : ℕ) (b : Bool) → length (set_kicked m p b).cpus ≡ length m.cpus
+unfolding set_kicked set_cpu
+length-cpus-set_kicked m p b = length-set m.cpus p _
+
+pub length-cpus-set_entry : (m : Machine) (l : LockName) (n : Option NodeName) → length (set_entry m l n).cpus ≡ length m.cpus
+length-cpus-set_entry m l n = (IsAlike-set_entry m l n).cpus
+
 pub length-cpus-set_top : (m : Machine) (p : ℕ) (f : Frame) → length (set_top m p f).cpus ≡ length m.cpus
 unfolding set_top set_cpu
 length-cpus-set_top m p f = length-set m.cpus p _
@@ -221,6 +286,9 @@ length-cpus-leave m p = length-set _ p _ ∙ length-set m.cpus p _
 pub depth_at-set_word : (m : Machine) (l : LockName) (x : Fields) (q : ℕ) → depth_at (set_word m l x) q ≡ depth_at m q
 depth_at-set_word m l x q = (IsAlike-set_word m l x).depth q
 
+pub depth_at-set_rw : (m : Machine) (i : ℕ) (x : RwFields) (q : ℕ) → depth_at (set_rw m i x) q ≡ depth_at m q
+depth_at-set_rw m i x q = (IsAlike-set_rw m i x).depth q
+
 pub depth_at-set_counts : (m : Machine) (x : Counts) (q : ℕ) → depth_at (set_counts m x) q ≡ depth_at m q
 depth_at-set_counts m x q = (IsAlike-set_counts m x).depth q
 
@@ -233,6 +301,15 @@ depth_at-set_queued m p n q = (IsAlike-set_queued m p n).depth q
 pub depth_at-set_preempted : (m : Machine) (p : ℕ) (b : Bool) (q : ℕ) → depth_at (set_preempted m p b) q ≡ depth_at m q
 depth_at-set_preempted m p b q = (IsAlike-set_preempted m p b).depth q
 
+pub depth_at-set_halted : (m : Machine) (p : ℕ) (b : Bool) (q : ℕ) → depth_at (set_halted m p b) q ≡ depth_at m q
+depth_at-set_halted m p b q = (IsAlike-set_halted m p b).depth q
+
+pub depth_at-set_kicked : (m : Machine) (p : ℕ) (b : Bool) (q : ℕ) → depth_at (set_kicked m p b) q ≡ depth_at m q
+depth_at-set_kicked m p b q = (IsAlike-set_kicked m p b).depth q
+
+pub depth_at-set_entry : (m : Machine) (l : LockName) (n : Option NodeName) (q : ℕ) → depth_at (set_entry m l n) q ≡ depth_at m q
+depth_at-set_entry m l n q = (IsAlike-set_entry m l n).depth q
+
 pub depth_at-set_top : (m : Machine) (p : ℕ) (f : Frame) (q : ℕ) → depth_at (set_top m p f) q ≡ depth_at m q
 depth_at-set_top m p f q = depth-set_top m p f q
 
@@ -243,6 +320,9 @@ depth_at-leave m p q = (IsAlike-set_queued _ p _).depth q ∙ depth-set_top m p 
 
 pub CanMove-set_word : (m : Machine) (l : LockName) (x : Fields) (q : ℕ) → CanMove m q → CanMove (set_word m l x) q
 CanMove-set_word m l x q move = CanMove-IsAlike m (set_word m l x) q (IsAlike-set_word m l x) move
+
+pub CanMove-set_rw : (m : Machine) (i : ℕ) (x : RwFields) (q : ℕ) → CanMove m q → CanMove (set_rw m i x) q
+CanMove-set_rw m i x q move = CanMove-IsAlike m (set_rw m i x) q (IsAlike-set_rw m i x) move
 
 pub CanMove-set_counts : (m : Machine) (x : Counts) (q : ℕ) → CanMove m q → CanMove (set_counts m x) q
 CanMove-set_counts m x q move = CanMove-IsAlike m (set_counts m x) q (IsAlike-set_counts m x) move
@@ -255,6 +335,15 @@ CanMove-set_queued m p n q move = CanMove-IsAlike m (set_queued m p n) q (IsAlik
 
 pub CanMove-set_preempted : (m : Machine) (p : ℕ) (b : Bool) (q : ℕ) → CanMove m q → CanMove (set_preempted m p b) q
 CanMove-set_preempted m p b q move = CanMove-IsAlike m (set_preempted m p b) q (IsAlike-set_preempted m p b) move
+
+pub CanMove-set_halted : (m : Machine) (p : ℕ) (b : Bool) (q : ℕ) → CanMove m q → CanMove (set_halted m p b) q
+CanMove-set_halted m p b q move = CanMove-IsAlike m (set_halted m p b) q (IsAlike-set_halted m p b) move
+
+pub CanMove-set_kicked : (m : Machine) (p : ℕ) (b : Bool) (q : ℕ) → CanMove m q → CanMove (set_kicked m p b) q
+CanMove-set_kicked m p b q move = CanMove-IsAlike m (set_kicked m p b) q (IsAlike-set_kicked m p b) move
+
+pub CanMove-set_entry : (m : Machine) (l : LockName) (n : Option NodeName) (q : ℕ) → CanMove m q → CanMove (set_entry m l n) q
+CanMove-set_entry m l n q move = CanMove-IsAlike m (set_entry m l n) q (IsAlike-set_entry m l n) move
 
 pub CanMove-set_top : (m : Machine) (p : ℕ) (f : Frame) → CanMove m p → f.program ≡ (top_frame m p).program → f.«at» ≡ (top_frame m p).«at» → CanMove (set_top m p f) p
 CanMove-set_top m p f move same_program same_at = CanMove-IsAlike m (set_top m p f) p (IsAlike-set_top m p f move.top same_program same_at) move
@@ -276,41 +365,67 @@ pub depth_at-push : (m : Machine) (p : ℕ) (f : Frame) → p < length m.cpus �
 unfolding push set_cpu cpu_at depth_at
 depth_at-push m p f within = ap (λ (c : CpuState). length c.frames) (get_or-set_same m.cpus p _ no_cpu within) ∙ length-append _ (f ∷ [])
 
+-- the top frames stay where a word is stored
+pub top_frame-set_rw : (m : Machine) (i : ℕ) (x : RwFields) (q : ℕ) → top_frame (set_rw m i x) q ≡ top_frame m q
+unfolding set_rw set_lock depth_at frame_at cpu_at
+top_frame-set_rw m i x q = refl
+
 -- what a caller's goals need that calls one writer or move after another
 pub ruleset kept = (
+  setup-set_rw,
   setup-set_word,
   setup-set_counts,
   setup-set_node,
   setup-set_queued,
   setup-set_preempted,
+  setup-set_halted,
+  setup-set_kicked,
+  setup-set_entry,
   setup-set_top,
   setup-leave,
+  length-locks-set_rw,
   length-locks-set_word,
   length-locks-set_counts,
   length-locks-set_node,
   length-locks-set_queued,
   length-locks-set_preempted,
+  length-locks-set_halted,
+  length-locks-set_kicked,
+  length-locks-set_entry,
   length-locks-set_top,
   length-locks-leave,
+  length-cpus-set_rw,
   length-cpus-set_word,
   length-cpus-set_counts,
   length-cpus-set_node,
   length-cpus-set_queued,
   length-cpus-set_preempted,
+  length-cpus-set_halted,
+  length-cpus-set_kicked,
+  length-cpus-set_entry,
   length-cpus-set_top,
   length-cpus-leave,
+  depth_at-set_rw,
   depth_at-set_word,
   depth_at-set_counts,
   depth_at-set_node,
   depth_at-set_queued,
   depth_at-set_preempted,
+  depth_at-set_halted,
+  depth_at-set_kicked,
+  depth_at-set_entry,
   depth_at-set_top,
   depth_at-leave,
+  CanMove-set_rw,
+  top_frame-set_rw,
   CanMove-set_word,
   CanMove-set_counts,
   CanMove-set_node,
   CanMove-set_queued,
   CanMove-set_preempted,
+  CanMove-set_halted,
+  CanMove-set_kicked,
+  CanMove-set_entry,
   CanMove-set_top,
   CanMove-leave,
 )

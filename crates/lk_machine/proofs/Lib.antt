@@ -1,3 +1,4 @@
+pub mod Hashed
 pub mod Kept
 pub mod Release
 pub mod Rested

@@ -4,6 +4,9 @@ pub mod Moves
 pub mod Row
 pub mod SpinRows
 pub mod QueueRows
+pub mod CnaRows
+pub mod PvRows
+pub mod RwRows
 pub mod Rows
 pub mod Acts
 pub mod Run

@@ -1,5 +1,6 @@
 -- The machine as plain data: what is read of it, and what is written to it.
-use Rattle.std.specs.Prelude.{◌+◌, ◌-◌, ◌<◌, ◌≤◌, ℕ, Option, None, Bool, false, List, [], ◌∷◌, ◌++◌, length, take, slice_get, slice_index_or, slice_set, if◌then◌else◌, unwrap_or}
+use Rattle.std.specs.Prelude.{Some, ◌+◌, ◌-◌, ◌<◌, ◌≤◌, ℕ, Option, None, Bool, false, List, [], ◌∷◌, ◌++◌, length, take, slice_get, slice_index_or, slice_set, if◌then◌else◌, unwrap_or}
+use Rattle.lk_abs.specs.Names.{same_lock}
 use Rattle.lk_abs.specs.declared.names.Waiter.{Waiter}
 use Rattle.lk_abs.specs.declared.names.LockName.{LockName}
 use Rattle.lk_word.specs.declared.spin_word.NodeName.{NodeName}
@@ -145,6 +146,19 @@ unfoldable pub handlers_at : Machine → ℕ → ℕ
 unfolding cpu_at
 handlers_at m p = (cpu_at m p).handlers
 
+-- the node of a lock in the hash, if it is entered
+
+abbrev pub entry_in : LockName → List (LockName × NodeName) → Option NodeName
+entry_in l [] = None
+entry_in l (e ∷ es) = if same_lock e.0 l then Some e.1 else entry_in l es
+
+abbrev pub without_entry : LockName → List (LockName × NodeName) → List (LockName × NodeName)
+without_entry l [] = []
+without_entry l (e ∷ es) = if same_lock e.0 l then without_entry l es else e ∷ without_entry l es
+
+unfoldable pub entry_at : Machine → LockName → Option NodeName
+entry_at m l = entry_in l m.hash
+
 -- the waiter of the top frame
 abbrev pub top_of : Machine → ℕ → Waiter
 top_of m p = record { cpu = p; ctx = depth_at m p - 1 }
@@ -196,6 +210,11 @@ set_halted m p b = set_cpu m p (record (cpu_at m p) { halted = b })
 unfoldable pub set_kicked : Machine → ℕ → Bool → Machine
 unfolding set_cpu cpu_at
 set_kicked m p b = set_cpu m p (record (cpu_at m p) { kicked = b })
+
+-- the lock's entry in the hash becomes this
+unfoldable pub set_entry : Machine → LockName → Option NodeName → Machine
+set_entry m l None = record m { hash = without_entry l m.hash }
+set_entry m l (Some n) = record m { hash = (l, n) ∷ without_entry l m.hash }
 
 -- the top frame goes
 unfoldable pub pop : Machine → ℕ → Machine

@@ -1,9 +1,10 @@
 -- How a frame moves: within its operation, on to the next one, and out of the slow path.
-use Rattle.std.specs.Prelude.{◌+◌, ◌-◌, ◌==◌, ◌≤◌, ℕ, Option, Some, None, Bool, false, List, length, drop, slice_get, position, unwrap_or, if◌then◌else◌, ◌&&◌}
+use Rattle.std.specs.Prelude.{◌+◌, ◌-◌, ◌==◌, ◌≤◌, ℕ, Option, Some, None, Bool, true, false, List, length, drop, slice_get, position, unwrap_or, if◌then◌else◌, ◌&&◌}
 use Rattle.std.proofs.Common.{suc}
 use Rattle.lk_abs.specs.declared.names.Mode.{Mode}
 use Rattle.lk_abs.specs.declared.names.Mode.TheVariants.{Pv}
 use Rattle.lk_abs.specs.declared.names.Waiter.{Waiter}
+use Rattle.lk_abs.specs.declared.names.LockName.{LockName}
 use Rattle.lk_word.specs.declared.spin_word.NodeName.{NodeName}
 use Rattle.lk_machine.specs.declared.setup.Verb.{Verb}
 use Rattle.lk_machine.specs.declared.setup.Verb.TheVariants.{Lock, Try, Unlock, Read, TryRead, RUnlock, Write, TryWrite, WUnlock}
@@ -63,6 +64,20 @@ granted m p = if (top_frame m p).lock.wait then set_top m p (record (top_frame m
 -- the lock is freed: the operation is done, and with a wait lock the one for which it was taken
 abbrev pub freed : Machine → ℕ → Machine
 freed m p = done m p
+
+-- the names of a reader-writer lock and of its wait lock
+abbrev pub rw_name : ℕ → LockName
+rw_name i = record { index = i; wait = false }
+
+abbrev pub wait_name : ℕ → LockName
+wait_name i = record { index = i; wait = true }
+
+-- the frame is about to take the wait lock of its lock, and goes on at this place once it has it
+abbrev pub waiting : Frame → Pc → Frame
+waiting f c = record f { place = Some F1; lock = wait_name f.lock.index; then = Some c }
+
+abbrev pub take_wait : Machine → ℕ → Pc → Machine
+take_wait m p c = set_top m p (waiting (top_frame m p) c)
 
 -- how many operations a failed try skips: itself, and all up to the release that would have ended it
 abbrev pub skipped : Machine → ℕ → Frame → ℕ

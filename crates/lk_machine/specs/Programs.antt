@@ -1,7 +1,8 @@
 -- Programs: what they hold on the way, and when they are lawful.
 use Rattle.std.specs.Prelude.{◌≡◌, ◌<◌, ◌≤◌, ◌+◌, ◌-◌, ◌==◌, ◌&&◌, ℕ, Option, Some, None, Bool, true, false, List, [], ◌∷◌, length, drop, slice_get, slice_index_or, if◌then◌else◌}
 use Rattle.std.proofs.Common.{zero, suc}
-use Rattle.lk_abs.specs.History.{Manner, Spins, Reads, Writes}
+use Rattle.lk_abs.specs.declared.holder.Manner.{Manner}
+use Rattle.lk_abs.specs.declared.holder.Manner.TheVariants.{Spins, Reads, Writes}
 use Rattle.lk_abs.specs.declared.names.Kind.{Kind}
 use Rattle.lk_abs.specs.declared.names.Kind.TheVariants.{Spin, Rw}
 use Rattle.lk_machine.specs.declared.setup.Verb.{Verb}

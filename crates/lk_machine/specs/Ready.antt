@@ -4,7 +4,7 @@ use Rattle.lk_machine.specs.declared.parts.Counts.{Counts}
 use Rattle.lk_machine.specs.declared.parts.Pc.{Pc}
 use Rattle.lk_machine.specs.Machine.{Machine, HasNode, top_frame, queued_at}
 use Rattle.lk_machine.specs.Moves.{CanMove}
-use Rattle.lk_machine.specs.Rows.{Target, FlagOf, NextOf, target}
+use Rattle.lk_machine.specs.Rows.{Target, FlagOf, NextOf, ChoiceFlag, ChoiceNext, SecondTailOf, RunsOf, PvFlag, PvNext, StateOf, target}
 
 -- none of the ten counts is above this number
 pub record CountsWithin (n : ℕ) (c : Counts) : Type 0 where
@@ -23,6 +23,13 @@ pub record CountsWithin (n : ℕ) (c : Counts) : Type 0 where
 abbrev pub HasTarget : Machine → Target → Type 0
 HasTarget m (FlagOf n) = HasNode m n
 HasTarget m (NextOf n) = HasNode m n
+HasTarget m (ChoiceFlag n) = HasNode m n
+HasTarget m (ChoiceNext n) = HasNode m n
+HasTarget m (SecondTailOf n) = HasNode m n
+HasTarget m (RunsOf n) = HasNode m n
+HasTarget m (PvFlag n) = HasNode m n
+HasTarget m (PvNext n) = HasNode m n
+HasTarget m (StateOf n) = HasNode m n
 HasTarget m _ = Unit {0}
 
 -- The top frame of the processor can make its row: it can move, its lock and the node that it reaches are there, and no count is at

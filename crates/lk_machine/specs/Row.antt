@@ -1,6 +1,6 @@
 -- A row is one operation on one word or one field, told as data: by the acting frame and the value that it meets there it says what
 -- it stores, where it leads, what it tells and what it counts. One general application makes the row on a machine of it.
-use Rattle.std.specs.Prelude.{◌+◌, ℕ, Option, Some, None, false, List, [], ◌∷◌}
+use Rattle.std.specs.Prelude.{◌+◌, ℕ, Option, Some, None, Bool, false, List, [], ◌∷◌}
 use Rattle.lk_abs.specs.declared.events.Event.{Event}
 use Rattle.lk_abs.specs.declared.events.What.{What}
 use Rattle.lk_abs.specs.declared.events.What.TheVariants.{Pass}
@@ -8,8 +8,9 @@ use Rattle.lk_word.specs.declared.spin_word.NodeName.{NodeName}
 use Rattle.lk_machine.specs.declared.parts.Counts.{Counts}
 use Rattle.lk_machine.specs.declared.parts.Frame.{Frame}
 use Rattle.lk_machine.specs.declared.parts.Pc.{Pc}
+use Rattle.lk_machine.specs.declared.parts.Why.{Why}
 use Rattle.lk_machine.specs.Machine.{Machine, set_counts, set_node, set_top, rest_node}
-use Rattle.lk_machine.specs.Moves.{granted, freed, missed, leave, waiter_of}
+use Rattle.lk_machine.specs.Moves.{granted, freed, done, missed, leave, waiting, waiter_of}
 
 -- one of the ten counts
 pub data Counter : Type 0 where
@@ -19,6 +20,10 @@ pub data Counter : Type 0 where
   LockUseNode3 : Counter
   LockUseNode4 : Counter
   LockNoNode : Counter
+  PvLockStealing : Counter
+  PvWaitNode : Counter
+  PvWaitHead : Counter
+  PvKickUnlock : Counter
 
 -- one register of a frame gets a new value
 pub data Change : Type 0 where
@@ -26,6 +31,14 @@ pub data Change : Type 0 where
   Second : Option NodeName → Change
   Y : Option NodeName → Change
   Left : ℕ → Change
+  A : Option NodeName → Change
+  B : Option NodeName → Change
+  K : ℕ → Change
+  T : Option NodeName → Change
+  Reason : Why → Change
+  Tailed : Bool → Change
+  HashedIs : Bool → Change
+  TargetIs : Option NodeName → Change
 
 -- where a row leads
 pub data Lead : Type 0 where
@@ -39,8 +52,14 @@ pub data Lead : Type 0 where
   Freed : Lead
   -- the try has failed
   Missed : Lead
+  -- the operation is done
+  Done : Lead
+  -- the frame takes the wait lock of its lock, and then goes to this place
+  TakesWait : Pc → Lead
   -- the frame leaves the slow path, and the lock is granted
   Leaves : Lead
+  -- the lock is freed, and the frame goes to this place, with these registers changed
+  Yields : Pc → List Change → Lead
 
 -- what a row tells
 pub data Tell : Type 0 where
@@ -64,6 +83,9 @@ looks c = record { stores = None; leads = Goes c []; tells = Nothing; counts = [
 abbrev pub learns : {A : Type 0} → Pc → Change → Outcome A
 learns c change = record { stores = None; leads = Goes c (change ∷ []); tells = Nothing; counts = [] }
 
+abbrev pub learns_all : {A : Type 0} → Pc → List Change → Outcome A
+learns_all c changes = record { stores = None; leads = Goes c changes; tells = Nothing; counts = [] }
+
 -- the row stores a value, and the frame goes to this place
 abbrev pub writes : {A : Type 0} → A → Pc → Outcome A
 writes x c = record { stores = Some x; leads = Goes c []; tells = Nothing; counts = [] }
@@ -79,6 +101,14 @@ changed f (Prev n) = record f { prev = n }
 changed f (Second n) = record f { second = n }
 changed f (Y n) = record f { y = n }
 changed f (Left n) = record f { left = n }
+changed f (A n) = record f { a = n }
+changed f (B n) = record f { b = n }
+changed f (K n) = record f { k = n }
+changed f (T n) = record f { t = n }
+changed f (Reason n) = record f { why = n }
+changed f (Tailed b) = record f { tailed = b }
+changed f (HashedIs b) = record f { hashed = b }
+changed f (TargetIs n) = record f { target = n }
 
 abbrev pub changed_all : Frame → List Change → Frame
 changed_all f [] = f
@@ -99,6 +129,10 @@ count n LockUseNode2 = record n { lock_use_node2 = n.lock_use_node2 + 1 }
 count n LockUseNode3 = record n { lock_use_node3 = n.lock_use_node3 + 1 }
 count n LockUseNode4 = record n { lock_use_node4 = n.lock_use_node4 + 1 }
 count n LockNoNode = record n { lock_no_node = n.lock_no_node + 1 }
+count n PvLockStealing = record n { pv_lock_stealing = n.pv_lock_stealing + 1 }
+count n PvWaitNode = record n { pv_wait_node = n.pv_wait_node + 1 }
+count n PvWaitHead = record n { pv_wait_head = n.pv_wait_head + 1 }
+count n PvKickUnlock = record n { pv_kick_unlock = n.pv_kick_unlock + 1 }
 
 abbrev pub count_all : Counts → List Counter → Counts
 count_all n [] = n
@@ -121,7 +155,10 @@ moved m p f (Enters me c) = set_top (with_rest m me) p (entered f me c)
 moved m p f Granted = granted m p
 moved m p f Freed = freed m p
 moved m p f Missed = missed m p
+moved m p f Done = done m p
+moved m p f (TakesWait c) = set_top m p (waiting f c)
 moved m p f Leaves = granted (leave m p) p
+moved m p f (Yields c cs) = set_top m p (gone f c cs)
 
 -- the event of a row of the frame f
 abbrev pub event_of : Machine → ℕ → Frame → Tell → Option Event

@@ -1,14 +1,14 @@
 // The machine's data, its readers and its writers.
 
-ghost use Rattle.std.specs.Prelude.{◌≡◌, ◌<◌, ◌≤◌, ◌-◌, Some, length, slice_get, position, IfSome, vec_capacity};
-ghost use Rattle.lk_machine.specs.Machine.{Machine as MachineValue, CpuState as CpuValue, LockState as LockValue, HasTop, HasNode, top_frame, frame_at, depth_at, queued_at, preempted_at, halted_at, kicked_at, handlers_at, word_at, node_at, set_word, set_node, set_top, set_queued, set_preempted, set_counts};
+ghost use Rattle.std.specs.Prelude.{slice_index_or, ◌≡◌, ◌<◌, ◌≤◌, ◌-◌, ◌*◌, Some, length, slice_get, position, IfSome, vec_capacity};
+ghost use Rattle.lk_machine.specs.Machine.{Machine as MachineValue, CpuState as CpuValue, LockState as LockValue, HasTop, HasNode, top_frame, frame_at, depth_at, queued_at, preempted_at, halted_at, kicked_at, handlers_at, word_at, rw_at, node_at, set_word, set_rw, set_node, set_top, set_queued, set_preempted, set_halted, set_kicked, set_counts};
 ghost use Rattle.lk_machine.specs.Programs.{HasPrograms, handlers_of};
 ghost use Rattle.lk_machine.specs.Moves.{is_node, waiter_of};
+ghost use Rattle.lk_machine.specs.CnaRows.{same_socket};
 
+mod hash;
 mod moves;
 mod rest;
-#[cfg(test)]
-mod tests;
 
 use crate::parts::{Counts, Frame, Node, Pc};
 use crate::setup::Setup;
@@ -76,6 +76,7 @@ pub struct Machine {
     setup: Setup,
     locks: Vec<LockState>,
     cpus: Vec<CpuState>,
+    /// The node of each lock that is entered. The room for four entries a processor is taken when it is made.
     hash: Vec<(LockName, NodeName)>,
     counts: Counts,
 }
@@ -91,7 +92,7 @@ impl Model for Machine {
       counts = m.counts;
     } };
 
-    ghost invariant = { λ m. length m.cpus.items ≤ 64 };
+    ghost invariant = { λ m. (length m.cpus.items ≤ 64) × (4 * length m.cpus.items ≤ vec_capacity m.hash) };
 }
 
 // Whether a frame's own node has this name.
@@ -137,6 +138,26 @@ impl Machine {
         } else {
             state.spin = fields;
         }
+    }
+
+    /// The word of a reader-writer lock.
+    #[inline]
+    #[tactic(auto, unfolding(crate::specs::Machine::rw_at, crate::specs::Machine::lock_at))]
+    pub fn rw(&self, index: u32) -> RwFields
+        requires { index < length self.now.locks }
+        ensures { result ≡ rw_at self.now index }
+    {
+        self.locks[index as usize].rw
+    }
+
+    /// Stores the word of a reader-writer lock.
+    #[inline]
+    #[tactic(auto, unfolding(crate::specs::Machine::lock_at, crate::specs::Machine::set_rw, crate::specs::Machine::set_lock))]
+    pub fn set_rw(&mut self, index: u32, fields: RwFields)
+        requires { index < length self.old.locks }
+        ensures { self.new ≡ set_rw self.old index fields }
+    {
+        self.locks[index as usize].rw = fields;
     }
 
     /// A node.
@@ -300,6 +321,17 @@ impl Machine {
         state.halted
     }
 
+    /// Stores whether a processor has halted.
+    #[inline]
+    #[tactic(auto, unfolding(crate::specs::Machine::set_halted, crate::specs::Machine::set_cpu, crate::specs::Machine::cpu_at))]
+    pub fn set_halted(&mut self, cpu: u32, yes: bool)
+        requires { cpu < length self.old.cpus }
+        ensures { self.new ≡ set_halted self.old cpu yes }
+    {
+        let state = &mut self.cpus[cpu as usize];
+        state.halted = yes;
+    }
+
     /// Whether a kick of a processor is remembered.
     #[inline]
     #[tactic(auto, unfolding(crate::specs::Machine::kicked_at, crate::specs::Machine::cpu_at))]
@@ -309,6 +341,17 @@ impl Machine {
     {
         let state = &self.cpus[cpu as usize];
         state.kicked
+    }
+
+    /// Stores whether a kick of a processor is remembered.
+    #[inline]
+    #[tactic(auto, unfolding(crate::specs::Machine::set_kicked, crate::specs::Machine::set_cpu, crate::specs::Machine::cpu_at))]
+    pub fn set_kicked(&mut self, cpu: u32, yes: bool)
+        requires { cpu < length self.old.cpus }
+        ensures { self.new ≡ set_kicked self.old cpu yes }
+    {
+        let state = &mut self.cpus[cpu as usize];
+        state.kicked = yes;
     }
 
     /// How many interrupt handlers a processor has not used.
@@ -380,5 +423,25 @@ impl Machine {
         ensures { slice_get self.now.setup.topology.sockets.items cpu ≡ Some result }
     {
         *self.setup.topology.sockets.get(cpu as usize)
+    }
+
+    // The number of a processor's socket; of none that there is it is 0.
+    fn socket_number(&self, cpu: u32) -> u32
+        ensures { result ≡ slice_index_or self.now.setup.topology.sockets.items cpu 0 }
+    {
+        let sockets = &self.setup.topology.sockets;
+        let at = cpu as usize;
+        if at < sockets.len() {
+            *sockets.get(at)
+        } else {
+            0
+        }
+    }
+
+    /// Whether two processors stand on the same socket.
+    pub fn same_socket(&self, one: u32, other: u32) -> bool
+        ensures { result ≡ same_socket self.now.setup.topology.sockets.items one other }
+    {
+        self.socket_number(one) == self.socket_number(other)
     }
 }

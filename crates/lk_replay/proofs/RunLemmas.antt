@@ -1,7 +1,7 @@
 -- Runs, one after another.
-use Rattle.std.proofs.Common.{◌≡◌, ◌+◌, ◌++◌, ◌≤◌, ◌<◌, ◌-◌, ◌^◌, ℕ, zero, suc, List, [], ◌∷◌, Option, Some, None, length, map, sym, ap, refl, subst, ◌∙◌, append_assoc, append-nil, arith, replicate, is_some, add-one, add-zero}
+use Rattle.std.proofs.Common.{◌≡◌, ◌+◌, ◌++◌, ◌≤◌, ◌<◌, ◌-◌, ℕ, suc, List, [], ◌∷◌, Option, Some, None, length, sym, ap, refl, subst, ◌∙◌, append_assoc, append-nil, arith, replicate, is_some, add-zero}
 use Rattle.std.specs.Int.{from_bool}
-use Rattle.std.proofs.lemmas.List.{replicate_more, length-replicate, replicate-append-replicate, length-append}
+use Rattle.std.proofs.lemmas.List.{replicate_more, replicate-append-replicate, length-append}
 use Rattle.std.proofs.lemmas.List.Concat.{flat_map-append}
 use Rattle.lk_abs.specs.declared.events.Act.{Act}
 use Rattle.lk_abs.specs.declared.events.Event.{Event}
@@ -13,7 +13,8 @@ use Rattle.lk_machine.specs.Acts.{next}
 use Rattle.lk_machine.specs.Run.{Occurrence, occurs, history_from, machine_after, events_of}
 use Rattle.lk_machine.specs.declared.parts.Counts.{Counts}
 use Rattle.lk_law.specs.Sound.{IsSound}
-use Rattle.lk_law.specs.MachineLaws.{ShowsLawful, and_then}
+use Rattle.lk_law.specs.MachineLaws.{ShowsLawful}
+use Rattle.lk_law.specs.Kicked.{and_then}
 use Rattle.lk_machine.specs.Ready.{CountsWithin}
 use Rattle.lk_replay.specs.Run.{Makes, CanGoOn, occurrences_in}
 use Rattle.lk_replay.specs.declared.run.Run.{Run}

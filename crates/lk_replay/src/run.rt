@@ -3,7 +3,7 @@ ghost use Rattle.std.specs.Prelude.{◌≡◌, ◌≤◌, ◌<◌, ◌+◌, ◌�
 ghost use Rattle.lk_text.specs.Causes.{HasCause};
 ghost use Rattle.lk_text.specs.Bytes.{AppendsFront, Conveys};
 ghost use Rattle.lk_text.specs.Block.{waiting};
-ghost use Rattle.lk_law.specs.MachineLaws.{IsBuiltSetup};
+ghost use Rattle.lk_machine.specs.Programs.{IsLawfulSetup};
 ghost use Rattle.lk_machine.specs.Acts.{next, processor_of};
 ghost use Rattle.lk_machine.specs.Run.{occurs};
 ghost use Rattle.lk_forms.specs.Texts.{lines};
@@ -32,7 +32,7 @@ impl Run {
 
     /// The machine at rest, on which no act was made. It takes all its memory here.
     pub(crate) fn at_rest(alloc: Global, setup: Setup) -> Result<Run, Memory>
-        requires { IsBuiltSetup setup }
+        requires { IsLawfulSetup setup }
         ensures nothing { IfOk result (λ run. RanTo run setup []) }
         ensures ready { IfOk result CanGoOn }
     {

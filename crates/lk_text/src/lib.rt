@@ -7,8 +7,6 @@ mod line;
 mod reader;
 mod sink;
 mod source;
-#[cfg(test)]
-mod tests;
 
 pub use block::Block;
 pub use line::LineBuf;

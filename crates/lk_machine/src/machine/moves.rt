@@ -1,9 +1,9 @@
 // How the top frame of a processor moves.
 
-ghost use Rattle.std.specs.Prelude.{◌≡◌, ◌≤◌, ◌<◌, ◌+◌, length, drop, slice_get};
-ghost use Rattle.lk_machine.specs.Machine.{HasTop, depth_at, handlers_at, push, pop};
+ghost use Rattle.std.specs.Prelude.{◌≡◌, Some, ◌≤◌, ◌<◌, ◌+◌, length, drop, slice_get};
+ghost use Rattle.lk_machine.specs.Machine.{HasTop, depth_at, handlers_at, push, pop, set_top, top_frame};
 ghost use Rattle.lk_machine.specs.Programs.{HasPrograms, handlers_of, is_release, to_release};
-ghost use Rattle.lk_machine.specs.Moves.{CanMove, first_place, program_of, started, settled, skipped, done, granted, freed, missed, leave};
+ghost use Rattle.lk_machine.specs.Moves.{CanMove, first_place, program_of, started, settled, skipped, done, granted, freed, missed, leave, take_wait};
 ghost use Rattle.lk_machine.specs.Acts.{handler_frame};
 
 use crate::machine::Machine;
@@ -118,6 +118,35 @@ impl Machine {
                 ..frame
             },
         );
+    }
+
+    /// The top frame goes to take the wait lock of its reader-writer lock, and then to this place.
+    pub fn take_wait(&mut self, cpu: u32, then: Pc)
+        requires { HasTop self.old cpu }
+        ensures { self.new ≡ take_wait self.old cpu then }
+    {
+        let frame = self.frame(cpu);
+        self.set_frame(
+            cpu,
+            Frame {
+                place: Some(Pc::F1),
+                lock: LockName {
+                    index: frame.lock.index,
+                    wait: true,
+                },
+                then: Some(then),
+                ..frame
+            },
+        );
+    }
+
+    /// The top frame goes to free its wait lock, by the release of a spinlock.
+    pub fn free_wait(&mut self, cpu: u32)
+        requires { HasTop self.old cpu }
+        ensures { self.new ≡ set_top self.old cpu (record (top_frame self.old cpu) { place = Some (first_place self.old.setup.mode Verb.Unlock) }) }
+    {
+        let place = first_place(self.setup.mode, Verb::Unlock);
+        self.set_place(cpu, place);
     }
 
     /// The lock is granted: to the operation, which is done, or, as a wait lock, to the frame, which goes on.

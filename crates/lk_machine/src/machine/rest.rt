@@ -26,11 +26,12 @@ impl Machine {
     {
         let locks = rest_locks(alloc, setup.locks.len())?;
         let cpus = rest_cpus(alloc, &setup)?;
+        let hash = Vec::with_capacity(alloc, MAX_NODES * cpus.len())?;
         Ok(Machine {
             setup,
             locks,
             cpus,
-            hash: Vec::new(alloc),
+            hash,
             counts: rest_counts(),
         })
     }

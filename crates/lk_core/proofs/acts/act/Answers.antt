@@ -27,3 +27,8 @@ returns-in-Resume c =
     let d = act_done c.args.machine.now c.args.act (act.Resume c.in-Resume.cpu) c.set_preempted-in-Resume.new.self _ c.in-Resume.is c.requires.range c.requires.sound
     (c.set_preempted-in-Resume.ensures ∙ ap (λ (a : Answer). a.0) is) (ap (λ (a : Answer). a.1) is) in
     record { next = d.next; event = d.event; idle = d.idle; busy = d.busy; sound = d.sound; keeps = d.keeps; counted = d.counted; setup = d.setup }
+
+pub returns-in-Nudge : goal.returns-in-Nudge
+returns-in-Nudge c =
+    let d = act_done c.args.machine.now c.args.act (act.Nudge c.in-Nudge.cpu) c.nudge.new.machine c.nudge.result c.in-Nudge.is c.requires.range c.requires.sound c.nudge.ensures.next c.nudge.ensures.event in
+    record { next = d.next; event = d.event; idle = d.idle; busy = d.busy; sound = d.sound; keeps = d.keeps; counted = d.counted; setup = d.setup }

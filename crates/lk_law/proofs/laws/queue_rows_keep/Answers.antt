@@ -1,5 +1,6 @@
-use Rattle.lk_law.proofs.EntryRowsKeep.{entry_keeps, last_look_keeps, last_take_keeps, bare_look_keeps, bare_take_keeps}
-use Rattle.lk_law.proofs.QueueRowsKeep.{arrive_keeps, link_keeps, wait_keeps, front_look_keeps, sole_take_keeps, front_take_keeps, next_look_keeps, pass_keeps}
+use Rattle.lk_law.proofs.PvSharedKeep.{entry_keeps, arrive_keeps, link_keeps}
+use Rattle.lk_law.proofs.EntryRowsKeep.{last_look_keeps, last_take_keeps, bare_look_keeps, bare_take_keeps}
+use Rattle.lk_law.proofs.QueueRowsKeep.{wait_keeps, front_look_keeps, sole_take_keeps, front_take_keeps, next_look_keeps, pass_keeps}
 use Rattle.lk_law.proofs.laws.queue_rows_keep.Goals as goal
 
 pub returns-clause-enter : goal.returns-clause-enter

@@ -1,4 +1,5 @@
-use Rattle.lk_law.proofs.SpinRowsKeep.{fast_keeps, try_look_keeps, try_take_keeps, release_keeps, loop_look_keeps, loop_take_keeps, pending_look_keeps}
+use Rattle.lk_law.proofs.PvSharedKeep.{fast_keeps, try_look_keeps, try_take_keeps}
+use Rattle.lk_law.proofs.SpinRowsKeep.{release_keeps, loop_look_keeps, loop_take_keeps, pending_look_keeps}
 use Rattle.lk_law.proofs.PendingRowsKeep.{pending_set_keeps, pending_clear_keeps, pending_wait_keeps, pending_take_keeps}
 use Rattle.lk_law.proofs.laws.spin_rows_keep.Goals as goal
 

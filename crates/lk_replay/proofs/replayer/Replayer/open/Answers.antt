@@ -1,9 +1,8 @@
-use Rattle.std.proofs.Common.{refl, sym, subst}
+use Rattle.std.proofs.Common.{refl}
 use Rattle.std.proofs.lemmas.Result.{err_from_is_err_and}
 use Rattle.lk_forms.specs.Reader.{reading}
-use Rattle.lk_replay.specs.Header.{OpenRefused}
 use Rattle.lk_replay.proofs.HeaderSteps.{header_stands}
-use Rattle.lk_replay.proofs.Opened.{header_built, opens}
+use Rattle.lk_replay.proofs.Opened.{header_lawful, opens}
 use Rattle.lk_replay.proofs.replayer.Replayer.open.Goals as goal
 
 pub returns-in_err-read_header-clause-refused : goal.returns-in_err-read_header-clause-refused
@@ -17,7 +16,7 @@ pub at_rest-requires : goal.at_rest-requires
 at_rest-requires g c =
     let left = g.S.Source.left c.args.source.now in
     let first = header_stands c.in_ok-reader.reader (reading c.in_ok-header.header) left c.in_ok-reader.ensures c.in_ok-header.ensures in
-    rw c.finish.ensures (header_built left _ (reading c.read_header.new.header) c.read_header.new.reader (c.in_ok-read_header.ensures.stands left first))
+    rw c.finish.ensures (header_lawful left _ (reading c.read_header.new.header) c.read_header.new.reader (c.in_ok-read_header.ensures.stands left first))
 
 pub returns-clause-stands : goal.returns-clause-stands
 returns-clause-stands g c = λ held.

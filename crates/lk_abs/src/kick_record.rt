@@ -1,0 +1,133 @@
+// What the events so far say of halts and kicks, kept in memory.
+ghost use Rattle.std.specs.Prelude.{◌≡◌, ◌^◌, ◌<◌, ◌≤◌, ◌+◌, ◌*◌, [], IfOk, length, All};
+ghost use Rattle.lk_abs.specs.Kicks.{kicks_of, kicks_told};
+ghost use Rattle.lk_abs.specs.NoKick.{is_owed, is_left};
+ghost use Rattle.lk_abs.specs.Remembered.{state_of, HasRoom, IsKept, IsNamed, IsRoused, IsToldOn};
+
+use crate::events::{Event, What};
+use crate::list::List;
+use crate::memory::Memory;
+use crate::names::Waiter;
+use std::alloc::Global;
+
+/// Who sleeps, and for each processor how many releases owe it a kick, how many kicks were made, and whether a kick is
+/// remembered; and how many events that was told.
+#[derive(Drop)]
+pub(crate) struct KickRecord {
+    pub(crate) asleep: List<bool>,
+    pub(crate) owing: List<u64>,
+    pub(crate) kicks: List<u64>,
+    pub(crate) kicked: List<bool>,
+    pub(crate) told: u64,
+}
+
+/// No context of the processor sleeps any longer.
+fn rouse(asleep: &mut List<bool>, cpu: usize)
+    requires within { cpu * 6 + 6 < length asleep.old.items + 1 }
+    requires small { length asleep.old.items < 6145 }
+    ensures roused { IsRoused asleep.old.items asleep.new.items (cpu * 6) 6 }
+    ensures room { asleep.new.room ≡ asleep.old.room }
+{
+    for ctx in 0..6 {
+        *asleep.get_mut(cpu * 6 + ctx) = false;
+    }
+}
+
+impl KickRecord {
+    /// A record of up to 1,024 processors: nobody sleeps, and no kick is owed. It takes all its memory here.
+    pub(crate) fn new(alloc: Global, processors: usize) -> Result<KickRecord, Memory>
+        requires { processors ≤ 1024 }
+        ensures kept { IfOk result (λ k. IsKept k) }
+        ensures processors { IfOk result (λ k. length k.owing.items ≡ processors) }
+        ensures state { IfOk result (λ k. state_of k ≡ kicks_of []) }
+        ensures told { IfOk result (λ k. k.told ≡ 0) }
+    {
+        let asleep = List::filled(alloc, false, processors * 6)?;
+        let owing = List::filled(alloc, 0, processors)?;
+        let kicks = List::filled(alloc, 0, processors)?;
+        let kicked = List::filled(alloc, false, processors)?;
+        Ok(KickRecord {
+            asleep,
+            owing,
+            kicks,
+            kicked,
+            told: 0,
+        })
+    }
+
+    /// Whether the processor is owed a kick.
+    fn is_owed(&self, cpu: usize) -> bool
+        requires within { cpu < length self.now.owing.items }
+        requires room { HasRoom self.now }
+        ensures { result ≡ is_owed (state_of self.now) cpu }
+    {
+        *self.kicks.get(cpu) < *self.owing.get(cpu) || *self.kicked.get(cpu)
+    }
+
+    /// Whether the waiter sleeps while its processor is owed no kick.
+    pub(crate) fn is_left(&self, waiter: Waiter) -> bool
+        requires cpu { waiter.cpu < length self.now.owing.items }
+        requires ctx { waiter.ctx < 6 }
+        requires room { HasRoom self.now }
+        ensures { result ≡ is_left (state_of self.now) waiter }
+    {
+        let cpu = waiter.cpu as usize;
+        *self.asleep.get(cpu * 6 + waiter.ctx as usize) && !self.is_owed(cpu)
+    }
+
+    /// Tells all but the number of events on.
+    fn step(&mut self, event: &Event)
+        requires room { HasRoom self.old }
+        requires named { IsNamed (length self.old.owing.items) event.now }
+        requires few_owing { All (λ n. n < 2 ^ 63) self.old.owing.items }
+        requires few_kicks { All (λ n. n < 2 ^ 63) self.old.kicks.items }
+        ensures room { HasRoom self.new }
+        ensures told { IsToldOn self.old self.new event.now }
+        ensures count { self.new.told ≡ self.old.told }
+    {
+        let cpu = event.by.cpu as usize;
+        match event.what {
+            What::Halt { .. } => *self.asleep.get_mut(cpu * 6 + event.by.ctx as usize) = true,
+            What::Wake { .. } => {
+                rouse(&mut self.asleep, cpu);
+                *self.kicked.get_mut(cpu) = false;
+            }
+            What::Int | What::Nudge => rouse(&mut self.asleep, cpu),
+            What::Kick { cpu } => {
+                *self.kicks.get_mut(cpu as usize) += 1;
+                *self.kicked.get_mut(cpu as usize) = true;
+            }
+            What::Release { owing, .. } => {
+                match owing {
+                    Some(cpu) => *self.owing.get_mut(cpu as usize) += 1,
+                    None => {}
+                }
+            }
+            What::Take { .. }
+            | What::Miss { .. }
+            | What::Arrive { .. }
+            | What::Pass { .. }
+            | What::Flush { .. }
+            | What::Promote { .. }
+            | What::Leave { .. }
+            | What::RTake { .. }
+            | What::RRelease { .. }
+            | What::WTake { .. }
+            | What::WRelease { .. } => {}
+        }
+    }
+
+    /// Tells what is kept on by one event after fewer than 2^63.
+    pub(crate) fn tell(&mut self, event: &Event)
+        requires kept { IsKept self.old }
+        requires named { IsNamed (length self.old.owing.items) event.now }
+        requires few { self.old.told < 2 ^ 63 }
+        ensures kept { IsKept self.new }
+        ensures processors { length self.new.owing.items ≡ length self.old.owing.items }
+        ensures state { state_of self.new ≡ kicks_told (state_of self.old) event.now }
+        ensures told { self.new.told ≡ self.old.told + 1 }
+    {
+        self.step(event);
+        self.told += 1;
+    }
+}

@@ -1,0 +1,34 @@
+use Rattle.lk_law.proofs.Interrupts.{interrupt_shows}
+use Rattle.lk_law.proofs.WholeHalts.{whole_fronts_are_owed}
+use Rattle.lk_law.proofs.KicksShown.{every_row_shows, begin_shows, end_shows, wake_shows, nudge_shows, int_shows, int_awake_shows, fronts_are_owed}
+use Rattle.lk_law.proofs.laws.kicks_are_shown.Goals as goal
+
+pub returns-clause-rows : goal.returns-clause-rows
+returns-clause-rows c = every_row_shows
+
+pub returns-clause-begin : goal.returns-clause-begin
+returns-clause-begin c = begin_shows
+
+pub returns-clause-end : goal.returns-clause-end
+returns-clause-end c = end_shows
+
+pub returns-clause-wake : goal.returns-clause-wake
+returns-clause-wake c = wake_shows
+
+pub returns-clause-nudge : goal.returns-clause-nudge
+returns-clause-nudge c = nudge_shows
+
+pub returns-clause-interrupt : goal.returns-clause-interrupt
+returns-clause-interrupt c = int_shows
+
+pub returns-clause-interrupt_awake : goal.returns-clause-interrupt_awake
+returns-clause-interrupt_awake c = int_awake_shows
+
+pub returns-clause-owed : goal.returns-clause-owed
+returns-clause-owed c = fronts_are_owed
+
+pub returns-clause-interrupted : goal.returns-clause-interrupted
+returns-clause-interrupted c = interrupt_shows
+
+pub returns-clause-whole_owed : goal.returns-clause-whole_owed
+returns-clause-whole_owed c = whole_fronts_are_owed

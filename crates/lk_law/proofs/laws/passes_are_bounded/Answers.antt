@@ -1,0 +1,8 @@
+use Rattle.lk_law.proofs.KnowsCna.{passes_are_bounded, run_is_short}
+use Rattle.lk_law.proofs.laws.passes_are_bounded.Goals as goal
+
+pub returns-clause-bounded : goal.returns-clause-bounded
+returns-clause-bounded c = passes_are_bounded
+
+pub returns-clause-short : goal.returns-clause-short
+returns-clause-short c = run_is_short

@@ -1,0 +1,8 @@
+use Rattle.lk_machine.specs.declared.parts.Pc.TheVariants.{W3}
+use Rattle.lk_pv.proofs.wait.say_halted.Goals as goal
+
+pub node-node-requires : goal.node-node-requires
+node-node-requires c = rw (c.named-me.ensures, c.frame-frame.ensures) (c.requires.ready.ready.reaches W3 c.requires.here)
+
+pub set_node-requires : goal.set_node-requires
+set_node-requires c = rw (c.named-me.ensures, c.frame-frame.ensures) (c.requires.ready.ready.reaches W3 c.requires.here)

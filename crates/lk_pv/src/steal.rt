@@ -1,0 +1,91 @@
+// A waiter that may pass the queue by.
+ghost use Rattle.std.specs.Prelude.{◌≡◌, Some};
+ghost use Rattle.lk_machine.specs.Machine.{top_frame};
+ghost use Rattle.lk_machine.specs.Rows.{row};
+ghost use Rattle.lk_machine.specs.PvRows.{after_given_up, after_glance};
+ghost use Rattle.lk_pv.specs.Row.{IsPvReady};
+
+use crate::word::{event, is_unlocked, with_byte};
+use lk_abs::{Event, How, What};
+use lk_machine::{Frame, Machine, Pc};
+use lk_word::{Fields, Locked, NodeName};
+
+// Where a waiter goes that may not steal: with a node it joins the queue.
+fn after_given_up(me: Option<NodeName>) -> Pc
+    ensures { result ≡ after_given_up me }
+{
+    match me {
+        None => Pc::H1,
+        Some(_) => Pc::G4,
+    }
+}
+
+// Where a waiter goes that met this word.
+fn after_glance(me: Option<NodeName>, word: Fields) -> Pc
+    ensures { result ≡ after_glance me word }
+{
+    if is_unlocked(word) && !word.pending {
+        Pc::H2
+    } else if word.tail.is_some() && !word.pending {
+        Pc::H1
+    } else {
+        after_given_up(me)
+    }
+}
+
+/// H1: looks at the word (`pv_hybrid_queued_unfair_trylock`). At `*,0,0` it goes on to steal; else at `t,0,*` with a tail t it looks
+/// again; else it gives up, and joins the queue, or without a node looks again.
+pub(crate) fn glance(machine: &mut Machine, cpu: u32) -> Option<Event>
+    requires ready { IsPvReady machine.old cpu }
+    requires here { (top_frame machine.old cpu).place ≡ Some Pc.H1 }
+    ensures next { machine.new ≡ (row machine.old cpu).0 }
+    ensures event { result ≡ (row machine.old cpu).1 }
+{
+    let frame = machine.frame(cpu);
+    let word = machine.word(frame.lock);
+    machine.set_frame(
+        cpu,
+        Frame {
+            tailed: word.tail.is_some(),
+            place: Some(after_glance(frame.me, word)),
+            ..frame
+        },
+    );
+    None
+}
+
+/// H2: `*,*,0 -> *,*,1`, by an exchange of the byte alone: it takes the lock past the queue (`pv_hybrid_queued_unfair_trylock`). At
+/// another byte nothing is stored; it looks again where H1 met a tail, and else gives up.
+#[tactic(auto, using(lk_machine::proofs::Kept::kept), unfolding(lk_machine::specs::Machine::set_word, lk_machine::specs::Machine::set_lock))]
+pub(crate) fn steal(machine: &mut Machine, cpu: u32) -> Option<Event>
+    requires ready { IsPvReady machine.old cpu }
+    requires here { (top_frame machine.old cpu).place ≡ Some Pc.H2 }
+    ensures next { machine.new ≡ (row machine.old cpu).0 }
+    ensures event { result ≡ (row machine.old cpu).1 }
+{
+    let frame = machine.frame(cpu);
+    let word = machine.word(frame.lock);
+    if is_unlocked(word) {
+        let mut counts = machine.counts();
+        counts.pv_lock_stealing += 1;
+        machine.set_word(frame.lock, with_byte(word, Locked::Held));
+        machine.set_counts(counts);
+        machine.leave(cpu);
+        machine.granted(cpu);
+        return Some(event(
+            cpu,
+            frame,
+            What::Take {
+                lock: frame.lock,
+                how: How::Steal,
+            },
+        ));
+    }
+    let place = if frame.tailed {
+        Pc::H1
+    } else {
+        after_given_up(frame.me)
+    };
+    machine.set_place(cpu, place);
+    None
+}

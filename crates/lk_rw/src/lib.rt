@@ -1,0 +1,9 @@
+//! The rows of readers and writers. Each is proved to be the row that `lk_machine` defines.
+#![tactic(auto, using(lk_machine::proofs::Kept::kept))]
+
+mod reader;
+mod row;
+mod word;
+mod writer;
+
+pub use row::rw_row;

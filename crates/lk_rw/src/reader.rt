@@ -1,0 +1,201 @@
+// The rows of readers.
+ghost use Rattle.std.specs.Prelude.{◌≡◌, None, Some};
+ghost use Rattle.lk_machine.specs.Machine.{top_frame, rw_at};
+ghost use Rattle.lk_machine.specs.Rows.{row, on_rw};
+ghost use Rattle.lk_machine.specs.Row.{Done};
+ghost use Rattle.lk_machine.specs.Ready.{IsReady};
+ghost use Rattle.lk_machine.specs.RwRows.{admits, takes_written, one_more, one_less};
+ghost use Rattle.lk_rw.specs.Row.{IsRwReady};
+
+use crate::word::{
+    event, is_cleared, is_empty, is_open, lock_of, miss, one_less, one_more, word_met, written_word,
+};
+use lk_abs::{Event, RwHow, What};
+use lk_machine::{Machine, Pc};
+use lk_word::RwFields;
+
+// The reader comes in with one more in the word, and its operation is done.
+fn admit_more(machine: &mut Machine, cpu: u32, word: RwFields, how: RwHow) -> Event
+    requires ready { IsRwReady machine.old cpu }
+    requires met { word ≡ rw_at machine.old (top_frame machine.old cpu).lock.index }
+    ensures next { machine.new ≡ (on_rw machine.old cpu (top_frame machine.old cpu) (admits (top_frame machine.old cpu) (Some (one_more word)) how Done)).0 }
+    ensures event { Some result ≡ (on_rw machine.old cpu (top_frame machine.old cpu) (admits (top_frame machine.old cpu) (Some (one_more word)) how Done)).1 }
+{
+    let frame = machine.frame(cpu);
+    machine.set_rw(frame.lock.index, one_more(word));
+    machine.done(cpu);
+    event(
+        cpu,
+        frame,
+        What::RTake {
+            lock: lock_of(frame),
+            how,
+        },
+    )
+}
+
+/// R1: adds a reader, `r,w,x -> r+1,w,x`. If nobody waits and no writer is in (`r,0,0 -> r+1,0,0`) it has come in; else a reader in an
+/// interrupt goes on to wait for the writer alone, and a task's reader to take itself back.
+pub(crate) fn first(machine: &mut Machine, cpu: u32) -> Option<Event>
+    requires ready { IsRwReady machine.old cpu }
+    requires here { (top_frame machine.old cpu).place ≡ Some Pc.R1 }
+    ensures next { machine.new ≡ (row machine.old cpu).0 }
+    ensures event { result ≡ (row machine.old cpu).1 }
+{
+    let word = word_met(machine, cpu);
+    if is_open(word) {
+        return Some(admit_more(machine, cpu, word, RwHow::Fast));
+    }
+    let frame = machine.frame(cpu);
+    machine.set_rw(frame.lock.index, one_more(word));
+    let place = if frame.ctx == 0 { Pc::R3 } else { Pc::R2 };
+    machine.set_place(cpu, place);
+    None
+}
+
+/// R2: looks until no writer is in, past those that wait: an interrupt must not queue behind a writer that may wait for the reader
+/// below it. Its bias stays in the word, so that no writer comes in meanwhile.
+pub(crate) fn spin(machine: &mut Machine, cpu: u32) -> Option<Event>
+    requires ready { IsRwReady machine.old cpu }
+    requires here { (top_frame machine.old cpu).place ≡ Some Pc.R2 }
+    ensures next { machine.new ≡ (row machine.old cpu).0 }
+    ensures event { result ≡ (row machine.old cpu).1 }
+{
+    if word_met(machine, cpu).writer {
+        machine.set_place(cpu, Pc::R2);
+        return None;
+    }
+    let frame = machine.frame(cpu);
+    machine.done(cpu);
+    Some(event(
+        cpu,
+        frame,
+        What::RTake {
+            lock: lock_of(frame),
+            how: RwHow::Irq,
+        },
+    ))
+}
+
+/// R3: takes its bias back, `r,w,x -> r-1,w,x`, and goes to take the wait lock.
+pub(crate) fn retreat(machine: &mut Machine, cpu: u32) -> Option<Event>
+    requires ready { IsRwReady machine.old cpu }
+    requires here { (top_frame machine.old cpu).place ≡ Some Pc.R3 }
+    ensures next { machine.new ≡ (row machine.old cpu).0 }
+    ensures event { result ≡ (row machine.old cpu).1 }
+{
+    let word = word_met(machine, cpu);
+    let frame = machine.frame(cpu);
+    machine.set_rw(frame.lock.index, one_less(word));
+    machine.take_wait(cpu, Pc::R4);
+    None
+}
+
+/// R4: adds a reader again, `r,w,x -> r+1,w,x`, now as the one that has the wait lock.
+pub(crate) fn join(machine: &mut Machine, cpu: u32) -> Option<Event>
+    requires ready { IsRwReady machine.old cpu }
+    requires here { (top_frame machine.old cpu).place ≡ Some Pc.R4 }
+    ensures next { machine.new ≡ (row machine.old cpu).0 }
+    ensures event { result ≡ (row machine.old cpu).1 }
+{
+    let word = word_met(machine, cpu);
+    let frame = machine.frame(cpu);
+    machine.set_rw(frame.lock.index, one_more(word));
+    machine.set_place(cpu, Pc::R5);
+    None
+}
+
+/// R5: looks until no writer is in, and has then come in; it goes on to free the wait lock for the next.
+pub(crate) fn wait(machine: &mut Machine, cpu: u32) -> Option<Event>
+    requires ready { IsRwReady machine.old cpu }
+    requires here { (top_frame machine.old cpu).place ≡ Some Pc.R5 }
+    ensures next { machine.new ≡ (row machine.old cpu).0 }
+    ensures event { result ≡ (row machine.old cpu).1 }
+{
+    let word = word_met(machine, cpu);
+    if word.writer {
+        machine.set_place(cpu, Pc::R5);
+        return None;
+    }
+    let frame = machine.frame(cpu);
+    machine.free_wait(cpu);
+    Some(event(
+        cpu,
+        frame,
+        What::RTake {
+            lock: lock_of(frame),
+            how: RwHow::Queued,
+        },
+    ))
+}
+
+/// Y1: looks whether a reader may come in: nobody waits, and no writer is in. If not, the try has failed.
+pub(crate) fn try_look(machine: &mut Machine, cpu: u32) -> Option<Event>
+    requires ready { IsRwReady machine.old cpu }
+    requires here { (top_frame machine.old cpu).place ≡ Some Pc.Y1 }
+    ensures next { machine.new ≡ (row machine.old cpu).0 }
+    ensures event { result ≡ (row machine.old cpu).1 }
+{
+    if is_open(word_met(machine, cpu)) {
+        machine.set_place(cpu, Pc::Y2);
+        return None;
+    }
+    Some(miss(machine, cpu))
+}
+
+/// Y2: adds a reader, `r,w,x -> r+1,w,x`. If nobody waits and no writer is in, it has come in.
+pub(crate) fn try_add(machine: &mut Machine, cpu: u32) -> Option<Event>
+    requires ready { IsRwReady machine.old cpu }
+    requires here { (top_frame machine.old cpu).place ≡ Some Pc.Y2 }
+    ensures next { machine.new ≡ (row machine.old cpu).0 }
+    ensures event { result ≡ (row machine.old cpu).1 }
+{
+    let word = word_met(machine, cpu);
+    if is_open(word) {
+        return Some(admit_more(machine, cpu, word, RwHow::Try));
+    }
+    let frame = machine.frame(cpu);
+    machine.set_rw(frame.lock.index, one_more(word));
+    machine.set_place(cpu, Pc::Y3);
+    None
+}
+
+/// Y3: takes its bias back, `r,w,x -> r-1,w,x`: the try has failed.
+pub(crate) fn try_fail(machine: &mut Machine, cpu: u32) -> Option<Event>
+    requires ready { IsRwReady machine.old cpu }
+    requires here { (top_frame machine.old cpu).place ≡ Some Pc.Y3 }
+    ensures next { machine.new ≡ (row machine.old cpu).0 }
+    ensures event { result ≡ (row machine.old cpu).1 }
+{
+    let word = word_met(machine, cpu);
+    let frame = machine.frame(cpu);
+    machine.set_rw(frame.lock.index, one_less(word));
+    machine.missed(cpu);
+    Some(event(
+        cpu,
+        frame,
+        What::Miss {
+            lock: lock_of(frame),
+        },
+    ))
+}
+
+/// Z1: a reader releases, `r,w,x -> r-1,w,x`.
+pub(crate) fn release(machine: &mut Machine, cpu: u32) -> Option<Event>
+    requires ready { IsRwReady machine.old cpu }
+    requires here { (top_frame machine.old cpu).place ≡ Some Pc.Z1 }
+    ensures next { machine.new ≡ (row machine.old cpu).0 }
+    ensures event { result ≡ (row machine.old cpu).1 }
+{
+    let word = word_met(machine, cpu);
+    let frame = machine.frame(cpu);
+    machine.set_rw(frame.lock.index, one_less(word));
+    machine.done(cpu);
+    Some(event(
+        cpu,
+        frame,
+        What::RRelease {
+            lock: lock_of(frame),
+        },
+    ))
+}

@@ -1,0 +1,112 @@
+// What the rows do with the word of a reader-writer lock.
+ghost use Rattle.std.specs.Prelude.{◌≡◌, ◌+◌, ◌<◌, ◌^◌};
+ghost use Rattle.lk_machine.specs.Machine.{top_frame, rw_at};
+ghost use Rattle.lk_machine.specs.Moves.{missed};
+ghost use Rattle.lk_machine.specs.RwRows.{is_empty, is_open, is_cleared, one_more, one_less, written_word, rw_lock};
+ghost use Rattle.lk_machine.specs.Ready.{IsReady};
+
+use lk_abs::{Event, LockName, Waiter, What};
+use lk_machine::{Frame, Machine};
+use lk_word::RwFields;
+
+// Whether the word has no reader and no writer, and nobody waits.
+pub(crate) fn is_empty(word: RwFields) -> bool
+    ensures { result ≡ is_empty word }
+{
+    word.readers == 0 && !word.waiting && !word.writer
+}
+
+// Whether a reader may come in.
+pub(crate) fn is_open(word: RwFields) -> bool
+    ensures { result ≡ is_open word }
+{
+    !(word.waiting || word.writer)
+}
+
+// Whether a writer waits, and nobody is before it.
+pub(crate) fn is_cleared(word: RwFields) -> bool
+    ensures { result ≡ is_cleared word }
+{
+    word.readers == 0 && word.waiting && !word.writer
+}
+
+// The word with one reader more.
+pub(crate) fn one_more(word: RwFields) -> RwFields
+    requires { word.readers + 1 < 2 ^ 23 }
+    ensures { result ≡ one_more word }
+{
+    RwFields {
+        readers: word.readers + 1,
+        ..word
+    }
+}
+
+// The word with one reader less.
+pub(crate) fn one_less(word: RwFields) -> RwFields
+    ensures { result ≡ one_less word }
+{
+    RwFields {
+        readers: word.readers.saturating_sub(1),
+        ..word
+    }
+}
+
+// The writer's word.
+pub(crate) fn written_word() -> RwFields
+    ensures { result ≡ written_word }
+{
+    RwFields {
+        readers: 0,
+        waiting: false,
+        writer: true,
+    }
+}
+
+// The word that its frame meets.
+pub(crate) fn word_met(machine: &Machine, cpu: u32) -> RwFields
+    requires { IsReady machine.now cpu }
+    ensures { result ≡ rw_at machine.now (top_frame machine.now cpu).lock.index }
+{
+    let frame = machine.frame(cpu);
+    machine.rw(frame.lock.index)
+}
+
+// The lock of its frame's operation.
+pub(crate) fn lock_of(frame: Frame) -> LockName
+    ensures { result ≡ rw_lock frame }
+{
+    LockName {
+        index: frame.lock.index,
+        wait: false,
+    }
+}
+
+// An event of the top frame.
+pub(crate) fn event(cpu: u32, frame: Frame, what: What) -> Event
+    ensures { result ≡ record { by = record { cpu = cpu; ctx = frame.ctx }; what = what } }
+{
+    Event {
+        by: Waiter {
+            cpu,
+            ctx: frame.ctx,
+        },
+        what,
+    }
+}
+
+// The try of the top frame has failed.
+pub(crate) fn miss(machine: &mut Machine, cpu: u32) -> Event
+    requires { IsReady machine.old cpu }
+    ensures next { machine.new ≡ missed machine.old cpu }
+    ensures event { result ≡ record { by = record { cpu = cpu; ctx = (top_frame machine.old cpu).ctx }; what = What.Miss (rw_lock (top_frame machine.old cpu)) } }
+{
+    let frame = machine.frame(cpu);
+    machine.missed(cpu);
+    event(
+        cpu,
+        frame,
+        What::Miss {
+            lock: lock_of(frame),
+        },
+    )
+}

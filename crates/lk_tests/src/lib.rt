@@ -1,0 +1,42 @@
+//! The tests of the libraries, a file for each topic: what their contracts leave open, and worked traces and histories whose answers
+//! come from outside. The crate has nothing else.
+#![tactic(auto)]
+
+#[cfg(test)]
+mod acts;
+#[cfg(test)]
+mod cna_histories;
+#[cfg(test)]
+mod faults;
+#[cfg(test)]
+mod grammar;
+#[cfg(test)]
+mod headers;
+#[cfg(test)]
+mod judging;
+#[cfg(test)]
+mod kick_histories;
+#[cfg(test)]
+mod lines;
+#[cfg(test)]
+mod lists;
+#[cfg(test)]
+mod machine;
+#[cfg(test)]
+mod printed;
+#[cfg(test)]
+mod queue_histories;
+#[cfg(test)]
+mod refusals;
+#[cfg(test)]
+mod replaying;
+#[cfg(test)]
+mod rw_histories;
+#[cfg(test)]
+mod sinks;
+#[cfg(test)]
+mod traces;
+#[cfg(test)]
+mod transcripts;
+#[cfg(test)]
+mod words;
