@@ -4,11 +4,20 @@
 Measures a built qlock: makes its traces, replays each of them N times (five, if not said), and prints for each the best
 user and system time, that time per act and per line, and the peak memory. Output goes to a file that is thrown away.
 
-looks     one holder and one waiter that looks ten million times
+looks     one holder and one waiter that looks ten million times; in `pv` it looks whether it may steal, behind a front that has
+          halted
 lines     a million lines `step p 1`
 short     ten thousand such lines: the memory must not depend on the length of a schedule
-busy      64 processors on four locks, in odd bursts, so that the locks are contended
-Where the program does not know a mode, its traces are left out.
+busy      64 processors on four locks, in odd bursts, so that the locks are contended. Handlers take the locks of the tasks
+          that they interrupt, so that in the second half of the acts no lock is taken any more, and all only look; in `virt`,
+          where no handlers come, the programs end early, and most acts are idle; in `pv` a nudge comes at every sixteenth burst
+          or so
+rounds    the same processors and bursts; a handler comes only when the program before it has ended, so that no processor waits
+          for itself and every program ends; who ends early is idle until the next round, and in `pv` who has halted until the
+          kick
+rw        as `rounds`, on four reader-writer locks, a quarter of the operations as a writer
+In `cna` the 64 processors of `busy`, `rounds` and `rw` stand on four sockets, with a threshold of 16; in `pv` a waiter spins four turns
+there.
 """
 import os
 import subprocess
@@ -26,16 +35,30 @@ def draws(seed):
         yield x
 
 
-def header(mode, cpus, locks):
+def header(mode, cpus, locks, kind="spin", sockets=1, threshold=None, spins=None):
     out = ["qtrace 1", "mode " + mode, "cpus %d" % cpus]
-    return out + ["lock %d spin" % i for i in range(locks)]
+    if sockets > 1:
+        out.append("sockets " + " ".join(str(p * sockets // cpus) for p in range(cpus)))
+    if threshold is not None:
+        out.append("threshold %d" % threshold)
+    if spins is not None:
+        out.append("spins %d" % spins)
+    return out + ["lock %d %s" % (i, kind) for i in range(locks)]
 
 
 def programs(cpus, pairs):
     return ["prog %d %s" % (p, " ".join("lock %d unlock %d" % (l, l) for l in pairs(p))) for p in range(cpus)]
 
 
+def contended(mode, kind):
+    """The header of 64 processors on four locks; in `cna` they stand on four sockets, in `pv` they spin four turns."""
+    more = {"cna": {"sockets": 4, "threshold": 16}, "pv": {"spins": 4}}
+    return header(mode, 64, 4, kind, **more.get(mode, {}))
+
+
 def looks(mode):
+    if mode == "pv":
+        return header(mode, 3, 1, spins=1) + programs(3, lambda p: [0]) + ["go", "step 0 1", "step 1 14", "step 2 10000000", "end"], 10000015
     return header(mode, 2, 1) + programs(2, lambda p: [0]) + ["go", "step 0 1", "step 1 10000000", "end"], 10000001
 
 
@@ -48,7 +71,7 @@ def lines(mode, count=1000000):
 def busy(mode, bursts=150000):
     d = draws(7)
     pairs = {p: [next(d) % 4 for _ in range(32)] for p in range(64)}
-    out = header(mode, 64, 4) + programs(64, pairs.get)
+    out = contended(mode, "spin") + programs(64, pairs.get)
     if mode != "virt":
         for _ in range(16):
             out += ["irq %d %s" % (p, " ".join("lock {0} unlock {0}".format(next(d) % 4) for _ in range(32))) for p in range(64)]
@@ -59,12 +82,42 @@ def busy(mode, bursts=150000):
         if next(d) % 64 == 0:
             out.append("int %d" % p)
             acts += 1
+        if mode == "pv" and next(d) % 16 == 0:
+            out.append("nudge %d" % (next(d) % 64))
+            acts += 1
         out.append("step %d 7" % p)
         acts += 7
     return out + ["end"], acts
 
 
-TRACES = {"looks": looks, "lines": lines, "short": lambda mode: lines(mode, 10000), "busy": busy}
+def rounds_of(mode, kind, pair, rounds, bursts):
+    """Each processor runs one program, and then a handler in each further round. In each mode all end in their round."""
+    d = draws(13)
+    parts = [["%s %d %s" % ("prog" if r == 0 else "irq", p, " ".join(pair(d) for _ in range(32))) for p in range(64)] for r in range(rounds)]
+    out = contended(mode, kind) + [line for part in parts for line in part] + ["go"]
+    for r in range(rounds):
+        out += ["int %d" % p for p in range(64) if r > 0]
+        out += ["step %d 7" % (next(d) % 64) for _ in range(bursts)]
+    return out + ["end"], 64 * (rounds - 1) + 7 * rounds * bursts
+
+
+def spin_pair(d):
+    return "lock {0} unlock {0}".format(next(d) % 4)
+
+
+def rw_pair(d):
+    return ("write {0} wunlock {0}" if next(d) % 4 == 0 else "read {0} runlock {0}").format(next(d) % 4)
+
+
+def rounds(mode):
+    return rounds_of(mode, "spin", spin_pair, *{"virt": (16, 4500), "native": (4, 38000), "cna": (3, 58000), "pv": (4, 44000)}[mode])
+
+
+def rw(mode):
+    return rounds_of(mode, "rw", rw_pair, 5, 25000)
+
+
+TRACES = {"looks": looks, "lines": lines, "short": lambda mode: lines(mode, 10000), "busy": busy, "rounds": rounds, "rw": rw}
 
 
 def peak_memory(pid):
@@ -113,10 +166,7 @@ def main(argv):
                 path = os.path.join(folder, "%s-%s.qtrace" % (name, mode))
                 with open(path, "w") as f:
                     f.write("\n".join(text) + "\n")
-                results = [measure(program, path)]
-                if b"NotYet" in results[0][1]:
-                    break
-                results += [measure(program, path) for _ in range(runs - 1)]
+                results = [measure(program, path) for _ in range(runs)]
                 bad = [r for r in results if r[0] != 0]
                 if bad:
                     print("%-14s status %d: %s" % (name + "-" + mode, bad[0][0], bad[0][1].decode().strip()))
