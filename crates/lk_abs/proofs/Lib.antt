@@ -13,3 +13,4 @@ pub mod Kicking
 pub mod Recording
 pub mod Unkicked
 pub mod Judging
+pub mod Sums

@@ -10,3 +10,4 @@ pub mod Lists
 pub mod Judge
 pub mod Remembered
 pub mod NoKick
+pub mod Jobs

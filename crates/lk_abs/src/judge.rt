@@ -17,8 +17,8 @@ use crate::rulebook::Rulebook;
 use std::alloc::Global;
 use std::marker::Model;
 
-/// Judges histories event by event. Contracts see the rules that it goes by, for each lock what the events so far say of it, and
-/// what they say of halts and kicks.
+/// Judges histories event by event. Contracts see the rules that it goes by, for each lock what the
+/// events so far say of it, and what they say of halts and kicks.
 #[derive(Drop)]
 pub struct Judge {
     rules: Rulebook,
@@ -52,8 +52,9 @@ fn silent_locks(alloc: Global, locks: usize, waiters: usize) -> Result<List<Lock
 impl Judge {
     ghost use Rattle.lk_abs.specs.Judge.{IsDeclared, IsInRange, history_at, table_breach, breach_of, Events, TellsLocks, TakesOne, HasTaken};
 
-    /// A judge that has taken no event, for a lock family, the sockets of up to 1,024 processors, the most handovers that may pass
-    /// a waiter by, and the declared locks. It takes all its memory here.
+    /// A judge that has taken no event, for a lock family, the sockets of up to 1,024 processors,
+    /// the most handovers that may pass a waiter by, and the declared locks. It takes all its
+    /// memory here.
     pub fn new(
         alloc: Global,
         mode: Mode,
@@ -85,11 +86,12 @@ impl Judge {
         })
     }
 
-    /// Judges one event after those that were taken before, fewer than 2^63. `Ok` says that the history with this event is
-    /// lawful, and that the event is taken; a breach names the first clause that it breaks. After `NoKick`, which is found last,
-    /// the event is told; after any other breach the judge is as it was. A judge that answered a breach is asked no more. It
-    /// takes no memory, since a waiter that stands in a queue does not arrive again, so that no queue is longer than there are
-    /// waiters.
+    /// Judges one event after those that were taken before, fewer than 2^63. `Ok` says that the
+    /// history with this event is lawful, and that the event is taken; a breach names the first
+    /// clause that it breaks. After `NoKick`, which is found last, the event is told; after any
+    /// other breach the judge is as it was. A judge that answered a breach is asked no more. It
+    /// takes no memory, since a waiter that stands in a queue does not arrive again, so that no
+    /// queue is longer than there are waiters.
     pub fn take(&mut self, event: &Event) -> Result<(), Breach>
         requires { IsInRange self.old event.now }
         ensures verdict { result_err result ≡ breach_of self.old event.now }
@@ -112,7 +114,8 @@ impl Judge {
         }
     }
 
-    /// Judges an event by the table, and tells the history of its lock on where it breaks no clause.
+    /// Judges an event by the table, and tells the history of its lock on where it breaks no
+    /// clause.
     fn take_by_table(&mut self, event: &Event) -> Result<(), Breach>
         requires { IsInRange self.old event.now }
         ensures verdict { result_err result ≡ table_breach self.old event.now }
@@ -162,7 +165,8 @@ impl Judge {
     /// In `pv`, the first of the locks, by number, whose front is left asleep.
     fn unkicked(&self) -> Option<Breach>
         ensures { let kicks = state_of self.now.kicks in
-            result ≡ unkicked self.now.rules.mode kicks (history_at self.now) (length self.now.locks) }
+            result ≡ unkicked self.now.rules.mode kicks (history_at self.now)
+            (length self.now.locks) }
     {
         match self.rules.mode {
             Mode::Pv => self.no_kick(),

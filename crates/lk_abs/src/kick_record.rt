@@ -10,8 +10,8 @@ use crate::memory::Memory;
 use crate::names::Waiter;
 use std::alloc::Global;
 
-/// Who sleeps, and for each processor how many releases owe it a kick, how many kicks were made, and whether a kick is
-/// remembered; and how many events that was told.
+/// Who sleeps, and for each processor how many releases owe it a kick, how many kicks were made,
+/// and whether a kick is remembered; and how many events that was told.
 #[derive(Drop)]
 pub(crate) struct KickRecord {
     pub(crate) asleep: List<bool>,
@@ -34,7 +34,8 @@ fn rouse(asleep: &mut List<bool>, cpu: usize)
 }
 
 impl KickRecord {
-    /// A record of up to 1,024 processors: nobody sleeps, and no kick is owed. It takes all its memory here.
+    /// A record of up to 1,024 processors: nobody sleeps, and no kick is owed. It takes all its
+    /// memory here.
     pub(crate) fn new(alloc: Global, processors: usize) -> Result<KickRecord, Memory>
         requires { processors ≤ 1024 }
         ensures kept { IfOk result (λ k. IsKept k) }

@@ -10,9 +10,10 @@ ghost use Rattle.lk_abs.specs.Judge.{Events};
 use crate::events::Event;
 use crate::names::{LockName, Mode};
 
-/// The judge is exact: a lawful history with one event more on a lock is lawful exactly where the event breaks no clause of the
-/// table and, in the paravirtual lock, leaves no front of a free lock asleep that is owed no kick; and with one event more on no
-/// lock it is lawful exactly where the event leaves no such front.
+/// The judge is exact: a lawful history with one event more on a lock is lawful exactly where the
+/// event breaks no clause of the table and, in the paravirtual lock, leaves no front of a free lock
+/// asleep that is owed no kick; and with one event more on no lock it is lawful exactly where the
+/// event leaves no such front.
 pub fn judge_is_exact()
     ensures on_a_lock { (rules : Rules) (es : Events) (e : Event) (l : LockName)
         → IsLawful rules es

@@ -1,7 +1,7 @@
 // Jobs on a ledger, and what is written of them.
 
 /// A job on the accounts of a ledger.
-#[derive(Clone, Copy, PartialEq, Eq)]
+#[derive(Clone, Copy, Debug, PartialEq, Eq)]
 pub enum Job {
     /// Moves an amount between two accounts.
     Move { from: u32, to: u32, amount: u64 },
@@ -14,7 +14,7 @@ pub enum Job {
 }
 
 /// What came of a job.
-#[derive(Clone, Copy, PartialEq, Eq)]
+#[derive(Clone, Copy, Debug, PartialEq, Eq)]
 pub enum Reply {
     /// It was done.
     Done,
@@ -27,7 +27,7 @@ pub enum Reply {
 }
 
 /// An entry of the journal: a job that changes balances, and its reply.
-#[derive(Clone, Copy, PartialEq, Eq)]
+#[derive(Clone, Copy, Debug, PartialEq, Eq)]
 pub struct Entry {
     /// The worker, from 0.
     pub worker: u32,
@@ -40,7 +40,7 @@ pub struct Entry {
 }
 
 /// The record of a job that reads.
-#[derive(Clone, Copy, PartialEq, Eq)]
+#[derive(Clone, Copy, Debug, PartialEq, Eq)]
 pub struct Seen {
     /// The worker, from 0.
     pub worker: u32,

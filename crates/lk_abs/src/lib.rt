@@ -1,7 +1,9 @@
-//! What every other crate speaks of: names of locks and waiters, events, acts, and the jobs of the ledger. Its `specs/` say
-//! what a history of events tells of each lock, and when a history is lawful.
+//! What every other crate speaks of: names of locks and waiters, events, acts, and the jobs of the
+//! ledger. Its `specs/` say what a history of events tells of each lock, and when a history is
+//! lawful.
 #![tactic(auto)]
 
+mod balances;
 mod events;
 mod holder;
 mod judge;
@@ -15,6 +17,7 @@ mod names;
 mod queues;
 mod rulebook;
 
+pub use balances::apply;
 pub use events::{Act, Breach, Event, How, Lists, RwHow, What};
 pub use holder::{Holder, Manner};
 pub use judge::Judge;

@@ -7,7 +7,8 @@ use crate::memory::Memory;
 use std::alloc::Global;
 use std::marker::Model;
 
-/// Items in order, in room that is taken when the list is made. Contracts see the items and the room; no call changes the room.
+/// Items in order, in room that is taken when the list is made. Contracts see the items and the
+/// room; no call changes the room.
 #[derive(Drop)]
 pub struct List<T> {
     items: Vec<T>,

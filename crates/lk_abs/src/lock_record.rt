@@ -1,4 +1,5 @@
-// What the events so far say of one lock, kept in memory, and the clauses that an event on the lock may break.
+// What the events so far say of one lock, kept in memory, and the clauses that an event on the lock
+// may break.
 ghost use Rattle.std.specs.Prelude.{◌≡◌, ◌<◌, ◌≤◌, IfOk, IfSome, length, OnOk, OnErr, None, slice_get};
 ghost use Rattle.std.specs.List.{list_any, position};
 ghost use Rattle.std.specs.Result.{result_err};
@@ -156,8 +157,8 @@ impl LockRecord {
         }
     }
 
-    /// A release by a waiter that does not hold the lock so, or a handover, a flush, a promotion or a leave by one that does not
-    /// hold it.
+    /// A release by a waiter that does not hold the lock so, or a handover, a flush, a promotion or
+    /// a leave by one that does not hold it.
     fn not_holder(&self, by: Waiter, what: What) -> Option<Breach>
         ensures { result ≡ not_holder self.now.history by what }
     {

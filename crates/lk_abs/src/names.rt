@@ -5,7 +5,7 @@ ghost use Rattle.lk_abs.specs.Names.{place_of, lock_at};
 use crate::list::List;
 
 /// The lock family that a whole machine uses.
-#[derive(Clone, Copy, PartialEq, Eq)]
+#[derive(Clone, Copy, Debug, PartialEq, Eq)]
 pub enum Mode {
     /// A spinning test-and-set lock, as Linux uses it under a hypervisor without paravirtual locks.
     Virt,
@@ -18,7 +18,7 @@ pub enum Mode {
 }
 
 /// What a declared lock is.
-#[derive(Clone, Copy, PartialEq, Eq)]
+#[derive(Clone, Copy, Debug, PartialEq, Eq)]
 pub enum Kind {
     /// A spinlock.
     Spin,
@@ -26,7 +26,8 @@ pub enum Kind {
     Rw,
 }
 
-/// Who takes locks: a context of a processor. Context 0 is the task, context c the c-th nested interrupt.
+/// Who takes locks: a context of a processor. Context 0 is the task, context c the c-th nested
+/// interrupt.
 #[derive(Clone, Copy, Debug, PartialEq, Eq)]
 pub struct Waiter {
     /// The processor, from 0.
@@ -45,7 +46,8 @@ pub struct LockName {
 }
 
 impl LockName {
-    /// The lock's number among all, of which each declared lock has two, its own and its wait lock's.
+    /// The lock's number among all, of which each declared lock has two, its own and its wait
+    /// lock's.
     pub(crate) fn place(self) -> usize
         ensures { result ≡ place_of self }
     {

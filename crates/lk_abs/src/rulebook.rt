@@ -47,7 +47,8 @@ impl Rulebook {
         self.socket_of(cpu) != self.socket_of(other)
     }
 
-    /// How many of these waiters, first to last, stand far from the processor and have a waiter behind them.
+    /// How many of these waiters, first to last, stand far from the processor and have a waiter
+    /// behind them.
     fn movable(&self, cpu: u32, behind: &[Waiter]) -> u32
         requires { length behind.now ≤ 6144 }
         ensures { result ≡ movable (λ u. is_far self.now u.cpu cpu) behind.now }
