@@ -1,6 +1,6 @@
 -- Bytes with no line feed, found by index.
-use Rattle.std.proofs.Common.{◌≡◌, ◌≢◌, ◌<◌, ◌+◌, ◌++◌, List, [], ◌∷◌, ℕ, zero, suc, Option, Some, None, length, take, drop, get_or, eq-eqb, sym, arith, slice_range, MatchOption, ap, ◌∙◌}
-use Rattle.std.proofs.lemmas.List.{drop_more, take_all, length-drop, drop-drop, take-append-drop}
+use Rattle.std.proofs.Common.{◌≡◌, ◌≢◌, ◌<◌, ◌+◌, ◌++◌, List, [], ◌∷◌, ℕ, zero, suc, Option, Some, None, length, take, drop, get_or, eq-eqb, sym, arith, slice_range, MatchOption, ap, ◌∙◌, ◌-◌, ◌≤◌, subst}
+use Rattle.std.proofs.lemmas.List.{drop_more, take_all, length-take, length-drop, drop-drop, take-take, take-append-drop, get_or-take, get_or-drop}
 use Rattle.std.proofs.lemmas.Slice.{between_is}
 use Rattle.std.proofs.Math.Seq.{take-add}
 use Rattle.std.proofs.lemmas.Bool.{eqb-true}
@@ -63,3 +63,32 @@ pub none_in_part : (xs : List ℕ) (at clear end : ℕ) → HasNoFeed (take clea
 none_in_part xs at clear end plain found =
     let part = slice_range xs at end in
     rw take-append-drop at (HasNoFeed-append _ _ plain (found_first (drop clear part) None (rw part_is at found)))
+
+-- the byte at the place of a line feed
+pub read_at_feed : (bytes : List ℕ) (line : ℕ) → drop line bytes ≡ 10 ∷ drop (line + 1) bytes → get_or bytes line 0 ≡ 10
+read_at_feed bytes line here =
+    ap (λ n. get_or bytes n 0) (omega arith) ∙ sym (get_or-drop line bytes 0 0) ∙ ap (λ l. get_or l 0 0) here
+
+-- a line feed that is found among fewer bytes is the first of all
+FeedAt-more : (xs : List ℕ) (n k : ℕ) → FeedAt (take n xs) k → FeedAt xs k
+FeedAt-more xs n k found =
+    let near : k < n = omega (arith, simp length-take at found.within) in
+    let fits : k < length xs = omega (arith, simp length-take at found.within) in
+    let feed : get_or xs k 0 ≡ 10 = sym (get_or-take n xs k 0 near) ∙ read_at_feed (take n xs) k found.here in record {
+      within = fits;
+      plain = subst HasNoFeed (take-take k n xs (omega arith)) found.plain;
+      here = drop_more xs k 0 fits ∙ ap (λ b. b ∷ drop (k + 1) xs) feed;
+    }
+
+-- a search of a part that ends early finds the first line feed of the whole part
+pub found_near : (xs : List ℕ) (at clear near end k : ℕ) → HasNoFeed (take clear (slice_range xs at end))
+    → IsFirstByte (is_byte 10) (slice_range xs (at + clear) near) (Some k) → at + clear ≤ near → near ≤ end
+    → FeedAt (slice_range xs at end) (clear + k)
+found_near xs at clear near end k plain found ordered within =
+    let rest : List ℕ = drop at xs in
+    let front : take clear (slice_range xs at near) ≡ take clear (slice_range xs at end) =
+    take-take clear (near - at) rest (omega arith) ∙ sym (take-take clear (end - at) rest (omega arith)) in
+    let part : slice_range xs at near ≡ take (near - at) (slice_range xs at end) =
+    sym (take-take (near - at) (end - at) rest (omega arith)) in
+    FeedAt-more (slice_range xs at end) (near - at) (clear + k)
+    (subst (λ l. FeedAt l (clear + k)) part (found_in_part xs at clear near k (subst HasNoFeed (sym front) plain) found))

@@ -5,5 +5,6 @@ pub mod Unread
 pub mod Limits
 pub mod Reasons
 pub mod Takes
+pub mod AtHand
 pub mod Decimal
 pub mod Conveyed

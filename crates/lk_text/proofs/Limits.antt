@@ -1,6 +1,6 @@
 -- Where a line passes a limit.
 use Rattle.std.proofs.Common.{◌≡◌, ◌≤◌, ◌<◌, ◌+◌, ◌-◌, ◌^◌, ◌++◌, List, [], ◌∷◌, ℕ, Option, Some, None, length, take, drop, get_or, sym, ap, ◌∙◌, subst, append_assoc, take-append-drop, arith, inl, inr}
-use Rattle.std.proofs.lemmas.List.{length-take-le, take-take, drop_more, get_or-drop}
+use Rattle.std.proofs.lemmas.List.{length-take-le, take-take, drop_more}
 use Rattle.std.proofs.lemmas.Bool.{cases_lt}
 use Rattle.std.specs.Io.KnownBytes.{prepend_known, Keeps}
 use Rattle.lk_text.specs.Feeds.{HasNoFeed}
@@ -52,8 +52,3 @@ much_passes bytes looked line all plain fits near feed low over first left =
       short = rw size short;
       at_both = rw size at_both;
     }
-
--- the byte at the place of a line feed
-pub read_at_feed : (bytes : List ℕ) (line : ℕ) → drop line bytes ≡ 10 ∷ drop (line + 1) bytes → get_or bytes line 0 ≡ 10
-read_at_feed bytes line here =
-    ap (λ n. get_or bytes n 0) (omega arith) ∙ sym (get_or-drop line bytes 0 0) ∙ ap (λ l. get_or l 0 0) here

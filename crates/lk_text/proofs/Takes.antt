@@ -1,5 +1,5 @@
 -- A line that ends in the pending bytes, or at the end of input, is the next line.
-use Rattle.std.proofs.Common.{Bool, append-nil, ◌≡◌, ◌+◌, ◌-◌, slice_range, ◌≤◌, ◌<◌, ◌++◌, ◌⊎◌, ℕ, List, [], ◌∷◌, Option, None, Some, length, take, drop, sym, ap, ◌∙◌, arith, inl, inr, take-append-drop, append_assoc, eqb}
+use Rattle.std.proofs.Common.{Bool, append-nil, ◌≡◌, ◌+◌, ◌-◌, slice_range, ◌≤◌, ◌<◌, ◌++◌, ◌⊎◌, ℕ, List, [], ◌∷◌, Option, None, Some, length, take, drop, sym, ap, ◌∙◌, arith, inl, inr, take-append-drop, append_assoc, eqb, subst}
 use Rattle.std.proofs.lemmas.List.{length-take-le, drop_all, take-take}
 use Rattle.std.proofs.lemmas.Bool.{eq-eqb, ne_eqb}
 use Rattle.std.proofs.Math.Seq.{take-add}
@@ -70,3 +70,9 @@ pub takes_line_at : (before left : Option (List ℕ)) (block : List ℕ) (at end
     → TakesLine before (prepend_known (slice_range block (at + all) end) left) looked (looked' + all) (eqb all line) (slice_range block at (at + line))
 takes_line_at before left block at end looked looked' line all ends some near fits same k =
     rw (part_is block at all end, ← part_take block at end line (omega arith), ← same) (takes_line before left (slice_range block at end) looked' line all ends some near k)
+
+-- the same, where it is known whether the input has ended
+pub takes_ending : (before after : Option (List ℕ)) (looked looked' : ℕ) (tested ended : Bool) (line : List ℕ) → tested ≡ ended
+    → TakesLine before after looked looked' tested line → TakesLine before after looked looked' ended line
+takes_ending before after looked looked' tested ended line same takes =
+    subst (λ b. TakesLine before after looked looked' b line) same takes

@@ -1,7 +1,7 @@
 -- What a reader of lines holds, and what a call that asks it for the next line does.
 -- `old` and `new` are the reader before and after the call; `before` and `after` are what the source has left then, where it
 -- tells that; `faults` and `faults_after` are the source's counts of faults.
-use Rattle.std.specs.Prelude.{Bool, true, false, ◌≡◌, ℕ, ◌+◌, ◌≤◌, List, [], ◌∷◌, length, take, drop, ◌⊎◌, ◌^◌, Option, None, Some, Result, Ok, Err, slice_range}
+use Rattle.std.specs.Prelude.{Bool, true, false, ◌≡◌, ℕ, ◌+◌, ◌≤◌, List, [], ◌∷◌, length, take, drop, ◌⊎◌, ◌^◌, Option, None, Some, Result, Ok, Err, slice_range, nat_lt}
 use Rattle.std.specs.Io.KnownBytes.{IsAtEnd, Keeps, prepend_known}
 use Rattle.std.specs.Borrow.{Bor}
 use Rattle.lk_text.specs.Causes.{Rose}
@@ -34,6 +34,10 @@ looked_at reader = reader.looked
 -- whether the reader met the end of input
 abbrev pub is_ended : LineReader → Bool
 is_ended reader = reader.ended
+
+-- whether a whole line is among the pending bytes
+abbrev pub is_at_hand : LineReader → Bool
+is_at_hand reader = nat_lt reader.at reader.whole
 
 -- a reader as it is made: it took nothing, gave nothing and keeps nothing
 pub record IsFresh (reader : LineReader) : Type 0 where
@@ -76,7 +80,7 @@ pub record MetEnd (old new : LineReader) (before after : Option (List ℕ)) : Ty
 -- why a reader that kept no fault answers one
 abbrev pub Reason : LineReader → LineReader → Option (List ℕ) → Option (List ℕ) → ℕ → ℕ → LineFault → Type 0
 Reason old new before after faults faults_after ReadFault =
-    (is_ended old ≡ false) × Rose faults faults_after × Keeps (unread old before) (unread new after) × HasNoFeed (pending new)
+    (is_ended old ≡ false) × (is_at_hand old ≡ false) × Rose faults faults_after × Keeps (unread old before) (unread new after) × HasNoFeed (pending new)
 Reason old new before after faults faults_after TooLong = PassesLineLimit (unread old before) (looked_at old)
 Reason old new before after faults faults_after TooMuch = PassesInputLimit (unread old before) (looked_at old)
 

@@ -33,11 +33,12 @@ impl Block {
         Ok(Block { bytes, len: 0 })
     }
 
-    /// Puts all that waits to the sink. Nothing waits afterwards: after a fault the part that the sink
-    /// did not take is dropped.
+    /// Puts all that waits to the sink. Nothing waits afterwards: after a fault the part that the
+    /// sink did not take is dropped.
     pub fn flush<K: Sink>(&mut self, sink: &mut K) -> Result<(), WriteFault>
         ensures ok { OnOk result (Appends (K.held sink.old) (K.held sink.new) (waiting self.old)) }
-        ensures err { OnErr result (AppendsFront (K.held sink.old) (K.held sink.new) (waiting self.old)) }
+        ensures err { OnErr result
+            (AppendsFront (K.held sink.old) (K.held sink.new) (waiting self.old)) }
         ensures empty { waiting self.new ≡ [] }
         ensures cause { HasCause (K.faults sink.old) (K.faults sink.new) result }
     {
@@ -46,13 +47,15 @@ impl Block {
         put(sink, &self.bytes[..len])
     }
 
-    /// Adds a text of at most 65,536 bytes. Where it finds no room, what waits is put first. After a
-    /// fault nothing waits.
+    /// Adds a text of at most 65,536 bytes. Where it finds no room, what waits is put first. After
+    /// a fault nothing waits.
     pub fn push<K: Sink>(&mut self, sink: &mut K, text: &[u8]) -> Result<(), WriteFault>
         requires { length text.now ≤ 65536 }
         ensures ok { OnOk result
-            (Conveys (K.held sink.old) (K.held sink.new) (waiting self.old) text.now (waiting self.new)) }
-        ensures err { OnErr result (AppendsFront (K.held sink.old) (K.held sink.new) (waiting self.old)) }
+            (Conveys (K.held sink.old) (K.held sink.new) (waiting self.old) text.now
+            (waiting self.new)) }
+        ensures err { OnErr result
+            (AppendsFront (K.held sink.old) (K.held sink.new) (waiting self.old)) }
         ensures dropped { OnErr result (waiting self.new ≡ []) }
         ensures cause { HasCause (K.faults sink.old) (K.faults sink.new) result }
     {
@@ -61,15 +64,16 @@ impl Block {
         Ok(())
     }
 
-    /// Makes room for `room` more bytes, at most 65,536: where there is less, what waits is put first.
-    /// After a fault nothing waits.
+    /// Makes room for `room` more bytes, at most 65,536: where there is less, what waits is put
+    /// first. After a fault nothing waits.
     #[inline]
     pub fn make_room<K: Sink>(&mut self, sink: &mut K, room: usize) -> Result<(), WriteFault>
         requires { room ≤ 65536 }
         ensures ok { OnOk result
             (Conveys (K.held sink.old) (K.held sink.new) (waiting self.old) [] (waiting self.new)) }
         ensures room { OnOk result (length (waiting self.new) + room ≤ 65536) }
-        ensures err { OnErr result (AppendsFront (K.held sink.old) (K.held sink.new) (waiting self.old)) }
+        ensures err { OnErr result
+            (AppendsFront (K.held sink.old) (K.held sink.new) (waiting self.old)) }
         ensures dropped { OnErr result (waiting self.new ≡ []) }
         ensures cause { HasCause (K.faults sink.old) (K.faults sink.new) result }
     {

@@ -37,13 +37,14 @@ impl LineBuf {
         self.len += text.len();
     }
 
-    /// Appends a number in decimal, without leading zeros: 1 to 20 digits. The line must stay within
-    /// 128 bytes.
+    /// Appends a number in decimal, without leading zeros: 1 to 20 digits. The line must stay
+    /// within 128 bytes.
     #[inline(always)]
     pub fn number(&mut self, n: u64)
         requires { length (line_text self.old) + length (decimal n) ≤ 128 }
         ensures text { line_text self.new ≡ line_text self.old ++ decimal n }
-        ensures size { length (line_text self.new) ≡ length (line_text self.old) + length (decimal n) }
+        ensures size { length (line_text self.new)
+            ≡ length (line_text self.old) + length (decimal n) }
         ensures short { length (decimal n) ≤ 20 }
     {
         self.len = print_at(&mut self.bytes, self.len, n);

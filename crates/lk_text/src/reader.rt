@@ -1,5 +1,5 @@
 //! The lines of a source, read in fixed memory.
-ghost use Rattle.std.specs.Prelude.{◌≡◌, ◌≤◌, ◌<◌, ◌+◌, ◌-◌, ◌^◌, List, ℕ, Option, Some, None, true, false, IfOk, IfErr, OnErr, IfSome, Ok, Err, length, take, drop, slice_range, vec_len, Result};
+ghost use Rattle.std.specs.Prelude.{◌≡◌, ◌≤◌, ◌<◌, ◌+◌, ◌-◌, ◌^◌, List, ℕ, Option, Some, None, true, false, IfOk, IfErr, OnErr, IfSome, Ok, Err, length, take, drop, slice_range, slice_index, vec_len, Result};
 ghost use Rattle.std.specs.Io.KnownBytes.{ReadConsumes, Keeps, IsAtEnd};
 ghost use Rattle.lk_text.specs.Causes.{HasCause};
 ghost use Rattle.lk_text.specs.Feeds.{HasNoFeed, FeedAt};
@@ -7,7 +7,7 @@ ghost use Rattle.lk_text.specs.Lines.{PassesLineLimit, PassesInputLimit};
 
 use crate::source::{Failed, Source};
 use lk_abs::Memory;
-use memchr::memchr;
+use memchr::{memchr, memrchr};
 use std::alloc::Global;
 
 // The most bytes of a line, without its line feed.
@@ -18,6 +18,9 @@ const MAX_INPUT: u64 = 1 << 30;
 
 // The bytes that a reader takes ahead at most.
 const BLOCK: usize = 65_536;
+
+// So many bytes are searched for the end of a line before the others.
+const NEAR: usize = 32;
 
 /// Why a reader of lines gives no next line, and answers so from then on.
 #[derive(Clone, Copy, Debug, PartialEq, Eq)]
@@ -36,9 +39,11 @@ pub enum LineFault {
 /// Reads the lines of one source in fixed memory.
 #[derive(Drop)]
 pub struct LineReader {
-    // Bytes of the source. Those from `at` to `end` were taken and not looked at.
+    // Bytes of the source. Those from `at` to `end` were taken and not looked at, and as long as
+    // `at` is below `whole`, a line feed is among them: the one right before `whole`.
     block: Vec<u8>,
     at: usize,
+    whole: usize,
     end: usize,
     // How many lines were given, and how many bytes were looked at.
     lines: u64,
@@ -50,12 +55,16 @@ pub struct LineReader {
     ghost room: { vec_len block ≡ 65536 },
     ghost ordered: { at ≤ end },
     ghost in_block: { end ≤ 65536 },
+    ghost whole_within: { whole ≤ end },
+    ghost open: { at < whole → kept ≡ None },
+    ghost going: { at < whole → ended ≡ false },
+    ghost feed: { 0 < whole → slice_index block.items (whole - 1) ≡ 10 },
     ghost within: { looked ≤ 2 ^ 30 },
     ghost counted: { lines ≤ looked },
 }
 
-// How far the line at the front goes: its bytes, and all of them with its line feed, where it has one.
-// With no byte at all there is no line, and the input is at its end.
+// How far the line at the front goes: its bytes, and all of them with its line feed, where it has
+// one. With no byte at all there is no line, and the input is at its end.
 #[derive(Clone, Copy)]
 struct Span {
     line: usize,
@@ -73,7 +82,8 @@ fn refill<S: Source>(
     requires within { end ≤ length block.old }
     ensures bound { IfOk result (λ n. end - at + n ≤ length block.new) }
     ensures front { take (end - at) block.new ≡ slice_range block.old at end }
-    ensures bytes { ReadConsumes (S.left source.old) (S.left source.new) result (drop (end - at) block.new) }
+    ensures bytes { ReadConsumes (S.left source.old) (S.left source.new) result
+        (drop (end - at) block.new) }
     ensures cause { HasCause (S.faults source.old) (S.faults source.new) result }
 {
     block.copy_within(at..end, 0);
@@ -81,8 +91,28 @@ fn refill<S: Source>(
     source.read(&mut block[front..])
 }
 
-// How far the first line feed of the bytes from `at` to `end` lies behind `at`. The first `clear` bytes are known to be none.
+// How far the first line feed of the bytes from `at` to `end` lies behind `at`. The first `clear`
+// bytes are known to be none. Most lines are short, so the next few bytes are searched first.
+#[inline(always)]
 fn find_feed(block: &[u8], at: usize, clear: usize, end: usize) -> Option<usize>
+    requires ordered { at + clear ≤ end }
+    requires within { end ≤ length block.now }
+    requires plain { HasNoFeed (take clear (slice_range block.now at end)) }
+    ensures found { IfSome result (FeedAt (slice_range block.now at end)) }
+    ensures none { result ≡ None → HasNoFeed (slice_range block.now at end) }
+{
+    let from = at + clear;
+    if end - from >= NEAR {
+        if let Some(k) = memchr(b'\n', &block[from..from + NEAR]) {
+            return Some(clear + k);
+        }
+    }
+    find_far_feed(block, at, clear, end)
+}
+
+// The same, by a search of all the bytes.
+#[inline(never)]
+fn find_far_feed(block: &[u8], at: usize, clear: usize, end: usize) -> Option<usize>
     requires ordered { at + clear ≤ end }
     requires within { end ≤ length block.now }
     requires plain { HasNoFeed (take clear (slice_range block.now at end)) }
@@ -95,7 +125,22 @@ fn find_feed(block: &[u8], at: usize, clear: usize, end: usize) -> Option<usize>
     }
 }
 
-// The limit that is passed, if one is, where the bytes of the span have to be looked at behind those that were.
+// The place behind the last line feed from `front` to `end`, or 0 where there is none.
+fn behind_last_feed(block: &[u8], front: usize, end: usize) -> usize
+    requires ordered { front ≤ end }
+    requires within { end ≤ length block.now }
+    ensures within { result ≤ end }
+    ensures feed { 0 < result → slice_index block.now (result - 1) ≡ 10 }
+{
+    match memrchr(b'\n', &block[front..end]) {
+        Some(k) => front + k + 1,
+        None => 0,
+    }
+}
+
+// The limit that is passed, if one is, where the bytes of the span have to be looked at behind
+// those that were.
+#[inline(always)]
 fn passed_limit(looked: u64, span: Span) -> Option<LineFault>
     requires looked { looked ≤ 2 ^ 30 }
     requires line { span.line ≤ 65536 }
@@ -107,13 +152,13 @@ fn passed_limit(looked: u64, span: Span) -> Option<LineFault>
         → (2 ^ 30 < looked + span.all) × (4096 < span.line → 2 ^ 30 < looked + 4096) }
     ensures only { result ≡ Some LineFault.ReadFault → ⊥ }
 {
+    if looked + span.all as u64 <= MAX_INPUT {
+        return (span.line > MAX_LINE).then_some(LineFault::TooLong);
+    }
     if span.line > MAX_LINE && looked + MAX_LINE as u64 <= MAX_INPUT {
         return Some(LineFault::TooLong);
     }
-    if looked + span.all as u64 > MAX_INPUT {
-        return Some(LineFault::TooMuch);
-    }
-    None
+    Some(LineFault::TooMuch)
 }
 
 impl LineReader {
@@ -121,7 +166,7 @@ impl LineReader {
     ghost use Rattle.std.specs.Io.BufRead.{Rests};
     ghost use Rattle.lk_text.specs.contracts.reader.LineReader.{the_row};
     ghost use Rattle.lk_text.specs.declared.reader.LineFault.{LineFault};
-    ghost use Rattle.lk_text.specs.Reader.{IsFresh, pending, unread, kept, looked_at, lines_given, is_ended, KeepsPlace, EndsAt, GaveLine, MetEnd, GaveFault, NextLine, Reason};
+    ghost use Rattle.lk_text.specs.Reader.{IsFresh, pending, unread, kept, looked_at, lines_given, is_ended, is_at_hand, KeepsPlace, EndsAt, GaveLine, MetEnd, GaveFault, NextLine, Reason};
 
     /// Takes all its memory. No line was given, no byte was looked at, and no fault is kept.
     pub fn new(alloc: Global) -> Result<LineReader, Memory>
@@ -131,6 +176,7 @@ impl LineReader {
         Ok(LineReader {
             block,
             at: 0,
+            whole: 0,
             end: 0,
             lines: 0,
             looked: 0,
@@ -146,12 +192,24 @@ impl LineReader {
         self.lines
     }
 
+    /// Whether a whole line is at hand: then the next call of `next_line` reads nothing.
+    #[inline]
+    pub fn has_line(&self) -> bool
+        ensures { result ≡ is_at_hand self.now }
+    {
+        self.at < self.whole
+    }
+
     // Reads more bytes behind those that are pending: none at the end of input.
     fn fill<S: Source>(&mut self, source: &mut S) -> Result<usize, Failed>
-        requires { self.old.end - self.old.at < 65536 }
-        ensures bytes { Keeps (unread self.old (S.left source.old)) (unread self.new (S.left source.new)) }
+        requires open { kept self.old ≡ None }
+        requires going { is_ended self.old ≡ false }
+        requires room { self.old.end - self.old.at < 65536 }
+        ensures bytes { Keeps (unread self.old (S.left source.old))
+            (unread self.new (S.left source.new)) }
         ensures front { take (self.old.end - self.old.at) (pending self.new) ≡ pending self.old }
-        ensures more { IfOk result (λ n. self.new.end - self.new.at ≡ self.old.end - self.old.at + n) }
+        ensures more { IfOk result
+            (λ n. self.new.end - self.new.at ≡ self.old.end - self.old.at + n) }
         ensures same { OnErr result (self.new.end - self.new.at ≡ self.old.end - self.old.at) }
         ensures end { result ≡ Ok 0 → IsAtEnd (S.left source.new) }
         ensures place { KeepsPlace self.old self.new }
@@ -159,26 +217,37 @@ impl LineReader {
     {
         let (at, end) = (self.at, self.end);
         self.at = 0;
+        self.whole = 0;
         self.end = end - at;
         let count = refill(source, &mut self.block, at, end)?;
+        let front = self.end;
         self.end += count;
+        self.whole = behind_last_feed(&self.block, front, self.end);
         Ok(count)
     }
 
-    // Looks for the end of a line in the bytes that are pending, of which the first `clear` are no line feeds.
+    // Looks for the end of a line in the bytes that are pending, of which the first `clear` are no
+    // line feeds.
+    #[inline(always)]
     fn look(&self, clear: usize) -> Result<Option<Span>, LineFault>
         requires clear { clear ≤ self.now.end - self.now.at }
         requires plain { HasNoFeed (take clear (pending self.now)) }
-        ensures found { IfOk result (λ found. IfSome found (λ span. (0 < span.all)
-            × ((left : Option (List ℕ)) → EndsAt (pending self.now) left (looked_at self.now) span.line span.all))) }
-        ensures fits { IfOk result (λ found. IfSome found (λ span. (self.now.at + span.all ≤ self.now.end)
+        ensures found { IfOk result (λ found. IfSome found (λ span. (span.all ≡ span.line + 1)
+            × ((left : Option (List ℕ))
+            → EndsAt (pending self.now) left (looked_at self.now) span.line span.all))) }
+        ensures fits { IfOk result
+            (λ found. IfSome found (λ span. (self.now.at + span.all ≤ self.now.end)
             × (span.line ≤ span.all) × (looked_at self.now + span.all ≤ 2 ^ 30))) }
-        ensures none { result ≡ Ok None → HasNoFeed (pending self.now) × (self.now.end - self.now.at ≤ 4096)
+        ensures none { result ≡ Ok None
+            → HasNoFeed (pending self.now) × (is_at_hand self.now ≡ false)
+            × (self.now.end - self.now.at ≤ 4096)
             × (looked_at self.now + (self.now.end - self.now.at) ≤ 2 ^ 30) }
         ensures long { result ≡ Err LineFault.TooLong
-            → ((left : Option (List ℕ)) → PassesLineLimit (unread self.now left) (looked_at self.now)) }
+            → ((left : Option (List ℕ))
+            → PassesLineLimit (unread self.now left) (looked_at self.now)) }
         ensures much { result ≡ Err LineFault.TooMuch
-            → ((left : Option (List ℕ)) → PassesInputLimit (unread self.now left) (looked_at self.now)) }
+            → ((left : Option (List ℕ))
+            → PassesInputLimit (unread self.now left) (looked_at self.now)) }
         ensures only { result ≡ Err LineFault.ReadFault → ⊥ }
     {
         let (at, end) = (self.at, self.end);
@@ -206,16 +275,44 @@ impl LineReader {
         }
     }
 
-    // Looks for the end of the next line, and reads on until it is there or the input ends.
-    fn find_line<S: Source>(&mut self, source: &mut S) -> Result<Span, LineFault>
-        requires { is_ended self.old ≡ false }
-        ensures bytes { Keeps (unread self.old (S.left source.old)) (unread self.new (S.left source.new)) }
+    // Looks for the end of the next line, which is at hand.
+    #[inline(always)]
+    fn line_at_hand(&self) -> Result<Span, LineFault>
+        requires { is_at_hand self.now ≡ true }
+        ensures span { IfOk result (λ span. (span.all ≡ span.line + 1)
+            × ((left : Option (List ℕ))
+            → EndsAt (pending self.now) left (looked_at self.now) span.line span.all)) }
+        ensures fits { IfOk result (λ span. (self.now.at + span.all ≤ self.now.end)
+            × (span.line ≤ span.all) × (looked_at self.now + span.all ≤ 2 ^ 30)) }
+        ensures long { result ≡ Err LineFault.TooLong
+            → ((left : Option (List ℕ))
+            → PassesLineLimit (unread self.now left) (looked_at self.now)) }
+        ensures much { result ≡ Err LineFault.TooMuch
+            → ((left : Option (List ℕ))
+            → PassesInputLimit (unread self.now left) (looked_at self.now)) }
+        ensures only { result ≡ Err LineFault.ReadFault → ⊥ }
+    {
+        match self.look(0) {
+            Ok(Some(span)) => Ok(span),
+            Ok(None) => unreachable!(),
+            Err(fault) => Err(fault),
+        }
+    }
+
+    // Reads on until the end of the next line is there or the input ends.
+    fn read_line<S: Source>(&mut self, source: &mut S) -> Result<Span, LineFault>
+        requires open { kept self.old ≡ None }
+        requires going { is_ended self.old ≡ false }
+        requires not_at_hand { is_at_hand self.old ≡ false }
+        ensures bytes { Keeps (unread self.old (S.left source.old))
+            (unread self.new (S.left source.new)) }
         ensures place { KeepsPlace self.old self.new }
         ensures span { IfOk result (λ span.
             EndsAt (pending self.new) (S.left source.new) (looked_at self.new) span.line span.all) }
         ensures fits { IfOk result (λ span. (self.new.at + span.all ≤ self.new.end)
             × (span.line ≤ span.all) × (looked_at self.new + span.all ≤ 2 ^ 30)) }
-        ensures reason { IfErr result (Reason self.old self.new (S.left source.old) (S.left source.new)
+        ensures reason { IfErr result
+            (Reason self.old self.new (S.left source.old) (S.left source.new)
             (S.faults source.old) (S.faults source.new)) }
         ensures later { S.faults source.old ≤ S.faults source.new }
     {
@@ -240,13 +337,56 @@ impl LineReader {
         }
     }
 
-    // Takes the next line: where it stands in the block.
-    fn take_line<S: Source>(&mut self, source: &mut S) -> Result<Option<(usize, usize)>, LineFault>
-        ensures line { IfOk result (λ given. IfSome given (λ place. (place.0 ≤ place.1) × (place.1 ≤ 65536)
+    // Keeps a fault, which each later call answers: no line is at hand any more.
+    fn keep(&mut self, fault: LineFault)
+        ensures kept { kept self.new ≡ Some fault }
+        ensures pending { pending self.new ≡ pending self.old }
+        ensures lines { lines_given self.new ≡ lines_given self.old }
+    {
+        self.whole = 0;
+        self.kept = Some(fault);
+    }
+
+    // Takes the line at hand: where it stands in the block.
+    #[inline(always)]
+    fn take_at_hand(&mut self) -> Result<(usize, usize), LineFault>
+        requires { is_at_hand self.old ≡ true }
+        ensures line { IfOk result (λ place. (place.0 ≤ place.1) × (place.1 ≤ 65536)
+            × ((left : Option (List ℕ)) → GaveLine self.old self.new left left
+            (slice_range self.new.block.items place.0 place.1))) }
+        ensures fault { IfErr result (λ fault. (left : Option (List ℕ)) (faults : ℕ)
+            → GaveFault self.old self.new left left faults faults fault) }
+    {
+        match self.line_at_hand() {
+            Ok(span) => {
+                let start = self.at;
+                self.at = start + span.all;
+                self.looked += span.all as u64;
+                self.lines += 1;
+                Ok((start, start + span.line))
+            }
+            Err(fault) => {
+                self.keep(fault);
+                Err(fault)
+            }
+        }
+    }
+
+    // Reads the next line, which is not at hand, and takes it: where it stands in the block.
+    #[inline(never)]
+    fn take_by_reading<S: Source>(
+        &mut self,
+        source: &mut S,
+    ) -> Result<Option<(usize, usize)>, LineFault>
+        requires { is_at_hand self.old ≡ false }
+        ensures line { IfOk result
+            (λ given. IfSome given (λ place. (place.0 ≤ place.1) × (place.1 ≤ 65536)
             × GaveLine self.old self.new (S.left source.old) (S.left source.new)
             (slice_range self.new.block.items place.0 place.1))) }
-        ensures end { result ≡ Ok None → MetEnd self.old self.new (S.left source.old) (S.left source.new) }
-        ensures fault { IfErr result (GaveFault self.old self.new (S.left source.old) (S.left source.new)
+        ensures end { result ≡ Ok None
+            → MetEnd self.old self.new (S.left source.old) (S.left source.new) }
+        ensures fault { IfErr result
+            (GaveFault self.old self.new (S.left source.old) (S.left source.new)
             (S.faults source.old) (S.faults source.new)) }
         ensures again { (fault : LineFault) → kept self.old ≡ Some fault
             → (result ≡ Err fault) × (source.new ≡ source.old) }
@@ -259,7 +399,7 @@ impl LineReader {
         if self.ended {
             return Ok(None);
         }
-        match self.find_line(source) {
+        match self.read_line(source) {
             Ok(span) => {
                 self.ended = span.all == span.line;
                 if span.all == 0 {
@@ -272,16 +412,44 @@ impl LineReader {
                 Ok(Some((start, start + span.line)))
             }
             Err(fault) => {
-                self.kept = Some(fault);
+                self.keep(fault);
                 Err(fault)
             }
         }
     }
 
-    /// The next line, of at most 4,096 bytes, without its line feed. A last line without a line feed is
-    /// a line. `None` comes exactly at the end of input with no byte behind the last line feed, and each
-    /// later call then gives `None` and reads nothing. After a fault each later call answers the same
-    /// fault and reads nothing.
+    // Takes the next line: where it stands in the block.
+    #[inline(always)]
+    fn take_line<S: Source>(&mut self, source: &mut S) -> Result<Option<(usize, usize)>, LineFault>
+        ensures line { IfOk result
+            (λ given. IfSome given (λ place. (place.0 ≤ place.1) × (place.1 ≤ 65536)
+            × GaveLine self.old self.new (S.left source.old) (S.left source.new)
+            (slice_range self.new.block.items place.0 place.1))) }
+        ensures end { result ≡ Ok None
+            → MetEnd self.old self.new (S.left source.old) (S.left source.new) }
+        ensures fault { IfErr result
+            (GaveFault self.old self.new (S.left source.old) (S.left source.new)
+            (S.faults source.old) (S.faults source.new)) }
+        ensures again { (fault : LineFault) → kept self.old ≡ Some fault
+            → (result ≡ Err fault) × (source.new ≡ source.old) }
+        ensures idle { is_ended self.old ≡ true → source.new ≡ source.old }
+        ensures at_hand { is_at_hand self.old ≡ true → source.new ≡ source.old }
+        ensures later { S.faults source.old ≤ S.faults source.new }
+    {
+        if !self.has_line() {
+            return self.take_by_reading(source);
+        }
+        match self.take_at_hand() {
+            Ok(place) => Ok(Some(place)),
+            Err(fault) => Err(fault),
+        }
+    }
+
+    /// The next line, of at most 4,096 bytes, without its line feed. A last line without a line
+    /// feed is a line. `None` comes exactly at the end of input with no byte behind the last line
+    /// feed, and each later call then gives `None` and reads nothing. After a fault each later call
+    /// answers the same fault and reads nothing.
+    #[inline(always)]
     pub fn next_line<'a, S: Source>(
         &'a mut self,
         source: &mut S,
@@ -292,6 +460,7 @@ impl LineReader {
         ensures again { (fault : LineFault) → kept self.old ≡ Some fault
             → (result ≡ Err fault) × (source.new ≡ source.old) }
         ensures idle { is_ended self.old ≡ true → source.new ≡ source.old }
+        ensures at_hand { is_at_hand self.old ≡ true → source.new ≡ source.old }
         ensures later { S.faults source.old ≤ S.faults source.new }
     {
         match self.take_line(source) {

@@ -14,8 +14,8 @@ use std::io::Write;
 #[derive(Clone, Copy, Debug, PartialEq, Eq)]
 pub struct WriteFault;
 
-/// Takes bytes, piece by piece, and counts its faults. The count never falls, and where it stands at
-/// 2^64 - 1 it stays there and counts as risen.
+/// Takes bytes, piece by piece, and counts its faults. The count never falls, and where it stands
+/// at 2^64 - 1 it stays there and counts as risen.
 pub trait Sink {
     /// The bytes that it holds, where it tells them.
     ghost held: { Self → Option (List ℕ) };
@@ -23,8 +23,9 @@ pub trait Sink {
     /// The count of its faults.
     ghost faults: { Self → ℕ };
 
-    /// Appends a front of the piece and gives its number of bytes. `Failed`, which takes no byte, comes
-    /// only where the count of faults rose in this call, and so does 0 for a piece that is not empty.
+    /// Appends a front of the piece and gives its number of bytes. `Failed`, which takes no byte,
+    /// comes only where the count of faults rose in this call, and so does 0 for a piece that is
+    /// not empty.
     fn write(&mut self, piece: &[u8]) -> Result<usize, Failed>
         ensures bound { WritesAtMost result piece.now }
         ensures bytes { WriteAppends (held self.old) (held self.new) result piece.now }
@@ -33,8 +34,8 @@ pub trait Sink {
             → Rose (faults self.old) (faults self.new)) };
 }
 
-/// Writes all bytes. `WriteFault` comes only where the sink's count of faults rose in this call, and
-/// then the sink took a front of the bytes.
+/// Writes all bytes. `WriteFault` comes only where the sink's count of faults rose in this call,
+/// and then the sink took a front of the bytes.
 pub fn put<K: Sink>(sink: &mut K, bytes: &[u8]) -> Result<(), WriteFault>
     ensures ok { OnOk result (Appends (K.held sink.old) (K.held sink.new) bytes.now) }
     ensures err { OnErr result (AppendsFront (K.held sink.old) (K.held sink.new) bytes.now) }
@@ -51,9 +52,9 @@ pub fn put<K: Sink>(sink: &mut K, bytes: &[u8]) -> Result<(), WriteFault>
     Ok(())
 }
 
-/// Holds bytes up to a room that is taken at the start, and tells them. It takes each piece whole, and
-/// fails exactly in the calls whose numbers, from 1, are listed, and in a call whose piece passes its
-/// room.
+/// Holds bytes up to a room that is taken at the start, and tells them. It takes each piece whole,
+/// and fails exactly in the calls whose numbers, from 1, are listed, and in a call whose piece
+/// passes its room.
 #[derive(Drop)]
 pub struct MemSink {
     bytes: Vec<u8>,
@@ -68,8 +69,8 @@ pub struct MemSink {
 impl MemSink {
     ghost use Rattle.lk_text.specs.MemSink.{bytes_held, faults_met, room_of, failing_writes, writes_made};
 
-    /// Takes room for `room` bytes, and a copy of the list of calls that fail. It is empty at first, and
-    /// no fault is counted.
+    /// Takes room for `room` bytes, and a copy of the list of calls that fail. It is empty at
+    /// first, and no fault is counted.
     pub fn new(alloc: Global, room: usize, fails: &[u64]) -> Result<MemSink, Memory>
         ensures held { IfOk result (λ sink. bytes_held sink ≡ []) }
         ensures faults { IfOk result (λ sink. faults_met sink ≡ 0) }
@@ -106,14 +107,16 @@ impl Sink for MemSink {
 
     fn write(&mut self, piece: &[u8]) -> Result<usize, Failed>
         ensures bound { WritesAtMost result piece.now }
-        ensures bytes { WriteAppends (Some (bytes_held self.old)) (Some (bytes_held self.new)) result piece.now }
+        ensures bytes { WriteAppends (Some (bytes_held self.old))
+            (Some (bytes_held self.new)) result piece.now }
         ensures cause { HasCause (faults_met self.old) (faults_met self.new) result }
         ensures nothing { IfOk result (λ count. count ≡ 0 → 0 < length piece.now
             → Rose (faults_met self.old) (faults_met self.new)) }
 
         ensures whole { IfOk result (λ count. count ≡ length piece.now) }
         ensures quiet { OnOk result (faults_met self.new ≡ faults_met self.old) }
-        ensures listed { IsErr result ↔ ((room_of self.old < length (bytes_held self.old) + length piece.now)
+        ensures listed { IsErr result
+            ↔ ((room_of self.old < length (bytes_held self.old) + length piece.now)
             ⊎ Contains (failing_writes self.old) (writes_made self.new)) }
         ensures counted { writes_made self.new ≡ min (writes_made self.old + 1) (2 ^ 64 - 1) }
         ensures same_room { room_of self.new ≡ room_of self.old }
@@ -179,6 +182,13 @@ impl<W: Write> StdSink<W> {
     {
         StdSink { writer, faults: 0 }
     }
+
+    /// The count of its faults.
+    pub fn faults(&self) -> u64
+        ensures { result ≡ faults_met self.now }
+    {
+        self.faults
+    }
 }
 
 impl<W: Write> Sink for StdSink<W> {
@@ -194,8 +204,10 @@ impl<W: Write> Sink for StdSink<W> {
         ensures cause { HasCause (faults_met self.old) (faults_met self.new) result }
         ensures nothing { IfOk result (λ count. count ≡ 0 → 0 < length piece.now
             → Rose (faults_met self.old) (faults_met self.new)) }
-        ensures quiet { IfOk result (λ count. 0 < count → faults_met self.new ≡ faults_met self.old) }
-        ensures passed_on { WriteAppends (W.contents (writer_of self.old)) (W.contents (writer_of self.new))
+        ensures quiet { IfOk result
+            (λ count. 0 < count → faults_met self.new ≡ faults_met self.old) }
+        ensures passed_on { WriteAppends (W.contents (writer_of self.old))
+            (W.contents (writer_of self.new))
             result piece.now }
     {
         match self.writer.write(piece) {

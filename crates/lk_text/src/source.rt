@@ -12,8 +12,8 @@ use std::io::Read;
 #[derive(Clone, Copy, Debug, PartialEq, Eq)]
 pub struct Failed;
 
-/// Gives bytes, piece by piece, and counts its faults. The count never falls, and where it stands at
-/// 2^64 - 1 it stays there and counts as risen.
+/// Gives bytes, piece by piece, and counts its faults. The count never falls, and where it stands
+/// at 2^64 - 1 it stays there and counts as risen.
 pub trait Source {
     /// The bytes that it has left, where it tells them.
     ghost left: { Self → Option (List ℕ) };
@@ -21,16 +21,17 @@ pub trait Source {
     /// The count of its faults.
     ghost faults: { Self → ℕ };
 
-    /// Puts the next bytes into `buf` and gives their number. 0 for a `buf` that is not empty is the end
-    /// of input. `Failed` comes only where the count of faults rose in this call, and then no byte is
-    /// lost.
+    /// Puts the next bytes into `buf` and gives their number. 0 for a `buf` that is not empty is
+    /// the end of input. `Failed` comes only where the count of faults rose in this call, and then
+    /// no byte is lost.
     fn read(&mut self, buf: &mut [u8]) -> Result<usize, Failed>
         ensures bound { ReadsAtMost result buf.new }
         ensures bytes { ReadConsumes (left self.old) (left self.new) result buf.new }
         ensures cause { HasCause (faults self.old) (faults self.new) result };
 }
 
-/// Bytes in memory, given in pieces of at most `chunk` bytes. It never fails, and tells what is left.
+/// Bytes in memory, given in pieces of at most `chunk` bytes. It never fails, and tells what is
+/// left.
 #[derive(Drop)]
 pub struct SureSource {
     bytes: Vec<u8>,
@@ -83,7 +84,8 @@ impl Source for SureSource {
 
     fn read(&mut self, buf: &mut [u8]) -> Result<usize, Failed>
         ensures bound { ReadsAtMost result buf.new }
-        ensures bytes { ReadConsumes (Some (bytes_left self.old)) (Some (bytes_left self.new)) result buf.new }
+        ensures bytes { ReadConsumes (Some (bytes_left self.old))
+            (Some (bytes_left self.new)) result buf.new }
         ensures cause { HasCause 0 0 result }
         ensures piece { IfOk result (λ count. count ≤ chunk_of self.old) }
         ensures same_chunk { chunk_of self.new ≡ chunk_of self.old }
@@ -95,8 +97,8 @@ impl Source for SureSource {
     }
 }
 
-/// Bytes in memory, given in pieces of at most `chunk` bytes. It tells what is left, and fails exactly
-/// in the calls whose numbers, from 1, are listed.
+/// Bytes in memory, given in pieces of at most `chunk` bytes. It tells what is left, and fails
+/// exactly in the calls whose numbers, from 1, are listed.
 #[derive(Drop)]
 pub struct MemSource {
     sure: SureSource,
@@ -143,7 +145,8 @@ impl Source for MemSource {
 
     fn read(&mut self, buf: &mut [u8]) -> Result<usize, Failed>
         ensures bound { ReadsAtMost result buf.new }
-        ensures bytes { ReadConsumes (Some (bytes_left self.old)) (Some (bytes_left self.new)) result buf.new }
+        ensures bytes { ReadConsumes (Some (bytes_left self.old))
+            (Some (bytes_left self.new)) result buf.new }
         ensures cause { HasCause (faults_met self.old) (faults_met self.new) result }
 
         ensures piece { IfOk result (λ count. count ≤ chunk_of self.old) }
@@ -162,8 +165,8 @@ impl Source for MemSource {
     }
 }
 
-/// A reader of std as a source. It tells no bytes, and each error that the reader answers raises its
-/// count of faults.
+/// A reader of std as a source. It tells no bytes, and each error that the reader answers raises
+/// its count of faults.
 #[derive(Drop)]
 pub struct StdSource<R> {
     reader: R,
@@ -180,6 +183,13 @@ impl<R: Read> StdSource<R> {
     {
         StdSource { reader, faults: 0 }
     }
+
+    /// The count of its faults.
+    pub fn faults(&self) -> u64
+        ensures { result ≡ faults_met self.now }
+    {
+        self.faults
+    }
 }
 
 impl<R: Read> Source for StdSource<R> {
@@ -194,7 +204,8 @@ impl<R: Read> Source for StdSource<R> {
         ensures bytes { ReadConsumes None None result buf.new }
         ensures cause { HasCause (faults_met self.old) (faults_met self.new) result }
         ensures quiet { OnOk result (faults_met self.new ≡ faults_met self.old) }
-        ensures passed_on { ReadConsumes (R.remaining (reader_of self.old)) (R.remaining (reader_of self.new))
+        ensures passed_on { ReadConsumes (R.remaining (reader_of self.old))
+            (R.remaining (reader_of self.new))
             result buf.new }
     {
         match self.reader.read(buf) {

@@ -1,7 +1,7 @@
 use Rattle.std.proofs.Common.{◌≡◌, ◌+◌, ◌-◌, arith, length, refl}
-use Rattle.std.proofs.lemmas.List.Edits.{length-between}
-use Rattle.lk_text.proofs.Limits.{long_passes, much_passes, read_at_feed}
-use Rattle.lk_text.proofs.FeedLemmas.{HasNoFeed-take}
+use Rattle.lk_text.proofs.Limits.{long_passes, much_passes}
+use Rattle.lk_text.proofs.AtHand.{none_at_hand, length-pending}
+use Rattle.lk_text.proofs.FeedLemmas.{HasNoFeed-take, read_at_feed}
 use Rattle.lk_text.specs.Feeds.{HasNoFeed, FeedAt}
 use Rattle.lk_text.specs.Reader.{pending}
 use Rattle.lk_text.proofs.reader.LineReader.look.Goals as goal
@@ -14,11 +14,6 @@ feed_at c = rw c.deref.ensures.value at c.in-Some.ensures.found
 -- none of the pending bytes is a line feed
 none_at : (c : In-None) → HasNoFeed (pending c.args.self.now)
 none_at c = rw c.deref.ensures.value at (c.in-None.ensures.none refl)
-
-size_at : (c : In-None) → length (pending c.args.self.now) ≡ c.args.self.now.end - c.args.self.now.at
-size_at c =
-    let s = c.args.self.now in
-    length-between _ _ _ (omega (arith, s.in_block, s.room, s.block.ok.0))
 
 pub returns-in-Some-passed_limit-clause-long : goal.returns-in-Some-passed_limit-clause-long
 returns-in-Some-passed_limit-clause-long c = λ e.
@@ -37,11 +32,21 @@ returns-in-Some-passed_limit-2-clause-long c = λ e.
     let limits = c.in-Some-passed_limit-2.ensures.long cc in
     let here = (goal.at.returns-in-Some-passed_limit-2-clause-long c).In-None in
     let line = c.args.self.now.end - c.args.self.now.at in
-    long_passes (pending c.args.self.now) _ line (HasNoFeed-take _ line (none_at here)) (omega (arith, size_at here)) limits.0 limits.1
+    long_passes (pending c.args.self.now) _ line (HasNoFeed-take _ line (none_at here)) (omega (arith, length-pending c.args.self.now)) limits.0 limits.1
 
 pub returns-in-Some-passed_limit-2-clause-much : goal.returns-in-Some-passed_limit-2-clause-much
 returns-in-Some-passed_limit-2-clause-much c = λ e.
     let limits = c.in-Some-passed_limit-2.ensures.much cc in
     let here = (goal.at.returns-in-Some-passed_limit-2-clause-much c).In-None in
     let line = c.args.self.now.end - c.args.self.now.at in
-    much_passes (pending c.args.self.now) _ line line (HasNoFeed-take _ line (none_at here)) (omega (arith, size_at here)) (omega arith) (λ odd. absurd (omega arith)) c.args.self.now.within limits.0 limits.1
+    much_passes (pending c.args.self.now) _ line line (HasNoFeed-take _ line (none_at here)) (omega (arith, length-pending c.args.self.now)) (omega arith) (λ odd. absurd (omega arith)) c.args.self.now.within limits.0 limits.1
+
+pub returns-in-None-passed_limit-2-clause-none : goal.returns-in-None-passed_limit-2-clause-none
+returns-in-None-passed_limit-2-clause-none c = λ _.
+    let plain = none_at (goal.at.returns-in-None-passed_limit-2-clause-none c).In-None in
+    let limits = c.in-None-passed_limit-2.ensures.none cc in (
+      plain,
+      none_at_hand c.args.self.now plain,
+      limits.0,
+      limits.1,
+    )

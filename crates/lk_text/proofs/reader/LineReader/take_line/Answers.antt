@@ -1,20 +1,10 @@
-use Rattle.std.proofs.Common.{◌+◌, ap, ◌∙◌, arith}
-use Rattle.lk_text.proofs.Takes.{takes_line_at}
 use Rattle.lk_text.proofs.reader.LineReader.take_line.Goals as goal
 
-pub returns-else-span-eq0-clause-line : goal.returns-else-span-eq0-clause-line
-returns-else-span-eq0-clause-line g c =
-    let left = g.S.Source.left in
-    let reader = c.find_line.new.self in
-    let span = c.in-Ok.span in
-    let found = c.in-Ok.ensures in
-    let some = c.if-span-eq0.false in (
-      omega arith,
-      omega (arith, found.fits.0, found.fits.1, reader.in_block),
-      record {
-        takes = takes_line_at _ (left c.find_line.new.source) reader.block.items reader.at reader.end c.args.self.now.looked reader.looked span.line span.all found.span (omega arith) found.fits.1 found.fits.0 found.place.looked found.bytes;
-        lines = ap (λ n. n + 1) found.place.lines;
-        kept = found.place.kept ∙ c.in_default.is;
-        was_not = c.if-self.false;
-      },
-    )
+pub returns-in-Ok-clause-line : goal.returns-in-Ok-clause-line
+returns-in-Ok-clause-line g c =
+    let line = c.in-Ok.ensures.line in
+    (line.0, line.1, line.2 (g.S.Source.left c.args.source.now))
+
+pub returns-in-Err-clause-fault : goal.returns-in-Err-clause-fault
+returns-in-Err-clause-fault g c =
+    c.in-Err.ensures.fault (g.S.Source.left c.args.source.now) (g.S.Source.faults c.args.source.now)

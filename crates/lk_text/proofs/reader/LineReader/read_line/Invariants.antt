@@ -2,7 +2,7 @@ use Rattle.std.proofs.Common.{◌≤◌, ◌-◌, take}
 use Rattle.std.specs.Io.KnownBytes.{Keeps}
 use Rattle.lk_text.specs.Feeds.{HasNoFeed}
 use Rattle.lk_text.specs.Reader.{pending, unread, KeepsPlace}
-use Rattle.lk_text.proofs.reader.LineReader.find_line.Given as goal
+use Rattle.lk_text.proofs.reader.LineReader.read_line.Given as goal
 
 abbrev pub invariant-turn : goal.invariant-turn
 invariant-turn g l = record {

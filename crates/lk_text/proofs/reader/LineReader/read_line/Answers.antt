@@ -1,6 +1,6 @@
 use Rattle.std.proofs.Common.{Err, ap}
 use Rattle.lk_text.proofs.Reasons.{Reason_of_limit}
-use Rattle.lk_text.proofs.reader.LineReader.find_line.Goals as goal
+use Rattle.lk_text.proofs.reader.LineReader.read_line.Goals as goal
 
 pub returns-in-Err-clause-reason : goal.returns-in-Err-clause-reason
 returns-in-Err-clause-reason g c =
