@@ -1,5 +1,5 @@
 -- What a write keeps of what the next call requires.
-use Rattle.std.proofs.Common.{◌≡◌, ℕ, ◌+◌, ◌-◌, [], ◌∷◌, length-append, ◌<◌, ◌≤◌, Option, Some, None, Bool, List, length, length-set, get_or, set, slice_get, arith, ap, subst, sym, refl, ◌∙◌, inl, inr}
+use Rattle.std.proofs.Common.{◌≡◌, ℕ, ◌+◌, ◌-◌, [], ◌∷◌, ◌++◌, length-append, ◌<◌, ◌≤◌, Option, Some, None, Bool, List, length, length-set, get_or, set, slice_get, arith, ap, subst, sym, refl, ◌∙◌, inl, inr}
 use Rattle.std.specs.Prelude.{unwrap_or}
 use Rattle.std.proofs.lemmas.Bool.{cases_eq, cases_lt}
 use Rattle.std.proofs.lemmas.Option.{unwrap_or-slice_get}
@@ -365,10 +365,57 @@ pub depth_at-push : (m : Machine) (p : ℕ) (f : Frame) → p < length m.cpus �
 unfolding push set_cpu cpu_at depth_at
 depth_at-push m p f within = ap (λ (c : CpuState). length c.frames) (get_or-set_same m.cpus p _ no_cpu within) ∙ length-append _ (f ∷ [])
 
--- the top frames stay where a word is stored
+push_end : (fs : List Frame) (f : Frame) → slice_get (fs ++ f ∷ []) (length fs) ≡ Some f
+push_end [] f = refl
+push_end (g ∷ fs) f = push_end fs f
+
+-- and is the top one
+pub top_frame-push : (m : Machine) (p : ℕ) (f : Frame) → p < length m.cpus → top_frame (push m p f) p ≡ f
+unfolding push set_cpu cpu_at depth_at frame_at
+top_frame-push m p f within =
+    let fs : List Frame = (cpu_at m p).frames in
+    let c : CpuState = record (cpu_at m p) { frames = fs ++ f ∷ []; handlers = (cpu_at m p).handlers + 1 } in
+    let more : length (fs ++ f ∷ []) ≡ length fs + length (f ∷ []) = length-append fs (f ∷ []) in
+    let before : length (fs ++ f ∷ []) - 1 ≡ length fs = omega (arith, more) in
+    ap (λ (d : CpuState). unwrap_or (slice_get d.frames (length d.frames - 1)) rest_frame) (get_or-set_same m.cpus p c no_cpu within)
+    ∙ ap (λ n. unwrap_or (slice_get (fs ++ f ∷ []) n) rest_frame) before ∙ ap (λ (o : Option Frame). unwrap_or o rest_frame) (push_end fs f)
+
+-- the top frames stay where no frame is stored
+
+same_top : (m : Machine) (p : ℕ) (c : CpuState) → c.frames ≡ (cpu_at m p).frames → (q : ℕ) → top_frame (set_cpu m p c) q ≡ top_frame m q
+unfolding set_cpu depth_at frame_at
+same_top m p c e q =
+    cpu_part (λ (d : CpuState). unwrap_or (slice_get d.frames (length d.frames - 1)) rest_frame) m p c
+    (ap (λ (fs : List Frame). unwrap_or (slice_get fs (length fs - 1)) rest_frame) e) q
+
 pub top_frame-set_rw : (m : Machine) (i : ℕ) (x : RwFields) (q : ℕ) → top_frame (set_rw m i x) q ≡ top_frame m q
 unfolding set_rw set_lock depth_at frame_at cpu_at
 top_frame-set_rw m i x q = refl
+
+pub top_frame-set_word : (m : Machine) (l : LockName) (x : Fields) (q : ℕ) → top_frame (set_word m l x) q ≡ top_frame m q
+unfolding set_word set_lock depth_at frame_at cpu_at
+top_frame-set_word m l x q = refl
+
+pub top_frame-set_counts : (m : Machine) (x : Counts) (q : ℕ) → top_frame (set_counts m x) q ≡ top_frame m q
+unfolding set_counts depth_at frame_at cpu_at
+top_frame-set_counts m x q = refl
+
+pub top_frame-set_entry : (m : Machine) (l : LockName) (n : Option NodeName) (q : ℕ) → top_frame (set_entry m l n) q ≡ top_frame m q
+unfolding set_entry depth_at frame_at cpu_at
+top_frame-set_entry m l None q = refl
+top_frame-set_entry m l (Some n) q = refl
+
+pub top_frame-set_node : (m : Machine) (k : NodeName) (x : Node) (q : ℕ) → top_frame (set_node m k x) q ≡ top_frame m q
+unfolding set_node
+top_frame-set_node m k x q = same_top m k.cpu _ refl q
+
+pub top_frame-set_queued : (m : Machine) (p n q : ℕ) → top_frame (set_queued m p n) q ≡ top_frame m q
+unfolding set_queued
+top_frame-set_queued m p n q = same_top m p _ refl q
+
+pub top_frame-set_halted : (m : Machine) (p : ℕ) (b : Bool) (q : ℕ) → top_frame (set_halted m p b) q ≡ top_frame m q
+unfolding set_halted
+top_frame-set_halted m p b q = same_top m p _ refl q
 
 -- what a caller's goals need that calls one writer or move after another
 pub ruleset kept = (
@@ -418,6 +465,12 @@ pub ruleset kept = (
   depth_at-leave,
   CanMove-set_rw,
   top_frame-set_rw,
+  top_frame-set_word,
+  top_frame-set_counts,
+  top_frame-set_entry,
+  top_frame-set_node,
+  top_frame-set_queued,
+  top_frame-set_halted,
   CanMove-set_word,
   CanMove-set_counts,
   CanMove-set_node,
@@ -431,4 +484,4 @@ pub ruleset kept = (
 )
 
 -- what the rest of an interrupt needs
-pub ruleset pushed = (setup-push, length-cpus-push, depth_at-push)
+pub ruleset pushed = (setup-push, length-cpus-push, depth_at-push, top_frame-push)

@@ -1,13 +1,10 @@
 pub mod Machine
+pub mod Family
 pub mod Programs
 pub mod Moves
 pub mod Row
-pub mod SpinRows
-pub mod QueueRows
-pub mod CnaRows
-pub mod PvRows
-pub mod RwRows
-pub mod Rows
+pub mod rows
+pub mod TopRow
 pub mod Acts
 pub mod Run
 pub mod Ready

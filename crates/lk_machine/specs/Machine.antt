@@ -1,5 +1,7 @@
 -- The machine as plain data: what is read of it, and what is written to it.
-use Rattle.std.specs.Prelude.{Some, ◌+◌, ◌-◌, ◌<◌, ◌≤◌, ℕ, Option, None, Bool, false, List, [], ◌∷◌, ◌++◌, length, take, slice_get, slice_index_or, slice_set, if◌then◌else◌, unwrap_or}
+use Rattle.std.specs.Prelude.{Some, ◌+◌, ◌-◌, ◌<◌, ◌≤◌, ℕ, Option, None, Bool, false, List, [], ◌∷◌}
+use Rattle.std.specs.Prelude.{◌++◌, length, take, slice_get, slice_index_or, slice_set}
+use Rattle.std.specs.Prelude.{if◌then◌else◌, unwrap_or}
 use Rattle.lk_abs.specs.Names.{same_lock}
 use Rattle.lk_abs.specs.declared.names.Waiter.{Waiter}
 use Rattle.lk_abs.specs.declared.names.LockName.{LockName}
@@ -15,8 +17,8 @@ use Rattle.lk_machine.specs.declared.parts.Counts.{Counts}
 use Rattle.lk_machine.specs.declared.parts.Why.TheVariants.{Append}
 use Rattle.lk_machine.specs.declared.setup.Setup.{Setup}
 
--- one processor: its frames by their context, the top one last; its four nodes; how many of its frames are in the slow path; and
--- how many of its handlers were used
+-- one processor: its frames by their context, the top one last; its four nodes; how many of its
+-- frames are in the slow path; and how many of its handlers were used
 pub record CpuState : Type 0 where
   pub frames : List Frame
   pub nodes : List Node
@@ -26,7 +28,8 @@ pub record CpuState : Type 0 where
   pub kicked : Bool
   pub handlers : ℕ
 
--- one declared lock: the word of a spinlock, or the fields of a reader-writer lock and the word of its wait lock
+-- one declared lock: the word of a spinlock, or the fields of a reader-writer lock and the word of
+-- its wait lock
 pub record LockState : Type 0 where
   pub spin : Fields
   pub rw : RwFields
@@ -42,18 +45,35 @@ pub record Machine : Type 0 where
 
 -- at rest
 
+-- the word of a lock at rest: free, not pending, no queue
 abbrev pub rest_word : Fields
 rest_word = record { locked = Free; pending = false; tail = None }
 
+-- a lock at rest
 abbrev pub rest_lock : LockState
-rest_lock = record { spin = rest_word; rw = record { readers = 0; waiting = false; writer = false }; wait = rest_word }
+rest_lock = record {
+  spin = rest_word;
+  rw = record { readers = 0; waiting = false; writer = false };
+  wait = rest_word;
+}
 
+-- a node at rest
 abbrev pub rest_node : Node
 rest_node = record { flag = Unset; next = None; second_tail = None; runs = 0; state = Running }
 
+-- what is read of a processor that is not there
 abbrev pub no_cpu : CpuState
-no_cpu = record { frames = []; nodes = []; queued = 0; preempted = false; halted = false; kicked = false; handlers = 0 }
+no_cpu = record {
+  frames = [];
+  nodes = [];
+  queued = 0;
+  preempted = false;
+  halted = false;
+  kicked = false;
+  handlers = 0;
+}
 
+-- all counts are 0
 abbrev pub rest_counts : Counts
 rest_counts =
     record {
@@ -148,10 +168,12 @@ handlers_at m p = (cpu_at m p).handlers
 
 -- the node of a lock in the hash, if it is entered
 
+-- a lock's entry in a list of entries
 abbrev pub entry_in : LockName → List (LockName × NodeName) → Option NodeName
 entry_in l [] = None
 entry_in l (e ∷ es) = if same_lock e.0 l then Some e.1 else entry_in l es
 
+-- the list without the lock's entry
 abbrev pub without_entry : LockName → List (LockName × NodeName) → List (LockName × NodeName)
 without_entry l [] = []
 without_entry l (e ∷ es) = if same_lock e.0 l then without_entry l es else e ∷ without_entry l es
@@ -163,6 +185,7 @@ entry_at m l = entry_in l m.hash
 abbrev pub top_of : Machine → ℕ → Waiter
 top_of m p = record { cpu = p; ctx = depth_at m p - 1 }
 
+-- the frame on top of a processor
 abbrev pub top_frame : Machine → ℕ → Frame
 top_frame m p = unwrap_or (frame_at m (top_of m p)) rest_frame
 
@@ -180,7 +203,9 @@ set_counts m x = record m { counts = x }
 unfoldable pub set_word : Machine → LockName → Fields → Machine
 unfolding set_lock lock_at
 set_word m l x =
-    set_lock m l.index (if l.wait then record (lock_at m l.index) { wait = x } else record (lock_at m l.index) { spin = x })
+    set_lock m l.index
+    (if l.wait then record (lock_at m l.index) { wait = x }
+    else record (lock_at m l.index) { spin = x })
 
 unfoldable pub set_rw : Machine → ℕ → RwFields → Machine
 unfolding set_lock lock_at
@@ -188,12 +213,15 @@ set_rw m i x = set_lock m i (record (lock_at m i) { rw = x })
 
 unfoldable pub set_node : Machine → NodeName → Node → Machine
 unfolding set_cpu cpu_at
-set_node m n x = set_cpu m n.cpu (record (cpu_at m n.cpu) { nodes = slice_set (cpu_at m n.cpu).nodes n.index x })
+set_node m n x =
+    set_cpu m n.cpu (record (cpu_at m n.cpu) { nodes = slice_set (cpu_at m n.cpu).nodes n.index x })
 
 -- the top frame becomes this one
 unfoldable pub set_top : Machine → ℕ → Frame → Machine
 unfolding set_cpu cpu_at depth_at
-set_top m p f = set_cpu m p (record (cpu_at m p) { frames = slice_set (cpu_at m p).frames (depth_at m p - 1) f })
+set_top m p f =
+    set_cpu m p (record
+    (cpu_at m p) { frames = slice_set (cpu_at m p).frames (depth_at m p - 1) f })
 
 unfoldable pub set_queued : Machine → ℕ → ℕ → Machine
 unfolding set_cpu cpu_at
@@ -224,7 +252,9 @@ pop m p = set_cpu m p (record (cpu_at m p) { frames = take (depth_at m p - 1) (c
 -- a frame comes on top, and uses up a handler
 unfoldable pub push : Machine → ℕ → Frame → Machine
 unfolding set_cpu cpu_at
-push m p f = set_cpu m p (record (cpu_at m p) { frames = (cpu_at m p).frames ++ f ∷ []; handlers = (cpu_at m p).handlers + 1 })
+push m p f =
+    set_cpu m p (record
+    (cpu_at m p) { frames = (cpu_at m p).frames ++ f ∷ []; handlers = (cpu_at m p).handlers + 1 })
 
 -- the processor exists, and has from one to six frames
 pub record HasTop (m : Machine) (p : ℕ) : Type 0 where

@@ -1,12 +1,15 @@
 -- Programs: what they hold on the way, and when they are lawful.
-use Rattle.std.specs.Prelude.{◌≡◌, ◌<◌, ◌≤◌, ◌+◌, ◌-◌, ◌==◌, ◌&&◌, ℕ, Option, Some, None, Bool, true, false, List, [], ◌∷◌, length, drop, slice_get, slice_index_or, if◌then◌else◌}
+use Rattle.std.specs.Prelude.{◌≡◌, ◌<◌, ◌≤◌, ◌+◌, ◌-◌, ◌==◌, ◌&&◌, ℕ, Option, Some, None, Bool}
+use Rattle.std.specs.Prelude.{true, false, List, [], ◌∷◌, length, drop, slice_get, slice_index_or}
+use Rattle.std.specs.Prelude.{if◌then◌else◌}
 use Rattle.std.proofs.Common.{zero, suc}
 use Rattle.lk_abs.specs.declared.holder.Manner.{Manner}
 use Rattle.lk_abs.specs.declared.holder.Manner.TheVariants.{Spins, Reads, Writes}
 use Rattle.lk_abs.specs.declared.names.Kind.{Kind}
 use Rattle.lk_abs.specs.declared.names.Kind.TheVariants.{Spin, Rw}
 use Rattle.lk_machine.specs.declared.setup.Verb.{Verb}
-use Rattle.lk_machine.specs.declared.setup.Verb.TheVariants.{Lock, Try, Unlock, Read, TryRead, RUnlock, Write, TryWrite, WUnlock}
+use Rattle.lk_machine.specs.declared.setup.Verb.TheVariants.{Lock, Try, Unlock, Read, TryRead}
+use Rattle.lk_machine.specs.declared.setup.Verb.TheVariants.{RUnlock, Write, TryWrite, WUnlock}
 use Rattle.lk_machine.specs.declared.setup.Op.{Op}
 use Rattle.lk_machine.specs.declared.setup.Setup.{Setup}
 
@@ -52,7 +55,8 @@ way_before _ = None
 abbrev pub op_way : Op → ℕ → Option Manner → Option Manner
 op_way o i way = if o.lock == i then way_after o.verb else way
 
--- how a program holds a lock before the operation at a position, where it held it so at the beginning
+-- how a program holds a lock before the operation at a position, where it held it so at the
+-- beginning
 abbrev pub way_from : List Op → ℕ → ℕ → Option Manner → Option Manner
 way_from ops zero i way = way
 way_from [] (suc n) i way = way
@@ -67,24 +71,32 @@ abbrev pub to_release : List Op → ℕ → ℕ
 to_release [] i = 0
 to_release (o ∷ ops) i = if is_release o.verb && (o.lock == i) then 1 else suc (to_release ops i)
 
--- The walk over a program is lawful: each operation names a declared lock of its kind, a taking one a lock that is not held, a
--- releasing one a lock that is held in its way; after the release of a tried lock the program holds what it held before the
--- try; and at the end it holds nothing.
+-- The walk over a program is lawful: each operation names a declared lock of its kind, a taking one
+-- a lock that is not held, a releasing one a lock that is held in its way; after the release of a
+-- tried lock the program holds what it held before the try; and at the end it holds nothing.
 pub record IsLawfulProgram (kinds : List Kind) (ops : List Op) : Type 0 where
-  pub declared : (n : ℕ) (o : Op) → slice_get ops n ≡ Some o → slice_get kinds o.lock ≡ Some (kind_of o.verb)
+  pub declared : (n : ℕ) (o : Op)
+      → slice_get ops n ≡ Some o
+      → slice_get kinds o.lock ≡ Some (kind_of o.verb)
   pub fits : (n : ℕ) (o : Op) → slice_get ops n ≡ Some o → way_at ops n o.lock ≡ way_before o.verb
-  pub tried : (n : ℕ) (o : Op) → slice_get ops n ≡ Some o → is_try o.verb ≡ true → (i : ℕ) → way_at ops (n + 1 + to_release (drop (n + 1) ops) o.lock) i ≡ way_at ops n i
+  pub tried : (n : ℕ) (o : Op)
+      → slice_get ops n ≡ Some o
+      → is_try o.verb ≡ true
+      → (i : ℕ)
+      → way_at ops (n + 1 + to_release (drop (n + 1) ops) o.lock) i ≡ way_at ops n i
   pub ends : (i : ℕ) → way_at ops (length ops) i ≡ None
 
 -- the programs of a setup: 0 is the task's, h the h-th handler
 unfoldable pub program_at : Setup → ℕ → ℕ → List Op
 program_at setup p h =
     if h == 0 then (slice_index_or setup.progs.items p (record { items = []; room = 0 })).items
-    else (slice_index_or (slice_index_or setup.irqs.items p (record { items = []; room = 0 })).items (h - 1) (record { items = []; room = 0 })).items
+    else (slice_index_or (slice_index_or setup.irqs.items p (record { items = []; room = 0 })).items
+    (h - 1) (record { items = []; room = 0 })).items
 
 -- how many handlers a processor has
 unfoldable pub handlers_of : Setup → ℕ → ℕ
-handlers_of setup p = length (slice_index_or setup.irqs.items p (record { items = []; room = 0 })).items
+handlers_of setup p =
+    length (slice_index_or setup.irqs.items p (record { items = []; room = 0 })).items
 
 -- the processor's programs are there, and its handlers are few
 pub record HasPrograms (setup : Setup) (p : ℕ) : Type 0 where

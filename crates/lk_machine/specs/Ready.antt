@@ -4,7 +4,8 @@ use Rattle.lk_machine.specs.declared.parts.Counts.{Counts}
 use Rattle.lk_machine.specs.declared.parts.Pc.{Pc}
 use Rattle.lk_machine.specs.Machine.{Machine, HasNode, top_frame, queued_at}
 use Rattle.lk_machine.specs.Moves.{CanMove}
-use Rattle.lk_machine.specs.Rows.{Target, FlagOf, NextOf, ChoiceFlag, ChoiceNext, SecondTailOf, RunsOf, PvFlag, PvNext, StateOf, target}
+use Rattle.lk_machine.specs.TopRow.{Target, FlagOf, NextOf, ChoiceFlag, ChoiceNext, SecondTailOf}
+use Rattle.lk_machine.specs.TopRow.{RunsOf, PvFlag, PvNext, StateOf, target}
 
 -- none of the ten counts is above this number
 pub record CountsWithin (n : ℕ) (c : Counts) : Type 0 where
@@ -32,8 +33,8 @@ HasTarget m (PvNext n) = HasNode m n
 HasTarget m (StateOf n) = HasNode m n
 HasTarget m _ = Unit {0}
 
--- The top frame of the processor can make its row: it can move, its lock and the node that it reaches are there, and no count is at
--- its end.
+-- The top frame of the processor can make its row: it can move, its lock and the node that it
+-- reaches are there, and no count is at its end.
 pub record IsReady (m : Machine) (p : ℕ) : Type 0 where
   pub moves : CanMove m p
   pub lock : (top_frame m p).lock.index < length m.locks

@@ -1,5 +1,6 @@
--- A row is one operation on one word or one field, told as data: by the acting frame and the value that it meets there it says what
--- it stores, where it leads, what it tells and what it counts. One general application makes the row on a machine of it.
+-- A row is one operation on one word or one field, told as data: by the acting frame and the value
+-- that it meets there it says what it stores, where it leads, what it tells and what it counts. One
+-- general application makes the row on a machine of it.
 use Rattle.std.specs.Prelude.{◌+◌, ℕ, Option, Some, None, Bool, false, List, [], ◌∷◌}
 use Rattle.lk_abs.specs.declared.events.Event.{Event}
 use Rattle.lk_abs.specs.declared.events.What.{What}
@@ -68,34 +69,39 @@ pub data Tell : Type 0 where
   -- the lead of the frame's lock goes to the waiter of this node, after so many were moved aside
   Passes : NodeName → ℕ → Tell
 
--- What a row does where it meets a value of this type: `stores` is none where it only looks, or where its exchange fails.
-pub record Outcome (A : Type 0) : Type 0 where
+-- What a row does where it meets a value of this type: `stores` is none where it only looks, or
+-- where its exchange fails.
+pub record Effect (A : Type 0) : Type 0 where
   pub stores : Option A
   pub leads : Lead
   pub tells : Tell
   pub counts : List Counter
 
 -- the row only looks, and the frame goes to this place
-abbrev pub looks : {A : Type 0} → Pc → Outcome A
+abbrev pub looks : {A : Type 0} → Pc → Effect A
 looks c = record { stores = None; leads = Goes c []; tells = Nothing; counts = [] }
 
 -- the same, and registers change
-abbrev pub learns : {A : Type 0} → Pc → Change → Outcome A
-learns c change = record { stores = None; leads = Goes c (change ∷ []); tells = Nothing; counts = [] }
+abbrev pub learns : {A : Type 0} → Pc → Change → Effect A
+learns c change =
+    record { stores = None; leads = Goes c (change ∷ []); tells = Nothing; counts = [] }
 
-abbrev pub learns_all : {A : Type 0} → Pc → List Change → Outcome A
-learns_all c changes = record { stores = None; leads = Goes c changes; tells = Nothing; counts = [] }
+-- and several registers change
+abbrev pub learns_all : {A : Type 0} → Pc → List Change → Effect A
+learns_all c changes =
+    record { stores = None; leads = Goes c changes; tells = Nothing; counts = [] }
 
 -- the row stores a value, and the frame goes to this place
-abbrev pub writes : {A : Type 0} → A → Pc → Outcome A
+abbrev pub writes : {A : Type 0} → A → Pc → Effect A
 writes x c = record { stores = Some x; leads = Goes c []; tells = Nothing; counts = [] }
 
 -- the try has failed
-abbrev pub misses : {A : Type 0} → What → Outcome A
+abbrev pub misses : {A : Type 0} → What → Effect A
 misses what = record { stores = None; leads = Missed; tells = Says what; counts = [] }
 
 -- a frame with a register changed
 
+-- the frame with one register changed
 abbrev pub changed : Frame → Change → Frame
 changed f (Prev n) = record f { prev = n }
 changed f (Second n) = record f { second = n }
@@ -110,6 +116,7 @@ changed f (Tailed b) = record f { tailed = b }
 changed f (HashedIs b) = record f { hashed = b }
 changed f (TargetIs n) = record f { target = n }
 
+-- the frame with registers changed, in their order
 abbrev pub changed_all : Frame → List Change → Frame
 changed_all f [] = f
 changed_all f (c ∷ cs) = changed_all (changed f c) cs
@@ -122,6 +129,7 @@ gone f c cs = record (changed_all f cs) { place = Some c }
 abbrev pub entered : Frame → Option NodeName → Pc → Frame
 entered f me c = record f { me = me; second = None; hashed = false; place = Some c }
 
+-- the counts with one more
 abbrev pub count : Counts → Counter → Counts
 count n LockPending = record n { lock_pending = n.lock_pending + 1 }
 count n LockSlowpath = record n { lock_slowpath = n.lock_slowpath + 1 }
@@ -134,16 +142,19 @@ count n PvWaitNode = record n { pv_wait_node = n.pv_wait_node + 1 }
 count n PvWaitHead = record n { pv_wait_head = n.pv_wait_head + 1 }
 count n PvKickUnlock = record n { pv_kick_unlock = n.pv_kick_unlock + 1 }
 
+-- the counts with each of these one more
 abbrev pub count_all : Counts → List Counter → Counts
 count_all n [] = n
 count_all n (c ∷ cs) = count_all (count n c) cs
 
 -- on a machine
 
+-- the machine after it has counted
 abbrev pub counted : Machine → List Counter → Machine
 counted m [] = m
 counted m (c ∷ cs) = set_counts m (count_all m.counts (c ∷ cs))
 
+-- the machine with this node at rest, if there is one
 abbrev pub with_rest : Machine → Option NodeName → Machine
 with_rest m None = m
 with_rest m (Some n) = set_node m n rest_node
@@ -164,12 +175,13 @@ moved m p f (Yields c cs) = set_top m p (gone f c cs)
 abbrev pub event_of : Machine → ℕ → Frame → Tell → Option Event
 event_of m p f Nothing = None
 event_of m p f (Says what) = Some (record { by = record { cpu = p; ctx = f.ctx }; what = what })
-event_of m p f (Passes n k) = Some (record { by = record { cpu = p; ctx = f.ctx }; what = Pass f.lock (waiter_of m n) k })
+event_of m p f (Passes n k) =
+    Some (record { by = record { cpu = p; ctx = f.ctx }; what = Pass f.lock (waiter_of m n) k })
 
 -- the machine after a row or an act, and its event
 abbrev pub Answer : Type 0
 Answer = Machine × Option Event
 
 -- The general application: m is the machine that the row met, n the same after its store.
-abbrev pub applied : {A : Type 0} → Machine → Machine → ℕ → Frame → Outcome A → Answer
+abbrev pub applied : {A : Type 0} → Machine → Machine → ℕ → Frame → Effect A → Answer
 applied m n p f o = (moved (counted n o.counts) p f o.leads, event_of m p f o.tells)

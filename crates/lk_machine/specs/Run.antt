@@ -1,5 +1,7 @@
--- A run: the machine at rest, the machine after a list of acts, and the history of what happened in them.
-use Rattle.std.specs.Prelude.{false, ℕ, Option, Some, None, List, [], ◌∷◌, ◌++◌, length, map, replicate, slice_get}
+-- A run: the machine at rest, the machine after a list of acts, and the history of what happened in
+-- them.
+use Rattle.std.specs.Prelude.{false, ℕ, Option, Some, None, List, [], ◌∷◌, ◌++◌, length, map}
+use Rattle.std.specs.Prelude.{replicate, slice_get}
 use Rattle.std.proofs.Common.{zero, suc}
 use Rattle.lk_abs.specs.declared.names.Mode.{Mode}
 use Rattle.lk_abs.specs.declared.events.Act.{Act}
@@ -7,11 +9,13 @@ use Rattle.lk_abs.specs.declared.events.Event.{Event}
 use Rattle.lk_machine.specs.declared.setup.Op.{Op}
 use Rattle.lk_machine.specs.declared.setup.Setup.{Setup}
 use Rattle.lk_machine.specs.declared.parts.Frame.{Frame}
-use Rattle.lk_machine.specs.Machine.{Machine, CpuState, rest_lock, rest_node, rest_frame, rest_counts}
+use Rattle.lk_machine.specs.Machine.{Machine, CpuState, rest_lock, rest_node, rest_frame}
+use Rattle.lk_machine.specs.Machine.{rest_counts}
 use Rattle.lk_machine.specs.Programs.{program_at}
 use Rattle.lk_machine.specs.Moves.{started}
 use Rattle.lk_machine.specs.Acts.{next}
 
+-- a task's frame before its first operation, or finished where there is none
 abbrev pub first_frame : Mode → Option Op → Frame
 first_frame mode None = rest_frame
 first_frame mode (Some o) = started mode rest_frame o

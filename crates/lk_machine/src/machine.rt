@@ -4,11 +4,13 @@ ghost use Rattle.std.specs.Prelude.{slice_index_or, ◌≡◌, ◌<◌, ◌≤�
 ghost use Rattle.lk_machine.specs.Machine.{Machine as MachineValue, CpuState as CpuValue, LockState as LockValue, HasTop, HasNode, top_frame, frame_at, depth_at, queued_at, preempted_at, halted_at, kicked_at, handlers_at, word_at, rw_at, node_at, set_word, set_rw, set_node, set_top, set_queued, set_preempted, set_halted, set_kicked, set_counts};
 ghost use Rattle.lk_machine.specs.Programs.{HasPrograms, handlers_of};
 ghost use Rattle.lk_machine.specs.Moves.{is_node, waiter_of};
-ghost use Rattle.lk_machine.specs.CnaRows.{same_socket};
+ghost use Rattle.lk_machine.specs.rows.Cna.{same_socket};
 
+mod fields;
 mod hash;
 mod moves;
 mod rest;
+mod top;
 
 use crate::parts::{Counts, Frame, Node, Pc};
 use crate::setup::Setup;
@@ -76,7 +78,8 @@ pub struct Machine {
     setup: Setup,
     locks: Vec<LockState>,
     cpus: Vec<CpuState>,
-    /// The node of each lock that is entered. The room for four entries a processor is taken when it is made.
+    /// The node of each lock that is entered. The room for four entries a processor is taken when
+    /// it is made.
     hash: Vec<(LockName, NodeName)>,
     counts: Counts,
 }
@@ -180,76 +183,6 @@ impl Machine {
     {
         let state = &mut self.cpus[name.cpu as usize];
         state.nodes[name.index as usize] = node;
-    }
-
-    /// The top frame of a processor.
-    #[inline]
-    #[tactic(auto, unfolding(crate::specs::Machine::frame_at, crate::specs::Machine::depth_at, crate::specs::Machine::cpu_at))]
-    pub fn frame(&self, cpu: u32) -> Frame
-        requires { HasTop self.now cpu }
-        ensures { result ≡ top_frame self.now cpu }
-    {
-        let state = &self.cpus[cpu as usize];
-        state.frames[state.frames.len() - 1]
-    }
-
-    /// Stores the top frame of a processor.
-    #[inline]
-    #[tactic(auto, unfolding(crate::specs::Machine::set_top, crate::specs::Machine::set_cpu, crate::specs::Machine::depth_at, crate::specs::Machine::cpu_at))]
-    pub fn set_frame(&mut self, cpu: u32, frame: Frame)
-        requires { HasTop self.old cpu }
-        ensures { self.new ≡ set_top self.old cpu frame }
-    {
-        let state = &mut self.cpus[cpu as usize];
-        let top = state.frames.len() - 1;
-        state.frames[top] = frame;
-    }
-
-    /// Stores the place of the top frame of a processor.
-    #[inline]
-    #[tactic(auto, unfolding(crate::specs::Machine::set_top, crate::specs::Machine::set_cpu, crate::specs::Machine::frame_at, crate::specs::Machine::depth_at, crate::specs::Machine::cpu_at))]
-    pub fn set_place(&mut self, cpu: u32, place: Pc)
-        requires { HasTop self.old cpu }
-        ensures { self.new ≡ set_top self.old cpu (record (top_frame self.old cpu) { place = Some place }) }
-    {
-        let state = &mut self.cpus[cpu as usize];
-        let top = state.frames.len() - 1;
-        state.frames[top].place = Some(place);
-    }
-
-    /// A frame of a processor.
-    #[inline]
-    #[tactic(auto, unfolding(crate::specs::Machine::frame_at, crate::specs::Machine::depth_at, crate::specs::Machine::cpu_at))]
-    pub fn frame_at(&self, cpu: u32, ctx: u32) -> Frame
-        requires cpu { cpu < length self.now.cpus }
-        requires ctx { ctx < depth_at self.now cpu }
-        ensures { frame_at self.now (record { cpu = cpu; ctx = ctx }) ≡ Some result }
-    {
-        let state = &self.cpus[cpu as usize];
-        state.frames[ctx as usize]
-    }
-
-    /// How many frames a processor has.
-    #[inline]
-    #[tactic(auto, unfolding(crate::specs::Machine::depth_at, crate::specs::Machine::cpu_at))]
-    pub fn depth(&self, cpu: u32) -> u32
-        requires { cpu < length self.now.cpus }
-        ensures { result ≡ depth_at self.now cpu }
-    {
-        let state = &self.cpus[cpu as usize];
-        state.frames.len() as u32
-    }
-
-    /// The row at which the top frame of a processor stands; none where it is finished.
-    #[inline]
-    #[tactic(auto, unfolding(crate::specs::Machine::frame_at, crate::specs::Machine::depth_at, crate::specs::Machine::cpu_at))]
-    pub fn place(&self, cpu: u32) -> Option<Pc>
-        requires { HasTop self.now cpu }
-        ensures { result ≡ (top_frame self.now cpu).place }
-    {
-        let state = &self.cpus[cpu as usize];
-        let top = state.frames.len() - 1;
-        state.frames[top].place
     }
 
     /// The waiter whose frame has the node as its own.

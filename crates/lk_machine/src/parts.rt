@@ -247,7 +247,8 @@ pub enum Why {
     Promotion,
 }
 
-/// One context of a processor: its program, its place in it, and its registers. Registers keep old values across operations.
+/// One context of a processor: its program, its place in it, and its registers. Registers keep old
+/// values across operations.
 #[derive(Clone, Copy, Debug, PartialEq, Eq)]
 pub struct Frame {
     /// Its context: 0 is the task, c the c-th nested interrupt.

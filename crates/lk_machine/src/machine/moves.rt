@@ -2,7 +2,7 @@
 
 ghost use Rattle.std.specs.Prelude.{◌≡◌, Some, ◌≤◌, ◌<◌, ◌+◌, length, drop, slice_get};
 ghost use Rattle.lk_machine.specs.Machine.{HasTop, depth_at, handlers_at, push, pop, set_top, top_frame};
-ghost use Rattle.lk_machine.specs.Programs.{HasPrograms, handlers_of, is_release, to_release};
+ghost use Rattle.lk_machine.specs.Programs.{HasPrograms, handlers_of, program_at, is_release, to_release};
 ghost use Rattle.lk_machine.specs.Moves.{CanMove, first_place, program_of, started, settled, skipped, done, granted, freed, missed, leave, take_wait};
 ghost use Rattle.lk_machine.specs.Acts.{handler_frame};
 
@@ -69,14 +69,14 @@ fn to_release(program: &List<Op>, from: usize, lock: u32) -> usize
 }
 
 impl Machine {
-    // The operation at the position of a frame, where its program has not ended.
-    fn operation(&self, cpu: u32, frame: Frame) -> Option<Op>
+    // The operation at a position of a program of a processor, where the program has not ended.
+    fn operation(&self, cpu: u32, number: u32, at: u32) -> Option<Op>
         requires programs { HasPrograms self.now.setup cpu }
-        requires known { frame.program ≤ handlers_of self.now.setup cpu }
-        ensures { result ≡ slice_get (program_of self.now cpu frame) frame.at }
+        requires known { number ≤ handlers_of self.now.setup cpu }
+        ensures { result ≡ slice_get (program_at self.now.setup cpu number) at }
     {
-        let program = self.setup.program(cpu, frame.program);
-        let at = frame.at as usize;
+        let program = self.setup.program(cpu, number);
+        let at = at as usize;
         if at < program.len() {
             Some(*program.get(at))
         } else {
@@ -84,18 +84,33 @@ impl Machine {
         }
     }
 
-    // The top frame, which has ended an operation, goes on as this one.
-    fn settle(&mut self, cpu: u32, frame: Frame)
+    // The top frame begins an operation, at this position of its program.
+    #[inline]
+    fn begin(&mut self, cpu: u32, at: u32, op: Op)
+        requires { HasTop self.old cpu }
+        ensures { self.new
+            ≡ set_top self.old cpu
+            (started self.old.setup.mode (record (top_frame self.old cpu) { «at» = at }) op) }
+    {
+        let frame = self.frame(cpu);
+        let started = started(self.setup.mode, Frame { at, ..frame }, op);
+        self.set_frame(cpu, started);
+    }
+
+    // The top frame, which has ended an operation, goes on at this position of its program.
+    fn settle(&mut self, cpu: u32, at: u32)
         requires top { HasTop self.old cpu }
         requires programs { HasPrograms self.old.setup cpu }
-        requires known { frame.program ≤ handlers_of self.old.setup cpu }
-        ensures { self.new ≡ settled self.old cpu frame }
+        requires known { (top_frame self.old cpu).program ≤ handlers_of self.old.setup cpu }
+        ensures { self.new ≡ settled self.old cpu (record (top_frame self.old cpu) { «at» = at }) }
     {
-        match self.operation(cpu, frame) {
-            Some(op) => self.set_frame(cpu, started(self.setup.mode, frame, op)),
+        let frame = self.frame(cpu);
+        match self.operation(cpu, frame.program, at) {
+            Some(op) => self.begin(cpu, at, op),
             None if frame.ctx == 0 => self.set_frame(
                 cpu,
                 Frame {
+                    at,
                     place: None,
                     ..frame
                 },
@@ -104,20 +119,15 @@ impl Machine {
         }
     }
 
-    /// The operation of the top frame is done: the frame begins the next one; or its program has ended, and then it is finished,
-    /// and a handler is popped.
+    /// The operation of the top frame is done: the frame begins the next one; or its program has
+    /// ended, and then it is finished, and a handler is popped.
+    #[inline(never)]
     pub fn done(&mut self, cpu: u32)
         requires { CanMove self.old cpu }
         ensures { self.new ≡ done self.old cpu }
     {
-        let frame = self.frame(cpu);
-        self.settle(
-            cpu,
-            Frame {
-                at: frame.at + 1,
-                ..frame
-            },
-        );
+        let at = self.frame(cpu).at;
+        self.settle(cpu, at + 1);
     }
 
     /// The top frame goes to take the wait lock of its reader-writer lock, and then to this place.
@@ -143,13 +153,20 @@ impl Machine {
     /// The top frame goes to free its wait lock, by the release of a spinlock.
     pub fn free_wait(&mut self, cpu: u32)
         requires { HasTop self.old cpu }
-        ensures { self.new ≡ set_top self.old cpu (record (top_frame self.old cpu) { place = Some (first_place self.old.setup.mode Verb.Unlock) }) }
+        ensures { self.new
+            ≡ set_top self.old cpu
+            (record (top_frame self.old cpu) {
+              place = Some
+                  (first_place self.old.setup.mode Verb.Unlock);
+            }) }
     {
         let place = first_place(self.setup.mode, Verb::Unlock);
         self.set_place(cpu, place);
     }
 
-    /// The lock is granted: to the operation, which is done, or, as a wait lock, to the frame, which goes on.
+    /// The lock is granted: to the operation, which is done, or, as a wait lock, to the frame,
+    /// which goes on.
+    #[inline(never)]
     pub fn granted(&mut self, cpu: u32)
         requires { CanMove self.old cpu }
         ensures { self.new ≡ granted self.old cpu }
@@ -168,7 +185,8 @@ impl Machine {
         }
     }
 
-    /// The lock is freed: the operation is done, and with a wait lock the one for which it was taken.
+    /// The lock is freed: the operation is done, and with a wait lock the one for which it was
+    /// taken.
     pub fn freed(&mut self, cpu: u32)
         requires { CanMove self.old cpu }
         ensures { self.new ≡ freed self.old cpu }
@@ -177,22 +195,18 @@ impl Machine {
     }
 
     /// The try has failed: the frame goes on behind the release that would have ended it.
+    #[inline(never)]
     pub fn missed(&mut self, cpu: u32)
         requires { CanMove self.old cpu }
         ensures { self.new ≡ missed self.old cpu }
     {
         let frame = self.frame(cpu);
         let skipped = self.skipped(cpu, frame);
-        self.settle(
-            cpu,
-            Frame {
-                at: frame.at + skipped,
-                ..frame
-            },
-        );
+        self.settle(cpu, frame.at + skipped);
     }
 
-    // How many operations a failed try skips: itself, and all up to the release that would have ended it.
+    // How many operations a failed try skips: itself, and all up to the release that would have
+    // ended it.
     fn skipped(&self, cpu: u32, frame: Frame) -> u32
         requires programs { HasPrograms self.now.setup cpu }
         requires known { frame.program ≤ handlers_of self.now.setup cpu }
@@ -218,18 +232,33 @@ impl Machine {
         self.set_queued(cpu, queued.saturating_sub(1));
     }
 
-    /// The next handler becomes the frame of the next context on top, and begins. The processor is not halted.
+    /// The top frame leaves the slow path with the lock.
+    #[inline(never)]
+    #[tactic(auto, using(crate::proofs::Kept::kept))]
+    pub fn leave_granted(&mut self, cpu: u32)
+        requires { CanMove self.old cpu }
+        ensures { self.new ≡ granted (leave self.old cpu) cpu }
+    {
+        self.leave(cpu);
+        self.granted(cpu);
+    }
+
+    /// The next handler becomes the frame of the next context on top, and begins. The processor is
+    /// not halted.
+    #[inline(never)]
     #[tactic(auto, using(crate::proofs::Kept::pushed))]
     pub fn interrupt(&mut self, cpu: u32)
         requires top { HasTop self.old cpu }
         requires programs { HasPrograms self.old.setup cpu }
         requires room { depth_at self.old cpu < 6 }
         requires left { handlers_at self.old cpu < handlers_of self.old.setup cpu }
-        ensures { self.new ≡ settled (push self.old cpu (handler_frame self.old cpu)) cpu (handler_frame self.old cpu) }
+        ensures { self.new
+            ≡ settled (push self.old cpu (handler_frame self.old cpu)) cpu
+            (handler_frame self.old cpu) }
     {
         let frame = self.handler_frame(cpu);
         self.push(cpu, frame);
-        self.settle(cpu, frame);
+        self.settle(cpu, 0);
     }
 
     // The frame of the next handler.

@@ -52,7 +52,8 @@ fn rest_locks(alloc: Global, count: usize) -> Result<Vec<LockState>, Memory>
 #[tactic(auto, using(crate::proofs::Rested::rested))]
 fn rest_cpus(alloc: Global, setup: &Setup) -> Result<Vec<CpuState>, Memory>
     requires { length setup.now.progs.items ≡ length setup.now.topology.sockets.items }
-    ensures { IfOk result (λ cpus. cpus.items ≡ rest_cpus setup.now 0 (length setup.now.topology.sockets.items)) }
+    ensures { IfOk result
+        (λ cpus. cpus.items ≡ rest_cpus setup.now 0 (length setup.now.topology.sockets.items)) }
 {
     let count = setup.topology.sockets.len();
     let mut cpus = Vec::with_capacity(alloc, count)?;
@@ -130,7 +131,7 @@ fn rest_word() -> Fields
 }
 
 // A node that nobody uses.
-fn rest_node() -> Node
+pub(super) fn rest_node() -> Node
     ensures { result ≡ rest_node }
 {
     Node {

@@ -1,0 +1,116 @@
+// One field of a word or of a node is stored, and the others stay.
+
+ghost use Rattle.std.specs.Prelude.{◌≡◌, ◌<◌, length};
+ghost use Rattle.lk_machine.specs.Machine.{HasNode, node_at, rest_node, set_node, set_word, word_at};
+
+use crate::machine::Machine;
+use crate::machine::rest::rest_node;
+use crate::parts::{Flag, Node, State};
+use lk_abs::LockName;
+use lk_word::{Fields, Locked, NodeName};
+
+impl Machine {
+    /// Stores the locked byte of a word.
+    #[inline]
+    pub fn set_locked(&mut self, lock: LockName, locked: Locked)
+        requires { lock.index < length self.old.locks }
+        ensures { self.new
+            ≡ set_word self.old lock (record (word_at self.old lock) { locked = locked }) }
+    {
+        let word = self.word(lock);
+        self.set_word(lock, Fields { locked, ..word });
+    }
+
+    /// Stores the pending bit of a word.
+    #[inline]
+    pub fn set_pending(&mut self, lock: LockName, pending: bool)
+        requires { lock.index < length self.old.locks }
+        ensures { self.new
+            ≡ set_word self.old lock (record (word_at self.old lock) { pending = pending }) }
+    {
+        let word = self.word(lock);
+        self.set_word(lock, Fields { pending, ..word });
+    }
+
+    /// Stores the tail of a word.
+    #[inline]
+    pub fn set_tail(&mut self, lock: LockName, tail: Option<NodeName>)
+        requires { lock.index < length self.old.locks }
+        ensures { self.new
+            ≡ set_word self.old lock (record (word_at self.old lock) { tail = tail }) }
+    {
+        let word = self.word(lock);
+        self.set_word(lock, Fields { tail, ..word });
+    }
+
+    /// Stores the flag of a node.
+    #[inline]
+    pub fn set_flag(&mut self, name: NodeName, flag: Flag)
+        requires { HasNode self.old name }
+        ensures { self.new
+            ≡ set_node self.old name (record (node_at self.old name) { flag = flag }) }
+    {
+        let node = self.node(name);
+        self.set_node(name, Node { flag, ..node });
+    }
+
+    /// Stores the link of a node.
+    #[inline]
+    pub fn set_next(&mut self, name: NodeName, next: Option<NodeName>)
+        requires { HasNode self.old name }
+        ensures { self.new
+            ≡ set_node self.old name (record (node_at self.old name) { next = next }) }
+    {
+        let node = self.node(name);
+        self.set_node(name, Node { next, ..node });
+    }
+
+    /// Stores in the first node of a second queue which is the last.
+    #[inline]
+    pub fn set_second_tail(&mut self, name: NodeName, second_tail: Option<NodeName>)
+        requires { HasNode self.old name }
+        ensures { self.new
+            ≡ set_node self.old name
+            (record (node_at self.old name) { second_tail = second_tail }) }
+    {
+        let node = self.node(name);
+        self.set_node(
+            name,
+            Node {
+                second_tail,
+                ..node
+            },
+        );
+    }
+
+    /// Stores the count of handovers of a node.
+    #[inline]
+    pub fn set_runs(&mut self, name: NodeName, runs: u32)
+        requires { HasNode self.old name }
+        ensures { self.new
+            ≡ set_node self.old name (record (node_at self.old name) { runs = runs }) }
+    {
+        let node = self.node(name);
+        self.set_node(name, Node { runs, ..node });
+    }
+
+    /// Stores what a node says of its processor.
+    #[inline]
+    pub fn set_state(&mut self, name: NodeName, state: State)
+        requires { HasNode self.old name }
+        ensures { self.new
+            ≡ set_node self.old name (record (node_at self.old name) { state = state }) }
+    {
+        let node = self.node(name);
+        self.set_node(name, Node { state, ..node });
+    }
+
+    /// Resets a node to rest.
+    #[inline]
+    pub fn reset_node(&mut self, name: NodeName)
+        requires { HasNode self.old name }
+        ensures { self.new ≡ set_node self.old name rest_node }
+    {
+        self.set_node(name, rest_node());
+    }
+}

@@ -1,0 +1,131 @@
+// The frames of a processor, and what its top one meets and tells.
+
+ghost use Rattle.std.specs.Prelude.{◌≡◌, ◌<◌, ◌-◌, Some, length};
+ghost use Rattle.lk_machine.specs.Machine.{HasTop, top_frame, frame_at, depth_at, word_at, rw_at, set_top};
+ghost use Rattle.lk_machine.specs.Ready.{IsReady};
+
+use crate::machine::Machine;
+use crate::parts::{Frame, Pc};
+use lk_abs::{Event, LockName, Waiter, What};
+use lk_word::{Fields, RwFields};
+
+impl Machine {
+    /// The top frame of a processor.
+    #[inline]
+    #[tactic(auto, unfolding(crate::specs::Machine::frame_at, crate::specs::Machine::depth_at, crate::specs::Machine::cpu_at))]
+    pub fn frame(&self, cpu: u32) -> Frame
+        requires { HasTop self.now cpu }
+        ensures { result ≡ top_frame self.now cpu }
+    {
+        let state = &self.cpus[cpu as usize];
+        state.frames[state.frames.len() - 1]
+    }
+
+    /// Stores the top frame of a processor.
+    #[inline]
+    #[tactic(auto, unfolding(crate::specs::Machine::set_top, crate::specs::Machine::set_cpu, crate::specs::Machine::depth_at, crate::specs::Machine::cpu_at))]
+    pub fn set_frame(&mut self, cpu: u32, frame: Frame)
+        requires { HasTop self.old cpu }
+        ensures { self.new ≡ set_top self.old cpu frame }
+    {
+        let state = &mut self.cpus[cpu as usize];
+        let top = state.frames.len() - 1;
+        state.frames[top] = frame;
+    }
+
+    /// Stores the place of the top frame of a processor.
+    #[inline]
+    #[tactic(auto, unfolding(crate::specs::Machine::set_top, crate::specs::Machine::set_cpu, crate::specs::Machine::frame_at, crate::specs::Machine::depth_at, crate::specs::Machine::cpu_at))]
+    pub fn set_place(&mut self, cpu: u32, place: Pc)
+        requires { HasTop self.old cpu }
+        ensures { self.new
+            ≡ set_top self.old cpu (record (top_frame self.old cpu) { place = Some place }) }
+    {
+        let state = &mut self.cpus[cpu as usize];
+        let top = state.frames.len() - 1;
+        state.frames[top].place = Some(place);
+    }
+
+    /// A frame of a processor.
+    #[inline]
+    #[tactic(auto, unfolding(crate::specs::Machine::frame_at, crate::specs::Machine::depth_at, crate::specs::Machine::cpu_at))]
+    pub fn frame_at(&self, cpu: u32, ctx: u32) -> Frame
+        requires cpu { cpu < length self.now.cpus }
+        requires ctx { ctx < depth_at self.now cpu }
+        ensures { frame_at self.now (record { cpu = cpu; ctx = ctx }) ≡ Some result }
+    {
+        let state = &self.cpus[cpu as usize];
+        state.frames[ctx as usize]
+    }
+
+    /// How many frames a processor has.
+    #[inline]
+    #[tactic(auto, unfolding(crate::specs::Machine::depth_at, crate::specs::Machine::cpu_at))]
+    pub fn depth(&self, cpu: u32) -> u32
+        requires { cpu < length self.now.cpus }
+        ensures { result ≡ depth_at self.now cpu }
+    {
+        let state = &self.cpus[cpu as usize];
+        state.frames.len() as u32
+    }
+
+    /// The row at which the top frame of a processor stands; none where it is finished.
+    #[inline]
+    #[tactic(auto, unfolding(crate::specs::Machine::frame_at, crate::specs::Machine::depth_at, crate::specs::Machine::cpu_at))]
+    pub fn place(&self, cpu: u32) -> Option<Pc>
+        requires { HasTop self.now cpu }
+        ensures { result ≡ (top_frame self.now cpu).place }
+    {
+        let state = &self.cpus[cpu as usize];
+        let top = state.frames.len() - 1;
+        state.frames[top].place
+    }
+
+    /// The lock on which the top frame of a processor acts.
+    #[inline]
+    pub fn lock(&self, cpu: u32) -> LockName
+        requires { HasTop self.now cpu }
+        ensures { result ≡ (top_frame self.now cpu).lock }
+    {
+        self.frame(cpu).lock
+    }
+
+    /// The word of a spinlock or a wait lock that the top frame of a processor meets.
+    #[inline]
+    pub fn word_met(&self, cpu: u32) -> Fields
+        requires { IsReady self.now cpu }
+        ensures { result ≡ word_at self.now (top_frame self.now cpu).lock }
+    {
+        self.word(self.lock(cpu))
+    }
+
+    /// The word of a reader-writer lock that the top frame of a processor meets.
+    #[inline]
+    pub fn rw_met(&self, cpu: u32) -> RwFields
+        requires { IsReady self.now cpu }
+        ensures { result ≡ rw_at self.now (top_frame self.now cpu).lock.index }
+    {
+        self.rw(self.lock(cpu).index)
+    }
+
+    /// An event of the waiter of the top frame of a processor.
+    #[inline]
+    pub fn event(&self, cpu: u32, what: What) -> Event
+        requires { HasTop self.now cpu }
+        ensures { result
+            ≡ record {
+              by = record {
+                cpu = cpu;
+                ctx =
+                    (top_frame self.now cpu).ctx;
+              };
+              what = what;
+            } }
+    {
+        let ctx = self.frame(cpu).ctx;
+        Event {
+            by: Waiter { cpu, ctx },
+            what,
+        }
+    }
+}
