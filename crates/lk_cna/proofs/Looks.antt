@@ -8,23 +8,23 @@ use Rattle.lk_machine.specs.declared.parts.Pc.{Pc}
 use Rattle.lk_machine.specs.declared.parts.Pc.TheVariants.{C1, C2}
 use Rattle.lk_machine.specs.Machine.{Machine, node_at, set_top, top_frame}
 use Rattle.lk_machine.specs.Moves.{node_of}
-use Rattle.lk_machine.specs.Row.{Answer, Change, Outcome, learns_all}
-use Rattle.lk_machine.specs.Rows.{on_next, row, sight_at}
-use Rattle.lk_machine.specs.CnaRows.{Sight, may_stay, search_first, search_on}
+use Rattle.lk_machine.specs.Row.{Answer, Change, Effect, learns_all}
+use Rattle.lk_machine.specs.TopRow.{on_next, row, sight_at}
+use Rattle.lk_machine.specs.rows.Cna.{Sight, may_stay, search_first, search_on}
 use Rattle.lk_cna.specs.Row.{frame_after}
 
 -- the outcome is a look that leads to a place with some registers changed
-abbrev IsLook : Outcome (Option NodeName) → Type 0
+abbrev IsLook : Effect (Option NodeName) → Type 0
 IsLook o = (c : Pc) × ((cs : List Change) × (o ≡ learns_all c cs))
 
 -- what such a row does to a machine
-abbrev Looked : Machine → ℕ → Frame → NodeName → Outcome (Option NodeName) → Type 0
+abbrev Looked : Machine → ℕ → Frame → NodeName → Effect (Option NodeName) → Type 0
 Looked m p f n o = ◌≡◌ {A = Answer} (on_next m p f n o) (set_top m p (frame_after f o.leads), None)
 
-looked : (m : Machine) (p : ℕ) (f : Frame) (n : NodeName) (o : Outcome (Option NodeName)) → IsLook o → Looked m p f n o
+looked : (m : Machine) (p : ℕ) (f : Frame) (n : NodeName) (o : Effect (Option NodeName)) → IsLook o → Looked m p f n o
 looked m p f n o (c, (cs, e)) = subst (Looked m p f n) (sym e) refl
 
-either : (b : Bool) (o q : Outcome (Option NodeName)) → IsLook o → IsLook q → IsLook (if b then o else q)
+either : (b : Bool) (o q : Effect (Option NodeName)) → IsLook o → IsLook q → IsLook (if b then o else q)
 either true o q is_o is_q = is_o
 either false o q is_o is_q = is_q
 

@@ -1,26 +1,11 @@
--- The rows of this crate, and what their code needs of the machine; all of it holds of a sound one.
-use Rattle.std.specs.Prelude.{◌≡◌, ◌<◌, ◌+◌, ◌^◌, ℕ, Option, Some, Bool, true, false, is_some}
+-- What the code of this crate's rows needs of the machine; all of it holds of a sound one.
+use Rattle.std.specs.Prelude.{◌≡◌, ◌<◌, ◌+◌, ◌^◌, ℕ, Some, true, is_some}
 use Rattle.lk_machine.specs.declared.parts.Frame.{Frame}
-use Rattle.lk_machine.specs.declared.parts.Pc.{Pc}
-use Rattle.lk_machine.specs.declared.parts.Pc.TheVariants.{C1, C2, C3, C4, C5, C6, C7, C8, C9, C10}
+use Rattle.lk_machine.specs.declared.parts.Pc.TheVariants.{C2, C7}
 use Rattle.lk_machine.specs.Machine.{Machine, HasNode, node_at, top_frame}
 use Rattle.lk_machine.specs.Moves.{node_of}
 use Rattle.lk_machine.specs.Ready.{IsReady}
 use Rattle.lk_machine.specs.Row.{Lead, Goes, gone}
-
--- whether a place is one of them
-abbrev pub is_cna_row : Option Pc → Bool
-is_cna_row (Some C1) = true
-is_cna_row (Some C2) = true
-is_cna_row (Some C3) = true
-is_cna_row (Some C4) = true
-is_cna_row (Some C5) = true
-is_cna_row (Some C6) = true
-is_cna_row (Some C7) = true
-is_cna_row (Some C8) = true
-is_cna_row (Some C9) = true
-is_cna_row (Some C10) = true
-is_cna_row _ = false
 
 -- the frame after a lead that stays in its operation
 abbrev pub frame_after : Frame → Lead → Frame

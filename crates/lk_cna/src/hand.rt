@@ -1,16 +1,16 @@
 // A front hands the lead on.
 ghost use Rattle.std.specs.Prelude.{◌≡◌, Some};
 ghost use Rattle.lk_machine.specs.Machine.{top_frame};
-ghost use Rattle.lk_machine.specs.Rows.{row};
-ghost use Rattle.lk_machine.specs.CnaRows.{flag_for};
+ghost use Rattle.lk_machine.specs.TopRow.{row};
+ghost use Rattle.lk_machine.specs.rows.Cna.{flag_for};
 ghost use Rattle.lk_cna.specs.Row.{IsCnaReady};
 
-use crate::word::{event, named};
 use lk_abs::{Event, What};
-use lk_machine::{Flag, Frame, Machine, Node, Pc};
+use lk_machine::{Flag, Machine, Pc, named};
 use lk_word::NodeName;
 
-/// C7: tells the next in its node how many handovers were made since the second queue became non-empty.
+/// C7: tells the next in its node how many handovers were made since the second queue became
+/// non-empty.
 pub(crate) fn count(machine: &mut Machine, cpu: u32) -> Option<Event>
     requires ready { IsCnaReady machine.old cpu }
     requires here { (top_frame machine.old cpu).place ≡ Some Pc.C7 }
@@ -24,15 +24,8 @@ pub(crate) fn count(machine: &mut Machine, cpu: u32) -> Option<Event>
         0
     };
     let next = named(frame.y);
-    let node = machine.node(next);
-    machine.set_node(next, Node { runs, ..node });
-    machine.set_frame(
-        cpu,
-        Frame {
-            place: Some(Pc::C8),
-            ..frame
-        },
-    );
+    machine.set_runs(next, runs);
+    machine.set_place(cpu, Pc::C8);
     None
 }
 
@@ -46,7 +39,8 @@ fn flag_for(second: Option<NodeName>) -> Flag
     }
 }
 
-/// C8: hands the lead to the next by its flag, which names the second queue, gives the node back, and goes on as the holder.
+/// C8: hands the lead to the next by its flag, which names the second queue, gives the node back,
+/// and goes on as the holder.
 pub(crate) fn hand_on(machine: &mut Machine, cpu: u32) -> Option<Event>
     requires ready { IsCnaReady machine.old cpu }
     requires here { (top_frame machine.old cpu).place ≡ Some Pc.C8 }
@@ -55,19 +49,15 @@ pub(crate) fn hand_on(machine: &mut Machine, cpu: u32) -> Option<Event>
 {
     let frame = machine.frame(cpu);
     let next = named(frame.y);
-    let to = machine.waiter_of(next);
-    let node = machine.node(next);
-    let flag = flag_for(frame.second);
-    machine.set_node(next, Node { flag, ..node });
-    machine.leave(cpu);
-    machine.granted(cpu);
-    Some(event(
+    let event = machine.event(
         cpu,
-        frame,
         What::Pass {
             lock: frame.lock,
-            to,
+            to: machine.waiter_of(next),
             moved: frame.k,
         },
-    ))
+    );
+    machine.set_flag(next, flag_for(frame.second));
+    machine.leave_granted(cpu);
+    Some(event)
 }

@@ -2,14 +2,11 @@
 ghost use Rattle.std.specs.Prelude.{◌≡◌, Some, None, [], ◌∷◌};
 ghost use Rattle.lk_machine.specs.Machine.{top_frame};
 ghost use Rattle.lk_machine.specs.Row.{Second, Y, gone};
-ghost use Rattle.lk_machine.specs.Rows.{row};
-ghost use Rattle.lk_machine.specs.CnaRows.{is_last};
+ghost use Rattle.lk_machine.specs.TopRow.{row};
 ghost use Rattle.lk_cna.specs.Row.{IsCnaReady};
 
-use crate::word::{event, is_tail, named};
 use lk_abs::{Event, What};
-use lk_machine::{Frame, Machine, Node, Pc};
-use lk_word::{Fields, Locked};
+use lk_machine::{Frame, Machine, Pc, is_last, named};
 
 /// C4: links those that it passed over behind the second queue.
 pub(crate) fn append(machine: &mut Machine, cpu: u32) -> Option<Event>
@@ -20,21 +17,8 @@ pub(crate) fn append(machine: &mut Machine, cpu: u32) -> Option<Event>
 {
     let frame = machine.frame(cpu);
     let tail = named(frame.t);
-    let node = machine.node(tail);
-    machine.set_node(
-        tail,
-        Node {
-            next: frame.a,
-            ..node
-        },
-    );
-    machine.set_frame(
-        cpu,
-        Frame {
-            place: Some(Pc::C5),
-            ..frame
-        },
-    );
+    machine.set_next(tail, frame.a);
+    machine.set_place(cpu, Pc::C5);
     None
 }
 
@@ -47,15 +31,8 @@ pub(crate) fn cut(machine: &mut Machine, cpu: u32) -> Option<Event>
 {
     let frame = machine.frame(cpu);
     let last = named(frame.b);
-    let node = machine.node(last);
-    machine.set_node(last, Node { next: None, ..node });
-    machine.set_frame(
-        cpu,
-        Frame {
-            place: Some(Pc::C6),
-            ..frame
-        },
-    );
+    machine.set_next(last, None);
+    machine.set_place(cpu, Pc::C6);
     None
 }
 
@@ -68,21 +45,8 @@ pub(crate) fn set_tail(machine: &mut Machine, cpu: u32) -> Option<Event>
 {
     let frame = machine.frame(cpu);
     let first = named(frame.second);
-    let node = machine.node(first);
-    machine.set_node(
-        first,
-        Node {
-            second_tail: frame.b,
-            ..node
-        },
-    );
-    machine.set_frame(
-        cpu,
-        Frame {
-            place: Some(Pc::C7),
-            ..frame
-        },
-    );
+    machine.set_second_tail(first, frame.b);
+    machine.set_place(cpu, Pc::C7);
     None
 }
 
@@ -107,27 +71,14 @@ pub(crate) fn flush(machine: &mut Machine, cpu: u32) -> Option<Event>
 {
     let frame = machine.frame(cpu);
     let tail = named(frame.t);
-    let node = machine.node(tail);
-    machine.set_node(
-        tail,
-        Node {
-            next: frame.a,
-            ..node
-        },
-    );
+    let event = machine.event(cpu, What::Flush { lock: frame.lock });
+    machine.set_next(tail, frame.a);
     machine.set_frame(cpu, rejoined(frame));
-    Some(event(cpu, frame, What::Flush { lock: frame.lock }))
+    Some(event)
 }
 
-// Whether the lock is held, nobody pends, and the tail is the own node.
-fn is_last(frame: Frame, word: Fields) -> bool
-    ensures { result ≡ is_last frame word }
-{
-    matches!(word.locked, Locked::Held) && !word.pending && is_tail(word, named(frame.me))
-}
-
-/// C10: swaps the tail from its own node to the last of the second queue, which returns as the rest; if another took the tail, it looks
-/// again.
+/// C10: swaps the tail from its own node to the last of the second queue, which returns as the
+/// rest; if another took the tail, it looks again.
 pub(crate) fn promote(machine: &mut Machine, cpu: u32) -> Option<Event>
     requires ready { IsCnaReady machine.old cpu }
     requires here { (top_frame machine.old cpu).place ≡ Some Pc.C10 }
@@ -137,15 +88,10 @@ pub(crate) fn promote(machine: &mut Machine, cpu: u32) -> Option<Event>
     let frame = machine.frame(cpu);
     let word = machine.word(frame.lock);
     if is_last(frame, word) {
-        machine.set_word(
-            frame.lock,
-            Fields {
-                tail: frame.t,
-                ..word
-            },
-        );
+        let event = machine.event(cpu, What::Promote { lock: frame.lock });
+        machine.set_tail(frame.lock, frame.t);
         machine.set_frame(cpu, rejoined(frame));
-        return Some(event(cpu, frame, What::Promote { lock: frame.lock }));
+        return Some(event);
     }
     machine.set_place(cpu, Pc::C1);
     None

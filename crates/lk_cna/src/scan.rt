@@ -2,13 +2,12 @@
 ghost use Rattle.std.specs.Prelude.{◌≡◌, ◌<◌, ◌+◌, ◌^◌, Some};
 ghost use Rattle.lk_machine.specs.Machine.{node_at, top_frame};
 ghost use Rattle.lk_machine.specs.Moves.{node_of};
-ghost use Rattle.lk_machine.specs.Rows.{row, sight_at};
-ghost use Rattle.lk_machine.specs.CnaRows.{Sight, may_stay, search_first, search_on, after_none, after_first, after_last, after_more, after_tail};
+ghost use Rattle.lk_machine.specs.TopRow.{row, sight_at};
+ghost use Rattle.lk_machine.specs.rows.Cna.{Sight, may_stay, search_first, search_on, after_none, after_first, after_last, after_more, after_tail};
 ghost use Rattle.lk_cna.specs.Row.{IsCnaReady, frame_after};
 
-use crate::word::named;
 use lk_abs::Event;
-use lk_machine::{Frame, Machine, Node, Pc, Why};
+use lk_machine::{Frame, Machine, Node, Pc, Why, named};
 use lk_word::NodeName;
 
 // Nobody is linked behind the front: those aside, if there are any, may return as the rest.
@@ -30,10 +29,11 @@ fn after_none(frame: Frame) -> Frame
     }
 }
 
-// A waiter is linked behind the front. While the run may go on, it is chosen if it is local, and else passed over; when the run is
-// over, it is chosen, behind those aside where there are any.
+// A waiter is linked behind the front. While the run may go on, it is chosen if it is local, and
+// else passed over; when the run is over, it is chosen, behind those aside where there are any.
 fn after_first(frame: Frame, met: NodeName, goes_on: bool, is_local: bool) -> Frame
-    ensures { (s : Sight) → may_stay s ≡ goes_on → s.local met ≡ is_local → result ≡ frame_after frame (after_first s frame.second met).leads }
+    ensures { (s : Sight) → may_stay s ≡ goes_on → s.local met ≡ is_local
+        → result ≡ frame_after frame (after_first s frame.second met).leads }
 {
     if goes_on && !is_local {
         return Frame {
@@ -64,7 +64,9 @@ fn after_first(frame: Frame, met: NodeName, goes_on: bool, is_local: bool) -> Fr
 // The frame after C1, by the own node that it met.
 fn after_look(machine: &Machine, cpu: u32, frame: Frame, node: Node) -> Frame
     requires { node ≡ node_at machine.now (node_of frame.me) }
-    ensures { result ≡ frame_after frame (search_first (sight_at machine.now cpu frame) frame.second node.next).leads }
+    ensures { result
+        ≡ frame_after frame
+        (search_first (sight_at machine.now cpu frame) frame.second node.next).leads }
 {
     match node.next {
         None => after_none(frame),
@@ -75,8 +77,9 @@ fn after_look(machine: &Machine, cpu: u32, frame: Frame, node: Node) -> Frame
     }
 }
 
-/// C1: looks who is linked behind it. While the run may go on it chooses that one if it is local, and else passes it over; when the run
-/// is over those aside return. Where nobody is linked, those aside may return as the rest.
+/// C1: looks who is linked behind it. While the run may go on it chooses that one if it is local,
+/// and else passes it over; when the run is over those aside return. Where nobody is linked, those
+/// aside may return as the rest.
 pub(crate) fn look(machine: &mut Machine, cpu: u32) -> Option<Event>
     requires ready { IsCnaReady machine.old cpu }
     requires here { (top_frame machine.old cpu).place ≡ Some Pc.C1 }
@@ -90,7 +93,8 @@ pub(crate) fn look(machine: &mut Machine, cpu: u32) -> Option<Event>
     None
 }
 
-// Nobody is linked behind the last that was passed over: nobody is moved, and those aside return where there are any.
+// Nobody is linked behind the last that was passed over: nobody is moved, and those aside return
+// where there are any.
 fn after_last(frame: Frame) -> Frame
     ensures { result ≡ frame_after frame (after_last frame).leads }
 {
@@ -113,7 +117,8 @@ fn after_last(frame: Frame) -> Frame
 // One more waiter is met: it is chosen if it is local, and else passed over too.
 fn after_more(frame: Frame, met: NodeName, is_local: bool) -> Frame
     requires { frame.k + 1 < 2 ^ 32 }
-    ensures { (s : Sight) → s.local met ≡ is_local → result ≡ frame_after frame (after_more s frame met).leads }
+    ensures { (s : Sight) → s.local met ≡ is_local
+        → result ≡ frame_after frame (after_more s frame met).leads }
 {
     if !is_local {
         return Frame {
@@ -142,7 +147,8 @@ fn after_more(frame: Frame, met: NodeName, is_local: bool) -> Frame
 // The frame after C2, by the link that it met.
 fn after_link(machine: &Machine, cpu: u32, frame: Frame, next: Option<NodeName>) -> Frame
     requires { frame.k + 1 < 2 ^ 32 }
-    ensures { result ≡ frame_after frame (search_on (sight_at machine.now cpu frame) frame next).leads }
+    ensures { result
+        ≡ frame_after frame (search_on (sight_at machine.now cpu frame) frame next).leads }
 {
     match next {
         None => after_last(frame),
@@ -150,8 +156,8 @@ fn after_link(machine: &Machine, cpu: u32, frame: Frame, next: Option<NodeName>)
     }
 }
 
-/// C2: looks who is linked behind the last that it passed over: a local one is chosen, another is passed over too. Where nobody is
-/// linked, nobody is moved.
+/// C2: looks who is linked behind the last that it passed over: a local one is chosen, another is
+/// passed over too. Where nobody is linked, nobody is moved.
 pub(crate) fn pass_over(machine: &mut Machine, cpu: u32) -> Option<Event>
     requires ready { IsCnaReady machine.old cpu }
     requires here { (top_frame machine.old cpu).place ≡ Some Pc.C2 }

@@ -1,13 +1,13 @@
 // A front, up to where it has the lock.
 ghost use Rattle.std.specs.Prelude.{◌≡◌, Some};
 ghost use Rattle.lk_machine.specs.Machine.{top_frame};
-ghost use Rattle.lk_machine.specs.Rows.{row};
-ghost use Rattle.lk_machine.specs.PvRows.{is_hashed, is_slow_byte};
+ghost use Rattle.lk_machine.specs.TopRow.{row};
+ghost use Rattle.lk_machine.specs.rows.Pv.{is_hashed, is_slow_byte};
 ghost use Rattle.lk_pv.specs.Row.{IsPvReady};
 
-use crate::word::{after_turn, event, is_unlocked, known, named, with_byte, word_met};
+use crate::word::{after_turn, known};
 use lk_abs::{Event, How, What};
-use lk_machine::{Frame, Machine, Node, Pc, State};
+use lk_machine::{Frame, Machine, Pc, State, is_unlocked, named};
 use lk_word::{Fields, Locked};
 
 // Whether a state is hashed.
@@ -24,7 +24,8 @@ fn is_slow(word: Fields) -> bool
     matches!(word.locked, Locked::Slow)
 }
 
-/// E1: notes whether its own state is hashed (`pv_wait_head_or_lock`). If so, it will not enter the hash itself.
+/// E1: notes whether its own state is hashed (`pv_wait_head_or_lock`). If so, it will not enter the
+/// hash itself.
 pub(crate) fn look_at_state(machine: &mut Machine, cpu: u32) -> Option<Event>
     requires ready { IsPvReady machine.old cpu }
     requires here { (top_frame machine.old cpu).place ≡ Some Pc.E1 }
@@ -56,21 +57,8 @@ pub(crate) fn say_running(machine: &mut Machine, cpu: u32) -> Option<Event>
 {
     let frame = machine.frame(cpu);
     let me = named(frame.me);
-    let node = machine.node(me);
-    machine.set_node(
-        me,
-        Node {
-            state: State::Running,
-            ..node
-        },
-    );
-    machine.set_frame(
-        cpu,
-        Frame {
-            place: Some(Pc::E3),
-            ..frame
-        },
-    );
+    machine.set_state(me, State::Running);
+    machine.set_place(cpu, Pc::E3);
     None
 }
 
@@ -82,15 +70,8 @@ pub(crate) fn set_pending(machine: &mut Machine, cpu: u32) -> Option<Event>
     ensures event { result ≡ (row machine.old cpu).1 }
 {
     let frame = machine.frame(cpu);
-    let word = machine.word(frame.lock);
     let left = machine.spins();
-    machine.set_word(
-        frame.lock,
-        Fields {
-            pending: true,
-            ..word
-        },
-    );
+    machine.set_pending(frame.lock, true);
     machine.set_frame(
         cpu,
         Frame {
@@ -102,8 +83,8 @@ pub(crate) fn set_pending(machine: &mut Machine, cpu: u32) -> Option<Event>
     None
 }
 
-/// E4: `*,1,0 -> *,0,1`, by an exchange: it takes the lock (`trylock_clear_pending`). At another word nothing is stored; it makes another
-/// turn, or where none is left goes on to halt.
+/// E4: `*,1,0 -> *,0,1`, by an exchange: it takes the lock (`trylock_clear_pending`). At another
+/// word nothing is stored; it makes another turn, or where none is left goes on to halt.
 pub(crate) fn take_pending(machine: &mut Machine, cpu: u32) -> Option<Event>
     requires ready { IsPvReady machine.old cpu }
     requires here { (top_frame machine.old cpu).place ≡ Some Pc.E4 }
@@ -111,31 +92,26 @@ pub(crate) fn take_pending(machine: &mut Machine, cpu: u32) -> Option<Event>
     ensures event { result ≡ (row machine.old cpu).1 }
 {
     let frame = machine.frame(cpu);
-    let word = machine.word(frame.lock);
+    let lock = frame.lock;
+    let word = machine.word(lock);
     if is_unlocked(word) && word.pending {
+        let event = machine.event(
+            cpu,
+            What::Take {
+                lock,
+                how: How::Head,
+            },
+        );
         machine.set_word(
-            frame.lock,
+            lock,
             Fields {
                 locked: Locked::Held,
                 pending: false,
                 ..word
             },
         );
-        machine.set_frame(
-            cpu,
-            Frame {
-                place: Some(Pc::E13),
-                ..frame
-            },
-        );
-        return Some(event(
-            cpu,
-            frame,
-            What::Take {
-                lock: frame.lock,
-                how: How::Head,
-            },
-        ));
+        machine.set_place(cpu, Pc::E13);
+        return Some(event);
     }
     machine.set_frame(cpu, after_turn(frame, Pc::E4, Pc::E5));
     None
@@ -149,22 +125,9 @@ pub(crate) fn clear_pending(machine: &mut Machine, cpu: u32) -> Option<Event>
     ensures event { result ≡ (row machine.old cpu).1 }
 {
     let frame = machine.frame(cpu);
-    let word = machine.word(frame.lock);
     let place = if frame.hashed { Pc::E10 } else { Pc::E6 };
-    machine.set_word(
-        frame.lock,
-        Fields {
-            pending: false,
-            ..word
-        },
-    );
-    machine.set_frame(
-        cpu,
-        Frame {
-            place: Some(place),
-            ..frame
-        },
-    );
+    machine.set_pending(frame.lock, false);
+    machine.set_place(cpu, place);
     None
 }
 
@@ -177,18 +140,12 @@ pub(crate) fn enter_hash(machine: &mut Machine, cpu: u32) -> Option<Event>
 {
     let frame = machine.frame(cpu);
     machine.hash_enter(frame.lock, known(frame.me));
-    machine.set_frame(
-        cpu,
-        Frame {
-            place: Some(Pc::E7),
-            ..frame
-        },
-    );
+    machine.set_place(cpu, Pc::E7);
     None
 }
 
-/// E7: exchanges the byte with slow (`pv_wait_head_or_lock`). By `*,*,0 -> *,*,slow` it takes the lock; after `*,*,1 -> *,*,slow`, or where
-/// slow stood there, it notes that it stands in the hash.
+/// E7: exchanges the byte with slow (`pv_wait_head_or_lock`). By `*,*,0 -> *,*,slow` it takes the
+/// lock; after `*,*,1 -> *,*,slow`, or where slow stood there, it notes that it stands in the hash.
 pub(crate) fn exchange_slow(machine: &mut Machine, cpu: u32) -> Option<Event>
     requires ready { IsPvReady machine.old cpu }
     requires here { (top_frame machine.old cpu).place ≡ Some Pc.E7 }
@@ -196,24 +153,19 @@ pub(crate) fn exchange_slow(machine: &mut Machine, cpu: u32) -> Option<Event>
     ensures event { result ≡ (row machine.old cpu).1 }
 {
     let frame = machine.frame(cpu);
-    let word = machine.word(frame.lock);
-    machine.set_word(frame.lock, with_byte(word, Locked::Slow));
+    let lock = frame.lock;
+    let word = machine.word(lock);
+    let event = machine.event(
+        cpu,
+        What::Take {
+            lock,
+            how: How::Head,
+        },
+    );
+    machine.set_locked(lock, Locked::Slow);
     if is_unlocked(word) {
-        machine.set_frame(
-            cpu,
-            Frame {
-                place: Some(Pc::E8),
-                ..frame
-            },
-        );
-        return Some(event(
-            cpu,
-            frame,
-            What::Take {
-                lock: frame.lock,
-                how: How::Head,
-            },
-        ));
+        machine.set_place(cpu, Pc::E8);
+        return Some(event);
     }
     machine.set_frame(
         cpu,
@@ -233,16 +185,9 @@ pub(crate) fn store_held(machine: &mut Machine, cpu: u32) -> Option<Event>
     ensures next { machine.new ≡ (row machine.old cpu).0 }
     ensures event { result ≡ (row machine.old cpu).1 }
 {
-    let frame = machine.frame(cpu);
-    let word = machine.word(frame.lock);
-    machine.set_word(frame.lock, with_byte(word, Locked::Held));
-    machine.set_frame(
-        cpu,
-        Frame {
-            place: Some(Pc::E9),
-            ..frame
-        },
-    );
+    let lock = machine.lock(cpu);
+    machine.set_locked(lock, Locked::Held);
+    machine.set_place(cpu, Pc::E9);
     None
 }
 
@@ -253,15 +198,9 @@ pub(crate) fn leave_hash(machine: &mut Machine, cpu: u32) -> Option<Event>
     ensures next { machine.new ≡ (row machine.old cpu).0 }
     ensures event { result ≡ (row machine.old cpu).1 }
 {
-    let frame = machine.frame(cpu);
-    machine.hash_remove(frame.lock);
-    machine.set_frame(
-        cpu,
-        Frame {
-            place: Some(Pc::E13),
-            ..frame
-        },
-    );
+    let lock = machine.lock(cpu);
+    machine.hash_remove(lock);
+    machine.set_place(cpu, Pc::E13);
     None
 }
 
@@ -275,24 +214,11 @@ pub(crate) fn say_hashed(machine: &mut Machine, cpu: u32) -> Option<Event>
 {
     let frame = machine.frame(cpu);
     let me = named(frame.me);
-    let node = machine.node(me);
+    machine.set_state(me, State::Hashed);
     let mut counts = machine.counts();
     counts.pv_wait_head += 1;
-    machine.set_node(
-        me,
-        Node {
-            state: State::Hashed,
-            ..node
-        },
-    );
     machine.set_counts(counts);
-    machine.set_frame(
-        cpu,
-        Frame {
-            place: Some(Pc::E11),
-            ..frame
-        },
-    );
+    machine.set_place(cpu, Pc::E11);
     None
 }
 
@@ -303,7 +229,7 @@ pub(crate) fn test_slow(machine: &mut Machine, cpu: u32) -> Option<Event>
     ensures next { machine.new ≡ (row machine.old cpu).0 }
     ensures event { result ≡ (row machine.old cpu).1 }
 {
-    let place = if is_slow(word_met(machine, cpu)) {
+    let place = if is_slow(machine.word_met(cpu)) {
         Pc::E12
     } else {
         Pc::E2
@@ -312,21 +238,17 @@ pub(crate) fn test_slow(machine: &mut Machine, cpu: u32) -> Option<Event>
     None
 }
 
-/// E12: the processor: running -> halted (`pv_wait`). The place stays; the end of the halt moves it on.
+/// E12: the processor: running -> halted (`pv_wait`). The place stays; the end of the halt moves it
+/// on.
 pub(crate) fn halt(machine: &mut Machine, cpu: u32) -> Option<Event>
     requires ready { IsPvReady machine.old cpu }
     requires here { (top_frame machine.old cpu).place ≡ Some Pc.E12 }
     ensures next { machine.new ≡ (row machine.old cpu).0 }
     ensures event { result ≡ (row machine.old cpu).1 }
 {
-    let frame = machine.frame(cpu);
+    let lock = machine.lock(cpu);
+    let event = machine.event(cpu, What::Halt { lock });
     machine.set_halted(cpu, true);
-    machine.set_frame(
-        cpu,
-        Frame {
-            place: Some(Pc::E12),
-            ..frame
-        },
-    );
-    Some(event(cpu, frame, What::Halt { lock: frame.lock }))
+    machine.set_place(cpu, Pc::E12);
+    Some(event)
 }

@@ -1,34 +1,17 @@
-// A holder that came through the queue hands the lead on, and sees to it that a halted next one is kicked.
+// A holder that came through the queue hands the lead on, and sees to it that a halted next one is
+// kicked.
 ghost use Rattle.std.specs.Prelude.{◌≡◌, Some};
 ghost use Rattle.lk_machine.specs.Machine.{top_frame};
-ghost use Rattle.lk_machine.specs.Rows.{row};
-ghost use Rattle.lk_machine.specs.CnaRows.{is_last};
-ghost use Rattle.lk_machine.specs.Moves.{is_node};
+ghost use Rattle.lk_machine.specs.TopRow.{row};
 ghost use Rattle.lk_pv.specs.Row.{IsPvReady};
 
-use crate::word::{event, is_halted, known, named, with_byte};
+use crate::word::{is_halted, known};
 use lk_abs::{Event, What};
-use lk_machine::{Flag, Frame, Machine, Node, Pc, State};
-use lk_word::{Fields, Locked, NodeName};
+use lk_machine::{Flag, Frame, Machine, Pc, State, is_last, named};
+use lk_word::Locked;
 
-// Whether the word's tail is this node.
-fn is_tail(word: Fields, node: NodeName) -> bool
-    ensures { result ≡ is_node word.tail node }
-{
-    match word.tail {
-        Some(tail) => tail.cpu == node.cpu && tail.index == node.index,
-        None => false,
-    }
-}
-
-// Whether the lock is held, nobody pends, and the tail is the own node.
-fn is_last(frame: Frame, word: Fields) -> bool
-    ensures { result ≡ is_last frame word }
-{
-    matches!(word.locked, Locked::Held) && !word.pending && is_tail(word, named(frame.me))
-}
-
-/// E13: `t,0,1 -> 0,0,1`, by an exchange, where the tail t is its own node: it leaves the queue empty. At another word nothing is stored.
+/// E13: `t,0,1 -> 0,0,1`, by an exchange, where the tail t is its own node: it leaves the queue
+/// empty. At another word nothing is stored.
 pub(crate) fn leave_queue(machine: &mut Machine, cpu: u32) -> Option<Event>
     requires ready { IsPvReady machine.old cpu }
     requires here { (top_frame machine.old cpu).place ≡ Some Pc.E13 }
@@ -36,12 +19,12 @@ pub(crate) fn leave_queue(machine: &mut Machine, cpu: u32) -> Option<Event>
     ensures event { result ≡ (row machine.old cpu).1 }
 {
     let frame = machine.frame(cpu);
-    let word = machine.word(frame.lock);
-    if is_last(frame, word) {
-        machine.set_word(frame.lock, Fields { tail: None, ..word });
-        machine.leave(cpu);
-        machine.granted(cpu);
-        return Some(event(cpu, frame, What::Leave { lock: frame.lock }));
+    let lock = frame.lock;
+    if is_last(frame, machine.word(lock)) {
+        let event = machine.event(cpu, What::Leave { lock });
+        machine.set_tail(lock, None);
+        machine.leave_granted(cpu);
+        return Some(event);
     }
     machine.set_place(cpu, Pc::E14);
     None
@@ -78,35 +61,21 @@ pub(crate) fn hand_on(machine: &mut Machine, cpu: u32) -> Option<Event>
 {
     let frame = machine.frame(cpu);
     let next = named(frame.y);
-    let to = machine.waiter_of(next);
-    let node = machine.node(next);
-    machine.set_node(
-        next,
-        Node {
-            flag: Flag::Go,
-            ..node
-        },
-    );
-    machine.set_frame(
+    let event = machine.event(
         cpu,
-        Frame {
-            place: Some(Pc::K1),
-            ..frame
-        },
-    );
-    Some(event(
-        cpu,
-        frame,
         What::Pass {
             lock: frame.lock,
-            to,
+            to: machine.waiter_of(next),
             moved: 0,
         },
-    ))
+    );
+    machine.set_flag(next, Flag::Go);
+    machine.set_place(cpu, Pc::K1);
+    Some(event)
 }
 
-/// K1: state of the next: halted -> hashed, by an exchange (`pv_kick_node`). Another state stays, and
-/// the holder goes on.
+/// K1: state of the next: halted -> hashed, by an exchange (`pv_kick_node`). Another state stays,
+/// and the holder goes on.
 pub(crate) fn mark_hashed(machine: &mut Machine, cpu: u32) -> Option<Event>
     requires ready { IsPvReady machine.old cpu }
     requires here { (top_frame machine.old cpu).place ≡ Some Pc.K1 }
@@ -115,26 +84,12 @@ pub(crate) fn mark_hashed(machine: &mut Machine, cpu: u32) -> Option<Event>
 {
     let frame = machine.frame(cpu);
     let next = named(frame.y);
-    let node = machine.node(next);
-    if is_halted(node.state) {
-        machine.set_node(
-            next,
-            Node {
-                state: State::Hashed,
-                ..node
-            },
-        );
-        machine.set_frame(
-            cpu,
-            Frame {
-                place: Some(Pc::K2),
-                ..frame
-            },
-        );
+    if is_halted(machine.node(next).state) {
+        machine.set_state(next, State::Hashed);
+        machine.set_place(cpu, Pc::K2);
         return None;
     }
-    machine.leave(cpu);
-    machine.granted(cpu);
+    machine.leave_granted(cpu);
     None
 }
 
@@ -145,16 +100,9 @@ pub(crate) fn store_slow(machine: &mut Machine, cpu: u32) -> Option<Event>
     ensures next { machine.new ≡ (row machine.old cpu).0 }
     ensures event { result ≡ (row machine.old cpu).1 }
 {
-    let frame = machine.frame(cpu);
-    let word = machine.word(frame.lock);
-    machine.set_word(frame.lock, with_byte(word, Locked::Slow));
-    machine.set_frame(
-        cpu,
-        Frame {
-            place: Some(Pc::K3),
-            ..frame
-        },
-    );
+    let lock = machine.lock(cpu);
+    machine.set_locked(lock, Locked::Slow);
+    machine.set_place(cpu, Pc::K3);
     None
 }
 
@@ -167,7 +115,6 @@ pub(crate) fn enter_next(machine: &mut Machine, cpu: u32) -> Option<Event>
 {
     let frame = machine.frame(cpu);
     machine.hash_enter(frame.lock, known(frame.y));
-    machine.leave(cpu);
-    machine.granted(cpu);
+    machine.leave_granted(cpu);
     None
 }

@@ -1,13 +1,12 @@
 // A waiter that may pass the queue by.
 ghost use Rattle.std.specs.Prelude.{◌≡◌, Some};
 ghost use Rattle.lk_machine.specs.Machine.{top_frame};
-ghost use Rattle.lk_machine.specs.Rows.{row};
-ghost use Rattle.lk_machine.specs.PvRows.{after_given_up, after_glance};
+ghost use Rattle.lk_machine.specs.TopRow.{row};
+ghost use Rattle.lk_machine.specs.rows.Pv.{after_given_up, after_glance};
 ghost use Rattle.lk_pv.specs.Row.{IsPvReady};
 
-use crate::word::{event, is_unlocked, with_byte};
 use lk_abs::{Event, How, What};
-use lk_machine::{Frame, Machine, Pc};
+use lk_machine::{Frame, Machine, Pc, is_unlocked};
 use lk_word::{Fields, Locked, NodeName};
 
 // Where a waiter goes that may not steal: with a node it joins the queue.
@@ -33,8 +32,9 @@ fn after_glance(me: Option<NodeName>, word: Fields) -> Pc
     }
 }
 
-/// H1: looks at the word (`pv_hybrid_queued_unfair_trylock`). At `*,0,0` it goes on to steal; else at `t,0,*` with a tail t it looks
-/// again; else it gives up, and joins the queue, or without a node looks again.
+/// H1: looks at the word (`pv_hybrid_queued_unfair_trylock`). At `*,0,0` it goes on to steal; else
+/// at `t,0,*` with a tail t it looks again; else it gives up, and joins the queue, or without a
+/// node looks again.
 pub(crate) fn glance(machine: &mut Machine, cpu: u32) -> Option<Event>
     requires ready { IsPvReady machine.old cpu }
     requires here { (top_frame machine.old cpu).place ≡ Some Pc.H1 }
@@ -54,8 +54,9 @@ pub(crate) fn glance(machine: &mut Machine, cpu: u32) -> Option<Event>
     None
 }
 
-/// H2: `*,*,0 -> *,*,1`, by an exchange of the byte alone: it takes the lock past the queue (`pv_hybrid_queued_unfair_trylock`). At
-/// another byte nothing is stored; it looks again where H1 met a tail, and else gives up.
+/// H2: `*,*,0 -> *,*,1`, by an exchange of the byte alone: it takes the lock past the queue
+/// (`pv_hybrid_queued_unfair_trylock`). At another byte nothing is stored; it looks again where H1
+/// met a tail, and else gives up.
 #[tactic(auto, using(lk_machine::proofs::Kept::kept), unfolding(lk_machine::specs::Machine::set_word, lk_machine::specs::Machine::set_lock))]
 pub(crate) fn steal(machine: &mut Machine, cpu: u32) -> Option<Event>
     requires ready { IsPvReady machine.old cpu }
@@ -64,22 +65,21 @@ pub(crate) fn steal(machine: &mut Machine, cpu: u32) -> Option<Event>
     ensures event { result ≡ (row machine.old cpu).1 }
 {
     let frame = machine.frame(cpu);
-    let word = machine.word(frame.lock);
-    if is_unlocked(word) {
-        let mut counts = machine.counts();
-        counts.pv_lock_stealing += 1;
-        machine.set_word(frame.lock, with_byte(word, Locked::Held));
-        machine.set_counts(counts);
-        machine.leave(cpu);
-        machine.granted(cpu);
-        return Some(event(
+    let lock = frame.lock;
+    if is_unlocked(machine.word(lock)) {
+        let event = machine.event(
             cpu,
-            frame,
             What::Take {
-                lock: frame.lock,
+                lock,
                 how: How::Steal,
             },
-        ));
+        );
+        machine.set_locked(lock, Locked::Held);
+        let mut counts = machine.counts();
+        counts.pv_lock_stealing += 1;
+        machine.set_counts(counts);
+        machine.leave_granted(cpu);
+        return Some(event);
     }
     let place = if frame.tailed {
         Pc::H1

@@ -1,13 +1,13 @@
 // A waiter in the queue, which halts its processor after a while.
 ghost use Rattle.std.specs.Prelude.{◌≡◌, Some};
 ghost use Rattle.lk_machine.specs.Machine.{top_frame};
-ghost use Rattle.lk_machine.specs.Rows.{row};
-ghost use Rattle.lk_machine.specs.PvRows.{is_running, is_set};
+ghost use Rattle.lk_machine.specs.TopRow.{row};
+ghost use Rattle.lk_machine.specs.rows.Pv.{is_running, is_set};
 ghost use Rattle.lk_pv.specs.Row.{IsPvReady};
 
-use crate::word::{after_turn, event, is_halted, named};
+use crate::word::{after_turn, is_halted};
 use lk_abs::{Event, What};
-use lk_machine::{Flag, Frame, Machine, Node, Pc, State};
+use lk_machine::{Flag, Frame, Machine, Pc, State, named};
 
 // Whether a flag is set.
 fn is_set(flag: Flag) -> bool
@@ -40,8 +40,8 @@ pub(crate) fn spin(machine: &mut Machine, cpu: u32) -> Option<Event>
     None
 }
 
-/// W2: looks at the state of the one before it (`pv_wait_early`). While that is running and turns are left, it makes another turn; else
-/// it goes on to halt.
+/// W2: looks at the state of the one before it (`pv_wait_early`). While that is running and turns
+/// are left, it makes another turn; else it goes on to halt.
 pub(crate) fn watch(machine: &mut Machine, cpu: u32) -> Option<Event>
     requires ready { IsPvReady machine.old cpu }
     requires here { (top_frame machine.old cpu).place ≡ Some Pc.W2 }
@@ -66,21 +66,8 @@ pub(crate) fn say_halted(machine: &mut Machine, cpu: u32) -> Option<Event>
 {
     let frame = machine.frame(cpu);
     let me = named(frame.me);
-    let node = machine.node(me);
-    machine.set_node(
-        me,
-        Node {
-            state: State::Halted,
-            ..node
-        },
-    );
-    machine.set_frame(
-        cpu,
-        Frame {
-            place: Some(Pc::W4),
-            ..frame
-        },
-    );
+    machine.set_state(me, State::Halted);
+    machine.set_place(cpu, Pc::W4);
     None
 }
 
@@ -99,13 +86,7 @@ pub(crate) fn look_once_more(machine: &mut Machine, cpu: u32) -> Option<Event>
     let mut counts = machine.counts();
     counts.pv_wait_node += 1;
     machine.set_counts(counts);
-    machine.set_frame(
-        cpu,
-        Frame {
-            place: Some(Pc::W5),
-            ..frame
-        },
-    );
+    machine.set_place(cpu, Pc::W5);
     None
 }
 
@@ -123,26 +104,23 @@ pub(crate) fn test_state(machine: &mut Machine, cpu: u32) -> Option<Event>
     None
 }
 
-/// W6: the processor: running -> halted (`pv_wait`). The place stays; the end of the halt moves it on.
+/// W6: the processor: running -> halted (`pv_wait`). The place stays; the end of the halt moves it
+/// on.
 pub(crate) fn halt(machine: &mut Machine, cpu: u32) -> Option<Event>
     requires ready { IsPvReady machine.old cpu }
     requires here { (top_frame machine.old cpu).place ≡ Some Pc.W6 }
     ensures next { machine.new ≡ (row machine.old cpu).0 }
     ensures event { result ≡ (row machine.old cpu).1 }
 {
-    let frame = machine.frame(cpu);
+    let lock = machine.lock(cpu);
+    let event = machine.event(cpu, What::Halt { lock });
     machine.set_halted(cpu, true);
-    machine.set_frame(
-        cpu,
-        Frame {
-            place: Some(Pc::W6),
-            ..frame
-        },
-    );
-    Some(event(cpu, frame, What::Halt { lock: frame.lock }))
+    machine.set_place(cpu, Pc::W6);
+    Some(event)
 }
 
-/// W7: own state: halted -> running, by an exchange; another state stays (`pv_wait_node`). Either way it spins anew.
+/// W7: own state: halted -> running, by an exchange; another state stays (`pv_wait_node`). Either
+/// way it spins anew.
 pub(crate) fn say_running(machine: &mut Machine, cpu: u32) -> Option<Event>
     requires ready { IsPvReady machine.old cpu }
     requires here { (top_frame machine.old cpu).place ≡ Some Pc.W7 }
@@ -151,16 +129,9 @@ pub(crate) fn say_running(machine: &mut Machine, cpu: u32) -> Option<Event>
 {
     let frame = machine.frame(cpu);
     let me = named(frame.me);
-    let node = machine.node(me);
     let left = machine.spins();
-    if is_halted(node.state) {
-        machine.set_node(
-            me,
-            Node {
-                state: State::Running,
-                ..node
-            },
-        );
+    if is_halted(machine.node(me).state) {
+        machine.set_state(me, State::Running);
     }
     machine.set_frame(
         cpu,

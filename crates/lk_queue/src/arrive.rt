@@ -4,23 +4,13 @@ ghost use Rattle.lk_machine.specs.Machine.{top_frame};
 ghost use Rattle.lk_machine.specs.Moves.{node_of};
 ghost use Rattle.lk_machine.specs.Ready.{IsReady, CountsWithin};
 ghost use Rattle.lk_machine.specs.Row.{count_all, with_rest};
-ghost use Rattle.lk_machine.specs.Rows.{row, on_word};
-ghost use Rattle.lk_machine.specs.QueueRows.{own_node, after_entry, entry_counts, takes_out, after_arrival, after_link};
+ghost use Rattle.lk_machine.specs.TopRow.{row, on_word};
+ghost use Rattle.lk_machine.specs.rows.Queue.{own_node, after_entry, entry_counts, takes_out, after_arrival, after_link};
 ghost use Rattle.lk_queue.specs.Row.{HasOwn, frame_after};
 
-use crate::word::{event, is_free, word_met};
 use lk_abs::{Event, How, Mode, What};
-use lk_machine::{Counts, Flag, Frame, Machine, Node, Pc, State};
-use lk_word::{Fields, Locked, NodeName};
-
-// A node that no other can reach yet.
-const REST: Node = Node {
-    flag: Flag::Unset,
-    next: None,
-    second_tail: None,
-    runs: 0,
-    state: State::Running,
-};
+use lk_machine::{Counts, Flag, Frame, HELD, Machine, Pc, is_free, named};
+use lk_word::NodeName;
 
 // The node that a frame gets where so many frames of its processor are in the slow path.
 fn own_node(cpu: u32, queued: u32) -> Option<NodeName>
@@ -68,12 +58,12 @@ fn reset(machine: &mut Machine, me: Option<NodeName>)
     ensures { machine.new ≡ with_rest machine.old me }
 {
     if let Some(node) = me {
-        machine.set_node(node, REST);
+        machine.reset_node(node);
     }
 }
 
-/// G1: takes the next node of its processor, at rest, if one of the four is left. Frames nest, so the nodes below the count are
-/// those of the frames below.
+/// G1: takes the next node of its processor, at rest, if one of the four is left. Frames nest, so
+/// the nodes below the count are those of the frames below.
 #[tactic(auto, using(lk_machine::proofs::Kept::kept, crate::proofs::Own::own_is_there), unfolding(lk_machine::specs::Machine::set_queued, lk_machine::specs::Machine::set_cpu))]
 pub(crate) fn enter(machine: &mut Machine, cpu: u32) -> Option<Event>
     requires ready { IsReady machine.old cpu }
@@ -105,28 +95,18 @@ pub(crate) fn enter(machine: &mut Machine, cpu: u32) -> Option<Event>
 // Takes the free word, and leaves the slow path.
 pub(crate) fn take_out(machine: &mut Machine, cpu: u32, how: How) -> Event
     requires { IsReady machine.old cpu }
-    ensures next { machine.new ≡ (on_word machine.old cpu (top_frame machine.old cpu) (takes_out (top_frame machine.old cpu) how)).0 }
-    ensures event { Some result ≡ (on_word machine.old cpu (top_frame machine.old cpu) (takes_out (top_frame machine.old cpu) how)).1 }
+    ensures next { machine.new
+        ≡ (on_word machine.old cpu (top_frame machine.old cpu)
+        (takes_out (top_frame machine.old cpu) how)).0 }
+    ensures event { Some result
+        ≡ (on_word machine.old cpu (top_frame machine.old cpu)
+        (takes_out (top_frame machine.old cpu) how)).1 }
 {
-    let frame = machine.frame(cpu);
-    machine.set_word(
-        frame.lock,
-        Fields {
-            locked: Locked::Held,
-            pending: false,
-            tail: None,
-        },
-    );
-    machine.leave(cpu);
-    machine.granted(cpu);
-    event(
-        cpu,
-        frame,
-        What::Take {
-            lock: frame.lock,
-            how,
-        },
-    )
+    let lock = machine.lock(cpu);
+    let event = machine.event(cpu, What::Take { lock, how });
+    machine.set_word(lock, HELD);
+    machine.leave_granted(cpu);
+    event
 }
 
 /// G2: looks once more whether the word is free, before it touches the queue.
@@ -136,7 +116,7 @@ pub(crate) fn look_again(machine: &mut Machine, cpu: u32) -> Option<Event>
     ensures next { machine.new ≡ (row machine.old cpu).0 }
     ensures event { result ≡ (row machine.old cpu).1 }
 {
-    let place = if is_free(word_met(machine, cpu)) {
+    let place = if is_free(machine.word_met(cpu)) {
         Pc::G3
     } else {
         Pc::G4
@@ -152,7 +132,7 @@ pub(crate) fn swap_again(machine: &mut Machine, cpu: u32) -> Option<Event>
     ensures next { machine.new ≡ (row machine.old cpu).0 }
     ensures event { result ≡ (row machine.old cpu).1 }
 {
-    if is_free(word_met(machine, cpu)) {
+    if is_free(machine.word_met(cpu)) {
         return Some(take_out(machine, cpu, How::Retry));
     }
     machine.set_place(cpu, Pc::G4);
@@ -179,8 +159,8 @@ fn arrived(mode: Mode, frame: Frame, met: Option<NodeName>) -> Frame
     }
 }
 
-/// G4: exchanges the tail with its own node, and keeps the locked byte and the pending bit. From here on it has its place in
-/// the queue, though the node before it does not know of it yet.
+/// G4: exchanges the tail with its own node, and keeps the locked byte and the pending bit. From
+/// here on it has its place in the queue, though the node before it does not know of it yet.
 pub(crate) fn exchange_tail(machine: &mut Machine, cpu: u32) -> Option<Event>
     requires ready { IsReady machine.old cpu }
     requires here { (top_frame machine.old cpu).place ≡ Some Pc.G4 }
@@ -190,22 +170,10 @@ pub(crate) fn exchange_tail(machine: &mut Machine, cpu: u32) -> Option<Event>
     let frame = machine.frame(cpu);
     let word = machine.word(frame.lock);
     let mode = machine.mode();
-    machine.set_word(
-        frame.lock,
-        Fields {
-            tail: frame.me,
-            ..word
-        },
-    );
+    let event = machine.event(cpu, What::Arrive { lock: frame.lock });
+    machine.set_tail(frame.lock, frame.me);
     machine.set_frame(cpu, arrived(mode, frame, word.tail));
-    Some(event(cpu, frame, What::Arrive { lock: frame.lock }))
-}
-
-// The node that a frame names; where it names none, its row is not reached.
-pub(crate) fn named(node: Option<NodeName>) -> NodeName
-    ensures { result ≡ node_of node }
-{
-    node.unwrap_or(NodeName { cpu: 0, index: 0 })
+    Some(event)
 }
 
 // Where a waiter goes that has linked its node.
@@ -225,7 +193,8 @@ fn linked(mode: Mode, spins: u32, frame: Frame) -> Frame
     }
 }
 
-/// G5: links its node behind the one before it. Only this waiter links there: it met that node as the tail.
+/// G5: links its node behind the one before it. Only this waiter links there: it met that node as
+/// the tail.
 #[tactic(auto, using(lk_machine::proofs::Kept::kept, crate::proofs::Leads::link_leads))]
 pub(crate) fn link(machine: &mut Machine, cpu: u32) -> Option<Event>
     requires ready { IsReady machine.old cpu }
@@ -235,15 +204,8 @@ pub(crate) fn link(machine: &mut Machine, cpu: u32) -> Option<Event>
 {
     let frame = machine.frame(cpu);
     let prev = named(frame.prev);
-    let node = machine.node(prev);
     let after = linked(machine.mode(), machine.spins(), frame);
-    machine.set_node(
-        prev,
-        Node {
-            next: frame.me,
-            ..node
-        },
-    );
+    machine.set_next(prev, frame.me);
     machine.set_frame(cpu, after);
     None
 }
@@ -278,7 +240,7 @@ pub(crate) fn look_bare(machine: &mut Machine, cpu: u32) -> Option<Event>
     ensures next { machine.new ≡ (row machine.old cpu).0 }
     ensures event { result ≡ (row machine.old cpu).1 }
 {
-    let place = if is_free(word_met(machine, cpu)) {
+    let place = if is_free(machine.word_met(cpu)) {
         Pc::N2
     } else {
         Pc::N1
@@ -294,7 +256,7 @@ pub(crate) fn swap_bare(machine: &mut Machine, cpu: u32) -> Option<Event>
     ensures next { machine.new ≡ (row machine.old cpu).0 }
     ensures event { result ≡ (row machine.old cpu).1 }
 {
-    if is_free(word_met(machine, cpu)) {
+    if is_free(machine.word_met(cpu)) {
         return Some(take_out(machine, cpu, How::NoNode));
     }
     machine.set_place(cpu, Pc::N1);

@@ -1,26 +1,14 @@
 // The front of the queue, up to the handover.
 ghost use Rattle.std.specs.Prelude.{◌≡◌, Some};
 ghost use Rattle.lk_machine.specs.Machine.{top_frame};
-ghost use Rattle.lk_machine.specs.Moves.{is_node};
 ghost use Rattle.lk_machine.specs.Ready.{IsReady};
-ghost use Rattle.lk_machine.specs.Rows.{row};
-ghost use Rattle.lk_machine.specs.QueueRows.{after_look, is_sole, after_head};
+ghost use Rattle.lk_machine.specs.TopRow.{row};
+ghost use Rattle.lk_machine.specs.rows.Queue.{after_look, is_sole, after_head};
 
-use crate::arrive::{named, take_out};
-use crate::word::{event, is_unlocked, word_met};
+use crate::arrive::take_out;
 use lk_abs::{Event, How, Mode, What};
-use lk_machine::{Flag, Frame, Machine, Node, Pc};
-use lk_word::{Fields, Locked, NodeName};
-
-// Whether the word's tail is this node.
-fn is_tail(word: Fields, node: NodeName) -> bool
-    ensures { result ≡ is_node word.tail node }
-{
-    match word.tail {
-        Some(tail) => tail.cpu == node.cpu && tail.index == node.index,
-        None => false,
-    }
-}
+use lk_machine::{Flag, Frame, Machine, Pc, is_tail, is_unlocked, named};
+use lk_word::{Fields, Locked};
 
 // Where the front goes that looked at the word.
 fn after_look(frame: Frame, word: Fields) -> Pc
@@ -36,8 +24,9 @@ fn after_look(frame: Frame, word: Fields) -> Pc
     }
 }
 
-/// G7: waits as the front until the lock is free and no pending waiter is about to take it. From then on nobody else may: a fast
-/// path meets the tail, and a pending bit set on a word with a tail is cleared again.
+/// G7: waits as the front until the lock is free and no pending waiter is about to take it. From
+/// then on nobody else may: a fast path meets the tail, and a pending bit set on a word with a tail
+/// is cleared again.
 pub(crate) fn wait_as_front(machine: &mut Machine, cpu: u32) -> Option<Event>
     requires ready { IsReady machine.old cpu }
     requires here { (top_frame machine.old cpu).place ≡ Some Pc.G7 }
@@ -57,8 +46,8 @@ fn is_sole(frame: Frame, word: Fields) -> bool
     is_unlocked(word) && !word.pending && is_tail(word, named(frame.me))
 }
 
-/// G8: swaps the word to locked with no queue, where it is alone in it; if a waiter or a pending bit came meanwhile, it keeps the
-/// queue.
+/// G8: swaps the word to locked with no queue, where it is alone in it; if a waiter or a pending
+/// bit came meanwhile, it keeps the queue.
 pub(crate) fn take_sole(machine: &mut Machine, cpu: u32) -> Option<Event>
     requires ready { IsReady machine.old cpu }
     requires here { (top_frame machine.old cpu).place ≡ Some Pc.G8 }
@@ -83,41 +72,31 @@ fn after_head(mode: Mode) -> Pc
     }
 }
 
-/// G9: stores locked. The byte is free since G7, and only the front may take it, so a plain store of the byte will do.
+/// G9: stores locked. The byte is free since G7, and only the front may take it, so a plain store
+/// of the byte will do.
 pub(crate) fn take_head(machine: &mut Machine, cpu: u32) -> Option<Event>
     requires ready { IsReady machine.old cpu }
     requires here { (top_frame machine.old cpu).place ≡ Some Pc.G9 }
     ensures next { machine.new ≡ (row machine.old cpu).0 }
     ensures event { result ≡ (row machine.old cpu).1 }
 {
-    let frame = machine.frame(cpu);
-    let word = machine.word(frame.lock);
-    let place = after_head(machine.mode());
-    machine.set_word(
-        frame.lock,
-        Fields {
-            locked: Locked::Held,
-            ..word
-        },
-    );
-    machine.set_frame(
+    let lock = machine.lock(cpu);
+    let event = machine.event(
         cpu,
-        Frame {
-            place: Some(place),
-            ..frame
-        },
-    );
-    Some(event(
-        cpu,
-        frame,
         What::Take {
-            lock: frame.lock,
+            lock,
             how: How::Head,
         },
-    ))
+    );
+    let place = after_head(machine.mode());
+    machine.set_locked(lock, Locked::Held);
+    machine.set_place(cpu, place);
+    Some(event)
 }
 
-/// G10: waits for the next waiter to link its node; it has the tail, so it will.
+/// G10: looks at its own link until the next waiter has stored it. Who has taken the tail will;
+/// after a claim that failed by a pending bit nobody may have, and then it looks until somebody
+/// comes.
 pub(crate) fn wait_for_next(machine: &mut Machine, cpu: u32) -> Option<Event>
     requires ready { IsReady machine.old cpu }
     requires here { (top_frame machine.old cpu).place ≡ Some Pc.G10 }
@@ -148,24 +127,15 @@ pub(crate) fn hand_on(machine: &mut Machine, cpu: u32) -> Option<Event>
 {
     let frame = machine.frame(cpu);
     let next = named(frame.y);
-    let to = machine.waiter_of(next);
-    let node = machine.node(next);
-    machine.set_node(
-        next,
-        Node {
-            flag: Flag::Go,
-            ..node
-        },
-    );
-    machine.leave(cpu);
-    machine.granted(cpu);
-    Some(event(
+    let event = machine.event(
         cpu,
-        frame,
         What::Pass {
             lock: frame.lock,
-            to,
+            to: machine.waiter_of(next),
             moved: 0,
         },
-    ))
+    );
+    machine.set_flag(next, Flag::Go);
+    machine.leave_granted(cpu);
+    Some(event)
 }

@@ -1,15 +1,13 @@
 // The rows of readers.
 ghost use Rattle.std.specs.Prelude.{◌≡◌, None, Some};
 ghost use Rattle.lk_machine.specs.Machine.{top_frame, rw_at};
-ghost use Rattle.lk_machine.specs.Rows.{row, on_rw};
+ghost use Rattle.lk_machine.specs.TopRow.{row, on_rw};
 ghost use Rattle.lk_machine.specs.Row.{Done};
 ghost use Rattle.lk_machine.specs.Ready.{IsReady};
-ghost use Rattle.lk_machine.specs.RwRows.{admits, takes_written, one_more, one_less};
+ghost use Rattle.lk_machine.specs.rows.Rw.{admits, takes_written, one_more, one_less};
 ghost use Rattle.lk_rw.specs.Row.{IsRwReady};
 
-use crate::word::{
-    event, is_cleared, is_empty, is_open, lock_of, miss, one_less, one_more, word_met, written_word,
-};
+use crate::word::{is_open, lock_of, miss, one_less, one_more};
 use lk_abs::{Event, RwHow, What};
 use lk_machine::{Machine, Pc};
 use lk_word::RwFields;
@@ -18,31 +16,30 @@ use lk_word::RwFields;
 fn admit_more(machine: &mut Machine, cpu: u32, word: RwFields, how: RwHow) -> Event
     requires ready { IsRwReady machine.old cpu }
     requires met { word ≡ rw_at machine.old (top_frame machine.old cpu).lock.index }
-    ensures next { machine.new ≡ (on_rw machine.old cpu (top_frame machine.old cpu) (admits (top_frame machine.old cpu) (Some (one_more word)) how Done)).0 }
-    ensures event { Some result ≡ (on_rw machine.old cpu (top_frame machine.old cpu) (admits (top_frame machine.old cpu) (Some (one_more word)) how Done)).1 }
+    ensures next { machine.new
+        ≡ (on_rw machine.old cpu (top_frame machine.old cpu)
+        (admits (top_frame machine.old cpu) (Some (one_more word)) how Done)).0 }
+    ensures event { Some result
+        ≡ (on_rw machine.old cpu (top_frame machine.old cpu)
+        (admits (top_frame machine.old cpu) (Some (one_more word)) how Done)).1 }
 {
-    let frame = machine.frame(cpu);
-    machine.set_rw(frame.lock.index, one_more(word));
+    let lock = lock_of(machine, cpu);
+    let event = machine.event(cpu, What::RTake { lock, how });
+    machine.set_rw(lock.index, one_more(word));
     machine.done(cpu);
-    event(
-        cpu,
-        frame,
-        What::RTake {
-            lock: lock_of(frame),
-            how,
-        },
-    )
+    event
 }
 
-/// R1: adds a reader, `r,w,x -> r+1,w,x`. If nobody waits and no writer is in (`r,0,0 -> r+1,0,0`) it has come in; else a reader in an
-/// interrupt goes on to wait for the writer alone, and a task's reader to take itself back.
+/// R1: adds a reader, `r,w,x -> r+1,w,x`. If nobody waits and no writer is in (`r,0,0 -> r+1,0,0`)
+/// it has come in; else a reader in an interrupt goes on to wait for the writer alone, and a task's
+/// reader to take itself back.
 pub(crate) fn first(machine: &mut Machine, cpu: u32) -> Option<Event>
     requires ready { IsRwReady machine.old cpu }
     requires here { (top_frame machine.old cpu).place ≡ Some Pc.R1 }
     ensures next { machine.new ≡ (row machine.old cpu).0 }
     ensures event { result ≡ (row machine.old cpu).1 }
 {
-    let word = word_met(machine, cpu);
+    let word = machine.rw_met(cpu);
     if is_open(word) {
         return Some(admit_more(machine, cpu, word, RwHow::Fast));
     }
@@ -53,28 +50,29 @@ pub(crate) fn first(machine: &mut Machine, cpu: u32) -> Option<Event>
     None
 }
 
-/// R2: looks until no writer is in, past those that wait: an interrupt must not queue behind a writer that may wait for the reader
-/// below it. Its bias stays in the word, so that no writer comes in meanwhile.
+/// R2: looks until no writer is in, past those that wait: an interrupt must not queue behind a
+/// writer that may wait for the reader below it. Its bias stays in the word, so that no writer
+/// comes in meanwhile.
 pub(crate) fn spin(machine: &mut Machine, cpu: u32) -> Option<Event>
     requires ready { IsRwReady machine.old cpu }
     requires here { (top_frame machine.old cpu).place ≡ Some Pc.R2 }
     ensures next { machine.new ≡ (row machine.old cpu).0 }
     ensures event { result ≡ (row machine.old cpu).1 }
 {
-    if word_met(machine, cpu).writer {
+    if machine.rw_met(cpu).writer {
         machine.set_place(cpu, Pc::R2);
         return None;
     }
-    let frame = machine.frame(cpu);
-    machine.done(cpu);
-    Some(event(
+    let lock = lock_of(machine, cpu);
+    let event = machine.event(
         cpu,
-        frame,
         What::RTake {
-            lock: lock_of(frame),
+            lock,
             how: RwHow::Irq,
         },
-    ))
+    );
+    machine.done(cpu);
+    Some(event)
 }
 
 /// R3: takes its bias back, `r,w,x -> r-1,w,x`, and goes to take the wait lock.
@@ -84,9 +82,9 @@ pub(crate) fn retreat(machine: &mut Machine, cpu: u32) -> Option<Event>
     ensures next { machine.new ≡ (row machine.old cpu).0 }
     ensures event { result ≡ (row machine.old cpu).1 }
 {
-    let word = word_met(machine, cpu);
-    let frame = machine.frame(cpu);
-    machine.set_rw(frame.lock.index, one_less(word));
+    let word = machine.rw_met(cpu);
+    let lock = machine.lock(cpu);
+    machine.set_rw(lock.index, one_less(word));
     machine.take_wait(cpu, Pc::R4);
     None
 }
@@ -98,45 +96,47 @@ pub(crate) fn join(machine: &mut Machine, cpu: u32) -> Option<Event>
     ensures next { machine.new ≡ (row machine.old cpu).0 }
     ensures event { result ≡ (row machine.old cpu).1 }
 {
-    let word = word_met(machine, cpu);
-    let frame = machine.frame(cpu);
-    machine.set_rw(frame.lock.index, one_more(word));
+    let word = machine.rw_met(cpu);
+    let lock = machine.lock(cpu);
+    machine.set_rw(lock.index, one_more(word));
     machine.set_place(cpu, Pc::R5);
     None
 }
 
-/// R5: looks until no writer is in, and has then come in; it goes on to free the wait lock for the next.
+/// R5: looks until no writer is in, and has then come in; it goes on to free the wait lock for the
+/// next.
 pub(crate) fn wait(machine: &mut Machine, cpu: u32) -> Option<Event>
     requires ready { IsRwReady machine.old cpu }
     requires here { (top_frame machine.old cpu).place ≡ Some Pc.R5 }
     ensures next { machine.new ≡ (row machine.old cpu).0 }
     ensures event { result ≡ (row machine.old cpu).1 }
 {
-    let word = word_met(machine, cpu);
+    let word = machine.rw_met(cpu);
     if word.writer {
         machine.set_place(cpu, Pc::R5);
         return None;
     }
-    let frame = machine.frame(cpu);
-    machine.free_wait(cpu);
-    Some(event(
+    let lock = lock_of(machine, cpu);
+    let event = machine.event(
         cpu,
-        frame,
         What::RTake {
-            lock: lock_of(frame),
+            lock,
             how: RwHow::Queued,
         },
-    ))
+    );
+    machine.free_wait(cpu);
+    Some(event)
 }
 
-/// Y1: looks whether a reader may come in: nobody waits, and no writer is in. If not, the try has failed.
+/// Y1: looks whether a reader may come in: nobody waits, and no writer is in. If not, the try has
+/// failed.
 pub(crate) fn try_look(machine: &mut Machine, cpu: u32) -> Option<Event>
     requires ready { IsRwReady machine.old cpu }
     requires here { (top_frame machine.old cpu).place ≡ Some Pc.Y1 }
     ensures next { machine.new ≡ (row machine.old cpu).0 }
     ensures event { result ≡ (row machine.old cpu).1 }
 {
-    if is_open(word_met(machine, cpu)) {
+    if is_open(machine.rw_met(cpu)) {
         machine.set_place(cpu, Pc::Y2);
         return None;
     }
@@ -150,12 +150,12 @@ pub(crate) fn try_add(machine: &mut Machine, cpu: u32) -> Option<Event>
     ensures next { machine.new ≡ (row machine.old cpu).0 }
     ensures event { result ≡ (row machine.old cpu).1 }
 {
-    let word = word_met(machine, cpu);
+    let word = machine.rw_met(cpu);
     if is_open(word) {
         return Some(admit_more(machine, cpu, word, RwHow::Try));
     }
-    let frame = machine.frame(cpu);
-    machine.set_rw(frame.lock.index, one_more(word));
+    let lock = machine.lock(cpu);
+    machine.set_rw(lock.index, one_more(word));
     machine.set_place(cpu, Pc::Y3);
     None
 }
@@ -167,17 +167,12 @@ pub(crate) fn try_fail(machine: &mut Machine, cpu: u32) -> Option<Event>
     ensures next { machine.new ≡ (row machine.old cpu).0 }
     ensures event { result ≡ (row machine.old cpu).1 }
 {
-    let word = word_met(machine, cpu);
-    let frame = machine.frame(cpu);
-    machine.set_rw(frame.lock.index, one_less(word));
+    let word = machine.rw_met(cpu);
+    let lock = lock_of(machine, cpu);
+    let event = machine.event(cpu, What::Miss { lock });
+    machine.set_rw(lock.index, one_less(word));
     machine.missed(cpu);
-    Some(event(
-        cpu,
-        frame,
-        What::Miss {
-            lock: lock_of(frame),
-        },
-    ))
+    Some(event)
 }
 
 /// Z1: a reader releases, `r,w,x -> r-1,w,x`.
@@ -187,15 +182,10 @@ pub(crate) fn release(machine: &mut Machine, cpu: u32) -> Option<Event>
     ensures next { machine.new ≡ (row machine.old cpu).0 }
     ensures event { result ≡ (row machine.old cpu).1 }
 {
-    let word = word_met(machine, cpu);
-    let frame = machine.frame(cpu);
-    machine.set_rw(frame.lock.index, one_less(word));
+    let word = machine.rw_met(cpu);
+    let lock = lock_of(machine, cpu);
+    let event = machine.event(cpu, What::RRelease { lock });
+    machine.set_rw(lock.index, one_less(word));
     machine.done(cpu);
-    Some(event(
-        cpu,
-        frame,
-        What::RRelease {
-            lock: lock_of(frame),
-        },
-    ))
+    Some(event)
 }

@@ -1,12 +1,12 @@
 // What the rows do with the word of a reader-writer lock.
 ghost use Rattle.std.specs.Prelude.{◌≡◌, ◌+◌, ◌<◌, ◌^◌};
-ghost use Rattle.lk_machine.specs.Machine.{top_frame, rw_at};
+ghost use Rattle.lk_machine.specs.Machine.{HasTop, top_frame};
 ghost use Rattle.lk_machine.specs.Moves.{missed};
-ghost use Rattle.lk_machine.specs.RwRows.{is_empty, is_open, is_cleared, one_more, one_less, written_word, rw_lock};
+ghost use Rattle.lk_machine.specs.rows.Rw.{is_empty, is_open, is_cleared, one_more, one_less, written_word, rw_lock};
 ghost use Rattle.lk_machine.specs.Ready.{IsReady};
 
-use lk_abs::{Event, LockName, Waiter, What};
-use lk_machine::{Frame, Machine};
+use lk_abs::{Event, LockName, What};
+use lk_machine::Machine;
 use lk_word::RwFields;
 
 // Whether the word has no reader and no writer, and nobody waits.
@@ -62,35 +62,14 @@ pub(crate) fn written_word() -> RwFields
     }
 }
 
-// The word that its frame meets.
-pub(crate) fn word_met(machine: &Machine, cpu: u32) -> RwFields
-    requires { IsReady machine.now cpu }
-    ensures { result ≡ rw_at machine.now (top_frame machine.now cpu).lock.index }
-{
-    let frame = machine.frame(cpu);
-    machine.rw(frame.lock.index)
-}
-
-// The lock of its frame's operation.
-pub(crate) fn lock_of(frame: Frame) -> LockName
-    ensures { result ≡ rw_lock frame }
+// The reader-writer lock of the top frame's operation.
+pub(crate) fn lock_of(machine: &Machine, cpu: u32) -> LockName
+    requires { HasTop machine.now cpu }
+    ensures { result ≡ rw_lock (top_frame machine.now cpu) }
 {
     LockName {
-        index: frame.lock.index,
+        index: machine.lock(cpu).index,
         wait: false,
-    }
-}
-
-// An event of the top frame.
-pub(crate) fn event(cpu: u32, frame: Frame, what: What) -> Event
-    ensures { result ≡ record { by = record { cpu = cpu; ctx = frame.ctx }; what = what } }
-{
-    Event {
-        by: Waiter {
-            cpu,
-            ctx: frame.ctx,
-        },
-        what,
     }
 }
 
@@ -98,15 +77,19 @@ pub(crate) fn event(cpu: u32, frame: Frame, what: What) -> Event
 pub(crate) fn miss(machine: &mut Machine, cpu: u32) -> Event
     requires { IsReady machine.old cpu }
     ensures next { machine.new ≡ missed machine.old cpu }
-    ensures event { result ≡ record { by = record { cpu = cpu; ctx = (top_frame machine.old cpu).ctx }; what = What.Miss (rw_lock (top_frame machine.old cpu)) } }
+    ensures event { result
+        ≡ record {
+          by = record {
+            cpu = cpu;
+            ctx =
+                (top_frame machine.old cpu).ctx;
+          };
+          what = What.Miss
+              (rw_lock (top_frame machine.old cpu));
+        } }
 {
-    let frame = machine.frame(cpu);
+    let lock = lock_of(machine, cpu);
+    let event = machine.event(cpu, What::Miss { lock });
     machine.missed(cpu);
-    event(
-        cpu,
-        frame,
-        What::Miss {
-            lock: lock_of(frame),
-        },
-    )
+    event
 }

@@ -3,41 +3,33 @@ ghost use Rattle.std.specs.Prelude.{◌≡◌, None, Some};
 ghost use Rattle.lk_machine.specs.Machine.{top_frame};
 ghost use Rattle.lk_machine.specs.Ready.{IsReady};
 ghost use Rattle.lk_machine.specs.Moves.{missed};
-ghost use Rattle.lk_machine.specs.Rows.{row, on_word};
-ghost use Rattle.lk_machine.specs.SpinRows.{after_fast, to_queue, takes};
+ghost use Rattle.lk_machine.specs.TopRow.{row, on_word};
+ghost use Rattle.lk_machine.specs.rows.Spin.{after_fast, to_queue, takes};
 
-use crate::word::{event, is_free, is_unlocked, word_met};
 use lk_abs::{Event, How, Mode, What};
-use lk_machine::{Machine, Pc};
+use lk_machine::{HELD, Machine, Pc, is_free, is_unlocked};
 use lk_word::{Fields, Locked};
 
-// Takes the free word: no other field is set, so the word with the locked byte alone is what the exchange leaves.
+// Takes the free word: no other field is set, so the word with the locked byte alone is what the
+// exchange leaves.
 fn take(machine: &mut Machine, cpu: u32, how: How) -> Event
     requires { IsReady machine.old cpu }
-    ensures next { machine.new ≡ (on_word machine.old cpu (top_frame machine.old cpu) (takes (top_frame machine.old cpu) how)).0 }
-    ensures event { Some result ≡ (on_word machine.old cpu (top_frame machine.old cpu) (takes (top_frame machine.old cpu) how)).1 }
+    ensures next { machine.new
+        ≡ (on_word machine.old cpu (top_frame machine.old cpu)
+        (takes (top_frame machine.old cpu) how)).0 }
+    ensures event { Some result
+        ≡ (on_word machine.old cpu (top_frame machine.old cpu)
+        (takes (top_frame machine.old cpu) how)).1 }
 {
-    let frame = machine.frame(cpu);
-    machine.set_word(
-        frame.lock,
-        Fields {
-            locked: Locked::Held,
-            pending: false,
-            tail: None,
-        },
-    );
+    let lock = machine.lock(cpu);
+    let event = machine.event(cpu, What::Take { lock, how });
+    machine.set_word(lock, HELD);
     machine.granted(cpu);
-    event(
-        cpu,
-        frame,
-        What::Take {
-            lock: frame.lock,
-            how,
-        },
-    )
+    event
 }
 
-// Where a word that is pending or has a queue sends to: the queue; else the pending bit is free to be set.
+// Where a word that is pending or has a queue sends to: the queue; else the pending bit is free to
+// be set.
 pub(crate) fn to_queue(word: Fields) -> Pc
     ensures { result ≡ to_queue word }
 {
@@ -60,14 +52,15 @@ fn after_fast(mode: Mode, word: Fields) -> Pc
     }
 }
 
-/// F1: swaps the word from free to locked. Who swaps is alone, since the word had no holder, no pending waiter and no queue.
+/// F1: swaps the word from free to locked. Who swaps is alone, since the word had no holder, no
+/// pending waiter and no queue.
 pub(crate) fn fast(machine: &mut Machine, cpu: u32) -> Option<Event>
     requires ready { IsReady machine.old cpu }
     requires here { (top_frame machine.old cpu).place ≡ Some Pc.F1 }
     ensures next { machine.new ≡ (row machine.old cpu).0 }
     ensures event { result ≡ (row machine.old cpu).1 }
 {
-    let word = word_met(machine, cpu);
+    let word = machine.word_met(cpu);
     if is_free(word) {
         return Some(take(machine, cpu, How::Fast));
     }
@@ -82,7 +75,7 @@ pub(crate) fn try_look(machine: &mut Machine, cpu: u32) -> Option<Event>
     ensures next { machine.new ≡ (row machine.old cpu).0 }
     ensures event { result ≡ (row machine.old cpu).1 }
 {
-    if is_free(word_met(machine, cpu)) {
+    if is_free(machine.word_met(cpu)) {
         machine.set_place(cpu, Pc::T2);
         return None;
     }
@@ -93,11 +86,20 @@ pub(crate) fn try_look(machine: &mut Machine, cpu: u32) -> Option<Event>
 fn miss(machine: &mut Machine, cpu: u32) -> Event
     requires { IsReady machine.old cpu }
     ensures next { machine.new ≡ missed machine.old cpu }
-    ensures event { result ≡ record { by = record { cpu = cpu; ctx = (top_frame machine.old cpu).ctx }; what = What.Miss (top_frame machine.old cpu).lock } }
+    ensures event { result
+        ≡ record {
+          by = record {
+            cpu = cpu;
+            ctx =
+                (top_frame machine.old cpu).ctx;
+          };
+          what = What.Miss (top_frame machine.old cpu).lock;
+        } }
 {
-    let frame = machine.frame(cpu);
+    let lock = machine.lock(cpu);
+    let event = machine.event(cpu, What::Miss { lock });
     machine.missed(cpu);
-    event(cpu, frame, What::Miss { lock: frame.lock })
+    event
 }
 
 /// T2: swaps the word from free to locked, once; if another was faster, the try has failed.
@@ -107,7 +109,7 @@ pub(crate) fn try_swap(machine: &mut Machine, cpu: u32) -> Option<Event>
     ensures next { machine.new ≡ (row machine.old cpu).0 }
     ensures event { result ≡ (row machine.old cpu).1 }
 {
-    if is_free(word_met(machine, cpu)) {
+    if is_free(machine.word_met(cpu)) {
         return Some(take(machine, cpu, How::Try));
     }
     Some(miss(machine, cpu))
@@ -120,24 +122,11 @@ pub(crate) fn release(machine: &mut Machine, cpu: u32) -> Option<Event>
     ensures next { machine.new ≡ (row machine.old cpu).0 }
     ensures event { result ≡ (row machine.old cpu).1 }
 {
-    let frame = machine.frame(cpu);
-    let word = machine.word(frame.lock);
-    machine.set_word(
-        frame.lock,
-        Fields {
-            locked: Locked::Free,
-            ..word
-        },
-    );
+    let lock = machine.lock(cpu);
+    let event = machine.event(cpu, What::Release { lock, owing: None });
+    machine.set_locked(lock, Locked::Free);
     machine.freed(cpu);
-    Some(event(
-        cpu,
-        frame,
-        What::Release {
-            lock: frame.lock,
-            owing: None,
-        },
-    ))
+    Some(event)
 }
 
 /// V1: looks until the word is free. Nothing is stored, so the waiters do not disturb the holder.
@@ -147,7 +136,7 @@ pub(crate) fn loop_look(machine: &mut Machine, cpu: u32) -> Option<Event>
     ensures next { machine.new ≡ (row machine.old cpu).0 }
     ensures event { result ≡ (row machine.old cpu).1 }
 {
-    let place = if is_free(word_met(machine, cpu)) {
+    let place = if is_free(machine.word_met(cpu)) {
         Pc::V2
     } else {
         Pc::V1
@@ -163,7 +152,7 @@ pub(crate) fn loop_swap(machine: &mut Machine, cpu: u32) -> Option<Event>
     ensures next { machine.new ≡ (row machine.old cpu).0 }
     ensures event { result ≡ (row machine.old cpu).1 }
 {
-    if is_free(word_met(machine, cpu)) {
+    if is_free(machine.word_met(cpu)) {
         return Some(take(machine, cpu, How::Virt));
     }
     machine.set_place(cpu, Pc::V1);

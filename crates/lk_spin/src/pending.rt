@@ -2,13 +2,12 @@
 ghost use Rattle.std.specs.Prelude.{◌≡◌, Some};
 ghost use Rattle.lk_machine.specs.Machine.{top_frame};
 ghost use Rattle.lk_machine.specs.Ready.{IsReady};
-ghost use Rattle.lk_machine.specs.Rows.{row};
-ghost use Rattle.lk_machine.specs.SpinRows.{after_pending};
+ghost use Rattle.lk_machine.specs.TopRow.{row};
+ghost use Rattle.lk_machine.specs.rows.Spin.{after_pending};
 
 use crate::fast::to_queue;
-use crate::word::{event, is_unlocked, word_met};
 use lk_abs::{Event, How, What};
-use lk_machine::{Frame, Machine, Pc};
+use lk_machine::{Machine, Pc, is_unlocked};
 use lk_word::{Fields, Locked};
 
 /// P0: looks once more at a word that was pending alone, and so about to be taken.
@@ -18,12 +17,13 @@ pub(crate) fn look_again(machine: &mut Machine, cpu: u32) -> Option<Event>
     ensures next { machine.new ≡ (row machine.old cpu).0 }
     ensures event { result ≡ (row machine.old cpu).1 }
 {
-    let word = word_met(machine, cpu);
+    let word = machine.word_met(cpu);
     machine.set_place(cpu, to_queue(word));
     None
 }
 
-// Where setting pending leads, by the word before it. Only who met no pending bit owns the one that it set.
+// Where setting pending leads, by the word before it. Only who met no pending bit owns the one that
+// it set.
 fn after_pending(word: Fields) -> Pc
     ensures { result ≡ after_pending word }
 {
@@ -45,22 +45,10 @@ pub(crate) fn set_pending(machine: &mut Machine, cpu: u32) -> Option<Event>
     ensures next { machine.new ≡ (row machine.old cpu).0 }
     ensures event { result ≡ (row machine.old cpu).1 }
 {
-    let frame = machine.frame(cpu);
-    let word = machine.word(frame.lock);
-    machine.set_word(
-        frame.lock,
-        Fields {
-            pending: true,
-            ..word
-        },
-    );
-    machine.set_frame(
-        cpu,
-        Frame {
-            place: Some(after_pending(word)),
-            ..frame
-        },
-    );
+    let lock = machine.lock(cpu);
+    let word = machine.word(lock);
+    machine.set_pending(lock, true);
+    machine.set_place(cpu, after_pending(word));
     None
 }
 
@@ -71,22 +59,9 @@ pub(crate) fn clear_pending(machine: &mut Machine, cpu: u32) -> Option<Event>
     ensures next { machine.new ≡ (row machine.old cpu).0 }
     ensures event { result ≡ (row machine.old cpu).1 }
 {
-    let frame = machine.frame(cpu);
-    let word = machine.word(frame.lock);
-    machine.set_word(
-        frame.lock,
-        Fields {
-            pending: false,
-            ..word
-        },
-    );
-    machine.set_frame(
-        cpu,
-        Frame {
-            place: Some(Pc::G1),
-            ..frame
-        },
-    );
+    let lock = machine.lock(cpu);
+    machine.set_pending(lock, false);
+    machine.set_place(cpu, Pc::G1);
     None
 }
 
@@ -97,7 +72,7 @@ pub(crate) fn watch(machine: &mut Machine, cpu: u32) -> Option<Event>
     ensures next { machine.new ≡ (row machine.old cpu).0 }
     ensures event { result ≡ (row machine.old cpu).1 }
 {
-    let place = if is_unlocked(word_met(machine, cpu)) {
+    let place = if is_unlocked(machine.word_met(cpu)) {
         Pc::P4
     } else {
         Pc::P3
@@ -114,26 +89,26 @@ pub(crate) fn take_pending(machine: &mut Machine, cpu: u32) -> Option<Event>
     ensures next { machine.new ≡ (row machine.old cpu).0 }
     ensures event { result ≡ (row machine.old cpu).1 }
 {
-    let frame = machine.frame(cpu);
-    let word = machine.word(frame.lock);
-    let mut counts = machine.counts();
-    counts.lock_pending += 1;
+    let lock = machine.lock(cpu);
+    let event = machine.event(
+        cpu,
+        What::Take {
+            lock,
+            how: How::Pending,
+        },
+    );
+    let word = machine.word(lock);
     machine.set_word(
-        frame.lock,
+        lock,
         Fields {
             locked: Locked::Held,
             pending: false,
             ..word
         },
     );
+    let mut counts = machine.counts();
+    counts.lock_pending += 1;
     machine.set_counts(counts);
     machine.granted(cpu);
-    Some(event(
-        cpu,
-        frame,
-        What::Take {
-            lock: frame.lock,
-            how: How::Pending,
-        },
-    ))
+    Some(event)
 }

@@ -1,8 +1,5 @@
 use Rattle.lk_machine.specs.declared.parts.Pc.TheVariants.{C7}
 use Rattle.lk_cna.proofs.hand.count.Goals as goal
 
-pub node-node-requires : goal.node-node-requires
-node-node-requires c = rw (c.named-next.ensures, c.frame-frame.ensures) (c.requires.ready.ready.reaches C7 c.requires.here)
-
-pub set_node-requires : goal.set_node-requires
-set_node-requires c = rw (c.named-next.ensures, c.frame-frame.ensures) (c.requires.ready.ready.reaches C7 c.requires.here)
+pub set_runs-requires : goal.set_runs-requires
+set_runs-requires c = rw (c.named-next.ensures, c.frame-frame.ensures) (c.requires.ready.ready.reaches C7 c.requires.here)

@@ -1,8 +1,5 @@
 use Rattle.lk_machine.specs.declared.parts.Pc.TheVariants.{C9}
 use Rattle.lk_cna.proofs.part.flush.Goals as goal
 
-pub node-node-requires : goal.node-node-requires
-node-node-requires c = rw (c.named-tail.ensures, c.frame-frame.ensures) (c.requires.ready.ready.reaches C9 c.requires.here)
-
-pub set_node-requires : goal.set_node-requires
-set_node-requires c = rw (c.named-tail.ensures, c.frame-frame.ensures) (c.requires.ready.ready.reaches C9 c.requires.here)
+pub set_next-requires : goal.set_next-requires
+set_next-requires c = rw (c.named-tail.ensures, c.frame-frame.ensures) (c.requires.ready.ready.reaches C9 c.requires.here)

@@ -1,8 +1,8 @@
 use Rattle.lk_machine.specs.declared.parts.Pc.TheVariants.{K1}
 use Rattle.lk_pv.proofs.hand.mark_hashed.Goals as goal
 
-pub node-node-requires : goal.node-node-requires
-node-node-requires c = rw (c.named-next.ensures, c.frame-frame.ensures) (c.requires.ready.ready.reaches K1 c.requires.here)
+pub node-requires : goal.node-requires
+node-requires c = rw (c.named-next.ensures, c.frame-frame.ensures) (c.requires.ready.ready.reaches K1 c.requires.here)
 
-pub set_node-requires : goal.set_node-requires
-set_node-requires c = rw (c.named-next.ensures, c.frame-frame.ensures) (c.requires.ready.ready.reaches K1 c.requires.here)
+pub set_state-requires : goal.set_state-requires
+set_state-requires c = rw (c.named-next.ensures, c.frame-frame.ensures) (c.requires.ready.ready.reaches K1 c.requires.here)

@@ -1,8 +1,5 @@
 use Rattle.lk_machine.specs.declared.parts.Pc.TheVariants.{W3}
 use Rattle.lk_pv.proofs.wait.say_halted.Goals as goal
 
-pub node-node-requires : goal.node-node-requires
-node-node-requires c = rw (c.named-me.ensures, c.frame-frame.ensures) (c.requires.ready.ready.reaches W3 c.requires.here)
-
-pub set_node-requires : goal.set_node-requires
-set_node-requires c = rw (c.named-me.ensures, c.frame-frame.ensures) (c.requires.ready.ready.reaches W3 c.requires.here)
+pub set_state-requires : goal.set_state-requires
+set_state-requires c = rw (c.named-me.ensures, c.frame-frame.ensures) (c.requires.ready.ready.reaches W3 c.requires.here)

@@ -1,11 +1,8 @@
 use Rattle.lk_machine.specs.declared.parts.Pc.TheVariants.{G11}
 use Rattle.lk_queue.proofs.front.hand_on.Goals as goal
 
-pub waiter_of-to-requires : goal.waiter_of-to-requires
-waiter_of-to-requires c = rw (c.named-next.ensures, c.frame-frame.ensures) (c.requires.ready.reaches G11 c.requires.here).cpu
+pub waiter_of-requires : goal.waiter_of-requires
+waiter_of-requires c = rw (c.named-next.ensures, c.frame-frame.ensures) (c.requires.ready.reaches G11 c.requires.here).cpu
 
-pub node-node-requires : goal.node-node-requires
-node-node-requires c = rw (c.named-next.ensures, c.frame-frame.ensures) (c.requires.ready.reaches G11 c.requires.here)
-
-pub set_node-requires : goal.set_node-requires
-set_node-requires c = rw (c.named-next.ensures, c.frame-frame.ensures) (c.requires.ready.reaches G11 c.requires.here)
+pub set_flag-requires : goal.set_flag-requires
+set_flag-requires c = rw (c.named-next.ensures, c.frame-frame.ensures) (c.requires.ready.reaches G11 c.requires.here)
