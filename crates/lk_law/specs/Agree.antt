@@ -1,5 +1,6 @@
 -- When a snapshot agrees with the histories of all locks; and what a row changes of a snapshot.
-use Rattle.std.specs.Prelude.{◌⊎◌, slice_get, ◌≡◌, ◌≢◌, ◌+◌, ◌<◌, ℕ, Option, Some, None, Bool, true, false, List, [], ◌∷◌}
+use Rattle.std.specs.Prelude.{◌⊎◌, slice_get, ◌≡◌, ◌≢◌, ◌+◌, ◌<◌, ℕ, Option, Some, None, Bool, true}
+use Rattle.std.specs.Prelude.{false, List, [], ◌∷◌}
 use Rattle.lk_abs.specs.History.{LockHistory}
 use Rattle.lk_abs.specs.declared.holder.Manner.TheVariants.{Spins}
 use Rattle.lk_abs.specs.declared.holder.Holder.{Holder}
@@ -34,12 +35,14 @@ state_of s u = (s.node (s.own u)).state
 
 -- a kick of the processor is remembered, or on its way
 abbrev pub Owed : Snapshot → ℕ → Type 0
-Owed s p = (s.kicked p ≡ true) ⊎ ((l : LockName) × (u : Waiter) × (t : NodeName) × (s.post l u ≡ Kicks t) × (t.cpu ≡ p))
+Owed s p = (s.kicked p ≡ true)
+    ⊎ ((l : LockName) × (u : Waiter) × (t : NodeName) × (s.post l u ≡ Kicks t) × (t.cpu ≡ p))
 
--- One lock's posts agree with its byte, its entry in the hash, the states of the nodes and the phases; and a front that sleeps while nobody
--- holds the lock is owed a kick.
+-- One lock's posts agree with its byte, its entry in the hash, the states of the nodes and the
+-- phases; and a front that sleeps while nobody holds the lock is owed a kick.
 pub record ParaAgrees (s : Snapshot) (h : LockHistory) (l : LockName) : Type 0 where
-  pub posts : PostsAgree (s.word l).locked (s.entry l) (slice_get h.main 0) (s.post l) (state_of s) s.own (λ u. Owed s u.cpu)
+  pub posts : PostsAgree (s.word l).locked (s.entry l) (slice_get h.main 0) (s.post l) (state_of s)
+      s.own (λ u. Owed s u.cpu)
   pub suits : (u : Waiter) → agrees (s.post l u) (s.phase l u) ≡ true
 
 -- One lock's word, nodes and phases agree with its history.
@@ -49,19 +52,28 @@ pub record LockAgrees (s : Snapshot) (h : LockHistory) (l : LockName) : Type 0 w
   pub hold : HolderAgrees (s.word l).locked (s.phase l) (λ u. spins (s.held u l)) holder
   pub pend : PendingAgrees (s.word l).locked (s.word l).pending (s.phase l)
   pub posts : halts s.mode ≡ true → ParaAgrees s h l
-  pub lists : ListsAgree (moves_aside s.mode) (s.word l).tail (s.phase l) s.own s.node s.local s.threshold (s.stage l) s.kept h.main h.second h.passes
+  pub lists : ListsAgree (moves_aside s.mode) (s.word l).tail (s.phase l) s.own s.node s.local
+      s.threshold (s.stage l) s.kept h.main h.second h.passes
 
--- The snapshot agrees with these histories: each lock does, each node is used by one waiter, and a waiter acts on one lock at a time.
-pub record Agrees (s : Snapshot) (hs : LockName → LockHistory) : Type 0 where
+-- The snapshot agrees with these histories: each lock does, each node is used by one waiter, and a
+-- waiter acts on one lock at a time.
+pub record SnapshotAgrees (s : Snapshot) (hs : LockName → LockHistory) : Type 0 where
   pub locks : (l : LockName) → LockAgrees s (hs l) l
   pub nodes : NodesAgree s.phase s.own s.slow s.queued
   pub alone : (k l : LockName) (u : Waiter) → k ≢ l → s.phase k u ≢ Idle → s.phase l u ≡ Idle
   -- only one waiter of a processor is about to halt or halted
-  pub sleeper : halts s.mode ≡ true → (k l : LockName) (u z : Waiter) → sleeps (s.post k u) ≡ true → sleeps (s.post l z) ≡ true → u.cpu ≡ z.cpu → u ≡ z
+  pub sleeper : halts s.mode ≡ true
+      → (k l : LockName) (u z : Waiter)
+      → sleeps (s.post k u) ≡ true
+      → sleeps (s.post l z) ≡ true
+      → u.cpu ≡ z.cpu
+      → u ≡ z
 
--- what a row of w on the lock l changes: its phase, the lock's word, and whether w holds it; and of its choice of the next, what it knows.
--- Who does not hold the lock as the front has not begun to choose.
-pub record Step (s s' : Snapshot) (w : Waiter) (l : LockName) (r r' : Phase) (x : Fields) (h h' : Bool) : Type 0 where
+-- what a row of w on the lock l changes: its phase, the lock's word, and whether w holds it; and of
+-- its choice of the next, what it knows. Who does not hold the lock as the front has not begun to
+-- choose.
+pub record Step (s s' : Snapshot) (w : Waiter) (l : LockName) (r r' : Phase) (x : Fields)
+    (h h' : Bool) : Type 0 where
   pub acts : Moves (s.phase l) (s'.phase l) w r r'
   pub phases : (k : LockName) → k ≢ l → (u : Waiter) → s'.phase k u ≡ s.phase k u
   pub idle : (k : LockName) → k ≢ l → s.phase k w ≡ Idle
@@ -82,9 +94,20 @@ pub record Step (s s' : Snapshot) (w : Waiter) (l : LockName) (r r' : Phase) (x 
   pub were_off : (k : LockName) → k ≢ l → s.post k w ≡ Off
   pub off : (k : LockName) → k ≢ l → s'.post k w ≡ Off
   pub entries : (k : LockName) → k ≢ l → s'.entry k ≡ s.entry k
-  -- where processors halt: who sleeps at another lock is owed its kick still, and who falls asleep is the only one of its processor
-  pub owed : halts s.mode ≡ true → (k : LockName) (u : Waiter) → k ≢ l → sleeps (s.post k u) ≡ true → Owed s u.cpu → Owed s' u.cpu
-  pub lone : halts s.mode ≡ true → sleeps (s'.post l w) ≡ true → (k : LockName) (u : Waiter) → u.cpu ≡ w.cpu → sleeps (s.post k u) ≡ true → u ≡ w
+  -- where processors halt: who sleeps at another lock is owed its kick still, and who falls asleep
+  -- is the only one of its processor
+  pub owed : halts s.mode ≡ true
+      → (k : LockName) (u : Waiter)
+      → k ≢ l
+      → sleeps (s.post k u) ≡ true
+      → Owed s u.cpu
+      → Owed s' u.cpu
+  pub lone : halts s.mode ≡ true
+      → sleeps (s'.post l w) ≡ true
+      → (k : LockName) (u : Waiter)
+      → u.cpu ≡ w.cpu
+      → sleeps (s.post k u) ≡ true
+      → u ≡ w
 
 -- no waiter enters or leaves the slow path
 pub record Stays (s s' : Snapshot) (w : Waiter) : Type 0 where
@@ -106,14 +129,14 @@ pub record IsOnTop (s : Snapshot) (w : Waiter) : Type 0 where
   pub low : w.ctx < 6
 
 -- the waiter leaves the slow path
-pub record Leaves (s s' : Snapshot) (w : Waiter) : Type 0 where
+pub record LeavesSlowPath (s s' : Snapshot) (w : Waiter) : Type 0 where
   pub slow : Moves s.slow s'.slow w true false
   pub here : s'.queued w.cpu + 1 ≡ s.queued w.cpu
   pub queued : (p : ℕ) → p ≢ w.cpu → s'.queued p ≡ s.queued p
   pub on_top : IsOnTop s w
 
 -- the waiter enters the slow path
-pub record Enters (s s' : Snapshot) (w : Waiter) : Type 0 where
+pub record EntersSlowPath (s s' : Snapshot) (w : Waiter) : Type 0 where
   pub slow : Moves s.slow s'.slow w false true
   pub here : s'.queued w.cpu ≡ s.queued w.cpu + 1
   pub queued : (p : ℕ) → p ≢ w.cpu → s'.queued p ≡ s.queued p

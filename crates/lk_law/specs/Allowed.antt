@@ -1,11 +1,13 @@
--- When an event may follow on the histories so far: the laws of a lawful history, one event at a time.
+-- When an event may follow on the histories so far: the laws of a lawful history, one event at a
+-- time.
 use Rattle.std.specs.Prelude.{◌≡◌, Option, Some, None}
 use Rattle.lk_abs.specs.History.{LockHistory, lock_of, changed}
 use Rattle.lk_abs.specs.Lawful.{Rules, IsShared, OwnsUp, InOrder}
 use Rattle.lk_abs.specs.declared.names.LockName.{LockName}
 use Rattle.lk_abs.specs.declared.events.Event.{Event}
 
--- who takes does not hold and who releases holds, the event is in order, and after it only readers hold the lock, or one waiter
+-- who takes does not hold and who releases holds, the event is in order, and after it only readers
+-- hold the lock, or one waiter
 pub record IsAllowedOn (rules : Rules) (h : LockHistory) (e : Event) : Type 0 where
   pub owned : OwnsUp h e.by e.what
   pub ordered : InOrder rules h e.by e.what
@@ -15,6 +17,7 @@ pub record IsAllowedOn (rules : Rules) (h : LockHistory) (e : Event) : Type 0 wh
 abbrev pub IsAllowed : Rules → (LockName → LockHistory) → Event → Type 0
 IsAllowed rules hs e = (l : LockName) → lock_of e.what ≡ Some l → IsAllowedOn rules (hs l) e
 
+-- the event is allowed, if there is one
 abbrev pub IsAllowedIfAny : Rules → (LockName → LockHistory) → Option Event → Type 0
 IsAllowedIfAny rules hs None = Unit {0}
 IsAllowedIfAny rules hs (Some e) = IsAllowed rules hs e

@@ -1,5 +1,7 @@
--- The lists of a lock, by its family. Where waiters are moved aside, the second queue is the history's, and the front knows its first.
-use Rattle.std.specs.Prelude.{◌≡◌, ◌≢◌, ◌+◌, ◌<◌, ◌≤◌, ◌||◌, ◌⊎◌, ℕ, Option, if◌then◌else◌, Some, None, Bool, true, false, List, [], ◌∷◌, slice_get, length}
+-- The lists of a lock, by its family. Where waiters are moved aside, the second queue is the
+-- history's, and the front knows its first.
+use Rattle.std.specs.Prelude.{◌≡◌, ◌≢◌, ◌+◌, ◌<◌, ◌≤◌, ◌||◌, ◌⊎◌, ℕ, Option, if◌then◌else◌, Some}
+use Rattle.std.specs.Prelude.{None, Bool, true, false, List, [], ◌∷◌, slice_get, length}
 use Rattle.std.proofs.Common.{suc}
 use Rattle.lk_abs.specs.Names.{same_waiter}
 use Rattle.lk_abs.specs.declared.names.Mode.{Mode}
@@ -11,7 +13,8 @@ use Rattle.lk_machine.specs.declared.parts.Flag.TheVariants.{Unset, Go, Second}
 use Rattle.lk_machine.specs.declared.parts.Node.{Node}
 use Rattle.lk_law.specs.Phase.{Phase}
 use Rattle.lk_law.specs.Phase.Phase.{Waits, Aside, Holds}
-use Rattle.lk_law.specs.Stage.{Stage, cut_of, tip_of, skipped, parted, chosen, counted, tied, picks, hangs, tail_seen, before_of}
+use Rattle.lk_law.specs.Stage.{Stage, cut_of, tip_of, skipped, parted, chosen, counted, tied, picks}
+use Rattle.lk_law.specs.Stage.{hangs, tail_seen, before_of}
 use Rattle.lk_law.specs.Stage.Stage.{Rests}
 use Rattle.lk_law.specs.Snapshot.{QueueAgrees, same_node}
 
@@ -34,16 +37,29 @@ abbrev pub shown : Option (NodeName × NodeName) → (NodeName → Node) → Nod
 shown None node n = node n
 shown (Some p) node n = if same_node n p.0 then record (node n) { next = Some p.1 } else node n
 
+-- there is no node
 abbrev pub same_none : Option NodeName → Bool
 same_none None = true
 same_none (Some n) = false
 
 -- the second queue
-pub record SecondAgrees (phase : Waiter → Phase) (own : Waiter → NodeName) (node : NodeName → Node) (second : List Waiter) (tip : Option NodeName) : Type 0 where
-  pub waits : (i : ℕ) (u : Waiter) → slice_get second i ≡ Some u → (phase u ≡ Waits) × ((node (own u)).flag ≡ Unset)
-  pub once : (i j : ℕ) (u : Waiter) → slice_get second i ≡ Some u → slice_get second j ≡ Some u → i ≡ j
-  pub linked : (i : ℕ) (u v : Waiter) → slice_get second i ≡ Some u → slice_get second (suc i) ≡ Some v → (node (own u)).next ≡ Some (own v)
-  pub last : (i : ℕ) (u : Waiter) → slice_get second i ≡ Some u → slice_get second (suc i) ≡ None → (node (own u)).next ≡ tip
+pub record SecondAgrees (phase : Waiter → Phase) (own : Waiter → NodeName) (node : NodeName → Node)
+    (second : List Waiter) (tip : Option NodeName) : Type 0 where
+  pub waits : (i : ℕ) (u : Waiter)
+      → slice_get second i ≡ Some u
+      → (phase u ≡ Waits) × ((node (own u)).flag ≡ Unset)
+  pub once : (i j : ℕ) (u : Waiter)
+      → slice_get second i ≡ Some u
+      → slice_get second j ≡ Some u
+      → i ≡ j
+  pub linked : (i : ℕ) (u v : Waiter)
+      → slice_get second i ≡ Some u
+      → slice_get second (suc i) ≡ Some v
+      → (node (own u)).next ≡ Some (own v)
+  pub last : (i : ℕ) (u : Waiter)
+      → slice_get second i ≡ Some u
+      → slice_get second (suc i) ≡ None
+      → (node (own u)).next ≡ tip
 
 -- the node that the first of a list has
 abbrev pub first_node : (Waiter → NodeName) → List Waiter → Option NodeName
@@ -51,46 +67,93 @@ first_node own [] = None
 first_node own (w ∷ ws) = Some (own w)
 
 -- what the one that leads knows: its registers, and how the lists stand to them
-pub record FrontAgrees (phase : Waiter → Phase) (own : Waiter → NodeName) (node : NodeName → Node) (local : Waiter → NodeName → Bool) (threshold : ℕ)
-    (main second : List Waiter) (passes : List ℕ) (w : Waiter) (stage : Stage) (named : Option NodeName) : Type 0 where
+pub record FrontAgrees (phase : Waiter → Phase) (own : Waiter → NodeName) (node : NodeName → Node)
+    (local : Waiter → NodeName → Bool) (threshold : ℕ)
+    (main second : List Waiter) (passes : List ℕ) (w : Waiter) (stage : Stage)
+    (named : Option NodeName) : Type 0 where
   -- the first of second is named, or the first of those that are moved
   pub names : tied stage ≡ false ⊎ (second ≢ []) → named ≡ first_node own second
-  pub names_moved : (a b : NodeName) (k : ℕ) → tied stage ≡ true → skipped stage ≡ Some (a, b, k) → second ≡ [] → named ≡ Some a
+  pub names_moved : (a b : NodeName) (k : ℕ)
+      → tied stage ≡ true
+      → skipped stage ≡ Some (a, b, k)
+      → second ≡ []
+      → named ≡ Some a
   -- the last of second is known in the node of its first
-  pub tail_at : (i : ℕ) (u v : Waiter) → hangs stage ≡ None → slice_get second 0 ≡ Some u → slice_get second i ≡ Some v → slice_get second (suc i) ≡ None → (node (own u)).second_tail ≡ Some (own v)
-  pub tail_hung : (b n : NodeName) → hangs stage ≡ Some b → named ≡ Some n → (node n).second_tail ≡ Some b
-  pub tail_met : (t : NodeName) (i : ℕ) (v : Waiter) → tail_seen stage ≡ Some t → slice_get second i ≡ Some v → slice_get second (suc i) ≡ None → t ≡ own v
+  pub tail_at : (i : ℕ) (u v : Waiter)
+      → hangs stage ≡ None
+      → slice_get second 0 ≡ Some u
+      → slice_get second i ≡ Some v
+      → slice_get second (suc i) ≡ None
+      → (node (own u)).second_tail ≡ Some (own v)
+  pub tail_hung : (b n : NodeName)
+      → hangs stage ≡ Some b
+      → named ≡ Some n
+      → (node n).second_tail ≡ Some b
+  pub tail_met : (t : NodeName) (i : ℕ) (v : Waiter)
+      → tail_seen stage ≡ Some t
+      → slice_get second i ≡ Some v
+      → slice_get second (suc i) ≡ None
+      → t ≡ own v
   pub tail_some : (t : NodeName) → tail_seen stage ≡ Some t → second ≢ []
   -- the run
   pub run : ((node (own w)).runs) ≤ threshold
   pub run_none : second ≡ [] → picks stage ≡ false → (node (own w)).runs ≡ 0
-  pub run_short : (a b : NodeName) (k : ℕ) → skipped stage ≡ Some (a, b, k) → (node (own w)).runs < threshold
-  pub run_picks : (n : NodeName) → picks stage ≡ true → named ≡ Some n → (node (own w)).runs < threshold
-  pub run_next : (y : NodeName) → counted stage ≡ Some y → (node y).runs ≡ (if same_none named then 0 else ((node (own w)).runs + 1))
+  pub run_short : (a b : NodeName) (k : ℕ)
+      → skipped stage ≡ Some (a, b, k)
+      → (node (own w)).runs < threshold
+  pub run_picks : (n : NodeName)
+      → picks stage ≡ true
+      → named ≡ Some n
+      → (node (own w)).runs < threshold
+  pub run_next : (y : NodeName)
+      → counted stage ≡ Some y
+      → (node y).runs ≡ (if same_none named then 0 else ((node (own w)).runs + 1))
   -- those passed over are the first behind w, and none is local
   pub some : (a b : NodeName) (k : ℕ) → skipped stage ≡ Some (a, b, k) → (i : ℕ) × (k ≡ suc i)
-  pub far : (a b : NodeName) (k i : ℕ) → skipped stage ≡ Some (a, b, k) → i < k → (u : Waiter) × (slice_get main (suc i) ≡ Some u) × (phase u ≡ Waits) × (local w (own u) ≡ false)
-  pub near : (a b : NodeName) (k : ℕ) (u : Waiter) → skipped stage ≡ Some (a, b, k) → slice_get main 1 ≡ Some u → own u ≡ a
-  pub close : (a b : NodeName) (k : ℕ) (u : Waiter) → skipped stage ≡ Some (a, b, k) → slice_get main k ≡ Some u → own u ≡ b
+  pub far : (a b : NodeName) (k i : ℕ)
+      → skipped stage ≡ Some (a, b, k)
+      → i < k
+      → (u : Waiter) × (slice_get main (suc i) ≡ Some u) × (phase u ≡ Waits)
+      × (local w (own u) ≡ false)
+  pub near : (a b : NodeName) (k : ℕ) (u : Waiter)
+      → skipped stage ≡ Some (a, b, k)
+      → slice_get main 1 ≡ Some u
+      → own u ≡ a
+  pub close : (a b : NodeName) (k : ℕ) (u : Waiter)
+      → skipped stage ≡ Some (a, b, k)
+      → slice_get main k ≡ Some u
+      → own u ≡ b
   pub cut : (b : NodeName) → parted stage ≡ Some b → (node b).next ≡ None
   -- whom the lead goes to stands behind them
-  pub next : (k : ℕ) (y : NodeName) → chosen stage ≡ Some (k, y) → (v : Waiter) × (slice_get main (suc k) ≡ Some v) × (phase v ≡ Waits) × (own v ≡ y)
-  pub kin : (a b : NodeName) (k j : ℕ) (y : NodeName) → skipped stage ≡ Some (a, b, k) → chosen stage ≡ Some (j, y) → local w y ≡ true
-  pub before : (a : NodeName) → before_of stage ≡ Some a → (v : Waiter) × (slice_get main 1 ≡ Some v) × (phase v ≡ Waits) × (own v ≡ a)
+  pub next : (k : ℕ) (y : NodeName)
+      → chosen stage ≡ Some (k, y)
+      → (v : Waiter) × (slice_get main (suc k) ≡ Some v) × (phase v ≡ Waits) × (own v ≡ y)
+  pub kin : (a b : NodeName) (k j : ℕ) (y : NodeName)
+      → skipped stage ≡ Some (a, b, k)
+      → chosen stage ≡ Some (j, y)
+      → local w y ≡ true
+  pub before : (a : NodeName)
+      → before_of stage ≡ Some a
+      → (v : Waiter) × (slice_get main 1 ≡ Some v) × (phase v ≡ Waits) × (own v ≡ a)
   -- the history's count
   pub lengths : length passes ≡ length second
   pub oldest : (n : ℕ) → slice_get passes 0 ≡ Some n → n ≡ (node (own w)).runs
   pub bounded : (i n : ℕ) → slice_get passes i ≡ Some n → n ≤ (node (own w)).runs
 
 -- of the one that leads
-abbrev pub front_cut : (Waiter → NodeName) → (Waiter → Stage) → Option Waiter → Option (NodeName × NodeName)
+abbrev pub front_cut : (Waiter → NodeName)
+    → (Waiter → Stage)
+    → Option Waiter
+    → Option (NodeName × NodeName)
 front_cut own stage None = None
 front_cut own stage (Some w) = cut_of (own w) (stage w)
 
+-- the node that the last of the second queue names, by the stage of the one that leads
 abbrev pub front_tip : (Waiter → Stage) → Option Waiter → Option NodeName
 front_tip stage None = None
 front_tip stage (Some w) = tip_of (stage w)
 
+-- the node that a flag names: the first of the second queue
 abbrev pub node_in : Flag → Option NodeName
 node_in Unset = None
 node_in Go = None
@@ -102,23 +165,34 @@ named_by Waits f r = node_in f
 named_by _ f r = r
 
 -- the two queues of a lock, and the one that leads
-pub record CnaAgrees (tail : Option NodeName) (phase : Waiter → Phase) (own : Waiter → NodeName) (node : NodeName → Node) (local : Waiter → NodeName → Bool) (threshold : ℕ)
-    (stage : Waiter → Stage) (kept : Waiter → Option NodeName) (main second : List Waiter) (passes : List ℕ) : Type 0 where
-  pub queue : QueueAgrees tail (part second phase) own (shown (front_cut own stage (slice_get main 0)) node) main
+pub record CnaAgrees (tail : Option NodeName) (phase : Waiter → Phase) (own : Waiter → NodeName)
+    (node : NodeName → Node) (local : Waiter → NodeName → Bool) (threshold : ℕ)
+    (stage : Waiter → Stage) (kept : Waiter → Option NodeName) (main second : List Waiter)
+    (passes : List ℕ) : Type 0 where
+  pub queue : QueueAgrees tail (part second phase) own
+      (shown (front_cut own stage (slice_get main 0)) node) main
   pub second_ok : SecondAgrees phase own node second (front_tip stage (slice_get main 0))
-  pub lead : (w : Waiter) → slice_get main 0 ≡ Some w → FrontAgrees phase own node local threshold main second passes w (stage w) (named_by (phase w) (node (own w)).flag (kept w))
+  pub lead : (w : Waiter)
+      → slice_get main 0 ≡ Some w
+      → FrontAgrees phase own node local threshold main second passes w (stage w)
+      (named_by (phase w) (node (own w)).flag (kept w))
   pub empty : slice_get main 0 ≡ None → second ≡ []
   pub lengths : length passes ≡ length second
   pub calm : (u : Waiter) → phase u ≢ Holds → stage u ≡ Rests
 
 -- the one queue of a lock: nobody stands aside
-pub record FlatAgrees (tail : Option NodeName) (phase : Waiter → Phase) (own : Waiter → NodeName) (node : NodeName → Node) (main second : List Waiter) (passes : List ℕ) : Type 0 where
+pub record FlatAgrees (tail : Option NodeName) (phase : Waiter → Phase) (own : Waiter → NodeName)
+    (node : NodeName → Node) (main second : List Waiter) (passes : List ℕ) : Type 0 where
   pub queue : QueueAgrees tail phase own node main
   pub single : second ≡ []
   pub unpassed : passes ≡ []
 
 -- the lists of a lock, by whether its family moves waiters aside
-pub record ListsAgree (aside : Bool) (tail : Option NodeName) (phase : Waiter → Phase) (own : Waiter → NodeName) (node : NodeName → Node) (local : Waiter → NodeName → Bool) (threshold : ℕ)
-    (stage : Waiter → Stage) (kept : Waiter → Option NodeName) (main second : List Waiter) (passes : List ℕ) : Type 0 where
+pub record ListsAgree (aside : Bool) (tail : Option NodeName) (phase : Waiter → Phase)
+    (own : Waiter → NodeName) (node : NodeName → Node) (local : Waiter → NodeName → Bool)
+    (threshold : ℕ)
+    (stage : Waiter → Stage) (kept : Waiter → Option NodeName) (main second : List Waiter)
+    (passes : List ℕ) : Type 0 where
   pub flat : aside ≡ false → FlatAgrees tail phase own node main second passes
-  pub cna : aside ≡ true → CnaAgrees tail phase own node local threshold stage kept main second passes
+  pub cna : aside ≡ true
+      → CnaAgrees tail phase own node local threshold stage kept main second passes

@@ -19,7 +19,8 @@ pub record ShowsLawful (m : Machine) (es : List Event) : Type 0 where
 
 -- Every act keeps it, whatever the machine, the history and the act.
 abbrev pub ActKeeps : Type 0
-ActKeeps = (m : Machine) (es : List Event) (a : Act) → processor_of a < length m.cpus → ShowsLawful m es → ShowsLawful (next m a).0 (and_then es (next m a).1)
+ActKeeps = (m : Machine) (es : List Event) (a : Act) → processor_of a < length m.cpus
+    → ShowsLawful m es → ShowsLawful (next m a).0 (and_then es (next m a).1)
 
 -- each act names a processor of the machine
 abbrev pub AreInRange : ℕ → List Act → Type 0
@@ -32,5 +33,6 @@ RestShows = (setup : Setup) → IsLawfulSetup setup → ShowsLawful (at_rest set
 
 -- Every schedule from rest has a lawful history, which the machine shows after it.
 abbrev pub RunKeeps : Type 0
-RunKeeps = (setup : Setup) (acts : List Act) → IsLawfulSetup setup → AreInRange (length setup.topology.sockets.items) acts
+RunKeeps = (setup : Setup) (acts : List Act) → IsLawfulSetup setup
+    → AreInRange (length setup.topology.sockets.items) acts
     → ShowsLawful (machine_after (at_rest setup) acts) (events_of (history (at_rest setup) acts))

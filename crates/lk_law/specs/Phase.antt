@@ -1,9 +1,11 @@
--- What a waiter does for one lock, as far as the laws read it: some fifteen phases stand for the places of all rows.
+-- What a waiter does for one lock, as far as the laws read it: some fifteen phases stand for the
+-- places of all rows.
 use Rattle.std.specs.Prelude.{Bool, true, false}
 use Rattle.lk_word.specs.declared.spin_word.NodeName.{NodeName}
 use Rattle.lk_machine.specs.declared.parts.Flag.{Flag}
 use Rattle.lk_machine.specs.declared.parts.Flag.TheVariants.{Go, Second}
 
+-- what a waiter does for one lock, as far as the laws read it
 pub data Phase : Type 0 where
   -- it does nothing for the lock
   Idle : Phase

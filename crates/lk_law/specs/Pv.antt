@@ -1,5 +1,5 @@
--- What a waiter does for one lock besides its phase, where processors halt: a *post* for each row of the paravirtual lock. And when the
--- hash, the lock's byte and the posts of one lock agree.
+-- What a waiter does for one lock besides its phase, where processors halt: a *post* for each row
+-- of the paravirtual lock. And when the hash, the lock's byte and the posts of one lock agree.
 use Rattle.std.specs.Prelude.{◌≡◌, ◌≢◌, ◌⊎◌, Option, Some, None, Bool, true, false, not}
 use Rattle.lk_abs.specs.declared.names.Waiter.{Waiter}
 use Rattle.lk_word.specs.declared.spin_word.NodeName.{NodeName}
@@ -8,14 +8,16 @@ use Rattle.lk_word.specs.declared.spin_word.Locked.TheVariants.{Held, Slow}
 use Rattle.lk_machine.specs.declared.parts.State.{State}
 use Rattle.lk_machine.specs.declared.parts.State.TheVariants.{Running, Halted, Hashed}
 use Rattle.lk_law.specs.Phase.{Phase}
-use Rattle.lk_law.specs.Phase.Phase.{Idle, Seeks, Releases, Prepared, Links, Waits, Leads, Presses, Holds, Hands, Tends}
+use Rattle.lk_law.specs.Phase.Phase.{Idle, Seeks, Releases, Prepared, Links, Waits, Leads, Presses}
+use Rattle.lk_law.specs.Phase.Phase.{Holds, Hands, Tends}
 
 -- what a waiter does for one lock besides its phase, where processors halt
 pub data Post : Type 0 where
   Off : Post
   -- has the tail, and will link
   Joins : Post
-  -- looks at its flag; at the one before it; is about to halt; has said so; looks again; sleeps; wakes
+  -- looks at its flag; at the one before it; is about to halt; has said so; looks again; sleeps;
+  -- wakes
   Spins : Post
   Peers : Post
   Stops : Post
@@ -67,24 +69,29 @@ touches Finds = true
 touches (Drops t) = true
 touches _ = false
 
+-- the byte is slow where a waiter has this post
 abbrev pub slow_at : Post → Bool
 slow_at Finds = true
 slow_at Wins = true
 slow_at _ = false
 
+-- the byte is held, and not slow, where a waiter has this post
 abbrev pub one_at : Post → Bool
 one_at Has = true
 one_at (Slowing y) = true
 one_at _ = false
 
+-- a holder that is about to look whether the next has halted
 abbrev pub calls : Post → Bool
 calls (Calls y) = true
 calls _ = false
 
+-- a holder that has marked the next as hashed, and is about to make the byte slow
 abbrev pub slowing : Post → Bool
 slowing (Slowing y) = true
 slowing _ = false
 
+-- a waiter that is about to test its state for the last time, or to halt, or has halted
 abbrev pub dozes : Post → Bool
 dozes Dozes = true
 dozes Sleeps = true
@@ -131,6 +138,7 @@ fronts Naps = true
 fronts Has = true
 fronts _ = false
 
+-- the state is not that of a node in the hash
 abbrev pub not_hashed : State → Bool
 not_hashed Hashed = false
 not_hashed _ = true
@@ -223,22 +231,51 @@ agrees (Drops t) Releases = true
 agrees (Kicks t) Seeks = true
 agrees _ _ = false
 
--- the hash, the lock's byte and the posts of one lock agree; owed: a kick of the waiter's processor is remembered or on its way
-pub record PostsAgree (locked : Locked) (entry : Option NodeName) (front : Option Waiter) (post : Waiter → Post) (state : Waiter → State) (own : Waiter → NodeName) (owed : Waiter → Type 0) : Type 0 where
-  pub fit : (u : Waiter) (f : Bool) → (f ≡ false → front ≢ Some u) → (f ≡ true → front ≡ Some u) → fits (post u) f (state u) ≡ true
+-- the hash, the lock's byte and the posts of one lock agree; owed: a kick of the waiter's processor
+-- is remembered or on its way
+pub record PostsAgree (locked : Locked) (entry : Option NodeName) (front : Option Waiter)
+    (post : Waiter → Post) (state : Waiter → State) (own : Waiter → NodeName)
+    (owed : Waiter → Type 0) : Type 0 where
+  pub fit : (u : Waiter) (f : Bool)
+      → (f ≡ false → front ≢ Some u)
+      → (f ≡ true → front ≡ Some u)
+      → fits (post u) f (state u) ≡ true
   pub bare_entry : (u : Waiter) → bare (post u) ≡ true → entry ≡ None
   pub bare_slow : (u : Waiter) → bare (post u) ≡ true → locked ≡ Slow
   pub bare_some : entry ≡ None → locked ≡ Slow → (u : Waiter) × (bare (post u) ≡ true)
   pub full_entry : (u : Waiter) → full (post u) ≡ true → entry ≡ Some (own u)
   pub full_slow : (u : Waiter) → full (post u) ≡ true → locked ≢ Slow
-  pub full_some : (n : NodeName) → entry ≡ Some n → locked ≢ Slow → (u : Waiter) × (full (post u) ≡ true)
+  pub full_some : (n : NodeName)
+      → entry ≡ Some n
+      → locked ≢ Slow
+      → (u : Waiter) × (full (post u) ≡ true)
   pub entered : (n : NodeName) → entry ≡ Some n → (w : Waiter) × (front ≡ Some w) × (own w ≡ n)
-  pub named : (u : Waiter) (n : NodeName) → names (post u) ≡ Some n → (w : Waiter) × (front ≡ Some w) × (own w ≡ n)
+  pub named : (u : Waiter) (n : NodeName)
+      → names (post u) ≡ Some n
+      → (w : Waiter) × (front ≡ Some w) × (own w ≡ n)
   pub raw_slow : (w : Waiter) → front ≡ Some w → raw (post w) (state w) ≡ true → locked ≢ Slow
-  pub raw_free : (w u : Waiter) → front ≡ Some w → raw (post w) (state w) ≡ true → touches (post u) ≡ false
+  pub raw_free : (w u : Waiter)
+      → front ≡ Some w
+      → raw (post w) (state w) ≡ true
+      → touches (post u) ≡ false
   pub slow : (u : Waiter) → slow_at (post u) ≡ true → locked ≡ Slow
   pub one : (u : Waiter) → one_at (post u) ≡ true → locked ≡ Held
-  pub called : (w u : Waiter) → front ≡ Some w → calls (post u) ≡ true → dozes (post w) ≡ true → state w ≡ Halted
-  pub dozed : (w : Waiter) → front ≡ Some w → post w ≡ Dozes → state w ≡ Halted → (u : Waiter) × (calls (post u) ≡ true)
-  pub slept : (w : Waiter) → front ≡ Some w → post w ≡ Sleeps → (locked ≡ Slow) ⊎ ((u : Waiter) × (calls (post u) ≡ true)) ⊎ ((u : Waiter) × (slowing (post u) ≡ true)) ⊎ owed w
-  pub napped : (w : Waiter) → front ≡ Some w → post w ≡ Naps → (locked ≡ Slow) ⊎ ((u : Waiter) × (slowing (post u) ≡ true)) ⊎ owed w
+  pub called : (w u : Waiter)
+      → front ≡ Some w
+      → calls (post u) ≡ true
+      → dozes (post w) ≡ true
+      → state w ≡ Halted
+  pub dozed : (w : Waiter)
+      → front ≡ Some w
+      → post w ≡ Dozes
+      → state w ≡ Halted
+      → (u : Waiter) × (calls (post u) ≡ true)
+  pub slept : (w : Waiter)
+      → front ≡ Some w
+      → post w ≡ Sleeps
+      → (locked ≡ Slow) ⊎ ((u : Waiter) × (calls (post u) ≡ true))
+      ⊎ ((u : Waiter) × (slowing (post u) ≡ true)) ⊎ owed w
+  pub napped : (w : Waiter)
+      → front ≡ Some w
+      → post w ≡ Naps
+      → (locked ≡ Slow) ⊎ ((u : Waiter) × (slowing (post u) ≡ true)) ⊎ owed w

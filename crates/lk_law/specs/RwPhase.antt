@@ -1,9 +1,10 @@
--- What a waiter does for one reader-writer lock, as far as the laws read it: nine phases stand for the rows of readers and writers, and
--- for those of the wait lock on their way.
+-- What a waiter does for one reader-writer lock, as far as the laws read it: nine phases stand for
+-- the rows of readers and writers, and for those of the wait lock on their way.
 use Rattle.std.specs.Prelude.{Option, Some, Bool, true, false, ◌||◌}
 use Rattle.lk_abs.specs.declared.holder.Manner.{Manner}
 use Rattle.lk_abs.specs.declared.holder.Manner.TheVariants.{Reads}
 
+-- what a waiter does for one reader-writer lock
 pub data RwPhase : Type 0 where
   -- it does nothing for the lock, or holds it and does no more
   Away : RwPhase
@@ -12,7 +13,7 @@ pub data RwPhase : Type 0 where
   -- it is counted among the readers, and does not hold the lock
   Biases : RwPhase
   -- it has the wait lock
-  Enters : RwPhase
+  Inside : RwPhase
   -- it has the wait lock, and is counted among the readers
   Joins : RwPhase
   -- it has the wait lock, and has set waiting
@@ -33,14 +34,14 @@ biased _ = false
 abbrev pub asks : RwPhase → Bool
 asks Asks = true
 asks Biases = true
-asks Enters = true
+asks Inside = true
 asks Joins = true
 asks Announces = true
 asks _ = false
 
 -- the phase has the wait lock
 abbrev pub is_inner : RwPhase → Bool
-is_inner Enters = true
+is_inner Inside = true
 is_inner Joins = true
 is_inner Announces = true
 is_inner Frees = true
@@ -52,10 +53,12 @@ rests Away = true
 rests Frees = true
 rests _ = false
 
+-- the phase has set waiting
 abbrev pub announces : RwPhase → Bool
 announces Announces = true
 announces _ = false
 
+-- the waiter holds the lock as a reader
 abbrev pub reads : Option Manner → Bool
 reads (Some Reads) = true
 reads _ = false

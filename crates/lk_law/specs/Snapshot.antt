@@ -1,5 +1,7 @@
--- What the laws read of a machine or of running processors, as functions; and when its parts agree with the history of a lock.
-use Rattle.std.specs.Prelude.{◌==◌, ◌&&◌, ◌≡◌, ◌≢◌, ◌+◌, ◌<◌, ℕ, Option, if◌then◌else◌, Some, None, Bool, true, false, List, slice_get}
+-- What the laws read of a machine or of running processors, as functions; and when its parts agree
+-- with the history of a lock.
+use Rattle.std.specs.Prelude.{◌==◌, ◌&&◌, ◌≡◌, ◌≢◌, ◌+◌, ◌<◌, ℕ, Option, if◌then◌else◌, Some, None}
+use Rattle.std.specs.Prelude.{Bool, true, false, List, slice_get}
 use Rattle.std.proofs.Common.{zero, suc}
 use Rattle.lk_abs.specs.declared.names.Mode.{Mode}
 use Rattle.lk_abs.specs.declared.holder.Manner.{Manner}
@@ -15,9 +17,11 @@ use Rattle.lk_machine.specs.declared.parts.Node.{Node}
 use Rattle.lk_machine.specs.Machine.{rest_node}
 use Rattle.lk_law.specs.Stage.{Stage}
 use Rattle.lk_law.specs.Pv.{Post}
-use Rattle.lk_law.specs.Phase.{Phase, has_lock, seeks, pends, watches, stakes, claims, queues, has_node, follows, leads}
+use Rattle.lk_law.specs.Phase.{Phase, has_lock, seeks, pends, watches, stakes, claims, queues}
+use Rattle.lk_law.specs.Phase.{has_node, follows, leads}
 use Rattle.lk_law.specs.Phase.Phase.{Releases, Links, Waits, Hands, Prepared}
 
+-- what the laws read of all locks, waiters and nodes at one moment
 pub record Snapshot : Type 0 where
   pub mode : Mode
   -- how many handovers may pass a moved waiter by, and which nodes are of a waiter's own socket
@@ -38,7 +42,8 @@ pub record Snapshot : Type 0 where
   pub stage : LockName → Waiter → Stage
   -- the first node of the second queue, as the waiter knows it
   pub kept : Waiter → Option NodeName
-  -- where processors halt: what a waiter does besides its phase, the lock's entry in the hash, and of which processors a kick is remembered
+  -- where processors halt: what a waiter does besides its phase, the lock's entry in the hash, and
+  -- of which processors a kick is remembered
   pub post : LockName → Waiter → Post
   pub entry : LockName → Option NodeName
   pub kicked : ℕ → Bool
@@ -63,9 +68,10 @@ pub record Rewrites (f g : NodeName → Node) (n : NodeName) (x : Node) : Type 0
   pub now : g n ≡ x
   pub others : (k : NodeName) → k ≢ n → g k ≡ f k
 
--- The byte is free exactly where nobody has the lock; who has it, by its phase or its program, is its one holder; who is on the way to
--- it does not hold it; and who is about to release holds it.
-pub record HolderAgrees (locked : Locked) (phase : Waiter → Phase) (held : Waiter → Bool) (holder : Option Waiter) : Type 0 where
+-- The byte is free exactly where nobody has the lock; who has it, by its phase or its program, is
+-- its one holder; who is on the way to it does not hold it; and who is about to release holds it.
+pub record HolderAgrees (locked : Locked) (phase : Waiter → Phase) (held : Waiter → Bool)
+    (holder : Option Waiter) : Type 0 where
   pub free : locked ≡ Free → holder ≡ None
   pub taken : holder ≡ None → locked ≡ Free
   pub has : (u : Waiter) → has_lock (phase u) (held u) ≡ true → holder ≡ Some u
@@ -73,8 +79,9 @@ pub record HolderAgrees (locked : Locked) (phase : Waiter → Phase) (held : Wai
   pub without : (u : Waiter) → seeks (phase u) ≡ true → held u ≡ false
   pub releases : (u : Waiter) → phase u ≡ Releases → held u ≡ true
 
--- The pending bit is set exactly where one waiter has set it; where a waiter may take the lock in its next step it is free; and a
--- waiter that will take it by the pending bit does not stand beside a front that may take it.
+-- The pending bit is set exactly where one waiter has set it; where a waiter may take the lock in
+-- its next step it is free; and a waiter that will take it by the pending bit does not stand beside
+-- a front that may take it.
 pub record PendingAgrees (locked : Locked) (pending : Bool) (phase : Waiter → Phase) : Type 0 where
   pub set : (u : Waiter) → pends (phase u) ≡ true → pending ≡ true
   pub one : (u v : Waiter) → pends (phase u) ≡ true → pends (phase v) ≡ true → u ≡ v
@@ -82,21 +89,43 @@ pub record PendingAgrees (locked : Locked) (pending : Bool) (phase : Waiter → 
   pub free : (u : Waiter) → claims (phase u) ≡ true → locked ≡ Free
   pub apart : (u v : Waiter) → watches (phase u) ≡ true → stakes (phase v) ≡ true → ⊥
 
--- The waiters in the queue are main, each once, and the tail names the last; the first leads, and those behind it follow with their
--- flags unset; each node names the one behind it, but where that waiter will still link it, and then it names none; who hands on
--- hands to the second; and a node that nobody can reach is at rest.
-pub record QueueAgrees (tail : Option NodeName) (phase : Waiter → Phase) (own : Waiter → NodeName) (node : NodeName → Node) (main : List Waiter) : Type 0 where
+-- The waiters in the queue are main, each once, and the tail names the last; the first leads, and
+-- those behind it follow with their flags unset; each node names the one behind it, but where that
+-- waiter will still link it, and then it names none; who hands on hands to the second; and a node
+-- that nobody can reach is at rest.
+pub record QueueAgrees (tail : Option NodeName) (phase : Waiter → Phase) (own : Waiter → NodeName)
+    (node : NodeName → Node) (main : List Waiter) : Type 0 where
   pub inside : (i : ℕ) (u : Waiter) → slice_get main i ≡ Some u → queues (phase u) ≡ true
   pub place : (u : Waiter) → queues (phase u) ≡ true → (i : ℕ) × (slice_get main i ≡ Some u)
   pub once : (i j : ℕ) (u : Waiter) → slice_get main i ≡ Some u → slice_get main j ≡ Some u → i ≡ j
   pub no_tail : slice_get main 0 ≡ None → tail ≡ None
-  pub tail_is : (i : ℕ) (u : Waiter) → slice_get main i ≡ Some u → slice_get main (suc i) ≡ None → tail ≡ Some (own u)
-  pub first : (u : Waiter) → slice_get main 0 ≡ Some u → leads (phase u) ((node (own u)).flag) ≡ true
-  pub behind : (i : ℕ) (u : Waiter) → slice_get main (suc i) ≡ Some u → (follows (phase u) ≡ true) × ((node (own u)).flag ≡ Unset)
-  pub linked : (i : ℕ) (u v : Waiter) → slice_get main i ≡ Some u → slice_get main (suc i) ≡ Some v → phase v ≡ Waits → (node (own u)).next ≡ Some (own v)
-  pub linking : (i : ℕ) (u v : Waiter) (n : NodeName) → slice_get main i ≡ Some u → slice_get main (suc i) ≡ Some v → phase v ≡ Links n → (n ≡ own u) × ((node (own u)).next ≡ None)
-  pub last : (i : ℕ) (u : Waiter) → slice_get main i ≡ Some u → slice_get main (suc i) ≡ None → (node (own u)).next ≡ None
-  pub hand : (u : Waiter) (n : NodeName) → phase u ≡ Hands n → (v : Waiter) × (slice_get main 1 ≡ Some v) × (phase v ≡ Waits) × (own v ≡ n)
+  pub tail_is : (i : ℕ) (u : Waiter)
+      → slice_get main i ≡ Some u
+      → slice_get main (suc i) ≡ None
+      → tail ≡ Some (own u)
+  pub first : (u : Waiter)
+      → slice_get main 0 ≡ Some u
+      → leads (phase u) ((node (own u)).flag) ≡ true
+  pub behind : (i : ℕ) (u : Waiter)
+      → slice_get main (suc i) ≡ Some u
+      → (follows (phase u) ≡ true) × ((node (own u)).flag ≡ Unset)
+  pub linked : (i : ℕ) (u v : Waiter)
+      → slice_get main i ≡ Some u
+      → slice_get main (suc i) ≡ Some v
+      → phase v ≡ Waits
+      → (node (own u)).next ≡ Some (own v)
+  pub linking : (i : ℕ) (u v : Waiter) (n : NodeName)
+      → slice_get main i ≡ Some u
+      → slice_get main (suc i) ≡ Some v
+      → phase v ≡ Links n
+      → (n ≡ own u) × ((node (own u)).next ≡ None)
+  pub last : (i : ℕ) (u : Waiter)
+      → slice_get main i ≡ Some u
+      → slice_get main (suc i) ≡ None
+      → (node (own u)).next ≡ None
+  pub hand : (u : Waiter) (n : NodeName)
+      → phase u ≡ Hands n
+      → (v : Waiter) × (slice_get main 1 ≡ Some v) × (phase v ≡ Waits) × (own v ≡ n)
   pub fresh : (u : Waiter) → phase u ≡ Prepared → node (own u) ≡ rest_node
 
 -- how many waiters of a processor below a context are in the slow path
@@ -104,10 +133,16 @@ abbrev pub before : (Waiter → Bool) → ℕ → ℕ → ℕ
 before slow p zero = 0
 before slow p (suc c) = before slow p c + (if slow (record { cpu = p; ctx = c }) then 1 else 0)
 
--- The count of a processor is how many of its waiters are in the slow path; and a waiter's node has the number of such waiters below
--- it, of which there are fewer than four. So each node is used by one waiter.
-pub record NodesAgree (phase : LockName → Waiter → Phase) (own : Waiter → NodeName) (slow : Waiter → Bool) (queued : ℕ → ℕ) : Type 0 where
+-- The count of a processor is how many of its waiters are in the slow path; and a waiter's node has
+-- the number of such waiters below it, of which there are fewer than four. So each node is used by
+-- one waiter.
+pub record NodesAgree (phase : LockName → Waiter → Phase) (own : Waiter → NodeName)
+    (slow : Waiter → Bool) (queued : ℕ → ℕ) : Type 0 where
   pub counted : (p : ℕ) → queued p ≡ before slow p 6
   pub slowly : (l : LockName) (u : Waiter) → has_node (phase l u) ≡ true → slow u ≡ true
-  pub below : (l : LockName) (u : Waiter) → has_node (phase l u) ≡ true → before slow u.cpu u.ctx < 4
-  pub placed : (l : LockName) (u : Waiter) → has_node (phase l u) ≡ true → own u ≡ record { cpu = u.cpu; index = before slow u.cpu u.ctx }
+  pub below : (l : LockName) (u : Waiter)
+      → has_node (phase l u) ≡ true
+      → before slow u.cpu u.ctx < 4
+  pub placed : (l : LockName) (u : Waiter)
+      → has_node (phase l u) ≡ true
+      → own u ≡ record { cpu = u.cpu; index = before slow u.cpu u.ctx }

@@ -1,5 +1,7 @@
 -- When a machine is sound, and when it shows a history.
-use Rattle.std.specs.Prelude.{◌&&◌, ◌||◌, not, ◌≡◌, ◌<◌, ◌≤◌, ◌⊎◌, ℕ, Option, Some, None, Bool, true, false, List, [], ◌∷◌, length, slice_get, if◌then◌else◌, slice_index_or, ◌+◌, ◌==◌}
+use Rattle.std.specs.Prelude.{◌&&◌, ◌||◌, not, ◌≡◌, ◌<◌, ◌≤◌, ◌⊎◌, ℕ, Option, Some, None, Bool}
+use Rattle.std.specs.Prelude.{true, false, List, [], ◌∷◌, length, slice_get, if◌then◌else◌}
+use Rattle.std.specs.Prelude.{slice_index_or, ◌+◌, ◌==◌}
 use Rattle.lk_abs.specs.History.{LockHistory, history_of}
 use Rattle.lk_abs.specs.declared.holder.Manner.TheVariants.{Spins}
 use Rattle.lk_abs.specs.declared.holder.Manner.{Manner}
@@ -14,26 +16,40 @@ use Rattle.lk_word.specs.declared.spin_word.NodeName.{NodeName}
 use Rattle.lk_machine.specs.declared.setup.Setup.{Setup}
 use Rattle.lk_machine.specs.declared.setup.Op.{Op}
 use Rattle.lk_machine.specs.declared.setup.Verb.{Verb}
-use Rattle.lk_machine.specs.declared.setup.Verb.TheVariants.{Lock, Try, Unlock, Read, TryRead, RUnlock, Write, TryWrite, WUnlock}
+use Rattle.lk_machine.specs.declared.setup.Verb.TheVariants.{Lock, Try, Unlock, Read, TryRead}
+use Rattle.lk_machine.specs.declared.setup.Verb.TheVariants.{RUnlock, Write, TryWrite, WUnlock}
 use Rattle.lk_machine.specs.declared.parts.Frame.{Frame}
 use Rattle.lk_machine.specs.declared.parts.Pc.{Pc}
-use Rattle.lk_machine.specs.declared.parts.Pc.TheVariants.{F1, T1, T2, U1, V1, V2, P0, P1, P2, P3, P4, G1, G2, G3, G4, G5, G6, G7, G8, G9, G10, G11, N1, N2, H1, H2, W1, W2, W3, W4, W5, W6, W7, E1, E2, E3, E4, E5, E6, E7, E8, E9, E10, E11, E12, E13, E14, E15, K1, K2, K3, U2, U3, U4, U5, R1, R2, R3, R4, R5, Wr1, Wr2, Wr3, Wr4, Wr5, Wr6, Y1, Y2, Y3, Y4, Y5, Z1, Z2}
-use Rattle.lk_machine.specs.Machine.{Machine, cpu_at, word_at, node_at, frame_at, queued_at, entry_at, kicked_at, halted_at, handlers_at, HasTop, HasNode, rw_at, entry_in}
+use Rattle.lk_machine.specs.declared.parts.Pc.TheVariants.{F1, T1, T2, U1, V1, V2, U2, U3, U4, U5}
+use Rattle.lk_machine.specs.declared.parts.Pc.TheVariants.{R1, R2, R3, R4, R5, Wr1, Wr2, Wr3, Wr4}
+use Rattle.lk_machine.specs.declared.parts.Pc.TheVariants.{Wr5, Wr6, Y1, Y2, Y3, Y4, Y5, Z1, Z2}
+use Rattle.lk_machine.specs.Machine.{Machine, cpu_at, word_at, node_at, frame_at, queued_at}
+use Rattle.lk_machine.specs.Machine.{entry_at, kicked_at, halted_at, handlers_at, HasTop, HasNode}
+use Rattle.lk_machine.specs.Machine.{rw_at, entry_in}
 use Rattle.lk_machine.specs.Programs.{IsLawfulSetup, way_at, handlers_of}
 use Rattle.lk_machine.specs.Moves.{program_of}
-use Rattle.lk_law.specs.World.{World, chooses, hands_plainly}
+use Rattle.lk_law.specs.World.{World}
+use Rattle.lk_law.specs.Families.{chooses, is_rw_row, is_release_row, is_queued_row, is_halting_row}
+use Rattle.lk_law.specs.Registers.{hands_plainly}
 use Rattle.lk_law.specs.RwPhase.{RwPhase, is_inner}
 use Rattle.lk_law.specs.RwPhase.RwPhase.{Frees}
-use Rattle.lk_law.specs.Whole.{is_rw_row, is_release_row, rw_phase_of, IsWholeWorld}
+use Rattle.lk_law.specs.SoundWorld.{rw_phase_of, IsSoundWorld}
 
 -- what the laws of histories read of a setup
 abbrev pub rules_of : Setup → Rules
-rules_of setup = record { mode = setup.mode; sockets = setup.topology.sockets.items; threshold = setup.threshold }
+rules_of setup =
+    record {
+      mode = setup.mode;
+      sockets = setup.topology.sockets.items;
+      threshold = setup.threshold;
+    }
 
--- how the walk over a program, up to a frame's position, holds a lock: so a frame holds it between two operations
+-- how the walk over a program, up to a frame's position, holds a lock: so a frame holds it between
+-- two operations
 abbrev pub held_idle : List Op → Frame → LockName → Option Manner
 held_idle ops f l = if l.wait then None else way_at ops f.«at» l.index
 
+-- the frame is about to free a wait lock whose lock it holds
 abbrev pub frees : RwPhase → Bool
 frees Frees = true
 frees _ = false
@@ -47,15 +63,19 @@ owes_kick _ = false
 abbrev pub is_over : Frame → Bool
 is_over f = frees (rw_phase_of f) || owes_kick f.place
 
--- How far the walk over its program has come: a frame whose operation is over holds what that took or left, and else what the operations
--- before it leave.
+-- How far the walk over its program has come: a frame whose operation is over holds what that took
+-- or left, and else what the operations before it leave.
 abbrev pub reached : Frame → ℕ
 reached f = if is_over f then f.«at» + 1 else f.«at»
 
--- How a frame holds a lock: a wait lock by its place, and another as the walk over its program does, as far as it has come.
+-- How a frame holds a lock: a wait lock by its place, and another as the walk over its program
+-- does, as far as it has come.
 abbrev pub held_in : List Op → Frame → LockName → Option Manner
-held_in ops f l = if l.wait then (if is_inner (rw_phase_of f) && (f.lock.index == l.index) then Some Spins else None) else way_at ops (reached f) l.index
+held_in ops f l =
+    if l.wait then (if is_inner (rw_phase_of f)
+    && (f.lock.index == l.index) then Some Spins else None) else way_at ops (reached f) l.index
 
+-- how a frame, if there is one, holds a lock
 abbrev pub held_at : Machine → Waiter → LockName → Option Frame → Option Manner
 held_at m u l None = None
 held_at m u l (Some f) = held_in (program_of m u.cpu f) f l
@@ -84,29 +104,6 @@ world m =
       kind = λ i. slice_index_or m.setup.locks.items i Spin;
     }
 
--- the rows of `lock` in mode `native`
-abbrev pub is_queued_row : Pc → Bool
-is_queued_row F1 = true
-is_queued_row P0 = true
-is_queued_row P1 = true
-is_queued_row P2 = true
-is_queued_row P3 = true
-is_queued_row P4 = true
-is_queued_row G1 = true
-is_queued_row G2 = true
-is_queued_row G3 = true
-is_queued_row G4 = true
-is_queued_row G5 = true
-is_queued_row G6 = true
-is_queued_row G7 = true
-is_queued_row G8 = true
-is_queued_row G9 = true
-is_queued_row G10 = true
-is_queued_row G11 = true
-is_queued_row N1 = true
-is_queued_row N2 = true
-is_queued_row _ = false
-
 -- the rows of `lock` in mode `virt`
 abbrev pub is_virt_row : Pc → Bool
 is_virt_row F1 = true
@@ -114,52 +111,20 @@ is_virt_row V1 = true
 is_virt_row V2 = true
 is_virt_row _ = false
 
--- the rows of `lock` in mode `cna`: a front chooses the next in place of handing on as the queue stands
+-- the rows of `lock` in mode `cna`: a front chooses the next in place of handing on as the queue
+-- stands
 abbrev pub is_choosing_row : Pc → Bool
 is_choosing_row c = chooses c || (is_queued_row c && not (hands_plainly c))
 
--- the rows of `lock` in mode `pv`
-abbrev pub is_halting_row : Pc → Bool
-is_halting_row F1 = true
-is_halting_row G1 = true
-is_halting_row G4 = true
-is_halting_row G5 = true
-is_halting_row H1 = true
-is_halting_row H2 = true
-is_halting_row W1 = true
-is_halting_row W2 = true
-is_halting_row W3 = true
-is_halting_row W4 = true
-is_halting_row W5 = true
-is_halting_row W6 = true
-is_halting_row W7 = true
-is_halting_row E1 = true
-is_halting_row E2 = true
-is_halting_row E3 = true
-is_halting_row E4 = true
-is_halting_row E5 = true
-is_halting_row E6 = true
-is_halting_row E7 = true
-is_halting_row E8 = true
-is_halting_row E9 = true
-is_halting_row E10 = true
-is_halting_row E11 = true
-is_halting_row E12 = true
-is_halting_row E13 = true
-is_halting_row E14 = true
-is_halting_row E15 = true
-is_halting_row K1 = true
-is_halting_row K2 = true
-is_halting_row K3 = true
-is_halting_row _ = false
-
+-- the rows of `lock`, by the mode
 abbrev pub is_lock_row : Mode → Pc → Bool
 is_lock_row Virt c = is_virt_row c
 is_lock_row Cna c = is_choosing_row c
 is_lock_row Pv c = is_halting_row c
 is_lock_row _ c = is_queued_row c
 
--- a place is a row of an operation with this verb, where the frame acts on a spinlock that it has not freed
+-- a place is a row of an operation with this verb, where the frame acts on a spinlock that it has
+-- not freed
 abbrev pub BelongsTo : Mode → Verb → Pc → Type 0
 BelongsTo mode Lock c = is_lock_row mode c ≡ true
 BelongsTo mode Try c = (c ≡ T1) ⊎ (c ≡ T2)
@@ -167,7 +132,8 @@ BelongsTo Pv Unlock c = (c ≡ U2) ⊎ (c ≡ U3) ⊎ (c ≡ U4)
 BelongsTo mode Unlock c = c ≡ U1
 BelongsTo mode _ c = ⊥
 
--- a place is a row of an operation with this verb on a reader-writer lock, without the wait lock or with it
+-- a place is a row of an operation with this verb on a reader-writer lock, without the wait lock or
+-- with it
 abbrev pub RwBelongs : Verb → Bool → Pc → Type 0
 RwBelongs Read false c = (c ≡ R1) ⊎ (c ≡ R2) ⊎ (c ≡ R3)
 RwBelongs Read true c = (c ≡ R4) ⊎ (c ≡ R5)
@@ -191,17 +157,32 @@ after_wait Read = Some R4
 after_wait Write = Some Wr2
 after_wait _ = None
 
--- The stage at which a frame is in its operation: on a spinlock; on a reader-writer lock; taking or freeing its wait lock, which is as the
--- `lock` or the `unlock` of a spinlock; or with a spinlock or wait lock that it has freed, so that it owes a kick.
+-- The stage at which a frame is in its operation: on a spinlock; on a reader-writer lock; taking or
+-- freeing its wait lock, which is as the `lock` or the `unlock` of a spinlock; or with a spinlock
+-- or wait lock that it has freed, so that it owes a kick.
 pub data Stage (mode : Mode) (v : Verb) (f : Frame) (c : Pc) : Type 0 where
   Spinning : f.lock.wait ≡ false → is_rw_row c ≡ false → BelongsTo mode v c → Stage mode v f c
   Sharing : is_rw_row c ≡ true → RwBelongs v f.lock.wait c → Stage mode v f c
-  Waiting : f.lock.wait ≡ true → is_rw_row c ≡ false → is_release_row c ≡ false → takes_wait v ≡ true → BelongsTo mode Lock c → Stage mode v f c
-  Freeing : f.lock.wait ≡ true → is_rw_row c ≡ false → is_release_row c ≡ true → takes_wait v ≡ true → BelongsTo mode Unlock c → Stage mode v f c
-  Owing : mode ≡ Pv → c ≡ U5 → (f.lock.wait ≡ false → v ≡ Unlock) → (f.lock.wait ≡ true → takes_wait v ≡ true) → Stage mode v f c
+  Waiting : f.lock.wait ≡ true
+      → is_rw_row c ≡ false
+      → is_release_row c ≡ false
+      → takes_wait v ≡ true
+      → BelongsTo mode Lock c
+      → Stage mode v f c
+  Freeing : f.lock.wait ≡ true
+      → is_rw_row c ≡ false
+      → is_release_row c ≡ true
+      → takes_wait v ≡ true
+      → BelongsTo mode Unlock c
+      → Stage mode v f c
+  Owing : mode ≡ Pv
+      → c ≡ U5
+      → (f.lock.wait ≡ false → v ≡ Unlock)
+      → (f.lock.wait ≡ true → takes_wait v ≡ true)
+      → Stage mode v f c
 
--- A frame at a row works: the row belongs to the operation at its position, on whose lock or wait lock it acts; and with a wait lock it
--- knows where to go on.
+-- A frame at a row works: the row belongs to the operation at its position, on whose lock or wait
+-- lock it acts; and with a wait lock it knows where to go on.
 pub record Works (mode : Mode) (ops : List Op) (f : Frame) (c : Pc) : Type 0 where
   pub op : Op
   pub is : slice_get ops f.«at» ≡ Some op
@@ -211,10 +192,12 @@ pub record Works (mode : Mode) (ops : List Op) (f : Frame) (c : Pc) : Type 0 whe
 
 -- the program of a frame: the task's in context 0, and above it that of a handler
 abbrev pub RunsOne : Machine → Waiter → Frame → Type 0
-RunsOne m u f = (u.ctx ≡ 0 → f.program ≡ 0) × (0 < u.ctx → (0 < f.program) × (f.program ≤ handlers_at m u.cpu))
+RunsOne m u f = (u.ctx ≡ 0 → f.program ≡ 0)
+    × (0 < u.ctx → (0 < f.program) × (f.program ≤ handlers_at m u.cpu))
 
--- A frame fits: it stands at its context, runs one of its processor's programs, and is finished exactly at the end of it; and the nodes
--- before its own, and whose processor it kicks, are the machine's, also where they were given back.
+-- A frame fits: it stands at its context, runs one of its processor's programs, and is finished
+-- exactly at the end of it; and the nodes before its own, and whose processor it kicks, are the
+-- machine's, also where they were given back.
 pub record Fits (m : Machine) (u : Waiter) (f : Frame) : Type 0 where
   pub ctx : f.ctx ≡ u.ctx
   pub program : RunsOne m u f
@@ -229,8 +212,9 @@ abbrev pub IsEnteredOnce : List (LockName × NodeName) → Type 0
 IsEnteredOnce [] = Unit {0}
 IsEnteredOnce (e ∷ es) = (entry_in e.0 es ≡ None) × IsEnteredOnce es
 
--- The machine has the parts of its setup: a lock's state for each lock, and for each processor four nodes and from one to six frames. No
--- more handlers were used than there are, and no lock is entered twice.
+-- The machine has the parts of its setup: a lock's state for each lock, and for each processor four
+-- nodes and from one to six frames. No more handlers were used than there are, and no lock is
+-- entered twice.
 pub record IsWhole (m : Machine) : Type 0 where
   pub setup : IsLawfulSetup m.setup
   pub locks : length m.locks ≡ length m.setup.locks.items
@@ -243,7 +227,7 @@ pub record IsWhole (m : Machine) : Type 0 where
 -- the machine is sound, and its words, nodes and frames agree with these histories
 pub record ShowsAll (m : Machine) (hs : LockName → LockHistory) : Type 0 where
   pub whole : IsWhole m
-  pub world : IsWholeWorld (world m) hs
+  pub world : IsSoundWorld (world m) hs
   pub fits : (u : Waiter) (f : Frame) → frame_at m u ≡ Some f → Fits m u f
 
 -- the machine shows the history

@@ -1,5 +1,5 @@
--- How far a front has come with its choice of the next: what it knows at each row of the choice. It has the branch that was taken, so
--- that no clause reads a register that is stale.
+-- How far a front has come with its choice of the next: what it knows at each row of the choice. It
+-- has the branch that was taken, so that no clause reads a register that is stale.
 use Rattle.std.specs.Prelude.{ℕ, Option, Some, None, Bool, true, false}
 use Rattle.lk_word.specs.declared.spin_word.NodeName.{NodeName}
 
@@ -95,22 +95,26 @@ picks (Picks y) = true
 picks (Picked y) = true
 picks _ = false
 
+-- the last of those that are moved, once the first of the second queue names it as the last
 abbrev pub hangs : Stage → Option NodeName
 hangs (Hangs a b k y) = Some b
 hangs (Counts a b k y) = Some b
 hangs _ = None
 
+-- the last of the second queue, where the front has learnt it
 abbrev pub tail_seen : Stage → Option NodeName
 tail_seen (Tips a b k y t) = Some t
 tail_seen (Flushing a t) = Some t
 tail_seen (Promoting t) = Some t
 tail_seen _ = None
 
+-- the first of those that stand before the queue again
 abbrev pub before_of : Stage → Option NodeName
 before_of (Flushes a) = Some a
 before_of (Flushing a t) = Some a
 before_of _ = None
 
+-- the next, once it was told how many handovers were made
 abbrev pub counted : Stage → Option NodeName
 counted (Counts a b k y) = Some y
 counted (Picked y) = Some y

@@ -1,4 +1,5 @@
-//! The laws of the locks: what holds of words, nodes and frames at every moment, and that each row keeps it.
+//! The laws of the locks: what holds of words, nodes and frames at every moment, and that each row
+//! keeps it.
 #![tactic(auto)]
 
 mod laws;

@@ -1,6 +1,9 @@
-use Rattle.lk_law.proofs.Interrupts.{interrupt_shows}
-use Rattle.lk_law.proofs.WholeHalts.{whole_fronts_are_owed}
-use Rattle.lk_law.proofs.KicksShown.{every_row_shows, begin_shows, end_shows, wake_shows, nudge_shows, int_shows, int_awake_shows, fronts_are_owed}
+use Rattle.lk_law.proofs.pv.Interrupts.{interrupt_shows}
+use Rattle.lk_law.proofs.pv.HaltLayers.{fronts_are_owed}
+use Rattle.lk_law.proofs.pv.KicksShown.{every_row_shows}
+use Rattle.lk_law.proofs.pv.HaltsShown.{begin_shows, end_shows, wake_shows}
+use Rattle.lk_law.proofs.pv.HaltsShown.{nudge_shows, int_shows, int_awake_shows}
+use Rattle.lk_law.proofs.pv.HaltsShown.{spin_fronts_are_owed}
 use Rattle.lk_law.proofs.laws.kicks_are_shown.Goals as goal
 
 pub returns-clause-rows : goal.returns-clause-rows
@@ -24,11 +27,11 @@ returns-clause-interrupt c = int_shows
 pub returns-clause-interrupt_awake : goal.returns-clause-interrupt_awake
 returns-clause-interrupt_awake c = int_awake_shows
 
-pub returns-clause-owed : goal.returns-clause-owed
-returns-clause-owed c = fronts_are_owed
+pub returns-clause-spin_owed : goal.returns-clause-spin_owed
+returns-clause-spin_owed c = spin_fronts_are_owed
 
 pub returns-clause-interrupted : goal.returns-clause-interrupted
 returns-clause-interrupted c = interrupt_shows
 
-pub returns-clause-whole_owed : goal.returns-clause-whole_owed
-returns-clause-whole_owed c = whole_fronts_are_owed
+pub returns-clause-owed : goal.returns-clause-owed
+returns-clause-owed c = fronts_are_owed

@@ -1,4 +1,4 @@
-use Rattle.lk_law.proofs.KnowsCna.{passes_are_bounded, run_is_short}
+use Rattle.lk_law.proofs.cna.Knows.{passes_are_bounded, run_is_short}
 use Rattle.lk_law.proofs.laws.passes_are_bounded.Goals as goal
 
 pub returns-clause-bounded : goal.returns-clause-bounded

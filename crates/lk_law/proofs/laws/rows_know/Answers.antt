@@ -1,4 +1,4 @@
-use Rattle.lk_law.proofs.Knows.{row_knows}
+use Rattle.lk_law.proofs.common.Knows.{row_knows}
 use Rattle.lk_law.proofs.laws.rows_know.Goals as goal
 
 pub returns : goal.returns

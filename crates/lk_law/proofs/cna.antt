@@ -1,0 +1,24 @@
+-- The choice of the next: the second queue, what the front knows, and the rows of the choice.
+pub mod Knows
+pub mod Parts
+pub mod Joined
+pub mod SecondJoin
+pub mod Pass
+pub mod Hand
+pub mod Turn
+pub mod Join
+pub mod Look
+pub mod Scan
+pub mod Tails
+pub mod Store
+pub mod Keep
+pub mod Rows
+pub mod Ends
+pub mod MoveAllowed
+pub mod Front
+pub mod Laws
+pub mod RowsKeep
+pub mod StoreRowsKeep
+pub mod Allowed
+pub mod EndRowsKeep
+pub mod RowsMade

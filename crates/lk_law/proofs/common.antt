@@ -1,0 +1,24 @@
+-- What all families share: names, lists, worlds and their steps, and what every row rests on.
+pub mod Lists
+pub mod Cases
+pub mod Before
+pub mod Frame
+pub mod Sames
+pub mod Told
+pub mod Holders
+pub mod Allowed
+pub mod Puts
+pub mod Worlds
+pub mod Turns
+pub mod TurnSteps
+pub mod Choices
+pub mod Acting
+pub mod Begins
+pub mod Users
+pub mod BothLayers
+pub mod RowsMade
+pub mod HeldAfter
+pub mod EveryRow
+pub mod Knows
+pub mod RestWorld
+pub mod Families

@@ -1,0 +1,45 @@
+-- Names are the same or not.
+use Rattle.std.proofs.Common.{◌≡◌, ◌≢◌, ◌⊎◌, inl, inr, arith, ap}
+use Rattle.std.proofs.lemmas.Bool.{cases_eq}
+use Rattle.lk_abs.specs.declared.names.Waiter.{Waiter}
+use Rattle.lk_word.specs.declared.spin_word.NodeName.{NodeName}
+use Rattle.lk_abs.specs.declared.names.LockName.{LockName}
+use Rattle.std.proofs.lemmas.Bool.{cases_Bool}
+use Rattle.std.proofs.Common.{Bool}
+
+-- two waiters are the same, or not
+pub waiter_cases : (u w : Waiter) → (u ≡ w) ⊎ (u ≢ w)
+waiter_cases u w =
+    elim (cases_eq u.cpu w.cpu) [
+      | inl c ↦ elim
+          (cases_eq u.ctx w.ctx) [
+            | inl x ↦ inl (λ i. record { cpu = c i; ctx = x i })
+            | inr n ↦ inr (λ e. n (ap (λ (v : Waiter). v.ctx) e))
+          ]
+      | inr n ↦ inr (λ e. n (ap (λ (v : Waiter). v.cpu) e))
+    ]
+
+pub node_cases : (u w : NodeName) → (u ≡ w) ⊎ (u ≢ w)
+node_cases u w =
+    elim (cases_eq u.cpu w.cpu) [
+      | inl c ↦ elim
+          (cases_eq u.index w.index) [
+            | inl x ↦ inl (λ i. record { cpu = c i; index = x i })
+            | inr n ↦ inr (λ e. n (ap (λ (v : NodeName). v.index) e))
+          ]
+      | inr n ↦ inr (λ e. n (ap (λ (v : NodeName). v.cpu) e))
+    ]
+
+bool_cases : (a b : Bool) → (a ≡ b) ⊎ (a ≢ b)
+bool_cases a b = grind (arith, cases_Bool a, cases_Bool b)
+
+pub lock_cases : (u w : LockName) → (u ≡ w) ⊎ (u ≢ w)
+lock_cases u w =
+    elim (cases_eq u.index w.index) [
+      | inl c ↦ elim
+          (bool_cases u.wait w.wait) [
+            | inl x ↦ inl (λ i. record { index = c i; wait = x i })
+            | inr n ↦ inr (λ e. n (ap (λ (v : LockName). v.wait) e))
+          ]
+      | inr n ↦ inr (λ e. n (ap (λ (v : LockName). v.index) e))
+    ]

@@ -1,0 +1,110 @@
+-- The posts of a lock where nothing changes that they speak of; and what a post says of the phase.
+use Rattle.std.proofs.Common.{◌≡◌, Option, Some, Bool, true, false, ◌⊎◌, inl, inr, arith, ap, refl}
+use Rattle.std.proofs.Common.{sym, ◌∙◌}
+use Rattle.std.proofs.lemmas.Bool.{cases_Bool}
+use Rattle.lk_abs.specs.declared.names.Waiter.{Waiter}
+use Rattle.lk_word.specs.declared.spin_word.NodeName.{NodeName}
+use Rattle.lk_word.specs.declared.spin_word.Locked.{Locked}
+use Rattle.lk_machine.specs.declared.parts.State.{State}
+use Rattle.lk_machine.specs.declared.parts.Flag.{Flag}
+use Rattle.lk_law.specs.Phase.{Phase, has_node, has_lock, leads}
+use Rattle.lk_law.specs.Phase.Phase.{Links, Waits, Leads, Presses, Holds, Hands, Releases}
+use Rattle.lk_law.specs.Pv.{Post, PostsAgree, agrees, sleeps, full, raw, fits, holds, fronts}
+use Rattle.lk_law.specs.Pv.Post.{Off, Joins, Spins, Peers, Stops, Stopped, Dozes, Sleeps, Stirs}
+use Rattle.lk_law.specs.Pv.Post.{Rises, Clears, Tries, Signs, Slows, Wins, Erases, Marks, Checks}
+use Rattle.lk_law.specs.Pv.Post.{Naps, Has, Calls, Slowing, Signing, Finds, Drops, Kicks}
+
+-- the post speaks of the own node
+abbrev pub noded_post : Post → Bool
+noded_post Off = false
+noded_post (Calls y) = false
+noded_post (Slowing y) = false
+noded_post (Signing y) = false
+noded_post Finds = false
+noded_post (Drops t) = false
+noded_post (Kicks t) = false
+noded_post _ = true
+
+fits-free : (p : Post) (f : Bool) (s : State) → noded_post p ≡ false → fits p f s ≡ true
+fits-free p f s h = grind arith
+
+full-noded : (p : Post) → full p ≡ true → noded_post p ≡ true
+full-noded p h = grind arith
+
+-- nothing changes that the posts speak of
+pub pv_keep : (locked : Locked) (entry : Option NodeName) (front : Option Waiter)
+    (post : Waiter → Post) (state state' : Waiter → State) (own own' : Waiter → NodeName)
+    (owed owed' : Waiter → Type 0)
+    → PostsAgree locked entry front post state own owed
+    → ((u : Waiter) → noded_post (post u) ≡ true → (state' u ≡ state u) × (own' u ≡ own u))
+    → ((z : Waiter) → front ≡ Some z → (state' z ≡ state z) × (own' z ≡ own z))
+    → ((z : Waiter) → sleeps (post z) ≡ true → owed z → owed' z)
+    → PostsAgree locked entry front post state' own' owed'
+pv_keep locked entry front post state state' own own' owed owed' ok same lead more =
+    record {
+      fit = λ u f a b. elim (cases_Bool (noded_post (post u))) [
+        | inl t ↦ rw (same u t).0 (ok.fit u f a b)
+        | inr n ↦ fits-free (post u) f (state' u) n
+      ];
+      bare_entry = ok.bare_entry;
+      bare_slow = ok.bare_slow;
+      bare_some = ok.bare_some;
+      full_entry = λ u h. ok.full_entry u h ∙ ap (λ n. Some n) (sym (same u (full-noded (post u) h)).1);
+      full_slow = ok.full_slow;
+      full_some = ok.full_some;
+      entered = λ n h. let q = ok.entered n h in (q.0, q.1, (lead q.0 q.1).1 ∙ q.2);
+      named = λ u n h. let q = ok.named u n h in (q.0, q.1, (lead q.0 q.1).1 ∙ q.2);
+      raw_slow = λ z f h. ok.raw_slow z f (ap (raw (post z)) (sym (lead z f).0) ∙ h);
+      raw_free = λ z u f h. ok.raw_free z u f (ap (raw (post z)) (sym (lead z f).0) ∙ h);
+      slow = ok.slow;
+      one = ok.one;
+      called = λ z u f c d. (lead z f).0 ∙ ok.called z u f c d;
+      dozed = λ z f d h. ok.dozed z f d (sym (lead z f).0 ∙ h);
+      slept = λ z f d. elim (ok.slept z f d) [
+        | inl a ↦ inl a
+        | inr b ↦ elim
+            b [
+              | inl c ↦ inr (inl c)
+              | inr e ↦ elim
+                  e [ inl g ↦ inr (inr (inl g)) | inr o ↦ inr (inr (inr (more z (ap sleeps d) o))) ]
+            ]
+      ];
+      napped = λ z f d. elim (ok.napped z f d) [
+        | inl a ↦ inl a
+        | inr e ↦ elim e [ inl g ↦ inr (inl g) | inr o ↦ inr (inr (more z (ap sleeps d) o)) ]
+      ];
+    }
+
+-- what the posts mean for the lock
+pub agrees-noded : (p : Post) (r : Phase) → agrees p r ≡ true → noded_post p ≡ true
+    → has_node r ≡ true
+agrees-noded Joins (Links n) h k = refl
+agrees-noded Spins Waits h k = refl
+agrees-noded Peers Waits h k = refl
+agrees-noded Stops Waits h k = refl
+agrees-noded Stopped Waits h k = refl
+agrees-noded Dozes Waits h k = refl
+agrees-noded Sleeps Waits h k = refl
+agrees-noded Stirs Waits h k = refl
+agrees-noded Rises Leads h k = refl
+agrees-noded (Clears g) Leads h k = refl
+agrees-noded (Tries g) Leads h k = refl
+agrees-noded (Tries g) Presses h k = refl
+agrees-noded Signs Leads h k = refl
+agrees-noded Slows Leads h k = refl
+agrees-noded Marks Leads h k = refl
+agrees-noded Checks Leads h k = refl
+agrees-noded Naps Leads h k = refl
+agrees-noded Wins Holds h k = refl
+agrees-noded Erases Holds h k = refl
+agrees-noded Has Holds h k = refl
+agrees-noded Has (Hands n) h k = refl
+agrees-noded p r h k = grind (arith, h, k)
+
+pub agrees-holds : (p : Post) (r : Phase) → agrees p r ≡ true → holds p ≡ true
+    → (has_lock r false ≡ true) ⊎ (r ≡ Releases)
+agrees-holds p r h k = grind (arith, h, k)
+
+pub agrees-fronts : (p : Post) (r : Phase) (f : Flag) → agrees p r ≡ true → fronts p ≡ true
+    → leads r f ≡ true
+agrees-fronts p r f h k = grind (arith, h, k)

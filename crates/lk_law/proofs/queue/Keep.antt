@@ -1,0 +1,37 @@
+-- The queue, where nothing changes that it reads.
+use Rattle.std.proofs.Common.{◌≡◌, suc, Option, true, List, arith}
+use Rattle.lk_abs.specs.declared.names.Waiter.{Waiter}
+use Rattle.lk_word.specs.declared.spin_word.NodeName.{NodeName}
+use Rattle.lk_machine.specs.declared.parts.Node.{Node}
+use Rattle.lk_law.specs.Phase.{Phase, queues}
+use Rattle.lk_law.specs.Snapshot.{QueueAgrees}
+use Rattle.lk_machine.specs.Machine.{rest_node}
+use Rattle.lk_law.specs.Phase.Phase.{Prepared}
+
+-- nothing changes that the queue reads
+pub queue_keep : {tail : Option NodeName} {phase phase' : Waiter → Phase}
+    {own own' : Waiter → NodeName} {node node' : NodeName → Node} {main : List Waiter}
+    → QueueAgrees tail phase own node main
+    → ((u : Waiter) → queues (phase u) ≡ true
+    → (phase' u ≡ phase u) × (own' u ≡ own u) × (node' (own' u) ≡ node (own u)))
+    → ((u : Waiter) → queues (phase' u) ≡ true → phase' u ≡ phase u)
+    → ((u : Waiter) → phase' u ≡ Prepared → node' (own' u) ≡ rest_node)
+    → QueueAgrees tail phase' own' node' main
+queue_keep {phase = phase} {phase' = phase'} ok same back new =
+    record {
+      inside = λ i u h. grind (arith, ok.inside i u, same u);
+      place = λ u h. let e = back u h in ok.place u (grind arith);
+      once = ok.once;
+      no_tail = ok.no_tail;
+      tail_is = λ i u h k. grind (arith, ok.tail_is i u, ok.inside i u, same u);
+      first = λ u h. grind (arith, ok.first u, ok.inside 0 u, same u);
+      behind = λ i u h. grind (arith, ok.behind i u, ok.inside (suc i) u, same u);
+      linked = λ i u v h k r. grind (arith, ok.linked i u v, ok.inside i u, same u, ok.inside (suc i) v, same v);
+      linking = λ i u v n h k r. grind (arith, ok.linking i u v n, ok.inside i u, same u, ok.inside (suc i) v, same v);
+      last = λ i u h k. grind (arith, ok.last i u, ok.inside i u, same u);
+      hand = λ u n h.
+          let b : phase' u ≡ phase u = grind (arith, back u) in
+          let r = ok.hand u n (grind arith) in
+          (r.0, r.1, grind (arith, same r.0, r), grind (arith, same r.0, r));
+      fresh = new;
+    }
