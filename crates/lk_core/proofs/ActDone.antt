@@ -1,5 +1,6 @@
 -- What holds of an act that was done as it is written.
-use Rattle.std.proofs.Common.{◌≡◌, ℕ, Option, Some, None, Bool, true, false, List, inl, inr, arith, ap, ◌<◌, ◌≤◌, ◌+◌, ◌-◌, ◌^◌, refl, sym, ◌∙◌, subst, length}
+use Rattle.std.proofs.Common.{◌≡◌, ℕ, Option, Some, None, Bool, true, false, List, inl, inr, arith}
+use Rattle.std.proofs.Common.{ap, ◌<◌, ◌≤◌, ◌+◌, ◌-◌, ◌^◌, refl, sym, ◌∙◌, subst, length}
 use Rattle.std.specs.Prelude.{if◌then◌else◌, ◌||◌, ◌&&◌, not, nat_le, slice_set}
 use Rattle.std.proofs.lemmas.List.{set-get_or}
 use Rattle.std.proofs.lemmas.Bool.{cases_Bool, lt-leb, or_from, or_right, and_from, not_from_false}
@@ -11,29 +12,31 @@ use Rattle.lk_abs.specs.declared.events.Act.{Act}
 use Rattle.lk_abs.specs.declared.events.Act.TheVariants as act
 use Rattle.lk_abs.specs.declared.events.Event.{Event}
 use Rattle.lk_abs.specs.declared.events.What.TheVariants.{Int}
-use Rattle.lk_machine.specs.declared.setup.Verb.{Verb}
+use Rattle.lk_machine.specs.declared.family.Family.TheVariants as family
+use Rattle.lk_machine.specs.Family.{family_of}
 use Rattle.lk_machine.specs.declared.setup.Verb.TheVariants.{Lock, Try, Unlock}
 use Rattle.lk_machine.specs.declared.parts.Pc.{Pc}
 use Rattle.lk_machine.specs.declared.parts.Pc.TheVariants.{F1, V1, V2}
-use Rattle.lk_machine.specs.Machine.{Machine, CpuState, no_cpu, cpu_at, set_cpu, set_preempted, depth_at, preempted_at, halted_at, handlers_at, top_of, top_frame, rest_frame, push, HasTop}
+use Rattle.lk_machine.specs.Machine.{Machine, CpuState, no_cpu, cpu_at, set_cpu, set_preempted}
+use Rattle.lk_machine.specs.Machine.{depth_at, preempted_at, halted_at, handlers_at, top_of}
+use Rattle.lk_machine.specs.Machine.{top_frame, rest_frame, push, HasTop}
 use Rattle.lk_machine.specs.declared.setup.Setup.{Setup}
 use Rattle.lk_machine.specs.declared.parts.Frame.{Frame}
 use Rattle.lk_machine.specs.Programs.{HasPrograms, handlers_of}
 use Rattle.lk_machine.specs.Moves.{settled}
 use Rattle.lk_machine.specs.Row.{Answer}
-use Rattle.lk_machine.specs.Rows.{row}
-use Rattle.lk_machine.specs.Acts.{idle, halts, nudged, step, step_halted, is_shut, handler_frame, awake, interrupted, next as done, processor_of}
+use Rattle.lk_machine.specs.TopRow.{row}
+use Rattle.lk_machine.specs.Acts.{idle, stands_halting, nudged, step, step_halted, is_shut}
+use Rattle.lk_machine.specs.Acts.{handler_frame, awake, interrupted, next as done, processor_of}
 use Rattle.lk_machine.specs.Ready.{CountsWithin, IsReady}
-use Rattle.lk_law.specs.World.{told_on}
-use Rattle.lk_spin.specs.Row.{is_spin_row}
-use Rattle.lk_queue.specs.Row.{is_queue_row}
-use Rattle.lk_cna.specs.Row.{is_cna_row, IsCnaReady}
-use Rattle.lk_rw.specs.Row.{is_rw_row as is_shared_row, IsRwReady}
-use Rattle.lk_law.specs.Whole.{is_rw_row}
-use Rattle.lk_law.specs.Sound.{BelongsTo, Stage, Spinning, Sharing, Waiting, Freeing, Owing, is_lock_row, ShowsAll, IsSound}
+use Rattle.lk_law.specs.Steps.{told_on}
+use Rattle.lk_cna.specs.Row.{IsCnaReady}
+use Rattle.lk_rw.specs.Row.{IsRwReady}
+use Rattle.lk_law.specs.Sound.{BelongsTo, Stage, Spinning, Sharing, Waiting, Freeing, Owing}
+use Rattle.lk_law.specs.Sound.{is_lock_row, ShowsAll, IsSound}
 use Rattle.lk_law.specs.MachineLaws.{ShowsLawful}
 use Rattle.lk_law.specs.Kicked.{and_then}
-use Rattle.lk_pv.specs.Row.{is_pv_row, IsPvReady}
+use Rattle.lk_pv.specs.Row.{IsPvReady}
 use Rattle.lk_core.specs.Idle.{IsIdle, Happens}
 use Rattle.lk_core.proofs.ActKept.{act_kept}
 use Rattle.lk_core.proofs.CountsKept.{counts_within}
@@ -55,7 +58,8 @@ pub record IsDone (m : Machine) (a : Act) (n : Machine) (e : Option Event) : Typ
   pub counted : (k : ℕ) → CountsWithin k m.counts → CountsWithin (k + 1) n.counts
   pub setup : n.setup ≡ m.setup
 
-act_done_at : (m : Machine) (a : Act) → processor_of a < length m.cpus → IsSound m → IsDone m a (done m a).0 (done m a).1
+act_done_at : (m : Machine) (a : Act) → processor_of a < length m.cpus → IsSound m
+    → IsDone m a (done m a).0 (done m a).1
 act_done_at m a range sound =
     let hs = sound.0 in
     record {
@@ -70,17 +74,23 @@ act_done_at m a range sound =
     }
 
 -- what the act b gave, a being the same act
-pub act_done : (m : Machine) (a b : Act) (n : Machine) (e : Option Event) → a ≡ b → processor_of a < length m.cpus → IsSound m → n ≡ (done m b).0 → e ≡ (done m b).1 → IsDone m a n e
+pub act_done : (m : Machine) (a b : Act) (n : Machine) (e : Option Event) → a ≡ b
+    → processor_of a < length m.cpus → IsSound m → n ≡ (done m b).0 → e ≡ (done m b).1
+    → IsDone m a n e
 act_done m a b n e same range sound new event =
     let P : Act → Type 0 = λ x. IsDone m a (done m x).0 (done m x).1 in
-    subst (λ (k : Machine). IsDone m a k e) (sym new) (subst (λ (o : Option Event). IsDone m a (done m b).0 o) (sym event) (subst P same (act_done_at m a range sound)))
+    subst (λ (k : Machine). IsDone m a k e) (sym new)
+    (subst (λ (o : Option Event). IsDone m a (done m b).0 o) (sym event)
+    (subst P same (act_done_at m a range sound)))
 
 -- a processor that is preempted already, or is not, stays as it is
-set_preempted-same : (m : Machine) (p : ℕ) (b : Bool) → preempted_at m p ≡ b → set_preempted m p b ≡ m
+set_preempted-same : (m : Machine) (p : ℕ) (b : Bool) → preempted_at m p ≡ b
+    → set_preempted m p b ≡ m
 unfolding preempted_at set_preempted set_cpu cpu_at
 set_preempted-same m p b e =
     let same : record (cpu_at m p) { preempted = b } ≡ cpu_at m p = ap (λ (x : Bool). record (cpu_at m p) { preempted = x }) (sym e) in
-    ap (λ (c : CpuState). record m { cpus = slice_set m.cpus p c }) same ∙ ap (λ (cs : List CpuState). record m { cpus = cs }) (set-get_or m.cpus p no_cpu)
+    ap (λ (c : CpuState). record m { cpus = slice_set m.cpus p c }) same
+    ∙ ap (λ (cs : List CpuState). record m { cpus = cs }) (set-get_or m.cpus p no_cpu)
 
 -- the code writes whether a processor is preempted, whatever it was
 pub preempt_is : (m : Machine) (p : ℕ) → done m (act.Preempt p) ≡ (set_preempted m p true, None)
@@ -95,33 +105,6 @@ resume_is m p = elim (cases_Bool (preempted_at m p)) [
   | inr e ↦ rw e (ap (λ (x : Machine). (x, None)) (sym (set_preempted-same m p false e)))
 ]
 
--- the rows of spinlocks are those on the word alone, those of the choice, those of the lock that halts processors, and those of the queue
-lock_queue : (mode : Mode) (c : Pc) → is_lock_row mode c ≡ true → is_spin_row (Some c) ≡ false → is_cna_row (Some c) ≡ false → is_pv_row (Some c) ≡ false → is_queue_row (Some c) ≡ true
-lock_queue Virt F1 at other early late = cc
-lock_queue Virt V1 at other early late = cc
-lock_queue Virt V2 at other early late = cc
-lock_queue Virt _ at other early late = cc
-lock_queue Native F1 at other early late = cc
-lock_queue Native _ at other early late = cc
-lock_queue Cna F1 at other early late = cc
-lock_queue Cna _ at other early late = cc
-lock_queue Pv F1 at other early late = cc
-lock_queue Pv _ at other early late = cc
-
--- the rows of readers and writers, as their crate and as the laws name them
-shared_same : (c : Pc) → is_shared_row (Some c) ≡ is_rw_row c
-shared_same c = grind arith
-
-of_queue : (mode : Mode) (v : Verb) (c : Pc) → BelongsTo mode v c → is_spin_row (Some c) ≡ false → is_cna_row (Some c) ≡ false → is_pv_row (Some c) ≡ false → is_queue_row (Some c) ≡ true
-of_queue mode Lock c at other early late = lock_queue mode c at other early late
-of_queue mode Try c (inl e) other early late = absurd (let z = ap (λ (x : Pc). is_spin_row (Some x)) e in grind (arith, z, other))
-of_queue mode Try c (inr e) other early late = absurd (let z = ap (λ (x : Pc). is_spin_row (Some x)) e in grind (arith, z, other))
-of_queue Pv Unlock c (inl at) other early late = absurd (let z = ap (λ (x : Pc). is_pv_row (Some x)) at in grind (arith, z, late))
-of_queue Pv Unlock c (inr (inl at)) other early late = absurd (let z = ap (λ (x : Pc). is_pv_row (Some x)) at in grind (arith, z, late))
-of_queue Pv Unlock c (inr (inr at)) other early late = absurd (let z = ap (λ (x : Pc). is_pv_row (Some x)) at in grind (arith, z, late))
-of_queue mode Unlock c at other early late = absurd (let z = ap (λ (x : Pc). is_spin_row (Some x)) at in grind (arith, z, other))
-of_queue mode _ c at other early late = absurd at
-
 module _ (m : Machine) (p : ℕ) (range : p < length m.cpus) (sound : IsSound m) where
   abbrev hs : LockName → LockHistory
   hs = sound.0
@@ -130,15 +113,18 @@ module _ (m : Machine) (p : ℕ) (range : p < length m.cpus) (sound : IsSound m)
   shows = sound.1
 
   -- the row at a place can be made
-  pub row_ready : (c : Pc) → (top_frame m p).place ≡ Some c → CountsWithin (2 ^ 64 - 2) m.counts → IsReady m p
+  pub row_ready : (c : Pc) → (top_frame m p).place ≡ Some c → CountsWithin (2 ^ 64 - 2) m.counts
+      → IsReady m p
   row_ready c at counts = ready_at m hs shows p range c at counts
 
   -- and a row of the choice with what it asks besides
-  pub choice_ready : (c : Pc) → (top_frame m p).place ≡ Some c → is_cna_row (Some c) ≡ true → CountsWithin (2 ^ 64 - 2) m.counts → IsCnaReady m p
+  pub choice_ready : (c : Pc) → (top_frame m p).place ≡ Some c → family_of c ≡ family.Cna
+      → CountsWithin (2 ^ 64 - 2) m.counts → IsCnaReady m p
   choice_ready c at on counts = cna_ready_at m hs shows p range c at on counts
 
   -- and a row of the lock that halts processors
-  pub halting_ready : (c : Pc) → (top_frame m p).place ≡ Some c → is_pv_row (Some c) ≡ true → CountsWithin (2 ^ 64 - 2) m.counts → IsPvReady m p
+  pub halting_ready : (c : Pc) → (top_frame m p).place ≡ Some c → family_of c ≡ family.Pv
+      → CountsWithin (2 ^ 64 - 2) m.counts → IsPvReady m p
   halting_ready c at on counts = pv_ready_at m hs shows p range c at on counts
 
   -- the processor has a top frame
@@ -158,26 +144,43 @@ module _ (m : Machine) (p : ℕ) (range : p < length m.cpus) (sound : IsSound m)
       ∙ ap (λ (b : Bool). if b then step_halted m p else row m p) halted
 
   -- an interrupt finds no entry between the last test before a halt and the halt
-  pub interrupt_off : halts (top_frame m p).place ≡ true → halted_at m p ≡ false → done m (act.Interrupt p) ≡ (m, None)
+  pub interrupt_off : stands_halting (top_frame m p).place ≡ true → halted_at m p ≡ false
+      → done m (act.Interrupt p) ≡ (m, None)
   interrupt_off stands awake_is =
       ap (λ (b : Bool). if b then idle m else interrupted m p)
-      (or_right ((preempted_at m p || nat_le 6 (depth_at m p)) || nat_le (handlers_of m.setup p) (handlers_at m p)) (halts (top_frame m p).place && not (halted_at m p))
-      (and_from (halts (top_frame m p).place) (not (halted_at m p)) stands (not_from_false (halted_at m p) awake_is)))
+      (or_right ((preempted_at m p || nat_le 6 (depth_at m p))
+      || nat_le (handlers_of m.setup p) (handlers_at m p))
+      (stands_halting (top_frame m p).place && not (halted_at m p))
+      (and_from (stands_halting (top_frame m p).place) (not (halted_at m p)) stands (not_from_false (halted_at m p) awake_is)))
 
-  -- and finds it where the processor is not preempted, has room and a handler left, and is not about to halt
-  pub interrupt_is : preempted_at m p ≡ false → depth_at m p < 6 → handlers_at m p < handlers_of m.setup p → (halts (top_frame m p).place && not (halted_at m p)) ≡ false
-      → done m (act.Interrupt p) ≡ (settled (push (awake m p) p (handler_frame (awake m p) p)) p (handler_frame (awake m p) p), Some (record { by = record { cpu = p; ctx = depth_at m p }; what = Int }))
+  -- and finds it where the processor is not preempted, has room and a handler left, and is not
+  -- about to halt
+  pub interrupt_is : preempted_at m p ≡ false → depth_at m p < 6
+      → handlers_at m p < handlers_of m.setup p
+      → (stands_halting (top_frame m p).place && not (halted_at m p)) ≡ false
+      → done m (act.Interrupt p)
+      ≡ (
+        settled (push (awake m p) p (handler_frame (awake m p) p)) p
+            (handler_frame (awake m p) p),
+        Some (record { by = record { cpu = p; ctx = depth_at m p }; what = Int }),
+      )
   interrupt_is calm room left off =
       let same = awake_same m p in
       let deep : depth_at (awake m p) p ≡ depth_at m p = same.depth p in
       let used : handlers_at (awake m p) p ≡ handlers_at m p = same.handlers p in
       let name : handler_frame (awake m p) p ≡ handler_frame m p = (λ i. record rest_frame { ctx = deep i; program = used i + 1 }) in
       let open_entry : is_shut m p ≡ false =
-      or_from ((preempted_at m p || nat_le 6 (depth_at m p)) || nat_le (handlers_of m.setup p) (handlers_at m p)) (halts (top_frame m p).place && not (halted_at m p))
+      or_from ((preempted_at m p || nat_le 6 (depth_at m p))
+      || nat_le (handlers_of m.setup p) (handlers_at m p))
+      (stands_halting (top_frame m p).place && not (halted_at m p))
       (or_from (preempted_at m p || nat_le 6 (depth_at m p)) (nat_le (handlers_of m.setup p) (handlers_at m p))
-      (or_from (preempted_at m p) (nat_le 6 (depth_at m p)) calm (lt-leb 6 (depth_at m p) room)) (lt-leb (handlers_of m.setup p) (handlers_at m p) left)) off in
+      (or_from (preempted_at m p) (nat_le 6 (depth_at m p)) calm (lt-leb 6 (depth_at m p) room))
+      (lt-leb (handlers_of m.setup p) (handlers_at m p) left)) off in
       ap (λ (b : Bool). if b then idle m else interrupted m p) open_entry
-      ∙ ap (λ (f : Frame). (settled (push (awake m p) p f) p f, Some (record { by = record { cpu = p; ctx = depth_at m p }; what = Int }))) (sym name)
+      ∙ ap (λ (f : Frame). (
+        settled (push (awake m p) p f) p f,
+        Some (record { by = record { cpu = p; ctx = depth_at m p }; what = Int }),
+      )) (sym name)
 
   -- what the machine has, it has after the end of a halt too
   pub awake_top : HasTop (awake m p) p
@@ -189,18 +192,22 @@ module _ (m : Machine) (p : ℕ) (range : p < length m.cpus) (sound : IsSound m)
   pub awake_room : depth_at m p < 6 → depth_at (awake m p) p < 6
   awake_room room = let deep = (awake_same m p).depth p in omega arith
 
-  pub awake_left : handlers_at m p < handlers_of m.setup p → handlers_at (awake m p) p < handlers_of (awake m p).setup p
+  pub awake_left : handlers_at m p < handlers_of m.setup p
+      → handlers_at (awake m p) p < handlers_of (awake m p).setup p
   awake_left left =
       let h = (awake_same m p).handlers p in
-      let s : handlers_of (awake m p).setup p ≡ handlers_of m.setup p = ap (λ (k : Setup). handlers_of k p) (awake_same m p).keeps.setup in
+      let s : handlers_of (awake m p).setup p ≡ handlers_of m.setup p =
+      ap (λ (k : Setup). handlers_of k p) (awake_same m p).keeps.setup in
       omega arith
 
   -- a nudge of a processor that is neither preempted nor awake ends its halt
   pub nudge_is : preempted_at m p ≡ false → halted_at m p ≡ true → done m (act.Nudge p) ≡ nudged m p
   nudge_is calm halted =
-      ap (λ (b : Bool). if b || not (halted_at m p) then idle m else nudged m p) calm ∙ ap (λ (b : Bool). if not b then idle m else nudged m p) halted
+      ap (λ (b : Bool). if b || not (halted_at m p) then idle m else nudged m p) calm
+      ∙ ap (λ (b : Bool). if not b then idle m else nudged m p) halted
 
-  pub nudge_idle : (preempted_at m p || not (halted_at m p)) ≡ true → done m (act.Nudge p) ≡ (m, None)
+  pub nudge_idle : (preempted_at m p || not (halted_at m p)) ≡ true
+      → done m (act.Nudge p) ≡ (m, None)
   nudge_idle e = ap (λ (b : Bool). if b then idle m else nudged m p) e
 
   -- what an interrupt of the code needs
@@ -210,19 +217,7 @@ module _ (m : Machine) (p : ℕ) (range : p < length m.cpus) (sound : IsSound m)
   pub at_most : (depth_at m p ≤ 6) × (handlers_at m p ≤ handlers_of m.setup p)
   at_most = ((shows.whole.tops p range).few, shows.whole.handlers p)
 
-  -- a row that is none on the word alone, of the choice, of readers and writers, or of the lock that halts processors, is one of the queue
-  pub queue_else : (c : Pc) → (top_frame m p).place ≡ Some c → is_spin_row (Some c) ≡ false → is_cna_row (Some c) ≡ false → is_shared_row (Some c) ≡ false → is_pv_row (Some c) ≡ false → is_queue_row (Some c) ≡ true
-  queue_else c at other early sole late =
-      let w = (shows.fits (top_of m p) (top_frame m p) (top_live m p hs shows range)).working c at in
-      by w.op.verb w.stage
-    where
-      by : (v : Verb) → Stage m.setup.mode v (top_frame m p) c → is_queue_row (Some c) ≡ true
-      by v (Spinning wait s row) = of_queue m.setup.mode v c row other early late
-      by v (Sharing rw row) = absurd (let e = shared_same c in grind (arith, e, rw, sole))
-      by v (Waiting wait s taking takes row) = of_queue m.setup.mode Lock c row other early late
-      by v (Freeing wait s release takes row) = of_queue m.setup.mode Unlock c row other early late
-      by v (Owing pv is plain waits) = absurd (let z = ap (λ (x : Pc). is_pv_row (Some x)) is in grind (arith, z, late))
-
   -- a row of a reader or a writer can be made: its word has room for one reader more
-  pub shared_ready : (c : Pc) → (top_frame m p).place ≡ Some c → is_shared_row (Some c) ≡ true → CountsWithin (2 ^ 64 - 2) m.counts → IsRwReady m p
-  shared_ready c at on counts = rw_ready_at m hs shows p range c at (sym (shared_same c) ∙ on) counts
+  pub shared_ready : (c : Pc) → (top_frame m p).place ≡ Some c → family_of c ≡ family.Rw
+      → CountsWithin (2 ^ 64 - 2) m.counts → IsRwReady m p
+  shared_ready c at on counts = rw_ready_at m hs shows p range c at on counts

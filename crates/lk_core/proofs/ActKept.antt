@@ -1,9 +1,10 @@
 -- Each act keeps what the machine shows, and its event is allowed.
-use Rattle.std.proofs.Common.{Option, ◌≡◌, ◌≢◌, ◌⊎◌, ℕ, Some, None, Bool, true, false, List, [], ◌∷◌, ◌++◌, inl, inr, arith, ap, ◌<◌, ◌≤◌, ◌+◌, ◌-◌, refl, sym, ◌∙◌, subst, length}
+use Rattle.std.proofs.Common.{Option, ◌≡◌, ◌⊎◌, ℕ, Some, None, Bool, true, false, List, [], ◌∷◌}
+use Rattle.std.proofs.Common.{◌++◌, inl, inr, arith, ap, ◌<◌, ◌+◌, ◌-◌, refl, sym, ◌∙◌, subst}
+use Rattle.std.proofs.Common.{length}
 use Rattle.std.specs.Prelude.{if◌then◌else◌, ◌||◌, ◌&&◌, not, nat_le}
-use Rattle.std.proofs.lemmas.Bool.{cases_Bool, cases_eq, or_parts, leb-false}
-use Rattle.std.proofs.lemmas.Option.{none-some}
-use Rattle.lk_abs.specs.Names.{same_waiter}
+use Rattle.std.proofs.lemmas.Bool.{cases_Bool, or_parts, leb-false}
+use Rattle.std.proofs.lemmas.Option.{none-some, same_Some}
 use Rattle.lk_abs.specs.History.{LockHistory}
 use Rattle.lk_abs.specs.declared.names.Waiter.{Waiter}
 use Rattle.lk_abs.specs.declared.names.LockName.{LockName}
@@ -12,190 +13,69 @@ use Rattle.lk_abs.specs.declared.events.What.{What}
 use Rattle.lk_abs.specs.declared.events.What.TheVariants.{Int, Wake, Nudge}
 use Rattle.lk_abs.specs.declared.names.Mode.{Mode}
 use Rattle.lk_abs.specs.declared.names.Mode.TheVariants.{Virt, Native, Cna, Pv}
+use Rattle.lk_abs.specs.declared.events.Act.{Act}
 use Rattle.lk_machine.specs.declared.setup.Setup.{Setup}
 use Rattle.lk_machine.specs.declared.setup.Verb.{Verb}
 use Rattle.lk_machine.specs.declared.setup.Verb.TheVariants.{Lock, Try, Unlock}
 use Rattle.lk_machine.specs.declared.parts.Pc.TheVariants.{W6, W7, E2, E12}
-use Rattle.lk_abs.specs.declared.events.Act.{Act}
-use Rattle.lk_abs.specs.declared.events.Act.TheVariants as act
 use Rattle.lk_machine.specs.declared.parts.Frame.{Frame}
-use Rattle.lk_machine.specs.Machine.{Machine, frame_at, depth_at, preempted_at, halted_at, kicked_at, handlers_at, top_of, top_frame, rest_frame, set_top, set_kicked, set_preempted, push, HasTop}
-use Rattle.lk_machine.specs.Programs.{handlers_of, way_at}
+use Rattle.lk_machine.specs.Machine.{Machine, frame_at, depth_at, preempted_at, halted_at}
+use Rattle.lk_machine.specs.Machine.{kicked_at, handlers_at, top_of, top_frame, rest_frame, set_top}
+use Rattle.lk_machine.specs.Machine.{set_kicked, set_preempted, push}
+use Rattle.lk_machine.specs.Programs.{handlers_of}
 use Rattle.lk_machine.specs.Moves.{program_of, settled}
-use Rattle.lk_machine.specs.Rows.{row}
-use Rattle.lk_machine.specs.Acts.{idle, halts, woken, step, step_halted, kicked_awake, after_halt, is_shut, handler_frame, awake, interrupted, nudged, next, processor_of}
-use Rattle.lk_law.specs.World.{World, put_frame, put_halted, put_kicked, told_on}
-use Rattle.lk_law.specs.Allowed.{IsAllowed}
-use Rattle.lk_law.specs.WorldLaws.{IsNewest, HasNoSleeper, roused}
-use Rattle.lk_law.specs.Kicked.{ShowsKicks}
-use Rattle.lk_law.proofs.HaltsEnd.{roused_is_awake, top_is_awake}
-use Rattle.lk_law.proofs.KicksShown.{end_shows, wake_shows, nudge_shows, int_shows, int_awake_shows}
-use Rattle.lk_law.proofs.WholeHalts.{whole_wakes, whole_nudges, whole_ints}
-use Rattle.lk_law.proofs.HeldNow.{held_goes}
-use Rattle.lk_core.proofs.Kicks.{SameKicks, asleep_in, owed_in, kicks_same, kicks_then, kicks_settled}
-use Rattle.lk_core.proofs.Leads.{SameHold}
-use Rattle.lk_law.specs.Sound.{world, rules_of, held_at, held_of, BelongsTo, Stage, Works, Fits, ShowsAll, held_idle, frees, owes_kick, is_over}
-use Rattle.lk_law.proofs.Cases.{waiter_cases}
-use Rattle.lk_law.proofs.Sames.{same_waiter-self}
-use Rattle.lk_law.proofs.Puts.{same_waiter-else}
-use Rattle.lk_core.proofs.Access.{above_top}
-use Rattle.lk_core.proofs.Worlds.{alike, next_of, world-push, world-set_preempted, world-set_top, world-set_halted, world-set_kicked}
-use Rattle.lk_core.proofs.Same.{Keeps, Same, same_then, same_set_top, same_set_halted, same_set_kicked, same_set_preempted, keeps_push, handlers_push, handlers_push_other, depth_push, tops_push, whole_kept, whole_same, fits_kept}
-use Rattle.lk_core.proofs.Settle.{Between, ended, fits_all, settled_shows}
-use Rattle.lk_core.proofs.Moved.{Ready, goes_fit, holding_same}
-use Rattle.lk_law.specs.Whole.{IsWholeWorld, RwFits, is_rw_row, spin_part, rw_phase_if, rw_phase_of}
-use Rattle.lk_law.specs.RwPhase.{is_inner}
-use Rattle.lk_law.proofs.RwBegins.{whole_ends}
-use Rattle.lk_core.proofs.Walks.{IsOuter, outer_held}
-use Rattle.std.proofs.lemmas.Option.{same_Some}
+use Rattle.lk_machine.specs.TopRow.{row}
+use Rattle.lk_machine.specs.Acts.{idle, stands_halting, woken, step, step_halted, kicked_awake}
+use Rattle.lk_machine.specs.Acts.{after_halt, is_shut, handler_frame, awake, interrupted, nudged}
+use Rattle.lk_machine.specs.Acts.{next, processor_of}
 use Rattle.lk_machine.specs.declared.parts.Pc.{Pc}
-use Rattle.lk_core.proofs.RowKept.{Kept, Stands, Acts, Owes, Shares, stands, top_live, top_newest, row_kept}
-
-idle_kept : (m : Machine) (hs : LockName → LockHistory) → ShowsAll m hs → Kept m hs (idle m)
-idle_kept m hs shows = record { shows = shows; allowed = tt; kicks = λ es shown. shown }
-
-placeless_outer : (f : Frame) → f.place ≡ None → IsOuter f
-placeless_outer f place = record { inner = ap (λ (c : Option Pc). is_inner (rw_phase_if c f.lock.wait)) place; over = ap (λ (c : Option Pc). frees (rw_phase_if c f.lock.wait) || owes_kick c) place }
-
--- a frame without a place that stands on top holds what it holds
-ended_is : (n : Machine) (w : Waiter) (f : Frame) → frame_at n w ≡ Some f → f.place ≡ None → ended n w f f ≡ world n
-ended_is n w f live place =
-    alike (ended n w f f) (world n) (record {
-      mode = refl;
-      turns = refl;
-      threshold = refl;
-      sockets = refl;
-      word = λ l. refl;
-      node = λ k. refl;
-      frame = λ u. elim (waiter_cases u w) [
-        | inl e ↦
-            let P : Waiter → Type 0 = λ v. (if same_waiter v w then Some f else frame_at n v) ≡ frame_at n v in
-            subst P (sym e) (rw (same_waiter-self w) (sym live))
-        | inr ne ↦ rw (same_waiter-else u w ne) refl
-      ];
-      held = λ u l. elim (waiter_cases u w) [
-        | inl e ↦
-            let P : Waiter → Type 0 = λ v. (if same_waiter v w then held_idle (program_of n w.cpu f) f l else held_of n v l) ≡ held_of n v l in
-            subst P (sym e) (rw (same_waiter-self w) (sym (ap (held_at n w l) live ∙ outer_held (program_of n w.cpu f) f (placeless_outer f place) l)))
-        | inr ne ↦ rw (same_waiter-else u w ne) refl
-      ];
-      queued = λ q. refl;
-      rw = λ i. refl;
-      kind = λ i. refl;
-      entry = λ k. refl;
-      halted = λ q. refl;
-      kicked = λ q. refl;
-    })
-
--- A frame comes on top, where no frame of the processor sleeps.
-module _ (m : Machine) (p : ℕ) (hs : LockName → LockHistory) (shows : ShowsAll m hs) (range : p < length m.cpus)
-    (room : depth_at m p < 6) (left : handlers_at m p < handlers_of m.setup p) (calm : HasNoSleeper (world m) p) where
-  abbrev f : Frame
-  f = handler_frame m p
-
-  abbrev n : Machine
-  n = push m p f
-
-  abbrev w : Waiter
-  w = next_of m p
-
-  keeps : Keeps m n
-  keeps = keeps_push m p f range
-
-  top : HasTop m p
-  top = shows.whole.tops p range
-
-  frames : (u : Waiter) → frame_at n u ≡ (if same_waiter u w then Some f else frame_at m u)
-  frames u = ap (λ (x : World). x.frame u) (world-push m p f range)
-
-  top_is : top_of n p ≡ w
-  top_is = let d : depth_at n p - 1 ≡ depth_at m p = let e = depth_push m p f range in omega arith in (λ i. record { cpu = p; ctx = d i })
-
-  absent : frame_at m w ≡ None
-  absent = above_top m p (depth_at m p) (omega (arith, top.some))
-
-  live : frame_at n w ≡ Some f
-  live = frames w ∙ ap (λ (b : Bool). if b then Some f else frame_at m w) (same_waiter-self w)
-
-  -- the new frame holds nothing
-  held_new : (l : LockName) → held_at m w l (Some f) ≡ held_of m w l
-  held_new l = by l.wait ∙ sym (ap (held_at m w l) absent)
-    where
-      by : (b : Bool) → (if b then None else way_at (program_of m p f) 0 l.index) ≡ None
-      by true = refl
-      by false = refl
-
-  pushed_world : world n ≡ put_frame (world m) w (Some f)
-  pushed_world = world-push m p f range ∙ holding_same (world m) w (Some f) (λ l. held_at m w l (Some f)) held_new
-
-  pushed_sound : IsWholeWorld (ended n w f f) hs
-  pushed_sound =
-      subst (λ (x : World). IsWholeWorld x hs) (sym (ended_is n w f live refl ∙ pushed_world))
-      (whole_ends (world m) hs w None (Some f) shows.world absent tt (refl, refl) (λ q. calm)
-      (λ d e. subst (RwFits (world m).kind) (same_Some f d e) (record { rw = λ c q r. cc; inner = λ c q r i. cc; spin = λ c q r s. cc; waits = λ q. cc; after = λ q. cc })))
-
-  between : Between n p f f hs
-  between =
-      record {
-        whole = whole_kept m n shows.whole keeps (λ q lt. tops_push m p f range room q (shows.whole.tops q lt)) (λ q. elim (cases_eq q p) [
-          | inl e ↦ let h = handlers_push m p f range in subst (λ (r : ℕ). handlers_at n r ≤ handlers_of m.setup r) (sym e) (omega arith)
-          | inr ne ↦ let h = handlers_push_other m p q f ne in let o = shows.whole.handlers q in omega arith
-        ]);
-        range = rw keeps.cpus range;
-        others = λ u g ne e.
-            let far : u ≢ w = (λ q. ne (q ∙ sym top_is)) in
-            let at : frame_at n u ≡ frame_at m u = frames u ∙ ap (λ (b : Bool). if b then Some f else frame_at m u) (same_waiter-else u w far) in
-            fits_kept m n u g keeps (shows.fits u g (sym at ∙ e));
-        world = subst (λ (v : Waiter). IsWholeWorld (ended n v f f) hs) (sym top_is) pushed_sound;
-        place = refl;
-        me = refl;
-        lock = refl;
-        next = refl;
-        ctx = sym (ap (λ (v : Waiter). v.ctx) top_is);
-        program =
-            let e = ap (λ (v : Waiter). v.ctx) top_is in
-            let h = handlers_push m p f range in
-            let s = top.some in
-            (λ z. absurd (omega arith), λ z. (omega arith, omega arith));
-        within = omega arith;
-        nodes = record { prev = λ x e. absurd (none-some x e); target = λ x e. absurd (none-some x e) };
-      }
-
-  pushed_shows : ShowsAll (settled n p f) hs
-  pushed_shows = settled_shows n p f f hs between
-
-  -- and it shows the halts and kicks that it showed
-  pushed_kicks : (es : List Event) → ShowsKicks (world m) es → ShowsKicks (world (settled n p f)) es
-  pushed_kicks es shown =
-      let x : World = put_frame (world m) w (Some f) in
-      let P : World → Waiter → Type 0 = λ y v. SameKicks x (put_frame y v (Some f)) in
-      let twice : P x w = record { halted = λ q. refl; kicked = λ q. refl; asleep = λ u. by asleep_in (same_waiter u w) (frame_at m u); owed = λ u. by owed_in (same_waiter u w) (frame_at m u) } in
-      let over : P (world n) (top_of n p) = subst (λ (v : Waiter). P (world n) v) (sym top_is) (subst (λ (y : World). P y w) (sym pushed_world) twice) in
-      let after = kicks_settled n p (tops_push m p f range room p top) f f refl in
-      kicks_same x (world (settled n p f)) es (kicks_then x (put_frame (world n) (top_of n p) (Some f)) (world (settled n p f)) over after)
-      (end_shows (world m) w None (Some f) es absent tt (refl, refl) shown)
-    where
-      by : {A : Type 0} (F : Option Frame → A) (t : Bool) (z : Option Frame) → F (if t then Some f else (if t then Some f else z)) ≡ F (if t then Some f else z)
-      by F true z = refl
-      by F false z = refl
+use Rattle.lk_law.specs.World.{World}
+use Rattle.lk_law.specs.Steps.{put_halted, put_kicked, told_on}
+use Rattle.lk_law.specs.Allowed.{IsAllowed}
+use Rattle.lk_law.specs.Premises.{IsNewest, HasNoSleeper, roused}
+use Rattle.lk_law.specs.Kicked.{ShowsKicks}
+use Rattle.lk_law.proofs.pv.HaltsEnd.{roused_is_awake, top_is_awake}
+use Rattle.lk_law.proofs.pv.HaltsShown.{wake_shows, nudge_shows, int_shows, int_awake_shows}
+use Rattle.lk_law.proofs.pv.HaltLayers.{wake_keeps, nudge_keeps, int_keeps}
+use Rattle.lk_law.proofs.common.HeldAfter.{held_goes}
+use Rattle.lk_law.specs.Sound.{world, rules_of, held_at, held_of, BelongsTo, Stage, Works, Fits}
+use Rattle.lk_law.specs.Sound.{ShowsAll, owes_kick, is_over}
+use Rattle.lk_law.specs.SoundWorld.{IsSoundWorld, spin_part, rw_phase_of}
+use Rattle.lk_law.specs.Families.{is_rw_row}
+use Rattle.lk_core.proofs.Leads.{SameHold}
+use Rattle.lk_core.proofs.Seated.{next_of, world-set_preempted, world-set_top}
+use Rattle.lk_core.proofs.Worlds.{world-set_halted, world-set_kicked}
+use Rattle.lk_core.proofs.Same.{Same, same_then, same_set_top, same_set_halted, same_set_kicked}
+use Rattle.lk_core.proofs.Same.{same_set_preempted, whole_same, fits_kept}
+use Rattle.lk_core.proofs.Settle.{fits_all}
+use Rattle.lk_core.proofs.Moved.{Ready, goes_fit, holding_same}
+use Rattle.lk_core.proofs.RowParts.{Kept}
+use Rattle.lk_core.proofs.Stands.{Stands, Acts, Owes, Shares, stands, top_newest}
+use Rattle.lk_core.proofs.RowKept.{top_live, row_kept}
+use Rattle.lk_core.proofs.FrameComes.{idle_kept, pushed_kicks, pushed_shows}
+use Rattle.lk_abs.specs.declared.events.Act.TheVariants as act
 
 -- The end of a halt.
 
 -- a processor halts at one of two rows
-halting_place : (o : Option Pc) → halts o ≡ true → (o ≡ Some W6) ⊎ (o ≡ Some E12)
+halting_place : (o : Option Pc) → stands_halting o ≡ true → (o ≡ Some W6) ⊎ (o ≡ Some E12)
 halting_place None e = cc
 halting_place (Some W6) e = inl refl
 halting_place (Some E12) e = inr refl
 halting_place (Some _) e = cc
 
 -- and goes on at a row of the same operation
-behind_row : (mode : Mode) (v : Verb) → (BelongsTo mode v W6 → BelongsTo mode v W7) × (BelongsTo mode v E12 → BelongsTo mode v E2)
+behind_row : (mode : Mode) (v : Verb)
+    → (BelongsTo mode v W6 → BelongsTo mode v W7) × (BelongsTo mode v E12 → BelongsTo mode v E2)
 behind_row Pv Lock = (λ e. refl, λ e. refl)
 behind_row Virt Lock = (λ e. absurd (grind (arith, e)), λ e. absurd (grind (arith, e)))
 behind_row Native Lock = (λ e. absurd (grind (arith, e)), λ e. absurd (grind (arith, e)))
 behind_row Cna Lock = (λ e. absurd (grind (arith, e)), λ e. absurd (grind (arith, e)))
 behind_row mode Try = (λ e. absurd (elim e [ inl q ↦ cc | inr q ↦ cc ]), λ e. absurd (elim e [ inl q ↦ cc | inr q ↦ cc ]))
-behind_row Pv Unlock = (λ e. absurd (elim e [ inl q ↦ cc | inr z ↦ elim z [ inl q ↦ cc | inr q ↦ cc ] ]), λ e. absurd (elim e [ inl q ↦ cc | inr z ↦ elim z [ inl q ↦ cc | inr q ↦ cc ] ]))
+behind_row Pv Unlock = (
+  λ e. absurd (elim e [ inl q ↦ cc | inr z ↦ elim z [ inl q ↦ cc | inr q ↦ cc ] ]),
+  λ e. absurd (elim e [ inl q ↦ cc | inr z ↦ elim z [ inl q ↦ cc | inr q ↦ cc ] ]),
+)
 behind_row mode Unlock = (λ e. absurd (grind (arith, e)), λ e. absurd (grind (arith, e)))
 behind_row mode _ = (λ e. absurd e, λ e. absurd e)
 
@@ -206,7 +86,8 @@ record Behind (mode : Mode) (v : Verb) (f : Frame) : Type 0 where
   pub stage : Stage mode v (record f { place = after_halt f.place }) place
   pub hold : SameHold f (record f { place = after_halt f.place })
 
-behind_of : (mode : Mode) (v : Verb) (f : Frame) (c d : Pc) → f.place ≡ Some c → after_halt (Some c) ≡ Some d → is_rw_row c ≡ false → owes_kick (Some c) ≡ false
+behind_of : (mode : Mode) (v : Verb) (f : Frame) (c d : Pc) → f.place ≡ Some c
+    → after_halt (Some c) ≡ Some d → is_rw_row c ≡ false → owes_kick (Some c) ≡ false
     → ((V : Verb) → BelongsTo mode V c → BelongsTo mode V d) → Stage mode v f c → Behind mode v f
 behind_of mode v f c d at after spin calm rows stage = by (stands mode v f c at stage)
   where
@@ -214,7 +95,9 @@ behind_of mode v f c d at after spin calm rows stage = by (stands mode v f c at 
     goes = ap after_halt at ∙ after
 
     by : Stands mode v f c → Behind mode v f
-    by (Acts V t row) = let s = t.stages (record f { place = after_halt f.place }) d refl goes (rows V row) in record { place = d; goes = goes; stage = s.0; hold = s.1 }
+    by (Acts V t row) = let s =
+        t.stages (record f { place = after_halt f.place }) d refl goes (rows V row) in
+        record { place = d; goes = goes; stage = s.0; hold = s.1 }
     by (Owes is inner over plain) = absurd (let z = ap (λ (x : Pc). owes_kick (Some x)) is in grind (arith, z, calm))
     by (Shares rw row) = absurd (grind (arith, rw, spin))
 
@@ -238,8 +121,8 @@ module _ (m : Machine) (p : ℕ) (hs : LockName → LockHistory) (shows : ShowsA
   here = shows.fits v d on_top
 
   -- the processor halts only with its top frame at such a row
-  pub at_halt : halted_at m p ≡ true → halts d.place ≡ true
-  at_halt halted = (whole_nudges (world m) hs (rules_of m.setup) v d shows.world newest on_top halted).0
+  pub at_halt : halted_at m p ≡ true → stands_halting d.place ≡ true
+  at_halt halted = (nudge_keeps (world m) hs (rules_of m.setup) v d shows.world newest on_top halted).0
 
   module _ (halted : halted_at m p ≡ true) where
     abbrev g : Frame
@@ -250,8 +133,18 @@ module _ (m : Machine) (p : ℕ) (hs : LockName → LockHistory) (shows : ShowsA
 
     found : (c : Pc) × (at : d.place ≡ Some c) × Behind m.setup.mode (here.working c at).op.verb d
     found = elim (halting_place d.place (at_halt halted)) [
-      | inl e ↦ (W6, e, behind_of m.setup.mode (here.working W6 e).op.verb d W6 W7 e refl refl refl (λ V. (behind_row m.setup.mode V).0) (here.working W6 e).stage)
-      | inr e ↦ (E12, e, behind_of m.setup.mode (here.working E12 e).op.verb d E12 E2 e refl refl refl (λ V. (behind_row m.setup.mode V).1) (here.working E12 e).stage)
+      | inl e ↦ (
+        W6,
+        e,
+        behind_of m.setup.mode (here.working W6 e).op.verb d W6 W7 e refl refl refl
+            (λ V. (behind_row m.setup.mode V).0) (here.working W6 e).stage,
+      )
+      | inr e ↦ (
+        E12,
+        e,
+        behind_of m.setup.mode (here.working E12 e).op.verb d E12 E2 e refl refl refl
+            (λ V. (behind_row m.setup.mode V).1) (here.working E12 e).stage,
+      )
     ]
 
     works : Works m.setup.mode (program_of m p d) d found.0
@@ -260,82 +153,118 @@ module _ (m : Machine) (p : ℕ) (hs : LockName → LockHistory) (shows : ShowsA
     fit : Fits m v g
     fit =
         let b = found.2 in
-        let r : Ready m p d found.0 = record { whole = shows.whole; range = range; fits = shows.fits; live = on_top; works = here.working found.0 found.1 } in
-        goes_fit m p d found.0 hs r g b.place (record { ctx = refl; program = refl; position = refl }) b.goes refl b.stage r.works.after (record { prev = here.prev; target = here.target })
+        let r : Ready m p d found.0 =
+        record {
+          whole = shows.whole;
+          range = range;
+          fits = shows.fits;
+          live = on_top;
+          works = here.working found.0 found.1;
+        } in
+        goes_fit m p d found.0 hs r g b.place
+        (record { ctx = refl; program = refl; position = refl }) b.goes refl b.stage
+        r.works.after (record { prev = here.prev; target = here.target })
 
     held_same : (l : LockName) → held_at m v l (Some g) ≡ held_of m v l
     held_same l =
         let b = found.2 in
-        held_goes (program_of m p d) d g {r = rw_phase_of d} {r' = rw_phase_of g} {v = is_over d} {v' = is_over g} {i = d.lock.index} {n = d.«at»} (record { phase = refl; over = refl; index = refl; position = refl })
-        (record { phase = refl; over = refl; index = refl; position = refl }) b.hold.inner b.hold.over l ∙ sym (ap (held_at m v l) on_top)
+        held_goes (program_of m p d) d g {r = rw_phase_of d} {r' = rw_phase_of g} {v = is_over d}
+        {v' = is_over g} {i = d.lock.index} {n = d.«at»}
+        (record { phase = refl; over = refl; index = refl; position = refl })
+        (record { phase = refl; over = refl; index = refl; position = refl }) b.hold.inner
+        b.hold.over l ∙ sym (ap (held_at m v l) on_top)
 
     woken_world : world (woken m p) ≡ x
     woken_world =
         let in_top : p < length (set_top m p g).cpus = rw (same_set_top m p g).keeps.cpus range in
         world-set_halted (set_top m p g) p false in_top
-        ∙ ap (λ (y : World). put_halted y p false) (world-set_top m p g (shows.whole.tops p range) ∙ holding_same (world m) v (Some g) (λ l. held_at m v l (Some g)) held_same)
+        ∙ ap (λ (y : World). put_halted y p false)
+        (world-set_top m p g (shows.whole.tops p range)
+        ∙ holding_same (world m) v (Some g) (λ l. held_at m v l (Some g)) held_same)
 
     woken_same : Same m (woken m p)
     woken_same = same_then m (set_top m p g) (woken m p) (same_set_top m p g) (same_set_halted (set_top m p g) p false)
 
     -- a machine whose world is as it is after the halt
-    shows_awake : (k : Machine) (y : World) (ks : LockName → LockHistory) → Same m k → world k ≡ y → ((u : Waiter) → y.frame u ≡ x.frame u) → IsWholeWorld y ks → ShowsAll k ks
+    shows_awake : (k : Machine) (y : World) (ks : LockName → LockHistory) → Same m k → world k ≡ y
+        → ((u : Waiter) → y.frame u ≡ x.frame u) → IsSoundWorld y ks → ShowsAll k ks
     shows_awake k y ks same is frames sound =
         record {
           whole = whole_same m k shows.whole same;
-          world = subst (λ (z : World). IsWholeWorld z ks) (sym is) sound;
+          world = subst (λ (z : World). IsSoundWorld z ks) (sym is) sound;
           fits = fits_all m k v (Some g) same.keeps (λ u. ap (λ (z : World). z.frame u) is ∙ frames u)
-              (λ z q. subst (λ (h : Frame). Fits k v h) (same_Some g z q) (fits_kept m k v g same.keeps fit)) (λ u z ne q. shows.fits u z q);
+              (λ z q. subst (λ (h : Frame). Fits k v h) (same_Some g z q)
+              (fits_kept m k v g same.keeps fit)) (λ u z ne q. shows.fits u z q);
         }
 
-    told_by : (what : What) → ◌≡◌ {A = Event} (record { by = record { cpu = p; ctx = d.ctx }; what = what }) (record { by = v; what = what })
+    told_by : (what : What)
+        → ◌≡◌ {A = Event} (record { by = record { cpu = p; ctx = d.ctx }; what = what })
+        (record { by = v; what = what })
     told_by what = ap (λ (i : ℕ). record { by = record { cpu = p; ctx = i }; what = what }) here.ctx
 
     -- what the end of a halt gives, as the machine tells it
-    halt_kept : (k : Machine) (y : World) (what : What) → Same m k → world k ≡ y → ((u : Waiter) → y.frame u ≡ x.frame u) → IsWholeWorld y (told_on hs (Some (record { by = v; what = what })))
-        → IsAllowed (rules_of m.setup) hs (record { by = v; what = what }) → ((es : List Event) → ShowsKicks (world m) es → ShowsKicks y (es ++ record { by = v; what = what } ∷ []))
+    halt_kept : (k : Machine) (y : World) (what : What) → Same m k → world k ≡ y
+        → ((u : Waiter) → y.frame u ≡ x.frame u)
+        → IsSoundWorld y (told_on hs (Some (record { by = v; what = what })))
+        → IsAllowed (rules_of m.setup) hs (record { by = v; what = what })
+        → ((es : List Event) → ShowsKicks (world m) es
+        → ShowsKicks y (es ++ record { by = v; what = what } ∷ []))
         → Kept m hs (k, Some (record { by = record { cpu = p; ctx = d.ctx }; what = what }))
     halt_kept k y what same is frames sound allowed kicks =
         let P : Event → Type 0 = λ e. Kept m hs (k, Some e) in
         subst P (sym (told_by what)) (record {
           shows = shows_awake k y (told_on hs (Some (record { by = v; what = what }))) same is frames sound;
           allowed = allowed;
-          kicks = λ es shown. subst (λ (z : World). ShowsKicks z (es ++ record { by = v; what = what } ∷ [])) (sym is) (kicks es shown);
+          kicks = λ es shown.
+              subst (λ (z : World). ShowsKicks z (es ++ record { by = v; what = what } ∷ []))
+              (sym is) (kicks es shown);
         })
 
     -- by a kick
     wake_kept : Kept m hs (kicked_awake m p)
     wake_kept =
-        let law = whole_wakes (world m) hs (rules_of m.setup) v d shows.world newest on_top halted in
+        let law = wake_keeps (world m) hs (rules_of m.setup) v d shows.world newest on_top halted in
         let in_woken : p < length (woken m p).cpus = rw woken_same.keeps.cpus range in
-        halt_kept (set_kicked (woken m p) p false) (put_kicked x p false) (Wake d.lock) (same_then m (woken m p) (set_kicked (woken m p) p false) woken_same (same_set_kicked (woken m p) p false))
+        halt_kept (set_kicked (woken m p) p false) (put_kicked x p false) (Wake d.lock)
+        (same_then m (woken m p) (set_kicked (woken m p) p false) woken_same
+        (same_set_kicked (woken m p) p false))
         (world-set_kicked (woken m p) p false in_woken ∙ ap (λ (y : World). put_kicked y p false) woken_world) (λ u. refl) law.1 law.2
         (λ es shown. wake_shows (world m) spin_hs v d es shows.world.spins newest on_top halted shown)
 
     -- by a nudge
     nudged_kept : Kept m hs (nudged m p)
     nudged_kept =
-        let law = whole_nudges (world m) hs (rules_of m.setup) v d shows.world newest on_top halted in
-        halt_kept (woken m p) x Nudge woken_same woken_world (λ u. refl) law.1 law.2 (λ es shown. nudge_shows (world m) spin_hs v d es shows.world.spins newest on_top halted shown)
+        let law = nudge_keeps (world m) hs (rules_of m.setup) v d shows.world newest on_top halted in
+        halt_kept (woken m p) x Nudge woken_same woken_world (λ u. refl) law.1 law.2
+        (λ es shown.
+        nudge_shows (world m) spin_hs v d es shows.world.spins newest on_top halted shown)
 
     -- by an interrupt, whose frame comes on top
     int_shows_all : ShowsAll (woken m p) hs
     int_shows_all =
-        let law = whole_ints (world m) hs (rules_of m.setup) v d shows.world newest on_top halted in
+        let law = int_keeps (world m) hs (rules_of m.setup) v d shows.world newest on_top halted in
         shows_awake (woken m p) x hs woken_same woken_world (λ u. refl) law.1
 
     int_calm : HasNoSleeper (world (woken m p)) p
-    int_calm = subst (λ (y : World). HasNoSleeper y p) (sym woken_world) (roused_is_awake (world m) spin_hs v d shows.world.spins newest on_top)
+    int_calm = subst (λ (y : World). HasNoSleeper y p) (sym woken_world)
+        (roused_is_awake (world m) spin_hs v d shows.world.spins newest on_top)
 
-    int_kicks : (es : List Event) → ShowsKicks (world m) es → ShowsKicks (world (woken m p)) (es ++ record { by = record { cpu = p; ctx = depth_at m p }; what = Int } ∷ [])
+    int_kicks : (es : List Event) → ShowsKicks (world m) es
+        → ShowsKicks (world (woken m p))
+        (es ++ record { by = record { cpu = p; ctx = depth_at m p }; what = Int } ∷ [])
     int_kicks es shown =
         let top = shows.whole.tops p range in
         let up : (top_of m p).ctx + 1 ≡ depth_at m p = omega (arith, top.some) in
         subst (λ (i : ℕ). ShowsKicks (world (woken m p)) (es ++ record { by = record { cpu = p; ctx = i }; what = Int } ∷ [])) up
-        (subst (λ (y : World). ShowsKicks y (es ++ record { by = record { cpu = p; ctx = (top_of m p).ctx + 1 }; what = Int } ∷ [])) (sym woken_world) (int_shows (world m) spin_hs v d es shows.world.spins newest on_top halted shown))
+        (subst (λ (y : World).
+        ShowsKicks y
+        (es ++ record { by = record { cpu = p; ctx = (top_of m p).ctx + 1 }; what = Int } ∷ []))
+        (sym woken_world)
+        (int_shows (world m) spin_hs v d es shows.world.spins newest on_top halted shown))
 
   -- an interrupt finds its entry
-  pub interrupted_kept : depth_at m p < 6 → handlers_at m p < handlers_of m.setup p → (halted_at m p ≡ false → halts d.place ≡ false) → Kept m hs (interrupted m p)
+  pub interrupted_kept : depth_at m p < 6 → handlers_at m p < handlers_of m.setup p
+      → (halted_at m p ≡ false → stands_halting d.place ≡ false) → Kept m hs (interrupted m p)
   interrupted_kept room left open_entry = elim (cases_Bool (halted_at m p)) [
     | inl e ↦
         let k : Machine = woken m p in
@@ -350,13 +279,19 @@ module _ (m : Machine) (p : ℕ) (hs : LockName → LockHistory) (shows : ShowsA
         let shown = pushed_shows k p hs (int_shows_all e) in_k low some (int_calm e) in
         let kicked = pushed_kicks k p hs (int_shows_all e) in_k low some (int_calm e) in
         let is : awake m p ≡ k = ap (λ (b : Bool). if b then woken m p else m) e in
-        answer k is name shown (λ es given. kicked (es ++ record { by = record { cpu = p; ctx = depth_at m p }; what = Int } ∷ []) (int_kicks e es given))
+        answer k is name shown
+        (λ es given.
+        kicked (es ++ record { by = record { cpu = p; ctx = depth_at m p }; what = Int } ∷ [])
+        (int_kicks e es given))
     | inr e ↦
         let calm = (top_is_awake (world m) spin_hs v d shows.world.spins newest on_top (open_entry e)).0 in
         let shown = pushed_shows m p hs shows range room left calm in
         let kicked = pushed_kicks m p hs shows range room left calm in
         let is : awake m p ≡ m = ap (λ (b : Bool). if b then woken m p else m) e in
-        answer m is refl shown (λ es given. kicked (es ++ record { by = record { cpu = p; ctx = depth_at m p }; what = Int } ∷ []) (int_awake_shows (world m) (next_of m p) es e given))
+        answer m is refl shown
+        (λ es given.
+        kicked (es ++ record { by = record { cpu = p; ctx = depth_at m p }; what = Int } ∷ [])
+        (int_awake_shows (world m) (next_of m p) es e given))
   ]
     where
       f : Frame
@@ -365,11 +300,18 @@ module _ (m : Machine) (p : ℕ) (hs : LockName → LockHistory) (shows : ShowsA
       told : Event
       told = record { by = record { cpu = p; ctx = depth_at m p }; what = Int }
 
-      answer : (k : Machine) → awake m p ≡ k → handler_frame k p ≡ handler_frame m p → ShowsAll (settled (push k p (handler_frame k p)) p (handler_frame k p)) hs
-          → ((es : List Event) → ShowsKicks (world m) es → ShowsKicks (world (settled (push k p (handler_frame k p)) p (handler_frame k p))) (es ++ record { by = record { cpu = p; ctx = depth_at m p }; what = Int } ∷ []))
+      answer : (k : Machine) → awake m p ≡ k → handler_frame k p ≡ handler_frame m p
+          → ShowsAll (settled (push k p (handler_frame k p)) p (handler_frame k p)) hs
+          → ((es : List Event) → ShowsKicks (world m) es
+          → ShowsKicks (world (settled (push k p (handler_frame k p)) p (handler_frame k p)))
+          (es ++ record { by = record { cpu = p; ctx = depth_at m p }; what = Int } ∷ []))
           → Kept m hs (interrupted m p)
       answer k is name shown kicked =
-          let Q : Machine → Frame → Type 0 = λ y h. Kept m hs (settled (push y p h) p h, Some (record { by = record { cpu = p; ctx = depth_at m p }; what = Int })) in
+          let Q : Machine → Frame → Type 0 =
+          λ y h. Kept m hs (
+            settled (push y p h) p h,
+            Some (record { by = record { cpu = p; ctx = depth_at m p }; what = Int }),
+          ) in
           let base : Q k (handler_frame k p) = record { shows = shown; allowed = λ l e. absurd (none-some l e); kicks = kicked } in
           subst (λ (y : Machine). Q y (handler_frame m p)) (sym is) (subst (λ (h : Frame). Q k h) name base)
 
@@ -381,12 +323,18 @@ module _ (m : Machine) (p : ℕ) (hs : LockName → LockHistory) (shows : ShowsA
       let is = world-set_preempted m p b in
       record {
         whole = whole_same m n shows.whole same;
-        world = subst (λ (x : World). IsWholeWorld x hs) (sym is) shows.world;
+        world = subst (λ (x : World). IsSoundWorld x hs) (sym is) shows.world;
         fits = λ u g e. fits_kept m n u g same.keeps (shows.fits u g (sym (ap (λ (x : World). x.frame u) is) ∙ e));
       }
 
   preempted_kept : (b : Bool) → Kept m hs (set_preempted m p b, None)
-  preempted_kept b = record { shows = preempted_shows b; allowed = tt; kicks = λ es shown. subst (λ (x : World). ShowsKicks x es) (sym (world-set_preempted m p b)) shown }
+  preempted_kept b =
+      record {
+        shows = preempted_shows b;
+        allowed = tt;
+        kicks = λ es shown.
+            subst (λ (x : World). ShowsKicks x es) (sym (world-set_preempted m p b)) shown;
+      }
 
 module _ (m : Machine) (hs : LockName → LockHistory) (shows : ShowsAll m hs) where
   still : Kept m hs (idle m)
@@ -395,23 +343,33 @@ module _ (m : Machine) (hs : LockName → LockHistory) (shows : ShowsAll m hs) w
   step_kept : (p : ℕ) → p < length m.cpus → Kept m hs (step m p)
   step_kept p range = by (preempted_at m p)
     where
-      halted_kept : halted_at m p ≡ true → (b : Bool) → Kept m hs (if b then kicked_awake m p else idle m)
+      halted_kept : halted_at m p ≡ true → (b : Bool)
+          → Kept m hs (if b then kicked_awake m p else idle m)
       halted_kept e true = wake_kept m p hs shows range e
       halted_kept e false = still
 
-      by : (b : Bool) → Kept m hs (if b then idle m else (if halted_at m p then step_halted m p else row m p))
+      by : (b : Bool)
+          → Kept m hs (if b then idle m else (if halted_at m p then step_halted m p else row m p))
       by true = still
-      by false = elim (cases_Bool (halted_at m p)) [ inl e ↦ rw e (halted_kept e (kicked_at m p)) | inr e ↦ rw e (row_kept m p hs shows range) ]
+      by false = elim
+          (cases_Bool (halted_at m p)) [
+            | inl e ↦ rw e (halted_kept e (kicked_at m p))
+            | inr e ↦ rw e (row_kept m p hs shows range)
+          ]
 
   interrupt_kept : (p : ℕ) → p < length m.cpus → Kept m hs (next m (act.Interrupt p))
   interrupt_kept p range =
       elim (cases_Bool (is_shut m p)) [
         | inl e ↦ rw e still
         | inr e ↦
-            let a = or_parts (preempted_at m p || nat_le 6 (depth_at m p) || nat_le (handlers_of m.setup p) (handlers_at m p)) (halts (top_frame m p).place && not (halted_at m p)) e in
+            let a = or_parts
+            (preempted_at m p || nat_le 6 (depth_at m p)
+            || nat_le (handlers_of m.setup p) (handlers_at m p))
+            (stands_halting (top_frame m p).place && not (halted_at m p)) e in
             let b = or_parts (preempted_at m p || nat_le 6 (depth_at m p)) (nat_le (handlers_of m.setup p) (handlers_at m p)) a.0 in
             let c = or_parts (preempted_at m p) (nat_le 6 (depth_at m p)) b.0 in
-            rw e (interrupted_kept m p hs shows range (leb-false 6 (depth_at m p) c.1) (leb-false (handlers_of m.setup p) (handlers_at m p) b.1)
+            rw e (interrupted_kept m p hs shows range (leb-false 6 (depth_at m p) c.1)
+            (leb-false (handlers_of m.setup p) (handlers_at m p) b.1)
             (λ q. let z = a.1 in grind (arith, q, z)))
       ]
 

@@ -1,5 +1,6 @@
 -- An act adds one to some of the ten counts at most.
-use Rattle.std.proofs.Common.{◌≡◌, ℕ, Option, Some, None, Bool, true, false, List, [], ◌∷◌, inl, inr, arith, ap, ◌+◌, ◌≤◌, rules, refl, sym, ◌∙◌, subst}
+use Rattle.std.proofs.Common.{◌≡◌, ℕ, Option, Some, None, Bool, true, false, List, [], ◌∷◌, inl}
+use Rattle.std.proofs.Common.{inr, arith, ap, ◌+◌, ◌≤◌, rules, refl, sym, ◌∙◌, subst}
 use Rattle.std.specs.Prelude.{if◌then◌else◌, ◌==◌, ◌&&◌, ◌-◌, is_some}
 use Rattle.std.proofs.lemmas.Bool.{cases_Bool}
 use Rattle.lk_abs.specs.declared.names.Mode.{Mode}
@@ -15,19 +16,38 @@ use Rattle.lk_machine.specs.declared.parts.State.{State}
 use Rattle.lk_machine.specs.declared.parts.Flag.TheVariants as flag
 use Rattle.lk_machine.specs.declared.parts.Frame.{Frame}
 use Rattle.lk_machine.specs.declared.parts.Pc.{Pc}
-use Rattle.lk_machine.specs.declared.parts.Pc.TheVariants.{F1, T1, T2, V2, P4, G3, G4, G6, G8, G10, N2, C1, C2, C3, C6, C7, C8, C10, H2, W2, W4, W6, W7, E1, E4, E6, E7, E10, E13, E14, K1, U2, U5, R1, R2, R5, Wr1, Wr3, Wr6, Y1, Y2, Y4, Y5}
-use Rattle.lk_machine.specs.Machine.{Machine, CpuState, LockState, word_at, node_at, queued_at, preempted_at, halted_at, top_frame, set_cpu, set_lock, set_entry, entry_at, kicked_at, set_counts, rw_at}
-use Rattle.lk_machine.specs.Row.{Outcome, Lead, Counter, LockPending, LockSlowpath, LockUseNode2, LockUseNode3, LockUseNode4, LockNoNode, moved, counted, count_all}
-use Rattle.lk_machine.specs.SpinRows.{spin_row, is_free, is_unlocked}
-use Rattle.lk_machine.specs.QueueRows.{queue_row, entry_row, flag_row, next_row, index_count, entry_counts, is_sole, after_arrival}
-use Rattle.lk_machine.specs.Rows.{Target, SpinWord, QueueWord, Queued, FlagOf, NextOf, ChoiceWord, ChoiceFlag, ChoiceNext, SecondTailOf, RunsOf, PvWord, PvFlag, PvNext, StateOf, HashEntry, Halted, KickOf, target, sight_at, stored_second, stored_runs, stored_state, stored_entry, stored_halted, stored_kicked, stored_word, stored_flag, stored_next, stored_queued, row_on, row_at, row, RwWord, stored_rw}
-use Rattle.lk_machine.specs.CnaRows.{Sight, may_stay, after_none, is_last, is_held, search_row, second_row, runs_row, handover_row, promotion_row}
-use Rattle.lk_machine.specs.PvRows.{is_set, is_running, is_halted, pv_row, pv_flag_row, pv_next_row, state_row, hash_row, halt_row, kick_row}
+use Rattle.lk_machine.specs.declared.parts.Pc.TheVariants.{F1, T1, T2, V2, P4, G3, G4, G6, G8, G10}
+use Rattle.lk_machine.specs.declared.parts.Pc.TheVariants.{N2, C1, C2, C3, C6, C7, C8, C10, H2, W2}
+use Rattle.lk_machine.specs.declared.parts.Pc.TheVariants.{W4, W6, W7, E1, E4, E6, E7, E10, E13}
+use Rattle.lk_machine.specs.declared.parts.Pc.TheVariants.{E14, K1, U2, U5, R1, R2, R5, Wr1, Wr3}
+use Rattle.lk_machine.specs.declared.parts.Pc.TheVariants.{Wr6, Y1, Y2, Y4, Y5}
+use Rattle.lk_machine.specs.Machine.{Machine, CpuState, LockState, word_at, node_at, queued_at}
+use Rattle.lk_machine.specs.Machine.{preempted_at, halted_at, top_frame, set_cpu, set_lock}
+use Rattle.lk_machine.specs.Machine.{set_entry, entry_at, kicked_at, set_counts, rw_at}
+use Rattle.lk_machine.specs.Row.{Effect, Lead, Counter, LockPending, LockSlowpath, LockUseNode2}
+use Rattle.lk_machine.specs.Row.{LockUseNode3, LockUseNode4, LockNoNode, moved, counted, count_all}
+use Rattle.lk_machine.specs.rows.Spin.{spin_row, is_free, is_unlocked}
+use Rattle.lk_machine.specs.rows.Queue.{queue_row, entry_row, flag_row, next_row, index_count}
+use Rattle.lk_machine.specs.rows.Queue.{entry_counts, is_sole, after_arrival}
+use Rattle.lk_machine.specs.TopRow.{Target, SpinWord, QueueWord, Queued, FlagOf, NextOf, ChoiceWord}
+use Rattle.lk_machine.specs.TopRow.{ChoiceFlag, ChoiceNext, SecondTailOf, RunsOf, PvWord, PvFlag}
+use Rattle.lk_machine.specs.TopRow.{PvNext, StateOf, HashEntry, Halted, KickOf, target, sight_at}
+use Rattle.lk_machine.specs.TopRow.{stored_second, stored_runs, stored_state, stored_entry}
+use Rattle.lk_machine.specs.TopRow.{stored_halted, stored_kicked, stored_word, stored_flag}
+use Rattle.lk_machine.specs.TopRow.{stored_next, stored_queued, row_on, row_at, row, RwWord}
+use Rattle.lk_machine.specs.TopRow.{stored_rw}
+use Rattle.lk_machine.specs.rows.Cna.{Sight, may_stay, after_none, is_last, is_held, search_row}
+use Rattle.lk_machine.specs.rows.Cna.{second_row, runs_row, handover_row, promotion_row}
+use Rattle.lk_machine.specs.rows.Pv.{is_set, is_running, is_halted, pv_row, pv_flag_row}
+use Rattle.lk_machine.specs.rows.Pv.{pv_next_row, state_row, hash_row, halt_row, kick_row}
 use Rattle.lk_machine.specs.Acts.{idle, step_halted, step, next}
 use Rattle.lk_machine.specs.Ready.{CountsWithin}
-use Rattle.lk_core.proofs.Parts.{part-moved, part-stored_word, part-stored_flag, part-stored_next, part-stored_second, part-stored_runs, part-stored_state, part-stored_entry, part-stored_halted, part-stored_kicked, part-stored_queued, part-step_halted, part-rest, part-stored_rw}
+use Rattle.lk_core.proofs.Parts.{part-moved, part-stored_word, part-stored_flag, part-stored_next}
+use Rattle.lk_core.proofs.Parts.{part-stored_second, part-stored_runs, part-stored_state}
+use Rattle.lk_core.proofs.Parts.{part-stored_entry, part-stored_halted, part-stored_kicked}
+use Rattle.lk_core.proofs.Parts.{part-stored_queued, part-step_halted, part-rest, part-stored_rw}
 use Rattle.lk_word.specs.declared.rw_word.RwFields.{RwFields}
-use Rattle.lk_machine.specs.RwRows.{rw_row, is_empty, is_open, is_cleared}
+use Rattle.lk_machine.specs.rows.Rw.{rw_row, is_empty, is_open, is_cleared}
 
 -- no count rises by more than one
 record StepsUp (c d : Counts) : Type 0 where
@@ -68,21 +88,31 @@ pending_few : AddsFew (LockPending ∷ [])
 pending_few c = search (arith, rules)
 
 -- one of two lists
-either : (P : List Counter → Type 0) (t : Bool) (a b : List Counter) → P a → P b → P (if t then a else b)
+either : (P : List Counter → Type 0) (t : Bool) (a b : List Counter) → P a → P b
+    → P (if t then a else b)
 either P true a b x y = x
 either P false a b x y = y
 
-index_of : (P : List Counter → Type 0) → P [] → P (LockUseNode2 ∷ []) → P (LockUseNode3 ∷ []) → P (LockUseNode4 ∷ []) → P (LockNoNode ∷ []) → (i : ℕ) → P (index_count i)
+index_of : (P : List Counter → Type 0) → P [] → P (LockUseNode2 ∷ []) → P (LockUseNode3 ∷ [])
+    → P (LockUseNode4 ∷ []) → P (LockNoNode ∷ []) → (i : ℕ) → P (index_count i)
 index_of P a b c d e i =
-    either P (i == 0) [] (if i == 1 then LockUseNode2 ∷ [] else (if i == 2 then LockUseNode3 ∷ [] else (if i == 3 then LockUseNode4 ∷ [] else LockNoNode ∷ []))) a
-    (either P (i == 1) (LockUseNode2 ∷ []) (if i == 2 then LockUseNode3 ∷ [] else (if i == 3 then LockUseNode4 ∷ [] else LockNoNode ∷ [])) b
+    either P (i == 0) []
+    (if i == 1 then LockUseNode2 ∷ [] else (if i ==
+    2 then LockUseNode3 ∷ [] else (if i == 3 then LockUseNode4 ∷ [] else LockNoNode ∷ []))) a
+    (either P (i == 1) (LockUseNode2 ∷ [])
+    (if i == 2 then LockUseNode3 ∷ [] else (if i ==
+    3 then LockUseNode4 ∷ [] else LockNoNode ∷ [])) b
     (either P (i == 2) (LockUseNode3 ∷ []) (if i == 3 then LockUseNode4 ∷ [] else LockNoNode ∷ []) c
     (either P (i == 3) (LockUseNode4 ∷ []) (LockNoNode ∷ []) d e)))
 
 entry_few : (mode : Mode) (i : ℕ) → AddsFew (entry_counts mode i)
-entry_few Pv i = index_of AddsFew none_few (λ c. search (arith, rules)) (λ c. search (arith, rules)) (λ c. search (arith, rules)) (λ c. search (arith, rules)) i
+entry_few Pv i =
+    index_of AddsFew none_few (λ c. search (arith, rules)) (λ c. search (arith, rules))
+    (λ c. search (arith, rules)) (λ c. search (arith, rules)) i
 entry_few _ i =
-    index_of (λ cs. AddsFew (LockSlowpath ∷ cs)) (λ c. search (arith, rules)) (λ c. search (arith, rules)) (λ c. search (arith, rules)) (λ c. search (arith, rules)) (λ c. search (arith, rules)) i
+    index_of (λ cs. AddsFew (LockSlowpath ∷ cs)) (λ c. search (arith, rules))
+    (λ c. search (arith, rules)) (λ c. search (arith, rules)) (λ c. search (arith, rules))
+    (λ c. search (arith, rules)) i
 
 rw_few : (mode : Mode) (c : Pc) (f : Frame) (x : RwFields) → AddsFew (rw_row mode c f x).counts
 rw_few mode R1 f x = elim (cases_Bool (is_open x)) [ inl e ↦ rw e none_few | inr e ↦ rw e none_few ]
@@ -123,13 +153,15 @@ flag_few G6 f flag.Go = none_few
 flag_few G6 f (flag.Second n) = none_few
 flag_few _ f x = none_few
 
-next_few : (mode : Mode) (turns : ℕ) (c : Pc) (f : Frame) (x : Option NodeName) → AddsFew (next_row mode turns c f x).counts
+next_few : (mode : Mode) (turns : ℕ) (c : Pc) (f : Frame) (x : Option NodeName)
+    → AddsFew (next_row mode turns c f x).counts
 next_few mode turns G10 f None = none_few
 next_few mode turns G10 f (Some n) = none_few
 next_few mode turns _ f x = none_few
 
 -- one of two outcomes
-few_if : {A : Type 0} (t : Bool) (a b : Outcome A) → AddsFew a.counts → AddsFew b.counts → AddsFew (if t then a else b).counts
+few_if : {A : Type 0} (t : Bool) (a b : Effect A) → AddsFew a.counts → AddsFew b.counts
+    → AddsFew (if t then a else b).counts
 few_if true a b x y = x
 few_if false a b x y = y
 
@@ -137,9 +169,12 @@ after_none_few : (o : Option NodeName) → AddsFew (after_none o).counts
 after_none_few None = none_few
 after_none_few (Some n) = none_few
 
-search_few : (s : Sight) (c : Pc) (f : Frame) (x : Option NodeName) → AddsFew (search_row s c f x).counts
+search_few : (s : Sight) (c : Pc) (f : Frame) (x : Option NodeName)
+    → AddsFew (search_row s c f x).counts
 search_few s C1 f None = after_none_few f.second
-search_few s C1 f (Some n) = few_if (may_stay s) _ _ (few_if (s.local n) _ _ none_few none_few) (few_if (is_some f.second) _ _ none_few none_few)
+search_few s C1 f (Some n) =
+    few_if (may_stay s) _ _ (few_if (s.local n) _ _ none_few none_few)
+    (few_if (is_some f.second) _ _ none_few none_few)
 search_few s C2 f None = few_if (is_some f.second) _ _ none_few none_few
 search_few s C2 f (Some n) = few_if (s.local n) _ _ (few_if (is_some f.second) _ _ none_few none_few) none_few
 search_few s _ f x = none_few
@@ -228,65 +263,91 @@ Rises m n = StepsUp (of m) (of n)
 still : (m n : Machine) → of n ≡ of m → Rises m n
 still m n e = subst (λ (c : Counts). StepsUp (of m) c) (sym e) (none_few (of m))
 
-applied_few : (m n : Machine) (p : ℕ) (f : Frame) (lead : Lead) (cs : List Counter) → of n ≡ of m → AddsFew cs → Rises m (moved (counted n cs) p f lead)
+applied_few : (m n : Machine) (p : ℕ) (f : Frame) (lead : Lead) (cs : List Counter) → of n ≡ of m
+    → AddsFew cs → Rises m (moved (counted n cs) p f lead)
 applied_few m n p f lead cs e few =
-    subst (λ (c : Counts). StepsUp (of m) c) (sym (part-moved of cpu lock (counted n cs) p f lead ∙ counted_is n cs ∙ ap (λ (c : Counts). count_all c cs) e)) (few (of m))
+    subst (λ (c : Counts). StepsUp (of m) c)
+    (sym (part-moved of cpu lock (counted n cs) p f lead ∙ counted_is n cs
+    ∙ ap (λ (c : Counts). count_all c cs) e)) (few (of m))
 
 few_row_on : (m : Machine) (p : ℕ) (f : Frame) (c : Pc) (t : Target) → Rises m (row_on m p f c t).0
 few_row_on m p f c SpinWord =
     let o = spin_row m.setup.mode c f (word_at m f.lock) in
-    applied_few m (stored_word m f o.stores) p f o.leads o.counts (part-stored_word of cpu lock m f o.stores) (spin_few m.setup.mode c f (word_at m f.lock))
+    applied_few m (stored_word m f o.stores) p f o.leads o.counts
+    (part-stored_word of cpu lock m f o.stores) (spin_few m.setup.mode c f (word_at m f.lock))
 few_row_on m p f c QueueWord =
     let o = queue_row m.setup.mode c f (word_at m f.lock) in
-    applied_few m (stored_word m f o.stores) p f o.leads o.counts (part-stored_word of cpu lock m f o.stores) (queue_few m.setup.mode c f (word_at m f.lock))
+    applied_few m (stored_word m f o.stores) p f o.leads o.counts
+    (part-stored_word of cpu lock m f o.stores) (queue_few m.setup.mode c f (word_at m f.lock))
 few_row_on m p f c Queued =
     let o = entry_row m.setup.mode p (queued_at m p) in
-    applied_few m (stored_queued m p o.stores) p f o.leads o.counts (part-stored_queued of cpu lock m p o.stores) (entry_few m.setup.mode (queued_at m p))
+    applied_few m (stored_queued m p o.stores) p f o.leads o.counts
+    (part-stored_queued of cpu lock m p o.stores) (entry_few m.setup.mode (queued_at m p))
 few_row_on m p f c (FlagOf n) =
     let o = flag_row c f (node_at m n).flag in
-    applied_few m (stored_flag m n o.stores) p f o.leads o.counts (part-stored_flag of cpu lock m n o.stores) (flag_few c f (node_at m n).flag)
+    applied_few m (stored_flag m n o.stores) p f o.leads o.counts
+    (part-stored_flag of cpu lock m n o.stores) (flag_few c f (node_at m n).flag)
 few_row_on m p f c (NextOf n) =
     let o = next_row m.setup.mode m.setup.spins c f (node_at m n).next in
-    applied_few m (stored_next m n o.stores) p f o.leads o.counts (part-stored_next of cpu lock m n o.stores) (next_few m.setup.mode m.setup.spins c f (node_at m n).next)
+    applied_few m (stored_next m n o.stores) p f o.leads o.counts
+    (part-stored_next of cpu lock m n o.stores)
+    (next_few m.setup.mode m.setup.spins c f (node_at m n).next)
 few_row_on m p f c RwWord =
     let o = rw_row m.setup.mode c f (rw_at m f.lock.index) in
-    applied_few m (stored_rw m f.lock.index o.stores) p f o.leads o.counts (part-stored_rw of cpu lock m f.lock.index o.stores) (rw_few m.setup.mode c f (rw_at m f.lock.index))
+    applied_few m (stored_rw m f.lock.index o.stores) p f o.leads o.counts
+    (part-stored_rw of cpu lock m f.lock.index o.stores)
+    (rw_few m.setup.mode c f (rw_at m f.lock.index))
 few_row_on m p f c ChoiceWord =
     let o = promotion_row c f (word_at m f.lock) in
-    applied_few m (stored_word m f o.stores) p f o.leads o.counts (part-stored_word of cpu lock m f o.stores) (promotion_few c f (word_at m f.lock))
+    applied_few m (stored_word m f o.stores) p f o.leads o.counts
+    (part-stored_word of cpu lock m f o.stores) (promotion_few c f (word_at m f.lock))
 few_row_on m p f c (ChoiceFlag n) =
     let o = handover_row c f (node_at m n).flag in
-    applied_few m (stored_flag m n o.stores) p f o.leads o.counts (part-stored_flag of cpu lock m n o.stores) (handover_few c f (node_at m n).flag)
+    applied_few m (stored_flag m n o.stores) p f o.leads o.counts
+    (part-stored_flag of cpu lock m n o.stores) (handover_few c f (node_at m n).flag)
 few_row_on m p f c (ChoiceNext n) =
     let o = search_row (sight_at m p f) c f (node_at m n).next in
-    applied_few m (stored_next m n o.stores) p f o.leads o.counts (part-stored_next of cpu lock m n o.stores) (search_few (sight_at m p f) c f (node_at m n).next)
+    applied_few m (stored_next m n o.stores) p f o.leads o.counts
+    (part-stored_next of cpu lock m n o.stores)
+    (search_few (sight_at m p f) c f (node_at m n).next)
 few_row_on m p f c (SecondTailOf n) =
     let o = second_row c f (node_at m n).second_tail in
-    applied_few m (stored_second m n o.stores) p f o.leads o.counts (part-stored_second of cpu lock m n o.stores) (second_few c f (node_at m n).second_tail)
+    applied_few m (stored_second m n o.stores) p f o.leads o.counts
+    (part-stored_second of cpu lock m n o.stores) (second_few c f (node_at m n).second_tail)
 few_row_on m p f c (RunsOf n) =
     let o = runs_row (sight_at m p f) c f (node_at m n).runs in
-    applied_few m (stored_runs m n o.stores) p f o.leads o.counts (part-stored_runs of cpu lock m n o.stores) (runs_few (sight_at m p f) c f (node_at m n).runs)
+    applied_few m (stored_runs m n o.stores) p f o.leads o.counts
+    (part-stored_runs of cpu lock m n o.stores)
+    (runs_few (sight_at m p f) c f (node_at m n).runs)
 few_row_on m p f c PvWord =
     let o = pv_row m.setup.spins c f (word_at m f.lock) in
-    applied_few m (stored_word m f o.stores) p f o.leads o.counts (part-stored_word of cpu lock m f o.stores) (pv_few m.setup.spins c f (word_at m f.lock))
+    applied_few m (stored_word m f o.stores) p f o.leads o.counts
+    (part-stored_word of cpu lock m f o.stores) (pv_few m.setup.spins c f (word_at m f.lock))
 few_row_on m p f c (PvFlag n) =
     let o = pv_flag_row c f (node_at m n).flag in
-    applied_few m (stored_flag m n o.stores) p f o.leads o.counts (part-stored_flag of cpu lock m n o.stores) (pv_flag_few c f (node_at m n).flag)
+    applied_few m (stored_flag m n o.stores) p f o.leads o.counts
+    (part-stored_flag of cpu lock m n o.stores) (pv_flag_few c f (node_at m n).flag)
 few_row_on m p f c (PvNext n) =
     let o = pv_next_row c f (node_at m n).next in
-    applied_few m (stored_next m n o.stores) p f o.leads o.counts (part-stored_next of cpu lock m n o.stores) (pv_next_few c f (node_at m n).next)
+    applied_few m (stored_next m n o.stores) p f o.leads o.counts
+    (part-stored_next of cpu lock m n o.stores) (pv_next_few c f (node_at m n).next)
 few_row_on m p f c (StateOf n) =
     let o = state_row m.setup.spins c f (node_at m n).state in
-    applied_few m (stored_state m n o.stores) p f o.leads o.counts (part-stored_state of cpu lock m n o.stores) (state_few m.setup.spins c f (node_at m n).state)
+    applied_few m (stored_state m n o.stores) p f o.leads o.counts
+    (part-stored_state of cpu lock m n o.stores)
+    (state_few m.setup.spins c f (node_at m n).state)
 few_row_on m p f c HashEntry =
     let o = hash_row c f (entry_at m f.lock) in
-    applied_few m (stored_entry m f.lock o.stores) p f o.leads o.counts (part-stored_entry of hash m f.lock o.stores) (hash_few c f (entry_at m f.lock))
+    applied_few m (stored_entry m f.lock o.stores) p f o.leads o.counts
+    (part-stored_entry of hash m f.lock o.stores) (hash_few c f (entry_at m f.lock))
 few_row_on m p f c Halted =
     let o = halt_row c f (halted_at m p) in
-    applied_few m (stored_halted m p o.stores) p f o.leads o.counts (part-stored_halted of cpu lock m p o.stores) (halt_few c f (halted_at m p))
+    applied_few m (stored_halted m p o.stores) p f o.leads o.counts
+    (part-stored_halted of cpu lock m p o.stores) (halt_few c f (halted_at m p))
 few_row_on m p f c (KickOf q) =
     let o = kick_row c f (kicked_at m q) in
-    applied_few m (stored_kicked m q o.stores) p f o.leads o.counts (part-stored_kicked of cpu lock m q o.stores) (kick_few c f (kicked_at m q))
+    applied_few m (stored_kicked m q o.stores) p f o.leads o.counts
+    (part-stored_kicked of cpu lock m q o.stores) (kick_few c f (kicked_at m q))
 
 few_row_at : (m : Machine) (p : ℕ) (f : Frame) (o : Option Pc) → Rises m (row_at m p f o).0
 few_row_at m p f None = still m m refl
@@ -308,5 +369,6 @@ few_next m (act.Resume p) = still m (next m (act.Resume p)).0 (part-rest of cpu 
 few_next m (act.Nudge p) = still m (next m (act.Nudge p)).0 (part-rest of cpu lock m p).3
 
 -- the counts of the next machine are within one more
-pub counts_within : (n : ℕ) (m : Machine) (a : Act) → CountsWithin n m.counts → CountsWithin (n + 1) (next m a).0.counts
+pub counts_within : (n : ℕ) (m : Machine) (a : Act) → CountsWithin n m.counts
+    → CountsWithin (n + 1) (next m a).0.counts
 counts_within n m a w = steps_within n m.counts (next m a).0.counts w (few_next m a)

@@ -1,22 +1,19 @@
 -- The entries of the hash after a lock was entered, or taken out.
-use Rattle.std.proofs.Common.{◌≡◌, ◌≢◌, Option, Some, None, Bool, true, false, List, [], ◌∷◌, inl, inr, arith, ap, refl, sym, ◌∙◌}
+use Rattle.std.proofs.Common.{◌≡◌, ◌≢◌, Option, Some, None, Bool, true, false, List, [], ◌∷◌, inl}
+use Rattle.std.proofs.Common.{inr, arith, ap, refl, sym, ◌∙◌}
 use Rattle.std.specs.Prelude.{if◌then◌else◌}
 use Rattle.lk_abs.specs.Names.{same_lock}
 use Rattle.lk_abs.specs.declared.names.LockName.{LockName}
 use Rattle.lk_word.specs.declared.spin_word.NodeName.{NodeName}
 use Rattle.lk_machine.specs.Machine.{entry_in, without_entry}
 use Rattle.lk_law.specs.Sound.{IsEnteredOnce}
-use Rattle.lk_law.proofs.Cases.{lock_cases}
-use Rattle.lk_law.proofs.Puts.{if-true, if-false, same_lock-else}
-use Rattle.lk_law.proofs.Sames.{same_lock-self}
+use Rattle.lk_law.proofs.common.Cases.{lock_cases}
+use Rattle.lk_law.proofs.common.Puts.{if-true, if-false, same_lock-else}
+use Rattle.lk_law.proofs.common.Sames.{same_lock-self, same_lock-true}
 
 -- a lock with its node
 abbrev pub Entry : Type 0
 Entry = LockName × NodeName
-
--- locks of which the test says that they are one are one
-pub one_lock : (a b : LockName) → same_lock a b ≡ true → a ≡ b
-one_lock a b t = elim (lock_cases a b) [ inl e ↦ e | inr ne ↦ absurd (let z = same_lock-else a b ne in grind (arith, z, t)) ]
 
 -- and else they are two
 two_locks : (a b : LockName) → same_lock a b ≡ false → a ≢ b
@@ -27,48 +24,62 @@ pub taken_out : (l : LockName) (es : List Entry) → entry_in l (without_entry l
 taken_out l [] = refl
 taken_out l (e ∷ es) = step (same_lock e.0 l) refl (taken_out l es)
   where
-    step : (b : Bool) → same_lock e.0 l ≡ b → entry_in l (without_entry l es) ≡ None → entry_in l (if b then without_entry l es else e ∷ without_entry l es) ≡ None
+    step : (b : Bool) → same_lock e.0 l ≡ b → entry_in l (without_entry l es) ≡ None
+        → entry_in l (if b then without_entry l es else e ∷ without_entry l es) ≡ None
     step true t r = r
     step false t r = if-false (same_lock e.0 l) (Some e.1) (entry_in l (without_entry l es)) t ∙ r
 
 -- and the others stay
-pub others_stay : (k l : LockName) (es : List Entry) → k ≢ l → entry_in k (without_entry l es) ≡ entry_in k es
+pub others_stay : (k l : LockName) (es : List Entry) → k ≢ l
+    → entry_in k (without_entry l es) ≡ entry_in k es
 others_stay k l [] ne = refl
 others_stay k l (e ∷ es) ne = step (same_lock e.0 l) refl (others_stay k l es ne)
   where
     step : (b : Bool) → same_lock e.0 l ≡ b → entry_in k (without_entry l es) ≡ entry_in k es
-        → entry_in k (if b then without_entry l es else e ∷ without_entry l es) ≡ (if same_lock e.0 k then Some e.1 else entry_in k es)
-    step true t r = r ∙ sym (if-false (same_lock e.0 k) (Some e.1) (entry_in k es) (same_lock-else e.0 k (λ q. ne (sym q ∙ one_lock e.0 l t))))
+        → entry_in k (if b then without_entry l es else e ∷ without_entry l es)
+        ≡ (if same_lock e.0 k then Some e.1 else entry_in k es)
+    step true t r = r
+        ∙ sym (if-false (same_lock e.0 k) (Some e.1) (entry_in k es)
+        (same_lock-else e.0 k (λ q. ne (sym q ∙ same_lock-true e.0 l t))))
     step false t r = ap (λ (o : Option NodeName). if same_lock e.0 k then Some e.1 else o) r
 
 -- what is read after a lock was entered
-pub entered_now : (k l : LockName) (n : NodeName) (es : List Entry) → entry_in k ((l, n) ∷ without_entry l es) ≡ (if same_lock k l then Some n else entry_in k es)
+pub entered_now : (k l : LockName) (n : NodeName) (es : List Entry)
+    → entry_in k ((l, n) ∷ without_entry l es) ≡ (if same_lock k l then Some n else entry_in k es)
 entered_now k l n es =
     elim (lock_cases k l) [
       | inl e ↦
-          if-true (same_lock l k) (Some n) (entry_in k (without_entry l es)) (ap (λ (j : LockName). same_lock l j) e ∙ same_lock-self l)
+          if-true (same_lock l k) (Some n) (entry_in k (without_entry l es))
+          (ap (λ (j : LockName). same_lock l j) e ∙ same_lock-self l)
           ∙ sym (if-true (same_lock k l) (Some n) (entry_in k es) (ap (λ (j : LockName). same_lock j l) e ∙ same_lock-self l))
       | inr ne ↦
-          if-false (same_lock l k) (Some n) (entry_in k (without_entry l es)) (same_lock-else l k (λ q. ne (sym q))) ∙ others_stay k l es ne
+          if-false (same_lock l k) (Some n) (entry_in k (without_entry l es))
+          (same_lock-else l k (λ q. ne (sym q))) ∙ others_stay k l es ne
           ∙ sym (if-false (same_lock k l) (Some n) (entry_in k es) (same_lock-else k l ne))
     ]
 
 -- what is read after a lock was taken out
-pub removed_now : (k l : LockName) (es : List Entry) → entry_in k (without_entry l es) ≡ (if same_lock k l then None else entry_in k es)
+pub removed_now : (k l : LockName) (es : List Entry)
+    → entry_in k (without_entry l es) ≡ (if same_lock k l then None else entry_in k es)
 removed_now k l es =
     elim (lock_cases k l) [
-      | inl e ↦ ap (λ (j : LockName). entry_in j (without_entry l es)) e ∙ taken_out l es ∙ sym (if-true (same_lock k l) None (entry_in k es) (ap (λ (j : LockName). same_lock j l) e ∙ same_lock-self l))
+      | inl e ↦ ap (λ (j : LockName). entry_in j (without_entry l es)) e ∙ taken_out l es
+          ∙ sym (if-true (same_lock k l) None (entry_in k es)
+          (ap (λ (j : LockName). same_lock j l) e ∙ same_lock-self l))
       | inr ne ↦ others_stay k l es ne ∙ sym (if-false (same_lock k l) None (entry_in k es) (same_lock-else k l ne))
     ]
 
 -- each lock is entered once still
-pub once_without : (l : LockName) (es : List Entry) → IsEnteredOnce es → IsEnteredOnce (without_entry l es)
+pub once_without : (l : LockName) (es : List Entry) → IsEnteredOnce es
+    → IsEnteredOnce (without_entry l es)
 once_without l [] once = tt
 once_without l (e ∷ es) once = step (same_lock e.0 l) refl (once_without l es once.1)
   where
-    step : (b : Bool) → same_lock e.0 l ≡ b → IsEnteredOnce (without_entry l es) → IsEnteredOnce (if b then without_entry l es else e ∷ without_entry l es)
+    step : (b : Bool) → same_lock e.0 l ≡ b → IsEnteredOnce (without_entry l es)
+        → IsEnteredOnce (if b then without_entry l es else e ∷ without_entry l es)
     step true t r = r
     step false t r = (others_stay e.0 l es (two_locks e.0 l t) ∙ once.0, r)
 
-pub once_with : (l : LockName) (n : NodeName) (es : List Entry) → IsEnteredOnce es → IsEnteredOnce ((l, n) ∷ without_entry l es)
+pub once_with : (l : LockName) (n : NodeName) (es : List Entry) → IsEnteredOnce es
+    → IsEnteredOnce ((l, n) ∷ without_entry l es)
 once_with l n es once = (taken_out l es, once_without l es once)

@@ -1,7 +1,10 @@
 -- An act is idle exactly where it is said to be.
-use Rattle.std.proofs.Common.{◌≡◌, ℕ, Option, Some, None, Bool, true, false, inl, inr, arith, ap, ◌<◌, ◌+◌, refl, ◌∙◌, length}
+use Rattle.std.proofs.Common.{◌≡◌, ℕ, Option, Some, None, Bool, true, false, inl, inr, arith, ap}
+use Rattle.std.proofs.Common.{◌<◌, ◌+◌, refl, ◌∙◌, length}
 use Rattle.std.specs.Prelude.{if◌then◌else◌, ◌||◌, ◌&&◌, ◌==◌, not, nat_le, slice_get}
-use Rattle.std.proofs.lemmas.Bool.{cases_Bool, le-leb, leb-true, false_from_ne_true, true_from_ne_false, or_left, or_right, or_cases, and_from, and_parts, not-true, not_from_false}
+use Rattle.std.proofs.lemmas.Bool.{cases_Bool, le-leb, leb-true, false_from_ne_true}
+use Rattle.std.proofs.lemmas.Bool.{true_from_ne_false, or_left, or_right, or_cases, and_from}
+use Rattle.std.proofs.lemmas.Bool.{and_parts, not-true, not_from_false}
 use Rattle.lk_abs.specs.History.{LockHistory}
 use Rattle.lk_abs.specs.declared.names.LockName.{LockName}
 use Rattle.lk_abs.specs.declared.events.Act.{Act}
@@ -9,30 +12,40 @@ use Rattle.lk_abs.specs.declared.events.Act.TheVariants as act
 use Rattle.lk_machine.specs.declared.setup.Op.{Op}
 use Rattle.lk_machine.specs.declared.parts.Frame.{Frame}
 use Rattle.lk_machine.specs.declared.parts.Pc.{Pc}
-use Rattle.lk_machine.specs.Machine.{Machine, CpuState, cpu_at, depth_at, preempted_at, halted_at, kicked_at, handlers_at, top_frame, set_preempted, set_top, push, pop}
+use Rattle.lk_machine.specs.Machine.{Machine, CpuState, cpu_at, depth_at, preempted_at, halted_at}
+use Rattle.lk_machine.specs.Machine.{kicked_at, handlers_at, top_frame, set_preempted, set_top}
+use Rattle.lk_machine.specs.Machine.{push, pop}
 use Rattle.lk_machine.specs.Programs.{handlers_of}
 use Rattle.lk_machine.specs.Moves.{settled, settled_at, program_of, started}
 use Rattle.lk_machine.specs.Row.{Answer}
-use Rattle.lk_machine.specs.Rows.{row, row_at}
-use Rattle.lk_machine.specs.Acts.{idle, halts, after_halt, woken, kicked_awake, step_halted, is_shut, handler_frame, awake, interrupted, next, processor_of, nudged}
+use Rattle.lk_machine.specs.TopRow.{row, row_at}
+use Rattle.lk_machine.specs.Acts.{idle, stands_halting, after_halt, woken, kicked_awake}
+use Rattle.lk_machine.specs.Acts.{step_halted, is_shut, handler_frame, awake, interrupted, next}
+use Rattle.lk_machine.specs.Acts.{processor_of, nudged}
 use Rattle.lk_law.specs.Sound.{ShowsAll}
 use Rattle.lk_core.proofs.Access.{cpu_same}
-use Rattle.lk_core.proofs.Same.{Same, same_then, same_self, same_set_top, same_set_halted, handlers_pop, handlers_push}
+use Rattle.lk_core.proofs.Same.{Same, same_then, same_self, same_set_top, same_set_halted}
+use Rattle.lk_core.proofs.Same.{handlers_pop, handlers_push}
 use Rattle.lk_core.proofs.ActKept.{at_halt}
 use Rattle.lk_core.specs.Idle.{IsIdle, Happens}
 
-handlers_settled_at : (n : Machine) (p : ℕ) (h : Frame) (o : Option Op) (q : ℕ) → handlers_at (settled_at n p h o) q ≡ handlers_at n q
+handlers_settled_at : (n : Machine) (p : ℕ) (h : Frame) (o : Option Op) (q : ℕ)
+    → handlers_at (settled_at n p h o) q ≡ handlers_at n q
 handlers_settled_at n p h None q = by (h.ctx == 0)
   where
-    by : (b : Bool) → handlers_at (if b then set_top n p (record h { place = None }) else pop n p) q ≡ handlers_at n q
+    by : (b : Bool)
+        → handlers_at (if b then set_top n p (record h { place = None }) else pop n p) q
+        ≡ handlers_at n q
     by true = (same_set_top n p (record h { place = None })).handlers q
     by false = handlers_pop n p q
 handlers_settled_at n p h (Some o) q = (same_set_top n p (started n.setup.mode h o)).handlers q
 
-handlers_settled : (n : Machine) (p : ℕ) (h : Frame) (q : ℕ) → handlers_at (settled n p h) q ≡ handlers_at n q
+handlers_settled : (n : Machine) (p : ℕ) (h : Frame) (q : ℕ)
+    → handlers_at (settled n p h) q ≡ handlers_at n q
 handlers_settled n p h q = handlers_settled_at n p h (slice_get (program_of n p h) h.«at») q
 
-preempted_now : (m : Machine) (p : ℕ) (b : Bool) → p < length m.cpus → preempted_at (set_preempted m p b) p ≡ b
+preempted_now : (m : Machine) (p : ℕ) (b : Bool) → p < length m.cpus
+    → preempted_at (set_preempted m p b) p ≡ b
 unfolding preempted_at set_preempted
 preempted_now m p b range = ap (λ (c : CpuState). c.preempted) (cpu_same m p (record (cpu_at m p) { preempted = b }) range)
 
@@ -61,11 +74,15 @@ module _ (m : Machine) (hs : LockName → LockHistory) (shows : ShowsAll m hs) w
   halted_wakes p e = ap (λ (b : Bool). if b then kicked_awake m p else idle m) e
 
   -- a processor whose top frame is finished has not halted
-  finished_awake : (p : ℕ) → p < length m.cpus → (top_frame m p).place ≡ None → halted_at m p ≡ false
+  finished_awake : (p : ℕ) → p < length m.cpus → (top_frame m p).place ≡ None
+      → halted_at m p ≡ false
   finished_awake p range e =
-      false_from_ne_true (halted_at m p) (λ h. let z = at_halt m p hs shows range h in let y = ap halts e in grind (arith, z, y))
+      false_from_ne_true (halted_at m p)
+      (λ h. let z = at_halt m p hs shows range h in let y = ap stands_halting e in
+      grind (arith, z, y))
 
-  pub step_idle : (p : ℕ) → p < length m.cpus → IsIdle m (act.Step p) → next m (act.Step p) ≡ (m, None)
+  pub step_idle : (p : ℕ) → p < length m.cpus → IsIdle m (act.Step p)
+      → next m (act.Step p) ≡ (m, None)
   step_idle p range (inl e) = ap (λ (b : Bool). if b then idle m else stepped p (halted_at m p)) e
   step_idle p range (inr (inl e)) = by (preempted_at m p)
     where
@@ -86,16 +103,25 @@ module _ (m : Machine) (hs : LockName → LockHistory) (shows : ShowsAll m hs) w
   none_left p = nat_le (handlers_of m.setup p) (handlers_at m p)
 
   abbrev halting : ℕ → Bool
-  halting p = halts (top_frame m p).place && not (halted_at m p)
+  halting p = stands_halting (top_frame m p).place && not (halted_at m p)
 
   shut : (p : ℕ) → IsIdle m (act.Interrupt p) → is_shut m p ≡ true
-  shut p (inl e) = or_left ((preempted_at m p || no_room p) || none_left p) (halting p) (or_left (preempted_at m p || no_room p) (none_left p) (or_left (preempted_at m p) (no_room p) e))
+  shut p (inl e) =
+      or_left ((preempted_at m p || no_room p) || none_left p) (halting p)
+      (or_left (preempted_at m p || no_room p) (none_left p)
+      (or_left (preempted_at m p) (no_room p) e))
   shut p (inr (inl e)) =
-      or_left ((preempted_at m p || no_room p) || none_left p) (halting p) (or_left (preempted_at m p || no_room p) (none_left p) (or_right (preempted_at m p) (no_room p) (le-leb 6 (depth_at m p) (omega arith))))
+      or_left ((preempted_at m p || no_room p) || none_left p) (halting p)
+      (or_left (preempted_at m p || no_room p) (none_left p)
+      (or_right (preempted_at m p) (no_room p) (le-leb 6 (depth_at m p) (omega arith))))
   shut p (inr (inr (inl e))) =
-      or_left ((preempted_at m p || no_room p) || none_left p) (halting p) (or_right (preempted_at m p || no_room p) (none_left p) (le-leb (handlers_of m.setup p) (handlers_at m p) (omega arith)))
+      or_left ((preempted_at m p || no_room p) || none_left p) (halting p)
+      (or_right (preempted_at m p || no_room p) (none_left p)
+      (le-leb (handlers_of m.setup p) (handlers_at m p) (omega arith)))
   shut p (inr (inr (inr e))) =
-      or_right ((preempted_at m p || no_room p) || none_left p) (halting p) (and_from (halts (top_frame m p).place) (not (halted_at m p)) e.0 (not_from_false (halted_at m p) e.1))
+      or_right ((preempted_at m p || no_room p) || none_left p) (halting p)
+      (and_from (stands_halting (top_frame m p).place) (not (halted_at m p)) e.0
+      (not_from_false (halted_at m p) e.1))
 
   shut_idle : (p : ℕ) → p < length m.cpus → is_shut m p ≡ true → IsIdle m (act.Interrupt p)
   shut_idle p range e = elim (or_cases ((preempted_at m p || no_room p) || none_left p) (halting p) e) [
@@ -104,9 +130,11 @@ module _ (m : Machine) (hs : LockName → LockHistory) (shows : ShowsAll m hs) w
         | inl c ↦ inl c
         | inr c ↦ let low = leb-true 6 (depth_at m p) c in let top = shows.whole.tops p range in inr (inl (omega (arith, top.few)))
       ]
-      | inr b ↦ let low = leb-true (handlers_of m.setup p) (handlers_at m p) b in let few = shows.whole.handlers p in inr (inr (inl (omega arith)))
+      | inr b ↦ let low = leb-true (handlers_of m.setup p) (handlers_at m p) b in
+          let few = shows.whole.handlers p in inr (inr (inl (omega arith)))
     ]
-    | inr a ↦ let d = and_parts (halts (top_frame m p).place) (not (halted_at m p)) a in inr (inr (inr (d.0, not-true (halted_at m p) d.1)))
+    | inr a ↦ let d = and_parts (stands_halting (top_frame m p).place) (not (halted_at m p)) a in
+        inr (inr (inr (d.0, not-true (halted_at m p) d.1)))
   ]
 
   pub idle_act : (a : Act) → processor_of a < length m.cpus → IsIdle m a → next m a ≡ (m, None)
@@ -114,12 +142,17 @@ module _ (m : Machine) (hs : LockName → LockHistory) (shows : ShowsAll m hs) w
   idle_act (act.Interrupt p) range e = ap (λ (b : Bool). if b then idle m else interrupted m p) (shut p e)
   idle_act (act.Preempt p) range e = ap (λ (b : Bool). if b then idle m else (set_preempted m p true, None)) e
   idle_act (act.Resume p) range e = ap (λ (b : Bool). if b then (set_preempted m p false, None) else idle m) e
-  idle_act (act.Nudge p) range (inl e) = ap (λ (b : Bool). if b then idle m else nudged m p) (or_left (preempted_at m p) (not (halted_at m p)) e)
-  idle_act (act.Nudge p) range (inr e) = ap (λ (b : Bool). if b then idle m else nudged m p) (or_right (preempted_at m p) (not (halted_at m p)) (not_from_false (halted_at m p) e))
+  idle_act (act.Nudge p) range (inl e) =
+      ap (λ (b : Bool). if b then idle m else nudged m p)
+      (or_left (preempted_at m p) (not (halted_at m p)) e)
+  idle_act (act.Nudge p) range (inr e) =
+      ap (λ (b : Bool). if b then idle m else nudged m p)
+      (or_right (preempted_at m p) (not (halted_at m p)) (not_from_false (halted_at m p) e))
 
   -- an act that is not idle
 
-  busy_step : (p : ℕ) → ¬ IsIdle m (act.Step p) → Happens m (act.Step p) (next m (act.Step p)).0 (next m (act.Step p)).1
+  busy_step : (p : ℕ) → ¬ IsIdle m (act.Step p)
+      → Happens m (act.Step p) (next m (act.Step p)).0 (next m (act.Step p)).1
   busy_step p busy = elim (cases_Bool (halted_at m p)) [
     | inl h ↦
         let kicked : kicked_at m p ≡ true = true_from_ne_false (kicked_at m p) (λ e. busy (inr (inl (h, e)))) in
@@ -131,29 +164,43 @@ module _ (m : Machine) (hs : LockName → LockHistory) (shows : ShowsAll m hs) w
   ]
     where
       runs : next m (act.Step p) ≡ stepped p (halted_at m p)
-      runs = ap (λ (b : Bool). if b then idle m else stepped p (halted_at m p)) (false_from_ne_true (preempted_at m p) (λ e. busy (inl e)))
+      runs = ap (λ (b : Bool). if b then idle m else stepped p (halted_at m p))
+          (false_from_ne_true (preempted_at m p) (λ e. busy (inl e)))
 
-  busy_interrupt : (p : ℕ) → p < length m.cpus → ¬ IsIdle m (act.Interrupt p) → next m (act.Interrupt p) ≡ interrupted m p
-  busy_interrupt p range busy = ap (λ (b : Bool). if b then idle m else interrupted m p) (false_from_ne_true (is_shut m p) (λ e. busy (shut_idle p range e)))
+  busy_interrupt : (p : ℕ) → p < length m.cpus → ¬ IsIdle m (act.Interrupt p)
+      → next m (act.Interrupt p) ≡ interrupted m p
+  busy_interrupt p range busy =
+      ap (λ (b : Bool). if b then idle m else interrupted m p)
+      (false_from_ne_true (is_shut m p) (λ e. busy (shut_idle p range e)))
 
-  busy_handlers : (p : ℕ) → p < length m.cpus → handlers_at (interrupted m p).0 p ≡ handlers_at m p + 1
+  busy_handlers : (p : ℕ) → p < length m.cpus
+      → handlers_at (interrupted m p).0 p ≡ handlers_at m p + 1
   busy_handlers p range =
       let f = handler_frame m p in
       let same = awake_same m p in
-      handlers_settled (push (awake m p) p f) p f p ∙ handlers_push (awake m p) p f (rw same.keeps.cpus range) ∙ ap (λ (n : ℕ). n + 1) (same.handlers p)
+      handlers_settled (push (awake m p) p f) p f p
+      ∙ handlers_push (awake m p) p f (rw same.keeps.cpus range)
+      ∙ ap (λ (n : ℕ). n + 1) (same.handlers p)
 
-  pub busy_act : (a : Act) → processor_of a < length m.cpus → ¬ IsIdle m a → Happens m a (next m a).0 (next m a).1
+  pub busy_act : (a : Act) → processor_of a < length m.cpus → ¬ IsIdle m a
+      → Happens m a (next m a).0 (next m a).1
   busy_act (act.Step p) range busy = busy_step p busy
   busy_act (act.Interrupt p) range busy =
       let e = busy_interrupt p range busy in
       (ap (λ (x : Answer). x.1) e, ap (λ (x : Answer). handlers_at x.0 p) e ∙ busy_handlers p range)
   busy_act (act.Preempt p) range busy =
-      let e : next m (act.Preempt p) ≡ (set_preempted m p true, None) = ap (λ (b : Bool). if b then idle m else (set_preempted m p true, None)) (false_from_ne_true (preempted_at m p) busy) in
+      let e : next m (act.Preempt p) ≡ (set_preempted m p true, None) =
+      ap (λ (b : Bool). if b then idle m else (set_preempted m p true, None))
+      (false_from_ne_true (preempted_at m p) busy) in
       (ap (λ (x : Answer). x.1) e, ap (λ (x : Answer). preempted_at x.0 p) e ∙ preempted_now m p true range)
   busy_act (act.Resume p) range busy =
-      let e : next m (act.Resume p) ≡ (set_preempted m p false, None) = ap (λ (b : Bool). if b then (set_preempted m p false, None) else idle m) (true_from_ne_false (preempted_at m p) busy) in
+      let e : next m (act.Resume p) ≡ (set_preempted m p false, None) =
+      ap (λ (b : Bool). if b then (set_preempted m p false, None) else idle m)
+      (true_from_ne_false (preempted_at m p) busy) in
       (ap (λ (x : Answer). x.1) e, ap (λ (x : Answer). preempted_at x.0 p) e ∙ preempted_now m p false range)
   busy_act (act.Nudge p) range busy =
       let calm : preempted_at m p ≡ false = false_from_ne_true (preempted_at m p) (λ e. busy (inl e)) in
       let halted : halted_at m p ≡ true = true_from_ne_false (halted_at m p) (λ e. busy (inr e)) in
-      ap (λ (x : Answer). x.1) (ap (λ (b : Bool). if b || not (halted_at m p) then idle m else nudged m p) calm ∙ ap (λ (b : Bool). if not b then idle m else nudged m p) halted)
+      ap (λ (x : Answer). x.1)
+      (ap (λ (b : Bool). if b || not (halted_at m p) then idle m else nudged m p) calm
+      ∙ ap (λ (b : Bool). if not b then idle m else nudged m p) halted)

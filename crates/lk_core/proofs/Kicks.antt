@@ -1,6 +1,7 @@
--- The top frame goes where its row leads, or begins its next operation: what the machine shows of halts and kicks is what the world after the
--- row shows.
-use Rattle.std.proofs.Common.{◌≡◌, ℕ, Option, Some, None, Bool, true, false, List, inl, inr, ap, ◌+◌, ◌-◌, refl, sym, ◌∙◌, subst, slice_get}
+-- The top frame goes where its row leads, or begins its next operation: what the machine shows of
+-- halts and kicks is what the world after the row shows.
+use Rattle.std.proofs.Common.{◌≡◌, ℕ, Option, Some, None, Bool, true, false, List, inl, inr, ap}
+use Rattle.std.proofs.Common.{◌+◌, ◌-◌, refl, sym, ◌∙◌, subst, slice_get}
 use Rattle.std.specs.Prelude.{if◌then◌else◌, ◌==◌}
 use Rattle.std.proofs.lemmas.Bool.{cases_Bool}
 use Rattle.std.proofs.lemmas.Option.{same_Some, none-some}
@@ -13,21 +14,31 @@ use Rattle.lk_abs.specs.declared.names.LockName.{LockName}
 use Rattle.lk_abs.specs.declared.events.Event.{Event}
 use Rattle.lk_machine.specs.declared.setup.Op.{Op}
 use Rattle.lk_machine.specs.declared.setup.Verb.{Verb}
-use Rattle.lk_machine.specs.declared.setup.Verb.TheVariants.{Lock, Try, Unlock, Read, TryRead, RUnlock, Write, TryWrite, WUnlock}
+use Rattle.lk_machine.specs.declared.setup.Verb.TheVariants.{Lock, Try, Unlock, Read, TryRead}
+use Rattle.lk_machine.specs.declared.setup.Verb.TheVariants.{RUnlock, Write, TryWrite, WUnlock}
 use Rattle.lk_machine.specs.declared.parts.Frame.{Frame}
 use Rattle.lk_machine.specs.declared.parts.Pc.{Pc}
 use Rattle.lk_machine.specs.declared.parts.Pc.TheVariants.{U5}
-use Rattle.lk_machine.specs.Machine.{Machine, frame_at, queued_at, top_of, set_top, set_node, rest_node, HasTop}
-use Rattle.lk_machine.specs.Moves.{node_of, first_place, started, settled, settled_at, program_of, granted, waiting, skipped}
-use Rattle.lk_machine.specs.Row.{Lead, Goes, Enters, Granted, Freed, Missed, Done, TakesWait, Leaves, Yields, gone, entered, moved}
+use Rattle.lk_machine.specs.Machine.{Machine, frame_at, queued_at, top_of, set_top, set_node}
+use Rattle.lk_machine.specs.Machine.{rest_node, HasTop}
+use Rattle.lk_machine.specs.Moves.{node_of, first_place, started, settled, settled_at, program_of}
+use Rattle.lk_machine.specs.Moves.{granted, waiting, skipped}
+use Rattle.lk_machine.specs.Row.{Lead, Goes, Enters, Granted, Freed, Missed, Done, TakesWait}
+use Rattle.lk_machine.specs.Row.{Leaves, Yields, gone, entered, moved}
 use Rattle.lk_law.specs.Pv.{sleeps}
-use Rattle.lk_law.specs.World.{World, post_of, post_if, put_frame, put_held, put_queued, led, lead_on}
+use Rattle.lk_law.specs.World.{World}
+use Rattle.lk_law.specs.Places.{post_of, post_if}
+use Rattle.lk_law.specs.Steps.{put_frame, put_held, put_queued, led, lead_on}
 use Rattle.lk_law.specs.Kicked.{Rests, Owes, ShowsKicks}
 use Rattle.lk_law.specs.Sound.{world}
-use Rattle.lk_core.proofs.Worlds.{seated, world-set_top, world-pop, frame-set_node, halted-set_node, kicked-set_node}
+use Rattle.lk_core.proofs.Seated.{seated, world-set_top, world-pop}
+use Rattle.lk_core.proofs.Worlds.{frame-set_node, halted-set_node}
+use Rattle.lk_core.proofs.Worlds.{kicked-set_node}
 use Rattle.lk_core.proofs.Same.{top_same, has_top_same, same_set_node}
 use Rattle.lk_core.proofs.Moved.{Ready}
-use Rattle.lk_core.proofs.Leads.{left, left_same, left_world, left_ready, leave_is, rewritten, done_is, missed_is, granted_led}
+use Rattle.lk_core.proofs.LeadsOut.{left, left_same, left_world, left_ready, leave_is, rewritten}
+use Rattle.lk_core.proofs.LeadsOut.{done_is, missed_is}
+use Rattle.lk_core.proofs.Leads.{granted_led}
 
 -- the frame has halted its processor, or is about to
 abbrev pub asleep_in : Option Frame → Bool
@@ -59,20 +70,24 @@ kicks_then a b c s t =
       owed = λ u. t.owed u ∙ s.owed u;
     }
 
-sleeper_of : (o : Option Frame) → asleep_in o ≡ true → (f : Frame) × (o ≡ Some f) × (sleeps (post_of f) ≡ true)
+sleeper_of : (o : Option Frame) → asleep_in o ≡ true
+    → (f : Frame) × (o ≡ Some f) × (sleeps (post_of f) ≡ true)
 sleeper_of None e = cc
 sleeper_of (Some f) e = (f, refl, e)
 
-ower_of : (o : Option Frame) (p : ℕ) → owed_in o ≡ Some p → (f : Frame) × (o ≡ Some f) × (f.place ≡ Some U5) × ((node_of f.target).cpu ≡ p)
+ower_of : (o : Option Frame) (p : ℕ) → owed_in o ≡ Some p
+    → (f : Frame) × (o ≡ Some f) × (f.place ≡ Some U5) × ((node_of f.target).cpu ≡ p)
 ower_of None p e = absurd (none-some p e)
 ower_of (Some f) p e = by f.place refl e
   where
-    by : (c : Option Pc) → f.place ≡ c → owed_at c f ≡ Some p → (g : Frame) × (Some f ≡ Some g) × (g.place ≡ Some U5) × ((node_of g.target).cpu ≡ p)
+    by : (c : Option Pc) → f.place ≡ c → owed_at c f ≡ Some p
+        → (g : Frame) × (Some f ≡ Some g) × (g.place ≡ Some U5) × ((node_of g.target).cpu ≡ p)
     by (Some U5) at e = (f, refl, at, same_Some (node_of f.target).cpu p e)
     by None at e = absurd (none-some p e)
     by (Some _) at e = absurd (none-some p e)
 
-owed_of : (o : Option Frame) (f : Frame) (p : ℕ) → o ≡ Some f → f.place ≡ Some U5 → (node_of f.target).cpu ≡ p → owed_in o ≡ Some p
+owed_of : (o : Option Frame) (f : Frame) (p : ℕ) → o ≡ Some f → f.place ≡ Some U5
+    → (node_of f.target).cpu ≡ p → owed_in o ≡ Some p
 owed_of o f p live at cpu = ap owed_in live ∙ ap (λ (c : Option Pc). owed_at c f) at ∙ ap Some cpu
 
 rests_same : (a b : World) → SameKicks a b → (u : Waiter) → Rests a u → Rests b u
@@ -84,7 +99,13 @@ owes_same : (a b : World) → SameKicks a b → (p : ℕ) (u : Waiter) → Owes 
 owes_same a b s p u o = ower_of (b.frame u) p (s.owed u ∙ owed_of (a.frame u) o.0 p o.1 o.2 o.3)
 
 kicks_back : (a b : World) → SameKicks a b → SameKicks b a
-kicks_back a b s = record { halted = λ p. sym (s.halted p); kicked = λ p. sym (s.kicked p); asleep = λ u. sym (s.asleep u); owed = λ u. sym (s.owed u) }
+kicks_back a b s =
+    record {
+      halted = λ p. sym (s.halted p);
+      kicked = λ p. sym (s.kicked p);
+      asleep = λ u. sym (s.asleep u);
+      owed = λ u. sym (s.owed u);
+    }
 
 -- what one shows the other does
 pub kicks_same : (a b : World) (es : List Event) → SameKicks a b → ShowsKicks a es → ShowsKicks b es
@@ -95,16 +116,27 @@ kicks_same a b es s shows =
       rests = λ u r. shows.rests u (rests_same b a t u r);
       kicked = λ p. s.kicked p ∙ shows.kicked p;
       owing = λ p.
-          let r = shows.owing p in
-          (r.0, r.1, record { once = r.2.once; inside = λ i lt. owes_same a b s p (r.1 i) (r.2.inside i lt); place = λ u o. r.2.place u (owes_same b a t p u o) }, r.3);
+          let r = shows.owing p in (
+            r.0,
+            r.1,
+            record {
+              once = r.2.once;
+              inside = λ i lt. owes_same a b s p (r.1 i) (r.2.inside i lt);
+              place = λ u o. r.2.place u (owes_same b a t p u o);
+            },
+            r.3,
+          );
     }
 
 -- how a waiter holds a lock changes nothing of them
-pub kicks_put_held : (a : World) (w : Waiter) (l : LockName) (way : Option Manner) → SameKicks (put_held a w l way) a
+pub kicks_put_held : (a : World) (w : Waiter) (l : LockName) (way : Option Manner)
+    → SameKicks (put_held a w l way) a
 kicks_put_held a w l way = record { halted = λ p. refl; kicked = λ p. refl; asleep = λ u. refl; owed = λ u. refl }
 
 -- nor does one frame in the place of another that neither sleeps nor owes a kick as little as it
-pub kicks_seated : (n : Machine) (w : Waiter) (g : Frame) (o : Option Frame) → asleep_in o ≡ asleep_in (Some g) → owed_in o ≡ owed_in (Some g) → SameKicks (put_frame (world n) w (Some g)) (seated n w o)
+pub kicks_seated : (n : Machine) (w : Waiter) (g : Frame) (o : Option Frame)
+    → asleep_in o ≡ asleep_in (Some g) → owed_in o ≡ owed_in (Some g)
+    → SameKicks (put_frame (world n) w (Some g)) (seated n w o)
 kicks_seated n w g o asleep owed =
     record {
       halted = λ p. refl;
@@ -113,7 +145,8 @@ kicks_seated n w g o asleep owed =
       owed = λ u. by owed_in owed (same_waiter u w) (frame_at n u);
     }
   where
-    by : {A : Type 0} (F : Option Frame → A) → F o ≡ F (Some g) → (t : Bool) (x : Option Frame) → F (if t then o else x) ≡ F (if t then Some g else x)
+    by : {A : Type 0} (F : Option Frame → A) → F o ≡ F (Some g) → (t : Bool) (x : Option Frame)
+        → F (if t then o else x) ≡ F (if t then Some g else x)
     by F e true x = e
     by F e false x = refl
 
@@ -122,7 +155,9 @@ calm_place : (g : Frame) → g.place ≡ None → (asleep_in (Some g) ≡ false)
 calm_place g at = (ap (λ (c : Option Pc). sleeps (post_if c g)) at, ap (λ (c : Option Pc). owed_at c g) at)
 
 -- nor does one that begins an operation
-calm_first : (mode : Mode) (v : Verb) (g : Frame) → (sleeps (post_if (Some (first_place mode v)) g) ≡ false) × (owed_at (Some (first_place mode v)) g ≡ None)
+calm_first : (mode : Mode) (v : Verb) (g : Frame)
+    → (sleeps (post_if (Some (first_place mode v)) g) ≡ false)
+    × (owed_at (Some (first_place mode v)) g ≡ None)
 calm_first Virt Unlock g = (refl, refl)
 calm_first Native Unlock g = (refl, refl)
 calm_first Cna Unlock g = (refl, refl)
@@ -142,41 +177,60 @@ module _ (n : Machine) (p : ℕ) (top : HasTop n p) where
 
   -- the top frame becomes this one
   kicks_top : (g : Frame) → SameKicks (put_frame (world n) w (Some g)) (world (set_top n p g))
-  kicks_top g = subst (λ (x : World). SameKicks (put_frame (world n) w (Some g)) x) (sym (world-set_top n p g top)) (kicks_seated n w g (Some g) refl refl)
+  kicks_top g =
+      subst (λ (x : World). SameKicks (put_frame (world n) w (Some g)) x)
+      (sym (world-set_top n p g top)) (kicks_seated n w g (Some g) refl refl)
 
   -- it goes on to its next operation
-  pub kicks_settled : (g h : Frame) → g.place ≡ None → SameKicks (put_frame (world n) w (Some g)) (world (settled n p h))
+  pub kicks_settled : (g h : Frame) → g.place ≡ None
+      → SameKicks (put_frame (world n) w (Some g)) (world (settled n p h))
   kicks_settled g h at = by (slice_get (program_of n p h) h.«at»)
     where
       none : (asleep_in (Some g) ≡ false) × (owed_in (Some g) ≡ None)
       none = calm_place g at
 
-      to : (o : Option Frame) → (asleep_in o ≡ false) × (owed_in o ≡ None) → SameKicks (put_frame (world n) w (Some g)) (seated n w o)
+      to : (o : Option Frame) → (asleep_in o ≡ false) × (owed_in o ≡ None)
+          → SameKicks (put_frame (world n) w (Some g)) (seated n w o)
       to o calm = kicks_seated n w g o (calm.0 ∙ sym none.0) (calm.1 ∙ sym none.1)
 
-      set : (k : Frame) → (asleep_in (Some k) ≡ false) × (owed_in (Some k) ≡ None) → SameKicks (put_frame (world n) w (Some g)) (world (set_top n p k))
-      set k calm = subst (λ (x : World). SameKicks (put_frame (world n) w (Some g)) x) (sym (world-set_top n p k top)) (to (Some k) calm)
+      set : (k : Frame) → (asleep_in (Some k) ≡ false) × (owed_in (Some k) ≡ None)
+          → SameKicks (put_frame (world n) w (Some g)) (world (set_top n p k))
+      set k calm =
+          subst (λ (x : World). SameKicks (put_frame (world n) w (Some g)) x)
+          (sym (world-set_top n p k top)) (to (Some k) calm)
 
       by : (o : Option Op) → SameKicks (put_frame (world n) w (Some g)) (world (settled_at n p h o))
       by None = elim (cases_Bool (h.ctx == 0)) [
         | inl z ↦ rw z (set (record h { place = None }) (refl, refl))
-        | inr z ↦ rw z (subst (λ (x : World). SameKicks (put_frame (world n) w (Some g)) x) (sym (world-pop n p top)) (to None (refl, refl)))
+        | inr z ↦ rw z
+            (subst (λ (x : World). SameKicks (put_frame (world n) w (Some g)) x)
+            (sym (world-pop n p top)) (to None (refl, refl)))
       ]
       by (Some o) = set (started n.setup.mode h o) (calm_first n.setup.mode o.verb (started n.setup.mode h o))
 
 -- the lock is granted
-kicks_granted : (n : Machine) (p : ℕ) (f : Frame) (c : Pc) → Ready n p f c → SameKicks (put_frame (world n) (top_of n p) (Some (led f Granted))) (world (granted n p))
-kicks_granted n p f c r = subst (λ (x : Machine). SameKicks (put_frame (world n) (top_of n p) (Some (led f Granted))) (world x)) (sym (granted_led n p f r.live)) (by f.lock.wait refl)
+kicks_granted : (n : Machine) (p : ℕ) (f : Frame) (c : Pc) → Ready n p f c
+    → SameKicks (put_frame (world n) (top_of n p) (Some (led f Granted))) (world (granted n p))
+kicks_granted n p f c r =
+    subst (λ (x : Machine).
+    SameKicks (put_frame (world n) (top_of n p) (Some (led f Granted))) (world x))
+    (sym (granted_led n p f r.live)) (by f.lock.wait refl)
   where
     top : HasTop n p
     top = r.whole.tops p r.range
 
-    by : (b : Bool) → f.lock.wait ≡ b → SameKicks (put_frame (world n) (top_of n p) (Some (led f Granted))) (world (if b then set_top n p (led f Granted) else settled n p (record f { «at» = f.«at» + 1 })))
+    by : (b : Bool) → f.lock.wait ≡ b
+        → SameKicks (put_frame (world n) (top_of n p) (Some (led f Granted)))
+        (world (if b then set_top n p (led f Granted) else settled n p
+        (record f { «at» = f.«at» + 1 })))
     by true e = kicks_top n p top (led f Granted)
-    by false e = kicks_settled n p top (led f Granted) (record f { «at» = f.«at» + 1 }) (ap (λ (b : Bool). if b then f.then else None) e)
+    by false e =
+        kicks_settled n p top (led f Granted) (record f { «at» = f.«at» + 1 })
+        (ap (λ (b : Bool). if b then f.then else None) e)
 
 -- A frame goes where its row leads.
-pub kicks_moved : (n : Machine) (p : ℕ) (f : Frame) (c : Pc) → Ready n p f c → (lead : Lead) → SameKicks (put_frame (world n) (top_of n p) (Some (led f lead))) (world (moved n p f lead))
+pub kicks_moved : (n : Machine) (p : ℕ) (f : Frame) (c : Pc) → Ready n p f c → (lead : Lead)
+    → SameKicks (put_frame (world n) (top_of n p) (Some (led f lead))) (world (moved n p f lead))
 kicks_moved n p f c r (Goes d cs) = kicks_top n p (r.whole.tops p r.range) (gone f d cs)
 kicks_moved n p f c r (Enters None d) = kicks_top n p (r.whole.tops p r.range) (entered f None d)
 kicks_moved n p f c r (Enters (Some a) d) =
@@ -190,18 +244,32 @@ kicks_moved n p f c r (Enters (Some a) d) =
     (record {
       halted = λ q. halted-set_node n a rest_node q;
       kicked = λ q. kicked-set_node n a rest_node q;
-      asleep = λ u. ap (λ (o : Option Frame). asleep_in (if same_waiter u (top_of n p) then Some g else o)) (frame-set_node n a rest_node u);
-      owed = λ u. ap (λ (o : Option Frame). owed_in (if same_waiter u (top_of n p) then Some g else o)) (frame-set_node n a rest_node u);
+      asleep = λ u.
+          ap (λ (o : Option Frame). asleep_in (if same_waiter u (top_of n p) then Some g else o))
+          (frame-set_node n a rest_node u);
+      owed = λ u. ap
+          (λ (o : Option Frame). owed_in (if same_waiter u (top_of n p) then Some g else o))
+          (frame-set_node n a rest_node u);
     })
     (subst P (top_same n k p same) after)
 kicks_moved n p f c r Granted = kicks_granted n p f c r
 kicks_moved n p f c r Freed =
-    subst (λ (x : Machine). SameKicks (put_frame (world n) (top_of n p) (Some (led f Freed))) (world x)) (sym (done_is n p f r.live)) (kicks_settled n p (r.whole.tops p r.range) (led f Freed) (record f { «at» = f.«at» + 1 }) refl)
+    subst (λ (x : Machine).
+    SameKicks (put_frame (world n) (top_of n p) (Some (led f Freed))) (world x))
+    (sym (done_is n p f r.live))
+    (kicks_settled n p (r.whole.tops p r.range) (led f Freed) (record f { «at» = f.«at» + 1 })
+    refl)
 kicks_moved n p f c r Missed =
-    subst (λ (x : Machine). SameKicks (put_frame (world n) (top_of n p) (Some (led f Missed))) (world x)) (sym (missed_is n p f r.live))
+    subst (λ (x : Machine).
+    SameKicks (put_frame (world n) (top_of n p) (Some (led f Missed))) (world x))
+    (sym (missed_is n p f r.live))
     (kicks_settled n p (r.whole.tops p r.range) (led f Missed) (record f { «at» = f.«at» + skipped n p f }) refl)
 kicks_moved n p f c r Done =
-    subst (λ (x : Machine). SameKicks (put_frame (world n) (top_of n p) (Some (led f Done))) (world x)) (sym (done_is n p f r.live)) (kicks_settled n p (r.whole.tops p r.range) (led f Done) (record f { «at» = f.«at» + 1 }) refl)
+    subst (λ (x : Machine).
+    SameKicks (put_frame (world n) (top_of n p) (Some (led f Done))) (world x))
+    (sym (done_is n p f r.live))
+    (kicks_settled n p (r.whole.tops p r.range) (led f Done) (record f { «at» = f.«at» + 1 })
+    refl)
 kicks_moved n p f c r (TakesWait d) = kicks_top n p (r.whole.tops p r.range) (waiting f d)
 kicks_moved n p f c r Leaves =
     let k : Machine = left n p f in
@@ -210,16 +278,20 @@ kicks_moved n p f c r Leaves =
     let same = left_same n p f c r in
     let after = kicks_granted k p e c (left_ready n p f c r) in
     let P : Waiter → Type 0 = λ u. SameKicks (put_frame (world k) u (Some d)) (world (granted k p)) in
-    let again : put_frame (world k) (top_of n p) (Some d) ≡ put_frame (put_queued (world n) p (queued_at n p - 1)) (top_of n p) (Some d) =
-    ap (λ (x : World). put_frame x (top_of n p) (Some d)) (left_world n p f c r) ∙ rewritten (world n) (top_of n p) (Some e) (Some d) p (queued_at n p - 1) in
+    let again : put_frame (world k) (top_of n p) (Some d)
+    ≡ put_frame (put_queued (world n) p (queued_at n p - 1)) (top_of n p) (Some d) =
+    ap (λ (x : World). put_frame x (top_of n p) (Some d)) (left_world n p f c r)
+    ∙ rewritten (world n) (top_of n p) (Some e) (Some d) p (queued_at n p - 1) in
     subst (λ (x : Machine). SameKicks (put_frame (world n) (top_of n p) (Some d)) (world (granted x p))) (sym (leave_is n p f c r))
     (kicks_then (put_frame (world n) (top_of n p) (Some d)) (put_frame (world k) (top_of n p) (Some d)) (world (granted k p))
-    (subst (λ (x : World). SameKicks (put_frame (world n) (top_of n p) (Some d)) x) (sym again) (record { halted = λ q. refl; kicked = λ q. refl; asleep = λ u. refl; owed = λ u. refl }))
+    (subst (λ (x : World). SameKicks (put_frame (world n) (top_of n p) (Some d)) x) (sym again)
+    (record { halted = λ q. refl; kicked = λ q. refl; asleep = λ u. refl; owed = λ u. refl }))
     (subst P (top_same n k p same) after))
 kicks_moved n p f c r (Yields d cs) = kicks_top n p (r.whole.tops p r.range) (gone f d cs)
 
 -- what a lead changes besides the frame and the hold changes nothing of halts and kicks
-pub kicks_led : (m : World) (w : Waiter) (f : Frame) (lead : Lead) → SameKicks (lead_on m w f lead) (put_frame m w (Some (led f lead)))
+pub kicks_led : (m : World) (w : Waiter) (f : Frame) (lead : Lead)
+    → SameKicks (lead_on m w f lead) (put_frame m w (Some (led f lead)))
 kicks_led m w f (Goes c cs) = record { halted = λ q. refl; kicked = λ q. refl; asleep = λ u. refl; owed = λ u. refl }
 kicks_led m w f (Enters None c) = record { halted = λ q. refl; kicked = λ q. refl; asleep = λ u. refl; owed = λ u. refl }
 kicks_led m w f (Enters (Some a) c) = record { halted = λ q. refl; kicked = λ q. refl; asleep = λ u. refl; owed = λ u. refl }

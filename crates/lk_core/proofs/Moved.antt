@@ -1,6 +1,8 @@
--- The top frame goes where its row leads: on every machine on which it is ready, the general application is the change of worlds, and
--- the machine shows the histories that the world agrees with.
-use Rattle.std.proofs.Common.{◌≡◌, ℕ, Option, Some, None, true, List, [], ◌∷◌, inl, inr, arith, ap, ◌<◌, ◌≤◌, ◌+◌, refl, sym, ◌∙◌, subst, slice_get, length}
+-- The top frame goes where its row leads: on every machine on which it is ready, the general
+-- application is the change of worlds, and the machine shows the histories that the world agrees
+-- with.
+use Rattle.std.proofs.Common.{◌≡◌, ℕ, Option, Some, None, true, List, [], ◌∷◌, inl, inr, arith, ap}
+use Rattle.std.proofs.Common.{◌<◌, ◌≤◌, ◌+◌, refl, sym, ◌∙◌, subst, slice_get, length}
 use Rattle.std.specs.Prelude.{if◌then◌else◌, ◌&&◌}
 use Rattle.std.proofs.lemmas.Option.{same_Some, none-some, slice_get_within}
 use Rattle.lk_abs.specs.Names.{same_waiter, same_lock}
@@ -10,25 +12,30 @@ use Rattle.lk_abs.specs.declared.names.Waiter.{Waiter}
 use Rattle.lk_abs.specs.declared.names.LockName.{LockName}
 use Rattle.lk_machine.specs.declared.parts.Frame.{Frame}
 use Rattle.lk_machine.specs.declared.parts.Pc.{Pc}
-use Rattle.lk_machine.specs.Machine.{Machine, frame_at, handlers_at, top_of, set_top, HasTop, HasNode}
+use Rattle.lk_machine.specs.Machine.{Machine, frame_at, handlers_at, top_of, set_top, HasTop}
+use Rattle.lk_machine.specs.Machine.{HasNode}
 use Rattle.lk_machine.specs.declared.setup.Setup.{Setup}
 use Rattle.lk_machine.specs.Programs.{is_try, program_at}
 use Rattle.lk_machine.specs.Moves.{program_of, settled, skipped}
-use Rattle.lk_machine.specs.Row.{Change, Prev, Second, Y, Left, A, B, K, T, Reason, Tailed, HashedIs, TargetIs, changed, changed_all}
-use Rattle.lk_law.specs.World.{World, put_frame, put_held}
-use Rattle.lk_law.specs.Sound.{world, held_in, held_at, held_of, Works, Fits, IsWhole, ShowsAll, held_idle, Stage, after_wait}
-use Rattle.lk_law.specs.Whole.{IsWholeWorld}
+use Rattle.lk_machine.specs.Row.{Change, Prev, Second, Y, Left, A, B, K, T, Reason, Tailed}
+use Rattle.lk_machine.specs.Row.{HashedIs, TargetIs, changed, changed_all}
+use Rattle.lk_law.specs.World.{World}
+use Rattle.lk_law.specs.Steps.{put_frame, put_held}
+use Rattle.lk_law.specs.Sound.{world, held_in, held_at, held_of, Works, Fits, IsWhole, ShowsAll}
+use Rattle.lk_law.specs.Sound.{held_idle, Stage, after_wait}
+use Rattle.lk_law.specs.SoundWorld.{IsSoundWorld}
 use Rattle.lk_machine.specs.Moves.{rw_name}
-use Rattle.lk_law.proofs.Cases.{waiter_cases}
-use Rattle.lk_law.proofs.Sames.{same_waiter-self}
-use Rattle.lk_law.proofs.Puts.{same_waiter-else}
-use Rattle.lk_core.proofs.Worlds.{alike, world-set_top}
+use Rattle.lk_law.proofs.common.Cases.{waiter_cases}
+use Rattle.lk_law.proofs.common.Sames.{same_waiter-self}
+use Rattle.lk_law.proofs.common.Puts.{same_waiter-else}
+use Rattle.lk_core.proofs.Seated.{alike, world-set_top}
 use Rattle.lk_core.proofs.Same.{Same, top_same, same_set_top, whole_same, fits_kept}
 use Rattle.lk_core.proofs.Walks.{HoldsNow, IsOuter, NodesIn, holds_missed, skip_within}
 use Rattle.lk_core.proofs.Settle.{fits_all, settled_shows}
 
 -- the operation of a frame is the same
-abbrev pub works_kept : (s t : Setup) (p : ℕ) (f : Frame) (c : Pc) → t ≡ s → Works s.mode (program_at s p f.program) f c → Works t.mode (program_at t p f.program) f c
+abbrev pub works_kept : (s t : Setup) (p : ℕ) (f : Frame) (c : Pc) → t ≡ s
+    → Works s.mode (program_at s p f.program) f c → Works t.mode (program_at t p f.program) f c
 works_kept s t p f c e w =
     record {
       op = w.op;
@@ -47,11 +54,13 @@ pub record Ready (n : Machine) (p : ℕ) (f : Frame) (c : Pc) : Type 0 where
   pub works : Works n.setup.mode (program_of n p f) f c
 
 -- the nodes that the frame has met are the machine's
-abbrev pub ready_nodes : (n : Machine) (p : ℕ) (f : Frame) (c : Pc) → Ready n p f c → NodesIn (HasNode n) f
+abbrev pub ready_nodes : (n : Machine) (p : ℕ) (f : Frame) (c : Pc) → Ready n p f c
+    → NodesIn (HasNode n) f
 ready_nodes n p f c r = let fit = r.fits (top_of n p) f r.live in record { prev = fit.prev; target = fit.target }
 
 -- a machine with other words or nodes is ready too
-abbrev pub ready_same : (n k : Machine) (p : ℕ) (f : Frame) (c : Pc) → Ready n p f c → Same n k → ((u : Waiter) → frame_at k u ≡ frame_at n u) → Ready k p f c
+abbrev pub ready_same : (n k : Machine) (p : ℕ) (f : Frame) (c : Pc) → Ready n p f c → Same n k
+    → ((u : Waiter) → frame_at k u ≡ frame_at n u) → Ready k p f c
 ready_same n k p f c r same frames =
     record {
       whole = whole_same n k r.whole same;
@@ -66,7 +75,8 @@ abbrev holding : World → Waiter → Option Frame → (LockName → Option Mann
 holding m w o held = record (put_frame m w o) { held = λ u l. if same_waiter u w then held l else m.held u l }
 
 -- the frame of w changes, and no hold
-pub holding_same : (m : World) (w : Waiter) (o : Option Frame) (held : LockName → Option Manner) → ((l : LockName) → held l ≡ m.held w l) → holding m w o held ≡ put_frame m w o
+pub holding_same : (m : World) (w : Waiter) (o : Option Frame) (held : LockName → Option Manner)
+    → ((l : LockName) → held l ≡ m.held w l) → holding m w o held ≡ put_frame m w o
 holding_same m w o held each =
     alike (holding m w o held) (put_frame m w o) (record {
       mode = refl;
@@ -91,8 +101,10 @@ holding_same m w o held each =
     })
 
 -- the frame of w changes, and its hold of one lock
-pub holding_put : (m : World) (w : Waiter) (o : Option Frame) (held : LockName → Option Manner) (k : LockName) (way : Option Manner)
-    → ((l : LockName) → held l ≡ (if same_lock l k then way else m.held w l)) → holding m w o held ≡ put_held (put_frame m w o) w k way
+pub holding_put : (m : World) (w : Waiter) (o : Option Frame) (held : LockName → Option Manner)
+    (k : LockName) (way : Option Manner)
+    → ((l : LockName) → held l ≡ (if same_lock l k then way else m.held w l))
+    → holding m w o held ≡ put_held (put_frame m w o) w k way
 holding_put m w o held k way each =
     alike (holding m w o held) (put_held (put_frame m w o) w k way) (record {
       mode = refl;
@@ -104,7 +116,9 @@ holding_put m w o held k way each =
       frame = λ u. refl;
       held = λ u l. elim (waiter_cases u w) [
         | inl e ↦
-            let P : Waiter → Type 0 = λ v. (if same_waiter v w then held l else m.held v l) ≡ (if same_waiter v w && same_lock l k then way else m.held v l) in
+            let P : Waiter → Type 0 =
+            λ v. (if same_waiter v w then held l else m.held v l)
+            ≡ (if same_waiter v w && same_lock l k then way else m.held v l) in
             subst P (sym e) (rw (same_waiter-self w) (each l))
         | inr ne ↦ rw (same_waiter-else u w ne) refl
       ];
@@ -149,7 +163,13 @@ same_changed_all f [] = record { ctx = refl; program = refl; position = refl; lo
 same_changed_all f (c ∷ cs) =
     let a = same_changed f c in
     let b = same_changed_all (changed f c) cs in
-    record { ctx = b.ctx ∙ a.ctx; program = b.program ∙ a.program; position = b.position ∙ a.position; lock = b.lock ∙ a.lock; next = b.next ∙ a.next }
+    record {
+      ctx = b.ctx ∙ a.ctx;
+      program = b.program ∙ a.program;
+      position = b.position ∙ a.position;
+      lock = b.lock ∙ a.lock;
+      next = b.next ∙ a.next;
+    }
 
 module _ (n : Machine) (p : ℕ) (f : Frame) (c : Pc) (hs : LockName → LockHistory) (r : Ready n p f c) where
   abbrev w : Waiter
@@ -165,20 +185,28 @@ module _ (n : Machine) (p : ℕ) (f : Frame) (c : Pc) (hs : LockName → LockHis
   held_here l = ap (held_at n w l) r.live
 
   -- a frame goes on in its operation, and holds the lock k in this way
-  module _ (g : Frame) (d : Pc) (same : SamePlace f g) (at : g.place ≡ Some d) (lock : g.lock.index ≡ f.lock.index) (stage : Stage n.setup.mode r.works.op.verb g d)
+  module _ (g : Frame) (d : Pc) (same : SamePlace f g) (at : g.place ≡ Some d)
+      (lock : g.lock.index ≡ f.lock.index) (stage : Stage n.setup.mode r.works.op.verb g d)
       (after : g.lock.wait ≡ true → g.then ≡ after_wait r.works.op.verb) (nodes : NodesIn (HasNode n) g) where
     pub goes_fit : Fits n w g
     goes_fit =
         record {
           ctx = same.ctx ∙ fit.ctx;
-          program = subst (λ (i : ℕ). (w.ctx ≡ 0 → i ≡ 0) × (0 < w.ctx → (0 < i) × (i ≤ handlers_at n p))) (sym same.program) fit.program;
-          within = subst (λ (i : ℕ). i ≤ length (program_of n p g)) (sym same.position) (subst (λ (i : ℕ). f.«at» ≤ length (program_at n.setup p i)) (sym same.program) fit.within);
+          program = subst
+              (λ (i : ℕ). (w.ctx ≡ 0 → i ≡ 0) × (0 < w.ctx → (0 < i) × (i ≤ handlers_at n p)))
+              (sym same.program) fit.program;
+          within = subst (λ (i : ℕ). i ≤ length (program_of n p g)) (sym same.position)
+              (subst (λ (i : ℕ). f.«at» ≤ length (program_at n.setup p i)) (sym same.program)
+              fit.within);
           finished = λ e. absurd (none-some d (sym e ∙ at));
           working = λ x e.
               let dx : d ≡ x = same_Some d x (sym at ∙ e) in
               record {
                 op = r.works.op;
-                is = subst (λ (i : ℕ). slice_get (program_of n p g) i ≡ Some r.works.op) (sym same.position) (subst (λ (i : ℕ). slice_get (program_at n.setup p i) f.«at» ≡ Some r.works.op) (sym same.program) r.works.is);
+                is = subst (λ (i : ℕ). slice_get (program_of n p g) i ≡ Some r.works.op)
+                    (sym same.position)
+                    (subst (λ (i : ℕ). slice_get (program_at n.setup p i) f.«at» ≡ Some r.works.op)
+                    (sym same.program) r.works.is);
                 lock = lock ∙ r.works.lock;
                 stage = subst (λ (y : Pc). Stage n.setup.mode r.works.op.verb g y) dx stage;
                 after = after;
@@ -187,31 +215,42 @@ module _ (n : Machine) (p : ℕ) (f : Frame) (c : Pc) (hs : LockName → LockHis
           target = nodes.target;
         }
 
-    pub goes_shows : (k : LockName) (way : Option Manner) → ((l : LockName) → held_at n w l (Some g) ≡ (if same_lock l k then way else held_of n w l))
-        → IsWholeWorld (put_held (put_frame (world n) w (Some g)) w k way) hs → ShowsAll (set_top n p g) hs
+    pub goes_shows : (k : LockName) (way : Option Manner)
+        → ((l : LockName) → held_at n w l (Some g) ≡ (if same_lock l k then way else held_of n w l))
+        → IsSoundWorld (put_held (put_frame (world n) w (Some g)) w k way) hs
+        → ShowsAll (set_top n p g) hs
     goes_shows k way each sound =
         let m : Machine = set_top n p g in
         let s = same_set_top n p g in
         let is = world-set_top n p g top in
         record {
           whole = whole_same n m r.whole s;
-          world = subst (λ (x : World). IsWholeWorld x hs) (sym (is ∙ holding_put (world n) w (Some g) (λ l. held_at n w l (Some g)) k way each)) sound;
+          world = subst (λ (x : World). IsSoundWorld x hs)
+              (sym (is ∙ holding_put (world n) w (Some g) (λ l. held_at n w l (Some g)) k way each))
+              sound;
           fits = fits_all n m w (Some g) s.keeps (λ u. ap (λ (x : World). x.frame u) is)
-              (λ x e. subst (λ (y : Frame). Fits m w y) (same_Some g x e) (fits_kept n m w g s.keeps goes_fit)) (λ u x ne e. r.fits u x e);
+              (λ x e. subst (λ (y : Frame). Fits m w y) (same_Some g x e)
+              (fits_kept n m w g s.keeps goes_fit)) (λ u x ne e. r.fits u x e);
         }
 
   -- an operation has ended
   module _ (d : Frame) (place : d.place ≡ None) (me : f.me ≡ d.me) (lock : f.lock ≡ d.lock) (next : f.then ≡ d.then) where
-    pub ended_shows : (i : ℕ) (k : LockName) (way : Option Manner) → i ≤ length (program_of n p f) → HoldsNow (program_of n p f) f (record f { «at» = i }) k way
-        → IsWholeWorld (put_held (put_frame (world n) w (Some d)) w k way) hs → ShowsAll (settled n p (record f { «at» = i })) hs
+    pub ended_shows : (i : ℕ) (k : LockName) (way : Option Manner) → i ≤ length (program_of n p f)
+        → HoldsNow (program_of n p f) f (record f { «at» = i }) k way
+        → IsSoundWorld (put_held (put_frame (world n) w (Some d)) w k way) hs
+        → ShowsAll (settled n p (record f { «at» = i })) hs
     ended_shows i k way low holds sound =
         let h : Frame = record f { «at» = i } in
-        let each : (l : LockName) → held_idle (program_of n p h) h l ≡ (if same_lock l k then way else held_of n w l) = λ l. holds l ∙ ap (λ (x : Option Manner). if same_lock l k then way else x) (sym (held_here l)) in
+        let each : (l : LockName) → held_idle (program_of n p h) h
+        l ≡ (if same_lock l k then way else held_of n w l) = λ l. holds l
+        ∙ ap (λ (x : Option Manner). if same_lock l k then way else x) (sym (held_here l)) in
         settled_shows n p d h hs (record {
           whole = r.whole;
           range = r.range;
           others = λ u g ne e. r.fits u g e;
-          world = subst (λ (x : World). IsWholeWorld x hs) (sym (holding_put (world n) w (Some d) (λ l. held_idle (program_of n p h) h l) k way each)) sound;
+          world = subst (λ (x : World). IsSoundWorld x hs)
+              (sym (holding_put (world n) w (Some d) (λ l. held_idle (program_of n p h) h l) k way
+              each)) sound;
           place = place;
           me = me;
           lock = lock;
@@ -222,16 +261,27 @@ module _ (n : Machine) (p : ℕ) (f : Frame) (c : Pc) (hs : LockName → LockHis
           nodes = record { prev = fit.prev; target = fit.target };
         })
 
-    pub done_shows : (k : LockName) (way : Option Manner) → HoldsNow (program_of n p f) f (record f { «at» = f.«at» + 1 }) k way → IsWholeWorld (put_held (put_frame (world n) w (Some d)) w k way) hs
+    pub done_shows : (k : LockName) (way : Option Manner)
+        → HoldsNow (program_of n p f) f (record f { «at» = f.«at» + 1 }) k way
+        → IsSoundWorld (put_held (put_frame (world n) w (Some d)) w k way) hs
         → ShowsAll (settled n p (record f { «at» = f.«at» + 1 })) hs
     done_shows k way holds sound =
         let low = slice_get_within (program_of n p f) f.«at» r.works.op r.works.is in
         ended_shows (f.«at» + 1) k way (omega arith) holds sound
 
-    pub missed_shows : IsOuter f → is_try r.works.op.verb ≡ true → IsWholeWorld (put_held (put_frame (world n) w (Some d)) w (rw_name f.lock.index) (held_of n w (rw_name f.lock.index))) hs
+    pub missed_shows : IsOuter f → is_try r.works.op.verb ≡ true
+        → IsSoundWorld
+        (put_held (put_frame (world n) w (Some d)) w (rw_name f.lock.index)
+        (held_of n w (rw_name f.lock.index))) hs
         → ShowsAll (settled n p (record f { «at» = f.«at» + skipped n p f })) hs
     missed_shows outer tries sound =
-        ended_shows (f.«at» + skipped n p f) (rw_name f.lock.index) (held_of n w (rw_name f.lock.index)) (skip_within (program_of n p f) f.«at» f.lock.index r.works.op r.works.is)
-        (subst (λ (x : Option Manner). HoldsNow (program_of n p f) f (record f { «at» = f.«at» + skipped n p f }) (rw_name f.lock.index) x) (sym (held_here (rw_name f.lock.index)))
-        (holds_missed (program_of n p f) f (record f { «at» = f.«at» + skipped n p f }) r.works.op r.works.is r.works.lock outer n.setup.locks.items (r.whole.setup.lawful p f.program) tries refl))
+        ended_shows (f.«at» + skipped n p f) (rw_name f.lock.index)
+        (held_of n w (rw_name f.lock.index))
+        (skip_within (program_of n p f) f.«at» f.lock.index r.works.op r.works.is)
+        (subst (λ (x : Option Manner).
+        HoldsNow (program_of n p f) f (record f { «at» = f.«at» + skipped n p f })
+        (rw_name f.lock.index) x) (sym (held_here (rw_name f.lock.index)))
+        (holds_missed (program_of n p f) f (record f { «at» = f.«at» + skipped n p f }) r.works.op
+        r.works.is r.works.lock outer n.setup.locks.items (r.whole.setup.lawful p f.program)
+        tries refl))
         sound

@@ -1,6 +1,7 @@
--- The nodes that a row gives to registers of its frame: the one that G4 meets as the tail, and the one that U3 meets in the hash. All other
--- rows give none.
-use Rattle.std.proofs.Common.{◌≡◌, ℕ, Option, Some, None, Bool, true, false, [], ◌∷◌, inl, inr, ◌-◌, refl}
+-- The nodes that a row gives to registers of its frame: the one that G4 meets as the tail, and the
+-- one that U3 meets in the hash. All other rows give none.
+use Rattle.std.proofs.Common.{◌≡◌, ℕ, Option, Some, None, Bool, true, false, [], ◌∷◌, inl, inr, ◌-◌}
+use Rattle.std.proofs.Common.{refl}
 use Rattle.std.specs.Prelude.{if◌then◌else◌, ◌==◌, ◌&&◌, is_some}
 use Rattle.std.proofs.lemmas.Bool.{cases_Bool}
 use Rattle.lk_abs.specs.declared.names.Mode.{Mode}
@@ -12,16 +13,22 @@ use Rattle.lk_machine.specs.declared.parts.State.{State}
 use Rattle.lk_machine.specs.declared.parts.Flag.TheVariants as flag
 use Rattle.lk_machine.specs.declared.parts.Frame.{Frame}
 use Rattle.lk_machine.specs.declared.parts.Pc.{Pc}
-use Rattle.lk_machine.specs.declared.parts.Pc.TheVariants.{F1, T1, T2, V2, P4, G3, G4, G5, G6, G8, G10, N2, C1, C2, C3, C6, C7, C8, C10, H2, W2, W4, W6, W7, E1, E4, E7, E10, E13, E14, K1, U2, U3, U5}
-use Rattle.lk_machine.specs.Row.{Outcome, TargetIs}
-use Rattle.lk_machine.specs.SpinRows.{spin_row, is_free, is_unlocked}
-use Rattle.lk_machine.specs.QueueRows.{queue_row, flag_row, next_row, is_sole, after_arrival}
-use Rattle.lk_machine.specs.CnaRows.{Sight, may_stay, after_none, is_last, is_held, search_row, second_row, runs_row, handover_row, promotion_row}
-use Rattle.lk_machine.specs.PvRows.{is_set, is_running, is_halted, pv_row, pv_flag_row, pv_next_row, state_row, hash_row, halt_row, kick_row}
+use Rattle.lk_machine.specs.declared.parts.Pc.TheVariants.{F1, T1, T2, V2, P4, G3, G4, G5, G6, G8}
+use Rattle.lk_machine.specs.declared.parts.Pc.TheVariants.{G10, N2, C1, C2, C3, C6, C7, C8, C10, H2}
+use Rattle.lk_machine.specs.declared.parts.Pc.TheVariants.{W2, W4, W6, W7, E1, E4, E7, E10, E13}
+use Rattle.lk_machine.specs.declared.parts.Pc.TheVariants.{E14, K1, U2, U3, U5}
+use Rattle.lk_machine.specs.Row.{Effect, TargetIs}
+use Rattle.lk_machine.specs.rows.Spin.{spin_row, is_free, is_unlocked}
+use Rattle.lk_machine.specs.rows.Queue.{queue_row, flag_row, next_row, is_sole, after_arrival}
+use Rattle.lk_machine.specs.rows.Cna.{Sight, may_stay, after_none, is_last, is_held, search_row}
+use Rattle.lk_machine.specs.rows.Cna.{second_row, runs_row, handover_row, promotion_row}
+use Rattle.lk_machine.specs.rows.Pv.{is_set, is_running, is_halted, pv_row, pv_flag_row}
+use Rattle.lk_machine.specs.rows.Pv.{pv_next_row, state_row, hash_row, halt_row, kick_row}
 use Rattle.lk_core.proofs.Walks.{LeadIn, ChangesIn}
 
 module _ (R : NodeName → Type 0) where
-  pub spin_in : (mode : Mode) (c : Pc) (f : Frame) (x : Fields) → LeadIn R (spin_row mode c f x).leads
+  pub spin_in : (mode : Mode) (c : Pc) (f : Frame) (x : Fields)
+      → LeadIn R (spin_row mode c f x).leads
   spin_in mode F1 f x = elim (cases_Bool (is_free x)) [ inl e ↦ rw e tt | inr e ↦ rw e tt ]
   spin_in mode T1 f x = elim (cases_Bool (is_free x)) [ inl e ↦ rw e tt | inr e ↦ rw e tt ]
   spin_in mode T2 f x = elim (cases_Bool (is_free x)) [ inl e ↦ rw e tt | inr e ↦ rw e tt ]
@@ -29,12 +36,14 @@ module _ (R : NodeName → Type 0) where
   spin_in mode P4 f x = tt
   spin_in mode _ f x = tt
 
-  arrival_in : (mode : Mode) (o : Option NodeName) → ((n : NodeName) → o ≡ Some n → R n) → LeadIn R (after_arrival mode o).leads
+  arrival_in : (mode : Mode) (o : Option NodeName) → ((n : NodeName) → o ≡ Some n → R n)
+      → LeadIn R (after_arrival mode o).leads
   arrival_in Pv None met = tt
   arrival_in _ None met = tt
   arrival_in mode (Some n) met = (met n refl, tt)
 
-  pub queue_in : (mode : Mode) (c : Pc) (f : Frame) (x : Fields) → (c ≡ G4 → (n : NodeName) → x.tail ≡ Some n → R n) → LeadIn R (queue_row mode c f x).leads
+  pub queue_in : (mode : Mode) (c : Pc) (f : Frame) (x : Fields)
+      → (c ≡ G4 → (n : NodeName) → x.tail ≡ Some n → R n) → LeadIn R (queue_row mode c f x).leads
   queue_in mode G3 f x met = elim (cases_Bool (is_free x)) [ inl e ↦ rw e tt | inr e ↦ rw e tt ]
   queue_in mode G4 f x met = arrival_in mode x.tail (met refl)
   queue_in mode G8 f x met = elim (cases_Bool (is_sole f x)) [ inl e ↦ rw e tt | inr e ↦ rw e tt ]
@@ -47,7 +56,8 @@ module _ (R : NodeName → Type 0) where
   flag_in G6 f (flag.Second n) = tt
   flag_in _ f x = tt
 
-  pub next_in : (mode : Mode) (turns : ℕ) (c : Pc) (f : Frame) (x : Option NodeName) → LeadIn R (next_row mode turns c f x).leads
+  pub next_in : (mode : Mode) (turns : ℕ) (c : Pc) (f : Frame) (x : Option NodeName)
+      → LeadIn R (next_row mode turns c f x).leads
   next_in mode turns G10 f None = tt
   next_in mode turns G10 f (Some n) = tt
   next_in Pv turns G5 f x = tt
@@ -55,7 +65,8 @@ module _ (R : NodeName → Type 0) where
   next_in mode turns _ f x = tt
 
   -- one of two outcomes
-  in_if : {A : Type 0} (t : Bool) (a b : Outcome A) → LeadIn R a.leads → LeadIn R b.leads → LeadIn R (if t then a else b).leads
+  in_if : {A : Type 0} (t : Bool) (a b : Effect A) → LeadIn R a.leads → LeadIn R b.leads
+      → LeadIn R (if t then a else b).leads
   in_if true a b x y = x
   in_if false a b x y = y
 
@@ -63,7 +74,8 @@ module _ (R : NodeName → Type 0) where
   after_none_in None = tt
   after_none_in (Some n) = tt
 
-  pub search_in : (s : Sight) (c : Pc) (f : Frame) (x : Option NodeName) → LeadIn R (search_row s c f x).leads
+  pub search_in : (s : Sight) (c : Pc) (f : Frame) (x : Option NodeName)
+      → LeadIn R (search_row s c f x).leads
   search_in s C1 f None = after_none_in f.second
   search_in s C1 f (Some n) = in_if (may_stay s) _ _ (in_if (s.local n) _ _ tt tt) (in_if (is_some f.second) _ _ tt tt)
   search_in s C2 f None = in_if (is_some f.second) _ _ tt tt
@@ -104,7 +116,8 @@ module _ (R : NodeName → Type 0) where
   pv_next_in E14 f (Some n) = tt
   pv_next_in _ f x = tt
 
-  pub state_in : (spins : ℕ) (c : Pc) (f : Frame) (x : State) → LeadIn R (state_row spins c f x).leads
+  pub state_in : (spins : ℕ) (c : Pc) (f : Frame) (x : State)
+      → LeadIn R (state_row spins c f x).leads
   state_in spins W2 f x = in_if (is_running x) _ _ (in_if (f.left - 1 == 0) _ _ tt tt) tt
   state_in spins W7 f x = in_if (is_halted x) _ _ tt tt
   state_in spins E1 f x = tt
@@ -112,11 +125,13 @@ module _ (R : NodeName → Type 0) where
   state_in spins K1 f x = in_if (is_halted x) _ _ tt tt
   state_in spins _ f x = tt
 
-  found_in : (o : Option NodeName) → ((n : NodeName) → o ≡ Some n → R n) → ChangesIn R (TargetIs o ∷ [])
+  found_in : (o : Option NodeName) → ((n : NodeName) → o ≡ Some n → R n)
+      → ChangesIn R (TargetIs o ∷ [])
   found_in None met = tt
   found_in (Some n) met = (met n refl, tt)
 
-  pub hash_in : (c : Pc) (f : Frame) (x : Option NodeName) → (c ≡ U3 → (n : NodeName) → x ≡ Some n → R n) → LeadIn R (hash_row c f x).leads
+  pub hash_in : (c : Pc) (f : Frame) (x : Option NodeName)
+      → (c ≡ U3 → (n : NodeName) → x ≡ Some n → R n) → LeadIn R (hash_row c f x).leads
   hash_in U3 f x met = found_in x (met refl)
   hash_in _ f x met = tt
 

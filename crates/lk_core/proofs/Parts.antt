@@ -1,5 +1,7 @@
--- What no write to a processor or a lock changes, no act changes but by its counts: the setup, and the counts themselves.
-use Rattle.std.proofs.Common.{◌≡◌, ℕ, Option, Some, None, Bool, true, false, [], ◌∷◌, ◌++◌, ◌+◌, ◌-◌, refl, ◌∙◌, set, take}
+-- What no write to a processor or a lock changes, no act changes but by its counts: the setup, and
+-- the counts themselves.
+use Rattle.std.proofs.Common.{◌≡◌, ℕ, Option, Some, None, Bool, true, false, [], ◌∷◌, ◌++◌, ◌+◌}
+use Rattle.std.proofs.Common.{◌-◌, refl, ◌∙◌, set, take}
 use Rattle.std.specs.Prelude.{if◌then◌else◌, ◌==◌, ◌||◌, not, slice_get}
 use Rattle.lk_abs.specs.declared.names.LockName.{LockName}
 use Rattle.lk_abs.specs.declared.events.Act.TheVariants as act
@@ -10,28 +12,46 @@ use Rattle.lk_machine.specs.declared.parts.Flag.{Flag}
 use Rattle.lk_machine.specs.declared.parts.State.{State}
 use Rattle.lk_machine.specs.declared.parts.Frame.{Frame}
 use Rattle.lk_machine.specs.declared.parts.Node.{Node}
-use Rattle.lk_machine.specs.Machine.{Machine, CpuState, LockState, cpu_at, lock_at, node_at, queued_at, depth_at, preempted_at, halted_at, kicked_at, top_frame, set_cpu, set_lock, set_word, set_node, set_top, set_queued, set_preempted, set_halted, set_kicked, set_entry, pop, push, rest_node, set_rw}
-use Rattle.lk_machine.specs.Moves.{settled, settled_at, program_of, started, done, granted, missed, skipped, leave, waiting}
-use Rattle.lk_machine.specs.Row.{Lead, Goes, Enters, Granted, Freed, Missed, Leaves, Yields, gone, entered, moved, with_rest, Done, TakesWait}
-use Rattle.lk_machine.specs.Rows.{stored_word, stored_rw, stored_flag, stored_next, stored_second, stored_runs, stored_state, stored_entry, stored_halted, stored_kicked, stored_queued}
-use Rattle.lk_machine.specs.Acts.{idle, woken, kicked_awake, step_halted, is_shut, handler_frame, awake, interrupted, nudged, next, after_halt}
+use Rattle.lk_machine.specs.Machine.{Machine, CpuState, LockState, cpu_at, lock_at, node_at}
+use Rattle.lk_machine.specs.Machine.{queued_at, depth_at, preempted_at, halted_at, kicked_at}
+use Rattle.lk_machine.specs.Machine.{top_frame, set_cpu, set_lock, set_word, set_node, set_top}
+use Rattle.lk_machine.specs.Machine.{set_queued, set_preempted, set_halted, set_kicked, set_entry}
+use Rattle.lk_machine.specs.Machine.{pop, push, rest_node, set_rw}
+use Rattle.lk_machine.specs.Moves.{settled, settled_at, program_of, started, done, granted, missed}
+use Rattle.lk_machine.specs.Moves.{skipped, leave, waiting}
+use Rattle.lk_machine.specs.Row.{Lead, Goes, Enters, Granted, Freed, Missed, Leaves, Yields, gone}
+use Rattle.lk_machine.specs.Row.{entered, moved, with_rest, Done, TakesWait}
+use Rattle.lk_machine.specs.TopRow.{stored_word, stored_rw, stored_flag, stored_next, stored_second}
+use Rattle.lk_machine.specs.TopRow.{stored_runs, stored_state, stored_entry, stored_halted}
+use Rattle.lk_machine.specs.TopRow.{stored_kicked, stored_queued}
+use Rattle.lk_machine.specs.Acts.{idle, woken, kicked_awake, step_halted, is_shut, handler_frame}
+use Rattle.lk_machine.specs.Acts.{awake, interrupted, nudged, next, after_halt}
 use Rattle.lk_word.specs.declared.rw_word.RwFields.{RwFields}
 
 -- one of two machines
-either : {A : Type 0} (F : Machine → A) (t : Bool) (a b : Machine) (x : A) → F a ≡ x → F b ≡ x → F (if t then a else b) ≡ x
+either : {A : Type 0} (F : Machine → A) (t : Bool) (a b : Machine) (x : A) → F a ≡ x → F b ≡ x
+    → F (if t then a else b) ≡ x
 either F true a b x e d = e
 either F false a b x e d = d
 
 -- a store in the hash
-pub part-stored_entry : {A : Type 0} (F : Machine → A) → ((m : Machine) (l : LockName) (n : Option NodeName) → F (set_entry m l n) ≡ F m)
+pub part-stored_entry : {A : Type 0} (F : Machine → A)
+    → ((m : Machine) (l : LockName) (n : Option NodeName) → F (set_entry m l n) ≡ F m)
     → (m : Machine) (l : LockName) (o : Option (Option NodeName)) → F (stored_entry m l o) ≡ F m
 part-stored_entry F entry m l None = refl
 part-stored_entry F entry m l (Some x) = entry m l x
 
-module _ {A : Type 0} (F : Machine → A) (cpu : (m : Machine) (p : ℕ) (c : CpuState) → F (set_cpu m p c) ≡ F m) (lock : (m : Machine) (i : ℕ) (x : LockState) → F (set_lock m i x) ≡ F m) where
+module _ {A : Type 0} (F : Machine → A)
+    (cpu : (m : Machine) (p : ℕ) (c : CpuState) → F (set_cpu m p c) ≡ F m)
+    (lock : (m : Machine) (i : ℕ) (x : LockState) → F (set_lock m i x) ≡ F m) where
   part-set_word : (m : Machine) (l : LockName) (x : Fields) → F (set_word m l x) ≡ F m
   unfolding set_word
-  part-set_word m l x = lock m l.index (if l.wait then record (lock_at m l.index) { wait = x } else record (lock_at m l.index) { spin = x })
+  part-set_word m l x =
+      lock m l.index
+      (if l.wait then record (lock_at m l.index) {
+        wait =
+            x;
+      } else record (lock_at m l.index) { spin = x })
 
   part-set_rw : (m : Machine) (i : ℕ) (x : RwFields) → F (set_rw m i x) ≡ F m
   unfolding set_rw
@@ -70,7 +90,9 @@ module _ {A : Type 0} (F : Machine → A) (cpu : (m : Machine) (p : ℕ) (c : Cp
   part-push m p f = cpu m p (record (cpu_at m p) { frames = (cpu_at m p).frames ++ f ∷ []; handlers = (cpu_at m p).handlers + 1 })
 
   part-settled_at : (m : Machine) (p : ℕ) (f : Frame) (o : Option Op) → F (settled_at m p f o) ≡ F m
-  part-settled_at m p f None = either F (f.ctx == 0) (set_top m p (record f { place = None })) (pop m p) (F m) (part-set_top m p (record f { place = None })) (part-pop m p)
+  part-settled_at m p f None =
+      either F (f.ctx == 0) (set_top m p (record f { place = None })) (pop m p) (F m)
+      (part-set_top m p (record f { place = None })) (part-pop m p)
   part-settled_at m p f (Some o) = part-set_top m p (started m.setup.mode f o)
 
   part-settled : (m : Machine) (p : ℕ) (f : Frame) → F (settled m p f) ≡ F m
@@ -115,15 +137,18 @@ module _ {A : Type 0} (F : Machine → A) (cpu : (m : Machine) (p : ℕ) (c : Cp
   part-stored_rw m i None = refl
   part-stored_rw m i (Some x) = part-set_rw m i x
 
-  pub part-stored_flag : (m : Machine) (n : NodeName) (o : Option Flag) → F (stored_flag m n o) ≡ F m
+  pub part-stored_flag : (m : Machine) (n : NodeName) (o : Option Flag)
+      → F (stored_flag m n o) ≡ F m
   part-stored_flag m n None = refl
   part-stored_flag m n (Some x) = part-set_node m n (record (node_at m n) { flag = x })
 
-  pub part-stored_next : (m : Machine) (n : NodeName) (o : Option (Option NodeName)) → F (stored_next m n o) ≡ F m
+  pub part-stored_next : (m : Machine) (n : NodeName) (o : Option (Option NodeName))
+      → F (stored_next m n o) ≡ F m
   part-stored_next m n None = refl
   part-stored_next m n (Some x) = part-set_node m n (record (node_at m n) { next = x })
 
-  pub part-stored_second : (m : Machine) (n : NodeName) (o : Option (Option NodeName)) → F (stored_second m n o) ≡ F m
+  pub part-stored_second : (m : Machine) (n : NodeName) (o : Option (Option NodeName))
+      → F (stored_second m n o) ≡ F m
   part-stored_second m n None = refl
   part-stored_second m n (Some x) = part-set_node m n (record (node_at m n) { second_tail = x })
 
@@ -131,7 +156,8 @@ module _ {A : Type 0} (F : Machine → A) (cpu : (m : Machine) (p : ℕ) (c : Cp
   part-stored_runs m n None = refl
   part-stored_runs m n (Some x) = part-set_node m n (record (node_at m n) { runs = x })
 
-  pub part-stored_state : (m : Machine) (n : NodeName) (o : Option State) → F (stored_state m n o) ≡ F m
+  pub part-stored_state : (m : Machine) (n : NodeName) (o : Option State)
+      → F (stored_state m n o) ≡ F m
   part-stored_state m n None = refl
   part-stored_state m n (Some x) = part-set_node m n (record (node_at m n) { state = x })
 
@@ -166,12 +192,20 @@ module _ {A : Type 0} (F : Machine → A) (cpu : (m : Machine) (p : ℕ) (c : Cp
   part-awake m p = either F (halted_at m p) (woken m p) m (F m) (part-woken m p) refl
 
   -- an act that is no step
-  pub part-rest : (m : Machine) (p : ℕ) → (F (next m (act.Interrupt p)).0 ≡ F m) × (F (next m (act.Preempt p)).0 ≡ F m) × (F (next m (act.Resume p)).0 ≡ F m) × (F (next m (act.Nudge p)).0 ≡ F m)
-  part-rest m p = (shut (is_shut m p), calm (preempted_at m p), wild (preempted_at m p), nudge (preempted_at m p || not (halted_at m p)))
+  pub part-rest : (m : Machine) (p : ℕ)
+      → (F (next m (act.Interrupt p)).0 ≡ F m) × (F (next m (act.Preempt p)).0 ≡ F m)
+      × (F (next m (act.Resume p)).0 ≡ F m) × (F (next m (act.Nudge p)).0 ≡ F m)
+  part-rest m p = (
+    shut (is_shut m p),
+    calm (preempted_at m p),
+    wild (preempted_at m p),
+    nudge (preempted_at m p || not (halted_at m p)),
+  )
     where
       shut : (b : Bool) → F (if b then idle m else interrupted m p).0 ≡ F m
       shut true = refl
-      shut false = part-settled (push (awake m p) p (handler_frame m p)) p (handler_frame m p) ∙ part-push (awake m p) p (handler_frame m p) ∙ part-awake m p
+      shut false = part-settled (push (awake m p) p (handler_frame m p)) p (handler_frame m p)
+          ∙ part-push (awake m p) p (handler_frame m p) ∙ part-awake m p
 
       calm : (b : Bool) → F (if b then idle m else (set_preempted m p true, None)).0 ≡ F m
       calm true = refl

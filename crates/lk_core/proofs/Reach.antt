@@ -1,7 +1,8 @@
 -- The nodes that a row writes are a processor's own, and the lead goes to a waiter that is there.
-use Rattle.std.proofs.Common.{◌≡◌, ◌<◌, ℕ, Option, Some, None, Bool, true, false, length, inl, inr, arith, ap, refl, sym, ◌∙◌, subst, slice_get}
+use Rattle.std.proofs.Common.{◌≡◌, ◌<◌, ℕ, Option, Some, None, Bool, true, false, length, inl, inr}
+use Rattle.std.proofs.Common.{arith, ap, refl, sym, ◌∙◌, subst, slice_get}
 use Rattle.std.specs.Prelude.{is_some, if◌then◌else◌, ◌&&◌, ◌==◌, ◌-◌}
-use Rattle.std.proofs.lemmas.Bool.{cases_Bool, eq-eqb}
+use Rattle.std.proofs.lemmas.Bool.{cases_Bool}
 use Rattle.lk_abs.specs.Names.{same_lock}
 use Rattle.lk_abs.specs.History.{LockHistory}
 use Rattle.lk_abs.specs.declared.names.Mode.{Mode}
@@ -9,67 +10,67 @@ use Rattle.lk_abs.specs.declared.names.Waiter.{Waiter}
 use Rattle.lk_abs.specs.declared.names.LockName.{LockName}
 use Rattle.lk_word.specs.declared.spin_word.NodeName.{NodeName}
 use Rattle.lk_word.specs.declared.spin_word.Fields.{Fields}
+use Rattle.lk_word.specs.declared.rw_word.RwFields.{RwFields}
 use Rattle.lk_machine.specs.declared.parts.Flag.{Flag}
-use Rattle.lk_machine.specs.declared.parts.Flag.TheVariants as flag
 use Rattle.lk_machine.specs.declared.parts.Frame.{Frame}
 use Rattle.lk_machine.specs.declared.parts.Pc.{Pc}
-use Rattle.lk_machine.specs.declared.parts.Pc.TheVariants.{F1, T1, T2, V2, G3, G5, G6, G8, G10, G11, N2, C1, C2, C3, C4, C5, C6, C7, C8, C9, C10, H2, W1, W2, W3, W4, W5, W6, W7, E1, E2, E4, E6, E7, E10, E13, E14, E15, K1, U2, U3, U5, R1, R2, R5, Wr1, Wr3, Wr6, Y1, Y2, Y4, Y5}
-use Rattle.lk_machine.specs.Machine.{Machine, cpu_at, frame_at, node_at, word_at, entry_at, halted_at, kicked_at, HasNode, rw_at}
+use Rattle.lk_machine.specs.declared.parts.Pc.TheVariants.{F1, T1, T2, V2, G3, G5, G6, G8, G10, G11}
+use Rattle.lk_machine.specs.declared.parts.Pc.TheVariants.{N2, C1, C2, C3, C4, C5, C6, C7, C8, C9}
+use Rattle.lk_machine.specs.declared.parts.Pc.TheVariants.{C10, H2, W1, W2, W3, W4, W5, W6, W7, E1}
+use Rattle.lk_machine.specs.declared.parts.Pc.TheVariants.{E2, E4, E6, E7, E10, E13, E14, E15, K1}
+use Rattle.lk_machine.specs.declared.parts.Pc.TheVariants.{U2, U3, U5, R1, R2, R5, Wr1, Wr3, Wr6}
+use Rattle.lk_machine.specs.declared.parts.Pc.TheVariants.{Y1, Y2, Y4, Y5}
+use Rattle.lk_machine.specs.Machine.{Machine, cpu_at, frame_at, node_at, word_at, entry_at}
+use Rattle.lk_machine.specs.Machine.{halted_at, kicked_at, HasNode, rw_at}
 use Rattle.lk_machine.specs.Ready.{HasTarget}
 use Rattle.lk_machine.specs.Moves.{is_node, node_of, waiter_of}
-use Rattle.lk_machine.specs.Row.{Outcome, Tell, Nothing, Says, Passes}
-use Rattle.lk_machine.specs.SpinRows.{spin_row, is_free, is_unlocked}
-use Rattle.lk_machine.specs.QueueRows.{queue_row, flag_row, next_row, is_sole}
-use Rattle.lk_machine.specs.Rows.{Target, SpinWord, QueueWord, Queued, FlagOf, NextOf, ChoiceWord, ChoiceFlag, ChoiceNext, SecondTailOf, RunsOf, PvWord, PvFlag, PvNext, StateOf, HashEntry, Halted, KickOf, RwWord, target}
-use Rattle.lk_machine.specs.CnaRows.{Sight, may_stay, after_none, is_last, is_held, search_row, second_row, runs_row, handover_row, promotion_row}
-use Rattle.lk_law.specs.Known.{choice_node}
-use Rattle.lk_machine.specs.PvRows.{is_set, is_running, is_halted, pv_row, pv_flag_row, pv_next_row, state_row, hash_row, halt_row, kick_row}
+use Rattle.lk_machine.specs.Row.{Effect, Tell, Nothing, Says, Passes}
+use Rattle.lk_machine.specs.rows.Spin.{spin_row, is_free, is_unlocked}
+use Rattle.lk_machine.specs.rows.Queue.{queue_row, flag_row, next_row, is_sole}
+use Rattle.lk_machine.specs.TopRow.{Target, SpinWord, QueueWord, Queued, FlagOf, NextOf, ChoiceWord}
+use Rattle.lk_machine.specs.TopRow.{ChoiceFlag, ChoiceNext, SecondTailOf, RunsOf, PvWord, PvFlag}
+use Rattle.lk_machine.specs.TopRow.{PvNext, StateOf, HashEntry, Halted, KickOf, RwWord, target}
+use Rattle.lk_machine.specs.rows.Cna.{Sight, may_stay, after_none, is_last, is_held, search_row}
+use Rattle.lk_machine.specs.rows.Cna.{second_row, runs_row, handover_row, promotion_row}
+use Rattle.lk_machine.specs.rows.Pv.{is_set, is_running, is_halted, pv_row, pv_flag_row}
+use Rattle.lk_machine.specs.rows.Pv.{pv_next_row, state_row, hash_row, halt_row, kick_row}
 use Rattle.lk_machine.specs.declared.parts.State.{State}
-use Rattle.lk_law.proofs.KnowsCna.{choice_is_used}
-use Rattle.lk_law.proofs.Families.{lists_met}
-use Rattle.lk_law.proofs.Knows.{tail_is_used, halting_next_is_used, named_front_is_used, entry_is_used}
-use Rattle.lk_law.specs.Known.{IsOwnNode}
-use Rattle.lk_law.specs.Phase.{Phase, has_node, queues}
-use Rattle.lk_law.specs.Phase.Phase.{Links, Waits, Hands, Leads, Stakes, Holds}
-use Rattle.lk_law.specs.World.{phase_on, phase_if, phase_of, own_in, row_in, row_in_at, sight_in, chooses, may_halt}
-use Rattle.lk_law.specs.WorldLaws.{Uses, GoesTo}
+use Rattle.lk_machine.specs.rows.Rw.{rw_row, is_empty, is_open, is_cleared}
+use Rattle.lk_law.specs.Known.{choice_node, IsOwnNode}
+use Rattle.lk_law.proofs.cna.Knows.{choice_is_used}
+use Rattle.lk_law.proofs.common.Families.{lists_met}
+use Rattle.lk_law.proofs.common.Knows.{tail_is_used, halting_next_is_used, named_front_is_used}
+use Rattle.lk_law.proofs.common.Knows.{entry_is_used}
+use Rattle.lk_law.specs.Phase.{Phase, has_node}
+use Rattle.lk_law.specs.Places.{phase_on, phase_if, phase_of, own_in}
+use Rattle.lk_law.specs.Steps.{row_in, row_in_at, sight_in}
+use Rattle.lk_law.specs.Families.{chooses, may_halt}
+use Rattle.lk_law.specs.Premises.{Uses, GoesTo}
 use Rattle.lk_law.specs.Sound.{world, ShowsAll}
-use Rattle.lk_law.specs.Whole.{spin_part}
-use Rattle.lk_law.proofs.Sames.{same_lock-self}
+use Rattle.lk_law.specs.SoundWorld.{spin_part}
+use Rattle.lk_law.proofs.common.Sames.{same_lock-self}
+use Rattle.lk_law.proofs.common.Users.{some_is, is_node-own}
 use Rattle.lk_core.proofs.Lists.{first_place}
 use Rattle.lk_core.proofs.Access.{frame_within}
-use Rattle.lk_word.specs.declared.rw_word.RwFields.{RwFields}
-use Rattle.lk_machine.specs.RwRows.{rw_row, is_empty, is_open, is_cleared}
-
--- who stands in a queue has a node
-queues_node : (r : Phase) → queues r ≡ true → has_node r ≡ true
-queues_node (Links n) e = refl
-queues_node Waits e = refl
-queues_node Leads e = refl
-queues_node Stakes e = refl
-queues_node Holds e = refl
-queues_node (Hands n) e = refl
-queues_node _ e = cc
+use Rattle.lk_machine.specs.declared.parts.Flag.TheVariants as flag
 
 -- the waiter of a phase that has a node has a frame
-phase_frame : (l : LockName) (o : Option Frame) → has_node (phase_on l o) ≡ true → (f : Frame) × (o ≡ Some f) × (phase_of f ≡ phase_on l o)
+phase_frame : (l : LockName) (o : Option Frame) → has_node (phase_on l o) ≡ true
+    → (f : Frame) × (o ≡ Some f) × (phase_of f ≡ phase_on l o)
 phase_frame l None e = cc
-phase_frame l (Some f) e = elim (cases_Bool (same_lock f.lock l)) [ inl t ↦ (f, refl, rw t refl) | inr t ↦ absurd (let z = rw t at e in grind (arith, z)) ]
-
-pub own_is : (o : Option NodeName) → is_some o ≡ true → is_node o (node_of o) ≡ true
-own_is None e = cc
-own_is (Some n) e = rw (eq-eqb n.cpu n.cpu refl, eq-eqb n.index n.index refl) refl
-
--- the name of a node that is there
-named : (o : Option NodeName) → is_some o ≡ true → o ≡ Some (node_of o)
-named None e = cc
-named (Some n) e = refl
+phase_frame l (Some f) e =
+    elim (cases_Bool (same_lock f.lock l)) [
+      | inl t ↦ (f, refl, rw t refl)
+      | inr t ↦ absurd (let z = rw t at e in grind (arith, z))
+    ]
 
 -- the first frame that has the node uses it
-used : (m : Machine) (v : Waiter) (g : Frame) (k : NodeName) → frame_at m v ≡ Some g → is_node g.me k ≡ true → k.cpu ≡ v.cpu → Uses (world m) (waiter_of m k) k
+used : (m : Machine) (v : Waiter) (g : Frame) (k : NodeName) → frame_at m v ≡ Some g
+    → is_node g.me k ≡ true → k.cpu ≡ v.cpu → Uses (world m) (waiter_of m k) k
 unfolding waiter_of frame_at
 used m v g k at mine cpu =
-    first_place (λ (f : Frame). is_node f.me k) (cpu_at m k.cpu).frames v.ctx g (subst (λ (q : ℕ). slice_get (cpu_at m q).frames v.ctx ≡ Some g) (sym cpu) at) mine
+    first_place (λ (f : Frame). is_node f.me k) (cpu_at m k.cpu).frames v.ctx g
+    (subst (λ (q : ℕ). slice_get (cpu_at m q).frames v.ctx ≡ Some g) (sym cpu) at) mine
 
 module _ (m : Machine) (hs : LockName → LockHistory) (shows : ShowsAll m hs) where
   abbrev phase : LockName → Waiter → Phase
@@ -87,20 +88,22 @@ module _ (m : Machine) (hs : LockName → LockHistory) (shows : ShowsAll m hs) w
       subst (λ (k : NodeName). HasNode m k) (sym placed) (record { cpu = frame_within m u there.0 there.1; index = below })
 
   -- a waiter's own node is used
-  own_used : (l : LockName) (v : Waiter) → has_node (phase l v) ≡ true → Uses (world m) (waiter_of m (own v)) (own v)
+  own_used : (l : LockName) (v : Waiter) → has_node (phase l v) ≡ true
+      → Uses (world m) (waiter_of m (own v)) (own v)
   own_used l v noded =
       let there = phase_frame l (frame_at m v) noded in
       let g = there.0 in
       let is : own v ≡ node_of g.me = ap own_in there.1 in
       let has = (shows.world.spins.registers v g there.1).me (ap has_node there.2 ∙ noded) in
-      let mine : is_node g.me (own v) ≡ true = ap (is_node g.me) is ∙ own_is g.me has in
+      let mine : is_node g.me (own v) ≡ true = ap (is_node g.me) is ∙ is_node-own g.me has in
       used m v g (own v) there.1 mine (ap (λ (k : NodeName). k.cpu) (shows.world.spins.agrees.nodes.placed l v noded))
 
   module _ (w : Waiter) (f : Frame) (live : frame_at m w ≡ Some f) where
     phase_here : phase f.lock w ≡ phase_of f
     phase_here = ap (phase_on f.lock) live ∙ rw (same_lock-self f.lock) refl
 
-    pub phase_there : (c : Pc) → f.place ≡ Some c → phase f.lock w ≡ phase_if (Some c) (is_some f.me) (node_of f.prev) (node_of f.y)
+    pub phase_there : (c : Pc) → f.place ≡ Some c
+        → phase f.lock w ≡ phase_if (Some c) (is_some f.me) (node_of f.prev) (node_of f.y)
     phase_there c at = phase_here ∙ ap (λ (x : Option Pc). phase_if x (is_some f.me) (node_of f.prev) (node_of f.y)) at
 
     -- the node before it, to which it links its own
@@ -109,14 +112,16 @@ module _ (m : Machine) (hs : LockName → LockHistory) (shows : ShowsAll m hs) w
         let met = lists_met (shows.world.spins.agrees.locks f.lock).lists w (node_of f.prev) (phase_there G5 at) in
         subst (λ (k : NodeName). HasNode m k) (sym met.owned) (own_within f.lock met.by met.noded)
 
-    hands_to : f.place ≡ Some G11 → (v : Waiter) × (has_node (phase f.lock v) ≡ true) × (own v ≡ node_of f.y)
+    hands_to : f.place ≡ Some G11
+        → (v : Waiter) × (has_node (phase f.lock v) ≡ true) × (own v ≡ node_of f.y)
     hands_to at =
         let alone = (shows.world.spins.registers w f live).choice.plainly G11 at refl in
         let h = ((shows.world.spins.agrees.locks f.lock).lists.flat alone).queue.hand w (node_of f.y) (phase_there G11 at) in
         (h.0, ap has_node h.2, h.3)
 
     -- the node on which a row of the choice operates
-    choice_within : (c : Pc) → f.place ≡ Some c → chooses c ≡ true → HasNode m (node_of (choice_node c f))
+    choice_within : (c : Pc) → f.place ≡ Some c → chooses c ≡ true
+        → HasNode m (node_of (choice_node c f))
     choice_within c at on =
         let u = choice_is_used (world m) (spin_part (world m).kind hs) w f c shows.world.spins live at on in
         let there = frame_within m u.0 u.1.0 u.1.1 in
@@ -138,7 +143,9 @@ module _ (m : Machine) (hs : LockName → LockHistory) (shows : ShowsAll m hs) w
     next_used at = let h = hands_to at in subst (λ (k : NodeName). Uses (world m) (waiter_of m k) k) h.2 (own_used f.lock h.0 h.1)
 
     -- the own node, where the phase has one
-    pub own_here : (c : Pc) → f.place ≡ Some c → has_node (phase_if (Some c) (is_some f.me) (node_of f.prev) (node_of f.y)) ≡ true → HasNode m (node_of f.me)
+    pub own_here : (c : Pc) → f.place ≡ Some c
+        → has_node (phase_if (Some c) (is_some f.me) (node_of f.prev) (node_of f.y)) ≡ true
+        → HasNode m (node_of f.me)
     own_here c at noded =
         let there = own_within f.lock w (ap has_node (phase_there c at) ∙ noded) in
         subst (λ (k : NodeName). HasNode m k) (ap own_in live) there
@@ -153,11 +160,13 @@ module _ (m : Machine) (hs : LockName → LockHistory) (shows : ShowsAll m hs) w
     peer_within : f.place ≡ Some W2 → HasNode m (node_of f.prev)
     peer_within at =
         let some = (shows.world.spins.registers w f live).choice.peer W2 at refl in
-        (shows.fits w f live).prev (node_of f.prev) (named f.prev some)
+        (shows.fits w f live).prev (node_of f.prev) (some_is f.prev some)
 
     -- the node to which a front hands the lead where processors halt
     pub pv_next_within : f.place ≡ Some E15 → HasNode m (node_of f.y)
-    pv_next_within at = let u = halting_next_is_used (world m) (spin_part (world m).kind hs) w f shows.world.spins live at in own_node u.0 (node_of f.y) u.1 u.2
+    pv_next_within at = let u =
+        halting_next_is_used (world m) (spin_part (world m).kind hs) w f shows.world.spins
+        live at in own_node u.0 (node_of f.y) u.1 u.2
 
     pub pv_next_used : f.place ≡ Some E15 → Uses (world m) (waiter_of m (node_of f.y)) (node_of f.y)
     pv_next_used at =
@@ -166,10 +175,13 @@ module _ (m : Machine) (hs : LockName → LockHistory) (shows : ShowsAll m hs) w
 
     -- the node after which a holder looks
     pub front_within : f.place ≡ Some K1 → HasNode m (node_of f.y)
-    front_within at = let u = named_front_is_used (world m) (spin_part (world m).kind hs) w f K1 shows.world.spins live at refl in own_node u.0 (node_of f.y) u.1 u.2
+    front_within at = let u =
+        named_front_is_used (world m) (spin_part (world m).kind hs) w f K1 shows.world.spins live at
+        refl in own_node u.0 (node_of f.y) u.1 u.2
 
     -- the entry of its lock, at a row of the lock that halts processors
-    pub entry_within : (c : Pc) → f.place ≡ Some c → c ≡ U3 → (n : NodeName) → entry_at m f.lock ≡ Some n → HasNode m n
+    pub entry_within : (c : Pc) → f.place ≡ Some c → c ≡ U3 → (n : NodeName)
+        → entry_at m f.lock ≡ Some n → HasNode m n
     entry_within c at is n e =
         let on = (shows.world.spins.registers w f live).choice.halting c at (ap may_halt is) in
         let u = entry_is_used (world m) (spin_part (world m).kind hs) f.lock n shows.world.spins on e in
@@ -217,7 +229,8 @@ module _ (m : Machine) (hs : LockName → LockHistory) (shows : ShowsAll m hs) w
     node_within c t at e = subst (HasTarget m) e (target_within c at)
 
 -- the tail of a lock is a node of the machine's
-pub tail_within : (m : Machine) (hs : LockName → LockHistory) → ShowsAll m hs → (l : LockName) (n : NodeName) → (word_at m l).tail ≡ Some n → HasNode m n
+pub tail_within : (m : Machine) (hs : LockName → LockHistory) → ShowsAll m hs
+    → (l : LockName) (n : NodeName) → (word_at m l).tail ≡ Some n → HasNode m n
 tail_within m hs shows l n e =
     let u = tail_is_used (world m) (spin_part (world m).kind hs) l n shows.world.spins e in
     let there = frame_within m u.0 u.1.0 u.1.1 in
@@ -233,7 +246,8 @@ abbrev Stays : Tell → Type 0
 Stays (Passes n k) = ⊥
 Stays _ = Unit {0}
 
-stays_if : {A : Type 0} (t : Bool) (a b : Outcome A) → Stays a.tells → Stays b.tells → Stays (if t then a else b).tells
+stays_if : {A : Type 0} (t : Bool) (a b : Effect A) → Stays a.tells → Stays b.tells
+    → Stays (if t then a else b).tells
 stays_if true a b x y = x
 stays_if false a b x y = y
 
@@ -263,7 +277,8 @@ queue_stays mode G8 f x = elim (cases_Bool (is_sole f x)) [ inl e ↦ rw e tt | 
 queue_stays mode N2 f x = elim (cases_Bool (is_free x)) [ inl e ↦ rw e tt | inr e ↦ rw e tt ]
 queue_stays mode _ f x = tt
 
-next_stays : (mode : Mode) (turns : ℕ) (c : Pc) (f : Frame) (x : Option NodeName) → Stays (next_row mode turns c f x).tells
+next_stays : (mode : Mode) (turns : ℕ) (c : Pc) (f : Frame) (x : Option NodeName)
+    → Stays (next_row mode turns c f x).tells
 next_stays mode turns G10 f None = tt
 next_stays mode turns G10 f (Some n) = tt
 next_stays mode turns _ f x = tt
@@ -273,7 +288,8 @@ flag_waits f flag.Unset = tt
 flag_waits f flag.Go = tt
 flag_waits f (flag.Second n) = tt
 
-search_stays : (s : Sight) (c : Pc) (f : Frame) (x : Option NodeName) → Stays (search_row s c f x).tells
+search_stays : (s : Sight) (c : Pc) (f : Frame) (x : Option NodeName)
+    → Stays (search_row s c f x).tells
 search_stays s C1 f None = none_stays f.second
   where
     none_stays : (o : Option NodeName) → Stays (after_none o).tells
@@ -332,41 +348,62 @@ stays_goes m Nothing s = tt
 stays_goes m (Says what) s = tt
 stays_goes m (Passes n k) s = absurd s
 
--- where a row hands the lead on, it goes to the waiter that uses the named node
-pub goes_to : (m : Machine) (hs : LockName → LockHistory) → ShowsAll m hs → (w : Waiter) (f : Frame) (c : Pc) → frame_at m w ≡ Some f → f.place ≡ Some c
+-- where a row hands the lead on, it goes to the waiter that uses the some_is node
+pub goes_to : (m : Machine) (hs : LockName → LockHistory) → ShowsAll m hs
+    → (w : Waiter) (f : Frame) (c : Pc) → frame_at m w ≡ Some f → f.place ≡ Some c
     → GoesTo (world m) (to_of m (row_in (world m) w f c).1) (row_in (world m) w f c).1
 goes_to m hs shows w f c live at = by_target (target c f) refl
   where
-    flags : (c : Pc) (k : NodeName) → f.place ≡ Some c → target c f ≡ FlagOf k → GoesTo (world m) (to_of m (flag_row c f (node_at m k).flag).tells) (flag_row c f (node_at m k).flag).tells
+    flags : (c : Pc) (k : NodeName) → f.place ≡ Some c → target c f ≡ FlagOf k
+        → GoesTo (world m) (to_of m (flag_row c f (node_at m k).flag).tells)
+        (flag_row c f (node_at m k).flag).tells
     flags G6 k at e = stays_goes m (flag_row G6 f (node_at m k).flag).tells (flag_waits f (node_at m k).flag)
     flags G11 k at e = next_used m hs shows w f live at
     flags _ k at e = tt
 
-    hands : (c : Pc) (k : NodeName) → f.place ≡ Some c → target c f ≡ ChoiceFlag k → GoesTo (world m) (to_of m (handover_row c f (node_at m k).flag).tells) (handover_row c f (node_at m k).flag).tells
+    hands : (c : Pc) (k : NodeName) → f.place ≡ Some c → target c f ≡ ChoiceFlag k
+        → GoesTo (world m) (to_of m (handover_row c f (node_at m k).flag).tells)
+        (handover_row c f (node_at m k).flag).tells
     hands C8 k at e = chosen_used m hs shows w f live at
     hands _ k at e = tt
 
-    passes : (c : Pc) (k : NodeName) → f.place ≡ Some c → target c f ≡ PvFlag k → GoesTo (world m) (to_of m (pv_flag_row c f (node_at m k).flag).tells) (pv_flag_row c f (node_at m k).flag).tells
-    passes W4 k at e = let o = pv_flag_row W4 f (node_at m k).flag in stays_goes m o.tells (stays_if (is_set (node_at m k).flag) _ _ tt tt)
+    passes : (c : Pc) (k : NodeName) → f.place ≡ Some c → target c f ≡ PvFlag k
+        → GoesTo (world m) (to_of m (pv_flag_row c f (node_at m k).flag).tells)
+        (pv_flag_row c f (node_at m k).flag).tells
+    passes W4 k at e = let o = pv_flag_row W4 f (node_at m k).flag in
+        stays_goes m o.tells (stays_if (is_set (node_at m k).flag) _ _ tt tt)
     passes E15 k at e = pv_next_used m hs shows w f live at
     passes _ k at e = tt
 
-    by_target : (t : Target) → target c f ≡ t → GoesTo (world m) (to_of m (row_in_at (world m) w f c t).1) (row_in_at (world m) w f c t).1
-    by_target SpinWord e = let o = spin_row m.setup.mode c f (word_at m f.lock) in stays_goes m o.tells (spin_stays m.setup.mode c f (word_at m f.lock))
-    by_target QueueWord e = let o = queue_row m.setup.mode c f (word_at m f.lock) in stays_goes m o.tells (queue_stays m.setup.mode c f (word_at m f.lock))
+    by_target : (t : Target) → target c f ≡ t
+        → GoesTo (world m) (to_of m (row_in_at (world m) w f c t).1) (row_in_at (world m) w f c t).1
+    by_target SpinWord e = let o = spin_row m.setup.mode c f (word_at m f.lock) in
+        stays_goes m o.tells (spin_stays m.setup.mode c f (word_at m f.lock))
+    by_target QueueWord e = let o = queue_row m.setup.mode c f (word_at m f.lock) in
+        stays_goes m o.tells (queue_stays m.setup.mode c f (word_at m f.lock))
     by_target Queued e = tt
     by_target (FlagOf k) e = flags c k at e
-    by_target (NextOf k) e = let o = next_row m.setup.mode m.setup.spins c f (node_at m k).next in stays_goes m o.tells (next_stays m.setup.mode m.setup.spins c f (node_at m k).next)
-    by_target RwWord e = let o = rw_row m.setup.mode c f (rw_at m f.lock.index) in stays_goes m o.tells (rw_stays m.setup.mode c f (rw_at m f.lock.index))
-    by_target ChoiceWord e = let o = promotion_row c f (word_at m f.lock) in stays_goes m o.tells (promotion_stays c f (word_at m f.lock))
+    by_target (NextOf k) e = let o = next_row m.setup.mode m.setup.spins c f (node_at m k).next in
+        stays_goes m o.tells (next_stays m.setup.mode m.setup.spins c f (node_at m k).next)
+    by_target RwWord e = let o = rw_row m.setup.mode c f (rw_at m f.lock.index) in
+        stays_goes m o.tells (rw_stays m.setup.mode c f (rw_at m f.lock.index))
+    by_target ChoiceWord e = let o = promotion_row c f (word_at m f.lock) in
+        stays_goes m o.tells (promotion_stays c f (word_at m f.lock))
     by_target (ChoiceFlag k) e = hands c k at e
-    by_target (ChoiceNext k) e = let s = sight_in (world m) w f in let o = search_row s c f (node_at m k).next in stays_goes m o.tells (search_stays s c f (node_at m k).next)
-    by_target (SecondTailOf k) e = let o = second_row c f (node_at m k).second_tail in stays_goes m o.tells (second_stays c f (node_at m k).second_tail)
-    by_target (RunsOf k) e = let s = sight_in (world m) w f in let o = runs_row s c f (node_at m k).runs in stays_goes m o.tells (runs_stays s c f (node_at m k).runs)
-    by_target PvWord e = let o = pv_row m.setup.spins c f (word_at m f.lock) in stays_goes m o.tells (pv_stays m.setup.spins c f (word_at m f.lock))
+    by_target (ChoiceNext k) e = let s = sight_in (world m) w f in
+        let o = search_row s c f (node_at m k).next in
+        stays_goes m o.tells (search_stays s c f (node_at m k).next)
+    by_target (SecondTailOf k) e = let o = second_row c f (node_at m k).second_tail in
+        stays_goes m o.tells (second_stays c f (node_at m k).second_tail)
+    by_target (RunsOf k) e = let s = sight_in (world m) w f in
+        let o = runs_row s c f (node_at m k).runs in
+        stays_goes m o.tells (runs_stays s c f (node_at m k).runs)
+    by_target PvWord e = let o = pv_row m.setup.spins c f (word_at m f.lock) in
+        stays_goes m o.tells (pv_stays m.setup.spins c f (word_at m f.lock))
     by_target (PvFlag k) e = passes c k at e
     by_target (PvNext k) e = let o = pv_next_row c f (node_at m k).next in stays_goes m o.tells (pv_next_stays c f (node_at m k).next)
-    by_target (StateOf k) e = let o = state_row m.setup.spins c f (node_at m k).state in stays_goes m o.tells (state_stays m.setup.spins c f (node_at m k).state)
+    by_target (StateOf k) e = let o = state_row m.setup.spins c f (node_at m k).state in
+        stays_goes m o.tells (state_stays m.setup.spins c f (node_at m k).state)
     by_target HashEntry e = let o = hash_row c f (entry_at m f.lock) in stays_goes m o.tells (hash_stays c f (entry_at m f.lock))
     by_target Halted e = let o = halt_row c f (halted_at m w.cpu) in stays_goes m o.tells (halt_stays c f (halted_at m w.cpu))
     by_target (KickOf q) e = let o = kick_row c f (kicked_at m q) in stays_goes m o.tells (kick_stays c f (kicked_at m q))

@@ -1,5 +1,7 @@
 -- On a sound machine the top frame can make its row.
-use Rattle.std.proofs.Common.{◌≡◌, ◌⊎◌, ℕ, zero, suc, inl, inr, Option, Some, None, Bool, true, false, arith, ap, ◌<◌, ◌≤◌, ◌+◌, ◌-◌, ◌*◌, ◌^◌, refl, sym, ◌∙◌, length}
+use Rattle.std.proofs.Common.{◌≡◌, ◌⊎◌, ℕ, zero, suc, inl, inr, Option, Some, None, Bool, true}
+use Rattle.std.proofs.Common.{false, arith, ap, ◌<◌, ◌≤◌, ◌+◌, ◌-◌, ◌*◌, ◌^◌, refl, sym, ◌∙◌}
+use Rattle.std.proofs.Common.{length}
 use Rattle.std.specs.Prelude.{if◌then◌else◌, is_some, slice_get}
 use Rattle.std.proofs.lemmas.Bool.{cases_eq}
 use Rattle.std.proofs.lemmas.Option.{slice_get_within}
@@ -9,28 +11,33 @@ use Rattle.lk_abs.specs.declared.names.LockName.{LockName}
 use Rattle.lk_word.specs.declared.spin_word.NodeName.{NodeName}
 use Rattle.lk_machine.specs.declared.parts.Frame.{Frame}
 use Rattle.lk_machine.specs.declared.parts.Pc.{Pc}
-use Rattle.lk_machine.specs.Machine.{Machine, cpu_at, depth_at, frame_at, word_at, entry_at, queued_at, top_of, top_frame}
+use Rattle.lk_machine.specs.Machine.{Machine, cpu_at, depth_at, frame_at, word_at, entry_at}
+use Rattle.lk_machine.specs.Machine.{queued_at, top_of, top_frame}
 use Rattle.lk_machine.specs.Programs.{HasPrograms, handlers_of, kind_of}
 use Rattle.lk_machine.specs.Moves.{CanMove, node_of}
 use Rattle.lk_machine.specs.Ready.{CountsWithin, IsReady}
+use Rattle.lk_machine.specs.Family.{family_of}
+use Rattle.lk_machine.specs.declared.parts.Pc.TheVariants.{E6, E9, K3, U3, U5}
 use Rattle.lk_law.specs.Snapshot.{before}
-use Rattle.lk_law.specs.World.{slow_in, own_in, chooses, may_halt, phase_if}
-use Rattle.lk_law.specs.Whole.{spin_part, is_rw_row}
+use Rattle.lk_law.specs.Places.{slow_in, own_in, phase_if}
+use Rattle.lk_law.specs.Families.{chooses, may_halt, is_rw_row}
+use Rattle.lk_law.specs.SoundWorld.{spin_part}
 use Rattle.lk_law.specs.Sound.{Fits, ShowsAll, world, held_at}
-use Rattle.lk_core.proofs.RowKept.{top_live}
-use Rattle.lk_law.proofs.KnowsCna.{run_is_short, skipped_is_queued, queue_is_distinct}
-use Rattle.lk_law.proofs.RwFew.{each_few, readers_are_few}
+use Rattle.lk_law.proofs.cna.Knows.{run_is_short, skipped_is_queued, queue_is_distinct}
+use Rattle.lk_law.proofs.rw.Few.{each_few, readers_are_few}
 use Rattle.lk_law.specs.Phase.{has_node}
-use Rattle.lk_cna.specs.Row.{is_cna_row, IsCnaReady}
-use Rattle.lk_rw.specs.Row.{IsRwReady}
-use Rattle.lk_core.proofs.Access.{frame_within}
-use Rattle.lk_core.proofs.Reach.{target_within, own_here, own_is, phase_there, kick_within}
-use Rattle.lk_core.proofs.HashRoom.{hash_room, front_acts}
+use Rattle.lk_law.proofs.common.Users.{is_node-own}
 use Rattle.lk_law.specs.Agree.{halts}
 use Rattle.lk_law.specs.Known.{KnownHalting}
-use Rattle.lk_law.proofs.Knows.{row_knows, named_front_is_used}
-use Rattle.lk_pv.specs.Row.{is_pv_row, enters_hash, leaves_hash, IsPvReady}
-use Rattle.lk_machine.specs.declared.parts.Pc.TheVariants.{E6, E9, K3, U3, U5}
+use Rattle.lk_law.proofs.common.Knows.{row_knows, named_front_is_used}
+use Rattle.lk_cna.specs.Row.{IsCnaReady}
+use Rattle.lk_rw.specs.Row.{IsRwReady}
+use Rattle.lk_pv.specs.Row.{enters_hash, leaves_hash, IsPvReady}
+use Rattle.lk_core.proofs.RowKept.{top_live}
+use Rattle.lk_core.proofs.Access.{frame_within}
+use Rattle.lk_core.proofs.Reach.{target_within, own_here, phase_there, kick_within}
+use Rattle.lk_core.proofs.HashRoom.{hash_room, front_acts}
+use Rattle.lk_machine.specs.declared.family.Family.TheVariants as family
 
 before_le : (slow : Waiter → Bool) (p n : ℕ) → before slow p n ≤ n
 before_le slow p zero = omega arith
@@ -71,7 +78,8 @@ module _ (m : Machine) (hs : LockName → LockHistory) (shows : ShowsAll m hs) (
   few_queued : queued_at m p ≤ 6
   few_queued = let e = shows.world.spins.agrees.nodes.counted p in let l = before_le (λ u. slow_in (frame_at m u)) p 6 in omega arith
 
-  pub ready_at : (c : Pc) → (top_frame m p).place ≡ Some c → CountsWithin (2 ^ 64 - 2) m.counts → IsReady m p
+  pub ready_at : (c : Pc) → (top_frame m p).place ≡ Some c → CountsWithin (2 ^ 64 - 2) m.counts
+      → IsReady m p
   ready_at c at counts =
       let w = fit.working c at in
       let d = (shows.whole.setup.lawful p (top_frame m p).program).declared (top_frame m p).«at» w.op w.is in
@@ -86,10 +94,11 @@ module _ (m : Machine) (hs : LockName → LockHistory) (shows : ShowsAll m hs) (
         counts = counts;
       }
 
-  cna_chooses : (c : Pc) → is_cna_row (Some c) ≡ true → chooses c ≡ true
+  cna_chooses : (c : Pc) → family_of c ≡ family.Cna → chooses c ≡ true
   cna_chooses c on = grind arith
 
-  cna_noded : (c : Pc) (prev y : NodeName) (b : Bool) → is_cna_row (Some c) ≡ true → has_node (phase_if (Some c) b prev y) ≡ true
+  cna_noded : (c : Pc) (prev y : NodeName) (b : Bool) → family_of c ≡ family.Cna
+      → has_node (phase_if (Some c) b prev y) ≡ true
   cna_noded c prev y b on = grind arith
 
   ctx_within : (u : Waiter) (f : Frame) → frame_at m u ≡ Some f → u.ctx < 6
@@ -115,7 +124,8 @@ module _ (m : Machine) (hs : LockName → LockHistory) (shows : ShowsAll m hs) (
       let in_ctx = ctx_within u f.0 f.1 in
       (in_ctx, omega arith))
 
-  pub cna_ready_at : (c : Pc) → (top_frame m p).place ≡ Some c → is_cna_row (Some c) ≡ true → CountsWithin (2 ^ 64 - 2) m.counts → IsCnaReady m p
+  pub cna_ready_at : (c : Pc) → (top_frame m p).place ≡ Some c → family_of c ≡ family.Cna
+      → CountsWithin (2 ^ 64 - 2) m.counts → IsCnaReady m p
   cna_ready_at c at on counts =
       let f = top_frame m p in
       let live = top_live m p hs shows range in
@@ -133,23 +143,32 @@ module _ (m : Machine) (hs : LockName → LockHistory) (shows : ShowsAll m hs) (
             omega (arith, run, most);
       }
 
-  pub rw_ready_at : (c : Pc) → (top_frame m p).place ≡ Some c → is_rw_row c ≡ true → CountsWithin (2 ^ 64 - 2) m.counts → IsRwReady m p
+  rw_is : (c : Pc) → family_of c ≡ family.Rw → is_rw_row c ≡ true
+  rw_is c on = grind arith
+
+  pub rw_ready_at : (c : Pc) → (top_frame m p).place ≡ Some c → family_of c ≡ family.Rw
+      → CountsWithin (2 ^ 64 - 2) m.counts → IsRwReady m p
   rw_ready_at c at on counts =
       let f = top_frame m p in
       let live = top_live m p hs shows range in
       let cpus = shows.whole.cpus in
       let count = shows.whole.setup.few in
-      let kind = (shows.world.fits (top_of m p) f live).rw c at on in
+      let kind = (shows.world.fits (top_of m p) f live).rw c at (rw_is c on) in
       let few = readers_are_few 384 (world m) hs f.lock.index shows.world kind
-      (λ u d e. let in_cpu = frame_within m u d e in let in_ctx = ctx_within u d e in (in_ctx, omega arith)) (λ u l e. ap (held_at m u l) e) in
+      (λ u d e. let in_cpu = frame_within m u d e in let in_ctx = ctx_within u d e in
+      (in_ctx, omega arith)) (λ u l e. ap (held_at m u l) e) in
       record { ready = ready_at c at counts; room = omega (arith, few) }
 
-  -- a row of the lock that halts processors, with what it asks besides: what is entered in the hash, and that it has room
+  -- a row of the lock that halts processors, with what it asks besides: what is entered in the
+  -- hash, and that it has room
 
-  pv_at : (c : Pc) → (top_frame m p).place ≡ Some c → is_pv_row (Some c) ≡ true → halts m.setup.mode ≡ true
-  pv_at c at on = (shows.world.spins.registers (top_of m p) (top_frame m p) (top_live m p hs shows range)).choice.halting c at (pv_halts c on)
+  pv_at : (c : Pc) → (top_frame m p).place ≡ Some c → family_of c ≡ family.Pv
+      → halts m.setup.mode ≡ true
+  pv_at c at on =
+      (shows.world.spins.registers (top_of m p) (top_frame m p)
+      (top_live m p hs shows range)).choice.halting c at (pv_halts c on)
     where
-      pv_halts : (c : Pc) → is_pv_row (Some c) ≡ true → may_halt c ≡ true
+      pv_halts : (c : Pc) → family_of c ≡ family.Pv → may_halt c ≡ true
       pv_halts c on = grind arith
 
   enters_at : (o : Option Pc) → enters_hash o ≡ true → (o ≡ Some E6) ⊎ (o ≡ Some K3)
@@ -179,7 +198,10 @@ module _ (m : Machine) (hs : LockName → LockHistory) (shows : ShowsAll m hs) (
     met c at = (row_knows c (world m) spins_of w f shows.world.spins live at).2 on
 
     own_named : f.place ≡ Some E6 → is_some f.me ≡ true
-    own_named at = (shows.world.spins.registers w f live).me (ap (λ (o : Option Pc). has_node (phase_if o (is_some f.me) (node_of f.prev) (node_of f.y))) at)
+    own_named at =
+        (shows.world.spins.registers w f live).me
+        (ap (λ (o : Option Pc). has_node (phase_if o (is_some f.me) (node_of f.prev) (node_of f.y)))
+        at)
 
     next_named : f.place ≡ Some K3 → is_some f.y ≡ true
     next_named at = (shows.world.spins.registers w f live).choice.named K3 at refl
@@ -196,17 +218,19 @@ module _ (m : Machine) (hs : LockName → LockHistory) (shows : ShowsAll m hs) (
           let own = own_here m hs shows w f live E6 at refl in
           let placed = shows.world.spins.agrees.nodes.placed f.lock w (ap has_node (phase_there m hs shows w f live E6 at)) in
           let is : node_of f.me ≡ own_in (frame_at m w) = sym (ap own_in live) in
-          hash_room m hs shows on f.lock (node_of f.me) w f live (f, live, own_is f.me (own_named at))
+          hash_room m hs shows on f.lock (node_of f.me) w f live (f, live, is_node-own f.me (own_named at))
           (record { cpu = ap (λ (k : NodeName). k.cpu) is ∙ ap (λ (k : NodeName). k.cpu) placed; index = own.index }) refl (absent e)
       | inr at ↦
           let u = named_front_is_used (world m) spins_of w f K3 shows.world.spins live at refl in
-          hash_room m hs shows on f.lock (node_of f.y) u.0 u.1.0 u.1.1 u.1 u.2 (front_acts m hs shows on f.lock u.0 u.1.0 u.1.1 u.3) (absent e)
+          hash_room m hs shows on f.lock (node_of f.y) u.0 u.1.0 u.1.1 u.1 u.2
+          (front_acts m hs shows on f.lock u.0 u.1.0 u.1.1 u.3) (absent e)
     ]
 
     kicked : f.place ≡ Some U5 → (node_of f.target).cpu < length m.cpus
     kicked at = kick_within m hs shows w f live (node_of f.target).cpu refl
 
-  pub pv_ready_at : (c : Pc) → (top_frame m p).place ≡ Some c → is_pv_row (Some c) ≡ true → CountsWithin (2 ^ 64 - 2) m.counts → IsPvReady m p
+  pub pv_ready_at : (c : Pc) → (top_frame m p).place ≡ Some c → family_of c ≡ family.Pv
+      → CountsWithin (2 ^ 64 - 2) m.counts → IsPvReady m p
   pv_ready_at c at row counts =
       let on = pv_at c at row in
       record {

@@ -1,154 +1,65 @@
--- The machine at rest: each processor has its task's frame alone, nobody has touched a lock, and it shows the empty history.
-use Rattle.std.proofs.Common.{◌≡◌, ◌≢◌, ℕ, zero, suc, Option, Some, None, Bool, true, false, [], ◌∷◌, inl, inr, arith, ap, ◌<◌, ◌≤◌, ◌+◌, refl, sym, ◌∙◌, subst, slice_get, length, get_or, replicate}
+-- The machine at rest: each processor has its task's frame alone, nobody has touched a lock, and it
+-- shows the empty history.
+use Rattle.std.proofs.Common.{◌≡◌, ◌≢◌, ℕ, zero, suc, Option, Some, None, Bool, true, false, []}
+use Rattle.std.proofs.Common.{◌∷◌, inl, inr, arith, ap, ◌<◌, ◌≤◌, refl, sym, ◌∙◌, subst, slice_get}
+use Rattle.std.proofs.Common.{length, get_or, replicate}
 use Rattle.std.specs.Prelude.{if◌then◌else◌, ◌==◌}
 use Rattle.std.proofs.lemmas.Bool.{cases_Bool, cases_lt}
 use Rattle.std.proofs.lemmas.List.{length-replicate, get_or_past}
-use Rattle.std.proofs.lemmas.Option.{same_Some, none-some}
+use Rattle.std.proofs.lemmas.Option.{same_Some, none-some, get_or_from_slice_get}
 use Rattle.lk_abs.specs.Names.{same_lock}
 use Rattle.lk_abs.specs.History.{no_history}
 use Rattle.lk_abs.specs.declared.names.Kind.TheVariants.{Spin}
-use Rattle.lk_abs.specs.declared.names.Mode.{Mode}
 use Rattle.lk_abs.specs.declared.names.Waiter.{Waiter}
 use Rattle.lk_abs.specs.declared.names.LockName.{LockName}
+use Rattle.lk_abs.specs.declared.holder.Manner.TheVariants.{Spins, Writes}
 use Rattle.lk_word.specs.declared.spin_word.NodeName.{NodeName}
+use Rattle.lk_word.specs.declared.spin_word.Locked.TheVariants.{Free}
+use Rattle.lk_word.specs.declared.rw_word.RwFields.{RwFields}
 use Rattle.lk_machine.specs.declared.setup.Op.{Op}
-use Rattle.lk_machine.specs.declared.setup.Verb.{Verb}
-use Rattle.lk_machine.specs.declared.setup.Verb.TheVariants.{Unlock, RUnlock, WUnlock}
 use Rattle.lk_machine.specs.declared.setup.Setup.{Setup}
 use Rattle.lk_machine.specs.declared.parts.Frame.{Frame}
 use Rattle.lk_machine.specs.declared.parts.Pc.{Pc}
 use Rattle.lk_machine.specs.declared.parts.Pc.TheVariants.{G5, G11}
-use Rattle.lk_machine.specs.Machine.{Machine, CpuState, LockState, cpu_at, lock_at, rw_at, rest_frame, word_at, node_at, frame_at, queued_at, depth_at, halted_at, kicked_at, entry_at, handlers_at, no_cpu, rest_lock, rest_node, rest_word, HasTop}
+use Rattle.lk_machine.specs.Machine.{Machine, CpuState, LockState, cpu_at, lock_at, rw_at}
+use Rattle.lk_machine.specs.Machine.{rest_frame, word_at, node_at, frame_at, queued_at, depth_at}
+use Rattle.lk_machine.specs.Machine.{halted_at, kicked_at, entry_at, handlers_at, no_cpu, rest_lock}
+use Rattle.lk_machine.specs.Machine.{rest_node, rest_word, HasTop}
 use Rattle.lk_machine.specs.Programs.{IsLawfulSetup, program_at, way_at, way_before, kind_of}
-use Rattle.lk_machine.specs.Moves.{first_place, program_of, node_of}
+use Rattle.lk_machine.specs.Moves.{first_place, program_of, node_of, rw_name, wait_name}
 use Rattle.lk_machine.specs.Run.{first_frame, rest_cpu, rest_cpus, at_rest}
-use Rattle.lk_law.specs.Phase.{Phase, has_lock, queues, pends, claims, watches, has_node}
-use Rattle.lk_law.specs.Phase.Phase.{Idle, Seeks}
+use Rattle.lk_law.specs.Phase.{has_lock, queues, pends, watches, has_node}
+use Rattle.lk_law.specs.Phase.Phase.{Idle}
 use Rattle.lk_law.specs.Stage.Stage.{Rests}
-use Rattle.lk_law.proofs.Worlds.{stage_calm, stage_on-rests}
-use Rattle.lk_law.specs.Pv.{Post, PostsAgree, sleeps}
-use Rattle.lk_law.specs.Pv.{agrees as suits}
-use Rattle.lk_word.specs.declared.spin_word.Locked.TheVariants.{Free}
-use Rattle.lk_machine.specs.declared.parts.State.{State}
+use Rattle.lk_law.proofs.common.Worlds.{stage_calm, stage_on-rests}
+use Rattle.lk_law.specs.Pv.{Post, PostsAgree, sleeps, agrees as suits}
 use Rattle.lk_law.specs.Pv.Post.{Off}
 use Rattle.lk_law.specs.Kicked.{ShowsKicks}
-use Rattle.lk_core.proofs.Kicks.{owed_at, owed_in, asleep_in, kicks_same}
-use Rattle.lk_law.proofs.RestWorld.{empty_world}
-use Rattle.lk_law.proofs.KicksShown.{empty_shows}
-use Rattle.lk_law.proofs.Turns.{quiet_choice, fit_placeless}
+use Rattle.lk_law.proofs.common.RestWorld.{empty_world, none_told}
+use Rattle.lk_law.proofs.pv.HaltsShown.{empty_shows}
+use Rattle.lk_law.proofs.common.Choices.{quiet_choice, fit_placeless}
 use Rattle.lk_law.specs.Snapshot.{QueueAgrees, before, spins}
 use Rattle.lk_law.specs.Agree.{LockAgrees, Owed, state_of}
-use Rattle.lk_law.specs.World.{RegistersFit, IsSoundWorld, post_if, post_of, post_on, phase_at, phase_of, phase_on, stage_on, own_in, slow_in, is_slow, is_quiet_row, snapshot}
+use Rattle.lk_law.specs.Registers.{RegistersFit, is_quiet_row}
+use Rattle.lk_law.specs.SpinWorld.{IsSoundSpinWorld}
+use Rattle.lk_law.specs.Places.{post_of, post_on, phase_of, phase_on, stage_on, own_in, slow_in}
+use Rattle.lk_law.specs.Places.{snapshot}
+use Rattle.lk_law.specs.Families.{is_slow}
 use Rattle.lk_law.specs.Sound.{world, held_of, held_at, Stage, Fits, IsWhole, ShowsAll}
-use Rattle.lk_law.proofs.Cases.{lock_cases}
-use Rattle.lk_law.proofs.Puts.{same_lock-else}
-use Rattle.lk_core.proofs.Lists.{past_end}
+use Rattle.lk_law.proofs.common.Cases.{lock_cases}
+use Rattle.lk_law.proofs.common.Puts.{same_lock-else}
+use Rattle.lk_law.specs.RwPhase.{is_counted}
+use Rattle.lk_law.specs.RwAgree.{RwAgrees}
+use Rattle.lk_law.specs.SoundWorld.{IsSoundWorld, RwFits, rw_phase_of, rw_phase_on, rw_phases}
+use Rattle.lk_law.specs.SoundWorld.{rw_helds, rw_waits}
+use Rattle.lk_law.proofs.rw.Begins.{begun_fits}
+use Rattle.lk_law.proofs.common.Lists.{get_past}
+use Rattle.lk_core.proofs.Kicks.{owed_in, asleep_in, kicks_same}
 use Rattle.lk_core.proofs.Settle.{first_stage, first_outer}
 use Rattle.lk_core.proofs.Walks.{IsOuter, outer_held}
-use Rattle.lk_law.specs.RwPhase.{RwPhase, is_counted, is_inner}
-use Rattle.lk_law.specs.RwPhase.RwPhase.{Away, Asks, Announces, Unreads, Unwrites}
-use Rattle.lk_law.specs.RwAgree.{RwAgrees}
-use Rattle.lk_law.specs.Whole.{IsWholeWorld, RwFits, rw_phase_at, rw_phase_of, rw_phase_on, rw_phases, rw_helds, rw_waits}
-use Rattle.lk_law.proofs.RestWorld.{none_told}
-use Rattle.lk_law.proofs.RwBegins.{begun_fits}
-use Rattle.lk_word.specs.declared.rw_word.RwFields.{RwFields}
-use Rattle.lk_machine.specs.Moves.{rw_name, wait_name}
-use Rattle.lk_abs.specs.declared.holder.Manner.TheVariants.{Spins, Writes}
-use Rattle.std.proofs.lemmas.Option.{get_or_from_slice_get}
-
-get_or-same : {A : Type 0} (n i : ℕ) (x : A) → get_or (replicate n x) i x ≡ x
-get_or-same zero i x = refl
-get_or-same (suc n) zero x = refl
-get_or-same (suc n) (suc i) x = get_or-same n i x
-
-length-rest_cpus : (setup : Setup) (q n : ℕ) → length (rest_cpus setup q n) ≡ n
-length-rest_cpus setup q zero = refl
-length-rest_cpus setup q (suc n) = ap suc (length-rest_cpus setup (suc q) n)
-
-rest_cpus-at : (setup : Setup) (q n i : ℕ) → i < n → get_or (rest_cpus setup q n) i no_cpu ≡ rest_cpu setup (q + i)
-rest_cpus-at setup q zero i h = absurd (omega arith)
-rest_cpus-at setup q (suc n) zero h = ap (rest_cpu setup) (omega arith)
-rest_cpus-at setup q (suc n) (suc i) h = rest_cpus-at setup (suc q) n i (omega arith) ∙ ap (rest_cpu setup) (omega arith)
-
--- the phase has touched nothing of the lock
-abbrev untouched : Phase → Bool
-untouched Idle = true
-untouched Seeks = true
-untouched _ = false
-
--- a phase that has touched nothing has no part in any agreement
-record IsQuiet (r : Phase) : Type 0 where
-  pub has : has_lock r false ≡ false
-  pub queues : queues r ≡ false
-  pub pends : pends r ≡ false
-  pub claims : claims r ≡ false
-  pub watches : watches r ≡ false
-  pub noded : has_node r ≡ false
-
-quiet : (r : Phase) → untouched r ≡ true → IsQuiet r
-quiet Idle h = record { has = refl; queues = refl; pends = refl; claims = refl; watches = refl; noded = refl }
-quiet Seeks h = record { has = refl; queues = refl; pends = refl; claims = refl; watches = refl; noded = refl }
-quiet _ h = cc
-
--- the phase has touched nothing of a reader-writer lock
-abbrev is_calm : RwPhase → Bool
-is_calm Away = true
-is_calm Asks = true
-is_calm _ = false
-
--- such a phase has no part in any agreement either
-record IsCalm (r : RwPhase) : Type 0 where
-  pub counted : is_counted r None ≡ false
-  pub inner : is_inner r ≡ false
-  pub silent : r ≢ Announces
-  pub unread : r ≢ Unreads
-  pub unwrite : r ≢ Unwrites
-
-calm : (r : RwPhase) → is_calm r ≡ true → IsCalm r
-calm Away h = record { counted = refl; inner = refl; silent = λ e. grind arith; unread = λ e. grind arith; unwrite = λ e. grind arith }
-calm Asks h = record { counted = refl; inner = refl; silent = λ e. grind arith; unread = λ e. grind arith; unwrite = λ e. grind arith }
-calm _ h = cc
-
--- where nothing is held the first row of an operation touches nothing
-first_untouched : (mode : Mode) (v : Verb) (t : Bool) (a b : NodeName) (f : Frame) → way_before v ≡ None
-    → (untouched (phase_at (first_place mode v) t a b) ≡ true) × (is_slow (Some (first_place mode v)) ≡ false) × (is_quiet_row (first_place mode v) ≡ true) × (is_calm (rw_phase_at (first_place mode v) false) ≡ true)
-    × (post_if (Some (first_place mode v)) f ≡ Off) × (owed_at (Some (first_place mode v)) f ≡ None)
-first_untouched mode Unlock q a b f e = cc
-first_untouched mode RUnlock q a b f e = cc
-first_untouched mode WUnlock q a b f e = cc
-first_untouched mode _ q a b f e = (refl, refl, refl, refl, refl, refl)
-
--- where all are at no post, all agrees
-calm_posts : (state : Waiter → State) (own : Waiter → NodeName) (owed : Waiter → Type 0) → PostsAgree Free None None (λ u. Off) state own owed
-calm_posts state own owed =
-    record {
-      fit = λ u f a b. refl;
-      bare_entry = λ u h. cc;
-      bare_slow = λ u h. cc;
-      bare_some = λ a h. cc;
-      full_entry = λ u h. cc;
-      full_slow = λ u h. cc;
-      full_some = λ n h. cc;
-      entered = λ n h. cc;
-      named = λ u n h. cc;
-      raw_slow = λ w h. cc;
-      raw_free = λ w u h. cc;
-      slow = λ u h. cc;
-      one = λ u h. cc;
-      called = λ w u h. cc;
-      dozed = λ w h. cc;
-      slept = λ w h. cc;
-      napped = λ w h. cc;
-    }
-
--- and that it touches nothing suits no post
-suits_off : (r : Phase) → untouched r ≡ true → suits Off r ≡ true
-suits_off Idle h = refl
-suits_off Seeks h = refl
-suits_off _ h = cc
-
-differ : {A : Type 0} (b : Bool) → b ≡ false → b ≡ true → A
-differ b e f = absurd (grind (arith, e, f))
+use Rattle.lk_core.proofs.RestPhases.{untouched, calm, IsCalm, IsQuiet, calm_posts, differ}
+use Rattle.lk_core.proofs.RestPhases.{first_untouched, get_or-same, is_calm, length-rest_cpus}
+use Rattle.lk_core.proofs.RestPhases.{quiet, rest_cpus-at, suits_off}
 
 module _ (setup : Setup) (ok : IsLawfulSetup setup) where
   abbrev m : Machine
@@ -173,8 +84,11 @@ module _ (setup : Setup) (ok : IsLawfulSetup setup) where
   unfolding word_at lock_at
   words l = by l.wait (get_or-same (length setup.locks.items) l.index rest_lock)
     where
-      by : (b : Bool) → get_or (replicate (length setup.locks.items) rest_lock) l.index rest_lock ≡ rest_lock
-          → (if b then (get_or (replicate (length setup.locks.items) rest_lock) l.index rest_lock).wait else (get_or (replicate (length setup.locks.items) rest_lock) l.index rest_lock).spin) ≡ rest_word
+      by : (b : Bool)
+          → get_or (replicate (length setup.locks.items) rest_lock) l.index rest_lock ≡ rest_lock
+          → (if b then (get_or (replicate (length setup.locks.items) rest_lock) l.index
+          rest_lock).wait else (get_or (replicate (length setup.locks.items) rest_lock) l.index
+          rest_lock).spin) ≡ rest_word
       by true e = ap (λ (x : LockState). x.wait) e
       by false e = ap (λ (x : LockState). x.spin) e
 
@@ -236,7 +150,8 @@ module _ (setup : Setup) (ok : IsLawfulSetup setup) where
       sole (suc i) e = absurd (none-some f e)
 
   -- what is true of each task is true of each frame
-  of_tasks : (P : Frame → Type 0) → ((p : ℕ) → P (task p)) → (u : Waiter) (f : Frame) → frame_at m u ≡ Some f → P f
+  of_tasks : (P : Frame → Type 0) → ((p : ℕ) → P (task p)) → (u : Waiter) (f : Frame)
+      → frame_at m u ≡ Some f → P f
   of_tasks P each u f e = subst P (frames u f e).1 (each u.cpu)
 
   -- what a task at rest is
@@ -250,8 +165,19 @@ module _ (setup : Setup) (ok : IsLawfulSetup setup) where
     pub outer : IsOuter f
     pub registers : RegistersFit setup.mode f
 
-  first : (p : ℕ) (o : Option Op) → slice_get (program_at setup p 0) 0 ≡ o → IsFirst (first_frame setup.mode o)
-  first p None e = record { untouched = refl; slow = refl; position = refl; post = refl; owed = refl; calm = refl; outer = record { inner = refl; over = refl }; registers = fit_placeless (first_frame setup.mode None) refl refl }
+  first : (p : ℕ) (o : Option Op) → slice_get (program_at setup p 0) 0 ≡ o
+      → IsFirst (first_frame setup.mode o)
+  first p None e =
+      record {
+        untouched = refl;
+        slow = refl;
+        position = refl;
+        post = refl;
+        owed = refl;
+        calm = refl;
+        outer = record { inner = refl; over = refl };
+        registers = fit_placeless (first_frame setup.mode None) refl refl;
+      }
   first p (Some o) e =
       let fits : way_at (program_at setup p 0) 0 o.lock ≡ way_before o.verb = (ok.lawful p 0).fits 0 o e in
       let quiet_first = first_untouched setup.mode o.verb false (node_of None) (node_of None) (first_frame setup.mode (Some o)) (sym fits) in
@@ -269,11 +195,15 @@ module _ (setup : Setup) (ok : IsLawfulSetup setup) where
           bare = λ q. refl;
           met = λ q. absurd (slow_not G5 q refl quiet_first.1);
           next = λ q. absurd (slow_not G11 q refl quiet_first.1);
-          choice = quiet_choice (first_frame setup.mode (Some o)) (λ d q. let same : first_place setup.mode o.verb ≡ d = same_Some (first_place setup.mode o.verb) d q in sym (ap is_quiet_row same) ∙ quiet_first.2);
+          choice = quiet_choice (first_frame setup.mode (Some o))
+              (λ d q. let same : first_place setup.mode o.verb ≡ d =
+              same_Some (first_place setup.mode o.verb) d q in
+              sym (ap is_quiet_row same) ∙ quiet_first.2);
         };
       }
     where
-      slow_not : (c : Pc) → (first_frame setup.mode (Some o)).place ≡ Some c → is_slow (Some c) ≡ true → is_slow (first_frame setup.mode (Some o)).place ≡ false → ⊥
+      slow_not : (c : Pc) → (first_frame setup.mode (Some o)).place ≡ Some c
+          → is_slow (Some c) ≡ true → is_slow (first_frame setup.mode (Some o)).place ≡ false → ⊥
       slow_not c q s f = let z = ap is_slow q ∙ s in grind (arith, z, f)
 
   firsts : (p : ℕ) → IsFirst (task p)
@@ -300,7 +230,8 @@ module _ (setup : Setup) (ok : IsLawfulSetup setup) where
       go None e = refl
       go (Some d) e = let first = of_tasks IsFirst firsts u d e in outer_held (program_of m u.cpu d) d first.outer l ∙ by l.wait first.position
         where
-          by : (b : Bool) → d.«at» ≡ 0 → (if b then None else way_at (program_of m u.cpu d) d.«at» l.index) ≡ None
+          by : (b : Bool) → d.«at» ≡ 0
+              → (if b then None else way_at (program_of m u.cpu d) d.«at» l.index) ≡ None
           by true z = refl
           by false z = ap (λ (i : ℕ). way_at (program_of m u.cpu d) i l.index) z
 
@@ -350,14 +281,23 @@ module _ (setup : Setup) (ok : IsLawfulSetup setup) where
         posts = λ e. record {
           posts =
               let s = snapshot (world m) in
-              rw (w, entries l) (subst (λ (q : Waiter → Post). PostsAgree Free None None q (state_of s) s.own (λ u. Owed s u.cpu)) (λ i u. sym (posts_plain l u) i) (calm_posts (state_of s) s.own (λ u. Owed s u.cpu)));
+              rw (w, entries l)
+              (subst (λ (q : Waiter → Post).
+              PostsAgree Free None None q (state_of s) s.own (λ u. Owed s u.cpu))
+              (λ i u. sym (posts_plain l u) i)
+              (calm_posts (state_of s) s.own (λ u. Owed s u.cpu)));
           suits = λ u. rw (posts_plain l u) (suits_off (phase_on l (frame_at m u)) (phase_plain l u));
         };
         lists = record {
           flat = λ e. record { queue = rw w nobody; single = refl; unpassed = refl };
           cna = λ e. record {
             queue = rw w nobody;
-            second_ok = record { waits = λ i u h. absurd (none-some u h); once = λ i j u h k. absurd (none-some u h); linked = λ i u v h k. absurd (none-some u h); last = λ i u h. absurd (none-some u h) };
+            second_ok = record {
+              waits = λ i u h. absurd (none-some u h);
+              once = λ i j u h k. absurd (none-some u h);
+              linked = λ i u v h k. absurd (none-some u h);
+              last = λ i u h. absurd (none-some u h);
+            };
             lead = λ v h. absurd (none-some v h);
             empty = λ h. refl;
             lengths = refl;
@@ -366,7 +306,8 @@ module _ (setup : Setup) (ok : IsLawfulSetup setup) where
         };
       }
     where
-      nobody : QueueAgrees None (λ u. phase_on l (frame_at m u)) (λ u. own_in (frame_at m u)) (λ n. node_at m n) []
+      nobody : QueueAgrees None (λ u. phase_on l (frame_at m u)) (λ u. own_in (frame_at m u))
+          (λ n. node_at m n) []
       nobody =
           record {
             inside = λ i u h. absurd (none-some u h);
@@ -387,7 +328,8 @@ module _ (setup : Setup) (ok : IsLawfulSetup setup) where
   none_before p zero = refl
   none_before p (suc c) = rw (slow_plain (record { cpu = p; ctx = c }), none_before p c) refl
 
-  one_lock : (k l : LockName) (u : Waiter) → k ≢ l → phase_on k (frame_at m u) ≢ Idle → phase_on l (frame_at m u) ≡ Idle
+  one_lock : (k l : LockName) (u : Waiter) → k ≢ l → phase_on k (frame_at m u) ≢ Idle
+      → phase_on l (frame_at m u) ≡ Idle
   one_lock k l u ne h = go (frame_at m u) h
     where
       go : (o : Option Frame) → phase_on k o ≢ Idle → phase_on l o ≡ Idle
@@ -398,7 +340,7 @@ module _ (setup : Setup) (ok : IsLawfulSetup setup) where
             | inr n ↦ absurd (h (rw (same_lock-else d.lock k n) refl))
           ]
 
-  spins_sound : IsSoundWorld (world m) (λ l. no_history)
+  spins_sound : IsSoundSpinWorld (world m) (λ l. no_history)
   spins_sound =
       record {
         plain = record { byte = λ off l. rw (words l) (λ e. cc); flag = λ flat n k. rw (nodes n) (λ e. cc) };
@@ -432,14 +374,19 @@ module _ (setup : Setup) (ok : IsLawfulSetup setup) where
       go None e = refl
       go (Some d) e = elim (cases_Bool (d.lock.index == i)) [ inl t ↦ rw t (of_tasks IsFirst firsts u d e).calm | inr t ↦ rw t refl ]
 
-  rw_agrees : (i : ℕ) → RwAgrees (rw_at m i) (rw_phases (world m) i) (rw_helds (world m) i) (rw_waits (world m) i) no_history
+  rw_agrees : (i : ℕ)
+      → RwAgrees (rw_at m i) (rw_phases (world m) i) (rw_helds (world m) i) (rw_waits (world m) i)
+      no_history
   rw_agrees i =
       subst (λ (x : RwFields). RwAgrees x (rw_phases (world m) i) (rw_helds (world m) i) (rw_waits (world m) i) no_history) (sym (rws_rest i)) (record {
         counted = [];
         readers = record {
           each = record {
             inside = λ j u h. absurd (none-some u h);
-            place = λ u h. differ (is_counted (rw_phase_on i (frame_at m u)) (held_of m u (rw_name i))) (ap (is_counted (rw_phase_on i (frame_at m u))) (held_plain u (rw_name i)) ∙ (calm_plain i u).counted) h;
+            place = λ u h.
+                differ (is_counted (rw_phase_on i (frame_at m u)) (held_of m u (rw_name i)))
+                (ap (is_counted (rw_phase_on i (frame_at m u))) (held_plain u (rw_name i))
+                ∙ (calm_plain i u).counted) h;
             once = λ j k u h q. absurd (none-some u h);
           };
           number = refl;
@@ -469,23 +416,36 @@ module _ (setup : Setup) (ok : IsLawfulSetup setup) where
       })
 
   -- a task's first operation is on a lock of its kind
-  task_kinds : (p : ℕ) (o : Option Op) → slice_get (program_at setup p 0) 0 ≡ o → RwFits (world m).kind (first_frame setup.mode o)
+  task_kinds : (p : ℕ) (o : Option Op) → slice_get (program_at setup p 0) 0 ≡ o
+      → RwFits (world m).kind (first_frame setup.mode o)
   task_kinds p None e = record { rw = λ c q r. cc; inner = λ c q r i. cc; spin = λ c q r s. cc; waits = λ q. cc; after = λ q. cc }
-  task_kinds p (Some o) e = begun_fits (world m).kind setup.mode rest_frame o (get_or_from_slice_get setup.locks.items o.lock (kind_of o.verb) Spin ((ok.lawful p 0).declared 0 o e))
+  task_kinds p (Some o) e =
+      begun_fits (world m).kind setup.mode rest_frame o
+      (get_or_from_slice_get setup.locks.items o.lock (kind_of o.verb) Spin
+      ((ok.lawful p 0).declared 0 o e))
 
-  sound : IsWholeWorld (world m) (λ l. no_history)
+  sound : IsSoundWorld (world m) (λ l. no_history)
   sound =
       record {
-        spins = subst (IsSoundWorld (world m)) (sym (none_told (world m).kind)) spins_sound;
+        spins = subst (IsSoundSpinWorld (world m)) (sym (none_told (world m).kind)) spins_sound;
         rws = λ i k. rw_agrees i;
         fits = of_tasks (RwFits (world m).kind) (λ p. task_kinds p (slice_get (program_at setup p 0) 0) refl);
       }
 
   -- each task fits
-  task_fits : (p : ℕ) (o : Option Op) → slice_get (program_at setup p 0) 0 ≡ o → Fits m (record { cpu = p; ctx = 0 }) (first_frame setup.mode o)
+  task_fits : (p : ℕ) (o : Option Op) → slice_get (program_at setup p 0) 0 ≡ o
+      → Fits m (record { cpu = p; ctx = 0 }) (first_frame setup.mode o)
   task_fits p None e =
-      let z = past_end (program_at setup p 0) 0 e in
-      record { ctx = refl; program = (λ q. refl, λ q. absurd (omega arith)); within = omega arith; finished = λ q. omega arith; working = λ c q. cc; prev = λ n q. absurd (none-some n q); target = λ n q. absurd (none-some n q) }
+      let z = get_past (program_at setup p 0) 0 e in
+      record {
+        ctx = refl;
+        program = (λ q. refl, λ q. absurd (omega arith));
+        within = omega arith;
+        finished = λ q. omega arith;
+        working = λ c q. cc;
+        prev = λ n q. absurd (none-some n q);
+        target = λ n q. absurd (none-some n q);
+      }
   task_fits p (Some o) e =
       record {
         ctx = refl;

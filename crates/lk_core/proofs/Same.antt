@@ -1,6 +1,8 @@
--- What the writes of rows and acts leave of a machine: its setup, and how much of everything there is. So a whole machine stays whole,
--- and frames that fit go on to fit.
-use Rattle.std.proofs.Common.{◌≡◌, ◌≢◌, ℕ, Option, Some, None, Bool, List, [], ◌∷◌, ◌++◌, inl, inr, arith, ap, ◌<◌, ◌≤◌, ◌+◌, ◌-◌, refl, sym, ◌∙◌, subst, length, set, take}
+-- What the writes of rows and acts leave of a machine: its setup, and how much of everything there
+-- is. So a whole machine stays whole, and frames that fit go on to fit.
+use Rattle.std.proofs.Common.{◌≡◌, ◌≢◌, ℕ, Option, Some, None, Bool, List, [], ◌∷◌, ◌++◌, inl, inr}
+use Rattle.std.proofs.Common.{arith, ap, ◌<◌, ◌≤◌, ◌+◌, ◌-◌, refl, sym, ◌∙◌, subst, length, set}
+use Rattle.std.proofs.Common.{take}
 use Rattle.std.specs.Prelude.{if◌then◌else◌}
 use Rattle.std.proofs.lemmas.Bool.{cases_eq}
 use Rattle.std.proofs.lemmas.List.{length-set, length_push, length-take-le}
@@ -12,14 +14,18 @@ use Rattle.lk_machine.specs.declared.setup.Setup.{Setup}
 use Rattle.lk_machine.specs.declared.parts.Frame.{Frame}
 use Rattle.lk_machine.specs.declared.parts.Node.{Node}
 use Rattle.lk_machine.specs.declared.parts.Counts.{Counts}
-use Rattle.lk_machine.specs.Machine.{Machine, CpuState, cpu_at, lock_at, depth_at, handlers_at, HasNode, without_entry, set_halted, set_kicked, set_entry, top_of, set_cpu, set_lock, set_counts, set_word, set_node, set_top, set_queued, set_preempted, pop, push, HasTop}
+use Rattle.lk_machine.specs.Machine.{Machine, CpuState, cpu_at, lock_at, depth_at, handlers_at}
+use Rattle.lk_machine.specs.Machine.{HasNode, without_entry, set_halted, set_kicked, set_entry}
+use Rattle.lk_machine.specs.Machine.{top_of, set_cpu, set_lock, set_counts, set_word, set_node}
+use Rattle.lk_machine.specs.Machine.{set_top, set_queued, set_preempted, pop, push, HasTop}
 use Rattle.lk_machine.specs.Programs.{IsLawfulSetup, handlers_of, program_at}
 use Rattle.lk_law.specs.Sound.{IsWhole, Fits, Works, IsEnteredOnce}
 use Rattle.lk_core.proofs.Entries.{Entry, once_without, once_with}
 use Rattle.lk_core.proofs.Worlds.{hashing}
 use Rattle.lk_core.proofs.Access.{cpu_same, cpu_other, cpu_part}
 
--- the setup is kept, and how much there is; no handler comes back; and each lock is entered once still
+-- the setup is kept, and how much there is; no handler comes back; and each lock is entered once
+-- still
 pub record Keeps (m n : Machine) : Type 0 where
   pub setup : n.setup ≡ m.setup
   pub locks : length n.locks ≡ length m.locks
@@ -46,7 +52,12 @@ keeps_then a b c s t =
     }
 
 pub same_then : (a b c : Machine) → Same a b → Same b c → Same a c
-same_then a b c s t = record { keeps = keeps_then a b c s.keeps t.keeps; depth = λ p. t.depth p ∙ s.depth p; handlers = λ p. t.handlers p ∙ s.handlers p }
+same_then a b c s t =
+    record {
+      keeps = keeps_then a b c s.keeps t.keeps;
+      depth = λ p. t.depth p ∙ s.depth p;
+      handlers = λ p. t.handlers p ∙ s.handlers p;
+    }
 
 pub same_self : (m : Machine) → Same m m
 same_self m =
@@ -61,10 +72,17 @@ pub top_same : (m n : Machine) (p : ℕ) → Same m n → top_of n p ≡ top_of 
 top_same m n p s = (λ i. record { cpu = p; ctx = s.depth p i - 1 })
 
 pub has_top_same : (m n : Machine) (p : ℕ) → Same m n → HasTop m p → HasTop n p
-has_top_same m n p s top = record { in_range = rw s.keeps.cpus top.in_range; some = rw (s.depth p) top.some; few = rw (s.depth p) top.few }
+has_top_same m n p s top =
+    record {
+      in_range = rw s.keeps.cpus top.in_range;
+      some = rw (s.depth p) top.some;
+      few = rw (s.depth p) top.few;
+    }
 
 -- a machine stays whole, where each processor has a top and uses no more handlers than there are
-pub whole_kept : (m n : Machine) → IsWhole m → Keeps m n → ((p : ℕ) → p < length m.cpus → HasTop n p) → ((p : ℕ) → handlers_at n p ≤ handlers_of m.setup p) → IsWhole n
+pub whole_kept : (m n : Machine) → IsWhole m → Keeps m n
+    → ((p : ℕ) → p < length m.cpus → HasTop n p)
+    → ((p : ℕ) → handlers_at n p ≤ handlers_of m.setup p) → IsWhole n
 whole_kept m n w k tops handlers =
     record {
       setup = subst (λ (s : Setup). IsLawfulSetup s) (sym k.setup) w.setup;
@@ -114,14 +132,16 @@ cpus-set_cpu : (m : Machine) (p : ℕ) (c : CpuState) → length (set_cpu m p c)
 unfolding set_cpu
 cpus-set_cpu m p c = length-set m.cpus p c
 
-hash-set_cpu : (m : Machine) (p : ℕ) (c : CpuState) → IsEnteredOnce m.hash → IsEnteredOnce (set_cpu m p c).hash
+hash-set_cpu : (m : Machine) (p : ℕ) (c : CpuState) → IsEnteredOnce m.hash
+    → IsEnteredOnce (set_cpu m p c).hash
 unfolding set_cpu
 hash-set_cpu m p c once = once
 
 same_set_cpu : (m : Machine) (p : ℕ) (c : CpuState) → AsMany (cpu_at m p) c → Same m (set_cpu m p c)
 unfolding handlers_at depth_at
 same_set_cpu m p c a =
-    let handlers : (q : ℕ) → handlers_at (set_cpu m p c) q ≡ handlers_at m q = cpu_part (λ (d : CpuState). d.handlers) m p c a.handlers in
+    let handlers : (q : ℕ) → handlers_at (set_cpu m p c) q ≡ handlers_at m q =
+    cpu_part (λ (d : CpuState). d.handlers) m p c a.handlers in
     record {
       keeps = record {
         setup = setup-set_cpu m p c;
@@ -138,12 +158,22 @@ same_set_cpu m p c a =
 pub same_set_top : (m : Machine) (p : ℕ) (g : Frame) → Same m (set_top m p g)
 unfolding set_top
 same_set_top m p g =
-    same_set_cpu m p (record (cpu_at m p) { frames = set (cpu_at m p).frames (depth_at m p - 1) g }) (record { nodes = refl; frames = length-set (cpu_at m p).frames (depth_at m p - 1) g; handlers = refl })
+    same_set_cpu m p (record (cpu_at m p) { frames = set (cpu_at m p).frames (depth_at m p - 1) g })
+    (record {
+      nodes = refl;
+      frames = length-set (cpu_at m p).frames (depth_at m p - 1) g;
+      handlers = refl;
+    })
 
 pub same_set_node : (m : Machine) (n : NodeName) (x : Node) → Same m (set_node m n x)
 unfolding set_node
 same_set_node m n x =
-    same_set_cpu m n.cpu (record (cpu_at m n.cpu) { nodes = set (cpu_at m n.cpu).nodes n.index x }) (record { nodes = length-set (cpu_at m n.cpu).nodes n.index x; frames = refl; handlers = refl })
+    same_set_cpu m n.cpu (record (cpu_at m n.cpu) { nodes = set (cpu_at m n.cpu).nodes n.index x })
+    (record {
+      nodes = length-set (cpu_at m n.cpu).nodes n.index x;
+      frames = refl;
+      handlers = refl;
+    })
 
 pub same_set_queued : (m : Machine) (p n : ℕ) → Same m (set_queued m p n)
 unfolding set_queued
@@ -151,7 +181,9 @@ same_set_queued m p n = same_set_cpu m p (record (cpu_at m p) { queued = n }) (r
 
 pub same_set_preempted : (m : Machine) (p : ℕ) (b : Bool) → Same m (set_preempted m p b)
 unfolding set_preempted
-same_set_preempted m p b = same_set_cpu m p (record (cpu_at m p) { preempted = b }) (record { nodes = refl; frames = refl; handlers = refl })
+same_set_preempted m p b =
+    same_set_cpu m p (record (cpu_at m p) { preempted = b })
+    (record { nodes = refl; frames = refl; handlers = refl })
 
 pub same_set_halted : (m : Machine) (p : ℕ) (b : Bool) → Same m (set_halted m p b)
 unfolding set_halted
@@ -161,7 +193,8 @@ pub same_set_kicked : (m : Machine) (p : ℕ) (b : Bool) → Same m (set_kicked 
 unfolding set_kicked
 same_set_kicked m p b = same_set_cpu m p (record (cpu_at m p) { kicked = b }) (record { nodes = refl; frames = refl; handlers = refl })
 
-same_hashing : (m : Machine) (es : List Entry) → (IsEnteredOnce m.hash → IsEnteredOnce es) → Same m (hashing m es)
+same_hashing : (m : Machine) (es : List Entry) → (IsEnteredOnce m.hash → IsEnteredOnce es)
+    → Same m (hashing m es)
 unfolding cpu_at handlers_at depth_at
 same_hashing m es once =
     record {
@@ -181,7 +214,11 @@ same_set_word m l x =
     record {
       keeps = record {
         setup = refl;
-        locks = length-set m.locks l.index (if l.wait then record (lock_at m l.index) { wait = x } else record (lock_at m l.index) { spin = x });
+        locks = length-set m.locks l.index
+            (if l.wait then record (lock_at m l.index) {
+              wait =
+                  x;
+            } else record (lock_at m l.index) { spin = x });
         cpus = refl;
         nodes = λ p. refl;
         handlers = λ p. omega arith;
@@ -217,26 +254,38 @@ keeps_pop m p =
 
 pub handlers_pop : (m : Machine) (p q : ℕ) → handlers_at (pop m p) q ≡ handlers_at m q
 unfolding pop handlers_at
-handlers_pop m p q = cpu_part (λ (d : CpuState). d.handlers) m p (record (cpu_at m p) { frames = take (depth_at m p - 1) (cpu_at m p).frames }) refl q
+handlers_pop m p q =
+    cpu_part (λ (d : CpuState). d.handlers) m p
+    (record (cpu_at m p) { frames = take (depth_at m p - 1) (cpu_at m p).frames }) refl q
 
 depth_pop : (m : Machine) (p : ℕ) → HasTop m p → depth_at (pop m p) p ≡ depth_at m p - 1
 unfolding pop depth_at
 depth_pop m p top =
     let c : CpuState = record (cpu_at m p) { frames = take (depth_at m p - 1) (cpu_at m p).frames } in
-    ap (λ (d : CpuState). length d.frames) (cpu_same m p c top.in_range) ∙ length-take-le (depth_at m p - 1) (cpu_at m p).frames (omega arith)
+    ap (λ (d : CpuState). length d.frames) (cpu_same m p c top.in_range)
+    ∙ length-take-le (depth_at m p - 1) (cpu_at m p).frames (omega arith)
 
 depth_pop_other : (m : Machine) (p q : ℕ) → q ≢ p → depth_at (pop m p) q ≡ depth_at m q
 unfolding pop depth_at
-depth_pop_other m p q ne = ap (λ (d : CpuState). length d.frames) (cpu_other m p q (record (cpu_at m p) { frames = take (depth_at m p - 1) (cpu_at m p).frames }) ne)
+depth_pop_other m p q ne =
+    ap (λ (d : CpuState). length d.frames)
+    (cpu_other m p q (record (cpu_at m p) { frames = take (depth_at m p - 1) (cpu_at m p).frames })
+    ne)
 
 -- a frame above the task's was popped: each processor has a top
-pub tops_pop : (m : Machine) (p : ℕ) → HasTop m p → 0 < (top_of m p).ctx → (q : ℕ) → HasTop m q → HasTop (pop m p) q
+pub tops_pop : (m : Machine) (p : ℕ) → HasTop m p → 0 < (top_of m p).ctx → (q : ℕ) → HasTop m q
+    → HasTop (pop m p) q
 tops_pop m p top above q t =
     let cpus = (keeps_pop m p).cpus in
     elim (cases_eq q p) [
       | inl e ↦
           let d = depth_pop m p top in
-          subst (λ (r : ℕ). HasTop (pop m p) r) (sym e) (record { in_range = rw cpus top.in_range; some = omega arith; few = omega (arith, top.few) })
+          subst (λ (r : ℕ). HasTop (pop m p) r) (sym e)
+          (record {
+            in_range = rw cpus top.in_range;
+            some = omega arith;
+            few = omega (arith, top.few);
+          })
       | inr ne ↦ let d = depth_pop_other m p q ne in record { in_range = rw cpus t.in_range; some = rw d t.some; few = rw d t.few }
     ]
 
@@ -253,30 +302,59 @@ keeps_push m p g lt =
       nodes = cpu_part (λ (d : CpuState). length d.nodes) m p c refl;
       hash = hash-set_cpu m p c;
       handlers = λ q. elim (cases_eq q p) [
-        | inl e ↦ subst (λ (r : ℕ). (cpu_at m r).handlers ≤ (cpu_at (set_cpu m p c) r).handlers) (sym e) (let h = ap (λ (d : CpuState). d.handlers) (cpu_same m p c lt) in omega arith)
+        | inl e ↦ subst (λ (r : ℕ). (cpu_at m r).handlers ≤ (cpu_at (set_cpu m p c) r).handlers)
+            (sym e) (let h = ap (λ (d : CpuState). d.handlers) (cpu_same m p c lt) in omega arith)
         | inr ne ↦ let h = ap (λ (d : CpuState). d.handlers) (cpu_other m p q c ne) in omega arith
       ];
     }
 
-pub handlers_push : (m : Machine) (p : ℕ) (g : Frame) → p < length m.cpus → handlers_at (push m p g) p ≡ handlers_at m p + 1
+pub handlers_push : (m : Machine) (p : ℕ) (g : Frame) → p < length m.cpus
+    → handlers_at (push m p g) p ≡ handlers_at m p + 1
 unfolding push handlers_at
-handlers_push m p g lt = ap (λ (d : CpuState). d.handlers) (cpu_same m p (record (cpu_at m p) { frames = (cpu_at m p).frames ++ g ∷ []; handlers = (cpu_at m p).handlers + 1 }) lt)
+handlers_push m p g lt =
+    ap (λ (d : CpuState). d.handlers)
+    (cpu_same m p
+    (record (cpu_at m p) {
+      frames = (cpu_at m p).frames ++ g ∷ [];
+      handlers = (cpu_at m p).handlers + 1;
+    }) lt)
 
-pub handlers_push_other : (m : Machine) (p q : ℕ) (g : Frame) → q ≢ p → handlers_at (push m p g) q ≡ handlers_at m q
+pub handlers_push_other : (m : Machine) (p q : ℕ) (g : Frame) → q ≢ p
+    → handlers_at (push m p g) q ≡ handlers_at m q
 unfolding push handlers_at
-handlers_push_other m p q g ne = ap (λ (d : CpuState). d.handlers) (cpu_other m p q (record (cpu_at m p) { frames = (cpu_at m p).frames ++ g ∷ []; handlers = (cpu_at m p).handlers + 1 }) ne)
+handlers_push_other m p q g ne =
+    ap (λ (d : CpuState). d.handlers)
+    (cpu_other m p q
+    (record (cpu_at m p) {
+      frames = (cpu_at m p).frames ++ g ∷ [];
+      handlers = (cpu_at m p).handlers + 1;
+    }) ne)
 
-pub depth_push : (m : Machine) (p : ℕ) (g : Frame) → p < length m.cpus → depth_at (push m p g) p ≡ depth_at m p + 1
+pub depth_push : (m : Machine) (p : ℕ) (g : Frame) → p < length m.cpus
+    → depth_at (push m p g) p ≡ depth_at m p + 1
 unfolding push depth_at
 depth_push m p g lt =
-    ap (λ (d : CpuState). length d.frames) (cpu_same m p (record (cpu_at m p) { frames = (cpu_at m p).frames ++ g ∷ []; handlers = (cpu_at m p).handlers + 1 }) lt)
+    ap (λ (d : CpuState). length d.frames)
+    (cpu_same m p
+    (record (cpu_at m p) {
+      frames = (cpu_at m p).frames ++ g ∷ [];
+      handlers = (cpu_at m p).handlers + 1;
+    }) lt)
     ∙ length_push (cpu_at m p).frames g
 
-depth_push_other : (m : Machine) (p q : ℕ) (g : Frame) → q ≢ p → depth_at (push m p g) q ≡ depth_at m q
+depth_push_other : (m : Machine) (p q : ℕ) (g : Frame) → q ≢ p
+    → depth_at (push m p g) q ≡ depth_at m q
 unfolding push depth_at
-depth_push_other m p q g ne = ap (λ (d : CpuState). length d.frames) (cpu_other m p q (record (cpu_at m p) { frames = (cpu_at m p).frames ++ g ∷ []; handlers = (cpu_at m p).handlers + 1 }) ne)
+depth_push_other m p q g ne =
+    ap (λ (d : CpuState). length d.frames)
+    (cpu_other m p q
+    (record (cpu_at m p) {
+      frames = (cpu_at m p).frames ++ g ∷ [];
+      handlers = (cpu_at m p).handlers + 1;
+    }) ne)
 
-pub tops_push : (m : Machine) (p : ℕ) (g : Frame) → p < length m.cpus → depth_at m p < 6 → (q : ℕ) → HasTop m q → HasTop (push m p g) q
+pub tops_push : (m : Machine) (p : ℕ) (g : Frame) → p < length m.cpus → depth_at m p < 6 → (q : ℕ)
+    → HasTop m q → HasTop (push m p g) q
 tops_push m p g lt room q t =
     let cpus = (keeps_push m p g lt).cpus in
     elim (cases_eq q p) [

@@ -1,5 +1,6 @@
 -- No act changes the setup.
-use Rattle.std.proofs.Common.{◌≡◌, ℕ, Option, Some, None, Bool, true, false, List, [], ◌∷◌, refl, ◌∙◌}
+use Rattle.std.proofs.Common.{◌≡◌, ℕ, Option, Some, None, Bool, true, false, List, [], ◌∷◌, refl}
+use Rattle.std.proofs.Common.{◌∙◌}
 use Rattle.std.specs.Prelude.{if◌then◌else◌}
 use Rattle.lk_abs.specs.declared.names.LockName.{LockName}
 use Rattle.lk_word.specs.declared.spin_word.NodeName.{NodeName}
@@ -8,16 +9,28 @@ use Rattle.lk_abs.specs.declared.events.Act.TheVariants as act
 use Rattle.lk_machine.specs.declared.setup.Setup.{Setup}
 use Rattle.lk_machine.specs.declared.parts.Frame.{Frame}
 use Rattle.lk_machine.specs.declared.parts.Pc.{Pc}
-use Rattle.lk_machine.specs.Machine.{Machine, CpuState, LockState, word_at, node_at, queued_at, preempted_at, halted_at, top_frame, set_cpu, set_lock, set_entry, entry_at, kicked_at, set_counts, rw_at}
+use Rattle.lk_machine.specs.Machine.{Machine, CpuState, LockState, word_at, node_at, queued_at}
+use Rattle.lk_machine.specs.Machine.{preempted_at, halted_at, top_frame, set_cpu, set_lock}
+use Rattle.lk_machine.specs.Machine.{set_entry, entry_at, kicked_at, set_counts, rw_at}
 use Rattle.lk_machine.specs.Row.{Lead, Counter, moved, counted}
-use Rattle.lk_machine.specs.SpinRows.{spin_row}
-use Rattle.lk_machine.specs.QueueRows.{queue_row, entry_row, flag_row, next_row}
-use Rattle.lk_machine.specs.Rows.{Target, SpinWord, QueueWord, Queued, FlagOf, NextOf, ChoiceWord, ChoiceFlag, ChoiceNext, SecondTailOf, RunsOf, PvWord, PvFlag, PvNext, StateOf, HashEntry, Halted, KickOf, target, sight_at, stored_second, stored_runs, stored_state, stored_entry, stored_halted, stored_kicked, stored_word, stored_flag, stored_next, stored_queued, row_on, row_at, row, RwWord, stored_rw}
-use Rattle.lk_machine.specs.CnaRows.{search_row, second_row, runs_row, handover_row, promotion_row}
-use Rattle.lk_machine.specs.PvRows.{pv_row, pv_flag_row, pv_next_row, state_row, hash_row, halt_row, kick_row}
+use Rattle.lk_machine.specs.rows.Spin.{spin_row}
+use Rattle.lk_machine.specs.rows.Queue.{queue_row, entry_row, flag_row, next_row}
+use Rattle.lk_machine.specs.TopRow.{Target, SpinWord, QueueWord, Queued, FlagOf, NextOf, ChoiceWord}
+use Rattle.lk_machine.specs.TopRow.{ChoiceFlag, ChoiceNext, SecondTailOf, RunsOf, PvWord, PvFlag}
+use Rattle.lk_machine.specs.TopRow.{PvNext, StateOf, HashEntry, Halted, KickOf, target, sight_at}
+use Rattle.lk_machine.specs.TopRow.{stored_second, stored_runs, stored_state, stored_entry}
+use Rattle.lk_machine.specs.TopRow.{stored_halted, stored_kicked, stored_word, stored_flag}
+use Rattle.lk_machine.specs.TopRow.{stored_next, stored_queued, row_on, row_at, row, RwWord}
+use Rattle.lk_machine.specs.TopRow.{stored_rw}
+use Rattle.lk_machine.specs.rows.Cna.{search_row, second_row, runs_row, handover_row, promotion_row}
+use Rattle.lk_machine.specs.rows.Pv.{pv_row, pv_flag_row, pv_next_row, state_row, hash_row}
+use Rattle.lk_machine.specs.rows.Pv.{halt_row, kick_row}
 use Rattle.lk_machine.specs.Acts.{idle, step_halted, step, next}
-use Rattle.lk_core.proofs.Parts.{part-moved, part-stored_word, part-stored_flag, part-stored_next, part-stored_second, part-stored_runs, part-stored_state, part-stored_entry, part-stored_halted, part-stored_kicked, part-stored_queued, part-step_halted, part-rest, part-stored_rw}
-use Rattle.lk_machine.specs.RwRows.{rw_row}
+use Rattle.lk_core.proofs.Parts.{part-moved, part-stored_word, part-stored_flag, part-stored_next}
+use Rattle.lk_core.proofs.Parts.{part-stored_second, part-stored_runs, part-stored_state}
+use Rattle.lk_core.proofs.Parts.{part-stored_entry, part-stored_halted, part-stored_kicked}
+use Rattle.lk_core.proofs.Parts.{part-stored_queued, part-step_halted, part-rest, part-stored_rw}
+use Rattle.lk_machine.specs.rows.Rw.{rw_row}
 
 abbrev of : Machine → Setup
 of m = m.setup
@@ -40,46 +53,84 @@ unfolding set_counts
 counts m [] = refl
 counts m (c ∷ cs) = refl
 
-applied_setup : (m n : Machine) (p : ℕ) (f : Frame) (lead : Lead) (cs : List Counter) → of n ≡ of m → of (moved (counted n cs) p f lead) ≡ of m
+applied_setup : (m n : Machine) (p : ℕ) (f : Frame) (lead : Lead) (cs : List Counter) → of n ≡ of m
+    → of (moved (counted n cs) p f lead) ≡ of m
 applied_setup m n p f lead cs e = part-moved of cpu lock (counted n cs) p f lead ∙ counts n cs ∙ e
 
-setup_row_on : (m : Machine) (p : ℕ) (f : Frame) (c : Pc) (t : Target) → of (row_on m p f c t).0 ≡ of m
+setup_row_on : (m : Machine) (p : ℕ) (f : Frame) (c : Pc) (t : Target)
+    → of (row_on m p f c t).0 ≡ of m
 setup_row_on m p f c SpinWord =
-    let o = spin_row m.setup.mode c f (word_at m f.lock) in applied_setup m (stored_word m f o.stores) p f o.leads o.counts (part-stored_word of cpu lock m f o.stores)
+    let o = spin_row m.setup.mode c f (word_at m f.lock) in
+    applied_setup m (stored_word m f o.stores) p f o.leads o.counts
+    (part-stored_word of cpu lock m f o.stores)
 setup_row_on m p f c QueueWord =
-    let o = queue_row m.setup.mode c f (word_at m f.lock) in applied_setup m (stored_word m f o.stores) p f o.leads o.counts (part-stored_word of cpu lock m f o.stores)
+    let o = queue_row m.setup.mode c f (word_at m f.lock) in
+    applied_setup m (stored_word m f o.stores) p f o.leads o.counts
+    (part-stored_word of cpu lock m f o.stores)
 setup_row_on m p f c Queued =
-    let o = entry_row m.setup.mode p (queued_at m p) in applied_setup m (stored_queued m p o.stores) p f o.leads o.counts (part-stored_queued of cpu lock m p o.stores)
+    let o = entry_row m.setup.mode p (queued_at m p) in
+    applied_setup m (stored_queued m p o.stores) p f o.leads o.counts
+    (part-stored_queued of cpu lock m p o.stores)
 setup_row_on m p f c (FlagOf n) =
-    let o = flag_row c f (node_at m n).flag in applied_setup m (stored_flag m n o.stores) p f o.leads o.counts (part-stored_flag of cpu lock m n o.stores)
+    let o = flag_row c f (node_at m n).flag in
+    applied_setup m (stored_flag m n o.stores) p f o.leads o.counts
+    (part-stored_flag of cpu lock m n o.stores)
 setup_row_on m p f c (NextOf n) =
-    let o = next_row m.setup.mode m.setup.spins c f (node_at m n).next in applied_setup m (stored_next m n o.stores) p f o.leads o.counts (part-stored_next of cpu lock m n o.stores)
+    let o = next_row m.setup.mode m.setup.spins c f (node_at m n).next in
+    applied_setup m (stored_next m n o.stores) p f o.leads o.counts
+    (part-stored_next of cpu lock m n o.stores)
 setup_row_on m p f c RwWord =
-    let o = rw_row m.setup.mode c f (rw_at m f.lock.index) in applied_setup m (stored_rw m f.lock.index o.stores) p f o.leads o.counts (part-stored_rw of cpu lock m f.lock.index o.stores)
+    let o = rw_row m.setup.mode c f (rw_at m f.lock.index) in
+    applied_setup m (stored_rw m f.lock.index o.stores) p f o.leads o.counts
+    (part-stored_rw of cpu lock m f.lock.index o.stores)
 setup_row_on m p f c ChoiceWord =
-    let o = promotion_row c f (word_at m f.lock) in applied_setup m (stored_word m f o.stores) p f o.leads o.counts (part-stored_word of cpu lock m f o.stores)
+    let o = promotion_row c f (word_at m f.lock) in
+    applied_setup m (stored_word m f o.stores) p f o.leads o.counts
+    (part-stored_word of cpu lock m f o.stores)
 setup_row_on m p f c (ChoiceFlag n) =
-    let o = handover_row c f (node_at m n).flag in applied_setup m (stored_flag m n o.stores) p f o.leads o.counts (part-stored_flag of cpu lock m n o.stores)
+    let o = handover_row c f (node_at m n).flag in
+    applied_setup m (stored_flag m n o.stores) p f o.leads o.counts
+    (part-stored_flag of cpu lock m n o.stores)
 setup_row_on m p f c (ChoiceNext n) =
-    let o = search_row (sight_at m p f) c f (node_at m n).next in applied_setup m (stored_next m n o.stores) p f o.leads o.counts (part-stored_next of cpu lock m n o.stores)
+    let o = search_row (sight_at m p f) c f (node_at m n).next in
+    applied_setup m (stored_next m n o.stores) p f o.leads o.counts
+    (part-stored_next of cpu lock m n o.stores)
 setup_row_on m p f c (SecondTailOf n) =
-    let o = second_row c f (node_at m n).second_tail in applied_setup m (stored_second m n o.stores) p f o.leads o.counts (part-stored_second of cpu lock m n o.stores)
+    let o = second_row c f (node_at m n).second_tail in
+    applied_setup m (stored_second m n o.stores) p f o.leads o.counts
+    (part-stored_second of cpu lock m n o.stores)
 setup_row_on m p f c (RunsOf n) =
-    let o = runs_row (sight_at m p f) c f (node_at m n).runs in applied_setup m (stored_runs m n o.stores) p f o.leads o.counts (part-stored_runs of cpu lock m n o.stores)
+    let o = runs_row (sight_at m p f) c f (node_at m n).runs in
+    applied_setup m (stored_runs m n o.stores) p f o.leads o.counts
+    (part-stored_runs of cpu lock m n o.stores)
 setup_row_on m p f c PvWord =
-    let o = pv_row m.setup.spins c f (word_at m f.lock) in applied_setup m (stored_word m f o.stores) p f o.leads o.counts (part-stored_word of cpu lock m f o.stores)
+    let o = pv_row m.setup.spins c f (word_at m f.lock) in
+    applied_setup m (stored_word m f o.stores) p f o.leads o.counts
+    (part-stored_word of cpu lock m f o.stores)
 setup_row_on m p f c (PvFlag n) =
-    let o = pv_flag_row c f (node_at m n).flag in applied_setup m (stored_flag m n o.stores) p f o.leads o.counts (part-stored_flag of cpu lock m n o.stores)
+    let o = pv_flag_row c f (node_at m n).flag in
+    applied_setup m (stored_flag m n o.stores) p f o.leads o.counts
+    (part-stored_flag of cpu lock m n o.stores)
 setup_row_on m p f c (PvNext n) =
-    let o = pv_next_row c f (node_at m n).next in applied_setup m (stored_next m n o.stores) p f o.leads o.counts (part-stored_next of cpu lock m n o.stores)
+    let o = pv_next_row c f (node_at m n).next in
+    applied_setup m (stored_next m n o.stores) p f o.leads o.counts
+    (part-stored_next of cpu lock m n o.stores)
 setup_row_on m p f c (StateOf n) =
-    let o = state_row m.setup.spins c f (node_at m n).state in applied_setup m (stored_state m n o.stores) p f o.leads o.counts (part-stored_state of cpu lock m n o.stores)
+    let o = state_row m.setup.spins c f (node_at m n).state in
+    applied_setup m (stored_state m n o.stores) p f o.leads o.counts
+    (part-stored_state of cpu lock m n o.stores)
 setup_row_on m p f c HashEntry =
-    let o = hash_row c f (entry_at m f.lock) in applied_setup m (stored_entry m f.lock o.stores) p f o.leads o.counts (part-stored_entry of hash m f.lock o.stores)
+    let o = hash_row c f (entry_at m f.lock) in
+    applied_setup m (stored_entry m f.lock o.stores) p f o.leads o.counts
+    (part-stored_entry of hash m f.lock o.stores)
 setup_row_on m p f c Halted =
-    let o = halt_row c f (halted_at m p) in applied_setup m (stored_halted m p o.stores) p f o.leads o.counts (part-stored_halted of cpu lock m p o.stores)
+    let o = halt_row c f (halted_at m p) in
+    applied_setup m (stored_halted m p o.stores) p f o.leads o.counts
+    (part-stored_halted of cpu lock m p o.stores)
 setup_row_on m p f c (KickOf q) =
-    let o = kick_row c f (kicked_at m q) in applied_setup m (stored_kicked m q o.stores) p f o.leads o.counts (part-stored_kicked of cpu lock m q o.stores)
+    let o = kick_row c f (kicked_at m q) in
+    applied_setup m (stored_kicked m q o.stores) p f o.leads o.counts
+    (part-stored_kicked of cpu lock m q o.stores)
 
 setup_row_at : (m : Machine) (p : ℕ) (f : Frame) (o : Option Pc) → of (row_at m p f o).0 ≡ of m
 setup_row_at m p f None = refl

@@ -1,264 +1,55 @@
 -- A machine as a world after each write.
-use Rattle.std.proofs.Common.{◌≡◌, ◌≢◌, ℕ, Option, Some, None, Bool, true, false, List, [], ◌∷◌, ◌++◌, inl, inr, arith, ap, ◌<◌, ◌+◌, ◌-◌, refl, sym, ◌∙◌, subst, slice_get, length, get_or, set, take}
+use Rattle.std.proofs.Common.{◌≡◌, ◌≢◌, ℕ, Option, Some, None, Bool, true, false, List, [], ◌∷◌}
+use Rattle.std.proofs.Common.{inl, inr, arith, ap, ◌<◌, ◌-◌, refl, sym, ◌∙◌, subst, length, get_or}
+use Rattle.std.proofs.Common.{set}
 use Rattle.std.specs.Prelude.{if◌then◌else◌, ◌==◌, slice_index_or}
-use Rattle.std.proofs.lemmas.Bool.{cases_eq, cases_lt, cases_order, eq-eqb, ne_eqb}
-use Rattle.std.proofs.lemmas.Option.{slice_get_past}
-use Rattle.lk_machine.specs.declared.setup.Setup.{Setup}
+use Rattle.std.proofs.lemmas.Bool.{cases_eq, cases_lt, eq-eqb, ne_eqb}
 use Rattle.std.proofs.lemmas.List.{get_or-set_same, get_or-set_other, set_past}
-use Rattle.lk_abs.specs.Names.{same_waiter, same_lock}
+use Rattle.lk_abs.specs.Names.{same_lock}
 use Rattle.lk_abs.specs.declared.names.Kind.TheVariants.{Spin}
 use Rattle.lk_abs.specs.declared.names.Waiter.{Waiter}
 use Rattle.lk_abs.specs.declared.names.LockName.{LockName}
 use Rattle.lk_word.specs.declared.spin_word.NodeName.{NodeName}
 use Rattle.lk_word.specs.declared.spin_word.Fields.{Fields}
+use Rattle.lk_machine.specs.declared.setup.Setup.{Setup}
 use Rattle.lk_machine.specs.declared.parts.Frame.{Frame}
 use Rattle.lk_machine.specs.declared.parts.Node.{Node}
 use Rattle.lk_machine.specs.declared.parts.Counts.{Counts}
-use Rattle.lk_machine.specs.Machine.{Machine, CpuState, LockState, rest_lock, cpu_at, lock_at, word_at, rw_at, node_at, frame_at, queued_at, entry_at, halted_at, kicked_at, depth_at, top_of, set_cpu, set_lock, set_counts, set_word, set_node, set_top, set_queued, set_preempted, set_halted, set_kicked, set_entry, without_entry, pop, push, rest_node, HasTop, HasNode}
-use Rattle.lk_law.specs.World.{World, put_word, put_node, put_frame, put_queued, put_entry, put_halted, put_kicked}
+use Rattle.lk_machine.specs.Machine.{Machine, CpuState, LockState, rest_lock, cpu_at, lock_at}
+use Rattle.lk_machine.specs.Machine.{word_at, rw_at, node_at, frame_at, queued_at, entry_at}
+use Rattle.lk_machine.specs.Machine.{halted_at, kicked_at, set_cpu, set_lock, set_counts, set_word}
+use Rattle.lk_machine.specs.Machine.{set_node, set_queued, set_halted, set_kicked, set_entry}
+use Rattle.lk_machine.specs.Machine.{without_entry, rest_node, HasNode}
+use Rattle.lk_law.specs.Steps.{put_word, put_node, put_queued, put_entry, put_halted, put_kicked}
 use Rattle.lk_law.specs.Snapshot.{same_node}
-use Rattle.lk_law.specs.Sound.{world, held_at, held_of}
-use Rattle.lk_law.proofs.Cases.{waiter_cases, node_cases}
-use Rattle.lk_law.proofs.Sames.{same_waiter-self}
-use Rattle.lk_law.proofs.Puts.{same_waiter-else, same_node-self, same_node-else}
-use Rattle.lk_core.proofs.Lists.{get-set_same, get-set_other, get-take_below, get-take_end, get-push_end, get-push_other}
+use Rattle.lk_law.specs.Sound.{world, held_at}
+use Rattle.lk_law.proofs.common.Cases.{node_cases}
+use Rattle.lk_law.proofs.common.Puts.{same_node-self, same_node-else}
 use Rattle.lk_core.proofs.Entries.{Entry, entered_now, removed_now}
-use Rattle.lk_core.proofs.Access.{cpu_same, cpu_other, cpu_part, frame_changed, word_set_word}
+use Rattle.lk_core.proofs.Access.{cpu_same, cpu_other, word_set_word}
+use Rattle.lk_core.proofs.Seated.{alike, entry-set_cpu, frame-set_cpu, halted-set_cpu}
+use Rattle.lk_core.proofs.Seated.{held-set_counts, held-set_cpu, held-set_lock, kicked-set_cpu}
+use Rattle.lk_core.proofs.Seated.{kind-set_cpu, mode-set_cpu, node-set_cpu, queued-set_cpu}
+use Rattle.lk_core.proofs.Seated.{rw-set_cpu, sockets-set_cpu, threshold-set_cpu, turns-set_cpu}
+use Rattle.lk_core.proofs.Seated.{word-set_cpu}
 
--- two worlds agree everywhere
-pub record Alike (a b : World) : Type 0 where
-  pub mode : a.mode ≡ b.mode
-  pub turns : a.turns ≡ b.turns
-  pub threshold : a.threshold ≡ b.threshold
-  pub sockets : a.sockets ≡ b.sockets
-  pub word : (l : LockName) → a.word l ≡ b.word l
-  pub node : (n : NodeName) → a.node n ≡ b.node n
-  pub frame : (u : Waiter) → a.frame u ≡ b.frame u
-  pub held : (u : Waiter) (l : LockName) → a.held u l ≡ b.held u l
-  pub queued : (p : ℕ) → a.queued p ≡ b.queued p
-  pub rw : (i : ℕ) → a.rw i ≡ b.rw i
-  pub kind : (i : ℕ) → a.kind i ≡ b.kind i
-  pub entry : (l : LockName) → a.entry l ≡ b.entry l
-  pub halted : (p : ℕ) → a.halted p ≡ b.halted p
-  pub kicked : (p : ℕ) → a.kicked p ≡ b.kicked p
-
-pub alike : (a b : World) → Alike a b → a ≡ b
-alike a b e =
-    (λ i. record {
-      mode = e.mode i;
-      turns = e.turns i;
-      threshold = e.threshold i;
-      sockets = e.sockets i;
-      word = λ l. e.word l i;
-      node = λ n. e.node n i;
-      frame = λ u. e.frame u i;
-      held = λ u l. e.held u l i;
-      queued = λ p. e.queued p i;
-      rw = λ j. e.rw j i;
-      kind = λ j. e.kind j i;
-      entry = λ l. e.entry l i;
-      halted = λ p. e.halted p i;
-      kicked = λ p. e.kicked p i;
-    })
-
--- the world of a machine with another frame of w, which holds locks as its program does
-abbrev pub seated : Machine → Waiter → Option Frame → World
-seated m w o = record (put_frame (world m) w o) { held = λ u l. if same_waiter u w then held_at m w l o else held_of m u l }
-
--- what a frame holds depends on the setup alone
-held-set_cpu : (m : Machine) (p : ℕ) (c : CpuState) (u : Waiter) (l : LockName) (o : Option Frame) → held_at (set_cpu m p c) u l o ≡ held_at m u l o
-unfolding set_cpu
-held-set_cpu m p c u l None = refl
-held-set_cpu m p c u l (Some d) = refl
-
-pub held-set_lock : (m : Machine) (x : Fields) (k : LockName) (u : Waiter) (l : LockName) (o : Option Frame) → held_at (set_word m k x) u l o ≡ held_at m u l o
-unfolding set_word set_lock
-held-set_lock m x k u l None = refl
-held-set_lock m x k u l (Some d) = refl
-
-held-set_counts : (m : Machine) (x : Counts) (u : Waiter) (l : LockName) (o : Option Frame) → held_at (set_counts m x) u l o ≡ held_at m u l o
-unfolding set_counts
-held-set_counts m x u l None = refl
-held-set_counts m x u l (Some d) = refl
-
-mode-set_cpu : (m : Machine) (p : ℕ) (c : CpuState) → (world (set_cpu m p c)).mode ≡ m.setup.mode
-unfolding set_cpu
-mode-set_cpu m p c = refl
-
-turns-set_cpu : (m : Machine) (p : ℕ) (c : CpuState) → (world (set_cpu m p c)).turns ≡ m.setup.spins
-unfolding set_cpu
-turns-set_cpu m p c = refl
-
-threshold-set_cpu : (m : Machine) (p : ℕ) (c : CpuState) → (world (set_cpu m p c)).threshold ≡ m.setup.threshold
-unfolding set_cpu
-threshold-set_cpu m p c = refl
-
-sockets-set_cpu : (m : Machine) (p : ℕ) (c : CpuState) → (world (set_cpu m p c)).sockets ≡ m.setup.topology.sockets.items
-unfolding set_cpu
-sockets-set_cpu m p c = refl
-
-entry-set_cpu : (m : Machine) (p : ℕ) (c : CpuState) (l : LockName) → entry_at (set_cpu m p c) l ≡ entry_at m l
-unfolding entry_at set_cpu
-entry-set_cpu m p c l = refl
-
-halted-set_cpu : (m : Machine) (p : ℕ) (c : CpuState) → c.halted ≡ (cpu_at m p).halted → (q : ℕ) → halted_at (set_cpu m p c) q ≡ halted_at m q
-unfolding halted_at
-halted-set_cpu m p c e q = cpu_part (λ (d : CpuState). d.halted) m p c e q
-
-kicked-set_cpu : (m : Machine) (p : ℕ) (c : CpuState) → c.kicked ≡ (cpu_at m p).kicked → (q : ℕ) → kicked_at (set_cpu m p c) q ≡ kicked_at m q
-unfolding kicked_at
-kicked-set_cpu m p c e q = cpu_part (λ (d : CpuState). d.kicked) m p c e q
-
-word-set_cpu : (m : Machine) (p : ℕ) (c : CpuState) (l : LockName) → word_at (set_cpu m p c) l ≡ word_at m l
-unfolding word_at lock_at set_cpu
-word-set_cpu m p c l = refl
-
-rw-set_cpu : (m : Machine) (p : ℕ) (c : CpuState) (i : ℕ) → rw_at (set_cpu m p c) i ≡ rw_at m i
-unfolding rw_at lock_at set_cpu
-rw-set_cpu m p c i = refl
-
-kind-set_cpu : (m : Machine) (p : ℕ) (c : CpuState) (i : ℕ) → (world (set_cpu m p c)).kind i ≡ (world m).kind i
-unfolding set_cpu
-kind-set_cpu m p c i = refl
-
-node-set_cpu : (m : Machine) (p : ℕ) (c : CpuState) → c.nodes ≡ (cpu_at m p).nodes → (n : NodeName) → node_at (set_cpu m p c) n ≡ node_at m n
-unfolding node_at
-node-set_cpu m p c e n = cpu_part (λ (d : CpuState). get_or d.nodes n.index rest_node) m p c (ap (λ (ns : List Node). get_or ns n.index rest_node) e) n.cpu
-
-queued-set_cpu : (m : Machine) (p : ℕ) (c : CpuState) → c.queued ≡ (cpu_at m p).queued → (q : ℕ) → queued_at (set_cpu m p c) q ≡ queued_at m q
-unfolding queued_at
-queued-set_cpu m p c e q = cpu_part (λ (d : CpuState). d.queued) m p c e q
-
-pub frame-set_cpu : (m : Machine) (p : ℕ) (c : CpuState) → c.frames ≡ (cpu_at m p).frames → (u : Waiter) → frame_at (set_cpu m p c) u ≡ frame_at m u
-unfolding frame_at
-frame-set_cpu m p c e u = cpu_part (λ (d : CpuState). slice_get d.frames u.ctx) m p c (ap (λ (fs : List Frame). slice_get fs u.ctx) e) u.cpu
-
--- a write that changes nothing that the world shows
-pub world-set_cpu : (m : Machine) (p : ℕ) (c : CpuState) → c.frames ≡ (cpu_at m p).frames → c.nodes ≡ (cpu_at m p).nodes → c.queued ≡ (cpu_at m p).queued
-    → c.halted ≡ (cpu_at m p).halted → c.kicked ≡ (cpu_at m p).kicked → world (set_cpu m p c) ≡ world m
-world-set_cpu m p c frames nodes queued halted kicked =
-    let frame = frame-set_cpu m p c frames in
-    alike (world (set_cpu m p c)) (world m) (record {
-      mode = mode-set_cpu m p c;
-      turns = turns-set_cpu m p c;
-      threshold = threshold-set_cpu m p c;
-      sockets = sockets-set_cpu m p c;
-      word = λ l. word-set_cpu m p c l;
-      node = λ n. node-set_cpu m p c nodes n;
-      frame = λ u. frame u;
-      held = λ u l. held-set_cpu m p c u l (frame_at (set_cpu m p c) u) ∙ ap (held_at m u l) (frame u);
-      queued = λ q. queued-set_cpu m p c queued q;
-      rw = λ i. rw-set_cpu m p c i;
-      kind = λ i. kind-set_cpu m p c i;
-      entry = λ l. entry-set_cpu m p c l;
-      halted = λ q. halted-set_cpu m p c halted q;
-      kicked = λ q. kicked-set_cpu m p c kicked q;
-    })
-
--- what a change of a processor's frames has to be: at one place the frame is this one, and the rest stays
-pub record Reseats (m : Machine) (w : Waiter) (o : Option Frame) (c : CpuState) : Type 0 where
-  pub range : w.cpu < length m.cpus
-  pub here : slice_get c.frames w.ctx ≡ o
-  pub others : (i : ℕ) → i ≢ w.ctx → slice_get c.frames i ≡ slice_get (cpu_at m w.cpu).frames i
-  pub nodes : c.nodes ≡ (cpu_at m w.cpu).nodes
-  pub queued : c.queued ≡ (cpu_at m w.cpu).queued
-  pub halted : c.halted ≡ (cpu_at m w.cpu).halted
-  pub kicked : c.kicked ≡ (cpu_at m w.cpu).kicked
-
-world-reseated : (m : Machine) (w : Waiter) (o : Option Frame) (c : CpuState) → Reseats m w o c → world (set_cpu m w.cpu c) ≡ seated m w o
-world-reseated m w o c r =
-    let n = set_cpu m w.cpu c in
-    let frame = frame_changed m w c o r.range r.here r.others in
-    alike (world n) (seated m w o) (record {
-      mode = mode-set_cpu m w.cpu c;
-      turns = turns-set_cpu m w.cpu c;
-      threshold = threshold-set_cpu m w.cpu c;
-      sockets = sockets-set_cpu m w.cpu c;
-      word = λ l. word-set_cpu m w.cpu c l;
-      node = λ k. node-set_cpu m w.cpu c r.nodes k;
-      frame = λ u. frame u;
-      held = λ u l. held-set_cpu m w.cpu c u l (frame_at n u) ∙ ap (held_at m u l) (frame u) ∙ split u l;
-      queued = λ q. queued-set_cpu m w.cpu c r.queued q;
-      rw = λ i. rw-set_cpu m w.cpu c i;
-      kind = λ i. kind-set_cpu m w.cpu c i;
-      entry = λ l. entry-set_cpu m w.cpu c l;
-      halted = λ q. halted-set_cpu m w.cpu c r.halted q;
-      kicked = λ q. kicked-set_cpu m w.cpu c r.kicked q;
-    })
-  where
-    split : (u : Waiter) (l : LockName) → held_at m u l (if same_waiter u w then o else frame_at m u) ≡ (if same_waiter u w then held_at m w l o else held_of m u l)
-    split u l =
-        elim (waiter_cases u w) [
-          | inl e ↦
-              let P : Waiter → Type 0 = λ v. held_at m v l (if same_waiter v w then o else frame_at m v) ≡ (if same_waiter v w then held_at m w l o else held_of m v l) in
-              subst P (sym e) (rw (same_waiter-self w) refl)
-          | inr ne ↦ rw (same_waiter-else u w ne) refl
-        ]
-
-pub world-set_top : (m : Machine) (p : ℕ) (g : Frame) → HasTop m p → world (set_top m p g) ≡ seated m (top_of m p) (Some g)
-unfolding set_top depth_at
-world-set_top m p g top =
-    world-reseated m (top_of m p) (Some g) (record (cpu_at m p) { frames = set (cpu_at m p).frames (depth_at m p - 1) g }) (record {
-      range = top.in_range;
-      here = get-set_same (cpu_at m p).frames (depth_at m p - 1) g (omega (arith, top.some));
-      others = λ i ne. get-set_other (cpu_at m p).frames (depth_at m p - 1) i g ne;
-      nodes = refl;
-      queued = refl;
-      halted = refl;
-      kicked = refl;
-    })
-
-pub world-pop : (m : Machine) (p : ℕ) → HasTop m p → world (pop m p) ≡ seated m (top_of m p) None
-unfolding pop depth_at
-world-pop m p top =
-    world-reseated m (top_of m p) None (record (cpu_at m p) { frames = take (depth_at m p - 1) (cpu_at m p).frames }) (record {
-      range = top.in_range;
-      here = get-take_end (cpu_at m p).frames (depth_at m p - 1) (depth_at m p - 1) (omega arith);
-      others = λ i ne. elim (cases_order i (depth_at m p - 1)) [
-        | inl e ↦ absurd (ne e)
-        | inr o ↦ elim o [
-          | inl low ↦ get-take_below (cpu_at m p).frames (depth_at m p - 1) i low
-          | inr high ↦ get-take_end (cpu_at m p).frames (depth_at m p - 1) i (omega arith) ∙ sym (slice_get_past (cpu_at m p).frames i (omega (arith, top.some)))
-        ]
-      ];
-      nodes = refl;
-      queued = refl;
-      halted = refl;
-      kicked = refl;
-    })
-
--- the waiter of the next context
-abbrev pub next_of : Machine → ℕ → Waiter
-next_of m p = record { cpu = p; ctx = depth_at m p }
-
-pub world-push : (m : Machine) (p : ℕ) (g : Frame) → p < length m.cpus → world (push m p g) ≡ seated m (next_of m p) (Some g)
-unfolding push depth_at
-world-push m p g lt =
-    world-reseated m (next_of m p) (Some g) (record (cpu_at m p) { frames = (cpu_at m p).frames ++ g ∷ []; handlers = (cpu_at m p).handlers + 1 }) (record {
-      range = lt;
-      here = get-push_end (cpu_at m p).frames g;
-      others = λ i ne. get-push_other (cpu_at m p).frames g i ne;
-      nodes = refl;
-      queued = refl;
-      halted = refl;
-      kicked = refl;
-    })
-
-pub world-set_preempted : (m : Machine) (p : ℕ) (b : Bool) → world (set_preempted m p b) ≡ world m
-unfolding set_preempted
-world-set_preempted m p b = world-set_cpu m p (record (cpu_at m p) { preempted = b }) refl refl refl refl refl
-
-queued_changed : (m : Machine) (p : ℕ) (c : CpuState) → p < length m.cpus → (q : ℕ) → queued_at (set_cpu m p c) q ≡ (if q == p then c.queued else queued_at m q)
+queued_changed : (m : Machine) (p : ℕ) (c : CpuState) → p < length m.cpus → (q : ℕ)
+    → queued_at (set_cpu m p c) q ≡ (if q == p then c.queued else queued_at m q)
 unfolding queued_at
 queued_changed m p c lt q =
     elim (cases_eq q p) [
       | inl e ↦
           let P : ℕ → Type 0 = λ r. (cpu_at (set_cpu m p c) r).queued ≡ (if r == p then c.queued else (cpu_at m r).queued) in
-          subst P (sym e) (ap (λ (d : CpuState). d.queued) (cpu_same m p c lt) ∙ sym (ap (λ (b : Bool). if b then c.queued else (cpu_at m p).queued) (eq-eqb p p refl)))
-      | inr ne ↦ ap (λ (d : CpuState). d.queued) (cpu_other m p q c ne) ∙ sym (ap (λ (b : Bool). if b then c.queued else (cpu_at m q).queued) (ne_eqb q p ne))
+          subst P (sym e)
+          (ap (λ (d : CpuState). d.queued) (cpu_same m p c lt)
+          ∙ sym (ap (λ (b : Bool). if b then c.queued else (cpu_at m p).queued)
+          (eq-eqb p p refl)))
+      | inr ne ↦ ap (λ (d : CpuState). d.queued) (cpu_other m p q c ne)
+          ∙ sym (ap (λ (b : Bool). if b then c.queued else (cpu_at m q).queued) (ne_eqb q p ne))
     ]
 
-pub world-set_queued : (m : Machine) (p n : ℕ) → p < length m.cpus → world (set_queued m p n) ≡ put_queued (world m) p n
+pub world-set_queued : (m : Machine) (p n : ℕ) → p < length m.cpus
+    → world (set_queued m p n) ≡ put_queued (world m) p n
 unfolding set_queued
 world-set_queued m p n lt =
     let c : CpuState = record (cpu_at m p) { queued = n } in
@@ -280,21 +71,28 @@ world-set_queued m p n lt =
       kicked = λ q. kicked-set_cpu m p c refl q;
     })
 
-halted_changed : (m : Machine) (p : ℕ) (c : CpuState) → p < length m.cpus → (q : ℕ) → halted_at (set_cpu m p c) q ≡ (if q == p then c.halted else halted_at m q)
+halted_changed : (m : Machine) (p : ℕ) (c : CpuState) → p < length m.cpus → (q : ℕ)
+    → halted_at (set_cpu m p c) q ≡ (if q == p then c.halted else halted_at m q)
 unfolding halted_at
 halted_changed m p c lt q =
     elim (cases_eq q p) [
       | inl e ↦
           let P : ℕ → Type 0 = λ r. (cpu_at (set_cpu m p c) r).halted ≡ (if r == p then c.halted else (cpu_at m r).halted) in
-          subst P (sym e) (ap (λ (d : CpuState). d.halted) (cpu_same m p c lt) ∙ sym (ap (λ (b : Bool). if b then c.halted else (cpu_at m p).halted) (eq-eqb p p refl)))
-      | inr ne ↦ ap (λ (d : CpuState). d.halted) (cpu_other m p q c ne) ∙ sym (ap (λ (b : Bool). if b then c.halted else (cpu_at m q).halted) (ne_eqb q p ne))
+          subst P (sym e)
+          (ap (λ (d : CpuState). d.halted) (cpu_same m p c lt)
+          ∙ sym (ap (λ (b : Bool). if b then c.halted else (cpu_at m p).halted)
+          (eq-eqb p p refl)))
+      | inr ne ↦ ap (λ (d : CpuState). d.halted) (cpu_other m p q c ne)
+          ∙ sym (ap (λ (b : Bool). if b then c.halted else (cpu_at m q).halted) (ne_eqb q p ne))
     ]
 
-pub frame-set_halted : (m : Machine) (p : ℕ) (b : Bool) (u : Waiter) → frame_at (set_halted m p b) u ≡ frame_at m u
+pub frame-set_halted : (m : Machine) (p : ℕ) (b : Bool) (u : Waiter)
+    → frame_at (set_halted m p b) u ≡ frame_at m u
 unfolding set_halted
 frame-set_halted m p b u = frame-set_cpu m p (record (cpu_at m p) { halted = b }) refl u
 
-pub world-set_halted : (m : Machine) (p : ℕ) (b : Bool) → p < length m.cpus → world (set_halted m p b) ≡ put_halted (world m) p b
+pub world-set_halted : (m : Machine) (p : ℕ) (b : Bool) → p < length m.cpus
+    → world (set_halted m p b) ≡ put_halted (world m) p b
 unfolding set_halted
 world-set_halted m p b lt =
     let c : CpuState = record (cpu_at m p) { halted = b } in
@@ -316,21 +114,28 @@ world-set_halted m p b lt =
       kicked = λ q. kicked-set_cpu m p c refl q;
     })
 
-kicked_changed : (m : Machine) (p : ℕ) (c : CpuState) → p < length m.cpus → (q : ℕ) → kicked_at (set_cpu m p c) q ≡ (if q == p then c.kicked else kicked_at m q)
+kicked_changed : (m : Machine) (p : ℕ) (c : CpuState) → p < length m.cpus → (q : ℕ)
+    → kicked_at (set_cpu m p c) q ≡ (if q == p then c.kicked else kicked_at m q)
 unfolding kicked_at
 kicked_changed m p c lt q =
     elim (cases_eq q p) [
       | inl e ↦
           let P : ℕ → Type 0 = λ r. (cpu_at (set_cpu m p c) r).kicked ≡ (if r == p then c.kicked else (cpu_at m r).kicked) in
-          subst P (sym e) (ap (λ (d : CpuState). d.kicked) (cpu_same m p c lt) ∙ sym (ap (λ (b : Bool). if b then c.kicked else (cpu_at m p).kicked) (eq-eqb p p refl)))
-      | inr ne ↦ ap (λ (d : CpuState). d.kicked) (cpu_other m p q c ne) ∙ sym (ap (λ (b : Bool). if b then c.kicked else (cpu_at m q).kicked) (ne_eqb q p ne))
+          subst P (sym e)
+          (ap (λ (d : CpuState). d.kicked) (cpu_same m p c lt)
+          ∙ sym (ap (λ (b : Bool). if b then c.kicked else (cpu_at m p).kicked)
+          (eq-eqb p p refl)))
+      | inr ne ↦ ap (λ (d : CpuState). d.kicked) (cpu_other m p q c ne)
+          ∙ sym (ap (λ (b : Bool). if b then c.kicked else (cpu_at m q).kicked) (ne_eqb q p ne))
     ]
 
-pub frame-set_kicked : (m : Machine) (p : ℕ) (b : Bool) (u : Waiter) → frame_at (set_kicked m p b) u ≡ frame_at m u
+pub frame-set_kicked : (m : Machine) (p : ℕ) (b : Bool) (u : Waiter)
+    → frame_at (set_kicked m p b) u ≡ frame_at m u
 unfolding set_kicked
 frame-set_kicked m p b u = frame-set_cpu m p (record (cpu_at m p) { kicked = b }) refl u
 
-pub world-set_kicked : (m : Machine) (p : ℕ) (b : Bool) → p < length m.cpus → world (set_kicked m p b) ≡ put_kicked (world m) p b
+pub world-set_kicked : (m : Machine) (p : ℕ) (b : Bool) → p < length m.cpus
+    → world (set_kicked m p b) ≡ put_kicked (world m) p b
 unfolding set_kicked
 world-set_kicked m p b lt =
     let c : CpuState = record (cpu_at m p) { kicked = b } in
@@ -356,23 +161,28 @@ world-set_kicked m p b lt =
 abbrev pub hashing : Machine → List Entry → Machine
 hashing m es = record m { hash = es }
 
-held-hashing : (m : Machine) (es : List Entry) (u : Waiter) (l : LockName) (o : Option Frame) → held_at (hashing m es) u l o ≡ held_at m u l o
+held-hashing : (m : Machine) (es : List Entry) (u : Waiter) (l : LockName) (o : Option Frame)
+    → held_at (hashing m es) u l o ≡ held_at m u l o
 held-hashing m es u l None = refl
 held-hashing m es u l (Some d) = refl
 
-pub frame-hashing : (m : Machine) (es : List Entry) (u : Waiter) → frame_at (hashing m es) u ≡ frame_at m u
+pub frame-hashing : (m : Machine) (es : List Entry) (u : Waiter)
+    → frame_at (hashing m es) u ≡ frame_at m u
 unfolding frame_at cpu_at
 frame-hashing m es u = refl
 
-node-hashing : (m : Machine) (es : List Entry) (n : NodeName) → node_at (hashing m es) n ≡ node_at m n
+node-hashing : (m : Machine) (es : List Entry) (n : NodeName)
+    → node_at (hashing m es) n ≡ node_at m n
 unfolding node_at cpu_at
 node-hashing m es n = refl
 
-queued-hashing : (m : Machine) (es : List Entry) (p : ℕ) → queued_at (hashing m es) p ≡ queued_at m p
+queued-hashing : (m : Machine) (es : List Entry) (p : ℕ)
+    → queued_at (hashing m es) p ≡ queued_at m p
 unfolding queued_at cpu_at
 queued-hashing m es p = refl
 
-word-hashing : (m : Machine) (es : List Entry) (l : LockName) → word_at (hashing m es) l ≡ word_at m l
+word-hashing : (m : Machine) (es : List Entry) (l : LockName)
+    → word_at (hashing m es) l ≡ word_at m l
 unfolding word_at lock_at
 word-hashing m es l = refl
 
@@ -380,15 +190,18 @@ rw-hashing : (m : Machine) (es : List Entry) (i : ℕ) → rw_at (hashing m es) 
 unfolding rw_at lock_at
 rw-hashing m es i = refl
 
-halted-hashing : (m : Machine) (es : List Entry) (q : ℕ) → halted_at (hashing m es) q ≡ halted_at m q
+halted-hashing : (m : Machine) (es : List Entry) (q : ℕ)
+    → halted_at (hashing m es) q ≡ halted_at m q
 unfolding halted_at cpu_at
 halted-hashing m es q = refl
 
-kicked-hashing : (m : Machine) (es : List Entry) (q : ℕ) → kicked_at (hashing m es) q ≡ kicked_at m q
+kicked-hashing : (m : Machine) (es : List Entry) (q : ℕ)
+    → kicked_at (hashing m es) q ≡ kicked_at m q
 unfolding kicked_at cpu_at
 kicked-hashing m es q = refl
 
-world-hashing : (m : Machine) (l : LockName) (x : Option NodeName) (es : List Entry) → ((k : LockName) → entry_at (hashing m es) k ≡ (if same_lock k l then x else entry_at m k))
+world-hashing : (m : Machine) (l : LockName) (x : Option NodeName) (es : List Entry)
+    → ((k : LockName) → entry_at (hashing m es) k ≡ (if same_lock k l then x else entry_at m k))
     → world (hashing m es) ≡ put_entry (world m) l x
 world-hashing m l x es entries =
     alike (world (hashing m es)) (put_entry (world m) l x) (record {
@@ -408,25 +221,31 @@ world-hashing m l x es entries =
       kicked = λ q. kicked-hashing m es q;
     })
 
-pub world-set_entry : (m : Machine) (l : LockName) (x : Option NodeName) → world (set_entry m l x) ≡ put_entry (world m) l x
+pub world-set_entry : (m : Machine) (l : LockName) (x : Option NodeName)
+    → world (set_entry m l x) ≡ put_entry (world m) l x
 unfolding set_entry entry_at
 world-set_entry m l None = world-hashing m l None (without_entry l m.hash) (λ k. removed_now k l m.hash)
 world-set_entry m l (Some n) = world-hashing m l (Some n) ((l, n) ∷ without_entry l m.hash) (λ k. entered_now k l n m.hash)
 
-pub frame-set_entry : (m : Machine) (l : LockName) (x : Option NodeName) (u : Waiter) → frame_at (set_entry m l x) u ≡ frame_at m u
+pub frame-set_entry : (m : Machine) (l : LockName) (x : Option NodeName) (u : Waiter)
+    → frame_at (set_entry m l x) u ≡ frame_at m u
 unfolding set_entry
 frame-set_entry m l None u = frame-hashing m (without_entry l m.hash) u
 frame-set_entry m l (Some n) u = frame-hashing m ((l, n) ∷ without_entry l m.hash) u
 
-node_changed : (m : Machine) (n : NodeName) (c : CpuState) (x : Node) → n.cpu < length m.cpus → n.index < length (cpu_at m n.cpu).nodes → c.nodes ≡ set (cpu_at m n.cpu).nodes n.index x
+node_changed : (m : Machine) (n : NodeName) (c : CpuState) (x : Node) → n.cpu < length m.cpus
+    → n.index < length (cpu_at m n.cpu).nodes → c.nodes ≡ set (cpu_at m n.cpu).nodes n.index x
     → (k : NodeName) → node_at (set_cpu m n.cpu c) k ≡ (if same_node k n then x else node_at m k)
 unfolding node_at
 node_changed m n c x lt within nodes k =
     elim (node_cases k n) [
       | inl e ↦
           let P : NodeName → Type 0 = λ v. node_at (set_cpu m n.cpu c) v ≡ (if same_node v n then x else node_at m v) in
-          subst P (sym e) (ap (λ (d : CpuState). get_or d.nodes n.index rest_node) (cpu_same m n.cpu c lt) ∙ ap (λ (ns : List Node). get_or ns n.index rest_node) nodes
-          ∙ get_or-set_same (cpu_at m n.cpu).nodes n.index x rest_node within ∙ sym (ap (λ (b : Bool). if b then x else node_at m n) (same_node-self n)))
+          subst P (sym e)
+          (ap (λ (d : CpuState). get_or d.nodes n.index rest_node) (cpu_same m n.cpu c lt)
+          ∙ ap (λ (ns : List Node). get_or ns n.index rest_node) nodes
+          ∙ get_or-set_same (cpu_at m n.cpu).nodes n.index x rest_node within
+          ∙ sym (ap (λ (b : Bool). if b then x else node_at m n) (same_node-self n)))
       | inr ne ↦ kept ne ∙ sym (ap (λ (b : Bool). if b then x else node_at m k) (same_node-else k n ne))
     ]
   where
@@ -434,29 +253,38 @@ node_changed m n c x lt within nodes k =
     kept ne =
         elim (cases_eq k.cpu n.cpu) [
           | inl e ↦
-              let P : ℕ → Type 0 = λ q. get_or (cpu_at (set_cpu m n.cpu c) q).nodes k.index rest_node ≡ get_or (cpu_at m q).nodes k.index rest_node in
-              subst P (sym e) (ap (λ (d : CpuState). get_or d.nodes k.index rest_node) (cpu_same m n.cpu c lt) ∙ ap (λ (ns : List Node). get_or ns k.index rest_node) nodes
+              let P : ℕ → Type 0 =
+              λ q. get_or (cpu_at (set_cpu m n.cpu c) q).nodes k.index rest_node
+              ≡ get_or (cpu_at m q).nodes k.index rest_node in
+              subst P (sym e)
+              (ap (λ (d : CpuState). get_or d.nodes k.index rest_node) (cpu_same m n.cpu c lt)
+              ∙ ap (λ (ns : List Node). get_or ns k.index rest_node) nodes
               ∙ get_or-set_other (cpu_at m n.cpu).nodes n.index k.index x rest_node (λ q. ne (λ i. record { cpu = e i; index = q i })))
           | inr z ↦ ap (λ (d : CpuState). get_or d.nodes k.index rest_node) (cpu_other m n.cpu k.cpu c z)
         ]
 
-pub frame-set_node : (m : Machine) (n : NodeName) (x : Node) (u : Waiter) → frame_at (set_node m n x) u ≡ frame_at m u
+pub frame-set_node : (m : Machine) (n : NodeName) (x : Node) (u : Waiter)
+    → frame_at (set_node m n x) u ≡ frame_at m u
 unfolding set_node
 frame-set_node m n x u = frame-set_cpu m n.cpu (record (cpu_at m n.cpu) { nodes = set (cpu_at m n.cpu).nodes n.index x }) refl u
 
-pub halted-set_node : (m : Machine) (n : NodeName) (x : Node) (q : ℕ) → halted_at (set_node m n x) q ≡ halted_at m q
+pub halted-set_node : (m : Machine) (n : NodeName) (x : Node) (q : ℕ)
+    → halted_at (set_node m n x) q ≡ halted_at m q
 unfolding set_node
 halted-set_node m n x q = halted-set_cpu m n.cpu (record (cpu_at m n.cpu) { nodes = set (cpu_at m n.cpu).nodes n.index x }) refl q
 
-pub kicked-set_node : (m : Machine) (n : NodeName) (x : Node) (q : ℕ) → kicked_at (set_node m n x) q ≡ kicked_at m q
+pub kicked-set_node : (m : Machine) (n : NodeName) (x : Node) (q : ℕ)
+    → kicked_at (set_node m n x) q ≡ kicked_at m q
 unfolding set_node
 kicked-set_node m n x q = kicked-set_cpu m n.cpu (record (cpu_at m n.cpu) { nodes = set (cpu_at m n.cpu).nodes n.index x }) refl q
 
-pub frame-set_queued : (m : Machine) (p n : ℕ) (u : Waiter) → frame_at (set_queued m p n) u ≡ frame_at m u
+pub frame-set_queued : (m : Machine) (p n : ℕ) (u : Waiter)
+    → frame_at (set_queued m p n) u ≡ frame_at m u
 unfolding set_queued
 frame-set_queued m p n u = frame-set_cpu m p (record (cpu_at m p) { queued = n }) refl u
 
-pub world-set_node : (m : Machine) (n : NodeName) (x : Node) → HasNode m n → length (cpu_at m n.cpu).nodes ≡ 4 → world (set_node m n x) ≡ put_node (world m) n x
+pub world-set_node : (m : Machine) (n : NodeName) (x : Node) → HasNode m n
+    → length (cpu_at m n.cpu).nodes ≡ 4 → world (set_node m n x) ≡ put_node (world m) n x
 unfolding set_node
 world-set_node m n x has four =
     let c : CpuState = record (cpu_at m n.cpu) { nodes = set (cpu_at m n.cpu).nodes n.index x } in
@@ -478,15 +306,18 @@ world-set_node m n x has four =
       kicked = λ q. kicked-set_cpu m n.cpu c refl q;
     })
 
-pub frame-set_word : (m : Machine) (l : LockName) (x : Fields) (u : Waiter) → frame_at (set_word m l x) u ≡ frame_at m u
+pub frame-set_word : (m : Machine) (l : LockName) (x : Fields) (u : Waiter)
+    → frame_at (set_word m l x) u ≡ frame_at m u
 unfolding frame_at cpu_at set_word set_lock
 frame-set_word m l x u = refl
 
-node-set_word : (m : Machine) (l : LockName) (x : Fields) (n : NodeName) → node_at (set_word m l x) n ≡ node_at m n
+node-set_word : (m : Machine) (l : LockName) (x : Fields) (n : NodeName)
+    → node_at (set_word m l x) n ≡ node_at m n
 unfolding node_at cpu_at set_word set_lock
 node-set_word m l x n = refl
 
-queued-set_word : (m : Machine) (l : LockName) (x : Fields) (p : ℕ) → queued_at (set_word m l x) p ≡ queued_at m p
+queued-set_word : (m : Machine) (l : LockName) (x : Fields) (p : ℕ)
+    → queued_at (set_word m l x) p ≡ queued_at m p
 unfolding queued_at cpu_at set_word set_lock
 queued-set_word m l x p = refl
 
@@ -494,35 +325,48 @@ setup-set_word : (m : Machine) (l : LockName) (x : Fields) → (set_word m l x).
 unfolding set_word set_lock
 setup-set_word m l x = refl
 
-rw-set_word : (m : Machine) (l : LockName) (x : Fields) (i : ℕ) → rw_at (set_word m l x) i ≡ rw_at m i
+rw-set_word : (m : Machine) (l : LockName) (x : Fields) (i : ℕ)
+    → rw_at (set_word m l x) i ≡ rw_at m i
 unfolding rw_at lock_at set_word set_lock
 rw-set_word m l x i =
-    let y : LockState = (if l.wait then record (get_or m.locks l.index rest_lock) { wait = x } else record (get_or m.locks l.index rest_lock) { spin = x }) in
+    let y : LockState =
+    (if l.wait then record (get_or m.locks l.index rest_lock) {
+      wait =
+          x;
+    } else record (get_or m.locks l.index rest_lock) { spin = x }) in
     elim (cases_eq i l.index) [
       | inl s ↦ elim (cases_lt l.index (length m.locks)) [
-        | inl lt ↦ ap (λ n. (get_or (set m.locks l.index y) n rest_lock).rw) s ∙ ap (λ (z : LockState). z.rw) (get_or-set_same m.locks l.index y rest_lock lt) ∙ by l.wait (get_or m.locks l.index rest_lock) ∙ ap (λ n. (get_or m.locks n rest_lock).rw) (sym s)
+        | inl lt ↦ ap (λ n. (get_or (set m.locks l.index y) n rest_lock).rw) s
+            ∙ ap (λ (z : LockState). z.rw) (get_or-set_same m.locks l.index y rest_lock lt)
+            ∙ by l.wait (get_or m.locks l.index rest_lock)
+            ∙ ap (λ n. (get_or m.locks n rest_lock).rw) (sym s)
         | inr ge ↦ ap (λ ls. (get_or ls i rest_lock).rw) (set_past m.locks l.index y ge)
       ]
       | inr ne ↦ ap (λ (z : LockState). z.rw) (get_or-set_other m.locks l.index i y rest_lock ne)
     ]
   where
-    by : (b : Bool) (z : LockState) → (if b then record z { wait = x } else record z { spin = x }).rw ≡ z.rw
+    by : (b : Bool) (z : LockState)
+        → (if b then record z { wait = x } else record z { spin = x }).rw ≡ z.rw
     by true z = refl
     by false z = refl
 
-entry-set_word : (m : Machine) (l : LockName) (x : Fields) (k : LockName) → entry_at (set_word m l x) k ≡ entry_at m k
+entry-set_word : (m : Machine) (l : LockName) (x : Fields) (k : LockName)
+    → entry_at (set_word m l x) k ≡ entry_at m k
 unfolding entry_at set_word set_lock
 entry-set_word m l x k = refl
 
-halted-set_word : (m : Machine) (l : LockName) (x : Fields) (q : ℕ) → halted_at (set_word m l x) q ≡ halted_at m q
+halted-set_word : (m : Machine) (l : LockName) (x : Fields) (q : ℕ)
+    → halted_at (set_word m l x) q ≡ halted_at m q
 unfolding halted_at cpu_at set_word set_lock
 halted-set_word m l x q = refl
 
-kicked-set_word : (m : Machine) (l : LockName) (x : Fields) (q : ℕ) → kicked_at (set_word m l x) q ≡ kicked_at m q
+kicked-set_word : (m : Machine) (l : LockName) (x : Fields) (q : ℕ)
+    → kicked_at (set_word m l x) q ≡ kicked_at m q
 unfolding kicked_at cpu_at set_word set_lock
 kicked-set_word m l x q = refl
 
-pub world-set_word : (m : Machine) (l : LockName) (x : Fields) → l.index < length m.locks → world (set_word m l x) ≡ put_word (world m) l x
+pub world-set_word : (m : Machine) (l : LockName) (x : Fields) → l.index < length m.locks
+    → world (set_word m l x) ≡ put_word (world m) l x
 world-set_word m l x lt =
     alike (world (set_word m l x)) (put_word (world m) l x) (record {
       mode = ap (λ (s : Setup). s.mode) (setup-set_word m l x);
@@ -541,19 +385,23 @@ world-set_word m l x lt =
       kicked = λ q. kicked-set_word m l x q;
     })
 
-pub frame-set_counts : (m : Machine) (x : Counts) (u : Waiter) → frame_at (set_counts m x) u ≡ frame_at m u
+pub frame-set_counts : (m : Machine) (x : Counts) (u : Waiter)
+    → frame_at (set_counts m x) u ≡ frame_at m u
 unfolding frame_at cpu_at set_counts
 frame-set_counts m x u = refl
 
-node-set_counts : (m : Machine) (x : Counts) (n : NodeName) → node_at (set_counts m x) n ≡ node_at m n
+node-set_counts : (m : Machine) (x : Counts) (n : NodeName)
+    → node_at (set_counts m x) n ≡ node_at m n
 unfolding node_at cpu_at set_counts
 node-set_counts m x n = refl
 
-queued-set_counts : (m : Machine) (x : Counts) (p : ℕ) → queued_at (set_counts m x) p ≡ queued_at m p
+queued-set_counts : (m : Machine) (x : Counts) (p : ℕ)
+    → queued_at (set_counts m x) p ≡ queued_at m p
 unfolding queued_at cpu_at set_counts
 queued-set_counts m x p = refl
 
-word-set_counts : (m : Machine) (x : Counts) (l : LockName) → word_at (set_counts m x) l ≡ word_at m l
+word-set_counts : (m : Machine) (x : Counts) (l : LockName)
+    → word_at (set_counts m x) l ≡ word_at m l
 unfolding word_at lock_at set_counts
 word-set_counts m x l = refl
 
@@ -565,15 +413,18 @@ rw-set_counts : (m : Machine) (x : Counts) (i : ℕ) → rw_at (set_counts m x) 
 unfolding rw_at lock_at set_counts
 rw-set_counts m x i = refl
 
-entry-set_counts : (m : Machine) (x : Counts) (k : LockName) → entry_at (set_counts m x) k ≡ entry_at m k
+entry-set_counts : (m : Machine) (x : Counts) (k : LockName)
+    → entry_at (set_counts m x) k ≡ entry_at m k
 unfolding entry_at set_counts
 entry-set_counts m x k = refl
 
-halted-set_counts : (m : Machine) (x : Counts) (q : ℕ) → halted_at (set_counts m x) q ≡ halted_at m q
+halted-set_counts : (m : Machine) (x : Counts) (q : ℕ)
+    → halted_at (set_counts m x) q ≡ halted_at m q
 unfolding halted_at cpu_at set_counts
 halted-set_counts m x q = refl
 
-kicked-set_counts : (m : Machine) (x : Counts) (q : ℕ) → kicked_at (set_counts m x) q ≡ kicked_at m q
+kicked-set_counts : (m : Machine) (x : Counts) (q : ℕ)
+    → kicked_at (set_counts m x) q ≡ kicked_at m q
 unfolding kicked_at cpu_at set_counts
 kicked-set_counts m x q = refl
 

@@ -3,13 +3,9 @@
 ghost use Rattle.std.specs.Prelude.{◌≡◌, ◌&&◌, not, ◌<◌, ◌+◌, ◌-◌, ◌^◌, ℕ, None, Some, List, length};
 ghost use Rattle.lk_abs.specs.declared.events.Act.TheVariants as act;
 ghost use Rattle.lk_abs.specs.declared.events.Event.{Event as EventValue};
-ghost use Rattle.lk_machine.specs.Acts.{next, processor_of, halts, after_halt, woken, awake, step_halted};
+ghost use Rattle.lk_machine.specs.Acts.{next, processor_of, stands_halting, after_halt, woken, awake, step_halted};
 ghost use Rattle.lk_machine.specs.Machine.{HasTop, top_frame, halted_at};
 ghost use Rattle.lk_machine.specs.Ready.{CountsWithin};
-ghost use Rattle.lk_spin.specs.Row.{is_spin_row};
-ghost use Rattle.lk_cna.specs.Row.{is_cna_row};
-ghost use Rattle.lk_rw.specs.Row.{is_rw_row};
-ghost use Rattle.lk_pv.specs.Row.{is_pv_row, is_holder_row};
 ghost use Rattle.lk_law.specs.Sound.{IsSound};
 ghost use Rattle.lk_law.specs.MachineLaws.{ShowsLawful};
 ghost use Rattle.lk_law.specs.Kicked.{and_then};
@@ -17,13 +13,14 @@ ghost use Rattle.lk_core.specs.Idle.{IsIdle, Happens};
 
 use lk_abs::{Act, Event, Waiter, What};
 use lk_cna::cna_row;
-use lk_machine::{Frame, MAX_FRAMES, Machine, Pc};
+use lk_machine::{Family, Frame, MAX_FRAMES, Machine, Pc};
 use lk_pv::pv_row;
 use lk_queue::queue_row;
 use lk_rw::rw_row;
 use lk_spin::spin_row;
 
-/// Does one act, and gives its event where it has one. It has no refusal and takes no memory: an act that is idle changes nothing.
+/// Does one act, and gives its event where it has one. It has no refusal and takes no memory: an
+/// act that is idle changes nothing.
 #[inline]
 pub fn act(machine: &mut Machine, act: Act) -> Option<Event>
     requires range { processor_of act < length machine.old.cpus }
@@ -37,10 +34,13 @@ pub fn act(machine: &mut Machine, act: Act) -> Option<Event>
     ensures idle { IsIdle machine.old act → (machine.new ≡ machine.old) × (result ≡ None) }
     ensures busy { ¬ IsIdle machine.old act → Happens machine.old act machine.new result }
 
-    // The machine stays sound, and whatever lawful history it showed, it shows with the event, and lawful.
+    // The machine stays sound, and whatever lawful history it showed, it shows with the event, and
+    // lawful.
     ensures sound { IsSound machine.new }
-    ensures keeps { (es : List EventValue) → ShowsLawful machine.old es → ShowsLawful machine.new (and_then es result) }
-    ensures counted { (n : ℕ) → CountsWithin n machine.old.counts → CountsWithin (n + 1) machine.new.counts }
+    ensures keeps { (es : List EventValue) → ShowsLawful machine.old es
+        → ShowsLawful machine.new (and_then es result) }
+    ensures counted { (n : ℕ) → CountsWithin n machine.old.counts
+        → CountsWithin (n + 1) machine.new.counts }
     ensures setup { machine.new.setup ≡ machine.old.setup }
 {
     match act {
@@ -58,7 +58,8 @@ pub fn act(machine: &mut Machine, act: Act) -> Option<Event>
     }
 }
 
-// The row of the top frame, or the end of a halt. A processor that is preempted stands still, and a frame that is finished has no row.
+// The row of the top frame, or the end of a halt. A processor that is preempted stands still, and a
+// frame that is finished has no row.
 #[inline]
 fn step(machine: &mut Machine, cpu: u32) -> Option<Event>
     requires range { cpu < length machine.old.cpus }
@@ -73,125 +74,20 @@ fn step(machine: &mut Machine, cpu: u32) -> Option<Event>
     if machine.halted(cpu) {
         return wake(machine, cpu);
     }
-    match machine.place(cpu) {
-        None => None,
-        Some(place) if needs_no_queue(place) => spin_row(machine, cpu),
-        Some(place) if chooses_next(place) => cna_row(machine, cpu),
-        Some(place) if shares(place) => rw_row(machine, cpu),
-        Some(place) if may_halt(place) => pv_row(machine, cpu),
-        Some(_) => queue_row(machine, cpu),
+    let place = machine.place(cpu)?;
+    match place.family() {
+        Family::Spin => spin_row(machine, cpu, place),
+        Family::Queue => queue_row(machine, cpu, place),
+        Family::Cna => cna_row(machine, cpu, place),
+        Family::Pv => pv_row(machine, cpu, place),
+        Family::Rw => rw_row(machine, cpu, place),
     }
-}
-
-// Whether a row is one on the word alone.
-#[inline]
-fn needs_no_queue(place: Pc) -> bool
-    ensures { result ≡ is_spin_row (Some place) }
-{
-    matches!(
-        place,
-        Pc::F1
-            | Pc::T1
-            | Pc::T2
-            | Pc::U1
-            | Pc::V1
-            | Pc::V2
-            | Pc::P0
-            | Pc::P1
-            | Pc::P2
-            | Pc::P3
-            | Pc::P4
-    )
-}
-
-// Whether a row is one of the choice of the next.
-#[inline]
-fn chooses_next(place: Pc) -> bool
-    ensures { result ≡ is_cna_row (Some place) }
-{
-    matches!(
-        place,
-        Pc::C1 | Pc::C2 | Pc::C3 | Pc::C4 | Pc::C5 | Pc::C6 | Pc::C7 | Pc::C8 | Pc::C9 | Pc::C10
-    )
-}
-
-// Whether a row is one of a reader or a writer.
-#[inline]
-fn shares(place: Pc) -> bool
-    ensures { result ≡ is_rw_row (Some place) }
-{
-    matches!(
-        place,
-        Pc::R1
-            | Pc::R2
-            | Pc::R3
-            | Pc::R4
-            | Pc::R5
-            | Pc::Wr1
-            | Pc::Wr2
-            | Pc::Wr3
-            | Pc::Wr4
-            | Pc::Wr5
-            | Pc::Wr6
-            | Pc::Y1
-            | Pc::Y2
-            | Pc::Y3
-            | Pc::Y4
-            | Pc::Y5
-            | Pc::Z1
-            | Pc::Z2
-    )
-}
-
-// Whether a row is one of the lock that halts processors.
-#[inline]
-fn may_halt(place: Pc) -> bool
-    ensures { result ≡ is_pv_row (Some place) }
-{
-    if looks_after(place) {
-        return true;
-    }
-    matches!(
-        place,
-        Pc::H1
-            | Pc::H2
-            | Pc::W1
-            | Pc::W2
-            | Pc::W3
-            | Pc::W4
-            | Pc::W5
-            | Pc::W6
-            | Pc::W7
-            | Pc::E1
-            | Pc::E2
-            | Pc::E3
-            | Pc::E4
-            | Pc::E5
-            | Pc::E6
-            | Pc::E7
-            | Pc::E8
-            | Pc::E9
-            | Pc::E10
-            | Pc::E11
-            | Pc::E12
-    )
-}
-
-// Whether a row is one of its holder.
-#[inline]
-fn looks_after(place: Pc) -> bool
-    ensures { result ≡ is_holder_row (Some place) }
-{
-    matches!(
-        place,
-        Pc::E13 | Pc::E14 | Pc::E15 | Pc::K1 | Pc::K2 | Pc::K3 | Pc::U2 | Pc::U3 | Pc::U4 | Pc::U5
-    )
 }
 
 // Whether a place is a row at which a processor halts.
 #[inline]
 fn stands_halting(place: Option<Pc>) -> bool
-    ensures { result ≡ halts place }
+    ensures { result ≡ stands_halting place }
 {
     matches!(place, Some(Pc::W6 | Pc::E12))
 }
@@ -211,7 +107,8 @@ fn behind_halt(place: Option<Pc>) -> Option<Pc>
 // Whether a processor is between the last test before a halt and the halt.
 fn is_about_to_halt(machine: &Machine, cpu: u32) -> bool
     requires { HasTop machine.now cpu }
-    ensures { result ≡ (halts (top_frame machine.now cpu).place && not (halted_at machine.now cpu)) }
+    ensures { result
+        ≡ (stands_halting (top_frame machine.now cpu).place && not (halted_at machine.now cpu)) }
 {
     stands_halting(machine.place(cpu)) && !machine.halted(cpu)
 }
@@ -244,6 +141,7 @@ fn end_any_halt(machine: &mut Machine, cpu: u32)
 }
 
 // A kick that is remembered ends the halt of a processor. It is remembered no more.
+#[inline(never)]
 #[tactic(auto, using(lk_machine::proofs::Kept::kept))]
 fn wake(machine: &mut Machine, cpu: u32) -> Option<Event>
     requires { HasTop machine.old cpu }
@@ -266,6 +164,7 @@ fn wake(machine: &mut Machine, cpu: u32) -> Option<Event>
 }
 
 // A halt ends without a kick; a kick that is remembered stays.
+#[inline(never)]
 fn nudge(machine: &mut Machine, cpu: u32) -> Option<Event>
     requires range { cpu < length machine.old.cpus }
     requires sound { IsSound machine.old }
@@ -286,8 +185,9 @@ fn nudge(machine: &mut Machine, cpu: u32) -> Option<Event>
     })
 }
 
-// The next handler comes on top, where there is one left and the processor has room for a frame; a halt ends. Between the last test before
-// a halt and the halt interrupts are off.
+// The next handler comes on top, where there is one left and the processor has room for a frame; a
+// halt ends. Between the last test before a halt and the halt interrupts are off.
+#[inline(never)]
 fn interrupt(machine: &mut Machine, cpu: u32) -> Option<Event>
     requires range { cpu < length machine.old.cpus }
     requires sound { IsSound machine.old }
