@@ -1,13 +1,14 @@
 -- What an accepted line of the header changes.
-use Rattle.std.proofs.Common.{◌≡◌, ◌≤◌, ◌-◌, ◌+◌, ◌==◌, ◌&&◌, ℕ, Bool, true, false, List, [], ◌∷◌, ◌++◌, Result, Ok, Err, length, refl, sym, subst, arith, nat_le, add-zero, length-append, if◌then◌else◌}
+use Rattle.std.proofs.Common.{◌≡◌, ◌≤◌, ◌<◌, ◌+◌, ◌==◌, ◌&&◌, ℕ, Bool, true, false, List, [], ◌∷◌, ◌++◌, Result, Ok, Err, length, refl, sym, subst, arith, nat_le, nat_lt, add-zero, length-append, if◌then◌else◌}
 use Rattle.std.proofs.lemmas.Bool.Decides.{nat_tests}
 use Rattle.lk_abs.specs.declared.names.Kind.{Kind}
 use Rattle.lk_abs.specs.declared.names.Mode.{Mode}
 use Rattle.lk_machine.specs.declared.setup.Op.{Op}
 use Rattle.lk_machine.specs.declared.setup.Setup.{Setup}
+use Rattle.lk_forms.specs.declared.limits.TheConstants.{MAX_CPUS, MAX_HANDLERS, MAX_LOCKS, MAX_SOCKET, MAX_TURNS}
 use Rattle.lk_forms.specs.Words.{number_of}
 use Rattle.lk_forms.specs.Operations.{and_then, or_fault, ops_of}
-use Rattle.lk_forms.specs.Grammar.{one_word, two_words, no_words, in_range, number_in, numbers_from, cpus_of, cpu_word, with_cpus, with_sockets, with_lock, with_program, with_handler, has_program, handlers_of, mode_word, kind_word, next_lock, mode_line, cpus_line, sockets_line, threshold_line, spins_line, lock_line, program_line, handler_line, irq_line, header_line}
+use Rattle.lk_forms.specs.Grammar.{one_word, two_words, no_words, in_range, number_in, numbers_from, cpus_of, cpu_word, with_cpus, with_sockets, with_lock, with_program, with_handler, has_program, given_handlers, mode_word, kind_word, next_lock, mode_line, cpus_line, sockets_line, threshold_line, spins_line, lock_line, program_line, handler_line, irq_line, header_line}
 use Rattle.lk_forms.specs.declared.answers.Fault.TheVariants.{WordCount, BadNumber, OutOfRange, Repeated}
 use Rattle.lk_forms.specs.declared.answers.Which.TheVariants.{Handlers}
 use Rattle.lk_forms.specs.declared.answers.LineRefusal.{LineRefusal}
@@ -18,13 +19,13 @@ use Rattle.lk_forms.specs.declared.keyword.Keyword.TheVariants as keyword
 -- what one line may make of a setup
 pub data Changes (s : Setup) : Setup → Type 0 where
   to_mode : (m : Mode) → Changes s (record s { mode = m })
-  to_cpus : (n : ℕ) → 1 ≤ n → n ≤ 64 → Changes s (with_cpus s n)
+  to_cpus : (n : ℕ) → 1 ≤ n → n ≤ MAX_CPUS → Changes s (with_cpus s n)
   to_sockets : (ns : List ℕ) → length ns ≡ cpus_of s → Changes s (with_sockets s ns)
-  to_threshold : (t : ℕ) → t ≤ 65535 → Changes s (record s { threshold = t })
-  to_spins : (n : ℕ) → 1 ≤ n → n ≤ 65535 → Changes s (record s { spins = n })
-  one_lock : (k : Kind) → length s.locks.items ≤ 31 → Changes s (with_lock s k)
-  one_program : (p : ℕ) (words : List (List ℕ)) (ops : List Op) → p ≤ cpus_of s - 1 → ops_of s.locks.items words ≡ Ok ops → Changes s (with_program s p ops)
-  one_handler : (p : ℕ) (words : List (List ℕ)) (ops : List Op) → p ≤ cpus_of s - 1 → length (handlers_of s p).items ≤ 15 → ops_of s.locks.items words ≡ Ok ops → Changes s (with_handler s p ops)
+  to_threshold : (t : ℕ) → t ≤ MAX_TURNS → Changes s (record s { threshold = t })
+  to_spins : (n : ℕ) → 1 ≤ n → n ≤ MAX_TURNS → Changes s (record s { spins = n })
+  one_lock : (k : Kind) → length s.locks.items < MAX_LOCKS → Changes s (with_lock s k)
+  one_program : (p : ℕ) (words : List (List ℕ)) (ops : List Op) → p < cpus_of s → ops_of s.locks.items words ≡ Ok ops → Changes s (with_program s p ops)
+  one_handler : (p : ℕ) (words : List (List ℕ)) (ops : List Op) → p < cpus_of s → length (given_handlers s p).items < MAX_HANDLERS → ops_of s.locks.items words ≡ Ok ops → Changes s (with_handler s p ops)
   nothing : Changes s s
 
 -- what passed before a value
@@ -51,6 +52,13 @@ number_in-ok low high word n is =
     let same : read.0 ≡ n = cc (within.1) in
     rw (← same) (grind (arith, nat_tests, within.0))
 
+pub cpu_word-ok : (cpus : ℕ) (word : List ℕ) (p : ℕ) → cpu_word cpus word ≡ Ok p → p < cpus
+cpu_word-ok cpus word p is =
+    let read = and_then-ok (or_fault BadNumber (number_of word)) (λ n. if nat_lt n cpus then Ok n else Err (Bad OutOfRange)) p is in
+    let below = if-ok (nat_lt read.0 cpus) (Ok read.0) (Bad OutOfRange) p read.2 in
+    let same : read.0 ≡ p = cc (below.1) in
+    rw (← same) (grind (arith, nat_tests, below.0))
+
 length-numbers : (low high : ℕ) (before : List ℕ) (words : List (List ℕ)) (ns : List ℕ) → numbers_from low high before words ≡ Ok ns → length ns ≡ length before + length words
 length-numbers low high before [] ns is = let same : before ≡ ns = cc in rw (← same) (sym (add-zero _))
 length-numbers low high before (word ∷ words) ns is =
@@ -68,30 +76,30 @@ mode_line-ok s args s' is =
 
 cpus_line-ok : (s : Setup) (args : List (List ℕ)) (s' : Setup) → cpus_line s args ≡ Ok s' → Changes s s'
 cpus_line-ok s args s' is =
-    let word = and_then-ok (one_word args) (λ word. and_then (number_in 1 64 word) (λ n. Ok (with_cpus s n))) s' is in
-    let n = and_then-ok (number_in 1 64 word.0) (λ n. Ok (with_cpus s n)) s' word.2 in
-    let within = number_in-ok 1 64 word.0 n.0 n.1 in
+    let word = and_then-ok (one_word args) (λ word. and_then (number_in 1 MAX_CPUS word) (λ n. Ok (with_cpus s n))) s' is in
+    let n = and_then-ok (number_in 1 MAX_CPUS word.0) (λ n. Ok (with_cpus s n)) s' word.2 in
+    let within = number_in-ok 1 MAX_CPUS word.0 n.0 n.1 in
     changed s _ s' (to_cpus n.0 within.0 within.1) n.2
 
 sockets_line-ok : (s : Setup) (args : List (List ℕ)) (s' : Setup) → sockets_line s args ≡ Ok s' → Changes s s'
 sockets_line-ok s args s' is =
-    let all = if-ok (length args == cpus_of s) (and_then (numbers_from 0 63 [] args) (λ ns. Ok (with_sockets s ns))) (Bad WordCount) s' is in
-    let ns = and_then-ok (numbers_from 0 63 [] args) (λ ns. Ok (with_sockets s ns)) s' all.1 in
-    let many = length-numbers 0 63 [] args ns.0 ns.1 in
+    let all = if-ok (length args == cpus_of s) (and_then (numbers_from 0 MAX_SOCKET [] args) (λ ns. Ok (with_sockets s ns))) (Bad WordCount) s' is in
+    let ns = and_then-ok (numbers_from 0 MAX_SOCKET [] args) (λ ns. Ok (with_sockets s ns)) s' all.1 in
+    let many = length-numbers 0 MAX_SOCKET [] args ns.0 ns.1 in
     let count : length ns.0 ≡ cpus_of s = grind (arith, nat_tests, all.0, many) in
     changed s _ s' (to_sockets ns.0 count) ns.2
 
 threshold_line-ok : (s : Setup) (args : List (List ℕ)) (s' : Setup) → threshold_line s args ≡ Ok s' → Changes s s'
 threshold_line-ok s args s' is =
-    let word = and_then-ok (one_word args) (λ word. and_then (number_in 0 65535 word) (λ t. Ok (record s { threshold = t }))) s' is in
-    let t = and_then-ok (number_in 0 65535 word.0) (λ t. Ok (record s { threshold = t })) s' word.2 in
-    changed s _ s' (to_threshold t.0 (number_in-ok 0 65535 word.0 t.0 t.1).1) t.2
+    let word = and_then-ok (one_word args) (λ word. and_then (number_in 0 MAX_TURNS word) (λ t. Ok (record s { threshold = t }))) s' is in
+    let t = and_then-ok (number_in 0 MAX_TURNS word.0) (λ t. Ok (record s { threshold = t })) s' word.2 in
+    changed s _ s' (to_threshold t.0 (number_in-ok 0 MAX_TURNS word.0 t.0 t.1).1) t.2
 
 spins_line-ok : (s : Setup) (args : List (List ℕ)) (s' : Setup) → spins_line s args ≡ Ok s' → Changes s s'
 spins_line-ok s args s' is =
-    let word = and_then-ok (one_word args) (λ word. and_then (number_in 1 65535 word) (λ n. Ok (record s { spins = n }))) s' is in
-    let n = and_then-ok (number_in 1 65535 word.0) (λ n. Ok (record s { spins = n })) s' word.2 in
-    let within = number_in-ok 1 65535 word.0 n.0 n.1 in
+    let word = and_then-ok (one_word args) (λ word. and_then (number_in 1 MAX_TURNS word) (λ n. Ok (record s { spins = n }))) s' is in
+    let n = and_then-ok (number_in 1 MAX_TURNS word.0) (λ n. Ok (record s { spins = n })) s' word.2 in
+    let within = number_in-ok 1 MAX_TURNS word.0 n.0 n.1 in
     changed s _ s' (to_spins n.0 within.0 within.1) n.2
 
 lock_line-ok : (s : Setup) (args : List (List ℕ)) (s' : Setup) → lock_line s args ≡ Ok s' → Changes s s'
@@ -100,8 +108,8 @@ lock_line-ok s args s' is =
     let both = and_then-ok (two_words args) (λ both. and_then (or_fault BadNumber (number_of both.0)) (λ i. and_then (next_lock locks i) (λ next. and_then (kind_word both.1) (λ k. Ok (with_lock s k))))) s' is in
     let number = and_then-ok (or_fault BadNumber (number_of both.0.0)) (λ i. and_then (next_lock locks i) (λ next. and_then (kind_word both.0.1) (λ k. Ok (with_lock s k)))) s' both.2 in
     let next = and_then-ok (next_lock locks number.0) (λ next. and_then (kind_word both.0.1) (λ k. Ok (with_lock s k))) s' number.2 in
-    let fits = if-ok ((number.0 == locks) && nat_le number.0 31) (Ok number.0) (Bad OutOfRange) next.0 next.1 in
-    let few : locks ≤ 31 = grind (arith, nat_tests, fits.0) in
+    let fits = if-ok ((number.0 == locks) && nat_lt number.0 MAX_LOCKS) (Ok number.0) (Bad OutOfRange) next.0 next.1 in
+    let few : locks < MAX_LOCKS = grind (arith, nat_tests, fits.0) in
     let kind = and_then-ok (kind_word both.0.1) (λ k. Ok (with_lock s k)) s' next.2 in
     changed s _ s' (one_lock kind.0 few) kind.2
 
@@ -111,15 +119,15 @@ program_line-ok s (cpu ∷ args) s' is =
     let p = and_then-ok (cpu_word (cpus_of s) cpu) (λ p. if has_program s p then Err (Bad Repeated) else and_then (ops_of s.locks.items args) (λ ops. Ok (with_program s p ops))) s' is in
     let first = else-ok (has_program s p.0) (Bad Repeated) (and_then (ops_of s.locks.items args) (λ ops. Ok (with_program s p.0 ops))) s' p.2 in
     let ops = and_then-ok (ops_of s.locks.items args) (λ ops. Ok (with_program s p.0 ops)) s' first.1 in
-    changed s _ s' (one_program p.0 args ops.0 (number_in-ok 0 (cpus_of s - 1) cpu p.0 p.1).1 ops.1) ops.2
+    changed s _ s' (one_program p.0 args ops.0 (cpu_word-ok (cpus_of s) cpu p.0 p.1) ops.1) ops.2
 
 handler_line-ok : (s : Setup) (cpu : List ℕ) (args : List (List ℕ)) (s' : Setup) → handler_line s cpu args ≡ Ok s' → Changes s s'
 handler_line-ok s cpu args s' is =
-    let p = and_then-ok (cpu_word (cpus_of s) cpu) (λ p. if nat_le 16 (length (handlers_of s p).items) then Err (Limit Handlers) else and_then (ops_of s.locks.items args) (λ ops. Ok (with_handler s p ops))) s' is in
-    let few = else-ok (nat_le 16 (length (handlers_of s p.0).items)) (Limit Handlers) (and_then (ops_of s.locks.items args) (λ ops. Ok (with_handler s p.0 ops))) s' p.2 in
-    let less : length (handlers_of s p.0).items ≤ 15 = grind (arith, nat_tests, few.0) in
+    let p = and_then-ok (cpu_word (cpus_of s) cpu) (λ p. if nat_le MAX_HANDLERS (length (given_handlers s p).items) then Err (Limit Handlers) else and_then (ops_of s.locks.items args) (λ ops. Ok (with_handler s p ops))) s' is in
+    let few = else-ok (nat_le MAX_HANDLERS (length (given_handlers s p.0).items)) (Limit Handlers) (and_then (ops_of s.locks.items args) (λ ops. Ok (with_handler s p.0 ops))) s' p.2 in
+    let less : length (given_handlers s p.0).items < MAX_HANDLERS = grind (arith, nat_tests, few.0) in
     let ops = and_then-ok (ops_of s.locks.items args) (λ ops. Ok (with_handler s p.0 ops)) s' few.1 in
-    changed s _ s' (one_handler p.0 args ops.0 (number_in-ok 0 (cpus_of s - 1) cpu p.0 p.1).1 less ops.1) ops.2
+    changed s _ s' (one_handler p.0 args ops.0 (cpu_word-ok (cpus_of s) cpu p.0 p.1) less ops.1) ops.2
 
 irq_line-ok : (s : Setup) (args : List (List ℕ)) (s' : Setup) → irq_line s args ≡ Ok s' → Changes s s'
 irq_line-ok s [] s' is = cc

@@ -11,30 +11,31 @@ use Rattle.lk_abs.specs.declared.names.Kind.{Kind}
 use Rattle.lk_machine.specs.Programs.{program_at, handlers_of, IsLawfulProgram, IsLawfulSetup}
 use Rattle.lk_machine.specs.declared.setup.Op.{Op}
 use Rattle.lk_machine.specs.declared.setup.Setup.{Setup}
-use Rattle.lk_forms.specs.Grammar.{Reading, has_go, reading_of, cpus_of, list_of, default_setup, handlers_of as more_of, with_more}
+use Rattle.lk_forms.specs.declared.limits.TheConstants.{MAX_HANDLERS, MAX_OPS, MAX_TURNS}
+use Rattle.lk_forms.specs.Grammar.{Reading, has_go, reading_of, list_of, default_setup, given_handlers, with_more}
 use Rattle.lk_forms.specs.Agrees.{IsRoomy}
 use Rattle.lk_forms.specs.Keywords.{rank_of, fault_of_place, fault_of_ranks}
 use Rattle.lk_forms.specs.declared.keyword.Keyword.{Keyword}
 use Rattle.lk_forms.specs.declared.keyword.Keyword.TheVariants as keyword
 use Rattle.lk_forms.specs.declared.answers.Sched.TheVariants.{Blank, Run, End}
 use Rattle.lk_forms.proofs.Changes.{Changes, to_mode, to_cpus, to_sockets, to_threshold, to_spins, one_lock, one_program, one_handler, nothing}
-use Rattle.lk_forms.proofs.Roomy.{roomy-changed, below_cpus}
+use Rattle.lk_forms.proofs.Roomy.{roomy-changed}
 use Rattle.lk_forms.proofs.Readings.{Steps, skips, begins, sets, schedules, kept}
 use Rattle.lk_forms.proofs.LawfulPrograms.{lawful_program}
 
--- a lawful program of at most 64 operations
+-- a lawful program of not too many operations
 abbrev IsGood : List Kind → ListOf Op → Type 0
-IsGood kinds program = IsLawfulProgram kinds program.items × (length program.items ≤ 64)
+IsGood kinds program = IsLawfulProgram kinds program.items × (length program.items ≤ MAX_OPS)
 
--- at most 16 such handlers
+-- not too many such handlers
 abbrev AreGood : List Kind → ListOf (ListOf Op) → Type 0
-AreGood kinds handlers = (length handlers.items ≤ 16) × All (λ h. IsGood kinds h) handlers.items
+AreGood kinds handlers = (length handlers.items ≤ MAX_HANDLERS) × All (λ h. IsGood kinds h) handlers.items
 
 -- what lines make of a setup
 record IsSaid (s : Setup) : Type 0 where
   roomy : IsRoomy s
-  threshold : s.threshold ≤ 65535
-  spins : (0 < s.spins) × (s.spins ≤ 65535)
+  threshold : s.threshold ≤ MAX_TURNS
+  spins : (0 < s.spins) × (s.spins ≤ MAX_TURNS)
   progs : All (λ program. IsGood s.locks.items program) s.progs.items
   irqs : All (λ handlers. AreGood s.locks.items handlers) s.irqs.items
 
@@ -80,7 +81,7 @@ said-changed s _ (to_cpus n some few) said = record {
   threshold = said.threshold;
   spins = said.spins;
   progs = All-replicate (λ program. IsGood s.locks.items program) n (list_of 0 []) (good_empty s.locks.items 0);
-  irqs = All-replicate (λ handlers. AreGood s.locks.items handlers) n (list_of 16 []) (are_good_empty s.locks.items 16);
+  irqs = All-replicate (λ handlers. AreGood s.locks.items handlers) n (list_of MAX_HANDLERS []) (are_good_empty s.locks.items MAX_HANDLERS);
 }
 said-changed s _ (to_sockets ns many) said = record { roomy = roomy-changed s _ (to_sockets ns many) said.roomy; threshold = said.threshold; spins = said.spins; progs = said.progs; irqs = said.irqs }
 said-changed s _ (to_threshold t within) said = record { roomy = roomy-changed s _ (to_threshold t within) said.roomy; threshold = within; spins = said.spins; progs = said.progs; irqs = said.irqs }
@@ -96,22 +97,22 @@ said-changed s _ (one_program p words ops below read) said = record {
   roomy = roomy-changed s _ (one_program p words ops below read) said.roomy;
   threshold = said.threshold;
   spins = said.spins;
-  progs = All-set (λ program. IsGood s.locks.items program) s.progs.items p (list_of 64 ops) (lawful_program s.locks.items words ops read) said.progs;
+  progs = All-set (λ program. IsGood s.locks.items program) s.progs.items p (list_of MAX_OPS ops) (lawful_program s.locks.items words ops read) said.progs;
   irqs = said.irqs;
 }
 said-changed s _ (one_handler p words ops below few read) said =
-    let inside : p < length s.irqs.items = rw said.roomy.irqs (below_cpus p (cpus_of s) below said.roomy.some) in
-    let before = All-get_or (λ handlers. AreGood s.locks.items handlers) s.irqs.items p (list_of 16 []) inside said.irqs in
-    let more : AreGood s.locks.items (with_more (more_of s p) ops) = (
-      omega (arith, length-append (more_of s p).items (list_of 64 ops ∷ []), few),
-      All-push (λ h. IsGood s.locks.items h) (more_of s p).items (list_of 64 ops) before.1 (lawful_program s.locks.items words ops read),
+    let inside : p < length s.irqs.items = rw said.roomy.irqs below in
+    let before = All-get_or (λ handlers. AreGood s.locks.items handlers) s.irqs.items p (list_of MAX_HANDLERS []) inside said.irqs in
+    let more : AreGood s.locks.items (with_more (given_handlers s p) ops) = (
+      omega (arith, length-append (given_handlers s p).items (list_of MAX_OPS ops ∷ []), few),
+      All-push (λ h. IsGood s.locks.items h) (given_handlers s p).items (list_of MAX_OPS ops) before.1 (lawful_program s.locks.items words ops read),
     ) in
     record {
       roomy = roomy-changed s _ (one_handler p words ops below few read) said.roomy;
       threshold = said.threshold;
       spins = said.spins;
       progs = said.progs;
-      irqs = All-set (λ handlers. AreGood s.locks.items handlers) s.irqs.items p (with_more (more_of s p) ops) more said.irqs;
+      irqs = All-set (λ handlers. AreGood s.locks.items handlers) s.irqs.items p (with_more (given_handlers s p) ops) more said.irqs;
     }
 said-changed s _ nothing said = said
 
@@ -119,11 +120,11 @@ said-changed s _ nothing said = said
 
 said-first : IsSaid default_setup
 said-first = record {
-  roomy = record { some = omega arith; few = omega arith; locks = omega arith; lock_room = refl; progs = refl; irqs = refl; irq_rooms = All-replicate (λ handlers. handlers.room ≡ 16) 1 (list_of 16 []) refl };
+  roomy = record { some = omega arith; few = omega arith; locks = omega arith; lock_room = refl; progs = refl; irqs = refl; irq_rooms = All-replicate (λ handlers. handlers.room ≡ MAX_HANDLERS) 1 (list_of MAX_HANDLERS []) refl };
   threshold = omega arith;
   spins = (omega arith, omega arith);
   progs = All-replicate (λ program. IsGood [] program) 1 (list_of 0 []) (good_empty [] 0);
-  irqs = All-replicate (λ handlers. AreGood [] handlers) 1 (list_of 16 []) (are_good_empty [] 16);
+  irqs = All-replicate (λ handlers. AreGood [] handlers) 1 (list_of MAX_HANDLERS []) (are_good_empty [] MAX_HANDLERS);
 }
 
 said-step : (r r' : Reading) → Steps r r' → IsSaid r.setup → IsSaid r'.setup
@@ -156,16 +157,16 @@ are_good_at kinds irqs p all = by_place (cases_lt p (length irqs))
     by_place (inl less) = All-get_or (λ handlers. AreGood kinds handlers) irqs p (list_of 0 []) less all
     by_place (inr past) = rw (get_or_past irqs p (list_of 0 []) past) (are_good_empty kinds 0)
 
-program_good : (s : Setup) → IsSaid s → (p h : ℕ) → IsLawfulProgram s.locks.items (program_at s p h) × (length (program_at s p h) ≤ 64)
+program_good : (s : Setup) → IsSaid s → (p h : ℕ) → IsLawfulProgram s.locks.items (program_at s p h) × (length (program_at s p h) ≤ MAX_OPS)
 unfolding program_at
 program_good s said p h = by_test (h == 0)
   where
     by_test : (b : Bool) → IsLawfulProgram s.locks.items (if b then (slice_index_or s.progs.items p (list_of 0 [])).items else (slice_index_or (slice_index_or s.irqs.items p (list_of 0 [])).items (h - 1) (list_of 0 [])).items)
-        × (length (if b then (slice_index_or s.progs.items p (list_of 0 [])).items else (slice_index_or (slice_index_or s.irqs.items p (list_of 0 [])).items (h - 1) (list_of 0 [])).items) ≤ 64)
+        × (length (if b then (slice_index_or s.progs.items p (list_of 0 [])).items else (slice_index_or (slice_index_or s.irqs.items p (list_of 0 [])).items (h - 1) (list_of 0 [])).items) ≤ MAX_OPS)
     by_test true = good_at s.locks.items s.progs.items p said.progs
     by_test false = good_at s.locks.items (slice_index_or s.irqs.items p (list_of 0 [])).items (h - 1) (are_good_at s.locks.items s.irqs.items p said.irqs).1
 
-handlers_few : (s : Setup) → IsSaid s → (p : ℕ) → handlers_of s p ≤ 16
+handlers_few : (s : Setup) → IsSaid s → (p : ℕ) → handlers_of s p ≤ MAX_HANDLERS
 unfolding handlers_of
 handlers_few s said p = (are_good_at s.locks.items s.irqs.items p said.irqs).0
 

@@ -6,6 +6,7 @@ use Rattle.std.proofs.lemmas.Bool.Decides.{nat_tests}
 use Rattle.std.proofs.lemmas.Option.{get_or_from_slice_get, slice_get_within}
 use Rattle.std.proofs.lemmas.List.{get_or_append_left, take-append-drop, take-append-le, take_more, length-take-le}
 use Rattle.std.proofs.Math.Nat.{eq-or-lt_of_le}
+use Rattle.lk_forms.specs.declared.limits.TheConstants.{MAX_OPS}
 use Rattle.lk_forms.proofs.NumberLemmas.{and_split}
 use Rattle.std.proofs.Math.Seq.{take-append_seam, get_or-append_seam, take-append-add}
 use Rattle.lk_abs.specs.declared.holder.Manner.{Manner}
@@ -115,9 +116,9 @@ all_pass-push kinds ops o all last n d below = by_place (cases_lt n (length ops)
         rw (is, take-append_seam ops (o ∷ []), get_or-append_seam ops o [] d) last
 
 -- an operation that is read passes its checks
-op_of-passes : (kinds : List Kind) (before : List Op) (verb : List ℕ) (args : List (List ℕ)) (o : Op) → op_of kinds before verb args ≡ Ok o → (length before ≤ 63) × Passes kinds before o
+op_of-passes : (kinds : List Kind) (before : List Op) (verb : List ℕ) (args : List (List ℕ)) (o : Op) → op_of kinds before verb args ≡ Ok o → (length before < MAX_OPS) × Passes kinds before o
 op_of-passes kinds before verb args o is =
-    let few = else-ok (nat_le 64 (length before)) (Limit Words) (and_then (or_fault UnknownWord (verb_of verb)) (λ v. and_then (lock_word args) (λ l. checked_op kinds before (record { verb = v; lock = l })))) o is in
+    let few = else-ok (nat_le MAX_OPS (length before)) (Limit Words) (and_then (or_fault UnknownWord (verb_of verb)) (λ v. and_then (lock_word args) (λ l. checked_op kinds before (record { verb = v; lock = l })))) o is in
     let v = and_then-ok (or_fault UnknownWord (verb_of verb)) (λ v. and_then (lock_word args) (λ l. checked_op kinds before (record { verb = v; lock = l }))) o few.1 in
     let l = and_then-ok (lock_word args) (λ l. checked_op kinds before (record { verb = v.0; lock = l })) o v.2 in
     let fine = unless-ok (fault_of_op kinds before (record { verb = v.0; lock = l.0 })) (Ok (record { verb = v.0; lock = l.0 })) o l.2 in
@@ -127,7 +128,7 @@ op_of-passes kinds before verb args o is =
 -- what is known of a program that is read
 record IsRead (kinds : List Kind) (ops : List Op) : Type 0 where
   all : AllPass kinds ops
-  few : length ops ≤ 64
+  few : length ops ≤ MAX_OPS
   free : same_holds (length kinds) ops [] ≡ true
 
 ops_from-read : (kinds : List Kind) (before : List Op) (words : List (List ℕ)) (ops : List Op) → ops_from kinds before words ≡ Ok ops → AllPass kinds before → length before ≤ 64 → IsRead kinds ops
@@ -137,7 +138,7 @@ ops_from-read kinds before [] ops is all few =
     subst (λ x. IsRead kinds x) same (record { all = all; few = few; free = free.0 })
 ops_from-read kinds before (verb ∷ []) ops is all few =
     let o = and_then-ok (op_of kinds before verb []) (λ o. Ok before) ops is in
-    no_lock (nat_le 64 (length before)) (or_fault UnknownWord (verb_of verb)) o.1
+    no_lock (nat_le MAX_OPS (length before)) (or_fault UnknownWord (verb_of verb)) o.1
   where
     no_lock : (b : Bool) (v : Result Verb LineRefusal) {o : Op} → (if b then Err (Limit Words) else and_then v (λ v. and_then (lock_word []) (λ l. checked_op kinds before (record { verb = v; lock = l })))) ≡ Ok o → IsRead kinds ops
     no_lock true v h = cc
@@ -319,8 +320,8 @@ ends_free kinds ops read lock = by_place (cases_lt lock (length kinds))
     by_place (inl declared) = same_holds-at (length kinds) lock ops [] read.free declared
     by_place (inr above) = unnamed ops (length kinds) (length ops) lock above (names_declared kinds ops read)
 
--- a program that is read is lawful, and has no more than 64 operations
-pub lawful_program : (kinds : List Kind) (words : List (List ℕ)) (ops : List Op) → ops_of kinds words ≡ Ok ops → IsLawfulProgram kinds ops × (length ops ≤ 64)
+-- a program that is read is lawful, and has not too many operations
+pub lawful_program : (kinds : List Kind) (words : List (List ℕ)) (ops : List Op) → ops_of kinds words ≡ Ok ops → IsLawfulProgram kinds ops × (length ops ≤ MAX_OPS)
 lawful_program kinds words ops is =
     let read = ops_of-read kinds words ops is in (
       record {

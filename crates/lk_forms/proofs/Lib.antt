@@ -1,5 +1,7 @@
+mod Examples
 pub mod WordLemmas
 pub mod NumberLemmas
+pub mod FrontLemmas
 pub mod Decimals
 pub mod WalkLemmas
 pub mod OpsLemmas
@@ -9,6 +11,8 @@ pub mod Readings
 pub mod ScheduleLemmas
 pub mod LawfulPrograms
 pub mod Lawful
+pub mod TextParts
+pub mod WhatLemmas
 pub mod TextLemmas
 pub mod TranscriptLemmas
 pub mod Places

@@ -32,7 +32,7 @@ no_digit [] i below h = absurd (omega arith)
 no_digit (d ∷ ds) zero below h = rw h refl
 no_digit (d ∷ ds) (suc i) below h = rw (no_digit ds i (omega arith) h) (and_false (is_ascii_digit d))
 
-value_of_digit : (c : ℕ) → 48 ≤ c → c ≤ 57 → digit_value c ≡ c - 48
+pub value_of_digit : (c : ℕ) → 48 ≤ c → c ≤ 57 → digit_value c ≡ c - 48
 value_of_digit c low high = grind (arith, nat_tests)
 
 pub value_more : (ds : List ℕ) (i value : ℕ) → i < length ds → 48 ≤ get_or ds i 0 → get_or ds i 0 ≤ 57 → value ≡ digits_value 10 (take i ds)

@@ -4,6 +4,7 @@ use Rattle.std.proofs.lemmas.Bool.{leb-false, le-leb}
 use Rattle.lk_abs.specs.declared.events.Act.{Act}
 use Rattle.lk_abs.specs.declared.events.Act.TheVariants as act
 use Rattle.lk_machine.specs.declared.setup.Setup.{Setup}
+use Rattle.lk_forms.specs.declared.limits.TheConstants.{MAX_ACTS}
 use Rattle.lk_forms.specs.Words.{number_of, words, is_text, is_comment}
 use Rattle.lk_forms.specs.Keywords.{keyword_of, rank_of, is_misplaced, fault_of_ranks, fault_of_place}
 use Rattle.lk_forms.specs.Operations.{and_then, or_fault, unless}
@@ -15,11 +16,11 @@ use Rattle.lk_forms.specs.declared.answers.Which.TheVariants.{Acts}
 use Rattle.lk_forms.specs.declared.answers.LineRefusal.{LineRefusal}
 use Rattle.lk_forms.specs.declared.answers.LineRefusal.TheVariants.{Bad, Limit, Memory}
 use Rattle.lk_forms.specs.declared.answers.Sched.{Sched}
-use Rattle.lk_forms.specs.declared.answers.Sched.TheVariants.{Blank, Run, End}
+use Rattle.lk_forms.specs.declared.answers.Sched.TheVariants.{Blank, Run}
 use Rattle.lk_forms.specs.declared.keyword.Keyword.{Keyword}
 use Rattle.lk_forms.specs.declared.keyword.Keyword.TheVariants as keyword
 
--- ---- before `go`
+-- before `go`
 
 -- an accepted line makes a reading of which this holds
 abbrev Makes : (Reading → Type 0) → Result Reading LineRefusal → Type 0
@@ -95,7 +96,7 @@ module _ (r : Reading) (early : has_go r ≡ false) where
       by_text true = words_head (words line)
       by_text false = tt
 
--- ---- behind `end`
+-- behind `end`
 
 -- behind `end` no line with a keyword may stand
 no_place : (k : Keyword) → (fault : Fault) × (fault_of_place 11 k ≡ Some fault)
@@ -122,7 +123,7 @@ schedule-ended cpus acts line said e = by_text (is_text line) e
     by_text true h = by_words (words line) h
     by_text false h = cc
 
--- ---- no want of memory
+-- no want of memory
 
 -- the answer is no want of memory
 abbrev NoMemory : {A : Type 0} → Result A LineRefusal → Type 0
@@ -156,21 +157,28 @@ number-no_memory low high word = then-no_memory (or_fault BadNumber (number_of w
     by_test n false = λ e. cc
 
 run-no_memory : (acts : ℕ) (what : Act) (times : ℕ) → NoMemory (run_of acts what times)
-run-no_memory acts what times = by_test (nat_le (acts + times) 100000000)
+run-no_memory acts what times = by_test (nat_le (acts + times) MAX_ACTS)
   where
     by_test : (b : Bool) → NoMemory (if b then Ok (Run what times) else Err (Limit Acts))
     by_test true = tt
     by_test false = λ e. cc
 
 module _ (cpus acts : ℕ) where
+  cpu-no_memory : (word : List ℕ) → NoMemory (cpu_word cpus word)
+  cpu-no_memory word = then-no_memory (or_fault BadNumber (number_of word)) (λ n. if nat_lt n cpus then Ok n else Err (Bad OutOfRange)) (or_fault-no_memory BadNumber (number_of word)) (λ n. by_test n (nat_lt n cpus))
+    where
+      by_test : (n : ℕ) (b : Bool) → NoMemory (if b then Ok n else Err (Bad OutOfRange))
+      by_test n true = tt
+      by_test n false = λ e. cc
+
   step-no_memory : (args : List (List ℕ)) → NoMemory (step_line cpus acts args)
   step-no_memory args = then-no_memory (two_words args) _ (two_words-no_memory args) (λ both.
-      then-no_memory (cpu_word cpus both.0) _ (number-no_memory 0 (cpus - 1) both.0) (λ p.
+      then-no_memory (cpu_word cpus both.0) _ (cpu-no_memory both.0) (λ p.
       then-no_memory (number_in 1 (2 ^ 64 - 1) both.1) _ (number-no_memory 1 (2 ^ 64 - 1) both.1) (λ n. run-no_memory acts (act.Step p) n)))
 
   act-no_memory : (what : ℕ → Act) (args : List (List ℕ)) → NoMemory (act_line what cpus acts args)
   act-no_memory what args = then-no_memory (one_word args) _ (one_word-no_memory args) (λ word.
-      then-no_memory (cpu_word cpus word) _ (number-no_memory 0 (cpus - 1) word) (λ p. run-no_memory acts (what p) 1))
+      then-no_memory (cpu_word cpus word) _ (cpu-no_memory word) (λ p. run-no_memory acts (what p) 1))
 
   args-no_memory : (k : Keyword) (args : List (List ℕ)) → NoMemory (schedule_args k cpus acts args)
   args-no_memory keyword.Step args = step-no_memory args

@@ -1,16 +1,13 @@
 -- A header keeps room for what may come.
-use Rattle.std.proofs.Common.{◌≡◌, ◌≤◌, ◌<◌, ◌-◌, ℕ, List, [], ◌∷◌, Ok, refl, sym, ◌∙◌, arith, length-append, length-set}
+use Rattle.std.proofs.Common.{◌≡◌, ℕ, List, [], ◌∷◌, Ok, refl, sym, ◌∙◌, arith, length-append, length-set}
 use Rattle.std.proofs.Math.ListN.{length-replicate}
 use Rattle.std.proofs.lemmas.List.Elements.{All-replicate, All-set, All-get_or}
 use Rattle.lk_machine.specs.declared.setup.Setup.{Setup}
-use Rattle.lk_forms.specs.Grammar.{cpus_of, list_of, handlers_of, with_more, header_line}
+use Rattle.lk_forms.specs.declared.limits.TheConstants.{MAX_HANDLERS}
+use Rattle.lk_forms.specs.Grammar.{list_of, given_handlers, with_more, header_line}
 use Rattle.lk_forms.specs.Agrees.{IsRoomy}
 use Rattle.lk_forms.specs.declared.keyword.Keyword.{Keyword}
 use Rattle.lk_forms.proofs.Changes.{Changes, to_mode, to_cpus, to_sockets, to_threshold, to_spins, one_lock, one_program, one_handler, nothing, header_line-changes}
-
--- a place of a processor is below their number
-pub below_cpus : (p n : ℕ) → p ≤ n - 1 → 1 ≤ n → p < n
-below_cpus p n h some = omega arith
 
 pub roomy-changed : (s s' : Setup) → Changes s s' → IsRoomy s → IsRoomy s'
 roomy-changed s _ (to_mode m) r = record { some = r.some; few = r.few; locks = r.locks; lock_room = r.lock_room; progs = r.progs; irqs = r.irqs; irq_rooms = r.irq_rooms }
@@ -21,7 +18,7 @@ roomy-changed s _ (to_cpus n some few) r = record {
   lock_room = r.lock_room;
   progs = length-replicate n _ ∙ sym (length-replicate n 0);
   irqs = length-replicate n _ ∙ sym (length-replicate n 0);
-  irq_rooms = All-replicate (λ handlers. handlers.room ≡ 16) n (list_of 16 []) refl;
+  irq_rooms = All-replicate (λ handlers. handlers.room ≡ MAX_HANDLERS) n (list_of MAX_HANDLERS []) refl;
 }
 roomy-changed s _ (to_sockets ns many) r = record { some = rw many r.some; few = rw many r.few; locks = r.locks; lock_room = r.lock_room; progs = r.progs ∙ sym many; irqs = r.irqs ∙ sym many; irq_rooms = r.irq_rooms }
 roomy-changed s _ (to_threshold t within) r = record { some = r.some; few = r.few; locks = r.locks; lock_room = r.lock_room; progs = r.progs; irqs = r.irqs; irq_rooms = r.irq_rooms }
@@ -35,7 +32,7 @@ roomy-changed s _ (one_handler p words ops below few read) r = record {
   lock_room = r.lock_room;
   progs = r.progs;
   irqs = length-set s.irqs.items p _ ∙ r.irqs;
-  irq_rooms = All-set (λ handlers. handlers.room ≡ 16) s.irqs.items p (with_more (handlers_of s p) ops) (All-get_or (λ handlers. handlers.room ≡ 16) s.irqs.items p (list_of 16 []) (rw r.irqs (below_cpus p (cpus_of s) below r.some)) r.irq_rooms) r.irq_rooms;
+  irq_rooms = All-set (λ handlers. handlers.room ≡ MAX_HANDLERS) s.irqs.items p (with_more (given_handlers s p) ops) (All-get_or (λ handlers. handlers.room ≡ MAX_HANDLERS) s.irqs.items p (list_of MAX_HANDLERS []) (rw r.irqs below) r.irq_rooms) r.irq_rooms;
 }
 roomy-changed s _ nothing r = r
 

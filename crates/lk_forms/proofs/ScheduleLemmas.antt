@@ -2,6 +2,7 @@
 use Rattle.std.proofs.Common.{◌≡◌, ◌≤◌, ◌<◌, ◌+◌, ◌-◌, ◌^◌, ◌==◌, ◌⊎◌, inl, inr, ℕ, Bool, true, false, List, [], ◌∷◌, Option, None, Some, unwrap_or, Result, IfOk, Ok, Err, length, refl, sym, arith, nat_le, if◌then◌else◌}
 use Rattle.std.proofs.lemmas.Bool.Decides.{nat_tests}
 use Rattle.std.proofs.Math.Nat.{eq-or-lt_of_le}
+use Rattle.lk_forms.specs.declared.limits.TheConstants.{MAX_ACTS}
 use Rattle.lk_forms.specs.Words.{words, is_text, is_comment}
 use Rattle.lk_abs.specs.declared.events.Act.{Act}
 use Rattle.lk_abs.specs.declared.events.Act.TheVariants as act
@@ -18,7 +19,7 @@ use Rattle.lk_forms.specs.declared.answers.Sched.{Sched}
 use Rattle.lk_forms.specs.declared.answers.Sched.TheVariants.{Blank, Run, End}
 use Rattle.lk_forms.specs.declared.keyword.Keyword.{Keyword}
 use Rattle.lk_forms.specs.declared.keyword.Keyword.TheVariants as keyword
-use Rattle.lk_forms.proofs.Changes.{and_then-ok, if-ok, number_in-ok, no_words-ok}
+use Rattle.lk_forms.proofs.Changes.{and_then-ok, if-ok, number_in-ok, cpu_word-ok, no_words-ok}
 use Rattle.lk_forms.proofs.Readings.{unless-ok, Steps, skips, begins, sets, schedules, kept}
 
 -- what is read with a line that says this
@@ -103,52 +104,49 @@ schedule-reads before cpus acts ended line so =
 
 run-within : (cpus made : ℕ) (what : Act) (times : ℕ) (said : Sched) → processor_of what < cpus → 1 ≤ times → run_of made what times ≡ Ok said → IsWithin cpus made said
 run-within cpus made what times said below some is =
-    let few = if-ok (nat_le (made + times) 100000000) (Ok (Run what times)) (Limit Acts) said is in
+    let few = if-ok (nat_le (made + times) MAX_ACTS) (Ok (Run what times)) (Limit Acts) said is in
     let same : Run what times ≡ said = cc (few.1) in
-    let within : made + times ≤ 100000000 = grind (arith, nat_tests, few.0) in
+    let within : made + times ≤ MAX_ACTS = grind (arith, nat_tests, few.0) in
     rw (← same) (below, some, within)
 
-cpu-below : (cpus : ℕ) (word : List ℕ) (p : ℕ) → 1 ≤ cpus → cpu_word cpus word ≡ Ok p → p < cpus
-cpu-below cpus word p some is = let within = number_in-ok 0 (cpus - 1) word p is in omega arith
-
-act-within : (what : ℕ → Act) (cpus made : ℕ) (args : List (List ℕ)) (said : Sched) → ((p : ℕ) → processor_of (what p) ≡ p) → 1 ≤ cpus → act_line what cpus made args ≡ Ok said → IsWithin cpus made said
-act-within what cpus made args said names some is =
+act-within : (what : ℕ → Act) (cpus made : ℕ) (args : List (List ℕ)) (said : Sched) → ((p : ℕ) → processor_of (what p) ≡ p) → act_line what cpus made args ≡ Ok said → IsWithin cpus made said
+act-within what cpus made args said names is =
     let word = and_then-ok (one_word args) (λ word. and_then (cpu_word cpus word) (λ p. run_of made (what p) 1)) said is in
     let p = and_then-ok (cpu_word cpus word.0) (λ p. run_of made (what p) 1) said word.2 in
-    run-within cpus made (what p.0) 1 said (rw (names p.0) (cpu-below cpus word.0 p.0 some p.1)) (omega arith) p.2
+    run-within cpus made (what p.0) 1 said (rw (names p.0) (cpu_word-ok cpus word.0 p.0 p.1)) (omega arith) p.2
 
-step-within : (cpus made : ℕ) (args : List (List ℕ)) (said : Sched) → 1 ≤ cpus → step_line cpus made args ≡ Ok said → IsWithin cpus made said
-step-within cpus made args said some is =
+step-within : (cpus made : ℕ) (args : List (List ℕ)) (said : Sched) → step_line cpus made args ≡ Ok said → IsWithin cpus made said
+step-within cpus made args said is =
     let both = and_then-ok (two_words args) (λ both. and_then (cpu_word cpus both.0) (λ p. and_then (number_in 1 (2 ^ 64 - 1) both.1) (λ n. run_of made (act.Step p) n))) said is in
     let p = and_then-ok (cpu_word cpus both.0.0) (λ p. and_then (number_in 1 (2 ^ 64 - 1) both.0.1) (λ n. run_of made (act.Step p) n)) said both.2 in
     let n = and_then-ok (number_in 1 (2 ^ 64 - 1) both.0.1) (λ n. run_of made (act.Step p.0) n) said p.2 in
-    run-within cpus made (act.Step p.0) n.0 said (cpu-below cpus both.0.0 p.0 some p.1) (number_in-ok 1 (2 ^ 64 - 1) both.0.1 n.0 n.1).0 n.2
+    run-within cpus made (act.Step p.0) n.0 said (cpu_word-ok cpus both.0.0 p.0 p.1) (number_in-ok 1 (2 ^ 64 - 1) both.0.1 n.0 n.1).0 n.2
 
-args-within : (k : Keyword) (cpus made : ℕ) (args : List (List ℕ)) (said : Sched) → 1 ≤ cpus → schedule_args k cpus made args ≡ Ok said → IsWithin cpus made said
-args-within keyword.Step cpus made args said some is = step-within cpus made args said some is
-args-within keyword.Int cpus made args said some is = act-within (λ p. act.Interrupt p) cpus made args said (λ p. refl) some is
-args-within keyword.Pre cpus made args said some is = act-within (λ p. act.Preempt p) cpus made args said (λ p. refl) some is
-args-within keyword.Res cpus made args said some is = act-within (λ p. act.Resume p) cpus made args said (λ p. refl) some is
-args-within keyword.Nudge cpus made args said some is = act-within (λ p. act.Nudge p) cpus made args said (λ p. refl) some is
-args-within keyword.End cpus made args said some is = rw (← no_words-ok args End said is) tt
-args-within _ cpus made args said some is = cc
+args-within : (k : Keyword) (cpus made : ℕ) (args : List (List ℕ)) (said : Sched) → schedule_args k cpus made args ≡ Ok said → IsWithin cpus made said
+args-within keyword.Step cpus made args said is = step-within cpus made args said is
+args-within keyword.Int cpus made args said is = act-within (λ p. act.Interrupt p) cpus made args said (λ p. refl) is
+args-within keyword.Pre cpus made args said is = act-within (λ p. act.Preempt p) cpus made args said (λ p. refl) is
+args-within keyword.Res cpus made args said is = act-within (λ p. act.Resume p) cpus made args said (λ p. refl) is
+args-within keyword.Nudge cpus made args said is = act-within (λ p. act.Nudge p) cpus made args said (λ p. refl) is
+args-within keyword.End cpus made args said is = rw (← no_words-ok args End said is) tt
+args-within _ cpus made args said is = cc
 
-known-within : (cpus made : ℕ) (ended : Bool) (k : Option Keyword) (args : List (List ℕ)) (said : Sched) → 1 ≤ cpus → schedule_known cpus made ended k args ≡ Ok said → IsWithin cpus made said
-known-within cpus made ended None args said some is = cc
-known-within cpus made ended (Some k) args said some is = args-within k cpus made args said some (unless-ok (fault_of_place (rank_behind ended) k) (schedule_args k cpus made args) said is).1
+known-within : (cpus made : ℕ) (ended : Bool) (k : Option Keyword) (args : List (List ℕ)) (said : Sched) → schedule_known cpus made ended k args ≡ Ok said → IsWithin cpus made said
+known-within cpus made ended None args said is = cc
+known-within cpus made ended (Some k) args said is = args-within k cpus made args said (unless-ok (fault_of_place (rank_behind ended) k) (schedule_args k cpus made args) said is).1
 
-words-within : (cpus made : ℕ) (ended : Bool) (ws : List (List ℕ)) (said : Sched) → 1 ≤ cpus → schedule_words cpus made ended ws ≡ Ok said → IsWithin cpus made said
-words-within cpus made ended [] said some is = let same : Blank ≡ said = cc in rw (← same) tt
-words-within cpus made ended (first ∷ args) said some is = by_comment (is_comment first) is
+words-within : (cpus made : ℕ) (ended : Bool) (ws : List (List ℕ)) (said : Sched) → schedule_words cpus made ended ws ≡ Ok said → IsWithin cpus made said
+words-within cpus made ended [] said is = let same : Blank ≡ said = cc in rw (← same) tt
+words-within cpus made ended (first ∷ args) said is = by_comment (is_comment first) is
   where
     by_comment : (b : Bool) → (if b then Ok Blank else schedule_known cpus made ended (keyword_of first) args) ≡ Ok said → IsWithin cpus made said
     by_comment true blank = let same : Blank ≡ said = cc in rw (← same) tt
-    by_comment false next = known-within cpus made ended (keyword_of first) args said some next
+    by_comment false next = known-within cpus made ended (keyword_of first) args said next
 
-pub schedule-within : (cpus made : ℕ) (ended : Bool) (line : List ℕ) (said : Sched) → 1 ≤ cpus → schedule_of cpus made ended line ≡ Ok said → IsWithin cpus made said
-schedule-within cpus made ended line said some is =
-    words-within cpus made ended (words line) said some (if-ok (is_text line) (schedule_words cpus made ended (words line)) (Bad NotText) said is).1
+pub schedule-within : (cpus made : ℕ) (ended : Bool) (line : List ℕ) (said : Sched) → schedule_of cpus made ended line ≡ Ok said → IsWithin cpus made said
+schedule-within cpus made ended line said is =
+    words-within cpus made ended (words line) said (if-ok (is_text line) (schedule_words cpus made ended (words line)) (Bad NotText) said is).1
 
-pub within-ok : (cpus made : ℕ) (ended : Bool) (line : List ℕ) (result : Result Sched LineRefusal) → 1 ≤ cpus → result ≡ schedule_of cpus made ended line → IfOk result (λ said. IsWithin cpus made said)
-within-ok cpus made ended line (Ok said) some is = schedule-within cpus made ended line said some (sym is)
-within-ok cpus made ended line (Err why) some is = tt
+pub within-ok : (cpus made : ℕ) (ended : Bool) (line : List ℕ) (result : Result Sched LineRefusal) → result ≡ schedule_of cpus made ended line → IfOk result (λ said. IsWithin cpus made said)
+within-ok cpus made ended line (Ok said) is = schedule-within cpus made ended line said (sym is)
+within-ok cpus made ended line (Err why) is = tt

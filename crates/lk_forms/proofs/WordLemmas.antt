@@ -1,9 +1,10 @@
 -- The words of a line, taken off one by one.
-use Rattle.std.proofs.Common.{◌≡◌, ◌≤◌, ◌<◌, ◌+◌, ℕ, Bool, true, false, cond, List, [], ◌∷◌, length, take, drop, filter, refl, ap, sym, ◌∙◌, arith, one-add, length-drop, unwrap_or, nat_lt, not}
+use Rattle.std.proofs.Common.{◌≡◌, ◌≤◌, ◌<◌, ◌+◌, ◌&&◌, ℕ, Bool, true, false, cond, List, [], ◌∷◌, ◌++◌, length, take, drop, filter, refl, ap, sym, ◌∙◌, arith, one-add, length-drop, unwrap_or, nat_le, nat_lt, not}
 use Rattle.std.proofs.lemmas.Bool.Decides.{nat_tests}
 use Rattle.std.proofs.lemmas.List.Sums.{prefix_len-le-length}
-use Rattle.std.specs.List.{position, position_or_len, slice_split, onto_first, prefix_len}
-use Rattle.lk_forms.specs.Words.{is_blank, is_filled, words}
+use Rattle.std.specs.List.{list_all, position, position_or_len, slice_split, onto_first, prefix_len}
+use Rattle.lk_forms.specs.Words.{is_blank, is_allowed, is_filled, is_text, words}
+use Rattle.lk_forms.proofs.NumberLemmas.{and_split}
 
 -- where the first word starts
 abbrev pub start_of : List ℕ → ℕ
@@ -101,3 +102,52 @@ words_none bytes none = sym (words-skip bytes) ∙ ap words (length_zero (drop (
     length_zero : (xs : List ℕ) → length xs ≡ 0 → xs ≡ []
     length_zero [] h = refl
     length_zero (x ∷ xs) h = absurd (omega arith)
+
+-- a blank in front
+
+pub words-blank : (b : ℕ) (rest : List ℕ) → is_blank b ≡ true → words (b ∷ rest) ≡ words rest
+words-blank b rest blank = rw blank refl
+
+pub text-blank : (b : ℕ) (rest : List ℕ) → is_blank b ≡ true → is_text rest ≡ true → is_text (b ∷ rest) ≡ true
+text-blank b rest blank text = rw (allowed, text) refl
+  where
+    allowed : is_allowed b ≡ true
+    allowed = grind (arith, nat_tests, blank)
+
+-- a word in front
+
+-- its end: nothing is left, or a blank comes
+abbrev pub ends_word : List ℕ → Bool
+ends_word [] = true
+ends_word (b ∷ rest) = is_blank b
+
+-- neither a blank nor a byte that a line may not have
+abbrev pub is_solid : ℕ → Bool
+is_solid b = nat_le 33 b && nat_le b 126
+
+solid-blank : (b : ℕ) → is_solid b ≡ true → is_blank b ≡ false
+solid-blank b solid = grind (arith, nat_tests, solid)
+
+solid-allowed : (b : ℕ) → is_solid b ≡ true → is_allowed b ≡ true
+solid-allowed b solid = grind (arith, nat_tests, solid)
+
+split-word : (word rest : List ℕ) → list_all is_solid word ≡ true → ends_word rest ≡ true → slice_split is_blank (word ++ rest) ≡ word ∷ parts_behind rest
+unfolding parts_behind
+split-word [] [] solid ends = refl
+split-word [] (b ∷ rest) solid ends = rw ends refl
+split-word (b ∷ word) rest solid ends =
+    let parts = and_split (is_solid b) (list_all is_solid word) solid in
+    rw (split-word word rest parts.1 ends, solid-blank b parts.0) refl
+
+blank-first : (rest : List ℕ) → ends_word rest ≡ true → (b : ℕ) (more : List ℕ) → rest ≡ b ∷ more → is_blank b ≡ true
+blank-first [] ends b more is = cc
+blank-first (c ∷ rest) ends b more is = let same : c ≡ b = cc in rw (← same) ends
+
+pub words-word : (word rest : List ℕ) → is_filled word ≡ true → list_all is_solid word ≡ true → ends_word rest ≡ true → words (word ++ rest) ≡ word ∷ words rest
+words-word word rest filled solid ends = rw (split-word word rest solid ends, filled) (ap (λ ws. word ∷ ws) (words_behind rest (blank-first rest ends)))
+
+pub text-word : (word rest : List ℕ) → list_all is_solid word ≡ true → is_text rest ≡ true → is_text (word ++ rest) ≡ true
+text-word [] rest solid text = text
+text-word (b ∷ word) rest solid text =
+    let parts = and_split (is_solid b) (list_all is_solid word) solid in
+    rw (solid-allowed b parts.0) (text-word word rest parts.1 text)

@@ -1,6 +1,6 @@
 -- What a line of a trace says behind the lines before it, or why it is refused: the checks stand in their order, and the first
 -- that fails is the answer.
-use Rattle.std.specs.Prelude.{ℕ, ◌==◌, ◌+◌, ◌-◌, ◌^◌, ◌&&◌, nat_le, nat_lt, Bool, true, false, List, [], ◌∷◌, ◌++◌, Option, None, Some, Result, Ok, Err, length, replicate, slice_index_or, slice_set, fold, is_some, unwrap_or, codes, if◌then◌else◌}
+use Rattle.std.specs.Prelude.{ℕ, ◌==◌, ◌+◌, ◌-◌, ◌^◌, ◌&&◌, nat_le, nat_lt, Bool, false, List, [], ◌∷◌, ◌++◌, Option, None, Some, Result, Ok, Err, length, replicate, slice_index_or, slice_set, fold, is_some, unwrap_or, codes, if◌then◌else◌}
 use Rattle.std.specs.Result.{result_unwrap_or, result_err}
 use Rattle.std.specs.Str.{bytes_eq}
 use Rattle.lk_abs.specs.ListOf.{ListOf}
@@ -12,6 +12,7 @@ use Rattle.lk_abs.specs.declared.events.Act.{Act}
 use Rattle.lk_abs.specs.declared.events.Act.TheVariants as act
 use Rattle.lk_machine.specs.declared.setup.Op.{Op}
 use Rattle.lk_machine.specs.declared.setup.Setup.{Setup}
+use Rattle.lk_forms.specs.declared.limits.TheConstants.{MAX_ACTS, MAX_CPUS, MAX_HANDLERS, MAX_LOCKS, MAX_OPS, MAX_SOCKET, MAX_TURNS, USUAL_SPINS}
 use Rattle.lk_forms.specs.Words.{words, is_text, is_comment, number_of}
 use Rattle.lk_forms.specs.Keywords.{keyword_of, rank_of, fault_of_place}
 use Rattle.lk_forms.specs.Operations.{and_then, unless, or_fault, ops_of}
@@ -65,7 +66,7 @@ no_programs cpus = list_of cpus (replicate cpus (list_of 0 []))
 
 -- handlers of so many processors, none for each
 abbrev pub no_handlers : ℕ → ListOf (ListOf (ListOf Op))
-no_handlers cpus = list_of cpus (replicate cpus (list_of 16 []))
+no_handlers cpus = list_of cpus (replicate cpus (list_of MAX_HANDLERS []))
 
 -- what no line has said: mode `virt` stands for the mode until it is said
 abbrev pub default_setup : Setup
@@ -73,9 +74,9 @@ default_setup =
     record {
       mode = Virt;
       topology = record { sockets = list_of 1 (replicate 1 0) };
-      threshold = 65535;
-      spins = 32768;
-      locks = list_of 32 [];
+      threshold = MAX_TURNS;
+      spins = USUAL_SPINS;
+      locks = list_of MAX_LOCKS [];
       progs = no_programs 1;
       irqs = no_handlers 1;
     }
@@ -104,7 +105,7 @@ with_cpus s n = record s { topology = record { sockets = list_of n (replicate n 
 
 -- `cpus n`
 abbrev pub cpus_line : Setup → List (List ℕ) → Result Setup LineRefusal
-cpus_line s args = and_then (one_word args) (λ word. and_then (number_in 1 64 word) (λ n. Ok (with_cpus s n)))
+cpus_line s args = and_then (one_word args) (λ word. and_then (number_in 1 MAX_CPUS word) (λ n. Ok (with_cpus s n)))
 
 abbrev pub with_sockets : Setup → List ℕ → Setup
 with_sockets s sockets = record s { topology = record { sockets = list_of (cpus_of s) sockets } }
@@ -112,15 +113,15 @@ with_sockets s sockets = record s { topology = record { sockets = list_of (cpus_
 -- `sockets s0 s1 ..`, one for each processor
 abbrev pub sockets_line : Setup → List (List ℕ) → Result Setup LineRefusal
 sockets_line s args =
-    if length args == cpus_of s then and_then (numbers_from 0 63 [] args) (λ sockets. Ok (with_sockets s sockets)) else Err (Bad WordCount)
+    if length args == cpus_of s then and_then (numbers_from 0 MAX_SOCKET [] args) (λ sockets. Ok (with_sockets s sockets)) else Err (Bad WordCount)
 
 -- `threshold t`
 abbrev pub threshold_line : Setup → List (List ℕ) → Result Setup LineRefusal
-threshold_line s args = and_then (one_word args) (λ word. and_then (number_in 0 65535 word) (λ t. Ok (record s { threshold = t })))
+threshold_line s args = and_then (one_word args) (λ word. and_then (number_in 0 MAX_TURNS word) (λ t. Ok (record s { threshold = t })))
 
 -- `spins s`
 abbrev pub spins_line : Setup → List (List ℕ) → Result Setup LineRefusal
-spins_line s args = and_then (one_word args) (λ word. and_then (number_in 1 65535 word) (λ n. Ok (record s { spins = n })))
+spins_line s args = and_then (one_word args) (λ word. and_then (number_in 1 MAX_TURNS word) (λ n. Ok (record s { spins = n })))
 
 abbrev pub kind_named : List ℕ → Option Kind
 kind_named word = if bytes_eq word (codes "spin") then Some Spin else if bytes_eq word (codes "rw") then Some Rw else None
@@ -130,7 +131,7 @@ kind_word word = or_fault UnknownWord (kind_named word)
 
 -- the number of the next lock, behind so many locks
 abbrev pub next_lock : ℕ → ℕ → Result ℕ LineRefusal
-next_lock locks i = if (i == locks) && nat_le i 31 then Ok i else Err (Bad OutOfRange)
+next_lock locks i = if (i == locks) && nat_lt i MAX_LOCKS then Ok i else Err (Bad OutOfRange)
 
 abbrev pub with_lock : Setup → Kind → Setup
 with_lock s k = record s { locks = list_of s.locks.room (s.locks.items ++ k ∷ []) }
@@ -142,29 +143,29 @@ lock_line s args =
     and_then (next_lock (length s.locks.items) i) (λ next. and_then (kind_word both.1) (λ k. Ok (with_lock s k)))))
 
 -- the program of a processor
-abbrev pub program_of : Setup → ℕ → ListOf Op
-program_of s p = slice_index_or s.progs.items p (list_of 0 [])
+abbrev pub given_program : Setup → ℕ → ListOf Op
+given_program s p = slice_index_or s.progs.items p (list_of 0 [])
 
 -- the handlers of a processor
-abbrev pub handlers_of : Setup → ℕ → ListOf (ListOf Op)
-handlers_of s p = slice_index_or s.irqs.items p (list_of 16 [])
+abbrev pub given_handlers : Setup → ℕ → ListOf (ListOf Op)
+given_handlers s p = slice_index_or s.irqs.items p (list_of MAX_HANDLERS [])
 
 -- a line `prog` gave the processor a program
 abbrev pub has_program : Setup → ℕ → Bool
-has_program s p = nat_lt 0 (length (program_of s p).items)
+has_program s p = nat_lt 0 (length (given_program s p).items)
 
 abbrev pub with_program : Setup → ℕ → List Op → Setup
-with_program s p ops = record s { progs = list_of s.progs.room (slice_set s.progs.items p (list_of 64 ops)) }
+with_program s p ops = record s { progs = list_of s.progs.room (slice_set s.progs.items p (list_of MAX_OPS ops)) }
 
 abbrev pub with_more : ListOf (ListOf Op) → List Op → ListOf (ListOf Op)
-with_more handlers ops = list_of handlers.room (handlers.items ++ list_of 64 ops ∷ [])
+with_more handlers ops = list_of handlers.room (handlers.items ++ list_of MAX_OPS ops ∷ [])
 
 abbrev pub with_handler : Setup → ℕ → List Op → Setup
-with_handler s p ops = record s { irqs = list_of s.irqs.room (slice_set s.irqs.items p (with_more (handlers_of s p) ops)) }
+with_handler s p ops = record s { irqs = list_of s.irqs.room (slice_set s.irqs.items p (with_more (given_handlers s p) ops)) }
 
--- the processor, which exists, that a word names
+-- the processor, one of so many, that a word names: where there is none, each number is out of range
 abbrev pub cpu_word : ℕ → List ℕ → Result ℕ LineRefusal
-cpu_word cpus word = number_in 0 (cpus - 1) word
+cpu_word cpus word = and_then (or_fault BadNumber (number_of word)) (λ n. if nat_lt n cpus then Ok n else Err (Bad OutOfRange))
 
 -- `prog p ops`, where the processor has no program yet
 abbrev pub program_line : Setup → List (List ℕ) → Result Setup LineRefusal
@@ -178,7 +179,7 @@ program_line s (cpu ∷ args) =
 abbrev pub handler_line : Setup → List ℕ → List (List ℕ) → Result Setup LineRefusal
 handler_line s cpu args =
     and_then (cpu_word (cpus_of s) cpu) (λ p.
-    if nat_le 16 (length (handlers_of s p).items) then Err (Limit Handlers)
+    if nat_le MAX_HANDLERS (length (given_handlers s p).items) then Err (Limit Handlers)
     else and_then (ops_of s.locks.items args) (λ ops. Ok (with_handler s p ops)))
 
 -- `irq p ops`
@@ -202,7 +203,7 @@ header_line _ s args = Err (Bad Misplaced)
 -- the lines of the schedule, behind so many acts
 
 abbrev pub run_of : ℕ → Act → ℕ → Result Sched LineRefusal
-run_of acts what times = if nat_le (acts + times) 100000000 then Ok (Run what times) else Err (Limit Acts)
+run_of acts what times = if nat_le (acts + times) MAX_ACTS then Ok (Run what times) else Err (Limit Acts)
 
 -- `step p n`
 abbrev pub step_line : ℕ → ℕ → List (List ℕ) → Result Sched LineRefusal

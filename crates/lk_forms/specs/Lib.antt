@@ -1,4 +1,5 @@
 pub mod Words
+pub mod Fronts
 pub mod Keywords
 pub mod Operations
 pub mod Holds
@@ -7,6 +8,7 @@ pub mod Agrees
 pub mod Reader
 pub mod Schedule
 pub mod Trace
+pub mod Headers
 pub mod SetupLaws
 pub mod Texts
 pub mod TextLaws

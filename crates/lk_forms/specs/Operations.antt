@@ -10,6 +10,7 @@ use Rattle.lk_machine.specs.Programs.{kind_of, is_try, is_release, way_at, way_b
 use Rattle.lk_machine.specs.declared.setup.Verb.{Verb}
 use Rattle.lk_machine.specs.declared.setup.Verb.TheVariants.{Lock, Try, Unlock, Read, TryRead, RUnlock, Write, TryWrite, WUnlock}
 use Rattle.lk_machine.specs.declared.setup.Op.{Op}
+use Rattle.lk_forms.specs.declared.limits.TheConstants.{MAX_OPS}
 use Rattle.lk_forms.specs.Words.{number_of}
 use Rattle.lk_forms.specs.declared.answers.Fault.{Fault}
 use Rattle.lk_forms.specs.declared.answers.Fault.TheVariants.{UnknownWord, WordCount, BadNumber, WrongLock, Reheld, NotHeld, StillHeld, Crossed}
@@ -115,7 +116,7 @@ lock_word (word ∷ words) = or_fault BadNumber (number_of word)
 -- the operation of a verb and of the words behind it
 abbrev pub op_of : List Kind → List Op → List ℕ → List (List ℕ) → Result Op LineRefusal
 op_of kinds before verb rest =
-    if nat_le 64 (length before) then Err (Limit Words)
+    if nat_le MAX_OPS (length before) then Err (Limit Words)
     else and_then (or_fault UnknownWord (verb_of verb)) (λ v. and_then (lock_word rest) (λ l. checked_op kinds before (record { verb = v; lock = l })))
 
 -- the whole program

@@ -1,6 +1,7 @@
 -- What a line says behind `go`, by what is read of the lines before it: how many processors and how many acts there are, and
 -- whether the line `end` was read.
 use Rattle.std.specs.Prelude.{◌≡◌, ◌<◌, ◌≤◌, ◌+◌, ⊤, ℕ, length, Bool, true, false, List, [], ◌∷◌, Option, None, Some, Result, Ok, Err, if◌then◌else◌}
+use Rattle.lk_forms.specs.declared.limits.TheConstants.{MAX_ACTS}
 use Rattle.lk_forms.specs.Words.{words, is_text, is_comment}
 use Rattle.lk_forms.specs.Keywords.{keyword_of, fault_of_place}
 use Rattle.lk_forms.specs.Operations.{unless}
@@ -44,5 +45,5 @@ SaysNext r line (Err why) = read r line ≡ Err why
 -- the acts are those of a processor that exists, at least one and not too many
 abbrev pub IsWithin : ℕ → ℕ → Sched → Type 0
 IsWithin cpus acts Blank = ⊤
-IsWithin cpus acts (Run what times) = (processor_of what < cpus) × (1 ≤ times) × (acts + times ≤ 100000000)
+IsWithin cpus acts (Run what times) = (processor_of what < cpus) × (1 ≤ times) × (acts + times ≤ MAX_ACTS)
 IsWithin cpus acts End = ⊤

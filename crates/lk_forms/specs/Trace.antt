@@ -27,12 +27,20 @@ acts_of before = (reading_after before).acts
 abbrev pub bytes_of : List (List ℕ) → List ℕ
 bytes_of before = flat_map (λ piece. piece) before
 
+-- the most bytes of a line, without its line feed
+abbrev pub line_limit : ℕ
+line_limit = 4096
+
+-- the most bytes of a text
+abbrev pub text_limit : ℕ
+text_limit = 2 ^ 30
+
 -- Why a line is refused behind these pieces: it passes a limit of bytes, or fails a check of the grammar.
 abbrev pub refusal : List (List ℕ) → List ℕ → Option LineRefusal
 refusal before piece =
     let start = length (bytes_of before) in
-    if nat_lt 4096 (length (line_of piece)) && nat_le (start + 4096) (2 ^ 30) then Some (Limit Line)
-    else if nat_lt (2 ^ 30) (start + length piece) then Some (Limit Input)
+    if nat_lt line_limit (length (line_of piece)) && nat_le (start + line_limit) text_limit then Some (Limit Line)
+    else if nat_lt text_limit (start + length piece) then Some (Limit Input)
     else refusal_of_line (map line_of before) (line_of piece)
 
 -- a trace is good, and has a setup and acts; or it is refused at a line, and has the setup and the acts of the lines before it

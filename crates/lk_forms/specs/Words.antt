@@ -3,6 +3,7 @@ use Rattle.std.specs.Prelude.{◌≡◌, ℕ, ◌==◌, ◌^◌, ◌&&◌, ◌||
 use Rattle.std.specs.List.{list_all, slice_split}
 use Rattle.std.specs.Str.{all_ascii_digits}
 use Rattle.std.specs.Str.Parse.{digits_value}
+use Rattle.lk_forms.specs.declared.limits.TheConstants.{MAX_DIGITS}
 
 -- a space, a tab or a carriage return, which separate words
 abbrev pub is_blank : ℕ → Bool
@@ -32,7 +33,7 @@ is_comment (b ∷ word) = b == 35
 
 -- a number is a word of 1 to 20 digits with a value below 2^64
 abbrev pub is_number : List ℕ → Bool
-is_number word = nat_le 1 (length word) && (nat_le (length word) 20 && (all_ascii_digits word && nat_lt (digits_value 10 word) (2 ^ 64)))
+is_number word = nat_le 1 (length word) && (nat_le (length word) MAX_DIGITS && (all_ascii_digits word && nat_lt (digits_value 10 word) (2 ^ 64)))
 
 -- the number that a word writes, if it writes one
 abbrev pub number_of : List ℕ → Option ℕ

@@ -43,11 +43,11 @@ pub enum Which {
     Line,
     /// More than 2^30 bytes in the input.
     Input,
-    /// More than 64 operations in a program.
+    /// More than [`MAX_OPS`](crate::MAX_OPS) operations in a program.
     Words,
-    /// More than 16 handlers of a processor.
+    /// More than [`MAX_HANDLERS`](crate::MAX_HANDLERS) handlers of a processor.
     Handlers,
-    /// More than 100,000,000 acts.
+    /// More than [`MAX_ACTS`](crate::MAX_ACTS) acts.
     Acts,
     /// More than 100,000 jobs.
     Jobs,

@@ -2,10 +2,12 @@
 ghost use Rattle.std.specs.Prelude.{◌≡◌, ◌≤◌, ◌<◌, IfOk};
 ghost use Rattle.lk_forms.specs.Agrees.{IsAnswer};
 ghost use Rattle.lk_forms.specs.Words.{words};
-ghost use Rattle.lk_forms.specs.Grammar.{one_word, two_words, no_words, number_in, cpu_word};
+ghost use Rattle.lk_forms.specs.Grammar.{one_word, two_words, no_words, number_in, cpu_word, run_of};
 
-use crate::answers::{Fault, LineRefusal};
+use crate::answers::{Fault, LineRefusal, Sched, Which};
+use crate::limits::MAX_ACTS;
 use crate::words::{next_word, read_number};
+use lk_abs::Act;
 
 const TOO_MANY_OR_FEW: LineRefusal = LineRefusal::Bad(Fault::WordCount);
 
@@ -58,12 +60,26 @@ pub(crate) fn number_in(low: u64, high: u64, word: &[u8]) -> Result<u64, LineRef
     }
 }
 
-/// The processor, one of so many, that a word names.
+/// The processor, one of so many, that a word names. Where there is none, each number is out of
+/// range.
 pub(crate) fn cpu_word(cpus: u32, word: &[u8]) -> Result<u32, LineRefusal>
-    requires { 1 ≤ cpus }
     ensures value { result ≡ cpu_word cpus word.now }
     ensures within { IfOk result (λ p. p < cpus) }
 {
-    let cpu = number_in(0, u64::from(cpus - 1), word)?;
-    Ok(cpu as u32)
+    let cpu = read_number(word).ok_or(LineRefusal::Bad(Fault::BadNumber))?;
+    if cpu < u64::from(cpus) {
+        Ok(cpu as u32)
+    } else {
+        Err(LineRefusal::Bad(Fault::OutOfRange))
+    }
+}
+
+/// The run of an act, if there are not too many acts.
+pub(crate) fn run_of(acts: u64, act: Act, times: u64) -> Result<Sched, LineRefusal>
+    ensures { result ≡ run_of acts act times }
+{
+    match MAX_ACTS.checked_sub(acts) {
+        Some(left) if times <= left => Ok(Sched::Run { act, times }),
+        _ => Err(LineRefusal::Limit(Which::Acts)),
+    }
 }

@@ -7,6 +7,7 @@ ghost use Rattle.lk_forms.specs.Agrees.{Agrees, IsRoomy};
 use crate::answers::{Fault, HeaderStep, LineRefusal};
 use crate::arguments::{no_words, one_word};
 use crate::keyword::{GO_RANK, Keyword};
+use crate::limits::{MAX_LOCKS, MAX_TURNS, USUAL_SPINS};
 use crate::settings::{
     cpus_line, irq_line, lock_line, mode_line, program_line, sockets_line, spins_line,
     threshold_line,
@@ -17,9 +18,6 @@ use lk_abs::{List, Memory, Mode, Topology};
 use lk_machine::Setup;
 use std::alloc::Global;
 
-/// The most locks.
-const MAX_LOCKS: usize = 32;
-
 // What no line has said.
 fn default_setup(alloc: Global) -> Result<Setup, Memory>
     ensures { IfOk result (λ s. s ≡ default_setup) }
@@ -28,8 +26,8 @@ fn default_setup(alloc: Global) -> Result<Setup, Memory>
     Ok(Setup {
         mode: Mode::Virt,
         topology: Topology { sockets },
-        threshold: 65_535,
-        spins: 32_768,
+        threshold: MAX_TURNS as u32,
+        spins: USUAL_SPINS,
         locks: List::new(alloc, MAX_LOCKS)?,
         progs: no_programs(alloc, 1)?,
         irqs: no_handlers(alloc, 1)?,
@@ -122,12 +120,13 @@ impl HeaderReader {
         }
     }
 
-    /// Reads one more line of the header, without its line feed. It may be called until it gave `Go`
-    /// or a refusal; a refused line leaves the reader as it was. It takes memory for what the line
-    /// says.
+    /// Reads one more line of the header, without its line feed. It may be called until it gave
+    /// `Go` or a refusal, and so refuses lines of the header alone; a refused line leaves the
+    /// reader as it was. It takes memory for what the line says.
     pub fn line(&mut self, line: &[u8]) -> Result<HeaderStep, LineRefusal>
         requires { has_go (reading self.old) ≡ false }
-        ensures { ReadsOn (read (reading self.old) line.now) (reading self.old) (reading self.new) result }
+        ensures { ReadsOn (read (reading self.old) line.now)
+            (reading self.old) (reading self.new) result }
     {
         if !is_text(line) {
             return Err(LineRefusal::Bad(Fault::NotText));

@@ -2,17 +2,16 @@
 ghost use Rattle.std.specs.Prelude.{◌≡◌, ◌≤◌, ◌<◌, Ok, Err, ◌⊎◌, IfOk, IfErr, length};
 ghost use Rattle.lk_forms.specs.Agrees.{IsAnswer};
 ghost use Rattle.lk_forms.specs.Words.{words, HasFirst};
+ghost use Rattle.lk_forms.specs.declared.limits.TheConstants.{MAX_LOCKS, MAX_OPS};
 ghost use Rattle.lk_forms.specs.Operations.{lock_word, op_of, closed, ops_of};
 
 use crate::answers::{Fault, LineRefusal, Which};
+use crate::limits::MAX_OPS;
 use crate::operations::{fault_of_hold, is_declared, is_nothing_held, verb_of};
 use crate::words::{next_word, read_number};
 use lk_abs::{Kind, List};
 use lk_machine::Op;
 use std::alloc::Global;
-
-/// The most operations of a program.
-const MAX_OPS: usize = 64;
 
 // The lock's number, in the words behind the verb, and what stands behind it.
 fn lock_word(args: &[u8]) -> Result<(u64, &[u8]), LineRefusal>
@@ -37,11 +36,12 @@ fn read_op<'a>(
     verb: &[u8],
     args: &'a [u8],
 ) -> Result<(Op, &'a [u8]), LineRefusal>
-    requires { length kinds.now ≤ 32 }
-    ensures op { IsAnswer (op_of kinds.now before.now verb.now (words args.now)) (λ both. both.0) result }
+    requires { length kinds.now ≤ MAX_LOCKS }
+    ensures op { IsAnswer (op_of kinds.now before.now verb.now (words args.now))
+        (λ both. both.0) result }
     ensures rest { IfOk result (λ both. HasFirst (words args.now) (words both.1.now)) }
     ensures shorter { IfOk result (λ both. length both.1.now < length args.now) }
-    ensures few { IfOk result (λ both. length before.now < 64) }
+    ensures few { IfOk result (λ both. length before.now < MAX_OPS) }
 {
     if before.len() >= MAX_OPS {
         return Err(LineRefusal::Limit(Which::Words));
@@ -63,7 +63,7 @@ fn read_op<'a>(
 
 // The program is these operations, if nothing is held behind them.
 fn closed(kinds: &[Kind], ops: List<Op>) -> Result<List<Op>, LineRefusal>
-    requires { length kinds.now ≤ 32 }
+    requires { length kinds.now ≤ MAX_LOCKS }
     ensures answer { IsAnswer (closed kinds.now ops.items) (λ all. all.items) result }
     ensures same { IfOk result (λ all. all ≡ ops) }
 {
@@ -77,9 +77,11 @@ fn closed(kinds: &[Kind], ops: List<Op>) -> Result<List<Op>, LineRefusal>
 /// The program of these words, which has at least one operation. It takes room for the most
 /// operations.
 pub(crate) fn read_ops(alloc: Global, kinds: &[Kind], args: &[u8]) -> Result<List<Op>, LineRefusal>
-    requires { length kinds.now ≤ 32 }
-    ensures ok { IfOk result (λ ops. (ops_of kinds.now (words args.now) ≡ Ok ops.items) × (ops.room ≡ 64)) }
-    ensures err { IfErr result (λ why. (ops_of kinds.now (words args.now) ≡ Err why) ⊎ (why ≡ LineRefusal.Memory)) }
+    requires { length kinds.now ≤ MAX_LOCKS }
+    ensures ok { IfOk result
+        (λ ops. (ops_of kinds.now (words args.now) ≡ Ok ops.items) × (ops.room ≡ MAX_OPS)) }
+    ensures err { IfErr result
+        (λ why. (ops_of kinds.now (words args.now) ≡ Err why) ⊎ (why ≡ LineRefusal.Memory)) }
 {
     if next_word(args).is_none() {
         return Err(LineRefusal::Bad(Fault::WordCount));

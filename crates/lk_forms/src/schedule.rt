@@ -1,35 +1,20 @@
 // The lines of a schedule.
-ghost use Rattle.std.specs.Prelude.{◌≡◌, ◌≤◌, ◌<◌, Bool, true, ℕ, List, Result, IfOk, Ok, Err, length, if◌then◌else◌};
+ghost use Rattle.std.specs.Prelude.{◌≡◌, ◌≢◌, ◌≤◌, ◌<◌, Bool, true, ℕ, List, Result, IfOk, Ok, Err, length, if◌then◌else◌};
 ghost use Rattle.lk_forms.specs.Words.{words};
 ghost use Rattle.lk_forms.specs.Operations.{and_then};
-ghost use Rattle.lk_forms.specs.Grammar.{one_word, cpu_word, run_of, step_line, schedule_args, reading_of};
+ghost use Rattle.lk_forms.specs.Grammar.{one_word, cpu_word, step_line, schedule_args, reading_of};
 ghost use Rattle.lk_forms.specs.Schedule.{schedule_known, schedule_of, IsInSchedule, SaysNext, IsWithin};
 ghost use Rattle.lk_abs.specs.declared.events.Act.TheVariants as act;
 
-use crate::answers::{Fault, LineRefusal, Sched, Which};
-use crate::arguments::{cpu_word, no_words, number_in, one_word, two_words};
+use crate::answers::{Fault, LineRefusal, Sched};
+use crate::arguments::{cpu_word, no_words, number_in, one_word, run_of, two_words};
 use crate::keyword::{END_RANK, GO_RANK, Keyword};
+use crate::plain::plain_act;
 use crate::words::{is_comment, is_text, next_word};
 use lk_abs::Act;
 
-/// The most acts of a trace.
-const MAX_ACTS: u64 = 100_000_000;
-
-// The run of an act, if there are not too many acts.
-fn run_of(acts: u64, act: Act, times: u64) -> Result<Sched, LineRefusal>
-    requires { acts ≤ 100000000 }
-    ensures { result ≡ run_of acts act times }
-{
-    if times > MAX_ACTS - acts {
-        return Err(LineRefusal::Limit(Which::Acts));
-    }
-    Ok(Sched::Run { act, times })
-}
-
 // `step p n`
 fn step_line(cpus: u32, acts: u64, args: &[u8]) -> Result<Sched, LineRefusal>
-    requires some { 1 ≤ cpus }
-    requires few { acts ≤ 100000000 }
     ensures { result ≡ step_line cpus acts (words args.now) }
 {
     let (cpu, times) = two_words(args)?;
@@ -40,7 +25,6 @@ fn step_line(cpus: u32, acts: u64, args: &[u8]) -> Result<Sched, LineRefusal>
 
 // The processor of `int p`, `pre p`, `res p` or `nudge p`.
 fn act_cpu(cpus: u32, args: &[u8]) -> Result<u32, LineRefusal>
-    requires { 1 ≤ cpus }
     ensures { result ≡ and_then (one_word (words args.now)) (λ word. cpu_word cpus word) }
 {
     cpu_word(cpus, one_word(args)?)
@@ -48,8 +32,6 @@ fn act_cpu(cpus: u32, args: &[u8]) -> Result<u32, LineRefusal>
 
 // The words behind the keyword of a line of the schedule.
 fn schedule_args(keyword: Keyword, cpus: u32, acts: u64, args: &[u8]) -> Result<Sched, LineRefusal>
-    requires some { 1 ≤ cpus }
-    requires few { acts ≤ 100000000 }
     ensures { result ≡ schedule_args keyword cpus acts (words args.now) }
 {
     match keyword {
@@ -66,10 +48,9 @@ fn schedule_args(keyword: Keyword, cpus: u32, acts: u64, args: &[u8]) -> Result<
     }
 }
 
-// What a line of a schedule says, by what is read of the lines before it.
-fn read_line(line: &[u8], cpus: u32, acts: u64, ended: bool) -> Result<Sched, LineRefusal>
-    requires some { 1 ≤ cpus }
-    requires few { acts ≤ 100000000 }
+// What a line of a schedule says, word by word.
+#[inline(never)]
+fn read_words(line: &[u8], cpus: u32, acts: u64, ended: bool) -> Result<Sched, LineRefusal>
     ensures { result ≡ schedule_of cpus acts ended line.now }
 {
     if !is_text(line) {
@@ -89,18 +70,29 @@ fn read_line(line: &[u8], cpus: u32, acts: u64, ended: bool) -> Result<Sched, Li
     }
 }
 
-/// Reads one line of a schedule, without its line feed, behind `acts` acts; `ended` says that the
-/// line `end` was read. It takes no memory.
+// What a line of a schedule says. Most say an act, and are read in one pass.
+#[inline]
+fn read_line(line: &[u8], cpus: u32, acts: u64, ended: bool) -> Result<Sched, LineRefusal>
+    ensures { result ≡ schedule_of cpus acts ended line.now }
+{
+    if !ended && let Some(said) = plain_act(line, cpus, acts) {
+        return Ok(said);
+    }
+    read_words(line, cpus, acts, ended)
+}
+
+/// Reads one line of a schedule of `cpus` processors, without its line feed, behind `acts` acts;
+/// `ended` says that the line `end` was read. Without processors each number of one is out of
+/// range, and behind more acts than the limit each further act passes it. It takes no memory.
 #[inline]
 pub fn schedule_line(line: &[u8], cpus: u32, acts: u64, ended: bool) -> Result<Sched, LineRefusal>
-    requires some { 1 ≤ cpus }
-    requires few { acts ≤ 100000000 }
     ensures value { result ≡ schedule_of cpus acts ended line.now }
 
     // Behind lines that say so much, it is the answer of the grammar.
     ensures reads { (before : List (List ℕ)) → IsInSchedule (reading_of before) cpus acts ended
         → SaysNext (reading_of before) line.now result }
     ensures within { IfOk result (λ said. IsWithin cpus acts said) }
+    ensures no_memory { result ≢ Err LineRefusal.Memory }
 {
     read_line(line, cpus, acts, ended)
 }

@@ -1,6 +1,7 @@
 // The lines of a header, each by the words behind its keyword.
 ghost use Rattle.std.specs.Prelude.{◌≡◌, ◌≤◌, ◌<◌, ◌⊎◌, Ok, Err, IfOk, IfErr, length, []};
 ghost use Rattle.lk_forms.specs.Words.{words, number_of};
+ghost use Rattle.lk_forms.specs.declared.limits.TheConstants.{MAX_LOCKS, MAX_SOCKET};
 ghost use Rattle.lk_forms.specs.Operations.{and_then, or_fault};
 ghost use Rattle.lk_forms.specs.declared.answers.Fault.TheVariants.{BadNumber};
 ghost use Rattle.lk_forms.specs.Grammar.{cpus_of, mode_of, mode_word, mode_line, cpus_line, numbers_from, sockets_line, threshold_line, spins_line, kind_named, kind_word, next_lock, lock_line, has_program, program_line, handler_line, irq_line};
@@ -8,24 +9,13 @@ ghost use Rattle.lk_forms.specs.Agrees.{Agrees, IsAnswer, IsRoomy};
 
 use crate::answers::{Fault, LineRefusal, Which};
 use crate::arguments::{cpu_word, number_in, one_word, two_words};
+use crate::limits::{MAX_CPUS, MAX_HANDLERS, MAX_LOCKS, MAX_SOCKET, MAX_TURNS};
 use crate::programs::read_ops;
-use crate::tables::{MAX_HANDLERS, no_handlers, no_programs, zero_sockets};
+use crate::tables::{no_handlers, no_programs, zero_sockets};
 use crate::words::{next_word, read_number};
 use lk_abs::{Kind, List, Mode};
 use lk_machine::Setup;
 use std::alloc::Global;
-
-/// The most processors.
-const MAX_CPUS: u64 = 64;
-
-/// The greatest number of a socket.
-const MAX_SOCKET: u64 = 63;
-
-/// The greatest number of a lock.
-const MAX_LOCK: u64 = 31;
-
-/// The greatest threshold, and the greatest number of spins.
-const MAX_TURNS: u64 = 65_535;
 
 // The mode that a word is, if it is one.
 fn mode_of(word: &[u8]) -> Option<Mode>
@@ -64,7 +54,7 @@ pub(crate) fn cpus_line(alloc: Global, setup: &mut Setup, args: &[u8]) -> Result
     ensures { Agrees (cpus_line setup.old (words args.now)) setup.old setup.new result }
 {
     let word = one_word(args)?;
-    let cpus = number_in(1, MAX_CPUS, word)? as usize;
+    let cpus = number_in(1, MAX_CPUS as u64, word)? as usize;
     let sockets = zero_sockets(alloc, cpus)?;
     let progs = no_programs(alloc, cpus)?;
     let irqs = no_handlers(alloc, cpus)?;
@@ -113,11 +103,12 @@ fn kind_word(word: &[u8]) -> Result<Kind, LineRefusal>
 
 // The number of the next lock, behind so many locks.
 fn next_lock(locks: usize, word: &[u8]) -> Result<(), LineRefusal>
-    ensures number { IsAnswer (and_then (or_fault BadNumber (number_of word.now)) (next_lock locks)) (λ u. locks) result }
-    ensures few { IfOk result (λ u. locks ≤ 31) }
+    ensures number { IsAnswer (and_then (or_fault BadNumber (number_of word.now)) (next_lock locks))
+        (λ u. locks) result }
+    ensures few { IfOk result (λ u. locks < MAX_LOCKS) }
 {
     let lock = read_number(word).ok_or(LineRefusal::Bad(Fault::BadNumber))?;
-    if lock == locks as u64 && lock <= MAX_LOCK {
+    if lock == locks as u64 && lock < MAX_LOCKS as u64 {
         Ok(())
     } else {
         Err(LineRefusal::Bad(Fault::OutOfRange))
@@ -126,7 +117,7 @@ fn next_lock(locks: usize, word: &[u8]) -> Result<(), LineRefusal>
 
 /// `lock i kind`
 pub(crate) fn lock_line(setup: &mut Setup, args: &[u8]) -> Result<(), LineRefusal>
-    requires { setup.old.locks.room ≡ 32 }
+    requires { setup.old.locks.room ≡ MAX_LOCKS }
     ensures { Agrees (lock_line setup.old (words args.now)) setup.old setup.new result }
 {
     let (number, kind) = two_words(args)?;
@@ -152,8 +143,10 @@ fn count_words(args: &[u8]) -> usize
 // The sockets of so many processors, one for each.
 fn read_sockets(alloc: Global, cpus: usize, args: &[u8]) -> Result<List<u32>, LineRefusal>
     requires { length (words args.now) ≡ cpus }
-    ensures ok { IfOk result (λ list. (numbers_from 0 63 [] (words args.now) ≡ Ok list.items) × (list.room ≡ cpus)) }
-    ensures err { IfErr result (λ why. (numbers_from 0 63 [] (words args.now) ≡ Err why) ⊎ (why ≡ LineRefusal.Memory)) }
+    ensures ok { IfOk result (λ list.
+        (numbers_from 0 MAX_SOCKET [] (words args.now) ≡ Ok list.items) × (list.room ≡ cpus)) }
+    ensures err { IfErr result (λ why.
+        (numbers_from 0 MAX_SOCKET [] (words args.now) ≡ Err why) ⊎ (why ≡ LineRefusal.Memory)) }
 {
     let mut sockets = List::new(alloc, cpus)?;
     let mut rest = args;

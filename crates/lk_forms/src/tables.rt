@@ -2,12 +2,10 @@
 ghost use Rattle.std.specs.Prelude.{◌≡◌, ℕ, IfOk, replicate};
 ghost use Rattle.lk_forms.specs.Grammar.{list_of, no_programs, no_handlers};
 
+use crate::limits::MAX_HANDLERS;
 use lk_abs::{List, Memory};
 use lk_machine::Op;
 use std::alloc::Global;
-
-/// The most handlers of a processor.
-pub(crate) const MAX_HANDLERS: usize = 16;
 
 /// Socket 0 for each processor.
 pub(crate) fn zero_sockets(alloc: Global, cpus: usize) -> Result<List<u32>, Memory>

@@ -3,11 +3,11 @@ ghost use Rattle.std.specs.Prelude.{◌≡◌, not, ◌≤◌, ◌<◌, ◌+◌,
 ghost use Rattle.std.specs.List.{position, position_or_len};
 ghost use Rattle.lk_forms.specs.Words.{is_blank, is_allowed, is_text, is_comment, words, number_of};
 
-/// The most digits of a number.
-const MAX_DIGITS: usize = 20;
+use crate::limits::MAX_DIGITS;
 
-// A space, a tab or a carriage return.
-fn is_blank(b: u8) -> bool
+/// A space, a tab or a carriage return.
+#[inline]
+pub(crate) fn is_blank(b: u8) -> bool
     ensures { result ≡ is_blank b }
 {
     matches!(b, b' ' | b'\t' | b'\r')

@@ -1,8 +1,13 @@
+use Rattle.std.proofs.Common.{sym, ◌∙◌}
 use Rattle.lk_forms.proofs.ScheduleLemmas.{schedule-reads, within-ok}
+use Rattle.lk_forms.proofs.Places.{schedule-no_memory}
 use Rattle.lk_forms.proofs.schedule.schedule_line.Goals as goal
 
 pub returns-clause-reads : goal.returns-clause-reads
 returns-clause-reads c = λ before so. rw c.read_line.ensures (schedule-reads before c.args.cpus c.args.acts c.args.ended c.args.line.now so)
 
 pub returns-clause-within : goal.returns-clause-within
-returns-clause-within c = within-ok c.args.cpus c.args.acts c.args.ended c.args.line.now c.read_line.result c.requires.some c.read_line.ensures
+returns-clause-within c = within-ok c.args.cpus c.args.acts c.args.ended c.args.line.now c.read_line.result c.read_line.ensures
+
+pub returns-clause-no_memory : goal.returns-clause-no_memory
+returns-clause-no_memory c = λ memory. schedule-no_memory c.args.cpus c.args.acts c.args.ended c.args.line.now (sym c.read_line.ensures ∙ memory)
