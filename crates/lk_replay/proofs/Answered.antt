@@ -22,7 +22,7 @@ use Rattle.lk_replay.specs.declared.answers.ReplayFault.{ReplayFault}
 use Rattle.lk_replay.specs.declared.answers.ReplayFault.TheVariants as replay
 use Rattle.lk_replay.specs.declared.answers.RunFault.{RunFault}
 use Rattle.lk_replay.specs.declared.answers.RunFault.TheVariants as fault
-use Rattle.lk_replay.specs.declared.replayer.Replayer.{Replayer}
+use Rattle.lk_replay.specs.declared.replaying.Replaying.{Replaying}
 use Rattle.lk_replay.proofs.Turns.{front_of_rest, fails_with}
 
 -- all that waited was put, and then a last text
@@ -30,7 +30,7 @@ conveyed_all : (a b c : Option (List ℕ)) (t w u : List ℕ) → Conveys a b []
 conveyed_all a b c t w u first last =
     subst (Appends a c) (sym (append_assoc first.put w u) ∙ ap (λ l. l ++ u) (sym first.whole)) (Appends-trans a b c first.put (w ++ u) first.grown last)
 
-module _ (input left held held_now held' : Option (List ℕ)) (reads reads_now writes writes' : ℕ) (r : Replayer) where
+module _ (input left held held_now held' : Option (List ℕ)) (reads reads_now writes writes' : ℕ) (r : Replaying) where
   closing_is : (s : StopsAtEnd input held r left held_now) → closing r.run.acts r.run.machine.counts ≡ closing (length s.acts) (counts_of_run s.setup s.acts)
   closing_is s = ap (λ n. closing n r.run.machine.counts) s.ran.acts ∙ ap (λ m. closing (length s.acts) m.counts) s.ran.machine
 

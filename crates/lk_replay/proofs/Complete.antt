@@ -1,5 +1,5 @@
 -- What the answers of a replay exclude, since a text says one thing; and a replay in two parts.
-use Rattle.std.proofs.Common.{◌≡◌, ◌⊎◌, ◌≤◌, ℕ, List, Option, Some, Result, Ok, Err, IsOkUnless, IsErrAnd, IfSome, refl, sym, ap, ◌∙◌, subst, inl, inr, arith}
+use Rattle.std.proofs.Common.{◌≡◌, ◌≢◌, IsOk, ◌⊎◌, ◌≤◌, ℕ, List, Option, Some, Result, Ok, Err, IsOkUnless, IsErrAnd, IfSome, refl, sym, ap, ◌∙◌, subst, inl, inr, arith}
 use Rattle.lk_abs.specs.declared.events.Act.{Act}
 use Rattle.lk_text.specs.Causes.{Rose}
 use Rattle.lk_machine.specs.declared.setup.Setup.{Setup}
@@ -7,7 +7,7 @@ use Rattle.lk_forms.specs.Trace.{Trace, Good, Refused, Says, trace}
 use Rattle.lk_forms.specs.declared.answers.LineRefusal.{LineRefusal}
 use Rattle.lk_forms.specs.declared.answers.LineRefusal.TheVariants.{Bad, Limit}
 use Rattle.lk_replay.specs.Outside.{Outside, outside}
-use Rattle.lk_replay.specs.Outcome.{Outcome, as_replay, refused_fault}
+use Rattle.lk_replay.specs.Outcome.{Outcome, as_replay, as_replay_fault, refused_fault}
 use Rattle.lk_replay.specs.declared.answers.Summary.{Summary}
 use Rattle.lk_replay.specs.declared.answers.ReplayFault.{ReplayFault}
 use Rattle.lk_replay.specs.declared.answers.ReplayFault.TheVariants as replay
@@ -54,3 +54,21 @@ follows_open input left held held' reads reads_between reads_now writes writes_n
     (let rose = o.rose in record { rose = omega (arith, rose, le); taken = o.taken; consumed = o.consumed; written = o.written })
 follows_open input left held held' reads reads_between reads_now writes writes_now (Err fault.WriteFault) le o =
     record { rose = o.rose; said = o.said; says = o.says; written = o.written }
+
+-- a run is not cut short for want of memory
+pub needs_none : (f : RunFault) → as_replay_fault f ≢ replay.Memory
+needs_none (fault.BadInput line why) e = cc
+needs_none (fault.Limit line which) e = cc
+needs_none fault.ReadFault e = cc
+needs_none fault.WriteFault e = cc
+
+pub run_complete : (result : Result Summary RunFault) → IsOkUnless (as_replay result) replay.Memory → IsOk result
+run_complete (Ok summary) whole = refl
+run_complete (Err f) none = absurd (needs_none f none)
+
+pub run_exact : (line : ℕ) (why : LineRefusal) (result : Result Summary RunFault)
+    → IsErrAnd (as_replay result) (λ f. (f ≡ refused_fault line why) ⊎ (f ≡ replay.Memory))
+    → IsErrAnd result (λ f. as_replay_fault f ≡ refused_fault line why)
+run_exact line why (Ok summary) never = absurd never
+run_exact line why (Err f) (inl refused) = refused
+run_exact line why (Err f) (inr none) = absurd (needs_none f none)

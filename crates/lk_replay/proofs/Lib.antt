@@ -8,3 +8,4 @@ pub mod Turns
 pub mod Answered
 pub mod Opened
 pub mod Complete
+pub mod Puts

@@ -149,8 +149,8 @@ module _ (input : Option (List ℕ)) (old new : LineReader) (left left' : Option
       → Consumes input left' (bytes_of before ++ pending new) × (whole_lines (bytes_of before ++ pending new) ≡ before)
   taken_lines reads reads' gave =
       let why = gave.reason r.kept in (
-        taken_whole input (unread old left) left' (pending new) before r.cut why.2,
-        whole_lines_of before (pending new) (r.whole why.0) why.3,
+        taken_whole input (unread old left) left' (pending new) before r.cut why.3,
+        whole_lines_of before (pending new) (r.whole why.0) why.4,
       )
 
   module _ (line : List ℕ) (gave : GaveLine old new left left' line) where

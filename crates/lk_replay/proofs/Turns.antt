@@ -12,7 +12,7 @@ use Rattle.lk_text.specs.declared.block.Block.{Block}
 use Rattle.lk_text.specs.declared.reader.LineReader.{LineReader}
 use Rattle.lk_text.specs.declared.reader.LineFault.{LineFault}
 use Rattle.lk_text.specs.declared.reader.LineFault.TheVariants.{ReadFault, TooLong, TooMuch}
-use Rattle.lk_text.proofs.Conveyed.{Conveys-trans, front_of_more}
+use Rattle.lk_text.proofs.Conveyed.{Conveys-trans, front_of_more, front_of_conveyed}
 use Rattle.lk_machine.specs.declared.setup.Setup.{Setup}
 use Rattle.lk_machine.specs.Run.{at_rest, history, history_from, machine_after, events_of}
 use Rattle.lk_law.specs.Sound.{IsSound}
@@ -36,7 +36,7 @@ use Rattle.lk_replay.specs.Stands.{Stands, SaysFrom, StopsAtEnd, StopsRefused, S
 use Rattle.lk_replay.specs.declared.answers.RunFault.{RunFault}
 use Rattle.lk_replay.specs.declared.answers.RunFault.TheVariants as fault
 use Rattle.lk_replay.specs.declared.run.Run.{Run as RunValue}
-use Rattle.lk_replay.specs.declared.replayer.Replayer.{Replayer}
+use Rattle.lk_replay.specs.declared.replaying.Replaying.{Replaying}
 use Rattle.lk_replay.proofs.Refusals.{goes_on, says_next, scheduled_setup, scheduled_gone, scheduled_acts}
 use Rattle.lk_replay.proofs.ReadOn.{reads_end, long_line, long_text, taken_lines, line_refused, line_read, line_says}
 use Rattle.lk_replay.proofs.RunLemmas.{machine_after-append, history_from-append, lines-append, events_of-append}
@@ -132,7 +132,7 @@ no_end r gone = by_rank r.rank gone
 pub needs_no_memory : (cpus acts : ℕ) (ended : Bool) (line : List ℕ) (why : LineRefusal) → Err why ≡ schedule_of cpus acts ended line → why ≢ Memory
 needs_no_memory cpus acts ended line why is e = schedule-no_memory cpus acts ended line (sym is ∙ ap Err e)
 
-pub refusal_stops : (input held : Option (List ℕ)) (r : Replayer) (left held_now : Option (List ℕ)) (line : ℕ) (why : LineRefusal) (f : RunFault)
+pub refusal_stops : (input held : Option (List ℕ)) (r : Replaying) (left held_now : Option (List ℕ)) (line : ℕ) (why : LineRefusal) (f : RunFault)
     → why ≢ Memory → as_replay_fault f ≡ refused_fault line why → StopsRefused input held r held_now line why → FaultStops input held r left held_now f
 refusal_stops input held r left held_now line (Bad w) (fault.BadInput l v) some e s = (let same : (l ≡ line) × (v ≡ w) = (cc, cc) in rw (same.0, same.1) s)
 refusal_stops input held r left held_now line (Bad w) (fault.Limit l v) some e s = cc
@@ -159,7 +159,28 @@ scheduled_end r cpus acts ended line End e is = or_true ended
     or_true true = refl
     or_true false = refl
 
-module _ (input held : Option (List ℕ)) (r : Replayer) (reader : LineReader) (left left' held_now : Option (List ℕ)) (s : Stands input held r left held_now) where
+-- what waits is put before the next line is read
+pub stands_put : (input held : Option (List ℕ)) (r : Replaying) (block : Block) (left held_now held' : Option (List ℕ)) → Stands input held r left held_now
+    → Conveys held_now held' (waiting r.block) [] (waiting block)
+    → Stands input held (record { reader = r.reader; block = block; run = r.run; ended = r.ended }) left held'
+stands_put input held r block left held_now held' s put = record {
+  before = s.before;
+  reads = s.reads;
+  gone = s.gone;
+  ended = s.ended;
+  ran = s.ran;
+  written = subst (λ l. Conveys held held' [] l (waiting block)) (append-nil (lines_of_run (setup_of s.before) (acts_of s.before)))
+      (Conveys-trans held held_now held' [] (waiting r.block) (waiting block) _ [] s.written put);
+}
+
+-- a write of what waits failed
+pub put_fails : (input held : Option (List ℕ)) (r : Replaying) (left held_now held' : Option (List ℕ)) → Stands input held r left held_now
+    → AppendsFront held_now held' (waiting r.block) → FailsAt input held held'
+put_fails input held r left held_now held' s cut =
+    fails_with input held held' _ _ (says_from input left r.reader s.before s.reads s.gone)
+    (front_of_conveyed held held_now held' [] (waiting r.block) _ s.written cut)
+
+module _ (input held : Option (List ℕ)) (r : Replaying) (reader : LineReader) (left left' held_now : Option (List ℕ)) (s : Stands input held r left held_now) where
   -- at the end of the text
   pub turn_ends : MetEnd r.reader reader left left' → (is_ended r.reader ≡ true → left' ≡ left)
       → TurnsTo input held (record { reader = reader; block = r.block; run = r.run; ended = r.ended }) left' held_now
@@ -242,7 +263,7 @@ module _ (input held : Option (List ℕ)) (r : Replayer) (reader : LineReader) (
           ∙ lines_on r.run (setup_of s.before) (acts_of s.before) (acts_said said) s.ran
 
       -- its acts were made
-      pub turn_goes_on : (new : Replayer) (held' : Option (List ℕ)) → new.reader ≡ reader → Makes r.run new.run (acts_said said) → new.ended ≡ (r.ended || is_end said)
+      pub turn_goes_on : (new : Replaying) (held' : Option (List ℕ)) → new.reader ≡ reader → Makes r.run new.run (acts_said said) → new.ended ≡ (r.ended || is_end said)
           → Conveys held_now held' (waiting r.block) (lines (occurrences_in r.run (acts_said said))) (waiting new.block)
           → Stands input held new left' held'
       turn_goes_on new held' same made end conveyed = record {

@@ -18,15 +18,16 @@ use Rattle.lk_text.specs.declared.reader.LineFault.{LineFault}
 use Rattle.lk_text.specs.declared.reader.LineFault.TheVariants.{ReadFault, TooLong, TooMuch}
 use Rattle.lk_replay.specs.Transcript.{lines_of_run}
 use Rattle.lk_replay.specs.Reads.{ReadsTo}
+use Rattle.lk_replay.specs.Header.{EndsAtGo}
 use Rattle.lk_replay.specs.Run.{CanGoOn, RanTo}
 use Rattle.lk_replay.specs.Outcome.{full_text}
 use Rattle.lk_replay.specs.declared.answers.RunFault.{RunFault}
 use Rattle.lk_replay.specs.declared.answers.RunFault.TheVariants as fault
-use Rattle.lk_replay.specs.declared.replayer.Replayer.{Replayer}
+use Rattle.lk_replay.specs.declared.replaying.Replaying.{Replaying}
 
 -- After these lines of the text: it was looked at so far, its acts so far were made, and what happened in them was written or
 -- waits.
-pub record Stands (input held : Option (List ℕ)) (replayer : Replayer) (left held_now : Option (List ℕ)) : Type 0 where
+pub record Stands (input held : Option (List ℕ)) (replayer : Replaying) (left held_now : Option (List ℕ)) : Type 0 where
   pub before : List (List ℕ)
   pub reads : ReadsTo input replayer.reader left before
   pub gone : has_go (reading_after before) ≡ true
@@ -34,8 +35,15 @@ pub record Stands (input held : Option (List ℕ)) (replayer : Replayer) (left h
   pub ran : RanTo replayer.run (setup_of before) (acts_of before)
   pub written : Conveys held held_now [] (lines_of_run (setup_of before) (acts_of before)) (waiting replayer.block)
 
+-- the line `go` was the last that was read
+pub record OpensAtGo (input : Option (List ℕ)) (replayer : Replaying) (left : Option (List ℕ)) : Type 0 where
+  pub before : List (List ℕ)
+  pub reads : ReadsTo input replayer.reader left before
+  pub gone : has_go (reading_after before) ≡ true
+  pub last : EndsAtGo before
+
 -- the next line can be read, and its acts be made
-pub record IsOpen (replayer : Replayer) : Type 0 where
+pub record IsOpen (replayer : Replaying) : Type 0 where
   pub kept : kept replayer.reader ≡ None
   pub ready : CanGoOn replayer.run
 
@@ -48,7 +56,7 @@ pub record SaysFrom (input : Option (List ℕ)) (setup : Setup) (acts : List Act
   pub whole : acts_in said ≡ acts ++ more
 
 -- the text has ended, and it was a trace
-pub record StopsAtEnd (input held : Option (List ℕ)) (replayer : Replayer) (left held_now : Option (List ℕ)) : Type 0 where
+pub record StopsAtEnd (input held : Option (List ℕ)) (replayer : Replaying) (left held_now : Option (List ℕ)) : Type 0 where
   pub setup : Setup
   pub acts : List Act
   pub good : Says input (Good setup acts)
@@ -57,14 +65,14 @@ pub record StopsAtEnd (input held : Option (List ℕ)) (replayer : Replayer) (le
   pub written : Conveys held held_now [] (lines_of_run setup acts) (waiting replayer.block)
 
 -- the text is refused at this line
-pub record StopsRefused (input held : Option (List ℕ)) (replayer : Replayer) (held_now : Option (List ℕ)) (line : ℕ) (why : LineRefusal) : Type 0 where
+pub record StopsRefused (input held : Option (List ℕ)) (replayer : Replaying) (held_now : Option (List ℕ)) (line : ℕ) (why : LineRefusal) : Type 0 where
   pub setup : Setup
   pub acts : List Act
   pub refused : Says input (Refused line why setup acts)
   pub written : Conveys held held_now [] (lines_of_run setup acts) (waiting replayer.block)
 
 -- a read failed
-pub record StopsAtRead (input held : Option (List ℕ)) (replayer : Replayer) (left held_now : Option (List ℕ)) : Type 0 where
+pub record StopsAtRead (input held : Option (List ℕ)) (replayer : Replaying) (left held_now : Option (List ℕ)) : Type 0 where
   pub taken : List ℕ
   pub consumed : Consumes input left taken
   pub from : SaysFrom input (setup_of (whole_lines taken)) (acts_of (whole_lines taken))
@@ -77,20 +85,20 @@ pub record FailsAt (input held held_now : Option (List ℕ)) : Type 0 where
   pub written : AppendsFront held held_now (full_text said)
 
 -- why the replay stops before the end
-abbrev pub FaultStops : Option (List ℕ) → Option (List ℕ) → Replayer → Option (List ℕ) → Option (List ℕ) → RunFault → Type 0
+abbrev pub FaultStops : Option (List ℕ) → Option (List ℕ) → Replaying → Option (List ℕ) → Option (List ℕ) → RunFault → Type 0
 FaultStops input held replayer left held_now (fault.BadInput line why) = StopsRefused input held replayer held_now line (Bad why)
 FaultStops input held replayer left held_now (fault.Limit line which) = StopsRefused input held replayer held_now line (Limit which)
 FaultStops input held replayer left held_now fault.ReadFault = StopsAtRead input held replayer left held_now
 FaultStops input held replayer left held_now fault.WriteFault = FailsAt input held held_now
 
 -- what one line more comes to: the replay goes on, has ended, or stops
-abbrev pub TurnsTo : Option (List ℕ) → Option (List ℕ) → Replayer → Option (List ℕ) → Option (List ℕ) → Result Bool RunFault → Type 0
+abbrev pub TurnsTo : Option (List ℕ) → Option (List ℕ) → Replaying → Option (List ℕ) → Option (List ℕ) → Result Bool RunFault → Type 0
 TurnsTo input held replayer left held_now (Ok true) = Stands input held replayer left held_now
 TurnsTo input held replayer left held_now (Ok false) = StopsAtEnd input held replayer left held_now
 TurnsTo input held replayer left held_now (Err why) = FaultStops input held replayer left held_now why
 
 -- where the replay stops
-abbrev pub StopsAt : {T : Type 0} → Option (List ℕ) → Option (List ℕ) → Replayer → Option (List ℕ) → Option (List ℕ) → Result T RunFault → Type 0
+abbrev pub StopsAt : {T : Type 0} → Option (List ℕ) → Option (List ℕ) → Replaying → Option (List ℕ) → Option (List ℕ) → Result T RunFault → Type 0
 StopsAt input held replayer left held_now (Ok all) = StopsAtEnd input held replayer left held_now
 StopsAt input held replayer left held_now (Err why) = FaultStops input held replayer left held_now why
 
@@ -113,5 +121,5 @@ cut_at line TooLong = fault.Limit line Line
 cut_at line TooMuch = fault.Limit line Input
 
 -- what the end of the input means
-abbrev pub end_of : Replayer → Result Bool RunFault
+abbrev pub end_of : Replaying → Result Bool RunFault
 end_of replayer = if replayer.ended then Ok false else Err (fault.BadInput (lines_given replayer.reader + 1) NoEnd)

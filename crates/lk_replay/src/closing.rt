@@ -20,8 +20,12 @@ pub(crate) fn write_closing<K: Sink>(
     acts: u64,
     counts: &Counts,
 ) -> Result<(), WriteFault>
-    ensures ok { OnOk result (Appends (K.held sink.old) (K.held sink.new) (waiting block.old ++ closing acts counts.now)) }
-    ensures err { OnErr result (AppendsFront (K.held sink.old) (K.held sink.new) (waiting block.old ++ closing acts counts.now)) }
+    ensures ok { OnOk result
+        (Appends (K.held sink.old) (K.held sink.new)
+        (waiting block.old ++ closing acts counts.now)) }
+    ensures err { OnErr result
+        (AppendsFront (K.held sink.old) (K.held sink.new)
+        (waiting block.old ++ closing acts counts.now)) }
     ensures cause { HasCause (K.faults sink.old) (K.faults sink.new) result }
 {
     block.push(sink, end_line(acts).bytes())?;

@@ -19,9 +19,15 @@ fn next_step<S: Source>(
 ) -> Result<Option<Result<HeaderStep, LineRefusal>>, LineFault>
     requires { has_go (reading header.old) ≡ false }
     ensures given { IfOk result (λ given. IfSome given (λ said. (line : List ℕ)
-        × GaveLine reader.old reader.new (S.left source.old) (S.left source.new) line × ReadsOn (read (reading header.old) line) (reading header.old) (reading header.new) said)) }
-    ensures end { result ≡ Ok None → MetEnd reader.old reader.new (S.left source.old) (S.left source.new) × (reading header.new ≡ reading header.old) }
-    ensures fault { IfErr result (GaveFault reader.old reader.new (S.left source.old) (S.left source.new) (S.faults source.old) (S.faults source.new)) }
+        × GaveLine reader.old reader.new (S.left source.old) (S.left source.new) line
+        × ReadsOn (read (reading header.old) line) (reading header.old)
+        (reading header.new) said)) }
+    ensures end { result ≡ Ok None
+        → MetEnd reader.old reader.new (S.left source.old) (S.left source.new)
+        × (reading header.new ≡ reading header.old) }
+    ensures fault { IfErr result
+        (GaveFault reader.old reader.new (S.left source.old) (S.left source.new)
+        (S.faults source.old) (S.faults source.new)) }
     ensures idle { is_ended reader.old ≡ true → source.new ≡ source.old }
     ensures later { S.faults source.old ≤ S.faults source.new }
 {
@@ -50,8 +56,10 @@ fn read_step<S: Source>(
     source: &mut S,
 ) -> Result<HeaderStep, ReplayFault>
     requires { has_go (reading header.old) ≡ false }
-    ensures turns { (input : Option (List ℕ)) → HeaderStands input (reading header.old) reader.old (S.left source.old)
-        → HeaderTurns input (reading header.new) reader.new (S.left source.new) (S.faults source.old) (S.faults source.new) result }
+    ensures turns { (input : Option (List ℕ))
+        → HeaderStands input (reading header.old) reader.old (S.left source.old)
+        → HeaderTurns input (reading header.new) reader.new (S.left source.new)
+        (S.faults source.old) (S.faults source.new) result }
     ensures step { IfOk result (λ step. step ≡ step_of (reading header.new)) }
     ensures looked { OnOk result (looked_at reader.old < looked_at reader.new) }
     ensures later { S.faults source.old ≤ S.faults source.new }
@@ -74,10 +82,14 @@ pub(crate) fn read_header<S: Source>(
     source: &mut S,
 ) -> Result<(), ReplayFault>
     requires { has_go (reading header.old) ≡ false }
-    ensures stands { OnOk result ((input : Option (List ℕ)) → HeaderStands input (reading header.old) reader.old (S.left source.old)
+    ensures stands { OnOk result
+        ((input : Option (List ℕ))
+        → HeaderStands input (reading header.old) reader.old (S.left source.old)
         → HeaderStands input (reading header.new) reader.new (S.left source.new)) }
     ensures gone { OnOk result (has_go (reading header.new) ≡ true) }
-    ensures refused { IfErr result (λ why. (input : Option (List ℕ)) → HeaderStands input (reading header.old) reader.old (S.left source.old)
+    ensures refused { IfErr result
+        (λ why. (input : Option (List ℕ))
+        → HeaderStands input (reading header.old) reader.old (S.left source.old)
         → OpenRefused input (S.left source.new) (S.faults source.old) (S.faults source.new) why) }
     ensures later { S.faults source.old ≤ S.faults source.new }
 {

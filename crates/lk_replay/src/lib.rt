@@ -1,5 +1,5 @@
-//! Replays a trace in fixed memory: a line is read, its acts are made and their events written, before the next one is read.
-//! All memory is taken before the schedule begins.
+//! Replays a trace in fixed memory: a line is read, its acts are made and their events written,
+//! before the next one is read. All memory is taken before the schedule begins.
 #![tactic(auto)]
 
 mod answers;
@@ -7,6 +7,7 @@ mod closing;
 mod faults;
 mod header;
 mod replayer;
+mod replaying;
 mod run;
 mod schedule;
 mod stream;

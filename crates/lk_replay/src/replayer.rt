@@ -1,46 +1,53 @@
-// A replay whose header was read: lines of the schedule are read one by one, and each one's acts are made and written before the
-// next is read.
-ghost use Rattle.std.specs.Prelude.{◌≡◌, ◌≤◌, ◌<◌, ◌++◌, ◌||◌, ℕ, List, Option, Ok, Err, true, IfOk, IfErr, OnOk, OnErr, length};
-ghost use Rattle.lk_text.specs.Causes.{HasCause};
-ghost use Rattle.lk_text.specs.Bytes.{AppendsFront, Conveys};
-ghost use Rattle.lk_text.specs.Block.{waiting};
-ghost use Rattle.lk_text.specs.Reader.{looked_at};
-ghost use Rattle.lk_forms.specs.Schedule.{IsWithin};
-ghost use Rattle.lk_forms.specs.Texts.{lines};
-ghost use Rattle.lk_replay.specs.Schedule.{acts_said, is_end};
-ghost use Rattle.lk_replay.specs.Run.{CanGoOn, Makes, occurrences_in};
+// A replay whose header was read.
+ghost use Rattle.std.specs.Prelude.{◌≡◌, ◌≤◌, ℕ, List, Option, Some, IfOk, IfErr, IsOk, IsErrAnd};
+ghost use Rattle.lk_abs.specs.declared.events.Act.{Act};
+ghost use Rattle.lk_machine.specs.declared.setup.Setup.{Setup};
+ghost use Rattle.lk_text.specs.Causes.{Rose};
+ghost use Rattle.lk_forms.specs.Trace.{Good, Refused, trace};
+ghost use Rattle.lk_forms.specs.declared.answers.LineRefusal.{LineRefusal};
 ghost use Rattle.lk_replay.specs.Outside.{outside};
 ghost use Rattle.lk_replay.specs.Header.{OpenRefused};
-ghost use Rattle.lk_replay.specs.Outcome.{Outcome, as_replay, as_replay_fault};
+ghost use Rattle.lk_replay.specs.Outcome.{Outcome, as_replay, as_replay_fault, refused_fault};
+ghost use Rattle.lk_replay.specs.Stands.{Stands, OpensAtGo, HasCauses};
 
 use crate::answers::{ReplayFault, RunFault, Summary};
-use crate::closing::write_closing;
-use crate::faults::{cut_fault, refusal_fault};
 use crate::header::read_header;
+use crate::replaying::Replaying;
 use crate::run::Run;
-use crate::schedule::next_said;
-use lk_forms::{Fault, HeaderReader, Sched};
-use lk_text::{Block, LineReader, Sink, Source, WriteFault};
+use lk_forms::HeaderReader;
+use lk_text::{Block, LineReader, Sink, Source};
 use std::alloc::Global;
+use std::marker::Model;
 
-/// A replay whose header was read. It has all the memory that it needs.
+/// A replay whose header was read. It has all the memory that it needs, and can go on.
 #[derive(Drop)]
 pub struct Replayer {
-    reader: LineReader,
-    block: Block,
-    run: Run,
-    // Whether the line `end` was read.
-    ended: bool,
+    state: Replaying,
+}
+
+impl Model for Replayer {
+    ghost use Rattle.lk_replay.specs.Stands.{IsOpen};
+    ghost use Rattle.lk_replay.specs.declared.replaying.Replaying.{Replaying};
+
+    ghost Value = { Replaying };
+
+    ghost view = { λ replayer. replayer.state };
+
+    ghost invariant = { λ replayer. IsOpen replayer.state };
 }
 
 impl Replayer {
-    ghost use Rattle.lk_replay.specs.Stands.{Stands, IsOpen, StopsAtEnd, FaultStops, TurnsTo, StopsAt, FaultRose, HasCauses, end_of};
-
-    /// Reads the header up to the line `go`, and takes all memory. It answers every fault but that of writing.
+    /// Reads the header up to the line `go`, and takes all memory. It answers every fault but that
+    /// of writing.
     pub fn open<S: Source>(alloc: Global, source: &mut S) -> Result<Replayer, ReplayFault>
-        ensures stands { IfOk result (λ replayer. (held : Option (List ℕ)) → Stands (S.left source.old) held replayer (S.left source.new) held) }
-        ensures opened { IfOk result IsOpen }
-        ensures refused { IfErr result (OpenRefused (S.left source.old) (S.left source.new) (S.faults source.old) (S.faults source.new)) }
+        ensures stands { IfOk result
+            (λ replayer. (held : Option (List ℕ))
+            → Stands (S.left source.old) held replayer (S.left source.new) held) }
+        ensures at_go { IfOk result
+            (λ replayer. OpensAtGo (S.left source.old) replayer (S.left source.new)) }
+        ensures refused { IfErr result
+            (OpenRefused (S.left source.old) (S.left source.new) (S.faults source.old)
+            (S.faults source.new)) }
         ensures later { S.faults source.old ≤ S.faults source.new }
     {
         let mut reader = LineReader::new(alloc)?;
@@ -49,141 +56,44 @@ impl Replayer {
         read_header(&mut header, &mut reader, source)?;
         let run = Run::at_rest(alloc, header.finish())?;
         Ok(Replayer {
-            reader,
-            block,
-            run,
-            ended: false,
-        })
-    }
-
-    // Makes the acts of a line.
-    fn obey<K: Sink>(&mut self, sink: &mut K, said: Sched) -> Result<(), WriteFault>
-        requires ready { CanGoOn self.old.run }
-        requires within { IsWithin (length self.old.run.machine.cpus) self.old.run.acts said }
-        ensures ok { OnOk result (Conveys (K.held sink.old) (K.held sink.new) (waiting self.old.block) (lines (occurrences_in self.old.run (acts_said said))) (waiting self.new.block)) }
-        ensures err { OnErr result (AppendsFront (K.held sink.old) (K.held sink.new) (waiting self.old.block ++ lines (occurrences_in self.old.run (acts_said said)))) }
-        ensures made { OnOk result (Makes self.old.run self.new.run (acts_said said)) }
-        ensures ready { OnOk result (CanGoOn self.new.run) }
-        ensures ended { OnOk result (self.new.ended ≡ self.old.ended || is_end said) }
-        ensures reader { self.new.reader ≡ self.old.reader }
-        ensures cause { HasCause (K.faults sink.old) (K.faults sink.new) result }
-    {
-        match said {
-            Sched::Blank => Ok(()),
-            Sched::Run { act, times } => self.run.repeat(&mut self.block, sink, act, times),
-            Sched::End => {
-                self.ended = true;
-                Ok(())
-            }
-        }
-    }
-
-    // Reads one line, and makes its acts: whether there may be more lines.
-    fn turn<S: Source, K: Sink>(&mut self, source: &mut S, sink: &mut K) -> Result<bool, RunFault>
-        requires { IsOpen self.old }
-        ensures turns { (input held : Option (List ℕ)) → Stands input held self.old (S.left source.old) (K.held sink.old)
-            → TurnsTo input held self.new (S.left source.new) (K.held sink.new) result }
-        ensures opened { result ≡ Ok true → IsOpen self.new }
-        ensures looked { result ≡ Ok true → looked_at self.old.reader < looked_at self.new.reader }
-        ensures causes { HasCauses (S.faults source.old) (S.faults source.new) (K.faults sink.old) (K.faults sink.new) result }
-    {
-        let said = match next_said(
-            &mut self.reader,
-            source,
-            self.run.cpus(),
-            self.run.acts,
-            self.ended,
-        ) {
-            Ok(Some(Ok(said))) => said,
-            Ok(Some(Err(why))) => return Err(refusal_fault(self.reader.lines(), why)),
-            Ok(None) => return self.end(),
-            Err(fault) => return Err(cut_fault(self.reader.lines() + 1, fault)),
-        };
-        match self.obey(sink, said) {
-            Ok(()) => Ok(true),
-            Err(_) => Err(RunFault::WriteFault),
-        }
-    }
-
-    // What the end of the input means: there are no more lines.
-    fn end(&self) -> Result<bool, RunFault>
-        ensures { result ≡ end_of self.now }
-    {
-        if self.ended {
-            return Ok(false);
-        }
-        Err(RunFault::BadInput {
-            line: self.reader.lines() + 1,
-            fault: Fault::NoEnd,
-        })
-    }
-
-    // Reads lines up to the last, and makes their acts.
-    fn read_on<S: Source, K: Sink>(&mut self, source: &mut S, sink: &mut K) -> Result<(), RunFault>
-        requires { IsOpen self.old }
-        ensures stops { (input held : Option (List ℕ)) → Stands input held self.old (S.left source.old) (K.held sink.old)
-            → StopsAt input held self.new (S.left source.new) (K.held sink.new) result }
-        ensures causes { HasCauses (S.faults source.old) (S.faults source.new) (K.faults sink.old) (K.faults sink.new) result }
-    {
-        'lines: loop {
-            match self.turn(source, sink) {
-                Ok(true) => {}
-                Ok(false) => return Ok(()),
-                Err(fault) => return Err(fault),
-            }
-        }
-    }
-
-    // At the end of a whole trace: writes what is left of the transcript.
-    fn close<K: Sink>(&mut self, sink: &mut K) -> Result<Summary, RunFault>
-        ensures outcome { (input left held : Option (List ℕ)) (reads reads_now writes : ℕ) → StopsAtEnd input held self.old left (K.held sink.old) → writes ≤ K.faults sink.old
-            → Outcome (outside input reads held writes) (outside left reads_now (K.held sink.new) (K.faults sink.new)) (as_replay result) }
-        ensures causes { (reads reads_now : ℕ) → reads ≤ reads_now → HasCauses reads reads_now (K.faults sink.old) (K.faults sink.new) result }
-    {
-        let summary = Summary {
-            acts: self.run.acts,
-            events: self.run.events,
-            counts: self.run.machine.counts(),
-        };
-        match write_closing(&mut self.block, sink, summary.acts, &summary.counts) {
-            Ok(()) => Ok(summary),
-            Err(_) => Err(RunFault::WriteFault),
-        }
-    }
-
-    // Before the end: writes the events that wait. A fault in this is answered in place of what came before.
-    fn cut<K: Sink>(&mut self, sink: &mut K, why: RunFault) -> RunFault
-        ensures outcome { (input left held : Option (List ℕ)) (reads reads_now writes : ℕ) → FaultStops input held self.old left (K.held sink.old) why
-            → FaultRose reads reads_now writes (K.faults sink.old) why → writes ≤ K.faults sink.old
-            → Outcome (outside input reads held writes) (outside left reads_now (K.held sink.new) (K.faults sink.new)) (Err (as_replay_fault result)) }
-        ensures rose { (reads reads_now writes : ℕ) → FaultRose reads reads_now writes (K.faults sink.old) why → writes ≤ K.faults sink.old
-            → FaultRose reads reads_now writes (K.faults sink.new) result }
-        ensures later { K.faults sink.old ≤ K.faults sink.new }
-    {
-        match why {
-            RunFault::WriteFault => RunFault::WriteFault,
-            _ => match self.block.flush(sink) {
-                Ok(()) => why,
-                Err(_) => RunFault::WriteFault,
+            state: Replaying {
+                reader,
+                block,
+                run,
+                ended: false,
             },
-        }
+        })
     }
 
-    /// Reads on from the bytes that `open` took beyond the header, and then from the source, to the end of the input, and writes the
-    /// transcript. It takes no memory.
-    pub fn run<S: Source, K: Sink>(
-        mut self,
-        source: &mut S,
-        sink: &mut K,
-    ) -> Result<Summary, RunFault>
-        requires { IsOpen self }
-        ensures outcome { (input held : Option (List ℕ)) → Stands input held self (S.left source.old) (K.held sink.old)
-            → Outcome (outside input (S.faults source.old) held (K.faults sink.old)) (outside (S.left source.new) (S.faults source.new) (K.held sink.new) (K.faults sink.new)) (as_replay result) }
-        ensures causes { HasCauses (S.faults source.old) (S.faults source.new) (K.faults sink.old) (K.faults sink.new) result }
+    /// Reads on from the bytes that `open` took beyond the header, and then from the source, to the
+    /// end of the input, and writes the transcript. It takes no memory.
+    pub fn run<S: Source, K: Sink>(self, source: &mut S, sink: &mut K) -> Result<Summary, RunFault>
+        ensures outcome { (input held : Option (List ℕ))
+            → Stands input held self (S.left source.old) (K.held sink.old)
+            → Outcome (outside input (S.faults source.old) held (K.faults sink.old))
+            (outside (S.left source.new) (S.faults source.new) (K.held sink.new)
+            (K.faults sink.new)) (as_replay result) }
+        ensures causes { HasCauses (S.faults source.old) (S.faults source.new) (K.faults sink.old)
+            (K.faults sink.new) result }
+
+        // A trace is replayed whole, where neither count of faults rose.
+        ensures complete { (input held : Option (List ℕ)) (bytes : List ℕ) (setup : Setup)
+            (acts : List Act)
+            → Stands input held self (S.left source.old) (K.held sink.old) → input ≡ Some bytes
+            → trace bytes ≡ Good setup acts
+            → ¬ Rose (S.faults source.old) (S.faults source.new)
+            → ¬ Rose (K.faults sink.old) (K.faults sink.new) → IsOk result }
+
+        // Another text is refused at its first line that is refused, for the first check that
+        // fails, likewise.
+        ensures exact { (input held : Option (List ℕ)) (bytes : List ℕ) (line : ℕ)
+            (why : LineRefusal) (setup : Setup) (acts : List Act)
+            → Stands input held self (S.left source.old) (K.held sink.old) → input ≡ Some bytes
+            → trace bytes ≡ Refused line why setup acts
+            → ¬ Rose (S.faults source.old) (S.faults source.new)
+            → ¬ Rose (K.faults sink.old) (K.faults sink.new)
+            → IsErrAnd result (λ fault. as_replay_fault fault ≡ refused_fault line why) }
     {
-        match self.read_on(source, sink) {
-            Ok(()) => self.close(sink),
-            Err(why) => Err(self.cut(sink, why)),
-        }
+        self.state.finish(source, sink)
     }
 }

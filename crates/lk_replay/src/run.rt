@@ -75,8 +75,11 @@ impl Run {
         requires ready { CanGoOn self.old }
         requires few { self.old.acts < 100000000 }
         requires processor { processor_of act < length self.old.machine.cpus }
-        ensures ok { OnOk result (Conveys (K.held sink.old) (K.held sink.new) (waiting block.old) (lines (occurrences_in self.old (act ∷ []))) (waiting block.new)) }
-        ensures err { OnErr result (AppendsFront (K.held sink.old) (K.held sink.new) (waiting block.old)) }
+        ensures ok { OnOk result
+            (Conveys (K.held sink.old) (K.held sink.new) (waiting block.old)
+            (lines (occurrences_in self.old (act ∷ []))) (waiting block.new)) }
+        ensures err { OnErr result
+            (AppendsFront (K.held sink.old) (K.held sink.new) (waiting block.old)) }
         ensures ready { CanGoOn self.new }
         ensures made { Makes self.old self.new (act ∷ []) }
         ensures cause { HasCause (K.faults sink.old) (K.faults sink.new) result }
@@ -99,8 +102,12 @@ impl Run {
         requires ready { CanGoOn self.old }
         requires few { self.old.acts + times ≤ 100000000 }
         requires processor { processor_of act < length self.old.machine.cpus }
-        ensures ok { OnOk result (Conveys (K.held sink.old) (K.held sink.new) (waiting block.old) (lines (occurrences_in self.old (replicate times act))) (waiting block.new)) }
-        ensures err { OnErr result (AppendsFront (K.held sink.old) (K.held sink.new) (waiting block.old ++ lines (occurrences_in self.old (replicate times act)))) }
+        ensures ok { OnOk result
+            (Conveys (K.held sink.old) (K.held sink.new) (waiting block.old)
+            (lines (occurrences_in self.old (replicate times act))) (waiting block.new)) }
+        ensures err { OnErr result
+            (AppendsFront (K.held sink.old) (K.held sink.new)
+            (waiting block.old ++ lines (occurrences_in self.old (replicate times act)))) }
         ensures ready { OnOk result (CanGoOn self.new) }
         ensures made { OnOk result (Makes self.old self.new (replicate times act)) }
         ensures cause { HasCause (K.faults sink.old) (K.faults sink.new) result }

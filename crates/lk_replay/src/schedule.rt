@@ -1,10 +1,13 @@
 // The lines of the schedule.
-ghost use Rattle.std.specs.Prelude.{◌≡◌, ◌≤◌, ℕ, List, Ok, None, true, IfOk, IfErr, IfSome};
-ghost use Rattle.lk_text.specs.Reader.{is_ended, GaveLine, MetEnd, GaveFault};
+ghost use Rattle.std.specs.Prelude.{◌≡◌, ◌≤◌, ℕ, List, [], Ok, None, true, false, IfOk, IfErr, IfSome, OnOk, OnErr};
+ghost use Rattle.lk_text.specs.Causes.{HasCause};
+ghost use Rattle.lk_text.specs.Bytes.{AppendsFront, Conveys};
+ghost use Rattle.lk_text.specs.Block.{waiting};
+ghost use Rattle.lk_text.specs.Reader.{is_at_hand, is_ended, GaveLine, MetEnd, GaveFault};
 ghost use Rattle.lk_forms.specs.Schedule.{schedule_of};
 
 use lk_forms::{LineRefusal, Sched, schedule_line};
-use lk_text::{LineFault, LineReader, Source};
+use lk_text::{Block, LineFault, LineReader, Sink, Source, WriteFault};
 
 /// What the next line of the schedule says, if there is one, or why it is refused.
 pub(crate) fn next_said<S: Source>(
@@ -14,12 +17,15 @@ pub(crate) fn next_said<S: Source>(
     acts: u64,
     ended: bool,
 ) -> Result<Option<Result<Sched, LineRefusal>>, LineFault>
-    requires some { 1 ≤ cpus }
-    requires few { acts ≤ 100000000 }
     ensures given { IfOk result (λ given. IfSome given (λ said. (line : List ℕ)
-        × GaveLine reader.old reader.new (S.left source.old) (S.left source.new) line × (said ≡ schedule_of cpus acts ended line))) }
-    ensures end { result ≡ Ok None → MetEnd reader.old reader.new (S.left source.old) (S.left source.new) }
-    ensures fault { IfErr result (GaveFault reader.old reader.new (S.left source.old) (S.left source.new) (S.faults source.old) (S.faults source.new)) }
+        × GaveLine reader.old reader.new (S.left source.old) (S.left source.new) line
+        × (said ≡ schedule_of cpus acts ended line))) }
+    ensures end { result ≡ Ok None
+        → MetEnd reader.old reader.new (S.left source.old) (S.left source.new) }
+    ensures fault { IfErr result
+        (GaveFault reader.old reader.new (S.left source.old) (S.left source.new)
+        (S.faults source.old) (S.faults source.new)) }
+    ensures at_hand { is_at_hand reader.old ≡ true → source.new ≡ source.old }
     ensures idle { is_ended reader.old ≡ true → source.new ≡ source.old }
     ensures later { S.faults source.old ≤ S.faults source.new }
 {
@@ -28,4 +34,24 @@ pub(crate) fn next_said<S: Source>(
         Ok(None) => Ok(None),
         Err(fault) => Err(fault),
     }
+}
+
+/// Puts what waits, where the source has to be asked for the next line: who waits for the events of
+/// a line before it gives the next one gets them.
+pub(crate) fn put_before_read<K: Sink>(
+    reader: &LineReader,
+    block: &mut Block,
+    sink: &mut K,
+) -> Result<(), WriteFault>
+    ensures ok { OnOk result
+        (Conveys (K.held sink.old) (K.held sink.new) (waiting block.old) [] (waiting block.new)) }
+    ensures shown { OnOk result (is_at_hand reader.now ≡ false → waiting block.new ≡ []) }
+    ensures err { OnErr result
+        (AppendsFront (K.held sink.old) (K.held sink.new) (waiting block.old)) }
+    ensures cause { HasCause (K.faults sink.old) (K.faults sink.new) result }
+{
+    if reader.has_line() {
+        return Ok(());
+    }
+    block.flush(sink)
 }

@@ -1,28 +1,22 @@
-use Rattle.std.proofs.Common.{arith}
-use Rattle.lk_replay.proofs.Answered.{causes_sooner}
+use Rattle.std.proofs.Common.{List, ℕ, Option, sym, subst}
+use Rattle.lk_replay.specs.Outcome.{as_replay}
+use Rattle.lk_replay.specs.Stands.{Stands}
+use Rattle.lk_replay.proofs.Complete.{complete, exact, run_complete, run_exact}
 use Rattle.lk_replay.proofs.replayer.Replayer.run.Goals as goal
 
-pub returns-in-Ok-clause-outcome : goal.returns-in-Ok-clause-outcome
-returns-in-Ok-clause-outcome g c = λ input held s.
-    let read = c.in-Ok.ensures in
-    c.close.ensures.outcome input _ held _ _ _ (read.stops input held s) read.causes.writes_later
-
-pub returns-in-Ok-clause-causes : goal.returns-in-Ok-clause-causes
-returns-in-Ok-clause-causes g c =
-    let read = c.in-Ok.ensures.causes in
-    causes_sooner _ _ _ _ _ c.close.result read.writes_later (c.close.ensures.causes _ _ read.reads_later)
-
 pub returns-clause-outcome : goal.returns-clause-outcome
-returns-clause-outcome g c = λ input held s.
-    let read = c.in-Err.ensures in
-    c.cut.ensures.outcome input _ held _ _ _ (read.stops input held s) read.causes.rose read.causes.writes_later
+returns-clause-outcome g c = λ input held stands.
+    let here = subst (λ r. Stands input held r (g.S.Source.left c.args.source.now) (g.K.Sink.held c.args.sink.now)) (sym c.self.view_is) stands in
+    c.finish.ensures.outcome input held here
 
-pub returns-clause-causes : goal.returns-clause-causes
-returns-clause-causes g c =
-    let read = c.in-Err.ensures.causes in
-    let later = read.writes_later in
-    let cut = c.cut.ensures.later in record {
-      reads_later = read.reads_later;
-      writes_later = omega (arith, later, cut);
-      rose = c.cut.ensures.rose _ _ _ read.rose read.writes_later;
-    }
+pub returns-clause-complete : goal.returns-clause-complete
+returns-clause-complete g c = λ input held bytes setup acts stands known is no_read no_write.
+    let here = subst (λ r. Stands input held r (g.S.Source.left c.args.source.now) (g.K.Sink.held c.args.sink.now)) (sym c.self.view_is) stands in
+    run_complete c.finish.result
+    (complete _ _ bytes known no_read no_write setup acts (as_replay c.finish.result) is (c.finish.ensures.outcome input held here))
+
+pub returns-clause-exact : goal.returns-clause-exact
+returns-clause-exact g c = λ input held bytes line why setup acts stands known is no_read no_write.
+    let here = subst (λ r. Stands input held r (g.S.Source.left c.args.source.now) (g.K.Sink.held c.args.sink.now)) (sym c.self.view_is) stands in
+    run_exact line why c.finish.result
+    (exact _ _ bytes known no_read no_write line why setup acts (as_replay c.finish.result) is (c.finish.ensures.outcome input held here))

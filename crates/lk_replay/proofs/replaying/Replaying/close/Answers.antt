@@ -1,6 +1,6 @@
 use Rattle.std.proofs.Common.{arith}
 use Rattle.lk_replay.proofs.Answered.{ended_whole, ended_cut}
-use Rattle.lk_replay.proofs.replayer.Replayer.close.Goals as goal
+use Rattle.lk_replay.proofs.replaying.Replaying.close.Goals as goal
 
 pub returns-in-Ok-clause-outcome : goal.returns-in-Ok-clause-outcome
 returns-in-Ok-clause-outcome g c = λ input left held reads reads_now writes s before.

@@ -1,4 +1,4 @@
-use Rattle.lk_replay.proofs.replayer.Replayer.read_on.Goals as goal
+use Rattle.lk_replay.proofs.replaying.Replaying.read_on.Goals as goal
 
 pub returns-in-Ok-false-clause-stops : goal.returns-in-Ok-false-clause-stops
 returns-in-Ok-false-clause-stops g c = λ input held s.

@@ -1,7 +1,7 @@
 use Rattle.std.proofs.Common.{◌≤◌, ◌-◌, ◌^◌, List, ℕ, Option}
 use Rattle.lk_text.specs.Reader.{looked_at}
 use Rattle.lk_replay.specs.Stands.{Stands, IsOpen}
-use Rattle.lk_replay.proofs.replayer.Replayer.read_on.Given as goal
+use Rattle.lk_replay.proofs.replaying.Replaying.read_on.Given as goal
 
 abbrev pub invariant-lines : goal.invariant-lines
 invariant-lines g l = record {

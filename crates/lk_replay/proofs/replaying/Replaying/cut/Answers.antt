@@ -1,6 +1,6 @@
 use Rattle.std.proofs.Common.{arith}
 use Rattle.lk_replay.proofs.Answered.{stopped_cut}
-use Rattle.lk_replay.proofs.replayer.Replayer.cut.Goals as goal
+use Rattle.lk_replay.proofs.replaying.Replaying.cut.Goals as goal
 
 pub returns-in-Err : goal.returns-in-Err
 returns-in-Err g c =
