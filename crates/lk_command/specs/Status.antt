@@ -7,8 +7,8 @@ use Rattle.lk_forms.specs.declared.answers.Which.TheVariants.{Line, Input, Words
 use Rattle.lk_replay.specs.declared.answers.Summary.{Summary}
 use Rattle.lk_replay.specs.declared.answers.ReplayFault.{ReplayFault}
 use Rattle.lk_replay.specs.declared.answers.ReplayFault.TheVariants as answer
-use Rattle.lk_cli.specs.declared.status.Status.{Status}
-use Rattle.lk_cli.specs.declared.status.Status.TheVariants as status
+use Rattle.lk_command.specs.declared.status.Status.{Status}
+use Rattle.lk_command.specs.declared.status.Status.TheVariants as status
 
 -- the exit status
 abbrev pub number_of : Status → ℕ

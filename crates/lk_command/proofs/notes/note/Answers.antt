@@ -1,5 +1,5 @@
 use Rattle.std.proofs.Common.{◌∙◌}
-use Rattle.lk_cli.proofs.notes.note.Goals as goal
+use Rattle.lk_command.proofs.notes.note.Goals as goal
 
 pub returns-in-BadInput : goal.returns-in-BadInput
 returns-in-BadInput g c =

@@ -1,8 +1,8 @@
 // The line that says why a run is not done.
 ghost use Rattle.std.specs.Prelude.{◌≡◌, ◌≤◌, ◌+◌, ◌++◌, length, codes, decimal, OnOk, OnErr};
 ghost use Rattle.lk_text.specs.Line.{line_text};
-ghost use Rattle.lk_cli.specs.Status.{note_of, fault_name, which_name};
-ghost use Rattle.lk_cli.specs.Means.{IsSaid};
+ghost use Rattle.lk_command.specs.Status.{note_of, fault_name, which_name};
+ghost use Rattle.lk_command.specs.Means.{IsSaid};
 
 use crate::status::Status;
 use lk_forms::{Fault, Which};
@@ -52,7 +52,8 @@ fn limit_name(which: Which) -> &'static [u8]
 fn refusal_note(start: &[u8], line: u64, name: &[u8]) -> LineBuf
     requires start { length start.now ≤ 15 }
     requires name { length name.now ≤ 11 }
-    ensures { line_text result ≡ start.now ++ (decimal line ++ (codes ": " ++ (name.now ++ codes "\n"))) }
+    ensures { line_text result
+        ≡ start.now ++ (decimal line ++ (codes ": " ++ (name.now ++ codes "\n"))) }
 {
     let mut note = LineBuf::new();
     note.word(start);
@@ -65,14 +66,16 @@ fn refusal_note(start: &[u8], line: u64, name: &[u8]) -> LineBuf
 
 // Writes a note. What can't be written is left out.
 fn say<N: Sink>(notes: &mut N, text: &[u8])
-    ensures { IsSaid (N.held notes.old) (N.held notes.new) (N.faults notes.old) (N.faults notes.new) text.now }
+    ensures { IsSaid (N.held notes.old) (N.held notes.new) (N.faults notes.old)
+        (N.faults notes.new) text.now }
 {
     let _ = put(notes, text);
 }
 
 /// Writes the line of a status, if it has one. A fault in this changes nothing.
 pub fn note<N: Sink>(notes: &mut N, status: Status)
-    ensures { IsSaid (N.held notes.old) (N.held notes.new) (N.faults notes.old) (N.faults notes.new) (note_of status) }
+    ensures { IsSaid (N.held notes.old) (N.held notes.new) (N.faults notes.old) (N.faults notes.new)
+        (note_of status) }
 {
     match status {
         Status::Done => {}

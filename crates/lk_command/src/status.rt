@@ -24,7 +24,7 @@ pub enum Status {
 }
 
 impl Status {
-    ghost use Rattle.lk_cli.specs.Status.{number_of, status_of};
+    ghost use Rattle.lk_command.specs.Status.{number_of, status_of};
 
     /// The program's exit status.
     pub fn number(&self) -> u8
