@@ -1,0 +1,10 @@
+pub mod Machine
+pub mod Rows
+pub mod Phase
+pub mod Queue
+pub mod History
+pub mod Handed
+pub mod Agree
+pub mod Shown
+pub mod Run
+pub mod RunLaws

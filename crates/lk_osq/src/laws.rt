@@ -1,0 +1,26 @@
+// The laws, as clauses of functions that do nothing: who calls one may use its law.
+ghost use Rattle.std.specs.Prelude.{ℕ, List};
+ghost use Rattle.lk_osq.specs.RunLaws.{ActKeeps, RunKeeps, RestShows, RunsInParts};
+
+/// Every act, of whatever processor, keeps what a machine shows, and its event is lawful after it.
+pub fn acts_keep()
+    ensures keep { ActKeeps }
+{}
+
+/// The machine at rest shows the empty history.
+#[tactic(auto, using(crate::proofs::Runs::rest_shows))]
+pub fn rest_shows()
+    ensures rest { RestShows }
+{}
+
+/// The history of every list of acts from rest is lawful, and the machine afterwards shows what it
+/// tells.
+pub fn runs_keep()
+    ensures run { RunKeeps }
+{}
+
+/// A run can be told in parts, and its occurrences without their numbers are its history.
+#[tactic(auto, using(crate::proofs::Joined::runs_in_parts))]
+pub fn runs_in_parts()
+    ensures parts { RunsInParts }
+{}
