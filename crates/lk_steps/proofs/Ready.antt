@@ -1,0 +1,57 @@
+-- What a machine on which acts are told has, and what lines of a header say.
+use Rattle.std.proofs.Common.{◌≡◌, ◌<◌, ◌∷◌, ◌++◌, ℕ, List, [], Ok, sym, ap, ◌∙◌, subst, arith, length}
+use Rattle.std.specs.Result.{result_unwrap_or}
+use Rattle.std.proofs.lemmas.Grind.{fold-append}
+use Rattle.lk_machine.specs.Machine.{Machine}
+use Rattle.lk_machine.specs.Programs.{IsLawfulSetup}
+use Rattle.lk_machine.specs.Run.{at_rest}
+use Rattle.lk_machine.specs.declared.setup.Setup.{Setup}
+use Rattle.lk_abs.specs.History.{history_of}
+use Rattle.lk_law.specs.Sound.{IsSound}
+use Rattle.lk_law.specs.MachineLaws.{RestShows}
+use Rattle.lk_forms.specs.Grammar.{Reading, read, next_reading, nothing_read}
+use Rattle.lk_steps.specs.Header.{IsSaid}
+use Rattle.lk_steps.specs.Shown.{CanShow}
+use Rattle.lk_steps.specs.Told.{CanGoOn}
+
+-- a sound machine with so many locks can be shown
+pub shown : (m : Machine) (locks p : ℕ) → IsSound m → locks ≡ length m.setup.locks.items → p < length m.cpus → CanShow m locks p
+shown m locks p sound same range =
+    let whole = sound.1.whole in
+    let s = whole.setup in
+    let c = whole.cpus in
+    record {
+      top = whole.tops p range;
+      programs = record { task = omega (arith, s.progs); handlers = omega (arith, s.irqs); few = s.handlers p };
+      locks = omega (arith, whole.locks);
+    }
+
+-- a machine at rest can go on
+pub ready_at_rest : (setup : Setup) (m : Machine) (locks : ℕ) → m ≡ at_rest setup → RestShows → IsLawfulSetup setup → locks ≡ length setup.locks.items
+    → CanGoOn (record { machine = m; locks = locks; acts = 0 })
+ready_at_rest setup m locks same shows lawful count =
+    subst (λ x. CanGoOn (record { machine = x; locks = locks; acts = 0 })) (sym same) (record {
+      sound = ((λ l. history_of l []), (shows setup lawful).shows);
+      few = omega arith;
+      counts = record {
+        lock_pending = omega arith;
+        lock_slowpath = omega arith;
+        lock_use_node2 = omega arith;
+        lock_use_node3 = omega arith;
+        lock_use_node4 = omega arith;
+        lock_no_node = omega arith;
+        pv_lock_stealing = omega arith;
+        pv_wait_node = omega arith;
+        pv_wait_head = omega arith;
+        pv_kick_unlock = omega arith;
+      };
+      locks = count;
+    })
+
+-- one line more that is accepted
+pub said_more : (r n : Reading) (line : List ℕ) → IsSaid r → read r line ≡ Ok n → IsSaid n
+said_more r n line s is = record {
+  lines = s.lines ++ line ∷ [];
+  said = fold-append next_reading nothing_read s.lines (line ∷ [])
+      ∙ ap (λ x. result_unwrap_or (read x line) x) s.said ∙ ap (λ x. result_unwrap_or x r) is;
+}

@@ -1,0 +1,55 @@
+// A machine whose acts are told.
+ghost use Rattle.std.specs.Prelude.{◌≡◌, ◌≤◌, ◌<◌, ◌+◌, IfOk, length};
+ghost use Rattle.lk_machine.specs.Acts.{next, processor_of};
+ghost use Rattle.lk_machine.specs.Programs.{IsLawfulSetup};
+
+use crate::step::{Step, aim_of, step_of};
+use lk_abs::{Act, Event, Memory};
+use lk_core::rest_shows;
+use lk_machine::{Machine, Setup};
+use std::alloc::Global;
+
+/// A machine, how many locks it has, and how many acts were made on it.
+#[derive(Drop)]
+pub(crate) struct Told {
+    pub(crate) machine: Machine,
+    pub(crate) locks: u32,
+    pub(crate) acts: u64,
+}
+
+impl Told {
+    ghost use Rattle.lk_steps.specs.Told.{CanGoOn};
+
+    /// The machine at rest, on which no act was made. It takes all its memory here.
+    pub(crate) fn at_rest(alloc: Global, setup: Setup) -> Result<Told, Memory>
+        requires { IsLawfulSetup setup }
+        ensures ready { IfOk result CanGoOn }
+        ensures acts { IfOk result (λ told. told.acts ≡ 0) }
+    {
+        rest_shows();
+        let locks = setup.locks.len() as u32;
+        let machine = Machine::new(alloc, setup)?;
+        Ok(Told {
+            machine,
+            locks,
+            acts: 0,
+        })
+    }
+
+    /// Makes the act, and gives what it did and its event: those that `lk_machine` defines.
+    pub(crate) fn act(&mut self, act: Act) -> (Step, Option<Event>)
+        requires ready { CanGoOn self.old }
+        requires few { self.old.acts < 100000000 }
+        requires processor { processor_of act < length self.old.machine.cpus }
+        ensures machine { self.new.machine ≡ (next self.old.machine act).0 }
+        ensures event { result.1 ≡ (next self.old.machine act).1 }
+        ensures ready { CanGoOn self.new }
+        ensures acts { self.new.acts ≡ self.old.acts + 1 }
+        ensures cpus { length self.new.machine.cpus ≡ length self.old.machine.cpus }
+    {
+        let aim = aim_of(&self.machine, self.locks, act);
+        let event = lk_core::act(&mut self.machine, act);
+        self.acts += 1;
+        (step_of(&self.machine, self.locks, aim, event), event)
+    }
+}
