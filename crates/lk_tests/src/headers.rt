@@ -8,12 +8,12 @@ use lk_machine::Setup;
 use std::alloc::Global;
 
 /// The setup of these lines up to `go`, if they come so far, or the refusal of the last of them.
-pub fn setup_of(alloc: Global, lines: &[&str]) -> Result<Option<Setup>, LineRefusal>
+pub fn setup_of(alloc: Global, lines: &str) -> Result<Option<Setup>, LineRefusal>
     ensures { IfOk result (λ said. IfSome said IsLawfulSetup) }
 {
     lines_say_lawful_setups();
     let mut reader = HeaderReader::new(alloc)?;
-    for line in lines {
+    for line in lines.lines() {
         match reader.line(line.as_bytes())? {
             HeaderStep::More => {}
             HeaderStep::Go => return Ok(Some(reader.finish())),

@@ -3,61 +3,12 @@
 ghost use Rattle.std.specs.Prelude.{◌≡◌, None, ◌+◌, ◌<◌, ◌≤◌, ◌^◌, IsTrue, IfOk, length};
 ghost use Rattle.lk_abs.specs.Judge.{JudgeState, taken_by, IsInRange};
 
-use lk_abs::{
-    Breach, Event, How, Judge, Kind, List, LockName, Memory, Mode, Topology, Waiter, What,
-};
+use crate::breaches::wanted_breach;
+use crate::events::event_of;
+use lk_abs::{Breach, Event, Judge, Kind, List, Memory, Mode, Topology, What};
 use std::alloc::Global;
 use std::process::Abort;
-
-/// The one lock.
-pub const LOCK: LockName = LockName {
-    index: 0,
-    wait: false,
-};
-
-/// What a task does with the lock.
-#[derive(Clone, Copy)]
-pub enum Deed {
-    /// It joins the queue.
-    Arrives,
-    /// It takes the lock so.
-    Takes(How),
-    /// It hands the lead to the task of a processor, and moves so many waiters aside.
-    Passes(u32, u32),
-    /// It releases.
-    Releases,
-    /// It lets the second queue return before the rest.
-    Flushes,
-    /// It lets the second queue return as the rest.
-    Promotes,
-    /// It does something else.
-    Does(What),
-    /// An interrupt of its processor does something.
-    Interrupts(What),
-}
-
-/// The task of a processor.
-pub fn task(cpu: u32) -> Waiter {
-    Waiter { cpu, ctx: 0 }
-}
-
-// What an event says of the lock.
-fn what_of(deed: Deed) -> What {
-    let lock = LOCK;
-    match deed {
-        Deed::Arrives => What::Arrive { lock },
-        Deed::Takes(how) => What::Take { lock, how },
-        Deed::Passes(to, moved) => What::Pass {
-            lock,
-            to: task(to),
-            moved,
-        },
-        Deed::Releases => What::Release { lock, owing: None },
-        Deed::Flushes => What::Flush { lock },
-        Deed::Promotes => What::Promote { lock },
-        Deed::Does(what) | Deed::Interrupts(what) => what,
-    }
-}
+use std::test::Fail;
 
 /// A judge of six processors, of which the fourth and the sixth stand on a second socket, and of one lock of this kind.
 pub fn judge(alloc: Global, mode: Mode, threshold: u32, kind: Kind) -> Result<Judge, Memory>
@@ -98,26 +49,89 @@ fn is_in_range(event: &Event) -> bool
     here && event.by.cpu < 6 && event.by.ctx < 6
 }
 
-/// The first breach of what these tasks do, if there is one.
-pub fn first_breach(rt: &impl Abort, judge: &mut Judge, deeds: &[(u32, Deed)]) -> Option<Breach>
+// The event of a text, which such a judge can be asked about.
+fn event_in_range(rt: &impl Abort, text: &str) -> Event
+    ensures { (j : JudgeState)
+        → length j.rules.sockets ≡ 6
+        → length j.locks ≡ 2
+        → taken_by j < 2 ^ 63
+        → IsInRange j result }
+{
+    let event = event_of(text).expect(rt, "an event");
+    assert!(rt; is_in_range(&event), "at {text}");
+    event
+}
+
+/// The first breach of these events, if there is one. They are divided by commas.
+pub fn first_breach(rt: &impl Abort, judge: &mut Judge, events: &str) -> Option<Breach>
     requires sockets { length judge.old.rules.sockets ≡ 6 }
     requires locks { length judge.old.locks ≡ 2 }
     requires few { taken_by judge.old < 2 ^ 62 }
     ensures sockets { result ≡ None → length judge.new.rules.sockets ≡ 6 }
     ensures locks { result ≡ None → length judge.new.locks ≡ 2 }
-    ensures few { result ≡ None → taken_by judge.new ≤ taken_by judge.old + length deeds.now }
+    ensures few { result ≡ None → taken_by judge.new ≤ taken_by judge.old + 100 }
 {
-    assert!(rt; deeds.len() < 100);
-    for (cpu, deed) in deeds {
-        let ctx = u32::from(matches!(*deed, Deed::Interrupts(_)));
-        let event = Event {
-            by: Waiter { cpu: *cpu, ctx },
-            what: what_of(*deed),
-        };
-        assert!(rt; is_in_range(&event));
+    let mut told: u64 = 0;
+    for text in events.split_terminator(", ") {
+        assert!(rt; told < 100);
+        told += 1;
+        let event = event_in_range(rt, text);
         if let Err(breach) = judge.take(&event) {
             return Some(breach);
         }
     }
     None
+}
+
+// Whether a judge that was told what stands before finds in a row what it says: its events, and the breach that the last one
+// makes, or `lawful`.
+fn answers_so(rt: &impl Abort, judge: &mut Judge, before: &str, row: &str) -> bool
+    requires sockets { length judge.old.rules.sockets ≡ 6 }
+    requires locks { length judge.old.locks ≡ 2 }
+    requires few { taken_by judge.old ≡ 0 }
+{
+    let (events, wanted) = row.split_once(": ").expect(rt, "an answer");
+    first_breach(rt, judge, before).is_none()
+        && first_breach(rt, judge, events) == wanted_breach(rt, wanted)
+}
+
+// Judges a row behind what is given: a threshold, and what was done lawfully before.
+fn judge_row(
+    rt: &(impl Abort + AllocGlobal),
+    (mode, kind): (Mode, Kind),
+    given: &str,
+    row: &str,
+) -> Result<(), Fail> {
+    let (threshold, before) = given.split_once(": ").unwrap_or((given, ""));
+    let threshold = u32::from(threshold.parse::<u16>()?);
+    let mut judge = judge(rt.alloc(), mode, threshold, kind)?;
+    assert!(rt; answers_so(rt, &mut judge, before, row), "at {row}");
+    Ok(())
+}
+
+// Judges the rows of a section, whose first line is what is given. A line `#` says nothing.
+fn judge_section(
+    rt: &(impl Abort + AllocGlobal),
+    family: (Mode, Kind),
+    section: &str,
+) -> Result<(), Fail> {
+    let (given, rows) = section.split_once('\n').ok_or("no rows")?;
+    for row in rows.lines() {
+        if !row.starts_with('#') {
+            judge_row(rt, family, given, row)?;
+        }
+    }
+    Ok(())
+}
+
+/// Judges the histories of a text, one a row. A line `given` says what stands before each row behind it.
+pub fn judge_all(
+    rt: &(impl Abort + AllocGlobal),
+    family: (Mode, Kind),
+    text: &str,
+) -> Result<(), Fail> {
+    for section in text.split("given ").skip(1) {
+        judge_section(rt, family, section)?;
+    }
+    Ok(())
 }

@@ -3,9 +3,13 @@
 #![tactic(auto)]
 
 #[cfg(test)]
-mod acts;
+mod breaches;
 #[cfg(test)]
 mod cna_histories;
+#[cfg(test)]
+mod command;
+#[cfg(test)]
+mod events;
 #[cfg(test)]
 mod faults;
 #[cfg(test)]
@@ -17,15 +21,21 @@ mod judging;
 #[cfg(test)]
 mod kick_histories;
 #[cfg(test)]
+mod ledger;
+#[cfg(test)]
 mod lines;
 #[cfg(test)]
 mod lists;
 #[cfg(test)]
 mod machine;
 #[cfg(test)]
+mod osq;
+#[cfg(test)]
 mod printed;
 #[cfg(test)]
 mod queue_histories;
+#[cfg(test)]
+mod reading;
 #[cfg(test)]
 mod refusals;
 #[cfg(test)]
@@ -34,6 +44,8 @@ mod replaying;
 mod rw_histories;
 #[cfg(test)]
 mod sinks;
+#[cfg(test)]
+mod slowed;
 #[cfg(test)]
 mod traces;
 #[cfg(test)]

@@ -3,50 +3,77 @@
 ghost use Rattle.std.specs.Prelude.{◌<◌, ◌+◌, None};
 
 use lk_text::{Failed, LineFault, LineReader, MemSource, Source, StdSource, SureSource};
+use std::alloc::Global;
 use std::io::{self, ErrorKind, Read};
+use std::process::Abort;
+use std::str;
 use std::test::Fail;
 
-#[test]
-fn lines_in_any_pieces(rt: HostRuntime) -> Result<(), Fail> {
-    let alloc = rt.alloc();
-    let inputs: [(&str, &[&str]); 5] = [
-        ("", &[]),
-        ("\n", &[""]),
-        ("one", &["one"]),
-        ("one\n", &["one"]),
-        ("one\n\ntwo\r\n three", &["one", "", "two\r", " three"]),
-    ];
-    for (input, lines) in inputs {
-        for chunk in [1, 2, 5, 1_000] {
-            let mut source = MemSource::new(alloc, input.as_bytes(), chunk, &[])?;
-            let mut reader = LineReader::new(alloc)?;
-            for line in lines {
-                let found = reader.next_line(&mut source);
-                assert_eq!(rt; found, Ok(Some(line.as_bytes())), "in pieces of {chunk}");
-            }
-            assert_eq!(rt; reader.next_line(&mut source), Ok(None));
-            assert_eq!(rt; reader.next_line(&mut source), Ok(None));
-            assert_eq!(rt; reader.lines(), lines.len() as u64);
-        }
+// What a call of a reader answers, as text.
+fn told<'a>(found: Result<Option<&'a [u8]>, LineFault>) -> &'a str {
+    match found {
+        Ok(Some(line)) => str::from_utf8(line).unwrap_or("(not text)"),
+        Ok(None) => "(end)",
+        Err(LineFault::TooLong) => "(too long)",
+        Err(LineFault::TooMuch) => "(too much)",
+        Err(LineFault::ReadFault) => "(read fault)",
+    }
+}
+
+// What the first calls of a reader answer, a line each, and then how many lines it counts.
+fn first_lines<S: Source>(alloc: Global, source: &mut S, calls: u32) -> Result<String, Fail> {
+    let mut reader = LineReader::new(alloc)?;
+    let mut text = String::new(alloc);
+    for _ in 0..calls {
+        text.push_str(told(reader.next_line(source)))?;
+        text.push_str("\n")?;
+    }
+    text.push_str(format!(in alloc; "{}", reader.lines())?.as_str())?;
+    Ok(text)
+}
+
+// Reads a text in pieces of several sizes.
+fn reads_so(
+    rt: &(impl Abort + AllocGlobal),
+    input: &str,
+    calls: u32,
+    wanted: &str,
+) -> Result<(), Fail> {
+    for chunk in [1, 2, 5, 1_000] {
+        let mut source = MemSource::new(rt.alloc(), input.as_bytes(), chunk, &[])?;
+        let found = first_lines(rt.alloc(), &mut source, calls)?;
+        assert_eq!(rt; found.as_str(), wanted, "in pieces of {chunk}");
     }
     Ok(())
 }
 
 #[test]
-fn the_longest_line(rt: HostRuntime) -> Result<(), Fail> {
-    let alloc = rt.alloc();
-    let text = vec![in alloc; b'#'; 4_097]?;
-    let longest = &text[..4_096];
-    let mut source = SureSource::new(alloc, longest, 1_000)?;
-    let mut reader = LineReader::new(alloc)?;
-    assert_eq!(rt; reader.next_line(&mut source), Ok(Some(longest)));
-    assert_eq!(rt; reader.next_line(&mut source), Ok(None));
+fn lines_in_any_pieces(rt: HostRuntime) -> Result<(), Fail> {
+    reads_so(&rt, "", 2, "(end)\n(end)\n0")?;
+    reads_so(&rt, "\n", 3, "\n(end)\n(end)\n1")?;
+    reads_so(&rt, "one", 3, "one\n(end)\n(end)\n1")?;
+    reads_so(&rt, "one\n", 3, "one\n(end)\n(end)\n1")?;
+    reads_so(
+        &rt,
+        "one\n\ntwo\r\n three",
+        6,
+        "one\n\ntwo\r\n three\n(end)\n(end)\n4",
+    )
+}
 
-    let mut source = SureSource::new(alloc, &text, 1_000)?;
-    let mut reader = LineReader::new(alloc)?;
-    assert_eq!(rt; reader.next_line(&mut source), Err(LineFault::TooLong));
-    assert_eq!(rt; reader.next_line(&mut source), Err(LineFault::TooLong));
-    assert_eq!(rt; reader.lines(), 0);
+// What the first two calls answer where the one line has so many bytes.
+fn one_line(alloc: Global, size: usize) -> Result<String, Fail> {
+    let line = "#".repeat(alloc, size)?;
+    let mut source = SureSource::new(alloc, line.as_bytes(), 1_000)?;
+    first_lines(alloc, &mut source, 2)
+}
+
+#[test]
+fn the_longest_line(rt: HostRuntime) -> Result<(), Fail> {
+    let long = one_line(rt.alloc(), 4_096)?;
+    assert!(rt; long.len() == 4_096 + 8 && long.as_str().ends_with("#\n(end)\n1"));
+    let longer = one_line(rt.alloc(), 4_097)?;
+    assert_eq!(rt; longer.as_str(), "(too long)\n(too long)\n0");
     Ok(())
 }
 
@@ -85,21 +112,17 @@ fn an_endless_source(rt: HostRuntime) -> Result<(), Fail> {
         assert!(rt; matches!(found, Ok(Some(line)) if line.len() == 4_095));
     }
     for _ in 0..3 {
-        assert_eq!(rt; reader.next_line(&mut source), Err(LineFault::TooMuch));
+        assert!(rt; told(reader.next_line(&mut source)) == "(too much)");
     }
-    assert_eq!(rt; reader.lines(), 262_144);
+    assert!(rt; reader.lines() == 262_144);
     Ok(())
 }
 
 #[test]
 fn a_failing_read(rt: HostRuntime) -> Result<(), Fail> {
-    let alloc = rt.alloc();
-    let mut source = MemSource::new(alloc, b"ab\ncd\n", 2, &[3])?;
-    let mut reader = LineReader::new(alloc)?;
-    assert_eq!(rt; reader.next_line(&mut source), Ok(Some(b"ab".as_slice())));
-    assert_eq!(rt; reader.next_line(&mut source), Err(LineFault::ReadFault));
-    assert_eq!(rt; reader.next_line(&mut source), Err(LineFault::ReadFault));
-    assert_eq!(rt; reader.lines(), 1);
+    let mut source = MemSource::new(rt.alloc(), b"ab\ncd\n", 2, &[3])?;
+    let found = first_lines(rt.alloc(), &mut source, 3)?;
+    assert_eq!(rt; found.as_str(), "ab\n(read fault)\n(read fault)\n1");
     Ok(())
 }
 
@@ -117,15 +140,10 @@ impl Read for Broken {
 
 #[test]
 fn readers_of_std(rt: HostRuntime) -> Result<(), Fail> {
-    let alloc = rt.alloc();
     let mut source = StdSource::new(b"one\ntwo".as_slice());
-    let mut reader = LineReader::new(alloc)?;
-    assert_eq!(rt; reader.next_line(&mut source), Ok(Some(b"one".as_slice())));
-    assert_eq!(rt; reader.next_line(&mut source), Ok(Some(b"two".as_slice())));
-    assert_eq!(rt; reader.next_line(&mut source), Ok(None));
-
-    let mut reader = LineReader::new(alloc)?;
-    let found = reader.next_line(&mut StdSource::new(Broken));
-    assert_eq!(rt; found, Err(LineFault::ReadFault));
+    let found = first_lines(rt.alloc(), &mut source, 3)?;
+    assert_eq!(rt; found.as_str(), "one\ntwo\n(end)\n2");
+    let found = first_lines(rt.alloc(), &mut StdSource::new(Broken), 1)?;
+    assert_eq!(rt; found.as_str(), "(read fault)\n0");
     Ok(())
 }

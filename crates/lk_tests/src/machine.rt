@@ -1,7 +1,8 @@
 // A machine at rest, as it is read and written.
 
 ghost use Rattle.std.specs.Prelude.{◌≡◌, [], ◌∷◌, IfOk, length};
-ghost use Rattle.lk_machine.specs.Programs.{handlers_of};
+ghost use Rattle.lk_machine.specs.Machine.{HasTop};
+ghost use Rattle.lk_machine.specs.Programs.{HasPrograms, handlers_of};
 
 use lk_abs::{Kind, List, LockName, Memory, Mode, Topology};
 use lk_machine::{Counts, Machine, Op, Pc, Setup, Verb};
@@ -57,104 +58,143 @@ fn smallest(alloc: Global) -> Result<Setup, Memory>
     })
 }
 
-// What the smallest machine shows before any step.
-#[test]
+// The smallest machine at rest.
 #[tactic(auto, using(lk_machine::proofs::Rested::rested))]
-fn shows_its_rest(rt: HostRuntime) -> Result<(), Fail> {
-    let alloc = rt.alloc();
-    let machine = Machine::new(alloc, smallest(alloc)?)?;
-    let lock = LockName {
-        index: 0,
-        wait: false,
-    };
-    let node = NodeName { cpu: 0, index: 3 };
-    let free = Fields {
-        locked: Locked::Free,
-        pending: false,
-        tail: None,
-    };
-    assert!(rt; machine.mode() == Mode::Virt);
-    for (reading, value) in [
-        (machine.cpus(), 1),
-        (machine.threshold(), 65535),
-        (machine.spins(), 32768),
-        (machine.socket(0), 5),
-        (machine.depth(0), 1),
-        (machine.queued(0), 0),
-        (machine.handlers_left(0), 1),
-        (machine.frame(0).at, 0),
-        (machine.frame_at(0, 0).ctx, 0),
-        (machine.waiter_of(node).ctx, 0),
-        (machine.node(node).runs, 0),
-    ] {
-        assert_eq!(rt; reading, value);
-    }
-    assert_eq!(rt; machine.place(0), Some(Pc::F1));
-    assert_eq!(rt; machine.word(lock), free);
-    let nothing = Counts {
-        lock_pending: 0,
-        lock_slowpath: 0,
-        lock_use_node2: 0,
-        lock_use_node3: 0,
-        lock_use_node4: 0,
-        lock_no_node: 0,
-        pv_lock_stealing: 0,
-        pv_wait_node: 0,
-        pv_wait_head: 0,
-        pv_kick_unlock: 0,
-    };
-    assert_eq!(rt; machine.counts(), nothing);
-    assert!(rt; !machine.preempted(0) && !machine.halted(0) && !machine.kicked(0));
-    Ok(())
+fn at_rest(alloc: Global) -> Result<Machine, Memory>
+    ensures locks { IfOk result (λ m. length m.locks ≡ 1) }
+    ensures cpus { IfOk result (λ m. length m.cpus ≡ 1) }
+    ensures top { IfOk result (λ m. HasTop m 0) }
+    ensures sockets { IfOk result (λ m. length m.setup.topology.sockets.items ≡ 1) }
+    ensures programs { IfOk result (λ m. HasPrograms m.setup 0) }
+{
+    Machine::new(alloc, smallest(alloc)?)
 }
 
-// What is written is read again, one call after the other.
+const LOCK: LockName = LockName {
+    index: 0,
+    wait: false,
+};
+
+const WAIT: LockName = LockName {
+    index: 0,
+    wait: true,
+};
+
+const NODE: NodeName = NodeName { cpu: 0, index: 3 };
+
+const FREE: Fields = Fields {
+    locked: Locked::Free,
+    pending: false,
+    tail: None,
+};
+
+const HELD: Fields = Fields {
+    locked: Locked::Held,
+    pending: true,
+    tail: None,
+};
+
+const NOBODY: RwFields = RwFields {
+    readers: 0,
+    waiting: false,
+    writer: false,
+};
+
+const WAITED: RwFields = RwFields {
+    readers: 3,
+    waiting: true,
+    writer: false,
+};
+
+const NOTHING: Counts = Counts {
+    lock_pending: 0,
+    lock_slowpath: 0,
+    lock_use_node2: 0,
+    lock_use_node3: 0,
+    lock_use_node4: 0,
+    lock_no_node: 0,
+    pv_lock_stealing: 0,
+    pv_wait_node: 0,
+    pv_wait_head: 0,
+    pv_kick_unlock: 0,
+};
+
+// What a machine shows of its setup and of its one processor.
+fn readings(machine: &Machine) -> [u32; 11]
+    requires cpus { length machine.now.cpus ≡ 1 }
+    requires top { HasTop machine.now 0 }
+    requires sockets { length machine.now.setup.topology.sockets.items ≡ 1 }
+    requires programs { HasPrograms machine.now.setup 0 }
+{
+    [
+        machine.cpus(),
+        machine.threshold(),
+        machine.spins(),
+        machine.socket(0),
+        machine.depth(0),
+        machine.queued(0),
+        machine.handlers_left(0),
+        machine.frame(0).at,
+        machine.frame_at(0, 0).ctx,
+        machine.waiter_of(NODE).ctx,
+        machine.node(NODE).runs,
+    ]
+}
+
+// Whether its lock is free, and its processor stands before the first row.
+fn is_idle(machine: &Machine) -> bool
+    requires locks { length machine.now.locks ≡ 1 }
+    requires cpus { length machine.now.cpus ≡ 1 }
+    requires top { HasTop machine.now 0 }
+{
+    machine.word(LOCK) == FREE
+        && machine.rw(0) == NOBODY
+        && machine.place(0) == Some(Pc::F1)
+        && !machine.preempted(0)
+        && !machine.halted(0)
+        && !machine.kicked(0)
+}
+
 #[test]
-#[tactic(auto, using(lk_machine::proofs::Rested::rested, lk_machine::proofs::Kept::kept))]
-fn shows_what_is_written(rt: HostRuntime) -> Result<(), Fail> {
-    let alloc = rt.alloc();
-    let mut machine = Machine::new(alloc, smallest(alloc)?)?;
-    let lock = LockName {
-        index: 0,
-        wait: false,
-    };
+fn shows_its_rest(rt: HostRuntime) -> Result<(), Fail> {
+    let machine = at_rest(rt.alloc())?;
+    assert!(rt; readings(&machine) == [1, 65535, 32768, 5, 1, 0, 1, 0, 0, 0, 0]);
+    assert!(rt; is_idle(&machine));
+    assert!(rt; machine.mode() == Mode::Virt && machine.counts() == NOTHING);
     // The one processor stands on socket 5, and one that there is not on socket 0.
     assert!(rt; machine.same_socket(0, 0) && !machine.same_socket(0, 1));
     assert!(rt; machine.same_socket(1, 2));
+    Ok(())
+}
 
-    let nobody = RwFields {
-        readers: 0,
-        waiting: false,
-        writer: false,
-    };
-    let waited = RwFields {
-        readers: 3,
-        waiting: true,
-        writer: false,
-    };
-    assert_eq!(rt; machine.rw(0), nobody);
-    machine.set_rw(0, waited);
-    assert_eq!(rt; machine.rw(0), waited);
+// Writes the words of the one lock, of which each keeps its own.
+#[tactic(auto, using(lk_machine::proofs::Kept::kept))]
+fn keeps_words(machine: &mut Machine) -> bool
+    requires { length machine.old.locks ≡ 1 }
+{
+    machine.set_rw(0, WAITED);
+    machine.set_word(WAIT, HELD);
+    machine.word(WAIT) == HELD && machine.word(LOCK) == FREE && machine.rw(0) == WAITED
+}
 
-    let held = Fields {
-        locked: Locked::Held,
-        pending: true,
-        tail: None,
-    };
-    let wait = LockName { wait: true, ..lock };
-    machine.set_word(wait, held);
-    assert_eq!(rt; machine.word(wait), held);
-    assert_eq!(rt; machine.word(lock).locked, Locked::Free);
-    assert_eq!(rt; machine.rw(0), waited);
-
-    // The frame goes to take the wait lock by the rows of a spinlock, and frees it by their release.
+// Takes the wait lock by the rows of a spinlock, and frees it by their release.
+#[tactic(auto, using(lk_machine::proofs::Kept::kept))]
+fn frees_what_it_takes(machine: &mut Machine) -> bool
+    requires { HasTop machine.old 0 }
+{
     machine.take_wait(0, Pc::R4);
-    assert_eq!(rt; machine.frame(0).lock, wait);
-    assert_eq!(rt; machine.frame(0).then, Some(Pc::R4));
-    assert_eq!(rt; machine.place(0), Some(Pc::F1));
+    let frame = machine.frame(0);
+    let goes_on = frame.lock == WAIT && frame.then == Some(Pc::R4);
+    let takes = machine.place(0) == Some(Pc::F1);
     machine.free_wait(0);
-    assert_eq!(rt; machine.place(0), Some(Pc::U1));
-    assert_eq!(rt; machine.frame(0).lock, wait);
+    let frees = machine.place(0) == Some(Pc::U1) && machine.frame(0).lock == WAIT;
+    goes_on && takes && frees
+}
+
+#[test]
+fn shows_what_is_written(rt: HostRuntime) -> Result<(), Fail> {
+    assert!(rt; keeps_words(&mut at_rest(rt.alloc())?));
+    assert!(rt; frees_what_it_takes(&mut at_rest(rt.alloc())?));
     Ok(())
 }
 
@@ -162,15 +202,9 @@ fn shows_what_is_written(rt: HostRuntime) -> Result<(), Fail> {
 #[test]
 #[tactic(auto, using(lk_machine::proofs::Rested::rested), unfolding(lk_machine::specs::Machine::entry_at, lk_machine::specs::Machine::set_entry))]
 fn finds_what_is_entered(rt: HostRuntime) -> Result<(), Fail> {
-    let alloc = rt.alloc();
-    let mut machine = Machine::new(alloc, smallest(alloc)?)?;
-    let lock = LockName {
-        index: 0,
-        wait: false,
-    };
-    let node = NodeName { cpu: 0, index: 3 };
-    machine.hash_enter(lock, node);
-    assert_eq!(rt; machine.hashed(lock), Some(node));
-    assert_eq!(rt; machine.hash_remove(lock), node);
+    let mut machine = Machine::new(rt.alloc(), smallest(rt.alloc())?)?;
+    machine.hash_enter(LOCK, NODE);
+    assert!(rt; machine.hashed(LOCK) == Some(NODE));
+    assert!(rt; machine.hash_remove(LOCK) == NODE);
     Ok(())
 }

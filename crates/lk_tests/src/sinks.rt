@@ -2,18 +2,19 @@
 
 ghost use Rattle.std.specs.Prelude.{◌<◌, ◌+◌, None};
 
-use lk_text::{Block, Failed, LineBuf, MemSink, NullSink, Sink, StdSink, WriteFault, put};
+use lk_text::{Block, Failed, LineBuf, MemSink, NullSink, Sink, StdSink, put};
 use std::test::Fail;
 
+// The second write fails, and the last one has no room.
 #[test]
 fn a_failing_write(rt: HostRuntime) -> Result<(), Fail> {
     let mut sink = MemSink::new(rt.alloc(), 6, &[2])?;
-    assert_eq!(rt; put(&mut sink, b"one"), Ok(()));
-    assert_eq!(rt; put(&mut sink, b"two"), Err(WriteFault));
-    assert_eq!(rt; put(&mut sink, b"two"), Ok(()));
-    assert_eq!(rt; put(&mut sink, b"!"), Err(WriteFault), "past the room");
-    assert_eq!(rt; sink.bytes(), b"onetwo".as_slice());
-    assert_eq!(rt; put(&mut NullSink::new(), b"one"), Ok(()));
+    assert!(rt; put(&mut sink, b"one").is_ok());
+    assert!(rt; put(&mut sink, b"two").is_err());
+    assert!(rt; put(&mut sink, b"two").is_ok());
+    assert!(rt; put(&mut sink, b"!").is_err());
+    assert!(rt; sink.bytes() == b"onetwo".as_slice());
+    assert!(rt; put(&mut NullSink::new(), b"one").is_ok());
     Ok(())
 }
 
@@ -37,20 +38,20 @@ impl Sink for Full {
 #[test]
 fn a_sink_that_takes_nothing(rt: HostRuntime) {
     let mut sink = Full { faults: 0 };
-    assert_eq!(rt; put(&mut sink, b"one"), Err(WriteFault));
-    assert_eq!(rt; sink.faults, 1);
+    assert!(rt; put(&mut sink, b"one").is_err());
+    assert!(rt; sink.faults == 1);
 }
 
 #[test]
 fn writers_of_std(rt: HostRuntime) -> Result<(), Fail> {
     let mut text = Vec::new(rt.alloc());
-    assert_eq!(rt; put(&mut StdSink::new(&mut text), b"one"), Ok(()));
-    assert_eq!(rt; text.as_slice(), b"one".as_slice());
+    assert!(rt; put(&mut StdSink::new(&mut text), b"one").is_ok());
+    assert!(rt; text.as_slice() == b"one".as_slice());
 
     let mut room = [0; 2];
     let mut sink = StdSink::new(room.as_mut_slice());
-    assert_eq!(rt; put(&mut sink, b"one"), Err(WriteFault));
-    assert_eq!(rt; room, *b"on");
+    assert!(rt; put(&mut sink, b"one").is_err());
+    assert!(rt; room == *b"on");
     Ok(())
 }
 
@@ -62,23 +63,23 @@ fn a_line_of_words_and_numbers(rt: HostRuntime) {
     line.number(0);
     line.word(b" to ");
     line.number(u64::MAX);
-    assert_eq!(rt; line.bytes(), b"from 0 to 18446744073709551615".as_slice());
+    assert!(rt; line.bytes() == b"from 0 to 18446744073709551615".as_slice());
 }
 
+// What waits in a block is put before a long text. After a write that failed nothing waits.
 #[test]
 #[tactic(auto, using(lk_text::proofs::Decimal::decimal_short))]
 fn a_block_of_output(rt: HostRuntime) -> Result<(), Fail> {
-    let alloc = rt.alloc();
-    let mut sink = MemSink::new(alloc, 100_000, &[2])?;
-    let mut block = Block::new(alloc)?;
-    let long = vec![in alloc; b'#'; 65_536]?;
+    let mut sink = MemSink::new(rt.alloc(), 100_000, &[2])?;
+    let mut block = Block::new(rt.alloc())?;
+    let long = vec![in rt.alloc(); b'#'; 65_536]?;
     block.word(b"end ");
     block.number(10);
-    assert_eq!(rt; sink.bytes(), b"".as_slice());
-    assert_eq!(rt; block.push(&mut sink, &long), Ok(()));
-    assert_eq!(rt; sink.bytes(), b"end 10".as_slice());
-    assert_eq!(rt; block.make_room(&mut sink, 1), Err(WriteFault));
-    assert_eq!(rt; block.flush(&mut sink), Ok(()));
-    assert_eq!(rt; sink.bytes(), b"end 10".as_slice());
+    assert!(rt; sink.bytes().is_empty());
+    assert!(rt; block.push(&mut sink, &long).is_ok());
+    assert!(rt; sink.bytes() == b"end 10".as_slice());
+    assert!(rt; block.make_room(&mut sink, 1).is_err());
+    assert!(rt; block.flush(&mut sink).is_ok());
+    assert!(rt; sink.bytes() == b"end 10".as_slice());
     Ok(())
 }

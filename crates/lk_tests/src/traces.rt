@@ -1,4 +1,5 @@
-// Worked traces and their transcripts, by what they show.
+// Worked traces and their transcripts, in one text for each topic. A text has a trace, a line `---`, its transcript, again
+// such a line, the next trace, and so on.
 
 mod cna;
 mod pv;
@@ -6,15 +7,8 @@ mod queue;
 mod rw;
 mod virt;
 
-pub use cna::{FLUSHED, LATE, NO_THRESHOLD, ONE_SOCKET, PROMOTED};
-pub use pv::{HANDED, NUDGED, STOLEN};
-pub use queue::{MISSED, NESTED, PENDING, PENDING_ALONE, REVERSE, TRANSIENT};
-pub use rw::{READERS_AND_WRITER, TRIES};
-pub use virt::{EMPTY, IDLE};
-
-/// A trace and its transcript.
-#[derive(Clone, Copy)]
-pub struct Row {
-    pub input: &'static str,
-    pub output: &'static str,
-}
+pub use cna::CNA;
+pub use pv::PV;
+pub use queue::QUEUE;
+pub use rw::RW;
+pub use virt::VIRT;

@@ -1,61 +1,98 @@
-// Traces in mode `virt`.
+// Traces in mode `virt`. Each stands before its transcript.
 
-use crate::traces::Row;
-
-/// No processor has a program, and the schedule is empty.
-pub const EMPTY: Row = Row {
-    input: "\
-        qtrace 1\n\
-        mode virt\n\
-        go\n\
-        end\n\
-    ",
-    output: "\
-        end 0\n\
-        lock_pending 0\n\
-        lock_slowpath 0\n\
-        lock_use_node2 0\n\
-        lock_use_node3 0\n\
-        lock_use_node4 0\n\
-        lock_no_node 0\n\
-        pv_lock_stealing 0\n\
-        pv_wait_node 0\n\
-        pv_wait_head 0\n\
-        pv_kick_unlock 0\n\
-    ",
-};
-
-/// Acts that change nothing.
-pub const IDLE: Row = Row {
-    input: "\
-        qtrace 1\n\
-        mode virt\n\
-        cpus 1\n\
-        lock 0 spin\n\
-        prog 0 lock 0 unlock 0\n\
-        go\n\
-        pre 0\n\
-        step 0 3\n\
-        res 0\n\
-        res 0\n\
-        int 0\n\
-        nudge 0\n\
-        step 0 5\n\
-        end\n\
-    ",
-    output: "\
-        9 0.0 take 0 fast\n\
-        10 0.0 release 0\n\
-        end 13\n\
-        lock_pending 0\n\
-        lock_slowpath 0\n\
-        lock_use_node2 0\n\
-        lock_use_node3 0\n\
-        lock_use_node4 0\n\
-        lock_no_node 0\n\
-        pv_lock_stealing 0\n\
-        pv_wait_node 0\n\
-        pv_wait_head 0\n\
-        pv_kick_unlock 0\n\
-    ",
-};
+pub const VIRT: &str = "\
+# No processor has a program, and the schedule is empty.
+qtrace 1
+mode virt
+go
+end
+---
+end 0
+lock_pending 0
+lock_slowpath 0
+lock_use_node2 0
+lock_use_node3 0
+lock_use_node4 0
+lock_no_node 0
+pv_lock_stealing 0
+pv_wait_node 0
+pv_wait_head 0
+pv_kick_unlock 0
+---
+# Acts that change nothing.
+qtrace 1
+mode virt
+cpus 1
+lock 0 spin
+prog 0 lock 0 unlock 0
+go
+pre 0
+step 0 3
+res 0
+res 0
+int 0
+nudge 0
+step 0 5
+end
+---
+9 0.0 take 0 fast
+10 0.0 release 0
+end 13
+lock_pending 0
+lock_slowpath 0
+lock_use_node2 0
+lock_use_node3 0
+lock_use_node4 0
+lock_no_node 0
+pv_lock_stealing 0
+pv_wait_node 0
+pv_wait_head 0
+pv_kick_unlock 0
+---
+# A try fails beside a holder, which an interrupt meets; a preempted processor stands still; what is idle tells nothing.
+qtrace 1
+mode virt
+cpus 3
+sockets 0 0 1
+lock 0 spin
+lock 1 spin
+prog 0 lock 0 unlock 0
+prog 1 try 0 lock 1 unlock 1 unlock 0 lock 1 unlock 1
+prog 2 lock 0 unlock 0
+irq 0 lock 1 unlock 1
+go
+step 0 1
+pre 1
+step 1 1
+res 1
+step 1 2
+int 0
+int 0
+step 0 2
+step 1 1
+step 0 2
+nudge 0
+step 0 3
+step 1 1
+end
+---
+1 0.0 take 0 fast
+5 1.0 miss 0
+6 1.0 take 1 fast
+7 0.1 int
+11 1.0 release 1
+13 0.1 take 1 virt
+15 0.1 release 1
+16 0.0 release 0
+end 18
+lock_pending 0
+lock_slowpath 0
+lock_use_node2 0
+lock_use_node3 0
+lock_use_node4 0
+lock_no_node 0
+pv_lock_stealing 0
+pv_wait_node 0
+pv_wait_head 0
+pv_kick_unlock 0
+";

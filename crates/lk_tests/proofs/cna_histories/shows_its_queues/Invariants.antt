@@ -6,5 +6,6 @@ abbrev pub invariant-loop-stage : goal.invariant-loop-stage
 invariant-loop-stage g l = record {
   sockets : length l.judge.rules.sockets ≡ 6;
   locks : length l.judge.locks ≡ 2;
-  few : taken_by l.judge ≤ l.stage-counter * 1000;
+  few : taken_by l.judge ≤ l.reached * 100;
+  short : l.reached ≤ 100;
 }
