@@ -1,0 +1,25 @@
+// One change of what the kernel's code does, at one line of the table.
+#pragma once
+#include <cstdint>
+#include <string>
+#include "table.h"
+
+enum class ChangeKind { nothing, skip, repeat, value, expected };
+
+// skip      the operation is not made; a swap answers as if it had happened, a waiting loop ends at its first look
+// repeat    it is made twice
+// value     another value is stored, or answered by a look: the bits of `bits` are turned
+// expected  a swap compares with another value
+struct Change {
+    ChangeKind kind = ChangeKind::nothing;
+    std::string function;
+    int line = 0;
+    Row row = Row::none;
+    uint64_t bits = 0;
+
+    // The kind of change of this operation, if it is the one.
+    ChangeKind at(const Entry *entry) const;
+    // KIND FUNCTION LINE ROW [BITS]; a place that the table lacks ends the run.
+    void read(const std::string &text);
+};
+extern Change change;

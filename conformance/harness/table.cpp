@@ -1,0 +1,117 @@
+#include "table.h"
+#include <fstream>
+#include "fault.h"
+#include "machine.h"
+
+Table table;
+
+static const char *const operation_names[] = {
+#define X(name) #name,
+    SHIM_OPERATIONS(X)
+#undef X
+};
+
+const char *name_of(shim_operation operation) { return operation_names[operation]; }
+
+static shim_operation operation_named(const std::string &name) {
+    for (int i = 0; i < shim_operations; i++)
+        if (name == operation_names[i]) return (shim_operation)i;
+    fail("no operation %s", name.c_str());
+}
+
+static Word word_named(const std::string &name) {
+    for (int i = 0; i <= (int)Word::hash_node; i++)
+        if (name == name_of((Word)i)) return (Word)i;
+    fail("no word %s", name.c_str());
+}
+
+const char *name_of(Row row) {
+    static const char *const names[] = {"-",
+#define X(name) #name,
+                                        CONFORMANCE_ROWS(X)
+#undef X
+    };
+    return names[(int)row];
+}
+
+Row row_named(const std::string &label) {
+    for (int i = 0; i <= (int)Row::Z2; i++)
+        if (label == name_of((Row)i)) return (Row)i;
+    fail("no row %s", label.c_str());
+}
+
+std::vector<std::string> words_of(const std::string &line) {
+    std::vector<std::string> words;
+    std::string word;
+    for (char letter : line + " ") {
+        if (letter != ' ' && letter != '\t' && letter != '\r') {
+            word += letter;
+        } else if (!word.empty()) {
+            words.push_back(word);
+            word.clear();
+        }
+    }
+    return words;
+}
+
+static void add_condition(Entry &entry, const std::string &word) {
+    if (word == "by-try") entry.by = By::a_try;
+    else if (word == "by-node") entry.by = By::with_node;
+    else if (word == "by-nonode") entry.by = By::without_node;
+    else if (word == "native") entry.code = Code::native;
+    else if (word == "pv") entry.code = Code::pv;
+    else if (word.rfind("after-", 0) == 0) entry.after = row_named(word.substr(6));
+    else if (word == "last-look") entry.when = When::last_look;
+    else if (word == "nonzero") entry.when = When::nonzero;
+    else if (word == "swapped") entry.when = When::swapped;
+    else if (word == "held") entry.when = When::held;
+    else if (word == "swapped-or-held") entry.when = When::swapped_or_held;
+    else if (word == "second-half") entry.when = When::second_half;
+    else fail("the table has a condition %s", word.c_str());
+}
+
+static Entry entry_of(const std::string &file, const std::vector<std::string> &words) {
+    if (words.size() < 5) fail("the table has a line of %zu words", words.size());
+    Entry entry;
+    entry.file = file;
+    entry.line = std::stoi(words[0]);
+    entry.function = words[1];
+    entry.operation = operation_named(words[2]);
+    entry.word = word_named(words[3]);
+    entry.row = row_named(words[4]);
+    if (entry.row == Row::none) entry.when = When::never;
+    for (size_t i = 5; i < words.size(); i++) add_condition(entry, words[i]);
+    return entry;
+}
+
+void Table::read(const std::string &path) {
+    std::ifstream input(path);
+    if (!input) fail("no table %s", path.c_str());
+    std::string line, file;
+    while (std::getline(input, line)) {
+        auto words = words_of(line);
+        if (words.empty() || words[0] == "#" || words[0] == "|") continue;
+        if (words[0] == "file") file = words.at(1);
+        else entries.push_back(entry_of(file, words));
+    }
+}
+
+static bool is_by(By by, Phase phase) {
+    switch (by) {
+    case By::anyone: return true;
+    case By::a_try: return phase == Phase::trying;
+    case By::with_node: return phase == Phase::with_node;
+    case By::without_node: return phase == Phase::without_node;
+    }
+    return false;
+}
+
+const Entry *Table::find(const shim_place &at, Word word, const Context &context) const {
+    Code code = machine.setup.mode == Mode::pv ? Code::pv : Code::native;
+    for (const Entry &entry : entries)
+        if (entry.line == at.line && entry.operation == at.operation && entry.word == word && entry.function == at.function &&
+            entry.file == at.file && is_by(entry.by, context.phase) && (entry.code == Code::either || entry.code == code) &&
+            (entry.after == Row::none || entry.after == context.last))
+            return &entry;
+    return nullptr;
+}
