@@ -1,0 +1,81 @@
+"""The files of the repository, and the names that its sources declare."""
+import re
+import shutil
+import subprocess
+from collections import defaultdict
+
+CODE = re.compile(r"\b(?:fn|struct|enum|trait|const|static|type|mod)\s+(\w+)")
+CLAUSE = re.compile(r"\b(?:ensures|requires|invariant)\s+(\w+)\s*\{")
+MEMBER = re.compile(r"^\s+(?:pub\s+)?(\w+)(?:\s*[:({,]|\s*$)", re.M)
+DEFINITION = re.compile(r"^\s*(?:(?:pub|abbrev|data|record|mutual|postulate)\s+)*([\w'◌]+)(?:\s+[({].*)?\s*:", re.M)
+FUNCTION = re.compile(r"\bfn\s+(\w+)")
+RECORD = re.compile(r"^(?:pub )?record (\w+)", re.M)
+ROWS = re.compile(r"pub enum Pc \{(.*?)^\}", re.M | re.S)
+ROW = re.compile(r"^\s+(\w+),", re.M)
+
+
+class Sources:
+    def __init__(self, top):
+        self.top = top
+        self.files = sorted(listed(top))
+        self.crates = re.findall(r"^(\w+)[^:#]*:", (top / "crates.txt").read_text(), re.M)
+        self.text = {path: (top / path).read_text() for path in self.files if path.endswith((".rt", ".antt"))}
+        self.names = {path: set(names_in(path, text)) for path, text in self.text.items()}
+        self.declared = {name for names in self.names.values() for name in names}
+        self.clauses = defaultdict(set)
+        for path, text in self.text.items():
+            for owner, clauses in clauses_in(path, text):
+                self.clauses[owner] |= set(clauses)
+        self.rows = ROW.findall(ROWS.search(self.text["crates/lk_machine/src/parts.rt"])[1])
+
+    def documents(self):
+        return [path for path in self.files if path.endswith(".md")]
+
+    def declared_in(self, crate):
+        inside = f"crates/{crate}/"
+        return {name for path, names in self.names.items() if path.startswith(inside) for name in names}
+
+    def mentions(self, word):
+        """Whether a script or a constant has this name."""
+        paths = [path for path in self.files if not path.endswith(".md")]
+        return any(re.search(rf"\b{word}\b", (self.top / path).read_text(errors="replace")) for path in paths)
+
+    def has_file(self, name, folder):
+        """Whether a file or folder has this name: from the top, from the folder, or as the end of its path."""
+        pattern = re.compile(re.escape(name.rstrip("/")).replace(r"\*", "[^/]*") + r"(?:[/.].*)?")
+        for path in self.files:
+            inside = path[len(folder) + 1 :] if path.startswith(f"{folder}/") else path
+            if pattern.fullmatch(path) or pattern.fullmatch(inside):
+                return True
+            starts = (at + 1 for at, letter in enumerate(path) if letter == "/")
+            if any(pattern.fullmatch(path, start) for start in starts):
+                return True
+        return False
+
+
+def listed(top):
+    """The files under version control, and those that may come under it; without git all but what is made."""
+    if shutil.which("git"):
+        command = ["git", "ls-files", "--cached", "--others", "--exclude-standard"]
+        run = subprocess.run(command, cwd=top, capture_output=True, text=True)
+        if run.returncode == 0:
+            return {path for path in run.stdout.splitlines() if (top / path).is_file()}
+    paths = (path.relative_to(top) for path in top.rglob("*") if path.is_file())
+    return {str(path) for path in paths if not {"out", ".git", "__pycache__"} & set(path.parts)}
+
+
+def names_in(path, text):
+    if path.endswith(".antt"):
+        text = re.sub(r"--.*", "", text)
+        return DEFINITION.findall(text)
+    text = re.sub(r"//.*", "", text)
+    return CODE.findall(text) + CLAUSE.findall(text) + MEMBER.findall(text)
+
+
+
+def clauses_in(path, text):
+    """The clauses of each function, and the fields of each record."""
+    owner, clause = (RECORD, DEFINITION) if path.endswith(".antt") else (FUNCTION, CLAUSE)
+    _, *pieces = owner.split(text)
+    for name, body in zip(pieces[::2], pieces[1::2]):
+        yield name, clause.findall(body)
