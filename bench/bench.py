@@ -2,7 +2,8 @@
 """bench.py [--runs N] [--keep FOLDER] PROGRAM
 
 Measures a built qlock: makes its traces, replays each of them N times (five, if not said), and prints for each the best
-user and system time, that time per act and per line, and the peak memory. Output goes to a file that is thrown away.
+user and system time, that time per act and per line, and the peak memory; and, where valgrind is there, the instructions of one
+more run, in millions, which do not depend on what else the machine does. Output goes to a file that is thrown away.
 
 looks     one holder and one waiter that looks ten million times; in `pv` it looks whether it may steal, behind a front that has
           halted
@@ -20,6 +21,8 @@ In `cna` the 64 processors of `busy`, `rounds` and `rw` stand on four sockets, w
 there.
 """
 import os
+import re
+import shutil
 import subprocess
 import sys
 import tempfile
@@ -143,6 +146,17 @@ def measure(program, path):
         return child.returncode, notes.read(), usage.ru_utime + usage.ru_stime, memory
 
 
+def instructions(program, path):
+    """The instructions of one run by valgrind, in millions; None where there is no valgrind, or it did not say."""
+    if shutil.which("valgrind") is None:
+        return None
+    with open(path, "rb") as source:
+        command = ["valgrind", "--tool=callgrind", "--callgrind-out-file=/dev/null", program, "replay"]
+        run = subprocess.run(command, stdin=source, stdout=subprocess.DEVNULL, stderr=subprocess.PIPE, text=True)
+    told = re.search(r"Collected : (\d+)", run.stderr)
+    return int(told[1]) / 1e6 if told else None
+
+
 def main(argv):
     runs, keep = 5, None
     while argv and argv[0].startswith("--"):
@@ -156,7 +170,7 @@ def main(argv):
     if len(argv) != 1:
         sys.exit(__doc__)
     program = os.path.abspath(argv[0])
-    print("%-14s %10s %10s %10s %9s %9s %9s" % ("trace", "acts", "lines", "seconds", "ns/act", "ns/line", "KiB"))
+    print("%-14s %10s %10s %10s %9s %9s %9s %9s" % ("trace", "acts", "lines", "seconds", "ns/act", "ns/line", "KiB", "M instr."))
     with tempfile.TemporaryDirectory() as scratch:
         folder = keep or scratch
         os.makedirs(folder, exist_ok=True)
@@ -172,7 +186,10 @@ def main(argv):
                     print("%-14s status %d: %s" % (name + "-" + mode, bad[0][0], bad[0][1].decode().strip()))
                     continue
                 seconds, memory = min(r[2] for r in results), max(r[3] for r in results)
-                print("%-14s %10d %10d %10.3f %9.1f %9.1f %9d" % (name + "-" + mode, acts, len(text), seconds, seconds / acts * 1e9, seconds / len(text) * 1e9, memory))
+                count = instructions(program, path)
+                told = "" if count is None else "%.1f" % count
+                figures = (name + "-" + mode, acts, len(text), seconds, seconds / acts * 1e9, seconds / len(text) * 1e9, memory, told)
+                print("%-14s %10d %10d %10.3f %9.1f %9.1f %9d %9s" % figures, flush=True)
 
 
 main(sys.argv[1:])
