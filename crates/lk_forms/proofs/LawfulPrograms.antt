@@ -1,5 +1,5 @@
 -- A program that is read is lawful.
-use Rattle.std.proofs.Common.{◌≡◌, ◌≤◌, ◌<◌, ◌+◌, ◌==◌, ◌&&◌, ◌⊎◌, inl, inr, ℕ, zero, suc, Bool, true, false, not, List, [], ◌∷◌, ◌++◌, Option, None, Some, is_some, Result, Ok, Err, length, take, drop, get_or, refl, sym, ap, subst, ◌∙◌, append_assoc, append-nil, add-zero, zero-add, arith, nat_le, length-append, if◌then◌else◌}
+use Rattle.std.proofs.Common.{◌≡◌, ◌≤◌, ◌<◌, ◌+◌, ◌==◌, ◌&&◌, ◌⊎◌, inl, inr, ℕ, zero, suc, Bool, true, false, not, List, [], ◌∷◌, ◌++◌, Option, None, Some, is_some, Result, Ok, Err, length, take, drop, get_or, refl, sym, ap, subst, ◌∙◌, append_assoc, append-nil, arith, nat_le, length-append, if◌then◌else◌}
 use Rattle.std.specs.Prelude.{slice_get}
 use Rattle.std.proofs.lemmas.Bool.{cases_lt}
 use Rattle.std.proofs.lemmas.Bool.Decides.{nat_tests}
@@ -17,7 +17,7 @@ use Rattle.lk_machine.specs.Programs.{kind_of, is_try, is_release, way_from, way
 use Rattle.lk_machine.specs.declared.setup.Verb.{Verb}
 use Rattle.lk_machine.specs.declared.setup.Verb.TheVariants.{Lock, Try, Unlock, Read, TryRead, RUnlock, Write, TryWrite, WUnlock}
 use Rattle.lk_machine.specs.declared.setup.Op.{Op}
-use Rattle.lk_forms.specs.Operations.{way_after_all, same_way, same_kind, same_holds, try_from, try_at, is_declared, is_crossed, fault_of_hold, fault_of_op, checked_op, op_of, ops_from, ops_of, and_then, or_fault, verb_of, lock_word}
+use Rattle.lk_forms.specs.Operations.{way_after_all, same_way, same_kind, same_holds, try_at, is_declared, is_crossed, fault_of_hold, fault_of_op, checked_op, op_of, ops_from, ops_of, and_then, or_fault, verb_of, lock_word}
 use Rattle.lk_forms.specs.declared.answers.Fault.{Fault}
 use Rattle.lk_forms.specs.declared.answers.Fault.TheVariants.{UnknownWord, WrongLock, Reheld, NotHeld, Crossed, StillHeld}
 use Rattle.lk_forms.specs.declared.answers.Which.TheVariants.{Words}
@@ -25,7 +25,7 @@ use Rattle.lk_forms.specs.declared.answers.LineRefusal.{LineRefusal}
 use Rattle.lk_forms.specs.declared.answers.LineRefusal.TheVariants.{Bad, Limit}
 use Rattle.lk_forms.proofs.Changes.{and_then-ok, if-ok, else-ok}
 use Rattle.lk_forms.proofs.Readings.{unless-ok}
-use Rattle.lk_forms.proofs.WalkLemmas.{way_after_all-push}
+use Rattle.lk_forms.proofs.WalkLemmas.{way_after_all-push, try_at-push}
 
 -- what the tests of one operation say
 
@@ -185,17 +185,6 @@ same_holds-at (suc n) lock ops others same below = by_place (eq-or-lt_of_le with
     by_place : (lock ≡ n) ⊎ (lock < n) → (lock < n → way_after_all ops lock ≡ way_after_all others lock) → way_after_all ops lock ≡ way_after_all others lock
     by_place (inl is) later = rw is (same_way-is _ _ parts.0)
     by_place (inr less) later = later less
-
--- the last operation on a lock, with one more operation
-try_from-push : (ops : List Op) (o : Op) (lock n : ℕ) (found : Option ℕ)
-    → try_from (ops ++ o ∷ []) lock n found ≡ (if o.lock == lock then (if is_try o.verb then Some (n + length ops) else None) else try_from ops lock n found)
-try_from-push [] o lock n found = rw add-zero refl
-try_from-push (p ∷ ops) o lock n found =
-    let shift : n + suc (length ops) ≡ suc n + length ops = omega arith in
-    rw shift (try_from-push ops o lock (suc n) (if p.lock == lock then (if is_try p.verb then Some n else None) else found))
-
-try_at-push : (ops : List Op) (o : Op) (lock : ℕ) → try_at (ops ++ o ∷ []) lock ≡ (if o.lock == lock then (if is_try o.verb then Some (length ops) else None) else try_at ops lock)
-try_at-push ops o lock = rw (← zero-add (length ops)) (try_from-push ops o lock 0 None)
 
 -- the try
 

@@ -1,5 +1,5 @@
 // The operations of a program.
-ghost use Rattle.std.specs.Prelude.{◌≡◌, ◌≤◌, ◌<◌, ◌+◌, ◌++◌, ◌∷◌, [], ℕ, List, Option, IfSome, is_some, not, true, Some, None, ◌==◌, if◌then◌else◌, length, take, slice_get};
+ghost use Rattle.std.specs.Prelude.{◌≡◌, ◌≤◌, ◌<◌, ◌+◌, ◌++◌, ◌∷◌, [], ℕ, List, Option, IfSome, MatchOption, is_some, not, true, Some, None, ◌==◌, if◌then◌else◌, length, take, slice_get};
 ghost use Rattle.std.specs.Option.{option_map};
 ghost use Rattle.lk_machine.specs.Programs.{kind_of, is_try, is_release, op_way, way_after, way_before};
 ghost use Rattle.lk_forms.specs.Operations.{verb_of, way_after_all, same_way, same_holds, try_at, same_kind, is_declared, is_crossed, fault_of_hold, op_of};
@@ -116,45 +116,43 @@ fn hold_behind(hold: Option<Hold>, op: Op, lock: u32) -> Option<Hold>
     }
 }
 
+// The last operation on the lock: where it stands, and its verb. It decides how the operations
+// leave the lock held.
+fn last_on(ops: &[Op], lock: u32) -> Option<(usize, Verb)>
+    ensures way { MatchOption result (way_after_all ops.now lock ≡ None)
+        (λ last. way_after_all ops.now lock ≡ way_after last.1) }
+    ensures place { MatchOption result (try_at ops.now lock ≡ None)
+        (λ last. try_at ops.now lock ≡ (if is_try last.1 then Some last.0 else None)) }
+    ensures within { IfSome result (λ last. last.0 < length ops.now) }
+{
+    for at in (0..ops.len()).rev() {
+        let op = ops[at];
+        if op.lock == lock {
+            return Some((at, op.verb));
+        }
+    }
+    None
+}
+
 // How the operations leave a lock held.
-#[tactic(auto, using(crate::proofs::WalkLemmas::way_steps))]
 fn hold_of(ops: &[Op], lock: u32) -> Option<Hold>
     ensures { option_map manner_of result ≡ way_after_all ops.now lock }
 {
-    let mut hold = None;
-    for op in ops {
-        hold = hold_behind(hold, *op, lock);
-    }
-    hold
-}
-
-// Where the last operation on the lock stands, if that is a try: the one at `at`, or else `found`.
-fn try_behind(found: Option<usize>, at: usize, op: Op, lock: u32) -> Option<usize>
-    requires { IfSome found (λ n. n < at) }
-    ensures place { result
-        ≡ (if op.lock == lock then (if is_try op.verb then Some at else None) else found) }
-    ensures within { IfSome result (λ n. n ≤ at) }
-{
-    if op.lock != lock {
-        found
-    } else if is_try(op.verb) {
-        Some(at)
-    } else {
-        None
+    match last_on(ops, lock) {
+        None => None,
+        Some((_, verb)) => hold_after(verb),
     }
 }
 
 // Where the last operation on the lock stands, if that is a try.
-#[tactic(auto, using(crate::proofs::WalkLemmas::try_steps))]
 fn try_at(ops: &[Op], lock: u32) -> Option<usize>
     ensures place { result ≡ try_at ops.now lock }
     ensures within { IfSome result (λ at. at < length ops.now) }
 {
-    let mut found = None;
-    for (at, op) in ops.iter().enumerate() {
-        found = try_behind(found, at, *op, lock);
+    match last_on(ops, lock) {
+        Some((at, verb)) if is_try(verb) => Some(at),
+        _ => None,
     }
-    found
 }
 
 // Whether a lock is held behind the operation as it was before the one at `at`.
