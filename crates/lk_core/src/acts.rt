@@ -141,7 +141,7 @@ fn end_any_halt(machine: &mut Machine, cpu: u32)
 }
 
 // A kick that is remembered ends the halt of a processor. It is remembered no more.
-#[inline(never)]
+#[inline]
 #[tactic(auto, using(lk_machine::proofs::Kept::kept))]
 fn wake(machine: &mut Machine, cpu: u32) -> Option<Event>
     requires { HasTop machine.old cpu }
@@ -164,7 +164,7 @@ fn wake(machine: &mut Machine, cpu: u32) -> Option<Event>
 }
 
 // A halt ends without a kick; a kick that is remembered stays.
-#[inline(never)]
+#[inline]
 fn nudge(machine: &mut Machine, cpu: u32) -> Option<Event>
     requires range { cpu < length machine.old.cpus }
     requires sound { IsSound machine.old }
@@ -187,7 +187,7 @@ fn nudge(machine: &mut Machine, cpu: u32) -> Option<Event>
 
 // The next handler comes on top, where there is one left and the processor has room for a frame; a
 // halt ends. Between the last test before a halt and the halt interrupts are off.
-#[inline(never)]
+#[inline]
 fn interrupt(machine: &mut Machine, cpu: u32) -> Option<Event>
     requires range { cpu < length machine.old.cpus }
     requires sound { IsSound machine.old }
