@@ -37,3 +37,17 @@ front_of_more a b t u cut = record {
 -- all that waits is put
 pub all_conveyed : (a b c : Option (List ℕ)) (w x t : List ℕ) → Conveys a b w t x → Appends b c x → Appends a c (w ++ t)
 all_conveyed a b c w x t first last = subst (Appends a c) (sym first.whole) (Appends-trans a b c first.put x first.grown last)
+
+-- all that waits is put, and then a text
+pub conveyed_all : (a b c : Option (List ℕ)) (w x t u : List ℕ) → Conveys a b w t x → Appends b c (x ++ u) → Appends a c (w ++ (t ++ u))
+conveyed_all a b c w x t u first last =
+    subst (Appends a c) (sym (append_assoc first.put x u) ∙ ap (λ l. l ++ u) (sym first.whole) ∙ append_assoc w t u) (Appends-trans a b c first.put (x ++ u) first.grown last)
+
+-- a front of what waits and of a text behind it
+pub front_of_rest : (a b c : Option (List ℕ)) (w x t u : List ℕ) → Conveys a b w t x → AppendsFront b c (x ++ u) → AppendsFront a c (w ++ (t ++ u))
+front_of_rest a b c w x t u first cut = record {
+  front = first.put ++ cut.front;
+  rest = cut.rest;
+  whole = sym (append_assoc w t u) ∙ ap (λ l. l ++ u) first.whole ∙ append_assoc first.put x u ∙ ap (λ l. first.put ++ l) cut.whole ∙ sym (append_assoc first.put cut.front cut.rest);
+  grown = Appends-trans a b c first.put cut.front first.grown cut.grown;
+}

@@ -6,6 +6,7 @@ pub mod StdSource
 pub mod MemSink
 pub mod StdSink
 pub mod Line
+pub mod Page
 pub mod Block
 pub mod Feeds
 pub mod Lines

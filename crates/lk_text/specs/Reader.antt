@@ -1,7 +1,7 @@
 -- What a reader of lines holds, and what a call that asks it for the next line does.
 -- `old` and `new` are the reader before and after the call; `before` and `after` are what the source has left then, where it
 -- tells that; `faults` and `faults_after` are the source's counts of faults.
-use Rattle.std.specs.Prelude.{Bool, true, false, ◌≡◌, ℕ, ◌+◌, ◌≤◌, List, [], ◌∷◌, length, take, drop, ◌⊎◌, ◌^◌, Option, None, Some, Result, Ok, Err, slice_range, nat_lt}
+use Rattle.std.specs.Prelude.{Bool, true, false, ◌≡◌, ℕ, ◌+◌, ◌≤◌, List, [], ◌∷◌, length, take, drop, ◌⊎◌, Option, None, Some, Result, Ok, Err, slice_range, nat_lt}
 use Rattle.std.specs.Io.KnownBytes.{IsAtEnd, Keeps, prepend_known}
 use Rattle.std.specs.Borrow.{Bor}
 use Rattle.lk_text.specs.Causes.{Rose}
@@ -10,6 +10,7 @@ use Rattle.lk_text.specs.Lines.{TakesLine, IsOver, PassesLineLimit, PassesInputL
 use Rattle.lk_text.specs.declared.reader.LineFault.{LineFault}
 use Rattle.lk_text.specs.declared.reader.LineFault.TheVariants.{ReadFault, TooLong, TooMuch}
 use Rattle.lk_text.specs.declared.reader.LineReader.{LineReader}
+use Rattle.lk_text.specs.declared.reader.TheConstants.{MAX_INPUT, MAX_LINE}
 
 -- the bytes that the reader took from the source and did not look at
 abbrev pub pending : LineReader → List ℕ
@@ -59,8 +60,8 @@ pub record EndsAt (pending : List ℕ) (left : Option (List ℕ)) (looked line a
   pub plain : HasNoFeed (take line pending)
   pub fits : all ≤ length pending
   pub ends : ((all ≡ line + 1) × (drop line pending ≡ 10 ∷ drop (line + 1) pending)) ⊎ ((all ≡ line) × (line ≡ length pending) × IsAtEnd left)
-  pub short : line ≤ 4096
-  pub within : looked + all ≤ 2 ^ 30
+  pub short : line ≤ MAX_LINE
+  pub within : looked + all ≤ MAX_INPUT
 
 -- the call gave the line at the front of the unread bytes
 pub record GaveLine (old new : LineReader) (before after : Option (List ℕ)) (line : List ℕ) : Type 0 where

@@ -33,13 +33,14 @@ impl Block {
         Ok(Block { bytes, len: 0 })
     }
 
-    /// Puts all that waits to the sink. Nothing waits afterwards: after a fault the part that the
-    /// sink did not take is dropped.
+    /// Puts all that waits to the sink, and does not ask it where nothing waits. Nothing waits
+    /// afterwards: after a fault the part that the sink did not take is dropped.
     pub fn flush<K: Sink>(&mut self, sink: &mut K) -> Result<(), WriteFault>
         ensures ok { OnOk result (Appends (K.held sink.old) (K.held sink.new) (waiting self.old)) }
         ensures err { OnErr result
             (AppendsFront (K.held sink.old) (K.held sink.new) (waiting self.old)) }
         ensures empty { waiting self.new ≡ [] }
+        ensures untouched { waiting self.old ≡ [] → sink.new ≡ sink.old }
         ensures cause { HasCause (K.faults sink.old) (K.faults sink.new) result }
     {
         let len = self.len;

@@ -4,12 +4,14 @@
 mod block;
 mod digits;
 mod line;
+mod page;
 mod reader;
 mod sink;
 mod source;
 
 pub use block::Block;
 pub use line::LineBuf;
-pub use reader::{LineFault, LineReader};
+pub use page::Page;
+pub use reader::{LineFault, LineReader, MAX_INPUT, MAX_LINE};
 pub use sink::{MemSink, NullSink, Sink, StdSink, WriteFault, put};
 pub use source::{Failed, MemSource, Source, StdSource, SureSource};

@@ -1,20 +1,21 @@
 //! The lines of a source, read in fixed memory.
-ghost use Rattle.std.specs.Prelude.{◌≡◌, ◌≤◌, ◌<◌, ◌+◌, ◌-◌, ◌^◌, List, ℕ, Option, Some, None, true, false, IfOk, IfErr, OnErr, IfSome, Ok, Err, length, take, drop, slice_range, slice_index, vec_len, Result};
+ghost use Rattle.std.specs.Prelude.{◌≡◌, ◌≤◌, ◌<◌, ◌+◌, ◌-◌, List, ℕ, Option, Some, None, true, false, IfOk, IfErr, OnErr, IfSome, Ok, Err, length, take, drop, slice_range, slice_index, vec_len, Result};
 ghost use Rattle.std.specs.Io.KnownBytes.{ReadConsumes, Keeps, IsAtEnd};
 ghost use Rattle.lk_text.specs.Causes.{HasCause};
 ghost use Rattle.lk_text.specs.Feeds.{HasNoFeed, FeedAt};
 ghost use Rattle.lk_text.specs.Lines.{PassesLineLimit, PassesInputLimit};
+ghost use Rattle.lk_text.specs.declared.reader.TheConstants.{MAX_INPUT, MAX_LINE};
 
 use crate::source::{Failed, Source};
 use lk_abs::Memory;
 use memchr::{memchr, memrchr};
 use std::alloc::Global;
 
-// The most bytes of a line, without its line feed.
-const MAX_LINE: usize = 4_096;
+/// The most bytes of a line, without its line feed.
+pub const MAX_LINE: usize = 4_096;
 
-// The most bytes of an input.
-const MAX_INPUT: u64 = 1 << 30;
+/// The most bytes of an input.
+pub const MAX_INPUT: u64 = 1 << 30;
 
 // The bytes that a reader takes ahead at most.
 const BLOCK: usize = 65_536;
@@ -59,7 +60,7 @@ pub struct LineReader {
     ghost open: { at < whole → kept ≡ None },
     ghost going: { at < whole → ended ≡ false },
     ghost feed: { 0 < whole → slice_index block.items (whole - 1) ≡ 10 },
-    ghost within: { looked ≤ 2 ^ 30 },
+    ghost within: { looked ≤ MAX_INPUT },
     ghost counted: { lines ≤ looked },
 }
 
@@ -142,14 +143,15 @@ fn behind_last_feed(block: &[u8], front: usize, end: usize) -> usize
 // those that were.
 #[inline(always)]
 fn passed_limit(looked: u64, span: Span) -> Option<LineFault>
-    requires looked { looked ≤ 2 ^ 30 }
+    requires looked { looked ≤ MAX_INPUT }
     requires line { span.line ≤ 65536 }
     requires all { span.all ≤ 65537 }
     requires ordered { span.line ≤ span.all }
-    ensures none { result ≡ None → (span.line ≤ 4096) × (looked + span.all ≤ 2 ^ 30) }
-    ensures long { result ≡ Some LineFault.TooLong → (4096 < span.line) × (looked + 4096 ≤ 2 ^ 30) }
+    ensures none { result ≡ None → (span.line ≤ MAX_LINE) × (looked + span.all ≤ MAX_INPUT) }
+    ensures long { result ≡ Some LineFault.TooLong
+        → (MAX_LINE < span.line) × (looked + MAX_LINE ≤ MAX_INPUT) }
     ensures much { result ≡ Some LineFault.TooMuch
-        → (2 ^ 30 < looked + span.all) × (4096 < span.line → 2 ^ 30 < looked + 4096) }
+        → (MAX_INPUT < looked + span.all) × (MAX_LINE < span.line → MAX_INPUT < looked + MAX_LINE) }
     ensures only { result ≡ Some LineFault.ReadFault → ⊥ }
 {
     if looked + span.all as u64 <= MAX_INPUT {
@@ -237,11 +239,11 @@ impl LineReader {
             → EndsAt (pending self.now) left (looked_at self.now) span.line span.all))) }
         ensures fits { IfOk result
             (λ found. IfSome found (λ span. (self.now.at + span.all ≤ self.now.end)
-            × (span.line ≤ span.all) × (looked_at self.now + span.all ≤ 2 ^ 30))) }
+            × (span.line ≤ span.all) × (looked_at self.now + span.all ≤ MAX_INPUT))) }
         ensures none { result ≡ Ok None
             → HasNoFeed (pending self.now) × (is_at_hand self.now ≡ false)
-            × (self.now.end - self.now.at ≤ 4096)
-            × (looked_at self.now + (self.now.end - self.now.at) ≤ 2 ^ 30) }
+            × (self.now.end - self.now.at ≤ MAX_LINE)
+            × (looked_at self.now + (self.now.end - self.now.at) ≤ MAX_INPUT) }
         ensures long { result ≡ Err LineFault.TooLong
             → ((left : Option (List ℕ))
             → PassesLineLimit (unread self.now left) (looked_at self.now)) }
@@ -283,7 +285,7 @@ impl LineReader {
             × ((left : Option (List ℕ))
             → EndsAt (pending self.now) left (looked_at self.now) span.line span.all)) }
         ensures fits { IfOk result (λ span. (self.now.at + span.all ≤ self.now.end)
-            × (span.line ≤ span.all) × (looked_at self.now + span.all ≤ 2 ^ 30)) }
+            × (span.line ≤ span.all) × (looked_at self.now + span.all ≤ MAX_INPUT)) }
         ensures long { result ≡ Err LineFault.TooLong
             → ((left : Option (List ℕ))
             → PassesLineLimit (unread self.now left) (looked_at self.now)) }
@@ -310,7 +312,7 @@ impl LineReader {
         ensures span { IfOk result (λ span.
             EndsAt (pending self.new) (S.left source.new) (looked_at self.new) span.line span.all) }
         ensures fits { IfOk result (λ span. (self.new.at + span.all ≤ self.new.end)
-            × (span.line ≤ span.all) × (looked_at self.new + span.all ≤ 2 ^ 30)) }
+            × (span.line ≤ span.all) × (looked_at self.new + span.all ≤ MAX_INPUT)) }
         ensures reason { IfErr result
             (Reason self.old self.new (S.left source.old) (S.left source.new)
             (S.faults source.old) (S.faults source.new)) }

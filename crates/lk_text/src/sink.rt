@@ -2,7 +2,7 @@
 ghost use Rattle.std.specs.Prelude.{◌≡◌, ◌≤◌, ◌<◌, ◌+◌, ◌^◌, ◌-◌, Ok, List, ℕ, Option, Some, None, [], IfOk, OnOk, OnErr, IsErr, ◌↔◌, ◌⊎◌, length, vec_len, vec_capacity, min, Contains};
 ghost use Rattle.std.specs.Io.{WritesAtMost};
 ghost use Rattle.std.specs.Io.KnownBytes.{WriteAppends, Appends};
-ghost use Rattle.lk_text.specs.Causes.{Rose, HasCause};
+ghost use Rattle.lk_text.specs.Causes.{Rose, HasCause, TakesSurely, PutsSurely};
 ghost use Rattle.lk_text.specs.Bytes.{AppendsFront};
 
 use crate::source::Failed;
@@ -23,23 +23,31 @@ pub trait Sink {
     /// The count of its faults.
     ghost faults: { Self → ℕ };
 
+    /// How many bytes more it takes for certain.
+    ghost sure: { Self → ℕ };
+
     /// Appends a front of the piece and gives its number of bytes. `Failed`, which takes no byte,
     /// comes only where the count of faults rose in this call, and so does 0 for a piece that is
-    /// not empty.
+    /// not empty. Neither comes where the piece is one of the bytes that are taken for certain.
     fn write(&mut self, piece: &[u8]) -> Result<usize, Failed>
         ensures bound { WritesAtMost result piece.now }
         ensures bytes { WriteAppends (held self.old) (held self.new) result piece.now }
         ensures cause { HasCause (faults self.old) (faults self.new) result }
         ensures nothing { IfOk result (λ count. count ≡ 0 → 0 < length piece.now
-            → Rose (faults self.old) (faults self.new)) };
+            → Rose (faults self.old) (faults self.new)) }
+        ensures sure { 0 < length piece.now → length piece.now ≤ sure self.old
+            → TakesSurely (sure self.old) (sure self.new) result };
 }
 
 /// Writes all bytes. `WriteFault` comes only where the sink's count of faults rose in this call,
-/// and then the sink took a front of the bytes.
+/// and then the sink took a front of the bytes; it doesn't come where the sink takes so many bytes
+/// for certain. With no bytes the sink is not asked.
 pub fn put<K: Sink>(sink: &mut K, bytes: &[u8]) -> Result<(), WriteFault>
     ensures ok { OnOk result (Appends (K.held sink.old) (K.held sink.new) bytes.now) }
     ensures err { OnErr result (AppendsFront (K.held sink.old) (K.held sink.new) bytes.now) }
+    ensures untouched { bytes.now ≡ [] → sink.new ≡ sink.old }
     ensures cause { HasCause (K.faults sink.old) (K.faults sink.new) result }
+    ensures sure { PutsSurely (K.sure sink.old) (K.sure sink.new) (length bytes.now) result }
 {
     let mut done = 0;
     while done < bytes.len() {
@@ -99,11 +107,13 @@ impl MemSink {
 }
 
 impl Sink for MemSink {
-    ghost use Rattle.lk_text.specs.MemSink.{bytes_held, faults_met, room_of, failing_writes, writes_made};
+    ghost use Rattle.lk_text.specs.MemSink.{bytes_held, faults_met, room_of, failing_writes, writes_made, sure_room};
 
     ghost held = { λ sink. Some (bytes_held sink) };
 
     ghost faults = { faults_met };
+
+    ghost sure = { sure_room };
 
     fn write(&mut self, piece: &[u8]) -> Result<usize, Failed>
         ensures bound { WritesAtMost result piece.now }
@@ -112,6 +122,8 @@ impl Sink for MemSink {
         ensures cause { HasCause (faults_met self.old) (faults_met self.new) result }
         ensures nothing { IfOk result (λ count. count ≡ 0 → 0 < length piece.now
             → Rose (faults_met self.old) (faults_met self.new)) }
+        ensures sure { 0 < length piece.now → length piece.now ≤ sure_room self.old
+            → TakesSurely (sure_room self.old) (sure_room self.new) result }
 
         ensures whole { IfOk result (λ count. count ≡ length piece.now) }
         ensures quiet { OnOk result (faults_met self.new ≡ faults_met self.old) }
@@ -153,11 +165,15 @@ impl Sink for NullSink {
 
     ghost faults = { λ _. 0 };
 
+    ghost sure = { λ _. 2 ^ 64 };
+
     fn write(&mut self, piece: &[u8]) -> Result<usize, Failed>
         ensures bound { WritesAtMost result piece.now }
         ensures bytes { WriteAppends None None result piece.now }
         ensures cause { HasCause 0 0 result }
         ensures nothing { IfOk result (λ count. count ≡ 0 → 0 < length piece.now → Rose 0 0) }
+        ensures sure { 0 < length piece.now → length piece.now ≤ 2 ^ 64
+            → TakesSurely (2 ^ 64) (2 ^ 64) result }
         ensures whole { result ≡ Ok (length piece.now) }
     {
         Ok(piece.len())
@@ -198,12 +214,15 @@ impl<W: Write> Sink for StdSink<W> {
 
     ghost faults = { faults_met };
 
+    ghost sure = { λ _. 0 };
+
     fn write(&mut self, piece: &[u8]) -> Result<usize, Failed>
         ensures bound { WritesAtMost result piece.now }
         ensures bytes { WriteAppends None None result piece.now }
         ensures cause { HasCause (faults_met self.old) (faults_met self.new) result }
         ensures nothing { IfOk result (λ count. count ≡ 0 → 0 < length piece.now
             → Rose (faults_met self.old) (faults_met self.new)) }
+        ensures sure { 0 < length piece.now → length piece.now ≤ 0 → TakesSurely 0 0 result }
         ensures quiet { IfOk result
             (λ count. 0 < count → faults_met self.new ≡ faults_met self.old) }
         ensures passed_on { WriteAppends (W.contents (writer_of self.old))

@@ -1,4 +1,4 @@
-use Rattle.std.proofs.Common.{length, ◌-◌, ◌≤◌, take}
+use Rattle.std.proofs.Common.{length, ◌≡◌, ◌-◌, ◌≤◌, ◌+◌, [], take}
 use Rattle.std.specs.Io.KnownBytes.{Appends}
 use Rattle.lk_text.proofs.sink.put.Given as goal
 
@@ -6,6 +6,8 @@ abbrev pub invariant-loop-done : goal.invariant-loop-done
 invariant-loop-done g l = record {
   in_range : l.done ≤ length l.bytes;
   grown : Appends (g.K.Sink.held l.initial.sink) (g.K.Sink.held l.sink) (take l.done l.bytes);
+  untouched : l.bytes ≡ [] → l.sink ≡ l.initial.sink;
+  sure : length l.bytes ≤ g.K.Sink.sure l.initial.sink → g.K.Sink.sure l.initial.sink ≤ g.K.Sink.sure l.sink + l.done;
   later : g.K.Sink.faults l.initial.sink ≤ g.K.Sink.faults l.sink;
 }
 
