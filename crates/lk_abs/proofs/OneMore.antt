@@ -52,23 +52,23 @@ Ordered rules before e = (l : LockName) → lock_of e.what ≡ Some l → InOrde
 Few : ℕ → List Event → Type 0
 Few threshold before = (l : LockName) → All (λ n. n ≤ threshold) (history_of l before).passes
 
-Owed : List Event → Type 0
-Owed before = (l : LockName) → FrontIsOwed before l
+FrontsOwed : List Event → Type 0
+FrontsOwed before = (l : LockName) → FrontIsOwed before l
 
 module _ (rules : Rules) where
   pub lawful-nil : IsLawful rules []
-  unfolding Shared Owned Ordered Few Owed
+  unfolding Shared Owned Ordered Few FrontsOwed
   lawful-nil =
       record {
         exclusive = record { shared = AtEachMoment-nil Shared (λ l. inl refl); owned = OfEachEvent-nil Owned };
         ordered = OfEachEvent-nil (Ordered rules);
         bounded = AtEachMoment-nil (Few rules.threshold) (λ l. All-nil (λ n. n ≤ rules.threshold));
-        kicked = λ pv. AtEachMoment-nil Owed (λ l w front free asleep. absurd (none-some w front));
+        kicked = λ pv. AtEachMoment-nil FrontsOwed (λ l w front free asleep. absurd (none-some w front));
       }
 
   module _ (es : List Event) (e : Event) where
     pub lawful-push : IsLawful rules es → ((l : LockName) → lock_of e.what ≡ Some l → IsAllowed rules (history_of l es) e.by e.what) → (rules.mode ≡ Pv → (l : LockName) → FrontIsOwed (es ++ e ∷ []) l) → IsLawful rules (es ++ e ∷ [])
-    unfolding Shared Owned Ordered Few Owed
+    unfolding Shared Owned Ordered Few FrontsOwed
     lawful-push ok allowed owed =
         record {
           exclusive = record {
@@ -77,21 +77,21 @@ module _ (rules : Rules) where
           };
           ordered = OfEachEvent-push (Ordered rules) es e ok.ordered (λ l on. (allowed l on).ordered);
           bounded = AtEachMoment-push (Few rules.threshold) es e ok.bounded (λ l. told-keeps l es e (λ h. All (λ n. n ≤ rules.threshold) h.passes) (AtEachMoment-now (Few rules.threshold) es ok.bounded l) (λ on. (allowed l on).bounded));
-          kicked = λ pv. AtEachMoment-push Owed es e (ok.kicked pv) (owed pv);
+          kicked = λ pv. AtEachMoment-push FrontsOwed es e (ok.kicked pv) (owed pv);
         }
 
     pub lawful-front : IsLawful rules (es ++ e ∷ []) → IsLawful rules es
-    unfolding Shared Owned Ordered Few Owed
+    unfolding Shared Owned Ordered Few FrontsOwed
     lawful-front ok =
         record {
           exclusive = record { shared = AtEachMoment-front Shared es e ok.exclusive.shared; owned = OfEachEvent-front Owned es e ok.exclusive.owned };
           ordered = OfEachEvent-front (Ordered rules) es e ok.ordered;
           bounded = AtEachMoment-front (Few rules.threshold) es e ok.bounded;
-          kicked = λ pv. AtEachMoment-front Owed es e (ok.kicked pv);
+          kicked = λ pv. AtEachMoment-front FrontsOwed es e (ok.kicked pv);
         }
 
     pub allowed_from_lawful : IsLawful rules (es ++ e ∷ []) → (l : LockName) → lock_of e.what ≡ Some l → IsAllowed rules (history_of l es) e.by e.what
-    unfolding Shared Owned Ordered Few Owed
+    unfolding Shared Owned Ordered Few FrontsOwed
     allowed_from_lawful ok l on =
         let here = told_here l es e on in
         record {
@@ -103,11 +103,11 @@ module _ (rules : Rules) where
 
 -- ---- one count for each waiter that stands aside
 
-Fits : LockHistory → Type 0
-Fits h = length h.second ≡ length h.passes
+CountsFit : LockHistory → Type 0
+CountsFit h = length h.second ≡ length h.passes
 
-fits-changed : (rules : Rules) (h : LockHistory) (w : Waiter) (what : What) → InOrder rules h w what → Fits h → Fits (changed h w what)
-unfolding Fits
+fits-changed : (rules : Rules) (h : LockHistory) (w : Waiter) (what : What) → InOrder rules h w what → CountsFit h → CountsFit (changed h w what)
+unfolding CountsFit
 fits-changed rules h w (Take l how) order fit = ap length (second-taken h w how) ∙ fit ∙ ap length (sym (passes-taken h w how))
 fits-changed rules h w (Pass l to k) order fit = counts-passed h k to fit order.3
 fits-changed rules h w (Flush l) order fit = refl
@@ -116,10 +116,10 @@ fits-changed rules h w _ order fit = fit
 
 -- in a history in order each waiter that stands aside has its count of handovers
 pub counts_fit : (rules : Rules) (es : List Event) → IsOrdered rules es → (l : LockName) → length (history_of l es).second ≡ length (history_of l es).passes
-unfolding Fits Ordered
+unfolding CountsFit Ordered
 counts_fit rules es ordered l =
-    by_events (λ ts. IsOrdered rules ts → Fits (history_of l ts)) (λ none. refl)
-    (λ ts e before more. told-keeps l ts e Fits (before (OfEachEvent-front (Ordered rules) ts e more)) (λ on. fits-changed rules (history_of l ts) e.by e.what (OfEachEvent-now (Ordered rules) ts e more l on) (before (OfEachEvent-front (Ordered rules) ts e more))))
+    by_events (λ ts. IsOrdered rules ts → CountsFit (history_of l ts)) (λ none. refl)
+    (λ ts e before more. told-keeps l ts e CountsFit (before (OfEachEvent-front (Ordered rules) ts e more)) (λ on. fits-changed rules (history_of l ts) e.by e.what (OfEachEvent-now (Ordered rules) ts e more l on) (before (OfEachEvent-front (Ordered rules) ts e more))))
     es ordered
 
 -- ---- the table is exact
@@ -132,16 +132,16 @@ module _ (rules : Rules) (es : List Event) (e : Event) (ok : IsLawful rules es) 
 
   -- an event on a lock keeps a history lawful exactly where it breaks no clause of the table and leaves no front asleep
   pub exact : (l : LockName) → lock_of e.what ≡ Some l → IsLawful rules (es ++ e ∷ []) ↔ ((first_breach rules (history_of l es) e.by e.what ≡ None) × (rules.mode ≡ Pv → (k : LockName) → FrontIsOwed (es ++ e ∷ []) k))
-  unfolding Owed
+  unfolding FrontsOwed
   exact l on = (
-    λ more. (none_from_allowed rules (history_of l es) e.by e.what (allowed_from_lawful rules es e more l on), λ pv. AtEachMoment-now Owed (es ++ e ∷ []) (more.kicked pv)),
+    λ more. (none_from_allowed rules (history_of l es) e.by e.what (allowed_from_lawful rules es e more l on), λ pv. AtEachMoment-now FrontsOwed (es ++ e ∷ []) (more.kicked pv)),
     λ clear. lawful-push rules es e ok (λ k at. subst (λ (j : LockName). IsAllowed rules (history_of j es) e.by e.what) (same_Some l k (sym on ∙ at)) (allowed_if_clear l clear.0)) clear.1,
   )
 
   -- and an event on no lock exactly where it leaves no front asleep
   pub exact_none : lock_of e.what ≡ None → IsLawful rules (es ++ e ∷ []) ↔ (rules.mode ≡ Pv → (k : LockName) → FrontIsOwed (es ++ e ∷ []) k)
-  unfolding Owed
+  unfolding FrontsOwed
   exact_none off = (
-    λ more pv. AtEachMoment-now Owed (es ++ e ∷ []) (more.kicked pv),
+    λ more pv. AtEachMoment-now FrontsOwed (es ++ e ∷ []) (more.kicked pv),
     λ owed. lawful-push rules es e ok (λ l on. absurd (none-some l (sym off ∙ on))) owed,
   )

@@ -19,6 +19,7 @@ abbrev pub is_writer : Manner → Bool
 is_writer Reads = false
 is_writer _ = true
 
+-- whether two manners of holding are one
 abbrev pub same_manner : Manner → Manner → Bool
 same_manner Spins Spins = true
 same_manner Reads Reads = true
@@ -57,10 +58,12 @@ lock_of (RRelease l) = Some l
 lock_of (WTake l how) = Some l
 lock_of (WRelease l) = Some l
 
+-- whether an event on that lock, if it is on one, is on this one
 abbrev pub is_on : LockName → Option LockName → Bool
 is_on l None = false
 is_on l (Some k) = same_lock k l
 
+-- the holder is this waiter, and holds in this manner
 abbrev pub is_hold : Waiter → Manner → Holder → Bool
 is_hold w m h = same_waiter h.waiter w && same_manner h.manner m
 
@@ -69,9 +72,11 @@ abbrev pub without : Waiter → Manner → List Holder → List Holder
 without w m [] = []
 without w m (h ∷ hs) = if is_hold w m h then hs else h ∷ without w m hs
 
+-- the waiter takes the lock in this manner: it is the latest holder
 abbrev pub with_holder : LockHistory → Waiter → Manner → LockHistory
 with_holder h w m = record h { holders = h.holders ++ record { waiter = w; manner = m } ∷ [] }
 
+-- the waiter releases the lock that it holds in this manner
 abbrev pub without_holder : LockHistory → Waiter → Manner → LockHistory
 without_holder h w m = record h { holders = without w m h.holders }
 

@@ -22,13 +22,17 @@ abbrev pub sleeps_from : Waiter → Bool → List Event → Bool
 sleeps_from w b [] = b
 sleeps_from w b (e ∷ es) = sleeps_from w (sleeps_after w b e) es
 
+-- the waiter sleeps after these events: the last of them that ends or begins a halt of it begins
+-- one
 abbrev pub sleeps : Waiter → List Event → Bool
 sleeps w es = sleeps_from w false es
 
+-- how many kicks of the processor a release says that it owes: one, where it names it
 abbrev pub owes : ℕ → What → ℕ
 owes p (Release l (Some q)) = if q == p then 1 else 0
 owes p _ = 0
 
+-- how many kicks of the processor an event is
 abbrev pub kicks : ℕ → What → ℕ
 kicks p (Kick q) = if q == p then 1 else 0
 kicks p _ = 0
@@ -57,6 +61,7 @@ abbrev pub is_kicked_from : ℕ → Bool → List Event → Bool
 is_kicked_from p b [] = b
 is_kicked_from p b (e ∷ es) = is_kicked_from p (kicked_after p b e) es
 
+-- a kick of the processor is remembered after these events: it has not ended a halt yet
 abbrev pub is_kicked : ℕ → List Event → Bool
 is_kicked p es = is_kicked_from p false es
 

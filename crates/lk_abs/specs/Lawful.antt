@@ -30,6 +30,7 @@ AtEachMoment P es = (before after : List Event) → es ≡ before ++ after → P
 abbrev pub OfEachEvent : (List Event → Event → Type 0) → List Event → Type 0
 OfEachEvent P es = (before after : List Event) (e : Event) → es ≡ before ++ e ∷ after → P before e
 
+-- the holder admits no other: it holds a spinlock, or writes
 abbrev pub writes : Holder → Bool
 writes h = is_writer h.manner
 
@@ -37,6 +38,7 @@ writes h = is_writer h.manner
 abbrev pub IsShared : List Holder → Type 0
 IsShared hs = (count_by writes hs ≡ 0) ⊎ (length hs ≡ 1)
 
+-- the waiter holds the lock in this manner
 abbrev pub HoldsSo : LockHistory → Waiter → Manner → Type 0
 HoldsSo h w m = Contains h.holders (record { waiter = w; manner = m })
 

@@ -36,6 +36,7 @@ pub record IsInOrder (lists : Lists) : Type 0 where
   pub few : All (λ n. n ≤ 65535) lists.passes.items
   pub small : lists.main.room ≤ 6144
 
+-- who the holders are, in their order
 abbrev pub waiters_of : List Holder → List Waiter
 waiters_of xs = map (λ x. x.waiter) xs
 

@@ -4,6 +4,7 @@ use Rattle.std.proofs.Common.{zero, suc}
 use Rattle.lk_abs.specs.declared.names.Waiter.{Waiter}
 use Rattle.lk_abs.specs.declared.names.LockName.{LockName}
 
+-- whether both hold, or neither
 abbrev pub same_bool : Bool → Bool → Bool
 same_bool true b = b
 same_bool false b = not b

@@ -1,6 +1,5 @@
 -- The family of each row: by it the code of the rows is cut into crates, and it is written here
 -- alone.
-use Rattle.std.specs.Prelude.{Option, Some, None}
 use Rattle.lk_machine.specs.declared.family.Family.{Family}
 use Rattle.lk_machine.specs.declared.family.Family.TheVariants.{Spin, Queue, Cna, Pv, Rw}
 use Rattle.lk_machine.specs.declared.parts.Pc.{Pc}
@@ -14,6 +13,7 @@ use Rattle.lk_machine.specs.declared.parts.Pc.TheVariants.{K2, K3, U2, U3, U4, U
 use Rattle.lk_machine.specs.declared.parts.Pc.TheVariants.{R5, Wr1, Wr2, Wr3, Wr4, Wr5, Wr6, Y1, Y2}
 use Rattle.lk_machine.specs.declared.parts.Pc.TheVariants.{Y3, Y4, Y5, Z1, Z2}
 
+-- the family of a row: the crate that makes it, and the table that has it as data
 abbrev pub family_of : Pc → Family
 family_of F1 = Spin
 family_of T1 = Spin
@@ -98,8 +98,3 @@ family_of Y4 = Rw
 family_of Y5 = Rw
 family_of Z1 = Rw
 family_of Z2 = Rw
-
--- the family of the row at a place; a finished frame has none
-abbrev pub family_at : Option Pc → Option Family
-family_at None = None
-family_at (Some c) = Some (family_of c)

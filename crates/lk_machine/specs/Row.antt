@@ -102,24 +102,24 @@ misses what = record { stores = None; leads = Missed; tells = Says what; counts 
 -- a frame with a register changed
 
 -- the frame with one register changed
-abbrev pub changed : Frame → Change → Frame
-changed f (Prev n) = record f { prev = n }
-changed f (Second n) = record f { second = n }
-changed f (Y n) = record f { y = n }
-changed f (Left n) = record f { left = n }
-changed f (A n) = record f { a = n }
-changed f (B n) = record f { b = n }
-changed f (K n) = record f { k = n }
-changed f (T n) = record f { t = n }
-changed f (Reason n) = record f { why = n }
-changed f (Tailed b) = record f { tailed = b }
-changed f (HashedIs b) = record f { hashed = b }
-changed f (TargetIs n) = record f { target = n }
+abbrev pub with_change : Frame → Change → Frame
+with_change f (Prev n) = record f { prev = n }
+with_change f (Second n) = record f { second = n }
+with_change f (Y n) = record f { y = n }
+with_change f (Left n) = record f { left = n }
+with_change f (A n) = record f { a = n }
+with_change f (B n) = record f { b = n }
+with_change f (K n) = record f { k = n }
+with_change f (T n) = record f { t = n }
+with_change f (Reason n) = record f { why = n }
+with_change f (Tailed b) = record f { tailed = b }
+with_change f (HashedIs b) = record f { hashed = b }
+with_change f (TargetIs n) = record f { target = n }
 
 -- the frame with registers changed, in their order
 abbrev pub changed_all : Frame → List Change → Frame
 changed_all f [] = f
-changed_all f (c ∷ cs) = changed_all (changed f c) cs
+changed_all f (c ∷ cs) = changed_all (with_change f c) cs
 
 -- the frame at a place, with registers changed
 abbrev pub gone : Frame → Pc → List Change → Frame

@@ -1,16 +1,18 @@
 -- The queue, where a processor takes the tail: behind another, or first.
-use Rattle.std.proofs.Common.{◌≡◌, ◌≢◌, ℕ, zero, suc, Option, Some, None, true, List, [], ◌∷◌, ◌++◌, length, inl, inr, arith, slice_get, refl}
+use Rattle.std.proofs.Common.{◌≡◌, ◌≢◌, ℕ, zero, suc, Option, Some, None, true, List, [], ◌∷◌, ◌++◌}
+use Rattle.std.proofs.Common.{length, inl, inr, arith, slice_get, refl}
 use Rattle.lk_osq.specs.Phase.{Phase, queues, leads}
 use Rattle.lk_osq.specs.Phase.Phase.{Fresh, Links, Holds}
 use Rattle.lk_osq.specs.declared.nodes.Node.{Node}
-use Rattle.lk_osq.specs.Queue.{Pair, QueueAgrees, Moves}
+use Rattle.lk_osq.specs.Queue.{Pair, OsqQueueAgrees, Moves}
 use Rattle.lk_osq.proofs.Cases.{cpu_cases}
 use Rattle.lk_osq.proofs.Links.{pair_same}
-use Rattle.lk_osq.proofs.Lists.{get-append, get-append_old, get-append_new, get-append_none, get-append_last, get-append_two, get_cases, last_cases}
+use Rattle.lk_osq.proofs.Lists.{get-append, get-append_old, get-append_new, get-append_none}
+use Rattle.lk_osq.proofs.Lists.{get-append_last, get-append_two, get_cases, last_cases}
 
 -- O2 behind another
 module _ {tail : Option ℕ} {phase phase' : ℕ → Phase} {node : ℕ → Node} {main : List ℕ} {w a : ℕ}
-    (ok : QueueAgrees tail phase node main) (moves : Moves phase phase' w Fresh (Links a))
+    (ok : OsqQueueAgrees tail phase node main) (moves : Moves phase phase' w Fresh (Links a))
     (met : tail ≡ Some a) where
   behind-not_in : (i : ℕ) → slice_get main i ≡ Some w → ⊥
   behind-not_in i h = grind (arith, ok.inside i w, moves.was)
@@ -54,14 +56,26 @@ module _ {tail : Option ℕ} {phase phase' : ℕ → Phase} {node : ℕ → Node
             }
       ]
 
-  pub queue_arrives_behind : QueueAgrees (Some w) phase' node (main ++ w ∷ [])
+  pub queue_arrives_behind : OsqQueueAgrees (Some w) phase' node (main ++ w ∷ [])
   queue_arrives_behind =
       record {
-        inside = λ i u h. grind
-            (arith, get-append main w i u h, ok.inside i u, moves.others u, moves.now, behind-not_in i);
+        inside = λ i u h. grind (
+          arith,
+          get-append main w i u h,
+          ok.inside i u,
+          moves.others u,
+          moves.now,
+          behind-not_in i,
+        );
         place = behind-place;
-        once = λ i j u h k. grind
-            (arith, get-append main w i u h, get-append main w j u k, ok.once i j u, behind-not_in i, behind-not_in j);
+        once = λ i j u h k. grind (
+          arith,
+          get-append main w i u h,
+          get-append main w j u k,
+          ok.once i j u,
+          behind-not_in i,
+          behind-not_in j,
+        );
         no_tail = λ h. grind (arith, get-append_none main w 0 h, ok.no_tail);
         tail_is = λ i u h k. grind (arith, get-append_last main w i u h k);
         first = behind-first;
@@ -84,7 +98,7 @@ module _ {tail : Option ℕ} {phase phase' : ℕ → Phase} {node : ℕ → Node
 
 -- O2 where nobody is there
 module _ {tail : Option ℕ} {phase phase' : ℕ → Phase} {node : ℕ → Node} {main : List ℕ} {w : ℕ}
-    (ok : QueueAgrees tail phase node main) (moves : Moves phase phase' w Fresh Holds)
+    (ok : OsqQueueAgrees tail phase node main) (moves : Moves phase phase' w Fresh Holds)
     (met : tail ≡ None) where
   pub first-empty : main ≡ []
   first-empty =
@@ -109,7 +123,7 @@ module _ {tail : Option ℕ} {phase phase' : ℕ → Phase} {node : ℕ → Node
   first-get zero u h = (refl, grind arith)
   first-get (suc i) u h = cc
 
-  pub queue_arrives_first : QueueAgrees (Some w) phase' node (w ∷ [])
+  pub queue_arrives_first : OsqQueueAgrees (Some w) phase' node (w ∷ [])
   queue_arrives_first =
       record {
         inside = λ i u h. grind (arith, first-get i u h, moves.now);

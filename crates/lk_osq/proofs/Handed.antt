@@ -1,7 +1,9 @@
 -- In a lawful history each handover is taken.
-use Rattle.std.proofs.Common.{◌≡◌, ◌≢◌, ◌⊎◌, ℕ, Some, None, List, [], ◌∷◌, inl, inr, arith, refl, ap, subst}
+use Rattle.std.proofs.Common.{◌≡◌, ◌≢◌, ◌⊎◌, ℕ, Some, None, List, [], ◌∷◌, inl, inr, arith, refl}
+use Rattle.std.proofs.Common.{ap, subst}
 use Rattle.lk_osq.specs.declared.events.OsqWhat.{OsqWhat}
-use Rattle.lk_osq.specs.declared.events.OsqWhat.TheVariants.{TakeFree, Arrive, TakeHanded, Quit, Release}
+use Rattle.lk_osq.specs.declared.events.OsqWhat.TheVariants.{TakeFree, Arrive, TakeHanded, Quit}
+use Rattle.lk_osq.specs.declared.events.OsqWhat.TheVariants.{Release}
 use Rattle.lk_osq.specs.declared.events.OsqEvent.{OsqEvent}
 use Rattle.lk_osq.specs.History.{Told, told, Stands, IsLawful, IsLawfulAfter}
 use Rattle.lk_osq.specs.Handed.{IsNoTake, TakesNext, WasReleasedTo, AreHanded}

@@ -1,9 +1,11 @@
 -- Runs in parts.
-use Rattle.std.proofs.Common.{◌≡◌, ◌+◌, ℕ, suc, Option, Some, None, List, [], ◌∷◌, ◌++◌, length, map, arith, ap, refl, sym, ◌∙◌, append_assoc}
+use Rattle.std.proofs.Common.{◌≡◌, ◌+◌, ℕ, suc, Option, Some, None, List, [], ◌∷◌, ◌++◌, length}
+use Rattle.std.proofs.Common.{map, arith, ap, refl, sym, ◌∙◌, append_assoc}
 use Rattle.lk_osq.specs.declared.events.OsqEvent.{OsqEvent}
 use Rattle.lk_osq.specs.Machine.{Machine}
 use Rattle.lk_osq.specs.Rows.{next}
-use Rattle.lk_osq.specs.Run.{Act, machine_after, events_of, history, Occurrence, occurs, history_from}
+use Rattle.lk_osq.specs.Run.{Act, machine_after, events_of, history, Occurrence, occurs}
+use Rattle.lk_osq.specs.Run.{history_from}
 use Rattle.lk_osq.specs.RunLaws.{RunsInParts}
 
 machine_parts : (m : Machine) (made more : List Act)

@@ -1,20 +1,26 @@
 -- The laws of the rows: what a row changes keeps the agreement with what is told, and its event is
 -- lawful.
-use Rattle.std.proofs.Common.{◌≡◌, ◌≢◌, ◌⊎◌, ℕ, zero, suc, Option, Some, None, true, false, List, [], ◌∷◌, ◌++◌, inl, inr, arith, slice_get, refl, subst, append_assoc, ◌∙◌}
+use Rattle.std.proofs.Common.{◌≡◌, ◌≢◌, ◌⊎◌, ℕ, zero, suc, Option, Some, None, true, false, List}
+use Rattle.std.proofs.Common.{[], ◌∷◌, ◌++◌, inl, inr, arith, slice_get, refl, subst, append_assoc}
+use Rattle.std.proofs.Common.{◌∙◌}
 use Rattle.lk_osq.specs.Phase.{Phase, holds, link_behind}
 use Rattle.lk_osq.specs.Phase.Phase.{Outside, Fresh, Links, Waits, Cuts, Bridges, Holds, Hands}
 use Rattle.lk_osq.specs.declared.nodes.Node.{Node}
-use Rattle.lk_osq.specs.Queue.{QueueAgrees, Moves}
-use Rattle.lk_osq.specs.declared.events.OsqWhat.TheVariants.{TakeFree, Arrive, TakeHanded, Quit, Release}
+use Rattle.lk_osq.specs.Queue.{OsqQueueAgrees, Moves}
+use Rattle.lk_osq.specs.declared.events.OsqWhat.TheVariants.{TakeFree, Arrive, TakeHanded, Quit}
+use Rattle.lk_osq.specs.declared.events.OsqWhat.TheVariants.{Release}
 use Rattle.lk_osq.specs.History.{Told, told, without, Stands, IsLawful}
-use Rattle.lk_osq.specs.Agree.{Agrees, NobodyIsThere, OneHolds, OneIsHanded}
+use Rattle.lk_osq.specs.Agree.{OsqAgrees, NobodyIsThere, OneHolds, OneIsHanded}
 use Rattle.lk_osq.proofs.Cases.{cpu_cases}
 use Rattle.lk_osq.proofs.Turn.{queue_takes, stands_behind, leads_first}
-use Rattle.lk_osq.proofs.Links.{named, queue_enters, queue_links, queue_grabs, queue_tells, tell-phase}
+use Rattle.lk_osq.proofs.Links.{named, queue_enters, queue_links, queue_grabs, queue_tells}
+use Rattle.lk_osq.proofs.Links.{tell-phase}
 use Rattle.lk_osq.proofs.Arrive.{queue_arrives_behind, queue_arrives_first, first-empty}
-use Rattle.lk_osq.proofs.Leave.{Drops, tail_last, queue_frees, queue_hands, queue_withdraws, hands-second, hands-waits}
+use Rattle.lk_osq.proofs.Leave.{Drops, tail_last, queue_frees, queue_hands, queue_withdraws}
+use Rattle.lk_osq.proofs.Leave.{hands-second, hands-waits}
 use Rattle.lk_osq.proofs.Unlink.{queue_unlinks}
-use Rattle.lk_osq.proofs.Tells.{without_drops, without_first, without_later, behind_drops, first_drops, first_others, empty_list}
+use Rattle.lk_osq.proofs.Tells.{without_drops, without_first, without_later, behind_drops}
+use Rattle.lk_osq.proofs.Tells.{first_drops, first_others, empty_list}
 use Rattle.lk_osq.proofs.Lists.{get-append_old}
 
 -- no event: who holds the lock and to whom it is handed stays
@@ -46,11 +52,11 @@ front_stays {t = t} front has waits =
     ]
 
 module _ {tail : Option ℕ} {phase phase' : ℕ → Phase} {node : ℕ → Node} {t : Told} {w : ℕ}
-    (ok : Agrees tail phase node t) where
+    (ok : OsqAgrees tail phase node t) where
   -- O1
   pub law_enters : {node' : ℕ → Node} {x : Node} → Moves phase phase' w Outside Fresh
       → Moves node node' w (node w) x → x.flag ≡ false → x.next ≡ None
-      → Agrees tail phase' node' t
+      → OsqAgrees tail phase' node' t
   law_enters moves writes flag next =
       record {
         queue = queue_enters ok.queue moves writes flag next;
@@ -62,7 +68,7 @@ module _ {tail : Option ℕ} {phase phase' : ℕ → Phase} {node : ℕ → Node
   -- O3, Q8
   pub law_tells : {node' : ℕ → Node} {x : Node} {a : ℕ} {r : Phase} → Moves phase phase' w r r
       → Moves node node' a (node a) x
-      → x.flag ≡ (node a).flag → x.next ≡ (node a).next → Agrees tail phase' node' t
+      → x.flag ≡ (node a).flag → x.next ≡ (node a).next → OsqAgrees tail phase' node' t
   law_tells moves writes flag next =
       let same = tell-phase ok.queue moves writes flag next in
       record {
@@ -73,7 +79,7 @@ module _ {tail : Option ℕ} {phase phase' : ℕ → Phase} {node : ℕ → Node
   -- O4
   pub law_links : {node' : ℕ → Node} {x : Node} {a : ℕ} → Moves phase phase' w (Links a) Waits
       → Moves node node' a (node a) x
-      → x.flag ≡ (node a).flag → x.next ≡ Some w → Agrees tail phase' node' t
+      → x.flag ≡ (node a).flag → x.next ≡ Some w → OsqAgrees tail phase' node' t
   law_links {a = a} moves writes flag next =
       let j = stands_behind ok.queue w (grind (arith, moves.was)) (grind (arith, moves.was)) in
       let p = ok.queue.pair j.0 j.1 w j.2 j.3 in
@@ -89,7 +95,8 @@ module _ {tail : Option ℕ} {phase phase' : ℕ → Phase} {node : ℕ → Node
   -- Q1 swapped
   pub law_cuts : {node' : ℕ → Node} {x : Node} {a : ℕ} → Moves phase phase' w Waits (Cuts a)
       → Moves node node' a (node a) x
-      → (node a).next ≡ Some w → x.flag ≡ (node a).flag → x.next ≡ None → Agrees tail phase' node' t
+      → (node a).next ≡ Some w → x.flag ≡ (node a).flag → x.next ≡ None
+      → OsqAgrees tail phase' node' t
   law_cuts {a = a} moves writes met flag next =
       let j = named ok.queue a w met in
       record {
@@ -106,7 +113,7 @@ module _ {tail : Option ℕ} {phase phase' : ℕ → Phase} {node : ℕ → Node
       → Moves node node' w (node w) x
       → (node w).next ≡ Some b → x.flag ≡ (node w).flag → x.next ≡ None
       → ((a : ℕ) × (r ≡ Cuts a) × (r' ≡ Bridges a b)) ⊎ (r ≡ Holds) × (r' ≡ Hands b)
-      → Agrees tail phase' node' t
+      → OsqAgrees tail phase' node' t
   law_grabs {b = b} moves writes met flag next way =
       let j = named ok.queue w b met in
       record {
@@ -118,8 +125,8 @@ module _ {tail : Option ℕ} {phase phase' : ℕ → Phase} {node : ℕ → Node
 
 -- O2 where nobody is there
 pub law_arrives_first : {phase phase' : ℕ → Phase} {node : ℕ → Node} {t : Told} {w : ℕ}
-    → Agrees None phase node t → Moves phase phase' w Fresh Holds
-    → Agrees (Some w) phase' node (told w TakeFree t) × IsLawful t w TakeFree
+    → OsqAgrees None phase node t → Moves phase phase' w Fresh Holds
+    → OsqAgrees (Some w) phase' node (told w TakeFree t) × IsLawful t w TakeFree
 law_arrives_first {phase = phase} {phase' = phase'} {t = t} {w = w} ok moves =
     let e : t.holders ++ t.waiting ≡ [] = first-empty ok.queue moves refl in
     let n : (t.holders ≡ []) × (t.waiting ≡ []) × (t.handed ≡ None) = elim ok.front [
@@ -158,10 +165,10 @@ in_waiting [] ys w s = s
 in_waiting (x ∷ xs) ys w s = let r = in_waiting xs ys w s in (suc r.0, r.1)
 
 module _ {tail : Option ℕ} {phase phase' : ℕ → Phase} {node : ℕ → Node} {t : Told} {w : ℕ}
-    (ok : Agrees tail phase node t) where
+    (ok : OsqAgrees tail phase node t) where
   -- O2 behind another
   pub law_arrives_behind : {a : ℕ} → tail ≡ Some a → Moves phase phase' w Fresh (Links a)
-      → Agrees (Some w) phase' node (told w Arrive t) × IsLawful t w Arrive
+      → OsqAgrees (Some w) phase' node (told w Arrive t) × IsLawful t w Arrive
   law_arrives_behind met moves =
       let out : Stands (t.holders ++ t.waiting) w
       → ⊥ = (λ s. grind (arith, ok.queue.inside s.0 w s.1, moves.was)) in
@@ -205,7 +212,7 @@ module _ {tail : Option ℕ} {phase phase' : ℕ → Phase} {node : ℕ → Node
 
   -- O5, Q2 with the own flag set
   pub law_takes : (node w).flag ≡ true → Moves phase phase' w Waits Holds
-      → Agrees tail phase' node (told w TakeHanded t) × IsLawful t w TakeHanded
+      → OsqAgrees tail phase' node (told w TakeHanded t) × IsLawful t w TakeHanded
   law_takes flag moves =
       let at : slice_get (t.holders ++ t.waiting) 0 ≡ Some w =
       leads_first ok.queue w (grind (arith, moves.was)) (inr flag) in
@@ -221,11 +228,11 @@ module _ {tail : Option ℕ} {phase phase' : ℕ → Phase} {node : ℕ → Node
         ]
       ] in (
         record {
-          queue = let q : QueueAgrees tail phase' node (t.holders ++ t.waiting) =
+          queue = let q : OsqQueueAgrees tail phase' node (t.holders ++ t.waiting) =
               queue_takes ok.queue moves flag in
               let e : t.holders ++ t.waiting ≡ (t.holders ++ w ∷ []) ++ without w t.waiting =
               rw n.0 (first_others t.waiting w n.2) in
-              subst (QueueAgrees tail phase' node) e q;
+              subst (OsqQueueAgrees tail phase' node) e q;
           front = inr
               (inl (record {
                 holder = w;
@@ -240,7 +247,7 @@ module _ {tail : Option ℕ} {phase phase' : ℕ → Phase} {node : ℕ → Node
 
   -- X1, X5 swapped
   pub law_frees : tail ≡ Some w → Moves phase phase' w Holds Outside
-      → Agrees None phase' node (told w (Release None) t) × IsLawful t w (Release None)
+      → OsqAgrees None phase' node (told w (Release None) t) × IsLawful t w (Release None)
   law_frees met moves =
       let at : slice_get (t.holders ++ t.waiting) 0 ≡ Some w =
       leads_first ok.queue w (grind (arith, moves.was)) (inl (grind (arith, moves.was))) in
@@ -267,7 +274,7 @@ module _ {tail : Option ℕ} {phase phase' : ℕ → Phase} {node : ℕ → Node
   pub law_hands : {node' : ℕ → Node} {x : Node} {b : ℕ} → Moves phase phase' w (Hands b) Outside
       → Moves node node' b (node b) x
       → x.flag ≡ true → x.next ≡ (node b).next
-      → Agrees tail phase' node' (told w (Release (Some b)) t) × IsLawful t w (Release (Some b))
+      → OsqAgrees tail phase' node' (told w (Release (Some b)) t) × IsLawful t w (Release (Some b))
   law_hands {b = b} moves writes flag next =
       let at : slice_get (t.holders ++ t.waiting) 0 ≡ Some w =
       leads_first ok.queue w (grind (arith, moves.was)) (inl (grind (arith, moves.was))) in
@@ -309,7 +316,7 @@ record Quits (phase : ℕ → Phase) (t : Told) (w k : ℕ) : Type 0 where
   drops : Drops (t.holders ++ t.waiting) (t.holders ++ without w t.waiting) k
 
 quits : {tail : Option ℕ} {phase : ℕ → Phase} {node : ℕ → Node} {t : Told}
-    → Agrees tail phase node t
+    → OsqAgrees tail phase node t
     → (j w : ℕ) → slice_get (t.holders ++ t.waiting) (suc j) ≡ Some w → phase w ≢ Waits
     → Quits phase t w (suc j)
 quits {phase = phase} {t = t} ok j w at busy =
@@ -375,10 +382,10 @@ front_quits {phase = phase} {phase' = phase'} {t = t} {w = w} front stands moves
         let ne : y ≢ w = (λ e. d (grind (arith, h, e))) in rw (without_later w y ys ne) h
 
 module _ {tail : Option ℕ} {phase phase' : ℕ → Phase} {node : ℕ → Node} {t : Told} {w : ℕ}
-    (ok : Agrees tail phase node t) where
+    (ok : OsqAgrees tail phase node t) where
   -- Q5 swapped
   pub law_withdraws : {a : ℕ} → tail ≡ Some w → Moves phase phase' w (Cuts a) Outside
-      → Agrees (Some a) phase' node (told w Quit t) × IsLawful t w Quit
+      → OsqAgrees (Some a) phase' node (told w Quit t) × IsLawful t w Quit
   law_withdraws {a = a} met moves =
       let j = stands_behind ok.queue w (grind (arith, moves.was)) (grind (arith, moves.was)) in
       let p = ok.queue.pair j.0 j.1 w j.2 j.3 in
@@ -396,7 +403,7 @@ module _ {tail : Option ℕ} {phase phase' : ℕ → Phase} {node : ℕ → Node
   pub law_unlinks : {node' : ℕ → Node} {x : Node} {a b : ℕ}
       → Moves phase phase' w (Bridges a b) Outside → Moves node node' a (node a) x
       → x.flag ≡ (node a).flag → x.next ≡ Some b
-      → Agrees tail phase' node' (told w Quit t) × IsLawful t w Quit
+      → OsqAgrees tail phase' node' (told w Quit t) × IsLawful t w Quit
   law_unlinks {a = a} moves writes flag next =
       let j = stands_behind ok.queue w (grind (arith, moves.was)) (grind (arith, moves.was)) in
       let p = ok.queue.pair j.0 j.1 w j.2 j.3 in

@@ -1,9 +1,10 @@
 -- The queue, where a processor leaves it: the first, one in the middle, or the last.
-use Rattle.std.proofs.Common.{◌≡◌, ◌≢◌, ◌⊎◌, ◌<◌, ◌≤◌, ℕ, zero, suc, Option, Some, None, true, List, [], ◌∷◌, inl, inr, arith, slice_get, refl, sym, ◌∙◌}
+use Rattle.std.proofs.Common.{◌≡◌, ◌≢◌, ◌⊎◌, ◌<◌, ◌≤◌, ℕ, zero, suc, Option, Some, None, true, List}
+use Rattle.std.proofs.Common.{[], ◌∷◌, inl, inr, arith, slice_get, refl, sym, ◌∙◌}
 use Rattle.lk_osq.specs.Phase.{Phase, queues, follows, link_before}
 use Rattle.lk_osq.specs.Phase.Phase.{Outside, Waits, Cuts, Holds, Hands}
 use Rattle.lk_osq.specs.declared.nodes.Node.{Node}
-use Rattle.lk_osq.specs.Queue.{Pair, QueueAgrees, Moves}
+use Rattle.lk_osq.specs.Queue.{Pair, OsqQueueAgrees, Moves}
 use Rattle.lk_osq.proofs.Cases.{cpu_cases}
 use Rattle.lk_osq.proofs.Links.{pair_same}
 use Rattle.lk_osq.proofs.Turn.{leads_first}
@@ -11,7 +12,7 @@ use Rattle.lk_osq.proofs.Lists.{get_cases, last_cases, get-none_up, get-some_dow
 
 -- who is the tail stands last
 pub tail_last : {tail : Option ℕ} {phase : ℕ → Phase} {node : ℕ → Node} {main : List ℕ}
-    → QueueAgrees tail phase node main
+    → OsqQueueAgrees tail phase node main
     → (k w : ℕ) → slice_get main k ≡ Some w → tail ≡ Some w → slice_get main (suc k) ≡ None
 tail_last {main = main} ok k w h t =
     elim (last_cases main) [
@@ -37,7 +38,7 @@ dropped {k = k} drops i u h = grind (arith, lt_cases i k, drops.low i, drops.hig
 -- what holds in each case
 module _ {tail : Option ℕ} {phase phase' : ℕ → Phase} {node : ℕ
     → Node} {main main' : List ℕ} {w : ℕ} {r : Phase} {k : ℕ}
-    (ok : QueueAgrees tail phase node main) (moves : Moves phase phase' w r Outside)
+    (ok : OsqQueueAgrees tail phase node main) (moves : Moves phase phase' w r Outside)
     (at_w : slice_get main k ≡ Some w) (drops : Drops main main' k) where
   pub leave-other : (i u : ℕ) → slice_get main' i ≡ Some u → u ≢ w
   leave-other i u h e =
@@ -107,7 +108,7 @@ module _ {tail : Option ℕ} {phase phase' : ℕ → Phase} {node : ℕ
 -- X1, X5 swapped: the only one releases
 module _ {tail : Option ℕ} {phase phase' : ℕ → Phase} {node : ℕ
     → Node} {main main' : List ℕ} {w : ℕ}
-    (ok : QueueAgrees tail phase node main) (moves : Moves phase phase' w Holds Outside)
+    (ok : OsqQueueAgrees tail phase node main) (moves : Moves phase phase' w Holds Outside)
     (tail_is : tail ≡ Some w) (drops : Drops main main' 0) where
   frees-at : slice_get main 0 ≡ Some w
   frees-at = leads_first ok w (grind (arith, moves.was)) (inl (grind (arith, moves.was)))
@@ -132,7 +133,7 @@ module _ {tail : Option ℕ} {phase phase' : ℕ → Phase} {node : ℕ
       (elim c [ inl n ↦ absurd (grind (arith, get-none_up main' i n, h)) | inr v ↦ v.0 ]))
       [ inl n ↦ absurd (grind (arith, get-none_up main' i n, h)) | inr v ↦ v.1 ])
 
-  pub queue_frees : QueueAgrees None phase' node main'
+  pub queue_frees : OsqQueueAgrees None phase' node main'
   queue_frees =
       record {
         inside = λ i u h. absurd (frees-none i u h);
@@ -153,7 +154,7 @@ module _ {tail : Option ℕ} {phase phase' : ℕ → Phase} {node : ℕ
 -- X3: the first hands the lock to the one behind it
 module _ {tail : Option ℕ} {phase phase' : ℕ → Phase} {node node' : ℕ
     → Node} {main main' : List ℕ} {w b : ℕ} {x : Node}
-    (ok : QueueAgrees tail phase node main) (moves : Moves phase phase' w (Hands b) Outside)
+    (ok : OsqQueueAgrees tail phase node main) (moves : Moves phase phase' w (Hands b) Outside)
     (writes : Moves node node' b (node b) x)
     (flag : x.flag ≡ true) (next : x.next ≡ (node b).next) (drops : Drops main main' 0) where
   hands-at : slice_get main 0 ≡ Some w
@@ -188,7 +189,7 @@ module _ {tail : Option ℕ} {phase phase' : ℕ → Phase} {node node' : ℕ
   hands-apart : b ≢ w
   hands-apart e = grind (arith, ok.once 1 0 w, hands-second, hands-at, e)
 
-  pub queue_hands : QueueAgrees tail phase' node' main'
+  pub queue_hands : OsqQueueAgrees tail phase' node' main'
   queue_hands =
       record {
         inside = leave-inside ok moves hands-at drops;
@@ -220,7 +221,8 @@ module _ {tail : Option ℕ} {phase phase' : ℕ → Phase} {node node' : ℕ
             grind (arith, o, moves.others u (hands-other i u h), hands-next u);
         outside = λ u h.
             let n = ok.pair 0 w b hands-at hands-second in
-            grind (arith, ok.outside u, cpu_cases u w, moves.others u, moves.was, n.next, hands-next u);
+            grind
+            (arith, ok.outside u, cpu_cases u w, moves.others u, moves.was, n.next, hands-next u);
         fresh = λ u h.
             let d : u ≢ b = (λ e. grind (arith, moves.others b hands-apart, hands-waits, e)) in
             grind (arith, ok.fresh u, cpu_cases u w, moves.others u, moves.now, writes.others u d);
@@ -229,7 +231,7 @@ module _ {tail : Option ℕ} {phase phase' : ℕ → Phase} {node node' : ℕ
 -- Q5 swapped: the last gives up
 module _ {tail : Option ℕ} {phase phase' : ℕ → Phase} {node : ℕ
     → Node} {main main' : List ℕ} {w a : ℕ}
-    (ok : QueueAgrees tail phase node main) (moves : Moves phase phase' w (Cuts a) Outside)
+    (ok : OsqQueueAgrees tail phase node main) (moves : Moves phase phase' w (Cuts a) Outside)
     (tail_is : tail ≡ Some w)
     (j : ℕ) (at_a : slice_get main j ≡ Some a) (at_w : slice_get main (suc j) ≡ Some w)
     (drops : Drops main main' (suc j)) where
@@ -264,7 +266,7 @@ module _ {tail : Option ℕ} {phase phase' : ℕ → Phase} {node : ℕ
         | inr e ↦ (e, grind (arith, s.1, e))
       ]
 
-  pub queue_withdraws : QueueAgrees (Some a) phase' node main'
+  pub queue_withdraws : OsqQueueAgrees (Some a) phase' node main'
   queue_withdraws =
       record {
         inside = leave-inside ok moves at_w drops;

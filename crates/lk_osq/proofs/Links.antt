@@ -1,9 +1,10 @@
 -- The queue, where a node is written and nobody comes or goes.
-use Rattle.std.proofs.Common.{◌≡◌, ◌≢◌, ◌⊎◌, ℕ, suc, Option, Some, None, Bool, true, false, List, inl, inr, arith, slice_get, refl, sym, ◌∙◌}
+use Rattle.std.proofs.Common.{◌≡◌, ◌≢◌, ◌⊎◌, ℕ, suc, Option, Some, None, Bool, true, false, List}
+use Rattle.std.proofs.Common.{inl, inr, arith, slice_get, refl, sym, ◌∙◌}
 use Rattle.lk_osq.specs.Phase.{Phase, queues, leads, follows, link_before, link_behind}
 use Rattle.lk_osq.specs.Phase.Phase.{Outside, Fresh, Links, Waits, Cuts, Bridges, Holds, Hands}
 use Rattle.lk_osq.specs.declared.nodes.Node.{Node}
-use Rattle.lk_osq.specs.Queue.{Pair, QueueAgrees, Moves}
+use Rattle.lk_osq.specs.Queue.{Pair, OsqQueueAgrees, Moves}
 use Rattle.lk_osq.proofs.Cases.{cpu_cases}
 use Rattle.lk_osq.proofs.Turn.{turn}
 use Rattle.lk_osq.proofs.Lists.{get_cases}
@@ -20,7 +21,7 @@ pair_same o e f g =
 
 -- whom a node names stands behind it, and the link is in nobody's hand
 pub named : {tail : Option ℕ} {phase : ℕ → Phase} {node : ℕ → Node} {main : List ℕ}
-    → QueueAgrees tail phase node main
+    → OsqQueueAgrees tail phase node main
     → (a w : ℕ) → (node a).next ≡ Some w
     → (j : ℕ) × (slice_get main j ≡ Some a) × (slice_get main (suc j) ≡ Some w)
     × (link_behind (phase a) ≡ None) × (link_before (phase w) ≡ None)
@@ -52,13 +53,13 @@ named {phase = phase} {node = node} {main = main} ok a w e =
 -- O1: its node is fresh
 module _ {tail : Option ℕ} {phase phase' : ℕ → Phase} {node node' : ℕ
     → Node} {main : List ℕ} {w : ℕ} {x : Node}
-    (ok : QueueAgrees tail phase node main) (moves : Moves phase phase' w Outside Fresh)
+    (ok : OsqQueueAgrees tail phase node main) (moves : Moves phase phase' w Outside Fresh)
     (writes : Moves node node' w (node w) x)
     (flag : x.flag ≡ false) (next : x.next ≡ None) where
   enters-other : (i u : ℕ) → slice_get main i ≡ Some u → u ≢ w
   enters-other i u h e = grind (arith, ok.inside i u h, moves.was)
 
-  pub queue_enters : QueueAgrees tail phase' node' main
+  pub queue_enters : OsqQueueAgrees tail phase' node' main
   queue_enters =
       turn ok moves refl
       (λ u h. grind (arith, ok.first u h, enters-other 0 u h, moves.others u, writes.others u))
@@ -76,7 +77,7 @@ module _ {tail : Option ℕ} {phase phase' : ℕ → Phase} {node node' : ℕ
 -- O4, Q1 swapped: the link to it is given, or cut
 module _ {tail : Option ℕ} {phase phase' : ℕ → Phase} {node node' : ℕ
     → Node} {main : List ℕ} {w a : ℕ} {r r' : Phase} {x : Node}
-    (ok : QueueAgrees tail phase node main) (moves : Moves phase phase' w r r')
+    (ok : OsqQueueAgrees tail phase node main) (moves : Moves phase phase' w r r')
     (writes : Moves node node' a (node a) x)
     (flag : x.flag ≡ (node a).flag) (j : ℕ) (at_a : slice_get main j ≡ Some a)
     (at_w : slice_get main (suc j) ≡ Some w) (none : link_behind (phase a) ≡ None)
@@ -113,7 +114,7 @@ module _ {tail : Option ℕ} {phase phase' : ℕ → Phase} {node node' : ℕ
             }
       ]
 
-  pub queue_links : QueueAgrees tail phase' node' main
+  pub queue_links : OsqQueueAgrees tail phase' node' main
   queue_links =
       turn ok moves link-queues
       (λ u h. let d : u ≢ w = (λ e. grind (arith, ok.once (suc j) 0 w, e)) in grind
@@ -131,7 +132,7 @@ module _ {tail : Option ℕ} {phase phase' : ℕ → Phase} {node node' : ℕ
 -- Q7, X2, X7: it takes the link to the one behind it
 module _ {tail : Option ℕ} {phase phase' : ℕ → Phase} {node node' : ℕ
     → Node} {main : List ℕ} {w b : ℕ} {r r' : Phase} {x : Node}
-    (ok : QueueAgrees tail phase node main) (moves : Moves phase phase' w r r')
+    (ok : OsqQueueAgrees tail phase node main) (moves : Moves phase phase' w r r')
     (writes : Moves node node' w (node w) x)
     (flag : x.flag ≡ (node w).flag) (next : x.next ≡ None)
     (j : ℕ) (at_w : slice_get main j ≡ Some w) (at_b : slice_get main (suc j) ≡ Some b)
@@ -177,7 +178,7 @@ module _ {tail : Option ℕ} {phase phase' : ℕ → Phase} {node node' : ℕ
             }
       ]
 
-  pub queue_grabs : QueueAgrees tail phase' node' main
+  pub queue_grabs : OsqQueueAgrees tail phase' node' main
   queue_grabs =
       turn ok moves grab-queues
       (λ u h. rw (grab-flag u, grab-leads u) (ok.first u h))
@@ -193,7 +194,7 @@ module _ {tail : Option ℕ} {phase phase' : ℕ → Phase} {node node' : ℕ
 -- O3, Q8: a node is told whom it stands behind, which nothing here reads
 module _ {tail : Option ℕ} {phase phase' : ℕ → Phase} {node node' : ℕ
     → Node} {main : List ℕ} {w a : ℕ} {r : Phase} {x : Node}
-    (ok : QueueAgrees tail phase node main) (moves : Moves phase phase' w r r)
+    (ok : OsqQueueAgrees tail phase node main) (moves : Moves phase phase' w r r)
     (writes : Moves node node' a (node a) x)
     (flag : x.flag ≡ (node a).flag) (next : x.next ≡ (node a).next) where
   pub tell-phase : (u : ℕ) → phase' u ≡ phase u
@@ -208,7 +209,7 @@ module _ {tail : Option ℕ} {phase phase' : ℕ → Phase} {node node' : ℕ
   tell-next : (u : ℕ) → (node' u).next ≡ (node u).next
   tell-next u = grind (arith, cpu_cases u a, writes.others u, writes.now)
 
-  pub queue_tells : QueueAgrees tail phase' node' main
+  pub queue_tells : OsqQueueAgrees tail phase' node' main
   queue_tells =
       turn ok moves refl
       (λ u h. rw (tell-phase u, tell-flag u) (ok.first u h))

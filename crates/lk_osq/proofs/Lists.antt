@@ -1,5 +1,6 @@
 -- Lists by index: what stands where after one more was appended, or the first was dropped.
-use Rattle.std.proofs.Common.{◌≡◌, ℕ, zero, suc, Some, None, List, [], ◌∷◌, ◌++◌, length, ◌⊎◌, inl, inr, arith, ap, refl, slice_get, drop, ◌≤◌}
+use Rattle.std.proofs.Common.{◌≡◌, ℕ, zero, suc, Some, None, List, [], ◌∷◌, ◌++◌, length, ◌⊎◌, inl}
+use Rattle.std.proofs.Common.{inr, arith, ap, refl, slice_get, drop, ◌≤◌}
 
 -- an element after one more was appended is an old one, or the new one at the end
 pub get-append : {A : Type 0} (xs : List A) (x : A) (i : ℕ) (u : A)

@@ -1,34 +1,42 @@
 -- Each row keeps what the machine shows, and its event is lawful.
-use Rattle.std.proofs.Common.{◌≡◌, ◌⊎◌, ◌<◌, ◌≤◌, ℕ, zero, suc, Option, Some, None, Bool, true, false, List, [], ◌∷◌, length, inl, inr, arith, ap, refl, sym, ◌∙◌, subst, get_or, slice_get, is_some, nat_lt, if◌then◌else◌, ◌++◌}
+use Rattle.std.proofs.Common.{◌≡◌, ◌⊎◌, ◌<◌, ◌≤◌, ℕ, zero, suc, Option, Some, None, Bool, true}
+use Rattle.std.proofs.Common.{false, List, [], ◌∷◌, length, inl, inr, arith, ap, refl, sym, ◌∙◌}
+use Rattle.std.proofs.Common.{subst, get_or, slice_get, is_some, nat_lt, if◌then◌else◌, ◌++◌}
 use Rattle.std.proofs.lemmas.Bool.{cases_Bool}
 use Rattle.lk_osq.specs.declared.nodes.Node.{Node}
 use Rattle.lk_osq.specs.declared.nodes.Cpu.{Cpu}
 use Rattle.lk_osq.specs.declared.places.Place.{Place}
 use Rattle.lk_osq.specs.declared.places.Place.TheVariants as at
-use Rattle.lk_osq.specs.declared.events.OsqWhat.TheVariants.{TakeFree, Arrive, TakeHanded, Quit, Release}
+use Rattle.lk_osq.specs.declared.events.OsqWhat.TheVariants.{TakeFree, Arrive, TakeHanded, Quit}
+use Rattle.lk_osq.specs.declared.events.OsqWhat.TheVariants.{Release}
 use Rattle.lk_osq.specs.Phase.{Phase, queues, leads, link_before, link_behind}
 use Rattle.lk_osq.specs.Phase.Phase.{Outside, Links, Waits, Cuts, Bridges, Holds, Hands, Astray}
-use Rattle.lk_osq.specs.Queue.{QueueAgrees, Moves}
+use Rattle.lk_osq.specs.Queue.{OsqQueueAgrees, Moves}
 use Rattle.lk_osq.specs.History.{Told, told}
-use Rattle.lk_osq.specs.Agree.{Agrees}
+use Rattle.lk_osq.specs.Agree.{OsqAgrees}
 use Rattle.lk_osq.specs.Machine.{Machine, cpu_at, node_at, set_cpu, set_node, set_tail, no_cpu}
 use Rattle.lk_osq.specs.declared.outcomes.Lead.{Lead}
 use Rattle.lk_osq.specs.declared.outcomes.Lead.TheVariants.{Goes, Knows, Meets, Ends}
 use Rattle.lk_osq.specs.declared.outcomes.Store.{Store}
 use Rattle.lk_osq.specs.declared.outcomes.Store.TheVariants.{Flag, Next, Prev, Reset}
 use Rattle.lk_osq.specs.declared.outcomes.Outcome.{Outcome}
-use Rattle.lk_osq.specs.Rows.{stored, moved, applied, looks, writes, takes, swaps, is_cpu, arrives, tells, links, waits, cuts, sees_flag, grabs, unlinks, frees, hands, next_of, row, event_of}
-use Rattle.lk_osq.specs.Shown.{by_one, by_two, phase_by, phase_of, phase_at, Shows, told_on, IsAllowed}
+use Rattle.lk_osq.specs.Rows.{stored, moved, applied, looks, writes, takes, swaps, is_cpu, arrives}
+use Rattle.lk_osq.specs.Rows.{tells, links, waits, cuts, sees_flag, grabs, unlinks, frees, hands}
+use Rattle.lk_osq.specs.Rows.{next_of, row, event_of}
+use Rattle.lk_osq.specs.Shown.{by_one, by_two, phase_by, phase_of, phase_at, Shows, told_on}
+use Rattle.lk_osq.specs.Shown.{IsLawfulIfAny}
 use Rattle.lk_osq.proofs.Cases.{cpu_cases}
 use Rattle.lk_osq.proofs.Turn.{stands_behind}
 use Rattle.lk_osq.proofs.Lists.{get_cases}
-use Rattle.lk_osq.proofs.Kept.{law_enters, law_arrives_first, law_arrives_behind, law_links, law_takes, law_cuts, law_withdraws, law_grabs, law_tells, law_unlinks, law_frees, law_hands}
+use Rattle.lk_osq.proofs.Kept.{law_enters, law_arrives_first, law_arrives_behind, law_links}
+use Rattle.lk_osq.proofs.Kept.{law_takes, law_cuts, law_withdraws, law_grabs, law_tells}
+use Rattle.lk_osq.proofs.Kept.{law_unlinks, law_frees, law_hands}
 use Rattle.lk_osq.proofs.Steps.{goes_on, stores_on, shows_by, tail-set}
 
 -- what is shown after an outcome, and that its event is lawful
 abbrev pub Keeps : Machine → Told → ℕ → Outcome → Type 0
 Keeps m t p o =
-    Shows (applied m p o) (told_on (event_of p o.tells) t) × IsAllowed (event_of p o.tells) t
+    Shows (applied m p o) (told_on (event_of p o.tells) t) × IsLawfulIfAny (event_of p o.tells) t
 
 option_cases : (o : Option ℕ) → (o ≡ None) ⊎ ((a : ℕ) × (o ≡ Some a))
 option_cases None = inl refl
@@ -65,7 +73,7 @@ in_range m u q =
 
 -- nobody has lost a register
 not_astray : {x : Option ℕ} {phase : ℕ → Phase} {node : ℕ → Node} {main : List ℕ}
-    → QueueAgrees x phase node main → (w : ℕ) → phase w ≡ Astray → ⊥
+    → OsqQueueAgrees x phase node main → (w : ℕ) → phase w ≡ Astray → ⊥
 not_astray {phase = phase} {main = main} ok w e = let s =
     ok.place w (grind (arith, e)) in go s.0 s.1
   where
@@ -87,7 +95,8 @@ module _ (m : Machine) (t : Told) (p : ℕ) (within : p < length m.cpus) (ok : S
             (w.acts.others u ne)
       ]) in (
         shows_by m.tail (λ u. (cpu_at m u).node) (tail-set m p (moved (cpu_at m p) l)) w.nodes
-            (subst (λ f. Agrees m.tail f (λ u. (cpu_at m u).node) t) (λ i u. same u i) ok.agrees),
+            (subst (λ f. OsqAgrees m.tail f (λ u. (cpu_at m u).node) t)
+            (λ i u. same u i) ok.agrees),
         tt,
       )
 
@@ -114,7 +123,8 @@ module _ (m : Machine) (t : Told) (p : ℕ) (within : p < length m.cpus) (ok : S
         shows_by m.tail (λ u. (cpu_at m u).node)
             (tail-set n p (moved (cpu_at n p) l) ∙ tail-set m p
             (record (cpu_at m p) { node = x })) nodes
-            (subst (λ f. Agrees m.tail f (λ u. (cpu_at m u).node) t) (λ i u. same u i) ok.agrees),
+            (subst (λ f. OsqAgrees m.tail f (λ u. (cpu_at m u).node) t)
+            (λ i u. same u i) ok.agrees),
         tt,
       )
 
@@ -128,7 +138,7 @@ abbrev after_tail : Machine → ℕ → Option ℕ → Lead → Machine
 after_tail m p x l = set_cpu (set_tail m x) p (moved (cpu_at (set_tail m x) p) l)
 
 after_shows : (m : Machine) (p a : ℕ) (s : Store) (l : Lead) (t : Told)
-    → Agrees m.tail (phase_at (after m p a s l)) (λ u. (cpu_at (after m p a s l) u).node) t
+    → OsqAgrees m.tail (phase_at (after m p a s l)) (λ u. (cpu_at (after m p a s l) u).node) t
     → Shows (after m p a s l) t
 after_shows m p a s l t ok =
     let n = set_node m a (stored (node_at m a) s) in
@@ -137,7 +147,7 @@ after_shows m p a s l t ok =
     (record (cpu_at m a) { node = stored (node_at m a) s })) (λ u. refl) ok
 
 tail_shows : (m : Machine) (p : ℕ) (x : Option ℕ) (l : Lead) (t : Told) → p < length m.cpus
-    → Agrees x (phase_at (after_tail m p x l)) (λ u. (cpu_at m u).node) t
+    → OsqAgrees x (phase_at (after_tail m p x l)) (λ u. (cpu_at m u).node) t
     → Shows (after_tail m p x l) t
 tail_shows m p x l t within ok =
     shows_by x (λ u. (cpu_at m u).node)
@@ -145,7 +155,7 @@ tail_shows m p x l t within ok =
     (goes_on m p within (Some x) l).nodes ok
 
 goes_shows : (m : Machine) (p : ℕ) (l : Lead) (t : Told) → p < length m.cpus
-    → Agrees m.tail (phase_at (set_cpu m p (moved (cpu_at m p) l))) (λ u. (cpu_at m u).node) t
+    → OsqAgrees m.tail (phase_at (set_cpu m p (moved (cpu_at m p) l))) (λ u. (cpu_at m u).node) t
     → Shows (set_cpu m p (moved (cpu_at m p) l)) t
 goes_shows m p l t within ok =
     shows_by m.tail (λ u. (cpu_at m u).node) (tail-set m p (moved (cpu_at m p) l))
@@ -213,7 +223,7 @@ module _ (m : Machine) (t : Told) (p : ℕ) (within : p < length m.cpus) (ok : S
     | inl none ↦
         let w = goes_on m p within (Some (Some p)) (Goes at.X1) in
         let r = law_arrives_first
-        (subst (λ x. Agrees x (phase_at m) (λ u. (cpu_at m u).node) t) none ok.agrees)
+        (subst (λ x. OsqAgrees x (phase_at m) (λ u. (cpu_at m u).node) t) none ok.agrees)
         (moves_as w.acts (phase_is m p at.O2 here) refl) in
         let k : Keeps m t p (arrives p None) =
         (tail_shows m p (Some p) (Goes at.X1) (told p TakeFree t) within r.0, r.1) in

@@ -1,5 +1,7 @@
 -- Acts, the machine at rest, and runs.
-use Rattle.std.proofs.Common.{◌⊎◌, ◌+◌, take, ◌≡◌, ◌<◌, ◌≤◌, ℕ, zero, suc, Option, Some, None, Bool, true, false, List, [], ◌∷◌, ◌++◌, length, inl, inr, arith, ap, refl, sym, ◌∙◌, subst, get_or, slice_get, map, if◌then◌else◌, nat_lt}
+use Rattle.std.proofs.Common.{◌⊎◌, ◌+◌, take, ◌≡◌, ◌<◌, ◌≤◌, ℕ, zero, suc, Option, Some, None, Bool}
+use Rattle.std.proofs.Common.{true, false, List, [], ◌∷◌, ◌++◌, length, inl, inr, arith, ap, refl}
+use Rattle.std.proofs.Common.{sym, ◌∙◌, subst, get_or, slice_get, map, if◌then◌else◌, nat_lt}
 use Rattle.lk_osq.specs.declared.nodes.Node.{Node}
 use Rattle.lk_osq.specs.declared.nodes.Cpu.{Cpu}
 use Rattle.lk_osq.specs.declared.places.Place.{Place}
@@ -7,17 +9,19 @@ use Rattle.lk_osq.specs.declared.places.Place.TheVariants as at
 use Rattle.lk_osq.specs.declared.events.OsqEvent.{OsqEvent}
 use Rattle.lk_osq.specs.Phase.Phase.{Outside}
 use Rattle.lk_osq.specs.History.{Told, told, nothing_told, told_by, IsLawfulAfter}
-use Rattle.lk_osq.specs.Agree.{Agrees}
+use Rattle.lk_osq.specs.Agree.{OsqAgrees}
 use Rattle.lk_osq.specs.Machine.{Machine, cpu_at, node_at, set_cpu, no_cpu, rest_node}
 use Rattle.lk_osq.specs.declared.outcomes.Store.{Store}
 use Rattle.lk_osq.specs.declared.outcomes.Outcome.{Outcome}
 use Rattle.std.proofs.lemmas.Bool.{cases_Bool}
-use Rattle.lk_osq.specs.Rows.{IsIdle, may_give, asked, stored, moved, with_tail, with_node, applied, row, stepped, gives, next}
-use Rattle.lk_osq.specs.Shown.{phase_by, phase_of, phase_at, Shows, told_on, IsAllowed}
+use Rattle.lk_osq.specs.Rows.{IsIdle, may_give, asked, stored, moved, with_tail, with_node, applied}
+use Rattle.lk_osq.specs.Rows.{row, stepped, gives, next}
+use Rattle.lk_osq.specs.Shown.{phase_by, phase_of, phase_at, Shows, told_on, IsLawfulIfAny}
 use Rattle.lk_osq.specs.Run.{Act, machine_after, events_of, history, rest_cpu, at_rest, AreInRange}
 use Rattle.lk_osq.specs.RunLaws.{ActKeeps, RunKeeps}
 use Rattle.lk_osq.proofs.Cases.{cpu_cases}
-use Rattle.lk_osq.proofs.Steps.{shows_by, tail-set, cpu-set_same, cpu-set_other, cpus-set, cpus-with_tail}
+use Rattle.lk_osq.proofs.Steps.{shows_by, tail-set, cpu-set_same, cpu-set_other, cpus-set}
+use Rattle.lk_osq.proofs.Steps.{cpus-with_tail}
 use Rattle.lk_osq.proofs.Rows.{rows_keep}
 use Rattle.lk_osq.proofs.Handed.{are_handed}
 
@@ -42,7 +46,7 @@ asked_keeps m t p within ok =
           (λ (d : Cpu). d.node) (cpu-set_other m p u c ne)
     ]) in
     shows_by m.tail (λ u. (cpu_at m u).node) (tail-set m p c) node
-    (subst (λ f. Agrees m.tail f (λ u. (cpu_at m u).node) t) (λ i u. sym (phase u) i) ok.agrees)
+    (subst (λ f. OsqAgrees m.tail f (λ u. (cpu_at m u).node) t) (λ i u. sym (phase u) i) ok.agrees)
 
 give_keeps : (m : Machine) (t : Told) (p : ℕ) → p < length m.cpus → Shows m t → (b : Bool)
     → Shows (if b then set_cpu m p (asked (cpu_at m p)) else m) t
@@ -51,7 +55,7 @@ give_keeps m t p within ok false = ok
 
 step_keeps : (m : Machine) (t : Told) (p : ℕ) → p < length m.cpus → Shows m t → (x : Option Place)
     → (cpu_at m p).place ≡ x
-    → Shows (stepped m p x).0 (told_on (stepped m p x).1 t) × IsAllowed (stepped m p x).1 t
+    → Shows (stepped m p x).0 (told_on (stepped m p x).1 t) × IsLawfulIfAny (stepped m p x).1 t
 step_keeps m t p within ok None e = (ok, tt)
 step_keeps m t p within ok (Some d) e = rows_keep m t p within ok d e
 
@@ -137,7 +141,7 @@ few m t ok = elim ok.agrees.front [
 
 -- an act, and then others
 first_then : (m k : Machine) (t : Told) (acts : List Act) (o : Option OsqEvent)
-    → length t.holders ≤ 1 → Shows k (told_on o t) → IsAllowed o t
+    → length t.holders ≤ 1 → Shows k (told_on o t) → IsLawfulIfAny o t
     → ((s : Told) → Shows k s
     → IsLawfulAfter (history k acts) s × Shows (machine_after k acts) (told_by (history k acts) s))
     → IsLawfulAfter (events_of o ++ history k acts) t
@@ -171,12 +175,12 @@ runs_keep rounds acts range =
 -- the same for what a call gave
 pub act_kept : (m n : Machine) (o : Option OsqEvent) (give : Bool) (p : ℕ) → p < length m.cpus
     → n ≡ (next m give p).0 → o ≡ (next m give p).1
-    → (t : Told) → Shows m t → Shows n (told_on o t) × IsAllowed o t
+    → (t : Told) → Shows m t → Shows n (told_on o t) × IsLawfulIfAny o t
 act_kept m n o give p within e h t ok =
     let k = acts_keep m t give p within ok in (
       subst (λ x. Shows x (told_on o t)) (sym e)
           (subst (λ x. Shows (next m give p).0 (told_on x t)) (sym h) k.0),
-      subst (λ x. IsAllowed x t)
+      subst (λ x. IsLawfulIfAny x t)
           (sym h) k.1,
     )
 

@@ -1,12 +1,13 @@
 -- What a row changes of a machine, as functions of the processors.
-use Rattle.std.proofs.Common.{◌≡◌, ◌≢◌, ◌<◌, ℕ, zero, suc, Option, Some, None, List, [], ◌∷◌, length, inl, inr, ap, refl, sym, ◌∙◌, subst, set}
+use Rattle.std.proofs.Common.{◌≡◌, ◌≢◌, ◌<◌, ℕ, zero, suc, Option, Some, None, List, [], ◌∷◌}
+use Rattle.std.proofs.Common.{length, inl, inr, ap, refl, sym, ◌∙◌, subst, set}
 use Rattle.std.proofs.lemmas.List.{get_or-set_same, get_or-set_other}
 use Rattle.lk_osq.specs.declared.nodes.Node.{Node}
 use Rattle.lk_osq.specs.declared.nodes.Cpu.{Cpu}
 use Rattle.lk_osq.specs.Phase.{Phase}
 use Rattle.lk_osq.specs.Queue.{Moves}
 use Rattle.lk_osq.specs.History.{Told}
-use Rattle.lk_osq.specs.Agree.{Agrees}
+use Rattle.lk_osq.specs.Agree.{OsqAgrees}
 use Rattle.lk_osq.specs.Machine.{Machine, cpu_at, node_at, set_cpu, set_node, set_tail, no_cpu}
 use Rattle.lk_osq.specs.declared.outcomes.Lead.{Lead}
 use Rattle.lk_osq.specs.declared.outcomes.Lead.TheVariants.{Goes, Knows, Meets, Ends}
@@ -153,10 +154,10 @@ module _ (m : Machine) (p : ℕ) (within : p < length m.cpus) where
 
 -- a machine shows what agrees with it
 pub shows_by : {m : Machine} {t : Told} (x : Option ℕ) (f : ℕ → Node) → m.tail ≡ x
-    → ((u : ℕ) → (cpu_at m u).node ≡ f u) → Agrees x (phase_at m) f t → Shows m t
+    → ((u : ℕ) → (cpu_at m u).node ≡ f u) → OsqAgrees x (phase_at m) f t → Shows m t
 shows_by {m = m} {t = t} x f e nodes ok =
     record {
       agrees =
-          subst (λ y. Agrees y (phase_at m) (λ p. (cpu_at m p).node) t) (sym e)
-          (subst (λ g. Agrees x (phase_at m) g t) (λ i u. sym (nodes u) i) ok);
+          subst (λ y. OsqAgrees y (phase_at m) (λ p. (cpu_at m p).node) t) (sym e)
+          (subst (λ g. OsqAgrees x (phase_at m) g t) (λ i u. sym (nodes u) i) ok);
     }

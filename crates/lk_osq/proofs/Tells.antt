@@ -1,5 +1,6 @@
 -- Lists without one of their elements.
-use Rattle.std.proofs.Common.{◌≡◌, ◌≢◌, ◌<◌, ◌≤◌, ℕ, zero, suc, Some, None, List, [], ◌∷◌, arith, slice_get, refl}
+use Rattle.std.proofs.Common.{◌≡◌, ◌≢◌, ◌<◌, ◌≤◌, ℕ, zero, suc, Some, None, List, [], ◌∷◌, arith}
+use Rattle.std.proofs.Common.{slice_get, refl}
 use Rattle.lk_osq.specs.History.{without}
 use Rattle.lk_osq.proofs.Leave.{Drops}
 

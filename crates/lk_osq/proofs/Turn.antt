@@ -1,15 +1,16 @@
 -- The queue, where one processor goes on within it, or outside it.
-use Rattle.std.proofs.Common.{◌≡◌, ◌≢◌, ◌⊎◌, ℕ, zero, suc, Option, Some, None, true, false, List, inl, inr, arith, slice_get, refl}
+use Rattle.std.proofs.Common.{◌≡◌, ◌≢◌, ◌⊎◌, ℕ, zero, suc, Option, Some, None, true, false, List}
+use Rattle.std.proofs.Common.{inl, inr, arith, slice_get, refl}
 use Rattle.lk_osq.specs.Phase.{Phase, queues, leads, follows, link_behind}
 use Rattle.lk_osq.specs.Phase.Phase.{Fresh, Waits, Holds}
 use Rattle.lk_osq.specs.declared.nodes.Node.{Node}
-use Rattle.lk_osq.specs.Queue.{Pair, QueueAgrees, Moves}
+use Rattle.lk_osq.specs.Queue.{Pair, OsqQueueAgrees, Moves}
 use Rattle.lk_osq.proofs.Cases.{cpu_cases}
 use Rattle.lk_osq.proofs.Lists.{get_cases, get-none_up}
 
 -- who stands in the queue and does not lead it stands behind another
 pub stands_behind : {tail : Option ℕ} {phase : ℕ → Phase} {node : ℕ → Node} {main : List ℕ}
-    → QueueAgrees tail phase node main
+    → OsqQueueAgrees tail phase node main
     → (w : ℕ) → queues (phase w) ≡ true → leads (phase w) ((node w).flag) ≡ false
     → (j : ℕ) × (a : ℕ) × (slice_get main j ≡ Some a) × (slice_get main (suc j) ≡ Some w)
 stands_behind {phase = phase} {node = node} {main = main} ok w q l = let at =
@@ -27,7 +28,7 @@ stands_behind {phase = phase} {node = node} {main = main} ok w q l = let at =
 
 -- who leads is the first
 pub leads_first : {tail : Option ℕ} {phase : ℕ → Phase} {node : ℕ → Node} {main : List ℕ}
-    → QueueAgrees tail phase node main
+    → OsqQueueAgrees tail phase node main
     → (w : ℕ) → queues (phase w) ≡ true → (follows (phase w) ≡ false) ⊎ ((node w).flag ≡ true)
     → slice_get main 0 ≡ Some w
 leads_first {phase = phase} {main = main} ok w q l = let at = ok.place w q in go at.0 at.1
@@ -39,7 +40,7 @@ leads_first {phase = phase} {main = main} ok w q l = let at = ok.place w q in go
 -- one moves, and the queue stays
 module _ {tail : Option ℕ} {phase phase' : ℕ → Phase} {node node' : ℕ
     → Node} {main : List ℕ} {w : ℕ} {r r' : Phase}
-    (ok : QueueAgrees tail phase node main) (moves : Moves phase phase' w r r')
+    (ok : OsqQueueAgrees tail phase node main) (moves : Moves phase phase' w r r')
     (stays : queues r' ≡ queues r) where
   pub turn : ((u : ℕ) → slice_get main 0 ≡ Some u → leads (phase' u) ((node' u).flag) ≡ true)
       → ((i u : ℕ) → slice_get main (suc i) ≡ Some u
@@ -50,7 +51,7 @@ module _ {tail : Option ℕ} {phase phase' : ℕ → Phase} {node node' : ℕ
       → ((node' u).next ≡ None) × (link_behind (phase' u) ≡ None))
       → ((u : ℕ) → queues (phase' u) ≡ false → (node' u).next ≡ None)
       → ((u : ℕ) → phase' u ≡ Fresh → (node' u).flag ≡ false)
-      → QueueAgrees tail phase' node' main
+      → OsqQueueAgrees tail phase' node' main
   turn f b p l o x =
       record {
         inside = λ i u h. grind
@@ -70,7 +71,7 @@ module _ {tail : Option ℕ} {phase phase' : ℕ → Phase} {node node' : ℕ
 
 -- its own flag is set, and it takes the lock
 module _ {tail : Option ℕ} {phase phase' : ℕ → Phase} {node : ℕ → Node} {main : List ℕ} {w : ℕ}
-    (ok : QueueAgrees tail phase node main) (moves : Moves phase phase' w Waits Holds)
+    (ok : OsqQueueAgrees tail phase node main) (moves : Moves phase phase' w Waits Holds)
     (flag : (node w).flag ≡ true) where
   takes-at : slice_get main 0 ≡ Some w
   takes-at = leads_first ok w (grind (arith, moves.was)) (inr flag)
@@ -88,7 +89,7 @@ module _ {tail : Option ℕ} {phase phase' : ℕ → Phase} {node : ℕ → Node
         behind = grind (arith, p.behind, e, cpu_cases u w, moves.others u, moves.now, moves.was);
       }
 
-  pub queue_takes : QueueAgrees tail phase' node main
+  pub queue_takes : OsqQueueAgrees tail phase' node main
   queue_takes =
       turn ok moves refl
       (λ u h. grind (arith, takes-at, moves.now))

@@ -1,9 +1,10 @@
 -- The queue, where one that gives up leaves it between two others.
-use Rattle.std.proofs.Common.{◌≡◌, ◌≢◌, ◌⊎◌, ◌<◌, ℕ, suc, Option, Some, None, List, inl, inr, arith, slice_get, sym, ◌∙◌}
+use Rattle.std.proofs.Common.{◌≡◌, ◌≢◌, ◌⊎◌, ◌<◌, ℕ, suc, Option, Some, None, List, inl, inr, arith}
+use Rattle.std.proofs.Common.{slice_get, sym, ◌∙◌}
 use Rattle.lk_osq.specs.Phase.{Phase, link_before, link_behind}
 use Rattle.lk_osq.specs.Phase.Phase.{Outside, Bridges}
 use Rattle.lk_osq.specs.declared.nodes.Node.{Node}
-use Rattle.lk_osq.specs.Queue.{Pair, QueueAgrees, Moves}
+use Rattle.lk_osq.specs.Queue.{Pair, OsqQueueAgrees, Moves}
 use Rattle.lk_osq.proofs.Cases.{cpu_cases}
 use Rattle.lk_osq.proofs.Links.{pair_same}
 use Rattle.lk_osq.proofs.Leave.{Drops, dropped, leave-other, leave-inside, leave-place, leave-once}
@@ -12,7 +13,7 @@ use Rattle.lk_osq.proofs.Lists.{get_cases, get-some_down}
 -- Q9: it links the one before it to the one behind it, and leaves
 module _ {tail : Option ℕ} {phase phase' : ℕ → Phase} {node node' : ℕ
     → Node} {main main' : List ℕ} {w a b : ℕ} {x : Node}
-    (ok : QueueAgrees tail phase node main) (moves : Moves phase phase' w (Bridges a b) Outside)
+    (ok : OsqQueueAgrees tail phase node main) (moves : Moves phase phase' w (Bridges a b) Outside)
     (writes : Moves node node' a (node a) x)
     (flag : x.flag ≡ (node a).flag) (next : x.next ≡ Some b)
     (j : ℕ) (at_a : slice_get main j ≡ Some a) (at_w : slice_get main (suc j) ≡ Some w)
@@ -113,7 +114,7 @@ module _ {tail : Option ℕ} {phase phase' : ℕ → Phase} {node node' : ℕ
       three : (i j : ℕ) → (i < j) ⊎ (i ≡ j) ⊎ (j < i)
       three i j = grind arith
 
-  pub queue_unlinks : QueueAgrees tail phase' node' main'
+  pub queue_unlinks : OsqQueueAgrees tail phase' node' main'
   queue_unlinks =
       record {
         inside = leave-inside ok moves at_w drops;
@@ -149,7 +150,15 @@ module _ {tail : Option ℕ} {phase phase' : ℕ → Phase} {node node' : ℕ
         outside = λ u h.
             let d : u ≢ a =
             (λ e. grind (arith, ok.inside j a at_a, moves.others a unlink-apart, e)) in
-            grind (arith, ok.outside u, cpu_cases u w, moves.others u, moves.was, unlink-second_pair.next, writes.others u d);
+            grind (
+              arith,
+              ok.outside u,
+              cpu_cases u w,
+              moves.others u,
+              moves.was,
+              unlink-second_pair.next,
+              writes.others u d,
+            );
         fresh = λ u h. grind
             (arith, ok.fresh u, cpu_cases u w, moves.others u, moves.now, unlink-flag u);
       }

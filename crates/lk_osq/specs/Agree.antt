@@ -2,7 +2,7 @@
 use Rattle.std.specs.Prelude.{◌≡◌, ◌⊎◌, ℕ, Option, Some, None, true, [], ◌∷◌, ◌++◌, slice_get}
 use Rattle.lk_osq.specs.Phase.{Phase, holds}
 use Rattle.lk_osq.specs.Phase.Phase.{Waits}
-use Rattle.lk_osq.specs.Queue.{QueueAgrees}
+use Rattle.lk_osq.specs.Queue.{OsqQueueAgrees}
 use Rattle.lk_osq.specs.declared.nodes.Node.{Node}
 use Rattle.lk_osq.specs.History.{Told}
 
@@ -29,6 +29,7 @@ pub record OneIsHanded (phase : ℕ → Phase) (t : Told) : Type 0 where
 
 -- The queue is the holder and behind it those that wait; and it is empty, or its first holds the
 -- lock, or was handed it.
-pub record Agrees (tail : Option ℕ) (phase : ℕ → Phase) (node : ℕ → Node) (t : Told) : Type 0 where
-  pub queue : QueueAgrees tail phase node (t.holders ++ t.waiting)
+pub record OsqAgrees (tail : Option ℕ) (phase : ℕ → Phase) (node : ℕ → Node)
+    (t : Told) : Type 0 where
+  pub queue : OsqQueueAgrees tail phase node (t.holders ++ t.waiting)
   pub front : NobodyIsThere t ⊎ OneHolds phase t ⊎ OneIsHanded phase t

@@ -1,8 +1,10 @@
 -- What a history tells, and when an event is lawful after it.
-use Rattle.std.specs.Prelude.{◌≡◌, ◌≢◌, ◌≤◌, ◌==◌, ℕ, Option, Some, None, List, [], ◌∷◌, ◌++◌, if◌then◌else◌, slice_get, length}
+use Rattle.std.specs.Prelude.{◌≡◌, ◌≢◌, ◌≤◌, ◌==◌, ℕ, Option, Some, None, List, [], ◌∷◌, ◌++◌}
+use Rattle.std.specs.Prelude.{if◌then◌else◌, slice_get, length}
 use Rattle.lk_osq.specs.declared.events.OsqEvent.{OsqEvent}
 use Rattle.lk_osq.specs.declared.events.OsqWhat.{OsqWhat as What}
-use Rattle.lk_osq.specs.declared.events.OsqWhat.TheVariants.{TakeFree, Arrive, TakeHanded, Quit, Release}
+use Rattle.lk_osq.specs.declared.events.OsqWhat.TheVariants.{TakeFree, Arrive, TakeHanded, Quit}
+use Rattle.lk_osq.specs.declared.events.OsqWhat.TheVariants.{Release}
 
 -- the list without the first that is x
 abbrev pub without : ℕ → List ℕ → List ℕ
@@ -16,6 +18,7 @@ pub record Told : Type 0 where
   pub waiting : List ℕ
   pub handed : Option ℕ
 
+-- before any event
 abbrev pub nothing_told : Told
 nothing_told = record { holders = []; waiting = []; handed = None }
 

@@ -2,6 +2,7 @@
 -- places of all rows.
 use Rattle.std.specs.Prelude.{ℕ, Bool, true, false, Option, Some, None}
 
+-- what a processor does for the queue
 pub data Phase : Type 0 where
   -- it is outside: finished, or before its first row
   Outside : Phase

@@ -14,7 +14,7 @@ pub record Pair (u v : ℕ) (p q : Phase) (n : Node) : Type 0 where
   pub behind : (link_behind p ≡ None) ⊎ (link_behind p ≡ Some v)
 
 -- The processors in the queue are those in main, each once, and the tail names the last.
-pub record QueueAgrees (tail : Option ℕ) (phase : ℕ → Phase) (node : ℕ → Node)
+pub record OsqQueueAgrees (tail : Option ℕ) (phase : ℕ → Phase) (node : ℕ → Node)
     (main : List ℕ) : Type 0 where
   -- who stands in main is in the queue by its phase, and who is in the queue stands there, once
   pub inside : (i u : ℕ) → slice_get main i ≡ Some u → queues (phase u) ≡ true

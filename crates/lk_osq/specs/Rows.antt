@@ -1,11 +1,15 @@
 -- The rows as data, and what an act does. They are those of Linux's osq_lock.c.
-use Rattle.std.specs.Prelude.{◌≡◌, ◌⊎◌, ◌-◌, ◌==◌, ℕ, Option, Some, None, Bool, true, false, ◌&&◌, not, is_some, nat_lt, if◌then◌else◌}
+use Rattle.std.specs.Prelude.{◌≡◌, ◌⊎◌, ◌-◌, ◌==◌, ℕ, Option, Some, None, Bool, true, false, ◌&&◌}
+use Rattle.std.specs.Prelude.{not, is_some, nat_lt, if◌then◌else◌}
 use Rattle.lk_osq.specs.declared.nodes.Node.{Node}
 use Rattle.lk_osq.specs.declared.nodes.Cpu.{Cpu}
 use Rattle.lk_osq.specs.declared.places.Place.{Place}
-use Rattle.lk_osq.specs.declared.places.Place.TheVariants.{O1, O2, O3, O4, O5, Q1, Q2, Q3, Q4, Q5, Q6, Q7, Q8, Q9, X1, X2, X3, X4, X5, X6, X7}
+use Rattle.lk_osq.specs.declared.places.Place.TheVariants.{O1, O2, O3, O4, O5, Q1, Q2, Q3, Q4, Q5}
+use Rattle.lk_osq.specs.declared.places.Place.TheVariants.{Q6, Q7, Q8, Q9, X1, X2, X3, X4, X5, X6}
+use Rattle.lk_osq.specs.declared.places.Place.TheVariants.{X7}
 use Rattle.lk_osq.specs.declared.events.OsqWhat.{OsqWhat}
-use Rattle.lk_osq.specs.declared.events.OsqWhat.TheVariants.{TakeFree, Arrive, TakeHanded, Quit, Release}
+use Rattle.lk_osq.specs.declared.events.OsqWhat.TheVariants.{TakeFree, Arrive, TakeHanded, Quit}
+use Rattle.lk_osq.specs.declared.events.OsqWhat.TheVariants.{Release}
 use Rattle.lk_osq.specs.declared.events.OsqEvent.{OsqEvent}
 use Rattle.lk_osq.specs.declared.outcomes.Lead.{Lead}
 use Rattle.lk_osq.specs.declared.outcomes.Lead.TheVariants.{Goes, Knows, Meets, Ends}
@@ -161,10 +165,12 @@ moved c Ends =
       place = if nat_lt 1 c.rounds then Some O1 else None;
     }
 
+-- the machine after a row has stored the tail, if it does
 abbrev pub with_tail : Machine → Option (Option ℕ) → Machine
 with_tail m None = m
 with_tail m (Some x) = set_tail m x
 
+-- the machine after a row has stored into one node, if it does
 abbrev pub with_node : Machine → Option (ℕ × Store) → Machine
 with_node m None = m
 with_node m (Some s) = set_node m s.0 (stored (node_at m s.0) s.1)
@@ -179,10 +185,12 @@ applied m p o =
 abbrev pub Answer : Type 0
 Answer = Machine × Option OsqEvent
 
+-- the event of a processor's row, if it tells something
 abbrev pub event_of : ℕ → Option OsqWhat → Option OsqEvent
 event_of p None = None
 event_of p (Some what) = Some (record { cpu = p; what = what })
 
+-- the machine after a step of a processor: the row at its place, if it is not finished
 abbrev pub stepped : Machine → ℕ → Option Place → Answer
 stepped m p None = (m, None)
 stepped m p (Some d) = let o = row m p (cpu_at m p) d in (applied m p o, event_of p o.tells)
@@ -200,9 +208,11 @@ may_give _ = false
 abbrev pub gives : Cpu → Bool
 gives c = may_give c.place && not c.request
 
+-- the processor is asked to give up
 abbrev pub asked : Cpu → Cpu
 asked c = record c { request = true }
 
+-- the machine after a request to give up, which only one that waits or is about to can be given
 abbrev pub given : Machine → ℕ → Answer
 given m p = (if gives (cpu_at m p) then set_cpu m p (asked (cpu_at m p)) else m, None)
 

@@ -1,5 +1,6 @@
 -- Runs, and their histories.
-use Rattle.std.specs.Prelude.{suc, ◌<◌, ℕ, Option, Some, None, Bool, List, [], ◌∷◌, ◌++◌, map, if◌then◌else◌, nat_lt}
+use Rattle.std.specs.Prelude.{suc, ◌<◌, ℕ, Option, Some, None, Bool, List, [], ◌∷◌, ◌++◌, map}
+use Rattle.std.specs.Prelude.{if◌then◌else◌, nat_lt}
 use Rattle.lk_osq.specs.declared.nodes.Cpu.{Cpu}
 use Rattle.lk_osq.specs.declared.places.Place.TheVariants.{O1}
 use Rattle.lk_osq.specs.declared.events.OsqEvent.{OsqEvent}
@@ -11,10 +12,12 @@ pub record Act : Type 0 where
   pub give : Bool
   pub cpu : ℕ
 
+-- the machine after these acts
 abbrev pub machine_after : Machine → List Act → Machine
 machine_after m [] = m
 machine_after m (a ∷ acts) = machine_after (next m a.give a.cpu).0 acts
 
+-- an event, if there is one, as a list
 abbrev pub events_of : Option OsqEvent → List OsqEvent
 events_of None = []
 events_of (Some e) = e ∷ []
@@ -29,6 +32,7 @@ abbrev pub rest_cpu : ℕ → Cpu
 rest_cpu rounds =
     record no_cpu { rounds = rounds; place = if nat_lt 0 rounds then Some O1 else None }
 
+-- the machine at rest, whose processors have so many rounds to make
 abbrev pub at_rest : List ℕ → Machine
 at_rest rounds = record { tail = None; cpus = map rest_cpu rounds }
 
@@ -42,6 +46,7 @@ pub record Occurrence : Type 0 where
   pub act : ℕ
   pub event : OsqEvent
 
+-- an event, if there is one, in the act of this number
 abbrev pub occurs : ℕ → Option OsqEvent → List Occurrence
 occurs n None = []
 occurs n (Some e) = record { act = n; event = e } ∷ []

@@ -4,13 +4,13 @@ use Rattle.lk_osq.specs.History.{Told, nothing_told, told_by, IsLawfulAfter}
 use Rattle.lk_osq.specs.Handed.{AreHanded}
 use Rattle.lk_osq.specs.Machine.{Machine}
 use Rattle.lk_osq.specs.Rows.{next}
-use Rattle.lk_osq.specs.Shown.{Shows, told_on, IsAllowed}
+use Rattle.lk_osq.specs.Shown.{Shows, told_on, IsLawfulIfAny}
 use Rattle.lk_osq.specs.Run.{Act, machine_after, history, history_from, at_rest, AreInRange}
 
 -- Every act keeps what the machine shows, and its event is lawful.
 abbrev pub ActKeeps : Type 0
 ActKeeps = (m : Machine) (t : Told) (give : Bool) (p : ℕ) → p < length m.cpus → Shows m t
-    → Shows (next m give p).0 (told_on (next m give p).1 t) × IsAllowed (next m give p).1 t
+    → Shows (next m give p).0 (told_on (next m give p).1 t) × IsLawfulIfAny (next m give p).1 t
 
 -- The history of every list of acts from rest is lawful, each of its handovers is taken, and the
 -- machine afterwards shows what it tells.

@@ -4,7 +4,7 @@ ghost use Rattle.lk_osq.specs.History.{Told, nothing_told};
 ghost use Rattle.lk_osq.specs.Machine.{Machine as MachineValue, cpu_at, set_cpu};
 ghost use Rattle.lk_osq.specs.Rows.{row, next_of, applied, stepped, given, next, IsIdle};
 ghost use Rattle.lk_osq.specs.Run.{at_rest, rest_cpu};
-ghost use Rattle.lk_osq.specs.Shown.{Shows, told_on, IsAllowed};
+ghost use Rattle.lk_osq.specs.Shown.{Shows, told_on, IsLawfulIfAny};
 
 use crate::events::OsqEvent;
 use crate::nodes::Cpu;
@@ -188,7 +188,7 @@ impl OsqMachine {
         // Whatever a history tells that the machine showed, the machine shows it with the event,
         // which is lawful after it.
         ensures keeps { (t : Told) → Shows self.old t
-            → Shows self.new (told_on result t) × IsAllowed result t }
+            → Shows self.new (told_on result t) × IsLawfulIfAny result t }
     {
         if give {
             self.give(cpu);
