@@ -4,3 +4,4 @@ pub mod queue
 pub mod cna
 pub mod pv
 pub mod rw
+pub mod running

@@ -1,6 +1,7 @@
 -- The choice of the next: the second queue, what the front knows, and the rows of the choice.
 pub mod Knows
 pub mod Parts
+pub mod Steps
 pub mod Joined
 pub mod SecondJoin
 pub mod Pass

@@ -10,7 +10,7 @@ use Rattle.lk_word.specs.declared.spin_word.Fields.{Fields}
 use Rattle.lk_law.specs.Phase.{Phase}
 use Rattle.lk_law.specs.Phase.Phase.{Idle, Holds}
 use Rattle.lk_law.specs.Stage.Stage.{Rests}
-use Rattle.lk_law.specs.Pv.{PostsAgree, agrees, sleeps}
+use Rattle.lk_law.specs.Pv.{PostsAgree, agrees, at_halt}
 use Rattle.lk_law.specs.Pv.Post.{Off, Kicks}
 use Rattle.lk_abs.specs.declared.names.Mode.{Mode}
 use Rattle.lk_abs.specs.declared.names.Mode.TheVariants.{Pv}
@@ -30,8 +30,8 @@ halts Pv = true
 halts _ = false
 
 -- the state of a waiter's node
-abbrev pub state_of : Snapshot → Waiter → State
-state_of s u = (s.node (s.own u)).state
+abbrev pub node_state : Snapshot → Waiter → State
+node_state s u = (s.node (s.own u)).state
 
 -- a kick of the processor is remembered, or on its way
 abbrev pub Owed : Snapshot → ℕ → Type 0
@@ -41,7 +41,8 @@ Owed s p = (s.kicked p ≡ true)
 -- One lock's posts agree with its byte, its entry in the hash, the states of the nodes and the
 -- phases; and a front that sleeps while nobody holds the lock is owed a kick.
 pub record ParaAgrees (s : Snapshot) (h : LockHistory) (l : LockName) : Type 0 where
-  pub posts : PostsAgree (s.word l).locked (s.entry l) (slice_get h.main 0) (s.post l) (state_of s)
+  pub posts : PostsAgree (s.word l).locked (s.entry l) (slice_get h.main 0) (s.post l)
+      (node_state s)
       s.own (λ u. Owed s u.cpu)
   pub suits : (u : Waiter) → agrees (s.post l u) (s.phase l u) ≡ true
 
@@ -64,8 +65,8 @@ pub record SnapshotAgrees (s : Snapshot) (hs : LockName → LockHistory) : Type 
   -- only one waiter of a processor is about to halt or halted
   pub sleeper : halts s.mode ≡ true
       → (k l : LockName) (u z : Waiter)
-      → sleeps (s.post k u) ≡ true
-      → sleeps (s.post l z) ≡ true
+      → at_halt (s.post k u) ≡ true
+      → at_halt (s.post l z) ≡ true
       → u.cpu ≡ z.cpu
       → u ≡ z
 
@@ -99,14 +100,14 @@ pub record Step (s s' : Snapshot) (w : Waiter) (l : LockName) (r r' : Phase) (x 
   pub owed : halts s.mode ≡ true
       → (k : LockName) (u : Waiter)
       → k ≢ l
-      → sleeps (s.post k u) ≡ true
+      → at_halt (s.post k u) ≡ true
       → Owed s u.cpu
       → Owed s' u.cpu
   pub lone : halts s.mode ≡ true
-      → sleeps (s'.post l w) ≡ true
+      → at_halt (s'.post l w) ≡ true
       → (k : LockName) (u : Waiter)
       → u.cpu ≡ w.cpu
-      → sleeps (s.post k u) ≡ true
+      → at_halt (s.post k u) ≡ true
       → u ≡ w
 
 -- no waiter enters or leaves the slow path

@@ -8,16 +8,16 @@ use Rattle.lk_abs.specs.declared.events.Event.{Event}
 
 -- who takes does not hold and who releases holds, the event is in order, and after it only readers
 -- hold the lock, or one waiter
-pub record IsAllowedOn (rules : Rules) (h : LockHistory) (e : Event) : Type 0 where
+pub record MayFollowOn (rules : Rules) (h : LockHistory) (e : Event) : Type 0 where
   pub owned : OwnsUp h e.by e.what
   pub ordered : InOrder rules h e.by e.what
   pub shared : IsShared (changed h e.by e.what).holders
 
 -- the event is allowed on its lock
-abbrev pub IsAllowed : Rules → (LockName → LockHistory) → Event → Type 0
-IsAllowed rules hs e = (l : LockName) → lock_of e.what ≡ Some l → IsAllowedOn rules (hs l) e
+abbrev pub MayFollow : Rules → (LockName → LockHistory) → Event → Type 0
+MayFollow rules hs e = (l : LockName) → lock_of e.what ≡ Some l → MayFollowOn rules (hs l) e
 
 -- the event is allowed, if there is one
-abbrev pub IsAllowedIfAny : Rules → (LockName → LockHistory) → Option Event → Type 0
-IsAllowedIfAny rules hs None = Unit {0}
-IsAllowedIfAny rules hs (Some e) = IsAllowed rules hs e
+abbrev pub MayFollowIfAny : Rules → (LockName → LockHistory) → Option Event → Type 0
+MayFollowIfAny rules hs None = Unit {0}
+MayFollowIfAny rules hs (Some e) = MayFollow rules hs e

@@ -13,7 +13,8 @@ use Rattle.lk_machine.specs.declared.parts.Flag.TheVariants.{Unset, Go, Second}
 use Rattle.lk_machine.specs.declared.parts.Node.{Node}
 use Rattle.lk_law.specs.Phase.{Phase}
 use Rattle.lk_law.specs.Phase.Phase.{Waits, Aside, Holds}
-use Rattle.lk_law.specs.Stage.{Stage, cut_of, tip_of, skipped, parted, chosen, counted, tied, picks}
+use Rattle.lk_law.specs.Stage.{Stage, cut_of, tip_of, passed_over, parted, chosen, told_runs, tied}
+use Rattle.lk_law.specs.Stage.{picks}
 use Rattle.lk_law.specs.Stage.{hangs, tail_seen, before_of}
 use Rattle.lk_law.specs.Stage.Stage.{Rests}
 use Rattle.lk_law.specs.Snapshot.{QueueAgrees, same_node}
@@ -75,7 +76,7 @@ pub record FrontAgrees (phase : Waiter → Phase) (own : Waiter → NodeName) (n
   pub names : tied stage ≡ false ⊎ (second ≢ []) → named ≡ first_node own second
   pub names_moved : (a b : NodeName) (k : ℕ)
       → tied stage ≡ true
-      → skipped stage ≡ Some (a, b, k)
+      → passed_over stage ≡ Some (a, b, k)
       → second ≡ []
       → named ≡ Some a
   -- the last of second is known in the node of its first
@@ -99,28 +100,28 @@ pub record FrontAgrees (phase : Waiter → Phase) (own : Waiter → NodeName) (n
   pub run : ((node (own w)).runs) ≤ threshold
   pub run_none : second ≡ [] → picks stage ≡ false → (node (own w)).runs ≡ 0
   pub run_short : (a b : NodeName) (k : ℕ)
-      → skipped stage ≡ Some (a, b, k)
+      → passed_over stage ≡ Some (a, b, k)
       → (node (own w)).runs < threshold
   pub run_picks : (n : NodeName)
       → picks stage ≡ true
       → named ≡ Some n
       → (node (own w)).runs < threshold
   pub run_next : (y : NodeName)
-      → counted stage ≡ Some y
+      → told_runs stage ≡ Some y
       → (node y).runs ≡ (if same_none named then 0 else ((node (own w)).runs + 1))
   -- those passed over are the first behind w, and none is local
-  pub some : (a b : NodeName) (k : ℕ) → skipped stage ≡ Some (a, b, k) → (i : ℕ) × (k ≡ suc i)
+  pub some : (a b : NodeName) (k : ℕ) → passed_over stage ≡ Some (a, b, k) → (i : ℕ) × (k ≡ suc i)
   pub far : (a b : NodeName) (k i : ℕ)
-      → skipped stage ≡ Some (a, b, k)
+      → passed_over stage ≡ Some (a, b, k)
       → i < k
       → (u : Waiter) × (slice_get main (suc i) ≡ Some u) × (phase u ≡ Waits)
       × (local w (own u) ≡ false)
   pub near : (a b : NodeName) (k : ℕ) (u : Waiter)
-      → skipped stage ≡ Some (a, b, k)
+      → passed_over stage ≡ Some (a, b, k)
       → slice_get main 1 ≡ Some u
       → own u ≡ a
   pub close : (a b : NodeName) (k : ℕ) (u : Waiter)
-      → skipped stage ≡ Some (a, b, k)
+      → passed_over stage ≡ Some (a, b, k)
       → slice_get main k ≡ Some u
       → own u ≡ b
   pub cut : (b : NodeName) → parted stage ≡ Some b → (node b).next ≡ None
@@ -129,7 +130,7 @@ pub record FrontAgrees (phase : Waiter → Phase) (own : Waiter → NodeName) (n
       → chosen stage ≡ Some (k, y)
       → (v : Waiter) × (slice_get main (suc k) ≡ Some v) × (phase v ≡ Waits) × (own v ≡ y)
   pub kin : (a b : NodeName) (k j : ℕ) (y : NodeName)
-      → skipped stage ≡ Some (a, b, k)
+      → passed_over stage ≡ Some (a, b, k)
       → chosen stage ≡ Some (j, y)
       → local w y ≡ true
   pub before : (a : NodeName)

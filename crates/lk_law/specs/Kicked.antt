@@ -4,7 +4,7 @@ use Rattle.std.specs.Prelude.{◌≡◌, ◌<◌, ◌+◌, ℕ, Option, Some, No
 use Rattle.std.specs.Prelude.{◌∷◌}
 use Rattle.lk_abs.specs.History.{LockHistory, history_of}
 use Rattle.lk_abs.specs.Kicks.{is_kicked, owing, kicks_made}
-use Rattle.lk_abs.specs.Kicks.{sleeps as sleeps_in}
+use Rattle.lk_abs.specs.Kicks.{sleeps}
 use Rattle.lk_abs.specs.Lawful.{FrontIsOwed}
 use Rattle.lk_abs.specs.declared.names.Waiter.{Waiter}
 use Rattle.lk_abs.specs.declared.names.LockName.{LockName}
@@ -15,23 +15,23 @@ use Rattle.lk_machine.specs.declared.parts.Frame.{Frame}
 use Rattle.lk_machine.specs.declared.parts.Pc.{Pc}
 use Rattle.lk_machine.specs.declared.parts.Pc.TheVariants.{U5}
 use Rattle.lk_machine.specs.Moves.{node_of, started}
-use Rattle.lk_law.specs.Pv.{sleeps}
+use Rattle.lk_law.specs.Pv.{at_halt}
 use Rattle.lk_law.specs.Agree.{halts}
 use Rattle.lk_law.specs.World.{World}
 use Rattle.lk_law.specs.SpinWorld.{IsSoundSpinWorld}
 use Rattle.lk_law.specs.Places.{post_of}
 use Rattle.lk_law.specs.Steps.{row_in, told_event, put_frame}
 use Rattle.lk_law.specs.Steps.{put_kicked}
-use Rattle.lk_law.specs.Premises.{IsNewest, HasNoPlace, roused, above, interrupted, IsThen}
+use Rattle.lk_law.specs.Premises.{IsNewest, HasNoPlace, roused, above, world_interrupted, IsThen}
 
 -- the events with one more, if something happened
-abbrev pub and_then : List Event → Option Event → List Event
-and_then es None = es
-and_then es (Some e) = es ++ e ∷ []
+abbrev pub with_event : List Event → Option Event → List Event
+with_event es None = es
+with_event es (Some e) = es ++ e ∷ []
 
 -- the waiter has halted its processor
 abbrev pub Rests : World → Waiter → Type 0
-Rests m u = (f : Frame) × (m.frame u ≡ Some f) × (sleeps (post_of f) ≡ true)
+Rests m u = (f : Frame) × (m.frame u ≡ Some f) × (at_halt (post_of f) ≡ true)
     × (m.halted u.cpu ≡ true)
 
 -- the waiter has released a lock, and owes the processor a kick
@@ -48,8 +48,8 @@ pub record AreOwing (m : World) (p n : ℕ) (the : ℕ → Waiter) : Type 0 wher
 -- exactly where one was made that has ended no halt; and the releases that owe a processor a kick
 -- are the kicks that were made and the waiters that owe it one still.
 pub record ShowsKicks (m : World) (es : List Event) : Type 0 where
-  pub asleep : (u : Waiter) → sleeps_in u es ≡ true → Rests m u
-  pub rests : (u : Waiter) → Rests m u → sleeps_in u es ≡ true
+  pub asleep : (u : Waiter) → sleeps u es ≡ true → Rests m u
+  pub rests : (u : Waiter) → Rests m u → sleeps u es ≡ true
   pub kicked : (p : ℕ) → m.kicked p ≡ is_kicked p es
   pub owing : (p : ℕ)
       → (n : ℕ) × (the : ℕ → Waiter) × AreOwing m p n the × (owing p es ≡ kicks_made p es + n)
@@ -59,7 +59,7 @@ abbrev pub RowShows : Pc → Type 0
 RowShows c = (m : World) (hs : LockName → LockHistory) (w to : Waiter) (f : Frame) (es : List Event)
     → IsSoundSpinWorld m hs → IsNewest m w → m.frame w ≡ Some f → f.place ≡ Some c
     → (f.lock.wait ≡ true → IsThen f.then) → ShowsKicks m es
-    → ShowsKicks (row_in m w f c).0 (and_then es (told_event w f.lock to (row_in m w f c).1))
+    → ShowsKicks (row_in m w f c).0 (with_event es (told_event w f.lock to (row_in m w f c).1))
 
 -- So does a frame that begins an operation, or comes, goes or changes without a place.
 abbrev pub BeginShows : Type 0
@@ -110,4 +110,4 @@ InterruptShows =
     (m : World) (hs : LockName → LockHistory) (w : Waiter) (f g : Frame) (es : List Event)
     → IsSoundSpinWorld m hs → IsNewest m w → m.frame w ≡ Some f → HasNoPlace (Some g)
     → ShowsKicks m es
-    → ShowsKicks (interrupted m w f g) (es ++ record { by = above w; what = Int } ∷ [])
+    → ShowsKicks (world_interrupted m w f g) (es ++ record { by = above w; what = Int } ∷ [])

@@ -23,3 +23,7 @@ pub mod Sound
 pub mod Kicked
 pub mod MachineLaws
 pub mod WorldLaws
+pub mod Leads
+pub mod Nodes
+pub mod Holds
+pub mod Resting

@@ -9,7 +9,7 @@ use Rattle.lk_machine.specs.Programs.{IsLawfulSetup}
 use Rattle.lk_machine.specs.Acts.{next, processor_of}
 use Rattle.lk_machine.specs.Run.{at_rest, history, machine_after, events_of}
 use Rattle.lk_law.specs.Sound.{Shows, rules_of, world}
-use Rattle.lk_law.specs.Kicked.{ShowsKicks, and_then}
+use Rattle.lk_law.specs.Kicked.{ShowsKicks, with_event}
 
 -- the machine shows the history, in its locks and in its halts and kicks, and the history is lawful
 pub record ShowsLawful (m : Machine) (es : List Event) : Type 0 where
@@ -20,7 +20,7 @@ pub record ShowsLawful (m : Machine) (es : List Event) : Type 0 where
 -- Every act keeps it, whatever the machine, the history and the act.
 abbrev pub ActKeeps : Type 0
 ActKeeps = (m : Machine) (es : List Event) (a : Act) → processor_of a < length m.cpus
-    → ShowsLawful m es → ShowsLawful (next m a).0 (and_then es (next m a).1)
+    → ShowsLawful m es → ShowsLawful (next m a).0 (with_event es (next m a).1)
 
 -- each act names a processor of the machine
 abbrev pub AreInRange : ℕ → List Act → Type 0

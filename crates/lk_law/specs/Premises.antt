@@ -10,7 +10,7 @@ use Rattle.lk_machine.specs.declared.parts.Pc.TheVariants.{R4, Wr2}
 use Rattle.lk_machine.specs.Moves.{is_node}
 use Rattle.lk_machine.specs.Row.{Tell, Passes}
 use Rattle.lk_machine.specs.Acts.{after_halt}
-use Rattle.lk_law.specs.Pv.{sleeps}
+use Rattle.lk_law.specs.Pv.{at_halt}
 use Rattle.lk_law.specs.Agree.{halts}
 use Rattle.lk_law.specs.World.{World}
 use Rattle.lk_law.specs.Steps.{put_frame, put_halted}
@@ -49,7 +49,7 @@ HasNoPlace (Some f) = (f.place ≡ None) × (f.me ≡ None)
 -- all
 abbrev pub HasNoSleeper : World → ℕ → Type 0
 HasNoSleeper m p = halts m.mode ≡ true → (u : Waiter) (f : Frame) → u.cpu ≡ p → m.frame u ≡ Some f
-    → sleeps (post_of f) ≡ false
+    → at_halt (post_of f) ≡ false
 
 -- the halt of the waiter's processor ends, and its frame goes on behind it
 abbrev pub roused : World → Waiter → Frame → World
@@ -63,5 +63,6 @@ above w = record { cpu = w.cpu; ctx = w.ctx + 1 }
 
 -- the world after an interrupt: the halt of the processor ends, if it has halted, and the frame g
 -- comes on top
-abbrev pub interrupted : World → Waiter → Frame → Frame → World
-interrupted m w f g = put_frame (if m.halted w.cpu then roused m w f else m) (above w) (Some g)
+abbrev pub world_interrupted : World → Waiter → Frame → Frame → World
+world_interrupted m w f g =
+    put_frame (if m.halted w.cpu then roused m w f else m) (above w) (Some g)

@@ -56,10 +56,10 @@ bare (Drops t) = true
 bare _ = false
 
 -- it is entered and the lock is not slow
-abbrev pub full : Post → Bool
-full Slows = true
-full Erases = true
-full _ = false
+abbrev pub post_full : Post → Bool
+post_full Slows = true
+post_full Erases = true
+post_full _ = false
 
 -- brings the lock from or to slow
 abbrev pub touches : Post → Bool
@@ -98,10 +98,10 @@ dozes Sleeps = true
 dozes _ = false
 
 -- it is about to halt, or halted
-abbrev pub sleeps : Post → Bool
-sleeps Sleeps = true
-sleeps Naps = true
-sleeps _ = false
+abbrev pub at_halt : Post → Bool
+at_halt Sleeps = true
+at_halt Naps = true
+at_halt _ = false
 
 -- the node that the post says leads the queue
 abbrev pub names : Post → Option NodeName
@@ -112,16 +112,16 @@ names (Drops t) = Some t
 names _ = None
 
 -- it has the lock
-abbrev pub holds : Post → Bool
-holds Wins = true
-holds Erases = true
-holds Has = true
-holds (Calls y) = true
-holds (Slowing y) = true
-holds (Signing y) = true
-holds Finds = true
-holds (Drops t) = true
-holds _ = false
+abbrev pub post_holds : Post → Bool
+post_holds Wins = true
+post_holds Erases = true
+post_holds Has = true
+post_holds (Calls y) = true
+post_holds (Slowing y) = true
+post_holds (Signing y) = true
+post_holds Finds = true
+post_holds (Drops t) = true
+post_holds _ = false
 
 -- it leads the queue
 abbrev pub fronts : Post → Bool
@@ -243,12 +243,12 @@ pub record PostsAgree (locked : Locked) (entry : Option NodeName) (front : Optio
   pub bare_entry : (u : Waiter) → bare (post u) ≡ true → entry ≡ None
   pub bare_slow : (u : Waiter) → bare (post u) ≡ true → locked ≡ Slow
   pub bare_some : entry ≡ None → locked ≡ Slow → (u : Waiter) × (bare (post u) ≡ true)
-  pub full_entry : (u : Waiter) → full (post u) ≡ true → entry ≡ Some (own u)
-  pub full_slow : (u : Waiter) → full (post u) ≡ true → locked ≢ Slow
+  pub full_entry : (u : Waiter) → post_full (post u) ≡ true → entry ≡ Some (own u)
+  pub full_slow : (u : Waiter) → post_full (post u) ≡ true → locked ≢ Slow
   pub full_some : (n : NodeName)
       → entry ≡ Some n
       → locked ≢ Slow
-      → (u : Waiter) × (full (post u) ≡ true)
+      → (u : Waiter) × (post_full (post u) ≡ true)
   pub entered : (n : NodeName) → entry ≡ Some n → (w : Waiter) × (front ≡ Some w) × (own w ≡ n)
   pub named : (u : Waiter) (n : NodeName)
       → names (post u) ≡ Some n

@@ -89,15 +89,16 @@ pub record PendingAgrees (locked : Locked) (pending : Bool) (phase : Waiter → 
   pub free : (u : Waiter) → claims (phase u) ≡ true → locked ≡ Free
   pub apart : (u v : Waiter) → watches (phase u) ≡ true → stakes (phase v) ≡ true → ⊥
 
--- The waiters in the queue are main, each once, and the tail names the last; the first leads, and
--- those behind it follow with their flags unset; each node names the one behind it, but where that
--- waiter will still link it, and then it names none; who hands on hands to the second; and a node
--- that nobody can reach is at rest.
-pub record QueueAgrees (tail : Option NodeName) (phase : Waiter → Phase) (own : Waiter → NodeName)
-    (node : NodeName → Node) (main : List Waiter) : Type 0 where
+-- The waiters in a queueing phase are main, each once.
+pub record MembersAgree (phase : Waiter → Phase) (main : List Waiter) : Type 0 where
   pub inside : (i : ℕ) (u : Waiter) → slice_get main i ≡ Some u → queues (phase u) ≡ true
   pub place : (u : Waiter) → queues (phase u) ≡ true → (i : ℕ) × (slice_get main i ≡ Some u)
   pub once : (i j : ℕ) (u : Waiter) → slice_get main i ≡ Some u → slice_get main j ≡ Some u → i ≡ j
+
+-- The tail names the last of main, and nobody where there is none; the first leads, and those
+-- behind it follow with their flags unset.
+pub record EndsAgree (tail : Option NodeName) (phase : Waiter → Phase) (own : Waiter → NodeName)
+    (node : NodeName → Node) (main : List Waiter) : Type 0 where
   pub no_tail : slice_get main 0 ≡ None → tail ≡ None
   pub tail_is : (i : ℕ) (u : Waiter)
       → slice_get main i ≡ Some u
@@ -109,6 +110,12 @@ pub record QueueAgrees (tail : Option NodeName) (phase : Waiter → Phase) (own 
   pub behind : (i : ℕ) (u : Waiter)
       → slice_get main (suc i) ≡ Some u
       → (follows (phase u) ≡ true) × ((node (own u)).flag ≡ Unset)
+
+-- Each node names the one behind it, but where that waiter will still link it, and then it names
+-- none; the last names none; who hands on hands to the second; and a node that nobody can reach is
+-- at rest.
+pub record LinksAgree (phase : Waiter → Phase) (own : Waiter → NodeName) (node : NodeName → Node)
+    (main : List Waiter) : Type 0 where
   pub linked : (i : ℕ) (u v : Waiter)
       → slice_get main i ≡ Some u
       → slice_get main (suc i) ≡ Some v
@@ -127,6 +134,13 @@ pub record QueueAgrees (tail : Option NodeName) (phase : Waiter → Phase) (own 
       → phase u ≡ Hands n
       → (v : Waiter) × (slice_get main 1 ≡ Some v) × (phase v ≡ Waits) × (own v ≡ n)
   pub fresh : (u : Waiter) → phase u ≡ Prepared → node (own u) ≡ rest_node
+
+-- the waiters in a queueing phase, the word's tail and the nodes are one queue: main
+pub record QueueAgrees (tail : Option NodeName) (phase : Waiter → Phase) (own : Waiter → NodeName)
+    (node : NodeName → Node) (main : List Waiter) : Type 0 where
+  pub members : MembersAgree phase main
+  pub ends : EndsAgree tail phase own node main
+  pub links : LinksAgree phase own node main
 
 -- how many waiters of a processor below a context are in the slow path
 abbrev pub before : (Waiter → Bool) → ℕ → ℕ → ℕ

@@ -160,26 +160,26 @@ after_wait _ = None
 -- The stage at which a frame is in its operation: on a spinlock; on a reader-writer lock; taking or
 -- freeing its wait lock, which is as the `lock` or the `unlock` of a spinlock; or with a spinlock
 -- or wait lock that it has freed, so that it owes a kick.
-pub data Stage (mode : Mode) (v : Verb) (f : Frame) (c : Pc) : Type 0 where
-  Spinning : f.lock.wait ≡ false → is_rw_row c ≡ false → BelongsTo mode v c → Stage mode v f c
-  Sharing : is_rw_row c ≡ true → RwBelongs v f.lock.wait c → Stage mode v f c
+pub data Footing (mode : Mode) (v : Verb) (f : Frame) (c : Pc) : Type 0 where
+  Spinning : f.lock.wait ≡ false → is_rw_row c ≡ false → BelongsTo mode v c → Footing mode v f c
+  Sharing : is_rw_row c ≡ true → RwBelongs v f.lock.wait c → Footing mode v f c
   Waiting : f.lock.wait ≡ true
       → is_rw_row c ≡ false
       → is_release_row c ≡ false
       → takes_wait v ≡ true
       → BelongsTo mode Lock c
-      → Stage mode v f c
+      → Footing mode v f c
   Freeing : f.lock.wait ≡ true
       → is_rw_row c ≡ false
       → is_release_row c ≡ true
       → takes_wait v ≡ true
       → BelongsTo mode Unlock c
-      → Stage mode v f c
+      → Footing mode v f c
   Owing : mode ≡ Pv
       → c ≡ U5
       → (f.lock.wait ≡ false → v ≡ Unlock)
       → (f.lock.wait ≡ true → takes_wait v ≡ true)
-      → Stage mode v f c
+      → Footing mode v f c
 
 -- A frame at a row works: the row belongs to the operation at its position, on whose lock or wait
 -- lock it acts; and with a wait lock it knows where to go on.
@@ -187,7 +187,7 @@ pub record Works (mode : Mode) (ops : List Op) (f : Frame) (c : Pc) : Type 0 whe
   pub op : Op
   pub is : slice_get ops f.«at» ≡ Some op
   pub lock : f.lock.index ≡ op.lock
-  pub stage : Stage mode op.verb f c
+  pub stage : Footing mode op.verb f c
   pub after : f.lock.wait ≡ true → f.then ≡ after_wait op.verb
 
 -- the program of a frame: the task's in context 0, and above it that of a handler

@@ -16,9 +16,9 @@ use Rattle.lk_law.specs.World.{World}
 use Rattle.lk_law.specs.SpinWorld.{IsSoundSpinWorld}
 use Rattle.lk_law.specs.Steps.{row_in, told_event, told_on, put_frame}
 use Rattle.lk_law.specs.Steps.{put_kicked}
-use Rattle.lk_law.specs.Allowed.{IsAllowed, IsAllowedIfAny}
+use Rattle.lk_law.specs.Allowed.{MayFollow, MayFollowIfAny}
 use Rattle.lk_law.specs.Premises.{IsNewest, GoesTo, FollowsRules, IsThen, HasNoPlace, HasNoSleeper}
-use Rattle.lk_law.specs.Premises.{roused, above, interrupted}
+use Rattle.lk_law.specs.Premises.{roused, above, world_interrupted}
 
 -- The law of a row of a frame that acts on a spinlock or a wait lock: on every sound world it
 -- leaves a sound world whose histories are told on by its event, and the event is allowed.
@@ -29,7 +29,7 @@ SpinRowKeeps c =
     → f.place ≡ Some c → (f.lock.wait ≡ true → IsThen f.then)
     → GoesTo m to (row_in m w f c).1
     → IsSoundSpinWorld (row_in m w f c).0 (told_on hs (told_event w f.lock to (row_in m w f c).1))
-    × IsAllowedIfAny rules hs (told_event w f.lock to (row_in m w f c).1)
+    × MayFollowIfAny rules hs (told_event w f.lock to (row_in m w f c).1)
 
 -- A frame that has ended an operation begins the next one: on every sound world in which its waiter
 -- holds the lock as the verb wants.
@@ -57,7 +57,7 @@ SpinEndsHalt after event =
     → IsSoundSpinWorld m hs → IsNewest m w → m.frame w ≡ Some f → m.halted w.cpu ≡ true
     → (stands_halting f.place ≡ true)
     × IsSoundSpinWorld (after m w f) (told_on hs (Some (event w f)))
-    × IsAllowed rules hs (event w f)
+    × MayFollow rules hs (event w f)
 
 -- by a kick, which is remembered no more
 abbrev pub SpinWakeKeeps : Type 0
@@ -94,6 +94,6 @@ SpinInterruptKeeps =
     (m : World) (hs : LockName → LockHistory) (rules : Rules) (w : Waiter) (f g : Frame)
     → IsSoundSpinWorld m hs → IsNewest m w → m.frame w ≡ Some f → HasNoPlace (Some g)
     → (stands_halting f.place ≡ true → m.halted w.cpu ≡ true)
-    → IsSoundSpinWorld (interrupted m w f g)
+    → IsSoundSpinWorld (world_interrupted m w f g)
     (told_on hs (Some (record { by = above w; what = Int })))
-    × IsAllowed rules hs (record { by = above w; what = Int })
+    × MayFollow rules hs (record { by = above w; what = Int })

@@ -7,7 +7,7 @@ use Rattle.lk_word.specs.declared.spin_word.NodeName.{NodeName}
 use Rattle.lk_word.specs.declared.spin_word.Locked.TheVariants.{Slow}
 use Rattle.lk_machine.specs.declared.parts.Flag.TheVariants.{Second}
 use Rattle.lk_machine.specs.declared.parts.Frame.{Frame}
-use Rattle.lk_law.specs.Pv.{sleeps}
+use Rattle.lk_law.specs.Pv.{at_halt}
 use Rattle.lk_law.specs.Cna.{moves_aside}
 use Rattle.lk_law.specs.Agree.{SnapshotAgrees, halts}
 use Rattle.lk_law.specs.World.{World}
@@ -27,7 +27,7 @@ HasNoneAbove m u = (c : ℕ) → u.ctx < c → m.frame (record { cpu = u.cpu; ct
 -- a frame of the processor is about to halt it, or has halted it
 abbrev pub HasSleeper : World → ℕ → Type 0
 HasSleeper m p = (u : Waiter) × (f : Frame) × (u.cpu ≡ p) × (m.frame u ≡ Some f)
-    × (sleeps (post_of f) ≡ true)
+    × (at_halt (post_of f) ≡ true)
 
 -- the world is sound, and its history is this
 pub record IsSoundSpinWorld (m : World) (hs : LockName → LockHistory) : Type 0 where
@@ -39,7 +39,7 @@ pub record IsSoundSpinWorld (m : World) (hs : LockName → LockHistory) : Type 0
   -- who is about to halt its processor, or has halted it, is the newest frame there
   pub asleep : (u : Waiter) (f : Frame)
       → m.frame u ≡ Some f
-      → sleeps (post_of f) ≡ true
+      → at_halt (post_of f) ≡ true
       → HasNoneAbove m u
   -- and a processor is halted only with such a frame
   pub resting : (p : ℕ) → m.halted p ≡ true → HasSleeper m p

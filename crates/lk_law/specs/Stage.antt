@@ -52,15 +52,15 @@ tip_of (Counts a b k y) = Some a
 tip_of _ = None
 
 -- the waiters that were passed over
-abbrev pub skipped : Stage → Option (NodeName × NodeName × ℕ)
-skipped (Skips a b k) = Some (a, b, k)
-skipped (Meets a b k y) = Some (a, b, k)
-skipped (Tips a b k y t) = Some (a, b, k)
-skipped (Ties a b k y) = Some (a, b, k)
-skipped (Cuts a b k y) = Some (a, b, k)
-skipped (Hangs a b k y) = Some (a, b, k)
-skipped (Counts a b k y) = Some (a, b, k)
-skipped _ = None
+abbrev pub passed_over : Stage → Option (NodeName × NodeName × ℕ)
+passed_over (Skips a b k) = Some (a, b, k)
+passed_over (Meets a b k y) = Some (a, b, k)
+passed_over (Tips a b k y t) = Some (a, b, k)
+passed_over (Ties a b k y) = Some (a, b, k)
+passed_over (Cuts a b k y) = Some (a, b, k)
+passed_over (Hangs a b k y) = Some (a, b, k)
+passed_over (Counts a b k y) = Some (a, b, k)
+passed_over _ = None
 
 -- the last of those passed over, from when nothing stands behind it
 abbrev pub parted : Stage → Option NodeName
@@ -115,7 +115,7 @@ before_of (Flushing a t) = Some a
 before_of _ = None
 
 -- the next, once it was told how many handovers were made
-abbrev pub counted : Stage → Option NodeName
-counted (Counts a b k y) = Some y
-counted (Picked y) = Some y
-counted _ = None
+abbrev pub told_runs : Stage → Option NodeName
+told_runs (Counts a b k y) = Some y
+told_runs (Picked y) = Some y
+told_runs _ = None

@@ -16,9 +16,10 @@ use Rattle.lk_machine.specs.Moves.{rw_name, started}
 use Rattle.lk_law.specs.Agree.{halts}
 use Rattle.lk_law.specs.World.{World}
 use Rattle.lk_law.specs.Steps.{put_kicked, told_on, put_frame, row_in, told_event}
-use Rattle.lk_law.specs.Premises.{IsNewest, HasNoPlace, roused, above, interrupted, FollowsRules}
+use Rattle.lk_law.specs.Premises.{IsNewest, HasNoPlace, roused, above, world_interrupted}
+use Rattle.lk_law.specs.Premises.{FollowsRules}
 use Rattle.lk_law.specs.Premises.{GoesTo, HasNoSleeper}
-use Rattle.lk_law.specs.Allowed.{IsAllowed, IsAllowedIfAny}
+use Rattle.lk_law.specs.Allowed.{MayFollow, MayFollowIfAny}
 use Rattle.lk_law.specs.Kicked.{ShowsKicks}
 use Rattle.lk_law.specs.SoundWorld.{RwFits, IsSoundWorld}
 
@@ -30,7 +31,7 @@ RowKeeps c = (m : World) (hs : LockName → LockHistory) (rules : Rules) (w to :
     → f.place ≡ Some c
     → GoesTo m to (row_in m w f c).1
     → IsSoundWorld (row_in m w f c).0 (told_on hs (told_event w f.lock to (row_in m w f c).1))
-    × IsAllowedIfAny rules hs (told_event w f.lock to (row_in m w f c).1)
+    × MayFollowIfAny rules hs (told_event w f.lock to (row_in m w f c).1)
 
 -- A frame that has ended an operation begins the next one, on a lock of the verb's kind: on every
 -- sound world in which its waiter holds the lock as the verb wants.
@@ -56,7 +57,7 @@ EndsHalt after event =
     (m : World) (hs : LockName → LockHistory) (rules : Rules) (w : Waiter) (f : Frame)
     → IsSoundWorld m hs → IsNewest m w → m.frame w ≡ Some f → m.halted w.cpu ≡ true
     → (stands_halting f.place ≡ true) × IsSoundWorld (after m w f) (told_on hs (Some (event w f)))
-    × IsAllowed rules hs (event w f)
+    × MayFollow rules hs (event w f)
 
 -- by a kick, which is remembered no more
 abbrev pub WakeKeeps : Type 0
@@ -78,8 +79,9 @@ InterruptKeeps =
     (m : World) (hs : LockName → LockHistory) (rules : Rules) (w : Waiter) (f g : Frame)
     → IsSoundWorld m hs → IsNewest m w → m.frame w ≡ Some f → HasNoPlace (Some g)
     → RwFits m.kind g → (stands_halting f.place ≡ true → m.halted w.cpu ≡ true)
-    → IsSoundWorld (interrupted m w f g) (told_on hs (Some (record { by = above w; what = Int })))
-    × IsAllowed rules hs (record { by = above w; what = Int })
+    → IsSoundWorld (world_interrupted m w f g)
+    (told_on hs (Some (record { by = above w; what = Int })))
+    × MayFollow rules hs (record { by = above w; what = Int })
 
 -- In every sound world that shows its halts and kicks, a front that sleeps while nobody holds its
 -- lock is owed a kick.

@@ -2,8 +2,10 @@
 //! keeps it.
 #![tactic(auto)]
 
+mod domains;
 mod laws;
 
+pub use domains::{holds_move, nodes_are_free, rest_is_sound, rows_are_led};
 pub use laws::{
     choice_rows_keep, every_row_keeps, frames_keep, halts_end, kicks_are_shown,
     main_is_the_shown_walk, main_is_the_walk, nodes_are_used, passes_are_bounded, queue_rows_keep,

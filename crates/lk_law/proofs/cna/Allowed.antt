@@ -19,10 +19,10 @@ use Rattle.lk_law.specs.Stage.Stage.{Counts, Picked}
 use Rattle.lk_law.specs.Snapshot.{Snapshot}
 use Rattle.lk_law.specs.Cna.{moves_aside}
 use Rattle.lk_law.specs.Agree.{SnapshotAgrees}
-use Rattle.lk_law.specs.Allowed.{IsAllowed}
+use Rattle.lk_law.specs.Allowed.{MayFollow}
 use Rattle.lk_law.proofs.common.Before.{nodes_apart}
 use Rattle.lk_law.proofs.cna.Joined.{get_below}
-use Rattle.lk_law.proofs.common.Holders.{holds_so}
+use Rattle.lk_law.proofs.common.Holders.{holds_alone}
 use Rattle.lk_law.proofs.cna.Laws.{here, front}
 use Rattle.lk_law.proofs.cna.Front.{front_lead}
 use Rattle.lk_law.proofs.common.Allowed.{on_lock, shared_by, first_is}
@@ -35,12 +35,14 @@ movable_least : (far : Waiter → Bool) (ws : List Waiter) (k : ℕ)
     → k ≤ movable far ws
 movable_least far ws zero each = omega arith
 movable_least far [] (suc k) each = absurd (let e = each 0 (omega arith) in grind (arith, e.2))
-movable_least far (u ∷ []) (suc k) each = absurd (let e = each 0 (omega arith) in grind (arith, e.4))
+movable_least far (u ∷ []) (suc k) each =
+    absurd (let e = each 0 (omega arith) in grind (arith, e.4))
 movable_least far (u ∷ v ∷ ws) (suc k) each =
     let e = each 0 (omega arith) in
     let first : u ≡ e.0 = grind (arith, e.2) in
     let is : far u ≡ true = ap far first ∙ e.3 in
-    let r : k ≤ movable far (v ∷ ws) = movable_least far (v ∷ ws) k (λ i lt. each (suc i) (omega (arith, lt))) in
+    let r : k ≤ movable far (v ∷ ws) =
+    movable_least far (v ∷ ws) k (λ i lt. each (suc i) (omega (arith, lt))) in
     rw is (omega (arith, r))
 
 -- how many a handover may move in the family that moves waiters aside
@@ -74,7 +76,7 @@ cons_of (u ∷ us) w h = let e : u ≡ w = grind (arith, h) in (us, ap (λ (v : 
 module _ (rules : Rules) {s : Snapshot} {hs : LockName → LockHistory} (ok : SnapshotAgrees s hs)
     (w : Waiter) (l : LockName) (was : s.phase l w ≡ Holds) where
   -- the second queue returns
-  pub allow_flush : IsAllowed rules hs (record { by = w; what = Flush l })
+  pub allow_flush : MayFollow rules hs (record { by = w; what = Flush l })
   allow_flush =
       let o = ok.locks l in
       on_lock rules hs (record { by = w; what = Flush l }) l refl
@@ -82,12 +84,12 @@ module _ (rules : Rules) {s : Snapshot} {hs : LockName → LockHistory} (ok : Sn
         owned = tt;
         ordered = (
           first_is ok w l (grind (arith, was)),
-          (Spins, holds_so (hs l) w o.holder o.holders (o.hold.has w (grind (arith, was)))),
+          (Spins, holds_alone (hs l) w o.holder o.holders (o.hold.has w (grind (arith, was)))),
         );
         shared = shared_by o.holder o.holders;
       })
 
-  pub allow_promote : IsAllowed rules hs (record { by = w; what = Promote l })
+  pub allow_promote : MayFollow rules hs (record { by = w; what = Promote l })
   allow_promote =
       let o = ok.locks l in
       on_lock rules hs (record { by = w; what = Promote l }) l refl
@@ -95,14 +97,14 @@ module _ (rules : Rules) {s : Snapshot} {hs : LockName → LockHistory} (ok : Sn
         owned = tt;
         ordered = (
           first_is ok w l (grind (arith, was)),
-          (Spins, holds_so (hs l) w o.holder o.holders (o.hold.has w (grind (arith, was)))),
+          (Spins, holds_alone (hs l) w o.holder o.holders (o.hold.has w (grind (arith, was)))),
         );
         shared = shared_by o.holder o.holders;
       })
 
   allow_moves : (to : Waiter) (k : ℕ) → k ≤ lawful_moves rules (hs l).main
       → slice_get (hs l).main (suc k) ≡ Some to
-      → IsAllowed rules hs (record { by = w; what = Pass l to k })
+      → MayFollow rules hs (record { by = w; what = Pass l to k })
   allow_moves to k few next =
       let o = ok.locks l in
       on_lock rules hs (record { by = w; what = Pass l to k }) l refl
@@ -110,7 +112,7 @@ module _ (rules : Rules) {s : Snapshot} {hs : LockName → LockHistory} (ok : Sn
         owned = tt;
         ordered = (
           first_is ok w l (grind (arith, was)),
-          (Spins, holds_so (hs l) w o.holder o.holders (o.hold.has w (grind (arith, was)))),
+          (Spins, holds_alone (hs l) w o.holder o.holders (o.hold.has w (grind (arith, was)))),
           few,
           next,
         );
@@ -128,7 +130,7 @@ module _ (rules : Rules) {s : Snapshot} {hs : LockName → LockHistory} (ok : Sn
 
     -- the lead goes to the waiter right behind the front
     pub allow_hand : s.stage l w ≡ Picked y
-        → IsAllowed rules hs (record { by = w; what = Pass l to 0 })
+        → MayFollow rules hs (record { by = w; what = Pass l to 0 })
     allow_hand is =
         let v = (front_lead (here ok aside) (front ok was) was is).next 0 y refl in
         allow_moves to 0 (omega arith) (next_at 0 v.0 v.1 v.2 v.3)
@@ -136,7 +138,7 @@ module _ (rules : Rules) {s : Snapshot} {hs : LockName → LockHistory} (ok : Sn
     -- The lead goes behind those that were passed over, none of which is of the front's socket.
     pub allow_move : (a b : NodeName) (k : ℕ) → rules.mode ≡ s.mode
         → ((u : Waiter) (n : NodeName) → s.local u n ≡ same_socket rules.sockets u.cpu n.cpu)
-        → s.stage l w ≡ Counts a b k y → IsAllowed rules hs (record { by = w; what = Pass l to k })
+        → s.stage l w ≡ Counts a b k y → MayFollow rules hs (record { by = w; what = Pass l to k })
     allow_move a b k mode local is =
         let at = front ok was in
         let o = front_lead (here ok aside) at was is in
@@ -146,7 +148,8 @@ module _ (rules : Rules) {s : Snapshot} {hs : LockName → LockHistory} (ok : Sn
         movable_least (λ u. is_far rules u.cpu w.cpu) c.0 k (λ i lt.
         let f = o.far a b k i refl lt in
         let z = get_below (hs l).main (suc (suc i)) (suc k) v.0 v.1 (omega (arith, lt)) in
-        let cpu : (s.own f.0).cpu ≡ f.0.cpu = ap (λ (n : NodeName). n.cpu) (ok.nodes.placed l f.0 (ap has_node f.2)) in
+        let cpu : (s.own f.0).cpu ≡ f.0.cpu =
+        ap (λ (n : NodeName). n.cpu) (ok.nodes.placed l f.0 (ap has_node f.2)) in
         let off : same_socket rules.sockets w.cpu f.0.cpu ≡ false =
         ap (same_socket rules.sockets w.cpu) (sym cpu) ∙ sym (local w (s.own f.0)) ∙ f.3 in (
           f.0,

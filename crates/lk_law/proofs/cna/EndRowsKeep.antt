@@ -31,7 +31,8 @@ use Rattle.lk_law.proofs.common.Turns.{node_turn, word_turn, queued_turn}
 use Rattle.lk_law.proofs.common.TurnSteps.{node_plain, word_plain}
 use Rattle.lk_law.proofs.common.TurnSteps.{queued_plain, turn_stage, turn_kept}
 use Rattle.lk_law.proofs.common.Choices.{choosing}
-use Rattle.lk_law.proofs.common.Acting.{Acting, Stands, Kept, spin_row_keeps, fit_here, phase_here}
+use Rattle.lk_law.proofs.common.Acting.{Acting, StandsAwake, Kept, spin_row_keeps, fit_here}
+use Rattle.lk_law.proofs.common.Acting.{phase_here}
 use Rattle.lk_law.proofs.common.Acting.{own_here, held_not, left_place, going_step, going_stays}
 use Rattle.lk_law.proofs.common.Acting.{goes_kept, Ending, ending_step, ending_leaves, ends_kept}
 use Rattle.lk_law.proofs.common.Acting.{counted_off, awake_here}
@@ -44,7 +45,7 @@ use Rattle.lk_law.proofs.cna.StoreRowsKeep.{store_on, store_now}
 
 -- C8
 
-module _ {a : Acting} (at : Stands a C8) where
+module _ {a : Acting} (at : StandsAwake a C8) where
   abbrev next : NodeName
   next = node_of a.frame.y
 
@@ -56,7 +57,9 @@ module _ {a : Acting} (at : Stands a C8) where
 
   flagged_is : flagged
       ≡ record (a.world.node next) { flag = flag_for ((snapshot a.world).kept a.by) }
-  flagged_is = ap (λ (o : Option NodeName). record (a.world.node next) { flag = flag_for o }) (sym (kept_shown at refl))
+  flagged_is =
+      ap (λ (o : Option NodeName). record (a.world.node next) { flag = flag_for o })
+      (sym (kept_shown at refl))
 
   hand_ending : Ending a (counted_off a (put_node a.world next flagged)) (led a.frame Leaves) Holds
       (a.world.word a.frame.lock) (Some Spins)
@@ -91,7 +94,8 @@ module _ {a : Acting} (at : Stands a C8) where
   -- k waiters are moved
   move_kept : (a.frame.k == 0) ≡ false → Uses a.world a.to next → HandKept (Passes next a.frame.k)
   move_kept some uses =
-      let is : (snapshot a.world).stage a.frame.lock a.by ≡ Counts (node_of a.frame.a) (node_of a.frame.b) a.frame.k next =
+      let is : (snapshot a.world).stage a.frame.lock a.by ≡ Counts (node_of a.frame.a)
+      (node_of a.frame.b) a.frame.k next =
       stage_shown at refl
       ∙ if-false (a.frame.k == 0) (Picked next)
       (Counts (node_of a.frame.a) (node_of a.frame.b) a.frame.k next) some in
@@ -103,7 +107,8 @@ module _ {a : Acting} (at : Stands a C8) where
       (allow_move a.rules at.sound.agrees a.by a.frame.lock (holds_shown at refl)
       (aside_here at refl) a.to uses.0.lock (used_noded at.sound a.to next uses) next
       (used_own at.sound a.to next uses)
-      (node_of a.frame.a) (node_of a.frame.b) a.frame.k at.follows.mode (λ u n. sockets_same at.follows.sockets u.cpu n.cpu) is)
+      (node_of a.frame.a) (node_of a.frame.b) a.frame.k at.follows.mode
+      (λ u n. sockets_same at.follows.sockets u.cpu n.cpu) is)
     where
       sockets_same : {ss ts : List ℕ} → ss ≡ ts → (p q : ℕ)
           → same_socket ts p q ≡ same_socket ss p q
@@ -131,20 +136,24 @@ choice_flush_keeps =
     choosing g C7 refl refl (aside_here at refl) (λ q. cc) (λ q. cc) (λ q. cc) (λ q. cc)
     (λ q. cc) in
     let on = store_on at refl g C7 refl refl refl refl fits t y in
-    let nobody : (f.k == 0) ≡ true = ap (λ (k : ℕ). k == 0) ((fit_here at).choice.nobody C9 at.place refl) in
+    let nobody : (f.k == 0) ≡ true =
+    ap (λ (k : ℕ). k == 0) ((fit_here at).choice.nobody C9 at.place refl) in
     goes_kept at on (Says (Flush f.lock))
-    (law_flush at.sound.agrees (awake_here at) (aside_here at refl) (going_step at on) (going_stays on) (put_rewrites a.world.node t y)
-    (ap (λ (o : Option NodeName). record (a.world.node t) { next = o }) (some_is f.a ((fit_here at).choice.first C9 at.place refl)))
+    (law_flush at.sound.agrees (awake_here at) (aside_here at refl) (going_step at on)
+    (going_stays on) (put_rewrites a.world.node t y)
+    (ap (λ (o : Option NodeName). record (a.world.node t) { next = o })
+    (some_is f.a ((fit_here at).choice.first C9 at.place refl)))
     (stage_shown at refl)
     (store_now at refl g C7 refl refl refl refl fits t y
     ∙ if-true (f.k == 0) (Picks (node_of f.second))
     (Hangs (node_of f.a) (node_of f.b) f.k (node_of f.second)) nobody)
-    (kept_shown at refl ∙ some_is f.second ((fit_here at).choice.second C9 at.place refl)) (turn_kept on.turn))
+    (kept_shown at refl ∙ some_is f.second ((fit_here at).choice.second C9 at.place refl))
+    (turn_kept on.turn))
     (allow_flush a.rules at.sound.agrees a.by f.lock (holds_shown at refl)))
 
 -- C10
 
-module _ {a : Acting} (at : Stands a C10) where
+module _ {a : Acting} (at : StandsAwake a C10) where
   abbrev back : Fields
   back = record (a.world.word a.frame.lock) { tail = a.frame.t }
 
@@ -178,7 +187,8 @@ module _ {a : Acting} (at : Stands a C10) where
       (put_word-here a.world.word f.lock back ∙ back_is)
       (word_plain a.world f.lock back at.sound.plain (at.sound.plain.byte at.kind f.lock))
       (λ p. refl) refl refl refl fits in
-      let nobody : (f.k == 0) ≡ true = ap (λ (k : ℕ). k == 0) ((fit_here at).choice.nobody C10 at.place refl) in
+      let nobody : (f.k == 0) ≡ true =
+      ap (λ (k : ℕ). k == 0) ((fit_here at).choice.nobody C10 at.place refl) in
       let mine : x.tail ≡ Some (node_of f.me) =
       is_node-true x.tail (node_of f.me)
       (both-true (is_held x.locked && not x.pending) (is_node x.tail (node_of f.me))
@@ -190,7 +200,8 @@ module _ {a : Acting} (at : Stands a C10) where
       (turn_stage on.turn
       ∙ if-true (f.k == 0) (Picks (node_of f.second))
       (Hangs (node_of f.a) (node_of f.b) f.k (node_of f.second)) nobody)
-      (kept_shown at refl ∙ some_is f.second ((fit_here at).choice.second C10 at.place refl)) (turn_kept on.turn))
+      (kept_shown at refl ∙ some_is f.second ((fit_here at).choice.second C10 at.place refl))
+      (turn_kept on.turn))
       (allow_promote a.rules at.sound.agrees a.by f.lock (holds_shown at refl))
     where
       last_and : (p q r : Bool) → (p && q && r) ≡ true → ((p && q) && r) ≡ true
@@ -203,7 +214,8 @@ module _ {a : Acting} (at : Stands a C10) where
       choosing g C1 refl refl (aside_here at refl) (λ q. cc) (λ q. cc) (λ q. cc) (λ q. cc)
       (λ q. cc) in
       choice_kept at refl g C1 refl refl refl refl fits
-      (c10_fail (lists_here at refl) (front_here at refl) (holds_shown at refl) (look_others at refl g C1 refl refl refl refl fits)
+      (c10_fail (lists_here at refl) (front_here at refl) (holds_shown at refl)
+      (look_others at refl g C1 refl refl refl refl fits)
       (node_of a.frame.t) (stage_shown at refl) (look_now at refl g C1 refl refl refl refl fits)
       (look_kept at refl g C1 refl refl refl refl fits ∙ sym (kept_shown at refl)))
 

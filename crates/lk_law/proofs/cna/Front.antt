@@ -7,7 +7,7 @@ use Rattle.lk_machine.specs.declared.parts.Node.{Node}
 use Rattle.lk_law.specs.Phase.{Phase, has_node}
 use Rattle.lk_law.specs.Phase.Phase.{Waits, Holds}
 use Rattle.lk_law.specs.Snapshot.{QueueAgrees}
-use Rattle.lk_law.specs.Stage.{Stage, cut_of, tip_of, skipped, chosen, tail_seen, tied, hangs}
+use Rattle.lk_law.specs.Stage.{Stage, cut_of, tip_of, passed_over, chosen, tail_seen, tied, hangs}
 use Rattle.lk_law.specs.Cna.{CnaAgrees, FrontAgrees, SecondAgrees, part, shown, front_cut}
 use Rattle.lk_law.specs.Cna.{front_tip, named_by, first_node}
 use Rattle.lk_law.proofs.common.Lists.{last_cases}
@@ -15,26 +15,33 @@ use Rattle.lk_law.proofs.common.Families.{Last}
 
 module _ {tail : Option NodeName} {phase : Waiter → Phase} {own : Waiter → NodeName}
     {node : NodeName → Node} {local : Waiter → NodeName → Bool} {threshold : ℕ}
-    {stage : Waiter → Stage} {kept : Waiter → Option NodeName} {main second : List Waiter} {passes : List ℕ} {w : Waiter} {g : Stage}
+    {stage : Waiter → Stage} {kept : Waiter
+    → Option NodeName} {main second : List Waiter} {passes : List ℕ} {w : Waiter} {g : Stage}
     (ok : CnaAgrees tail phase own node local threshold stage kept main second passes)
     (at_w : slice_get main 0 ≡ Some w) (holds : phase w ≡ Holds) (is : stage w ≡ g) where
   pub front_lead : FrontAgrees phase own node local threshold main second passes w g (kept w)
   front_lead =
-      let P : Option NodeName → Type 0 = λ o. FrontAgrees phase own node local threshold main second passes w (stage w) o in
-      let Q : Stage → Type 0 = λ h. FrontAgrees phase own node local threshold main second passes w h (kept w) in
-      let e : named_by (phase w) ((node (own w)).flag) (kept w) ≡ kept w = ap (λ r. named_by r ((node (own w)).flag) (kept w)) holds in
+      let P : Option NodeName → Type 0 =
+      λ o. FrontAgrees phase own node local threshold main second passes w (stage w) o in
+      let Q : Stage → Type 0 =
+      λ h. FrontAgrees phase own node local threshold main second passes w h (kept w) in
+      let e : named_by (phase w) ((node (own w)).flag) (kept w) ≡ kept w =
+      ap (λ r. named_by r ((node (own w)).flag) (kept w)) holds in
       subst Q is (subst P e (ok.lead w at_w))
 
   -- the queue as it is shown, and the second queue, at the stage of the one that leads
   pub front_queue : QueueAgrees tail (part second phase) own (shown (cut_of (own w) g) node) main
   front_queue =
-      let P : Stage → Type 0 = λ h. QueueAgrees tail (part second phase) own (shown (cut_of (own w) h) node) main in
-      subst P is (let e : front_cut own stage (slice_get main 0) ≡ cut_of (own w) (stage w) = rw at_w refl in rw e at ok.queue)
+      let P : Stage → Type 0 =
+      λ h. QueueAgrees tail (part second phase) own (shown (cut_of (own w) h) node) main in
+      subst P is (let e : front_cut own stage (slice_get main 0) ≡ cut_of (own w) (stage w) =
+      rw at_w refl in rw e at ok.queue)
 
   pub front_second : SecondAgrees phase own node second (tip_of g)
   front_second =
       let P : Stage → Type 0 = λ h. SecondAgrees phase own node second (tip_of h) in
-      subst P is (let e : front_tip stage (slice_get main 0) ≡ tip_of (stage w) = rw at_w refl in rw e at ok.second_ok)
+      subst P is (let e : front_tip stage (slice_get main 0) ≡ tip_of (stage w) = rw at_w refl in
+      rw e at ok.second_ok)
 
   -- a node that is a waiting waiter's
   waiting : (u : Waiter) (n : NodeName) → phase u ≡ Waits → own u ≡ n → Last phase own n
@@ -45,7 +52,7 @@ module _ {tail : Option NodeName} {phase : Waiter → Phase} {own : Waiter → N
   owner_next k y e = let v = front_lead.next k y e in waiting v.0 y v.2 v.3
 
   -- the last node that was passed over
-  pub owner_last : (a b : NodeName) (k : ℕ) → skipped g ≡ Some (a, b, k) → Last phase own b
+  pub owner_last : (a b : NodeName) (k : ℕ) → passed_over g ≡ Some (a, b, k) → Last phase own b
   owner_last a b k e =
       let s = front_lead.some a b k e in
       let s1 = s.1 in
@@ -57,7 +64,8 @@ module _ {tail : Option NodeName} {phase : Waiter → Phase} {own : Waiter → N
   owner_tail t e =
       elim (last_cases second) [
         | inl none ↦ absurd (front_lead.tail_some t e none)
-        | inr p ↦ waiting p.1 t (ok.second_ok.waits p.0 p.1 p.2).0 (sym (front_lead.tail_met t p.0 p.1 e p.2 p.3))
+        | inr p ↦ waiting p.1 t (ok.second_ok.waits p.0 p.1 p.2).0
+            (sym (front_lead.tail_met t p.0 p.1 e p.2 p.3))
       ]
 
   -- the first node of the second queue
@@ -67,14 +75,15 @@ module _ {tail : Option NodeName} {phase : Waiter → Phase} {own : Waiter → N
   first_of (z ∷ ws) n h = (z, refl, (let q : own z ≡ n = cc h in q))
 
   owner_named : (n : NodeName) → kept w ≡ first_node own second → kept w ≡ Some n → Last phase own n
-  owner_named n names e = let u = first_of second n (sym names ∙ e) in waiting u.0 n (ok.second_ok.waits 0 u.0 u.1).0 u.2
+  owner_named n names e = let u = first_of second n (sym names ∙ e) in
+      waiting u.0 n (ok.second_ok.waits 0 u.0 u.1).0 u.2
 
   pub owner_second : (n : NodeName) → tied g ≡ false → kept w ≡ Some n → Last phase own n
   owner_second n loose e = owner_named n (front_lead.names (inl loose)) e
 
   -- and where waiters are moved it may be the first of them
   pub owner_moved : (a b : NodeName) (k : ℕ) (n : NodeName) → tied g ≡ true
-      → skipped g ≡ Some (a, b, k) → kept w ≡ Some n → Last phase own n
+      → passed_over g ≡ Some (a, b, k) → kept w ≡ Some n → Last phase own n
   owner_moved a b k n tie e named =
       elim (last_cases second) [
         | inl none ↦
@@ -82,7 +91,8 @@ module _ {tail : Option NodeName} {phase : Waiter → Phase} {own : Waiter → N
             let s1 = s.1 in
             let f = front_lead.far a b k 0 e (omega arith) in
             let m = front_lead.names_moved a b k tie e none in
-            waiting f.0 n f.2 (front_lead.near a b k f.0 e f.1 ∙ (let q : Some a ≡ Some n = sym m ∙ named in cc q))
+            waiting f.0 n f.2 (front_lead.near a b k f.0 e f.1
+            ∙ (let q : Some a ≡ Some n = sym m ∙ named in cc q))
         | inr p ↦ owner_named n
             (front_lead.names
             (inr (λ none. let z = ap (λ (us : List Waiter). slice_get us p.0) none in
@@ -95,6 +105,11 @@ module _ {tail : Option NodeName} {phase : Waiter → Phase} {own : Waiter → N
   tail_known n loose free e =
       let u = first_of second n (sym (front_lead.names (inl loose)) ∙ e) in
       elim (last_cases second) [
-        | inl none ↦ absurd (let z = ap (λ (us : List Waiter). slice_get us 0) none in grind (arith, z, u.1))
-        | inr p ↦ (own p.1, ap (λ (k : NodeName). (node k).second_tail) (sym u.2) ∙ front_lead.tail_at p.0 u.0 p.1 free u.1 p.2 p.3)
+        | inl none ↦ absurd (let z = ap (λ (us : List Waiter). slice_get us 0) none in
+            grind (arith, z, u.1))
+        | inr p ↦ (
+          own p.1,
+          ap (λ (k : NodeName). (node k).second_tail) (sym u.2)
+              ∙ front_lead.tail_at p.0 u.0 p.1 free u.1 p.2 p.3,
+        )
       ]

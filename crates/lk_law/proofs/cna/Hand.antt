@@ -1,4 +1,4 @@
-use Rattle.std.proofs.Common.{◌≡◌, ◌≢◌, ℕ, zero, suc, Option, Some, None, Bool, true, List, [], ◌∷◌}
+use Rattle.std.proofs.Common.{◌≡◌, ◌≢◌, ℕ, zero, suc, Option, Some, None, Bool, List, [], ◌∷◌}
 use Rattle.std.proofs.Common.{◌++◌, length, ◌⊎◌, inl, inr, arith, ap, refl, sym, ◌∙◌, subst, ◌<◌}
 use Rattle.std.proofs.Common.{◌≤◌, ◌+◌, slice_get, drop, take, replicate, length-append}
 use Rattle.std.specs.Prelude.{map, if◌then◌else◌}
@@ -7,10 +7,10 @@ use Rattle.std.proofs.lemmas.List.{length-replicate}
 use Rattle.lk_abs.specs.declared.names.Waiter.{Waiter}
 use Rattle.lk_word.specs.declared.spin_word.NodeName.{NodeName}
 use Rattle.lk_machine.specs.declared.parts.Node.{Node}
-use Rattle.lk_law.specs.Phase.{Phase, leads, has_node}
-use Rattle.lk_law.specs.Snapshot.{Moves, Rewrites, QueueAgrees}
-use Rattle.lk_law.specs.Phase.Phase.{Waits, Idle, Holds}
-use Rattle.lk_law.specs.Stage.{Stage, cut_of}
+use Rattle.lk_law.specs.Phase.{Phase}
+use Rattle.lk_law.specs.Snapshot.{QueueAgrees}
+use Rattle.lk_law.specs.Phase.Phase.{Waits, Holds}
+use Rattle.lk_law.specs.Stage.{Stage}
 use Rattle.lk_law.specs.Cna.{CnaAgrees, FrontAgrees, SecondAgrees, part, shown, front_cut}
 use Rattle.lk_law.specs.Cna.{front_tip, node_in, named_by, same_none, first_node}
 use Rattle.lk_machine.specs.rows.Cna.{flag_for}
@@ -21,17 +21,19 @@ use Rattle.lk_law.proofs.cna.Joined.{get-drop, get-take_none, get_below, get-joi
 use Rattle.lk_law.proofs.cna.Joined.{get-join_last}
 use Rattle.lk_law.proofs.cna.Parts.{not_in}
 use Rattle.lk_law.proofs.cna.Pass.{get-skip, skip-in, c8_queue, c8-main, c8-same}
+use Rattle.lk_law.proofs.cna.Steps.{HandsOver, IsHandedTo, KnowsMoved}
 
 -- nothing changes that the second queue reads
-pub second_keep : (phase phase' : Waiter → Phase) (own own' : Waiter → NodeName)
-    (node node' : NodeName → Node) (second : List Waiter) (tip : Option NodeName)
+pub second_keep : {phase phase' : Waiter → Phase} {own own' : Waiter → NodeName}
+    {node node' : NodeName → Node} {second : List Waiter} {tip : Option NodeName}
     → SecondAgrees phase own node second tip
     → ((i : ℕ) (u : Waiter) → slice_get second i ≡ Some u
     → (phase' u ≡ phase u) × (own' u ≡ own u) × (node' (own' u) ≡ node (own u)))
     → SecondAgrees phase' own' node' second tip
-second_keep phase phase' own own' node node' second tip ok same =
+second_keep ok same =
     record {
-      waits = λ i u h. let s = same i u h in let q = ok.waits i u h in (s.0 ∙ q.0, ap (λ (n : Node). n.flag) s.2 ∙ q.1);
+      waits = λ i u h. let s = same i u h in let q = ok.waits i u h in
+          (s.0 ∙ q.0, ap (λ (n : Node). n.flag) s.2 ∙ q.1);
       once = ok.once;
       linked = λ i u v h k. let s = same i u h in let t = same (suc i) v k in
           ap (λ (n : Node). n.next) s.2 ∙ ok.linked i u v h k ∙ ap (λ n. Some n) (sym t.1);
@@ -49,7 +51,8 @@ passes-at : (ps : List ℕ) (k i n : ℕ)
     ⊎ ((n ≡ 1) × (0 < k) × (slice_get ps i ≡ None))
 passes-at [] zero i n h = cc
 passes-at [] (suc k) zero n h = inr (grind arith, omega arith, refl)
-passes-at [] (suc k) (suc i) n h = elim (passes-at [] k i n h) [ inl a ↦ absurd (cc a.1) | inr b ↦ inr (b.0, omega arith, refl) ]
+passes-at [] (suc k) (suc i) n h =
+    elim (passes-at [] k i n h) [ inl a ↦ absurd (cc a.1) | inr b ↦ inr (b.0, omega arith, refl) ]
 passes-at (p ∷ ps) k zero n h = inl (p, refl, grind arith)
 passes-at (p ∷ ps) k (suc i) n h = passes-at ps k i n h
 
@@ -74,27 +77,14 @@ length-skips k (w ∷ main) v h = go k main h
     go (suc k) (x ∷ xs) h = ap suc (go k xs h)
 
 -- row C8, with the nodes and lists of one lock
-module _ (tail : Option NodeName) (phase phase' : Waiter → Phase) (own own' : Waiter → NodeName)
-    (node node' : NodeName → Node) (local : Waiter → NodeName → Bool) (threshold : ℕ)
-    (stage stage' : Waiter → Stage) (kept kept' : Waiter → Option NodeName)
-    (main second : List Waiter) (passes : List ℕ) (w v : Waiter) (k : ℕ) (y : NodeName)
-    (x : Node)
+module _ {tail : Option NodeName} {phase phase' : Waiter → Phase} {own own' : Waiter → NodeName}
+    {node node' : NodeName → Node} {local : Waiter → NodeName → Bool} {threshold : ℕ}
+    {stage stage' : Waiter → Stage} {kept : Waiter → Option NodeName}
+    {main second : List Waiter} {passes : List ℕ} {w v : Waiter} {k : ℕ} {y : NodeName} {x : Node}
     (ok : CnaAgrees tail phase own node local threshold stage kept main second passes)
-    (at_w : slice_get main 0 ≡ Some w)
-    (at_v : slice_get main (suc k) ≡ Some v) (waits : phase v ≡ Waits) (is_v : own v ≡ y)
-    (acts : Moves phase phase' w Holds Idle) (writes : Rewrites node node' y x)
-    (store : x ≡ record (node y) { flag = flag_for (kept w) })
-    (owns : (u : Waiter) → u ≢ w → own' u ≡ own u)
-    (stages : (u : Waiter) → u ≢ w → stage' u ≡ stage u) (stage_w : stage' w ≡ Rests)
-    (apart : (u z : Waiter) → has_node (phase u) ≡ true → has_node (phase z) ≡ true → own u ≡ own z → u ≡ z) where
+    (step : HandsOver phase phase' own own' node node' stage stage' kept main w y x)
+    (to : IsHandedTo phase own main k v y) where
   -- what is common to a move and to a plain handover
-  hand-leads : leads Waits (flag_for (kept w)) ≡ true
-  hand-leads = go (kept w)
-    where
-      go : (o : Option NodeName) → leads Waits (flag_for o) ≡ true
-      go None = refl
-      go (Some n) = refl
-
   hand-named : node_in (flag_for (kept w)) ≡ kept w
   hand-named = go (kept w)
     where
@@ -104,52 +94,46 @@ module _ (tail : Option NodeName) (phase phase' : Waiter → Phase) (own own' : 
 
   hand-lead : FrontAgrees phase own node local threshold main second passes w (stage w) (kept w)
   hand-lead =
-      let P : Option NodeName → Type 0 = λ o. FrontAgrees phase own node local threshold main second passes w (stage w) o in
+      let P : Option NodeName → Type 0 =
+      λ o. FrontAgrees phase own node local threshold main second passes w (stage w) o in
       let e : named_by (phase w) ((node (own w)).flag) (kept w) ≡ kept w =
-      ap (λ r. named_by r ((node (own w)).flag) (kept w)) acts.was in
-      subst P e (ok.lead w at_w)
+      ap (λ r. named_by r ((node (own w)).flag) (kept w)) step.moves.was in
+      subst P e (ok.lead w step.front)
 
   hand-rests : stage' v ≡ Rests
   hand-rests =
       elim (waiter_cases v w) [
-        | inl e ↦ ap stage' e ∙ stage_w
-        | inr ne ↦ stages v ne ∙ ok.calm v (λ e. cc (e, waits))
+        | inl e ↦ ap stage' e ∙ step.rests
+        | inr ne ↦ step.stages v ne ∙ ok.calm v (λ e. cc (e, to.waits))
       ]
 
   hand-calm : (u : Waiter) → phase' u ≢ Holds → stage' u ≡ Rests
   hand-calm u h =
       elim (waiter_cases u w) [
-        | inl e ↦ ap stage' e ∙ stage_w
-        | inr ne ↦ stages u ne ∙ ok.calm u (λ e. h (acts.others u ne ∙ e))
+        | inl e ↦ ap stage' e ∙ step.rests
+        | inr ne ↦ step.stages u ne ∙ ok.calm u (λ e. h (step.moves.others u ne ∙ e))
       ]
 
-  module _ (b : NodeName) (cut : cut_of (own w) (stage w) ≡ Some (b, y)) (at_b : (u : Waiter) → slice_get main k ≡ Some u → own u ≡ b)
-      (run_next : x.runs ≡ (if same_none (kept w) then 0 else ((node (own w)).runs + 1)))
-      (short : (n : NodeName) → kept w ≡ Some n → (node (own w)).runs < threshold)
-      (picked : k ≡ 0
-      → (kept w ≡ first_node own second)
-      × ((i : ℕ) (u z : Waiter) → slice_get second 0 ≡ Some u → slice_get second i ≡ Some z
-      → slice_get second (suc i) ≡ None → (node (own u)).second_tail ≡ Some (own z)))
-      (moved : 0 < k
-      → (kept w ≡ first_node own (second ++ take k (drop 1 main)))
-      × ((n : NodeName) → kept w ≡ Some n → (node n).second_tail ≡ Some b)
-      × (second ≡ [] → (node (own w)).runs ≡ 0))
+  module _ {b : NodeName}
+      (knows : KnowsMoved own node threshold main second w (stage w) (kept w) k y b x)
       (joined : SecondAgrees phase' own' node' (second ++ take k (drop 1 main)) None) where
     hand-queue : QueueAgrees tail (part second phase) own (shown (Some (b, y)) node) main
     hand-queue =
-        let e : front_cut own stage (slice_get main 0) ≡ Some (b, y) = rw at_w cut in
+        let e : front_cut own stage (slice_get main 0) ≡ Some (b, y) = rw step.front knows.cut in
         rw e at ok.queue
 
     hand-not_w : v ≢ w
-    hand-not_w e = cc (ap phase e, waits, acts.was)
+    hand-not_w e = cc (ap phase e, to.waits, step.moves.was)
 
     hand-v : node' (own' v) ≡ x
-    hand-v = rw (owns v hand-not_w, is_v) writes.now
+    hand-v = rw (step.owns v hand-not_w, to.owned) step.writes.now
 
-    hand-kept : named_by (phase' v) ((node' (own' v)).flag) (kept' v) ≡ kept w
-    hand-kept =
-        let r : phase' v ≡ Waits = acts.others v hand-not_w ∙ waits in
-        let f : (node' (own' v)).flag ≡ flag_for (kept w) = ap (λ (n : Node). n.flag) (hand-v ∙ store) in
+    hand-kept : (kept' : Waiter → Option NodeName)
+        → named_by (phase' v) ((node' (own' v)).flag) (kept' v) ≡ kept w
+    hand-kept kept' =
+        let r : phase' v ≡ Waits = step.moves.others v hand-not_w ∙ to.waits in
+        let f : (node' (own' v)).flag ≡ flag_for (kept w) =
+        ap (λ (n : Node). n.flag) (hand-v ∙ step.store) in
         rw (r, f) hand-named
 
     -- one of the new second queue
@@ -157,26 +141,21 @@ module _ (tail : Option NodeName) (phase phase' : Waiter → Phase) (own own' : 
         → (u ≢ w) × (u ≢ v) × (node' (own' u) ≡ node (own u)) × (own' u ≡ own u)
     hand-in i u h =
         let q = joined.waits i u h in
-        let ne : u ≢ w = (λ e. cc (ap phase' e, q.0, acts.now)) in
-        let r : phase u ≡ Waits = sym (acts.others u ne) ∙ q.0 in
+        let ne : u ≢ w = (λ e. cc (ap phase' e, q.0, step.moves.now)) in
+        let r : phase u ≡ Waits = sym (step.moves.others u ne) ∙ q.0 in
         let nv : u ≢ v = (λ e. elim (get-join second (take k (drop 1 main)) i u h) [
           | inl a ↦ let m =
-              c8-main tail phase phase' own own' node node' local threshold stage stage' kept kept'
-              main second passes w v k y b x hand-queue at_w at_b acts writes
-              (ap (λ (n : Node). n.next) store) (rw store hand-leads) owns apart at_v waits is_v
-              (suc k) v at_v in
+              c8-main second hand-queue step to knows.last (suc k) v to.place in
               not_in second v m.1 i (a ∙ ap (λ z. Some z) e)
           | inr p ↦ let s = get-skip k main p.0 u p.2 in
-              let o = hand-queue.once (suc p.0) (suc k) v (s.1 ∙ ap (λ z. Some z) e) at_v in
+              let o =
+              hand-queue.members.once (suc p.0) (suc k) v (s.1 ∙ ap (λ z. Some z) e) to.place in
               let lt = s.0 in omega arith
         ]) in (
           ne,
           nv,
-          c8-same tail phase phase' own own' node node' local threshold stage stage' kept
-              kept' main second passes w v k y b x hand-queue at_w at_b acts writes
-              (ap (λ (n : Node). n.next) store) (rw store hand-leads) owns apart at_v waits is_v u
-              (rw r refl) ne nv,
-          owns u ne,
+          c8-same second hand-queue step to knows.last u (rw r refl) ne nv,
+          step.owns u ne,
         )
 
     hand-first : kept w ≡ first_node own (second ++ take k (drop 1 main))
@@ -184,8 +163,8 @@ module _ (tail : Option NodeName) (phase phase' : Waiter → Phase) (own own' : 
         elim (cases_eq k 0) [
           | inl e ↦ let P : ℕ → Type 0 =
               λ n. kept w ≡ first_node own (second ++ take n (drop 1 main)) in
-              subst P (sym e) ((picked e).0 ∙ ap (first_node own) (sym (append-nil second)))
-          | inr n ↦ (moved (omega arith)).0
+              subst P (sym e) ((knows.plain e).0 ∙ ap (first_node own) (sym (append-nil second)))
+          | inr n ↦ (knows.moved (omega arith)).0
         ]
 
     hand-first' : kept w ≡ first_node own' (second ++ take k (drop 1 main))
@@ -212,26 +191,32 @@ module _ (tail : Option NodeName) (phase phase' : Waiter → Phase) (own own' : 
             → slice_get (second ++ take k (drop 1 main)) (suc i) ≡ None
             → (node (own u)).second_tail ≡ Some (own z)
         small e h g n =
-            let l : second ++ take k (drop 1 main) ≡ second = ap (λ m. second ++ take m (drop 1 main)) e ∙ append-nil second in
-            (picked e).1 i u z (rw l at h) (rw l at g) (rw l at n)
+            let l : second ++ take k (drop 1 main) ≡ second =
+            ap (λ m. second ++ take m (drop 1 main)) e ∙ append-nil second in
+            (knows.plain e).1 i u z (rw l at h) (rw l at g) (rw l at n)
 
         big : 0 < k → slice_get (second ++ take k (drop 1 main)) 0 ≡ Some u
             → slice_get (second ++ take k (drop 1 main)) i ≡ Some z
             → slice_get (second ++ take k (drop 1 main)) (suc i) ≡ None
             → (node (own u)).second_tail ≡ Some (own z)
         big lt h g n =
-            let named : kept w ≡ Some (own u) = hand-first ∙ head (second ++ take k (drop 1 main)) h in
-            let at = (moved lt).1 (own u) named in
+            let named : kept w ≡ Some (own u) =
+            hand-first ∙ head (second ++ take k (drop 1 main)) h in
+            let at = (knows.moved lt).1 (own u) named in
             at ∙ ap (λ m. Some m) (sym (elim (get-join_last second (take k (drop 1 main)) i z g n) [
-              | inl a ↦ absurd (let len = length-skips k main v at_v in let len' = ap length a.2 in omega arith)
+              | inl a ↦ absurd (let len = length-skips k main v to.place in
+                  let len' = ap length a.2 in omega arith)
               | inr d ↦
                   let s = get-skip k main d.0 z d.2 in
                   let e : suc d.0 ≡ k = elim (get-take_none k (drop 1 main) (suc d.0) d.3) [
                     | inl le ↦ let lt' = s.0 in omega arith
-                    | inr past ↦ absurd (let nn : slice_get main (suc (suc d.0)) ≡ None = sym (get-drop_one main (suc d.0)) ∙ past in
-                        let lt' = s.0 in let p = get_below main (suc (suc d.0)) (suc k) v at_v (omega arith) in cc (nn, p.1))
+                    | inr past ↦ absurd (let nn : slice_get main (suc (suc d.0)) ≡ None =
+                        sym (get-drop_one main (suc d.0)) ∙ past in
+                        let lt' = s.0 in
+                        let p = get_below main (suc (suc d.0)) (suc k) v to.place (omega arith) in
+                        cc (nn, p.1))
                   ] in
-                  at_b z (ap (slice_get main) (sym e) ∙ s.1)
+                  knows.last z (ap (slice_get main) (sym e) ∙ s.1)
             ]))
           where
             head : (ws : List Waiter) → slice_get ws 0 ≡ Some u → first_node own ws ≡ Some (own u)
@@ -239,14 +224,16 @@ module _ (tail : Option NodeName) (phase phase' : Waiter → Phase) (own own' : 
             head (t ∷ ws) h = let e : t ≡ u = grind arith in ap (λ m. Some (own m)) e
 
     hand-run : (n : NodeName) → kept w ≡ Some n → x.runs ≡ (node (own w)).runs + 1
-    hand-run n e = run_next ∙ ap (λ (o : Option NodeName). if same_none o then 0 else ((node (own w)).runs + 1)) e
+    hand-run n e = knows.runs
+        ∙ ap (λ (o : Option NodeName). if same_none o then 0 else ((node (own w)).runs + 1)) e
 
     hand-kept_cases : (o : Option NodeName) → (o ≡ None) ⊎ ((n : NodeName) × (o ≡ Some n))
     hand-kept_cases None = inl refl
     hand-kept_cases (Some n) = inr (n, refl)
 
     hand-run_none : kept w ≡ None → x.runs ≡ 0
-    hand-run_none e = run_next ∙ ap (λ (o : Option NodeName). if same_none o then 0 else ((node (own w)).runs + 1)) e
+    hand-run_none e = knows.runs
+        ∙ ap (λ (o : Option NodeName). if same_none o then 0 else ((node (own w)).runs + 1)) e
 
     -- a waiter of second makes second named
     hand-some : (i : ℕ) (u : Waiter) → slice_get (second ++ take k (drop 1 main)) i ≡ Some u
@@ -281,14 +268,16 @@ module _ (tail : Option NodeName) (phase phase' : Waiter → Phase) (own own' : 
                     let f = hand-lead.oldest a.0 (subst P z a.1) in omega arith,
               )
           | inr d ↦
-              let p = get_below main 1 (suc k) v at_v (let lt = d.1 in omega arith) in
+              let p = get_below main 1 (suc k) v to.place (let lt = d.1 in omega arith) in
               let g = skip-in k main 0 p.0 (d.1) p.1 in
               let len = hand-lead.lengths in
               let s = far-some (take k (drop 1 main)) g in
               let r = hand-run s.0 s.1 in let e = d.0 in (
                 (omega arith),
-                λ z. let no : slice_get passes 0 ≡ None = subst (λ (j : ℕ). slice_get passes j ≡ None) z d.2 in
-                    let em = passes-none passes second hand-lead.lengths no in let zero_run = (moved d.1).2 em in omega arith,
+                λ z. let no : slice_get passes 0 ≡ None =
+                    subst (λ (j : ℕ). slice_get passes j ≡ None) z d.2 in
+                    let em = passes-none passes second hand-lead.lengths no in
+                    let zero_run = (knows.moved d.1).2 em in omega arith,
               )
         ]
       where
@@ -297,7 +286,12 @@ module _ (tail : Option NodeName) (phase phase' : Waiter → Phase) (own own' : 
         far-some ws {t} g =
             elim (get_cases (second ++ take k (drop 1 main)) 0) [
               | inl n ↦ absurd (elim (get-cases second) [
-                | inl e ↦ cc (g, subst (λ (zs : List Waiter). slice_get (zs ++ take k (drop 1 main)) 0 ≡ None) e n)
+                | inl e ↦
+                    cc (
+                      g,
+                      subst (λ (zs : List Waiter).
+                          slice_get (zs ++ take k (drop 1 main)) 0 ≡ None) e n,
+                    )
                 | inr p ↦ cc (n, get-join_left second (take k (drop 1 main)) 0 p.0 p.1)
               ])
               | inr q ↦ hand-some 0 q.0 q.1
@@ -311,11 +305,12 @@ module _ (tail : Option NodeName) (phase phase' : Waiter → Phase) (own own' : 
     hand-bound =
         elim (hand-kept_cases (kept w)) [
           | inl e ↦ let r = hand-run_none e in omega arith
-          | inr p ↦ let r = hand-run p.0 p.1 in let s = short p.0 p.1 in omega arith
+          | inr p ↦ let r = hand-run p.0 p.1 in let s = knows.short p.0 p.1 in omega arith
         ]
 
     hand-at : slice_get (drop (suc k) main) 0 ≡ Some v
-    hand-at = let e : suc k + 0 ≡ suc k = omega arith in get-drop (suc k) main 0 ∙ ap (slice_get main) e ∙ at_v
+    hand-at = let e : suc k + 0 ≡ suc k = omega arith in
+        get-drop (suc k) main 0 ∙ ap (slice_get main) e ∙ to.place
 
     hand-leader : FrontAgrees phase' own' node' local threshold (drop (suc k) main)
         (second ++ take k (drop 1 main)) (map (λ n. suc n) (passes ++ replicate k 0)) v Rests
@@ -346,20 +341,19 @@ module _ (tail : Option NodeName) (phase phase' : Waiter → Phase) (own own' : 
               let c = length-append passes (replicate k 0) in
               let d : length (replicate {A = ℕ} k 0) ≡ k = length-replicate k 0 in
               let e = length-append second (take k (drop 1 main)) in
-              let f = length-skips k main v at_v in let g = hand-lead.lengths in omega arith;
+              let f = length-skips k main v to.place in let g = hand-lead.lengths in omega arith;
           oldest = λ n h. rw hand-v ((hand-pass 0 n h).1 refl);
           bounded = λ i n h. rw hand-v ((hand-pass i n h).0);
         }
 
-    pub c8_all : CnaAgrees tail phase' own' node' local threshold stage' kept' (drop (suc k) main)
+    pub c8_all : (kept' : Waiter → Option NodeName)
+        → CnaAgrees tail phase' own' node' local threshold stage' kept' (drop (suc k) main)
         (second ++ take k (drop 1 main)) (map (λ n. suc n) (passes ++ replicate k 0))
-    c8_all =
+    c8_all kept' =
         record {
-          queue = let e : front_cut own' stage' (slice_get (drop (suc k) main) 0) ≡ None = rw hand-at (rw hand-rests refl) in
-              rw e (c8_queue tail phase phase' own own' node node' local threshold stage stage' kept
-              kept' main second passes w v k y b x hand-queue at_w at_b acts writes
-              (ap (λ (n : Node). n.next) store) (rw store hand-leads) owns apart at_v waits
-              is_v);
+          queue = let e : front_cut own' stage' (slice_get (drop (suc k) main) 0) ≡ None =
+              rw hand-at (rw hand-rests refl) in
+              rw e (c8_queue second hand-queue step to knows.last);
           second_ok = let e : front_tip stage' (slice_get (drop (suc k) main) 0) ≡ None =
               rw hand-at (rw hand-rests refl) in rw e joined;
           lead = λ u h.
@@ -368,7 +362,7 @@ module _ (tail : Option NodeName) (phase phase' : Waiter → Phase) (own own' : 
               λ z. FrontAgrees phase' own' node' local threshold (drop (suc k) main)
               (second ++ take k (drop 1 main)) (map (λ n. suc n) (passes ++ replicate k 0)) z
               (stage' z) (named_by (phase' z) ((node' (own' z)).flag) (kept' z)) in
-              subst P same (rw (hand-rests, hand-kept) hand-leader);
+              subst P same (rw (hand-rests, hand-kept kept') hand-leader);
           lengths = hand-leader.lengths;
           empty = λ h. absurd (cc (h, hand-at));
           calm = hand-calm;

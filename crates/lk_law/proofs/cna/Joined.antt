@@ -5,14 +5,18 @@ pub get-drop : {A : Type 0} (n : ℕ) (xs : List A) (i : ℕ)
     → slice_get (drop n xs) i ≡ slice_get xs (n + i)
 get-drop zero xs i = let e : i ≡ zero + i = omega arith in ap (slice_get xs) e
 get-drop (suc n) [] i = refl
-get-drop (suc n) (x ∷ xs) i = let e : suc (n + i) ≡ suc n + i = omega arith in get-drop n xs i ∙ ap (slice_get (x ∷ xs)) e
+get-drop (suc n) (x ∷ xs) i =
+    let e : suc (n + i) ≡ suc n + i = omega arith in get-drop n xs i ∙ ap (slice_get (x ∷ xs)) e
 
 -- an element of two joined lists stands in the one or in the other
 pub get-join : {A : Type 0} (xs ys : List A) (i : ℕ) (u : A) → slice_get (xs ++ ys) i ≡ Some u
     → (slice_get xs i ≡ Some u) ⊎ ((j : ℕ) × (i ≡ length xs + j) × (slice_get ys j ≡ Some u))
 get-join [] ys i u h = inr (i, omega arith, h)
 get-join (x ∷ xs) ys zero u h = inl h
-get-join (x ∷ xs) ys (suc i) u h = elim (get-join xs ys i u h) [ inl e ↦ inl e | inr p ↦ inr (p.0, (let e = p.1 in omega arith), p.2) ]
+get-join (x ∷ xs) ys (suc i) u h = elim (get-join xs ys i u h) [
+  | inl e ↦ inl e
+  | inr p ↦ inr (p.0, (let e = p.1 in omega arith), p.2)
+]
 
 pub get-join_left : {A : Type 0} (xs ys : List A) (i : ℕ) (u : A) → slice_get xs i ≡ Some u
     → slice_get (xs ++ ys) i ≡ Some u
@@ -45,7 +49,10 @@ get-join_two (x ∷ z ∷ xs) ys zero u v h k = inl (h, k)
 get-join_two (x ∷ xs) ys (suc i) u v h k =
     elim (get-join_two xs ys i u v h k) [
       | inl a ↦ inl a
-      | inr b ↦ elim b [ inl c ↦ inr (inl c) | inr d ↦ inr (inr (d.0, (let e = d.1 in omega arith), d.2, d.3)) ]
+      | inr b ↦ elim b [
+        | inl c ↦ inr (inl c)
+        | inr d ↦ inr (inr (d.0, (let e = d.1 in omega arith), d.2, d.3))
+      ]
     ]
 
 -- the last of two joined lists
@@ -70,7 +77,8 @@ pub get-take : {A : Type 0} (k : ℕ) (xs : List A) (i : ℕ) (u : A) → slice_
 get-take zero xs i u h = cc
 get-take (suc k) [] i u h = cc
 get-take (suc k) (x ∷ xs) zero u h = (omega arith, h)
-get-take (suc k) (x ∷ xs) (suc i) u h = let r = get-take k xs i u h in ((let e = r.0 in omega arith), r.1)
+get-take (suc k) (x ∷ xs) (suc i) u h =
+    let r = get-take k xs i u h in ((let e = r.0 in omega arith), r.1)
 
 pub get-take_in : {A : Type 0} (k : ℕ) (xs : List A) (i : ℕ) → i < k
     → slice_get (take k xs) i ≡ slice_get xs i
@@ -84,7 +92,8 @@ pub get-take_none : {A : Type 0} (k : ℕ) (xs : List A) (i : ℕ) → slice_get
 get-take_none zero xs i h = inl (omega arith)
 get-take_none (suc k) [] i h = inr refl
 get-take_none (suc k) (x ∷ xs) zero h = cc
-get-take_none (suc k) (x ∷ xs) (suc i) h = elim (get-take_none k xs i h) [ inl a ↦ inl (omega arith) | inr b ↦ inr b ]
+get-take_none (suc k) (x ∷ xs) (suc i) h =
+    elim (get-take_none k xs i h) [ inl a ↦ inl (omega arith) | inr b ↦ inr b ]
 
 -- an element below another is there
 pub get_below : {A : Type 0} (xs : List A) (i j : ℕ) (u : A) → slice_get xs j ≡ Some u → i ≤ j

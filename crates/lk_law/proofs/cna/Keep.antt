@@ -1,31 +1,36 @@
-use Rattle.std.proofs.Common.{◌≡◌, ◌≢◌, ℕ, suc, Option, Some, None, Bool, true, false, List, []}
+use Rattle.std.proofs.Common.{◌≡◌, ◌≢◌, ℕ, suc, Option, Some, Bool, true, false, List, []}
 use Rattle.std.proofs.Common.{◌∷◌, ◌⊎◌, inl, inr, arith, ap, refl, sym, ◌∙◌, ◌+◌, slice_get}
 use Rattle.std.specs.Prelude.{if◌then◌else◌}
 use Rattle.lk_abs.specs.declared.names.Waiter.{Waiter}
 use Rattle.lk_word.specs.declared.spin_word.NodeName.{NodeName}
 use Rattle.lk_machine.specs.declared.parts.Node.{Node}
-use Rattle.lk_law.specs.Phase.{Phase, queues}
+use Rattle.lk_law.specs.Phase.{Phase}
 use Rattle.lk_law.specs.Phase.Phase.{Waits}
-use Rattle.lk_law.specs.Stage.{Stage, skipped, parted, chosen, counted, tied}
+use Rattle.lk_law.specs.Stage.{Stage, passed_over, parted, chosen, told_runs, tied}
 use Rattle.lk_law.specs.Cna.{FrontAgrees, SecondAgrees, same_none, first_node}
 use Rattle.lk_law.specs.Stage.Stage.{Counts, Picked, Ties, Cuts, Hangs}
 use Rattle.lk_law.proofs.common.Lists.{last_cases}
+use Rattle.lk_law.proofs.cna.Steps.{OthersAct}
 
 -- the last of those passed over
-pub parted-at : (phase : Waiter → Phase) (own : Waiter → NodeName) (node : NodeName → Node)
-    (local : Waiter → NodeName → Bool) (threshold : ℕ)
-    (main second : List Waiter) (passes : List ℕ) (w : Waiter) (g : Stage) (named : Option NodeName)
-    → FrontAgrees phase own node local threshold main second passes w g named → (b : NodeName) → parted g ≡ Some b
+pub parted-at : {phase : Waiter → Phase} {own : Waiter → NodeName} {node : NodeName → Node}
+    {local : Waiter → NodeName → Bool} {threshold : ℕ} {main second : List Waiter}
+    {passes : List ℕ} {w : Waiter} {g : Stage} {named : Option NodeName}
+    → FrontAgrees phase own node local threshold main second passes w g named
+    → (b : NodeName)
+    → parted g ≡ Some b
     → (i : ℕ) × (u : Waiter) × (slice_get main (suc i) ≡ Some u) × (phase u ≡ Waits) × (own u ≡ b)
-parted-at phase own node local threshold main second passes w g named o b e = let k = of g e in by k.0 k.1 k.2
+parted-at {phase = phase} {own = own} {main = main} {g = g} o b e =
+    let k = of g e in by k.0 k.1 k.2
   where
-    of : (g : Stage) → parted g ≡ Some b → (a : NodeName) × (k : ℕ) × (skipped g ≡ Some (a, b, k))
+    of : (g : Stage) → parted g ≡ Some b
+        → (a : NodeName) × (k : ℕ) × (passed_over g ≡ Some (a, b, k))
     of (Cuts a d k y) h = let e : d ≡ b = cc h in (a, k, ap (λ n. Some (a, n, k)) e)
     of (Hangs a d k y) h = let e : d ≡ b = cc h in (a, k, ap (λ n. Some (a, n, k)) e)
     of (Counts a d k y) h = let e : d ≡ b = cc h in (a, k, ap (λ n. Some (a, n, k)) e)
     of _ h = cc h
 
-    by : (a : NodeName) (k : ℕ) → skipped g ≡ Some (a, b, k)
+    by : (a : NodeName) (k : ℕ) → passed_over g ≡ Some (a, b, k)
         → (i : ℕ) × (u : Waiter) × (slice_get main (suc i) ≡ Some u) × (phase u ≡ Waits)
         × (own u ≡ b)
     by a k sk =
@@ -34,21 +39,13 @@ parted-at phase own node local threshold main second passes w g named o b e = le
         (s.0, f.0, f.1, f.2, o.close a b k f.0 sk (ap (slice_get main) s1 ∙ f.1))
 
 -- what the one that leads knows stays true while others act
-module _ (phase phase' : Waiter → Phase) (own own' : Waiter → NodeName)
-    (node node' : NodeName → Node) (local : Waiter → NodeName → Bool) (threshold : ℕ)
-    (main main' second : List Waiter) (passes : List ℕ) (w : Waiter) (g : Stage) (named tip : Option NodeName)
+module _ {phase phase' : Waiter → Phase} {own own' : Waiter → NodeName}
+    {node node' : NodeName → Node} {local : Waiter → NodeName → Bool} {threshold : ℕ}
+    {main main' second : List Waiter} {passes : List ℕ} {w : Waiter} {g : Stage}
+    {named tip : Option NodeName}
     (o : FrontAgrees phase own node local threshold main second passes w g named)
     (so : SecondAgrees phase own node second tip)
-    (phased : queues (phase w) ≡ true)
-    (grow : (i : ℕ) (u : Waiter) → slice_get main i ≡ Some u → slice_get main' i ≡ Some u)
-    (waits : (u : Waiter) → phase u ≡ Waits → u ≢ w → (phase' u ≡ Waits) × (own' u ≡ own u))
-    (apart_w : (i : ℕ) (u : Waiter) → slice_get main (suc i) ≡ Some u → u ≢ w)
-    (apart_s : (i : ℕ) (u : Waiter) → slice_get second i ≡ Some u → u ≢ w)
-    (own_w : own' w ≡ own w)
-    (same : (u : Waiter) → queues (phase u) ≡ true
-    → ((node' (own u)).runs ≡ (node (own u)).runs)
-    × ((node' (own u)).second_tail ≡ (node (own u)).second_tail))
-    (cuts : (u : Waiter) → phase u ≡ Waits → u ≢ w → parted g ≡ Some (own u) → (node' (own u)).next ≡ None) where
+    (act : OthersAct phase phase' own own' node node' main main' second w g) where
   keep-first : (n : NodeName) → named ≡ Some n → (u : Waiter) × (phase u ≡ Waits) × (own u ≡ n)
   keep-first n e =
       elim (tie-cases (tied g)) [
@@ -59,7 +56,8 @@ module _ (phase phase' : Waiter → Phase) (own own' : Waiter → NodeName)
         ]
       ]
     where
-      by-moved : (a b : NodeName) (k : ℕ) → tied g ≡ true → skipped g ≡ Some (a, b, k) → second ≡ []
+      by-moved : (a b : NodeName) (k : ℕ) → tied g ≡ true → passed_over g ≡ Some (a, b, k)
+          → second ≡ []
           → (u : Waiter) × (phase u ≡ Waits) × (own u ≡ n)
       by-moved a b k tie sk em =
           let q = o.names_moved a b k tie sk em in
@@ -72,7 +70,7 @@ module _ (phase phase' : Waiter → Phase) (own own' : Waiter → NodeName)
       tie-cases false = inl refl
 
       skip-of : (g : Stage) → tied g ≡ true
-          → (a : NodeName) × (b : NodeName) × (k : ℕ) × (skipped g ≡ Some (a, b, k))
+          → (a : NodeName) × (b : NodeName) × (k : ℕ) × (passed_over g ≡ Some (a, b, k))
       skip-of (Ties a b k y) h = (a, b, k, refl)
       skip-of (Cuts a b k y) h = (a, b, k, refl)
       skip-of (Hangs a b k y) h = (a, b, k, refl)
@@ -88,22 +86,20 @@ module _ (phase phase' : Waiter → Phase) (own own' : Waiter → NodeName)
           first-of [] h = cc h
           first-of (z ∷ ws) h = (z, refl, (let q : own z ≡ n = cc h in q))
 
-  keep-y : (y : NodeName) → counted g ≡ Some y → (u : Waiter) × (phase u ≡ Waits) × (own u ≡ y)
+  keep-y : (y : NodeName) → told_runs g ≡ Some y → (u : Waiter) × (phase u ≡ Waits) × (own u ≡ y)
   keep-y y e = let k = of g e in let v = o.next k.0 y k.1 in (v.0, v.2, v.3)
     where
-      of : (g : Stage) → counted g ≡ Some y → (k : ℕ) × (chosen g ≡ Some (k, y))
+      of : (g : Stage) → told_runs g ≡ Some y → (k : ℕ) × (chosen g ≡ Some (k, y))
       of (Counts a b k z) h = let q : z ≡ y = cc h in (k, ap (λ n. Some (k, n)) q)
       of (Picked z) h = let q : z ≡ y = cc h in (0, ap (λ n. Some (0, n)) q)
       of _ h = cc h
 
   keep-b : (b : NodeName) → parted g ≡ Some b
       → (u : Waiter) × (phase u ≡ Waits) × (own u ≡ b) × (u ≢ w)
-  keep-b b e = let f =
-      parted-at phase own node local threshold main second passes w g named o b e in
-      (f.1, f.3, f.4, apart_w f.0 f.1 f.2)
+  keep-b b e = let f = parted-at o b e in (f.1, f.3, f.4, act.not_behind f.0 f.1 f.2)
 
   keep-second : first_node own' second ≡ first_node own second
-  keep-second = go second (λ u h. (waits u (so.waits 0 u h).0 (apart_s 0 u h)).1)
+  keep-second = go second (λ u h. (act.waits u (so.waits 0 u h).0 (act.not_aside 0 u h)).1)
     where
       go : (ws : List Waiter) → ((u : Waiter) → slice_get ws 0 ≡ Some u → own' u ≡ own u)
           → first_node own' ws ≡ first_node own ws
@@ -111,7 +107,7 @@ module _ (phase phase' : Waiter → Phase) (own own' : Waiter → NodeName)
       go (z ∷ ws) h = ap (λ n. Some n) (h z refl)
 
   keep-runs : (node' (own' w)).runs ≡ (node (own w)).runs
-  keep-runs = rw own_w (same w phased).0
+  keep-runs = rw act.own_w (act.fields w act.queued).0
 
   pub lead_keep : FrontAgrees phase' own' node' local threshold main' second passes w g named
   lead_keep =
@@ -119,40 +115,50 @@ module _ (phase phase' : Waiter → Phase) (own own' : Waiter → NodeName)
         names = λ p. o.names p ∙ sym keep-second;
         names_moved = o.names_moved;
         tail_at = λ i u z p h k n. let a = so.waits 0 u h in let c = so.waits i z k in
-            (rw ((waits u a.0 (apart_s 0 u h)).1, (waits z c.0 (apart_s i z k)).1)
-            ((same u (rw a.0 refl)).1 ∙ o.tail_at i u z p h k n));
+            (rw (
+              (act.waits u a.0 (act.not_aside 0 u h)).1,
+              (act.waits z c.0 (act.not_aside i z k)).1,
+            )
+            ((act.fields u (rw a.0 refl)).1 ∙ o.tail_at i u z p h k n));
         tail_hung = λ b n p q. let f = keep-first n q in
-            ap (λ m. (node' m).second_tail) (sym f.2) ∙ (same f.0 (rw f.1 refl)).1
+            ap (λ m. (node' m).second_tail) (sym f.2) ∙ (act.fields f.0 (rw f.1 refl)).1
             ∙ ap (λ m. (node m).second_tail) f.2 ∙ o.tail_hung b n p q;
-        tail_met = λ t i z p h k. let c = so.waits i z h in o.tail_met t i z p h k ∙ sym (waits z c.0 (apart_s i z h)).1;
+        tail_met = λ t i z p h k. let c = so.waits i z h in
+            o.tail_met t i z p h k ∙ sym (act.waits z c.0 (act.not_aside i z h)).1;
         tail_some = o.tail_some;
         run = rw keep-runs o.run;
         run_none = λ p q. keep-runs ∙ o.run_none p q;
         run_short = λ c d j p. rw keep-runs (o.run_short c d j p);
         run_picks = λ n p q. rw keep-runs (o.run_picks n p q);
         run_next = λ y p. let f = keep-y y p in
-            ap (λ m. (node' m).runs) (sym f.2) ∙ (same f.0 (rw f.1 refl)).0
+            ap (λ m. (node' m).runs) (sym f.2) ∙ (act.fields f.0 (rw f.1 refl)).0
             ∙ ap (λ m. (node m).runs) f.2 ∙ o.run_next y p
             ∙ ap (λ n. if same_none named then 0 else (n + 1)) (sym keep-runs);
         some = o.some;
         far = λ a b k i p lt. let f = o.far a b k i p lt in
-            let q = waits f.0 f.2 (apart_w i f.0 f.1) in
-            (f.0, grow (suc i) f.0 f.1, q.0, rw q.1 f.3);
+            let q = act.waits f.0 f.2 (act.not_behind i f.0 f.1) in
+            (f.0, act.grows (suc i) f.0 f.1, q.0, rw q.1 f.3);
         near = λ a b k u p h. let s = o.some a b k p in let s1 = s.1 in
-            let f = o.far a b k 0 p (omega arith) in let q = waits f.0 f.2 (apart_w 0 f.0 f.1) in
-            let e : f.0 ≡ u = cc (grow 1 f.0 f.1, h) in
+            let f = o.far a b k 0 p (omega arith) in
+            let q = act.waits f.0 f.2 (act.not_behind 0 f.0 f.1) in
+            let e : f.0 ≡ u = cc (act.grows 1 f.0 f.1, h) in
             ap own' (sym e) ∙ q.1 ∙ o.near a b k f.0 p f.1;
         close = λ a b k u p h. let s = o.some a b k p in let s1 = s.1 in
             let f = o.far a b k s.0 p (omega arith) in
-            let q = waits f.0 f.2 (apart_w s.0 f.0 f.1) in
+            let q = act.waits f.0 f.2 (act.not_behind s.0 f.0 f.1) in
             let at : slice_get main k ≡ Some f.0 = ap (slice_get main) s1 ∙ f.1 in
-            let e : f.0 ≡ u = cc (grow k f.0 at, h) in
+            let e : f.0 ≡ u = cc (act.grows k f.0 at, h) in
             ap own' (sym e) ∙ q.1 ∙ o.close a b k f.0 p at;
-        cut = λ b p. let f = keep-b b p in ap (λ n. (node' n).next) (sym f.2) ∙ cuts f.0 f.1 f.3 (p ∙ ap (λ n. Some n) (sym f.2));
-        next = λ k y p. let v = o.next k y p in let q = waits v.0 v.2 (apart_w k v.0 v.1) in
-            (v.0, grow (suc k) v.0 v.1, q.0, q.1 ∙ v.3);
+        cut = λ b p. let f = keep-b b p in
+            ap (λ n. (node' n).next) (sym f.2)
+            ∙ act.cuts f.0 f.1 f.3 (p ∙ ap (λ n. Some n) (sym f.2));
+        next = λ k y p.
+            let v = o.next k y p in let q = act.waits v.0 v.2 (act.not_behind k v.0 v.1) in
+            (v.0, act.grows (suc k) v.0 v.1, q.0, q.1 ∙ v.3);
         kin = o.kin;
-        before = λ a p. let v = o.before a p in let q = waits v.0 v.2 (apart_w 0 v.0 v.1) in (v.0, grow 1 v.0 v.1, q.0, q.1 ∙ v.3);
+        before = λ a p. let v = o.before a p in
+            let q = act.waits v.0 v.2 (act.not_behind 0 v.0 v.1) in
+            (v.0, act.grows 1 v.0 v.1, q.0, q.1 ∙ v.3);
         lengths = o.lengths;
         oldest = λ n h. o.oldest n h ∙ sym keep-runs;
         bounded = λ i n h. rw keep-runs (o.bounded i n h);

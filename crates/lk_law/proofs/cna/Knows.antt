@@ -56,7 +56,8 @@ module _ {m : World} {hs : LockName → LockHistory} {w : Waiter} {f : Frame} {c
         ∙ choosing_phase c on
 
     pub stage_here : (snapshot m).stage f.lock w ≡ stage_at c f
-    stage_here = ap (stage_on f.lock) live ∙ stage_on-here f.lock f refl ∙ ap (λ (o : Option Pc). stage_if o f) place
+    stage_here = ap (stage_on f.lock) live ∙ stage_on-here f.lock f refl
+        ∙ ap (λ (o : Option Pc). stage_if o f) place
 
     pub lists : CnaAgrees ((snapshot m).word f.lock).tail ((snapshot m).phase f.lock)
         (snapshot m).own (snapshot m).node (snapshot m).local (snapshot m).threshold
@@ -107,22 +108,30 @@ choice_is_used m hs w f C6 ok live place on =
     (node_of f.second) refl refl named)
 choice_is_used m hs w f C7 ok live place on =
     elim (cases_Bool (f.k == 0)) [
-      | inl zero ↦ used ok live place (owner_next (lists ok live place on) (at_front ok live place on) (phase_here ok live place on)
+      | inl zero ↦
+          used ok live place (owner_next (lists ok live place on) (at_front ok live place on)
+          (phase_here ok live place on)
           (stage_here ok live place on
           ∙ if-true (f.k == 0) (Picks (node_of f.y))
           (Hangs (node_of f.a) (node_of f.b) f.k (node_of f.y)) zero) 0 (node_of f.y) refl)
-      | inr some ↦ used ok live place (owner_next (lists ok live place on) (at_front ok live place on) (phase_here ok live place on)
+      | inr some ↦
+          used ok live place (owner_next (lists ok live place on) (at_front ok live place on)
+          (phase_here ok live place on)
           (stage_here ok live place on
           ∙ if-false (f.k == 0) (Picks (node_of f.y))
           (Hangs (node_of f.a) (node_of f.b) f.k (node_of f.y)) some) f.k (node_of f.y) refl)
     ]
 choice_is_used m hs w f C8 ok live place on =
     elim (cases_Bool (f.k == 0)) [
-      | inl zero ↦ used ok live place (owner_next (lists ok live place on) (at_front ok live place on) (phase_here ok live place on)
+      | inl zero ↦
+          used ok live place (owner_next (lists ok live place on) (at_front ok live place on)
+          (phase_here ok live place on)
           (stage_here ok live place on
           ∙ if-true (f.k == 0) (Picked (node_of f.y))
           (Counts (node_of f.a) (node_of f.b) f.k (node_of f.y)) zero) 0 (node_of f.y) refl)
-      | inr some ↦ used ok live place (owner_next (lists ok live place on) (at_front ok live place on) (phase_here ok live place on)
+      | inr some ↦
+          used ok live place (owner_next (lists ok live place on) (at_front ok live place on)
+          (phase_here ok live place on)
           (stage_here ok live place on
           ∙ if-false (f.k == 0) (Picked (node_of f.y))
           (Counts (node_of f.a) (node_of f.b) f.k (node_of f.y)) some) f.k (node_of f.y) refl)
@@ -139,7 +148,8 @@ passes_are_bounded m hs l ok i n h =
     let o = (ok.agrees.locks l).lists in
     elim (cases_Bool (moves_aside m.mode)) [
       | inl e ↦ cna_bounded (o.cna e) i n h
-      | inr e ↦ let none = ap (λ (ns : List ℕ). slice_get ns i) (o.flat e).unpassed in grind (arith, none, h)
+      | inr e ↦ let none = ap (λ (ns : List ℕ). slice_get ns i) (o.flat e).unpassed in
+          grind (arith, none, h)
     ]
 
 module _ {m : World} {hs : LockName → LockHistory} {w : Waiter} {f : Frame} {c : Pc}
@@ -203,12 +213,13 @@ queue_is_distinct m hs l ok =
       λ i u h. framed u (m.frame u) refl (lists_main o i u h),
       λ i j u h k.
           elim (cases_Bool (moves_aside m.mode)) [
-            | inl e ↦ (o.cna e).queue.once i j u h k
-            | inr e ↦ (o.flat e).queue.once i j u h k
+            | inl e ↦ (o.cna e).queue.members.once i j u h k
+            | inr e ↦ (o.flat e).queue.members.once i j u h k
           ],
     )
   where
     framed : (u : Waiter) (x : Option Frame) → m.frame u ≡ x
         → queues ((snapshot m).phase l u) ≡ true → (f : Frame) × (m.frame u ≡ Some f)
     framed u (Some f) e q = (f, e)
-    framed u None e q = absurd (let z = ap (λ (x : Option Frame). queues (phase_on l x)) e in grind (arith, z, q))
+    framed u None e q =
+        absurd (let z = ap (λ (x : Option Frame). queues (phase_on l x)) e in grind (arith, z, q))

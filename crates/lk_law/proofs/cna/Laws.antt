@@ -30,21 +30,26 @@ use Rattle.lk_law.proofs.common.Families.{Last, lists_front}
 use Rattle.lk_law.proofs.cna.Front.{owner_next, owner_tail}
 use Rattle.lk_law.proofs.cna.Turn.{c8_move, c8_plain}
 use Rattle.lk_law.proofs.cna.Ends.{c9_flush, c10_promote}
+use Rattle.lk_law.proofs.cna.Steps.{HandsOver, LetsReturn}
 
 -- where waiters are moved aside there are two queues
 pub cna_lists : {aside : Bool} {tail : Option NodeName} {phase : Waiter → Phase}
     {own : Waiter → NodeName} {node : NodeName → Node} {local : Waiter → NodeName → Bool}
     {threshold : ℕ}
-    {stage : Waiter → Stage} {kept : Waiter → Option NodeName} {main second : List Waiter} {passes : List ℕ} → aside ≡ true
+    {stage : Waiter → Stage} {kept : Waiter
+    → Option NodeName} {main second : List Waiter} {passes : List ℕ} → aside ≡ true
     → CnaAgrees tail phase own node local threshold stage kept main second passes
     → ListsAgree aside tail phase own node local threshold stage kept main second passes
 cna_lists aside o = record { flat = λ e. absurd (grind (arith, aside, e)); cna = λ e. o }
 
 -- the lists of a lock in such a family
 abbrev pub Twofold : Snapshot → LockHistory → LockName → Type 0
-Twofold s h l = CnaAgrees (s.word l).tail (s.phase l) s.own s.node s.local s.threshold (s.stage l) s.kept h.main h.second h.passes
+Twofold s h l =
+    CnaAgrees (s.word l).tail (s.phase l) s.own s.node s.local s.threshold
+    (s.stage l) s.kept h.main h.second h.passes
 
-module _ {s : Snapshot} {hs : LockName → LockHistory} {l : LockName} (ok : SnapshotAgrees s hs) where
+module _ {s : Snapshot} {hs : LockName → LockHistory} {l : LockName}
+    (ok : SnapshotAgrees s hs) where
   pub here : moves_aside s.mode ≡ true → Twofold s (hs l) l
   here aside = (ok.locks l).lists.cna aside
 
@@ -60,7 +65,8 @@ module _ {s : Snapshot} {hs : LockName → LockHistory} {l : LockName} (ok : Sna
 module _ {s s' : Snapshot} {hs : LockName → LockHistory} {w : Waiter} {l : LockName}
     (ok : SnapshotAgrees s hs) (awake : halts s.mode ≡ false)
     (aside : moves_aside s.mode ≡ true) where
-  module _ {x : Fields} (step : Step s s' w l Holds Holds x false false) (stays : Stays s s' w) where
+  module _ {x : Fields} (step : Step s s' w l Holds Holds x false false)
+      (stays : Stays s s' w) where
     phase_same : s'.phase l ≡ s.phase l
     phase_same = (λ i u. one u i)
       where
@@ -83,7 +89,9 @@ module _ {s s' : Snapshot} {hs : LockName → LockHistory} {w : Waiter} {l : Loc
         record {
           holder = o.holder;
           holders = o.holders;
-          hold = rw (step.word, byte) (hold_keep o.hold step.acts step.holds refl (λ q. refl) (λ q. absurd (grind arith)));
+          hold =
+              rw (step.word, byte) (hold_keep o.hold step.acts step.holds refl (λ q. refl)
+              (λ q. absurd (grind arith)));
           pend = rw (step.word, byte, pending) (pend_still o.pend step.acts refl refl refl);
           posts = no_posts step awake;
           lists = cna_lists (ap moves_aside step.mode ∙ aside)
@@ -101,6 +109,43 @@ module _ {s s' : Snapshot} {hs : LockName → LockHistory} {w : Waiter} {l : Loc
       agrees_after step ok hs (nodes_stay step ok.nodes stays (λ p. refl)) others (λ k ne. refl)
       (chosen_lock step stays (hs l).main (hs l).second (hs l).passes refl refl lists)
 
+  -- what the rows C8 do, and what C9 and C10 do, in records
+  hands_over : {y : NodeName} {x : Node}
+      → Step s s' w l Holds Idle (s.word l) false true
+      → Rewrites s.node s'.node y x
+      → x ≡ record (s.node y) { flag = flag_for (s.kept w) }
+      → HandsOver (s.phase l) (s'.phase l) s.own s'.own s.node s'.node (s.stage l)
+      (s'.stage l) s.kept
+      (hs l).main w y x
+  hands_over step writes store =
+      record {
+        front = front ok step.acts.was;
+        moves = step.acts;
+        writes = writes;
+        store = store;
+        owns = step.owns;
+        stages = step.stages l;
+        rests = step.rests (λ q. grind arith);
+        apart = apart_on ok.nodes l;
+      }
+
+  lets_return : {y : NodeName} {x : Fields}
+      → Step s s' w l Holds Holds x false false
+      → s.kept w ≡ Some y
+      → s'.kept w ≡ None
+      → s'.stage l w ≡ Picks y
+      → LetsReturn (s.phase l) s.own (s.stage l) (s'.stage l) s.kept s'.kept (hs l).main w y
+  lets_return step named none now =
+      record {
+        front = front ok step.acts.was;
+        holds = step.acts.was;
+        names = named;
+        forgets = none;
+        stages = step.stages l;
+        picks = now;
+        apart = apart_on ok.nodes l;
+      }
+
   -- The lead goes to the waiter behind those that were passed over, which go aside.
   pub law_move : {a b y : NodeName} {k : ℕ} {x : Node} (to : Waiter)
       → Step s s' w l Holds Idle (s.word l) false true → LeavesSlowPath s s' w
@@ -112,19 +157,20 @@ module _ {s s' : Snapshot} {hs : LockName → LockHistory} {w : Waiter} {l : Loc
       let e : Event = record { by = w; what = Pass l to k } in
       let at = front ok step.acts.was in
       let h = here ok aside in
-      let lists = c8_move (s.word l).tail (s.phase l) (s'.phase l) s.own s'.own s.node s'.node
-      s.local s.threshold (s.stage l) (s'.stage l) s.kept s'.kept (hs l).main (hs l).second
-      (hs l).passes w y x
-      h at step.acts writes store step.owns (step.stages l) (step.rests (λ q. grind arith)) (apart_on ok.nodes l) a b k is in
+      let lists = c8_move h (hands_over step writes store) is s'.kept in
       agrees_after step ok (λ m. told m (hs m) e) (nodes_leave step ok.nodes goes refl)
       (away ok s' (owner_next h at step.acts.was is k y refl) writes) (told_others hs e refl)
       (told_lock (hs l) e refl (record {
         holder = o.holder;
         holders = o.holders;
-        hold = rw step.word (hold_keep o.hold step.acts step.holds refl (λ q. absurd (grind arith)) (λ q. absurd (grind arith)));
+        hold =
+            rw step.word (hold_keep o.hold step.acts step.holds refl (λ q. absurd (grind arith))
+            (λ q. absurd (grind arith)));
         pend = rw step.word (pend_still o.pend step.acts refl refl refl);
         posts = no_posts step awake;
-        lists = cna_lists (ap moves_aside step.mode ∙ aside) (rw (step.word, step.local, step.threshold) lists);
+        lists =
+            cna_lists (ap moves_aside step.mode ∙ aside)
+            (rw (step.word, step.local, step.threshold) lists);
       }))
 
   -- The lead goes to the waiter right behind the front.
@@ -138,19 +184,20 @@ module _ {s s' : Snapshot} {hs : LockName → LockHistory} {w : Waiter} {l : Loc
       let e : Event = record { by = w; what = Pass l to 0 } in
       let at = front ok step.acts.was in
       let h = here ok aside in
-      let lists = (c8_plain (s.word l).tail (s.phase l) (s'.phase l) s.own s'.own s.node s'.node
-      s.local s.threshold (s.stage l) (s'.stage l) s.kept s'.kept (hs l).main (hs l).second
-      (hs l).passes w y x
-      h at step.acts writes store step.owns (step.stages l) (step.rests (λ q. grind arith)) (apart_on ok.nodes l) is).2 in
+      let lists = (c8_plain h (hands_over step writes store) s'.kept is).2 in
       agrees_after step ok (λ m. told m (hs m) e) (nodes_leave step ok.nodes goes refl)
       (away ok s' (owner_next h at step.acts.was is 0 y refl) writes) (told_others hs e refl)
       (told_lock (hs l) e refl (record {
         holder = o.holder;
         holders = o.holders;
-        hold = rw step.word (hold_keep o.hold step.acts step.holds refl (λ q. absurd (grind arith)) (λ q. absurd (grind arith)));
+        hold =
+            rw step.word (hold_keep o.hold step.acts step.holds refl (λ q. absurd (grind arith))
+            (λ q. absurd (grind arith)));
         pend = rw step.word (pend_still o.pend step.acts refl refl refl);
         posts = no_posts step awake;
-        lists = cna_lists (ap moves_aside step.mode ∙ aside) (rw (step.word, step.local, step.threshold) lists);
+        lists =
+            cna_lists (ap moves_aside step.mode ∙ aside)
+            (rw (step.word, step.local, step.threshold) lists);
       }))
 
   -- The second queue returns before the rest.
@@ -162,10 +209,7 @@ module _ {s s' : Snapshot} {hs : LockName → LockHistory} {w : Waiter} {l : Loc
       let e : Event = record { by = w; what = Flush l } in
       let at = front ok step.acts.was in
       let h = here ok aside in
-      let lists = c9_flush (s.word l).tail (s.phase l) (s.phase l) s.own s.own s.node s'.node
-      s.local s.threshold (s.stage l) (s'.stage l) s.kept s'.kept (hs l).main (hs l).second
-      (hs l).passes w
-      h a t x at step.acts.was is (λ u. refl) (λ u. refl) y named none (step.stages l) now (apart_on ok.nodes l) writes store in
+      let lists = c9_flush h (lets_return step named none now) is writes store in
       agrees_after step ok (λ m. told m (hs m) e) (nodes_stay step ok.nodes stays (λ p. refl))
       (away ok s' (owner_tail h at step.acts.was is t refl) writes) (told_others hs e refl)
       (told_lock (hs l) e refl
@@ -184,10 +228,7 @@ module _ {s s' : Snapshot} {hs : LockName → LockHistory} {w : Waiter} {l : Loc
       let e : Event = record { by = w; what = Promote l } in
       let at = front ok step.acts.was in
       let h = here ok aside in
-      let lists = c10_promote (s.word l).tail (s.phase l) (s.phase l) s.own s.own s.node s.node
-      s.local s.threshold (s.stage l) (s'.stage l) s.kept s'.kept (hs l).main (hs l).second
-      (hs l).passes w
-      h t at step.acts.was is mine (λ u. refl) (λ u. refl) y named none (step.stages l) now (apart_on ok.nodes l) in
+      let lists = c10_promote h (lets_return step named none now) is mine in
       agrees_after step ok (λ m. told m (hs m) e) (nodes_stay step ok.nodes stays (λ p. refl))
       (λ k u ne p. nodes (s.own u)) (told_others hs e refl)
       (told_lock (hs l) e refl

@@ -9,7 +9,7 @@ use Rattle.lk_machine.specs.Machine.{rest_node}
 use Rattle.lk_law.specs.Phase.{Phase, queues}
 use Rattle.lk_law.specs.Snapshot.{QueueAgrees}
 use Rattle.lk_law.specs.Phase.Phase.{Prepared, Waits, Holds}
-use Rattle.lk_law.specs.Stage.{Stage, cut_of, tip_of, skipped, tied, hangs}
+use Rattle.lk_law.specs.Stage.{Stage, cut_of, tip_of, passed_over, tied, hangs}
 use Rattle.lk_law.specs.Cna.{CnaAgrees, FrontAgrees, SecondAgrees, part, shown, front_cut}
 use Rattle.lk_law.specs.Cna.{front_tip, named_by, first_node}
 use Rattle.lk_law.specs.Stage.Stage.{Picks}
@@ -20,49 +20,65 @@ use Rattle.lk_law.proofs.cna.Parts.{part_out, shown_at, shown_else, shown_flag}
 use Rattle.lk_law.proofs.queue.Lead.{follows_cases}
 
 -- the flags and links that the queue reads stay
-pub queue_same : (tail : Option NodeName) (phase : Waiter → Phase) (own : Waiter → NodeName)
-    (node node' : NodeName → Node) (main : List Waiter)
+pub queue_same : {tail : Option NodeName} {phase : Waiter → Phase} {own : Waiter → NodeName}
+    {node node' : NodeName → Node} {main : List Waiter}
     → QueueAgrees tail phase own node main
     → ((u : Waiter) → queues (phase u) ≡ true
     → ((node' (own u)).flag ≡ (node (own u)).flag)
     × ((node' (own u)).next ≡ (node (own u)).next))
     → ((u : Waiter) → phase u ≡ Prepared → node' (own u) ≡ rest_node)
     → QueueAgrees tail phase own node' main
-queue_same tail phase own node node' main ok same new =
+queue_same ok same new =
     record {
-      inside = ok.inside;
-      place = ok.place;
-      once = ok.once;
-      no_tail = ok.no_tail;
-      tail_is = ok.tail_is;
-      first = λ u h. let q = ok.first u h in let s = same u (ok.inside 0 u h) in rw s.0 q;
-      behind = λ i u h. let q = ok.behind i u h in let s = same u (ok.inside (suc i) u h) in (q.0, s.0 ∙ q.1);
-      linked = λ i u v h k p. (same u (ok.inside i u h)).1 ∙ ok.linked i u v h k p;
-      linking = λ i u v n h k p. let q = ok.linking i u v n h k p in (q.0, (same u (ok.inside i u h)).1 ∙ q.1);
-      last = λ i u h k. (same u (ok.inside i u h)).1 ∙ ok.last i u h k;
-      hand = ok.hand;
-      fresh = new;
+      members = record {
+        inside = ok.members.inside;
+        place = ok.members.place;
+        once = ok.members.once;
+      };
+      ends = record {
+        no_tail = ok.ends.no_tail;
+        tail_is = ok.ends.tail_is;
+        first = λ u h.
+            let q = ok.ends.first u h in let s = same u (ok.members.inside 0 u h) in rw s.0 q;
+        behind = λ i u h. let q = ok.ends.behind i u h in
+            let s = same u (ok.members.inside (suc i) u h) in (q.0, s.0 ∙ q.1);
+      };
+      links = record {
+        linked = λ i u v h k p. (same u (ok.members.inside i u h)).1 ∙ ok.links.linked i u v h k p;
+        linking = λ i u v n h k p. let q = ok.links.linking i u v n h k p in
+            (q.0, (same u (ok.members.inside i u h)).1 ∙ q.1);
+        last = λ i u h k. (same u (ok.members.inside i u h)).1 ∙ ok.links.last i u h k;
+        hand = ok.links.hand;
+        fresh = new;
+      };
     }
 
 -- whom a node of the queue names next
-pub next_at : (tail : Option NodeName) (phase : Waiter → Phase) (own : Waiter → NodeName)
-    (node : NodeName → Node) (main : List Waiter)
+pub next_at : {tail : Option NodeName} {phase : Waiter → Phase} {own : Waiter → NodeName}
+    {node : NodeName → Node} {main : List Waiter}
     → QueueAgrees tail phase own node main → (i : ℕ) (w : Waiter) (n : NodeName)
     → slice_get main i ≡ Some w → (node (own w)).next ≡ Some n
     → (v : Waiter) × (slice_get main (suc i) ≡ Some v) × (phase v ≡ Waits) × (own v ≡ n)
-next_at tail phase own node main ok i w n at next =
+next_at {phase = phase} {own = own} {main = main} ok i w n at next =
     elim (get_cases main (suc i)) [
-      | inl none ↦ absurd (let e = ok.last i w at none in cc (e, next))
-      | inr s ↦ elim (follows_cases (phase s.0) (ok.behind i s.0 s.1).0) [
-        | inl m ↦ absurd (let e = (ok.linking i w s.0 m.0 at s.1 m.1).1 in cc (e, next))
-        | inr e ↦ (s.0, s.1, e, (let l = ok.linked i w s.0 at s.1 e in let q : Some (own s.0) ≡ Some n = sym l ∙ next in cc q))
+      | inl none ↦ absurd (let e = ok.links.last i w at none in cc (e, next))
+      | inr s ↦ elim (follows_cases (phase s.0) (ok.ends.behind i s.0 s.1).0) [
+        | inl m ↦ absurd (let e = (ok.links.linking i w s.0 m.0 at s.1 m.1).1 in cc (e, next))
+        | inr e ↦ (
+          s.0,
+          s.1,
+          e,
+          (let l = ok.links.linked i w s.0 at s.1 e in
+              let q : Some (own s.0) ≡ Some n = sym l ∙ next in cc q),
+        )
       ]
     ]
 
 -- the one that leads goes to another place of its search; the lists stay
 module _ {tail : Option NodeName} {phase : Waiter → Phase} {own : Waiter → NodeName}
     {node node' : NodeName → Node} {local : Waiter → NodeName → Bool} {threshold : ℕ}
-    {stage stage' : Waiter → Stage} {kept kept' : Waiter → Option NodeName} {main second : List Waiter}
+    {stage stage' : Waiter → Stage} {kept kept' : Waiter
+    → Option NodeName} {main second : List Waiter}
     {passes : List ℕ} {w : Waiter}
     (ok : CnaAgrees tail phase own node local threshold stage kept main second passes)
     (at_w : slice_get main 0 ≡ Some w) (owner : phase w ≡ Holds)
@@ -74,8 +90,10 @@ module _ {tail : Option NodeName} {phase : Waiter → Phase} {own : Waiter → N
       → CnaAgrees tail phase own node' local threshold stage' kept' main second passes
   stage_turn queue second_ok lead =
       record {
-        queue = let e : front_cut own stage' (slice_get main 0) ≡ cut_of (own w) (stage' w) = rw at_w refl in rw e queue;
-        second_ok = let e : front_tip stage' (slice_get main 0) ≡ tip_of (stage' w) = rw at_w refl in rw e second_ok;
+        queue = let e : front_cut own stage' (slice_get main 0) ≡ cut_of (own w) (stage' w) =
+            rw at_w refl in rw e queue;
+        second_ok = let e : front_tip stage' (slice_get main 0) ≡ tip_of (stage' w) =
+            rw at_w refl in rw e second_ok;
         lead = λ u h.
             let same : w ≡ u = grind (arith, h, at_w) in
             let P : Waiter → Type 0 =
@@ -111,7 +129,8 @@ look-some own (z ∷ ws) n h e = cc e
 pub look-named : (own : Waiter → NodeName) (ws : List Waiter) (u : Waiter) (n : NodeName)
     → slice_get ws 0 ≡ Some u → first_node own ws ≡ Some n → own u ≡ n
 look-named own [] u n h g = cc h
-look-named own (z ∷ ws) u n h g = let e : z ≡ u = cc h in let f : own z ≡ n = cc g in ap own (sym e) ∙ f
+look-named own (z ∷ ws) u n h g =
+    let e : z ≡ u = cc h in let f : own z ≡ n = cc g in ap own (sym e) ∙ f
 
 -- what the one that leads knows of the queue and of those that it has passed over
 module _ {tail : Option NodeName} {phase : Waiter → Phase} {own : Waiter → NodeName}
@@ -126,12 +145,13 @@ module _ {tail : Option NodeName} {phase : Waiter → Phase} {own : Waiter → N
       → (node (own u)).next ≡ Some n
       → (v : Waiter) × (slice_get main (suc i) ≡ Some v) × (phase v ≡ Waits) × (own v ≡ n)
   look-next g e cut i u n at next =
-      let q : QueueAgrees tail (part second phase) own node main = rw cut at (front_queue ok at_w owner e) in
-      let r = next_at tail (part second phase) own node main q i u n at next in
+      let q : QueueAgrees tail (part second phase) own node main =
+      rw cut at (front_queue ok at_w owner e) in
+      let r = next_at q i u n at next in
       (r.0, r.1, sym (part_out second phase r.0 (rw r.2 refl)).0 ∙ r.2, r.3)
 
   -- the first and the last of those passed over
-  pub look-a : (a b : NodeName) (k : ℕ) (g : Stage) → stage w ≡ g → skipped g ≡ Some (a, b, k)
+  pub look-a : (a b : NodeName) (k : ℕ) (g : Stage) → stage w ≡ g → passed_over g ≡ Some (a, b, k)
       → (u : Waiter) × (slice_get main 1 ≡ Some u) × (phase u ≡ Waits) × (own u ≡ a)
   look-a a b k g is sk =
       let o = front_lead ok at_w owner is in
@@ -140,7 +160,7 @@ module _ {tail : Option NodeName} {phase : Waiter → Phase} {own : Waiter → N
       let f = o.far a b k 0 sk (omega arith) in
       (f.0, f.1, f.2, o.near a b k f.0 sk f.1)
 
-  pub look-b : (a b : NodeName) (k : ℕ) (g : Stage) → stage w ≡ g → skipped g ≡ Some (a, b, k)
+  pub look-b : (a b : NodeName) (k : ℕ) (g : Stage) → stage w ≡ g → passed_over g ≡ Some (a, b, k)
       → (u : Waiter) × (slice_get main k ≡ Some u) × (own u ≡ b) × (phase u ≡ Waits)
   look-b a b k g is sk =
       let o = front_lead ok at_w owner is in
@@ -153,7 +173,8 @@ module _ {tail : Option NodeName} {phase : Waiter → Phase} {own : Waiter → N
 -- it looks on: no word and no node changes
 module _ {tail : Option NodeName} {phase : Waiter → Phase} {own : Waiter → NodeName}
     {node : NodeName → Node} {local : Waiter → NodeName → Bool} {threshold : ℕ}
-    {stage stage' : Waiter → Stage} {kept kept' : Waiter → Option NodeName} {main second : List Waiter}
+    {stage stage' : Waiter → Stage} {kept kept' : Waiter
+    → Option NodeName} {main second : List Waiter}
     {passes : List ℕ} {w : Waiter}
     (ok : CnaAgrees tail phase own node local threshold stage kept main second passes)
     (at_w : slice_get main 0 ≡ Some w) (owner : phase w ≡ Holds)
@@ -168,7 +189,13 @@ module _ {tail : Option NodeName} {phase : Waiter → Phase} {own : Waiter → N
       (rw (e', cut) (front_queue ok at_w owner e))
       (elim tip [
         | inl t ↦ rw (e', t) (front_second ok at_w owner e)
-        | inr em ↦ rw em (record { waits = λ i u h. cc h; once = λ i j u h. cc h; linked = λ i u v h. cc h; last = λ i u h. cc h })
+        | inr em ↦
+            rw em (record {
+              waits = λ i u h. cc h;
+              once = λ i j u h. cc h;
+              linked = λ i u v h. cc h;
+              last = λ i u h. cc h;
+            })
       ])
       (rw e' lead)
 
@@ -181,15 +208,17 @@ module _ {tail : Option NodeName} {phase : Waiter → Phase} {own : Waiter → N
       → FrontAgrees phase own node local threshold main second passes w g (kept w)
       → CnaAgrees tail phase own node local threshold stage' kept' main second passes
   look-pick g n is now cut tip tie hang same v short o =
-      let q : QueueAgrees tail (part second phase) own node main = rw cut at (front_queue ok at_w owner is) in
+      let q : QueueAgrees tail (part second phase) own node main =
+      rw cut at (front_queue ok at_w owner is) in
       let c : SecondAgrees phase own node second None = rw tip at (front_second ok at_w owner is) in
       let there : (node (own w)).next ≡ Some n =
-      q.linked 0 w v.0 at_w v.1 ((part_out second phase v.0 (q.inside 1 v.0 v.1)).0 ∙ v.2)
+      q.links.linked 0 w v.0 at_w v.1
+      ((part_out second phase v.0 (q.members.inside 1 v.0 v.1)).0 ∙ v.2)
       ∙ ap (λ m. Some m) v.3 in
       stage_turn {node' = node} {kept' = kept'} ok at_w owner stages
-      (rw now (queue_same tail (part second phase) own node (shown (Some (own w, n)) node) main q
+      (rw now (queue_same q
       (λ u h. (shown_flag (Some (own w, n)) node (own u), next-same n there (own u)))
-      (λ u h. all-same n there (own u) ∙ q.fresh u h)))
+      (λ u h. all-same n there (own u) ∙ q.links.fresh u h)))
       (rw now c)
       (rw (now, same) (
       record {

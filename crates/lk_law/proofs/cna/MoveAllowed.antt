@@ -8,8 +8,10 @@ use Rattle.lk_law.specs.Stage.{Stage}
 use Rattle.lk_law.specs.Cna.{CnaAgrees}
 use Rattle.lk_law.proofs.common.Lists.{get_cases}
 
-module _ {tail : Option NodeName} {phase : Waiter → Phase} {own : Waiter → NodeName} {node : NodeName → Node}
-    {local : Waiter → NodeName → Bool} {threshold : ℕ} {stage : Waiter → Stage} {kept : Waiter → Option NodeName}
+module _ {tail : Option NodeName} {phase : Waiter → Phase} {own : Waiter
+    → NodeName} {node : NodeName → Node}
+    {local : Waiter → NodeName → Bool} {threshold : ℕ} {stage : Waiter → Stage} {kept : Waiter
+    → Option NodeName}
     {main second : List Waiter} {passes : List ℕ}
     (ok : CnaAgrees tail phase own node local threshold stage kept main second passes) where
   -- no waiter of the second queue saw more handovers than the threshold

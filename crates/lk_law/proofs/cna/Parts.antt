@@ -17,8 +17,10 @@ use Rattle.std.proofs.Common.{sym}
 pub is_in-get : (ws : List Waiter) (i : ℕ) (u : Waiter) → slice_get ws i ≡ Some u
     → is_in ws u ≡ true
 is_in-get [] i u h = cc
-is_in-get (w ∷ ws) zero u h = let e : w ≡ u = grind arith in let s = same_waiter-self u in rw e (grind (arith, s))
-is_in-get (w ∷ ws) (suc i) u h = let r = is_in-get ws i u h in grind (arith, r, cases_Bool (same_waiter w u))
+is_in-get (w ∷ ws) zero u h =
+    let e : w ≡ u = grind arith in let s = same_waiter-self u in rw e (grind (arith, s))
+is_in-get (w ∷ ws) (suc i) u h =
+    let r = is_in-get ws i u h in grind (arith, r, cases_Bool (same_waiter w u))
 
 pub is_in-at : (ws : List Waiter) (u : Waiter) → is_in ws u ≡ true
     → (i : ℕ) × (slice_get ws i ≡ Some u)
@@ -26,7 +28,8 @@ is_in-at [] u h = cc
 is_in-at (w ∷ ws) u h =
     elim (cases_Bool (same_waiter w u)) [
       | inl t ↦ (0, ap (λ v. Some v) (same_waiter-true w u t))
-      | inr f ↦ let r : is_in ws u ≡ true = grind (arith, f) in let p = is_in-at ws u r in (suc p.0, p.1)
+      | inr f ↦ let r : is_in ws u ≡ true = grind (arith, f) in let p = is_in-at ws u r in
+          (suc p.0, p.1)
     ]
 
 -- a waiter is in the second queue, or has its phase
@@ -59,7 +62,8 @@ not_in ws u f i h = let t = is_in-get ws i u h in grind arith
 
 pub outside_part : (second : List Waiter) (phase : Waiter → Phase) (u : Waiter)
     → ((i : ℕ) → slice_get second i ≡ Some u → ⊥) → part second phase u ≡ phase u
-outside_part second phase u h = elim (part_cases second phase u) [ inl p ↦ absurd (h p.0 p.1) | inr q ↦ q.0 ]
+outside_part second phase u h =
+    elim (part_cases second phase u) [ inl p ↦ absurd (h p.0 p.1) | inr q ↦ q.0 ]
 
 -- what is shown of a node
 pub shown_at : (b y : NodeName) (node : NodeName → Node) (n : NodeName) → n ≡ b
@@ -88,11 +92,12 @@ pub shown_same : (c : Option (NodeName × NodeName)) (node node' : NodeName → 
 shown_same None node node' n e = e
 shown_same (Some p) node node' n e =
     elim (node_cases n p.0) [
-      | inl q ↦ shown_at p.0 p.1 node' n q ∙ ap (λ (z : Node). record z { next = Some p.1 }) e ∙ sym (shown_at p.0 p.1 node n q)
+      | inl q ↦ shown_at p.0 p.1 node' n q ∙ ap (λ (z : Node). record z { next = Some p.1 }) e
+          ∙ sym (shown_at p.0 p.1 node n q)
       | inr ne ↦ shown_else p.0 p.1 node' n ne ∙ e ∙ sym (shown_else p.0 p.1 node n ne)
     ]
 
 -- a list without a first is empty
-pub first-none : (own : Waiter → NodeName) (ws : List Waiter) → first_node own ws ≡ None → ws ≡ []
-first-none own [] h = refl
-first-none own (z ∷ ws) h = cc h
+pub nobody-first : (own : Waiter → NodeName) (ws : List Waiter) → first_node own ws ≡ None → ws ≡ []
+nobody-first own [] h = refl
+nobody-first own (z ∷ ws) h = cc h

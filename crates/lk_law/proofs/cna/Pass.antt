@@ -1,13 +1,14 @@
-use Rattle.std.proofs.Common.{◌≡◌, ◌≢◌, ℕ, zero, suc, Option, Some, Bool, true, false, List, []}
+use Rattle.std.proofs.Common.{◌≡◌, ◌≢◌, ℕ, zero, suc, Option, Some, true, false, List, []}
+use Rattle.std.proofs.Common.{None}
 use Rattle.std.proofs.Common.{◌∷◌, ◌++◌, ◌⊎◌, inl, inr, arith, ap, refl, sym, ◌∙◌, subst, ◌<◌, ◌≤◌}
 use Rattle.std.proofs.Common.{◌+◌, slice_get, drop, take}
 use Rattle.lk_abs.specs.declared.names.Waiter.{Waiter}
 use Rattle.lk_word.specs.declared.spin_word.NodeName.{NodeName}
 use Rattle.lk_machine.specs.declared.parts.Node.{Node}
 use Rattle.lk_law.specs.Phase.{Phase, queues, leads, has_node}
-use Rattle.lk_law.specs.Snapshot.{Moves, Rewrites, QueueAgrees}
+use Rattle.lk_law.specs.Snapshot.{QueueAgrees}
 use Rattle.lk_machine.specs.Machine.{rest_node}
-use Rattle.lk_law.specs.Phase.Phase.{Prepared, Waits, Idle, Holds, Aside}
+use Rattle.lk_law.specs.Phase.Phase.{Prepared, Waits, Aside}
 use Rattle.lk_law.specs.Stage.{Stage}
 use Rattle.lk_law.specs.Cna.{is_in, part, shown}
 use Rattle.lk_law.proofs.common.Cases.{waiter_cases, node_cases}
@@ -15,57 +16,68 @@ use Rattle.lk_law.proofs.common.Lists.{get-drop_one}
 use Rattle.lk_law.proofs.cna.Joined.{get-take, get-take_in, get_below, get-join, get-join_left}
 use Rattle.lk_law.proofs.cna.Parts.{part_cases, part_in, part_out, not_in, is_in-get, outside_part}
 use Rattle.lk_law.proofs.cna.Parts.{shown_else, shown_flag}
-use Rattle.lk_law.proofs.queue.Move.{queue_move}
+use Rattle.lk_law.proofs.queue.Move.{queue_move, GoesAside}
+use Rattle.lk_law.proofs.cna.Steps.{HandsOver, IsHandedTo}
+use Rattle.lk_machine.specs.rows.Cna.{flag_for}
 
 pub get-skip : (k : ℕ) (main : List Waiter) (i : ℕ) (u : Waiter)
     → slice_get (take k (drop 1 main)) i ≡ Some u → (i < k) × (slice_get main (suc i) ≡ Some u)
-get-skip k main i u h = let r = get-take k (drop 1 main) i u h in (r.0, sym (get-drop_one main i) ∙ r.1)
+get-skip k main i u h =
+    let r = get-take k (drop 1 main) i u h in (r.0, sym (get-drop_one main i) ∙ r.1)
 
 pub skip-in : (k : ℕ) (main : List Waiter) (i : ℕ) (u : Waiter) → i < k
     → slice_get main (suc i) ≡ Some u → slice_get (take k (drop 1 main)) i ≡ Some u
 skip-in k main i u lt h = get-take_in k (drop 1 main) i lt ∙ get-drop_one main i ∙ h
 
+-- the flag that the front stores makes its waiter lead
+pub flag_leads : (named : Option NodeName) → leads Waits (flag_for named) ≡ true
+flag_leads None = refl
+flag_leads (Some n) = refl
+
 -- the head hands the lead on: k waiters go to second
-module _ (tail : Option NodeName) (phase phase' : Waiter → Phase) (own own' : Waiter → NodeName)
-    (node node' : NodeName → Node) (local : Waiter → NodeName → Bool) (threshold : ℕ)
-    (stage stage' : Waiter → Stage) (kept kept' : Waiter → Option NodeName)
-    (main second : List Waiter) (passes : List ℕ) (w v : Waiter) (k : ℕ) (y b : NodeName)
-    (x : Node)
+module _ {tail : Option NodeName} {phase phase' : Waiter → Phase} {own own' : Waiter → NodeName}
+    {node node' : NodeName → Node} {stage stage' : Waiter → Stage}
+    {kept : Waiter → Option NodeName} {main : List Waiter} {w v : Waiter} {k : ℕ}
+    {y b : NodeName} {x : Node} (second : List Waiter)
     (queue : QueueAgrees tail (part second phase) own (shown (Some (b, y)) node) main)
-    (at_w : slice_get main 0 ≡ Some w)
-    (at_b : (u : Waiter) → slice_get main k ≡ Some u → own u ≡ b)
-    (acts : Moves phase phase' w Holds Idle) (writes : Rewrites node node' y x)
-    (next : x.next ≡ (node y).next) (flag : leads Waits x.flag ≡ true)
-    (owns : (u : Waiter) → u ≢ w → own' u ≡ own u)
-    (apart : (u z : Waiter) → has_node (phase u) ≡ true → has_node (phase z) ≡ true → own u ≡ own z → u ≡ z)
-    (at_v : slice_get main (suc k) ≡ Some v) (waits : phase v ≡ Waits) (is_v : own v ≡ y) where
+    (step : HandsOver phase phase' own own' node node' stage stage' kept main w y x)
+    (to : IsHandedTo phase own main k v y)
+    (at_b : (u : Waiter) → slice_get main k ≡ Some u → own u ≡ b) where
+  -- what is stored for v keeps its link, and makes it lead
+  c8-next : x.next ≡ (node y).next
+  c8-next = ap (λ (n : Node). n.next) step.store
+
+  c8-leads : leads Waits x.flag ≡ true
+  c8-leads = rw step.store (flag_leads (kept w))
+
   -- a waiter of the main queue, and what it is there
   pub c8-main : (i : ℕ) (u : Waiter) → slice_get main i ≡ Some u
       → (part second phase u ≡ phase u) × (is_in second u ≡ false) × (queues (phase u) ≡ true)
       × (has_node (phase u) ≡ true)
-  c8-main i u h = let q = queue.inside i u h in let p = part_out second phase u q in
+  c8-main i u h = let q = queue.members.inside i u h in let p = part_out second phase u q in
       let z : queues (phase u) ≡ true = grind (arith, q, p.0) in (p.0, p.1, z, noded (phase u) z)
     where
       noded : (r : Phase) → queues r ≡ true → has_node r ≡ true
       noded r p = grind arith
 
   pub c8-not_w : (i : ℕ) (u : Waiter) → slice_get main (suc i) ≡ Some u → u ≢ w
-  c8-not_w i u h e = let at : slice_get main (suc i) ≡ Some w = h ∙ ap (λ z. Some z) e in grind (arith, queue.once (suc i) 0 w at at_w)
+  c8-not_w i u h e = let at : slice_get main (suc i) ≡ Some w = h ∙ ap (λ z. Some z) e in
+      grind (arith, queue.members.once (suc i) 0 w at step.front)
 
   -- the one that has b
   pub c8-b : (z : Waiter) × (slice_get main k ≡ Some z) × (own z ≡ b)
-  c8-b = let p = get_below main k (suc k) v at_v (omega arith) in (p.0, p.1, at_b p.0 p.1)
+  c8-b = let p = get_below main k (suc k) v to.place (omega arith) in (p.0, p.1, at_b p.0 p.1)
 
   pub c8-not_b : (u : Waiter) → has_node (phase u) ≡ true → u ≢ c8-b.0 → own u ≢ b
-  c8-not_b u h ne e = ne (apart u c8-b.0 h (c8-main k c8-b.0 c8-b.1).3 (e ∙ sym c8-b.2))
+  c8-not_b u h ne e = ne (step.apart u c8-b.0 h (c8-main k c8-b.0 c8-b.1).3 (e ∙ sym c8-b.2))
 
   c8-not_y : (u : Waiter) → has_node (phase u) ≡ true → u ≢ v → own u ≢ y
-  c8-not_y u h ne e = ne (apart u v h (c8-main (suc k) v at_v).3 (e ∙ sym is_v))
+  c8-not_y u h ne e = ne (step.apart u v h (c8-main (suc k) v to.place).3 (e ∙ sym to.owned))
 
   -- the node of another than v
   pub c8-same : (u : Waiter) → has_node (phase u) ≡ true → u ≢ w → u ≢ v
       → node' (own' u) ≡ node (own u)
-  c8-same u h ne nv = rw (owns u ne) (writes.others (own u) (c8-not_y u h nv))
+  c8-same u h ne nv = rw (step.owns u ne) (step.writes.others (own u) (c8-not_y u h nv))
 
   -- a moved one
   c8-moved : (j : ℕ) (u : Waiter) → j < k → slice_get main (suc j) ≡ Some u
@@ -90,11 +102,13 @@ module _ (tail : Option NodeName) (phase phase' : Waiter → Phase) (own own' : 
       let ne = c8-not_w (k + i) u h' in
       let m = c8-main (suc (k + i)) u h' in (
         ne,
-        outside_part (second ++ take k (drop 1 main)) phase' u (λ j g. elim (get-join second (take k (drop 1 main)) j u g) [
-          | inl a ↦ not_in second u m.1 j a
-          | inr p ↦ let s = get-skip k main p.0 u p.2 in
-              let o = queue.once (suc p.0) (suc (k + i)) u s.1 h' in let lt = s.0 in omega arith
-        ]),
+        outside_part (second ++ take k (drop 1 main)) phase' u
+            (λ j g. elim (get-join second (take k (drop 1 main)) j u g) [
+              | inl a ↦ not_in second u m.1 j a
+              | inr p ↦ let s = get-skip k main p.0 u p.2 in
+                  let o = queue.members.once (suc p.0) (suc (k + i)) u s.1 h' in let lt = s.0 in
+                  omega arith
+            ]),
       )
 
   c8-else : (u : Waiter) → u ≢ w
@@ -105,7 +119,7 @@ module _ (tail : Option NodeName) (phase phase' : Waiter → Phase) (own own' : 
       elim (part_cases (second ++ take k (drop 1 main)) phase' u) [
         | inl p ↦ inl p.2
         | inr q ↦ inr (
-          q.0 ∙ acts.others u ne,
+          q.0 ∙ step.moves.others u ne,
           outside_part second phase u
               (λ i h. not_in (second ++ take k (drop 1 main)) u q.1 i
               (get-join_left second (take k (drop 1 main)) i u h)),
@@ -115,12 +129,12 @@ module _ (tail : Option NodeName) (phase phase' : Waiter → Phase) (own own' : 
   c8-w : queues (part (second ++ take k (drop 1 main)) phase' w) ≡ false
   c8-w = elim (part_cases (second ++ take k (drop 1 main)) phase' w) [
     | inl p ↦ grind (arith, p.2)
-    | inr q ↦ grind (arith, q.0, acts.now)
+    | inr q ↦ grind (arith, q.0, step.moves.now)
   ]
 
   c8-gone : (i : ℕ) (u : Waiter) → i ≤ k → slice_get main i ≡ Some u
       → queues (part (second ++ take k (drop 1 main)) phase' u) ≡ false
-  c8-gone zero u le h = let e : u ≡ w = grind (arith, h, at_w) in rw e c8-w
+  c8-gone zero u le h = let e : u ≡ w = grind (arith, h, step.front) in rw e c8-w
   c8-gone (suc j) u le h = let m = c8-moved j u (omega arith) h in rw m refl
 
   c8-stays : (i : ℕ) (u : Waiter) → slice_get main (k + 1 + i) ≡ Some u
@@ -133,13 +147,13 @@ module _ (tail : Option NodeName) (phase phase' : Waiter → Phase) (own own' : 
       let m = c8-main (suc (k + i)) u h' in
       let nb : u ≢ c8-b.0 =
       (λ q. let at : slice_get main (suc (k + i)) ≡ Some c8-b.0 = h' ∙ ap (λ z. Some z) q in
-      let o = queue.once (suc (k + i)) k c8-b.0 at c8-b.1 in omega arith) in
+      let o = queue.members.once (suc (k + i)) k c8-b.0 at c8-b.1 in omega arith) in
       let s = shown_else b y node (own u) (c8-not_b u m.3 nb) in (
-        z.1 ∙ acts.others u z.0 ∙ sym m.0,
-        owns u z.0,
-        rw (owns u z.0, s) (elim (node_cases (own u) y) [
-          | inl q ↦ rw q (ap (λ (n : Node). n.next) writes.now ∙ next)
-          | inr n ↦ ap (λ (n : Node). n.next) (writes.others (own u) n)
+        z.1 ∙ step.moves.others u z.0 ∙ sym m.0,
+        step.owns u z.0,
+        rw (step.owns u z.0, s) (elim (node_cases (own u) y) [
+          | inl q ↦ rw q (ap (λ (n : Node). n.next) step.writes.now ∙ c8-next)
+          | inr n ↦ ap (λ (n : Node). n.next) (step.writes.others (own u) n)
         ]),
       )
 
@@ -152,7 +166,7 @@ module _ (tail : Option NodeName) (phase phase' : Waiter → Phase) (own own' : 
       let m = c8-main (suc (k + suc i)) u h' in
       let nv : u ≢ v =
       (λ q. let at : slice_get main (suc (k + suc i)) ≡ Some v = h' ∙ ap (λ z. Some z) q in
-      let o = queue.once (suc (k + suc i)) (suc k) v at at_v in omega arith) in
+      let o = queue.members.once (suc (k + suc i)) (suc k) v at to.place in omega arith) in
       ap (λ (n : Node). n.flag) (c8-same u m.3 ne nv) ∙ sym (shown_flag (Some (b, y)) node (own u))
 
   c8-others : (u : Waiter) → queues (part (second ++ take k (drop 1 main)) phase' u) ≡ true
@@ -164,7 +178,8 @@ module _ (tail : Option NodeName) (phase phase' : Waiter → Phase) (own own' : 
             subst (λ (z : Waiter). queues (part (second ++ take k (drop 1 main)) phase' z) ≡ true) e
             h in cc (z, c8-w))
         | inr ne ↦ elim (c8-else u ne) [
-          | inl a ↦ absurd (let z : queues Aside ≡ true = subst (λ (r : Phase). queues r ≡ true) a h in cc z)
+          | inl a ↦ absurd (let z : queues Aside ≡ true =
+              subst (λ (r : Phase). queues r ≡ true) a h in cc z)
           | inr p ↦ subst (λ (r : Phase). queues r ≡ true) (p.0 ∙ sym p.1) h
         ]
       ]
@@ -174,17 +189,29 @@ module _ (tail : Option NodeName) (phase phase' : Waiter → Phase) (own own' : 
   c8-new u h =
       elim (waiter_cases u w) [
         | inl e ↦ absurd (elim (part_cases (second ++ take k (drop 1 main)) phase' w) [
-          | inl p ↦ cc (p.2, subst (λ (z : Waiter). part (second ++ take k (drop 1 main)) phase' z ≡ Prepared) e h)
-          | inr q ↦ cc (q.0, acts.now, subst (λ (z : Waiter). part (second ++ take k (drop 1 main)) phase' z ≡ Prepared) e h)
+          | inl p ↦
+              cc (
+                p.2,
+                subst (λ (z : Waiter).
+                    part (second ++ take k (drop 1 main)) phase' z ≡ Prepared) e h,
+              )
+          | inr q ↦
+              cc (
+                q.0,
+                step.moves.now,
+                subst (λ (z : Waiter). part (second ++ take k (drop 1 main)) phase' z ≡ Prepared) e
+                    h,
+              )
         ])
         | inr ne ↦ elim (c8-else u ne) [
           | inl a ↦ absurd (cc (a, h))
           | inr p ↦
               let f : phase u ≡ Prepared = sym p.0 ∙ h in
               let n : has_node (phase u) ≡ true = rw f refl in
-              let old = queue.fresh u (p.1 ∙ f) in
-              let nb : u ≢ c8-b.0 = (λ e. let m = c8-main k c8-b.0 c8-b.1 in let g = ap phase e in grind (arith, m.2, f, g)) in
-              let nv : u ≢ v = (λ e. let g = ap phase e in cc (g, f, waits)) in
+              let old = queue.links.fresh u (p.1 ∙ f) in
+              let nb : u ≢ c8-b.0 = (λ e. let m = c8-main k c8-b.0 c8-b.1 in let g = ap phase e in
+              grind (arith, m.2, f, g)) in
+              let nv : u ≢ v = (λ e. let g = ap phase e in cc (g, f, to.waits)) in
               c8-same u n ne nv ∙ sym (shown_else b y node (own u) (c8-not_b u n nb)) ∙ old
         ]
       ]
@@ -193,9 +220,19 @@ module _ (tail : Option NodeName) (phase phase' : Waiter → Phase) (own own' : 
       (drop (suc k) main)
   c8_queue =
       let e : k + 1 ≡ suc k = omega arith in
-      let ne = c8-not_w k v at_v in
-      let m = c8-main (suc k) v at_v in
-      let f : node' (own v) ≡ x = rw is_v writes.now in
-      queue_move tail (part second phase) (part (second ++ take k (drop 1 main)) phase') own own'
-      (shown (Some (b, y)) node) node' main k v queue
-      (rw e at_v) (m.0 ∙ waits) (rw f flag) c8-gone c8-stays c8-flag c8-others c8-new
+      let ne = c8-not_w k v to.place in
+      let m = c8-main (suc k) v to.place in
+      let f : node' (own v) ≡ x = rw to.owned step.writes.now in
+      let aside : GoesAside (part second phase) (part (second ++ take k (drop 1 main)) phase') own
+      own' (shown (Some (b, y)) node) node' main k v =
+      record {
+        place = rw e to.place;
+        waits = m.0 ∙ to.waits;
+        told = rw f c8-leads;
+        gone = c8-gone;
+        stays = c8-stays;
+        flags = c8-flag;
+        others = c8-others;
+        fresh = c8-new;
+      } in
+      queue_move queue aside

@@ -47,7 +47,8 @@ use Rattle.lk_law.proofs.common.Worlds.{stage_on-here, post_on-off}
 use Rattle.lk_law.proofs.common.Turns.{Turn, same_turn}
 use Rattle.lk_law.proofs.common.Choices.{choosing}
 use Rattle.lk_law.proofs.common.TurnSteps.{turn_stage, turn_kept, turn_post}
-use Rattle.lk_law.proofs.common.Acting.{Acting, Stands, Kept, spin_row_keeps, fit_here, phase_here}
+use Rattle.lk_law.proofs.common.Acting.{Acting, StandsAwake, Kept, spin_row_keeps, fit_here}
+use Rattle.lk_law.proofs.common.Acting.{phase_here}
 use Rattle.lk_law.proofs.common.Acting.{phase_shown, own_here, slow_here, Going, gone_on}
 use Rattle.lk_law.proofs.common.Acting.{going_step, going_stays, goes_kept, awake_here}
 
@@ -74,7 +75,7 @@ is_choice _ h = cc
 chooses_off : (c : Pc) (f : Frame) → chooses c ≡ true → post_at c f ≡ Off
 chooses_off c f h = grind arith
 
-module _ {a : Acting} {c : Pc} (at : Stands a c) (on : chooses c ≡ true) where
+module _ {a : Acting} {c : Pc} (at : StandsAwake a c) (on : chooses c ≡ true) where
   pub aside_here : moves_aside a.world.mode ≡ true
   aside_here = (fit_here at).choice.choice c at.place on
 
@@ -134,7 +135,7 @@ After a n g =
     (s'.stage a.frame.lock) s'.kept h.main h.second h.passes
 
 -- a row that only looks
-module _ {a : Acting} {c : Pc} (at : Stands a c) (on : chooses c ≡ true) (g : Frame) (d : Pc)
+module _ {a : Acting} {c : Pc} (at : StandsAwake a c) (on : chooses c ≡ true) (g : Frame) (d : Pc)
     (place : g.place ≡ Some d) (goes : chooses d ≡ true) (lock : g.lock ≡ a.frame.lock)
     (me : g.me ≡ a.frame.me) (fits : ChoiceFits a.world.mode g) where
   abbrev s : Snapshot
@@ -181,7 +182,7 @@ module _ {a : Acting} {c : Pc} (at : Stands a c) (on : chooses c ≡ true) (g : 
 
 -- C1
 
-module _ {a : Acting} (at : Stands a C1) where
+module _ {a : Acting} (at : StandsAwake a C1) where
   abbrev before : Snapshot
   before = snapshot a.world
 
@@ -216,7 +217,8 @@ module _ {a : Acting} (at : Stands a C1) where
       choosing g C3 refl refl (aside_here at refl) (λ e. some) (λ e. refl) (λ e. cc) (λ e. cc)
       (λ e. cc) in
       choice_kept at refl g C3 refl refl refl refl fits
-      (c1_promote (lists_here at refl) (front_here at refl) (holds_shown at refl) (look_others at refl g C3 refl refl refl refl fits)
+      (c1_promote (lists_here at refl) (front_here at refl) (holds_shown at refl)
+      (look_others at refl g C3 refl refl refl refl fits)
       (stage_shown at refl) (look_now at refl g C3 refl refl refl refl fits)
       (look_kept at refl g C3 refl refl refl refl fits ∙ sym (kept_shown at refl)))
 
@@ -230,7 +232,8 @@ module _ {a : Acting} (at : Stands a C1) where
       choosing g C7 refl refl (aside_here at refl) (λ q. cc) (λ q. cc) (λ q. cc) (λ q. cc)
       (λ q. cc) in
       choice_kept at refl g C7 refl refl refl refl fits
-      (c1_pick (lists_here at refl) (front_here at refl) (holds_shown at refl) (look_others at refl g C7 refl refl refl refl fits)
+      (c1_pick (lists_here at refl) (front_here at refl) (holds_shown at refl)
+      (look_others at refl g C7 refl refl refl refl fits)
       n (stage_shown at refl) (look_now at refl g C7 refl refl refl refl fits)
       (look_kept at refl g C7 refl refl refl refl fits ∙ sym (kept_shown at refl))
       (next_shown (Some n) e)
@@ -246,7 +249,8 @@ module _ {a : Acting} (at : Stands a C1) where
       choosing g C2 refl refl (aside_here at refl) (λ q. cc) (λ q. cc) (λ q. refl) (λ q. refl)
       (λ q. cc) in
       choice_kept at refl g C2 refl refl refl refl fits
-      (c1_skip (lists_here at refl) (front_here at refl) (holds_shown at refl) (look_others at refl g C2 refl refl refl refl fits)
+      (c1_skip (lists_here at refl) (front_here at refl) (holds_shown at refl)
+      (look_others at refl g C2 refl refl refl refl fits)
       n (stage_shown at refl) (look_now at refl g C2 refl refl refl refl fits)
       (look_kept at refl g C2 refl refl refl refl fits ∙ sym (kept_shown at refl))
       (next_shown (Some n) e) far (short_shown may))
@@ -260,7 +264,8 @@ module _ {a : Acting} (at : Stands a C1) where
       choosing g C3 refl refl (aside_here at refl) (λ q. some) (λ q. refl) (λ q. refl) (λ q. cc)
       (λ q. cc) in
       choice_kept at refl g C3 refl refl refl refl fits
-      (c1_flush (lists_here at refl) (front_here at refl) (holds_shown at refl) (look_others at refl g C3 refl refl refl refl fits)
+      (c1_flush (lists_here at refl) (front_here at refl) (holds_shown at refl)
+      (look_others at refl g C3 refl refl refl refl fits)
       n (stage_shown at refl) (look_now at refl g C3 refl refl refl refl fits)
       (look_kept at refl g C3 refl refl refl refl fits ∙ sym (kept_shown at refl))
       (next_shown (Some n) e))
@@ -278,8 +283,10 @@ module _ {a : Acting} (at : Stands a C1) where
       let picks = learns_all C7 (K 0 ∷ Y (Some n) ∷ []) in
       let skips = learns_all C2 (K 1 ∷ A (Some n) ∷ B (Some n) ∷ []) in
       let flushes = learns_all C3 (K 0 ∷ A (Some n) ∷ Reason why.Flush ∷ []) in
-      if_cases NextKept (may_stay sight) (if sight.local n then picks else skips) (if is_some a.frame.second then flushes else picks)
-      (λ may. if_cases NextKept (sight.local n) picks skips (λ near. first_picks n e (inl may)) (λ far. first_skips n e may far))
+      if_cases NextKept (may_stay sight) (if sight.local n then picks else skips)
+      (if is_some a.frame.second then flushes else picks)
+      (λ may.
+      if_cases NextKept (sight.local n) picks skips (λ near. first_picks n e (inl may)) (λ far. first_skips n e may far))
       (λ long. if_cases NextKept (is_some a.frame.second) flushes picks
       (λ some. first_flushes n e some)
       (λ none. first_picks n e (inr (none_is a.frame.second none))))
@@ -289,7 +296,7 @@ choice_look_keeps = spin_row_keeps C1 refl (λ a at goes. first_kept at (a.world
 
 -- C2
 
-module _ {a : Acting} (at : Stands a C2) where
+module _ {a : Acting} (at : StandsAwake a C2) where
   abbrev from : Snapshot
   from = snapshot a.world
 
@@ -315,7 +322,8 @@ module _ {a : Acting} (at : Stands a C2) where
       (λ q. refl) (λ q. cc) in
       let more : a.frame.k + 1 ≡ suc a.frame.k = omega arith in
       choice_kept at refl g C2 refl refl refl refl fits
-      (c2_skip (lists_here at refl) (front_here at refl) (holds_shown at refl) (look_others at refl g C2 refl refl refl refl fits)
+      (c2_skip (lists_here at refl) (front_here at refl) (holds_shown at refl)
+      (look_others at refl g C2 refl refl refl refl fits)
       (node_of a.frame.a) past n a.frame.k (stage_shown at refl)
       (look_now at refl g C2 refl refl refl refl fits ∙ ap (Skips (node_of a.frame.a) n) more)
       (look_kept at refl g C2 refl refl refl refl fits ∙ sym (kept_shown at refl)) e far)
@@ -329,7 +337,8 @@ module _ {a : Acting} (at : Stands a C2) where
       choosing g C3 refl refl (aside_here at refl) (λ q. some) (λ q. cc) (λ q. knows_a)
       (λ q. knows_b) (λ q. cc) in
       choice_kept at refl g C3 refl refl refl refl fits
-      (c2_meet (lists_here at refl) (front_here at refl) (holds_shown at refl) (look_others at refl g C3 refl refl refl refl fits)
+      (c2_meet (lists_here at refl) (front_here at refl) (holds_shown at refl)
+      (look_others at refl g C3 refl refl refl refl fits)
       (node_of a.frame.a) past n a.frame.k (stage_shown at refl)
       (look_now at refl g C3 refl refl refl refl fits)
       (look_kept at refl g C3 refl refl refl refl fits ∙ sym (kept_shown at refl)) e near)
@@ -343,7 +352,8 @@ module _ {a : Acting} (at : Stands a C2) where
       choosing g C5 refl refl (aside_here at refl) (λ q. knows_a) (λ q. cc) (λ q. cc)
       (λ q. knows_b) (λ q. cc) in
       choice_kept at refl g C5 refl refl refl refl fits
-      (c2_first (lists_here at refl) (front_here at refl) (holds_shown at refl) (look_others at refl g C5 refl refl refl refl fits)
+      (c2_first (lists_here at refl) (front_here at refl) (holds_shown at refl)
+      (look_others at refl g C5 refl refl refl refl fits)
       (node_of a.frame.a) past n a.frame.k (stage_shown at refl)
       (look_now at refl g C5 refl refl refl refl fits) (kept_shown at refl ∙ none)
       (look_kept at refl g C5 refl refl refl refl fits ∙ some_is a.frame.a knows_a) e near)
@@ -356,7 +366,8 @@ module _ {a : Acting} (at : Stands a C2) where
       choosing g C3 refl refl (aside_here at refl) (λ q. some) (λ q. refl) (λ q. knows_a)
       (λ q. cc) (λ q. cc) in
       choice_kept at refl g C3 refl refl refl refl fits
-      (c2_flush (lists_here at refl) (front_here at refl) (holds_shown at refl) (look_others at refl g C3 refl refl refl refl fits)
+      (c2_flush (lists_here at refl) (front_here at refl) (holds_shown at refl)
+      (look_others at refl g C3 refl refl refl refl fits)
       (node_of a.frame.a) past a.frame.k (stage_shown at refl)
       (look_now at refl g C3 refl refl refl refl fits)
       (look_kept at refl g C3 refl refl refl refl fits ∙ sym (kept_shown at refl)))
@@ -369,7 +380,8 @@ module _ {a : Acting} (at : Stands a C2) where
       choosing g C7 refl refl (aside_here at refl) (λ q. cc) (λ q. cc) (λ q. cc) (λ q. cc)
       (λ q. cc) in
       choice_kept at refl g C7 refl refl refl refl fits
-      (c2_pick (lists_here at refl) (front_here at refl) (holds_shown at refl) (look_others at refl g C7 refl refl refl refl fits)
+      (c2_pick (lists_here at refl) (front_here at refl) (holds_shown at refl)
+      (look_others at refl g C7 refl refl refl refl fits)
       (node_of a.frame.a) past a.frame.k (stage_shown at refl)
       (look_now at refl g C7 refl refl refl refl fits) (kept_shown at refl ∙ none)
       (look_kept at refl g C7 refl refl refl refl fits ∙ none))
@@ -395,7 +407,7 @@ choice_pass_over_keeps = spin_row_keeps C2 refl (λ a at goes. on_kept at (a.wor
 
 -- C3
 
-module _ {a : Acting} (at : Stands a C3) where
+module _ {a : Acting} (at : StandsAwake a C3) where
   abbrev head : NodeName
   head = node_of a.frame.second
 
@@ -431,7 +443,8 @@ module _ {a : Acting} (at : Stands a C3) where
       (λ q. (fit_here at).choice.first C3 at.place (ap (knows_first C3) e))
       (λ q. (fit_here at).choice.last C3 at.place (ap (knows_last C3) e)) (λ q. cc) in
       choice_kept at refl g C4 refl refl refl refl fits
-      (c3_append (lists_here at refl) (front_here at refl) (holds_shown at refl) (look_others at refl g C4 refl refl refl refl fits)
+      (c3_append (lists_here at refl) (front_here at refl) (holds_shown at refl)
+      (look_others at refl g C4 refl refl refl refl fits)
       (node_of a.frame.a) (node_of a.frame.b) a.frame.k (node_of a.frame.y) (node_of met_tail) head
       is (look_now at refl g C4 refl refl refl refl fits)
       (look_kept at refl g C4 refl refl refl refl fits ∙ sym (kept_shown at refl)) head_kept (tail_is _ is refl refl))
@@ -445,7 +458,8 @@ module _ {a : Acting} (at : Stands a C3) where
       (λ q. (fit_here at).choice.nobody C3 at.place (ap (returns C3) e))
       (λ q. (fit_here at).choice.first C3 at.place (ap (knows_first C3) e)) (λ q. cc) (λ q. cc) in
       choice_kept at refl g C9 refl refl refl refl fits
-      (c3_flush (lists_here at refl) (front_here at refl) (holds_shown at refl) (look_others at refl g C9 refl refl refl refl fits)
+      (c3_flush (lists_here at refl) (front_here at refl) (holds_shown at refl)
+      (look_others at refl g C9 refl refl refl refl fits)
       (node_of a.frame.a) (node_of met_tail) head is (look_now at refl g C9 refl refl refl refl fits)
       (look_kept at refl g C9 refl refl refl refl fits ∙ sym (kept_shown at refl)) head_kept (tail_is _ is refl refl))
 
@@ -459,7 +473,8 @@ module _ {a : Acting} (at : Stands a C3) where
       (λ q. (fit_here at).choice.nobody C3 at.place (ap (returns C3) e))
       (λ q. cc) (λ q. cc) (λ q. ap is_some some) in
       choice_kept at refl g C10 refl refl refl refl fits
-      (c3_promote (lists_here at refl) (front_here at refl) (holds_shown at refl) (look_others at refl g C10 refl refl refl refl fits)
+      (c3_promote (lists_here at refl) (front_here at refl) (holds_shown at refl)
+      (look_others at refl g C10 refl refl refl refl fits)
       (node_of met_tail) head is (look_now at refl g C10 refl refl refl refl fits)
       (look_kept at refl g C10 refl refl refl refl fits ∙ sym (kept_shown at refl)) head_kept some)
 

@@ -16,7 +16,7 @@ use Rattle.lk_law.specs.Steps.{sight_in}
 use Rattle.lk_law.proofs.common.Puts.{if_cases}
 use Rattle.lk_law.proofs.rw.Else.{IsIn}
 use Rattle.lk_law.specs.SoundWorld.Part.{Taking}
-use Rattle.lk_law.proofs.common.RowsMade.{Good, Makes, good_if, onward}
+use Rattle.lk_law.proofs.common.RowsMade.{Good, RowMakes, good_if, onward}
 use Rattle.lk_machine.specs.declared.parts.Why.TheVariants as why
 use Rattle.lk_law.proofs.common.RowsMade.{word_made, flag_made, next_made, second_made, runs_made}
 
@@ -33,7 +33,8 @@ on_search l s second (Some n) =
     good_if l (may_stay s)
     (if s.local n then learns_all C7 (K 0 ∷ Y (Some n) ∷ []) else learns_all C2
     (K 1 ∷ A (Some n) ∷ B (Some n) ∷ []))
-    (if is_some second then learns_all C3 (K 0 ∷ A (Some n) ∷ Reason why.Flush ∷ []) else learns_all C7 (K 0 ∷ Y (Some n) ∷ []))
+    (if is_some second then learns_all C3 (K 0 ∷ A (Some n) ∷ Reason why.Flush ∷ [])
+    else learns_all C7 (K 0 ∷ Y (Some n) ∷ []))
     (good_if l (s.local n) (learns_all C7 (K 0 ∷ Y (Some n) ∷ []))
     (learns_all C2 (K 1 ∷ A (Some n) ∷ B (Some n) ∷ [])) (onward C7 refl refl, tt)
     (onward C2 refl refl, tt))
@@ -60,38 +61,52 @@ on_tail why.Flush = onward C9 refl refl
 on_tail why.Promotion = onward C10 refl refl
 
 on_promotion : (f : Frame) (x : Fields) → Good Taking f.lock (promotion_row C10 f x)
-on_promotion f x = if_cases (Good Taking f.lock) (is_last f x) _ _ (λ e. (onward C7 refl refl, refl)) (λ e. (onward C1 refl refl, tt))
+on_promotion f x =
+    if_cases (Good Taking f.lock) (is_last f x) _ _ (λ e. (onward C7 refl refl, refl))
+    (λ e. (onward C1 refl refl, tt))
 
-pub makes_C1 : Makes C1
+pub makes_C1 : RowMakes C1
 makes_C1 m w f =
     next_made (node_of f.me) (search_row (sight_in m w f) C1 f (m.node (node_of f.me)).next)
     (on_search f.lock (sight_in m w f) f.second (m.node (node_of f.me)).next)
 
-pub makes_C2 : Makes C2
+pub makes_C2 : RowMakes C2
 makes_C2 m w f =
     next_made (node_of f.b) (search_row (sight_in m w f) C2 f (m.node (node_of f.b)).next)
     (on_scan (sight_in m w f) f (m.node (node_of f.b)).next)
 
-pub makes_C3 : Makes C3
-makes_C3 m w f = second_made (node_of f.second) (second_row C3 f (m.node (node_of f.second)).second_tail) (on_tail f.why, tt)
+pub makes_C3 : RowMakes C3
+makes_C3 m w f =
+    second_made (node_of f.second) (second_row C3 f (m.node (node_of f.second)).second_tail)
+    (on_tail f.why, tt)
 
-pub makes_C4 : Makes C4
-makes_C4 m w f = next_made (node_of f.t) (search_row (sight_in m w f) C4 f (m.node (node_of f.t)).next) (onward C5 refl refl, tt)
+pub makes_C4 : RowMakes C4
+makes_C4 m w f =
+    next_made (node_of f.t) (search_row (sight_in m w f) C4 f (m.node (node_of f.t)).next)
+    (onward C5 refl refl, tt)
 
-pub makes_C5 : Makes C5
-makes_C5 m w f = next_made (node_of f.b) (search_row (sight_in m w f) C5 f (m.node (node_of f.b)).next) (onward C6 refl refl, tt)
+pub makes_C5 : RowMakes C5
+makes_C5 m w f =
+    next_made (node_of f.b) (search_row (sight_in m w f) C5 f (m.node (node_of f.b)).next)
+    (onward C6 refl refl, tt)
 
-pub makes_C6 : Makes C6
-makes_C6 m w f = second_made (node_of f.second) (second_row C6 f (m.node (node_of f.second)).second_tail) (onward C7 refl refl, tt)
+pub makes_C6 : RowMakes C6
+makes_C6 m w f =
+    second_made (node_of f.second) (second_row C6 f (m.node (node_of f.second)).second_tail)
+    (onward C7 refl refl, tt)
 
-pub makes_C7 : Makes C7
-makes_C7 m w f = runs_made (node_of f.y) (runs_row (sight_in m w f) C7 f (m.node (node_of f.y)).runs) (onward C8 refl refl, tt)
+pub makes_C7 : RowMakes C7
+makes_C7 m w f =
+    runs_made (node_of f.y) (runs_row (sight_in m w f) C7 f (m.node (node_of f.y)).runs)
+    (onward C8 refl refl, tt)
 
-pub makes_C8 : Makes C8
+pub makes_C8 : RowMakes C8
 makes_C8 m w f = flag_made (node_of f.y) (handover_row C8 f (m.node (node_of f.y)).flag) (tt, tt)
 
-pub makes_C9 : Makes C9
-makes_C9 m w f = next_made (node_of f.t) (search_row (sight_in m w f) C9 f (m.node (node_of f.t)).next) (onward C7 refl refl, refl)
+pub makes_C9 : RowMakes C9
+makes_C9 m w f =
+    next_made (node_of f.t) (search_row (sight_in m w f) C9 f (m.node (node_of f.t)).next)
+    (onward C7 refl refl, refl)
 
-pub makes_C10 : Makes C10
+pub makes_C10 : RowMakes C10
 makes_C10 m w f = word_made (promotion_row C10 f (m.word f.lock)) (on_promotion f (m.word f.lock))

@@ -13,12 +13,13 @@ use Rattle.lk_law.specs.Cna.{CnaAgrees}
 use Rattle.lk_law.specs.Stage.Stage.{Rests, Skips, Meets, Ties, Picks, Flushes, Promotes}
 use Rattle.lk_law.proofs.cna.Front.{front_lead}
 use Rattle.lk_law.proofs.cna.Look.{skip-k, pick-k, look-next, look-a, look-b, look-turn}
-use Rattle.lk_law.proofs.cna.Parts.{first-none}
+use Rattle.lk_law.proofs.cna.Parts.{nobody-first}
 use Rattle.lk_law.proofs.cna.Look.{look-pick}
 
 module _ {tail : Option NodeName} {phase : Waiter → Phase} {own : Waiter → NodeName}
     {node : NodeName → Node} {local : Waiter → NodeName → Bool} {threshold : ℕ}
-    {stage stage' : Waiter → Stage} {kept kept' : Waiter → Option NodeName} {main second : List Waiter}
+    {stage stage' : Waiter → Stage} {kept kept' : Waiter
+    → Option NodeName} {main second : List Waiter}
     {passes : List ℕ} {w : Waiter}
     (ok : CnaAgrees tail phase own node local threshold stage kept main second passes)
     (at_w : slice_get main 0 ≡ Some w) (owner : phase w ≡ Holds)
@@ -46,7 +47,8 @@ module _ {tail : Option NodeName} {phase : Waiter → Phase} {own : Waiter → N
         some = λ c d j p. let k = skip-k n n 1 c d j p in (0, sym k.2);
         far = λ c d j i p lt. let k = skip-k n n 1 c d j p in
             let z : i ≡ 0 = (let e = k.2 in omega arith) in (v.0, rw z v.1, v.2, rw v.3 far);
-        near = λ c d j u p h. let k = skip-k n n 1 c d j p in let e : v.0 ≡ u = cc (v.1, h) in ap own (sym e) ∙ v.3 ∙ k.0;
+        near = λ c d j u p h. let k = skip-k n n 1 c d j p in let e : v.0 ≡ u = cc (v.1, h) in
+            ap own (sym e) ∙ v.3 ∙ k.0;
         close = λ c d j u p h. let k = skip-k n n 1 c d j p in
             let h1 : slice_get main 1 ≡ Some u =
             subst (λ (z : ℕ). slice_get main z ≡ Some u) (sym k.2) h in
@@ -68,7 +70,8 @@ module _ {tail : Option NodeName} {phase : Waiter → Phase} {own : Waiter → N
       let o = front_lead ok at_w owner is in
       let z = look-b ok at_w owner a b k (Skips a b k) is refl in
       let v = look-next ok at_w owner (Skips a b k) is refl k z.0 n z.1 (rw z.2 next) in
-      look-turn ok at_w owner stages (Skips a b k) (Skips a n (suc k)) is now refl (inl refl) (rw same (
+      look-turn ok at_w owner stages (Skips a b k) (Skips a n (suc k)) is now refl (inl refl)
+      (rw same (
       record {
         names = o.names;
         names_moved = λ c d j p q r. cc p;
@@ -144,7 +147,7 @@ module _ {tail : Option NodeName} {phase : Waiter → Phase} {own : Waiter → N
       let o = front_lead ok at_w owner is in
       let z = look-b ok at_w owner a b k (Skips a b k) is refl in
       let v = look-next ok at_w owner (Skips a b k) is refl k z.0 n z.1 (rw z.2 next) in
-      let em : second ≡ [] = first-none own second (sym (o.names (inl refl)) ∙ none) in
+      let em : second ≡ [] = nobody-first own second (sym (o.names (inl refl)) ∙ none) in
       look-turn ok at_w owner stages (Skips a b k) (Ties a b k n) is now refl (inr em) (rw named (
       record {
         names = λ p. absurd (elim p [ inl q ↦ cc q | inr q ↦ q em ]);
@@ -212,7 +215,8 @@ module _ {tail : Option NodeName} {phase : Waiter → Phase} {own : Waiter → N
   c2_pick a b k is now none none' =
       let o = front_lead ok at_w owner is in
       let v = look-a ok at_w owner a b k (Skips a b k) is refl in
-      look-pick ok at_w owner stages (Skips a b k) a is now refl refl refl refl (none' ∙ sym none) v (λ n e. absurd (cc (e, none'))) o
+      look-pick ok at_w owner stages (Skips a b k) a is now refl refl refl refl (none' ∙ sym none) v
+      (λ n e. absurd (cc (e, none'))) o
 
   -- C1 meets a local waiter, or has no second at the threshold
   pub c1_pick : (n : NodeName) → stage w ≡ Rests → stage' w ≡ Picks n → kept' w ≡ kept w

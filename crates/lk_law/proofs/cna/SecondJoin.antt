@@ -9,36 +9,59 @@ use Rattle.lk_law.specs.Phase.Phase.{Waits}
 use Rattle.lk_law.specs.Cna.{SecondAgrees}
 use Rattle.lk_law.proofs.cna.Joined.{get-join, get-join_two, get-join_last}
 
--- the waiters that were passed over are appended to the second queue
-module _ (phase phase' : Waiter → Phase) (own own' : Waiter → NodeName)
-    (node node' : NodeName → Node) (second part : List Waiter) (z : Waiter)
+-- The waiters of part, which begins with z, come to stand behind the second queue.
+pub record IsAppended (phase phase' : Waiter → Phase) (own own' : Waiter → NodeName)
+    (node node' : NodeName → Node) (second part : List Waiter) (z : Waiter) : Type 0 where
+  pub first : slice_get part 0 ≡ Some z
+  pub old : (i : ℕ) (u : Waiter)
+      → slice_get second i ≡ Some u
+      → (phase' u ≡ phase u) × (own' u ≡ own u) × (node' (own' u) ≡ node (own u))
+  pub waits : (i : ℕ) (u : Waiter)
+      → slice_get part i ≡ Some u
+      → (phase' u ≡ Waits) × ((node' (own' u)).flag ≡ Unset)
+  pub once : (i j : ℕ) (u : Waiter)
+      → slice_get part i ≡ Some u
+      → slice_get part j ≡ Some u
+      → i ≡ j
+  pub links : (i : ℕ) (u v : Waiter)
+      → slice_get part i ≡ Some u
+      → slice_get part (suc i) ≡ Some v
+      → (node' (own' u)).next ≡ Some (own' v)
+  pub ends : (i : ℕ) (u : Waiter)
+      → slice_get part i ≡ Some u
+      → slice_get part (suc i) ≡ None
+      → (node' (own' u)).next ≡ None
+  pub apart : (i j : ℕ) (u : Waiter)
+      → slice_get second i ≡ Some u
+      → slice_get part j ≡ Some u
+      → ⊥
+
+module _ {phase phase' : Waiter → Phase} {own own' : Waiter → NodeName}
+    {node node' : NodeName → Node} {second part : List Waiter} {z : Waiter}
     (ok : SecondAgrees phase own node second (Some (own' z)))
-    (at_z : slice_get part 0 ≡ Some z)
-    (old : (i : ℕ) (u : Waiter) → slice_get second i ≡ Some u
-    → (phase' u ≡ phase u) × (own' u ≡ own u) × (node' (own' u) ≡ node (own u)))
-    (waits : (i : ℕ) (u : Waiter) → slice_get part i ≡ Some u → (phase' u ≡ Waits) × ((node' (own' u)).flag ≡ Unset))
-    (onces : (i j : ℕ) (u : Waiter) → slice_get part i ≡ Some u → slice_get part j ≡ Some u → i ≡ j)
-    (links : (i : ℕ) (u v : Waiter) → slice_get part i ≡ Some u → slice_get part (suc i) ≡ Some v
-    → (node' (own' u)).next ≡ Some (own' v))
-    (ends : (i : ℕ) (u : Waiter) → slice_get part i ≡ Some u → slice_get part (suc i) ≡ None → (node' (own' u)).next ≡ None)
-    (apart : (i j : ℕ) (u : Waiter) → slice_get second i ≡ Some u → slice_get part j ≡ Some u → ⊥) where
+    (step : IsAppended phase phase' own own' node node' second part z) where
   join-waits : (i : ℕ) (u : Waiter) → slice_get (second ++ part) i ≡ Some u
       → (phase' u ≡ Waits) × ((node' (own' u)).flag ≡ Unset)
   join-waits i u h =
       elim (get-join second part i u h) [
-        | inl e ↦ let o = old i u e in let q = ok.waits i u e in (o.0 ∙ q.0, ap (λ (n : Node). n.flag) o.2 ∙ q.1)
-        | inr p ↦ waits p.0 u p.2
+        | inl e ↦ let o = step.old i u e in let q = ok.waits i u e in
+            (o.0 ∙ q.0, ap (λ (n : Node). n.flag) o.2 ∙ q.1)
+        | inr p ↦ step.waits p.0 u p.2
       ]
 
   join-once : (i j : ℕ) (u : Waiter) → slice_get (second ++ part) i ≡ Some u
       → slice_get (second ++ part) j ≡ Some u → i ≡ j
   join-once i j u h k =
       elim (get-join second part i u h) [
-        | inl e ↦ elim (get-join second part j u k) [ inl f ↦ ok.once i j u e f | inr q ↦ absurd (apart i q.0 u e q.2) ]
+        | inl e ↦ elim (get-join second part j u k) [
+          | inl f ↦ ok.once i j u e f
+          | inr q ↦ absurd (step.apart i q.0 u e q.2)
+        ]
         | inr p ↦ elim
             (get-join second part j u k) [
-              | inl f ↦ absurd (apart j p.0 u f p.2)
-              | inr q ↦ let g = onces p.0 q.0 u p.2 q.2 in let a = p.1 in let b = q.1 in omega arith
+              | inl f ↦ absurd (step.apart j p.0 u f p.2)
+              | inr q ↦ let g = step.once p.0 q.0 u p.2 q.2 in let a = p.1 in let b = q.1 in
+                  omega arith
             ]
       ]
 
@@ -46,12 +69,12 @@ module _ (phase phase' : Waiter → Phase) (own own' : Waiter → NodeName)
       → slice_get (second ++ part) (suc i) ≡ Some v → (node' (own' u)).next ≡ Some (own' v)
   join-linked i u v h k =
       elim (get-join_two second part i u v h k) [
-        | inl a ↦ let o = old i u a.0 in let r = old (suc i) v a.1 in
+        | inl a ↦ let o = step.old i u a.0 in let r = step.old (suc i) v a.1 in
             ap (λ (n : Node). n.next) o.2 ∙ ok.linked i u v a.0 a.1 ∙ ap (λ n. Some n) (sym r.1)
         | inr b ↦ elim b [
-          | inl c ↦ let o = old i u c.0 in let same : z ≡ v = grind (arith, at_z, c.2) in
+          | inl c ↦ let o = step.old i u c.0 in let same : z ≡ v = grind (arith, step.first, c.2) in
               ap (λ (n : Node). n.next) o.2 ∙ ok.last i u c.0 c.1 ∙ ap (λ x. Some (own' x)) same
-          | inr d ↦ links d.0 u v d.2 d.3
+          | inr d ↦ step.links d.0 u v d.2 d.3
         ]
       ]
 
@@ -59,9 +82,10 @@ module _ (phase phase' : Waiter → Phase) (own own' : Waiter → NodeName)
       → slice_get (second ++ part) (suc i) ≡ None → (node' (own' u)).next ≡ None
   join-last i u h k =
       elim (get-join_last second part i u h k) [
-        | inl a ↦ absurd (grind (arith, at_z, a.2))
-        | inr d ↦ ends d.0 u d.2 d.3
+        | inl a ↦ absurd (grind (arith, step.first, a.2))
+        | inr d ↦ step.ends d.0 u d.2 d.3
       ]
 
   pub second_join : SecondAgrees phase' own' node' (second ++ part) None
-  second_join = record { waits = join-waits; once = join-once; linked = join-linked; last = join-last }
+  second_join =
+      record { waits = join-waits; once = join-once; linked = join-linked; last = join-last }

@@ -7,11 +7,11 @@ use Rattle.lk_machine.specs.declared.parts.Node.{Node}
 use Rattle.lk_law.specs.Phase.{Phase, queues, has_node}
 use Rattle.lk_law.specs.Snapshot.{Rewrites, QueueAgrees}
 use Rattle.lk_law.specs.Phase.Phase.{Prepared, Waits, Holds}
-use Rattle.lk_law.specs.Stage.{Stage, cut_of, tip_of, skipped, chosen, tied}
+use Rattle.lk_law.specs.Stage.{Stage, cut_of, tip_of, passed_over, chosen, tied}
 use Rattle.lk_law.specs.Cna.{CnaAgrees, FrontAgrees, SecondAgrees, is_in, part, shown, same_none}
 use Rattle.lk_law.specs.Cna.{first_node}
 use Rattle.lk_law.specs.Stage.Stage.{Counts, Picked, Tips, Ties, Cuts, Hangs, Picks}
-use Rattle.lk_law.proofs.common.Cases.{node_cases}
+use Rattle.lk_law.proofs.common.Cases.{node_cases, Apart}
 use Rattle.lk_law.proofs.common.Lists.{last_cases}
 use Rattle.lk_law.proofs.cna.Parts.{part_cases, part_out, not_in, shown_at, shown_else, shown_flag}
 use Rattle.lk_law.proofs.cna.Parts.{shown_same}
@@ -23,7 +23,8 @@ shown_next : (c : Option (NodeName × NodeName)) (node node' : NodeName → Node
 shown_next None node node' n e = e
 shown_next (Some p) node node' n e =
     elim (node_cases n p.0) [
-      | inl q ↦ ap (λ (x : Node). x.next) (shown_at p.0 p.1 node' n q) ∙ sym (ap (λ (x : Node). x.next) (shown_at p.0 p.1 node n q))
+      | inl q ↦ ap (λ (x : Node). x.next) (shown_at p.0 p.1 node' n q)
+          ∙ sym (ap (λ (x : Node). x.next) (shown_at p.0 p.1 node n q))
       | inr ne ↦ ap (λ (x : Node). x.next) (shown_else p.0 p.1 node' n ne) ∙ e
           ∙ sym (ap (λ (x : Node). x.next) (shown_else p.0 p.1 node n ne))
     ]
@@ -42,7 +43,7 @@ module _ {tail : Option NodeName} {phase : Waiter → Phase} {own : Waiter → N
     (at_w : slice_get main 0 ≡ Some w) (owner : phase w ≡ Holds)
     (stages : (u : Waiter) → u ≢ w → stage' u ≡ stage u) (same : kept' w ≡ kept w)
     (writes : Rewrites node node' m x)
-    (apart : (u z : Waiter) → has_node (phase u) ≡ true → has_node (phase z) ≡ true → own u ≡ own z → u ≡ z) where
+    (apart : Apart phase own) where
   put-lead : (g : Stage) → stage w ≡ g
       → FrontAgrees phase own node local threshold main second passes w g (kept w)
   put-lead g e = front_lead ok at_w owner e
@@ -56,13 +57,16 @@ module _ {tail : Option NodeName} {phase : Waiter → Phase} {own : Waiter → N
 
   put-field : {A : Type 0} (F : Node → A) → F x ≡ F (node m) → (n : NodeName)
       → F (node' n) ≡ F (node n)
-  put-field F e n = elim (node_cases n m) [ inl q ↦ rw q (ap F writes.now ∙ e) | inr ne ↦ ap F (writes.others n ne) ]
+  put-field F e n = elim (node_cases n m) [
+    | inl q ↦ rw q (ap F writes.now ∙ e)
+    | inr ne ↦ ap F (writes.others n ne)
+  ]
 
   -- a waiter of the main queue
   put-main : (g : Stage) → stage w ≡ g → (i : ℕ) (u : Waiter) → slice_get main i ≡ Some u
       → (part second phase u ≡ phase u) × (is_in second u ≡ false) × (has_node (phase u) ≡ true)
   put-main g is i u h =
-      let q = (put-queue g is).inside i u h in let p = part_out second phase u q in
+      let q = (put-queue g is).members.inside i u h in let p = part_out second phase u q in
       (p.0, p.1, noded (phase u) (ap queues (sym p.0) ∙ q))
     where
       noded : (r : Phase) → queues r ≡ true → has_node r ≡ true
@@ -70,7 +74,8 @@ module _ {tail : Option NodeName} {phase : Waiter → Phase} {own : Waiter → N
 
   put-queued : (u : Waiter) → queues (part second phase u) ≡ true
       → (has_node (phase u) ≡ true) × (is_in second u ≡ false)
-  put-queued u h = let p = part_out second phase u h in (noded (phase u) (ap queues (sym p.0) ∙ h), p.1)
+  put-queued u h =
+      let p = part_out second phase u h in (noded (phase u) (ap queues (sym p.0) ∙ h), p.1)
     where
       noded : (r : Phase) → queues r ≡ true → has_node r ≡ true
       noded r p = grind arith
@@ -82,7 +87,8 @@ module _ {tail : Option NodeName} {phase : Waiter → Phase} {own : Waiter → N
       elim (part_cases second phase u) [
         | inl p ↦ absurd (cc (p.2, h))
         | inr q ↦ let r : phase u ≡ Prepared = sym q.0 ∙ h in
-            writes.others (own u) (λ f. let s : u ≡ z = apart u z (rw r refl) (rw wz refl) (f ∙ sym e) in cc (ap phase s, r, wz))
+            writes.others (own u) (λ f. let s : u ≡ z =
+            apart u z (rw r refl) (rw wz refl) (f ∙ sym e) in cc (ap phase s, r, wz))
       ]
 
   -- a store that the queues do not read
@@ -97,14 +103,14 @@ module _ {tail : Option NodeName} {phase : Waiter → Phase} {own : Waiter → N
       let so = put-second g is in
       stage_turn {node' = node'} {kept' = kept'} ok at_w owner stages
       (rw (now, cut)
-      (queue_same tail (part second phase) own (shown (cut_of (own w) g) node)
-      (shown (cut_of (own w) g) node') main (put-queue g is)
+      (queue_same (put-queue g is)
       (λ u h. (
         shown_flag (cut_of (own w) g) node' (own u) ∙ fl (own u)
             ∙ sym (shown_flag (cut_of (own w) g) node (own u)),
         shown_next (cut_of (own w) g) node node' (own u) (nx (own u)),
       ))
-      (λ u h. shown_same (cut_of (own w) g) node node' (own u) (put-fresh z wz e u h) ∙ (put-queue g is).fresh u h)))
+      (λ u h. shown_same (cut_of (own w) g) node node' (own u) (put-fresh z wz e u h)
+      ∙ (put-queue g is).links.fresh u h)))
       (rw (now, tip) (record {
         waits = λ i u h. let q = so.waits i u h in (q.0, fl (own u) ∙ q.1);
         once = so.once;
@@ -114,7 +120,7 @@ module _ {tail : Option NodeName} {phase : Waiter → Phase} {own : Waiter → N
       (rw now lead)
 
   -- whom second is named by
-  put-named : (a b : NodeName) (k : ℕ) (g : Stage) → stage w ≡ g → skipped g ≡ Some (a, b, k)
+  put-named : (a b : NodeName) (k : ℕ) (g : Stage) → stage w ≡ g → passed_over g ≡ Some (a, b, k)
       → tied g ≡ true → (n : NodeName) → kept w ≡ Some n
       → (z : Waiter) × (phase z ≡ Waits) × (own z ≡ n)
   put-named a b k g is sk tie n e =
@@ -136,7 +142,8 @@ module _ {tail : Option NodeName} {phase : Waiter → Phase} {own : Waiter → N
   put-chosen k y g is ch = (put-lead g is).next k y ch
 
   put-not_w : (z : Waiter) → phase z ≡ Waits → own z ≢ own w
-  put-not_w z h e = let s : z ≡ w = apart z w (rw h refl) (rw owner refl) e in cc (ap phase s, h, owner)
+  put-not_w z h e =
+      let s : z ≡ w = apart z w (rw h refl) (rw owner refl) e in cc (ap phase s, h, owner)
 
   -- C6: b becomes the last of second
   pub c6_hang : (a b : NodeName) (k : ℕ) (y : NodeName) → stage w ≡ Cuts a b k y
@@ -186,7 +193,8 @@ module _ {tail : Option NodeName} {phase : Waiter → Phase} {own : Waiter → N
       let o = put-lead (Hangs a b k y) is in
       let z = put-chosen k y (Hangs a b k y) is refl in
       let other : own w ≢ m = (λ e. put-not_w z.0 z.2 (z.3 ∙ at ∙ sym e)) in
-      let runs : (node' (own w)).runs ≡ (node (own w)).runs = ap (λ (n : Node). n.runs) (writes.others (own w) other) in
+      let runs : (node' (own w)).runs ≡ (node (own w)).runs =
+      ap (λ (n : Node). n.runs) (writes.others (own w) other) in
       let nx = put-field (λ (n : Node). n.next) (ap (λ (n : Node). n.next) store) in
       let tl = put-field (λ (n : Node). n.second_tail) (ap (λ (n : Node). n.second_tail) store) in
       put-soft (Hangs a b k y) (Counts a b k y) is now refl refl (ap (λ (n : Node). n.flag) store)
@@ -226,7 +234,8 @@ module _ {tail : Option NodeName} {phase : Waiter → Phase} {own : Waiter → N
       let o = put-lead (Picks y) is in
       let z = put-chosen 0 y (Picks y) is refl in
       let other : own w ≢ m = (λ e. put-not_w z.0 z.2 (z.3 ∙ at ∙ sym e)) in
-      let runs : (node' (own w)).runs ≡ (node (own w)).runs = ap (λ (n : Node). n.runs) (writes.others (own w) other) in
+      let runs : (node' (own w)).runs ≡ (node (own w)).runs =
+      ap (λ (n : Node). n.runs) (writes.others (own w) other) in
       let nx = put-field (λ (n : Node). n.next) (ap (λ (n : Node). n.next) store) in
       let tl = put-field (λ (n : Node). n.second_tail) (ap (λ (n : Node). n.second_tail) store) in
       put-soft (Picks y) (Picked y) is now refl refl (ap (λ (n : Node). n.flag) store)
@@ -278,16 +287,17 @@ module _ {tail : Option NodeName} {phase : Waiter → Phase} {own : Waiter → N
       (λ e. let s : u ≡ z.1 = apart u z.1 p.0 (rw wz refl) (e ∙ sym z.4) in
       not_in second u p.1 z.0 (z.2 ∙ ap (λ v. Some v) (sym s))) in
       stage_turn {node' = node'} {kept' = kept'} ok at_w owner stages
-      (rw now (queue_same tail (part second phase) own node node' main qu
+      (rw now (queue_same qu
       (λ u h. (ap (λ (n : Node). n.flag) (keep u h), ap (λ (n : Node). n.next) (keep u h)))
-      (λ u h. put-fresh z.1 wz z.4 u h ∙ qu.fresh u h)))
+      (λ u h. put-fresh z.1 wz z.4 u h ∙ qu.links.fresh u h)))
       (rw now (record {
         waits = λ i u h. let q = so.waits i u h in (q.0, fl (own u) ∙ q.1);
         once = so.once;
         linked = λ i u v h g. let ne : own u ≢ m = (λ e.
             let s : u ≡ z.1 = apart u z.1 (rw (so.waits i u h).0 refl) (rw wz refl) (e ∙ sym z.4) in
             let j = so.once i z.0 z.1 (h ∙ ap (λ v. Some v) s) z.2 in
-            let g' : slice_get second (suc z.0) ≡ Some v = subst (λ (n : ℕ). slice_get second (suc n) ≡ Some v) j g in cc (g', z.3)) in
+            let g' : slice_get second (suc z.0) ≡ Some v =
+            subst (λ (n : ℕ). slice_get second (suc n) ≡ Some v) j g in cc (g', z.3)) in
             ap (λ (n : Node). n.next) (writes.others (own u) ne) ∙ so.linked i u v h g;
         last = λ i u h g. let e = o.tail_met m i u refl h g in
             ap (λ n. (node' n).next) (sym e) ∙ ap (λ (n : Node). n.next) (writes.now ∙ store);
@@ -344,7 +354,7 @@ module _ {tail : Option NodeName} {phase : Waiter → Phase} {own : Waiter → N
       let fb : own f.0 ≡ m = o.close a b k f.0 refl at_b ∙ at in
       let v = put-chosen k y (Ties a b k y) is refl in
       let link : (node m).next ≡ Some y = ap (λ n. (node n).next) (sym fb)
-      ∙ qu.linked k f.0 v.0 at_b v.1 ((put-main (Ties a b k y) is (suc k) v.0 v.1).0 ∙ v.2)
+      ∙ qu.links.linked k f.0 v.0 at_b v.1 ((put-main (Ties a b k y) is (suc k) v.0 v.1).0 ∙ v.2)
       ∙ ap (λ n. Some n) v.3 in
       let runs = put-field (λ (n : Node). n.runs) (ap (λ (n : Node). n.runs) store) in
       let tl = put-field (λ (n : Node). n.second_tail) (ap (λ (n : Node). n.second_tail) store) in
@@ -356,14 +366,17 @@ module _ {tail : Option NodeName} {phase : Waiter → Phase} {own : Waiter → N
         | inr ne ↦ shown_else b y node' n ne ∙ writes.others n (λ e. ne (e ∙ sym at))
       ] in
       let side : (i : ℕ) (u : Waiter) → slice_get second i ≡ Some u → node' (own u) ≡ node (own u) =
-      λ i u h. writes.others (own u) (λ e. let t : u ≡ f.0 = apart u f.0 (rw (so.waits i u h).0 refl) (rw f.2 refl) (e ∙ sym fb) in
+      λ i u h.
+      writes.others (own u) (λ e.
+      let t : u ≡ f.0 = apart u f.0 (rw (so.waits i u h).0 refl) (rw f.2 refl) (e ∙ sym fb) in
       not_in second f.0 (put-main (Ties a b k y) is k f.0 at_b).1 i (h ∙ ap (λ v. Some v) t)) in
       stage_turn {node' = node'} {kept' = kept'} ok at_w owner stages
-      (rw now (queue_same tail (part second phase) own node (shown (Some (b, y)) node') main qu
+      (rw now (queue_same qu
       (λ u h. (ap (λ (n : Node). n.flag) (all (own u)), ap (λ (n : Node). n.next) (all (own u))))
-      (λ u h. all (own u) ∙ qu.fresh u h)))
+      (λ u h. all (own u) ∙ qu.links.fresh u h)))
       (rw now (record {
-        waits = λ i u h. let q = so.waits i u h in (q.0, ap (λ (n : Node). n.flag) (side i u h) ∙ q.1);
+        waits = λ i u h.
+            let q = so.waits i u h in (q.0, ap (λ (n : Node). n.flag) (side i u h) ∙ q.1);
         once = so.once;
         linked = λ i u t h g. ap (λ (n : Node). n.next) (side i u h) ∙ so.linked i u t h g;
         last = λ i u h g. ap (λ (n : Node). n.next) (side i u h) ∙ so.last i u h g;
@@ -385,7 +398,8 @@ module _ {tail : Option NodeName} {phase : Waiter → Phase} {own : Waiter → N
         far = o.far;
         near = o.near;
         close = o.close;
-        cut = λ c p. let e : b ≡ c = cc p in ap (λ n. (node' n).next) (sym e ∙ at) ∙ ap (λ (n : Node). n.next) (writes.now ∙ store);
+        cut = λ c p. let e : b ≡ c = cc p in
+            ap (λ n. (node' n).next) (sym e ∙ at) ∙ ap (λ (n : Node). n.next) (writes.now ∙ store);
         next = o.next;
         kin = o.kin;
         before = o.before;

@@ -12,7 +12,7 @@ use Rattle.lk_machine.specs.declared.parts.Pc.TheVariants.{C4, C5, C6, C7, C8}
 use Rattle.lk_machine.specs.Moves.{node_of}
 use Rattle.lk_machine.specs.Row.{Nothing}
 use Rattle.lk_law.specs.Phase.Phase.{Holds}
-use Rattle.lk_law.specs.Stage.{skipped}
+use Rattle.lk_law.specs.Stage.{passed_over}
 use Rattle.lk_law.specs.Stage.Stage.{Hangs, Counts, Picks, Picked}
 use Rattle.lk_law.specs.Snapshot.{Snapshot}
 use Rattle.lk_law.specs.Cna.{same_none}
@@ -31,14 +31,15 @@ use Rattle.lk_law.proofs.common.Users.{some_is}
 use Rattle.lk_law.proofs.common.Turns.{node_turn}
 use Rattle.lk_law.proofs.common.TurnSteps.{node_plain, turn_stage, turn_kept}
 use Rattle.lk_law.proofs.common.Choices.{choosing}
-use Rattle.lk_law.proofs.common.Acting.{Acting, Stands, Kept, spin_row_keeps, fit_here, own_here}
+use Rattle.lk_law.proofs.common.Acting.{Acting, StandsAwake, Kept, spin_row_keeps, fit_here}
+use Rattle.lk_law.proofs.common.Acting.{own_here}
 use Rattle.lk_law.proofs.common.Acting.{Going, gone_on, going_step, going_stays, goes_kept}
 use Rattle.lk_law.proofs.common.Acting.{awake_here}
 use Rattle.lk_law.proofs.cna.RowsKeep.{After, choice_going, aside_here, holds_shown, stage_shown}
 use Rattle.lk_law.proofs.cna.RowsKeep.{kept_shown, lists_here, front_here}
 
 -- the front stores y into the node n, and goes on
-module _ {a : Acting} {c : Pc} (at : Stands a c) (on : chooses c ≡ true) (g : Frame) (d : Pc)
+module _ {a : Acting} {c : Pc} (at : StandsAwake a c) (on : chooses c ≡ true) (g : Frame) (d : Pc)
     (place : g.place ≡ Some d) (goes : chooses d ≡ true) (lock : g.lock ≡ a.frame.lock)
     (me : g.me ≡ a.frame.me) (fits : ChoiceFits a.world.mode g) (n : NodeName) (y : Node) where
   abbrev s : Snapshot
@@ -89,9 +90,12 @@ choice_append_keeps =
     (owner_tail (lists_here at refl) (front_here at refl) (holds_shown at refl) is t refl)
     (c4_tie {m = t} {x = y} _ (lists_here at refl) (front_here at refl) (holds_shown at refl)
     (store_others at refl g C5 refl refl refl refl fits t y)
-    (store_same at refl g C5 refl refl refl refl fits t y refl) (put_rewrites a.world.node t y) (apart_on at.sound.agrees.nodes f.lock)
-    (node_of f.a) (node_of f.b) f.k (node_of f.y) is (store_now at refl g C5 refl refl refl refl fits t y)
-    (ap (λ (o : Option NodeName). record (a.world.node t) { next = o }) (some_is f.a ((fit_here at).choice.first C4 at.place refl)))))
+    (store_same at refl g C5 refl refl refl refl fits t y refl) (put_rewrites a.world.node t y)
+    (apart_on at.sound.agrees.nodes f.lock)
+    (node_of f.a) (node_of f.b) f.k (node_of f.y) is
+    (store_now at refl g C5 refl refl refl refl fits t y)
+    (ap (λ (o : Option NodeName). record (a.world.node t) { next = o })
+    (some_is f.a ((fit_here at).choice.first C4 at.place refl)))))
 
 -- C5
 
@@ -112,8 +116,10 @@ choice_cut_keeps =
     b f.k refl)
     (c5_cut {m = b} {x = y} _ (lists_here at refl) (front_here at refl) (holds_shown at refl)
     (store_others at refl g C6 refl refl refl refl fits b y)
-    (store_same at refl g C6 refl refl refl refl fits b y refl) (put_rewrites a.world.node b y) (apart_on at.sound.agrees.nodes f.lock)
-    (node_of f.a) b f.k (node_of f.y) is (store_now at refl g C6 refl refl refl refl fits b y) refl refl))
+    (store_same at refl g C6 refl refl refl refl fits b y refl) (put_rewrites a.world.node b y)
+    (apart_on at.sound.agrees.nodes f.lock)
+    (node_of f.a) b f.k (node_of f.y) is
+    (store_now at refl g C6 refl refl refl refl fits b y) refl refl))
 
 -- C6
 
@@ -121,11 +127,13 @@ not_zero : (k i : ℕ) → k ≡ suc i → (k == 0) ≡ false
 not_zero k i e = grind (arith, e)
 
 -- where waiters were passed over their number is not zero
-some_passed : {a : Acting} {c : Pc} (at : Stands a c) (on : chooses c ≡ true)
+some_passed : {a : Acting} {c : Pc} (at : StandsAwake a c) (on : chooses c ≡ true)
     (first last : NodeName) (k : ℕ)
-    → skipped (stage_at c a.frame) ≡ Some (first, last, k) → (k == 0) ≡ false
+    → passed_over (stage_at c a.frame) ≡ Some (first, last, k) → (k == 0) ≡ false
 some_passed at on first last k e =
-    let i = (front_lead (lists_here at on) (front_here at on) (holds_shown at on) (stage_shown at on)).some first last k e in
+    let i =
+    (front_lead (lists_here at on) (front_here at on) (holds_shown at on) (stage_shown at on)).some
+    first last k e in
     not_zero k i.0 i.1
 
 pub choice_set_tail_keeps : SpinRowKeeps C6
@@ -147,7 +155,8 @@ choice_set_tail_keeps =
     (node_of f.a) (node_of f.b) f.k m refl refl named)
     (c6_hang {m = m} {x = y} _ (lists_here at refl) (front_here at refl) (holds_shown at refl)
     (store_others at refl g C7 refl refl refl refl fits m y)
-    (store_same at refl g C7 refl refl refl refl fits m y refl) (put_rewrites a.world.node m y) (apart_on at.sound.agrees.nodes f.lock)
+    (store_same at refl g C7 refl refl refl refl fits m y refl) (put_rewrites a.world.node m y)
+    (apart_on at.sound.agrees.nodes f.lock)
     (node_of f.a) (node_of f.b) f.k (node_of f.y) is
     (store_now at refl g C7 refl refl refl refl fits m y
     ∙ if-false (f.k == 0) (Picks (node_of f.y))
@@ -157,7 +166,7 @@ choice_set_tail_keeps =
 
 -- C7
 
-module _ {a : Acting} (at : Stands a C7) where
+module _ {a : Acting} (at : StandsAwake a C7) where
   abbrev next : NodeName
   next = node_of a.frame.y
 
@@ -171,7 +180,9 @@ module _ {a : Acting} (at : Stands a C7) where
   gone = record a.frame { place = Some C8 }
 
   fits_C8 : ChoiceFits a.world.mode gone
-  fits_C8 = choosing gone C8 refl refl (aside_here at refl) (λ q. cc) (λ q. cc) (λ q. cc) (λ q. cc) (λ q. cc)
+  fits_C8 =
+      choosing gone C8 refl refl (aside_here at refl) (λ q. cc) (λ q. cc) (λ q. cc) (λ q. cc)
+      (λ q. cc)
 
   count_as : (o : Option NodeName) (r : ℕ)
       → (if is_some o then r + 1 else 0) ≡ (if same_none o then 0 else (r + 1))
@@ -212,7 +223,8 @@ module _ {a : Acting} (at : Stands a C7) where
 
   counts_some : (a.frame.k == 0) ≡ false → RunsKept
   counts_some some =
-      let is : (snapshot a.world).stage a.frame.lock a.by ≡ Hangs (node_of a.frame.a) (node_of a.frame.b) a.frame.k next =
+      let is : (snapshot a.world).stage a.frame.lock a.by ≡ Hangs (node_of a.frame.a)
+      (node_of a.frame.b) a.frame.k next =
       stage_shown at refl
       ∙ if-false (a.frame.k == 0) (Picks next)
       (Hangs (node_of a.frame.a) (node_of a.frame.b) a.frame.k next) some in

@@ -16,7 +16,8 @@ use Rattle.lk_law.proofs.cna.Look.{look-some, look-named, look-turn}
 
 module _ {tail : Option NodeName} {phase : Waiter → Phase} {own : Waiter → NodeName}
     {node : NodeName → Node} {local : Waiter → NodeName → Bool} {threshold : ℕ}
-    {stage stage' : Waiter → Stage} {kept kept' : Waiter → Option NodeName} {main second : List Waiter}
+    {stage stage' : Waiter → Stage} {kept kept' : Waiter
+    → Option NodeName} {main second : List Waiter}
     {passes : List ℕ} {w : Waiter}
     (ok : CnaAgrees tail phase own node local threshold stage kept main second passes)
     (at_w : slice_get main 0 ≡ Some w) (owner : phase w ≡ Holds)
@@ -59,7 +60,8 @@ module _ {tail : Option NodeName} {phase : Waiter → Phase} {own : Waiter → N
   c3_append a b k y t n is now same named tail_is =
       let o = front_lead ok at_w owner is in
       let there : second ≢ [] = look-some own second n (sym (o.names (inl refl)) ∙ named) in
-      look-turn ok at_w owner stages (Meets a b k y) (Tips a b k y t) is now refl (inl refl) (rw same (
+      look-turn ok at_w owner stages (Meets a b k y) (Tips a b k y t) is now refl (inl refl)
+      (rw same (
       record {
         names = o.names;
         names_moved = λ c d j p q r. cc p;
@@ -69,8 +71,10 @@ module _ {tail : Option NodeName} {phase : Waiter → Phase} {own : Waiter → N
             let q : t ≡ z = cc p in
             let f = nonempty second there in
             let e = o.tail_at i f.0 u refl f.1 h g in
-            let m : own f.0 ≡ n = look-named own second f.0 n f.1 (sym (o.names (inl refl)) ∙ named) in
-            let r : Some t ≡ Some (own u) = sym tail_is ∙ ap (λ z. (node z).second_tail) (sym m) ∙ e in
+            let m : own f.0 ≡ n =
+            look-named own second f.0 n f.1 (sym (o.names (inl refl)) ∙ named) in
+            let r : Some t ≡ Some (own u) =
+            sym tail_is ∙ ap (λ z. (node z).second_tail) (sym m) ∙ e in
             let r' : t ≡ own u = cc r in sym q ∙ r';
         tail_some = λ z p. there;
         run = o.run;
@@ -108,8 +112,10 @@ module _ {tail : Option NodeName} {phase : Waiter → Phase} {own : Waiter → N
             let q : t ≡ z = cc p in
             let f = nonempty second there in
             let e = o.tail_at i f.0 u refl f.1 h g in
-            let m : own f.0 ≡ n = look-named own second f.0 n f.1 (sym (o.names (inl refl)) ∙ named) in
-            let r : Some t ≡ Some (own u) = sym tail_is ∙ ap (λ z. (node z).second_tail) (sym m) ∙ e in
+            let m : own f.0 ≡ n =
+            look-named own second f.0 n f.1 (sym (o.names (inl refl)) ∙ named) in
+            let r : Some t ≡ Some (own u) =
+            sym tail_is ∙ ap (λ z. (node z).second_tail) (sym m) ∙ e in
             let r' : t ≡ own u = cc r in sym q ∙ r';
         tail_some = λ z p. there;
         run = o.run;
@@ -147,8 +153,10 @@ module _ {tail : Option NodeName} {phase : Waiter → Phase} {own : Waiter → N
             let q : t ≡ z = cc p in
             let f = nonempty second there in
             let e = o.tail_at i f.0 u refl f.1 h g in
-            let m : own f.0 ≡ n = look-named own second f.0 n f.1 (sym (o.names (inl refl)) ∙ named) in
-            let r : Some t ≡ Some (own u) = sym tail_is ∙ ap (λ z. (node z).second_tail) (sym m) ∙ e in
+            let m : own f.0 ≡ n =
+            look-named own second f.0 n f.1 (sym (o.names (inl refl)) ∙ named) in
+            let r : Some t ≡ Some (own u) =
+            sym tail_is ∙ ap (λ z. (node z).second_tail) (sym m) ∙ e in
             let r' : t ≡ own u = cc r in sym q ∙ r';
         tail_some = λ z p. there;
         run = o.run;

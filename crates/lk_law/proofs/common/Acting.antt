@@ -42,7 +42,7 @@ use Rattle.lk_law.specs.Places.{post_of}
 use Rattle.lk_law.specs.Families.{stays_awake}
 use Rattle.lk_law.specs.Premises.{IsNewest, GoesTo, FollowsRules, IsThen}
 use Rattle.lk_law.specs.SpinLaws.{SpinRowKeeps}
-use Rattle.lk_law.specs.Allowed.{IsAllowedIfAny}
+use Rattle.lk_law.specs.Allowed.{MayFollowIfAny}
 use Rattle.lk_law.proofs.spin.Laws.{law_same, step_same}
 use Rattle.lk_law.proofs.common.Puts.{put_word-here, put_number-here, put_number-else}
 use Rattle.lk_law.proofs.common.Before.{before_lt}
@@ -54,7 +54,7 @@ use Rattle.lk_law.proofs.common.Choices.{fit_goes, fixed_choice}
 use Rattle.lk_law.proofs.common.TurnSteps.{turn_step, turn_stays, turn_leaves, turn_sound}
 use Rattle.lk_law.proofs.common.Choices.{fit_quiet}
 use Rattle.lk_law.proofs.common.Choices.{quiet_none, quiet_then}
-use Rattle.lk_law.specs.Pv.{sleeps}
+use Rattle.lk_law.specs.Pv.{at_halt}
 use Rattle.lk_law.specs.Pv.Post.{Off}
 
 -- who acts, and where: a world, what its locks' histories are, and the frame of a waiter; and to
@@ -78,14 +78,14 @@ pub record StandsIn (halting : Bool) (a : Acting) (c : Pc) : Type 0 where
   pub kind : halts a.world.mode ≡ halting
 
 -- the same, where no processor halts
-abbrev pub Stands : Acting → Pc → Type 0
-Stands a c = StandsIn false a c
+abbrev pub StandsAwake : Acting → Pc → Type 0
+StandsAwake a c = StandsIn false a c
 
 -- the world afterwards is sound, with the histories told on, and what is told is allowed
 abbrev pub Kept : Acting → World → Tell → Type 0
 Kept a after tell =
     IsSoundSpinWorld after (told_on a.histories (told_event a.by a.frame.lock a.to tell))
-    × IsAllowedIfAny a.rules a.histories (told_event a.by a.frame.lock a.to tell)
+    × MayFollowIfAny a.rules a.histories (told_event a.by a.frame.lock a.to tell)
 
 -- what a law of a row says of one frame
 abbrev pub RowKept : Acting → Pc → Type 0
@@ -93,17 +93,27 @@ RowKept a c = Kept a (row_in a.world a.by a.frame c).0 (row_in a.world a.by a.fr
 
 -- what a row's law says where processors halt, or where none does
 abbrev pub KeepsIn : Bool → Pc → Type 0
-KeepsIn halting c = (a : Acting) → StandsIn halting a c → GoesTo a.world a.to (row_in a.world a.by a.frame c).1 → RowKept a c
+KeepsIn halting c = (a : Acting) → StandsIn halting a c
+    → GoesTo a.world a.to (row_in a.world a.by a.frame c).1 → RowKept a c
 
 -- who proves it of every frame that stands at the row, whether processors halt or not, has the law
 pub row_keeps_both : (c : Pc) → KeepsIn false c → KeepsIn true c → SpinRowKeeps c
-row_keeps_both c awake halting m hs rules w to f sound follows newest live place after goes = go (halts m.mode) refl
+row_keeps_both c awake halting m hs rules w to f sound follows newest live place after goes =
+    go (halts m.mode) refl
   where
     a : Acting
     a = record { world = m; histories = hs; rules = rules; by = w; to = to; frame = f }
 
     stands : (b : Bool) → halts m.mode ≡ b → StandsIn b a c
-    stands b e = record { sound = sound; follows = follows; newest = newest; live = live; place = place; after = after; kind = e }
+    stands b e = record {
+      sound = sound;
+      follows = follows;
+      newest = newest;
+      live = live;
+      place = place;
+      after = after;
+      kind = e;
+    }
 
     go : (b : Bool) → halts m.mode ≡ b → RowKept a c
     go false e = awake a (stands false e) goes
@@ -128,11 +138,12 @@ row_keeps_halting c rests each =
     let off = at.kind in grind (arith, off, on))) each
 
 -- no processor halts here
-pub awake_here : {a : Acting} {c : Pc} → Stands a c → halts a.world.mode ≡ false
+pub awake_here : {a : Acting} {c : Pc} → StandsAwake a c → halts a.world.mode ≡ false
 awake_here at = at.kind
 
 -- a frame there does not sleep
-pub awake_post : {a : Acting} {c : Pc} {A : Type 0} → Stands a c → sleeps (post_of a.frame) ≡ true
+pub awake_post : {a : Acting} {c : Pc} {A : Type 0} → StandsAwake a c
+    → at_halt (post_of a.frame) ≡ true
     → A
 awake_post {a = a} at e =
     absurd (let on = sleeper_halts at.sound a.by a.frame at.live e in let off = at.kind in
@@ -144,7 +155,9 @@ module _ {b : Bool} {a : Acting} {c : Pc} (at : StandsIn b a c) where
 
   pub phase_here : phase_of a.frame
       ≡ phase_at c (is_some a.frame.me) (node_of a.frame.prev) (node_of a.frame.y)
-  phase_here = ap (λ (d : Option Pc). phase_if d (is_some a.frame.me) (node_of a.frame.prev) (node_of a.frame.y)) at.place
+  phase_here =
+      ap (λ (d : Option Pc).
+      phase_if d (is_some a.frame.me) (node_of a.frame.prev) (node_of a.frame.y)) at.place
 
   pub phase_shown : (snapshot a.world).phase a.frame.lock a.by ≡ phase_of a.frame
   phase_shown = ap (phase_on a.frame.lock) at.live ∙ phase_on-here a.frame.lock a.frame refl
@@ -164,7 +177,7 @@ module _ {b : Bool} {a : Acting} {c : Pc} (at : StandsIn b a c) where
   held_so p = (at.sound.agrees.locks a.frame.lock).hold.releases a.by (phase_shown ∙ p)
 
 -- At both rows the laws read the same of a frame, and it needs no register to stand at the second.
-pub record IsAlike (c d : Pc) : Type 0 where
+pub record ReadAlike (c d : Pc) : Type 0 where
   pub phase : (b : Bool) (prev y : NodeName) → phase_at d b prev y ≡ phase_at c b prev y
   pub slow : is_slow (Some d) ≡ is_slow (Some c)
   pub unlinked : d ≢ G5
@@ -190,7 +203,7 @@ fixed_stage C10 f h = cc
 fixed_stage _ f h = refl
 
 -- the frame only looks, and goes where all that the laws read is as before
-pub looks_kept : {a : Acting} {c : Pc} → Stands a c → (d : Pc) → IsAlike c d
+pub looks_kept : {a : Acting} {c : Pc} → StandsAwake a c → (d : Pc) → ReadAlike c d
     → Kept a (lead_on a.world a.by a.frame (Goes d [])) Nothing
 looks_kept {a = a} {c = c} at d alike =
     let m = a.world in
@@ -198,7 +211,8 @@ looks_kept {a = a} {c = c} at d alike =
     let g : Frame = record f { place = Some d } in
     let way = m.held a.by f.lock in
     let t : Turn m m a.by f g way = same_turn at.live refl in
-    let phase : phase_of g ≡ phase_of f = alike.phase (is_some f.me) (node_of f.prev) (node_of f.y) ∙ sym (phase_here at) in
+    let phase : phase_of g ≡ phase_of f =
+    alike.phase (is_some f.me) (node_of f.prev) (node_of f.y) ∙ sym (phase_here at) in
     let step : Step (snapshot m) (snapshot (turned m a.by g f.lock way)) a.by f.lock (phase_of f)
     (phase_of f) (m.word f.lock) (spins way) (spins way) =
     turn_step t (awake_here at) refl phase refl refl refl in
@@ -242,7 +256,8 @@ pub quiet_off : (g : Frame) → IsQuiet g.place → post_of g ≡ Off
 quiet_off g q = idle_off g (quiet_phase g q)
 
 pub placeless_phase : (g : Frame) → g.place ≡ None → phase_of g ≡ Idle
-placeless_phase g e = ap (λ (c : Option Pc). phase_if c (is_some g.me) (node_of g.prev) (node_of g.y)) e
+placeless_phase g e =
+    ap (λ (c : Option Pc). phase_if c (is_some g.me) (node_of g.prev) (node_of g.y)) e
 
 -- A row after which the operation goes on: n is the world after its store, g the frame, r and r'
 -- its phases, and x the lock's word.
@@ -266,7 +281,7 @@ abbrev pub gone_on : Acting → World → Frame → World
 gone_on a n g = turned n a.by g a.frame.lock (a.world.held a.by a.frame.lock)
 
 pub going_step : {a : Acting} {c : Pc} {n : World} {g : Frame} {r r' : Phase} {x : Fields}
-    → Stands a c → Going a n g r r' x
+    → StandsAwake a c → Going a n g r r' x
     → Step (snapshot a.world) (snapshot (gone_on a n g)) a.by a.frame.lock r r' x false false
 going_step {a = a} {n = n} {g = g} at on =
     let held = held_not at (ap seeks on.was ∙ on.on_way) in
@@ -278,10 +293,10 @@ going_stays {a = a} {n = n} {g = g} on = turn_stays on.turn on.me on.slow on.que
 
 -- where the laws say that all agrees, the world is sound
 pub goes_kept : {a : Acting} {c : Pc} {n : World} {g : Frame} {r r' : Phase} {x : Fields}
-    → Stands a c → Going a n g r r' x → (tell : Tell)
+    → StandsAwake a c → Going a n g r r' x → (tell : Tell)
     → SnapshotAgrees (snapshot (gone_on a n g))
     (told_on a.histories (told_event a.by a.frame.lock a.to tell))
-    → IsAllowedIfAny a.rules a.histories (told_event a.by a.frame.lock a.to tell)
+    → MayFollowIfAny a.rules a.histories (told_event a.by a.frame.lock a.to tell)
     → Kept a (gone_on a n g) tell
 goes_kept {a = a} {n = n} {g = g} at on tell agrees allowed =
     let fit = fit_goes a.frame g (fit_here at) on.me
@@ -291,7 +306,8 @@ goes_kept {a = a} {n = n} {g = g} at on tell agrees allowed =
 -- A row that ends the operation, or has taken its wait lock: n is the world after its store, g the
 -- frame, which does nothing for a spinlock and has no node, x the lock's word, and way how its
 -- waiter holds the lock.
-pub record Ending (a : Acting) (n : World) (g : Frame) (r : Phase) (x : Fields) (way : Option Manner) : Type 0 where
+pub record Ending (a : Acting) (n : World) (g : Frame) (r : Phase) (x : Fields)
+    (way : Option Manner) : Type 0 where
   pub turn : Turn a.world n a.by a.frame g way
   pub word : n.word a.frame.lock ≡ x
   pub plain : IsPlain n
@@ -300,14 +316,14 @@ pub record Ending (a : Acting) (n : World) (g : Frame) (r : Phase) (x : Fields) 
   pub me : g.me ≡ None
 
 -- the world after it
-abbrev pub ended : Acting → World → Frame → Option Manner → World
-ended a n g way = turned n a.by g a.frame.lock way
+abbrev pub world_ended : Acting → World → Frame → Option Manner → World
+world_ended a n g way = turned n a.by g a.frame.lock way
 
 pub ending_step : {a : Acting} {n : World} {g : Frame} {r : Phase} {x : Fields} {h h' : Bool}
     {way : Option Manner}
     → halts a.world.mode ≡ false → Ending a n g r x way → spins (a.world.held a.by a.frame.lock) ≡ h
     → spins way ≡ h'
-    → Step (snapshot a.world) (snapshot (ended a n g way)) a.by a.frame.lock r Idle x h h'
+    → Step (snapshot a.world) (snapshot (world_ended a n g way)) a.by a.frame.lock r Idle x h h'
 ending_step {a = a} {n = n} {g = g} {way = way} awake on had has =
     turn_step on.turn awake on.was (on.place.phase (is_some g.me) (node_of g.prev) (node_of g.y))
     on.word had has
@@ -315,19 +331,19 @@ ending_step {a = a} {n = n} {g = g} {way = way} awake on had has =
 -- a frame that was outside of the slow path
 pub ending_stays : {a : Acting} {c : Pc} {n : World} {g : Frame} {r : Phase} {x : Fields}
     {way : Option Manner}
-    → Stands a c → Ending a n g r x way → g.me ≡ a.frame.me → is_slow (Some c) ≡ false
+    → StandsAwake a c → Ending a n g r x way → g.me ≡ a.frame.me → is_slow (Some c) ≡ false
     → ((p : ℕ) → n.queued p ≡ a.world.queued p)
-    → Stays (snapshot a.world) (snapshot (ended a n g way)) a.by
+    → Stays (snapshot a.world) (snapshot (world_ended a n g way)) a.by
 ending_stays {a = a} {n = n} {g = g} {way = way} at on me fast queued =
     turn_stays on.turn me (on.place.fast ∙ sym (slow_here at ∙ fast)) queued
 
 pub ends_kept : {a : Acting} {c : Pc} {n : World} {g : Frame} {r : Phase} {x : Fields}
     {way : Option Manner}
-    → Stands a c → Ending a n g r x way → (tell : Tell)
-    → SnapshotAgrees (snapshot (ended a n g way))
+    → StandsAwake a c → Ending a n g r x way → (tell : Tell)
+    → SnapshotAgrees (snapshot (world_ended a n g way))
     (told_on a.histories (told_event a.by a.frame.lock a.to tell))
-    → IsAllowedIfAny a.rules a.histories (told_event a.by a.frame.lock a.to tell)
-    → Kept a (ended a n g way) tell
+    → MayFollowIfAny a.rules a.histories (told_event a.by a.frame.lock a.to tell)
+    → Kept a (world_ended a n g way) tell
 ends_kept {a = a} {n = n} {g = g} {way = way} at on tell agrees allowed =
     let fit = fit_quiet g on.place on.me in
     (turn_sound on.turn at.sound at.newest (awake_post at) on.plain fit agrees, allowed)
@@ -347,7 +363,8 @@ pub record LeadsTo (mode : Mode) (f : Frame) (c d : Pc) (r r' : Phase) : Type 0 
   pub unaware : is_unaware d ≡ true → (is_unaware c ≡ true) ⊎ (f.second ≡ None)
   pub plainly : hands_plainly d ≡ true → moves_aside mode ≡ false
 
-module _ {a : Acting} {c d : Pc} {r r' : Phase} (at : Stands a c) (leads : LeadsTo a.world.mode a.frame c d r r') where
+module _ {a : Acting} {c d : Pc} {r r' : Phase} (at : StandsAwake a c)
+    (leads : LeadsTo a.world.mode a.frame c d r r') where
   abbrev placed : Frame
   placed = record a.frame { place = Some d }
 
@@ -428,7 +445,8 @@ module _ {a : Acting} {c d : Pc} {r r' : Phase} (at : Stands a c) (leads : Leads
 -- the lock's word may be told otherwise
 pub going_word : {a : Acting} {n : World} {g : Frame} {r r' : Phase} {x y : Fields}
     → Going a n g r r' x → x ≡ y → Going a n g r r' y
-going_word {a = a} {n = n} {g = g} {r = r} {r' = r'} on e = subst (λ (z : Fields). Going a n g r r' z) e on
+going_word {a = a} {n = n} {g = g} {r = r} {r' = r'} on e =
+    subst (λ (z : Fields). Going a n g r r' z) e on
 
 -- who is in the slow path is counted
 pub some_queued : {b : Bool} {a : Acting} {c : Pc} → StandsIn b a c → is_slow (Some c) ≡ true
@@ -436,7 +454,8 @@ pub some_queued : {b : Bool} {a : Acting} {c : Pc} → StandsIn b a c → is_slo
 some_queued {a = a} at slow =
     let s = snapshot a.world in
     let counted = at.sound.agrees.nodes.counted a.by.cpu in
-    let rises = before_lt s.slow a.by.cpu a.by.ctx 6 (ap slow_in at.live ∙ slow_here at ∙ slow) at.newest.low in
+    let rises =
+    before_lt s.slow a.by.cpu a.by.ctx 6 (ap slow_in at.live ∙ slow_here at ∙ slow) at.newest.low in
     omega (arith, counted, rises)
 
 -- the world in which the waiter is counted off
@@ -446,12 +465,13 @@ counted_off a n = put_queued n a.by.cpu (a.world.queued a.by.cpu - 1)
 -- a frame that was in the slow path leaves it
 pub ending_leaves : {a : Acting} {c : Pc} {n : World} {g : Frame} {r : Phase} {x : Fields}
     {way : Option Manner}
-    → Stands a c → Ending a (counted_off a n) g r x way → is_slow (Some c) ≡ true
+    → StandsAwake a c → Ending a (counted_off a n) g r x way → is_slow (Some c) ≡ true
     → ((p : ℕ) → n.queued p ≡ a.world.queued p)
-    → LeavesSlowPath (snapshot a.world) (snapshot (ended a (counted_off a n) g way)) a.by
+    → LeavesSlowPath (snapshot a.world) (snapshot (world_ended a (counted_off a n) g way)) a.by
 ending_leaves {a = a} {n = n} {g = g} {way = way} at on slow queued =
     let p = a.by.cpu in
     let i = a.world.queued p - 1 in
     let one = some_queued at slow in
     turn_leaves on.turn at.newest (slow_here at ∙ slow) on.place.fast
-    (let here = put_number-here n.queued p i in omega (arith, here, one)) (λ q ne. put_number-else n.queued p q i ne ∙ queued q)
+    (let here = put_number-here n.queued p i in
+    omega (arith, here, one)) (λ q ne. put_number-else n.queued p q i ne ∙ queued q)

@@ -17,23 +17,25 @@ use Rattle.lk_law.specs.Phase.{has_node, queues, leads}
 use Rattle.lk_law.specs.Phase.Phase.{Releases, Claims, Prepared, Stakes, Hands}
 use Rattle.lk_law.specs.Snapshot.{Snapshot}
 use Rattle.lk_law.specs.Agree.{SnapshotAgrees, sole}
-use Rattle.lk_law.specs.Allowed.{IsAllowed, IsAllowedOn}
+use Rattle.lk_law.specs.Allowed.{MayFollow, MayFollowOn}
 use Rattle.lk_law.proofs.common.Before.{nodes_apart}
 use Rattle.lk_law.specs.Cna.{moves_aside}
 use Rattle.lk_law.proofs.common.Families.{lists_main, lists_second, lists_front}
 use Rattle.lk_law.proofs.common.Told.{sole_taken, sole_freed}
-use Rattle.lk_law.proofs.common.Holders.{outside_is, holds_is, holds_so, shared_sole}
+use Rattle.lk_law.proofs.common.Holders.{outside_is, holds_is, holds_alone, shared_sole}
 
 -- the event is on one lock, whose history allows it
 pub on_lock : (rules : Rules) (hs : LockName → LockHistory) (e : Event) (l : LockName)
-    → lock_of e.what ≡ Some l → IsAllowedOn rules (hs l) e → IsAllowed rules hs e
-on_lock rules hs e l p a m q = let P : LockName → Type 0 = λ k. IsAllowedOn rules (hs k) e in subst P (grind (arith, p, q)) a
+    → lock_of e.what ≡ Some l → MayFollowOn rules (hs l) e → MayFollow rules hs e
+on_lock rules hs e l p a m q =
+    let P : LockName → Type 0 = λ k. MayFollowOn rules (hs k) e in subst P (grind (arith, p, q)) a
 
 pub shared_by : {holders : List Holder} (holder : Option Waiter) → holders ≡ sole holder
     → IsShared holders
 shared_by holder e = subst IsShared (sym e) (shared_sole holder)
 
-module _ {s : Snapshot} {hs : LockName → LockHistory} (ok : SnapshotAgrees s hs) (w : Waiter) (l : LockName) where
+module _ {s : Snapshot} {hs : LockName → LockHistory} (ok : SnapshotAgrees s hs) (w : Waiter)
+    (l : LockName) where
   -- who is in no phase of the queue stands outside of it
   pub outside : queues (s.phase l w) ≡ false → IsOutside (hs l) w
   outside out = let o = ok.locks l in
@@ -44,13 +46,15 @@ module _ {s : Snapshot} {hs : LockName → LockHistory} (ok : SnapshotAgrees s h
   first_is lead = lists_front (ok.locks l).lists w lead
 
   unheld : (s.word l).locked ≡ Free → ¬ Holds (hs l) w
-  unheld free c = let o = ok.locks l in let n = o.hold.free free in let m = holds_is (hs l) w o.holder o.holders c in grind arith
+  unheld free c = let o = ok.locks l in let n = o.hold.free free in
+      let m = holds_is (hs l) w o.holder o.holders c in grind arith
 
-module _ (rules : Rules) {s : Snapshot} {hs : LockName → LockHistory} (ok : SnapshotAgrees s hs) (w : Waiter) (l : LockName) where
+module _ (rules : Rules) {s : Snapshot} {hs : LockName → LockHistory} (ok : SnapshotAgrees s hs)
+    (w : Waiter) (l : LockName) where
   -- a take of the free lock
   pub take_on : (how : How) → (s.word l).locked ≡ Free
       → (taken (hs l) w how).holders ≡ (with_holder (hs l) w Spins).holders
-      → TakesInOrder (hs l) w how → IsAllowed rules hs (record { by = w; what = Take l how })
+      → TakesInOrder (hs l) w how → MayFollow rules hs (record { by = w; what = Take l how })
   take_on how free plain order =
       let o = ok.locks l in
       on_lock rules hs (record { by = w; what = Take l how }) l refl
@@ -65,20 +69,27 @@ module _ (rules : Rules) {s : Snapshot} {hs : LockName → LockHistory} (ok : Sn
   pub allow_take : (how : How) → queues (s.phase l w) ≡ false → (s.word l).locked ≡ Free
       → taken (hs l) w how ≡ with_holder (hs l) w Spins
       → (IsOutside (hs l) w → TakesInOrder (hs l) w how)
-      → IsAllowed rules hs (record { by = w; what = Take l how })
-  allow_take how out free plain order = take_on how free (ap (λ (h : LockHistory). h.holders) plain) (order (outside ok w l out))
+      → MayFollow rules hs (record { by = w; what = Take l how })
+  allow_take how out free plain order =
+      take_on how free (ap (λ (h : LockHistory). h.holders) plain) (order (outside ok w l out))
 
   pub allow_claim : s.phase l w ≡ Claims
-      → IsAllowed rules hs (record { by = w; what = Take l Pending })
-  allow_claim was = allow_take Pending (grind (arith, was)) ((ok.locks l).pend.free w (grind (arith, was))) refl (λ p. p)
+      → MayFollow rules hs (record { by = w; what = Take l Pending })
+  allow_claim was =
+      allow_take Pending (grind (arith, was)) ((ok.locks l).pend.free w (grind (arith, was))) refl
+      (λ p. p)
 
-  pub allow_head : s.phase l w ≡ Stakes → IsAllowed rules hs (record { by = w; what = Take l Head })
-  allow_head was = take_on Head ((ok.locks l).pend.free w (grind (arith, was))) refl (first_is ok w l (grind (arith, was)))
+  pub allow_head : s.phase l w ≡ Stakes → MayFollow rules hs (record { by = w; what = Take l Head })
+  allow_head was =
+      take_on Head ((ok.locks l).pend.free w (grind (arith, was))) refl
+      (first_is ok w l (grind (arith, was)))
 
-  pub allow_sole : s.phase l w ≡ Stakes → IsAllowed rules hs (record { by = w; what = Take l Sole })
-  allow_sole was = take_on Sole ((ok.locks l).pend.free w (grind (arith, was))) refl (first_is ok w l (grind (arith, was)))
+  pub allow_sole : s.phase l w ≡ Stakes → MayFollow rules hs (record { by = w; what = Take l Sole })
+  allow_sole was =
+      take_on Sole ((ok.locks l).pend.free w (grind (arith, was))) refl
+      (first_is ok w l (grind (arith, was)))
 
-  pub allow_miss : IsAllowed rules hs (record { by = w; what = Miss l })
+  pub allow_miss : MayFollow rules hs (record { by = w; what = Miss l })
   allow_miss =
       on_lock rules hs (record { by = w; what = Miss l }) l refl
       (record {
@@ -88,30 +99,35 @@ module _ (rules : Rules) {s : Snapshot} {hs : LockName → LockHistory} (ok : Sn
       })
 
   pub allow_release : s.phase l w ≡ Releases
-      → IsAllowed rules hs (record { by = w; what = Release l None })
+      → MayFollow rules hs (record { by = w; what = Release l None })
   allow_release was =
       let o = ok.locks l in
       let mine : o.holder ≡ Some w = o.hold.has w (grind (arith, was, o.hold.releases w was)) in
       on_lock rules hs (record { by = w; what = Release l None }) l refl
       (record {
-        owned = holds_so (hs l) w o.holder o.holders mine;
+        owned = holds_alone (hs l) w o.holder o.holders mine;
         ordered = outside ok w l (grind (arith, was));
         shared = shared_by None (sole_freed (hs l) w o.holder o.holders mine);
       })
 
   pub allow_arrive : s.phase l w ≡ Prepared
-      → IsAllowed rules hs (record { by = w; what = Arrive l })
+      → MayFollow rules hs (record { by = w; what = Arrive l })
   allow_arrive was =
       let o = ok.locks l in
       let h = o.hold.without w (grind (arith, was)) in
-      let no : ¬ Holds (hs l) w = (λ c. let m = holds_is (hs l) w o.holder o.holders c in grind (arith, o.hold.had w m, was, h)) in
+      let no : ¬ Holds (hs l) w = (λ c. let m = holds_is (hs l) w o.holder o.holders c in
+      grind (arith, o.hold.had w m, was, h)) in
       on_lock rules hs (record { by = w; what = Arrive l }) l refl
-      (record { owned = tt; ordered = (outside ok w l (grind (arith, was)), no); shared = shared_by o.holder o.holders })
+      (record {
+        owned = tt;
+        ordered = (outside ok w l (grind (arith, was)), no);
+        shared = shared_by o.holder o.holders;
+      })
 
   -- a handover to the second, past nobody
   pub allow_pass : (n : NodeName) (to : Waiter) → s.phase l w ≡ Hands n
       → slice_get (hs l).main 1 ≡ Some to
-      → IsAllowed rules hs (record { by = w; what = Pass l to 0 })
+      → MayFollow rules hs (record { by = w; what = Pass l to 0 })
   allow_pass n to was next =
       let o = ok.locks l in
       on_lock rules hs (record { by = w; what = Pass l to 0 }) l refl
@@ -119,7 +135,7 @@ module _ (rules : Rules) {s : Snapshot} {hs : LockName → LockHistory} (ok : Sn
         owned = tt;
         ordered = (
           first_is ok w l (grind (arith, was)),
-          (Spins, holds_so (hs l) w o.holder o.holders (o.hold.has w (grind (arith, was)))),
+          (Spins, holds_alone (hs l) w o.holder o.holders (o.hold.has w (grind (arith, was)))),
           grind arith,
           next,
         );
@@ -132,6 +148,6 @@ pub next_is : {s : Snapshot} {hs : LockName → LockHistory} → SnapshotAgrees 
     → s.phase l w ≡ Hands n → (k : LockName) (to : Waiter) → has_node (s.phase k to) ≡ true
     → s.own to ≡ n → slice_get (hs l).main 1 ≡ Some to
 next_is {s = s} ok w l n plain was k to p e =
-    let v = ((ok.locks l).lists.flat plain).queue.hand w n was in
+    let v = ((ok.locks l).lists.flat plain).queue.links.hand w n was in
     let same : to ≡ v.0 = nodes_apart ok.nodes k l to v.0 p (grind (arith, v.2)) (e ∙ sym v.3) in
     v.1 ∙ ap Some (sym same)

@@ -28,7 +28,8 @@ before_le f p c zero h = grind arith
 before_le f p c (suc d) h =
     elim (cases_eq c (suc d)) [
       | inl e ↦ let F : ℕ → Type 0 = λ n. before f p c ≤ before f p n in subst F e (omega arith)
-      | inr n ↦ let low = before_le f p c d (omega arith) in let s = before_step f p d in omega arith
+      | inr n ↦ let low = before_le f p c d (omega arith) in let s = before_step f p d in
+          omega arith
     ]
 
 -- a frame that counts makes the number rise
@@ -60,7 +61,8 @@ before_drop f g w (suc c) m h =
 -- another processor's number stays
 pub before_else : (f g : Waiter → Bool) (w : Waiter) (b b' : Bool) (p c : ℕ) → Moves f g w b b'
     → p ≢ w.cpu → before g p c ≡ before f p c
-before_else f g w b b' p c m h = before_same f g p c (λ d lt. m.others (at p d) (λ q. h (ap (λ (v : Waiter). v.cpu) q)))
+before_else f g w b b' p c m h =
+    before_same f g p c (λ d lt. m.others (at p d) (λ q. h (ap (λ (v : Waiter). v.cpu) q)))
 
 -- two waiters with one node are one
 pub nodes_apart : {phase : LockName → Waiter → Phase} {own : Waiter → NodeName}
@@ -70,14 +72,16 @@ pub nodes_apart : {phase : LockName → Waiter → Phase} {own : Waiter → Node
 nodes_apart {slow = slow} ok k l u v hu hv e =
     let pu = ok.placed k u hu in let pv = ok.placed l v hv in
     let cpus : u.cpu ≡ v.cpu = ap (λ (n : NodeName). n.cpu) (sym pu ∙ e ∙ pv) in
-    let counts : before slow u.cpu u.ctx ≡ before slow v.cpu v.ctx = ap (λ (n : NodeName). n.index) (sym pu ∙ e ∙ pv) in
+    let counts : before slow u.cpu u.ctx ≡ before slow v.cpu v.ctx =
+    ap (λ (n : NodeName). n.index) (sym pu ∙ e ∙ pv) in
     let counts' : before slow v.cpu u.ctx ≡ before slow v.cpu v.ctx = rw cpus at counts in
     elim (cases_order u.ctx v.ctx) [
       | inl c ↦ (λ i. record { cpu = cpus i; ctx = c i })
       | inr o ↦ elim o [
         | inl lt ↦ let s : slow (at v.cpu u.ctx) ≡ true = rw cpus at (ok.slowly k u hu) in
             absurd (let z = before_lt slow v.cpu u.ctx v.ctx s lt in omega arith)
-        | inr gt ↦ absurd (let z = before_lt slow v.cpu v.ctx u.ctx (ok.slowly l v hv) gt in omega arith)
+        | inr gt ↦ absurd (let z = before_lt slow v.cpu v.ctx u.ctx (ok.slowly l v hv) gt in
+            omega arith)
       ]
     ]
 
@@ -89,14 +93,16 @@ before_top f p c zero h le = let P : ℕ → Type 0 = λ n. before f p zero ≡ 
 before_top f p c (suc d) h le =
     elim (cases_eq c (suc d)) [
       | inl e ↦ let P : ℕ → Type 0 = λ n. before f p (suc d) ≡ before f p n in subst P (sym e) refl
-      | inr n ↦ let r = before_top f p c d h (omega arith) in let z = h d (omega arith) in grind (arith, r, z)
+      | inr n ↦ let r = before_top f p c d h (omega arith) in let z = h d (omega arith) in
+          grind (arith, r, z)
     ]
 
 -- one frame more
 pub before_grow : (f g : Waiter → Bool) (w : Waiter) (c : ℕ) → Moves f g w false true → w.ctx < c
     → before g w.cpu c ≡ before f w.cpu c + 1
 before_grow f g w c m h =
-    let back : Moves g f w true false = record { was = m.now; now = m.was; others = λ u n. sym (m.others u n) } in
+    let back : Moves g f w true false =
+    record { was = m.now; now = m.was; others = λ u n. sym (m.others u n) } in
     sym (before_drop g f w c back h)
 
 -- a node in use is below the queue count
@@ -108,8 +114,10 @@ pub node_used : {phase : LockName → Waiter → Phase} {own : Waiter → NodeNa
 node_used {slow = slow} {queued = queued} ok w idle top low k u h e =
     let pu = ok.placed k u h in
     let cpus : u.cpu ≡ w.cpu = ap (λ (n : NodeName). n.cpu) (sym pu ∙ e) in
-    let counts : before slow u.cpu u.ctx ≡ queued w.cpu = ap (λ (n : NodeName). n.index) (sym pu ∙ e) in
-    let counts' : before slow w.cpu u.ctx ≡ before slow w.cpu 6 = (rw cpus at counts) ∙ ok.counted w.cpu in
+    let counts : before slow u.cpu u.ctx ≡ queued w.cpu =
+    ap (λ (n : NodeName). n.index) (sym pu ∙ e) in
+    let counts' : before slow w.cpu u.ctx ≡ before slow w.cpu 6 =
+    (rw cpus at counts) ∙ ok.counted w.cpu in
     let off : (d : ℕ) → w.ctx ≤ d → slow (at w.cpu d) ≡ false =
     λ d le. elim
     (cases_eq w.ctx d) [

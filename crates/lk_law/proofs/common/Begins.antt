@@ -247,7 +247,8 @@ module _ {m : World} {hs : LockName → LockHistory} {w : Waiter} {f : Frame} (g
   begin_step : m.held w l ≡ way
       → Step (snapshot m) (snapshot m') w l Idle r' (m.word l) (spins way) (spins way)
   begin_step held =
-      world_step m m' w f begun begin_moves l (inr (placeless_phase f place)) (inl refl) (placeless_phase f place) refl
+      world_step m m' w f begun begin_moves l (inr (placeless_phase f place)) (inl refl)
+      (placeless_phase f place) refl
       (record {
         mode = refl;
         threshold = refl;
@@ -261,7 +262,9 @@ module _ {m : World} {hs : LockName → LockHistory} {w : Waiter} {f : Frame} (g
       (λ on k u ne h.
       world_owes m m' w f begun begin_moves
       (λ t e. let z = place_off f place in grind (arith, z, e)) (λ p. refl) u.cpu)
-      (λ on h. absurd (let z = ap (post_on l) begin_moves.now ∙ post_on-off l begun begin_off in grind (arith, z, h)))
+      (λ on h.
+      absurd (let z = ap (post_on l) begin_moves.now ∙ post_on-off l begun begin_off in
+      grind (arith, z, h)))
 
   begin_posted : Posted (snapshot m) (snapshot m') w l Off Off
   begin_posted =
@@ -304,7 +307,10 @@ spin_begin_keeps m hs w f g o ok live place held me =
     world_sound m (put_frame m w (Some (started m.mode g o))) w f (started m.mode g o)
     (begin_moves g o ok live place) ok refl refl
     (λ e. absurd (let z = begin_off g o ok live place in grind (arith, z, e)))
-    (record { still = λ e h. absurd (let z = place_off f place in grind (arith, z, e)); halted = λ p h. inl h })
+    (record {
+      still = λ e h. absurd (let z = place_off f place in grind (arith, z, e));
+      halted = λ p h. inl h;
+    })
     (record { byte = ok.plain.byte; flag = ok.plain.flag }) (begin_fit g o ok live place me)
     (elim (cases_Bool (halts m.mode)) [
       | inl on ↦ law_turn_pv ok.agrees on (begin_step g o ok live place held)
@@ -323,7 +329,8 @@ record IsAbsent (f : Option Frame) : Type 0 where
   off : (l : LockName) → post_on l f ≡ Off
 
 absent : (f : Option Frame) → HasNoPlace f → IsAbsent f
-absent None p = record { idle = λ l. refl; own = refl; fast = refl; calm = λ l. refl; off = λ l. refl }
+absent None p =
+    record { idle = λ l. refl; own = refl; fast = refl; calm = λ l. refl; off = λ l. refl }
 absent (Some f) p =
     record {
       idle = λ l. phase_on-idle l f (placeless_phase f p.0);
@@ -333,7 +340,8 @@ absent (Some f) p =
       off = λ l. post_on-off l f (ap (λ (c : Option Pc). post_if c f) p.0);
     }
 
-module _ (m : World) (w : Waiter) (f g : Option Frame) (live : m.frame w ≡ f) (none : HasNoPlace f) (none' : HasNoPlace g) where
+module _ (m : World) (w : Waiter) (f g : Option Frame) (live : m.frame w ≡ f) (none : HasNoPlace f)
+    (none' : HasNoPlace g) where
   abbrev ended : World
   ended = put_frame m w g
 
@@ -398,7 +406,8 @@ placeless_fits {mode = mode} (Some g) p d e = let same : g ≡ d = grind arith i
 
 placeless_off : (g : Option Frame) → HasNoPlace g → (d : Frame) → g ≡ Some d → post_of d ≡ Off
 placeless_off None p d e = cc
-placeless_off (Some g) p d e = let same : g ≡ d = grind arith in ap post_of (sym same) ∙ place_off g p.0
+placeless_off (Some g) p d e =
+    let same : g ≡ d = grind arith in ap post_of (sym same) ∙ place_off g p.0
 
 -- a frame without a place comes, goes or changes
 pub spin_end_keeps : SpinEndKeeps
@@ -422,7 +431,8 @@ spin_end_keeps m hs w f g ok live none none' room =
             (λ c lt. elim (waiter_cases (record { cpu = u.cpu; ctx = c }) w) [
               | inl q ↦
                   let nobody : f ≡ None = sym live ∙ ap m.frame (sym q) ∙ above c lt in
-                  let awake = room nobody (sleeper_halts ok u d was h) u d (ap (λ (v : Waiter). v.cpu) q) was in
+                  let awake =
+                  room nobody (sleeper_halts ok u d was h) u d (ap (λ (v : Waiter). v.cpu) q) was in
                   absurd (grind (arith, awake, h))
               | inr ne' ↦ moves.others (record { cpu = u.cpu; ctx = c }) ne' ∙ above c lt
             ])

@@ -17,7 +17,7 @@ use Rattle.lk_law.specs.World.{World}
 use Rattle.lk_law.specs.SpinWorld.{IsSoundSpinWorld}
 use Rattle.lk_law.specs.Steps.{led, way_led, lead_on, row_in, told_event, told_on}
 use Rattle.lk_law.specs.SpinLaws.{SpinRowKeeps}
-use Rattle.lk_law.specs.Allowed.{IsAllowedOn, IsAllowedIfAny}
+use Rattle.lk_law.specs.Allowed.{MayFollowOn, MayFollowIfAny}
 use Rattle.lk_law.specs.Families.{is_rw_row}
 use Rattle.lk_law.specs.SoundWorld.{part_of, is_rw_name, spin_part, RwFits, IsSoundWorld}
 use Rattle.lk_law.specs.WorldLaws.{RowKeeps}
@@ -44,7 +44,9 @@ on_none_else k l (Some j) of ne = same_lock-else j k (λ q. ne (sym q ∙ of))
 
 told_apart : (k l : LockName) (h : LockHistory) (e : Event) → IsOf l (Some e) → k ≢ l
     → told k h e ≡ h
-told_apart k l h e of ne = if-false (is_on k (lock_of e.what)) (changed h e.by e.what) h (on_none_else k l (lock_of e.what) of ne)
+told_apart k l h e of ne =
+    if-false (is_on k (lock_of e.what)) (changed h e.by e.what) h
+    (on_none_else k l (lock_of e.what) of ne)
 
 -- histories of other locks than the one that an event is of
 pub told_on-else : (hs : LockName → LockHistory) (l k : LockName) (e : Option Event) → IsOf l e
@@ -66,7 +68,8 @@ spin_told kind hs l e of spin = (λ i k. each e of k i)
         by_kind : (b : Bool) → is_rw_name kind k ≡ b
             → told_on (spin_part kind hs) (Some e) k ≡ spin_part kind (told_on hs (Some e)) k
         by_kind true q =
-            let ne : k ≢ l = (λ s. absurd (let z = ap (is_rw_name kind) s in grind (arith, z, q, spin))) in
+            let ne : k ≢ l =
+            (λ s. absurd (let z = ap (is_rw_name kind) s in grind (arith, z, q, spin))) in
             told_apart k l (spin_part kind hs k) e of ne
             ∙ if-true (is_rw_name kind k) no_history (hs k) q
             ∙ sym (if-true (is_rw_name kind k) no_history (told_on hs (Some e) k) q)
@@ -77,11 +80,11 @@ spin_told kind hs l e of spin = (λ i k. each e of k i)
 -- and where it is allowed there it is allowed
 pub spin_allowed : (rules : Rules) (kind : ℕ → Kind) (hs : LockName → LockHistory) (l : LockName)
     (e : Option Event)
-    → IsOf l e → is_rw_name kind l ≡ false → IsAllowedIfAny rules (spin_part kind hs) e
-    → IsAllowedIfAny rules hs e
+    → IsOf l e → is_rw_name kind l ≡ false → MayFollowIfAny rules (spin_part kind hs) e
+    → MayFollowIfAny rules hs e
 spin_allowed rules kind hs l None of spin a = tt
 spin_allowed rules kind hs l (Some e) of spin a =
-    (λ k p. subst (λ (h : LockHistory). IsAllowedOn rules h e)
+    (λ k p. subst (λ (h : LockHistory). MayFollowOn rules h e)
     (if-false (is_rw_name kind k) no_history (hs k)
     (let same : k ≡ l = subst (IsOfLock l) p of in ap (is_rw_name kind) same ∙ spin)) (a k p))
 
@@ -117,9 +120,10 @@ pub spin_done : (c : Pc) → is_rw_row c ≡ false
     → Put m m' w f (led f lead) f.lock (way_led lead (m.held w f.lock)) → m'.rw ≡ m.rw
     → m'.kind ≡ m.kind → (e : Option Event) → IsOf f.lock e
     → IsSoundSpinWorld m' (told_on (spin_part m.kind hs) e)
-    → IsAllowedIfAny rules (spin_part m.kind hs) e
-    → IsSoundWorld m' (told_on hs e) × IsAllowedIfAny rules hs e
-spin_done c spin {m = m} {m' = m'} {hs = hs} rules {w = w} {f = f} lead leads sound live place put rws kinds e of spins allowed =
+    → MayFollowIfAny rules (spin_part m.kind hs) e
+    → IsSoundWorld m' (told_on hs e) × MayFollowIfAny rules hs e
+spin_done c spin {m = m} {m' = m'} {hs = hs} rules {w = w} {f = f} lead leads sound live place put
+    rws kinds e of spins allowed =
     let keeps_lock = led_keeps f (part_of c) lead leads in
     let on = led_onward f (part_of c) lead leads in
     let away = spin_name c spin place (sound.fits w f live) in (
@@ -149,7 +153,9 @@ pub keeps_both_layers : (c : Pc) → is_rw_row c ≡ false
     → RowKeeps c
 keeps_both_layers c spin made keeps m hs rules w to f sound follows newest live place goes =
     let x = made m w f in
-    let kept = keeps m (spin_part m.kind hs) rules w to f sound.spins follows newest live place (sound.fits w f live).after goes in
+    let kept =
+    keeps m (spin_part m.kind hs) rules w to f sound.spins follows newest live place
+    (sound.fits w f live).after goes in
     let e = told_event w f.lock to (row_in m w f c).1 in
     let of = tells_event w f.lock to (row_in m w f c).1 x.tells in
     let b = beside_rest m x.stored w x.lead x.beside in
@@ -161,7 +167,7 @@ keeps_both_layers c spin made keeps m hs rules w to f sound follows newest live 
     subst (λ (way : Option Manner). Put m m' w f g f.lock (way_led x.lead way)) held_is
     (put_held_frame m _ w f g f.lock (way_led x.lead (x.stored.held w f.lock)) live b.frames
     b.helds) in
-    let done : IsSoundWorld m' (told_on hs e) × IsAllowedIfAny rules hs e =
+    let done : IsSoundWorld m' (told_on hs e) × MayFollowIfAny rules hs e =
     spin_done c spin rules x.lead x.onward sound live place put b.rws b.kinds e of
     (subst (λ (n : World). IsSoundSpinWorld n (told_on (spin_part m.kind hs) e)) x.is kept.0)
     kept.1 in

@@ -1,11 +1,12 @@
--- Names are the same or not.
-use Rattle.std.proofs.Common.{◌≡◌, ◌≢◌, ◌⊎◌, inl, inr, arith, ap}
+-- Names are the same or not; and each waiter has a node of its own.
+use Rattle.std.proofs.Common.{◌≡◌, ◌≢◌, ◌⊎◌, inl, inr, arith, ap, true}
 use Rattle.std.proofs.lemmas.Bool.{cases_eq}
 use Rattle.lk_abs.specs.declared.names.Waiter.{Waiter}
 use Rattle.lk_word.specs.declared.spin_word.NodeName.{NodeName}
 use Rattle.lk_abs.specs.declared.names.LockName.{LockName}
 use Rattle.std.proofs.lemmas.Bool.{cases_Bool}
 use Rattle.std.proofs.Common.{Bool}
+use Rattle.lk_law.specs.Phase.{Phase, has_node}
 
 -- two waiters are the same, or not
 pub waiter_cases : (u w : Waiter) → (u ≡ w) ⊎ (u ≢ w)
@@ -43,3 +44,11 @@ lock_cases u w =
           ]
       | inr n ↦ inr (λ e. n (ap (λ (v : LockName). v.index) e))
     ]
+
+-- no two waiters have one node
+abbrev pub Apart : (Waiter → Phase) → (Waiter → NodeName) → Type 0
+Apart phase own = (u v : Waiter)
+    → has_node (phase u) ≡ true
+    → has_node (phase v) ≡ true
+    → own u ≡ own v
+    → u ≡ v

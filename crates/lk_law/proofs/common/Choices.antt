@@ -100,11 +100,18 @@ unchosen g d place fixed halting waking hashed named peer turns unaware plainly 
       peer = λ c e h. peer (ap sees_peer (same c e) ∙ h);
       turns = λ c e h. turns (ap counts_turns (same c e) ∙ h);
       unaware = λ c e h. unaware (ap is_unaware (same c e) ∙ h);
-      second = λ c e h. absurd (let n = needs_chooses c h in grind (arith, ap chooses (same c e), n, fixed));
-      nobody = λ c e h. absurd (let n = returns_chooses c g.why h in grind (arith, ap chooses (same c e), n, fixed));
-      first = λ c e h. absurd (let n = first_chooses c g.why h in grind (arith, ap chooses (same c e), n, fixed));
-      last = λ c e h. absurd (let n = last_chooses c g.why h in grind (arith, ap chooses (same c e), n, fixed));
-      tail = λ c e h. absurd (let n = tail_chooses c h in grind (arith, ap chooses (same c e), n, fixed));
+      second = λ c e h.
+          absurd (let n = needs_chooses c h in grind (arith, ap chooses (same c e), n, fixed));
+      nobody = λ c e h.
+          absurd (let n = returns_chooses c g.why h in
+          grind (arith, ap chooses (same c e), n, fixed));
+      first = λ c e h.
+          absurd (let n = first_chooses c g.why h in
+          grind (arith, ap chooses (same c e), n, fixed));
+      last = λ c e h.
+          absurd (let n = last_chooses c g.why h in grind (arith, ap chooses (same c e), n, fixed));
+      tail = λ c e h.
+          absurd (let n = tail_chooses c h in grind (arith, ap chooses (same c e), n, fixed));
     }
   where
     same : (c : Pc) → g.place ≡ Some c → d ≡ c
@@ -171,14 +178,25 @@ pub choosing : {mode : Mode} (g : Frame) (d : Pc) → g.place ≡ Some d → cho
 choosing {mode = mode} g d place on aside second nobody first last tail =
     record {
       choice = λ c e h. aside;
-      plainly = λ c e h. absurd (let n = chooses_late d on in grind (arith, ap hands_plainly (same c e), n, h));
-      halting = λ c e h. absurd (let n = chooses_wakes d on in grind (arith, ap may_halt (same c e), n, h));
+      plainly = λ c e h.
+          absurd (let n = chooses_late d on in grind (arith, ap hands_plainly (same c e), n, h));
+      halting = λ c e h.
+          absurd (let n = chooses_wakes d on in grind (arith, ap may_halt (same c e), n, h));
       waking = λ c e h. aside_awake mode aside;
-      hashed = λ c e h. absurd (let n = chooses_wakes d on in let q = hash_halts c h in grind (arith, ap may_halt (same c e), n, q));
-      named = λ c e h. absurd (let n = chooses_wakes d on in let q = next_halts c h in grind (arith, ap may_halt (same c e), n, q));
-      peer = λ c e h. absurd (let n = chooses_wakes d on in let q = peer_halts c h in grind (arith, ap may_halt (same c e), n, q));
-      turns = λ c e h. absurd (let n = chooses_wakes d on in let q = turns_halt c h in grind (arith, ap may_halt (same c e), n, q));
-      unaware = λ c e h. absurd (let n = chooses_aware d on in grind (arith, ap is_unaware (same c e), n, h));
+      hashed = λ c e h.
+          absurd (let n = chooses_wakes d on in let q = hash_halts c h in
+          grind (arith, ap may_halt (same c e), n, q));
+      named = λ c e h.
+          absurd (let n = chooses_wakes d on in let q = next_halts c h in
+          grind (arith, ap may_halt (same c e), n, q));
+      peer = λ c e h.
+          absurd (let n = chooses_wakes d on in let q = peer_halts c h in
+          grind (arith, ap may_halt (same c e), n, q));
+      turns = λ c e h.
+          absurd (let n = chooses_wakes d on in let q = turns_halt c h in
+          grind (arith, ap may_halt (same c e), n, q));
+      unaware = λ c e h.
+          absurd (let n = chooses_aware d on in grind (arith, ap is_unaware (same c e), n, h));
       second = λ c e h. second (ap needs_second (same c e) ∙ h);
       nobody = λ c e h. nobody (ap (λ (q : Pc). returns q g.why) (same c e) ∙ h);
       first = λ c e h. first (ap (λ (q : Pc). knows_first q g.why) (same c e) ∙ h);
@@ -203,10 +221,14 @@ quiet_choice g row =
       peer = λ c e h. absurd (let q = row c e in let n = peer_halts c h in grind (arith, q, n));
       turns = λ c e h. absurd (let q = row c e in let n = turns_halt c h in grind (arith, q, n));
       unaware = λ c e h. absurd (let q = row c e in grind (arith, q, h));
-      second = λ c e h. absurd (let q = row c e in let n = needs_chooses c h in grind (arith, q, n));
-      nobody = λ c e h. absurd (let q = row c e in let n = returns_chooses c g.why h in grind (arith, q, n));
-      first = λ c e h. absurd (let q = row c e in let n = first_chooses c g.why h in grind (arith, q, n));
-      last = λ c e h. absurd (let q = row c e in let n = last_chooses c g.why h in grind (arith, q, n));
+      second =
+          λ c e h. absurd (let q = row c e in let n = needs_chooses c h in grind (arith, q, n));
+      nobody = λ c e h.
+          absurd (let q = row c e in let n = returns_chooses c g.why h in grind (arith, q, n));
+      first = λ c e h.
+          absurd (let q = row c e in let n = first_chooses c g.why h in grind (arith, q, n));
+      last = λ c e h.
+          absurd (let q = row c e in let n = last_chooses c g.why h in grind (arith, q, n));
       tail = λ c e h. absurd (let q = row c e in let n = tail_chooses c h in grind (arith, q, n));
     }
 
@@ -238,7 +260,9 @@ fit_goes f g fit me noded met next choice =
 pub fit_quiet : {mode : Mode} (g : Frame) → IsQuiet g.place → g.me ≡ None → RegistersFit mode g
 fit_quiet g place me =
     record {
-      me = λ e. absurd (let phase = place.phase (is_some g.me) (node_of g.prev) (node_of g.y) in grind (arith, phase, e));
+      me = λ e.
+          absurd (let phase = place.phase (is_some g.me) (node_of g.prev) (node_of g.y) in
+          grind (arith, phase, e));
       bare = λ e. me;
       met = λ e. absurd (place.unlinked e);
       next = λ e. absurd (place.unhanded e);
@@ -257,8 +281,12 @@ quiet_none c e =
     })
 
 pub quiet_then : (c : Option Pc) → IsThen c → IsQuiet c
-quiet_then c (inl e) = subst IsQuiet (sym e) (quiet_some R4 refl (λ b p y. refl) refl (λ q. grind arith) (λ q. grind arith))
-quiet_then c (inr e) = subst IsQuiet (sym e) (quiet_some Wr2 refl (λ b p y. refl) refl (λ q. grind arith) (λ q. grind arith))
+quiet_then c (inl e) =
+    subst IsQuiet (sym e) (quiet_some R4 refl (λ b p y. refl) refl (λ q. grind arith)
+    (λ q. grind arith))
+quiet_then c (inr e) =
+    subst IsQuiet (sym e) (quiet_some Wr2 refl (λ b p y. refl) refl (λ q. grind arith)
+    (λ q. grind arith))
 
 -- a frame that stands at no row, and has no node
 pub fit_placeless : {mode : Mode} (g : Frame) → g.place ≡ None → g.me ≡ None → RegistersFit mode g

@@ -15,10 +15,13 @@ use Rattle.lk_law.specs.Families.{is_rw_row}
 use Rattle.lk_law.specs.SpinLaws.{SpinRowKeeps}
 use Rattle.lk_law.proofs.pv.SharedRowsKeep.{fast_keeps, try_look_keeps, try_swap_keeps, enter_keeps}
 use Rattle.lk_law.proofs.pv.SharedRowsKeep.{exchange_tail_keeps, link_keeps}
-use Rattle.lk_law.proofs.pv.WaitRowsKeep.{waiter_spin_keeps, waiter_watch_keeps, waiter_say_halted_keeps}
-use Rattle.lk_law.proofs.pv.WaitRowsKeep.{waiter_look_once_more_keeps, waiter_test_state_keeps, waiter_halt_keeps}
+use Rattle.lk_law.proofs.pv.WaitRowsKeep.{waiter_spin_keeps, waiter_watch_keeps}
+use Rattle.lk_law.proofs.pv.WaitRowsKeep.{waiter_say_halted_keeps}
+use Rattle.lk_law.proofs.pv.WaitRowsKeep.{waiter_look_once_more_keeps, waiter_test_state_keeps}
+use Rattle.lk_law.proofs.pv.WaitRowsKeep.{waiter_halt_keeps}
 use Rattle.lk_law.proofs.pv.WaitRowsKeep.{waiter_say_running_keeps}
-use Rattle.lk_law.proofs.pv.FrontTryRowsKeep.{front_look_at_state_keeps, front_say_running_keeps, front_set_pending_keeps}
+use Rattle.lk_law.proofs.pv.FrontTryRowsKeep.{front_look_at_state_keeps, front_say_running_keeps}
+use Rattle.lk_law.proofs.pv.FrontTryRowsKeep.{front_set_pending_keeps}
 use Rattle.lk_law.proofs.pv.FrontTryRowsKeep.{front_take_pending_keeps, front_clear_pending_keeps}
 use Rattle.lk_law.proofs.pv.FrontHaltRowsKeep.{front_enter_hash_keeps}
 use Rattle.lk_law.proofs.pv.FrontHaltRowsKeep.{front_exchange_slow_keeps, front_store_held_keeps}
@@ -27,7 +30,8 @@ use Rattle.lk_law.proofs.pv.FrontHaltRowsKeep.{front_say_hashed_keeps, front_tes
 use Rattle.lk_law.proofs.pv.FrontHaltRowsKeep.{front_halt_keeps}
 use Rattle.lk_law.proofs.pv.FrontHandRowsKeep.{front_leave_queue_keeps, front_wait_for_next_keeps}
 use Rattle.lk_law.proofs.pv.FrontHandRowsKeep.{front_hand_on_keeps}
-use Rattle.lk_law.proofs.pv.HolderRowsKeep.{holder_mark_hashed_keeps, holder_store_slow_keeps, holder_enter_next_keeps}
+use Rattle.lk_law.proofs.pv.HolderRowsKeep.{holder_mark_hashed_keeps, holder_store_slow_keeps}
+use Rattle.lk_law.proofs.pv.HolderRowsKeep.{holder_enter_next_keeps}
 use Rattle.lk_law.proofs.pv.ReleaseRowsKeep.{release_swap_free_keeps, release_find_target_keeps}
 use Rattle.lk_law.proofs.pv.ReleaseRowsKeep.{release_store_free_keeps, release_kick_keeps}
 use Rattle.lk_law.proofs.pv.StealRowsKeep.{steal_glance_keeps}
@@ -38,8 +42,10 @@ use Rattle.lk_law.proofs.spin.PendingRowsKeep.{set_pending_keeps, clear_pending_
 use Rattle.lk_law.proofs.spin.PendingRowsKeep.{watch_keeps, take_pending_keeps}
 use Rattle.lk_law.proofs.queue.EntryRowsKeep.{look_again_keeps, swap_again_keeps, look_bare_keeps}
 use Rattle.lk_law.proofs.queue.EntryRowsKeep.{swap_bare_keeps}
-use Rattle.lk_law.proofs.cna.RowsKeep.{choice_look_keeps, choice_pass_over_keeps, choice_find_tail_keeps}
-use Rattle.lk_law.proofs.cna.StoreRowsKeep.{choice_append_keeps, choice_cut_keeps, choice_set_tail_keeps}
+use Rattle.lk_law.proofs.cna.RowsKeep.{choice_look_keeps, choice_pass_over_keeps}
+use Rattle.lk_law.proofs.cna.RowsKeep.{choice_find_tail_keeps}
+use Rattle.lk_law.proofs.cna.StoreRowsKeep.{choice_append_keeps, choice_cut_keeps}
+use Rattle.lk_law.proofs.cna.StoreRowsKeep.{choice_set_tail_keeps}
 use Rattle.lk_law.proofs.cna.StoreRowsKeep.{choice_count_keeps}
 use Rattle.lk_law.proofs.cna.EndRowsKeep.{choice_hand_on_keeps, choice_flush_keeps}
 use Rattle.lk_law.proofs.cna.EndRowsKeep.{choice_promote_keeps}

@@ -14,7 +14,7 @@ use Rattle.lk_law.specs.Stage.{Stage}
 use Rattle.lk_law.specs.Stage.Stage.{Rests}
 use Rattle.lk_law.specs.Snapshot.{Moves, Rewrites, QueueAgrees}
 use Rattle.lk_law.specs.Cna.{ListsAgree, FlatAgrees, CnaAgrees, part, shown, front_cut, named_by}
-use Rattle.lk_law.proofs.common.Cases.{waiter_cases}
+use Rattle.lk_law.proofs.common.Cases.{waiter_cases, Apart}
 use Rattle.lk_law.proofs.common.Lists.{get_cases, get-none_up, last_cases}
 use Rattle.lk_law.proofs.cna.Parts.{part_cases, part_out, outside_part, shown_flag}
 use Rattle.lk_law.proofs.queue.Keep.{queue_keep}
@@ -24,6 +24,7 @@ use Rattle.lk_law.proofs.queue.Lead.{queue_lead, lead_first}
 use Rattle.lk_law.proofs.queue.Sole.{queue_sole}
 use Rattle.lk_law.proofs.cna.Rows.{cna_keep, cna_rest, cna_behind, cna_link, cna_lead, shown_bare}
 use Rattle.lk_law.proofs.cna.Ends.{cna_first, cna_sole}
+use Rattle.lk_law.proofs.cna.Steps.{ChoosesNothing}
 
 pub queue_noded : (r : Phase) → queues r ≡ true → has_node r ≡ true
 queue_noded r p = grind arith
@@ -33,15 +34,20 @@ pub links_behind : {tail : Option NodeName} {phase : Waiter → Phase} {own : Wa
     {node : NodeName → Node} {main : List Waiter}
     → QueueAgrees tail phase own node main → (w : Waiter) (p : NodeName) → phase w ≡ Links p
     → (j : ℕ) × (a : Waiter) × (slice_get main j ≡ Some a) × (slice_get main (suc j) ≡ Some w)
-links_behind {main = main} q w p was = let at = q.place w (grind (arith, was)) in go at.0 at.1
+links_behind {main = main} q w p was =
+    let at = q.members.place w (grind (arith, was)) in go at.0 at.1
   where
     go : (i : ℕ) → slice_get main i ≡ Some w
         → (j : ℕ) × (a : Waiter) × (slice_get main j ≡ Some a) × (slice_get main (suc j) ≡ Some w)
-    go zero h = absurd (grind (arith, q.first w h, was))
-    go (suc j) h = elim (get_cases main j) [ inl n ↦ absurd (grind (arith, get-none_up main j n)) | inr a ↦ (j, a.0, a.1, h) ]
+    go zero h = absurd (grind (arith, q.ends.first w h, was))
+    go (suc j) h = elim (get_cases main j) [
+      | inl n ↦ absurd (grind (arith, get-none_up main j n))
+      | inr a ↦ (j, a.0, a.1, h)
+    ]
 
 -- the node that a waiter met which will link: it is another's, and names no next
-pub record Met (phase : Waiter → Phase) (own : Waiter → NodeName) (node : NodeName → Node) (p : NodeName) : Type 0 where
+pub record MetNode (phase : Waiter → Phase) (own : Waiter → NodeName) (node : NodeName → Node)
+    (p : NodeName) : Type 0 where
   pub by : Waiter
   pub noded : has_node (phase by) ≡ true
   pub owned : p ≡ own by
@@ -55,7 +61,8 @@ pub record Last (phase : Waiter → Phase) (own : Waiter → NodeName) (n : Node
 
 module _ {aside : Bool} {tail : Option NodeName} {phase : Waiter → Phase} {own : Waiter → NodeName}
     {node : NodeName → Node} {local : Waiter → NodeName → Bool} {threshold : ℕ}
-    {stage : Waiter → Stage} {kept : Waiter → Option NodeName} {main second : List Waiter} {passes : List ℕ}
+    {stage : Waiter → Stage} {kept : Waiter
+    → Option NodeName} {main second : List Waiter} {passes : List ℕ}
     (ok : ListsAgree aside tail phase own node local threshold stage kept main second passes) where
   abbrev seen : NodeName → Node
   seen = shown (front_cut own stage (slice_get main 0)) node
@@ -67,7 +74,7 @@ module _ {aside : Bool} {tail : Option NodeName} {phase : Waiter → Phase} {own
 
   -- a node that nobody can reach is at rest
   pub lists_rest : (u : Waiter) → phase u ≡ Prepared → node (own u) ≡ rest_node
-  lists_rest u f = by_family (λ o. o.queue.fresh u f) (λ o. cna_rest _ _ _ _ _ _ _ _ _ _ _ o u f)
+  lists_rest u f = by_family (λ o. o.queue.links.fresh u f) (λ o. cna_rest o u f)
 
   -- who leads is the front
   pub lists_front : (w : Waiter) → leads (phase w) ((node (own w)).flag) ≡ true
@@ -77,19 +84,23 @@ module _ {aside : Bool} {tail : Option NodeName} {phase : Waiter → Phase} {own
       (λ o. let p : part second phase w ≡ phase w =
       outside_part second phase w
       (λ i h. let a = o.second_ok.waits i w h in grind (arith, a, lead)) in
-      lead_first o.queue w (rw (p, shown_flag (front_cut own stage (slice_get main 0)) node (own w)) lead))
+      lead_first o.queue w
+      (rw (p, shown_flag (front_cut own stage (slice_get main 0)) node (own w)) lead))
 
   -- where there is no tail nobody stands in a queue
   pub lists_none : tail ≡ None → (u : Waiter) → queues (phase u) ≡ true → ⊥
   lists_none none u q =
-      by_family (λ o. no_queue (subst (λ (t : Option NodeName). QueueAgrees t phase own node main) none o.queue) u q)
+      by_family (λ o.
+      no_queue (subst (λ (t : Option NodeName). QueueAgrees t phase own node main) none o.queue) u
+      q)
       (λ o. let empty : slice_get main 0 ≡ None =
       elim (last_cases main) [
         | inl e ↦ ap (λ xs. slice_get xs 0) e
-        | inr p ↦ absurd (let e = o.queue.tail_is p.0 p.1 p.2 p.3 in grind (arith, e, none))
+        | inr p ↦ absurd (let e = o.queue.ends.tail_is p.0 p.1 p.2 p.3 in grind (arith, e, none))
       ] in
       elim (part_cases second phase u) [
-        | inl p ↦ let e = ap (λ (us : List Waiter). slice_get us p.0) (o.empty empty) in grind (arith, p.1, e)
+        | inl p ↦ let e = ap (λ (us : List Waiter). slice_get us p.0) (o.empty empty) in
+            grind (arith, p.1, e)
         | inr p ↦ no_queue
             (subst (λ (t : Option NodeName). QueueAgrees t (part second phase) own seen main) none
             o.queue) u (ap queues p.0 ∙ q)
@@ -98,8 +109,9 @@ module _ {aside : Bool} {tail : Option NodeName} {phase : Waiter → Phase} {own
   -- who stands in the main queue, or aside, is in a phase that does
   pub lists_main : (i : ℕ) (u : Waiter) → slice_get main i ≡ Some u → queues (phase u) ≡ true
   lists_main i u h =
-      by_family (λ o. o.queue.inside i u h)
-      (λ o. let q = o.queue.inside i u h in ap queues (sym (part_out second phase u q).0) ∙ q)
+      by_family (λ o. o.queue.members.inside i u h)
+      (λ o.
+      let q = o.queue.members.inside i u h in ap queues (sym (part_out second phase u q).0) ∙ q)
 
   pub lists_second : (i : ℕ) (u : Waiter) → slice_get second i ≡ Some u → queues (phase u) ≡ true
   lists_second i u h =
@@ -107,20 +119,22 @@ module _ {aside : Bool} {tail : Option NodeName} {phase : Waiter → Phase} {own
       grind (arith, h, e)) (λ o. ap queues (o.second_ok.waits i u h).0)
 
   -- the node that was met by a waiter that will link
-  pub lists_met : (w : Waiter) (p : NodeName) → phase w ≡ Links p → Met phase own node p
+  pub lists_met : (w : Waiter) (p : NodeName) → phase w ≡ Links p → MetNode phase own node p
   lists_met w p was =
       by_family
-      (λ o. let b = links_behind o.queue w p was in let l = o.queue.linking b.0 b.1 w p b.2 b.3 was in
+      (λ o. let b = links_behind o.queue w p was in
+      let l = o.queue.links.linking b.0 b.1 w p b.2 b.3 was in
       record {
         by = b.1;
-        noded = queue_noded (phase b.1) (o.queue.inside b.0 b.1 b.2);
+        noded = queue_noded (phase b.1) (o.queue.members.inside b.0 b.1 b.2);
         owned = l.0;
         next = ap (λ (n : NodeName). (node n).next) l.0 ∙ l.1;
       })
       (λ o. let here : part second phase w ≡ Links p =
       outside_part second phase w (λ i h. grind (arith, (o.second_ok.waits i w h).0, was))
       ∙ was in
-      let b = links_behind o.queue w p here in let l = o.queue.linking b.0 b.1 w p b.2 b.3 here in
+      let b = links_behind o.queue w p here in
+      let l = o.queue.links.linking b.0 b.1 w p b.2 b.3 here in
       let none : (seen p).next ≡ None = ap (λ (n : NodeName). (seen n).next) l.0 ∙ l.1 in
       let bare = shown_bare (front_cut own stage (slice_get main 0)) node node p none in
       record {
@@ -135,10 +149,16 @@ module _ {aside : Bool} {tail : Option NodeName} {phase : Waiter → Phase} {own
   lists_last n e =
       elim (last_cases main) [
         | inl q ↦ absurd
-            (let m = by_family (λ o. o.queue.no_tail) (λ o. o.queue.no_tail) in
+            (let m = by_family (λ o. o.queue.ends.no_tail) (λ o. o.queue.ends.no_tail) in
             let none = m (ap (λ (us : List Waiter). slice_get us 0) q) in grind (arith, none, e))
-        | inr s ↦ let t = by_family (λ o. o.queue.tail_is s.0 s.1 s.2 s.3) (λ o. o.queue.tail_is s.0 s.1 s.2 s.3) in
-            record { by = s.1; noded = queue_noded (phase s.1) (lists_main s.0 s.1 s.2); owned = grind (arith, t, e) }
+        | inr s ↦ let t =
+            by_family (λ o. o.queue.ends.tail_is s.0 s.1 s.2 s.3)
+            (λ o. o.queue.ends.tail_is s.0 s.1 s.2 s.3) in
+            record {
+              by = s.1;
+              noded = queue_noded (phase s.1) (lists_main s.0 s.1 s.2);
+              owned = grind (arith, t, e);
+            }
       ]
 
   -- the lists of a lock whose waiters are as before
@@ -151,12 +171,11 @@ module _ {aside : Bool} {tail : Option NodeName} {phase : Waiter → Phase} {own
       → ((u : Waiter) → phase' u ≡ Prepared → node' (own' u) ≡ rest_node)
       → (((u : Waiter) → phase u ≢ Holds → stage u ≡ Rests) → (u : Waiter) → phase' u ≢ Holds
       → stage' u ≡ Rests)
-      → ((u z : Waiter) → has_node (phase u) ≡ true → has_node (phase z) ≡ true → own u ≡ own z
-      → u ≡ z)
+      → Apart phase own
       → ((u : Waiter) → phase' u ≡ Prepared → (z : Waiter) → queues (phase z) ≡ true
       → own' u ≢ own z)
       → ListsAgree aside tail phase' own' node' local threshold stage' kept' main second passes
-  lists_keep {phase' = phase'} {own' = own'} {node' = node'} {stage' = stage'} {kept' = kept'} same back new calm apart fresh =
+  lists_keep same back new calm apart fresh =
       record {
         flat = λ e. let o = ok.flat e in
             record {
@@ -166,9 +185,7 @@ module _ {aside : Bool} {tail : Option NodeName} {phase : Waiter → Phase} {own
               unpassed = o.unpassed;
             };
         cna = λ e. let o = ok.cna e in
-            cna_keep tail phase phase' own own' node node' local threshold stage stage' kept kept'
-            main second passes (record { cpu = 0; ctx = 0 }) o same back new (calm o.calm) apart
-            fresh;
+            cna_keep o same back new (calm o.calm) apart fresh;
       }
 
 module _ {aside : Bool} {tail : Option NodeName} {phase phase' : Waiter → Phase}
@@ -176,9 +193,9 @@ module _ {aside : Bool} {tail : Option NodeName} {phase phase' : Waiter → Phas
     {threshold : ℕ}
     {stage stage' : Waiter → Stage} {kept kept' : Waiter → Option NodeName}
     {main second : List Waiter} {passes : List ℕ} {w : Waiter} {r r' : Phase}
-    (ok : ListsAgree aside tail phase own node local threshold stage kept main second passes) (moves : Moves phase phase' w r r')
-    (others : (u : Waiter) → u ≢ w → stage' u ≡ stage u) (rests : stage' w ≡ Rests)
-    (keeps : (u : Waiter) → u ≢ w → kept' u ≡ kept u) (off : r ≢ Holds) where
+    (ok : ListsAgree aside tail phase own node local threshold stage kept main second passes)
+    (moves : Moves phase phase' w r r')
+    (idle : ChoosesNothing stage stage' kept kept' w) (off : r ≢ Holds) where
   -- before the row no choice was on
   was_rest : CnaAgrees tail phase own node local threshold stage kept main second passes
       → stage w ≡ Rests
@@ -186,7 +203,10 @@ module _ {aside : Bool} {tail : Option NodeName} {phase phase' : Waiter → Phas
 
   stages : CnaAgrees tail phase own node local threshold stage kept main second passes
       → (u : Waiter) → stage' u ≡ stage u
-  stages o u = elim (waiter_cases u w) [ inl e ↦ ap stage' e ∙ rests ∙ sym (ap stage e ∙ was_rest o) | inr ne ↦ others u ne ]
+  stages o u = elim (waiter_cases u w) [
+    | inl e ↦ ap stage' e ∙ idle.rests ∙ sym (ap stage e ∙ was_rest o)
+    | inr ne ↦ idle.stages u ne
+  ]
 
   -- a waiter takes the tail, behind the node that it met
   pub lists_behind : {p : NodeName} → r ≡ Prepared → r' ≡ Links p → tail ≡ Some p
@@ -197,10 +217,14 @@ module _ {aside : Bool} {tail : Option NodeName} {phase phase' : Waiter → Phas
       subst (λ (q : Phase). Moves phase phase' w q (Links p)) was
       (subst (λ (q : Phase). Moves phase phase' w r q) now moves) in
       record {
-        flat = λ e. let o = ok.flat e in record { queue = arrive_behind o.queue m met; single = o.single; unpassed = o.unpassed };
+        flat = λ e. let o = ok.flat e in
+            record {
+              queue = arrive_behind o.queue m met;
+              single = o.single;
+              unpassed = o.unpassed;
+            };
         cna = λ e. let o = ok.cna e in
-            cna_behind tail phase phase' own own node node local threshold stage stage' kept kept'
-            main second passes w o p m met (stages o) keeps;
+            cna_behind o m met (stages o) idle.keeps;
       }
 
   -- a waiter takes the tail, and is the front
@@ -212,10 +236,10 @@ module _ {aside : Bool} {tail : Option NodeName} {phase phase' : Waiter → Phas
       subst (λ (q : Phase). Moves phase phase' w q Leads) was
       (subst (λ (q : Phase). Moves phase phase' w r q) now moves) in
       record {
-        flat = λ e. let o = ok.flat e in record { queue = arrive_first o.queue m met; single = o.single; unpassed = o.unpassed };
+        flat = λ e. let o = ok.flat e in
+            record { queue = arrive_first o.queue m met; single = o.single; unpassed = o.unpassed };
         cna = λ e. let o = ok.cna e in
-            cna_first tail phase phase' own own node node local threshold stage stage' kept kept'
-            main second passes w o m met (stages o) none;
+            cna_first o m met (stages o) none;
       }
 
   -- the front goes on
@@ -233,28 +257,33 @@ module _ {aside : Bool} {tail : Option NodeName} {phase phase' : Waiter → Phas
               unpassed = o.unpassed;
             };
         cna = λ e. let o = ok.cna e in
-            cna_lead tail phase phase' own own node node local threshold stage stage' kept kept'
-            main second passes w o r r' moves
-            (lists_front ok w (ap (λ (q : Phase). leads q ((node (own w)).flag)) moves.was ∙ lead))
-            lead' not_waits not_hands (was_rest o) (stages o) keeps named;
+            cna_lead o (record {
+              moves = moves;
+              front = lists_front ok w
+                  (ap (λ (q : Phase). leads q ((node (own w)).flag)) moves.was ∙ lead);
+              leads_on = lead';
+              not_waits = not_waits;
+              not_hands = not_hands;
+              rests = was_rest o;
+              stages = stages o;
+              keeps = idle.keeps;
+              names = named;
+            });
       }
 
 -- the node that was met gets the own node as its next
 pub lists_link : {aside : Bool} {tail : Option NodeName} {phase phase' : Waiter → Phase}
     {own : Waiter → NodeName} {node node' : NodeName → Node} {local : Waiter → NodeName → Bool}
-    {threshold : ℕ}
-    {stage stage' : Waiter → Stage} {kept kept' : Waiter → Option NodeName}
+    {threshold : ℕ} {stage stage' : Waiter → Stage} {kept kept' : Waiter → Option NodeName}
     {main second : List Waiter} {passes : List ℕ} {w : Waiter} {p : NodeName} {y : Node}
     → ListsAgree aside tail phase own node local threshold stage kept main second passes
-    → Moves phase phase' w (Links p) Waits → Rewrites node node' p y
+    → Moves phase phase' w (Links p) Waits
+    → ChoosesNothing stage stage' kept kept' w
+    → Rewrites node node' p y
     → y ≡ record (node p) { next = Some (own w) }
-    → ((u : Waiter) → u ≢ w → stage' u ≡ stage u) → stage' w ≡ Rests → ((u : Waiter) → u ≢ w → kept' u ≡ kept u)
-    → ((u z : Waiter) → has_node (phase u) ≡ true → has_node (phase z) ≡ true → own u ≡ own z → u ≡ z)
+    → Apart phase own
     → ListsAgree aside tail phase' own node' local threshold stage' kept' main second passes
-lists_link {tail = tail} {phase = phase} {phase' = phase'} {own = own} {node = node} {node' = node'}
-    {local = local} {threshold = threshold} {stage = stage} {stage' = stage'} {kept = kept}
-    {kept' = kept'}
-    {main = main} {second = second} {passes = passes} {w = w} {p = p} {y = y} ok moves writes store others rests keeps apart =
+lists_link {w = w} {p = p} ok moves idle writes store apart =
     record {
       flat = λ e. let o = ok.flat e in let b = links_behind o.queue w p moves.was in
           record {
@@ -263,37 +292,50 @@ lists_link {tail = tail} {phase = phase} {phase' = phase'} {own = own} {node = n
             single = o.single;
             unpassed = o.unpassed;
           };
-      cna = λ e. let o = ok.cna e in let was : stage w ≡ Rests = o.calm w (λ q. grind (arith, q, moves.was)) in
-          cna_link tail phase phase' own own node node' local threshold stage stage' kept kept' main
-          second passes w o p y moves writes store
-          (λ u. elim (waiter_cases u w) [ inl q ↦ ap stage' q ∙ rests ∙ sym (ap stage q ∙ was) | inr ne ↦ others u ne ]) keeps apart;
+      cna = λ e. let o = ok.cna e in
+          cna_link o moves writes store (stages ok moves idle (λ q. cc q) o) idle.keeps apart;
     }
+
+-- what the only waiter of the queue, which leaves it from r, has: the lead, the tail and no second
+-- queue
+pub record IsSole (tail : Option NodeName) (own : Waiter → NodeName) (node : NodeName → Node)
+    (kept : Waiter → Option NodeName) (w : Waiter) (r : Phase) : Type 0 where
+  pub lead : leads r ((node (own w)).flag) ≡ true
+  pub off : r ≢ Holds
+  pub mine : tail ≡ Some (own w)
+  pub nobody : named_by r ((node (own w)).flag) (kept w) ≡ None
 
 -- the only waiter of the queue leaves it
 pub lists_sole : {aside : Bool} {tail : Option NodeName} {phase phase' : Waiter → Phase}
     {own own' : Waiter → NodeName} {node : NodeName → Node} {local : Waiter → NodeName → Bool}
-    {threshold : ℕ}
-    {stage stage' : Waiter → Stage} {kept kept' : Waiter → Option NodeName}
+    {threshold : ℕ} {stage stage' : Waiter → Stage} {kept kept' : Waiter → Option NodeName}
     {main second : List Waiter} {passes : List ℕ} {w : Waiter} {r : Phase}
     → ListsAgree aside tail phase own node local threshold stage kept main second passes
-    → Moves phase phase' w r Idle → leads r ((node (own w)).flag) ≡ true → r ≢ Holds
-    → named_by r ((node (own w)).flag) (kept w) ≡ None → ((u : Waiter) → u ≢ w → own' u ≡ own u) → tail ≡ Some (own w)
-    → ((u : Waiter) → u ≢ w → stage' u ≡ stage u) → stage' w ≡ Rests
-    → ((u z : Waiter) → has_node (phase u) ≡ true → has_node (phase z) ≡ true → own u ≡ own z → u ≡ z)
-    → ListsAgree aside None phase' own' node local threshold stage' kept' (drop 1 main) second passes
-lists_sole {tail = tail} {phase = phase} {phase' = phase'} {own = own} {own' = own'} {node = node}
-    {local = local} {threshold = threshold} {stage = stage} {stage' = stage'} {kept = kept}
-    {kept' = kept'}
-    {main = main} {second = second} {passes = passes} {w = w} {r = r} ok moves lead off none owns mine others rests apart =
+    → Moves phase phase' w r Idle
+    → ChoosesNothing stage stage' kept kept' w
+    → IsSole tail own node kept w r
+    → ((u : Waiter) → u ≢ w → own' u ≡ own u)
+    → Apart phase own
+    → ListsAgree aside None phase' own' node local threshold stage' kept'
+    (drop 1 main) second passes
+lists_sole {own = own} {node = node} {w = w} ok moves idle sole owns apart =
     record {
       flat = λ e. let o = ok.flat e in
           record {
-            queue = queue_sole o.queue moves lead owns mine apart;
+            queue = queue_sole o.queue moves sole.lead owns sole.mine apart;
             single = o.single;
             unpassed = o.unpassed;
           };
-      cna = λ e. let o = ok.cna e in let was : stage w ≡ Rests = o.calm w (λ q. off (sym moves.was ∙ q)) in
-          (cna_sole tail phase phase' own own' node node local threshold stage stage' kept kept' main second passes w o r moves
-          (lists_front ok w (ap (λ (q : Phase). leads q ((node (own w)).flag)) moves.was ∙ lead)) mine was none owns
-          (λ u. elim (waiter_cases u w) [ inl q ↦ ap stage' q ∙ rests ∙ sym (ap stage q ∙ was) | inr ne ↦ others u ne ]) apart).0;
+      cna = λ e. let o = ok.cna e in
+          (cna_sole o (record {
+            moves = moves;
+            front = lists_front ok w
+                (ap (λ (q : Phase). leads q ((node (own w)).flag)) moves.was ∙ sole.lead);
+            mine = sole.mine;
+            rests = was_rest ok moves idle sole.off o;
+            nobody = sole.nobody;
+            owns = owns;
+            stages = stages ok moves idle sole.off o;
+            apart = apart;
+          })).0;
     }

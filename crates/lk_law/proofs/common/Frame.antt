@@ -2,7 +2,7 @@
 -- waiter acts on one lock at a time.
 use Rattle.lk_word.specs.declared.spin_word.NodeName.{NodeName}
 use Rattle.lk_machine.specs.declared.parts.Node.{Node}
-use Rattle.lk_law.specs.Pv.{sleeps}
+use Rattle.lk_law.specs.Pv.{at_halt}
 use Rattle.lk_law.proofs.pv.Keep.{pv_keep, agrees-noded}
 use Rattle.std.proofs.Common.{◌≡◌, ◌≢◌, ℕ, Option, Bool, true, false, inl, inr, arith, ap, ◌<◌}
 use Rattle.std.proofs.Common.{refl, sym, ◌∙◌, subst, slice_get}
@@ -16,7 +16,7 @@ use Rattle.lk_law.specs.Phase.Phase.{Idle, Prepared}
 use Rattle.lk_law.specs.Snapshot.{Snapshot, Moves, HolderAgrees, PendingAgrees, NodesAgree, before}
 use Rattle.lk_law.specs.Snapshot.{spins}
 use Rattle.lk_law.specs.Agree.{LockAgrees, SnapshotAgrees, Step, Stays, LeavesSlowPath, ParaAgrees}
-use Rattle.lk_law.specs.Agree.{halts, Owed, state_of}
+use Rattle.lk_law.specs.Agree.{halts, Owed, node_state}
 use Rattle.lk_law.proofs.common.Cases.{waiter_cases, lock_cases}
 use Rattle.lk_law.proofs.common.Before.{nodes_apart, before_same, before_drop, before_else}
 use Rattle.lk_law.proofs.spin.Hold.{hold_keep}
@@ -30,7 +30,8 @@ ActsAlone phase = (k l : LockName) (u : Waiter) → k ≢ l → phase k u ≢ Id
 
 -- the node of each waiter that acts on another lock than l is as before
 abbrev pub LeavesOthers : Snapshot → Snapshot → LockName → Type 0
-LeavesOthers s s' l = (k : LockName) (u : Waiter) → k ≢ l → has_node (s.phase k u) ≡ true → s'.node (s.own u) ≡ s.node (s.own u)
+LeavesOthers s s' l = (k : LockName) (u : Waiter) → k ≢ l → has_node (s.phase k u) ≡ true
+    → s'.node (s.own u) ≡ s.node (s.own u)
 
 pub queue_node : (q : Phase) → queues q ≡ true → has_node q ≡ true
 queue_node q h = grind arith
@@ -42,8 +43,11 @@ module _ {s s' : Snapshot} {w : Waiter} {l : LockName} {r r' : Phase} {x : Field
       → has_node (s'.phase k u) ≡ true → has_node (s.phase k u) ≡ true
   noded keeps k u p =
       elim (lock_cases k l) [
-        | inl e ↦ let P : LockName → Type 0 = λ m. has_node (s'.phase m u) ≡ true → has_node (s.phase m u) ≡ true in
-            subst P (sym e) (λ q. grind (arith, waiter_cases u w, step.acts.others u, step.acts.was, step.acts.now, keeps)) p
+        | inl e ↦ let P : LockName → Type 0 =
+            λ m. has_node (s'.phase m u) ≡ true → has_node (s.phase m u) ≡ true in
+            subst P (sym e) (λ q.
+            grind
+            (arith, waiter_cases u w, step.acts.others u, step.acts.was, step.acts.now, keeps)) p
         | inr ne ↦ grind (arith, step.phases k ne u)
       ]
 
@@ -54,7 +58,8 @@ module _ {s s' : Snapshot} {w : Waiter} {l : LockName} {r r' : Phase} {x : Field
       elim (lock_cases k l) [
         | inl q ↦ let a : s'.phase k u ≡ r' = ap (λ (m : LockName). s'.phase m u) q
             ∙ ap (s'.phase l) e ∙ step.acts.now in grind (arith, a)
-        | inr ne ↦ let a : s'.phase k u ≡ Idle = step.phases k ne u ∙ ap (s.phase k) e ∙ step.idle k ne in grind (arith, a)
+        | inr ne ↦ let a : s'.phase k u ≡ Idle =
+            step.phases k ne u ∙ ap (s.phase k) e ∙ step.idle k ne in grind (arith, a)
       ]
 
   -- Where a waiter acts on another lock than l, the acting waiter is not it.
@@ -64,7 +69,8 @@ module _ {s s' : Snapshot} {w : Waiter} {l : LockName} {r r' : Phase} {x : Field
   pub nodes_stay : NodesAgree s.phase s.own s.slow s.queued → Stays s s' w
       → (has_node r' ≡ true → has_node r ≡ true) → NodesAgree s'.phase s'.own s'.slow s'.queued
   nodes_stay nodes stays keeps =
-      let same : (u : Waiter) → s'.own u ≡ s.own u = λ u. grind (arith, waiter_cases u w, stays.own, step.owns u) in
+      let same : (u : Waiter) → s'.own u ≡ s.own u =
+      λ u. grind (arith, waiter_cases u w, stays.own, step.owns u) in
       let count : (p c : ℕ) → before s'.slow p c ≡ before s.slow p c =
       λ p c. before_same s.slow s'.slow p c
       (λ d lt. stays.slow (record { cpu = p; ctx = d })) in
@@ -105,11 +111,13 @@ module _ {s s' : Snapshot} {w : Waiter} {l : LockName} {r r' : Phase} {x : Field
               subst P (sym e)
               (let d = before_drop s.slow s'.slow w 6 goes.slow goes.on_top.low in
               let c = nodes.counted w.cpu in let z = goes.here in omega arith)
-          | inr ne ↦ goes.queued p ne ∙ nodes.counted p ∙ sym (before_else s.slow s'.slow w true false p 6 goes.slow ne)
+          | inr ne ↦ goes.queued p ne ∙ nodes.counted p
+              ∙ sym (before_else s.slow s'.slow w true false p 6 goes.slow ne)
         ];
         slowly = λ k u p. goes.slow.others u (noded_else none k u p) ∙ nodes.slowly k u (old k u p);
         below = λ k u p. rw (count k u p) (nodes.below k u (old k u p));
-        placed = λ k u p. step.owns u (noded_else none k u p) ∙ rw (count k u p) (nodes.placed k u (old k u p));
+        placed = λ k u p. step.owns u (noded_else none k u p)
+            ∙ rw (count k u p) (nodes.placed k u (old k u p));
       }
 
   pub still_alone : ActsAlone s.phase → ActsAlone s'.phase
@@ -120,14 +128,16 @@ module _ {s s' : Snapshot} {w : Waiter} {l : LockName} {r r' : Phase} {x : Field
             let p' : s'.phase l u ≢ Idle = (λ e. p (ap (λ (n : LockName). s'.phase n u) ek ∙ e)) in
             elim (waiter_cases u w) [
               | inl e ↦ step.phases m nm u ∙ ap (s.phase m) e ∙ step.idle m nm
-              | inr nu ↦ step.phases m nm u ∙ alone l m u (λ e. nm (sym e)) (λ e. p' (step.acts.others u nu ∙ e))
+              | inr nu ↦ step.phases m nm u
+                  ∙ alone l m u (λ e. nm (sym e)) (λ e. p' (step.acts.others u nu ∙ e))
             ]
         | inr nk ↦
             let old : s.phase k u ≢ Idle = (λ e. p (step.phases k nk u ∙ e)) in
             elim (lock_cases m l) [
               | inl em ↦ elim (waiter_cases u w) [
                 | inl e ↦ absurd (old (ap (s.phase k) e ∙ step.idle k nk))
-                | inr nu ↦ ap (λ (n : LockName). s'.phase n u) em ∙ step.acts.others u nu ∙ alone k l u nk old
+                | inr nu ↦ ap (λ (n : LockName). s'.phase n u) em ∙ step.acts.others u nu
+                    ∙ alone k l u nk old
               ]
               | inr nm ↦ step.phases m nm u ∙ alone k m u ne old
             ]
@@ -136,15 +146,21 @@ module _ {s s' : Snapshot} {w : Waiter} {l : LockName} {r r' : Phase} {x : Field
   -- Another lock is as before: its holder, its pending bit and its queue.
 
   else_acts : (k : LockName) → k ≢ l → Moves (s.phase k) (s'.phase k) w Idle Idle
-  else_acts k ne = record { was = step.idle k ne; now = step.phases k ne w ∙ step.idle k ne; others = λ u n. step.phases k ne u }
+  else_acts k ne = record {
+    was = step.idle k ne;
+    now = step.phases k ne w ∙ step.idle k ne;
+    others = λ u n. step.phases k ne u;
+  }
 
   pub else_hold : (k : LockName) → k ≢ l → {holder : Option Waiter}
       → HolderAgrees (s.word k).locked (s.phase k) (λ u. spins (s.held u k)) holder
       → HolderAgrees (s'.word k).locked (s'.phase k) (λ u. spins (s'.held u k)) holder
   else_hold k ne o =
-      let still : Moves (λ u. spins (s.held u k)) (λ u. spins (s'.held u k)) w (spins (s.held w k)) (spins (s.held w k)) =
+      let still : Moves (λ u. spins (s.held u k)) (λ u. spins (s'.held u k)) w (spins (s.held w k))
+      (spins (s.held w k)) =
       record { was = refl; now = step.helds k ne w; others = λ u n. step.helds k ne u } in
-      rw (step.words k ne) (hold_keep o (else_acts k ne) still refl (λ p. absurd (grind arith)) (λ p. absurd (grind arith)))
+      rw (step.words k ne) (hold_keep o (else_acts k ne) still refl (λ p. absurd (grind arith))
+      (λ p. absurd (grind arith)))
 
   pub else_pend : (k : LockName) → k ≢ l
       → PendingAgrees (s.word k).locked (s.word k).pending (s.phase k)
@@ -177,7 +193,9 @@ module _ {s s' : Snapshot} {w : Waiter} {l : LockName} {r r' : Phase} {x : Field
       ])
       (λ u z p q e. nodes_apart nodes k k u z p q e)
       (λ u p z q e. let f : s.phase k u ≡ Prepared = sym (step.phases k ne u) ∙ p in
-      let same : u ≡ z = nodes_apart nodes k k u z (grind arith) (queue_node (s.phase k z) q) (sym (own_same u (grind arith)) ∙ e) in
+      let same : u ≡ z =
+      nodes_apart nodes k k u z (grind arith) (queue_node (s.phase k z) q)
+      (sym (own_same u (grind arith)) ∙ e) in
       absurd (grind (arith, ap (s.phase k) same, f, q))))
     where
       own_same : (u : Waiter) → has_node (s.phase k u) ≡ true → s'.own u ≡ s.own u
@@ -191,8 +209,8 @@ module _ {s s' : Snapshot} {w : Waiter} {l : LockName} {r r' : Phase} {x : Field
       let same : s'.post k ≡ s.post k = (λ i u. else_post u i) in
       record {
         posts = rw (step.words k ne, step.entries k ne, same)
-            (pv_keep (s.word k).locked (s.entry k) (slice_get h.main 0) (s.post k) (state_of s)
-            (state_of s') s.own s'.own (λ u. Owed s u.cpu) (λ u. Owed s' u.cpu) p.posts
+            (pv_keep (s.word k).locked (s.entry k) (slice_get h.main 0) (s.post k) (node_state s)
+            (node_state s') s.own s'.own (λ u. Owed s u.cpu) (λ u. Owed s' u.cpu) p.posts
             (λ u q. both u (agrees-noded (s.post k u) (s.phase k u) (p.suits u) q))
             (λ z f. both z (queue_node (s.phase k z) (lists_main o.lists 0 z f)))
             (λ z q d. step.owed was k z ne q d));
@@ -208,7 +226,7 @@ module _ {s s' : Snapshot} {w : Waiter} {l : LockName} {r r' : Phase} {x : Field
           ]
 
       both : (u : Waiter) → has_node (s.phase k u) ≡ true
-          → (state_of s' u ≡ state_of s u) × (s'.own u ≡ s.own u)
+          → (node_state s' u ≡ node_state s u) × (s'.own u ≡ s.own u)
       both u p = let e = step.owns u (acts_else k ne u p) in (
         ap (λ (n : NodeName). (s'.node n).state) e ∙ ap (λ (n : Node). n.state) (away k u ne p),
         e,
@@ -216,19 +234,19 @@ module _ {s s' : Snapshot} {w : Waiter} {l : LockName} {r r' : Phase} {x : Field
 
   -- who sleeps afterwards slept before, or is the only one of its processor
   still_sleeper : (halts s.mode ≡ true → (k m : LockName) (u z : Waiter)
-      → sleeps (s.post k u) ≡ true → sleeps (s.post m z) ≡ true → u.cpu ≡ z.cpu → u ≡ z)
-      → halts s'.mode ≡ true → (k m : LockName) (u z : Waiter) → sleeps (s'.post k u) ≡ true
-      → sleeps (s'.post m z) ≡ true → u.cpu ≡ z.cpu → u ≡ z
+      → at_halt (s.post k u) ≡ true → at_halt (s.post m z) ≡ true → u.cpu ≡ z.cpu → u ≡ z)
+      → halts s'.mode ≡ true → (k m : LockName) (u z : Waiter) → at_halt (s'.post k u) ≡ true
+      → at_halt (s'.post m z) ≡ true → u.cpu ≡ z.cpu → u ≡ z
   still_sleeper lone on k m u z a b e =
       elim (waiter_cases u w) [
         | inl q ↦ elim (waiter_cases z w) [
           | inl r ↦ q ∙ sym r
           | inr nz ↦ q
-              ∙ sym (step.lone was (mine k (ap (λ v. sleeps (s'.post k v)) (sym q) ∙ a)) m z
+              ∙ sym (step.lone was (mine k (ap (λ v. at_halt (s'.post k v)) (sym q) ∙ a)) m z
               (sym e ∙ ap (λ (v : Waiter). v.cpu) q) (old m z nz b))
         ]
         | inr nu ↦ elim (waiter_cases z w) [
-          | inl r ↦ step.lone was (mine m (ap (λ v. sleeps (s'.post m v)) (sym r) ∙ b)) k u
+          | inl r ↦ step.lone was (mine m (ap (λ v. at_halt (s'.post m v)) (sym r) ∙ b)) k u
               (e ∙ ap (λ (v : Waiter). v.cpu) r) (old k u nu a) ∙ sym r
           | inr nz ↦ lone was k m u z (old k u nu a) (old m z nz b) e
         ]
@@ -237,15 +255,15 @@ module _ {s s' : Snapshot} {w : Waiter} {l : LockName} {r r' : Phase} {x : Field
       was : halts s.mode ≡ true
       was = ap halts (sym step.mode) ∙ on
 
-      old : (k : LockName) (v : Waiter) → v ≢ w → sleeps (s'.post k v) ≡ true
-          → sleeps (s.post k v) ≡ true
-      old k v ne h = ap sleeps (sym (step.posts k v ne)) ∙ h
+      old : (k : LockName) (v : Waiter) → v ≢ w → at_halt (s'.post k v) ≡ true
+          → at_halt (s.post k v) ≡ true
+      old k v ne h = ap at_halt (sym (step.posts k v ne)) ∙ h
 
-      mine : (k : LockName) → sleeps (s'.post k w) ≡ true → sleeps (s'.post l w) ≡ true
+      mine : (k : LockName) → at_halt (s'.post k w) ≡ true → at_halt (s'.post l w) ≡ true
       mine k h = elim
           (lock_cases k l) [
-            | inl q ↦ ap (λ m. sleeps (s'.post m w)) (sym q) ∙ h
-            | inr ne ↦ absurd (let o = step.off k ne in grind (arith, ap sleeps o, h))
+            | inl q ↦ ap (λ m. at_halt (s'.post m w)) (sym q) ∙ h
+            | inr ne ↦ absurd (let o = step.off k ne in grind (arith, ap at_halt o, h))
           ]
 
   pub elsewhere : NodesAgree s.phase s.own s.slow s.queued → LeavesOthers s s' l → (k : LockName)

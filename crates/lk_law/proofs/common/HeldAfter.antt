@@ -53,7 +53,8 @@ held_by ops f {r = r} {v = v} {i = i} {n = n} s l =
 
 -- only the lock k is held otherwise, and so
 abbrev pub HoldsThen : List Op → Frame → Frame → LockName → Option Manner → Type 0
-HoldsThen ops f g k way = (l : LockName) → held_in ops g l ≡ (if same_lock l k then way else held_in ops f l)
+HoldsThen ops f g k way =
+    (l : LockName) → held_in ops g l ≡ (if same_lock l k then way else held_in ops f l)
 
 -- to say so it is enough to say it of phases
 by_stance : (ops : List Op) (f g : Frame) {r r' : RwPhase} {v v' : Bool} {i n n' : ℕ}
@@ -61,7 +62,8 @@ by_stance : (ops : List Op) (f g : Frame) {r r' : RwPhase} {v v' : Bool} {i n n'
     → stance_held ops r' v' i n' k ≡ way
     → ((l : LockName) → l ≢ k → stance_held ops r' v' i n' l ≡ stance_held ops r v i n l)
     → HoldsThen ops f g k way
-by_stance ops f g {r = r} {r' = r'} {v = v} {v' = v'} {i = i} {n = n} {n' = n'} s s' k way here other l =
+by_stance ops f g {r = r} {r' = r'} {v = v} {v' = v'} {i = i} {n = n} {n' = n'} s s' k way here
+    other l =
     elim (lock_cases l k) [
       | inl e ↦ held_by ops g s' l ∙ ap (λ (q : LockName). stance_held ops r' v' i n' q) e ∙ here
           ∙ sym (if-true (same_lock l k) way (held_in ops f l)
@@ -70,7 +72,8 @@ by_stance ops f g {r = r} {r' = r'} {v = v} {v' = v'} {i = i} {n = n} {n' = n'} 
           ∙ sym (if-false (same_lock l k) way (held_in ops f l) (same_lock-else l k ne))
     ]
 
-module _ (ops : List Op) (f g : Frame) {r r' : RwPhase} {v v' : Bool} {i n : ℕ} (s : Stance f r v i n) where
+module _ (ops : List Op) (f g : Frame) {r r' : RwPhase} {v v' : Bool} {i n : ℕ}
+    (s : Stance f r v i n) where
   -- it goes on within its operation, and has the wait lock as before
   pub held_goes : Stance g r' v' i n → is_inner r' ≡ is_inner r → v' ≡ v → (l : LockName)
       → held_in ops g l ≡ held_in ops f l
@@ -104,7 +107,8 @@ module _ (ops : List Op) (f g : Frame) {r r' : RwPhase} {v v' : Bool} {i n : ℕ
           → stance_held ops r' v' i n l ≡ stance_held ops r v i n l
       other l true e ne = rw (e, inner, inner') refl
       other l false e ne =
-          let far : o.lock ≢ l.index = (λ q. ne (λ j. record { index = (sym q ∙ lock) j; wait = e j })) in
+          let far : o.lock ≢ l.index =
+          (λ q. ne (λ j. record { index = (sym q ∙ lock) j; wait = e j })) in
           rw (e, on, off)
           (way_next ops n l.index o is
           ∙ if-false (o.lock == l.index) (way_after o.verb) (way_at ops n l.index)
@@ -124,7 +128,8 @@ module _ (ops : List Op) (f g : Frame) {r r' : RwPhase} {v v' : Bool} {i n : ℕ
           → stance_held ops r' v' i n l ≡ stance_held ops r v i n l
       other l true e ne = rw (e, outer, outer') refl
       other l false e ne =
-          let far : o.lock ≢ l.index = (λ q. ne (λ j. record { index = (sym q ∙ lock) j; wait = e j })) in
+          let far : o.lock ≢ l.index =
+          (λ q. ne (λ j. record { index = (sym q ∙ lock) j; wait = e j })) in
           rw (e, on, off)
           (way_next ops n l.index o is
           ∙ if-false (o.lock == l.index) (way_after o.verb) (way_at ops n l.index)

@@ -20,10 +20,11 @@ use Rattle.lk_machine.specs.Machine.{rest_node}
 use Rattle.lk_law.specs.Phase.{Phase, has_lock, has_node, pends, claims, queues}
 use Rattle.lk_law.specs.Phase.Phase.{Releases, Prepared, Links, Hands}
 use Rattle.lk_law.specs.Snapshot.{Snapshot, spins}
-use Rattle.lk_law.specs.Pv.{Post, PostsAgree, slow_at, one_at, full, bare, holds, fronts, raw}
+use Rattle.lk_law.specs.Pv.{Post, PostsAgree, slow_at, one_at, post_full, bare, post_holds, fronts}
+use Rattle.lk_law.specs.Pv.{raw}
 use Rattle.lk_law.specs.Pv.{names}
 use Rattle.lk_law.specs.Pv.Post.{Finds, Signs}
-use Rattle.lk_law.specs.Agree.{LockAgrees, Owed, state_of, halts}
+use Rattle.lk_law.specs.Agree.{LockAgrees, Owed, node_state, halts}
 use Rattle.lk_law.proofs.pv.Laws.{para, para_queue, para_taken, para_leads, halts_flat}
 use Rattle.lk_law.specs.World.{World}
 use Rattle.lk_law.specs.SpinWorld.{IsSoundSpinWorld}
@@ -41,9 +42,9 @@ use Rattle.lk_law.proofs.pv.Find.{finds_some}
 use Rattle.lk_law.proofs.common.Users.{user_of, own_node}
 
 held_byte : (b : Locked) → b ≢ Free → b ≢ Slow → b ≡ Held
-held_byte Free full quick = absurd (full refl)
-held_byte Held full quick = refl
-held_byte Slow full quick = absurd (quick refl)
+held_byte Free post_full quick = absurd (post_full refl)
+held_byte Held post_full quick = refl
+held_byte Slow post_full quick = absurd (quick refl)
 
 tail_some : (tail : Option NodeName) → (tail ≡ None → ⊥) → is_some tail ≡ true
 tail_some None h = absurd (h refl)
@@ -67,8 +68,10 @@ module _ {m : World} {hs : LockName → LockHistory} {w : Waiter} {f : Frame} {c
   taken : halts m.mode ≡ false → has_lock r (spins (m.held w f.lock)) ≡ true
       → (m.word f.lock).locked ≡ Held
   taken awake h =
-      let mine = agrees.hold.has w (ap (λ (p : Phase). has_lock p (spins (m.held w f.lock))) shown ∙ h) in
-      held_byte (m.word f.lock).locked (λ e. let none = agrees.hold.free e in grind arith) (ok.plain.byte awake f.lock)
+      let mine =
+      agrees.hold.has w (ap (λ (p : Phase). has_lock p (spins (m.held w f.lock))) shown ∙ h) in
+      held_byte (m.word f.lock).locked (λ e.
+      let none = agrees.hold.free e in grind arith) (ok.plain.byte awake f.lock)
 
   released : halts m.mode ≡ false → r ≡ Releases → (m.word f.lock).locked ≡ Held
   released awake e = let h = agrees.hold.releases w (shown ∙ e) in taken awake (grind (arith, e, h))
@@ -83,7 +86,8 @@ module _ {m : World} {hs : LockName → LockHistory} {w : Waiter} {f : Frame} {c
   queued h = tail_some (m.word f.lock).tail (λ e. lists_none agrees.lists e w (ap queues shown ∙ h))
 
   rests : r ≡ Prepared → m.node (node_of f.me) ≡ rest_node
-  rests e = subst (λ (n : NodeName). m.node n ≡ rest_node) own_is (lists_rest agrees.lists w (shown ∙ e))
+  rests e =
+      subst (λ (n : NodeName). m.node n ≡ rest_node) own_is (lists_rest agrees.lists w (shown ∙ e))
 
   unlinked : (p : NodeName) → r ≡ Links p → (m.node p).next ≡ None
   unlinked p e = (lists_met agrees.lists w p (shown ∙ e)).next
@@ -91,8 +95,8 @@ module _ {m : World} {hs : LockName → LockHistory} {w : Waiter} {f : Frame} {c
   unflagged : (n : NodeName) → moves_aside m.mode ≡ false → r ≡ Hands n → (m.node n).flag ≡ Unset
   unflagged n plain e =
       let q = (agrees.lists.flat plain).queue in
-      let v = q.hand w n (shown ∙ e) in
-      ap (λ (k : NodeName). (m.node k).flag) (sym v.3) ∙ (q.behind 0 v.0 v.1).1
+      let v = q.links.hand w n (shown ∙ e) in
+      ap (λ (k : NodeName). (m.node k).flag) (sym v.3) ∙ (q.ends.behind 0 v.0 v.1).1
 
 -- where processors halt, by its post
 module _ {m : World} {hs : LockName → LockHistory} {w : Waiter} {f : Frame} {c : Pc}
@@ -123,7 +127,7 @@ module _ {m : World} {hs : LockName → LockHistory} {w : Waiter} {f : Frame} {c
 
   module _ (on : halts m.mode ≡ true) where
     posts : PostsAgree (m.word l).locked (m.entry l) (slice_get (hs l).main 0) (s.post l)
-        (state_of s) s.own (λ u. Owed s u.cpu)
+        (node_state s) s.own (λ u. Owed s u.cpu)
     posts = (para ok.agrees on l).posts
 
     byte_slow : slow_at (post_at c f) ≡ true → (m.word l).locked ≡ Slow
@@ -132,13 +136,14 @@ module _ {m : World} {hs : LockName → LockHistory} {w : Waiter} {f : Frame} {c
     byte_one : one_at (post_at c f) ≡ true → (m.word l).locked ≡ Held
     byte_one h = posts.one w (ap one_at posted ∙ h)
 
-    byte_full : full (post_at c f) ≡ true → holds (post_at c f) ≡ true → (m.word l).locked ≡ Held
+    byte_full : post_full (post_at c f) ≡ true → post_holds (post_at c f) ≡ true
+        → (m.word l).locked ≡ Held
     byte_full h k =
-        held_byte (m.word l).locked (para_taken ok.agrees on l w (ap holds posted ∙ k))
-        (posts.full_slow w (ap full posted ∙ h))
+        held_byte (m.word l).locked (para_taken ok.agrees on l w (ap post_holds posted ∙ k))
+        (posts.full_slow w (ap post_full posted ∙ h))
 
-    own_entry : full (post_at c f) ≡ true → m.entry l ≡ Some (node_of f.me)
-    own_entry h = posts.full_entry w (ap full posted ∙ h) ∙ ap Some (own_is ok live place)
+    own_entry : post_full (post_at c f) ≡ true → m.entry l ≡ Some (node_of f.me)
+    own_entry h = posts.full_entry w (ap post_full posted ∙ h) ∙ ap Some (own_is ok live place)
 
     bare_slow : bare (post_at c f) ≡ true → (m.word l).locked ≡ Slow
     bare_slow h = posts.bare_slow w (ap bare posted ∙ h)
@@ -154,15 +159,16 @@ module _ {m : World} {hs : LockName → LockHistory} {w : Waiter} {f : Frame} {c
     unentered e =
         no_entry (m.entry l) (λ n q.
         let at = para_leads ok.agrees on l w (ap fronts (posted ∙ e)) in
-        let quick = posts.raw_slow w at (ap (λ (p : Post). raw p (state_of s w)) (posted ∙ e)) in
+        let quick = posts.raw_slow w at (ap (λ (p : Post). raw p (node_state s w)) (posted ∙ e)) in
         let u = posts.full_some n q quick in
         let first = para_leads ok.agrees on l u.0 (full_fronts (s.post l u.0) u.1) in
         let same : u.0 ≡ w = grind (arith, first, at) in
-        let z : full (s.post l w) ≡ true = ap (λ (v : Waiter). full (s.post l v)) (sym same) ∙ u.1 in
-        let k = ap full (posted ∙ e) in
+        let z : post_full (s.post l w) ≡ true =
+        ap (λ (v : Waiter). post_full (s.post l v)) (sym same) ∙ u.1 in
+        let k = ap post_full (posted ∙ e) in
         grind (arith, z, k))
       where
-        full_fronts : (p : Post) → full p ≡ true → fronts p ≡ true
+        full_fronts : (p : Post) → post_full p ≡ true → fronts p ≡ true
         full_fronts p h = grind arith
 
         no_entry : (o : Option NodeName) → ((n : NodeName) → o ≡ Some n → ⊥) → o ≡ None
@@ -174,34 +180,54 @@ pub row_knows : (c : Pc) → RowKnows c
 row_knows U1 m hs w f ok live place = ((λ awake. released ok live place awake refl), tt, (λ on. tt))
 row_knows P2 m hs w f ok live place = ((λ awake. pending ok live place refl), tt, (λ on. tt))
 row_knows P3 m hs w f ok live place = ((λ awake. pending ok live place refl), tt, (λ on. tt))
-row_knows P4 m hs w f ok live place = ((λ awake. (free ok live place refl, pending ok live place refl)), tt, (λ on. tt))
-row_knows G2 m hs w f ok live place = ((λ awake. ok.plain.byte awake f.lock), rests ok live place refl, (λ on. tt))
-row_knows G3 m hs w f ok live place = ((λ awake. ok.plain.byte awake f.lock), rests ok live place refl, (λ on. tt))
-row_knows G4 m hs w f ok live place = ((λ awake. ok.plain.byte awake f.lock), rests ok live place refl, (λ on. tt))
-row_knows G5 m hs w f ok live place = ((λ awake. queued ok live place refl), unlinked ok live place (node_of f.prev) refl, (λ on. tt))
+row_knows P4 m hs w f ok live place =
+    ((λ awake. (free ok live place refl, pending ok live place refl)), tt, (λ on. tt))
+row_knows G2 m hs w f ok live place =
+    ((λ awake. ok.plain.byte awake f.lock), rests ok live place refl, (λ on. tt))
+row_knows G3 m hs w f ok live place =
+    ((λ awake. ok.plain.byte awake f.lock), rests ok live place refl, (λ on. tt))
+row_knows G4 m hs w f ok live place =
+    ((λ awake. ok.plain.byte awake f.lock), rests ok live place refl, (λ on. tt))
+row_knows G5 m hs w f ok live place =
+    ((λ awake. queued ok live place refl), unlinked ok live place (node_of f.prev) refl, (λ on. tt))
 row_knows G6 m hs w f ok live place = ((λ awake. queued ok live place refl), tt, (λ on. tt))
 row_knows G7 m hs w f ok live place = ((λ awake. queued ok live place refl), tt, (λ on. tt))
-row_knows G8 m hs w f ok live place = ((λ awake. (free ok live place refl, queued ok live place refl)), tt, (λ on. tt))
-row_knows G9 m hs w f ok live place = ((λ awake. (free ok live place refl, queued ok live place refl)), tt, (λ on. tt))
-row_knows G10 m hs w f ok live place = ((λ awake. (taken ok live place awake refl, queued ok live place refl)), tt, (λ on. tt))
+row_knows G8 m hs w f ok live place =
+    ((λ awake. (free ok live place refl, queued ok live place refl)), tt, (λ on. tt))
+row_knows G9 m hs w f ok live place =
+    ((λ awake. (free ok live place refl, queued ok live place refl)), tt, (λ on. tt))
+row_knows G10 m hs w f ok live place =
+    ((λ awake. (taken ok live place awake refl, queued ok live place refl)), tt, (λ on. tt))
 row_knows G11 m hs w f ok live place = (
   (λ awake. (taken ok live place awake refl, queued ok live place refl)),
   unflagged ok live place (node_of f.y) ((ok.registers w f live).choice.plainly G11 place refl)
       refl,
   (λ on. tt),
 )
-row_knows C1 m hs w f ok live place = ((λ awake. (taken ok live place awake refl, queued ok live place refl)), tt, (λ on. tt))
-row_knows C2 m hs w f ok live place = ((λ awake. (taken ok live place awake refl, queued ok live place refl)), tt, (λ on. tt))
-row_knows C3 m hs w f ok live place = ((λ awake. (taken ok live place awake refl, queued ok live place refl)), tt, (λ on. tt))
-row_knows C4 m hs w f ok live place = ((λ awake. (taken ok live place awake refl, queued ok live place refl)), tt, (λ on. tt))
-row_knows C5 m hs w f ok live place = ((λ awake. (taken ok live place awake refl, queued ok live place refl)), tt, (λ on. tt))
-row_knows C6 m hs w f ok live place = ((λ awake. (taken ok live place awake refl, queued ok live place refl)), tt, (λ on. tt))
-row_knows C7 m hs w f ok live place = ((λ awake. (taken ok live place awake refl, queued ok live place refl)), tt, (λ on. tt))
-row_knows C8 m hs w f ok live place = ((λ awake. (taken ok live place awake refl, queued ok live place refl)), tt, (λ on. tt))
-row_knows C9 m hs w f ok live place = ((λ awake. (taken ok live place awake refl, queued ok live place refl)), tt, (λ on. tt))
-row_knows C10 m hs w f ok live place = ((λ awake. (taken ok live place awake refl, queued ok live place refl)), tt, (λ on. tt))
-row_knows E6 m hs w f ok live place = ((λ awake. ok.plain.byte awake f.lock), tt, (λ on. unentered ok live place on refl))
-row_knows E8 m hs w f ok live place = ((λ awake. ok.plain.byte awake f.lock), tt, (λ on. byte_slow ok live place on refl))
+row_knows C1 m hs w f ok live place =
+    ((λ awake. (taken ok live place awake refl, queued ok live place refl)), tt, (λ on. tt))
+row_knows C2 m hs w f ok live place =
+    ((λ awake. (taken ok live place awake refl, queued ok live place refl)), tt, (λ on. tt))
+row_knows C3 m hs w f ok live place =
+    ((λ awake. (taken ok live place awake refl, queued ok live place refl)), tt, (λ on. tt))
+row_knows C4 m hs w f ok live place =
+    ((λ awake. (taken ok live place awake refl, queued ok live place refl)), tt, (λ on. tt))
+row_knows C5 m hs w f ok live place =
+    ((λ awake. (taken ok live place awake refl, queued ok live place refl)), tt, (λ on. tt))
+row_knows C6 m hs w f ok live place =
+    ((λ awake. (taken ok live place awake refl, queued ok live place refl)), tt, (λ on. tt))
+row_knows C7 m hs w f ok live place =
+    ((λ awake. (taken ok live place awake refl, queued ok live place refl)), tt, (λ on. tt))
+row_knows C8 m hs w f ok live place =
+    ((λ awake. (taken ok live place awake refl, queued ok live place refl)), tt, (λ on. tt))
+row_knows C9 m hs w f ok live place =
+    ((λ awake. (taken ok live place awake refl, queued ok live place refl)), tt, (λ on. tt))
+row_knows C10 m hs w f ok live place =
+    ((λ awake. (taken ok live place awake refl, queued ok live place refl)), tt, (λ on. tt))
+row_knows E6 m hs w f ok live place =
+    ((λ awake. ok.plain.byte awake f.lock), tt, (λ on. unentered ok live place on refl))
+row_knows E8 m hs w f ok live place =
+    ((λ awake. ok.plain.byte awake f.lock), tt, (λ on. byte_slow ok live place on refl))
 row_knows E9 m hs w f ok live place = (
   (λ awake. ok.plain.byte awake f.lock),
   tt,
@@ -222,13 +248,15 @@ row_knows E15 m hs w f ok live place = (
   unflagged ok live place (node_of f.y) (flat_of ok live place refl) refl,
   (λ on. (byte_one ok live place on refl, queued ok live place refl)),
 )
-row_knows K2 m hs w f ok live place = ((λ awake. ok.plain.byte awake f.lock), tt, (λ on. byte_one ok live place on refl))
+row_knows K2 m hs w f ok live place =
+    ((λ awake. ok.plain.byte awake f.lock), tt, (λ on. byte_one ok live place on refl))
 row_knows K3 m hs w f ok live place = (
   (λ awake. ok.plain.byte awake f.lock),
   tt,
   (λ on. (bare_slow ok live place on refl, bare_entry ok live place on refl)),
 )
-row_knows U2 m hs w f ok live place = ((λ awake. ok.plain.byte awake f.lock), tt, (λ on. freed_not ok live place refl))
+row_knows U2 m hs w f ok live place =
+    ((λ awake. ok.plain.byte awake f.lock), tt, (λ on. freed_not ok live place refl))
 row_knows U3 m hs w f ok live place = (
   (λ awake. ok.plain.byte awake f.lock),
   tt,
@@ -243,22 +271,35 @@ row_knows _ m hs w f ok live place = ((λ awake. ok.plain.byte awake f.lock), tt
 
 pub tail_is_used : TailIsUsed
 tail_is_used m hs l n ok tail =
-    let u = lists_last (ok.agrees.locks l).lists n tail in
-    (u.by, subst (Uses m u.by) u.owned (user_of ok l u.by u.noded), subst (IsOwnNode u.by) u.owned (own_node ok l u.by u.noded))
+    let u = lists_last (ok.agrees.locks l).lists n tail in (
+      u.by,
+      subst (Uses m u.by) u.owned (user_of ok l u.by u.noded),
+      subst (IsOwnNode u.by) u.owned (own_node ok l u.by u.noded),
+    )
 
 pub next_is_used : NextIsUsed
 next_is_used m hs w f ok live place =
     let v = ((ok.agrees.locks f.lock).lists.flat
-    ((ok.registers w f live).choice.plainly G11 place refl)).queue.hand w (node_of f.y)
+    ((ok.registers w f live).choice.plainly G11 place refl)).queue.links.hand w (node_of f.y)
     (shown ok live place) in
-    let noded : has_node ((snapshot m).phase f.lock v.0) ≡ true = ap has_node v.2 in
-    (v.0, subst (Uses m v.0) v.3 (user_of ok f.lock v.0 noded), subst (IsOwnNode v.0) v.3 (own_node ok f.lock v.0 noded), v.1)
+    let noded : has_node ((snapshot m).phase f.lock v.0) ≡ true = ap has_node v.2 in (
+      v.0,
+      subst (Uses m v.0) v.3 (user_of ok f.lock v.0 noded),
+      subst (IsOwnNode v.0) v.3 (own_node ok f.lock v.0 noded),
+      v.1,
+    )
 
 pub halting_next_is_used : HaltingNextIsUsed
 halting_next_is_used m hs w f ok live place =
-    let v = (para_queue ok.agrees (halting_at ok live place refl) f.lock).hand w (node_of f.y) (shown ok live place) in
-    let noded : has_node ((snapshot m).phase f.lock v.0) ≡ true = ap has_node v.2 in
-    (v.0, subst (Uses m v.0) v.3 (user_of ok f.lock v.0 noded), subst (IsOwnNode v.0) v.3 (own_node ok f.lock v.0 noded), v.1)
+    let v =
+    (para_queue ok.agrees (halting_at ok live place refl) f.lock).links.hand w (node_of f.y)
+    (shown ok live place) in
+    let noded : has_node ((snapshot m).phase f.lock v.0) ≡ true = ap has_node v.2 in (
+      v.0,
+      subst (Uses m v.0) v.3 (user_of ok f.lock v.0 noded),
+      subst (IsOwnNode v.0) v.3 (own_node ok f.lock v.0 noded),
+      v.1,
+    )
 
 front_used : {m : World} {hs : LockName → LockHistory} (ok : IsSoundSpinWorld m hs) (l : LockName)
     (n : NodeName)
@@ -266,8 +307,12 @@ front_used : {m : World} {hs : LockName → LockHistory} (ok : IsSoundSpinWorld 
     → (u : Waiter) × Uses m u n × IsOwnNode u n × (slice_get (hs l).main 0 ≡ Some u)
 front_used {m = m} ok l n u =
     let noded : has_node ((snapshot m).phase l u.0) ≡ true =
-    queues_node ((snapshot m).phase l u.0) (lists_main (ok.agrees.locks l).lists 0 u.0 u.1) in
-    (u.0, subst (Uses m u.0) u.2 (user_of ok l u.0 noded), subst (IsOwnNode u.0) u.2 (own_node ok l u.0 noded), u.1)
+    queues_node ((snapshot m).phase l u.0) (lists_main (ok.agrees.locks l).lists 0 u.0 u.1) in (
+      u.0,
+      subst (Uses m u.0) u.2 (user_of ok l u.0 noded),
+      subst (IsOwnNode u.0) u.2 (own_node ok l u.0 noded),
+      u.1,
+    )
   where
     queues_node : (r : Phase) → queues r ≡ true → has_node r ≡ true
     queues_node r h = grind arith
@@ -294,4 +339,5 @@ entry_is_used m hs l n ok on e = front_used ok l n ((para ok.agrees on l).posts.
 
 pub nobody_halts : NobodyHalts
 nobody_halts m hs ok off p =
-    not-true (m.halted p) (λ h. let s = ok.resting p h in let on = sleeper_halts ok s.0 s.1 s.3 s.4 in grind (arith, on, off))
+    not-true (m.halted p) (λ h. let s = ok.resting p h in
+    let on = sleeper_halts ok s.0 s.1 s.3 s.4 in grind (arith, on, off))

@@ -8,7 +8,8 @@ pub get-append : {A : Type 0} (xs : List A) (x : A) (i : ℕ) (u : A)
 get-append [] x zero u h = inr (refl, grind arith)
 get-append [] x (suc i) u h = cc
 get-append (y ∷ xs) x zero u h = inl h
-get-append (y ∷ xs) x (suc i) u h = elim (get-append xs x i u h) [ inl e ↦ inl e | inr p ↦ inr (ap suc p.0, p.1) ]
+get-append (y ∷ xs) x (suc i) u h =
+    elim (get-append xs x i u h) [ inl e ↦ inl e | inr p ↦ inr (ap suc p.0, p.1) ]
 
 pub get-append_old : {A : Type 0} (xs : List A) (x : A) (i : ℕ) (u : A) → slice_get xs i ≡ Some u
     → slice_get (xs ++ x ∷ []) i ≡ Some u

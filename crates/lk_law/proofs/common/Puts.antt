@@ -77,7 +77,8 @@ pub put_number-here : (f : ℕ → ℕ) (p i : ℕ) → (if p == p then i else f
 put_number-here f p i = grind arith
 
 pub put_number-else : (f : ℕ → ℕ) (p q i : ℕ) → q ≢ p → (if q == p then i else f q) ≡ f q
-put_number-else f p q i ne = if-false (q == p) i (f q) (not-true (q == p) (λ h. ne (eqb-true q p h)))
+put_number-else f p q i ne =
+    if-false (q == p) i (f q) (not-true (q == p) (λ h. ne (eqb-true q p h)))
 
 pub kept_true : (b c : Bool) → c ≡ true → (if b then true else c) ≡ true
 kept_true true c h = refl

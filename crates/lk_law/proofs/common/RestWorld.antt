@@ -39,18 +39,24 @@ nobody : (own : Waiter → NodeName) (node : NodeName → Node)
     → QueueAgrees None (λ u. Idle) own node []
 nobody own node =
     record {
-      inside = λ i u h. cc h;
-      place = λ u h. cc h;
-      once = λ i j u h k. cc h;
-      no_tail = λ h. refl;
-      tail_is = λ i u h k. cc h;
-      first = λ u h. cc h;
-      behind = λ i u h. cc h;
-      linked = λ i u v h k p. cc h;
-      linking = λ i u v n h k p. cc h;
-      last = λ i u h k. cc h;
-      hand = λ u n h. cc h;
-      fresh = λ u h. cc h;
+      members = record {
+        inside = λ i u h. cc h;
+        place = λ u h. cc h;
+        once = λ i j u h k. cc h;
+      };
+      ends = record {
+        no_tail = λ h. refl;
+        tail_is = λ i u h k. cc h;
+        first = λ u h. cc h;
+        behind = λ i u h. cc h;
+      };
+      links = record {
+        linked = λ i u v h k p. cc h;
+        linking = λ i u v n h k p. cc h;
+        last = λ i u h k. cc h;
+        hand = λ u n h. cc h;
+        fresh = λ u h. cc h;
+      };
     }
 
 pub empty_sound : (mode : Mode) (t : ℕ) (sockets : List ℕ) (kind : ℕ → Kind)
@@ -71,7 +77,13 @@ empty_sound mode t sockets kind =
             without = λ u h. cc h;
             releases = λ u h. cc h;
           };
-          pend = record { set = λ u h. cc h; one = λ u v h k. cc h; someone = λ h. cc h; free = λ u h. cc h; apart = λ u v h k. cc h };
+          pend = record {
+            set = λ u h. cc h;
+            one = λ u v h k. cc h;
+            someone = λ h. cc h;
+            free = λ u h. cc h;
+            apart = λ u v h k. cc h;
+          };
           posts = λ e. record {
             posts = record {
               fit = λ u f a b. refl;
@@ -111,7 +123,12 @@ empty_sound mode t sockets kind =
             };
           };
         };
-        nodes = record { counted = λ p. refl; slowly = λ l u h. cc h; below = λ l u h. cc h; placed = λ l u h. cc h };
+        nodes = record {
+          counted = λ p. refl;
+          slowly = λ l u h. cc h;
+          below = λ l u h. cc h;
+          placed = λ l u h. cc h;
+        };
         alone = λ k l u ne h. refl;
         sleeper = λ e k l u z h. cc h;
       };
@@ -125,17 +142,24 @@ pub none_told : (kind : ℕ → Kind) → spin_part kind (λ l. no_history) ≡ 
 none_told kind = (λ i l. each l i)
   where
     each : (l : LockName) → spin_part kind (λ l. no_history) l ≡ no_history
-    each l = if_cases (λ (h : LockHistory). h ≡ no_history) (is_rw_name kind l) no_history no_history (λ e. refl) (λ e. refl)
+    each l =
+        if_cases (λ (h : LockHistory). h ≡ no_history) (is_rw_name kind l) no_history no_history
+        (λ e. refl) (λ e. refl)
 
 -- and so it is with reader-writer locks, whichever locks are such
 pub empty_is_sound : (mode : Mode) (t : ℕ) (sockets : List ℕ) (kind : ℕ → Kind)
     → IsSoundWorld (empty_world mode t sockets kind) (λ l. no_history)
 empty_is_sound mode t sockets kind =
     record {
-      spins = subst (IsSoundSpinWorld (empty_world mode t sockets kind)) (sym (none_told kind)) (empty_sound mode t sockets kind);
+      spins =
+          subst (IsSoundSpinWorld (empty_world mode t sockets kind)) (sym (none_told kind))
+          (empty_sound mode t sockets kind);
       rws = λ i k. record {
         counted = [];
-        readers = record { each = record { inside = λ j u h. cc h; place = λ u h. cc h; once = λ j q u h p. cc h }; number = refl };
+        readers = record {
+          each = record { inside = λ j u h. cc h; place = λ u h. cc h; once = λ j q u h p. cc h };
+          number = refl;
+        };
         holds = record {
           each = record { inside = λ j u h. cc h; place = λ u h. cc h; once = λ j q u h p. cc h };
           unspun = λ u h. cc h;

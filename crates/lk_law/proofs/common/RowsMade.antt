@@ -170,7 +170,8 @@ pub good_if : {A : Type 0} (l : LockName) (b : Bool) (x y : Effect A) → Good T
     → Good Taking l y → Good Taking l (if b then x else y)
 good_if l b x y g h = if_cases (Good Taking l) b x y (λ e. g) (λ e. h)
 
-pub onward_if : (b : Bool) (c d : Pc) → IsIn Taking c → IsIn Taking d → IsIn Taking (if b then c else d)
+pub onward_if : (b : Bool) (c d : Pc) → IsIn Taking c → IsIn Taking d
+    → IsIn Taking (if b then c else d)
 onward_if b c d p q = if_cases (IsIn Taking) b c d (λ e. p) (λ e. q)
 
 on_queue : (x : Fields) → IsIn Taking (to_queue x)
@@ -190,7 +191,8 @@ on_fast Cna x =
 
 on_pending : (x : Fields) → IsIn Taking (after_pending x)
 on_pending x =
-    onward_if x.pending G1 (if is_some x.tail then P2 else (if is_unlocked x.locked then P4 else P3)) (onward G1 refl refl)
+    onward_if x.pending G1 (if is_some x.tail then P2
+    else (if is_unlocked x.locked then P4 else P3)) (onward G1 refl refl)
     (onward_if (is_some x.tail) P2 (if is_unlocked x.locked then P4 else P3) (onward P2 refl refl)
     (onward_if (is_unlocked x.locked) P4 P3 (onward P4 refl refl) (onward P3 refl refl)))
 
@@ -221,7 +223,8 @@ on_head Pv = onward G10 refl refl
 
 on_look : (f : Frame) (x : Fields) → IsIn Taking (after_look f x)
 on_look f x =
-    onward_if (is_unlocked x.locked && not x.pending) (if is_node x.tail (node_of f.me) && not (is_some f.second) then G8 else G9) G7
+    onward_if (is_unlocked x.locked && not x.pending)
+    (if is_node x.tail (node_of f.me) && not (is_some f.second) then G8 else G9) G7
     (onward_if (is_node x.tail (node_of f.me) && not (is_some f.second)) G8 G9 (onward G8 refl refl)
     (onward G9 refl refl)) (onward G7 refl refl)
 
@@ -241,49 +244,49 @@ on_link Native spins = onward G6 refl refl
 on_link Cna spins = onward G6 refl refl
 
 -- the world before it, its frame, and what its row makes
-abbrev pub Makes : Pc → Type 0
-Makes c = (m : World) (w : Waiter) (f : Frame) → SpinMade m w f c (row_in m w f c)
+abbrev pub RowMakes : Pc → Type 0
+RowMakes c = (m : World) (w : Waiter) (f : Frame) → SpinMade m w f c (row_in m w f c)
 
-pub makes_F1 : Makes F1
+pub makes_F1 : RowMakes F1
 makes_F1 m w f = let x = m.word f.lock in
     word_made (spin_row m.mode F1 f (m.word f.lock))
     (good_if f.lock (is_free x) (takes f how.Fast) (looks (after_fast m.mode x)) (tt, refl)
     (on_fast m.mode x, tt))
 
-pub makes_T1 : Makes T1
+pub makes_T1 : RowMakes T1
 makes_T1 m w f = let x = m.word f.lock in
     word_made (spin_row m.mode T1 f (m.word f.lock))
     (good_if f.lock (is_free x) (looks T2) (misses (Miss f.lock)) (onward T2 refl refl, tt)
     (tt, refl))
 
-pub makes_T2 : Makes T2
+pub makes_T2 : RowMakes T2
 makes_T2 m w f = let x = m.word f.lock in
     word_made (spin_row m.mode T2 f (m.word f.lock))
     (good_if f.lock (is_free x) (takes f how.Try) (misses (Miss f.lock)) (tt, refl) (tt, refl))
 
-pub makes_U1 : Makes U1
+pub makes_U1 : RowMakes U1
 makes_U1 m w f = word_made (spin_row m.mode U1 f (m.word f.lock)) (tt, refl)
 
-pub makes_V1 : Makes V1
+pub makes_V1 : RowMakes V1
 makes_V1 m w f =
     word_made (spin_row m.mode V1 f (m.word f.lock))
     (onward_if (is_free (m.word f.lock)) V2 V1 (onward V2 refl refl) (onward V1 refl refl), tt)
 
-pub makes_V2 : Makes V2
+pub makes_V2 : RowMakes V2
 makes_V2 m w f = let x = m.word f.lock in
     word_made (spin_row m.mode V2 f (m.word f.lock))
     (good_if f.lock (is_free x) (takes f how.Virt) (looks V1) (tt, refl) (onward V1 refl refl, tt))
 
-pub makes_P0 : Makes P0
+pub makes_P0 : RowMakes P0
 makes_P0 m w f = word_made (spin_row m.mode P0 f (m.word f.lock)) (on_queue (m.word f.lock), tt)
 
-pub makes_P1 : Makes P1
+pub makes_P1 : RowMakes P1
 makes_P1 m w f = word_made (spin_row m.mode P1 f (m.word f.lock)) (on_pending (m.word f.lock), tt)
 
-pub makes_P2 : Makes P2
+pub makes_P2 : RowMakes P2
 makes_P2 m w f = word_made (spin_row m.mode P2 f (m.word f.lock)) (onward G1 refl refl, tt)
 
-pub makes_P3 : Makes P3
+pub makes_P3 : RowMakes P3
 makes_P3 m w f =
     word_made (spin_row m.mode P3 f (m.word f.lock)) (
       onward_if (is_unlocked (m.word f.lock).locked) P4 P3 (onward P4 refl refl)
@@ -291,58 +294,65 @@ makes_P3 m w f =
       tt,
     )
 
-pub makes_P4 : Makes P4
+pub makes_P4 : RowMakes P4
 makes_P4 m w f = word_made (spin_row m.mode P4 f (m.word f.lock)) (tt, refl)
 
-pub makes_G1 : Makes G1
-makes_G1 m w f = queued_made (entry_row m.mode w.cpu (m.queued w.cpu)) (on_entry m.mode (own_node w.cpu (m.queued w.cpu)), tt)
+pub makes_G1 : RowMakes G1
+makes_G1 m w f =
+    queued_made (entry_row m.mode w.cpu (m.queued w.cpu))
+    (on_entry m.mode (own_node w.cpu (m.queued w.cpu)), tt)
 
-pub makes_G2 : Makes G2
+pub makes_G2 : RowMakes G2
 makes_G2 m w f =
     word_made (queue_row m.mode G2 f (m.word f.lock))
     (onward_if (is_free (m.word f.lock)) G3 G4 (onward G3 refl refl) (onward G4 refl refl), tt)
 
-pub makes_G3 : Makes G3
+pub makes_G3 : RowMakes G3
 makes_G3 m w f = let x = m.word f.lock in
     word_made (queue_row m.mode G3 f (m.word f.lock))
     (good_if f.lock (is_free x) (takes_out f how.Retry) (looks G4) (tt, refl)
     (onward G4 refl refl, tt))
 
-pub makes_G4 : Makes G4
-makes_G4 m w f = word_made (queue_row m.mode G4 f (m.word f.lock)) (on_arrival m.mode (m.word f.lock).tail, refl)
+pub makes_G4 : RowMakes G4
+makes_G4 m w f =
+    word_made (queue_row m.mode G4 f (m.word f.lock)) (on_arrival m.mode (m.word f.lock).tail, refl)
 
-pub makes_G5 : Makes G5
-makes_G5 m w f = next_made (node_of f.prev) (next_row m.mode m.turns G5 f (m.node (node_of f.prev)).next) (on_link m.mode m.turns, tt)
+pub makes_G5 : RowMakes G5
+makes_G5 m w f =
+    next_made (node_of f.prev) (next_row m.mode m.turns G5 f (m.node (node_of f.prev)).next)
+    (on_link m.mode m.turns, tt)
 
-pub makes_G6 : Makes G6
-makes_G6 m w f = flag_made (node_of f.me) (flag_row G6 f (m.node (node_of f.me)).flag) (on_flag f.lock (m.node (node_of f.me)).flag)
+pub makes_G6 : RowMakes G6
+makes_G6 m w f =
+    flag_made (node_of f.me) (flag_row G6 f (m.node (node_of f.me)).flag)
+    (on_flag f.lock (m.node (node_of f.me)).flag)
 
-pub makes_G7 : Makes G7
+pub makes_G7 : RowMakes G7
 makes_G7 m w f = word_made (queue_row m.mode G7 f (m.word f.lock)) (on_look f (m.word f.lock), tt)
 
-pub makes_G8 : Makes G8
+pub makes_G8 : RowMakes G8
 makes_G8 m w f = let x = m.word f.lock in
     word_made (queue_row m.mode G8 f (m.word f.lock))
     (good_if f.lock (is_sole f x) (takes_out f how.Sole) (looks G9) (tt, refl)
     (onward G9 refl refl, tt))
 
-pub makes_G9 : Makes G9
+pub makes_G9 : RowMakes G9
 makes_G9 m w f = word_made (queue_row m.mode G9 f (m.word f.lock)) (on_head m.mode, refl)
 
-pub makes_G10 : Makes G10
+pub makes_G10 : RowMakes G10
 makes_G10 m w f =
     next_made (node_of f.me) (next_row m.mode m.turns G10 f (m.node (node_of f.me)).next)
     (on_next f.lock (m.node (node_of f.me)).next)
 
-pub makes_G11 : Makes G11
+pub makes_G11 : RowMakes G11
 makes_G11 m w f = flag_made (node_of f.y) (flag_row G11 f (m.node (node_of f.y)).flag) (tt, tt)
 
-pub makes_N1 : Makes N1
+pub makes_N1 : RowMakes N1
 makes_N1 m w f =
     word_made (queue_row m.mode N1 f (m.word f.lock))
     (onward_if (is_free (m.word f.lock)) N2 N1 (onward N2 refl refl) (onward N1 refl refl), tt)
 
-pub makes_N2 : Makes N2
+pub makes_N2 : RowMakes N2
 makes_N2 m w f = let x = m.word f.lock in
     word_made (queue_row m.mode N2 f (m.word f.lock))
     (good_if f.lock (is_free x) (takes_out f how.NoNode) (looks N1) (tt, refl)

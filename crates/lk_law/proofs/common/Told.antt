@@ -27,7 +27,8 @@ told_else k l h e ne p =
 -- The lock of the event agrees with its history told on.
 pub told_lock : {s : Snapshot} {l : LockName} (h : LockHistory) (e : Event)
     → lock_of e.what ≡ Some l → LockAgrees s (changed h e.by e.what) l → LockAgrees s (told l h e) l
-told_lock {s = s} {l = l} h e p o = let P : LockHistory → Type 0 = λ t. LockAgrees s t l in subst P (sym (told_here l h e p)) o
+told_lock {s = s} {l = l} h e p o =
+    let P : LockHistory → Type 0 = λ t. LockAgrees s t l in subst P (sym (told_here l h e p)) o
 
 -- The other locks' histories stay.
 pub told_others : {l : LockName} (hs : LockName → LockHistory) (e : Event) → lock_of e.what ≡ Some l
@@ -42,7 +43,8 @@ told_miss k l w h = grind (arith, cases_Bool (same_lock l k))
 pub law_miss : {s : Snapshot} {hs : LockName → LockHistory} (w : Waiter) (l : LockName)
     → SnapshotAgrees s hs → SnapshotAgrees s (λ k. told k (hs k) (record { by = w; what = Miss l }))
 law_miss {s = s} {hs = hs} w l ok =
-    let e : (λ k. told k (hs k) (record { by = w; what = Miss l })) ≡ hs = (λ i k. told_miss k l w (hs k) i) in
+    let e : (λ k. told k (hs k) (record { by = w; what = Miss l })) ≡ hs =
+    (λ i k. told_miss k l w (hs k) i) in
     subst (SnapshotAgrees s) (sym e) ok
 
 -- A free lock is taken by one, and its holder releases it.

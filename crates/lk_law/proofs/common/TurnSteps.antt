@@ -14,7 +14,7 @@ use Rattle.lk_machine.specs.declared.parts.Flag.TheVariants.{Second}
 use Rattle.lk_machine.specs.declared.parts.Node.{Node}
 use Rattle.lk_machine.specs.declared.parts.Frame.{Frame}
 use Rattle.lk_machine.specs.Moves.{node_of}
-use Rattle.lk_law.specs.Pv.{sleeps}
+use Rattle.lk_law.specs.Pv.{at_halt}
 use Rattle.lk_law.specs.Phase.{Phase}
 use Rattle.lk_law.specs.Cna.{moves_aside}
 use Rattle.lk_law.specs.Snapshot.{Moves, spins, same_node}
@@ -31,7 +31,8 @@ use Rattle.lk_law.specs.Premises.{IsNewest}
 use Rattle.lk_law.proofs.common.Sames.{same_lock-self, same_waiter-self}
 use Rattle.lk_law.proofs.common.Puts.{if_cases, if-true, if-false, put_moves, same_lock-else}
 use Rattle.lk_law.proofs.common.Puts.{same_waiter-else}
-use Rattle.lk_law.proofs.common.Worlds.{Holds, world_step, world_stays, world_leaves, world_enters}
+use Rattle.lk_law.proofs.common.Worlds.{HoldsChange, world_step, world_stays, world_leaves}
+use Rattle.lk_law.proofs.common.Worlds.{world_enters}
 use Rattle.lk_law.proofs.common.Worlds.{world_sound, world_knows, stage_on-here, post_on-here}
 use Rattle.lk_law.proofs.common.Turns.{Turn, turned}
 
@@ -42,7 +43,8 @@ pub word_plain : (m : World) (l : LockName) (x : Fields) → IsPlain m → x.loc
 word_plain m l x ok quick =
     record {
       byte =
-          λ wakes k. if_cases (λ (y : Fields). y.locked ≢ Slow) (same_lock k l) x (m.word k) (λ e. quick)
+          λ wakes k.
+          if_cases (λ (y : Fields). y.locked ≢ Slow) (same_lock k l) x (m.word k) (λ e. quick)
           (λ e. ok.byte wakes k);
       flag = ok.flag;
     }
@@ -60,11 +62,18 @@ node_plain m n x ok sole =
 pub queued_plain : (m : World) (p i : ℕ) → IsPlain m → IsPlain (put_queued m p i)
 queued_plain m p i ok = record { byte = ok.byte; flag = ok.flag }
 
-module _ {m n : World} {w : Waiter} {f g : Frame} {way : Option Manner} (t : Turn m n w f g way) where
+module _ {m n : World} {w : Waiter} {f g : Frame} {way : Option Manner}
+    (t : Turn m n w f g way) where
   pub turn_moves : Moves m.frame (turned n w g f.lock way).frame w (Some f) (Some g)
   turn_moves =
-      let p = put_moves n.frame w (Some f) (Some g) (ap (λ (h : Waiter → Option Frame). h w) t.frames ∙ t.live) in
-      record { was = t.live; now = p.now; others = λ u ne. p.others u ne ∙ ap (λ (h : Waiter → Option Frame). h u) t.frames }
+      let p =
+      put_moves n.frame w (Some f) (Some g)
+      (ap (λ (h : Waiter → Option Frame). h w) t.frames ∙ t.live) in
+      record {
+        was = t.live;
+        now = p.now;
+        others = λ u ne. p.others u ne ∙ ap (λ (h : Waiter → Option Frame). h u) t.frames;
+      }
 
   held_is : (u : Waiter) (k : LockName) → n.held u k ≡ m.held u k
   held_is u k = ap (λ (h : Waiter → LockName → Option Manner). h u k) t.holds
@@ -86,7 +95,7 @@ module _ {m n : World} {w : Waiter} {f g : Frame} {way : Option Manner} (t : Tur
       (grind (arith, same_lock-else k f.lock ne)) ∙ held_is u k
 
   turn_holds : {x : Fields} {h h' : Bool} → n.word f.lock ≡ x → spins (m.held w f.lock) ≡ h
-      → spins way ≡ h' → Holds m (turned n w g f.lock way) w f.lock x h h'
+      → spins way ≡ h' → HoldsChange m (turned n w g f.lock way) w f.lock x h h'
   turn_holds word was now =
       record {
         mode = t.mode;
@@ -95,7 +104,11 @@ module _ {m n : World} {w : Waiter} {f g : Frame} {way : Option Manner} (t : Tur
         entries = t.entries;
         word = word;
         words = t.words;
-        holds = record { was = was; now = ap spins held_here ∙ now; others = λ u ne. ap spins (held_waiter u ne f.lock) };
+        holds = record {
+          was = was;
+          now = ap spins held_here ∙ now;
+          others = λ u ne. ap spins (held_waiter u ne f.lock);
+        };
         helds = λ k ne u. ap spins (held_lock k ne u);
       }
 
@@ -103,10 +116,10 @@ module _ {m n : World} {w : Waiter} {f g : Frame} {way : Option Manner} (t : Tur
   pub turn_step_of : {r r' : Phase} {x : Fields} {h h' : Bool} → phase_of f ≡ r → phase_of g ≡ r'
       → n.word f.lock ≡ x → spins (m.held w f.lock) ≡ h → spins way ≡ h'
       → (halts m.mode ≡ true → (k : LockName) (u : Waiter) → k ≢ f.lock
-      → sleeps (post_on k (m.frame u)) ≡ true → Owed (snapshot m) u.cpu
+      → at_halt (post_on k (m.frame u)) ≡ true → Owed (snapshot m) u.cpu
       → Owed (snapshot (turned n w g f.lock way)) u.cpu)
-      → (halts m.mode ≡ true → sleeps (post_on f.lock ((turned n w g f.lock way).frame w)) ≡ true
-      → (k : LockName) (u : Waiter) → u.cpu ≡ w.cpu → sleeps (post_on k (m.frame u)) ≡ true
+      → (halts m.mode ≡ true → at_halt (post_on f.lock ((turned n w g f.lock way).frame w)) ≡ true
+      → (k : LockName) (u : Waiter) → u.cpu ≡ w.cpu → at_halt (post_on k (m.frame u)) ≡ true
       → u ≡ w)
       → Step (snapshot m) (snapshot (turned n w g f.lock way)) w f.lock r r' x h h'
   turn_step_of was now word had has owed lone =
@@ -123,17 +136,20 @@ module _ {m n : World} {w : Waiter} {f g : Frame} {way : Option Manner} (t : Tur
   pub turn_stays : g.me ≡ f.me → is_slow g.place ≡ is_slow f.place
       → ((p : ℕ) → n.queued p ≡ m.queued p)
       → Stays (snapshot m) (snapshot (turned n w g f.lock way)) w
-  turn_stays me slow queued = world_stays m (turned n w g f.lock way) w f g turn_moves (ap node_of me) slow queued
+  turn_stays me slow queued =
+      world_stays m (turned n w g f.lock way) w f g turn_moves (ap node_of me) slow queued
 
   pub turn_leaves : IsNewest m w → is_slow f.place ≡ true → is_slow g.place ≡ false
       → n.queued w.cpu + 1 ≡ m.queued w.cpu → ((p : ℕ) → p ≢ w.cpu → n.queued p ≡ m.queued p)
       → LeavesSlowPath (snapshot m) (snapshot (turned n w g f.lock way)) w
-  turn_leaves newest was now here queued = world_leaves m (turned n w g f.lock way) w f g turn_moves newest was now here queued
+  turn_leaves newest was now here queued =
+      world_leaves m (turned n w g f.lock way) w f g turn_moves newest was now here queued
 
   pub turn_enters : IsNewest m w → is_slow f.place ≡ false → is_slow g.place ≡ true
       → n.queued w.cpu ≡ m.queued w.cpu + 1 → ((p : ℕ) → p ≢ w.cpu → n.queued p ≡ m.queued p)
       → EntersSlowPath (snapshot m) (snapshot (turned n w g f.lock way)) w
-  turn_enters newest was now here queued = world_enters m (turned n w g f.lock way) w f g turn_moves newest was now here queued
+  turn_enters newest was now here queued =
+      world_enters m (turned n w g f.lock way) w f g turn_moves newest was now here queued
 
   -- the frame knows of its choice what it knew
   pub turn_knows : stage_of g ≡ stage_of f → g.second ≡ f.second → post_of g ≡ post_of f
@@ -156,7 +172,8 @@ module _ {m n : World} {w : Waiter} {f g : Frame} {way : Option Manner} (t : Tur
   turn_own = ap own_in turn_moves.now
 
   pub turn_sound : {hs hs' : LockName → LockHistory} → IsSoundSpinWorld m hs → IsNewest m w
-      → (sleeps (post_of f) ≡ true → sleeps (post_of g) ≡ true) → IsPlain n → RegistersFit m.mode g
+      → (at_halt (post_of f) ≡ true → at_halt (post_of g) ≡ true) → IsPlain n
+      → RegistersFit m.mode g
       → SnapshotAgrees (snapshot (turned n w g f.lock way)) hs'
       → IsSoundSpinWorld (turned n w g f.lock way) hs'
   turn_sound ok newest still plain fit agrees =

@@ -8,7 +8,7 @@ use Rattle.lk_word.specs.declared.spin_word.NodeName.{NodeName}
 use Rattle.lk_word.specs.declared.spin_word.Fields.{Fields}
 use Rattle.lk_machine.specs.declared.parts.Node.{Node}
 use Rattle.lk_machine.specs.declared.parts.Frame.{Frame}
-use Rattle.lk_law.specs.Pv.{sleeps}
+use Rattle.lk_law.specs.Pv.{at_halt}
 use Rattle.lk_law.specs.World.{World}
 use Rattle.lk_law.specs.Places.{post_of}
 use Rattle.lk_law.specs.Steps.{put_word, put_node, put_queued, put_frame, put_held}
@@ -30,13 +30,14 @@ pub record Turn (m n : World) (w : Waiter) (f g : Frame) (way : Option Manner) :
   pub sockets : n.sockets ≡ m.sockets
   pub entries : (k : LockName) → k ≢ f.lock → n.entry k ≡ m.entry k
   pub halted : (p : ℕ) → n.halted p ≡ true
-      → (m.halted p ≡ true) ⊎ ((p ≡ w.cpu) × (sleeps (post_of g) ≡ true))
+      → (m.halted p ≡ true) ⊎ ((p ≡ w.cpu) × (at_halt (post_of g) ≡ true))
   pub lock : g.lock ≡ f.lock
   pub words : (k : LockName) → k ≢ f.lock → n.word k ≡ m.word k
 
 -- the stores of rows
 
-module _ {m : World} {w : Waiter} {f g : Frame} {way : Option Manner} (live : m.frame w ≡ Some f) (lock : g.lock ≡ f.lock) where
+module _ {m : World} {w : Waiter} {f g : Frame} {way : Option Manner} (live : m.frame w ≡ Some f)
+    (lock : g.lock ≡ f.lock) where
   pub same_turn : Turn m m w f g way
   same_turn = record {
     live = live;

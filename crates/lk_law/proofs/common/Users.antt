@@ -73,8 +73,11 @@ module _ {m : World} {hs : LockName → LockHistory} (ok : IsSoundSpinWorld m hs
       → has_node ((snapshot m).phase uses.0.lock u) ≡ true
   used_noded u n uses =
       let f = uses.0 in
-      let shown : (snapshot m).phase f.lock u ≡ phase_of f = ap (phase_on f.lock) uses.1 ∙ phase_on-here f.lock f refl in
-      ap has_node shown ∙ noded_by (has_node (phase_of f)) f.me n (is_node-true f.me n uses.2) (ok.registers u f uses.1).bare
+      let shown : (snapshot m).phase f.lock u ≡ phase_of f =
+      ap (phase_on f.lock) uses.1 ∙ phase_on-here f.lock f refl in
+      ap has_node shown
+      ∙ noded_by (has_node (phase_of f)) f.me n (is_node-true f.me n uses.2)
+      (ok.registers u f uses.1).bare
 
   pub used_own : (u : Waiter) (n : NodeName) → Uses m u n → (snapshot m).own u ≡ n
   used_own u n uses = ap own_in uses.1 ∙ ap node_of (is_node-true uses.0.me n uses.2)

@@ -1,6 +1,6 @@
 -- A row moves one frame of a world: the step of its snapshot.
 use Rattle.lk_law.specs.Pv.Post.{Off, Kicks}
-use Rattle.lk_law.specs.Pv.{Post, sleeps}
+use Rattle.lk_law.specs.Pv.{Post, at_halt}
 use Rattle.std.proofs.Common.{◌≡◌, ◌≢◌, ◌⊎◌, ◌<◌, inl, inr, ℕ, Option, None, Some, Bool, List, true}
 use Rattle.std.proofs.Common.{false, arith, ap, ◌+◌, refl, sym, ◌∙◌, subst}
 use Rattle.std.specs.Prelude.{if◌then◌else◌, is_some}
@@ -19,7 +19,7 @@ use Rattle.lk_machine.specs.rows.Cna.{same_socket}
 use Rattle.lk_machine.specs.Moves.{node_of}
 use Rattle.lk_law.specs.Phase.{Phase}
 use Rattle.lk_law.specs.Phase.Phase.{Idle}
-use Rattle.lk_law.specs.Phase.Phase.{Holds as Owns}
+use Rattle.lk_law.specs.Phase.Phase.{Holds}
 use Rattle.lk_law.specs.Stage.{Stage}
 use Rattle.lk_law.specs.Stage.Stage.{Rests}
 use Rattle.lk_law.specs.Snapshot.{Moves, spins}
@@ -40,10 +40,13 @@ use Rattle.lk_law.proofs.common.Sames.{same_lock-self}
 use Rattle.lk_law.proofs.common.Puts.{if-true, if-false, same_lock-else}
 
 pub phase_on-here : (l : LockName) (f : Frame) → f.lock ≡ l → phase_on l (Some f) ≡ phase_of f
-phase_on-here l f e = if-true (same_lock f.lock l) (phase_of f) Idle (ap (λ (k : LockName). same_lock k l) e ∙ same_lock-self l)
+phase_on-here l f e =
+    if-true (same_lock f.lock l) (phase_of f) Idle
+    (ap (λ (k : LockName). same_lock k l) e ∙ same_lock-self l)
 
 pub phase_on-else : (k : LockName) (f : Frame) → k ≢ f.lock → phase_on k (Some f) ≡ Idle
-phase_on-else k f ne = if-false (same_lock f.lock k) (phase_of f) Idle (same_lock-else f.lock k (λ e. ne (sym e)))
+phase_on-else k f ne =
+    if-false (same_lock f.lock k) (phase_of f) Idle (same_lock-else f.lock k (λ e. ne (sym e)))
 
 pub phase_on-idle : (k : LockName) (f : Frame) → phase_of f ≡ Idle → phase_on k (Some f) ≡ Idle
 phase_on-idle k f e = both (same_lock f.lock k) (phase_of f) e
@@ -66,7 +69,7 @@ acts-else f l k (inr e) ne = phase_on-idle k f e
 
 -- Who does not hold the lock as the front has not begun to choose.
 
-calm_at : (c : Pc) (f : Frame) → phase_at c (is_some f.me) (node_of f.prev) (node_of f.y) ≢ Owns
+calm_at : (c : Pc) (f : Frame) → phase_at c (is_some f.me) (node_of f.prev) (node_of f.y) ≢ Holds
     → stage_at c f ≡ Rests
 calm_at C2 f off = absurd (off refl)
 calm_at C3 f off = absurd (off refl)
@@ -79,10 +82,10 @@ calm_at C9 f off = absurd (off refl)
 calm_at C10 f off = absurd (off refl)
 calm_at _ f off = refl
 
-pub stage_calm : (f : Frame) → phase_of f ≢ Owns → stage_of f ≡ Rests
+pub stage_calm : (f : Frame) → phase_of f ≢ Holds → stage_of f ≡ Rests
 stage_calm f off = go f.place off
   where
-    go : (o : Option Pc) → phase_if o (is_some f.me) (node_of f.prev) (node_of f.y) ≢ Owns
+    go : (o : Option Pc) → phase_if o (is_some f.me) (node_of f.prev) (node_of f.y) ≢ Holds
         → stage_if o f ≡ Rests
     go None h = refl
     go (Some c) h = calm_at c f h
@@ -95,18 +98,24 @@ stage_on-rests l f e = both (same_lock f.lock l) (stage_of f) e
     both false g e = refl
 
 pub post_on-here : (l : LockName) (f : Frame) → f.lock ≡ l → post_on l (Some f) ≡ post_of f
-post_on-here l f e = if-true (same_lock f.lock l) (post_of f) Off (ap (λ (k : LockName). same_lock k l) e ∙ same_lock-self l)
+post_on-here l f e =
+    if-true (same_lock f.lock l) (post_of f) Off
+    (ap (λ (k : LockName). same_lock k l) e ∙ same_lock-self l)
 
 pub stage_on-here : (l : LockName) (f : Frame) → f.lock ≡ l → stage_on l (Some f) ≡ stage_of f
-stage_on-here l f e = if-true (same_lock f.lock l) (stage_of f) Rests (ap (λ (k : LockName). same_lock k l) e ∙ same_lock-self l)
+stage_on-here l f e =
+    if-true (same_lock f.lock l) (stage_of f) Rests
+    (ap (λ (k : LockName). same_lock k l) e ∙ same_lock-self l)
 
 acts-calm : (f : Frame) (l k : LockName) → ActsOn f l → k ≢ l → stage_on k (Some f) ≡ Rests
-acts-calm f l k (inl e) ne = if-false (same_lock f.lock k) (stage_of f) Rests (same_lock-else f.lock k (λ q. ne (sym q ∙ e)))
+acts-calm f l k (inl e) ne =
+    if-false (same_lock f.lock k) (stage_of f) Rests (same_lock-else f.lock k (λ q. ne (sym q ∙ e)))
 acts-calm f l k (inr e) ne = stage_on-rests k f (stage_calm f (λ q. grind (arith, e, q)))
 
 acts-off : (f : Frame) (l k : LockName) → (f.lock ≡ l) ⊎ (post_of f ≡ Off) → k ≢ l
     → post_on k (Some f) ≡ Off
-acts-off f l k (inl e) ne = if-false (same_lock f.lock k) (post_of f) Off (same_lock-else f.lock k (λ q. ne (sym q ∙ e)))
+acts-off f l k (inl e) ne =
+    if-false (same_lock f.lock k) (post_of f) Off (same_lock-else f.lock k (λ q. ne (sym q ∙ e)))
 acts-off f l k (inr e) ne = both (same_lock f.lock k) (post_of f) e
   where
     both : (b : Bool) (p : Post) → p ≡ Off → (if b then p else Off) ≡ Off
@@ -129,21 +138,21 @@ post_on-kicks l f t e = both (same_lock f.lock l) (post_of f) e
     both false p e = cc e
 
 -- a post that sleeps is that of the frame
-pub post_on-sleeps : (l : LockName) (f : Frame) → sleeps (post_on l (Some f)) ≡ true
-    → sleeps (post_of f) ≡ true
+pub post_on-sleeps : (l : LockName) (f : Frame) → at_halt (post_on l (Some f)) ≡ true
+    → at_halt (post_of f) ≡ true
 post_on-sleeps l f e = both (same_lock f.lock l) (post_of f) e
   where
-    both : (b : Bool) (p : Post) → sleeps (if b then p else Off) ≡ true → sleeps p ≡ true
+    both : (b : Bool) (p : Post) → at_halt (if b then p else Off) ≡ true → at_halt p ≡ true
     both true p e = e
     both false p e = cc e
 
 -- who sleeps on its processor beside the newest frame is that frame
 pub sole_sleeper : {m : World} {hs : LockName → LockHistory} {w : Waiter} {f : Frame}
     → IsSoundSpinWorld m hs → IsNewest m w → m.frame w ≡ Some f → (k : LockName) (u : Waiter)
-    → u.cpu ≡ w.cpu → sleeps (post_on k (m.frame u)) ≡ true → u ≡ w
+    → u.cpu ≡ w.cpu → at_halt (post_on k (m.frame u)) ≡ true → u ≡ w
 sole_sleeper {m = m} {w = w} {f = f} ok newest live k u cpu h = there (m.frame u) refl h
   where
-    there : (o : Option Frame) → m.frame u ≡ o → sleeps (post_on k o) ≡ true → u ≡ w
+    there : (o : Option Frame) → m.frame u ≡ o → at_halt (post_on k o) ≡ true → u ≡ w
     there None e h = cc h
     there (Some d) e h =
         let above = ok.asleep u d e (post_on-sleeps k d h) in
@@ -183,7 +192,8 @@ acts-post f l k (inl e) ne = acts-off f l k (inl e) ne
 acts-post f l k (inr e) ne = acts-off f l k (inr (idle_off f e)) ne
 
 -- what a row does to the holds of a world, and to its words
-pub record Holds (m m' : World) (w : Waiter) (l : LockName) (x : Fields) (h h' : Bool) : Type 0 where
+pub record HoldsChange (m m' : World) (w : Waiter) (l : LockName) (x : Fields)
+    (h h' : Bool) : Type 0 where
   pub mode : m'.mode ≡ m.mode
   pub threshold : m'.threshold ≡ m.threshold
   pub sockets : m'.sockets ≡ m.sockets
@@ -196,11 +206,11 @@ pub record Holds (m m' : World) (w : Waiter) (l : LockName) (x : Fields) (h h' :
 -- A processor is halted by the acting frame alone, which sleeps then; and where it was asleep and
 -- its processor is still halted it sleeps on.
 pub record Rest (m m' : World) (w : Waiter) (f g : Frame) : Type 0 where
-  pub still : sleeps (post_of f) ≡ true → m'.halted w.cpu ≡ true → sleeps (post_of g) ≡ true
+  pub still : at_halt (post_of f) ≡ true → m'.halted w.cpu ≡ true → at_halt (post_of g) ≡ true
   pub halted : (p : ℕ) → m'.halted p ≡ true
-      → (m.halted p ≡ true) ⊎ ((p ≡ w.cpu) × (sleeps (post_of g) ≡ true))
+      → (m.halted p ≡ true) ⊎ ((p ≡ w.cpu) × (at_halt (post_of g) ≡ true))
 
-sleeping_place : (o : Option Pc) (f : Frame) → sleeps (post_if o f) ≡ true
+sleeping_place : (o : Option Pc) (f : Frame) → at_halt (post_if o f) ≡ true
     → (c : Pc) × (o ≡ Some c) × (may_halt c ≡ true)
 sleeping_place (Some W6) f h = (W6, refl, refl)
 sleeping_place (Some E12) f h = (E12, refl, refl)
@@ -208,19 +218,21 @@ sleeping_place o f h = cc h
 
 -- a frame that has halted its processor is one of a family that does
 pub sleeper_halts : {m : World} {hs : LockName → LockHistory} → IsSoundSpinWorld m hs
-    → (u : Waiter) (d : Frame) → m.frame u ≡ Some d → sleeps (post_of d) ≡ true
+    → (u : Waiter) (d : Frame) → m.frame u ≡ Some d → at_halt (post_of d) ≡ true
     → halts m.mode ≡ true
-sleeper_halts ok u d live h = let p = sleeping_place d.place d h in (ok.registers u d live).choice.halting p.0 p.1 p.2
+sleeper_halts ok u d live h =
+    let p = sleeping_place d.place d h in (ok.registers u d live).choice.halting p.0 p.1 p.2
 
-module _ (m m' : World) (w : Waiter) (f g : Frame) (moves : Moves m.frame m'.frame w (Some f) (Some g)) where
+module _ (m m' : World) (w : Waiter) (f g : Frame)
+    (moves : Moves m.frame m'.frame w (Some f) (Some g)) where
   -- one frame moves, which acts on one lock before and after
   pub world_step : {r r' : Phase} {x : Fields} {h h' : Bool} (l : LockName) → ActsOn f l
-      → ActsOn g l → phase_of f ≡ r → phase_of g ≡ r' → Holds m m' w l x h h'
+      → ActsOn g l → phase_of f ≡ r → phase_of g ≡ r' → HoldsChange m m' w l x h h'
       → (halts m.mode ≡ true → (k : LockName) (u : Waiter) → k ≢ l
-      → sleeps (post_on k (m.frame u)) ≡ true → Owed (snapshot m) u.cpu
+      → at_halt (post_on k (m.frame u)) ≡ true → Owed (snapshot m) u.cpu
       → Owed (snapshot m') u.cpu)
-      → (halts m.mode ≡ true → sleeps (post_on l (m'.frame w)) ≡ true → (k : LockName) (u : Waiter)
-      → u.cpu ≡ w.cpu → sleeps (post_on k (m.frame u)) ≡ true → u ≡ w)
+      → (halts m.mode ≡ true → at_halt (post_on l (m'.frame w)) ≡ true → (k : LockName) (u : Waiter)
+      → u.cpu ≡ w.cpu → at_halt (post_on k (m.frame u)) ≡ true → u ≡ w)
       → Step (snapshot m) (snapshot m') w l r r' x h h'
   world_step l from to was now holds owed lone =
       record {
@@ -231,7 +243,8 @@ module _ (m m' : World) (w : Waiter) (f g : Frame) (moves : Moves m.frame m'.fra
         };
         phases = λ k ne u. elim (waiter_cases u w) [
           | inl e ↦ subst (λ (v : Waiter). phase_on k (m'.frame v) ≡ phase_on k (m.frame v)) (sym e)
-              (ap (phase_on k) moves.now ∙ acts-else g l k to ne ∙ sym (ap (phase_on k) moves.was ∙ acts-else f l k from ne))
+              (ap (phase_on k) moves.now ∙ acts-else g l k to ne
+              ∙ sym (ap (phase_on k) moves.was ∙ acts-else f l k from ne))
           | inr n ↦ ap (phase_on k) (moves.others u n)
         ];
         idle = λ k ne. ap (phase_on k) moves.was ∙ acts-else f l k from ne;
@@ -247,7 +260,8 @@ module _ (m m' : World) (w : Waiter) (f g : Frame) (moves : Moves m.frame m'.fra
         stages = λ k u ne. ap (stage_on k) (moves.others u ne);
         was_calm = λ k ne. ap (stage_on k) moves.was ∙ acts-calm f l k from ne;
         calm = λ k ne. ap (stage_on k) moves.now ∙ acts-calm g l k to ne;
-        rests = λ off. ap (stage_on l) moves.now ∙ stage_on-rests l g (stage_calm g (λ q. off (sym now ∙ q)));
+        rests = λ off. ap (stage_on l) moves.now
+            ∙ stage_on-rests l g (stage_calm g (λ q. off (sym now ∙ q)));
         kepts = λ u ne. ap kept_in (moves.others u ne);
         posts = λ k u ne. ap (post_on k) (moves.others u ne);
         were_off = λ k ne. ap (post_on k) moves.was ∙ acts-post f l k from ne;
@@ -282,9 +296,11 @@ module _ (m m' : World) (w : Waiter) (f g : Frame) (moves : Moves m.frame m'.fra
       → ((p : ℕ) → m'.kicked p ≡ m.kicked p) → Knows (snapshot m) (snapshot m') w l
   world_knows l from to stage kept post entry kicked =
       record {
-        stage = ap (stage_on l) moves.now ∙ stage_on-here l g to ∙ stage ∙ sym (ap (stage_on l) moves.was ∙ stage_on-here l f from);
+        stage = ap (stage_on l) moves.now ∙ stage_on-here l g to ∙ stage
+            ∙ sym (ap (stage_on l) moves.was ∙ stage_on-here l f from);
         kept = ap kept_in moves.now ∙ kept ∙ sym (ap kept_in moves.was);
-        post = ap (post_on l) moves.now ∙ post_on-here l g to ∙ post ∙ sym (ap (post_on l) moves.was ∙ post_on-here l f from);
+        post = ap (post_on l) moves.now ∙ post_on-here l g to ∙ post
+            ∙ sym (ap (post_on l) moves.was ∙ post_on-here l f from);
         entry = entry;
         kicked = kicked;
       }
@@ -306,7 +322,11 @@ module _ (m m' : World) (w : Waiter) (f g : Frame) (moves : Moves m.frame m'.fra
   slow_moves : {b b' : Bool} → is_slow f.place ≡ b → is_slow g.place ≡ b'
       → Moves (snapshot m).slow (snapshot m').slow w b b'
   slow_moves was now =
-      record { was = ap slow_in moves.was ∙ was; now = ap slow_in moves.now ∙ now; others = λ u ne. ap slow_in (moves.others u ne) }
+      record {
+        was = ap slow_in moves.was ∙ was;
+        now = ap slow_in moves.now ∙ now;
+        others = λ u ne. ap slow_in (moves.others u ne);
+      }
 
   pub on_top : IsNewest m w → IsOnTop (snapshot m) w
   on_top newest = record { top = λ c lt. ap slow_in (newest.above c lt); low = newest.low }
@@ -314,16 +334,18 @@ module _ (m m' : World) (w : Waiter) (f g : Frame) (moves : Moves m.frame m'.fra
   pub world_leaves : IsNewest m w → is_slow f.place ≡ true → is_slow g.place ≡ false
       → m'.queued w.cpu + 1 ≡ m.queued w.cpu → ((p : ℕ) → p ≢ w.cpu → m'.queued p ≡ m.queued p)
       → LeavesSlowPath (snapshot m) (snapshot m') w
-  world_leaves newest was now here queued = record { slow = slow_moves was now; here = here; queued = queued; on_top = on_top newest }
+  world_leaves newest was now here queued =
+      record { slow = slow_moves was now; here = here; queued = queued; on_top = on_top newest }
 
   pub world_enters : IsNewest m w → is_slow f.place ≡ false → is_slow g.place ≡ true
       → m'.queued w.cpu ≡ m.queued w.cpu + 1 → ((p : ℕ) → p ≢ w.cpu → m'.queued p ≡ m.queued p)
       → EntersSlowPath (snapshot m) (snapshot m') w
-  world_enters newest was now here queued = record { slow = slow_moves was now; here = here; queued = queued; on_top = on_top newest }
+  world_enters newest was now here queued =
+      record { slow = slow_moves was now; here = here; queued = queued; on_top = on_top newest }
 
   -- the world is sound again, where its snapshot agrees and the moved frame's registers fit
   pub world_sound : {hs hs' : LockName → LockHistory} → IsSoundSpinWorld m hs → m'.mode ≡ m.mode
-      → m'.turns ≡ m.turns → (sleeps (post_of g) ≡ true → IsNewest m w) → Rest m m' w f g
+      → m'.turns ≡ m.turns → (at_halt (post_of g) ≡ true → IsNewest m w) → Rest m m' w f g
       → IsPlain m' → RegistersFit m.mode g → SnapshotAgrees (snapshot m') hs'
       → IsSoundSpinWorld m' hs'
   world_sound ok mode turns newest rest plain fit agrees =
@@ -331,18 +353,20 @@ module _ (m m' : World) (w : Waiter) (f g : Frame) (moves : Moves m.frame m'.fra
         plain = plain;
         turning = subst (λ (n : ℕ). 0 < n) (sym turns) ok.turning;
         agrees = agrees;
-        registers = λ u d e. subst (λ (o : Mode). RegistersFit o d) (sym mode) (elim (waiter_cases u w) [
-          | inl q ↦ fits d (sym moves.now ∙ ap m'.frame (sym q) ∙ e)
-          | inr ne ↦ ok.registers u d (sym (moves.others u ne) ∙ e)
-        ]);
+        registers =
+            λ u d e. subst (λ (o : Mode). RegistersFit o d) (sym mode) (elim (waiter_cases u w) [
+              | inl q ↦ fits d (sym moves.now ∙ ap m'.frame (sym q) ∙ e)
+              | inr ne ↦ ok.registers u d (sym (moves.others u ne) ∙ e)
+            ]);
         asleep = λ u d e sleeps_on c lt. elim (waiter_cases u w) [
           | inl q ↦
-              let same : g ≡ d = let z = sym moves.now ∙ ap m'.frame (sym q) ∙ e in grind (arith, z) in
+              let same : g ≡ d =
+              let z = sym moves.now ∙ ap m'.frame (sym q) ∙ e in grind (arith, z) in
               none_above (record { cpu = u.cpu; ctx = c })
               (λ z. let k = ap (λ (v : Waiter). v.ctx) z in
               omega (arith, k, lt, ap (λ (v : Waiter). v.ctx) q))
               (ap (λ (p : ℕ). m.frame (record { cpu = p; ctx = c })) (ap (λ (v : Waiter). v.cpu) q)
-              ∙ (newest (ap (λ (b : Frame). sleeps (post_of b)) same ∙ sleeps_on)).above c
+              ∙ (newest (ap (λ (b : Frame). at_halt (post_of b)) same ∙ sleeps_on)).above c
               (subst (λ (v : Waiter). v.ctx < c) q lt))
           | inr ne ↦
               let was = ok.asleep u d (sym (moves.others u ne) ∙ e) sleeps_on c lt in
@@ -355,9 +379,16 @@ module _ (m m' : World) (w : Waiter) (f g : Frame) (moves : Moves m.frame m'.fra
               let s = ok.resting p old in
               elim (waiter_cases s.0 w) [
                 | inl q ↦
-                    let same : f ≡ s.1 = let z = sym moves.was ∙ ap m.frame (sym q) ∙ s.3 in grind (arith, z) in
-                    let cpu : w.cpu ≡ p = ap (λ (v : Waiter). v.cpu) (sym q) ∙ s.2 in
-                    (w, g, cpu, moves.now, rest.still (ap (λ (b : Frame). sleeps (post_of b)) same ∙ s.4) (ap m'.halted cpu ∙ h))
+                    let same : f ≡ s.1 =
+                    let z = sym moves.was ∙ ap m.frame (sym q) ∙ s.3 in grind (arith, z) in
+                    let cpu : w.cpu ≡ p = ap (λ (v : Waiter). v.cpu) (sym q) ∙ s.2 in (
+                      w,
+                      g,
+                      cpu,
+                      moves.now,
+                      rest.still (ap (λ (b : Frame). at_halt (post_of b)) same ∙ s.4)
+                          (ap m'.halted cpu ∙ h),
+                    )
                 | inr ne ↦ (s.0, s.1, s.2, moves.others s.0 ne ∙ s.3, s.4)
               ]
           | inr new ↦ (w, g, sym new.0, moves.now, new.1)

@@ -20,10 +20,10 @@ use Rattle.lk_machine.specs.declared.parts.State.{State}
 use Rattle.lk_machine.specs.rows.Pv.{is_set}
 use Rattle.lk_law.specs.Phase.Phase.{Waits}
 use Rattle.lk_law.specs.Phase.{Phase, has_node, leads}
-use Rattle.lk_law.specs.Pv.{Post, sleeps}
+use Rattle.lk_law.specs.Pv.{Post, at_halt}
 use Rattle.lk_law.specs.Pv.Post.{Kicks}
 use Rattle.lk_law.specs.Snapshot.{Moves, Rewrites, spins}
-use Rattle.lk_law.specs.Agree.{SnapshotAgrees, Step, Stays, LeavesSlowPath, halts, Owed, state_of}
+use Rattle.lk_law.specs.Agree.{SnapshotAgrees, Step, Stays, LeavesSlowPath, halts, Owed, node_state}
 use Rattle.lk_law.specs.World.{World}
 use Rattle.lk_law.specs.Places.{snapshot, phase_of, phase_at, post_of, post_at, post_if}
 use Rattle.lk_law.specs.Places.{post_on}
@@ -36,7 +36,7 @@ use Rattle.lk_law.specs.Registers.{sees_peer, counts_turns, is_unaware, Register
 use Rattle.lk_law.specs.SpinWorld.{IsPlain}
 use Rattle.lk_law.specs.Steps.{told_event, told_on}
 use Rattle.lk_law.specs.Places.{stage_of, stage_if}
-use Rattle.lk_law.specs.Allowed.{IsAllowedIfAny}
+use Rattle.lk_law.specs.Allowed.{MayFollowIfAny}
 use Rattle.lk_law.proofs.common.Puts.{put_number-here, put_number-else, put_word-else, put_rewrites}
 use Rattle.lk_law.proofs.common.Worlds.{world_owes, sole_sleeper, post_on-here}
 use Rattle.lk_law.proofs.pv.Outside.{Posted}
@@ -87,7 +87,8 @@ fit_halting at on g d place halting me noded hashed named peer turns unaware =
 -- where processors halt any byte may be stored
 pub halting_plain : (n : World) → halts n.mode ≡ true
     → ((k j : NodeName) → (n.node k).flag ≢ Second j) → IsPlain n
-halting_plain n on flags = record { byte = λ off. absurd (grind (arith, on, off)); flag = λ flat k j. flags k j }
+halting_plain n on flags =
+    record { byte = λ off. absurd (grind (arith, on, off)); flag = λ flat k j. flags k j }
 
 module _ {a : Acting} {c : Pc} (at : StandsIn true a c) where
   abbrev m : World
@@ -103,7 +104,8 @@ module _ {a : Acting} {c : Pc} (at : StandsIn true a c) where
   phase_before = phase_at c (is_some a.frame.me) (node_of a.frame.prev) (node_of a.frame.y)
 
   pub post_here : (snapshot m).post l a.by ≡ post_at c f
-  post_here = ap (post_on l) at.live ∙ post_on-here l f refl ∙ ap (λ (o : Option Pc). post_if o f) at.place
+  post_here =
+      ap (post_on l) at.live ∙ post_on-here l f refl ∙ ap (λ (o : Option Pc). post_if o f) at.place
 
   pub post_mine : post_of f ≡ post_at c f
   post_mine = ap (λ (o : Option Pc). post_if o f) at.place
@@ -114,16 +116,22 @@ module _ {a : Acting} {c : Pc} (at : StandsIn true a c) where
 
     pub hm_posts : Moves ((snapshot m).post l) ((snapshot after).post l) a.by (post_at c f)
         (post_of g)
-    hm_posts = record { was = post_here; now = turn_post t; others = λ u ne. ap (post_on l) ((turn_moves t).others u ne) }
+    hm_posts = record {
+      was = post_here;
+      now = turn_post t;
+      others = λ u ne. ap (post_on l) ((turn_moves t).others u ne);
+    }
 
     pub hm_posted : n.entry l ≡ m.entry l → ((p : ℕ) → n.kicked p ≡ m.kicked p)
         → Posted (snapshot m) (snapshot after) a.by l (post_at c f) (post_of g)
-    hm_posted entry kicked = record { was = post_here; now = turn_post t; entry = entry; kicked = kicked }
+    hm_posted entry kicked =
+        record { was = post_here; now = turn_post t; entry = entry; kicked = kicked }
 
     -- the kicks that are owed, where the row makes none
     pub hm_owed : ((k : NodeName) → post_at c f ≢ Kicks k) → ((p : ℕ) → n.kicked p ≡ m.kicked p)
         → (p : ℕ) → Owed (snapshot m) p → Owed (snapshot after) p
-    hm_owed other kicked = world_owes m after a.by f g (turn_moves t) (λ k e. other k (sym post_mine ∙ e)) kicked
+    hm_owed other kicked =
+        world_owes m after a.by f g (turn_moves t) (λ k e. other k (sym post_mine ∙ e)) kicked
 
     -- the step of a row, whose frame may fall asleep, since it is its processor's newest
     pub hm_step : {x : Fields} {h h' : Bool} → n.word l ≡ x → spins (m.held a.by l) ≡ h
@@ -144,18 +152,19 @@ module _ {a : Acting} {c : Pc} (at : StandsIn true a c) where
 
     pub hm_posted_as : {p q : Post} → post_at c f ≡ p → post_of g ≡ q → n.entry l ≡ m.entry l
         → ((i : ℕ) → n.kicked i ≡ m.kicked i) → Posted (snapshot m) (snapshot after) a.by l p q
-    hm_posted_as was now entry kicked = record { was = post_here ∙ was; now = turn_post t ∙ now; entry = entry; kicked = kicked }
+    hm_posted_as was now entry kicked =
+        record { was = post_here ∙ was; now = turn_post t ∙ now; entry = entry; kicked = kicked }
 
     pub hm_stays : g.me ≡ f.me → is_slow g.place ≡ is_slow (Some c)
         → ((p : ℕ) → n.queued p ≡ m.queued p) → Stays (snapshot m) (snapshot after) a.by
     hm_stays me slow queued = turn_stays t me (slow ∙ sym (slow_here at)) queued
 
-    pub hm_kept : (sleeps (post_at c f) ≡ true → sleeps (post_of g) ≡ true) → IsPlain n
+    pub hm_kept : (at_halt (post_at c f) ≡ true → at_halt (post_of g) ≡ true) → IsPlain n
         → RegistersFit m.mode g → (tell : Tell)
         → SnapshotAgrees (snapshot after) (told_on a.histories (told_event a.by l a.to tell))
-        → IsAllowedIfAny a.rules a.histories (told_event a.by l a.to tell) → Kept a after tell
+        → MayFollowIfAny a.rules a.histories (told_event a.by l a.to tell) → Kept a after tell
     hm_kept still plain fit tell agrees allowed = (
-      turn_sound t at.sound at.newest (λ e. still (sym (ap sleeps post_mine) ∙ e)) plain fit
+      turn_sound t at.sound at.newest (λ e. still (sym (ap at_halt post_mine) ∙ e)) plain fit
           agrees,
       allowed,
     )
@@ -201,7 +210,8 @@ module _ {a : Acting} {c : Pc} (at : StandsIn true a c) where
   flags_here k j = at.sound.plain.flag (halts_flat m.mode at.kind) k j
 
 -- more stores of rows
-module _ {m : World} {w : Waiter} {f g : Frame} {way : Option Manner} (live : m.frame w ≡ Some f) (lock : g.lock ≡ f.lock) where
+module _ {m : World} {w : Waiter} {f g : Frame} {way : Option Manner} (live : m.frame w ≡ Some f)
+    (lock : g.lock ≡ f.lock) where
   pub state_turn : (n : NodeName) (x : State)
       → Turn m (put_node m n (record (m.node n) { state = x })) w f g way
   state_turn n x = node_turn live lock n (record (m.node n) { state = x })
@@ -224,7 +234,7 @@ module _ {m : World} {w : Waiter} {f g : Frame} {way : Option Manner} (live : m.
 
 module _ {a : Acting} {c : Pc} (at : StandsIn true a c) where
   -- the own node's state
-  pub state_here : state_of (snapshot a.world) a.by ≡ (a.world.node (node_of a.frame.me)).state
+  pub state_here : node_state (snapshot a.world) a.by ≡ (a.world.node (node_of a.frame.me)).state
   state_here = ap (λ (n : NodeName). (a.world.node n).state) (own_here at)
 
   -- a store of it
@@ -260,7 +270,7 @@ module _ {a : Acting} {c : Pc} (at : StandsIn true a c) where
       → is_set (a.world.node (node_of a.frame.me)).flag ≡ false
       → slice_get (a.histories a.frame.lock).main 0 ≢ Some a.by
   flag_behind waits unset front =
-      let lead = (para_queue at.sound.agrees at.kind a.frame.lock).first a.by front in
+      let lead = (para_queue at.sound.agrees at.kind a.frame.lock).ends.first a.by front in
       let not : leads Waits ((a.world.node ((snapshot a.world).own a.by)).flag) ≡ false =
       ap (λ (n : NodeName). leads Waits ((a.world.node n).flag)) (own_here at)
       ∙ unset_follows (a.world.node (node_of a.frame.me)).flag unset in

@@ -4,7 +4,7 @@ use Rattle.std.proofs.Common.{◌++◌, arith, ap, ◌+◌, ◌<◌, refl, sym, 
 use Rattle.std.specs.Prelude.{◌==◌, if◌then◌else◌}
 use Rattle.std.proofs.lemmas.Bool.{cases_Bool, eqb-true}
 use Rattle.lk_abs.specs.Kicks.{sleeps_after, sleeps_from, owes, kicks, owing, kicks_made}
-use Rattle.lk_abs.specs.Kicks.{kicked_after, is_kicked_from, is_kicked, sleeps as sleeps_in}
+use Rattle.lk_abs.specs.Kicks.{kicked_after, is_kicked_from, is_kicked, sleeps}
 use Rattle.lk_abs.specs.declared.names.Waiter.{Waiter}
 use Rattle.lk_abs.specs.declared.names.LockName.{LockName}
 use Rattle.lk_abs.specs.declared.events.Event.{Event}
@@ -12,18 +12,18 @@ use Rattle.lk_abs.specs.declared.events.What.{What}
 use Rattle.lk_machine.specs.declared.parts.Frame.{Frame}
 use Rattle.lk_machine.specs.declared.parts.Pc.TheVariants.{U5}
 use Rattle.lk_machine.specs.Row.{Tell, Nothing, Says, Passes}
-use Rattle.lk_law.specs.Pv.{sleeps}
+use Rattle.lk_law.specs.Pv.{at_halt}
 use Rattle.lk_law.specs.Snapshot.{Moves}
 use Rattle.lk_law.specs.World.{World}
 use Rattle.lk_law.specs.Places.{post_of}
 use Rattle.lk_law.specs.Steps.{told_event}
-use Rattle.lk_law.specs.Kicked.{and_then, Owes, AreOwing, ShowsKicks}
+use Rattle.lk_law.specs.Kicked.{with_event, Owes, AreOwing, ShowsKicks}
 use Rattle.lk_law.proofs.common.Cases.{waiter_cases}
 use Rattle.lk_law.proofs.common.Puts.{if-true, if-false, not-true}
 use Rattle.lk_law.proofs.pv.Quiet.{is_quiet, quiet_tell}
 
 pub sleeps_on : (u : Waiter) (es : List Event) (e : Event)
-    → sleeps_in u (es ++ e ∷ []) ≡ sleeps_after u (sleeps_in u es) e
+    → sleeps u (es ++ e ∷ []) ≡ sleeps_after u (sleeps u es) e
 sleeps_on u es e = go false es
   where
     go : (b : Bool) (es : List Event)
@@ -66,7 +66,7 @@ quiet_kicks p what h = grind arith
 
 -- the events say no more of halts and kicks than before
 pub record Alike (es es' : List Event) : Type 0 where
-  sleep : (u : Waiter) → sleeps_in u es' ≡ sleeps_in u es
+  sleep : (u : Waiter) → sleeps u es' ≡ sleeps u es
   kick : (p : ℕ) → is_kicked p es' ≡ is_kicked p es
   owe : (p : ℕ) → owing p es' ≡ owing p es
   made : (p : ℕ) → kicks_made p es' ≡ kicks_made p es
@@ -78,20 +78,23 @@ alike_quiet : (es : List Event) (w : Waiter) (what : What) → is_quiet what ≡
     → Alike es (es ++ record { by = w; what = what } ∷ [])
 alike_quiet es w what h =
     record {
-      sleep = λ u. sleeps_on u es _ ∙ quiet_sleeps u (sleeps_in u es) w what h;
+      sleep = λ u. sleeps_on u es _ ∙ quiet_sleeps u (sleeps u es) w what h;
       kick = λ p. kicked_on p es _ ∙ quiet_kicked p (is_kicked p es) w what h;
-      owe = λ p. let r = owing_on p es (record { by = w; what = what }) in let z = quiet_owes p what h in omega (arith, r, z);
-      made = λ p. let r = made_on p es (record { by = w; what = what }) in let z = quiet_kicks p what h in omega (arith, r, z);
+      owe = λ p. let r = owing_on p es (record { by = w; what = what }) in
+          let z = quiet_owes p what h in omega (arith, r, z);
+      made = λ p. let r = made_on p es (record { by = w; what = what }) in
+          let z = quiet_kicks p what h in omega (arith, r, z);
     }
 
 pub alike_told : (es : List Event) (w : Waiter) (l : LockName) (to : Waiter) (tell : Tell)
-    → quiet_tell tell ≡ true → Alike es (and_then es (told_event w l to tell))
+    → quiet_tell tell ≡ true → Alike es (with_event es (told_event w l to tell))
 alike_told es w l to Nothing h = alike_self es
 alike_told es w l to (Says what) h = alike_quiet es w what h
 alike_told es w l to (Passes n k) h = alike_quiet es w _ refl
 
 -- one frame moves, which owed no kick and owes none
-module _ (m m' : World) {w : Waiter} {fo go : Option Frame} (moves : Moves m.frame m'.frame w fo go) where
+module _ (m m' : World) {w : Waiter} {fo go : Option Frame}
+    (moves : Moves m.frame m'.frame w fo go) where
   owes_before : (p : ℕ) (u : Waiter) → u ≢ w → Owes m' p u → Owes m p u
   owes_before p u ne o = (o.0, sym (moves.others u ne) ∙ o.1, o.2, o.3)
 
@@ -103,14 +106,15 @@ module _ (m m' : World) {w : Waiter} {fo go : Option Frame} (moves : Moves m.fra
   same_owing p n the was now a =
       record {
         once = a.once;
-        inside = λ i lt. let o = a.inside i lt in owes_after p (the i) (λ e. was (subst (Owes m p) e o)) o;
+        inside = λ i lt.
+            let o = a.inside i lt in owes_after p (the i) (λ e. was (subst (Owes m p) e o)) o;
         place = λ u o. a.place u (owes_before p u (λ e. now (subst (Owes m' p) e o)) o);
       }
 
   pub quiet_shows : {es es' : List Event} → ShowsKicks m es → Alike es es'
       → ((p : ℕ) → m'.halted p ≡ m.halted p) → ((p : ℕ) → m'.kicked p ≡ m.kicked p)
-      → ((d : Frame) → fo ≡ Some d → sleeps (post_of d) ≡ false)
-      → ((d : Frame) → go ≡ Some d → sleeps (post_of d) ≡ true → m.halted w.cpu ≡ true → ⊥)
+      → ((d : Frame) → fo ≡ Some d → at_halt (post_of d) ≡ false)
+      → ((d : Frame) → go ≡ Some d → at_halt (post_of d) ≡ true → m.halted w.cpu ≡ true → ⊥)
       → ((d : Frame) → fo ≡ Some d → d.place ≢ Some U5)
       → ((d : Frame) → go ≡ Some d → d.place ≢ Some U5) → ShowsKicks m' es'
   quiet_shows shows same halted kicked awake rises was now =
@@ -118,14 +122,16 @@ module _ (m m' : World) {w : Waiter} {fo go : Option Frame} (moves : Moves m.fra
         asleep = λ u h.
             let r = shows.asleep u (sym (same.sleep u) ∙ h) in
             elim (waiter_cases u w) [
-              | inl e ↦ absurd (let z = awake r.0 (sym moves.was ∙ ap m.frame (sym e) ∙ r.1) in let k = r.2 in grind (arith, z, k))
+              | inl e ↦ absurd (let z = awake r.0 (sym moves.was ∙ ap m.frame (sym e) ∙ r.1) in
+                  let k = r.2 in grind (arith, z, k))
               | inr ne ↦ (r.0, moves.others u ne ∙ r.1, r.2, halted u.cpu ∙ r.3)
             ];
         rests = λ u r. same.sleep u ∙ elim (waiter_cases u w) [
           | inl e ↦ absurd
               (rises r.0 (sym moves.now ∙ ap m'.frame (sym e) ∙ r.1) r.2
               (ap (λ (v : Waiter). m.halted v.cpu) (sym e) ∙ sym (halted u.cpu) ∙ r.3))
-          | inr ne ↦ shows.rests u (r.0, sym (moves.others u ne) ∙ r.1, r.2, sym (halted u.cpu) ∙ r.3)
+          | inr ne ↦
+              shows.rests u (r.0, sym (moves.others u ne) ∙ r.1, r.2, sym (halted u.cpu) ∙ r.3)
         ];
         kicked = λ p. kicked p ∙ shows.kicked p ∙ sym (same.kick p);
         owing = λ p. let r = shows.owing p in (
@@ -138,7 +144,8 @@ module _ (m m' : World) {w : Waiter} {fo go : Option Frame} (moves : Moves m.fra
       }
 
   -- it owes one now
-  pub more_owing : (p n : ℕ) (the : ℕ → Waiter) → (Owes m p w → ⊥) → Owes m' p w → AreOwing m p n the
+  pub more_owing : (p n : ℕ) (the : ℕ → Waiter) → (Owes m p w → ⊥) → Owes m' p w
+      → AreOwing m p n the
       → AreOwing m' p (n + 1) (λ i. if i == n then w else the i)
   more_owing p n the was now a =
       record {
@@ -150,7 +157,9 @@ module _ (m m' : World) {w : Waiter} {fo go : Option Frame} (moves : Moves m.fra
                 (sym (sym (if-true (i == n) w (the i) a1) ∙ e ∙ if-false (j == n) w (the j) b0)))
           ]
           | inr a0 ↦ elim (cases_Bool (j == n)) [
-            | inl b1 ↦ absurd (new i (below i a0 lt) (sym (if-false (i == n) w (the i) a0) ∙ e ∙ if-true (j == n) w (the j) b1))
+            | inl b1 ↦
+                absurd (new i (below i a0 lt) (sym (if-false (i == n) w (the i) a0) ∙ e
+                ∙ if-true (j == n) w (the j) b1))
             | inr b0 ↦ a.once i j (below i a0 lt) (below j b0 kt)
                 (sym (if-false (i == n) w (the i) a0) ∙ e ∙ if-false (j == n) w (the j) b0)
           ]
@@ -178,7 +187,8 @@ module _ (m m' : World) {w : Waiter} {fo go : Option Frame} (moves : Moves m.fra
       new i lt e = was (subst (Owes m p) e (a.inside i lt))
 
   -- it owes none any more: the last takes its number
-  pub less_owing : (p n : ℕ) (the : ℕ → Waiter) → (Owes m' p w → ⊥) → (k : ℕ) → k < n + 1 → the k ≡ w
+  pub less_owing : (p n : ℕ) (the : ℕ → Waiter) → (Owes m' p w → ⊥) → (k : ℕ) → k < n + 1
+      → the k ≡ w
       → AreOwing m p (n + 1) the → AreOwing m' p n (λ i. if i == k then the n else the i)
   less_owing p n the now k in_range is a =
       record {

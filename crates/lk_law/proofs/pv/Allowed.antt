@@ -13,24 +13,25 @@ use Rattle.lk_law.specs.Phase.{queues, leads}
 use Rattle.lk_law.specs.Phase.Phase.{Holds, Releases}
 use Rattle.lk_law.specs.Snapshot.{Snapshot}
 use Rattle.lk_law.specs.Agree.{SnapshotAgrees}
-use Rattle.lk_law.specs.Allowed.{IsAllowed}
+use Rattle.lk_law.specs.Allowed.{MayFollow}
 use Rattle.lk_law.proofs.common.Told.{sole_freed}
-use Rattle.lk_law.proofs.common.Holders.{holds_so}
+use Rattle.lk_law.proofs.common.Holders.{holds_alone}
 use Rattle.lk_law.proofs.common.Allowed.{on_lock, shared_by, first_is, outside, take_on, allow_take}
 
-module _ (rules : Rules) {s : Snapshot} {hs : LockName → LockHistory} (ok : SnapshotAgrees s hs) (w : Waiter) (l : LockName) where
+module _ (rules : Rules) {s : Snapshot} {hs : LockName → LockHistory} (ok : SnapshotAgrees s hs)
+    (w : Waiter) (l : LockName) where
   -- E4 and E7: the front takes the free lock.
   pub allow_grab : leads (s.phase l w) ((s.node (s.own w)).flag) ≡ true → (s.word l).locked ≡ Free
-      → IsAllowed rules hs (record { by = w; what = Take l Head })
+      → MayFollow rules hs (record { by = w; what = Take l Head })
   allow_grab lead free = take_on rules ok w l Head free refl (first_is ok w l lead)
 
   -- H2
   pub allow_steal : queues (s.phase l w) ≡ false → (s.word l).locked ≡ Free
-      → IsAllowed rules hs (record { by = w; what = Take l Steal })
+      → MayFollow rules hs (record { by = w; what = Take l Steal })
   allow_steal out free = allow_take rules ok w l Steal out free refl (λ p. p)
 
   -- E13
-  pub allow_leave : s.phase l w ≡ Holds → IsAllowed rules hs (record { by = w; what = Leave l })
+  pub allow_leave : s.phase l w ≡ Holds → MayFollow rules hs (record { by = w; what = Leave l })
   allow_leave was =
       let o = ok.locks l in
       on_lock rules hs (record { by = w; what = Leave l }) l refl
@@ -38,20 +39,20 @@ module _ (rules : Rules) {s : Snapshot} {hs : LockName → LockHistory} (ok : Sn
         owned = tt;
         ordered = (
           first_is ok w l (grind (arith, was)),
-          (Spins, holds_so (hs l) w o.holder o.holders (o.hold.has w (grind (arith, was)))),
+          (Spins, holds_alone (hs l) w o.holder o.holders (o.hold.has w (grind (arith, was)))),
         );
         shared = shared_by o.holder o.holders;
       })
 
   -- U2 and U4
   pub allow_drop : (owing : Option ℕ) → s.phase l w ≡ Releases
-      → IsAllowed rules hs (record { by = w; what = Release l owing })
+      → MayFollow rules hs (record { by = w; what = Release l owing })
   allow_drop owing was =
       let o = ok.locks l in
       let mine : o.holder ≡ Some w = o.hold.has w (grind (arith, was, o.hold.releases w was)) in
       on_lock rules hs (record { by = w; what = Release l owing }) l refl
       (record {
-        owned = holds_so (hs l) w o.holder o.holders mine;
+        owned = holds_alone (hs l) w o.holder o.holders mine;
         ordered = outside ok w l (grind (arith, was));
         shared = shared_by None (sole_freed (hs l) w o.holder o.holders mine);
       })

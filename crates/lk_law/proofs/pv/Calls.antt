@@ -8,13 +8,14 @@ use Rattle.lk_word.specs.declared.spin_word.Locked.TheVariants.{Free, Held, Slow
 use Rattle.lk_machine.specs.declared.parts.State.{State}
 use Rattle.lk_machine.specs.declared.parts.State.TheVariants.{Halted, Hashed}
 use Rattle.lk_law.specs.Snapshot.{Moves}
-use Rattle.lk_law.specs.Pv.{Post, PostsAgree, bare, full, touches, slow_at, one_at, calls, slowing}
-use Rattle.lk_law.specs.Pv.{dozes, names, holds, fronts, raw, fits}
+use Rattle.lk_law.specs.Pv.{Post, PostsAgree, bare, post_full, touches, slow_at, one_at, calls}
+use Rattle.lk_law.specs.Pv.{slowing}
+use Rattle.lk_law.specs.Pv.{dozes, names, post_holds, fronts, raw, fits}
 use Rattle.lk_law.specs.Pv.Post.{Off, Sleeps, Tries, Naps, Has, Calls, Slowing}
 use Rattle.lk_law.proofs.common.Cases.{waiter_cases}
 use Rattle.lk_law.proofs.pv.Slow.{touches-holds, calls-holds, slowing-holds, slow_at-holds}
 use Rattle.lk_law.proofs.pv.Slow.{one_at-holds}
-use Rattle.lk_law.proofs.pv.Turn.{was_true, still_true, as_before, follows, not_slow}
+use Rattle.lk_law.proofs.pv.Turn.{was_true, still_true, as_before, follows_post, not_slow}
 use Rattle.lk_law.proofs.pv.Turn.{some-cases, full-fronts, names-holds, bare-holds, halted-follows}
 use Rattle.lk_law.proofs.pv.Turn.{follows-fit, follows-doze}
 use Rattle.lk_law.proofs.pv.Met.{Met}
@@ -24,7 +25,8 @@ module _ {locked : Locked} {entry : Option NodeName} {front : Option Waiter}
     {owed : Waiter → Type 0} {w : Waiter} (met : Met locked entry front post state own owed) where
   open met use {only}
 
-  alone : (P : Post → Bool) → ((p : Post) → P p ≡ true → holds p ≡ true) → holds (post w) ≡ true
+  alone : (P : Post → Bool) → ((p : Post) → P p ≡ true → post_holds p ≡ true)
+      → post_holds (post w) ≡ true
       → (u : Waiter) → u ≢ w → P (post u) ≡ true → ⊥
   alone P sub h u ne q = ne (only u w (sub (post u) q) h)
 
@@ -40,13 +42,16 @@ module _ {locked : Locked} {entry : Option NodeName} {front : Option Waiter}
       let f = leads w (rw was refl) in
       elim (some-cases entry) [
         | inl e ↦ e
-        | inr n ↦ let s = ok.full_some n.0 n.1 (λ e. cc (e, l)) in let g = leads s.0 (full-fronts (post s.0) s.1) in
-            let i : s.0 ≡ w = cc (g, f) in absurd (cc (ap (λ v. full (post v)) i, ap full was, s.1))
+        | inr n ↦ let s = ok.full_some n.0 n.1 (λ e. cc (e, l)) in
+            let g = leads s.0 (full-fronts (post s.0) s.1) in
+            let i : s.0 ≡ w = cc (g, f) in
+            absurd (cc (ap (λ v. post_full (post v)) i, ap post_full was, s.1))
       ]
 
   -- the byte changes between 0 and 1, by one that has no post: rows F1, T2, H2 and U2
   pub pv_byte : (locked' : Locked) → locked ≢ Slow → locked' ≢ Slow
-      → ((u : Waiter) → holds (post u) ≡ false) → PostsAgree locked' entry front post state own owed
+      → ((u : Waiter) → post_holds (post u) ≡ false)
+      → PostsAgree locked' entry front post state own owed
   pv_byte locked' plain plain' nobody =
       record {
         fit = ok.fit;
@@ -84,7 +89,10 @@ module _ {locked : Locked} {entry : Option NodeName} {front : Option Waiter}
   kicked free z f (inr s) =
       elim (ok.napped z f s) [
         | inl a ↦ absurd (cc (a, free))
-        | inr d ↦ elim d [ inl e ↦ absurd (taken e.0 (slowing-holds (post e.0) e.1) free) | inr g ↦ g ]
+        | inr d ↦ elim d [
+          | inl e ↦ absurd (taken e.0 (slowing-holds (post e.0) e.1) free)
+          | inr g ↦ g
+        ]
       ]
 
 module _ {locked : Locked} {entry : Option NodeName} {front : Option Waiter}
@@ -96,22 +104,26 @@ module _ {locked : Locked} {entry : Option NodeName} {front : Option Waiter}
     -- K1: the one that leads now had halted: its entry is left to this one
     pub k1_hash : (y : NodeName) (z : Waiter) → Moves post post' w (Calls y) (Slowing y)
         → front ≡ Some z → Moves state state' z Halted Hashed
-        → (follows (post z) ≡ true) ⊎ (fronts (post z) ≡ true)
+        → (follows_post (post z) ≡ true) ⊎ (fronts (post z) ≡ true)
         → PostsAgree locked entry front post' state' own owed
     k1_hash y z moves f puts way =
-        let h : holds (post w) ≡ true = rw moves.was refl in
-        let ft : fits (post z) true Halted ≡ true = rw puts.was at (ok.fit z true (λ e. cc e) (λ e. f)) in
+        let h : post_holds (post w) ≡ true = rw moves.was refl in
+        let ft : fits (post z) true Halted ≡ true =
+        rw puts.was at (ok.fit z true (λ e. cc e) (λ e. f)) in
         let q = halted-follows (post z) way ft in
-        let zw : z ≢ w = (λ e. cc (ap (λ v. follows (post v)) e, ap follows moves.was, q.0)) in
+        let zw : z ≢ w =
+        (λ e. cc (ap (λ v. follows_post (post v)) e, ap follows_post moves.was, q.0)) in
         let pz : post' z ≡ post z = moves.others z zw in
         let l : locked ≢ Slow = ok.raw_slow z f (rw puts.was q.1) in
         let one = not_slow locked l (taken w h) in
         let e : entry ≡ None = elim (some-cases entry) [
           | inl e ↦ e
-          | inr n ↦ let s = ok.full_some n.0 n.1 l in let g = leads s.0 (full-fronts (post s.0) s.1) in
+          | inr n ↦ let s = ok.full_some n.0 n.1 l in
+              let g = leads s.0 (full-fronts (post s.0) s.1) in
               let i : s.0 ≡ z = cc (g, f) in
-              absurd (let b : full (post z) ≡ true =
-              subst (λ (v : Waiter). full (post v) ≡ true) i s.1 in full-follows (post z) b q.0)
+              absurd (let b : post_full (post z) ≡ true =
+              subst (λ (v : Waiter). post_full (post v) ≡ true) i s.1 in
+              full-follows (post z) b q.0)
         ] in
         let low : raw (post' z) (state' z) ≡ false = rw (pz, puts.now) q.2 in
         record {
@@ -130,13 +142,18 @@ module _ {locked : Locked} {entry : Option NodeName} {front : Option Waiter}
               was_true post post' w (Calls y) (Slowing y) moves bare refl u p in
               absurd (alone met bare bare-holds h u q.0 q.1);
           bare_some = λ p q. absurd (l q);
-          full_entry = λ u p. ok.full_entry u (was_true post post' w (Calls y) (Slowing y) moves full refl u p).1;
+          full_entry = λ u p.
+              ok.full_entry u (was_true post post' w (Calls y)
+              (Slowing y) moves post_full refl u p).1;
           full_slow = λ u p. l;
           full_some = λ n p q. absurd (cc (p, e));
           entered = ok.entered;
-          named = λ u n p. ok.named u n (sym (as_before post post' w (Calls y) (Slowing y) moves names refl u) ∙ p);
+          named = λ u n p.
+              ok.named u n (sym (as_before post post' w (Calls y) (Slowing y) moves names refl u)
+              ∙ p);
           raw_slow = λ u p q. l;
-          raw_free = λ u v p q. let i : u ≡ z = cc (p, f) in absurd (cc (ap (λ x. raw (post' x) (state' x)) i, low, q));
+          raw_free = λ u v p q. let i : u ≡ z = cc (p, f) in
+              absurd (cc (ap (λ x. raw (post' x) (state' x)) i, low, q));
           slow = λ u p. let q =
               was_true post post' w (Calls y) (Slowing y) moves slow_at refl u p in
               absurd (alone met slow_at slow_at-holds h u q.0 q.1);
@@ -149,7 +166,7 @@ module _ {locked : Locked} {entry : Option NodeName} {front : Option Waiter}
           napped = λ u p q. inr (inl (w, rw moves.now refl));
         }
       where
-        full-follows : (p : Post) → full p ≡ true → follows p ≡ true → ⊥
+        full-follows : (p : Post) → post_full p ≡ true → follows_post p ≡ true → ⊥
         full-follows p h k = grind arith
 
         bool-cases : (b : Bool) → (b ≡ true) ⊎ (b ≡ false)
@@ -161,37 +178,50 @@ module _ {locked : Locked} {entry : Option NodeName} {front : Option Waiter}
       → ((z : Waiter) → front ≡ Some z → state z ≢ Halted)
       → PostsAgree locked entry front post' state own owed
   k1_done y moves awake =
-      let h : holds (post w) ≡ true = rw moves.was refl in
+      let h : post_holds (post w) ≡ true = rw moves.was refl in
       record {
         fit = λ u f p q. grind (arith, waiter_cases u w, moves.others u, moves.now, ok.fit u f p q);
-        bare_entry = λ u p. ok.bare_entry u (was_true post post' w (Calls y) Off moves bare refl u p).1;
-        bare_slow = λ u p. ok.bare_slow u (was_true post post' w (Calls y) Off moves bare refl u p).1;
-        bare_some = λ p q. let s = ok.bare_some p q in (s.0, still_true post post' w (Calls y) Off moves bare refl s.0 s.1);
-        full_entry = λ u p. ok.full_entry u (was_true post post' w (Calls y) Off moves full refl u p).1;
-        full_slow = λ u p. ok.full_slow u (was_true post post' w (Calls y) Off moves full refl u p).1;
-        full_some = λ n p q. let s = ok.full_some n p q in (s.0, still_true post post' w (Calls y) Off moves full refl s.0 s.1);
+        bare_entry =
+            λ u p. ok.bare_entry u (was_true post post' w (Calls y) Off moves bare refl u p).1;
+        bare_slow =
+            λ u p. ok.bare_slow u (was_true post post' w (Calls y) Off moves bare refl u p).1;
+        bare_some = λ p q. let s = ok.bare_some p q in
+            (s.0, still_true post post' w (Calls y) Off moves bare refl s.0 s.1);
+        full_entry =
+            λ u p. ok.full_entry u (was_true post post' w (Calls y) Off moves post_full refl u p).1;
+        full_slow =
+            λ u p. ok.full_slow u (was_true post post' w (Calls y) Off moves post_full refl u p).1;
+        full_some = λ n p q. let s = ok.full_some n p q in
+            (s.0, still_true post post' w (Calls y) Off moves post_full refl s.0 s.1);
         entered = ok.entered;
         named = λ u m p. let ne : u ≢ w =
             (λ e. cc (ap (λ v. names (post' v)) e, ap names moves.now, p)) in
             ok.named u m (ap names (sym (moves.others u ne)) ∙ p);
         raw_slow = λ z p q. ok.raw_slow z p (raw-was z q);
-        raw_free = λ z u p q. as_before post post' w (Calls y) Off moves touches refl u ∙ ok.raw_free z u p (raw-was z q);
+        raw_free = λ z u p q. as_before post post' w (Calls y) Off moves touches refl u
+            ∙ ok.raw_free z u p (raw-was z q);
         slow = λ u p. ok.slow u (was_true post post' w (Calls y) Off moves slow_at refl u p).1;
         one = λ u p. ok.one u (was_true post post' w (Calls y) Off moves one_at refl u p).1;
         called = λ z u p q d. let r = was_true post post' w (Calls y) Off moves calls refl u q in
             absurd (alone met calls calls-holds h u r.0 r.1);
         dozed = λ z p q d. absurd (awake z p d);
         slept = λ z p q. let zw : z ≢ w = (λ e. cc (ap post' e, moves.now, q)) in
-            absurd (awake z p (ok.called z w p (rw moves.was refl) (rw (sym (moves.others z zw) ∙ q) refl)));
-        napped = λ z p q. let zw : z ≢ w = (λ e. cc (ap post' e, moves.now, q)) in elim (ok.napped z p (sym (moves.others z zw) ∙ q)) [
-          | inl x ↦ inl x
-          | inr d ↦ elim
-              d [
-                | inl g ↦ inr
-                    (inl (g.0, still_true post post' w (Calls y) Off moves slowing refl g.0 g.1))
-                | inr f ↦ inr (inr f)
-              ]
-        ];
+            absurd
+            (awake z p (ok.called z w p (rw moves.was refl)
+            (rw (sym (moves.others z zw) ∙ q) refl)));
+        napped = λ z p q. let zw : z ≢ w = (λ e. cc (ap post' e, moves.now, q)) in
+            elim (ok.napped z p (sym (moves.others z zw) ∙ q)) [
+              | inl x ↦ inl x
+              | inr d ↦ elim
+                  d [
+                    | inl g ↦ inr
+                        (inl (
+                          g.0,
+                          still_true post post' w (Calls y) Off moves slowing refl g.0 g.1,
+                        ))
+                    | inr f ↦ inr (inr f)
+                  ]
+            ];
       }
     where
       raw-was : (z : Waiter) → raw (post' z) (state z) ≡ true → raw (post z) (state z) ≡ true
@@ -201,9 +231,9 @@ module _ {locked : Locked} {entry : Option NodeName} {front : Option Waiter}
 
   -- E15: it hands the lead to v
   pub e15_pass : (v : Waiter) → Moves post post' w Has (Calls (own v)) → v ≢ w
-      → follows (post v) ≡ true → PostsAgree locked entry (Some v) post' state own owed
+      → follows_post (post v) ≡ true → PostsAgree locked entry (Some v) post' state own owed
   e15_pass v moves vw way =
-      let h : holds (post w) ≡ true = rw moves.was refl in
+      let h : post_holds (post w) ≡ true = rw moves.was refl in
       let f = leads w (rw moves.was refl) in
       let l = ok.one w (rw moves.was refl) in
       let e = has-none met moves.was in
@@ -227,14 +257,22 @@ module _ {locked : Locked} {entry : Option NodeName} {front : Option Waiter}
         bare_slow = λ u p. let q = was_true post post' w Has (Calls (own v)) moves bare refl u p in
             absurd (alone met bare bare-holds h u q.0 q.1);
         bare_some = λ p q. cc (l, q);
-        full_entry = λ u p. let q = was_true post post' w Has (Calls (own v)) moves full refl u p in
+        full_entry = λ u p.
+            let q = was_true post post' w Has (Calls (own v)) moves post_full refl u p in
             absurd (q.0 (let a = leads u (full-fronts (post u) q.1) in cc (a, f)));
         full_slow = λ u p q. cc (q, l);
         full_some = λ n p q. absurd (cc (p, e));
         entered = λ n p. absurd (cc (p, e));
         named = λ u m p. elim (waiter_cases u w) [
-          | inl j ↦ (v, refl, (let q : Some (own v) ≡ Some m = sym (ap (λ z. names (post' z)) j ∙ ap names moves.now) ∙ p in cc q))
-          | inr ne ↦ absurd (ne (only u w (names-holds (post u) m (ap names (sym (moves.others u ne)) ∙ p)) h))
+          | inl j ↦ (
+            v,
+            refl,
+            (let q : Some (own v) ≡ Some m =
+                sym (ap (λ z. names (post' z)) j ∙ ap names moves.now) ∙ p in cc q),
+          )
+          | inr ne ↦
+              absurd
+              (ne (only u w (names-holds (post u) m (ap names (sym (moves.others u ne)) ∙ p)) h))
         ];
         raw_slow = λ z p q r. cc (r, l);
         raw_free = λ z u p q. elim (cases_Bool (touches (post' u))) [
@@ -250,7 +288,8 @@ module _ {locked : Locked} {entry : Option NodeName} {front : Option Waiter}
             ap state (sym i) ∙ follows-doze (post v) (state v) d' old;
         dozed = λ z p q d. (w, rw moves.now refl);
         slept = λ z p q. inr (inl (w, rw moves.now refl));
-        napped = λ z p q. let i : v ≡ z = cc p in absurd (cc (ap post' i, pv, q, ap follows (sym pv ∙ ap post' i ∙ q), way));
+        napped = λ z p q. let i : v ≡ z = cc p in
+            absurd (cc (ap post' i, pv, q, ap follows_post (sym pv ∙ ap post' i ∙ q), way));
       }
     where
       bool-cases : (b : Bool) → (b ≡ true) ⊎ (b ≡ false)
@@ -262,19 +301,22 @@ module _ {locked : Locked} {entry : Option NodeName} {front : Option Waiter}
       → PostsAgree Held entry front post' state own owed
   e4_take g moves free =
       let f = leads w (rw moves.was refl) in
-      let nobody : (P : Post → Bool) → ((p : Post) → P p ≡ true → holds p ≡ true) → P Has ≡ false
+      let nobody : (P : Post → Bool) → ((p : Post) → P p ≡ true → post_holds p ≡ true)
+      → P Has ≡ false
       → (u : Waiter) → P (post' u) ≡ true → ⊥ =
-      λ P sub no u p. let q = was_true post post' w (Tries g) Has moves P no u p in taken u (sub (post u) q.1) free in
-      let nofull : (u : Waiter) → full (post' u) ≡ true → ⊥ =
-      λ u p. let q = was_true post post' w (Tries g) Has moves full refl u p in
+      λ P sub no u p. let q = was_true post post' w (Tries g) Has moves P no u p in
+      taken u (sub (post u) q.1) free in
+      let nofull : (u : Waiter) → post_full (post' u) ≡ true → ⊥ =
+      λ u p. let q = was_true post post' w (Tries g) Has moves post_full refl u p in
       q.0 (let a = leads u (full-fronts (post u) q.1) in cc (a, f)) in
       let e : entry ≡ None = elim (some-cases entry) [
         | inl e ↦ e
         | inr n ↦ let s = ok.full_some n.0 n.1 (λ q. cc (q, free)) in
-            absurd (nofull s.0 (still_true post post' w (Tries g) Has moves full refl s.0 s.1))
+            absurd (nofull s.0 (still_true post post' w (Tries g) Has moves post_full refl s.0 s.1))
       ] in
       record {
-        fit = λ u f p q. grind (arith, waiter_cases u w, moves.others u, moves.now, moves.was, ok.fit u f p q);
+        fit = λ u f p q.
+            grind (arith, waiter_cases u w, moves.others u, moves.now, moves.was, ok.fit u f p q);
         bare_entry = λ u p. e;
         bare_slow = λ u p. absurd (nobody bare bare-holds refl u p);
         bare_some = λ p q. cc q;
@@ -282,7 +324,8 @@ module _ {locked : Locked} {entry : Option NodeName} {front : Option Waiter}
         full_slow = λ u p q. cc q;
         full_some = λ n p q. absurd (cc (p, e));
         entered = ok.entered;
-        named = λ u m p. ok.named u m (sym (as_before post post' w (Tries g) Has moves names refl u) ∙ p);
+        named = λ u m p.
+            ok.named u m (sym (as_before post post' w (Tries g) Has moves names refl u) ∙ p);
         raw_slow = λ z p q r. cc r;
         raw_free = λ z u p q.
             elim (cases_Bool (touches (post' u))) [

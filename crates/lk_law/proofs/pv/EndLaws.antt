@@ -22,12 +22,12 @@ use Rattle.lk_law.proofs.spin.Hold.{hold_take}
 use Rattle.lk_law.specs.Phase.{Phase, has_node, queues, leads, pends, watches}
 use Rattle.lk_law.specs.Phase.Phase.{Idle, Seeks, Waits, Leads, Presses, Holds, Hands, Releases}
 use Rattle.lk_law.specs.Phase.Phase.{Tends, Prepared}
-use Rattle.lk_law.specs.Pv.{Post, PostsAgree, agrees, holds, fronts, bare, sleeps}
+use Rattle.lk_law.specs.Pv.{Post, PostsAgree, agrees, post_holds, fronts, bare, at_halt}
 use Rattle.lk_law.specs.Pv.Post.{Off, Spins, Rises, Tries, Signs, Slows, Wins, Erases, Marks, Has}
 use Rattle.lk_law.specs.Pv.Post.{Calls, Slowing, Signing, Finds, Drops, Kicks, Sleeps, Stirs, Naps}
 use Rattle.lk_law.specs.Pv.Post.{Clears}
 use Rattle.lk_law.specs.Snapshot.{Snapshot, Moves, Rewrites}
-use Rattle.lk_law.specs.Agree.{SnapshotAgrees, Step, Stays, LeavesSlowPath, Owed, halts, state_of}
+use Rattle.lk_law.specs.Agree.{SnapshotAgrees, Step, Stays, LeavesSlowPath, Owed, halts, node_state}
 use Rattle.lk_law.proofs.common.Cases.{waiter_cases, node_cases}
 use Rattle.lk_law.proofs.common.Puts.{put_moves}
 use Rattle.lk_law.proofs.common.Lists.{get-drop_one}
@@ -36,7 +36,7 @@ use Rattle.lk_law.proofs.spin.Laws.{SameNodes, lists_outside}
 use Rattle.lk_law.proofs.queue.Laws.{own_is}
 use Rattle.lk_law.proofs.pv.Keep.{pv_keep}
 use Rattle.lk_law.proofs.pv.Rows.{w1_rise, e5_mark, e5_sign, w6_wake, e12_wake}
-use Rattle.lk_law.proofs.pv.Turn.{e6_sign, e7_slow, e8_plain, e9_erase, follows}
+use Rattle.lk_law.proofs.pv.Turn.{e6_sign, e7_slow, e8_plain, e9_erase, follows_post}
 use Rattle.lk_law.proofs.pv.Slow.{k2_slow, k3_sign, u3_find, u4_drop, u5_kick}
 use Rattle.lk_law.proofs.pv.Calls.{k1_hash, k1_done, e4_take, e15_pass, pv_byte}
 use Rattle.lk_law.proofs.pv.Laws.{para, para_queue, para_taken, para_leads, para_holds, law_rise}
@@ -51,13 +51,14 @@ use Rattle.lk_law.proofs.pv.StayLaws.{law_looks, law_says, same_state}
 shift : (s s' : Snapshot) (l : LockName) → ((c : Waiter) → Owed s c.cpu → Owed s' c.cpu)
     → {locked : Locked} {entry : Option NodeName} {front : Option Waiter} → s'.own ≡ s.own
     → SameNodes s s'
-    → PostsAgree locked entry front (s'.post l) (state_of s) s.own (λ u. Owed s u.cpu)
-    → PostsAgree locked entry front (s'.post l) (state_of s') s'.own (λ u. Owed s' u.cpu)
+    → PostsAgree locked entry front (s'.post l) (node_state s) s.own (λ u. Owed s u.cpu)
+    → PostsAgree locked entry front (s'.post l) (node_state s') s'.own (λ u. Owed s' u.cpu)
 shift s s' l owed {locked} {entry} {front} own nodes posts =
-    let state : (u : Waiter) → state_of s' u ≡ state_of s u =
+    let state : (u : Waiter) → node_state s' u ≡ node_state s u =
     λ u. ap (λ (f : Waiter → NodeName). (s'.node (f u)).state) own
     ∙ ap (λ (n : Node). n.state) (nodes (s.own u)) in
-    pv_keep locked entry front (s'.post l) (state_of s) (state_of s') s.own s'.own (λ u. Owed s u.cpu) (λ u. Owed s' u.cpu) posts
+    pv_keep locked entry front (s'.post l) (node_state s) (node_state s') s.own s'.own
+    (λ u. Owed s u.cpu) (λ u. Owed s' u.cpu) posts
     (λ u q. (state u, ap (λ f. f u) own)) (λ u q. (state u, ap (λ f. f u) own)) (λ u q d. owed u d)
 
 -- the same, where w leaves the slow path, and its post is none
@@ -66,21 +67,27 @@ shift_leaves : (s s' : Snapshot) (w : Waiter) (l : LockName)
     → {locked : Locked} {entry : Option NodeName} {front : Option Waiter}
     → ((u : Waiter) → u ≢ w → s'.own u ≡ s.own u) → SameNodes s s' → s'.post l w ≡ Off
     → front ≢ Some w
-    → PostsAgree locked entry front (s'.post l) (state_of s) s.own (λ u. Owed s u.cpu)
-    → PostsAgree locked entry front (s'.post l) (state_of s') s'.own (λ u. Owed s' u.cpu)
+    → PostsAgree locked entry front (s'.post l) (node_state s) s.own (λ u. Owed s u.cpu)
+    → PostsAgree locked entry front (s'.post l) (node_state s') s'.own (λ u. Owed s' u.cpu)
 shift_leaves s s' w l owed {locked} {entry} {front} owns nodes off behind posts =
-    let state : (u : Waiter) → u ≢ w → state_of s' u ≡ state_of s u =
+    let state : (u : Waiter) → u ≢ w → node_state s' u ≡ node_state s u =
     λ u ne. ap (λ k. (s'.node k).state) (owns u ne)
     ∙ ap (λ (n : Node). n.state) (nodes (s.own u)) in
-    pv_keep locked entry front (s'.post l) (state_of s) (state_of s') s.own s'.own (λ u. Owed s u.cpu) (λ u. Owed s' u.cpu) posts
-    (λ u q. let ne : u ≢ w = (λ e. let o = ap (s'.post l) e in grind (arith, o, off, q)) in (state u ne, owns u ne))
-    (λ u q. let ne : u ≢ w = (λ e. behind (q ∙ ap Some e)) in (state u ne, owns u ne)) (λ u q d. owed u d)
+    pv_keep locked entry front (s'.post l) (node_state s) (node_state s') s.own s'.own
+    (λ u. Owed s u.cpu) (λ u. Owed s' u.cpu) posts
+    (λ u q. let ne : u ≢ w = (λ e. let o = ap (s'.post l) e in grind (arith, o, off, q)) in
+    (state u ne, owns u ne))
+    (λ u q. let ne : u ≢ w = (λ e. behind (q ∙ ap Some e)) in
+    (state u ne, owns u ne)) (λ u q d. owed u d)
 
 post_same : {f g : Waiter → Post} {w : Waiter} {c : Post} → Moves f g w c c → g ≡ f
 post_same {f = f} {g = g} {w = w} moves = (λ i u. one u i)
   where
     one : (u : Waiter) → g u ≡ f u
-    one u = elim (waiter_cases u w) [ inl e ↦ ap g e ∙ moves.now ∙ sym (ap f e ∙ moves.was) | inr ne ↦ moves.others u ne ]
+    one u = elim (waiter_cases u w) [
+      | inl e ↦ ap g e ∙ moves.now ∙ sym (ap f e ∙ moves.was)
+      | inr ne ↦ moves.others u ne
+    ]
 
 not_front : {s : Snapshot} {hs : LockName → LockHistory} (ok : SnapshotAgrees s hs) (l : LockName)
     (w : Waiter) {y : NodeName}
@@ -96,7 +103,8 @@ module _ {s s' : Snapshot} {hs : LockName → LockHistory} {w : Waiter} {l : Loc
       → s'.entry l ≡ s.entry l → slice_get (hs l).main 0 ≡ Some w → SnapshotAgrees s' hs
   law_W1_rise step stays nodes lead moves entry at =
       law_rise ok on step stays nodes lead
-      (rw entry (shift s s' l owed (own_is stays step.owns) nodes (w1_rise (posts_met ok on l) (state_of s w) moves (same_state s w) at)))
+      (rw entry (shift s s' l owed (own_is stays step.owns) nodes
+      (w1_rise (posts_met ok on l) (node_state s w) moves (same_state s w) at)))
       (ap (λ (c : Post). agrees c Leads) moves.now)
 
   -- E4, taking
@@ -108,7 +116,8 @@ module _ {s s' : Snapshot} {hs : LockName → LockHistory} {w : Waiter} {l : Loc
       → SnapshotAgrees s' (λ k. told k (hs k) (record { by = w; what = Take l Head }))
   law_E4_take b step stays nodes free moves entry =
       law_grab ok on step stays nodes free
-      (rw entry (shift s s' l owed (own_is stays step.owns) nodes (e4_take (posts_met ok on l) b moves free)))
+      (rw entry (shift s s' l owed (own_is stays step.owns) nodes
+      (e4_take (posts_met ok on l) b moves free)))
       (ap (λ (c : Post). agrees c Holds) moves.now)
 
   -- E5
@@ -118,7 +127,8 @@ module _ {s s' : Snapshot} {hs : LockName → LockHistory} {w : Waiter} {l : Loc
       → s'.entry l ≡ s.entry l → SnapshotAgrees s' hs
   law_E5_mark step stays nodes moves entry =
       law_unpress ok on step stays nodes
-      (rw entry (shift s s' l owed (own_is stays step.owns) nodes (e5_mark (posts_met ok on l) (state_of s w) moves (same_state s w))))
+      (rw entry (shift s s' l owed (own_is stays step.owns) nodes
+      (e5_mark (posts_met ok on l) (node_state s w) moves (same_state s w))))
       (ap (λ (c : Post). agrees c Leads) moves.now)
 
   pub law_E5_sign : Step s s' w l Presses Leads
@@ -127,7 +137,8 @@ module _ {s s' : Snapshot} {hs : LockName → LockHistory} {w : Waiter} {l : Loc
       → s'.entry l ≡ s.entry l → SnapshotAgrees s' hs
   law_E5_sign step stays nodes moves entry =
       law_unpress ok on step stays nodes
-      (rw entry (shift s s' l owed (own_is stays step.owns) nodes (e5_sign (posts_met ok on l) (state_of s w) moves (same_state s w))))
+      (rw entry (shift s s' l owed (own_is stays step.owns) nodes
+      (e5_sign (posts_met ok on l) (node_state s w) moves (same_state s w))))
       (ap (λ (c : Post). agrees c Leads) moves.now)
 
   -- E6: the front enters itself into the hash, in which its lock was not entered.
@@ -146,7 +157,8 @@ module _ {s s' : Snapshot} {hs : LockName → LockHistory} {w : Waiter} {l : Loc
       → SnapshotAgrees s' (λ k. told k (hs k) (record { by = w; what = Take l Head }))
   law_E7_take step stays nodes free moves entry =
       law_grab_slow ok on step stays nodes free
-      (rw entry (shift s s' l owed (own_is stays step.owns) nodes (e7_slow (posts_met ok on l) Wins moves (inl (free, refl)))))
+      (rw entry (shift s s' l owed (own_is stays step.owns) nodes
+      (e7_slow (posts_met ok on l) Wins moves (inl (free, refl)))))
       (ap (λ (c : Post). agrees c Holds) moves.now)
 
   pub law_E7_mark : Step s s' w l Leads Leads
@@ -163,7 +175,8 @@ module _ {s s' : Snapshot} {hs : LockName → LockHistory} {w : Waiter} {l : Loc
       → Stays s s' w → SameNodes s s' → Moves (s.post l) (s'.post l) w Wins Erases
       → s'.entry l ≡ s.entry l → SnapshotAgrees s' hs
   law_E8 step stays nodes moves entry =
-      law_looks ok on step stays nodes moves owed refl refl refl (inr (para_taken ok on l w (ap holds moves.was), λ q. cc q))
+      law_looks ok on step stays nodes moves owed refl refl refl
+      (inr (para_taken ok on l w (ap post_holds moves.was), λ q. cc q))
       (rw entry (e8_plain (posts_met ok on l) moves))
 
   pub law_E9 : Step s s' w l Holds Holds (s.word l) false false → Stays s s' w → SameNodes s s'
@@ -180,29 +193,34 @@ module _ {s s' : Snapshot} {hs : LockName → LockHistory} {w : Waiter} {l : Loc
       → Moves (s.post l) (s'.post l) w Has (Calls y) → s'.entry l ≡ s.entry l
       → SnapshotAgrees s' (λ k. told k (hs k) (record { by = w; what = Pass l to 0 }))
   law_E15 {y = y} to step stays writes store moves entry =
-      let v = (para_queue ok on l).hand w y step.acts.was in
+      let v = (para_queue ok on l).links.hand w y step.acts.was in
       let own = own_is stays step.owns in
       let at = para_leads ok on l w (ap fronts moves.was) in
       let gone : slice_get (drop 1 (hs l).main) 0 ≡ Some v.0 = get-drop_one (hs l).main 0 ∙ v.1 in
-      let other : v.0 ≢ w = (λ e. let o = ap (s.phase l) e in grind (arith, o, v.2, step.acts.was)) in
-      let waits : follows (s.post l v.0) ≡ true =
+      let other : v.0 ≢ w =
+      (λ e. let o = ap (s.phase l) e in grind (arith, o, v.2, step.acts.was)) in
+      let waits : follows_post (s.post l v.0) ≡ true =
       waits_follows (s.post l v.0)
       (subst (λ (r : Phase). agrees (s.post l v.0) r ≡ true) v.2 ((para ok on l).suits v.0)) in
-      law_call ok on to step stays writes (ap (λ (n : Node). n.flag) store) (ap (λ (n : Node). n.next) store)
+      law_call ok on to step stays writes (ap (λ (n : Node). n.flag) store)
+      (ap (λ (n : Node). n.next) store)
       (rw (entry, gone)
-      (pv_keep (s.word l).locked (s.entry l) (Some v.0) (s'.post l) (state_of s) (state_of s')
+      (pv_keep (s.word l).locked (s.entry l) (Some v.0) (s'.post l) (node_state s) (node_state s')
       s.own s'.own (λ u. Owed s u.cpu) (λ u. Owed s' u.cpu)
       (e15_pass (posts_met ok on l) v.0
-      (subst (λ (n : NodeName). Moves (s.post l) (s'.post l) w Has (Calls n)) (sym v.3) moves) other waits)
-      (λ u q. (state own u, ap (λ f. f u) own)) (λ u q. (state own u, ap (λ f. f u) own)) (λ u q d. owed u d)))
+      (subst (λ (n : NodeName). Moves (s.post l) (s'.post l) w Has (Calls n)) (sym v.3) moves) other
+      waits)
+      (λ u q. (state own u, ap (λ f. f u) own)) (λ u q. (state own u, ap (λ f. f u) own))
+      (λ u q d. owed u d)))
       (ap (λ (c : Post). agrees c (Tends y)) moves.now)
     where
-      waits_follows : (c : Post) → agrees c Waits ≡ true → follows c ≡ true
+      waits_follows : (c : Post) → agrees c Waits ≡ true → follows_post c ≡ true
       waits_follows c h = grind arith
 
-      state : s'.own ≡ s.own → (u : Waiter) → state_of s' u ≡ state_of s u
+      state : s'.own ≡ s.own → (u : Waiter) → node_state s' u ≡ node_state s u
       state own u =
-          ap (λ (f : Waiter → NodeName). (s'.node (f u)).state) own ∙ elim (node_cases (s.own u) y) [
+          ap (λ (f : Waiter → NodeName). (s'.node (f u)).state) own
+          ∙ elim (node_cases (s.own u) y) [
             | inl e ↦ ap (λ k. (s'.node k).state) e
                 ∙ ap (λ (n : Node). n.state) (writes.now ∙ store)
                 ∙ ap (λ k. (s.node k).state) (sym e)
@@ -212,9 +230,9 @@ module _ {s s' : Snapshot} {hs : LockName → LockHistory} {w : Waiter} {l : Loc
   -- K1, the next halted: it is marked as hashed.
   pub law_K1_hash : {y : NodeName} (z : Waiter)
       → Step s s' w l (Tends y) (Tends y) (s.word l) false false → Stays s s' w
-      → slice_get (hs l).main 0 ≡ Some z → state_of s z ≡ Halted
+      → slice_get (hs l).main 0 ≡ Some z → node_state s z ≡ Halted
       → Rewrites s.node s'.node (s.own z) (record (s.node (s.own z)) { state = Hashed })
-      → (follows (s.post l z) ≡ true) ⊎ (fronts (s.post l z) ≡ true)
+      → (follows_post (s.post l z) ≡ true) ⊎ (fronts (s.post l z) ≡ true)
       → Moves (s.post l) (s'.post l) w (Calls y) (Slowing y) → s'.entry l ≡ s.entry l
       → SnapshotAgrees s' hs
   law_K1_hash {y = y} z step stays at halted writes way moves entry =
@@ -222,7 +240,8 @@ module _ {s s' : Snapshot} {hs : LockName → LockHistory} {w : Waiter} {l : Loc
       (queued_noded (s.phase l z) (lists_main (ok.locks l).lists 0 z at))
       (λ e. let q = lists_main (ok.locks l).lists 0 z at in grind (arith, e, q)) writes refl
       moves owed refl entry
-      (k1_hash (posts_met ok on l) y z moves at (put_moves (state_of s) z Halted Hashed halted) way)
+      (k1_hash (posts_met ok on l) y z moves at
+      (put_moves (node_state s) z Halted Hashed halted) way)
     where
       queued_noded : (r : Phase) → queues r ≡ true → has_node r ≡ true
       queued_noded r h = grind arith
@@ -235,7 +254,8 @@ module _ {s s' : Snapshot} {hs : LockName → LockHistory} {w : Waiter} {l : Loc
       → Stays s s' w → SameNodes s s' → Moves (s.post l) (s'.post l) w (Slowing y) (Signing y)
       → s'.entry l ≡ s.entry l → SnapshotAgrees s' hs
   law_K2 {y = y} step stays nodes moves entry =
-      law_looks ok on step stays nodes moves owed refl refl refl (inr (para_taken ok on l w (ap holds moves.was), λ q. cc q))
+      law_looks ok on step stays nodes moves owed refl refl refl
+      (inr (para_taken ok on l w (ap post_holds moves.was), λ q. cc q))
       (rw entry (k2_slow (posts_met ok on l) y moves))
 
   -- U3: the releaser takes the lock out of the hash.
@@ -257,8 +277,10 @@ module _ {s s' : Snapshot} {hs : LockName → LockHistory} {w : Waiter} {l : Loc
       let mine : o.holder ≡ Some w = o.hold.has w (grind (arith, step.acts.was, step.holds.was)) in
       let same : s'.post l ≡ s.post l = (λ i u. post_same u i) in
       law_drop ok on None step stays nodes (inl refl)
-      (shift s s' l owed (own_is stays step.owns) nodes (rw (entry, same) (pv_byte (posts_met ok on l) Free
-      (λ q. grind (arith, held, q)) (λ q. cc q) (λ u. nobody mine u (holds (s.post l u)) refl))))
+      (shift s s' l owed (own_is stays step.owns) nodes
+      (rw (entry, same) (pv_byte (posts_met ok on l) Free
+      (λ q. grind (arith, held, q)) (λ q. cc q)
+      (λ u. nobody mine u (post_holds (s.post l u)) refl))))
       (ap (λ (c : Post). agrees c Idle) moves.now)
     where
       post_same : (u : Waiter) → s'.post l u ≡ s.post l u
@@ -269,8 +291,8 @@ module _ {s s' : Snapshot} {hs : LockName → LockHistory} {w : Waiter} {l : Loc
             | inr ne ↦ moves.others u ne
           ]
 
-      nobody : (ok.locks l).holder ≡ Some w → (u : Waiter) (b : Bool) → holds (s.post l u) ≡ b
-          → holds (s.post l u) ≡ false
+      nobody : (ok.locks l).holder ≡ Some w → (u : Waiter) (b : Bool) → post_holds (s.post l u) ≡ b
+          → post_holds (s.post l u) ≡ false
       nobody mine u false e = e
       nobody mine u true e =
           let h = para_holds ok on l u e in
@@ -310,7 +332,8 @@ module _ {s s' : Snapshot} {hs : LockName → LockHistory} {w : Waiter} {l : Loc
   law_E13 step goes nodes mine alone moves entry =
       let gone : slice_get (drop 1 (hs l).main) 0 ≡ None = get-drop_one (hs l).main 0 ∙ alone in
       law_leave ok on step goes nodes mine
-      (rw (entry, gone) (shift_leaves s s' w l owed step.owns nodes moves.now (λ e. cc e) (e13_leave (posts_met ok on l) moves)))
+      (rw (entry, gone) (shift_leaves s s' w l owed step.owns nodes moves.now (λ e. cc e)
+      (e13_leave (posts_met ok on l) moves)))
       (ap (λ (c : Post). agrees c Idle) moves.now)
 
   -- K1, the next did not halt; and K3: the next is entered into the hash, in which its lock was not
@@ -318,7 +341,7 @@ module _ {s s' : Snapshot} {hs : LockName → LockHistory} {w : Waiter} {l : Loc
   pub law_K1_done : {y : NodeName} → Step s s' w l (Tends y) Idle (s.word l) false true
       → LeavesSlowPath s s' w → SameNodes s s' → Moves (s.post l) (s'.post l) w (Calls y) Off
       → s'.entry l ≡ s.entry l
-      → ((z : Waiter) → slice_get (hs l).main 0 ≡ Some z → state_of s z ≢ Halted)
+      → ((z : Waiter) → slice_get (hs l).main 0 ≡ Some z → node_state s z ≢ Halted)
       → SnapshotAgrees s' hs
   law_K1_done {y = y} step goes nodes moves entry awake =
       law_done ok on step goes nodes
@@ -347,12 +370,12 @@ module _ {s s' : Snapshot} {hs : LockName → LockHistory} {w : Waiter} {l : Loc
       → SnapshotAgrees s' (λ k. told k (hs k) (record { by = w; what = Release l (Some t.cpu) }))
   law_U4 {t = t} step stays nodes moves entry =
       let own = own_is stays step.owns in
-      let state : (u : Waiter) → state_of s' u ≡ state_of s u =
+      let state : (u : Waiter) → node_state s' u ≡ node_state s u =
       λ u. ap (λ (f : Waiter → NodeName). (s'.node (f u)).state) own
       ∙ ap (λ (n : Node). n.state) (nodes (s.own u)) in
       law_drop ok on (Some t.cpu) step stays nodes (inr refl)
-      (rw entry (pv_keep Free (s.entry l) (slice_get (hs l).main 0) (s'.post l) (state_of s)
-      (state_of s') s.own s'.own (λ u. Owed s' u.cpu) (λ u. Owed s' u.cpu)
+      (rw entry (pv_keep Free (s.entry l) (slice_get (hs l).main 0) (s'.post l) (node_state s)
+      (node_state s') s.own s'.own (λ u. Owed s' u.cpu) (λ u. Owed s' u.cpu)
       (u4_drop (posts_met ok on l) {owed' = λ u. Owed s' u.cpu} t moves owed
       (λ z at e. inr (
         l,
@@ -374,12 +397,12 @@ module _ {s s' : Snapshot} {hs : LockName → LockHistory} {w : Waiter} {l : Loc
       → SnapshotAgrees s' hs
   law_U5 {t = t} step stays nodes moves entry =
       let own = own_is stays step.owns in
-      let state : (u : Waiter) → state_of s' u ≡ state_of s u =
+      let state : (u : Waiter) → node_state s' u ≡ node_state s u =
       λ u. ap (λ (f : Waiter → NodeName). (s'.node (f u)).state) own
       ∙ ap (λ (n : Node). n.state) (nodes (s.own u)) in
       law_kick ok on step stays nodes
       (rw entry (pv_keep (s.word l).locked (s.entry l) (slice_get (hs l).main 0) (s'.post l)
-      (state_of s) (state_of s') s.own s'.own (λ u. Owed s' u.cpu) (λ u. Owed s' u.cpu)
+      (node_state s) (node_state s') s.own s'.own (λ u. Owed s' u.cpu) (λ u. Owed s' u.cpu)
       (u5_kick (posts_met ok on l) {owed' = λ u. Owed s' u.cpu} t moves owed)
       (λ u q. (state u, ap (λ f. f u) own)) (λ u q. (state u, ap (λ f. f u) own)) (λ u q d. d)))
       (ap (λ (c : Post). agrees c Idle) moves.now)
@@ -401,7 +424,9 @@ module _ {s s' : Snapshot} {hs : LockName → LockHistory} {w : Waiter} {l : Loc
       (told_lock (hs l) e refl (record {
         holder = Some w;
         holders = sole_taken (hs l) w o.holder o.holders (o.hold.free free);
-        hold = rw step.word (hold_take o.hold step.acts step.holds free refl (λ q. absurd (grind arith)) (λ q. absurd (grind arith)));
+        hold =
+            rw step.word (hold_take o.hold step.acts step.holds free refl
+            (λ q. absurd (grind arith)) (λ q. absurd (grind arith)));
         pend = rw step.word
             (pend_keep o.pend step.acts Held (sym out.1) (λ q. absurd (grind arith)) (sym out.2)
             (λ q. absurd (grind arith)) (λ u n q. absurd (no_claims ok on l u q)));
@@ -424,14 +449,15 @@ module _ {s s' : Snapshot} {hs : LockName → LockHistory} {w : Waiter} {l : Loc
     (ok : SnapshotAgrees s hs) (on : halts s.mode ≡ true)
     (owed : (c : Waiter) → c.cpu ≢ w.cpu → Owed s c.cpu → Owed s' c.cpu) where
   pub law_woken : {r : Phase} {h : Bool} {p q : Post} → Step s s' w l r r (s.word l) h h
-      → Stays s s' w → SameNodes s s' → Moves (s.post l) (s'.post l) w p q → sleeps p ≡ true
-      → sleeps q ≡ false → agrees q r ≡ true → s'.entry l ≡ s.entry l
-      → PostsAgree (s.word l).locked (s.entry l) (slice_get (hs l).main 0) (s'.post l) (state_of s)
+      → Stays s s' w → SameNodes s s' → Moves (s.post l) (s'.post l) w p q → at_halt p ≡ true
+      → at_halt q ≡ false → agrees q r ≡ true → s'.entry l ≡ s.entry l
+      → PostsAgree (s.word l).locked (s.entry l) (slice_get (hs l).main 0) (s'.post l)
+      (node_state s)
       s.own (λ u. Owed s u.cpu)
       → SnapshotAgrees s' hs
   law_woken {r = r} {q = q} step stays nodes moves was now suit entry posts =
       let own = own_is stays step.owns in
-      let state : (u : Waiter) → state_of s' u ≡ state_of s u =
+      let state : (u : Waiter) → node_state s' u ≡ node_state s u =
       λ u. ap (λ (f : Waiter → NodeName). (s'.node (f u)).state) own
       ∙ ap (λ (n : Node). n.state) (nodes (s.own u)) in
       law_still ok on step stays refl refl (inl refl)
@@ -441,10 +467,13 @@ module _ {s s' : Snapshot} {hs : LockName → LockHistory} {w : Waiter} {l : Loc
       ))
       (λ u a. nodes (s.own u) ∙ lists_rest (ok.locks l).lists u a) (λ k u ne a. nodes (s.own u))
       (rw entry (pv_keep (s.word l).locked (s.entry l) (slice_get (hs l).main 0) (s'.post l)
-      (state_of s) (state_of s') s.own s'.own (λ u. Owed s u.cpu) (λ u. Owed s' u.cpu) posts
+      (node_state s) (node_state s') s.own s'.own (λ u. Owed s u.cpu) (λ u. Owed s' u.cpu) posts
       (λ u a. (state u, ap (λ f. f u) own)) (λ u a. (state u, ap (λ f. f u) own))
-      (λ u a d. let ne : u ≢ w = (λ e. let b = ap (s'.post l) e ∙ moves.now in grind (arith, b, a, now)) in
-      owed u (λ e. ne (ok.sleeper on l l u w (ap sleeps (sym (moves.others u ne)) ∙ a) (ap sleeps moves.was ∙ was) e)) d)))
+      (λ u a d. let ne : u ≢ w =
+      (λ e. let b = ap (s'.post l) e ∙ moves.now in grind (arith, b, a, now)) in
+      owed u (λ e.
+      ne (ok.sleeper on l l u w (ap at_halt (sym (moves.others u ne)) ∙ a)
+      (ap at_halt moves.was ∙ was) e)) d)))
       (subst (λ (c : Post). agrees c r ≡ true) (sym moves.now) suit)
 
   pub law_W6_ends : {h : Bool} → Step s s' w l Waits Waits (s.word l) h h → Stays s s' w
@@ -452,11 +481,11 @@ module _ {s s' : Snapshot} {hs : LockName → LockHistory} {w : Waiter} {l : Loc
       → SnapshotAgrees s' hs
   law_W6_ends step stays nodes moves entry =
       law_woken step stays nodes moves refl refl refl entry
-      (w6_wake (posts_met ok on l) (state_of s w) moves (same_state s w))
+      (w6_wake (posts_met ok on l) (node_state s w) moves (same_state s w))
 
   pub law_E12_ends : {h : Bool} → Step s s' w l Leads Leads (s.word l) h h → Stays s s' w
       → SameNodes s s' → Moves (s.post l) (s'.post l) w Naps (Clears true) → s'.entry l ≡ s.entry l
       → SnapshotAgrees s' hs
   law_E12_ends step stays nodes moves entry =
       law_woken step stays nodes moves refl refl refl entry
-      (e12_wake (posts_met ok on l) (state_of s w) moves (same_state s w))
+      (e12_wake (posts_met ok on l) (node_state s w) moves (same_state s w))

@@ -15,12 +15,12 @@ use Rattle.lk_word.specs.declared.spin_word.Locked.{Locked}
 use Rattle.lk_word.specs.declared.spin_word.Locked.TheVariants.{Free, Held, Slow}
 use Rattle.lk_machine.specs.declared.parts.State.{State}
 use Rattle.lk_law.specs.Phase.Phase.{Releases}
-use Rattle.lk_law.specs.Pv.{Post, PostsAgree, bare, full, slow_at, one_at, calls, dozes, names}
-use Rattle.lk_law.specs.Pv.{holds, raw}
+use Rattle.lk_law.specs.Pv.{Post, PostsAgree, bare, post_full, slow_at, one_at, calls, dozes, names}
+use Rattle.lk_law.specs.Pv.{post_holds, raw}
 use Rattle.lk_law.specs.Pv.Post.{Off, Finds}
 use Rattle.lk_law.specs.Snapshot.{Snapshot, Moves}
-use Rattle.lk_law.specs.Agree.{SnapshotAgrees, Step, Stays, Owed, halts, state_of}
-use Rattle.lk_law.specs.Allowed.{IsAllowed}
+use Rattle.lk_law.specs.Agree.{SnapshotAgrees, Step, Stays, Owed, halts, node_state}
+use Rattle.lk_law.specs.Allowed.{MayFollow}
 use Rattle.lk_law.proofs.common.Cases.{waiter_cases}
 use Rattle.lk_law.proofs.common.Allowed.{on_lock, shared_by}
 use Rattle.lk_law.proofs.spin.Laws.{SameNodes}
@@ -39,8 +39,8 @@ u2_find locked entry front post post' state own owed w ok moves l =
       bare_entry = λ u p. ok.bare_entry u (was bare refl u p);
       bare_slow = λ u p. l;
       bare_some = λ p q. let r = ok.bare_some p q in (r.0, still bare refl r.0 r.1);
-      full_entry = λ u p. ok.full_entry u (was full refl u p);
-      full_slow = λ u p. ok.full_slow u (was full refl u p);
+      full_entry = λ u p. ok.full_entry u (was post_full refl u p);
+      full_slow = λ u p. ok.full_slow u (was post_full refl u p);
       full_some = λ n p q. absurd (q l);
       entered = ok.entered;
       named = λ u m p. ok.named u m (sym (as_before post post' w Off Finds moves names refl u) ∙ p);
@@ -66,7 +66,8 @@ u2_find locked entry front post post' state own owed w ok moves l =
     still P f u h = still_true post post' w Off Finds moves P f u h
 
     raws : (z : Waiter) → raw (post' z) (state z) ≡ true → raw (post z) (state z) ≡ true
-    raws z q = sym (as_before post post' w Off Finds moves (λ (c : Post). raw c (state z)) refl z) ∙ q
+    raws z q =
+        sym (as_before post post' w Off Finds moves (λ (c : Post). raw c (state z)) refl z) ∙ q
 
 module _ {s s' : Snapshot} {hs : LockName → LockHistory} {w : Waiter} {l : LockName}
     (ok : SnapshotAgrees s hs) (on : halts s.mode ≡ true)
@@ -76,7 +77,8 @@ module _ {s s' : Snapshot} {hs : LockName → LockHistory} {w : Waiter} {l : Loc
       → s'.entry l ≡ s.entry l → SnapshotAgrees s' hs
   law_U2_find step stays nodes slow moves entry =
       law_looks ok on step stays nodes moves owed refl refl refl (inl refl)
-      (rw entry (u2_find _ _ _ _ _ (state_of s) _ (λ u. Owed s u.cpu) _ (para ok on l).posts moves slow))
+      (rw entry (u2_find _ _ _ _ _ (node_state s) _ (λ u. Owed s u.cpu) _
+      (para ok on l).posts moves slow))
 
 some_if : (o : Option NodeName) → (o ≡ None → ⊥) → is_some o ≡ true
 some_if None h = absurd (h refl)
@@ -89,7 +91,7 @@ pub finds_some : {s : Snapshot} {hs : LockName → LockHistory} (ok : SnapshotAg
 finds_some {s = s} ok on l w e =
     some_if (s.entry l) (λ none.
     let u = (para ok on l).posts.bare_some none ((para ok on l).posts.slow w (ap slow_at e)) in
-    let same = para_only ok on l u.0 w (bare-holds (s.post l u.0) u.1) (ap holds e) in
+    let same = para_only ok on l u.0 w (bare-holds (s.post l u.0) u.1) (ap post_holds e) in
     let z : bare (s.post l w) ≡ true = ap (λ (v : Waiter). bare (s.post l v)) (sym same) ∙ u.1 in
     let k = ap bare e in
     grind (arith, z, k))
@@ -116,7 +118,8 @@ pub law_halt : {s : Snapshot} {hs : LockName → LockHistory} (w : Waiter) (l : 
 law_halt {s = s} {hs = hs} w l ok =
     let each : (k : LockName) (h : LockHistory) → told k h (record { by = w; what = Halt l }) ≡ h =
     λ k h. grind (arith, cases_Bool (same_lock l k)) in
-    let e : (λ k. told k (hs k) (record { by = w; what = Halt l })) ≡ hs = (λ i k. each k (hs k) i) in
+    let e : (λ k. told k (hs k) (record { by = w; what = Halt l })) ≡ hs =
+    (λ i k. each k (hs k) i) in
     subst (SnapshotAgrees s) (sym e) ok
 
 pub law_wake : {s : Snapshot} {hs : LockName → LockHistory} (w : Waiter) (l : LockName)
@@ -124,11 +127,13 @@ pub law_wake : {s : Snapshot} {hs : LockName → LockHistory} (w : Waiter) (l : 
 law_wake {s = s} {hs = hs} w l ok =
     let each : (k : LockName) (h : LockHistory) → told k h (record { by = w; what = Wake l }) ≡ h =
     λ k h. grind (arith, cases_Bool (same_lock l k)) in
-    let e : (λ k. told k (hs k) (record { by = w; what = Wake l })) ≡ hs = (λ i k. each k (hs k) i) in
+    let e : (λ k. told k (hs k) (record { by = w; what = Wake l })) ≡ hs =
+    (λ i k. each k (hs k) i) in
     subst (SnapshotAgrees s) (sym e) ok
 
-module _ (rules : Rules) {s : Snapshot} {hs : LockName → LockHistory} (ok : SnapshotAgrees s hs) (w : Waiter) (l : LockName) where
-  pub allow_halt : IsAllowed rules hs (record { by = w; what = Halt l })
+module _ (rules : Rules) {s : Snapshot} {hs : LockName → LockHistory} (ok : SnapshotAgrees s hs)
+    (w : Waiter) (l : LockName) where
+  pub allow_halt : MayFollow rules hs (record { by = w; what = Halt l })
   allow_halt =
       on_lock rules hs (record { by = w; what = Halt l }) l refl
       (record {
@@ -137,7 +142,7 @@ module _ (rules : Rules) {s : Snapshot} {hs : LockName → LockHistory} (ok : Sn
         shared = shared_by (ok.locks l).holder (ok.locks l).holders;
       })
 
-  pub allow_wake : IsAllowed rules hs (record { by = w; what = Wake l })
+  pub allow_wake : MayFollow rules hs (record { by = w; what = Wake l })
   allow_wake =
       on_lock rules hs (record { by = w; what = Wake l }) l refl
       (record {

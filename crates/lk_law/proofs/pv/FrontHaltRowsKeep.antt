@@ -1,4 +1,5 @@
--- The rows of a front of the paravirtual lock from its entry in the hash to its halt keep every sound world: E6 to E12.
+-- The rows of a front of the paravirtual lock from its entry in the hash to its halt keep every
+-- sound world: E6 to E12.
 use Rattle.std.proofs.Common.{◌≡◌, ℕ, Some, None, true, false, [], ◌∷◌, arith, ap, refl, ◌∙◌}
 use Rattle.lk_word.specs.declared.spin_word.Locked.TheVariants.{Held, Slow}
 use Rattle.lk_machine.specs.declared.parts.State.TheVariants.{Hashed}
@@ -43,7 +44,8 @@ module _ {a : Acting} (at : StandsIn true a E6) where
       let m = a.world in
       let l = a.frame.lock in
       let g : Frame = record a.frame { place = Some E7 } in
-      let t : Turn m (put_entry m l (a.frame.me)) a.by a.frame g (m.held a.by l) = entry_turn at.live refl (a.frame.me) in
+      let t : Turn m (put_entry m l (a.frame.me)) a.by a.frame g (m.held a.by l) =
+      entry_turn at.live refl (a.frame.me) in
       let owed : (p : ℕ) → Owed (snapshot m) p → Owed
       (snapshot (turned (put_entry m l (a.frame.me)) a.by g l (m.held a.by l))) p =
       hm_owed at t (λ k e. cc e) (λ p. refl) in
@@ -82,7 +84,8 @@ module _ {a : Acting} (at : StandsIn true a E7) where
       (hm_step at t (put_word-here m.word l (with_byte (m.word l) Slow)) held held owed)
       (hm_stays at t refl refl (λ p. refl)) (λ k. refl) (unlocked_free (m.word l).locked free)
       (hm_posts at t) refl)
-      (allow_grab a.rules at.sound.agrees a.by l (front_leads at refl) (unlocked_free (m.word l).locked free))
+      (allow_grab a.rules at.sound.agrees a.by l (front_leads at refl)
+      (unlocked_free (m.word l).locked free))
 
   slows : is_unlocked (a.world.word a.frame.lock).locked ≡ false
       → Kept a (lead_on (put_word a.world a.frame.lock (with_byte (a.world.word a.frame.lock) Slow))
@@ -160,7 +163,8 @@ module _ {a : Acting} (at : StandsIn true a E9) where
       let m = a.world in
       let l = a.frame.lock in
       let g : Frame = record a.frame { place = Some E13 } in
-      let t : Turn m (put_entry m l (None)) a.by a.frame g (m.held a.by l) = entry_turn at.live refl (None) in
+      let t : Turn m (put_entry m l (None)) a.by a.frame g (m.held a.by l) =
+      entry_turn at.live refl (None) in
       let owed : (p : ℕ) → Owed (snapshot m) p → Owed
       (snapshot (turned (put_entry m l (None)) a.by g l (m.held a.by l))) p =
       hm_owed at t (λ k e. cc e) (λ p. refl) in
@@ -295,7 +299,8 @@ module _ {a : Acting} (at : StandsIn true a E12) where
       (fit_halting at at.kind g E12 refl refl refl refl
       (λ q. (fit_here at).choice.hashed E12 at.place refl) (λ e. cc) (λ e. cc) (λ e. cc)
       (λ e. cc)) (Says (what.Halt l))
-      (law_halt a.by l (hm_same at refl t refl refl refl refl refl refl refl refl refl (λ p. refl) (λ p. refl) (λ k e. cc e)))
+      (law_halt a.by l (hm_same at refl t refl refl refl refl refl refl refl refl refl (λ p. refl)
+      (λ p. refl) (λ k e. cc e)))
       (allow_halt a.rules at.sound.agrees a.by l)
 
 pub front_halt_keeps : SpinRowKeeps E12

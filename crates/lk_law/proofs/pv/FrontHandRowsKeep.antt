@@ -1,4 +1,5 @@
--- The rows of a front of the paravirtual lock that has taken it and hands the lead on keep every sound world: E13 to E15.
+-- The rows of a front of the paravirtual lock that has taken it and hands the lead on keep every
+-- sound world: E13 to E15.
 use Rattle.std.proofs.Common.{◌≡◌, ℕ, Option, Some, None, true, [], ◌∷◌, ap, ◌-◌, refl, sym, ◌∙◌}
 use Rattle.std.proofs.Common.{slice_get}
 use Rattle.std.specs.Prelude.{◌&&◌, not}
@@ -44,7 +45,8 @@ use Rattle.lk_machine.specs.declared.parts.Flag.TheVariants as flag
 -- E13
 
 last_tail : (x : Fields) (f : Frame) → is_last f x ≡ true → is_node x.tail (node_of f.me) ≡ true
-last_tail x f h = (both-true (is_held x.locked && not x.pending) (is_node x.tail (node_of f.me)) h).1
+last_tail x f h =
+    (both-true (is_held x.locked && not x.pending) (is_node x.tail (node_of f.me)) h).1
 
 module _ {a : Acting} (at : StandsIn true a E13) where
   tail_own : is_last a.frame (a.world.word a.frame.lock) ≡ true
@@ -81,7 +83,8 @@ module _ {a : Acting} (at : StandsIn true a E13) where
       (m.queued a.by.cpu - 1)) a.by g l (Some Spins))) p =
       hm_owed at o (λ k e. cc e) (λ p. refl) in
       let held = held_not at (ap seeks (phase_here at)) in
-      hm_kept at o (λ e. cc e) (halting_plain _ at.kind (flags_here at)) (fit_quiet g (left_place at) refl) (Says (what.Leave l))
+      hm_kept at o (λ e. cc e) (halting_plain _ at.kind (flags_here at))
+      (fit_quiet g (left_place at) refl) (Says (what.Leave l))
       (law_E13 at.sound.agrees at.kind (λ u. owed u.cpu)
       (hm_step_as at o (phase_here at) (quiet_phase g (left_place at))
       (put_word-here m.word l (record (m.word l) { tail = None })) held refl owed)
@@ -106,7 +109,8 @@ module _ {a : Acting} (at : StandsIn true a E13) where
       hm_kept at t (λ e. cc e) at.sound.plain
       (fit_halting at at.kind g E14 refl refl refl refl (λ e. cc) (λ e. cc) (λ e. cc) (λ e. cc)
       (λ e. cc)) Nothing
-      (hm_same at refl t refl refl refl refl refl refl refl refl refl (λ p. refl) (λ p. refl) (λ k e. cc e))
+      (hm_same at refl t refl refl refl refl refl refl refl refl refl (λ p. refl) (λ p. refl)
+      (λ k e. cc e))
       tt
 
 pub front_leave_queue_keeps : SpinRowKeeps E13
@@ -137,7 +141,8 @@ module _ {a : Acting} (at : StandsIn true a E14) where
       hm_kept at t (λ e. cc e) at.sound.plain
       (fit_halting at at.kind g E14 refl refl refl refl (λ e. cc) (λ e. cc) (λ e. cc) (λ e. cc)
       (λ e. cc)) Nothing
-      (hm_same at refl t refl refl refl refl refl refl refl refl refl (λ p. refl) (λ p. refl) (λ k e. cc e))
+      (hm_same at refl t refl refl refl refl refl refl refl refl refl (λ p. refl) (λ p. refl)
+      (λ k e. cc e))
       tt
 
   learns_next : (n : NodeName) → (a.world.node (node_of a.frame.me)).next ≡ Some n
@@ -166,7 +171,9 @@ module _ {a : Acting} (at : StandsIn true a E14) where
   next_kept (Some n) e = learns_next n e
 
 pub front_wait_for_next_keeps : SpinRowKeeps E14
-front_wait_for_next_keeps = row_keeps_halting E14 refl (λ a at goes. next_kept at (a.world.node (node_of a.frame.me)).next refl)
+front_wait_for_next_keeps =
+    row_keeps_halting E14 refl (λ a at goes.
+    next_kept at (a.world.node (node_of a.frame.me)).next refl)
 
 -- E15
 
@@ -213,7 +220,8 @@ module _ {a : Acting} (at : StandsIn true a E15) where
       (hm_stays at t refl refl (λ p. refl))
       (put_rewrites m.node (node_of a.frame.y)
       (record (m.node (node_of a.frame.y)) { flag = flag.Go })) refl (hm_posts at t) refl)
-      (allow_pass a.rules at.sound.agrees a.by l (node_of a.frame.y) a.to hands (second_of a.to uses))
+      (allow_pass a.rules at.sound.agrees a.by l (node_of a.frame.y) a.to hands
+      (second_of a.to uses))
 
 pub front_hand_on_keeps : SpinRowKeeps E15
 front_hand_on_keeps = row_keeps_halting E15 refl (λ a at goes. hands_on at goes)

@@ -1,4 +1,5 @@
--- The rows of a front of the paravirtual lock that tries to take it keep every sound world: E1 to E5.
+-- The rows of a front of the paravirtual lock that tries to take it keep every sound world: E1 to
+-- E5.
 use Rattle.std.proofs.Common.{◌≡◌, ℕ, Some, true, false, [], ◌∷◌, ap, ◌-◌, refl, sym, ◌∙◌}
 use Rattle.std.specs.Prelude.{is_some, ◌&&◌, ◌==◌, not}
 use Rattle.lk_word.specs.declared.spin_word.Locked.{Locked}
@@ -64,7 +65,10 @@ module _ {a : Acting} (at : StandsIn true a E1) where
   learns_hashed =
       let m = a.world in
       let l = a.frame.lock in
-      let g : Frame = record a.frame { hashed = is_hashed (a.world.node (node_of a.frame.me)).state; place = Some E2 } in
+      let g : Frame = record a.frame {
+        hashed = is_hashed (a.world.node (node_of a.frame.me)).state;
+        place = Some E2;
+      } in
       let t : Turn m (m) a.by a.frame g (m.held a.by l) = same_turn at.live refl in
       let owed : (p : ℕ) → Owed (snapshot m) p → Owed
       (snapshot (turned (m) a.by g l (m.held a.by l))) p =
@@ -172,7 +176,8 @@ module _ {a : Acting} (at : StandsIn true a E4) where
       (put_word-here m.word l (record (m.word l) { locked = Held; pending = false })) held held
       owed) (hm_stays at t refl refl (λ p. refl)) (λ k. refl)
       (unlocked_free (m.word l).locked free) (hm_posts at t) refl)
-      (allow_grab a.rules at.sound.agrees a.by l (front_leads at refl) (unlocked_free (m.word l).locked free))
+      (allow_grab a.rules at.sound.agrees a.by l (front_leads at refl)
+      (unlocked_free (m.word l).locked free))
 
   gives_in : Kept a (lead_on a.world a.by a.frame (Goes E5 (Left 0 ∷ []))) Nothing
   gives_in =
@@ -186,7 +191,8 @@ module _ {a : Acting} (at : StandsIn true a E4) where
       hm_kept at t (λ e. cc e) at.sound.plain
       (fit_halting at at.kind g E5 refl refl refl refl (λ e. cc) (λ e. cc) (λ e. cc) (λ e. cc)
       (λ e. cc)) Nothing
-      (hm_same at refl t refl refl refl refl refl refl refl refl refl (λ p. refl) (λ p. refl) (λ k e. cc e))
+      (hm_same at refl t refl refl refl refl refl refl refl refl refl (λ p. refl) (λ p. refl)
+      (λ k e. cc e))
       tt
 
   tries_on : (a.frame.left - 1 == 0) ≡ false
@@ -202,7 +208,8 @@ module _ {a : Acting} (at : StandsIn true a E4) where
       hm_kept at t (λ e. cc e) at.sound.plain
       (fit_halting at at.kind g E4 refl refl refl refl (λ e. cc) (λ e. cc) (λ e. cc)
       (λ q. positive (a.frame.left - 1) more) (λ e. cc)) Nothing
-      (hm_same at refl t refl refl refl refl refl refl refl refl refl (λ p. refl) (λ p. refl) (λ k e. cc e))
+      (hm_same at refl t refl refl refl refl refl refl refl refl refl (λ p. refl) (λ p. refl)
+      (λ k e. cc e))
       tt
 
 pub front_take_pending_keeps : SpinRowKeeps E4

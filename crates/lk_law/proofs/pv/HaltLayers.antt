@@ -1,5 +1,5 @@
 -- A halt ends in a world with reader-writer locks; and who is owed a kick in it.
-use Rattle.lk_law.specs.Allowed.{IsAllowed}
+use Rattle.lk_law.specs.Allowed.{MayFollow}
 use Rattle.std.proofs.Common.{◌≡◌, inl, inr, Option, Some, None, Bool, true, false, List, [], arith}
 use Rattle.std.proofs.Common.{ap, refl, sym, ◌∙◌, subst}
 use Rattle.lk_abs.specs.History.{LockHistory, no_history, history_of}
@@ -71,7 +71,7 @@ halt_keeps : (after : World → Waiter → Frame → World) (event : Waiter → 
 halt_keeps after event shape of ends m hs rules w f sound newest live halted =
     let kept = ends m (spin_part m.kind hs) rules w f sound.spins newest live halted in
     let b = shape m w f in
-    let done : IsSoundWorld (after m w f) (told_on hs (Some (event w f))) × IsAllowed rules hs
+    let done : IsSoundWorld (after m w f) (told_on hs (Some (event w f))) × MayFollow rules hs
     (event w f) = elim (sleeping_row f.place f (halted_sleeps sound.spins newest live halted)) [
       | inl p ↦ spin_done W6 refl rules (Goes W7 []) (onward W7 refl refl) sound live p
           (behind_put W7 live (ap after_halt p) b) b.rws b.kinds (Some (event w f)) (of w f) kept.1
@@ -102,7 +102,8 @@ some_is g d e = grind arith
 pub interrupt_keeps : InterruptKeeps
 interrupt_keeps m hs rules w f g sound newest live none fit may =
     let e : Event = record { by = above w; what = Int } in
-    let P : World → Type 0 = λ n. IsSoundWorld (put_frame n (above w) (Some g)) (told_on hs (Some e)) in (
+    let P : World → Type 0 =
+    λ n. IsSoundWorld (put_frame n (above w) (Some g)) (told_on hs (Some e)) in (
       if_cases P (m.halted w.cpu) (roused m w f) m
           (λ h. end_keeps (roused m w f) (told_on hs (Some e)) (above w) None (Some g)
           (int_keeps m hs rules w f sound newest live h).1 (nobody_roused newest live) tt none
@@ -129,13 +130,17 @@ fronts_are_owed m es on sound shows l = by_kind (is_rw_name m.kind l) refl
         kind e = grind (arith, e)
 
         name : (l : LockName) → is_rw_name m.kind l ≡ true → rw_name l.index ≡ l
-        name l e = let z : l.wait ≡ false = grind (arith, e) in (λ i. record { index = l.index; wait = sym z i })
+        name l e = let z : l.wait ≡ false = grind (arith, e) in
+            (λ i. record { index = l.index; wait = sym z i })
 
     by_kind : (b : Bool) → is_rw_name m.kind l ≡ b → FrontIsOwed es l
-    by_kind false e = front_is_owed m es on sound.spins shows l (if-false (is_rw_name m.kind l) no_history (hs l) e)
+    by_kind false e =
+        front_is_owed m es on sound.spins shows l
+        (if-false (is_rw_name m.kind l) no_history (hs l) e)
     by_kind true e =
         let n = is_name e in
-        let empty : (hs l).main ≡ [] = ap (λ (k : LockName). (hs k).main) (sym n.0) ∙ (sound.rws l.index n.1).main in
+        let empty : (hs l).main ≡ [] =
+        ap (λ (k : LockName). (hs k).main) (sym n.0) ∙ (sound.rws l.index n.1).main in
         (λ w front free asleep. absurd (nobody (hs l) w front empty))
       where
         nobody : (h : LockHistory) (w : Waiter) → IsFront h w → h.main ≡ [] → ⊥

@@ -15,7 +15,7 @@ use Rattle.lk_machine.specs.Acts.{after_halt, stands_halting}
 use Rattle.lk_machine.specs.Moves.{node_of}
 use Rattle.lk_law.specs.Phase.{Phase, has_node}
 use Rattle.lk_law.specs.Phase.Phase.{Waits, Leads}
-use Rattle.lk_law.specs.Pv.{Post, sleeps}
+use Rattle.lk_law.specs.Pv.{Post, at_halt}
 use Rattle.lk_law.specs.Pv.Post.{Sleeps, Naps, Clears, Kicks}
 use Rattle.lk_law.specs.Snapshot.{Moves, spins}
 use Rattle.lk_law.specs.Agree.{SnapshotAgrees, Step, Stays, Owed, halts}
@@ -36,29 +36,30 @@ use Rattle.lk_law.proofs.pv.EndLaws.{law_W6_ends, law_E12_ends}
 use Rattle.lk_law.proofs.pv.Find.{law_wake, allow_wake}
 
 -- the rows at which a frame sleeps
-pub sleeping_row : (o : Option Pc) (f : Frame) → sleeps (post_if o f) ≡ true
+pub sleeping_row : (o : Option Pc) (f : Frame) → at_halt (post_if o f) ≡ true
     → (o ≡ Some W6) ⊎ (o ≡ Some E12)
 sleeping_row (Some W6) f h = inl refl
 sleeping_row (Some E12) f h = inr refl
 sleeping_row o f h = cc h
 
-halting_sleeps : (o : Option Pc) (f : Frame) → sleeps (post_if o f) ≡ stands_halting o
+halting_sleeps : (o : Option Pc) (f : Frame) → at_halt (post_if o f) ≡ stands_halting o
 halting_sleeps None f = refl
 halting_sleeps (Some c) f = grind arith
 
 -- the newest frame of a halted processor sleeps
 pub halted_sleeps : {m : World} {hs : LockName → LockHistory} {w : Waiter} {f : Frame}
     → IsSoundSpinWorld m hs → IsNewest m w → m.frame w ≡ Some f → m.halted w.cpu ≡ true
-    → sleeps (post_of f) ≡ true
+    → at_halt (post_of f) ≡ true
 halted_sleeps {m = m} {w = w} {f = f} ok newest live h =
     let s = ok.resting w.cpu h in
     let d = s.1 in
-    let shown : sleeps (post_on d.lock (m.frame s.0)) ≡ true =
-    ap (λ (o : Option Frame). sleeps (post_on d.lock o)) s.3
-    ∙ ap sleeps (post_on-here d.lock d refl) ∙ s.4 in
+    let shown : at_halt (post_on d.lock (m.frame s.0)) ≡ true =
+    ap (λ (o : Option Frame). at_halt (post_on d.lock o)) s.3
+    ∙ ap at_halt (post_on-here d.lock d refl) ∙ s.4 in
     let same = sole_sleeper ok newest live d.lock s.0 s.2 shown in
-    let frames : d ≡ f = let z : Some d ≡ Some f = sym s.3 ∙ ap m.frame same ∙ live in grind (arith, z) in
-    ap (λ (b : Frame). sleeps (post_of b)) (sym frames) ∙ s.4
+    let frames : d ≡ f =
+    let z : Some d ≡ Some f = sym s.3 ∙ ap m.frame same ∙ live in grind (arith, z) in
+    ap (λ (b : Frame). at_halt (post_of b)) (sym frames) ∙ s.4
 
 -- the world in which w has gone on as g behind its halt, and these kicks are remembered
 abbrev gone_behind : World → Waiter → Frame → (ℕ → Bool) → World
@@ -73,7 +74,7 @@ module _ {m : World} {hs : LockName → LockHistory} {w : Waiter} {f : Frame} (g
     (kick : ℕ → Bool) (ok : IsSoundSpinWorld m hs) (newest : IsNewest m w)
     (live : m.frame w ≡ Some f)
     (lock : g.lock ≡ f.lock) (me : g.me ≡ f.me) (slow : is_slow g.place ≡ is_slow f.place)
-    (asleep : sleeps (post_of f) ≡ true) (awake : sleeps (post_of g) ≡ false)
+    (asleep : at_halt (post_of f) ≡ true) (awake : at_halt (post_of g) ≡ false)
     (elsewhere : (p : ℕ) → p ≢ w.cpu → kick p ≡ m.kicked p) where
   abbrev m' : World
   m' = gone_behind m w g kick
@@ -87,8 +88,9 @@ module _ {m : World} {hs : LockName → LockHistory} {w : Waiter} {f : Frame} (g
   moves : Moves m.frame m'.frame w (Some f) (Some g)
   moves = put_moves m.frame w (Some f) (Some g) live
 
-  now_off : sleeps (post_on l (m'.frame w)) ≡ false
-  now_off = ap (λ (o : Option Frame). sleeps (post_on l o)) moves.now ∙ ap sleeps (post_on-here l g lock) ∙ awake
+  now_off : at_halt (post_on l (m'.frame w)) ≡ false
+  now_off = ap (λ (o : Option Frame). at_halt (post_on l o)) moves.now
+      ∙ ap at_halt (post_on-here l g lock) ∙ awake
 
   -- the kicks that other processors are owed
   owes : (c : Waiter) → c.cpu ≢ w.cpu → Owed (snapshot m) c.cpu → Owed (snapshot m') c.cpu
@@ -99,14 +101,18 @@ module _ {m : World} {hs : LockName → LockHistory} {w : Waiter} {f : Frame} (g
         o.1,
         o.2,
         elim (waiter_cases o.1 w) [
-          | inl e ↦ absurd (no_kick o.0 o.2 (sym (ap (post_on o.0) live) ∙ ap (λ (v : Waiter). post_on o.0 (m.frame v)) (sym e) ∙ o.3))
+          | inl e ↦
+              absurd
+              (no_kick o.0 o.2 (sym (ap (post_on o.0) live)
+              ∙ ap (λ (v : Waiter). post_on o.0 (m.frame v)) (sym e) ∙ o.3))
           | inr ne' ↦ ap (post_on o.0) (moves.others o.1 ne') ∙ o.3
         ],
         o.4,
       )
     where
       no_kick : (k : LockName) (t : NodeName) → post_on k (Some f) ≡ Kicks t → ⊥
-      no_kick k t e = let z = post_on-kicks k f t e in let y = ap sleeps z in grind (arith, y, asleep)
+      no_kick k t e =
+          let z = post_on-kicks k f t e in let y = ap at_halt z in grind (arith, y, asleep)
 
   end_step : {r : Phase} → phase_of f ≡ r → phase_of g ≡ r
       → Step (snapshot m) (snapshot m') w l r r (m.word l) (spins (m.held w l)) (spins (m.held w l))
@@ -123,9 +129,9 @@ module _ {m : World} {hs : LockName → LockHistory} {w : Waiter} {f : Frame} (g
         helds = λ k ne u. refl;
       })
       (λ on k u ne h o. owes u (λ cpu. let same = sole_sleeper ok newest live k u cpu h in
-      let z : sleeps (post_on k (Some f)) ≡ true =
-      ap (λ (o : Option Frame). sleeps (post_on k o)) (sym live ∙ ap m.frame (sym same)) ∙ h in
-      let off = ap sleeps (acts-post f l k (inl refl) ne) in grind (arith, z, off)) o)
+      let z : at_halt (post_on k (Some f)) ≡ true =
+      ap (λ (o : Option Frame). at_halt (post_on k o)) (sym live ∙ ap m.frame (sym same)) ∙ h in
+      let off = ap at_halt (acts-post f l k (inl refl) ne) in grind (arith, z, off)) o)
       (λ on h. absurd (grind (arith, now_off, h)))
 
   end_stays : Stays (snapshot m) (snapshot m') w
@@ -145,9 +151,12 @@ module _ {m : World} {hs : LockName → LockHistory} {w : Waiter} {f : Frame} (g
   end_sound fit agrees =
       world_sound m m' w f g moves ok refl refl (λ e. newest)
       (record {
-        still = λ e h. absurd (let z = if-true (w.cpu == w.cpu) false (m.halted w.cpu) (grind arith) in grind (arith, z, h));
+        still = λ e h.
+            absurd (let z = if-true (w.cpu == w.cpu) false (m.halted w.cpu) (grind arith) in
+            grind (arith, z, h));
         halted = λ p h. elim (cases_Bool (p == w.cpu)) [
-          | inl e ↦ absurd (let z = if-true (p == w.cpu) false (m.halted p) e in grind (arith, z, h))
+          | inl e ↦ absurd (let z = if-true (p == w.cpu) false (m.halted p) e in
+              grind (arith, z, h))
           | inr e ↦ inl (sym (if-false (p == w.cpu) false (m.halted p) e) ∙ h)
         ];
       })
@@ -167,8 +176,9 @@ module _ {m : World} {hs : LockName → LockHistory} {w : Waiter} {f : Frame} (k
   behind_W6 place =
       let g : Frame = record f { place = Some W7 } in
       let post : post_of f ≡ Sleeps = ap (λ (o : Option Pc). post_if o f) place in
-      let phase : phase_of f ≡ Waits = ap (λ (o : Option Pc). phase_if o (is_some f.me) (node_of f.prev) (node_of f.y)) place in
-      let asleep : sleeps (post_of f) ≡ true = ap sleeps post in
+      let phase : phase_of f ≡ Waits =
+      ap (λ (o : Option Pc). phase_if o (is_some f.me) (node_of f.prev) (node_of f.y)) place in
+      let asleep : at_halt (post_of f) ≡ true = ap at_halt post in
       let halting : halts m.mode ≡ true = sleeper_halts ok w f live asleep in
       let slow : is_slow (Some W7) ≡ is_slow f.place = sym (ap is_slow place) in
       end_sound g kick ok newest live refl refl slow asleep refl elsewhere
@@ -185,8 +195,9 @@ module _ {m : World} {hs : LockName → LockHistory} {w : Waiter} {f : Frame} (k
   behind_E12 place =
       let g : Frame = record f { place = Some E2 } in
       let post : post_of f ≡ Naps = ap (λ (o : Option Pc). post_if o f) place in
-      let phase : phase_of f ≡ Leads = ap (λ (o : Option Pc). phase_if o (is_some f.me) (node_of f.prev) (node_of f.y)) place in
-      let asleep : sleeps (post_of f) ≡ true = ap sleeps post in
+      let phase : phase_of f ≡ Leads =
+      ap (λ (o : Option Pc). phase_if o (is_some f.me) (node_of f.prev) (node_of f.y)) place in
+      let asleep : at_halt (post_of f) ≡ true = ap at_halt post in
       let halting : halts m.mode ≡ true = sleeper_halts ok w f live asleep in
       let slow : is_slow (Some E2) ≡ is_slow f.place = sym (ap is_slow place) in
       end_sound g kick ok newest live refl refl slow asleep refl elsewhere
@@ -200,10 +211,13 @@ module _ {m : World} {hs : LockName → LockHistory} {w : Waiter} {f : Frame} (k
       (end_posts g kick ok newest live refl refl slow asleep refl elsewhere post
       (ap Clears (fit.choice.hashed E12 place refl))) refl)
 
-  pub behind : sleeps (post_of f) ≡ true → IsSoundSpinWorld (behind_at f.place) hs
+  pub behind : at_halt (post_of f) ≡ true → IsSoundSpinWorld (behind_at f.place) hs
   behind asleep =
       let P : Option Pc → Type 0 = λ o. IsSoundSpinWorld (behind_at o) hs in
-      elim (sleeping_row f.place f asleep) [ inl e ↦ subst P (sym e) (behind_W6 e) | inr e ↦ subst P (sym e) (behind_E12 e) ]
+      elim (sleeping_row f.place f asleep) [
+        | inl e ↦ subst P (sym e) (behind_W6 e)
+        | inr e ↦ subst P (sym e) (behind_E12 e)
+      ]
 
 -- the histories told on by an event that changes none
 stands_so : {m : World} {hs : LockName → LockHistory} {w : Waiter} {f : Frame}
@@ -230,23 +244,29 @@ spin_wake_keeps m hs rules w f ok newest live h =
     )
 
 pub spin_nudge_keeps : SpinNudgeKeeps
-spin_nudge_keeps m hs rules w f ok newest live h =
-    (stands_so ok newest live h, behind m.kicked ok newest live (λ p ne. refl) (halted_sleeps ok newest live h), λ k e. cc e)
+spin_nudge_keeps m hs rules w f ok newest live h = (
+  stands_so ok newest live h,
+  behind m.kicked ok newest live (λ p ne. refl) (halted_sleeps ok newest live h),
+  λ k e. cc e,
+)
 
 pub spin_int_keeps : SpinIntKeeps
-spin_int_keeps m hs rules w f ok newest live h =
-    (stands_so ok newest live h, behind m.kicked ok newest live (λ p ne. refl) (halted_sleeps ok newest live h), λ k e. cc e)
+spin_int_keeps m hs rules w f ok newest live h = (
+  stands_so ok newest live h,
+  behind m.kicked ok newest live (λ p ne. refl) (halted_sleeps ok newest live h),
+  λ k e. cc e,
+)
 
 -- who sleeps on the processor of the newest frame is that frame
 pub sleeper_is : {m : World} {hs : LockName → LockHistory} {w : Waiter} {f : Frame}
     → IsSoundSpinWorld m hs → IsNewest m w → m.frame w ≡ Some f → (u : Waiter) (d : Frame)
-    → u.cpu ≡ w.cpu → m.frame u ≡ Some d → sleeps (post_of d) ≡ true → u ≡ w
+    → u.cpu ≡ w.cpu → m.frame u ≡ Some d → at_halt (post_of d) ≡ true → u ≡ w
 sleeper_is {m = m} ok newest live u d cpu live_d h =
     sole_sleeper ok newest live d.lock u cpu
-    (ap (λ (o : Option Frame). sleeps (post_on d.lock o)) live_d
-    ∙ ap sleeps (post_on-here d.lock d refl) ∙ h)
+    (ap (λ (o : Option Frame). at_halt (post_on d.lock o)) live_d
+    ∙ ap at_halt (post_on-here d.lock d refl) ∙ h)
 
-after_awake : (o : Option Pc) (f : Frame) → sleeps (post_if (after_halt o) f) ≡ false
+after_awake : (o : Option Pc) (f : Frame) → at_halt (post_if (after_halt o) f) ≡ false
 after_awake None f = refl
 after_awake (Some c) f = grind arith
 
@@ -254,10 +274,11 @@ pub roused_is_awake : RousedIsAwake
 roused_is_awake m hs w f ok newest live on u d cpu live_d =
     let g : Frame = record f { place = after_halt f.place } in
     let moves = put_moves m.frame w (Some f) (Some g) live in
-    not-true (sleeps (post_of d)) (λ h. elim (waiter_cases u w) [
+    not-true (at_halt (post_of d)) (λ h. elim (waiter_cases u w) [
       | inl e ↦
-          let same : g ≡ d = let z = sym moves.now ∙ ap (roused m w f).frame (sym e) ∙ live_d in grind (arith, z) in
-          let z = ap (λ (b : Frame). sleeps (post_of b)) same in
+          let same : g ≡ d = let z = sym moves.now ∙ ap (roused m w f).frame (sym e) ∙ live_d in
+          grind (arith, z) in
+          let z = ap (λ (b : Frame). at_halt (post_of b)) same in
           let y = after_awake f.place g in
           grind (arith, y, z, h)
       | inr ne ↦ ne (sleeper_is ok newest live u d cpu (sym (moves.others u ne) ∙ live_d) h)
@@ -265,11 +286,12 @@ roused_is_awake m hs w f ok newest live on u d cpu live_d =
 
 pub top_is_awake : TopIsAwake
 top_is_awake m hs w f ok newest live out =
-    let awake : sleeps (post_of f) ≡ false = halting_sleeps f.place f ∙ out in (
-      (λ on u d cpu live_d. not-true (sleeps (post_of d)) (λ h.
+    let awake : at_halt (post_of f) ≡ false = halting_sleeps f.place f ∙ out in (
+      (λ on u d cpu live_d. not-true (at_halt (post_of d)) (λ h.
           let e = sleeper_is ok newest live u d cpu live_d h in
           let same : f ≡ d = let z = sym live ∙ ap m.frame (sym e) ∙ live_d in grind (arith, z) in
-          let z = ap (λ (b : Frame). sleeps (post_of b)) same in
+          let z = ap (λ (b : Frame). at_halt (post_of b)) same in
           grind (arith, awake, z, h))),
-      not-true (m.halted w.cpu) (λ h. let z = halted_sleeps ok newest live h in grind (arith, z, awake)),
+      not-true (m.halted w.cpu) (λ h.
+          let z = halted_sleeps ok newest live h in grind (arith, z, awake)),
     )

@@ -1,5 +1,5 @@
--- What the events say of halts and kicks is what a world shows between the operations and after each end of a halt; and so a front that
--- sleeps while nobody holds its lock is owed a kick.
+-- What the events say of halts and kicks is what a world shows between the operations and after
+-- each end of a halt; and so a front that sleeps while nobody holds its lock is owed a kick.
 use Rattle.std.proofs.Common.{◌≡◌, ◌≢◌, ◌⊎◌, inl, inr, ℕ, Option, Some, None, Bool, true, false}
 use Rattle.std.proofs.Common.{List, [], ◌∷◌, ◌++◌, arith, ap, ◌+◌, refl, sym, ◌∙◌, subst}
 use Rattle.std.specs.Prelude.{◌==◌, if◌then◌else◌}
@@ -8,7 +8,7 @@ use Rattle.lk_abs.specs.Lawful.{FrontIsOwed, IsFront}
 use Rattle.lk_abs.specs.declared.names.Kind.{Kind}
 use Rattle.lk_abs.specs.Names.{same_lock}
 use Rattle.lk_abs.specs.History.{LockHistory, history_of}
-use Rattle.lk_abs.specs.Kicks.{sleeps_after, owes, kicks, kicked_after, sleeps as sleeps_in}
+use Rattle.lk_abs.specs.Kicks.{sleeps_after, owes, kicks, kicked_after, sleeps}
 use Rattle.lk_abs.specs.declared.names.Waiter.{Waiter}
 use Rattle.lk_abs.specs.declared.names.LockName.{LockName}
 use Rattle.lk_abs.specs.declared.events.Event.{Event}
@@ -24,7 +24,7 @@ use Rattle.lk_machine.specs.Acts.{after_halt}
 use Rattle.lk_machine.specs.Moves.{node_of, started, first_place}
 use Rattle.lk_law.specs.Phase.{Phase, queues}
 use Rattle.lk_law.specs.Phase.Phase.{Idle}
-use Rattle.lk_law.specs.Pv.{sleeps}
+use Rattle.lk_law.specs.Pv.{at_halt}
 use Rattle.lk_law.specs.Pv.Post.{Off, Sleeps, Naps, Kicks}
 use Rattle.lk_law.specs.Snapshot.{Moves}
 use Rattle.lk_law.specs.Agree.{sole, halts}
@@ -50,7 +50,7 @@ use Rattle.lk_law.proofs.pv.Alike.{quiet_shows, same_owing}
 -- between the operations
 
 first_calm : (mode : Mode) (v : Verb) (f : Frame)
-    → sleeps (post_if (Some (first_place mode v)) f) ≡ false
+    → at_halt (post_if (Some (first_place mode v)) f) ≡ false
 first_calm mode v f = grind arith
 
 first_quiet : (mode : Mode) (v : Verb) → Some (first_place mode v) ≢ Some U5
@@ -59,11 +59,12 @@ first_quiet mode v e = grind (arith, e)
 pub begin_shows : BeginShows
 begin_shows m w f g o es live place shows =
     let h : Frame = started m.mode g o in
-    quiet_shows m (put_frame m w (Some h)) (put_moves m.frame w (Some f) (Some h) live) shows (alike_self es) (λ p. refl) (λ p. refl)
+    quiet_shows m (put_frame m w (Some h)) (put_moves m.frame w (Some f) (Some h) live) shows
+    (alike_self es) (λ p. refl) (λ p. refl)
     (λ d e. let same = frame_same f d e in let z = place_off f place in
-    let y = ap (λ (b : Frame). sleeps (post_of b)) same in grind (arith, z, y))
+    let y = ap (λ (b : Frame). at_halt (post_of b)) same in grind (arith, z, y))
     (λ d e z k. let same = frame_same h d e in let y = first_calm m.mode o.verb h in
-    let x = ap (λ (b : Frame). sleeps (post_of b)) same in grind (arith, x, y, z))
+    let x = ap (λ (b : Frame). at_halt (post_of b)) same in grind (arith, x, y, z))
     (λ d e z. let y = sym place ∙ frame_place f d e ∙ z in grind (arith, y))
     (λ d e z. first_quiet m.mode o.verb (frame_place h d e ∙ z))
 
@@ -73,7 +74,8 @@ placeless_calm (Some f) p d e = sym (frame_place f d e) ∙ p.0
 
 pub end_shows : EndShows
 end_shows m w f g es live none none' shows =
-    quiet_shows m (put_frame m w g) (put_moves m.frame w f g live) shows (alike_self es) (λ p. refl) (λ p. refl)
+    quiet_shows m (put_frame m w g) (put_moves m.frame w f g live) shows (alike_self es) (λ p. refl)
+    (λ p. refl)
     (λ d e. let z = place_off d (placeless_calm f none d e) in grind (arith, z))
     (λ d e k h. let z = place_off d (placeless_calm g none' d e) in grind (arith, z, k))
     (λ d e z. let y = placeless_calm f none d e in grind (arith, y, z))
@@ -96,57 +98,68 @@ ends_shows : (m m' : World) {hs : LockName → LockHistory} {w : Waiter} {f : Fr
     → ShowsKicks m' (es ++ e ∷ [])
 ends_shows m m' {w = w} {f = f} es e ok newest live halt ends moves halted kicked shows =
     let g : Frame = record f { place = after_halt f.place } in
-    let asleep : sleeps (post_of f) ≡ true = halted_sleeps ok newest live halt in
+    let asleep : at_halt (post_of f) ≡ true = halted_sleeps ok newest live halt in
     record {
       asleep = λ u h.
-          let h' : (if w.cpu == u.cpu then false else sleeps_in u es) ≡ true =
-          sym (sleeps_on u es e ∙ ends.sleep u (sleeps_in u es)) ∙ h in
+          let h' : (if w.cpu == u.cpu then false else sleeps u es) ≡ true =
+          sym (sleeps_on u es e ∙ ends.sleep u (sleeps u es)) ∙ h in
           elim (cases_Bool (w.cpu == u.cpu)) [
-            | inl here ↦ absurd (let z = if-true (w.cpu == u.cpu) false (sleeps_in u es) here in grind (arith, z, h'))
+            | inl here ↦ absurd (let z = if-true (w.cpu == u.cpu) false (sleeps u es) here in
+                grind (arith, z, h'))
             | inr off ↦
-                let r = shows.asleep u (sym (if-false (w.cpu == u.cpu) false (sleeps_in u es) off) ∙ h') in
-                let ne : u ≢ w = (λ q. let z = ap (λ (v : Waiter). v.cpu) q in grind (arith, z, off)) in (
+                let r =
+                shows.asleep u (sym (if-false (w.cpu == u.cpu) false (sleeps u es) off) ∙ h') in
+                let ne : u ≢ w =
+                (λ q. let z = ap (λ (v : Waiter). v.cpu) q in grind (arith, z, off)) in (
                   r.0,
                   moves.others u ne ∙ r.1,
                   r.2,
                   halted u.cpu
-                      ∙ if-false (u.cpu == w.cpu) false (m.halted u.cpu) (flip w.cpu u.cpu false off)
+                      ∙ if-false (u.cpu == w.cpu) false (m.halted u.cpu)
+                      (flip w.cpu u.cpu false off)
                       ∙ r.3,
                 )
           ];
-      rests = λ u r. sleeps_on u es e ∙ ends.sleep u (sleeps_in u es) ∙ elim (cases_Bool (w.cpu == u.cpu)) [
-        | inl here ↦
-            absurd (let z =
-            if-true (u.cpu == w.cpu) false (m.halted u.cpu) (flip w.cpu u.cpu true here) in
-            let y = halted u.cpu in let k = r.3 in grind (arith, z, y, k))
-        | inr off ↦
-            let ne : u ≢ w = (λ q. let z = ap (λ (v : Waiter). v.cpu) q in grind (arith, z, off)) in
-            if-false (w.cpu == u.cpu) false (sleeps_in u es) off
-            ∙ shows.rests u (
-              r.0,
-              sym (moves.others u ne) ∙ r.1,
-              r.2,
-              sym (if-false (u.cpu == w.cpu) false (m.halted u.cpu) (flip w.cpu u.cpu false off))
-                  ∙ sym (halted u.cpu) ∙ r.3,
-            )
-      ];
-      kicked = λ p. kicked p ∙ ap (λ (b : Bool). kicked_after p b e) (shows.kicked p) ∙ sym (kicked_on p es e);
+      rests = λ u r. sleeps_on u es e ∙ ends.sleep u (sleeps u es)
+          ∙ elim (cases_Bool (w.cpu == u.cpu)) [
+            | inl here ↦
+                absurd (let z =
+                if-true (u.cpu == w.cpu) false (m.halted u.cpu) (flip w.cpu u.cpu true here) in
+                let y = halted u.cpu in let k = r.3 in grind (arith, z, y, k))
+            | inr off ↦
+                let ne : u ≢ w =
+                (λ q. let z = ap (λ (v : Waiter). v.cpu) q in grind (arith, z, off)) in
+                if-false (w.cpu == u.cpu) false (sleeps u es) off
+                ∙ shows.rests u (
+                  r.0,
+                  sym (moves.others u ne) ∙ r.1,
+                  r.2,
+                  sym (if-false (u.cpu == w.cpu) false (m.halted u.cpu)
+                      (flip w.cpu u.cpu false off))
+                      ∙ sym (halted u.cpu) ∙ r.3,
+                )
+          ];
+      kicked = λ p. kicked p ∙ ap (λ (b : Bool). kicked_after p b e) (shows.kicked p)
+          ∙ sym (kicked_on p es e);
       owing = λ p.
           let r = shows.owing p in (
             r.0,
             r.1,
             same_owing m m' moves p r.0 r.1
-                (λ o. let z = frame_place f o.0 (sym live ∙ o.1) ∙ o.2 in asleep_kicks f.place f asleep z)
-                (λ o. let z = frame_place g o.0 (sym moves.now ∙ o.1) ∙ o.2 in behind_kicks f.place f asleep z) r.2,
+                (λ o. let z = frame_place f o.0 (sym live ∙ o.1) ∙ o.2 in
+                asleep_kicks f.place f asleep z)
+                (λ o. let z = frame_place g o.0 (sym moves.now ∙ o.1) ∙ o.2 in
+                behind_kicks f.place f asleep z) r.2,
             (let a = owing_on p es e in let b = made_on p es e in let c = ends.owe p in
                 let d = ends.made p in let k = r.3 in omega (arith, a, b, c, d, k)),
           );
     }
   where
-    asleep_kicks : (o : Option Pc) (f : Frame) → sleeps (post_if o f) ≡ true → o ≡ Some U5 → ⊥
-    asleep_kicks o f h e = let z = ap (λ (c : Option Pc). sleeps (post_if c f)) e in grind (arith, z, h)
+    asleep_kicks : (o : Option Pc) (f : Frame) → at_halt (post_if o f) ≡ true → o ≡ Some U5 → ⊥
+    asleep_kicks o f h e =
+        let z = ap (λ (c : Option Pc). at_halt (post_if c f)) e in grind (arith, z, h)
 
-    behind_kicks : (o : Option Pc) (f : Frame) → sleeps (post_if o f) ≡ true
+    behind_kicks : (o : Option Pc) (f : Frame) → at_halt (post_if o f) ≡ true
         → after_halt o ≡ Some U5 → ⊥
     behind_kicks o f h e =
         elim (sleeping_row o f h) [
@@ -160,7 +173,8 @@ wake_shows m hs w f es ok newest live halt shows =
     ok newest live halt (record { sleep = λ u b. refl; owe = λ p. refl; made = λ p. refl })
     (put_moves m.frame w (Some f) (Some (record f { place = after_halt f.place })) live) (λ p. refl)
     (λ p. elim (cases_Bool (p == w.cpu)) [
-      | inl ay ↦ if-true (p == w.cpu) false (m.kicked p) ay ∙ sym (if-true (w.cpu == p) false (m.kicked p) (flip p w.cpu true ay))
+      | inl ay ↦ if-true (p == w.cpu) false (m.kicked p) ay
+          ∙ sym (if-true (w.cpu == p) false (m.kicked p) (flip p w.cpu true ay))
       | inr nay ↦ if-false (p == w.cpu) false (m.kicked p) nay
           ∙ sym (if-false (w.cpu == p) false (m.kicked p) (flip p w.cpu false nay))
     ]) shows
@@ -169,28 +183,34 @@ pub nudge_shows : NudgeShows
 nudge_shows m hs w f es ok newest live halt shows =
     ends_shows m (roused m w f) es (record { by = w; what = Nudge }) ok newest live halt
     (record { sleep = λ u b. refl; owe = λ p. refl; made = λ p. refl })
-    (put_moves m.frame w (Some f) (Some (record f { place = after_halt f.place })) live) (λ p. refl) (λ p. refl) shows
+    (put_moves m.frame w (Some f) (Some (record f { place = after_halt f.place })) live) (λ p. refl)
+    (λ p. refl) shows
 
 pub int_shows : IntShows
 int_shows m hs w f es ok newest live halt shows =
     ends_shows m (roused m w f) es
     (record { by = record { cpu = w.cpu; ctx = w.ctx + 1 }; what = Int }) ok newest live halt
     (record { sleep = λ u b. refl; owe = λ p. refl; made = λ p. refl })
-    (put_moves m.frame w (Some f) (Some (record f { place = after_halt f.place })) live) (λ p. refl) (λ p. refl) shows
+    (put_moves m.frame w (Some f) (Some (record f { place = after_halt f.place })) live) (λ p. refl)
+    (λ p. refl) shows
 
 pub int_awake_shows : IntAwakeShows
 int_awake_shows m w es awake shows =
     let e : Event = record { by = w; what = Int } in
     record {
       asleep = λ u h.
-          let h' : (if w.cpu == u.cpu then false else sleeps_in u es) ≡ true = sym (sleeps_on u es e) ∙ h in
+          let h' : (if w.cpu == u.cpu then false else sleeps u es) ≡ true =
+          sym (sleeps_on u es e) ∙ h in
           elim (cases_Bool (w.cpu == u.cpu)) [
-            | inl here ↦ absurd (let z = if-true (w.cpu == u.cpu) false (sleeps_in u es) here in grind (arith, z, h'))
-            | inr off ↦ shows.asleep u (sym (if-false (w.cpu == u.cpu) false (sleeps_in u es) off) ∙ h')
+            | inl here ↦ absurd (let z = if-true (w.cpu == u.cpu) false (sleeps u es) here in
+                grind (arith, z, h'))
+            | inr off ↦
+                shows.asleep u (sym (if-false (w.cpu == u.cpu) false (sleeps u es) off) ∙ h')
           ];
       rests = λ u r. sleeps_on u es e ∙ elim (cases_Bool (w.cpu == u.cpu)) [
-        | inl here ↦ absurd (let q = eqb-true w.cpu u.cpu here in let z = ap m.halted q in let k = r.3 in grind (arith, z, k, awake))
-        | inr off ↦ if-false (w.cpu == u.cpu) false (sleeps_in u es) off ∙ shows.rests u r
+        | inl here ↦ absurd (let q = eqb-true w.cpu u.cpu here in let z = ap m.halted q in
+            let k = r.3 in grind (arith, z, k, awake))
+        | inr off ↦ if-false (w.cpu == u.cpu) false (sleeps u es) off ∙ shows.rests u r
       ];
       kicked = λ p. shows.kicked p ∙ sym (kicked_on p es e);
       owing = λ p. let r = shows.owing p in (
@@ -220,12 +240,14 @@ none_sole (Some w) h = cc h
 kick_frame : (k : LockName) (o : Option Frame) (t : NodeName) → post_on k o ≡ Kicks t
     → (d : Frame) × (o ≡ Some d) × (d.place ≡ Some U5) × (node_of d.target ≡ t)
 kick_frame k None t e = cc e
-kick_frame k (Some d) t e = let q = post_kick d.place d t (post_on-kicks k d t e) in (d, refl, q.0, q.1)
+kick_frame k (Some d) t e =
+    let q = post_kick d.place d t (post_on-kicks k d t e) in (d, refl, q.0, q.1)
   where
     post_kick : (o : Option Pc) (d : Frame) (t : NodeName) → post_if o d ≡ Kicks t
         → (o ≡ Some U5) × (node_of d.target ≡ t)
     post_kick None d t e = cc e
-    post_kick (Some U5) d t e = (refl, (let q : Kicks (node_of d.target) ≡ Kicks t = e in grind (arith, q)))
+    post_kick (Some U5) d t e =
+        (refl, (let q : Kicks (node_of d.target) ≡ Kicks t = e in grind (arith, q)))
     post_kick (Some c) d t e = absurd (grind (arith, e))
 
 -- where the world's history of the lock is that of the events
@@ -242,8 +264,10 @@ front_is_owed m es {hs = hs} on ok shows l is w front_e free_e asleep =
     let shown : queues (phase_on l (Some d)) ≡ true =
     sym (ap (λ (q : Option Frame). queues (phase_on l q)) r.1) ∙ lists_main o.lists 0 w front in
     let here = phase_acts l d shown in
-    let post : s.post l w ≡ post_of d = ap (post_on l) r.1 ∙ if-true (same_lock d.lock l) (post_of d) Off here in
-    let free : (m.word l).locked ≡ Free = o.hold.taken (none_sole o.holder (sym o.holders ∙ free_h)) in
+    let post : s.post l w ≡ post_of d =
+    ap (post_on l) r.1 ∙ if-true (same_lock d.lock l) (post_of d) Off here in
+    let free : (m.word l).locked ≡ Free =
+    o.hold.taken (none_sole o.holder (sym o.holders ∙ free_h)) in
     let lies : (s.post l w ≡ Sleeps) ⊎ (s.post l w ≡ Naps) = elim (sleeping_row d.place d r.2) [
       | inl q ↦ inl (post ∙ ap (λ (c : Option Pc). post_if c d) q)
       | inr q ↦ inr (post ∙ ap (λ (c : Option Pc). post_if c d) q)

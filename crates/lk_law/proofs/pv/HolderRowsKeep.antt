@@ -1,4 +1,5 @@
--- The rows of a holder of the paravirtual lock that looks after the next keep every sound world: K1 to K3.
+-- The rows of a holder of the paravirtual lock that looks after the next keep every sound world: K1
+-- to K3.
 use Rattle.std.proofs.Common.{◌≡◌, ◌⊎◌, inl, inr, ℕ, Some, None, Bool, true, false, [], arith, ap}
 use Rattle.std.proofs.Common.{◌-◌, refl, sym, ◌∙◌, subst, slice_get}
 use Rattle.std.specs.Prelude.{if◌then◌else◌, ◌||◌}
@@ -40,7 +41,7 @@ use Rattle.lk_law.proofs.pv.Acting.{hm_step, hm_step_as, hm_stays, hm_kept, off_
 use Rattle.lk_law.proofs.pv.Acting.{flags_here, state_turn, entry_turn}
 use Rattle.lk_law.proofs.pv.EndLaws.{law_K1_hash, law_K1_done, law_K2, law_K3}
 use Rattle.lk_law.proofs.pv.WaitRowsKeep.{halted_is, halted_not}
-use Rattle.lk_law.proofs.pv.Turn.{follows}
+use Rattle.lk_law.proofs.pv.Turn.{follows_post}
 use Rattle.lk_abs.specs.declared.events.What.TheVariants as what
 
 either : (a b : Bool) → (a || b) ≡ true → (a ≡ true) ⊎ (b ≡ true)
@@ -49,7 +50,7 @@ either false b h = inr h
 
 -- who leads the queue waits, its flag set, or is its front
 leading : (p : Post) (r : Phase) (x : Flag) → agrees p r ≡ true → leads r x ≡ true
-    → (follows p || fronts p) ≡ true
+    → (follows_post p || fronts p) ≡ true
 leading p r x h k = grind arith
 
 pub held_is : (b : Locked) → is_held b ≡ true → b ≡ Held
@@ -58,7 +59,8 @@ held_is Free h = cc h
 held_is Slow h = cc h
 
 -- a kick changes no lock's history
-pub law_kicks : {s : Snapshot} {hs : LockName → LockHistory} (w : Waiter) (p : ℕ) → SnapshotAgrees s hs
+pub law_kicks : {s : Snapshot} {hs : LockName → LockHistory} (w : Waiter) (p : ℕ)
+    → SnapshotAgrees s hs
     → SnapshotAgrees s (λ k. told k (hs k) (record { by = w; what = what.Kick p }))
 law_kicks w p ok = ok
 
@@ -84,18 +86,19 @@ module _ {a : Acting} (at : StandsIn true a K1) where
   -- the waiter whose node it is leads the queue now
   next_is : (z : Waiter) × (slice_get (a.histories a.frame.lock).main 0 ≡ Some z)
       × ((snapshot a.world).own z ≡ next)
-  next_is = (para at.sound.agrees at.kind a.frame.lock).posts.named a.by next (ap names (post_here at))
+  next_is =
+      (para at.sound.agrees at.kind a.frame.lock).posts.named a.by next (ap names (post_here at))
 
   next_way : (z : Waiter) → slice_get (a.histories a.frame.lock).main 0 ≡ Some z
-      → (follows ((snapshot a.world).post a.frame.lock z) ≡ true)
+      → (follows_post ((snapshot a.world).post a.frame.lock z) ≡ true)
       ⊎ (fronts ((snapshot a.world).post a.frame.lock z) ≡ true)
   next_way z first =
       let s = snapshot a.world in
       let l = a.frame.lock in
-      either (follows (s.post l z)) (fronts (s.post l z))
+      either (follows_post (s.post l z)) (fronts (s.post l z))
       (leading (s.post l z) (s.phase l z) (s.node (s.own z)).flag
       ((para at.sound.agrees at.kind l).suits z)
-      ((para_queue at.sound.agrees at.kind l).first z first))
+      ((para_queue at.sound.agrees at.kind l).ends.first z first))
 
   marks_next : is_halted (a.world.node (node_of a.frame.y)).state ≡ true
       → Kept a (lead_on
@@ -145,7 +148,8 @@ module _ {a : Acting} (at : StandsIn true a K1) where
       (snapshot (turned (put_queued m a.by.cpu (m.queued a.by.cpu - 1)) a.by g l (Some Spins)))
       p = hm_owed at o (λ k e. cc e) (λ p. refl) in
       let held = held_not at (ap seeks (phase_here at)) in
-      hm_kept at o (λ e. cc e) (halting_plain _ at.kind (flags_here at)) (fit_quiet g (left_place at) refl) Nothing
+      hm_kept at o (λ e. cc e) (halting_plain _ at.kind (flags_here at))
+      (fit_quiet g (left_place at) refl) Nothing
       (law_K1_done at.sound.agrees at.kind (λ u. owed u.cpu)
       (hm_step_as at o (phase_here at) (quiet_phase g (left_place at)) refl held refl owed)
       (off_leaves at t refl (left_place at).fast (λ p. refl)) (λ k. refl)
@@ -162,7 +166,9 @@ module _ {a : Acting} (at : StandsIn true a K1) where
       tt
 
   abbrev CallKept : Effect State → Type 0
-  CallKept o = Kept a (lead_on (stores_state a.world (node_of a.frame.y) o.stores) a.by a.frame o.leads) o.tells
+  CallKept o =
+      Kept a (lead_on (stores_state a.world (node_of a.frame.y) o.stores) a.by a.frame o.leads)
+      o.tells
 
 pub holder_mark_hashed_keeps : SpinRowKeeps K1
 holder_mark_hashed_keeps =
@@ -206,13 +212,15 @@ module _ {a : Acting} (at : StandsIn true a K3) where
       let m = a.world in
       let l = a.frame.lock in
       let g : Frame = led a.frame Leaves in
-      let t : Turn m (put_entry m l a.frame.y) a.by a.frame g (Some Spins) = entry_turn at.live refl a.frame.y in
+      let t : Turn m (put_entry m l a.frame.y) a.by a.frame g (Some Spins) =
+      entry_turn at.live refl a.frame.y in
       let o = off_turn at t in
       let owed : (p : ℕ) → Owed (snapshot m) p → Owed
       (snapshot (turned (put_queued (put_entry m l a.frame.y) a.by.cpu (m.queued a.by.cpu - 1))
       a.by g l (Some Spins))) p = hm_owed at o (λ k e. cc e) (λ p. refl) in
       let held = held_not at (ap seeks (phase_here at)) in
-      hm_kept at o (λ e. cc e) (halting_plain _ at.kind (flags_here at)) (fit_quiet g (left_place at) refl) Nothing
+      hm_kept at o (λ e. cc e) (halting_plain _ at.kind (flags_here at))
+      (fit_quiet g (left_place at) refl) Nothing
       ((law_K3 at.sound.agrees at.kind (λ u. owed u.cpu)
       (hm_step_as at o (phase_here at) (quiet_phase g (left_place at)) refl held refl owed)
       (off_leaves at t refl (left_place at).fast (λ p. refl)) (λ k. refl)

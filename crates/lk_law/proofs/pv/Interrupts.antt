@@ -27,13 +27,15 @@ nobody_above {w = w} newest = newest.above (w.ctx + 1) (omega arith)
 pub nobody_roused : {m : World} {w : Waiter} {f : Frame} → IsNewest m w → m.frame w ≡ Some f
     → (roused m w f).frame (above w) ≡ None
 nobody_roused {m = m} {w = w} {f = f} newest live =
-    let moves = put_moves m.frame w (Some f) (Some (record f { place = after_halt f.place })) live in
+    let moves =
+    put_moves m.frame w (Some f) (Some (record f { place = after_halt f.place })) live in
     moves.others (above w) (higher w) ∙ nobody_above newest
 
 pub spin_interrupt_keeps : SpinInterruptKeeps
 spin_interrupt_keeps m hs rules w f g ok newest live none may =
     let e : Event = record { by = above w; what = Int } in
-    let P : World → Type 0 = λ n. IsSoundSpinWorld (put_frame n (above w) (Some g)) (told_on hs (Some e)) in (
+    let P : World → Type 0 =
+    λ n. IsSoundSpinWorld (put_frame n (above w) (Some g)) (told_on hs (Some e)) in (
       if_cases P (m.halted w.cpu) (roused m w f) m
           (λ h. spin_end_keeps (roused m w f) (told_on hs (Some e)) (above w) None (Some g)
           (spin_int_keeps m hs rules w f ok newest live h).1 (nobody_roused newest live) tt none
@@ -51,4 +53,6 @@ interrupt_shows m hs w f g es ok newest live none shows =
     if_cases P (m.halted w.cpu) (roused m w f) m
     (λ h. end_shows (roused m w f) (above w) None (Some g) (es ++ e ∷ [])
     (nobody_roused newest live) tt none (int_shows m hs w f es ok newest live h shows))
-    (λ h. end_shows m (above w) None (Some g) (es ++ e ∷ []) (nobody_above newest) tt none (int_awake_shows m (above w) es h shows))
+    (λ h.
+    end_shows m (above w) None (Some g) (es ++ e ∷ []) (nobody_above newest) tt none
+    (int_awake_shows m (above w) es h shows))

@@ -9,7 +9,8 @@ use Rattle.lk_machine.specs.declared.parts.State.{State}
 use Rattle.lk_machine.specs.declared.parts.Flag.{Flag}
 use Rattle.lk_law.specs.Phase.{Phase, has_node, has_lock, leads}
 use Rattle.lk_law.specs.Phase.Phase.{Links, Waits, Leads, Presses, Holds, Hands, Releases}
-use Rattle.lk_law.specs.Pv.{Post, PostsAgree, agrees, sleeps, full, raw, fits, holds, fronts}
+use Rattle.lk_law.specs.Pv.{Post, PostsAgree, agrees, at_halt, post_full, raw, fits, post_holds}
+use Rattle.lk_law.specs.Pv.{fronts}
 use Rattle.lk_law.specs.Pv.Post.{Off, Joins, Spins, Peers, Stops, Stopped, Dozes, Sleeps, Stirs}
 use Rattle.lk_law.specs.Pv.Post.{Rises, Clears, Tries, Signs, Slows, Wins, Erases, Marks, Checks}
 use Rattle.lk_law.specs.Pv.Post.{Naps, Has, Calls, Slowing, Signing, Finds, Drops, Kicks}
@@ -28,7 +29,7 @@ noded_post _ = true
 fits-free : (p : Post) (f : Bool) (s : State) → noded_post p ≡ false → fits p f s ≡ true
 fits-free p f s h = grind arith
 
-full-noded : (p : Post) → full p ≡ true → noded_post p ≡ true
+full-noded : (p : Post) → post_full p ≡ true → noded_post p ≡ true
 full-noded p h = grind arith
 
 -- nothing changes that the posts speak of
@@ -38,7 +39,7 @@ pub pv_keep : (locked : Locked) (entry : Option NodeName) (front : Option Waiter
     → PostsAgree locked entry front post state own owed
     → ((u : Waiter) → noded_post (post u) ≡ true → (state' u ≡ state u) × (own' u ≡ own u))
     → ((z : Waiter) → front ≡ Some z → (state' z ≡ state z) × (own' z ≡ own z))
-    → ((z : Waiter) → sleeps (post z) ≡ true → owed z → owed' z)
+    → ((z : Waiter) → at_halt (post z) ≡ true → owed z → owed' z)
     → PostsAgree locked entry front post state' own' owed'
 pv_keep locked entry front post state state' own own' owed owed' ok same lead more =
     record {
@@ -49,7 +50,8 @@ pv_keep locked entry front post state state' own own' owed owed' ok same lead mo
       bare_entry = ok.bare_entry;
       bare_slow = ok.bare_slow;
       bare_some = ok.bare_some;
-      full_entry = λ u h. ok.full_entry u h ∙ ap (λ n. Some n) (sym (same u (full-noded (post u) h)).1);
+      full_entry =
+          λ u h. ok.full_entry u h ∙ ap (λ n. Some n) (sym (same u (full-noded (post u) h)).1);
       full_slow = ok.full_slow;
       full_some = ok.full_some;
       entered = λ n h. let q = ok.entered n h in (q.0, q.1, (lead q.0 q.1).1 ∙ q.2);
@@ -66,12 +68,15 @@ pv_keep locked entry front post state state' own own' owed owed' ok same lead mo
             b [
               | inl c ↦ inr (inl c)
               | inr e ↦ elim
-                  e [ inl g ↦ inr (inr (inl g)) | inr o ↦ inr (inr (inr (more z (ap sleeps d) o))) ]
+                  e [
+                    | inl g ↦ inr (inr (inl g))
+                    | inr o ↦ inr (inr (inr (more z (ap at_halt d) o)))
+                  ]
             ]
       ];
       napped = λ z f d. elim (ok.napped z f d) [
         | inl a ↦ inl a
-        | inr e ↦ elim e [ inl g ↦ inr (inl g) | inr o ↦ inr (inr (more z (ap sleeps d) o)) ]
+        | inr e ↦ elim e [ inl g ↦ inr (inl g) | inr o ↦ inr (inr (more z (ap at_halt d) o)) ]
       ];
     }
 
@@ -101,7 +106,7 @@ agrees-noded Has Holds h k = refl
 agrees-noded Has (Hands n) h k = refl
 agrees-noded p r h k = grind (arith, h, k)
 
-pub agrees-holds : (p : Post) (r : Phase) → agrees p r ≡ true → holds p ≡ true
+pub agrees-holds : (p : Post) (r : Phase) → agrees p r ≡ true → post_holds p ≡ true
     → (has_lock r false ≡ true) ⊎ (r ≡ Releases)
 agrees-holds p r h k = grind (arith, h, k)
 

@@ -7,7 +7,7 @@ use Rattle.std.specs.Prelude.{◌==◌, if◌then◌else◌}
 use Rattle.std.proofs.lemmas.Bool.{cases_Bool, eqb-true}
 use Rattle.lk_abs.specs.Names.{same_waiter}
 use Rattle.lk_abs.specs.History.{LockHistory}
-use Rattle.lk_abs.specs.Kicks.{is_kicked, sleeps as sleeps_in}
+use Rattle.lk_abs.specs.Kicks.{is_kicked, sleeps}
 use Rattle.lk_abs.specs.declared.names.Waiter.{Waiter}
 use Rattle.lk_abs.specs.declared.names.LockName.{LockName}
 use Rattle.lk_abs.specs.declared.events.Event.{Event}
@@ -19,14 +19,14 @@ use Rattle.lk_machine.specs.Moves.{node_of}
 use Rattle.lk_machine.specs.Row.{Lead, Goes, Enters, Granted, Freed, Missed, Leaves, Yields, Done}
 use Rattle.lk_machine.specs.Row.{TakesWait}
 use Rattle.lk_machine.specs.TopRow.{target}
-use Rattle.lk_law.specs.Pv.{sleeps}
+use Rattle.lk_law.specs.Pv.{at_halt}
 use Rattle.lk_law.specs.Snapshot.{Moves}
 use Rattle.lk_law.specs.World.{World}
 use Rattle.lk_law.specs.SpinWorld.{IsSoundSpinWorld}
 use Rattle.lk_law.specs.Places.{post_of, post_if}
 use Rattle.lk_law.specs.Steps.{led, row_in, told_event}
 use Rattle.lk_law.specs.Premises.{IsNewest, IsThen}
-use Rattle.lk_law.specs.Kicked.{and_then, Rests, Owes, AreOwing, ShowsKicks, RowShows}
+use Rattle.lk_law.specs.Kicked.{with_event, Rests, Owes, AreOwing, ShowsKicks, RowShows}
 use Rattle.lk_law.proofs.common.Cases.{waiter_cases}
 use Rattle.lk_law.proofs.common.Puts.{if-true, if-false, put_moves, not-true, same_waiter-else}
 use Rattle.lk_law.proofs.common.Puts.{kept_true}
@@ -41,7 +41,8 @@ use Rattle.lk_law.proofs.pv.Alike.{less_owing}
 granted_apart : (b : Bool) (c : Option Pc) → (b ≡ true → IsThen c)
     → (if b then c else None) ≢ Some U5
 granted_apart false c after e = cc e
-granted_apart true c after e = elim (after refl) [ inl q ↦ grind (arith, q, e) | inr q ↦ grind (arith, q, e) ]
+granted_apart true c after e =
+    elim (after refl) [ inl q ↦ grind (arith, q, e) | inr q ↦ grind (arith, q, e) ]
 
 quiet_led : (f : Frame) (lead : Lead) → (f.lock.wait ≡ true → IsThen f.then)
     → reaches_kick lead ≡ false → (led f lead).place ≢ Some U5
@@ -65,9 +66,9 @@ quiet_led f Done plain h e = cc e
 quiet_led f (TakesWait c) plain h e = grind (arith, e)
 
 post_awake : (o : Option Pc) (c : Pc) (f : Frame) → o ≡ Some c → c ≢ W6 → c ≢ E12
-    → sleeps (post_if o f) ≡ false
+    → at_halt (post_if o f) ≡ false
 post_awake o c f e w6 e12 =
-    not-true (sleeps (post_if o f))
+    not-true (at_halt (post_if o f))
     (λ h. elim (sleeping_row o f h) [
       | inl q ↦ w6
           (let z : Some c ≡ Some W6 = sym e ∙ q in grind (arith, z))
@@ -83,42 +84,48 @@ quiet_row_shows c w6 e12 u4 u5 m hs w to f es ok newest live place plain shows =
     kick_is c h = grind arith
 
     row : QuietRow m w f (row_in m w f c)
-        → ShowsKicks (row_in m w f c).0 (and_then es (told_event w f.lock to (row_in m w f c).1))
+        → ShowsKicks (row_in m w f c).0 (with_event es (told_event w f.lock to (row_in m w f c).1))
     row q =
         let m' = (row_in m w f c).0 in
         let g = led f q.lead in
         let base = put_moves m.frame w (Some f) (Some g) live in
-        let at : (u : Waiter) → m'.frame u ≡ put m.frame w g u = λ u. ap (λ (h : Waiter → Option Frame). h u) q.frame in
+        let at : (u : Waiter) → m'.frame u ≡ put m.frame w g u =
+        λ u. ap (λ (h : Waiter → Option Frame). h u) q.frame in
         let moves : Moves m.frame m'.frame w (Some f) (Some g) =
         record {
           was = live;
           now = at w ∙ base.now;
           others = λ u ne. at u ∙ base.others u ne;
         } in
-        let awake : sleeps (post_of f) ≡ false = post_awake f.place c f place w6 e12 in
+        let awake : at_halt (post_of f) ≡ false = post_awake f.place c f place w6 e12 in
         quiet_shows m m' moves shows (alike_told es w f.lock to (row_in m w f c).1 q.tells)
         (λ p. ap (λ (h : ℕ → Bool). h p) q.halted) (λ p. ap (λ (h : ℕ → Bool). h p) q.kicked)
-        (λ d e. let same : f ≡ d = grind arith in ap (λ (b : Frame). sleeps (post_of b)) (sym same) ∙ awake)
+        (λ d e. let same : f ≡ d = grind arith in
+        ap (λ (b : Frame). at_halt (post_of b)) (sym same) ∙ awake)
         (λ d e z h. let y = halted_sleeps ok newest live h in grind (arith, y, awake))
         (λ d e z. let same : f ≡ d = grind arith in
         u5 (let k : Some c ≡ Some U5 = sym place ∙ ap (λ (b : Frame). b.place) same ∙ z in
         grind (arith, k)))
-        (λ d e z. let same : g ≡ d = grind arith in quiet_led f q.lead plain q.leads (ap (λ (b : Frame). b.place) same ∙ z))
+        (λ d e z. let same : g ≡ d = grind arith in
+        quiet_led f q.lead plain q.leads (ap (λ (b : Frame). b.place) same ∙ z))
 
 -- W6 and E12: the frame stands where it stood, and its processor has halted
 
 halt_shows : {m m' : World} {hs : LockName → LockHistory} {w : Waiter} {f g : Frame}
     (es : List Event) (l : LockName)
     → IsSoundSpinWorld m hs → IsNewest m w → Moves m.frame m'.frame w (Some f) (Some g)
-    → sleeps (post_of f) ≡ true → sleeps (post_of g) ≡ true → f.place ≢ Some U5 → g.place ≢ Some U5
+    → at_halt (post_of f) ≡ true → at_halt (post_of g) ≡ true → f.place ≢ Some U5
+    → g.place ≢ Some U5
     → ((p : ℕ) → m'.halted p ≡ (if p == w.cpu then true else m.halted p))
     → ((p : ℕ) → m'.kicked p ≡ m.kicked p) → ShowsKicks m es
     → ShowsKicks m' (es ++ record { by = w; what = Halt l } ∷ [])
-halt_shows {m = m} {m' = m'} {w = w} {f = f} {g = g} es l ok newest moves was_asleep asleep was now halted kicked shows =
+halt_shows {m = m} {m' = m'} {w = w} {f = f} {g = g} es l ok newest moves was_asleep asleep was now
+    halted kicked shows =
     let e : Event = record { by = w; what = Halt l } in
     record {
       asleep = λ u h.
-          let h' : (if same_waiter w u then true else sleeps_in u es) ≡ true = sym (sleeps_on u es e) ∙ h in
+          let h' : (if same_waiter w u then true else sleeps u es) ≡ true =
+          sym (sleeps_on u es e) ∙ h in
           elim (waiter_cases u w) [
             | inl q ↦ (
               g,
@@ -130,19 +137,24 @@ halt_shows {m = m} {m' = m'} {w = w} {f = f} {g = g} es l ok newest moves was_as
             )
             | inr ne ↦
                 let r = shows.asleep u
-                (sym (if-false (same_waiter w u) true (sleeps_in u es)
-                (same_waiter-else w u (λ z. ne (sym z)))) ∙ h') in
-                (r.0, moves.others u ne ∙ r.1, r.2, halted u.cpu ∙ kept_true (u.cpu == w.cpu) (m.halted u.cpu) r.3)
+                (sym (if-false (same_waiter w u) true (sleeps u es)
+                (same_waiter-else w u (λ z. ne (sym z)))) ∙ h') in (
+                  r.0,
+                  moves.others u ne ∙ r.1,
+                  r.2,
+                  halted u.cpu ∙ kept_true (u.cpu == w.cpu) (m.halted u.cpu) r.3,
+                )
           ];
       rests = λ u r. sleeps_on u es e ∙ elim (waiter_cases u w) [
-        | inl q ↦ if-true (same_waiter w u) true (sleeps_in u es) (ap (same_waiter w) q ∙ same_waiter-self w)
+        | inl q ↦
+            if-true (same_waiter w u) true (sleeps u es) (ap (same_waiter w) q ∙ same_waiter-self w)
         | inr ne ↦
             let live_u : m.frame u ≡ Some r.0 = sym (moves.others u ne) ∙ r.1 in
             let apart : (u.cpu == w.cpu) ≡ false =
             not-true (u.cpu == w.cpu)
             (λ q. ne (sleeper_is ok newest moves.was u r.0 (eqb-true u.cpu w.cpu q) live_u
             r.2)) in
-            kept_true (same_waiter w u) (sleeps_in u es)
+            kept_true (same_waiter w u) (sleeps u es)
             (shows.rests u (
               r.0,
               live_u,
@@ -159,34 +171,39 @@ halt_shows {m = m} {m' = m'} {w = w} {f = f} {g = g} es l ok newest moves was_as
             same_owing m m' moves p r.0 r.1
                 (λ o. was (frame_place f o.0 (sym moves.was ∙ o.1) ∙ o.2))
                 (λ o. now (frame_place g o.0 (sym moves.now ∙ o.1) ∙ o.2)) r.2,
-            (let a = owing_on p es e in let b = made_on p es e in let k = r.3 in omega (arith, a, b, k)),
+            (let a = owing_on p es e in let b = made_on p es e in let k = r.3 in
+                omega (arith, a, b, k)),
           );
     }
 
 halt_row_shows : (c : Pc) → (c ≡ W6) ⊎ (c ≡ E12) → RowShows c
-halt_row_shows c (inl e) = subst RowShows (sym e) (λ m hs w to f es ok newest live place plain shows.
+halt_row_shows c (inl e) =
+    subst RowShows (sym e) (λ m hs w to f es ok newest live place plain shows.
     halt_shows es f.lock ok newest
     (put_moves m.frame w (Some f) (Some (record f { place = Some W6 })) live)
-    (ap (λ (o : Option Pc). sleeps (post_if o f)) place) refl
-    (λ z. let k = sym place ∙ z in grind (arith, k)) (λ z. grind (arith, z)) (λ p. refl) (λ p. refl) shows)
-halt_row_shows c (inr e) = subst RowShows (sym e) (λ m hs w to f es ok newest live place plain shows.
+    (ap (λ (o : Option Pc). at_halt (post_if o f)) place) refl
+    (λ z. let k = sym place ∙ z in
+    grind (arith, k)) (λ z. grind (arith, z)) (λ p. refl) (λ p. refl) shows)
+halt_row_shows c (inr e) =
+    subst RowShows (sym e) (λ m hs w to f es ok newest live place plain shows.
     halt_shows es f.lock ok newest
     (put_moves m.frame w (Some f) (Some (record f { place = Some E12 })) live)
-    (ap (λ (o : Option Pc). sleeps (post_if o f)) place) refl
-    (λ z. let k = sym place ∙ z in grind (arith, k)) (λ z. grind (arith, z)) (λ p. refl) (λ p. refl) shows)
+    (ap (λ (o : Option Pc). at_halt (post_if o f)) place) refl
+    (λ z. let k = sym place ∙ z in
+    grind (arith, k)) (λ z. grind (arith, z)) (λ p. refl) (λ p. refl) shows)
 
 -- U4: the waiter owes one now. U5: it makes the kick.
 
 -- no halt begins or ends, and nobody moves that sleeps
 module _ (m m' : World) {w : Waiter} {f g : Frame}
-    (moves : Moves m.frame m'.frame w (Some f) (Some g)) (was : sleeps (post_of f) ≡ false)
-    (now : sleeps (post_of g) ≡ false) (halted : (p : ℕ) → m'.halted p ≡ m.halted p) where
+    (moves : Moves m.frame m'.frame w (Some f) (Some g)) (was : at_halt (post_of f) ≡ false)
+    (now : at_halt (post_of g) ≡ false) (halted : (p : ℕ) → m'.halted p ≡ m.halted p) where
   rests_before : (u : Waiter) → Rests m' u → Rests m u
   rests_before u r =
       elim (waiter_cases u w) [
         | inl e ↦ absurd
             (let same = frame_same g r.0 (sym moves.now ∙ ap m'.frame (sym e) ∙ r.1) in
-            let z = ap (λ (b : Frame). sleeps (post_of b)) same in let k = r.2 in
+            let z = ap (λ (b : Frame). at_halt (post_of b)) same in let k = r.2 in
             grind (arith, z, k, now))
         | inr ne ↦ (r.0, sym (moves.others u ne) ∙ r.1, r.2, sym (halted u.cpu) ∙ r.3)
       ]
@@ -196,7 +213,7 @@ module _ (m m' : World) {w : Waiter} {f g : Frame}
       elim (waiter_cases u w) [
         | inl e ↦ absurd
             (let same = frame_same f r.0 (sym moves.was ∙ ap m.frame (sym e) ∙ r.1) in
-            let z = ap (λ (b : Frame). sleeps (post_of b)) same in let k = r.2 in
+            let z = ap (λ (b : Frame). at_halt (post_of b)) same in let k = r.2 in
             grind (arith, z, k, was))
         | inr ne ↦ (r.0, moves.others u ne ∙ r.1, r.2, halted u.cpu ∙ r.3)
       ]
@@ -210,13 +227,17 @@ owing_row_shows m hs w to f es ok newest live place plain shows =
     let g : Frame = record f { place = Some U5 } in
     let q = (node_of f.target).cpu in
     let e : Event = record { by = w; what = Release f.lock (Some q) } in
-    let moves : Moves m.frame m'.frame w (Some f) (Some g) = put_moves m.frame w (Some f) (Some g) live in
-    let awake : sleeps (post_of f) ≡ false = ap (λ (o : Option Pc). sleeps (post_if o f)) place in
+    let moves : Moves m.frame m'.frame w (Some f) (Some g) =
+    put_moves m.frame w (Some f) (Some g) live in
+    let awake : at_halt (post_of f) ≡ false = ap (λ (o : Option Pc). at_halt (post_if o f)) place in
     let was : (p : ℕ) → Owes m p w → ⊥ = λ p o. let z = frame_place f o.0 (sym live ∙ o.1) ∙ o.2 in
     let k = sym place ∙ z in grind (arith, k) in
     record {
-      asleep = λ u h. rests_after m m' moves awake refl (λ p. refl) u (shows.asleep u (sym (sleeps_on u es e) ∙ h));
-      rests = λ u r. sleeps_on u es e ∙ shows.rests u (rests_before m m' moves awake refl (λ p. refl) u r);
+      asleep = λ u h.
+          rests_after m m' moves awake refl (λ p. refl) u
+          (shows.asleep u (sym (sleeps_on u es e) ∙ h));
+      rests = λ u r. sleeps_on u es e
+          ∙ shows.rests u (rests_before m m' moves awake refl (λ p. refl) u r);
       kicked = λ p. shows.kicked p ∙ sym (kicked_on p es e);
       owing = λ p.
           let r = shows.owing p in
@@ -248,12 +269,17 @@ kick_row_shows m hs w to f es ok newest live place plain shows =
     let g : Frame = record f { place = None } in
     let q = (node_of f.target).cpu in
     let e : Event = record { by = w; what = Kick q } in
-    let moves : Moves m.frame m'.frame w (Some f) (Some g) = put_moves m.frame w (Some f) (Some g) live in
-    let awake : sleeps (post_of f) ≡ false = ap (λ (o : Option Pc). sleeps (post_if o f)) place in
-    let now : (p : ℕ) → Owes m' p w → ⊥ = λ p o. let z = frame_place g o.0 (sym moves.now ∙ o.1) ∙ o.2 in grind (arith, z) in
+    let moves : Moves m.frame m'.frame w (Some f) (Some g) =
+    put_moves m.frame w (Some f) (Some g) live in
+    let awake : at_halt (post_of f) ≡ false = ap (λ (o : Option Pc). at_halt (post_if o f)) place in
+    let now : (p : ℕ) → Owes m' p w → ⊥ = λ p o.
+    let z = frame_place g o.0 (sym moves.now ∙ o.1) ∙ o.2 in grind (arith, z) in
     record {
-      asleep = λ u h. rests_after m m' moves awake refl (λ p. refl) u (shows.asleep u (sym (sleeps_on u es e) ∙ h));
-      rests = λ u r. sleeps_on u es e ∙ shows.rests u (rests_before m m' moves awake refl (λ p. refl) u r);
+      asleep = λ u h.
+          rests_after m m' moves awake refl (λ p. refl) u
+          (shows.asleep u (sym (sleeps_on u es e) ∙ h));
+      rests = λ u r. sleeps_on u es e
+          ∙ shows.rests u (rests_before m m' moves awake refl (λ p. refl) u r);
       kicked = λ p. elim (cases_Bool (p == q)) [
         | inl ay ↦ if-true (p == q) true (m.kicked p) ay
             ∙ sym (kicked_on p es e ∙ if-true (q == p) true (is_kicked p es) (flip p q true ay))
@@ -304,7 +330,10 @@ every_row_shows c =
         | inl a ↦ halt_row_shows c (inr a)
         | inr r2 ↦ elim r2 [
           | inl a ↦ subst RowShows (sym a) owing_row_shows
-          | inr r3 ↦ elim r3 [ inl a ↦ subst RowShows (sym a) kick_row_shows | inr n ↦ quiet_row_shows c n.0 n.1 n.2 n.3 ]
+          | inr r3 ↦ elim r3 [
+            | inl a ↦ subst RowShows (sym a) kick_row_shows
+            | inr n ↦ quiet_row_shows c n.0 n.1 n.2 n.3
+          ]
         ]
       ]
     ]

@@ -22,13 +22,13 @@ use Rattle.lk_law.specs.Phase.{Phase, has_lock, has_node, seeks, pends, claims, 
 use Rattle.lk_law.specs.Phase.{queues, leads}
 use Rattle.lk_law.specs.Phase.Phase.{Idle, Seeks, Releases, Prepared, Waits, Leads, Presses, Holds}
 use Rattle.lk_law.specs.Phase.Phase.{Hands, Tends}
-use Rattle.lk_law.specs.Pv.{Post, PostsAgree, agrees, holds, fronts}
+use Rattle.lk_law.specs.Pv.{Post, PostsAgree, agrees, post_holds, fronts}
 use Rattle.lk_law.specs.Pv.Post.{Sleeps, Naps}
 use Rattle.lk_law.specs.Snapshot.{Snapshot, Rewrites, HolderAgrees, PendingAgrees, QueueAgrees}
 use Rattle.lk_law.specs.Snapshot.{spins}
 use Rattle.lk_law.specs.Cna.{moves_aside}
 use Rattle.lk_law.specs.Agree.{LockAgrees, ParaAgrees, SnapshotAgrees, Step, Stays, LeavesSlowPath}
-use Rattle.lk_law.specs.Agree.{Owed, halts, state_of, sole}
+use Rattle.lk_law.specs.Agree.{Owed, halts, node_state, sole}
 use Rattle.lk_law.proofs.common.Cases.{waiter_cases}
 use Rattle.lk_law.proofs.spin.Hold.{hold_keep, hold_take, hold_take_as, hold_turn, hold_drop_as}
 use Rattle.lk_law.proofs.spin.Pend.{pend_keep, pend_still, pend_set, pend_clear}
@@ -53,7 +53,8 @@ halts_flat Virt e = cc e
 halts_flat Native e = cc e
 halts_flat Cna e = cc e
 
-module _ {s : Snapshot} {hs : LockName → LockHistory} (ok : SnapshotAgrees s hs) (on : halts s.mode ≡ true) (l : LockName) where
+module _ {s : Snapshot} {hs : LockName → LockHistory} (ok : SnapshotAgrees s hs)
+    (on : halts s.mode ≡ true) (l : LockName) where
   pub para : ParaAgrees s (hs l) l
   para = (ok.locks l).posts on
 
@@ -61,7 +62,7 @@ module _ {s : Snapshot} {hs : LockName → LockHistory} (ok : SnapshotAgrees s h
   para_queue = ((ok.locks l).lists.flat (halts_flat s.mode on)).queue
 
   -- a post that holds the lock is its holder's
-  pub para_holds : (u : Waiter) → holds (s.post l u) ≡ true → (ok.locks l).holder ≡ Some u
+  pub para_holds : (u : Waiter) → post_holds (s.post l u) ≡ true → (ok.locks l).holder ≡ Some u
   para_holds u h =
       let o = ok.locks l in
       elim (agrees-holds (s.post l u) (s.phase l u) (para.suits u) h) [
@@ -72,20 +73,26 @@ module _ {s : Snapshot} {hs : LockName → LockHistory} (ok : SnapshotAgrees s h
       any : (r : Phase) (b : Bool) → has_lock r false ≡ true → has_lock r b ≡ true
       any r b q = grind arith
 
-  pub para_only : (u v : Waiter) → holds (s.post l u) ≡ true → holds (s.post l v) ≡ true → u ≡ v
+  pub para_only : (u v : Waiter) → post_holds (s.post l u) ≡ true → post_holds (s.post l v) ≡ true
+      → u ≡ v
   para_only u v p q = let a = para_holds u p in let b = para_holds v q in grind (arith, a, b)
 
-  pub para_taken : (u : Waiter) → holds (s.post l u) ≡ true → (s.word l).locked ≢ Free
-  para_taken u h z = let a = para_holds u h in let f = (ok.locks l).hold.free z in grind (arith, a, f)
+  pub para_taken : (u : Waiter) → post_holds (s.post l u) ≡ true → (s.word l).locked ≢ Free
+  para_taken u h z =
+      let a = para_holds u h in let f = (ok.locks l).hold.free z in grind (arith, a, f)
 
   -- a post of a front is the front's
   pub para_leads : (u : Waiter) → fronts (s.post l u) ≡ true → slice_get (hs l).main 0 ≡ Some u
-  para_leads u h = lead_first para_queue u (agrees-fronts (s.post l u) (s.phase l u) ((s.node (s.own u)).flag) (para.suits u) h)
+  para_leads u h =
+      lead_first para_queue u (agrees-fronts (s.post l u) (s.phase l u) ((s.node (s.own u)).flag)
+      (para.suits u) h)
 
   -- the posts as a row meets them
-  pub posts_met : Met (s.word l).locked (s.entry l) (slice_get (hs l).main 0) (s.post l) (state_of s)
+  pub posts_met : Met (s.word l).locked (s.entry l) (slice_get (hs l).main 0) (s.post l)
+      (node_state s)
       s.own (λ u. Owed s u.cpu)
-  posts_met = record { posts = para.posts; only = para_only; leads = para_leads; taken = para_taken }
+  posts_met =
+      record { posts = para.posts; only = para_only; leads = para_leads; taken = para_taken }
 
   -- where nobody holds the lock, a front that is about to halt or halted is owed a kick
   pub para_owed : (s.word l).locked ≡ Free → (u : Waiter) → slice_get (hs l).main 0 ≡ Some u
@@ -145,7 +152,8 @@ module _ {s s' : Snapshot} {hs : LockName → LockHistory} {w : Waiter} {l : Loc
       × ((s'.node (s.own u)).next ≡ (s.node (s.own u)).next))
       → ((u : Waiter) → s.phase l u ≡ Prepared → s'.node (s.own u) ≡ rest_node)
       → LeavesOthers s s' l
-      → PostsAgree x.locked (s'.entry l) (slice_get (hs l).main 0) (s'.post l) (state_of s') s'.own
+      → PostsAgree x.locked (s'.entry l) (slice_get (hs l).main 0) (s'.post l)
+      (node_state s') s'.own
       (λ u. Owed s' u.cpu)
       → agrees (s'.post l w) r ≡ true → SnapshotAgrees s' hs
   law_still {r = r} {h = h} {x = x} step stays pending tail byte links rests others posts suit =
@@ -163,13 +171,14 @@ module _ {s s' : Snapshot} {hs : LockName → LockHistory} {w : Waiter} {l : Loc
           set = o.pend.set;
           one = o.pend.one;
           someone = o.pend.someone;
-          free = λ u p. elim byte [ inl e ↦ e ∙ o.pend.free u p | inr n ↦ absurd (n.0 (o.pend.free u p)) ];
+          free = λ u p.
+              elim byte [ inl e ↦ e ∙ o.pend.free u p | inr n ↦ absurd (n.0 (o.pend.free u p)) ];
           apart = o.pend.apart;
         });
         posts = λ e. record { posts = rw step.word posts; suits = suits_after step suit };
         lists = flat_lists (ap moves_aside step.mode ∙ halts_flat s.mode on) (record {
           queue = rw (step.word, tail, phase_same, own_is stays step.owns)
-              (queue_same (s.word l).tail (s.phase l) s.own s.node s'.node (hs l).main flat.queue
+              (queue_same flat.queue
               links rests);
           single = flat.single;
           unpassed = flat.unpassed;
@@ -199,7 +208,7 @@ module _ {s s' : Snapshot} {hs : LockName → LockHistory} {w : Waiter} {l : Loc
       → t.passes ≡ [] → HolderAgrees x.locked (s'.phase l) (λ u. spins (s'.held u l)) holder
       → PendingAgrees x.locked x.pending (s'.phase l)
       → QueueAgrees x.tail (s'.phase l) s'.own s'.node t.main
-      → PostsAgree x.locked (s'.entry l) (slice_get t.main 0) (s'.post l) (state_of s') s'.own
+      → PostsAgree x.locked (s'.entry l) (slice_get t.main 0) (s'.post l) (node_state s') s'.own
       (λ u. Owed s' u.cpu)
       → agrees (s'.post l w) r' ≡ true → LockAgrees s' t l
   para_lock step t holder holders single unpassed hold pend queue posts suit =
@@ -220,21 +229,24 @@ module _ {s s' : Snapshot} {hs : LockName → LockHistory} {w : Waiter} {l : Loc
   queue_out {r = r} {r' = r'} step stays nodes was now unprepared =
       let q = para_queue ok on l in
       rw (own_is stays step.owns, node_is nodes) (queue_keep q
-      (λ u p. let ne : u ≢ w = (λ e. grind (arith, ap (s.phase l) e, step.acts.was, was, p)) in (step.acts.others u ne, refl, refl))
-      (λ u p. let ne : u ≢ w = (λ e. grind (arith, ap (s'.phase l) e, step.acts.now, now, p)) in step.acts.others u ne)
+      (λ u p. let ne : u ≢ w = (λ e. grind (arith, ap (s.phase l) e, step.acts.was, was, p)) in
+      (step.acts.others u ne, refl, refl))
+      (λ u p. let ne : u ≢ w = (λ e. grind (arith, ap (s'.phase l) e, step.acts.now, now, p)) in
+      step.acts.others u ne)
       (λ u p. let ne : u ≢ w =
       (λ e. unprepared (sym step.acts.now ∙ ap (s'.phase l) (sym e) ∙ p)) in
-      q.fresh u (sym (step.acts.others u ne) ∙ p)))
+      q.links.fresh u (sym (step.acts.others u ne) ∙ p)))
 
   -- W1, its flag set: the waiter leads.
   pub law_rise : Step s s' w l Waits Leads (s.word l) false false → Stays s s' w → SameNodes s s'
       → leads Waits ((s.node (s.own w)).flag) ≡ true
       → PostsAgree (s.word l).locked (s'.entry l) (slice_get (hs l).main 0) (s'.post l)
-      (state_of s') s'.own (λ u. Owed s' u.cpu)
+      (node_state s') s'.own (λ u. Owed s' u.cpu)
       → agrees (s'.post l w) Leads ≡ true → SnapshotAgrees s' hs
   law_rise step stays nodes lead posts suit =
       let o = ok.locks l in
-      agrees_after step ok hs (nodes_stay step ok.nodes stays (λ q. refl)) (λ k u ne p. nodes (s.own u)) (λ k ne. refl)
+      agrees_after step ok hs (nodes_stay step ok.nodes stays (λ q. refl))
+      (λ k u ne p. nodes (s.own u)) (λ k ne. refl)
       (para_lock step (hs l) o.holder o.holders (para_single ok on l) (para_unpassed ok on l)
       (hold_keep o.hold step.acts step.holds refl (λ q. refl) (λ q. absurd (grind arith)))
       (pend_still o.pend step.acts refl refl refl)
@@ -247,12 +259,13 @@ module _ {s s' : Snapshot} {hs : LockName → LockHistory} {w : Waiter} {l : Loc
       (record { locked = (s.word l).locked; pending = true; tail = (s.word l).tail }) false false
       → Stays s s' w → SameNodes s s'
       → PostsAgree (s.word l).locked (s'.entry l) (slice_get (hs l).main 0) (s'.post l)
-      (state_of s') s'.own (λ u. Owed s' u.cpu)
+      (node_state s') s'.own (λ u. Owed s' u.cpu)
       → agrees (s'.post l w) Presses ≡ true → SnapshotAgrees s' hs
   law_press step stays nodes posts suit =
       let o = ok.locks l in
       let at = lead_first (para_queue ok on l) w (grind (arith, step.acts.was)) in
-      agrees_after step ok hs (nodes_stay step ok.nodes stays (λ q. refl)) (λ k u ne p. nodes (s.own u)) (λ k ne. refl)
+      agrees_after step ok hs (nodes_stay step ok.nodes stays (λ q. refl))
+      (λ k u ne p. nodes (s.own u)) (λ k ne. refl)
       (para_lock step (hs l) o.holder o.holders (para_single ok on l) (para_unpassed ok on l)
       (hold_keep o.hold step.acts step.holds refl (λ q. refl) (λ q. absurd (grind arith)))
       (pend_set o.pend step.acts (not_pending ok on l w at step.acts.was (s.word l).pending refl)
@@ -266,11 +279,12 @@ module _ {s s' : Snapshot} {hs : LockName → LockHistory} {w : Waiter} {l : Loc
       (record { locked = (s.word l).locked; pending = false; tail = (s.word l).tail }) false false
       → Stays s s' w → SameNodes s s'
       → PostsAgree (s.word l).locked (s'.entry l) (slice_get (hs l).main 0) (s'.post l)
-      (state_of s') s'.own (λ u. Owed s' u.cpu)
+      (node_state s') s'.own (λ u. Owed s' u.cpu)
       → agrees (s'.post l w) Leads ≡ true → SnapshotAgrees s' hs
   law_unpress step stays nodes posts suit =
       let o = ok.locks l in
-      agrees_after step ok hs (nodes_stay step ok.nodes stays (λ q. refl)) (λ k u ne p. nodes (s.own u)) (λ k ne. refl)
+      agrees_after step ok hs (nodes_stay step ok.nodes stays (λ q. refl))
+      (λ k u ne p. nodes (s.own u)) (λ k ne. refl)
       (para_lock step (hs l) o.holder o.holders (para_single ok on l) (para_unpassed ok on l)
       (hold_keep o.hold step.acts step.holds refl (λ q. refl) (λ q. absurd (grind arith)))
       (pend_clear o.pend step.acts (s.word l).locked refl refl refl refl (λ u n p. o.pend.free u p))
@@ -282,7 +296,7 @@ module _ {s s' : Snapshot} {hs : LockName → LockHistory} {w : Waiter} {l : Loc
   pub law_grab : Step s s' w l Presses Holds
       (record { locked = Held; pending = false; tail = (s.word l).tail }) false false
       → Stays s s' w → SameNodes s s' → (s.word l).locked ≡ Free
-      → PostsAgree Held (s'.entry l) (slice_get (hs l).main 0) (s'.post l) (state_of s') s'.own
+      → PostsAgree Held (s'.entry l) (slice_get (hs l).main 0) (s'.post l) (node_state s') s'.own
       (λ u. Owed s' u.cpu)
       → agrees (s'.post l w) Holds ≡ true
       → SnapshotAgrees s' (λ k. told k (hs k) (record { by = w; what = Take l Head }))
@@ -296,7 +310,8 @@ module _ {s s' : Snapshot} {hs : LockName → LockHistory} {w : Waiter} {l : Loc
       (sole_taken (hs l) w o.holder o.holders (o.hold.free free)) (para_single ok on l)
       (para_unpassed ok on l)
       (hold_take o.hold step.acts step.holds free refl (λ q. refl) (λ q. absurd (grind arith)))
-      (pend_clear o.pend step.acts Held refl refl refl refl (λ u n p. absurd (no_claims ok on l u p)))
+      (pend_clear o.pend step.acts Held refl refl refl refl
+      (λ u n p. absurd (no_claims ok on l u p)))
       (rw (own_is stays step.owns, node_is nodes)
       (queue_lead (para_queue ok on l) step.acts refl refl (λ q. grind arith)
       (λ n q. absurd (grind arith)))) posts suit))
@@ -305,7 +320,7 @@ module _ {s s' : Snapshot} {hs : LockName → LockHistory} {w : Waiter} {l : Loc
   pub law_grab_slow : Step s s' w l Leads Holds
       (record { locked = Slow; pending = (s.word l).pending; tail = (s.word l).tail }) false false
       → Stays s s' w → SameNodes s s' → (s.word l).locked ≡ Free
-      → PostsAgree Slow (s'.entry l) (slice_get (hs l).main 0) (s'.post l) (state_of s') s'.own
+      → PostsAgree Slow (s'.entry l) (slice_get (hs l).main 0) (s'.post l) (node_state s') s'.own
       (λ u. Owed s' u.cpu)
       → agrees (s'.post l w) Holds ≡ true
       → SnapshotAgrees s' (λ k. told k (hs k) (record { by = w; what = Take l Head }))
@@ -318,7 +333,8 @@ module _ {s s' : Snapshot} {hs : LockName → LockHistory} {w : Waiter} {l : Loc
       (para_lock step (with_holder (hs l) w Spins) (Some w)
       (sole_taken (hs l) w o.holder o.holders (o.hold.free free)) (para_single ok on l)
       (para_unpassed ok on l)
-      (hold_take_as o.hold step.acts step.holds Slow (λ q. cc q) free refl (λ q. refl) (λ q. absurd (grind arith)))
+      (hold_take_as o.hold step.acts step.holds Slow (λ q. cc q) free refl (λ q. refl)
+      (λ q. absurd (grind arith)))
       (pend_keep o.pend step.acts Slow refl (λ q. absurd (grind arith)) refl
       (λ q. absurd (grind arith)) (λ u n p. absurd (no_claims ok on l u p)))
       (rw (own_is stays step.owns, node_is nodes)
@@ -332,7 +348,7 @@ module _ {s s' : Snapshot} {hs : LockName → LockHistory} {w : Waiter} {l : Loc
       (record { locked = Free; pending = (s.word l).pending; tail = (s.word l).tail }) true
       false
       → Stays s s' w → SameNodes s s' → (r' ≡ Idle) ⊎ (r' ≡ Seeks)
-      → PostsAgree Free (s'.entry l) (slice_get (hs l).main 0) (s'.post l) (state_of s') s'.own
+      → PostsAgree Free (s'.entry l) (slice_get (hs l).main 0) (s'.post l) (node_state s') s'.own
       (λ u. Owed s' u.cpu)
       → agrees (s'.post l w) r' ≡ true
       → SnapshotAgrees s' (λ k. told k (hs k) (record { by = w; what = Release l owing }))
@@ -349,7 +365,8 @@ module _ {s s' : Snapshot} {hs : LockName → LockHistory} {w : Waiter} {l : Loc
       (sole_freed (hs l) w o.holder o.holders mine) (para_single ok on l)
       (para_unpassed ok on l)
       (hold_drop_as o.hold step.acts step.holds refl q.2 q.3 refl)
-      (pend_keep o.pend step.acts Free (q.4) (λ p. refl) q.5 (λ p. absurd (grind (arith, q, p))) (λ u n p. refl))
+      (pend_keep o.pend step.acts Free (q.4) (λ p. refl) q.5 (λ p. absurd (grind (arith, q, p)))
+      (λ u n p. refl))
       (queue_out step stays nodes refl q.0 (λ p. grind (arith, q, p))) posts suit))
     where
       out : {r' : Phase} → (r' ≡ Idle) ⊎ (r' ≡ Seeks)
@@ -362,27 +379,30 @@ module _ {s s' : Snapshot} {hs : LockName → LockHistory} {w : Waiter} {l : Loc
   -- U5: the kick is made.
   pub law_kick : Step s s' w l Seeks Idle (s.word l) false false → Stays s s' w → SameNodes s s'
       → PostsAgree (s.word l).locked (s'.entry l) (slice_get (hs l).main 0) (s'.post l)
-      (state_of s') s'.own (λ u. Owed s' u.cpu)
+      (node_state s') s'.own (λ u. Owed s' u.cpu)
       → agrees (s'.post l w) Idle ≡ true → SnapshotAgrees s' hs
   law_kick step stays nodes posts suit =
       let o = ok.locks l in
-      agrees_after step ok hs (nodes_stay step ok.nodes stays (λ p. absurd (grind arith))) (λ k u ne p. nodes (s.own u)) (λ k ne. refl)
+      agrees_after step ok hs (nodes_stay step ok.nodes stays (λ p. absurd (grind arith)))
+      (λ k u ne p. nodes (s.own u)) (λ k ne. refl)
       (para_lock step (hs l) o.holder o.holders (para_single ok on l) (para_unpassed ok on l)
       (hold_keep o.hold step.acts step.holds refl (λ q. absurd (grind arith))
       (λ q. absurd (grind arith)))
-      (pend_still o.pend step.acts refl refl refl) (queue_out step stays nodes refl refl (λ p. grind arith)) posts suit)
+      (pend_still o.pend step.acts refl refl refl)
+      (queue_out step stays nodes refl refl (λ p. grind arith)) posts suit)
 
   -- E14: the front, which holds the lock, learns the node behind its own.
   pub law_learn : {n : NodeName} → Step s s' w l Holds (Hands n) (s.word l) false false
       → Stays s s' w → SameNodes s s' → (s.node (s.own w)).next ≡ Some n
       → PostsAgree (s.word l).locked (s'.entry l) (slice_get (hs l).main 0) (s'.post l)
-      (state_of s') s'.own (λ u. Owed s' u.cpu)
+      (node_state s') s'.own (λ u. Owed s' u.cpu)
       → agrees (s'.post l w) (Hands n) ≡ true → SnapshotAgrees s' hs
   law_learn {n = n} step stays nodes next posts suit =
       let o = ok.locks l in
       let q = para_queue ok on l in
       let first = lead_first q w (grind (arith, step.acts.was)) in
-      agrees_after step ok hs (nodes_stay step ok.nodes stays (λ p. refl)) (λ k u ne p. nodes (s.own u)) (λ k ne. refl)
+      agrees_after step ok hs (nodes_stay step ok.nodes stays (λ p. refl))
+      (λ k u ne p. nodes (s.own u)) (λ k ne. refl)
       (para_lock step (hs l) o.holder o.holders (para_single ok on l) (para_unpassed ok on l)
       (hold_keep o.hold step.acts step.holds refl (λ p. refl) (λ p. absurd (grind arith)))
       (pend_still o.pend step.acts refl refl refl)
@@ -396,14 +416,14 @@ module _ {s s' : Snapshot} {hs : LockName → LockHistory} {w : Waiter} {l : Loc
       → Step s s' w l (Hands y) (Tends y) (s.word l) false false → Stays s s' w
       → Rewrites s.node s'.node y x → x.flag ≡ Go → x.next ≡ (s.node y).next
       → PostsAgree (s.word l).locked (s'.entry l) (slice_get (drop 1 (hs l).main) 0) (s'.post l)
-      (state_of s') s'.own (λ u. Owed s' u.cpu)
+      (node_state s') s'.own (λ u. Owed s' u.cpu)
       → agrees (s'.post l w) (Tends y) ≡ true
       → SnapshotAgrees s' (λ k. told k (hs k) (record { by = w; what = Pass l to 0 }))
   law_call {y = y} to step stays writes flag next posts suit =
       let o = ok.locks l in
       let e : Event = record { by = w; what = Pass l to 0 } in
       let q = para_queue ok on l in
-      let v = q.hand w y step.acts.was in
+      let v = q.links.hand w y step.acts.was in
       let vn : has_node (s.phase l v.0) ≡ true = grind (arith, v) in
       let gone = put_moves (s.phase l) w (Hands y) Idle step.acts.was in
       let passed = queue_pass q gone writes flag next step.owns (apart_on ok.nodes l) in
@@ -417,14 +437,15 @@ module _ {s s' : Snapshot} {hs : LockName → LockHistory} {w : Waiter} {l : Loc
         passes = map (λ n. suc n) ((hs l).passes ++ []);
       }) o.holder o.holders
       (rw (para_single ok on l) refl) (rw (para_unpassed ok on l) refl)
-      (hold_keep o.hold step.acts step.holds refl (λ p. refl) (λ p. absurd (grind arith))) (pend_still o.pend step.acts refl refl refl)
+      (hold_keep o.hold step.acts step.holds refl (λ p. refl) (λ p. absurd (grind arith)))
+      (pend_still o.pend step.acts refl refl refl)
       (queue_keep passed
       (λ u p. let ne : u ≢ w = (λ d. grind (arith, ap gone_phase d, gone.now, p)) in
       (step.acts.others u ne ∙ sym (gone.others u ne), refl, refl))
       (λ u p. let ne : u ≢ w = (λ d. grind (arith, ap (s'.phase l) d, step.acts.now, p)) in
       step.acts.others u ne ∙ sym (gone.others u ne))
       (λ u p. let ne : u ≢ w = (λ d. grind (arith, ap (s'.phase l) d, step.acts.now, p)) in
-      passed.fresh u (gone.others u ne ∙ sym (step.acts.others u ne) ∙ p)))
+      passed.links.fresh u (gone.others u ne ∙ sym (step.acts.others u ne) ∙ p)))
       posts suit))
     where
       gone_phase : Waiter → Phase
@@ -435,7 +456,7 @@ module _ {s s' : Snapshot} {hs : LockName → LockHistory} {w : Waiter} {l : Loc
       (record { locked = (s.word l).locked; pending = (s.word l).pending; tail = None }) false true
       → LeavesSlowPath s s' w → SameNodes s s' → (s.word l).tail ≡ Some (s.own w)
       → PostsAgree (s.word l).locked (s'.entry l) (slice_get (drop 1 (hs l).main) 0) (s'.post l)
-      (state_of s') s'.own (λ u. Owed s' u.cpu)
+      (node_state s') s'.own (λ u. Owed s' u.cpu)
       → agrees (s'.post l w) Idle ≡ true
       → SnapshotAgrees s' (λ k. told k (hs k) (record { by = w; what = Leave l }))
   law_leave step goes nodes mine posts suit =
@@ -448,26 +469,29 @@ module _ {s s' : Snapshot} {hs : LockName → LockHistory} {w : Waiter} {l : Loc
       (para_single ok on l) (para_unpassed ok on l)
       (hold_keep o.hold step.acts step.holds refl (λ p. absurd (grind arith))
       (λ p. absurd (grind arith))) (pend_still o.pend step.acts refl refl refl)
-      (rw (node_is nodes) (queue_sole (para_queue ok on l) step.acts refl step.owns mine (apart_on ok.nodes l))) posts suit))
+      (rw (node_is nodes) (queue_sole (para_queue ok on l) step.acts refl step.owns mine
+      (apart_on ok.nodes l))) posts suit))
 
   -- K1, where the next does not halt, and K3: the holder is done with the next.
   pub law_done : {y : NodeName} → Step s s' w l (Tends y) Idle (s.word l) false true
       → LeavesSlowPath s s' w → SameNodes s s'
       → PostsAgree (s.word l).locked (s'.entry l) (slice_get (hs l).main 0) (s'.post l)
-      (state_of s') s'.own (λ u. Owed s' u.cpu)
+      (node_state s') s'.own (λ u. Owed s' u.cpu)
       → agrees (s'.post l w) Idle ≡ true → SnapshotAgrees s' hs
   law_done step goes nodes posts suit =
       let o = ok.locks l in
       let q = para_queue ok on l in
-      agrees_after step ok hs (nodes_leave step ok.nodes goes refl) (λ k u ne p. nodes (s.own u)) (λ k ne. refl)
+      agrees_after step ok hs (nodes_leave step ok.nodes goes refl) (λ k u ne p. nodes (s.own u))
+      (λ k ne. refl)
       (para_lock step (hs l) o.holder o.holders (para_single ok on l) (para_unpassed ok on l)
       (hold_keep o.hold step.acts step.holds refl (λ p. absurd (grind arith))
       (λ p. absurd (grind arith))) (pend_still o.pend step.acts refl refl refl)
       (queue_keep q
       (λ u p. let ne : u ≢ w = (λ d. grind (arith, ap (s.phase l) d, step.acts.was, p)) in
       (step.acts.others u ne, step.owns u ne, ap s'.node (step.owns u ne) ∙ nodes (s.own u)))
-      (λ u p. let ne : u ≢ w = (λ d. grind (arith, ap (s'.phase l) d, step.acts.now, p)) in step.acts.others u ne)
+      (λ u p. let ne : u ≢ w = (λ d. grind (arith, ap (s'.phase l) d, step.acts.now, p)) in
+      step.acts.others u ne)
       (λ u p. let ne : u ≢ w = (λ d. grind (arith, ap (s'.phase l) d, step.acts.now, p)) in
       ap s'.node (step.owns u ne) ∙ nodes (s.own u)
-      ∙ q.fresh u (sym (step.acts.others u ne) ∙ p)))
+      ∙ q.links.fresh u (sym (step.acts.others u ne) ∙ p)))
       posts suit)

@@ -5,13 +5,14 @@ use Rattle.lk_word.specs.declared.spin_word.NodeName.{NodeName}
 use Rattle.lk_word.specs.declared.spin_word.Locked.{Locked}
 use Rattle.lk_word.specs.declared.spin_word.Locked.TheVariants.{Free}
 use Rattle.lk_machine.specs.declared.parts.State.{State}
-use Rattle.lk_law.specs.Pv.{Post, PostsAgree, holds, fronts}
+use Rattle.lk_law.specs.Pv.{Post, PostsAgree, post_holds, fronts}
 
 -- The posts of a lock as a row meets them: they agree, one holder stands among them at most, a
 -- front leads the queue, and the lock of a holder is not free.
-pub record Met (locked : Locked) (entry : Option NodeName) (front : Option Waiter) (post : Waiter → Post)
+pub record Met (locked : Locked) (entry : Option NodeName) (front : Option Waiter)
+    (post : Waiter → Post)
     (state : Waiter → State) (own : Waiter → NodeName) (owed : Waiter → Type 0) : Type 0 where
   pub posts : PostsAgree locked entry front post state own owed
-  pub only : (u v : Waiter) → holds (post u) ≡ true → holds (post v) ≡ true → u ≡ v
+  pub only : (u v : Waiter) → post_holds (post u) ≡ true → post_holds (post v) ≡ true → u ≡ v
   pub leads : (u : Waiter) → fronts (post u) ≡ true → front ≡ Some u
-  pub taken : (u : Waiter) → holds (post u) ≡ true → locked ≢ Free
+  pub taken : (u : Waiter) → post_holds (post u) ≡ true → locked ≢ Free

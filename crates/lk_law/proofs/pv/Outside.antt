@@ -13,10 +13,10 @@ use Rattle.lk_machine.specs.declared.parts.State.TheVariants.{Running}
 use Rattle.lk_machine.specs.declared.parts.Node.{Node}
 use Rattle.lk_law.specs.Phase.{Phase, has_node, queues}
 use Rattle.lk_law.specs.Phase.Phase.{Prepared, Links, Waits, Leads}
-use Rattle.lk_law.specs.Pv.{Post, PostsAgree, agrees, holds, fits}
+use Rattle.lk_law.specs.Pv.{Post, PostsAgree, agrees, post_holds, fits}
 use Rattle.lk_law.specs.Pv.Post.{Off, Joins, Spins, Rises, Kicks}
 use Rattle.lk_law.specs.Snapshot.{Snapshot, Moves, Rewrites}
-use Rattle.lk_law.specs.Agree.{ParaAgrees, SnapshotAgrees, Step, Stays, Owed, halts, state_of}
+use Rattle.lk_law.specs.Agree.{ParaAgrees, SnapshotAgrees, Step, Stays, Owed, halts, node_state}
 use Rattle.lk_law.proofs.common.Cases.{waiter_cases, lock_cases, node_cases}
 use Rattle.lk_law.proofs.common.Lists.{get-append_old}
 use Rattle.lk_law.proofs.common.Families.{lists_main, lists_rest}
@@ -37,7 +37,8 @@ pub record Posted (s s' : Snapshot) (w : Waiter) (l : LockName) (p q : Post) : T
 
 module _ {s s' : Snapshot} {hs : LockName → LockHistory} {w : Waiter} {l : LockName} {r r' : Phase}
     {x : Fields} {h h' : Bool} {p q : Post}
-    (ok : SnapshotAgrees s hs) (on : halts s.mode ≡ true) (step : Step s s' w l r r' x h h') (posted : Posted s s' w l p q) where
+    (ok : SnapshotAgrees s hs) (on : halts s.mode ≡ true) (step : Step s s' w l r r' x h h')
+    (posted : Posted s s' w l p q) where
   pub post_moves : Moves (s.post l) (s'.post l) w p q
   post_moves = record { was = posted.was; now = posted.now; others = λ u ne. step.posts l u ne }
 
@@ -50,10 +51,11 @@ module _ {s s' : Snapshot} {hs : LockName → LockHistory} {w : Waiter} {l : Loc
         o.1,
         o.2,
         elim (waiter_cases o.1 w) [
-          | inl e ↦ absurd (let at : s.post o.0 w ≡ Kicks o.2 = ap (s.post o.0) (sym e) ∙ o.3 in elim (lock_cases o.0 l) [
-            | inl k ↦ no_kick o.2 (sym posted.was ∙ ap (λ m. s.post m w) (sym k) ∙ at)
-            | inr ne ↦ let z = step.were_off o.0 ne in grind (arith, z, at)
-          ])
+          | inl e ↦ absurd (let at : s.post o.0 w ≡ Kicks o.2 = ap (s.post o.0) (sym e) ∙ o.3 in
+              elim (lock_cases o.0 l) [
+                | inl k ↦ no_kick o.2 (sym posted.was ∙ ap (λ m. s.post m w) (sym k) ∙ at)
+                | inr ne ↦ let z = step.were_off o.0 ne in grind (arith, z, at)
+              ])
           | inr ne ↦ step.posts o.0 o.1 ne ∙ o.3
         ],
         o.4,
@@ -74,8 +76,10 @@ module _ {s s' : Snapshot} {hs : LockName → LockHistory} {w : Waiter} {l : Loc
       go a b = grind arith
 
 -- a row outside of the queue, which may take the free lock
-module _ {s s' : Snapshot} {hs : LockName → LockHistory} {w : Waiter} {l : LockName} {r r' : Phase} {x : Fields} {h h' : Bool}
-    (ok : SnapshotAgrees s hs) (on : halts s.mode ≡ true) (step : Step s s' w l r r' x h h') (posted : Posted s s' w l Off Off) where
+module _ {s s' : Snapshot} {hs : LockName
+    → LockHistory} {w : Waiter} {l : LockName} {r r' : Phase} {x : Fields} {h h' : Bool}
+    (ok : SnapshotAgrees s hs) (on : halts s.mode ≡ true) (step : Step s s' w l r r' x h h')
+    (posted : Posted s s' w l Off Off) where
   pub para_outside : (t : LockHistory) → t.main ≡ (hs l).main → agrees Off r' ≡ true
       → queues r ≡ false
       → (x.locked ≡ (s.word l).locked) ⊎ (((s.word l).locked ≡ Free) × (x.locked ≡ Held))
@@ -85,16 +89,18 @@ module _ {s s' : Snapshot} {hs : LockName → LockHistory} {w : Waiter} {l : Loc
   para_outside t main suit out byte nodes =
       let b = para ok on l in
       let front = slice_get (hs l).main 0 in
-      let base : PostsAgree x.locked (s.entry l) front (s.post l) (state_of s) s.own (λ u. Owed s u.cpu) =
+      let base : PostsAgree x.locked (s.entry l) front (s.post l) (node_state s) s.own
+      (λ u. Owed s u.cpu) =
       elim byte [
         | inl e ↦ rw e b.posts
         | inr m ↦ rw m.1
             (pv_byte (posts_met ok on l) Held (λ z. let f = m.0 in grind (arith, f, z)) (λ z. cc z)
-            (λ u. free_holds m.0 u (holds (s.post l u)) refl))
+            (λ u. free_holds m.0 u (post_holds (s.post l u)) refl))
       ] in
       record {
         posts = rw (step.word, posted.entry, post_same, main)
-            (pv_keep x.locked (s.entry l) front (s.post l) (state_of s) (state_of s') s.own s'.own
+            (pv_keep x.locked (s.entry l) front (s.post l) (node_state s)
+            (node_state s') s.own s'.own
             (λ u. Owed s u.cpu) (λ u. Owed s' u.cpu) base
             (λ u q. both u (λ e. off_noded (s.post l u) q (ap (s.post l) e ∙ posted.was))
             (agrees-noded (s.post l u) (s.phase l u) (b.suits u) q))
@@ -106,8 +112,9 @@ module _ {s s' : Snapshot} {hs : LockName → LockHistory} {w : Waiter} {l : Loc
         suits = suits_now ok on step posted suit;
       }
     where
-      free_holds : (s.word l).locked ≡ Free → (u : Waiter) → (c : Bool) → holds (s.post l u) ≡ c
-          → holds (s.post l u) ≡ false
+      free_holds : (s.word l).locked ≡ Free → (u : Waiter) → (c : Bool)
+          → post_holds (s.post l u) ≡ c
+          → post_holds (s.post l u) ≡ false
       free_holds free u true e = absurd (para_taken ok on l u e free)
       free_holds free u false e = e
 
@@ -126,7 +133,7 @@ module _ {s s' : Snapshot} {hs : LockName → LockHistory} {w : Waiter} {l : Loc
               ]
 
       both : (u : Waiter) → u ≢ w → has_node (s.phase l u) ≡ true
-          → (state_of s' u ≡ state_of s u) × (s'.own u ≡ s.own u)
+          → (node_state s' u ≡ node_state s u) × (s'.own u ≡ s.own u)
       both u ne n = let e = step.owns u ne in (
         ap (λ (k : NodeName). (s'.node k).state) e ∙ ap (λ (k : Node). k.state) (nodes u ne n),
         e,
@@ -135,12 +142,12 @@ module _ {s s' : Snapshot} {hs : LockName → LockHistory} {w : Waiter} {l : Loc
 -- G4 and G5: all nodes keep their states, and so do their owners
 
 rest_state : {s : Snapshot} {hs : LockName → LockHistory} {w : Waiter} (l : LockName)
-    → SnapshotAgrees s hs → s.phase l w ≡ Prepared → state_of s w ≡ Running
+    → SnapshotAgrees s hs → s.phase l w ≡ Prepared → node_state s w ≡ Running
 rest_state {w = w} l ok was = ap (λ (n : Node). n.state) (lists_rest (ok.locks l).lists w was)
 
 states : (s s' : Snapshot) → s'.own ≡ s.own
     → ((n : NodeName) → (s'.node n).state ≡ (s.node n).state) → (u : Waiter)
-    → state_of s' u ≡ state_of s u
+    → node_state s' u ≡ node_state s u
 states s s' own node u = ap (λ (f : Waiter → NodeName). (s'.node (f u)).state) own ∙ node (s.own u)
 
 module _ {s s' : Snapshot} {hs : LockName → LockHistory} {w : Waiter} {l : LockName} {x : Fields}
@@ -155,13 +162,14 @@ module _ {s s' : Snapshot} {hs : LockName → LockHistory} {w : Waiter} {l : Loc
       let own = own_is stays step.owns in
       let state = states s s' own (λ n. ap (λ (k : Node). k.state) (nodes n)) in
       let run = rest_state l ok step.acts.was in
-      let puts : Moves (state_of s) (state_of s') w Running Running =
+      let puts : Moves (node_state s) (node_state s') w Running Running =
       record { was = run; now = state w ∙ run; others = λ u ne. state u } in
-      let front : slice_get ((hs l).main ++ w ∷ []) 0 ≡ slice_get (hs l).main 0 = get-append_old (hs l).main w 0 z at ∙ sym at in
+      let front : slice_get ((hs l).main ++ w ∷ []) 0 ≡ slice_get (hs l).main 0 =
+      get-append_old (hs l).main w 0 z at ∙ sym at in
       record {
         posts = rw (step.word, byte, posted.entry, front)
             (pv_keep (s.word l).locked (s.entry l) (slice_get (hs l).main 0) (s'.post l)
-            (state_of s') (state_of s') s.own s'.own (λ u. Owed s u.cpu) (λ u. Owed s' u.cpu)
+            (node_state s') (node_state s') s.own s'.own (λ u. Owed s u.cpu) (λ u. Owed s' u.cpu)
             (g4_behind (posts_met ok on l)
             (post_moves ok on step posted) puts)
             (λ u q. (refl, ap (λ f. f u) own)) (λ u q. (refl, ap (λ f. f u) own))
@@ -177,13 +185,16 @@ module _ {s s' : Snapshot} {hs : LockName → LockHistory} {w : Waiter} {l : Loc
       let b = para ok on l in
       let own = own_is stays step.owns in
       let state = states s s' own (λ n. ap (λ (k : Node). k.state) (nodes n)) in
-      let front : slice_get ((hs l).main ++ w ∷ []) 0 ≡ Some w = ap (λ (us : List Waiter). slice_get (us ++ w ∷ []) 0) none in
+      let front : slice_get ((hs l).main ++ w ∷ []) 0 ≡ Some w =
+      ap (λ (us : List Waiter). slice_get (us ++ w ∷ []) 0) none in
       record {
         posts = rw (step.word, byte, posted.entry, front)
-            (pv_keep (s.word l).locked (s.entry l) (Some w) (s'.post l) (state_of s) (state_of s')
+            (pv_keep (s.word l).locked (s.entry l) (Some w) (s'.post l) (node_state s)
+            (node_state s')
             s.own s'.own (λ u. Owed s u.cpu) (λ u. Owed s' u.cpu)
             (g4_first (posts_met ok on l)
-            (post_moves ok on step posted) (rest_state l ok step.acts.was) (ap (λ (us : List Waiter). slice_get us 0) none))
+            (post_moves ok on step posted) (rest_state l ok step.acts.was)
+            (ap (λ (us : List Waiter). slice_get us 0) none))
             (λ u q. (state u, ap (λ f. f u) own)) (λ u q. (state u, ap (λ f. f u) own))
             (λ u q d. owed_still ok on step posted (λ k e. cc e) u.cpu d));
         suits = suits_now ok on step posted refl;
@@ -198,22 +209,23 @@ module _ {s s' : Snapshot} {hs : LockName → LockHistory} {w : Waiter} {l : Loc
       let own = own_is stays step.owns in
       let node : (n : NodeName) → (s'.node n).state ≡ (s.node n).state =
       λ n. elim (node_cases n a) [
-        | inl e ↦ ap (λ k. (s'.node k).state) e ∙ ap (λ (k : Node). k.state) (writes.now ∙ store) ∙ ap (λ k. (s.node k).state) (sym e)
+        | inl e ↦ ap (λ k. (s'.node k).state) e ∙ ap (λ (k : Node). k.state) (writes.now ∙ store)
+            ∙ ap (λ k. (s.node k).state) (sym e)
         | inr ne ↦ ap (λ (k : Node). k.state) (writes.others n ne)
       ] in
       let state = states s s' own node in
       let not_front : slice_get (hs l).main 0 ≢ Some w =
-      (λ f. let i = (para_queue ok on l).first w f in grind (arith, i, step.acts.was)) in
-      let run : state_of s w ≡ Running =
-      joins_run (state_of s w)
-      (ap (λ (c : Post). fits c false (state_of s w)) (sym posted.was)
+      (λ f. let i = (para_queue ok on l).ends.first w f in grind (arith, i, step.acts.was)) in
+      let run : node_state s w ≡ Running =
+      joins_run (node_state s w)
+      (ap (λ (c : Post). fits c false (node_state s w)) (sym posted.was)
       ∙ b.posts.fit w false (λ e. not_front) (λ e. cc e)) in
-      let puts : Moves (state_of s) (state_of s') w Running Running =
+      let puts : Moves (node_state s) (node_state s') w Running Running =
       record { was = run; now = state w ∙ run; others = λ u ne. state u } in
       record {
         posts = rw (step.word, byte, posted.entry)
             (pv_keep (s.word l).locked (s.entry l) (slice_get (hs l).main 0) (s'.post l)
-            (state_of s') (state_of s') s.own s'.own (λ u. Owed s u.cpu) (λ u. Owed s' u.cpu)
+            (node_state s') (node_state s') s.own s'.own (λ u. Owed s u.cpu) (λ u. Owed s' u.cpu)
             (g5_link (posts_met ok on l)
             (post_moves ok on step posted) puts not_front)
             (λ u q. (refl, ap (λ f. f u) own)) (λ u q. (refl, ap (λ f. f u) own))

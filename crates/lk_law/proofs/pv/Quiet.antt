@@ -56,110 +56,114 @@ quiet_tell Nothing = true
 quiet_tell (Says what) = is_quiet what
 quiet_tell (Passes n k) = true
 
-pub record IsQuiet {A : Type 0} (o : Effect A) : Type 0 where
+pub record IsQuietEffect {A : Type 0} (o : Effect A) : Type 0 where
   pub leads : reaches_kick o.leads ≡ false
   pub tells : quiet_tell o.tells ≡ true
 
 spin_quiet : (mode : Mode) (c : Pc) (f : Frame) (x : Fields) → to_kick c ≡ false
-    → IsQuiet (spin_row mode c f x)
+    → IsQuietEffect (spin_row mode c f x)
 spin_quiet mode c f x h = record { leads = grind arith; tells = grind arith }
 
 queue_quiet : (mode : Mode) (c : Pc) (f : Frame) (x : Fields) → to_kick c ≡ false
-    → IsQuiet (queue_row mode c f x)
+    → IsQuietEffect (queue_row mode c f x)
 queue_quiet mode c f x h = record { leads = grind arith; tells = grind arith }
 
-flag_quiet : (c : Pc) (f : Frame) (x : Flag) → to_kick c ≡ false → IsQuiet (flag_row c f x)
+flag_quiet : (c : Pc) (f : Frame) (x : Flag) → to_kick c ≡ false → IsQuietEffect (flag_row c f x)
 flag_quiet c f x h = record { leads = grind arith; tells = grind arith }
 
 next_quiet : (mode : Mode) (turns : ℕ) (c : Pc) (f : Frame) (x : Option NodeName)
-    → to_kick c ≡ false → IsQuiet (next_row mode turns c f x)
+    → to_kick c ≡ false → IsQuietEffect (next_row mode turns c f x)
 next_quiet mode turns c f x h = record { leads = grind arith; tells = grind arith }
 
 search_quiet : (s : Sight) (c : Pc) (f : Frame) (x : Option NodeName) → to_kick c ≡ false
-    → IsQuiet (search_row s c f x)
+    → IsQuietEffect (search_row s c f x)
 search_quiet s c f x h = record { leads = grind arith; tells = grind arith }
 
 second_quiet : (c : Pc) (f : Frame) (x : Option NodeName) → to_kick c ≡ false
-    → IsQuiet (second_row c f x)
+    → IsQuietEffect (second_row c f x)
 second_quiet c f x h = record { leads = grind arith; tells = grind arith }
 
 runs_quiet : (s : Sight) (c : Pc) (f : Frame) (x : ℕ) → to_kick c ≡ false
-    → IsQuiet (runs_row s c f x)
+    → IsQuietEffect (runs_row s c f x)
 runs_quiet s c f x h = record { leads = grind arith; tells = grind arith }
 
-handover_quiet : (c : Pc) (f : Frame) (x : Flag) → to_kick c ≡ false → IsQuiet (handover_row c f x)
+handover_quiet : (c : Pc) (f : Frame) (x : Flag) → to_kick c ≡ false
+    → IsQuietEffect (handover_row c f x)
 handover_quiet c f x h = record { leads = grind arith; tells = grind arith }
 
 promotion_quiet : (c : Pc) (f : Frame) (x : Fields) → to_kick c ≡ false
-    → IsQuiet (promotion_row c f x)
+    → IsQuietEffect (promotion_row c f x)
 promotion_quiet c f x h = record { leads = grind arith; tells = grind arith }
 
 pv_quiet : (turns : ℕ) (c : Pc) (f : Frame) (x : Fields) → to_kick c ≡ false → c ≢ U4
-    → IsQuiet (pv_row turns c f x)
+    → IsQuietEffect (pv_row turns c f x)
 pv_quiet turns c f x h u4 = record { leads = grind arith; tells = grind arith }
 
-pv_flag_quiet : (c : Pc) (f : Frame) (x : Flag) → to_kick c ≡ false → IsQuiet (pv_flag_row c f x)
+pv_flag_quiet : (c : Pc) (f : Frame) (x : Flag) → to_kick c ≡ false
+    → IsQuietEffect (pv_flag_row c f x)
 pv_flag_quiet c f x h = record { leads = grind arith; tells = grind arith }
 
 pv_next_quiet : (c : Pc) (f : Frame) (x : Option NodeName) → to_kick c ≡ false
-    → IsQuiet (pv_next_row c f x)
+    → IsQuietEffect (pv_next_row c f x)
 pv_next_quiet c f x h = record { leads = grind arith; tells = grind arith }
 
 state_quiet : (turns : ℕ) (c : Pc) (f : Frame) (x : State) → to_kick c ≡ false
-    → IsQuiet (state_row turns c f x)
+    → IsQuietEffect (state_row turns c f x)
 state_quiet turns c f x h = record { leads = grind arith; tells = grind arith }
 
 hash_quiet : (c : Pc) (f : Frame) (x : Option NodeName) → to_kick c ≡ false
-    → IsQuiet (hash_row c f x)
+    → IsQuietEffect (hash_row c f x)
 hash_quiet c f x h = record { leads = grind arith; tells = grind arith }
 
 rw_row_quiet : (mode : Mode) (c : Pc) (f : Frame) (x : RwFields) → to_kick c ≡ false
-    → IsQuiet (rw_row mode c f x)
+    → IsQuietEffect (rw_row mode c f x)
 rw_row_quiet mode c f x h = record { leads = grind arith; tells = grind arith }
 
-entry_quiet : (mode : Mode) (p i : ℕ) → IsQuiet (entry_row mode p i)
+entry_quiet : (mode : Mode) (p i : ℕ) → IsQuietEffect (entry_row mode p i)
 entry_quiet mode p i = record { leads = grind arith; tells = refl }
 
 -- the world has the same frames, halts and kicks
-record Same (m n : World) : Type 0 where
+record SameHalts (m n : World) : Type 0 where
   frame : n.frame ≡ m.frame
   halted : n.halted ≡ m.halted
   kicked : n.kicked ≡ m.kicked
 
-same_word : (m : World) (l : LockName) (o : Option Fields) → Same m (stores_word m l o)
+same_word : (m : World) (l : LockName) (o : Option Fields) → SameHalts m (stores_word m l o)
 same_word m l None = record { frame = refl; halted = refl; kicked = refl }
 same_word m l (Some x) = record { frame = refl; halted = refl; kicked = refl }
 
-same_flag : (m : World) (k : NodeName) (o : Option Flag) → Same m (stores_flag m k o)
+same_flag : (m : World) (k : NodeName) (o : Option Flag) → SameHalts m (stores_flag m k o)
 same_flag m k None = record { frame = refl; halted = refl; kicked = refl }
 same_flag m k (Some x) = record { frame = refl; halted = refl; kicked = refl }
 
-same_next : (m : World) (k : NodeName) (o : Option (Option NodeName)) → Same m (stores_next m k o)
+same_next : (m : World) (k : NodeName) (o : Option (Option NodeName))
+    → SameHalts m (stores_next m k o)
 same_next m k None = record { frame = refl; halted = refl; kicked = refl }
 same_next m k (Some x) = record { frame = refl; halted = refl; kicked = refl }
 
 same_second : (m : World) (k : NodeName) (o : Option (Option NodeName))
-    → Same m (stores_second m k o)
+    → SameHalts m (stores_second m k o)
 same_second m k None = record { frame = refl; halted = refl; kicked = refl }
 same_second m k (Some x) = record { frame = refl; halted = refl; kicked = refl }
 
-same_runs : (m : World) (k : NodeName) (o : Option ℕ) → Same m (stores_runs m k o)
+same_runs : (m : World) (k : NodeName) (o : Option ℕ) → SameHalts m (stores_runs m k o)
 same_runs m k None = record { frame = refl; halted = refl; kicked = refl }
 same_runs m k (Some x) = record { frame = refl; halted = refl; kicked = refl }
 
-same_state : (m : World) (k : NodeName) (o : Option State) → Same m (stores_state m k o)
+same_state : (m : World) (k : NodeName) (o : Option State) → SameHalts m (stores_state m k o)
 same_state m k None = record { frame = refl; halted = refl; kicked = refl }
 same_state m k (Some x) = record { frame = refl; halted = refl; kicked = refl }
 
-same_entry : (m : World) (l : LockName) (o : Option (Option NodeName)) → Same m (stores_entry m l o)
+same_entry : (m : World) (l : LockName) (o : Option (Option NodeName))
+    → SameHalts m (stores_entry m l o)
 same_entry m l None = record { frame = refl; halted = refl; kicked = refl }
 same_entry m l (Some x) = record { frame = refl; halted = refl; kicked = refl }
 
-same_rw : (m : World) (i : ℕ) (o : Option RwFields) → Same m (stores_rw m i o)
+same_rw : (m : World) (i : ℕ) (o : Option RwFields) → SameHalts m (stores_rw m i o)
 same_rw m i None = record { frame = refl; halted = refl; kicked = refl }
 same_rw m i (Some x) = record { frame = refl; halted = refl; kicked = refl }
 
-same_queued : (m : World) (p : ℕ) (o : Option ℕ) → Same m (stores_queued m p o)
+same_queued : (m : World) (p : ℕ) (o : Option ℕ) → SameHalts m (stores_queued m p o)
 same_queued m p None = record { frame = refl; halted = refl; kicked = refl }
 same_queued m p (Some x) = record { frame = refl; halted = refl; kicked = refl }
 
@@ -190,8 +194,8 @@ pub record QuietRow (m : World) (w : Waiter) (f : Frame) (made : Made) : Type 0 
   pub frame : made.0.frame ≡ put m.frame w (led f lead)
   pub tells : quiet_tell made.1 ≡ true
 
-quiet_made : {A : Type 0} {m n : World} (w : Waiter) (f : Frame) (o : Effect A) → Same m n
-    → IsQuiet o → QuietRow m w f (lead_on n w f o.leads, o.tells)
+quiet_made : {A : Type 0} {m n : World} (w : Waiter) (f : Frame) (o : Effect A) → SameHalts m n
+    → IsQuietEffect o → QuietRow m w f (lead_on n w f o.leads, o.tells)
 quiet_made {n = n} w f o same quiet =
     let parts = led_same n w f o.leads in
     record {
@@ -199,11 +203,13 @@ quiet_made {n = n} w f o same quiet =
       kicked = parts.1 ∙ same.kicked;
       lead = o.leads;
       leads = quiet.leads;
-      frame = parts.2 ∙ ap {B = Waiter → Option Frame} (λ (h : Waiter → Option Frame). put h w (led f o.leads)) same.frame;
+      frame = parts.2
+          ∙ ap {B = Waiter → Option Frame}
+          (λ (h : Waiter → Option Frame). put h w (led f o.leads)) same.frame;
       tells = quiet.tells;
     }
 
-rw_made : {m : World} (w : Waiter) (f : Frame) (o : Effect RwFields) → IsQuiet o
+rw_made : {m : World} (w : Waiter) (f : Frame) (o : Effect RwFields) → IsQuietEffect o
     → QuietRow m w f (rw_led m w f o, o.tells)
 rw_made {m = m} w f o quiet =
     let same = same_rw m f.lock.index o.stores in
@@ -212,7 +218,9 @@ rw_made {m = m} w f o quiet =
       kicked = same.kicked;
       lead = o.leads;
       leads = quiet.leads;
-      frame = ap {B = Waiter → Option Frame} (λ (h : Waiter → Option Frame). put h w (led f o.leads)) same.frame;
+      frame =
+          ap {B = Waiter → Option Frame}
+          (λ (h : Waiter → Option Frame). put h w (led f o.leads)) same.frame;
       tells = quiet.tells;
     }
 
@@ -281,7 +289,9 @@ quiet_at m w f c HashEntry h u4 loud =
     (same_entry m f.lock (hash_row c f (m.entry f.lock)).stores) (hash_quiet c f (m.entry f.lock) h)
 quiet_at m w f c Halted h u4 loud = cc
 quiet_at m w f c (KickOf p) h u4 loud = cc
-quiet_at m w f c RwWord h u4 loud = rw_made w f (rw_row m.mode c f (m.rw f.lock.index)) (rw_row_quiet m.mode c f (m.rw f.lock.index) h)
+quiet_at m w f c RwWord h u4 loud =
+    rw_made w f (rw_row m.mode c f (m.rw f.lock.index))
+    (rw_row_quiet m.mode c f (m.rw f.lock.index) h)
 
 -- a row that is on neither is quiet
 pub target_kind : (c : Pc) (f : Frame) → to_kick c ≡ false → c ≢ W6 → c ≢ E12

@@ -108,7 +108,8 @@ module _ {a : Acting} (at : StandsIn true a U3) where
       let m = a.world in
       let l = a.frame.lock in
       let g : Frame = record a.frame { target = a.world.entry a.frame.lock; place = Some U4 } in
-      let t : Turn m (put_entry m l (None)) a.by a.frame g (m.held a.by l) = entry_turn at.live refl (None) in
+      let t : Turn m (put_entry m l (None)) a.by a.frame g (m.held a.by l) =
+      entry_turn at.live refl (None) in
       let owed : (p : ℕ) → Owed (snapshot m) p → Owed
       (snapshot (turned (put_entry m l (None)) a.by g l (m.held a.by l))) p =
       hm_owed at t (λ k e. cc e) (λ p. refl) in
@@ -147,7 +148,8 @@ module _ {a : Acting} (at : StandsIn true a U4) where
       (law_U4 at.sound.agrees at.kind (λ u. owed u.cpu)
       (hm_step at t (put_word-here m.word l (with_byte (m.word l) Free)) held refl owed)
       (hm_stays at t refl refl (λ p. refl)) (λ k. refl) (hm_posts at t) refl)
-      (allow_drop a.rules at.sound.agrees a.by l (Some (node_of a.frame.target).cpu) (phase_shown at ∙ phase_here at))
+      (allow_drop a.rules at.sound.agrees a.by l (Some (node_of a.frame.target).cpu)
+      (phase_shown at ∙ phase_here at))
 
 pub release_store_free_keeps : SpinRowKeeps U4
 release_store_free_keeps = row_keeps_halting U4 refl (λ a at goes. yields at)
@@ -160,7 +162,8 @@ module _ {a : Acting} (at : StandsIn true a U5) where
       → (p : ℕ) → Owed (snapshot a.world) p
       → ((m'.kicked p) ≡ (if p == (node_of a.frame.target).cpu then true else a.world.kicked p))
       → Owed (snapshot m') p
-  owes_on m' moves p (inl k) e = inl (e ∙ kept_true (p == (node_of a.frame.target).cpu) (a.world.kicked p) k)
+  owes_on m' moves p (inl k) e =
+      inl (e ∙ kept_true (p == (node_of a.frame.target).cpu) (a.world.kicked p) k)
   owes_on m' moves p (inr o) e =
       elim (waiter_cases o.1 a.by) [
         | inl q ↦

@@ -79,7 +79,8 @@ module _ {s s' : Snapshot} {hs : LockName → LockHistory} {w : Waiter} {l : Loc
   law_arrive_behind_pv {p = p} step stays nodes none met posted =
       law_arrive_as ok step stays nodes none (inr (p, met, refl))
       (λ e. elim (get_cases (hs l).main 0) [
-        | inl empty ↦ absurd (let t = (para_queue ok on l).no_tail empty in grind (arith, t, met))
+        | inl empty ↦ absurd (let t = (para_queue ok on l).ends.no_tail empty in
+            grind (arith, t, met))
         | inr z ↦ para_joins ok on step stays nodes posted refl z.0 z.1
       ])
 
@@ -93,7 +94,8 @@ module _ {s s' : Snapshot} {hs : LockName → LockHistory} {w : Waiter} {l : Loc
       law_arrive_as ok step stays nodes none (inl (met, refl))
       (λ e. elim (last_cases (hs l).main) [
         | inl empty ↦ para_comes ok on step stays nodes posted refl empty
-        | inr z ↦ absurd (let t = (para_queue ok on l).tail_is z.0 z.1 z.2 z.3 in grind (arith, t, met))
+        | inr z ↦ absurd (let t = (para_queue ok on l).ends.tail_is z.0 z.1 z.2 z.3 in
+            grind (arith, t, met))
       ])
 
   -- the node that was met gets the own node as its next

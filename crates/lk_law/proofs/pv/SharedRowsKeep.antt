@@ -75,7 +75,8 @@ open_T2 = record { phase = λ b p y. refl; fast = refl; post = λ f. refl }
 
 module _ {a : Acting} {c : Pc} (at : StandsIn true a c) (early : IsOpen c) where
   seeks_here : phase_of a.frame ≡ Seeks
-  seeks_here = phase_here at ∙ early.phase (is_some a.frame.me) (node_of a.frame.prev) (node_of a.frame.y)
+  seeks_here =
+      phase_here at ∙ early.phase (is_some a.frame.me) (node_of a.frame.prev) (node_of a.frame.y)
 
   bare_here : a.frame.me ≡ None
   bare_here = (fit_here at).bare (ap has_node seeks_here)
@@ -95,7 +96,8 @@ module _ {a : Acting} {c : Pc} (at : StandsIn true a c) (early : IsOpen c) where
       let m = a.world in
       let l = a.frame.lock in
       let g = led a.frame Granted in
-      let t : Turn m (put_word m l held_word) a.by a.frame g (Some Spins) = word_turn at.live refl held_word in
+      let t : Turn m (put_word m l held_word) a.by a.frame g (Some Spins) =
+      word_turn at.live refl held_word in
       let low = free_word (m.word l) free in
       hm_kept at t (λ e. absurd (let z = early.post a.frame in grind (arith, z, e)))
       (halting_plain (put_word m l held_word) at.kind (flags_here at))
@@ -104,9 +106,11 @@ module _ {a : Acting} {c : Pc} (at : StandsIn true a c) (early : IsOpen c) where
       (hm_step_as at t seeks_here (quiet_phase g (granted_place at))
       (put_word-here m.word l held_word) (held_not at (ap seeks seeks_here)) refl
       (hm_owed at t no_kick (λ p. refl)))
-      (inl (turn_stays t refl ((granted_place at).fast ∙ sym (slow_here at ∙ early.fast)) (λ p. refl))) (λ k. refl) refl refl low plain
+      (inl (turn_stays t refl ((granted_place at).fast ∙ sym (slow_here at ∙ early.fast))
+      (λ p. refl))) (λ k. refl) refl refl low plain
       (hm_posted_as at t (early.post a.frame) (quiet_off g (granted_place at)) refl (λ p. refl)))
-      (allow_take a.rules at.sound.agrees a.by l h (ap queues shown_seeks) (ap (λ (x : Fields). x.locked) low) plain order)
+      (allow_take a.rules at.sound.agrees a.by l h (ap queues shown_seeks)
+      (ap (λ (x : Fields). x.locked) low) plain order)
 
   -- the try has failed
   misses_pv : WordKept a (misses (Miss a.frame.lock))
@@ -134,23 +138,28 @@ module _ {a : Acting} {c : Pc} (at : StandsIn true a c) (early : IsOpen c) where
       let g : Frame = record a.frame { place = Some d } in
       let t : Turn m m a.by a.frame g (m.held a.by l) = same_turn at.live refl in
       let held = held_not at (ap seeks seeks_here) in
-      let phase : phase_of g ≡ Seeks = next.phase (is_some a.frame.me) (node_of a.frame.prev) (node_of a.frame.y) in
-      hm_kept at t (λ e. absurd (let z = early.post a.frame in grind (arith, z, e))) at.sound.plain (fits d which) Nothing
-      (law_turn_pv at.sound.agrees at.kind (hm_step_as at t seeks_here phase refl held held (hm_owed at t no_kick (λ p. refl)))
+      let phase : phase_of g ≡ Seeks =
+      next.phase (is_some a.frame.me) (node_of a.frame.prev) (node_of a.frame.y) in
+      hm_kept at t (λ e. absurd (let z = early.post a.frame in grind (arith, z, e))) at.sound.plain
+      (fits d which) Nothing
+      (law_turn_pv at.sound.agrees at.kind
+      (hm_step_as at t seeks_here phase refl held held (hm_owed at t no_kick (λ p. refl)))
       (turn_stays t refl (next.fast ∙ sym (slow_here at ∙ early.fast)) (λ p. refl)) (λ k. refl)
       turn_on (hm_posted_as at t (early.post a.frame) (next.post g) refl (λ p. refl)) refl) tt
     where
       fits : (d : Pc) → (d ≡ T2) ⊎ (d ≡ G1)
           → RegistersFit a.world.mode (record a.frame { place = Some d })
       fits d (inl e) =
-          let P : Pc → Type 0 = λ q. RegistersFit a.world.mode (record a.frame { place = Some q }) in
+          let P : Pc → Type 0 =
+          λ q. RegistersFit a.world.mode (record a.frame { place = Some q }) in
           subst P (sym e)
           (fit_goes a.frame (record a.frame { place = Some T2 }) (fit_here at) refl
           (sym (ap has_node seeks_here)) (λ q. cc q) (λ q. cc q)
           (unchosen (record a.frame { place = Some T2 }) T2 refl refl (λ q. cc) (λ q. cc) (λ q. cc)
           (λ q. cc) (λ q. cc) (λ q. cc) (λ q. cc) (λ q. cc)))
       fits d (inr e) =
-          let P : Pc → Type 0 = λ q. RegistersFit a.world.mode (record a.frame { place = Some q }) in
+          let P : Pc → Type 0 =
+          λ q. RegistersFit a.world.mode (record a.frame { place = Some q }) in
           subst P (sym e)
           (fit_goes a.frame (record a.frame { place = Some G1 }) (fit_here at) refl
           (sym (ap has_node seeks_here)) (λ q. cc q) (λ q. cc q)
@@ -179,13 +188,15 @@ fast_keeps =
 pub try_look_keeps : SpinRowKeeps T1
 try_look_keeps =
     row_keeps_both T1 try_look_awake (λ a at goes.
-    if_cases (WordKept a) (is_free (a.world.word a.frame.lock)) (looks T2) (misses (Miss a.frame.lock))
+    if_cases (WordKept a) (is_free (a.world.word a.frame.lock)) (looks T2)
+    (misses (Miss a.frame.lock))
     (λ e. opens_pv at open_T1 T2 open_T2 (inl refl)) (λ e. misses_pv at open_T1))
 
 pub try_swap_keeps : SpinRowKeeps T2
 try_swap_keeps =
     row_keeps_both T2 try_take_awake (λ a at goes.
-    if_cases (WordKept a) (is_free (a.world.word a.frame.lock)) (takes a.frame how.Try) (misses (Miss a.frame.lock))
+    if_cases (WordKept a) (is_free (a.world.word a.frame.lock)) (takes a.frame how.Try)
+    (misses (Miss a.frame.lock))
     (λ e. takes_pv at open_T2 how.Try e refl (λ p. p)) (λ e. misses_pv at open_T2))
 
 -- G1
@@ -302,7 +313,9 @@ enter_keeps =
     let i = a.world.queued a.by.cpu in
     if_cases (λ (me : Option NodeName). EntryKept at me (after_entry mode me)) (nat_lt i 4)
     (Some (record { cpu = a.by.cpu; index = i })) None
-    (λ room. subst (EntryKept at (Some (mine at))) (sym (entry_pv mode (Some (mine at)) at.kind)) (enter_pv at room))
+    (λ room.
+    subst (EntryKept at (Some (mine at))) (sym (entry_pv mode (Some (mine at)) at.kind))
+    (enter_pv at room))
     (λ full. subst (EntryKept at None) (sym (entry_pv mode None at.kind)) (enter_bare_pv at)))
 
 -- G4
@@ -342,14 +355,17 @@ module _ {a : Acting} (at : StandsIn true a G4) where
 
   -- it joins the queue, and goes on
   abbrev ArriveKept : Lead → Type 0
-  ArriveKept lead = Kept a (lead_on (put_word a.world a.frame.lock joined) a.by a.frame lead) (Says (Arrive a.frame.lock))
+  ArriveKept lead =
+      Kept a (lead_on (put_word a.world a.frame.lock joined) a.by a.frame lead)
+      (Says (Arrive a.frame.lock))
 
   arrive_first : (a.world.word a.frame.lock).tail ≡ None → ArriveKept (Goes E1 [])
   arrive_first none =
       let m = a.world in
       let l = a.frame.lock in
       let g : Frame = record a.frame { place = Some E1 } in
-      let t : Turn m (put_word m l joined) a.by a.frame g (m.held a.by l) = word_turn at.live refl joined in
+      let t : Turn m (put_word m l joined) a.by a.frame g (m.held a.by l) =
+      word_turn at.live refl joined in
       let held = held_not at (ap seeks (phase_here at)) in
       hm_kept at t (λ e. cc e) (halting_plain (put_word m l joined) at.kind (flags_here at))
       (fit_halting at at.kind g E1 refl refl refl refl (λ e. cc) (λ e. cc) (λ e. cc) (λ e. cc)
@@ -367,7 +383,8 @@ module _ {a : Acting} (at : StandsIn true a G4) where
       let m = a.world in
       let l = a.frame.lock in
       let g : Frame = record a.frame { prev = Some p; place = Some G5 } in
-      let t : Turn m (put_word m l joined) a.by a.frame g (m.held a.by l) = word_turn at.live refl joined in
+      let t : Turn m (put_word m l joined) a.by a.frame g (m.held a.by l) =
+      word_turn at.live refl joined in
       let held = held_not at (ap seeks (phase_here at)) in
       hm_kept at t (λ e. cc e) (halting_plain (put_word m l joined) at.kind (flags_here at))
       (fit_goes a.frame g (fit_here at) refl (sym (ap has_node (phase_here at))) (λ e. refl)
@@ -408,9 +425,11 @@ link_keeps =
     let p = node_of a.frame.prev in
     let y : Node = record (m.node p) { next = a.frame.me } in
     let g : Frame = record a.frame { left = m.turns; place = Some W1 } in
-    let t : Turn m (put_node m p y) a.by a.frame g (m.held a.by a.frame.lock) = node_turn at.live refl p y in
+    let t : Turn m (put_node m p y) a.by a.frame g (m.held a.by a.frame.lock) =
+    node_turn at.live refl p y in
     let held = held_not at (ap seeks (phase_here at)) in
-    subst (λ (lead : Lead). Kept a (lead_on (put_node m p y) a.by a.frame lead) Nothing) (sym (linked_is m.mode m.turns at.kind))
+    subst (λ (lead : Lead). Kept a (lead_on (put_node m p y) a.by a.frame lead) Nothing)
+    (sym (linked_is m.mode m.turns at.kind))
     (hm_kept at t (λ e. cc e) (node_plain m p y at.sound.plain (λ flat. at.sound.plain.flag flat p))
     (fit_halting at at.kind g W1 refl refl refl refl (λ e. cc) (λ e. cc)
     (λ e. (fit_here at).met at.place) (λ e. at.sound.turning) (λ e. cc)) Nothing

@@ -40,7 +40,8 @@ module _ {a : Acting} (at : StandsIn true a H1) where
   may_steal_H1 =
       let m = a.world in
       let l = a.frame.lock in
-      let g : Frame = record a.frame { tailed = is_some (a.world.word a.frame.lock).tail; place = Some H2 } in
+      let g : Frame =
+      record a.frame { tailed = is_some (a.world.word a.frame.lock).tail; place = Some H2 } in
       let t : Turn m (m) a.by a.frame g (m.held a.by l) = same_turn at.live refl in
       let owed : (p : ℕ) → Owed (snapshot m) p → Owed
       (snapshot (turned (m) a.by g l (m.held a.by l))) p =
@@ -48,7 +49,8 @@ module _ {a : Acting} (at : StandsIn true a H1) where
       hm_kept at t (λ e. cc e) at.sound.plain
       (fit_halting at at.kind g H2 refl refl refl refl (λ e. cc) (λ e. cc) (λ e. cc) (λ e. cc)
       (λ q. (fit_here at).choice.unaware H1 at.place refl)) Nothing
-      (hm_same at refl t refl refl refl refl refl refl refl refl refl (λ p. refl) (λ p. refl) (λ k e. cc e))
+      (hm_same at refl t refl refl refl refl refl refl refl refl refl (λ p. refl) (λ p. refl)
+      (λ k e. cc e))
       tt
 
   looks_again_H1 : Kept a
@@ -57,7 +59,8 @@ module _ {a : Acting} (at : StandsIn true a H1) where
   looks_again_H1 =
       let m = a.world in
       let l = a.frame.lock in
-      let g : Frame = record a.frame { tailed = is_some (a.world.word a.frame.lock).tail; place = Some H1 } in
+      let g : Frame =
+      record a.frame { tailed = is_some (a.world.word a.frame.lock).tail; place = Some H1 } in
       let t : Turn m (m) a.by a.frame g (m.held a.by l) = same_turn at.live refl in
       let owed : (p : ℕ) → Owed (snapshot m) p → Owed
       (snapshot (turned (m) a.by g l (m.held a.by l))) p =
@@ -65,7 +68,8 @@ module _ {a : Acting} (at : StandsIn true a H1) where
       hm_kept at t (λ e. cc e) at.sound.plain
       (fit_halting at at.kind g H1 refl refl refl refl (λ e. cc) (λ e. cc) (λ e. cc) (λ e. cc)
       (λ q. (fit_here at).choice.unaware H1 at.place refl)) Nothing
-      (hm_same at refl t refl refl refl refl refl refl refl refl refl (λ p. refl) (λ p. refl) (λ k e. cc e))
+      (hm_same at refl t refl refl refl refl refl refl refl refl refl (λ p. refl) (λ p. refl)
+      (λ k e. cc e))
       tt
 
   joins_H1 : (n : NodeName) → a.frame.me ≡ Some n
@@ -74,7 +78,8 @@ module _ {a : Acting} (at : StandsIn true a H1) where
   joins_H1 n mine =
       let m = a.world in
       let l = a.frame.lock in
-      let g : Frame = record a.frame { tailed = is_some (a.world.word a.frame.lock).tail; place = Some G4 } in
+      let g : Frame =
+      record a.frame { tailed = is_some (a.world.word a.frame.lock).tail; place = Some G4 } in
       let t : Turn m m a.by a.frame g (m.held a.by l) = same_turn at.live refl in
       hm_kept at t (λ e. cc e) at.sound.plain
       (fit_goes a.frame g (fit_here at) refl
@@ -98,7 +103,8 @@ pub steal_glance_keeps : SpinRowKeeps H1
 steal_glance_keeps =
     row_keeps_halting H1 refl (λ a at goes.
     let x = a.world.word a.frame.lock in
-    let P : Pc → Type 0 = λ d. Kept a (lead_on a.world a.by a.frame (Goes d (Tailed (is_some x.tail) ∷ []))) Nothing in
+    let P : Pc → Type 0 = λ d.
+    Kept a (lead_on a.world a.by a.frame (Goes d (Tailed (is_some x.tail) ∷ []))) Nothing in
     if_cases P (is_unlocked x.locked && not x.pending) H2
     (if is_some x.tail && not x.pending then H1 else after_given_up a.frame.me)
     (λ e. may_steal_H1 at)
@@ -120,7 +126,8 @@ module _ {a : Acting} (at : StandsIn true a H2) where
       hm_kept at t (λ e. cc e) at.sound.plain
       (fit_halting at at.kind g H1 refl refl refl refl (λ e. cc) (λ e. cc) (λ e. cc) (λ e. cc)
       (λ q. (fit_here at).choice.unaware H2 at.place refl)) Nothing
-      (hm_same at refl t refl refl refl refl refl refl refl refl refl (λ p. refl) (λ p. refl) (λ k e. cc e))
+      (hm_same at refl t refl refl refl refl refl refl refl refl refl (λ p. refl) (λ p. refl)
+      (λ k e. cc e))
       tt
 
   joins_H2 : (n : NodeName) → a.frame.me ≡ Some n

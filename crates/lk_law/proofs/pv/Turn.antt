@@ -7,21 +7,22 @@ use Rattle.lk_word.specs.declared.spin_word.Locked.TheVariants.{Free, Held, Slow
 use Rattle.lk_machine.specs.declared.parts.State.{State}
 use Rattle.lk_machine.specs.declared.parts.State.TheVariants.{Halted, Hashed}
 use Rattle.lk_law.specs.Snapshot.{Moves}
-use Rattle.lk_law.specs.Pv.{Post, PostsAgree, bare, full, touches, slow_at, one_at, calls, slowing}
-use Rattle.lk_law.specs.Pv.{dozes, names, holds, fronts, raw, fits, sleeps}
+use Rattle.lk_law.specs.Pv.{Post, PostsAgree, bare, post_full, touches, slow_at, one_at, calls}
+use Rattle.lk_law.specs.Pv.{slowing}
+use Rattle.lk_law.specs.Pv.{dozes, names, post_holds, fronts, raw, fits, at_halt}
 use Rattle.lk_law.specs.Pv.Post.{Spins, Peers, Stops, Stopped, Dozes, Sleeps, Stirs, Signs, Slows}
 use Rattle.lk_law.specs.Pv.Post.{Wins, Erases, Marks, Naps, Has}
 use Rattle.lk_law.proofs.common.Cases.{waiter_cases}
 use Rattle.lk_law.proofs.pv.Slow.{bare-touches, slow_at-holds}
 use Rattle.lk_law.proofs.pv.Met.{Met}
 
-pub full-fronts : (p : Post) → full p ≡ true → fronts p ≡ true
+pub full-fronts : (p : Post) → post_full p ≡ true → fronts p ≡ true
 full-fronts p h = grind arith
 
-pub names-holds : (p : Post) (n : NodeName) → names p ≡ Some n → holds p ≡ true
+pub names-holds : (p : Post) (n : NodeName) → names p ≡ Some n → post_holds p ≡ true
 names-holds p n h = grind arith
 
-pub bare-holds : (p : Post) → bare p ≡ true → holds p ≡ true
+pub bare-holds : (p : Post) → bare p ≡ true → post_holds p ≡ true
 bare-holds p h = grind arith
 
 one_at-cases : (p : Post) → one_at p ≡ true → (fronts p ≡ true) ⊎ (touches p ≡ true)
@@ -37,17 +38,17 @@ some-cases None = inl refl
 some-cases (Some n) = inr (n, refl)
 
 -- a post that waits for its flag
-abbrev pub follows : Post → Bool
-follows Spins = true
-follows Peers = true
-follows Stops = true
-follows Stopped = true
-follows Dozes = true
-follows Sleeps = true
-follows Stirs = true
-follows _ = false
+abbrev pub follows_post : Post → Bool
+follows_post Spins = true
+follows_post Peers = true
+follows_post Stops = true
+follows_post Stopped = true
+follows_post Dozes = true
+follows_post Sleeps = true
+follows_post Stirs = true
+follows_post _ = false
 
-pub follows-fit : (p : Post) (s : State) → follows p ≡ true → fits p false s ≡ true
+pub follows-fit : (p : Post) (s : State) → follows_post p ≡ true → fits p false s ≡ true
     → fits p true s ≡ true
 follows-fit p s h k = grind arith
 
@@ -55,13 +56,15 @@ pub follows-doze : (p : Post) (s : State) → dozes p ≡ true → fits p false 
 follows-doze p s h k = grind arith
 
 -- a post with its state halted, which leads, waits for its flag, or its flag is set
-pub halted-follows : (p : Post) → (follows p ≡ true) ⊎ (fronts p ≡ true) → fits p true Halted ≡ true
-    → (follows p ≡ true) × (raw p Halted ≡ true) × (raw p Hashed ≡ false)
+pub halted-follows : (p : Post) → (follows_post p ≡ true) ⊎ (fronts p ≡ true)
+    → fits p true Halted ≡ true
+    → (follows_post p ≡ true) × (raw p Halted ≡ true) × (raw p Hashed ≡ false)
     × (fits p true Hashed ≡ true)
 halted-follows p (inl h) k = grind arith
 halted-follows p (inr h) k = grind arith
 
-module _ (post post' : Waiter → Post) (w : Waiter) (p p' : Post) (moves : Moves post post' w p p') where
+module _ (post post' : Waiter → Post) (w : Waiter) (p p' : Post)
+    (moves : Moves post post' w p p') where
   -- what is false of the new post was true before
   pub was_true : (P : Post → Bool) → P p' ≡ false → (u : Waiter) → P (post' u) ≡ true
       → (u ≢ w) × (P (post u) ≡ true)
@@ -71,7 +74,8 @@ module _ (post post' : Waiter → Post) (w : Waiter) (p p' : Post) (moves : Move
 
   pub still_true : (P : Post → Bool) → P p ≡ false → (u : Waiter) → P (post u) ≡ true
       → P (post' u) ≡ true
-  still_true P f u h = let ne : u ≢ w = (λ e. cc (ap (λ z. P (post z)) e, ap P moves.was, h, f)) in ap P (moves.others u ne) ∙ h
+  still_true P f u h = let ne : u ≢ w = (λ e. cc (ap (λ z. P (post z)) e, ap P moves.was, h, f)) in
+      ap P (moves.others u ne) ∙ h
 
   pub as_before : {A : Type 0} (P : Post → A) → P p' ≡ P p → (u : Waiter) → P (post' u) ≡ P (post u)
   as_before P e u =
@@ -89,7 +93,8 @@ module _ {locked : Locked} {entry : Option NodeName} {front : Option Waiter}
     {owed : Waiter → Type 0} {w : Waiter} (met : Met locked entry front post state own owed) where
   open met use {only, leads}
 
-  lone : (P : Post → Bool) → ((p : Post) → P p ≡ true → holds p ≡ true) → holds (post w) ≡ true
+  lone : (P : Post → Bool) → ((p : Post) → P p ≡ true → post_holds p ≡ true)
+      → post_holds (post w) ≡ true
       → (u : Waiter) → u ≢ w → P (post u) ≡ true → ⊥
   lone P sub h u ne q = ne (only u w (sub (post u) q) h)
 
@@ -104,7 +109,8 @@ module _ {locked : Locked} {entry : Option NodeName} {front : Option Waiter}
   module _ {state' : Waiter → State} {owed' : Waiter → Type 0} where
     -- a row that changes nothing of the hash, and the state of the own node at most
     pub pv_step : (p p' : Post) (s s' : State) → Moves post post' w p p' → Moves state state' w s s'
-        → (bare p' ≡ bare p) × (full p' ≡ full p) × (touches p' ≡ touches p) × (calls p' ≡ calls p)
+        → (bare p' ≡ bare p) × (post_full p' ≡ post_full p) × (touches p' ≡ touches p)
+        × (calls p' ≡ calls p)
         × (slowing p' ≡ slowing p) × (slow_at p' ≡ slow_at p) × (names p' ≡ names p)
         × (one_at p' ≡ one_at p)
         → (raw p' s' ≡ true → raw p s ≡ true)
@@ -117,24 +123,27 @@ module _ {locked : Locked} {entry : Option NodeName} {front : Option Waiter}
         ⊎ ((u : Waiter) × (slowing (post u) ≡ true)) ⊎ owed w)
         → (front ≡ Some w → p' ≡ Naps
         → (locked ≡ Slow) ⊎ ((u : Waiter) × (slowing (post u) ≡ true)) ⊎ owed w)
-        → ((z : Waiter) → z ≢ w → sleeps (post z) ≡ true → owed z → owed' z)
+        → ((z : Waiter) → z ≢ w → at_halt (post z) ≡ true → owed z → owed' z)
         → (p' ≡ Sleeps → owed w → owed' w) → (p' ≡ Naps → owed w → owed' w)
         → PostsAgree locked entry front post' state' own owed'
     pv_step p p' s s' moves puts same raws fit' called' dozed' slept' napped' more moreS moreN =
         record {
           fit = λ u f a b. elim (waiter_cases u w) [
-            | inl e ↦ let g = fit' f (λ q r. a q (r ∙ ap (λ z. Some z) (sym e))) (λ q. b q ∙ ap (λ z. Some z) e) in
+            | inl e ↦ let g =
+                fit' f (λ q r. a q (r ∙ ap (λ z. Some z) (sym e)))
+                (λ q. b q ∙ ap (λ z. Some z) e) in
                 rw (e, moves.now, puts.now) g
             | inr ne ↦ rw (moves.others u ne, puts.others u ne) (ok.fit u f a b)
           ];
           bare_entry = λ u h. ok.bare_entry u (sym (eq bare same.0 u) ∙ h);
           bare_slow = λ u h. ok.bare_slow u (sym (eq bare same.0 u) ∙ h);
           bare_some = λ a b. let r = ok.bare_some a b in (r.0, eq bare same.0 r.0 ∙ r.1);
-          full_entry = λ u h. ok.full_entry u (sym (eq full same.1 u) ∙ h);
-          full_slow = λ u h. ok.full_slow u (sym (eq full same.1 u) ∙ h);
-          full_some = λ n a b. let r = ok.full_some n a b in (r.0, eq full same.1 r.0 ∙ r.1);
+          full_entry = λ u h. ok.full_entry u (sym (eq post_full same.1 u) ∙ h);
+          full_slow = λ u h. ok.full_slow u (sym (eq post_full same.1 u) ∙ h);
+          full_some = λ n a b. let r = ok.full_some n a b in (r.0, eq post_full same.1 r.0 ∙ r.1);
           entered = ok.entered;
-          named = λ u n h. ok.named u n (sym (as_before post post' w p p' moves names same.6 u) ∙ h);
+          named =
+              λ u n h. ok.named u n (sym (as_before post post' w p p' moves names same.6 u) ∙ h);
           raw_slow = λ z a b. ok.raw_slow z a (raw-was z b);
           raw_free = λ z u a b. eq touches same.2 u ∙ ok.raw_free z u a (raw-was z b);
           slow = λ u h. ok.slow u (sym (eq slow_at same.5 u) ∙ h);
@@ -143,12 +152,16 @@ module _ {locked : Locked} {entry : Option NodeName} {front : Option Waiter}
             | inl e ↦ rw (e, puts.now)
                 (called' u (a ∙ ap (λ v. Some v) e) (sym (eq calls same.3 u) ∙ b)
                 (sym (ap dozes moves.now) ∙ ap (λ v. dozes (post' v)) (sym e) ∙ c))
-            | inr ne ↦ puts.others z ne ∙ ok.called z u a (sym (eq calls same.3 u) ∙ b) (ap dozes (sym (moves.others z ne)) ∙ c)
+            | inr ne ↦ puts.others z ne
+                ∙ ok.called z u a (sym (eq calls same.3 u) ∙ b)
+                (ap dozes (sym (moves.others z ne)) ∙ c)
           ];
-          dozed = λ z a b c. let r : (u : Waiter) × (calls (post u) ≡ true) = elim (waiter_cases z w) [
-            | inl e ↦ dozed' (a ∙ ap (λ v. Some v) e) (sym moves.now ∙ ap post' (sym e) ∙ b) (sym puts.now ∙ ap state' (sym e) ∙ c)
-            | inr ne ↦ ok.dozed z a (sym (moves.others z ne) ∙ b) (sym (puts.others z ne) ∙ c)
-          ] in (r.0, eq calls same.3 r.0 ∙ r.1);
+          dozed = λ z a b c.
+              let r : (u : Waiter) × (calls (post u) ≡ true) = elim (waiter_cases z w) [
+                | inl e ↦ dozed' (a ∙ ap (λ v. Some v) e) (sym moves.now ∙ ap post' (sym e) ∙ b)
+                    (sym puts.now ∙ ap state' (sym e) ∙ c)
+                | inr ne ↦ ok.dozed z a (sym (moves.others z ne) ∙ b) (sym (puts.others z ne) ∙ c)
+              ] in (r.0, eq calls same.3 r.0 ∙ r.1);
           slept = λ z a b. elim (waiter_cases z w) [
             | inl e ↦ let q : p' ≡ Sleeps = sym moves.now ∙ ap post' (sym e) ∙ b in
                 elim (slept' (a ∙ ap (λ v. Some v) e) q) [
@@ -172,7 +185,7 @@ module _ {locked : Locked} {entry : Option NodeName} {front : Option Waiter}
                         d [
                           | inl g ↦ inr (inr (inl (g.0, eq slowing same.4 g.0 ∙ g.1)))
                           | inr f ↦ inr
-                              (inr (inr (more z ne (ap sleeps (sym (moves.others z ne) ∙ b)) f)))
+                              (inr (inr (more z ne (ap at_halt (sym (moves.others z ne) ∙ b)) f)))
                         ]
                   ]
             ]
@@ -192,7 +205,7 @@ module _ {locked : Locked} {entry : Option NodeName} {front : Option Waiter}
               | inr d ↦ elim
                   d [
                     | inl g ↦ inr (inl (g.0, eq slowing same.4 g.0 ∙ g.1))
-                    | inr f ↦ inr (inr (more z ne (ap sleeps (sym (moves.others z ne) ∙ b)) f))
+                    | inr f ↦ inr (inr (more z ne (ap at_halt (sym (moves.others z ne) ∙ b)) f))
                   ]
             ]
           ];
@@ -223,10 +236,11 @@ module _ {locked : Locked} {entry : Option NodeName} {front : Option Waiter}
         | inl e ↦ e
         | inr n ↦ let q = ok.full_some n.0 n.1 l in
             let s = first met q.0 h (full-fronts (post q.0) q.1) in
-            absurd (cc (ap (λ z. full (post z)) s, ap full moves.was, q.1))
+            absurd (cc (ap (λ z. post_full (post z)) s, ap post_full moves.was, q.1))
       ] in (
         record {
-          fit = λ u f p q. grind (arith, waiter_cases u w, moves.others u, moves.now, moves.was, ok.fit u f p q);
+          fit = λ u f p q.
+              grind (arith, waiter_cases u w, moves.others u, moves.now, moves.was, ok.fit u f p q);
           bare_entry = λ u p. let q = was_true post post' w Signs Slows moves bare refl u p in
               absurd (cc (ok.raw_free w u f r, bare-touches (post u) q.1));
           bare_slow = λ u p. let q = was_true post post' w Signs Slows moves bare refl u p in
@@ -236,17 +250,22 @@ module _ {locked : Locked} {entry : Option NodeName} {front : Option Waiter}
               λ u p. elim (waiter_cases u w) [
                 | inl q ↦ ap (λ z. Some (own z)) (sym q)
                 | inr ne ↦ absurd
-                    (ne (first met u h (full-fronts (post u) (ap full (sym (moves.others u ne)) ∙ p))))
+                    (ne
+                    (first met u h (full-fronts (post u)
+                    (ap post_full (sym (moves.others u ne)) ∙ p))))
               ];
           full_slow = λ u p. l;
           full_some = λ n p q. (w, rw moves.now refl);
           entered = λ n p. (w, f, (let q : own w ≡ n = cc p in q));
-          named = λ u n p. ok.named u n (sym (as_before post post' w Signs Slows moves names refl u) ∙ p);
+          named = λ u n p.
+              ok.named u n (sym (as_before post post' w Signs Slows moves names refl u) ∙ p);
           raw_slow = λ z p q. l;
-          raw_free = λ z u p q. as_before post post' w Signs Slows moves touches refl u ∙ ok.raw_free w u f r;
+          raw_free = λ z u p q. as_before post post' w Signs Slows moves touches refl u
+              ∙ ok.raw_free w u f r;
           slow = λ u p. ok.slow u (was_true post post' w Signs Slows moves slow_at refl u p).1;
           one = λ u p. ok.one u (was_true post post' w Signs Slows moves one_at refl u p).1;
-          called = λ z u p q d. let e : z ≡ w = cc (p, f) in absurd (cc (ap (λ v. dozes (post' v)) e, ap dozes moves.now, d));
+          called = λ z u p q d. let e : z ≡ w = cc (p, f) in
+              absurd (cc (ap (λ v. dozes (post' v)) e, ap dozes moves.now, d));
           dozed = λ z p q d. let e : z ≡ w = cc (p, f) in absurd (cc (ap post' e, moves.now, q));
           slept = λ z p q. let e : z ≡ w = cc (p, f) in absurd (cc (ap post' e, moves.now, q));
           napped = λ z p q. let e : z ≡ w = cc (p, f) in absurd (cc (ap post' e, moves.now, q));
@@ -263,18 +282,20 @@ module _ {locked : Locked} {entry : Option NodeName} {front : Option Waiter}
       let f = leads w h in
       let r : raw (post w) (state w) ≡ true = rw moves.was refl in
       let e = ok.full_entry w (rw moves.was refl) in
-      let n : (full p' ≡ false) × (bare p' ≡ false) × (touches p' ≡ false) × (one_at p'
+      let n : (post_full p' ≡ false) × (bare p' ≡ false) × (touches p' ≡ false) × (one_at p'
       ≡ false) × (names p' ≡ None) × (dozes p' ≡ false) × (raw p' (state w) ≡ false) × (p'
       ≢ Dozes) × (p' ≢ Sleeps) × (p' ≢ Naps) × (calls p' ≡ false) = grind (arith, way) in
       record {
-        fit = λ u f p q. grind (arith, waiter_cases u w, moves.others u, moves.now, moves.was, way, ok.fit u f p q);
+        fit = λ u f p q.
+            grind
+            (arith, waiter_cases u w, moves.others u, moves.now, moves.was, way, ok.fit u f p q);
         bare_entry = λ u p. let q = was_true post post' w Slows p' moves bare n.1 u p in
             absurd (cc (ok.raw_free w u f r, bare-touches (post u) q.1));
         bare_slow = λ u p. refl;
         bare_some = λ p q. absurd (cc (p, e));
-        full_entry = λ u p. let q = was_true post post' w Slows p' moves full n.0 u p in
+        full_entry = λ u p. let q = was_true post post' w Slows p' moves post_full n.0 u p in
             absurd (q.0 (first met u h (full-fronts (post u) q.1)));
-        full_slow = λ u p. let q = was_true post post' w Slows p' moves full n.0 u p in
+        full_slow = λ u p. let q = was_true post post' w Slows p' moves post_full n.0 u p in
             absurd (q.0 (first met u h (full-fronts (post u) q.1)));
         full_some = λ m p q. absurd (q refl);
         entered = ok.entered;
@@ -294,12 +315,15 @@ module _ {locked : Locked} {entry : Option NodeName} {front : Option Waiter}
               q,
             ));
         slow = λ u p. refl;
-        one = λ u p. let q = was_true post post' w Slows p' moves one_at n.3 u p in elim (one_at-cases (post u) q.1) [
-          | inl a ↦ absurd (q.0 (first met u h a))
-          | inr b ↦ absurd (cc (ok.raw_free w u f r, b))
-        ];
-        called = λ z u p q d. let e : z ≡ w = cc (p, f) in absurd (cc (ap (λ v. dozes (post' v)) e, ap dozes moves.now, n.5, d));
-        dozed = λ z p q d. let e : z ≡ w = cc (p, f) in absurd (n.7 (sym moves.now ∙ ap post' (sym e) ∙ q));
+        one = λ u p. let q = was_true post post' w Slows p' moves one_at n.3 u p in
+            elim (one_at-cases (post u) q.1) [
+              | inl a ↦ absurd (q.0 (first met u h a))
+              | inr b ↦ absurd (cc (ok.raw_free w u f r, b))
+            ];
+        called = λ z u p q d. let e : z ≡ w = cc (p, f) in
+            absurd (cc (ap (λ v. dozes (post' v)) e, ap dozes moves.now, n.5, d));
+        dozed = λ z p q d.
+            let e : z ≡ w = cc (p, f) in absurd (n.7 (sym moves.now ∙ ap post' (sym e) ∙ q));
         slept = λ z p q. inl refl;
         napped = λ z p q. inl refl;
       }
@@ -308,30 +332,37 @@ module _ {locked : Locked} {entry : Option NodeName} {front : Option Waiter}
   pub e8_plain : Moves post post' w Wins Erases → PostsAgree Held entry front post' state own owed
   e8_plain moves =
       let h : fronts (post w) ≡ true = rw moves.was refl in
-      let g : holds (post w) ≡ true = rw moves.was refl in
+      let g : post_holds (post w) ≡ true = rw moves.was refl in
       let f = leads w h in
       let l = ok.slow w (rw moves.was refl) in
       let e : entry ≡ Some (own w) = elim (some-cases entry) [
         | inl none ↦ let q = ok.bare_some none l in
             let s = only q.0 w (bare-holds (post q.0) q.1) g in
             absurd (cc (ap (λ z. bare (post z)) s, ap bare moves.was, q.1))
-        | inr n ↦ let q = ok.entered n.0 n.1 in let s : q.0 ≡ w = cc (q.1, f) in n.1 ∙ ap (λ z. Some z) (sym q.2 ∙ ap own s)
+        | inr n ↦ let q = ok.entered n.0 n.1 in let s : q.0 ≡ w = cc (q.1, f) in
+            n.1 ∙ ap (λ z. Some z) (sym q.2 ∙ ap own s)
       ] in
       record {
-        fit = λ u f p q. grind (arith, waiter_cases u w, moves.others u, moves.now, moves.was, ok.fit u f p q);
-        bare_entry = λ u p. let q = was_true post post' w Wins Erases moves bare refl u p in absurd (lone met bare bare-holds g u q.0 q.1);
-        bare_slow = λ u p. let q = was_true post post' w Wins Erases moves bare refl u p in absurd (lone met bare bare-holds g u q.0 q.1);
+        fit = λ u f p q.
+            grind (arith, waiter_cases u w, moves.others u, moves.now, moves.was, ok.fit u f p q);
+        bare_entry = λ u p. let q = was_true post post' w Wins Erases moves bare refl u p in
+            absurd (lone met bare bare-holds g u q.0 q.1);
+        bare_slow = λ u p. let q = was_true post post' w Wins Erases moves bare refl u p in
+            absurd (lone met bare bare-holds g u q.0 q.1);
         bare_some = λ p q. cc q;
         full_entry =
             λ u p. elim (waiter_cases u w) [
               | inl q ↦ e ∙ ap (λ z. Some (own z)) (sym q)
               | inr ne ↦ absurd
-                  (ne (first met u h (full-fronts (post u) (ap full (sym (moves.others u ne)) ∙ p))))
+                  (ne
+                  (first met u h (full-fronts (post u)
+                  (ap post_full (sym (moves.others u ne)) ∙ p))))
             ];
         full_slow = λ u p q. cc q;
         full_some = λ n p q. (w, rw moves.now refl);
         entered = ok.entered;
-        named = λ u m p. ok.named u m (sym (as_before post post' w Wins Erases moves names refl u) ∙ p);
+        named =
+            λ u m p. ok.named u m (sym (as_before post post' w Wins Erases moves names refl u) ∙ p);
         raw_slow = λ z p q r. cc r;
         raw_free = λ z u p q. let e : z ≡ w = cc (p, f) in
             absurd (cc (
@@ -342,7 +373,8 @@ module _ {locked : Locked} {entry : Option NodeName} {front : Option Waiter}
         slow = λ u p. let q = was_true post post' w Wins Erases moves slow_at refl u p in
             absurd (lone met slow_at slow_at-holds g u q.0 q.1);
         one = λ u p. refl;
-        called = λ z u p q d. let e : z ≡ w = cc (p, f) in absurd (cc (ap (λ v. dozes (post' v)) e, ap dozes moves.now, d));
+        called = λ z u p q d. let e : z ≡ w = cc (p, f) in
+            absurd (cc (ap (λ v. dozes (post' v)) e, ap dozes moves.now, d));
         dozed = λ z p q d. let e : z ≡ w = cc (p, f) in absurd (cc (ap post' e, moves.now, q));
         slept = λ z p q. let e : z ≡ w = cc (p, f) in absurd (cc (ap post' e, moves.now, q));
         napped = λ z p q. let e : z ≡ w = cc (p, f) in absurd (cc (ap post' e, moves.now, q));
@@ -353,20 +385,23 @@ module _ {locked : Locked} {entry : Option NodeName} {front : Option Waiter}
       → PostsAgree locked None front post' state own owed × (entry ≡ Some (own w))
   e9_erase moves =
       let h : fronts (post w) ≡ true = rw moves.was refl in
-      let g : holds (post w) ≡ true = rw moves.was refl in
+      let g : post_holds (post w) ≡ true = rw moves.was refl in
       let f = leads w h in
       let l = ok.full_slow w (rw moves.was refl) in (
         record {
-          fit = λ u f p q. grind (arith, waiter_cases u w, moves.others u, moves.now, moves.was, ok.fit u f p q);
+          fit = λ u f p q.
+              grind (arith, waiter_cases u w, moves.others u, moves.now, moves.was, ok.fit u f p q);
           bare_entry = λ u p. refl;
-          bare_slow = λ u p. let q = was_true post post' w Erases Has moves bare refl u p in absurd (lone met bare bare-holds g u q.0 q.1);
+          bare_slow = λ u p. let q = was_true post post' w Erases Has moves bare refl u p in
+              absurd (lone met bare bare-holds g u q.0 q.1);
           bare_some = λ p q. absurd (l q);
-          full_entry = λ u p. let q = was_true post post' w Erases Has moves full refl u p in
+          full_entry = λ u p. let q = was_true post post' w Erases Has moves post_full refl u p in
               absurd (q.0 (first met u h (full-fronts (post u) q.1)));
           full_slow = λ u p. l;
           full_some = λ m p. cc p;
           entered = λ m p. cc p;
-          named = λ u m p. ok.named u m (sym (as_before post post' w Erases Has moves names refl u) ∙ p);
+          named = λ u m p.
+              ok.named u m (sym (as_before post post' w Erases Has moves names refl u) ∙ p);
           raw_slow = λ z p q. l;
           raw_free = λ z u p q. let e : z ≡ w = cc (p, f) in
               absurd (cc (
@@ -374,9 +409,11 @@ module _ {locked : Locked} {entry : Option NodeName} {front : Option Waiter}
                 ap (λ d. raw d (state w)) moves.now,
                 q,
               ));
-          slow = λ u p. let q = was_true post post' w Erases Has moves slow_at refl u p in ok.slow u q.1;
+          slow = λ u p.
+              let q = was_true post post' w Erases Has moves slow_at refl u p in ok.slow u q.1;
           one = λ u p. not_slow locked l (taken w g);
-          called = λ z u p q d. let e : z ≡ w = cc (p, f) in absurd (cc (ap (λ v. dozes (post' v)) e, ap dozes moves.now, d));
+          called = λ z u p q d. let e : z ≡ w = cc (p, f) in
+              absurd (cc (ap (λ v. dozes (post' v)) e, ap dozes moves.now, d));
           dozed = λ z p q d. let e : z ≡ w = cc (p, f) in absurd (cc (ap post' e, moves.now, q));
           slept = λ z p q. let e : z ≡ w = cc (p, f) in absurd (cc (ap post' e, moves.now, q));
           napped = λ z p q. let e : z ≡ w = cc (p, f) in absurd (cc (ap post' e, moves.now, q));

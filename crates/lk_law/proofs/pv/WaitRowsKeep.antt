@@ -109,7 +109,9 @@ waiter_spin_keeps =
 
 module _ {a : Acting} (at : StandsIn true a W2) where
   abbrev StateKept : Effect State → Type 0
-  StateKept o = Kept a (lead_on (stores_state a.world (node_of a.frame.prev) o.stores) a.by a.frame o.leads) o.tells
+  StateKept o =
+      Kept a (lead_on (stores_state a.world (node_of a.frame.prev) o.stores) a.by a.frame o.leads)
+      o.tells
 
   stops : Kept a (lead_on a.world a.by a.frame (Goes W3 [])) Nothing
   stops =
@@ -167,7 +169,8 @@ module _ {a : Acting} (at : StandsIn true a W2) where
 pub waiter_watch_keeps : SpinRowKeeps W2
 waiter_watch_keeps =
     row_keeps_halting W2 refl (λ a at goes.
-    if_cases (StateKept at) (is_running (a.world.node (node_of a.frame.prev)).state) (peer_again a.frame) (looks W3)
+    if_cases (StateKept at) (is_running (a.world.node (node_of a.frame.prev)).state)
+    (peer_again a.frame) (looks W3)
     (λ e. if_cases (StateKept at) (a.frame.left - 1 == 0) (learns W3 (Left 0))
     (learns W1 (Left (a.frame.left - 1))) (λ z. stops_late at) (turns_again at))
     (λ e. stops at))
@@ -211,7 +214,9 @@ waiter_say_halted_keeps = row_keeps_halting W3 refl (λ a at goes. says_halted a
 
 module _ {a : Acting} (at : StandsIn true a W4) where
   abbrev SeenKept : Effect Flag → Type 0
-  SeenKept o = Kept a (lead_on (stores_flag a.world (node_of a.frame.me) o.stores) a.by a.frame o.leads) o.tells
+  SeenKept o =
+      Kept a (lead_on (stores_flag a.world (node_of a.frame.me) o.stores) a.by a.frame o.leads)
+      o.tells
 
   stirs_early : Kept a (lead_on a.world a.by a.frame (Goes W7 [])) Nothing
   stirs_early =
@@ -331,7 +336,8 @@ module _ {a : Acting} (at : StandsIn true a W6) where
       (fit_halting at at.kind g W6 refl refl refl refl (λ e. cc) (λ e. cc)
       (λ q. (fit_here at).choice.peer W6 at.place refl) (λ e. cc) (λ e. cc))
       (Says (what.Halt l))
-      (law_halt a.by l (hm_same at refl t refl refl refl refl refl refl refl refl refl (λ p. refl) (λ p. refl) (λ k e. cc e)))
+      (law_halt a.by l (hm_same at refl t refl refl refl refl refl refl refl refl refl (λ p. refl)
+      (λ p. refl) (λ k e. cc e)))
       (allow_halt a.rules at.sound.agrees a.by l)
 
 pub waiter_halt_keeps : SpinRowKeeps W6
@@ -341,7 +347,9 @@ waiter_halt_keeps = row_keeps_halting W6 refl (λ a at goes. halts_here at)
 
 module _ {a : Acting} (at : StandsIn true a W7) where
   abbrev WakeKept : Effect State → Type 0
-  WakeKept o = Kept a (lead_on (stores_state a.world (node_of a.frame.me) o.stores) a.by a.frame o.leads) o.tells
+  WakeKept o =
+      Kept a (lead_on (stores_state a.world (node_of a.frame.me) o.stores) a.by a.frame o.leads)
+      o.tells
 
   runs_again : is_halted (a.world.node (node_of a.frame.me)).state ≡ true
       → Kept a (lead_on

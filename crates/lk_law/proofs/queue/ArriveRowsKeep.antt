@@ -31,9 +31,10 @@ use Rattle.lk_law.proofs.common.Users.{some_is}
 use Rattle.lk_law.proofs.common.Choices.{fixed_choice}
 use Rattle.lk_law.proofs.common.TurnSteps.{turn_kept, word_plain}
 use Rattle.lk_law.proofs.common.Turns.{same_turn, word_turn}
-use Rattle.lk_law.proofs.common.Acting.{Acting, Stands, StandsIn, Kept, KeepsIn, spin_row_keeps}
+use Rattle.lk_law.proofs.common.Acting.{Acting, StandsAwake, StandsIn, Kept, KeepsIn}
+use Rattle.lk_law.proofs.common.Acting.{spin_row_keeps}
 use Rattle.lk_law.proofs.common.Acting.{fit_here, phase_here, phase_shown, own_here, slow_here}
-use Rattle.lk_law.proofs.common.Acting.{IsAlike, looks_kept, Going, going_step, going_stays}
+use Rattle.lk_law.proofs.common.Acting.{ReadAlike, looks_kept, Going, going_step, going_stays}
 use Rattle.lk_law.proofs.common.Acting.{goes_kept, LeadsTo, gone_on, word_going, look_going}
 use Rattle.lk_law.proofs.common.Acting.{node_going, going_word, awake_here}
 use Rattle.lk_machine.specs.declared.parts.Flag.TheVariants as flag
@@ -54,7 +55,8 @@ none_second (Some n) h = cc
 -- the frame has a node, which is shown as its own
 pub own_node_here : {b : Bool} {a : Acting} {c : Pc} (at : StandsIn b a c)
     → has_node (phase_of a.frame) ≡ true → a.frame.me ≡ Some ((snapshot a.world).own a.by)
-own_node_here {a = a} at noded = some_is a.frame.me ((fit_here at).me noded) ∙ ap Some (sym (own_here at))
+own_node_here {a = a} at noded =
+    some_is a.frame.me ((fit_here at).me noded) ∙ ap Some (sym (own_here at))
 
 -- G4
 
@@ -88,7 +90,7 @@ to_lead f = record {
   plainly = λ e. cc;
 }
 
-module _ {a : Acting} (at : Stands a G4) where
+module _ {a : Acting} (at : StandsAwake a G4) where
   -- it has not heard of a second queue
   unheard : a.frame.second ≡ None
   unheard = (fit_here at).choice.unaware G4 at.place refl
@@ -107,11 +109,15 @@ module _ {a : Acting} (at : Stands a G4) where
 
   -- it joins the queue, and goes on
   abbrev ArriveKept : Lead → Type 0
-  ArriveKept lead = Kept a (lead_on (put_word a.world a.frame.lock joined) a.by a.frame lead) (Says (Arrive a.frame.lock))
+  ArriveKept lead =
+      Kept a (lead_on (put_word a.world a.frame.lock joined) a.by a.frame lead)
+      (Says (Arrive a.frame.lock))
 
   arrive_first : (a.world.word a.frame.lock).tail ≡ None → ArriveKept (Goes G7 [])
   arrive_first none =
-      let on = going_word (word_going at (to_lead a.frame) joined (at.sound.plain.byte at.kind a.frame.lock)) joined_is in
+      let on =
+      going_word (word_going at (to_lead a.frame) joined (at.sound.plain.byte at.kind a.frame.lock))
+      joined_is in
       goes_kept at on (Says (Arrive a.frame.lock))
       (law_arrive at.sound.agrees (awake_here at) (going_step at on) (going_stays on)
       (λ n. refl) (turn_kept on.turn ∙ unheard) (inl (none, refl)))
@@ -187,10 +193,13 @@ link_awake =
     let p = node_of a.frame.prev in
     let y : Node = record (m.node p) { next = a.frame.me } in
     let on = node_going at (to_wait a.frame) p y (λ flat. at.sound.plain.flag flat p) in
-    subst (λ (lead : Lead). Kept a (lead_on (put_node m p y) a.by a.frame lead) Nothing) (sym (linked_is m.mode m.turns at.kind))
+    subst (λ (lead : Lead). Kept a (lead_on (put_node m p y) a.by a.frame lead) Nothing)
+    (sym (linked_is m.mode m.turns at.kind))
     (goes_kept at on Nothing
-    (law_link at.sound.agrees (awake_here at) (going_step at on) (going_stays on) (put_rewrites m.node p y)
-    (ap (λ (o : Option NodeName). record (m.node p) { next = o }) (own_node_here at (ap has_node (phase_here at))))) tt))
+    (law_link at.sound.agrees (awake_here at) (going_step at on) (going_stays on)
+    (put_rewrites m.node p y)
+    (ap (λ (o : Option NodeName). record (m.node p) { next = o })
+    (own_node_here at (ap has_node (phase_here at))))) tt))
 
 -- G6
 
@@ -211,7 +220,7 @@ to_front f =
     }
 
 pub alike_self : (c : Pc) → c ≢ G5 → c ≢ G11 → chooses c ≡ false → may_halt c ≡ false
-    → ((f : Frame) → post_at c f ≡ Off) → IsAlike c c
+    → ((f : Frame) → post_at c f ≡ Off) → ReadAlike c c
 alike_self c unlinked unhanded fixed awake off =
     record {
       post = λ f. off _ ∙ sym (off f);
@@ -226,7 +235,7 @@ alike_self c unlinked unhanded fixed awake off =
       plainly = λ q. q;
     }
 
-module _ {a : Acting} (at : Stands a G6) where
+module _ {a : Acting} (at : StandsAwake a G6) where
   abbrev mine : NodeName
   mine = node_of a.frame.me
 
@@ -234,7 +243,8 @@ module _ {a : Acting} (at : Stands a G6) where
   FlagKept o = Kept a (lead_on (stores_flag a.world mine o.stores) a.by a.frame o.leads) o.tells
 
   wait_kept : (x : Flag) → (a.world.node mine).flag ≡ x → FlagKept (after_flag x)
-  wait_kept flag.Unset e = looks_kept at G6 (alike_self G6 (λ q. grind arith) (λ q. grind arith) refl refl (λ f. refl))
+  wait_kept flag.Unset e =
+      looks_kept at G6 (alike_self G6 (λ q. grind arith) (λ q. grind arith) refl refl (λ f. refl))
   wait_kept flag.Go e =
       let on = look_going at (to_front a.frame) in
       let lead : leads Waits ((a.world.node ((snapshot a.world).own a.by)).flag) ≡ true =
@@ -269,11 +279,14 @@ module _ {a : Acting} (at : Stands a G6) where
       let lead : leads Waits ((a.world.node ((snapshot a.world).own a.by)).flag) ≡ true =
       ap (λ (n : NodeName). leads Waits ((a.world.node n).flag)) (own_here at)
       ∙ ap (leads Waits) e in
-      let named : (snapshot (gone_on a a.world g)).kept a.by ≡ node_in ((a.world.node ((snapshot a.world).own a.by)).flag) =
-      turn_kept on.turn ∙ sym (ap (λ (n : NodeName). node_in ((a.world.node n).flag)) (own_here at) ∙ ap node_in e) in
+      let named : (snapshot (gone_on a a.world g)).kept a.by ≡ node_in
+      ((a.world.node ((snapshot a.world).own a.by)).flag) =
+      turn_kept on.turn
+      ∙ sym (ap (λ (n : NodeName). node_in ((a.world.node n).flag)) (own_here at) ∙ ap node_in e) in
       goes_kept at on Nothing
       (law_lead at.sound.agrees (awake_here at) (going_step at on) (going_stays on) (λ n. refl)
       lead named (inl (refl, refl))) tt
 
 pub wait_keeps : SpinRowKeeps G6
-wait_keeps = spin_row_keeps G6 refl (λ a at goes. wait_kept at (a.world.node (node_of a.frame.me)).flag refl)
+wait_keeps =
+    spin_row_keeps G6 refl (λ a at goes. wait_kept at (a.world.node (node_of a.frame.me)).flag refl)

@@ -23,11 +23,14 @@ use Rattle.lk_law.proofs.spin.Laws.{SameNodes, lists_outside}
 abbrev pub next_node : Snapshot → Waiter → NodeName
 next_node s w = record { cpu = w.cpu; index = s.queued w.cpu }
 
-module _ {s s' : Snapshot} {w : Waiter} (nodes : NodesAgree s.phase s.own s.slow s.queued) (enters : EntersSlowPath s s' w) where
+module _ {s s' : Snapshot} {w : Waiter} (nodes : NodesAgree s.phase s.own s.slow s.queued)
+    (enters : EntersSlowPath s s' w) where
   -- a node in use is not the one that the waiter gets
   pub enter_used : Rewrites s.node s'.node (next_node s w) rest_node → (k : LockName) (u : Waiter)
       → has_node (s.phase k u) ≡ true → s'.node (s.own u) ≡ s.node (s.own u)
-  enter_used writes k u p = writes.others (s.own u) (node_used nodes w enters.slow.was enters.on_top.top enters.on_top.low k u p)
+  enter_used writes k u p =
+      writes.others (s.own u)
+      (node_used nodes w enters.slow.was enters.on_top.top enters.on_top.low k u p)
 
   enter_counted : (p : ℕ) → s'.queued p ≡ before s'.slow p 6
   enter_counted p =
@@ -36,7 +39,8 @@ module _ {s s' : Snapshot} {w : Waiter} (nodes : NodesAgree s.phase s.own s.slow
             subst P (sym e)
             (let d = before_grow s.slow s'.slow w 6 enters.slow enters.on_top.low in
             let c = nodes.counted w.cpu in let z = enters.here in omega arith)
-        | inr ne ↦ enters.queued p ne ∙ nodes.counted p ∙ sym (before_else s.slow s'.slow w false true p 6 enters.slow ne)
+        | inr ne ↦ enters.queued p ne ∙ nodes.counted p
+            ∙ sym (before_else s.slow s'.slow w false true p 6 enters.slow ne)
       ]
 
   -- the waiters below see the same number
@@ -65,10 +69,13 @@ module _ {s s' : Snapshot} {w : Waiter} (nodes : NodesAgree s.phase s.own s.slow
   enter_number : before s'.slow w.cpu w.ctx ≡ s.queued w.cpu
   enter_number =
       let below = before_same s.slow s'.slow w.cpu w.ctx
-      (λ d lt. enters.slow.others (record { cpu = w.cpu; ctx = d }) (λ q. let z = ap (λ (v : Waiter). v.ctx) q in omega arith)) in
+      (λ d lt.
+      enters.slow.others (record { cpu = w.cpu; ctx = d }) (λ q.
+      let z = ap (λ (v : Waiter). v.ctx) q in omega arith)) in
       let off : (d : ℕ) → w.ctx ≤ d → s.slow (record { cpu = w.cpu; ctx = d }) ≡ false =
       λ d le. elim (cases_eq w.ctx d) [
-        | inl q ↦ let P : ℕ → Type 0 = λ n. s.slow (record { cpu = w.cpu; ctx = n }) ≡ false in subst P q enters.slow.was
+        | inl q ↦ let P : ℕ → Type 0 = λ n. s.slow (record { cpu = w.cpu; ctx = n }) ≡ false in
+            subst P q enters.slow.was
         | inr n ↦ enters.on_top.top d (omega arith)
       ] in
       let all = before_top s.slow w.cpu w.ctx 6 off (let z = enters.on_top.low in omega arith) in
@@ -97,7 +104,8 @@ module _ {s s' : Snapshot} {w : Waiter} (nodes : NodesAgree s.phase s.own s.slow
           elim (waiter_cases u w) [
             | inl e ↦ subst P (sym e) here
             | inr ne ↦ there (elim (lock_cases k l) [
-              | inl e ↦ let Q : LockName → Type 0 = λ m. has_node (s'.phase m u) ≡ true → has_node (s.phase m u) ≡ true in
+              | inl e ↦ let Q : LockName → Type 0 =
+                  λ m. has_node (s'.phase m u) ≡ true → has_node (s.phase m u) ≡ true in
                   subst Q (sym e) (λ q. rw (step.acts.others u ne) at q) p
               | inr nk ↦ rw (step.phases k nk u) at p
             ])
@@ -107,15 +115,18 @@ module _ {s s' : Snapshot} {w : Waiter} (nodes : NodesAgree s.phase s.own s.slow
   pub nodes_enter_bare : {l : LockName} → Step s s' w l Seeks Seeks (s.word l) false false
       → NodesAgree s'.phase s'.own s'.slow s'.queued
   nodes_enter_bare step =
-      let old : (k : LockName) (u : Waiter) → has_node (s'.phase k u) ≡ true → has_node (s.phase k u) ≡ true = noded step (λ p. p) in
+      let old : (k : LockName) (u : Waiter) → has_node (s'.phase k u) ≡ true
+      → has_node (s.phase k u) ≡ true = noded step (λ p. p) in
       record {
         counted = enter_counted;
         slowly = λ k u p. enter_slowly k u (old k u p);
         below = λ k u p. rw (enter_below k u (old k u p)) (nodes.below k u (old k u p));
-        placed = λ k u p. step.owns u (enter_else k u (old k u p)) ∙ rw (enter_below k u (old k u p)) (nodes.placed k u (old k u p));
+        placed = λ k u p. step.owns u (enter_else k u (old k u p))
+            ∙ rw (enter_below k u (old k u p)) (nodes.placed k u (old k u p));
       }
 
-module _ {s s' : Snapshot} {hs : LockName → LockHistory} {w : Waiter} {l : LockName} (ok : SnapshotAgrees s hs) where
+module _ {s s' : Snapshot} {hs : LockName → LockHistory} {w : Waiter} {l : LockName}
+    (ok : SnapshotAgrees s hs) where
   -- The waiter enters with a node, which is at rest then.
   pub law_enter_as : Step s s' w l Seeks Prepared (s.word l) false false → EntersSlowPath s s' w
       → s.queued w.cpu < 4 → s'.own w ≡ next_node s w
@@ -128,7 +139,9 @@ module _ {s s' : Snapshot} {hs : LockName → LockHistory} {w : Waiter} {l : Loc
       (record {
         holder = o.holder;
         holders = o.holders;
-        hold = rw step.word (hold_keep o.hold step.acts step.holds refl (λ p. refl) (λ p. absurd (grind arith)));
+        hold =
+            rw step.word (hold_keep o.hold step.acts step.holds refl (λ p. refl)
+            (λ p. absurd (grind arith)));
         pend = rw step.word (pend_still o.pend step.acts refl refl refl);
         posts = posts;
         lists = rw step.word (lists_outside ok step refl refl (λ p. rw gets writes.now)
@@ -142,11 +155,14 @@ module _ {s s' : Snapshot} {hs : LockName → LockHistory} {w : Waiter} {l : Loc
       → SameNodes s s' → (halts s'.mode ≡ true → ParaAgrees s' (hs l) l) → SnapshotAgrees s' hs
   law_enter_bare_as step enters nodes posts =
       let o = ok.locks l in
-      agrees_after step ok hs (nodes_enter_bare ok.nodes enters step) (λ k u ne p. nodes (s.own u)) (λ k ne. refl)
+      agrees_after step ok hs (nodes_enter_bare ok.nodes enters step) (λ k u ne p. nodes (s.own u))
+      (λ k ne. refl)
       (record {
         holder = o.holder;
         holders = o.holders;
-        hold = rw step.word (hold_keep o.hold step.acts step.holds refl (λ p. refl) (λ p. absurd (grind arith)));
+        hold =
+            rw step.word (hold_keep o.hold step.acts step.holds refl (λ p. refl)
+            (λ p. absurd (grind arith)));
         pend = rw step.word (pend_still o.pend step.acts refl refl refl);
         posts = posts;
         lists = rw step.word
@@ -160,9 +176,11 @@ module _ {s s' : Snapshot} {hs : LockName → LockHistory} {w : Waiter} {l : Loc
   pub law_enter : Step s s' w l Seeks Prepared (s.word l) false false → EntersSlowPath s s' w
       → s.queued w.cpu < 4 → s'.own w ≡ next_node s w
       → Rewrites s.node s'.node (next_node s w) rest_node → SnapshotAgrees s' hs
-  law_enter step enters room gets writes = law_enter_as ok step enters room gets writes (λ e. no_posts step awake e)
+  law_enter step enters room gets writes =
+      law_enter_as ok step enters room gets writes (λ e. no_posts step awake e)
 
   -- The waiter enters without a node, and seeks on.
   pub law_enter_bare : Step s s' w l Seeks Seeks (s.word l) false false → EntersSlowPath s s' w
       → SameNodes s s' → SnapshotAgrees s' hs
-  law_enter_bare step enters nodes = law_enter_bare_as ok step enters nodes (λ e. no_posts step awake e)
+  law_enter_bare step enters nodes =
+      law_enter_bare_as ok step enters nodes (λ e. no_posts step awake e)

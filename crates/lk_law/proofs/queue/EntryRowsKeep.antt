@@ -49,8 +49,9 @@ use Rattle.lk_law.proofs.common.TurnSteps.{word_plain}
 use Rattle.lk_law.proofs.common.TurnSteps.{node_plain, queued_plain, turn_step, turn_enters}
 use Rattle.lk_law.proofs.common.TurnSteps.{turn_own}
 use Rattle.lk_law.proofs.common.TurnSteps.{turn_sound}
-use Rattle.lk_law.proofs.common.Acting.{Acting, Stands, Kept, KeepsIn, spin_row_keeps, phase_here}
-use Rattle.lk_law.proofs.common.Acting.{phase_shown, slow_here, held_not, IsAlike, looks_kept}
+use Rattle.lk_law.proofs.common.Acting.{Acting, StandsAwake, Kept, KeepsIn, spin_row_keeps}
+use Rattle.lk_law.proofs.common.Acting.{phase_here}
+use Rattle.lk_law.proofs.common.Acting.{phase_shown, slow_here, held_not, ReadAlike, looks_kept}
 use Rattle.lk_law.proofs.common.Acting.{left_place, Ending, ending_step, ending_leaves, ends_kept}
 use Rattle.lk_law.proofs.common.Acting.{counted_off, awake_here, awake_post}
 use Rattle.lk_law.proofs.spin.RowsKeep.{WordKept, free_word}
@@ -69,7 +70,7 @@ entry_without Native awake = refl
 entry_without Cna awake = refl
 entry_without Pv awake = cc
 
-module _ {a : Acting} (at : Stands a G1) where
+module _ {a : Acting} (at : StandsAwake a G1) where
   abbrev number : ℕ
   number = a.world.queued a.by.cpu
 
@@ -163,7 +164,8 @@ module _ {a : Acting} (at : Stands a G1) where
         next = λ e. absurd (grind arith);
         choice = fixed_choice g N1 refl refl refl (λ e. at.kind) (λ e. refl) (λ e. cc);
       } in (
-        turn_sound t at.sound at.newest (awake_post at) (queued_plain m a.by.cpu (number + 1) at.sound.plain) fit
+        turn_sound t at.sound at.newest (awake_post at)
+            (queued_plain m a.by.cpu (number + 1) at.sound.plain) fit
             (law_enter_bare at.sound.agrees (awake_here at) step enters (λ k. refl)),
         tt,
       )
@@ -175,7 +177,9 @@ entry_awake =
     let i = a.world.queued a.by.cpu in
     if_cases (λ (me : Option NodeName). EntryKept at me (after_entry mode me)) (nat_lt i 4)
     (Some (record { cpu = a.by.cpu; index = i })) None
-    (λ room. subst (EntryKept at (Some (mine at))) (sym (entry_with mode (mine at) at.kind)) (enter_kept at room))
+    (λ room.
+    subst (EntryKept at (Some (mine at))) (sym (entry_with mode (mine at) at.kind))
+    (enter_kept at room))
     (λ full. subst (EntryKept at None) (sym (entry_without mode at.kind)) (enter_bare_kept at)))
 
 -- The row is in the slow path, and before the queue.
@@ -273,7 +277,7 @@ before_N2 = record {
   clear = refl;
 }
 
-before_alike : {c d : Pc} {r : Phase} → IsBefore c r → IsBefore d r → IsAlike c d
+before_alike : {c d : Pc} {r : Phase} → IsBefore c r → IsBefore d r → ReadAlike c d
 before_alike c d =
     record {
       phase = λ b p y. d.phase b p y ∙ sym (c.phase b p y);
@@ -288,9 +292,10 @@ before_alike c d =
       plainly = λ e. absurd (grind (arith, d.before, e));
     }
 
-module _ {a : Acting} {c : Pc} {r : Phase} (at : Stands a c) (early : IsBefore c r) where
+module _ {a : Acting} {c : Pc} {r : Phase} (at : StandsAwake a c) (early : IsBefore c r) where
   before_here : phase_of a.frame ≡ r
-  before_here = phase_here at ∙ early.phase (is_some a.frame.me) (node_of a.frame.prev) (node_of a.frame.y)
+  before_here =
+      phase_here at ∙ early.phase (is_some a.frame.me) (node_of a.frame.prev) (node_of a.frame.y)
 
   -- the free word is taken, and the frame leaves the slow path
   takes_out_kept : (h : How) → is_free (a.world.word a.frame.lock) ≡ true
@@ -306,7 +311,8 @@ module _ {a : Acting} {c : Pc} {r : Phase} (at : Stands a c) (early : IsBefore c
       record {
         turn = queued_turn a.by.cpu _ (word_turn at.live refl held_word);
         word = put_word-here m.word l held_word;
-        plain = queued_plain n a.by.cpu _ (word_plain m l held_word at.sound.plain (λ e. grind arith));
+        plain =
+            queued_plain n a.by.cpu _ (word_plain m l held_word at.sound.plain (λ e. grind arith));
         was = before_here;
         place = left_place at;
         me = refl;
@@ -335,8 +341,10 @@ look_again_keeps =
 pub swap_again_keeps : SpinRowKeeps G3
 swap_again_keeps =
     spin_row_keeps G3 refl (λ a at goes.
-    if_cases (WordKept a) (is_free (a.world.word a.frame.lock)) (takes_out a.frame how.Retry) (looks G4)
-    (λ e. takes_out_kept at before_G3 how.Retry e refl (λ p. p)) (λ e. before_kept at before_G3 G4 before_G4))
+    if_cases (WordKept a) (is_free (a.world.word a.frame.lock)) (takes_out a.frame how.Retry)
+    (looks G4)
+    (λ e. takes_out_kept at before_G3 how.Retry e refl (λ p. p))
+    (λ e. before_kept at before_G3 G4 before_G4))
 
 pub look_bare_keeps : SpinRowKeeps N1
 look_bare_keeps =
@@ -348,5 +356,7 @@ look_bare_keeps =
 pub swap_bare_keeps : SpinRowKeeps N2
 swap_bare_keeps =
     spin_row_keeps N2 refl (λ a at goes.
-    if_cases (WordKept a) (is_free (a.world.word a.frame.lock)) (takes_out a.frame how.NoNode) (looks N1)
-    (λ e. takes_out_kept at before_N2 how.NoNode e refl (λ p. p)) (λ e. before_kept at before_N2 N1 before_N1))
+    if_cases (WordKept a) (is_free (a.world.word a.frame.lock)) (takes_out a.frame how.NoNode)
+    (looks N1)
+    (λ e. takes_out_kept at before_N2 how.NoNode e refl (λ p. p))
+    (λ e. before_kept at before_N2 N1 before_N1))

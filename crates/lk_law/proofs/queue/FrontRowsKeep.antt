@@ -38,7 +38,8 @@ use Rattle.lk_law.proofs.common.Choices.{fixed_choice, first_choice}
 use Rattle.lk_law.proofs.common.TurnSteps.{turn_kept, turn_stage, word_plain, node_plain}
 use Rattle.lk_law.proofs.common.TurnSteps.{queued_plain}
 use Rattle.lk_law.proofs.common.Turns.{same_turn, word_turn, node_turn, queued_turn}
-use Rattle.lk_law.proofs.common.Acting.{Acting, Stands, Kept, spin_row_keeps, fit_here, phase_here}
+use Rattle.lk_law.proofs.common.Acting.{Acting, StandsAwake, Kept, spin_row_keeps, fit_here}
+use Rattle.lk_law.proofs.common.Acting.{phase_here}
 use Rattle.lk_law.proofs.common.Acting.{phase_shown, own_here, slow_here, held_not, looks_kept}
 use Rattle.lk_law.proofs.common.Acting.{left_place, Going, going_step, going_stays, goes_kept}
 use Rattle.lk_law.proofs.common.Acting.{Ending, ending_step, ending_leaves, ends_kept, counted_off}
@@ -81,7 +82,7 @@ to_take f = record {
   plainly = λ e. cc;
 }
 
-module _ {a : Acting} (at : Stands a G7) where
+module _ {a : Acting} (at : StandsAwake a G7) where
   stake_kept : (d : Pc) → LeadsTo a.world.mode a.frame G7 d Leads Stakes
       → (is_unlocked (a.world.word a.frame.lock).locked && not (a.world.word a.frame.lock).pending)
       ≡ true
@@ -107,7 +108,8 @@ module _ {a : Acting} (at : Stands a G7) where
       (none_second a.frame.second
       (both-true (is_node x.tail (node_of a.frame.me)) (not (is_some a.frame.second)) e).1))
       free) (λ e. stake_kept G9 (to_take a.frame) free))
-      (λ e. looks_kept at G7 (alike_self G7 (λ q. grind arith) (λ q. grind arith) refl refl (λ f. refl)))
+      (λ e.
+      looks_kept at G7 (alike_self G7 (λ q. grind arith) (λ q. grind arith) refl refl (λ f. refl)))
 
 pub wait_as_front_keeps : SpinRowKeeps G7
 wait_as_front_keeps = spin_row_keeps G7 refl (λ a at goes. front_look_kept at)
@@ -123,12 +125,14 @@ sole_word x n h = go x.locked x.pending x.tail h
         → (is_unlocked b && not p && is_node t n) ≡ true
         → ◌≡◌ {A = Fields} (record { locked = b; pending = p; tail = t })
         (record { locked = Free; pending = false; tail = Some n })
-    go Free false t h = ap (λ (o : Option NodeName). record { locked = Free; pending = false; tail = o }) (is_node-true t n h)
+    go Free false t h =
+        ap (λ (o : Option NodeName). record { locked = Free; pending = false; tail = o })
+        (is_node-true t n h)
     go Free true t h = cc
     go Held p t h = cc
     go Slow p t h = cc
 
-module _ {a : Acting} (at : Stands a G8) where
+module _ {a : Acting} (at : StandsAwake a G8) where
   sole_kept : is_sole a.frame (a.world.word a.frame.lock) ≡ true
       → WordKept a (takes_out a.frame how.Sole)
   sole_kept e =
@@ -140,7 +144,8 @@ module _ {a : Acting} (at : Stands a G8) where
       record {
         turn = queued_turn a.by.cpu _ (word_turn at.live refl held_word);
         word = put_word-here m.word l held_word;
-        plain = queued_plain n a.by.cpu _ (word_plain m l held_word at.sound.plain (λ q. grind arith));
+        plain =
+            queued_plain n a.by.cpu _ (word_plain m l held_word at.sound.plain (λ q. grind arith));
         was = phase_here at;
         place = left_place at;
         me = refl;
@@ -158,7 +163,8 @@ module _ {a : Acting} (at : Stands a G8) where
 pub take_sole_keeps : SpinRowKeeps G8
 take_sole_keeps =
     spin_row_keeps G8 refl (λ a at goes.
-    if_cases (WordKept a) (is_sole a.frame (a.world.word a.frame.lock)) (takes_out a.frame how.Sole) (looks G9) (sole_kept at)
+    if_cases (WordKept a) (is_sole a.frame (a.world.word a.frame.lock)) (takes_out a.frame how.Sole)
+    (looks G9) (sole_kept at)
     (λ e. looks_kept at G9
     (record {
       phase = λ b p y. refl;
@@ -246,7 +252,7 @@ take_head_keeps =
 
 -- G10
 
-module _ {a : Acting} (at : Stands a G10) where
+module _ {a : Acting} (at : StandsAwake a G10) where
   abbrev my_node : NodeName
   my_node = node_of a.frame.me
 
@@ -254,7 +260,8 @@ module _ {a : Acting} (at : Stands a G10) where
   NextKept o = Kept a (lead_on (stores_next a.world my_node o.stores) a.by a.frame o.leads) o.tells
 
   next_kept : (x : Option NodeName) → (a.world.node my_node).next ≡ x → NextKept (after_next x)
-  next_kept None e = looks_kept at G10 (alike_self G10 (λ q. grind arith) (λ q. grind arith) refl refl (λ f. refl))
+  next_kept None e =
+      looks_kept at G10 (alike_self G10 (λ q. grind arith) (λ q. grind arith) refl refl (λ f. refl))
   next_kept (Some n) e =
       let m = a.world in
       let g : Frame = record a.frame { y = Some n; place = Some G11 } in
@@ -270,7 +277,9 @@ module _ {a : Acting} (at : Stands a G10) where
         me = refl;
         met = λ q. absurd (grind arith);
         next = λ q. refl;
-        choice = fixed_choice g G11 refl refl refl (λ e. at.kind) (λ q. cc) (λ q. (fit_here at).choice.plainly G10 at.place refl);
+        choice =
+            fixed_choice g G11 refl refl refl (λ e. at.kind) (λ q. cc)
+            (λ q. (fit_here at).choice.plainly G10 at.place refl);
         slow = sym (slow_here at);
         queued = λ p. refl;
       } in
@@ -280,11 +289,13 @@ module _ {a : Acting} (at : Stands a G10) where
       (ap (λ (k : NodeName). (m.node k).next) (own_here at) ∙ e)) tt
 
 pub wait_for_next_keeps : SpinRowKeeps G10
-wait_for_next_keeps = spin_row_keeps G10 refl (λ a at goes. next_kept at (a.world.node (node_of a.frame.me)).next refl)
+wait_for_next_keeps =
+    spin_row_keeps G10 refl (λ a at goes.
+    next_kept at (a.world.node (node_of a.frame.me)).next refl)
 
 -- G11
 
-module _ {a : Acting} (at : Stands a G11) where
+module _ {a : Acting} (at : StandsAwake a G11) where
   abbrev next : NodeName
   next = node_of a.frame.y
 
@@ -312,7 +323,9 @@ module _ {a : Acting} (at : Stands a G11) where
       record {
         turn = queued_turn a.by.cpu _ (node_turn at.live refl next y);
         word = refl;
-        plain = queued_plain n a.by.cpu _ (node_plain m next y at.sound.plain (λ flat k q. grind arith));
+        plain =
+            queued_plain n a.by.cpu _ (node_plain m next y at.sound.plain
+            (λ flat k q. grind arith));
         was = phase_here at;
         place = left_place at;
         me = refl;

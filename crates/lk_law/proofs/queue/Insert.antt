@@ -18,29 +18,52 @@ pub insert-lists : {A : Type 0} (main : List A) (w : A) (ys : List A) → slice_
 insert-lists [] w ys h = cc
 insert-lists (x ∷ xs) w ys h = let e : x ≡ w = grind arith in ap (λ z. z ∷ ys) e
 
--- the second queue is put right behind the head
-module _ (tail tail' : Option NodeName) (phase phase' : Waiter → Phase) (own : Waiter → NodeName)
-    (node node' : NodeName → Node) (main second : List Waiter) (w s : Waiter)
+-- The second queue, which begins with s, is put right behind the front w.
+pub record PutsBack (tail tail' : Option NodeName) (phase phase' : Waiter → Phase)
+    (own : Waiter → NodeName) (node node' : NodeName → Node) (main second : List Waiter)
+    (w s : Waiter) : Type 0 where
+  pub front : slice_get main 0 ≡ Some w
+  pub held : phase w ≡ Holds
+  pub holds : phase' w ≡ Holds
+  pub first : slice_get second 0 ≡ Some s
+  pub waits : (i : ℕ) (u : Waiter)
+      → slice_get second i ≡ Some u
+      → (phase' u ≡ Waits) × (queues (phase u) ≡ false) × ((node' (own u)).flag ≡ Unset)
+  pub once : (i j : ℕ) (u : Waiter)
+      → slice_get second i ≡ Some u
+      → slice_get second j ≡ Some u
+      → i ≡ j
+  pub links : (i : ℕ) (u v : Waiter)
+      → slice_get second i ≡ Some u
+      → slice_get second (suc i) ≡ Some v
+      → (node' (own u)).next ≡ Some (own v)
+  pub head : (node' (own w)).next ≡ Some (own s)
+  -- its last names the one that stood behind w, or is the last of all
+  pub seam : (i : ℕ) (z v : Waiter)
+      → slice_get second i ≡ Some z
+      → slice_get second (suc i) ≡ None
+      → slice_get main 1 ≡ Some v
+      → (tail' ≡ tail) × (phase v ≡ Waits) × ((node' (own z)).next ≡ Some (own v))
+  pub ends : (i : ℕ) (z : Waiter)
+      → slice_get second i ≡ Some z
+      → slice_get second (suc i) ≡ None
+      → slice_get main 1 ≡ None
+      → (tail' ≡ Some (own z)) × ((node' (own z)).next ≡ None)
+  pub same : (u : Waiter)
+      → queues (phase u) ≡ true
+      → u ≢ w
+      → (phase' u ≡ phase u) × ((node' (own u)).flag ≡ (node (own u)).flag)
+      × ((node' (own u)).next ≡ (node (own u)).next)
+  pub back : (u : Waiter)
+      → queues (phase' u) ≡ true
+      → (queues (phase u) ≡ true) ⊎ ((i : ℕ) × (slice_get second i ≡ Some u))
+  pub fresh : (u : Waiter) → phase' u ≡ Prepared → node' (own u) ≡ rest_node
+
+module _ {tail tail' : Option NodeName} {phase phase' : Waiter → Phase} {own : Waiter → NodeName}
+    {node node' : NodeName → Node} {main second : List Waiter} {w s : Waiter}
     (ok : QueueAgrees tail phase own node main)
-    (at_w : slice_get main 0 ≡ Some w) (owner : phase w ≡ Holds) (owner' : phase' w ≡ Holds)
-    (at_s : slice_get second 0 ≡ Some s)
-    (waits : (i : ℕ) (u : Waiter) → slice_get second i ≡ Some u
-    → (phase' u ≡ Waits) × (queues (phase u) ≡ false) × ((node' (own u)).flag ≡ Unset))
-    (onces : (i j : ℕ) (u : Waiter) → slice_get second i ≡ Some u → slice_get second j ≡ Some u → i ≡ j)
-    (links : (i : ℕ) (u v : Waiter) → slice_get second i ≡ Some u
-    → slice_get second (suc i) ≡ Some v → (node' (own u)).next ≡ Some (own v))
-    (head : (node' (own w)).next ≡ Some (own s))
-    (seam : (i : ℕ) (z v : Waiter) → slice_get second i ≡ Some z → slice_get second (suc i) ≡ None
-    → slice_get main 1 ≡ Some v
-    → (tail' ≡ tail) × (phase v ≡ Waits) × ((node' (own z)).next ≡ Some (own v)))
-    (ends : (i : ℕ) (z : Waiter) → slice_get second i ≡ Some z → slice_get second (suc i) ≡ None
-    → slice_get main 1 ≡ None → (tail' ≡ Some (own z)) × ((node' (own z)).next ≡ None))
-    (same : (u : Waiter) → queues (phase u) ≡ true → u ≢ w
-    → (phase' u ≡ phase u) × ((node' (own u)).flag ≡ (node (own u)).flag)
-    × ((node' (own u)).next ≡ (node (own u)).next))
-    (back : (u : Waiter) → queues (phase' u) ≡ true → (queues (phase u) ≡ true) ⊎ ((i : ℕ) × (slice_get second i ≡ Some u)))
-    (new : (u : Waiter) → phase' u ≡ Prepared → node' (own u) ≡ rest_node) where
-  -- where an element of the new queue comes from
+    (step : PutsBack tail tail' phase phase' own node node' main second w s) where
+  -- where an element of the step.fresh queue comes from
   insert-cases : (i : ℕ) (u : Waiter) → slice_get (w ∷ (second ++ drop 1 main)) i ≡ Some u
       → ((i ≡ 0) × (u ≡ w)) ⊎ ((j : ℕ) × (i ≡ suc j) × (slice_get second j ≡ Some u))
       ⊎ ((j : ℕ) × (i ≡ suc (length second + j)) × (slice_get main (suc j) ≡ Some u))
@@ -58,13 +81,20 @@ module _ (tail tail' : Option NodeName) (phase phase' : Waiter → Phase) (own :
       ⊎ ((j : ℕ) × (slice_get second j ≡ Some u) × (slice_get second (suc j) ≡ None)
       × (slice_get main 1 ≡ Some v))
       ⊎ ((j : ℕ) × (slice_get main (suc j) ≡ Some u) × (slice_get main (suc (suc j)) ≡ Some v))
-  insert-two zero u v h k = let e = get-join_left second (drop 1 main) 0 s at_s in inl (grind arith, grind arith)
+  insert-two zero u v h k =
+      let e = get-join_left second (drop 1 main) 0 s step.first in inl (grind arith, grind arith)
   insert-two (suc i) u v h k =
       elim (get-join_two second (drop 1 main) i u v h k) [
         | inl a ↦ inr (inl (i, a.0, a.1))
         | inr b ↦ elim b [
           | inl c ↦ inr (inr (inl (i, c.0, c.1, sym (get-drop_one main 0) ∙ c.2)))
-          | inr d ↦ inr (inr (inr (d.0, sym (get-drop_one main d.0) ∙ d.2, sym (get-drop_one main (suc d.0)) ∙ d.3)))
+          | inr d ↦
+              inr
+              (inr (inr (
+                d.0,
+                sym (get-drop_one main d.0) ∙ d.2,
+                sym (get-drop_one main (suc d.0)) ∙ d.3,
+              )))
         ]
       ]
 
@@ -73,33 +103,35 @@ module _ (tail tail' : Option NodeName) (phase phase' : Waiter → Phase) (own :
       → ((j : ℕ) × (slice_get second j ≡ Some u) × (slice_get second (suc j) ≡ None)
       × (slice_get main 1 ≡ None))
       ⊎ ((j : ℕ) × (slice_get main (suc j) ≡ Some u) × (slice_get main (suc (suc j)) ≡ None))
-  insert-last zero u h k = let e = get-join_left second (drop 1 main) 0 s at_s in absurd (grind arith)
+  insert-last zero u h k =
+      let e = get-join_left second (drop 1 main) 0 s step.first in absurd (grind arith)
   insert-last (suc i) u h k =
       elim (get-join_last second (drop 1 main) i u h k) [
         | inl a ↦ inl (i, a.0, a.1, sym (get-drop_one main 0) ∙ ap (λ xs. slice_get xs 0) a.2)
-        | inr d ↦ inr (d.0, sym (get-drop_one main d.0) ∙ d.2, sym (get-drop_one main (suc d.0)) ∙ d.3)
+        | inr d ↦
+            inr (d.0, sym (get-drop_one main d.0) ∙ d.2, sym (get-drop_one main (suc d.0)) ∙ d.3)
       ]
 
-  -- one behind the head in the old queue
+  -- one behind the step.head in the old queue
   insert-old : (j : ℕ) (u : Waiter) → slice_get main (suc j) ≡ Some u
       → (u ≢ w) × (phase' u ≡ phase u) × ((node' (own u)).flag ≡ (node (own u)).flag)
       × ((node' (own u)).next ≡ (node (own u)).next) × (queues (phase u) ≡ true)
   insert-old j u h =
       let ne : u ≢ w =
       (λ e. let at : slice_get main (suc j) ≡ Some w = h ∙ ap (λ z. Some z) e in
-      grind (arith, ok.once (suc j) 0 w at at_w)) in
-      let q = ok.inside (suc j) u h in
-      let r = same u q ne in
+      grind (arith, ok.members.once (suc j) 0 w at step.front)) in
+      let q = ok.members.inside (suc j) u h in
+      let r = step.same u q ne in
       (ne, r.0, r.1, r.2, q)
 
   insert-inside : (i : ℕ) (u : Waiter) → slice_get (w ∷ (second ++ drop 1 main)) i ≡ Some u
       → queues (phase' u) ≡ true
   insert-inside i u h =
       elim (insert-cases i u h) [
-        | inl a ↦ grind (arith, a, owner')
+        | inl a ↦ grind (arith, a, step.holds)
         | inr b ↦ elim
             b [
-              | inl c ↦ let r = waits c.0 u c.2 in
+              | inl c ↦ let r = step.waits c.0 u c.2 in
                   grind (arith, r.0)
               | inr d ↦ let r = insert-old d.0 u d.2 in grind (arith, r.1, r.4)
             ]
@@ -108,20 +140,22 @@ module _ (tail tail' : Option NodeName) (phase phase' : Waiter → Phase) (own :
   insert-place : (u : Waiter) → queues (phase' u) ≡ true
       → (i : ℕ) × (slice_get (w ∷ (second ++ drop 1 main)) i ≡ Some u)
   insert-place u h =
-      elim (back u h) [
-        | inl q ↦ let p = ok.place u q in go u p.0 p.1
+      elim (step.back u h) [
+        | inl q ↦ let p = ok.members.place u q in go u p.0 p.1
         | inr b ↦ (suc b.0, get-join_left second (drop 1 main) b.0 u b.1)
       ]
     where
       go : (u : Waiter) (i : ℕ) → slice_get main i ≡ Some u
           → (i : ℕ) × (slice_get (w ∷ (second ++ drop 1 main)) i ≡ Some u)
-      go u zero p = (0, grind (arith, p, at_w))
-      go u (suc j) p = (suc (length second + j), get-join_right second (drop 1 main) j ∙ get-drop_one main j ∙ p)
+      go u zero p = (0, grind (arith, p, step.front))
+      go u (suc j) p =
+          (suc (length second + j), get-join_right second (drop 1 main) j ∙ get-drop_one main j ∙ p)
 
   -- the parts have nobody in common
   insert-apart : (i j : ℕ) (u : Waiter) → slice_get second i ≡ Some u → slice_get main j ≡ Some u
       → ⊥
-  insert-apart i j u h k = let r = waits i u h in let q = ok.inside j u k in grind (arith, r.1, q)
+  insert-apart i j u h k =
+      let r = step.waits i u h in let q = ok.members.inside j u k in grind (arith, r.1, q)
 
   insert-once : (i j : ℕ) (u : Waiter) → slice_get (w ∷ (second ++ drop 1 main)) i ≡ Some u
       → slice_get (w ∷ (second ++ drop 1 main)) j ≡ Some u → i ≡ j
@@ -130,15 +164,15 @@ module _ (tail tail' : Option NodeName) (phase phase' : Waiter → Phase) (own :
         | inl a ↦ elim (insert-cases j u k) [
           | inl a' ↦ a.0 ∙ sym a'.0
           | inr b' ↦ elim b' [
-            | inl c' ↦ absurd (insert-apart c'.0 0 u c'.2 (at_w ∙ ap (λ z. Some z) (sym a.1)))
+            | inl c' ↦ absurd (insert-apart c'.0 0 u c'.2 (step.front ∙ ap (λ z. Some z) (sym a.1)))
             | inr d' ↦ absurd ((insert-old d'.0 u d'.2).0 a.1)
           ]
         ]
         | inr b ↦ elim b [
           | inl c ↦ elim (insert-cases j u k) [
-            | inl a' ↦ absurd (insert-apart c.0 0 u c.2 (at_w ∙ ap (λ z. Some z) (sym a'.1)))
+            | inl a' ↦ absurd (insert-apart c.0 0 u c.2 (step.front ∙ ap (λ z. Some z) (sym a'.1)))
             | inr b' ↦ elim b' [
-              | inl c' ↦ c.1 ∙ ap suc (onces c.0 c'.0 u c.2 c'.2) ∙ sym c'.1
+              | inl c' ↦ c.1 ∙ ap suc (step.once c.0 c'.0 u c.2 c'.2) ∙ sym c'.1
               | inr d' ↦ absurd (insert-apart c.0 (suc d'.0) u c.2 d'.2)
             ]
           ]
@@ -146,7 +180,8 @@ module _ (tail tail' : Option NodeName) (phase phase' : Waiter → Phase) (own :
             | inl a' ↦ absurd ((insert-old d.0 u d.2).0 a'.1)
             | inr b' ↦ elim b' [
               | inl c' ↦ absurd (insert-apart c'.0 (suc d.0) u c'.2 d.2)
-              | inr d' ↦ let e = ok.once (suc d.0) (suc d'.0) u d.2 d'.2 in let f = d.1 in let g = d'.1 in omega arith
+              | inr d' ↦ let e = ok.members.once (suc d.0) (suc d'.0) u d.2 d'.2 in let f = d.1 in
+                  let g = d'.1 in omega arith
             ]
           ]
         ]
@@ -156,7 +191,7 @@ module _ (tail tail' : Option NodeName) (phase phase' : Waiter → Phase) (own :
       → slice_get (w ∷ (second ++ drop 1 main)) (suc i) ≡ None → tail' ≡ Some (own u)
   insert-tail i u h k =
       elim (insert-last i u h k) [
-        | inl a ↦ (ends a.0 u a.1 a.2 a.3).0
+        | inl a ↦ (step.ends a.0 u a.1 a.2 a.3).0
         | inr d ↦ tail-same d.0 u d.1 d.2
       ]
     where
@@ -165,12 +200,15 @@ module _ (tail tail' : Option NodeName) (phase phase' : Waiter → Phase) (own :
       tail-same j u h k =
           let z = (last-of second) in
           let one = one-there j u h in
-          (seam z.0 z.1 one.0 z.2 z.3 one.1).0 ∙ ok.tail_is (suc j) u h k
+          (step.seam z.0 z.1 one.0 z.2 z.3 one.1).0 ∙ ok.ends.tail_is (suc j) u h k
         where
           last-of : (xs : List Waiter)
               → (i : ℕ) × (z : Waiter) × (slice_get second i ≡ Some z)
               × (slice_get second (suc i) ≡ None)
-          last-of xs = elim (last_cases second) [ inl e ↦ absurd (grind (arith, e, at_s)) | inr p ↦ (p.0, p.1, p.2, p.3) ]
+          last-of xs = elim (last_cases second) [
+            | inl e ↦ absurd (grind (arith, e, step.first))
+            | inr p ↦ (p.0, p.1, p.2, p.3)
+          ]
 
           one-there : (j : ℕ) (u : Waiter) → slice_get main (suc j) ≡ Some u
               → (v : Waiter) × (slice_get main 1 ≡ Some v)
@@ -188,8 +226,9 @@ module _ (tail tail' : Option NodeName) (phase phase' : Waiter → Phase) (own :
       elim (insert-cases (suc i) u h) [
         | inl a ↦ absurd (grind (arith, a))
         | inr b ↦ elim b [
-          | inl c ↦ let r = waits c.0 u c.2 in (grind (arith, r.0), r.2)
-          | inr d ↦ let r = insert-old d.0 u d.2 in let q = ok.behind d.0 u d.2 in (grind (arith, r.1, q.0), r.2 ∙ q.1)
+          | inl c ↦ let r = step.waits c.0 u c.2 in (grind (arith, r.0), r.2)
+          | inr d ↦ let r = insert-old d.0 u d.2 in let q = ok.ends.behind d.0 u d.2 in
+              (grind (arith, r.1, q.0), r.2 ∙ q.1)
         ]
       ]
 
@@ -198,13 +237,13 @@ module _ (tail tail' : Option NodeName) (phase phase' : Waiter → Phase) (own :
       → (node' (own u)).next ≡ Some (own v)
   insert-linked i u v h k p =
       elim (insert-two i u v h k) [
-        | inl a ↦ rw (a.0, a.1) head
+        | inl a ↦ rw (a.0, a.1) step.head
         | inr b ↦ elim b [
-          | inl c ↦ links c.0 u v c.1 c.2
+          | inl c ↦ step.links c.0 u v c.1 c.2
           | inr d ↦ elim d [
-            | inl e ↦ (seam e.0 u v e.1 e.2 e.3).2
+            | inl e ↦ (step.seam e.0 u v e.1 e.2 e.3).2
             | inr f ↦ let r = insert-old f.0 u f.1 in let t = insert-old (suc f.0) v f.2 in
-                r.3 ∙ ok.linked (suc f.0) u v f.1 f.2 (sym t.1 ∙ p)
+                r.3 ∙ ok.links.linked (suc f.0) u v f.1 f.2 (sym t.1 ∙ p)
           ]
         ]
       ]
@@ -215,13 +254,15 @@ module _ (tail tail' : Option NodeName) (phase phase' : Waiter → Phase) (own :
       → (n ≡ own u) × ((node' (own u)).next ≡ None)
   insert-linking i u v n h k p =
       elim (insert-two i u v h k) [
-        | inl a ↦ absurd (let r = waits 0 s at_s in let e : phase' v ≡ phase' s = ap phase' a.1 in grind (arith, r.0, e, p))
+        | inl a ↦ absurd (let r = step.waits 0 s step.first in
+            let e : phase' v ≡ phase' s = ap phase' a.1 in grind (arith, r.0, e, p))
         | inr b ↦ elim b [
-          | inl c ↦ absurd (let r = waits (suc c.0) v c.2 in grind (arith, r.0, p))
+          | inl c ↦ absurd (let r = step.waits (suc c.0) v c.2 in grind (arith, r.0, p))
           | inr d ↦ elim d [
-            | inl e ↦ absurd (let r = (seam e.0 u v e.1 e.2 e.3).1 in let t = insert-old 0 v e.3 in grind (arith, r, t.1, p))
+            | inl e ↦ absurd (let r = (step.seam e.0 u v e.1 e.2 e.3).1 in
+                let t = insert-old 0 v e.3 in grind (arith, r, t.1, p))
             | inr f ↦ let r = insert-old f.0 u f.1 in let t = insert-old (suc f.0) v f.2 in
-                let q = ok.linking (suc f.0) u v n f.1 f.2 (sym t.1 ∙ p) in (q.0, r.3 ∙ q.1)
+                let q = ok.links.linking (suc f.0) u v n f.1 f.2 (sym t.1 ∙ p) in (q.0, r.3 ∙ q.1)
           ]
         ]
       ]
@@ -230,34 +271,42 @@ module _ (tail tail' : Option NodeName) (phase phase' : Waiter → Phase) (own :
       → slice_get (w ∷ (second ++ drop 1 main)) (suc i) ≡ None → (node' (own u)).next ≡ None
   insert-end i u h k =
       elim (insert-last i u h k) [
-        | inl a ↦ (ends a.0 u a.1 a.2 a.3).1
-        | inr d ↦ let r = insert-old d.0 u d.1 in r.3 ∙ ok.last (suc d.0) u d.1 d.2
+        | inl a ↦ (step.ends a.0 u a.1 a.2 a.3).1
+        | inr d ↦ let r = insert-old d.0 u d.1 in r.3 ∙ ok.links.last (suc d.0) u d.1 d.2
       ]
 
   insert-hand : (u : Waiter) (n : NodeName) → phase' u ≡ Hands n → ⊥
   insert-hand u n p =
       let at = insert-place u (grind (arith, p)) in
       elim (insert-cases at.0 u at.1) [
-        | inl a ↦ let e : phase' u ≡ phase' w = ap phase' a.1 in grind (arith, e, owner', p)
+        | inl a ↦ let e : phase' u ≡ phase' w = ap phase' a.1 in grind (arith, e, step.holds, p)
         | inr b ↦ elim b [
-          | inl c ↦ let r = waits c.0 u c.2 in grind (arith, r.0, p)
-          | inr d ↦ let r = insert-old d.0 u d.2 in let q = ok.behind d.0 u d.2 in grind (arith, r.1, q.0, p)
+          | inl c ↦ let r = step.waits c.0 u c.2 in grind (arith, r.0, p)
+          | inr d ↦ let r = insert-old d.0 u d.2 in let q = ok.ends.behind d.0 u d.2 in
+              grind (arith, r.1, q.0, p)
         ]
       ]
 
   pub queue_insert : QueueAgrees tail' phase' own node' (w ∷ (second ++ drop 1 main))
   queue_insert =
       record {
-        inside = insert-inside;
-        place = insert-place;
-        once = insert-once;
-        no_tail = λ h. grind arith;
-        tail_is = insert-tail;
-        first = λ u h. let e : u ≡ w = grind arith in let f : phase' u ≡ Holds = ap phase' e ∙ owner' in grind (arith, f);
-        behind = insert-behind;
-        linked = insert-linked;
-        linking = insert-linking;
-        last = insert-end;
-        hand = λ u n p. absurd (insert-hand u n p);
-        fresh = new;
+        members = record {
+          inside = insert-inside;
+          place = insert-place;
+          once = insert-once;
+        };
+        ends = record {
+          no_tail = λ h. grind arith;
+          tail_is = insert-tail;
+          first = λ u h. let e : u ≡ w = grind arith in
+              let f : phase' u ≡ Holds = ap phase' e ∙ step.holds in grind (arith, f);
+          behind = insert-behind;
+        };
+        links = record {
+          linked = insert-linked;
+          linking = insert-linking;
+          last = insert-end;
+          hand = λ u n p. absurd (insert-hand u n p);
+          fresh = step.fresh;
+        };
       }

@@ -19,19 +19,42 @@ pub queue_keep : {tail : Option NodeName} {phase phase' : Waiter → Phase}
     → QueueAgrees tail phase' own' node' main
 queue_keep {phase = phase} {phase' = phase'} ok same back new =
     record {
-      inside = λ i u h. grind (arith, ok.inside i u, same u);
-      place = λ u h. let e = back u h in ok.place u (grind arith);
-      once = ok.once;
-      no_tail = ok.no_tail;
-      tail_is = λ i u h k. grind (arith, ok.tail_is i u, ok.inside i u, same u);
-      first = λ u h. grind (arith, ok.first u, ok.inside 0 u, same u);
-      behind = λ i u h. grind (arith, ok.behind i u, ok.inside (suc i) u, same u);
-      linked = λ i u v h k r. grind (arith, ok.linked i u v, ok.inside i u, same u, ok.inside (suc i) v, same v);
-      linking = λ i u v n h k r. grind (arith, ok.linking i u v n, ok.inside i u, same u, ok.inside (suc i) v, same v);
-      last = λ i u h k. grind (arith, ok.last i u, ok.inside i u, same u);
-      hand = λ u n h.
-          let b : phase' u ≡ phase u = grind (arith, back u) in
-          let r = ok.hand u n (grind arith) in
-          (r.0, r.1, grind (arith, same r.0, r), grind (arith, same r.0, r));
-      fresh = new;
+      members = record {
+        inside = λ i u h. grind (arith, ok.members.inside i u, same u);
+        place = λ u h. let e = back u h in ok.members.place u (grind arith);
+        once = ok.members.once;
+      };
+      ends = record {
+        no_tail = ok.ends.no_tail;
+        tail_is = λ i u h k. grind (arith, ok.ends.tail_is i u, ok.members.inside i u, same u);
+        first = λ u h. grind (arith, ok.ends.first u, ok.members.inside 0 u, same u);
+        behind = λ i u h. grind (arith, ok.ends.behind i u, ok.members.inside (suc i) u, same u);
+      };
+      links = record {
+        linked = λ i u v h k r.
+            grind (
+              arith,
+              ok.links.linked i u v,
+              ok.members.inside i u,
+              same u,
+              ok.members.inside
+                  (suc i) v,
+              same v,
+            );
+        linking = λ i u v n h k r.
+            grind (
+              arith,
+              ok.links.linking i u v n,
+              ok.members.inside i u,
+              same u,
+              ok.members.inside (suc i) v,
+              same v,
+            );
+        last = λ i u h k. grind (arith, ok.links.last i u, ok.members.inside i u, same u);
+        hand = λ u n h.
+            let b : phase' u ≡ phase u = grind (arith, back u) in
+            let r = ok.links.hand u n (grind arith) in
+            (r.0, r.1, grind (arith, same r.0, r), grind (arith, same r.0, r));
+        fresh = new;
+      };
     }

@@ -23,7 +23,7 @@ use Rattle.lk_law.specs.Stage.Stage.{Rests}
 use Rattle.lk_law.specs.Cna.{ListsAgree, FlatAgrees, moves_aside, named_by}
 use Rattle.lk_law.specs.Snapshot.{Snapshot, Rewrites, PendingAgrees, NodesAgree}
 use Rattle.lk_law.specs.Agree.{SnapshotAgrees, Step, Stays, LeavesSlowPath, halts, ParaAgrees}
-use Rattle.lk_law.proofs.common.Cases.{waiter_cases}
+use Rattle.lk_law.proofs.common.Cases.{Apart, waiter_cases}
 use Rattle.lk_law.proofs.common.Before.{nodes_apart}
 use Rattle.lk_law.proofs.spin.Hold.{hold_keep, hold_take}
 use Rattle.lk_law.proofs.spin.Pend.{pend_keep, pend_still, pend_stake}
@@ -34,6 +34,7 @@ use Rattle.lk_law.proofs.common.Families.{lists_link, lists_lead, lists_sole}
 use Rattle.lk_law.proofs.common.Frame.{nodes_stay, nodes_leave, agrees_after, ActsAlone, no_posts}
 use Rattle.lk_law.proofs.common.Told.{told_lock, told_others, sole_taken}
 use Rattle.lk_law.proofs.spin.Laws.{SameNodes, claim_cases}
+use Rattle.lk_law.proofs.cna.Steps.{ChoosesNothing}
 
 -- each waiter's node is the one that it had
 pub own_is : {s s' : Snapshot} {w : Waiter} → Stays s s' w
@@ -41,7 +42,10 @@ pub own_is : {s s' : Snapshot} {w : Waiter} → Stays s s' w
 own_is {s = s} {s' = s'} {w = w} stays owns = (λ i u. same u i)
   where
     same : (u : Waiter) → s'.own u ≡ s.own u
-    same u = elim (waiter_cases u w) [ inl e ↦ ap s'.own e ∙ stays.own ∙ ap s.own (sym e) | inr ne ↦ owns u ne ]
+    same u = elim (waiter_cases u w) [
+      | inl e ↦ ap s'.own e ∙ stays.own ∙ ap s.own (sym e)
+      | inr ne ↦ owns u ne
+    ]
 
 pub node_is : {f g : NodeName → Node} → ((n : NodeName) → g n ≡ f n) → g ≡ f
 node_is nodes = (λ i n. nodes n i)
@@ -52,8 +56,7 @@ stakes_is r p = grind arith
 module _ {phase : LockName → Waiter → Phase} {own : Waiter → NodeName} {slow : Waiter → Bool}
     {queued : ℕ → ℕ} (nodes : NodesAgree phase own slow queued) where
   -- two waiters of one lock with one node are one
-  pub apart_on : (l : LockName) (u v : Waiter) → has_node (phase l u) ≡ true
-      → has_node (phase l v) ≡ true → own u ≡ own v → u ≡ v
+  pub apart_on : (l : LockName) → Apart (phase l) own
   apart_on l u v p q e = nodes_apart nodes l l u v p q e
 
   -- the node of a waiter of the lock l is none of a waiter of another lock
@@ -65,14 +68,25 @@ module _ {phase : LockName → Waiter → Phase} {own : Waiter → NodeName} {sl
   rewrite_here alone {l = l} a p m writes k u ne q =
       writes.others (own u) (λ e.
       let same : u ≡ a = nodes_apart nodes k l u a q p (e ∙ m) in
-      let b : phase k u ≡ Idle = alone l k u (λ d. ne (sym d)) (λ d. grind (arith, ap (phase l) same)) in
+      let b : phase k u ≡ Idle =
+      alone l k u (λ d. ne (sym d)) (λ d. grind (arith, ap (phase l) same)) in
       grind (arith, b))
+
+-- who does not hold the lock as the front after its row chooses nothing
+pub chooses_nothing : {s s' : Snapshot} {w : Waiter} {l : LockName} {r r' : Phase} {x : Fields}
+    {h h' : Bool}
+    → Step s s' w l r r' x h h'
+    → r' ≢ Holds
+    → ChoosesNothing (s.stage l) (s'.stage l) s.kept s'.kept w
+chooses_nothing {l = l} step off =
+    record { stages = step.stages l; rests = step.rests off; keeps = step.kepts }
 
 -- where a waiter leads the queue of the free lock, no other may take it in its next step
 stakes_alone : {locked : Locked} {pending aside : Bool} {tail : Option NodeName}
     {phase : Waiter → Phase} {own : Waiter → NodeName} {node : NodeName → Node}
     {local : Waiter → NodeName → Bool}
-    {threshold : ℕ} {stage : Waiter → Stage} {kept : Waiter → Option NodeName} {main second : List Waiter} {passes : List ℕ}
+    {threshold : ℕ} {stage : Waiter → Stage} {kept : Waiter
+    → Option NodeName} {main second : List Waiter} {passes : List ℕ}
     → PendingAgrees locked pending phase
     → ListsAgree aside tail phase own node local threshold stage kept main second passes
     → (w : Waiter) → phase w ≡ Stakes
@@ -138,12 +152,14 @@ goes_on r r' f way =
 pub flat_lists : {aside : Bool} {tail : Option NodeName} {phase : Waiter → Phase}
     {own : Waiter → NodeName} {node : NodeName → Node} {local : Waiter → NodeName → Bool}
     {threshold : ℕ}
-    {stage : Waiter → Stage} {kept : Waiter → Option NodeName} {main second : List Waiter} {passes : List ℕ} → aside ≡ false
+    {stage : Waiter → Stage} {kept : Waiter
+    → Option NodeName} {main second : List Waiter} {passes : List ℕ} → aside ≡ false
     → FlatAgrees tail phase own node main second passes
     → ListsAgree aside tail phase own node local threshold stage kept main second passes
 flat_lists plain o = record { flat = λ e. o; cna = λ e. absurd (grind (arith, plain, e)) }
 
-module _ {s s' : Snapshot} {hs : LockName → LockHistory} {w : Waiter} {l : LockName} (ok : SnapshotAgrees s hs) where
+module _ {s s' : Snapshot} {hs : LockName → LockHistory} {w : Waiter} {l : LockName}
+    (ok : SnapshotAgrees s hs) where
   -- The tail is exchanged, and the waiter arrives: first in the queue, or behind the node that it
   -- met.
   pub law_arrive_as : {r' : Phase}
@@ -171,16 +187,28 @@ module _ {s s' : Snapshot} {hs : LockName → LockHistory} {w : Waiter} {l : Loc
       (told_lock (hs l) e refl (record {
         holder = o.holder;
         holders = o.holders;
-        hold = rw step.word (hold_keep o.hold step.acts step.holds plain.lacks (λ p. refl) (λ p. absurd (plain.keeps p)));
+        hold =
+            rw step.word (hold_keep o.hold step.acts step.holds plain.lacks (λ p. refl)
+            (λ p. absurd (plain.keeps p)));
         pend = rw step.word (pend_still o.pend step.acts plain.clear plain.far plain.low);
         posts = posts;
-        lists = rw (step.word, own_is stays step.owns, node_is nodes, step.mode, step.local, step.threshold) (elim met [
-          | inl m ↦ lists_first o.lists step.acts (step.stages l)
-              (step.rests (λ q. grind (arith, m.1, q))) step.kepts (λ q. grind arith) refl m.1 m.0
-              none
-          | inr m ↦ lists_behind o.lists step.acts (step.stages l)
-              (step.rests (λ q. grind (arith, m.2, q))) step.kepts (λ q. grind arith) refl m.2 m.1
-        ]);
+        lists =
+            rw (
+              step.word,
+              own_is stays step.owns,
+              node_is nodes,
+              step.mode,
+              step.local,
+              step.threshold,
+            ) (elim met [
+              | inl m ↦ lists_first o.lists step.acts
+                  (chooses_nothing step (λ q. grind (arith, m.1, q)))
+                  (λ q. grind arith) refl m.1 m.0
+                  none
+              | inr m ↦ lists_behind o.lists step.acts
+                  (chooses_nothing step (λ q. grind (arith, m.2, q)))
+                  (λ q. grind arith) refl m.2 m.1
+            ]);
       }))
 
   -- The waiter's node is stored as the next of the node that it met.
@@ -195,12 +223,14 @@ module _ {s s' : Snapshot} {hs : LockName → LockHistory} {w : Waiter} {l : Loc
       (record {
         holder = o.holder;
         holders = o.holders;
-        hold = rw step.word (hold_keep o.hold step.acts step.holds refl (λ q. refl) (λ q. absurd (grind arith)));
+        hold =
+            rw step.word (hold_keep o.hold step.acts step.holds refl (λ q. refl)
+            (λ q. absurd (grind arith)));
         pend = rw step.word (pend_still o.pend step.acts refl refl refl);
         posts = posts;
         lists = rw (step.word, own_is stays step.owns, step.mode, step.local, step.threshold)
-            (lists_link o.lists step.acts writes store (step.stages l)
-            (step.rests (λ q. grind arith)) step.kepts (apart_on ok.nodes l));
+            (lists_link o.lists step.acts (chooses_nothing step (λ q. grind arith)) writes store
+            (apart_on ok.nodes l));
       })
 
 module _ {s s' : Snapshot} {hs : LockName → LockHistory} {w : Waiter} {l : LockName}
@@ -218,13 +248,15 @@ module _ {s s' : Snapshot} {hs : LockName → LockHistory} {w : Waiter} {l : Loc
       → ((s.word l).tail ≡ None) × (r' ≡ Leads) ⊎ (p : NodeName) × ((s.word l).tail ≡ Some p)
       × (r' ≡ Links p)
       → SnapshotAgrees s' (λ k. told k (hs k) (record { by = w; what = Arrive l }))
-  law_arrive step stays nodes none met = law_arrive_as ok step stays nodes none met (λ e. no_posts step awake e)
+  law_arrive step stays nodes none met =
+      law_arrive_as ok step stays nodes none met (λ e. no_posts step awake e)
 
   -- The waiter's node is stored as the next of the node that it met.
   pub law_link : {p : NodeName} {y : Node} → Step s s' w l (Links p) Waits (s.word l) false false
       → Stays s s' w → Rewrites s.node s'.node p y → y ≡ record (s.node p) { next = Some (s.own w) }
       → SnapshotAgrees s' hs
-  law_link step stays writes store = law_link_as ok step stays writes store (λ e. no_posts step awake e)
+  law_link step stays writes store =
+      law_link_as ok step stays writes store (λ e. no_posts step awake e)
 
   -- The front goes on: it sees its flag, or sees the lock free.
   pub law_lead : {r r' : Phase} → Step s s' w l r r' (s.word l) false false → Stays s s' w
@@ -239,13 +271,17 @@ module _ {s s' : Snapshot} {hs : LockName → LockHistory} {w : Waiter} {l : Loc
       let on : GoesOn r r' (s.node (s.own w)).flag =
       goes_on r r' (s.node (s.own w)).flag
       (elim way [ inl m ↦ inl m | inr m ↦ inr (m.0, m.1) ]) in
-      agrees_after step ok hs (nodes_stay step ok.nodes stays (λ q. on.noded)) (λ k u ne p. nodes (s.own u)) (λ k ne. refl)
+      agrees_after step ok hs (nodes_stay step ok.nodes stays (λ q. on.noded))
+      (λ k u ne p. nodes (s.own u)) (λ k ne. refl)
       (record {
         holder = o.holder;
         holders = o.holders;
-        hold = rw step.word (hold_keep o.hold step.acts step.holds on.lacks (λ q. refl) (λ q. absurd (on.keeps q)));
+        hold =
+            rw step.word (hold_keep o.hold step.acts step.holds on.lacks (λ q. refl)
+            (λ q. absurd (on.keeps q)));
         pend = rw step.word (elim way [
-          | inl m ↦ pend_still o.pend step.acts (on.now_clear ∙ sym on.was_clear) (grind (arith, m)) (grind (arith, m))
+          | inl m ↦ pend_still o.pend step.acts (on.now_clear ∙ sym on.was_clear) (grind (arith, m))
+              (grind (arith, m))
           | inr m ↦ pend_stake o.pend step.acts m.3 m.2 on.was_clear on.now_clear
         ]);
         posts = no_posts step awake;
@@ -257,7 +293,7 @@ module _ {s s' : Snapshot} {hs : LockName → LockHistory} {w : Waiter} {l : Loc
           step.local,
           step.threshold,
         )
-            (lists_lead o.lists step.acts (step.stages l) (step.rests on.choosing) step.kepts on.off
+            (lists_lead o.lists step.acts (chooses_nothing step on.choosing) on.off
             lead on.leading on.sees on.hands named);
       })
 
@@ -275,8 +311,12 @@ module _ {s s' : Snapshot} {hs : LockName → LockHistory} {w : Waiter} {l : Loc
       (told_lock (hs l) e refl (record {
         holder = Some w;
         holders = sole_taken (hs l) w o.holder o.holders (o.hold.free free);
-        hold = rw step.word (hold_take o.hold step.acts step.holds free refl (λ q. refl) (λ q. absurd (grind arith)));
-        pend = rw step.word (pend_keep o.pend step.acts Held refl (λ q. absurd (grind arith)) refl (λ q. refl)
+        hold =
+            rw step.word (hold_take o.hold step.acts step.holds free refl (λ q. refl)
+            (λ q. absurd (grind arith)));
+        pend =
+            rw step.word (pend_keep o.pend step.acts Held refl (λ q. absurd (grind arith)) refl
+            (λ q. refl)
             (λ u n q. absurd (stakes_alone o.pend o.lists w step.acts.was u n q)));
         posts = no_posts step awake;
         lists = rw (
@@ -287,8 +327,9 @@ module _ {s s' : Snapshot} {hs : LockName → LockHistory} {w : Waiter} {l : Loc
           step.local,
           step.threshold,
         )
-            (lists_lead o.lists step.acts (step.stages l) rests step.kepts (λ q. grind arith)
-            refl refl (λ q. grind arith) (λ n q. absurd (grind arith)) kept);
+            (lists_lead o.lists step.acts
+            (record { stages = step.stages l; rests = rests; keeps = step.kepts })
+            (λ q. grind arith) refl refl (λ q. grind arith) (λ n q. absurd (grind arith)) kept);
       }))
 
   -- The front learns the node behind its own.
@@ -299,16 +340,22 @@ module _ {s s' : Snapshot} {hs : LockName → LockHistory} {w : Waiter} {l : Loc
       let o = ok.locks l in
       let flat = o.lists.flat plain in
       let first = lead_first flat.queue w (grind (arith, step.acts.was)) in
-      agrees_after step ok hs (nodes_stay step ok.nodes stays (λ q. refl)) (λ k u ne p. nodes (s.own u)) (λ k ne. refl)
+      agrees_after step ok hs (nodes_stay step ok.nodes stays (λ q. refl))
+      (λ k u ne p. nodes (s.own u)) (λ k ne. refl)
       (record {
         holder = o.holder;
         holders = o.holders;
-        hold = rw step.word (hold_keep o.hold step.acts step.holds refl (λ q. refl) (λ q. absurd (grind arith)));
+        hold =
+            rw step.word (hold_keep o.hold step.acts step.holds refl (λ q. refl)
+            (λ q. absurd (grind arith)));
         pend = rw step.word (pend_still o.pend step.acts refl refl refl);
         posts = no_posts step awake;
         lists = flat_lists (ap moves_aside step.mode ∙ plain) (record {
-          queue = rw (step.word, own_is stays step.owns, node_is nodes) (queue_lead flat.queue step.acts refl refl (λ q. grind arith)
-              (λ m q. let r = second_is flat.queue w n first next in (r.0, r.1, r.2, grind (arith, r.3, q))));
+          queue =
+              rw (step.word, own_is stays step.owns, node_is nodes)
+              (queue_lead flat.queue step.acts refl refl (λ q. grind arith)
+              (λ m q. let r = second_is flat.queue w n first next in
+              (r.0, r.1, r.2, grind (arith, r.3, q))));
           single = flat.single;
           unpassed = flat.unpassed;
         });
@@ -323,18 +370,22 @@ module _ {s s' : Snapshot} {hs : LockName → LockHistory} {w : Waiter} {l : Loc
       let o = ok.locks l in
       let e : Event = record { by = w; what = Pass l to 0 } in
       let flat = o.lists.flat plain in
-      let v = flat.queue.hand w n step.acts.was in
+      let v = flat.queue.links.hand w n step.acts.was in
       let vn : has_node (s.phase l v.0) ≡ true = grind (arith, v) in
       agrees_after step ok (λ k. told k (hs k) e) (nodes_leave step ok.nodes goes refl)
       (rewrite_here ok.nodes ok.alone v.0 vn (sym v.3) writes) (told_others hs e refl)
       (told_lock (hs l) e refl (record {
         holder = o.holder;
         holders = o.holders;
-        hold = rw step.word (hold_keep o.hold step.acts step.holds refl (λ q. absurd (grind arith)) (λ q. absurd (grind arith)));
+        hold =
+            rw step.word (hold_keep o.hold step.acts step.holds refl (λ q. absurd (grind arith))
+            (λ q. absurd (grind arith)));
         pend = rw step.word (pend_still o.pend step.acts refl refl refl);
         posts = no_posts step awake;
         lists = flat_lists (ap moves_aside step.mode ∙ plain) (record {
-          queue = rw step.word (queue_pass flat.queue step.acts writes flag next step.owns (apart_on ok.nodes l));
+          queue =
+              rw step.word (queue_pass flat.queue step.acts writes flag next step.owns
+              (apart_on ok.nodes l));
           single = rw flat.single;
           unpassed = rw flat.unpassed;
         });
@@ -353,7 +404,9 @@ module _ {s s' : Snapshot} {hs : LockName → LockHistory} {w : Waiter} {l : Loc
       (λ k u ne p. nodes (s.own u)) (told_others hs e refl)
       (told_lock (hs l) e refl (record {
         holder = Some w;
-        holders = sole_taken (hs l) w o.holder o.holders (o.hold.free (ap (λ (f : Fields). f.locked) met));
+        holders =
+            sole_taken (hs l) w o.holder o.holders
+            (o.hold.free (ap (λ (f : Fields). f.locked) met));
         hold = rw step.word
             (hold_take o.hold step.acts step.holds (ap (λ (f : Fields). f.locked) met) refl
             (λ q. absurd (grind arith)) (λ q. absurd (grind arith)));
@@ -363,7 +416,11 @@ module _ {s s' : Snapshot} {hs : LockName → LockHistory} {w : Waiter} {l : Loc
             (λ u m q. absurd (stakes_alone o.pend o.lists w step.acts.was u m q))));
         posts = no_posts step awake;
         lists = rw (step.word, node_is nodes, step.mode, step.local, step.threshold)
-            (lists_sole o.lists step.acts refl (λ q. grind arith) none step.owns
-            (ap (λ (f : Fields). f.tail) met)
-            (step.stages l) (step.rests (λ q. grind arith)) (apart_on ok.nodes l));
+            (lists_sole o.lists step.acts (chooses_nothing step (λ q. grind arith))
+            (record {
+              lead = refl;
+              off = λ q. grind arith;
+              mine = ap (λ (f : Fields). f.tail) met;
+              nobody = none;
+            }) step.owns (apart_on ok.nodes l));
       }))

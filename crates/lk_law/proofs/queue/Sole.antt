@@ -4,10 +4,10 @@ use Rattle.std.proofs.Common.{◌⊎◌, inl, inr, arith, slice_get, drop, refl}
 use Rattle.lk_abs.specs.declared.names.Waiter.{Waiter}
 use Rattle.lk_word.specs.declared.spin_word.NodeName.{NodeName}
 use Rattle.lk_machine.specs.declared.parts.Node.{Node}
-use Rattle.lk_law.specs.Phase.{Phase, queues, leads, has_node}
+use Rattle.lk_law.specs.Phase.{Phase, queues, leads}
 use Rattle.lk_law.specs.Snapshot.{Moves, QueueAgrees}
 use Rattle.lk_law.specs.Phase.Phase.{Idle}
-use Rattle.lk_law.proofs.common.Cases.{waiter_cases}
+use Rattle.lk_law.proofs.common.Cases.{Apart, waiter_cases}
 use Rattle.lk_law.proofs.queue.Lead.{lead_first}
 use Rattle.lk_law.proofs.common.Lists.{get-drop_one, get-none_up, last_cases}
 
@@ -15,10 +15,11 @@ use Rattle.lk_law.proofs.common.Lists.{get-drop_one, get-none_up, last_cases}
 module _ {tail : Option NodeName} {phase phase' : Waiter → Phase} {own own' : Waiter → NodeName}
     {node : NodeName → Node} {main : List Waiter} {w : Waiter}
     {r : Phase}
-    (ok : QueueAgrees tail phase own node main) (moves : Moves phase phase' w r Idle) (lead : leads r ((node (own w)).flag) ≡ true)
+    (ok : QueueAgrees tail phase own node main) (moves : Moves phase phase' w r Idle)
+    (lead : leads r ((node (own w)).flag) ≡ true)
     (owns : (u : Waiter) → u ≢ w → own' u ≡ own u)
     (mine : tail ≡ Some (own w))
-    (apart : (u v : Waiter) → has_node (phase u) ≡ true → has_node (phase v) ≡ true → own u ≡ own v → u ≡ v) where
+    (apart : Apart phase own) where
   sole-at : slice_get main 0 ≡ Some w
   sole-at = lead_first ok w (grind (arith, moves.was))
 
@@ -28,10 +29,12 @@ module _ {tail : Option NodeName} {phase phase' : Waiter → Phase} {own own' : 
       → slice_get main 1 ≡ None
   sole-end (inl e) = grind (arith, sole-at)
   sole-end (inr s) =
-      let t = ok.tail_is s.0 s.1 s.2 s.3 in
-      let same : s.1 ≡ w = apart s.1 w (grind (arith, ok.inside s.0 s.1 s.2)) (grind (arith, ok.inside 0 w sole-at)) (grind arith) in
+      let t = ok.ends.tail_is s.0 s.1 s.2 s.3 in
+      let same : s.1 ≡ w =
+      apart s.1 w (grind (arith, ok.members.inside s.0 s.1 s.2))
+      (grind (arith, ok.members.inside 0 w sole-at)) (grind arith) in
       let here : slice_get main s.0 ≡ Some w = grind (arith, s.2) in
-      let zero_is : s.0 ≡ 0 = ok.once s.0 0 w here sole-at in
+      let zero_is : s.0 ≡ 0 = ok.members.once s.0 0 w here sole-at in
       grind (arith, s.3, zero_is)
 
   -- nobody stands behind it
@@ -44,7 +47,7 @@ module _ {tail : Option NodeName} {phase phase' : Waiter → Phase} {own own' : 
 
   sole-out : (u : Waiter) → queues (phase' u) ≡ true → ⊥
   sole-out u h = let ne : u ≢ w = (λ e. grind (arith, moves.now)) in
-      let at = ok.place u (grind (arith, moves.others u ne)) in go u ne at.0 at.1
+      let at = ok.members.place u (grind (arith, moves.others u ne)) in go u ne at.0 at.1
     where
       go : (u : Waiter) → u ≢ w → (i : ℕ) → slice_get main i ≡ Some u → ⊥
       go u ne zero p = grind (arith, sole-at)
@@ -56,16 +59,23 @@ module _ {tail : Option NodeName} {phase phase' : Waiter → Phase} {own own' : 
   pub queue_sole : QueueAgrees None phase' own' node (drop 1 main)
   queue_sole =
       record {
-        inside = λ i u h. grind (arith, sole_empty i);
-        place = λ u h. absurd (sole-out u h);
-        once = λ i j u h k. grind (arith, sole_empty i);
-        no_tail = λ h. refl;
-        tail_is = λ i u h k. grind (arith, sole_empty i);
-        first = λ u h. grind (arith, sole_empty 0);
-        behind = λ i u h. absurd (grind (arith, sole_empty (suc i)));
-        linked = λ i u v h k p. grind (arith, sole_empty i);
-        linking = λ i u v n h k p. absurd (grind (arith, sole_empty i));
-        last = λ i u h k. grind (arith, sole_empty i);
-        hand = λ u n p. absurd (sole-out u (grind arith));
-        fresh = λ u p. grind (arith, waiter_cases u w, moves.now, moves.others u, owns u, ok.fresh u);
+        members = record {
+          inside = λ i u h. grind (arith, sole_empty i);
+          place = λ u h. absurd (sole-out u h);
+          once = λ i j u h k. grind (arith, sole_empty i);
+        };
+        ends = record {
+          no_tail = λ h. refl;
+          tail_is = λ i u h k. grind (arith, sole_empty i);
+          first = λ u h. grind (arith, sole_empty 0);
+          behind = λ i u h. absurd (grind (arith, sole_empty (suc i)));
+        };
+        links = record {
+          linked = λ i u v h k p. grind (arith, sole_empty i);
+          linking = λ i u v n h k p. absurd (grind (arith, sole_empty i));
+          last = λ i u h k. grind (arith, sole_empty i);
+          hand = λ u n p. absurd (sole-out u (grind arith));
+          fresh = λ u p.
+              grind (arith, waiter_cases u w, moves.now, moves.others u, owns u, ok.links.fresh u);
+        };
       }

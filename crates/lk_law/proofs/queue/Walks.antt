@@ -2,6 +2,7 @@
 use Rattle.lk_machine.specs.declared.parts.Flag.{Flag}
 use Rattle.lk_law.specs.Cna.{part, front_cut, first_node}
 use Rattle.lk_law.specs.Phase.Phase.{Waits}
+use Rattle.lk_law.proofs.common.Cases.{Apart}
 use Rattle.lk_law.proofs.cna.Parts.{part_cases, shown_flag}
 use Rattle.lk_law.proofs.common.Families.{lists_front}
 use Rattle.std.proofs.Common.{◌≡◌, ℕ, zero, suc, Option, Some, None, true, List, [], ◌∷◌, length}
@@ -34,27 +35,29 @@ walk_is behind own (u ∷ us) zero h each = absurd (grind arith)
 walk_is behind own (u ∷ us) (suc c) h each =
     let r = walk_is behind own us c (grind arith) (λ i v e. each (suc i) v e) in
     let s : behind (own u) ≡ own_of own (slice_get us 0) = each 0 u refl in
-    ap (λ (o : Option NodeName). own u ∷ walk behind c o) s ∙ ap (λ (ns : List NodeName). own u ∷ ns) r
+    ap (λ (o : Option NodeName). own u ∷ walk behind c o) s
+    ∙ ap (λ (ns : List NodeName). own u ∷ ns) r
 
-module _ {tail : Option NodeName} {phase : Waiter → Phase} {own : Waiter → NodeName} {node : NodeName → Node} {main : List Waiter}
+module _ {tail : Option NodeName} {phase : Waiter → Phase} {own : Waiter
+    → NodeName} {node : NodeName → Node} {main : List Waiter}
     {behind : NodeName → Option NodeName}
     (ok : QueueAgrees tail phase own node main) (is : IsBehind phase own node behind)
-    (apart : (u v : Waiter) → has_node (phase u) ≡ true → has_node (phase v) ≡ true → own u ≡ own v → u ≡ v) where
+    (apart : Apart phase own) where
   -- nobody will link to the last
   nobody : (i : ℕ) (u v : Waiter) → slice_get main i ≡ Some u → slice_get main (suc i) ≡ None
       → phase v ≡ Links (own u) → ⊥
-  nobody i u v h e l = let at = ok.place v (ap queues l) in go at.0 at.1
+  nobody i u v h e l = let at = ok.members.place v (ap queues l) in go at.0 at.1
     where
       go : (j : ℕ) → slice_get main j ≡ Some v → ⊥
-      go zero a = grind (arith, ok.first v a, l)
+      go zero a = grind (arith, ok.ends.first v a, l)
       go (suc j) a = elim (get_cases main j) [
         | inl none ↦ grind (arith, get-none_up main j none, a)
         | inr p ↦
-            let n = (ok.linking j p.0 v (own u) p.1 a l).0 in
+            let n = (ok.links.linking j p.0 v (own u) p.1 a l).0 in
             let same : u ≡ p.0 =
-            apart u p.0 (queue_node (phase u) (ok.inside i u h))
-            (queue_node (phase p.0) (ok.inside j p.0 p.1)) n in
-            let ij : i ≡ j = ok.once i j u h (p.1 ∙ ap Some (sym same)) in
+            apart u p.0 (queue_node (phase u) (ok.members.inside i u h))
+            (queue_node (phase p.0) (ok.members.inside j p.0 p.1)) n in
+            let ij : i ≡ j = ok.members.once i j u h (p.1 ∙ ap Some (sym same)) in
             grind (arith, ap (λ (k : ℕ). slice_get main (suc k)) ij, a, e)
       ]
 
@@ -63,11 +66,13 @@ module _ {tail : Option NodeName} {phase : Waiter → Phase} {own : Waiter → N
       → behind (own u) ≡ own_of own (slice_get main (suc i))
   stands_behind i u h =
       elim (get_cases main (suc i)) [
-        | inl e ↦ is.none (own u) (ok.last i u h e) (λ v l. nobody i u v h e l) ∙ sym (ap (own_of own) e)
-        | inr v ↦ elim (follows_cases (phase v.0) (ok.behind i v.0 v.1).0) [
-          | inl l ↦ let k = ok.linking i u v.0 l.0 h v.1 l.1 in
+        | inl e ↦ is.none (own u) (ok.links.last i u h e) (λ v l. nobody i u v h e l)
+            ∙ sym (ap (own_of own) e)
+        | inr v ↦ elim (follows_cases (phase v.0) (ok.ends.behind i v.0 v.1).0) [
+          | inl l ↦ let k = ok.links.linking i u v.0 l.0 h v.1 l.1 in
               is.linking (own u) v.0 k.1 (l.1 ∙ ap Links k.0) ∙ sym (ap (own_of own) v.1)
-          | inr w ↦ is.linked (own u) (own v.0) (ok.linked i u v.0 h v.1 w) ∙ sym (ap (own_of own) v.1)
+          | inr w ↦ is.linked (own u) (own v.0) (ok.links.linked i u v.0 h v.1 w)
+              ∙ sym (ap (own_of own) v.1)
         ]
       ]
 
@@ -84,7 +89,7 @@ main_is_the_walk s hs l ok flat =
     let q = ((ok.locks l).lists.flat flat).queue in
     record {
       led = λ behind is u lead c h. walk_led q is (apart_on ok.nodes l) u (lead_first q u lead) c h;
-      unled = λ none. empty (hs l).main (λ u at. none u (q.first u at));
+      unled = λ none. empty (hs l).main (λ u at. none u (q.ends.first u at));
     }
   where
     empty : (us : List Waiter) → ((u : Waiter) → slice_get us 0 ≡ Some u → ⊥) → us ≡ []
@@ -119,8 +124,12 @@ main_is_the_shown_walk s hs l ok aside =
       led = λ behind is u lead c h.
           walk_led o.queue is (λ a b p q e. apart_on ok.nodes l a b (noded a p) (noded b q) e) u
           (lists_front (ok.locks l).lists u lead) c h;
-      unled = λ none. go (hs l).main (λ u at. none u (front_leads (hs l).second (s.phase l) u ((s.node (s.own u)).flag)
-          (rw (sym (shown_flag (front_cut s.own (s.stage l) (slice_get (hs l).main 0)) s.node (s.own u))) (o.queue.first u at))));
+      unled = λ none.
+          go (hs l).main (λ u at.
+          none u (front_leads (hs l).second (s.phase l) u ((s.node (s.own u)).flag)
+          (rw
+          (sym (shown_flag (front_cut s.own (s.stage l) (slice_get (hs l).main 0)) s.node
+          (s.own u))) (o.queue.ends.first u at))));
     }
   where
     go : (us : List Waiter) → ((u : Waiter) → slice_get us 0 ≡ Some u → ⊥) → us ≡ []
@@ -137,13 +146,16 @@ walk_along next own (u ∷ []) each = refl
 walk_along next own (u ∷ v ∷ us) each =
     let rest = walk_along next own (v ∷ us) (λ i a b p q. each (suc i) a b p q) in
     let step : next (own u) ≡ Some (own v) = each 0 u v refl refl in
-    ap (λ (o : Option NodeName). own u ∷ walk next (length (v ∷ us)) o) step ∙ ap (λ (ns : List NodeName). own u ∷ ns) rest
+    ap (λ (o : Option NodeName). own u ∷ walk next (length (v ∷ us)) o) step
+    ∙ ap (λ (ns : List NodeName). own u ∷ ns) rest
 
 pub second_is_the_walk : SecondIsTheWalk
 second_is_the_walk s hs l ok aside =
     let o = (ok.locks l).lists.cna aside in
     record {
-      walked = walk_along (λ n. (s.node n).next) s.own (hs l).second (λ i u v p q. o.second_ok.linked i u v p q);
+      walked =
+          walk_along (λ n. (s.node n).next) s.own (hs l).second
+          (λ i u v p q. o.second_ok.linked i u v p q);
       ended = o.second_ok.last;
       known = λ u lead some. (o.lead u (lists_front (ok.locks l).lists u lead)).names (inr some);
     }

@@ -76,7 +76,8 @@ turn_rws m {w = w} {f = f} g i {r' = r'} live was now turn ok =
       others = λ u ne. refl;
       inner = ok.waiting.inner w ∙ ap is_inner (ap (rw_phase_on i) live ∙ was) ∙ sym turn.outer;
     } in
-    rw_turn ok step refl (counted_same r' (rw_helds m i w) turn.counts) turn.told turn.out turn.unread turn.unwrite
+    rw_turn ok step refl (counted_same r' (rw_helds m i w) turn.counts) turn.told turn.out
+    turn.unread turn.unwrite
   where
     counted_same : (q : RwPhase) (h : Option Manner) → biased q ≡ false
         → is_counted q h ≡ is_counted Away h

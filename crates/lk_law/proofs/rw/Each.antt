@@ -10,14 +10,19 @@ Decides A = (a b : A) → (a ≡ b) ⊎ (a ≢ b)
 
 pub each_same : {A : Type 0} {P Q : A → Type 0} {xs : List A} → IsEach P xs → ((x : A) → P x → Q x)
     → ((x : A) → Q x → P x) → IsEach Q xs
-each_same e to from = record { inside = λ i x p. to x (e.inside i x p); place = λ x q. e.place x (from x q); once = e.once }
+each_same e to from = record {
+  inside = λ i x p. to x (e.inside i x p);
+  place = λ x q. e.place x (from x q);
+  once = e.once;
+}
 
 -- without the first, it has each of the others
 pub each_tail : {A : Type 0} {P : A → Type 0} {y : A} {xs : List A} → IsEach P (y ∷ xs)
     → IsEach (λ x. P x × (x ≢ y)) xs
 each_tail {A = A} {P = P} {y = y} {xs = xs} e =
     record {
-      inside = λ i x p. (e.inside (suc i) x p, λ q. zero_suc i (e.once zero (suc i) x (ap Some (sym q)) p));
+      inside = λ i x p.
+          (e.inside (suc i) x p, λ q. zero_suc i (e.once zero (suc i) x (ap Some (sym q)) p));
       place = λ x p. back x p.1 (e.place x p.0);
       once = λ i j x p q. pred i j (e.once (suc i) (suc j) x p q);
     }
@@ -68,7 +73,8 @@ pub each_more : {A : Type 0} → Decides A → {P Q : A → Type 0} {xs : List A
     → (P a → ⊥) → Q a → ((x : A) → P x → Q x) → ((x : A) → Q x → x ≢ a → P x)
     → IsEach Q (xs ++ a ∷ [])
 each_more {A = A} same {P = P} {Q = Q} {xs = []} a e none has to from =
-    let empty : IsEach {A = A} (λ x. Q x × (x ≢ a)) [] = each_empty (λ x p. nothing x (e.place x (from x p.0 p.1))) in
+    let empty : IsEach {A = A} (λ x. Q x × (x ≢ a)) [] =
+    each_empty (λ x p. nothing x (e.place x (from x p.0 p.1))) in
     each_cons same empty has
   where
     nothing : (x : A) → (i : ℕ) × (slice_get ([]) i ≡ Some x) → ⊥
@@ -101,9 +107,11 @@ each_less {A = A} same {P = P} {Q = Q} {xs = y ∷ xs} a t sound mine e none to 
         → IsEach Q (if b then xs else y ∷ without_first t xs)
     by_test true h rest =
         let eq : y ≡ a = sound y h in
-        each_same (each_tail e) (λ x p. to x p.0 (λ q. p.1 (q ∙ sym eq))) (λ x q. (from x q, λ s. none (subst Q (s ∙ eq) q)))
+        each_same (each_tail e) (λ x p. to x p.0 (λ q. p.1 (q ∙ sym eq)))
+        (λ x q. (from x q, λ s. none (subst Q (s ∙ eq) q)))
     by_test false h rest =
-        let apart : y ≢ a = (λ q. absurd (let z : t y ≡ true = ap t q ∙ mine in grind (arith, z, h))) in
+        let apart : y ≢ a =
+        (λ q. absurd (let z : t y ≡ true = ap t q ∙ mine in grind (arith, z, h))) in
         each_cons same rest (to y (e.inside zero y refl) apart)
 
 pub length_less : {A : Type 0} (xs : List A) (t : A → Bool) (a : A) (i : ℕ) → t a ≡ true

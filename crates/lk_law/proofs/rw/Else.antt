@@ -15,7 +15,7 @@ use Rattle.lk_machine.specs.declared.parts.Flag.{Flag}
 use Rattle.lk_machine.specs.declared.parts.Frame.{Frame}
 use Rattle.lk_machine.specs.declared.parts.Pc.{Pc}
 use Rattle.lk_machine.specs.Row.{Lead, Goes, Enters, Granted, Freed, Missed, Done, TakesWait}
-use Rattle.lk_machine.specs.Row.{Leaves, Yields, Tell, Nothing, Says, Passes, Change, changed}
+use Rattle.lk_machine.specs.Row.{Leaves, Yields, Tell, Nothing, Says, Passes, Change, with_change}
 use Rattle.lk_machine.specs.Row.{changed_all, Prev, Second, Y, Left, A, B, K, T, Reason, Tailed}
 use Rattle.lk_machine.specs.Row.{HashedIs, TargetIs}
 use Rattle.lk_law.specs.Snapshot.{Moves}
@@ -87,17 +87,20 @@ pub beside_rest : (m n : World) (w : Waiter) (lead : Lead) → Beside m n
     → Beside m (led_rest n w lead)
 beside_rest m n w (Goes c cs) b = b
 beside_rest m n w (Enters None c) b = b
-beside_rest m n w (Enters (Some k) c) b = record { frames = b.frames; helds = b.helds; rws = b.rws; kinds = b.kinds }
+beside_rest m n w (Enters (Some k) c) b =
+    record { frames = b.frames; helds = b.helds; rws = b.rws; kinds = b.kinds }
 beside_rest m n w Granted b = b
 beside_rest m n w Freed b = b
 beside_rest m n w Missed b = b
 beside_rest m n w Done b = b
 beside_rest m n w (TakesWait c) b = b
 beside_rest m n w (Yields c cs) b = b
-beside_rest m n w Leaves b = record { frames = b.frames; helds = b.helds; rws = b.rws; kinds = b.kinds }
+beside_rest m n w Leaves b =
+    record { frames = b.frames; helds = b.helds; rws = b.rws; kinds = b.kinds }
 
 -- the frame f of w becomes g, and w holds the lock l so
-pub record Put (m m' : World) (w : Waiter) (f g : Frame) (l : LockName) (way : Option Manner) : Type 0 where
+pub record Put (m m' : World) (w : Waiter) (f g : Frame) (l : LockName)
+    (way : Option Manner) : Type 0 where
   pub frames : Moves m.frame m'.frame w (Some f) (Some g)
   pub here : m'.held w l ≡ way
   pub waiters : (u : Waiter) → u ≢ w → (k : LockName) → m'.held u k ≡ m.held u k
@@ -108,16 +111,26 @@ pub put_held_frame : (m n : World) (w : Waiter) (f g : Frame) (l : LockName) (wa
     → Put m (put_held (put_frame n w (Some g)) w l way) w f g l way
 put_held_frame m n w f g l way live frames helds =
     record {
-      frames = record { was = live; now = p.now; others = λ u ne. p.others u ne ∙ ap (λ (h : Waiter → Option Frame). h u) frames };
-      here = if-true (same_waiter w w && same_lock l l) way (n.held w l) (grind (arith, same_waiter-self w, same_lock-self l));
+      frames = record {
+        was = live;
+        now = p.now;
+        others = λ u ne. p.others u ne ∙ ap (λ (h : Waiter → Option Frame). h u) frames;
+      };
+      here =
+          if-true (same_waiter w w && same_lock l l) way (n.held w l)
+          (grind (arith, same_waiter-self w, same_lock-self l));
       waiters = λ u ne k.
           if-false (same_waiter u w && same_lock k l) way (n.held u k)
           (grind (arith, same_waiter-else u w ne)) ∙ is u k;
-      locks = λ k ne u. if-false (same_waiter u w && same_lock k l) way (n.held u k) (grind (arith, same_lock-else k l ne)) ∙ is u k;
+      locks = λ k ne u.
+          if-false (same_waiter u w && same_lock k l) way (n.held u k)
+          (grind (arith, same_lock-else k l ne)) ∙ is u k;
     }
   where
     p : Moves n.frame (put_frame n w (Some g)).frame w (Some f) (Some g)
-    p = put_moves n.frame w (Some f) (Some g) (ap (λ (h : Waiter → Option Frame). h w) frames ∙ live)
+    p =
+        put_moves n.frame w (Some f) (Some g)
+        (ap (λ (h : Waiter → Option Frame). h w) frames ∙ live)
 
     is : (u : Waiter) (k : LockName) → n.held u k ≡ m.held u k
     is u k = ap (λ (h : Waiter → LockName → Option Manner). h u k) helds
@@ -160,7 +173,7 @@ pub record SpinMade (m : World) (w : Waiter) (f : Frame) (c : Pc) (made : Made) 
   pub onward : SpinLead (part_of c) lead
   pub tells : TellsOf f.lock made.1
 
-changed_lock : (f : Frame) (c : Change) → (changed f c).lock ≡ f.lock
+changed_lock : (f : Frame) (c : Change) → (with_change f c).lock ≡ f.lock
 changed_lock f (Prev n) = refl
 changed_lock f (Second n) = refl
 changed_lock f (Y n) = refl
@@ -174,7 +187,7 @@ changed_lock f (Tailed n) = refl
 changed_lock f (HashedIs n) = refl
 changed_lock f (TargetIs n) = refl
 
-changed_then : (f : Frame) (c : Change) → (changed f c).then ≡ f.then
+changed_then : (f : Frame) (c : Change) → (with_change f c).then ≡ f.then
 changed_then f (Prev n) = refl
 changed_then f (Second n) = refl
 changed_then f (Y n) = refl
@@ -190,11 +203,11 @@ changed_then f (TargetIs n) = refl
 
 pub changes_lock : (f : Frame) (cs : List Change) → (changed_all f cs).lock ≡ f.lock
 changes_lock f [] = refl
-changes_lock f (c ∷ cs) = changes_lock (changed f c) cs ∙ changed_lock f c
+changes_lock f (c ∷ cs) = changes_lock (with_change f c) cs ∙ changed_lock f c
 
 pub changes_then : (f : Frame) (cs : List Change) → (changed_all f cs).then ≡ f.then
 changes_then f [] = refl
-changes_then f (c ∷ cs) = changes_then (changed f c) cs ∙ changed_then f c
+changes_then f (c ∷ cs) = changes_then (with_change f c) cs ∙ changed_then f c
 
 -- The frame goes on with the lock as before, or has taken or freed it; or its operation has ended
 -- without it, or behind its release.

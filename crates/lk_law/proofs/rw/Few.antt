@@ -42,7 +42,8 @@ each_few count P us e one =
     ≡ true) = Any-from_list_any (eqb q) (map waiter_number us) member in
     let small : All (λ n. n < count) (map waiter_number us) =
     All-map (λ n. n < count) waiter_number us (λ k d lt. (within k d lt).1) in
-    let below : get_or (map waiter_number us) found.0 found.1 < count = small found.0 found.1 found.2 in
+    let below : get_or (map waiter_number us) found.0 found.1 < count =
+    small found.0 found.1 found.2 in
     omega (arith, found.3, eqb-true q found.1 found.4)) in
     omega (arith, length-map us waiter_number, few)
   where
@@ -61,7 +62,9 @@ each_few count P us e one =
         rw (first, later) (ne_eqb _ _ (λ same.
         let a : slice_get us i ≡ Some (get_or us i o) = slice_get-get_or us i o early in
         let b : slice_get us j ≡ Some (get_or us j o) = slice_get-get_or us j o late in
-        let one = number_one count (get_or us i o) (get_or us j o) (within i o early) (within j o late) same in
+        let one =
+        number_one count (get_or us i o) (get_or us j o) (within i o early)
+        (within j o late) same in
         let z : i ≡ j = e.once i j (get_or us i o) a (b ∙ ap Some (sym one)) in
         absurd (omega (arith, near, z)))))
 

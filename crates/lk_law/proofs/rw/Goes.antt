@@ -27,7 +27,7 @@ use Rattle.lk_law.specs.World.{World}
 use Rattle.lk_law.specs.Registers.{IsQuiet}
 use Rattle.lk_law.specs.Steps.{rw_led, led, told_event, told_on}
 use Rattle.lk_law.specs.Premises.{IsThen}
-use Rattle.lk_law.specs.Allowed.{IsAllowedIfAny}
+use Rattle.lk_law.specs.Allowed.{MayFollowIfAny}
 use Rattle.lk_law.specs.Families.{is_rw_row}
 use Rattle.lk_law.specs.SoundWorld.{rw_own_phase, rw_phases, rw_helds, rw_waits}
 use Rattle.lk_law.specs.SoundWorld.{IsSoundWorld, rw_wait_phase, part_of}
@@ -41,10 +41,11 @@ use Rattle.lk_law.proofs.rw.Kept.{rw_waits_here, RwGoing, rw_after, going_put, g
 use Rattle.lk_law.proofs.rw.Kept.{going_sound, frees_by}
 
 -- what a row is to keep
-abbrev pub RwKept : World → (LockName → LockHistory) → Rules → Waiter → Waiter → Frame → World → Tell
+abbrev pub RwKept : World → (LockName → LockHistory) → Rules → Waiter → Waiter → Frame → World
+    → Tell
     → Type 0
 RwKept m hs rules w to f m' t = IsSoundWorld m' (told_on hs (told_event w f.lock to t))
-    × IsAllowedIfAny rules hs (told_event w f.lock to t)
+    × MayFollowIfAny rules hs (told_event w f.lock to t)
 
 -- and by its outcome
 abbrev pub OutcomeKept : World → (LockName → LockHistory) → Rules → Waiter → Waiter → Frame
@@ -67,7 +68,8 @@ module _ {m n : World} {hs : LockName → LockHistory} (rules : Rules) {w : Wait
   -- a row that tells nothing
   pub silent : Law m hs w f c r' x way (hs (rw_name f.lock.index))
       → RwKept m hs rules w to f (rw_after n w g f.lock.index way) Nothing
-  silent law = (going_sound at go None tt (law _ _ _ (going_rw_step at go) (going_put at go).here), tt)
+  silent law =
+      (going_sound at go None tt (law _ _ _ (going_rw_step at go) (going_put at go).here), tt)
 
   -- one that tells an event of the lock
   pub says : (what : What) → lock_of what ≡ Some (rw_name f.lock.index)
@@ -84,7 +86,11 @@ module _ {m n : World} {hs : LockName → LockHistory} (rules : Rules) {w : Wait
             (subst (λ (h : LockHistory).
             RwAgrees x (rw_phases m' f.lock.index) (rw_helds m' f.lock.index)
             (rw_waits m' f.lock.index) h) (sym told_is) agrees),
-        on_lock rules hs e l of (record { owned = owned; ordered = ordered; shared = rw_shared agrees.holds }),
+        on_lock rules hs e l of (record {
+          owned = owned;
+          ordered = ordered;
+          shared = rw_shared agrees.holds;
+        }),
       )
 
 -- a row of a reader or a writer needs nothing of spinlocks
@@ -128,7 +134,9 @@ going_to {m = m} {w = w} {f = f} {c = c} at d row inner stored unspun =
       unspun = unspun;
       fits = record {
         rw = λ d' q e. rw_kind at;
-        inner = λ d' q e i. fits.inner c at.place at.row (sym inner ∙ ap (λ (k : Pc). is_inner (rw_own_phase k)) (same d' q) ∙ i);
+        inner = λ d' q e i.
+            fits.inner c at.place at.row (sym inner
+            ∙ ap (λ (k : Pc). is_inner (rw_own_phase k)) (same d' q) ∙ i);
         spin = λ d' q e s. absurd (let z = ap is_rw_row (same d' q) in grind (arith, z, row, e));
         waits = fits.waits;
         after = fits.after;
@@ -150,9 +158,16 @@ going_end {m = m} {w = w} {f = f} {c = c} at outer stored unspun =
       me = refl;
       now = refl;
       inner = sym outer;
-      side = side_rests (record f { place = None }) (wait_name f.lock.index) _ (quiet_none None refl);
+      side =
+          side_rests (record f { place = None }) (wait_name f.lock.index) _ (quiet_none None refl);
       unspun = unspun;
-      fits = record { rw = λ d q e. cc; inner = λ d q e i. cc; spin = λ d q e s. cc; waits = fits.waits; after = fits.after };
+      fits = record {
+        rw = λ d q e. cc;
+        inner = λ d q e i. cc;
+        spin = λ d q e s. cc;
+        waits = fits.waits;
+        after = fits.after;
+      };
     }
 
 pub going_wait : {m n : World} {hs : LockName → LockHistory} {w : Waiter} {f : Frame} {c : Pc}

@@ -92,7 +92,10 @@ module _ {phase phase' : Waiter → RwPhase} {held held' : Waiter → Option Man
             (sym e) (counted_now ∙ same ∙ sym counted_was)
         | inr ne ↦ counted_else u ne
       ] in
-      record { each = each_same ok.each (λ u p. each u ∙ p) (λ u p. sym (each u) ∙ p); number = ok.number }
+      record {
+        each = each_same ok.each (λ u p. each u ∙ p) (λ u p. sym (each u) ∙ p);
+        number = ok.number;
+      }
 
   -- it is counted from now on
   pub counted_more : {n : ℕ} {counted : List Waiter} → ReadersAgree n phase held counted
@@ -100,9 +103,12 @@ module _ {phase phase' : Waiter → RwPhase} {held held' : Waiter → Option Man
       → ReadersAgree (n + 1) phase' held' (counted ++ w ∷ [])
   counted_more {n = n} {counted = counted} ok was now =
       record {
-        each = each_more waiter_cases w ok.each (λ p. grind (arith, p, counted_was, was)) (counted_now ∙ now)
+        each =
+            each_more waiter_cases w ok.each (λ p. grind (arith, p, counted_was, was))
+            (counted_now ∙ now)
             (λ u p. elim (waiter_cases u w) [
-              | inl e ↦ subst (λ (v : Waiter). is_counted (phase' v) (held' v) ≡ true) (sym e) (counted_now ∙ now)
+              | inl e ↦ subst (λ (v : Waiter). is_counted (phase' v) (held' v) ≡ true) (sym e)
+                  (counted_now ∙ now)
               | inr ne ↦ counted_else u ne ∙ p
             ])
             (λ u p ne. sym (counted_else u ne) ∙ p);
@@ -120,7 +126,8 @@ module _ {phase phase' : Waiter → RwPhase} {held held' : Waiter → Option Man
             (same_waiter-self w) ok.each (λ p. grind (arith, p, counted_now, now))
             (λ u p ne. counted_else u ne ∙ p)
             (λ u p. elim (waiter_cases u w) [
-              | inl e ↦ subst (λ (v : Waiter). is_counted (phase v) (held v) ≡ true) (sym e) (counted_was ∙ was)
+              | inl e ↦ subst (λ (v : Waiter). is_counted (phase v) (held v) ≡ true) (sym e)
+                  (counted_was ∙ was)
               | inr ne ↦ sym (counted_else u ne) ∙ p
             ]);
         number = let e = ok.number in
@@ -135,7 +142,8 @@ module _ {phase phase' : Waiter → RwPhase} {held held' : Waiter → Option Man
   rw_hold_keep ok same out reads writes =
       let each : (u : Waiter) → held' u ≡ held u =
       λ u. elim (waiter_cases u w) [
-        | inl e ↦ subst (λ (v : Waiter). held' v ≡ held v) (sym e) (step.holds.now ∙ same ∙ sym step.holds.was)
+        | inl e ↦ subst (λ (v : Waiter). held' v ≡ held v) (sym e)
+            (step.holds.now ∙ same ∙ sym step.holds.was)
         | inr ne ↦ step.holds.others u ne
       ] in
       record {
@@ -144,9 +152,36 @@ module _ {phase phase' : Waiter → RwPhase} {held held' : Waiter → Option Man
         written = λ p. let s = ok.written p in (s.0, each s.0 ∙ s.1);
         writes = λ u p. ok.writes u (sym (each u) ∙ p);
         alone = λ u v m p q. ok.alone u v m (sym (each u) ∙ p) (sym (each v) ∙ q);
-        without = λ u p. grind (arith, waiter_cases u w, ok.without u, step.acts.others u, step.acts.now, step.holds.was, each u);
-        unreads = λ u p. grind (arith, waiter_cases u w, ok.unreads u, step.acts.others u, step.acts.now, step.holds.was, each u);
-        unwrites = λ u p. grind (arith, waiter_cases u w, ok.unwrites u, step.acts.others u, step.acts.now, step.holds.was, each u);
+        without = λ u p.
+            grind (
+              arith,
+              waiter_cases u w,
+              ok.without u,
+              step.acts.others u,
+              step.acts.now,
+              step.holds.was,
+              each u,
+            );
+        unreads = λ u p.
+            grind (
+              arith,
+              waiter_cases u w,
+              ok.unreads u,
+              step.acts.others u,
+              step.acts.now,
+              step.holds.was,
+              each u,
+            );
+        unwrites = λ u p.
+            grind (
+              arith,
+              waiter_cases u w,
+              ok.unwrites u,
+              step.acts.others u,
+              step.acts.now,
+              step.holds.was,
+              each u,
+            );
       }
 
   holds_more : {holders : List Holder} (m : Manner)
@@ -156,7 +191,9 @@ module _ {phase phase' : Waiter → RwPhase} {held held' : Waiter → Option Man
   holds_more m ok none has =
       each_more holder_cases (record { waiter = w; manner = m }) ok
       (λ p. grind (arith, p, step.holds.was, none)) (step.holds.now ∙ has)
-      (λ x p. step.holds.others x.waiter (λ e. absurd (let q = ap held e in grind (arith, p, q, step.holds.was, none))) ∙ p)
+      (λ x p.
+      step.holds.others x.waiter (λ e.
+      absurd (let q = ap held e in grind (arith, p, q, step.holds.was, none))) ∙ p)
       (λ x p ne. sym (step.holds.others x.waiter (λ e. ne (is_it x p e))) ∙ p)
     where
       is_it : (x : Holder) → held' x.waiter ≡ Some x.manner → x.waiter ≡ w
@@ -170,10 +207,13 @@ module _ {phase phase' : Waiter → RwPhase} {held held' : Waiter → Option Man
       → IsEach (λ (x : Holder). held' x.waiter ≡ Some x.manner) (without w m holders)
   holds_less {holders = holders} m ok has none =
       rw (without-is w m holders)
-      (each_less holder_cases (record { waiter = w; manner = m }) (is_hold w m) (is_hold-true w m) (is_hold-self w m) ok
+      (each_less holder_cases (record { waiter = w; manner = m }) (is_hold w m) (is_hold-true w m)
+      (is_hold-self w m) ok
       (λ p. grind (arith, p, step.holds.now, none))
       (λ x p ne. step.holds.others x.waiter (λ e. ne (is_it x p e)) ∙ p)
-      (λ x p. sym (step.holds.others x.waiter (λ e. absurd (let q = ap held' e in grind (arith, p, q, step.holds.now, none)))) ∙ p))
+      (λ x p.
+      sym (step.holds.others x.waiter
+      (λ e. absurd (let q = ap held' e in grind (arith, p, q, step.holds.now, none)))) ∙ p))
     where
       is_it : (x : Holder) → held x.waiter ≡ Some x.manner → x.waiter ≡ w
           → x ≡ record { waiter = w; manner = m }
@@ -188,13 +228,41 @@ module _ {phase phase' : Waiter → RwPhase} {held held' : Waiter → Option Man
   rw_hold_read ok none has away =
       record {
         each = holds_more Reads ok.each none has;
-        unspun = λ u p. grind (arith, waiter_cases u w, ok.unspun u, step.holds.others u, step.holds.now);
+        unspun = λ u p.
+            grind (arith, waiter_cases u w, ok.unspun u, step.holds.others u, step.holds.now);
         written = λ p. absurd (grind arith);
-        writes = λ u p. grind (arith, waiter_cases u w, ok.writes u, step.holds.others u, step.holds.now);
-        alone = λ u v m p q. absurd (grind (arith, waiter_cases u w, ok.writes u, step.holds.others u, step.holds.now, p));
-        without = λ u p. grind (arith, waiter_cases u w, ok.without u, step.acts.others u, step.acts.now, step.holds.others u);
-        unreads = λ u p. grind (arith, waiter_cases u w, ok.unreads u, step.acts.others u, step.acts.now, step.holds.others u);
-        unwrites = λ u p. grind (arith, waiter_cases u w, ok.unwrites u, step.acts.others u, step.acts.now, step.holds.others u);
+        writes = λ u p.
+            grind (arith, waiter_cases u w, ok.writes u, step.holds.others u, step.holds.now);
+        alone = λ u v m p q.
+            absurd
+            (grind (arith, waiter_cases u w, ok.writes u, step.holds.others u, step.holds.now, p));
+        without = λ u p.
+            grind (
+              arith,
+              waiter_cases u w,
+              ok.without u,
+              step.acts.others u,
+              step.acts.now,
+              step.holds.others u,
+            );
+        unreads = λ u p.
+            grind (
+              arith,
+              waiter_cases u w,
+              ok.unreads u,
+              step.acts.others u,
+              step.acts.now,
+              step.holds.others u,
+            );
+        unwrites = λ u p.
+            grind (
+              arith,
+              waiter_cases u w,
+              ok.unwrites u,
+              step.acts.others u,
+              step.acts.now,
+              step.holds.others u,
+            );
       }
 
   -- it holds as the writer from now on, where nobody held
@@ -211,13 +279,38 @@ module _ {phase phase' : Waiter → RwPhase} {held held' : Waiter → Option Man
       ] in
       record {
         each = holds_more Writes ok.each none has;
-        unspun = λ u p. grind (arith, waiter_cases u w, ok.unspun u, step.holds.others u, step.holds.now);
+        unspun = λ u p.
+            grind (arith, waiter_cases u w, ok.unspun u, step.holds.others u, step.holds.now);
         written = λ p. (w, step.holds.now ∙ has);
         writes = λ u p. refl;
         alone = λ u v m p q. only v m q ∙ sym (only u Writes p);
-        without = λ u p. grind (arith, waiter_cases u w, ok.without u, step.acts.others u, step.acts.now, step.holds.others u);
-        unreads = λ u p. grind (arith, waiter_cases u w, ok.unreads u, step.acts.others u, step.acts.now, step.holds.others u);
-        unwrites = λ u p. grind (arith, waiter_cases u w, ok.unwrites u, step.acts.others u, step.acts.now, step.holds.others u);
+        without = λ u p.
+            grind (
+              arith,
+              waiter_cases u w,
+              ok.without u,
+              step.acts.others u,
+              step.acts.now,
+              step.holds.others u,
+            );
+        unreads = λ u p.
+            grind (
+              arith,
+              waiter_cases u w,
+              ok.unreads u,
+              step.acts.others u,
+              step.acts.now,
+              step.holds.others u,
+            );
+        unwrites = λ u p.
+            grind (
+              arith,
+              waiter_cases u w,
+              ok.unwrites u,
+              step.acts.others u,
+              step.acts.now,
+              step.holds.others u,
+            );
       }
 
   -- the reader releases
@@ -227,11 +320,16 @@ module _ {phase phase' : Waiter → RwPhase} {held held' : Waiter → Option Man
   rw_hold_unread ok has none away =
       record {
         each = holds_less Reads ok.each has none;
-        unspun = λ u p. grind (arith, waiter_cases u w, ok.unspun u, step.holds.others u, step.holds.now);
+        unspun = λ u p.
+            grind (arith, waiter_cases u w, ok.unspun u, step.holds.others u, step.holds.now);
         written = λ p.
-            let s = ok.written p in
-            (s.0, step.holds.others s.0 (λ e. absurd (let q = ap held e in grind (arith, q, s.1, step.holds.was, has))) ∙ s.1);
-        writes = λ u p. grind (arith, waiter_cases u w, ok.writes u, step.holds.others u, step.holds.now);
+            let s = ok.written p in (
+              s.0,
+              step.holds.others s.0 (λ e.
+                  absurd (let q = ap held e in grind (arith, q, s.1, step.holds.was, has))) ∙ s.1,
+            );
+        writes = λ u p.
+            grind (arith, waiter_cases u w, ok.writes u, step.holds.others u, step.holds.now);
         alone = λ u v m p q.
             grind (
               arith,
@@ -242,9 +340,33 @@ module _ {phase phase' : Waiter → RwPhase} {held held' : Waiter → Option Man
               step.holds.others v,
               step.holds.now,
             );
-        without = λ u p. grind (arith, waiter_cases u w, ok.without u, step.acts.others u, step.acts.now, step.holds.others u);
-        unreads = λ u p. grind (arith, waiter_cases u w, ok.unreads u, step.acts.others u, step.acts.now, step.holds.others u);
-        unwrites = λ u p. grind (arith, waiter_cases u w, ok.unwrites u, step.acts.others u, step.acts.now, step.holds.others u);
+        without = λ u p.
+            grind (
+              arith,
+              waiter_cases u w,
+              ok.without u,
+              step.acts.others u,
+              step.acts.now,
+              step.holds.others u,
+            );
+        unreads = λ u p.
+            grind (
+              arith,
+              waiter_cases u w,
+              ok.unreads u,
+              step.acts.others u,
+              step.acts.now,
+              step.holds.others u,
+            );
+        unwrites = λ u p.
+            grind (
+              arith,
+              waiter_cases u w,
+              ok.unwrites u,
+              step.acts.others u,
+              step.acts.now,
+              step.holds.others u,
+            );
       }
 
   -- the writer releases
@@ -255,25 +377,84 @@ module _ {phase phase' : Waiter → RwPhase} {held held' : Waiter → Option Man
       let mine = step.holds.was ∙ has in
       record {
         each = holds_less Writes ok.each has none;
-        unspun = λ u p. grind (arith, waiter_cases u w, ok.unspun u, step.holds.others u, step.holds.now);
+        unspun = λ u p.
+            grind (arith, waiter_cases u w, ok.unspun u, step.holds.others u, step.holds.now);
         written = λ p. absurd (grind arith);
-        writes = λ u p. absurd (grind (arith, waiter_cases u w, ok.alone w u Writes mine, step.holds.others u, step.holds.now));
-        alone = λ u v m p q. absurd (grind (arith, waiter_cases u w, ok.alone w u Writes mine, step.holds.others u, step.holds.now));
-        without = λ u p. grind (arith, waiter_cases u w, ok.without u, step.acts.others u, step.acts.now, step.holds.others u);
-        unreads = λ u p. grind (arith, waiter_cases u w, ok.unreads u, step.acts.others u, step.acts.now, step.holds.others u);
-        unwrites = λ u p. grind (arith, waiter_cases u w, ok.unwrites u, step.acts.others u, step.acts.now, step.holds.others u);
+        writes = λ u p.
+            absurd
+            (grind (
+              arith,
+              waiter_cases u w,
+              ok.alone w u Writes mine,
+              step.holds.others u,
+              step.holds.now,
+            ));
+        alone = λ u v m p q.
+            absurd
+            (grind (
+              arith,
+              waiter_cases u w,
+              ok.alone w u Writes mine,
+              step.holds.others u,
+              step.holds.now,
+            ));
+        without = λ u p.
+            grind (
+              arith,
+              waiter_cases u w,
+              ok.without u,
+              step.acts.others u,
+              step.acts.now,
+              step.holds.others u,
+            );
+        unreads = λ u p.
+            grind (
+              arith,
+              waiter_cases u w,
+              ok.unreads u,
+              step.acts.others u,
+              step.acts.now,
+              step.holds.others u,
+            );
+        unwrites = λ u p.
+            grind (
+              arith,
+              waiter_cases u w,
+              ok.unwrites u,
+              step.acts.others u,
+              step.acts.now,
+              step.holds.others u,
+            );
       }
 
   inner_else : {b : Bool} → WaitingAgrees b phase waits → (u : Waiter)
       → waits' u ≡ is_inner (phase' u)
-  inner_else ok u = grind (arith, waiter_cases u w, ok.inner u, step.acts.others u, step.acts.now, step.others u, step.inner)
+  inner_else ok u =
+      grind (
+        arith,
+        waiter_cases u w,
+        ok.inner u,
+        step.acts.others u,
+        step.acts.now,
+        step.others u,
+        step.inner,
+      )
 
   -- it has set waiting, or has not, as before
   pub waiting_keep : {b : Bool} → WaitingAgrees b phase waits → announces r' ≡ announces r
       → WaitingAgrees b phase' waits'
   waiting_keep ok same =
       record {
-        set = λ u p. grind (arith, waiter_cases u w, ok.set u, step.acts.others u, step.acts.now, step.acts.was, is_so r);
+        set = λ u p.
+            grind (
+              arith,
+              waiter_cases u w,
+              ok.set u,
+              step.acts.others u,
+              step.acts.now,
+              step.acts.was,
+              is_so r,
+            );
         someone = λ p. let s = ok.someone p in (
           s.0,
           grind (
@@ -295,7 +476,8 @@ module _ {phase phase' : Waiter → RwPhase} {held held' : Waiter → Option Man
   -- it sets waiting
   pub waiting_set : {b : Bool} → WaitingAgrees b phase waits → r' ≡ Announces
       → WaitingAgrees true phase' waits'
-  waiting_set ok sets = record { set = λ u p. refl; someone = λ p. (w, step.acts.now ∙ sets); inner = inner_else ok }
+  waiting_set ok sets =
+      record { set = λ u p. refl; someone = λ p. (w, step.acts.now ∙ sets); inner = inner_else ok }
 
   -- it clears waiting, where nobody else has the wait lock
   pub waiting_clear : {b : Bool} → WaitingAgrees b phase waits
@@ -303,7 +485,10 @@ module _ {phase phase' : Waiter → RwPhase} {held held' : Waiter → Option Man
       → WaitingAgrees false phase' waits'
   waiting_clear ok one gone =
       record {
-        set = λ u p. absurd (grind (arith, waiter_cases u w, one u, ok.inner u, step.acts.others u, step.acts.now, p));
+        set = λ u p.
+            absurd
+            (grind
+            (arith, waiter_cases u w, one u, ok.inner u, step.acts.others u, step.acts.now, p));
         someone = λ p. absurd (grind arith);
         inner = inner_else ok;
       }

@@ -206,7 +206,9 @@ frees_by Pv =
       unhanded = λ e. grind arith;
       spin = refl;
       part = refl;
-      choice = λ f p. unchosen f U2 p refl (λ e. refl) (λ e. cc) (λ e. cc) (λ e. cc) (λ e. cc) (λ e. cc) (λ e. cc) (λ e. cc);
+      choice = λ f p.
+          unchosen f U2 p refl (λ e. refl) (λ e. cc) (λ e. cc) (λ e. cc) (λ e. cc) (λ e. cc)
+          (λ e. cc) (λ e. cc);
     }
 
 pub side_frees : {mode : Mode} (c : Pc) → FreesAt mode c → (f : Frame) (l : LockName) (h : Bool)
@@ -239,13 +241,15 @@ rw_told kind hs i e of k = (λ j l. each l j)
         by_kind true q = if-true (is_rw_name kind l) no_history (told_on hs e l) q
             ∙ sym (if-true (is_rw_name kind l) no_history (hs l) q)
         by_kind false q =
-            let ne : l ≢ rw_name i = (λ s. absurd (let z = ap (is_rw_name kind) s in grind (arith, z, q, k))) in
+            let ne : l ≢ rw_name i =
+            (λ s. absurd (let z = ap (is_rw_name kind) s in grind (arith, z, q, k))) in
             if-false (is_rw_name kind l) no_history (told_on hs e l) q
             ∙ told_on-else hs (rw_name i) l e of ne
             ∙ sym (if-false (is_rw_name kind l) no_history (hs l) q)
 
 -- The frame f of w stands at a row of a reader or a writer, which does nothing for a spinlock.
-pub record RwStands (m : World) (hs : LockName → LockHistory) (w : Waiter) (f : Frame) (c : Pc) : Type 0 where
+pub record RwStands (m : World) (hs : LockName → LockHistory) (w : Waiter) (f : Frame)
+    (c : Pc) : Type 0 where
   pub sound : IsSoundWorld m hs
   pub live : m.frame w ≡ Some f
   pub place : f.place ≡ Some c
@@ -253,7 +257,8 @@ pub record RwStands (m : World) (hs : LockName → LockHistory) (w : Waiter) (f 
   pub idle : (b : Bool) (prev y : NodeName) → phase_if (Some c) b prev y ≡ Idle
   pub fast : is_slow (Some c) ≡ false
 
-module _ {m : World} {hs : LockName → LockHistory} {w : Waiter} {f : Frame} {c : Pc} (at : RwStands m hs w f c) where
+module _ {m : World} {hs : LockName → LockHistory} {w : Waiter} {f : Frame} {c : Pc}
+    (at : RwStands m hs w f c) where
   pub rw_kind : m.kind f.lock.index ≡ Rw
   rw_kind = (at.sound.fits w f at.live).rw c at.place at.row
 
@@ -273,7 +278,8 @@ module _ {m : World} {hs : LockName → LockHistory} {w : Waiter} {f : Frame} {c
 
 -- What a row makes of a sound world: n is the world after its store of x, g the frame, r' its
 -- phase, and way how its waiter holds the lock.
-pub record RwGoing (m n : World) (w : Waiter) (f g : Frame) (c : Pc) (r' : RwPhase) (x : RwFields) (way : Option Manner) : Type 0 where
+pub record RwGoing (m n : World) (w : Waiter) (f g : Frame) (c : Pc) (r' : RwPhase) (x : RwFields)
+    (way : Option Manner) : Type 0 where
   pub stored : RwStored m n f.lock.index x
   pub lock : g.lock.index ≡ f.lock.index
   pub me : g.me ≡ f.me
@@ -296,7 +302,8 @@ module _ {m n : World} {hs : LockName → LockHistory} {w : Waiter} {f g : Frame
     {r' : RwPhase} {x : RwFields} {way : Option Manner} (at : RwStands m hs w f c)
     (go : RwGoing m n w f g c r' x way) where
   pub going_put : Put m (rw_after n w g f.lock.index way) w f g (rw_name f.lock.index) way
-  going_put = put_held_frame m n w f g (rw_name f.lock.index) way at.live go.stored.frames go.stored.helds
+  going_put =
+      put_held_frame m n w f g (rw_name f.lock.index) way at.live go.stored.frames go.stored.helds
 
   pub going_rw_step : RwStep (rw_phases m f.lock.index)
       (rw_phases (rw_after n w g f.lock.index way) f.lock.index) (rw_helds m f.lock.index)
@@ -319,8 +326,11 @@ module _ {m n : World} {hs : LockName → LockHistory} {w : Waiter} {f g : Frame
   spins_same u l =
       elim (waiter_cases u w) [
         | inl e ↦ elim (lock_cases l (rw_name f.lock.index)) [
-          | inl q ↦ subst (λ (v : Waiter). spins ((rw_after n w g f.lock.index way).held v l) ≡ spins (m.held v l)) (sym e)
-              (subst (λ (k : LockName). spins ((rw_after n w g f.lock.index way).held w k) ≡ spins (m.held w k)) (sym q)
+          | inl q ↦
+              subst (λ (v : Waiter).
+              spins ((rw_after n w g f.lock.index way).held v l) ≡ spins (m.held v l)) (sym e)
+              (subst (λ (k : LockName).
+              spins ((rw_after n w g f.lock.index way).held w k) ≡ spins (m.held w k)) (sym q)
               (ap spins going_put.here ∙ unspun_false way go.unspun
               ∙ sym (unspun_false (m.held w (rw_name f.lock.index))
               ((rw_ok at).holds.unspun w))))
@@ -339,7 +349,8 @@ module _ {m n : World} {hs : LockName → LockHistory} {w : Waiter} {f g : Frame
       let moves = going_put.frames in
       let off = idle_off f idle_here in
       let off' = go.side.off in
-      let kicked : (p : ℕ) → m'.kicked p ≡ m.kicked p = λ p. ap (λ (h : ℕ → Bool). h p) go.stored.kickeds in
+      let kicked : (p : ℕ) → m'.kicked p ≡ m.kicked p =
+      λ p. ap (λ (h : ℕ → Bool). h p) go.stored.kickeds in
       let word : m'.word ≡ m.word = go.stored.words in
       let node : m'.node ≡ m.node = go.stored.nodes in
       let step : Step (snapshot m) (snapshot m') w l Idle go.side.r' (m.word l)
@@ -356,7 +367,8 @@ module _ {m n : World} {hs : LockName → LockHistory} {w : Waiter} {f g : Frame
         helds = λ k ne u. spins_same u k;
       })
       (λ on k u ne h. world_owes m m' w f g moves (λ t e. grind (arith, off, e)) kicked u.cpu)
-      (λ on h. absurd (let z = ap (post_on l) moves.now ∙ post_on-off l g off' in grind (arith, z, h))) in
+      (λ on h.
+      absurd (let z = ap (post_on l) moves.now ∙ post_on-off l g off' in grind (arith, z, h))) in
       let stays : Stays (snapshot m) (snapshot m') w =
       world_stays m m' w f g moves (ap node_of go.me)
       (go.side.fast ∙ sym (ap is_slow at.place ∙ at.fast))
@@ -368,7 +380,8 @@ module _ {m n : World} {hs : LockName → LockHistory} {w : Waiter} {f g : Frame
         entry = ap (λ (h : LockName → Option NodeName). h l) go.stored.entries;
         kicked = kicked;
       } in
-      world_sound m m' w f g moves ok go.stored.modes go.stored.turnses (λ e. absurd (grind (arith, off', e)))
+      world_sound m m' w f g moves ok go.stored.modes go.stored.turnses
+      (λ e. absurd (grind (arith, off', e)))
       (record {
         still = λ e h. absurd (grind (arith, off, e));
         halted = λ p h. inl (ap (λ (q : ℕ → Bool). q p) (sym go.stored.halteds) ∙ h);
@@ -383,15 +396,19 @@ module _ {m n : World} {hs : LockName → LockHistory} {w : Waiter} {f g : Frame
             (ap (λ (h : NodeName → Node). (h a).flag) (sym node) ∙ e);
       })
       (record {
-        me = λ e. absurd (let z = ap has_node go.side.now in let b = go.side.bare in grind (arith, e, z, b));
+        me = λ e.
+            absurd (let z = ap has_node go.side.now in let b = go.side.bare in
+            grind (arith, e, z, b));
         bare = λ e. go.me ∙ fit.bare (ap has_node idle_here);
         met = λ e. absurd (go.side.unlinked e);
         next = λ e. absurd (go.side.unhanded e);
         choice = go.side.choice;
       })
       (elim (cases_Bool (halts m.mode)) [
-        | inl on ↦ law_turn_pv ok.agrees on step stays (λ k. ap (λ (h : NodeName → Node). h k) node) go.side.turn posted go.side.suits
-        | inr awake ↦ law_turn ok.agrees awake step stays (λ k. ap (λ (h : NodeName → Node). h k) node) go.side.turn
+        | inl on ↦ law_turn_pv ok.agrees on step stays
+            (λ k. ap (λ (h : NodeName → Node). h k) node) go.side.turn posted go.side.suits
+        | inr awake ↦ law_turn ok.agrees awake step stays
+            (λ k. ap (λ (h : NodeName → Node). h k) node) go.side.turn
       ])
 
   -- The world is sound, where the row's own lock agrees with its history told on.
@@ -418,7 +435,9 @@ module _ {m n : World} {hs : LockName → LockHistory} {w : Waiter} {f g : Frame
       m' = rw_after n w g f.lock.index way
 
       SnapshotAgrees : ℕ → Type 0
-      SnapshotAgrees i = RwAgrees (m'.rw i) (rw_phases m' i) (rw_helds m' i) (rw_waits m' i) (told_on hs e (rw_name i))
+      SnapshotAgrees i =
+          RwAgrees (m'.rw i) (rw_phases m' i) (rw_helds m' i) (rw_waits m' i)
+          (told_on hs e (rw_name i))
 
       each : (i : ℕ) → m.kind i ≡ Rw → SnapshotAgrees i
       each i k =
@@ -434,7 +453,8 @@ module _ {m n : World} {hs : LockName → LockHistory} {w : Waiter} {f g : Frame
               told_on-else hs (rw_name f.lock.index) (rw_name i) e of
                   (λ q. ne (ap (λ (l : LockName). l.index) q)),
             )
-                (rws_else going_put i (at.sound.rws i k) (λ q. ne (sym q)) (λ q. ne (sym (sym go.lock ∙ q)))
+                (rws_else going_put i (at.sound.rws i k) (λ q. ne (sym q))
+                (λ q. ne (sym (sym go.lock ∙ q)))
                 (going_put.locks (rw_name i) (λ q. ne (ap (λ (l : LockName). l.index) q)) w)
                 (ap spins (going_put.locks (wait_name i)
                 (λ q. ne (ap (λ (l : LockName). l.index) q)) w)))

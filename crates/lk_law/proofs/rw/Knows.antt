@@ -18,7 +18,8 @@ some_in : {A : Type 0} (xs : List A) (i : ℕ) (x : A) → slice_get xs i ≡ So
 some_in [] i x p = cc
 some_in (y ∷ xs) i x p = omega arith
 
-module _ {m : World} {hs : LockName → LockHistory} {w : Waiter} {f : Frame} {c : Pc} (at : RwStands m hs w f c) where
+module _ {m : World} {hs : LockName → LockHistory} {w : Waiter} {f : Frame} {c : Pc}
+    (at : RwStands m hs w f c) where
   counts : is_counted (rw_own_phase c) (m.held w (record { index = f.lock.index; wait = false }))
       ≡ true
       → 0 < (m.rw f.lock.index).readers
@@ -32,10 +33,22 @@ module _ {m : World} {hs : LockName → LockHistory} {w : Waiter} {f : Frame} {c
       omega (arith, some, n)
 
   known : (d : Pc) → c ≡ d → RwKnown d (m.rw f.lock.index)
-  known R2 e = counts (ap (λ (k : Pc). is_counted (rw_own_phase k) (m.held w (record { index = f.lock.index; wait = false }))) e)
-  known R3 e = counts (ap (λ (k : Pc). is_counted (rw_own_phase k) (m.held w (record { index = f.lock.index; wait = false }))) e)
-  known R5 e = counts (ap (λ (k : Pc). is_counted (rw_own_phase k) (m.held w (record { index = f.lock.index; wait = false }))) e)
-  known Y3 e = counts (ap (λ (k : Pc). is_counted (rw_own_phase k) (m.held w (record { index = f.lock.index; wait = false }))) e)
+  known R2 e =
+      counts
+      (ap (λ (k : Pc).
+      is_counted (rw_own_phase k) (m.held w (record { index = f.lock.index; wait = false }))) e)
+  known R3 e =
+      counts
+      (ap (λ (k : Pc).
+      is_counted (rw_own_phase k) (m.held w (record { index = f.lock.index; wait = false }))) e)
+  known R5 e =
+      counts
+      (ap (λ (k : Pc).
+      is_counted (rw_own_phase k) (m.held w (record { index = f.lock.index; wait = false }))) e)
+  known Y3 e =
+      counts
+      (ap (λ (k : Pc).
+      is_counted (rw_own_phase k) (m.held w (record { index = f.lock.index; wait = false }))) e)
   known Z1 e =
       let has = (rw_ok at).holds.unreads w (rw_shown at ∙ ap rw_own_phase e) in
       counts (ap (λ (k : Pc).
@@ -43,7 +56,8 @@ module _ {m : World} {hs : LockName → LockHistory} {w : Waiter} {f : Frame} {c
       ∙ ap (is_counted (rw_own_phase Z1)) has)
   known Wr5 e = (rw_ok at).waiting.set w (rw_shown at ∙ ap rw_own_phase e)
   known Wr6 e = (rw_ok at).waiting.set w (rw_shown at ∙ ap rw_own_phase e)
-  known Z2 e = (rw_ok at).holds.writes w ((rw_ok at).holds.unwrites w (rw_shown at ∙ ap rw_own_phase e))
+  known Z2 e =
+      (rw_ok at).holds.writes w ((rw_ok at).holds.unwrites w (rw_shown at ∙ ap rw_own_phase e))
   known _ e = tt
 
 pub rw_row_knows : (c : Pc) → RwRowKnows c

@@ -31,7 +31,8 @@ none_write [] each = refl
 none_write (x ∷ xs) each =
     let m = each zero x refl in
     let rest = none_write xs (λ i y p. each (suc i) y p) in
-    let e : count_by writes (x ∷ xs) ≡ cond (writes x) 1 0 + count_by writes xs = sum_by-cons (λ y. cond (writes y) 1 0) x xs in
+    let e : count_by writes (x ∷ xs) ≡ cond (writes x) 1 0 + count_by writes xs =
+    sum_by-cons (λ y. cond (writes y) 1 0) x xs in
     grind (arith, e, m, rest)
 
 manner_known : (m : Manner) → m ≢ Spins → m ≢ Writes → m ≡ Reads
@@ -62,7 +63,9 @@ module _ {b : Bool} {phase : Waiter → RwPhase} {held : Waiter → Option Manne
   pub rw_unheld : (h : LockHistory) (w : Waiter) → h.holders ≡ holders → held w ≡ None → ¬ Holds h w
   rw_unheld h w e none c =
       let p = contains_at h.holders (record { waiter = w; manner = c.0 }) c.1 in
-      let so = ok.each.inside p.0 (record { waiter = w; manner = c.0 }) (ap (λ (xs : List Holder). slice_get xs p.0) (sym e) ∙ p.1) in
+      let so =
+      ok.each.inside p.0 (record { waiter = w; manner = c.0 })
+      (ap (λ (xs : List Holder). slice_get xs p.0) (sym e) ∙ p.1) in
       grind (arith, so, none)
 
   -- and who is to hold does
@@ -80,14 +83,16 @@ quiet r p = grind arith
 
 module _ {x : RwFields} {phase phase' : Waiter → RwPhase} {held held' : Waiter → Option Manner}
     {waits waits' : Waiter → Bool} {w : Waiter} {r r' : RwPhase} {h h' : Option Manner}
-    {t : LockHistory} (ok : RwAgrees x phase held waits t) (step : RwStep phase phase' held held' waits waits' w r r' h h') where
+    {t : LockHistory} (ok : RwAgrees x phase held waits t)
+    (step : RwStep phase phase' held held' waits waits' w r r' h h') where
   -- nobody holds the lock whose word counts no reader and has no writer
   rw_nobody : x.readers ≡ 0 → x.writer ≡ false → (u : Waiter) (m : Manner) → held u ≡ Some m → ⊥
   rw_nobody bare unwritten u m p =
       let reads = manner_known m (λ q. ok.holds.unspun u (p ∙ ap Some q))
       (λ q. absurd
       (let z = ok.holds.writes u (p ∙ ap Some q) in grind (arith, z, unwritten))) in
-      each_nobody ok.readers.each (sym ok.readers.number ∙ bare) u (counted_by (phase u) (held u) (p ∙ ap Some reads))
+      each_nobody ok.readers.each (sym ok.readers.number ∙ bare) u
+      (counted_by (phase u) (held u) (p ∙ ap Some reads))
     where
       counted_by : (q : RwPhase) (m : Option Manner) → m ≡ Some Reads → is_counted q m ≡ true
       counted_by q m e = grind (arith, e)
@@ -114,8 +119,12 @@ module _ {x : RwFields} {phase phase' : Waiter → RwPhase} {held held' : Waiter
   rw_bias none none' was now told reads writes =
       record {
         counted = ok.counted ++ w ∷ [];
-        readers = counted_more step ok.readers (ap (is_counted r) none ∙ was) (ap (is_counted r') none' ∙ now);
-        holds = rw_hold_keep step ok.holds (none' ∙ sym none) (λ p. none) (λ p. absurd (reads p)) (λ p. absurd (writes p));
+        readers =
+            counted_more step ok.readers (ap (is_counted r) none ∙ was)
+            (ap (is_counted r') none' ∙ now);
+        holds =
+            rw_hold_keep step ok.holds (none' ∙ sym none) (λ p. none) (λ p. absurd (reads p))
+            (λ p. absurd (writes p));
         waiting = waiting_keep step ok.waiting told;
         main = ok.main;
         second = ok.second;
@@ -129,8 +138,12 @@ module _ {x : RwFields} {phase phase' : Waiter → RwPhase} {held held' : Waiter
   rw_unbias none none' was now told reads writes =
       record {
         counted = without_first (λ u. same_waiter u w) ok.counted;
-        readers = counted_less step ok.readers (ap (is_counted r) none ∙ was) (ap (is_counted r') none' ∙ now);
-        holds = rw_hold_keep step ok.holds (none' ∙ sym none) (λ p. none) (λ p. absurd (reads p)) (λ p. absurd (writes p));
+        readers =
+            counted_less step ok.readers (ap (is_counted r) none ∙ was)
+            (ap (is_counted r') none' ∙ now);
+        holds =
+            rw_hold_keep step ok.holds (none' ∙ sym none) (λ p. none) (λ p. absurd (reads p))
+            (λ p. absurd (writes p));
         waiting = waiting_keep step ok.waiting told;
         main = ok.main;
         second = ok.second;
@@ -144,7 +157,8 @@ module _ {x : RwFields} {phase phase' : Waiter → RwPhase} {held held' : Waiter
   rw_read unwritten none has was told away =
       record {
         counted = ok.counted ++ w ∷ [];
-        readers = counted_more step ok.readers (ap (is_counted r) none ∙ was) (grind (arith, has, away));
+        readers =
+            counted_more step ok.readers (ap (is_counted r) none ∙ was) (grind (arith, has, away));
         holds = rw (unwritten) (rw_hold_read step (rw unwritten at ok.holds) none has away);
         waiting = waiting_keep step ok.waiting (quiet r' away ∙ sym told);
         main = ok.main;
@@ -184,7 +198,9 @@ module _ {x : RwFields} {phase phase' : Waiter → RwPhase} {held held' : Waiter
         holds = rw_hold_write step ok.holds
             (rw_nobody (ap (λ (y : RwFields). y.readers) empty)
             (ap (λ (y : RwFields). y.writer) empty)) none has away;
-        waiting = waiting_keep step (rw (ap (λ (y : RwFields). y.waiting) empty) at ok.waiting) (quiet r' away ∙ sym told);
+        waiting =
+            waiting_keep step (rw (ap (λ (y : RwFields). y.waiting) empty) at ok.waiting)
+            (quiet r' away ∙ sym told);
         main = ok.main;
         second = ok.second;
         passes = ok.passes;
@@ -236,7 +252,9 @@ module _ {x : RwFields} {phase phase' : Waiter → RwPhase} {held held' : Waiter
   rw_unread has none told away =
       record {
         counted = without_first (λ u. same_waiter u w) ok.counted;
-        readers = counted_less step ok.readers (grind (arith, has, counted_by r h has)) (grind (arith, none, away));
+        readers =
+            counted_less step ok.readers (grind (arith, has, counted_by r h has))
+            (grind (arith, none, away));
         holds = rw_hold_unread step ok.holds has none away;
         waiting = waiting_keep step ok.waiting (quiet r' away ∙ sym told);
         main = ok.main;

@@ -43,13 +43,31 @@ pub record IsSpinTurn (r r' : RwPhase) : Type 0 where
   pub unwrite : r' ≢ Unwrites
 
 turn_away : IsSpinTurn Away Away
-turn_away = record { counts = refl; told = refl; on_way = λ p. grind arith; unread = λ e. grind arith; unwrite = λ e. grind arith }
+turn_away = record {
+  counts = refl;
+  told = refl;
+  on_way = λ p. grind arith;
+  unread = λ e. grind arith;
+  unwrite = λ e. grind arith;
+}
 
 turn_asks : IsSpinTurn Asks Asks
-turn_asks = record { counts = refl; told = refl; on_way = λ p. refl; unread = λ e. grind arith; unwrite = λ e. grind arith }
+turn_asks = record {
+  counts = refl;
+  told = refl;
+  on_way = λ p. refl;
+  unread = λ e. grind arith;
+  unwrite = λ e. grind arith;
+}
 
 turn_frees : IsSpinTurn Frees Frees
-turn_frees = record { counts = refl; told = refl; on_way = λ p. grind arith; unread = λ e. grind arith; unwrite = λ e. grind arith }
+turn_frees = record {
+  counts = refl;
+  told = refl;
+  on_way = λ p. grind arith;
+  unread = λ e. grind arith;
+  unwrite = λ e. grind arith;
+}
 
 -- a frame that goes on with the same part
 turn_on : (b : Bool) (part : Part) → IsSpinTurn (rw_wait_phase b part) (rw_wait_phase b part)
@@ -59,13 +77,31 @@ turn_on true Freeing = turn_frees
 turn_on true Owing = turn_away
 
 turn_enters : IsSpinTurn Asks Inside
-turn_enters = record { counts = refl; told = refl; on_way = λ p. refl; unread = λ e. grind arith; unwrite = λ e. grind arith }
+turn_enters = record {
+  counts = refl;
+  told = refl;
+  on_way = λ p. refl;
+  unread = λ e. grind arith;
+  unwrite = λ e. grind arith;
+}
 
 turn_loses : IsSpinTurn Asks Away
-turn_loses = record { counts = refl; told = refl; on_way = λ p. grind arith; unread = λ e. grind arith; unwrite = λ e. grind arith }
+turn_loses = record {
+  counts = refl;
+  told = refl;
+  on_way = λ p. grind arith;
+  unread = λ e. grind arith;
+  unwrite = λ e. grind arith;
+}
 
 turn_gives : IsSpinTurn Frees Away
-turn_gives = record { counts = refl; told = refl; on_way = λ p. grind arith; unread = λ e. grind arith; unwrite = λ e. grind arith }
+turn_gives = record {
+  counts = refl;
+  told = refl;
+  on_way = λ p. grind arith;
+  unread = λ e. grind arith;
+  unwrite = λ e. grind arith;
+}
 
 then_enters : (c : Option Pc) (wait : Bool) → IsThen c → rw_phase_if c wait ≡ Inside
 then_enters c wait (inl e) = ap (λ (d : Option Pc). rw_phase_if d wait) e
@@ -83,7 +119,8 @@ pub record SpinPhases (f g : Frame) (c : Pc) (lead : Lead) (way : Option Manner)
 
 phase_by : (f : Frame) (c : Option Pc) (b : Bool) → f.place ≡ c → f.lock.wait ≡ b
     → rw_phase_of f ≡ rw_phase_if c b
-phase_by f c b place wait = ap (λ (d : Option Pc). rw_phase_if d f.lock.wait) place ∙ ap (rw_phase_if c) wait
+phase_by f c b place wait =
+    ap (λ (d : Option Pc). rw_phase_if d f.lock.wait) place ∙ ap (rw_phase_if c) wait
 
 pub spin_phases : (f g : Frame) (c : Pc) (lead : Lead) (way : Option Manner) → f.place ≡ Some c
     → is_rw_row c ≡ false → (f.lock.wait ≡ true → IsThen f.then) → g.lock ≡ f.lock
@@ -92,7 +129,8 @@ spin_phases f g c lead way place spin after lock on = by_wait f.lock.wait refl o
   where
     was_at : (b : Bool) → f.lock.wait ≡ b → (q : Part) → part_of c ≡ q
         → rw_phase_of f ≡ rw_wait_phase b q
-    was_at b e q part = phase_by f (Some c) b place e ∙ spin_phase c b spin ∙ ap (rw_wait_phase b) part
+    was_at b e q part =
+        phase_by f (Some c) b place e ∙ spin_phase c b spin ∙ ap (rw_wait_phase b) part
 
     wait_is : (b : Bool) → f.lock.wait ≡ b → g.lock.wait ≡ b
     wait_is b e = ap (λ (l : LockName). l.wait) lock ∙ e
@@ -103,7 +141,8 @@ spin_phases f g c lead way place spin after lock on = by_wait f.lock.wait refl o
 
     onward_at : (b : Bool) → f.lock.wait ≡ b → (q : Part) (d : Pc) → IsIn q d → g.place ≡ Some d
         → rw_phase_of g ≡ rw_wait_phase b q
-    onward_at b e q d o p = now_at b e (Some d) p ∙ spin_phase d b o.spin ∙ ap (rw_wait_phase b) o.part
+    onward_at b e q d o p =
+        now_at b e (Some d) p ∙ spin_phase d b o.spin ∙ ap (rw_wait_phase b) o.part
 
     same_way : (q : RwPhase) → way_led lead ≡ (λ way. way) → spins way ≡ is_inner q
         → spins (way_led lead way) ≡ is_inner q
@@ -169,7 +208,8 @@ spin_phases f g c lead way place spin after lock on = by_wait f.lock.wait refl o
           r = Asks;
           r' = Inside;
           was = was_at true e Taking part;
-          now = now_at true e f.then (p ∙ ap (λ (b : Bool). if b then f.then else None) e) ∙ then_enters f.then true (after e);
+          now = now_at true e f.then (p ∙ ap (λ (b : Bool). if b then f.then else None) e)
+              ∙ then_enters f.then true (after e);
           turn = turn_enters;
           has = λ q h. ap spins (takes way);
         }
@@ -265,9 +305,11 @@ module _ {m m' : World} {hs : LockName → LockHistory} {w : Waiter} {f g : Fram
       → RwAgrees (m.rw i) (rw_phases m i) (rw_helds m i) (rw_waits m i) (hs (rw_name i))
       → RwAgrees (m.rw i) (rw_phases m' i) (rw_helds m' i) (rw_waits m' i) (hs (rw_name i))
   rws_here i same k wait ok =
-      let p = spin_phases f g c lead (m.held w f.lock) place spin (sound.fits w f live).after lock on in
+      let p =
+      spin_phases f g c lead (m.held w f.lock) place spin (sound.fits w f live).after lock on in
       let name : f.lock ≡ wait_name i = (λ j. record { index = same j; wait = wait j }) in
-      let was : rw_phases m i w ≡ p.r = ap (rw_phase_on i) put.frames.was ∙ rw_here i f same ∙ p.was in
+      let was : rw_phases m i w ≡ p.r =
+      ap (rw_phase_on i) put.frames.was ∙ rw_here i f same ∙ p.was in
       let had : spins (m.held w f.lock) ≡ is_inner p.r =
       ap (λ (l : LockName). spins (m.held w l)) name ∙ ok.waiting.inner w ∙ ap is_inner was in
       let inner : rw_waits m' i w ≡ is_inner p.r' =
@@ -276,8 +318,10 @@ module _ {m m' : World} {hs : LockName → LockHistory} {w : Waiter} {f g : Fram
       let held : rw_helds m' i w ≡ rw_helds m i w = put.locks (rw_name i) (spin_apart i k) w in
       rw_turn ok (rw_step put i {r = p.r} {r' = p.r'} (rw_here i f same ∙ p.was)
       (rw_here i g (ap (λ (l : LockName). l.index) lock ∙ same) ∙ p.now) inner) held
-      (let b = p.turn.counts in counts_same p.r p.r' (rw_helds m i w) (rw_helds m' i w) b held) p.turn.told
-      (λ a. ok.holds.without w (ap asks was ∙ p.turn.on_way a)) (λ q. absurd (p.turn.unread q)) (λ q. absurd (p.turn.unwrite q))
+      (let b = p.turn.counts in
+      counts_same p.r p.r' (rw_helds m i w) (rw_helds m' i w) b held) p.turn.told
+      (λ a. ok.holds.without w (ap asks was ∙ p.turn.on_way a)) (λ q. absurd (p.turn.unread q))
+      (λ q. absurd (p.turn.unwrite q))
     where
       counts_same : (r r' : RwPhase) (h h' : Option Manner) → biased r' ≡ biased r → h' ≡ h
           → is_counted r' h' ≡ is_counted r h
@@ -291,13 +335,15 @@ module _ {m m' : World} {hs : LockName → LockHistory} {w : Waiter} {f g : Fram
         | inr ne ↦ rws_else put i (sound.rws i k) ne
             (λ q. ne (sym (ap (λ (l : LockName). l.index) lock) ∙ q))
             (put.locks (rw_name i) (spin_apart i k) w)
-            (ap spins (put.locks (wait_name i) (λ e. ne (ap (λ (l : LockName). l.index) (sym e))) w))
+            (ap spins (put.locks (wait_name i)
+            (λ e. ne (ap (λ (l : LockName). l.index) (sym e))) w))
       ]
     where
       by_wait : (b : Bool) → f.lock.wait ≡ b → f.lock.index ≡ i
           → RwAgrees (m.rw i) (rw_phases m' i) (rw_helds m' i) (rw_waits m' i) (hs (rw_name i))
       by_wait true wait same = rws_here i same k wait (sound.rws i k)
-      by_wait false wait same = absurd (spin_apart i k (λ j. record { index = sym same j; wait = sym wait j }))
+      by_wait false wait same =
+          absurd (spin_apart i k (λ j. record { index = sym same j; wait = sym wait j }))
 
   -- and its frame fits again
   pub spin_fits : RwFits m.kind g

@@ -107,7 +107,8 @@ module _ (m : World) (hs : LockName → LockHistory) (rules : Rules) (w to : Wai
     -- the try has failed
     miss : rw_own_phase c ≡ Asks → Keeps (misses (Miss (rw_lock f)))
     miss was =
-        says rules to at (going_end at (ap is_inner was) (rw_unstored m i) old) (Miss (rw_lock f)) refl tt tt
+        says rules to at (going_end at (ap is_inner was) (rw_unstored m i) old)
+        (Miss (rw_lock f)) refl tt tt
         (λ phase' held' waits' step is.
         rw_turn ok step is (let b = is in grind (arith, was, b)) (sym (ap announces was))
         (λ p. none (ap asks was)) (λ q. absurd (grind arith)) (λ q. absurd (grind arith)))
@@ -164,7 +165,8 @@ module _ (m : World) (hs : LockName → LockHistory) (rules : Rules) (w to : Wai
     -- a reader takes itself off, and the wait lock first
     retreat : rw_own_phase c ≡ Biases → Keeps (queues_up (Some (one_less x)) R4)
     retreat was =
-        silent rules to at (going_wait at R4 (inl refl) (ap is_inner was) (rw_stored m i (one_less x)) old)
+        silent rules to at (going_wait at R4 (inl refl) (ap is_inner was)
+        (rw_stored m i (one_less x)) old)
         (λ phase' held' waits' step is.
         rw_unbias ok step (none (ap asks was)) (kept_none (ap asks was) is)
         (ap (λ (r : RwPhase). is_counted r None) was) refl (sym (ap announces was))
@@ -179,7 +181,8 @@ module _ (m : World) (hs : LockName → LockHistory) (rules : Rules) (w to : Wai
           counts = [];
         })
     withdraw was =
-        says rules to at (going_end at (ap is_inner was) (rw_stored m i (one_less x)) old) (Miss (rw_lock f)) refl tt tt
+        says rules to at (going_end at (ap is_inner was) (rw_stored m i (one_less x)) old)
+        (Miss (rw_lock f)) refl tt tt
         (λ phase' held' waits' step is.
         rw_unbias ok step (none (ap asks was)) (kept_none (ap asks was) is)
         (ap (λ (r : RwPhase). is_counted r None) was) refl (sym (ap announces was))
@@ -217,7 +220,8 @@ module _ (m : World) (hs : LockName → LockHistory) (rules : Rules) (w to : Wai
     -- a writer sets waiting
     announce : rw_own_phase c ≡ Inside → Keeps (writes (record x { waiting = true }) Wr5)
     announce was =
-        silent rules to at (going_to at Wr5 refl (sym (ap is_inner was)) (rw_stored m i (record x { waiting = true })) old)
+        silent rules to at (going_to at Wr5 refl (sym (ap is_inner was))
+        (rw_stored m i (record x { waiting = true })) old)
         (λ phase' held' waits' step is.
         rw_announce ok step (none (ap asks was)) (kept_none (ap asks was) is)
         (ap (λ (r : RwPhase). is_counted r None) was) refl)
@@ -292,7 +296,8 @@ by_frame : (c : Pc) → is_rw_row c ≡ true
     → ((m : World) (hs : LockName → LockHistory) (rules : Rules) (w to : Waiter) (f : Frame)
     → RwStands m hs w f c → RwKept m hs rules w to f (row_in m w f c).0 (row_in m w f c).1)
     → RowKeeps c
-by_frame c row each m hs rules w to f sound mode newest live place goes = each m hs rules w to f (stands c row sound live place)
+by_frame c row each m hs rules w to f sound mode newest live place goes =
+    each m hs rules w to f (stands c row sound live place)
 
 pub reader_first_keeps : RowKeeps R1
 reader_first_keeps =

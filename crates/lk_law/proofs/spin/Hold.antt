@@ -10,7 +10,8 @@ use Rattle.lk_law.proofs.common.Cases.{waiter_cases}
 
 module _ {locked : Locked} {phase phase' : Waiter → Phase} {held held' : Waiter → Bool}
     {holder : Option Waiter} {w : Waiter} {r r' : Phase} {h h' : Bool}
-    (ok : HolderAgrees locked phase held holder) (moves : Moves phase phase' w r r') (holds : Moves held held' w h h') where
+    (ok : HolderAgrees locked phase held holder) (moves : Moves phase phase' w r r')
+    (holds : Moves held held' w h h') where
   -- the acting waiter has the lock as before
   pub hold_keep : has_lock r' h' ≡ has_lock r h → (seeks r' ≡ true → h' ≡ false)
       → (r' ≡ Releases → h' ≡ true) → HolderAgrees locked phase' held' holder
@@ -20,8 +21,10 @@ module _ {locked : Locked} {phase phase' : Waiter → Phase} {held held' : Waite
         taken = ok.taken;
         has = λ u p. grind (arith, waiter_cases u w, ok.has u, moves.others u, holds.others u);
         had = λ u p. grind (arith, waiter_cases u w, ok.had u, moves.others u, holds.others u);
-        without = λ u p. grind (arith, waiter_cases u w, ok.without u, moves.others u, holds.others u);
-        releases = λ u p. grind (arith, waiter_cases u w, ok.releases u, moves.others u, holds.others u);
+        without =
+            λ u p. grind (arith, waiter_cases u w, ok.without u, moves.others u, holds.others u);
+        releases =
+            λ u p. grind (arith, waiter_cases u w, ok.releases u, moves.others u, holds.others u);
       }
 
   -- it seeks the free lock
@@ -34,8 +37,10 @@ module _ {locked : Locked} {phase phase' : Waiter → Phase} {held held' : Waite
         taken = λ p. grind arith;
         has = λ u p. grind (arith, waiter_cases u w, ok.has u, moves.others u, holds.others u);
         had = λ u p. grind (arith, waiter_cases u w, ok.had u, moves.others u, holds.others u);
-        without = λ u p. grind (arith, waiter_cases u w, ok.without u, moves.others u, holds.others u);
-        releases = λ u p. grind (arith, waiter_cases u w, ok.releases u, moves.others u, holds.others u);
+        without =
+            λ u p. grind (arith, waiter_cases u w, ok.without u, moves.others u, holds.others u);
+        releases =
+            λ u p. grind (arith, waiter_cases u w, ok.releases u, moves.others u, holds.others u);
       }
 
   -- it releases the lock
@@ -47,8 +52,10 @@ module _ {locked : Locked} {phase phase' : Waiter → Phase} {held held' : Waite
         taken = λ p. grind arith;
         has = λ u p. grind (arith, waiter_cases u w, ok.has u, moves.others u, holds.others u);
         had = λ u p. grind arith;
-        without = λ u p. grind (arith, waiter_cases u w, ok.without u, moves.others u, holds.others u);
-        releases = λ u p. grind (arith, waiter_cases u w, ok.releases u, moves.others u, holds.others u);
+        without =
+            λ u p. grind (arith, waiter_cases u w, ok.without u, moves.others u, holds.others u);
+        releases =
+            λ u p. grind (arith, waiter_cases u w, ok.releases u, moves.others u, holds.others u);
       }
 
   -- it seeks the free lock, and leaves another byte than 0 or 1
@@ -62,8 +69,10 @@ module _ {locked : Locked} {phase phase' : Waiter → Phase} {held held' : Waite
         taken = λ p. grind arith;
         has = λ u p. grind (arith, waiter_cases u w, ok.has u, moves.others u, holds.others u);
         had = λ u p. grind (arith, waiter_cases u w, ok.had u, moves.others u, holds.others u);
-        without = λ u p. grind (arith, waiter_cases u w, ok.without u, moves.others u, holds.others u);
-        releases = λ u p. grind (arith, waiter_cases u w, ok.releases u, moves.others u, holds.others u);
+        without =
+            λ u p. grind (arith, waiter_cases u w, ok.without u, moves.others u, holds.others u);
+        releases =
+            λ u p. grind (arith, waiter_cases u w, ok.releases u, moves.others u, holds.others u);
       }
 
   -- the byte changes while somebody has the lock
@@ -76,8 +85,10 @@ module _ {locked : Locked} {phase phase' : Waiter → Phase} {held held' : Waite
         taken = λ p. absurd (full (ok.taken p));
         has = λ u p. grind (arith, waiter_cases u w, ok.has u, moves.others u, holds.others u);
         had = λ u p. grind (arith, waiter_cases u w, ok.had u, moves.others u, holds.others u);
-        without = λ u p. grind (arith, waiter_cases u w, ok.without u, moves.others u, holds.others u);
-        releases = λ u p. grind (arith, waiter_cases u w, ok.releases u, moves.others u, holds.others u);
+        without =
+            λ u p. grind (arith, waiter_cases u w, ok.without u, moves.others u, holds.others u);
+        releases =
+            λ u p. grind (arith, waiter_cases u w, ok.releases u, moves.others u, holds.others u);
       }
 
   -- it releases the lock, and has more to do
@@ -90,6 +101,8 @@ module _ {locked : Locked} {phase phase' : Waiter → Phase} {held held' : Waite
         taken = λ p. grind arith;
         has = λ u p. grind (arith, waiter_cases u w, ok.has u, moves.others u, holds.others u);
         had = λ u p. grind arith;
-        without = λ u p. grind (arith, waiter_cases u w, ok.without u, moves.others u, holds.others u);
-        releases = λ u p. grind (arith, waiter_cases u w, ok.releases u, moves.others u, holds.others u);
+        without =
+            λ u p. grind (arith, waiter_cases u w, ok.without u, moves.others u, holds.others u);
+        releases =
+            λ u p. grind (arith, waiter_cases u w, ok.releases u, moves.others u, holds.others u);
       }

@@ -13,14 +13,14 @@ use Rattle.lk_word.specs.declared.spin_word.Fields.{Fields}
 use Rattle.lk_word.specs.declared.spin_word.Locked.TheVariants.{Free, Held}
 use Rattle.lk_machine.specs.declared.parts.Node.{Node}
 use Rattle.lk_machine.specs.Machine.{rest_node}
-use Rattle.lk_law.specs.Pv.{sleeps}
+use Rattle.lk_law.specs.Pv.{at_halt}
 use Rattle.lk_law.proofs.pv.Keep.{pv_keep}
 use Rattle.lk_law.specs.Phase.{Phase, has_node, has_lock, seeks, pends, claims, watches, stakes}
 use Rattle.lk_law.specs.Phase.{queues}
 use Rattle.lk_law.specs.Phase.Phase.{Idle, Seeks, Releases, Prepared}
 use Rattle.lk_law.specs.Snapshot.{Snapshot, PendingAgrees, NodesAgree, spins}
 use Rattle.lk_law.specs.Agree.{SnapshotAgrees, Step, Stays, LeavesSlowPath, Knows, halts, Owed}
-use Rattle.lk_law.specs.Agree.{state_of, ParaAgrees}
+use Rattle.lk_law.specs.Agree.{node_state, ParaAgrees}
 use Rattle.lk_law.proofs.common.Cases.{waiter_cases, lock_cases}
 use Rattle.lk_law.proofs.spin.Hold.{hold_keep, hold_take, hold_drop}
 use Rattle.lk_law.proofs.spin.Pend.{pend_keep, pend_still}
@@ -65,7 +65,8 @@ law_same {s = s} {s' = s'} {hs = hs} ok same =
       locks = λ l.
           let o = ok.locks l in
           let phase : s'.phase l ≡ s.phase l = (λ i u. same.phase l u i) in
-          let held : ◌≡◌ {A = Waiter → Bool} (λ u. spins (s'.held u l)) (λ u. spins (s.held u l)) = (λ i u. same.held u l i) in
+          let held : ◌≡◌ {A = Waiter → Bool} (λ u. spins (s'.held u l)) (λ u. spins (s.held u l)) =
+          (λ i u. same.held u l i) in
           record {
             holder = o.holder;
             holders = o.holders;
@@ -75,9 +76,10 @@ law_same {s = s} {s' = s'} {hs = hs} ok same =
                 record {
                   posts = rw (same.word l, same.entry l, post l)
                       (pv_keep (s.word l).locked (s.entry l) (slice_get (hs l).main 0) (s.post l)
-                      (state_of s) (state_of s') s.own s'.own (λ u. Owed s u.cpu)
+                      (node_state s) (node_state s') s.own s'.own (λ u. Owed s u.cpu)
                       (λ u. Owed s' u.cpu) p.posts
-                      (λ u q. (state u, same.own u)) (λ z f. (state z, same.own z)) (λ z q d. owed z.cpu d));
+                      (λ u q. (state u, same.own u)) (λ z f. (state z, same.own z))
+                      (λ z q d. owed z.cpu d));
                   suits = λ u. rw (same.post l u, same.phase l u) (p.suits u);
                 };
             lists = rw (same.word l, same.mode, same.threshold, same.local) (lists_keep o.lists
@@ -88,24 +90,29 @@ law_same {s = s} {s' = s'} {hs = hs} ok same =
                   same.stage l u,
                   same.kept l u p,
                 )) (λ u p. same.phase l u)
-                (λ u p. ap s'.node (same.own u) ∙ same.node (s.own u) ∙ lists_rest o.lists u (sym (same.phase l u) ∙ p))
-                (λ was u p. same.stage l u ∙ was u (λ q. p (same.phase l u ∙ q))) (λ u z p q e. nodes_apart ok.nodes l l u z p q e)
+                (λ u p. ap s'.node (same.own u) ∙ same.node (s.own u)
+                ∙ lists_rest o.lists u (sym (same.phase l u) ∙ p))
+                (λ was u p. same.stage l u ∙ was u (λ q. p (same.phase l u ∙ q)))
+                (λ u z p q e. nodes_apart ok.nodes l l u z p q e)
                 (λ u p z q e. let f : s.phase l u ≡ Prepared = sym (same.phase l u) ∙ p in
-                let eq : u ≡ z = nodes_apart ok.nodes l l u z (ap has_node f) (queue_node (s.phase l z) q) (sym (same.own u) ∙ e) in
+                let eq : u ≡ z =
+                nodes_apart ok.nodes l l u z (ap has_node f) (queue_node (s.phase l z) q)
+                (sym (same.own u) ∙ e) in
                 grind (arith, ap (s.phase l) eq, f, q)));
           };
       nodes = rw (phases, own, slow, queued) ok.nodes;
       alone = rw phases ok.alone;
       sleeper = λ on k m u z a b e.
-          ok.sleeper (ap halts (sym same.mode) ∙ on) k m u z (ap sleeps (sym (same.post k u)) ∙ a)
-          (ap sleeps (sym (same.post m z)) ∙ b) e;
+          ok.sleeper (ap halts (sym same.mode) ∙ on) k m u z (ap at_halt (sym (same.post k u)) ∙ a)
+          (ap at_halt (sym (same.post m z)) ∙ b) e;
     }
   where
     post : (l : LockName) → s'.post l ≡ s.post l
     post l = (λ i u. same.post l u i)
 
-    state : (u : Waiter) → state_of s' u ≡ state_of s u
-    state u = ap (λ (n : NodeName). (s'.node n).state) (same.own u) ∙ ap (λ (n : Node). n.state) (same.node (s.own u))
+    state : (u : Waiter) → node_state s' u ≡ node_state s u
+    state u = ap (λ (n : NodeName). (s'.node n).state) (same.own u)
+        ∙ ap (λ (n : Node). n.state) (same.node (s.own u))
 
     owed : (p : ℕ) → Owed s p → Owed s' p
     owed p (inl k) = inl (same.kicked p ∙ k)
@@ -120,37 +127,57 @@ step_same {s = s} {s' = s'} {w = w} {l = l} step stays knows nodes =
       mode = step.mode;
       threshold = step.threshold;
       local = step.local;
-      word = λ k. elim (lock_cases k l) [ inl e ↦ ap s'.word e ∙ step.word ∙ sym (ap s.word e) | inr ne ↦ step.words k ne ];
+      word = λ k.
+          elim (lock_cases k l) [
+            | inl e ↦ ap s'.word e ∙ step.word ∙ sym (ap s.word e)
+            | inr ne ↦ step.words k ne
+          ];
       phase = λ k u. elim (lock_cases k l) [
-        | inl e ↦ let P : LockName → Type 0 = λ m. s'.phase m u ≡ s.phase m u in subst P (sym e) (here u)
+        | inl e ↦ let P : LockName → Type 0 = λ m. s'.phase m u ≡ s.phase m u in
+            subst P (sym e) (here u)
         | inr ne ↦ step.phases k ne u
       ];
-      own = λ u. elim (waiter_cases u w) [ inl e ↦ ap s'.own e ∙ stays.own ∙ sym (ap s.own e) | inr ne ↦ step.owns u ne ];
+      own = λ u.
+          elim (waiter_cases u w) [
+            | inl e ↦ ap s'.own e ∙ stays.own ∙ sym (ap s.own e)
+            | inr ne ↦ step.owns u ne
+          ];
       node = nodes;
       held = λ u k. elim (lock_cases k l) [
-        | inl e ↦ let P : LockName → Type 0 = λ m. spins (s'.held u m) ≡ spins (s.held u m) in subst P (sym e) (here_held u)
+        | inl e ↦ let P : LockName → Type 0 = λ m. spins (s'.held u m) ≡ spins (s.held u m) in
+            subst P (sym e) (here_held u)
         | inr ne ↦ step.helds k ne u
       ];
       slow = stays.slow;
       queued = stays.queued;
       post = λ k u. elim (waiter_cases u w) [
         | inl e ↦ elim (lock_cases k l) [
-          | inl q ↦ ap (λ m. s'.post m u) q ∙ ap (s'.post l) e ∙ knows.post ∙ sym (ap (λ m. s.post m u) q ∙ ap (s.post l) e)
+          | inl q ↦ ap (λ m. s'.post m u) q ∙ ap (s'.post l) e ∙ knows.post
+              ∙ sym (ap (λ m. s.post m u) q ∙ ap (s.post l) e)
           | inr ne ↦ ap (s'.post k) e ∙ step.off k ne ∙ sym (ap (s.post k) e ∙ step.were_off k ne)
         ]
         | inr ne ↦ step.posts k u ne
       ];
-      entry = λ k. elim (lock_cases k l) [ inl e ↦ ap s'.entry e ∙ knows.entry ∙ sym (ap s.entry e) | inr ne ↦ step.entries k ne ];
+      entry = λ k.
+          elim (lock_cases k l) [
+            | inl e ↦ ap s'.entry e ∙ knows.entry ∙ sym (ap s.entry e)
+            | inr ne ↦ step.entries k ne
+          ];
       kicked = knows.kicked;
       stage = λ k u. elim (lock_cases k l) [
-        | inl e ↦ let P : LockName → Type 0 = λ m. s'.stage m u ≡ s.stage m u in subst P (sym e) (here_stage u)
+        | inl e ↦ let P : LockName → Type 0 = λ m. s'.stage m u ≡ s.stage m u in
+            subst P (sym e) (here_stage u)
         | inr ne ↦ elim (waiter_cases u w) [
           | inl e ↦ let P : Waiter → Type 0 = λ v. s'.stage k v ≡ s.stage k v in
               subst P (sym e) (step.calm k ne ∙ sym (step.was_calm k ne))
           | inr nw ↦ step.stages k u nw
         ]
       ];
-      kept = λ k u q. elim (waiter_cases u w) [ inl e ↦ ap s'.kept e ∙ knows.kept ∙ sym (ap s.kept e) | inr ne ↦ step.kepts u ne ];
+      kept = λ k u q.
+          elim (waiter_cases u w) [
+            | inl e ↦ ap s'.kept e ∙ knows.kept ∙ sym (ap s.kept e)
+            | inr ne ↦ step.kepts u ne
+          ];
     }
   where
     here_stage : (u : Waiter) → s'.stage l u ≡ s.stage l u
@@ -171,7 +198,8 @@ step_same {s = s} {s' = s'} {w = w} {l = l} step stays knows nodes =
     here_held : (u : Waiter) → spins (s'.held u l) ≡ spins (s.held u l)
     here_held u =
         elim (waiter_cases u w) [
-          | inl e ↦ ap (λ v. spins (s'.held v l)) e ∙ step.holds.now ∙ sym step.holds.was ∙ sym (ap (λ v. spins (s.held v l)) e)
+          | inl e ↦ ap (λ v. spins (s'.held v l)) e ∙ step.holds.now ∙ sym step.holds.was
+              ∙ sym (ap (λ v. spins (s.held v l)) e)
           | inr ne ↦ step.holds.others u ne
         ]
 
@@ -187,11 +215,17 @@ pub lists_outside : {s s' : Snapshot} {hs : LockName → LockHistory} {w : Waite
 lists_outside {s = s} {s' = s'} {w = w} {l = l} ok step out out' new apart same =
     let o = (ok.locks l).lists in
     rw (step.mode, step.local, step.threshold) (lists_keep o
-    (λ u p. let ne : u ≢ w = (λ e. grind (arith, step.acts.was)) in
-    (step.acts.others u ne, step.owns u ne, rw (step.owns u ne) (same u ne (grind arith)), step.stages l u ne, step.kepts u ne))
+    (λ u p. let ne : u ≢ w = (λ e. grind (arith, step.acts.was)) in (
+      step.acts.others u ne,
+      step.owns u ne,
+      rw (step.owns u ne) (same u ne (grind arith)),
+      step.stages l u ne,
+      step.kepts u ne,
+    ))
     (λ u p. let ne : u ≢ w = (λ e. grind (arith, step.acts.now)) in step.acts.others u ne)
     (λ u p. elim (waiter_cases u w) [
-      | inl e ↦ let P : Waiter → Type 0 = λ v. s'.node (s'.own v) ≡ rest_node in subst P (sym e) (new (grind (arith, step.acts.now)))
+      | inl e ↦ let P : Waiter → Type 0 = λ v. s'.node (s'.own v) ≡ rest_node in
+          subst P (sym e) (new (grind (arith, step.acts.now)))
       | inr ne ↦ let q : s.phase l u ≡ Prepared = sym (step.acts.others u ne) ∙ p in
           rw (step.owns u ne) (same u ne (grind arith) ∙ lists_rest o u q)
     ])
@@ -203,7 +237,9 @@ lists_outside {s = s} {s' = s'} {w = w} {l = l} ok step out out' new apart same 
     (λ u p z q e. elim (waiter_cases u w) [
       | inl d ↦ apart (sym step.acts.now ∙ ap (s'.phase l) (sym d) ∙ p) z q (ap s'.own (sym d) ∙ e)
       | inr ne ↦ let f : s.phase l u ≡ Prepared = sym (step.acts.others u ne) ∙ p in
-          let eq : u ≡ z = nodes_apart ok.nodes l l u z (ap has_node f) (queue_node (s.phase l z) q) (sym (step.owns u ne) ∙ e) in
+          let eq : u ≡ z =
+          nodes_apart ok.nodes l l u z (ap has_node f) (queue_node (s.phase l z) q)
+          (sym (step.owns u ne) ∙ e) in
           grind (arith, ap (s.phase l) eq, f, q)
     ]))
 
@@ -296,25 +332,34 @@ free_unclaimed {s = s} {hs = hs} {l = l} ok free u c =
       | inr b ↦ lists_none (ok.locks l).lists (ap (λ (f : Fields). f.tail) free) u b.1
     ]
 
-module _ {s s' : Snapshot} {hs : LockName → LockHistory} {w : Waiter} {l : LockName} (ok : SnapshotAgrees s hs) where
+module _ {s s' : Snapshot} {hs : LockName → LockHistory} {w : Waiter} {l : LockName}
+    (ok : SnapshotAgrees s hs) where
   -- A row that changes nothing but the phase, outside of the queue.
   pub law_turn_as : {r r' : Phase} {h : Bool} → Step s s' w l r r' (s.word l) h h → Stays s s' w
       → SameNodes s s' → IsTurn r r' h → (halts s'.mode ≡ true → ParaAgrees s' (hs l) l)
       → SnapshotAgrees s' hs
   law_turn_as {r = r} {r' = r'} step stays nodes turn posts =
       let o = ok.locks l in
-      agrees_after step ok hs (nodes_stay step ok.nodes stays (λ p. rw (turn.kept p) p)) (λ k u ne p. nodes (s.own u)) (λ k ne. refl)
+      agrees_after step ok hs (nodes_stay step ok.nodes stays (λ p. rw (turn.kept p) p))
+      (λ k u ne p. nodes (s.own u)) (λ k ne. refl)
       (record {
         holder = o.holder;
         holders = o.holders;
-        hold = rw step.word (hold_keep o.hold step.acts step.holds turn.same turn.without turn.with_it);
+        hold =
+            rw step.word
+            (hold_keep o.hold step.acts step.holds turn.same turn.without turn.with_it);
         pend = rw step.word (pend_still o.pend step.acts (turn.now_clear ∙ sym turn.was_clear)
-            (watch_pends r' turn.now_clear ∙ sym (watch_pends r turn.was_clear)) (claim_none r' turn.now_clear turn.now_out));
+            (watch_pends r' turn.now_clear ∙ sym (watch_pends r turn.was_clear))
+            (claim_none r' turn.now_clear turn.now_out));
         posts = posts;
         lists = rw step.word (lists_outside ok step turn.was_out turn.now_out
-            (λ p. nodes (s'.own w) ∙ rw stays.own (lists_rest o.lists w (step.acts.was ∙ turn.kept (grind arith) ∙ p)))
-            (λ p z q e. let f : s.phase l w ≡ Prepared = step.acts.was ∙ turn.kept (grind arith) ∙ p in
-            let eq : w ≡ z = nodes_apart ok.nodes l l w z (ap has_node f) (queue_node (s.phase l z) q) (sym stays.own ∙ e) in
+            (λ p. nodes (s'.own w)
+            ∙ rw stays.own (lists_rest o.lists w (step.acts.was ∙ turn.kept (grind arith) ∙ p)))
+            (λ p z q e.
+            let f : s.phase l w ≡ Prepared = step.acts.was ∙ turn.kept (grind arith) ∙ p in
+            let eq : w ≡ z =
+            nodes_apart ok.nodes l l w z (ap has_node f) (queue_node (s.phase l z) q)
+            (sym stays.own ∙ e) in
             grind (arith, ap (s.phase l) eq, f, q)) (λ u ne p. nodes (s.own u)));
       })
 
@@ -338,10 +383,13 @@ module _ {s s' : Snapshot} {hs : LockName → LockHistory} {w : Waiter} {l : Loc
   law_take_as {r = r} how step way nodes out clear free plain posts =
       let o = ok.locks l in
       let e : Event = record { by = w; what = Take l how } in
-      agrees_after step ok (λ k. told k (hs k) e) (noded_keep step refl way) (λ k u ne p. nodes (s.own u)) (told_others hs e refl)
+      agrees_after step ok (λ k. told k (hs k) e) (noded_keep step refl way)
+      (λ k u ne p. nodes (s.own u)) (told_others hs e refl)
       (told_lock (hs l) e refl (rw plain (record {
         holder = Some w;
-        holders = sole_taken (hs l) w o.holder o.holders (o.hold.free (ap (λ (f : Fields). f.locked) free));
+        holders =
+            sole_taken (hs l) w o.holder o.holders
+            (o.hold.free (ap (λ (f : Fields). f.locked) free));
         hold = rw step.word
             (hold_take o.hold step.acts step.holds (ap (λ (f : Fields). f.locked) free) refl
             (λ p. absurd (grind arith)) (λ p. absurd (grind arith)));
@@ -386,7 +434,9 @@ module _ {s s' : Snapshot} {hs : LockName → LockHistory} {w : Waiter} {l : Loc
         holder = None;
         holders = sole_freed (hs l) w o.holder o.holders mine;
         hold = rw step.word (hold_drop o.hold step.acts step.holds refl refl refl);
-        pend = rw step.word (pend_keep o.pend step.acts Free refl (λ p. refl) refl (λ p. absurd (grind arith)) (λ u n p. refl));
+        pend =
+            rw step.word (pend_keep o.pend step.acts Free refl (λ p. refl) refl
+            (λ p. absurd (grind arith)) (λ u n p. refl));
         posts = no_posts step awake;
         lists = rw step.word
             (lists_outside ok step refl refl (λ p. absurd (grind arith)) (λ p. absurd (grind arith))

@@ -8,7 +8,8 @@ use Rattle.lk_law.specs.Phase.{Phase, pends, claims, watches, stakes}
 use Rattle.lk_law.specs.Snapshot.{Moves, PendingAgrees}
 use Rattle.lk_law.proofs.common.Cases.{waiter_cases}
 
-module _ {locked : Locked} {pending : Bool} {phase phase' : Waiter → Phase} {w : Waiter} {r r' : Phase}
+module _ {locked : Locked} {pending : Bool} {phase phase' : Waiter
+    → Phase} {w : Waiter} {r r' : Phase}
     (ok : PendingAgrees locked pending phase) (moves : Moves phase phase' w r r') where
   -- the bit stays, and who set it; the lock's byte changes only where nobody claims it
   pub pend_keep : (locked' : Locked) → pends r' ≡ pends r → (claims r' ≡ true → locked' ≡ Free)
@@ -18,10 +19,21 @@ module _ {locked : Locked} {pending : Bool} {phase phase' : Waiter → Phase} {w
   pend_keep locked' same free far near safe =
       record {
         set = λ u p. grind (arith, waiter_cases u w, ok.set u, moves.others u);
-        one = λ u v p q. grind (arith, waiter_cases u w, waiter_cases v w, ok.one u v, moves.others u, moves.others v);
-        someone = λ p. let s = ok.someone p in (s.0, grind (arith, waiter_cases s.0 w, s.1, moves.others s.0));
+        one = λ u v p q.
+            grind
+            (arith, waiter_cases u w, waiter_cases v w, ok.one u v, moves.others u, moves.others v);
+        someone = λ p.
+            let s = ok.someone p in (s.0, grind (arith, waiter_cases s.0 w, s.1, moves.others s.0));
         free = λ u p. grind (arith, waiter_cases u w, safe u, moves.others u);
-        apart = λ u v p q. grind (arith, waiter_cases u w, waiter_cases v w, ok.apart u v, moves.others u, moves.others v);
+        apart = λ u v p q.
+            grind (
+              arith,
+              waiter_cases u w,
+              waiter_cases v w,
+              ok.apart u v,
+              moves.others u,
+              moves.others v,
+            );
       }
 
   -- the bit and the byte stay, and the waiter does not claim the lock
@@ -41,7 +53,16 @@ module _ {locked : Locked} {pending : Bool} {phase phase' : Waiter → Phase} {w
   pend_set clear sets free low far =
       record {
         set = λ u p. grind arith;
-        one = λ u v p q. grind (arith, waiter_cases u w, waiter_cases v w, ok.set u, ok.set v, moves.others u, moves.others v);
+        one = λ u v p q.
+            grind (
+              arith,
+              waiter_cases u w,
+              waiter_cases v w,
+              ok.set u,
+              ok.set v,
+              moves.others u,
+              moves.others v,
+            );
         someone = λ p. (w, grind (arith, moves.now));
         free = λ u p. grind (arith, waiter_cases u w, ok.free u, moves.others u);
         apart = λ u v p q.
@@ -64,10 +85,20 @@ module _ {locked : Locked} {pending : Bool} {phase phase' : Waiter → Phase} {w
   pend_clear locked' mine gone low far safe =
       record {
         set = λ u p. grind (arith, waiter_cases u w, ok.one u w, moves.others u);
-        one = λ u v p q. grind (arith, waiter_cases u w, waiter_cases v w, ok.one u v, moves.others u, moves.others v);
+        one = λ u v p q.
+            grind
+            (arith, waiter_cases u w, waiter_cases v w, ok.one u v, moves.others u, moves.others v);
         someone = λ p. grind arith;
         free = λ u p. grind (arith, waiter_cases u w, safe u, moves.others u);
-        apart = λ u v p q. grind (arith, waiter_cases u w, waiter_cases v w, ok.apart u v, moves.others u, moves.others v);
+        apart = λ u v p q.
+            grind (
+              arith,
+              waiter_cases u w,
+              waiter_cases v w,
+              ok.apart u v,
+              moves.others u,
+              moves.others v,
+            );
       }
 
   -- the head sees the lock free, with nobody pending
@@ -76,7 +107,9 @@ module _ {locked : Locked} {pending : Bool} {phase phase' : Waiter → Phase} {w
   pend_stake clear zero low low' =
       record {
         set = λ u p. grind (arith, waiter_cases u w, ok.set u, moves.others u);
-        one = λ u v p q. grind (arith, waiter_cases u w, waiter_cases v w, ok.one u v, moves.others u, moves.others v);
+        one = λ u v p q.
+            grind
+            (arith, waiter_cases u w, waiter_cases v w, ok.one u v, moves.others u, moves.others v);
         someone = λ p. absurd (grind arith);
         free = λ u p. zero;
         apart = λ u v p q. let m : pends (phase' u) ≡ true = watch (phase' u) p in

@@ -55,11 +55,14 @@ module _ {s s' : Snapshot} {hs : LockName → LockHistory} {w : Waiter} {l : Loc
       → (claims r' ≡ true → (s.word l).locked ≡ Free) → SnapshotAgrees s' hs
   law_pend {r' = r'} step stays nodes clear sets out empty low =
       let o = ok.locks l in
-      agrees_after step ok hs (noded_keep ok step (pends_unnoded r' sets out) (inl stays)) (λ k u ne p. nodes (s.own u)) (λ k ne. refl)
+      agrees_after step ok hs (noded_keep ok step (pends_unnoded r' sets out) (inl stays))
+      (λ k u ne p. nodes (s.own u)) (λ k ne. refl)
       (record {
         holder = o.holder;
         holders = o.holders;
-        hold = rw step.word (hold_keep o.hold step.acts step.holds (pends_lacks r' sets) (λ p. refl) (λ p. absurd (grind arith)));
+        hold =
+            rw step.word (hold_keep o.hold step.acts step.holds (pends_lacks r' sets) (λ p. refl)
+            (λ p. absurd (grind arith)));
         pend = rw step.word (pend_set o.pend step.acts clear sets low (pends_unstaked r' sets)
             (λ p v q. lists_none o.lists (empty p) v (stakes_queue (s.phase l v) q)));
         posts = no_posts step awake;
@@ -74,12 +77,17 @@ module _ {s s' : Snapshot} {hs : LockName → LockHistory} {w : Waiter} {l : Loc
       → Stays s s' w → SameNodes s s' → SnapshotAgrees s' hs
   law_unpend step stays nodes =
       let o = ok.locks l in
-      agrees_after step ok hs (noded_keep ok step refl (inl stays)) (λ k u ne p. nodes (s.own u)) (λ k ne. refl)
+      agrees_after step ok hs (noded_keep ok step refl (inl stays)) (λ k u ne p. nodes (s.own u))
+      (λ k ne. refl)
       (record {
         holder = o.holder;
         holders = o.holders;
-        hold = rw step.word (hold_keep o.hold step.acts step.holds refl (λ p. refl) (λ p. absurd (grind arith)));
-        pend = rw step.word (pend_clear o.pend step.acts (s.word l).locked refl refl refl refl (λ u n p. o.pend.free u p));
+        hold =
+            rw step.word (hold_keep o.hold step.acts step.holds refl (λ p. refl)
+            (λ p. absurd (grind arith)));
+        pend =
+            rw step.word (pend_clear o.pend step.acts (s.word l).locked refl refl refl refl
+            (λ u n p. o.pend.free u p));
         posts = no_posts step awake;
         lists = rw step.word
             (lists_outside ok step refl refl (λ p. absurd (grind arith)) (λ p. absurd (grind arith))
@@ -91,11 +99,14 @@ module _ {s s' : Snapshot} {hs : LockName → LockHistory} {w : Waiter} {l : Loc
       → SameNodes s s' → (s.word l).locked ≡ Free → SnapshotAgrees s' hs
   law_watch step stays nodes low =
       let o = ok.locks l in
-      agrees_after step ok hs (noded_keep ok step refl (inl stays)) (λ k u ne p. nodes (s.own u)) (λ k ne. refl)
+      agrees_after step ok hs (noded_keep ok step refl (inl stays)) (λ k u ne p. nodes (s.own u))
+      (λ k ne. refl)
       (record {
         holder = o.holder;
         holders = o.holders;
-        hold = rw step.word (hold_keep o.hold step.acts step.holds refl (λ p. refl) (λ p. absurd (grind arith)));
+        hold =
+            rw step.word (hold_keep o.hold step.acts step.holds refl (λ p. refl)
+            (λ p. absurd (grind arith)));
         pend = rw step.word
             (pend_keep o.pend step.acts (s.word l).locked refl (λ p. low) refl
             (λ p. absurd (grind arith)) (λ u n p. low));
@@ -119,7 +130,9 @@ module _ {s s' : Snapshot} {hs : LockName → LockHistory} {w : Waiter} {l : Loc
       (told_lock (hs l) e refl (record {
         holder = Some w;
         holders = sole_taken (hs l) w o.holder o.holders (o.hold.free free);
-        hold = rw step.word (hold_take o.hold step.acts step.holds free refl (λ p. absurd (grind arith)) (λ p. absurd (grind arith)));
+        hold =
+            rw step.word (hold_take o.hold step.acts step.holds free refl
+            (λ p. absurd (grind arith)) (λ p. absurd (grind arith)));
         pend = rw step.word
             (pend_clear o.pend step.acts Held refl refl refl refl
             (λ u n p. absurd (claims_alone o.pend w step.acts.was u n p)));

@@ -22,7 +22,8 @@ use Rattle.lk_law.proofs.common.Allowed.{allow_claim}
 use Rattle.lk_law.proofs.common.Puts.{if_cases, put_word-here}
 use Rattle.lk_law.proofs.common.Turns.{word_turn}
 use Rattle.lk_law.proofs.common.TurnSteps.{word_plain}
-use Rattle.lk_law.proofs.common.Acting.{Acting, Stands, Kept, spin_row_keeps, fit_here, phase_here}
+use Rattle.lk_law.proofs.common.Acting.{Acting, StandsAwake, Kept, spin_row_keeps, fit_here}
+use Rattle.lk_law.proofs.common.Acting.{phase_here}
 use Rattle.lk_law.proofs.common.Acting.{phase_shown, held_not, looks_kept, granted_place}
 use Rattle.lk_law.proofs.common.Acting.{going_step, going_stays, goes_kept, Ending, ending_step}
 use Rattle.lk_law.proofs.common.Acting.{ending_stays, ends_kept, LeadsTo, word_going, look_going}
@@ -127,7 +128,7 @@ watched f = record {
 }
 
 -- P1, by the word that it met
-module _ {a : Acting} (at : Stands a P1) where
+module _ {a : Acting} (at : StandsAwake a P1) where
   abbrev met : Fields
   met = a.world.word a.frame.lock
 
@@ -144,7 +145,8 @@ module _ {a : Acting} (at : Stands a P1) where
       let on = word_going at (to_node a.frame) set (at.sound.plain.byte at.kind a.frame.lock) in
       let same : set ≡ met = (λ i. record met { pending = sym e i }) in
       let on' = going_word on same in
-      goes_kept at on' Nothing (law_turn at.sound.agrees (awake_here at) (going_step at on') (going_stays on') (λ n. refl) turn_on) tt
+      goes_kept at on' Nothing (law_turn at.sound.agrees (awake_here at) (going_step at on')
+      (going_stays on') (λ n. refl) turn_on) tt
 
   set_beside : met.pending ≡ false → SetKept P2
   set_beside e =
@@ -171,8 +173,11 @@ module _ {a : Acting} (at : Stands a P1) where
       (if met.pending then G1 else (if is_some
       met.tail then P2 else (if is_unlocked met.locked then P4 else P3)))
   set_kept =
-      if_cases SetKept met.pending G1 (if is_some met.tail then P2 else (if is_unlocked met.locked then P4 else P3)) set_again
-      (λ e. if_cases SetKept (is_some met.tail) P2 (if is_unlocked met.locked then P4 else P3) (λ t. set_beside e)
+      if_cases SetKept met.pending G1
+      (if is_some met.tail then P2 else (if is_unlocked met.locked then P4 else P3)) set_again
+      (λ e.
+      if_cases SetKept (is_some met.tail) P2 (if is_unlocked met.locked then P4 else P3)
+      (λ t. set_beside e)
       (λ t. if_cases SetKept (is_unlocked met.locked) P4 P3
       (λ u. set_free e (none_is met.tail t) (unlocked_free met.locked u))
       (λ u. set_alone e (none_is met.tail t))))
@@ -185,13 +190,15 @@ clear_pending_keeps =
     spin_row_keeps P2 refl (λ a at goes.
     let x : Fields = record (a.world.word a.frame.lock) { pending = false } in
     let on = word_going at (undone a.frame) x (at.sound.plain.byte at.kind a.frame.lock) in
-    goes_kept at on Nothing (law_unpend at.sound.agrees (awake_here at) (going_step at on) (going_stays on) (λ n. refl)) tt)
+    goes_kept at on Nothing (law_unpend at.sound.agrees (awake_here at) (going_step at on)
+    (going_stays on) (λ n. refl)) tt)
 
 pub watch_keeps : SpinRowKeeps P3
 watch_keeps =
     spin_row_keeps P3 refl (λ a at goes.
     let x = a.world.word a.frame.lock in
-    if_cases (λ (d : Pc). Kept a (lead_on a.world a.by a.frame (Goes d [])) Nothing) (is_unlocked x.locked) P4 P3
+    if_cases (λ (d : Pc). Kept a (lead_on a.world a.by a.frame (Goes d [])) Nothing)
+    (is_unlocked x.locked) P4 P3
     (λ e.
     let on = look_going at (watched a.frame) in
     goes_kept at on Nothing

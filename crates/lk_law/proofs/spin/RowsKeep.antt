@@ -40,14 +40,16 @@ use Rattle.lk_law.proofs.common.Puts.{if_cases, put_word-here}
 use Rattle.lk_law.proofs.common.Turns.{same_turn, word_turn}
 use Rattle.lk_law.proofs.common.TurnSteps.{word_plain}
 use Rattle.lk_law.proofs.common.Choices.{quiet_none}
-use Rattle.lk_law.proofs.common.Acting.{Acting, Stands, Kept, spin_row_keeps, fit_here, phase_here}
-use Rattle.lk_law.proofs.common.Acting.{phase_shown, held_not, held_so, IsAlike, looks_kept}
+use Rattle.lk_law.proofs.common.Acting.{Acting, StandsAwake, Kept, spin_row_keeps, fit_here}
+use Rattle.lk_law.proofs.common.Acting.{phase_here}
+use Rattle.lk_law.proofs.common.Acting.{phase_shown, held_not, held_so, ReadAlike, looks_kept}
 use Rattle.lk_law.proofs.common.Acting.{granted_place, Ending, ending_step, ending_stays, ends_kept}
 use Rattle.lk_law.proofs.common.Acting.{awake_here, KeepsIn}
 
 -- what a row on the word makes of a sound world by its outcome
 abbrev pub WordKept : Acting → Effect Fields → Type 0
-WordKept a o = Kept a (lead_on (stores_word a.world a.frame.lock o.stores) a.by a.frame o.leads) o.tells
+WordKept a o =
+    Kept a (lead_on (stores_word a.world a.frame.lock o.stores) a.by a.frame o.leads) o.tells
 
 -- the free word
 pub free_word : (x : Fields) → is_free x ≡ true
@@ -185,7 +187,7 @@ early_V2 = record {
   before = refl;
 }
 
-early_alike : {c d : Pc} → IsEarly c → IsEarly d → IsAlike c d
+early_alike : {c d : Pc} → IsEarly c → IsEarly d → ReadAlike c d
 early_alike c d =
     record {
       phase = λ b p y. d.phase b p y ∙ sym (c.phase b p y);
@@ -215,9 +217,10 @@ early_fast Cna x awake =
     (λ e. early_P0) (λ e. early_queue x)
 early_fast Pv x awake = cc
 
-module _ {a : Acting} {c : Pc} (at : Stands a c) (early : IsEarly c) where
+module _ {a : Acting} {c : Pc} (at : StandsAwake a c) (early : IsEarly c) where
   seeks_here : phase_of a.frame ≡ Seeks
-  seeks_here = phase_here at ∙ early.phase (is_some a.frame.me) (node_of a.frame.prev) (node_of a.frame.y)
+  seeks_here =
+      phase_here at ∙ early.phase (is_some a.frame.me) (node_of a.frame.prev) (node_of a.frame.y)
 
   bare_here : a.frame.me ≡ None
   bare_here = (fit_here at).bare (ap has_node seeks_here)
@@ -291,13 +294,15 @@ fast_awake =
 pub try_look_awake : KeepsIn false T1
 try_look_awake =
     (λ a at goes.
-    if_cases (WordKept a) (is_free (a.world.word a.frame.lock)) (looks T2) (misses (Miss a.frame.lock))
+    if_cases (WordKept a) (is_free (a.world.word a.frame.lock)) (looks T2)
+    (misses (Miss a.frame.lock))
     (λ e. early_kept at early_T1 T2 early_T2) (λ e. misses_kept at early_T1))
 
 pub try_take_awake : KeepsIn false T2
 try_take_awake =
     (λ a at goes.
-    if_cases (WordKept a) (is_free (a.world.word a.frame.lock)) (takes a.frame how.Try) (misses (Miss a.frame.lock))
+    if_cases (WordKept a) (is_free (a.world.word a.frame.lock)) (takes a.frame how.Try)
+    (misses (Miss a.frame.lock))
     (λ e. takes_kept at early_T2 how.Try e refl (λ p. p)) (λ e. misses_kept at early_T2))
 
 pub loop_look_keeps : SpinRowKeeps V1
@@ -310,7 +315,8 @@ pub loop_swap_keeps : SpinRowKeeps V2
 loop_swap_keeps =
     spin_row_keeps V2 refl (λ a at goes.
     if_cases (WordKept a) (is_free (a.world.word a.frame.lock)) (takes a.frame how.Virt) (looks V1)
-    (λ e. takes_kept at early_V2 how.Virt e refl (λ p. p)) (λ e. early_kept at early_V2 V1 early_V1))
+    (λ e. takes_kept at early_V2 how.Virt e refl (λ p. p))
+    (λ e. early_kept at early_V2 V1 early_V1))
 
 pub pending_look_again_keeps : SpinRowKeeps P0
 pending_look_again_keeps =

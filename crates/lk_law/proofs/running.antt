@@ -1,0 +1,6 @@
+-- What a domain of running processors rests on beside the laws of the rows.
+pub mod Nodes
+pub mod Holds
+pub mod Leads
+pub mod Calm
+pub mod Tells

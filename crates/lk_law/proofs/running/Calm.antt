@@ -1,0 +1,216 @@
+-- Where rows lead: none to a release, and but for the entry none gives a node.
+use Rattle.std.proofs.Common.{◌≡◌, ◌≢◌, ◌⊎◌, inl, inr, ℕ, Option, Some, None, Bool, true, false}
+use Rattle.std.proofs.Common.{refl, sym, ap, ◌∙◌, subst, List, []}
+use Rattle.std.proofs.lemmas.Bool.{cases_Bool}
+use Rattle.std.specs.Prelude.{if◌then◌else◌, is_some, ◌&&◌, not}
+use Rattle.lk_abs.specs.declared.names.Mode.{Mode}
+use Rattle.lk_abs.specs.declared.names.Mode.TheVariants.{Virt, Native, Cna, Pv}
+use Rattle.lk_word.specs.declared.spin_word.NodeName.{NodeName}
+use Rattle.lk_word.specs.declared.spin_word.Fields.{Fields}
+use Rattle.lk_machine.specs.declared.parts.Flag.{Flag}
+use Rattle.lk_machine.specs.declared.parts.Flag.TheVariants as flag
+use Rattle.lk_machine.specs.declared.parts.Frame.{Frame}
+use Rattle.lk_machine.specs.declared.parts.Why.{Why}
+use Rattle.lk_machine.specs.declared.parts.Why.TheVariants as why
+use Rattle.lk_machine.specs.declared.parts.Pc.{Pc}
+use Rattle.lk_machine.specs.declared.parts.Pc.TheVariants.{F1, T1, T2, U1, V1, V2, P0, P1, P2, P3}
+use Rattle.lk_machine.specs.declared.parts.Pc.TheVariants.{P4, G1, G2, G3, G4, G5, G6, G7, G8, G9}
+use Rattle.lk_machine.specs.declared.parts.Pc.TheVariants.{G10, G11, N1, N2, C1, C2, C3, C4, C5, C6}
+use Rattle.lk_machine.specs.declared.parts.Pc.TheVariants.{C7, C8, C9, C10, E1, W1}
+use Rattle.lk_machine.specs.Moves.{is_node, node_of}
+use Rattle.lk_machine.specs.Row.{Effect, Lead, Goes, Granted, Missed, Leaves, Change}
+use Rattle.lk_machine.specs.rows.Spin.{is_free, is_unlocked, to_queue, after_fast}
+use Rattle.lk_machine.specs.rows.Spin.{after_pending}
+use Rattle.lk_machine.specs.rows.Queue.{is_sole, own_node}
+use Rattle.lk_machine.specs.rows.Queue.{after_entry, after_look, after_arrival, after_head}
+use Rattle.lk_machine.specs.rows.Queue.{after_flag, after_next, after_link}
+use Rattle.lk_machine.specs.rows.Cna.{Sight, is_last, may_stay, after_none, after_tail}
+use Rattle.lk_machine.specs.rows.Cna.{search_first, search_on}
+use Rattle.lk_machine.specs.TopRow.{target}
+use Rattle.lk_law.specs.Families.{is_release_row, may_halt, is_rw_row}
+use Rattle.lk_law.specs.Leads.{course_in, is_release, enters, RowIsCalm, NodeComesAtEntry}
+use Rattle.lk_law.specs.Premises.{IsThen}
+use Rattle.lk_law.specs.Steps.{led, sight_in}
+use Rattle.lk_law.specs.World.{World}
+use Rattle.lk_abs.specs.declared.names.Waiter.{Waiter}
+
+-- A lead is mild: the frame does not come to a release by it, and gets no node.
+record Mild (f : Frame) (lead : Lead) : Type 0 where
+  pub calm : is_release (led f lead).place ≡ false
+  pub bare : enters lead ≡ false
+
+-- where a frame goes on that has the lock
+after : (f : Frame) → (f.lock.wait ≡ true → IsThen f.then)
+    → is_release (if f.lock.wait then f.then else None) ≡ false
+after f inner =
+    elim (cases_Bool f.lock.wait) [
+      | inl e ↦ rw e (elim (inner e) [ inl q ↦ ap is_release q | inr q ↦ ap is_release q ])
+      | inr e ↦ rw e refl
+    ]
+
+missed : (f : Frame) → Mild f Missed
+missed f = record { calm = refl; bare = refl }
+
+-- a row is the entry, or not
+entry_or : (c : Pc) → (c ≡ G1) ⊎ (c ≢ G1)
+entry_or G1 = inl refl
+entry_or _ = inr (λ e. cc e)
+
+module _ (f : Frame) (inner : f.lock.wait ≡ true → IsThen f.then) where
+  granted : Mild f Granted
+  granted = record { calm = after f inner; bare = refl }
+
+  leaves : Mild f Leaves
+  leaves = record { calm = after f inner; bare = refl }
+
+  -- a choice of two mild effects
+  either : {A : Type 0} (b : Bool) (x y : Effect A) → Mild f x.leads → Mild f y.leads
+      → Mild f (if b then x else y).leads
+  either true x y h k = h
+  either false x y h k = k
+
+either_row : (b : Bool) (c d : Pc) → is_release_row c ≡ false → is_release_row d ≡ false
+    → is_release_row (if b then c else d) ≡ false
+either_row true c d h k = h
+either_row false c d h k = k
+
+calm_queue : (x : Fields) → is_release_row (to_queue x) ≡ false
+calm_queue x = either_row x.pending _ _ refl (either_row (is_some x.tail) _ _ refl refl)
+
+calm_fast : (mode : Mode) (x : Fields) → is_release_row (after_fast mode x) ≡ false
+calm_fast Virt x = refl
+calm_fast Pv x = refl
+calm_fast Native x = either_row (is_unlocked x.locked && x.pending && not (is_some x.tail)) _ _ refl (calm_queue x)
+calm_fast Cna x = either_row (is_unlocked x.locked && x.pending && not (is_some x.tail)) _ _ refl (calm_queue x)
+
+calm_pending : (x : Fields) → is_release_row (after_pending x) ≡ false
+calm_pending x =
+    either_row x.pending _ _ refl
+    (either_row (is_some x.tail) _ _ refl (either_row (is_unlocked x.locked) _ _ refl refl))
+
+calm_look : (f : Frame) (x : Fields) → is_release_row (after_look f x) ≡ false
+calm_look f x =
+    either_row (is_unlocked x.locked && not x.pending) _ _
+    (either_row (is_node x.tail (node_of f.me) && not (is_some f.second)) _ _ refl refl) refl
+
+calm_entry : (mode : Mode) (me : Option NodeName) → is_release_row (after_entry mode me) ≡ false
+calm_entry Virt None = refl
+calm_entry Native None = refl
+calm_entry Cna None = refl
+calm_entry Pv None = refl
+calm_entry Virt (Some n) = refl
+calm_entry Native (Some n) = refl
+calm_entry Cna (Some n) = refl
+calm_entry Pv (Some n) = refl
+
+module _ (m : World) (w : Waiter) (f : Frame) (inner : f.lock.wait ≡ true → IsThen f.then) where
+  abbrev s : Sight
+  s = sight_in m w f
+
+  -- the frame goes to a row that is none of a release
+  to : (c : Pc) (cs : List Change) → is_release_row c ≡ false → Mild f (Goes c cs)
+  to c cs h = record { calm = h; bare = refl }
+
+  arrived : (mode : Mode) (t : Option NodeName) → Mild f (after_arrival mode t).leads
+  arrived Virt None = to G7 [] refl
+  arrived Native None = to G7 [] refl
+  arrived Cna None = to G7 [] refl
+  arrived Pv None = to E1 [] refl
+  arrived Virt (Some n) = to G5 _ refl
+  arrived Native (Some n) = to G5 _ refl
+  arrived Cna (Some n) = to G5 _ refl
+  arrived Pv (Some n) = to G5 _ refl
+
+  head : (mode : Mode) → Mild f (Goes (after_head mode) [])
+  head Virt = to G10 [] refl
+  head Native = to G10 [] refl
+  head Cna = to C1 [] refl
+  head Pv = to G10 [] refl
+
+  linked : (mode : Mode) → Mild f (after_link mode m.turns)
+  linked Virt = to G6 [] refl
+  linked Native = to G6 [] refl
+  linked Cna = to G6 [] refl
+  linked Pv = to W1 _ refl
+
+  flagged : (x : Flag) → Mild f (after_flag x).leads
+  flagged flag.Unset = to G6 [] refl
+  flagged flag.Go = to G7 [] refl
+  flagged (flag.Second n) = to G7 _ refl
+
+  next : (x : Option NodeName) → Mild f (after_next x).leads
+  next None = to G10 [] refl
+  next (Some n) = to G11 _ refl
+
+  nobody : (o : Option NodeName) → Mild f (after_none o).leads
+  nobody None = to C1 _ refl
+  nobody (Some n) = to C3 _ refl
+
+  tail : (y : Why) (cs : List Change) → Mild f (Goes (after_tail y) cs)
+  tail why.Append cs = to C4 cs refl
+  tail why.Flush cs = to C9 cs refl
+  tail why.Promotion cs = to C10 cs refl
+
+  first : (x : Option NodeName) → Mild f (search_first s f.second x).leads
+  first None = nobody f.second
+  first (Some n) =
+      either f inner (may_stay s) _ _
+      (either f inner (s.local n) _ _ (to C7 _ refl) (to C2 _ refl))
+      (either f inner (is_some f.second) _ _ (to C3 _ refl) (to C7 _ refl))
+
+  further : (x : Option NodeName) → Mild f (search_on s f x).leads
+  further None = either f inner (is_some f.second) _ _ (to C3 _ refl) (to C7 _ refl)
+  further (Some n) =
+      either f inner (s.local n) _ _
+      (either f inner (is_some f.second) _ _ (to C3 _ refl) (to C5 _ refl)) (to C2 _ refl)
+
+  mild : (c : Pc) → may_halt c ≡ false → is_rw_row c ≡ false → c ≢ G1
+      → Mild f (course_in m w f c (target c f)).leads
+  mild F1 a b g = let x = m.word f.lock in either f inner (is_free x) _ _ (granted f inner) (to _ [] (calm_fast m.mode x))
+  mild T1 a b g = let x = m.word f.lock in either f inner (is_free x) _ _ (to T2 [] refl) (missed f)
+  mild T2 a b g = let x = m.word f.lock in either f inner (is_free x) _ _ (granted f inner) (missed f)
+  mild U1 a b g = record { calm = refl; bare = refl }
+  mild V1 a b g = to _ [] (either_row (is_free (m.word f.lock)) V2 V1 refl refl)
+  mild V2 a b g = let x = m.word f.lock in either f inner (is_free x) _ _ (granted f inner) (to V1 [] refl)
+  mild P0 a b g = to _ [] (calm_queue (m.word f.lock))
+  mild P1 a b g = to _ [] (calm_pending (m.word f.lock))
+  mild P2 a b g = to G1 [] refl
+  mild P3 a b g = to _ [] (either_row (is_unlocked (m.word f.lock).locked) P4 P3 refl refl)
+  mild P4 a b g = granted f inner
+  mild G1 a b g = absurd (g refl)
+  mild G2 a b g = to _ [] (either_row (is_free (m.word f.lock)) G3 G4 refl refl)
+  mild G3 a b g = let x = m.word f.lock in either f inner (is_free x) _ _ (leaves f inner) (to G4 [] refl)
+  mild G4 a b g = arrived m.mode (m.word f.lock).tail
+  mild G5 a b g = linked m.mode
+  mild G6 a b g = flagged (m.node (node_of f.me)).flag
+  mild G7 a b g = to _ [] (calm_look f (m.word f.lock))
+  mild G8 a b g = let x = m.word f.lock in either f inner (is_sole f x) _ _ (leaves f inner) (to G9 [] refl)
+  mild G9 a b g = head m.mode
+  mild G10 a b g = next (m.node (node_of f.me)).next
+  mild G11 a b g = leaves f inner
+  mild N1 a b g = to _ [] (either_row (is_free (m.word f.lock)) N2 N1 refl refl)
+  mild N2 a b g = let x = m.word f.lock in either f inner (is_free x) _ _ (leaves f inner) (to N1 [] refl)
+  mild C1 a b g = first (m.node (node_of f.me)).next
+  mild C2 a b g = further (m.node (node_of f.b)).next
+  mild C3 a b g = tail f.why _
+  mild C4 a b g = to C5 [] refl
+  mild C5 a b g = to C6 [] refl
+  mild C6 a b g = to C7 [] refl
+  mild C7 a b g = to C8 [] refl
+  mild C8 a b g = leaves f inner
+  mild C9 a b g = to C7 _ refl
+  mild C10 a b g = either f inner (is_last f (m.word f.lock)) _ _ (to C7 _ refl) (to C1 [] refl)
+  mild _ a b g = cc (a, b)
+
+pub row_is_calm : RowIsCalm
+row_is_calm m w f c plain inner = at c plain.awake plain.spin
+  where
+    entry : (mode : Mode) (me : Option NodeName) → is_release_row (after_entry mode me) ≡ false
+    entry = calm_entry
+
+    at : (c : Pc) → may_halt c ≡ false → is_rw_row c ≡ false
+        → is_release (led f (course_in m w f c (target c f)).leads).place ≡ false
+    at c a b = elim (entry_or c) [ inl e ↦ subst (λ (d : Pc). is_release (led f (course_in m w f d (target d f)).leads).place ≡ false) (sym e) (entry m.mode (own_node w.cpu (m.queued w.cpu))) | inr ne ↦ (mild m w f inner c a b ne).calm ]
+
+pub node_comes_at_entry : NodeComesAtEntry
+node_comes_at_entry m w f c plain inner ne = (mild m w f inner c plain.awake plain.spin ne).bare

@@ -1,0 +1,163 @@
+-- What is stored into a node that nobody uses; and which nodes are used.
+use Rattle.std.proofs.Common.{◌≡◌, ◌≢◌, ◌<◌, ◌≤◌, inl, inr, ℕ, Option, Some, None, Bool, true, false}
+use Rattle.std.proofs.Common.{arith, ap, refl, sym, ◌∙◌, subst, slice_get}
+use Rattle.std.specs.Prelude.{if◌then◌else◌, is_some}
+use Rattle.std.proofs.lemmas.Bool.{cases_lt}
+use Rattle.lk_abs.specs.History.{LockHistory}
+use Rattle.lk_abs.specs.declared.names.Waiter.{Waiter}
+use Rattle.lk_abs.specs.declared.names.LockName.{LockName}
+use Rattle.lk_word.specs.declared.spin_word.NodeName.{NodeName}
+use Rattle.lk_machine.specs.declared.parts.Flag.TheVariants.{Second}
+use Rattle.lk_machine.specs.declared.parts.Node.{Node}
+use Rattle.lk_machine.specs.declared.parts.Frame.{Frame}
+use Rattle.lk_machine.specs.declared.parts.Pc.{Pc}
+use Rattle.lk_machine.specs.declared.parts.Pc.TheVariants.{G5, G10}
+use Rattle.lk_machine.specs.Moves.{node_of}
+use Rattle.lk_law.specs.Agree.{halts, LockAgrees}
+use Rattle.lk_law.specs.Known.{IsOwnNode}
+use Rattle.lk_law.specs.Nodes.{IsFree, IsPlainNode, IsShallow, FreeNodeKeeps, FreshIsFree}
+use Rattle.lk_law.specs.Nodes.{PrevIsUsed, LinkIsUsed}
+use Rattle.lk_law.specs.Phase.{Phase, has_node, queues}
+use Rattle.lk_law.specs.Phase.Phase.{Prepared, Links, Holds}
+use Rattle.lk_law.specs.Places.{snapshot, phase_if, phase_on, slow_in, own_in}
+use Rattle.lk_law.specs.Premises.{Uses}
+use Rattle.lk_law.specs.Snapshot.{Snapshot, before, same_node}
+use Rattle.lk_law.specs.SpinWorld.{IsSoundSpinWorld}
+use Rattle.lk_law.specs.SoundWorld.{IsSoundWorld, spin_part}
+use Rattle.lk_law.specs.Steps.{put_node}
+use Rattle.lk_law.specs.World.{World}
+use Rattle.lk_law.proofs.common.Before.{before_lt, nodes_apart}
+use Rattle.lk_law.proofs.common.Families.{Last, lists_keep, lists_rest, lists_met, lists_front}
+use Rattle.lk_law.proofs.common.Frame.{queue_node}
+use Rattle.lk_law.proofs.common.Puts.{if-false, if_cases, same_node-else}
+use Rattle.lk_law.proofs.common.Users.{user_of, own_node, used_noded, used_own}
+use Rattle.lk_law.proofs.common.Worlds.{phase_on-here}
+use Rattle.lk_law.proofs.queue.Lead.{second_is}
+
+prepared_node : (r : Phase) → r ≡ Prepared → has_node r ≡ true
+prepared_node r h = grind arith
+
+module _ (m : World) (hs : LockName → LockHistory) (n : NodeName) (x : Node)
+    (ok : IsSoundSpinWorld m hs) (awake : halts m.mode ≡ false) (free : IsFree m n)
+    (plain : IsPlainNode m x) where
+  abbrev s : Snapshot
+  s = snapshot m
+
+  abbrev s' : Snapshot
+  s' = snapshot (put_node m n x)
+
+  -- who has a node finds it as it was
+  others : (l : LockName) (u : Waiter) → has_node (s.phase l u) ≡ true
+      → s'.node (s.own u) ≡ s.node (s.own u)
+  others l u noded =
+      if-false (same_node (s.own u) n) x (m.node (s.own u))
+      (same_node-else (s.own u) n (λ e. free u (subst (Uses m u) e (user_of ok l u noded))))
+
+  -- a node that is prepared is not one of the queue
+  fresh : (l : LockName) (u : Waiter) → s.phase l u ≡ Prepared → (z : Waiter)
+      → queues (s.phase l z) ≡ true → s.own u ≢ s.own z
+  fresh l u p z q e =
+      let same : u ≡ z = nodes_apart ok.agrees.nodes l l u z (prepared_node (s.phase l u) p)
+      (queue_node (s.phase l z) q) e in
+      grind (arith, ap (s.phase l) same, p, q)
+
+  lock_keeps : (l : LockName) → LockAgrees s' (hs l) l
+  lock_keeps l =
+      let o = ok.agrees.locks l in
+      record {
+        holder = o.holder;
+        holders = o.holders;
+        hold = o.hold;
+        pend = o.pend;
+        posts = λ on. absurd (grind (arith, awake, on));
+        lists = lists_keep o.lists {phase' = s.phase l} {own' = s.own} {node' = s'.node}
+            {stage' = s.stage l} {kept' = s.kept}
+            (λ u q. (refl, refl, others l u (queue_node (s.phase l u) q), refl, refl))
+            (λ u q. refl)
+            (λ u p. others l u (prepared_node (s.phase l u) p) ∙ lists_rest o.lists u p)
+            (λ was u p. was u p)
+            (λ u z p q e. nodes_apart ok.agrees.nodes l l u z p q e)
+            (fresh l);
+      }
+
+  spin_free_node_keeps : IsSoundSpinWorld (put_node m n x) hs
+  spin_free_node_keeps =
+      record {
+        plain = record {
+          byte = ok.plain.byte;
+          flag = λ flat a k. if_cases (λ (y : Node). y.flag ≢ Second k) (same_node a n) x (m.node a)
+              (λ _. plain flat k) (λ _. ok.plain.flag flat a k);
+        };
+        turning = ok.turning;
+        agrees = record {
+          locks = lock_keeps;
+          nodes = ok.agrees.nodes;
+          alone = ok.agrees.alone;
+          sleeper = ok.agrees.sleeper;
+        };
+        registers = ok.registers;
+        asleep = ok.asleep;
+        resting = ok.resting;
+      }
+
+pub free_node_keeps : FreeNodeKeeps
+free_node_keeps m hs n x ok awake free plain =
+    record {
+      spins = spin_free_node_keeps m (spin_part m.kind hs) n x ok.spins awake free plain;
+      rws = ok.rws;
+      fits = ok.fits;
+    }
+
+pub fresh_is_free : FreshIsFree
+fresh_is_free m hs p ok low u uses =
+    let s = snapshot m in
+    let n : NodeName = record { cpu = p; index = m.queued p } in
+    let l = uses.0.lock in
+    let noded = used_noded ok u n uses in
+    let own = used_own ok u n uses in
+    let placed = ok.agrees.nodes.placed l u noded in
+    let slow : s.slow u ≡ true = ok.agrees.nodes.slowly l u noded in
+    let cpus : u.cpu ≡ p = ap (λ (k : NodeName). k.cpu) (sym placed ∙ own) in
+    let count : before s.slow u.cpu u.ctx ≡ m.queued p = ap (λ (k : NodeName). k.index) (sym placed ∙ own) in
+    let count' : before s.slow p u.ctx ≡ m.queued p = rw cpus at count in
+    let all : m.queued p ≡ before s.slow p 6 = ok.agrees.nodes.counted p in
+    let is : u ≡ record { cpu = p; ctx = u.ctx } = (λ i. record { cpu = cpus i; ctx = u.ctx }) in
+    let slow' : s.slow (record { cpu = p; ctx = u.ctx }) ≡ true = ap s.slow (sym is) ∙ slow in
+    elim (cases_lt u.ctx 6) [
+      | inl lt ↦ let z = before_lt s.slow p u.ctx 6 slow' lt in absurd (omega arith)
+      | inr ge ↦ let none : s.slow (record { cpu = p; ctx = u.ctx }) ≡ false = ap slow_in (low u.ctx ge) in
+          absurd (grind (arith, none, slow'))
+    ]
+
+module _ {m : World} {hs : LockName → LockHistory} {w : Waiter} {f : Frame} {c : Pc}
+    (ok : IsSoundSpinWorld m hs) (live : m.frame w ≡ Some f) (place : f.place ≡ Some c) where
+  -- the phase of the frame at its lock
+  here : (snapshot m).phase f.lock w
+      ≡ phase_if (Some c) (is_some f.me) (node_of f.prev) (node_of f.y)
+  here = ap (phase_on f.lock) live ∙ phase_on-here f.lock f refl
+      ∙ ap (λ (o : Option Pc). phase_if o (is_some f.me) (node_of f.prev) (node_of f.y)) place
+
+  -- the node of a waiter in the queue is used by it
+  of_waiter : (n : NodeName) (u : Waiter) → has_node ((snapshot m).phase f.lock u) ≡ true
+      → (snapshot m).own u ≡ n → (v : Waiter) × Uses m v n × IsOwnNode v n
+  of_waiter n u noded is = (
+    u,
+    subst (Uses m u) is (user_of ok f.lock u noded),
+    subst (IsOwnNode u) is (own_node ok f.lock u noded),
+  )
+
+pub prev_is_used : PrevIsUsed
+prev_is_used m hs w f ok live place =
+    let l = lists_met (ok.agrees.locks f.lock).lists w (node_of f.prev) (here ok live place) in
+    of_waiter ok live place (node_of f.prev) l.by l.noded (sym l.owned)
+
+pub link_is_used : LinkIsUsed
+link_is_used m hs w f n ok live place linked =
+    let s = snapshot m in
+    let lists = (ok.agrees.locks f.lock).lists in
+    let flat = lists.flat ((ok.registers w f live).choice.plainly G10 place refl) in
+    let own : s.own w ≡ node_of f.me = ap own_in live in
+    let first : slice_get (hs f.lock).main 0 ≡ Some w = lists_front lists w (let e = here ok live place in grind (arith, e)) in
+    let next : (m.node (s.own w)).next ≡ Some n = ap (λ (k : NodeName). (m.node k).next) own ∙ linked in
+    let v = second_is flat.queue w n first next in
+    of_waiter ok live place n v.0 (ap has_node v.2) v.3

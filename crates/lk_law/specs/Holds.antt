@@ -1,0 +1,37 @@
+-- How a spinlock is held by a running processor: by one waiter at most, and from one of its contexts
+-- to another.
+use Rattle.std.specs.Prelude.{◌≡◌, Some, None, false, if◌then◌else◌}
+use Rattle.lk_abs.specs.Names.{same_lock}
+use Rattle.lk_abs.specs.History.{LockHistory}
+use Rattle.lk_abs.specs.declared.holder.Manner.TheVariants.{Spins}
+use Rattle.lk_abs.specs.declared.names.Kind.TheVariants.{Spin}
+use Rattle.lk_abs.specs.declared.names.Waiter.{Waiter}
+use Rattle.lk_abs.specs.declared.names.LockName.{LockName}
+use Rattle.lk_law.specs.Agree.{sole}
+use Rattle.lk_law.specs.Phase.Phase.{Idle}
+use Rattle.lk_law.specs.Places.{phase_on}
+use Rattle.lk_law.specs.SoundWorld.{IsSoundWorld}
+use Rattle.lk_law.specs.SpinWorld.{IsSoundSpinWorld}
+use Rattle.lk_law.specs.Steps.{put_held}
+use Rattle.lk_law.specs.World.{World}
+
+-- A spinlock or a wait lock is held by one waiter at most.
+abbrev pub HolderIsOne : Type 0
+HolderIsOne = (m : World) (hs : LockName → LockHistory) (l : LockName) (u v : Waiter)
+    → IsSoundSpinWorld m hs → m.held u l ≡ Some Spins → m.held v l ≡ Some Spins → u ≡ v
+
+-- the hold of the lock goes from u to v
+abbrev pub hands_hold : World → LockName → Waiter → Waiter → World
+hands_hold m l u v = put_held (put_held m u l None) v l (Some Spins)
+
+-- in the lock's history v is the holder
+abbrev pub held_by : (LockName → LockHistory) → LockName → Waiter → LockName → LockHistory
+held_by hs l v k = if same_lock k l then record (hs k) { holders = sole (Some v) } else hs k
+
+-- A hold of a spinlock goes from one waiter to another, neither of which is at work on the lock: the
+-- world stays sound, and the history names the other as the holder.
+abbrev pub HoldMoves : Type 0
+HoldMoves = (m : World) (hs : LockName → LockHistory) (l : LockName) (u v : Waiter)
+    → IsSoundWorld m hs → l.wait ≡ false → m.kind l.index ≡ Spin → m.held u l ≡ Some Spins
+    → phase_on l (m.frame u) ≡ Idle → phase_on l (m.frame v) ≡ Idle
+    → IsSoundWorld (hands_hold m l u v) (held_by hs l v)

@@ -1,0 +1,63 @@
+-- What a running processor may store into nodes, and which nodes its rows name: in every sound
+-- world of a family that halts no processor.
+use Rattle.std.specs.Prelude.{◌≡◌, ◌≢◌, ◌≤◌, ℕ, Some, None, true, false}
+use Rattle.lk_abs.specs.History.{LockHistory}
+use Rattle.lk_abs.specs.declared.names.Waiter.{Waiter}
+use Rattle.lk_abs.specs.declared.names.LockName.{LockName}
+use Rattle.lk_word.specs.declared.spin_word.NodeName.{NodeName}
+use Rattle.lk_machine.specs.declared.parts.Flag.TheVariants.{Second}
+use Rattle.lk_machine.specs.declared.parts.Node.{Node}
+use Rattle.lk_machine.specs.declared.parts.Frame.{Frame}
+use Rattle.lk_machine.specs.declared.parts.Pc.{Pc}
+use Rattle.lk_machine.specs.declared.parts.Pc.TheVariants.{G5, G10}
+use Rattle.lk_machine.specs.Moves.{node_of}
+use Rattle.lk_law.specs.Agree.{halts}
+use Rattle.lk_law.specs.Cna.{moves_aside}
+use Rattle.lk_law.specs.Families.{may_halt}
+use Rattle.lk_law.specs.Known.{IsOwnNode}
+use Rattle.lk_law.specs.Premises.{Uses, GoesTo}
+use Rattle.lk_law.specs.SoundWorld.{IsSoundWorld}
+use Rattle.lk_law.specs.SpinWorld.{IsSoundSpinWorld}
+use Rattle.lk_law.specs.Steps.{put_node, row_in}
+use Rattle.lk_law.specs.World.{World}
+
+-- nobody uses the node
+abbrev pub IsFree : World → NodeName → Type 0
+IsFree m n = (u : Waiter) → Uses m u n → ⊥
+
+-- what may be stored into a node where nobody is moved aside
+abbrev pub IsPlainNode : World → Node → Type 0
+IsPlainNode m x = moves_aside m.mode ≡ false → (k : NodeName) → x.flag ≢ Second k
+
+-- What is stored into a node that nobody uses keeps every sound world.
+abbrev pub FreeNodeKeeps : Type 0
+FreeNodeKeeps = (m : World) (hs : LockName → LockHistory) (n : NodeName) (x : Node)
+    → IsSoundWorld m hs → halts m.mode ≡ false → IsFree m n → IsPlainNode m x
+    → IsSoundWorld (put_node m n x) hs
+
+-- no context of the processor is above the sixth
+abbrev pub IsShallow : World → ℕ → Type 0
+IsShallow m p = (c : ℕ) → 6 ≤ c → m.frame (record { cpu = p; ctx = c }) ≡ None
+
+-- The node that the next frame of a processor gets is used by nobody.
+abbrev pub FreshIsFree : Type 0
+FreshIsFree = (m : World) (hs : LockName → LockHistory) (p : ℕ) → IsSoundSpinWorld m hs
+    → IsShallow m p → IsFree m (record { cpu = p; index = m.queued p })
+
+-- The node before that of a frame that links is used.
+abbrev pub PrevIsUsed : Type 0
+PrevIsUsed = (m : World) (hs : LockName → LockHistory) (w : Waiter) (f : Frame)
+    → IsSoundSpinWorld m hs → m.frame w ≡ Some f → f.place ≡ Some G5
+    → (u : Waiter) × Uses m u (node_of f.prev) × IsOwnNode u (node_of f.prev)
+
+-- The node to which the node of a front is linked that looks for the next is used.
+abbrev pub LinkIsUsed : Type 0
+LinkIsUsed = (m : World) (hs : LockName → LockHistory) (w : Waiter) (f : Frame) (n : NodeName)
+    → IsSoundSpinWorld m hs → m.frame w ≡ Some f → f.place ≡ Some G10
+    → (m.node (node_of f.me)).next ≡ Some n → (u : Waiter) × Uses m u n × IsOwnNode u n
+
+-- Where a row hands the lead on, some waiter uses the node that it names.
+abbrev pub LeadGoesOn : Type 0
+LeadGoesOn = (m : World) (hs : LockName → LockHistory) (w : Waiter) (f : Frame) (c : Pc)
+    → IsSoundSpinWorld m hs → m.frame w ≡ Some f → f.place ≡ Some c → may_halt c ≡ false
+    → (to : Waiter) × GoesTo m to (row_in m w f c).1

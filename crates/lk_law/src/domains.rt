@@ -1,0 +1,40 @@
+// What a domain of running processors rests on beside the laws of the rows, as clauses of functions
+// that do nothing.
+
+ghost use Rattle.lk_law.specs.Holds.{HolderIsOne, HoldMoves};
+ghost use Rattle.lk_law.specs.Leads.{RowIsLed, RowIsDone, RowIsCalm, NodeComesAtEntry};
+ghost use Rattle.lk_law.specs.Nodes.{FreeNodeKeeps, FreshIsFree, PrevIsUsed, LinkIsUsed, LeadGoesOn};
+ghost use Rattle.lk_law.specs.Resting.{RestIsSound};
+
+/// Every row is its store and then its course, which is told by the value that it meets. No row but
+/// those of a reader or a writer, and of a release that may kick, leads to a release; and but for
+/// the entry none gives a node.
+pub fn rows_are_led()
+    ensures led { RowIsLed }
+    ensures done { RowIsDone }
+    ensures calm { RowIsCalm }
+    ensures entry { NodeComesAtEntry }
+{}
+
+/// What is stored into a node that nobody uses keeps every sound world, and the node that the next
+/// frame of a processor gets is such a one. The node before that of a waiter that links, the one to
+/// which a front's is linked, and the one to which a row hands the lead, are used.
+pub fn nodes_are_free()
+    ensures store { FreeNodeKeeps }
+    ensures fresh { FreshIsFree }
+    ensures prev { PrevIsUsed }
+    ensures link { LinkIsUsed }
+    ensures lead { LeadGoesOn }
+{}
+
+/// A spinlock is held by one waiter at most. A hold may go from one context to another: the world
+/// stays sound, and the history names the other as the holder.
+pub fn holds_move()
+    ensures one { HolderIsOne }
+    ensures moves { HoldMoves }
+{}
+
+/// A world in which nobody is there is sound.
+pub fn rest_is_sound()
+    ensures rest { RestIsSound }
+{}
