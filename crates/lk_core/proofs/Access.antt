@@ -48,7 +48,8 @@ pub cpu_each : (P : CpuState → Type 0) (m : Machine) (p : ℕ) (c : CpuState) 
     → P c → (q : ℕ) → (q ≢ p → P (cpu_at m q)) → P (cpu_at (set_cpu m p c) q)
 cpu_each P m p c lt here q others =
     elim (cases_eq q p) [
-      | inl s ↦ subst (λ (r : ℕ). P (cpu_at (set_cpu m p c) r)) (sym s) (subst P (sym (cpu_same m p c lt)) here)
+      | inl s ↦ subst (λ (r : ℕ). P (cpu_at (set_cpu m p c) r)) (sym s)
+          (subst P (sym (cpu_same m p c lt)) here)
       | inr ne ↦ subst P (sym (cpu_other m p q c ne)) (others ne)
     ]
 
@@ -61,18 +62,22 @@ unfolding frame_at
 frame_changed m w c o lt here others u =
     elim (waiter_cases u w) [
       | inl e ↦
-          let P : Waiter → Type 0 = λ v. frame_at (set_cpu m w.cpu c) v ≡ (if same_waiter v w then o else frame_at m v) in
+          let P : Waiter → Type 0 =
+          λ v. frame_at (set_cpu m w.cpu c) v ≡ (if same_waiter v w then o else frame_at m v) in
           subst P (sym e)
           (ap (λ (d : CpuState). slice_get d.frames w.ctx) (cpu_same m w.cpu c lt) ∙ here
           ∙ sym (ap (λ (b : Bool). if b then o else frame_at m w) (same_waiter-self w)))
-      | inr ne ↦ kept ne ∙ sym (ap (λ (b : Bool). if b then o else frame_at m u) (same_waiter-else u w ne))
+      | inr ne ↦ kept ne
+          ∙ sym (ap (λ (b : Bool). if b then o else frame_at m u) (same_waiter-else u w ne))
     ]
   where
     kept : u ≢ w → frame_at (set_cpu m w.cpu c) u ≡ frame_at m u
     kept ne =
         elim (cases_eq u.cpu w.cpu) [
           | inl e ↦
-              let P : ℕ → Type 0 = λ q. slice_get (cpu_at (set_cpu m w.cpu c) q).frames u.ctx ≡ slice_get (cpu_at m q).frames u.ctx in
+              let P : ℕ → Type 0 = λ q.
+              slice_get (cpu_at (set_cpu m w.cpu c) q).frames u.ctx ≡ slice_get
+              (cpu_at m q).frames u.ctx in
               subst P (sym e)
               (ap (λ (d : CpuState). slice_get d.frames u.ctx) (cpu_same m w.cpu c lt)
               ∙ others u.ctx (λ x. ne (λ i. record { cpu = e i; ctx = x i })))
@@ -159,7 +164,8 @@ word_set_word m l x lt k =
           (ap (pick l.wait) (lock_same m l.index y lt)
           ∙ pick-put_same l.wait (lock_at m l.index) x
           ∙ sym (ap (λ (b : Bool). if b then x else word_at m l) (same_lock-self l)))
-      | inr ne ↦ kept y refl ne ∙ sym (ap (λ (b : Bool). if b then x else word_at m k) (same_lock-else k l ne))
+      | inr ne ↦ kept y refl ne
+          ∙ sym (ap (λ (b : Bool). if b then x else word_at m k) (same_lock-else k l ne))
     ]
   where
     kept : (y : LockState) → y ≡ put l.wait (lock_at m l.index) x → k ≢ l

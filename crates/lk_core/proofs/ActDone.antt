@@ -6,19 +6,15 @@ use Rattle.std.proofs.lemmas.List.{set-get_or}
 use Rattle.std.proofs.lemmas.Bool.{cases_Bool, lt-leb, or_from, or_right, and_from, not_from_false}
 use Rattle.lk_abs.specs.History.{LockHistory}
 use Rattle.lk_abs.specs.declared.names.LockName.{LockName}
-use Rattle.lk_abs.specs.declared.names.Mode.{Mode}
-use Rattle.lk_abs.specs.declared.names.Mode.TheVariants.{Virt, Native, Cna, Pv}
 use Rattle.lk_abs.specs.declared.events.Act.{Act}
 use Rattle.lk_abs.specs.declared.events.Act.TheVariants as act
 use Rattle.lk_abs.specs.declared.events.Event.{Event}
 use Rattle.lk_abs.specs.declared.events.What.TheVariants.{Int}
 use Rattle.lk_machine.specs.declared.family.Family.TheVariants as family
 use Rattle.lk_machine.specs.Family.{family_of}
-use Rattle.lk_machine.specs.declared.setup.Verb.TheVariants.{Lock, Try, Unlock}
 use Rattle.lk_machine.specs.declared.parts.Pc.{Pc}
-use Rattle.lk_machine.specs.declared.parts.Pc.TheVariants.{F1, V1, V2}
 use Rattle.lk_machine.specs.Machine.{Machine, CpuState, no_cpu, cpu_at, set_cpu, set_preempted}
-use Rattle.lk_machine.specs.Machine.{depth_at, preempted_at, halted_at, handlers_at, top_of}
+use Rattle.lk_machine.specs.Machine.{depth_at, preempted_at, halted_at, handlers_at}
 use Rattle.lk_machine.specs.Machine.{top_frame, rest_frame, push, HasTop}
 use Rattle.lk_machine.specs.declared.setup.Setup.{Setup}
 use Rattle.lk_machine.specs.declared.parts.Frame.{Frame}
@@ -32,10 +28,9 @@ use Rattle.lk_machine.specs.Ready.{CountsWithin, IsReady}
 use Rattle.lk_law.specs.Steps.{told_on}
 use Rattle.lk_cna.specs.Row.{IsCnaReady}
 use Rattle.lk_rw.specs.Row.{IsRwReady}
-use Rattle.lk_law.specs.Sound.{BelongsTo, Stage, Spinning, Sharing, Waiting, Freeing, Owing}
-use Rattle.lk_law.specs.Sound.{is_lock_row, ShowsAll, IsSound}
+use Rattle.lk_law.specs.Sound.{ShowsAll, IsSound}
 use Rattle.lk_law.specs.MachineLaws.{ShowsLawful}
-use Rattle.lk_law.specs.Kicked.{and_then}
+use Rattle.lk_law.specs.Kicked.{with_event}
 use Rattle.lk_pv.specs.Row.{IsPvReady}
 use Rattle.lk_core.specs.Idle.{IsIdle, Happens}
 use Rattle.lk_core.proofs.ActKept.{act_kept}
@@ -43,7 +38,6 @@ use Rattle.lk_core.proofs.CountsKept.{counts_within}
 use Rattle.lk_core.proofs.IdleActs.{awake_same, idle_act, busy_act}
 use Rattle.lk_core.proofs.Same.{has_top_same}
 use Rattle.lk_core.proofs.ReadyRows.{ready_at, cna_ready_at, rw_ready_at, pv_ready_at, has_programs}
-use Rattle.lk_core.proofs.RowKept.{top_live}
 use Rattle.lk_core.proofs.Runs.{acts_keep}
 use Rattle.lk_core.proofs.Setups.{setup_kept}
 
@@ -54,7 +48,7 @@ pub record IsDone (m : Machine) (a : Act) (n : Machine) (e : Option Event) : Typ
   pub idle : IsIdle m a → (n ≡ m) × (e ≡ None)
   pub busy : ¬ IsIdle m a → Happens m a n e
   pub sound : IsSound n
-  pub keeps : (es : List Event) → ShowsLawful m es → ShowsLawful n (and_then es e)
+  pub keeps : (es : List Event) → ShowsLawful m es → ShowsLawful n (with_event es e)
   pub counted : (k : ℕ) → CountsWithin k m.counts → CountsWithin (k + 1) n.counts
   pub setup : n.setup ≡ m.setup
 
@@ -65,7 +59,8 @@ act_done_at m a range sound =
     record {
       next = refl;
       event = refl;
-      idle = λ i. let e = idle_act m hs sound.1 a range i in (ap (λ (x : Answer). x.0) e, ap (λ (x : Answer). x.1) e);
+      idle = λ i. let e = idle_act m hs sound.1 a range i in
+          (ap (λ (x : Answer). x.0) e, ap (λ (x : Answer). x.1) e);
       busy = λ b. busy_act m hs sound.1 a range b;
       sound = (told_on hs (done m a).1, (act_kept m hs sound.1 a range).shows);
       keeps = λ es now. acts_keep m es a range now;
@@ -88,7 +83,8 @@ set_preempted-same : (m : Machine) (p : ℕ) (b : Bool) → preempted_at m p ≡
     → set_preempted m p b ≡ m
 unfolding preempted_at set_preempted set_cpu cpu_at
 set_preempted-same m p b e =
-    let same : record (cpu_at m p) { preempted = b } ≡ cpu_at m p = ap (λ (x : Bool). record (cpu_at m p) { preempted = x }) (sym e) in
+    let same : record (cpu_at m p) { preempted = b } ≡ cpu_at m p =
+    ap (λ (x : Bool). record (cpu_at m p) { preempted = x }) (sym e) in
     ap (λ (c : CpuState). record m { cpus = slice_set m.cpus p c }) same
     ∙ ap (λ (cs : List CpuState). record m { cpus = cs }) (set-get_or m.cpus p no_cpu)
 
@@ -134,13 +130,15 @@ module _ (m : Machine) (p : ℕ) (range : p < length m.cpus) (sound : IsSound m)
   -- a step of a processor that is neither preempted nor halted is the row of its top frame
   pub step_is : preempted_at m p ≡ false → halted_at m p ≡ false → step m p ≡ row m p
   step_is calm awake_is =
-      ap (λ (b : Bool). if b then idle m else (if halted_at m p then step_halted m p else row m p)) calm
+      ap (λ (b : Bool). if b then idle m
+      else (if halted_at m p then step_halted m p else row m p)) calm
       ∙ ap (λ (b : Bool). if b then step_halted m p else row m p) awake_is
 
   -- and of one that has halted is the end of its halt, if it was kicked
   pub step_halted_is : preempted_at m p ≡ false → halted_at m p ≡ true → step m p ≡ step_halted m p
   step_halted_is calm halted =
-      ap (λ (b : Bool). if b then idle m else (if halted_at m p then step_halted m p else row m p)) calm
+      ap (λ (b : Bool). if b then idle m
+      else (if halted_at m p then step_halted m p else row m p)) calm
       ∙ ap (λ (b : Bool). if b then step_halted m p else row m p) halted
 
   -- an interrupt finds no entry between the last test before a halt and the halt
@@ -151,7 +149,8 @@ module _ (m : Machine) (p : ℕ) (range : p < length m.cpus) (sound : IsSound m)
       (or_right ((preempted_at m p || nat_le 6 (depth_at m p))
       || nat_le (handlers_of m.setup p) (handlers_at m p))
       (stands_halting (top_frame m p).place && not (halted_at m p))
-      (and_from (stands_halting (top_frame m p).place) (not (halted_at m p)) stands (not_from_false (halted_at m p) awake_is)))
+      (and_from (stands_halting (top_frame m p).place) (not (halted_at m p)) stands
+      (not_from_false (halted_at m p) awake_is)))
 
   -- and finds it where the processor is not preempted, has room and a handler left, and is not
   -- about to halt
@@ -168,12 +167,14 @@ module _ (m : Machine) (p : ℕ) (range : p < length m.cpus) (sound : IsSound m)
       let same = awake_same m p in
       let deep : depth_at (awake m p) p ≡ depth_at m p = same.depth p in
       let used : handlers_at (awake m p) p ≡ handlers_at m p = same.handlers p in
-      let name : handler_frame (awake m p) p ≡ handler_frame m p = (λ i. record rest_frame { ctx = deep i; program = used i + 1 }) in
+      let name : handler_frame (awake m p) p ≡ handler_frame m p =
+      (λ i. record rest_frame { ctx = deep i; program = used i + 1 }) in
       let open_entry : is_shut m p ≡ false =
       or_from ((preempted_at m p || nat_le 6 (depth_at m p))
       || nat_le (handlers_of m.setup p) (handlers_at m p))
       (stands_halting (top_frame m p).place && not (halted_at m p))
-      (or_from (preempted_at m p || nat_le 6 (depth_at m p)) (nat_le (handlers_of m.setup p) (handlers_at m p))
+      (or_from (preempted_at m p || nat_le 6 (depth_at m p))
+      (nat_le (handlers_of m.setup p) (handlers_at m p))
       (or_from (preempted_at m p) (nat_le 6 (depth_at m p)) calm (lt-leb 6 (depth_at m p) room))
       (lt-leb (handlers_of m.setup p) (handlers_at m p) left)) off in
       ap (λ (b : Bool). if b then idle m else interrupted m p) open_entry
@@ -187,7 +188,9 @@ module _ (m : Machine) (p : ℕ) (range : p < length m.cpus) (sound : IsSound m)
   awake_top = has_top_same m (awake m p) p (awake_same m p) has_top
 
   pub awake_programs : HasPrograms (awake m p).setup p
-  awake_programs = subst (λ (s : Setup). HasPrograms s p) (sym (awake_same m p).keeps.setup) (has_programs m hs shows p range)
+  awake_programs =
+      subst (λ (s : Setup). HasPrograms s p) (sym (awake_same m p).keeps.setup)
+      (has_programs m hs shows p range)
 
   pub awake_room : depth_at m p < 6 → depth_at (awake m p) p < 6
   awake_room room = let deep = (awake_same m p).depth p in omega arith

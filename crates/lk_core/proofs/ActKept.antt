@@ -1,6 +1,6 @@
 -- Each act keeps what the machine shows, and its event is allowed.
 use Rattle.std.proofs.Common.{Option, ◌≡◌, ◌⊎◌, ℕ, Some, None, Bool, true, false, List, [], ◌∷◌}
-use Rattle.std.proofs.Common.{◌++◌, inl, inr, arith, ap, ◌<◌, ◌+◌, ◌-◌, refl, sym, ◌∙◌, subst}
+use Rattle.std.proofs.Common.{◌++◌, inl, inr, arith, ap, ◌<◌, ◌+◌, refl, sym, ◌∙◌, subst}
 use Rattle.std.proofs.Common.{length}
 use Rattle.std.specs.Prelude.{if◌then◌else◌, ◌||◌, ◌&&◌, not, nat_le}
 use Rattle.std.proofs.lemmas.Bool.{cases_Bool, or_parts, leb-false}
@@ -31,26 +31,27 @@ use Rattle.lk_machine.specs.Acts.{next, processor_of}
 use Rattle.lk_machine.specs.declared.parts.Pc.{Pc}
 use Rattle.lk_law.specs.World.{World}
 use Rattle.lk_law.specs.Steps.{put_halted, put_kicked, told_on}
-use Rattle.lk_law.specs.Allowed.{IsAllowed}
+use Rattle.lk_law.specs.Allowed.{MayFollow}
 use Rattle.lk_law.specs.Premises.{IsNewest, HasNoSleeper, roused}
 use Rattle.lk_law.specs.Kicked.{ShowsKicks}
 use Rattle.lk_law.proofs.pv.HaltsEnd.{roused_is_awake, top_is_awake}
 use Rattle.lk_law.proofs.pv.HaltsShown.{wake_shows, nudge_shows, int_shows, int_awake_shows}
 use Rattle.lk_law.proofs.pv.HaltLayers.{wake_keeps, nudge_keeps, int_keeps}
 use Rattle.lk_law.proofs.common.HeldAfter.{held_goes}
-use Rattle.lk_law.specs.Sound.{world, rules_of, held_at, held_of, BelongsTo, Stage, Works, Fits}
+use Rattle.lk_law.specs.Sound.{world, rules_of, held_at, held_of, BelongsTo, Footing, Works, Fits}
 use Rattle.lk_law.specs.Sound.{ShowsAll, owes_kick, is_over}
 use Rattle.lk_law.specs.SoundWorld.{IsSoundWorld, spin_part, rw_phase_of}
 use Rattle.lk_law.specs.Families.{is_rw_row}
 use Rattle.lk_core.proofs.Leads.{SameHold}
 use Rattle.lk_core.proofs.Seated.{next_of, world-set_preempted, world-set_top}
 use Rattle.lk_core.proofs.Worlds.{world-set_halted, world-set_kicked}
-use Rattle.lk_core.proofs.Same.{Same, same_then, same_set_top, same_set_halted, same_set_kicked}
+use Rattle.lk_core.proofs.Same.{KeepsFrames, same_then, same_set_top, same_set_halted}
+use Rattle.lk_core.proofs.Same.{same_set_kicked}
 use Rattle.lk_core.proofs.Same.{same_set_preempted, whole_same, fits_kept}
 use Rattle.lk_core.proofs.Settle.{fits_all}
 use Rattle.lk_core.proofs.Moved.{Ready, goes_fit, holding_same}
-use Rattle.lk_core.proofs.RowParts.{Kept}
-use Rattle.lk_core.proofs.Stands.{Stands, Acts, Owes, Shares, stands, top_newest}
+use Rattle.lk_core.proofs.RowParts.{StillShows}
+use Rattle.lk_core.proofs.Stands.{Stance, Acts, Owes, Shares, stands, top_newest}
 use Rattle.lk_core.proofs.RowKept.{top_live, row_kept}
 use Rattle.lk_core.proofs.FrameComes.{idle_kept, pushed_kicks, pushed_shows}
 use Rattle.lk_abs.specs.declared.events.Act.TheVariants as act
@@ -71,7 +72,10 @@ behind_row Pv Lock = (λ e. refl, λ e. refl)
 behind_row Virt Lock = (λ e. absurd (grind (arith, e)), λ e. absurd (grind (arith, e)))
 behind_row Native Lock = (λ e. absurd (grind (arith, e)), λ e. absurd (grind (arith, e)))
 behind_row Cna Lock = (λ e. absurd (grind (arith, e)), λ e. absurd (grind (arith, e)))
-behind_row mode Try = (λ e. absurd (elim e [ inl q ↦ cc | inr q ↦ cc ]), λ e. absurd (elim e [ inl q ↦ cc | inr q ↦ cc ]))
+behind_row mode Try = (
+  λ e. absurd (elim e [ inl q ↦ cc | inr q ↦ cc ]),
+  λ e. absurd (elim e [ inl q ↦ cc | inr q ↦ cc ]),
+)
 behind_row Pv Unlock = (
   λ e. absurd (elim e [ inl q ↦ cc | inr z ↦ elim z [ inl q ↦ cc | inr q ↦ cc ] ]),
   λ e. absurd (elim e [ inl q ↦ cc | inr z ↦ elim z [ inl q ↦ cc | inr q ↦ cc ] ]),
@@ -80,28 +84,30 @@ behind_row mode Unlock = (λ e. absurd (grind (arith, e)), λ e. absurd (grind (
 behind_row mode _ = (λ e. absurd e, λ e. absurd e)
 
 -- where a halt has ended, the frame goes on in its operation, and holds what it held
-record Behind (mode : Mode) (v : Verb) (f : Frame) : Type 0 where
+record GoneOn (mode : Mode) (v : Verb) (f : Frame) : Type 0 where
   pub place : Pc
   pub goes : after_halt f.place ≡ Some place
-  pub stage : Stage mode v (record f { place = after_halt f.place }) place
+  pub stage : Footing mode v (record f { place = after_halt f.place }) place
   pub hold : SameHold f (record f { place = after_halt f.place })
 
 behind_of : (mode : Mode) (v : Verb) (f : Frame) (c d : Pc) → f.place ≡ Some c
     → after_halt (Some c) ≡ Some d → is_rw_row c ≡ false → owes_kick (Some c) ≡ false
-    → ((V : Verb) → BelongsTo mode V c → BelongsTo mode V d) → Stage mode v f c → Behind mode v f
+    → ((V : Verb) → BelongsTo mode V c → BelongsTo mode V d) → Footing mode v f c → GoneOn mode v f
 behind_of mode v f c d at after spin calm rows stage = by (stands mode v f c at stage)
   where
     goes : after_halt f.place ≡ Some d
     goes = ap after_halt at ∙ after
 
-    by : Stands mode v f c → Behind mode v f
+    by : Stance mode v f c → GoneOn mode v f
     by (Acts V t row) = let s =
         t.stages (record f { place = after_halt f.place }) d refl goes (rows V row) in
         record { place = d; goes = goes; stage = s.0; hold = s.1 }
-    by (Owes is inner over plain) = absurd (let z = ap (λ (x : Pc). owes_kick (Some x)) is in grind (arith, z, calm))
+    by (Owes is inner over plain) =
+        absurd (let z = ap (λ (x : Pc). owes_kick (Some x)) is in grind (arith, z, calm))
     by (Shares rw row) = absurd (grind (arith, rw, spin))
 
-module _ (m : Machine) (p : ℕ) (hs : LockName → LockHistory) (shows : ShowsAll m hs) (range : p < length m.cpus) where
+module _ (m : Machine) (p : ℕ) (hs : LockName → LockHistory) (shows : ShowsAll m hs)
+    (range : p < length m.cpus) where
   abbrev v : Waiter
   v = top_of m p
 
@@ -122,7 +128,8 @@ module _ (m : Machine) (p : ℕ) (hs : LockName → LockHistory) (shows : ShowsA
 
   -- the processor halts only with its top frame at such a row
   pub at_halt : halted_at m p ≡ true → stands_halting d.place ≡ true
-  at_halt halted = (nudge_keeps (world m) hs (rules_of m.setup) v d shows.world newest on_top halted).0
+  at_halt halted =
+      (nudge_keeps (world m) hs (rules_of m.setup) v d shows.world newest on_top halted).0
 
   module _ (halted : halted_at m p ≡ true) where
     abbrev g : Frame
@@ -131,7 +138,7 @@ module _ (m : Machine) (p : ℕ) (hs : LockName → LockHistory) (shows : ShowsA
     abbrev x : World
     x = roused (world m) v d
 
-    found : (c : Pc) × (at : d.place ≡ Some c) × Behind m.setup.mode (here.working c at).op.verb d
+    found : (c : Pc) × (at : d.place ≡ Some c) × GoneOn m.setup.mode (here.working c at).op.verb d
     found = elim (halting_place d.place (at_halt halted)) [
       | inl e ↦ (
         W6,
@@ -182,17 +189,21 @@ module _ (m : Machine) (p : ℕ) (hs : LockName → LockHistory) (shows : ShowsA
         (world-set_top m p g (shows.whole.tops p range)
         ∙ holding_same (world m) v (Some g) (λ l. held_at m v l (Some g)) held_same)
 
-    woken_same : Same m (woken m p)
-    woken_same = same_then m (set_top m p g) (woken m p) (same_set_top m p g) (same_set_halted (set_top m p g) p false)
+    woken_same : KeepsFrames m (woken m p)
+    woken_same =
+        same_then m (set_top m p g) (woken m p) (same_set_top m p g)
+        (same_set_halted (set_top m p g) p false)
 
     -- a machine whose world is as it is after the halt
-    shows_awake : (k : Machine) (y : World) (ks : LockName → LockHistory) → Same m k → world k ≡ y
+    shows_awake : (k : Machine) (y : World) (ks : LockName → LockHistory) → KeepsFrames m k
+        → world k ≡ y
         → ((u : Waiter) → y.frame u ≡ x.frame u) → IsSoundWorld y ks → ShowsAll k ks
     shows_awake k y ks same is frames sound =
         record {
           whole = whole_same m k shows.whole same;
           world = subst (λ (z : World). IsSoundWorld z ks) (sym is) sound;
-          fits = fits_all m k v (Some g) same.keeps (λ u. ap (λ (z : World). z.frame u) is ∙ frames u)
+          fits =
+              fits_all m k v (Some g) same.keeps (λ u. ap (λ (z : World). z.frame u) is ∙ frames u)
               (λ z q. subst (λ (h : Frame). Fits k v h) (same_Some g z q)
               (fits_kept m k v g same.keeps fit)) (λ u z ne q. shows.fits u z q);
         }
@@ -203,17 +214,19 @@ module _ (m : Machine) (p : ℕ) (hs : LockName → LockHistory) (shows : ShowsA
     told_by what = ap (λ (i : ℕ). record { by = record { cpu = p; ctx = i }; what = what }) here.ctx
 
     -- what the end of a halt gives, as the machine tells it
-    halt_kept : (k : Machine) (y : World) (what : What) → Same m k → world k ≡ y
+    halt_kept : (k : Machine) (y : World) (what : What) → KeepsFrames m k → world k ≡ y
         → ((u : Waiter) → y.frame u ≡ x.frame u)
         → IsSoundWorld y (told_on hs (Some (record { by = v; what = what })))
-        → IsAllowed (rules_of m.setup) hs (record { by = v; what = what })
+        → MayFollow (rules_of m.setup) hs (record { by = v; what = what })
         → ((es : List Event) → ShowsKicks (world m) es
         → ShowsKicks y (es ++ record { by = v; what = what } ∷ []))
-        → Kept m hs (k, Some (record { by = record { cpu = p; ctx = d.ctx }; what = what }))
+        → StillShows m hs (k, Some (record { by = record { cpu = p; ctx = d.ctx }; what = what }))
     halt_kept k y what same is frames sound allowed kicks =
-        let P : Event → Type 0 = λ e. Kept m hs (k, Some e) in
+        let P : Event → Type 0 = λ e. StillShows m hs (k, Some e) in
         subst P (sym (told_by what)) (record {
-          shows = shows_awake k y (told_on hs (Some (record { by = v; what = what }))) same is frames sound;
+          shows =
+              shows_awake k y (told_on hs (Some (record { by = v; what = what }))) same is frames
+              sound;
           allowed = allowed;
           kicks = λ es shown.
               subst (λ (z : World). ShowsKicks z (es ++ record { by = v; what = what } ∷ []))
@@ -221,20 +234,23 @@ module _ (m : Machine) (p : ℕ) (hs : LockName → LockHistory) (shows : ShowsA
         })
 
     -- by a kick
-    wake_kept : Kept m hs (kicked_awake m p)
+    wake_kept : StillShows m hs (kicked_awake m p)
     wake_kept =
         let law = wake_keeps (world m) hs (rules_of m.setup) v d shows.world newest on_top halted in
         let in_woken : p < length (woken m p).cpus = rw woken_same.keeps.cpus range in
         halt_kept (set_kicked (woken m p) p false) (put_kicked x p false) (Wake d.lock)
         (same_then m (woken m p) (set_kicked (woken m p) p false) woken_same
         (same_set_kicked (woken m p) p false))
-        (world-set_kicked (woken m p) p false in_woken ∙ ap (λ (y : World). put_kicked y p false) woken_world) (λ u. refl) law.1 law.2
-        (λ es shown. wake_shows (world m) spin_hs v d es shows.world.spins newest on_top halted shown)
+        (world-set_kicked (woken m p) p false in_woken
+        ∙ ap (λ (y : World). put_kicked y p false) woken_world) (λ u. refl) law.1 law.2
+        (λ es shown.
+        wake_shows (world m) spin_hs v d es shows.world.spins newest on_top halted shown)
 
     -- by a nudge
-    nudged_kept : Kept m hs (nudged m p)
+    nudged_kept : StillShows m hs (nudged m p)
     nudged_kept =
-        let law = nudge_keeps (world m) hs (rules_of m.setup) v d shows.world newest on_top halted in
+        let law =
+        nudge_keeps (world m) hs (rules_of m.setup) v d shows.world newest on_top halted in
         halt_kept (woken m p) x Nudge woken_same woken_world (λ u. refl) law.1 law.2
         (λ es shown.
         nudge_shows (world m) spin_hs v d es shows.world.spins newest on_top halted shown)
@@ -255,7 +271,9 @@ module _ (m : Machine) (p : ℕ) (hs : LockName → LockHistory) (shows : ShowsA
     int_kicks es shown =
         let top = shows.whole.tops p range in
         let up : (top_of m p).ctx + 1 ≡ depth_at m p = omega (arith, top.some) in
-        subst (λ (i : ℕ). ShowsKicks (world (woken m p)) (es ++ record { by = record { cpu = p; ctx = i }; what = Int } ∷ [])) up
+        subst (λ (i : ℕ).
+        ShowsKicks (world (woken m p))
+        (es ++ record { by = record { cpu = p; ctx = i }; what = Int } ∷ [])) up
         (subst (λ (y : World).
         ShowsKicks y
         (es ++ record { by = record { cpu = p; ctx = (top_of m p).ctx + 1 }; what = Int } ∷ []))
@@ -264,7 +282,7 @@ module _ (m : Machine) (p : ℕ) (hs : LockName → LockHistory) (shows : ShowsA
 
   -- an interrupt finds its entry
   pub interrupted_kept : depth_at m p < 6 → handlers_at m p < handlers_of m.setup p
-      → (halted_at m p ≡ false → stands_halting d.place ≡ false) → Kept m hs (interrupted m p)
+      → (halted_at m p ≡ false → stands_halting d.place ≡ false) → StillShows m hs (interrupted m p)
   interrupted_kept room left open_entry = elim (cases_Bool (halted_at m p)) [
     | inl e ↦
         let k : Machine = woken m p in
@@ -272,8 +290,10 @@ module _ (m : Machine) (p : ℕ) (hs : LockName → LockHistory) (shows : ShowsA
         let in_k : p < length k.cpus = rw same.keeps.cpus range in
         let deep : depth_at k p ≡ depth_at m p = same.depth p in
         let used : handlers_at k p ≡ handlers_at m p = same.handlers p in
-        let name : handler_frame k p ≡ handler_frame m p = (λ i. record rest_frame { ctx = deep i; program = used i + 1 }) in
-        let setup : handlers_of k.setup p ≡ handlers_of m.setup p = ap (λ (s : Setup). handlers_of s p) same.keeps.setup in
+        let name : handler_frame k p ≡ handler_frame m p =
+        (λ i. record rest_frame { ctx = deep i; program = used i + 1 }) in
+        let setup : handlers_of k.setup p ≡ handlers_of m.setup p =
+        ap (λ (s : Setup). handlers_of s p) same.keeps.setup in
         let low : depth_at k p < 6 = omega arith in
         let some : handlers_at k p < handlers_of k.setup p = omega arith in
         let shown = pushed_shows k p hs (int_shows_all e) in_k low some (int_calm e) in
@@ -284,7 +304,8 @@ module _ (m : Machine) (p : ℕ) (hs : LockName → LockHistory) (shows : ShowsA
         kicked (es ++ record { by = record { cpu = p; ctx = depth_at m p }; what = Int } ∷ [])
         (int_kicks e es given))
     | inr e ↦
-        let calm = (top_is_awake (world m) spin_hs v d shows.world.spins newest on_top (open_entry e)).0 in
+        let calm =
+        (top_is_awake (world m) spin_hs v d shows.world.spins newest on_top (open_entry e)).0 in
         let shown = pushed_shows m p hs shows range room left calm in
         let kicked = pushed_kicks m p hs shows range room left calm in
         let is : awake m p ≡ m = ap (λ (b : Bool). if b then woken m p else m) e in
@@ -305,15 +326,17 @@ module _ (m : Machine) (p : ℕ) (hs : LockName → LockHistory) (shows : ShowsA
           → ((es : List Event) → ShowsKicks (world m) es
           → ShowsKicks (world (settled (push k p (handler_frame k p)) p (handler_frame k p)))
           (es ++ record { by = record { cpu = p; ctx = depth_at m p }; what = Int } ∷ []))
-          → Kept m hs (interrupted m p)
+          → StillShows m hs (interrupted m p)
       answer k is name shown kicked =
           let Q : Machine → Frame → Type 0 =
-          λ y h. Kept m hs (
+          λ y h. StillShows m hs (
             settled (push y p h) p h,
             Some (record { by = record { cpu = p; ctx = depth_at m p }; what = Int }),
           ) in
-          let base : Q k (handler_frame k p) = record { shows = shown; allowed = λ l e. absurd (none-some l e); kicks = kicked } in
-          subst (λ (y : Machine). Q y (handler_frame m p)) (sym is) (subst (λ (h : Frame). Q k h) name base)
+          let base : Q k (handler_frame k p) =
+          record { shows = shown; allowed = λ l e. absurd (none-some l e); kicks = kicked } in
+          subst (λ (y : Machine). Q y (handler_frame m p)) (sym is)
+          (subst (λ (h : Frame). Q k h) name base)
 
 module _ (m : Machine) (p : ℕ) (hs : LockName → LockHistory) (shows : ShowsAll m hs) where
   preempted_shows : (b : Bool) → ShowsAll (set_preempted m p b) hs
@@ -324,10 +347,12 @@ module _ (m : Machine) (p : ℕ) (hs : LockName → LockHistory) (shows : ShowsA
       record {
         whole = whole_same m n shows.whole same;
         world = subst (λ (x : World). IsSoundWorld x hs) (sym is) shows.world;
-        fits = λ u g e. fits_kept m n u g same.keeps (shows.fits u g (sym (ap (λ (x : World). x.frame u) is) ∙ e));
+        fits = λ u g e.
+            fits_kept m n u g same.keeps (shows.fits u g
+            (sym (ap (λ (x : World). x.frame u) is) ∙ e));
       }
 
-  preempted_kept : (b : Bool) → Kept m hs (set_preempted m p b, None)
+  preempted_kept : (b : Bool) → StillShows m hs (set_preempted m p b, None)
   preempted_kept b =
       record {
         shows = preempted_shows b;
@@ -337,19 +362,20 @@ module _ (m : Machine) (p : ℕ) (hs : LockName → LockHistory) (shows : ShowsA
       }
 
 module _ (m : Machine) (hs : LockName → LockHistory) (shows : ShowsAll m hs) where
-  still : Kept m hs (idle m)
+  still : StillShows m hs (idle m)
   still = idle_kept m hs shows
 
-  step_kept : (p : ℕ) → p < length m.cpus → Kept m hs (step m p)
+  step_kept : (p : ℕ) → p < length m.cpus → StillShows m hs (step m p)
   step_kept p range = by (preempted_at m p)
     where
       halted_kept : halted_at m p ≡ true → (b : Bool)
-          → Kept m hs (if b then kicked_awake m p else idle m)
+          → StillShows m hs (if b then kicked_awake m p else idle m)
       halted_kept e true = wake_kept m p hs shows range e
       halted_kept e false = still
 
       by : (b : Bool)
-          → Kept m hs (if b then idle m else (if halted_at m p then step_halted m p else row m p))
+          → StillShows m hs (if b then idle m
+          else (if halted_at m p then step_halted m p else row m p))
       by true = still
       by false = elim
           (cases_Bool (halted_at m p)) [
@@ -357,7 +383,7 @@ module _ (m : Machine) (hs : LockName → LockHistory) (shows : ShowsAll m hs) w
             | inr e ↦ rw e (row_kept m p hs shows range)
           ]
 
-  interrupt_kept : (p : ℕ) → p < length m.cpus → Kept m hs (next m (act.Interrupt p))
+  interrupt_kept : (p : ℕ) → p < length m.cpus → StillShows m hs (next m (act.Interrupt p))
   interrupt_kept p range =
       elim (cases_Bool (is_shut m p)) [
         | inl e ↦ rw e still
@@ -366,36 +392,41 @@ module _ (m : Machine) (hs : LockName → LockHistory) (shows : ShowsAll m hs) w
             (preempted_at m p || nat_le 6 (depth_at m p)
             || nat_le (handlers_of m.setup p) (handlers_at m p))
             (stands_halting (top_frame m p).place && not (halted_at m p)) e in
-            let b = or_parts (preempted_at m p || nat_le 6 (depth_at m p)) (nat_le (handlers_of m.setup p) (handlers_at m p)) a.0 in
+            let b =
+            or_parts (preempted_at m p || nat_le 6 (depth_at m p))
+            (nat_le (handlers_of m.setup p) (handlers_at m p)) a.0 in
             let c = or_parts (preempted_at m p) (nat_le 6 (depth_at m p)) b.0 in
             rw e (interrupted_kept m p hs shows range (leb-false 6 (depth_at m p) c.1)
             (leb-false (handlers_of m.setup p) (handlers_at m p) b.1)
             (λ q. let z = a.1 in grind (arith, q, z)))
       ]
 
-  preempt_kept : (p : ℕ) → Kept m hs (next m (act.Preempt p))
+  preempt_kept : (p : ℕ) → StillShows m hs (next m (act.Preempt p))
   preempt_kept p = by (preempted_at m p)
     where
-      by : (b : Bool) → Kept m hs (if b then idle m else (set_preempted m p true, None))
+      by : (b : Bool) → StillShows m hs (if b then idle m else (set_preempted m p true, None))
       by true = still
       by false = preempted_kept m p hs shows true
 
-  resume_kept : (p : ℕ) → Kept m hs (next m (act.Resume p))
+  resume_kept : (p : ℕ) → StillShows m hs (next m (act.Resume p))
   resume_kept p = by (preempted_at m p)
     where
-      by : (b : Bool) → Kept m hs (if b then (set_preempted m p false, None) else idle m)
+      by : (b : Bool) → StillShows m hs (if b then (set_preempted m p false, None) else idle m)
       by true = preempted_kept m p hs shows false
       by false = still
 
-  nudge_kept : (p : ℕ) → p < length m.cpus → Kept m hs (next m (act.Nudge p))
+  nudge_kept : (p : ℕ) → p < length m.cpus → StillShows m hs (next m (act.Nudge p))
   nudge_kept p range = by (preempted_at m p)
     where
-      by : (b : Bool) → Kept m hs (if b || not (halted_at m p) then idle m else nudged m p)
+      by : (b : Bool) → StillShows m hs (if b || not (halted_at m p) then idle m else nudged m p)
       by true = still
-      by false = elim (cases_Bool (halted_at m p)) [ inl e ↦ rw e (nudged_kept m p hs shows range e) | inr e ↦ rw e still ]
+      by false = elim (cases_Bool (halted_at m p)) [
+        | inl e ↦ rw e (nudged_kept m p hs shows range e)
+        | inr e ↦ rw e still
+      ]
 
   -- whatever the act, it keeps what the machine shows
-  pub act_kept : (a : Act) → processor_of a < length m.cpus → Kept m hs (next m a)
+  pub act_kept : (a : Act) → processor_of a < length m.cpus → StillShows m hs (next m a)
   act_kept (act.Step p) range = step_kept p range
   act_kept (act.Interrupt p) range = interrupt_kept p range
   act_kept (act.Preempt p) range = preempt_kept p

@@ -22,7 +22,6 @@ use Rattle.lk_law.specs.Sound.{BelongsTo, is_virt_row, is_choosing_row}
 use Rattle.lk_law.specs.Families.{is_queued_row}
 use Rattle.lk_law.specs.Families.{is_halting_row}
 use Rattle.lk_core.proofs.Walks.{LeadFits}
-use Rattle.lk_machine.specs.declared.parts.Flag.TheVariants as flag
 use Rattle.lk_machine.specs.declared.parts.Why.TheVariants as why
 
 -- the rows of the choice are rows of `lock` in mode `cna`
@@ -66,7 +65,8 @@ module _ (R : NodeName → Type 0) where
   choice_fits mode v c lead at on off =
       elim (cases_Bool (chooses c)) [
         | inl e ↦ let is = of_choice mode v c at e in
-            subst (λ (x : Mode). LeadFits R x v lead) (sym is.0) (subst (λ (x : Verb). LeadFits R Cna x lead) (sym is.1) (on e))
+            subst (λ (x : Mode). LeadFits R x v lead) (sym is.0)
+            (subst (λ (x : Verb). LeadFits R Cna x lead) (sym is.1) (on e))
         | inr e ↦ subst (λ (l : Lead). LeadFits R mode v l) (sym (off e)) at
       ]
 
@@ -82,7 +82,8 @@ module _ (R : NodeName → Type 0) where
         lead_if Chooses (may_stay s)
         (if s.local n then learns_all C7 (K 0 ∷ Y (Some n) ∷ []) else learns_all C2
         (K 1 ∷ A (Some n) ∷ B (Some n) ∷ []))
-        (if is_some f.second then learns_all C3 (K 0 ∷ A (Some n) ∷ Reason why.Flush ∷ []) else learns_all C7 (K 0 ∷ Y (Some n) ∷ []))
+        (if is_some f.second then learns_all C3 (K 0 ∷ A (Some n) ∷ Reason why.Flush ∷ [])
+        else learns_all C7 (K 0 ∷ Y (Some n) ∷ []))
         (lead_if Chooses (s.local n) (learns_all C7 (K 0 ∷ Y (Some n) ∷ []))
         (learns_all C2 (K 1 ∷ A (Some n) ∷ B (Some n) ∷ [])) refl refl)
         (lead_if Chooses (is_some f.second)
@@ -108,7 +109,8 @@ module _ (R : NodeName → Type 0) where
 
     pub search_fits : (s : Sight) (x : Option NodeName) (mode : Mode) (v : Verb) (c : Pc)
         → BelongsTo mode v c → LeadFits R mode v (search_row s c f x).leads
-    search_fits s x mode v c at = choice_fits mode v c (search_row s c f x).leads at (search_leads s c x) (search_off s c x)
+    search_fits s x mode v c at =
+        choice_fits mode v c (search_row s c f x).leads at (search_leads s c x) (search_off s c x)
 
     tail_leads : (y : Why) → is_choosing_row (after_tail y) ≡ true
     tail_leads why.Append = refl
@@ -127,7 +129,8 @@ module _ (R : NodeName → Type 0) where
 
     pub second_fits : (x : Option NodeName) (mode : Mode) (v : Verb) (c : Pc) → BelongsTo mode v c
         → LeadFits R mode v (second_row c f x).leads
-    second_fits x mode v c at = choice_fits mode v c (second_row c f x).leads at (second_leads c x) (second_off c x)
+    second_fits x mode v c at =
+        choice_fits mode v c (second_row c f x).leads at (second_leads c x) (second_off c x)
 
     runs_leads : (s : Sight) (c : Pc) (x : ℕ) → chooses c ≡ true → Chooses (runs_row s c f x).leads
     runs_leads s C7 x h = refl
@@ -140,7 +143,8 @@ module _ (R : NodeName → Type 0) where
 
     pub runs_fits : (s : Sight) (x : ℕ) (mode : Mode) (v : Verb) (c : Pc) → BelongsTo mode v c
         → LeadFits R mode v (runs_row s c f x).leads
-    runs_fits s x mode v c at = choice_fits mode v c (runs_row s c f x).leads at (runs_leads s c x) (runs_off s c x)
+    runs_fits s x mode v c at =
+        choice_fits mode v c (runs_row s c f x).leads at (runs_leads s c x) (runs_off s c x)
 
     handover_leads : (c : Pc) (x : Flag) → chooses c ≡ true → Chooses (handover_row c f x).leads
     handover_leads C8 x h = refl
@@ -152,10 +156,12 @@ module _ (R : NodeName → Type 0) where
 
     pub handover_fits : (x : Flag) (mode : Mode) (v : Verb) (c : Pc) → BelongsTo mode v c
         → LeadFits R mode v (handover_row c f x).leads
-    handover_fits x mode v c at = choice_fits mode v c (handover_row c f x).leads at (handover_leads c x) (handover_off c x)
+    handover_fits x mode v c at =
+        choice_fits mode v c (handover_row c f x).leads at (handover_leads c x) (handover_off c x)
 
     promotion_leads : (c : Pc) (x : Fields) → chooses c ≡ true → Chooses (promotion_row c f x).leads
-    promotion_leads C10 x h = elim (cases_Bool (is_last f x)) [ inl e ↦ rw e refl | inr e ↦ rw e refl ]
+    promotion_leads C10 x h =
+        elim (cases_Bool (is_last f x)) [ inl e ↦ rw e refl | inr e ↦ rw e refl ]
     promotion_leads _ x h = cc
 
     promotion_off : (c : Pc) (x : Fields) → chooses c ≡ false
@@ -165,4 +171,6 @@ module _ (R : NodeName → Type 0) where
 
     pub promotion_fits : (x : Fields) (mode : Mode) (v : Verb) (c : Pc) → BelongsTo mode v c
         → LeadFits R mode v (promotion_row c f x).leads
-    promotion_fits x mode v c at = choice_fits mode v c (promotion_row c f x).leads at (promotion_leads c x) (promotion_off c x)
+    promotion_fits x mode v c at =
+        choice_fits mode v c (promotion_row c f x).leads at (promotion_leads c x)
+        (promotion_off c x)

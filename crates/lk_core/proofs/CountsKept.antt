@@ -118,20 +118,29 @@ rw_few : (mode : Mode) (c : Pc) (f : Frame) (x : RwFields) → AddsFew (rw_row m
 rw_few mode R1 f x = elim (cases_Bool (is_open x)) [ inl e ↦ rw e none_few | inr e ↦ rw e none_few ]
 rw_few mode R2 f x = elim (cases_Bool (x.writer)) [ inl e ↦ rw e none_few | inr e ↦ rw e none_few ]
 rw_few mode R5 f x = elim (cases_Bool (x.writer)) [ inl e ↦ rw e none_few | inr e ↦ rw e none_few ]
-rw_few mode Wr1 f x = elim (cases_Bool (is_empty x)) [ inl e ↦ rw e none_few | inr e ↦ rw e none_few ]
-rw_few mode Wr3 f x = elim (cases_Bool (is_empty x)) [ inl e ↦ rw e none_few | inr e ↦ rw e none_few ]
-rw_few mode Wr6 f x = elim (cases_Bool (is_cleared x)) [ inl e ↦ rw e none_few | inr e ↦ rw e none_few ]
+rw_few mode Wr1 f x =
+    elim (cases_Bool (is_empty x)) [ inl e ↦ rw e none_few | inr e ↦ rw e none_few ]
+rw_few mode Wr3 f x =
+    elim (cases_Bool (is_empty x)) [ inl e ↦ rw e none_few | inr e ↦ rw e none_few ]
+rw_few mode Wr6 f x =
+    elim (cases_Bool (is_cleared x)) [ inl e ↦ rw e none_few | inr e ↦ rw e none_few ]
 rw_few mode Y1 f x = elim (cases_Bool (is_open x)) [ inl e ↦ rw e none_few | inr e ↦ rw e none_few ]
 rw_few mode Y2 f x = elim (cases_Bool (is_open x)) [ inl e ↦ rw e none_few | inr e ↦ rw e none_few ]
-rw_few mode Y4 f x = elim (cases_Bool (is_empty x)) [ inl e ↦ rw e none_few | inr e ↦ rw e none_few ]
-rw_few mode Y5 f x = elim (cases_Bool (is_empty x)) [ inl e ↦ rw e none_few | inr e ↦ rw e none_few ]
+rw_few mode Y4 f x =
+    elim (cases_Bool (is_empty x)) [ inl e ↦ rw e none_few | inr e ↦ rw e none_few ]
+rw_few mode Y5 f x =
+    elim (cases_Bool (is_empty x)) [ inl e ↦ rw e none_few | inr e ↦ rw e none_few ]
 rw_few mode _ f x = none_few
 
 spin_few : (mode : Mode) (c : Pc) (f : Frame) (x : Fields) → AddsFew (spin_row mode c f x).counts
-spin_few mode F1 f x = elim (cases_Bool (is_free x)) [ inl e ↦ rw e none_few | inr e ↦ rw e none_few ]
-spin_few mode T1 f x = elim (cases_Bool (is_free x)) [ inl e ↦ rw e none_few | inr e ↦ rw e none_few ]
-spin_few mode T2 f x = elim (cases_Bool (is_free x)) [ inl e ↦ rw e none_few | inr e ↦ rw e none_few ]
-spin_few mode V2 f x = elim (cases_Bool (is_free x)) [ inl e ↦ rw e none_few | inr e ↦ rw e none_few ]
+spin_few mode F1 f x =
+    elim (cases_Bool (is_free x)) [ inl e ↦ rw e none_few | inr e ↦ rw e none_few ]
+spin_few mode T1 f x =
+    elim (cases_Bool (is_free x)) [ inl e ↦ rw e none_few | inr e ↦ rw e none_few ]
+spin_few mode T2 f x =
+    elim (cases_Bool (is_free x)) [ inl e ↦ rw e none_few | inr e ↦ rw e none_few ]
+spin_few mode V2 f x =
+    elim (cases_Bool (is_free x)) [ inl e ↦ rw e none_few | inr e ↦ rw e none_few ]
 spin_few mode P4 f x = pending_few
 spin_few mode _ f x = none_few
 
@@ -141,10 +150,13 @@ arrival_few _ None = none_few
 arrival_few mode (Some n) = none_few
 
 queue_few : (mode : Mode) (c : Pc) (f : Frame) (x : Fields) → AddsFew (queue_row mode c f x).counts
-queue_few mode G3 f x = elim (cases_Bool (is_free x)) [ inl e ↦ rw e none_few | inr e ↦ rw e none_few ]
+queue_few mode G3 f x =
+    elim (cases_Bool (is_free x)) [ inl e ↦ rw e none_few | inr e ↦ rw e none_few ]
 queue_few mode G4 f x = arrival_few mode x.tail
-queue_few mode G8 f x = elim (cases_Bool (is_sole f x)) [ inl e ↦ rw e none_few | inr e ↦ rw e none_few ]
-queue_few mode N2 f x = elim (cases_Bool (is_free x)) [ inl e ↦ rw e none_few | inr e ↦ rw e none_few ]
+queue_few mode G8 f x =
+    elim (cases_Bool (is_sole f x)) [ inl e ↦ rw e none_few | inr e ↦ rw e none_few ]
+queue_few mode N2 f x =
+    elim (cases_Bool (is_free x)) [ inl e ↦ rw e none_few | inr e ↦ rw e none_few ]
 queue_few mode _ f x = none_few
 
 flag_few : (c : Pc) (f : Frame) (x : Flag) → AddsFew (flag_row c f x).counts
@@ -176,7 +188,8 @@ search_few s C1 f (Some n) =
     few_if (may_stay s) _ _ (few_if (s.local n) _ _ none_few none_few)
     (few_if (is_some f.second) _ _ none_few none_few)
 search_few s C2 f None = few_if (is_some f.second) _ _ none_few none_few
-search_few s C2 f (Some n) = few_if (s.local n) _ _ (few_if (is_some f.second) _ _ none_few none_few) none_few
+search_few s C2 f (Some n) =
+    few_if (s.local n) _ _ (few_if (is_some f.second) _ _ none_few none_few) none_few
 search_few s _ f x = none_few
 
 second_few : (c : Pc) (f : Frame) (x : Option NodeName) → AddsFew (second_row c f x).counts
@@ -198,7 +211,9 @@ promotion_few _ f x = none_few
 
 pv_few : (spins : ℕ) (c : Pc) (f : Frame) (x : Fields) → AddsFew (pv_row spins c f x).counts
 pv_few spins H2 f x = few_if (is_unlocked x.locked) _ _ (λ c. search (arith, rules)) none_few
-pv_few spins E4 f x = few_if (is_unlocked x.locked && x.pending) _ _ none_few (few_if (f.left - 1 == 0) _ _ none_few none_few)
+pv_few spins E4 f x =
+    few_if (is_unlocked x.locked && x.pending) _ _ none_few
+    (few_if (f.left - 1 == 0) _ _ none_few none_few)
 pv_few spins E7 f x = few_if (is_unlocked x.locked) _ _ none_few none_few
 pv_few spins E13 f x = few_if (is_last f x) _ _ none_few none_few
 pv_few spins U2 f x = few_if (is_held x.locked) _ _ none_few none_few
@@ -214,7 +229,8 @@ pv_next_few E14 f (Some n) = none_few
 pv_next_few _ f x = none_few
 
 state_few : (spins : ℕ) (c : Pc) (f : Frame) (x : State) → AddsFew (state_row spins c f x).counts
-state_few spins W2 f x = few_if (is_running x) _ _ (few_if (f.left - 1 == 0) _ _ none_few none_few) none_few
+state_few spins W2 f x =
+    few_if (is_running x) _ _ (few_if (f.left - 1 == 0) _ _ none_few none_few) none_few
 state_few spins W7 f x = few_if (is_halted x) _ _ none_few none_few
 state_few spins E1 f x = λ c. search (arith, rules)
 state_few spins E10 f x = λ c. search (arith, rules)

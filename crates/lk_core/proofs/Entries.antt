@@ -17,7 +17,8 @@ Entry = LockName × NodeName
 
 -- and else they are two
 two_locks : (a b : LockName) → same_lock a b ≡ false → a ≢ b
-two_locks a b t e = let z = ap (λ (k : LockName). same_lock k b) e ∙ same_lock-self b in absurd (grind (arith, z, t))
+two_locks a b t e = let z = ap (λ (k : LockName). same_lock k b) e ∙ same_lock-self b in
+    absurd (grind (arith, z, t))
 
 -- a lock that was taken out is not entered
 pub taken_out : (l : LockName) (es : List Entry) → entry_in l (without_entry l es) ≡ None
@@ -51,7 +52,8 @@ entered_now k l n es =
       | inl e ↦
           if-true (same_lock l k) (Some n) (entry_in k (without_entry l es))
           (ap (λ (j : LockName). same_lock l j) e ∙ same_lock-self l)
-          ∙ sym (if-true (same_lock k l) (Some n) (entry_in k es) (ap (λ (j : LockName). same_lock j l) e ∙ same_lock-self l))
+          ∙ sym (if-true (same_lock k l) (Some n) (entry_in k es)
+          (ap (λ (j : LockName). same_lock j l) e ∙ same_lock-self l))
       | inr ne ↦
           if-false (same_lock l k) (Some n) (entry_in k (without_entry l es))
           (same_lock-else l k (λ q. ne (sym q))) ∙ others_stay k l es ne
@@ -66,7 +68,8 @@ removed_now k l es =
       | inl e ↦ ap (λ (j : LockName). entry_in j (without_entry l es)) e ∙ taken_out l es
           ∙ sym (if-true (same_lock k l) None (entry_in k es)
           (ap (λ (j : LockName). same_lock j l) e ∙ same_lock-self l))
-      | inr ne ↦ others_stay k l es ne ∙ sym (if-false (same_lock k l) None (entry_in k es) (same_lock-else k l ne))
+      | inr ne ↦ others_stay k l es ne
+          ∙ sym (if-false (same_lock k l) None (entry_in k es) (same_lock-else k l ne))
     ]
 
 -- each lock is entered once still

@@ -1,5 +1,5 @@
 -- A frame comes on top of a processor, and one without a place goes on or ends.
-use Rattle.std.proofs.Common.{Option, ◌≡◌, ◌≢◌, ℕ, Some, None, Bool, true, false, List, [], inl}
+use Rattle.std.proofs.Common.{Option, ◌≡◌, ◌≢◌, ℕ, Some, None, Bool, true, false, List, inl}
 use Rattle.std.proofs.Common.{inr, arith, ap, ◌<◌, ◌≤◌, ◌-◌, refl, sym, ◌∙◌, subst, length}
 use Rattle.std.specs.Prelude.{if◌then◌else◌, ◌||◌}
 use Rattle.std.proofs.lemmas.Bool.{cases_eq}
@@ -13,7 +13,7 @@ use Rattle.lk_machine.specs.declared.parts.Frame.{Frame}
 use Rattle.lk_machine.specs.Machine.{Machine, frame_at, depth_at, handlers_at, top_of, push, HasTop}
 use Rattle.lk_machine.specs.Programs.{handlers_of, way_at}
 use Rattle.lk_machine.specs.Moves.{program_of, settled}
-use Rattle.lk_machine.specs.Acts.{idle, handler_frame, next}
+use Rattle.lk_machine.specs.Acts.{idle, handler_frame}
 use Rattle.lk_machine.specs.declared.parts.Pc.{Pc}
 use Rattle.lk_law.specs.World.{World}
 use Rattle.lk_law.specs.Steps.{put_frame}
@@ -33,13 +33,13 @@ use Rattle.lk_core.proofs.Access.{above_top}
 use Rattle.lk_core.proofs.Seated.{alike, next_of, world-push}
 use Rattle.lk_core.proofs.Same.{Keeps, keeps_push, handlers_push, handlers_push_other, depth_push}
 use Rattle.lk_core.proofs.Same.{tops_push, whole_kept, fits_kept}
-use Rattle.lk_core.proofs.Settle.{Between, ended, settled_shows}
+use Rattle.lk_core.proofs.Settle.{Between, ended_at, settled_shows}
 use Rattle.lk_core.proofs.Moved.{holding_same}
 use Rattle.lk_core.proofs.Walks.{IsOuter, outer_held}
-use Rattle.lk_core.proofs.RowParts.{Kept}
-use Rattle.lk_abs.specs.declared.events.Act.TheVariants as act
+use Rattle.lk_core.proofs.RowParts.{StillShows}
 
-pub idle_kept : (m : Machine) (hs : LockName → LockHistory) → ShowsAll m hs → Kept m hs (idle m)
+pub idle_kept : (m : Machine) (hs : LockName → LockHistory) → ShowsAll m hs
+    → StillShows m hs (idle m)
 idle_kept m hs shows = record { shows = shows; allowed = tt; kicks = λ es shown. shown }
 
 placeless_outer : (f : Frame) → f.place ≡ None → IsOuter f
@@ -51,9 +51,9 @@ placeless_outer f place =
 
 -- a frame without a place that stands on top holds what it holds
 ended_is : (n : Machine) (w : Waiter) (f : Frame) → frame_at n w ≡ Some f → f.place ≡ None
-    → ended n w f f ≡ world n
+    → ended_at n w f f ≡ world n
 ended_is n w f live place =
-    alike (ended n w f f) (world n) (record {
+    alike (ended_at n w f f) (world n) (record {
       mode = refl;
       turns = refl;
       threshold = refl;
@@ -62,7 +62,8 @@ ended_is n w f live place =
       node = λ k. refl;
       frame = λ u. elim (waiter_cases u w) [
         | inl e ↦
-            let P : Waiter → Type 0 = λ v. (if same_waiter v w then Some f else frame_at n v) ≡ frame_at n v in
+            let P : Waiter → Type 0 =
+            λ v. (if same_waiter v w then Some f else frame_at n v) ≡ frame_at n v in
             subst P (sym e) (rw (same_waiter-self w) (sym live))
         | inr ne ↦ rw (same_waiter-else u w ne) refl
       ];
@@ -86,8 +87,10 @@ ended_is n w f live place =
     })
 
 -- A frame comes on top, where no frame of the processor sleeps.
-module _ (m : Machine) (p : ℕ) (hs : LockName → LockHistory) (shows : ShowsAll m hs) (range : p < length m.cpus)
-    (room : depth_at m p < 6) (left : handlers_at m p < handlers_of m.setup p) (calm : HasNoSleeper (world m) p) where
+module _ (m : Machine) (p : ℕ) (hs : LockName → LockHistory) (shows : ShowsAll m hs)
+    (range : p < length m.cpus)
+    (room : depth_at m p < 6) (left : handlers_at m p < handlers_of m.setup p)
+    (calm : HasNoSleeper (world m) p) where
   abbrev f : Frame
   f = handler_frame m p
 
@@ -125,9 +128,10 @@ module _ (m : Machine) (p : ℕ) (hs : LockName → LockHistory) (shows : ShowsA
       by false = refl
 
   pushed_world : world n ≡ put_frame (world m) w (Some f)
-  pushed_world = world-push m p f range ∙ holding_same (world m) w (Some f) (λ l. held_at m w l (Some f)) held_new
+  pushed_world = world-push m p f range
+      ∙ holding_same (world m) w (Some f) (λ l. held_at m w l (Some f)) held_new
 
-  pushed_sound : IsSoundWorld (ended n w f f) hs
+  pushed_sound : IsSoundWorld (ended_at n w f f) hs
   pushed_sound =
       subst (λ (x : World). IsSoundWorld x hs) (sym (ended_is n w f live refl ∙ pushed_world))
       (end_keeps (world m) hs w None (Some f) shows.world absent tt (refl, refl) (λ q. calm)
@@ -148,7 +152,8 @@ module _ (m : Machine) (p : ℕ) (hs : LockName → LockHistory) (shows : ShowsA
             (λ q. elim (cases_eq q p) [
               | inl e ↦ let h = handlers_push m p f range in
                   subst (λ (r : ℕ). handlers_at n r ≤ handlers_of m.setup r) (sym e) (omega arith)
-              | inr ne ↦ let h = handlers_push_other m p q f ne in let o = shows.whole.handlers q in omega arith
+              | inr ne ↦ let h = handlers_push_other m p q f ne in let o = shows.whole.handlers q in
+                  omega arith
             ]);
         range = rw keeps.cpus range;
         others = λ u g ne e.
@@ -157,7 +162,8 @@ module _ (m : Machine) (p : ℕ) (hs : LockName → LockHistory) (shows : ShowsA
             ∙ ap (λ (b : Bool). if b then Some f else frame_at m u)
             (same_waiter-else u w far) in
             fits_kept m n u g keeps (shows.fits u g (sym at ∙ e));
-        world = subst (λ (v : Waiter). IsSoundWorld (ended n v f f) hs) (sym top_is) pushed_sound;
+        world =
+            subst (λ (v : Waiter). IsSoundWorld (ended_at n v f f) hs) (sym top_is) pushed_sound;
         place = refl;
         me = refl;
         lock = refl;
@@ -169,14 +175,16 @@ module _ (m : Machine) (p : ℕ) (hs : LockName → LockHistory) (shows : ShowsA
             let s = top.some in
             (λ z. absurd (omega arith), λ z. (omega arith, omega arith));
         within = omega arith;
-        nodes = record { prev = λ x e. absurd (none-some x e); target = λ x e. absurd (none-some x e) };
+        nodes =
+            record { prev = λ x e. absurd (none-some x e); target = λ x e. absurd (none-some x e) };
       }
 
   pub pushed_shows : ShowsAll (settled n p f) hs
   pushed_shows = settled_shows n p f f hs between
 
   -- and it shows the halts and kicks that it showed
-  pub pushed_kicks : (es : List Event) → ShowsKicks (world m) es → ShowsKicks (world (settled n p f)) es
+  pub pushed_kicks : (es : List Event) → ShowsKicks (world m) es
+      → ShowsKicks (world (settled n p f)) es
   pushed_kicks es shown =
       let x : World = put_frame (world m) w (Some f) in
       let P : World → Waiter → Type 0 = λ y v. SameKicks x (put_frame y v (Some f)) in

@@ -60,7 +60,8 @@ nodes_few count ns low once =
     let small : All (λ n. n < 4 * count) (map number ns) =
     All-map (λ n. n < 4 * count) number ns
     (λ k d lt. let x = within k d lt in omega (arith, x.0, x.1)) in
-    let below : get_or (map number ns) found.0 found.1 < 4 * count = small found.0 found.1 found.2 in
+    let below : get_or (map number ns) found.0 found.1 < 4 * count =
+    small found.0 found.1 found.2 in
     omega (arith, found.3, eqb-true q found.1 found.4)) in
     omega (arith, length-map ns number, few)
   where
@@ -80,7 +81,8 @@ nodes_few count ns low once =
         rw (first, later) (ne_eqb _ _ (λ same.
         let a : slice_get ns i ≡ Some (get_or ns i o) = slice_get-get_or ns i o early in
         let b : slice_get ns j ≡ Some (get_or ns j o) = slice_get-get_or ns j o late in
-        let one = number_one (get_or ns i o) (get_or ns j o) (within i o early).1 (within j o late).1 same in
+        let one =
+        number_one (get_or ns i o) (get_or ns j o) (within i o early).1 (within j o late).1 same in
         let z : i ≡ j = once i j (get_or ns i o) a (b ∙ ap Some (sym one)) in
         absurd (omega (arith, near, z)))))
 
@@ -94,7 +96,8 @@ entered_at (x ∷ es) once zero e at =
     (if-true (same_lock x.0 x.0) (Some x.1) (entry_in x.0 es) (same_lock-self x.0))
 entered_at (x ∷ es) once (suc i) e at =
     let later : entry_in e.0 es ≡ Some e.1 = entered_at es once.1 i e at in
-    let other : x.0 ≢ e.0 = (λ q. none-some e.1 (sym once.0 ∙ ap (λ (l : LockName). entry_in l es) q ∙ later)) in
+    let other : x.0 ≢ e.0 =
+    (λ q. none-some e.1 (sym once.0 ∙ ap (λ (l : LockName). entry_in l es) q ∙ later)) in
     if-false (same_lock x.0 e.0) (Some x.1) (entry_in e.0 es) (same_lock-else x.0 e.0 other) ∙ later
 
 -- each lock at one place
@@ -104,10 +107,12 @@ once_at [] once i j d e at bt same = absurd (none-some d at)
 once_at (x ∷ es) once zero zero d e at bt same = refl
 once_at (x ∷ es) once zero (suc j) d e at bt same =
     let q = ap (λ (y : Entry). y.0) (same_Some x d at) ∙ same in
-    absurd (none-some e.1 (sym once.0 ∙ ap (λ (l : LockName). entry_in l es) q ∙ entered_at es once.1 j e bt))
+    absurd (none-some e.1 (sym once.0 ∙ ap (λ (l : LockName). entry_in l es) q
+    ∙ entered_at es once.1 j e bt))
 once_at (x ∷ es) once (suc i) zero d e at bt same =
     let q = ap (λ (y : Entry). y.0) (same_Some x e bt) ∙ sym same in
-    absurd (none-some d.1 (sym once.0 ∙ ap (λ (l : LockName). entry_in l es) q ∙ entered_at es once.1 i d at))
+    absurd (none-some d.1 (sym once.0 ∙ ap (λ (l : LockName). entry_in l es) q
+    ∙ entered_at es once.1 i d at))
 once_at (x ∷ es) once (suc i) (suc j) d e at bt same = ap suc (once_at es once.1 i j d e at bt same)
 
 abbrev nodes_of : List Entry → List NodeName
@@ -120,7 +125,8 @@ entry_of [] i n at = absurd (none-some n at)
 entry_of (x ∷ es) zero n at = (x, refl, same_Some x.1 n at)
 entry_of (x ∷ es) (suc i) n at = entry_of es i n at
 
-module _ (m : Machine) (hs : LockName → LockHistory) (shows : ShowsAll m hs) (on : halts m.setup.mode ≡ true) where
+module _ (m : Machine) (hs : LockName → LockHistory) (shows : ShowsAll m hs)
+    (on : halts m.setup.mode ≡ true) where
   abbrev spin_hs : LockName → LockHistory
   spin_hs = spin_part (world m).kind hs
 
@@ -149,8 +155,10 @@ module _ (m : Machine) (hs : LockName → LockHistory) (shows : ShowsAll m hs) (
   -- a node has one user, so two locks with one node are one
   users_meet : (k l : LockName) (n : NodeName) → User k n → User l n → k ≡ l
   users_meet k l n a b =
-      let same = (node_is_ones (world m) spin_hs a.waiter b.waiter n shows.world.spins a.uses b.uses).0 in
-      let frames : a.frame ≡ b.frame = same_Some a.frame b.frame (sym a.live ∙ ap (frame_at m) same ∙ b.live) in
+      let same =
+      (node_is_ones (world m) spin_hs a.waiter b.waiter n shows.world.spins a.uses b.uses).0 in
+      let frames : a.frame ≡ b.frame =
+      same_Some a.frame b.frame (sym a.live ∙ ap (frame_at m) same ∙ b.live) in
       sym a.acts ∙ ap (λ (f : Frame). f.lock) frames ∙ b.acts
 
   user_within : (l : LockName) (n : NodeName) → User l n → (n.cpu < length m.cpus) × (n.index < 4)
@@ -160,7 +168,14 @@ module _ (m : Machine) (hs : LockName → LockHistory) (shows : ShowsAll m hs) (
   entry_user : (l : LockName) (n : NodeName) → entry_at m l ≡ Some n → User l n
   entry_user l n e =
       let u = entry_is_used (world m) spin_hs l n shows.world.spins on e in
-      record { waiter = u.0; frame = u.1.0; live = u.1.1; uses = u.1; own = u.2; acts = front_acts l u.0 u.1.0 u.1.1 u.3 }
+      record {
+        waiter = u.0;
+        frame = u.1.0;
+        live = u.1.1;
+        uses = u.1;
+        own = u.2;
+        acts = front_acts l u.0 u.1.0 u.1.1 u.3;
+      }
 
   listed_user : (i : ℕ) (e : Entry) → slice_get m.hash i ≡ Some e → User e.0 e.1
   unfolding entry_at
@@ -175,7 +190,8 @@ module _ (m : Machine) (hs : LockName → LockHistory) (shows : ShowsAll m hs) (
       → Uses (world m) u n → IsOwnNode u n → f.lock ≡ l → entry_at m l ≡ None
       → length m.hash < 4 * length m.cpus
   hash_room l n u f live uses own acts absent =
-      let few : length (n ∷ nodes_of m.hash) ≤ 4 * length m.cpus = nodes_few (length m.cpus) (n ∷ nodes_of m.hash) low once in
+      let few : length (n ∷ nodes_of m.hash) ≤ 4 * length m.cpus =
+      nodes_few (length m.cpus) (n ∷ nodes_of m.hash) low once in
       omega (arith, few, length-map m.hash (λ (e : Entry). e.1))
     where
       new : User l n
@@ -183,17 +199,22 @@ module _ (m : Machine) (hs : LockName → LockHistory) (shows : ShowsAll m hs) (
 
       low : (i : ℕ) (k : NodeName) → slice_get (n ∷ nodes_of m.hash) i ≡ Some k
           → (k.cpu < length m.cpus) × (k.index < 4)
-      low zero k at = subst (λ (x : NodeName). (x.cpu < length m.cpus) × (x.index < 4)) (same_Some n k at) (user_within l n new)
+      low zero k at =
+          subst (λ (x : NodeName). (x.cpu < length m.cpus) × (x.index < 4)) (same_Some n k at)
+          (user_within l n new)
       low (suc i) k at =
           let e = entry_of m.hash i k at in
-          subst (λ (x : NodeName). (x.cpu < length m.cpus) × (x.index < 4)) e.2 (user_within e.0.0 e.0.1 (listed_user i e.0 e.1))
+          subst (λ (x : NodeName). (x.cpu < length m.cpus) × (x.index < 4)) e.2
+          (user_within e.0.0 e.0.1 (listed_user i e.0 e.1))
 
       -- the new node is in no entry
       apart : (i : ℕ) (k : NodeName) → n ≡ k → slice_get (nodes_of m.hash) i ≡ Some k → ⊥
       apart i k same at =
           let e = entry_of m.hash i k at in
-          let its : User e.0.0 n = subst (λ (x : NodeName). User e.0.0 x) (e.2 ∙ sym same) (listed_user i e.0 e.1) in
-          none-some e.0.1 (sym absent ∙ ap (entry_at m) (users_meet l e.0.0 n new its) ∙ listed_now i e.0 e.1)
+          let its : User e.0.0 n =
+          subst (λ (x : NodeName). User e.0.0 x) (e.2 ∙ sym same) (listed_user i e.0 e.1) in
+          none-some e.0.1 (sym absent ∙ ap (entry_at m) (users_meet l e.0.0 n new its)
+          ∙ listed_now i e.0 e.1)
 
       once : (i j : ℕ) (k : NodeName) → slice_get (n ∷ nodes_of m.hash) i ≡ Some k
           → slice_get (n ∷ nodes_of m.hash) j ≡ Some k → i ≡ j
@@ -203,5 +224,7 @@ module _ (m : Machine) (hs : LockName → LockHistory) (shows : ShowsAll m hs) (
       once (suc i) (suc j) k at bt =
           let d = entry_of m.hash i k at in
           let e = entry_of m.hash j k bt in
-          let its : User e.0.0 d.0.1 = subst (λ (x : NodeName). User e.0.0 x) (e.2 ∙ sym d.2) (listed_user j e.0 e.1) in
-          ap suc (once_at m.hash shows.whole.hash i j d.0 e.0 d.1 e.1 (users_meet d.0.0 e.0.0 d.0.1 (listed_user i d.0 d.1) its))
+          let its : User e.0.0 d.0.1 =
+          subst (λ (x : NodeName). User e.0.0 x) (e.2 ∙ sym d.2) (listed_user j e.0 e.1) in
+          ap suc (once_at m.hash shows.whole.hash i j d.0 e.0 d.1 e.1
+          (users_meet d.0.0 e.0.0 d.0.1 (listed_user i d.0 d.1) its))

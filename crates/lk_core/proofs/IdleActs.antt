@@ -24,7 +24,7 @@ use Rattle.lk_machine.specs.Acts.{step_halted, is_shut, handler_frame, awake, in
 use Rattle.lk_machine.specs.Acts.{processor_of, nudged}
 use Rattle.lk_law.specs.Sound.{ShowsAll}
 use Rattle.lk_core.proofs.Access.{cpu_same}
-use Rattle.lk_core.proofs.Same.{Same, same_then, same_self, same_set_top, same_set_halted}
+use Rattle.lk_core.proofs.Same.{KeepsFrames, same_then, same_self, same_set_top, same_set_halted}
 use Rattle.lk_core.proofs.Same.{handlers_pop, handlers_push}
 use Rattle.lk_core.proofs.ActKept.{at_halt}
 use Rattle.lk_core.specs.Idle.{IsIdle, Happens}
@@ -47,18 +47,20 @@ handlers_settled n p h q = handlers_settled_at n p h (slice_get (program_of n p 
 preempted_now : (m : Machine) (p : ℕ) (b : Bool) → p < length m.cpus
     → preempted_at (set_preempted m p b) p ≡ b
 unfolding preempted_at set_preempted
-preempted_now m p b range = ap (λ (c : CpuState). c.preempted) (cpu_same m p (record (cpu_at m p) { preempted = b }) range)
+preempted_now m p b range =
+    ap (λ (c : CpuState). c.preempted) (cpu_same m p (record (cpu_at m p) { preempted = b }) range)
 
 -- the end of a halt leaves how much of everything there is
-pub woken_same : (m : Machine) (p : ℕ) → Same m (woken m p)
+pub woken_same : (m : Machine) (p : ℕ) → KeepsFrames m (woken m p)
 woken_same m p =
     let g : Frame = record (top_frame m p) { place = after_halt (top_frame m p).place } in
-    same_then m (set_top m p g) (woken m p) (same_set_top m p g) (same_set_halted (set_top m p g) p false)
+    same_then m (set_top m p g) (woken m p) (same_set_top m p g)
+    (same_set_halted (set_top m p g) p false)
 
-pub awake_same : (m : Machine) (p : ℕ) → Same m (awake m p)
+pub awake_same : (m : Machine) (p : ℕ) → KeepsFrames m (awake m p)
 awake_same m p = by (halted_at m p)
   where
-    by : (b : Bool) → Same m (if b then woken m p else m)
+    by : (b : Bool) → KeepsFrames m (if b then woken m p else m)
     by true = woken_same m p
     by false = same_self m
 
@@ -93,7 +95,8 @@ module _ (m : Machine) (hs : LockName → LockHistory) (shows : ShowsAll m hs) w
     where
       by : (b : Bool) → (if b then idle m else stepped p (halted_at m p)) ≡ (m, None)
       by true = refl
-      by false = ap (stepped p) (finished_awake p range e) ∙ ap (λ (o : Option Pc). row_at m p (top_frame m p) o) e
+      by false = ap (stepped p) (finished_awake p range e)
+          ∙ ap (λ (o : Option Pc). row_at m p (top_frame m p) o) e
 
   -- the tests that shut an interrupt out
   abbrev no_room : ℕ → Bool
@@ -124,24 +127,30 @@ module _ (m : Machine) (hs : LockName → LockHistory) (shows : ShowsAll m hs) w
       (not_from_false (halted_at m p) e.1))
 
   shut_idle : (p : ℕ) → p < length m.cpus → is_shut m p ≡ true → IsIdle m (act.Interrupt p)
-  shut_idle p range e = elim (or_cases ((preempted_at m p || no_room p) || none_left p) (halting p) e) [
-    | inl a ↦ elim (or_cases (preempted_at m p || no_room p) (none_left p) a) [
-      | inl b ↦ elim (or_cases (preempted_at m p) (no_room p) b) [
-        | inl c ↦ inl c
-        | inr c ↦ let low = leb-true 6 (depth_at m p) c in let top = shows.whole.tops p range in inr (inl (omega (arith, top.few)))
+  shut_idle p range e =
+      elim (or_cases ((preempted_at m p || no_room p) || none_left p) (halting p) e) [
+        | inl a ↦ elim (or_cases (preempted_at m p || no_room p) (none_left p) a) [
+          | inl b ↦ elim (or_cases (preempted_at m p) (no_room p) b) [
+            | inl c ↦ inl c
+            | inr c ↦ let low = leb-true 6 (depth_at m p) c in let top = shows.whole.tops p range in
+                inr (inl (omega (arith, top.few)))
+          ]
+          | inr b ↦ let low = leb-true (handlers_of m.setup p) (handlers_at m p) b in
+              let few = shows.whole.handlers p in inr (inr (inl (omega arith)))
+        ]
+        | inr a ↦ let d =
+            and_parts (stands_halting (top_frame m p).place) (not (halted_at m p)) a in
+            inr (inr (inr (d.0, not-true (halted_at m p) d.1)))
       ]
-      | inr b ↦ let low = leb-true (handlers_of m.setup p) (handlers_at m p) b in
-          let few = shows.whole.handlers p in inr (inr (inl (omega arith)))
-    ]
-    | inr a ↦ let d = and_parts (stands_halting (top_frame m p).place) (not (halted_at m p)) a in
-        inr (inr (inr (d.0, not-true (halted_at m p) d.1)))
-  ]
 
   pub idle_act : (a : Act) → processor_of a < length m.cpus → IsIdle m a → next m a ≡ (m, None)
   idle_act (act.Step p) range e = step_idle p range e
-  idle_act (act.Interrupt p) range e = ap (λ (b : Bool). if b then idle m else interrupted m p) (shut p e)
-  idle_act (act.Preempt p) range e = ap (λ (b : Bool). if b then idle m else (set_preempted m p true, None)) e
-  idle_act (act.Resume p) range e = ap (λ (b : Bool). if b then (set_preempted m p false, None) else idle m) e
+  idle_act (act.Interrupt p) range e =
+      ap (λ (b : Bool). if b then idle m else interrupted m p) (shut p e)
+  idle_act (act.Preempt p) range e =
+      ap (λ (b : Bool). if b then idle m else (set_preempted m p true, None)) e
+  idle_act (act.Resume p) range e =
+      ap (λ (b : Bool). if b then (set_preempted m p false, None) else idle m) e
   idle_act (act.Nudge p) range (inl e) =
       ap (λ (b : Bool). if b then idle m else nudged m p)
       (or_left (preempted_at m p) (not (halted_at m p)) e)
@@ -155,8 +164,10 @@ module _ (m : Machine) (hs : LockName → LockHistory) (shows : ShowsAll m hs) w
       → Happens m (act.Step p) (next m (act.Step p)).0 (next m (act.Step p)).1
   busy_step p busy = elim (cases_Bool (halted_at m p)) [
     | inl h ↦
-        let kicked : kicked_at m p ≡ true = true_from_ne_false (kicked_at m p) (λ e. busy (inr (inl (h, e)))) in
-        let e : next m (act.Step p) ≡ kicked_awake m p = runs ∙ ap (stepped p) h ∙ halted_wakes p kicked in
+        let kicked : kicked_at m p ≡ true =
+        true_from_ne_false (kicked_at m p) (λ e. busy (inr (inl (h, e)))) in
+        let e : next m (act.Step p) ≡ kicked_awake m p =
+        runs ∙ ap (stepped p) h ∙ halted_wakes p kicked in
         inr (h, ap (λ (x : Answer). x.0) e, ap (λ (x : Answer). x.1) e)
     | inr h ↦
         let e : next m (act.Step p) ≡ row m p = runs ∙ ap (stepped p) h in
@@ -191,15 +202,20 @@ module _ (m : Machine) (hs : LockName → LockHistory) (shows : ShowsAll m hs) w
   busy_act (act.Preempt p) range busy =
       let e : next m (act.Preempt p) ≡ (set_preempted m p true, None) =
       ap (λ (b : Bool). if b then idle m else (set_preempted m p true, None))
-      (false_from_ne_true (preempted_at m p) busy) in
-      (ap (λ (x : Answer). x.1) e, ap (λ (x : Answer). preempted_at x.0 p) e ∙ preempted_now m p true range)
+      (false_from_ne_true (preempted_at m p) busy) in (
+        ap (λ (x : Answer). x.1) e,
+        ap (λ (x : Answer). preempted_at x.0 p) e ∙ preempted_now m p true range,
+      )
   busy_act (act.Resume p) range busy =
       let e : next m (act.Resume p) ≡ (set_preempted m p false, None) =
       ap (λ (b : Bool). if b then (set_preempted m p false, None) else idle m)
-      (true_from_ne_false (preempted_at m p) busy) in
-      (ap (λ (x : Answer). x.1) e, ap (λ (x : Answer). preempted_at x.0 p) e ∙ preempted_now m p false range)
+      (true_from_ne_false (preempted_at m p) busy) in (
+        ap (λ (x : Answer). x.1) e,
+        ap (λ (x : Answer). preempted_at x.0 p) e ∙ preempted_now m p false range,
+      )
   busy_act (act.Nudge p) range busy =
-      let calm : preempted_at m p ≡ false = false_from_ne_true (preempted_at m p) (λ e. busy (inl e)) in
+      let calm : preempted_at m p ≡ false =
+      false_from_ne_true (preempted_at m p) (λ e. busy (inl e)) in
       let halted : halted_at m p ≡ true = true_from_ne_false (halted_at m p) (λ e. busy (inr e)) in
       ap (λ (x : Answer). x.1)
       (ap (λ (b : Bool). if b || not (halted_at m p) then idle m else nudged m p) calm

@@ -25,7 +25,7 @@ use Rattle.lk_machine.specs.Moves.{node_of, first_place, started, settled, settl
 use Rattle.lk_machine.specs.Moves.{granted, waiting, skipped}
 use Rattle.lk_machine.specs.Row.{Lead, Goes, Enters, Granted, Freed, Missed, Done, TakesWait}
 use Rattle.lk_machine.specs.Row.{Leaves, Yields, gone, entered, moved}
-use Rattle.lk_law.specs.Pv.{sleeps}
+use Rattle.lk_law.specs.Pv.{at_halt}
 use Rattle.lk_law.specs.World.{World}
 use Rattle.lk_law.specs.Places.{post_of, post_if}
 use Rattle.lk_law.specs.Steps.{put_frame, put_held, put_queued, led, lead_on}
@@ -43,7 +43,7 @@ use Rattle.lk_core.proofs.Leads.{granted_led}
 -- the frame has halted its processor, or is about to
 abbrev pub asleep_in : Option Frame → Bool
 asleep_in None = false
-asleep_in (Some f) = sleeps (post_of f)
+asleep_in (Some f) = at_halt (post_of f)
 
 -- the processor to which a frame owes a kick
 abbrev pub owed_at : Option Pc → Frame → Option ℕ
@@ -71,7 +71,7 @@ kicks_then a b c s t =
     }
 
 sleeper_of : (o : Option Frame) → asleep_in o ≡ true
-    → (f : Frame) × (o ≡ Some f) × (sleeps (post_of f) ≡ true)
+    → (f : Frame) × (o ≡ Some f) × (at_halt (post_of f) ≡ true)
 sleeper_of None e = cc
 sleeper_of (Some f) e = (f, refl, e)
 
@@ -131,7 +131,8 @@ kicks_same a b es s shows =
 -- how a waiter holds a lock changes nothing of them
 pub kicks_put_held : (a : World) (w : Waiter) (l : LockName) (way : Option Manner)
     → SameKicks (put_held a w l way) a
-kicks_put_held a w l way = record { halted = λ p. refl; kicked = λ p. refl; asleep = λ u. refl; owed = λ u. refl }
+kicks_put_held a w l way =
+    record { halted = λ p. refl; kicked = λ p. refl; asleep = λ u. refl; owed = λ u. refl }
 
 -- nor does one frame in the place of another that neither sleeps nor owes a kick as little as it
 pub kicks_seated : (n : Machine) (w : Waiter) (g : Frame) (o : Option Frame)
@@ -152,11 +153,12 @@ kicks_seated n w g o asleep owed =
 
 -- a frame without a place neither sleeps nor owes a kick
 calm_place : (g : Frame) → g.place ≡ None → (asleep_in (Some g) ≡ false) × (owed_in (Some g) ≡ None)
-calm_place g at = (ap (λ (c : Option Pc). sleeps (post_if c g)) at, ap (λ (c : Option Pc). owed_at c g) at)
+calm_place g at =
+    (ap (λ (c : Option Pc). at_halt (post_if c g)) at, ap (λ (c : Option Pc). owed_at c g) at)
 
 -- nor does one that begins an operation
 calm_first : (mode : Mode) (v : Verb) (g : Frame)
-    → (sleeps (post_if (Some (first_place mode v)) g) ≡ false)
+    → (at_halt (post_if (Some (first_place mode v)) g) ≡ false)
     × (owed_at (Some (first_place mode v)) g ≡ None)
 calm_first Virt Unlock g = (refl, refl)
 calm_first Native Unlock g = (refl, refl)
@@ -206,7 +208,8 @@ module _ (n : Machine) (p : ℕ) (top : HasTop n p) where
             (subst (λ (x : World). SameKicks (put_frame (world n) w (Some g)) x)
             (sym (world-pop n p top)) (to None (refl, refl)))
       ]
-      by (Some o) = set (started n.setup.mode h o) (calm_first n.setup.mode o.verb (started n.setup.mode h o))
+      by (Some o) =
+          set (started n.setup.mode h o) (calm_first n.setup.mode o.verb (started n.setup.mode h o))
 
 -- the lock is granted
 kicks_granted : (n : Machine) (p : ℕ) (f : Frame) (c : Pc) → Ready n p f c
@@ -239,8 +242,10 @@ kicks_moved n p f c r (Enters (Some a) d) =
     let same = same_set_node n a rest_node in
     let top = r.whole.tops p r.range in
     let after = kicks_top k p (has_top_same n k p same top) g in
-    let P : Waiter → Type 0 = λ u. SameKicks (put_frame (world k) u (Some g)) (world (set_top k p g)) in
-    kicks_then (put_frame (world n) (top_of n p) (Some g)) (put_frame (world k) (top_of n p) (Some g)) (world (set_top k p g))
+    let P : Waiter → Type 0 =
+    λ u. SameKicks (put_frame (world k) u (Some g)) (world (set_top k p g)) in
+    kicks_then (put_frame (world n) (top_of n p) (Some g))
+    (put_frame (world k) (top_of n p) (Some g)) (world (set_top k p g))
     (record {
       halted = λ q. halted-set_node n a rest_node q;
       kicked = λ q. kicked-set_node n a rest_node q;
@@ -263,7 +268,8 @@ kicks_moved n p f c r Missed =
     subst (λ (x : Machine).
     SameKicks (put_frame (world n) (top_of n p) (Some (led f Missed))) (world x))
     (sym (missed_is n p f r.live))
-    (kicks_settled n p (r.whole.tops p r.range) (led f Missed) (record f { «at» = f.«at» + skipped n p f }) refl)
+    (kicks_settled n p (r.whole.tops p r.range) (led f Missed)
+    (record f { «at» = f.«at» + skipped n p f }) refl)
 kicks_moved n p f c r Done =
     subst (λ (x : Machine).
     SameKicks (put_frame (world n) (top_of n p) (Some (led f Done))) (world x))
@@ -277,13 +283,17 @@ kicks_moved n p f c r Leaves =
     let d : Frame = led f Leaves in
     let same = left_same n p f c r in
     let after = kicks_granted k p e c (left_ready n p f c r) in
-    let P : Waiter → Type 0 = λ u. SameKicks (put_frame (world k) u (Some d)) (world (granted k p)) in
+    let P : Waiter → Type 0 =
+    λ u. SameKicks (put_frame (world k) u (Some d)) (world (granted k p)) in
     let again : put_frame (world k) (top_of n p) (Some d)
     ≡ put_frame (put_queued (world n) p (queued_at n p - 1)) (top_of n p) (Some d) =
     ap (λ (x : World). put_frame x (top_of n p) (Some d)) (left_world n p f c r)
     ∙ rewritten (world n) (top_of n p) (Some e) (Some d) p (queued_at n p - 1) in
-    subst (λ (x : Machine). SameKicks (put_frame (world n) (top_of n p) (Some d)) (world (granted x p))) (sym (leave_is n p f c r))
-    (kicks_then (put_frame (world n) (top_of n p) (Some d)) (put_frame (world k) (top_of n p) (Some d)) (world (granted k p))
+    subst (λ (x : Machine).
+    SameKicks (put_frame (world n) (top_of n p) (Some d)) (world (granted x p)))
+    (sym (leave_is n p f c r))
+    (kicks_then (put_frame (world n) (top_of n p) (Some d))
+    (put_frame (world k) (top_of n p) (Some d)) (world (granted k p))
     (subst (λ (x : World). SameKicks (put_frame (world n) (top_of n p) (Some d)) x) (sym again)
     (record { halted = λ q. refl; kicked = λ q. refl; asleep = λ u. refl; owed = λ u. refl }))
     (subst P (top_same n k p same) after))
@@ -292,8 +302,13 @@ kicks_moved n p f c r (Yields d cs) = kicks_top n p (r.whole.tops p r.range) (go
 -- what a lead changes besides the frame and the hold changes nothing of halts and kicks
 pub kicks_led : (m : World) (w : Waiter) (f : Frame) (lead : Lead)
     → SameKicks (lead_on m w f lead) (put_frame m w (Some (led f lead)))
-kicks_led m w f (Goes c cs) = record { halted = λ q. refl; kicked = λ q. refl; asleep = λ u. refl; owed = λ u. refl }
-kicks_led m w f (Enters None c) = record { halted = λ q. refl; kicked = λ q. refl; asleep = λ u. refl; owed = λ u. refl }
-kicks_led m w f (Enters (Some a) c) = record { halted = λ q. refl; kicked = λ q. refl; asleep = λ u. refl; owed = λ u. refl }
-kicks_led m w f Leaves = record { halted = λ q. refl; kicked = λ q. refl; asleep = λ u. refl; owed = λ u. refl }
-kicks_led m w f _ = record { halted = λ q. refl; kicked = λ q. refl; asleep = λ u. refl; owed = λ u. refl }
+kicks_led m w f (Goes c cs) =
+    record { halted = λ q. refl; kicked = λ q. refl; asleep = λ u. refl; owed = λ u. refl }
+kicks_led m w f (Enters None c) =
+    record { halted = λ q. refl; kicked = λ q. refl; asleep = λ u. refl; owed = λ u. refl }
+kicks_led m w f (Enters (Some a) c) =
+    record { halted = λ q. refl; kicked = λ q. refl; asleep = λ u. refl; owed = λ u. refl }
+kicks_led m w f Leaves =
+    record { halted = λ q. refl; kicked = λ q. refl; asleep = λ u. refl; owed = λ u. refl }
+kicks_led m w f _ =
+    record { halted = λ q. refl; kicked = λ q. refl; asleep = λ u. refl; owed = λ u. refl }

@@ -10,19 +10,19 @@ use Rattle.lk_abs.specs.declared.names.Mode.TheVariants.{Pv}
 use Rattle.lk_abs.specs.declared.names.LockName.{LockName}
 use Rattle.lk_abs.specs.declared.events.Event.{Event}
 use Rattle.lk_abs.proofs.OneMore.{lawful-push, told_here}
-use Rattle.lk_law.specs.Allowed.{IsAllowedIfAny}
-use Rattle.lk_law.specs.Kicked.{and_then}
+use Rattle.lk_law.specs.Allowed.{MayFollowIfAny}
+use Rattle.lk_law.specs.Kicked.{with_event}
 
 few_pass : (threshold : ℕ) (ns : List ℕ) → ((i n : ℕ) → slice_get ns i ≡ Some n → n ≤ threshold)
     → All (λ n. n ≤ threshold) ns
 few_pass threshold ns few k d low = few k (get_or ns k d) (slice_get-get_or ns k d low)
 
 pub lawful_then : (rules : Rules) (es : List Event) (o : Option Event) → IsLawful rules es
-    → IsAllowedIfAny rules (λ l. history_of l es) o
-    → ((l : LockName) (i n : ℕ) → slice_get (history_of l (and_then es o)).passes i ≡ Some n
+    → MayFollowIfAny rules (λ l. history_of l es) o
+    → ((l : LockName) (i n : ℕ) → slice_get (history_of l (with_event es o)).passes i ≡ Some n
     → n ≤ rules.threshold)
-    → (rules.mode ≡ Pv → (l : LockName) → FrontIsOwed (and_then es o) l)
-    → IsLawful rules (and_then es o)
+    → (rules.mode ≡ Pv → (l : LockName) → FrontIsOwed (with_event es o) l)
+    → IsLawful rules (with_event es o)
 lawful_then rules es None lawful allowed few owed = lawful
 lawful_then rules es (Some e) lawful allowed few owed =
     lawful-push rules es e lawful (λ l on. let a = allowed l on in record {
@@ -31,5 +31,5 @@ lawful_then rules es (Some e) lawful allowed few owed =
       ordered = a.ordered;
       bounded = subst (λ (h : LockHistory). All (λ n. n ≤ rules.threshold) h.passes)
           (told_here l es e on)
-          (few_pass rules.threshold (history_of l (and_then es (Some e))).passes (few l));
+          (few_pass rules.threshold (history_of l (with_event es (Some e))).passes (few l));
     }) owed

@@ -29,7 +29,8 @@ use Rattle.lk_machine.specs.declared.parts.Pc.TheVariants.{R4, Wr2, U5}
 use Rattle.lk_law.specs.World.{World}
 use Rattle.lk_law.specs.Steps.{put_frame, put_held, put_queued, led, lead_on}
 use Rattle.lk_law.specs.Sound.{world, held_at, held_in, held_of, frees, owes_kick, is_over}
-use Rattle.lk_law.specs.Sound.{BelongsTo, RwBelongs, Stage, Sharing, Owing, takes_wait, after_wait}
+use Rattle.lk_law.specs.Sound.{BelongsTo, RwBelongs, Footing, Sharing, Owing, takes_wait}
+use Rattle.lk_law.specs.Sound.{after_wait}
 use Rattle.lk_law.specs.Sound.{ShowsAll}
 use Rattle.lk_law.proofs.common.Sames.{same_lock-self}
 use Rattle.lk_law.specs.RwPhase.{RwPhase, is_inner}
@@ -64,15 +65,22 @@ pub record SameHold (f g : Frame) : Type 0 where
 -- it frees it.
 pub record IsAt (mode : Mode) (v : Verb) (f : Frame) (V : Verb) : Type 0 where
   pub stages : (g : Frame) (d : Pc) → g.lock ≡ f.lock → g.place ≡ Some d → BelongsTo mode V d
-      → Stage mode v g d × SameHold f g
+      → Footing mode v g d × SameHold f g
   pub plain : f.lock.wait ≡ false → (V ≡ v) × IsOuter f
   pub waits : f.lock.wait ≡ true → takes_wait v ≡ true
   pub locks : f.lock.wait ≡ true → ((V ≡ Lock) × IsOuter f) ⊎ ((V ≡ Unlock) × IsFreeing f)
 
 then_stage : (mode : Mode) (v : Verb) (g : Frame) → takes_wait v ≡ true → g.lock.wait ≡ true
-    → (d : Pc) × (after_wait v ≡ Some d) × Stage mode v g d × (rw_own_phase d ≡ Inside)
+    → (d : Pc) × (after_wait v ≡ Some d) × Footing mode v g d × (rw_own_phase d ≡ Inside)
     × (is_rw_row d ≡ true) × (owes_kick (Some d) ≡ false)
-then_stage mode Read g t q = (R4, refl, Sharing refl (subst (λ (b : Bool). RwBelongs Read b R4) (sym q) (inl refl)), refl, refl, refl)
+then_stage mode Read g t q = (
+  R4,
+  refl,
+  Sharing refl (subst (λ (b : Bool). RwBelongs Read b R4) (sym q) (inl refl)),
+  refl,
+  refl,
+  refl,
+)
 then_stage mode Write g t q = (
   Wr2,
   refl,
@@ -105,7 +113,10 @@ taken_outer mode v f V t way = by f.lock.wait refl
   where
     by : (b : Bool) → f.lock.wait ≡ b → IsOuter f
     by false e = (t.plain e).1
-    by true e = elim (t.locks e) [ inl x ↦ x.1 | inr x ↦ absurd (none-some Spins (sym (ap way_after x.0) ∙ way)) ]
+    by true e = elim (t.locks e) [
+      | inl x ↦ x.1
+      | inr x ↦ absurd (none-some Spins (sym (ap way_after x.0) ∙ way))
+    ]
 
 module _ (n : Machine) (p : ℕ) (f : Frame) (c : Pc) (hs : LockName → LockHistory)
     (r : Ready n p f c) (V : Verb) (t : IsAt n.setup.mode r.works.op.verb f V) where
@@ -134,7 +145,8 @@ module _ (n : Machine) (p : ℕ) (f : Frame) (c : Pc) (hs : LockName → LockHis
           → held_at n v l (Some g)
           ≡ (if same_lock l f.lock then held_of n v f.lock else held_of n v l)
       each o l =
-          ap (λ (ops : List Op). held_in ops g l) (ap (λ (i : ℕ). program_at n.setup p i) same.program)
+          ap (λ (ops : List Op). held_in ops g l)
+          (ap (λ (i : ℕ). program_at n.setup p i) same.program)
           ∙ held_goes (program_of n p f) f g {r = rw_phase_of f} {r' = rw_phase_of g}
           {v = is_over f} {v' = is_over g} {i = f.lock.index} {n = f.«at»} stance
           (record {
@@ -147,7 +159,9 @@ module _ (n : Machine) (p : ℕ) (f : Frame) (c : Pc) (hs : LockName → LockHis
             | inl e ↦ ap (λ (k : LockName). held_of n v k) e
                 ∙ sym (ap (λ (b : Bool). if b then held_of n v f.lock else held_of n v l)
                 (ap (λ (k : LockName). same_lock k f.lock) e ∙ same_lock-self f.lock))
-            | inr ne ↦ sym (ap (λ (b : Bool). if b then held_of n v f.lock else held_of n v l) (same_lock-else l f.lock ne))
+            | inr ne ↦
+                sym (ap (λ (b : Bool). if b then held_of n v f.lock else held_of n v l)
+                (same_lock-else l f.lock ne))
           ]
 
   -- the lock is granted: the operation is done, or the frame has the wait lock
@@ -171,20 +185,26 @@ module _ (n : Machine) (p : ℕ) (f : Frame) (c : Pc) (hs : LockName → LockHis
           (subst (λ (x : Option Manner).
           HoldsNow (program_of n p f) f (record f { «at» = f.«at» + 1 }) (rw_name f.lock.index)
           x) (ap way_after (sym (t.plain e).0) ∙ way)
-          (holds_done (program_of n p f) f (record f { «at» = f.«at» + 1 }) r.works.op r.works.is r.works.lock outer refl))
-          (subst (λ (k : LockName). IsSoundWorld (put_held (put_frame (world n) v (Some g)) v k (Some Spins)) hs) name sound)
+          (holds_done (program_of n p f) f
+          (record f { «at» = f.«at» + 1 }) r.works.op r.works.is r.works.lock outer refl))
+          (subst (λ (k : LockName).
+          IsSoundWorld (put_held (put_frame (world n) v (Some g)) v k (Some Spins)) hs) name sound)
       by true e =
           let name = lock_name f.lock true e in
           let wait : g.lock.wait ≡ true = ap (λ (l : LockName). l.wait) lock ∙ e in
           let x = then_stage n.setup.mode r.works.op.verb g (t.waits e) wait in
-          let place : g.place ≡ Some x.0 = at ∙ ap (λ (b : Bool). if b then f.then else None) e ∙ r.works.after e ∙ x.1 in
+          let place : g.place ≡ Some x.0 =
+          at ∙ ap (λ (b : Bool). if b then f.then else None) e ∙ r.works.after e ∙ x.1 in
           let phase : rw_phase_of g ≡ Inside =
           ap (λ (q : Option Pc). rw_phase_if q g.lock.wait) place
           ∙ if-true (is_rw_row x.0) (rw_own_phase x.0) _ x.4 ∙ x.3 in
-          let over : is_over g ≡ false = ap (λ (q : RwPhase). frees q || owes_kick g.place) phase ∙ ap owes_kick place ∙ x.5 in
+          let over : is_over g ≡ false =
+          ap (λ (q : RwPhase). frees q || owes_kick g.place) phase ∙ ap owes_kick place ∙ x.5 in
           goes_shows n p f c hs r g x.0 same place (ap (λ (l : LockName). l.index) lock) x.2
           (λ q. next ∙ r.works.after e) nodes (wait_name f.lock.index) (Some Spins)
-          (λ l. ap (λ (ops : List Op). held_in ops g l) (ap (λ (i : ℕ). program_at n.setup p i) same.program)
+          (λ l.
+          ap (λ (ops : List Op). held_in ops g l)
+          (ap (λ (i : ℕ). program_at n.setup p i) same.program)
           ∙ held_granted (program_of n p f) f g {r = rw_phase_of f} {r' = Inside} {v = is_over f}
           {v' = false} {i = f.lock.index} {n = f.«at»} stance
           (record {
@@ -193,8 +213,10 @@ module _ (n : Machine) (p : ℕ) (f : Frame) (c : Pc) (hs : LockName → LockHis
             index = ap (λ (k : LockName). k.index) lock;
             position = same.position;
           }) outer.inner outer.over refl refl l
-          ∙ ap (λ (o : Option Manner). if same_lock l (wait_name f.lock.index) then Some Spins else o) (sym (held_f l)))
-          (subst (λ (k : LockName). IsSoundWorld (put_held (put_frame (world n) v (Some g)) v k (Some Spins)) hs) name sound)
+          ∙ ap (λ (o : Option Manner). if same_lock l (wait_name f.lock.index) then Some Spins
+          else o) (sym (held_f l)))
+          (subst (λ (k : LockName).
+          IsSoundWorld (put_held (put_frame (world n) v (Some g)) v k (Some Spins)) hs) name sound)
 
 granted_is : (n : Machine) (p : ℕ) (f : Frame) → frame_at n (top_of n p) ≡ Some f
     → granted n p
@@ -214,7 +236,8 @@ granted_led n p f live = granted_is n p f live ∙ by f.lock.wait
     by : (b : Bool)
         → (if b then set_top n p (record f { place = f.then }) else settled n p
         (record f { «at» = f.«at» + 1 }))
-        ≡ (if b then set_top n p (record f { place = if b then f.then else None }) else settled n p (record f { «at» = f.«at» + 1 }))
+        ≡ (if b then set_top n p (record f { place = if b then f.then else None })
+        else settled n p (record f { «at» = f.«at» + 1 }))
     by true = refl
     by false = refl
 
@@ -224,7 +247,8 @@ at_left : (mode : Mode) (v : Verb) (f : Frame) (V : Verb) → IsAt mode v f V
 at_left mode v f V t =
     let e : Frame = record f { me = None } in
     record {
-      stages = λ g d lock place row. let s = t.stages g d lock place row in (s.0, record { inner = s.1.inner; over = s.1.over });
+      stages = λ g d lock place row. let s = t.stages g d lock place row in
+          (s.0, record { inner = s.1.inner; over = s.1.over });
       plain = λ q. let x = t.plain q in (x.0, record { inner = x.1.inner; over = x.1.over });
       waits = t.waits;
       locks = λ q. elim (t.locks q) [
@@ -249,8 +273,10 @@ module _ (n : Machine) (p : ℕ) (f : Frame) (c : Pc) (hs : LockName → LockHis
       let g : Frame = entered f (Some a) d in
       let k : Machine = set_node n a rest_node in
       let same = same_set_node n a rest_node in
-      let ready : Ready k p f c = ready_same n k p f c r same (λ u. frame-set_node n a rest_node u) in
-      let P : World → Waiter → Type 0 = λ x u. IsSoundWorld (put_held (put_frame x u (Some g)) u f.lock (x.held u f.lock)) hs in
+      let ready : Ready k p f c =
+      ready_same n k p f c r same (λ u. frame-set_node n a rest_node u) in
+      let P : World → Waiter → Type 0 =
+      λ x u. IsSoundWorld (put_held (put_frame x u (Some g)) u f.lock (x.held u f.lock)) hs in
       let there : P (world k) u =
       subst (λ (x : World). P x u)
       (sym (world-set_node n a rest_node within (r.whole.nodes a.cpu within.cpu))) sound in
@@ -269,12 +295,16 @@ module _ (n : Machine) (p : ℕ) (f : Frame) (c : Pc) (hs : LockName → LockHis
       let g : Frame = record f { me = None } in
       let ready : Ready k p g c = left_ready n p f c r in
       let same = left_same n p f c r in
-      let P : World → Waiter → Type 0 = λ x u. IsSoundWorld (put_held (put_frame x u (Some d)) u f.lock (Some Spins)) hs in
-      let again : put_frame (world k) u (Some d) ≡ put_frame (put_queued (world n) p (queued_at n p - 1)) u (Some d) =
+      let P : World → Waiter → Type 0 =
+      λ x u. IsSoundWorld (put_held (put_frame x u (Some d)) u f.lock (Some Spins)) hs in
+      let again : put_frame (world k) u (Some d) ≡ put_frame
+      (put_queued (world n) p (queued_at n p - 1)) u (Some d) =
       ap (λ (x : World). put_frame x u (Some d)) (left_world n p f c r)
       ∙ rewritten (world n) u (Some g) (Some d) p (queued_at n p - 1) in
-      let there : P (world k) u = subst (λ (x : World). IsSoundWorld (put_held x u f.lock (Some Spins)) hs) (sym again) sound in
-      let here : P (world k) (top_of k p) = subst (λ (u : Waiter). P (world k) u) (sym (top_same n k p same)) there in
+      let there : P (world k) u =
+      subst (λ (x : World). IsSoundWorld (put_held x u f.lock (Some Spins)) hs) (sym again) sound in
+      let here : P (world k) (top_of k p) =
+      subst (λ (u : Waiter). P (world k) u) (sym (top_same n k p same)) there in
       let mode : k.setup.mode ≡ n.setup.mode = ap (λ (x : Setup). x.mode) same.keeps.setup in
       let shown = granted_shows k p g c hs ready V
       (subst (λ (x : Mode). IsAt x r.works.op.verb g V) (sym mode)
@@ -334,7 +364,8 @@ module _ (n : Machine) (p : ℕ) (f : Frame) (c : Pc) (hs : LockName → LockHis
       stance = record { phase = refl; over = refl; index = refl; position = refl }
 
       away : (b : Bool) → f.lock.wait ≡ b → rw_phase_of g ≡ rw_phase_if (Some U5) b
-      away b e = ap (λ (l : LockName). rw_phase_if (Some U5) l.wait) s.lock ∙ ap (rw_phase_if (Some U5)) e
+      away b e =
+          ap (λ (l : LockName). rw_phase_if (Some U5) l.wait) s.lock ∙ ap (rw_phase_if (Some U5)) e
 
       now : rw_phase_of g ≡ Away → Stance g Away true f.lock.index f.«at»
       now phase = record {
@@ -359,7 +390,8 @@ module _ (n : Machine) (p : ℕ) (f : Frame) (c : Pc) (hs : LockName → LockHis
           (λ l. ap (λ (os : List Op). held_in os g l)
           (ap (λ (i : ℕ). program_at n.setup p i) s.program) ∙ each l
           ∙ ap (λ (o : Option Manner). if same_lock l k then None else o) (sym (held_f l)))
-          (subst (λ (j : LockName). IsSoundWorld (put_held (put_frame (world n) u (Some g)) u j None) hs) name sound)
+          (subst (λ (j : LockName).
+          IsSoundWorld (put_held (put_frame (world n) u (Some g)) u j None) hs) name sound)
         where
           nodes : NodesIn (HasNode n) (changed_all f cs)
           nodes = nodes_changes (HasNode n) f cs fits (ready_nodes n p f c r)
@@ -372,7 +404,8 @@ module _ (n : Machine) (p : ℕ) (f : Frame) (c : Pc) (hs : LockName → LockHis
           (λ l. held_yields ops f g {r = rw_phase_of f} {r' = Away} {v = is_over f} {v' = true}
           {i = f.lock.index} {n = f.«at»} stance r.works.op r.works.is (sym r.works.lock)
           (now (away false e)) x.1.inner x.1.over refl refl l
-          ∙ ap (λ (o : Option Manner). if same_lock l (rw_name f.lock.index) then o else held_in ops f l) (ap way_after verb))
+          ∙ ap (λ (o : Option Manner). if same_lock l (rw_name f.lock.index) then o
+          else held_in ops f l) (ap way_after verb))
           (λ q. verb) (lock_name f.lock false e)
       by true e = elim (t.locks e) [
         | inl x ↦ absurd (let z = ap way_after (sym x.0 ∙ unlocks) in none-some Spins (sym z))
@@ -393,7 +426,8 @@ module _ (n : Machine) (p : ℕ) (f : Frame) (c : Pc) (hs : LockName → LockHis
           → ShowsAll (settled n p (record f { «at» = f.«at» + skipped n p f })) hs
       by false e =
           let x = t.plain e in
-          missed_shows n p f c hs r (led f Missed) refl refl refl refl x.1 (subst (λ (y : Verb). is_try y ≡ true) x.0 tries)
+          missed_shows n p f c hs r (led f Missed) refl refl refl refl x.1
+          (subst (λ (y : Verb). is_try y ≡ true) x.0 tries)
           (subst (λ (k : LockName).
           IsSoundWorld
           (put_held (put_frame (world n) u (Some (led f Missed))) u k (held_of n u k)) hs)
@@ -418,13 +452,16 @@ module _ (n : Machine) (p : ℕ) (f : Frame) (c : Pc) (hs : LockName → LockHis
       (granted_shows n p f c hs r V t (led f Granted) refl
       (record { ctx = refl; program = refl; position = refl }) refl refl refl
       (same_nodes n p f c r (led f Granted) refl refl) way sound)
-  moved_shows Freed way fits sound = subst (λ (x : Machine). ShowsAll x hs) (sym (done_is n p f r.live)) (freed_shows way sound)
-  moved_shows Missed tries fits sound = subst (λ (x : Machine). ShowsAll x hs) (sym (missed_is n p f r.live)) (missed_by tries sound)
+  moved_shows Freed way fits sound =
+      subst (λ (x : Machine). ShowsAll x hs) (sym (done_is n p f r.live)) (freed_shows way sound)
+  moved_shows Missed tries fits sound =
+      subst (λ (x : Machine). ShowsAll x hs) (sym (missed_is n p f r.live)) (missed_by tries sound)
   moved_shows Leaves way fits sound = leaves_shows way sound
   moved_shows Done fits nodes sound = absurd fits
   moved_shows (Yields d cs) (pv, unlocks, is) fits sound =
       let P : Pc → Type 0 = λ x. IsSoundWorld (lead_on (world n) u f (Yields x cs)) hs in
-      subst (λ (x : Pc). ShowsAll (set_top n p (gone f x cs)) hs) (sym is) (yields_shows cs pv unlocks fits (subst P is sound))
+      subst (λ (x : Pc). ShowsAll (set_top n p (gone f x cs)) hs) (sym is)
+      (yields_shows cs pv unlocks fits (subst P is sound))
   moved_shows (TakesWait d) fits nodes sound = absurd fits
 
 -- The kick that was owed is made, and with it the operation is done.

@@ -15,24 +15,28 @@ use Rattle.lk_machine.specs.Moves.{settled, done, missed, leave, skipped}
 use Rattle.lk_machine.specs.declared.setup.Verb.{Verb}
 use Rattle.lk_law.specs.World.{World}
 use Rattle.lk_law.specs.Steps.{put_frame, put_queued}
-use Rattle.lk_law.specs.Sound.{world, held_at, RwBelongs, Stage, Spinning, Sharing, Waiting}
+use Rattle.lk_law.specs.Sound.{world, held_at, RwBelongs, Footing, Spinning, Sharing, Waiting}
 use Rattle.lk_law.specs.Sound.{Freeing, Owing, Fits}
 use Rattle.lk_law.proofs.common.Sames.{same_waiter-self}
 use Rattle.lk_core.proofs.Access.{top_frame-is}
 use Rattle.lk_core.proofs.Seated.{alike, seated, world-set_top}
 use Rattle.lk_core.proofs.Worlds.{world-set_queued}
-use Rattle.lk_core.proofs.Same.{Same, same_then, top_same, same_set_top, same_set_queued}
+use Rattle.lk_core.proofs.Same.{KeepsFrames, same_then, top_same, same_set_top, same_set_queued}
 use Rattle.lk_core.proofs.Same.{whole_same, fits_kept}
 use Rattle.lk_core.proofs.Settle.{fits_all}
 use Rattle.lk_core.proofs.Moved.{Ready, works_kept, holding_same}
 
 -- a stage depends on the lock alone
 pub same_stage : (mode : Mode) (v : Verb) (f g : Frame) (c : Pc) → g.lock ≡ f.lock
-    → Stage mode v f c → Stage mode v g c
-same_stage mode v f g c lock (Spinning a b d) = Spinning (ap (λ (l : LockName). l.wait) lock ∙ a) b d
-same_stage mode v f g c lock (Sharing b d) = Sharing b (subst (λ (l : LockName). RwBelongs v l.wait c) (sym lock) d)
-same_stage mode v f g c lock (Waiting a b e t d) = Waiting (ap (λ (l : LockName). l.wait) lock ∙ a) b e t d
-same_stage mode v f g c lock (Freeing a b e t d) = Freeing (ap (λ (l : LockName). l.wait) lock ∙ a) b e t d
+    → Footing mode v f c → Footing mode v g c
+same_stage mode v f g c lock (Spinning a b d) =
+    Spinning (ap (λ (l : LockName). l.wait) lock ∙ a) b d
+same_stage mode v f g c lock (Sharing b d) =
+    Sharing b (subst (λ (l : LockName). RwBelongs v l.wait c) (sym lock) d)
+same_stage mode v f g c lock (Waiting a b e t d) =
+    Waiting (ap (λ (l : LockName). l.wait) lock ∙ a) b e t d
+same_stage mode v f g c lock (Freeing a b e t d) =
+    Freeing (ap (λ (l : LockName). l.wait) lock ∙ a) b e t d
 same_stage mode v f g c lock (Owing m is plain waits) =
     let wait = ap (λ (l : LockName). l.wait) (sym lock) in
     Owing m is (λ e. plain (wait ∙ e)) (λ e. waits (wait ∙ e))
@@ -51,8 +55,10 @@ module _ (n : Machine) (p : ℕ) (f : Frame) (c : Pc) (r : Ready n p f c) where
   top : HasTop n p
   top = r.whole.tops p r.range
 
-  pub left_same : Same n (left n p f)
-  left_same = same_then n (set_top n p e) (left n p f) (same_set_top n p e) (same_set_queued (set_top n p e) p (queued_at n p - 1))
+  pub left_same : KeepsFrames n (left n p f)
+  left_same =
+      same_then n (set_top n p e) (left n p f) (same_set_top n p e)
+      (same_set_queued (set_top n p e) p (queued_at n p - 1))
 
   pub left_world : world (left n p f)
       ≡ put_queued (put_frame (world n) w (Some e)) p (queued_at n p - 1)
@@ -109,21 +115,27 @@ module _ (n : Machine) (p : ℕ) (f : Frame) (c : Pc) (r : Ready n p f c) where
       }
 
   pub leave_is : leave n p ≡ left n p f
-  leave_is = ap (λ (x : Frame). set_queued (set_top n p (record x { me = None })) p (queued_at n p - 1)) (top_frame-is n p f r.live)
+  leave_is =
+      ap (λ (x : Frame). set_queued (set_top n p (record x { me = None })) p (queued_at n p - 1))
+      (top_frame-is n p f r.live)
 
 pub done_is : (n : Machine) (p : ℕ) (f : Frame) → frame_at n (top_of n p) ≡ Some f
     → done n p ≡ settled n p (record f { «at» = f.«at» + 1 })
-done_is n p f live = ap (λ (x : Frame). settled n p (record x { «at» = x.«at» + 1 })) (top_frame-is n p f live)
+done_is n p f live =
+    ap (λ (x : Frame). settled n p (record x { «at» = x.«at» + 1 })) (top_frame-is n p f live)
 
 pub missed_is : (n : Machine) (p : ℕ) (f : Frame) → frame_at n (top_of n p) ≡ Some f
     → missed n p ≡ settled n p (record f { «at» = f.«at» + skipped n p f })
-missed_is n p f live = ap (λ (x : Frame). settled n p (record x { «at» = x.«at» + skipped n p x })) (top_frame-is n p f live)
+missed_is n p f live =
+    ap (λ (x : Frame). settled n p (record x { «at» = x.«at» + skipped n p x }))
+    (top_frame-is n p f live)
 
 -- a second write of a frame hides the first
 pub rewritten : (x : World) (v : Waiter) (a b : Option Frame) (p i : ℕ)
     → put_frame (put_queued (put_frame x v a) p i) v b ≡ put_frame (put_queued x p i) v b
 rewritten x v a b p i =
-    alike (put_frame (put_queued (put_frame x v a) p i) v b) (put_frame (put_queued x p i) v b) (record {
+    alike (put_frame (put_queued (put_frame x v a) p i) v b) (put_frame (put_queued x p i) v b)
+    (record {
       mode = refl;
       turns = refl;
       threshold = refl;

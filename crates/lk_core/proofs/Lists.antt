@@ -62,10 +62,10 @@ before_or_at P (y ∷ xs) (suc i) x at passes =
     elim (cases_Bool (P y)) [ inl e ↦ rw e (omega arith) | inr e ↦ rw e (omega arith) ]
 
 -- where some item passes, the first place is of one that does
-pub first_place : {A : Type 0} (P : A → Bool) (xs : List A) (i : ℕ) (x : A)
+pub first_found : {A : Type 0} (P : A → Bool) (xs : List A) (i : ℕ) (x : A)
     → slice_get xs i ≡ Some x → P x ≡ true
     → (y : A) × (slice_get xs (unwrap_or (position P xs) 0) ≡ Some y) × (P y ≡ true)
-first_place {A} P xs i x at passes = found (position P xs) refl
+first_found {A} P xs i x at passes = found (position P xs) refl
   where
     found : (o : Option ℕ) → position P xs ≡ o
         → (y : A) × (slice_get xs (unwrap_or (position P xs) 0) ≡ Some y) × (P y ≡ true)
@@ -77,5 +77,8 @@ first_place {A} P xs i x at passes = found (position P xs) refl
         (lt-ltb (position_or_len P xs) (length xs) (omega arith)) in
         absurd (none-some (position_or_len P xs) (sym e ∙ is))
     found (Some j) e =
-        let s = position-Some P xs j x e in
-        (get_or xs j x, ap (λ (o : Option ℕ). slice_get xs (unwrap_or o 0)) e ∙ slice_get-get_or xs j x s.0, s.1)
+        let s = position-Some P xs j x e in (
+          get_or xs j x,
+          ap (λ (o : Option ℕ). slice_get xs (unwrap_or o 0)) e ∙ slice_get-get_or xs j x s.0,
+          s.1,
+        )

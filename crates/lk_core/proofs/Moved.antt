@@ -18,18 +18,18 @@ use Rattle.lk_machine.specs.declared.setup.Setup.{Setup}
 use Rattle.lk_machine.specs.Programs.{is_try, program_at}
 use Rattle.lk_machine.specs.Moves.{program_of, settled, skipped}
 use Rattle.lk_machine.specs.Row.{Change, Prev, Second, Y, Left, A, B, K, T, Reason, Tailed}
-use Rattle.lk_machine.specs.Row.{HashedIs, TargetIs, changed, changed_all}
+use Rattle.lk_machine.specs.Row.{HashedIs, TargetIs, with_change, changed_all}
 use Rattle.lk_law.specs.World.{World}
 use Rattle.lk_law.specs.Steps.{put_frame, put_held}
 use Rattle.lk_law.specs.Sound.{world, held_in, held_at, held_of, Works, Fits, IsWhole, ShowsAll}
-use Rattle.lk_law.specs.Sound.{held_idle, Stage, after_wait}
+use Rattle.lk_law.specs.Sound.{held_idle, Footing, after_wait}
 use Rattle.lk_law.specs.SoundWorld.{IsSoundWorld}
 use Rattle.lk_machine.specs.Moves.{rw_name}
 use Rattle.lk_law.proofs.common.Cases.{waiter_cases}
 use Rattle.lk_law.proofs.common.Sames.{same_waiter-self}
 use Rattle.lk_law.proofs.common.Puts.{same_waiter-else}
 use Rattle.lk_core.proofs.Seated.{alike, world-set_top}
-use Rattle.lk_core.proofs.Same.{Same, top_same, same_set_top, whole_same, fits_kept}
+use Rattle.lk_core.proofs.Same.{KeepsFrames, top_same, same_set_top, whole_same, fits_kept}
 use Rattle.lk_core.proofs.Walks.{HoldsNow, IsOuter, NodesIn, holds_missed, skip_within}
 use Rattle.lk_core.proofs.Settle.{fits_all, settled_shows}
 
@@ -39,9 +39,11 @@ abbrev pub works_kept : (s t : Setup) (p : ℕ) (f : Frame) (c : Pc) → t ≡ s
 works_kept s t p f c e w =
     record {
       op = w.op;
-      is = subst (λ (x : Setup). slice_get (program_at x p f.program) f.«at» ≡ Some w.op) (sym e) w.is;
+      is =
+          subst (λ (x : Setup). slice_get (program_at x p f.program) f.«at» ≡ Some w.op)
+          (sym e) w.is;
       lock = w.lock;
-      stage = subst (λ (x : Setup). Stage x.mode w.op.verb f c) (sym e) w.stage;
+      stage = subst (λ (x : Setup). Footing x.mode w.op.verb f c) (sym e) w.stage;
       after = w.after;
     }
 
@@ -56,10 +58,12 @@ pub record Ready (n : Machine) (p : ℕ) (f : Frame) (c : Pc) : Type 0 where
 -- the nodes that the frame has met are the machine's
 abbrev pub ready_nodes : (n : Machine) (p : ℕ) (f : Frame) (c : Pc) → Ready n p f c
     → NodesIn (HasNode n) f
-ready_nodes n p f c r = let fit = r.fits (top_of n p) f r.live in record { prev = fit.prev; target = fit.target }
+ready_nodes n p f c r =
+    let fit = r.fits (top_of n p) f r.live in record { prev = fit.prev; target = fit.target }
 
 -- a machine with other words or nodes is ready too
-abbrev pub ready_same : (n k : Machine) (p : ℕ) (f : Frame) (c : Pc) → Ready n p f c → Same n k
+abbrev pub ready_same : (n k : Machine) (p : ℕ) (f : Frame) (c : Pc) → Ready n p f c
+    → KeepsFrames n k
     → ((u : Waiter) → frame_at k u ≡ frame_at n u) → Ready k p f c
 ready_same n k p f c r same frames =
     record {
@@ -72,7 +76,8 @@ ready_same n k p f c r same frames =
 
 -- a world with another frame of w, which holds locks in this way
 abbrev holding : World → Waiter → Option Frame → (LockName → Option Manner) → World
-holding m w o held = record (put_frame m w o) { held = λ u l. if same_waiter u w then held l else m.held u l }
+holding m w o held =
+    record (put_frame m w o) { held = λ u l. if same_waiter u w then held l else m.held u l }
 
 -- the frame of w changes, and no hold
 pub holding_same : (m : World) (w : Waiter) (o : Option Frame) (held : LockName → Option Manner)
@@ -88,7 +93,8 @@ holding_same m w o held each =
       frame = λ u. refl;
       held = λ u l. elim (waiter_cases u w) [
         | inl e ↦
-            let P : Waiter → Type 0 = λ v. (if same_waiter v w then held l else m.held v l) ≡ m.held v l in
+            let P : Waiter → Type 0 =
+            λ v. (if same_waiter v w then held l else m.held v l) ≡ m.held v l in
             subst P (sym e) (rw (same_waiter-self w) (each l))
         | inr ne ↦ rw (same_waiter-else u w ne) refl
       ];
@@ -144,25 +150,38 @@ pub record SameBut (f g : Frame) : Type 0 where
   pub lock : g.lock ≡ f.lock
   pub next : g.then ≡ f.then
 
-same_changed : (f : Frame) (c : Change) → SameBut f (changed f c)
-same_changed f (Prev n) = record { ctx = refl; program = refl; position = refl; lock = refl; next = refl }
-same_changed f (Second n) = record { ctx = refl; program = refl; position = refl; lock = refl; next = refl }
-same_changed f (Y n) = record { ctx = refl; program = refl; position = refl; lock = refl; next = refl }
-same_changed f (Left n) = record { ctx = refl; program = refl; position = refl; lock = refl; next = refl }
-same_changed f (A n) = record { ctx = refl; program = refl; position = refl; lock = refl; next = refl }
-same_changed f (B n) = record { ctx = refl; program = refl; position = refl; lock = refl; next = refl }
-same_changed f (K n) = record { ctx = refl; program = refl; position = refl; lock = refl; next = refl }
-same_changed f (T n) = record { ctx = refl; program = refl; position = refl; lock = refl; next = refl }
-same_changed f (Reason n) = record { ctx = refl; program = refl; position = refl; lock = refl; next = refl }
-same_changed f (Tailed n) = record { ctx = refl; program = refl; position = refl; lock = refl; next = refl }
-same_changed f (HashedIs n) = record { ctx = refl; program = refl; position = refl; lock = refl; next = refl }
-same_changed f (TargetIs n) = record { ctx = refl; program = refl; position = refl; lock = refl; next = refl }
+same_changed : (f : Frame) (c : Change) → SameBut f (with_change f c)
+same_changed f (Prev n) =
+    record { ctx = refl; program = refl; position = refl; lock = refl; next = refl }
+same_changed f (Second n) =
+    record { ctx = refl; program = refl; position = refl; lock = refl; next = refl }
+same_changed f (Y n) =
+    record { ctx = refl; program = refl; position = refl; lock = refl; next = refl }
+same_changed f (Left n) =
+    record { ctx = refl; program = refl; position = refl; lock = refl; next = refl }
+same_changed f (A n) =
+    record { ctx = refl; program = refl; position = refl; lock = refl; next = refl }
+same_changed f (B n) =
+    record { ctx = refl; program = refl; position = refl; lock = refl; next = refl }
+same_changed f (K n) =
+    record { ctx = refl; program = refl; position = refl; lock = refl; next = refl }
+same_changed f (T n) =
+    record { ctx = refl; program = refl; position = refl; lock = refl; next = refl }
+same_changed f (Reason n) =
+    record { ctx = refl; program = refl; position = refl; lock = refl; next = refl }
+same_changed f (Tailed n) =
+    record { ctx = refl; program = refl; position = refl; lock = refl; next = refl }
+same_changed f (HashedIs n) =
+    record { ctx = refl; program = refl; position = refl; lock = refl; next = refl }
+same_changed f (TargetIs n) =
+    record { ctx = refl; program = refl; position = refl; lock = refl; next = refl }
 
 pub same_changed_all : (f : Frame) (cs : List Change) → SameBut f (changed_all f cs)
-same_changed_all f [] = record { ctx = refl; program = refl; position = refl; lock = refl; next = refl }
+same_changed_all f [] =
+    record { ctx = refl; program = refl; position = refl; lock = refl; next = refl }
 same_changed_all f (c ∷ cs) =
     let a = same_changed f c in
-    let b = same_changed_all (changed f c) cs in
+    let b = same_changed_all (with_change f c) cs in
     record {
       ctx = b.ctx ∙ a.ctx;
       program = b.program ∙ a.program;
@@ -171,7 +190,8 @@ same_changed_all f (c ∷ cs) =
       next = b.next ∙ a.next;
     }
 
-module _ (n : Machine) (p : ℕ) (f : Frame) (c : Pc) (hs : LockName → LockHistory) (r : Ready n p f c) where
+module _ (n : Machine) (p : ℕ) (f : Frame) (c : Pc) (hs : LockName → LockHistory)
+    (r : Ready n p f c) where
   abbrev w : Waiter
   w = top_of n p
 
@@ -186,8 +206,9 @@ module _ (n : Machine) (p : ℕ) (f : Frame) (c : Pc) (hs : LockName → LockHis
 
   -- a frame goes on in its operation, and holds the lock k in this way
   module _ (g : Frame) (d : Pc) (same : SamePlace f g) (at : g.place ≡ Some d)
-      (lock : g.lock.index ≡ f.lock.index) (stage : Stage n.setup.mode r.works.op.verb g d)
-      (after : g.lock.wait ≡ true → g.then ≡ after_wait r.works.op.verb) (nodes : NodesIn (HasNode n) g) where
+      (lock : g.lock.index ≡ f.lock.index) (stage : Footing n.setup.mode r.works.op.verb g d)
+      (after : g.lock.wait ≡ true → g.then ≡ after_wait r.works.op.verb)
+      (nodes : NodesIn (HasNode n) g) where
     pub goes_fit : Fits n w g
     goes_fit =
         record {
@@ -208,7 +229,7 @@ module _ (n : Machine) (p : ℕ) (f : Frame) (c : Pc) (hs : LockName → LockHis
                     (subst (λ (i : ℕ). slice_get (program_at n.setup p i) f.«at» ≡ Some r.works.op)
                     (sym same.program) r.works.is);
                 lock = lock ∙ r.works.lock;
-                stage = subst (λ (y : Pc). Stage n.setup.mode r.works.op.verb g y) dx stage;
+                stage = subst (λ (y : Pc). Footing n.setup.mode r.works.op.verb g y) dx stage;
                 after = after;
               };
           prev = nodes.prev;
@@ -234,7 +255,8 @@ module _ (n : Machine) (p : ℕ) (f : Frame) (c : Pc) (hs : LockName → LockHis
         }
 
   -- an operation has ended
-  module _ (d : Frame) (place : d.place ≡ None) (me : f.me ≡ d.me) (lock : f.lock ≡ d.lock) (next : f.then ≡ d.then) where
+  module _ (d : Frame) (place : d.place ≡ None) (me : f.me ≡ d.me) (lock : f.lock ≡ d.lock)
+      (next : f.then ≡ d.then) where
     pub ended_shows : (i : ℕ) (k : LockName) (way : Option Manner) → i ≤ length (program_of n p f)
         → HoldsNow (program_of n p f) f (record f { «at» = i }) k way
         → IsSoundWorld (put_held (put_frame (world n) w (Some d)) w k way) hs

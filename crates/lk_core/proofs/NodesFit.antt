@@ -77,7 +77,8 @@ module _ (R : NodeName → Type 0) where
   pub search_in : (s : Sight) (c : Pc) (f : Frame) (x : Option NodeName)
       → LeadIn R (search_row s c f x).leads
   search_in s C1 f None = after_none_in f.second
-  search_in s C1 f (Some n) = in_if (may_stay s) _ _ (in_if (s.local n) _ _ tt tt) (in_if (is_some f.second) _ _ tt tt)
+  search_in s C1 f (Some n) =
+      in_if (may_stay s) _ _ (in_if (s.local n) _ _ tt tt) (in_if (is_some f.second) _ _ tt tt)
   search_in s C2 f None = in_if (is_some f.second) _ _ tt tt
   search_in s C2 f (Some n) = in_if (s.local n) _ _ (in_if (is_some f.second) _ _ tt tt) tt
   search_in s _ f x = tt
@@ -101,7 +102,8 @@ module _ (R : NodeName → Type 0) where
 
   pub pv_in : (spins : ℕ) (c : Pc) (f : Frame) (x : Fields) → LeadIn R (pv_row spins c f x).leads
   pv_in spins H2 f x = in_if (is_unlocked x.locked) _ _ tt tt
-  pv_in spins E4 f x = in_if (is_unlocked x.locked && x.pending) _ _ tt (in_if (f.left - 1 == 0) _ _ tt tt)
+  pv_in spins E4 f x =
+      in_if (is_unlocked x.locked && x.pending) _ _ tt (in_if (f.left - 1 == 0) _ _ tt tt)
   pv_in spins E7 f x = in_if (is_unlocked x.locked) _ _ tt tt
   pv_in spins E13 f x = in_if (is_last f x) _ _ tt tt
   pv_in spins U2 f x = in_if (is_held x.locked) _ _ tt tt

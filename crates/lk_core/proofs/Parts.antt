@@ -59,11 +59,13 @@ module _ {A : Type 0} (F : Machine → A)
 
   part-set_node : (m : Machine) (n : NodeName) (x : Node) → F (set_node m n x) ≡ F m
   unfolding set_node
-  part-set_node m n x = cpu m n.cpu (record (cpu_at m n.cpu) { nodes = set (cpu_at m n.cpu).nodes n.index x })
+  part-set_node m n x =
+      cpu m n.cpu (record (cpu_at m n.cpu) { nodes = set (cpu_at m n.cpu).nodes n.index x })
 
   part-set_top : (m : Machine) (p : ℕ) (f : Frame) → F (set_top m p f) ≡ F m
   unfolding set_top
-  part-set_top m p f = cpu m p (record (cpu_at m p) { frames = set (cpu_at m p).frames (depth_at m p - 1) f })
+  part-set_top m p f =
+      cpu m p (record (cpu_at m p) { frames = set (cpu_at m p).frames (depth_at m p - 1) f })
 
   part-set_queued : (m : Machine) (p i : ℕ) → F (set_queued m p i) ≡ F m
   unfolding set_queued
@@ -83,11 +85,16 @@ module _ {A : Type 0} (F : Machine → A)
 
   part-pop : (m : Machine) (p : ℕ) → F (pop m p) ≡ F m
   unfolding pop
-  part-pop m p = cpu m p (record (cpu_at m p) { frames = take (depth_at m p - 1) (cpu_at m p).frames })
+  part-pop m p =
+      cpu m p (record (cpu_at m p) { frames = take (depth_at m p - 1) (cpu_at m p).frames })
 
   part-push : (m : Machine) (p : ℕ) (f : Frame) → F (push m p f) ≡ F m
   unfolding push
-  part-push m p f = cpu m p (record (cpu_at m p) { frames = (cpu_at m p).frames ++ f ∷ []; handlers = (cpu_at m p).handlers + 1 })
+  part-push m p f =
+      cpu m p (record (cpu_at m p) {
+        frames = (cpu_at m p).frames ++ f ∷ [];
+        handlers = (cpu_at m p).handlers + 1;
+      })
 
   part-settled_at : (m : Machine) (p : ℕ) (f : Frame) (o : Option Op) → F (settled_at m p f o) ≡ F m
   part-settled_at m p f None =
@@ -104,10 +111,14 @@ module _ {A : Type 0} (F : Machine → A)
   part-granted : (m : Machine) (p : ℕ) → F (granted m p) ≡ F m
   part-granted m p =
       let g : Frame = record (top_frame m p) { place = (top_frame m p).then } in
-      either F (top_frame m p).lock.wait (set_top m p g) (done m p) (F m) (part-set_top m p g) (part-done m p)
+      either F (top_frame m p).lock.wait (set_top m p g) (done m p) (F m) (part-set_top m p g)
+      (part-done m p)
 
   part-missed : (m : Machine) (p : ℕ) → F (missed m p) ≡ F m
-  part-missed m p = part-settled m p (record (top_frame m p) { «at» = (top_frame m p).«at» + skipped m p (top_frame m p) })
+  part-missed m p =
+      part-settled m p (record (top_frame m p) {
+        «at» = (top_frame m p).«at» + skipped m p (top_frame m p);
+      })
 
   part-leave : (m : Machine) (p : ℕ) → F (leave m p) ≡ F m
   part-leave m p =
@@ -120,7 +131,8 @@ module _ {A : Type 0} (F : Machine → A)
 
   pub part-moved : (m : Machine) (p : ℕ) (f : Frame) (lead : Lead) → F (moved m p f lead) ≡ F m
   part-moved m p f (Goes c cs) = part-set_top m p (gone f c cs)
-  part-moved m p f (Enters me c) = part-set_top (with_rest m me) p (entered f me c) ∙ part-with_rest m me
+  part-moved m p f (Enters me c) =
+      part-set_top (with_rest m me) p (entered f me c) ∙ part-with_rest m me
   part-moved m p f Granted = part-granted m p
   part-moved m p f Freed = part-done m p
   part-moved m p f Missed = part-missed m p

@@ -30,8 +30,6 @@ use Rattle.lk_law.specs.Families.{is_halting_row}
 use Rattle.lk_core.proofs.Walks.{LeadFits}
 use Rattle.lk_core.proofs.RowsFit.{either, releasing}
 use Rattle.lk_core.proofs.ChoiceRowsFit.{lead_if}
-use Rattle.lk_machine.specs.declared.parts.Flag.TheVariants as flag
-use Rattle.lk_machine.specs.declared.parts.Why.TheVariants as why
 
 -- the rows of the paravirtual lock are rows of `lock` and of `unlock` in mode `pv`
 
@@ -96,7 +94,8 @@ module _ (R : NodeName → Type 0) where
     word_locks spins H1 x at =
         either Halting (is_unlocked x.locked && not x.pending) H2
         (if is_some x.tail && not x.pending then H1 else after_given_up f.me) refl
-        (either Halting (is_some x.tail && not x.pending) H1 (after_given_up f.me) refl (given_up f.me))
+        (either Halting (is_some x.tail && not x.pending) H1 (after_given_up f.me) refl
+        (given_up f.me))
     word_locks spins H2 x at =
         lead_if Locks (is_unlocked x.locked) _ _ refl
         (either Halting f.tailed H1 (after_given_up f.me) refl (given_up f.me))
@@ -151,7 +150,9 @@ module _ (R : NodeName → Type 0) where
 
     flag_unlocks : (c : Pc) (x : Flag) → (c ≡ U2) ⊎ (c ≡ U3) ⊎ (c ≡ U4)
         → Unlocks (pv_flag_row c f x).leads
-    flag_unlocks c x at = releasing (λ (d : Pc). Unlocks (pv_flag_row d f x).leads) (inl refl) (inr (inl refl)) (inr (inr refl)) c at
+    flag_unlocks c x at =
+        releasing (λ (d : Pc). Unlocks (pv_flag_row d f x).leads) (inl refl) (inr (inl refl))
+        (inr (inr refl)) c at
 
     flag_off : (c : Pc) (x : Flag) → may_halt c ≡ false → (pv_flag_row c f x).leads ≡ Goes c []
     flag_off W1 x h = cc
@@ -161,7 +162,9 @@ module _ (R : NodeName → Type 0) where
 
     pub pv_flag_fits : (x : Flag) (mode : Mode) (v : Verb) (c : Pc) → BelongsTo mode v c
         → LeadFits R mode v (pv_flag_row c f x).leads
-    pv_flag_fits x mode v c at = halting_fits mode v c (pv_flag_row c f x).leads at (flag_off c x) (flag_locks c x) (flag_unlocks c x)
+    pv_flag_fits x mode v c at =
+        halting_fits mode v c (pv_flag_row c f x).leads at (flag_off c x) (flag_locks c x)
+        (flag_unlocks c x)
 
     found_locks : (o : Option NodeName) → Locks (pv_after_next o).leads
     found_locks None = refl
@@ -173,7 +176,9 @@ module _ (R : NodeName → Type 0) where
 
     link_unlocks : (c : Pc) (x : Option NodeName) → (c ≡ U2) ⊎ (c ≡ U3) ⊎ (c ≡ U4)
         → Unlocks (pv_next_row c f x).leads
-    link_unlocks c x at = releasing (λ (d : Pc). Unlocks (pv_next_row d f x).leads) (inl refl) (inr (inl refl)) (inr (inr refl)) c at
+    link_unlocks c x at =
+        releasing (λ (d : Pc). Unlocks (pv_next_row d f x).leads) (inl refl) (inr (inl refl))
+        (inr (inr refl)) c at
 
     link_off : (c : Pc) (x : Option NodeName) → may_halt c ≡ false
         → (pv_next_row c f x).leads ≡ Goes c []
@@ -182,10 +187,13 @@ module _ (R : NodeName → Type 0) where
 
     pub pv_next_fits : (x : Option NodeName) (mode : Mode) (v : Verb) (c : Pc) → BelongsTo mode v c
         → LeadFits R mode v (pv_next_row c f x).leads
-    pv_next_fits x mode v c at = halting_fits mode v c (pv_next_row c f x).leads at (link_off c x) (link_locks c x) (link_unlocks c x)
+    pv_next_fits x mode v c at =
+        halting_fits mode v c (pv_next_row c f x).leads at (link_off c x) (link_locks c x)
+        (link_unlocks c x)
 
     state_locks : (spins : ℕ) (c : Pc) (x : State) → Halting c → Locks (state_row spins c f x).leads
-    state_locks spins W2 x at = lead_if Locks (is_running x) _ _ (lead_if Locks (f.left - 1 == 0) _ _ refl refl) refl
+    state_locks spins W2 x at =
+        lead_if Locks (is_running x) _ _ (lead_if Locks (f.left - 1 == 0) _ _ refl refl) refl
     state_locks spins W3 x at = refl
     state_locks spins W5 x at = either Halting (is_halted x) W6 W7 refl refl
     state_locks spins W7 x at = lead_if Locks (is_halted x) _ _ refl refl
@@ -228,7 +236,9 @@ module _ (R : NodeName → Type 0) where
 
     hash_unlocks : (c : Pc) (x : Option NodeName) → (c ≡ U2) ⊎ (c ≡ U3) ⊎ (c ≡ U4)
         → Unlocks (hash_row c f x).leads
-    hash_unlocks c x at = releasing (λ (d : Pc). Unlocks (hash_row d f x).leads) (inl refl) (inr (inr refl)) (inr (inr refl)) c at
+    hash_unlocks c x at =
+        releasing (λ (d : Pc). Unlocks (hash_row d f x).leads) (inl refl) (inr (inr refl))
+        (inr (inr refl)) c at
 
     hash_off : (c : Pc) (x : Option NodeName) → may_halt c ≡ false
         → (hash_row c f x).leads ≡ Goes c []
@@ -240,7 +250,9 @@ module _ (R : NodeName → Type 0) where
 
     pub hash_fits : (x : Option NodeName) (mode : Mode) (v : Verb) (c : Pc) → BelongsTo mode v c
         → LeadFits R mode v (hash_row c f x).leads
-    hash_fits x mode v c at = halting_fits mode v c (hash_row c f x).leads at (hash_off c x) (hash_locks c x) (hash_unlocks c x)
+    hash_fits x mode v c at =
+        halting_fits mode v c (hash_row c f x).leads at (hash_off c x) (hash_locks c x)
+        (hash_unlocks c x)
 
     halt_stays : (c : Pc) (x : Bool) → (halt_row c f x).leads ≡ Goes c []
     halt_stays W6 x = refl

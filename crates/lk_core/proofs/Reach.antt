@@ -50,7 +50,7 @@ use Rattle.lk_law.specs.Sound.{world, ShowsAll}
 use Rattle.lk_law.specs.SoundWorld.{spin_part}
 use Rattle.lk_law.proofs.common.Sames.{same_lock-self}
 use Rattle.lk_law.proofs.common.Users.{some_is, is_node-own}
-use Rattle.lk_core.proofs.Lists.{first_place}
+use Rattle.lk_core.proofs.Lists.{first_found}
 use Rattle.lk_core.proofs.Access.{frame_within}
 use Rattle.lk_machine.specs.declared.parts.Flag.TheVariants as flag
 
@@ -69,7 +69,7 @@ used : (m : Machine) (v : Waiter) (g : Frame) (k : NodeName) → frame_at m v �
     → is_node g.me k ≡ true → k.cpu ≡ v.cpu → Uses (world m) (waiter_of m k) k
 unfolding waiter_of frame_at
 used m v g k at mine cpu =
-    first_place (λ (f : Frame). is_node f.me k) (cpu_at m k.cpu).frames v.ctx g
+    first_found (λ (f : Frame). is_node f.me k) (cpu_at m k.cpu).frames v.ctx g
     (subst (λ (q : ℕ). slice_get (cpu_at m q).frames v.ctx ≡ Some g) (sym cpu) at) mine
 
 module _ (m : Machine) (hs : LockName → LockHistory) (shows : ShowsAll m hs) where
@@ -85,7 +85,8 @@ module _ (m : Machine) (hs : LockName → LockHistory) (shows : ShowsAll m hs) w
       let placed = shows.world.spins.agrees.nodes.placed l u noded in
       let below = shows.world.spins.agrees.nodes.below l u noded in
       let there = phase_frame l (frame_at m u) noded in
-      subst (λ (k : NodeName). HasNode m k) (sym placed) (record { cpu = frame_within m u there.0 there.1; index = below })
+      subst (λ (k : NodeName). HasNode m k) (sym placed)
+      (record { cpu = frame_within m u there.0 there.1; index = below })
 
   -- a waiter's own node is used
   own_used : (l : LockName) (v : Waiter) → has_node (phase l v) ≡ true
@@ -96,7 +97,8 @@ module _ (m : Machine) (hs : LockName → LockHistory) (shows : ShowsAll m hs) w
       let is : own v ≡ node_of g.me = ap own_in there.1 in
       let has = (shows.world.spins.registers v g there.1).me (ap has_node there.2 ∙ noded) in
       let mine : is_node g.me (own v) ≡ true = ap (is_node g.me) is ∙ is_node-own g.me has in
-      used m v g (own v) there.1 mine (ap (λ (k : NodeName). k.cpu) (shows.world.spins.agrees.nodes.placed l v noded))
+      used m v g (own v) there.1 mine
+      (ap (λ (k : NodeName). k.cpu) (shows.world.spins.agrees.nodes.placed l v noded))
 
   module _ (w : Waiter) (f : Frame) (live : frame_at m w ≡ Some f) where
     phase_here : phase f.lock w ≡ phase_of f
@@ -104,26 +106,32 @@ module _ (m : Machine) (hs : LockName → LockHistory) (shows : ShowsAll m hs) w
 
     pub phase_there : (c : Pc) → f.place ≡ Some c
         → phase f.lock w ≡ phase_if (Some c) (is_some f.me) (node_of f.prev) (node_of f.y)
-    phase_there c at = phase_here ∙ ap (λ (x : Option Pc). phase_if x (is_some f.me) (node_of f.prev) (node_of f.y)) at
+    phase_there c at = phase_here
+        ∙ ap (λ (x : Option Pc). phase_if x (is_some f.me) (node_of f.prev) (node_of f.y)) at
 
     -- the node before it, to which it links its own
     pub prev_within : f.place ≡ Some G5 → HasNode m (node_of f.prev)
     prev_within at =
-        let met = lists_met (shows.world.spins.agrees.locks f.lock).lists w (node_of f.prev) (phase_there G5 at) in
+        let met =
+        lists_met (shows.world.spins.agrees.locks f.lock).lists w (node_of f.prev)
+        (phase_there G5 at) in
         subst (λ (k : NodeName). HasNode m k) (sym met.owned) (own_within f.lock met.by met.noded)
 
     hands_to : f.place ≡ Some G11
         → (v : Waiter) × (has_node (phase f.lock v) ≡ true) × (own v ≡ node_of f.y)
     hands_to at =
         let alone = (shows.world.spins.registers w f live).choice.plainly G11 at refl in
-        let h = ((shows.world.spins.agrees.locks f.lock).lists.flat alone).queue.hand w (node_of f.y) (phase_there G11 at) in
+        let h =
+        ((shows.world.spins.agrees.locks f.lock).lists.flat alone).queue.links.hand w (node_of f.y)
+        (phase_there G11 at) in
         (h.0, ap has_node h.2, h.3)
 
     -- the node on which a row of the choice operates
     choice_within : (c : Pc) → f.place ≡ Some c → chooses c ≡ true
         → HasNode m (node_of (choice_node c f))
     choice_within c at on =
-        let u = choice_is_used (world m) (spin_part (world m).kind hs) w f c shows.world.spins live at on in
+        let u =
+        choice_is_used (world m) (spin_part (world m).kind hs) w f c shows.world.spins live at on in
         let there = frame_within m u.0 u.1.0 u.1.1 in
         let own = u.2 in
         record { cpu = subst (λ (i : ℕ). i < length m.cpus) (sym own.cpu) there; index = own.index }
@@ -131,16 +139,20 @@ module _ (m : Machine) (hs : LockName → LockHistory) (shows : ShowsAll m hs) w
     -- the waiter to which a front that has chosen hands the lead is found
     pub chosen_used : f.place ≡ Some C8 → Uses (world m) (waiter_of m (node_of f.y)) (node_of f.y)
     chosen_used at =
-        let u = choice_is_used (world m) (spin_part (world m).kind hs) w f C8 shows.world.spins live at refl in
+        let u =
+        choice_is_used (world m) (spin_part (world m).kind hs) w f C8 shows.world.spins live at refl
+        in
         used m u.0 u.1.0 (node_of f.y) u.1.1 u.1.2 u.2.cpu
 
     -- the node of the next
     pub next_within : f.place ≡ Some G11 → HasNode m (node_of f.y)
-    next_within at = let h = hands_to at in subst (λ (k : NodeName). HasNode m k) h.2 (own_within f.lock h.0 h.1)
+    next_within at =
+        let h = hands_to at in subst (λ (k : NodeName). HasNode m k) h.2 (own_within f.lock h.0 h.1)
 
     -- the waiter of the next is found
     pub next_used : f.place ≡ Some G11 → Uses (world m) (waiter_of m (node_of f.y)) (node_of f.y)
-    next_used at = let h = hands_to at in subst (λ (k : NodeName). Uses (world m) (waiter_of m k) k) h.2 (own_used f.lock h.0 h.1)
+    next_used at = let h = hands_to at in
+        subst (λ (k : NodeName). Uses (world m) (waiter_of m k) k) h.2 (own_used f.lock h.0 h.1)
 
     -- the own node, where the phase has one
     pub own_here : (c : Pc) → f.place ≡ Some c
@@ -170,7 +182,9 @@ module _ (m : Machine) (hs : LockName → LockHistory) (shows : ShowsAll m hs) w
 
     pub pv_next_used : f.place ≡ Some E15 → Uses (world m) (waiter_of m (node_of f.y)) (node_of f.y)
     pv_next_used at =
-        let u = halting_next_is_used (world m) (spin_part (world m).kind hs) w f shows.world.spins live at in
+        let u =
+        halting_next_is_used (world m)
+        (spin_part (world m).kind hs) w f shows.world.spins live at in
         used m u.0 u.1.0 (node_of f.y) u.1.1 u.1.2 u.2.cpu
 
     -- the node after which a holder looks
@@ -184,12 +198,14 @@ module _ (m : Machine) (hs : LockName → LockHistory) (shows : ShowsAll m hs) w
         → entry_at m f.lock ≡ Some n → HasNode m n
     entry_within c at is n e =
         let on = (shows.world.spins.registers w f live).choice.halting c at (ap may_halt is) in
-        let u = entry_is_used (world m) (spin_part (world m).kind hs) f.lock n shows.world.spins on e in
+        let u =
+        entry_is_used (world m) (spin_part (world m).kind hs) f.lock n shows.world.spins on e in
         own_node u.0 n u.1 u.2
 
     -- the processor that is kicked
     pub kick_within : (q : ℕ) → target U5 f ≡ KickOf q → q < length m.cpus
-    kick_within q e = let is : (node_of f.target).cpu ≡ q = cc e in subst (λ (i : ℕ). i < length m.cpus) is (by f.target refl)
+    kick_within q e = let is : (node_of f.target).cpu ≡ q = cc e in
+        subst (λ (i : ℕ). i < length m.cpus) is (by f.target refl)
       where
         by : (o : Option NodeName) → f.target ≡ o → (node_of o).cpu < length m.cpus
         by None g = let there = frame_within m w f live in omega (arith, there)
@@ -242,23 +258,23 @@ to_of m (Passes n k) = waiter_of m n
 to_of m _ = record { cpu = 0; ctx = 0 }
 
 -- a row hands no lead on
-abbrev Stays : Tell → Type 0
-Stays (Passes n k) = ⊥
-Stays _ = Unit {0}
+abbrev StaysIn : Tell → Type 0
+StaysIn (Passes n k) = ⊥
+StaysIn _ = Unit {0}
 
-stays_if : {A : Type 0} (t : Bool) (a b : Effect A) → Stays a.tells → Stays b.tells
-    → Stays (if t then a else b).tells
+stays_if : {A : Type 0} (t : Bool) (a b : Effect A) → StaysIn a.tells → StaysIn b.tells
+    → StaysIn (if t then a else b).tells
 stays_if true a b x y = x
 stays_if false a b x y = y
 
-spin_stays : (mode : Mode) (c : Pc) (f : Frame) (x : Fields) → Stays (spin_row mode c f x).tells
+spin_stays : (mode : Mode) (c : Pc) (f : Frame) (x : Fields) → StaysIn (spin_row mode c f x).tells
 spin_stays mode F1 f x = elim (cases_Bool (is_free x)) [ inl e ↦ rw e tt | inr e ↦ rw e tt ]
 spin_stays mode T1 f x = elim (cases_Bool (is_free x)) [ inl e ↦ rw e tt | inr e ↦ rw e tt ]
 spin_stays mode T2 f x = elim (cases_Bool (is_free x)) [ inl e ↦ rw e tt | inr e ↦ rw e tt ]
 spin_stays mode V2 f x = elim (cases_Bool (is_free x)) [ inl e ↦ rw e tt | inr e ↦ rw e tt ]
 spin_stays mode _ f x = tt
 
-rw_stays : (mode : Mode) (c : Pc) (f : Frame) (x : RwFields) → Stays (rw_row mode c f x).tells
+rw_stays : (mode : Mode) (c : Pc) (f : Frame) (x : RwFields) → StaysIn (rw_row mode c f x).tells
 rw_stays mode R1 f x = elim (cases_Bool (is_open x)) [ inl e ↦ rw e tt | inr e ↦ rw e tt ]
 rw_stays mode R2 f x = elim (cases_Bool (x.writer)) [ inl e ↦ rw e tt | inr e ↦ rw e tt ]
 rw_stays mode R5 f x = elim (cases_Bool (x.writer)) [ inl e ↦ rw e tt | inr e ↦ rw e tt ]
@@ -271,79 +287,82 @@ rw_stays mode Y4 f x = elim (cases_Bool (is_empty x)) [ inl e ↦ rw e tt | inr 
 rw_stays mode Y5 f x = elim (cases_Bool (is_empty x)) [ inl e ↦ rw e tt | inr e ↦ rw e tt ]
 rw_stays mode _ f x = tt
 
-queue_stays : (mode : Mode) (c : Pc) (f : Frame) (x : Fields) → Stays (queue_row mode c f x).tells
+queue_stays : (mode : Mode) (c : Pc) (f : Frame) (x : Fields) → StaysIn (queue_row mode c f x).tells
 queue_stays mode G3 f x = elim (cases_Bool (is_free x)) [ inl e ↦ rw e tt | inr e ↦ rw e tt ]
 queue_stays mode G8 f x = elim (cases_Bool (is_sole f x)) [ inl e ↦ rw e tt | inr e ↦ rw e tt ]
 queue_stays mode N2 f x = elim (cases_Bool (is_free x)) [ inl e ↦ rw e tt | inr e ↦ rw e tt ]
 queue_stays mode _ f x = tt
 
 next_stays : (mode : Mode) (turns : ℕ) (c : Pc) (f : Frame) (x : Option NodeName)
-    → Stays (next_row mode turns c f x).tells
+    → StaysIn (next_row mode turns c f x).tells
 next_stays mode turns G10 f None = tt
 next_stays mode turns G10 f (Some n) = tt
 next_stays mode turns _ f x = tt
 
-flag_waits : (f : Frame) (x : Flag) → Stays (flag_row G6 f x).tells
+flag_waits : (f : Frame) (x : Flag) → StaysIn (flag_row G6 f x).tells
 flag_waits f flag.Unset = tt
 flag_waits f flag.Go = tt
 flag_waits f (flag.Second n) = tt
 
 search_stays : (s : Sight) (c : Pc) (f : Frame) (x : Option NodeName)
-    → Stays (search_row s c f x).tells
+    → StaysIn (search_row s c f x).tells
 search_stays s C1 f None = none_stays f.second
   where
-    none_stays : (o : Option NodeName) → Stays (after_none o).tells
+    none_stays : (o : Option NodeName) → StaysIn (after_none o).tells
     none_stays None = tt
     none_stays (Some n) = tt
-search_stays s C1 f (Some n) = stays_if (may_stay s) _ _ (stays_if (s.local n) _ _ tt tt) (stays_if (is_some f.second) _ _ tt tt)
+search_stays s C1 f (Some n) =
+    stays_if (may_stay s) _ _ (stays_if (s.local n) _ _ tt tt)
+    (stays_if (is_some f.second) _ _ tt tt)
 search_stays s C2 f None = stays_if (is_some f.second) _ _ tt tt
 search_stays s C2 f (Some n) = stays_if (s.local n) _ _ (stays_if (is_some f.second) _ _ tt tt) tt
 search_stays s _ f x = tt
 
-second_stays : (c : Pc) (f : Frame) (x : Option NodeName) → Stays (second_row c f x).tells
+second_stays : (c : Pc) (f : Frame) (x : Option NodeName) → StaysIn (second_row c f x).tells
 second_stays C3 f x = tt
 second_stays _ f x = tt
 
-runs_stays : (s : Sight) (c : Pc) (f : Frame) (x : ℕ) → Stays (runs_row s c f x).tells
+runs_stays : (s : Sight) (c : Pc) (f : Frame) (x : ℕ) → StaysIn (runs_row s c f x).tells
 runs_stays s C7 f x = tt
 runs_stays s _ f x = tt
 
-promotion_stays : (c : Pc) (f : Frame) (x : Fields) → Stays (promotion_row c f x).tells
+promotion_stays : (c : Pc) (f : Frame) (x : Fields) → StaysIn (promotion_row c f x).tells
 promotion_stays C10 f x = stays_if (is_last f x) _ _ tt tt
 promotion_stays _ f x = tt
 
-pv_stays : (spins : ℕ) (c : Pc) (f : Frame) (x : Fields) → Stays (pv_row spins c f x).tells
+pv_stays : (spins : ℕ) (c : Pc) (f : Frame) (x : Fields) → StaysIn (pv_row spins c f x).tells
 pv_stays spins H2 f x = stays_if (is_unlocked x.locked) _ _ tt tt
-pv_stays spins E4 f x = stays_if (is_unlocked x.locked && x.pending) _ _ tt (stays_if (f.left - 1 == 0) _ _ tt tt)
+pv_stays spins E4 f x =
+    stays_if (is_unlocked x.locked && x.pending) _ _ tt (stays_if (f.left - 1 == 0) _ _ tt tt)
 pv_stays spins E7 f x = stays_if (is_unlocked x.locked) _ _ tt tt
 pv_stays spins E13 f x = stays_if (is_last f x) _ _ tt tt
 pv_stays spins U2 f x = stays_if (is_held x.locked) _ _ tt tt
 pv_stays spins _ f x = tt
 
-pv_next_stays : (c : Pc) (f : Frame) (x : Option NodeName) → Stays (pv_next_row c f x).tells
+pv_next_stays : (c : Pc) (f : Frame) (x : Option NodeName) → StaysIn (pv_next_row c f x).tells
 pv_next_stays E14 f None = tt
 pv_next_stays E14 f (Some n) = tt
 pv_next_stays _ f x = tt
 
-state_stays : (spins : ℕ) (c : Pc) (f : Frame) (x : State) → Stays (state_row spins c f x).tells
+state_stays : (spins : ℕ) (c : Pc) (f : Frame) (x : State) → StaysIn (state_row spins c f x).tells
 state_stays spins W2 f x = stays_if (is_running x) _ _ (stays_if (f.left - 1 == 0) _ _ tt tt) tt
 state_stays spins W7 f x = stays_if (is_halted x) _ _ tt tt
 state_stays spins K1 f x = stays_if (is_halted x) _ _ tt tt
 state_stays spins _ f x = tt
 
-hash_stays : (c : Pc) (f : Frame) (x : Option NodeName) → Stays (hash_row c f x).tells
+hash_stays : (c : Pc) (f : Frame) (x : Option NodeName) → StaysIn (hash_row c f x).tells
 hash_stays E6 f x = tt
 hash_stays _ f x = tt
 
-halt_stays : (c : Pc) (f : Frame) (x : Bool) → Stays (halt_row c f x).tells
+halt_stays : (c : Pc) (f : Frame) (x : Bool) → StaysIn (halt_row c f x).tells
 halt_stays W6 f x = tt
 halt_stays _ f x = tt
 
-kick_stays : (c : Pc) (f : Frame) (x : Bool) → Stays (kick_row c f x).tells
+kick_stays : (c : Pc) (f : Frame) (x : Bool) → StaysIn (kick_row c f x).tells
 kick_stays U5 f x = tt
 kick_stays _ f x = tt
 
-stays_goes : (m : Machine) (t : Tell) → Stays t → GoesTo (world m) (to_of m t) t
+stays_goes : (m : Machine) (t : Tell) → StaysIn t → GoesTo (world m) (to_of m t) t
 stays_goes m Nothing s = tt
 stays_goes m (Says what) s = tt
 stays_goes m (Passes n k) s = absurd s
@@ -357,7 +376,8 @@ goes_to m hs shows w f c live at = by_target (target c f) refl
     flags : (c : Pc) (k : NodeName) → f.place ≡ Some c → target c f ≡ FlagOf k
         → GoesTo (world m) (to_of m (flag_row c f (node_at m k).flag).tells)
         (flag_row c f (node_at m k).flag).tells
-    flags G6 k at e = stays_goes m (flag_row G6 f (node_at m k).flag).tells (flag_waits f (node_at m k).flag)
+    flags G6 k at e =
+        stays_goes m (flag_row G6 f (node_at m k).flag).tells (flag_waits f (node_at m k).flag)
     flags G11 k at e = next_used m hs shows w f live at
     flags _ k at e = tt
 
@@ -401,9 +421,13 @@ goes_to m hs shows w f c live at = by_target (target c f) refl
     by_target PvWord e = let o = pv_row m.setup.spins c f (word_at m f.lock) in
         stays_goes m o.tells (pv_stays m.setup.spins c f (word_at m f.lock))
     by_target (PvFlag k) e = passes c k at e
-    by_target (PvNext k) e = let o = pv_next_row c f (node_at m k).next in stays_goes m o.tells (pv_next_stays c f (node_at m k).next)
+    by_target (PvNext k) e = let o = pv_next_row c f (node_at m k).next in
+        stays_goes m o.tells (pv_next_stays c f (node_at m k).next)
     by_target (StateOf k) e = let o = state_row m.setup.spins c f (node_at m k).state in
         stays_goes m o.tells (state_stays m.setup.spins c f (node_at m k).state)
-    by_target HashEntry e = let o = hash_row c f (entry_at m f.lock) in stays_goes m o.tells (hash_stays c f (entry_at m f.lock))
-    by_target Halted e = let o = halt_row c f (halted_at m w.cpu) in stays_goes m o.tells (halt_stays c f (halted_at m w.cpu))
-    by_target (KickOf q) e = let o = kick_row c f (kicked_at m q) in stays_goes m o.tells (kick_stays c f (kicked_at m q))
+    by_target HashEntry e = let o = hash_row c f (entry_at m f.lock) in
+        stays_goes m o.tells (hash_stays c f (entry_at m f.lock))
+    by_target Halted e = let o = halt_row c f (halted_at m w.cpu) in
+        stays_goes m o.tells (halt_stays c f (halted_at m w.cpu))
+    by_target (KickOf q) e = let o = kick_row c f (kicked_at m q) in
+        stays_goes m o.tells (kick_stays c f (kicked_at m q))

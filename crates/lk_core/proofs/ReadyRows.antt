@@ -47,7 +47,8 @@ before_le slow p (suc n) = by (slow (record { cpu = p; ctx = n })) (before_le sl
     by true r = omega arith
     by false r = omega arith
 
-module _ (m : Machine) (hs : LockName → LockHistory) (shows : ShowsAll m hs) (p : ℕ) (range : p < length m.cpus) where
+module _ (m : Machine) (hs : LockName → LockHistory) (shows : ShowsAll m hs) (p : ℕ)
+    (range : p < length m.cpus) where
   pub has_programs : HasPrograms m.setup p
   has_programs =
       let s = shows.whole.setup in
@@ -76,13 +77,16 @@ module _ (m : Machine) (hs : LockName → LockHistory) (shows : ShowsAll m hs) (
       }
 
   few_queued : queued_at m p ≤ 6
-  few_queued = let e = shows.world.spins.agrees.nodes.counted p in let l = before_le (λ u. slow_in (frame_at m u)) p 6 in omega arith
+  few_queued = let e = shows.world.spins.agrees.nodes.counted p in
+      let l = before_le (λ u. slow_in (frame_at m u)) p 6 in omega arith
 
   pub ready_at : (c : Pc) → (top_frame m p).place ≡ Some c → CountsWithin (2 ^ 64 - 2) m.counts
       → IsReady m p
   ready_at c at counts =
       let w = fit.working c at in
-      let d = (shows.whole.setup.lawful p (top_frame m p).program).declared (top_frame m p).«at» w.op w.is in
+      let d =
+      (shows.whole.setup.lawful p (top_frame m p).program).declared
+      (top_frame m p).«at» w.op w.is in
       let r = slice_get_within m.setup.locks.items w.op.lock (kind_of w.op.verb) d in
       let i = w.lock in
       let n = shows.whole.locks in
@@ -90,7 +94,8 @@ module _ (m : Machine) (hs : LockName → LockHistory) (shows : ShowsAll m hs) (
         moves = can_move;
         lock = omega arith;
         queued = few_queued;
-        reaches = λ x e. target_within m hs shows (top_of m p) (top_frame m p) (top_live m p hs shows range) x e;
+        reaches = λ x e.
+            target_within m hs shows (top_of m p) (top_frame m p) (top_live m p hs shows range) x e;
         counts = counts;
       }
 
@@ -131,14 +136,20 @@ module _ (m : Machine) (hs : LockName → LockHistory) (shows : ShowsAll m hs) (
       let live = top_live m p hs shows range in
       record {
         ready = ready_at c at counts;
-        own = own_here m hs shows (top_of m p) f live c at (cna_noded c (node_of f.prev) (node_of f.y) (is_some f.me) on);
+        own =
+            own_here m hs shows (top_of m p) f live c at
+            (cna_noded c (node_of f.prev) (node_of f.y) (is_some f.me) on);
         few = λ q.
-            let u = skipped_is_queued (world m) (spin_part (world m).kind hs) (top_of m p) f shows.world.spins live q in
+            let u =
+            skipped_is_queued (world m) (spin_part (world m).kind hs)
+            (top_of m p) f shows.world.spins live q in
             let low = slice_get_within (spins_of f.lock).main f.k u.0 u.1 in
             let most = queue_few f.lock in
             omega (arith, low, most);
         short = λ q named.
-            let run = run_is_short (world m) (spin_part (world m).kind hs) (top_of m p) f shows.world.spins live q named in
+            let run =
+            run_is_short (world m) (spin_part (world m).kind hs)
+            (top_of m p) f shows.world.spins live q named in
             let most = shows.whole.setup.threshold in
             omega (arith, run, most);
       }
@@ -210,16 +221,23 @@ module _ (m : Machine) (hs : LockName → LockHistory) (shows : ShowsAll m hs) (
     absent e = elim (enters_at f.place e) [ inl at ↦ met E6 at | inr at ↦ (met K3 at).1 ]
 
     present : leaves_hash f.place ≡ true → is_some (entry_at m f.lock) ≡ true
-    present e = elim (leaves_at f.place e) [ inl at ↦ ap is_some (met E9 at).1 | inr at ↦ (met U3 at).1 ]
+    present e =
+        elim (leaves_at f.place e) [ inl at ↦ ap is_some (met E9 at).1 | inr at ↦ (met U3 at).1 ]
 
     room : enters_hash f.place ≡ true → length m.hash < 4 * length m.cpus
     room e = elim (enters_at f.place e) [
       | inl at ↦
           let own = own_here m hs shows w f live E6 at refl in
-          let placed = shows.world.spins.agrees.nodes.placed f.lock w (ap has_node (phase_there m hs shows w f live E6 at)) in
+          let placed =
+          shows.world.spins.agrees.nodes.placed f.lock w
+          (ap has_node (phase_there m hs shows w f live E6 at)) in
           let is : node_of f.me ≡ own_in (frame_at m w) = sym (ap own_in live) in
-          hash_room m hs shows on f.lock (node_of f.me) w f live (f, live, is_node-own f.me (own_named at))
-          (record { cpu = ap (λ (k : NodeName). k.cpu) is ∙ ap (λ (k : NodeName). k.cpu) placed; index = own.index }) refl (absent e)
+          hash_room m hs shows on f.lock (node_of f.me) w f live
+          (f, live, is_node-own f.me (own_named at))
+          (record {
+            cpu = ap (λ (k : NodeName). k.cpu) is ∙ ap (λ (k : NodeName). k.cpu) placed;
+            index = own.index;
+          }) refl (absent e)
       | inr at ↦
           let u = named_front_is_used (world m) spins_of w f K3 shows.world.spins live at refl in
           hash_room m hs shows on f.lock (node_of f.y) u.0 u.1.0 u.1.1 u.1 u.2

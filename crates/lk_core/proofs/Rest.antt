@@ -32,20 +32,20 @@ use Rattle.lk_law.specs.Phase.{has_lock, queues, pends, watches, has_node}
 use Rattle.lk_law.specs.Phase.Phase.{Idle}
 use Rattle.lk_law.specs.Stage.Stage.{Rests}
 use Rattle.lk_law.proofs.common.Worlds.{stage_calm, stage_on-rests}
-use Rattle.lk_law.specs.Pv.{Post, PostsAgree, sleeps, agrees as suits}
+use Rattle.lk_law.specs.Pv.{Post, PostsAgree, at_halt}
 use Rattle.lk_law.specs.Pv.Post.{Off}
 use Rattle.lk_law.specs.Kicked.{ShowsKicks}
 use Rattle.lk_law.proofs.common.RestWorld.{empty_world, none_told}
 use Rattle.lk_law.proofs.pv.HaltsShown.{empty_shows}
 use Rattle.lk_law.proofs.common.Choices.{quiet_choice, fit_placeless}
 use Rattle.lk_law.specs.Snapshot.{QueueAgrees, before, spins}
-use Rattle.lk_law.specs.Agree.{LockAgrees, Owed, state_of}
+use Rattle.lk_law.specs.Agree.{LockAgrees, Owed, node_state}
 use Rattle.lk_law.specs.Registers.{RegistersFit, is_quiet_row}
 use Rattle.lk_law.specs.SpinWorld.{IsSoundSpinWorld}
 use Rattle.lk_law.specs.Places.{post_of, post_on, phase_of, phase_on, stage_on, own_in, slow_in}
 use Rattle.lk_law.specs.Places.{snapshot}
 use Rattle.lk_law.specs.Families.{is_slow}
-use Rattle.lk_law.specs.Sound.{world, held_of, held_at, Stage, Fits, IsWhole, ShowsAll}
+use Rattle.lk_law.specs.Sound.{world, held_of, held_at, Footing, Fits, IsWhole, ShowsAll}
 use Rattle.lk_law.proofs.common.Cases.{lock_cases}
 use Rattle.lk_law.proofs.common.Puts.{same_lock-else}
 use Rattle.lk_law.specs.RwPhase.{is_counted}
@@ -57,7 +57,7 @@ use Rattle.lk_law.proofs.common.Lists.{get_past}
 use Rattle.lk_core.proofs.Kicks.{owed_in, asleep_in, kicks_same}
 use Rattle.lk_core.proofs.Settle.{first_stage, first_outer}
 use Rattle.lk_core.proofs.Walks.{IsOuter, outer_held}
-use Rattle.lk_core.proofs.RestPhases.{untouched, calm, IsCalm, IsQuiet, calm_posts, differ}
+use Rattle.lk_core.proofs.RestPhases.{untouched, calm, IsCalm, HasNoPart, calm_posts, differ}
 use Rattle.lk_core.proofs.RestPhases.{first_untouched, get_or-same, is_calm, length-rest_cpus}
 use Rattle.lk_core.proofs.RestPhases.{quiet, rest_cpus-at, suits_off}
 
@@ -235,7 +235,7 @@ module _ (setup : Setup) (ok : IsLawfulSetup setup) where
           by true z = refl
           by false z = ap (λ (i : ℕ). way_at (program_of m u.cpu d) i l.index) z
 
-  facts : (l : LockName) (u : Waiter) → IsQuiet (phase_on l (frame_at m u))
+  facts : (l : LockName) (u : Waiter) → HasNoPart (phase_on l (frame_at m u))
   facts l u = quiet (phase_on l (frame_at m u)) (phase_plain l u)
 
   spins_none : (l : LockName) (u : Waiter) → spins (held_of m u l) ≡ false
@@ -283,9 +283,9 @@ module _ (setup : Setup) (ok : IsLawfulSetup setup) where
               let s = snapshot (world m) in
               rw (w, entries l)
               (subst (λ (q : Waiter → Post).
-              PostsAgree Free None None q (state_of s) s.own (λ u. Owed s u.cpu))
+              PostsAgree Free None None q (node_state s) s.own (λ u. Owed s u.cpu))
               (λ i u. sym (posts_plain l u) i)
-              (calm_posts (state_of s) s.own (λ u. Owed s u.cpu)));
+              (calm_posts (node_state s) s.own (λ u. Owed s u.cpu)));
           suits = λ u. rw (posts_plain l u) (suits_off (phase_on l (frame_at m u)) (phase_plain l u));
         };
         lists = record {
@@ -310,18 +310,24 @@ module _ (setup : Setup) (ok : IsLawfulSetup setup) where
           (λ n. node_at m n) []
       nobody =
           record {
-            inside = λ i u h. absurd (none-some u h);
-            place = λ u h. differ (queues (phase_on l (frame_at m u))) (facts l u).queues h;
-            once = λ i j u h k. absurd (none-some u h);
-            no_tail = λ h. refl;
-            tail_is = λ i u h k. absurd (none-some u h);
-            first = λ u h. absurd (none-some u h);
-            behind = λ i u h. absurd (none-some u h);
-            linked = λ i u v h k r. absurd (none-some u h);
-            linking = λ i u v n h k r. absurd (none-some u h);
-            last = λ i u h k. absurd (none-some u h);
-            hand = λ u n h. differ (queues (phase_on l (frame_at m u))) (facts l u).queues (ap queues h);
-            fresh = λ u h. differ (has_node (phase_on l (frame_at m u))) (facts l u).noded (ap has_node h);
+            members = record {
+              inside = λ i u h. absurd (none-some u h);
+              place = λ u h. differ (queues (phase_on l (frame_at m u))) (facts l u).queues h;
+              once = λ i j u h k. absurd (none-some u h);
+            };
+            ends = record {
+              no_tail = λ h. refl;
+              tail_is = λ i u h k. absurd (none-some u h);
+              first = λ u h. absurd (none-some u h);
+              behind = λ i u h. absurd (none-some u h);
+            };
+            links = record {
+              linked = λ i u v h k r. absurd (none-some u h);
+              linking = λ i u v n h k r. absurd (none-some u h);
+              last = λ i u h k. absurd (none-some u h);
+              hand = λ u n h. differ (queues (phase_on l (frame_at m u))) (facts l u).queues (ap queues h);
+              fresh = λ u h. differ (has_node (phase_on l (frame_at m u))) (facts l u).noded (ap has_node h);
+            };
           }
 
   none_before : (p c : ℕ) → before (λ u. slow_in (frame_at m u)) p c ≡ 0
@@ -455,7 +461,7 @@ module _ (setup : Setup) (ok : IsLawfulSetup setup) where
         working = λ c q.
             let g : Frame = first_frame setup.mode (Some o) in
             let at : first_place setup.mode o.verb ≡ c = same_Some (first_place setup.mode o.verb) c q in
-            record { op = o; is = e; lock = refl; stage = subst (λ (x : Pc). Stage setup.mode o.verb g x) at (first_stage setup.mode o.verb g refl); after = λ q. cc };
+            record { op = o; is = e; lock = refl; stage = subst (λ (x : Pc). Footing setup.mode o.verb g x) at (first_stage setup.mode o.verb g refl); after = λ q. cc };
         prev = λ n q. absurd (none-some n q);
         target = λ n q. absurd (none-some n q);
       }
@@ -483,7 +489,7 @@ module _ (setup : Setup) (ok : IsLawfulSetup setup) where
     where
       awake : (o : Option Frame) → (u : Waiter) → frame_at m u ≡ o → asleep_in o ≡ false
       awake None u e = refl
-      awake (Some d) u e = ap sleeps (of_tasks IsFirst firsts u d e).post
+      awake (Some d) u e = ap at_halt (of_tasks IsFirst firsts u d e).post
 
       owes : (o : Option Frame) → (u : Waiter) → frame_at m u ≡ o → owed_in o ≡ None
       owes None u e = refl

@@ -1,5 +1,5 @@
 -- Phases that have touched nothing have no part in any agreement.
-use Rattle.std.proofs.Common.{◌≡◌, ◌≢◌, ℕ, zero, suc, Some, None, Bool, true, false, [], arith, ap}
+use Rattle.std.proofs.Common.{◌≡◌, ◌≢◌, ℕ, zero, suc, Some, None, Bool, true, false, arith, ap}
 use Rattle.std.proofs.Common.{◌<◌, ◌+◌, refl, ◌∙◌, length, get_or, replicate}
 use Rattle.lk_abs.specs.declared.names.Mode.{Mode}
 use Rattle.lk_abs.specs.declared.names.Waiter.{Waiter}
@@ -39,7 +39,8 @@ pub rest_cpus-at : (setup : Setup) (q n i : ℕ) → i < n
     → get_or (rest_cpus setup q n) i no_cpu ≡ rest_cpu setup (q + i)
 rest_cpus-at setup q zero i h = absurd (omega arith)
 rest_cpus-at setup q (suc n) zero h = ap (rest_cpu setup) (omega arith)
-rest_cpus-at setup q (suc n) (suc i) h = rest_cpus-at setup (suc q) n i (omega arith) ∙ ap (rest_cpu setup) (omega arith)
+rest_cpus-at setup q (suc n) (suc i) h =
+    rest_cpus-at setup (suc q) n i (omega arith) ∙ ap (rest_cpu setup) (omega arith)
 
 -- the phase has touched nothing of the lock
 abbrev pub untouched : Phase → Bool
@@ -48,7 +49,7 @@ untouched Seeks = true
 untouched _ = false
 
 -- a phase that has touched nothing has no part in any agreement
-pub record IsQuiet (r : Phase) : Type 0 where
+pub record HasNoPart (r : Phase) : Type 0 where
   pub has : has_lock r false ≡ false
   pub queues : queues r ≡ false
   pub pends : pends r ≡ false
@@ -56,9 +57,11 @@ pub record IsQuiet (r : Phase) : Type 0 where
   pub watches : watches r ≡ false
   pub noded : has_node r ≡ false
 
-pub quiet : (r : Phase) → untouched r ≡ true → IsQuiet r
-quiet Idle h = record { has = refl; queues = refl; pends = refl; claims = refl; watches = refl; noded = refl }
-quiet Seeks h = record { has = refl; queues = refl; pends = refl; claims = refl; watches = refl; noded = refl }
+pub quiet : (r : Phase) → untouched r ≡ true → HasNoPart r
+quiet Idle h =
+    record { has = refl; queues = refl; pends = refl; claims = refl; watches = refl; noded = refl }
+quiet Seeks h =
+    record { has = refl; queues = refl; pends = refl; claims = refl; watches = refl; noded = refl }
 quiet _ h = cc
 
 -- the phase has touched nothing of a reader-writer lock
@@ -76,8 +79,20 @@ pub record IsCalm (r : RwPhase) : Type 0 where
   pub unwrite : r ≢ Unwrites
 
 pub calm : (r : RwPhase) → is_calm r ≡ true → IsCalm r
-calm Away h = record { counted = refl; inner = refl; silent = λ e. grind arith; unread = λ e. grind arith; unwrite = λ e. grind arith }
-calm Asks h = record { counted = refl; inner = refl; silent = λ e. grind arith; unread = λ e. grind arith; unwrite = λ e. grind arith }
+calm Away h = record {
+  counted = refl;
+  inner = refl;
+  silent = λ e. grind arith;
+  unread = λ e. grind arith;
+  unwrite = λ e. grind arith;
+}
+calm Asks h = record {
+  counted = refl;
+  inner = refl;
+  silent = λ e. grind arith;
+  unread = λ e. grind arith;
+  unwrite = λ e. grind arith;
+}
 calm _ h = cc
 
 -- where nothing is held the first row of an operation touches nothing

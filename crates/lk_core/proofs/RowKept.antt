@@ -1,5 +1,5 @@
 -- The row of a top frame: the machine shows the histories told on by its event, which is allowed.
-use Rattle.std.proofs.Common.{◌≡◌, Bool, ℕ, Option, Some, None, true, false, List, [], arith, ap}
+use Rattle.std.proofs.Common.{◌≡◌, Bool, ℕ, Option, Some, None, true, false, List, arith, ap}
 use Rattle.std.proofs.Common.{◌<◌, ◌-◌, refl, sym, ◌∙◌, subst, length}
 use Rattle.std.proofs.lemmas.Option.{slice_get_within}
 use Rattle.lk_abs.specs.History.{LockHistory}
@@ -42,18 +42,18 @@ use Rattle.lk_law.specs.Steps.{lead_on, stores_word, stores_flag, stores_next, s
 use Rattle.lk_law.specs.Steps.{stores_runs, stores_state, stores_entry, stores_halted}
 use Rattle.lk_law.specs.Steps.{stores_kicked, stores_queued, row_in, row_in_at, told_event, told_on}
 use Rattle.lk_law.specs.Steps.{put_held, put_frame, led, stores_rw, way_told}
-use Rattle.lk_law.specs.Allowed.{IsAllowedIfAny}
+use Rattle.lk_law.specs.Allowed.{MayFollowIfAny}
 use Rattle.lk_law.specs.Premises.{IsNewest}
 use Rattle.lk_law.specs.Sound.{world, rules_of, owes_kick, BelongsTo, Works, Fits, ShowsAll}
 use Rattle.lk_law.specs.Sound.{held_of}
 use Rattle.lk_law.proofs.common.EveryRow.{every_row_keeps}
 use Rattle.lk_law.proofs.pv.KicksShown.{every_row_shows}
-use Rattle.lk_law.specs.Kicked.{ShowsKicks, and_then}
+use Rattle.lk_law.specs.Kicked.{ShowsKicks, with_event}
 use Rattle.lk_core.proofs.Kicks.{SameKicks, kicks_same, kicks_then, kicks_moved, kicks_led}
 use Rattle.lk_core.proofs.Kicks.{kicks_put_held}
 use Rattle.lk_core.proofs.Access.{top_frame-is}
 use Rattle.lk_core.proofs.Lists.{within_end}
-use Rattle.lk_core.proofs.Same.{Same, top_same}
+use Rattle.lk_core.proofs.Same.{KeepsFrames, top_same}
 use Rattle.lk_core.proofs.Walks.{LeadFits, LeadIn}
 use Rattle.lk_core.proofs.RowsFit.{spin_fits, queue_fits, entry_fits, flag_fits, next_fits}
 use Rattle.lk_core.proofs.ChoiceRowsFit.{search_fits, second_fits, runs_fits, handover_fits}
@@ -71,13 +71,14 @@ use Rattle.lk_core.proofs.Stores.{entry_stored, halted_stored, kicked_stored}
 use Rattle.lk_core.proofs.Reach.{to_of, goes_to, node_within, tail_within, entry_within}
 use Rattle.lk_core.proofs.Reach.{kick_within}
 use Rattle.lk_core.proofs.RwMoved.{RwLead, rw_leads, rw_stored, rw_moved_shows, own_not_owing}
-use Rattle.lk_core.proofs.RowParts.{Acting, Kept, entry_is, is_kick_target, kick_target}
+use Rattle.lk_core.proofs.RowParts.{StandsOnTop, StillShows, entry_is, is_kick_target, kick_target}
 use Rattle.lk_core.proofs.RowParts.{lead_fits_same, lead_in_same, not_owing, owing_target, rw_apart}
 use Rattle.lk_core.proofs.RowParts.{spin_row_of, stores_held, target_spin}
-use Rattle.lk_core.proofs.Stands.Stands.{Acts, Owes, Shares}
-use Rattle.lk_core.proofs.Stands.{Stands, stands, top_newest}
+use Rattle.lk_core.proofs.Stands.Stance.{Acts, Owes, Shares}
+use Rattle.lk_core.proofs.Stands.{Stance, stands, top_newest}
 
-module _ (m : Machine) (p : ℕ) (f : Frame) (c : Pc) (hs : LockName → LockHistory) (a : Acting m p f c hs) where
+module _ (m : Machine) (p : ℕ) (f : Frame) (c : Pc) (hs : LockName → LockHistory)
+    (a : StandsOnTop m p f c hs) where
   abbrev w : Waiter
   w = top_of m p
 
@@ -88,7 +89,13 @@ module _ (m : Machine) (p : ℕ) (f : Frame) (c : Pc) (hs : LockName → LockHis
   works = fit.working c a.place
 
   abbrev ready : Ready m p f c
-  ready = record { whole = a.shows.whole; range = a.range; fits = a.shows.fits; live = a.live; works = works }
+  ready = record {
+    whole = a.shows.whole;
+    range = a.range;
+    fits = a.shows.fits;
+    live = a.live;
+    works = works;
+  }
 
   -- the lock is declared
   lock_within : f.lock.index < length m.locks
@@ -101,7 +108,8 @@ module _ (m : Machine) (p : ℕ) (f : Frame) (c : Pc) (hs : LockName → LockHis
 
   event_is : (t : Tell) → event_of m p f t ≡ told_event w f.lock (to_of m t) t
   event_is Nothing = refl
-  event_is (Says what) = ap (λ (i : ℕ). Some (record { by = record { cpu = p; ctx = i }; what = what })) fit.ctx
+  event_is (Says what) =
+      ap (λ (i : ℕ). Some (record { by = record { cpu = p; ctx = i }; what = what })) fit.ctx
   event_is (Passes n k) =
       ap (λ (i : ℕ).
       Some (record { by = record { cpu = p; ctx = i }; what = Pass f.lock (waiter_of m n) k }))
@@ -111,34 +119,37 @@ module _ (m : Machine) (p : ℕ) (f : Frame) (c : Pc) (hs : LockName → LockHis
   abbrev Law : World → Tell → Type 0
   Law x t =
       IsSoundWorld x (told_on hs (told_event w f.lock (to_of m t) t))
-      × IsAllowedIfAny (rules_of m.setup) hs (told_event w f.lock (to_of m t) t)
-      × ((es : List Event) → ShowsKicks (world m) es → ShowsKicks x (and_then es (told_event w f.lock (to_of m t) t)))
+      × MayFollowIfAny (rules_of m.setup) hs (told_event w f.lock (to_of m t) t)
+      × ((es : List Event) → ShowsKicks (world m) es
+      → ShowsKicks x (with_event es (told_event w f.lock (to_of m t) t)))
 
   -- where the world after a row shows halts and kicks, the machine after it does
   kicks_by : (n : Machine) (x y : World) (lead : Lead) (t : Tell) → Stored m n x
       → SameKicks y (put_frame x w (Some (led f lead)))
       → ((es : List Event) → ShowsKicks (world m) es
-      → ShowsKicks y (and_then es (told_event w f.lock (to_of m t) t)))
+      → ShowsKicks y (with_event es (told_event w f.lock (to_of m t) t)))
       → (es : List Event) → ShowsKicks (world m) es
-      → ShowsKicks (world (moved n p f lead)) (and_then es (event_of m p f t))
+      → ShowsKicks (world (moved n p f lead)) (with_event es (event_of m p f t))
   kicks_by n x y lead t s same law es shown =
       let r = ready_same m n p f c ready s.same s.frames in
       let ev = told_event w f.lock (to_of m t) t in
-      let Q : World → Waiter → Type 0 = λ z u. SameKicks (put_frame z u (Some (led f lead))) (world (moved n p f lead)) in
+      let Q : World → Waiter → Type 0 =
+      λ z u. SameKicks (put_frame z u (Some (led f lead))) (world (moved n p f lead)) in
       let moves : Q x w =
       subst (λ (z : World). Q z w) s.world
       (subst (λ (u : Waiter). Q (world n) u) (top_same m n p s.same)
       (kicks_moved n p f c r lead)) in
-      let now = kicks_same y (world (moved n p f lead)) (and_then es ev)
+      let now = kicks_same y (world (moved n p f lead)) (with_event es ev)
       (kicks_then y (put_frame x w (Some (led f lead))) (world (moved n p f lead)) same moves)
       (law es shown) in
-      subst (λ (e : Option Event). ShowsKicks (world (moved n p f lead)) (and_then es e)) (sym (event_is t)) now
+      subst (λ (e : Option Event). ShowsKicks (world (moved n p f lead)) (with_event es e))
+      (sym (event_is t)) now
 
   applied_by : (n : Machine) (x : World) (lead : Lead) (t : Tell) → Stored m n x
-      → ((hs1 : LockName → LockHistory) → Same m n → Ready n p f c
+      → ((hs1 : LockName → LockHistory) → KeepsFrames m n → Ready n p f c
       → IsSoundWorld (lead_on (world n) (top_of n p) f lead) hs1
       → ShowsAll (moved n p f lead) hs1)
-      → Law (lead_on x w f lead) t → Kept m hs (moved n p f lead, event_of m p f t)
+      → Law (lead_on x w f lead) t → StillShows m hs (moved n p f lead, event_of m p f t)
   applied_by n x lead t s moves law =
       let ev = told_event w f.lock (to_of m t) t in
       let hs1 = told_on hs ev in
@@ -147,29 +158,36 @@ module _ (m : Machine) (p : ℕ) (f : Frame) (c : Pc) (hs : LockName → LockHis
       let at_top : IsSoundWorld (lead_on (world n) (top_of n p) f lead) hs1 =
       subst (λ (u : Waiter). IsSoundWorld (lead_on (world n) u f lead) hs1)
       (sym (top_same m n p s.same)) at_world in
-      let shown : ShowsAll (moved n p f lead) hs1 = moves hs1 s.same (ready_same m n p f c ready s.same s.frames) at_top in
+      let shown : ShowsAll (moved n p f lead) hs1 =
+      moves hs1 s.same (ready_same m n p f c ready s.same s.frames) at_top in
       record {
-        shows = subst (λ (e : Option Event). ShowsAll (moved n p f lead) (told_on hs e)) (sym (event_is t)) shown;
-        allowed = subst (λ (e : Option Event). IsAllowedIfAny (rules_of m.setup) hs e) (sym (event_is t)) law.1;
+        shows =
+            subst (λ (e : Option Event). ShowsAll (moved n p f lead) (told_on hs e))
+            (sym (event_is t)) shown;
+        allowed =
+            subst (λ (e : Option Event). MayFollowIfAny (rules_of m.setup) hs e)
+            (sym (event_is t)) law.1;
         kicks = kicks_by n x (lead_on x w f lead) lead t s (kicks_led x w f lead) law.2;
       }
 
   applied_kept : (n : Machine) (x : World) (lead : Lead) (t : Tell) → Stored m n x
-      → Stands m.setup.mode works.op.verb f c → is_rw_row c ≡ false
+      → Stance m.setup.mode works.op.verb f c → is_rw_row c ≡ false
       → ((V : Verb) → BelongsTo m.setup.mode V c → LeadFits (HasNode m) m.setup.mode V lead)
       → LeadIn (HasNode m) lead → (c ≡ U5 → ⊥) → Law (lead_on x w f lead) t
-      → Kept m hs (moved n p f lead, event_of m p f t)
+      → StillShows m hs (moved n p f lead, event_of m p f t)
   applied_kept n x lead t s (Acts V taking row) spin fits nodes still law =
       applied_by n x lead t s
       (λ hs1 same r sound.
       moved_shows n p f c hs1 (ready_same m n p f c ready s.same s.frames) V
       (subst (λ (k : Setup). IsAt k.mode works.op.verb f V) (sym s.same.keeps.setup) taking)
       lead
-      (lead_fits_same m n V lead s.same (fits V row)) (lead_in_same m n lead s.same nodes) sound) law
+      (lead_fits_same m n V lead s.same (fits V row)) (lead_in_same m n lead s.same nodes) sound)
+      law
   applied_kept n x lead t s (Owes is inner over plain) spin fits nodes still law = absurd (still is)
-  applied_kept n x lead t s (Shares rw row) spin fits nodes still law = absurd (grind (arith, rw, spin))
+  applied_kept n x lead t s (Shares rw row) spin fits nodes still law =
+      absurd (grind (arith, rw, spin))
 
-  here : Stands m.setup.mode works.op.verb f c
+  here : Stance m.setup.mode works.op.verb f c
   here = stands m.setup.mode works.op.verb f c a.place works.stage
 
   at_node : (t : Target) → target c f ≡ t → HasTarget m t
@@ -177,7 +195,7 @@ module _ (m : Machine) (p : ℕ) (f : Frame) (c : Pc) (hs : LockName → LockHis
 
   by_target : (t : Target) → target c f ≡ t
       → Law (row_in_at (world m) w f c t).0 (row_in_at (world m) w f c t).1
-      → Kept m hs (row_on m p f c t)
+      → StillShows m hs (row_on m p f c t)
   by_target SpinWord e law =
       let o = spin_row m.setup.mode c f (word_at m f.lock) in
       applied_kept (counted (stored_word m f o.stores) o.counts)
@@ -355,18 +373,23 @@ module _ (m : Machine) (p : ℕ) (f : Frame) (c : Pc) (hs : LockName → LockHis
       x : World
       x = stores_kicked (world m) q o.stores
 
-      by_stand : Stands m.setup.mode works.op.verb f c → Kept m hs (row_on m p f c (KickOf q))
-      by_stand (Acts V taking row) = absurd (let z = not_owing m.setup.mode V c row in grind (arith, z, owing))
+      by_stand : Stance m.setup.mode works.op.verb f c → StillShows m hs (row_on m p f c (KickOf q))
+      by_stand (Acts V taking row) =
+          absurd (let z = not_owing m.setup.mode V c row in grind (arith, z, owing))
       by_stand (Owes is inner over plain) =
           let lead : o.leads ≡ Freed = ap (λ (d : Pc). (kick_row d f (kicked_at m q)).leads) is in
-          let there : q < length m.cpus = kick_within m hs a.shows w f a.live q (sym (ap (λ (d : Pc). target d f) is) ∙ e) in
-          let s : Stored m n x = counts_stored m (stored_kicked m q o.stores) x o.counts (kicked_stored m q o.stores there) in
+          let there : q < length m.cpus =
+          kick_within m hs a.shows w f a.live q (sym (ap (λ (d : Pc). target d f) is) ∙ e) in
+          let s : Stored m n x =
+          counts_stored m (stored_kicked m q o.stores) x o.counts
+          (kicked_stored m q o.stores there) in
           applied_by n x o.leads o.tells s
           (λ hs1 same r sound. subst (λ (k : Lead). ShowsAll (moved n p f k) hs1) (sym lead)
           (kicked_shows n p f c hs1 (ready_same m n p f c ready s.same s.frames) inner over plain
           (subst (λ (k : Lead). IsSoundWorld (lead_on (world n) (top_of n p) f k) hs1) lead
           sound))) law
-      by_stand (Shares row belongs) = absurd (let z = own_not_owing c row in grind (arith, z, owing))
+      by_stand (Shares row belongs) =
+          absurd (let z = own_not_owing c row in grind (arith, z, owing))
   by_target RwWord e law = by_stand here
     where
       o : Effect RwFields
@@ -381,7 +404,7 @@ module _ (m : Machine) (p : ℕ) (f : Frame) (c : Pc) (hs : LockName → LockHis
       way : Option Manner
       way = way_told o.tells (held_of m w (rw_name f.lock.index))
 
-      by_stand : Stands m.setup.mode works.op.verb f c → Kept m hs (row_on m p f c RwWord)
+      by_stand : Stance m.setup.mode works.op.verb f c → StillShows m hs (row_on m p f c RwWord)
       by_stand (Acts V taking row) = absurd (rw_apart c f e (spin_row_of m.setup.mode V c row))
       by_stand (Owes is inner over plain) = absurd (rw_apart c f e (ap is_rw_row is))
       by_stand (Shares row belongs) =
@@ -396,21 +419,30 @@ module _ (m : Machine) (p : ℕ) (f : Frame) (c : Pc) (hs : LockName → LockHis
           let there : P (world n) (top_of n p) =
           subst (λ (u : Waiter). P (world n) u) (sym (top_same m n p s.same))
           (subst (λ (y : World). P y w) (sym s.world) law.0) in
-          let same : held_of n (top_of n p) (rw_name f.lock.index) ≡ held_of m w (rw_name f.lock.index) =
+          let same : held_of n (top_of n p) (rw_name f.lock.index) ≡ held_of m w
+          (rw_name f.lock.index) =
           ap (λ (u : Waiter). held_of n u (rw_name f.lock.index)) (top_same m n p s.same)
           ∙ ap (λ (y : World). y.held w (rw_name f.lock.index)) s.world
-          ∙ ap (λ (h : Waiter → LockName → Option Manner). h w (rw_name f.lock.index)) (stores_held (world m) f.lock.index o.stores) in
-          let leads : RwLead n.setup.mode works.op.verb f c (held_of n (top_of n p) (rw_name f.lock.index)) o.leads way =
+          ∙ ap (λ (h : Waiter → LockName → Option Manner). h w (rw_name f.lock.index))
+          (stores_held (world m) f.lock.index o.stores) in
+          let leads : RwLead n.setup.mode works.op.verb f c
+          (held_of n (top_of n p) (rw_name f.lock.index)) o.leads way =
           subst (λ (k : Setup).
           RwLead k.mode works.op.verb f c (held_of n (top_of n p) (rw_name f.lock.index))
           o.leads way) (sym s.same.keeps.setup)
-          (subst (λ (h : Option Manner). RwLead m.setup.mode works.op.verb f c h o.leads way) (sym same)
+          (subst (λ (h : Option Manner). RwLead m.setup.mode works.op.verb f c h o.leads way)
+          (sym same)
           (rw_leads m.setup.mode f (rw_at m f.lock.index) (held_of m w (rw_name f.lock.index))
           works.op.verb f.lock.wait refl c belongs)) in
-          let shown : ShowsAll (moved n p f o.leads) hs1 = rw_moved_shows n p f c hs1 r row a.place o.leads way leads there in
+          let shown : ShowsAll (moved n p f o.leads) hs1 =
+          rw_moved_shows n p f c hs1 r row a.place o.leads way leads there in
           record {
-            shows = subst (λ (e : Option Event). ShowsAll (moved n p f o.leads) (told_on hs e)) (sym (event_is o.tells)) shown;
-            allowed = subst (λ (e : Option Event). IsAllowedIfAny (rules_of m.setup) hs e) (sym (event_is o.tells)) law.1;
+            shows =
+                subst (λ (e : Option Event). ShowsAll (moved n p f o.leads) (told_on hs e))
+                (sym (event_is o.tells)) shown;
+            allowed =
+                subst (λ (e : Option Event). MayFollowIfAny (rules_of m.setup) hs e)
+                (sym (event_is o.tells)) law.1;
             kicks = kicks_by n x (row_in_at (world m) w f c RwWord).0 o.leads o.tells s
                 (kicks_put_held (put_frame x w (Some (led f o.leads))) w (rw_name f.lock.index) way)
                 law.2;
@@ -419,7 +451,7 @@ module _ (m : Machine) (p : ℕ) (f : Frame) (c : Pc) (hs : LockName → LockHis
   newest : IsNewest (world m) w
   newest = top_newest m hs a.shows p a.range
 
-  pub row_on_kept : Kept m hs (row_on m p f c (target c f))
+  pub row_on_kept : StillShows m hs (row_on m p f c (target c f))
   row_on_kept =
       let to = to_of m (row_in (world m) w f c).1 in
       let law = every_row_keeps c (world m) hs (rules_of m.setup) w to f a.shows.world
@@ -432,7 +464,8 @@ module _ (m : Machine) (p : ℕ) (f : Frame) (c : Pc) (hs : LockName → LockHis
             a.shows.world.spins newest a.live a.place (a.shows.world.fits w f a.live).after shown,
       )
 
-module _ (m : Machine) (p : ℕ) (hs : LockName → LockHistory) (shows : ShowsAll m hs) (range : p < length m.cpus) where
+module _ (m : Machine) (p : ℕ) (hs : LockName → LockHistory) (shows : ShowsAll m hs)
+    (range : p < length m.cpus) where
   pub top_live : frame_at m (top_of m p) ≡ Some (top_frame m p)
   unfolding frame_at depth_at
   top_live =
@@ -440,10 +473,13 @@ module _ (m : Machine) (p : ℕ) (hs : LockName → LockHistory) (shows : ShowsA
       let x = within_end (cpu_at m p).frames (depth_at m p - 1) (omega (arith, top.some)) in
       x.1 ∙ ap Some (sym (top_frame-is m p x.0 x.1))
 
-  by_place : (o : Option Pc) → (top_frame m p).place ≡ o → Kept m hs (row_at m p (top_frame m p) o)
+  by_place : (o : Option Pc) → (top_frame m p).place ≡ o
+      → StillShows m hs (row_at m p (top_frame m p) o)
   by_place None e = record { shows = shows; allowed = tt; kicks = λ es shown. shown }
-  by_place (Some c) e = row_on_kept m p (top_frame m p) c hs (record { shows = shows; range = range; live = top_live; place = e })
+  by_place (Some c) e =
+      row_on_kept m p (top_frame m p) c hs
+      (record { shows = shows; range = range; live = top_live; place = e })
 
   -- whatever stands on top of a processor, its row keeps it
-  pub row_kept : Kept m hs (row m p)
+  pub row_kept : StillShows m hs (row m p)
   row_kept = by_place (top_frame m p).place refl

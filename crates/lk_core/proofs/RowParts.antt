@@ -1,6 +1,7 @@
--- What a row of an operation does with its lock: which part of a lock it is, and on what it operates.
+-- What a row of an operation does with its lock: which part of a lock it is, and on what it
+-- operates.
 use Rattle.std.proofs.Common.{◌≡◌, inl, inr, Bool, ℕ, Option, Some, None, true, false, List, []}
-use Rattle.std.proofs.Common.{◌∷◌, arith, ap, ◌<◌, ◌-◌, refl, sym, ◌∙◌, subst, length}
+use Rattle.std.proofs.Common.{◌∷◌, arith, ap, ◌<◌, refl, sym, ◌∙◌, subst, length}
 use Rattle.std.proofs.lemmas.Bool.{cases_Bool}
 use Rattle.std.specs.Prelude.{◌||◌}
 use Rattle.lk_abs.specs.History.{LockHistory}
@@ -31,25 +32,27 @@ use Rattle.lk_law.specs.SoundWorld.Part.{Taking as Takes, Freeing as Gives}
 use Rattle.lk_law.specs.World.{World}
 use Rattle.lk_law.specs.Steps.{told_on, stores_rw}
 use Rattle.lk_law.specs.Families.{chooses}
-use Rattle.lk_law.specs.Allowed.{IsAllowedIfAny}
+use Rattle.lk_law.specs.Allowed.{MayFollowIfAny}
 use Rattle.lk_law.specs.Sound.{world, rules_of, is_virt_row}
 use Rattle.lk_law.specs.Families.{is_queued_row, is_halting_row}
 use Rattle.lk_law.specs.Sound.{owes_kick, is_over, BelongsTo, ShowsAll, is_lock_row, frees}
-use Rattle.lk_law.specs.Kicked.{ShowsKicks, and_then}
-use Rattle.lk_core.proofs.Same.{Same, node_kept}
+use Rattle.lk_law.specs.Kicked.{ShowsKicks, with_event}
+use Rattle.lk_core.proofs.Same.{KeepsFrames, node_kept}
 use Rattle.lk_core.proofs.Walks.{LeadFits, LeadIn, ChangesIn, IsOuter}
 use Rattle.lk_core.proofs.Leads.{IsFreeing}
 
 -- After a row or an act the machine shows the histories told on by the event, and the event is
 -- allowed; and where it showed the halts and kicks of some events, it shows those of the events
 -- with this one.
-pub record Kept (m : Machine) (hs : LockName → LockHistory) (a : Answer) : Type 0 where
+pub record StillShows (m : Machine) (hs : LockName → LockHistory) (a : Answer) : Type 0 where
   pub shows : ShowsAll a.0 (told_on hs a.1)
-  pub allowed : IsAllowedIfAny (rules_of m.setup) hs a.1
-  pub kicks : (es : List Event) → ShowsKicks (world m) es → ShowsKicks (world a.0) (and_then es a.1)
+  pub allowed : MayFollowIfAny (rules_of m.setup) hs a.1
+  pub kicks : (es : List Event) → ShowsKicks (world m) es
+      → ShowsKicks (world a.0) (with_event es a.1)
 
 -- The machine shows these histories, and f stands on top of p at the row c.
-pub record Acting (m : Machine) (p : ℕ) (f : Frame) (c : Pc) (hs : LockName → LockHistory) : Type 0 where
+pub record StandsOnTop (m : Machine) (p : ℕ) (f : Frame) (c : Pc)
+    (hs : LockName → LockHistory) : Type 0 where
   pub shows : ShowsAll m hs
   pub range : p < length m.cpus
   pub live : frame_at m (top_of m p) ≡ Some f
@@ -61,10 +64,12 @@ entry_is G1 f e = refl
 entry_is _ f e = cc
 
 -- what a lead asks stays so on a machine after a store
-pub lead_fits_same : (m n : Machine) (v : Verb) (lead : Lead) → Same m n
+pub lead_fits_same : (m n : Machine) (v : Verb) (lead : Lead) → KeepsFrames m n
     → LeadFits (HasNode m) m.setup.mode v lead → LeadFits (HasNode n) n.setup.mode v lead
-lead_fits_same m n v (Goes c cs) s fits = subst (λ (x : Setup). BelongsTo x.mode v c) (sym s.keeps.setup) fits
-lead_fits_same m n v (Enters None c) s fits = subst (λ (x : Setup). BelongsTo x.mode v c) (sym s.keeps.setup) fits
+lead_fits_same m n v (Goes c cs) s fits =
+    subst (λ (x : Setup). BelongsTo x.mode v c) (sym s.keeps.setup) fits
+lead_fits_same m n v (Enters None c) s fits =
+    subst (λ (x : Setup). BelongsTo x.mode v c) (sym s.keeps.setup) fits
 lead_fits_same m n v (Enters (Some a) c) s fits = (
   subst (λ (x : Setup). BelongsTo x.mode v c) (sym s.keeps.setup) fits.0,
   record { cpu = rw s.keeps.cpus fits.1.cpu; index = fits.1.index },
@@ -74,19 +79,22 @@ lead_fits_same m n v Freed s fits = fits
 lead_fits_same m n v Missed s fits = fits
 lead_fits_same m n v Leaves s fits = fits
 lead_fits_same m n v Done s fits = absurd fits
-lead_fits_same m n v (Yields c cs) s fits = (ap (λ (x : Setup). x.mode) s.keeps.setup ∙ fits.0, fits.1, fits.2)
+lead_fits_same m n v (Yields c cs) s fits =
+    (ap (λ (x : Setup). x.mode) s.keeps.setup ∙ fits.0, fits.1, fits.2)
 lead_fits_same m n v (TakesWait c) s fits = absurd fits
 
-changes_in_same : (m n : Machine) (cs : List Change) → Same m n → ChangesIn (HasNode m) cs
+changes_in_same : (m n : Machine) (cs : List Change) → KeepsFrames m n → ChangesIn (HasNode m) cs
     → ChangesIn (HasNode n) cs
 changes_in_same m n [] s fits = fits
-changes_in_same m n (Prev (Some k) ∷ cs) s fits = (node_kept m n k s.keeps fits.0, changes_in_same m n cs s fits.1)
-changes_in_same m n (TargetIs (Some k) ∷ cs) s fits = (node_kept m n k s.keeps fits.0, changes_in_same m n cs s fits.1)
+changes_in_same m n (Prev (Some k) ∷ cs) s fits =
+    (node_kept m n k s.keeps fits.0, changes_in_same m n cs s fits.1)
+changes_in_same m n (TargetIs (Some k) ∷ cs) s fits =
+    (node_kept m n k s.keeps fits.0, changes_in_same m n cs s fits.1)
 changes_in_same m n (Prev None ∷ cs) s fits = changes_in_same m n cs s fits
 changes_in_same m n (TargetIs None ∷ cs) s fits = changes_in_same m n cs s fits
 changes_in_same m n (_ ∷ cs) s fits = changes_in_same m n cs s fits
 
-pub lead_in_same : (m n : Machine) (lead : Lead) → Same m n → LeadIn (HasNode m) lead
+pub lead_in_same : (m n : Machine) (lead : Lead) → KeepsFrames m n → LeadIn (HasNode m) lead
     → LeadIn (HasNode n) lead
 lead_in_same m n (Goes c cs) s fits = changes_in_same m n cs s fits
 lead_in_same m n (Yields c cs) s fits = changes_in_same m n cs s fits
@@ -118,7 +126,10 @@ lock_spin_row Z2 e = (refl, refl, refl, refl)
 lock_spin_row _ e = cc
 
 pub spin_row_of : (mode : Mode) (v : Verb) (c : Pc) → BelongsTo mode v c → is_rw_row c ≡ false
-spin_row_of mode v c at = elim (cases_Bool (is_rw_row c)) [ inl e ↦ absurd (apart mode v at (lock_spin_row c e) e) | inr e ↦ e ]
+spin_row_of mode v c at = elim (cases_Bool (is_rw_row c)) [
+  | inl e ↦ absurd (apart mode v at (lock_spin_row c e) e)
+  | inr e ↦ e
+]
   where
     apart : (mode : Mode) (v : Verb) → BelongsTo mode v c
         → (is_queued_row c ≡ false) × (is_virt_row c ≡ false) × (chooses c ≡ false)
@@ -168,7 +179,10 @@ release_row U5 e = (refl, refl, refl, refl)
 release_row _ e = cc
 
 pub lock_taking : (mode : Mode) (c : Pc) → is_lock_row mode c ≡ true → is_release_row c ≡ false
-lock_taking mode c at = elim (cases_Bool (is_release_row c)) [ inl e ↦ absurd (apart mode at (release_row c e)) | inr e ↦ e ]
+lock_taking mode c at = elim (cases_Bool (is_release_row c)) [
+  | inl e ↦ absurd (apart mode at (release_row c e))
+  | inr e ↦ e
+]
   where
     apart : (mode : Mode) → is_lock_row mode c ≡ true
         → (is_queued_row c ≡ false) × (is_virt_row c ≡ false) × (chooses c ≡ false)
@@ -186,15 +200,19 @@ owing_release U5 e = refl
 owing_release _ e = cc
 
 pub not_owing : (mode : Mode) (v : Verb) (c : Pc) → BelongsTo mode v c → owes_kick (Some c) ≡ false
-not_owing mode v c at = elim (cases_Bool (owes_kick (Some c))) [ inl e ↦ absurd (apart mode v at e) | inr e ↦ e ]
+not_owing mode v c at =
+    elim (cases_Bool (owes_kick (Some c))) [ inl e ↦ absurd (apart mode v at e) | inr e ↦ e ]
   where
     apart : (mode : Mode) (v : Verb) → BelongsTo mode v c → owes_kick (Some c) ≡ true → ⊥
-    apart mode Lock at e = let z = lock_taking mode c at in let y = owing_release c e in grind (arith, z, y)
+    apart mode Lock at e =
+        let z = lock_taking mode c at in let y = owing_release c e in grind (arith, z, y)
     apart mode Try (inl q) e = let z = ap (λ (x : Pc). owes_kick (Some x)) q in grind (arith, z, e)
     apart mode Try (inr q) e = let z = ap (λ (x : Pc). owes_kick (Some x)) q in grind (arith, z, e)
     apart Pv Unlock (inl q) e = let z = ap (λ (x : Pc). owes_kick (Some x)) q in grind (arith, z, e)
-    apart Pv Unlock (inr (inl q)) e = let z = ap (λ (x : Pc). owes_kick (Some x)) q in grind (arith, z, e)
-    apart Pv Unlock (inr (inr q)) e = let z = ap (λ (x : Pc). owes_kick (Some x)) q in grind (arith, z, e)
+    apart Pv Unlock (inr (inl q)) e =
+        let z = ap (λ (x : Pc). owes_kick (Some x)) q in grind (arith, z, e)
+    apart Pv Unlock (inr (inr q)) e =
+        let z = ap (λ (x : Pc). owes_kick (Some x)) q in grind (arith, z, e)
     apart mode Unlock q e = let z = ap (λ (x : Pc). owes_kick (Some x)) q in grind (arith, z, e)
     apart mode _ at e = at
 
@@ -237,7 +255,8 @@ pub over_here : (f : Frame) (c : Pc) (r : RwPhase) → f.place ≡ Some c → rw
 over_here f c r place phase = ap (λ (q : RwPhase). frees q || owes_kick f.place) phase
     ∙ ap (λ (o : Option Pc). frees r || owes_kick o) place
 
-pub outer_plain : (f : Frame) (c : Pc) → f.place ≡ Some c → f.lock.wait ≡ false → is_rw_row c ≡ false
+pub outer_plain : (f : Frame) (c : Pc) → f.place ≡ Some c → f.lock.wait ≡ false
+    → is_rw_row c ≡ false
     → owes_kick (Some c) ≡ false → IsOuter f
 outer_plain f c place wait spin calm =
     let e = phase_here f c false (part_of c) place wait spin refl in
@@ -305,6 +324,7 @@ owing_target c f t e q n = let z : is_kick_target (target c f) ≡ true =
     ap (λ (d : Pc). is_kick_target (target d f)) q in let y = ap is_kick_target e in
     grind (arith, z, y, n)
 
-pub kick_target : (c : Pc) (f : Frame) → is_kick_target (target c f) ≡ true → owes_kick (Some c) ≡ true
+pub kick_target : (c : Pc) (f : Frame) → is_kick_target (target c f) ≡ true
+    → owes_kick (Some c) ≡ true
 kick_target U5 f e = refl
 kick_target _ f e = cc

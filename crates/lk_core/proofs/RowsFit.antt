@@ -1,5 +1,5 @@
 -- Each row of an operation leads to a row of the same operation, or ends it as its verb does.
-use Rattle.std.proofs.Common.{◌≡◌, ◌⊎◌, ℕ, ◌<◌, arith, [], ◌-◌, Option, Some, None, Bool, true}
+use Rattle.std.proofs.Common.{◌≡◌, ◌⊎◌, ℕ, ◌<◌, arith, Option, Some, None, Bool, true}
 use Rattle.std.proofs.Common.{false, inl, inr, refl, sym, subst}
 use Rattle.std.specs.Prelude.{if◌then◌else◌, ◌&&◌, not, is_some, nat_lt}
 use Rattle.std.proofs.lemmas.Bool.{cases_Bool, ltb-true}
@@ -16,7 +16,7 @@ use Rattle.lk_machine.specs.declared.parts.Pc.TheVariants.{F1, T1, T2, V1, V2, P
 use Rattle.lk_machine.specs.declared.parts.Pc.TheVariants.{G1, G2, G3, G4, G6, G7, G8, G9, G10, N1}
 use Rattle.lk_machine.specs.declared.parts.Pc.TheVariants.{N2, G5, G11, U1, U2, U3, U4}
 use Rattle.lk_machine.specs.Moves.{is_node, node_of}
-use Rattle.lk_machine.specs.Row.{Enters, Second}
+use Rattle.lk_machine.specs.Row.{Enters}
 use Rattle.lk_machine.specs.rows.Spin.{spin_row, is_free, is_unlocked, to_queue, after_fast}
 use Rattle.lk_machine.specs.rows.Spin.{after_pending}
 use Rattle.lk_machine.specs.rows.Queue.{queue_row, entry_row, flag_row, next_row, after_entry}
@@ -25,7 +25,6 @@ use Rattle.lk_law.specs.Sound.{BelongsTo, is_choosing_row, is_lock_row}
 use Rattle.lk_law.specs.Families.{is_queued_row}
 use Rattle.lk_core.proofs.Walks.{LeadFits}
 use Rattle.lk_machine.specs.declared.parts.Flag.TheVariants as flag
-use Rattle.lk_machine.specs.declared.parts.Why.TheVariants as why
 
 -- one of two places, both of which are rows of the operation
 pub either : (P : Pc → Type 0) (t : Bool) (a b : Pc) → P a → P b → P (if t then a else b)
@@ -48,7 +47,8 @@ after_fast_row x =
 
 after_pending_row : (x : Fields) → Queued (after_pending x)
 after_pending_row x =
-    either Queued x.pending G1 (if is_some x.tail then P2 else (if is_unlocked x.locked then P4 else P3)) (refl, refl)
+    either Queued x.pending G1 (if is_some x.tail then P2
+    else (if is_unlocked x.locked then P4 else P3)) (refl, refl)
     (either Queued (is_some x.tail) P2 (if is_unlocked x.locked then P4 else P3) (refl, refl)
     (either Queued (is_unlocked x.locked) P4 P3 (refl, refl) (refl, refl)))
 
@@ -56,10 +56,12 @@ after_look_row : (f : Frame) (x : Fields) → Queued (after_look f x)
 after_look_row f x =
     either Queued (is_unlocked x.locked && not x.pending)
     (if is_node x.tail (node_of f.me) && not (is_some f.second) then G8 else G9) G7
-    (either Queued (is_node x.tail (node_of f.me) && not (is_some f.second)) G8 G9 (refl, refl) (refl, refl)) (refl, refl)
+    (either Queued (is_node x.tail (node_of f.me) && not (is_some f.second)) G8 G9 (refl, refl)
+    (refl, refl)) (refl, refl)
 
 -- the rows of `unlock` in mode `pv`
-pub releasing : (P : Pc → Type 0) → P U2 → P U3 → P U4 → (c : Pc) → (c ≡ U2) ⊎ (c ≡ U3) ⊎ (c ≡ U4) → P c
+pub releasing : (P : Pc → Type 0) → P U2 → P U3 → P U4 → (c : Pc) → (c ≡ U2) ⊎ (c ≡ U3) ⊎ (c ≡ U4)
+    → P c
 releasing P a b d c (inl e) = subst P (sym e) a
 releasing P a b d c (inr (inl e)) = subst P (sym e) b
 releasing P a b d c (inr (inr e)) = subst P (sym e) d
@@ -71,12 +73,14 @@ module _ (R : NodeName → Type 0) (f : Frame) (x : Fields) where
   lock_spin Virt V1 at = elim (cases_Bool (is_free x)) [ inl e ↦ rw e refl | inr e ↦ rw e refl ]
   lock_spin Virt V2 at = elim (cases_Bool (is_free x)) [ inl e ↦ rw e refl | inr e ↦ rw e refl ]
   lock_spin Virt _ at = cc
-  lock_spin Native F1 at = elim (cases_Bool (is_free x)) [ inl e ↦ rw e refl | inr e ↦ rw e (after_fast_row x).0 ]
+  lock_spin Native F1 at =
+      elim (cases_Bool (is_free x)) [ inl e ↦ rw e refl | inr e ↦ rw e (after_fast_row x).0 ]
   lock_spin Native P0 at = (to_queue_row x).0
   lock_spin Native P1 at = (after_pending_row x).0
   lock_spin Native P3 at = (either Queued (is_unlocked x.locked) P4 P3 (refl, refl) (refl, refl)).0
   lock_spin Native _ at = cc
-  lock_spin Cna F1 at = elim (cases_Bool (is_free x)) [ inl e ↦ rw e refl | inr e ↦ rw e (after_fast_row x).1 ]
+  lock_spin Cna F1 at =
+      elim (cases_Bool (is_free x)) [ inl e ↦ rw e refl | inr e ↦ rw e (after_fast_row x).1 ]
   lock_spin Cna P0 at = (to_queue_row x).1
   lock_spin Cna P1 at = (after_pending_row x).1
   lock_spin Cna P3 at = (either Queued (is_unlocked x.locked) P4 P3 (refl, refl) (refl, refl)).1
@@ -110,7 +114,8 @@ module _ (R : NodeName → Type 0) (f : Frame) (x : Fields) where
   spin_fits Pv Unlock c at =
       releasing (λ (d : Pc). LeadFits R Pv Unlock (spin_row Pv d f x).leads) (inl refl)
       (inr (inl refl)) (inr (inr refl)) c at
-  spin_fits mode Unlock c at = subst (λ (d : Pc). LeadFits R mode Unlock (spin_row mode d f x).leads) (sym at) refl
+  spin_fits mode Unlock c at =
+      subst (λ (d : Pc). LeadFits R mode Unlock (spin_row mode d f x).leads) (sym at) refl
   spin_fits mode _ c at = absurd at
 
   arrives : (o : Option NodeName)
@@ -130,7 +135,8 @@ module _ (R : NodeName → Type 0) (f : Frame) (x : Fields) where
   lock_queue Native G3 at = elim (cases_Bool (is_free x)) [ inl e ↦ rw e refl | inr e ↦ rw e refl ]
   lock_queue Native G4 at = (arrives x.tail).0
   lock_queue Native G7 at = (after_look_row f x).0
-  lock_queue Native G8 at = elim (cases_Bool (is_sole f x)) [ inl e ↦ rw e refl | inr e ↦ rw e refl ]
+  lock_queue Native G8 at =
+      elim (cases_Bool (is_sole f x)) [ inl e ↦ rw e refl | inr e ↦ rw e refl ]
   lock_queue Native N1 at = elim (cases_Bool (is_free x)) [ inl e ↦ rw e refl | inr e ↦ rw e refl ]
   lock_queue Native N2 at = elim (cases_Bool (is_free x)) [ inl e ↦ rw e refl | inr e ↦ rw e refl ]
   lock_queue Native _ at = cc
@@ -155,12 +161,15 @@ module _ (R : NodeName → Type 0) (f : Frame) (x : Fields) where
   pub queue_fits : (mode : Mode) (v : Verb) (c : Pc) → BelongsTo mode v c
       → LeadFits R mode v (queue_row mode c f x).leads
   queue_fits mode Lock c at = lock_queue mode c at
-  queue_fits mode Try c (inl e) = subst (λ (d : Pc). LeadFits R mode Try (queue_row mode d f x).leads) (sym e) (inl refl)
-  queue_fits mode Try c (inr e) = subst (λ (d : Pc). LeadFits R mode Try (queue_row mode d f x).leads) (sym e) (inr refl)
+  queue_fits mode Try c (inl e) =
+      subst (λ (d : Pc). LeadFits R mode Try (queue_row mode d f x).leads) (sym e) (inl refl)
+  queue_fits mode Try c (inr e) =
+      subst (λ (d : Pc). LeadFits R mode Try (queue_row mode d f x).leads) (sym e) (inr refl)
   queue_fits Pv Unlock c at =
       releasing (λ (d : Pc). LeadFits R Pv Unlock (queue_row Pv d f x).leads) (inl refl)
       (inr (inl refl)) (inr (inr refl)) c at
-  queue_fits mode Unlock c at = subst (λ (d : Pc). LeadFits R mode Unlock (queue_row mode d f x).leads) (sym at) refl
+  queue_fits mode Unlock c at =
+      subst (λ (d : Pc). LeadFits R mode Unlock (queue_row mode d f x).leads) (sym at) refl
   queue_fits mode _ c at = absurd at
 
 -- only a `lock` takes a node
@@ -226,12 +235,15 @@ module _ (R : NodeName → Type 0) (f : Frame) (x : Flag) where
   pub flag_fits : (mode : Mode) (v : Verb) (c : Pc) → BelongsTo mode v c
       → LeadFits R mode v (flag_row c f x).leads
   flag_fits mode Lock c at = lock_flag mode c at
-  flag_fits mode Try c (inl e) = subst (λ (d : Pc). LeadFits R mode Try (flag_row d f x).leads) (sym e) (inl refl)
-  flag_fits mode Try c (inr e) = subst (λ (d : Pc). LeadFits R mode Try (flag_row d f x).leads) (sym e) (inr refl)
+  flag_fits mode Try c (inl e) =
+      subst (λ (d : Pc). LeadFits R mode Try (flag_row d f x).leads) (sym e) (inl refl)
+  flag_fits mode Try c (inr e) =
+      subst (λ (d : Pc). LeadFits R mode Try (flag_row d f x).leads) (sym e) (inr refl)
   flag_fits Pv Unlock c at =
       releasing (λ (d : Pc). LeadFits R Pv Unlock (flag_row d f x).leads) (inl refl)
       (inr (inl refl)) (inr (inr refl)) c at
-  flag_fits mode Unlock c at = subst (λ (d : Pc). LeadFits R mode Unlock (flag_row d f x).leads) (sym at) refl
+  flag_fits mode Unlock c at =
+      subst (λ (d : Pc). LeadFits R mode Unlock (flag_row d f x).leads) (sym at) refl
   flag_fits mode _ c at = absurd at
 
 module _ (R : NodeName → Type 0) (turns : ℕ) (f : Frame) (x : Option NodeName) where
@@ -256,10 +268,13 @@ module _ (R : NodeName → Type 0) (turns : ℕ) (f : Frame) (x : Option NodeNam
   pub next_fits : (mode : Mode) (v : Verb) (c : Pc) → BelongsTo mode v c
       → LeadFits R mode v (next_row mode turns c f x).leads
   next_fits mode Lock c at = lock_next mode c at
-  next_fits mode Try c (inl e) = subst (λ (d : Pc). LeadFits R mode Try (next_row mode turns d f x).leads) (sym e) (inl refl)
-  next_fits mode Try c (inr e) = subst (λ (d : Pc). LeadFits R mode Try (next_row mode turns d f x).leads) (sym e) (inr refl)
+  next_fits mode Try c (inl e) =
+      subst (λ (d : Pc). LeadFits R mode Try (next_row mode turns d f x).leads) (sym e) (inl refl)
+  next_fits mode Try c (inr e) =
+      subst (λ (d : Pc). LeadFits R mode Try (next_row mode turns d f x).leads) (sym e) (inr refl)
   next_fits Pv Unlock c at =
       releasing (λ (d : Pc). LeadFits R Pv Unlock (next_row Pv turns d f x).leads) (inl refl)
       (inr (inl refl)) (inr (inr refl)) c at
-  next_fits mode Unlock c at = subst (λ (d : Pc). LeadFits R mode Unlock (next_row mode turns d f x).leads) (sym at) refl
+  next_fits mode Unlock c at =
+      subst (λ (d : Pc). LeadFits R mode Unlock (next_row mode turns d f x).leads) (sym at) refl
   next_fits mode _ c at = absurd at

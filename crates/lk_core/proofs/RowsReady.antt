@@ -1,5 +1,5 @@
 -- On a sound machine a step that is not idle finds what its row asks.
-use Rattle.std.proofs.Common.{◌≡◌, ℕ, Option, Some, None, inr, refl}
+use Rattle.std.proofs.Common.{◌≡◌, Option, Some, None, inr, refl}
 use Rattle.lk_machine.specs.declared.family.Family.{Family}
 use Rattle.lk_machine.specs.declared.family.Family.TheVariants.{Spin, Queue, Cna, Pv, Rw}
 use Rattle.lk_machine.specs.declared.parts.Pc.{Pc}
@@ -21,4 +21,5 @@ rows_are_ready m p range sound counts busy awake = by_place (top_frame m p).plac
 
     by_place : (o : Option Pc) → (top_frame m p).place ≡ o → MakesARow m p
     by_place None here = absurd (busy (inr (inr here)))
-    by_place (Some c) here = record { place = c; here = here; ready = ready c here (family_of c) refl }
+    by_place (Some c) here =
+        record { place = c; here = here; ready = ready c here (family_of c) refl }

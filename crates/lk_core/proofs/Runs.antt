@@ -23,7 +23,7 @@ use Rattle.lk_core.proofs.ActKept.{act_kept}
 use Rattle.lk_core.proofs.Setups.{setup_kept}
 use Rattle.lk_core.proofs.LawfulKept.{lawful_then}
 use Rattle.lk_core.proofs.Rest.{rest_shows_all, rest_shows_kicks}
-use Rattle.lk_law.specs.Kicked.{ShowsKicks, and_then}
+use Rattle.lk_law.specs.Kicked.{ShowsKicks, with_event}
 use Rattle.lk_law.specs.Agree.{halts}
 use Rattle.lk_law.proofs.pv.HaltLayers.{fronts_are_owed}
 use Rattle.lk_law.specs.World.{World}
@@ -36,7 +36,7 @@ use Rattle.std.proofs.lemmas.Bool.{cases_Bool}
 
 -- the histories of a list of events, told on, are those of the list with the event
 told_then : (es : List Event) (o : Option Event)
-    → told_on (λ l. history_of l es) o ≡ (λ l. history_of l (and_then es o))
+    → told_on (λ l. history_of l es) o ≡ (λ l. history_of l (with_event es o))
 told_then es None = refl
 told_then es (Some e) = (λ i l. sym (history_of-push l es e) i)
 
@@ -51,11 +51,12 @@ rest_shows setup ok =
 -- no act changes how many processors there are
 cpus_kept : (m n : Machine) (hs ks : LockName → LockHistory) → ShowsAll m hs → ShowsAll n ks
     → n.setup ≡ m.setup → length n.cpus ≡ length m.cpus
-cpus_kept m n hs ks a b e = b.whole.cpus ∙ ap (λ (s : Setup). length s.topology.sockets.items) e ∙ sym a.whole.cpus
+cpus_kept m n hs ks a b e =
+    b.whole.cpus ∙ ap (λ (s : Setup). length s.topology.sockets.items) e ∙ sym a.whole.cpus
 
 -- what happens in an act, and then in others
 events_then : (es : List Event) (o : Option Event) (n : ℕ) (os : List Occurrence)
-    → and_then es o ++ events_of os ≡ es ++ events_of (occurs n o ++ os)
+    → with_event es o ++ events_of os ≡ es ++ events_of (occurs n o ++ os)
 events_then es None n os = refl
 events_then es (Some e) n os = append_assoc es (e ∷ []) (events_of os)
 
@@ -65,9 +66,9 @@ is_rw_true Spin e = cc
 
 -- in a sound world nobody that stands aside, for whatever lock, was passed by more handovers than
 -- the threshold
-whole_bounded : (m : World) (hs : LockName → LockHistory) → IsSoundWorld m hs
+every_pass_bounded : (m : World) (hs : LockName → LockHistory) → IsSoundWorld m hs
     → (l : LockName) (i n : ℕ) → slice_get (hs l).passes i ≡ Some n → n ≤ m.threshold
-whole_bounded m hs whole l i n h = by (is_rw_name m.kind l) refl
+every_pass_bounded m hs whole l i n h = by (is_rw_name m.kind l) refl
   where
     by : (b : Bool) → is_rw_name m.kind l ≡ b → n ≤ m.threshold
     by false e =
@@ -75,7 +76,8 @@ whole_bounded m hs whole l i n h = by (is_rw_name m.kind l) refl
         (ap (λ (x : LockHistory). slice_get x.passes i)
         (if-false (is_rw_name m.kind l) no_history (hs l) e) ∙ h)
     by true e =
-        let p : (l.wait ≡ false) × (is_rw (m.kind l.index) ≡ true) = grind (arith, e, cases_Bool l.wait) in
+        let p : (l.wait ≡ false) × (is_rw (m.kind l.index) ≡ true) =
+        grind (arith, e, cases_Bool l.wait) in
         let name : l ≡ rw_name l.index = (λ i. record { index = l.index; wait = p.0 i }) in
         let none : (hs l).passes ≡ [] = ap (λ (k : LockName). (hs k).passes) name
         ∙ (whole.rws l.index (is_rw_true (m.kind l.index) p.1)).passes in
@@ -85,21 +87,21 @@ pub acts_keep : ActKeeps
 acts_keep m es a range now =
     let kept = act_kept m (λ l. history_of l es) now.shows a range in
     let o = (next m a).1 in
-    let shown : Shows (next m a).0 (and_then es o) =
+    let shown : Shows (next m a).0 (with_event es o) =
     subst (λ (hs : LockName → LockHistory). ShowsAll (next m a).0 hs) (told_then es o)
     kept.shows in
-    let kicked : ShowsKicks (world (next m a).0) (and_then es o) = kept.kicks es now.kicks in
-    let lawful : IsLawful (rules_of m.setup) (and_then es o) =
+    let kicked : ShowsKicks (world (next m a).0) (with_event es o) = kept.kicks es now.kicks in
+    let lawful : IsLawful (rules_of m.setup) (with_event es o) =
     lawful_then (rules_of m.setup) es o now.lawful kept.allowed
     (λ l i n h. subst (λ (s : Setup). n ≤ s.threshold) (setup_kept m a)
-    (whole_bounded (world (next m a).0) (λ k. history_of k (and_then es o)) shown.world l i n
+    (every_pass_bounded (world (next m a).0) (λ k. history_of k (with_event es o)) shown.world l i n
     h))
-    (λ pv. fronts_are_owed (world (next m a).0) (and_then es o)
+    (λ pv. fronts_are_owed (world (next m a).0) (with_event es o)
     (ap halts (ap (λ (s : Setup). s.mode) (setup_kept m a) ∙ pv)) shown.world kicked) in
     record {
       shows = shown;
       kicks = kicked;
-      lawful = subst (λ (s : Setup). IsLawful (rules_of s) (and_then es o)) (sym (setup_kept m a))
+      lawful = subst (λ (s : Setup). IsLawful (rules_of s) (with_event es o)) (sym (setup_kept m a))
           lawful;
     }
 
@@ -107,18 +109,23 @@ acts_keep m es a range now =
 pub run_from : (acts : List Act) (n : ℕ) (m : Machine) (es : List Event)
     → AreInRange (length m.cpus) acts → ShowsLawful m es
     → ShowsLawful (machine_after m acts) (es ++ events_of (history_from n m acts))
-run_from [] n m es range now = subst (λ (xs : List Event). ShowsLawful m xs) (sym (append-nil es)) now
+run_from [] n m es range now =
+    subst (λ (xs : List Event). ShowsLawful m xs) (sym (append-nil es)) now
 run_from (a ∷ acts) n m es range now =
     let o = (next m a).1 in
     let k = (next m a).0 in
-    let then : ShowsLawful k (and_then es o) = acts_keep m es a range.0 now in
-    let cpus = cpus_kept m k (λ l. history_of l es) (λ l. history_of l (and_then es o)) now.shows then.shows (setup_kept m a) in
-    let inside : AreInRange (length k.cpus) acts = subst (λ (i : ℕ). AreInRange i acts) (sym cpus) range.1 in
+    let then : ShowsLawful k (with_event es o) = acts_keep m es a range.0 now in
+    let cpus =
+    cpus_kept m k (λ l. history_of l es) (λ l. history_of l (with_event es o)) now.shows then.shows
+    (setup_kept m a) in
+    let inside : AreInRange (length k.cpus) acts =
+    subst (λ (i : ℕ). AreInRange i acts) (sym cpus) range.1 in
     subst (λ (xs : List Event). ShowsLawful (machine_after k acts) xs)
     (events_then es o n (history_from (suc n) k acts))
-    (run_from acts (suc n) k (and_then es o) inside then)
+    (run_from acts (suc n) k (with_event es o) inside then)
 
 pub runs_keep : RunKeeps
 runs_keep setup acts ok range =
     let rest = rest_shows setup ok in
-    run_from acts 1 (at_rest setup) [] (subst (λ (i : ℕ). AreInRange i acts) (sym rest.shows.whole.cpus) range) rest
+    run_from acts 1 (at_rest setup) []
+    (subst (λ (i : ℕ). AreInRange i acts) (sym rest.shows.whole.cpus) range) rest

@@ -48,7 +48,7 @@ use Rattle.lk_law.proofs.common.Sames.{same_lock-self}
 use Rattle.lk_law.proofs.common.HeldAfter.{Stance, held_goes, held_frees}
 use Rattle.lk_core.proofs.Access.{lock_part, lock_same, lock_other}
 use Rattle.lk_core.proofs.Seated.{alike}
-use Rattle.lk_core.proofs.Same.{Same, same_self}
+use Rattle.lk_core.proofs.Same.{KeepsFrames, same_self}
 use Rattle.lk_core.proofs.Stores.{Stored}
 use Rattle.lk_core.proofs.Walks.{IsOuter, NodesIn, holds_done}
 use Rattle.lk_core.proofs.Moved.{Ready, ready_nodes, goes_shows, done_shows, missed_shows}
@@ -135,13 +135,14 @@ world-set_rw m i x lt =
       word = λ l. word-set_rw m i x l;
       node = λ n. node-set_rw m i x n;
       frame = λ u. frame-set_rw m i x u;
-      held = λ u k. held-set_rw m i x u k (frame_at (set_rw m i x) u) ∙ ap (held_at m u k) (frame-set_rw m i x u);
+      held = λ u k. held-set_rw m i x u k (frame_at (set_rw m i x) u)
+          ∙ ap (held_at m u k) (frame-set_rw m i x u);
       queued = λ p. queued-set_rw m i x p;
       rw = λ k. rw_changed m i x lt k;
       kind = λ k. ap (λ (s : Setup). slice_index_or s.locks.items k Spin) (setup-set_rw m i x);
     })
 
-same_set_rw : (m : Machine) (i : ℕ) (x : RwFields) → Same m (set_rw m i x)
+same_set_rw : (m : Machine) (i : ℕ) (x : RwFields) → KeepsFrames m (set_rw m i x)
 unfolding set_rw set_lock cpu_at handlers_at depth_at
 same_set_rw m i x =
     record {
@@ -160,12 +161,17 @@ same_set_rw m i x =
 pub rw_stored : (m : Machine) (i : ℕ) (o : Option RwFields) → i < length m.locks
     → Stored m (stored_rw m i o) (stores_rw (world m) i o)
 rw_stored m i None lt = record { same = same_self m; frames = λ u. refl; world = refl }
-rw_stored m i (Some x) lt = record { same = same_set_rw m i x; frames = λ u. frame-set_rw m i x u; world = world-set_rw m i x lt }
+rw_stored m i (Some x) lt = record {
+  same = same_set_rw m i x;
+  frames = λ u. frame-set_rw m i x u;
+  world = world-set_rw m i x lt;
+}
 
 -- Where a row of a reader or a writer leads, by its frame's verb and place, and how its waiter
 -- holds the lock after it: on to a row where it has the wait lock as before; to free the wait lock,
 -- with the lock taken; the operation is done; the try has failed; to take the wait lock.
-pub data RwLead (mode : Mode) (v : Verb) (f : Frame) (c : Pc) (had : Option Manner) : Lead → Option Manner → Type 0 where
+pub data RwLead (mode : Mode) (v : Verb) (f : Frame) (c : Pc) (had : Option Manner) : Lead
+    → Option Manner → Type 0 where
   OnTo : (d : Pc) → is_rw_row d ≡ true → RwBelongs v f.lock.wait d
       → is_inner (rw_own_phase d) ≡ is_inner (rw_own_phase c)
       → RwLead mode v f c had (Goes d []) had
@@ -230,7 +236,8 @@ module _ (n : Machine) (p : ℕ) (f : Frame) (c : Pc) (hs : LockName → LockHis
   held_f l = ap (held_at n u l) r.live
 
   phase : rw_phase_of f ≡ rw_own_phase c
-  phase = ap (λ (d : Option Pc). rw_phase_if d f.lock.wait) place ∙ if-true (is_rw_row c) (rw_own_phase c) _ row
+  phase = ap (λ (d : Option Pc). rw_phase_if d f.lock.wait) place
+      ∙ if-true (is_rw_row c) (rw_own_phase c) _ row
 
   -- a frame at such a row has not done what its operation is for
   not_over : (g : Frame) (d : Pc) → g.place ≡ Some d → is_rw_row d ≡ true
@@ -261,7 +268,9 @@ module _ (n : Machine) (p : ℕ) (f : Frame) (c : Pc) (hs : LockName → LockHis
         | inl e ↦ ap (λ (j : LockName). held_of n u j) e
             ∙ sym (ap (λ (b : Bool). if b then held_of n u k else held_of n u l)
             (ap (λ (j : LockName). same_lock j k) e ∙ same_lock-self k))
-        | inr ne ↦ sym (ap (λ (b : Bool). if b then held_of n u k else held_of n u l) (same_lock-else l k ne))
+        | inr ne ↦
+            sym (ap (λ (b : Bool). if b then held_of n u k else held_of n u l)
+            (same_lock-else l k ne))
       ]
 
   pub rw_moved_shows : (lead : Lead) (way : Option Manner)
@@ -290,15 +299,22 @@ module _ (n : Machine) (p : ℕ) (f : Frame) (c : Pc) (hs : LockName → LockHis
       (way_after r.works.op.verb)
       (λ l. held_frees ops f g {r = rw_phase_of f} {r' = Frees} {v = is_over f} {v' = true}
       {i = f.lock.index} {n = f.«at»} stance r.works.op r.works.is (sym r.works.lock)
-      (record { phase = now; over = ap (λ (x : RwPhase). frees x || owes_kick (Some d)) now; index = refl; position = refl })
+      (record {
+        phase = now;
+        over = ap (λ (x : RwPhase). frees x || owes_kick (Some d)) now;
+        index = refl;
+        position = refl;
+      })
       (ap is_inner phase ∙ inner) off refl refl l
       ∙ ap (λ (o : Option Manner).
       if same_lock l (rw_name f.lock.index) then way_after r.works.op.verb else o)
       (sym (held_f l))) sound
   rw_moved_shows _ _ (Ends out) sound =
       subst (λ (x : Machine). ShowsAll x hs) (sym (done_is n p f r.live))
-      (done_shows n p f c hs r (led f Done) refl refl refl refl (rw_name f.lock.index) (way_after r.works.op.verb)
-      (holds_done ops f (record f { «at» = f.«at» + 1 }) r.works.op r.works.is r.works.lock (outer out) refl) sound)
+      (done_shows n p f c hs r (led f Done) refl refl refl refl (rw_name f.lock.index)
+      (way_after r.works.op.verb)
+      (holds_done ops f (record f { «at» = f.«at» + 1 }) r.works.op r.works.is r.works.lock
+      (outer out) refl) sound)
   rw_moved_shows _ _ (Fails out tries) sound =
       subst (λ (x : Machine). ShowsAll x hs) (sym (missed_is n p f r.live))
       (missed_shows n p f c hs r (led f Missed) refl refl refl refl (outer out) tries sound)
@@ -326,7 +342,8 @@ module _ (mode : Mode) (f : Frame) (x : RwFields) (had : Option Manner) where
   on : (v : Verb) (c d : Pc) (b : Bool) → f.lock.wait ≡ b → is_rw_row d ≡ true → RwBelongs v b d
       → is_inner (rw_own_phase d) ≡ is_inner (rw_own_phase c)
       → RwLead mode v f c had (Goes d []) had
-  on v c d b wait row belongs inner = OnTo d row (subst (λ (t : Bool). RwBelongs v t d) (sym wait) belongs) inner
+  on v c d b wait row belongs inner =
+      OnTo d row (subst (λ (t : Bool). RwBelongs v t d) (sym wait) belongs) inner
 
   free : (v : Verb) (c : Pc) → f.lock.wait ≡ true → takes_wait v ≡ true
       → is_inner (rw_own_phase c) ≡ true → RwLead mode v f c had (frees_wait mode) (way_after v)
@@ -370,7 +387,8 @@ module _ (mode : Mode) (f : Frame) (x : RwFields) (had : Option Manner) where
       (if_cases (Leads Write Wr3) (is_empty x) (takes_written f how.Queued (frees_wait mode))
       (looks Wr4) (λ q. free Write Wr3 w refl refl)
       (λ q. on Write Wr3 Wr4 true w refl (inr (inr (inl refl))) refl))
-  write_in w c (inr (inr (inl e))) = subst (LeadsAt Write) (sym e) (on Write Wr4 Wr5 true w refl (inr (inr (inr (inl refl)))) refl)
+  write_in w c (inr (inr (inl e))) =
+      subst (LeadsAt Write) (sym e) (on Write Wr4 Wr5 true w refl (inr (inr (inr (inl refl)))) refl)
   write_in w c (inr (inr (inr (inl e)))) =
       subst (LeadsAt Write) (sym e)
       (if_cases (λ (d : Pc). RwLead mode Write f Wr5 had (Goes d []) had) (is_cleared x) Wr6 Wr5

@@ -35,7 +35,7 @@ pub record Keeps (m n : Machine) : Type 0 where
   pub hash : IsEnteredOnce m.hash → IsEnteredOnce n.hash
 
 -- and no frame comes or goes
-pub record Same (m n : Machine) : Type 0 where
+pub record KeepsFrames (m n : Machine) : Type 0 where
   pub keeps : Keeps m n
   pub depth : (p : ℕ) → depth_at n p ≡ depth_at m p
   pub handlers : (p : ℕ) → handlers_at n p ≡ handlers_at m p
@@ -51,7 +51,7 @@ keeps_then a b c s t =
       hash = λ once. t.hash (s.hash once);
     }
 
-pub same_then : (a b c : Machine) → Same a b → Same b c → Same a c
+pub same_then : (a b c : Machine) → KeepsFrames a b → KeepsFrames b c → KeepsFrames a c
 same_then a b c s t =
     record {
       keeps = keeps_then a b c s.keeps t.keeps;
@@ -59,19 +59,26 @@ same_then a b c s t =
       handlers = λ p. t.handlers p ∙ s.handlers p;
     }
 
-pub same_self : (m : Machine) → Same m m
+pub same_self : (m : Machine) → KeepsFrames m m
 same_self m =
     record {
-      keeps = record { setup = refl; locks = refl; cpus = refl; nodes = λ p. refl; handlers = λ p. omega arith; hash = λ once. once };
+      keeps = record {
+        setup = refl;
+        locks = refl;
+        cpus = refl;
+        nodes = λ p. refl;
+        handlers = λ p. omega arith;
+        hash = λ once. once;
+      };
       depth = λ p. refl;
       handlers = λ p. refl;
     }
 
 -- the top is the same
-pub top_same : (m n : Machine) (p : ℕ) → Same m n → top_of n p ≡ top_of m p
+pub top_same : (m n : Machine) (p : ℕ) → KeepsFrames m n → top_of n p ≡ top_of m p
 top_same m n p s = (λ i. record { cpu = p; ctx = s.depth p i - 1 })
 
-pub has_top_same : (m n : Machine) (p : ℕ) → Same m n → HasTop m p → HasTop n p
+pub has_top_same : (m n : Machine) (p : ℕ) → KeepsFrames m n → HasTop m p → HasTop n p
 has_top_same m n p s top =
     record {
       in_range = rw s.keeps.cpus top.in_range;
@@ -90,12 +97,15 @@ whole_kept m n w k tops handlers =
       cpus = k.cpus ∙ w.cpus ∙ ap (λ (s : Setup). length s.topology.sockets.items) (sym k.setup);
       nodes = λ p lt. k.nodes p ∙ w.nodes p (rw k.cpus at lt);
       tops = λ p lt. tops p (rw k.cpus at lt);
-      handlers = λ p. subst (λ (s : Setup). handlers_at n p ≤ handlers_of s p) (sym k.setup) (handlers p);
+      handlers =
+          λ p. subst (λ (s : Setup). handlers_at n p ≤ handlers_of s p) (sym k.setup) (handlers p);
       hash = k.hash w.hash;
     }
 
-pub whole_same : (m n : Machine) → IsWhole m → Same m n → IsWhole n
-whole_same m n w s = whole_kept m n w s.keeps (λ p lt. has_top_same m n p s (w.tops p lt)) (λ p. rw (s.handlers p) (w.handlers p))
+pub whole_same : (m n : Machine) → IsWhole m → KeepsFrames m n → IsWhole n
+whole_same m n w s =
+    whole_kept m n w s.keeps (λ p lt. has_top_same m n p s (w.tops p lt))
+    (λ p. rw (s.handlers p) (w.handlers p))
 
 -- a node of the machine stays one
 pub node_kept : (m n : Machine) (x : NodeName) → Keeps m n → HasNode m x → HasNode n x
@@ -106,10 +116,20 @@ pub fits_kept : (m n : Machine) (u : Waiter) (f : Frame) → Keeps m n → Fits 
 fits_kept m n u f k fits =
     record {
       ctx = fits.ctx;
-      program = (fits.program.0, λ lt. let r = fits.program.1 lt in let h = k.handlers u.cpu in (r.0, omega (arith, r.1, h)));
-      within = subst (λ (s : Setup). f.«at» ≤ length (program_at s u.cpu f.program)) (sym k.setup) fits.within;
-      finished = λ e. subst (λ (s : Setup). f.«at» ≡ length (program_at s u.cpu f.program)) (sym k.setup) (fits.finished e);
-      working = λ c e. subst (λ (s : Setup). Works s.mode (program_at s u.cpu f.program) f c) (sym k.setup) (fits.working c e);
+      program = (
+        fits.program.0,
+        λ lt.
+            let r = fits.program.1 lt in let h = k.handlers u.cpu in (r.0, omega (arith, r.1, h)),
+      );
+      within =
+          subst (λ (s : Setup). f.«at» ≤ length (program_at s u.cpu f.program))
+          (sym k.setup) fits.within;
+      finished = λ e.
+          subst (λ (s : Setup). f.«at» ≡ length (program_at s u.cpu f.program)) (sym k.setup)
+          (fits.finished e);
+      working = λ c e.
+          subst (λ (s : Setup). Works s.mode (program_at s u.cpu f.program) f c) (sym k.setup)
+          (fits.working c e);
       prev = λ x e. node_kept m n x k (fits.prev x e);
       target = λ x e. node_kept m n x k (fits.target x e);
     }
@@ -137,7 +157,8 @@ hash-set_cpu : (m : Machine) (p : ℕ) (c : CpuState) → IsEnteredOnce m.hash
 unfolding set_cpu
 hash-set_cpu m p c once = once
 
-same_set_cpu : (m : Machine) (p : ℕ) (c : CpuState) → AsMany (cpu_at m p) c → Same m (set_cpu m p c)
+same_set_cpu : (m : Machine) (p : ℕ) (c : CpuState) → AsMany (cpu_at m p) c
+    → KeepsFrames m (set_cpu m p c)
 unfolding handlers_at depth_at
 same_set_cpu m p c a =
     let handlers : (q : ℕ) → handlers_at (set_cpu m p c) q ≡ handlers_at m q =
@@ -155,7 +176,7 @@ same_set_cpu m p c a =
       handlers = handlers;
     }
 
-pub same_set_top : (m : Machine) (p : ℕ) (g : Frame) → Same m (set_top m p g)
+pub same_set_top : (m : Machine) (p : ℕ) (g : Frame) → KeepsFrames m (set_top m p g)
 unfolding set_top
 same_set_top m p g =
     same_set_cpu m p (record (cpu_at m p) { frames = set (cpu_at m p).frames (depth_at m p - 1) g })
@@ -165,7 +186,7 @@ same_set_top m p g =
       handlers = refl;
     })
 
-pub same_set_node : (m : Machine) (n : NodeName) (x : Node) → Same m (set_node m n x)
+pub same_set_node : (m : Machine) (n : NodeName) (x : Node) → KeepsFrames m (set_node m n x)
 unfolding set_node
 same_set_node m n x =
     same_set_cpu m n.cpu (record (cpu_at m n.cpu) { nodes = set (cpu_at m n.cpu).nodes n.index x })
@@ -175,40 +196,55 @@ same_set_node m n x =
       handlers = refl;
     })
 
-pub same_set_queued : (m : Machine) (p n : ℕ) → Same m (set_queued m p n)
+pub same_set_queued : (m : Machine) (p n : ℕ) → KeepsFrames m (set_queued m p n)
 unfolding set_queued
-same_set_queued m p n = same_set_cpu m p (record (cpu_at m p) { queued = n }) (record { nodes = refl; frames = refl; handlers = refl })
+same_set_queued m p n =
+    same_set_cpu m p (record (cpu_at m p) { queued = n })
+    (record { nodes = refl; frames = refl; handlers = refl })
 
-pub same_set_preempted : (m : Machine) (p : ℕ) (b : Bool) → Same m (set_preempted m p b)
+pub same_set_preempted : (m : Machine) (p : ℕ) (b : Bool) → KeepsFrames m (set_preempted m p b)
 unfolding set_preempted
 same_set_preempted m p b =
     same_set_cpu m p (record (cpu_at m p) { preempted = b })
     (record { nodes = refl; frames = refl; handlers = refl })
 
-pub same_set_halted : (m : Machine) (p : ℕ) (b : Bool) → Same m (set_halted m p b)
+pub same_set_halted : (m : Machine) (p : ℕ) (b : Bool) → KeepsFrames m (set_halted m p b)
 unfolding set_halted
-same_set_halted m p b = same_set_cpu m p (record (cpu_at m p) { halted = b }) (record { nodes = refl; frames = refl; handlers = refl })
+same_set_halted m p b =
+    same_set_cpu m p (record (cpu_at m p) { halted = b })
+    (record { nodes = refl; frames = refl; handlers = refl })
 
-pub same_set_kicked : (m : Machine) (p : ℕ) (b : Bool) → Same m (set_kicked m p b)
+pub same_set_kicked : (m : Machine) (p : ℕ) (b : Bool) → KeepsFrames m (set_kicked m p b)
 unfolding set_kicked
-same_set_kicked m p b = same_set_cpu m p (record (cpu_at m p) { kicked = b }) (record { nodes = refl; frames = refl; handlers = refl })
+same_set_kicked m p b =
+    same_set_cpu m p (record (cpu_at m p) { kicked = b })
+    (record { nodes = refl; frames = refl; handlers = refl })
 
 same_hashing : (m : Machine) (es : List Entry) → (IsEnteredOnce m.hash → IsEnteredOnce es)
-    → Same m (hashing m es)
+    → KeepsFrames m (hashing m es)
 unfolding cpu_at handlers_at depth_at
 same_hashing m es once =
     record {
-      keeps = record { setup = refl; locks = refl; cpus = refl; nodes = λ p. refl; handlers = λ p. omega arith; hash = once };
+      keeps = record {
+        setup = refl;
+        locks = refl;
+        cpus = refl;
+        nodes = λ p. refl;
+        handlers = λ p. omega arith;
+        hash = once;
+      };
       depth = λ p. refl;
       handlers = λ p. refl;
     }
 
-pub same_set_entry : (m : Machine) (l : LockName) (x : Option NodeName) → Same m (set_entry m l x)
+pub same_set_entry : (m : Machine) (l : LockName) (x : Option NodeName)
+    → KeepsFrames m (set_entry m l x)
 unfolding set_entry
 same_set_entry m l None = same_hashing m (without_entry l m.hash) (once_without l m.hash)
-same_set_entry m l (Some n) = same_hashing m ((l, n) ∷ without_entry l m.hash) (once_with l n m.hash)
+same_set_entry m l (Some n) =
+    same_hashing m ((l, n) ∷ without_entry l m.hash) (once_with l n m.hash)
 
-pub same_set_word : (m : Machine) (l : LockName) (x : Fields) → Same m (set_word m l x)
+pub same_set_word : (m : Machine) (l : LockName) (x : Fields) → KeepsFrames m (set_word m l x)
 unfolding set_word set_lock cpu_at handlers_at depth_at
 same_set_word m l x =
     record {
@@ -228,11 +264,18 @@ same_set_word m l x =
       handlers = λ p. refl;
     }
 
-pub same_set_counts : (m : Machine) (x : Counts) → Same m (set_counts m x)
+pub same_set_counts : (m : Machine) (x : Counts) → KeepsFrames m (set_counts m x)
 unfolding set_counts cpu_at handlers_at depth_at
 same_set_counts m x =
     record {
-      keeps = record { setup = refl; locks = refl; cpus = refl; nodes = λ p. refl; handlers = λ p. omega arith; hash = λ once. once };
+      keeps = record {
+        setup = refl;
+        locks = refl;
+        cpus = refl;
+        nodes = λ p. refl;
+        handlers = λ p. omega arith;
+        hash = λ once. once;
+      };
       depth = λ p. refl;
       handlers = λ p. refl;
     }
@@ -242,13 +285,15 @@ same_set_counts m x =
 pub keeps_pop : (m : Machine) (p : ℕ) → Keeps m (pop m p)
 unfolding pop handlers_at
 keeps_pop m p =
-    let c : CpuState = record (cpu_at m p) { frames = take (depth_at m p - 1) (cpu_at m p).frames } in
+    let c : CpuState =
+    record (cpu_at m p) { frames = take (depth_at m p - 1) (cpu_at m p).frames } in
     record {
       setup = setup-set_cpu m p c;
       locks = locks-set_cpu m p c;
       cpus = cpus-set_cpu m p c;
       nodes = cpu_part (λ (d : CpuState). length d.nodes) m p c refl;
-      handlers = λ q. let e = cpu_part (λ (d : CpuState). d.handlers) m p c refl q in omega (arith, e);
+      handlers = λ q.
+          let e = cpu_part (λ (d : CpuState). d.handlers) m p c refl q in omega (arith, e);
       hash = hash-set_cpu m p c;
     }
 
@@ -261,7 +306,8 @@ handlers_pop m p q =
 depth_pop : (m : Machine) (p : ℕ) → HasTop m p → depth_at (pop m p) p ≡ depth_at m p - 1
 unfolding pop depth_at
 depth_pop m p top =
-    let c : CpuState = record (cpu_at m p) { frames = take (depth_at m p - 1) (cpu_at m p).frames } in
+    let c : CpuState =
+    record (cpu_at m p) { frames = take (depth_at m p - 1) (cpu_at m p).frames } in
     ap (λ (d : CpuState). length d.frames) (cpu_same m p c top.in_range)
     ∙ length-take-le (depth_at m p - 1) (cpu_at m p).frames (omega arith)
 
@@ -286,7 +332,8 @@ tops_pop m p top above q t =
             some = omega arith;
             few = omega (arith, top.few);
           })
-      | inr ne ↦ let d = depth_pop_other m p q ne in record { in_range = rw cpus t.in_range; some = rw d t.some; few = rw d t.few }
+      | inr ne ↦ let d = depth_pop_other m p q ne in
+          record { in_range = rw cpus t.in_range; some = rw d t.some; few = rw d t.few }
     ]
 
 -- a frame comes on top
@@ -294,7 +341,10 @@ tops_pop m p top above q t =
 pub keeps_push : (m : Machine) (p : ℕ) (g : Frame) → p < length m.cpus → Keeps m (push m p g)
 unfolding push handlers_at
 keeps_push m p g lt =
-    let c : CpuState = record (cpu_at m p) { frames = (cpu_at m p).frames ++ g ∷ []; handlers = (cpu_at m p).handlers + 1 } in
+    let c : CpuState = record (cpu_at m p) {
+      frames = (cpu_at m p).frames ++ g ∷ [];
+      handlers = (cpu_at m p).handlers + 1;
+    } in
     record {
       setup = setup-set_cpu m p c;
       locks = locks-set_cpu m p c;
@@ -360,6 +410,8 @@ tops_push m p g lt room q t =
     elim (cases_eq q p) [
       | inl e ↦
           let d = depth_push m p g lt in
-          subst (λ (r : ℕ). HasTop (push m p g) r) (sym e) (record { in_range = rw cpus lt; some = omega arith; few = omega arith })
-      | inr ne ↦ let d = depth_push_other m p q g ne in record { in_range = rw cpus t.in_range; some = rw d t.some; few = rw d t.few }
+          subst (λ (r : ℕ). HasTop (push m p g) r) (sym e)
+          (record { in_range = rw cpus lt; some = omega arith; few = omega arith })
+      | inr ne ↦ let d = depth_push_other m p q g ne in
+          record { in_range = rw cpus t.in_range; some = rw d t.some; few = rw d t.few }
     ]

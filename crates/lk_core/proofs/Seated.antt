@@ -29,7 +29,7 @@ use Rattle.lk_core.proofs.Lists.{get-push_other}
 use Rattle.lk_core.proofs.Access.{cpu_part, frame_changed}
 
 -- two worlds agree everywhere
-pub record Alike (a b : World) : Type 0 where
+pub record SameWorld (a b : World) : Type 0 where
   pub mode : a.mode ≡ b.mode
   pub turns : a.turns ≡ b.turns
   pub threshold : a.threshold ≡ b.threshold
@@ -45,7 +45,7 @@ pub record Alike (a b : World) : Type 0 where
   pub halted : (p : ℕ) → a.halted p ≡ b.halted p
   pub kicked : (p : ℕ) → a.kicked p ≡ b.kicked p
 
-pub alike : (a b : World) → Alike a b → a ≡ b
+pub alike : (a b : World) → SameWorld a b → a ≡ b
 alike a b e =
     (λ i. record {
       mode = e.mode i;
@@ -66,10 +66,14 @@ alike a b e =
 
 -- the world of a machine with another frame of w, which holds locks as its program does
 abbrev pub seated : Machine → Waiter → Option Frame → World
-seated m w o = record (put_frame (world m) w o) { held = λ u l. if same_waiter u w then held_at m w l o else held_of m u l }
+seated m w o =
+    record
+    (put_frame
+    (world m) w o) { held = λ u l. if same_waiter u w then held_at m w l o else held_of m u l }
 
 -- what a frame holds depends on the setup alone
-pub held-set_cpu : (m : Machine) (p : ℕ) (c : CpuState) (u : Waiter) (l : LockName) (o : Option Frame)
+pub held-set_cpu : (m : Machine) (p : ℕ) (c : CpuState) (u : Waiter) (l : LockName)
+    (o : Option Frame)
     → held_at (set_cpu m p c) u l o ≡ held_at m u l o
 unfolding set_cpu
 held-set_cpu m p c u l None = refl
@@ -88,11 +92,13 @@ unfolding set_counts
 held-set_counts m x u l None = refl
 held-set_counts m x u l (Some d) = refl
 
-pub mode-set_cpu : (m : Machine) (p : ℕ) (c : CpuState) → (world (set_cpu m p c)).mode ≡ m.setup.mode
+pub mode-set_cpu : (m : Machine) (p : ℕ) (c : CpuState)
+    → (world (set_cpu m p c)).mode ≡ m.setup.mode
 unfolding set_cpu
 mode-set_cpu m p c = refl
 
-pub turns-set_cpu : (m : Machine) (p : ℕ) (c : CpuState) → (world (set_cpu m p c)).turns ≡ m.setup.spins
+pub turns-set_cpu : (m : Machine) (p : ℕ) (c : CpuState)
+    → (world (set_cpu m p c)).turns ≡ m.setup.spins
 unfolding set_cpu
 turns-set_cpu m p c = refl
 
@@ -135,7 +141,8 @@ pub kind-set_cpu : (m : Machine) (p : ℕ) (c : CpuState) (i : ℕ)
 unfolding set_cpu
 kind-set_cpu m p c i = refl
 
-pub node-set_cpu : (m : Machine) (p : ℕ) (c : CpuState) → c.nodes ≡ (cpu_at m p).nodes → (n : NodeName)
+pub node-set_cpu : (m : Machine) (p : ℕ) (c : CpuState) → c.nodes ≡ (cpu_at m p).nodes
+    → (n : NodeName)
     → node_at (set_cpu m p c) n ≡ node_at m n
 unfolding node_at
 node-set_cpu m p c e n =
@@ -168,7 +175,8 @@ world-set_cpu m p c frames nodes queued halted kicked =
       word = λ l. word-set_cpu m p c l;
       node = λ n. node-set_cpu m p c nodes n;
       frame = λ u. frame u;
-      held = λ u l. held-set_cpu m p c u l (frame_at (set_cpu m p c) u) ∙ ap (held_at m u l) (frame u);
+      held =
+          λ u l. held-set_cpu m p c u l (frame_at (set_cpu m p c) u) ∙ ap (held_at m u l) (frame u);
       queued = λ q. queued-set_cpu m p c queued q;
       rw = λ i. rw-set_cpu m p c i;
       kind = λ i. kind-set_cpu m p c i;
@@ -201,7 +209,8 @@ world-reseated m w o c r =
       word = λ l. word-set_cpu m w.cpu c l;
       node = λ k. node-set_cpu m w.cpu c r.nodes k;
       frame = λ u. frame u;
-      held = λ u l. held-set_cpu m w.cpu c u l (frame_at n u) ∙ ap (held_at m u l) (frame u) ∙ split u l;
+      held = λ u l. held-set_cpu m w.cpu c u l (frame_at n u) ∙ ap (held_at m u l) (frame u)
+          ∙ split u l;
       queued = λ q. queued-set_cpu m w.cpu c r.queued q;
       rw = λ i. rw-set_cpu m w.cpu c i;
       kind = λ i. kind-set_cpu m w.cpu c i;
@@ -227,7 +236,8 @@ pub world-set_top : (m : Machine) (p : ℕ) (g : Frame) → HasTop m p
     → world (set_top m p g) ≡ seated m (top_of m p) (Some g)
 unfolding set_top depth_at
 world-set_top m p g top =
-    world-reseated m (top_of m p) (Some g) (record (cpu_at m p) { frames = set (cpu_at m p).frames (depth_at m p - 1) g }) (record {
+    world-reseated m (top_of m p) (Some g)
+    (record (cpu_at m p) { frames = set (cpu_at m p).frames (depth_at m p - 1) g }) (record {
       range = top.in_range;
       here = get-set_same (cpu_at m p).frames (depth_at m p - 1) g (omega (arith, top.some));
       others = λ i ne. get-set_other (cpu_at m p).frames (depth_at m p - 1) i g ne;
@@ -240,7 +250,8 @@ world-set_top m p g top =
 pub world-pop : (m : Machine) (p : ℕ) → HasTop m p → world (pop m p) ≡ seated m (top_of m p) None
 unfolding pop depth_at
 world-pop m p top =
-    world-reseated m (top_of m p) None (record (cpu_at m p) { frames = take (depth_at m p - 1) (cpu_at m p).frames }) (record {
+    world-reseated m (top_of m p) None
+    (record (cpu_at m p) { frames = take (depth_at m p - 1) (cpu_at m p).frames }) (record {
       range = top.in_range;
       here = get-take_end (cpu_at m p).frames (depth_at m p - 1) (depth_at m p - 1) (omega arith);
       others = λ i ne. elim (cases_order i (depth_at m p - 1)) [
@@ -282,4 +293,5 @@ world-push m p g lt =
 
 pub world-set_preempted : (m : Machine) (p : ℕ) (b : Bool) → world (set_preempted m p b) ≡ world m
 unfolding set_preempted
-world-set_preempted m p b = world-set_cpu m p (record (cpu_at m p) { preempted = b }) refl refl refl refl refl
+world-set_preempted m p b =
+    world-set_cpu m p (record (cpu_at m p) { preempted = b }) refl refl refl refl refl

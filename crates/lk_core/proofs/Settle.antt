@@ -26,7 +26,7 @@ use Rattle.lk_law.specs.Premises.{IsThen}
 use Rattle.lk_law.specs.World.{World}
 use Rattle.lk_law.specs.Steps.{put_frame}
 use Rattle.lk_law.specs.Sound.{world, held_at, held_of, RunsOne, Fits, IsWhole, ShowsAll, held_idle}
-use Rattle.lk_law.specs.Sound.{frees, owes_kick, Stage, Spinning, Sharing}
+use Rattle.lk_law.specs.Sound.{frees, owes_kick, Footing, Spinning, Sharing}
 use Rattle.lk_law.proofs.common.Cases.{waiter_cases}
 use Rattle.lk_law.proofs.common.Sames.{same_waiter-self}
 use Rattle.lk_law.proofs.common.Puts.{same_waiter-else}
@@ -41,8 +41,8 @@ use Rattle.lk_core.proofs.Same.{whole_same, fits_kept}
 
 -- what stands after an operation has ended and before the next one begins: the acting frame d has
 -- no place, and holds what h holds, which goes on in its place
-abbrev pub ended : Machine → Waiter → Frame → Frame → World
-ended n w d h =
+abbrev pub ended_at : Machine → Waiter → Frame → Frame → World
+ended_at n w d h =
     record (put_frame (world n) w (Some d)) {
       held =
           λ u l. if same_waiter u w then held_idle (program_of n w.cpu h) h l else held_of n u l;
@@ -53,7 +53,7 @@ pub record Between (n : Machine) (p : ℕ) (d h : Frame) (hs : LockName → Lock
   pub whole : IsWhole n
   pub range : p < length n.cpus
   pub others : (u : Waiter) (f : Frame) → u ≢ top_of n p → frame_at n u ≡ Some f → Fits n u f
-  pub world : IsSoundWorld (ended n (top_of n p) d h) hs
+  pub world : IsSoundWorld (ended_at n (top_of n p) d h) hs
   pub place : d.place ≡ None
   pub me : h.me ≡ d.me
   pub lock : h.lock ≡ d.lock
@@ -75,7 +75,8 @@ pub fits_all : (n m : Machine) (w : Waiter) (o : Option Frame) → Keeps n m
 fits_all n m w o k frames here others u f e =
     elim (waiter_cases u w) [
       | inl i ↦
-          let at : frame_at m w ≡ o = frames w ∙ ap (λ (b : Bool). if b then o else frame_at n w) (same_waiter-self w) in
+          let at : frame_at m w ≡ o =
+          frames w ∙ ap (λ (b : Bool). if b then o else frame_at n w) (same_waiter-self w) in
           subst (λ (v : Waiter). Fits m v f) (sym i) (here f (sym at ∙ ap (frame_at m) (sym i) ∙ e))
       | inr ne ↦
           let at : frame_at m u ≡ frame_at n u = frames u
@@ -85,7 +86,7 @@ fits_all n m w o k frames here others u f e =
 
 -- an operation begins at a row of its own
 pub first_stage : (mode : Mode) (v : Verb) (f : Frame) → f.lock.wait ≡ false
-    → Stage mode v f (first_place mode v)
+    → Footing mode v f (first_place mode v)
 first_stage Virt Lock f q = Spinning q refl refl
 first_stage Native Lock f q = Spinning q refl refl
 first_stage Cna Lock f q = Spinning q refl refl
@@ -150,7 +151,8 @@ placeless_fits kind d g fits place lock next =
       after = λ q. subst IsThen (sym next) (fits.after (sym wait ∙ q));
     }
 
-module _ (n : Machine) (p : ℕ) (d h : Frame) (hs : LockName → LockHistory) (b : Between n p d h hs) where
+module _ (n : Machine) (p : ℕ) (d h : Frame) (hs : LockName → LockHistory)
+    (b : Between n p d h hs) where
   abbrev w : Waiter
   w = top_of n p
 
@@ -165,9 +167,9 @@ module _ (n : Machine) (p : ℕ) (d h : Frame) (hs : LockName → LockHistory) (
 
   -- the frame g comes in the place of d, and holds the same
   over : (g : Option Frame) → ((l : LockName) → held_at n w l g ≡ held_idle ops h l)
-      → seated n w g ≡ put_frame (ended n w d h) w g
+      → seated n w g ≡ put_frame (ended_at n w d h) w g
   over g same =
-      alike (seated n w g) (put_frame (ended n w d h) w g) (record {
+      alike (seated n w g) (put_frame (ended_at n w d h) w g) (record {
         mode = refl;
         turns = refl;
         threshold = refl;
@@ -189,7 +191,7 @@ module _ (n : Machine) (p : ℕ) (d h : Frame) (hs : LockName → LockHistory) (
       by true x y z = refl
       by false x y z = refl
 
-  here : (ended n w d h).frame w ≡ Some d
+  here : (ended_at n w d h).frame w ≡ Some d
   here = ap (λ (t : Bool). if t then Some d else frame_at n w) (same_waiter-self w)
 
   idle : (d.place ≡ None) × (d.me ≡ None)
@@ -200,7 +202,7 @@ module _ (n : Machine) (p : ℕ) (d h : Frame) (hs : LockName → LockHistory) (
   -- what a machine shows after a write of its top frame
   shows : (m : Machine) (g : Option Frame) → world m ≡ seated n w g
       → ((l : LockName) → held_at n w l g ≡ held_idle ops h l) → Keeps n m → IsWhole m
-      → ((f : Frame) → g ≡ Some f → Fits m w f) → IsSoundWorld (put_frame (ended n w d h) w g) hs
+      → ((f : Frame) → g ≡ Some f → Fits m w f) → IsSoundWorld (put_frame (ended_at n w d h) w g) hs
       → ShowsAll m hs
   shows m g is same keeps whole fits sound =
       record {
@@ -219,17 +221,20 @@ module _ (n : Machine) (p : ℕ) (d h : Frame) (hs : LockName → LockHistory) (
       shows m (Some g) (world-set_top n p g top)
       (λ l. outer_held ops g (first_outer n.setup.mode o.verb g refl refl) l) same.keeps
       (whole_same n m b.whole same)
-      (λ f e. subst (λ (x : Frame). Fits m w x) (same_Some g f e) (fits_kept n m w g same.keeps fit))
-      (begin_keeps (ended n w d h) hs w d h o b.world here b.place held kind b.me)
+      (λ f e.
+      subst (λ (x : Frame). Fits m w x) (same_Some g f e) (fits_kept n m w g same.keeps fit))
+      (begin_keeps (ended_at n w d h) hs w d h o b.world here b.place held kind b.me)
     where
-      held : (ended n w d h).held w (record { index = o.lock; wait = false }) ≡ way_before o.verb
+      held : (ended_at n w d h).held w (record { index = o.lock; wait = false }) ≡ way_before o.verb
       held = ap (λ (t : Bool).
           if t then way_at ops h.«at» o.lock else held_of n w
           (record { index = o.lock; wait = false })) (same_waiter-self w)
           ∙ lawful.fits h.«at» o next
 
       kind : slice_index_or n.setup.locks.items o.lock Spin ≡ kind_of o.verb
-      kind = get_or_from_slice_get n.setup.locks.items o.lock (kind_of o.verb) Spin (lawful.declared h.«at» o next)
+      kind =
+          get_or_from_slice_get n.setup.locks.items o.lock (kind_of o.verb) Spin
+          (lawful.declared h.«at» o next)
 
       fit : Fits n w (started n.setup.mode h o)
       fit =
@@ -239,13 +244,14 @@ module _ (n : Machine) (p : ℕ) (d h : Frame) (hs : LockName → LockHistory) (
             within = b.within;
             finished = λ e. cc;
             working = λ c e.
-                let at : first_place n.setup.mode o.verb ≡ c = same_Some (first_place n.setup.mode o.verb) c e in
+                let at : first_place n.setup.mode o.verb ≡ c =
+                same_Some (first_place n.setup.mode o.verb) c e in
                 record {
                   op = o;
                   is = next;
                   lock = refl;
                   stage = subst
-                      (λ (x : Pc). Stage n.setup.mode o.verb (started n.setup.mode h o) x) at
+                      (λ (x : Pc). Footing n.setup.mode o.verb (started n.setup.mode h o) x) at
                       (first_stage n.setup.mode o.verb (started n.setup.mode h o) refl);
                   after = λ q. cc;
                 };
@@ -276,10 +282,15 @@ module _ (n : Machine) (p : ℕ) (d h : Frame) (hs : LockName → LockHistory) (
         prev = b.nodes.prev;
         target = b.nodes.target;
       } in
-      shows m (Some g) (world-set_top n p g top) (λ l. refl) same.keeps (whole_same n m b.whole same)
-      (λ f q. subst (λ (x : Frame). Fits m w x) (same_Some g f q) (fits_kept n m w g same.keeps fit))
-      (end_keeps (ended n w d h) hs w (Some d) (Some g) b.world here idle (refl, b.me ∙ idle.1) (λ q. absurd (none-some d (sym q)))
-      (λ x q. subst (RwFits kinds) (same_Some g x q) (placeless_fits kinds d g (b.world.fits w d here) refl b.lock b.next)))
+      shows m (Some g) (world-set_top n p g top) (λ l. refl) same.keeps
+      (whole_same n m b.whole same)
+      (λ f q.
+      subst (λ (x : Frame). Fits m w x) (same_Some g f q) (fits_kept n m w g same.keeps fit))
+      (end_keeps (ended_at n w d h) hs w (Some d) (Some g) b.world here idle (refl, b.me ∙ idle.1)
+      (λ q. absurd (none-some d (sym q)))
+      (λ x q.
+      subst (RwFits kinds) (same_Some g x q)
+      (placeless_fits kinds d g (b.world.fits w d here) refl b.lock b.next)))
 
   empty : slice_get ops h.«at» ≡ None → (l : LockName) → held_at n w l None ≡ held_idle ops h l
   empty e l = elim
@@ -296,7 +307,7 @@ module _ (n : Machine) (p : ℕ) (d h : Frame) (hs : LockName → LockHistory) (
       let whole = whole_kept n m b.whole keeps (λ q lt. tops_pop n p top up q (b.whole.tops q lt))
       (λ q. rw (handlers_pop n p q) (b.whole.handlers q)) in
       shows m None (world-pop n p top) (empty e) keeps whole (λ f q. absurd (none-some f q))
-      (end_keeps (ended n w d h) hs w (Some d) None b.world here idle tt
+      (end_keeps (ended_at n w d h) hs w (Some d) None b.world here idle tt
       (λ q. absurd (none-some d (sym q))) (λ x q. absurd (none-some x q)))
 
   settled_by : (o : Option Op) → slice_get ops h.«at» ≡ o → ShowsAll (settled_at n p h o) hs

@@ -1,5 +1,5 @@
 -- How a frame at a row stands to the lock on which it acts.
-use Rattle.std.proofs.Common.{◌≡◌, inl, inr, Bool, ℕ, Option, Some, true, false, [], arith, ap, ◌<◌}
+use Rattle.std.proofs.Common.{◌≡◌, inl, inr, Bool, ℕ, Option, Some, true, false, arith, ap, ◌<◌}
 use Rattle.std.proofs.Common.{refl, sym, ◌∙◌, length}
 use Rattle.lk_abs.specs.History.{LockHistory}
 use Rattle.lk_abs.specs.declared.names.Mode.{Mode}
@@ -16,7 +16,7 @@ use Rattle.lk_law.specs.RwPhase.RwPhase.{Away}
 use Rattle.lk_law.specs.Families.{is_rw_row}
 use Rattle.lk_law.specs.SoundWorld.{rw_phase_if, rw_phase_of}
 use Rattle.lk_law.specs.Premises.{IsNewest}
-use Rattle.lk_law.specs.Sound.{world, is_over, BelongsTo, ShowsAll, Stage, Spinning, Sharing}
+use Rattle.lk_law.specs.Sound.{world, is_over, BelongsTo, ShowsAll, Footing, Spinning, Sharing}
 use Rattle.lk_law.specs.Sound.{Waiting, Freeing, Owing, RwBelongs}
 use Rattle.lk_core.proofs.Access.{above_top}
 use Rattle.lk_core.proofs.Walks.{IsOuter}
@@ -26,11 +26,11 @@ use Rattle.lk_core.proofs.RowParts.{outer_plain, outer_waits, over_here, spin_ro
 
 -- how a frame at a row stands: at a row of V of a spinlock or a wait lock; with a lock that it has
 -- freed, owing a kick; or at a row of a reader or a writer
-pub data Stands (mode : Mode) (v : Verb) (f : Frame) (c : Pc) : Type 0 where
-  Acts : (V : Verb) → IsAt mode v f V → BelongsTo mode V c → Stands mode v f c
+pub data Stance (mode : Mode) (v : Verb) (f : Frame) (c : Pc) : Type 0 where
+  Acts : (V : Verb) → IsAt mode v f V → BelongsTo mode V c → Stance mode v f c
   Owes : c ≡ U5 → is_inner (rw_phase_of f) ≡ false → is_over f ≡ true
-      → (f.lock.wait ≡ false → v ≡ Unlock) → Stands mode v f c
-  Shares : is_rw_row c ≡ true → RwBelongs v f.lock.wait c → Stands mode v f c
+      → (f.lock.wait ≡ false → v ≡ Unlock) → Stance mode v f c
+  Shares : is_rw_row c ≡ true → RwBelongs v f.lock.wait c → Stance mode v f c
 
 wait_same : (f g : Frame) (b : Bool) → g.lock ≡ f.lock → f.lock.wait ≡ b → g.lock.wait ≡ b
 wait_same f g b lock e = ap (λ (l : LockName). l.wait) lock ∙ e
@@ -41,8 +41,8 @@ hold_outer f g a b = record { inner = b.inner ∙ sym a.inner; over = b.over ∙
 hold_freeing : (f g : Frame) → IsFreeing f → IsFreeing g → SameHold f g
 hold_freeing f g a b = record { inner = b.inner ∙ sym a.inner; over = b.over ∙ sym a.over }
 
-pub stands : (mode : Mode) (v : Verb) (f : Frame) (c : Pc) → f.place ≡ Some c → Stage mode v f c
-    → Stands mode v f c
+pub stands : (mode : Mode) (v : Verb) (f : Frame) (c : Pc) → f.place ≡ Some c → Footing mode v f c
+    → Stance mode v f c
 stands mode v f c place (Spinning wait spin row) =
     let here = outer_plain f c place wait spin (not_owing mode v c row) in
     Acts v
@@ -64,8 +64,10 @@ stands mode v f c place (Waiting wait spin taking takes row) =
       stages = λ g d lock at row.
           let w = wait_same f g true lock wait in
           let s = spin_row_of mode Lock d row in
-          let t = lock_taking mode d row in
-          (Waiting w s t takes row, hold_outer f g here (outer_waits g d at w s t (not_owing mode Lock d row)));
+          let t = lock_taking mode d row in (
+            Waiting w s t takes row,
+            hold_outer f g here (outer_waits g d at w s t (not_owing mode Lock d row)),
+          );
       plain = λ e. absurd (grind (arith, e, wait));
       waits = λ e. takes;
       locks = λ e. inl (refl, here);
@@ -77,8 +79,10 @@ stands mode v f c place (Freeing wait spin release takes row) =
     (record {
       stages = λ g d lock at row.
           let w = wait_same f g true lock wait in
-          let s = spin_row_of mode Unlock d row in
-          (Freeing w s (freeing_release mode d row) takes row, hold_freeing f g here (freeing_waits mode g d at w s row));
+          let s = spin_row_of mode Unlock d row in (
+            Freeing w s (freeing_release mode d row) takes row,
+            hold_freeing f g here (freeing_waits mode g d at w s row),
+          );
       plain = λ e. absurd (grind (arith, e, wait));
       waits = λ e. takes;
       locks = λ e. inr (refl, here);
@@ -86,7 +90,8 @@ stands mode v f c place (Freeing wait spin release takes row) =
     row
 stands mode v f c place (Owing pv is plain waits) =
     let at = place ∙ ap Some is in
-    let phase : rw_phase_of f ≡ Away = ap (λ (d : Option Pc). rw_phase_if d f.lock.wait) at ∙ away f.lock.wait in
+    let phase : rw_phase_of f ≡ Away =
+    ap (λ (d : Option Pc). rw_phase_if d f.lock.wait) at ∙ away f.lock.wait in
     Owes is (ap is_inner phase) (over_here f U5 Away at phase) plain
   where
     away : (b : Bool) → rw_phase_if (Some U5) b ≡ Away

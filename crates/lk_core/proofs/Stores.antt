@@ -23,13 +23,13 @@ use Rattle.lk_core.proofs.Worlds.{world-set_counts, world-set_entry, world-set_h
 use Rattle.lk_core.proofs.Worlds.{world-set_kicked, frame-set_entry, frame-set_halted}
 use Rattle.lk_core.proofs.Worlds.{frame-set_kicked, frame-set_word, frame-set_node}
 use Rattle.lk_core.proofs.Worlds.{frame-set_queued, frame-set_counts}
-use Rattle.lk_core.proofs.Same.{Same, same_then, same_self, same_set_word, same_set_node}
+use Rattle.lk_core.proofs.Same.{KeepsFrames, same_then, same_self, same_set_word, same_set_node}
 use Rattle.lk_core.proofs.Same.{same_set_queued, same_set_counts, same_set_entry, same_set_halted}
 use Rattle.lk_core.proofs.Same.{same_set_kicked}
 
 -- The machine n is m after a store, or a count: it is this world, with the frames of m.
 pub record Stored (m n : Machine) (x : World) : Type 0 where
-  pub same : Same m n
+  pub same : KeepsFrames m n
   pub frames : (u : Waiter) → frame_at n u ≡ frame_at m u
   pub world : world n ≡ x
 
@@ -68,14 +68,19 @@ queued_stored m p (Some i) lt =
     }
 
 -- each processor has four nodes
-module _ (m : Machine) (four : (p : ℕ) → p < length m.cpus → length (cpu_at m p).nodes ≡ 4) (n : NodeName) where
+module _ (m : Machine) (four : (p : ℕ) → p < length m.cpus → length (cpu_at m p).nodes ≡ 4)
+    (n : NodeName) where
   pub flag_stored : (o : Option Flag) → ((x : Flag) → o ≡ Some x → HasNode m n)
       → Stored m (stored_flag m n o) (stores_flag (world m) n o)
   flag_stored None has = nothing_stored m
   flag_stored (Some x) has =
       let h = has x refl in
       let y = record (node_at m n) { flag = x } in
-      record { same = same_set_node m n y; frames = λ u. frame-set_node m n y u; world = world-set_node m n y h (four n.cpu h.cpu) }
+      record {
+        same = same_set_node m n y;
+        frames = λ u. frame-set_node m n y u;
+        world = world-set_node m n y h (four n.cpu h.cpu);
+      }
 
   pub next_stored : (o : Option (Option NodeName))
       → ((x : Option NodeName) → o ≡ Some x → HasNode m n)
@@ -84,7 +89,11 @@ module _ (m : Machine) (four : (p : ℕ) → p < length m.cpus → length (cpu_a
   next_stored (Some x) has =
       let h = has x refl in
       let y = record (node_at m n) { next = x } in
-      record { same = same_set_node m n y; frames = λ u. frame-set_node m n y u; world = world-set_node m n y h (four n.cpu h.cpu) }
+      record {
+        same = same_set_node m n y;
+        frames = λ u. frame-set_node m n y u;
+        world = world-set_node m n y h (four n.cpu h.cpu);
+      }
 
   pub second_stored : (o : Option (Option NodeName))
       → ((x : Option NodeName) → o ≡ Some x → HasNode m n)
@@ -93,7 +102,11 @@ module _ (m : Machine) (four : (p : ℕ) → p < length m.cpus → length (cpu_a
   second_stored (Some x) has =
       let h = has x refl in
       let y = record (node_at m n) { second_tail = x } in
-      record { same = same_set_node m n y; frames = λ u. frame-set_node m n y u; world = world-set_node m n y h (four n.cpu h.cpu) }
+      record {
+        same = same_set_node m n y;
+        frames = λ u. frame-set_node m n y u;
+        world = world-set_node m n y h (four n.cpu h.cpu);
+      }
 
   pub runs_stored : (o : Option ℕ) → ((x : ℕ) → o ≡ Some x → HasNode m n)
       → Stored m (stored_runs m n o) (stores_runs (world m) n o)
@@ -101,7 +114,11 @@ module _ (m : Machine) (four : (p : ℕ) → p < length m.cpus → length (cpu_a
   runs_stored (Some x) has =
       let h = has x refl in
       let y = record (node_at m n) { runs = x } in
-      record { same = same_set_node m n y; frames = λ u. frame-set_node m n y u; world = world-set_node m n y h (four n.cpu h.cpu) }
+      record {
+        same = same_set_node m n y;
+        frames = λ u. frame-set_node m n y u;
+        world = world-set_node m n y h (four n.cpu h.cpu);
+      }
 
   pub state_stored : (o : Option State) → ((x : State) → o ≡ Some x → HasNode m n)
       → Stored m (stored_state m n o) (stores_state (world m) n o)
@@ -109,7 +126,11 @@ module _ (m : Machine) (four : (p : ℕ) → p < length m.cpus → length (cpu_a
   state_stored (Some x) has =
       let h = has x refl in
       let y = record (node_at m n) { state = x } in
-      record { same = same_set_node m n y; frames = λ u. frame-set_node m n y u; world = world-set_node m n y h (four n.cpu h.cpu) }
+      record {
+        same = same_set_node m n y;
+        frames = λ u. frame-set_node m n y u;
+        world = world-set_node m n y h (four n.cpu h.cpu);
+      }
 
 -- an entry in the hash, a halt, and a kick that is remembered
 

@@ -22,7 +22,8 @@ use Rattle.lk_machine.specs.declared.parts.Pc.TheVariants.{U5}
 use Rattle.lk_machine.specs.declared.parts.Frame.{Frame}
 use Rattle.lk_machine.specs.Programs.{IsLawfulProgram, way_at, op_way, way_after, is_try}
 use Rattle.lk_machine.specs.Programs.{is_release, to_release}
-use Rattle.lk_machine.specs.Row.{Change, Prev, TargetIs, changed, changed_all, Lead, Goes, Enters}
+use Rattle.lk_machine.specs.Row.{Change, Prev, TargetIs, with_change, changed_all, Lead, Goes}
+use Rattle.lk_machine.specs.Row.{Enters}
 use Rattle.lk_machine.specs.Row.{Granted, Freed, Missed, Done, TakesWait, Leaves, Yields}
 use Rattle.lk_machine.specs.Moves.{rw_name, wait_name}
 use Rattle.lk_law.specs.Sound.{held_in, BelongsTo, held_idle, is_over}
@@ -86,22 +87,24 @@ pub nodes_changes : (R : NodeName → Type 0) (f : Frame) (cs : List Change) →
     → NodesIn R f → NodesIn R (changed_all f cs)
 nodes_changes R f [] fits was = was
 nodes_changes R f (Prev None ∷ cs) fits was =
-    nodes_changes R (changed f (Prev None)) cs fits
+    nodes_changes R (with_change f (Prev None)) cs fits
     (record { prev = λ n e. absurd (none-some n e); target = was.target })
 nodes_changes R f (Prev (Some k) ∷ cs) fits was =
-    nodes_changes R (changed f (Prev (Some k))) cs fits.1
+    nodes_changes R (with_change f (Prev (Some k))) cs fits.1
     (record { prev = λ n e. subst R (same_Some k n e) fits.0; target = was.target })
 nodes_changes R f (TargetIs None ∷ cs) fits was =
-    nodes_changes R (changed f (TargetIs None)) cs fits
+    nodes_changes R (with_change f (TargetIs None)) cs fits
     (record { prev = was.prev; target = λ n e. absurd (none-some n e) })
 nodes_changes R f (TargetIs (Some k) ∷ cs) fits was =
-    nodes_changes R (changed f (TargetIs (Some k))) cs fits.1
+    nodes_changes R (with_change f (TargetIs (Some k))) cs fits.1
     (record { prev = was.prev; target = λ n e. subst R (same_Some k n e) fits.0 })
-nodes_changes R f (c ∷ cs) fits was = nodes_changes R (changed f c) cs fits (record { prev = was.prev; target = was.target })
+nodes_changes R f (c ∷ cs) fits was =
+    nodes_changes R (with_change f c) cs fits (record { prev = was.prev; target = was.target })
 
 -- between two operations the frame h holds what f holds, but the lock k in this way
 abbrev pub HoldsNow : List Op → Frame → Frame → LockName → Option Manner → Type 0
-HoldsNow ops f h k way = (l : LockName) → held_idle ops h l ≡ (if same_lock l k then way else held_in ops f l)
+HoldsNow ops f h k way =
+    (l : LockName) → held_idle ops h l ≡ (if same_lock l k then way else held_in ops f l)
 
 -- the frame has no wait lock, and what its operation is for is not done
 pub record IsOuter (f : Frame) : Type 0 where
@@ -112,7 +115,8 @@ pub outer_held : (ops : List Op) (f : Frame) → IsOuter f → (l : LockName)
     → held_in ops f l ≡ held_idle ops f l
 outer_held ops f o l = rw (o.inner, o.over) refl
 
-module _ (ops : List Op) (f h : Frame) (op : Op) (is : slice_get ops f.«at» ≡ Some op) (idx : f.lock.index ≡ op.lock) where
+module _ (ops : List Op) (f h : Frame) (op : Op) (is : slice_get ops f.«at» ≡ Some op)
+    (idx : f.lock.index ≡ op.lock) where
   abbrev k : LockName
   k = rw_name f.lock.index
 
@@ -123,16 +127,19 @@ module _ (ops : List Op) (f h : Frame) (op : Op) (is : slice_get ops f.«at» �
   by_index outer way each l =
       elim (cases_Bool l.wait) [
         | inl e ↦
-            let other : l ≢ k = (λ q. let z = ap (λ (j : LockName). j.wait) q in grind (arith, e, z)) in
+            let other : l ≢ k =
+            (λ q. let z = ap (λ (j : LockName). j.wait) q in grind (arith, e, z)) in
             rw (outer_held ops f outer l, same_lock-else l k other, e) refl
         | inr e ↦ elim (lock_cases l k) [
           | inl same ↦
-              let is : same_lock l k ≡ true = ap (λ (j : LockName). same_lock j k) same ∙ same_lock-self k in
+              let is : same_lock l k ≡ true =
+              ap (λ (j : LockName). same_lock j k) same ∙ same_lock-self k in
               let at : (if l.index == f.lock.index then way else way_at ops f.«at» l.index) ≡ way =
               rw (eq-eqb l.index f.lock.index (ap (λ (j : LockName). j.index) same)) refl in
               rw (is, e) (each l.index ∙ at)
           | inr ne ↦
-              let far : l.index ≢ f.lock.index = (λ q. ne (λ i. record { index = q i; wait = e i })) in
+              let far : l.index ≢ f.lock.index =
+              (λ q. ne (λ i. record { index = q i; wait = e i })) in
               let at : (if l.index == f.lock.index then way else way_at ops f.«at» l.index) ≡ way_at
               ops f.«at» l.index = rw (ne_eqb l.index f.lock.index far) refl in
               rw (outer_held ops f outer l, same_lock-else l k ne, e) (each l.index ∙ at)
@@ -151,7 +158,11 @@ module _ (ops : List Op) (f h : Frame) (op : Op) (is : slice_get ops f.«at» �
       turned i =
           elim (cases_eq i op.lock) [
             | inl e ↦ rw (eq-eqb op.lock i (sym e), eq-eqb i f.lock.index (e ∙ sym idx)) refl
-            | inr ne ↦ rw (ne_eqb op.lock i (λ q. ne (sym q)), ne_eqb i f.lock.index (λ q. ne (q ∙ idx))) refl
+            | inr ne ↦
+                rw (
+                  ne_eqb op.lock i (λ q. ne (sym q)),
+                  ne_eqb i f.lock.index (λ q. ne (q ∙ idx)),
+                ) refl
           ]
 
   -- the try has failed
@@ -160,7 +171,8 @@ module _ (ops : List Op) (f h : Frame) (op : Op) (is : slice_get ops f.«at» �
       → h.«at» ≡ f.«at» + suc (to_release (drop (f.«at» + 1) ops) f.lock.index)
       → HoldsNow ops f h k (held_in ops f k)
   holds_missed outer kinds lawful tries at =
-      by_index outer (held_in ops f k) (λ i. ap (λ (n : ℕ). way_at ops n i) behind ∙ lawful.tried f.«at» op is tries i ∙ turned i)
+      by_index outer (held_in ops f k)
+      (λ i. ap (λ (n : ℕ). way_at ops n i) behind ∙ lawful.tried f.«at» op is tries i ∙ turned i)
     where
       behind : h.«at» ≡ f.«at» + 1 + to_release (drop (f.«at» + 1) ops) op.lock
       behind = let e = ap (λ (i : ℕ). to_release (drop (f.«at» + 1) ops) i) idx in omega arith
@@ -170,7 +182,8 @@ module _ (ops : List Op) (f h : Frame) (op : Op) (is : slice_get ops f.«at» �
           ≡ (if i == f.lock.index then held_in ops f k else way_at ops f.«at» i)
       turned i =
           elim (cases_eq i f.lock.index) [
-            | inl e ↦ rw (eq-eqb i f.lock.index e, outer.over) (ap (λ (j : ℕ). way_at ops f.«at» j) e)
+            | inl e ↦
+                rw (eq-eqb i f.lock.index e, outer.over) (ap (λ (j : ℕ). way_at ops f.«at» j) e)
             | inr ne ↦ rw (ne_eqb i f.lock.index ne) refl
           ]
 
@@ -200,10 +213,13 @@ module _ (ops : List Op) (f h : Frame) (op : Op) (is : slice_get ops f.«at» �
   holds_kicked inner over none at l =
       elim (lock_cases l f.lock) [
         | inl same ↦
-            let is : same_lock l f.lock ≡ true = ap (λ (j : LockName). same_lock j f.lock) same ∙ same_lock-self f.lock in
+            let is : same_lock l f.lock ≡ true =
+            ap (λ (j : LockName). same_lock j f.lock) same ∙ same_lock-self f.lock in
             elim (cases_Bool l.wait) [
               | inl e ↦ rw (is, e) refl
-              | inr e ↦ rw (is, e) (ap (λ (n : ℕ). way_at ops n l.index) at ∙ way_next ops f.«at» l.index op is_op
+              | inr e ↦
+                  rw (is, e) (ap (λ (n : ℕ). way_at ops n l.index) at
+                  ∙ way_next ops f.«at» l.index op is_op
                   ∙ if-true (op.lock == l.index) (way_after op.verb) (way_at ops f.«at» l.index)
                   (eq-eqb op.lock l.index (sym idx ∙ ap (λ (j : LockName). j.index) (sym same)))
                   ∙ none (ap (λ (j : LockName). j.wait) (sym same) ∙ e))

@@ -1,6 +1,6 @@
 -- A machine as a world after each write.
-use Rattle.std.proofs.Common.{◌≡◌, ◌≢◌, ℕ, Option, Some, None, Bool, true, false, List, [], ◌∷◌}
-use Rattle.std.proofs.Common.{inl, inr, arith, ap, ◌<◌, ◌-◌, refl, sym, ◌∙◌, subst, length, get_or}
+use Rattle.std.proofs.Common.{◌≡◌, ◌≢◌, ℕ, Option, Some, None, Bool, true, false, List, ◌∷◌}
+use Rattle.std.proofs.Common.{inl, inr, arith, ap, ◌<◌, refl, sym, ◌∙◌, subst, length, get_or}
 use Rattle.std.proofs.Common.{set}
 use Rattle.std.specs.Prelude.{if◌then◌else◌, ◌==◌, slice_index_or}
 use Rattle.std.proofs.lemmas.Bool.{cases_eq, cases_lt, eq-eqb, ne_eqb}
@@ -39,7 +39,8 @@ unfolding queued_at
 queued_changed m p c lt q =
     elim (cases_eq q p) [
       | inl e ↦
-          let P : ℕ → Type 0 = λ r. (cpu_at (set_cpu m p c) r).queued ≡ (if r == p then c.queued else (cpu_at m r).queued) in
+          let P : ℕ → Type 0 = λ r.
+          (cpu_at (set_cpu m p c) r).queued ≡ (if r == p then c.queued else (cpu_at m r).queued) in
           subst P (sym e)
           (ap (λ (d : CpuState). d.queued) (cpu_same m p c lt)
           ∙ sym (ap (λ (b : Bool). if b then c.queued else (cpu_at m p).queued)
@@ -62,7 +63,8 @@ world-set_queued m p n lt =
       word = λ l. word-set_cpu m p c l;
       node = λ k. node-set_cpu m p c refl k;
       frame = λ u. frame u;
-      held = λ u l. held-set_cpu m p c u l (frame_at (set_cpu m p c) u) ∙ ap (held_at m u l) (frame u);
+      held =
+          λ u l. held-set_cpu m p c u l (frame_at (set_cpu m p c) u) ∙ ap (held_at m u l) (frame u);
       queued = λ q. queued_changed m p c lt q;
       rw = λ i. rw-set_cpu m p c i;
       kind = λ i. kind-set_cpu m p c i;
@@ -77,7 +79,8 @@ unfolding halted_at
 halted_changed m p c lt q =
     elim (cases_eq q p) [
       | inl e ↦
-          let P : ℕ → Type 0 = λ r. (cpu_at (set_cpu m p c) r).halted ≡ (if r == p then c.halted else (cpu_at m r).halted) in
+          let P : ℕ → Type 0 = λ r.
+          (cpu_at (set_cpu m p c) r).halted ≡ (if r == p then c.halted else (cpu_at m r).halted) in
           subst P (sym e)
           (ap (λ (d : CpuState). d.halted) (cpu_same m p c lt)
           ∙ sym (ap (λ (b : Bool). if b then c.halted else (cpu_at m p).halted)
@@ -105,7 +108,8 @@ world-set_halted m p b lt =
       word = λ l. word-set_cpu m p c l;
       node = λ k. node-set_cpu m p c refl k;
       frame = λ u. frame u;
-      held = λ u l. held-set_cpu m p c u l (frame_at (set_cpu m p c) u) ∙ ap (held_at m u l) (frame u);
+      held =
+          λ u l. held-set_cpu m p c u l (frame_at (set_cpu m p c) u) ∙ ap (held_at m u l) (frame u);
       queued = λ q. queued-set_cpu m p c refl q;
       rw = λ i. rw-set_cpu m p c i;
       kind = λ i. kind-set_cpu m p c i;
@@ -120,7 +124,8 @@ unfolding kicked_at
 kicked_changed m p c lt q =
     elim (cases_eq q p) [
       | inl e ↦
-          let P : ℕ → Type 0 = λ r. (cpu_at (set_cpu m p c) r).kicked ≡ (if r == p then c.kicked else (cpu_at m r).kicked) in
+          let P : ℕ → Type 0 = λ r.
+          (cpu_at (set_cpu m p c) r).kicked ≡ (if r == p then c.kicked else (cpu_at m r).kicked) in
           subst P (sym e)
           (ap (λ (d : CpuState). d.kicked) (cpu_same m p c lt)
           ∙ sym (ap (λ (b : Bool). if b then c.kicked else (cpu_at m p).kicked)
@@ -148,7 +153,8 @@ world-set_kicked m p b lt =
       word = λ l. word-set_cpu m p c l;
       node = λ k. node-set_cpu m p c refl k;
       frame = λ u. frame u;
-      held = λ u l. held-set_cpu m p c u l (frame_at (set_cpu m p c) u) ∙ ap (held_at m u l) (frame u);
+      held =
+          λ u l. held-set_cpu m p c u l (frame_at (set_cpu m p c) u) ∙ ap (held_at m u l) (frame u);
       queued = λ q. queued-set_cpu m p c refl q;
       rw = λ i. rw-set_cpu m p c i;
       kind = λ i. kind-set_cpu m p c i;
@@ -212,7 +218,8 @@ world-hashing m l x es entries =
       word = λ k. word-hashing m es k;
       node = λ n. node-hashing m es n;
       frame = λ u. frame-hashing m es u;
-      held = λ u k. held-hashing m es u k (frame_at (hashing m es) u) ∙ ap (held_at m u k) (frame-hashing m es u);
+      held = λ u k. held-hashing m es u k (frame_at (hashing m es) u)
+          ∙ ap (held_at m u k) (frame-hashing m es u);
       queued = λ p. queued-hashing m es p;
       rw = λ i. rw-hashing m es i;
       kind = λ i. refl;
@@ -224,8 +231,10 @@ world-hashing m l x es entries =
 pub world-set_entry : (m : Machine) (l : LockName) (x : Option NodeName)
     → world (set_entry m l x) ≡ put_entry (world m) l x
 unfolding set_entry entry_at
-world-set_entry m l None = world-hashing m l None (without_entry l m.hash) (λ k. removed_now k l m.hash)
-world-set_entry m l (Some n) = world-hashing m l (Some n) ((l, n) ∷ without_entry l m.hash) (λ k. entered_now k l n m.hash)
+world-set_entry m l None =
+    world-hashing m l None (without_entry l m.hash) (λ k. removed_now k l m.hash)
+world-set_entry m l (Some n) =
+    world-hashing m l (Some n) ((l, n) ∷ without_entry l m.hash) (λ k. entered_now k l n m.hash)
 
 pub frame-set_entry : (m : Machine) (l : LockName) (x : Option NodeName) (u : Waiter)
     → frame_at (set_entry m l x) u ≡ frame_at m u
@@ -240,13 +249,15 @@ unfolding node_at
 node_changed m n c x lt within nodes k =
     elim (node_cases k n) [
       | inl e ↦
-          let P : NodeName → Type 0 = λ v. node_at (set_cpu m n.cpu c) v ≡ (if same_node v n then x else node_at m v) in
+          let P : NodeName → Type 0 =
+          λ v. node_at (set_cpu m n.cpu c) v ≡ (if same_node v n then x else node_at m v) in
           subst P (sym e)
           (ap (λ (d : CpuState). get_or d.nodes n.index rest_node) (cpu_same m n.cpu c lt)
           ∙ ap (λ (ns : List Node). get_or ns n.index rest_node) nodes
           ∙ get_or-set_same (cpu_at m n.cpu).nodes n.index x rest_node within
           ∙ sym (ap (λ (b : Bool). if b then x else node_at m n) (same_node-self n)))
-      | inr ne ↦ kept ne ∙ sym (ap (λ (b : Bool). if b then x else node_at m k) (same_node-else k n ne))
+      | inr ne ↦ kept ne
+          ∙ sym (ap (λ (b : Bool). if b then x else node_at m k) (same_node-else k n ne))
     ]
   where
     kept : k ≢ n → node_at (set_cpu m n.cpu c) k ≡ node_at m k
@@ -259,24 +270,34 @@ node_changed m n c x lt within nodes k =
               subst P (sym e)
               (ap (λ (d : CpuState). get_or d.nodes k.index rest_node) (cpu_same m n.cpu c lt)
               ∙ ap (λ (ns : List Node). get_or ns k.index rest_node) nodes
-              ∙ get_or-set_other (cpu_at m n.cpu).nodes n.index k.index x rest_node (λ q. ne (λ i. record { cpu = e i; index = q i })))
-          | inr z ↦ ap (λ (d : CpuState). get_or d.nodes k.index rest_node) (cpu_other m n.cpu k.cpu c z)
+              ∙ get_or-set_other (cpu_at m n.cpu).nodes n.index k.index x rest_node
+              (λ q. ne (λ i. record { cpu = e i; index = q i })))
+          | inr z ↦
+              ap (λ (d : CpuState). get_or d.nodes k.index rest_node) (cpu_other m n.cpu k.cpu c z)
         ]
 
 pub frame-set_node : (m : Machine) (n : NodeName) (x : Node) (u : Waiter)
     → frame_at (set_node m n x) u ≡ frame_at m u
 unfolding set_node
-frame-set_node m n x u = frame-set_cpu m n.cpu (record (cpu_at m n.cpu) { nodes = set (cpu_at m n.cpu).nodes n.index x }) refl u
+frame-set_node m n x u =
+    frame-set_cpu m n.cpu (record (cpu_at m n.cpu) { nodes = set (cpu_at m n.cpu).nodes n.index x })
+    refl u
 
 pub halted-set_node : (m : Machine) (n : NodeName) (x : Node) (q : ℕ)
     → halted_at (set_node m n x) q ≡ halted_at m q
 unfolding set_node
-halted-set_node m n x q = halted-set_cpu m n.cpu (record (cpu_at m n.cpu) { nodes = set (cpu_at m n.cpu).nodes n.index x }) refl q
+halted-set_node m n x q =
+    halted-set_cpu m n.cpu (record (cpu_at m n.cpu) {
+      nodes = set (cpu_at m n.cpu).nodes n.index x;
+    }) refl q
 
 pub kicked-set_node : (m : Machine) (n : NodeName) (x : Node) (q : ℕ)
     → kicked_at (set_node m n x) q ≡ kicked_at m q
 unfolding set_node
-kicked-set_node m n x q = kicked-set_cpu m n.cpu (record (cpu_at m n.cpu) { nodes = set (cpu_at m n.cpu).nodes n.index x }) refl q
+kicked-set_node m n x q =
+    kicked-set_cpu m n.cpu (record (cpu_at m n.cpu) {
+      nodes = set (cpu_at m n.cpu).nodes n.index x;
+    }) refl q
 
 pub frame-set_queued : (m : Machine) (p n : ℕ) (u : Waiter)
     → frame_at (set_queued m p n) u ≡ frame_at m u
@@ -297,7 +318,8 @@ world-set_node m n x has four =
       word = λ l. word-set_cpu m n.cpu c l;
       node = λ k. node_changed m n c x has.cpu (omega (arith, four, has.index)) refl k;
       frame = λ u. frame u;
-      held = λ u l. held-set_cpu m n.cpu c u l (frame_at (set_cpu m n.cpu c) u) ∙ ap (held_at m u l) (frame u);
+      held = λ u l. held-set_cpu m n.cpu c u l (frame_at (set_cpu m n.cpu c) u)
+          ∙ ap (held_at m u l) (frame u);
       queued = λ q. queued-set_cpu m n.cpu c refl q;
       rw = λ i. rw-set_cpu m n.cpu c i;
       kind = λ i. kind-set_cpu m n.cpu c i;
@@ -376,7 +398,8 @@ world-set_word m l x lt =
       word = λ k. word_set_word m l x lt k;
       node = λ n. node-set_word m l x n;
       frame = λ u. frame-set_word m l x u;
-      held = λ u k. held-set_lock m x l u k (frame_at (set_word m l x) u) ∙ ap (held_at m u k) (frame-set_word m l x u);
+      held = λ u k. held-set_lock m x l u k (frame_at (set_word m l x) u)
+          ∙ ap (held_at m u k) (frame-set_word m l x u);
       queued = λ p. queued-set_word m l x p;
       rw = λ i. rw-set_word m l x i;
       kind = λ i. ap (λ (s : Setup). slice_index_or s.locks.items i Spin) (setup-set_word m l x);
@@ -438,7 +461,8 @@ world-set_counts m x =
       word = λ k. word-set_counts m x k;
       node = λ n. node-set_counts m x n;
       frame = λ u. frame-set_counts m x u;
-      held = λ u k. held-set_counts m x u k (frame_at (set_counts m x) u) ∙ ap (held_at m u k) (frame-set_counts m x u);
+      held = λ u k. held-set_counts m x u k (frame_at (set_counts m x) u)
+          ∙ ap (held_at m u k) (frame-set_counts m x u);
       queued = λ p. queued-set_counts m x p;
       rw = λ i. rw-set_counts m x i;
       kind = λ i. ap (λ (s : Setup). slice_index_or s.locks.items i Spin) (setup-set_counts m x);

@@ -8,7 +8,7 @@ ghost use Rattle.lk_machine.specs.Machine.{HasTop, top_frame, halted_at};
 ghost use Rattle.lk_machine.specs.Ready.{CountsWithin};
 ghost use Rattle.lk_law.specs.Sound.{IsSound};
 ghost use Rattle.lk_law.specs.MachineLaws.{ShowsLawful};
-ghost use Rattle.lk_law.specs.Kicked.{and_then};
+ghost use Rattle.lk_law.specs.Kicked.{with_event};
 ghost use Rattle.lk_core.specs.Idle.{IsIdle, Happens};
 
 use lk_abs::{Act, Event, Waiter, What};
@@ -38,7 +38,7 @@ pub fn act(machine: &mut Machine, act: Act) -> Option<Event>
     // lawful.
     ensures sound { IsSound machine.new }
     ensures keeps { (es : List EventValue) → ShowsLawful machine.old es
-        → ShowsLawful machine.new (and_then es result) }
+        → ShowsLawful machine.new (with_event es result) }
     ensures counted { (n : ℕ) → CountsWithin n machine.old.counts
         → CountsWithin (n + 1) machine.new.counts }
     ensures setup { machine.new.setup ≡ machine.old.setup }

@@ -58,7 +58,8 @@ returns-in-Resume c =
     let is = sym (resume_is c.args.machine.now c.in-Resume.cpu) in
     let d = act_done c.args.machine.now c.args.act (act.Resume c.in-Resume.cpu)
     c.set_preempted-in-Resume.new.self _ c.in-Resume.is c.requires.range c.requires.sound
-    (c.set_preempted-in-Resume.ensures ∙ ap (λ (a : Answer). a.0) is) (ap (λ (a : Answer). a.1) is) in
+    (c.set_preempted-in-Resume.ensures ∙ ap (λ (a : Answer). a.0) is)
+    (ap (λ (a : Answer). a.1) is) in
     record {
       next = d.next;
       event = d.event;

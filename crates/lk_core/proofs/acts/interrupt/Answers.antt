@@ -9,7 +9,8 @@ use Rattle.lk_core.proofs.ActDone.{awake_left, interrupt_is}
 use Rattle.lk_core.proofs.acts.interrupt.Goals as goal
 
 pub is_about_to_halt-requires : goal.is_about_to_halt-requires
-is_about_to_halt-requires c = has_top c.args.machine.now c.args.cpu c.requires.range c.requires.sound
+is_about_to_halt-requires c =
+    has_top c.args.machine.now c.args.cpu c.requires.range c.requires.sound
 
 pub end_any_halt-requires : goal.end_any_halt-requires
 end_any_halt-requires c = has_top c.args.machine.now c.args.cpu c.requires.range c.requires.sound
