@@ -126,11 +126,11 @@ schedule-ended cpus acts line said e = by_text (is_text line) e
 -- no want of memory
 
 -- the answer is no want of memory
-abbrev NoMemory : {A : Type 0} → Result A LineRefusal → Type 0
+abbrev pub NoMemory : {A : Type 0} → Result A LineRefusal → Type 0
 NoMemory (Ok a) = Unit {0}
 NoMemory (Err why) = why ≢ Memory
 
-then-no_memory : {A B : Type 0} (x : Result A LineRefusal) (next : A → Result B LineRefusal) → NoMemory x → ((a : A) → NoMemory (next a)) → NoMemory (and_then x next)
+pub then-no_memory : {A B : Type 0} (x : Result A LineRefusal) (next : A → Result B LineRefusal) → NoMemory x → ((a : A) → NoMemory (next a)) → NoMemory (and_then x next)
 then-no_memory (Ok a) next none later = later a
 then-no_memory (Err why) next none later = none
 
@@ -138,18 +138,18 @@ or_fault-no_memory : {A : Type 0} (fault : Fault) (x : Option A) → NoMemory (o
 or_fault-no_memory fault None = λ e. cc
 or_fault-no_memory fault (Some a) = tt
 
-one_word-no_memory : (args : List (List ℕ)) → NoMemory (one_word args)
+pub one_word-no_memory : (args : List (List ℕ)) → NoMemory (one_word args)
 one_word-no_memory [] = λ e. cc
 one_word-no_memory (a ∷ []) = tt
 one_word-no_memory (a ∷ b ∷ args) = λ e. cc
 
-two_words-no_memory : (args : List (List ℕ)) → NoMemory (two_words args)
+pub two_words-no_memory : (args : List (List ℕ)) → NoMemory (two_words args)
 two_words-no_memory [] = λ e. cc
 two_words-no_memory (a ∷ []) = λ e. cc
 two_words-no_memory (a ∷ b ∷ []) = tt
 two_words-no_memory (a ∷ b ∷ c ∷ args) = λ e. cc
 
-number-no_memory : (low high : ℕ) (word : List ℕ) → NoMemory (number_in low high word)
+pub number-no_memory : (low high : ℕ) (word : List ℕ) → NoMemory (number_in low high word)
 number-no_memory low high word = then-no_memory (or_fault BadNumber (number_of word)) (λ n. in_range low high n) (or_fault-no_memory BadNumber (number_of word)) (λ n. by_test n (nat_le low n && nat_le n high))
   where
     by_test : (n : ℕ) (b : Bool) → NoMemory (if b then Ok n else Err (Bad OutOfRange))
@@ -164,7 +164,7 @@ run-no_memory acts what times = by_test (nat_le (acts + times) MAX_ACTS)
     by_test false = λ e. cc
 
 module _ (cpus acts : ℕ) where
-  cpu-no_memory : (word : List ℕ) → NoMemory (cpu_word cpus word)
+  pub cpu-no_memory : (word : List ℕ) → NoMemory (cpu_word cpus word)
   cpu-no_memory word = then-no_memory (or_fault BadNumber (number_of word)) (λ n. if nat_lt n cpus then Ok n else Err (Bad OutOfRange)) (or_fault-no_memory BadNumber (number_of word)) (λ n. by_test n (nat_lt n cpus))
     where
       by_test : (n : ℕ) (b : Bool) → NoMemory (if b then Ok n else Err (Bad OutOfRange))

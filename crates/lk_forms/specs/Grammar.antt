@@ -43,6 +43,7 @@ abbrev pub no_words : {A : Type 0} → List (List ℕ) → A → Result A LineRe
 no_words [] a = Ok a
 no_words (word ∷ words) a = Err (Bad WordCount)
 
+-- the number, if it is within the range
 abbrev pub in_range : ℕ → ℕ → ℕ → Result ℕ LineRefusal
 in_range low high n = if nat_le low n && nat_le n high then Ok n else Err (Bad OutOfRange)
 
@@ -57,6 +58,7 @@ numbers_from low high before (word ∷ words) = and_then (number_in low high wor
 
 -- the setup, and the lines of the header
 
+-- a list with room for so many
 abbrev pub list_of : {T : Type 0} → ℕ → List T → ListOf T
 list_of room items = record { items = items; room = room }
 
@@ -100,6 +102,7 @@ mode_word word = or_fault UnknownWord (mode_of word)
 abbrev pub mode_line : Setup → List (List ℕ) → Result Setup LineRefusal
 mode_line s args = and_then (one_word args) (λ word. and_then (mode_word word) (λ m. Ok (record s { mode = m })))
 
+-- the setup with so many processors, all on socket 0 and without programs and handlers
 abbrev pub with_cpus : Setup → ℕ → Setup
 with_cpus s n = record s { topology = record { sockets = list_of n (replicate n 0) }; progs = no_programs n; irqs = no_handlers n }
 
@@ -107,6 +110,7 @@ with_cpus s n = record s { topology = record { sockets = list_of n (replicate n 
 abbrev pub cpus_line : Setup → List (List ℕ) → Result Setup LineRefusal
 cpus_line s args = and_then (one_word args) (λ word. and_then (number_in 1 MAX_CPUS word) (λ n. Ok (with_cpus s n)))
 
+-- the setup with these sockets of its processors
 abbrev pub with_sockets : Setup → List ℕ → Setup
 with_sockets s sockets = record s { topology = record { sockets = list_of (cpus_of s) sockets } }
 
@@ -123,9 +127,11 @@ threshold_line s args = and_then (one_word args) (λ word. and_then (number_in 0
 abbrev pub spins_line : Setup → List (List ℕ) → Result Setup LineRefusal
 spins_line s args = and_then (one_word args) (λ word. and_then (number_in 1 MAX_TURNS word) (λ n. Ok (record s { spins = n })))
 
+-- the kind of lock that a word names, if it does
 abbrev pub kind_named : List ℕ → Option Kind
 kind_named word = if bytes_eq word (codes "spin") then Some Spin else if bytes_eq word (codes "rw") then Some Rw else None
 
+-- the kind of lock that a word names, or the fault of one that names none
 abbrev pub kind_word : List ℕ → Result Kind LineRefusal
 kind_word word = or_fault UnknownWord (kind_named word)
 
@@ -133,6 +139,7 @@ kind_word word = or_fault UnknownWord (kind_named word)
 abbrev pub next_lock : ℕ → ℕ → Result ℕ LineRefusal
 next_lock locks i = if (i == locks) && nat_lt i MAX_LOCKS then Ok i else Err (Bad OutOfRange)
 
+-- the setup with one lock more
 abbrev pub with_lock : Setup → Kind → Setup
 with_lock s k = record s { locks = list_of s.locks.room (s.locks.items ++ k ∷ []) }
 
@@ -154,12 +161,15 @@ given_handlers s p = slice_index_or s.irqs.items p (list_of MAX_HANDLERS [])
 abbrev pub has_program : Setup → ℕ → Bool
 has_program s p = nat_lt 0 (length (given_program s p).items)
 
+-- the setup with this program of a processor's task
 abbrev pub with_program : Setup → ℕ → List Op → Setup
 with_program s p ops = record s { progs = list_of s.progs.room (slice_set s.progs.items p (list_of MAX_OPS ops)) }
 
+-- the handlers with one more
 abbrev pub with_more : ListOf (ListOf Op) → List Op → ListOf (ListOf Op)
 with_more handlers ops = list_of handlers.room (handlers.items ++ list_of MAX_OPS ops ∷ [])
 
+-- the setup with one handler more of a processor
 abbrev pub with_handler : Setup → ℕ → List Op → Setup
 with_handler s p ops = record s { irqs = list_of s.irqs.room (slice_set s.irqs.items p (with_more (given_handlers s p) ops)) }
 
@@ -202,6 +212,7 @@ header_line _ s args = Err (Bad Misplaced)
 
 -- the lines of the schedule, behind so many acts
 
+-- an act so many times, if there are no more acts than a trace may have
 abbrev pub run_of : ℕ → Act → ℕ → Result Sched LineRefusal
 run_of acts what times = if nat_le (acts + times) MAX_ACTS then Ok (Run what times) else Err (Limit Acts)
 
@@ -243,9 +254,11 @@ scheduled r Blank = r
 scheduled r (Run what times) = record r { rank = Some 10; acts = r.acts ++ replicate times what }
 scheduled r End = record r { rank = Some 11 }
 
+-- a line of the header, of an accepted keyword
 abbrev pub read_header : Reading → Keyword → List (List ℕ) → Result Reading LineRefusal
 read_header r k args = and_then (header_line k r.setup args) (λ s. Ok (record r { rank = Some (rank_of k); setup = s }))
 
+-- a line of the schedule, of an accepted keyword
 abbrev pub read_schedule : Reading → Keyword → List (List ℕ) → Result Reading LineRefusal
 read_schedule r k args = and_then (schedule_args k (cpus_of r.setup) (length r.acts) args) (λ said. Ok (scheduled r said))
 
@@ -268,6 +281,7 @@ abbrev pub read_ranked : Reading → Option ℕ → List ℕ → List (List ℕ)
 read_ranked r None first args = if is_format first args then Ok (record r { rank = Some 0 }) else Err (Bad NoFormat)
 read_ranked r (Some last) first args = read_known r last (keyword_of first) args
 
+-- the words of a line: none, a comment, or what is said
 abbrev pub read_words : Reading → List (List ℕ) → Result Reading LineRefusal
 read_words r [] = Ok r
 read_words r (first ∷ args) = if is_comment first then Ok r else read_ranked r r.rank first args

@@ -56,6 +56,7 @@ is_misplaced last rank =
 abbrev pub is_repeated : ℕ → ℕ → Bool
 is_repeated last rank = (rank == last) && (nat_le 1 rank && nat_le rank 5)
 
+-- what is wrong with a line of a rank behind one of rank `last`, if anything is
 abbrev pub fault_of_ranks : ℕ → ℕ → Option Fault
 fault_of_ranks last rank = if is_misplaced last rank then Some Misplaced else if is_repeated last rank then Some Repeated else None
 

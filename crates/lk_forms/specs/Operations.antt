@@ -53,6 +53,7 @@ verb_of word =
 abbrev pub way_after_all : List Op → ℕ → Option Manner
 way_after_all ops lock = way_at ops (length ops) lock
 
+-- a lock is held in one way both times, or neither time
 abbrev pub same_way : Option Manner → Option Manner → Bool
 same_way None None = true
 same_way (Some m) (Some n) = same_manner m n
@@ -75,6 +76,7 @@ try_at ops lock = try_from ops lock 0 None
 
 -- the checks of one operation
 
+-- whether two kinds of lock are one
 abbrev pub same_kind : Kind → Kind → Bool
 same_kind Spin Spin = true
 same_kind Rw Rw = true
@@ -90,6 +92,7 @@ abbrev pub is_crossed_at : ℕ → List Op → Op → Option ℕ → Bool
 is_crossed_at locks before o None = false
 is_crossed_at locks before o (Some n) = not (same_holds locks (take n before) (before ++ o ∷ []))
 
+-- the operation releases a lock that was taken by a try, and leaves other holds than before the try
 abbrev pub is_crossed : ℕ → List Op → Op → Bool
 is_crossed locks before o = is_crossed_at locks before o (try_at before o.lock)
 
@@ -105,6 +108,7 @@ fault_of_hold locks before o =
 abbrev pub fault_of_op : List Kind → List Op → Op → Option Fault
 fault_of_op kinds before o = if is_declared (slice_get kinds o.lock) o.verb then fault_of_hold (length kinds) before o else Some WrongLock
 
+-- the operation, if nothing is wrong with it behind these ones
 abbrev pub checked_op : List Kind → List Op → Op → Result Op LineRefusal
 checked_op kinds before o = unless (fault_of_op kinds before o) (Ok o)
 

@@ -11,6 +11,7 @@ use Rattle.lk_forms.specs.declared.header.HeaderReader.{HeaderReader}
 abbrev pub reading : HeaderReader → Reading
 reading reader = record { rank = reader.rank; setup = reader.setup; acts = [] }
 
+-- what an accepted line of the header tells: whether it is `go`
 abbrev pub step_of : Reading → HeaderStep
 step_of r = if has_go r then Go else More
 

@@ -19,14 +19,17 @@ abbrev pub rank_behind : Bool → ℕ
 rank_behind true = 11
 rank_behind false = 9
 
+-- a line of the schedule with a keyword, or without one
 abbrev pub schedule_known : ℕ → ℕ → Bool → Option Keyword → List (List ℕ) → Result Sched LineRefusal
 schedule_known cpus acts ended None args = Err (Bad UnknownWord)
 schedule_known cpus acts ended (Some k) args = unless (fault_of_place (rank_behind ended) k) (schedule_args k cpus acts args)
 
+-- the words of a line of the schedule: none, a comment, or what is said
 abbrev pub schedule_words : ℕ → ℕ → Bool → List (List ℕ) → Result Sched LineRefusal
 schedule_words cpus acts ended [] = Ok Blank
 schedule_words cpus acts ended (first ∷ args) = if is_comment first then Ok Blank else schedule_known cpus acts ended (keyword_of first) args
 
+-- a line of the schedule, of so many processors and behind so many acts, before `end` or behind it
 abbrev pub schedule_of : ℕ → ℕ → Bool → List ℕ → Result Sched LineRefusal
 schedule_of cpus acts ended line = if is_text line then schedule_words cpus acts ended (words line) else Err (Bad NotText)
 

@@ -22,6 +22,7 @@ abbrev pub AreSmall : List Occurrence → Type 0
 AreSmall [] = ⊤
 AreSmall (o ∷ os) = (o.act < 2 ^ 64) × IsSmall o.event × AreSmall os
 
+-- all ten counts are below 2^64
 abbrev pub AreSmallCounts : Counts → Type 0
 AreSmallCounts c = (w : ℕ) → w < 10 → count_at c w < 2 ^ 64
 

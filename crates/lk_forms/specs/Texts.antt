@@ -32,6 +32,7 @@ rw_text rw.Irq = codes "irq"
 rw_text rw.Queued = codes "queued"
 rw_text rw.Try = codes "try"
 
+-- what stands behind the number of a wait lock
 abbrev pub wait_mark : Bool → List ℕ
 wait_mark true = codes "w"
 wait_mark false = []
@@ -99,6 +100,7 @@ count_name which =
     else if which == 8 then codes "pv_wait_head"
     else codes "pv_kick_unlock"
 
+-- the count of this number, in the order of the closing lines
 abbrev pub count_at : Counts → ℕ → ℕ
 count_at counts which =
     if which == 0 then counts.lock_pending
@@ -123,12 +125,15 @@ closing acts counts =
 
 -- numbers of 64 bits
 
+-- the lock's number is below 2^64
 abbrev pub IsSmallLock : LockName → Type 0
 IsSmallLock lock = lock.index < 2 ^ 64
 
+-- the waiter's numbers are below 2^64
 abbrev pub IsSmallWaiter : Waiter → Type 0
 IsSmallWaiter w = (w.cpu < 2 ^ 64) × (w.ctx < 2 ^ 64)
 
+-- all numbers of what happened are below 2^64
 abbrev pub IsSmallWhat : What → Type 0
 IsSmallWhat (Take lock how) = IsSmallLock lock
 IsSmallWhat (Miss lock) = IsSmallLock lock

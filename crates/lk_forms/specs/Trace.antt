@@ -1,9 +1,10 @@
 -- What a text says as a trace: its setup and acts, or the first line that is refused.
-use Rattle.std.specs.Prelude.{◌≡◌, ℕ, ◌==◌, ◌+◌, ◌^◌, ◌&&◌, nat_lt, nat_le, List, [], ◌∷◌, ◌++◌, Option, None, Some, length, map, IfSome, if◌then◌else◌}
+use Rattle.std.specs.Prelude.{◌≡◌, ℕ, ◌==◌, ◌+◌, ◌&&◌, nat_lt, nat_le, List, [], ◌∷◌, ◌++◌, Option, None, Some, length, map, IfSome, if◌then◌else◌}
 use Rattle.std.specs.List.{flat_map}
 use Rattle.lk_abs.specs.declared.events.Act.{Act}
 use Rattle.lk_machine.specs.declared.setup.Setup.{Setup}
 use Rattle.lk_text.specs.Feeds.{pieces, line_of}
+use Rattle.lk_text.specs.declared.reader.TheConstants.{MAX_INPUT, MAX_LINE}
 use Rattle.lk_forms.specs.Grammar.{Reading, reading_of, refusal_of_line, has_end, ending}
 use Rattle.lk_forms.specs.declared.answers.Which.TheVariants.{Line, Input}
 use Rattle.lk_forms.specs.declared.answers.LineRefusal.{LineRefusal}
@@ -27,20 +28,12 @@ acts_of before = (reading_after before).acts
 abbrev pub bytes_of : List (List ℕ) → List ℕ
 bytes_of before = flat_map (λ piece. piece) before
 
--- the most bytes of a line, without its line feed
-abbrev pub line_limit : ℕ
-line_limit = 4096
-
--- the most bytes of a text
-abbrev pub text_limit : ℕ
-text_limit = 2 ^ 30
-
 -- Why a line is refused behind these pieces: it passes a limit of bytes, or fails a check of the grammar.
 abbrev pub refusal : List (List ℕ) → List ℕ → Option LineRefusal
 refusal before piece =
     let start = length (bytes_of before) in
-    if nat_lt line_limit (length (line_of piece)) && nat_le (start + line_limit) text_limit then Some (Limit Line)
-    else if nat_lt text_limit (start + length piece) then Some (Limit Input)
+    if nat_lt MAX_LINE (length (line_of piece)) && nat_le (start + MAX_LINE) MAX_INPUT then Some (Limit Line)
+    else if nat_lt MAX_INPUT (start + length piece) then Some (Limit Input)
     else refusal_of_line (map line_of before) (line_of piece)
 
 -- a trace is good, and has a setup and acts; or it is refused at a line, and has the setup and the acts of the lines before it

@@ -12,7 +12,7 @@ use lk_abs::Act;
 const TOO_MANY_OR_FEW: LineRefusal = LineRefusal::Bad(Fault::WordCount);
 
 /// Exactly one word.
-pub(crate) fn one_word(args: &[u8]) -> Result<&[u8], LineRefusal>
+pub fn one_word(args: &[u8]) -> Result<&[u8], LineRefusal>
     ensures { IsAnswer (one_word (words args.now)) (λ word. word.now) result }
 {
     match next_word(args) {
@@ -25,7 +25,7 @@ pub(crate) fn one_word(args: &[u8]) -> Result<&[u8], LineRefusal>
 }
 
 /// Exactly two words.
-pub(crate) fn two_words(args: &[u8]) -> Result<(&[u8], &[u8]), LineRefusal>
+pub fn two_words(args: &[u8]) -> Result<(&[u8], &[u8]), LineRefusal>
     ensures { IsAnswer (two_words (words args.now)) (λ both. (both.0.now, both.1.now)) result }
 {
     let Some((first, rest)) = next_word(args) else {
@@ -38,7 +38,7 @@ pub(crate) fn two_words(args: &[u8]) -> Result<(&[u8], &[u8]), LineRefusal>
 }
 
 /// No word.
-pub(crate) fn no_words(args: &[u8]) -> Result<(), LineRefusal>
+pub fn no_words(args: &[u8]) -> Result<(), LineRefusal>
     ensures { result ≡ no_words (words args.now) record {} }
 {
     match next_word(args) {
@@ -48,7 +48,7 @@ pub(crate) fn no_words(args: &[u8]) -> Result<(), LineRefusal>
 }
 
 /// A number within a range.
-pub(crate) fn number_in(low: u64, high: u64, word: &[u8]) -> Result<u64, LineRefusal>
+pub fn number_in(low: u64, high: u64, word: &[u8]) -> Result<u64, LineRefusal>
     ensures value { result ≡ number_in low high word.now }
     ensures within { IfOk result (λ n. n ≤ high) }
 {
@@ -62,7 +62,7 @@ pub(crate) fn number_in(low: u64, high: u64, word: &[u8]) -> Result<u64, LineRef
 
 /// The processor, one of so many, that a word names. Where there is none, each number is out of
 /// range.
-pub(crate) fn cpu_word(cpus: u32, word: &[u8]) -> Result<u32, LineRefusal>
+pub fn cpu_word(cpus: u32, word: &[u8]) -> Result<u32, LineRefusal>
     ensures value { result ≡ cpu_word cpus word.now }
     ensures within { IfOk result (λ p. p < cpus) }
 {

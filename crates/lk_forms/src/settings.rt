@@ -95,7 +95,8 @@ fn kind_named(word: &[u8]) -> Option<Kind>
     }
 }
 
-fn kind_word(word: &[u8]) -> Result<Kind, LineRefusal>
+/// The kind of lock that a word names.
+pub fn kind_word(word: &[u8]) -> Result<Kind, LineRefusal>
     ensures { result ≡ kind_word word.now }
 {
     kind_named(word).ok_or(LineRefusal::Bad(Fault::UnknownWord))
@@ -127,8 +128,8 @@ pub(crate) fn lock_line(setup: &mut Setup, args: &[u8]) -> Result<(), LineRefusa
     Ok(())
 }
 
-// How many words there are.
-fn count_words(args: &[u8]) -> usize
+/// How many words there are.
+pub fn count_words(args: &[u8]) -> usize
     ensures { result ≡ length (words args.now) }
 {
     let mut count = 0;
@@ -140,8 +141,8 @@ fn count_words(args: &[u8]) -> usize
     count
 }
 
-// The sockets of so many processors, one for each.
-fn read_sockets(alloc: Global, cpus: usize, args: &[u8]) -> Result<List<u32>, LineRefusal>
+/// The sockets of so many processors, one for each: there have to be as many words.
+pub fn read_sockets(alloc: Global, cpus: usize, args: &[u8]) -> Result<List<u32>, LineRefusal>
     requires { length (words args.now) ≡ cpus }
     ensures ok { IfOk result (λ list.
         (numbers_from 0 MAX_SOCKET [] (words args.now) ≡ Ok list.items) × (list.room ≡ cpus)) }

@@ -20,14 +20,14 @@ fn is_allowed(b: u8) -> bool
 }
 
 /// Whether every byte of the line is allowed.
-pub(crate) fn is_text(line: &[u8]) -> bool
+pub fn is_text(line: &[u8]) -> bool
     ensures { result ≡ is_text line.now }
 {
     line.iter().all(|b| is_allowed(*b))
 }
 
 /// Whether a word makes its line a comment.
-pub(crate) fn is_comment(word: &[u8]) -> bool
+pub fn is_comment(word: &[u8]) -> bool
     ensures { result ≡ is_comment word.now }
 {
     match word {
@@ -67,7 +67,7 @@ fn word_end(bytes: &[u8]) -> usize
 }
 
 /// The first word, and what stands behind it.
-pub(crate) fn next_word(bytes: &[u8]) -> Option<(&[u8], &[u8])>
+pub fn next_word(bytes: &[u8]) -> Option<(&[u8], &[u8])>
     ensures words { MatchOption result (words bytes.now ≡ [])
         (λ both. words bytes.now ≡ both.0.now ∷ words both.1.now) }
     ensures shorter { IfSome result (λ both. length both.1.now < length bytes.now) }
