@@ -1,0 +1,6 @@
+pub mod Grammar
+pub mod Line
+pub mod Reads
+pub mod Outside
+pub mod Outcome
+pub mod Stands

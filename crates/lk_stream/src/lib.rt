@@ -1,0 +1,13 @@
+//! A text, read line by line in fixed memory: each line is obeyed before the next one is read. What
+//! the lines mean is left to a *script*, of which there is one for each grammar.
+#![tactic(auto)]
+
+mod answers;
+mod faults;
+mod script;
+mod stream;
+
+pub use answers::{ReplayFault, Stop};
+pub use faults::refused;
+pub use script::Script;
+pub use stream::{follow, put_before_read};
