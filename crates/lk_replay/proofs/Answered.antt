@@ -1,34 +1,28 @@
 -- The answer of a replay that has stopped.
-use Rattle.std.proofs.Common.{◌≡◌, ◌≢◌, ◌++◌, ◌≤◌, ℕ, List, [], Option, Result, Ok, Err, IfErr, length, sym, ap, ◌∙◌, subst, refl, append-nil, append_assoc, arith}
+use Rattle.std.proofs.Common.{◌≡◌, ◌≢◌, ◌++◌, ◌≤◌, ℕ, List, [], Option, Result, Ok, Err, IfErr, length, ap, ◌∙◌, subst, refl, arith}
 use Rattle.std.specs.Io.KnownBytes.{Appends}
-use Rattle.std.proofs.KnownBytes.{Appends-trans, Appends-nil, Keeps-refl}
+use Rattle.std.proofs.KnownBytes.{Appends-nil, Keeps-refl}
 use Rattle.lk_abs.specs.Lawful.{IsLawful}
 use Rattle.lk_text.specs.Causes.{Rose}
-use Rattle.lk_text.specs.Bytes.{AppendsFront, Conveys}
+use Rattle.lk_text.specs.Bytes.{AppendsFront}
 use Rattle.lk_text.specs.Block.{waiting}
-use Rattle.lk_text.proofs.Conveyed.{all_conveyed, front_of_conveyed}
+use Rattle.lk_text.proofs.Conveyed.{all_conveyed, conveyed_all, front_of_conveyed, front_of_rest}
 use Rattle.lk_machine.specs.Run.{events_of}
 use Rattle.lk_law.specs.Sound.{rules_of}
 use Rattle.lk_forms.specs.Texts.{closing}
 use Rattle.lk_forms.specs.Trace.{Good, Refused}
 use Rattle.lk_forms.specs.declared.answers.LineRefusal.TheVariants.{Bad, Limit}
-use Rattle.lk_replay.specs.Outside.{outside}
-use Rattle.lk_replay.specs.Outcome.{Outcome, Replayed, CutByWrite, as_replay, as_replay_fault}
+use Rattle.lk_stream.specs.Outside.{outside}
+use Rattle.lk_replay.specs.Outcome.{Outcome, Replayed, CutByWrite, as_replay_fault}
 use Rattle.lk_replay.specs.Transcript.{history_of_run, lines_of_run, counts_of_run}
 use Rattle.lk_replay.specs.Header.{OpenRefused}
-use Rattle.lk_replay.specs.Stands.{StopsAtEnd, StopsRefused, StopsAtRead, FailsAt, FaultStops, FaultRose, HasCauses}
-use Rattle.lk_replay.specs.declared.answers.Summary.{Summary}
-use Rattle.lk_replay.specs.declared.answers.ReplayFault.{ReplayFault}
-use Rattle.lk_replay.specs.declared.answers.ReplayFault.TheVariants as replay
+use Rattle.lk_replay.specs.Stands.{StopsAtEnd, FaultStops, FaultRose, HasCauses}
+use Rattle.lk_stream.specs.declared.answers.ReplayFault.{ReplayFault}
+use Rattle.lk_stream.specs.declared.answers.ReplayFault.TheVariants as replay
 use Rattle.lk_replay.specs.declared.answers.RunFault.{RunFault}
 use Rattle.lk_replay.specs.declared.answers.RunFault.TheVariants as fault
 use Rattle.lk_replay.specs.declared.replaying.Replaying.{Replaying}
-use Rattle.lk_replay.proofs.Turns.{front_of_rest, fails_with}
-
--- all that waited was put, and then a last text
-conveyed_all : (a b c : Option (List ℕ)) (t w u : List ℕ) → Conveys a b [] t w → Appends b c (w ++ u) → Appends a c (t ++ u)
-conveyed_all a b c t w u first last =
-    subst (Appends a c) (sym (append_assoc first.put w u) ∙ ap (λ l. l ++ u) (sym first.whole)) (Appends-trans a b c first.put (w ++ u) first.grown last)
+use Rattle.lk_replay.proofs.Turns.{fails_with}
 
 module _ (input left held held_now held' : Option (List ℕ)) (reads reads_now writes writes' : ℕ) (r : Replaying) where
   closing_is : (s : StopsAtEnd input held r left held_now) → closing r.run.acts r.run.machine.counts ≡ closing (length s.acts) (counts_of_run s.setup s.acts)
@@ -41,7 +35,7 @@ module _ (input left held held_now held' : Option (List ℕ)) (reads reads_now w
     acts = s.acts;
     good = s.good;
     all_read = s.over;
-    written = subst (λ t. Appends held held' (lines_of_run s.setup s.acts ++ t)) (closing_is s) (conveyed_all held held_now held' _ _ _ s.written put);
+    written = subst (λ t. Appends held held' (lines_of_run s.setup s.acts ++ t)) (closing_is s) (conveyed_all held held_now held' [] (waiting r.block) _ _ s.written put);
     acts_made = s.ran.acts;
     events = s.ran.events;
     counts = ap (λ m. m.counts) s.ran.machine;

@@ -1,16 +1,17 @@
 -- What the answers of a replay exclude, since a text says one thing; and a replay in two parts.
-use Rattle.std.proofs.Common.{◌≡◌, ◌≢◌, IsOk, ◌⊎◌, ◌≤◌, ℕ, List, Option, Some, Result, Ok, Err, IsOkUnless, IsErrAnd, IfSome, refl, sym, ap, ◌∙◌, subst, inl, inr, arith}
+use Rattle.std.proofs.Common.{◌≡◌, ◌≢◌, IsOk, ◌⊎◌, ◌≤◌, ℕ, List, Option, Some, Result, Ok, Err, IsOkUnless, IsErrAnd, refl, sym, ap, ◌∙◌, subst, inl, inr, arith}
 use Rattle.lk_abs.specs.declared.events.Act.{Act}
 use Rattle.lk_text.specs.Causes.{Rose}
 use Rattle.lk_machine.specs.declared.setup.Setup.{Setup}
 use Rattle.lk_forms.specs.Trace.{Trace, Good, Refused, Says, trace}
 use Rattle.lk_forms.specs.declared.answers.LineRefusal.{LineRefusal}
 use Rattle.lk_forms.specs.declared.answers.LineRefusal.TheVariants.{Bad, Limit}
-use Rattle.lk_replay.specs.Outside.{Outside, outside}
-use Rattle.lk_replay.specs.Outcome.{Outcome, as_replay, as_replay_fault, refused_fault}
+use Rattle.lk_stream.specs.Outside.{Outside, outside}
+use Rattle.lk_replay.specs.Outcome.{Outcome, as_replay, as_replay_fault}
+use Rattle.lk_stream.specs.Outcome.{refused_fault}
 use Rattle.lk_replay.specs.declared.answers.Summary.{Summary}
-use Rattle.lk_replay.specs.declared.answers.ReplayFault.{ReplayFault}
-use Rattle.lk_replay.specs.declared.answers.ReplayFault.TheVariants as replay
+use Rattle.lk_stream.specs.declared.answers.ReplayFault.{ReplayFault}
+use Rattle.lk_stream.specs.declared.answers.ReplayFault.TheVariants as replay
 use Rattle.lk_replay.specs.declared.answers.RunFault.{RunFault}
 use Rattle.lk_replay.specs.declared.answers.RunFault.TheVariants as fault
 

@@ -1,9 +1,7 @@
 -- What one line more of a header comes to.
-use Rattle.std.proofs.Common.{Bool, true, false, ◌≡◌, ◌≤◌, ◌+◌, ◌==◌, ◌++◌, ◌⊎◌, ℕ, List, [], ◌∷◌, Option, None, Some, Result, Ok, Err, length, inl, inr, sym, ap, ◌∙◌, subst, refl, arith, if◌then◌else◌}
+use Rattle.std.proofs.Common.{true, false, ◌≡◌, ◌≤◌, ◌+◌, ◌++◌, ℕ, List, [], ◌∷◌, Option, None, Some, Ok, Err, length, inl, inr, sym, ap, ◌∙◌, subst, refl, arith, if◌then◌else◌}
 use Rattle.std.proofs.lemmas.Bool.{ne_eqb}
-use Rattle.std.specs.Io.KnownBytes.{IsAtEnd}
 use Rattle.lk_abs.specs.declared.events.Act.{Act}
-use Rattle.lk_text.specs.Causes.{Rose}
 use Rattle.lk_text.specs.Feeds.{pieces}
 use Rattle.lk_text.specs.Reader.{pending, lines_given, is_ended, IsFresh, GaveLine, MetEnd, GaveFault}
 use Rattle.lk_text.specs.declared.reader.LineReader.{LineReader}
@@ -12,17 +10,17 @@ use Rattle.lk_text.specs.declared.reader.LineFault.TheVariants.{ReadFault, TooLo
 use Rattle.lk_machine.specs.declared.setup.Setup.{Setup}
 use Rattle.lk_forms.specs.Grammar.{Reading, read, has_go, has_end, last_rank, ending, nothing_read}
 use Rattle.lk_forms.specs.Reader.{ReadsOn}
-use Rattle.lk_forms.specs.Trace.{Trace, Good, Refused, Says, trace_end, reading_after, setup_of, acts_of, bytes_of, whole_lines}
-use Rattle.lk_forms.specs.declared.answers.HeaderStep.{HeaderStep}
+use Rattle.lk_forms.specs.Trace.{Good, Refused, Says, trace_end, reading_after, setup_of, acts_of, bytes_of}
 use Rattle.lk_forms.specs.declared.answers.LineRefusal.{LineRefusal}
 use Rattle.lk_forms.specs.declared.answers.LineRefusal.TheVariants.{Bad, Limit, Memory}
 use Rattle.lk_forms.proofs.Places.{read-before_go}
-use Rattle.lk_replay.specs.Outcome.{refused_fault, as_replay_fault}
-use Rattle.lk_replay.specs.Reads.{ReadsTo, IsCutTo}
-use Rattle.lk_replay.specs.Header.{IsInHeader, HeaderStands, HeaderRefused, HeaderCut, OpenRefused}
+use Rattle.lk_replay.specs.Outcome.{as_replay_fault}
+use Rattle.lk_stream.specs.Outcome.{refused_fault}
+use Rattle.lk_stream.specs.Reads.{IsCutTo}
+use Rattle.lk_replay.specs.Header.{IsInHeader, HeaderStands, HeaderRefused, OpenRefused}
 use Rattle.lk_replay.specs.Stands.{cut_at}
-use Rattle.lk_replay.specs.declared.answers.ReplayFault.{ReplayFault}
-use Rattle.lk_replay.specs.declared.answers.ReplayFault.TheVariants as fault
+use Rattle.lk_stream.specs.declared.answers.ReplayFault.{ReplayFault}
+use Rattle.lk_stream.specs.declared.answers.ReplayFault.TheVariants as fault
 use Rattle.lk_replay.proofs.ReadOn.{reads_nothing, reads_end, long_line, long_text, taken_lines, line_refused, line_read, line_says}
 
 -- before the first line

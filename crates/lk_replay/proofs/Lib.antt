@@ -1,5 +1,4 @@
 pub mod RunLemmas
-pub mod Pieces
 pub mod Refusals
 pub mod ReadOn
 pub mod HeaderSteps
@@ -8,4 +7,3 @@ pub mod Turns
 pub mod Answered
 pub mod Opened
 pub mod Complete
-pub mod Puts

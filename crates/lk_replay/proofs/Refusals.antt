@@ -8,7 +8,7 @@ use Rattle.lk_abs.specs.declared.events.Act.{Act}
 use Rattle.lk_text.specs.Feeds.{line_of}
 use Rattle.lk_forms.specs.Grammar.{Reading, read, scheduled, cpus_of, has_go, has_end, next_reading, nothing_read, reading_of}
 use Rattle.lk_forms.specs.Schedule.{IsInSchedule, SaysNext, schedule_of}
-use Rattle.lk_forms.specs.Trace.{Trace, Good, Refused, trace_from, trace_end, unless_refused, refusal, reading_after, setup_of, acts_of, bytes_of, setup_in, acts_in}
+use Rattle.lk_forms.specs.Trace.{Trace, Refused, trace_from, trace_end, unless_refused, refusal, reading_after, setup_of, acts_of, bytes_of, setup_in, acts_in}
 use Rattle.lk_forms.specs.declared.answers.LineRefusal.{LineRefusal}
 use Rattle.lk_forms.specs.declared.answers.LineRefusal.TheVariants.{Limit}
 use Rattle.lk_forms.specs.declared.answers.Which.TheVariants.{Line, Input}

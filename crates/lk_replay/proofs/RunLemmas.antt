@@ -14,7 +14,7 @@ use Rattle.lk_machine.specs.Run.{Occurrence, occurs, history_from, machine_after
 use Rattle.lk_machine.specs.declared.parts.Counts.{Counts}
 use Rattle.lk_law.specs.Sound.{IsSound}
 use Rattle.lk_law.specs.MachineLaws.{ShowsLawful}
-use Rattle.lk_law.specs.Kicked.{and_then}
+use Rattle.lk_law.specs.Kicked.{with_event}
 use Rattle.lk_machine.specs.Ready.{CountsWithin}
 use Rattle.lk_replay.specs.Run.{Makes, CanGoOn, occurrences_in}
 use Rattle.lk_replay.specs.declared.run.Run.{Run}
@@ -73,7 +73,7 @@ module _ (a b : Run) (xs ys : List Act) (first : Makes a b xs) where
 
 -- ---- one act
 
-pub and_then_occurs : (n : ℕ) (es : List Event) (e : Option Event) → and_then es e ≡ es ++ events_of (occurs n e)
+pub and_then_occurs : (n : ℕ) (es : List Event) (e : Option Event) → with_event es e ≡ es ++ events_of (occurs n e)
 and_then_occurs n es None = sym (append-nil es)
 and_then_occurs n es (Some e) = refl
 
@@ -108,7 +108,7 @@ pub occurrences_in-one : (run : Run) (a : Act) → occurrences_in run (a ∷ [])
 occurrences_in-one run a = append-nil _
 
 pub made_one : (old new : Run) (a : Act) (e : Option Event) → new.machine ≡ (next old.machine a).0 → e ≡ (next old.machine a).1 → new.machine.setup ≡ old.machine.setup
-    → new.acts ≡ old.acts + 1 → new.events ≡ old.events + from_bool (is_some e) → ((es : List Event) → ShowsLawful old.machine es → ShowsLawful new.machine (and_then es e))
+    → new.acts ≡ old.acts + 1 → new.events ≡ old.events + from_bool (is_some e) → ((es : List Event) → ShowsLawful old.machine es → ShowsLawful new.machine (with_event es e))
     → Makes old new (a ∷ [])
 made_one old new a e machine told setup acts events lawful =
     let one : occurrences_in old (a ∷ []) ≡ occurs (old.acts + 1) e = occurrences_in-one old a ∙ ap (occurs (old.acts + 1)) (sym told) in record {

@@ -1,7 +1,6 @@
 -- What one line more of a schedule comes to.
-use Rattle.std.proofs.Common.{Bool, true, false, ◌≡◌, ◌≢◌, ◌≤◌, ◌+◌, ◌++◌, ◌||◌, ◌==◌, ℕ, List, [], ◌∷◌, Option, Some, None, Result, Ok, Err, length, replicate, sym, ap, ◌∙◌, subst, refl, arith, append-nil, append_assoc, is_some, nat_le, unwrap_or, if◌then◌else◌}
+use Rattle.std.proofs.Common.{Bool, true, false, ◌≡◌, ◌≢◌, ◌+◌, ◌++◌, ◌||◌, ℕ, List, [], ◌∷◌, Option, Some, None, Result, Ok, Err, length, sym, ap, ◌∙◌, subst, refl, arith, append-nil, append_assoc, is_some, nat_le, unwrap_or, if◌then◌else◌}
 use Rattle.std.proofs.lemmas.List.{length-append}
-use Rattle.std.proofs.KnownBytes.{Appends-trans}
 use Rattle.std.specs.Io.KnownBytes.{IsAtEnd}
 use Rattle.lk_abs.specs.declared.events.Act.{Act}
 use Rattle.lk_text.specs.Bytes.{AppendsFront, Conveys}
@@ -12,27 +11,29 @@ use Rattle.lk_text.specs.declared.block.Block.{Block}
 use Rattle.lk_text.specs.declared.reader.LineReader.{LineReader}
 use Rattle.lk_text.specs.declared.reader.LineFault.{LineFault}
 use Rattle.lk_text.specs.declared.reader.LineFault.TheVariants.{ReadFault, TooLong, TooMuch}
-use Rattle.lk_text.proofs.Conveyed.{Conveys-trans, front_of_more, front_of_conveyed}
+use Rattle.lk_text.proofs.Conveyed.{Conveys-trans, front_of_more, front_of_conveyed, front_of_rest}
 use Rattle.lk_machine.specs.declared.setup.Setup.{Setup}
-use Rattle.lk_machine.specs.Run.{at_rest, history, history_from, machine_after, events_of}
+use Rattle.lk_machine.specs.Run.{at_rest, history_from, machine_after, events_of}
 use Rattle.lk_law.specs.Sound.{IsSound}
 use Rattle.lk_law.specs.MachineLaws.{ShowsLawful}
 use Rattle.lk_forms.specs.Grammar.{Reading, read, scheduled, cpus_of, has_go, has_end, ending}
 use Rattle.lk_forms.specs.Schedule.{IsInSchedule, SaysNext, schedule_of}
 use Rattle.lk_forms.specs.Texts.{lines, closing}
-use Rattle.lk_forms.specs.Trace.{Trace, Good, Refused, Says, trace_from, trace_end, reading_after, setup_of, acts_of, setup_in, acts_in, bytes_of, whole_lines}
+use Rattle.lk_forms.specs.Trace.{Trace, Good, Refused, Says, trace_from, reading_after, setup_of, acts_of, setup_in, acts_in, bytes_of}
 use Rattle.lk_forms.specs.declared.answers.Fault.TheVariants.{NoEnd, NoFormat}
 use Rattle.lk_forms.specs.declared.answers.LineRefusal.{LineRefusal}
 use Rattle.lk_forms.specs.declared.answers.LineRefusal.TheVariants.{Bad, Limit, Memory}
 use Rattle.lk_forms.specs.declared.answers.Sched.{Sched}
 use Rattle.lk_forms.specs.declared.answers.Sched.TheVariants.{Blank, Run, End}
 use Rattle.lk_forms.proofs.Places.{schedule-ended, schedule-no_memory}
-use Rattle.lk_replay.specs.Outcome.{full_text, as_replay_fault, refused_fault}
+use Rattle.lk_replay.specs.Outcome.{full_text, as_replay_fault}
+use Rattle.lk_stream.specs.Outcome.{refused_fault}
 use Rattle.lk_replay.specs.Transcript.{history_of_run, lines_of_run, counts_of_run}
-use Rattle.lk_replay.specs.Reads.{IsCutTo, ReadsTo}
+use Rattle.lk_replay.specs.Reads.{ReadsTo}
+use Rattle.lk_stream.specs.Reads.{IsCutTo}
 use Rattle.lk_replay.specs.Run.{RanTo, Makes, occurrences_in}
 use Rattle.lk_replay.specs.Schedule.{acts_said, is_end}
-use Rattle.lk_replay.specs.Stands.{Stands, SaysFrom, StopsAtEnd, StopsRefused, StopsAtRead, FailsAt, FaultStops, TurnsTo, cut_at, end_of}
+use Rattle.lk_replay.specs.Stands.{Stands, SaysFrom, StopsRefused, FailsAt, FaultStops, TurnsTo, cut_at}
 use Rattle.lk_replay.specs.declared.answers.RunFault.{RunFault}
 use Rattle.lk_replay.specs.declared.answers.RunFault.TheVariants as fault
 use Rattle.lk_replay.specs.declared.run.Run.{Run as RunValue}
@@ -92,14 +93,6 @@ fails_with input held held' setup acts from cut =
       says = from.says;
       written = rw rest.1 (front_of_more held held' (lines_of_run setup acts) rest.0 cut);
     }
-
-pub front_of_rest : (a b c : Option (List ℕ)) (w x t u : List ℕ) → Conveys a b w t x → AppendsFront b c (x ++ u) → AppendsFront a c (w ++ (t ++ u))
-front_of_rest a b c w x t u first cut = record {
-  front = first.put ++ cut.front;
-  rest = cut.rest;
-  whole = sym (append_assoc w t u) ∙ ap (λ l. l ++ u) first.whole ∙ append_assoc first.put x u ∙ ap (λ l. first.put ++ l) cut.whole ∙ sym (append_assoc first.put cut.front cut.rest);
-  grown = Appends-trans a b c first.put cut.front first.grown cut.grown;
-}
 
 -- what the text says behind these lines
 says_from : (input rest : Option (List ℕ)) (reader : LineReader) (before : List (List ℕ)) → ReadsTo input reader rest before → has_go (reading_after before) ≡ true

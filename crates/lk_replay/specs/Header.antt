@@ -7,20 +7,14 @@ use Rattle.lk_text.specs.Feeds.{pieces}
 use Rattle.lk_text.specs.declared.reader.LineReader.{LineReader}
 use Rattle.lk_machine.specs.declared.setup.Setup.{Setup}
 use Rattle.lk_forms.specs.Grammar.{Reading, last_rank, has_go}
+use Rattle.lk_forms.specs.Headers.{EndsAtGo}
 use Rattle.lk_forms.specs.Trace.{Refused, Says, reading_after, acts_of, whole_lines}
 use Rattle.lk_forms.specs.declared.answers.HeaderStep.{HeaderStep}
 use Rattle.lk_forms.specs.declared.answers.LineRefusal.{LineRefusal}
 use Rattle.lk_forms.specs.declared.answers.LineRefusal.TheVariants.{Bad, Limit}
 use Rattle.lk_replay.specs.Reads.{ReadsTo}
-use Rattle.lk_replay.specs.declared.answers.ReplayFault.{ReplayFault}
-use Rattle.lk_replay.specs.declared.answers.ReplayFault.TheVariants as fault
-
--- the last of these lines is `go`
-pub record EndsAtGo (before : List (List ℕ)) : Type 0 where
-  pub front : List (List ℕ)
-  pub go : List ℕ
-  pub whole : before ≡ front ++ go ∷ []
-  pub header : has_go (reading_after front) ≡ false
+use Rattle.lk_stream.specs.declared.answers.ReplayFault.{ReplayFault}
+use Rattle.lk_stream.specs.declared.answers.ReplayFault.TheVariants as fault
 
 -- no line before the one of this number is `go`
 abbrev pub IsInHeader : Option (List ℕ) → ℕ → Type 0

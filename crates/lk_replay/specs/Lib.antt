@@ -1,4 +1,3 @@
-pub mod Outside
 pub mod Transcript
 pub mod Outcome
 pub mod Reads

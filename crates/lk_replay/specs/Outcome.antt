@@ -1,5 +1,5 @@
 -- What each answer of a replay means, by what is seen of its source and its sink before it and after it.
-use Rattle.std.specs.Prelude.{◌≡◌, ℕ, List, Option, Result, Ok, Err, length}
+use Rattle.std.specs.Prelude.{◌≡◌, ℕ, List, Result, Ok, Err, length}
 use Rattle.std.specs.Io.KnownBytes.{Appends, Consumes, IsAtEnd, Keeps}
 use Rattle.lk_abs.specs.declared.events.Act.{Act}
 use Rattle.lk_abs.specs.Lawful.{IsLawful}
@@ -10,12 +10,12 @@ use Rattle.lk_machine.specs.Run.{events_of}
 use Rattle.lk_law.specs.Sound.{rules_of}
 use Rattle.lk_forms.specs.Trace.{Trace, Good, Refused, Says, setup_of, acts_of, whole_lines}
 use Rattle.lk_forms.specs.declared.answers.LineRefusal.{LineRefusal}
-use Rattle.lk_forms.specs.declared.answers.LineRefusal.TheVariants.{Bad, Limit, Memory}
-use Rattle.lk_replay.specs.Outside.{Outside}
+use Rattle.lk_forms.specs.declared.answers.LineRefusal.TheVariants.{Bad, Limit}
+use Rattle.lk_stream.specs.Outside.{Outside}
 use Rattle.lk_replay.specs.Transcript.{history_of_run, counts_of_run, lines_of_run, transcript}
 use Rattle.lk_replay.specs.declared.answers.Summary.{Summary}
-use Rattle.lk_replay.specs.declared.answers.ReplayFault.{ReplayFault}
-use Rattle.lk_replay.specs.declared.answers.ReplayFault.TheVariants as fault
+use Rattle.lk_stream.specs.declared.answers.ReplayFault.{ReplayFault}
+use Rattle.lk_stream.specs.declared.answers.ReplayFault.TheVariants as fault
 use Rattle.lk_replay.specs.declared.answers.RunFault.{RunFault}
 use Rattle.lk_replay.specs.declared.answers.RunFault.TheVariants as run
 
@@ -82,9 +82,3 @@ as_replay_fault run.WriteFault = fault.WriteFault
 abbrev pub as_replay : Result Summary RunFault → Result Summary ReplayFault
 as_replay (Ok summary) = Ok summary
 as_replay (Err why) = Err (as_replay_fault why)
-
--- the answer where a line is refused
-abbrev pub refused_fault : ℕ → LineRefusal → ReplayFault
-refused_fault line (Bad why) = fault.BadInput line why
-refused_fault line (Limit which) = fault.Limit line which
-refused_fault line Memory = fault.Memory

@@ -1,21 +1,10 @@
 -- A text, read up to a line.
-use Rattle.std.specs.Prelude.{Bool, true, false, ◌≡◌, ℕ, List, [], ◌∷◌, ◌++◌, Option, None, Some, length, ⊤}
+use Rattle.std.specs.Prelude.{true, false, ◌≡◌, ℕ, List, [], ◌++◌, Option, None, length}
 use Rattle.std.specs.Io.KnownBytes.{IsAtEnd}
-use Rattle.lk_text.specs.Feeds.{HasNoFeed, pieces}
 use Rattle.lk_text.specs.Reader.{unread, kept, lines_given, looked_at, is_ended}
 use Rattle.lk_text.specs.declared.reader.LineReader.{LineReader}
 use Rattle.lk_forms.specs.Trace.{trace_from, bytes_of}
-
--- a text is these lines, and then the rest
-abbrev pub IsCutTo : Option (List ℕ) → Option (List ℕ) → List (List ℕ) → Type 0
-IsCutTo None rest before = ⊤
-IsCutTo (Some bytes) None before = ⊥
-IsCutTo (Some bytes) (Some rest) before = (bytes ≡ bytes_of before ++ rest) × (pieces bytes ≡ before ++ pieces rest)
-
--- each of these lines ends at its only line feed
-abbrev pub AllWhole : List (List ℕ) → Type 0
-AllWhole [] = ⊤
-AllWhole (piece ∷ before) = ((line : List ℕ) × (piece ≡ line ++ 10 ∷ []) × HasNoFeed line) × AllWhole before
+use Rattle.lk_stream.specs.Reads.{IsCutTo, AllWhole}
 
 -- none of these lines is refused
 abbrev pub IsAccepted : List (List ℕ) → Type 0

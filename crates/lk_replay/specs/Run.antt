@@ -1,5 +1,5 @@
 -- A run on its way.
-use Rattle.std.specs.Prelude.{◌≡◌, ◌≤◌, ◌+◌, ℕ, List, ◌++◌, length}
+use Rattle.std.specs.Prelude.{◌≡◌, ◌≤◌, ◌+◌, List, ◌++◌, length}
 use Rattle.lk_abs.specs.declared.events.Act.{Act}
 use Rattle.lk_abs.specs.declared.events.Event.{Event}
 use Rattle.lk_machine.specs.Run.{Occurrence, at_rest, history_from, machine_after, events_of}

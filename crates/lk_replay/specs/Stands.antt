@@ -1,6 +1,6 @@
 -- Where a replay stands between two lines of the schedule, and where it stops. `input` is the text from its beginning and `left`
 -- what the source has left of it; `held` and `held_now` are what the sink held when the replay began and holds now.
-use Rattle.std.specs.Prelude.{Bool, true, false, ◌≡◌, ℕ, ◌≤◌, ◌+◌, if◌then◌else◌, List, [], ◌++◌, Option, None, Result, Ok, Err, IfErr, length, ⊤}
+use Rattle.std.specs.Prelude.{Bool, true, false, ◌≡◌, ℕ, ◌≤◌, ◌+◌, if◌then◌else◌, List, [], ◌++◌, Option, None, Result, Ok, Err, IfErr, ⊤}
 use Rattle.std.specs.Io.KnownBytes.{IsAtEnd, Consumes}
 use Rattle.lk_abs.specs.declared.events.Act.{Act}
 use Rattle.lk_text.specs.Causes.{Rose}
@@ -18,7 +18,7 @@ use Rattle.lk_text.specs.declared.reader.LineFault.{LineFault}
 use Rattle.lk_text.specs.declared.reader.LineFault.TheVariants.{ReadFault, TooLong, TooMuch}
 use Rattle.lk_replay.specs.Transcript.{lines_of_run}
 use Rattle.lk_replay.specs.Reads.{ReadsTo}
-use Rattle.lk_replay.specs.Header.{EndsAtGo}
+use Rattle.lk_forms.specs.Headers.{EndsAtGo}
 use Rattle.lk_replay.specs.Run.{CanGoOn, RanTo}
 use Rattle.lk_replay.specs.Outcome.{full_text}
 use Rattle.lk_replay.specs.declared.answers.RunFault.{RunFault}

@@ -1,9 +1,9 @@
 // What a replay answers.
 ghost use Rattle.std.specs.Prelude.{◌≡◌};
 
-use lk_abs::Memory;
 use lk_forms::{Fault, Which};
 use lk_machine::Counts;
+use lk_stream::ReplayFault;
 use lk_text::WriteFault;
 
 /// A run that was replayed whole.
@@ -15,21 +15,6 @@ pub struct Summary {
     pub events: u64,
     /// How often the run took each of ten ways.
     pub counts: Counts,
-}
-
-/// Why a replay was cut short.
-#[derive(Clone, Copy, Debug, PartialEq, Eq)]
-pub enum ReplayFault {
-    /// The grammar refuses a line, or the end of the input; lines are numbered from 1.
-    BadInput { line: u64, fault: Fault },
-    /// A line passes a limit.
-    Limit { line: u64, which: Which },
-    /// The source answered a fault.
-    ReadFault,
-    /// The sink answered a fault.
-    WriteFault,
-    /// There was no memory; nothing was written.
-    Memory,
 }
 
 /// Why a run was cut short. It takes no memory.
@@ -57,16 +42,6 @@ impl From<RunFault> for ReplayFault {
             RunFault::ReadFault => ReplayFault::ReadFault,
             RunFault::WriteFault => ReplayFault::WriteFault,
         }
-    }
-}
-
-impl From<Memory> for ReplayFault {
-    ghost use Rattle.lk_replay.specs.declared.answers.ReplayFault.{ReplayFault};
-
-    ghost from_gives = { λ _ fault. fault ≡ ReplayFault.Memory };
-
-    fn from(_: Memory) -> ReplayFault {
-        ReplayFault::Memory
     }
 }
 

@@ -13,8 +13,8 @@ use lk_text::{Block, Sink, WriteFault};
 // How many counts a transcript tells.
 const COUNTS: u32 = 10;
 
-/// Writes what waits, and then the closing lines.
-pub(crate) fn write_closing<K: Sink>(
+/// Writes what waits, and then the closing lines: how many acts there were, and the ten counts.
+pub fn write_closing<K: Sink>(
     block: &mut Block,
     sink: &mut K,
     acts: u64,

@@ -1,7 +1,8 @@
 // What refusals and faults of reading come to.
 ghost use Rattle.std.specs.Prelude.{◌≡◌, ◌≢◌};
 ghost use Rattle.lk_replay.specs.Stands.{cut_at};
-ghost use Rattle.lk_replay.specs.Outcome.{as_replay_fault, refused_fault};
+ghost use Rattle.lk_replay.specs.Outcome.{as_replay_fault};
+ghost use Rattle.lk_stream.specs.Outcome.{refused_fault};
 ghost use Rattle.lk_forms.specs.declared.answers.LineRefusal.{LineRefusal};
 
 use crate::answers::RunFault;

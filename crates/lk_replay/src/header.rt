@@ -4,11 +4,10 @@ ghost use Rattle.lk_text.specs.Reader.{looked_at, is_ended, GaveLine, MetEnd, Ga
 ghost use Rattle.lk_forms.specs.Grammar.{read, has_go};
 ghost use Rattle.lk_forms.specs.Reader.{ReadsOn, reading, step_of};
 ghost use Rattle.lk_replay.specs.Header.{HeaderStands, HeaderTurns, OpenRefused};
-ghost use Rattle.lk_replay.specs.Outcome.{refused_fault};
 
-use crate::answers::ReplayFault;
 use crate::faults::cut_fault;
 use lk_forms::{HeaderReader, HeaderStep, LineRefusal};
+use lk_stream::{ReplayFault, refused};
 use lk_text::{LineFault, LineReader, Source};
 
 // What the header makes of the next line, if there is one.
@@ -35,17 +34,6 @@ fn next_step<S: Source>(
         Ok(Some(line)) => Ok(Some(header.line(line))),
         Ok(None) => Ok(None),
         Err(fault) => Err(fault),
-    }
-}
-
-// The answer where a line is refused.
-fn refused(line: u64, why: LineRefusal) -> ReplayFault
-    ensures { result ≡ refused_fault line why }
-{
-    match why {
-        LineRefusal::Bad(fault) => ReplayFault::BadInput { line, fault },
-        LineRefusal::Limit(which) => ReplayFault::Limit { line, which },
-        LineRefusal::Memory => ReplayFault::Memory,
     }
 }
 

@@ -12,6 +12,8 @@ mod run;
 mod schedule;
 mod stream;
 
-pub use answers::{ReplayFault, RunFault, Summary};
+pub use answers::{RunFault, Summary};
+pub use closing::write_closing;
+pub use lk_stream::ReplayFault;
 pub use replayer::Replayer;
 pub use stream::replay;

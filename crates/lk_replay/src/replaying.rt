@@ -9,15 +9,16 @@ ghost use Rattle.lk_forms.specs.Schedule.{IsWithin};
 ghost use Rattle.lk_forms.specs.Texts.{lines};
 ghost use Rattle.lk_replay.specs.Schedule.{acts_said, is_end};
 ghost use Rattle.lk_replay.specs.Run.{CanGoOn, Makes, occurrences_in};
-ghost use Rattle.lk_replay.specs.Outside.{outside};
+ghost use Rattle.lk_stream.specs.Outside.{outside};
 ghost use Rattle.lk_replay.specs.Outcome.{Outcome, as_replay, as_replay_fault};
 
 use crate::answers::{RunFault, Summary};
 use crate::closing::write_closing;
 use crate::faults::{cut_fault, refusal_fault};
 use crate::run::Run;
-use crate::schedule::{next_said, put_before_read};
+use crate::schedule::next_said;
 use lk_forms::{Fault, Sched};
+use lk_stream::put_before_read;
 use lk_text::{Block, LineReader, Sink, Source, WriteFault};
 
 /// A replay whose header was read, with all the memory that it needs.

@@ -35,23 +35,3 @@ pub(crate) fn next_said<S: Source>(
         Err(fault) => Err(fault),
     }
 }
-
-/// Puts what waits, where the source has to be asked for the next line: who waits for the events of
-/// a line before it gives the next one gets them.
-pub(crate) fn put_before_read<K: Sink>(
-    reader: &LineReader,
-    block: &mut Block,
-    sink: &mut K,
-) -> Result<(), WriteFault>
-    ensures ok { OnOk result
-        (Conveys (K.held sink.old) (K.held sink.new) (waiting block.old) [] (waiting block.new)) }
-    ensures shown { OnOk result (is_at_hand reader.now ≡ false → waiting block.new ≡ []) }
-    ensures err { OnErr result
-        (AppendsFront (K.held sink.old) (K.held sink.new) (waiting block.old)) }
-    ensures cause { HasCause (K.faults sink.old) (K.faults sink.new) result }
-{
-    if reader.has_line() {
-        return Ok(());
-    }
-    block.flush(sink)
-}

@@ -5,11 +5,13 @@ ghost use Rattle.lk_machine.specs.declared.setup.Setup.{Setup};
 ghost use Rattle.lk_text.specs.Causes.{Rose};
 ghost use Rattle.lk_forms.specs.Trace.{Good, Refused, trace};
 ghost use Rattle.lk_forms.specs.declared.answers.LineRefusal.{LineRefusal};
-ghost use Rattle.lk_replay.specs.Outside.{outside};
-ghost use Rattle.lk_replay.specs.Outcome.{Outcome, refused_fault};
+ghost use Rattle.lk_stream.specs.Outside.{outside};
+ghost use Rattle.lk_replay.specs.Outcome.{Outcome};
+ghost use Rattle.lk_stream.specs.Outcome.{refused_fault};
 
-use crate::answers::{ReplayFault, Summary};
+use crate::answers::Summary;
 use crate::replayer::Replayer;
+use lk_stream::ReplayFault;
 use lk_text::{Sink, Source};
 use std::alloc::Global;
 

@@ -1,10 +1,9 @@
-use Rattle.std.proofs.Common.{◌≡◌, ◌∙◌, ◌+◌, sym, ap, subst, arith}
+use Rattle.std.proofs.Common.{◌∙◌, sym, arith}
 use Rattle.std.proofs.lemmas.Result.{err_from_is_err_and}
 use Rattle.lk_text.proofs.Conveyed.{Conveys-trans, front_of_more}
-use Rattle.lk_text.specs.Bytes.{Conveys}
 use Rattle.lk_text.specs.Block.{waiting}
-use Rattle.lk_forms.specs.Texts.{closing, end_text, count_text}
-use Rattle.lk_replay.proofs.ClosingLines.{closing_front, front_none, front_more, front_of_closing, closing_put, closing_cut}
+use Rattle.lk_forms.specs.Texts.{closing}
+use Rattle.lk_replay.proofs.ClosingLines.{front_none, front_more, front_of_closing, closing_put, closing_cut}
 use Rattle.lk_replay.proofs.closing.write_closing.Goals as goal
 
 pub returns-in_err-push-clause-err : goal.returns-in_err-push-clause-err

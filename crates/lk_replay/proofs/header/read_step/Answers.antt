@@ -1,4 +1,4 @@
-use Rattle.std.proofs.Common.{◌≡◌, ◌+◌, Ok, ap, sym, subst}
+use Rattle.std.proofs.Common.{◌+◌, Ok, ap, sym, subst}
 use Rattle.lk_text.specs.Reader.{lines_given}
 use Rattle.lk_forms.specs.Grammar.{ending}
 use Rattle.lk_forms.specs.declared.answers.LineRefusal.TheVariants.{Bad}

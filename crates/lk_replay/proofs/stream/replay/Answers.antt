@@ -1,5 +1,5 @@
 use Rattle.std.proofs.Common.{◌≡◌, ◌∙◌, Ok, Err, sym}
-use Rattle.lk_replay.specs.declared.answers.ReplayFault.TheVariants.{Memory}
+use Rattle.lk_stream.specs.declared.answers.ReplayFault.TheVariants.{Memory}
 use Rattle.lk_replay.specs.Outcome.{as_replay}
 use Rattle.lk_replay.proofs.Complete.{complete, exact, follows_open, needs_none}
 use Rattle.lk_replay.proofs.stream.replay.Goals as goal

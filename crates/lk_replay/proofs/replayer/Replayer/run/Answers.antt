@@ -1,4 +1,4 @@
-use Rattle.std.proofs.Common.{List, ℕ, Option, sym, subst}
+use Rattle.std.proofs.Common.{sym, subst}
 use Rattle.lk_replay.specs.Outcome.{as_replay}
 use Rattle.lk_replay.specs.Stands.{Stands}
 use Rattle.lk_replay.proofs.Complete.{complete, exact, run_complete, run_exact}

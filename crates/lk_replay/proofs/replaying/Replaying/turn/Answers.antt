@@ -1,4 +1,4 @@
-use Rattle.std.proofs.Common.{◌≡◌, Ok, ap, sym, length}
+use Rattle.std.proofs.Common.{Ok, ap, sym, length}
 use Rattle.std.proofs.lemmas.Result.{err_from_is_err_and}
 use Rattle.lk_forms.proofs.ScheduleLemmas.{schedule-within}
 use Rattle.lk_replay.proofs.Turns.{needs_no_memory, turn_ends, turn_cut, turn_refused, turn_goes_on, turn_fails, stands_put, put_fails}
