@@ -1,0 +1,4 @@
+pub mod Run
+pub mod Script
+pub mod Grows
+pub mod Outcome
