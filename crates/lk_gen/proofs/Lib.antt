@@ -1,0 +1,10 @@
+pub mod Sizes
+pub mod Spacing
+pub mod Reading
+pub mod Steps
+pub mod Head
+pub mod Programs
+pub mod Lengths
+pub mod Whole
+pub mod Puts
+pub mod Written
