@@ -1,0 +1,7 @@
+use Rattle.std.proofs.Common.{◌≡◌, ◌+◌, take}
+use Rattle.std.specs.List.{sum}
+use Rattle.lk_job_forms.specs.declared.limits.TheConstants.{MAX_AMOUNT}
+use Rattle.lk_job_forms.proofs.accounts.has_total.Given as goal
+
+abbrev pub invariant-loop-balance : goal.invariant-loop-balance
+invariant-loop-balance l = l.left + sum (take l.balance-index l.balances) ≡ MAX_AMOUNT

@@ -1,0 +1,12 @@
+pub mod Keywords
+pub mod Workload
+pub mod Props
+pub mod Lines
+pub mod Grammar
+pub mod Draft
+pub mod Reader
+pub mod JobFile
+pub mod Texts
+pub mod Journal
+pub mod Outcome
+pub mod TextLaws

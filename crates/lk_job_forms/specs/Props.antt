@@ -1,0 +1,12 @@
+-- What is said of jobs is a proposition, as the fields of a reader ask.
+use Rattle.std.specs.Prelude.{ℕ}
+use Rattle.std.proofs.Props.{props}
+use Rattle.lk_abs.specs.declared.ledger.Job.{Job}
+use Rattle.lk_abs.specs.declared.ledger.Job.TheVariants.{Move, Add, Sum, Get}
+use Rattle.lk_job_forms.specs.Workload.{IsFair}
+
+pub IsFair-prop : (accounts : ℕ) (job : Job) → IsProp (IsFair accounts job)
+IsFair-prop accounts (Move from to amount) = hlevel props
+IsFair-prop accounts (Add account amount) = hlevel props
+IsFair-prop accounts Sum = hlevel props
+IsFair-prop accounts (Get account) = hlevel props

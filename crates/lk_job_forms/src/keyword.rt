@@ -1,0 +1,116 @@
+// The first words of the lines, and where such a line may stand.
+ghost use Rattle.std.specs.Prelude.{◌≡◌};
+ghost use Rattle.lk_job_forms.specs.Keywords.{keyword_of, rank_of, is_misplaced, is_repeated, fault_of_place};
+
+use lk_forms::Fault;
+
+/// The first word of a line.
+#[derive(Clone, Copy)]
+pub(crate) enum Keyword {
+    /// `qjobs`: the format.
+    Format,
+    /// `mode`: the family of the lock.
+    Mode,
+    /// `guard`: the kind of the lock.
+    Guard,
+    /// `workers`: how many there are.
+    Workers,
+    /// `sockets`: where the workers stand.
+    Sockets,
+    /// `threshold`: how long a front stays on its socket.
+    Threshold,
+    /// `accounts`: the opening balances.
+    Accounts,
+    /// `job`: one more job of a worker.
+    Job,
+    /// `end`: the file ends.
+    End,
+}
+
+/// The rank of the line `mode`.
+const MODE_RANK: u32 = 1;
+
+/// The rank of the line `accounts`, the last that may stand once.
+const ACCOUNTS_RANK: u32 = 6;
+
+/// The rank of the line `end`.
+pub(crate) const END_RANK: u32 = 8;
+
+impl Keyword {
+    /// The keyword that a word is, if it is one.
+    pub fn of(word: &[u8]) -> Option<Keyword>
+        ensures { result ≡ keyword_of word.now }
+    {
+        if word == b"job".as_slice() {
+            Some(Keyword::Job)
+        } else if word == b"end".as_slice() {
+            Some(Keyword::End)
+        } else if word == b"qjobs".as_slice() {
+            Some(Keyword::Format)
+        } else if word == b"mode".as_slice() {
+            Some(Keyword::Mode)
+        } else if word == b"guard".as_slice() {
+            Some(Keyword::Guard)
+        } else if word == b"workers".as_slice() {
+            Some(Keyword::Workers)
+        } else if word == b"sockets".as_slice() {
+            Some(Keyword::Sockets)
+        } else if word == b"threshold".as_slice() {
+            Some(Keyword::Threshold)
+        } else if word == b"accounts".as_slice() {
+            Some(Keyword::Accounts)
+        } else {
+            None
+        }
+    }
+
+    /// Lines come in the order of their ranks.
+    pub fn rank(self) -> u32
+        ensures { result ≡ rank_of self }
+    {
+        match self {
+            Keyword::Format => 0,
+            Keyword::Mode => 1,
+            Keyword::Guard => 2,
+            Keyword::Workers => 3,
+            Keyword::Sockets => 4,
+            Keyword::Threshold => 5,
+            Keyword::Accounts => 6,
+            Keyword::Job => 7,
+            Keyword::End => 8,
+        }
+    }
+
+    /// What is wrong with the place of a line behind the lines up to one of rank `last`.
+    pub fn fault_of_place(self, last: u32) -> Option<Fault>
+        ensures { result ≡ fault_of_place last self }
+    {
+        if let Keyword::Format = self {
+            return Some(Fault::Repeated);
+        }
+        let rank = self.rank();
+        if is_misplaced(last, rank) {
+            Some(Fault::Misplaced)
+        } else if is_repeated(last, rank) {
+            Some(Fault::Repeated)
+        } else {
+            None
+        }
+    }
+}
+
+// Whether a line of a rank may not stand behind the lines up to one of rank `last`.
+fn is_misplaced(last: u32, rank: u32) -> bool
+    ensures { result ≡ is_misplaced last rank }
+{
+    let before_mode = last == 0 && rank != MODE_RANK;
+    let too_late = rank < last;
+    before_mode || too_late || last == END_RANK
+}
+
+// Whether a line of a rank that may stand once comes a second time.
+fn is_repeated(last: u32, rank: u32) -> bool
+    ensures { result ≡ is_repeated last rank }
+{
+    rank == last && MODE_RANK <= rank && rank <= ACCOUNTS_RANK
+}
