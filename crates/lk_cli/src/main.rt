@@ -1,5 +1,6 @@
 //! The program: `qlock replay` reads a trace from standard input and writes its transcript to
-//! standard output.
+//! standard output; `qlock gen` and `qlock load` write the generated trace of a start number, and
+//! the closing lines of its replay.
 #![tactic(auto)]
 
 use lk_command::answer;

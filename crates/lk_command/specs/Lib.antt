@@ -1,3 +1,4 @@
 pub mod Status
-pub mod Means
 pub mod Args
+pub mod OsqRuns
+pub mod Means

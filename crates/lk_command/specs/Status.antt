@@ -4,9 +4,10 @@ use Rattle.lk_forms.specs.declared.answers.Fault.{Fault}
 use Rattle.lk_forms.specs.declared.answers.Fault.TheVariants.{NoFormat, NotText, UnknownWord, WordCount, BadNumber, OutOfRange, Misplaced, Repeated, WrongLock, Reheld, NotHeld, StillHeld, Crossed, NoEnd}
 use Rattle.lk_forms.specs.declared.answers.Which.{Which}
 use Rattle.lk_forms.specs.declared.answers.Which.TheVariants.{Line, Input, Words, Handlers, Acts, Jobs, Total}
+use Rattle.lk_text.specs.declared.sink.WriteFault.{WriteFault}
 use Rattle.lk_replay.specs.declared.answers.Summary.{Summary}
-use Rattle.lk_replay.specs.declared.answers.ReplayFault.{ReplayFault}
-use Rattle.lk_replay.specs.declared.answers.ReplayFault.TheVariants as answer
+use Rattle.lk_stream.specs.declared.answers.ReplayFault.{ReplayFault}
+use Rattle.lk_stream.specs.declared.answers.ReplayFault.TheVariants as answer
 use Rattle.lk_command.specs.declared.status.Status.{Status}
 use Rattle.lk_command.specs.declared.status.Status.TheVariants as status
 
@@ -20,14 +21,27 @@ number_of status.WriteFault = 5
 number_of status.Memory = 6
 number_of (status.Limit line which) = 7
 
+-- the status of a fault
+abbrev pub status_at : ReplayFault → Status
+status_at (answer.BadInput line why) = status.BadInput line why
+status_at (answer.Limit line which) = status.Limit line which
+status_at answer.ReadFault = status.ReadFault
+status_at answer.WriteFault = status.WriteFault
+status_at answer.Memory = status.Memory
+
+-- what a command came to
+abbrev pub came_to : {T : Type 0} → Result T ReplayFault → Status
+came_to (Ok answer) = status.Done
+came_to (Err why) = status_at why
+
 -- what a replay came to
 abbrev pub status_of : Result Summary ReplayFault → Status
-status_of (Ok summary) = status.Done
-status_of (Err (answer.BadInput line why)) = status.BadInput line why
-status_of (Err (answer.Limit line which)) = status.Limit line which
-status_of (Err answer.ReadFault) = status.ReadFault
-status_of (Err answer.WriteFault) = status.WriteFault
-status_of (Err answer.Memory) = status.Memory
+status_of answer = came_to answer
+
+-- what a text that is put came to
+abbrev pub status_of_put : {T : Type 0} → Result T WriteFault → Status
+status_of_put (Ok put) = status.Done
+status_of_put (Err fault) = status.WriteFault
 
 -- the name of a fault
 abbrev pub fault_name : Fault → List ℕ
@@ -59,7 +73,7 @@ which_name Total = codes "Total"
 -- the line written for a status
 abbrev pub note_of : Status → List ℕ
 note_of status.Done = []
-note_of status.Usage = codes "usage: qlock replay | ledger | gen <n>\n"
+note_of status.Usage = codes "usage: qlock replay | ledger | gen <n> | load <n> | audit | osq\n"
 note_of (status.BadInput line why) = codes "bad input line " ++ (decimal line ++ (codes ": " ++ (fault_name why ++ codes "\n")))
 note_of status.ReadFault = codes "read fault\n"
 note_of status.WriteFault = codes "write fault\n"

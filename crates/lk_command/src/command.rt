@@ -1,5 +1,5 @@
 // The top call.
-ghost use Rattle.std.specs.Prelude.{◌≡◌, ◌↔◌, ◌⊎◌, ℕ, List, [], ◌∷◌, Some, Err, IsTrue, map, drop, codes, string_bytes};
+ghost use Rattle.std.specs.Prelude.{◌≡◌, ◌↔◌, ◌⊎◌, ℕ, List, Some, Err, IfOk, IfErr, IsErr, map, drop, string_bytes};
 ghost use Rattle.std.specs.Vec.Iter.{into_iter_items};
 ghost use Rattle.std.specs.IoError.{error_kind};
 ghost use Rattle.std.specs.declared.io.ErrorKind.TheVariants.{OutOfMemory};
@@ -8,31 +8,45 @@ ghost use Rattle.lk_machine.specs.declared.setup.Setup.{Setup};
 ghost use Rattle.lk_text.specs.Causes.{Rose};
 ghost use Rattle.lk_forms.specs.Trace.{Good, Refused, trace};
 ghost use Rattle.lk_forms.specs.declared.answers.LineRefusal.{LineRefusal};
-ghost use Rattle.lk_replay.specs.Outside.{outside};
-ghost use Rattle.lk_replay.specs.Outcome.{refused_fault};
-ghost use Rattle.lk_command.specs.Args.{AsksReplay, FoundNoMemory};
+ghost use Rattle.lk_stream.specs.Outside.{outside};
+ghost use Rattle.lk_stream.specs.Outcome.{refused_fault};
+ghost use Rattle.lk_gen.specs.Generated.{generated};
+ghost use Rattle.lk_words.specs.Reading.{reading_of};
+ghost use Rattle.lk_words.specs.declared.asked.Reading.{Reading};
+ghost use Rattle.lk_command.specs.Args.{AreRead, Asks, AsksReplay, AsksNothing, FoundNoMemory};
 ghost use Rattle.lk_command.specs.Status.{note_of, status_of};
-ghost use Rattle.lk_command.specs.Means.{Means, IsSaid};
+ghost use Rattle.lk_command.specs.OsqRuns.{OsqRuns};
+ghost use Rattle.lk_command.specs.Means.{CameTo, Does, Means, Writes, IsSaid, closing_of};
 ghost use Rattle.lk_command.specs.declared.status.Status.{Status};
 
+use crate::load::load;
 use crate::notes::note;
+use crate::spin_queue::run_osq;
 use crate::status::Status;
+use lk_abs::Memory;
+use lk_gen::generate;
 use lk_replay::replay;
 use lk_text::{Sink, Source};
+use lk_words::{Reading, reading};
 use std::alloc::Global;
 use std::env::Args;
 use std::io::{self, ErrorKind};
 
-// Whether the words behind the program's name ask for a replay.
-fn asks_replay(mut args: Args) -> bool
-    ensures { IsTrue result
-        ↔ (map string_bytes (drop 1 (into_iter_items args)) ≡ codes "replay" ∷ []) }
+// The words behind the program's name.
+fn words_of(alloc: Global, mut args: Args) -> Result<Vec<String>, Memory>
+    ensures { IfOk result (λ words. words.items ≡ drop 1 (into_iter_items args)) }
 {
     let _name = args.next();
-    match (args.next(), args.next()) {
-        (Some(word), None) => word.as_str() == "replay",
-        _ => false,
-    }
+    Ok(args.collect(alloc)?)
+}
+
+// What the words behind the program's name ask for.
+fn words_asked(alloc: Global, args: Args) -> Result<Option<Reading>, Memory>
+    ensures { IfOk result
+        (λ asked. reading_of (map string_bytes (drop 1 (into_iter_items args))) ≡ asked) }
+{
+    let words = words_of(alloc, args)?;
+    reading(alloc, &words)
 }
 
 // What it means that the arguments can't be read: there was no memory, or one of them is no text.
@@ -46,8 +60,67 @@ fn unread(error: io::Error) -> Status
     }
 }
 
-/// Does what the program's arguments ask, and notes why not. The one command is `replay`: it reads
-/// a trace from the source and writes its transcript to the sink.
+// What the program's arguments ask for; or the status, where they can't be read.
+fn asked(alloc: Global, args: io::Result<Args>) -> Result<Option<Reading>, Status>
+    ensures read { IfOk result (λ asked. AreRead asked string_bytes args) }
+    ensures memory { FoundNoMemory args → result ≡ Err Status.Memory }
+    ensures unread { IfErr result (λ status. (status ≡ Status.Memory)
+        ⊎ ((status ≡ Status.Usage) × IsErr args × ¬ FoundNoMemory args)) }
+{
+    match args {
+        Ok(args) => match words_asked(alloc, args) {
+            Ok(asked) => Ok(asked),
+            Err(Memory) => Err(Status::Memory),
+        },
+        Err(error) => Err(unread(error)),
+    }
+}
+
+// Does what the words ask, as they were read. `ledger` is still to come.
+fn perform<S: Source, K: Sink>(
+    alloc: Global,
+    asked: Option<Reading>,
+    source: &mut S,
+    sink: &mut K,
+) -> Status
+    ensures came { CameTo asked (source.new ≡ source.old) (sink.new ≡ sink.old)
+        (outside (S.left source.old) (S.faults source.old) (K.held sink.old) (K.faults sink.old))
+        (outside (S.left source.new) (S.faults source.new) (K.held sink.new) (K.faults sink.new))
+        result }
+    ensures memory { result ≡ Status.Memory → sink.new ≡ sink.old }
+{
+    match asked {
+        Some(Reading::Replay) => Status::of(replay(alloc, source, sink)),
+        Some(Reading::Osq) => run_osq(alloc, source, sink),
+        Some(Reading::Gen(start)) => Status::of_put(generate(start, sink)),
+        Some(Reading::Load(start)) => load(alloc, start, sink),
+        Some(Reading::Ledger) | None => Status::Usage,
+    }
+}
+
+// Does what the program's arguments ask.
+fn obey<S: Source, K: Sink>(
+    alloc: Global,
+    args: io::Result<Args>,
+    source: &mut S,
+    sink: &mut K,
+) -> Status
+    ensures { Does (λ reading. Asks reading string_bytes args) (FoundNoMemory args)
+        (source.new ≡ source.old) (sink.new ≡ sink.old)
+        (outside (S.left source.old) (S.faults source.old) (K.held sink.old) (K.faults sink.old))
+        (outside (S.left source.new) (S.faults source.new) (K.held sink.new) (K.faults sink.new))
+        result }
+{
+    match asked(alloc, args) {
+        Ok(asked) => perform(alloc, asked, source, sink),
+        Err(status) => status,
+    }
+}
+
+/// Does what the program's arguments ask, and notes why not. `replay` reads a trace from the source
+/// and writes its transcript to the sink, and `osq` does so with a run of the optimistic spin queue;
+/// `gen n` writes the generated trace of the start number, and `load n` replays that trace in memory
+/// and writes the closing lines. `ledger` is to come: it gets the usage line so far.
 pub fn run<S: Source, K: Sink, N: Sink>(
     alloc: Global,
     args: io::Result<Args>,
@@ -55,18 +128,20 @@ pub fn run<S: Source, K: Sink, N: Sink>(
     sink: &mut K,
     notes: &mut N,
 ) -> Status
-    // Exactly other words than the command get the usage line, also words that are no text.
+    // Exactly words that ask for nothing get the usage line, also words that are no text; but there
+    // may be no memory in which to tell.
     ensures usage { (result ≡ Status.Usage)
-        ↔ (¬ AsksReplay string_bytes args × ¬ FoundNoMemory args) }
+        ↔ (AsksNothing (λ reading. Asks reading string_bytes args) × ¬ FoundNoMemory args
+        × ¬ (result ≡ Status.Memory)) }
     ensures unread { FoundNoMemory args → result ≡ Status.Memory }
 
-    // Where the words are not the command, nothing is read or written; nor is anything written for
-    // want of memory.
-    ensures untouched { ¬ AsksReplay string_bytes args
+    // Where the words ask for nothing, nothing is read or written; nor is anything written for want
+    // of memory.
+    ensures untouched { AsksNothing (λ reading. Asks reading string_bytes args)
         → (source.new ≡ source.old) × (sink.new ≡ sink.old) }
     ensures memory { result ≡ Status.Memory → sink.new ≡ sink.old }
 
-    // What each other status means, in terms of the bytes of the source and the sink.
+    // What each other status of a replay means, in terms of the bytes of the source and the sink.
     ensures means { AsksReplay string_bytes args
         → Means (outside (S.left source.old) (S.faults source.old) (K.held sink.old)
         (K.faults sink.old))
@@ -91,20 +166,35 @@ pub fn run<S: Source, K: Sink, N: Sink>(
         → ¬ Rose (K.faults sink.old) (K.faults sink.new)
         → (result ≡ status_of (Err (refused_fault line why))) ⊎ (result ≡ Status.Memory) }
 
+    // The same of a run of the spin queue, on its grammar; Done says that its history is lawful.
+    ensures osq { Asks Reading.Osq string_bytes args
+        → OsqRuns (outside (S.left source.old) (S.faults source.old) (K.held sink.old)
+        (K.faults sink.old))
+        (outside (S.left source.new) (S.faults source.new) (K.held sink.new)
+        (K.faults sink.new)) result }
+
+    // The generated trace is written, and the source is not read.
+    ensures generates { (start : ℕ) → Asks (Reading.Gen start) string_bytes args
+        → (source.new ≡ source.old)
+        × Writes (outside (S.left source.old) (S.faults source.old) (K.held sink.old)
+        (K.faults sink.old))
+        (outside (S.left source.new) (S.faults source.new) (K.held sink.new)
+        (K.faults sink.new)) (generated start) result }
+
+    // The closing lines of its replay are written, and the source is not read. No line is refused,
+    // no limit is passed, and no read fails.
+    ensures loads { (start : ℕ) → Asks (Reading.Load start) string_bytes args
+        → (source.new ≡ source.old)
+        × Writes (outside (S.left source.old) (S.faults source.old) (K.held sink.old)
+        (K.faults sink.old))
+        (outside (S.left source.new) (S.faults source.new) (K.held sink.new)
+        (K.faults sink.new)) (closing_of start) result }
+
     // The note line was written, or a front of it and a write of it failed.
     ensures noted { IsSaid (N.held notes.old) (N.held notes.new) (N.faults notes.old)
         (N.faults notes.new) (note_of result) }
 {
-    let status = match args {
-        Ok(words) => {
-            if asks_replay(words) {
-                Status::of(replay(alloc, source, sink))
-            } else {
-                Status::Usage
-            }
-        }
-        Err(error) => unread(error),
-    };
+    let status = obey(alloc, args, source, sink);
     note(notes, status);
     status
 }

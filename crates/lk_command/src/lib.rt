@@ -4,7 +4,9 @@
 
 mod command;
 mod exit;
+mod load;
 mod notes;
+mod spin_queue;
 mod status;
 
 pub use command::run;

@@ -79,7 +79,10 @@ pub fn note<N: Sink>(notes: &mut N, status: Status)
 {
     match status {
         Status::Done => {}
-        Status::Usage => say(notes, b"usage: qlock replay | ledger | gen <n>\n"),
+        Status::Usage => say(
+            notes,
+            b"usage: qlock replay | ledger | gen <n> | load <n> | audit | osq\n",
+        ),
         Status::ReadFault => say(notes, b"read fault\n"),
         Status::WriteFault => say(notes, b"write fault\n"),
         Status::Memory => say(notes, b"out of memory\n"),

@@ -2,7 +2,8 @@
 ghost use Rattle.std.specs.Prelude.{◌≡◌};
 
 use lk_forms::{Fault, Which};
-use lk_replay::{ReplayFault, Summary};
+use lk_stream::ReplayFault;
+use lk_text::WriteFault;
 
 /// What a run of the program came to.
 #[derive(Clone, Copy, Debug, PartialEq, Eq)]
@@ -24,7 +25,7 @@ pub enum Status {
 }
 
 impl Status {
-    ghost use Rattle.lk_command.specs.Status.{number_of, status_of};
+    ghost use Rattle.lk_command.specs.Status.{number_of, came_to, status_of_put};
 
     /// The program's exit status.
     pub fn number(&self) -> u8
@@ -41,9 +42,9 @@ impl Status {
         }
     }
 
-    /// What a replay came to.
-    pub fn of(answer: Result<Summary, ReplayFault>) -> Status
-        ensures { result ≡ status_of answer }
+    /// What a command came to.
+    pub fn of<T: Drop>(answer: Result<T, ReplayFault>) -> Status
+        ensures { result ≡ came_to answer }
     {
         match answer {
             Ok(_) => Status::Done,
@@ -52,6 +53,16 @@ impl Status {
             Err(ReplayFault::ReadFault) => Status::ReadFault,
             Err(ReplayFault::WriteFault) => Status::WriteFault,
             Err(ReplayFault::Memory) => Status::Memory,
+        }
+    }
+
+    /// What a text that is put came to.
+    pub fn of_put(answer: Result<(), WriteFault>) -> Status
+        ensures { result ≡ status_of_put answer }
+    {
+        match answer {
+            Ok(()) => Status::Done,
+            Err(WriteFault) => Status::WriteFault,
         }
     }
 }

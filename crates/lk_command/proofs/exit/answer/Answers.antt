@@ -7,13 +7,20 @@ returns g c =
       c.run.result,
       c.from.ensures ∙ c.number.ensures,
       record {
-        usage = came.usage;
-        unread = came.unread;
-        untouched = came.untouched;
-        memory = came.memory;
-        means = came.means;
-        complete = came.complete;
-        exact = came.exact;
+        does = record {
+          usage = came.usage;
+          unread = came.unread;
+          untouched = came.untouched;
+          memory = came.memory;
+          replays = λ asks. record {
+            means = came.means asks;
+            complete = λ bytes setup acts. came.complete bytes setup acts asks;
+            exact = λ bytes line why setup acts. came.exact bytes line why setup acts asks;
+          };
+          osq = came.osq;
+          generates = came.generates;
+          loads = came.loads;
+        };
         noted = came.noted;
       },
     )
