@@ -1,5 +1,6 @@
 -- What lines of a header say, one after the other.
-use Rattle.std.proofs.Common.{if◌then◌else◌, ◌≡◌, ℕ, List, [], ◌∷◌, ◌++◌, Bool, true, false, Ok, refl, ap, ◌∙◌, sym, subst}
+use Rattle.std.proofs.Common.{if◌then◌else◌, ◌≡◌, ℕ, List, [], ◌∷◌, ◌++◌, Bool, true, false, Ok}
+use Rattle.std.proofs.Common.{refl, ap, ◌∙◌, sym, subst}
 use Rattle.std.proofs.lemmas.List.Sums.{fold-append}
 use Rattle.std.specs.Result.{result_unwrap_or}
 use Rattle.lk_machine.specs.Programs.{IsLawfulSetup}
@@ -19,7 +20,8 @@ none_said r e = ([], sym e)
 pub more_said : (r r' : Reading) (line : List ℕ) → AreSaid r → read r line ≡ Ok r' → AreSaid r'
 more_said r r' line s is = (
   s.0 ++ line ∷ [],
-  fold-append next_reading nothing_read s.0 (line ∷ []) ∙ ap (λ q. next_reading q line) s.1 ∙ ap (λ answer. result_unwrap_or answer r) is,
+  fold-append next_reading nothing_read s.0 (line ∷ []) ∙ ap (λ q. next_reading q line) s.1
+      ∙ ap (λ answer. result_unwrap_or answer r) is,
 )
 
 -- what is said is a lawful setup

@@ -1,4 +1,5 @@
-// What the judge answers to histories in mode `cna`. The processors 3 and 5 stand on another socket than the rest.
+// What the judge answers to histories in mode `cna`. The processors 3 and 5 stand on another socket
+// than the rest.
 
 ghost use Rattle.std.specs.Prelude.{◌≡◌, ◌≤◌, ◌<◌, ◌+◌, ◌^◌, length};
 ghost use Rattle.lk_abs.specs.Judge.{taken_by};

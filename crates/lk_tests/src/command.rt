@@ -9,8 +9,8 @@ use std::io::{self, ErrorKind};
 use std::process::Abort;
 use std::test::Fail;
 
-// The arguments of a command: the program's name, and the words behind it.
-fn args_of(alloc: Global, words: &str) -> Result<Args, AllocError> {
+/// The arguments of a command: the program's name, and the words behind it.
+pub fn args_of(alloc: Global, words: &str) -> Result<Args, AllocError> {
     let mut args = Vec::new(alloc);
     args.push(String::from_str(alloc, "qlock")?)?;
     for word in words.split_whitespace() {
@@ -19,8 +19,8 @@ fn args_of(alloc: Global, words: &str) -> Result<Args, AllocError> {
     Ok(args.into_iter())
 }
 
-// Runs a command on an input, with the read and the write that fail, 0 for none, and sees that it ends with
-// this status, writes this text, and notes this line.
+// Runs a command on an input, with the read and the write that fail, 0 for none, and sees that it
+// ends with this status, writes this text, and notes this line.
 fn ends(
     rt: &(impl Abort + AllocGlobal),
     args: io::Result<Args>,
@@ -41,7 +41,8 @@ fn ends(
     Ok(())
 }
 
-// The input, the read and the write that fail, the number of the status, what is written, and the note.
+// The input, the read and the write that fail, the number of the status, what is written, and the
+// note.
 const RUNS: &str = "\
 small 0 0 0 all
 nothing 0 0 3 none bad input line 1: NoFormat
@@ -103,15 +104,28 @@ fn statuses_and_notes(rt: HostRuntime) -> Result<(), Fail> {
 }
 
 /// The note of words that ask for nothing that there is.
-const USAGE: &str = "usage: qlock replay | ledger | gen <n>\n";
+const USAGE: &str = "usage: qlock replay | ledger | gen <n> | load <n> | audit | osq\n";
 
-// Words that are no command, one line each; the first has none.
+// Words that are no command so far, one line each; the first has none.
 const NO_COMMANDS: &str = "
 --help
+-h
 gen
 gen 0
 gen +7
+gen -7
+gen -- 7
+gen 7 8
 gen 2147483647
+load
+load 0
+load x
+help
+osq x
+osqs
+ledger
+ledger x
+replay replay
 replay x";
 
 #[test]
@@ -143,4 +157,21 @@ fn failing_notes(rt: HostRuntime) -> Result<(), Fail> {
     let status = run(alloc, Ok(args), &mut source, &mut sink, &mut notes);
     assert!(rt; status.number() == 3 && notes.bytes() == b"".as_slice());
     Ok(())
+}
+
+// A run of the spin queue; a trace is none, nor is such a run a trace.
+#[test]
+fn runs_of_the_spin_queue(rt: HostRuntime) -> Result<(), Fail> {
+    let input = "qosq 1\nprog 0 1\ngo\nstep 0 3\nend\n";
+    let done = (0, "2 0 take free\n3 0 release\nend 3\n", "");
+    ends(&rt, Ok(args_of(rt.alloc(), "osq")?), input, [0, 0], done)?;
+    let refused = (3, "", "bad input line 1: NoFormat\n");
+    ends(&rt, Ok(args_of(rt.alloc(), "osq")?), SMALL, [0, 0], refused)?;
+    ends(
+        &rt,
+        Ok(args_of(rt.alloc(), "replay")?),
+        input,
+        [0, 0],
+        refused,
+    )
 }

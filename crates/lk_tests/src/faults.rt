@@ -22,7 +22,8 @@ fn failing_reads(rt: HostRuntime) -> Result<(), Fail> {
     Ok(())
 }
 
-// Whether a replay whose write of this number fails is done. If it is, all is written, and else a front of the transcript.
+// Whether a replay whose write of this number fails is done. If it is, all is written, and else a
+// front of the transcript.
 fn is_done(rt: &(impl Abort + AllocGlobal), call: u64) -> Result<bool, Fail> {
     let ended = replayed(rt.alloc(), SMALL, 77, &[], &[call])?;
     if ended.0.is_ok() {

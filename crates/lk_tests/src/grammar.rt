@@ -1,4 +1,5 @@
-// What the grammar makes of words, lines and headers. A row has a text, ` = `, and how the answer is printed.
+// What the grammar makes of words, lines and headers. A row has a text, ` = `, and how the answer
+// is printed.
 
 use crate::headers::setup_of;
 use lk_abs::{Kind, List, Mode};

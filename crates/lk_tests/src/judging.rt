@@ -10,7 +10,8 @@ use std::alloc::Global;
 use std::process::Abort;
 use std::test::Fail;
 
-/// A judge of six processors, of which the fourth and the sixth stand on a second socket, and of one lock of this kind.
+/// A judge of six processors, of which the fourth and the sixth stand on a second socket, and of
+/// one lock of this kind.
 pub fn judge(alloc: Global, mode: Mode, threshold: u32, kind: Kind) -> Result<Judge, Memory>
     requires { threshold ≤ 65535 }
     ensures sockets { IfOk result (λ j. length j.rules.sockets ≡ 6) }
@@ -83,8 +84,8 @@ pub fn first_breach(rt: &impl Abort, judge: &mut Judge, events: &str) -> Option<
     None
 }
 
-// Whether a judge that was told what stands before finds in a row what it says: its events, and the breach that the last one
-// makes, or `lawful`.
+// Whether a judge that was told what stands before finds in a row what it says: its events, and the
+// breach that the last one makes, or `lawful`.
 fn answers_so(rt: &impl Abort, judge: &mut Judge, before: &str, row: &str) -> bool
     requires sockets { length judge.old.rules.sockets ≡ 6 }
     requires locks { length judge.old.locks ≡ 2 }
@@ -124,7 +125,8 @@ fn judge_section(
     Ok(())
 }
 
-/// Judges the histories of a text, one a row. A line `given` says what stands before each row behind it.
+/// Judges the histories of a text, one a row. A line `given` says what stands before each row
+/// behind it.
 pub fn judge_all(
     rt: &(impl Abort + AllocGlobal),
     family: (Mode, Kind),

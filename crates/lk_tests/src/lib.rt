@@ -1,5 +1,5 @@
-//! The tests of the libraries, a file for each topic: what their contracts leave open, and worked traces and histories whose answers
-//! come from outside. The crate has nothing else.
+//! The tests of the libraries, a file for each topic: what their contracts leave open, and worked
+//! traces and histories whose answers come from outside. The crate has nothing else.
 #![tactic(auto)]
 
 #[cfg(test)]
@@ -13,9 +13,13 @@ mod events;
 #[cfg(test)]
 mod faults;
 #[cfg(test)]
+mod generated;
+#[cfg(test)]
 mod grammar;
 #[cfg(test)]
 mod headers;
+#[cfg(test)]
+mod job_files;
 #[cfg(test)]
 mod judging;
 #[cfg(test)]
@@ -31,11 +35,17 @@ mod machine;
 #[cfg(test)]
 mod osq;
 #[cfg(test)]
+mod osq_runs;
+#[cfg(test)]
+mod osq_texts;
+#[cfg(test)]
 mod printed;
 #[cfg(test)]
 mod queue_histories;
 #[cfg(test)]
 mod reading;
+#[cfg(test)]
+mod readings;
 #[cfg(test)]
 mod refusals;
 #[cfg(test)]

@@ -27,7 +27,8 @@ fn pair(alloc: Global, first: Op, second: Op) -> Result<List<Op>, Memory>
     Ok(list)
 }
 
-// One processor, on socket 5, which takes and releases the one lock, and has one handler without operations.
+// One processor, on socket 5, which takes and releases the one lock, and has one handler without
+// operations.
 #[tactic(auto, unfolding(lk_machine::specs::Programs::handlers_of))]
 fn smallest(alloc: Global) -> Result<Setup, Memory>
     ensures sockets { IfOk result (λ setup. length setup.topology.sockets.items ≡ 1) }

@@ -1,4 +1,5 @@
-// A read or a write that fails once and then goes on, and what is written before the source is asked for more.
+// A read or a write that fails once and then goes on, and what is written before the source is
+// asked for more.
 
 ghost use Rattle.std.specs.Prelude.{◌<◌, ◌+◌, ◌≤◌, None};
 
@@ -58,12 +59,14 @@ fn a_failed_read_is_not_made_again(rt: HostRuntime) -> Result<(), Fail> {
     Ok(())
 }
 
-// A write that fails before the next read leaves the source what it has: the events of a line are written before the line behind
-// it is asked for. Where a piece has more lines, they are written together.
+// A write that fails before the next read leaves the source what it has: the events of a line are
+// written before the line behind it is asked for. Where a piece has more lines, they are written
+// together.
 #[test]
 fn events_are_written_before_a_read(rt: HostRuntime) -> Result<(), Fail> {
     let alloc = rt.alloc();
-    // The most bytes of a piece, the write that fails; the events that were written, and the line that is left.
+    // The most bytes of a piece, the write that fails; the events that were written, and the line
+    // that is left.
     let table: [(usize, u64, &str, Option<&str>); 3] = [
         (1, 1, "", Some("end")),
         (1, 2, EVENTS, None),

@@ -5,7 +5,8 @@ use std::alloc::{AllocError, Global};
 use std::process::Abort;
 use std::test::Fail;
 
-// The smallest trace with another text in the place of the line of this number, or behind its last line.
+// The smallest trace with another text in the place of the line of this number, or behind its last
+// line.
 fn with_line(alloc: Global, number: usize, text: &str) -> Result<String, AllocError> {
     let mut input = String::new(alloc);
     for (at, line) in SMALL.lines().enumerate() {

@@ -34,8 +34,8 @@ pub fn replayed(
     Ok((answer, sink))
 }
 
-// Why a replay ended: `done`, the line and what is wrong there, as `7 WordCount`, or the fault.
-fn cause(alloc: Global, answer: Result<Summary, ReplayFault>) -> Result<String, AllocError> {
+/// Why a replay ended: `done`, the line and what is wrong there, as `7 WordCount`, or the fault.
+pub fn cause<T: Copy>(alloc: Global, answer: Result<T, ReplayFault>) -> Result<String, AllocError> {
     match answer {
         Ok(_) => String::from_str(alloc, "done"),
         Err(ReplayFault::BadInput { line, fault }) => format!(in alloc; "{line} {fault:?}"),

@@ -29,6 +29,8 @@ impl Sink for Full {
 
     ghost faults = { λ sink. sink.faults };
 
+    ghost sure = { λ _. 0 };
+
     fn write(&mut self, _: &[u8]) -> Result<usize, Failed> {
         self.faults = self.faults.saturating_add(1);
         Ok(0)

@@ -8,7 +8,8 @@ pub fn has_only_steps(trace: &str) -> bool {
     !trace.contains("\nint ") && !trace.contains("\npre ") && !trace.contains("\nnudge ")
 }
 
-// So many steps of a processor, each as four acts: it is preempted, steps in vain, goes on, and steps.
+// So many steps of a processor, each as four acts: it is preempted, steps in vain, goes on, and
+// steps.
 fn push_steps(text: &mut String, cpu: &str, count: u32) -> Result<(), Fail> {
     for _ in 0..count {
         for word in [

@@ -1,5 +1,5 @@
-// Worked traces and their transcripts, in one text for each topic. A text has a trace, a line `---`, its transcript, again
-// such a line, the next trace, and so on.
+// Worked traces and their transcripts, in one text for each topic. A text has a trace, a line
+// `---`, its transcript, again such a line, the next trace, and so on.
 
 mod cna;
 mod pv;

@@ -46,7 +46,8 @@ fn worked_traces(rt: HostRuntime) -> Result<(), Fail> {
     Ok(())
 }
 
-// What a replay answers of the trace of a waiter that takes by the pending bit, the first of its text.
+// What a replay answers of the trace of a waiter that takes by the pending bit, the first of its
+// text.
 #[test]
 fn a_summary(rt: HostRuntime) -> Result<(), Fail> {
     let (trace, _) = QUEUE.split_once("---\n").ok_or("no trace")?;

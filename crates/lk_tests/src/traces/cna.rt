@@ -1,4 +1,5 @@
-// Traces in mode `cna`. The waiters come in the same order in each. Each stands before its transcript.
+// Traces in mode `cna`. The waiters come in the same order in each. Each stands before its
+// transcript.
 
 pub const CNA: &str = "\
 # A waiter of the other socket is passed by once; at the threshold the second queue returns.

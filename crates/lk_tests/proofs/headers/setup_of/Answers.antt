@@ -7,11 +7,18 @@ use Rattle.lk_tests.proofs.headers.setup_of.Goals as goal
 pub returns-in-Go : goal.returns-in-Go
 returns-in-Go c =
     let laws = c.lines_say_lawful_setups.ensures in
-    let said = more_said (reading c.loop-line.reader) (reading c.line.new.self) c.as_bytes.result.now c.loop-line.invariant.said c.in_ok-line.ensures.0 in
-    subst (λ s. IsLawfulSetup s) (sym c.finish.ensures) (said_lawful laws.lawful (reading c.line.new.self) said)
+    let said =
+    more_said (reading c.loop-line.reader)
+    (reading c.line.new.self) c.as_bytes.result.now c.loop-line.invariant.said
+    c.in_ok-line.ensures.0 in
+    subst (λ s. IsLawfulSetup s) (sym c.finish.ensures)
+    (said_lawful laws.lawful (reading c.line.new.self) said)
 
 pub loop-line-preserved : goal.loop-line-preserved
 loop-line-preserved c = record {
-  said = more_said (reading c.loop-line.reader) (reading c.line.new.self) c.as_bytes.result.now c.loop-line.invariant.said c.in_ok-line.ensures.0;
+  said =
+      more_said (reading c.loop-line.reader)
+      (reading c.line.new.self) c.as_bytes.result.now c.loop-line.invariant.said
+      c.in_ok-line.ensures.0;
   early = goes_on (reading c.line.new.self) (sym c.in-More.is ∙ c.in_ok-line.ensures.1);
 }
