@@ -8,7 +8,7 @@ LINK = re.compile(r"\[[^\]\n]*\]\(([^)\s]+)\)")
 SPAN = re.compile(r"`([^`\n]+)`")
 CLAUSES = re.compile(r"(?:`(?:\w+::)*(\w+)`,? )?clauses? ((?:`\w+`(?:, | and )?)+)")
 HEADING = re.compile(r"^#+ (.*)$", re.M)
-OURS = (".antt", ".rt", ".md", ".qtrace", ".transcript", ".py", ".edit")
+OURS = (".antt", ".rt", ".md", ".qtrace", ".qosq", ".transcript", ".py", ".edit")
 FOLDERS = ("crates/", "docs/", "examples/", "tools/", "bench/")
 LABEL = re.compile(r"(?<![\w.`/-])(?:[FTUVPGNCHWEKRYZ]|Wr)\d{1,2}(?![\w/])")
 # What a column names outside of this repository; and names of Linux that no column has.
