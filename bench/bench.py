@@ -1,7 +1,7 @@
 #!/usr/bin/env python3
 """bench.py [--runs N] [--keep FOLDER] PROGRAM
 
-Measures a built qlock: makes its traces, replays each of them N times (five, if not said), and prints for each the best
+Measures a built qlock: makes its traces and runs, replays each of them N times (five, if not said), and prints for each the best
 user and system time, that time per act and per line, and the peak memory; and, where valgrind is there, the instructions of one
 more run, in millions, which do not depend on what else the machine does. Output goes to a file that is thrown away.
 
@@ -17,11 +17,17 @@ rounds    the same processors and bursts; a handler comes only when the program 
           for itself and every program ends; who ends early is idle until the next round, and in `pv` who has halted until the
           kick
 rw        as `rounds`, on four reader-writer locks, a quarter of the operations as a writer
+Two are runs of the optimistic spin queue, by the word `osq`:
+looks     one holder and one waiter that looks at its flag ten million times
+gives     64 processors of 64 rounds, in odd bursts; at every ninety-sixth or so one is asked to give up, so that most of a million
+          acts are those of waiters, some of which quit
+gen       `gen 7` two hundred times, less the time of as many runs that get the usage line: what the text takes, and how fast it is
 In `cna` the 64 processors of `busy`, `rounds` and `rw` stand on four sockets, with a threshold of 16; in `pv` a waiter spins four turns
 there.
 """
 import os
 import re
+import resource
 import shutil
 import subprocess
 import sys
@@ -120,7 +126,38 @@ def rw(mode):
     return rounds_of(mode, "rw", rw_pair, 5, 25000)
 
 
+def osq_header(cpus, rounds):
+    return ["qosq 1", "cpus %d" % cpus] + ["prog %d %d" % (p, rounds) for p in range(cpus)] + ["go"]
+
+
+def osq_looks():
+    return osq_header(2, 1) + ["step 0 2", "step 1 4", "step 1 10000000", "end"], 10000006
+
+
+def osq_gives(bursts=143000):
+    d = draws(17)
+    out, acts = osq_header(64, 64), 0
+    for _ in range(bursts):
+        p = next(d) % 64
+        if next(d) % 96 == 0:
+            out.append("give %d" % (next(d) % 64))
+            acts += 1
+        out.append("step %d 7" % p)
+        acts += 7
+    return out + ["end"], acts
+
+
 TRACES = {"looks": looks, "lines": lines, "short": lambda mode: lines(mode, 10000), "busy": busy, "rounds": rounds, "rw": rw}
+RUNS = {"looks": osq_looks, "gives": osq_gives}
+
+
+def inputs():
+    """Each input: its name, the word that it is for, its lines, and how many acts it has."""
+    for mode in ("virt", "native", "cna", "pv"):
+        for name, make in TRACES.items():
+            yield ("%s-%s" % (name, mode), "replay", *make(mode))
+    for name, make in RUNS.items():
+        yield ("%s-osq" % name, "osq", *make())
 
 
 def peak_memory(pid):
@@ -132,10 +169,10 @@ def peak_memory(pid):
         return 0
 
 
-def measure(program, path):
+def measure(program, word, path):
     """One run: its status, its note, its user and system time in seconds, and its peak memory in KiB."""
     with open(path, "rb") as source, tempfile.TemporaryFile() as sink, tempfile.TemporaryFile() as notes:
-        child = subprocess.Popen([program, "replay"], stdin=source, stdout=sink, stderr=notes)
+        child = subprocess.Popen([program, word], stdin=source, stdout=sink, stderr=notes)
         memory, ended = 0, 0
         while not ended:
             memory = max(memory, peak_memory(child.pid))
@@ -146,12 +183,30 @@ def measure(program, path):
         return child.returncode, notes.read(), usage.ru_utime + usage.ru_stime, memory
 
 
-def instructions(program, path):
+def spent(command, times, sink):
+    """The user and system time of so many runs, in seconds; each writes the file anew."""
+    before = resource.getrusage(resource.RUSAGE_CHILDREN)
+    for _ in range(times):
+        sink.seek(0)
+        sink.truncate()
+        subprocess.run(command, stdin=subprocess.DEVNULL, stdout=sink, stderr=subprocess.DEVNULL)
+    after = resource.getrusage(resource.RUSAGE_CHILDREN)
+    return after.ru_utime + after.ru_stime - before.ru_utime - before.ru_stime
+
+
+def gen(program, runs, times=200):
+    """The bytes of `gen 7`, and the best time that its text takes beside what a run without words takes, in seconds."""
+    with tempfile.TemporaryFile() as sink:
+        best = min(spent([program, "gen", "7"], times, sink) - spent([program], times, tempfile.TemporaryFile()) for _ in range(runs))
+        return sink.seek(0, os.SEEK_END), max(best, 1e-9) / times
+
+
+def instructions(program, word, path):
     """The instructions of one run by valgrind, in millions; None where there is no valgrind, or it did not say."""
     if shutil.which("valgrind") is None:
         return None
     with open(path, "rb") as source:
-        command = ["valgrind", "--tool=callgrind", "--callgrind-out-file=/dev/null", program, "replay"]
+        command = ["valgrind", "--tool=callgrind", "--callgrind-out-file=/dev/null", program, word]
         run = subprocess.run(command, stdin=source, stdout=subprocess.DEVNULL, stderr=subprocess.PIPE, text=True)
     told = re.search(r"Collected : (\d+)", run.stderr)
     return int(told[1]) / 1e6 if told else None
@@ -174,22 +229,22 @@ def main(argv):
     with tempfile.TemporaryDirectory() as scratch:
         folder = keep or scratch
         os.makedirs(folder, exist_ok=True)
-        for mode in ("virt", "native", "cna", "pv"):
-            for name, make in TRACES.items():
-                text, acts = make(mode)
-                path = os.path.join(folder, "%s-%s.qtrace" % (name, mode))
-                with open(path, "w") as f:
-                    f.write("\n".join(text) + "\n")
-                results = [measure(program, path) for _ in range(runs)]
-                bad = [r for r in results if r[0] != 0]
-                if bad:
-                    print("%-14s status %d: %s" % (name + "-" + mode, bad[0][0], bad[0][1].decode().strip()))
-                    continue
-                seconds, memory = min(r[2] for r in results), max(r[3] for r in results)
-                count = instructions(program, path)
-                told = "" if count is None else "%.1f" % count
-                figures = (name + "-" + mode, acts, len(text), seconds, seconds / acts * 1e9, seconds / len(text) * 1e9, memory, told)
-                print("%-14s %10d %10d %10.3f %9.1f %9.1f %9d %9s" % figures, flush=True)
+        for name, word, text, acts in inputs():
+            path = os.path.join(folder, "%s.%s" % (name, "qosq" if word == "osq" else "qtrace"))
+            with open(path, "w") as f:
+                f.write("\n".join(text) + "\n")
+            results = [measure(program, word, path) for _ in range(runs)]
+            bad = [r for r in results if r[0] != 0]
+            if bad:
+                print("%-14s status %d: %s" % (name, bad[0][0], bad[0][1].decode().strip()))
+                continue
+            seconds, memory = min(r[2] for r in results), max(r[3] for r in results)
+            count = instructions(program, word, path)
+            told = "" if count is None else "%.1f" % count
+            figures = (name, acts, len(text), seconds, seconds / acts * 1e9, seconds / len(text) * 1e9, memory, told)
+            print("%-14s %10d %10d %10.3f %9.1f %9.1f %9d %9s" % figures, flush=True)
+    size, seconds = gen(program, runs)
+    print("%-14s %d bytes in %.3f milliseconds, %.0f MB/s" % ("gen", size, seconds * 1e3, size / seconds / 1e6))
 
 
 main(sys.argv[1:])
