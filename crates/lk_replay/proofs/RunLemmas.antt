@@ -1,7 +1,7 @@
 -- Runs, one after another.
 use Rattle.std.proofs.Common.{◌≡◌, ◌+◌, ◌++◌, ◌≤◌, ◌<◌, ◌-◌, ℕ, suc, List, [], ◌∷◌, Option, Some, None, length, sym, ap, refl, subst, ◌∙◌, append_assoc, append-nil, arith, replicate, is_some, add-zero}
 use Rattle.std.specs.Int.{from_bool}
-use Rattle.std.proofs.lemmas.List.{replicate_more, replicate-append-replicate, length-append}
+use Rattle.std.proofs.lemmas.List.{replicate-append-replicate, length-append}
 use Rattle.std.proofs.lemmas.List.Concat.{flat_map-append}
 use Rattle.lk_abs.specs.declared.events.Act.{Act}
 use Rattle.lk_abs.specs.declared.events.Event.{Event}
@@ -126,13 +126,28 @@ cpus_kept m m' sound sound' same = sound'.1.whole.cpus ∙ ap (λ s. length s.to
 -- ---- one act, made again and again
 
 module _ (a b : Run) (act : Act) (made : ℕ) (first : Makes a b (replicate made act)) where
-  pub made_more : (c : Run) → Makes b c (act ∷ []) → Makes a c (replicate (made + 1) act)
-  made_more c next = subst (Makes a c) (replicate_more made act) (Makes-append a b (replicate made act) (act ∷ []) first c next)
+  -- the act was made more times
+  pub made_on : (c : Run) (k : ℕ) → Makes b c (replicate k act) → Makes a c (replicate (made + k) act)
+  made_on c k next =
+      subst (Makes a c) (replicate-append-replicate made k act)
+      (Makes-append a b (replicate made act) (replicate k act) first c next)
 
-  pub conveyed_more : (h h' h'' : Option (List ℕ)) (w x y : List ℕ) → Conveys h h' w (lines (occurrences_in a (replicate made act))) x
-      → Conveys h' h'' x (lines (occurrences_in b (act ∷ []))) y → Conveys h h'' w (lines (occurrences_in a (replicate (made + 1) act))) y
-  conveyed_more h h' h'' w x y done more =
-      subst (λ l. Conveys h h'' w l y) (sym (lines_in-append a b (replicate made act) (act ∷ []) first) ∙ ap (λ l. lines (occurrences_in a l)) (replicate_more made act)) (Conveys-trans h h' h'' w x y _ _ done more)
+  -- what happens in all of them
+  pub occurrences_on : (k : ℕ) → occurrences_in a (replicate (made + k) act)
+      ≡ occurrences_in a (replicate made act) ++ occurrences_in b (replicate k act)
+  occurrences_on k =
+      ap (λ l. occurrences_in a l) (sym (replicate-append-replicate made k act))
+      ∙ occurrences_in-append a b (replicate made act) (replicate k act) first
+
+  pub conveyed_on : (h h' h'' : Option (List ℕ)) (w x y : List ℕ) (k : ℕ)
+      → Conveys h h' w (lines (occurrences_in a (replicate made act))) x
+      → Conveys h' h'' x (lines (occurrences_in b (replicate k act))) y
+      → Conveys h h'' w (lines (occurrences_in a (replicate (made + k) act))) y
+  conveyed_on h h' h'' w x y k done more =
+      subst (λ l. Conveys h h'' w l y)
+      (sym (lines_in-append a b (replicate made act) (replicate k act) first)
+      ∙ ap (λ l. lines (occurrences_in a l)) (replicate-append-replicate made k act))
+      (Conveys-trans h h' h'' w x y _ _ done more)
 
   -- a text that was cut short while some of the acts were made
   pub front_of_acts : (h h' h'' : Option (List ℕ)) (w x : List ℕ) (times : ℕ) → made ≤ times → Conveys h h' w (lines (occurrences_in a (replicate made act))) x

@@ -69,26 +69,57 @@ impl Run {
         event
     }
 
-    // Makes one act, and writes what happens in it.
-    #[inline]
-    fn make<K: Sink>(&mut self, block: &mut Block, sink: &mut K, act: Act) -> Result<(), WriteFault>
+    // Makes an act until it tells an event, so many times at most, and gives how often it was made.
+    // It knows no sink, so that there is one machine code of it, whoever replays.
+    fn until_event(&mut self, act: Act, times: u64) -> (u64, Option<Event>)
         requires ready { CanGoOn self.old }
-        requires few { self.old.acts < 100000000 }
+        requires few { self.old.acts + times ≤ 100000000 }
         requires processor { processor_of act < length self.old.machine.cpus }
-        ensures ok { OnOk result
-            (Conveys (K.held sink.old) (K.held sink.new) (waiting block.old)
-            (lines (occurrences_in self.old (act ∷ []))) (waiting block.new)) }
+        ensures most { result.0 ≤ times }
+        ensures some { 0 < times → 0 < result.0 }
+        ensures told { occurs self.new.acts result.1
+            ≡ occurrences_in self.old (replicate result.0 act) }
+        ensures ready { CanGoOn self.new }
+        ensures made { Makes self.old self.new (replicate result.0 act) }
+    {
+        for made in 0..times {
+            if let Some(event) = self.act(act) {
+                return (made + 1, Some(event));
+            }
+        }
+        (times, None)
+    }
+
+    // Makes an act until it tells an event, so many times at most, writes that, and gives how often
+    // it was made.
+    #[inline]
+    fn make<K: Sink>(
+        &mut self,
+        block: &mut Block,
+        sink: &mut K,
+        act: Act,
+        times: u64,
+    ) -> Result<u64, WriteFault>
+        requires ready { CanGoOn self.old }
+        requires few { self.old.acts + times ≤ 100000000 }
+        requires processor { processor_of act < length self.old.machine.cpus }
+        ensures most { IfOk result (λ made. made ≤ times) }
+        ensures some { IfOk result (λ made. 0 < times → 0 < made) }
+        ensures ok { IfOk result (λ made.
+            Conveys (K.held sink.old) (K.held sink.new) (waiting block.old)
+            (lines (occurrences_in self.old (replicate made act))) (waiting block.new)) }
         ensures err { OnErr result
             (AppendsFront (K.held sink.old) (K.held sink.new) (waiting block.old)) }
         ensures ready { CanGoOn self.new }
-        ensures made { Makes self.old self.new (act ∷ []) }
+        ensures made { IfOk result (λ made. Makes self.old self.new (replicate made act)) }
         ensures cause { HasCause (K.faults sink.old) (K.faults sink.new) result }
     {
-        if let Some(event) = self.act(act) {
+        let (made, event) = self.until_event(act, times);
+        if let Some(event) = event {
             block.make_room(sink, EVENT_ROOM)?;
             write_event(block, self.acts, &event);
         }
-        Ok(())
+        Ok(made)
     }
 
     /// Makes an act so many times, and writes what happens.
@@ -112,8 +143,9 @@ impl Run {
         ensures made { OnOk result (Makes self.old self.new (replicate times act)) }
         ensures cause { HasCause (K.faults sink.old) (K.faults sink.new) result }
     {
-        for _made in 0..times {
-            self.make(block, sink, act)?;
+        let mut made = 0;
+        while made < times {
+            made += self.make(block, sink, act, times - made)?;
         }
         Ok(())
     }
