@@ -1,0 +1,24 @@
+-- A row of a lock leaves a processor's number, and what it carries.
+use Rattle.std.proofs.Common.{◌≡◌, ℕ, Some, sym, ap, ◌∙◌}
+use Rattle.atomic_table.specs.Table.{Me}
+use Rattle.lk_machine.specs.declared.setup.Verb.{Verb}
+use Rattle.lk_law.specs.Leads.{Word}
+use Rattle.lk_domain.specs.Calls.{acting}
+use Rattle.lk_domain.specs.Keeps.{Slot}
+use Rattle.lk_domain.specs.Plays.{MadeBy, carried_with}
+use Rattle.lk_domain.specs.Views.{own_number}
+use Rattle.lk_domain.specs.declared.view.View.{View}
+use Rattle.lk_domain.proofs.Fresh.{turned_purse}
+
+module _ (v : Verb) (l met : ℕ) (m n : Me Slot View) (made : MadeBy v l m met n) where
+  pub numbered : {p : ℕ} → m.0.who.number ≡ Some p → n.0.who.number ≡ Some p
+  numbered h = ap (λ (x : Me Slot View). x.0.who.number) made.seat ∙ h
+
+  pub out_same : n.0.ledger.out ≡ m.0.ledger.out
+  out_same =
+      ap (λ (x : Me Slot View). x.0.ledger.out) made.seat
+      ∙ (turned_purse m.0.who.plan.mode (own_number m.0.who.number) (acting m.0.who.plan.mode m.0.calls v l).frames
+      (Word made.found) m.0.ledger).out
+
+  pub carried : m.1 ≡ carried_with m.0.ledger.out → n.1 ≡ carried_with n.0.ledger.out
+  carried h = ap (λ (x : Me Slot View). x.1) made.seat ∙ (h ∙ ap carried_with (sym out_same))

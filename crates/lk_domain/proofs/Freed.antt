@@ -1,0 +1,141 @@
+-- What a release does to what its processor keeps.
+use Rattle.std.proofs.Common.{◌≡◌, ◌≢◌, inl, inr, ℕ, ◌<◌, List, [], ◌∷◌, length, set, Bool, true, false, eqb}
+use Rattle.std.proofs.Common.{eq-eqb, refl, sym, ap, ◌∙◌}
+use Rattle.std.proofs.lemmas.Bool.{cases_Bool}
+use Rattle.std.specs.Prelude.{if◌then◌else◌, ◌&&◌, not}
+use Rattle.atomic_table.specs.Table.{Me}
+use Rattle.lk_abs.specs.Names.{same_lock}
+use Rattle.lk_abs.specs.declared.names.Mode.{Mode}
+use Rattle.lk_abs.specs.declared.names.Mode.TheVariants.{Virt, Native, Cna, Pv}
+use Rattle.lk_abs.specs.declared.names.LockName.{LockName}
+use Rattle.lk_word.specs.declared.spin_word.Fields.{Fields}
+use Rattle.lk_machine.specs.declared.parts.Pc.TheVariants.{U1}
+use Rattle.lk_machine.specs.declared.setup.Verb.TheVariants.{Unlock}
+use Rattle.lk_law.specs.Agree.{halts}
+use Rattle.lk_law.specs.Leads.{Word}
+use Rattle.lk_law.proofs.common.Puts.{if_cases, if-true, if-false, not-true}
+use Rattle.lk_law.proofs.common.Sames.{same_lock-true}
+use Rattle.lk_domain.specs.Calls.{mark, Running, Hold, Calls, are_calls, is_on, is_verb, begin, row_of}
+use Rattle.lk_domain.specs.Calls.{moved_to, free_of, lock_name, holds_in}
+use Rattle.lk_domain.specs.Keeps.{Slot}
+use Rattle.lk_domain.specs.Marked.{Marks}
+use Rattle.lk_domain.specs.Plays.{MadeBy}
+use Rattle.lk_domain.specs.Views.{own_number}
+use Rattle.lk_domain.specs.declared.view.View.{View}
+use Rattle.lk_domain.proofs.Marks.{mark_set}
+use Rattle.lk_domain.proofs.Stacks.{and_parts}
+
+-- who gives a lock back that was taken by whichever context holds nothing of it
+
+pub released : (c l : ℕ) (hs : List Hold)
+    → holds_in (free_of c (lock_name l) (moved_to c (lock_name l) hs)) l ≡ false
+released c l [] = refl
+released c l (h ∷ hs) = elim (cases_Bool (same_lock h.lock (lock_name l))) [
+  | inl e ↦
+      ap (λ (m : Hold). holds_in (free_of c (lock_name l) (m ∷ moved_to c (lock_name l) hs)) l)
+      (if-true (same_lock h.lock (lock_name l)) (record h { ctx = c }) h e)
+      ∙ (ap (λ (xs : List Hold). holds_in xs l)
+      (if-true ((eqb c c) && same_lock h.lock (lock_name l)) (free_of c (lock_name l) (moved_to c (lock_name l) hs))
+      (record h { ctx = c } ∷ free_of c (lock_name l) (moved_to c (lock_name l) hs)) (λ i. eq-eqb c c refl i && e i))
+      ∙ released c l hs)
+  | inr e ↦
+      ap (λ (m : Hold). holds_in (free_of c (lock_name l) (m ∷ moved_to c (lock_name l) hs)) l)
+      (if-false (same_lock h.lock (lock_name l)) (record h { ctx = c }) h e)
+      ∙ (ap (λ (xs : List Hold). holds_in xs l)
+      (if-false ((eqb h.ctx c) && same_lock h.lock (lock_name l)) (free_of c (lock_name l) (moved_to c (lock_name l) hs))
+      (h ∷ free_of c (lock_name l) (moved_to c (lock_name l) hs)) (ap (λ b. (eqb h.ctx c) && b) e ∙ no (eqb h.ctx c)))
+      ∙ (if-false (same_lock h.lock (lock_name l)) true (holds_in (free_of c (lock_name l) (moved_to c (lock_name l) hs)) l) e
+      ∙ released c l hs))
+]
+  where
+    no : (b : Bool) → (b && false) ≡ false
+    no true = refl
+    no false = refl
+
+-- and leaves the other locks
+
+moved_else : (k l x : ℕ) (hs : List Hold) → holds_in (moved_to k (lock_name l) hs) x ≡ holds_in hs x
+moved_else k l x [] = refl
+moved_else k l x (h ∷ hs) =
+    if_cases (λ (g : Hold). (if same_lock g.lock (lock_name x) then true else holds_in (moved_to k (lock_name l) hs) x)
+    ≡ (if same_lock h.lock (lock_name x) then true else holds_in hs x))
+    (same_lock h.lock (lock_name l)) (record h { ctx = k }) h
+    (λ _. ap (λ b. if same_lock h.lock (lock_name x) then true else b) (moved_else k l x hs))
+    (λ _. ap (λ b. if same_lock h.lock (lock_name x) then true else b) (moved_else k l x hs))
+
+names_differ : (l x : ℕ) → x ≢ l → same_lock (lock_name l) (lock_name x) ≡ false
+names_differ l x ne =
+    not-true (same_lock (lock_name l) (lock_name x))
+    (λ q. ne (ap (λ (z : LockName). z.index) (sym (same_lock-true (lock_name l) (lock_name x) q))))
+
+freed_else : (k l x : ℕ) (hs : List Hold) → x ≢ l
+    → holds_in (free_of k (lock_name l) hs) x ≡ holds_in hs x
+freed_else k l x [] ne = refl
+freed_else k l x (h ∷ hs) ne =
+    if_cases (λ (gs : List Hold). holds_in gs x ≡ holds_in (h ∷ hs) x) ((eqb h.ctx k) && same_lock h.lock (lock_name l))
+    (free_of k (lock_name l) hs) (h ∷ free_of k (lock_name l) hs)
+    (λ e. freed_else k l x hs ne ∙ sym (if-false (same_lock h.lock (lock_name x)) true (holds_in hs x)
+    (ap (λ (n : LockName). same_lock n (lock_name x))
+    (same_lock-true h.lock (lock_name l) (and_parts (eqb h.ctx k) (same_lock h.lock (lock_name l)) e).1)
+    ∙ names_differ l x ne)))
+    (λ _. ap (λ b. if same_lock h.lock (lock_name x) then true else b) (freed_else k l x hs ne))
+
+-- no call that waits is a release
+pub not_on : (rs : List Running) (l : ℕ) → are_calls rs ≡ true → is_on rs Unlock l ≡ false
+not_on [] l h = refl
+not_on (r ∷ rs) l h = off (is_verb r.verb Unlock) _ _ _ h
+  where
+    off : (a b c d : Bool) → (not a && b && c) ≡ true → (a && d) ≡ false
+    off false b c d h = refl
+    off true b c d h = absurd (cc h)
+
+-- a release is one step, where no processor halts
+pub record Ends (old new : Calls) (l : ℕ) (x : Fields) : Type 0 where
+  pub frames : new.frames ≡ old.frames
+  pub holds : new.holds ≡ free_of (length old.frames) (lock_name l) (moved_to (length old.frames) (lock_name l) old.holds)
+  pub taken : new.taken ≡ old.taken
+  pub last : new.last ≡ mark U1 (Word x) ∷ []
+
+pub ends : (mode : Mode) → halts mode ≡ false → (p : ℕ) (old : Calls) (l : ℕ) (x : Fields)
+    → Ends old (row_of mode p (begin mode old Unlock l) (Word x)) l x
+ends Virt h p old l x = record { frames = refl; holds = refl; taken = refl; last = refl }
+ends Native h p old l x = record { frames = refl; holds = refl; taken = refl; last = refl }
+ends Cna h p old l x = record { frames = refl; holds = refl; taken = refl; last = refl }
+ends Pv h p old l x = absurd (cc h)
+
+module _ (l met : ℕ) (m n : Me Slot View) (made : MadeBy Unlock l m met n)
+    (calm : are_calls m.0.calls.frames ≡ true) (awake : halts m.0.who.plan.mode ≡ false) where
+  abbrev old : Calls
+  old = m.0.calls
+
+  abbrev c : ℕ
+  c = length old.frames
+
+  abbrev last : Calls
+  last = row_of m.0.who.plan.mode (own_number m.0.who.number) (begin m.0.who.plan.mode old Unlock l) (Word made.found)
+
+  is : n.0.calls ≡ last
+  is = ap (λ (x : Me Slot View). x.0.calls) made.seat
+      ∙ ap (λ b. row_of m.0.who.plan.mode (own_number m.0.who.number) (if b then old else begin m.0.who.plan.mode old Unlock l) (Word made.found))
+      (not_on old.frames l calm)
+
+  pub frames_are : n.0.calls.frames ≡ old.frames
+  frames_are =
+      ap (λ (x : Calls). x.frames) is
+      ∙ (ends m.0.who.plan.mode awake (own_number m.0.who.number) old l made.found).frames
+
+  pub holds_are : n.0.calls.holds ≡ free_of c (lock_name l) (moved_to c (lock_name l) old.holds)
+  holds_are =
+      ap (λ (x : Calls). x.holds) is
+      ∙ (ends m.0.who.plan.mode awake (own_number m.0.who.number) old l made.found).holds
+
+  pub none : holds_in n.0.calls.holds l ≡ false
+  none = ap (λ (hs : List Hold). holds_in hs l) holds_are ∙ released c l old.holds
+
+  pub other_holds : (x : ℕ) → x ≢ l → holds_in n.0.calls.holds x ≡ holds_in old.holds x
+  other_holds x ne =
+      ap (λ (hs : List Hold). holds_in hs x) holds_are
+      ∙ (freed_else c l x (moved_to c (lock_name l) old.holds) ne ∙ moved_else c l x old.holds)
+
+  pub held : (ms : List Bool) → l < 32 → Marks ms (holds_in old.holds) → Marks (set ms l false) (holds_in n.0.calls.holds)
+  held ms lt k = mark_set ms (holds_in old.holds) (holds_in n.0.calls.holds) l false lt k none other_holds

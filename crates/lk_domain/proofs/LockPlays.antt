@@ -1,0 +1,194 @@
+-- What the step calls on the words of locks ask.
+use Rattle.std.proofs.Common.{◌≡◌, ℕ, ◌+◌, ◌<◌, get_or, set}
+use Rattle.std.proofs.Common.{None, Bool, true, IfSome, get_or-set_other, refl, sym, ap, ◌∙◌}
+use Rattle.std.proofs.Common.{subst, arith}
+use Rattle.std.specs.Prelude.{unwrap_or}
+use mathlib.Core.Option.{some}
+use lib.ListN.{get_elem?}
+use Rattle.atomic_table.specs.Table.{State, Me, Step, keeps, Allows}
+use Rattle.lk_abs.specs.declared.names.Mode.{Mode}
+use Rattle.lk_abs.specs.declared.names.Waiter.{Waiter}
+use Rattle.lk_word.specs.declared.spin_word.Fields.{Fields}
+use Rattle.lk_word.specs.SpinWord.{packed, IsPackable}
+use Rattle.lk_machine.specs.declared.parts.Frame.{Frame}
+use Rattle.lk_machine.specs.declared.parts.Pc.{Pc}
+use Rattle.lk_machine.specs.declared.setup.Verb.{Verb}
+use Rattle.lk_machine.specs.declared.setup.Verb.TheVariants.{Unlock}
+use Rattle.lk_machine.specs.TopRow.{target}
+use Rattle.lk_law.specs.Known.{Known}
+use Rattle.lk_law.specs.Leads.{Word, course_in}
+use Rattle.lk_law.specs.World.{World}
+use Rattle.lk_domain.specs.Calls.{Calls, Hold, Takes, Frees, StandsAt, acting, begin, Begins, row_of}
+use Rattle.lk_domain.specs.Calls.{holds_begun, is_on, grip_of, lock_name}
+use Rattle.lk_domain.specs.Keeps.{Slot, Keeps, Knows, any_count, sole_count}
+use Rattle.lk_domain.specs.Ledgers.{is_first, turned}
+use Rattle.lk_domain.specs.Plans.{locks_of}
+use Rattle.lk_domain.specs.Plays.{Makes, MadeBy, Acts, made, turned_on}
+use Rattle.lk_domain.specs.Runs.{Runs, waiter}
+use Rattle.lk_domain.specs.Stand.{Stand}
+use Rattle.lk_domain.specs.Views.{IsNumbered, own_number}
+use Rattle.lk_domain.specs.Words.{lock_at, version_at, balance_at, IsNode}
+use Rattle.lk_domain.specs.declared.plan.Plan.{Plan}
+use Rattle.lk_domain.specs.declared.view.View.{View}
+use Rattle.lk_law.proofs.common.Puts.{if_cases}
+use Rattle.lk_domain.proofs.Fresh as fresh
+use Rattle.lk_domain.proofs.Held.{moved_any, moved_sole}
+use Rattle.lk_domain.proofs.Lands as lands
+use Rattle.lk_domain.proofs.OnWords as on
+use Rattle.lk_domain.proofs.OnWords.{OnWord, word_stores, on_word}
+use Rattle.lk_domain.proofs.Purses.{alters, knows_after}
+
+-- what a step that writes f of the word has to do with the row
+abbrev pub Writes : Pc → (ℕ → ℕ) → Type 0
+Writes pc f = (mode : Mode) (fr : Frame) (y : Fields) → IsPackable y → Known pc y
+    → f (packed y) ≡ packed (unwrap_or (word_stores mode pc fr (target pc fr) y) y)
+
+-- the row may free its lock
+abbrev pub MayFree : Pc → Type 0
+MayFree pc = (w : World) × (u : Waiter) × (f : Frame)
+    × (grip_of (target pc f) (course_in w u f pc (target pc f)) ≡ Frees)
+
+-- a call that begins changes no count of holds
+acting_any : (mode : Mode) (c : Calls) (v : Verb) (l : ℕ)
+    → any_count (acting mode c v l).holds ≡ any_count c.holds
+acting_any mode c v l =
+    if_cases (λ (x : Calls). any_count x.holds ≡ any_count c.holds) (is_on c.frames v l) c (begin mode c v l)
+    (λ _. refl) (λ _. by v)
+  where
+    by : (v : Verb) → any_count (begin mode c v l).holds ≡ any_count c.holds
+    by Unlock = moved_any _ _ c.holds
+    by _ = refl
+
+acting_sole : (mode : Mode) (c : Calls) (v : Verb) (l : ℕ)
+    → sole_count (acting mode c v l).holds ≡ sole_count c.holds
+acting_sole mode c v l =
+    if_cases (λ (x : Calls). sole_count x.holds ≡ sole_count c.holds) (is_on c.frames v l) c (begin mode c v l)
+    (λ _. refl) (λ _. by v)
+  where
+    by : (v : Verb) → sole_count (begin mode c v l).holds ≡ sole_count c.holds
+    by Unlock = moved_sole _ _ c.holds
+    by _ = refl
+
+-- the parts of one step on the word of a lock, and what it gives
+module _ (k : Plan) (slots id : ℕ) (m : Me Slot View) (number : IsNumbered m.0) (verb : Verb)
+    (l : ℕ) (near : l < locks_of k) (pc : Pc)
+    (acts : StandsAt (acting m.0.who.plan.mode m.0.calls verb l) verb l pc)
+    (asks : Begins m.0.calls verb l) (word : (fr : Frame) → OnWord (target pc fr))
+    (home : MayFree pc → is_first (lock_name l) ≡ true → m.0.ledger.out ≡ None) where
+  module _ (s : State Slot View) (both : Stand k s) (me : get_elem? s.views id ≡ some m.0) where
+    abbrev ok : Runs k s
+    ok = both.runs
+
+    planned : m.0.who.plan ≡ k
+    planned = both.runs.planned id m.0 number.0 me number.1
+
+    abbrev acts' : StandsAt (acting k.mode m.0.calls verb l) verb l pc
+    acts' = record {
+      frame = acts.frame;
+      trail = acts.trail;
+      rest = acts.rest;
+      is = ap (λ (q : Plan). (acting q.mode m.0.calls verb l).frames) (sym (both.runs.planned id m.0 number.0 me number.1)) ∙ acts.is;
+      place = acts.place;
+      lock = acts.lock;
+    }
+
+    abbrev on' : OnWord (target pc acts'.frame)
+    on' = word acts'.frame
+
+    abbrev y : Fields
+    y = on.found k s ok id m.0 me number.0 number.1 verb l pc asks acts' near on'
+
+    abbrev u : View
+    u = made m.0 verb l (Word y)
+
+    y_packs : IsPackable y
+    y_packs = on.found_packs k s ok id m.0 me number.0 number.1 verb l pc asks acts' near on'
+
+    y_is : get_or s.words (lock_at l) 0 ≡ packed y
+    y_is = on.found_is k s ok id m.0 me number.0 number.1 verb l pc asks acts' near on'
+
+    met_is : lands.x k s ok id m.0 me number.0 number.1 verb l pc asks acts' (on_word (target pc acts'.frame) on') ≡ Word y
+    met_is = on.met_is k s ok id m.0 me number.0 number.1 verb l pc asks acts' near on'
+
+    calls_are : u.calls ≡ row_of k.mode number.0 (acting k.mode m.0.calls verb l) (Word y)
+    calls_are = (λ j. row_of (planned j).mode (own_number (number.1 j)) (acting (planned j).mode m.0.calls verb l) (Word y))
+
+    -- the machine part
+    rows : (i : ℕ)
+        → ((mode : Mode) (fr : Frame) → Known pc y → i ≡ packed (unwrap_or (word_stores mode pc fr (target pc fr) y) y))
+        → Runs k (record { words = set s.words (lock_at l) i; homes = s.homes; views = set s.views id u })
+    rows i writes =
+        on.word_step k s ok id m.0 me number.0 number.1 verb l pc asks acts' near on' i
+        (writes k.mode acts'.frame (on.known k s ok id m.0 me number.0 number.1 verb l pc asks acts' near on').0)
+        u refl calls_are s.homes
+
+    -- the ledger part
+    knows : Knows k both.keeps.journal u
+    knows =
+        let unseen = on_word (target pc acts'.frame) on' in
+        let c : Calls = acting k.mode m.0.calls verb l in
+        let x = lands.x k s ok id m.0 me number.0 number.1 verb l pc asks acts' unseen in
+        let f = acts'.frame in
+        let t = target pc f in
+        let o = lands.o k s ok id m.0 me number.0 number.1 verb l pc asks acts' unseen in
+        let trail = lands.trail k s ok id m.0 me number.0 number.1 verb l pc asks acts' unseen in
+        let lock = fresh.lock_is k s ok id m.0 me number.0 number.1 verb l pc asks acts' unseen in
+        let ledger : u.ledger ≡ turned m.0.ledger (lock_name l) (grip_of t o) trail =
+        (λ j. turned_on (planned j).mode (own_number (number.1 j)) (acting (planned j).mode m.0.calls verb l).frames (sym met_is j) m.0.ledger)
+        ∙ fresh.turns k s ok id m.0 me number.0 number.1 verb l pc asks acts' unseen m.0.ledger in
+        let holds = calls_are ∙ (ap (row_of k.mode number.0 c) (sym met_is) ∙ lands.rowed k s ok id m.0 me number.0 number.1 verb l pc asks acts' unseen) in
+        knows_after k both.keeps.journal m.0 u number.0 number.1 (both.keeps.knows id m.0 me) c f.ctx l trail
+        (acting_any k.mode m.0.calls verb l) (acting_sole k.mode m.0.calls verb l) refl (grip_of t o) ledger
+        (ap (λ (z : Calls). z.holds) holds ∙ ap (λ z. Rattle.lk_domain.specs.Calls.holds_after (grip_of t o) f.ctx z (c.taken + 1) c.holds) lock)
+        (fresh.fresh k s ok id m.0 me number.0 number.1 verb l pc asks acts' unseen)
+        (λ e on_first. home (lands.m k s ok id m.0 me number.0 number.1 verb l pc asks acts' unseen, waiter number.0 f.ctx, f, e) on_first)
+
+    keeps_on : (i : ℕ) → Keeps k (record { words = set s.words (lock_at l) i; homes = s.homes; views = set s.views id u })
+    keeps_on i =
+        let purse : fresh.SamePurse m.0.ledger u.ledger =
+        fresh.turned_purse m.0.who.plan.mode (own_number m.0.who.number) (acting m.0.who.plan.mode m.0.calls verb l).frames (Word y) m.0.ledger in
+        alters k s both.keeps id m.0 u (set s.words (lock_at l) i) me purse.share knows
+        (get_or-set_other s.words (lock_at l) 0 i 0 (λ e. omega arith))
+        (get_or-set_other s.words (lock_at l) version_at i 0 (λ e. omega arith))
+        (λ a lt. get_or-set_other s.words (lock_at l) (balance_at k a) i 0 (λ e. omega arith)) purse.out
+
+    is_made : MadeBy verb l m (get_or s.words (lock_at l) 0) (u, m.1)
+    is_made =
+        record {
+          found = y;
+          packs = y_packs;
+          tail = subst (λ (j : Plan). IfSome y.tail (IsNode j)) (sym planned)
+              (on.found_tail k s ok id m.0 me number.0 number.1 verb l pc asks acts' near on');
+          word = y_is;
+          seat = refl;
+        }
+
+  -- a step that makes the row, whatever it meets
+  pub plays : (st : Step Slot) (f : ℕ → ℕ) → st.word ≡ lock_at l → Writes pc f
+      → Allows (Stand k) slots id m (lock_at l) f (Makes verb st m)
+  plays st f at writes s both long me small =
+      let n : ℕ = get_or s.words (lock_at l) 0 in (
+        u s both me,
+        keeps,
+        tt,
+        record {
+          runs = rows s both me (f n) (λ mode fr known. ap f (y_is s both me) ∙ writes mode fr (y s both me) (y_packs s both me) known);
+          keeps = keeps_on s both me (f n);
+        },
+        λ j e. let same : l ≡ j = omega arith in
+            subst (λ (z : ℕ). MadeBy verb z m n (u s both me, m.1)) same (is_made s both me),
+      )
+
+-- what the calls ask, in which the word is named by its place
+module _ (k plan : Plan) (slots id : ℕ) (m : Me Slot View) (number : IsNumbered m.0) (verb : Verb)
+    (l i : ℕ) (st : Step Slot) (same : k ≡ plan) (near : l < locks_of plan) (at : i ≡ lock_at l)
+    (word : st.word ≡ i) where
+  pub asks : (kind : Pc → Bool) → Acts kind m.0 verb l
+      → ((pc : Pc) → kind pc ≡ true → (fr : Frame) → OnWord (target pc fr))
+      → ((pc : Pc) → kind pc ≡ true → MayFree pc → is_first (lock_name l) ≡ true → m.0.ledger.out ≡ None)
+      → (f : ℕ → ℕ) → ((pc : Pc) → kind pc ≡ true → Writes pc f)
+      → Allows (Stand k) slots id m i f (Makes verb st m)
+  asks kind acts on_word home f writes =
+      subst (λ (x : ℕ). Allows (Stand k) slots id m x f (Makes verb st m)) (sym at)
+      (plays k slots id m number verb l (subst (λ (x : Plan). l < locks_of x) (sym same) near) acts.row acts.stands acts.begins
+      (on_word acts.row acts.is) (home acts.row acts.is) st f (word ∙ at) (writes acts.row acts.is))

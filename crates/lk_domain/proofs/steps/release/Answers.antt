@@ -1,0 +1,30 @@
+use Rattle.std.proofs.Common.{sym, ap, arith, ◌<◌, ◌∙◌, length, List}
+use Rattle.lk_machine.specs.declared.setup.Verb.TheVariants.{Unlock}
+use Rattle.lk_law.specs.Agree.{halts}
+use Rattle.lk_domain.specs.Calls.{Running, are_calls, slows}
+use Rattle.lk_domain.specs.declared.plan.Plan.{Plan}
+use Rattle.lk_domain.proofs.Carried as row
+use Rattle.lk_domain.proofs.Freed as freed
+use Rattle.lk_domain.proofs.Stepped as stepped
+use Rattle.lk_domain.proofs.steps.release.Goals as goal
+
+pub invariant_of-cpu : goal.invariant_of-cpu
+invariant_of-cpu c =
+    let cpu = c.args.cpu.now in
+    let l = c.args.lock.index in
+    let m = cpu.seat.me in
+    let n = c.release-met.new.seat.me in
+    let met = c.release-met.result in
+    let made = c.release-met.ensures.step in
+    let lt : l < 32 = (let lock = c.requires.lock in let few = c.args.domain.now.lawful.locks in omega arith) in
+    let awake = ap (λ (k : Plan). halts k.mode) c.requires.domain.plan ∙ c.args.domain.now.lawful.awake in
+    let frames = freed.frames_are l met m n made cpu.apart awake in
+    record {
+      numbered = row.numbered Unlock l met m n made cpu.numbered;
+      deep = cpu.deep ∙ ap (λ (xs : List Running). length xs) (sym frames);
+      counted = cpu.counted ∙ ap slows (sym frames);
+      marked = freed.held l met m n made cpu.apart awake cpu.held lt cpu.marked;
+      noted = stepped.waits_same m.0.calls n.0.calls frames cpu.waiting cpu.noted;
+      apart = ap are_calls frames ∙ cpu.apart;
+      carried = row.carried Unlock l met m n made cpu.carried;
+    }

@@ -1,0 +1,17 @@
+pub mod Plans
+pub mod Words
+pub mod Calls
+pub mod Journals
+pub mod Ledgers
+pub mod Who
+pub mod Views
+pub mod Runs
+pub mod Keeps
+pub mod Stand
+pub mod Rows
+pub mod Plays
+pub mod Marked
+pub mod Seats
+pub mod Ends
+pub mod Paths
+pub mod Waits

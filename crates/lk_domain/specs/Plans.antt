@@ -1,0 +1,52 @@
+-- What is read of a plan, and when a domain may be made of it.
+use Rattle.std.specs.Prelude.{◌≡◌, ◌<◌, ◌≤◌, ℕ, false, length, slice_index, slice_index_or}
+use Rattle.std.specs.List.{sum}
+use Rattle.lk_abs.specs.Jobs.{full}
+use Rattle.lk_abs.specs.declared.names.Kind.{Kind}
+use Rattle.lk_abs.specs.declared.names.Kind.TheVariants.{Spin}
+use Rattle.lk_law.specs.Agree.{halts}
+use Rattle.lk_domain.specs.declared.plan.Plan.{Plan}
+
+-- how many processors, locks and accounts there are
+abbrev pub cpus_of : Plan → ℕ
+cpus_of k = length k.topology.sockets.items
+
+abbrev pub locks_of : Plan → ℕ
+locks_of k = length k.locks.items
+
+abbrev pub accounts_of : Plan → ℕ
+accounts_of k = length k.balances.items
+
+-- the kind of a lock
+abbrev pub kind_at : Plan → ℕ → Kind
+kind_at k i = slice_index_or k.locks.items i Spin
+
+-- how many entries a processor may write
+abbrev pub share_of : Plan → ℕ → ℕ
+share_of k p = slice_index k.shares.items p
+
+-- how many entries all processors may write: the room of the journal
+abbrev pub room_of : Plan → ℕ
+room_of k = sum k.shares.items
+
+-- A plan of which a domain may be made: from 1 to 64 processors, each with a share, from 1 to 32
+-- locks, and at most 64 balances below the limit. For now all locks are spinlocks.
+pub record IsLawfulPlan (k : Plan) : Type 0 where
+  pub awake : halts k.mode ≡ false
+  pub some : 0 < cpus_of k
+  pub cpus : cpus_of k ≤ 64
+  pub any : 0 < locks_of k
+  pub locks : locks_of k ≤ 32
+  pub spins : (i : ℕ) → kind_at k i ≡ Spin
+  pub accounts : accounts_of k ≤ 64
+  pub small : sum k.balances.items < full
+  pub shares : length k.shares.items ≡ cpus_of k
+
+-- the two plans are the same, but for the room of their lists
+pub record IsSamePlan (k j : Plan) : Type 0 where
+  pub mode : k.mode ≡ j.mode
+  pub sockets : k.topology.sockets.items ≡ j.topology.sockets.items
+  pub threshold : k.threshold ≡ j.threshold
+  pub locks : k.locks.items ≡ j.locks.items
+  pub balances : k.balances.items ≡ j.balances.items
+  pub shares : k.shares.items ≡ j.shares.items

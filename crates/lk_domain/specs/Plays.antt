@@ -1,0 +1,141 @@
+-- What each step of a seat tells it.
+use Rattle.std.specs.Prelude.{◌≡◌, ℕ, ◌+◌, ◌<◌, ◌≤◌, Bool, true, List, [], ◌∷◌, ◌++◌, length}
+use Rattle.std.specs.Prelude.{Option, Some, None, IfSome, drop, slice_index}
+use Rattle.atomic_table.specs.Table.{Me, Step}
+use Rattle.lk_abs.specs.declared.ledger.Entry.{Entry}
+use Rattle.lk_abs.specs.declared.names.Mode.{Mode}
+use Rattle.lk_word.specs.declared.spin_word.Fields.{Fields}
+use Rattle.lk_word.specs.SpinWord.{packed, IsPackable}
+use Rattle.lk_machine.specs.declared.parts.Pc.{Pc}
+use Rattle.lk_machine.specs.declared.setup.Verb.{Verb}
+use Rattle.lk_machine.specs.TopRow.{target}
+use Rattle.lk_law.specs.Leads.{Met, Word, held_lock}
+use Rattle.lk_domain.specs.Calls.{Running, Calls, mark, grip_of, course, row_of, acting, StandsAt}
+use Rattle.lk_domain.specs.Calls.{Begins, no_calls}
+use Rattle.lk_domain.specs.Journals.{Replays, places}
+use Rattle.lk_domain.specs.Keeps.{Slot, IsOpen, balance}
+use Rattle.lk_domain.specs.Ledgers.{Ledger, Out, turned, loaded, sighted, taken_out, stored}
+use Rattle.lk_domain.specs.Ledgers.{brought, with_share}
+use Rattle.lk_domain.specs.Plans.{accounts_of, share_of}
+use Rattle.lk_domain.specs.Views.{view, drawer, own_number}
+use Rattle.lk_domain.specs.Words.{lock_at, balance_at, IsNode}
+use Rattle.lk_domain.specs.declared.journal.Journal.{Journal}
+use Rattle.lk_domain.specs.declared.view.View.{View}
+
+-- what a row of the newest call makes of what its processor knows of the ledger
+
+abbrev pub turned_at : Mode → ℕ → Running → Met → Ledger → Option Pc → Ledger
+turned_at mode p r x g None = g
+turned_at mode p r x g (Some d) =
+    turned g (held_lock (target d r.frame) r.frame)
+    (grip_of (target d r.frame) (course mode p d r.frame x)) (r.trail ++ mark d x ∷ [])
+
+abbrev pub turned_on : Mode → ℕ → List Running → Met → Ledger → Ledger
+turned_on mode p [] x g = g
+turned_on mode p (r ∷ rs) x g = turned_at mode p r x g r.frame.place
+
+-- the view after the row of its newest call, where the calls before it are c
+abbrev pub rowed : View → Calls → Met → View
+rowed v c x =
+    record v {
+      calls = row_of v.who.plan.mode (own_number v.who.number) c x;
+      ledger = turned_on v.who.plan.mode (own_number v.who.number) c.frames x v.ledger;
+    }
+
+-- the view after the row of its call on a lock, which begins or goes on
+abbrev pub made : View → Verb → ℕ → Met → View
+made v verb l x = rowed v (acting v.who.plan.mode v.calls verb l) x
+
+-- the seat has made the row of its call, and met this word: fields that pack, whose tail is a node
+-- of the domain
+pub record MadeBy {S : Type 0} (verb : Verb) (l : ℕ) (m : Me S View) (met : ℕ)
+    (n : Me S View) : Type 0 where
+  pub found : Fields
+  pub packs : IsPackable found
+  pub tail : IfSome found.tail (IsNode m.0.who.plan)
+  pub word : met ≡ packed found
+  pub seat : n ≡ (made m.0 verb l (Word found), m.1)
+
+-- what a step on the word of a lock tells
+abbrev pub Makes : Verb → {S : Type 0} → Step S → Me S View → ℕ → Me S View → Type 0
+Makes verb st m x n = (l : ℕ) → st.word ≡ lock_at l → MadeBy verb l m x n
+
+-- the call on the lock makes a row of this kind next
+pub record Acts (kind : Pc → Bool) (v : View) (verb : Verb) (l : ℕ) : Type 0 where
+  pub row : Pc
+  pub is : kind row ≡ true
+  pub stands : StandsAt (acting v.who.plan.mode v.calls verb l) verb l row
+  pub begins : Begins v.calls verb l
+
+-- the first seat has drawn the number that it deals next, and the share that goes with it
+abbrev pub Draws : Step Slot → Me Slot View → ℕ → Me Slot View → Type 0
+Draws st m x n = (m.0.who.dealt ≡ Some x)
+    × (n ≡ (view (drawer m.0.who.plan x) no_calls (with_share (share_of m.0.who.plan x)), m.1))
+
+-- the open look of a seat is of one state of the journal, with all entries of its processor
+pub record OneState (v : View) : Type 0 where
+  pub journal : List Entry
+  pub replays : Replays v.who.plan.balances.items journal
+  pub looking : IsOpen v.who.plan journal v.calls v.ledger.look
+  pub own : (p : ℕ) → v.who.number ≡ Some p → v.ledger.own ≡ places p journal
+  pub seen : v.ledger.seen ≤ length journal
+
+-- a balance was loaded; where the journal is out it is what the seat knows of the word
+pub record LoadedBy (a : ℕ) (m : Me Slot View) (x : ℕ) (n : Me Slot View) : Type 0 where
+  pub seat : n ≡ (record m.0 { ledger = loaded m.0.ledger a x }, m.1)
+  pub out : (o : Out) → m.0.ledger.out ≡ Some o → x ≡ slice_index o.words a
+  pub one : OneState n.0
+
+abbrev pub Loads : Step Slot → Me Slot View → ℕ → Me Slot View → Type 0
+Loads st m x n = (a : ℕ) → st.word ≡ balance_at m.0.who.plan a → LoadedBy a m x n
+
+-- the version was loaded
+pub record Sees (st : Step Slot) (m : Me Slot View) (x : ℕ) (n : Me Slot View) : Type 0 where
+  pub rises : m.0.ledger.seen ≤ x
+  pub seat : n ≡ (record m.0 { ledger = sighted m.0.ledger x }, m.1)
+  pub one : OneState n.0
+
+-- the journal was taken, with its room, and the balances after it
+pub record TakenBy (m : Me Slot View) (version : ℕ) (n : Me Slot View) : Type 0 where
+  pub journal : Journal
+  pub words : List ℕ
+  pub seat : n
+      ≡ (
+        record m.0 {
+          ledger = taken_out m.0.ledger journal.entries.items journal.entries.room words;
+        },
+        (0, Some journal) ∷ m.1,
+      )
+  pub replays : Replays m.0.who.plan.balances.items journal.entries.items
+  pub long : length words ≡ accounts_of m.0.who.plan
+  pub are : (a : ℕ)
+      → a < accounts_of m.0.who.plan
+      → slice_index words a ≡ balance m.0.who.plan journal.entries.items a
+  pub version_is : version ≡ length journal.entries.items
+  pub seen : m.0.ledger.seen ≤ length journal.entries.items
+  pub room : length journal.entries.items + m.0.ledger.share ≤ journal.entries.room
+
+abbrev pub TakesJournal : Step Slot → Me Slot View → ℕ → Me Slot View → Type 0
+TakesJournal st m x n = TakenBy m x n
+
+-- a balance was stored
+abbrev pub Stores : Step Slot → Me Slot View → ℕ → Me Slot View → Type 0
+Stores st m x n = (a : ℕ) (o : Out) → st.word ≡ balance_at m.0.who.plan a → m.0.ledger.out ≡ Some o
+    → n ≡ (record m.0 { ledger = stored m.0.ledger o a x }, m.1)
+
+-- the journal was brought home
+abbrev pub Brings : Step Slot → Me Slot View → ℕ → Me Slot View → Type 0
+Brings st m x n = (o : Out) (j : Journal) (p : ℕ) → m.0.ledger.out ≡ Some o
+    → m.1 ≡ (0, Some j) ∷ [] → m.0.who.number ≡ Some p
+    → n
+    ≡ (
+      record m.0 {
+        ledger = brought m.0.ledger p o (drop (length o.list) j.entries.items);
+      },
+      [],
+    )
+
+-- the slots that go with a view: the place of the journal, where it is out
+abbrev pub carried_with : Option Out → List (ℕ × Slot)
+carried_with None = []
+carried_with (Some o) = (0, None) ∷ []

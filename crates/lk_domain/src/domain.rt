@@ -1,0 +1,97 @@
+// A domain: one table of words, and what it was made of.
+ghost use Rattle.std.specs.Prelude.{◌≡◌, ◌+◌, ◌*◌, ◌<◌, ◌≤◌, Some, length, slice_get};
+ghost use Rattle.lk_domain.specs.Plans.{IsLawfulPlan, cpus_of, locks_of, accounts_of};
+ghost use Rattle.lk_domain.specs.Words.{words_of, lock_at, balance_at};
+
+use crate::journal::Journal;
+use crate::plan::Plan;
+use crate::rule::Order;
+use crate::view::View;
+use atomic_table::Table;
+use lk_abs::{Kind, Mode};
+use std::alloc::Global;
+
+/// Locks for processors that really run, and a ledger under them.
+#[derive(Drop)]
+pub struct Domain {
+    pub(crate) table: Table<Option<Journal>, View, Plan, Order, Global>,
+    pub(crate) plan: Plan,
+    ghost lawful: { IsLawfulPlan plan },
+    ghost words: { table.shared.table_id.words ≡ words_of plan },
+    ghost slots: { table.shared.table_id.slots ≡ 1 },
+    ghost key: { table.shared.key ≡ plan },
+}
+
+/// A lock of a domain, by its number.
+#[derive(Clone, Copy, Debug, PartialEq, Eq)]
+pub struct LockId {
+    /// From 0.
+    pub index: u32,
+}
+
+impl Domain {
+    /// The family of its locks.
+    pub fn mode(&self) -> Mode
+        ensures { result ≡ self.now.plan.mode }
+    {
+        self.plan.mode
+    }
+
+    /// How many handovers may pass a waiter of another socket by.
+    pub fn threshold(&self) -> u32
+        ensures { result ≡ self.now.plan.threshold }
+    {
+        self.plan.threshold
+    }
+
+    /// The socket of a processor.
+    pub fn socket(&self, cpu: u32) -> u32
+        requires { cpu < cpus_of self.now.plan }
+        ensures { slice_get self.now.plan.topology.sockets.items cpu ≡ Some result }
+    {
+        *self.plan.topology.sockets.get(cpu as usize)
+    }
+
+    /// The kind of a lock.
+    pub fn kind(&self, lock: LockId) -> Kind
+        requires { lock.index < locks_of self.now.plan }
+        ensures { slice_get self.now.plan.locks.items lock.index ≡ Some result }
+    {
+        *self.plan.locks.get(lock.index as usize)
+    }
+
+    /// How many accounts its ledger has.
+    pub fn accounts(&self) -> u32
+        ensures { result ≡ accounts_of self.now.plan }
+    {
+        prove!(self.plan.balances.len() <= 64);
+        self.plan.balances.len() as u32
+    }
+
+    // Where the word of a lock stands.
+    pub(crate) fn word_of(&self, lock: u32) -> usize
+        requires { lock < locks_of self.now.plan }
+        ensures { result ≡ lock_at lock }
+    {
+        prove!(self.plan.locks.len() <= 32);
+        8 + 8 * lock as usize
+    }
+
+    // Where the balances begin.
+    pub(crate) fn first_balance(&self) -> usize
+        ensures { result ≡ balance_at self.now.plan 0 }
+    {
+        prove!(self.plan.locks.len() <= 32);
+        8 + 8 * self.plan.locks.len()
+    }
+
+    // Where a balance stands.
+    pub(crate) fn balance_of(&self, account: u32) -> usize
+        requires { account < accounts_of self.now.plan }
+        ensures { result ≡ balance_at self.now.plan account }
+    {
+        prove!(self.plan.locks.len() <= 32);
+        prove!(self.plan.balances.len() <= 64);
+        8 + 8 * self.plan.locks.len() + account as usize
+    }
+}

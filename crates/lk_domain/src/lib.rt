@@ -1,0 +1,22 @@
+//! Running locks over one table of atomic words, and a ledger under them.
+#![tactic(auto)]
+
+mod cpu;
+mod domain;
+mod ending;
+mod journal;
+mod making;
+mod moves;
+mod pages;
+mod plan;
+mod rule;
+pub mod steps;
+mod view;
+
+pub use cpu::Cpu;
+pub use domain::{Domain, LockId};
+pub use ending::{CloseBack, Closed, close};
+pub use journal::Journal;
+pub use pages::{journal_home, journal_out, load, store, version};
+pub use plan::Plan;
+pub use view::View;

@@ -1,0 +1,131 @@
+// A new domain, and its processors.
+ghost use Rattle.std.specs.Prelude.{◌≡◌, ◌+◌, ◌<◌, [], IfOk, length, slice_set};
+ghost use Rattle.lk_domain.specs.Calls.{no_calls};
+ghost use Rattle.lk_domain.specs.Ledgers.{no_ledger};
+ghost use Rattle.lk_domain.specs.Plans.{IsLawfulPlan, IsSamePlan, cpus_of, room_of};
+ghost use Rattle.lk_domain.specs.Seats.{IsDealt, AreDealt};
+ghost use Rattle.lk_domain.specs.Views.{view, dealer};
+ghost use Rattle.lk_domain.specs.Words.{words_of, IsOpening};
+
+use crate::cpu::{Cpu, Right};
+use crate::domain::Domain;
+use crate::journal::Journal;
+use crate::plan::Plan;
+use crate::rule::{Deal, Draw};
+use atomic_table::{Refused, Table};
+use lk_abs::{List, Memory, Topology};
+use std::alloc::Global;
+
+impl Plan {
+    // The same plan, in room of its own.
+    fn copied(&self, alloc: Global) -> Result<Plan, Memory>
+        ensures { IfOk result (λ plan. IsSamePlan plan self.now) }
+    {
+        let topology = Topology {
+            sockets: List::from_slice(alloc, self.topology.sockets.as_slice())?,
+        };
+        let locks = List::from_slice(alloc, self.locks.as_slice())?;
+        let balances = List::from_slice(alloc, self.balances.as_slice())?;
+        let shares = List::from_slice(alloc, self.shares.as_slice())?;
+        Ok(Plan {
+            mode: self.mode,
+            topology,
+            threshold: self.threshold,
+            locks,
+            balances,
+            shares,
+        })
+    }
+
+    // How many entries all processors may write.
+    fn room(&self) -> usize
+        requires { IsLawfulPlan self.now }
+        ensures { result ≡ room_of self.now }
+    {
+        let mut room = 0;
+        for cpu in 0..self.shares.len() {
+            room += *self.shares.get(cpu) as usize;
+        }
+        room
+    }
+}
+
+// Writes a word of a new table.
+fn write(words: &mut List<u64>, at: usize, number: u64)
+    requires { at < length words.old.items }
+    ensures { words.new ≡ record words.old { items = slice_set words.old.items at number } }
+{
+    *words.get_mut(at) = number;
+}
+
+// The words of a new table.
+fn opening_words(alloc: Global, plan: &Plan) -> Result<List<u64>, Memory>
+    requires { IsLawfulPlan plan.now }
+    ensures { IfOk result (λ words. IsOpening plan.now words.items) }
+{
+    let first = 8 + 8 * plan.locks.len();
+    let mut words = List::filled(alloc, 0, first + 64 + 16 * plan.topology.sockets.len())?;
+    for account in 0..plan.balances.len() {
+        write(&mut words, first + account, *plan.balances.get(account));
+    }
+    Ok(words)
+}
+
+impl Domain {
+    /// A domain at rest, and its processors in order of their numbers.
+    pub fn new(alloc: Global, plan: &Plan) -> Result<(Domain, List<Cpu>), Memory>
+        requires { IsLawfulPlan plan.now }
+        ensures plan { IfOk result (λ made. IsSamePlan made.0.plan plan.now) }
+        ensures many { IfOk result (λ made. length made.1.items ≡ cpus_of plan.now) }
+        ensures cpus { IfOk result (λ made. AreDealt made.0 made.1.items) }
+    {
+        let (domain, mut seat) = Domain::rest(alloc, plan.copied(alloc)?)?;
+        let count = domain.plan.topology.sockets.len();
+        let mut cpus = List::new(alloc, count)?;
+        for number in 0..count as u32 {
+            cpus.push(domain.deal(&mut seat, number));
+        }
+        Ok((domain, cpus))
+    }
+
+    // A domain with the seat that deals the numbers.
+    fn rest(alloc: Global, plan: Plan) -> Result<(Domain, Right), Memory>
+        requires { IsLawfulPlan plan }
+        ensures plan { IfOk result (λ made. made.0.plan ≡ plan) }
+        ensures table { IfOk result (λ made. made.1.table_id ≡ made.0.table.shared.table_id) }
+        ensures dealer { IfOk result (λ made. made.1.me.0
+            ≡ view (dealer plan 0) no_calls no_ledger) }
+    {
+        let words = opening_words(alloc, &plan)?;
+        let journal = Journal::new(alloc, plan.room())?;
+        let mut slots = Vec::with_capacity(alloc, 1)?;
+        slots.push_reserved(Some(journal));
+        match Table::new(alloc, words.as_slice(), slots, &plan) {
+            Ok((table, dealer)) => Ok((Domain { table, plan }, dealer)),
+            Err(Refused { slots: _ }) => Err(Memory),
+        }
+    }
+
+    // The processor of the next number.
+    fn deal(&self, seat: &mut Right, number: u32) -> Cpu
+        requires table { seat.old.table_id ≡ self.now.table.shared.table_id }
+        requires low { number < cpus_of self.now.plan }
+        requires dealer { seat.old.me.0 ≡ view (dealer self.now.plan number) no_calls no_ledger }
+        ensures table { seat.new.table_id ≡ seat.old.table_id }
+        ensures dealer { seat.new.me.0
+            ≡ view (dealer self.now.plan (number + 1)) no_calls no_ledger }
+        ensures cpu { IsDealt self.now number result }
+    {
+        let shared = &self.table.shared;
+        let number = shared.fetch_add::<Draw>(seat, 0, 1);
+        let seat = shared.split_seat::<Deal>(seat);
+        Cpu {
+            number: number as u32,
+            depth: 0,
+            queued: 0,
+            held: [false; 32],
+            waiting: [false; 32],
+            seat,
+        }
+    }
+}

@@ -1,0 +1,80 @@
+// Steps on the words of the ledger, by a processor that holds lock 0.
+ghost use Rattle.std.specs.Prelude.{◌≡◌, ◌<◌, ◌≤◌, ◌+◌, Some, None};
+ghost use Rattle.lk_domain.specs.Keeps.{holds_first, alone_first};
+ghost use Rattle.lk_domain.specs.Ledgers.{Out};
+ghost use Rattle.lk_domain.specs.Plans.{accounts_of};
+ghost use Rattle.lk_domain.specs.Seats.{IsOf, KeepsCalls, HasLoaded, HasSeen, HasStored, IsOut};
+ghost use Rattle.lk_domain.specs.Seats.{MayCome, CameHome, calls_of, ledger_of};
+
+use crate::cpu::Cpu;
+use crate::domain::Domain;
+use crate::journal::Journal;
+use crate::rule::{BringJournal, LoadBalance, LoadVersion, StoreBalance, TakeJournal};
+
+/// Loads a balance.
+pub fn load(cpu: &mut Cpu, domain: &Domain, account: u32) -> u64
+    requires domain { IsOf cpu.old domain.now }
+    requires account { account < accounts_of domain.now.plan }
+    requires held { holds_first (calls_of cpu.old) }
+    ensures rest { KeepsCalls cpu.old cpu.new }
+    ensures loaded { HasLoaded account cpu.old result cpu.new }
+{
+    let word = domain.balance_of(account);
+    domain.table.shared.load::<LoadBalance>(&mut cpu.seat, word)
+}
+
+/// Stores a balance, with the journal out.
+pub fn store(cpu: &mut Cpu, domain: &Domain, account: u32, amount: u64)
+    requires domain { IsOf cpu.old domain.now }
+    requires account { account < accounts_of domain.now.plan }
+    requires held { holds_first (calls_of cpu.old) }
+    requires out { (o : Out) × ((ledger_of cpu.old).out ≡ Some o) }
+    ensures rest { KeepsCalls cpu.old cpu.new }
+    ensures stored { HasStored account amount cpu.old cpu.new }
+{
+    let word = domain.balance_of(account);
+    domain
+        .table
+        .shared
+        .store::<StoreBalance>(&mut cpu.seat, word, amount);
+}
+
+/// The number of entries of the journal.
+pub fn version(cpu: &mut Cpu, domain: &Domain) -> u64
+    requires domain { IsOf cpu.old domain.now }
+    requires held { holds_first (calls_of cpu.old) }
+    ensures rest { KeepsCalls cpu.old cpu.new }
+    ensures seen { HasSeen cpu.old result cpu.new }
+{
+    domain.table.shared.load::<LoadVersion>(&mut cpu.seat, 1)
+}
+
+/// Takes the journal out, by a load of the version.
+pub fn journal_out(cpu: &mut Cpu, domain: &Domain) -> Journal
+    requires domain { IsOf cpu.old domain.now }
+    requires held { alone_first (calls_of cpu.old) }
+    requires home { (ledger_of cpu.old).out ≡ None }
+    ensures rest { KeepsCalls cpu.old cpu.new }
+    ensures out { IsOut domain.now.plan (ledger_of cpu.old) result (ledger_of cpu.new) }
+{
+    let table = &domain.table.shared;
+    table.load::<TakeJournal>(&mut cpu.seat, 1);
+    match table.exchange(&mut cpu.seat, 0, None) {
+        Some(journal) => journal,
+        None => unreachable!(),
+    }
+}
+
+/// Brings the journal home, by a store of the version.
+pub fn journal_home(cpu: &mut Cpu, domain: &Domain, journal: Journal)
+    requires domain { IsOf cpu.old domain.now }
+    requires held { holds_first (calls_of cpu.old) }
+    requires may { MayCome domain.now.plan cpu.old.number (ledger_of cpu.old) journal }
+    ensures rest { KeepsCalls cpu.old cpu.new }
+    ensures ledger { CameHome cpu.old.number (ledger_of cpu.old) journal (ledger_of cpu.new) }
+{
+    let table = &domain.table.shared;
+    let version = journal.entries.len() as u64;
+    drop(table.exchange(&mut cpu.seat, 0, Some(journal)));
+    table.store::<BringJournal>(&mut cpu.seat, 1, version);
+}

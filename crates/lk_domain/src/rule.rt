@@ -1,0 +1,102 @@
+// The rule of a domain's table, and what its steps tell.
+ghost use Rattle.lk_domain.specs.Calls.{no_calls};
+ghost use Rattle.lk_domain.specs.Ledgers.{no_ledger};
+ghost use Rattle.lk_domain.specs.Plays.{Makes, Draws, Loads, Sees, TakesJournal, Stores, Brings};
+ghost use Rattle.lk_domain.specs.Stand.{Stand};
+ghost use Rattle.lk_domain.specs.Views.{view, dealer, newcomer, nobody, own_number, joined};
+ghost use Rattle.lk_domain.specs.Views.{with_more};
+ghost use Rattle.lk_machine.specs.declared.setup.Verb.TheVariants.{Lock, Try, Unlock};
+
+use crate::journal::Journal;
+use crate::plan::Plan;
+use crate::view::View;
+use atomic_table::{Join, Play, Split, TableRule};
+
+pub struct Order;
+
+impl TableRule<Option<Journal>, View, Plan> for Order {
+    ghost holds = { λ plan. Stand plan };
+
+    ghost first = { λ plan. view (dealer plan 0) no_calls no_ledger };
+}
+
+// A step on a lock's word by a call of `lock`.
+pub struct Locks;
+
+impl Play<Option<Journal>, View> for Locks {
+    ghost then = { Makes Lock };
+}
+
+// The same by a call of `try_lock`.
+pub struct Tries;
+
+impl Play<Option<Journal>, View> for Tries {
+    ghost then = { Makes Try };
+}
+
+// The same by a call of `unlock`.
+pub struct Unlocks;
+
+impl Play<Option<Journal>, View> for Unlocks {
+    ghost then = { Makes Unlock };
+}
+
+// The first seat draws a number.
+pub struct Draw;
+
+impl Play<Option<Journal>, View> for Draw {
+    ghost then = { Draws };
+}
+
+// The first seat gives the number that it drew to a new seat.
+pub struct Deal;
+
+impl Split<View> for Deal {
+    ghost left = { λ v. view (dealer v.who.plan (own_number v.who.dealt)) no_calls no_ledger };
+
+    ghost right = { λ v. view (newcomer v.who.plan (own_number v.who.number)) no_calls v.ledger };
+}
+
+// A seat takes over the numbers of another.
+pub struct TakeOver;
+
+impl Join<View> for TakeOver {
+    ghost both = { λ v u. view (joined v.who u) v.calls (with_more v.ledger u.ledger.share) };
+
+    ghost spent = { view nobody no_calls no_ledger };
+}
+
+// A balance is loaded.
+pub struct LoadBalance;
+
+impl Play<Option<Journal>, View> for LoadBalance {
+    ghost then = { Loads };
+}
+
+// The version is loaded.
+pub struct LoadVersion;
+
+impl Play<Option<Journal>, View> for LoadVersion {
+    ghost then = { Sees };
+}
+
+// The journal is taken out, by a load of the version.
+pub struct TakeJournal;
+
+impl Play<Option<Journal>, View> for TakeJournal {
+    ghost then = { TakesJournal };
+}
+
+// A balance is stored.
+pub struct StoreBalance;
+
+impl Play<Option<Journal>, View> for StoreBalance {
+    ghost then = { Stores };
+}
+
+// The journal is brought home, by a store of the version.
+pub struct BringJournal;
+
+impl Play<Option<Journal>, View> for BringJournal {
+    ghost then = { Brings };
+}
