@@ -1,0 +1,122 @@
+-- What a step of a processor does to a call.
+use Rattle.std.proofs.Common.{◌≡◌, ℕ, ◌<◌, List, [], ◌∷◌, ◌++◌, Bool, true, false, eqb, refl, sym, ap, ◌∙◌, subst, arith}
+use Rattle.std.proofs.Common.{◌||◌}
+use Rattle.std.specs.Prelude.{if◌then◌else◌}
+use Rattle.lk_abs.specs.declared.holder.Manner.TheVariants.{Spins}
+use Rattle.lk_abs.specs.declared.names.LockName.{LockName}
+use Rattle.lk_machine.specs.declared.parts.Pc.{Pc}
+use Rattle.lk_machine.specs.declared.setup.Verb.{Verb}
+use Rattle.lk_domain.specs.Calls.{Mark, Calls, Takes, holds_in, waits_in, lock_name}
+use Rattle.lk_domain.specs.Ledgers.{Ledger, Look, turned}
+use Rattle.lk_domain.specs.Paths.{IsAt, HasTaken, HasMissed, Any, AreKept, Passes, is_busy, HasLooked}
+use Rattle.lk_domain.specs.Seats.{IsOf, KeepsRest, view_of, calls_of}
+use Rattle.lk_domain.specs.Waits.{WaitsAt, Moves, Gains, Misses}
+use Rattle.lk_domain.specs.declared.cpu.Cpu.{Cpu}
+use Rattle.lk_domain.specs.declared.domain.Domain.{Domain}
+use Rattle.lk_domain.proofs.Paths as path
+use Rattle.lk_domain.proofs.Ways.{IsSeat, Moved, Took, Missed}
+
+-- the seat of a processor of the domain
+pub seat_of : (d : Domain) (a : Cpu) → IsOf a d → IsSeat d.plan a.number (view_of a)
+seat_of d a of = record { plan = of.plan; number = a.numbered }
+
+pub still_of : (d : Domain) (a b : Cpu) → KeepsRest a b → IsOf a d → IsOf b d
+still_of d a b rest of =
+    record {
+      table = rest.same.table ∙ of.table;
+      plan = ap (λ (w : Rattle.lk_domain.specs.Who.Who). w.plan) rest.same.who ∙ of.plan;
+      low = subst (λ (n : ℕ). n < Rattle.lk_domain.specs.Plans.cpus_of d.plan) (sym rest.same.number) of.low;
+    }
+
+pub rest_both : (a b c : Cpu) → KeepsRest a b → KeepsRest b c → KeepsRest a c
+rest_both a b c h k =
+    record {
+      same = record {
+        table = k.same.table ∙ h.same.table;
+        id = k.same.id ∙ h.same.id;
+        number = k.same.number ∙ h.same.number;
+        who = k.same.who ∙ h.same.who;
+      };
+      slots = k.slots ∙ h.slots;
+    }
+
+module _ (d : Domain) (v : Verb) (l : ℕ) (old : Calls) (a b : Cpu) (rest : KeepsRest a b) where
+  pub moved : (c : Pc) → Moved d.plan a.number v l c old (view_of a) (view_of b) → Moves d v l c old a b
+  moved c m =
+      record {
+        waits = subst (λ (p : ℕ). IsAt d.plan.mode p v l c Any old (calls_of b)) (sym rest.same.number) m.at;
+        ledger = m.ledger;
+      }
+
+  pub took : Took d.plan a.number v l old (view_of a) (view_of b) → Gains d v l Spins old a b
+  took m =
+      record {
+        taken = subst (λ (p : ℕ). HasTaken d.plan.mode p v l Spins old (calls_of b)) (sym rest.same.number) m.taken;
+        ledger = m.ledger;
+      }
+
+  pub missed : Missed d.plan a.number v l old (view_of a) (view_of b) → Misses d v l old a b
+  missed m =
+      record {
+        missed = subst (λ (p : ℕ). HasMissed d.plan.mode p v l old (calls_of b)) (sym rest.same.number) m.missed;
+        ledger = m.ledger;
+      }
+
+  -- nested calls leave the call where it is
+  pub polled : (c : Pc) → WaitsAt d v l c old a → AreKept (calls_of a) (calls_of b) → WaitsAt d v l c old b
+  polled c at kept =
+      subst (λ (p : ℕ). IsAt d.plan.mode p v l c Any old (calls_of b)) (sym rest.same.number) (path.kept at kept)
+
+-- what nested calls leave of the ledger
+
+append_nil : {A : Type 0} (xs : List A) → xs ++ [] ≡ xs
+append_nil [] = refl
+append_nil (x ∷ xs) = ap (λ l. x ∷ l) (append_nil xs)
+
+append_more : {A : Type 0} (xs ys zs : List A) → (xs ++ ys) ++ zs ≡ xs ++ (ys ++ zs)
+append_more [] ys zs = refl
+append_more (x ∷ xs) ys zs = ap (λ l. x ∷ l) (append_more xs ys zs)
+
+pub passes_none : (b : Bool) (g h : Ledger) → h ≡ g → Passes b g h
+passes_none b g h e =
+    record {
+      share = ap (λ (x : Ledger). x.share) e;
+      own = ap (λ (x : Ledger). x.own) e;
+      out = ap (λ (x : Ledger). x.out) e;
+      look = ap (λ (x : Ledger). x.look) e;
+      seen = let z = ap (λ (x : Ledger). x.seen) e in omega arith;
+      more = [];
+      looks = ap (λ (x : Ledger). x.looks) e ∙ sym (append_nil g.looks);
+      still = λ _. e;
+    }
+
+pub passes_both : (b : Bool) (g h i : Ledger) → Passes b g h → Passes b h i → Passes b g i
+passes_both b g h i p q =
+    record {
+      share = q.share ∙ p.share;
+      own = q.own ∙ p.own;
+      out = q.out ∙ p.out;
+      look = q.look ∙ p.look;
+      seen = let x = p.seen in let y = q.seen in omega arith;
+      more = p.more ++ q.more;
+      looks = q.looks ∙ (ap (λ (xs : List Look). xs ++ q.more) p.looks ∙ append_more g.looks p.more q.more);
+      still = λ e. q.still e ∙ p.still e;
+    }
+
+-- a call that waits for the lock is at lock 0 where the call is, or was so before it
+pub busy_is : (d : Domain) (v : Verb) (l : ℕ) (c : Pc) (old : Calls) (a : Cpu) → WaitsAt d v l c old a
+    → is_busy (calls_of a) ≡ ((eqb l 0) || is_busy old)
+busy_is d v l c old a at =
+    (λ i. holds_in (at.holds i) 0 || waits_in (at.frames i) 0)
+    ∙ (ap (λ (z : LockName). holds_in old.holds 0 || (if eqb z.index 0 then true else waits_in old.frames 0)) at.lock
+    ∙ by (holds_in old.holds 0) (eqb l 0) (waits_in old.frames 0))
+  where
+    by : (x y z : Bool) → (x || (if y then true else z)) ≡ (y || (x || z))
+    by true true z = refl
+    by true false z = refl
+    by false true z = refl
+    by false false z = refl
+
+pub looked : (l : ℕ) (old : Calls) (last : List Mark) (g h i : Ledger) → Passes ((eqb l 0) || is_busy old) g h
+    → i ≡ turned h (lock_name l) (Takes Spins) last → HasLooked l Spins old last g i
+looked l old last g h i p e = record { between = h; passes = p; now = e }

@@ -1,0 +1,17 @@
+use Rattle.lk_domain.specs.Seats.{view_of}
+use Rattle.lk_domain.proofs.Ways as way
+use Rattle.lk_run.proofs.Steps.{seat_of}
+use Rattle.lk_run.proofs.spin.unlock.Goals as goal
+
+pub release-requires-clause-row : goal.release-requires-clause-row
+release-requires-clause-row c =
+    let d = c.args.domain.now in
+    let a = c.args.cpu.now in
+    way.acts_release d.plan a.number c.args.lock.index (view_of a) (seat_of d a c.requires.domain) d.lawful.awake a.apart c.requires.few c.requires.held
+
+pub returns-clause-freed : goal.returns-clause-freed
+returns-clause-freed c =
+    let d = c.args.domain.now in
+    let a = c.args.cpu.now in
+    let t = way.frees d.plan a.number c.args.lock.index a.seat.me c.release.new.cpu.seat.me c.release.result (seat_of d a c.requires.domain) d.lawful.awake a.apart c.release.ensures.step.by in
+    record { freed = t.freed; ledger = t.ledger }

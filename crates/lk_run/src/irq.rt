@@ -1,0 +1,34 @@
+// What may interrupt a call that waits.
+ghost use Rattle.std.specs.Prelude.{ℕ, Option, None};
+ghost use Rattle.lk_domain.specs.Paths.{AreKept, Passes, is_busy};
+ghost use Rattle.lk_domain.specs.Seats.{IsOf, KeepsRest, calls_of, ledger_of};
+ghost use Rattle.lk_run.specs.Polls.{Rises};
+
+use lk_domain::{Cpu, Domain};
+use std::sync::Wait;
+
+/// What may interrupt a call that waits. It may take and free other locks on the processor that it
+/// is lent.
+pub trait Irq {
+    // How often it was polled, where it tells it.
+    ghost polls: { Self → Option ℕ };
+
+    /// Is called between two looks of a call that waits.
+    fn poll<R: Wait>(&mut self, cpu: &mut Cpu, rt: &R, domain: &Domain)
+        requires { IsOf cpu.old domain.now }
+        ensures rest { KeepsRest cpu.old cpu.new }
+        ensures calls { AreKept (calls_of cpu.old) (calls_of cpu.new) }
+        ensures ledger { Passes (is_busy (calls_of cpu.old)) (ledger_of cpu.old)
+            (ledger_of cpu.new) }
+        ensures polls { Rises (polls self.old) (polls self.new) };
+}
+
+/// No interrupts.
+#[derive(Clone, Copy, Drop)]
+pub struct NoIrq;
+
+impl Irq for NoIrq {
+    ghost polls = { λ _. None };
+
+    fn poll<R: Wait>(&mut self, _cpu: &mut Cpu, _rt: &R, _domain: &Domain) {}
+}
