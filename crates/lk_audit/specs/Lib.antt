@@ -1,0 +1,4 @@
+pub mod Lawful
+pub mod Auditor
+pub mod Stands
+pub mod Outcome

@@ -1,0 +1,96 @@
+// The header, read line by line.
+ghost use Rattle.std.specs.Prelude.{◌≡◌, ◌≤◌, ◌<◌, ℕ, List, Option, IfOk, IfErr, IfSome, OnOk, Ok, None, true, false};
+ghost use Rattle.lk_text.specs.Reader.{looked_at, is_ended, GaveLine, MetEnd, GaveFault};
+ghost use Rattle.lk_forms.specs.Grammar.{read, has_go};
+ghost use Rattle.lk_forms.specs.Reader.{ReadsOn, reading, step_of};
+ghost use Rattle.lk_audit_forms.specs.Grammar.{in_header};
+ghost use Rattle.lk_audit.specs.Stands.{Stands, IsSaid, HeaderTurns, FaultStops};
+
+use crate::answers::AuditFault;
+use crate::faults::{cut, refused};
+use lk_forms::{HeaderReader, HeaderStep, LineRefusal};
+use lk_text::{LineFault, LineReader, Source};
+
+// What the header makes of the next line, if there is one.
+fn next_step<S: Source>(
+    header: &mut HeaderReader,
+    reader: &mut LineReader,
+    source: &mut S,
+) -> Result<Option<Result<HeaderStep, LineRefusal>>, LineFault>
+    requires { has_go (reading header.old) ≡ false }
+    ensures given { IfOk result (λ given. IfSome given (λ said. (line : List ℕ)
+        × GaveLine reader.old reader.new (S.left source.old) (S.left source.new) line
+        × ReadsOn (read (reading header.old) line) (reading header.old)
+        (reading header.new) said)) }
+    ensures end { result ≡ Ok None
+        → MetEnd reader.old reader.new (S.left source.old) (S.left source.new)
+        × (reading header.new ≡ reading header.old) }
+    ensures fault { IfErr result
+        (GaveFault reader.old reader.new (S.left source.old) (S.left source.new)
+        (S.faults source.old) (S.faults source.new)) }
+    ensures idle { is_ended reader.old ≡ true → source.new ≡ source.old }
+    ensures later { S.faults source.old ≤ S.faults source.new }
+{
+    match reader.next_line(source) {
+        Ok(Some(line)) => Ok(Some(header.line(line))),
+        Ok(None) => Ok(None),
+        Err(fault) => Err(fault),
+    }
+}
+
+// Reads one line of the header.
+fn read_step<S: Source>(
+    header: &mut HeaderReader,
+    reader: &mut LineReader,
+    source: &mut S,
+) -> Result<HeaderStep, AuditFault>
+    requires { has_go (reading header.old) ≡ false }
+    ensures turns { (input : Option (List ℕ))
+        → Stands input reader.old (S.left source.old) (in_header (reading header.old))
+        → HeaderTurns input reader.new (S.left source.new) (S.faults source.old)
+        (S.faults source.new) (in_header (reading header.new)) result }
+    ensures said { OnOk result
+        (IsSaid (reading header.old) → IsSaid (reading header.new)) }
+    ensures step { IfOk result (λ step. step ≡ step_of (reading header.new)) }
+    ensures looked { OnOk result (looked_at reader.old < looked_at reader.new) }
+    ensures later { S.faults source.old ≤ S.faults source.new }
+{
+    match next_step(header, reader, source) {
+        Ok(Some(Ok(step))) => Ok(step),
+        Ok(Some(Err(why))) => Err(refused(reader.lines(), why)),
+        Ok(None) => Err(AuditFault::BadInput {
+            line: reader.lines() + 1,
+            fault: header.ending(),
+        }),
+        Err(fault) => Err(cut(reader.lines() + 1, fault)),
+    }
+}
+
+/// Reads the header up to the line `go`.
+pub(crate) fn read_header<S: Source>(
+    header: &mut HeaderReader,
+    reader: &mut LineReader,
+    source: &mut S,
+) -> Result<(), AuditFault>
+    requires { has_go (reading header.old) ≡ false }
+    ensures stands { OnOk result
+        ((input : Option (List ℕ))
+        → Stands input reader.old (S.left source.old) (in_header (reading header.old))
+        → Stands input reader.new (S.left source.new) (in_header (reading header.new))) }
+    ensures said { OnOk result
+        (IsSaid (reading header.old) → IsSaid (reading header.new)) }
+    ensures gone { OnOk result (has_go (reading header.new) ≡ true) }
+    ensures refused { IfErr result
+        (λ why. (input : Option (List ℕ))
+        → Stands input reader.old (S.left source.old) (in_header (reading header.old))
+        → FaultStops input (S.faults source.old) (S.faults source.new) why) }
+    ensures later { S.faults source.old ≤ S.faults source.new }
+{
+    'lines: loop {
+        match read_step(header, reader, source) {
+            Ok(HeaderStep::Go) => return Ok(()),
+            Ok(HeaderStep::More) => {}
+            Err(fault) => return Err(fault),
+        }
+    }
+}

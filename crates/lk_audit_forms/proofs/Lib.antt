@@ -1,0 +1,6 @@
+pub mod Marks
+pub mod Numbers
+pub mod Names
+pub mod Whats
+pub mod Events
+pub mod Cuts

@@ -1,0 +1,18 @@
+//! The forms of text of the word `audit`: the header of a trace, and behind it a transcript from
+//! anybody. Its `specs/` say what each line tells behind the lines before it, or why it is refused;
+//! that is exactly what the printer of transcripts writes.
+#![tactic(auto)]
+
+mod answers;
+mod closing;
+mod event;
+mod laws;
+mod parts;
+mod ranges;
+mod texts;
+
+pub use answers::{BreachName, Told};
+pub use closing::{CLOSING_LINES, line_told};
+pub use laws::events_are_read_as_printed;
+pub use ranges::read_event;
+pub use texts::{breach_line, lawful_line};
