@@ -1,0 +1,13 @@
+pub mod Tells
+pub mod Facts
+pub mod Acts
+pub mod Header
+pub mod Queues
+pub mod Histories
+pub mod Runs
+pub mod Plain
+pub mod Behind
+pub mod Closed
+pub mod InRange
+pub mod Heads
+pub mod Accepted
