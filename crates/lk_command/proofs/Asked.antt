@@ -7,9 +7,10 @@ use Rattle.lk_stream.specs.Outside.{Outside}
 use Rattle.lk_replay.specs.Outcome.{Unwritten}
 use Rattle.lk_gen.specs.Generated.{generated}
 use Rattle.lk_words.specs.declared.asked.Reading.{Reading}
-use Rattle.lk_words.specs.declared.asked.Reading.TheVariants.{Replay, Osq, Ledger, Gen, Load}
+use Rattle.lk_words.specs.declared.asked.Reading.TheVariants.{Replay, Osq, Audit, Ledger, Gen, Load}
 use Rattle.lk_command.specs.Args.{AreRead, Asks, AsksNothing, FoundNoMemory}
 use Rattle.lk_command.specs.OsqRuns.{OsqRuns}
+use Rattle.lk_command.specs.Audits.{Audits}
 use Rattle.lk_command.specs.Means.{CameTo, Does, Replays, Writes, closing_of}
 use Rattle.lk_command.specs.declared.status.Status.{Status}
 use Rattle.lk_command.specs.declared.status.Status.TheVariants as status
@@ -30,23 +31,28 @@ module _ {X Z : Type 0} (bytes : X → List ℕ) where
   nothing_unread args unread = record {
     no_replay = unread (Some Replay);
     no_osq = unread (Some Osq);
+    no_audit = unread (Some Audit);
     no_gen = λ start. unread (Some (Gen start));
     no_load = λ start. unread (Some (Load start));
   }
 
   module _ (args : Result (IntoIter X Z) Error) (same_source same_sink : Type 0) (old new : Outside) (came : Status) where
     -- words with another reading ask for nothing
-    nothing : (r : Option Reading) → AreRead r bytes args → ¬ (r ≡ Some Replay) → ¬ (r ≡ Some Osq) → ((start : ℕ) → ¬ (r ≡ Some (Gen start))) → ((start : ℕ) → ¬ (r ≡ Some (Load start)))
+    nothing : (r : Option Reading) → AreRead r bytes args → ¬ (r ≡ Some Replay) → ¬ (r ≡ Some Osq) → ¬ (r ≡ Some Audit) → ((start : ℕ) → ¬ (r ≡ Some (Gen start))) → ((start : ℕ) → ¬ (r ≡ Some (Load start)))
         → AsksNothing (λ q. Asks q bytes args)
-    nothing r read replay osq gens loads = record {
+    nothing r read replay osq audit gens loads = record {
       no_replay = λ asks. replay (one_reading args r Replay read asks);
       no_osq = λ asks. osq (one_reading args r Osq read asks);
+      no_audit = λ asks. audit (one_reading args r Audit read asks);
       no_gen = λ start asks. gens start (one_reading args r (Gen start) read asks);
       no_load = λ start asks. loads start (one_reading args r (Load start) read asks);
     }
 
     pub replays : (r : Option Reading) → AreRead r bytes args → CameTo r same_source same_sink old new came → Asks Replay bytes args → Replays old new came
     replays r read done asks = subst (λ q. CameTo q same_source same_sink old new came) (one_reading args r Replay read asks) done
+
+    pub runs_audit : (r : Option Reading) → AreRead r bytes args → CameTo r same_source same_sink old new came → Asks Audit bytes args → Audits old new came
+    runs_audit r read done asks = subst (λ q. CameTo q same_source same_sink old new came) (one_reading args r Audit read asks) done
 
     pub runs_osq : (r : Option Reading) → AreRead r bytes args → CameTo r same_source same_sink old new came → Asks Osq bytes args → OsqRuns old new came
     runs_osq r read done asks = subst (λ q. CameTo q same_source same_sink old new came) (one_reading args r Osq read asks) done
@@ -64,16 +70,18 @@ module _ {X Z : Type 0} (bytes : X → List ℕ) where
     untouched None read done asks_nothing = (done.1, done.2)
     untouched (Some Replay) read done asks_nothing = absurd (asks_nothing.no_replay read)
     untouched (Some Osq) read done asks_nothing = absurd (asks_nothing.no_osq read)
+    untouched (Some Audit) read done asks_nothing = absurd (asks_nothing.no_audit read)
     untouched (Some Ledger) read done asks_nothing = (done.1, done.2)
     untouched (Some (Gen start)) read done asks_nothing = absurd (asks_nothing.no_gen start read)
     untouched (Some (Load start)) read done asks_nothing = absurd (asks_nothing.no_load start read)
 
     -- only words that ask for nothing come to the usage line
     usage_only : (r : Option Reading) → AreRead r bytes args → CameTo r same_source same_sink old new came → came ≡ status.Usage → AsksNothing (λ q. Asks q bytes args)
-    usage_only None read done is = nothing None read (λ e. cc) (λ e. cc) (λ start e. cc) (λ start e. cc)
+    usage_only None read done is = nothing None read (λ e. cc) (λ e. cc) (λ e. cc) (λ start e. cc) (λ start e. cc)
     usage_only (Some Replay) read done is = absurd (rw is at done.means)
     usage_only (Some Osq) read done is = absurd (rw is at done.means)
-    usage_only (Some Ledger) read done is = nothing (Some Ledger) read (λ e. cc) (λ e. cc) (λ start e. cc) (λ start e. cc)
+    usage_only (Some Audit) read done is = absurd (rw is at done.means)
+    usage_only (Some Ledger) read done is = nothing (Some Ledger) read (λ e. cc) (λ e. cc) (λ e. cc) (λ start e. cc) (λ start e. cc)
     usage_only (Some (Gen start)) read done is = absurd (rw is at done.1)
     usage_only (Some (Load start)) read done is = absurd (rw is at done.1)
 
@@ -82,6 +90,7 @@ module _ {X Z : Type 0} (bytes : X → List ℕ) where
     usage_comes None read done asks_nothing = done.0
     usage_comes (Some Replay) read done asks_nothing = absurd (asks_nothing.no_replay read)
     usage_comes (Some Osq) read done asks_nothing = absurd (asks_nothing.no_osq read)
+    usage_comes (Some Audit) read done asks_nothing = absurd (asks_nothing.no_audit read)
     usage_comes (Some Ledger) read done asks_nothing = done.0
     usage_comes (Some (Gen start)) read done asks_nothing = absurd (asks_nothing.no_gen start read)
     usage_comes (Some (Load start)) read done asks_nothing = absurd (asks_nothing.no_load start read)
@@ -102,6 +111,14 @@ not_replayed at = record { means = unwritten at; complete = λ bytes setup acts 
 osq_not_run : (at : Outside) → OsqRuns at at status.Memory
 osq_not_run at = record { means = Keeps-refl at.held; complete = λ bytes said left says reads writes. inr refl; exact = λ bytes line why said left says reads writes. inr refl }
 
+not_audited : (at : Outside) → Audits at at status.Memory
+not_audited at = record {
+  means = Keeps-refl at.held;
+  complete = λ bytes said left says lawful reads writes. inr refl;
+  breaks = λ bytes line breach left is reads writes. inr refl;
+  exact = λ bytes line why said left says lawful reads writes. inr refl;
+}
+
 module _ {X Z : Type 0} (bytes : X → List ℕ) (same_source same_sink : Type 0) (at : Outside) (source : same_source) (sink : same_sink) where
   no_memory_left : (args : Result (IntoIter X Z) Error) (came : Status) → came ≡ status.Memory
       → Does (λ q. Asks q bytes args) (FoundNoMemory args) same_source same_sink at at came
@@ -112,6 +129,7 @@ module _ {X Z : Type 0} (bytes : X → List ℕ) (same_source same_sink : Type 0
     memory = λ memory. sink;
     replays = λ asks. rw is (not_replayed at);
     osq = λ asks. rw is (osq_not_run at);
+    audits = λ asks. rw is (not_audited at);
     generates = λ start asks. (source, rw is (unwritten at));
     loads = λ start asks. (source, rw is (unwritten at));
   }
@@ -125,6 +143,7 @@ module _ {X Z : Type 0} (bytes : X → List ℕ) (same_source same_sink : Type 0
     memory = λ memory. sink;
     replays = λ asks. absurd (unread (Some Replay) asks);
     osq = λ asks. absurd (unread (Some Osq) asks);
+    audits = λ asks. absurd (unread (Some Audit) asks);
     generates = λ start asks. absurd (unread (Some (Gen start)) asks);
     loads = λ start asks. absurd (unread (Some (Load start)) asks);
   }

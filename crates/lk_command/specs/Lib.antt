@@ -1,4 +1,5 @@
 pub mod Status
 pub mod Args
 pub mod OsqRuns
+pub mod Audits
 pub mod Means

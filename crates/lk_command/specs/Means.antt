@@ -16,9 +16,10 @@ use Rattle.lk_replay.specs.declared.answers.Summary.{Summary}
 use Rattle.lk_forms.specs.Texts.{closing}
 use Rattle.lk_gen.specs.Generated.{generated, generated_setup, generated_acts}
 use Rattle.lk_words.specs.declared.asked.Reading.{Reading}
-use Rattle.lk_words.specs.declared.asked.Reading.TheVariants.{Replay, Osq, Gen, Load}
+use Rattle.lk_words.specs.declared.asked.Reading.TheVariants.{Replay, Osq, Audit, Gen, Load}
 use Rattle.lk_command.specs.Args.{AsksNothing}
 use Rattle.lk_command.specs.OsqRuns.{OsqRuns}
+use Rattle.lk_command.specs.Audits.{Audits}
 use Rattle.lk_command.specs.Status.{note_of, status_of}
 use Rattle.lk_command.specs.declared.status.Status.{Status}
 use Rattle.lk_command.specs.declared.status.Status.TheVariants as status
@@ -29,6 +30,7 @@ Means old new status.Done = (summary : Summary) × Replayed old new summary
 Means old new status.Usage = ⊥
 Means old new (status.BadInput line why) = RefusedAt old new line (Bad why)
 Means old new (status.Limit line which) = RefusedAt old new line (Limit which)
+Means old new (status.Unlawful line) = ⊥
 Means old new status.ReadFault = CutByRead old new
 Means old new status.WriteFault = CutByWrite old new
 Means old new status.Memory = Unwritten old new
@@ -63,6 +65,7 @@ pub record Replays (old new : Outside) (came : Status) : Type 0 where
 abbrev pub CameTo : Option Reading → Type 0 → Type 0 → Outside → Outside → Status → Type 0
 CameTo (Some Replay) same_source same_sink old new came = Replays old new came
 CameTo (Some Osq) same_source same_sink old new came = OsqRuns old new came
+CameTo (Some Audit) same_source same_sink old new came = Audits old new came
 CameTo (Some (Gen start)) same_source same_sink old new came = same_source × Writes old new (generated start) came
 CameTo (Some (Load start)) same_source same_sink old new came = same_source × Writes old new (closing_of start) came
 CameTo _ same_source same_sink old new came = (came ≡ status.Usage) × same_source × same_sink
@@ -76,6 +79,7 @@ pub record Does (asks : Reading → Type 0) (no_memory same_source same_sink : T
   pub memory : came ≡ status.Memory → same_sink
   pub replays : asks Replay → Replays old new came
   pub osq : asks Osq → OsqRuns old new came
+  pub audits : asks Audit → Audits old new came
   pub generates : (start : ℕ) → asks (Gen start) → same_source × Writes old new (generated start) came
   pub loads : (start : ℕ) → asks (Load start) → same_source × Writes old new (closing_of start) came
 

@@ -22,6 +22,7 @@ OsqMeans old new status.Done = (acts : ℕ) × OsqDone old new acts
 OsqMeans old new status.Usage = ⊥
 OsqMeans old new (status.BadInput line why) = RefusedAt osq_grammar old new line (Bad why)
 OsqMeans old new (status.Limit line which) = RefusedAt osq_grammar old new line (Limit which)
+OsqMeans old new (status.Unlawful line) = ⊥
 OsqMeans old new status.ReadFault = CutByRead osq_grammar old new
 OsqMeans old new status.WriteFault = CutByWrite osq_grammar old new
 OsqMeans old new status.Memory = Keeps old.held new.held

@@ -20,6 +20,7 @@ number_of status.ReadFault = 4
 number_of status.WriteFault = 5
 number_of status.Memory = 6
 number_of (status.Limit line which) = 7
+number_of (status.Unlawful line) = 8
 
 -- the status of a fault
 abbrev pub status_at : ReplayFault → Status
@@ -78,4 +79,5 @@ note_of (status.BadInput line why) = codes "bad input line " ++ (decimal line ++
 note_of status.ReadFault = codes "read fault\n"
 note_of status.WriteFault = codes "write fault\n"
 note_of status.Memory = codes "out of memory\n"
+note_of (status.Unlawful line) = codes "unlawful line " ++ (decimal line ++ codes "\n")
 note_of (status.Limit line which) = codes "limit line " ++ (decimal line ++ (codes ": " ++ (which_name which ++ codes "\n")))

@@ -16,9 +16,11 @@ ghost use Rattle.lk_words.specs.declared.asked.Reading.{Reading};
 ghost use Rattle.lk_command.specs.Args.{AreRead, Asks, AsksReplay, AsksNothing, FoundNoMemory};
 ghost use Rattle.lk_command.specs.Status.{note_of, status_of};
 ghost use Rattle.lk_command.specs.OsqRuns.{OsqRuns};
+ghost use Rattle.lk_command.specs.Audits.{Audits};
 ghost use Rattle.lk_command.specs.Means.{CameTo, Does, Means, Writes, IsSaid, closing_of};
 ghost use Rattle.lk_command.specs.declared.status.Status.{Status};
 
+use crate::auditing::run_audit;
 use crate::load::load;
 use crate::notes::note;
 use crate::spin_queue::run_osq;
@@ -92,6 +94,7 @@ fn perform<S: Source, K: Sink>(
     match asked {
         Some(Reading::Replay) => Status::of(replay(alloc, source, sink)),
         Some(Reading::Osq) => run_osq(alloc, source, sink),
+        Some(Reading::Audit) => run_audit(alloc, source, sink),
         Some(Reading::Gen(start)) => Status::of_put(generate(start, sink)),
         Some(Reading::Load(start)) => load(alloc, start, sink),
         Some(Reading::Ledger) | None => Status::Usage,
@@ -119,7 +122,7 @@ fn obey<S: Source, K: Sink>(
 
 /// Does what the program's arguments ask, and notes why not. `replay` reads a trace from the source
 /// and writes its transcript to the sink, and `osq` does so with a run of the optimistic spin queue;
-/// `gen n` writes the generated trace of the start number, and `load n` replays that trace in memory
+/// `audit` judges a transcript from anybody, and writes its verdict; `gen n` writes the generated trace of the start number, and `load n` replays that trace in memory
 /// and writes the closing lines. `ledger` is to come: it gets the usage line so far.
 pub fn run<S: Source, K: Sink, N: Sink>(
     alloc: Global,
@@ -169,6 +172,14 @@ pub fn run<S: Source, K: Sink, N: Sink>(
     // The same of a run of the spin queue, on its grammar; Done says that its history is lawful.
     ensures osq { Asks Reading.Osq string_bytes args
         → OsqRuns (outside (S.left source.old) (S.faults source.old) (K.held sink.old)
+        (K.faults sink.old))
+        (outside (S.left source.new) (S.faults source.new) (K.held sink.new)
+        (K.faults sink.new)) result }
+
+    // A transcript from anybody, behind the header of a trace, is judged: Done says that its
+    // history is lawful, and Unlawful at which line it first is not.
+    ensures audits { Asks Reading.Audit string_bytes args
+        → Audits (outside (S.left source.old) (S.faults source.old) (K.held sink.old)
         (K.faults sink.old))
         (outside (S.left source.new) (S.faults source.new) (K.held sink.new)
         (K.faults sink.new)) result }

@@ -2,6 +2,7 @@
 //! an exit status, with a line that says why where it is not done.
 #![tactic(auto)]
 
+mod auditing;
 mod command;
 mod exit;
 mod load;

@@ -64,6 +64,18 @@ fn refusal_note(start: &[u8], line: u64, name: &[u8]) -> LineBuf
     note
 }
 
+// The line of an unlawful history.
+#[tactic(auto, using(lk_text::proofs::Decimal::decimal_short))]
+fn unlawful_note(line: u64) -> LineBuf
+    ensures { line_text result ≡ codes "unlawful line " ++ (decimal line ++ codes "\n") }
+{
+    let mut note = LineBuf::new();
+    note.word(b"unlawful line ");
+    note.number(line);
+    note.word(b"\n");
+    note
+}
+
 // Writes a note. What can't be written is left out.
 fn say<N: Sink>(notes: &mut N, text: &[u8])
     ensures { IsSaid (N.held notes.old) (N.held notes.new) (N.faults notes.old)
@@ -92,6 +104,10 @@ pub fn note<N: Sink>(notes: &mut N, status: Status)
         }
         Status::Limit { line, which } => {
             let text = refusal_note(b"limit line ", line, limit_name(which));
+            say(notes, text.bytes());
+        }
+        Status::Unlawful { line } => {
+            let text = unlawful_note(line);
             say(notes, text.bytes());
         }
     }

@@ -1,6 +1,7 @@
 // What a run of the program came to.
 ghost use Rattle.std.specs.Prelude.{◌≡◌};
 
+use lk_audit::AuditFault;
 use lk_forms::{Fault, Which};
 use lk_stream::ReplayFault;
 use lk_text::WriteFault;
@@ -22,10 +23,13 @@ pub enum Status {
     Memory,
     /// This line passes a limit.
     Limit { line: u64, which: Which },
+    /// This line is the first that breaks an audited history.
+    Unlawful { line: u64 },
 }
 
 impl Status {
     ghost use Rattle.lk_command.specs.Status.{number_of, came_to, status_of_put};
+    ghost use Rattle.lk_command.specs.Audits.{status_audited};
 
     /// The program's exit status.
     pub fn number(&self) -> u8
@@ -39,6 +43,7 @@ impl Status {
             Status::WriteFault => 5,
             Status::Memory => 6,
             Status::Limit { .. } => 7,
+            Status::Unlawful { .. } => 8,
         }
     }
 
@@ -53,6 +58,21 @@ impl Status {
             Err(ReplayFault::ReadFault) => Status::ReadFault,
             Err(ReplayFault::WriteFault) => Status::WriteFault,
             Err(ReplayFault::Memory) => Status::Memory,
+        }
+    }
+
+    /// What an audit came to.
+    pub fn of_audit(answer: Result<u64, AuditFault>) -> Status
+        ensures { result ≡ status_audited answer }
+    {
+        match answer {
+            Ok(_) => Status::Done,
+            Err(AuditFault::BadInput { line, fault }) => Status::BadInput { line, fault },
+            Err(AuditFault::Limit { line, which }) => Status::Limit { line, which },
+            Err(AuditFault::Breach { line, .. }) => Status::Unlawful { line },
+            Err(AuditFault::ReadFault) => Status::ReadFault,
+            Err(AuditFault::WriteFault) => Status::WriteFault,
+            Err(AuditFault::Memory) => Status::Memory,
         }
     }
 

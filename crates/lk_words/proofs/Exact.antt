@@ -75,13 +75,13 @@ fault_by turned w =
     (check_fault whole.top (finished whole.top.rules w.held) (is_some (entered whole w.stopped))))))
 
 -- the words go to the command
-record Enters (name : Text) (s : Shape) : Type 0 where
+record GoesInto (name : Text) (s : Shape) : Type 0 where
   fault : (rest : List Text) → fault_of qlock (name ∷ rest) ≡ or_else (below s rest) []
   found : (rest : List Text) → subcommand_of qlock (name ∷ rest) ≡ Some (name, rows_after s.rules [] rest)
 
 enters : (name : Text) (s : Shape) → walked whole.top.rules names start name ≡ at_command name [] → turn_fault whole.top names start name ≡ []
     → ((rest : List Text) → fault_by [] (at_command name rest) ≡ or_else (below s rest) [])
-    → ((rest : List Text) → entered whole (Some (name, rest)) ≡ Some (name, rows_after s.rules [] rest)) → Enters name s
+    → ((rest : List Text) → entered whole (Some (name, rest)) ≡ Some (name, rows_after s.rules [] rest)) → GoesInto name s
 unfolding walk_fault
 enters name s first quiet below_is found_is = record { fault = fault; found = found }
   where
@@ -98,23 +98,27 @@ enters name s first quiet below_is found_is = record { fault = fault; found = fo
     found : (rest : List Text) → subcommand_of qlock (name ∷ rest) ≡ Some (name, rows_after s.rules [] rest)
     found rest = ap (λ w. entered whole w.stopped) (walk_is rest) ∙ found_is rest
 
-replay_enters : Enters (codes "replay") (plain_built (codes "replay"))
+replay_enters : GoesInto (codes "replay") (plain_built (codes "replay"))
 unfolding clap_on_literals
 replay_enters = enters (codes "replay") (plain_built (codes "replay")) refl refl (λ rest. refl) (λ rest. refl)
 
-osq_enters : Enters (codes "osq") (plain_built (codes "osq"))
+osq_enters : GoesInto (codes "osq") (plain_built (codes "osq"))
 unfolding clap_on_literals
 osq_enters = enters (codes "osq") (plain_built (codes "osq")) refl refl (λ rest. refl) (λ rest. refl)
 
-ledger_enters : Enters (codes "ledger") (plain_built (codes "ledger"))
+audit_enters : GoesInto (codes "audit") (plain_built (codes "audit"))
+unfolding clap_on_literals
+audit_enters = enters (codes "audit") (plain_built (codes "audit")) refl refl (λ rest. refl) (λ rest. refl)
+
+ledger_enters : GoesInto (codes "ledger") (plain_built (codes "ledger"))
 unfolding clap_on_literals
 ledger_enters = enters (codes "ledger") (plain_built (codes "ledger")) refl refl (λ rest. refl) (λ rest. refl)
 
-gen_enters : Enters (codes "gen") (numbered_built (codes "gen"))
+gen_enters : GoesInto (codes "gen") (numbered_built (codes "gen"))
 unfolding clap_on_literals
 gen_enters = enters (codes "gen") (numbered_built (codes "gen")) refl refl (λ rest. refl) (λ rest. refl)
 
-load_enters : Enters (codes "load") (numbered_built (codes "load"))
+load_enters : GoesInto (codes "load") (numbered_built (codes "load"))
 unfolding clap_on_literals
 load_enters = enters (codes "load") (numbered_built (codes "load")) refl refl (λ rest. refl) (λ rest. refl)
 
@@ -153,11 +157,11 @@ number_more name (b ∷ v) (c ∷ u) vs other more = simp (other, more) tt
 -- another word is no command
 
 stray : (w : Text) (rest : List Text) → is_flag w ≡ false → bytes_eq (codes "replay") w ≡ false → bytes_eq (codes "osq") w ≡ false
-    → bytes_eq (codes "ledger") w ≡ false → bytes_eq (codes "gen") w ≡ false → bytes_eq (codes "load") w ≡ false
+    → bytes_eq (codes "audit") w ≡ false → bytes_eq (codes "ledger") w ≡ false → bytes_eq (codes "gen") w ≡ false → bytes_eq (codes "load") w ≡ false
     → IsFilled (fault_of qlock (w ∷ rest))
 unfolding clap_on_literals
-stray [] rest other r o l g d = tt
-stray (b ∷ w) rest other r o l g d = simp (other, r, o, l, g, d) tt
+stray [] rest other r o a l g d = tt
+stray (b ∷ w) rest other r o a l g d = simp (other, r, o, a, l, g, d) tt
 
 -- the same test the other way round
 turned_round : (name w : Text) → bytes_eq name w ≡ false → bytes_eq w name ≡ false
@@ -168,11 +172,11 @@ turned_round name w differ = by_test (bytes_eq w name) refl
     by_test false same = same
 
 reads_none : (w : Text) (rest : List Text) → bytes_eq w (codes "replay") ≡ false → bytes_eq w (codes "osq") ≡ false
-    → bytes_eq w (codes "ledger") ≡ false → bytes_eq w (codes "gen") ≡ false → bytes_eq w (codes "load") ≡ false
+    → bytes_eq w (codes "audit") ≡ false → bytes_eq w (codes "ledger") ≡ false → bytes_eq w (codes "gen") ≡ false → bytes_eq w (codes "load") ≡ false
     → reading_of (w ∷ rest) ≡ None
-reads_none w [] r o l g d = rw (r, o, l) refl
-reads_none w (v ∷ []) r o l g d = rw (g, d) refl
-reads_none w (v ∷ u ∷ rest) r o l g d = refl
+reads_none w [] r o a l g d = rw (r, o, a, l) refl
+reads_none w (v ∷ []) r o a l g d = rw (g, d) refl
+reads_none w (v ∷ u ∷ rest) r o a l g d = refl
 
 or_false : (a b : Bool) → (a || b) ≡ false → (a ≡ false) × (b ≡ false)
 or_false true b is = cc
@@ -186,7 +190,7 @@ plain_unread : (name v : Text) (us : List Text) → ((t : Option ℕ) → with_s
 plain_unread name v [] no_number = no_number (start_of v)
 plain_unread name v (u ∷ us) no_number = refl
 
-plain_exact : (name : Text) (rest : List Text) → list_any is_flag rest ≡ false → Enters name (plain_built name)
+plain_exact : (name : Text) (rest : List Text) → list_any is_flag rest ≡ false → GoesInto name (plain_built name)
     → said_of (Some (name, [])) ≡ reading_of (name ∷ []) → ((t : Option ℕ) → with_start name t ≡ None) → IsExact (name ∷ rest)
 plain_exact name [] plain_words enters_it said no_number = taken (enters_it.fault [] ∙ plain_alone name) (ap said_of (enters_it.found []) ∙ said)
 plain_exact name (v ∷ vs) plain_words enters_it said no_number =
@@ -197,6 +201,9 @@ replay_exact rest plain_words = plain_exact (codes "replay") rest plain_words re
 
 osq_exact : (rest : List Text) → list_any is_flag rest ≡ false → IsExact (codes "osq" ∷ rest)
 osq_exact rest plain_words = plain_exact (codes "osq") rest plain_words osq_enters refl (λ t. refl)
+
+audit_exact : (rest : List Text) → list_any is_flag rest ≡ false → IsExact (codes "audit" ∷ rest)
+audit_exact rest plain_words = plain_exact (codes "audit") rest plain_words audit_enters refl (λ t. refl)
 
 ledger_exact : (rest : List Text) → list_any is_flag rest ≡ false → IsExact (codes "ledger" ∷ rest)
 ledger_exact rest plain_words = plain_exact (codes "ledger") rest plain_words ledger_enters refl (λ t. refl)
@@ -242,11 +249,12 @@ exact (w ∷ rest) plain_words =
     let both = or_false (is_flag w) (list_any is_flag rest) plain_words in
     by_name (codes "replay") w P (replay_exact rest both.1) (λ r.
     by_name (codes "osq") w P (osq_exact rest both.1) (λ o.
+    by_name (codes "audit") w P (audit_exact rest both.1) (λ a.
     by_name (codes "ledger") w P (ledger_exact rest both.1) (λ l.
     by_name (codes "gen") w P (gen_exact rest both.1) (λ g.
     by_name (codes "load") w P (load_exact rest both.1) (λ d.
-    refused (stray w rest both.0 r o l g d)
-    (reads_none w rest (turned_round _ w r) (turned_round _ w o) (turned_round _ w l) (turned_round _ w g) (turned_round _ w d)))))))
+    refused (stray w rest both.0 r o a l g d)
+    (reads_none w rest (turned_round _ w r) (turned_round _ w o) (turned_round _ w a) (turned_round _ w l) (turned_round _ w g) (turned_round _ w d))))))))
 
 -- nor is a word read that begins with one
 

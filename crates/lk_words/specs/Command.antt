@@ -5,7 +5,7 @@ use Rattle.clap.specs.Words.{App, Row, Rule, Shape, Text, first_of, new_app, new
 use Rattle.clap.specs.declared.builder.action.ArgAction.TheVariants.{Set}
 use Rattle.lk_words.specs.Reading.{start_of}
 use Rattle.lk_words.specs.declared.asked.Reading.{Reading}
-use Rattle.lk_words.specs.declared.asked.Reading.TheVariants.{Replay, Osq, Ledger, Gen, Load}
+use Rattle.lk_words.specs.declared.asked.Reading.TheVariants.{Replay, Osq, Audit, Ledger, Gen, Load}
 
 -- the number behind a command, which is read by the grammar of traces and not by clap
 abbrev pub number_rule : Rule
@@ -25,7 +25,11 @@ bare = record { top = record (new_app (codes "qlock")).top { no_binary_name = tr
 
 -- the commands with no word behind them
 abbrev pub with_plain : App
-with_plain = with_subcommand (with_subcommand (with_subcommand bare (plain (codes "replay"))) (plain (codes "osq"))) (plain (codes "ledger"))
+with_plain =
+    with_subcommand
+    (with_subcommand (with_subcommand (with_subcommand bare (plain (codes "replay"))) (plain (codes "osq")))
+    (plain (codes "audit")))
+    (plain (codes "ledger"))
 
 -- and those with a number
 abbrev pub qlock : App
@@ -40,6 +44,7 @@ abbrev pub said_by : Text × List Row → Option Reading
 said_by p =
     if bytes_eq p.0 (codes "replay") then Some Replay
     else if bytes_eq p.0 (codes "osq") then Some Osq
+    else if bytes_eq p.0 (codes "audit") then Some Audit
     else if bytes_eq p.0 (codes "ledger") then Some Ledger
     else if bytes_eq p.0 (codes "gen") then option_map (λ n. Gen n) (start_in p.1)
     else if bytes_eq p.0 (codes "load") then option_map (λ n. Load n) (start_in p.1)

@@ -3,7 +3,7 @@ use Rattle.std.specs.Prelude.{ℕ, ◌==◌, ◌&&◌, nat_le, Bool, false, List
 use Rattle.std.specs.Str.{bytes_eq}
 use Rattle.lk_forms.specs.Words.{number_of}
 use Rattle.lk_words.specs.declared.asked.Reading.{Reading}
-use Rattle.lk_words.specs.declared.asked.Reading.TheVariants.{Replay, Osq, Ledger, Gen, Load}
+use Rattle.lk_words.specs.declared.asked.Reading.TheVariants.{Replay, Osq, Audit, Ledger, Gen, Load}
 
 -- a word that begins with a hyphen
 abbrev pub is_flag : List ℕ → Bool
@@ -23,6 +23,7 @@ abbrev pub alone : List ℕ → Option Reading
 alone word =
     if bytes_eq word (codes "replay") then Some Replay
     else if bytes_eq word (codes "osq") then Some Osq
+    else if bytes_eq word (codes "audit") then Some Audit
     else if bytes_eq word (codes "ledger") then Some Ledger
     else None
 
@@ -33,7 +34,7 @@ with_start word start =
     else if bytes_eq word (codes "load") then option_map (λ n. Load n) start
     else None
 
--- `replay`, `osq`, `ledger`, `gen n` and `load n`: other words ask for nothing
+-- `replay`, `osq`, `audit`, `ledger`, `gen n` and `load n`: other words ask for nothing
 abbrev pub reading_of : List (List ℕ) → Option Reading
 reading_of (word ∷ []) = alone word
 reading_of (word ∷ number ∷ []) = with_start word (start_of number)

@@ -7,6 +7,8 @@ pub enum Reading {
     Replay,
     /// `osq`: a run of the optimistic spin queue is replayed.
     Osq,
+    /// `audit`: a transcript from anybody is judged.
+    Audit,
     /// `ledger`: jobs are run on accounts under a lock.
     Ledger,
     /// `gen n`: the generated trace of this start number is written.

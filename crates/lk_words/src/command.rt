@@ -37,6 +37,7 @@ pub(crate) fn qlock<'a>(alloc: Global) -> Result<Command<'a>, AllocError>
         .subcommand_required(true)
         .subcommand(plain(alloc, "replay"))?
         .subcommand(plain(alloc, "osq"))?
+        .subcommand(plain(alloc, "audit"))?
         .subcommand(plain(alloc, "ledger"))?
         .subcommand(generates)?
         .subcommand(loads)

@@ -42,6 +42,7 @@ fn said_of(matches: &ArgMatches<'_>) -> Option<Reading>
     match name {
         "replay" => Some(Reading::Replay),
         "osq" => Some(Reading::Osq),
+        "audit" => Some(Reading::Audit),
         "ledger" => Some(Reading::Ledger),
         "gen" => Some(Reading::Gen(start_in(below)?)),
         "load" => Some(Reading::Load(start_in(below)?)),

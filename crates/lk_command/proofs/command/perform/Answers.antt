@@ -21,6 +21,11 @@ returns-in-Some-Osq-clause-came g c =
     let inner = rw c.in-Some-Osq.is at c.in-Some-Osq.field-0-is in
     rw (c.in-Some-Osq.is, inner) c.run_osq.ensures.runs
 
+pub returns-in-Some-Audit-clause-came : goal.returns-in-Some-Audit-clause-came
+returns-in-Some-Audit-clause-came g c =
+    let inner = rw c.in-Some-Audit.is at c.in-Some-Audit.field-0-is in
+    rw (c.in-Some-Audit.is, inner) c.run_audit.ensures.runs
+
 pub returns-in-Some-Gen-clause-came : goal.returns-in-Some-Gen-clause-came
 returns-in-Some-Gen-clause-came g c =
     let put = c.generate.ensures in

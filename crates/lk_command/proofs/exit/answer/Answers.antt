@@ -18,6 +18,7 @@ returns g c =
             exact = λ bytes line why setup acts. came.exact bytes line why setup acts asks;
           };
           osq = came.osq;
+          audits = came.audits;
           generates = came.generates;
           loads = came.loads;
         };

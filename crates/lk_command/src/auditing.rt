@@ -1,0 +1,22 @@
+// The command `audit`.
+ghost use Rattle.std.specs.Prelude.{◌≡◌};
+ghost use Rattle.lk_stream.specs.Outside.{outside};
+ghost use Rattle.lk_command.specs.Audits.{Audits};
+ghost use Rattle.lk_command.specs.declared.status.Status.{Status};
+
+use crate::status::Status;
+use lk_audit::audit;
+use lk_text::{Sink, Source};
+use std::alloc::Global;
+
+/// Reads a transcript from anybody from the source, behind the header of a trace, judges it, and
+/// writes the verdict to the sink.
+pub(crate) fn run_audit<S: Source, K: Sink>(alloc: Global, source: &mut S, sink: &mut K) -> Status
+    ensures runs { Audits
+        (outside (S.left source.old) (S.faults source.old) (K.held sink.old) (K.faults sink.old))
+        (outside (S.left source.new) (S.faults source.new) (K.held sink.new) (K.faults sink.new))
+        result }
+    ensures memory { result ≡ Status.Memory → sink.new ≡ sink.old }
+{
+    Status::of_audit(audit(alloc, source, sink))
+}
