@@ -19,9 +19,9 @@ pub fn args_of(alloc: Global, words: &str) -> Result<Args, AllocError> {
     Ok(args.into_iter())
 }
 
-// Runs a command on an input, with the read and the write that fail, 0 for none, and sees that it
-// ends with this status, writes this text, and notes this line.
-fn ends(
+/// Runs a command on an input, with the read and the write that fail, 0 for none, and sees that it
+/// ends with this status, writes this text, and notes this line.
+pub fn ends(
     rt: &(impl Abort + AllocGlobal),
     args: io::Result<Args>,
     input: &str,
@@ -123,6 +123,7 @@ load x
 help
 osq x
 osqs
+audit x
 ledger
 ledger x
 replay replay

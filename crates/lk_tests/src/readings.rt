@@ -8,6 +8,7 @@ use std::test::Fail;
 const READINGS: &str = " = None
 replay = Some(Replay)
 osq = Some(Osq)
+audit = Some(Audit)
 ledger = Some(Ledger)
 gen|7 = Some(Gen(7))
 gen|2147483646 = Some(Gen(2147483646))
@@ -34,6 +35,7 @@ replay|replay = None
 replay|help = None
 ledger|x = None
 osq|7 = None
+audit|x = None
 rep = None
 REPLAY = None
 -- = None
