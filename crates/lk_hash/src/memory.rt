@@ -1,0 +1,12 @@
+// Want of memory.
+use std::alloc::AllocError;
+
+/// There was no memory left.
+#[derive(Clone, Copy, Debug, PartialEq, Eq)]
+pub struct Memory;
+
+impl From<AllocError> for Memory {
+    fn from(_: AllocError) -> Self {
+        Memory
+    }
+}
