@@ -31,6 +31,7 @@ pub struct RwFields {
 }
 
 /// The word with these fields, of fewer than 2^23 readers.
+#[inline]
 pub fn pack_rw(fields: RwFields) -> u32
     requires { IsPackableRw fields }
     ensures { result ≡ packed_rw fields }
@@ -42,6 +43,7 @@ pub fn pack_rw(fields: RwFields) -> u32
 
 /// The fields in this word, or `None` for a word that no fields pack to: one with a writer byte
 /// other than 0 and 0xff.
+#[inline]
 pub fn unpack_rw(word: u32) -> Option<RwFields>
     ensures read { result ≡ unpacked_rw word }
     ensures fields { IfSome result (λ f. IsPackableRw f × (packed_rw f ≡ word)) }
@@ -58,6 +60,7 @@ pub fn unpack_rw(word: u32) -> Option<RwFields>
     })
 }
 
+#[inline]
 fn unpack_writer(byte: u32) -> Option<bool>
     ensures { result ≡ writer_of byte }
 {

@@ -51,6 +51,7 @@ pub struct Fields {
 }
 
 /// The word with these fields. A tail's processor is at most 16,382 and its index at most 3.
+#[inline]
 pub fn pack(fields: Fields) -> u32
     requires { IsPackable fields }
     ensures { result ≡ packed fields }
@@ -63,6 +64,7 @@ pub fn pack(fields: Fields) -> u32
 
 /// The fields in this word, or `None` for a word that no fields pack to: one with an unused bit,
 /// with a locked byte other than 0, 1 and 3, or with a tail index and no tail processor.
+#[inline]
 pub fn unpack(word: u32) -> Option<Fields>
     ensures read { result ≡ unpacked word }
     ensures fields { IfSome result (λ f. IsPackable f × (packed f ≡ word)) }
@@ -85,6 +87,7 @@ pub fn unpack(word: u32) -> Option<Fields>
     })
 }
 
+#[inline]
 fn pack_locked(locked: Locked) -> u32
     ensures { result ≡ locked_number locked }
 {
@@ -95,6 +98,7 @@ fn pack_locked(locked: Locked) -> u32
     }
 }
 
+#[inline]
 fn unpack_locked(byte: u32) -> Option<Locked>
     ensures { result ≡ locked_of byte }
 {
@@ -106,6 +110,7 @@ fn unpack_locked(byte: u32) -> Option<Locked>
     }
 }
 
+#[inline]
 fn pack_tail(tail: Option<NodeName>) -> u32
     requires { IsTailInRange tail }
     ensures { result ≡ tail_number tail }
@@ -116,6 +121,7 @@ fn pack_tail(tail: Option<NodeName>) -> u32
     }
 }
 
+#[inline]
 fn unpack_tail(cpu_plus_one: u32, index: u32) -> Option<Option<NodeName>>
     ensures { result ≡ tail_of cpu_plus_one index }
 {
