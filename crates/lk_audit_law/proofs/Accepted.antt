@@ -11,7 +11,7 @@ use Rattle.lk_machine.specs.Ready.{CountsWithin}
 use Rattle.lk_machine.specs.Run.{Occurrence, at_rest, occurs, history_from, machine_after, events_of}
 use Rattle.lk_machine.specs.declared.setup.Setup.{Setup}
 use Rattle.lk_machine.specs.declared.parts.Counts.{Counts}
-use Rattle.lk_law.specs.Sound.{rules_of}
+use Rattle.lk_machine.specs.Rules.{rules_of}
 use Rattle.lk_law.specs.MachineLaws.{ActKeeps, RestShows, RunKeeps, AreInRange}
 use Rattle.lk_text.specs.Feeds.{pieces, line_of}
 use Rattle.lk_forms.specs.Grammar.{Reading, has_go, last_rank, cpus_of}

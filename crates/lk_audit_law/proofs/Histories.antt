@@ -17,7 +17,7 @@ use Rattle.lk_machine.specs.Programs.{IsLawfulSetup}
 use Rattle.lk_machine.specs.Machine.{Machine}
 use Rattle.lk_machine.specs.Acts.{next, processor_of}
 use Rattle.lk_machine.specs.Run.{Occurrence, occurs, history_from, events_of}
-use Rattle.lk_law.specs.Sound.{rules_of}
+use Rattle.lk_machine.specs.Rules.{rules_of}
 use Rattle.lk_law.specs.Kicked.{with_event}
 use Rattle.lk_law.specs.MachineLaws.{ShowsLawful, ActKeeps, AreInRange}
 use Rattle.lk_forms.specs.Grammar.{cpus_of}

@@ -5,7 +5,7 @@ use Rattle.lk_machine.specs.Machine.{Machine}
 use Rattle.lk_machine.specs.Acts.{next}
 use Rattle.lk_machine.specs.Run.{at_rest, machine_after, events_of}
 use Rattle.lk_abs.specs.Lawful.{IsLawful}
-use Rattle.lk_law.specs.Sound.{rules_of}
+use Rattle.lk_machine.specs.Rules.{rules_of}
 use Rattle.lk_law.specs.MachineLaws.{ActKeeps, RestShows, RunKeeps, AreInRange}
 use Rattle.lk_replay.specs.Transcript.{history_of_run}
 use Rattle.lk_audit_law.specs.Laws.{RunsAreRead}

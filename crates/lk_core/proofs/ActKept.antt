@@ -38,7 +38,8 @@ use Rattle.lk_law.proofs.pv.HaltsEnd.{roused_is_awake, top_is_awake}
 use Rattle.lk_law.proofs.pv.HaltsShown.{wake_shows, nudge_shows, int_shows, int_awake_shows}
 use Rattle.lk_law.proofs.pv.HaltLayers.{wake_keeps, nudge_keeps, int_keeps}
 use Rattle.lk_law.proofs.common.HeldAfter.{held_goes}
-use Rattle.lk_law.specs.Sound.{world, rules_of, held_at, held_of, BelongsTo, Footing, Works, Fits}
+use Rattle.lk_law.specs.Sound.{world, held_at, held_of, BelongsTo, Footing, Works, Fits}
+use Rattle.lk_machine.specs.Rules.{rules_of}
 use Rattle.lk_law.specs.Sound.{ShowsAll, owes_kick, is_over}
 use Rattle.lk_law.specs.SoundWorld.{IsSoundWorld, spin_part, rw_phase_of}
 use Rattle.lk_law.specs.Families.{is_rw_row}

@@ -1,11 +1,11 @@
 -- The entries of the hash after a lock was entered, or taken out.
 use Rattle.std.proofs.Common.{◌≡◌, ◌≢◌, Option, Some, None, Bool, true, false, List, [], ◌∷◌, inl}
 use Rattle.std.proofs.Common.{inr, arith, ap, refl, sym, ◌∙◌}
-use Rattle.std.specs.Prelude.{if◌then◌else◌}
+use Rattle.std.specs.Prelude.{if◌then◌else◌, nat_lt}
 use Rattle.lk_abs.specs.Names.{same_lock}
 use Rattle.lk_abs.specs.declared.names.LockName.{LockName}
 use Rattle.lk_word.specs.declared.spin_word.NodeName.{NodeName}
-use Rattle.lk_machine.specs.Machine.{entry_in, without_entry}
+use Rattle.lk_machine.specs.Machine.{entry_in, lock_number, with_entry, without_entry}
 use Rattle.lk_law.specs.Sound.{IsEnteredOnce}
 use Rattle.lk_law.proofs.common.Cases.{lock_cases}
 use Rattle.lk_law.proofs.common.Puts.{if-true, if-false, same_lock-else}
@@ -44,19 +44,48 @@ others_stay k l (e ∷ es) ne = step (same_lock e.0 l) refl (others_stay k l es 
         (same_lock-else e.0 k (λ q. ne (sym q ∙ same_lock-true e.0 l t))))
     step false t r = ap (λ (o : Option NodeName). if same_lock e.0 k then Some e.1 else o) r
 
+-- a lock that is entered has its node
+with_same : (l : LockName) (n : NodeName) (es : List Entry) → entry_in l es ≡ None
+    → entry_in l (with_entry l n es) ≡ Some n
+with_same l n [] absent = if-true (same_lock l l) (Some n) None (same_lock-self l)
+with_same l n (e ∷ es) absent = step (nat_lt (lock_number l) (lock_number e.0)) (with_same l n es)
+  where
+    later : (b : Bool) → (entry_in l es ≡ None → entry_in l (with_entry l n es) ≡ Some n)
+        → (if b then Some e.1 else entry_in l es) ≡ None
+        → (if b then Some e.1 else entry_in l (with_entry l n es)) ≡ Some n
+    later true rest h = cc
+    later false rest h = rest h
+
+    step : (b : Bool) → (entry_in l es ≡ None → entry_in l (with_entry l n es) ≡ Some n)
+        → entry_in l (if b then (l, n) ∷ e ∷ es else e ∷ with_entry l n es) ≡ Some n
+    step true rest = if-true (same_lock l l) (Some n) (entry_in l (e ∷ es)) (same_lock-self l)
+    step false rest = later (same_lock e.0 l) rest absent
+
+-- and the others have theirs
+with_other : (k l : LockName) (n : NodeName) (es : List Entry) → k ≢ l
+    → entry_in k (with_entry l n es) ≡ entry_in k es
+with_other k l n [] ne = if-false (same_lock l k) (Some n) None (same_lock-else l k (λ q. ne (sym q)))
+with_other k l n (e ∷ es) ne = step (nat_lt (lock_number l) (lock_number e.0)) (with_other k l n es ne)
+  where
+    step : (b : Bool) → entry_in k (with_entry l n es) ≡ entry_in k es
+        → entry_in k (if b then (l, n) ∷ e ∷ es else e ∷ with_entry l n es)
+        ≡ entry_in k (e ∷ es)
+    step true rest = if-false (same_lock l k) (Some n) (entry_in k (e ∷ es)) (same_lock-else l k (λ q. ne (sym q)))
+    step false rest = ap (λ (o : Option NodeName). if same_lock e.0 k then Some e.1 else o) rest
+
 -- what is read after a lock was entered
 pub entered_now : (k l : LockName) (n : NodeName) (es : List Entry)
-    → entry_in k ((l, n) ∷ without_entry l es) ≡ (if same_lock k l then Some n else entry_in k es)
+    → entry_in k (with_entry l n (without_entry l es))
+    ≡ (if same_lock k l then Some n else entry_in k es)
 entered_now k l n es =
     elim (lock_cases k l) [
       | inl e ↦
-          if-true (same_lock l k) (Some n) (entry_in k (without_entry l es))
-          (ap (λ (j : LockName). same_lock l j) e ∙ same_lock-self l)
+          ap (λ (j : LockName). entry_in j (with_entry l n (without_entry l es))) e
+          ∙ with_same l n (without_entry l es) (taken_out l es)
           ∙ sym (if-true (same_lock k l) (Some n) (entry_in k es)
           (ap (λ (j : LockName). same_lock j l) e ∙ same_lock-self l))
       | inr ne ↦
-          if-false (same_lock l k) (Some n) (entry_in k (without_entry l es))
-          (same_lock-else l k (λ q. ne (sym q))) ∙ others_stay k l es ne
+          with_other k l n (without_entry l es) ne ∙ others_stay k l es ne
           ∙ sym (if-false (same_lock k l) (Some n) (entry_in k es) (same_lock-else k l ne))
     ]
 
@@ -83,6 +112,24 @@ once_without l (e ∷ es) once = step (same_lock e.0 l) refl (once_without l es 
     step true t r = r
     step false t r = (others_stay e.0 l es (two_locks e.0 l t) ∙ once.0, r)
 
+once_entered : (l : LockName) (n : NodeName) (es : List Entry) → entry_in l es ≡ None
+    → IsEnteredOnce es → IsEnteredOnce (with_entry l n es)
+once_entered l n [] absent once = (refl, tt)
+once_entered l n (e ∷ es) absent once = step (nat_lt (lock_number l) (lock_number e.0)) (once_entered l n es)
+  where
+    other : (b : Bool) → same_lock e.0 l ≡ b → (if b then Some e.1 else entry_in l es) ≡ None
+        → (same_lock e.0 l ≡ false) × (entry_in l es ≡ None)
+    other true t h = cc
+    other false t h = (t, h)
+
+    step : (b : Bool)
+        → (entry_in l es ≡ None → IsEnteredOnce es → IsEnteredOnce (with_entry l n es))
+        → IsEnteredOnce (if b then (l, n) ∷ e ∷ es else e ∷ with_entry l n es)
+    step true rest = (absent, once)
+    step false rest =
+        let apart = other (same_lock e.0 l) refl absent in
+        (with_other e.0 l n es (two_locks e.0 l apart.0) ∙ once.0, rest apart.1 once.1)
+
 pub once_with : (l : LockName) (n : NodeName) (es : List Entry) → IsEnteredOnce es
-    → IsEnteredOnce ((l, n) ∷ without_entry l es)
-once_with l n es once = (taken_out l es, once_without l es once)
+    → IsEnteredOnce (with_entry l n (without_entry l es))
+once_with l n es once = once_entered l n (without_entry l es) (taken_out l es) (once_without l es once)

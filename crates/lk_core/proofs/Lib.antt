@@ -31,6 +31,7 @@ mod Runs
 mod CountsKept
 mod IdleActs
 mod HashRoom
+mod Stored
 mod ReadyRows
 mod ActDone
 mod RowsReady

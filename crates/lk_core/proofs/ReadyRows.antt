@@ -37,6 +37,7 @@ use Rattle.lk_core.proofs.RowKept.{top_live}
 use Rattle.lk_core.proofs.Access.{frame_within}
 use Rattle.lk_core.proofs.Reach.{target_within, own_here, phase_there, kick_within}
 use Rattle.lk_core.proofs.HashRoom.{hash_room, front_acts}
+use Rattle.lk_core.proofs.Stored.{stored_within}
 use Rattle.lk_machine.specs.declared.family.Family.TheVariants as family
 
 before_le : (slow : Waiter → Bool) (p n : ℕ) → before slow p n ≤ n
@@ -96,6 +97,8 @@ module _ (m : Machine) (hs : LockName → LockHistory) (shows : ShowsAll m hs) (
         queued = few_queued;
         reaches = λ x e.
             target_within m hs shows (top_of m p) (top_frame m p) (top_live m p hs shows range) x e;
+        stores = λ x e.
+            stored_within m hs shows (top_of m p) (top_frame m p) (top_live m p hs shows range) x e;
         counts = counts;
       }
 

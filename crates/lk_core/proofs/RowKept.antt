@@ -44,7 +44,8 @@ use Rattle.lk_law.specs.Steps.{stores_kicked, stores_queued, row_in, row_in_at, 
 use Rattle.lk_law.specs.Steps.{put_held, put_frame, led, stores_rw, way_told}
 use Rattle.lk_law.specs.Allowed.{MayFollowIfAny}
 use Rattle.lk_law.specs.Premises.{IsNewest}
-use Rattle.lk_law.specs.Sound.{world, rules_of, owes_kick, BelongsTo, Works, Fits, ShowsAll}
+use Rattle.lk_law.specs.Sound.{world, owes_kick, BelongsTo, Works, Fits, ShowsAll}
+use Rattle.lk_machine.specs.Rules.{rules_of}
 use Rattle.lk_law.specs.Sound.{held_of}
 use Rattle.lk_law.proofs.common.EveryRow.{every_row_keeps}
 use Rattle.lk_law.proofs.pv.KicksShown.{every_row_shows}

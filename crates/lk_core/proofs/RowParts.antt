@@ -33,7 +33,8 @@ use Rattle.lk_law.specs.World.{World}
 use Rattle.lk_law.specs.Steps.{told_on, stores_rw}
 use Rattle.lk_law.specs.Families.{chooses}
 use Rattle.lk_law.specs.Allowed.{MayFollowIfAny}
-use Rattle.lk_law.specs.Sound.{world, rules_of, is_virt_row}
+use Rattle.lk_law.specs.Sound.{world, is_virt_row}
+use Rattle.lk_machine.specs.Rules.{rules_of}
 use Rattle.lk_law.specs.Families.{is_queued_row, is_halting_row}
 use Rattle.lk_law.specs.Sound.{owes_kick, is_over, BelongsTo, ShowsAll, is_lock_row, frees}
 use Rattle.lk_law.specs.Kicked.{ShowsKicks, with_event}

@@ -16,7 +16,8 @@ use Rattle.lk_machine.specs.Acts.{next}
 use Rattle.lk_machine.specs.Run.{at_rest, history_from, occurs, machine_after, events_of}
 use Rattle.lk_machine.specs.Run.{Occurrence}
 use Rattle.lk_law.specs.Steps.{told_on}
-use Rattle.lk_law.specs.Sound.{world, rules_of, ShowsAll, Shows}
+use Rattle.lk_law.specs.Sound.{world, ShowsAll, Shows}
+use Rattle.lk_machine.specs.Rules.{rules_of}
 use Rattle.lk_law.specs.MachineLaws.{ShowsLawful, ActKeeps, AreInRange, RestShows, RunKeeps}
 use Rattle.lk_law.proofs.cna.Knows.{passes_are_bounded}
 use Rattle.lk_core.proofs.ActKept.{act_kept}

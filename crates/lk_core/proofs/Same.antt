@@ -15,7 +15,7 @@ use Rattle.lk_machine.specs.declared.parts.Frame.{Frame}
 use Rattle.lk_machine.specs.declared.parts.Node.{Node}
 use Rattle.lk_machine.specs.declared.parts.Counts.{Counts}
 use Rattle.lk_machine.specs.Machine.{Machine, CpuState, cpu_at, lock_at, depth_at, handlers_at}
-use Rattle.lk_machine.specs.Machine.{HasNode, without_entry, set_halted, set_kicked, set_entry}
+use Rattle.lk_machine.specs.Machine.{HasNode, with_entry, without_entry, set_halted, set_kicked, set_entry}
 use Rattle.lk_machine.specs.Machine.{top_of, set_cpu, set_lock, set_counts, set_word, set_node}
 use Rattle.lk_machine.specs.Machine.{set_top, set_queued, set_preempted, pop, push, HasTop}
 use Rattle.lk_machine.specs.Programs.{IsLawfulSetup, handlers_of, program_at}
@@ -242,7 +242,7 @@ pub same_set_entry : (m : Machine) (l : LockName) (x : Option NodeName)
 unfolding set_entry
 same_set_entry m l None = same_hashing m (without_entry l m.hash) (once_without l m.hash)
 same_set_entry m l (Some n) =
-    same_hashing m ((l, n) ∷ without_entry l m.hash) (once_with l n m.hash)
+    same_hashing m (with_entry l n (without_entry l m.hash)) (once_with l n m.hash)
 
 pub same_set_word : (m : Machine) (l : LockName) (x : Fields) → KeepsFrames m (set_word m l x)
 unfolding set_word set_lock cpu_at handlers_at depth_at

@@ -19,7 +19,7 @@ use Rattle.lk_machine.specs.Machine.{Machine, CpuState, LockState, rest_lock, cp
 use Rattle.lk_machine.specs.Machine.{word_at, rw_at, node_at, frame_at, queued_at, entry_at}
 use Rattle.lk_machine.specs.Machine.{halted_at, kicked_at, set_cpu, set_lock, set_counts, set_word}
 use Rattle.lk_machine.specs.Machine.{set_node, set_queued, set_halted, set_kicked, set_entry}
-use Rattle.lk_machine.specs.Machine.{without_entry, rest_node, HasNode}
+use Rattle.lk_machine.specs.Machine.{with_entry, without_entry, rest_node, HasNode}
 use Rattle.lk_law.specs.Steps.{put_word, put_node, put_queued, put_entry, put_halted, put_kicked}
 use Rattle.lk_law.specs.Snapshot.{same_node}
 use Rattle.lk_law.specs.Sound.{world, held_at}
@@ -234,13 +234,14 @@ unfolding set_entry entry_at
 world-set_entry m l None =
     world-hashing m l None (without_entry l m.hash) (λ k. removed_now k l m.hash)
 world-set_entry m l (Some n) =
-    world-hashing m l (Some n) ((l, n) ∷ without_entry l m.hash) (λ k. entered_now k l n m.hash)
+    world-hashing m l (Some n) (with_entry l n (without_entry l m.hash))
+    (λ k. entered_now k l n m.hash)
 
 pub frame-set_entry : (m : Machine) (l : LockName) (x : Option NodeName) (u : Waiter)
     → frame_at (set_entry m l x) u ≡ frame_at m u
 unfolding set_entry
 frame-set_entry m l None u = frame-hashing m (without_entry l m.hash) u
-frame-set_entry m l (Some n) u = frame-hashing m ((l, n) ∷ without_entry l m.hash) u
+frame-set_entry m l (Some n) u = frame-hashing m (with_entry l n (without_entry l m.hash)) u
 
 node_changed : (m : Machine) (n : NodeName) (c : CpuState) (x : Node) → n.cpu < length m.cpus
     → n.index < length (cpu_at m n.cpu).nodes → c.nodes ≡ set (cpu_at m n.cpu).nodes n.index x

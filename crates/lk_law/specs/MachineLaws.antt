@@ -8,7 +8,8 @@ use Rattle.lk_machine.specs.Machine.{Machine}
 use Rattle.lk_machine.specs.Programs.{IsLawfulSetup}
 use Rattle.lk_machine.specs.Acts.{next, processor_of}
 use Rattle.lk_machine.specs.Run.{at_rest, history, machine_after, events_of}
-use Rattle.lk_law.specs.Sound.{Shows, rules_of, world}
+use Rattle.lk_law.specs.Sound.{Shows, world}
+use Rattle.lk_machine.specs.Rules.{rules_of}
 use Rattle.lk_law.specs.Kicked.{ShowsKicks, with_event}
 
 -- the machine shows the history, in its locks and in its halts and kicks, and the history is lawful

@@ -5,7 +5,6 @@ use Rattle.std.specs.Prelude.{slice_index_or, ◌+◌, ◌==◌}
 use Rattle.lk_abs.specs.History.{LockHistory, history_of}
 use Rattle.lk_abs.specs.declared.holder.Manner.TheVariants.{Spins}
 use Rattle.lk_abs.specs.declared.holder.Manner.{Manner}
-use Rattle.lk_abs.specs.Lawful.{Rules}
 use Rattle.lk_abs.specs.declared.names.Kind.TheVariants.{Spin}
 use Rattle.lk_abs.specs.declared.names.Mode.{Mode}
 use Rattle.lk_abs.specs.declared.names.Mode.TheVariants.{Virt, Cna, Pv}
@@ -13,7 +12,6 @@ use Rattle.lk_abs.specs.declared.names.Waiter.{Waiter}
 use Rattle.lk_abs.specs.declared.names.LockName.{LockName}
 use Rattle.lk_abs.specs.declared.events.Event.{Event}
 use Rattle.lk_word.specs.declared.spin_word.NodeName.{NodeName}
-use Rattle.lk_machine.specs.declared.setup.Setup.{Setup}
 use Rattle.lk_machine.specs.declared.setup.Op.{Op}
 use Rattle.lk_machine.specs.declared.setup.Verb.{Verb}
 use Rattle.lk_machine.specs.declared.setup.Verb.TheVariants.{Lock, Try, Unlock, Read, TryRead}
@@ -34,15 +32,6 @@ use Rattle.lk_law.specs.Registers.{hands_plainly}
 use Rattle.lk_law.specs.RwPhase.{RwPhase, is_inner}
 use Rattle.lk_law.specs.RwPhase.RwPhase.{Frees}
 use Rattle.lk_law.specs.SoundWorld.{rw_phase_of, IsSoundWorld}
-
--- what the laws of histories read of a setup
-abbrev pub rules_of : Setup → Rules
-rules_of setup =
-    record {
-      mode = setup.mode;
-      sockets = setup.topology.sockets.items;
-      threshold = setup.threshold;
-    }
 
 -- how the walk over a program, up to a frame's position, holds a lock: so a frame holds it between
 -- two operations

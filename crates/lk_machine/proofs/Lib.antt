@@ -1,4 +1,5 @@
 pub mod Hashed
 pub mod Kept
+pub mod Packed
 pub mod Release
 pub mod Rested

@@ -1,4 +1,6 @@
 pub mod Machine
+pub mod Packed
+pub mod Hashed
 pub mod Family
 pub mod Programs
 pub mod Moves
@@ -8,3 +10,4 @@ pub mod TopRow
 pub mod Acts
 pub mod Run
 pub mod Ready
+pub mod Rules

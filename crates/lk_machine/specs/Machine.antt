@@ -1,7 +1,7 @@
 -- The machine as plain data: what is read of it, and what is written to it.
 use Rattle.std.specs.Prelude.{Some, ◌+◌, ◌-◌, ◌<◌, ◌≤◌, ℕ, Option, None, Bool, false, List, [], ◌∷◌}
 use Rattle.std.specs.Prelude.{◌++◌, length, take, slice_get, slice_index_or, slice_set}
-use Rattle.std.specs.Prelude.{if◌then◌else◌, unwrap_or}
+use Rattle.std.specs.Prelude.{◌*◌, if◌then◌else◌, nat_lt, unwrap_or}
 use Rattle.lk_abs.specs.Names.{same_lock}
 use Rattle.lk_abs.specs.declared.names.Waiter.{Waiter}
 use Rattle.lk_abs.specs.declared.names.LockName.{LockName}
@@ -35,7 +35,8 @@ pub record LockState : Type 0 where
   pub rw : RwFields
   pub wait : Fields
 
--- the machine, with the setup that never changes
+-- the machine, with the setup that never changes; the hash is a finite map, told by its entries in
+-- the order of their locks
 pub record Machine : Type 0 where
   pub setup : Setup
   pub locks : List LockState
@@ -49,13 +50,13 @@ pub record Machine : Type 0 where
 abbrev pub rest_word : Fields
 rest_word = record { locked = Free; pending = false; tail = None }
 
+-- the same of a reader-writer lock: no reader, nobody waits, no writer
+abbrev pub rest_rw : RwFields
+rest_rw = record { readers = 0; waiting = false; writer = false }
+
 -- a lock at rest
 abbrev pub rest_lock : LockState
-rest_lock = record {
-  spin = rest_word;
-  rw = record { readers = 0; waiting = false; writer = false };
-  wait = rest_word;
-}
+rest_lock = record { spin = rest_word; rw = rest_rw; wait = rest_word }
 
 -- a node at rest
 abbrev pub rest_node : Node
@@ -173,6 +174,16 @@ abbrev pub entry_in : LockName → List (LockName × NodeName) → Option NodeNa
 entry_in l [] = None
 entry_in l (e ∷ es) = if same_lock e.0 l then Some e.1 else entry_in l es
 
+-- the number of a lock: two for each index, of which the second is the wait lock's
+abbrev pub lock_number : LockName → ℕ
+lock_number l = 2 * l.index + (if l.wait then 1 else 0)
+
+-- the list with one entry more, which stands before the first of a higher lock
+abbrev pub with_entry : LockName → NodeName → List (LockName × NodeName) → List (LockName × NodeName)
+with_entry l n [] = (l, n) ∷ []
+with_entry l n (e ∷ es) =
+    if nat_lt (lock_number l) (lock_number e.0) then (l, n) ∷ e ∷ es else e ∷ with_entry l n es
+
 -- the list without the lock's entry
 abbrev pub without_entry : LockName → List (LockName × NodeName) → List (LockName × NodeName)
 without_entry l [] = []
@@ -242,7 +253,7 @@ set_kicked m p b = set_cpu m p (record (cpu_at m p) { kicked = b })
 -- the lock's entry in the hash becomes this
 unfoldable pub set_entry : Machine → LockName → Option NodeName → Machine
 set_entry m l None = record m { hash = without_entry l m.hash }
-set_entry m l (Some n) = record m { hash = (l, n) ∷ without_entry l m.hash }
+set_entry m l (Some n) = record m { hash = with_entry l n (without_entry l m.hash) }
 
 -- the top frame goes
 unfoldable pub pop : Machine → ℕ → Machine

@@ -1,7 +1,11 @@
 -- What the code of a row needs of the machine; all of it holds of a sound one.
-use Rattle.std.specs.Prelude.{◌≡◌, ◌<◌, ◌≤◌, ◌-◌, ◌^◌, ℕ, Some, length}
+use Rattle.std.specs.Prelude.{◌≡◌, ◌<◌, ◌≤◌, ◌-◌, ◌^◌, ℕ, Option, Some, None, length}
+use Rattle.lk_word.specs.declared.spin_word.NodeName.{NodeName}
+use Rattle.lk_word.specs.SpinWord.{IsTailInRange}
+use Rattle.lk_machine.specs.declared.parts.Frame.{Frame}
 use Rattle.lk_machine.specs.declared.parts.Counts.{Counts}
 use Rattle.lk_machine.specs.declared.parts.Pc.{Pc}
+use Rattle.lk_machine.specs.declared.parts.Pc.TheVariants.{G4, C10, E6, K3}
 use Rattle.lk_machine.specs.Machine.{Machine, HasNode, top_frame, queued_at}
 use Rattle.lk_machine.specs.Moves.{CanMove}
 use Rattle.lk_machine.specs.TopRow.{Target, FlagOf, NextOf, ChoiceFlag, ChoiceNext, SecondTailOf}
@@ -33,11 +37,20 @@ HasTarget m (PvNext n) = HasNode m n
 HasTarget m (StateOf n) = HasNode m n
 HasTarget m _ = Unit {0}
 
+-- the node that a row takes from a register and stores, as the tail of a word or in the hash
+abbrev pub stored_name : Pc → Frame → Option NodeName
+stored_name G4 f = f.me
+stored_name C10 f = f.t
+stored_name E6 f = f.me
+stored_name K3 f = f.y
+stored_name _ f = None
+
 -- The top frame of the processor can make its row: it can move, its lock and the node that it
--- reaches are there, and no count is at its end.
+-- reaches are there, the node that it stores can stand in a word, and no count is at its end.
 pub record IsReady (m : Machine) (p : ℕ) : Type 0 where
   pub moves : CanMove m p
   pub lock : (top_frame m p).lock.index < length m.locks
   pub queued : queued_at m p ≤ 6
   pub reaches : (c : Pc) → (top_frame m p).place ≡ Some c → HasTarget m (target c (top_frame m p))
+  pub stores : (c : Pc) → (top_frame m p).place ≡ Some c → IsTailInRange (stored_name c (top_frame m p))
   pub counts : CountsWithin (2 ^ 64 - 2) m.counts

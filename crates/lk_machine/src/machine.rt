@@ -2,6 +2,10 @@
 
 ghost use Rattle.std.specs.Prelude.{slice_index_or, ◌≡◌, ◌<◌, ◌≤◌, ◌-◌, ◌*◌, Some, length, slice_get, position, IfSome, vec_capacity};
 ghost use Rattle.lk_machine.specs.Machine.{Machine as MachineValue, CpuState as CpuValue, LockState as LockValue, HasTop, HasNode, top_frame, frame_at, depth_at, queued_at, preempted_at, halted_at, kicked_at, handlers_at, word_at, rw_at, node_at, set_word, set_rw, set_node, set_top, set_queued, set_preempted, set_halted, set_kicked, set_counts};
+ghost use Rattle.lk_word.specs.SpinWord.{IsPackable};
+ghost use Rattle.lk_word.specs.RwWord.{IsPackableRw};
+ghost use Rattle.lk_machine.specs.Packed.{fields_in, rw_fields_in, IsPacked, IsPackedRw};
+ghost use Rattle.lk_machine.specs.Hashed.{entries_named};
 ghost use Rattle.lk_machine.specs.Programs.{HasPrograms, handlers_of};
 ghost use Rattle.lk_machine.specs.Moves.{is_node, waiter_of};
 ghost use Rattle.lk_machine.specs.rows.Cna.{same_socket};
@@ -9,13 +13,16 @@ ghost use Rattle.lk_machine.specs.rows.Cna.{same_socket};
 mod fields;
 mod hash;
 mod moves;
+mod packed;
 mod rest;
 mod top;
 
 use crate::parts::{Counts, Frame, Node, Pc};
 use crate::setup::Setup;
 use lk_abs::{LockName, Mode, Waiter};
+use lk_hash::LockHash;
 use lk_word::{Fields, NodeName, RwFields};
+use packed::{fields_in, rw_fields_in, rw_word_of, word_of};
 use std::marker::Model;
 
 /// How many frames a processor can have: its task, and five interrupts above it.
@@ -55,21 +62,23 @@ impl Model for CpuState {
     ghost invariant = { λ c. (length c.frames.items ≤ 6) × (6 ≤ vec_capacity c.frames) };
 }
 
-/// One declared lock.
+/// One declared lock, in words as they are packed.
 #[derive(Drop)]
 struct LockState {
     /// The word of a spinlock.
-    spin: Fields,
+    spin: u32,
     /// The word of a reader-writer lock.
-    rw: RwFields,
+    rw: u32,
     /// The word of a reader-writer lock's wait lock.
-    wait: Fields,
+    wait: u32,
 }
 
 impl Model for LockState {
     ghost Value = { LockValue };
 
-    ghost view = { λ l. record { spin = l.spin; rw = l.rw; wait = l.wait } };
+    ghost view = { λ l. record { spin = fields_in l.spin; rw = rw_fields_in l.rw; wait = fields_in l.wait } };
+
+    ghost invariant = { λ l. IsPacked l.spin × IsPackedRw l.rw × IsPacked l.wait };
 }
 
 /// A machine: the words of its locks, its processors, and what they counted.
@@ -78,9 +87,8 @@ pub struct Machine {
     setup: Setup,
     locks: Vec<LockState>,
     cpus: Vec<CpuState>,
-    /// The node of each lock that is entered. The room for four entries a processor is taken when
-    /// it is made.
-    hash: Vec<(LockName, NodeName)>,
+    /// The node of each lock that is entered. It has at least four places a processor.
+    hash: LockHash,
     counts: Counts,
 }
 
@@ -91,11 +99,12 @@ impl Model for Machine {
       setup = m.setup;
       locks = m.locks.items;
       cpus = m.cpus.items;
-      hash = m.hash.items;
+      hash = entries_named m.hash.entries;
       counts = m.counts;
     } };
 
-    ghost invariant = { λ m. (length m.cpus.items ≤ 64) × (4 * length m.cpus.items ≤ vec_capacity m.hash) };
+    ghost invariant = { λ m. (length m.cpus.items ≤ 64) × (length m.locks.items ≤ 32)
+        × (4 * length m.cpus.items ≤ m.hash.places) };
 }
 
 // Whether a frame's own node has this name.
@@ -122,24 +131,27 @@ impl Machine {
     #[tactic(auto, unfolding(crate::specs::Machine::word_at, crate::specs::Machine::lock_at))]
     pub fn word(&self, lock: LockName) -> Fields
         requires { lock.index < length self.now.locks }
-        ensures { result ≡ word_at self.now lock }
+        ensures fields { result ≡ word_at self.now lock }
+        ensures packable { IsPackable result }
     {
         let state = &self.locks[lock.index as usize];
-        if lock.wait { state.wait } else { state.spin }
+        fields_in(if lock.wait { state.wait } else { state.spin })
     }
 
     /// Stores the word of a spinlock or a wait lock.
     #[inline]
     #[tactic(auto, unfolding(crate::specs::Machine::lock_at, crate::specs::Machine::set_word, crate::specs::Machine::set_lock))]
     pub fn set_word(&mut self, lock: LockName, fields: Fields)
-        requires { lock.index < length self.old.locks }
+        requires lock { lock.index < length self.old.locks }
+        requires packable { IsPackable fields }
         ensures { self.new ≡ set_word self.old lock fields }
     {
+        let word = word_of(fields);
         let state = &mut self.locks[lock.index as usize];
         if lock.wait {
-            state.wait = fields;
+            state.wait = word;
         } else {
-            state.spin = fields;
+            state.spin = word;
         }
     }
 
@@ -148,19 +160,24 @@ impl Machine {
     #[tactic(auto, unfolding(crate::specs::Machine::rw_at, crate::specs::Machine::lock_at))]
     pub fn rw(&self, index: u32) -> RwFields
         requires { index < length self.now.locks }
-        ensures { result ≡ rw_at self.now index }
+        ensures fields { result ≡ rw_at self.now index }
+        ensures packable { IsPackableRw result }
     {
-        self.locks[index as usize].rw
+        let state = &self.locks[index as usize];
+        rw_fields_in(state.rw)
     }
 
     /// Stores the word of a reader-writer lock.
     #[inline]
     #[tactic(auto, unfolding(crate::specs::Machine::lock_at, crate::specs::Machine::set_rw, crate::specs::Machine::set_lock))]
     pub fn set_rw(&mut self, index: u32, fields: RwFields)
-        requires { index < length self.old.locks }
+        requires index { index < length self.old.locks }
+        requires packable { IsPackableRw fields }
         ensures { self.new ≡ set_rw self.old index fields }
     {
-        self.locks[index as usize].rw = fields;
+        let word = rw_word_of(fields);
+        let state = &mut self.locks[index as usize];
+        state.rw = word;
     }
 
     /// A node.

@@ -58,8 +58,8 @@ pub(crate) fn sight_at(machine: &Machine, locks: u32, spot: Spot) -> Sight
     match spot {
         Spot::Word(lock) if lock.index < locks => Sight::Word(machine.word(lock)),
         Spot::Rw(index) if index < locks => Sight::Rw(machine.rw(index)),
-        Spot::Word(_) | Spot::Rw(_) => Sight::Nothing,
-        Spot::Entry(lock) => Sight::Name(machine.hashed(lock)),
+        Spot::Entry(lock) if lock.index < locks => Sight::Name(machine.hashed(lock)),
+        Spot::Word(_) | Spot::Rw(_) | Spot::Entry(_) => Sight::Nothing,
         Spot::Queued(cpu) | Spot::Halt(cpu) | Spot::Kick(cpu) => cpu_sight(machine, spot, cpu),
         Spot::Node(name) | Spot::SecondTail(name) | Spot::Runs(name) | Spot::State(name) =>
             node_sight(machine, spot, name),

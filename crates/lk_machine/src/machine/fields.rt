@@ -1,6 +1,7 @@
 // One field of a word or of a node is stored, and the others stay.
 
 ghost use Rattle.std.specs.Prelude.{◌≡◌, ◌<◌, length};
+ghost use Rattle.lk_word.specs.SpinWord.{IsTailInRange};
 ghost use Rattle.lk_machine.specs.Machine.{HasNode, node_at, rest_node, set_node, set_word, word_at};
 
 use crate::machine::Machine;
@@ -35,7 +36,8 @@ impl Machine {
     /// Stores the tail of a word.
     #[inline]
     pub fn set_tail(&mut self, lock: LockName, tail: Option<NodeName>)
-        requires { lock.index < length self.old.locks }
+        requires lock { lock.index < length self.old.locks }
+        requires tail { IsTailInRange tail }
         ensures { self.new
             ≡ set_word self.old lock (record (word_at self.old lock) { tail = tail }) }
     {

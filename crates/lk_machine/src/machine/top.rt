@@ -3,6 +3,7 @@
 ghost use Rattle.std.specs.Prelude.{◌≡◌, ◌<◌, ◌-◌, Some, length};
 ghost use Rattle.lk_machine.specs.Machine.{HasTop, top_frame, frame_at, depth_at, word_at, rw_at, set_top};
 ghost use Rattle.lk_machine.specs.Ready.{IsReady};
+ghost use Rattle.lk_word.specs.RwWord.{IsPackableRw};
 
 use crate::machine::Machine;
 use crate::parts::{Frame, Pc};
@@ -103,7 +104,8 @@ impl Machine {
     #[inline]
     pub fn rw_met(&self, cpu: u32) -> RwFields
         requires { IsReady self.now cpu }
-        ensures { result ≡ rw_at self.now (top_frame self.now cpu).lock.index }
+        ensures fields { result ≡ rw_at self.now (top_frame self.now cpu).lock.index }
+        ensures packable { IsPackableRw result }
     {
         self.rw(self.lock(cpu).index)
     }

@@ -1,0 +1,68 @@
+-- A node that a row takes from a register and stores, in a word or in the hash, is the machine's.
+use Rattle.std.proofs.Common.{◌≡◌, ◌<◌, ◌≤◌, ℕ, Option, Some, None, Bool, true, arith, ap, sym}
+use Rattle.std.proofs.Common.{◌∙◌, refl, subst, length}
+use Rattle.lk_abs.specs.History.{LockHistory}
+use Rattle.lk_abs.specs.declared.names.Waiter.{Waiter}
+use Rattle.lk_abs.specs.declared.names.LockName.{LockName}
+use Rattle.lk_word.specs.declared.spin_word.NodeName.{NodeName}
+use Rattle.lk_word.specs.SpinWord.{IsTailInRange}
+use Rattle.lk_machine.specs.declared.parts.Frame.{Frame}
+use Rattle.lk_machine.specs.declared.parts.Pc.{Pc}
+use Rattle.lk_machine.specs.declared.parts.Pc.TheVariants.{G4, C10, E6, K3}
+use Rattle.lk_machine.specs.Machine.{Machine, frame_at, HasNode}
+use Rattle.lk_machine.specs.Moves.{node_of}
+use Rattle.lk_machine.specs.Ready.{stored_name}
+use Rattle.lk_law.specs.Phase.{has_node}
+use Rattle.lk_law.specs.Places.{snapshot}
+use Rattle.lk_law.specs.Premises.{Uses}
+use Rattle.lk_law.specs.Known.{IsOwnNode}
+use Rattle.lk_law.specs.SoundWorld.{spin_part}
+use Rattle.lk_law.specs.Sound.{ShowsAll, world}
+use Rattle.lk_law.proofs.common.Families.{Last}
+use Rattle.lk_law.proofs.common.Knows.{named_front_is_used}
+use Rattle.lk_law.proofs.common.Users.{user_of, own_node}
+use Rattle.lk_law.proofs.cna.Front.{owner_tail}
+use Rattle.lk_law.proofs.cna.Knows.{at_front, lists, phase_here, stage_here}
+use Rattle.lk_core.proofs.Access.{frame_within}
+use Rattle.lk_core.proofs.Reach.{own_here}
+
+module _ (m : Machine) (hs : LockName → LockHistory) (shows : ShowsAll m hs) (w : Waiter)
+    (f : Frame) (live : frame_at m w ≡ Some f) where
+  -- a node of the machine can stand in a word
+  named : (o : Option NodeName) → HasNode m (node_of o) → IsTailInRange o
+  named None there = tt
+  named (Some n) there =
+      let cpus = shows.whole.cpus in
+      let few = shows.whole.setup.few in
+      let cpu : n.cpu ≤ 16382 = omega (arith, there.cpu, cpus, few) in
+      let index : n.index ≤ 3 = omega (arith, there.index) in
+      (cpu, index)
+
+  -- the node of a waiter that uses it, as one of its processor's
+  used_node : (u : Waiter) (n : NodeName) → Uses (world m) u n → IsOwnNode u n → HasNode m n
+  used_node u n uses own =
+      let there = frame_within m u uses.0 uses.1 in
+      record { cpu = subst (λ (i : ℕ). i < length m.cpus) (sym own.cpu) there; index = own.index }
+
+  -- the last of the second queue, which a front makes the tail
+  promoted : f.place ≡ Some C10 → HasNode m (node_of f.t)
+  promoted at =
+      let ok = shows.world.spins in
+      let u = owner_tail (lists ok live at refl) (at_front ok live at refl) (phase_here ok live at refl)
+      (stage_here ok live at refl) (node_of f.t) refl in
+      used_node u.by (node_of f.t)
+      (subst (Uses (world m) u.by) u.owned (user_of ok f.lock u.by u.noded))
+      (subst (IsOwnNode u.by) u.owned (own_node ok f.lock u.by u.noded))
+
+  -- the node after which a holder looks
+  looked_after : f.place ≡ Some K3 → HasNode m (node_of f.y)
+  looked_after at =
+      let u = named_front_is_used (world m) (spin_part (world m).kind hs) w f K3 shows.world.spins live at refl in
+      used_node u.0 (node_of f.y) u.1 u.2
+
+  pub stored_within : (c : Pc) → f.place ≡ Some c → IsTailInRange (stored_name c f)
+  stored_within G4 at = named f.me (own_here m hs shows w f live G4 at refl)
+  stored_within C10 at = named f.t (promoted at)
+  stored_within E6 at = named f.me (own_here m hs shows w f live E6 at refl)
+  stored_within K3 at = named f.y (looked_after at)
+  stored_within _ at = tt

@@ -1,0 +1,11 @@
+-- What the laws of histories read of a setup.
+use Rattle.lk_abs.specs.Lawful.{Rules}
+use Rattle.lk_machine.specs.declared.setup.Setup.{Setup}
+
+abbrev pub rules_of : Setup → Rules
+rules_of setup =
+    record {
+      mode = setup.mode;
+      sockets = setup.topology.sockets.items;
+      threshold = setup.threshold;
+    }
