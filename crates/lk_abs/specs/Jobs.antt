@@ -1,4 +1,4 @@
--- What the jobs of a ledger make of the balances, what they answer, and what a journal of them comes to.
+-- What the jobs of a ledger make of the balances, and what they answer.
 use Rattle.std.specs.Prelude.{ℕ, ◌+◌, ◌-◌, ◌^◌, ◌<◌, Bool, List, nat_lt, slice_index, slice_set, if◌then◌else◌}
 use Rattle.std.specs.List.{sum}
 use Rattle.lk_abs.specs.declared.ledger.Job.{Job}

@@ -11,3 +11,4 @@ pub mod Judge
 pub mod Remembered
 pub mod NoKick
 pub mod Jobs
+pub mod Journal
