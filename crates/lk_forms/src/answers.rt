@@ -34,6 +34,8 @@ pub enum Fault {
     Crossed,
     /// The input ends before the line `end`.
     NoEnd,
+    /// A word for a lock that does not run on threads yet, in a job file.
+    NotYet,
 }
 
 /// A quantity that passes its limit.

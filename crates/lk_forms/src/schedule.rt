@@ -71,7 +71,7 @@ fn read_words(line: &[u8], cpus: u32, acts: u64, ended: bool) -> Result<Sched, L
 }
 
 // What a line of a schedule says. Most say an act, and are read in one pass.
-#[inline]
+#[inline(always)]
 fn read_line(line: &[u8], cpus: u32, acts: u64, ended: bool) -> Result<Sched, LineRefusal>
     ensures { result ≡ schedule_of cpus acts ended line.now }
 {
@@ -84,7 +84,7 @@ fn read_line(line: &[u8], cpus: u32, acts: u64, ended: bool) -> Result<Sched, Li
 /// Reads one line of a schedule of `cpus` processors, without its line feed, behind `acts` acts;
 /// `ended` says that the line `end` was read. Without processors each number of one is out of
 /// range, and behind more acts than the limit each further act passes it. It takes no memory.
-#[inline]
+#[inline(always)]
 pub fn schedule_line(line: &[u8], cpus: u32, acts: u64, ended: bool) -> Result<Sched, LineRefusal>
     ensures value { result ≡ schedule_of cpus acts ended line.now }
 
