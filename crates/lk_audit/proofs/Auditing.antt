@@ -16,7 +16,8 @@ use Rattle.lk_audit_forms.specs.Grammar.{Said, last_act, with_told, said_on, rea
 use Rattle.lk_audit_forms.specs.Texts.{name_of}
 use Rattle.lk_audit_forms.specs.declared.answers.Told.{Told}
 use Rattle.lk_audit_forms.specs.declared.answers.Told.TheVariants as told
-use Rattle.lk_audit.specs.Lawful.{rules_of, events_said, IsLawfulSo, IsBroken}
+use Rattle.lk_audit.specs.Lawful.{events_said, IsLawfulSo, IsBroken}
+use Rattle.lk_machine.specs.Rules.{rules_of}
 use Rattle.lk_audit.specs.Auditor.{CanGoOn, Shows, GoesOn, EventMeans, LineMeans}
 use Rattle.lk_audit.specs.Stands.{Stands, StopsRefused, FaultStops, TurnsTo, end_at}
 use Rattle.lk_audit.specs.declared.auditor.Auditor.{Auditor}

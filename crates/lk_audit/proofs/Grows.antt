@@ -18,7 +18,8 @@ use Rattle.lk_audit_forms.specs.Closing.{line_told}
 use Rattle.lk_audit_forms.specs.Grammar.{Said, last_act, with_told, said_on, read, ending, audit_grammar}
 use Rattle.lk_audit_forms.specs.declared.answers.Told.{Told}
 use Rattle.lk_audit_forms.specs.declared.answers.Told.TheVariants as told
-use Rattle.lk_audit.specs.Lawful.{rules_of, events_said, IsLawfulSo}
+use Rattle.lk_audit.specs.Lawful.{events_said, IsLawfulSo}
+use Rattle.lk_machine.specs.Rules.{rules_of}
 
 -- the header stays, and the history is added to
 pub record GrowsTo (s t : Said) : Type 0 where

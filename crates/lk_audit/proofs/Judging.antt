@@ -22,7 +22,8 @@ use Rattle.lk_machine.specs.declared.setup.Setup.{Setup}
 use Rattle.lk_forms.specs.Grammar.{cpus_of}
 use Rattle.lk_forms.proofs.NumberLemmas.{and_split}
 use Rattle.lk_audit_forms.specs.Ranges.{is_waiter_of, names_of, is_lock_of, is_in_setup}
-use Rattle.lk_audit.specs.Lawful.{rules_of, breach_on, breach_behind}
+use Rattle.lk_audit.specs.Lawful.{breach_on, breach_behind}
+use Rattle.lk_machine.specs.Rules.{rules_of}
 
 -- the same histories leave the same front asleep
 no_kick_same : (s : KickState) (f g : LockName → LockHistory) (ls : List LockName)

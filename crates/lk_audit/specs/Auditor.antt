@@ -10,7 +10,8 @@ use Rattle.lk_audit_forms.specs.Closing.{closing_lines}
 use Rattle.lk_audit_forms.specs.Grammar.{Said, read, last_act, with_told}
 use Rattle.lk_audit_forms.specs.Texts.{name_of}
 use Rattle.lk_audit_forms.specs.declared.answers.Told.TheVariants as told
-use Rattle.lk_audit.specs.Lawful.{rules_of, events_said, IsBroken}
+use Rattle.lk_audit.specs.Lawful.{events_said, IsBroken}
+use Rattle.lk_machine.specs.Rules.{rules_of}
 use Rattle.lk_audit.specs.declared.answers.AuditFault.{AuditFault}
 use Rattle.lk_audit.specs.declared.answers.AuditFault.TheVariants as fault
 use Rattle.lk_audit.specs.declared.auditor.Auditor.{Auditor}

@@ -9,6 +9,7 @@ use Rattle.lk_abs.specs.NoKick.{unkicked}
 use Rattle.lk_abs.specs.declared.names.LockName.{LockName}
 use Rattle.lk_abs.specs.declared.events.Event.{Event}
 use Rattle.lk_abs.specs.declared.events.Breach.{Breach}
+use Rattle.lk_machine.specs.Rules.{rules_of}
 use Rattle.lk_machine.specs.Run.{events_of}
 use Rattle.lk_machine.specs.declared.setup.Setup.{Setup}
 use Rattle.lk_text.specs.Feeds.{pieces}
@@ -16,15 +17,6 @@ use Rattle.lk_forms.specs.Grammar.{has_go}
 use Rattle.lk_stream.specs.Grammar.{Place, next_place}
 use Rattle.lk_stream.specs.Reads.{Leads}
 use Rattle.lk_audit_forms.specs.Grammar.{Said, audit_grammar}
-
--- what the laws of histories read of a setup
-abbrev pub rules_of : Setup → Rules
-rules_of setup =
-    record {
-      mode = setup.mode;
-      sockets = setup.topology.sockets.items;
-      threshold = setup.threshold;
-    }
 
 -- the events so far
 abbrev pub events_said : Said → List Event

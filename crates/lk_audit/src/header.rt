@@ -1,42 +1,16 @@
 // The header, read line by line.
-ghost use Rattle.std.specs.Prelude.{◌≡◌, ◌≤◌, ◌<◌, ℕ, List, Option, IfOk, IfErr, IfSome, OnOk, Ok, None, true, false};
-ghost use Rattle.lk_text.specs.Reader.{looked_at, is_ended, GaveLine, MetEnd, GaveFault};
-ghost use Rattle.lk_forms.specs.Grammar.{read, has_go};
-ghost use Rattle.lk_forms.specs.Reader.{ReadsOn, reading, step_of};
+ghost use Rattle.std.specs.Prelude.{◌≡◌, ◌≤◌, ◌<◌, ℕ, List, Option, IfOk, IfErr, OnOk, true, false};
+ghost use Rattle.lk_text.specs.Reader.{looked_at};
+ghost use Rattle.lk_forms.specs.Grammar.{has_go};
+ghost use Rattle.lk_forms.specs.Reader.{reading, step_of};
 ghost use Rattle.lk_audit_forms.specs.Grammar.{in_header};
 ghost use Rattle.lk_audit.specs.Stands.{Stands, IsSaid, HeaderTurns, FaultStops};
 
 use crate::answers::AuditFault;
 use crate::faults::{cut, refused};
-use lk_forms::{HeaderReader, HeaderStep, LineRefusal};
-use lk_text::{LineFault, LineReader, Source};
-
-// What the header makes of the next line, if there is one.
-fn next_step<S: Source>(
-    header: &mut HeaderReader,
-    reader: &mut LineReader,
-    source: &mut S,
-) -> Result<Option<Result<HeaderStep, LineRefusal>>, LineFault>
-    requires { has_go (reading header.old) ≡ false }
-    ensures given { IfOk result (λ given. IfSome given (λ said. (line : List ℕ)
-        × GaveLine reader.old reader.new (S.left source.old) (S.left source.new) line
-        × ReadsOn (read (reading header.old) line) (reading header.old)
-        (reading header.new) said)) }
-    ensures end { result ≡ Ok None
-        → MetEnd reader.old reader.new (S.left source.old) (S.left source.new)
-        × (reading header.new ≡ reading header.old) }
-    ensures fault { IfErr result
-        (GaveFault reader.old reader.new (S.left source.old) (S.left source.new)
-        (S.faults source.old) (S.faults source.new)) }
-    ensures idle { is_ended reader.old ≡ true → source.new ≡ source.old }
-    ensures later { S.faults source.old ≤ S.faults source.new }
-{
-    match reader.next_line(source) {
-        Ok(Some(line)) => Ok(Some(header.line(line))),
-        Ok(None) => Ok(None),
-        Err(fault) => Err(fault),
-    }
-}
+use lk_forms::{HeaderReader, HeaderStep};
+use lk_stream::next_header_step;
+use lk_text::{LineReader, Source};
 
 // Reads one line of the header.
 fn read_step<S: Source>(
@@ -55,7 +29,7 @@ fn read_step<S: Source>(
     ensures looked { OnOk result (looked_at reader.old < looked_at reader.new) }
     ensures later { S.faults source.old ≤ S.faults source.new }
 {
-    match next_step(header, reader, source) {
+    match next_header_step(header, reader, source) {
         Ok(Some(Ok(step))) => Ok(step),
         Ok(Some(Err(why))) => Err(refused(reader.lines(), why)),
         Ok(None) => Err(AuditFault::BadInput {

@@ -4,10 +4,12 @@
 
 mod answers;
 mod faults;
+mod header;
 mod script;
 mod stream;
 
 pub use answers::{ReplayFault, Stop};
 pub use faults::refused;
+pub use header::next_header_step;
 pub use script::Script;
 pub use stream::{follow, put_before_read};

@@ -13,8 +13,8 @@ pub returns-in-Ok-Some-Ok-clause-turns : goal.returns-in-Ok-Some-Ok-clause-turns
 returns-in-Ok-Some-Ok-clause-turns g c = λ input s.
     let step = c.in-Ok-Some-Ok in
     let given = rw (step.field-0-is, step.field-0-0-is) at step.ensures.given in
-    goes_on input c.args.reader.now c.next_step.new.reader _ _ _ s given.0 (in_header (reading c.next_step.new.header)) given.1
-    (read_in_header (reading c.args.header.now) (reading c.next_step.new.header) given.0 c.requires given.2.0)
+    goes_on input c.args.reader.now c.next_header_step.new.reader _ _ _ s given.0 (in_header (reading c.next_header_step.new.header)) given.1
+    (read_in_header (reading c.args.header.now) (reading c.next_header_step.new.header) given.0 c.requires given.2.0)
 
 pub returns-in-Ok-Some-Err-clause-turns : goal.returns-in-Ok-Some-Err-clause-turns
 returns-in-Ok-Some-Err-clause-turns g c = λ input s.
@@ -22,28 +22,28 @@ returns-in-Ok-Some-Err-clause-turns g c = λ input s.
     let faults = g.S.Source.faults in
     let given = rw (stop.field-0-is, stop.field-0-0-is) at stop.ensures.given in
     rw (c.refused.ensures, c.lines.ensures)
-    (header_stops input c.args.reader.now c.next_step.new.reader _ _ (reading c.args.header.now) (reading c.next_step.new.header) s c.requires
-    (faults c.args.source.now) (faults c.next_step.new.source) given.0 stop.why given.1 given.2)
+    (header_stops input c.args.reader.now c.next_header_step.new.reader _ _ (reading c.args.header.now) (reading c.next_header_step.new.header) s c.requires
+    (faults c.args.source.now) (faults c.next_header_step.new.source) given.0 stop.why given.1 given.2)
 
 pub returns-in-Ok-None-clause-turns : goal.returns-in-Ok-None-clause-turns
 returns-in-Ok-None-clause-turns g c = λ input s.
     let end = c.in-Ok-None.ensures.end (ap Ok c.in-Ok-None.field-0-is) in
     let old = reading c.args.header.now in
-    let line = lines_given c.next_step.new.reader + 1 in
+    let line = lines_given c.next_header_step.new.reader + 1 in
     rw (c.lines-in-Ok-None.ensures, c.ending.ensures)
     (subst (λ r. StopsRefused input line (Bad (ending r))) (sym end.1)
-    (ends_early input c.args.reader.now c.next_step.new.reader _ _ (in_header old) s (header_lawful old) end.0
+    (ends_early input c.args.reader.now c.next_header_step.new.reader _ _ (in_header old) s (header_lawful old) end.0
     (λ e. ap (g.S.Source.left) (c.in-Ok-None.ensures.idle e)) (ending old) refl))
 
 pub returns-in-Err-clause-turns : goal.returns-in-Err-clause-turns
 returns-in-Err-clause-turns g c = λ input s.
     let faults = g.S.Source.faults in
     rw (c.cut.ensures, c.lines-in-Err.ensures)
-    (cut_line input c.args.reader.now c.next_step.new.reader _ _ _ s (header_lawful (reading c.args.header.now))
-    (faults c.args.source.now) (faults c.next_step.new.source) c.in-Err.fault c.in-Err.ensures.fault)
+    (cut_line input c.args.reader.now c.next_header_step.new.reader _ _ _ s (header_lawful (reading c.args.header.now))
+    (faults c.args.source.now) (faults c.next_header_step.new.source) c.in-Err.fault c.in-Err.ensures.fault)
 
 pub returns-in-Ok-Some-Ok-clause-said : goal.returns-in-Ok-Some-Ok-clause-said
 returns-in-Ok-Some-Ok-clause-said g c =
     let step = c.in-Ok-Some-Ok in
     let given = rw (step.field-0-is, step.field-0-0-is) at step.ensures.given in
-    said_more (reading c.args.header.now) (reading c.next_step.new.header) given.0 given.2.0
+    said_more (reading c.args.header.now) (reading c.next_header_step.new.header) given.0 given.2.0

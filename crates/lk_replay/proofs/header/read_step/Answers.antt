@@ -11,7 +11,7 @@ pub returns-in-Ok-Some-Ok-clause-turns : goal.returns-in-Ok-Some-Ok-clause-turns
 returns-in-Ok-Some-Ok-clause-turns g c = λ input s.
     let step = c.in-Ok-Some-Ok in
     let given = rw (step.field-0-is, step.field-0-0-is) at step.ensures.given in
-    header_goes_on input _ c.args.reader.now c.next_step.new.reader _ _ s (reading c.next_step.new.header) given.0 c.requires given.1 given.2.0
+    header_goes_on input _ c.args.reader.now c.next_header_step.new.reader _ _ s (reading c.next_header_step.new.header) given.0 c.requires given.1 given.2.0
 
 pub returns-in-Ok-Some-Err-clause-turns : goal.returns-in-Ok-Some-Err-clause-turns
 returns-in-Ok-Some-Err-clause-turns g c = λ input s.
@@ -19,17 +19,17 @@ returns-in-Ok-Some-Err-clause-turns g c = λ input s.
     let faults = g.S.Source.faults in
     let given = rw (stop.field-0-is, stop.field-0-0-is) at stop.ensures.given in
     rw (c.refused.ensures, c.lines.ensures)
-    (header_stops input _ c.args.reader.now c.next_step.new.reader _ _ s c.requires (faults c.args.source.now) (faults c.next_step.new.source) (reading c.next_step.new.header) given.0 stop.why given.1 given.2)
+    (header_stops input _ c.args.reader.now c.next_header_step.new.reader _ _ s c.requires (faults c.args.source.now) (faults c.next_header_step.new.source) (reading c.next_header_step.new.header) given.0 stop.why given.1 given.2)
 
 pub returns-in-Ok-None-clause-turns : goal.returns-in-Ok-None-clause-turns
 returns-in-Ok-None-clause-turns g c = λ input s.
     let end = c.in-Ok-None.ensures.end (ap Ok c.in-Ok-None.field-0-is) in
     rw (c.lines-in-Ok-None.ensures, c.ending.ensures)
-    (subst (λ r. HeaderRefused input (lines_given c.next_step.new.reader + 1) (Bad (ending r))) (sym end.1)
-    (header_ends input _ c.args.reader.now c.next_step.new.reader _ _ s c.requires end.0 (λ e. ap (g.S.Source.left) (c.in-Ok-None.ensures.idle e))))
+    (subst (λ r. HeaderRefused input (lines_given c.next_header_step.new.reader + 1) (Bad (ending r))) (sym end.1)
+    (header_ends input _ c.args.reader.now c.next_header_step.new.reader _ _ s c.requires end.0 (λ e. ap (g.S.Source.left) (c.in-Ok-None.ensures.idle e))))
 
 pub returns-in-Err-clause-turns : goal.returns-in-Err-clause-turns
 returns-in-Err-clause-turns g c = λ input s.
     let faults = g.S.Source.faults in
     rw (c.from.ensures, c.cut_fault.ensures, c.lines-in-Err.ensures)
-    (header_cut input _ c.args.reader.now c.next_step.new.reader _ _ s c.requires (faults c.args.source.now) (faults c.next_step.new.source) c.in-Err.fault c.in-Err.ensures.fault)
+    (header_cut input _ c.args.reader.now c.next_header_step.new.reader _ _ s c.requires (faults c.args.source.now) (faults c.next_header_step.new.source) c.in-Err.fault c.in-Err.ensures.fault)

@@ -1,0 +1,35 @@
+// The header of a trace, of which each reader of traces takes one line after the other.
+ghost use Rattle.std.specs.Prelude.{◌≡◌, ◌≤◌, ℕ, List, Option, IfOk, IfErr, IfSome, Ok, None, true, false};
+ghost use Rattle.lk_text.specs.Reader.{is_ended, GaveLine, MetEnd, GaveFault};
+ghost use Rattle.lk_forms.specs.Grammar.{read, has_go};
+ghost use Rattle.lk_forms.specs.Reader.{ReadsOn, reading};
+
+use lk_forms::{HeaderReader, HeaderStep, LineRefusal};
+use lk_text::{LineFault, LineReader, Source};
+
+/// What the header makes of the next line, if there is one.
+pub fn next_header_step<S: Source>(
+    header: &mut HeaderReader,
+    reader: &mut LineReader,
+    source: &mut S,
+) -> Result<Option<Result<HeaderStep, LineRefusal>>, LineFault>
+    requires { has_go (reading header.old) ≡ false }
+    ensures given { IfOk result (λ given. IfSome given (λ said. (line : List ℕ)
+        × GaveLine reader.old reader.new (S.left source.old) (S.left source.new) line
+        × ReadsOn (read (reading header.old) line) (reading header.old)
+        (reading header.new) said)) }
+    ensures end { result ≡ Ok None
+        → MetEnd reader.old reader.new (S.left source.old) (S.left source.new)
+        × (reading header.new ≡ reading header.old) }
+    ensures fault { IfErr result
+        (GaveFault reader.old reader.new (S.left source.old) (S.left source.new)
+        (S.faults source.old) (S.faults source.new)) }
+    ensures idle { is_ended reader.old ≡ true → source.new ≡ source.old }
+    ensures later { S.faults source.old ≤ S.faults source.new }
+{
+    match reader.next_line(source) {
+        Ok(Some(line)) => Ok(Some(header.line(line))),
+        Ok(None) => Ok(None),
+        Err(fault) => Err(fault),
+    }
+}
