@@ -28,7 +28,7 @@ use Rattle.lk_domain.specs.Words.{version_at, lock_at, balance_at, flag_at, next
 use Rattle.lk_domain.specs.declared.journal.Journal.{Journal}
 use Rattle.lk_domain.specs.declared.plan.Plan.{Plan}
 use Rattle.lk_domain.specs.declared.view.View.{View}
-use Rattle.lk_domain.proofs.Purses.{place_kept}
+use Rattle.lk_domain.proofs.ledger.Purses.{place_kept}
 use Rattle.lk_domain.proofs.Totals.{total-set, once_no, once_more, drawn}
 
 number_is : {a b : ℕ} → Some a ≡ Some b → a ≡ b

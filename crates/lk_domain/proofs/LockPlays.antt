@@ -32,15 +32,20 @@ use Rattle.lk_domain.specs.declared.plan.Plan.{Plan}
 use Rattle.lk_domain.specs.declared.view.View.{View}
 use Rattle.lk_law.proofs.common.Puts.{if_cases}
 use Rattle.lk_domain.proofs.Fresh as fresh
-use Rattle.lk_domain.proofs.Held.{moved_any, moved_sole}
+use Rattle.lk_domain.proofs.ledger.Held.{moved_any, moved_sole}
 use Rattle.lk_domain.proofs.Lands as lands
 use Rattle.lk_domain.proofs.OnWords as on
 use Rattle.lk_domain.proofs.OnWords.{OnWord, word_stores, on_word}
-use Rattle.lk_domain.proofs.Purses.{alters, knows_after}
+use Rattle.lk_domain.proofs.ledger.Purses.{alters, knows_after}
 
 -- what a step that writes f of the word has to do with the row
 abbrev pub Writes : Pc → (ℕ → ℕ) → Type 0
 Writes pc f = (mode : Mode) (fr : Frame) (y : Fields) → IsPackable y → Known pc y
+    → f (packed y) ≡ packed (unwrap_or (word_stores mode pc fr (target pc fr) y) y)
+
+-- the same where that rests on the frame
+abbrev pub WritesAt : Pc → Frame → (ℕ → ℕ) → Type 0
+WritesAt pc fr f = (mode : Mode) (y : Fields) → IsPackable y → Known pc y
     → f (packed y) ≡ packed (unwrap_or (word_stores mode pc fr (target pc fr) y) y)
 
 -- the row may free its lock
@@ -49,7 +54,7 @@ MayFree pc = (w : World) × (u : Waiter) × (f : Frame)
     × (grip_of (target pc f) (course_in w u f pc (target pc f)) ≡ Frees)
 
 -- a call that begins changes no count of holds
-acting_any : (mode : Mode) (c : Calls) (v : Verb) (l : ℕ)
+pub acting_any : (mode : Mode) (c : Calls) (v : Verb) (l : ℕ)
     → any_count (acting mode c v l).holds ≡ any_count c.holds
 acting_any mode c v l =
     if_cases (λ (x : Calls). any_count x.holds ≡ any_count c.holds) (is_on c.frames v l) c (begin mode c v l)
@@ -59,7 +64,7 @@ acting_any mode c v l =
     by Unlock = moved_any _ _ c.holds
     by _ = refl
 
-acting_sole : (mode : Mode) (c : Calls) (v : Verb) (l : ℕ)
+pub acting_sole : (mode : Mode) (c : Calls) (v : Verb) (l : ℕ)
     → sole_count (acting mode c v l).holds ≡ sole_count c.holds
 acting_sole mode c v l =
     if_cases (λ (x : Calls). sole_count x.holds ≡ sole_count c.holds) (is_on c.frames v l) c (begin mode c v l)
@@ -76,13 +81,13 @@ module _ (k : Plan) (slots id : ℕ) (m : Me Slot View) (number : IsNumbered m.0
     (asks : Begins m.0.calls verb l) (word : (fr : Frame) → OnWord (target pc fr))
     (home : MayFree pc → is_first (lock_name l) ≡ true → m.0.ledger.out ≡ None) where
   module _ (s : State Slot View) (both : Stand k s) (me : get_elem? s.views id ≡ some m.0) where
-    abbrev ok : Runs k s
+    abbrev pub ok : Runs k s
     ok = both.runs
 
-    planned : m.0.who.plan ≡ k
+    pub planned : m.0.who.plan ≡ k
     planned = both.runs.planned id m.0 number.0 me number.1
 
-    abbrev acts' : StandsAt (acting k.mode m.0.calls verb l) verb l pc
+    abbrev pub acts' : StandsAt (acting k.mode m.0.calls verb l) verb l pc
     acts' = record {
       frame = acts.frame;
       trail = acts.trail;
@@ -92,19 +97,19 @@ module _ (k : Plan) (slots id : ℕ) (m : Me Slot View) (number : IsNumbered m.0
       lock = acts.lock;
     }
 
-    abbrev on' : OnWord (target pc acts'.frame)
+    abbrev pub on' : OnWord (target pc acts'.frame)
     on' = word acts'.frame
 
-    abbrev y : Fields
+    abbrev pub y : Fields
     y = on.found k s ok id m.0 me number.0 number.1 verb l pc asks acts' near on'
 
-    abbrev u : View
+    abbrev pub u : View
     u = made m.0 verb l (Word y)
 
-    y_packs : IsPackable y
+    pub y_packs : IsPackable y
     y_packs = on.found_packs k s ok id m.0 me number.0 number.1 verb l pc asks acts' near on'
 
-    y_is : get_or s.words (lock_at l) 0 ≡ packed y
+    pub y_is : get_or s.words (lock_at l) 0 ≡ packed y
     y_is = on.found_is k s ok id m.0 me number.0 number.1 verb l pc asks acts' near on'
 
     met_is : lands.x k s ok id m.0 me number.0 number.1 verb l pc asks acts' (on_word (target pc acts'.frame) on') ≡ Word y
@@ -114,12 +119,12 @@ module _ (k : Plan) (slots id : ℕ) (m : Me Slot View) (number : IsNumbered m.0
     calls_are = (λ j. row_of (planned j).mode (own_number (number.1 j)) (acting (planned j).mode m.0.calls verb l) (Word y))
 
     -- the machine part
-    rows : (i : ℕ)
-        → ((mode : Mode) (fr : Frame) → Known pc y → i ≡ packed (unwrap_or (word_stores mode pc fr (target pc fr) y) y))
+    pub rows : (i : ℕ)
+        → ((mode : Mode) → Known pc y → i ≡ packed (unwrap_or (word_stores mode pc acts.frame (target pc acts.frame) y) y))
         → Runs k (record { words = set s.words (lock_at l) i; homes = s.homes; views = set s.views id u })
     rows i writes =
         on.word_step k s ok id m.0 me number.0 number.1 verb l pc asks acts' near on' i
-        (writes k.mode acts'.frame (on.known k s ok id m.0 me number.0 number.1 verb l pc asks acts' near on').0)
+        (writes k.mode (on.known k s ok id m.0 me number.0 number.1 verb l pc asks acts' near on').0)
         u refl calls_are s.homes
 
     -- the ledger part
@@ -143,7 +148,7 @@ module _ (k : Plan) (slots id : ℕ) (m : Me Slot View) (number : IsNumbered m.0
         (fresh.fresh k s ok id m.0 me number.0 number.1 verb l pc asks acts' unseen)
         (λ e on_first. home (lands.m k s ok id m.0 me number.0 number.1 verb l pc asks acts' unseen, waiter number.0 f.ctx, f, e) on_first)
 
-    keeps_on : (i : ℕ) → Keeps k (record { words = set s.words (lock_at l) i; homes = s.homes; views = set s.views id u })
+    pub keeps_on : (i : ℕ) → Keeps k (record { words = set s.words (lock_at l) i; homes = s.homes; views = set s.views id u })
     keeps_on i =
         let purse : fresh.SamePurse m.0.ledger u.ledger =
         fresh.turned_purse m.0.who.plan.mode (own_number m.0.who.number) (acting m.0.who.plan.mode m.0.calls verb l).frames (Word y) m.0.ledger in
@@ -152,27 +157,31 @@ module _ (k : Plan) (slots id : ℕ) (m : Me Slot View) (number : IsNumbered m.0
         (get_or-set_other s.words (lock_at l) version_at i 0 (λ e. omega arith))
         (λ a lt. get_or-set_other s.words (lock_at l) (balance_at k a) i 0 (λ e. omega arith)) purse.out
 
-    is_made : MadeBy verb l m (get_or s.words (lock_at l) 0) (u, m.1)
+    pub y_tail : IfSome y.tail (IsNode m.0.who.plan)
+    y_tail =
+        subst (λ (j : Plan). IfSome y.tail (IsNode j)) (sym planned)
+        (on.found_tail k s ok id m.0 me number.0 number.1 verb l pc asks acts' near on')
+
+    pub is_made : MadeBy verb l m (get_or s.words (lock_at l) 0) (u, m.1)
     is_made =
         record {
           found = y;
           packs = y_packs;
-          tail = subst (λ (j : Plan). IfSome y.tail (IsNode j)) (sym planned)
-              (on.found_tail k s ok id m.0 me number.0 number.1 verb l pc asks acts' near on');
+          tail = y_tail;
           word = y_is;
           seat = refl;
         }
 
   -- a step that makes the row, whatever it meets
-  pub plays : (st : Step Slot) (f : ℕ → ℕ) → st.word ≡ lock_at l → Writes pc f
+  pub plays_at : (st : Step Slot) (f : ℕ → ℕ) → st.word ≡ lock_at l → WritesAt pc acts.frame f
       → Allows (Stand k) slots id m (lock_at l) f (Makes verb st m)
-  plays st f at writes s both long me small =
+  plays_at st f at writes s both long me small =
       let n : ℕ = get_or s.words (lock_at l) 0 in (
         u s both me,
         keeps,
         tt,
         record {
-          runs = rows s both me (f n) (λ mode fr known. ap f (y_is s both me) ∙ writes mode fr (y s both me) (y_packs s both me) known);
+          runs = rows s both me (f n) (λ mode known. ap f (y_is s both me) ∙ writes mode (y s both me) (y_packs s both me) known);
           keeps = keeps_on s both me (f n);
         },
         λ j e. let same : l ≡ j = omega arith in
@@ -190,5 +199,17 @@ module _ (k plan : Plan) (slots id : ℕ) (m : Me Slot View) (number : IsNumbere
       → Allows (Stand k) slots id m i f (Makes verb st m)
   asks kind acts on_word home f writes =
       subst (λ (x : ℕ). Allows (Stand k) slots id m x f (Makes verb st m)) (sym at)
-      (plays k slots id m number verb l (subst (λ (x : Plan). l < locks_of x) (sym same) near) acts.row acts.stands acts.begins
-      (on_word acts.row acts.is) (home acts.row acts.is) st f (word ∙ at) (writes acts.row acts.is))
+      (plays_at k slots id m number verb l (subst (λ (x : Plan). l < locks_of x) (sym same) near) acts.row acts.stands acts.begins
+      (on_word acts.row acts.is) (home acts.row acts.is) st f (word ∙ at)
+      (λ mode y packs known. writes acts.row acts.is mode acts.stands.frame y packs known))
+
+  -- the same where what is written rests on the frame
+  pub asks_at : (kind : Pc → Bool) (acts : Acts kind m.0 verb l)
+      → ((pc : Pc) → kind pc ≡ true → (fr : Frame) → OnWord (target pc fr))
+      → ((pc : Pc) → kind pc ≡ true → MayFree pc → is_first (lock_name l) ≡ true → m.0.ledger.out ≡ None)
+      → (f : ℕ → ℕ) → WritesAt acts.row acts.stands.frame f
+      → Allows (Stand k) slots id m i f (Makes verb st m)
+  asks_at kind acts on_word home f writes =
+      subst (λ (x : ℕ). Allows (Stand k) slots id m x f (Makes verb st m)) (sym at)
+      (plays_at k slots id m number verb l (subst (λ (x : Plan). l < locks_of x) (sym same) near) acts.row acts.stands acts.begins
+      (on_word acts.row acts.is) (home acts.row acts.is) st f (word ∙ at) writes)

@@ -4,7 +4,7 @@ use Rattle.std.proofs.Common.{false, refl, sym, ap, ◌∙◌, arith, length-set
 use Rattle.std.proofs.Common.{get_or-set_same}
 use mathlib.Core.Logic.{dite}
 use native.Mathlib.Decide.{ℕ_discrete}
-use Rattle.lk_domain.specs.Calls.{Calls, no_calls, holds_in, waits_in}
+use Rattle.lk_domain.specs.Calls.{Calls, no_calls, holds_in, waits_in, slow_in}
 use Rattle.lk_domain.specs.Marked.{Marks}
 
 pub mark_set : (ms : List Bool) (f g : ℕ → Bool) (l : ℕ) (b : Bool) → l < 32 → Marks ms f → g l ≡ b
@@ -31,3 +31,6 @@ none_held c e = record { long = refl; each = λ l lt. get_false 32 l ∙ ap (λ 
 
 pub none_waiting : (c : Calls) → c ≡ no_calls → Marks (replicate 32 false) (waits_in c.frames)
 none_waiting c e = record { long = refl; each = λ l lt. get_false 32 l ∙ ap (λ (y : Calls). waits_in y.frames l) (sym e) }
+
+pub none_slow : (c : Calls) → c ≡ no_calls → Marks (replicate 32 false) (slow_in c.frames)
+none_slow c e = record { long = refl; each = λ l lt. get_false 32 l ∙ ap (λ (y : Calls). slow_in y.frames l) (sym e) }

@@ -21,7 +21,7 @@ use Rattle.lk_domain.specs.Views.{IsNumbered, own_number}
 use Rattle.lk_domain.specs.declared.plan.Plan.{Plan}
 use Rattle.lk_domain.specs.declared.view.View.{View}
 use Rattle.lk_domain.proofs.Lands.{set_at}
-use Rattle.lk_domain.proofs.Purses.{past_more, past_known}
+use Rattle.lk_domain.proofs.ledger.Purses.{past_more, past_known}
 use Rattle.lk_domain.proofs.Totals.{total-set, total-append, times-append}
 
 none_some : {a : ℕ} → None ≡ Some a → ⊥

@@ -180,8 +180,8 @@ module _ (k : Plan) (p : ℕ) (l : ℕ) (m n : Me Slot View) (met : ℕ) (seat :
     pub F1_takes : eqb met 0 ≡ true → Took k p Lock l m.0.calls m.0 n.0
     F1_takes h =
         let at = first Lock refl none made in
-        let o = rows.takes_free k.mode p at.frame made.found (ap (λ (z : LockName). z.wait) at.lock) Lock F1 refl (is_zero met made.found made.word h) in
-        takes k p Lock l F1 m.0.calls m n met seat made (begin k.mode m.0.calls Lock l) (begun_is Lock refl none made) at tt o.place o.grip
+        let o = rows.takes_free k.mode p at.frame (ap (λ (z : LockName). z.wait) at.lock) made.found Lock F1 refl (is_zero met made.found made.word h) in
+        takes k p Lock l F1 m.0.calls m n met seat made (begin k.mode m.0.calls Lock l) (begun_is Lock refl none made) at tt o.place.0 o.grip
 
     pub F1_waits : eqb met 0 ≡ false → Moved k p Lock l V1 m.0.calls m.0 n.0
     F1_waits h =
@@ -205,8 +205,8 @@ module _ (k : Plan) (p : ℕ) (l : ℕ) (m n : Me Slot View) (met : ℕ) (seat :
     pub T1_misses : eqb met 0 ≡ false → Missed k p Try l m.0.calls m.0 n.0
     T1_misses h =
         let at = first Try refl none made in
-        let o = rows.looks_held k.mode p at.frame made.found (ap (λ (z : LockName). z.wait) at.lock) Try T1 refl (not_zero met made.found made.word h) in
-        misses k p Try l T1 m.0.calls m n met seat made (begin k.mode m.0.calls Try l) (begun_is Try refl none made) at tt o.place o.grip
+        let o = rows.looks_held k.mode p at.frame (ap (λ (z : LockName). z.wait) at.lock) made.found Try T1 refl (not_zero met made.found made.word h) in
+        misses k p Try l T1 m.0.calls m n met seat made (begin k.mode m.0.calls Try l) (begun_is Try refl none made) at tt o.place.0 o.grip
 
   -- the rows of a call that goes on
   module _ (old : Calls) where
@@ -217,13 +217,13 @@ module _ (k : Plan) (p : ℕ) (l : ℕ) (m n : Me Slot View) (met : ℕ) (seat :
     module _ (made : MadeBy Try l m met n) (at : IsAt k.mode p Try l T2 Any old m.0.calls) where
       pub T2_takes : eqb met 0 ≡ true → Took k p Try l old m.0 n.0
       T2_takes h =
-          let o = rows.takes_free k.mode p at.frame made.found (plain at) Try T2 refl (is_zero met made.found made.word h) in
-          takes k p Try l T2 old m n met seat made m.0.calls (path.acts at refl) at tt o.place o.grip
+          let o = rows.takes_free k.mode p at.frame (plain at) made.found Try T2 refl (is_zero met made.found made.word h) in
+          takes k p Try l T2 old m n met seat made m.0.calls (path.acts at refl) at tt o.place.0 o.grip
 
       pub T2_misses : eqb met 0 ≡ false → Missed k p Try l old m.0 n.0
       T2_misses h =
-          let o = rows.takes_held k.mode p at.frame made.found (plain at) Try T2 refl (not_zero met made.found made.word h) in
-          misses k p Try l T2 old m n met seat made m.0.calls (path.acts at refl) at tt o.place o.grip
+          let o = rows.takes_held k.mode p at.frame (plain at) made.found Try T2 refl (not_zero met made.found made.word h) in
+          misses k p Try l T2 old m n met seat made m.0.calls (path.acts at refl) at tt o.place.0 o.grip
 
     -- V1
     module _ (made : MadeBy Lock l m met n) (at : IsAt k.mode p Lock l V1 Any old m.0.calls) where
@@ -243,8 +243,8 @@ module _ (k : Plan) (p : ℕ) (l : ℕ) (m n : Me Slot View) (met : ℕ) (seat :
     module _ (made : MadeBy Lock l m met n) (at : IsAt k.mode p Lock l V2 Any old m.0.calls) where
       pub V2_takes : eqb met 0 ≡ true → Took k p Lock l old m.0 n.0
       V2_takes h =
-          let o = rows.takes_free k.mode p at.frame made.found (plain at) Lock V2 refl (is_zero met made.found made.word h) in
-          takes k p Lock l V2 old m n met seat made m.0.calls (path.acts at refl) at tt o.place o.grip
+          let o = rows.takes_free k.mode p at.frame (plain at) made.found Lock V2 refl (is_zero met made.found made.word h) in
+          takes k p Lock l V2 old m n met seat made m.0.calls (path.acts at refl) at tt o.place.0 o.grip
 
       pub V2_waits : eqb met 0 ≡ false → Moved k p Lock l V1 old m.0 n.0
       V2_waits h =

@@ -97,6 +97,11 @@ abbrev pub waits_in : List Running → ℕ → Bool
 waits_in [] l = false
 waits_in (r ∷ rs) l = if r.frame.lock.index == l then true else waits_in rs l
 
+-- whether a call waits for it in the slow path
+abbrev pub slow_in : List Running → ℕ → Bool
+slow_in [] l = false
+slow_in (r ∷ rs) l = if r.frame.lock.index == l then is_slow r.frame.place else slow_in rs l
+
 -- whether the lock is held, by whichever context and in whichever manner
 abbrev pub holds_in : List Hold → ℕ → Bool
 holds_in [] l = false

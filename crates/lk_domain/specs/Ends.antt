@@ -1,7 +1,8 @@
 -- What is left of a domain at its end.
 use Rattle.std.specs.Prelude.{◌≡◌, ℕ, ◌<◌, ◌≤◌, ◌⊎◌, List, [], ◌∷◌, length, None, slice_index_or}
 use Rattle.lk_abs.specs.declared.ledger.Entry.{Entry}
-use Rattle.lk_domain.specs.Journals.{Replays, places}
+use Rattle.lk_domain.specs.Places.{places}
+use Rattle.lk_abs.specs.Journal.{Replays}
 use Rattle.lk_domain.specs.Keeps.{IsPast, ArePast}
 use Rattle.lk_domain.specs.Ledgers.{Ledger, Past}
 use Rattle.lk_domain.specs.Plans.{cpus_of}

@@ -11,7 +11,8 @@ use Rattle.lk_abs.specs.declared.holder.Manner.TheVariants.{Spins, Reads, Writes
 use Rattle.lk_abs.specs.declared.ledger.Entry.{Entry}
 use Rattle.lk_domain.specs.Calls.{Hold, Calls, lock_name}
 use Rattle.lk_abs.specs.Names.{same_lock}
-use Rattle.lk_domain.specs.Journals.{after_entries, Replays, places}
+use Rattle.lk_domain.specs.Places.{places}
+use Rattle.lk_abs.specs.Journal.{balances_after, Replays}
 use Rattle.lk_domain.specs.Ledgers.{Look, Out, Past, no_ledger}
 use Rattle.lk_domain.specs.Plans.{accounts_of, room_of}
 use Rattle.lk_domain.specs.Views.{total}
@@ -26,7 +27,7 @@ Slot = Option Journal
 
 -- the balance of an account after these entries
 abbrev pub balance : Plan → List Entry → ℕ → ℕ
-balance k js a = slice_index (after_entries k.balances.items js) a
+balance k js a = slice_index (balances_after k.balances.items js) a
 
 -- the plan's shares of the numbers that are not drawn
 abbrev pub undrawn : Plan → ℕ → ℕ

@@ -6,7 +6,7 @@ use Rattle.lk_abs.specs.declared.holder.Manner.TheVariants.{Spins}
 use Rattle.lk_abs.specs.declared.ledger.Entry.{Entry}
 use Rattle.lk_abs.specs.declared.names.LockName.{LockName}
 use Rattle.lk_domain.specs.Calls.{Mark, Grip, Unchanged, Takes, Frees}
-use Rattle.lk_domain.specs.Journals.{places_from}
+use Rattle.lk_domain.specs.Places.{places_from}
 
 -- a hold of lock 0: its manner, the trail up to the row that took it, and the version and the
 -- balances that were loaded in it, the newest first

@@ -1,7 +1,7 @@
 pub mod Plans
 pub mod Words
 pub mod Calls
-pub mod Journals
+pub mod Places
 pub mod Ledgers
 pub mod Who
 pub mod Views
@@ -10,8 +10,10 @@ pub mod Keeps
 pub mod Stand
 pub mod Rows
 pub mod Plays
+pub mod NodePlays
 pub mod Marked
 pub mod Seats
+pub mod NodeSeats
 pub mod Ends
 pub mod Paths
 pub mod Waits

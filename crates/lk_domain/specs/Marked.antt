@@ -1,7 +1,51 @@
--- Marks that a processor keeps of its locks.
-use Rattle.std.specs.Prelude.{◌≡◌, ℕ, ◌<◌, Bool, false, List, length, slice_index_or}
+-- What a processor notes of its calls and its locks in plain fields.
+use Rattle.std.specs.Prelude.{◌≡◌, ◌≢◌, ℕ, ◌<◌, ◌≤◌, ◌==◌, ◌||◌, Bool, true, false, List, [], ◌∷◌, length}
+use Rattle.std.specs.Prelude.{slice_index, slice_index_or, if◌then◌else◌}
+use Rattle.lk_law.specs.Families.{is_slow}
+use Rattle.lk_domain.specs.Calls.{Running, Calls, slows, waits_in, slow_in, holds_in}
+use Rattle.lk_domain.specs.declared.notes.Notes.{Notes}
 
 -- the marks are those of the numbers of which f holds
 pub record Marks (marks : List Bool) (f : ℕ → Bool) : Type 0 where
   pub long : length marks ≡ 32
   pub each : (l : ℕ) → l < 32 → slice_index_or marks l false ≡ f l
+
+-- the lock for which the call of a context waits
+abbrev pub lock_in : List Running → ℕ → ℕ
+lock_in [] d = 0
+lock_in (r ∷ rs) d = if d == length rs then r.frame.lock.index else lock_in rs d
+
+-- the locks for which the calls wait, the oldest first
+pub record AreOrdered (ls : List ℕ) (rs : List Running) : Type 0 where
+  pub locks : (d : ℕ) → d < length rs → slice_index ls d ≡ lock_in rs d
+  pub low : (d : ℕ) → d < length rs → slice_index ls d < 32
+
+-- the notes are of these calls, of which there are six at most
+pub record IsNoted (n : Notes) (c : Calls) : Type 0 where
+  pub deep : n.depth ≡ length c.frames
+  pub few : length c.frames ≤ 6
+  pub counted : n.queued ≡ slows c.frames
+  pub long : length n.order ≡ 6
+  pub ordered : AreOrdered n.order c.frames
+  pub marked : Marks n.held (holds_in c.holds)
+  pub noted : Marks n.waiting (waits_in c.frames)
+  pub slow : Marks n.slow (slow_in c.frames)
+
+-- the calls are the others, and the newest is for this lock, where one waits for it
+pub data Behind (l : ℕ) (others : List Running) : List Running → Bool → Bool → Type 0 where
+  nobody : Behind l others others false false
+  one : (r : Running) → r.frame.lock.index ≡ l
+      → Behind l others (r ∷ others) true (is_slow r.frame.place)
+
+-- The calls after a row of the one for the lock: whether it waits then, and in the slow path, and
+-- whether it has taken the lock. The others are as they were.
+pub record Steps (old new : Calls) (l : ℕ) (waits slow taken : Bool) : Type 0 where
+  pub others : List Running
+  pub waited : Bool
+  pub slowly : Bool
+  pub before : Behind l others old.frames waited slowly
+  pub after : Behind l others new.frames waits slow
+  pub none : waits_in others l ≡ false
+  pub low : length others < 6
+  pub held : holds_in new.holds l ≡ (holds_in old.holds l || taken)
+  pub holds : (x : ℕ) → x ≢ l → holds_in new.holds x ≡ holds_in old.holds x

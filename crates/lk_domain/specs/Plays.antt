@@ -1,9 +1,10 @@
 -- What each step of a seat tells it.
-use Rattle.std.specs.Prelude.{◌≡◌, ℕ, ◌+◌, ◌<◌, ◌≤◌, Bool, true, List, [], ◌∷◌, ◌++◌, length}
+use Rattle.std.specs.Prelude.{◌≡◌, ◌≢◌, ℕ, ◌+◌, ◌<◌, ◌≤◌, Bool, true, List, [], ◌∷◌, ◌++◌, length}
 use Rattle.std.specs.Prelude.{Option, Some, None, IfSome, drop, slice_index}
 use Rattle.atomic_table.specs.Table.{Me, Step}
 use Rattle.lk_abs.specs.declared.ledger.Entry.{Entry}
 use Rattle.lk_abs.specs.declared.names.Mode.{Mode}
+use Rattle.lk_word.specs.declared.spin_word.NodeName.{NodeName}
 use Rattle.lk_word.specs.declared.spin_word.Fields.{Fields}
 use Rattle.lk_word.specs.SpinWord.{packed, IsPackable}
 use Rattle.lk_machine.specs.declared.parts.Pc.{Pc}
@@ -12,7 +13,8 @@ use Rattle.lk_machine.specs.TopRow.{target}
 use Rattle.lk_law.specs.Leads.{Met, Word, held_lock}
 use Rattle.lk_domain.specs.Calls.{Running, Calls, mark, grip_of, course, row_of, acting, StandsAt}
 use Rattle.lk_domain.specs.Calls.{Begins, no_calls}
-use Rattle.lk_domain.specs.Journals.{Replays, places}
+use Rattle.lk_domain.specs.Places.{places}
+use Rattle.lk_abs.specs.Journal.{Replays}
 use Rattle.lk_domain.specs.Keeps.{Slot, IsOpen, balance}
 use Rattle.lk_domain.specs.Ledgers.{Ledger, Out, turned, loaded, sighted, taken_out, stored}
 use Rattle.lk_domain.specs.Ledgers.{brought, with_share}
@@ -20,6 +22,7 @@ use Rattle.lk_domain.specs.Plans.{accounts_of, share_of}
 use Rattle.lk_domain.specs.Views.{view, drawer, own_number}
 use Rattle.lk_domain.specs.Words.{lock_at, balance_at, IsNode}
 use Rattle.lk_domain.specs.declared.journal.Journal.{Journal}
+use Rattle.lk_domain.specs.declared.plan.Plan.{Plan}
 use Rattle.lk_domain.specs.declared.view.View.{View}
 
 -- what a row of the newest call makes of what its processor knows of the ledger
@@ -56,6 +59,13 @@ pub record MadeBy {S : Type 0} (verb : Verb) (l : ℕ) (m : Me S View) (met : �
   pub word : met ≡ packed found
   pub seat : n ≡ (made m.0 verb l (Word found), m.1)
 
+-- the number is that of such a word
+pub record IsWord (k : Plan) (n : ℕ) : Type 0 where
+  pub found : Fields
+  pub packs : IsPackable found
+  pub tail : IfSome found.tail (IsNode k)
+  pub word : n ≡ packed found
+
 -- what a step on the word of a lock tells
 abbrev pub Makes : Verb → {S : Type 0} → Step S → Me S View → ℕ → Me S View → Type 0
 Makes verb st m x n = (l : ℕ) → st.word ≡ lock_at l → MadeBy verb l m x n
@@ -66,6 +76,23 @@ pub record Acts (kind : Pc → Bool) (v : View) (verb : Verb) (l : ℕ) : Type 0
   pub is : kind row ≡ true
   pub stands : StandsAt (acting v.who.plan.mode v.calls verb l) verb l row
   pub begins : Begins v.calls verb l
+
+-- and its own node is this
+pub record ActsAs (kind : Pc → Bool) (v : View) (verb : Verb) (l : ℕ)
+    (own : NodeName) : Type 0 where
+  pub acts : Acts kind v verb l
+  pub me : acts.stands.frame.me ≡ Some own
+
+-- What an exchange of a whole word tells that is tried again where it fails: it has made the row of
+-- its call where it met the word that it expected, and else the seat is as it was.
+pub record SwappedBy {S : Type 0} (verb : Verb) (l expected : ℕ) (m : Me S View) (met : ℕ)
+    (n : Me S View) : Type 0 where
+  pub made : met ≡ expected → MadeBy verb l m met n
+  pub stands : met ≢ expected → n ≡ m
+  pub word : IsWord m.0.who.plan met
+
+abbrev pub Swaps : Verb → {S : Type 0} → Step S → Me S View → ℕ → Me S View → Type 0
+Swaps verb st m x n = (l : ℕ) → st.word ≡ lock_at l → SwappedBy verb l st.first m x n
 
 -- the first seat has drawn the number that it deals next, and the share that goes with it
 abbrev pub Draws : Step Slot → Me Slot View → ℕ → Me Slot View → Type 0

@@ -4,7 +4,8 @@ use Rattle.std.specs.Prelude.{slice_index_or}
 use Rattle.lk_abs.specs.declared.ledger.Entry.{Entry}
 use Rattle.lk_machine.specs.declared.setup.Verb.{Verb}
 use Rattle.lk_domain.specs.Calls.{Calls, no_calls}
-use Rattle.lk_domain.specs.Journals.{Replays, AllOf}
+use Rattle.lk_domain.specs.Places.{AllOf}
+use Rattle.lk_abs.specs.Journal.{Replays}
 use Rattle.lk_domain.specs.Keeps.{balance}
 use Rattle.lk_domain.specs.Ledgers.{Ledger, Out, with_share, loaded, sighted, taken_out, stored}
 use Rattle.lk_domain.specs.Ledgers.{brought}

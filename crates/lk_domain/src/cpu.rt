@@ -1,11 +1,12 @@
 // A processor: the right to step in a domain.
 ghost use Rattle.std.specs.Prelude.{◌≡◌, ◌<◌, Some, true, length};
 ghost use Rattle.lk_domain.specs.Calls.{slows, holds_in, waits_in, are_calls};
-ghost use Rattle.lk_domain.specs.Marked.{Marks};
+ghost use Rattle.lk_domain.specs.Marked.{IsNoted};
 ghost use Rattle.lk_domain.specs.Plays.{carried_with};
 
 use crate::domain::LockId;
 use crate::journal::Journal;
+use crate::notes::Notes;
 use crate::view::View;
 use atomic_table::Seat;
 
@@ -16,18 +17,10 @@ pub(crate) type Right = Seat<Option<Journal>, View>;
 #[derive(Drop)]
 pub struct Cpu {
     pub(crate) number: u32,
-    // how many of its calls wait, and how many of these are in the slow path
-    pub(crate) depth: u32,
-    pub(crate) queued: u32,
-    // the locks that it holds, and those for which its calls wait
-    pub(crate) held: [bool; 32],
-    pub(crate) waiting: [bool; 32],
+    pub(crate) notes: Notes,
     pub(crate) seat: Right,
     ghost numbered: { seat.me.0.who.number ≡ Some number },
-    ghost deep: { depth ≡ length seat.me.0.calls.frames },
-    ghost counted: { queued ≡ slows seat.me.0.calls.frames },
-    ghost marked: { Marks held (holds_in seat.me.0.calls.holds) },
-    ghost noted: { Marks waiting (waits_in seat.me.0.calls.frames) },
+    ghost noted: { IsNoted notes seat.me.0.calls },
     ghost apart: { are_calls seat.me.0.calls.frames ≡ true },
     ghost carried: { seat.me.1 ≡ carried_with seat.me.0.ledger.out },
 }
@@ -44,7 +37,14 @@ impl Cpu {
     pub fn depth(&self) -> u32
         ensures { result ≡ length self.now.seat.me.0.calls.frames }
     {
-        self.depth
+        self.notes.depth
+    }
+
+    /// How many of these are in the slow path: the index of the node that the next of them gets.
+    pub fn queued(&self) -> u32
+        ensures { result ≡ slows self.now.seat.me.0.calls.frames }
+    {
+        self.notes.queued
     }
 
     /// Whether it holds the lock, in whichever way.
@@ -52,7 +52,7 @@ impl Cpu {
         requires { lock.index < 32 }
         ensures { result ≡ holds_in self.now.seat.me.0.calls.holds lock.index }
     {
-        self.held[lock.index as usize]
+        self.notes.held[lock.index as usize]
     }
 
     /// Whether one of its calls waits for the lock.
@@ -60,6 +60,6 @@ impl Cpu {
         requires { lock.index < 32 }
         ensures { result ≡ waits_in self.now.seat.me.0.calls.frames lock.index }
     {
-        self.waiting[lock.index as usize]
+        self.notes.waiting[lock.index as usize]
     }
 }

@@ -1,7 +1,9 @@
 // A domain: one table of words, and what it was made of.
 ghost use Rattle.std.specs.Prelude.{◌≡◌, ◌+◌, ◌*◌, ◌<◌, ◌≤◌, Some, length, slice_get};
 ghost use Rattle.lk_domain.specs.Plans.{IsLawfulPlan, cpus_of, locks_of, accounts_of};
-ghost use Rattle.lk_domain.specs.Words.{words_of, lock_at, balance_at};
+ghost use Rattle.lk_domain.specs.Words.{words_of, lock_at, balance_at, flag_at, next_at, IsNode};
+ghost use Rattle.lk_domain.specs.Words.{name_number};
+ghost use Rattle.lk_word.specs.SpinWord.{tail_number};
 
 use crate::journal::Journal;
 use crate::plan::Plan;
@@ -9,6 +11,7 @@ use crate::rule::Order;
 use crate::view::View;
 use atomic_table::Table;
 use lk_abs::{Kind, Mode};
+use lk_word::NodeName;
 use std::alloc::Global;
 
 /// Locks for processors that really run, and a ledger under them.
@@ -60,6 +63,14 @@ impl Domain {
         *self.plan.locks.get(lock.index as usize)
     }
 
+    /// How many locks it has.
+    pub fn locks(&self) -> u32
+        ensures { result ≡ locks_of self.now.plan }
+    {
+        prove!(self.plan.locks.len() <= 32);
+        self.plan.locks.len() as u32
+    }
+
     /// How many accounts its ledger has.
     pub fn accounts(&self) -> u32
         ensures { result ≡ accounts_of self.now.plan }
@@ -93,5 +104,43 @@ impl Domain {
         prove!(self.plan.locks.len() <= 32);
         prove!(self.plan.balances.len() <= 64);
         8 + 8 * self.plan.locks.len() + account as usize
+    }
+
+    // Where the flag of a node stands.
+    pub(crate) fn flag_of(&self, node: NodeName) -> usize
+        requires { IsNode self.now.plan node }
+        ensures { result ≡ flag_at self.now.plan node }
+    {
+        prove!(self.plan.locks.len() <= 32);
+        prove!(self.plan.topology.sockets.len() <= 64);
+        72 + 8 * self.plan.locks.len() + (16 * node.cpu as usize + 4 * node.index as usize)
+    }
+
+    // Where the link of a node stands.
+    pub(crate) fn next_of(&self, node: NodeName) -> usize
+        requires { IsNode self.now.plan node }
+        ensures { result ≡ next_at self.now.plan node }
+    {
+        prove!(self.plan.locks.len() <= 32);
+        prove!(self.plan.topology.sockets.len() <= 64);
+        73 + 8 * self.plan.locks.len() + (16 * node.cpu as usize + 4 * node.index as usize)
+    }
+
+    // The number of the word of a free lock with this node as the tail.
+    pub(crate) fn tail_of(&self, node: NodeName) -> u64
+        requires { IsNode self.now.plan node }
+        ensures { result ≡ tail_number (Some node) }
+    {
+        prove!(self.plan.topology.sockets.len() <= 64);
+        65536 * node.index as u64 + 262144 * (node.cpu as u64 + 1)
+    }
+
+    // The number of a node.
+    pub(crate) fn name_of(&self, node: NodeName) -> u64
+        requires { IsNode self.now.plan node }
+        ensures { result ≡ name_number node }
+    {
+        prove!(self.plan.topology.sockets.len() <= 64);
+        2 + (4 * node.cpu as u64 + node.index as u64)
     }
 }

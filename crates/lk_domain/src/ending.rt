@@ -3,7 +3,7 @@ ghost use Rattle.std.specs.Prelude.{◌≡◌, ◌+◌, ◌<◌, ◌≤◌, ℕ,
 ghost use Rattle.std.specs.Prelude.{take, drop};
 ghost use Rattle.std.specs.Slots.{IsFull, slots_items, slots_len};
 ghost use Rattle.lk_domain.specs.Ends.{AllRest, HasFrom, IsEnd, IsFinal};
-ghost use Rattle.lk_domain.specs.Journals.{after_entries};
+ghost use Rattle.lk_abs.specs.Journal.{balances_after};
 ghost use Rattle.lk_domain.specs.Plans.{cpus_of, accounts_of, kind_at};
 ghost use Rattle.lk_domain.specs.Seats.{IsOf, calls_of, ledger_of, view_of};
 ghost use Rattle.lk_domain.specs.Views.{view, joined, numbers, with_more, times, all_past};
@@ -75,10 +75,7 @@ fn join(cpu: &mut Cpu, domain: &Domain, other: Cpu)
 {
     let Cpu {
         number: _,
-        depth: _,
-        queued: _,
-        held: _,
-        waiting: _,
+        notes: _,
         seat,
     } = other;
     domain
@@ -126,17 +123,14 @@ fn close_one(domain: Domain, cpu: Cpu, balances: &mut List<u64>) -> List<Entry>
     requires home { (ledger_of cpu).out ≡ None }
     requires empty { balances.old ≡ record { items = []; room = accounts_of domain.plan } }
     ensures end { IsEnd domain.plan (view_of cpu) result.items }
-    ensures balances { balances.new.items ≡ after_entries domain.plan.balances.items result.items }
+    ensures balances { balances.new.items ≡ balances_after domain.plan.balances.items result.items }
 {
     let first = domain.first_balance();
     let count = domain.accounts() as usize;
     let Domain { table, plan: _ } = domain;
     let Cpu {
         number: _,
-        depth: _,
-        queued: _,
-        held: _,
-        waiting: _,
+        notes: _,
         seat,
     } = cpu;
     let mut closed = table.close_with(seat);
@@ -158,7 +152,7 @@ pub fn close(alloc: Global, domain: Domain, cpus: List<Cpu>) -> Result<Closed, C
     ensures mode { IfOk result (λ closed. closed.mode ≡ domain.plan.mode) }
     ensures guard { IfOk result (λ closed. closed.guard ≡ kind_at domain.plan 0) }
     ensures balances { IfOk result (λ closed. closed.balances.items
-        ≡ after_entries domain.plan.balances.items closed.journal.items) }
+        ≡ balances_after domain.plan.balances.items closed.journal.items) }
     ensures ends { IfOk result (λ closed. IsFinal domain.plan cpus.items closed.journal.items) }
 {
     let Ok(mut balances) = List::new(alloc, domain.accounts() as usize) else {

@@ -10,6 +10,7 @@ ghost use Rattle.lk_domain.specs.Words.{words_of, IsOpening};
 use crate::cpu::{Cpu, Right};
 use crate::domain::Domain;
 use crate::journal::Journal;
+use crate::notes::Notes;
 use crate::plan::Plan;
 use crate::rule::{Deal, Draw};
 use atomic_table::{Refused, Table};
@@ -121,10 +122,7 @@ impl Domain {
         let seat = shared.split_seat::<Deal>(seat);
         Cpu {
             number: number as u32,
-            depth: 0,
-            queued: 0,
-            held: [false; 32],
-            waiting: [false; 32],
+            notes: Notes::new(),
             seat,
         }
     }

@@ -4,13 +4,16 @@ ghost use Rattle.lk_machine.specs.declared.setup.Verb.TheVariants.{Lock, Try, Un
 ghost use Rattle.lk_domain.specs.Calls.{lock_name};
 ghost use Rattle.lk_domain.specs.Ledgers.{is_first};
 ghost use Rattle.lk_domain.specs.Plans.{locks_of};
-ghost use Rattle.lk_domain.specs.Plays.{Acts, MadeBy};
-ghost use Rattle.lk_domain.specs.Rows.{is_look, is_take, is_free};
+ghost use Rattle.lk_domain.specs.Plays.{Acts, ActsAs, MadeBy, SwappedBy};
+ghost use Rattle.lk_domain.specs.Rows.{is_look, is_take, is_free, pends_by, clears_by, claims_by};
+ghost use Rattle.lk_domain.specs.Rows.{arrives_by, soles_by, stakes_by};
 ghost use Rattle.lk_domain.specs.Views.{IsNumbered};
+ghost use Rattle.lk_domain.specs.Words.{IsNode};
 
 use crate::cpu::Right;
 use crate::domain::Domain;
-use crate::rule::{Locks, Tries, Unlocks};
+use crate::rule::{Exchanges, Locks, Tries, Unlocks};
+use lk_word::NodeName;
 
 // Looks at the word, by a call of `lock`.
 pub(crate) fn look(seat: &mut Right, domain: &Domain, lock: u32) -> u64
@@ -86,5 +89,111 @@ pub(crate) fn release(seat: &mut Right, domain: &Domain, lock: u32) -> u64
 {
     let word = domain.word_of(lock);
     let met = domain.table.shared.fetch_sub::<Unlocks>(seat, word, 1);
+    met
+}
+
+// Sets bit 8, pending, whatever else the word is: nobody loses what he has set, and the call knows by
+// the old word whether it was the first.
+pub(crate) fn set_pending(seat: &mut Right, domain: &Domain, lock: u32) -> u64
+    requires table { seat.old.table_id ≡ domain.now.table.shared.table_id }
+    requires lock { lock < locks_of domain.now.plan }
+    requires number { IsNumbered seat.old.me.0 }
+    requires row { Acts (pends_by Lock) seat.old.me.0 Lock lock }
+    ensures same { (seat.new.table_id ≡ seat.old.table_id) × (seat.new.id ≡ seat.old.id) }
+    ensures step { MadeBy Lock lock seat.old.me result seat.new.me }
+{
+    let word = domain.word_of(lock);
+    let met = domain.table.shared.fetch_or::<Locks>(seat, word, 256);
+    met
+}
+
+// Takes 256 off: the call has set pending, so that this clears it and leaves the rest.
+pub(crate) fn clear_pending(seat: &mut Right, domain: &Domain, lock: u32) -> u64
+    requires table { seat.old.table_id ≡ domain.now.table.shared.table_id }
+    requires lock { lock < locks_of domain.now.plan }
+    requires number { IsNumbered seat.old.me.0 }
+    requires row { Acts (clears_by Lock) seat.old.me.0 Lock lock }
+    ensures same { (seat.new.table_id ≡ seat.old.table_id) × (seat.new.id ≡ seat.old.id) }
+    ensures step { MadeBy Lock lock seat.old.me result seat.new.me }
+{
+    let word = domain.word_of(lock);
+    let met = domain.table.shared.fetch_sub::<Locks>(seat, word, 256);
+    met
+}
+
+// Takes 256 off and adds 1, in one step: the call has set pending and has seen the byte free, which
+// nobody else may take, so that this clears pending and holds the lock.
+pub(crate) fn pending_to_locked(seat: &mut Right, domain: &Domain, lock: u32) -> u64
+    requires table { seat.old.table_id ≡ domain.now.table.shared.table_id }
+    requires lock { lock < locks_of domain.now.plan }
+    requires number { IsNumbered seat.old.me.0 }
+    requires row { Acts (claims_by Lock) seat.old.me.0 Lock lock }
+    ensures same { (seat.new.table_id ≡ seat.old.table_id) × (seat.new.id ≡ seat.old.id) }
+    ensures step { MadeBy Lock lock seat.old.me result seat.new.me }
+{
+    let word = domain.word_of(lock);
+    let met = domain.table.shared.fetch_sub::<Locks>(seat, word, 255);
+    met
+}
+
+// Adds 1: the first of the queue has seen the byte free, which nobody else may take, so that this
+// holds the lock and leaves pending and the tail.
+pub(crate) fn set_locked(seat: &mut Right, domain: &Domain, lock: u32) -> u64
+    requires table { seat.old.table_id ≡ domain.now.table.shared.table_id }
+    requires lock { lock < locks_of domain.now.plan }
+    requires number { IsNumbered seat.old.me.0 }
+    requires row { Acts (stakes_by Lock) seat.old.me.0 Lock lock }
+    ensures same { (seat.new.table_id ≡ seat.old.table_id) × (seat.new.id ≡ seat.old.id) }
+    ensures step { MadeBy Lock lock seat.old.me result seat.new.me }
+{
+    let word = domain.word_of(lock);
+    let met = domain.table.shared.fetch_add::<Locks>(seat, word, 1);
+    met
+}
+
+// Exchanges the word of a queue of the own node alone for the held one. A node that comes behind, or
+// a pending bit, makes it fail, so that neither is lost.
+pub(crate) fn sole_claim(seat: &mut Right, domain: &Domain, lock: u32, own: NodeName) -> u64
+    requires table { seat.old.table_id ≡ domain.now.table.shared.table_id }
+    requires lock { lock < locks_of domain.now.plan }
+    requires number { IsNumbered seat.old.me.0 }
+    requires own { IsNode domain.now.plan own }
+    requires row { ActsAs (soles_by Lock) seat.old.me.0 Lock lock own }
+    ensures same { (seat.new.table_id ≡ seat.old.table_id) × (seat.new.id ≡ seat.old.id) }
+    ensures step { MadeBy Lock lock seat.old.me result seat.new.me }
+{
+    let word = domain.word_of(lock);
+    let tail = domain.tail_of(own);
+    let met = domain
+        .table
+        .shared
+        .compare_exchange::<Locks>(seat, word, tail, 1);
+    met
+}
+
+// Exchanges the expected word for that with the own node as the tail, and the same low half. It fails
+// where the word is another, and changes nothing then.
+pub(crate) fn exchange_tail(
+    seat: &mut Right,
+    domain: &Domain,
+    lock: u32,
+    expected: u64,
+    own: NodeName,
+) -> u64
+    requires table { seat.old.table_id ≡ domain.now.table.shared.table_id }
+    requires lock { lock < locks_of domain.now.plan }
+    requires number { IsNumbered seat.old.me.0 }
+    requires own { IsNode domain.now.plan own }
+    requires row { ActsAs (arrives_by Lock) seat.old.me.0 Lock lock own }
+    ensures same { (seat.new.table_id ≡ seat.old.table_id) × (seat.new.id ≡ seat.old.id) }
+    ensures step { SwappedBy Lock lock expected seat.old.me result seat.new.me }
+{
+    let word = domain.word_of(lock);
+    let tail = domain.tail_of(own);
+    let new = expected % 65536 + tail;
+    let met = domain
+        .table
+        .shared
+        .compare_exchange::<Exchanges>(seat, word, expected, new);
     met
 }

@@ -1,7 +1,8 @@
 // The rule of a domain's table, and what its steps tell.
 ghost use Rattle.lk_domain.specs.Calls.{no_calls};
 ghost use Rattle.lk_domain.specs.Ledgers.{no_ledger};
-ghost use Rattle.lk_domain.specs.Plays.{Makes, Draws, Loads, Sees, TakesJournal, Stores, Brings};
+ghost use Rattle.lk_domain.specs.NodePlays.{Readies, Enters, Links, SeesFlag, SeesLink, Hands};
+ghost use Rattle.lk_domain.specs.Plays.{Makes, Swaps, Draws, Loads, Sees, TakesJournal, Stores, Brings};
 ghost use Rattle.lk_domain.specs.Stand.{Stand};
 ghost use Rattle.lk_domain.specs.Views.{view, dealer, newcomer, nobody, own_number, joined};
 ghost use Rattle.lk_domain.specs.Views.{with_more};
@@ -39,6 +40,55 @@ pub struct Unlocks;
 
 impl Play<Option<Journal>, View> for Unlocks {
     ghost then = { Makes Unlock };
+}
+
+// An exchange of a lock's whole word by a call of `lock`, which may be tried again.
+pub struct Exchanges;
+
+impl Play<Option<Journal>, View> for Exchanges {
+    ghost then = { Swaps Lock };
+}
+
+// The flag of the node to come is reset.
+pub struct Resets;
+
+impl Play<Option<Journal>, View> for Resets {
+    ghost then = { λ _. Readies };
+}
+
+// A call enters the slow path.
+pub struct Entries;
+
+impl Play<Option<Journal>, View> for Entries {
+    ghost then = { λ _. Enters };
+}
+
+// A call links its node behind the one before it.
+pub struct Linkings;
+
+impl Play<Option<Journal>, View> for Linkings {
+    ghost then = { λ _. Links };
+}
+
+// A call looks at the flag of its node.
+pub struct FlagLooks;
+
+impl Play<Option<Journal>, View> for FlagLooks {
+    ghost then = { λ _. SeesFlag };
+}
+
+// A call looks at the link of its node.
+pub struct LinkLooks;
+
+impl Play<Option<Journal>, View> for LinkLooks {
+    ghost then = { λ _. SeesLink };
+}
+
+// A call hands the lead on.
+pub struct Handovers;
+
+impl Play<Option<Journal>, View> for Handovers {
+    ghost then = { λ _. Hands };
 }
 
 // The first seat draws a number.

@@ -1,17 +1,22 @@
-// One step of a processor on the word of a lock, and what it then keeps of its calls.
+// One step of a processor, and what it then notes of its calls. Here are the steps that need no
+// queue.
 ghost use Rattle.std.specs.Prelude.{◌≡◌, ◌<◌, ◌==◌, true, false, None};
 ghost use Rattle.lk_machine.specs.declared.setup.Verb.TheVariants.{Unlock};
 ghost use Rattle.lk_domain.specs.Calls.{is_on, lock_name};
 ghost use Rattle.lk_domain.specs.Ledgers.{is_first};
 ghost use Rattle.lk_domain.specs.Plans.{locks_of};
 ghost use Rattle.lk_domain.specs.Plays.{Acts, MadeBy};
-ghost use Rattle.lk_domain.specs.Rows.{looks_by, takes_by, frees_by, looks_on, takes_on};
+ghost use Rattle.lk_domain.specs.Rows.{looks_by, takes_by, frees_by, looks_on, takes_on, pends_by};
+ghost use Rattle.lk_domain.specs.Rows.{clears_by, claims_by};
 ghost use Rattle.lk_domain.specs.Seats.{IsOf, KeepsRest, Made, ledger_of, view_of};
 ghost use Rattle.lk_domain.specs.Views.{IsNumbered};
 
 use crate::cpu::{Cpu, Right};
 use crate::domain::Domain;
 use crate::moves;
+pub use crate::queue_steps::{
+    enter_bare, exchange_tail, hand, link, look_own, private_store, set_locked, sole_claim,
+};
 use lk_abs::LockName;
 use lk_machine::Verb;
 
@@ -61,8 +66,8 @@ fn waits_after_take(verb: Verb, met: u64) -> bool
     matches!(verb, Verb::Lock) && met != 0
 }
 
-/// Looks at the word of a lock, and gives it: 0 where the lock is free. These are the rows V1, by a
-/// call of `lock`, and T1, by one of `try_lock`.
+/// Looks at the word of a lock, and gives it: 0 where the lock is free. By a call of `try_lock` this
+/// is the row T1, and by one of `lock` a row of its mode: V1, P0, P3, G2, G7 or N1.
 pub fn look(cpu: &mut Cpu, domain: &Domain, verb: Verb, lock: LockName) -> u64
     requires domain { IsOf cpu.old domain.now }
     requires lock { lock.index < locks_of domain.now.plan }
@@ -72,17 +77,15 @@ pub fn look(cpu: &mut Cpu, domain: &Domain, verb: Verb, lock: LockName) -> u64
     ensures step { Made verb lock.index cpu.old result cpu.new }
 {
     prove!(domain.plan.locks.len() <= 32);
-    let index = lock.index as usize;
-    let was = cpu.waiting[index];
+    let slow = cpu.notes.slow[lock.index as usize];
     let met = seat_looks(&mut cpu.seat, domain, verb, lock.index);
     let waits = waits_after_look(verb, met);
-    cpu.depth = cpu.depth - u32::from(was) + u32::from(waits);
-    cpu.waiting[index] = waits;
+    cpu.notes.step(lock.index, waits, slow, false);
     met
 }
 
 /// Swaps the free word of a lock for the held one, and gives the word that it met: 0 where it took
-/// the lock. These are the rows F1 and V2, by a call of `lock`, and T2, by one of `try_lock`.
+/// the lock. By a call of `try_lock` this is the row T2, and by one of `lock` F1, V2, G3 or N2.
 pub fn take_free(cpu: &mut Cpu, domain: &Domain, verb: Verb, lock: LockName) -> u64
     requires domain { IsOf cpu.old domain.now }
     requires lock { lock.index < locks_of domain.now.plan }
@@ -92,13 +95,10 @@ pub fn take_free(cpu: &mut Cpu, domain: &Domain, verb: Verb, lock: LockName) -> 
     ensures step { Made verb lock.index cpu.old result cpu.new }
 {
     prove!(domain.plan.locks.len() <= 32);
-    let index = lock.index as usize;
-    let was = cpu.waiting[index];
+    let slow = cpu.notes.slow[lock.index as usize];
     let met = seat_takes(&mut cpu.seat, domain, verb, lock.index);
     let waits = waits_after_take(verb, met);
-    cpu.depth = cpu.depth - u32::from(was) + u32::from(waits);
-    cpu.waiting[index] = waits;
-    cpu.held[index] = cpu.held[index] | (met == 0);
+    cpu.notes.step(lock.index, waits, slow & waits, met == 0);
     met
 }
 
@@ -113,8 +113,47 @@ pub fn release(cpu: &mut Cpu, domain: &Domain, verb: Verb, lock: LockName) -> u6
     ensures step { Made verb lock.index cpu.old result cpu.new }
 {
     prove!(domain.plan.locks.len() <= 32);
-    let index = lock.index as usize;
     let met = moves::release(&mut cpu.seat, domain, lock.index);
-    cpu.held[index] = false;
+    cpu.notes.held[lock.index as usize] = false;
+    met
+}
+
+/// Sets pending, and gives the word that it met. This is the row P1.
+pub fn set_pending(cpu: &mut Cpu, domain: &Domain, verb: Verb, lock: LockName) -> u64
+    requires domain { IsOf cpu.old domain.now }
+    requires lock { lock.index < locks_of domain.now.plan }
+    requires plain { lock.wait ≡ false }
+    requires row { Acts (pends_by verb) (view_of cpu.old) verb lock.index }
+    ensures rest { KeepsRest cpu.old cpu.new }
+    ensures step { Made verb lock.index cpu.old result cpu.new }
+{
+    moves::set_pending(&mut cpu.seat, domain, lock.index)
+}
+
+/// Takes pending away, which the call has set, and gives the word that it met. This is the row P2.
+pub fn clear_pending(cpu: &mut Cpu, domain: &Domain, verb: Verb, lock: LockName) -> u64
+    requires domain { IsOf cpu.old domain.now }
+    requires lock { lock.index < locks_of domain.now.plan }
+    requires plain { lock.wait ≡ false }
+    requires row { Acts (clears_by verb) (view_of cpu.old) verb lock.index }
+    ensures rest { KeepsRest cpu.old cpu.new }
+    ensures step { Made verb lock.index cpu.old result cpu.new }
+{
+    moves::clear_pending(&mut cpu.seat, domain, lock.index)
+}
+
+/// Takes the free lock and clears pending, which the call has set, and gives the word that it met.
+/// This is the row P4.
+pub fn pending_to_locked(cpu: &mut Cpu, domain: &Domain, verb: Verb, lock: LockName) -> u64
+    requires domain { IsOf cpu.old domain.now }
+    requires lock { lock.index < locks_of domain.now.plan }
+    requires plain { lock.wait ≡ false }
+    requires row { Acts (claims_by verb) (view_of cpu.old) verb lock.index }
+    ensures rest { KeepsRest cpu.old cpu.new }
+    ensures step { Made verb lock.index cpu.old result cpu.new }
+{
+    prove!(domain.plan.locks.len() <= 32);
+    let met = moves::pending_to_locked(&mut cpu.seat, domain, lock.index);
+    cpu.notes.step(lock.index, false, false, true);
     met
 }

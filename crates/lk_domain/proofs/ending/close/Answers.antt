@@ -1,6 +1,6 @@
 use Rattle.std.proofs.Common.{sym, arith}
 use Rattle.lk_domain.specs.Seats.{view_of}
-use Rattle.lk_domain.proofs.Heirs.{has_all, final}
+use Rattle.lk_domain.proofs.ledger.Heirs.{has_all, final}
 use Rattle.lk_domain.proofs.ending.close.Goals as goal
 
 pub close_one-journal-requires-clause-all : goal.close_one-journal-requires-clause-all

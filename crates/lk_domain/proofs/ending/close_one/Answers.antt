@@ -2,13 +2,13 @@ use Rattle.std.proofs.Common.{sym, ap, ◌∙◌, ◌≡◌, ◌<◌, ◌+◌, S
 use Rattle.std.specs.Slots.{slots_items}
 use Rattle.lk_abs.specs.declared.ledger.Entry.{Entry}
 use Rattle.lk_domain.specs.Ends.{IsEnd}
-use Rattle.lk_domain.specs.Journals.{after_entries}
+use Rattle.lk_abs.specs.Journal.{balances_after}
 use Rattle.lk_domain.specs.Plans.{cpus_of, accounts_of}
 use Rattle.lk_domain.specs.Words.{balance_at}
 use Rattle.lk_domain.specs.declared.journal.Journal.{Journal}
 use Rattle.lk_domain.specs.declared.plan.Plan.{Plan}
-use Rattle.lk_domain.proofs.Last.{ended_with, are_read}
-use Rattle.lk_domain.proofs.Loads.{entries_long}
+use Rattle.lk_domain.proofs.ledger.Last.{ended_with, are_read}
+use Rattle.lk_domain.proofs.ledger.Loads.{entries_long}
 use Rattle.lk_domain.proofs.ending.close_one.Goals as goal
 
 pub unreachable-requires : goal.unreachable-requires
@@ -43,7 +43,7 @@ returns-clause-balances c =
     let e : t.journal ≡ c.in-Some.journal = cc in
     let es : t.journal.entries.items ≡ c.into_list.result.items =
     ap (λ (j : Journal). j.entries.items) e ∙ ap (λ l. l.items) (sym c.into_list.ensures) in
-    let bs = after_entries d.plan.balances.items c.into_list.result.items in
+    let bs = balances_after d.plan.balances.items c.into_list.result.items in
     c.read.ensures
     ∙ are_read ws bs c.first_balance-first.result c.accounts-count.result
     (let a = c.accounts-count.ensures in let b = entries_long d.plan.balances.items c.into_list.result.items in omega arith) (let a = c.close_with-closed.ensures.counts.0 in let b = c.close_with-closed.result.words.ok in let w = d.words in let x = c.first_balance-first.ensures in let y = c.accounts-count.ensures in let z = d.lawful.accounts in omega (arith, a, b.0, w, x, y, z))
@@ -52,4 +52,4 @@ returns-clause-balances c =
     let less : a < accounts_of d.table.shared.key = subst (λ (k : Plan). a < accounts_of k) (sym d.key) (let y = c.accounts-count.ensures in omega arith) in
     ap (λ (j : ℕ). get_or ws j 0) at
     ∙ (ap (λ (k : Plan). get_or ws (balance_at k a) 0) (sym d.key)
-    ∙ (t.words a less ∙ (λ j. get_or (after_entries (d.key j).balances.items (es j)) a 0))))
+    ∙ (t.words a less ∙ (λ j. get_or (balances_after (d.key j).balances.items (es j)) a 0))))

@@ -4,8 +4,8 @@ use Rattle.atomic_table.specs.Table.{step, Me, rest}
 use Rattle.lk_domain.specs.Keeps.{Slot}
 use Rattle.lk_domain.specs.Plays.{carried_with}
 use Rattle.lk_domain.specs.declared.view.View.{View}
-use Rattle.lk_domain.proofs.Stores.{brings_at}
-use Rattle.lk_domain.proofs.Told as told
+use Rattle.lk_domain.proofs.ledger.Stores.{brings_at}
+use Rattle.lk_domain.proofs.ledger.Told as told
 use Rattle.lk_domain.proofs.pages.journal_home.Goals as goal
 
 pub store-requires : goal.store-requires
@@ -36,9 +36,6 @@ invariant_of-cpu c =
     let same = ap (λ (x : Me Slot View). x.0.calls) t in
     record {
       numbered = ap (λ (x : Me Slot View). x.0.who.number) t ∙ cpu.numbered;
-      deep = told.deep cpu.seat.me.0.calls n.0.calls same cpu.deep;
-      counted = told.counted cpu.seat.me.0.calls n.0.calls same cpu.counted;
-      marked = told.marked cpu.seat.me.0.calls n.0.calls same cpu.marked;
       noted = told.noted cpu.seat.me.0.calls n.0.calls same cpu.noted;
       apart = told.apart cpu.seat.me.0.calls n.0.calls same cpu.apart;
       carried = ap (λ (x : Me Slot View). x.1) t ∙ ap (λ (x : Me Slot View). carried_with x.0.ledger.out) (sym t);

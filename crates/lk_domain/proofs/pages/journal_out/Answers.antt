@@ -3,7 +3,7 @@ use mathlib.Core.Option.{none}
 use Rattle.atomic_table.specs.Table.{step, Me, rest}
 use Rattle.lk_domain.specs.Keeps.{Slot}
 use Rattle.lk_domain.specs.declared.view.View.{View}
-use Rattle.lk_domain.proofs.Loads.{takes_journal}
+use Rattle.lk_domain.proofs.ledger.Loads.{takes_journal}
 use Rattle.lk_domain.proofs.pages.journal_out.Goals as goal
 
 pub load-requires : goal.load-requires

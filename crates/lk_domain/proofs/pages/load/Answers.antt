@@ -4,8 +4,8 @@ use Rattle.atomic_table.specs.Table.{step}
 use Rattle.lk_domain.specs.Ledgers.{loaded}
 use Rattle.lk_domain.specs.Words.{balance_at}
 use Rattle.lk_domain.specs.declared.plan.Plan.{Plan}
-use Rattle.lk_domain.proofs.Loads.{loads}
-use Rattle.lk_domain.proofs.Told as told
+use Rattle.lk_domain.proofs.ledger.Loads.{loads}
+use Rattle.lk_domain.proofs.ledger.Told as told
 use Rattle.lk_domain.proofs.pages.load.Goals as goal
 
 pub load-requires : goal.load-requires
@@ -30,9 +30,6 @@ invariant_of-cpu c =
     let same = told.calls m n g e.seat in
     record {
       numbered = told.numbered m n g e.seat cpu.numbered;
-      deep = told.deep m.0.calls n.0.calls same cpu.deep;
-      counted = told.counted m.0.calls n.0.calls same cpu.counted;
-      marked = told.marked m.0.calls n.0.calls same cpu.marked;
       noted = told.noted m.0.calls n.0.calls same cpu.noted;
       apart = told.apart m.0.calls n.0.calls same cpu.apart;
       carried = told.carried m n g e.seat refl cpu.carried;

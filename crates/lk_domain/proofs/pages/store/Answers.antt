@@ -5,8 +5,8 @@ use Rattle.lk_domain.specs.Ledgers.{stored}
 use Rattle.lk_domain.specs.Plays.{carried_with}
 use Rattle.lk_domain.specs.Words.{balance_at}
 use Rattle.lk_domain.specs.declared.plan.Plan.{Plan}
-use Rattle.lk_domain.proofs.Stores.{stores}
-use Rattle.lk_domain.proofs.Told as told
+use Rattle.lk_domain.proofs.ledger.Stores.{stores}
+use Rattle.lk_domain.proofs.ledger.Told as told
 use Rattle.lk_domain.proofs.pages.store.Goals as goal
 
 pub store-requires : goal.store-requires
@@ -33,9 +33,6 @@ invariant_of-cpu c =
     let same = told.calls m n g e in
     record {
       numbered = told.numbered m n g e cpu.numbered;
-      deep = told.deep m.0.calls n.0.calls same cpu.deep;
-      counted = told.counted m.0.calls n.0.calls same cpu.counted;
-      marked = told.marked m.0.calls n.0.calls same cpu.marked;
       noted = told.noted m.0.calls n.0.calls same cpu.noted;
       apart = told.apart m.0.calls n.0.calls same cpu.apart;
       carried = told.carried m n g e (ap carried_with (sym c.requires.out.1)) cpu.carried;

@@ -2,8 +2,8 @@ use Rattle.std.proofs.Common.{refl, arith}
 use mathlib.Core.Option.{none}
 use Rattle.atomic_table.specs.Table.{step}
 use Rattle.lk_domain.specs.Ledgers.{sighted}
-use Rattle.lk_domain.proofs.Loads.{sees}
-use Rattle.lk_domain.proofs.Told as told
+use Rattle.lk_domain.proofs.ledger.Loads.{sees}
+use Rattle.lk_domain.proofs.ledger.Told as told
 use Rattle.lk_domain.proofs.pages.version.Goals as goal
 
 pub load-requires : goal.load-requires
@@ -26,9 +26,6 @@ invariant_of-cpu c =
     let same = told.calls m n g e in
     record {
       numbered = told.numbered m n g e cpu.numbered;
-      deep = told.deep m.0.calls n.0.calls same cpu.deep;
-      counted = told.counted m.0.calls n.0.calls same cpu.counted;
-      marked = told.marked m.0.calls n.0.calls same cpu.marked;
       noted = told.noted m.0.calls n.0.calls same cpu.noted;
       apart = told.apart m.0.calls n.0.calls same cpu.apart;
       carried = told.carried m n g e refl cpu.carried;

@@ -1,11 +1,11 @@
-use Rattle.std.proofs.Common.{sym, ap, arith, ◌<◌, ◌∙◌, length, List}
+use Rattle.std.proofs.Common.{ap, arith, ◌<◌, ◌∙◌}
 use Rattle.lk_machine.specs.declared.setup.Verb.TheVariants.{Unlock}
 use Rattle.lk_law.specs.Agree.{halts}
-use Rattle.lk_domain.specs.Calls.{Running, are_calls, slows}
+use Rattle.lk_domain.specs.Calls.{are_calls}
 use Rattle.lk_domain.specs.declared.plan.Plan.{Plan}
 use Rattle.lk_domain.proofs.Carried as row
 use Rattle.lk_domain.proofs.Freed as freed
-use Rattle.lk_domain.proofs.Stepped as stepped
+use Rattle.lk_domain.proofs.Noted.{freed_noted}
 use Rattle.lk_domain.proofs.steps.release.Goals as goal
 
 pub invariant_of-cpu : goal.invariant_of-cpu
@@ -21,10 +21,7 @@ invariant_of-cpu c =
     let frames = freed.frames_are l met m n made cpu.apart awake in
     record {
       numbered = row.numbered Unlock l met m n made cpu.numbered;
-      deep = cpu.deep ∙ ap (λ (xs : List Running). length xs) (sym frames);
-      counted = cpu.counted ∙ ap slows (sym frames);
-      marked = freed.held l met m n made cpu.apart awake cpu.held lt cpu.marked;
-      noted = stepped.waits_same m.0.calls n.0.calls frames cpu.waiting cpu.noted;
+      noted = freed_noted cpu.notes m.0.calls n.0.calls _ frames (freed.held l met m n made cpu.apart awake cpu.notes.held lt cpu.noted.marked) cpu.noted;
       apart = ap are_calls frames ∙ cpu.apart;
       carried = row.carried Unlock l met m n made cpu.carried;
     }

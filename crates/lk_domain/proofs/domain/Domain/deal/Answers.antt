@@ -1,14 +1,14 @@
-use Rattle.std.proofs.Common.{sym, ap, arith, ◌∙◌, Some, length}
+use Rattle.std.proofs.Common.{sym, ap, arith, ◌∙◌, Some, subst}
 use mathlib.Core.Option.{none}
 use Rattle.atomic_table.specs.Table.{step, Me}
-use Rattle.lk_domain.specs.Calls.{slows, no_calls, are_calls}
+use Rattle.lk_domain.specs.Calls.{no_calls, are_calls}
 use Rattle.lk_domain.specs.Keeps.{Slot}
+use Rattle.lk_domain.specs.Marked.{IsNoted}
 use Rattle.lk_domain.specs.Plays.{carried_with}
 use Rattle.lk_domain.specs.Views.{dealer, drawer, view}
 use Rattle.lk_domain.specs.declared.view.View.{View}
 use Rattle.lk_domain.proofs.Dealt.{draws, drawn_by}
 use Rattle.lk_domain.proofs.Parted.{splits_at}
-use Rattle.lk_domain.proofs.Marks.{none_held, none_waiting}
 use Rattle.lk_domain.proofs.domain.Domain.deal.Goals as goal
 
 pub fetch_add-number-requires : goal.fetch_add-number-requires
@@ -42,10 +42,7 @@ invariant_of-result c =
     let few = d.lawful.cpus in
     record {
       numbered = ap (λ (v : View). v.who.number) at ∙ (ap (λ (v : View). Some (Rattle.lk_domain.specs.Views.own_number v.who.number)) t.1 ∙ (let z = t.0 in let y = c.requires.low in ap Some (omega arith)));
-      deep = ap (λ (x : Rattle.lk_domain.specs.Calls.Calls). length x.frames) (sym calls);
-      counted = ap (λ (x : Rattle.lk_domain.specs.Calls.Calls). slows x.frames) (sym calls);
-      marked = none_held c.split_seat-seat.result.me.0.calls calls;
-      noted = none_waiting c.split_seat-seat.result.me.0.calls calls;
+      noted = subst (λ (x : Rattle.lk_domain.specs.Calls.Calls). IsNoted c.new.result x) (sym calls) c.new.ensures;
       apart = ap (λ (x : Rattle.lk_domain.specs.Calls.Calls). are_calls x.frames) calls;
       carried = ap (λ (x : Me Slot View). x.1) c.split_seat-seat.ensures.4 ∙ ap carried_with (sym (ap (λ (v : View). v.ledger.out) at ∙ ap (λ (v : View). v.ledger.out) t.1));
     }

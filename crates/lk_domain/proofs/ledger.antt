@@ -1,0 +1,9 @@
+pub mod Held
+pub mod Purses
+pub mod Alone
+pub mod Loads
+pub mod Grown
+pub mod Stores
+pub mod Told
+pub mod Heirs
+pub mod Last

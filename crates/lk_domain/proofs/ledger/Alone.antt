@@ -1,0 +1,124 @@
+-- Who holds lock 0 alone is one seat; and a step on a word of the ledger leaves the machine part.
+use Rattle.std.proofs.Common.{◌≡◌, ◌≢◌, ◌⊎◌, inl, inr, ⊎_elim, ℕ, ◌+◌, ◌*◌, ◌<◌, ◌≤◌, List, set, get_or, Option, Some}
+use Rattle.std.proofs.Common.{None, refl, sym, ap, ◌∙◌, subst, arith, length-set, get_or-set_other}
+use mathlib.Core.Option.{Option as Maybe, some, some-injective}
+use lib.ListN.{get_elem?}
+use Rattle.atomic_table.specs.Table.{State}
+use Rattle.lk_abs.specs.declared.names.Waiter.{Waiter}
+use Rattle.lk_law.proofs.running.Holds.{holder_is_one}
+use Rattle.lk_domain.specs.Calls.{Calls, no_calls, lock_name}
+use Rattle.lk_domain.specs.Keeps.{Slot, any_count, sole_count, holds_first, alone_first, Keeps, AtHome, Away}
+use Rattle.lk_domain.specs.Ledgers.{Out}
+use Rattle.lk_domain.specs.Plans.{locks_of}
+use Rattle.lk_domain.specs.Runs.{Runs, SeatFits, waiter}
+use Rattle.lk_domain.specs.Stand.{Stand}
+use Rattle.lk_domain.specs.Views.{IsNumbered}
+use Rattle.lk_domain.specs.Words.{lock_at, flag_at, next_at}
+use Rattle.lk_domain.specs.declared.plan.Plan.{Plan}
+use Rattle.lk_domain.specs.declared.view.View.{View}
+use Rattle.lk_domain.proofs.ledger.Held.{any_some, sole_any}
+use Rattle.lk_domain.proofs.Lands as lands
+use Rattle.lk_domain.proofs.Stacks.{holder_of}
+use Rattle.lk_domain.proofs.Totals.{apart}
+
+-- a seat with a lock has a number
+pub has_lock : (k : Plan) (s : State Slot View) (ok : Runs k s) (i : ℕ) (v : View)
+    → get_elem? s.views i ≡ some v → 1 ≤ any_count v.calls.holds → IsNumbered v
+has_lock k s ok i v at has = at_number v.who.number refl
+  where
+    at_number : (o : Option ℕ) → v.who.number ≡ o → IsNumbered v
+    at_number None e =
+        let q : v.calls ≡ no_calls = ok.silent i v at e in
+        absurd (omega (arith, has, ap (λ (c : Calls). any_count c.holds) q))
+    at_number (Some q) e = (q, e)
+
+-- two seats that hold it are one
+pub one_seat : (k : Plan) (s : State Slot View) (ok : Runs k s) (i j : ℕ) (v u : View)
+    → get_elem? s.views i ≡ some v → get_elem? s.views j ≡ some u → 1 ≤ any_count v.calls.holds
+    → 1 ≤ any_count u.calls.holds → j ≡ i
+one_seat k s ok i j v u a b hv hu =
+    let n = has_lock k s ok i v a hv in
+    let q = has_lock k s ok j u b hu in
+    let x : SeatFits ok.world n.0 v.calls = ok.seats i v n.0 a n.1 in
+    let y : SeatFits ok.world q.0 u.calls = ok.seats j u q.0 b q.1 in
+    let d = holder_of v.calls.holds 0 x.spun (any_some v.calls.holds hv) in
+    let e = holder_of u.calls.holds 0 y.spun (any_some u.calls.holds hu) in
+    let same : waiter n.0 d.0 ≡ waiter q.0 e.0 =
+    holder_is_one ok.world _ (lock_name 0) (waiter n.0 d.0) (waiter q.0 e.0) ok.sound.spins
+    (x.mirrors.holds d.0 (lock_name 0) ∙ d.1) (y.mirrors.holds e.0 (lock_name 0) ∙ e.1) in
+    apart s.views (get_or s.words 0 0) ok.once i j v u n.0 a b n.1 (q.1 ∙ ap (λ (z : Waiter). Some z.cpu) (sym same))
+
+-- while all locks are spinlocks, who holds it holds it alone
+pub sole_is_any : (k : Plan) (s : State Slot View) (ok : Runs k s) (i : ℕ) (v : View)
+    → get_elem? s.views i ≡ some v → IsNumbered v → sole_count v.calls.holds ≡ any_count v.calls.holds
+sole_is_any k s ok i v at n = sole_any v.calls.holds (ok.seats i v n.0 at n.1).spun
+
+pub some_out : (o : Option Out) → (o ≡ None) ⊎ ((x : Out) × (o ≡ Some x))
+some_out None = inl refl
+some_out (Some x) = inr (x, refl)
+
+pub out_is : (x : Out) (o : Option Out) → o ≡ Some x → o ≢ None
+out_is x o e z = let no : Some x ≡ None = sym e ∙ z in cc
+
+-- for a seat that holds lock 0
+module _ (k : Plan) (s : State Slot View) (both : Stand k s) (id : ℕ) (v : View)
+    (me : get_elem? s.views id ≡ some v) (holds : holds_first v.calls) where
+  abbrev kp : Keeps k s
+  kp = both.keeps
+
+  -- a seat that has the journal out holds lock 0
+  pub with_lock : (j : ℕ) (u : View) → get_elem? s.views j ≡ some u → u.ledger.out ≢ None
+      → 1 ≤ any_count u.calls.holds
+  with_lock j u at out =
+      let one = (kp.knows j u at).holder out in
+      by u.who.number refl one
+    where
+      by : (o : Option ℕ) → u.who.number ≡ o → alone_first u.calls → 1 ≤ any_count u.calls.holds
+      by None e one =
+          let q : u.calls ≡ no_calls = both.runs.silent j u at e in
+          absurd (omega (arith, one, ap (λ (c : Calls). sole_count c.holds) q))
+      by (Some p) e one = let z = sole_is_any k s both.runs j u at (p, e) in omega arith
+
+  -- where another seat had the journal out, there would be two holders
+  pub away_is_me : (h : Away k kp.journal s) → h.seat ≡ id
+  away_is_me h =
+      one_seat k s both.runs id h.seat v h.view_is me h.here (omega arith)
+      (with_lock h.seat h.view_is h.here (out_is h.out h.view_is.ledger.out h.has))
+
+  pub away_out : (h : Away k kp.journal s) → v.ledger.out ≡ Some h.out
+  away_out h =
+      ap (λ (y : View). y.ledger.out) (some-injective v h.view_is (sym me ∙ subst (λ (i : ℕ). get_elem? s.views i ≡ some h.view_is) (away_is_me h) h.here))
+      ∙ h.has
+
+  -- the journal is at home, where the holder of lock 0 does not have it
+  pub at_home : v.ledger.out ≡ None → AtHome k kp.journal s
+  at_home e = ⊎_elim (λ h. h) (λ h. let no : None ≡ Some h.out = sym e ∙ away_out h in absurd (let z : ⊥ = cc in z)) kp.place
+
+  -- and the holder has it where its view says so
+  pub away : (o : Out) → v.ledger.out ≡ Some o → Away k kp.journal s
+  away o e = ⊎_elim (λ h. let no : Some o ≡ None = sym e ∙ h.none_out id v me in absurd (let z : ⊥ = cc in z)) (λ h. h) kp.place
+
+-- a word of the ledger
+pub record IsPage (k : Plan) (i : ℕ) : Type 0 where
+  pub low : 0 < i
+  pub below : i < 72 + 8 * locks_of k
+  pub no_lock : (l : ℕ) → l < locks_of k → lock_at l ≢ i
+
+module _ (k : Plan) {S : Type 0} (s : State S View) (st : Runs k s) (id : ℕ) (v : View)
+    (me : get_elem? s.views id ≡ some v) (n : IsNumbered v) where
+  -- the machine part, where a word of the ledger is written and a seat keeps its calls
+  pub paged : (w : View) → w.who ≡ v.who → w.calls ≡ v.calls → (i x : ℕ) → IsPage k i
+      → (homes : List (Maybe S))
+      → Runs k {S = S} (record { words = set s.words i x; homes = homes; views = set s.views id w })
+  paged w who calls i x page homes =
+      let old : SeatFits st.world n.0 v.calls = st.seats id v n.0 me n.1 in
+      let fit : SeatFits st.world n.0 w.calls = subst (SeatFits st.world n.0) (sym calls) old in
+      lands.keeps k s st id v me n.0 n.1 st.world st.histories w (set s.words i x) st.sound st.of_plan
+      (record {
+        long = length-set s.words i x ∙ st.stored.long;
+        locks = λ l lt. get_or-set_other s.words i (lock_at l) x 0 (page.no_lock l lt) ∙ st.stored.locks l lt;
+        flags = λ y cpu index. get_or-set_other s.words i (flag_at k y) x 0 (let b = page.below in λ e. omega arith) ∙ st.stored.flags y cpu index;
+        nexts = λ y cpu index. get_or-set_other s.words i (next_at k y) x 0 (let b = page.below in λ e. omega arith) ∙ st.stored.nexts y cpu index;
+      })
+      (get_or-set_other s.words i 0 x 0 (let b = page.low in λ e. omega arith))
+      (λ u ne. (refl, λ l. refl)) (λ q ne. refl) (λ q d ne f. refl) who fit homes

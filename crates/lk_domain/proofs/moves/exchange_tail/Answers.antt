@@ -1,0 +1,28 @@
+use Rattle.std.proofs.Common.{refl, arith, sym, ap, ◌∙◌, ◌+◌, ◌%◌, ℕ}
+use mathlib.Core.Option.{none}
+use Rattle.atomic_table.specs.Table.{step}
+use Rattle.lk_word.specs.SpinWord.{packed}
+use Rattle.lk_machine.specs.declared.setup.Verb.TheVariants.{Lock}
+use Rattle.lk_domain.specs.Rows.{arrives_by}
+use Rattle.lk_domain.proofs.queue.LockSwaps.{asks_swap}
+use Rattle.lk_domain.proofs.queue.Pending.{arrives, arrive_on, arrive_frees}
+use Rattle.lk_domain.proofs.moves.exchange_tail.Goals as goal
+
+pub compare_exchange-met-requires : goal.compare_exchange-met-requires
+compare_exchange-met-requires c =
+    let d = c.args.domain.now in
+    let z = d.table.shared.table_id in
+    let i = c.word_of-word.result in
+    let old = c.args.expected in
+    let tail = c.tail_of-tail.result in
+    let acts = c.requires.row.acts in (
+      c.requires.table,
+      (let few = d.lawful.locks in omega (arith, c.word_of-word.ensures, d.words, c.requires.lock)),
+      asks_swap d.table.shared.key d.plan z.slots c.args.seat.now.id c.args.seat.now.me c.requires.number c.args.lock i
+          (step z.slots i old (old % 65536 + tail) none) d.key c.requires.lock c.word_of-word.ensures refl (arrives_by Lock) acts
+          (λ pc h fr. arrive_on pc fr h) (λ pc h may. absurd (arrive_frees may.0 may.1 may.2 pc h may.3))
+          old (old % 65536 + tail) refl
+          (λ mode y packs known is. ap (λ (n : ℕ). n % 65536 + tail) (sym is)
+          ∙ (ap (λ (n : ℕ). packed y % 65536 + n) c.tail_of-tail.ensures
+          ∙ arrives mode acts.row acts.stands.frame y c.args.own acts.is c.requires.row.me)),
+    )

@@ -1,0 +1,14 @@
+use Rattle.std.proofs.Common.{arith}
+use Rattle.lk_domain.proofs.queue.NodePlays.{bare_look}
+use Rattle.lk_domain.proofs.node_moves.enter_bare.Goals as goal
+
+pub load-met-requires : goal.load-met-requires
+load-met-requires c =
+    let d = c.args.domain.now in
+    let z = d.table.shared.table_id in
+    let i = c.word_of-word.result in (
+      c.requires.table,
+      (let few = d.lawful.locks in omega (arith, c.word_of-word.ensures, d.words, c.requires.lock)),
+      bare_look d.table.shared.key d.plan z.slots c.args.seat.now.id c.args.seat.now.me c.requires.number i d.key
+          c.args.lock c.requires.lock c.word_of-word.ensures c.requires.row,
+    )

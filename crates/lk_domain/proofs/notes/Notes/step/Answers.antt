@@ -1,0 +1,13 @@
+use Rattle.std.proofs.Common.{rules}
+use Rattle.lk_domain.proofs.Noted.{taken_noted, untaken_noted}
+use Rattle.lk_domain.proofs.notes.Notes.step.Goals as goal
+
+pub returns-then-taken : goal.returns-then-taken
+returns-then-taken c x y was s =
+    let a = c.args in
+    taken_noted a.self.now x y a.lock a.waits a.slow a.taken was s c.requires.lock (search rules) (search rules)
+
+pub returns-else-taken : goal.returns-else-taken
+returns-else-taken c x y was s =
+    let a = c.args in
+    untaken_noted a.self.now x y a.lock a.waits a.slow a.taken was s c.requires.lock (search rules) (search rules)

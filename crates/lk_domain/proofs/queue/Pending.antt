@@ -1,0 +1,265 @@
+-- What the steps of the pending path, and of a front, do to the number of a lock's word.
+use Rattle.std.proofs.Common.{◌≡◌, inl, inr, ℕ, ◌+◌, ◌-◌, ◌*◌, ◌%◌, ◌^◌, ◌<◌, ◌≤◌, Option, Some, None}
+use Rattle.std.proofs.Common.{Bool, true, false, eqb, eq-eqb, ne_eqb, refl, sym, ap, ◌∙◌, subst, arith}
+use Rattle.std.proofs.lemmas.Bool.{cases_Bool}
+use Rattle.std.proofs.lemmas.Nat.{or_block}
+use Rattle.std.specs.Int.Bits.{bit_or, or_zero_r}
+use Rattle.std.specs.Prelude.{if◌then◌else◌, unwrap_or, ◌&&◌, not}
+use prog.Atomic.{either}
+use Rattle.lk_abs.specs.declared.names.Mode.{Mode}
+use Rattle.lk_abs.specs.declared.names.Mode.TheVariants.{Virt, Native, Cna, Pv}
+use Rattle.lk_abs.specs.declared.names.Waiter.{Waiter}
+use Rattle.lk_word.specs.declared.spin_word.NodeName.{NodeName}
+use Rattle.lk_word.specs.declared.spin_word.Locked.{Locked}
+use Rattle.lk_word.specs.declared.spin_word.Locked.TheVariants.{Free, Held, Slow}
+use Rattle.lk_word.specs.declared.spin_word.Fields.{Fields}
+use Rattle.lk_word.specs.SpinWord.{packed, IsPackable, locked_number, tail_number}
+use Rattle.lk_word.proofs.SpinWordLemmas.{packed_small, packed_injective}
+use Rattle.lk_machine.specs.declared.parts.Frame.{Frame}
+use Rattle.lk_machine.specs.declared.parts.Pc.{Pc}
+use Rattle.lk_machine.specs.declared.parts.Pc.TheVariants.{P1, P2, P4, G4, G8, G9}
+use Rattle.lk_machine.specs.declared.setup.Verb.TheVariants.{Lock}
+use Rattle.lk_machine.specs.Moves.{is_node, node_of}
+use Rattle.lk_machine.specs.rows.Spin.{is_unlocked}
+use Rattle.lk_machine.specs.rows.Queue.{is_sole, after_arrival}
+use Rattle.lk_machine.specs.TopRow.{target}
+use Rattle.lk_law.specs.Known.{Known}
+use Rattle.lk_law.specs.Leads.{course_in}
+use Rattle.lk_law.specs.World.{World}
+use Rattle.lk_law.proofs.common.Puts.{same_node-self}
+use Rattle.lk_law.proofs.common.Users.{is_node-true}
+use Rattle.lk_domain.specs.Calls.{grip_of, grip_led, Frees}
+use Rattle.lk_domain.specs.Rows.{pends_by, clears_by, claims_by, arrives_by, soles_by, stakes_by}
+use Rattle.lk_domain.proofs.Numbers.{held_packed}
+use Rattle.lk_domain.proofs.OnWords.{OnWord, word_stores}
+
+-- the rows are on the word of a lock
+
+pub pend_on : (c : Pc) (f : Frame) → pends_by Lock c ≡ true → OnWord (target c f)
+pend_on P1 f h = tt
+pend_on _ f h = cc h
+
+pub clear_on : (c : Pc) (f : Frame) → clears_by Lock c ≡ true → OnWord (target c f)
+clear_on P2 f h = tt
+clear_on _ f h = cc h
+
+pub claim_on : (c : Pc) (f : Frame) → claims_by Lock c ≡ true → OnWord (target c f)
+claim_on P4 f h = tt
+claim_on _ f h = cc h
+
+pub arrive_on : (c : Pc) (f : Frame) → arrives_by Lock c ≡ true → OnWord (target c f)
+arrive_on G4 f h = tt
+arrive_on _ f h = cc h
+
+pub sole_on : (c : Pc) (f : Frame) → soles_by Lock c ≡ true → OnWord (target c f)
+sole_on G8 f h = tt
+sole_on _ f h = cc h
+
+pub stake_on : (c : Pc) (f : Frame) → stakes_by Lock c ≡ true → OnWord (target c f)
+stake_on G9 f h = tt
+stake_on _ f h = cc h
+
+-- and free nothing
+
+pub pend_frees : (w : World) (u : Waiter) (f : Frame) (c : Pc) → pends_by Lock c ≡ true
+    → grip_of (target c f) (course_in w u f c (target c f)) ≡ Frees → ⊥
+pend_frees w u f P1 h e = cc e
+pend_frees w u f _ h e = cc h
+
+pub clear_frees : (w : World) (u : Waiter) (f : Frame) (c : Pc) → clears_by Lock c ≡ true
+    → grip_of (target c f) (course_in w u f c (target c f)) ≡ Frees → ⊥
+clear_frees w u f P2 h e = cc e
+clear_frees w u f _ h e = cc h
+
+pub claim_frees : (w : World) (u : Waiter) (f : Frame) (c : Pc) → claims_by Lock c ≡ true
+    → grip_of (target c f) (course_in w u f c (target c f)) ≡ Frees → ⊥
+claim_frees w u f P4 h e = cc e
+claim_frees w u f _ h e = cc h
+
+pub stake_frees : (w : World) (u : Waiter) (f : Frame) (c : Pc) → stakes_by Lock c ≡ true
+    → grip_of (target c f) (course_in w u f c (target c f)) ≡ Frees → ⊥
+stake_frees w u f G9 h e = cc e
+stake_frees w u f _ h e = cc h
+
+pub sole_frees : (w : World) (u : Waiter) (f : Frame) (c : Pc) → soles_by Lock c ≡ true
+    → grip_of (target c f) (course_in w u f c (target c f)) ≡ Frees → ⊥
+sole_frees w u f G8 h e = elim (cases_Bool (is_sole f (w.word f.lock))) [ inl d ↦ cc (rw d at e) | inr d ↦ cc (rw d at e) ]
+sole_frees w u f _ h e = cc h
+
+arrival_frees : (mode : Mode) (t : Option NodeName) → grip_led (after_arrival mode t).leads ≡ Frees → ⊥
+arrival_frees Virt None e = cc e
+arrival_frees Native None e = cc e
+arrival_frees Cna None e = cc e
+arrival_frees Pv None e = cc e
+arrival_frees Virt (Some n) e = cc e
+arrival_frees Native (Some n) e = cc e
+arrival_frees Cna (Some n) e = cc e
+arrival_frees Pv (Some n) e = cc e
+
+pub arrive_frees : (w : World) (u : Waiter) (f : Frame) (c : Pc) → arrives_by Lock c ≡ true
+    → grip_of (target c f) (course_in w u f c (target c f)) ≡ Frees → ⊥
+arrive_frees w u f G4 h e = arrival_frees w.mode (w.word f.lock).tail e
+arrive_frees w u f _ h e = cc h
+
+-- what the operations write is what the rows store
+
+less_256 : (n r : ℕ) → n ≡ 256 + r → n < 2 ^ 32 → (n + (2 ^ 64 - 256)) % 2 ^ 64 ≡ r
+less_256 n r e h = omega arith
+
+less_255 : (n r : ℕ) → n ≡ 255 + r → n < 2 ^ 32 → (n + (2 ^ 64 - 255)) % 2 ^ 64 ≡ r
+less_255 n r e h = omega arith
+
+more_one : (n r : ℕ) → n + 1 ≡ r → n < 2 ^ 32 → (n + 1) % 2 ^ 64 ≡ r
+more_one n r e h = omega arith
+
+-- who has set pending clears it by taking 256 off
+pub clears : (mode : Mode) (c : Pc) (f : Frame) (y : Fields) → clears_by Lock c ≡ true → IsPackable y
+    → Known c y
+    → (packed y + (2 ^ 64 - 256)) % 2 ^ 64 ≡ packed (unwrap_or (word_stores mode c f (target c f) y) y)
+unfolding packed
+clears mode P2 f y h fits pending =
+    let e : ◌≡◌ {A = ℕ} (if y.pending then 256 else 0) 256 = ap (λ b. if b then 256 else 0) pending in
+    less_256 _ _ (omega (arith, e)) (packed_small y fits)
+clears mode _ f y h fits known = cc h
+
+-- who has set pending takes the free lock by taking 255 off
+pub claims : (mode : Mode) (c : Pc) (f : Frame) (y : Fields) → claims_by Lock c ≡ true → IsPackable y
+    → Known c y
+    → (packed y + (2 ^ 64 - 255)) % 2 ^ 64 ≡ packed (unwrap_or (word_stores mode c f (target c f) y) y)
+unfolding packed
+claims mode P4 f y h fits known =
+    let e : ◌≡◌ {A = ℕ} (if y.pending then 256 else 0) 256 = ap (λ b. if b then 256 else 0) known.1 in
+    let d : locked_number y.locked ≡ 0 = ap locked_number known.0 in
+    less_255 _ _ (omega (arith, e, d)) (packed_small y fits)
+claims mode _ f y h fits known = cc h
+
+-- the front takes the free lock by adding 1
+pub stakes : (mode : Mode) (c : Pc) (f : Frame) (y : Fields) → stakes_by Lock c ≡ true → IsPackable y
+    → Known c y
+    → (packed y + 1) % 2 ^ 64 ≡ packed (unwrap_or (word_stores mode c f (target c f) y) y)
+unfolding packed
+stakes mode G9 f y h fits known =
+    let d : locked_number y.locked ≡ 0 = ap locked_number known.0 in
+    more_one _ _ (omega (arith, d)) (packed_small y fits)
+stakes mode _ f y h fits known = cc h
+
+-- a tail is a number of blocks of 65536
+high : (t : Option NodeName) → (n : ℕ) × (tail_number t ≡ n * 2 ^ 8 * 2 ^ 8)
+high None = (0, refl)
+high (Some n) = (n.index + 4 * (n.cpu + 1), omega arith)
+
+or_number : (a : Locked) (b : Bool) (t : Option NodeName)
+    → bit_or (locked_number a + (if b then 256 else 0) + tail_number t) 256
+    ≡ locked_number a + 256 + tail_number t
+or_number a b t =
+    let h = high t in
+    let n = h.0 in
+    let p : ℕ = if b then 1 else 0 in
+    let small : locked_number a < 2 ^ 8 = below a in
+    let e : locked_number a + (if b then 256 else 0) + tail_number t ≡ (n * 2 ^ 8 + p) * 2 ^ 8 + locked_number a =
+    omega (arith, h.1, bits b) in
+    let inner : bit_or (n * 2 ^ 8 + p) (0 * 2 ^ 8 + 1) ≡ bit_or n 0 * 2 ^ 8 + bit_or p 1 =
+    or_block 8 n 0 p 1 (low b) (omega arith) in
+    let inner' : bit_or (n * 2 ^ 8 + p) 1 ≡ n * 2 ^ 8 + 1 = omega (arith, inner, or_zero_r n, or_one b) in
+    let outer : bit_or ((n * 2 ^ 8 + p) * 2 ^ 8 + locked_number a) (1 * 2 ^ 8 + 0)
+    ≡ bit_or (n * 2 ^ 8 + p) 1 * 2 ^ 8 + bit_or (locked_number a) 0 =
+    or_block 8 (n * 2 ^ 8 + p) 1 (locked_number a) 0 small (omega arith) in
+    ap (λ (x : ℕ). bit_or x 256) e ∙ (outer ∙ omega (arith, inner', or_zero_r (locked_number a), h.1))
+  where
+    below : (a : Locked) → locked_number a < 2 ^ 8
+    below Free = omega arith
+    below Held = omega arith
+    below Slow = omega arith
+
+    bits : (b : Bool) → (if b then 256 else 0) ≡ 256 * (if b then 1 else 0)
+    bits true = refl
+    bits false = refl
+
+    low : (b : Bool) → (if b then 1 else 0) < 2 ^ 8
+    low true = omega arith
+    low false = omega arith
+
+    or_one : (b : Bool) → bit_or (if b then 1 else 0) 1 ≡ 1
+    or_one true = refl
+    or_one false = refl
+
+-- setting bit 8 sets pending
+pub pends : (mode : Mode) (c : Pc) (f : Frame) (y : Fields) → pends_by Lock c ≡ true
+    → bit_or (packed y) 256 ≡ packed (unwrap_or (word_stores mode c f (target c f) y) y)
+unfolding packed
+pends mode P1 f y h = or_number y.locked y.pending y.tail
+pends mode _ f y h = cc h
+
+-- the word of a free lock with one node alone in its queue, and no other's
+abbrev pub own_word : NodeName → Fields
+own_word n = record { locked = Free; pending = false; tail = Some n }
+
+own_packed : (n : NodeName) → packed (own_word n) ≡ tail_number (Some n)
+unfolding packed
+own_packed n = omega arith
+
+sole_word : (a : Locked) (b : Bool) (t : Option NodeName) (n : NodeName)
+    → (is_unlocked a && not b && is_node t n) ≡ true → record { locked = a; pending = b; tail = t } ≡ own_word n
+sole_word Free false t n h =
+    ap (λ (z : Option NodeName). record { locked = Free; pending = false; tail = z }) (is_node-true t n h)
+sole_word Free true t n h = cc h
+sole_word Held b t n h = cc h
+sole_word Slow b t n h = cc h
+
+-- a front is alone exactly where it meets that number
+pub sole_test : (f : Frame) (y : Fields) (n : NodeName) → IsPackable y → (n.cpu ≤ 16382) × (n.index ≤ 3)
+    → node_of f.me ≡ n → eqb (packed y) (tail_number (Some n)) ≡ is_sole f y
+sole_test f y n fits near own =
+    elim (cases_Bool (is_sole f y)) [
+      | inl e ↦
+          let is : y ≡ own_word n = sole_word y.locked y.pending y.tail n
+          (subst (λ (z : NodeName). (is_unlocked y.locked && not y.pending && is_node y.tail z) ≡ true) own e) in
+          eq-eqb (packed y) (tail_number (Some n)) (ap packed is ∙ own_packed n) ∙ sym e
+      | inr e ↦ ne_eqb (packed y) (tail_number (Some n)) (λ h.
+          let is : y ≡ own_word n = packed_injective y (own_word n) fits near (h ∙ sym (own_packed n)) in
+          let alone : is_sole f y ≡ true =
+          ap (λ (z : NodeName). is_unlocked y.locked && not y.pending && is_node y.tail z) own
+          ∙ (ap (λ (z : Fields). is_unlocked z.locked && not z.pending && is_node z.tail n) is ∙ same_node-self n) in
+          grind (arith, alone, e)) ∙ sym e
+    ]
+
+-- by the number that was met
+pub sole_met : (f : Frame) (y : Fields) (n : NodeName) (met tail : ℕ) → IsPackable y
+    → (n.cpu ≤ 16382) × (n.index ≤ 3) → node_of f.me ≡ n → met ≡ packed y → tail ≡ tail_number (Some n)
+    → eqb met tail ≡ is_sole f y
+sole_met f y n met tail fits near own is named = (λ i. eqb (is i) (named i)) ∙ sole_test f y n fits near own
+
+-- an exchange of it for 1 takes the lock and empties the queue
+pub sole_takes : (mode : Mode) (c : Pc) (f : Frame) (y : Fields) (n : NodeName) → soles_by Lock c ≡ true
+    → IsPackable y → (n.cpu ≤ 16382) × (n.index ≤ 3) → node_of f.me ≡ n
+    → either (eqb (packed y) (tail_number (Some n))) 1 (packed y)
+    ≡ packed (unwrap_or (word_stores mode c f (target c f) y) y)
+sole_takes mode G8 f y n h fits near own =
+    let e = sole_test f y n fits near own in
+    elim (cases_Bool (is_sole f y)) [
+      | inl d ↦ ap (λ b. either b 1 (packed y)) (e ∙ d) ∙ (sym held_packed ∙ rw (d, word_stores) refl)
+      | inr d ↦ ap (λ b. either b 1 (packed y)) (e ∙ d) ∙ rw (d, word_stores) refl
+    ]
+sole_takes mode _ f y n h fits near own = cc h
+
+low_half : (a : Locked) (b : Bool) (t : Option NodeName)
+    → (locked_number a + (if b then 256 else 0) + tail_number t) % 65536 ≡ locked_number a + (if b then 256 else 0)
+low_half a b t = let h = high t in let s = small a b in omega (arith, h.1, s)
+  where
+    small : (a : Locked) (b : Bool) → locked_number a + (if b then 256 else 0) < 65536
+    small Free true = omega arith
+    small Free false = omega arith
+    small Held true = omega arith
+    small Held false = omega arith
+    small Slow true = omega arith
+    small Slow false = omega arith
+
+-- the word with the own node as the tail
+pub arrives : (mode : Mode) (c : Pc) (f : Frame) (y : Fields) (n : NodeName) → arrives_by Lock c ≡ true
+    → f.me ≡ Some n
+    → packed y % 65536 + tail_number (Some n) ≡ packed (unwrap_or (word_stores mode c f (target c f) y) y)
+unfolding packed
+arrives mode G4 f y n h own =
+    let e = low_half y.locked y.pending y.tail in
+    let d : tail_number f.me ≡ tail_number (Some n) = ap tail_number own in omega (arith, e, d)
+arrives mode _ f y n h own = cc h

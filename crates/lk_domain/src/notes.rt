@@ -1,0 +1,78 @@
+// What a processor notes of its calls and its locks.
+ghost use Rattle.std.specs.Prelude.{◌≡◌, ◌<◌, ◌∷◌, List, length, false, slice_index_or, slice_set};
+ghost use Rattle.lk_domain.specs.Calls.{Calls, Running, no_calls, holds_in, waits_in, slow_in};
+ghost use Rattle.lk_domain.specs.Marked.{IsNoted, Steps};
+
+// What a processor notes of its calls and its locks, where its steps read it.
+#[derive(Drop)]
+pub(crate) struct Notes {
+    // how many of its calls wait, and how many of these are in the slow path
+    pub(crate) depth: u32,
+    pub(crate) queued: u32,
+    // for which lock each of them waits, the oldest first
+    pub(crate) order: [u32; 6],
+    // the locks that it holds, those for which its calls wait, and those for which they do so in
+    // the slow path
+    pub(crate) held: [bool; 32],
+    pub(crate) waiting: [bool; 32],
+    pub(crate) slow: [bool; 32],
+}
+
+impl Notes {
+    // Of a processor that has done nothing.
+    pub(crate) fn new() -> Notes
+        ensures { IsNoted result no_calls }
+    {
+        Notes {
+            depth: 0,
+            queued: 0,
+            order: [0; 6],
+            held: [false; 32],
+            waiting: [false; 32],
+            slow: [false; 32],
+        }
+    }
+
+    // The lock for which the newest call waits.
+    pub(crate) fn newest(&self) -> u32
+        requires some { (c : Calls) × IsNoted self.now c × (0 < length c.frames) }
+        ensures { (c : Calls) (r : Running) (rs : List Running) → IsNoted self.now c
+            → c.frames ≡ r ∷ rs → result ≡ r.frame.lock.index }
+    {
+        self.order[self.depth as usize - 1]
+    }
+
+    // The call for the lock has made a row. One that neither waited nor waits has only to note that
+    // it took the lock, as the first exchange of `lock` where the lock is free: that is one store.
+    #[inline]
+    pub(crate) fn step(&mut self, lock: u32, waits: bool, slow: bool, taken: bool)
+        requires lock { lock < 32 }
+        requires steps { (c : Calls) × (d : Calls) × IsNoted self.old c × Steps c d lock waits slow taken }
+        ensures { (c : Calls) (d : Calls) → IsNoted self.old c → Steps c d lock waits slow taken
+            → IsNoted self.new d }
+    {
+        if waits | self.waiting[lock as usize] {
+            self.step_waiting(lock, waits, slow, taken);
+        } else if taken {
+            self.held[lock as usize] = true;
+        }
+    }
+
+    // The call for the lock, which waited or waits, has made a row.
+    #[inline(never)]
+    fn step_waiting(&mut self, lock: u32, waits: bool, slow: bool, taken: bool)
+        requires lock { lock < 32 }
+        requires steps { (c : Calls) × (d : Calls) × IsNoted self.old c × Steps c d lock waits slow taken }
+        ensures { (c : Calls) (d : Calls) → IsNoted self.old c → Steps c d lock waits slow taken
+            → IsNoted self.new d }
+    {
+        let index = lock as usize;
+        let others = self.depth - u32::from(self.waiting[index]);
+        self.queued = self.queued - u32::from(self.slow[index]) + u32::from(slow);
+        self.order[others as usize] = lock;
+        self.depth = others + u32::from(waits);
+        self.waiting[index] = waits;
+        self.slow[index] = slow;
+        self.held[index] = self.held[index] | taken;
+    }
+}
