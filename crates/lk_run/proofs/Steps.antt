@@ -1,19 +1,16 @@
 -- What a step of a processor does to a call.
-use Rattle.std.proofs.Common.{◌≡◌, ℕ, ◌<◌, List, [], ◌∷◌, ◌++◌, Bool, true, false, eqb, refl, sym, ap, ◌∙◌, subst, arith}
+use Rattle.std.proofs.Common.{◌≡◌, ℕ, ◌<◌, List, [], ◌∷◌, ◌++◌, Bool, eqb, refl, sym, ap, ◌∙◌, subst, arith}
 use Rattle.std.proofs.Common.{◌||◌}
-use Rattle.std.specs.Prelude.{if◌then◌else◌}
 use Rattle.lk_abs.specs.declared.holder.Manner.TheVariants.{Spins}
-use Rattle.lk_abs.specs.declared.names.LockName.{LockName}
 use Rattle.lk_machine.specs.declared.parts.Pc.{Pc}
 use Rattle.lk_machine.specs.declared.setup.Verb.{Verb}
-use Rattle.lk_domain.specs.Calls.{Mark, Calls, Takes, holds_in, waits_in, lock_name}
+use Rattle.lk_domain.specs.Calls.{Mark, Calls, Takes, lock_name}
 use Rattle.lk_domain.specs.Ledgers.{Ledger, Look, turned}
-use Rattle.lk_domain.specs.Paths.{IsAt, HasTaken, HasMissed, Any, AreKept, Passes, is_busy, HasLooked}
+use Rattle.lk_domain.specs.Paths.{IsAt, HasTaken, HasMissed, Any, Passes, is_busy, HasLooked}
 use Rattle.lk_domain.specs.Seats.{IsOf, KeepsRest, view_of, calls_of}
-use Rattle.lk_domain.specs.Waits.{WaitsAt, Moves, Gains, Misses}
+use Rattle.lk_domain.specs.Waits.{Moves, Gains, Misses}
 use Rattle.lk_domain.specs.declared.cpu.Cpu.{Cpu}
 use Rattle.lk_domain.specs.declared.domain.Domain.{Domain}
-use Rattle.lk_domain.proofs.Paths as path
 use Rattle.lk_domain.proofs.Ways.{IsSeat, Moved, Took, Missed}
 
 -- the seat of a processor of the domain
@@ -62,11 +59,6 @@ module _ (d : Domain) (v : Verb) (l : ℕ) (old : Calls) (a b : Cpu) (rest : Kee
         ledger = m.ledger;
       }
 
-  -- nested calls leave the call where it is
-  pub polled : (c : Pc) → WaitsAt d v l c old a → AreKept (calls_of a) (calls_of b) → WaitsAt d v l c old b
-  polled c at kept =
-      subst (λ (p : ℕ). IsAt d.plan.mode p v l c Any old (calls_of b)) (sym rest.same.number) (path.kept at kept)
-
 -- what nested calls leave of the ledger
 
 append_nil : {A : Type 0} (xs : List A) → xs ++ [] ≡ xs
@@ -102,20 +94,6 @@ passes_both b g h i p q =
       looks = q.looks ∙ (ap (λ (xs : List Look). xs ++ q.more) p.looks ∙ append_more g.looks p.more q.more);
       still = λ e. q.still e ∙ p.still e;
     }
-
--- a call that waits for the lock is at lock 0 where the call is, or was so before it
-pub busy_is : (d : Domain) (v : Verb) (l : ℕ) (c : Pc) (old : Calls) (a : Cpu) → WaitsAt d v l c old a
-    → is_busy (calls_of a) ≡ ((eqb l 0) || is_busy old)
-busy_is d v l c old a at =
-    (λ i. holds_in (at.holds i) 0 || waits_in (at.frames i) 0)
-    ∙ (ap (λ (z : LockName). holds_in old.holds 0 || (if eqb z.index 0 then true else waits_in old.frames 0)) at.lock
-    ∙ by (holds_in old.holds 0) (eqb l 0) (waits_in old.frames 0))
-  where
-    by : (x y z : Bool) → (x || (if y then true else z)) ≡ (y || (x || z))
-    by true true z = refl
-    by true false z = refl
-    by false true z = refl
-    by false false z = refl
 
 pub looked : (l : ℕ) (old : Calls) (last : List Mark) (g h i : Ledger) → Passes ((eqb l 0) || is_busy old) g h
     → i ≡ turned h (lock_name l) (Takes Spins) last → HasLooked l Spins old last g i

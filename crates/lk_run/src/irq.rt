@@ -10,10 +10,12 @@ use std::sync::Wait;
 /// What may interrupt a call that waits. It may take and free other locks on the processor that it
 /// is lent.
 pub trait Irq {
-    // How often it was polled, where it tells it.
+    // How often it was polled, up to the last value of a `u64`, where it tells it. It tells it
+    // always, or never.
     ghost polls: { Self → Option ℕ };
 
-    /// Is called between two looks of a call that waits.
+    /// Is called between two looks of a call that waits, after each look after which the call stands
+    /// where it stood.
     fn poll<R: Wait>(&mut self, cpu: &mut Cpu, rt: &R, domain: &Domain)
         requires { IsOf cpu.old domain.now }
         ensures rest { KeepsRest cpu.old cpu.new }

@@ -1,112 +1,71 @@
-// The calls on a spinlock in `virt`: a lock is taken by an exchange of its free word.
-ghost use Rattle.std.specs.Prelude.{◌≡◌, ◌<◌, true, false, None, length};
+// The calls on a spinlock. The comments show a word as (queue tail, pending, locked).
+ghost use Rattle.std.specs.Prelude.{◌≡◌, ◌≢◌, ◌<◌, Option, ℕ, true, false, None, length};
 ghost use Rattle.lk_abs.specs.declared.holder.Manner.TheVariants.{Spins};
-ghost use Rattle.lk_abs.specs.declared.names.Mode.TheVariants.{Virt};
-ghost use Rattle.lk_machine.specs.declared.parts.Pc.TheVariants.{T2, V1, V2};
+ghost use Rattle.lk_machine.specs.declared.parts.Pc.TheVariants.{T2};
 ghost use Rattle.lk_machine.specs.declared.setup.Verb.TheVariants.{Lock, Try};
+ghost use Rattle.lk_law.specs.Cna.{moves_aside};
 ghost use Rattle.lk_domain.specs.Calls.{Calls, holds_in, lock_name};
 ghost use Rattle.lk_domain.specs.Ledgers.{is_first};
 ghost use Rattle.lk_domain.specs.Paths.{HasTaken, HasLooked};
 ghost use Rattle.lk_domain.specs.Plans.{locks_of};
 ghost use Rattle.lk_domain.specs.Seats.{IsOf, KeepsRest, calls_of, ledger_of};
 ghost use Rattle.lk_domain.specs.Waits.{MayTake, WaitsAt, Moves, Gains, Misses, Drops};
+ghost use Rattle.lk_run.specs.Phases.{Arrives, Holds, starting};
+ghost use Rattle.lk_run.specs.Polls.{IsPolled};
 
 use crate::irq::Irq;
-use crossbeam_utils::Backoff;
+use crate::waiting::contend;
 use lk_abs::LockName;
 use lk_domain::{Cpu, Domain, LockId, steps};
 use lk_machine::Verb;
 use std::sync::Wait;
 
-// The row F1: true where it took the lock.
-fn swap_free(cpu: &mut Cpu, domain: &Domain, lock: LockId) -> bool
+// The row F1: gives the word that it met, 0 where it took the lock.
+//   (0, 0, 0) -> (0, 0, 1): nobody holds the lock, pends or queues, so it is this call's.
+//   any other word stays.
+#[inline]
+fn fast(cpu: &mut Cpu, domain: &Domain, lock: LockName) -> u64
     requires domain { IsOf cpu.old domain.now }
     requires lock { lock.index < locks_of domain.now.plan }
-    requires virt { domain.now.plan.mode ≡ Virt }
+    requires plain { lock.wait ≡ false }
     requires may { MayTake lock.index (calls_of cpu.old) }
     ensures rest { KeepsRest cpu.old cpu.new }
-    ensures taken { result ≡ true
-        → Gains domain.now Lock lock.index Spins (calls_of cpu.old) cpu.old cpu.new }
-    ensures waits { result ≡ false
-        → Moves domain.now Lock lock.index V1 (calls_of cpu.old) cpu.old cpu.new }
+    ensures taken { result ≡ 0 → (told : Option ℕ)
+        → Holds domain.now lock.index (starting cpu.old told) cpu.new told }
+    ensures waits { result ≢ 0 → (told : Option ℕ)
+        → Arrives domain.now lock.index result (starting cpu.old told) cpu.new told }
 {
-    let name = LockName {
-        index: lock.index,
-        wait: false,
-    };
-    steps::take_free(cpu, domain, Verb::Lock, name) == 0
+    steps::take_free(cpu, domain, Verb::Lock, lock)
 }
 
-// The row V1: true where the word was free.
-fn see_free(cpu: &mut Cpu, domain: &Domain, lock: LockId) -> bool
-    requires domain { IsOf cpu.old domain.now }
-    requires lock { lock.index < locks_of domain.now.plan }
-    requires waits { (old : Calls) × WaitsAt domain.now Lock lock.index V1 old cpu.old }
-    ensures rest { KeepsRest cpu.old cpu.new }
-    ensures free { result ≡ true → (old : Calls) → WaitsAt domain.now Lock lock.index V1 old cpu.old
-        → Moves domain.now Lock lock.index V2 old cpu.old cpu.new }
-    ensures waits { result ≡ false
-        → (old : Calls) → WaitsAt domain.now Lock lock.index V1 old cpu.old
-        → Moves domain.now Lock lock.index V1 old cpu.old cpu.new }
-{
-    let name = LockName {
-        index: lock.index,
-        wait: false,
-    };
-    steps::look(cpu, domain, Verb::Lock, name) == 0
-}
-
-// The row V2: true where it took the lock.
-fn swap_seen(cpu: &mut Cpu, domain: &Domain, lock: LockId) -> bool
-    requires domain { IsOf cpu.old domain.now }
-    requires lock { lock.index < locks_of domain.now.plan }
-    requires waits { (old : Calls) × WaitsAt domain.now Lock lock.index V2 old cpu.old }
-    ensures rest { KeepsRest cpu.old cpu.new }
-    ensures taken { result ≡ true
-        → (old : Calls) → WaitsAt domain.now Lock lock.index V2 old cpu.old
-        → Gains domain.now Lock lock.index Spins old cpu.old cpu.new }
-    ensures waits { result ≡ false
-        → (old : Calls) → WaitsAt domain.now Lock lock.index V2 old cpu.old
-        → Moves domain.now Lock lock.index V1 old cpu.old cpu.new }
-{
-    let name = LockName {
-        index: lock.index,
-        wait: false,
-    };
-    steps::take_free(cpu, domain, Verb::Lock, name) == 0
-}
-
-/// Holds the lock when it returns.
+/// Holds the lock when it returns, in a domain of mode `virt` or `native`. It polls `irq` after each
+/// look after which it stands where it stood, and gives way between two such looks.
+#[inline]
 pub fn lock<I: Irq, R: Wait>(cpu: &mut Cpu, rt: &R, domain: &Domain, lock: LockId, irq: &mut I)
     requires domain { IsOf cpu.old domain.now }
     requires lock { lock.index < locks_of domain.now.plan }
-    requires virt { domain.now.plan.mode ≡ Virt }
+    requires mode { moves_aside domain.now.plan.mode ≡ false }
     requires may { MayTake lock.index (calls_of cpu.old) }
     ensures rest { KeepsRest cpu.old cpu.new }
     ensures taken { HasTaken domain.now.plan.mode cpu.new.number Lock lock.index Spins
         (calls_of cpu.old) (calls_of cpu.new) }
     ensures look { HasLooked lock.index Spins (calls_of cpu.old) (calls_of cpu.new).last
         (ledger_of cpu.old) (ledger_of cpu.new) }
+    ensures polls { IsPolled (calls_of cpu.new).last (I.polls irq.old) (I.polls irq.new) }
 {
-    if swap_free(cpu, domain, lock) {
+    let name = LockName {
+        index: lock.index,
+        wait: false,
+    };
+    let met = fast(cpu, domain, name);
+    if met == 0 {
         return;
     }
-    let backoff = Backoff::new();
-    for _ in rt.forever() {
-        if see_free(cpu, domain, lock) {
-            if swap_seen(cpu, domain, lock) {
-                return;
-            }
-        } else {
-            irq.poll(cpu, rt, domain);
-            backoff.snooze();
-        }
-    }
-    unreachable!()
+    contend(cpu, rt, domain, name, met, irq);
 }
 
-// The row T1: true where the word was free.
-fn sees_free(cpu: &mut Cpu, domain: &Domain, lock: LockId) -> bool
+// The row T1: true where the word was free. A look changes no word.
+fn try_look(cpu: &mut Cpu, domain: &Domain, lock: LockId) -> bool
     requires domain { IsOf cpu.old domain.now }
     requires lock { lock.index < locks_of domain.now.plan }
     requires may { MayTake lock.index (calls_of cpu.old) }
@@ -124,7 +83,9 @@ fn sees_free(cpu: &mut Cpu, domain: &Domain, lock: LockId) -> bool
 }
 
 // The row T2: true where it took the lock.
-fn swaps_seen(cpu: &mut Cpu, domain: &Domain, lock: LockId) -> bool
+//   (0, 0, 0) -> (0, 0, 1): nobody holds the lock, pends or queues, so it is this call's.
+//   any other word stays: some other call was faster.
+fn try_swap(cpu: &mut Cpu, domain: &Domain, lock: LockId) -> bool
     requires domain { IsOf cpu.old domain.now }
     requires lock { lock.index < locks_of domain.now.plan }
     requires waits { (old : Calls) × WaitsAt domain.now Try lock.index T2 old cpu.old }
@@ -153,10 +114,11 @@ pub fn try_lock(cpu: &mut Cpu, domain: &Domain, lock: LockId) -> bool
     ensures missed { result ≡ false
         → Misses domain.now Try lock.index (calls_of cpu.old) cpu.old cpu.new }
 {
-    sees_free(cpu, domain, lock) && swaps_seen(cpu, domain, lock)
+    try_look(cpu, domain, lock) && try_swap(cpu, domain, lock)
 }
 
-/// Frees a lock that the processor holds, in one step.
+/// Frees a lock that the processor holds, in one step: (n, p, 1) -> (n, p, 0). Only the holder
+/// stores into the locked byte of a lock that is held; pending and the queue stay for those that wait.
 pub fn unlock(cpu: &mut Cpu, domain: &Domain, lock: LockId)
     requires domain { IsOf cpu.old domain.now }
     requires lock { lock.index < locks_of domain.now.plan }

@@ -1,0 +1,115 @@
+-- Where a row may lead, and what the number of a word says.
+use Rattle.std.proofs.Common.{◌≡◌, ◌≢◌, ◌⊎◌, inl, inr, ℕ, ◌-◌, ◌/◌, ◌%◌, ◌<◌, ◌≤◌, Option, IfSome, arith, Some, None, Bool, true, false, eq-eqb, ne_eqb, refl, sym, ◌∙◌}
+use Rattle.std.specs.Prelude.{if◌then◌else◌, ◌&&◌, not, is_some}
+use Rattle.lk_abs.specs.declared.names.Mode.{Mode}
+use Rattle.lk_abs.specs.declared.names.Mode.TheVariants.{Virt, Native, Cna, Pv}
+use Rattle.lk_word.specs.declared.spin_word.NodeName.{NodeName}
+use Rattle.lk_word.specs.declared.spin_word.Fields.{Fields}
+use Rattle.lk_word.specs.SpinWord.{packed}
+use Rattle.lk_machine.specs.declared.parts.Pc.{Pc}
+use Rattle.lk_machine.specs.declared.parts.Pc.TheVariants.{F1, V1, P0, P1, P2, P3, P4, G1, G7, G8, G9}
+use Rattle.lk_machine.specs.rows.Spin.{is_free, is_unlocked, after_fast, after_pending, to_queue}
+use Rattle.lk_domain.specs.Plans.{cpus_of}
+use Rattle.lk_domain.specs.Words.{IsNode, link_number}
+use Rattle.lk_domain.specs.declared.plan.Plan.{Plan}
+use Rattle.lk_domain.proofs.Ways as seat
+
+pub free_by : (n : ℕ) (y : Fields) → n ≡ packed y → n ≡ 0 → is_free y ≡ true
+free_by n y is h = seat.is_zero n y is (eq-eqb n 0 h)
+
+pub held_by : (n : ℕ) (y : Fields) → n ≡ packed y → n ≢ 0 → is_free y ≡ false
+held_by n y is h = seat.not_zero n y is (ne_eqb n 0 h)
+
+pub queue_place : (y : Fields) → (to_queue y ≡ P1) ⊎ (to_queue y ≡ G1)
+queue_place y = by y.pending (is_some y.tail)
+  where
+    by : (a b : Bool) → ((if a then G1 else (if b then G1 else P1)) ≡ P1) ⊎ ((if a then G1 else (if b then G1 else P1)) ≡ G1)
+    by true b = inr refl
+    by false true = inr refl
+    by false false = inl refl
+
+pub pend_place : (y : Fields) → (after_pending y ≡ P2) ⊎ (after_pending y ≡ P3) ⊎ (after_pending y ≡ P4) ⊎ (after_pending y ≡ G1)
+pend_place y = by y.pending (is_some y.tail) (is_unlocked y.locked)
+  where
+    place : Bool → Bool → Bool → Pc
+    place a b c = if a then G1 else (if b then P2 else (if c then P4 else P3))
+
+    by : (a b c : Bool) → (place a b c ≡ P2) ⊎ (place a b c ≡ P3) ⊎ (place a b c ≡ P4) ⊎ (place a b c ≡ G1)
+    by true b c = inr (inr (inr refl))
+    by false true c = inl refl
+    by false false true = inr (inr (inl refl))
+    by false false false = inr (inl refl)
+
+pub front_place : (b t : Bool) → ((if b then (if t then G8 else G9) else G7) ≡ G7)
+    ⊎ ((if b then (if t then G8 else G9) else G7) ≡ G8) ⊎ ((if b then (if t then G8 else G9) else G7) ≡ G9)
+front_place true true = inr (inl refl)
+front_place true false = inr (inr refl)
+front_place false t = inl refl
+
+pub fast_place : (mode : Mode) (y : Fields) → (after_fast mode y ≡ V1) ⊎ (after_fast mode y ≡ P0) ⊎ (after_fast mode y ≡ P1) ⊎ (after_fast mode y ≡ G1)
+fast_place mode y = by mode
+  where
+    queue : (to_queue y ≡ V1) ⊎ (to_queue y ≡ P0) ⊎ (to_queue y ≡ P1) ⊎ (to_queue y ≡ G1)
+    queue = elim (queue_place y) [ inl e ↦ inr (inr (inl e)) | inr e ↦ inr (inr (inr e)) ]
+
+    either : (b : Bool) → ((if b then P0 else to_queue y) ≡ V1) ⊎ ((if b then P0 else to_queue y) ≡ P0)
+        ⊎ ((if b then P0 else to_queue y) ≡ P1) ⊎ ((if b then P0 else to_queue y) ≡ G1)
+    either true = inr (inl refl)
+    either false = queue
+
+    by : (m : Mode) → (after_fast m y ≡ V1) ⊎ (after_fast m y ≡ P0) ⊎ (after_fast m y ≡ P1) ⊎ (after_fast m y ≡ G1)
+    by Virt = inl refl
+    by Native = either (is_unlocked y.locked && y.pending && not (is_some y.tail))
+    by Cna = either (is_unlocked y.locked && y.pending && not (is_some y.tail))
+    by Pv = inr (inr (inr refl))
+
+-- none of these is the place that it comes from
+
+pub not_fast : (mode : Mode) (y : Fields) → after_fast mode y ≡ F1 → ⊥
+not_fast mode y e =
+    elim (fast_place mode y) [
+      | inl h ↦ (let z : V1 ≡ F1 = sym h ∙ e in cc z)
+      | inr (inl h) ↦ (let z : P0 ≡ F1 = sym h ∙ e in cc z)
+      | inr (inr (inl h)) ↦ (let z : P1 ≡ F1 = sym h ∙ e in cc z)
+      | inr (inr (inr h)) ↦ (let z : G1 ≡ F1 = sym h ∙ e in cc z)
+    ]
+
+-- what a link names
+
+pub no_link : (n : ℕ) (x : Option NodeName) → n ≡ link_number x → n < 2 → x ≡ None
+no_link n None e h = refl
+no_link n (Some m) e h = absurd (omega (arith, e, h))
+
+pub some_link : (k : Plan) (n : ℕ) (x : Option NodeName) → IfSome x (IsNode k) → n ≡ link_number x → 2 ≤ n
+    → Some (record { cpu = (n - 2) / 4; index = (n - 2) % 4 }) ≡ x
+some_link k n None node e h = absurd (omega (arith, e, h))
+some_link k n (Some m) node e h =
+    let low = node.index in
+    let c : (n - 2) / 4 ≡ m.cpu = omega (arith, e, h, low) in
+    let i : (n - 2) % 4 ≡ m.index = omega (arith, e, h, low) in
+    λ j. Some (record { cpu = c j; index = i j })
+
+pub small_link : (k : Plan) (n : ℕ) (x : Option NodeName) → IfSome x (IsNode k) → n ≡ link_number x → cpus_of k ≤ 64 → n < 260
+small_link k n None node e h = omega (arith, e)
+small_link k n (Some m) node e h = let a = node.cpu in let b = node.index in omega (arith, e, h, a, b)
+
+pub each_some : {A : Type 0} (P : A → Type 0) (o : Option A) → ((x : A) → o ≡ Some x → P x) → IfSome o P
+each_some P None f = tt
+each_some P (Some x) f = f x refl
+
+-- the last of these places, where it is none of the others
+
+pub last_of_two : {a b : Pc} (q : Pc) → (q ≡ a) ⊎ (q ≡ b) → (q ≡ a → ⊥) → q ≡ b
+last_of_two q (inl e) ne = absurd (ne e)
+last_of_two q (inr e) ne = e
+
+pub first_of_three : {a b c : Pc} (q : Pc) → (q ≡ a) ⊎ (q ≡ b) ⊎ (q ≡ c) → (q ≡ b → ⊥) → (q ≡ c → ⊥) → q ≡ a
+first_of_three q (inl e) nb nc = e
+first_of_three q (inr (inl e)) nb nc = absurd (nb e)
+first_of_three q (inr (inr e)) nb nc = absurd (nc e)
+
+pub last_of_four : {a b c e : Pc} (q : Pc) → (q ≡ a) ⊎ (q ≡ b) ⊎ (q ≡ c) ⊎ (q ≡ e) → (q ≡ a → ⊥) → (q ≡ b → ⊥) → (q ≡ c → ⊥) → q ≡ e
+last_of_four q (inl h) na nb nc = absurd (na h)
+last_of_four q (inr (inl h)) na nb nc = absurd (nb h)
+last_of_four q (inr (inr (inl h))) na nb nc = absurd (nc h)
+last_of_four q (inr (inr (inr h))) na nb nc = h
