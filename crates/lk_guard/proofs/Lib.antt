@@ -1,0 +1,4 @@
+pub mod Balances
+pub mod Looks
+pub mod Appends
+pub mod Rounds

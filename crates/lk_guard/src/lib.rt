@@ -1,0 +1,12 @@
+//! A ledger under lock 0: a write, a read, and all jobs of a worker.
+#![tactic(auto)]
+
+mod gate;
+mod reading;
+mod region;
+mod settling;
+mod working;
+mod writing;
+
+pub use gate::{Gate, OpenGate};
+pub use region::Region;
