@@ -1,8 +1,8 @@
 -- Examples of job files, which compute.
 use Rattle.std.proofs.Common.{◌≡◌, refl, [], ◌∷◌, Ok, Err}
 use Rattle.std.specs.Prelude.{codes}
-use Rattle.lk_abs.specs.declared.names.Kind.TheVariants.{Rw}
-use Rattle.lk_abs.specs.declared.names.Mode.TheVariants.{Cna}
+use Rattle.lk_abs.specs.declared.names.Kind.TheVariants.{Spin}
+use Rattle.lk_abs.specs.declared.names.Mode.TheVariants.{Virt, Native}
 use Rattle.lk_abs.specs.declared.ledger.Job.TheVariants.{Move, Add, Sum, Get}
 use Rattle.lk_forms.specs.declared.answers.LineRefusal.TheVariants.{Bad, Limit}
 use Rattle.lk_forms.specs.declared.answers.Fault.TheVariants as fault
@@ -13,7 +13,7 @@ use Rattle.lk_job_forms.specs.Workload.{usual_workload}
 one_worker : job_file (codes "qjobs 1\nmode virt\nworkers 1\naccounts 10 0 5\njob 0 move 0 1 4\njob 0 get 1\njob 0 move 0 2 7\njob 0 add 2 1\njob 0 sum\nend\n") ≡ Ok (record usual_workload { balances = 10 ∷ 0 ∷ 5 ∷ []; jobs = (Move 0 1 4 ∷ Get 1 ∷ Move 0 2 7 ∷ Add 2 1 ∷ Sum ∷ []) ∷ [] })
 one_worker = refl
 
-every_line : job_file (codes "# every line\nqjobs 1\n\nmode cna\nguard rw\nworkers 2\nsockets 0 1\nthreshold 16\naccounts 5 5\njob 1\tget 0 \njob 0 sum\nend") ≡ Ok (record { mode = Cna; guard = Rw; sockets = 0 ∷ 1 ∷ []; threshold = 16; balances = 5 ∷ 5 ∷ []; jobs = (Sum ∷ []) ∷ (Get 0 ∷ []) ∷ [] })
+every_line : job_file (codes "# every line\nqjobs 1\n\nmode virt\nguard spin\nworkers 2\nsockets 0 1\nthreshold 16\naccounts 5 5\njob 1\tget 0 \njob 0 sum\nend") ≡ Ok (record { mode = Virt; guard = Spin; sockets = 0 ∷ 1 ∷ []; threshold = 16; balances = 5 ∷ 5 ∷ []; jobs = (Sum ∷ []) ∷ (Get 0 ∷ []) ∷ [] })
 every_line = refl
 
 no_jobs : job_file (codes "qjobs 1\nmode virt\nend\n") ≡ Ok usual_workload
@@ -36,6 +36,18 @@ no_verb = refl
 
 no_pv : job_file (codes "qjobs 1\nmode pv\n") ≡ Err (2, Bad fault.UnknownWord)
 no_pv = refl
+
+queued : job_file (codes "qjobs 1\nmode native\nend\n") ≡ Ok (record usual_workload { mode = Native })
+queued = refl
+
+cna_to_come : job_file (codes "qjobs 1\nmode cna\n") ≡ Err (2, Bad fault.NotYet)
+cna_to_come = refl
+
+readers_to_come : job_file (codes "qjobs 1\nmode virt\nguard rw\n") ≡ Err (3, Bad fault.NotYet)
+readers_to_come = refl
+
+counted_first : job_file (codes "qjobs 1\nmode native 1\n") ≡ Err (2, Bad fault.WordCount)
+counted_first = refl
 
 before_mode : job_file (codes "qjobs 1\nworkers 2\n") ≡ Err (2, Bad fault.Misplaced)
 before_mode = refl

@@ -7,6 +7,5 @@ pub mod Draft
 pub mod Reader
 pub mod JobFile
 pub mod Texts
-pub mod Journal
 pub mod Outcome
 pub mod TextLaws

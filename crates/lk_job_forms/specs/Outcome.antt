@@ -4,7 +4,7 @@ use Rattle.lk_abs.specs.declared.ledger.Job.{Job}
 use Rattle.lk_abs.specs.declared.ledger.Entry.{Entry}
 use Rattle.lk_abs.specs.declared.ledger.Seen.{Seen}
 use Rattle.lk_abs.specs.Jobs.{reply_to}
-use Rattle.lk_job_forms.specs.Journal.{is_write, balances_after, Replays}
+use Rattle.lk_abs.specs.Journal.{is_write, balances_after, Replays}
 use Rattle.lk_job_forms.specs.Workload.{Workload, jobs_of}
 
 -- the entries of a worker, in the order of the journal

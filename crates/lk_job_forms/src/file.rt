@@ -5,9 +5,9 @@ use lk_abs::{Job, Kind, List, Mode, Topology};
 /// What a job file says.
 #[derive(Drop)]
 pub struct JobFile {
-    /// The family of the lock: any but `Pv`.
+    /// The family of the lock: one whose locks run on threads, so far `Virt` alone.
     pub mode: Mode,
-    /// The kind of the one lock.
+    /// The kind of the one lock: so far `Spin` alone.
     pub guard: Kind,
     /// The socket of each worker.
     pub topology: Topology,
