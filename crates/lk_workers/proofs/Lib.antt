@@ -1,0 +1,6 @@
+mod JobCounts
+mod Deeds
+mod Places
+mod Gathered
+mod Outcomes
+mod Starts

@@ -1,0 +1,60 @@
+-- Every read and write was made under the lock, as the looks of the processors tell.
+use Rattle.std.specs.Prelude.{◌≡◌, ◌<◌, ◌*◌, ◌==◌, ℕ, List, [], Some, All, filter, length, map}
+use Rattle.std.specs.Prelude.{is_none, is_some, slice_index_or}
+use Rattle.std.specs.List.{AllZip}
+use Rattle.lk_abs.specs.declared.ledger.Job.{Job}
+use Rattle.lk_abs.specs.declared.ledger.Seen.{Seen}
+use Rattle.lk_domain.specs.Ledgers.{Look}
+use Rattle.lk_domain.specs.Seats.{ledger_of}
+use Rattle.lk_domain.specs.declared.cpu.Cpu.{Cpu}
+use Rattle.lk_domain.specs.declared.ending.Closed.{Closed}
+use Rattle.lk_guard.specs.Deeds.{writes_in}
+use Rattle.lk_guard.specs.Guards.{Guard, guard_of, IsTaken}
+use Rattle.lk_guard.specs.Reads.{Answers}
+use Rattle.lk_job_forms.specs.Workload.{Workload, workers_of, jobs_of}
+
+-- how the ledger of a workload is guarded
+abbrev pub guard_for : Workload → Guard
+guard_for work = guard_of work.mode work.guard work.balances
+
+-- the looks of a processor, and of all processors at the end of a domain, in order
+abbrev pub looks_of : Cpu → List Look
+looks_of cpu = (ledger_of cpu).looks
+
+abbrev pub looks_in : Closed → List (List Look)
+looks_in closed = map looks_of closed.cpus.value.items
+
+-- the looks in which a version was loaded, and the others
+abbrev pub sights : List Look → List Look
+sights looks = filter (λ look. is_some look.version) looks
+
+abbrev pub others : List Look → List Look
+others looks = filter (λ look. is_none look.version) looks
+
+-- the records of a worker
+abbrev pub records_by : ℕ → List Seen → List Seen
+records_by worker reads = filter (λ r. r.worker == worker) reads
+
+-- The look is in a hold that the worker took for a read. In it the version of the record was loaded,
+-- and the balances that its job asks, and the reply is of these.
+pub record Shows (h : Guard) (worker : ℕ) (look : Look) (r : Seen) : Type 0 where
+  pub taken : IsTaken h worker h.reads h.reads_as look
+  pub version : look.version ≡ Some r.version
+  pub answers : Answers (length h.opening) r.job r.reply look.loads
+
+-- One look of the worker shows each of its records, in order, and no other loaded a version. The
+-- others, two for each job that writes, are in holds that the worker took for a write.
+pub record AreLooksOf (h : Guard) (worker : ℕ) (jobs : List Job) (reads : List Seen)
+    (looks : List Look) : Type 0 where
+  pub shown : AllZip (Shows h worker) (sights looks) reads
+  pub taken : All (IsTaken h worker h.writes h.writes_as) (others looks)
+  pub twice : length (others looks) ≡ 2 * writes_in jobs
+
+-- Every read and write of the workload was made under its lock: these records and looks, those of
+-- each worker in turn, tell it.
+pub record UnderLock (work : Workload) (reads : List Seen) (looks : List (List Look)) : Type 0 where
+  pub each : length looks ≡ workers_of work
+  pub looks_are : (worker : ℕ)
+      → worker < workers_of work
+      → AreLooksOf (guard_for work) worker (jobs_of work worker) (records_by worker reads)
+      (slice_index_or looks worker [])

@@ -1,0 +1,84 @@
+// A worker, and all workers at once.
+ghost use Rattle.std.specs.Prelude.{◌≡◌, ◌<◌, length};
+ghost use Rattle.lk_job_forms.specs.Workload.{jobs_of, workers_of, workload_of};
+ghost use Rattle.lk_workers.specs.Plans.{IsFor};
+ghost use Rattle.lk_workers.specs.Workers.{AreReady, AreThrough, IsReady, IsThrough};
+
+use lk_abs::{List, Seen};
+use lk_domain::Cpu;
+use lk_guard::{Gate, Region};
+use lk_job_forms::JobFile;
+use std::sync::Wait;
+use std::thread;
+use std::thread::Threads;
+
+/// A processor, and the records of what was read on it.
+#[derive(Drop)]
+pub(crate) struct Worker {
+    pub(crate) cpu: Cpu,
+    pub(crate) reads: List<Seen>,
+}
+
+// The jobs of one worker.
+fn run_one<G: Gate, R: Wait>(
+    rt: &R,
+    region: &Region,
+    file: &JobFile,
+    gate: &G,
+    index: usize,
+    worker: &mut Worker,
+)
+    requires suits { IsFor (workload_of file.now) region.now.domain }
+    requires index { index < workers_of (workload_of file.now) }
+    requires ready { IsReady region.now.domain (jobs_of (workload_of file.now) index) index
+        worker.old }
+    ensures { IsThrough region.now.domain (jobs_of (workload_of file.now) index) index worker.new }
+{
+    let jobs = file.jobs.get(index);
+    region.work(&mut worker.cpu, rt, jobs, &mut worker.reads, gate);
+}
+
+// The jobs of all workers, each in a thread of its own.
+fn run_each<G: Gate, R: Threads + Wait + Sync>(
+    rt: &R,
+    region: &Region,
+    file: &JobFile,
+    gate: &G,
+    workers: &mut [Worker],
+)
+    requires suits { IsFor (workload_of file.now) region.now.domain }
+    requires each { length workers.old ≡ workers_of (workload_of file.now) }
+    requires ready { AreReady region.now.domain (workload_of file.now) workers.old }
+    ensures through { AreThrough region.now.domain (workload_of file.now) workers.new }
+{
+    let count = workers.len();
+    thread::for_each_mut(
+        rt,
+        workers,
+        count,
+        &|index: usize, worker: &mut Worker|
+            requires { IsFor (workload_of file.now) region.now.domain
+                × (index < workers_of (workload_of file.now))
+                × IsReady region.now.domain (jobs_of (workload_of file.now) index) index worker.now }
+            ensures { IsThrough region.entry.now.domain (jobs_of (workload_of file.entry.now) index)
+                index worker.exit.now }
+        { run_one(rt, region, file, gate, index, worker) },
+    );
+}
+
+/// Does the jobs of all workers, those of each in a thread of its own.
+pub(crate) fn run_all<G: Gate, R: Threads + Wait + Sync>(
+    rt: &R,
+    region: &Region,
+    file: &JobFile,
+    gate: &G,
+    workers: &mut List<Worker>,
+)
+    requires suits { IsFor (workload_of file.now) region.now.domain }
+    requires each { length workers.old.items ≡ workers_of (workload_of file.now) }
+    requires ready { AreReady region.now.domain (workload_of file.now) workers.old.items }
+    ensures each { length workers.new.items ≡ length workers.old.items }
+    ensures through { AreThrough region.now.domain (workload_of file.now) workers.new.items }
+{
+    run_each(rt, region, file, gate, workers.as_mut_slice());
+}
