@@ -1,0 +1,5 @@
+mod LineTexts
+mod Parts
+mod Obeyed
+mod Answered
+mod Came
