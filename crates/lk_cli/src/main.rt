@@ -1,19 +1,23 @@
 //! The program: `qlock replay` reads a trace from standard input and writes its transcript to
-//! standard output; `qlock gen` and `qlock load` write the generated trace of a start number, and
-//! the closing lines of its replay.
+//! standard output; `qlock ledger` reads a job file there, runs its jobs on threads, and writes what
+//! came of them; `qlock gen` and `qlock load` write the generated trace of a start number, and the
+//! closing lines of its replay.
 #![tactic(auto)]
 
 use lk_command::answer;
+use lk_guard::OpenGate;
 use lk_text::{StdSink, StdSource};
 use std::env;
 use std::process::ExitCode;
 
 fn main(rt: HostRuntime) -> ExitCode {
     answer(
+        &rt,
         rt.alloc(),
         env::args(&rt),
         &mut StdSource::new(rt.stdin()),
         &mut StdSink::new(rt.stdout()),
         &mut StdSink::new(rt.stderr()),
+        &OpenGate,
     )
 }

@@ -11,6 +11,7 @@ use Rattle.lk_words.specs.declared.asked.Reading.TheVariants.{Replay, Osq, Audit
 use Rattle.lk_command.specs.Args.{AreRead, Asks, AsksNothing, FoundNoMemory}
 use Rattle.lk_command.specs.OsqRuns.{OsqRuns}
 use Rattle.lk_command.specs.Audits.{Audits}
+use Rattle.lk_command.specs.Ledgers.{Ledgers}
 use Rattle.lk_command.specs.Means.{CameTo, Does, Replays, Writes, closing_of}
 use Rattle.lk_command.specs.declared.status.Status.{Status}
 use Rattle.lk_command.specs.declared.status.Status.TheVariants as status
@@ -32,18 +33,20 @@ module _ {X Z : Type 0} (bytes : X → List ℕ) where
     no_replay = unread (Some Replay);
     no_osq = unread (Some Osq);
     no_audit = unread (Some Audit);
+    no_ledger = unread (Some Ledger);
     no_gen = λ start. unread (Some (Gen start));
     no_load = λ start. unread (Some (Load start));
   }
 
   module _ (args : Result (IntoIter X Z) Error) (same_source same_sink : Type 0) (old new : Outside) (came : Status) where
     -- words with another reading ask for nothing
-    nothing : (r : Option Reading) → AreRead r bytes args → ¬ (r ≡ Some Replay) → ¬ (r ≡ Some Osq) → ¬ (r ≡ Some Audit) → ((start : ℕ) → ¬ (r ≡ Some (Gen start))) → ((start : ℕ) → ¬ (r ≡ Some (Load start)))
+    nothing : (r : Option Reading) → AreRead r bytes args → ¬ (r ≡ Some Replay) → ¬ (r ≡ Some Osq) → ¬ (r ≡ Some Audit) → ¬ (r ≡ Some Ledger) → ((start : ℕ) → ¬ (r ≡ Some (Gen start))) → ((start : ℕ) → ¬ (r ≡ Some (Load start)))
         → AsksNothing (λ q. Asks q bytes args)
-    nothing r read replay osq audit gens loads = record {
+    nothing r read replay osq audit ledger gens loads = record {
       no_replay = λ asks. replay (one_reading args r Replay read asks);
       no_osq = λ asks. osq (one_reading args r Osq read asks);
       no_audit = λ asks. audit (one_reading args r Audit read asks);
+      no_ledger = λ asks. ledger (one_reading args r Ledger read asks);
       no_gen = λ start asks. gens start (one_reading args r (Gen start) read asks);
       no_load = λ start asks. loads start (one_reading args r (Load start) read asks);
     }
@@ -53,6 +56,9 @@ module _ {X Z : Type 0} (bytes : X → List ℕ) where
 
     pub runs_audit : (r : Option Reading) → AreRead r bytes args → CameTo r same_source same_sink old new came → Asks Audit bytes args → Audits old new came
     runs_audit r read done asks = subst (λ q. CameTo q same_source same_sink old new came) (one_reading args r Audit read asks) done
+
+    pub runs_ledger : (r : Option Reading) → AreRead r bytes args → CameTo r same_source same_sink old new came → Asks Ledger bytes args → Ledgers old new came
+    runs_ledger r read done asks = subst (λ q. CameTo q same_source same_sink old new came) (one_reading args r Ledger read asks) done
 
     pub runs_osq : (r : Option Reading) → AreRead r bytes args → CameTo r same_source same_sink old new came → Asks Osq bytes args → OsqRuns old new came
     runs_osq r read done asks = subst (λ q. CameTo q same_source same_sink old new came) (one_reading args r Osq read asks) done
@@ -71,17 +77,17 @@ module _ {X Z : Type 0} (bytes : X → List ℕ) where
     untouched (Some Replay) read done asks_nothing = absurd (asks_nothing.no_replay read)
     untouched (Some Osq) read done asks_nothing = absurd (asks_nothing.no_osq read)
     untouched (Some Audit) read done asks_nothing = absurd (asks_nothing.no_audit read)
-    untouched (Some Ledger) read done asks_nothing = (done.1, done.2)
+    untouched (Some Ledger) read done asks_nothing = absurd (asks_nothing.no_ledger read)
     untouched (Some (Gen start)) read done asks_nothing = absurd (asks_nothing.no_gen start read)
     untouched (Some (Load start)) read done asks_nothing = absurd (asks_nothing.no_load start read)
 
     -- only words that ask for nothing come to the usage line
     usage_only : (r : Option Reading) → AreRead r bytes args → CameTo r same_source same_sink old new came → came ≡ status.Usage → AsksNothing (λ q. Asks q bytes args)
-    usage_only None read done is = nothing None read (λ e. cc) (λ e. cc) (λ e. cc) (λ start e. cc) (λ start e. cc)
+    usage_only None read done is = nothing None read (λ e. cc) (λ e. cc) (λ e. cc) (λ e. cc) (λ start e. cc) (λ start e. cc)
     usage_only (Some Replay) read done is = absurd (rw is at done.means)
     usage_only (Some Osq) read done is = absurd (rw is at done.means)
     usage_only (Some Audit) read done is = absurd (rw is at done.means)
-    usage_only (Some Ledger) read done is = nothing (Some Ledger) read (λ e. cc) (λ e. cc) (λ e. cc) (λ start e. cc) (λ start e. cc)
+    usage_only (Some Ledger) read done is = absurd (rw is at done.means)
     usage_only (Some (Gen start)) read done is = absurd (rw is at done.1)
     usage_only (Some (Load start)) read done is = absurd (rw is at done.1)
 
@@ -91,7 +97,7 @@ module _ {X Z : Type 0} (bytes : X → List ℕ) where
     usage_comes (Some Replay) read done asks_nothing = absurd (asks_nothing.no_replay read)
     usage_comes (Some Osq) read done asks_nothing = absurd (asks_nothing.no_osq read)
     usage_comes (Some Audit) read done asks_nothing = absurd (asks_nothing.no_audit read)
-    usage_comes (Some Ledger) read done asks_nothing = done.0
+    usage_comes (Some Ledger) read done asks_nothing = absurd (asks_nothing.no_ledger read)
     usage_comes (Some (Gen start)) read done asks_nothing = absurd (asks_nothing.no_gen start read)
     usage_comes (Some (Load start)) read done asks_nothing = absurd (asks_nothing.no_load start read)
 
@@ -119,6 +125,9 @@ not_audited at = record {
   exact = λ bytes line why said left says lawful reads writes. inr refl;
 }
 
+no_jobs_run : (at : Outside) → Ledgers at at status.Memory
+no_jobs_run at = record { means = Keeps-refl at.held; complete = λ bytes work left says reads writes. inr refl; exact = λ bytes line why left says reads writes. inr refl }
+
 module _ {X Z : Type 0} (bytes : X → List ℕ) (same_source same_sink : Type 0) (at : Outside) (source : same_source) (sink : same_sink) where
   no_memory_left : (args : Result (IntoIter X Z) Error) (came : Status) → came ≡ status.Memory
       → Does (λ q. Asks q bytes args) (FoundNoMemory args) same_source same_sink at at came
@@ -130,6 +139,7 @@ module _ {X Z : Type 0} (bytes : X → List ℕ) (same_source same_sink : Type 0
     replays = λ asks. rw is (not_replayed at);
     osq = λ asks. rw is (osq_not_run at);
     audits = λ asks. rw is (not_audited at);
+    ledger = λ asks. rw is (no_jobs_run at);
     generates = λ start asks. (source, rw is (unwritten at));
     loads = λ start asks. (source, rw is (unwritten at));
   }
@@ -144,6 +154,7 @@ module _ {X Z : Type 0} (bytes : X → List ℕ) (same_source same_sink : Type 0
     replays = λ asks. absurd (unread (Some Replay) asks);
     osq = λ asks. absurd (unread (Some Osq) asks);
     audits = λ asks. absurd (unread (Some Audit) asks);
+    ledger = λ asks. absurd (unread (Some Ledger) asks);
     generates = λ start asks. absurd (unread (Some (Gen start)) asks);
     loads = λ start asks. absurd (unread (Some (Load start)) asks);
   }

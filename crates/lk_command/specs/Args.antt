@@ -7,7 +7,7 @@ use Rattle.std.specs.declared.io.Error.{Error}
 use Rattle.std.specs.declared.io.ErrorKind.TheVariants.{OutOfMemory}
 use Rattle.lk_words.specs.Reading.{reading_of}
 use Rattle.lk_words.specs.declared.asked.Reading.{Reading}
-use Rattle.lk_words.specs.declared.asked.Reading.TheVariants.{Replay, Osq, Audit, Gen, Load}
+use Rattle.lk_words.specs.declared.asked.Reading.TheVariants.{Replay, Osq, Audit, Ledger, Gen, Load}
 
 -- the words behind the program's name are read so; `bytes` gives the bytes of a word
 abbrev pub AreRead : {X Z : Type 0} → Option Reading → (X → List ℕ) → Result (IntoIter X Z) Error → Type 0
@@ -20,12 +20,14 @@ Asks reading bytes args = AreRead (Some reading) bytes args
 abbrev pub AsksReplay : {X Z : Type 0} → (X → List ℕ) → Result (IntoIter X Z) Error → Type 0
 AsksReplay bytes args = Asks Replay bytes args
 
--- They ask for nothing that there is: neither for a replay, nor for a run of the optimistic spin queue, nor for an audit, nor for the generated trace
--- of a start number, to be written or to be replayed. `asks` says what they ask for.
+-- They ask for nothing that there is: neither for a replay, nor for a run of the optimistic spin
+-- queue, nor for an audit, nor for a ledger, nor for the generated trace of a start number, to be
+-- written or to be replayed. `asks` says what they ask for.
 pub record AsksNothing (asks : Reading → Type 0) : Type 0 where
   pub no_replay : ¬ asks Replay
   pub no_osq : ¬ asks Osq
   pub no_audit : ¬ asks Audit
+  pub no_ledger : ¬ asks Ledger
   pub no_gen : (start : ℕ) → ¬ asks (Gen start)
   pub no_load : (start : ℕ) → ¬ asks (Load start)
 

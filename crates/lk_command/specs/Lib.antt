@@ -2,4 +2,5 @@ pub mod Status
 pub mod Args
 pub mod OsqRuns
 pub mod Audits
+pub mod Ledgers
 pub mod Means

@@ -1,5 +1,5 @@
 -- What each status of a replay means.
-use Rattle.std.specs.Prelude.{◌≡◌, ◌↔◌, ◌⊎◌, ℕ, List, Option, Some, Err}
+use Rattle.std.specs.Prelude.{◌≡◌, ◌↔◌, ◌⊎◌, ℕ, List, Option, None, Some, Err}
 use Rattle.std.specs.Io.KnownBytes.{Appends}
 use Rattle.lk_abs.specs.declared.events.Act.{Act}
 use Rattle.lk_machine.specs.declared.setup.Setup.{Setup}
@@ -16,10 +16,11 @@ use Rattle.lk_replay.specs.declared.answers.Summary.{Summary}
 use Rattle.lk_forms.specs.Texts.{closing}
 use Rattle.lk_gen.specs.Generated.{generated, generated_setup, generated_acts}
 use Rattle.lk_words.specs.declared.asked.Reading.{Reading}
-use Rattle.lk_words.specs.declared.asked.Reading.TheVariants.{Replay, Osq, Audit, Gen, Load}
+use Rattle.lk_words.specs.declared.asked.Reading.TheVariants.{Replay, Osq, Audit, Ledger, Gen, Load}
 use Rattle.lk_command.specs.Args.{AsksNothing}
 use Rattle.lk_command.specs.OsqRuns.{OsqRuns}
 use Rattle.lk_command.specs.Audits.{Audits}
+use Rattle.lk_command.specs.Ledgers.{Ledgers}
 use Rattle.lk_command.specs.Status.{note_of, status_of}
 use Rattle.lk_command.specs.declared.status.Status.{Status}
 use Rattle.lk_command.specs.declared.status.Status.TheVariants as status
@@ -66,9 +67,10 @@ abbrev pub CameTo : Option Reading → Type 0 → Type 0 → Outside → Outside
 CameTo (Some Replay) same_source same_sink old new came = Replays old new came
 CameTo (Some Osq) same_source same_sink old new came = OsqRuns old new came
 CameTo (Some Audit) same_source same_sink old new came = Audits old new came
+CameTo (Some Ledger) same_source same_sink old new came = Ledgers old new came
 CameTo (Some (Gen start)) same_source same_sink old new came = same_source × Writes old new (generated start) came
 CameTo (Some (Load start)) same_source same_sink old new came = same_source × Writes old new (closing_of start) came
-CameTo _ same_source same_sink old new came = (came ≡ status.Usage) × same_source × same_sink
+CameTo None same_source same_sink old new came = (came ≡ status.Usage) × same_source × same_sink
 
 -- What is done for the words, and the status of it. `asks` says what the words ask for, `no_memory` that there was none in which to
 -- read them.
@@ -80,6 +82,7 @@ pub record Does (asks : Reading → Type 0) (no_memory same_source same_sink : T
   pub replays : asks Replay → Replays old new came
   pub osq : asks Osq → OsqRuns old new came
   pub audits : asks Audit → Audits old new came
+  pub ledger : asks Ledger → Ledgers old new came
   pub generates : (start : ℕ) → asks (Gen start) → same_source × Writes old new (generated start) came
   pub loads : (start : ℕ) → asks (Load start) → same_source × Writes old new (closing_of start) came
 

@@ -17,22 +17,27 @@ ghost use Rattle.lk_command.specs.Args.{AreRead, Asks, AsksReplay, AsksNothing, 
 ghost use Rattle.lk_command.specs.Status.{note_of, status_of};
 ghost use Rattle.lk_command.specs.OsqRuns.{OsqRuns};
 ghost use Rattle.lk_command.specs.Audits.{Audits};
+ghost use Rattle.lk_command.specs.Ledgers.{Ledgers};
 ghost use Rattle.lk_command.specs.Means.{CameTo, Does, Means, Writes, IsSaid, closing_of};
 ghost use Rattle.lk_command.specs.declared.status.Status.{Status};
 
 use crate::auditing::run_audit;
+use crate::jobs::run_ledger;
 use crate::load::load;
 use crate::notes::note;
 use crate::spin_queue::run_osq;
 use crate::status::Status;
 use lk_abs::Memory;
 use lk_gen::generate;
+use lk_guard::Gate;
 use lk_replay::replay;
 use lk_text::{Sink, Source};
 use lk_words::{Reading, reading};
 use std::alloc::Global;
 use std::env::Args;
 use std::io::{self, ErrorKind};
+use std::sync::Wait;
+use std::thread::Threads;
 
 // The words behind the program's name.
 fn words_of(alloc: Global, mut args: Args) -> Result<Vec<String>, Memory>
@@ -78,12 +83,14 @@ fn asked(alloc: Global, args: io::Result<Args>) -> Result<Option<Reading>, Statu
     }
 }
 
-// Does what the words ask, as they were read. `ledger` is still to come.
-fn perform<S: Source, K: Sink>(
+// Does what the words ask, as they were read.
+fn perform<S: Source, K: Sink, G: Gate, R: Threads + Wait + Sync>(
+    rt: &R,
     alloc: Global,
     asked: Option<Reading>,
     source: &mut S,
     sink: &mut K,
+    gate: &G,
 ) -> Status
     ensures came { CameTo asked (source.new ≡ source.old) (sink.new ≡ sink.old)
         (outside (S.left source.old) (S.faults source.old) (K.held sink.old) (K.faults sink.old))
@@ -95,18 +102,21 @@ fn perform<S: Source, K: Sink>(
         Some(Reading::Replay) => Status::of(replay(alloc, source, sink)),
         Some(Reading::Osq) => run_osq(alloc, source, sink),
         Some(Reading::Audit) => run_audit(alloc, source, sink),
+        Some(Reading::Ledger) => run_ledger(rt, alloc, source, sink, gate),
         Some(Reading::Gen(start)) => Status::of_put(generate(start, sink)),
         Some(Reading::Load(start)) => load(alloc, start, sink),
-        Some(Reading::Ledger) | None => Status::Usage,
+        None => Status::Usage,
     }
 }
 
 // Does what the program's arguments ask.
-fn obey<S: Source, K: Sink>(
+fn obey<S: Source, K: Sink, G: Gate, R: Threads + Wait + Sync>(
+    rt: &R,
     alloc: Global,
     args: io::Result<Args>,
     source: &mut S,
     sink: &mut K,
+    gate: &G,
 ) -> Status
     ensures { Does (λ reading. Asks reading string_bytes args) (FoundNoMemory args)
         (source.new ≡ source.old) (sink.new ≡ sink.old)
@@ -115,21 +125,25 @@ fn obey<S: Source, K: Sink>(
         result }
 {
     match asked(alloc, args) {
-        Ok(asked) => perform(alloc, asked, source, sink),
+        Ok(asked) => perform(rt, alloc, asked, source, sink, gate),
         Err(status) => status,
     }
 }
 
 /// Does what the program's arguments ask, and notes why not. `replay` reads a trace from the source
 /// and writes its transcript to the sink, and `osq` does so with a run of the optimistic spin queue;
-/// `audit` judges a transcript from anybody, and writes its verdict; `gen n` writes the generated trace of the start number, and `load n` replays that trace in memory
-/// and writes the closing lines. `ledger` is to come: it gets the usage line so far.
-pub fn run<S: Source, K: Sink, N: Sink>(
+/// `audit` judges a transcript from anybody, and writes its verdict; `ledger` reads a job file, runs
+/// its jobs on threads, and writes what came of them; `gen n` writes the generated trace of the start
+/// number, and `load n` replays that trace in memory and writes the closing lines. Only `ledger` uses
+/// threads, and passes the gate before and after each job.
+pub fn run<S: Source, K: Sink, N: Sink, G: Gate, R: Threads + Wait + Sync>(
+    rt: &R,
     alloc: Global,
     args: io::Result<Args>,
     source: &mut S,
     sink: &mut K,
     notes: &mut N,
+    gate: &G,
 ) -> Status
     // Exactly words that ask for nothing get the usage line, also words that are no text; but there
     // may be no memory in which to tell.
@@ -184,6 +198,14 @@ pub fn run<S: Source, K: Sink, N: Sink>(
         (outside (S.left source.new) (S.faults source.new) (K.held sink.new)
         (K.faults sink.new)) result }
 
+    // The jobs of a job file are run, each worker's on a thread of its own: Done says that the text of
+    // an outcome was written that may come of the file.
+    ensures ledger { Asks Reading.Ledger string_bytes args
+        → Ledgers (outside (S.left source.old) (S.faults source.old) (K.held sink.old)
+        (K.faults sink.old))
+        (outside (S.left source.new) (S.faults source.new) (K.held sink.new)
+        (K.faults sink.new)) result }
+
     // The generated trace is written, and the source is not read.
     ensures generates { (start : ℕ) → Asks (Reading.Gen start) string_bytes args
         → (source.new ≡ source.old)
@@ -205,7 +227,7 @@ pub fn run<S: Source, K: Sink, N: Sink>(
     ensures noted { IsSaid (N.held notes.old) (N.held notes.new) (N.faults notes.old)
         (N.faults notes.new) (note_of result) }
 {
-    let status = obey(alloc, args, source, sink);
+    let status = obey(rt, alloc, args, source, sink, gate);
     note(notes, status);
     status
 }

@@ -8,20 +8,25 @@ ghost use Rattle.lk_command.specs.Means.{RunsTo, IsSaid};
 ghost use Rattle.lk_command.specs.declared.status.Status.{Status};
 
 use crate::command::run;
+use lk_guard::Gate;
 use lk_text::{Sink, Source};
 use std::alloc::Global;
 use std::env::Args;
 use std::io;
 use std::process::ExitCode;
+use std::sync::Wait;
+use std::thread::Threads;
 
 /// What `run` comes to, as the program's exit status: each of its clauses holds of the status of
 /// this number.
-pub fn answer<S: Source, K: Sink, N: Sink>(
+pub fn answer<S: Source, K: Sink, N: Sink, G: Gate, R: Threads + Wait + Sync>(
+    rt: &R,
     alloc: Global,
     args: io::Result<Args>,
     source: &mut S,
     sink: &mut K,
     notes: &mut N,
+    gate: &G,
 ) -> ExitCode
     ensures { (status : Status) × (exit_status result ≡ number_of status)
         × RunsTo (λ reading. Asks reading string_bytes args) (FoundNoMemory args)
@@ -31,5 +36,5 @@ pub fn answer<S: Source, K: Sink, N: Sink>(
         (IsSaid (N.held notes.old) (N.held notes.new) (N.faults notes.old)
         (N.faults notes.new)) status }
 {
-    ExitCode::from(run(alloc, args, source, sink, notes).number())
+    ExitCode::from(run(rt, alloc, args, source, sink, notes, gate).number())
 }

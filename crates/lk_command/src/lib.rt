@@ -5,6 +5,7 @@
 mod auditing;
 mod command;
 mod exit;
+mod jobs;
 mod load;
 mod notes;
 mod spin_queue;

@@ -1,5 +1,5 @@
 use Rattle.std.proofs.Common.{string_bytes, refl}
-use Rattle.lk_command.proofs.Asked.{usage, untouched, had_memory, replays, runs_osq, runs_audit, writes_gen, writes_load, does_unread}
+use Rattle.lk_command.proofs.Asked.{usage, untouched, had_memory, replays, runs_osq, runs_audit, runs_ledger, writes_gen, writes_load, does_unread}
 use Rattle.lk_command.proofs.command.obey.Goals as goal
 
 pub returns-in-Ok : goal.returns-in-Ok
@@ -15,6 +15,7 @@ returns-in-Ok g c =
       replays = replays string_bytes args _ _ _ _ _ asked read done;
       audits = runs_audit string_bytes args _ _ _ _ _ asked read done;
       osq = runs_osq string_bytes args _ _ _ _ _ asked read done;
+      ledger = runs_ledger string_bytes args _ _ _ _ _ asked read done;
       generates = writes_gen string_bytes args _ _ _ _ _ asked read done;
       loads = writes_load string_bytes args _ _ _ _ _ asked read done;
     }

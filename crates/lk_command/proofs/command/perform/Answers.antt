@@ -26,6 +26,11 @@ returns-in-Some-Audit-clause-came g c =
     let inner = rw c.in-Some-Audit.is at c.in-Some-Audit.field-0-is in
     rw (c.in-Some-Audit.is, inner) c.run_audit.ensures.runs
 
+pub returns-in-Some-Ledger-clause-came : goal.returns-in-Some-Ledger-clause-came
+returns-in-Some-Ledger-clause-came g c =
+    let inner = rw c.in-Some-Ledger.is at c.in-Some-Ledger.field-0-is in
+    rw (c.in-Some-Ledger.is, inner) c.run_ledger.ensures.runs
+
 pub returns-in-Some-Gen-clause-came : goal.returns-in-Some-Gen-clause-came
 returns-in-Some-Gen-clause-came g c =
     let put = c.generate.ensures in

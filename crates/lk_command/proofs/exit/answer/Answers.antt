@@ -19,6 +19,7 @@ returns g c =
           };
           osq = came.osq;
           audits = came.audits;
+          ledger = came.ledger;
           generates = came.generates;
           loads = came.loads;
         };
