@@ -1,0 +1,88 @@
+//! Threads take one lock in turn, and change two numbers while they hold it.
+//!
+//! `lk_race MODE THREADS TURNS WORK` makes a domain of one lock of this mode and of so many
+//! processors, and gives each processor to a thread of its own. In each of its turns a processor
+//! takes the lock, changes the numbers so often, and frees the lock. At the end the numbers are
+//! told, and to standard error the time that the turns took.
+//!
+//! It is a whole program over running locks: a plan, the domain that is made of it with its
+//! processors, the calls, and the end of the domain.
+#![tactic(auto)]
+
+mod fault;
+mod numbers;
+mod plan;
+mod race;
+mod words;
+
+use fault::Fault;
+use lk_domain::{Domain, close};
+use numbers::Numbers;
+use plan::plan_of;
+use race::{Race, take_all_turns};
+use std::io;
+use std::process::ExitCode;
+use std::rt::Clock;
+use std::sync::Wait;
+use std::thread::Threads;
+use std::time::{Duration, Instant};
+use words::race_of;
+
+// The status of numbers that are wrong.
+const WRONG: u8 = 1;
+
+// The status of words that are not those of a race.
+const USAGE: u8 = 2;
+
+// What came of a race.
+#[derive(Drop)]
+struct Outcome {
+    numbers: (u64, u64),
+    time: Duration,
+}
+
+// The race, from the plan of its domain to the domain's end.
+fn carry_out<R: Threads + Wait + Sync + AllocGlobal + Clock>(
+    rt: &R,
+    race: &Race,
+) -> Result<Outcome, Fault> {
+    let plan = plan_of(rt.alloc(), race)?;
+    let (domain, mut cpus) = Domain::new(rt.alloc(), &plan)?;
+    let numbers = Numbers::new();
+    let start = Instant::now(rt)?;
+    take_all_turns(rt, &domain, &numbers, race, &mut cpus);
+    let time = start.elapsed(rt)?;
+    match close(rt.alloc(), domain, cpus) {
+        Ok(_) => {
+            Ok(Outcome {
+                numbers: numbers.read(),
+                time,
+            })
+        }
+        Err(_) => Err(Fault::Memory),
+    }
+}
+
+// Tells what came of a race, and whether the numbers are what they have to be.
+fn tell(rt: &(impl Print + Eprint), race: &Race, outcome: &Outcome) -> io::Result<bool> {
+    let (first, second) = outcome.numbers;
+    let right = first == race.changes() && second == race.changes();
+    println!(rt; "turns {}", race.all_turns())?;
+    println!(rt; "numbers {first} {second}")?;
+    println!(rt; "{}", if right { "right" } else { "wrong" })?;
+    eprintln!(rt; "{} microseconds", outcome.time.as_micros())?;
+    Ok(right)
+}
+
+fn main(rt: HostRuntime) -> Result<ExitCode, Fault> {
+    let Some(race) = race_of(&rt) else {
+        eprintln!(rt; "usage: lk_race virt|native THREADS TURNS WORK")?;
+        return Ok(ExitCode::from(USAGE));
+    };
+    let outcome = carry_out(&rt, &race)?;
+    if tell(&rt, &race, &outcome)? {
+        Ok(ExitCode::SUCCESS)
+    } else {
+        Ok(ExitCode::from(WRONG))
+    }
+}
