@@ -6,7 +6,9 @@ use lk_audit::{AuditFault, audit};
 use lk_text::{MemSink, MemSource};
 use std::alloc::{AllocError, Global};
 use std::process::Abort;
+use std::sync::Wait;
 use std::test::Fail;
+use std::thread::Threads;
 
 // The header of a trace of two processors, and the transcript of one.
 const PENDING: &str = "\
@@ -228,7 +230,7 @@ fn failing_audits(rt: HostRuntime) -> Result<(), Fail> {
 
 // Sees that the program's call, asked for an audit, ends with this status, line and note.
 fn ends_so(
-    rt: &(impl Abort + AllocGlobal),
+    rt: &(impl Abort + AllocGlobal + Threads + Wait + Sync),
     input: &str,
     fails: [u64; 2],
     wanted: (u8, &str, &str),

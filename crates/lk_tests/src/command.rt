@@ -2,12 +2,15 @@
 
 use crate::replaying::{EVENTS, SMALL, SMALL_TEXT};
 use lk_command::run;
+use lk_guard::OpenGate;
 use lk_text::{MemSink, MemSource};
 use std::alloc::{AllocError, Global};
 use std::env::Args;
 use std::io::{self, ErrorKind};
 use std::process::Abort;
+use std::sync::Wait;
 use std::test::Fail;
+use std::thread::Threads;
 
 /// The arguments of a command: the program's name, and the words behind it.
 pub fn args_of(alloc: Global, words: &str) -> Result<Args, AllocError> {
@@ -22,7 +25,7 @@ pub fn args_of(alloc: Global, words: &str) -> Result<Args, AllocError> {
 /// Runs a command on an input, with the read and the write that fail, 0 for none, and sees that it
 /// ends with this status, writes this text, and notes this line.
 pub fn ends(
-    rt: &(impl Abort + AllocGlobal),
+    rt: &(impl Abort + AllocGlobal + Threads + Wait + Sync),
     args: io::Result<Args>,
     input: &str,
     fails: [u64; 2],
@@ -33,7 +36,15 @@ pub fn ends(
     let mut source = MemSource::new(alloc, input.as_bytes(), 1, &[read])?;
     let mut sink = MemSink::new(alloc, 1_000, &[write])?;
     let mut notes = MemSink::new(alloc, 1_000, &[])?;
-    let status = run(alloc, args, &mut source, &mut sink, &mut notes);
+    let status = run(
+        rt,
+        alloc,
+        args,
+        &mut source,
+        &mut sink,
+        &mut notes,
+        &OpenGate,
+    );
     let (number, text, note) = wanted;
     assert_eq!(rt; status.number(), number, "of {note}");
     assert_eq!(rt; sink.bytes(), text.as_bytes(), "of {note}");
@@ -73,7 +84,7 @@ fn text_of(name: &str) -> &'static str {
 }
 
 // One row of `RUNS`.
-fn runs_so(rt: &(impl Abort + AllocGlobal), row: &str) -> Result<(), Fail> {
+fn runs_so(rt: &(impl Abort + AllocGlobal + Threads + Wait + Sync), row: &str) -> Result<(), Fail> {
     let alloc = rt.alloc();
     let (input, rest) = row.split_once(' ').ok_or("no read")?;
     let (read, rest) = rest.split_once(' ').ok_or("no write")?;
@@ -106,7 +117,7 @@ fn statuses_and_notes(rt: HostRuntime) -> Result<(), Fail> {
 /// The note of words that ask for nothing that there is.
 const USAGE: &str = "usage: qlock replay | ledger | gen <n> | load <n> | audit | osq\n";
 
-// Words that are no command so far, one line each; the first has none.
+// Words that are no command, one line each; the first has none.
 const NO_COMMANDS: &str = "
 --help
 -h
@@ -124,7 +135,6 @@ help
 osq x
 osqs
 audit x
-ledger
 ledger x
 replay replay
 replay x";
@@ -155,7 +165,15 @@ fn failing_notes(rt: HostRuntime) -> Result<(), Fail> {
     let mut sink = MemSink::new(alloc, 1_000, &[])?;
     let mut notes = MemSink::new(alloc, 1_000, &[1])?;
     let args = args_of(alloc, "replay")?;
-    let status = run(alloc, Ok(args), &mut source, &mut sink, &mut notes);
+    let status = run(
+        &rt,
+        alloc,
+        Ok(args),
+        &mut source,
+        &mut sink,
+        &mut notes,
+        &OpenGate,
+    );
     assert!(rt; status.number() == 3 && notes.bytes() == b"".as_slice());
     Ok(())
 }

@@ -3,18 +3,33 @@
 use crate::command::args_of;
 use lk_command::run;
 use lk_gen::{generate, generated_texts_are_good};
+use lk_guard::OpenGate;
 use lk_text::{MemSink, MemSource};
 use std::process::Abort;
+use std::sync::Wait;
 use std::test::Fail;
+use std::thread::Threads;
 
 // What a command that is done writes for an input.
-fn written(rt: &(impl Abort + AllocGlobal), words: &str, input: &[u8]) -> Result<MemSink, Fail> {
+fn written(
+    rt: &(impl Abort + AllocGlobal + Threads + Wait + Sync),
+    words: &str,
+    input: &[u8],
+) -> Result<MemSink, Fail> {
     let alloc = rt.alloc();
     let mut source = MemSource::new(alloc, input, 65_536, &[])?;
     let mut sink = MemSink::new(alloc, 524_288, &[])?;
     let mut notes = MemSink::new(alloc, 1_000, &[])?;
     let args = args_of(alloc, words)?;
-    let status = run(alloc, Ok(args), &mut source, &mut sink, &mut notes);
+    let status = run(
+        rt,
+        alloc,
+        Ok(args),
+        &mut source,
+        &mut sink,
+        &mut notes,
+        &OpenGate,
+    );
     assert_eq!(rt; status.number(), 0, "of {words}");
     Ok(sink)
 }
@@ -85,7 +100,15 @@ fn failing_writes(rt: HostRuntime) -> Result<(), Fail> {
         let mut sink = MemSink::new(alloc, 524_288, &[write.parse::<u64>()?])?;
         let mut notes = MemSink::new(alloc, 1_000, &[])?;
         let args = args_of(alloc, words)?;
-        let status = run(alloc, Ok(args), &mut source, &mut sink, &mut notes);
+        let status = run(
+            &rt,
+            alloc,
+            Ok(args),
+            &mut source,
+            &mut sink,
+            &mut notes,
+            &OpenGate,
+        );
         assert_eq!(rt; status.number(), 5, "of {row}");
         assert!(rt; notes.bytes() == b"write fault\n".as_slice());
     }

@@ -11,7 +11,7 @@ use std::test::Fail;
 // Whole files, with ` / ` for a line feed: good, or the line that is refused, and why.
 const FILES: &str = "\
 qjobs 1 / mode virt / end = good
-# files / qjobs 1 /  / mode cna / guard rw / workers 2 / sockets 0 63 / threshold 0 / accounts 1 / end / # over = good
+# files / qjobs 1 /  / mode virt / guard spin / workers 2 / sockets 0 63 / threshold 0 / accounts 1 / end / # over = good
 qjobs 1 / mode native / workers 16 / threshold 65535 / job 15 sum / end = good
  = 2 NoFormat
 # qjobs 1 = 2 NoFormat
@@ -25,6 +25,9 @@ qjobs 1 / workers 2 = 2 Bad(Misplaced)
 qjobs 1 / jobs 1 = 2 Bad(UnknownWord)
 qjobs 1 / end = 2 Bad(Misplaced)
 qjobs 1 / mode pv = 2 Bad(UnknownWord)
+qjobs 1 / mode cna = 2 Bad(NotYet)
+qjobs 1 / mode cna 1 = 2 Bad(WordCount)
+qjobs 1 / mode virt / guard rw = 3 Bad(NotYet)
 qjobs 1 / mode = 2 Bad(WordCount)
 qjobs 1 / mode virt / mode virt = 3 Bad(Repeated)
 qjobs 1 / mode virt / qjobs 1 = 3 Bad(Repeated)
@@ -132,8 +135,8 @@ fn file_of(alloc: Global, lines: &str) -> Option<JobFile> {
 
 const FILE: &str = "\
 qjobs 1
-mode cna
-guard rw
+mode native
+guard spin
 workers 2
 sockets 3 0
 threshold 16
@@ -145,8 +148,8 @@ end";
 
 // Whether a file has what its lines say besides the jobs.
 fn has_settings(file: &JobFile) -> bool {
-    file.mode == Mode::Cna
-        && file.guard == Kind::Rw
+    file.mode == Mode::Native
+        && file.guard == Kind::Spin
         && file.topology.sockets.as_slice() == [3, 0].as_slice()
         && file.threshold == 16
         && file.balances.as_slice() == [10, 0, 5].as_slice()

@@ -19,6 +19,8 @@ mod generated;
 #[cfg(test)]
 mod grammar;
 #[cfg(test)]
+mod hashes;
+#[cfg(test)]
 mod headers;
 #[cfg(test)]
 mod job_files;
@@ -28,6 +30,8 @@ mod judging;
 mod kick_histories;
 #[cfg(test)]
 mod ledger;
+#[cfg(test)]
+mod ledger_runs;
 #[cfg(test)]
 mod lines;
 #[cfg(test)]
@@ -64,3 +68,5 @@ mod traces;
 mod transcripts;
 #[cfg(test)]
 mod words;
+#[cfg(test)]
+mod workers;

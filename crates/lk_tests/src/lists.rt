@@ -22,3 +22,10 @@ fn items_come_and_go(rt: HostRuntime) -> Result<(), Fail> {
     assert!(rt; full.as_slice() == [5, 6].as_slice());
     Ok(())
 }
+
+#[test]
+fn starts_empty(rt: HostRuntime) -> Result<(), Fail> {
+    let list: List<u32> = List::new(rt.alloc(), 1)?;
+    assert!(rt; list.len() == 0);
+    Ok(())
+}

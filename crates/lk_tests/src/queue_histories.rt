@@ -1,7 +1,9 @@
 // What the judge answers to histories of a queued spinlock.
 
 use crate::judging::judge_all;
-use lk_abs::{Kind, Mode, judge_is_exact};
+use lk_abs::{
+    Breach, Event, How, Judge, Kind, List, LockName, Mode, Topology, Waiter, What, judge_is_exact,
+};
 use std::test::Fail;
 
 const HISTORIES: &str = "\
@@ -31,4 +33,35 @@ given 0
 fn only_the_front_takes_and_hands_on(rt: HostRuntime) -> Result<(), Fail> {
     judge_is_exact();
     judge_all(&rt, (Mode::Native, Kind::Spin), HISTORIES)
+}
+
+const LOCK: LockName = LockName {
+    index: 0,
+    wait: false,
+};
+
+const FIRST: Waiter = Waiter { cpu: 1, ctx: 0 };
+
+const SECOND: Waiter = Waiter { cpu: 2, ctx: 0 };
+
+// Two of three processors wait, and the second of them takes.
+#[test]
+fn the_second_of_two_takes(rt: HostRuntime) -> Result<(), Fail> {
+    let sockets = List::filled(rt.alloc(), 0, 3)?;
+    let locks = List::from_slice(rt.alloc(), &[Kind::Spin])?;
+    let mut judge = Judge::new(rt.alloc(), Mode::Native, &Topology { sockets }, 0, &locks)?;
+    let what = What::Arrive { lock: LOCK };
+    assert!(rt; judge.take(&Event { by: FIRST, what }).is_ok());
+    assert!(rt; judge.take(&Event { by: SECOND, what }).is_ok());
+    let what = What::Take {
+        lock: LOCK,
+        how: How::Head,
+    };
+    let breach = Breach::WrongHead {
+        lock: LOCK,
+        first: Some(FIRST),
+        by: SECOND,
+    };
+    assert!(rt; judge.take(&Event { by: SECOND, what }) == Err(breach));
+    Ok(())
 }
