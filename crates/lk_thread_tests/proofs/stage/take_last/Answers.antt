@@ -1,0 +1,17 @@
+use Rattle.lk_thread_tests.proofs.TakenOff.{one_less, taken_off, left_over}
+use Rattle.lk_thread_tests.proofs.stage.take_last.Goals as goal
+
+pub returns-clause-domain : goal.returns-clause-domain
+returns-clause-domain c =
+    (taken_off c.args.domain.now c.args.cpus.now.items c.pop.new.self.items c.pop.result c.requires.rest c.pop.ensures.items).domain_is
+
+pub returns-clause-home : goal.returns-clause-home
+returns-clause-home c =
+    (taken_off c.args.domain.now c.args.cpus.now.items c.pop.new.self.items c.pop.result c.requires.rest c.pop.ensures.items).home
+
+pub returns-clause-long : goal.returns-clause-long
+returns-clause-long c = one_less c.args.cpus.now.items c.pop.new.self.items c.pop.result c.pop.ensures.items
+
+pub returns-clause-rest : goal.returns-clause-rest
+returns-clause-rest c =
+    left_over c.args.domain.now c.args.cpus.now.items c.pop.new.self.items c.pop.result c.requires.rest c.pop.ensures.items

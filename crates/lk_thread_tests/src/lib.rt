@@ -1,0 +1,11 @@
+//! The tests of running locks: handlers that come while a call waits, nested through all contexts,
+//! and each call once. They stand beside the tests of everything else, so that neither waits for the
+//! other.
+#![tactic(auto)]
+
+#[cfg(test)]
+mod handlers;
+#[cfg(test)]
+mod lock_calls;
+#[cfg(test)]
+mod stage;
