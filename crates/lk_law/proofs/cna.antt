@@ -18,6 +18,7 @@ pub mod Ends
 pub mod MoveAllowed
 pub mod Front
 pub mod Laws
+pub mod Named
 pub mod RowsKeep
 pub mod StoreRowsKeep
 pub mod Allowed

@@ -5,7 +5,7 @@ use Rattle.lk_machine.specs.declared.family.Family.TheVariants.{Spin, Queue, Cna
 use Rattle.lk_machine.specs.Family.{family_of}
 use Rattle.lk_machine.specs.declared.parts.Pc.{Pc}
 use Rattle.lk_machine.specs.declared.parts.Pc.TheVariants.{F1, T1, T2, U1, P0, P1, P2, P3, P4, G1}
-use Rattle.lk_machine.specs.declared.parts.Pc.TheVariants.{G4, G5, U2, U3, U4, U5}
+use Rattle.lk_machine.specs.declared.parts.Pc.TheVariants.{G4, G5, U2, U3, U4, U5, Z1, Z2}
 
 -- the family of the queue, of the choice, of the paravirtual lock, of readers and writers
 
@@ -56,6 +56,12 @@ is_release_row U3 = true
 is_release_row U4 = true
 is_release_row U5 = true
 is_release_row _ = false
+
+-- the row is one of a release, of a spinlock or of a reader-writer lock
+abbrev pub is_ending_row : Pc → Bool
+is_ending_row Z1 = true
+is_ending_row Z2 = true
+is_ending_row c = is_release_row c
 
 -- the row is one that a lock makes in every mode but `virt`
 abbrev pub all_share : Pc → Bool

@@ -1,16 +1,19 @@
--- How a spinlock is held by a running processor: by one waiter at most, and from one of its contexts
--- to another.
-use Rattle.std.specs.Prelude.{◌≡◌, Some, None, false, if◌then◌else◌}
+-- How a lock is held by a running processor: a spinlock by one waiter at most, and each from one of
+-- its contexts to another.
+use Rattle.std.specs.Prelude.{◌≡◌, ◌≢◌, ℕ, Some, None, true, false, [], ◌∷◌, ◌++◌, if◌then◌else◌}
 use Rattle.lk_abs.specs.Names.{same_lock}
-use Rattle.lk_abs.specs.History.{LockHistory}
+use Rattle.lk_abs.specs.History.{LockHistory, without}
+use Rattle.lk_abs.specs.declared.holder.Manner.{Manner}
 use Rattle.lk_abs.specs.declared.holder.Manner.TheVariants.{Spins}
-use Rattle.lk_abs.specs.declared.names.Kind.TheVariants.{Spin}
+use Rattle.lk_abs.specs.declared.names.Kind.TheVariants.{Spin, Rw}
 use Rattle.lk_abs.specs.declared.names.Waiter.{Waiter}
 use Rattle.lk_abs.specs.declared.names.LockName.{LockName}
+use Rattle.lk_machine.specs.Moves.{rw_name}
 use Rattle.lk_law.specs.Agree.{sole}
 use Rattle.lk_law.specs.Phase.Phase.{Idle}
 use Rattle.lk_law.specs.Places.{phase_on}
-use Rattle.lk_law.specs.SoundWorld.{IsSoundWorld}
+use Rattle.lk_law.specs.RwPhase.{rests}
+use Rattle.lk_law.specs.SoundWorld.{IsSoundWorld, rw_phases}
 use Rattle.lk_law.specs.SpinWorld.{IsSoundSpinWorld}
 use Rattle.lk_law.specs.Steps.{put_held}
 use Rattle.lk_law.specs.World.{World}
@@ -35,3 +38,23 @@ HoldMoves = (m : World) (hs : LockName → LockHistory) (l : LockName) (u v : Wa
     → IsSoundWorld m hs → l.wait ≡ false → m.kind l.index ≡ Spin → m.held u l ≡ Some Spins
     → phase_on l (m.frame u) ≡ Idle → phase_on l (m.frame v) ≡ Idle
     → IsSoundWorld (hands_hold m l u v) (held_by hs l v)
+
+-- the hold of the reader-writer lock, as of a reader or the writer, goes from u to v
+abbrev pub hands_share : World → ℕ → Manner → Waiter → Waiter → World
+hands_share m i way u v = put_held (put_held m u (rw_name i) None) v (rw_name i) (Some way)
+
+-- in the lock's history v holds it so, and u no more
+abbrev pub shared_by : (LockName → LockHistory) → ℕ → Manner → Waiter → Waiter → LockName → LockHistory
+shared_by hs i way u v k =
+    if same_lock k (rw_name i)
+    then record (hs k) {
+      holders = without u way (hs k).holders ++ record { waiter = v; manner = way } ∷ [];
+    } else hs k
+
+-- A hold of a reader-writer lock goes from one waiter to another that has none, neither of which wants
+-- more of the lock: the world stays sound, and the history names the other in its place.
+abbrev pub ShareMoves : Type 0
+ShareMoves = (m : World) (hs : LockName → LockHistory) (i : ℕ) (way : Manner) (u v : Waiter)
+    → IsSoundWorld m hs → m.kind i ≡ Rw → m.held u (rw_name i) ≡ Some way
+    → m.held v (rw_name i) ≡ None → rests (rw_phases m i u) ≡ true → rests (rw_phases m i v) ≡ true
+    → IsSoundWorld (hands_share m i way u v) (shared_by hs i way u v)

@@ -27,7 +27,7 @@ use Rattle.lk_machine.specs.rows.Rw.{rw_row}
 use Rattle.lk_machine.specs.TopRow.{Target, SpinWord, QueueWord, Queued, FlagOf, NextOf, ChoiceWord}
 use Rattle.lk_machine.specs.TopRow.{ChoiceFlag, ChoiceNext, SecondTailOf, RunsOf, PvWord, PvFlag}
 use Rattle.lk_machine.specs.TopRow.{PvNext, StateOf, HashEntry, Halted, KickOf, RwWord, target}
-use Rattle.lk_law.specs.Families.{may_halt, is_rw_row, is_release_row}
+use Rattle.lk_law.specs.Families.{may_halt, is_rw_row, is_ending_row}
 use Rattle.lk_law.specs.Premises.{IsThen}
 use Rattle.lk_law.specs.World.{World}
 use Rattle.lk_law.specs.Steps.{Made, put_frame, put_held, led, lead_on, way_led, way_told, sight_in}
@@ -218,7 +218,7 @@ pub record IsPlainRow (c : Pc) : Type 0 where
 -- the place is a row of a release
 abbrev pub is_release : Option Pc → Bool
 is_release None = false
-is_release (Some c) = is_release_row c
+is_release (Some c) = is_ending_row c
 
 -- No such row leads to a release.
 abbrev pub RowIsCalm : Type 0

@@ -1,20 +1,20 @@
 -- What a running processor may store into nodes, and which nodes its rows name: in every sound
 -- world of a family that halts no processor.
-use Rattle.std.specs.Prelude.{◌≡◌, ◌≢◌, ◌≤◌, ℕ, Some, None, true, false}
+use Rattle.std.specs.Prelude.{◌≡◌, ◌≢◌, ◌≤◌, ℕ, Bool, Some, None, true, false}
 use Rattle.lk_abs.specs.History.{LockHistory}
 use Rattle.lk_abs.specs.declared.names.Waiter.{Waiter}
 use Rattle.lk_abs.specs.declared.names.LockName.{LockName}
 use Rattle.lk_word.specs.declared.spin_word.NodeName.{NodeName}
-use Rattle.lk_machine.specs.declared.parts.Flag.TheVariants.{Second}
+use Rattle.lk_machine.specs.declared.parts.Flag.TheVariants.{Unset, Second}
 use Rattle.lk_machine.specs.declared.parts.Node.{Node}
 use Rattle.lk_machine.specs.declared.parts.Frame.{Frame}
 use Rattle.lk_machine.specs.declared.parts.Pc.{Pc}
-use Rattle.lk_machine.specs.declared.parts.Pc.TheVariants.{G5, G10}
+use Rattle.lk_machine.specs.declared.parts.Pc.TheVariants.{G5, G6, G10, C1, C2, C3, C7, C8}
 use Rattle.lk_machine.specs.Moves.{node_of}
 use Rattle.lk_law.specs.Agree.{halts}
 use Rattle.lk_law.specs.Cna.{moves_aside}
-use Rattle.lk_law.specs.Families.{may_halt}
-use Rattle.lk_law.specs.Known.{IsOwnNode}
+use Rattle.lk_law.specs.Families.{chooses, may_halt}
+use Rattle.lk_law.specs.Known.{IsOwnNode, choice_node}
 use Rattle.lk_law.specs.Premises.{Uses, GoesTo}
 use Rattle.lk_law.specs.SoundWorld.{IsSoundWorld}
 use Rattle.lk_law.specs.SpinWorld.{IsSoundSpinWorld}
@@ -61,3 +61,44 @@ abbrev pub LeadGoesOn : Type 0
 LeadGoesOn = (m : World) (hs : LockName → LockHistory) (w : Waiter) (f : Frame) (c : Pc)
     → IsSoundSpinWorld m hs → m.frame w ≡ Some f → f.place ≡ Some c → may_halt c ≡ false
     → (to : Waiter) × GoesTo m to (row_in m w f c).1
+
+-- A front finds the last of the second queue in the node of its first, and it is used.
+abbrev pub SecondTailIsUsed : Type 0
+SecondTailIsUsed = (m : World) (hs : LockName → LockHistory) (w : Waiter) (f : Frame)
+    → IsSoundSpinWorld m hs → m.frame w ≡ Some f → f.place ≡ Some C3
+    → (n : NodeName) × ((m.node (node_of f.second)).second_tail ≡ Some n)
+    × ((u : Waiter) × Uses m u n × IsOwnNode u n)
+
+-- a front looks along the links of the queue
+abbrev pub looks_along : Pc → Bool
+looks_along C1 = true
+looks_along C2 = true
+looks_along _ = false
+
+-- The node to which that is linked at which it looks is used.
+abbrev pub BehindIsUsed : Type 0
+BehindIsUsed = (m : World) (hs : LockName → LockHistory) (w : Waiter) (f : Frame) (c : Pc)
+    (n : NodeName)
+    → IsSoundSpinWorld m hs → m.frame w ≡ Some f → f.place ≡ Some c → looks_along c ≡ true
+    → (m.node (node_of (choice_node c f))).next ≡ Some n
+    → (u : Waiter) × Uses m u n × IsOwnNode u n
+
+-- The first of the second queue, as a flag names it, is used.
+abbrev pub FirstIsUsed : Type 0
+FirstIsUsed = (m : World) (hs : LockName → LockHistory) (w : Waiter) (f : Frame) (n : NodeName)
+    → IsSoundSpinWorld m hs → m.frame w ≡ Some f → f.place ≡ Some G6
+    → (m.node (node_of f.me)).flag ≡ Second n → (u : Waiter) × Uses m u n × IsOwnNode u n
+
+-- a front tells the chosen one how long the run is, or hands it the lead
+abbrev pub tells_next : Pc → Bool
+tells_next C7 = true
+tells_next C8 = true
+tells_next _ = false
+
+-- The flag of the chosen one is unset, and who uses its node chooses nobody.
+abbrev pub ChosenWaits : Type 0
+ChosenWaits = (m : World) (hs : LockName → LockHistory) (w : Waiter) (f : Frame) (c : Pc)
+    → IsSoundSpinWorld m hs → m.frame w ≡ Some f → f.place ≡ Some c → tells_next c ≡ true
+    → ((m.node (node_of f.y)).flag ≡ Unset)
+    × ((u : Waiter) (g : Frame) (d : Pc) → Uses m u (node_of f.y) → m.frame u ≡ Some g
+    → g.place ≡ Some d → chooses d ≡ false)

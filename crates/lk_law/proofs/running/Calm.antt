@@ -27,7 +27,7 @@ use Rattle.lk_machine.specs.rows.Queue.{after_flag, after_next, after_link}
 use Rattle.lk_machine.specs.rows.Cna.{Sight, is_last, may_stay, after_none, after_tail}
 use Rattle.lk_machine.specs.rows.Cna.{search_first, search_on}
 use Rattle.lk_machine.specs.TopRow.{target}
-use Rattle.lk_law.specs.Families.{is_release_row, may_halt, is_rw_row}
+use Rattle.lk_law.specs.Families.{is_ending_row, may_halt, is_rw_row}
 use Rattle.lk_law.specs.Leads.{course_in, is_release, enters, RowIsCalm, NodeComesAtEntry}
 use Rattle.lk_law.specs.Premises.{IsThen}
 use Rattle.lk_law.specs.Steps.{led, sight_in}
@@ -69,31 +69,31 @@ module _ (f : Frame) (inner : f.lock.wait ≡ true → IsThen f.then) where
   either true x y h k = h
   either false x y h k = k
 
-either_row : (b : Bool) (c d : Pc) → is_release_row c ≡ false → is_release_row d ≡ false
-    → is_release_row (if b then c else d) ≡ false
+either_row : (b : Bool) (c d : Pc) → is_ending_row c ≡ false → is_ending_row d ≡ false
+    → is_ending_row (if b then c else d) ≡ false
 either_row true c d h k = h
 either_row false c d h k = k
 
-calm_queue : (x : Fields) → is_release_row (to_queue x) ≡ false
+calm_queue : (x : Fields) → is_ending_row (to_queue x) ≡ false
 calm_queue x = either_row x.pending _ _ refl (either_row (is_some x.tail) _ _ refl refl)
 
-calm_fast : (mode : Mode) (x : Fields) → is_release_row (after_fast mode x) ≡ false
+calm_fast : (mode : Mode) (x : Fields) → is_ending_row (after_fast mode x) ≡ false
 calm_fast Virt x = refl
 calm_fast Pv x = refl
 calm_fast Native x = either_row (is_unlocked x.locked && x.pending && not (is_some x.tail)) _ _ refl (calm_queue x)
 calm_fast Cna x = either_row (is_unlocked x.locked && x.pending && not (is_some x.tail)) _ _ refl (calm_queue x)
 
-calm_pending : (x : Fields) → is_release_row (after_pending x) ≡ false
+calm_pending : (x : Fields) → is_ending_row (after_pending x) ≡ false
 calm_pending x =
     either_row x.pending _ _ refl
     (either_row (is_some x.tail) _ _ refl (either_row (is_unlocked x.locked) _ _ refl refl))
 
-calm_look : (f : Frame) (x : Fields) → is_release_row (after_look f x) ≡ false
+calm_look : (f : Frame) (x : Fields) → is_ending_row (after_look f x) ≡ false
 calm_look f x =
     either_row (is_unlocked x.locked && not x.pending) _ _
     (either_row (is_node x.tail (node_of f.me) && not (is_some f.second)) _ _ refl refl) refl
 
-calm_entry : (mode : Mode) (me : Option NodeName) → is_release_row (after_entry mode me) ≡ false
+calm_entry : (mode : Mode) (me : Option NodeName) → is_ending_row (after_entry mode me) ≡ false
 calm_entry Virt None = refl
 calm_entry Native None = refl
 calm_entry Cna None = refl
@@ -108,7 +108,7 @@ module _ (m : World) (w : Waiter) (f : Frame) (inner : f.lock.wait ≡ true → 
   s = sight_in m w f
 
   -- the frame goes to a row that is none of a release
-  to : (c : Pc) (cs : List Change) → is_release_row c ≡ false → Mild f (Goes c cs)
+  to : (c : Pc) (cs : List Change) → is_ending_row c ≡ false → Mild f (Goes c cs)
   to c cs h = record { calm = h; bare = refl }
 
   arrived : (mode : Mode) (t : Option NodeName) → Mild f (after_arrival mode t).leads
@@ -205,7 +205,7 @@ module _ (m : World) (w : Waiter) (f : Frame) (inner : f.lock.wait ≡ true → 
 pub row_is_calm : RowIsCalm
 row_is_calm m w f c plain inner = at c plain.awake plain.spin
   where
-    entry : (mode : Mode) (me : Option NodeName) → is_release_row (after_entry mode me) ≡ false
+    entry : (mode : Mode) (me : Option NodeName) → is_ending_row (after_entry mode me) ≡ false
     entry = calm_entry
 
     at : (c : Pc) → may_halt c ≡ false → is_rw_row c ≡ false
