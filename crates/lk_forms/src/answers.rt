@@ -34,8 +34,6 @@ pub enum Fault {
     Crossed,
     /// The input ends before the line `end`.
     NoEnd,
-    /// A word for a lock that does not run on threads yet, in a job file.
-    NotYet,
 }
 
 /// A quantity that passes its limit.
