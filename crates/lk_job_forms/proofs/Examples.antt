@@ -1,8 +1,8 @@
 -- Examples of job files, which compute.
 use Rattle.std.proofs.Common.{◌≡◌, refl, [], ◌∷◌, Ok, Err}
 use Rattle.std.specs.Prelude.{codes}
-use Rattle.lk_abs.specs.declared.names.Kind.TheVariants.{Spin}
-use Rattle.lk_abs.specs.declared.names.Mode.TheVariants.{Virt, Native}
+use Rattle.lk_abs.specs.declared.names.Kind.TheVariants.{Spin, Rw}
+use Rattle.lk_abs.specs.declared.names.Mode.TheVariants.{Virt, Native, Cna}
 use Rattle.lk_abs.specs.declared.ledger.Job.TheVariants.{Move, Add, Sum, Get}
 use Rattle.lk_forms.specs.declared.answers.LineRefusal.TheVariants.{Bad, Limit}
 use Rattle.lk_forms.specs.declared.answers.Fault.TheVariants as fault
@@ -40,11 +40,11 @@ no_pv = refl
 queued : job_file (codes "qjobs 1\nmode native\nend\n") ≡ Ok (record usual_workload { mode = Native })
 queued = refl
 
-cna_to_come : job_file (codes "qjobs 1\nmode cna\n") ≡ Err (2, Bad fault.NotYet)
-cna_to_come = refl
+near : job_file (codes "qjobs 1\nmode cna\nend\n") ≡ Ok (record usual_workload { mode = Cna })
+near = refl
 
-readers_to_come : job_file (codes "qjobs 1\nmode virt\nguard rw\n") ≡ Err (3, Bad fault.NotYet)
-readers_to_come = refl
+readers : job_file (codes "qjobs 1\nmode virt\nguard rw\nend\n") ≡ Ok (record usual_workload { guard = Rw })
+readers = refl
 
 counted_first : job_file (codes "qjobs 1\nmode native 1\n") ≡ Err (2, Bad fault.WordCount)
 counted_first = refl

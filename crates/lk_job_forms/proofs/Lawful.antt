@@ -1,5 +1,5 @@
 -- What lines of a job file say is lawful.
-use Rattle.std.proofs.Common.{◌≡◌, ◌≢◌, ◌≤◌, ◌<◌, ◌+◌, ◌==◌, ℕ, Bool, true, false, List, [], ◌∷◌, ◌++◌, Option, None, Some, Result, Ok, Err, IfOk, length, replicate, refl, sym, ap, ◌∙◌, arith, nat_le, nat_lt, add-zero, length-append, if◌then◌else◌, codes}
+use Rattle.std.proofs.Common.{◌≡◌, ◌≢◌, ◌≤◌, ◌<◌, ◌+◌, ◌==◌, ℕ, Bool, true, false, List, [], ◌∷◌, ◌++◌, Option, None, Some, Result, Ok, IfOk, length, replicate, refl, sym, ap, ◌∙◌, arith, nat_le, nat_lt, add-zero, length-append, if◌then◌else◌, codes}
 use Rattle.std.specs.Prelude.{All, slice_set}
 use Rattle.std.specs.List.{sum}
 use Rattle.std.specs.Str.{bytes_eq}
@@ -8,7 +8,6 @@ use Rattle.std.proofs.lemmas.Result.{IfOk-at_ok}
 use Rattle.std.proofs.lemmas.List.{length-set, length-replicate}
 use Rattle.std.proofs.lemmas.List.Elements.{All-nil, All-cons, All-replicate, All-set, All-get_or, All-push}
 use Rattle.std.proofs.lemmas.List.Sums.{sum_by-cons, sum_by-set}
-use Rattle.lk_abs.specs.declared.names.Kind.{Kind}
 use Rattle.lk_abs.specs.declared.names.Mode.{Mode}
 use Rattle.lk_abs.specs.declared.names.Mode.TheVariants.{Virt, Native, Cna, Pv}
 use Rattle.lk_abs.specs.declared.ledger.Job.{Job}
@@ -18,7 +17,7 @@ use Rattle.lk_forms.specs.declared.limits.TheConstants.{MAX_SOCKET, MAX_TURNS}
 use Rattle.lk_forms.specs.Words.{words, is_text, is_comment}
 use Rattle.lk_forms.specs.Operations.{and_then, or_fault}
 use Rattle.lk_forms.specs.Grammar.{one_word, two_words, no_words, number_in, numbers_from, cpu_word, kind_word}
-use Rattle.lk_forms.specs.declared.answers.Fault.TheVariants.{UnknownWord, OutOfRange, NotYet}
+use Rattle.lk_forms.specs.declared.answers.Fault.TheVariants.{UnknownWord, OutOfRange}
 use Rattle.lk_forms.specs.declared.answers.Which.TheVariants.{Total}
 use Rattle.lk_forms.specs.declared.answers.LineRefusal.{LineRefusal}
 use Rattle.lk_forms.specs.declared.answers.LineRefusal.TheVariants.{Bad, Limit}
@@ -26,17 +25,16 @@ use Rattle.lk_forms.proofs.Changes.{and_then-ok, if-ok, else-ok, number_in-ok, c
 use Rattle.lk_job_forms.specs.declared.limits.TheConstants.{MAX_ACCOUNTS, MAX_AMOUNT, MAX_JOBS, MAX_WORKERS}
 use Rattle.lk_job_forms.specs.declared.keyword.Keyword.{Keyword}
 use Rattle.lk_job_forms.specs.declared.keyword.Keyword.TheVariants as keyword
-use Rattle.lk_job_forms.specs.Workload.{Workload, mode_runs, guard_runs, workers_of, jobs_of, job_count, IsFair, IsLawful, RunsNow}
-use Rattle.lk_job_forms.specs.Lines.{mode_named, mode_word, guard_word, balances_from, balances_of, opened, three_words, amount_word, move_of, add_of, get_of, job_of, worker_job, line_args}
+use Rattle.lk_job_forms.specs.Workload.{Workload, workers_of, jobs_of, job_count, IsFair, IsLawful}
+use Rattle.lk_job_forms.specs.Lines.{mode_named, mode_word, balances_from, balances_of, opened, three_words, amount_word, move_of, add_of, get_of, job_of, worker_job, line_args}
 use Rattle.lk_job_forms.specs.Keywords.{keyword_of, rank_of, fault_of_place, fault_of_ranks}
 use Rattle.lk_job_forms.specs.Grammar.{Reading, IsSound, nothing_read, is_format, read, read_words, read_ranked, read_known, read_placed}
 use Rattle.lk_job_forms.proofs.Drafts.{job_count-none}
 use Rattle.lk_job_forms.proofs.Kept.{then_keeps, if_keeps, unless_keeps}
 
--- a lawful workload, whose lock runs if it ran, without a job where there was none
+-- a lawful workload, without a job where there was none
 record Keeps (w v : Workload) : Type 0 where
   lawful : IsLawful v
-  runs : RunsNow w → RunsNow v
   none : job_count w.jobs ≡ 0 → job_count v.jobs ≡ 0
 
 -- the lines that stand once
@@ -109,42 +107,26 @@ job_fair accounts verb args =
     gets : IfOk (get_of accounts args) (IsFair accounts)
     gets = then_keeps _ (one_word args) _ (λ word _. then_keeps _ (cpu_word accounts word) _ (λ account a. (cpu_word-ok accounts word account a, tt)))
 
--- the kind that a word names runs
-guard_named : (word : List ℕ) (k : Kind) → guard_word word ≡ Ok k → guard_runs k ≡ true
-guard_named word k is =
-    let named = and_then-ok (kind_word word) (λ k. if guard_runs k then Ok k else Err (Bad NotYet)) k is in
-    let runs = if-ok (guard_runs named.0) (Ok named.0) (Bad NotYet) k named.2 in
-    let same : named.0 ≡ k = cc (runs.1) in
-    rw same at runs.0
-
 -- so many workers without a job
 count_none : (n : ℕ) → length (replicate {A = List Job} n []) ≡ n
 count_none n = length-replicate n []
 
 module _ (w : Workload) (lawful : IsLawful w) where
   mode_kept : (args : List (List ℕ)) → IfOk (line_args keyword.Mode w args) (Keeps w)
-  mode_kept args = then_keeps _ (one_word args) _ (λ word _. then_keeps _ (mode_word word) _ (λ m is. by_name word m (and_then-ok (or_fault UnknownWord (mode_named word)) (λ m. if mode_runs m then Ok m else Err (Bad NotYet)) m is)))
+  mode_kept args = then_keeps _ (one_word args) _ (λ word _. then_keeps _ (mode_word word) _ (λ m is. kept word m (mode_named word) refl is))
     where
-      kept : (word : List ℕ) (m : Mode) (found : Option Mode) → mode_named word ≡ found → or_fault UnknownWord found ≡ Ok m → mode_runs m ≡ true → Keeps w (record w { mode = m })
-      kept word m None named is runs = cc
-      kept word m (Some n) named is runs =
+      kept : (word : List ℕ) (m : Mode) (found : Option Mode) → mode_named word ≡ found → or_fault UnknownWord found ≡ Ok m → Keeps w (record w { mode = m })
+      kept word m None named is = cc
+      kept word m (Some n) named is =
           let same : mode_named word ≡ Some m = cc in
           record {
             lawful = record { mode = named_is_not_pv word m same; some = lawful.some; few = lawful.few; each = lawful.each; near = lawful.near; threshold = lawful.threshold; accounts = lawful.accounts; total = lawful.total; jobs = lawful.jobs; fair = lawful.fair };
-            runs = λ r. record { mode = runs; guard = r.guard };
             none = λ none. none;
           }
 
-      by_name : (word : List ℕ) (m : Mode) → (n : Mode) × (or_fault UnknownWord (mode_named word) ≡ Ok n) × ((if mode_runs n then Ok n else Err (Bad NotYet)) ≡ Ok m) → Keeps w (record w { mode = m })
-      by_name word m named =
-          let runs = if-ok (mode_runs named.0) (Ok named.0) (Bad NotYet) m named.2 in
-          let same : named.0 ≡ m = cc (runs.1) in
-          kept word m (mode_named word) refl (named.1 ∙ ap Ok same) (rw same at runs.0)
-
   guard_kept : (args : List (List ℕ)) → IfOk (line_args keyword.Guard w args) (Keeps w)
-  guard_kept args = then_keeps _ (one_word args) _ (λ word _. then_keeps _ (guard_word word) _ (λ k is. record {
+  guard_kept args = then_keeps _ (one_word args) _ (λ word _. then_keeps _ (kind_word word) _ (λ k is. record {
     lawful = record { mode = lawful.mode; some = lawful.some; few = lawful.few; each = lawful.each; near = lawful.near; threshold = lawful.threshold; accounts = lawful.accounts; total = lawful.total; jobs = lawful.jobs; fair = lawful.fair };
-    runs = λ r. record { mode = r.mode; guard = guard_named word k is };
     none = λ none. none;
   }))
 
@@ -164,7 +146,6 @@ module _ (w : Workload) (lawful : IsLawful w) where
           jobs = omega (arith, job_count-none n);
           fair = All-replicate (λ jobs. All (IsFair (length w.balances)) jobs) n [] (All-nil (IsFair (length w.balances)));
         };
-        runs = λ r. record { mode = r.mode; guard = r.guard };
         none = λ none. job_count-none n;
       }))
 
@@ -184,14 +165,12 @@ module _ (w : Workload) (lawful : IsLawful w) where
           jobs = lawful.jobs;
           fair = lawful.fair;
         };
-        runs = λ r. record { mode = r.mode; guard = r.guard };
         none = λ none. none;
       })) (λ other. tt)
 
   threshold_kept : (args : List (List ℕ)) → IfOk (line_args keyword.Threshold w args) (Keeps w)
   threshold_kept args = then_keeps _ (one_word args) _ (λ word _. then_keeps _ (number_in 0 MAX_TURNS word) _ (λ t is. record {
     lawful = record { mode = lawful.mode; some = lawful.some; few = lawful.few; each = lawful.each; near = lawful.near; threshold = (number_in-ok 0 MAX_TURNS word t is).1; accounts = lawful.accounts; total = lawful.total; jobs = lawful.jobs; fair = lawful.fair };
-    runs = λ r. record { mode = r.mode; guard = r.guard };
     none = λ none. none;
   }))
 
@@ -216,21 +195,20 @@ module _ (w : Workload) (lawful : IsLawful w) where
           jobs = lawful.jobs;
           fair = none_fair (IsFair (length bs)) w.jobs none;
         };
-        runs = λ r. record { mode = r.mode; guard = r.guard };
         none = λ none. none;
       })
 
   end_kept : (args : List (List ℕ)) → IfOk (line_args keyword.End w args) (Keeps w)
-  end_kept [] = record { lawful = lawful; runs = λ r. r; none = λ none. none }
+  end_kept [] = record { lawful = lawful; none = λ none. none }
   end_kept (word ∷ words) = tt
 
   -- the lines of jobs
 
-  job_kept : (args : List (List ℕ)) → IfOk (line_args keyword.Job w args) (λ v. IsLawful v × (RunsNow w → RunsNow v))
+  job_kept : (args : List (List ℕ)) → IfOk (line_args keyword.Job w args) IsLawful
   job_kept [] = tt
   job_kept (word ∷ args) = then_keeps _ (cpu_word (workers_of w) word) _ (λ worker is. by_words worker (cpu_word-ok (workers_of w) word worker is) args)
     where
-      by_words : (worker : ℕ) → worker < workers_of w → (args : List (List ℕ)) → IfOk (worker_job w worker args) (λ v. IsLawful v × (RunsNow w → RunsNow v))
+      by_words : (worker : ℕ) → worker < workers_of w → (args : List (List ℕ)) → IfOk (worker_job w worker args) IsLawful
       by_words worker below [] = tt
       by_words worker below (verb ∷ args) = then_keeps _ (job_of (length w.balances) verb args) _ (λ job is.
           let fair = IfOk-at_ok (IsFair (length w.balances)) is (job_fair (length w.balances) verb args) in
@@ -240,21 +218,19 @@ module _ (w : Workload) (lawful : IsLawful w) where
           let counts = sum_by-set (λ (js : List Job). length js) w.jobs worker more [] below in
           let longer : length more ≡ length (jobs_of w worker) + 1 = length-append (jobs_of w worker) (job ∷ []) in
           let under : job_count w.jobs < MAX_JOBS = grind (arith, nat_tests, few) in
-          let same : length (slice_set w.jobs worker more) ≡ length w.jobs = length-set w.jobs worker more in (
-            record {
-              mode = lawful.mode;
-              some = rw same lawful.some;
-              few = rw same lawful.few;
-              each = lawful.each ∙ sym same;
-              near = lawful.near;
-              threshold = lawful.threshold;
-              accounts = lawful.accounts;
-              total = lawful.total;
-              jobs = omega (arith, counts, longer, under);
-              fair = All-set (λ js. All (IsFair (length w.balances)) js) w.jobs worker more (All-push (IsFair (length w.balances)) (jobs_of w worker) job mine fair) lawful.fair;
-            },
-            λ r. record { mode = r.mode; guard = r.guard },
-          )))
+          let same : length (slice_set w.jobs worker more) ≡ length w.jobs = length-set w.jobs worker more in
+          record {
+            mode = lawful.mode;
+            some = rw same lawful.some;
+            few = rw same lawful.few;
+            each = lawful.each ∙ sym same;
+            near = lawful.near;
+            threshold = lawful.threshold;
+            accounts = lawful.accounts;
+            total = lawful.total;
+            jobs = omega (arith, counts, longer, under);
+            fair = All-set (λ js. All (IsFair (length w.balances)) js) w.jobs worker more (All-push (IsFair (length w.balances)) (jobs_of w worker) job mine fair) lawful.fair;
+          }))
 
 -- each line
 
@@ -267,7 +243,7 @@ placed_by : (r : Reading) (last : ℕ) (k : Keyword) (args : List (List ℕ)) �
 placed_by r last k args behind fine sound kept = then_keeps _ (line_args k r.work args) _ (λ v is.
     let keeps = IfOk-at_ok (Keeps r.work) is kept in
     let order = by_ranks last (rank_of k) fine in
-    record { lawful = keeps.lawful; runs = keeps.runs sound.runs; early = λ low. keeps.none (sound.early (rw behind (omega (arith, order, low)))) })
+    record { lawful = keeps.lawful; early = λ low. keeps.none (sound.early (rw behind (omega (arith, order, low)))) })
 
 placed_sound : (r : Reading) (last : ℕ) (k : Keyword) (args : List (List ℕ)) → r.rank ≡ Some last → fault_of_place last k ≡ None → IsSound r → IfOk (read_placed r k args) IsSound
 placed_sound r last keyword.Format args behind fine sound = tt
@@ -280,8 +256,8 @@ placed_sound r last keyword.Accounts args behind fine sound =
     let early : job_count r.work.jobs ≡ 0 = sound.early (rw behind (by_ranks last 6 fine)) in
     placed_by r last keyword.Accounts args behind fine sound (accounts_kept r.work sound.lawful early args)
 placed_sound r last keyword.Job args behind fine sound = then_keeps _ (line_args keyword.Job r.work args) _ (λ v is.
-    let kept = IfOk-at_ok (λ v. IsLawful v × (RunsNow r.work → RunsNow v)) is (job_kept r.work sound.lawful args) in
-    record { lawful = kept.0; runs = kept.1 sound.runs; early = λ low. absurd (omega (arith, low)) })
+    let kept = IfOk-at_ok IsLawful is (job_kept r.work sound.lawful args) in
+    record { lawful = kept; early = λ low. absurd (omega (arith, low)) })
 placed_sound r last keyword.End args behind fine sound = placed_by r last keyword.End args behind fine sound (end_kept r.work sound.lawful args)
 
 -- what one line makes is sound
@@ -307,7 +283,7 @@ pub known_sound : (r : Reading) (last : ℕ) (k : Keyword) (args : List (List �
 known_sound r last k args behind sound = unless_keeps _ (fault_of_place last k) (read_placed r k args) (λ fine. placed_sound r last k args behind fine sound)
 
 ranked_sound : (r : Reading) (rank : Option ℕ) (first : List ℕ) (args : List (List ℕ)) → r.rank ≡ rank → IsSound r → IfOk (read_ranked r rank first args) IsSound
-ranked_sound r None first args behind sound = if_keeps _ (is_format first args) _ _ (λ first. record { lawful = sound.lawful; runs = sound.runs; early = λ low. sound.early (rw behind (omega arith)) }) (λ other. tt)
+ranked_sound r None first args behind sound = if_keeps _ (is_format first args) _ _ (λ first. record { lawful = sound.lawful; early = λ low. sound.early (rw behind (omega arith)) }) (λ other. tt)
 ranked_sound r (Some last) first args behind sound = by_keyword (keyword_of first)
   where
     by_keyword : (o : Option Keyword) → IfOk (read_known r last o args) IsSound
@@ -337,6 +313,5 @@ first_sound = record {
     jobs = omega arith;
     fair = All-replicate (λ jobs. All (IsFair 0) jobs) 1 [] (All-nil (IsFair 0));
   };
-  runs = record { mode = refl; guard = refl };
   early = λ low. refl;
 }

@@ -8,7 +8,7 @@ use Rattle.lk_forms.specs.declared.answers.Fault.TheVariants.{NoFormat, NotText,
 use Rattle.lk_forms.specs.declared.answers.LineRefusal.{LineRefusal}
 use Rattle.lk_forms.specs.declared.answers.LineRefusal.TheVariants.{Bad}
 use Rattle.lk_job_forms.specs.Keywords.{keyword_of, rank_of, fault_of_place}
-use Rattle.lk_job_forms.specs.Workload.{Workload, usual_workload, job_count, IsLawful, RunsNow}
+use Rattle.lk_job_forms.specs.Workload.{Workload, usual_workload, job_count, IsLawful}
 use Rattle.lk_job_forms.specs.Lines.{line_args}
 use Rattle.lk_job_forms.specs.declared.keyword.Keyword.{Keyword}
 
@@ -25,11 +25,10 @@ nothing_read = record { rank = None; work = usual_workload }
 abbrev pub has_end : Reading → Bool
 has_end r = unwrap_or r.rank 0 == 8
 
--- What holds of all that accepted lines say: the workload is lawful, its lock runs on threads now,
--- and before the first line `job` there is no job.
+-- What holds of all that accepted lines say: the workload is lawful, and before the first line `job`
+-- there is no job.
 pub record IsSound (r : Reading) : Type 0 where
   pub lawful : IsLawful r.work
-  pub runs : RunsNow r.work
   pub early : unwrap_or r.rank 0 ≤ 6 → job_count r.work.jobs ≡ 0
 
 -- a line with a keyword that may stand there

@@ -3,7 +3,6 @@
 use Rattle.std.specs.Prelude.{ℕ, ◌==◌, nat_le, nat_lt, List, [], ◌∷◌, ◌++◌, Option, None, Some, Result, Ok, Err, length, replicate, slice_set, codes, if◌then◌else◌}
 use Rattle.std.specs.List.{sum}
 use Rattle.std.specs.Str.{bytes_eq}
-use Rattle.lk_abs.specs.declared.names.Kind.{Kind}
 use Rattle.lk_abs.specs.declared.names.Mode.{Mode}
 use Rattle.lk_abs.specs.declared.names.Mode.TheVariants.{Virt, Native, Cna}
 use Rattle.lk_abs.specs.declared.ledger.Job.{Job}
@@ -12,14 +11,14 @@ use Rattle.lk_abs.specs.Jobs.{full}
 use Rattle.lk_forms.specs.Operations.{and_then, or_fault}
 use Rattle.lk_forms.specs.Grammar.{one_word, two_words, no_words, number_in, numbers_from, cpu_word, kind_word}
 use Rattle.lk_forms.specs.declared.limits.TheConstants.{MAX_SOCKET, MAX_TURNS}
-use Rattle.lk_forms.specs.declared.answers.Fault.TheVariants.{UnknownWord, WordCount, OutOfRange, Misplaced, NotYet}
+use Rattle.lk_forms.specs.declared.answers.Fault.TheVariants.{UnknownWord, WordCount, OutOfRange, Misplaced}
 use Rattle.lk_forms.specs.declared.answers.Which.TheVariants.{Jobs, Total}
 use Rattle.lk_forms.specs.declared.answers.LineRefusal.{LineRefusal}
 use Rattle.lk_forms.specs.declared.answers.LineRefusal.TheVariants.{Bad, Limit}
 use Rattle.lk_job_forms.specs.declared.limits.TheConstants.{MAX_ACCOUNTS, MAX_AMOUNT, MAX_JOBS, MAX_WORKERS}
 use Rattle.lk_job_forms.specs.declared.keyword.Keyword.{Keyword}
 use Rattle.lk_job_forms.specs.declared.keyword.Keyword.TheVariants as keyword
-use Rattle.lk_job_forms.specs.Workload.{Workload, mode_runs, guard_runs, workers_of, jobs_of, job_count}
+use Rattle.lk_job_forms.specs.Workload.{Workload, workers_of, jobs_of, job_count}
 
 -- the lines that stand once
 
@@ -30,26 +29,18 @@ mode_named word =
     else if bytes_eq word (codes "cna") then Some Cna
     else None
 
--- the mode of a word, whose locks have to run on threads
 abbrev pub mode_word : List ℕ → Result Mode LineRefusal
-mode_word word =
-    and_then (or_fault UnknownWord (mode_named word)) (λ m.
-    if mode_runs m then Ok m else Err (Bad NotYet))
+mode_word word = or_fault UnknownWord (mode_named word)
 
 -- `mode m`
 abbrev pub mode_line : Workload → List (List ℕ) → Result Workload LineRefusal
 mode_line w args =
     and_then (one_word args) (λ word. and_then (mode_word word) (λ m. Ok (record w { mode = m })))
 
--- the kind of a word, of which locks have to run on threads
-abbrev pub guard_word : List ℕ → Result Kind LineRefusal
-guard_word word =
-    and_then (kind_word word) (λ k. if guard_runs k then Ok k else Err (Bad NotYet))
-
 -- `guard g`
 abbrev pub guard_line : Workload → List (List ℕ) → Result Workload LineRefusal
 guard_line w args =
-    and_then (one_word args) (λ word. and_then (guard_word word) (λ k. Ok (record w { guard = k })))
+    and_then (one_word args) (λ word. and_then (kind_word word) (λ k. Ok (record w { guard = k })))
 
 -- so many workers, each on socket 0 and without a job
 abbrev pub with_workers : Workload → ℕ → Workload

@@ -1,10 +1,10 @@
 -- What a job file says: the lock, the workers, the accounts, and the jobs.
-use Rattle.std.specs.Prelude.{◌≤◌, ◌<◌, ◌≡◌, ◌≢◌, ℕ, Bool, true, false, List, [], All, length, map, replicate, slice_index_or}
+use Rattle.std.specs.Prelude.{◌≤◌, ◌<◌, ◌≡◌, ◌≢◌, ℕ, List, [], All, length, map, replicate, slice_index_or}
 use Rattle.std.specs.List.{sum, sum_by}
 use Rattle.lk_abs.specs.declared.names.Kind.{Kind}
 use Rattle.lk_abs.specs.declared.names.Kind.TheVariants.{Spin}
 use Rattle.lk_abs.specs.declared.names.Mode.{Mode}
-use Rattle.lk_abs.specs.declared.names.Mode.TheVariants.{Virt, Native, Pv}
+use Rattle.lk_abs.specs.declared.names.Mode.TheVariants.{Virt, Pv}
 use Rattle.lk_abs.specs.declared.ledger.Job.{Job}
 use Rattle.lk_abs.specs.declared.ledger.Job.TheVariants as job
 use Rattle.lk_abs.specs.Jobs.{IsAmong, full}
@@ -45,22 +45,6 @@ workload_of file =
       balances = file.balances.items;
       jobs = map (λ jobs. jobs.items) file.jobs.items;
     }
-
--- the modes whose locks run on threads now
-abbrev pub mode_runs : Mode → Bool
-mode_runs Virt = true
-mode_runs Native = true
-mode_runs _ = false
-
--- the kinds of lock that run on threads now
-abbrev pub guard_runs : Kind → Bool
-guard_runs Spin = true
-guard_runs _ = false
-
--- the lock of the workload runs on threads now
-pub record RunsNow (w : Workload) : Type 0 where
-  pub mode : mode_runs w.mode ≡ true
-  pub guard : guard_runs w.guard ≡ true
 
 -- how many workers there are
 abbrev pub workers_of : Workload → ℕ

@@ -42,7 +42,7 @@ impl JobReader {
     ghost use Rattle.std.specs.Prelude.{◌≡◌, IfOk, Some, None, false, true};
     ghost use Rattle.lk_forms.specs.Words.{words};
     ghost use Rattle.lk_job_forms.specs.declared.keyword.Keyword.TheVariants as keyword;
-    ghost use Rattle.lk_job_forms.specs.Workload.{IsLawful, RunsNow, workload_of};
+    ghost use Rattle.lk_job_forms.specs.Workload.{IsLawful, workload_of};
     ghost use Rattle.lk_job_forms.specs.Grammar.{nothing_read, read, read_placed, read_known, read_ranked, has_end, ending};
     ghost use Rattle.lk_job_forms.specs.Reader.{reading, step_of, ReadsOn};
 
@@ -164,7 +164,6 @@ impl JobReader {
         requires { has_end (reading self) ≡ true }
         ensures says { workload_of result ≡ (reading self).work }
         ensures lawful { IsLawful (workload_of result) }
-        ensures runs { RunsNow (workload_of result) }
     {
         let JobReader { draft, lists, .. } = self;
         let Draft {

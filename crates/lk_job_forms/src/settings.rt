@@ -1,8 +1,7 @@
 // The lines that stand once, each by the words behind its keyword.
 ghost use Rattle.std.specs.Prelude.{◌≡◌};
 ghost use Rattle.lk_forms.specs.Words.{words};
-ghost use Rattle.lk_job_forms.specs.Workload.{mode_runs, guard_runs};
-ghost use Rattle.lk_job_forms.specs.Lines.{mode_named, mode_word, guard_word, mode_line, guard_line, workers_line, sockets_line, threshold_line, line_args};
+ghost use Rattle.lk_job_forms.specs.Lines.{mode_named, mode_word, mode_line, guard_line, workers_line, sockets_line, threshold_line, line_args};
 ghost use Rattle.lk_job_forms.specs.Draft.{work_of, Makes};
 
 use crate::accounts::accounts_line;
@@ -10,7 +9,7 @@ use crate::draft::{Draft, no_jobs};
 use crate::jobs::job_line;
 use crate::keyword::Keyword;
 use crate::limits::MAX_WORKERS;
-use lk_abs::{Kind, List, Mode};
+use lk_abs::{List, Mode};
 use lk_forms::{
     Fault, LineRefusal, MAX_TURNS, count_words, kind_word, no_words, number_in, one_word,
     read_sockets,
@@ -32,41 +31,10 @@ fn mode_named(word: &[u8]) -> Option<Mode>
     }
 }
 
-// Whether locks of the mode run on threads now.
-fn mode_runs(mode: Mode) -> bool
-    ensures { result ≡ mode_runs mode }
-{
-    matches!(mode, Mode::Virt | Mode::Native)
-}
-
-// Whether locks of the kind run on threads now.
-fn guard_runs(kind: Kind) -> bool
-    ensures { result ≡ guard_runs kind }
-{
-    matches!(kind, Kind::Spin)
-}
-
-// The mode of a word, whose locks have to run on threads.
 fn mode_word(word: &[u8]) -> Result<Mode, LineRefusal>
     ensures { result ≡ mode_word word.now }
 {
-    match mode_named(word) {
-        None => Err(LineRefusal::Bad(Fault::UnknownWord)),
-        Some(mode) if mode_runs(mode) => Ok(mode),
-        Some(_) => Err(LineRefusal::Bad(Fault::NotYet)),
-    }
-}
-
-// The kind of a word, of which locks have to run on threads.
-fn guard_word(word: &[u8]) -> Result<Kind, LineRefusal>
-    ensures { result ≡ guard_word word.now }
-{
-    let kind = kind_word(word)?;
-    if guard_runs(kind) {
-        Ok(kind)
-    } else {
-        Err(LineRefusal::Bad(Fault::NotYet))
-    }
+    mode_named(word).ok_or(LineRefusal::Bad(Fault::UnknownWord))
 }
 
 // `mode m`
@@ -83,7 +51,7 @@ fn guard_line(draft: &mut Draft, args: &[u8]) -> Result<(), LineRefusal>
     ensures { Makes (guard_line (work_of draft.old) (words args.now)) draft.old draft.new result }
 {
     let word = one_word(args)?;
-    draft.guard = guard_word(word)?;
+    draft.guard = kind_word(word)?;
     Ok(())
 }
 
