@@ -1,6 +1,6 @@
 -- What a release does to what its processor keeps.
-use Rattle.std.proofs.Common.{◌≡◌, ◌≢◌, inl, inr, ℕ, ◌<◌, List, [], ◌∷◌, length, set, Bool, true, false, eqb}
-use Rattle.std.proofs.Common.{eq-eqb, refl, sym, ap, ◌∙◌}
+use Rattle.std.proofs.Common.{◌≡◌, ◌≢◌, inl, inr, ℕ, ◌<◌, List, [], ◌∷◌, length, set, Bool, true, false, eqb, None}
+use Rattle.std.proofs.Common.{eq-eqb, refl, sym, ap, ◌∙◌, arith}
 use Rattle.std.proofs.lemmas.Bool.{cases_Bool}
 use Rattle.std.specs.Prelude.{if◌then◌else◌, ◌&&◌, not}
 use Rattle.atomic_table.specs.Table.{Me}
@@ -10,19 +10,23 @@ use Rattle.lk_abs.specs.declared.names.Mode.TheVariants.{Virt, Native, Cna, Pv}
 use Rattle.lk_abs.specs.declared.names.LockName.{LockName}
 use Rattle.lk_word.specs.declared.spin_word.Fields.{Fields}
 use Rattle.lk_machine.specs.declared.parts.Pc.TheVariants.{U1}
+use Rattle.lk_machine.specs.declared.setup.Verb.{Verb}
 use Rattle.lk_machine.specs.declared.setup.Verb.TheVariants.{Unlock}
+use Rattle.lk_machine.specs.Programs.{is_release as is_unlocking}
 use Rattle.lk_law.specs.Agree.{halts}
 use Rattle.lk_law.specs.Leads.{Word}
 use Rattle.lk_law.proofs.common.Puts.{if_cases, if-true, if-false, not-true}
 use Rattle.lk_law.proofs.common.Sames.{same_lock-true}
-use Rattle.lk_domain.specs.Calls.{mark, Running, Hold, Calls, are_calls, is_on, is_verb, begin, row_of}
+use Rattle.lk_machine.specs.rows.Cna.{Sight}
+use Rattle.lk_domain.specs.Calls.{terms_of, mark, Running, Hold, Calls, are_calls, is_on, is_verb, begin, row_of, row_on, sight_of}
+use Rattle.lk_domain.specs.declared.plan.Plan.{Plan}
 use Rattle.lk_domain.specs.Calls.{moved_to, free_of, lock_name, holds_in}
 use Rattle.lk_domain.specs.Keeps.{Slot}
 use Rattle.lk_domain.specs.Marked.{Marks}
 use Rattle.lk_domain.specs.Plays.{MadeBy}
 use Rattle.lk_domain.specs.Views.{own_number}
 use Rattle.lk_domain.specs.declared.view.View.{View}
-use Rattle.lk_domain.proofs.Marks.{mark_set}
+use Rattle.lk_domain.proofs.turns.Marks.{mark_set}
 use Rattle.lk_domain.proofs.Stacks.{and_parts}
 
 -- who gives a lock back that was taken by whichever context holds nothing of it
@@ -54,7 +58,7 @@ released c l (h ∷ hs) = elim (cases_Bool (same_lock h.lock (lock_name l))) [
 
 -- and leaves the other locks
 
-moved_else : (k l x : ℕ) (hs : List Hold) → holds_in (moved_to k (lock_name l) hs) x ≡ holds_in hs x
+pub moved_else : (k l x : ℕ) (hs : List Hold) → holds_in (moved_to k (lock_name l) hs) x ≡ holds_in hs x
 moved_else k l x [] = refl
 moved_else k l x (h ∷ hs) =
     if_cases (λ (g : Hold). (if same_lock g.lock (lock_name x) then true else holds_in (moved_to k (lock_name l) hs) x)
@@ -68,7 +72,7 @@ names_differ l x ne =
     not-true (same_lock (lock_name l) (lock_name x))
     (λ q. ne (ap (λ (z : LockName). z.index) (sym (same_lock-true (lock_name l) (lock_name x) q))))
 
-freed_else : (k l x : ℕ) (hs : List Hold) → x ≢ l
+pub freed_else : (k l x : ℕ) (hs : List Hold) → x ≢ l
     → holds_in (free_of k (lock_name l) hs) x ≡ holds_in hs x
 freed_else k l x [] ne = refl
 freed_else k l x (h ∷ hs) ne =
@@ -81,13 +85,21 @@ freed_else k l x (h ∷ hs) ne =
     (λ _. ap (λ b. if same_lock h.lock (lock_name x) then true else b) (freed_else k l x hs ne))
 
 -- no call that waits is a release
-pub not_on : (rs : List Running) (l : ℕ) → are_calls rs ≡ true → is_on rs Unlock l ≡ false
-not_on [] l h = refl
-not_on (r ∷ rs) l h = off (is_verb r.verb Unlock) _ _ _ h
+pub not_unlocking : (v : Verb) → is_unlocking v ≡ true → (rs : List Running) (l : ℕ) → are_calls rs ≡ true
+    → is_on rs v l ≡ false
+not_unlocking v u [] l h = refl
+not_unlocking v u (r ∷ rs) l h = off (is_verb r.verb v) (is_unlocking r.verb) _ _ _ (same r.verb v u) h
   where
-    off : (a b c d : Bool) → (not a && b && c) ≡ true → (a && d) ≡ false
-    off false b c d h = refl
-    off true b c d h = absurd (cc h)
+    off : (a e b c d : Bool) → (a ≡ true → e ≡ true) → (not e && b && c) ≡ true → (a && d) ≡ false
+    off false e b c d s h = refl
+    off true true b c d s h = absurd (cc h)
+    off true false b c d s h = absurd (let z : false ≡ true = s refl in cc z)
+
+    same : (w v : Verb) → is_unlocking v ≡ true → is_verb w v ≡ true → is_unlocking w ≡ true
+    same w v u e = grind (arith, u, e)
+
+pub not_on : (rs : List Running) (l : ℕ) → are_calls rs ≡ true → is_on rs Unlock l ≡ false
+not_on = not_unlocking Unlock refl
 
 -- a release is one step, where no processor halts
 pub record Ends (old new : Calls) (l : ℕ) (x : Fields) : Type 0 where
@@ -96,12 +108,16 @@ pub record Ends (old new : Calls) (l : ℕ) (x : Fields) : Type 0 where
   pub taken : new.taken ≡ old.taken
   pub last : new.last ≡ mark U1 (Word x) ∷ []
 
-pub ends : (mode : Mode) → halts mode ≡ false → (p : ℕ) (old : Calls) (l : ℕ) (x : Fields)
-    → Ends old (row_of mode p (begin mode old Unlock l) (Word x)) l x
-ends Virt h p old l x = record { frames = refl; holds = refl; taken = refl; last = refl }
-ends Native h p old l x = record { frames = refl; holds = refl; taken = refl; last = refl }
-ends Cna h p old l x = record { frames = refl; holds = refl; taken = refl; last = refl }
-ends Pv h p old l x = absurd (cc h)
+ends_by : (mode : Mode) → halts mode ≡ false → (p : ℕ) (z : Sight) (old : Calls) (l : ℕ) (x : Fields)
+    → Ends old (row_on mode p z (begin mode old Unlock l).frames (begin mode old Unlock l) (Word x)) l x
+ends_by Virt h p z old l x = record { frames = refl; holds = refl; taken = refl; last = refl }
+ends_by Native h p z old l x = record { frames = refl; holds = refl; taken = refl; last = refl }
+ends_by Cna h p z old l x = record { frames = refl; holds = refl; taken = refl; last = refl }
+ends_by Pv h p z old l x = absurd (cc h)
+
+pub ends : (k : Plan) → halts k.mode ≡ false → (p : ℕ) (old : Calls) (l : ℕ) (x : Fields)
+    → Ends old (row_of (terms_of k) p (begin k.mode old Unlock l) (Word x)) l x
+ends k h p old l x = ends_by k.mode h p (sight_of (terms_of k) p None) old l x
 
 module _ (l met : ℕ) (m n : Me Slot View) (made : MadeBy Unlock l m met n)
     (calm : are_calls m.0.calls.frames ≡ true) (awake : halts m.0.who.plan.mode ≡ false) where
@@ -112,22 +128,22 @@ module _ (l met : ℕ) (m n : Me Slot View) (made : MadeBy Unlock l m met n)
   c = length old.frames
 
   abbrev last : Calls
-  last = row_of m.0.who.plan.mode (own_number m.0.who.number) (begin m.0.who.plan.mode old Unlock l) (Word made.found)
+  last = row_of (terms_of m.0.who.plan) (own_number m.0.who.number) (begin m.0.who.plan.mode old Unlock l) (Word made.found)
 
   is : n.0.calls ≡ last
   is = ap (λ (x : Me Slot View). x.0.calls) made.seat
-      ∙ ap (λ b. row_of m.0.who.plan.mode (own_number m.0.who.number) (if b then old else begin m.0.who.plan.mode old Unlock l) (Word made.found))
+      ∙ ap (λ b. row_of (terms_of m.0.who.plan) (own_number m.0.who.number) (if b then old else begin m.0.who.plan.mode old Unlock l) (Word made.found))
       (not_on old.frames l calm)
 
   pub frames_are : n.0.calls.frames ≡ old.frames
   frames_are =
       ap (λ (x : Calls). x.frames) is
-      ∙ (ends m.0.who.plan.mode awake (own_number m.0.who.number) old l made.found).frames
+      ∙ (ends m.0.who.plan awake (own_number m.0.who.number) old l made.found).frames
 
   pub holds_are : n.0.calls.holds ≡ free_of c (lock_name l) (moved_to c (lock_name l) old.holds)
   holds_are =
       ap (λ (x : Calls). x.holds) is
-      ∙ (ends m.0.who.plan.mode awake (own_number m.0.who.number) old l made.found).holds
+      ∙ (ends m.0.who.plan awake (own_number m.0.who.number) old l made.found).holds
 
   pub none : holds_in n.0.calls.holds l ≡ false
   none = ap (λ (hs : List Hold). holds_in hs l) holds_are ∙ released c l old.holds

@@ -1,18 +1,16 @@
 -- What is read of a processor's calls.
-use Rattle.std.proofs.Common.{◌≡◌, ◌≢◌, ◌⊎◌, inl, inr, ℕ, ◌≤◌, List, [], ◌∷◌}
+use Rattle.std.proofs.Common.{◌≡◌, ◌≢◌, inl, inr, ℕ, ◌≤◌, List, [], ◌∷◌}
 use Rattle.std.proofs.Common.{length, Option, Some, None, Bool, true, false, eqb, eq-eqb, eqb-true}
 use Rattle.std.proofs.Common.{ne_eqb, refl, sym, ap, ◌∙◌, subst, arith}
 use Rattle.std.proofs.lemmas.Bool.{cases_Bool}
 use Rattle.std.specs.Prelude.{if◌then◌else◌, ◌&&◌}
 use Rattle.lk_abs.specs.Names.{same_lock}
 use Rattle.lk_abs.specs.declared.holder.Manner.{Manner}
-use Rattle.lk_abs.specs.declared.holder.Manner.TheVariants.{Spins}
 use Rattle.lk_abs.specs.declared.names.LockName.{LockName}
 use Rattle.lk_law.proofs.common.Puts.{if-true, if-false, not-true, same_lock-else}
 use Rattle.lk_law.proofs.common.Sames.{same_lock-self, same_lock-true}
 use Rattle.lk_domain.specs.Calls.{Running, Hold, Stacked, frame_in, held_in, holds_in, free_of, moved_to}
 use Rattle.lk_domain.specs.Calls.{lock_name}
-use Rattle.lk_domain.specs.Runs.{AreSpun}
 
 -- frames
 
@@ -37,15 +35,15 @@ and_parts true true h = (refl, refl)
 and_parts true false h = cc
 and_parts false b h = cc
 
-and_false : (a b : Bool) → b ≡ false → (a && b) ≡ false
+pub and_false : (a b : Bool) → b ≡ false → (a && b) ≡ false
 and_false true b e = e
 and_false false b e = refl
 
-and_true : (a b : Bool) → a ≡ true → b ≡ true → (a && b) ≡ true
+pub and_true : (a b : Bool) → a ≡ true → b ≡ true → (a && b) ≡ true
 and_true true b e f = f
 and_true false b e f = cc
 
-same_swap : (a b : LockName) → same_lock a b ≡ false → same_lock b a ≡ false
+pub same_swap : (a b : LockName) → same_lock a b ≡ false → same_lock b a ≡ false
 same_swap a b h =
     not-true (same_lock b a)
     (λ e. let s = same_lock-true b a e in
@@ -53,18 +51,6 @@ same_swap a b h =
     grind (arith, h, t))
 
 -- holds
-
--- of spinlocks
-pub held_cases : (hs : List Hold) (d : ℕ) (k : LockName) → AreSpun hs
-    → (held_in hs d k ≡ None) ⊎ (held_in hs d k ≡ Some Spins)
-held_cases [] d k spun = inl refl
-held_cases (h ∷ hs) d k spun =
-    by ((eqb d h.ctx) && same_lock k h.lock) h.manner (held_in hs d k) spun.0 (held_cases hs d k spun.1)
-  where
-    by : (b : Bool) (m : Manner) (x : Option Manner) → m ≡ Spins → (x ≡ None) ⊎ (x ≡ Some Spins)
-        → ((if b then Some m else x) ≡ None) ⊎ ((if b then Some m else x) ≡ Some Spins)
-    by true m x e h = inr (ap Some e)
-    by false m x e h = h
 
 -- a lock that is not held
 pub unheld : (hs : List Hold) (d l : ℕ) → holds_in hs l ≡ false
@@ -80,34 +66,29 @@ unheld (x ∷ hs) d l h =
     ]
 
 -- one that is held, is by some context
-pub holder_of : (hs : List Hold) (l : ℕ) → AreSpun hs → holds_in hs l ≡ true
-    → (d : ℕ) × (held_in hs d (lock_name l) ≡ Some Spins)
-holder_of [] l spun h = cc
-holder_of (x ∷ hs) l spun h =
+pub holder_of : (hs : List Hold) (l : ℕ) → holds_in hs l ≡ true
+    → (d : ℕ) × (m : Manner) × (held_in hs d (lock_name l) ≡ Some m)
+holder_of [] l h = cc h
+holder_of (x ∷ hs) l h =
     elim (cases_Bool (same_lock x.lock (lock_name l))) [
       | inl e ↦ let is = same_lock-true x.lock (lock_name l) e in (
         x.ctx,
+        x.manner,
         if-true ((eqb x.ctx x.ctx) && same_lock (lock_name l) x.lock) (Some x.manner) (held_in hs x.ctx (lock_name l))
             (and_true (eqb x.ctx x.ctx) (same_lock (lock_name l) x.lock) (eq-eqb x.ctx x.ctx refl)
-            (subst (λ (z : LockName). same_lock (lock_name l) z ≡ true) (sym is) (same_lock-self (lock_name l))))
-            ∙ ap Some spun.0,
+            (subst (λ (z : LockName). same_lock (lock_name l) z ≡ true) (sym is) (same_lock-self (lock_name l)))),
       )
-      | inr e ↦ let r = holder_of hs l spun.1 (sym (if-false (same_lock x.lock (lock_name l)) true (holds_in hs l) e) ∙ h) in (
+      | inr e ↦ let r = holder_of hs l (sym (if-false (same_lock x.lock (lock_name l)) true (holds_in hs l) e) ∙ h) in (
         r.0,
+        r.1,
         if-false ((eqb r.0 x.ctx) && same_lock (lock_name l) x.lock) (Some x.manner) (held_in hs r.0 (lock_name l))
-            (and_false (eqb r.0 x.ctx) (same_lock (lock_name l) x.lock) (same_swap x.lock (lock_name l) e)) ∙ r.1,
+            (and_false (eqb r.0 x.ctx) (same_lock (lock_name l) x.lock) (same_swap x.lock (lock_name l) e)) ∙ r.2,
       )
     ]
 
--- one that no context holds is not held
-pub unheld_by : (hs : List Hold) (l : ℕ) → AreSpun hs
-    → ((d : ℕ) → held_in hs d (lock_name l) ≡ Some Spins → ⊥) → holds_in hs l ≡ false
-unheld_by hs l spun none =
-    not-true (holds_in hs l) (λ h. let t = holder_of hs l spun h in none t.0 t.1)
-
 -- holds of other locks stay where those of one go to a context, or are given back
 
-moved_lock : (c : ℕ) (l : LockName) (h : Hold)
+pub moved_lock : (c : ℕ) (l : LockName) (h : Hold)
     → (if same_lock h.lock l then record h { ctx = c } else h).lock ≡ h.lock
 moved_lock c l h = by (same_lock h.lock l)
   where
@@ -116,7 +97,7 @@ moved_lock c l h = by (same_lock h.lock l)
     by false = refl
 
 -- one hold of a list, with a context and a manner
-abbrev held_by : ℕ → LockName → Hold → Option Manner → Option Manner
+abbrev pub held_by : ℕ → LockName → Hold → Option Manner → Option Manner
 held_by d k m y = if (eqb d m.ctx) && same_lock k m.lock then Some m.manner else y
 
 pub moved-else : (c : ℕ) (l k : LockName) (hs : List Hold) (d : ℕ) → k ≢ l
@@ -158,32 +139,6 @@ moved-away c l (h ∷ hs) d ne =
           ap (λ (m : Hold). held_by d l m (held_in (moved_to c l hs) d l)) is
           ∙ (if-false ((eqb d h.ctx) && same_lock l h.lock) (Some h.manner) (held_in (moved_to c l hs) d l)
           (and_false (eqb d h.ctx) (same_lock l h.lock) (same_swap h.lock l e)) ∙ moved-away c l hs d ne)
-    ]
-
-self_held : (c : ℕ) (b : Bool) (m : Manner) (y : Option Manner) → b ≡ true → m ≡ Spins
-    → (if (eqb c c) && b then Some m else y) ≡ Some Spins
-self_held c true m y e spun = ap (λ a. if a && true then Some m else y) (eq-eqb c c refl) ∙ ap Some spun
-self_held c false m y e spun = cc
-
-pub moved-here : (c l : ℕ) (hs : List Hold) → AreSpun hs → holds_in hs l ≡ true
-    → held_in (moved_to c (lock_name l) hs) c (lock_name l) ≡ Some Spins
-moved-here c l [] spun h = cc
-moved-here c l (x ∷ hs) spun h =
-    let k = lock_name l in
-    elim (cases_Bool (same_lock x.lock k)) [
-      | inl e ↦
-          let is : (if same_lock x.lock k then record x { ctx = c } else x) ≡ record x { ctx = c } =
-          if-true (same_lock x.lock k) (record x { ctx = c }) x e in
-          ap (λ (m : Hold). held_by c k m (held_in (moved_to c k hs) c k)) is
-          ∙ self_held c (same_lock k x.lock) x.manner (held_in (moved_to c k hs) c k)
-          (subst (λ (z : LockName). same_lock k z ≡ true) (sym (same_lock-true x.lock k e)) (same_lock-self k)) spun.0
-      | inr e ↦
-          let is : (if same_lock x.lock k then record x { ctx = c } else x) ≡ x =
-          if-false (same_lock x.lock k) (record x { ctx = c }) x e in
-          ap (λ (m : Hold). held_by c k m (held_in (moved_to c k hs) c k)) is
-          ∙ (if-false ((eqb c x.ctx) && same_lock k x.lock) (Some x.manner) (held_in (moved_to c k hs) c k)
-          (and_false (eqb c x.ctx) (same_lock k x.lock) (same_swap x.lock k e))
-          ∙ moved-here c l hs spun.1 (sym (if-false (same_lock x.lock k) true (holds_in hs l) e) ∙ h))
     ]
 
 two_ifs : {A : Type 0} (x t : Bool) (a b c : A) → (x ≡ true → t ≡ true → ⊥)
@@ -234,22 +189,3 @@ freed c l (h ∷ hs) d k =
           ∙ two_ifs ((eqb d h.ctx) && same_lock k h.lock) ((eqb d c) && same_lock k l) (Some h.manner) None
           (held_in hs d k) apart)
     ]
-
--- the manners
-
-pub moved_spun : (c : ℕ) (l : LockName) (hs : List Hold) → AreSpun hs → AreSpun (moved_to c l hs)
-moved_spun c l [] h = tt
-moved_spun c l (x ∷ hs) h = (by (same_lock x.lock l), moved_spun c l hs h.1)
-  where
-    by : (b : Bool) → (if b then record x { ctx = c } else x).manner ≡ Spins
-    by true = h.0
-    by false = h.0
-
-pub free_spun : (c : ℕ) (l : LockName) (hs : List Hold) → AreSpun hs → AreSpun (free_of c l hs)
-free_spun c l [] h = tt
-free_spun c l (x ∷ hs) h = by ((eqb x.ctx c) && same_lock x.lock l) (free_spun c l hs h.1)
-  where
-    by : (b : Bool) → AreSpun (free_of c l hs)
-        → AreSpun (if b then free_of c l hs else x ∷ free_of c l hs)
-    by true r = r
-    by false r = (h.0, r)

@@ -15,26 +15,30 @@ use Rattle.lk_machine.specs.declared.parts.Pc.TheVariants.{F1, T1, T2, U1, V1, V
 use Rattle.lk_machine.specs.declared.setup.Verb.{Verb}
 use Rattle.lk_machine.specs.declared.setup.Verb.TheVariants.{Lock, Try, Unlock}
 use Rattle.lk_machine.specs.Moves.{first_place}
+use Rattle.lk_machine.specs.Programs.{kind_of}
+use Rattle.lk_abs.specs.declared.names.Kind.TheVariants.{Spin}
 use Rattle.lk_machine.specs.rows.Spin.{is_free}
 use Rattle.lk_machine.specs.TopRow.{target}
 use Rattle.lk_law.specs.Agree.{halts}
 use Rattle.lk_law.specs.Leads.{Met, Word}
-use Rattle.lk_domain.specs.Calls.{mark, Running, running, Calls, StandsAt, acting, begin, lock_name}
-use Rattle.lk_domain.specs.Calls.{row_of, Unchanged, Takes, Frees, holds_in, waits_in, begun, are_calls}
+use Rattle.lk_domain.specs.Calls.{terms_of, mark, Running, running, Calls, StandsAt, acting, begin, lock_name}
+use Rattle.lk_machine.specs.rows.Cna.{Sight}
+use Rattle.lk_law.specs.Premises.{IsThen}
+use Rattle.lk_domain.specs.Calls.{sight_of, row_of, Unchanged, Takes, Frees, holds_in, waits_in, begun, are_calls}
 use Rattle.lk_domain.specs.Keeps.{Slot}
 use Rattle.lk_domain.specs.Ledgers.{turned}
+use Rattle.lk_domain.specs.Plans.{kind_at}
 use Rattle.lk_domain.specs.Paths.{next_frame, row_grip, IsAt, HasTaken, HasMissed, HasFreed, Any}
-use Rattle.lk_domain.specs.Plays.{Acts, MadeBy, turned_on, turned_at}
+use Rattle.lk_domain.specs.Plays.{Acts, MadeBy, turned_on, turned_of, turned_at}
 use Rattle.lk_domain.specs.Rows.{frees_by}
 use Rattle.lk_domain.specs.Views.{own_number}
 use Rattle.lk_domain.specs.declared.plan.Plan.{Plan}
 use Rattle.lk_domain.specs.declared.view.View.{View}
-use Rattle.lk_domain.proofs.Courses as rows
+use Rattle.lk_domain.proofs.turns.Courses as rows
 use Rattle.lk_domain.proofs.Freed as freed
 use Rattle.lk_domain.proofs.Freed.{not_on}
-use Rattle.lk_domain.proofs.Fresh.{own_lock}
-use Rattle.lk_domain.proofs.Lands.{IsUnseen}
-use Rattle.lk_domain.proofs.Numbers.{free_test}
+use Rattle.lk_domain.proofs.rows.Grips.{IsOwn, own_lock}
+use Rattle.lk_domain.proofs.words.Numbers.{free_test}
 use Rattle.lk_domain.proofs.Paths as path
 use Rattle.lk_domain.proofs.Turned.{is_taking}
 
@@ -46,76 +50,79 @@ pub record IsSeat (k : Plan) (p : ℕ) (v : View) : Type 0 where
 -- a call, with what the ledger was
 
 pub record Moved (k : Plan) (p : ℕ) (v : Verb) (l : ℕ) (c : Pc) (old : Calls) (m n : View) : Type 0 where
-  pub at : IsAt k.mode p v l c Any old n.calls
+  pub at : IsAt (terms_of k) p v l c Any old n.calls
   pub ledger : n.ledger ≡ m.ledger
 
 pub record Took (k : Plan) (p : ℕ) (v : Verb) (l : ℕ) (old : Calls) (m n : View) : Type 0 where
-  pub taken : HasTaken k.mode p v l Spins old n.calls
+  pub taken : HasTaken (terms_of k) p v l Spins old n.calls
   pub ledger : n.ledger ≡ turned m.ledger (lock_name l) (Takes Spins) n.calls.last
 
 pub record Missed (k : Plan) (p : ℕ) (v : Verb) (l : ℕ) (old : Calls) (m n : View) : Type 0 where
-  pub missed : HasMissed k.mode p v l old n.calls
+  pub missed : HasMissed (terms_of k) p v l old n.calls
   pub ledger : n.ledger ≡ m.ledger
 
 -- a row of a call that stands at it
 module _ (k : Plan) (p : ℕ) (v : Verb) (l : ℕ) (pl : Pc) (old : Calls) (m n : Me Slot View) (met : ℕ)
     (seat : IsSeat k p m.0) (made : MadeBy v l m met n) (c : Calls)
-    (acts : acting k.mode m.0.calls v l ≡ c) (at : IsAt k.mode p v l pl Any old c)
-    (unseen : IsUnseen (target pl at.frame)) where
+    (acts : acting k.mode m.0.calls v l ≡ c) (at : IsAt (terms_of k) p v l pl Any old c)
+    (unseen : IsOwn (target pl at.frame)) where
   abbrev x : Met
   x = Word made.found
 
   abbrev f : Frame
   f = at.frame
 
-  calls : n.0.calls ≡ row_of k.mode p c x
+  abbrev z : Sight
+  z = sight_of (terms_of k) p c.runs
+
+  calls : n.0.calls ≡ row_of (terms_of k) p c x
   calls =
       ap (λ (y : Me Slot View). y.0.calls) made.seat
-      ∙ ((λ i. row_of (seat.plan i).mode (own_number (seat.number i)) (acting (seat.plan i).mode m.0.calls v l) x)
-      ∙ ap (λ z. row_of k.mode p z x) acts)
+      ∙ ((λ i. row_of (terms_of (seat.plan i)) (own_number (seat.number i)) (acting (seat.plan i).mode m.0.calls v l) x)
+      ∙ ap (λ d. row_of (terms_of k) p d x) acts)
 
   turns : n.0.ledger
-      ≡ turned m.0.ledger (lock_name l) (row_grip k.mode p pl f x) (at.trail ++ mark pl x ∷ [])
+      ≡ turned m.0.ledger (lock_name l) (row_grip k.mode p z pl f x) (at.trail ++ mark pl x ∷ [])
   turns =
       ap (λ (y : Me Slot View). y.0.ledger) made.seat
-      ∙ ((λ i. turned_on (seat.plan i).mode (own_number (seat.number i)) (acting (seat.plan i).mode m.0.calls v l).frames x m.0.ledger)
-      ∙ (ap (λ (z : Calls). turned_on k.mode p z.frames x m.0.ledger) acts
-      ∙ (ap (λ (rs : List Running). turned_on k.mode p rs x m.0.ledger) at.frames
-      ∙ (ap (λ q. turned_at k.mode p (running v f at.trail) x m.0.ledger q) at.place
-      ∙ ap (λ (z : LockName). turned m.0.ledger z (row_grip k.mode p pl f x) (at.trail ++ mark pl x ∷ []))
+      ∙ ((λ i. turned_of (terms_of (seat.plan i)) (own_number (seat.number i)) (acting (seat.plan i).mode m.0.calls v l) x m.0.ledger)
+      ∙ (ap (λ (d : Calls). turned_of (terms_of k) p d x m.0.ledger) acts
+      ∙ (ap (λ (rs : List Running). turned_on k.mode p z rs x m.0.ledger) at.frames
+      ∙ (ap (λ q. turned_at k.mode p z (running v f at.trail) x m.0.ledger q) at.place
+      ∙ ap (λ (j : LockName). turned m.0.ledger j (row_grip k.mode p z pl f x) (at.trail ++ mark pl x ∷ []))
       (own_lock (target pl f) f unseen ∙ at.lock)))))
 
-  still_turned : row_grip k.mode p pl f x ≡ Unchanged → n.0.ledger ≡ m.0.ledger
+  still_turned : row_grip k.mode p z pl f x ≡ Unchanged → n.0.ledger ≡ m.0.ledger
   still_turned grip = turns ∙ ap (λ y. turned m.0.ledger (lock_name l) y (at.trail ++ mark pl x ∷ [])) grip
 
-  pub moves : (d : Pc) → (next_frame k.mode p pl f x).place ≡ Some d
-      → row_grip k.mode p pl f x ≡ Unchanged → (next_frame k.mode p pl f x).lock ≡ f.lock
+  pub moves : (d : Pc) → (next_frame k.mode p z pl f x).place ≡ Some d
+      → row_grip k.mode p z pl f x ≡ Unchanged → (next_frame k.mode p z pl f x).lock ≡ f.lock
       → Moved k p v l d old m.0 n.0
   moves d place grip lock =
       record {
-        at = subst (IsAt k.mode p v l d Any old) (sym calls) (path.goes at x d Any place grip lock tt);
+        at = subst (IsAt (terms_of k) p v l d Any old) (sym calls) (path.goes at x d Any place grip lock tt);
         ledger = still_turned grip;
       }
 
-  pub takes : (next_frame k.mode p pl f x).place ≡ None → row_grip k.mode p pl f x ≡ Takes Spins
+  pub takes : (next_frame k.mode p z pl f x).place ≡ None → row_grip k.mode p z pl f x ≡ Takes Spins
       → Took k p v l old m.0 n.0
   takes place grip =
       let t = path.takes at x Spins place grip (own_lock (target pl f) f unseen) in
       record {
-        taken = subst (HasTaken k.mode p v l Spins old) (sym calls) t;
+        taken = subst (HasTaken (terms_of k) p v l Spins old) (sym calls) t;
         ledger = turns
             ∙ (λ i. turned m.0.ledger (lock_name l) (grip i) (at.trail ++ mark pl x ∷ []))
             ∙ ap (λ ms. turned m.0.ledger (lock_name l) (Takes Spins) ms) (last place);
       }
     where
-      last : (next_frame k.mode p pl f x).place ≡ None → at.trail ++ mark pl x ∷ [] ≡ n.0.calls.last
-      last place = sym (ap (λ (z : Calls). z.last) calls ∙ path.last_is at x place)
+      last : (next_frame k.mode p z pl f x).place ≡ None → at.trail ++ mark pl x ∷ [] ≡ n.0.calls.last
+      last place = sym (ap (λ (d : Calls). d.last) calls ∙ path.last_is at x place)
 
-  pub misses : (next_frame k.mode p pl f x).place ≡ None → row_grip k.mode p pl f x ≡ Unchanged
+  pub misses : (next_frame k.mode p z pl f x).place ≡ None → row_grip k.mode p z pl f x ≡ Unchanged
       → Missed k p v l old m.0 n.0
   misses place grip =
       record {
-        missed = subst (HasMissed k.mode p v l old) (sym calls) (path.misses at x place grip);
+        missed = subst (HasMissed (terms_of k) p v l old) (sym calls) (path.misses at x place grip);
         ledger = still_turned grip;
       }
 
@@ -129,47 +136,51 @@ not_zero n y is h = sym (free_test y) ∙ (ap (λ (z : ℕ). eqb z 0) (sym is) �
 
 -- the rows
 
-module _ (mode : Mode) (p : ℕ) (f : Frame) (y : Fields) (plain : f.lock.wait ≡ false) where
-  pub V1_free : is_free y ≡ true → (next_frame mode p V1 f (Word y)).place ≡ Some V2
+module _ (mode : Mode) (p : ℕ) (z : Sight) (f : Frame) (y : Fields) (plain : f.lock.wait ≡ false) where
+  pub V1_free : is_free y ≡ true → (next_frame mode p z V1 f (Word y)).place ≡ Some V2
   V1_free e = rw e refl
 
-  pub V1_held : is_free y ≡ false → (next_frame mode p V1 f (Word y)).place ≡ Some V1
+  pub V1_held : is_free y ≡ false → (next_frame mode p z V1 f (Word y)).place ≡ Some V1
   V1_held e = rw e refl
 
-  pub T1_free : is_free y ≡ true → (next_frame mode p T1 f (Word y)).place ≡ Some T2
+  pub T1_free : is_free y ≡ true → (next_frame mode p z T1 f (Word y)).place ≡ Some T2
   T1_free e = rw e refl
 
-  pub T1_grip : is_free y ≡ true → row_grip mode p T1 f (Word y) ≡ Unchanged
+  pub T1_grip : is_free y ≡ true → row_grip mode p z T1 f (Word y) ≡ Unchanged
   T1_grip e = rw e refl
 
-  pub T1_lock : is_free y ≡ true → (next_frame mode p T1 f (Word y)).lock ≡ f.lock
+  pub T1_lock : is_free y ≡ true → (next_frame mode p z T1 f (Word y)).lock ≡ f.lock
   T1_lock e = rw e refl
 
-  pub V2_held : is_free y ≡ false → (next_frame mode p V2 f (Word y)).place ≡ Some V1
+  pub V2_held : is_free y ≡ false → (next_frame mode p z V2 f (Word y)).place ≡ Some V1
   V2_held e = rw e refl
 
-  pub V2_grip : is_free y ≡ false → row_grip mode p V2 f (Word y) ≡ Unchanged
+  pub V2_grip : is_free y ≡ false → row_grip mode p z V2 f (Word y) ≡ Unchanged
   V2_grip e = rw e refl
 
-  pub V2_lock : is_free y ≡ false → (next_frame mode p V2 f (Word y)).lock ≡ f.lock
+  pub V2_lock : is_free y ≡ false → (next_frame mode p z V2 f (Word y)).lock ≡ f.lock
   V2_lock e = rw e refl
 
-module _ (p : ℕ) (f : Frame) (y : Fields) where
-  pub F1_held : is_free y ≡ false → (next_frame Virt p F1 f (Word y)).place ≡ Some V1
+module _ (p : ℕ) (z : Sight) (f : Frame) (y : Fields) where
+  pub F1_held : is_free y ≡ false → (next_frame Virt p z F1 f (Word y)).place ≡ Some V1
   F1_held e = rw e refl
 
-  pub F1_grip : is_free y ≡ false → row_grip Virt p F1 f (Word y) ≡ Unchanged
+  pub F1_grip : is_free y ≡ false → row_grip Virt p z F1 f (Word y) ≡ Unchanged
   F1_grip e = rw e refl
 
-  pub F1_lock : is_free y ≡ false → (next_frame Virt p F1 f (Word y)).lock ≡ f.lock
+  pub F1_lock : is_free y ≡ false → (next_frame Virt p z F1 f (Word y)).lock ≡ f.lock
   F1_lock e = rw e refl
+
+-- the lock is no wait lock
+not_wait : (f : Frame) → f.lock.wait ≡ false → f.lock.wait ≡ true → IsThen f.then
+not_wait f plain e = absurd (let z : true ≡ false = sym e ∙ plain in cc z)
 
 -- the rows of a call, by the number that the step met
 module _ (k : Plan) (p : ℕ) (l : ℕ) (m n : Me Slot View) (met : ℕ) (seat : IsSeat k p m.0) where
   module _ (v : Verb) (t : is_taking v ≡ true) (none : waits_in m.0.calls.frames l ≡ false)
       (made : MadeBy v l m met n) where
-    abbrev first : IsAt k.mode p v l (first_place k.mode v) Any m.0.calls (begin k.mode m.0.calls v l)
-    first = path.starts k.mode p v l m.0.calls t
+    abbrev first : IsAt (terms_of k) p v l (first_place k.mode v) Any m.0.calls (begin k.mode m.0.calls v l)
+    first = path.starts (terms_of k) p v l m.0.calls t
 
     begun_is : acting k.mode m.0.calls v l ≡ begin k.mode m.0.calls v l
     begun_is = path.acts_begin k.mode m.0.calls v l none
@@ -180,17 +191,17 @@ module _ (k : Plan) (p : ℕ) (l : ℕ) (m n : Me Slot View) (met : ℕ) (seat :
     pub F1_takes : eqb met 0 ≡ true → Took k p Lock l m.0.calls m.0 n.0
     F1_takes h =
         let at = first Lock refl none made in
-        let o = rows.takes_free k.mode p at.frame (ap (λ (z : LockName). z.wait) at.lock) made.found Lock F1 refl (is_zero met made.found made.word h) in
-        takes k p Lock l F1 m.0.calls m n met seat made (begin k.mode m.0.calls Lock l) (begun_is Lock refl none made) at tt o.place.0 o.grip
+        let o = rows.takes_free k.mode p {z = sight_of (terms_of k) p None} at.frame false (ap (λ (z : LockName). z.wait) at.lock) (not_wait at.frame (ap (λ (z : LockName). z.wait) at.lock)) made.found Lock F1 refl (is_zero met made.found made.word h) in
+        takes k p Lock l F1 m.0.calls m n met seat made (begin k.mode m.0.calls Lock l) (begun_is Lock refl none made) at tt o.place.0 (o.grip (ap (λ (z : LockName). z.wait) at.lock))
 
     pub F1_waits : eqb met 0 ≡ false → Moved k p Lock l V1 m.0.calls m.0 n.0
     F1_waits h =
         let at = first Lock refl none made in
         let e = not_zero met made.found made.word h in
         moves k p Lock l F1 m.0.calls m n met seat made (begin k.mode m.0.calls Lock l) (begun_is Lock refl none made) at tt V1
-        (subst (λ mode. (next_frame mode p F1 at.frame (Word made.found)).place ≡ Some V1) (sym virt) (F1_held p at.frame made.found e))
-        (subst (λ mode. row_grip mode p F1 at.frame (Word made.found) ≡ Unchanged) (sym virt) (F1_grip p at.frame made.found e))
-        (subst (λ mode. (next_frame mode p F1 at.frame (Word made.found)).lock ≡ at.frame.lock) (sym virt) (F1_lock p at.frame made.found e))
+        (subst (λ mode. (next_frame mode p (sight_of (terms_of k) p None) F1 at.frame (Word made.found)).place ≡ Some V1) (sym virt) (F1_held p (sight_of (terms_of k) p None) at.frame made.found e))
+        (subst (λ mode. row_grip mode p (sight_of (terms_of k) p None) F1 at.frame (Word made.found) ≡ Unchanged) (sym virt) (F1_grip p (sight_of (terms_of k) p None) at.frame made.found e))
+        (subst (λ mode. (next_frame mode p (sight_of (terms_of k) p None) F1 at.frame (Word made.found)).lock ≡ at.frame.lock) (sym virt) (F1_lock p (sight_of (terms_of k) p None) at.frame made.found e))
 
   -- T1
   module _ (none : waits_in m.0.calls.frames l ≡ false) (made : MadeBy Try l m met n) where
@@ -199,92 +210,92 @@ module _ (k : Plan) (p : ℕ) (l : ℕ) (m n : Me Slot View) (met : ℕ) (seat :
         let at = first Try refl none made in
         let e = is_zero met made.found made.word h in
         moves k p Try l T1 m.0.calls m n met seat made (begin k.mode m.0.calls Try l) (begun_is Try refl none made) at tt T2
-        (T1_free k.mode p at.frame made.found (ap (λ (z : LockName). z.wait) at.lock) e) (T1_grip k.mode p at.frame made.found (ap (λ (z : LockName). z.wait) at.lock) e)
-        (T1_lock k.mode p at.frame made.found (ap (λ (z : LockName). z.wait) at.lock) e)
+        (T1_free k.mode p (sight_of (terms_of k) p None) at.frame made.found (ap (λ (z : LockName). z.wait) at.lock) e) (T1_grip k.mode p (sight_of (terms_of k) p None) at.frame made.found (ap (λ (z : LockName). z.wait) at.lock) e)
+        (T1_lock k.mode p (sight_of (terms_of k) p None) at.frame made.found (ap (λ (z : LockName). z.wait) at.lock) e)
 
     pub T1_misses : eqb met 0 ≡ false → Missed k p Try l m.0.calls m.0 n.0
     T1_misses h =
         let at = first Try refl none made in
-        let o = rows.looks_held k.mode p at.frame (ap (λ (z : LockName). z.wait) at.lock) made.found Try T1 refl (not_zero met made.found made.word h) in
-        misses k p Try l T1 m.0.calls m n met seat made (begin k.mode m.0.calls Try l) (begun_is Try refl none made) at tt o.place.0 o.grip
+        let o = rows.looks_held k.mode p {z = sight_of (terms_of k) p None} at.frame false (ap (λ (z : LockName). z.wait) at.lock) (not_wait at.frame (ap (λ (z : LockName). z.wait) at.lock)) made.found Try T1 refl (not_zero met made.found made.word h) in
+        misses k p Try l T1 m.0.calls m n met seat made (begin k.mode m.0.calls Try l) (begun_is Try refl none made) at tt o.place.0 (o.grip (ap (λ (z : LockName). z.wait) at.lock))
 
   -- the rows of a call that goes on
   module _ (old : Calls) where
-    plain : {v : Verb} {pl : Pc} (at : IsAt k.mode p v l pl Any old m.0.calls) → at.frame.lock.wait ≡ false
+    plain : {v : Verb} {pl : Pc} (at : IsAt (terms_of k) p v l pl Any old m.0.calls) → at.frame.lock.wait ≡ false
     plain at = ap (λ (z : LockName). z.wait) at.lock
 
     -- T2
-    module _ (made : MadeBy Try l m met n) (at : IsAt k.mode p Try l T2 Any old m.0.calls) where
+    module _ (made : MadeBy Try l m met n) (at : IsAt (terms_of k) p Try l T2 Any old m.0.calls) where
       pub T2_takes : eqb met 0 ≡ true → Took k p Try l old m.0 n.0
       T2_takes h =
-          let o = rows.takes_free k.mode p at.frame (plain at) made.found Try T2 refl (is_zero met made.found made.word h) in
-          takes k p Try l T2 old m n met seat made m.0.calls (path.acts at refl) at tt o.place.0 o.grip
+          let o = rows.takes_free k.mode p {z = sight_of (terms_of k) p m.0.calls.runs} at.frame false (plain at) (not_wait at.frame (plain at)) made.found Try T2 refl (is_zero met made.found made.word h) in
+          takes k p Try l T2 old m n met seat made m.0.calls (path.acts at refl) at tt o.place.0 (o.grip (ap (λ (z : LockName). z.wait) at.lock))
 
       pub T2_misses : eqb met 0 ≡ false → Missed k p Try l old m.0 n.0
       T2_misses h =
-          let o = rows.takes_held k.mode p at.frame (plain at) made.found Try T2 refl (not_zero met made.found made.word h) in
-          misses k p Try l T2 old m n met seat made m.0.calls (path.acts at refl) at tt o.place.0 o.grip
+          let o = rows.takes_held k.mode p {z = sight_of (terms_of k) p m.0.calls.runs} at.frame false (plain at) (not_wait at.frame (plain at)) made.found Try T2 refl (not_zero met made.found made.word h) in
+          misses k p Try l T2 old m n met seat made m.0.calls (path.acts at refl) at tt o.place.0 (o.grip (ap (λ (z : LockName). z.wait) at.lock))
 
     -- V1
-    module _ (made : MadeBy Lock l m met n) (at : IsAt k.mode p Lock l V1 Any old m.0.calls) where
+    module _ (made : MadeBy Lock l m met n) (at : IsAt (terms_of k) p Lock l V1 Any old m.0.calls) where
       pub V1_sees : eqb met 0 ≡ true → Moved k p Lock l V2 old m.0 n.0
       V1_sees h =
           let e = is_zero met made.found made.word h in
           moves k p Lock l V1 old m n met seat made m.0.calls (path.acts at refl) at tt V2
-          (V1_free k.mode p at.frame made.found (plain at) e) refl refl
+          (V1_free k.mode p (sight_of (terms_of k) p m.0.calls.runs) at.frame made.found (plain at) e) refl refl
 
       pub V1_waits : eqb met 0 ≡ false → Moved k p Lock l V1 old m.0 n.0
       V1_waits h =
           let e = not_zero met made.found made.word h in
           moves k p Lock l V1 old m n met seat made m.0.calls (path.acts at refl) at tt V1
-          (V1_held k.mode p at.frame made.found (plain at) e) refl refl
+          (V1_held k.mode p (sight_of (terms_of k) p m.0.calls.runs) at.frame made.found (plain at) e) refl refl
 
     -- V2
-    module _ (made : MadeBy Lock l m met n) (at : IsAt k.mode p Lock l V2 Any old m.0.calls) where
+    module _ (made : MadeBy Lock l m met n) (at : IsAt (terms_of k) p Lock l V2 Any old m.0.calls) where
       pub V2_takes : eqb met 0 ≡ true → Took k p Lock l old m.0 n.0
       V2_takes h =
-          let o = rows.takes_free k.mode p at.frame (plain at) made.found Lock V2 refl (is_zero met made.found made.word h) in
-          takes k p Lock l V2 old m n met seat made m.0.calls (path.acts at refl) at tt o.place.0 o.grip
+          let o = rows.takes_free k.mode p {z = sight_of (terms_of k) p m.0.calls.runs} at.frame false (plain at) (not_wait at.frame (plain at)) made.found Lock V2 refl (is_zero met made.found made.word h) in
+          takes k p Lock l V2 old m n met seat made m.0.calls (path.acts at refl) at tt o.place.0 (o.grip (ap (λ (z : LockName). z.wait) at.lock))
 
       pub V2_waits : eqb met 0 ≡ false → Moved k p Lock l V1 old m.0 n.0
       V2_waits h =
           let e = not_zero met made.found made.word h in
           moves k p Lock l V2 old m n met seat made m.0.calls (path.acts at refl) at tt V1
-          (V2_held k.mode p at.frame made.found (plain at) e) (V2_grip k.mode p at.frame made.found (plain at) e) (V2_lock k.mode p at.frame made.found (plain at) e)
+          (V2_held k.mode p (sight_of (terms_of k) p m.0.calls.runs) at.frame made.found (plain at) e) (V2_grip k.mode p (sight_of (terms_of k) p m.0.calls.runs) at.frame made.found (plain at) e) (V2_lock k.mode p (sight_of (terms_of k) p m.0.calls.runs) at.frame made.found (plain at) e)
 
 -- what the step calls ask
 
 -- a call that begins
 pub acts_first : (kind : Pc → Bool) (k : Plan) (p : ℕ) (v : Verb) (l : ℕ) (m : View) → IsSeat k p m
     → is_taking v ≡ true → waits_in m.calls.frames l ≡ false → holds_in m.calls.holds l ≡ false
-    → Rattle.std.proofs.Common.◌<◌ (length m.calls.frames) 6 → kind (first_place k.mode v) ≡ true → Acts kind m v l
-acts_first kind k p v l m seat t none free few is =
+    → Rattle.std.proofs.Common.◌<◌ (length m.calls.frames) 6 → kind_at k l ≡ kind_of v → kind (first_place k.mode v) ≡ true → Acts kind m v l
+acts_first kind k p v l m seat t none free few fits is =
     record {
       row = first_place k.mode v;
       is = is;
       stands = subst (λ (c : Calls). StandsAt c v l (first_place k.mode v))
           (sym (ap (λ (j : Plan). acting j.mode m.calls v l) seat.plan ∙ path.acts_begin k.mode m.calls v l none))
-          (path.stands (path.starts k.mode p v l m.calls t));
-      begins = λ _. (few, path.may_begin m.calls v l t free none);
+          (path.stands (path.starts (terms_of k) p v l m.calls t));
+      begins = λ _. (few, path.may_begin m.calls v l t free none, ap (λ (j : Plan). kind_at j l) seat.plan ∙ fits);
     }
 
 -- one that goes on
 pub acts_next : (kind : Pc → Bool) (k : Plan) (p : ℕ) (v : Verb) (l : ℕ) (pl : Pc) (old : Calls) (m : View)
-    → IsSeat k p m → is_taking v ≡ true → IsAt k.mode p v l pl Any old m.calls → kind pl ≡ true → Acts kind m v l
+    → IsSeat k p m → is_taking v ≡ true → IsAt (terms_of k) p v l pl Any old m.calls → kind pl ≡ true → Acts kind m v l
 acts_next kind k p v l pl old m seat t at is =
     record {
       row = pl;
       is = is;
       stands = subst (λ (c : Calls). StandsAt c v l pl)
           (sym (ap (λ (j : Plan). acting j.mode m.calls v l) seat.plan ∙ path.acts at t)) (path.stands at);
-      begins = path.no_begin at t;
+      begins = path.no_begin at m.who.plan t;
     }
 
 -- a release begins and ends in one step
 pub acts_release : (k : Plan) (p l : ℕ) (m : View) → IsSeat k p m → halts k.mode ≡ false
     → are_calls m.calls.frames ≡ true → Rattle.std.proofs.Common.◌<◌ (length m.calls.frames) 6
-    → holds_in m.calls.holds l ≡ true → Acts (frees_by Unlock) m Unlock l
-acts_release k p l m seat awake calm few has =
+    → kind_at k l ≡ Spin → holds_in m.calls.holds l ≡ true → Acts (frees_by Unlock) m Unlock l
+acts_release k p l m seat awake calm few spin has =
     record {
       row = U1;
       is = refl;
@@ -297,7 +308,7 @@ acts_release k p l m seat awake calm few has =
         place = starts_at k.mode awake;
         lock = refl;
       };
-      begins = λ _. (few, has);
+      begins = λ _. (few, has, ap (λ (j : Plan). kind_at j l) seat.plan ∙ spin);
     }
   where
     starts_at : (mode : Mode) → halts mode ≡ false → Some (first_place mode Unlock) ≡ Some U1
@@ -316,11 +327,11 @@ frees k p l m n met seat awake calm made =
     let x = Word made.found in
     let old = m.0.calls in
     let plan = ap (λ (j : Plan). j.mode) seat.plan in
-    let is : n.0.calls ≡ row_of k.mode p (begin k.mode old Unlock l) x =
+    let is : n.0.calls ≡ row_of (terms_of k) p (begin k.mode old Unlock l) x =
     ap (λ (y : Me Slot View). y.0.calls) made.seat
-    ∙ ((λ i. row_of (plan i) (own_number (seat.number i)) (acting (plan i) old Unlock l) x)
-    ∙ ap (λ b. row_of k.mode p (if b then old else begin k.mode old Unlock l) x) (not_on old.frames l calm)) in
-    let e = freed.ends k.mode awake p old l made.found in
+    ∙ ((λ i. row_of (terms_of (seat.plan i)) (own_number (seat.number i)) (acting (plan i) old Unlock l) x)
+    ∙ ap (λ b. row_of (terms_of k) p (if b then old else begin k.mode old Unlock l) x) (not_on old.frames l calm)) in
+    let e = freed.ends k awake p old l made.found in
     let last : n.0.calls.last ≡ mark U1 x ∷ [] = ap (λ (z : Calls). z.last) is ∙ e.last in
     record {
       freed = record {
@@ -332,13 +343,13 @@ frees k p l m n met seat awake calm made =
         taken = ap (λ (z : Calls). z.taken) is ∙ e.taken;
       };
       ledger = ap (λ (y : Me Slot View). y.0.ledger) made.seat
-          ∙ ((λ i. turned_on (plan i) (own_number (seat.number i)) (acting (plan i) old Unlock l).frames x m.0.ledger)
-          ∙ (ap (λ b. turned_on k.mode p (if b then old else begin k.mode old Unlock l).frames x m.0.ledger) (not_on old.frames l calm)
+          ∙ ((λ i. turned_of (terms_of (seat.plan i)) (own_number (seat.number i)) (acting (plan i) old Unlock l) x m.0.ledger)
+          ∙ (ap (λ b. turned_of (terms_of k) p (if b then old else begin k.mode old Unlock l) x m.0.ledger) (not_on old.frames l calm)
           ∙ (turns k.mode awake made.found ∙ ap (λ ms. turned m.0.ledger (lock_name l) Frees ms) (sym last))));
     }
   where
     turns : (mode : Mode) → halts mode ≡ false → (y : Fields)
-        → turned_on mode p (begin mode m.0.calls Unlock l).frames (Word y) m.0.ledger
+        → turned_on mode p (sight_of (terms_of k) p None) (begin mode m.0.calls Unlock l).frames (Word y) m.0.ledger
         ≡ turned m.0.ledger (lock_name l) Frees (mark U1 (Word y) ∷ [])
     turns Virt h y = refl
     turns Native h y = refl

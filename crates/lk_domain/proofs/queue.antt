@@ -1,7 +1,11 @@
 pub mod Counts
+pub mod NodeStores
 pub mod OnNodes
 pub mod Entries
+pub mod Unfreed
 pub mod NodePlays
-pub mod Pending
+pub mod ChoicePlays
 pub mod LockSwaps
+pub mod FrontPlays
+pub mod Pending
 pub mod Swapped

@@ -5,20 +5,28 @@ use Rattle.std.specs.Prelude.{◌∷◌, ◌++◌, length, Option, Some, None, i
 use Rattle.lk_abs.specs.Names.{same_lock}
 use Rattle.lk_abs.specs.declared.holder.Manner.{Manner}
 use Rattle.lk_abs.specs.declared.holder.Manner.TheVariants.{Spins, Reads, Writes}
+use Rattle.lk_abs.specs.declared.names.Kind.{Kind}
 use Rattle.lk_abs.specs.declared.names.Mode.{Mode}
 use Rattle.lk_abs.specs.declared.names.LockName.{LockName}
 use Rattle.lk_abs.specs.declared.events.What.TheVariants.{RTake, RRelease, WTake, WRelease}
 use Rattle.lk_machine.specs.declared.parts.Frame.{Frame}
 use Rattle.lk_machine.specs.declared.parts.Pc.{Pc}
+use Rattle.lk_machine.specs.declared.parts.Pc.TheVariants.{Z1, Z2}
 use Rattle.lk_machine.specs.declared.setup.Verb.{Verb}
-use Rattle.lk_machine.specs.declared.setup.Verb.TheVariants.{Lock, Try, Unlock}
+use Rattle.lk_machine.specs.declared.setup.Verb.TheVariants.{Lock, Try, Unlock, Read, TryRead}
+use Rattle.lk_machine.specs.declared.setup.Verb.TheVariants.{RUnlock, Write, TryWrite, WUnlock}
 use Rattle.lk_machine.specs.Machine.{rest_frame}
 use Rattle.lk_machine.specs.Moves.{started}
+use Rattle.lk_machine.specs.Programs.{kind_of, is_release as is_unlocking}
+use Rattle.lk_machine.specs.rows.Cna.{Sight, same_socket}
 use Rattle.lk_machine.specs.Row.{Lead, Granted, Freed, Leaves, Yields, Tell, Says}
 use Rattle.lk_machine.specs.TopRow.{Target, RwWord, target}
 use Rattle.lk_law.specs.Families.{is_slow}
 use Rattle.lk_law.specs.Leads.{Met, Setting, Course, course_at, held_lock, is_release}
+use Rattle.lk_law.specs.SoundWorld.{is_rw_name}
 use Rattle.lk_law.specs.Steps.{led}
+use Rattle.lk_domain.specs.Plans.{kind_at}
+use Rattle.lk_domain.specs.declared.plan.Plan.{Plan}
 
 -- a row of a trail, and what it met
 pub record Mark : Type 0 where
@@ -49,10 +57,12 @@ pub record Calls : Type 0 where
   pub taken : ℕ
   -- how many words of the node to come are reset
   pub ready : ℕ
+  -- how many handovers the newest call has read in its own node, for its next row
+  pub runs : Option ℕ
 
 -- a processor with no call and no lock
 abbrev pub no_calls : Calls
-no_calls = record { frames = []; holds = []; last = []; taken = 0; ready = 0 }
+no_calls = record { frames = []; holds = []; last = []; taken = 0; ready = 0; runs = None }
 
 abbrev pub mark : Pc → Met → Mark
 mark c x = record { row = c; met = x }
@@ -78,10 +88,21 @@ abbrev pub Stacked : List Running → Type 0
 Stacked [] = Unit {0}
 Stacked (r ∷ rs) = (r.frame.ctx ≡ length rs) × Stacked rs
 
--- no call waits at a release
+-- the place is the release of a reader or the writer
+abbrev pub is_leaving : Option Pc → Bool
+is_leaving (Some Z1) = true
+is_leaving (Some Z2) = true
+is_leaving _ = false
+
+-- the frame stands at the release of the lock of its operation; at that of a wait lock it may stand,
+-- when it has the lock for which it took the wait lock
+abbrev pub releases : Frame → Bool
+releases f = is_release f.place && not (f.lock.wait && not (is_leaving f.place))
+
+-- no call waits at such a release
 abbrev pub Rests : List Running → Type 0
 Rests [] = Unit {0}
-Rests (r ∷ rs) = (is_release r.frame.place ≡ false) × Rests rs
+Rests (r ∷ rs) = (releases r.frame ≡ false) × Rests rs
 
 -- how many calls are in the slow path
 abbrev pub slows : List Running → ℕ
@@ -106,6 +127,11 @@ slow_in (r ∷ rs) l = if r.frame.lock.index == l then is_slow r.frame.place els
 abbrev pub holds_in : List Hold → ℕ → Bool
 holds_in [] l = false
 holds_in (h ∷ hs) l = if same_lock h.lock (lock_name l) then true else holds_in hs l
+
+-- how the lock is held, by whichever context
+abbrev pub way_in : List Hold → ℕ → Option Manner
+way_in [] l = None
+way_in (h ∷ hs) l = if same_lock h.lock (lock_name l) then Some h.manner else way_in hs l
 
 -- what a row does to the holds of its processor
 pub data Grip : Type 0 where
@@ -177,36 +203,55 @@ after v f t rs c x o =
       last = last_after t c.last (led f o.leads).place;
       taken = taken_after (grip_of x o) c.taken;
       ready = 0;
+      runs = None;
     }
 
--- what a row reads besides, where no front chooses and nobody spins before a halt
-abbrev pub setting : Mode → ℕ → Setting
-setting mode p =
+-- what the rows read of a plan: the family, the threshold, and the socket of each processor
+pub record Terms : Type 0 where
+  pub mode : Mode
+  pub threshold : ℕ
+  pub sockets : List ℕ
+
+abbrev pub terms_of : Plan → Terms
+terms_of k =
+    record { mode = k.mode; threshold = k.threshold; sockets = k.topology.sockets.items }
+
+-- what a front sees that chooses the next: the threshold, the processors of its own socket, and the
+-- handovers that it has read in its own node
+abbrev pub count_of : Option ℕ → ℕ
+count_of None = 0
+count_of (Some r) = r
+
+abbrev pub sight_of : Terms → ℕ → Option ℕ → Sight
+sight_of t p r =
     record {
-      mode = mode;
-      turns = 1;
-      cpu = p;
-      sight = record { runs = 0; threshold = 0; local = λ n. false };
+      runs = count_of r;
+      threshold = t.threshold;
+      local = λ n. same_socket t.sockets p n.cpu;
     }
+
+-- what a row reads besides, where nobody spins before a halt
+abbrev pub setting : Mode → ℕ → Sight → Setting
+setting mode p z = record { mode = mode; turns = 1; cpu = p; sight = z }
 
 -- the course of the row at c of a frame that met this
-abbrev pub course : Mode → ℕ → Pc → Frame → Met → Course
-course mode p c f x = course_at (setting mode p) c f (target c f) x
+abbrev pub course : Mode → ℕ → Sight → Pc → Frame → Met → Course
+course mode p z c f x = course_at (setting mode p z) c f (target c f) x
 
 -- the calls after the row of the newest call, which met x
 
-abbrev pub row_at : Mode → ℕ → Running → List Running → Calls → Met → Option Pc → Calls
-row_at mode p r rs c x None = c
-row_at mode p r rs c x (Some d) =
+abbrev pub row_at : Mode → ℕ → Sight → Running → List Running → Calls → Met → Option Pc → Calls
+row_at mode p z r rs c x None = c
+row_at mode p z r rs c x (Some d) =
     after r.verb r.frame (r.trail ++ mark d x ∷ []) rs c (target d r.frame)
-    (course mode p d r.frame x)
+    (course mode p z d r.frame x)
 
-abbrev pub row_on : Mode → ℕ → List Running → Calls → Met → Calls
-row_on mode p [] c x = c
-row_on mode p (r ∷ rs) c x = row_at mode p r rs c x r.frame.place
+abbrev pub row_on : Mode → ℕ → Sight → List Running → Calls → Met → Calls
+row_on mode p z [] c x = c
+row_on mode p z (r ∷ rs) c x = row_at mode p z r rs c x r.frame.place
 
-abbrev pub row_of : Mode → ℕ → Calls → Met → Calls
-row_of mode p c x = row_on mode p c.frames c x
+abbrev pub row_of : Terms → ℕ → Calls → Met → Calls
+row_of t p c x = row_on t.mode p (sight_of t p c.runs) c.frames c x
 
 -- a call begins
 
@@ -217,6 +262,8 @@ begun mode c v l = started mode (record rest_frame { ctx = c }) (record { verb =
 -- the holds with which it begins: one that releases does it in the context in which it is called
 abbrev pub holds_begun : Verb → ℕ → ℕ → List Hold → List Hold
 holds_begun Unlock c l hs = moved_to c (lock_name l) hs
+holds_begun RUnlock c l hs = moved_to c (lock_name l) hs
+holds_begun WUnlock c l hs = moved_to c (lock_name l) hs
 holds_begun _ c l hs = hs
 
 abbrev pub begin : Mode → Calls → Verb → ℕ → Calls
@@ -224,12 +271,19 @@ begin mode c v l =
     record c {
       frames = running v (begun mode (length c.frames) v l) [] ∷ c.frames;
       holds = holds_begun v (length c.frames) l c.holds;
+      runs = None;
     }
 
 abbrev pub is_verb : Verb → Verb → Bool
 is_verb Lock Lock = true
 is_verb Try Try = true
 is_verb Unlock Unlock = true
+is_verb Read Read = true
+is_verb TryRead TryRead = true
+is_verb RUnlock RUnlock = true
+is_verb Write Write = true
+is_verb TryWrite TryWrite = true
+is_verb WUnlock WUnlock = true
 is_verb v w = false
 
 -- the newest call is this operation on this lock
@@ -241,29 +295,70 @@ is_on (r ∷ rs) v l = is_verb r.verb v && (r.frame.lock.index == l)
 abbrev pub acting : Mode → Calls → Verb → ℕ → Calls
 acting mode c v l = if is_on c.frames v l then c else begin mode c v l
 
--- the newest call is this operation on this lock, and stands at the row
-pub record StandsAt (c : Calls) (v : Verb) (l : ℕ) (pc : Pc) : Type 0 where
+-- the newest call is this operation, acts on the lock of this name, and stands at the row
+pub record StandsOn (c : Calls) (v : Verb) (n : LockName) (pc : Pc) : Type 0 where
   pub frame : Frame
   pub trail : List Mark
   pub rest : List Running
   pub is : c.frames ≡ running v frame trail ∷ rest
   pub place : frame.place ≡ Some pc
-  pub lock : frame.lock ≡ lock_name l
+  pub lock : frame.lock ≡ n
+
+-- it acts on the lock itself, and not on its wait lock
+abbrev pub StandsAt : Calls → Verb → ℕ → Pc → Type 0
+StandsAt c v l pc = StandsOn c v (lock_name l) pc
+
+-- the processor neither holds the lock nor waits for it
+abbrev pub IsClear : Calls → ℕ → Type 0
+IsClear c l = (holds_in c.holds l ≡ false) × (waits_in c.frames l ≡ false)
 
 -- What a call asks that begins: one that takes a lock holds nothing of it and waits for nothing of
--- it, and one that releases holds it, in whichever context.
+-- it, and one that releases holds it, in whichever context: a reader-writer lock in its manner.
 abbrev pub MayBegin : Calls → Verb → ℕ → Type 0
 MayBegin c Unlock l = holds_in c.holds l ≡ true
-MayBegin c Lock l = (holds_in c.holds l ≡ false) × (waits_in c.frames l ≡ false)
-MayBegin c Try l = (holds_in c.holds l ≡ false) × (waits_in c.frames l ≡ false)
-MayBegin c _ l = ⊥
+MayBegin c RUnlock l = way_in c.holds l ≡ Some Reads
+MayBegin c WUnlock l = way_in c.holds l ≡ Some Writes
+MayBegin c _ l = IsClear c l
 
--- where the call of this operation on this lock begins, it may, and is one of six
-abbrev pub Begins : Calls → Verb → ℕ → Type 0
-Begins c v l = is_on c.frames v l ≡ false → (length c.frames < 6) × MayBegin c v l
+-- where the call of this operation on this lock begins, it may, it is one of six, and the lock is
+-- of its kind
+abbrev pub Begins : Plan → Calls → Verb → ℕ → Type 0
+Begins k c v l = is_on c.frames v l ≡ false
+    → (length c.frames < 6) × MayBegin c v l × (kind_at k l ≡ kind_of v)
+
+-- the place is a row of a call that does not have its lock yet
+abbrev pub is_seeking : Option Pc → Bool
+is_seeking None = false
+is_seeking (Some Z1) = false
+is_seeking (Some Z2) = false
+is_seeking (Some c) = not (is_release (Some c))
+
+-- who waits for a lock does not hold it yet, and no other call below it waits for it
+abbrev pub AreFresh : List Running → List Hold → Type 0
+AreFresh [] hs = Unit {0}
+AreFresh (r ∷ rs) hs =
+    (is_seeking r.frame.place ≡ true
+    → (holds_in hs r.frame.lock.index ≡ false) × (waits_in rs r.frame.lock.index ≡ false))
+    × AreFresh rs hs
+
+-- a hold of a spinlock or a wait lock is as of a spinlock, and one of a reader-writer lock as of a
+-- reader or the writer
+abbrev pub is_spun : Manner → Bool
+is_spun Spins = true
+is_spun Reads = false
+is_spun Writes = false
+
+abbrev pub Suits : (ℕ → Kind) → LockName → Manner → Type 0
+Suits kind l m = is_spun m ≡ not (is_rw_name kind l)
+
+-- each lock is held by one of six contexts, in a manner of its kind, and but for wait locks once
+abbrev pub AreHeld : (ℕ → Kind) → List Hold → Type 0
+AreHeld kind [] = Unit {0}
+AreHeld kind (h ∷ hs) = (h.ctx < 6) × Suits kind h.lock h.manner
+    × (h.lock.wait ≡ false → holds_in hs h.lock.index ≡ false) × AreHeld kind hs
 
 -- the calls that wait do not release, and wait for different locks
 abbrev pub are_calls : List Running → Bool
 are_calls [] = true
 are_calls (r ∷ rs) =
-    not (is_verb r.verb Unlock) && not (waits_in rs r.frame.lock.index) && are_calls rs
+    not (is_unlocking r.verb) && not (waits_in rs r.frame.lock.index) && are_calls rs

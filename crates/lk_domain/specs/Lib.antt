@@ -14,6 +14,9 @@ pub mod NodePlays
 pub mod Marked
 pub mod Seats
 pub mod NodeSeats
+pub mod RwRows
+pub mod RwPlays
+pub mod RwSeats
 pub mod Ends
 pub mod Paths
 pub mod Waits

@@ -1,7 +1,8 @@
 -- What the step calls on the words of nodes say of their processor.
 use Rattle.std.specs.Prelude.{ℕ}
 use Rattle.lk_law.specs.Leads.{Met}
-use Rattle.lk_domain.specs.NodePlays.{Goes, SeesFlag, SeesLink}
+use Rattle.lk_domain.specs.NodePlays.{SeesFlag, SeesLink, SeesTail, Names, Counted}
+use Rattle.lk_domain.specs.Plays.{Goes}
 use Rattle.lk_domain.specs.declared.cpu.Cpu.{Cpu}
 
 -- the processor has made the row of its newest call, which met this
@@ -15,3 +16,15 @@ pub record FlagSeen (old : Cpu) (met : ℕ) (new : Cpu) : Type 0 where
 -- at its link
 pub record LinkSeen (old : Cpu) (met : ℕ) (new : Cpu) : Type 0 where
   pub by : SeesLink old.seat.me met new.seat.me
+
+-- the newest call has stored a node's name into a word of a node, or looked at one
+pub record NameMet (old : Cpu) (met : ℕ) (new : Cpu) : Type 0 where
+  pub by : Names old.seat.me met new.seat.me
+
+-- the newest call has read the count of handovers in its node
+pub record RunsSeen (old : Cpu) (met : ℕ) (new : Cpu) : Type 0 where
+  pub by : Counted old.seat.me met new.seat.me
+
+-- it has looked at the last of the second queue
+pub record TailSeen (old : Cpu) (met : ℕ) (new : Cpu) : Type 0 where
+  pub by : SeesTail old.seat.me met new.seat.me

@@ -1,6 +1,6 @@
 -- Trails that are paths of the rows, and what a call has done.
 use Rattle.std.specs.Prelude.{◌≡◌, ℕ, ◌<◌, ◌≤◌, ◌||◌, ◌==◌, Bool, true, false, List, [], ◌∷◌}
-use Rattle.std.specs.Prelude.{◌++◌, length, Some, None}
+use Rattle.std.specs.Prelude.{◌++◌, length, Option, Some, None}
 use Rattle.lk_abs.specs.declared.holder.Manner.{Manner}
 use Rattle.lk_abs.specs.declared.names.Mode.{Mode}
 use Rattle.lk_word.specs.declared.spin_word.Fields.{Fields}
@@ -8,49 +8,53 @@ use Rattle.lk_machine.specs.declared.parts.Frame.{Frame}
 use Rattle.lk_machine.specs.declared.parts.Pc.{Pc}
 use Rattle.lk_machine.specs.declared.parts.Pc.TheVariants.{U1}
 use Rattle.lk_machine.specs.declared.setup.Verb.{Verb}
+use Rattle.lk_machine.specs.rows.Cna.{Sight}
 use Rattle.lk_machine.specs.TopRow.{target}
 use Rattle.lk_law.specs.Leads.{Met, Word}
 use Rattle.lk_law.specs.Steps.{led}
 use Rattle.lk_domain.specs.Calls.{Mark, mark, running, hold, Calls, Grip, Unchanged, Takes}
-use Rattle.lk_domain.specs.Calls.{grip_of, course}
+use Rattle.lk_domain.specs.Calls.{grip_of, course, Terms, sight_of}
 use Rattle.lk_domain.specs.Calls.{begun, lock_name, free_of, moved_to, holds_in, waits_in}
 use Rattle.lk_domain.specs.Ledgers.{Ledger, Look, turned}
 
 -- the frame f after its row at c, which met x
-abbrev pub next_frame : Mode → ℕ → Pc → Frame → Met → Frame
-next_frame mode p c f x = led f (course mode p c f x).leads
+abbrev pub next_frame : Mode → ℕ → Sight → Pc → Frame → Met → Frame
+next_frame mode p z c f x = led f (course mode p z c f x).leads
 
 -- what the row does to the holds
-abbrev pub row_grip : Mode → ℕ → Pc → Frame → Met → Grip
-row_grip mode p c f x = grip_of (target c f) (course mode p c f x)
+abbrev pub row_grip : Mode → ℕ → Sight → Pc → Frame → Met → Grip
+row_grip mode p z c f x = grip_of (target c f) (course mode p z c f x)
 
--- the rows of the list lead from the frame a to the frame at the end
-pub data Walk (mode : Mode) (p : ℕ) (a : Frame) : List Mark → Frame → Type 0 where
-  still : Walk mode p a [] a
-  onward : (ks : List Mark) (f : Frame) (c d : Pc) (x : Met)
-      → Walk mode p a ks f → f.place ≡ Some c → (next_frame mode p c f x).place ≡ Some d
-      → Walk mode p a (ks ++ mark c x ∷ []) (next_frame mode p c f x)
+-- The rows of the list lead from the frame a to the frame at the end. Where a front looks for the
+-- next it has read some count of handovers in its own node.
+pub data Walk (t : Terms) (p : ℕ) (a : Frame) : List Mark → Frame → Type 0 where
+  still : Walk t p a [] a
+  onward : (ks : List Mark) (f : Frame) (c d : Pc) (x : Met) (r : Option ℕ)
+      → Walk t p a ks f → f.place ≡ Some c
+      → (next_frame t.mode p (sight_of t p r) c f x).place ≡ Some d
+      → Walk t p a (ks ++ mark c x ∷ []) (next_frame t.mode p (sight_of t p r) c f x)
 
 -- the rows of the trail lead from the frame a to a row that ends the call, and does this to the
 -- holds
-pub record Path (mode : Mode) (p : ℕ) (a : Frame) (trail : List Mark) (grip : Grip) : Type 0 where
+pub record Path (t : Terms) (p : ℕ) (a : Frame) (trail : List Mark) (grip : Grip) : Type 0 where
   pub before : List Mark
   pub frame : Frame
   pub row : Pc
   pub met : Met
-  pub walk : Walk mode p a before frame
+  pub runs : Option ℕ
+  pub walk : Walk t p a before frame
   pub place : frame.place ≡ Some row
   pub is : trail ≡ before ++ mark row met ∷ []
-  pub ends : (next_frame mode p row frame met).place ≡ None
-  pub grips : row_grip mode p row frame met ≡ grip
+  pub ends : (next_frame t.mode p (sight_of t p runs) row frame met).place ≡ None
+  pub grips : row_grip t.mode p (sight_of t p runs) row frame met ≡ grip
 
 -- The call v on l of the processor p, which began where its calls were the old ones, stands at the
 -- row c; its frame meets the condition.
-pub record IsAt (mode : Mode) (p : ℕ) (v : Verb) (l : ℕ) (c : Pc) (condition : Frame → Type 0)
+pub record IsAt (t : Terms) (p : ℕ) (v : Verb) (l : ℕ) (c : Pc) (condition : Frame → Type 0)
     (old new : Calls) : Type 0 where
   pub frame : Frame
   pub trail : List Mark
-  pub walk : Walk mode p (begun mode (length old.frames) v l) trail frame
+  pub walk : Walk t p (begun t.mode (length old.frames) v l) trail frame
   pub frames : new.frames ≡ running v frame trail ∷ old.frames
   pub holds : new.holds ≡ old.holds
   pub taken : old.taken ≤ new.taken
@@ -63,16 +67,16 @@ abbrev pub Any : Frame → Type 0
 Any f = Unit {0}
 
 -- the call has taken the lock, in this manner
-pub record HasTaken (mode : Mode) (p : ℕ) (v : Verb) (l : ℕ) (manner : Manner)
+pub record HasTaken (t : Terms) (p : ℕ) (v : Verb) (l : ℕ) (manner : Manner)
     (old new : Calls) : Type 0 where
-  pub path : Path mode p (begun mode (length old.frames) v l) new.last (Takes manner)
+  pub path : Path t p (begun t.mode (length old.frames) v l) new.last (Takes manner)
   pub frames : new.frames ≡ old.frames
   pub holds : new.holds ≡ hold (length old.frames) (lock_name l) manner new.taken ∷ old.holds
   pub taken : old.taken < new.taken
 
 -- it has missed the lock
-pub record HasMissed (mode : Mode) (p : ℕ) (v : Verb) (l : ℕ) (old new : Calls) : Type 0 where
-  pub path : Path mode p (begun mode (length old.frames) v l) new.last Unchanged
+pub record HasMissed (t : Terms) (p : ℕ) (v : Verb) (l : ℕ) (old new : Calls) : Type 0 where
+  pub path : Path t p (begun t.mode (length old.frames) v l) new.last Unchanged
   pub frames : new.frames ≡ old.frames
   pub holds : new.holds ≡ old.holds
   pub taken : old.taken ≤ new.taken

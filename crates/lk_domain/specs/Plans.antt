@@ -30,14 +30,13 @@ abbrev pub room_of : Plan → ℕ
 room_of k = sum k.shares.items
 
 -- A plan of which a domain may be made: from 1 to 64 processors, each with a share, from 1 to 32
--- locks, and at most 64 balances below the limit. For now all locks are spinlocks.
+-- locks, and at most 64 balances below the limit.
 pub record IsLawfulPlan (k : Plan) : Type 0 where
   pub awake : halts k.mode ≡ false
   pub some : 0 < cpus_of k
   pub cpus : cpus_of k ≤ 64
   pub any : 0 < locks_of k
   pub locks : locks_of k ≤ 32
-  pub spins : (i : ℕ) → kind_at k i ≡ Spin
   pub accounts : accounts_of k ≤ 64
   pub small : sum k.balances.items < full
   pub shares : length k.shares.items ≡ cpus_of k

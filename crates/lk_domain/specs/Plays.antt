@@ -3,22 +3,26 @@ use Rattle.std.specs.Prelude.{◌≡◌, ◌≢◌, ℕ, ◌+◌, ◌<◌, ◌�
 use Rattle.std.specs.Prelude.{Option, Some, None, IfSome, drop, slice_index}
 use Rattle.atomic_table.specs.Table.{Me, Step}
 use Rattle.lk_abs.specs.declared.ledger.Entry.{Entry}
+use Rattle.lk_abs.specs.declared.names.LockName.{LockName}
 use Rattle.lk_abs.specs.declared.names.Mode.{Mode}
 use Rattle.lk_word.specs.declared.spin_word.NodeName.{NodeName}
 use Rattle.lk_word.specs.declared.spin_word.Fields.{Fields}
 use Rattle.lk_word.specs.SpinWord.{packed, IsPackable}
 use Rattle.lk_machine.specs.declared.parts.Pc.{Pc}
 use Rattle.lk_machine.specs.declared.setup.Verb.{Verb}
+use Rattle.lk_machine.specs.rows.Cna.{Sight}
 use Rattle.lk_machine.specs.TopRow.{target}
 use Rattle.lk_law.specs.Leads.{Met, Word, held_lock}
-use Rattle.lk_domain.specs.Calls.{Running, Calls, mark, grip_of, course, row_of, acting, StandsAt}
-use Rattle.lk_domain.specs.Calls.{Begins, no_calls}
+use Rattle.lk_law.specs.Premises.{IsThen}
+use Rattle.lk_domain.specs.Calls.{Running, Calls, mark, grip_of, course, row_of, acting, StandsOn}
+use Rattle.lk_domain.specs.Calls.{Begins, lock_name, no_calls, Terms, terms_of, sight_of}
 use Rattle.lk_domain.specs.Places.{places}
 use Rattle.lk_abs.specs.Journal.{Replays}
 use Rattle.lk_domain.specs.Keeps.{Slot, IsOpen, balance}
 use Rattle.lk_domain.specs.Ledgers.{Ledger, Out, turned, loaded, sighted, taken_out, stored}
 use Rattle.lk_domain.specs.Ledgers.{brought, with_share}
 use Rattle.lk_domain.specs.Plans.{accounts_of, share_of}
+use Rattle.lk_domain.specs.Rows.{queues_up}
 use Rattle.lk_domain.specs.Views.{view, drawer, own_number}
 use Rattle.lk_domain.specs.Words.{lock_at, balance_at, IsNode}
 use Rattle.lk_domain.specs.declared.journal.Journal.{Journal}
@@ -27,22 +31,25 @@ use Rattle.lk_domain.specs.declared.view.View.{View}
 
 -- what a row of the newest call makes of what its processor knows of the ledger
 
-abbrev pub turned_at : Mode → ℕ → Running → Met → Ledger → Option Pc → Ledger
-turned_at mode p r x g None = g
-turned_at mode p r x g (Some d) =
+abbrev pub turned_at : Mode → ℕ → Sight → Running → Met → Ledger → Option Pc → Ledger
+turned_at mode p z r x g None = g
+turned_at mode p z r x g (Some d) =
     turned g (held_lock (target d r.frame) r.frame)
-    (grip_of (target d r.frame) (course mode p d r.frame x)) (r.trail ++ mark d x ∷ [])
+    (grip_of (target d r.frame) (course mode p z d r.frame x)) (r.trail ++ mark d x ∷ [])
 
-abbrev pub turned_on : Mode → ℕ → List Running → Met → Ledger → Ledger
-turned_on mode p [] x g = g
-turned_on mode p (r ∷ rs) x g = turned_at mode p r x g r.frame.place
+abbrev pub turned_on : Mode → ℕ → Sight → List Running → Met → Ledger → Ledger
+turned_on mode p z [] x g = g
+turned_on mode p z (r ∷ rs) x g = turned_at mode p z r x g r.frame.place
+
+abbrev pub turned_of : Terms → ℕ → Calls → Met → Ledger → Ledger
+turned_of t p c x g = turned_on t.mode p (sight_of t p c.runs) c.frames x g
 
 -- the view after the row of its newest call, where the calls before it are c
 abbrev pub rowed : View → Calls → Met → View
 rowed v c x =
     record v {
-      calls = row_of v.who.plan.mode (own_number v.who.number) c x;
-      ledger = turned_on v.who.plan.mode (own_number v.who.number) c.frames x v.ledger;
+      calls = row_of (terms_of v.who.plan) (own_number v.who.number) c x;
+      ledger = turned_of (terms_of v.who.plan) (own_number v.who.number) c x v.ledger;
     }
 
 -- the view after the row of its call on a lock, which begins or goes on
@@ -70,29 +77,56 @@ pub record IsWord (k : Plan) (n : ℕ) : Type 0 where
 abbrev pub Makes : Verb → {S : Type 0} → Step S → Me S View → ℕ → Me S View → Type 0
 Makes verb st m x n = (l : ℕ) → st.word ≡ lock_at l → MadeBy verb l m x n
 
--- the call on the lock makes a row of this kind next
-pub record Acts (kind : Pc → Bool) (v : View) (verb : Verb) (l : ℕ) : Type 0 where
+-- the call on the lock of this name, or on the lock of which this is the wait lock, makes a row of
+-- this kind next
+pub record ActsOn (kind : Pc → Bool) (v : View) (verb : Verb) (n : LockName) : Type 0 where
   pub row : Pc
   pub is : kind row ≡ true
-  pub stands : StandsAt (acting v.who.plan.mode v.calls verb l) verb l row
-  pub begins : Begins v.calls verb l
+  pub stands : StandsOn (acting v.who.plan.mode v.calls verb n.index) verb n row
+  pub begins : Begins v.who.plan v.calls verb n.index
+
+-- the call on the lock acts on it, and not on its wait lock
+abbrev pub Acts : (Pc → Bool) → View → Verb → ℕ → Type 0
+Acts kind v verb l = ActsOn kind v verb (lock_name l)
+
+-- The call acts on a spinlock, or inside a call of a reader or a writer on its wait lock; there it
+-- knows where it goes on.
+pub record ActsIn (kind : Pc → Bool) (v : View) (verb : Verb) (n : LockName) : Type 0 where
+  pub acts : ActsOn kind v verb n
+  pub inside : n.wait ≡ queues_up verb
+  pub after : n.wait ≡ true → IsThen acts.stands.frame.then
 
 -- and its own node is this
-pub record ActsAs (kind : Pc → Bool) (v : View) (verb : Verb) (l : ℕ)
+pub record ActsAs (kind : Pc → Bool) (v : View) (verb : Verb) (n : LockName)
     (own : NodeName) : Type 0 where
-  pub acts : Acts kind v verb l
-  pub me : acts.stands.frame.me ≡ Some own
+  pub acts : ActsIn kind v verb n
+  pub me : acts.acts.stands.frame.me ≡ Some own
+
+-- the view after the row of the newest call, which met this
+abbrev pub went : View → Met → View
+went v x = rowed v v.calls x
+
+abbrev pub Goes : {S : Type 0} → Met → Me S View → Me S View → Type 0
+Goes x m n = n ≡ (went m.0 x, m.1)
+
+-- the newest call, which goes on, has made its row, and met this word
+pub record WentBy {S : Type 0} (m : Me S View) (met : ℕ) (n : Me S View) : Type 0 where
+  pub found : Fields
+  pub packs : IsPackable found
+  pub tail : IfSome found.tail (IsNode m.0.who.plan)
+  pub word : met ≡ packed found
+  pub seat : Goes (Word found) m n
 
 -- What an exchange of a whole word tells that is tried again where it fails: it has made the row of
--- its call where it met the word that it expected, and else the seat is as it was.
-pub record SwappedBy {S : Type 0} (verb : Verb) (l expected : ℕ) (m : Me S View) (met : ℕ)
+-- the newest call where it met the word that it expected, and else the seat is as it was.
+pub record SwappedBy {S : Type 0} (expected : ℕ) (m : Me S View) (met : ℕ)
     (n : Me S View) : Type 0 where
-  pub made : met ≡ expected → MadeBy verb l m met n
+  pub made : met ≡ expected → WentBy m met n
   pub stands : met ≢ expected → n ≡ m
   pub word : IsWord m.0.who.plan met
 
-abbrev pub Swaps : Verb → {S : Type 0} → Step S → Me S View → ℕ → Me S View → Type 0
-Swaps verb st m x n = (l : ℕ) → st.word ≡ lock_at l → SwappedBy verb l st.first m x n
+abbrev pub Swaps : {S : Type 0} → Step S → Me S View → ℕ → Me S View → Type 0
+Swaps st m x n = SwappedBy st.first m x n
 
 -- the first seat has drawn the number that it deals next, and the share that goes with it
 abbrev pub Draws : Step Slot → Me Slot View → ℕ → Me Slot View → Type 0

@@ -3,7 +3,7 @@ use Rattle.std.specs.Prelude.{◌≡◌, ℕ, ◌<◌, false, length}
 use Rattle.lk_abs.specs.declared.holder.Manner.{Manner}
 use Rattle.lk_machine.specs.declared.parts.Pc.{Pc}
 use Rattle.lk_machine.specs.declared.setup.Verb.{Verb}
-use Rattle.lk_domain.specs.Calls.{Calls, Takes, Frees, holds_in, waits_in, lock_name}
+use Rattle.lk_domain.specs.Calls.{terms_of, Calls, Takes, Frees, holds_in, waits_in, lock_name}
 use Rattle.lk_domain.specs.Ledgers.{turned}
 use Rattle.lk_domain.specs.Paths.{IsAt, HasTaken, HasMissed, HasFreed, Any}
 use Rattle.lk_domain.specs.Seats.{calls_of, ledger_of}
@@ -18,7 +18,7 @@ pub record MayTake (l : ℕ) (c : Calls) : Type 0 where
 
 -- the call v on l, which began where the calls were the old ones, stands at the row
 abbrev pub WaitsAt : Domain → Verb → ℕ → Pc → Calls → Cpu → Type 0
-WaitsAt domain v l c old cpu = IsAt domain.plan.mode cpu.number v l c Any old (calls_of cpu)
+WaitsAt domain v l c old cpu = IsAt (terms_of domain.plan) cpu.number v l c Any old (calls_of cpu)
 
 -- a step by which the call comes to the row
 pub record Moves (domain : Domain) (v : Verb) (l : ℕ) (c : Pc) (old : Calls)
@@ -29,14 +29,14 @@ pub record Moves (domain : Domain) (v : Verb) (l : ℕ) (c : Pc) (old : Calls)
 -- one by which it takes the lock
 pub record Gains (domain : Domain) (v : Verb) (l : ℕ) (manner : Manner) (old : Calls)
     (before after : Cpu) : Type 0 where
-  pub taken : HasTaken domain.plan.mode after.number v l manner old (calls_of after)
+  pub taken : HasTaken (terms_of domain.plan) after.number v l manner old (calls_of after)
   pub ledger : ledger_of after
       ≡ turned (ledger_of before) (lock_name l) (Takes manner) (calls_of after).last
 
 -- one by which it misses the lock
 pub record Misses (domain : Domain) (v : Verb) (l : ℕ) (old : Calls)
     (before after : Cpu) : Type 0 where
-  pub missed : HasMissed domain.plan.mode after.number v l old (calls_of after)
+  pub missed : HasMissed (terms_of domain.plan) after.number v l old (calls_of after)
   pub ledger : ledger_of after ≡ ledger_of before
 
 -- one by which it frees the lock

@@ -1,31 +1,68 @@
 -- Where the words of a domain stand in its table, and what their numbers say. The words of two locks
 -- stand eight words apart, so that they do not share a line of a cache.
-use Rattle.std.specs.Prelude.{◌≡◌, ◌≢◌, ℕ, ◌+◌, ◌*◌, ◌<◌, List, length, Option, Some, None}
-use Rattle.std.specs.Prelude.{slice_index}
+use Rattle.std.specs.Prelude.{◌≡◌, ◌≢◌, ℕ, ◌+◌, ◌*◌, ◌<◌, List, length, Option, Some, None, not}
+use Rattle.std.specs.Prelude.{slice_index, Bool, true, false}
+use Rattle.lk_abs.specs.declared.names.LockName.{LockName}
+use Rattle.lk_abs.specs.declared.names.Mode.{Mode}
 use Rattle.lk_word.specs.declared.spin_word.NodeName.{NodeName}
 use Rattle.lk_machine.specs.declared.parts.Flag.{Flag}
 use Rattle.lk_machine.specs.declared.parts.Flag.TheVariants.{Unset, Go, Second}
+use Rattle.lk_machine.specs.declared.parts.Node.{Node}
+use Rattle.lk_law.specs.Cna.{moves_aside}
 use Rattle.lk_domain.specs.Plans.{locks_of, cpus_of, accounts_of}
+use Rattle.lk_domain.specs.declared.part.Part.{Part}
+use Rattle.lk_domain.specs.declared.part.Part.TheVariants as part
 use Rattle.lk_domain.specs.declared.plan.Plan.{Plan}
 
 -- The number of the next processor that is dealt stands in word 0, and the version in word 1.
 abbrev pub version_at : ℕ
 version_at = 1
 
--- a lock
+-- a lock, and beside it, on the same line of the cache, its wait lock
 abbrev pub lock_at : ℕ → ℕ
 lock_at l = 8 + 8 * l
+
+abbrev pub wait_at : ℕ → ℕ
+wait_at l = 9 + 8 * l
+
+-- one of these by its name
+
+abbrev pub place_of : Bool → ℕ → ℕ
+place_of false l = lock_at l
+place_of true l = wait_at l
+
+abbrev pub word_at : LockName → ℕ
+word_at n = place_of n.wait n.index
 
 -- behind the locks, a balance
 abbrev pub balance_at : Plan → ℕ → ℕ
 balance_at k a = 8 + 8 * locks_of k + a
 
--- behind the balances, the words of a node: its flag and its link; there is room for two more
-abbrev pub flag_at : Plan → NodeName → ℕ
-flag_at k n = 72 + 8 * locks_of k + (16 * n.cpu + 4 * n.index)
+-- which of the four places of a node is that of a word
+abbrev pub part_index : Part → ℕ
+part_index part.Flag = 0
+part_index part.Next = 1
+part_index part.SecondTail = 2
+part_index part.Runs = 3
 
-abbrev pub next_at : Plan → NodeName → ℕ
-next_at k n = 73 + 8 * locks_of k + (16 * n.cpu + 4 * n.index)
+-- Behind the balances, the words of the nodes. There is room for four words of each.
+abbrev pub node_at : Plan → NodeName → Part → ℕ
+node_at k n q = 72 + part_index q + 8 * locks_of k + (16 * n.cpu + 4 * n.index)
+
+-- The words that a node has, by the family: all four where waiters are moved aside, and else its
+-- flag and its link, and nobody reads or writes the other two places.
+abbrev pub has_part : Mode → Part → Bool
+has_part mode part.Flag = true
+has_part mode part.Next = true
+has_part mode part.SecondTail = moves_aside mode
+has_part mode part.Runs = moves_aside mode
+
+-- the word is the last of them
+abbrev pub is_last : Mode → Part → Bool
+is_last mode part.Flag = false
+is_last mode part.Next = not (moves_aside mode)
+is_last mode part.SecondTail = false
+is_last mode part.Runs = true
 
 -- how many words there are
 abbrev pub words_of : Plan → ℕ
@@ -50,6 +87,13 @@ flag_number (Second n) = name_number n
 abbrev pub link_number : Option NodeName → ℕ
 link_number None = 0
 link_number (Some n) = name_number n
+
+-- the number of a word of a node
+abbrev pub node_number : Part → Node → ℕ
+node_number part.Flag x = flag_number x.flag
+node_number part.Next x = link_number x.next
+node_number part.SecondTail x = link_number x.second_tail
+node_number part.Runs x = x.runs
 
 -- the words of a new table: all are 0 but the balances
 pub record IsOpening (k : Plan) (ws : List ℕ) : Type 0 where

@@ -1,16 +1,19 @@
 // A domain: one table of words, and what it was made of.
 ghost use Rattle.std.specs.Prelude.{◌≡◌, ◌+◌, ◌*◌, ◌<◌, ◌≤◌, Some, length, slice_get};
 ghost use Rattle.lk_domain.specs.Plans.{IsLawfulPlan, cpus_of, locks_of, accounts_of};
-ghost use Rattle.lk_domain.specs.Words.{words_of, lock_at, balance_at, flag_at, next_at, IsNode};
-ghost use Rattle.lk_domain.specs.Words.{name_number};
+ghost use Rattle.lk_domain.specs.Words.{words_of, lock_at, word_at, balance_at, node_at, IsNode};
+ghost use Rattle.lk_domain.specs.NodePlays.{IsFlagNode};
+ghost use Rattle.lk_domain.specs.Words.{name_number, flag_number};
 ghost use Rattle.lk_word.specs.SpinWord.{tail_number};
 
 use crate::journal::Journal;
+use crate::part::Part;
 use crate::plan::Plan;
 use crate::rule::Order;
 use crate::view::View;
 use atomic_table::Table;
-use lk_abs::{Kind, Mode};
+use lk_abs::{Kind, LockName, Mode};
+use lk_machine::Flag;
 use lk_word::NodeName;
 use std::alloc::Global;
 
@@ -79,13 +82,23 @@ impl Domain {
         self.plan.balances.len() as u32
     }
 
-    // Where the word of a lock stands.
-    pub(crate) fn word_of(&self, lock: u32) -> usize
+    // Where the word of a lock stands, which is no wait lock.
+    pub(crate) fn lock_word(&self, lock: u32) -> usize
         requires { lock < locks_of self.now.plan }
         ensures { result ≡ lock_at lock }
     {
         prove!(self.plan.locks.len() <= 32);
         8 + 8 * lock as usize
+    }
+
+    // Where the word of a lock or a wait lock stands.
+    pub(crate) fn word_of(&self, name: LockName) -> usize
+        requires { name.index < locks_of self.now.plan }
+        ensures { result ≡ word_at name }
+    {
+        prove!(self.plan.locks.len() <= 32);
+        let word = self.lock_word(name.index);
+        if name.wait { word + 1 } else { word }
     }
 
     // Where the balances begin.
@@ -106,24 +119,16 @@ impl Domain {
         8 + 8 * self.plan.locks.len() + account as usize
     }
 
-    // Where the flag of a node stands.
-    pub(crate) fn flag_of(&self, node: NodeName) -> usize
+    // Where a word of a node stands.
+    pub(crate) fn node_of(&self, node: NodeName, part: Part) -> usize
         requires { IsNode self.now.plan node }
-        ensures { result ≡ flag_at self.now.plan node }
+        ensures { result ≡ node_at self.now.plan node part }
     {
         prove!(self.plan.locks.len() <= 32);
         prove!(self.plan.topology.sockets.len() <= 64);
-        72 + 8 * self.plan.locks.len() + (16 * node.cpu as usize + 4 * node.index as usize)
-    }
-
-    // Where the link of a node stands.
-    pub(crate) fn next_of(&self, node: NodeName) -> usize
-        requires { IsNode self.now.plan node }
-        ensures { result ≡ next_at self.now.plan node }
-    {
-        prove!(self.plan.locks.len() <= 32);
-        prove!(self.plan.topology.sockets.len() <= 64);
-        73 + 8 * self.plan.locks.len() + (16 * node.cpu as usize + 4 * node.index as usize)
+        let place = part.index();
+        prove!(place < 4);
+        72 + place + 8 * self.plan.locks.len() + (16 * node.cpu as usize + 4 * node.index as usize)
     }
 
     // The number of the word of a free lock with this node as the tail.
@@ -133,6 +138,18 @@ impl Domain {
     {
         prove!(self.plan.topology.sockets.len() <= 64);
         65536 * node.index as u64 + 262144 * (node.cpu as u64 + 1)
+    }
+
+    // The number of a flag.
+    pub(crate) fn flag_of(&self, flag: Flag) -> u64
+        requires { IsFlagNode self.now.plan flag }
+        ensures { result ≡ flag_number flag }
+    {
+        match flag {
+            Flag::Unset => 0,
+            Flag::Go => 1,
+            Flag::Second(node) => self.name_of(node),
+        }
     }
 
     // The number of a node.

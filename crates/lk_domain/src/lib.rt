@@ -1,6 +1,7 @@
 //! Running locks over one table of atomic words, and a ledger under them.
 #![tactic(auto)]
 
+mod choice_steps;
 mod cpu;
 mod domain;
 mod ending;
@@ -14,7 +15,10 @@ mod part;
 mod plan;
 mod queue_steps;
 mod rule;
+mod rw_moves;
+mod rw_steps;
 pub mod steps;
+mod verbs;
 mod view;
 
 pub use cpu::Cpu;

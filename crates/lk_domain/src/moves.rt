@@ -1,31 +1,36 @@
-// The steps of a seat on the word of a lock, each one operation.
+// The steps of a seat on the word of a spinlock or a wait lock, each one operation.
 ghost use Rattle.std.specs.Prelude.{◌≡◌, ◌<◌, true, None};
 ghost use Rattle.lk_machine.specs.declared.setup.Verb.TheVariants.{Lock, Try, Unlock};
 ghost use Rattle.lk_domain.specs.Calls.{lock_name};
 ghost use Rattle.lk_domain.specs.Ledgers.{is_first};
+ghost use Rattle.lk_domain.specs.NodePlays.{AtPromotion};
 ghost use Rattle.lk_domain.specs.Plans.{locks_of};
-ghost use Rattle.lk_domain.specs.Plays.{Acts, ActsAs, MadeBy, SwappedBy};
-ghost use Rattle.lk_domain.specs.Rows.{is_look, is_take, is_free, pends_by, clears_by, claims_by};
-ghost use Rattle.lk_domain.specs.Rows.{arrives_by, soles_by, stakes_by};
+ghost use Rattle.lk_domain.specs.Plays.{Acts, ActsIn, ActsAs, MadeBy, SwappedBy};
+ghost use Rattle.lk_domain.specs.Rows.{is_look, is_take, is_free, queues_up};
+ghost use Rattle.lk_domain.specs.Rows.{looks_by, takes_by, frees_by, pends_by, clears_by, claims_by};
+ghost use Rattle.lk_domain.specs.Rows.{arrives_by, soles_by, stakes_by, is_patient};
 ghost use Rattle.lk_domain.specs.Views.{IsNumbered};
 ghost use Rattle.lk_domain.specs.Words.{IsNode};
 
 use crate::cpu::Right;
 use crate::domain::Domain;
-use crate::rule::{Exchanges, Locks, Tries, Unlocks};
+use crate::rule::{Exchanges, Locks, Tries, Unlocks, WordSteps};
+use lk_abs::LockName;
+use lk_machine::Verb;
 use lk_word::NodeName;
 
-// Looks at the word, by a call of `lock`.
-pub(crate) fn look(seat: &mut Right, domain: &Domain, lock: u32) -> u64
+// Looks at the word, by a call that goes on until it has the lock.
+pub(crate) fn look(seat: &mut Right, domain: &Domain, _verb: Verb, lock: LockName) -> u64
     requires table { seat.old.table_id ≡ domain.now.table.shared.table_id }
-    requires lock { lock < locks_of domain.now.plan }
+    requires lock { lock.index < locks_of domain.now.plan }
     requires number { IsNumbered seat.old.me.0 }
-    requires row { Acts is_look seat.old.me.0 Lock lock }
+    requires verb { is_patient _verb ≡ true }
+    requires row { ActsIn (looks_by _verb) seat.old.me.0 _verb lock }
     ensures same { (seat.new.table_id ≡ seat.old.table_id) × (seat.new.id ≡ seat.old.id) }
-    ensures step { MadeBy Lock lock seat.old.me result seat.new.me }
+    ensures step { MadeBy _verb lock.index seat.old.me result seat.new.me }
 {
     let word = domain.word_of(lock);
-    let met = domain.table.shared.load::<Locks>(seat, word);
+    let met = domain.table.shared.load::<WordSteps>(seat, word);
     met
 }
 
@@ -38,7 +43,7 @@ pub(crate) fn look_once(seat: &mut Right, domain: &Domain, lock: u32) -> u64
     ensures same { (seat.new.table_id ≡ seat.old.table_id) × (seat.new.id ≡ seat.old.id) }
     ensures step { MadeBy Try lock seat.old.me result seat.new.me }
 {
-    let word = domain.word_of(lock);
+    let word = domain.lock_word(lock);
     let met = domain.table.shared.load::<Tries>(seat, word);
     met
 }
@@ -52,7 +57,7 @@ pub(crate) fn take_free(seat: &mut Right, domain: &Domain, lock: u32) -> u64
     ensures same { (seat.new.table_id ≡ seat.old.table_id) × (seat.new.id ≡ seat.old.id) }
     ensures step { MadeBy Lock lock seat.old.me result seat.new.me }
 {
-    let word = domain.word_of(lock);
+    let word = domain.lock_word(lock);
     let met = domain
         .table
         .shared
@@ -69,11 +74,29 @@ pub(crate) fn take_once(seat: &mut Right, domain: &Domain, lock: u32) -> u64
     ensures same { (seat.new.table_id ≡ seat.old.table_id) × (seat.new.id ≡ seat.old.id) }
     ensures step { MadeBy Try lock seat.old.me result seat.new.me }
 {
-    let word = domain.word_of(lock);
+    let word = domain.lock_word(lock);
     let met = domain
         .table
         .shared
         .compare_exchange::<Tries>(seat, word, 0, 1);
+    met
+}
+
+// The same on a wait lock, by a call of a reader or a writer.
+pub(crate) fn take_wait(seat: &mut Right, domain: &Domain, _verb: Verb, lock: LockName) -> u64
+    requires table { seat.old.table_id ≡ domain.now.table.shared.table_id }
+    requires lock { lock.index < locks_of domain.now.plan }
+    requires number { IsNumbered seat.old.me.0 }
+    requires verb { queues_up _verb ≡ true }
+    requires row { ActsIn (takes_by _verb) seat.old.me.0 _verb lock }
+    ensures same { (seat.new.table_id ≡ seat.old.table_id) × (seat.new.id ≡ seat.old.id) }
+    ensures step { MadeBy _verb lock.index seat.old.me result seat.new.me }
+{
+    let word = domain.word_of(lock);
+    let met = domain
+        .table
+        .shared
+        .compare_exchange::<WordSteps>(seat, word, 0, 1);
     met
 }
 
@@ -87,87 +110,142 @@ pub(crate) fn release(seat: &mut Right, domain: &Domain, lock: u32) -> u64
     ensures same { (seat.new.table_id ≡ seat.old.table_id) × (seat.new.id ≡ seat.old.id) }
     ensures step { MadeBy Unlock lock seat.old.me result seat.new.me }
 {
-    let word = domain.word_of(lock);
+    let word = domain.lock_word(lock);
     let met = domain.table.shared.fetch_sub::<Unlocks>(seat, word, 1);
+    met
+}
+
+// The same on a wait lock, by a call of a reader or a writer.
+pub(crate) fn release_wait(seat: &mut Right, domain: &Domain, _verb: Verb, lock: LockName) -> u64
+    requires table { seat.old.table_id ≡ domain.now.table.shared.table_id }
+    requires lock { lock.index < locks_of domain.now.plan }
+    requires number { IsNumbered seat.old.me.0 }
+    requires verb { queues_up _verb ≡ true }
+    requires row { ActsIn (frees_by _verb) seat.old.me.0 _verb lock }
+    ensures same { (seat.new.table_id ≡ seat.old.table_id) × (seat.new.id ≡ seat.old.id) }
+    ensures step { MadeBy _verb lock.index seat.old.me result seat.new.me }
+{
+    let word = domain.word_of(lock);
+    let met = domain.table.shared.fetch_sub::<WordSteps>(seat, word, 1);
     met
 }
 
 // Sets bit 8, pending, whatever else the word is: nobody loses what he has set, and the call knows by
 // the old word whether it was the first.
-pub(crate) fn set_pending(seat: &mut Right, domain: &Domain, lock: u32) -> u64
+pub(crate) fn set_pending(seat: &mut Right, domain: &Domain, _verb: Verb, lock: LockName) -> u64
     requires table { seat.old.table_id ≡ domain.now.table.shared.table_id }
-    requires lock { lock < locks_of domain.now.plan }
+    requires lock { lock.index < locks_of domain.now.plan }
     requires number { IsNumbered seat.old.me.0 }
-    requires row { Acts (pends_by Lock) seat.old.me.0 Lock lock }
+    requires row { ActsIn (pends_by _verb) seat.old.me.0 _verb lock }
     ensures same { (seat.new.table_id ≡ seat.old.table_id) × (seat.new.id ≡ seat.old.id) }
-    ensures step { MadeBy Lock lock seat.old.me result seat.new.me }
+    ensures step { MadeBy _verb lock.index seat.old.me result seat.new.me }
 {
     let word = domain.word_of(lock);
-    let met = domain.table.shared.fetch_or::<Locks>(seat, word, 256);
+    let met = domain.table.shared.fetch_or::<WordSteps>(seat, word, 256);
     met
 }
 
 // Takes 256 off: the call has set pending, so that this clears it and leaves the rest.
-pub(crate) fn clear_pending(seat: &mut Right, domain: &Domain, lock: u32) -> u64
+pub(crate) fn clear_pending(seat: &mut Right, domain: &Domain, _verb: Verb, lock: LockName) -> u64
     requires table { seat.old.table_id ≡ domain.now.table.shared.table_id }
-    requires lock { lock < locks_of domain.now.plan }
+    requires lock { lock.index < locks_of domain.now.plan }
     requires number { IsNumbered seat.old.me.0 }
-    requires row { Acts (clears_by Lock) seat.old.me.0 Lock lock }
+    requires row { ActsIn (clears_by _verb) seat.old.me.0 _verb lock }
     ensures same { (seat.new.table_id ≡ seat.old.table_id) × (seat.new.id ≡ seat.old.id) }
-    ensures step { MadeBy Lock lock seat.old.me result seat.new.me }
+    ensures step { MadeBy _verb lock.index seat.old.me result seat.new.me }
 {
     let word = domain.word_of(lock);
-    let met = domain.table.shared.fetch_sub::<Locks>(seat, word, 256);
+    let met = domain.table.shared.fetch_sub::<WordSteps>(seat, word, 256);
     met
 }
 
 // Takes 256 off and adds 1, in one step: the call has set pending and has seen the byte free, which
 // nobody else may take, so that this clears pending and holds the lock.
-pub(crate) fn pending_to_locked(seat: &mut Right, domain: &Domain, lock: u32) -> u64
+pub(crate) fn pending_to_locked(
+    seat: &mut Right,
+    domain: &Domain,
+    _verb: Verb,
+    lock: LockName,
+) -> u64
     requires table { seat.old.table_id ≡ domain.now.table.shared.table_id }
-    requires lock { lock < locks_of domain.now.plan }
+    requires lock { lock.index < locks_of domain.now.plan }
     requires number { IsNumbered seat.old.me.0 }
-    requires row { Acts (claims_by Lock) seat.old.me.0 Lock lock }
+    requires row { ActsIn (claims_by _verb) seat.old.me.0 _verb lock }
     ensures same { (seat.new.table_id ≡ seat.old.table_id) × (seat.new.id ≡ seat.old.id) }
-    ensures step { MadeBy Lock lock seat.old.me result seat.new.me }
+    ensures step { MadeBy _verb lock.index seat.old.me result seat.new.me }
 {
     let word = domain.word_of(lock);
-    let met = domain.table.shared.fetch_sub::<Locks>(seat, word, 255);
+    let met = domain.table.shared.fetch_sub::<WordSteps>(seat, word, 255);
     met
 }
 
 // Adds 1: the first of the queue has seen the byte free, which nobody else may take, so that this
 // holds the lock and leaves pending and the tail.
-pub(crate) fn set_locked(seat: &mut Right, domain: &Domain, lock: u32) -> u64
+pub(crate) fn set_locked(seat: &mut Right, domain: &Domain, _verb: Verb, lock: LockName) -> u64
     requires table { seat.old.table_id ≡ domain.now.table.shared.table_id }
-    requires lock { lock < locks_of domain.now.plan }
+    requires lock { lock.index < locks_of domain.now.plan }
     requires number { IsNumbered seat.old.me.0 }
-    requires row { Acts (stakes_by Lock) seat.old.me.0 Lock lock }
+    requires row { ActsIn (stakes_by _verb) seat.old.me.0 _verb lock }
     ensures same { (seat.new.table_id ≡ seat.old.table_id) × (seat.new.id ≡ seat.old.id) }
-    ensures step { MadeBy Lock lock seat.old.me result seat.new.me }
+    ensures step { MadeBy _verb lock.index seat.old.me result seat.new.me }
 {
     let word = domain.word_of(lock);
-    let met = domain.table.shared.fetch_add::<Locks>(seat, word, 1);
+    let met = domain.table.shared.fetch_add::<WordSteps>(seat, word, 1);
     met
 }
 
 // Exchanges the word of a queue of the own node alone for the held one. A node that comes behind, or
 // a pending bit, makes it fail, so that neither is lost.
-pub(crate) fn sole_claim(seat: &mut Right, domain: &Domain, lock: u32, own: NodeName) -> u64
+pub(crate) fn sole_claim(
+    seat: &mut Right,
+    domain: &Domain,
+    _verb: Verb,
+    lock: LockName,
+    own: NodeName,
+) -> u64
     requires table { seat.old.table_id ≡ domain.now.table.shared.table_id }
-    requires lock { lock < locks_of domain.now.plan }
+    requires lock { lock.index < locks_of domain.now.plan }
     requires number { IsNumbered seat.old.me.0 }
     requires own { IsNode domain.now.plan own }
-    requires row { ActsAs (soles_by Lock) seat.old.me.0 Lock lock own }
+    requires row { ActsAs (soles_by _verb) seat.old.me.0 _verb lock own }
     ensures same { (seat.new.table_id ≡ seat.old.table_id) × (seat.new.id ≡ seat.old.id) }
-    ensures step { MadeBy Lock lock seat.old.me result seat.new.me }
+    ensures step { MadeBy _verb lock.index seat.old.me result seat.new.me }
 {
     let word = domain.word_of(lock);
     let tail = domain.tail_of(own);
     let met = domain
         .table
         .shared
-        .compare_exchange::<Locks>(seat, word, tail, 1);
+        .compare_exchange::<WordSteps>(seat, word, tail, 1);
+    met
+}
+
+// Exchanges the word of a held lock of which the own node is the tail for that with another's. A node
+// that comes behind, or a pending bit, makes it fail.
+pub(crate) fn tail_to_second(
+    seat: &mut Right,
+    domain: &Domain,
+    _verb: Verb,
+    lock: LockName,
+    own: NodeName,
+    tail: NodeName,
+) -> u64
+    requires table { seat.old.table_id ≡ domain.now.table.shared.table_id }
+    requires lock { lock.index < locks_of domain.now.plan }
+    requires number { IsNumbered seat.old.me.0 }
+    requires own { IsNode domain.now.plan own }
+    requires tail { IsNode domain.now.plan tail }
+    requires row { AtPromotion _verb lock own tail seat.old.me.0 }
+    ensures same { (seat.new.table_id ≡ seat.old.table_id) × (seat.new.id ≡ seat.old.id) }
+    ensures step { MadeBy _verb lock.index seat.old.me result seat.new.me }
+{
+    let word = domain.word_of(lock);
+    let met_own = domain.tail_of(own) + 1;
+    let new = domain.tail_of(tail) + 1;
+    let met = domain
+        .table
+        .shared
+        .compare_exchange::<WordSteps>(seat, word, met_own, new);
     met
 }
 
@@ -176,17 +254,18 @@ pub(crate) fn sole_claim(seat: &mut Right, domain: &Domain, lock: u32, own: Node
 pub(crate) fn exchange_tail(
     seat: &mut Right,
     domain: &Domain,
-    lock: u32,
+    _verb: Verb,
+    lock: LockName,
     expected: u64,
     own: NodeName,
 ) -> u64
     requires table { seat.old.table_id ≡ domain.now.table.shared.table_id }
-    requires lock { lock < locks_of domain.now.plan }
+    requires lock { lock.index < locks_of domain.now.plan }
     requires number { IsNumbered seat.old.me.0 }
     requires own { IsNode domain.now.plan own }
-    requires row { ActsAs (arrives_by Lock) seat.old.me.0 Lock lock own }
+    requires row { ActsAs (arrives_by _verb) seat.old.me.0 _verb lock own }
     ensures same { (seat.new.table_id ≡ seat.old.table_id) × (seat.new.id ≡ seat.old.id) }
-    ensures step { SwappedBy Lock lock expected seat.old.me result seat.new.me }
+    ensures step { SwappedBy expected seat.old.me result seat.new.me }
 {
     let word = domain.word_of(lock);
     let tail = domain.tail_of(own);

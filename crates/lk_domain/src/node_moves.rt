@@ -1,56 +1,83 @@
 // The steps of a seat on the words of nodes, each one operation.
-ghost use Rattle.std.specs.Prelude.{◌≡◌, ◌<◌};
-ghost use Rattle.lk_machine.specs.declared.parts.Pc.TheVariants.{G6, G10};
+ghost use Rattle.std.specs.Prelude.{◌≡◌, ◌≢◌, ◌<◌, true};
+ghost use Rattle.lk_machine.specs.declared.parts.Pc.TheVariants.{G6};
 ghost use Rattle.lk_domain.specs.NodePlays.{AtOwn, AtPrev, AtNext, AtEntry, AtBare};
-ghost use Rattle.lk_domain.specs.NodePlays.{Enters, Links, Hands, Readies, SeesFlag, SeesLink};
+ghost use Rattle.lk_domain.specs.NodePlays.{AtAppend, AtCut, AtTail, AtNewTail, Names, AtLink};
+ghost use Rattle.lk_domain.specs.NodePlays.{AtSkipped, AtOwnRuns, AtRuns, IsFlagNode, Counted, Tells, SeesTail};
+ghost use Rattle.lk_domain.specs.NodePlays.{Enters, Links, Hands, readied_by, SeesFlag, SeesLink};
 ghost use Rattle.lk_domain.specs.Plans.{locks_of};
 ghost use Rattle.lk_domain.specs.Views.{IsNumbered};
-ghost use Rattle.lk_domain.specs.Words.{IsNode};
+ghost use Rattle.lk_domain.specs.Words.{IsNode, part_index, is_last, has_part};
+ghost use Rattle.lk_domain.specs.declared.part.Part.TheVariants as part_is;
 
 use crate::cpu::Right;
 use crate::domain::Domain;
-use crate::rule::{Entries, FlagLooks, Handovers, LinkLooks, Linkings, Resets};
+use crate::part::Part;
+use crate::rule::{
+    Counts, Entries, FlagLooks, Handovers, LinkLooks, Linkings, Namings, Resets, RunsLooks,
+    TailLooks,
+};
+use lk_abs::LockName;
+use lk_machine::{Flag, Verb};
 use lk_word::NodeName;
 
-// Resets the flag of the node to come. Nobody uses the node: no tail, no link and no other call of
-// the processor names it.
-pub(crate) fn reset_flag(seat: &mut Right, domain: &Domain, own: NodeName, value: u64) -> u64
+// Resets a word of the node to come. Nobody uses the node: no tail, no link and no other call of the
+// processor names it.
+pub(crate) fn reset(
+    seat: &mut Right,
+    domain: &Domain,
+    _verb: Verb,
+    own: NodeName,
+    part: Part,
+    value: u64,
+) -> u64
     requires table { seat.old.table_id ≡ domain.now.table.shared.table_id }
     requires number { IsNumbered seat.old.me.0 }
     requires own { IsNode domain.now.plan own }
     requires value { value ≡ 0 }
-    requires row { AtEntry own seat.old.me.0 }
+    requires row { AtEntry own _verb seat.old.me.0 }
+    requires ready { part ≢ part_is.Flag → seat.old.me.0.calls.ready ≡ part_index part }
+    requires plan { seat.old.me.0.who.plan ≡ domain.now.plan }
     ensures same { (seat.new.table_id ≡ seat.old.table_id) × (seat.new.id ≡ seat.old.id) }
-    ensures step { Readies seat.old.me result seat.new.me }
+    ensures step { seat.new.me ≡ (readied_by part seat.old.me.0, seat.old.me.1) }
 {
-    let word = domain.flag_of(own);
+    let word = domain.node_of(own, part);
     let met = domain.table.shared.swap::<Resets>(seat, word, value);
     met
 }
 
-// Resets the link of the node to come, whose flag is reset, and takes the node.
-pub(crate) fn reset_next(seat: &mut Right, domain: &Domain, own: NodeName, value: u64) -> u64
+// Resets the last word of the node to come, whose other words are reset, and takes the node.
+pub(crate) fn enter(
+    seat: &mut Right,
+    domain: &Domain,
+    _verb: Verb,
+    own: NodeName,
+    part: Part,
+    value: u64,
+) -> u64
     requires table { seat.old.table_id ≡ domain.now.table.shared.table_id }
     requires number { IsNumbered seat.old.me.0 }
     requires own { IsNode domain.now.plan own }
     requires value { value ≡ 0 }
-    requires row { AtEntry own seat.old.me.0 }
-    requires ready { seat.old.me.0.calls.ready ≡ 1 }
+    requires row { AtEntry own _verb seat.old.me.0 }
+    requires last { is_last domain.now.plan.mode part ≡ true }
+    requires part { has_part domain.now.plan.mode part ≡ true }
+    requires ready { seat.old.me.0.calls.ready ≡ part_index part }
     ensures same { (seat.new.table_id ≡ seat.old.table_id) × (seat.new.id ≡ seat.old.id) }
     ensures step { Enters seat.old.me result seat.new.me }
 {
-    let word = domain.next_of(own);
+    let word = domain.node_of(own, part);
     let met = domain.table.shared.swap::<Entries>(seat, word, value);
     met
 }
 
 // Enters without a node, where four calls of the processor have theirs, by a look at the word of the
 // lock.
-pub(crate) fn enter_bare(seat: &mut Right, domain: &Domain, lock: u32) -> u64
+pub(crate) fn enter_bare(seat: &mut Right, domain: &Domain, _verb: Verb, lock: LockName) -> u64
     requires table { seat.old.table_id ≡ domain.now.table.shared.table_id }
     requires number { IsNumbered seat.old.me.0 }
-    requires lock { lock < locks_of domain.now.plan }
-    requires row { AtBare lock seat.old.me.0 }
+    requires lock { lock.index < locks_of domain.now.plan }
+    requires row { AtBare lock _verb seat.old.me.0 }
     ensures same { (seat.new.table_id ≡ seat.old.table_id) × (seat.new.id ≡ seat.old.id) }
     ensures step { Enters seat.old.me result seat.new.me }
 {
@@ -61,60 +88,188 @@ pub(crate) fn enter_bare(seat: &mut Right, domain: &Domain, lock: u32) -> u64
 
 // Links the own node behind the one before it, whose link is none: only the call that took the tail
 // from it stores there.
-pub(crate) fn link(seat: &mut Right, domain: &Domain, prev: NodeName, own: NodeName) -> u64
+pub(crate) fn link(
+    seat: &mut Right,
+    domain: &Domain,
+    _verb: Verb,
+    prev: NodeName,
+    own: NodeName,
+) -> u64
     requires table { seat.old.table_id ≡ domain.now.table.shared.table_id }
     requires number { IsNumbered seat.old.me.0 }
     requires prev { IsNode domain.now.plan prev }
     requires own { IsNode domain.now.plan own }
-    requires row { AtPrev prev own seat.old.me.0 }
+    requires row { AtPrev prev own _verb seat.old.me.0 }
     ensures same { (seat.new.table_id ≡ seat.old.table_id) × (seat.new.id ≡ seat.old.id) }
     ensures step { Links seat.old.me result seat.new.me }
 {
-    let word = domain.next_of(prev);
+    let word = domain.node_of(prev, Part::Next);
     let name = domain.name_of(own);
     let met = domain.table.shared.swap::<Linkings>(seat, word, name);
     met
 }
 
 // Looks at the own flag.
-pub(crate) fn look_flag(seat: &mut Right, domain: &Domain, own: NodeName) -> u64
+pub(crate) fn look_flag(seat: &mut Right, domain: &Domain, _verb: Verb, own: NodeName) -> u64
     requires table { seat.old.table_id ≡ domain.now.table.shared.table_id }
     requires number { IsNumbered seat.old.me.0 }
     requires own { IsNode domain.now.plan own }
-    requires row { AtOwn G6 own seat.old.me.0 }
+    requires row { AtOwn G6 own _verb seat.old.me.0 }
     ensures same { (seat.new.table_id ≡ seat.old.table_id) × (seat.new.id ≡ seat.old.id) }
     ensures step { SeesFlag seat.old.me result seat.new.me }
 {
-    let word = domain.flag_of(own);
+    let word = domain.node_of(own, Part::Flag);
     let met = domain.table.shared.load::<FlagLooks>(seat, word);
     met
 }
 
 // Looks at the own link.
-pub(crate) fn look_next(seat: &mut Right, domain: &Domain, own: NodeName) -> u64
+pub(crate) fn look_next(seat: &mut Right, domain: &Domain, _verb: Verb, own: NodeName) -> u64
     requires table { seat.old.table_id ≡ domain.now.table.shared.table_id }
     requires number { IsNumbered seat.old.me.0 }
     requires own { IsNode domain.now.plan own }
-    requires row { AtOwn G10 own seat.old.me.0 }
+    requires row { AtLink own _verb seat.old.me.0 }
     ensures same { (seat.new.table_id ≡ seat.old.table_id) × (seat.new.id ≡ seat.old.id) }
     ensures step { SeesLink seat.old.me result seat.new.me }
 {
-    let word = domain.next_of(own);
+    let word = domain.node_of(own, Part::Next);
     let met = domain.table.shared.load::<LinkLooks>(seat, word);
     met
 }
 
 // Hands the lead on, to a call that waits on its flag, which is unset: only the first of the queue
 // stores there.
-pub(crate) fn hand(seat: &mut Right, domain: &Domain, to: NodeName) -> u64
+pub(crate) fn hand(seat: &mut Right, domain: &Domain, _verb: Verb, to: NodeName, flag: Flag) -> u64
     requires table { seat.old.table_id ≡ domain.now.table.shared.table_id }
     requires number { IsNumbered seat.old.me.0 }
     requires to { IsNode domain.now.plan to }
-    requires row { AtNext to seat.old.me.0 }
+    requires flag { IsFlagNode domain.now.plan flag }
+    requires row { AtNext to flag _verb seat.old.me.0 }
     ensures same { (seat.new.table_id ≡ seat.old.table_id) × (seat.new.id ≡ seat.old.id) }
     ensures step { Hands seat.old.me result seat.new.me }
 {
-    let word = domain.flag_of(to);
-    let met = domain.table.shared.swap::<Handovers>(seat, word, 1);
+    let word = domain.node_of(to, Part::Flag);
+    let told = domain.flag_of(flag);
+    let met = domain.table.shared.swap::<Handovers>(seat, word, told);
+    met
+}
+
+// Cuts the link of the last that was passed over.
+pub(crate) fn cut(seat: &mut Right, domain: &Domain, _verb: Verb, node: NodeName) -> u64
+    requires table { seat.old.table_id ≡ domain.now.table.shared.table_id }
+    requires number { IsNumbered seat.old.me.0 }
+    requires node { IsNode domain.now.plan node }
+    requires row { AtCut node _verb seat.old.me.0 }
+    ensures same { (seat.new.table_id ≡ seat.old.table_id) × (seat.new.id ≡ seat.old.id) }
+    ensures step { Names seat.old.me result seat.new.me }
+{
+    let word = domain.node_of(node, Part::Next);
+    let met = domain.table.shared.swap::<Namings>(seat, word, 0);
+    met
+}
+
+// Links a node behind the last of the second queue.
+pub(crate) fn append(
+    seat: &mut Right,
+    domain: &Domain,
+    _verb: Verb,
+    node: NodeName,
+    next: NodeName,
+) -> u64
+    requires table { seat.old.table_id ≡ domain.now.table.shared.table_id }
+    requires number { IsNumbered seat.old.me.0 }
+    requires node { IsNode domain.now.plan node }
+    requires next { IsNode domain.now.plan next }
+    requires row { AtAppend node next _verb seat.old.me.0 }
+    ensures same { (seat.new.table_id ≡ seat.old.table_id) × (seat.new.id ≡ seat.old.id) }
+    ensures step { Names seat.old.me result seat.new.me }
+{
+    let word = domain.node_of(node, Part::Next);
+    let name = domain.name_of(next);
+    let met = domain.table.shared.swap::<Namings>(seat, word, name);
+    met
+}
+
+// Stores the last of the second queue into the node of its first.
+pub(crate) fn set_tail(
+    seat: &mut Right,
+    domain: &Domain,
+    _verb: Verb,
+    node: NodeName,
+    tail: NodeName,
+) -> u64
+    requires table { seat.old.table_id ≡ domain.now.table.shared.table_id }
+    requires number { IsNumbered seat.old.me.0 }
+    requires node { IsNode domain.now.plan node }
+    requires tail { IsNode domain.now.plan tail }
+    requires row { AtNewTail node tail _verb seat.old.me.0 }
+    ensures same { (seat.new.table_id ≡ seat.old.table_id) × (seat.new.id ≡ seat.old.id) }
+    ensures step { Names seat.old.me result seat.new.me }
+{
+    let word = domain.node_of(node, Part::SecondTail);
+    let name = domain.name_of(tail);
+    let met = domain.table.shared.swap::<Namings>(seat, word, name);
+    met
+}
+
+// Looks at the last of the second queue, in the node of its first.
+pub(crate) fn look_tail(seat: &mut Right, domain: &Domain, _verb: Verb, node: NodeName) -> u64
+    requires table { seat.old.table_id ≡ domain.now.table.shared.table_id }
+    requires number { IsNumbered seat.old.me.0 }
+    requires node { IsNode domain.now.plan node }
+    requires row { AtTail node _verb seat.old.me.0 }
+    ensures same { (seat.new.table_id ≡ seat.old.table_id) × (seat.new.id ≡ seat.old.id) }
+    ensures step { SeesTail seat.old.me result seat.new.me }
+{
+    let word = domain.node_of(node, Part::SecondTail);
+    let met = domain.table.shared.load::<TailLooks>(seat, word);
+    met
+}
+
+// Looks at the link of the last that was passed over.
+pub(crate) fn look_on(seat: &mut Right, domain: &Domain, _verb: Verb, node: NodeName) -> u64
+    requires table { seat.old.table_id ≡ domain.now.table.shared.table_id }
+    requires number { IsNumbered seat.old.me.0 }
+    requires node { IsNode domain.now.plan node }
+    requires row { AtSkipped node _verb seat.old.me.0 }
+    ensures same { (seat.new.table_id ≡ seat.old.table_id) × (seat.new.id ≡ seat.old.id) }
+    ensures step { SeesLink seat.old.me result seat.new.me }
+{
+    let word = domain.node_of(node, Part::Next);
+    let met = domain.table.shared.load::<LinkLooks>(seat, word);
+    met
+}
+
+// Reads the count of handovers in the own node, where only the one that hands the lead over stores.
+pub(crate) fn look_runs(seat: &mut Right, domain: &Domain, _verb: Verb, own: NodeName) -> u64
+    requires table { seat.old.table_id ≡ domain.now.table.shared.table_id }
+    requires number { IsNumbered seat.old.me.0 }
+    requires own { IsNode domain.now.plan own }
+    requires row { AtOwnRuns own _verb seat.old.me.0 }
+    ensures same { (seat.new.table_id ≡ seat.old.table_id) × (seat.new.id ≡ seat.old.id) }
+    ensures step { Counted seat.old.me result seat.new.me }
+{
+    let word = domain.node_of(own, Part::Runs);
+    let met = domain.table.shared.load::<RunsLooks>(seat, word);
+    met
+}
+
+// Stores the count of handovers into the node of the next.
+pub(crate) fn set_runs(
+    seat: &mut Right,
+    domain: &Domain,
+    _verb: Verb,
+    to: NodeName,
+    runs: u32,
+) -> u64
+    requires table { seat.old.table_id ≡ domain.now.table.shared.table_id }
+    requires number { IsNumbered seat.old.me.0 }
+    requires to { IsNode domain.now.plan to }
+    requires row { AtRuns to runs _verb seat.old.me.0 }
+    ensures same { (seat.new.table_id ≡ seat.old.table_id) × (seat.new.id ≡ seat.old.id) }
+    ensures step { Tells seat.old.me result seat.new.me }
+{
+    let word = domain.node_of(to, Part::Runs);
+    let met = domain.table.shared.swap::<Counts>(seat, word, runs as u64);
     met
 }

@@ -1,5 +1,6 @@
 // What a processor notes of its calls and its locks.
-ghost use Rattle.std.specs.Prelude.{◌≡◌, ◌<◌, ◌∷◌, List, length, false, slice_index_or, slice_set};
+ghost use Rattle.std.specs.Prelude.{◌≡◌, ◌<◌, ◌∷◌, not, List, length, false};
+ghost use Rattle.std.specs.Prelude.{slice_index_or, slice_set};
 ghost use Rattle.lk_domain.specs.Calls.{Calls, Running, no_calls, holds_in, waits_in, slow_in};
 ghost use Rattle.lk_domain.specs.Marked.{IsNoted, Steps};
 
@@ -55,6 +56,25 @@ impl Notes {
             self.step_waiting(lock, waits, slow, taken);
         } else if taken {
             self.held[lock as usize] = true;
+        }
+    }
+
+    // A new call for the lock, for which none waited, has made its first row: it has taken the lock,
+    // or it waits, and not yet in the slow path. Nothing is read where it has the lock: a load there
+    // would wait for the exchange.
+    #[inline]
+    pub(crate) fn first_step(&mut self, lock: u32, taken: bool)
+        requires lock { lock < 32 }
+        requires fresh { slice_index_or self.old.waiting lock false ≡ false }
+        requires steps { (c : Calls) × (d : Calls) × IsNoted self.old c
+            × Steps c d lock (not taken) false taken }
+        ensures { (c : Calls) (d : Calls) → IsNoted self.old c
+            → Steps c d lock (not taken) false taken → IsNoted self.new d }
+    {
+        if taken {
+            self.held[lock as usize] = true;
+        } else {
+            self.step_waiting(lock, true, false, false);
         }
     }
 

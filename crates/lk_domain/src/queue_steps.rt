@@ -1,57 +1,63 @@
 // The steps of a processor in the queue of a lock: on the word of the lock, and on the words of
 // nodes, by its newest call.
-ghost use Rattle.std.specs.Prelude.{◌≡◌, ◌≢◌, ◌<◌, false, None};
-ghost use Rattle.lk_machine.specs.declared.parts.Flag.TheVariants.{Unset, Go};
-ghost use Rattle.lk_machine.specs.declared.setup.Verb.TheVariants.{Lock};
+ghost use Rattle.std.specs.Prelude.{◌≡◌, ◌≢◌, ◌<◌, false, true, None};
+ghost use Rattle.lk_machine.specs.declared.parts.Flag.TheVariants.{Unset};
 ghost use Rattle.lk_law.specs.Leads.{Number, Flagged, Named};
 ghost use Rattle.lk_domain.specs.Calls.{slows};
-ghost use Rattle.lk_domain.specs.NodePlays.{AtOwn, AtPrev, AtNext, AtEntry, AtBare, looks_at, readied};
+ghost use Rattle.lk_domain.specs.NodePlays.{AtPrev, AtNext, AtEntry, AtBare, LooksAt, readied_by};
+ghost use Rattle.lk_domain.specs.NodePlays.{IsFlagNode};
 ghost use Rattle.lk_domain.specs.NodeSeats.{Went, FlagSeen, LinkSeen};
 ghost use Rattle.lk_domain.specs.Plans.{locks_of};
-ghost use Rattle.lk_domain.specs.Plays.{Acts, ActsAs, IsWord};
+ghost use Rattle.lk_domain.specs.Plays.{ActsIn, ActsAs, IsWord};
 ghost use Rattle.lk_domain.specs.Rows.{arrives_by, soles_by, stakes_by};
 ghost use Rattle.lk_domain.specs.Seats.{IsOf, KeepsRest, Made, calls_of, view_of};
-ghost use Rattle.lk_domain.specs.Words.{IsNode};
+ghost use Rattle.lk_domain.specs.Words.{IsNode, part_index, has_part, is_last};
 ghost use Rattle.lk_domain.specs.declared.part.Part.TheVariants as part_is;
 
 use crate::cpu::Cpu;
 use crate::domain::Domain;
 use crate::part::Part;
+use crate::verbs::queues_up;
 use crate::{moves, node_moves};
 use lk_abs::LockName;
 use lk_machine::{Flag, Verb};
 use lk_word::NodeName;
 
-// Resets the link of the node to come: the call enters the slow path with it.
-fn enter(cpu: &mut Cpu, domain: &Domain, own: NodeName, value: u64) -> u64
+// Resets the last word of the node to come: the call enters the slow path with it.
+fn enter(cpu: &mut Cpu, domain: &Domain, verb: Verb, own: NodeName, part: Part, value: u64) -> u64
     requires domain { IsOf cpu.old domain.now }
     requires own { IsNode domain.now.plan own }
     requires value { value ≡ 0 }
-    requires row { AtEntry own (view_of cpu.old) }
-    requires ready { (calls_of cpu.old).ready ≡ 1 }
+    requires row { AtEntry own verb (view_of cpu.old) }
+    requires last { is_last domain.now.plan.mode part ≡ true }
+    requires part { has_part domain.now.plan.mode part ≡ true }
+    requires ready { (calls_of cpu.old).ready ≡ part_index part }
     ensures rest { KeepsRest cpu.old cpu.new }
     ensures row { Went (Number (slows (calls_of cpu.old).frames)) cpu.old cpu.new }
 {
     let lock = cpu.notes.newest();
-    let met = node_moves::reset_next(&mut cpu.seat, domain, own, value);
+    let met = node_moves::enter(&mut cpu.seat, domain, verb, own, part, value);
     cpu.notes.step(lock, true, true, false);
     met
 }
 
-// Resets the flag of the node to come.
-fn reset(cpu: &mut Cpu, domain: &Domain, own: NodeName, value: u64) -> u64
+// Resets another word of the node to come.
+fn reset(cpu: &mut Cpu, domain: &Domain, verb: Verb, own: NodeName, part: Part, value: u64) -> u64
     requires domain { IsOf cpu.old domain.now }
     requires own { IsNode domain.now.plan own }
     requires value { value ≡ 0 }
-    requires row { AtEntry own (view_of cpu.old) }
+    requires row { AtEntry own verb (view_of cpu.old) }
+    requires ready { part ≢ part_is.Flag → (calls_of cpu.old).ready ≡ part_index part }
     ensures rest { KeepsRest cpu.old cpu.new }
-    ensures flag { view_of cpu.new ≡ readied (view_of cpu.old) }
+    ensures reset { view_of cpu.new ≡ readied_by part (view_of cpu.old) }
 {
-    node_moves::reset_flag(&mut cpu.seat, domain, own, value)
+    node_moves::reset(&mut cpu.seat, domain, verb, own, part, value)
 }
 
-/// Resets a word of the node that the newest call gets next, its flag before its link, and gives
-/// the number that it met. The link makes the row G1: the call then has the node.
+/// Resets a word of the node that the newest call gets next, and gives the number that it met. The
+/// words are reset in the order of `Part`, as many as a node has in a domain of this family: where
+/// waiters are moved aside four, and else the flag and the link. The last of them makes the row G1:
+/// the call then has the node.
 pub fn private_store(
     cpu: &mut Cpu,
     domain: &Domain,
@@ -61,19 +67,21 @@ pub fn private_store(
     value: u64,
 ) -> u64
     requires domain { IsOf cpu.old domain.now }
-    requires verb { verb ≡ Lock }
     requires own { IsNode domain.now.plan own }
     requires value { value ≡ 0 }
-    requires row { AtEntry own (view_of cpu.old) }
-    requires ready { part ≡ part_is.Next → (calls_of cpu.old).ready ≡ 1 }
+    requires row { AtEntry own verb (view_of cpu.old) }
+    requires part { has_part domain.now.plan.mode part ≡ true }
+    requires ready { part ≢ part_is.Flag → (calls_of cpu.old).ready ≡ part_index part }
     ensures rest { KeepsRest cpu.old cpu.new }
-    ensures flag { part ≡ part_is.Flag → view_of cpu.new ≡ readied (view_of cpu.old) }
-    ensures row { part ≡ part_is.Next
+    ensures reset { is_last domain.now.plan.mode part ≡ false
+        → view_of cpu.new ≡ readied_by part (view_of cpu.old) }
+    ensures row { is_last domain.now.plan.mode part ≡ true
         → Went (Number (slows (calls_of cpu.old).frames)) cpu.old cpu.new }
 {
-    match part {
-        Part::Flag => reset(cpu, domain, own, value),
-        Part::Next => enter(cpu, domain, own, value),
+    if part.is_last(domain.mode()) {
+        enter(cpu, domain, verb, own, part, value)
+    } else {
+        reset(cpu, domain, verb, own, part, value)
     }
 }
 
@@ -81,15 +89,13 @@ pub fn private_store(
 /// gets no node.
 pub fn enter_bare(cpu: &mut Cpu, domain: &Domain, verb: Verb, lock: LockName) -> u64
     requires domain { IsOf cpu.old domain.now }
-    requires verb { verb ≡ Lock }
     requires lock { lock.index < locks_of domain.now.plan }
-    requires plain { lock.wait ≡ false }
-    requires row { AtBare lock.index (view_of cpu.old) }
+    requires row { AtBare lock verb (view_of cpu.old) }
     ensures rest { KeepsRest cpu.old cpu.new }
     ensures row { Went (Number (slows (calls_of cpu.old).frames)) cpu.old cpu.new }
 {
     prove!(domain.plan.locks.len() <= 32);
-    let met = node_moves::enter_bare(&mut cpu.seat, domain, lock.index);
+    let met = node_moves::enter_bare(&mut cpu.seat, domain, verb, lock);
     cpu.notes.step(lock.index, true, true, false);
     met
 }
@@ -98,49 +104,50 @@ pub fn enter_bare(cpu: &mut Cpu, domain: &Domain, verb: Verb, lock: LockName) ->
 /// met, which is that of no node. This is the row G5.
 pub fn link(cpu: &mut Cpu, domain: &Domain, verb: Verb, prev: NodeName, own: NodeName) -> u64
     requires domain { IsOf cpu.old domain.now }
-    requires verb { verb ≡ Lock }
     requires prev { IsNode domain.now.plan prev }
     requires own { IsNode domain.now.plan own }
-    requires row { AtPrev prev own (view_of cpu.old) }
+    requires row { AtPrev prev own verb (view_of cpu.old) }
     ensures rest { KeepsRest cpu.old cpu.new }
     ensures met { result ≡ 0 }
     ensures row { Went (Named None) cpu.old cpu.new }
 {
-    node_moves::link(&mut cpu.seat, domain, prev, own)
+    node_moves::link(&mut cpu.seat, domain, verb, prev, own)
 }
 
-/// Looks at a word of the own node of the newest call, and gives its number. These are the rows G6
-/// and G10.
+/// Looks at a word of the own node of the newest call, and gives its number. These are the rows G6,
+/// G10 and C1; before C1 the call has read the count of handovers in its node.
 pub fn look_own(cpu: &mut Cpu, domain: &Domain, verb: Verb, own: NodeName, part: Part) -> u64
     requires domain { IsOf cpu.old domain.now }
-    requires verb { verb ≡ Lock }
     requires own { IsNode domain.now.plan own }
-    requires row { AtOwn (looks_at part) own (view_of cpu.old) }
+    requires row { LooksAt part own verb (view_of cpu.old) }
     ensures rest { KeepsRest cpu.old cpu.new }
     ensures flag { part ≡ part_is.Flag → FlagSeen cpu.old result cpu.new }
     ensures next { part ≡ part_is.Next → LinkSeen cpu.old result cpu.new }
 {
     match part {
-        Part::Flag => node_moves::look_flag(&mut cpu.seat, domain, own),
-        Part::Next => node_moves::look_next(&mut cpu.seat, domain, own),
+        Part::Flag => node_moves::look_flag(&mut cpu.seat, domain, verb, own),
+        Part::Next => node_moves::look_next(&mut cpu.seat, domain, verb, own),
+        Part::SecondTail | Part::Runs => unreachable!(),
     }
 }
 
-/// Hands the lead of the newest call on to the one with this node, by which the call has its lock,
-/// and gives the number that it met, which is that of an unset flag. This is the row G11.
+/// Hands the lead of the newest call on to the one with this node, by which the call has its lock or
+/// its wait lock, and gives the number that it met, which is that of an unset flag. These are the
+/// rows G11, where the flag is `Go`, and C8, where it names the first of the second queue, if there is
+/// one.
 pub fn hand(cpu: &mut Cpu, domain: &Domain, verb: Verb, to: NodeName, flag: Flag) -> u64
     requires domain { IsOf cpu.old domain.now }
-    requires verb { verb ≡ Lock }
     requires to { IsNode domain.now.plan to }
-    requires flag { flag ≡ Go }
-    requires row { AtNext to (view_of cpu.old) }
+    requires flag { IsFlagNode domain.now.plan flag }
+    requires row { AtNext to flag verb (view_of cpu.old) }
     ensures rest { KeepsRest cpu.old cpu.new }
     ensures met { result ≡ 0 }
     ensures row { Went (Flagged Unset) cpu.old cpu.new }
 {
     let lock = cpu.notes.newest();
-    let met = node_moves::hand(&mut cpu.seat, domain, to);
-    cpu.notes.step(lock, false, false, true);
+    let met = node_moves::hand(&mut cpu.seat, domain, verb, to, flag);
+    let goes_on = queues_up(verb);
+    cpu.notes.step(lock, goes_on, false, !goes_on);
     met
 }
 
@@ -157,15 +164,14 @@ pub fn exchange_tail(
 ) -> u64
     requires domain { IsOf cpu.old domain.now }
     requires lock { lock.index < locks_of domain.now.plan }
-    requires plain { lock.wait ≡ false }
     requires own { IsNode domain.now.plan own }
-    requires row { ActsAs (arrives_by verb) (view_of cpu.old) verb lock.index own }
+    requires row { ActsAs (arrives_by verb) (view_of cpu.old) verb lock own }
     ensures rest { KeepsRest cpu.old cpu.new }
     ensures step { result ≡ met → Made verb lock.index cpu.old result cpu.new }
     ensures stands { result ≢ met → view_of cpu.new ≡ view_of cpu.old }
     ensures word { IsWord domain.now.plan result }
 {
-    moves::exchange_tail(&mut cpu.seat, domain, lock.index, met, own)
+    moves::exchange_tail(&mut cpu.seat, domain, verb, lock, met, own)
 }
 
 /// Takes the free lock and empties its queue, where the own node is alone in it, and gives the word
@@ -173,17 +179,18 @@ pub fn exchange_tail(
 pub fn sole_claim(cpu: &mut Cpu, domain: &Domain, verb: Verb, lock: LockName, own: NodeName) -> u64
     requires domain { IsOf cpu.old domain.now }
     requires lock { lock.index < locks_of domain.now.plan }
-    requires plain { lock.wait ≡ false }
     requires own { IsNode domain.now.plan own }
-    requires row { ActsAs (soles_by verb) (view_of cpu.old) verb lock.index own }
+    requires row { ActsAs (soles_by verb) (view_of cpu.old) verb lock own }
     ensures rest { KeepsRest cpu.old cpu.new }
     ensures step { Made verb lock.index cpu.old result cpu.new }
 {
     prove!(domain.plan.locks.len() <= 32);
     let alone = domain.tail_of(own);
-    let met = moves::sole_claim(&mut cpu.seat, domain, lock.index, own);
+    let met = moves::sole_claim(&mut cpu.seat, domain, verb, lock, own);
+    let goes_on = queues_up(verb);
     let takes = met == alone;
-    cpu.notes.step(lock.index, !takes, !takes, takes);
+    cpu.notes
+        .step(lock.index, goes_on | !takes, !takes, !goes_on & takes);
     met
 }
 
@@ -191,10 +198,9 @@ pub fn sole_claim(cpu: &mut Cpu, domain: &Domain, verb: Verb, lock: LockName, ow
 pub fn set_locked(cpu: &mut Cpu, domain: &Domain, verb: Verb, lock: LockName) -> u64
     requires domain { IsOf cpu.old domain.now }
     requires lock { lock.index < locks_of domain.now.plan }
-    requires plain { lock.wait ≡ false }
-    requires row { Acts (stakes_by verb) (view_of cpu.old) verb lock.index }
+    requires row { ActsIn (stakes_by verb) (view_of cpu.old) verb lock }
     ensures rest { KeepsRest cpu.old cpu.new }
     ensures step { Made verb lock.index cpu.old result cpu.new }
 {
-    moves::set_locked(&mut cpu.seat, domain, lock.index)
+    moves::set_locked(&mut cpu.seat, domain, verb, lock)
 }

@@ -1,12 +1,15 @@
 // The rule of a domain's table, and what its steps tell.
 ghost use Rattle.lk_domain.specs.Calls.{no_calls};
 ghost use Rattle.lk_domain.specs.Ledgers.{no_ledger};
-ghost use Rattle.lk_domain.specs.NodePlays.{Readies, Enters, Links, SeesFlag, SeesLink, Hands};
-ghost use Rattle.lk_domain.specs.Plays.{Makes, Swaps, Draws, Loads, Sees, TakesJournal, Stores, Brings};
+ghost use Rattle.lk_domain.specs.NodePlays.{Readies, Enters, Links, SeesFlag, SeesLink, Hands, Names};
+ghost use Rattle.lk_domain.specs.NodePlays.{Counted, Tells, SeesTail};
+ghost use Rattle.lk_domain.specs.Plays.{Makes, WentBy, Swaps, Draws, Loads, Sees, TakesJournal, Stores, Brings};
+ghost use Rattle.lk_domain.specs.RwPlays.{Shares};
 ghost use Rattle.lk_domain.specs.Stand.{Stand};
 ghost use Rattle.lk_domain.specs.Views.{view, dealer, newcomer, nobody, own_number, joined};
 ghost use Rattle.lk_domain.specs.Views.{with_more};
-ghost use Rattle.lk_machine.specs.declared.setup.Verb.TheVariants.{Lock, Try, Unlock};
+ghost use Rattle.lk_machine.specs.declared.setup.Verb.TheVariants.{Lock, Try, Unlock, Read, TryRead};
+ghost use Rattle.lk_machine.specs.declared.setup.Verb.TheVariants.{RUnlock, Write, TryWrite, WUnlock};
 
 use crate::journal::Journal;
 use crate::plan::Plan;
@@ -42,18 +45,67 @@ impl Play<Option<Journal>, View> for Unlocks {
     ghost then = { Makes Unlock };
 }
 
-// An exchange of a lock's whole word by a call of `lock`, which may be tried again.
+// A step on the word of a spinlock or a wait lock, by a call that goes on.
+pub struct WordSteps;
+
+impl Play<Option<Journal>, View> for WordSteps {
+    ghost then = { λ _. WentBy };
+}
+
+// An exchange of such a whole word, which may be tried again.
 pub struct Exchanges;
 
 impl Play<Option<Journal>, View> for Exchanges {
-    ghost then = { Swaps Lock };
+    ghost then = { Swaps };
 }
 
-// The flag of the node to come is reset.
+// A step on a reader-writer lock's word by a call of `read_lock`.
+pub struct ReadCalls;
+
+impl Play<Option<Journal>, View> for ReadCalls {
+    ghost then = { Shares Read };
+}
+
+// A step on a reader-writer lock's word by a call of `try_read`.
+pub struct TryReadCalls;
+
+impl Play<Option<Journal>, View> for TryReadCalls {
+    ghost then = { Shares TryRead };
+}
+
+// A step on a reader-writer lock's word by a call of `read_unlock`.
+pub struct ReadUnlockCalls;
+
+impl Play<Option<Journal>, View> for ReadUnlockCalls {
+    ghost then = { Shares RUnlock };
+}
+
+// A step on a reader-writer lock's word by a call of `write_lock`.
+pub struct WriteCalls;
+
+impl Play<Option<Journal>, View> for WriteCalls {
+    ghost then = { Shares Write };
+}
+
+// A step on a reader-writer lock's word by a call of `try_write`.
+pub struct TryWriteCalls;
+
+impl Play<Option<Journal>, View> for TryWriteCalls {
+    ghost then = { Shares TryWrite };
+}
+
+// A step on a reader-writer lock's word by a call of `write_unlock`.
+pub struct WriteUnlockCalls;
+
+impl Play<Option<Journal>, View> for WriteUnlockCalls {
+    ghost then = { Shares WUnlock };
+}
+
+// A word of the node to come is reset.
 pub struct Resets;
 
 impl Play<Option<Journal>, View> for Resets {
-    ghost then = { λ _. Readies };
+    ghost then = { Readies };
 }
 
 // A call enters the slow path.
@@ -89,6 +141,34 @@ pub struct Handovers;
 
 impl Play<Option<Journal>, View> for Handovers {
     ghost then = { λ _. Hands };
+}
+
+// A front looks at the last of the second queue.
+pub struct TailLooks;
+
+impl Play<Option<Journal>, View> for TailLooks {
+    ghost then = { λ _. SeesTail };
+}
+
+// A front that chooses the next reads its count of handovers.
+pub struct RunsLooks;
+
+impl Play<Option<Journal>, View> for RunsLooks {
+    ghost then = { λ _. Counted };
+}
+
+// It tells the next how many there were.
+pub struct Counts;
+
+impl Play<Option<Journal>, View> for Counts {
+    ghost then = { λ _. Tells };
+}
+
+// A front stores the name of a node into a word of another's.
+pub struct Namings;
+
+impl Play<Option<Journal>, View> for Namings {
+    ghost then = { λ _. Names };
 }
 
 // The first seat draws a number.

@@ -1,25 +1,35 @@
 -- Who holds lock 0 alone is one seat; and a step on a word of the ledger leaves the machine part.
 use Rattle.std.proofs.Common.{◌≡◌, ◌≢◌, ◌⊎◌, inl, inr, ⊎_elim, ℕ, ◌+◌, ◌*◌, ◌<◌, ◌≤◌, List, set, get_or, Option, Some}
-use Rattle.std.proofs.Common.{None, refl, sym, ap, ◌∙◌, subst, arith, length-set, get_or-set_other}
+use Rattle.std.proofs.Common.{None, true, false, refl, sym, ap, ◌∙◌, subst, arith, length-set, get_or-set_other}
 use mathlib.Core.Option.{Option as Maybe, some, some-injective}
 use lib.ListN.{get_elem?}
 use Rattle.atomic_table.specs.Table.{State}
 use Rattle.lk_abs.specs.declared.names.Waiter.{Waiter}
+use Rattle.lk_abs.specs.History.{LockHistory}
+use Rattle.lk_abs.specs.declared.holder.Manner.{Manner}
+use Rattle.lk_abs.specs.declared.holder.Manner.TheVariants.{Spins, Reads, Writes}
+use Rattle.lk_abs.specs.declared.names.Kind.{Kind}
+use Rattle.lk_abs.specs.declared.names.Kind.TheVariants.{Spin, Rw}
+use Rattle.lk_abs.specs.declared.names.LockName.{LockName}
+use Rattle.lk_law.specs.SoundWorld.{IsSoundWorld, is_rw, is_rw_name}
+use Rattle.lk_law.specs.World.{World}
 use Rattle.lk_law.proofs.running.Holds.{holder_is_one}
 use Rattle.lk_domain.specs.Calls.{Calls, no_calls, lock_name}
-use Rattle.lk_domain.specs.Keeps.{Slot, any_count, sole_count, holds_first, alone_first, Keeps, AtHome, Away}
+use Rattle.lk_domain.specs.Keeps.{Slot, any_count, sole_count, is_sole, holds_first, Keeps, AtHome, Away}
 use Rattle.lk_domain.specs.Ledgers.{Out}
 use Rattle.lk_domain.specs.Plans.{locks_of}
 use Rattle.lk_domain.specs.Runs.{Runs, SeatFits, waiter}
 use Rattle.lk_domain.specs.Stand.{Stand}
 use Rattle.lk_domain.specs.Views.{IsNumbered}
-use Rattle.lk_domain.specs.Words.{lock_at, flag_at, next_at}
+use Rattle.lk_domain.specs.Words.{node_at}
 use Rattle.lk_domain.specs.declared.plan.Plan.{Plan}
 use Rattle.lk_domain.specs.declared.view.View.{View}
-use Rattle.lk_domain.proofs.ledger.Held.{any_some, sole_any}
-use Rattle.lk_domain.proofs.Lands as lands
+use Rattle.lk_domain.proofs.ledger.Held.{any_some, sole_le, sole_some}
+use Rattle.lk_domain.proofs.words.Locks.{IsApart, locks_else, same_locks}
+use Rattle.lk_domain.proofs.Manners.{held_spun}
+use Rattle.lk_domain.proofs.rows.Lands as lands
 use Rattle.lk_domain.proofs.Stacks.{holder_of}
-use Rattle.lk_domain.proofs.Totals.{apart}
+use Rattle.lk_domain.proofs.seats.Totals.{apart}
 
 -- a seat with a lock has a number
 pub has_lock : (k : Plan) (s : State Slot View) (ok : Runs k s) (i : ℕ) (v : View)
@@ -32,26 +42,47 @@ has_lock k s ok i v at has = at_number v.who.number refl
         absurd (omega (arith, has, ap (λ (c : Calls). any_count c.holds) q))
     at_number (Some q) e = (q, e)
 
--- two seats that hold it are one
-pub one_seat : (k : Plan) (s : State Slot View) (ok : Runs k s) (i j : ℕ) (v u : View)
-    → get_elem? s.views i ≡ some v → get_elem? s.views j ≡ some u → 1 ≤ any_count v.calls.holds
+-- who holds it alone, and another that holds it, are one
+pub alone_seat : (k : Plan) (s : State Slot View) (ok : Runs k s) (i j : ℕ) (v u : View)
+    → get_elem? s.views i ≡ some v → get_elem? s.views j ≡ some u → 1 ≤ sole_count v.calls.holds
     → 1 ≤ any_count u.calls.holds → j ≡ i
-one_seat k s ok i j v u a b hv hu =
-    let n = has_lock k s ok i v a hv in
+alone_seat k s ok i j v u a b hv hu =
+    let n = has_lock k s ok i v a (let z = sole_le v.calls.holds in omega (arith, hv, z)) in
     let q = has_lock k s ok j u b hu in
     let x : SeatFits ok.world n.0 v.calls = ok.seats i v n.0 a n.1 in
     let y : SeatFits ok.world q.0 u.calls = ok.seats j u q.0 b q.1 in
-    let d = holder_of v.calls.holds 0 x.spun (any_some v.calls.holds hv) in
-    let e = holder_of u.calls.holds 0 y.spun (any_some u.calls.holds hu) in
-    let same : waiter n.0 d.0 ≡ waiter q.0 e.0 =
-    holder_is_one ok.world _ (lock_name 0) (waiter n.0 d.0) (waiter q.0 e.0) ok.sound.spins
-    (x.mirrors.holds d.0 (lock_name 0) ∙ d.1) (y.mirrors.holds e.0 (lock_name 0) ∙ e.1) in
+    let d = sole_some ok.world.kind v.calls.holds x.held hv in
+    let e = holder_of u.calls.holds 0 (any_some u.calls.holds hu) in
+    let same = one_holder ok.world ok.histories ok.sound 0 (waiter n.0 d.0) (waiter q.0 e.0) d.1 e.1 d.3
+    (x.mirrors.holds d.0 (lock_name 0) ∙ d.2) (y.mirrors.holds e.0 (lock_name 0) ∙ e.2)
+    (λ off. (
+      x.mirrors.holds d.0 (lock_name 0) ∙ held_spun ok.world.kind v.calls.holds d.0 (lock_name 0) d.1 x.held off d.2,
+      y.mirrors.holds e.0 (lock_name 0) ∙ held_spun ok.world.kind u.calls.holds e.0 (lock_name 0) e.1 y.held off e.2,
+    )) in
     apart s.views (get_or s.words 0 0) ok.once i j v u n.0 a b n.1 (q.1 ∙ ap (λ (z : Waiter). Some z.cpu) (sym same))
+  where
+    only_writes : (m : Manner) → is_sole m ≡ true → m ≢ Spins → m ≡ Writes
+    only_writes Spins h ne = absurd (ne refl)
+    only_writes Reads h ne = cc h
+    only_writes Writes h ne = refl
 
--- while all locks are spinlocks, who holds it holds it alone
-pub sole_is_any : (k : Plan) (s : State Slot View) (ok : Runs k s) (i : ℕ) (v : View)
-    → get_elem? s.views i ≡ some v → IsNumbered v → sole_count v.calls.holds ≡ any_count v.calls.holds
-sole_is_any k s ok i v at n = sole_any v.calls.holds (ok.seats i v n.0 at n.1).spun
+    by_kind : (m : World) (l : ℕ) (o : Kind) → m.kind l ≡ o → (is_rw_name m.kind (lock_name l) ≡ false) ⊎ (m.kind l ≡ Rw)
+    by_kind m l Spin e = inl (ap is_rw e)
+    by_kind m l Rw e = inr e
+
+    one_holder : (m : World) (hs : LockName → LockHistory) → IsSoundWorld m hs → (l : ℕ) (w o : Waiter) (a b : Manner)
+        → is_sole a ≡ true → m.held w (lock_name l) ≡ Some a → m.held o (lock_name l) ≡ Some b
+        → (is_rw_name m.kind (lock_name l) ≡ false
+        → (m.held w (lock_name l) ≡ Some Spins) × (m.held o (lock_name l) ≡ Some Spins))
+        → w ≡ o
+    one_holder m hs ok l w o a b sole has other spun =
+        elim (by_kind m l (m.kind l) refl) [
+          | inl off ↦ let z = spun off in holder_is_one m _ (lock_name l) w o ok.spins z.0 z.1
+          | inr rw ↦
+              let holds = (ok.rws l rw).holds in
+              let writes : a ≡ Writes = only_writes a sole (λ e. holds.unspun w (has ∙ ap Some e)) in
+              sym (holds.alone w o b (has ∙ ap Some writes) other)
+        ]
 
 pub some_out : (o : Option Out) → (o ≡ None) ⊎ ((x : Out) × (o ≡ Some x))
 some_out None = inl refl
@@ -66,24 +97,11 @@ module _ (k : Plan) (s : State Slot View) (both : Stand k s) (id : ℕ) (v : Vie
   abbrev kp : Keeps k s
   kp = both.keeps
 
-  -- a seat that has the journal out holds lock 0
-  pub with_lock : (j : ℕ) (u : View) → get_elem? s.views j ≡ some u → u.ledger.out ≢ None
-      → 1 ≤ any_count u.calls.holds
-  with_lock j u at out =
-      let one = (kp.knows j u at).holder out in
-      by u.who.number refl one
-    where
-      by : (o : Option ℕ) → u.who.number ≡ o → alone_first u.calls → 1 ≤ any_count u.calls.holds
-      by None e one =
-          let q : u.calls ≡ no_calls = both.runs.silent j u at e in
-          absurd (omega (arith, one, ap (λ (c : Calls). sole_count c.holds) q))
-      by (Some p) e one = let z = sole_is_any k s both.runs j u at (p, e) in omega arith
-
   -- where another seat had the journal out, there would be two holders
   pub away_is_me : (h : Away k kp.journal s) → h.seat ≡ id
   away_is_me h =
-      one_seat k s both.runs id h.seat v h.view_is me h.here (omega arith)
-      (with_lock h.seat h.view_is h.here (out_is h.out h.view_is.ledger.out h.has))
+      let sole = (kp.knows h.seat h.view_is h.here).holder (out_is h.out h.view_is.ledger.out h.has) in
+      sym (alone_seat k s both.runs h.seat id h.view_is v h.here me (omega arith) (omega arith))
 
   pub away_out : (h : Away k kp.journal s) → v.ledger.out ≡ Some h.out
   away_out h =
@@ -102,7 +120,7 @@ module _ (k : Plan) (s : State Slot View) (both : Stand k s) (id : ℕ) (v : Vie
 pub record IsPage (k : Plan) (i : ℕ) : Type 0 where
   pub low : 0 < i
   pub below : i < 72 + 8 * locks_of k
-  pub no_lock : (l : ℕ) → l < locks_of k → lock_at l ≢ i
+  pub apart : IsApart k i
 
 module _ (k : Plan) {S : Type 0} (s : State S View) (st : Runs k s) (id : ℕ) (v : View)
     (me : get_elem? s.views id ≡ some v) (n : IsNumbered v) where
@@ -116,9 +134,9 @@ module _ (k : Plan) {S : Type 0} (s : State S View) (st : Runs k s) (id : ℕ) (
       lands.keeps k s st id v me n.0 n.1 st.world st.histories w (set s.words i x) st.sound st.of_plan
       (record {
         long = length-set s.words i x ∙ st.stored.long;
-        locks = λ l lt. get_or-set_other s.words i (lock_at l) x 0 (page.no_lock l lt) ∙ st.stored.locks l lt;
-        flags = λ y cpu index. get_or-set_other s.words i (flag_at k y) x 0 (let b = page.below in λ e. omega arith) ∙ st.stored.flags y cpu index;
-        nexts = λ y cpu index. get_or-set_other s.words i (next_at k y) x 0 (let b = page.below in λ e. omega arith) ∙ st.stored.nexts y cpu index;
+        locks = locks_else k st.world st.world s.words st.stored.locks i x page.apart (same_locks st.world);
+        nodes = λ y q cpu index has. get_or-set_other s.words i (node_at k y q) x 0 (let b = page.below in λ e. omega arith)
+            ∙ st.stored.nodes y q cpu index has;
       })
       (get_or-set_other s.words i 0 x 0 (let b = page.low in λ e. omega arith))
-      (λ u ne. (refl, λ l. refl)) (λ q ne. refl) (λ q d ne f. refl) who fit homes
+      (λ u ne. (refl, λ l. refl)) (λ q ne. refl) (λ q d ne f. refl) (λ q d ne f. f.counted) who fit homes

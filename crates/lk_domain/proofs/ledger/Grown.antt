@@ -17,7 +17,7 @@ use Rattle.lk_domain.specs.Runs.{Runs}
 use Rattle.lk_domain.specs.Views.{times, numbers, listed, number_of}
 use Rattle.lk_domain.specs.declared.plan.Plan.{Plan}
 use Rattle.lk_domain.specs.declared.view.View.{View}
-use Rattle.lk_domain.proofs.Totals.{times-append, times-here, times-else, term_le, terms_le, counted, once_le}
+use Rattle.lk_domain.proofs.seats.Totals.{times-append, times-here, times-else, term_le, terms_le, counted, once_le}
 
 -- what holds of a beginning of the journal holds as it grows
 ended_grows : (k : Plan) (js es : List Entry) (x : Look) → IsEnded k js x → IsEnded k (js ++ es) x

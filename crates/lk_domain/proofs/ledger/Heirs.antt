@@ -17,8 +17,8 @@ use Rattle.lk_domain.specs.declared.cpu.Cpu.{Cpu}
 use Rattle.lk_domain.specs.declared.domain.Domain.{Domain}
 use Rattle.lk_domain.specs.declared.plan.Plan.{Plan}
 use Rattle.lk_domain.specs.declared.view.View.{View}
-use Rattle.lk_domain.proofs.Parted.{numbers_past}
-use Rattle.lk_domain.proofs.Totals.{times-here}
+use Rattle.lk_domain.proofs.seats.Parted.{numbers_past}
+use Rattle.lk_domain.proofs.seats.Totals.{times-here}
 
 in_left : {A : Type 0} (x : A) (xs ys : List A) → In x xs → In x (xs ++ ys)
 in_left x [] ys h = absurd h

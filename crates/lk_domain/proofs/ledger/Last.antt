@@ -20,7 +20,7 @@ use Rattle.lk_domain.specs.declared.plan.Plan.{Plan}
 use Rattle.lk_domain.specs.declared.view.View.{View}
 use Rattle.lk_domain.proofs.ledger.Alone.{out_is}
 use Rattle.lk_domain.proofs.ledger.Purses.{past_known}
-use Rattle.lk_domain.proofs.Totals.{terms_le, counted, once_le, drawn}
+use Rattle.lk_domain.proofs.seats.Totals.{terms_le, counted, once_le, drawn}
 
 -- the journal of a table at its end, and its words
 pub record Ends (k : Plan) (v : View) (ws : List ℕ) (slot : Slot) : Type 0 where

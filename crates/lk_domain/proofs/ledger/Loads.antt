@@ -1,5 +1,5 @@
 -- What the steps ask that read a word of the ledger.
-use Rattle.std.proofs.Common.{◌≡◌, ◌≢◌, inr, ⊎_elim, ℕ, ◌+◌, ◌-◌, ◌<◌, ◌≤◌, List, [], ◌∷◌, length, set}
+use Rattle.std.proofs.Common.{◌≡◌, ◌≢◌, inl, inr, ⊎_elim, ℕ, ◌+◌, ◌-◌, ◌<◌, ◌≤◌, List, [], ◌∷◌, length, set}
 use Rattle.std.proofs.Common.{get_or, Option, Some, None, refl, sym, ap, ◌∙◌, subst, arith, length-set}
 use mathlib.Core.Option.{none, some}
 use lib.ListN.{get_elem?}
@@ -24,16 +24,17 @@ use Rattle.lk_domain.specs.Words.{version_at, balance_at}
 use Rattle.lk_domain.specs.declared.plan.Plan.{Plan}
 use Rattle.lk_domain.specs.declared.view.View.{View}
 use Rattle.lk_domain.proofs.ledger.Alone as alone
-use Rattle.lk_domain.proofs.ledger.Alone.{IsPage, paged, some_out, out_is, sole_is_any}
-use Rattle.lk_domain.proofs.Lands.{set_at}
+use Rattle.lk_domain.proofs.ledger.Alone.{IsPage, paged, some_out, out_is}
+use Rattle.lk_domain.proofs.ledger.Held.{any_once, sole_le}
+use Rattle.lk_domain.proofs.rows.Lands.{set_at}
 use Rattle.lk_domain.proofs.ledger.Purses.{alters, ended_more, look_ends}
-use Rattle.lk_domain.proofs.Totals.{total-same, term_le}
+use Rattle.lk_domain.proofs.seats.Totals.{total-same, term_le}
 
 -- the words of the ledger
 
 pub version_page : (k : Plan) → IsPage k version_at
 version_page k =
-    record { low = omega arith; below = omega arith; no_lock = λ l lt e. omega arith }
+    record { low = omega arith; below = omega arith; apart = inl (omega arith) }
 
 pub balance_page : (k : Plan) → IsLawfulPlan k → (a : ℕ) → a < accounts_of k
     → IsPage k (balance_at k a)
@@ -41,7 +42,7 @@ balance_page k law a lt =
     record {
       low = omega arith;
       below = let few = law.accounts in omega arith;
-      no_lock = λ l lt e. omega arith;
+      apart = inr (omega arith);
     }
 
 -- a job keeps how many balances there are
@@ -195,7 +196,7 @@ module _ (k : Plan) (s : State Slot View) (both : Stand k s) (id : ℕ) (v : Vie
       learns version_at (view v.who v.calls (sighted v.ledger x)) (version_page k) refl refl refl refl sight_knows
 
   -- the journal is taken out
-  module _ (none_out : v.ledger.out ≡ None) where
+  module _ (none_out : v.ledger.out ≡ None) (sole : alone_first v.calls) where
     pub h : AtHome k kp.journal s
     h = alone.at_home k s both id v me holds none_out
 
@@ -212,7 +213,7 @@ module _ (k : Plan) (s : State Slot View) (both : Stand k s) (id : ℕ) (v : Vie
     take_knows =
         let kv = kp.knows id v me in
         record {
-          holder = λ _. sole_is_any k s both.runs id v me n ∙ holds;
+          holder = λ _. sole;
           shut = λ _. refl;
           looking = tt;
           looked = ended_more k kp.journal v.ledger.looks (listed_look v.ledger.look) kv.looked (look_ends k kp.journal v.calls v.ledger.look kv.looking);
@@ -324,10 +325,13 @@ pub takes_journal : (k : Plan) (slots id : ℕ) (m : Me Slot View) (st : Step Sl
     → alone_first m.0.calls → m.0.ledger.out ≡ None
     → Allows (Stand k) slots id m version_at (λ y. y) (TakesJournal st m)
 takes_journal k slots id m st n sole none_out s both wide me _ =
-    let holds : holds_first m.0.calls = sym (sole_is_any k s both.runs id m.0 me n) ∙ sole in (
-      taker k s both id m.0 me n holds none_out,
-      takes 0 (Some (h k s both id m.0 me n holds none_out).journal),
-      (h k s both id m.0 me n holds none_out).home,
-      take_stands k s both id m.0 me n holds none_out,
-      take_tells k s both id m.0 me n holds none_out m refl,
+    let fit = both.runs.seats id m.0 n.0 me n.1 in
+    let holds : holds_first m.0.calls =
+    let most = any_once both.runs.world.kind m.0.calls.holds fit.held in let least = sole_le m.0.calls.holds in
+    omega (arith, most, least, sole) in (
+      taker k s both id m.0 me n holds none_out sole,
+      takes 0 (Some (h k s both id m.0 me n holds none_out sole).journal),
+      (h k s both id m.0 me n holds none_out sole).home,
+      take_stands k s both id m.0 me n holds none_out sole,
+      take_tells k s both id m.0 me n holds none_out sole m refl,
     )

@@ -1,21 +1,21 @@
 -- What the seats know of the journal stays true, where it stays where it is.
 use Rattle.std.proofs.Common.{◌≡◌, ◌≢◌, ◌⊎◌, ⊎_elim, inl, inr, ℕ, ◌+◌, ◌<◌, ◌≤◌, List, [], ◌∷◌, ◌++◌}
-use Rattle.std.proofs.Common.{length, get_or, take, set, Option, Some, None, Bool, true, false, refl, sym}
+use Rattle.std.proofs.Common.{length, eqb, get_or, take, set, Option, Some, None, Bool, true, false, refl, sym}
 use Rattle.std.proofs.Common.{ap, ◌∙◌, subst, arith}
 use Rattle.std.proofs.lemmas.Bool.{cases_Bool}
-use Rattle.std.specs.Prelude.{if◌then◌else◌, ◌&&◌}
+use Rattle.std.specs.Prelude.{if◌then◌else◌, ◌&&◌, not}
 use mathlib.Core.Logic.{dite}
 use native.Mathlib.Decide.{ℕ_discrete}
 use mathlib.Core.Option.{some, some-injective}
 use lib.ListN.{get_elem?}
 use Rattle.atomic_table.specs.Table.{State}
 use Rattle.atomic_table.proofs.Lists.{at_set, set_else}
-use Rattle.lk_abs.specs.Names.{same_lock}
+use Rattle.lk_abs.specs.Names.{same_lock, same_bool}
 use Rattle.lk_abs.specs.declared.holder.Manner.{Manner}
 use Rattle.lk_abs.specs.declared.ledger.Entry.{Entry}
 use Rattle.lk_abs.specs.declared.names.LockName.{LockName}
 use Rattle.lk_law.proofs.common.Puts.{if-true, if-false}
-use Rattle.lk_domain.specs.Calls.{Mark, Hold, Calls, Grip, Unchanged, Takes, Frees, holds_after, holds_in}
+use Rattle.lk_domain.specs.Calls.{Mark, Calls, Grip, Unchanged, Takes, Frees, holds_after, holds_in}
 use Rattle.lk_domain.specs.Calls.{lock_name}
 use Rattle.lk_domain.specs.Keeps.{Slot, AtHome, Away, AreWords, IsOpen, IsSight, IsEnded, AreEnded}
 use Rattle.lk_domain.specs.Keeps.{AreLoaded, IsVersion, IsPast, ArePast, Knows, Keeps, undrawn}
@@ -27,9 +27,9 @@ use Rattle.lk_domain.specs.Who.{Who}
 use Rattle.lk_domain.specs.Words.{version_at, balance_at}
 use Rattle.lk_domain.specs.declared.plan.Plan.{Plan}
 use Rattle.lk_domain.specs.declared.view.View.{View}
-use Rattle.lk_domain.proofs.ledger.Held.{any_none, free_any, free_sole}
-use Rattle.lk_domain.proofs.Lands.{set_at}
-use Rattle.lk_domain.proofs.Totals.{total-same}
+use Rattle.lk_domain.proofs.ledger.Held.{any_none, free_any, free_sole, sole_le}
+use Rattle.lk_domain.proofs.rows.Lands.{set_at}
+use Rattle.lk_domain.proofs.seats.Totals.{total-same}
 
 take_all : {A : Type 0} (xs : List A) → take (length xs) xs ≡ xs
 take_all [] = refl
@@ -83,17 +83,19 @@ knows_same k js v w h who same any sole =
       past = subst (λ (x : Who). ArePast k js x.ended) (sym who) h.past;
     }
 
-first_is : (l : ℕ) → is_first (lock_name l) ≡ same_lock (lock_name l) (lock_name 0)
-first_is l = refl
+-- the name of lock 0
+pub first_is : (j : LockName) → is_first j ≡ same_lock j (lock_name 0)
+first_is j = by j.wait
+  where
+    by : (b : Bool) → ((eqb j.index 0) && not b) ≡ ((eqb j.index 0) && same_bool b false)
+    by true = refl
+    by false = refl
 
 -- the row of a call on the lock l, whose holds before it are those of c
 module _ (k : Plan) (js : List Entry) (v w : View) (p : ℕ) (is : v.who.number ≡ Some p)
-    (knows : Knows k js v) (c : Calls) (d l : ℕ) (t : List Mark)
+    (knows : Knows k js v) (c : Calls) (d : ℕ) (j : LockName) (t : List Mark)
     (any : any_count c.holds ≡ any_count v.calls.holds)
     (sole : sole_count c.holds ≡ sole_count v.calls.holds) (who : w.who ≡ v.who) where
-  abbrev j : LockName
-  j = lock_name l
-
   no_number : w.who.number ≡ None → ⊥
   no_number e = let n : Some p ≡ None = sym is ∙ (sym (ap (λ (x : Who). x.number) who) ∙ e) in cc n
 
@@ -103,24 +105,24 @@ module _ (k : Plan) (js : List Entry) (v w : View) (p : ℕ) (is : v.who.number 
   other Unchanged off g h = knows_same k js v w knows who g (ap any_count h ∙ any) (ap sole_count h ∙ sole)
   other (Takes m) off g h =
       knows_same k js v w knows who (g ∙ if-false (is_first j) (opened v.ledger m t) v.ledger off)
-      (ap any_count h ∙ (ap (λ b. (if b then 1 else 0) + any_count c.holds) off ∙ (let z : 0 + any_count c.holds ≡ any_count c.holds = omega arith in z ∙ any)))
-      (ap sole_count h ∙ (ap (λ b. (if b && Rattle.lk_domain.specs.Keeps.is_sole m then 1 else 0) + sole_count c.holds) off ∙ (let z : 0 + sole_count c.holds ≡ sole_count c.holds = omega arith in z ∙ sole)))
+      (ap any_count h ∙ (ap (λ b. (if b then 1 else 0) + any_count c.holds) (sym (first_is j) ∙ off) ∙ (let z : 0 + any_count c.holds ≡ any_count c.holds = omega arith in z ∙ any)))
+      (ap sole_count h ∙ (ap (λ b. (if b && Rattle.lk_domain.specs.Keeps.is_sole m then 1 else 0) + sole_count c.holds) (sym (first_is j) ∙ off) ∙ (let z : 0 + sole_count c.holds ≡ sole_count c.holds = omega arith in z ∙ sole)))
   other Frees off g h =
       knows_same k js v w knows who (g ∙ if-false (is_first j) (closed v.ledger) v.ledger off)
-      (ap any_count h ∙ (free_any d j c.holds off ∙ any)) (ap sole_count h ∙ (free_sole d j c.holds off ∙ sole))
+      (ap any_count h ∙ (free_any d j c.holds (sym (first_is j) ∙ off) ∙ any)) (ap sole_count h ∙ (free_sole d j c.holds (sym (first_is j) ∙ off) ∙ sole))
 
   -- of lock 0: a look begins where it is taken, and ends where it is freed
   first : (y : Grip) → is_first j ≡ true → w.ledger ≡ turned v.ledger j y t
       → w.calls.holds ≡ holds_after y d j (c.taken + 1) c.holds
-      → ((m : Manner) → y ≡ Takes m → holds_in c.holds l ≡ false)
+      → ((m : Manner) → y ≡ Takes m → holds_in c.holds j.index ≡ false)
       → (y ≡ Frees → v.ledger.out ≡ None) → Knows k js w
   first Unchanged on g h fresh home = knows_same k js v w knows who g (ap any_count h ∙ any) (ap sole_count h ∙ sole)
   first (Takes m) on g h fresh home =
       let g' : w.ledger ≡ opened v.ledger m t = g ∙ if-true (is_first j) (opened v.ledger m t) v.ledger on in
-      let zero : l ≡ 0 = index_zero l on in
+      let zero : j.index ≡ 0 = index_zero j on in
       let none : any_count c.holds ≡ 0 = any_none c.holds (ap (holds_in c.holds) (sym zero) ∙ fresh m refl) in
       let one : any_count w.calls.holds ≡ 1 =
-      ap any_count h ∙ (ap (λ b. (if b then 1 else 0) + any_count c.holds) on ∙ omega (arith, none)) in
+      ap any_count h ∙ (ap (λ b. (if b then 1 else 0) + any_count c.holds) (sym (first_is j) ∙ on) ∙ omega (arith, none)) in
       let was_none : v.ledger.out ≢ None → ⊥ = λ ne. let s = knows.holder ne in
       let z : sole_count c.holds ≤ any_count c.holds = sole_le c.holds in omega (arith, sole, s, none, z) in
       record {
@@ -134,18 +136,8 @@ module _ (k : Plan) (js : List Entry) (v w : View) (p : ℕ) (is : v.who.number 
         past = subst (λ (x : Who). ArePast k js x.ended) (sym who) knows.past;
       }
     where
-      index_zero : (l : ℕ) → is_first (lock_name l) ≡ true → l ≡ 0
-      index_zero l e = grind (arith, e)
-
-      sole_le : (hs : List Hold) → sole_count hs ≤ any_count hs
-      sole_le [] = omega arith
-      sole_le (x ∷ hs) = by (same_lock x.lock (lock_name 0)) (Rattle.lk_domain.specs.Keeps.is_sole x.manner) (sole_le hs)
-        where
-          by : (a b : Bool) → sole_count hs ≤ any_count hs
-              → (if a && b then 1 else 0) + sole_count hs ≤ (if a then 1 else 0) + any_count hs
-          by true true r = omega arith
-          by true false r = omega arith
-          by false b r = omega arith
+      index_zero : (n : LockName) → is_first n ≡ true → n.index ≡ 0
+      index_zero n e = grind (arith, e)
   first Frees on g h fresh home =
       let g' : w.ledger ≡ closed v.ledger = g ∙ if-true (is_first j) (closed v.ledger) v.ledger on in
       let out : w.ledger.out ≡ None = ap (λ (x : Ledger). x.out) g' ∙ home refl in
@@ -163,7 +155,7 @@ module _ (k : Plan) (js : List Entry) (v w : View) (p : ℕ) (is : v.who.number 
 
   pub knows_after : (y : Grip) → w.ledger ≡ turned v.ledger j y t
       → w.calls.holds ≡ holds_after y d j (c.taken + 1) c.holds
-      → ((m : Manner) → y ≡ Takes m → holds_in c.holds l ≡ false)
+      → ((m : Manner) → y ≡ Takes m → holds_in c.holds j.index ≡ false)
       → (y ≡ Frees → is_first j ≡ true → v.ledger.out ≡ None) → Knows k js w
   knows_after y g h fresh home =
       elim (cases_Bool (is_first j)) [

@@ -26,9 +26,9 @@ use Rattle.lk_domain.proofs.ledger.Alone as alone
 use Rattle.lk_domain.proofs.ledger.Alone.{paged, some_out, out_is}
 use Rattle.lk_domain.proofs.ledger.Grown.{all_grow, places-append, places_kept, past_grows, own_once, other_once, knows_grows}
 use Rattle.lk_domain.proofs.ledger.Grown.{drop_front}
-use Rattle.lk_domain.proofs.Lands.{set_at}
+use Rattle.lk_domain.proofs.rows.Lands.{set_at}
 use Rattle.lk_domain.proofs.ledger.Loads.{version_page, balance_page}
-use Rattle.lk_domain.proofs.Totals.{total-same, total-set, apart, drawn}
+use Rattle.lk_domain.proofs.seats.Totals.{total-same, total-set, apart, drawn}
 
 -- for a seat that holds lock 0, and has the journal out
 module _ (k : Plan) (s : State Slot View) (both : Stand k s) (id : ℕ) (v : View)
@@ -170,7 +170,7 @@ module _ (k : Plan) (s : State Slot View) (both : Stand k s) (id : ℕ) (v : Vie
         (knows_grows k kp.journal es y n.0 (kp.knows i y at) all
         (λ e. ne (apart s.views (get_or s.words 0 0) both.runs.once id i v y n.0 me at n.1 e))
         (other_once k s both.runs id i v y n.0 ne me at n.1)
-        (λ e. ne (alone.one_seat k s both.runs id i v y me at (omega arith) (omega arith))))
+        (λ e. ne (alone.alone_seat k s both.runs id i v y me at (let sole = kv.holder (out_is o v.ledger.out has) in omega arith) (omega arith))))
 
     pub bring_stands : Stand k (record { words = ws'; homes = set s.homes 0 (some (Some j)); views = set s.views id bringer })
     bring_stands =

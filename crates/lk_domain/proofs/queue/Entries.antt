@@ -1,5 +1,5 @@
 -- The row that takes a node: with one by the last private store, without one by a look.
-use Rattle.std.proofs.Common.{◌≡◌, ◌≢◌, inl, inr, ℕ, ◌+◌, ◌<◌, ◌≤◌, List, set, get_or, Some, None}
+use Rattle.std.proofs.Common.{◌≡◌, ◌≢◌, inl, inr, ℕ, ◌+◌, ◌<◌, ◌≤◌, List, set, get_or, Some, None, true, false}
 use Rattle.std.proofs.Common.{lt-ltb, le-ltb, refl, sym, ap, ◌∙◌, subst, arith, get_or-set_other}
 use Rattle.std.specs.Prelude.{if◌then◌else◌}
 use mathlib.Core.Option.{Option as Maybe, some}
@@ -10,7 +10,6 @@ use Rattle.lk_abs.specs.declared.names.LockName.{LockName}
 use Rattle.lk_word.specs.declared.spin_word.NodeName.{NodeName}
 use Rattle.lk_word.specs.declared.spin_word.Fields.{Fields}
 use Rattle.lk_word.specs.SpinWord.{packed}
-use Rattle.lk_machine.specs.declared.parts.Flag.TheVariants.{Unset}
 use Rattle.lk_machine.specs.declared.parts.Node.{Node}
 use Rattle.lk_machine.specs.declared.parts.Frame.{Frame}
 use Rattle.lk_machine.specs.declared.parts.Pc.TheVariants.{G1}
@@ -18,30 +17,40 @@ use Rattle.lk_machine.specs.declared.setup.Verb.{Verb}
 use Rattle.lk_machine.specs.Machine.{rest_node}
 use Rattle.lk_machine.specs.rows.Queue.{own_node}
 use Rattle.lk_law.specs.Leads.{Number}
+use Rattle.lk_law.specs.Premises.{Uses}
 use Rattle.lk_law.specs.Snapshot.{same_node}
 use Rattle.lk_law.specs.Steps.{reset, put_queued}
 use Rattle.lk_law.specs.World.{World}
 use Rattle.lk_law.proofs.common.Cases.{node_cases}
 use Rattle.lk_law.proofs.common.Puts.{if-true, if-false, same_node-self, same_node-else}
-use Rattle.lk_domain.specs.Calls.{StandsAt, row_of, acting, Begins, lock_name, slows}
+use Rattle.lk_domain.specs.Calls.{terms_of, StandsOn, row_of, acting, Begins, slows}
 use Rattle.lk_domain.specs.Plans.{locks_of}
-use Rattle.lk_domain.specs.Runs.{waiter, node_name, IsReset, SeatFits, Runs}
-use Rattle.lk_domain.specs.Words.{lock_at, next_at, flag_number, link_number}
+use Rattle.lk_domain.specs.Runs.{waiter, node_name, SeatFits, Runs}
+use Rattle.lk_domain.specs.Words.{word_at, node_at, node_number, part_index, has_part, is_last}
+use Rattle.lk_domain.specs.declared.part.Part.{Part}
 use Rattle.lk_domain.specs.declared.plan.Plan.{Plan}
 use Rattle.lk_domain.specs.declared.view.View.{View}
-use Rattle.lk_domain.proofs.Lands as lands
-use Rattle.lk_domain.proofs.Lands.{Poised}
-use Rattle.lk_domain.proofs.OnWords.{lock_stored}
-use Rattle.lk_domain.proofs.queue.OnNodes.{next_stored, index_is, in_plan, flag_to_come}
+use Rattle.lk_abs.specs.declared.names.Kind.{Kind}
+use Rattle.lk_law.specs.SoundWorld.{is_rw_name}
+use Rattle.lk_domain.proofs.rows.Grips.{plain_name}
+use Rattle.lk_domain.proofs.rows.Lands as lands
+use Rattle.lk_domain.proofs.words.Locks.{SameLocks, locks_trans, acted_locks, word_from}
+use Rattle.lk_domain.proofs.rows.Poised.{Poised}
+use Rattle.lk_domain.proofs.rows.Lands.{counted_after}
+use Rattle.lk_domain.proofs.words.OnWords.{lock_stored}
+use Rattle.lk_domain.proofs.words.NodeWords.{rest_number, below_last}
+use Rattle.lk_domain.proofs.queue.NodeStores.{node_stored}
+use Rattle.lk_domain.proofs.queue.OnNodes.{index_is, in_plan, to_come, to_come_free, counts_beside}
 
 module _ (k : Plan) {S : Type 0} (s : State S View) (st : Runs k s) (id : ℕ) (v : View)
-    (me : get_elem? s.views id ≡ some v) (p : ℕ) (is : v.who.number ≡ Some p) (verb : Verb) (l : ℕ)
-    (asks : Begins v.calls verb l) (acts : StandsAt (acting k.mode v.calls verb l) verb l G1) where
+    (me : get_elem? s.views id ≡ some v) (p : ℕ) (is : v.who.number ≡ Some p) (verb : Verb)
+    (l : LockName) (asks : Begins k v.calls verb l.index)
+    (acts : StandsOn (acting k.mode v.calls verb l.index) verb l G1) where
   abbrev fits : SeatFits st.world p v.calls
   fits = st.seats id v p me is
 
-  abbrev pub at : Poised st.world p (acting k.mode v.calls verb l)
-  at = lands.at k s st id v me p is verb l G1 asks acts tt
+  abbrev pub at : Poised st.world p (acting k.mode v.calls verb l.index)
+  at = lands.at k s st id v me p is verb l G1 asks acts (tt, tt)
 
   abbrev pub m : World
   m = at.acted.world
@@ -56,7 +65,7 @@ module _ (k : Plan) {S : Type 0} (s : State S View) (st : Runs k s) (id : ℕ) (
   i = slows v.calls.frames
 
   abbrev n : World
-  n = lands.n k s st id v me p is verb l G1 asks acts tt
+  n = lands.n k s st id v me p is verb l G1 asks acts (tt, tt)
 
   pub count_is : m.queued p ≡ i
   count_is = ap (λ (g : ℕ → ℕ). g p) at.acted.same.queued ∙ index_is k s st id v me p is
@@ -70,18 +79,28 @@ module _ (k : Plan) {S : Type 0} (s : State S View) (st : Runs k s) (id : ℕ) (
   row_nodes : n.node ≡ (reset x (own_node p i)).node
   row_nodes = entered_nodes ∙ ap (λ (j : ℕ). (reset x (own_node p j)).node) count_is
 
-  row_words : n.word ≡ st.world.word
-  row_words = (lands.row_done k s st id v me p is verb l G1 asks acts tt).word ∙ at.acted.same.word
+  row_locks : SameLocks st.world n
+  row_locks =
+      let done = lands.row_done k s st id v me p is verb l G1 asks acts (tt, tt) in
+      locks_trans (acted_locks at.acted.same) (record { word = done.word; rw = done.rw; kind = done.kind })
 
-  -- the last private store: the link of the node to come is reset, and the frame gets the node
-  pub enters : i < 4 → v.calls.ready ≡ 1 → (u : View) → u.who ≡ v.who
-      → u.calls ≡ row_of k.mode p (acting k.mode v.calls verb l) (Number i) → (homes : List (Maybe S))
+  -- the lock of the row is no reader-writer lock
+  plain_lock : is_rw_name st.world.kind l ≡ false
+  plain_lock =
+      ap (is_rw_name st.world.kind) (sym acts.lock)
+      ∙ (ap (λ (g : ℕ → Kind). is_rw_name g f.lock) (sym at.acted.same.kind)
+      ∙ plain_name m.kind f G1 (lands.fitting k s st id v me p is verb l G1 asks acts (tt, tt)) acts.place refl)
+
+  -- the last private store: the last word of the node to come is reset, and the frame gets the node
+  pub enters : (q : Part) → is_last k.mode q ≡ true → has_part k.mode q ≡ true → i < 4
+      → v.calls.ready ≡ part_index q → (u : View) → u.who ≡ v.who
+      → u.calls ≡ row_of (terms_of k) p (acting k.mode v.calls verb l.index) (Number i) → (homes : List (Maybe S))
       → Runs k {S = S} (record {
-        words = set s.words (next_at k (node_name p i)) 0;
+        words = set s.words (node_at k (node_name p i) q) 0;
         homes = homes;
         views = set s.views id u;
       })
-  enters low ready u who calls homes =
+  enters q last has low ready u who calls homes =
       let a : NodeName = node_name p i in
       let own : own_node p i ≡ Some a = ap (λ b. if b then Some a else None) (lt-ltb i 4 low) in
       let nodes : n.node ≡ (reset x (Some a)).node = row_nodes ∙ ap (λ o. (reset x o).node) own in
@@ -91,44 +110,48 @@ module _ (k : Plan) {S : Type 0} (s : State S View) (st : Runs k s) (id : ℕ) (
       λ b ne. ap (λ (g : NodeName → Node). g b) nodes
       ∙ (if-false (same_node b a) rest_node (m.node b) (same_node-else b a ne)
       ∙ ap (λ (g : NodeName → Node). g b) at.acted.same.node) in
-      let blank : (st.world.node a).flag ≡ Unset =
-      ap (λ (j : ℕ). (st.world.node (node_name p j)).flag) (sym (index_is k s st id v me p is))
-      ∙ subst (λ (r : ℕ). IsReset r (st.world.node (node_name p (st.world.queued p)))) ready fits.reset in
-      lands.lands k s st id v me p is verb l G1 asks acts tt u who
-      (calls ∙ ap (λ (j : ℕ). row_of k.mode p (acting k.mode v.calls verb l) (Number j)) (sym count_is))
-      (set s.words (next_at k a) 0)
-      (next_stored k st.world n s.words st.stored a 0
+      let blank : (r : Part) → part_index r < part_index q → node_number r (st.world.node a) ≡ 0 =
+      λ r lt. ap (λ (j : ℕ). node_number r (st.world.node (node_name p j))) (sym (index_is k s st id v me p is))
+      ∙ fits.reset r (omega (arith, ready, lt)) in
+      lands.lands k s st id v me p is verb l G1 asks acts (tt, tt) u who
+      (calls ∙ ap (λ (j : ℕ). row_of (terms_of k) p (acting k.mode v.calls verb l.index) (Number j)) (sym count_is))
+      (set s.words (node_at k a q) 0)
+      (node_stored k st.world n s.words st.stored a q 0
       (record { cpu = in_plan k s st id v me p is; index = low })
-      (ap (λ (z : Node). link_number z.next) (sym here))
-      (λ b ne. ap (λ (z : Node). z.next) (away b ne))
-      (λ b. elim (node_cases b a) [
-        | inl e ↦ ap (λ (z : NodeName). flag_number (n.node z).flag) e
-            ∙ (ap (λ (z : Node). flag_number z.flag) here
-            ∙ (ap flag_number (sym blank) ∙ ap (λ (z : NodeName). flag_number (st.world.node z).flag) (sym e)))
-        | inr ne ↦ ap (λ (z : Node). flag_number z.flag) (away b ne)
-      ]) row_words)
-      (get_or-set_other s.words (next_at k a) 0 0 0 (λ e. omega arith))
-      (λ q d ne fit. ap (λ (z : Node). z.flag)
-      (away (node_name q (st.world.queued q)) (λ e. ne (ap (λ (z : NodeName). z.cpu) e))))
+      (sym (ap (node_number q) here ∙ rest_number q))
+      (λ b r h ne. elim (node_cases b a) [
+        | inl e ↦ ap (λ (z : NodeName). node_number r (n.node z)) e
+            ∙ (ap (node_number r) here ∙ (rest_number r
+            ∙ (sym (blank r (below_last k.mode q r last has h (ne e)))
+            ∙ ap (λ (z : NodeName). node_number r (st.world.node z)) (sym e))))
+        | inr off ↦ ap (node_number r) (away b off)
+      ]) row_locks)
+      (get_or-set_other s.words (node_at k a q) 0 0 0 (λ e. omega arith))
+      (λ r d ne fit. away (node_name r (st.world.queued r)) (λ e. ne (ap (λ (z : NodeName). z.cpu) e)))
+      (λ r d ne fit. counts_beside k s st id v me p is n fit
+      (λ b u cpu uses on. ap (λ (y : Node). y.runs) (away b (λ e. to_come_free k s st id v me p is p v.calls fits u
+      (subst (Uses st.world u) (e ∙ ap (node_name p) (sym (index_is k s st id v me p is))) uses)))))
       homes
 
   -- without a node: a look at the lock's word, whose value is not used
-  pub enters_bare : 4 ≤ i → l < locks_of k → (u : View) → u.who ≡ v.who
-      → u.calls ≡ row_of k.mode p (acting k.mode v.calls verb l) (Number i) → (homes : List (Maybe S))
+  pub enters_bare : 4 ≤ i → l.index < locks_of k → (u : View) → u.who ≡ v.who
+      → u.calls ≡ row_of (terms_of k) p (acting k.mode v.calls verb l.index) (Number i) → (homes : List (Maybe S))
       → Runs k {S = S} (record {
-        words = set s.words (lock_at l) (get_or s.words (lock_at l) 0);
+        words = set s.words (word_at l) (get_or s.words (word_at l) 0);
         homes = homes;
         views = set s.views id u;
       })
   enters_bare high near u who calls homes =
+      let from = word_from l in
       let own : own_node p i ≡ None = ap (λ b. if b then Some (node_name p i) else None) (le-ltb i 4 high) in
       let nodes : n.node ≡ st.world.node = row_nodes ∙ (ap (λ o. (reset x o).node) own ∙ at.acted.same.node) in
-      lands.lands k s st id v me p is verb l G1 asks acts tt u who
-      (calls ∙ ap (λ (j : ℕ). row_of k.mode p (acting k.mode v.calls verb l) (Number j)) (sym count_is))
-      (set s.words (lock_at l) (get_or s.words (lock_at l) 0))
-      (lock_stored k st.world n s.words st.stored l (get_or s.words (lock_at l) 0) near
-      (st.stored.locks l near ∙ ap (λ (g : LockName → Fields). packed (g (lock_name l))) (sym row_words))
-      (λ j ne. ap (λ (g : LockName → Fields). g (lock_name j)) row_words) nodes)
-      (get_or-set_other s.words (lock_at l) 0 (get_or s.words (lock_at l) 0) 0 (λ e. omega arith))
-      (λ q d ne fit. ap (λ (g : NodeName → Node). flag_to_come g st.world q) nodes)
+      lands.lands k s st id v me p is verb l G1 asks acts (tt, tt) u who
+      (calls ∙ ap (λ (j : ℕ). row_of (terms_of k) p (acting k.mode v.calls verb l.index) (Number j)) (sym count_is))
+      (set s.words (word_at l) (get_or s.words (word_at l) 0))
+      (lock_stored k st.world n s.words st.stored l (get_or s.words (word_at l) 0) near
+      plain_lock (st.stored.locks.plain l near plain_lock ∙ ap (λ (g : LockName → Fields). packed (g l)) (sym row_locks.word))
+      (λ j ne. ap (λ (g : LockName → Fields). g j) row_locks.word) nodes row_locks.rw row_locks.kind)
+      (get_or-set_other s.words (word_at l) 0 (get_or s.words (word_at l) 0) 0 (λ e. omega arith))
+      (λ q d ne fit. ap (λ (g : NodeName → Node). to_come g st.world q) nodes)
+      (λ q d ne fit. counted_after st.world n d (sym nodes) fit.counted)
       homes

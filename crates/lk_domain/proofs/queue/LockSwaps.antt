@@ -1,6 +1,6 @@
 -- What an exchange of a lock's whole word asks, which is tried again where it fails.
-use Rattle.std.proofs.Common.{◌≡◌, ℕ, zero, suc, ◌<◌, List, [], ◌∷◌, get_or, set, None, Bool, true}
-use Rattle.std.proofs.Common.{eqb, eq-eqb, ne_eqb, refl, sym, ap, ◌∙◌, subst, arith}
+use Rattle.std.proofs.Common.{◌≡◌, ℕ, zero, suc, ◌<◌, List, [], ◌∷◌, get_or, set, None, Bool, true, false}
+use Rattle.std.proofs.Common.{eqb, eq-eqb, ne_eqb, refl, sym, ap, ◌∙◌, subst}
 use Rattle.std.specs.Prelude.{unwrap_or}
 use prog.Atomic.{either}
 use mathlib.Core.Logic.{dite}
@@ -9,30 +9,32 @@ use native.Mathlib.Decide.{ℕ_discrete}
 use lib.ListN.{get_elem?}
 use Rattle.atomic_table.specs.Table.{State, Me, Step, keeps, Allows}
 use Rattle.atomic_table.proofs.Lists.{set_again}
+use Rattle.lk_abs.specs.declared.names.LockName.{LockName}
 use Rattle.lk_abs.specs.declared.names.Mode.{Mode}
 use Rattle.lk_word.specs.declared.spin_word.Fields.{Fields}
 use Rattle.lk_word.specs.SpinWord.{packed, IsPackable}
 use Rattle.lk_machine.specs.declared.parts.Frame.{Frame}
 use Rattle.lk_machine.specs.declared.parts.Pc.{Pc}
-use Rattle.lk_machine.specs.declared.setup.Verb.TheVariants.{Lock}
+use Rattle.lk_machine.specs.declared.setup.Verb.{Verb}
 use Rattle.lk_machine.specs.TopRow.{target}
 use Rattle.lk_law.specs.Known.{Known}
 use Rattle.lk_law.specs.Leads.{Word}
-use Rattle.lk_domain.specs.Calls.{StandsAt, acting, Begins, lock_name}
+use Rattle.lk_domain.specs.Calls.{Calls, StandsOn, acting, Begins}
 use Rattle.lk_domain.specs.Keeps.{Slot}
 use Rattle.lk_domain.specs.Ledgers.{is_first}
 use Rattle.lk_domain.specs.Plans.{locks_of}
-use Rattle.lk_domain.specs.Plays.{MadeBy, Acts, IsWord, Swaps, made}
+use Rattle.lk_domain.specs.Plays.{ActsOn, IsWord, Swaps, made, rowed}
 use Rattle.lk_domain.specs.Stand.{Stand}
 use Rattle.lk_domain.specs.Views.{IsNumbered}
-use Rattle.lk_domain.specs.Words.{lock_at}
+use Rattle.lk_domain.specs.Words.{word_at}
 use Rattle.lk_domain.specs.declared.plan.Plan.{Plan}
 use Rattle.lk_domain.specs.declared.view.View.{View}
-use Rattle.lk_domain.proofs.LockPlays as plays
-use Rattle.lk_domain.proofs.LockPlays.{MayFree}
-use Rattle.lk_domain.proofs.OnWords.{OnWord, word_stores}
+use Rattle.lk_domain.proofs.Acting.{is_first_of, acting_now}
+use Rattle.lk_domain.proofs.words.LockPlays as plays
+use Rattle.lk_domain.proofs.words.LockPlays.{MayFree}
+use Rattle.lk_domain.proofs.words.OnWords.{OnWord, word_stores}
 
-set_self : (ws : List ℕ) (i : ℕ) → set ws i (get_or ws i 0) ≡ ws
+pub set_self : (ws : List ℕ) (i : ℕ) → set ws i (get_or ws i 0) ≡ ws
 set_self [] i = refl
 set_self (x ∷ xs) zero = refl
 set_self (x ∷ xs) (suc i) = ap (λ ys. x ∷ ys) (set_self xs i)
@@ -48,39 +50,45 @@ stands k s both id v me i n is =
       views = set_again s.views id v me j;
     })) both
 
-module _ (k : Plan) (slots id : ℕ) (m : Me Slot View) (number : IsNumbered m.0) (l : ℕ)
-    (near : l < locks_of k) (pc : Pc)
-    (acts : StandsAt (acting m.0.who.plan.mode m.0.calls Lock l) Lock l pc)
-    (asks : Begins m.0.calls Lock l) (word : (fr : Frame) → OnWord (target pc fr))
-    (home : MayFree pc → is_first (lock_name l) ≡ true → m.0.ledger.out ≡ None) where
-  pub swaps : (st : Step Slot) (old new : ℕ) → st.word ≡ lock_at l → st.first ≡ old
+module _ (k : Plan) (slots id : ℕ) (m : Me Slot View) (number : IsNumbered m.0) (verb : Verb)
+    (l : LockName) (near : l.index < locks_of k) (pc : Pc)
+    (acts : StandsOn (acting m.0.who.plan.mode m.0.calls verb l.index) verb l pc)
+    (asks : Begins m.0.who.plan m.0.calls verb l.index) (word : (fr : Frame) → OnWord (target pc fr))
+    (home : MayFree pc → is_first l ≡ true → m.0.ledger.out ≡ None)
+    (later : is_first_of pc verb ≡ false) where
+  pub swaps : (st : Step Slot) (old new : ℕ) → st.first ≡ old
       → ((mode : Mode) (y : Fields) → IsPackable y → Known pc y → packed y ≡ old
       → new ≡ packed (unwrap_or (word_stores mode pc acts.frame (target pc acts.frame) y) y))
-      → Allows (Stand k) slots id m (lock_at l) (λ n. either (eqb n old) new n) (Swaps Lock st m)
-  swaps st old new at first writes s both long me small =
-      let n : ℕ = get_or s.words (lock_at l) 0 in
-      let y : Fields = plays.y k slots id m number Lock l near pc acts asks word home s both me in
-      let packs = plays.y_packs k slots id m number Lock l near pc acts asks word home s both me in
-      let is : n ≡ packed y = plays.y_is k slots id m number Lock l near pc acts asks word home s both me in
+      → Allows (Stand k) slots id m (word_at l) (λ n. either (eqb n old) new n) (Swaps st m)
+  swaps st old new first writes s both long me small =
+      let n : ℕ = get_or s.words (word_at l) 0 in
+      let y : Fields = plays.y k slots id m number verb l near pc acts asks word home s both me in
+      let packs = plays.y_packs k slots id m number verb l near pc acts asks word home s both me in
+      let tail = plays.y_tail k slots id m number verb l near pc acts asks word home s both me in
+      let is : n ≡ packed y = plays.y_is k slots id m number verb l near pc acts asks word home s both me in
       let found : IsWord m.0.who.plan n =
-      record { found = y; packs = packs; tail = plays.y_tail k slots id m number Lock l near pc acts asks word home s both me; word = is } in
-      let u : View = made m.0 Lock l (Word y) in
+      record { found = y; packs = packs; tail = tail; word = is } in
+      let u : View = made m.0 verb l.index (Word y) in
       dite (ℕ_discrete n old)
       (λ hit. (
         u,
         keeps,
         tt,
-        subst (λ (i : ℕ). Stand k (record { words = set s.words (lock_at l) i; homes = s.homes; views = set s.views id u }))
+        subst (λ (i : ℕ). Stand k (record { words = set s.words (word_at l) i; homes = s.homes; views = set s.views id u }))
             (sym (ap (λ b. either b new n) (eq-eqb n old hit)))
             (record {
-              runs = plays.rows k slots id m number Lock l near pc acts asks word home s both me new
+              runs = plays.rows k slots id m number verb l near pc acts asks word home s both me new
                   (λ mode known. writes mode y packs known (sym is ∙ hit));
-              keeps = plays.keeps_on k slots id m number Lock l near pc acts asks word home s both me new;
+              keeps = plays.keeps_on k slots id m number verb l near pc acts asks word home s both me new;
             }),
-        λ j e. record {
-          made = λ _. let same : l ≡ j = omega arith in
-              subst (λ (z : ℕ). MadeBy Lock z m n (u, m.1)) same
-              (plays.is_made k slots id m number Lock l near pc acts asks word home s both me);
+        record {
+          made = λ _. record {
+            found = y;
+            packs = packs;
+            tail = tail;
+            word = is;
+            seat = ap (λ (c : Calls). (rowed m.0 c (Word y), m.1)) (acting_now m.0.who.plan.mode m.0.calls verb l pc acts later);
+          };
           stands = λ ne. absurd (ne (hit ∙ sym first));
           word = found;
         },
@@ -89,22 +97,22 @@ module _ (k : Plan) (slots id : ℕ) (m : Me Slot View) (number : IsNumbered m.0
         m.0,
         keeps,
         tt,
-        stands k s both id m.0 me (lock_at l) (either (eqb n old) new n) (ap (λ b. either b new n) (ne_eqb n old miss)),
-        λ j e. record { made = λ hit. absurd (miss (hit ∙ first)); stands = λ _. refl; word = found },
+        stands k s both id m.0 me (word_at l) (either (eqb n old) new n) (ap (λ b. either b new n) (ne_eqb n old miss)),
+        record { made = λ hit. absurd (miss (hit ∙ first)); stands = λ _. refl; word = found },
       ))
 
 -- what the call asks, in which the word is named by its place
-module _ (k plan : Plan) (slots id : ℕ) (m : Me Slot View) (number : IsNumbered m.0) (l i : ℕ)
-    (st : Step Slot) (same : k ≡ plan) (near : l < locks_of plan) (at : i ≡ lock_at l)
-    (word : st.word ≡ i) where
-  pub asks_swap : (kind : Pc → Bool) (acts : Acts kind m.0 Lock l)
+module _ (k plan : Plan) (slots id : ℕ) (m : Me Slot View) (number : IsNumbered m.0) (verb : Verb)
+    (l : LockName) (i : ℕ) (st : Step Slot) (same : k ≡ plan) (near : l.index < locks_of plan)
+    (at : i ≡ word_at l) where
+  pub asks_swap : (kind : Pc → Bool) (acts : ActsOn kind m.0 verb l)
       → ((pc : Pc) → kind pc ≡ true → (fr : Frame) → OnWord (target pc fr))
-      → ((pc : Pc) → kind pc ≡ true → MayFree pc → is_first (lock_name l) ≡ true → m.0.ledger.out ≡ None)
-      → (old new : ℕ) → st.first ≡ old
+      → (MayFree acts.row → is_first l ≡ true → m.0.ledger.out ≡ None)
+      → is_first_of acts.row verb ≡ false → (old new : ℕ) → st.first ≡ old
       → ((mode : Mode) (y : Fields) → IsPackable y → Known acts.row y → packed y ≡ old
       → new ≡ packed (unwrap_or (word_stores mode acts.row acts.stands.frame (target acts.row acts.stands.frame) y) y))
-      → Allows (Stand k) slots id m i (λ n. either (eqb n old) new n) (Swaps Lock st m)
-  asks_swap kind acts on_word home old new first writes =
-      subst (λ (x : ℕ). Allows (Stand k) slots id m x (λ n. either (eqb n old) new n) (Swaps Lock st m)) (sym at)
-      (swaps k slots id m number l (subst (λ (x : Plan). l < locks_of x) (sym same) near) acts.row acts.stands acts.begins
-      (on_word acts.row acts.is) (home acts.row acts.is) st old new (word ∙ at) first writes)
+      → Allows (Stand k) slots id m i (λ n. either (eqb n old) new n) (Swaps st m)
+  asks_swap kind acts on_word home later old new first writes =
+      subst (λ (x : ℕ). Allows (Stand k) slots id m x (λ n. either (eqb n old) new n) (Swaps st m)) (sym at)
+      (swaps k slots id m number verb l (subst (λ (x : Plan). l.index < locks_of x) (sym same) near) acts.row acts.stands acts.begins
+      (on_word acts.row acts.is) home later st old new first writes)

@@ -17,10 +17,11 @@ use Rattle.lk_word.specs.SpinWord.{packed, IsPackable, locked_number, tail_numbe
 use Rattle.lk_word.proofs.SpinWordLemmas.{packed_small, packed_injective}
 use Rattle.lk_machine.specs.declared.parts.Frame.{Frame}
 use Rattle.lk_machine.specs.declared.parts.Pc.{Pc}
-use Rattle.lk_machine.specs.declared.parts.Pc.TheVariants.{P1, P2, P4, G4, G8, G9}
+use Rattle.lk_machine.specs.declared.parts.Pc.TheVariants.{P1, P2, P4, G4, G8, G9, C10}
 use Rattle.lk_machine.specs.declared.setup.Verb.TheVariants.{Lock}
 use Rattle.lk_machine.specs.Moves.{is_node, node_of}
 use Rattle.lk_machine.specs.rows.Spin.{is_unlocked}
+use Rattle.lk_machine.specs.rows.Cna.{is_held, is_last}
 use Rattle.lk_machine.specs.rows.Queue.{is_sole, after_arrival}
 use Rattle.lk_machine.specs.TopRow.{target}
 use Rattle.lk_law.specs.Known.{Known}
@@ -29,9 +30,9 @@ use Rattle.lk_law.specs.World.{World}
 use Rattle.lk_law.proofs.common.Puts.{same_node-self}
 use Rattle.lk_law.proofs.common.Users.{is_node-true}
 use Rattle.lk_domain.specs.Calls.{grip_of, grip_led, Frees}
-use Rattle.lk_domain.specs.Rows.{pends_by, clears_by, claims_by, arrives_by, soles_by, stakes_by}
-use Rattle.lk_domain.proofs.Numbers.{held_packed}
-use Rattle.lk_domain.proofs.OnWords.{OnWord, word_stores}
+use Rattle.lk_domain.specs.Rows.{pends_by, clears_by, claims_by, arrives_by, soles_by, stakes_by, promotes_by}
+use Rattle.lk_domain.proofs.words.Numbers.{held_packed}
+use Rattle.lk_domain.proofs.words.OnWords.{OnWord, word_stores}
 
 -- the rows are on the word of a lock
 
@@ -241,6 +242,67 @@ sole_takes mode G8 f y n h fits near own =
       | inr d ↦ ap (λ b. either b 1 (packed y)) (e ∙ d) ∙ rw (d, word_stores) refl
     ]
 sole_takes mode _ f y n h fits near own = cc h
+
+-- the word of a held lock with one node as its tail
+abbrev pub last_word : NodeName → Fields
+last_word n = record { locked = Held; pending = false; tail = Some n }
+
+last_packed : (n : NodeName) → packed (last_word n) ≡ tail_number (Some n) + 1
+unfolding packed
+last_packed n = omega arith
+
+last_is : (a : Locked) (b : Bool) (t : Option NodeName) (n : NodeName)
+    → (is_held a && not b && is_node t n) ≡ true → record { locked = a; pending = b; tail = t } ≡ last_word n
+last_is Held false t n h =
+    ap (λ (z : Option NodeName). record { locked = Held; pending = false; tail = z }) (is_node-true t n h)
+last_is Held true t n h = cc h
+last_is Free b t n h = cc h
+last_is Slow b t n h = cc h
+
+-- a front is the last of the main queue exactly where it meets that number
+pub last_test : (f : Frame) (y : Fields) (n : NodeName) → IsPackable y → (n.cpu ≤ 16382) × (n.index ≤ 3)
+    → node_of f.me ≡ n → eqb (packed y) (tail_number (Some n) + 1) ≡ is_last f y
+last_test f y n fits near own =
+    elim (cases_Bool (is_last f y)) [
+      | inl e ↦
+          let is : y ≡ last_word n = last_is y.locked y.pending y.tail n
+          (subst (λ (z : NodeName). (is_held y.locked && not y.pending && is_node y.tail z) ≡ true) own e) in
+          eq-eqb (packed y) (tail_number (Some n) + 1) (ap packed is ∙ last_packed n) ∙ sym e
+      | inr e ↦ ne_eqb (packed y) (tail_number (Some n) + 1) (λ h.
+          let is : y ≡ last_word n = packed_injective y (last_word n) fits near (h ∙ sym (last_packed n)) in
+          let alone : is_last f y ≡ true =
+          ap (λ (z : NodeName). is_held y.locked && not y.pending && is_node y.tail z) own
+          ∙ (ap (λ (z : Fields). is_held z.locked && not z.pending && is_node z.tail n) is ∙ same_node-self n) in
+          grind (arith, alone, e)) ∙ sym e
+    ]
+
+-- an exchange of it makes the second queue all of the rest
+pub promotes : (mode : Mode) (c : Pc) (f : Frame) (y : Fields) (n t : NodeName) → promotes_by Lock c ≡ true
+    → IsPackable y → (n.cpu ≤ 16382) × (n.index ≤ 3) → node_of f.me ≡ n → f.t ≡ Some t
+    → either (eqb (packed y) (tail_number (Some n) + 1)) (tail_number (Some t) + 1) (packed y)
+    ≡ packed (unwrap_or (word_stores mode c f (target c f) y) y)
+promotes mode C10 f y n t h fits near own to =
+    let e = last_test f y n fits near own in
+    elim (cases_Bool (is_last f y)) [
+      | inl d ↦
+          let is : y ≡ last_word n = last_is y.locked y.pending y.tail n
+          (subst (λ (z : NodeName). (is_held y.locked && not y.pending && is_node y.tail z) ≡ true) own d) in
+          let new : record y { tail = f.t } ≡ last_word t =
+          (λ i. record (is i) { tail = to i }) in
+          ap (λ b. either b (tail_number (Some t) + 1) (packed y)) (e ∙ d)
+          ∙ (sym (last_packed t) ∙ (ap packed (sym new) ∙ rw (d, word_stores) refl))
+      | inr d ↦ ap (λ b. either b (tail_number (Some t) + 1) (packed y)) (e ∙ d) ∙ rw (d, word_stores) refl
+    ]
+promotes mode _ f y n t h fits near own to = cc h
+
+pub promote_on : (c : Pc) (f : Frame) → promotes_by Lock c ≡ true → OnWord (target c f)
+promote_on C10 f h = tt
+promote_on _ f h = cc h
+
+pub promote_frees : (w : World) (u : Waiter) (f : Frame) (c : Pc) → promotes_by Lock c ≡ true
+    → grip_of (target c f) (course_in w u f c (target c f)) ≡ Frees → ⊥
+promote_frees w u f C10 h e = elim (cases_Bool (is_last f (w.word f.lock))) [ inl d ↦ cc (rw d at e) | inr d ↦ cc (rw d at e) ]
+promote_frees w u f _ h e = cc h
 
 low_half : (a : Locked) (b : Bool) (t : Option NodeName)
     → (locked_number a + (if b then 256 else 0) + tail_number t) % 65536 ≡ locked_number a + (if b then 256 else 0)

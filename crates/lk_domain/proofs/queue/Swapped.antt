@@ -1,19 +1,21 @@
 -- What is left of a processor's own after an exchange that may be tried again.
-use Rattle.std.proofs.Common.{◌≡◌, ℕ, Some, true, sym, ap, ◌∙◌, subst}
+use Rattle.std.proofs.Common.{◌≡◌, ℕ, Some, true, refl, sym, ap, ◌∙◌, subst}
 use mathlib.Core.Logic.{dite}
 use native.Mathlib.Decide.{ℕ_discrete}
 use Rattle.atomic_table.specs.Table.{Me}
-use Rattle.lk_machine.specs.declared.setup.Verb.TheVariants.{Lock}
+use Rattle.lk_abs.specs.declared.names.LockName.{LockName}
+use Rattle.lk_machine.specs.declared.setup.Verb.{Verb}
 use Rattle.lk_domain.specs.Calls.{are_calls}
 use Rattle.lk_domain.specs.Keeps.{Slot}
 use Rattle.lk_domain.specs.Marked.{IsNoted}
-use Rattle.lk_domain.specs.Plays.{Acts, MadeBy, SwappedBy, carried_with}
+use Rattle.lk_domain.specs.Plays.{ActsIn, MadeBy, SwappedBy, carried_with}
 use Rattle.lk_domain.specs.Rows.{arrives_by}
 use Rattle.lk_domain.specs.declared.notes.Notes.{Notes}
 use Rattle.lk_domain.specs.declared.view.View.{View}
-use Rattle.lk_domain.proofs.Carried as row
-use Rattle.lk_domain.proofs.Noted.{stays}
-use Rattle.lk_domain.proofs.Stepped as stepped
+use Rattle.lk_domain.proofs.turns.Carried as row
+use Rattle.lk_domain.proofs.turns.Noted.{stays}
+use Rattle.lk_domain.proofs.words.Onward.{made_on, arrive_later}
+use Rattle.lk_domain.proofs.turns.Stepped as stepped
 
 -- the seat has its number and what it carries, and the notes are still of its calls
 pub record Kept (notes : Notes) (m n : Me Slot View) : Type 0 where
@@ -22,17 +24,22 @@ pub record Kept (notes : Notes) (m n : Me Slot View) : Type 0 where
   pub apart : are_calls n.0.calls.frames ≡ true
   pub carried : m.1 ≡ carried_with m.0.ledger.out → n.1 ≡ carried_with n.0.ledger.out
 
-module _ (l expected met : ℕ) (m n : Me Slot View) (told : SwappedBy Lock l expected m met n)
+module _ (v : Verb) (l : LockName) (expected met : ℕ) (m n : Me Slot View) (told : SwappedBy expected m met n)
     (notes : Notes) (was : IsNoted notes m.0.calls) (calm : are_calls m.0.calls.frames ≡ true)
-    (acts : Acts (arrives_by Lock) m.0 Lock l) where
-  after : MadeBy Lock l m met n → Kept notes m n
-  after made =
-      let t = stepped.arrives l met m n made calm was.few acts in
+    (acts : ActsIn (arrives_by v) m.0 v l) where
+  -- the row was made
+  pub made : met ≡ expected → MadeBy v l.index m met n
+  made hit =
+      made_on v l met m n (arrives_by v) acts.acts (arrive_later v acts.acts.row acts.acts.is) (told.made hit)
+
+  after : met ≡ expected → Kept notes m n
+  after hit =
+      let t = stepped.arrives v l met m n (made hit) calm was.few acts in
       record {
-        numbered = row.numbered Lock l met m n made;
-        noted = stays notes m.0.calls n.0.calls l true was t.steps (t.on (λ e. cc e) (λ e. cc e)) t.was;
+        numbered = row.numbered v l.index met m n (made hit);
+        noted = stays notes m.0.calls n.0.calls l.index true was t.steps (t.on refl) t.was;
         apart = t.apart;
-        carried = row.carried Lock l met m n made;
+        carried = row.carried v l.index met m n (made hit);
       }
 
   before : n ≡ m → Kept notes m n
@@ -46,4 +53,4 @@ module _ (l expected met : ℕ) (m n : Me Slot View) (told : SwappedBy Lock l ex
       }
 
   pub swapped : Kept notes m n
-  swapped = dite (ℕ_discrete met expected) (λ e. after (told.made e)) (λ ne. before (told.stands ne))
+  swapped = dite (ℕ_discrete met expected) after (λ ne. before (told.stands ne))

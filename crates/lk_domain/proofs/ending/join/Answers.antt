@@ -1,6 +1,6 @@
 use Rattle.std.proofs.Common.{ap, ◌∙◌, arith}
 use Rattle.lk_domain.specs.Plays.{carried_with}
-use Rattle.lk_domain.proofs.Parted.{joins}
+use Rattle.lk_domain.proofs.seats.Parted.{joins}
 use Rattle.lk_domain.proofs.ending.join.Goals as goal
 
 pub join_seat-requires : goal.join_seat-requires

@@ -1,5 +1,5 @@
 use Rattle.std.proofs.Common.{ap, sym, arith, ◌+◌, subst}
-use Rattle.lk_domain.proofs.Openings.{IsOpened, opened_more, get_is}
+use Rattle.lk_domain.proofs.seats.Openings.{IsOpened, opened_more, get_is}
 use Rattle.lk_domain.proofs.making.opening_words.Goals as goal
 
 pub loop-account-preserved : goal.loop-account-preserved

@@ -1,4 +1,4 @@
-use Rattle.lk_domain.proofs.Openings.{IsOpened}
+use Rattle.lk_domain.proofs.seats.Openings.{IsOpened}
 use Rattle.lk_domain.proofs.making.opening_words.Given as goal
 
 abbrev pub invariant-loop-account : goal.invariant-loop-account

@@ -1,9 +1,8 @@
-use Rattle.std.proofs.Common.{refl, arith, ◌+◌, ◌-◌, ◌%◌, ◌^◌}
-use mathlib.Core.Option.{none}
-use Rattle.atomic_table.specs.Table.{step}
-use Rattle.lk_machine.specs.declared.setup.Verb.TheVariants.{Lock}
+use Rattle.std.proofs.Common.{arith, ◌+◌, ◌-◌, ◌^◌, ◌%◌}
 use Rattle.lk_domain.specs.Rows.{claims_by}
-use Rattle.lk_domain.proofs.LockPlays.{asks}
+use Rattle.lk_domain.proofs.turns.Courses.{claim_kind}
+use Rattle.lk_domain.proofs.words.Locks.{word_below}
+use Rattle.lk_domain.proofs.words.Onward.{asks_on, made_on, claim_later}
 use Rattle.lk_domain.proofs.queue.Pending.{claims, claim_on, claim_frees}
 use Rattle.lk_domain.proofs.moves.pending_to_locked.Goals as goal
 
@@ -11,11 +10,21 @@ pub fetch_sub-met-requires : goal.fetch_sub-met-requires
 fetch_sub-met-requires c =
     let d = c.args.domain.now in
     let z = d.table.shared.table_id in
-    let i = c.word_of-word.result in (
+    let i = c.word_of-word.result in
+    let v = c.args._verb in
+    let acts = c.requires.row.acts in (
       c.requires.table,
-      (let few = d.lawful.locks in omega (arith, c.word_of-word.ensures, d.words, c.requires.lock)),
-      asks d.table.shared.key d.plan z.slots c.args.seat.now.id c.args.seat.now.me c.requires.number Lock c.args.lock i
-          (step z.slots i 255 0 none) d.key c.requires.lock c.word_of-word.ensures refl (claims_by Lock) c.requires.row
-          (λ pc h fr. claim_on pc fr h) (λ pc h may. absurd (claim_frees may.0 may.1 may.2 pc h may.3))
-          (λ n. (n + (2 ^ 64 - 255)) % 2 ^ 64) (λ pc h mode fr y packs known. claims mode pc fr y h packs known),
+      (let few = d.lawful.locks in let below = word_below d.plan c.args.lock c.requires.lock in omega (arith, c.word_of-word.ensures, d.words, below)),
+      asks_on d.table.shared.key d.plan z.slots c.args.seat.now.id c.args.seat.now.me c.requires.number v c.args.lock i
+          d.key c.requires.lock c.word_of-word.ensures (claims_by v) acts
+          (λ pc h fr. claim_on pc fr (claim_kind v pc h).0)
+          (λ may. absurd (claim_frees may.0 may.1 may.2 acts.row (claim_kind v acts.row acts.is).0 may.3))
+          (claim_later v acts.row acts.is) (λ n. (n + (2 ^ 64 - 255)) % 2 ^ 64)
+          (λ mode y packs known. claims mode acts.row acts.stands.frame y (claim_kind v acts.row acts.is).0 packs known),
     )
+
+pub returns-clause-step : goal.returns-clause-step
+returns-clause-step c =
+    let v = c.args._verb in
+    let acts = c.requires.row.acts in
+    made_on v c.args.lock c.fetch_sub-met.result c.args.seat.now.me c.fetch_sub-met.new.seat.me (claims_by v) acts (claim_later v acts.row acts.is) c.fetch_sub-met.ensures.2

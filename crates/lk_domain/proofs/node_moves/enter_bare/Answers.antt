@@ -1,4 +1,5 @@
 use Rattle.std.proofs.Common.{arith}
+use Rattle.lk_domain.proofs.words.Locks.{word_below}
 use Rattle.lk_domain.proofs.queue.NodePlays.{bare_look}
 use Rattle.lk_domain.proofs.node_moves.enter_bare.Goals as goal
 
@@ -8,7 +9,7 @@ load-met-requires c =
     let z = d.table.shared.table_id in
     let i = c.word_of-word.result in (
       c.requires.table,
-      (let few = d.lawful.locks in omega (arith, c.word_of-word.ensures, d.words, c.requires.lock)),
-      bare_look d.table.shared.key d.plan z.slots c.args.seat.now.id c.args.seat.now.me c.requires.number i d.key
+      (let few = d.lawful.locks in let below = word_below d.plan c.args.lock c.requires.lock in omega (arith, c.word_of-word.ensures, d.words, below)),
+      bare_look d.table.shared.key d.plan z.slots c.args.seat.now.id c.args.seat.now.me c.requires.number c.args._verb i d.key
           c.args.lock c.requires.lock c.word_of-word.ensures c.requires.row,
     )

@@ -1,7 +1,7 @@
 use Rattle.lk_law.specs.Leads.{Number}
 use Rattle.lk_domain.specs.Calls.{slows}
-use Rattle.lk_domain.proofs.Carried as row
-use Rattle.lk_domain.proofs.Stepped as stepped
+use Rattle.lk_domain.proofs.turns.Carried as row
+use Rattle.lk_domain.proofs.turns.Stepped as stepped
 use Rattle.lk_domain.proofs.queue_steps.enter_bare.Goals as goal
 
 pub step-requires-clause-steps : goal.step-requires-clause-steps
@@ -12,7 +12,7 @@ step-requires-clause-steps c =
       m.0.calls,
       n.0.calls,
       cpu.noted,
-      (stepped.enters c.args.lock.index m n cpu.apart cpu.noted.few c.enter_bare-met.result c.requires.row.stands c.enter_bare-met.ensures.step).steps,
+      (stepped.enters c.args.verb c.args.lock m n cpu.apart cpu.noted.few c.enter_bare-met.result c.requires.row.at c.enter_bare-met.ensures.step).steps,
     )
 
 pub invariant_of-cpu : goal.invariant_of-cpu
@@ -21,7 +21,7 @@ invariant_of-cpu c =
     let m = cpu.seat.me in
     let n = c.enter_bare-met.new.seat.me in
     let told = c.enter_bare-met.ensures.step in
-    let t = stepped.enters c.args.lock.index m n cpu.apart cpu.noted.few c.enter_bare-met.result c.requires.row.stands told in
+    let t = stepped.enters c.args.verb c.args.lock m n cpu.apart cpu.noted.few c.enter_bare-met.result c.requires.row.at told in
     record {
       numbered = row.node_numbered (Number (slows m.0.calls.frames)) m n told cpu.numbered;
       noted = c.step.ensures m.0.calls n.0.calls cpu.noted t.steps;

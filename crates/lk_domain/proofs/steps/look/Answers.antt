@@ -1,34 +1,20 @@
-use Rattle.std.proofs.Common.{arith, ◌<◌}
-use Rattle.lk_domain.proofs.Carried as row
-use Rattle.lk_domain.proofs.Stepped as stepped
+use Rattle.std.proofs.Common.{◌≡◌, inl, inr, true, false, sym, ◌∙◌}
+use Rattle.lk_domain.specs.Seats.{view_of}
+use Rattle.lk_domain.proofs.rw.Stepped.{at_word, at_shared}
 use Rattle.lk_domain.proofs.steps.look.Goals as goal
 
-pub step-requires-clause-steps : goal.step-requires-clause-steps
-step-requires-clause-steps c =
-    let cpu = c.args.cpu.now in
-    let m = cpu.seat.me in
-    let n = c.seat_looks-met.new.seat.me in
-    let lt : c.args.lock.index < 32 = (let lock = c.requires.lock in let few = c.args.domain.now.lawful.locks in omega arith) in (
-      m.0.calls,
-      n.0.calls,
-      cpu.noted,
-      stepped.looks_noted c.args.verb c.args.lock.index c.seat_looks-met.result m n c.seat_looks-met.ensures.step cpu.apart cpu.noted.few
-          cpu.notes cpu.noted lt c.requires.row c.waits_after_look-waits.result c.waits_after_look-waits.ensures,
-    )
+pub watch-requires-clause-row : goal.watch-requires-clause-row
+watch-requires-clause-row c =
+    let v = view_of c.args.cpu.now in
+    elim c.requires.row [
+      | inl acts ↦ absurd (let z : true ≡ false = sym (sym c.on_shared.ensures ∙ c.if-on_shared.true) ∙ at_word v c.args.verb c.args.lock acts in cc z)
+      | inr watches ↦ watches.acts
+    ]
 
-pub invariant_of-cpu : goal.invariant_of-cpu
-invariant_of-cpu c =
-    let cpu = c.args.cpu.now in
-    let l = c.args.lock.index in
-    let m = cpu.seat.me in
-    let n = c.seat_looks-met.new.seat.me in
-    let met = c.seat_looks-met.result in
-    let made = c.seat_looks-met.ensures.step in
-    let lt : l < 32 = (let lock = c.requires.lock in let few = c.args.domain.now.lawful.locks in omega arith) in
-    record {
-      numbered = row.numbered c.args.verb l met m n made cpu.numbered;
-      noted = c.step.ensures m.0.calls n.0.calls cpu.noted
-          (stepped.looks_noted c.args.verb l met m n made cpu.apart cpu.noted.few cpu.notes cpu.noted lt c.requires.row c.waits_after_look-waits.result c.waits_after_look-waits.ensures);
-      apart = (stepped.looks c.args.verb l met m n made cpu.apart cpu.noted.few c.requires.row).apart;
-      carried = row.carried c.args.verb l met m n made cpu.carried;
-    }
+pub look_word-requires-clause-row : goal.look_word-requires-clause-row
+look_word-requires-clause-row c =
+    let v = view_of c.args.cpu.now in
+    elim c.requires.row [
+      | inl acts ↦ acts
+      | inr watches ↦ absurd (let z : true ≡ false = sym (at_shared v c.args.verb c.args.lock watches) ∙ (sym c.on_shared.ensures ∙ c.if-on_shared.false) in cc z)
+    ]

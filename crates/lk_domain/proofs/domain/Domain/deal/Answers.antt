@@ -7,8 +7,8 @@ use Rattle.lk_domain.specs.Marked.{IsNoted}
 use Rattle.lk_domain.specs.Plays.{carried_with}
 use Rattle.lk_domain.specs.Views.{dealer, drawer, view}
 use Rattle.lk_domain.specs.declared.view.View.{View}
-use Rattle.lk_domain.proofs.Dealt.{draws, drawn_by}
-use Rattle.lk_domain.proofs.Parted.{splits_at}
+use Rattle.lk_domain.proofs.seats.Dealt.{draws, drawn_by}
+use Rattle.lk_domain.proofs.seats.Parted.{splits_at}
 use Rattle.lk_domain.proofs.domain.Domain.deal.Goals as goal
 
 pub fetch_add-number-requires : goal.fetch_add-number-requires

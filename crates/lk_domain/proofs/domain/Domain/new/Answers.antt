@@ -1,5 +1,5 @@
 use Rattle.std.proofs.Common.{ap, ◌∙◌, ◌+◌, ◌∷◌, [], length, length-append}
-use Rattle.lk_domain.proofs.Openings.{dealt_more}
+use Rattle.lk_domain.proofs.seats.Openings.{dealt_more}
 use Rattle.lk_domain.proofs.domain.Domain.new.Goals as goal
 
 pub loop-number-preserved : goal.loop-number-preserved

@@ -1,5 +1,5 @@
 use Rattle.std.proofs.Common.{ap, ◌∙◌, ◌++◌, ◌∷◌, [], Some}
-use Rattle.lk_domain.proofs.Openings.{starts_at}
+use Rattle.lk_domain.proofs.seats.Openings.{starts_at}
 use Rattle.lk_domain.proofs.domain.Domain.rest.Goals as goal
 
 pub new-requires-2 : goal.new-requires-2

@@ -1,6 +1,6 @@
 use Rattle.std.proofs.Common.{refl, arith}
 use Rattle.lk_domain.specs.Calls.{no_calls}
-use Rattle.lk_domain.proofs.Marks.{none_held, none_waiting, none_slow}
+use Rattle.lk_domain.proofs.turns.Marks.{none_held, none_waiting, none_slow}
 use Rattle.lk_domain.proofs.notes.Notes.new.Goals as goal
 
 pub returns : goal.returns

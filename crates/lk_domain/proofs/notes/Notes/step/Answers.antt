@@ -1,5 +1,5 @@
 use Rattle.std.proofs.Common.{rules}
-use Rattle.lk_domain.proofs.Noted.{taken_noted, untaken_noted}
+use Rattle.lk_domain.proofs.turns.Noted.{taken_noted, untaken_noted}
 use Rattle.lk_domain.proofs.notes.Notes.step.Goals as goal
 
 pub returns-then-taken : goal.returns-then-taken

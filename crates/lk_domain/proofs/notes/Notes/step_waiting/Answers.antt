@@ -1,5 +1,5 @@
 use Rattle.std.proofs.Common.{refl, arith, ◌-◌}
-use Rattle.lk_domain.proofs.Noted as noted
+use Rattle.lk_domain.proofs.turns.Noted as noted
 use Rattle.lk_domain.proofs.notes.Notes.step_waiting.Goals as goal
 
 pub overflow_sub-self : goal.overflow_sub-self

@@ -1,5 +1,5 @@
 use Rattle.std.proofs.Common.{arith}
-use Rattle.lk_domain.proofs.Openings.{sum_more, get_is}
+use Rattle.lk_domain.proofs.seats.Openings.{sum_more, get_is}
 use Rattle.lk_domain.proofs.plan.Plan.room.Goals as goal
 
 pub loop-cpu-preserved : goal.loop-cpu-preserved

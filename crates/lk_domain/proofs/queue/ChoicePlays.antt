@@ -1,0 +1,215 @@
+-- What the step calls ask by which a front of Dice and Kogan's lock stores the names of nodes.
+use Rattle.std.proofs.Common.{◌≡◌, ◌≢◌, ◌⊎◌, inl, inr, ℕ, get_or, Option, Some, None, true}
+use Rattle.std.proofs.Common.{IfSome, refl, sym, ap, ◌∙◌, subst}
+use mathlib.Core.Option.{some}
+use lib.ListN.{get_elem?}
+use Rattle.atomic_table.specs.Table.{State, Me, keeps, Allows}
+use Rattle.lk_abs.specs.declared.names.LockName.{LockName}
+use Rattle.lk_abs.specs.declared.names.Waiter.{Waiter}
+use Rattle.lk_word.specs.declared.spin_word.NodeName.{NodeName}
+use Rattle.lk_machine.specs.declared.parts.Pc.{Pc}
+use Rattle.lk_machine.specs.declared.parts.Pc.TheVariants.{G1, C3, C4, C5, C6, C9}
+use Rattle.lk_machine.specs.declared.setup.Verb.{Verb}
+use Rattle.lk_machine.specs.Moves.{node_of}
+use Rattle.lk_machine.specs.TopRow.{target}
+use Rattle.lk_law.specs.Cna.{moves_aside}
+use Rattle.lk_law.specs.Families.{chooses}
+use Rattle.lk_law.specs.Known.{choice_node}
+use Rattle.lk_law.specs.Leads.{Named, stored_in}
+use Rattle.lk_law.specs.Steps.{stores_next, stores_second}
+use Rattle.lk_law.specs.World.{World}
+use Rattle.lk_law.proofs.cna.Knows.{choice_is_used}
+use Rattle.lk_law.proofs.cna.Named.{second_tail_is_used}
+use Rattle.lk_domain.specs.Calls.{StandsOn, acting}
+use Rattle.lk_domain.specs.Keeps.{Slot}
+use Rattle.lk_domain.specs.NodePlays.{Names, SeesTail, AtAppend, AtCut, AtTail, AtNewTail, appends}
+use Rattle.lk_domain.specs.Plays.{went}
+use Rattle.lk_domain.specs.Runs.{waiter}
+use Rattle.lk_domain.specs.Stand.{Stand}
+use Rattle.lk_domain.specs.Views.{IsNumbered}
+use Rattle.lk_domain.specs.Words.{node_at, link_number, name_number, IsNode}
+use Rattle.lk_domain.specs.declared.part.Part.TheVariants as part
+use Rattle.lk_domain.specs.declared.plan.Plan.{Plan}
+use Rattle.lk_domain.specs.declared.view.View.{View}
+use Rattle.lk_domain.proofs.rows.Lands as lands
+use Rattle.lk_domain.proofs.rows.Sights.{IsSeen, Sees}
+use Rattle.lk_domain.proofs.words.LockPlays.{MayFree}
+use Rattle.lk_domain.proofs.queue.NodePlays as play
+use Rattle.lk_domain.proofs.queue.NodeStores.{OnNode, unseen_by, next_here, tail_here}
+use Rattle.lk_domain.proofs.queue.OnNodes.{IsUsed}
+
+-- the rows free nothing
+
+C3_frees : MayFree C3 → ⊥
+C3_frees t = cc t.3
+
+C4_frees : MayFree C4 → ⊥
+C4_frees t = cc t.3
+
+C9_frees : MayFree C9 → ⊥
+C9_frees t = cc t.3
+
+C5_frees : MayFree C5 → ⊥
+C5_frees t = cc t.3
+
+C6_frees : MayFree C6 → ⊥
+C6_frees t = cc t.3
+
+append_is : (c : Pc) → appends c ≡ true → (c ≡ C4) ⊎ (c ≡ C9)
+append_is C4 h = inl refl
+append_is C9 h = inr refl
+append_is _ h = cc h
+
+module _ (k : Plan) (slots id : ℕ) (m : Me Slot View) (number : IsNumbered m.0) (v : Verb) (lock : LockName) (pc : Pc)
+    (acts : StandsOn m.0.calls v lock pc) (a : NodeName) (near : IsNode k a) (entry : pc ≢ G1)
+    (calm : Sees pc m.0.calls.runs) (frees : MayFree pc → ⊥) (front : chooses pc ≡ true)
+    (here : node_of (choice_node pc acts.frame) ≡ a) where
+  -- a front of a family that moves waiters aside
+  pub aside : (s : State Slot View) (both : Stand k s) → get_elem? s.views id ≡ some m.0
+      → IsSeen pc (target pc acts.frame) (acting k.mode m.0.calls v lock.index).runs → moves_aside k.mode ≡ true
+  aside s both me unseen =
+      let st = both.runs in
+      let go = play.acts' k id m number v lock pc acts s both me in
+      let ask = play.asks k id m number v lock pc acts s both me in
+      let at = lands.at k s st id m.0 me number.0 number.1 v lock pc ask go unseen in
+      let live = lands.live k s st id m.0 me number.0 number.1 v lock pc ask go unseen in
+      ap moves_aside (sym (at.acted.same.mode ∙ st.of_plan.mode))
+      ∙ (at.acted.sound.spins.registers (waiter number.0 acts.frame.ctx) acts.frame live).choice.choice pc acts.place front
+
+  -- a store into a link
+  pub links : (on : OnNode (target pc acts.frame) a part.Next) (o : Option NodeName) (i : ℕ) → i ≡ link_number o
+      → ((n : World) (w : Waiter) → ((stored_in n w acts.frame pc (target pc acts.frame)).node a).next ≡ o)
+      → Allows (Stand k) slots id m (node_at k a part.Next) (λ _. i) (Names m)
+  links on o i is writes s both long me small =
+      let world = play.world k slots id m number v lock pc acts a part.Next near entry calm on frees s both me refl in
+      let w = waiter number.0 acts.frame.ctx in
+      let x = (world.node a).next in
+      let used = choice_is_used world _ w acts.frame pc
+      (play.sound k slots id m number v lock pc acts a part.Next near entry calm on frees s both me refl)
+      (play.live k slots id m number v lock pc acts a part.Next near entry calm on frees s both me refl) acts.place front in (
+        went m.0 (Named x),
+        keeps,
+        tt,
+        play.stands k slots id m number v lock pc acts a part.Next near entry calm on frees s both me refl i
+            (is ∙ ap link_number (sym (writes world w))) (inr (subst (IsUsed world) here used)) (inl (λ e. cc e)) (Named x) refl,
+        record {
+          found = x;
+          word = play.word_is k slots id m number v lock pc acts a part.Next near entry calm on frees s both me refl;
+          seat = refl;
+        },
+      )
+
+  -- a store of the last of a second queue
+  pub names : (on : OnNode (target pc acts.frame) a part.SecondTail) (o : Option NodeName) (i : ℕ) → i ≡ link_number o
+      → ((n : World) (w : Waiter) → ((stored_in n w acts.frame pc (target pc acts.frame)).node a).second_tail ≡ o)
+      → Allows (Stand k) slots id m (node_at k a part.SecondTail) (λ _. i) (Names m)
+  names on o i is writes s both long me small =
+      let has = aside s both me (unseen_by both.runs.world (waiter number.0 acts.frame.ctx) acts.frame pc (target pc acts.frame) a part.SecondTail on, play.calm' k slots id m number v lock pc acts a part.SecondTail near entry calm on frees s both me) in
+      let world = play.world k slots id m number v lock pc acts a part.SecondTail near entry calm on frees s both me has in
+      let w = waiter number.0 acts.frame.ctx in
+      let x = (world.node a).second_tail in
+      let used = choice_is_used world _ w acts.frame pc
+      (play.sound k slots id m number v lock pc acts a part.SecondTail near entry calm on frees s both me has)
+      (play.live k slots id m number v lock pc acts a part.SecondTail near entry calm on frees s both me has) acts.place front in (
+        went m.0 (Named x),
+        keeps,
+        tt,
+        play.stands k slots id m number v lock pc acts a part.SecondTail near entry calm on frees s both me has i
+            (is ∙ ap link_number (sym (writes world w))) (inr (subst (IsUsed world) here used)) (inl (λ e. cc e)) (Named x) refl,
+        record {
+          found = x;
+          word = play.word_is k slots id m number v lock pc acts a part.SecondTail near entry calm on frees s both me has;
+          seat = refl;
+        },
+      )
+
+-- a look at the last of a second queue
+tail_look : (k : Plan) (slots id : ℕ) (m : Me Slot View) → IsNumbered m.0 → (v : Verb) (lock : LockName)
+    → (acts : StandsOn m.0.calls v lock C3) (a : NodeName) → IsNode k a → acts.frame.second ≡ Some a
+    → Allows (Stand k) slots id m (node_at k a part.SecondTail) (λ n. n) (SeesTail m)
+tail_look k slots id m number v lock acts a near second s both long me small =
+    let tgt : node_of acts.frame.second ≡ a = ap node_of second in
+    let e : C3 ≢ G1 = λ e. cc e in
+    let has = aside k slots id m number v lock C3 acts a near e tt C3_frees refl tgt s both me (tt, tt) in
+    let world = play.world k slots id m number v lock C3 acts a part.SecondTail near e tt tgt C3_frees s both me has in
+    let x : Option NodeName = (world.node a).second_tail in
+    let is = play.word_is k slots id m number v lock C3 acts a part.SecondTail near e tt tgt C3_frees s both me has in
+    let seen = second_tail_is_used world _ (waiter number.0 acts.frame.ctx) acts.frame
+    (play.sound k slots id m number v lock C3 acts a part.SecondTail near e tt tgt C3_frees s both me has)
+    (play.live k slots id m number v lock C3 acts a part.SecondTail near e tt tgt C3_frees s both me has) acts.place in
+    let named : x ≡ Some seen.0 = ap (λ c. (world.node c).second_tail) (sym tgt) ∙ seen.1 in (
+      went m.0 (Named (Some seen.0)),
+      keeps,
+      tt,
+      play.stands k slots id m number v lock C3 acts a part.SecondTail near e tt tgt C3_frees s both me has
+          (get_or s.words (node_at k a part.SecondTail) 0) is (inl refl) (inl (λ e. cc e)) (Named (Some seen.0)) (ap Named (sym named)),
+      record {
+        found = seen.0;
+        node = play.is_node k slots id m number v lock C3 acts a part.SecondTail near e tt tgt C3_frees s both me has seen.0 seen.2;
+        word = is ∙ ap link_number named;
+        seat = refl;
+      },
+    )
+
+-- what the calls ask, in which the word is named by its place
+module _ (k plan : Plan) (slots id : ℕ) (m : Me Slot View) (number : IsNumbered m.0) (v : Verb) (i : ℕ)
+    (same : k ≡ plan) (a : NodeName) (near : IsNode plan a) where
+  abbrev there : IsNode k a
+  there = subst (λ (j : Plan). IsNode j a) (sym same) near
+
+  pub cuts : i ≡ node_at plan a part.Next → AtCut a v m.0 → Allows (Stand k) slots id m i (λ _. 0) (Names m)
+  cuts at acts =
+      let here : node_of acts.at.stands.frame.b ≡ a = ap node_of acts.b in
+      subst (λ (x : ℕ). Allows (Stand k) slots id m x (λ _. 0) (Names m)) (ap (λ (j : Plan). node_at j a part.Next) same ∙ sym at)
+      (links k slots id m number v acts.lock C5 acts.at.stands a there (λ e. cc e) tt C5_frees refl here here None 0 refl
+      (λ n w. ap (λ b. ((stores_next n b (Some None)).node a).next) here ∙ next_here n a (Some None)))
+
+  append_at_C4 : (lock : LockName) (acts : StandsOn m.0.calls v lock C4) (next : NodeName) → acts.frame.t ≡ Some a
+      → acts.frame.a ≡ Some next → (x : ℕ) → x ≡ name_number next
+      → Allows (Stand k) slots id m (node_at k a part.Next) (λ _. x) (Names m)
+  append_at_C4 lock acts next t first x named =
+      let here : node_of acts.frame.t ≡ a = ap node_of t in
+      links k slots id m number v lock C4 acts a there (λ e. cc e) tt C4_frees refl here here acts.frame.a x
+      (named ∙ ap link_number (sym first))
+      (λ n w. ap (λ b. ((stores_next n b (Some acts.frame.a)).node a).next) here ∙ next_here n a (Some acts.frame.a))
+
+  append_at_C9 : (lock : LockName) (acts : StandsOn m.0.calls v lock C9) (next : NodeName) → acts.frame.t ≡ Some a
+      → acts.frame.a ≡ Some next → (x : ℕ) → x ≡ name_number next
+      → Allows (Stand k) slots id m (node_at k a part.Next) (λ _. x) (Names m)
+  append_at_C9 lock acts next t first x named =
+      let here : node_of acts.frame.t ≡ a = ap node_of t in
+      links k slots id m number v lock C9 acts a there (λ e. cc e) tt C9_frees refl here here acts.frame.a x
+      (named ∙ ap link_number (sym first))
+      (λ n w. ap (λ b. ((stores_next n b (Some acts.frame.a)).node a).next) here ∙ next_here n a (Some acts.frame.a))
+
+  append_on : (lock : LockName) (pc : Pc) → (pc ≡ C4) ⊎ (pc ≡ C9) → (acts : StandsOn m.0.calls v lock pc) (next : NodeName)
+      → acts.frame.t ≡ Some a → acts.frame.a ≡ Some next → (x : ℕ) → x ≡ name_number next
+      → Allows (Stand k) slots id m (node_at k a part.Next) (λ _. x) (Names m)
+  append_on lock pc (inl e) =
+      subst (λ (c : Pc). (acts : StandsOn m.0.calls v lock c) (next : NodeName) → acts.frame.t ≡ Some a
+      → acts.frame.a ≡ Some next → (x : ℕ) → x ≡ name_number next
+      → Allows (Stand k) slots id m (node_at k a part.Next) (λ _. x) (Names m)) (sym e) (append_at_C4 lock)
+  append_on lock pc (inr e) =
+      subst (λ (c : Pc). (acts : StandsOn m.0.calls v lock c) (next : NodeName) → acts.frame.t ≡ Some a
+      → acts.frame.a ≡ Some next → (x : ℕ) → x ≡ name_number next
+      → Allows (Stand k) slots id m (node_at k a part.Next) (λ _. x) (Names m)) (sym e) (append_at_C9 lock)
+
+  pub appends_to : i ≡ node_at plan a part.Next → (next : NodeName) → AtAppend a next v m.0 → (x : ℕ)
+      → x ≡ name_number next → Allows (Stand k) slots id m i (λ _. x) (Names m)
+  appends_to at next acts x named =
+      subst (λ (y : ℕ). Allows (Stand k) slots id m y (λ _. x) (Names m)) (ap (λ (j : Plan). node_at j a part.Next) same ∙ sym at)
+      (append_on acts.lock acts.row (append_is acts.row acts.is) acts.at.stands next acts.t acts.a x named)
+
+  pub sets_tail : i ≡ node_at plan a part.SecondTail → (tail : NodeName) → AtNewTail a tail v m.0 → (x : ℕ)
+      → x ≡ name_number tail → Allows (Stand k) slots id m i (λ _. x) (Names m)
+  sets_tail at tail acts x named =
+      let here : node_of acts.at.stands.frame.second ≡ a = ap node_of acts.second in
+      subst (λ (y : ℕ). Allows (Stand k) slots id m y (λ _. x) (Names m)) (ap (λ (j : Plan). node_at j a part.SecondTail) same ∙ sym at)
+      (names k slots id m number v acts.lock C6 acts.at.stands a there (λ e. cc e) tt C6_frees refl here here acts.at.stands.frame.b x
+      (named ∙ ap link_number (sym acts.b))
+      (λ n w. ap (λ b. ((stores_second n b (Some acts.at.stands.frame.b)).node a).second_tail) here ∙ tail_here n a (Some acts.at.stands.frame.b)))
+
+  pub looks_tail : i ≡ node_at plan a part.SecondTail → AtTail a v m.0 → Allows (Stand k) slots id m i (λ n. n) (SeesTail m)
+  looks_tail at acts =
+      subst (λ (x : ℕ). Allows (Stand k) slots id m x (λ n. n) (SeesTail m)) (ap (λ (j : Plan). node_at j a part.SecondTail) same ∙ sym at)
+      (tail_look k slots id m number v acts.lock acts.at.stands a there acts.second)

@@ -1,0 +1,237 @@
+-- The words of nodes, of which a row stores one.
+use Rattle.std.proofs.Common.{◌≡◌, ◌≢◌, inl, inr, ℕ, ◌<◌, List, set, get_or}
+use Rattle.std.proofs.Common.{Option, Some, None, true, refl, sym, ap, ◌∙◌, subst, arith}
+use Rattle.std.proofs.Common.{length-set, get_or-set_other, get_or-set_same}
+use Rattle.std.specs.Prelude.{unwrap_or}
+use Rattle.lk_abs.specs.declared.names.Waiter.{Waiter}
+use Rattle.lk_word.specs.declared.spin_word.NodeName.{NodeName}
+use Rattle.lk_machine.specs.declared.parts.Flag.{Flag}
+use Rattle.lk_machine.specs.declared.parts.Node.{Node}
+use Rattle.lk_machine.specs.declared.parts.Frame.{Frame}
+use Rattle.lk_machine.specs.declared.parts.Pc.{Pc}
+use Rattle.lk_machine.specs.rows.Queue.{flag_row, next_row}
+use Rattle.lk_machine.specs.rows.Cna.{search_row, second_row, runs_row, handover_row}
+use Rattle.lk_machine.specs.TopRow.{Target, FlagOf, NextOf, ChoiceFlag, ChoiceNext, SecondTailOf, RunsOf}
+use Rattle.lk_law.specs.Leads.{Met, Flagged, Named, Number, met_in, stored_in}
+use Rattle.lk_law.specs.Snapshot.{same_node}
+use Rattle.lk_law.specs.Steps.{stores_flag, stores_next, stores_second, stores_runs, put_node, sight_in}
+use Rattle.lk_law.specs.World.{World}
+use Rattle.lk_law.proofs.common.Cases.{node_cases}
+use Rattle.lk_law.proofs.common.Puts.{if-true, if-false, same_node-self, same_node-else}
+use Rattle.lk_domain.specs.Plans.{cpus_of}
+use Rattle.lk_domain.specs.Runs.{IsStored}
+use Rattle.lk_domain.specs.Words.{node_at, node_number, has_part, IsNode}
+use Rattle.lk_domain.specs.declared.part.Part.{Part}
+use Rattle.lk_domain.specs.declared.part.Part.TheVariants as part
+use Rattle.lk_domain.specs.declared.plan.Plan.{Plan}
+use Rattle.lk_domain.proofs.rows.Grips.{IsOwn}
+use Rattle.lk_domain.proofs.rows.Sights.{IsUnseen}
+use Rattle.lk_domain.proofs.words.Locks.{SameLocks, same_locks, locks_else}
+use Rattle.lk_domain.proofs.words.NodeWords.{low, part_cases, place_is, name_is}
+
+-- the words of a table in which a word of a node has changed
+pub node_stored : (k : Plan) (m n : World) (ws : List ℕ) → IsStored k m ws → (a : NodeName) (q : Part) (i : ℕ)
+    → IsNode k a → i ≡ node_number q (n.node a)
+    → ((b : NodeName) (r : Part) → has_part k.mode r ≡ true → (b ≡ a → r ≢ q)
+    → node_number r (n.node b) ≡ node_number r (m.node b))
+    → SameLocks m n → IsStored k n (set ws (node_at k a q) i)
+node_stored k m n ws st a q i near is others locks =
+    record {
+      long = length-set ws (node_at k a q) i ∙ st.long;
+      locks = locks_else k m n ws st.locks (node_at k a q) i (inr (omega arith)) locks;
+      nodes = λ b r h x has. elim (node_cases b a) [
+        | inl e ↦ elim (part_cases r q) [
+          | inl d ↦ (λ j. get_or (set ws (node_at k a q) i) (node_at k (e j) (d j)) 0)
+              ∙ (get_or-set_same ws (node_at k a q) i 0
+              (let l = st.long in let c = near.cpu in let y = near.index in let z = low q in omega arith)
+              ∙ (is ∙ (λ j. node_number (sym d j) (n.node (sym e j)))))
+          | inr ne ↦ away b r h x has (λ _. ne)
+        ]
+        | inr ne ↦ away b r h x has (λ e. absurd (ne e))
+      ];
+    }
+  where
+    away : (b : NodeName) (r : Part) → b.cpu < cpus_of k → b.index < 4 → has_part k.mode r ≡ true
+        → (b ≡ a → r ≢ q) → get_or (set ws (node_at k a q) i) (node_at k b r) 0 ≡ node_number r (n.node b)
+    away b r h x has ne =
+        get_or-set_other ws (node_at k a q) (node_at k b r) i 0
+        (λ e. ne (name_is k b a r q x near.index e) (place_is k b a r q e))
+        ∙ (st.nodes b r h x has ∙ sym (others b r has ne))
+
+-- a store into one node
+
+pub node_here : (m : World) (a : NodeName) (x : Node) → (put_node m a x).node a ≡ x
+node_here m a x = if-true (same_node a a) x (m.node a) (same_node-self a)
+
+pub node_else : (m : World) (a b : NodeName) (x : Node) → b ≢ a → (put_node m a x).node b ≡ m.node b
+node_else m a b x ne = if-false (same_node b a) x (m.node b) (same_node-else b a ne)
+
+-- the word of the node on which a row operates
+abbrev pub OnNode : Target → NodeName → Part → Type 0
+OnNode (FlagOf n) a part.Flag = n ≡ a
+OnNode (NextOf n) a part.Next = n ≡ a
+OnNode (ChoiceFlag n) a part.Flag = n ≡ a
+OnNode (ChoiceNext n) a part.Next = n ≡ a
+OnNode (SecondTailOf n) a part.SecondTail = n ≡ a
+OnNode (RunsOf n) a part.Runs = n ≡ a
+OnNode _ a q = ⊥
+
+-- what it meets there
+abbrev pub met_of : Part → Node → Met
+met_of part.Flag x = Flagged x.flag
+met_of part.Next x = Named x.next
+met_of part.SecondTail x = Named x.second_tail
+met_of part.Runs x = Number x.runs
+
+-- the store, word by word: elsewhere nothing changes, and here no other word does
+
+pub flag_here : (m : World) (a : NodeName) (o : Option Flag) → ((stores_flag m a o).node a).flag ≡ unwrap_or o (m.node a).flag
+flag_here m a None = refl
+flag_here m a (Some x) = ap (λ (y : Node). y.flag) (node_here m a (record (m.node a) { flag = x }))
+
+flag_else : (m : World) (a b : NodeName) (o : Option Flag) → b ≢ a → (stores_flag m a o).node b ≡ m.node b
+flag_else m a b None ne = refl
+flag_else m a b (Some x) ne = node_else m a b (record (m.node a) { flag = x }) ne
+
+flag_others : (m : World) (a : NodeName) (o : Option Flag) (r : Part) → r ≢ part.Flag
+    → node_number r ((stores_flag m a o).node a) ≡ node_number r (m.node a)
+flag_others m a None r ne = refl
+flag_others m a (Some x) part.Flag ne = absurd (ne refl)
+flag_others m a (Some x) part.Next ne = ap (node_number part.Next) (node_here m a (record (m.node a) { flag = x }))
+flag_others m a (Some x) part.SecondTail ne = ap (node_number part.SecondTail) (node_here m a (record (m.node a) { flag = x }))
+flag_others m a (Some x) part.Runs ne = ap (node_number part.Runs) (node_here m a (record (m.node a) { flag = x }))
+
+flag_locks : (m : World) (a : NodeName) (o : Option Flag) → SameLocks m (stores_flag m a o)
+flag_locks m a None = same_locks m
+flag_locks m a (Some x) = record { word = refl; rw = refl; kind = refl }
+
+pub next_here : (m : World) (a : NodeName) (o : Option (Option NodeName)) → ((stores_next m a o).node a).next ≡ unwrap_or o (m.node a).next
+next_here m a None = refl
+next_here m a (Some x) = ap (λ (y : Node). y.next) (node_here m a (record (m.node a) { next = x }))
+
+next_else : (m : World) (a b : NodeName) (o : Option (Option NodeName)) → b ≢ a → (stores_next m a o).node b ≡ m.node b
+next_else m a b None ne = refl
+next_else m a b (Some x) ne = node_else m a b (record (m.node a) { next = x }) ne
+
+next_others : (m : World) (a : NodeName) (o : Option (Option NodeName)) (r : Part) → r ≢ part.Next
+    → node_number r ((stores_next m a o).node a) ≡ node_number r (m.node a)
+next_others m a None r ne = refl
+next_others m a (Some x) part.Flag ne = ap (node_number part.Flag) (node_here m a (record (m.node a) { next = x }))
+next_others m a (Some x) part.Next ne = absurd (ne refl)
+next_others m a (Some x) part.SecondTail ne = ap (node_number part.SecondTail) (node_here m a (record (m.node a) { next = x }))
+next_others m a (Some x) part.Runs ne = ap (node_number part.Runs) (node_here m a (record (m.node a) { next = x }))
+
+next_locks : (m : World) (a : NodeName) (o : Option (Option NodeName)) → SameLocks m (stores_next m a o)
+next_locks m a None = same_locks m
+next_locks m a (Some x) = record { word = refl; rw = refl; kind = refl }
+
+pub tail_here : (m : World) (a : NodeName) (o : Option (Option NodeName)) → ((stores_second m a o).node a).second_tail ≡ unwrap_or o (m.node a).second_tail
+tail_here m a None = refl
+tail_here m a (Some x) = ap (λ (y : Node). y.second_tail) (node_here m a (record (m.node a) { second_tail = x }))
+
+tail_else : (m : World) (a b : NodeName) (o : Option (Option NodeName)) → b ≢ a → (stores_second m a o).node b ≡ m.node b
+tail_else m a b None ne = refl
+tail_else m a b (Some x) ne = node_else m a b (record (m.node a) { second_tail = x }) ne
+
+tail_others : (m : World) (a : NodeName) (o : Option (Option NodeName)) (r : Part) → r ≢ part.SecondTail
+    → node_number r ((stores_second m a o).node a) ≡ node_number r (m.node a)
+tail_others m a None r ne = refl
+tail_others m a (Some x) part.Flag ne = ap (node_number part.Flag) (node_here m a (record (m.node a) { second_tail = x }))
+tail_others m a (Some x) part.Next ne = ap (node_number part.Next) (node_here m a (record (m.node a) { second_tail = x }))
+tail_others m a (Some x) part.SecondTail ne = absurd (ne refl)
+tail_others m a (Some x) part.Runs ne = ap (node_number part.Runs) (node_here m a (record (m.node a) { second_tail = x }))
+
+tail_locks : (m : World) (a : NodeName) (o : Option (Option NodeName)) → SameLocks m (stores_second m a o)
+tail_locks m a None = same_locks m
+tail_locks m a (Some x) = record { word = refl; rw = refl; kind = refl }
+
+pub runs_here : (m : World) (a : NodeName) (o : Option ℕ) → ((stores_runs m a o).node a).runs ≡ unwrap_or o (m.node a).runs
+runs_here m a None = refl
+runs_here m a (Some x) = ap (λ (y : Node). y.runs) (node_here m a (record (m.node a) { runs = x }))
+
+runs_else : (m : World) (a b : NodeName) (o : Option ℕ) → b ≢ a → (stores_runs m a o).node b ≡ m.node b
+runs_else m a b None ne = refl
+runs_else m a b (Some x) ne = node_else m a b (record (m.node a) { runs = x }) ne
+
+runs_others : (m : World) (a : NodeName) (o : Option ℕ) (r : Part) → r ≢ part.Runs
+    → node_number r ((stores_runs m a o).node a) ≡ node_number r (m.node a)
+runs_others m a None r ne = refl
+runs_others m a (Some x) part.Flag ne = ap (node_number part.Flag) (node_here m a (record (m.node a) { runs = x }))
+runs_others m a (Some x) part.Next ne = ap (node_number part.Next) (node_here m a (record (m.node a) { runs = x }))
+runs_others m a (Some x) part.SecondTail ne = ap (node_number part.SecondTail) (node_here m a (record (m.node a) { runs = x }))
+runs_others m a (Some x) part.Runs ne = absurd (ne refl)
+
+runs_locks : (m : World) (a : NodeName) (o : Option ℕ) → SameLocks m (stores_runs m a o)
+runs_locks m a None = same_locks m
+runs_locks m a (Some x) = record { word = refl; rw = refl; kind = refl }
+
+-- the row is on a word of a node
+module _ (m : World) (w : Waiter) (f : Frame) (c : Pc) where
+  pub unseen_by : (t : Target) (a : NodeName) (q : Part) → OnNode t a q → IsUnseen c t
+  unseen_by (FlagOf n) a part.Flag on = tt
+  unseen_by (NextOf n) a part.Next on = tt
+  unseen_by (ChoiceFlag n) a part.Flag on = tt
+  unseen_by (ChoiceNext n) a part.Next on = tt
+  unseen_by (SecondTailOf n) a part.SecondTail on = tt
+  unseen_by (RunsOf n) a part.Runs on = tt
+  unseen_by _ a q on = absurd on
+
+  -- it is one of a spinlock or a wait lock
+  pub own_by : (t : Target) (a : NodeName) (q : Part) → OnNode t a q → IsOwn t
+  own_by (FlagOf n) a part.Flag on = tt
+  own_by (NextOf n) a part.Next on = tt
+  own_by (ChoiceFlag n) a part.Flag on = tt
+  own_by (ChoiceNext n) a part.Next on = tt
+  own_by (SecondTailOf n) a part.SecondTail on = tt
+  own_by (RunsOf n) a part.Runs on = tt
+  own_by _ a q on = absurd on
+
+  pub met_there : (t : Target) (a : NodeName) (q : Part) → OnNode t a q → met_in m w f t ≡ met_of q (m.node a)
+  met_there (FlagOf n) a part.Flag on = ap (λ (z : NodeName). met_of part.Flag (m.node z)) on
+  met_there (NextOf n) a part.Next on = ap (λ (z : NodeName). met_of part.Next (m.node z)) on
+  met_there (ChoiceFlag n) a part.Flag on = ap (λ (z : NodeName). met_of part.Flag (m.node z)) on
+  met_there (ChoiceNext n) a part.Next on = ap (λ (z : NodeName). met_of part.Next (m.node z)) on
+  met_there (SecondTailOf n) a part.SecondTail on = ap (λ (z : NodeName). met_of part.SecondTail (m.node z)) on
+  met_there (RunsOf n) a part.Runs on = ap (λ (z : NodeName). met_of part.Runs (m.node z)) on
+  met_there _ a q on = absurd on
+
+  pub row_else : (t : Target) (a b : NodeName) (q : Part) → OnNode t a q → b ≢ a
+      → (stored_in m w f c t).node b ≡ m.node b
+  row_else (FlagOf n) a b part.Flag on ne = flag_else m n b (flag_row c f (m.node n).flag).stores (λ e. ne (e ∙ on))
+  row_else (NextOf n) a b part.Next on ne = next_else m n b (next_row m.mode m.turns c f (m.node n).next).stores (λ e. ne (e ∙ on))
+  row_else (ChoiceFlag n) a b part.Flag on ne = flag_else m n b (handover_row c f (m.node n).flag).stores (λ e. ne (e ∙ on))
+  row_else (ChoiceNext n) a b part.Next on ne = next_else m n b (search_row (sight_in m w f) c f (m.node n).next).stores (λ e. ne (e ∙ on))
+  row_else (SecondTailOf n) a b part.SecondTail on ne = tail_else m n b (second_row c f (m.node n).second_tail).stores (λ e. ne (e ∙ on))
+  row_else (RunsOf n) a b part.Runs on ne = runs_else m n b (runs_row (sight_in m w f) c f (m.node n).runs).stores (λ e. ne (e ∙ on))
+  row_else _ a b q on ne = absurd on
+
+  pub row_others : (t : Target) (a : NodeName) (q r : Part) → OnNode t a q → r ≢ q
+      → node_number r ((stored_in m w f c t).node a) ≡ node_number r (m.node a)
+  row_others (FlagOf n) a part.Flag r on ne =
+      subst (λ (z : NodeName). node_number r ((stored_in m w f c (FlagOf n)).node z) ≡ node_number r (m.node z)) on
+      (flag_others m n (flag_row c f (m.node n).flag).stores r ne)
+  row_others (NextOf n) a part.Next r on ne =
+      subst (λ (z : NodeName). node_number r ((stored_in m w f c (NextOf n)).node z) ≡ node_number r (m.node z)) on
+      (next_others m n (next_row m.mode m.turns c f (m.node n).next).stores r ne)
+  row_others (ChoiceFlag n) a part.Flag r on ne =
+      subst (λ (z : NodeName). node_number r ((stored_in m w f c (ChoiceFlag n)).node z) ≡ node_number r (m.node z)) on
+      (flag_others m n (handover_row c f (m.node n).flag).stores r ne)
+  row_others (ChoiceNext n) a part.Next r on ne =
+      subst (λ (z : NodeName). node_number r ((stored_in m w f c (ChoiceNext n)).node z) ≡ node_number r (m.node z)) on
+      (next_others m n (search_row (sight_in m w f) c f (m.node n).next).stores r ne)
+  row_others (SecondTailOf n) a part.SecondTail r on ne =
+      subst (λ (z : NodeName). node_number r ((stored_in m w f c (SecondTailOf n)).node z) ≡ node_number r (m.node z)) on
+      (tail_others m n (second_row c f (m.node n).second_tail).stores r ne)
+  row_others (RunsOf n) a part.Runs r on ne =
+      subst (λ (z : NodeName). node_number r ((stored_in m w f c (RunsOf n)).node z) ≡ node_number r (m.node z)) on
+      (runs_others m n (runs_row (sight_in m w f) c f (m.node n).runs).stores r ne)
+  row_others _ a q r on ne = absurd on
+
+  pub row_locks : (t : Target) (a : NodeName) (q : Part) → OnNode t a q → SameLocks m (stored_in m w f c t)
+  row_locks (FlagOf n) a part.Flag on = flag_locks m n (flag_row c f (m.node n).flag).stores
+  row_locks (NextOf n) a part.Next on = next_locks m n (next_row m.mode m.turns c f (m.node n).next).stores
+  row_locks (ChoiceFlag n) a part.Flag on = flag_locks m n (handover_row c f (m.node n).flag).stores
+  row_locks (ChoiceNext n) a part.Next on = next_locks m n (search_row (sight_in m w f) c f (m.node n).next).stores
+  row_locks (SecondTailOf n) a part.SecondTail on = tail_locks m n (second_row c f (m.node n).second_tail).stores
+  row_locks (RunsOf n) a part.Runs on = runs_locks m n (runs_row (sight_in m w f) c f (m.node n).runs).stores
+  row_locks _ a q on = absurd on

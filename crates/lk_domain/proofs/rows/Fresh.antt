@@ -1,0 +1,85 @@
+-- A row that takes a lock finds that its processor does not hold it; and what a row makes of the
+-- ledger.
+use Rattle.std.proofs.Common.{◌≡◌, ℕ, List, [], ◌∷◌, ◌++◌, Option, Some, None, false, refl, ap, ◌∙◌}
+use mathlib.Core.Option.{some}
+use lib.ListN.{get_elem?}
+use Rattle.atomic_table.specs.Table.{State}
+use Rattle.lk_abs.specs.declared.holder.Manner.{Manner}
+use Rattle.lk_abs.specs.declared.names.Mode.{Mode}
+use Rattle.lk_abs.specs.declared.names.LockName.{LockName}
+use Rattle.lk_machine.specs.declared.parts.Frame.{Frame}
+use Rattle.lk_machine.specs.declared.parts.Pc.{Pc}
+use Rattle.lk_machine.specs.declared.setup.Verb.{Verb}
+use Rattle.lk_machine.specs.rows.Cna.{Sight}
+use Rattle.lk_machine.specs.TopRow.{Target, target}
+use Rattle.lk_law.specs.Leads.{Met, Course, held_lock}
+use Rattle.lk_law.proofs.common.Puts.{if_cases}
+use Rattle.lk_domain.specs.Calls.{terms_of, Mark, mark, Running, running, Calls, StandsOn, Grip}
+use Rattle.lk_domain.specs.Calls.{Unchanged, Takes, Frees, sight_of}
+use Rattle.lk_domain.specs.Calls.{grip_of, holds_in, acting, Begins}
+use Rattle.lk_domain.specs.Ledgers.{Ledger, turned, opened, closed, is_first}
+use Rattle.lk_domain.specs.Plays.{turned_on, turned_of, turned_at}
+use Rattle.lk_domain.specs.Runs.{Runs}
+use Rattle.lk_domain.specs.declared.plan.Plan.{Plan}
+use Rattle.lk_domain.specs.declared.view.View.{View}
+use Rattle.lk_domain.proofs.rows.Lands as lands
+use Rattle.lk_domain.proofs.rows.Sights.{IsSeen}
+
+module _ (k : Plan) {S : Type 0} (s : State S View) (st : Runs k s) (id : ℕ) (v : View)
+    (me : get_elem? s.views id ≡ some v) (p : ℕ) (is : v.who.number ≡ Some p) (verb : Verb)
+    (l : LockName) (pc : Pc) (asks : Begins k v.calls verb l.index)
+    (acts : StandsOn (acting k.mode v.calls verb l.index) verb l pc)
+    (unseen : IsSeen pc (target pc acts.frame) (acting k.mode v.calls verb l.index).runs) where
+  abbrev c : Calls
+  c = acting k.mode v.calls verb l.index
+
+  abbrev f : Frame
+  f = acts.frame
+
+  abbrev t : Target
+  t = target pc f
+
+  abbrev o : Course
+  o = lands.o k s st id v me p is verb l pc asks acts unseen
+
+  -- a row that takes the lock finds that its processor does not hold it
+  pub fresh : (y : Manner) → grip_of t o ≡ Takes y → holds_in c.holds (held_lock t f).index ≡ false
+  fresh = lands.unheld_before k s st id v me p is verb l pc asks acts unseen
+
+  -- what the row makes of the ledger
+  pub turns : (g : Ledger)
+      → turned_of (terms_of k) p c (lands.x k s st id v me p is verb l pc asks acts unseen) g
+      ≡ turned g (held_lock t f) (grip_of t o)
+      (acts.trail ++ mark pc (lands.x k s st id v me p is verb l pc asks acts unseen) ∷ [])
+  turns g =
+      let x = lands.x k s st id v me p is verb l pc asks acts unseen in
+      let course_is = lands.course_is k s st id v me p is verb l pc asks acts unseen in
+      ap (λ (xs : List Running). turned_on k.mode p (sight_of (terms_of k) p c.runs) xs x g) acts.is
+      ∙ (ap (λ q. turned_at k.mode p (sight_of (terms_of k) p c.runs) (running verb f acts.trail) x g q) acts.place
+      ∙ (λ i. turned g (held_lock t f) (grip_of t (course_is i)) (acts.trail ++ mark pc x ∷ [])))
+
+-- a row leaves the share, and the journal where it is
+pub record SamePurse (g h : Ledger) : Type 0 where
+  pub share : h.share ≡ g.share
+  pub out : h.out ≡ g.out
+
+turned_same : (g : Ledger) (l : LockName) (y : Grip) (t : List Mark) → SamePurse g (turned g l y t)
+turned_same g l Unchanged t = record { share = refl; out = refl }
+turned_same g l (Takes m) t =
+    if_cases (SamePurse g) (is_first l) (opened g m t) g (λ _. record { share = refl; out = refl }) (λ _. record { share = refl; out = refl })
+turned_same g l Frees t =
+    if_cases (SamePurse g) (is_first l) (closed g) g (λ _. record { share = refl; out = refl }) (λ _. record { share = refl; out = refl })
+
+purse_on : (mode : Mode) (p : ℕ) (z : Sight) (rs : List Running) (x : Met) (g : Ledger)
+    → SamePurse g (turned_on mode p z rs x g)
+purse_on mode p z [] x g = record { share = refl; out = refl }
+purse_on mode p z (r ∷ rs) x g = by r.frame.place
+  where
+    by : (q : Option Pc) → SamePurse g (turned_at mode p z r x g q)
+    by None = record { share = refl; out = refl }
+    by (Some c) =
+        turned_same g (held_lock (target c r.frame) r.frame)
+        (grip_of (target c r.frame) (Rattle.lk_domain.specs.Calls.course mode p z c r.frame x)) (r.trail ++ mark c x ∷ [])
+
+pub turned_purse : (k : Plan) (p : ℕ) (c : Calls) (x : Met) (g : Ledger) → SamePurse g (turned_of (terms_of k) p c x g)
+turned_purse k p c x g = purse_on k.mode p (sight_of (terms_of k) p c.runs) c.frames x g

@@ -1,0 +1,110 @@
+-- A processor whose newest call is about to make a row.
+use Rattle.std.proofs.Common.{◌≡◌, ℕ, ◌<◌, ◌≤◌, List, [], ◌∷◌}
+use Rattle.std.proofs.Common.{length, Some, true, false, refl, sym}
+use Rattle.std.proofs.Common.{ap, ◌∙◌, subst, arith}
+use Rattle.lk_abs.specs.History.{LockHistory}
+use Rattle.lk_abs.specs.declared.names.Kind.{Kind}
+use Rattle.lk_abs.specs.declared.names.Mode.{Mode}
+use Rattle.lk_abs.specs.declared.names.Mode.TheVariants.{Virt, Native, Cna, Pv}
+use Rattle.lk_abs.specs.declared.names.LockName.{LockName}
+use Rattle.lk_machine.specs.declared.setup.Verb.{Verb}
+use Rattle.lk_machine.specs.declared.setup.Verb.TheVariants.{Lock, Try, Unlock, Read, TryRead}
+use Rattle.lk_machine.specs.declared.setup.Verb.TheVariants.{RUnlock, Write, TryWrite, WUnlock}
+use Rattle.lk_machine.specs.Moves.{first_place}
+use Rattle.lk_law.specs.Agree.{halts}
+use Rattle.lk_law.specs.SoundWorld.{IsSoundWorld}
+use Rattle.lk_law.specs.World.{World}
+use Rattle.lk_law.proofs.common.Puts.{if_cases}
+use Rattle.lk_domain.specs.Calls.{Running, running, Hold, Calls, Stacked, Rests}
+use Rattle.lk_domain.specs.Calls.{MayBegin, moved_to, lock_name, begun}
+use Rattle.lk_domain.specs.Calls.{AreHeld, AreFresh, is_seeking}
+use Rattle.lk_domain.specs.Calls.{acting, begin, is_on, Begins, holds_begun}
+use Rattle.lk_domain.specs.Plans.{kind_at}
+use Rattle.lk_domain.specs.Runs.{SeatFits}
+use Rattle.lk_domain.specs.declared.plan.Plan.{Plan}
+use Rattle.lk_domain.proofs.rows.Begun.{Acted, begins}
+use Rattle.lk_domain.proofs.Manners.{moved_held, moved_names, fresh_kept}
+
+-- the calls below the newest, which is about to make a row
+abbrev pub RestsBelow : List Running → Type 0
+RestsBelow [] = Unit {0}
+RestsBelow (r ∷ rs) = Rests rs
+
+-- the calls of a processor whose newest is about to make a row
+pub record Poised (m : World) (p : ℕ) (c : Calls) : Type 0 where
+  pub acted : Acted m p c
+  pub stacked : Stacked c.frames
+  pub few : length c.frames ≤ 6
+  pub below : RestsBelow c.frames
+  pub held : AreHeld m.kind c.holds
+  pub fresh : AreFresh c.frames c.holds
+
+rests_below : (rs : List Running) → Rests rs → RestsBelow rs
+rests_below [] h = tt
+rests_below (r ∷ rs) h = h.1
+
+begun_held : (kind : ℕ → Kind) (v : Verb) (d l : ℕ) (hs : List Hold) → d < 6 → AreHeld kind hs
+    → AreHeld kind (holds_begun v d l hs)
+begun_held kind Unlock d l hs low h = moved_held kind d (lock_name l) hs low h
+begun_held kind RUnlock d l hs low h = moved_held kind d (lock_name l) hs low h
+begun_held kind WUnlock d l hs low h = moved_held kind d (lock_name l) hs low h
+begun_held kind _ d l hs low h = h
+
+-- a call that begins waits for a lock that its processor does not hold
+begun_fresh : (mode : Mode) (c : Calls) (v : Verb) (l : ℕ) → halts mode ≡ false → MayBegin c v l
+    → AreFresh c.frames c.holds
+    → AreFresh (running v (begun mode (length c.frames) v l) [] ∷ c.frames) (holds_begun v (length c.frames) l c.holds)
+begun_fresh mode c v l awake may are = by v may
+  where
+    moved : AreFresh c.frames (moved_to (length c.frames) (lock_name l) c.holds)
+    moved =
+        fresh_kept c.frames c.holds (moved_to (length c.frames) (lock_name l) c.holds)
+        (λ x w h. moved_names (length c.frames) (lock_name l) c.holds x ∙ h) are
+
+    released : (mode : Mode) → halts mode ≡ false → is_seeking (Some (first_place mode Unlock)) ≡ true → ⊥
+    released Virt a h = cc h
+    released Native a h = cc h
+    released Cna a h = cc h
+    released Pv a h = cc a
+
+    by : (v : Verb) → MayBegin c v l
+        → AreFresh (running v (begun mode (length c.frames) v l) [] ∷ c.frames) (holds_begun v (length c.frames) l c.holds)
+    by Unlock may = (λ h. absurd (released mode awake h), moved)
+    by RUnlock may = (λ h. absurd (let z : false ≡ true = h in cc z), moved)
+    by WUnlock may = (λ h. absurd (let z : false ≡ true = h in cc z), moved)
+    by Lock may = (λ _. may, are)
+    by Try may = (λ _. may, are)
+    by Read may = (λ _. may, are)
+    by TryRead may = (λ _. may, are)
+    by Write may = (λ _. may, are)
+    by TryWrite may = (λ _. may, are)
+
+pub poised : (k : Plan) (m : World) (hs : LockName → LockHistory) → IsSoundWorld m hs → halts m.mode ≡ false
+    → m.kind ≡ kind_at k → (mode : Mode) → m.mode ≡ mode → (p : ℕ) (c : Calls)
+    → SeatFits m p c → (v : Verb) (l : ℕ) → Begins k c v l → Poised m p (acting mode c v l)
+poised k m hs ok awake kinds mode is p c fits v l asks =
+    if_cases (λ (x : Calls). Poised m p x) (is_on c.frames v l) c (begin mode c v l)
+    (λ _. record {
+      acted = record {
+        world = m;
+        histories = hs;
+        sound = ok;
+        mirrors = fits.mirrors;
+        same = record { mode = refl; turns = refl; threshold = refl; sockets = refl; kind = refl; word = refl; rw = refl; node = refl; queued = refl };
+        others = λ u ne. (refl, λ j. refl);
+      };
+      stacked = fits.stacked;
+      few = fits.few;
+      below = rests_below c.frames fits.rests;
+      held = fits.held;
+      fresh = fits.fresh;
+    })
+    (λ off. let a = asks off in record {
+      acted = subst (λ (x : Mode). Acted m p (begin x c v l)) is
+          (begins m hs ok awake p c fits.mirrors fits.stacked fits.held fits.rests v l a.1 (ap (λ (g : ℕ → Kind). g l) kinds ∙ a.2));
+      stacked = (refl, fits.stacked);
+      few = let x = a.0 in omega arith;
+      below = fits.rests;
+      held = begun_held m.kind v (length c.frames) l c.holds a.0 fits.held;
+      fresh = begun_fresh mode c v l (ap halts (sym is) ∙ awake) a.1 fits.fresh;
+    })

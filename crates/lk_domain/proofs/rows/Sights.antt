@@ -1,0 +1,122 @@
+-- A seat that sees enough knows where its row leads.
+use Rattle.std.proofs.Common.{◌≡◌, ◌≢◌, ◌⊎◌, inl, inr, ℕ}
+use Rattle.std.proofs.Common.{Option, Some, None, Bool, true, false, refl}
+use Rattle.std.proofs.Common.{ap, arith}
+use Rattle.std.proofs.lemmas.Bool.{cases_Bool}
+use Rattle.std.specs.Prelude.{is_some}
+use Rattle.lk_word.specs.declared.spin_word.NodeName.{NodeName}
+use Rattle.lk_machine.specs.declared.parts.Frame.{Frame}
+use Rattle.lk_machine.specs.declared.parts.Pc.{Pc}
+use Rattle.lk_machine.specs.declared.parts.Pc.TheVariants.{C1, C2, C4, C5, C7, C9}
+use Rattle.lk_machine.specs.rows.Spin.{spin_row}
+use Rattle.lk_machine.specs.rows.Queue.{queue_row, entry_row, next_row}
+use Rattle.lk_machine.specs.rows.Rw.{rw_row}
+use Rattle.lk_machine.specs.rows.Cna.{Sight, search_row, runs_row, after_more}
+use Rattle.lk_machine.specs.TopRow.{Target, SpinWord, QueueWord, Queued, FlagOf, NextOf, RwWord}
+use Rattle.lk_machine.specs.TopRow.{ChoiceWord, ChoiceFlag, ChoiceNext, SecondTailOf, RunsOf, target}
+use Rattle.lk_law.specs.Families.{is_rw_row}
+use Rattle.lk_law.specs.Leads.{Met, Word, Shared, Number, Flagged, Named, Setting, course_of}
+use Rattle.lk_law.specs.Leads.{course_at}
+use Rattle.lk_domain.proofs.rows.Grips.{IsOwn}
+
+-- the target is that of a row of a spinlock, or of a choice of the next
+abbrev pub IsUnseen : Pc → Target → Type 0
+IsUnseen c SpinWord = Unit {0}
+IsUnseen c QueueWord = Unit {0}
+IsUnseen c Queued = Unit {0}
+IsUnseen c (FlagOf n) = Unit {0}
+IsUnseen c (NextOf n) = Unit {0}
+IsUnseen c ChoiceWord = Unit {0}
+IsUnseen c (ChoiceFlag n) = Unit {0}
+IsUnseen c (ChoiceNext n) = Unit {0}
+IsUnseen c (SecondTailOf n) = Unit {0}
+IsUnseen c (RunsOf n) = Unit {0}
+IsUnseen c RwWord = Unit {0}
+IsUnseen c _ = ⊥
+
+-- it is one of a spinlock or a wait lock, or of a reader or a writer
+pub unseen_cases : (c : Pc) (f : Frame) → IsUnseen c (target c f)
+    → IsOwn (target c f) ⊎ (is_rw_row c ≡ true)
+unseen_cases c f h = elim (cases_Bool (is_rw_row c)) [ inl e ↦ inr e | inr e ↦ inl (own c f e h) ]
+  where
+    own : (c : Pc) (f : Frame) → is_rw_row c ≡ false → IsUnseen c (target c f) → IsOwn (target c f)
+    own c f e h = plain (target c f) h (rw_apart c f e)
+      where
+        plain : (t : Target) → IsUnseen c t → t ≢ RwWord → IsOwn t
+        plain SpinWord h ne = tt
+        plain QueueWord h ne = tt
+        plain Queued h ne = tt
+        plain (FlagOf n) h ne = tt
+        plain (NextOf n) h ne = tt
+        plain ChoiceWord h ne = tt
+        plain (ChoiceFlag n) h ne = tt
+        plain (ChoiceNext n) h ne = tt
+        plain (SecondTailOf n) h ne = tt
+        plain (RunsOf n) h ne = tt
+        plain RwWord h ne = absurd (ne refl)
+        plain _ h ne = absurd h
+
+        rw_apart : (c : Pc) (f : Frame) → is_rw_row c ≡ false → target c f ≢ RwWord
+        rw_apart c f h e = grind (arith, h, e)
+
+-- where the front looks at the node behind its own, the seat has read the count of handovers
+abbrev pub Sees : Pc → Option ℕ → Type 0
+Sees C1 r = is_some r ≡ true
+Sees c r = Unit {0}
+
+-- the seat knows where the row leads
+abbrev pub IsSeen : Pc → Target → Option ℕ → Type 0
+IsSeen c t r = IsUnseen c t × Sees c r
+
+-- The course needs of the setting the family, the turns and the processor; and where a front looks
+-- along the links, what it sees.
+abbrev pub SeesSame : Pc → Sight → Sight → Type 0
+SeesSame C1 s s' = s ≡ s'
+SeesSame C2 s s' = s.local ≡ s'.local
+SeesSame c s s' = Unit {0}
+
+search_more : (s s' : Sight) (f : Frame) (x : Option NodeName) → s.local ≡ s'.local
+    → course_of (search_row s C2 f x) ≡ course_of (search_row s' C2 f x)
+search_more s s' f None h = refl
+search_more s s' f (Some n) h = ap (λ (g : NodeName → Bool). course_of (after_more (record s { local = g }) f n)) h
+
+search_course : (s s' : Sight) (c : Pc) (f : Frame) (x : Option NodeName) → SeesSame c s s'
+    → course_of (search_row s c f x) ≡ course_of (search_row s' c f x)
+search_course s s' C1 f x h = ap (λ (z : Sight). course_of (search_row z C1 f x)) h
+search_course s s' C2 f x h = search_more s s' f x h
+search_course s s' C4 f x h = refl
+search_course s s' C5 f x h = refl
+search_course s s' C9 f x h = refl
+search_course s s' _ f x h = refl
+
+runs_course : (s s' : Sight) (c : Pc) (f : Frame) (x : ℕ)
+    → course_of (runs_row s c f x) ≡ course_of (runs_row s' c f x)
+runs_course s s' C7 f x = refl
+runs_course s s' _ f x = refl
+
+pub same_course : (s s' : Setting) (c : Pc) (f : Frame) (t : Target) (x : Met) → IsUnseen c t
+    → s.mode ≡ s'.mode → s.turns ≡ s'.turns → s.cpu ≡ s'.cpu → SeesSame c s.sight s'.sight
+    → course_at s c f t x ≡ course_at s' c f t x
+same_course s s' c f SpinWord (Word x) h mode turns cpu sees = (λ i. course_of (spin_row (mode i) c f x))
+same_course s s' c f SpinWord _ h mode turns cpu sees = refl
+same_course s s' c f QueueWord (Word x) h mode turns cpu sees = (λ i. course_of (queue_row (mode i) c f x))
+same_course s s' c f QueueWord _ h mode turns cpu sees = refl
+same_course s s' c f Queued (Number x) h mode turns cpu sees = (λ i. course_of (entry_row (mode i) (cpu i) x))
+same_course s s' c f Queued _ h mode turns cpu sees = refl
+same_course s s' c f (FlagOf n) (Flagged x) h mode turns cpu sees = refl
+same_course s s' c f (FlagOf n) _ h mode turns cpu sees = refl
+same_course s s' c f (NextOf n) (Named x) h mode turns cpu sees = (λ i. course_of (next_row (mode i) (turns i) c f x))
+same_course s s' c f (NextOf n) _ h mode turns cpu sees = refl
+same_course s s' c f RwWord (Shared x) h mode turns cpu sees = (λ i. course_of (rw_row (mode i) c f x))
+same_course s s' c f RwWord _ h mode turns cpu sees = refl
+same_course s s' c f ChoiceWord (Word x) h mode turns cpu sees = refl
+same_course s s' c f ChoiceWord _ h mode turns cpu sees = refl
+same_course s s' c f (ChoiceFlag n) (Flagged x) h mode turns cpu sees = refl
+same_course s s' c f (ChoiceFlag n) _ h mode turns cpu sees = refl
+same_course s s' c f (ChoiceNext n) (Named x) h mode turns cpu sees = search_course s.sight s'.sight c f x sees
+same_course s s' c f (ChoiceNext n) _ h mode turns cpu sees = refl
+same_course s s' c f (SecondTailOf n) (Named x) h mode turns cpu sees = refl
+same_course s s' c f (SecondTailOf n) _ h mode turns cpu sees = refl
+same_course s s' c f (RunsOf n) (Number x) h mode turns cpu sees = runs_course s.sight s'.sight c f x
+same_course s s' c f (RunsOf n) _ h mode turns cpu sees = refl
+same_course s s' c f _ x h mode turns cpu sees = absurd h

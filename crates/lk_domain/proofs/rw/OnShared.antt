@@ -1,0 +1,258 @@
+-- The steps on the word of a reader-writer lock.
+use Rattle.std.proofs.Common.{◌≡◌, ◌≢◌, ◌⊎◌, inl, inr, ℕ, ◌<◌, ◌≤◌, List, length, set}
+use Rattle.std.proofs.Common.{get_or, Option, Some, None, true, false, refl, sym, ap, ◌∙◌, subst}
+use Rattle.std.proofs.Common.{arith, length-set, get_or-set_other, eqb, eq-eqb, ne_eqb}
+use Rattle.std.proofs.lemmas.Bool.{cases_lt, cases_eq}
+use Rattle.std.specs.Prelude.{unwrap_or}
+use mathlib.Core.Option.{Option as Maybe, some}
+use lib.ListN.{get_elem?}
+use Rattle.atomic_table.specs.Table.{State}
+use Rattle.lk_abs.specs.declared.names.Kind.{Kind}
+use Rattle.lk_abs.specs.declared.names.Kind.TheVariants.{Rw}
+use Rattle.lk_abs.specs.declared.names.Mode.{Mode}
+use Rattle.lk_abs.specs.declared.names.Waiter.{Waiter}
+use Rattle.lk_abs.specs.declared.names.LockName.{LockName}
+use Rattle.lk_word.specs.declared.spin_word.NodeName.{NodeName}
+use Rattle.lk_word.specs.declared.rw_word.RwFields.{RwFields}
+use Rattle.lk_word.specs.RwWord.{packed_rw, IsPackableRw}
+use Rattle.lk_machine.specs.Moves.{rw_name, wait_name}
+use Rattle.lk_machine.specs.declared.parts.Node.{Node}
+use Rattle.lk_machine.specs.declared.parts.Frame.{Frame}
+use Rattle.lk_machine.specs.declared.parts.Pc.{Pc}
+use Rattle.lk_machine.specs.declared.parts.Pc.TheVariants.{C1, Z1}
+use Rattle.lk_machine.specs.declared.setup.Verb.{Verb}
+use Rattle.lk_machine.specs.rows.Rw.{rw_row}
+use Rattle.lk_machine.specs.TopRow.{target}
+use Rattle.lk_law.specs.Families.{is_rw_row}
+use Rattle.lk_law.specs.Leads.{Shared, met_in, stored_in}
+use Rattle.lk_law.specs.RwKnown.{RwKnown}
+use Rattle.lk_law.specs.RwPhase.{is_counted, is_inner}
+use Rattle.lk_law.specs.RwPhase.RwPhase.{Unreads}
+use Rattle.lk_law.specs.Snapshot.{spins}
+use Rattle.lk_law.specs.SoundWorld.{rw_phases, rw_helds, rw_phase_on, rw_phase_if, rw_phase_at}
+use Rattle.lk_law.specs.Steps.{stores_rw}
+use Rattle.lk_law.specs.World.{World}
+use Rattle.lk_law.proofs.common.Puts.{if-true, if-false}
+use Rattle.lk_law.proofs.rw.Few.{each_few}
+use Rattle.lk_law.proofs.rw.Knows.{rw_row_knows}
+use Rattle.lk_law.proofs.rw.Phases.{rw_here}
+use Rattle.lk_domain.specs.Calls.{terms_of, Calls, StandsOn, row_of, acting, Begins, lock_name, held_in}
+use Rattle.lk_domain.specs.Keeps.{sole_count}
+use Rattle.lk_domain.specs.Plans.{cpus_of, locks_of}
+use Rattle.lk_domain.specs.Runs.{waiter, node_name, IsIdle, IsStored, Runs}
+use Rattle.lk_domain.specs.Words.{lock_at, node_at, node_number}
+use Rattle.lk_domain.specs.declared.plan.Plan.{Plan}
+use Rattle.lk_domain.specs.declared.view.View.{View}
+use Rattle.lk_domain.proofs.rows.Grips.{rw_target, shared_bare}
+use Rattle.lk_domain.proofs.rows.Lands as lands
+use Rattle.lk_domain.proofs.rows.Sights.{IsUnseen, IsSeen, Sees}
+use Rattle.lk_domain.proofs.rows.Poised.{Poised}
+use Rattle.lk_domain.proofs.rows.Lands.{counted_after}
+use Rattle.lk_domain.proofs.words.Locks.{shared_stored}
+use Rattle.lk_domain.proofs.Manners.{held_above, held_cases}
+use Rattle.lk_domain.proofs.Stacks.{frame_in-above}
+use Rattle.lk_domain.proofs.seats.Totals.{drawn}
+use Rattle.lk_domain.proofs.ledger.Held.{reads_sole}
+
+rw_nodes : (m : World) (l : ℕ) (o : Option RwFields) → (stores_rw m l o).node ≡ m.node
+rw_nodes m l None = refl
+rw_nodes m l (Some y) = refl
+
+rw_words : (m : World) (l : ℕ) (o : Option RwFields) → (stores_rw m l o).word ≡ m.word
+rw_words m l None = refl
+rw_words m l (Some y) = refl
+
+stored_here : (m : World) (l : ℕ) (o : Option RwFields) → (stores_rw m l o).rw l ≡ unwrap_or o (m.rw l)
+stored_here m l None = refl
+stored_here m l (Some y) = if-true (eqb l l) y (m.rw l) (eq-eqb l l refl)
+
+stored_else : (m : World) (l j : ℕ) (o : Option RwFields) → j ≢ l → (stores_rw m l o).rw j ≡ m.rw j
+stored_else m l j None ne = refl
+stored_else m l j (Some y) ne = if-false (eqb j l) y (m.rw j) (ne_eqb j l ne)
+
+-- the words of a table in which the word of a reader-writer lock has changed
+rw_stored : (k : Plan) (m n : World) (ws : List ℕ) → IsStored k m ws → (l : ℕ) (i : ℕ) → l < locks_of k
+    → m.kind l ≡ Rw → i ≡ packed_rw (n.rw l) → ((j : ℕ) → j ≢ l → n.rw j ≡ m.rw j) → n.word ≡ m.word
+    → n.node ≡ m.node → n.kind ≡ m.kind → IsStored k n (set ws (lock_at l) i)
+rw_stored k m n ws st l i near on is others words node kind =
+    record {
+      long = length-set ws (lock_at l) i ∙ st.long;
+      locks = shared_stored k m n ws st.locks l i (let z = st.long in omega arith) on is others words kind;
+      nodes = λ a q h b has. get_or-set_other ws (lock_at l) (node_at k a q) i 0 (λ e. omega arith)
+          ∙ (st.nodes a q h b has ∙ ap (λ (g : NodeName → Node). node_number q (g a)) (sym node));
+    }
+
+-- a row of a reader or a writer is no look along links
+pub rw_sees : (c : Pc) → is_rw_row c ≡ true → (r : Option ℕ) → Sees c r
+rw_sees C1 h r = cc h
+rw_sees _ h r = tt
+
+-- who has no frame and no lock is not counted
+idle_uncounted : (m : World) (l : ℕ) (u : Waiter) → IsIdle m u
+    → is_counted (rw_phases m l u) (rw_helds m l u) ≡ false
+idle_uncounted m l u idle =
+    (λ i. is_counted (rw_phase_on l (idle.0 i)) (idle.1 (rw_name l) i))
+
+module _ (k : Plan) {S : Type 0} (s : State S View) (st : Runs k s) (id : ℕ) (v : View)
+    (me : get_elem? s.views id ≡ some v) (p : ℕ) (is : v.who.number ≡ Some p) where
+  -- nobody is there but six contexts of the processors of the plan
+  out_of_reach : (c : Calls) (at : Poised st.world p c) (u : Waiter) → (6 ≤ u.ctx) ⊎ (cpus_of k ≤ u.cpu)
+      → IsIdle at.acted.world u
+  out_of_reach c at u far =
+      elim (cases_eq u.cpu p) [
+        | inl e ↦
+            let low = drawn s.views (get_or s.words 0 0) st.once id v p me is in
+            let few = st.roll in
+            let high : 6 ≤ u.ctx = elim far [ inl h ↦ h | inr h ↦ absurd (omega (arith, h, e, low, few)) ] in
+            subst (λ (z : ℕ). IsIdle at.acted.world (waiter z u.ctx)) (sym e) (
+              at.acted.mirrors.frames u.ctx ∙ frame_in-above c.frames u.ctx at.stacked (let x = at.few in omega arith),
+              λ l. at.acted.mirrors.holds u.ctx l ∙ held_above st.world.kind c.holds u.ctx l at.held high,
+            )
+        | inr ne ↦
+            let others = at.acted.others u ne in
+            let idle : IsIdle st.world u = elim far [
+              | inl h ↦ st.six u h
+              | inr h ↦ let few = st.roll in let b = st.blank u.cpu (omega (arith, h, few)) in (b.frames u.ctx, λ l. b.holds u.ctx l)
+            ] in (others.0 ∙ idle.0, λ l. others.1 l ∙ idle.1 l)
+      ]
+
+  module _ (verb : Verb) (n : LockName) (pc : Pc) (asks : Begins k v.calls verb n.index)
+      (acts : StandsOn (acting k.mode v.calls verb n.index) verb n pc) (near : n.index < locks_of k)
+      (row : is_rw_row pc ≡ true) where
+    abbrev pub l : ℕ
+    l = n.index
+
+    abbrev pub f : Frame
+    f = acts.frame
+
+    abbrev pub unseen : IsSeen pc (target pc acts.frame) (acting k.mode v.calls verb n.index).runs
+    unseen = (subst (IsUnseen pc) (sym (rw_target pc acts.frame row)) tt, rw_sees pc row (acting k.mode v.calls verb n.index).runs)
+
+    abbrev w : Waiter
+    w = waiter p f.ctx
+
+    abbrev at : Poised st.world p (acting k.mode v.calls verb n.index)
+    at = lands.at k s st id v me p is verb n pc asks acts unseen
+
+    abbrev pub m : World
+    m = at.acted.world
+
+    index_is : f.lock.index ≡ l
+    index_is = ap (λ (z : LockName). z.index) acts.lock
+
+    kind_is : m.kind l ≡ Rw
+    kind_is =
+        ap m.kind (sym index_is)
+        ∙ (lands.fitting k s st id v me p is verb n pc asks acts unseen).rw pc acts.place row
+
+    kind_was : st.world.kind l ≡ Rw
+    kind_was = ap (λ (g : ℕ → Kind). g l) (sym at.acted.same.kind) ∙ kind_is
+
+    -- a context without a call has not the wait lock
+    pub outside : (d : ℕ) → length v.calls.frames ≤ d → held_in v.calls.holds d (wait_name l) ≡ None
+    outside d high =
+        let fits = st.seats id v p me is in
+        let u : Waiter = waiter p d in
+        let away : st.world.frame u ≡ None =
+        fits.mirrors.frames d ∙ frame_in-above v.calls.frames d fits.stacked high in
+        let inner : spins (st.world.held u (wait_name l)) ≡ false =
+        (st.sound.rws l kind_was).waiting.inner u ∙ ap (λ o. is_inner (rw_phase_on l o)) away in
+        elim (held_cases st.world.kind v.calls.holds d (wait_name l) fits.held refl) [
+          | inl e ↦ e
+          | inr e ↦
+              let z : true ≡ false = sym (ap spins (fits.mirrors.holds d (wait_name l) ∙ e)) ∙ inner in
+              absurd (cc z)
+        ]
+
+    -- the word that the step meets
+    abbrev pub found : RwFields
+    found = m.rw l
+
+    pub found_is : get_or s.words (lock_at l) 0 ≡ packed_rw found
+    found_is = st.stored.locks.shared l near kind_was ∙ ap (λ (g : ℕ → RwFields). packed_rw (g l)) (sym at.acted.same.rw)
+
+    -- it counts no more than six readers a processor
+    pub found_packs : IsPackableRw found
+    found_packs =
+        let agrees = at.acted.sound.rws l kind_is in
+        let cpus = st.lawful.cpus in
+        let few = each_few 384 _ agrees.counted agrees.readers.each
+        (λ u counted. elim (cases_lt u.ctx 6) [
+          | inl low ↦ elim (cases_lt u.cpu (cpus_of k)) [
+            | inl near ↦ (low, omega (arith, low, near, cpus))
+            | inr far ↦ absurd (seen u counted (out_of_reach _ at u (inr (omega (arith, far)))))
+          ]
+          | inr high ↦ absurd (seen u counted (out_of_reach _ at u (inl (omega (arith, high)))))
+        ]) in
+        let number = agrees.readers.number in
+        omega (arith, few, number)
+      where
+        seen : (u : Waiter) → is_counted (rw_phases m l u) (rw_helds m l u) ≡ true → IsIdle m u → ⊥
+        seen u h idle = let z : true ≡ false = sym h ∙ idle_uncounted m l u idle in cc z
+
+    pub known : RwKnown pc found
+    known =
+        subst (λ (i : ℕ). RwKnown pc (m.rw i)) index_is
+        (rw_row_knows pc m at.acted.histories w f at.acted.sound (lands.live k s st id v me p is verb n pc asks acts unseen)
+        acts.place row).1
+
+    -- who releases as a reader holds the lock so, and nobody of its processor holds it alone
+    pub unalone : pc ≡ Z1 → l ≡ 0 → sole_count (acting k.mode v.calls verb l).holds ≡ 0
+    unalone reads first =
+        let live = lands.live k s st id v me p is verb n pc asks acts unseen in
+        let phase : rw_phases m l w ≡ Unreads =
+        ap (rw_phase_on l) live
+        ∙ (rw_here l f index_is
+        ∙ (ap (λ (c : Option Pc). rw_phase_if c f.lock.wait) acts.place ∙ ap (λ (c : Pc). rw_phase_at c f.lock.wait) reads)) in
+        let held = sym (at.acted.mirrors.holds f.ctx (lock_name l)) ∙ (at.acted.sound.rws l kind_is).holds.unreads w phase in
+        reads_sole st.world.kind (acting k.mode v.calls verb l).holds f.ctx at.held
+        (ap (λ (i : ℕ). held_in (acting k.mode v.calls verb l).holds f.ctx (lock_name i)) (sym first) ∙ held)
+
+    pub met_is : met_in m w f (target pc f) ≡ Shared found
+    met_is = ap (met_in m w f) (rw_target pc f row) ∙ ap (λ (i : ℕ). Shared (m.rw i)) index_is
+
+    abbrev stores : Option RwFields
+    stores = (rw_row m.mode pc f found).stores
+
+    stored_is : stored_in m w f pc (target pc f) ≡ stores_rw m l stores
+    stored_is =
+        ap (stored_in m w f pc) (rw_target pc f row)
+        ∙ ap (λ (i : ℕ). stores_rw m i (rw_row m.mode pc f (m.rw i)).stores) index_is
+
+    row_rw : (lands.n k s st id v me p is verb n pc asks acts unseen).rw ≡ (stores_rw m l stores).rw
+    row_rw = (lands.row_done k s st id v me p is verb n pc asks acts unseen).rw ∙ ap (λ (z : World). z.rw) stored_is
+
+    row_words : (lands.n k s st id v me p is verb n pc asks acts unseen).word ≡ m.word
+    row_words =
+        (lands.row_done k s st id v me p is verb n pc asks acts unseen).word
+        ∙ (ap (λ (z : World). z.word) stored_is ∙ rw_words m l stores)
+
+    row_nodes : (lands.n k s st id v me p is verb n pc asks acts unseen).node ≡ m.node
+    row_nodes =
+        (lands.row_done k s st id v me p is verb n pc asks acts unseen).node
+        (shared_bare m w f pc (lands.fitting k s st id v me p is verb n pc asks acts unseen) acts.place row)
+        ∙ (ap (λ (z : World). z.node) stored_is ∙ rw_nodes m l stores)
+
+    -- a step on the word that makes the row of the call, where it writes what the row stores
+    pub shared_step : (i : ℕ)
+        → i ≡ packed_rw (unwrap_or (rw_row k.mode pc f found).stores found)
+        → (u : View) → u.who ≡ v.who
+        → u.calls ≡ row_of (terms_of k) p (acting k.mode v.calls verb l) (Shared found) → (homes : List (Maybe S))
+        → Runs k {S = S} (record { words = set s.words (lock_at l) i; homes = homes; views = set s.views id u })
+    shared_step i writes u who calls homes =
+        let after : World = lands.n k s st id v me p is verb n pc asks acts unseen in
+        let mode : k.mode ≡ m.mode = sym (at.acted.same.mode ∙ st.of_plan.mode) in
+        let here : after.rw l ≡ unwrap_or stores found = ap (λ (g : ℕ → RwFields). g l) row_rw ∙ stored_here m l stores in
+        lands.lands k s st id v me p is verb n pc asks acts unseen u who
+        (calls ∙ ap (row_of (terms_of k) p (acting k.mode v.calls verb l)) (sym met_is))
+        (set s.words (lock_at l) i)
+        (rw_stored k st.world after s.words st.stored l i near kind_was
+        (writes
+        ∙ (ap (λ (z : Mode). packed_rw (unwrap_or (rw_row z pc f found).stores found)) mode ∙ ap packed_rw (sym here)))
+        (λ j ne. ap (λ (g : ℕ → RwFields). g j) row_rw ∙ (stored_else m l j stores ne ∙ ap (λ (g : ℕ → RwFields). g j) at.acted.same.rw))
+        (row_words ∙ at.acted.same.word) (row_nodes ∙ at.acted.same.node)
+        ((lands.row_done k s st id v me p is verb n pc asks acts unseen).kind ∙ at.acted.same.kind))
+        (get_or-set_other s.words (lock_at l) 0 i 0 (λ e. omega arith))
+        (λ q e ne fit. ap (λ (g : NodeName → Node). g (node_name q (st.world.queued q))) (row_nodes ∙ at.acted.same.node))
+        (λ q e ne fit. counted_after st.world after e (sym (row_nodes ∙ at.acted.same.node)) fit.counted)
+        homes

@@ -1,0 +1,208 @@
+-- What the step calls on the words of reader-writer locks ask.
+use Rattle.std.proofs.Common.{◌≡◌, ℕ, ◌<◌, get_or, set}
+use Rattle.std.proofs.Common.{None, Bool, true, inl, inr, get_or-set_other, refl, sym, ap, ◌∙◌}
+use Rattle.std.proofs.Common.{subst, arith}
+use mathlib.Core.Option.{some}
+use lib.ListN.{get_elem?}
+use Rattle.atomic_table.specs.Table.{State, Me, Step, keeps, Allows}
+use Rattle.lk_abs.specs.declared.names.LockName.{LockName}
+use Rattle.lk_abs.specs.declared.names.Mode.{Mode}
+use Rattle.lk_word.specs.declared.rw_word.RwFields.{RwFields}
+use Rattle.lk_word.specs.RwWord.{packed_rw, IsPackableRw}
+use Rattle.lk_machine.specs.declared.parts.Frame.{Frame}
+use Rattle.lk_machine.specs.declared.parts.Pc.{Pc}
+use Rattle.lk_machine.specs.declared.parts.Pc.TheVariants.{Z2}
+use Rattle.lk_machine.specs.declared.setup.Verb.{Verb}
+use Rattle.lk_machine.specs.Moves.{rw_name}
+use Rattle.lk_machine.specs.TopRow.{Target, target}
+use Rattle.lk_law.specs.Families.{is_rw_row}
+use Rattle.lk_law.specs.Leads.{Shared, held_lock}
+use Rattle.lk_law.specs.RwKnown.{RwKnown}
+use Rattle.lk_domain.specs.Calls.{terms_of, Calls, Frees, StandsOn, acting, Begins, row_of, grip_of, lock_name}
+use Rattle.lk_domain.specs.Keeps.{Slot, Keeps, Knows}
+use Rattle.lk_domain.specs.Ledgers.{is_first, turned}
+use Rattle.lk_domain.specs.Plans.{locks_of}
+use Rattle.lk_domain.specs.Plays.{made, turned_of}
+use Rattle.lk_domain.specs.Runs.{waiter, Runs}
+use Rattle.lk_domain.specs.RwPlays.{ActsFor, SharedBy, Shares}
+use Rattle.lk_domain.specs.Stand.{Stand}
+use Rattle.lk_domain.specs.Views.{IsNumbered, own_number}
+use Rattle.lk_domain.specs.Words.{lock_at, version_at, balance_at}
+use Rattle.lk_domain.specs.declared.plan.Plan.{Plan}
+use Rattle.lk_domain.specs.declared.view.View.{View}
+use Rattle.lk_domain.proofs.rows.Fresh as fresh
+use Rattle.lk_domain.proofs.rows.Grips.{rw_target, frees_at}
+use Rattle.lk_domain.proofs.rows.Lands as lands
+use Rattle.lk_domain.proofs.rows.Sights.{IsSeen}
+use Rattle.lk_domain.proofs.words.LockPlays.{acting_any, acting_sole}
+use Rattle.lk_domain.proofs.ledger.Alone.{some_out, out_is}
+use Rattle.lk_domain.proofs.ledger.Purses.{alters, knows_after}
+use Rattle.lk_domain.proofs.rw.Numbers as numbers
+use Rattle.lk_domain.proofs.rw.OnShared as on
+
+first_index : (l : ℕ) → is_first (lock_name l) ≡ true → l ≡ 0
+first_index l e = grind (arith, e)
+
+-- what a step that writes g of the word has to do with the row
+abbrev pub Writes : Pc → (ℕ → ℕ) → Type 0
+Writes pc g = (mode : Mode) (fr : Frame) (y : RwFields) → IsPackableRw y → RwKnown pc y
+    → g (packed_rw y) ≡ packed_rw (numbers.writes mode pc fr y)
+
+-- the parts of one step, and what it gives
+module _ (k : Plan) (slots id : ℕ) (m : Me Slot View) (number : IsNumbered m.0) (verb : Verb)
+    (n : LockName) (near : n.index < locks_of k) (pc : Pc)
+    (acts : StandsOn (acting m.0.who.plan.mode m.0.calls verb n.index) verb n pc)
+    (begins : Begins m.0.who.plan m.0.calls verb n.index) (row : is_rw_row pc ≡ true) where
+  abbrev l : ℕ
+  l = n.index
+
+  module _ (s : State Slot View) (both : Stand k s) (me : get_elem? s.views id ≡ some m.0) where
+    abbrev pub ok : Runs k s
+    ok = both.runs
+
+    pub planned : m.0.who.plan ≡ k
+    planned = both.runs.planned id m.0 number.0 me number.1
+
+    abbrev pub asked : Begins k m.0.calls verb l
+    asked = subst (λ (j : Plan). Begins j m.0.calls verb l) planned begins
+
+    abbrev pub acts' : StandsOn (acting k.mode m.0.calls verb l) verb n pc
+    acts' = record {
+      frame = acts.frame;
+      trail = acts.trail;
+      rest = acts.rest;
+      is = ap (λ (q : Plan). (acting q.mode m.0.calls verb l).frames) (sym planned) ∙ acts.is;
+      place = acts.place;
+      lock = acts.lock;
+    }
+
+    abbrev unseen : IsSeen pc (target pc acts'.frame) (acting k.mode m.0.calls verb l).runs
+    unseen = on.unseen k s ok id m.0 me number.0 number.1 verb n pc asked acts' near row
+
+    abbrev pub y : RwFields
+    y = on.found k s ok id m.0 me number.0 number.1 verb n pc asked acts' near row
+
+    abbrev pub u : View
+    u = made m.0 verb l (Shared y)
+
+    pub y_packs : IsPackableRw y
+    y_packs = on.found_packs k s ok id m.0 me number.0 number.1 verb n pc asked acts' near row
+
+    pub y_is : get_or s.words (lock_at l) 0 ≡ packed_rw y
+    y_is = on.found_is k s ok id m.0 me number.0 number.1 verb n pc asked acts' near row
+
+    met_is : lands.x k s ok id m.0 me number.0 number.1 verb n pc asked acts' unseen ≡ Shared y
+    met_is = on.met_is k s ok id m.0 me number.0 number.1 verb n pc asked acts' near row
+
+    calls_are : u.calls ≡ row_of (terms_of k) number.0 (acting k.mode m.0.calls verb l) (Shared y)
+    calls_are = (λ j. row_of (terms_of (planned j)) (own_number (number.1 j)) (acting (planned j).mode m.0.calls verb l) (Shared y))
+
+    -- the machine part
+    pub rows : (i : ℕ)
+        → ((mode : Mode) → RwKnown pc y → i ≡ packed_rw (numbers.writes mode pc acts.frame y))
+        → Runs k (record { words = set s.words (lock_at l) i; homes = s.homes; views = set s.views id u })
+    rows i writes =
+        on.shared_step k s ok id m.0 me number.0 number.1 verb n pc asked acts' near row i
+        (writes k.mode (on.known k s ok id m.0 me number.0 number.1 verb n pc asked acts' near row))
+        u refl calls_are s.homes
+
+    abbrev t : Target
+    t = target pc acts.frame
+
+    abbrev frees : Type 0
+    frees = grip_of t (lands.o k s ok id m.0 me number.0 number.1 verb n pc asked acts' unseen) ≡ Frees
+
+    -- the ledger part
+    knows : (frees → is_first (lock_name l) ≡ true → m.0.ledger.out ≡ None) → Knows k both.keeps.journal u
+    knows home =
+        let c : Calls = acting k.mode m.0.calls verb l in
+        let f = acts'.frame in
+        let x = lands.x k s ok id m.0 me number.0 number.1 verb n pc asked acts' unseen in
+        let o = lands.o k s ok id m.0 me number.0 number.1 verb n pc asked acts' unseen in
+        let trail = lands.trail k s ok id m.0 me number.0 number.1 verb n pc asked acts' unseen in
+        let lock : held_lock t f ≡ lock_name l =
+        ap (λ (z : Target). held_lock z f) (rw_target pc f row) ∙ ap (λ (z : LockName). rw_name z.index) acts'.lock in
+        let ledger : u.ledger ≡ turned m.0.ledger (held_lock t f) (grip_of t o) trail =
+        (λ j. turned_of (terms_of (planned j)) (own_number (number.1 j)) (acting (planned j).mode m.0.calls verb l) (sym met_is j) m.0.ledger)
+        ∙ fresh.turns k s ok id m.0 me number.0 number.1 verb n pc asked acts' unseen m.0.ledger in
+        let holds = calls_are ∙ (ap (row_of (terms_of k) number.0 c) (sym met_is) ∙ lands.rowed k s ok id m.0 me number.0 number.1 verb n pc asked acts' unseen) in
+        knows_after k both.keeps.journal m.0 u number.0 number.1 (both.keeps.knows id m.0 me) c f.ctx (held_lock t f) trail
+        (acting_any k.mode m.0.calls verb l) (acting_sole k.mode m.0.calls verb l) refl (grip_of t o) ledger
+        (ap (λ (z : Calls). z.holds) holds)
+        (fresh.fresh k s ok id m.0 me number.0 number.1 verb n pc asked acts' unseen)
+        (λ e on_first. home e (ap is_first (sym lock) ∙ on_first))
+
+    pub keeps_on : (frees → is_first (lock_name l) ≡ true → m.0.ledger.out ≡ None) → (i : ℕ)
+        → Keeps k (record { words = set s.words (lock_at l) i; homes = s.homes; views = set s.views id u })
+    keeps_on home i =
+        let purse : fresh.SamePurse m.0.ledger u.ledger =
+        fresh.turned_purse m.0.who.plan (own_number m.0.who.number) (acting m.0.who.plan.mode m.0.calls verb l) (Shared y) m.0.ledger in
+        alters k s both.keeps id m.0 u (set s.words (lock_at l) i) me purse.share (knows home)
+        (get_or-set_other s.words (lock_at l) 0 i 0 (λ e. omega arith))
+        (get_or-set_other s.words (lock_at l) version_at i 0 (λ e. omega arith))
+        (λ a lt. get_or-set_other s.words (lock_at l) (balance_at k a) i 0 (λ e. omega arith)) purse.out
+
+    pub is_made : SharedBy verb l m (get_or s.words (lock_at l) 0) (u, m.1)
+    is_made =
+        record {
+          found = y;
+          packs = y_packs;
+          word = y_is;
+          seat = refl;
+          outside = on.outside k s ok id m.0 me number.0 number.1 verb n pc asked acts' near row;
+        }
+
+  -- a step that makes the row, whatever it meets
+  pub plays : (st : Step Slot) (g : ℕ → ℕ) → st.word ≡ lock_at l
+      → ((s : State Slot View) (both : Stand k s) (me : get_elem? s.views id ≡ some m.0)
+      → frees s both me → is_first (lock_name l) ≡ true → m.0.ledger.out ≡ None)
+      → Writes pc g → Allows (Stand k) slots id m (lock_at l) g (Shares verb st m)
+  plays st g at home writes s both long me small =
+      let x : ℕ = get_or s.words (lock_at l) 0 in (
+        u s both me,
+        keeps,
+        tt,
+        record {
+          runs = rows s both me (g x) (λ mode known. ap g (y_is s both me) ∙ writes mode acts.frame (y s both me) (y_packs s both me) known);
+          keeps = keeps_on s both me (home s both me) (g x);
+        },
+        λ j e. let same : l ≡ j = omega arith in
+            subst (λ (z : ℕ). SharedBy verb z m x (u s both me, m.1)) same (is_made s both me),
+      )
+
+  -- a row that frees lock 0 does so where the journal is at home: with a reader it never is out
+  pub home : (pc ≡ Z2 → is_first (lock_name l) ≡ true → m.0.ledger.out ≡ None)
+      → (s : State Slot View) (both : Stand k s) (me : get_elem? s.views id ≡ some m.0)
+      → frees s both me → is_first (lock_name l) ≡ true → m.0.ledger.out ≡ None
+  home written s both me e first =
+      elim (frees_at (lands.m k s (ok s both me) id m.0 me number.0 number.1 verb n pc (asked s both me) (acts' s both me) (unseen s both me)) (waiter number.0 acts.frame.ctx)
+      acts.frame pc row e) [
+        | inl reads ↦
+            let index : l ≡ 0 = first_index l first in
+            let none = on.unalone k s (ok s both me) id m.0 me number.0 number.1 verb n pc (asked s both me) (acts' s both me) near row reads index in
+            elim (some_out m.0.ledger.out) [
+              | inl h ↦ h
+              | inr h ↦
+                  let sole = (both.keeps.knows id m.0 me).holder (out_is h.0 m.0.ledger.out h.1) in
+                  absurd (omega (arith, sole, none, acting_sole k.mode m.0.calls verb l))
+            ]
+        | inr writes ↦ written writes first
+      ]
+
+-- what the calls ask, in which the word is named by its place
+module _ (k plan : Plan) (slots id : ℕ) (m : Me Slot View) (number : IsNumbered m.0) (verb : Verb)
+    (l i : ℕ) (st : Step Slot) (same : k ≡ plan) (near : l < locks_of plan) (at : i ≡ lock_at l)
+    (word : st.word ≡ i) where
+  pub asks : (kind : Pc → Bool) → ActsFor kind m.0 verb l
+      → ((pc : Pc) → kind pc ≡ true → is_rw_row pc ≡ true)
+      → ((pc : Pc) → kind pc ≡ true → pc ≡ Z2 → is_first (lock_name l) ≡ true → m.0.ledger.out ≡ None)
+      → (g : ℕ → ℕ) → ((pc : Pc) → kind pc ≡ true → Writes pc g)
+      → Allows (Stand k) slots id m i g (Shares verb st m)
+  asks kind for rows written g writes =
+      let n : LockName = record { index = l; wait = for.inside } in
+      let a = for.acts in
+      let low = subst (λ (x : Plan). l < locks_of x) (sym same) near in
+      let row = rows a.row a.is in
+      subst (λ (x : ℕ). Allows (Stand k) slots id m x g (Shares verb st m)) (sym at)
+      (plays k slots id m number verb n low a.row a.stands a.begins row st g (word ∙ at)
+      (home k slots id m number verb n low a.row a.stands a.begins row (written a.row a.is)) (writes a.row a.is))

@@ -1,0 +1,4 @@
+pub mod Totals
+pub mod Dealt
+pub mod Parted
+pub mod Openings

@@ -1,0 +1,295 @@
+-- A new table; numbers are drawn, and seats are cut and joined.
+use Rattle.std.proofs.Common.{◌≡◌, ◌≢◌, ⊎_elim, inl, ℕ, zero, suc, ◌+◌, ◌%◌, ◌^◌, ◌<◌}
+use Rattle.std.proofs.Common.{◌≤◌, List, [], ◌∷◌, drop, length, set, get_or, Some, None}
+use Rattle.std.proofs.Common.{refl, sym, ap, ◌∙◌, subst, arith, length-set}
+use Rattle.std.proofs.Common.{get_or-set_other, get_or-set_same}
+use Rattle.std.specs.List.{sum}
+use Rattle.std.proofs.lemmas.List.Sums.{sum_by-cons}
+use mathlib.Core.Option.{some, some-injective, some-ne-none}
+use lib.ListN.{get_elem?}
+use Rattle.atomic_table.specs.Table.{State, Me, Step, keeps, Allows, opening}
+use Rattle.atomic_table.proofs.Lists.{at_set}
+use Rattle.lk_abs.specs.History.{no_history}
+use Rattle.lk_word.specs.SpinWord.{packed}
+use Rattle.lk_word.specs.RwWord.{packed_rw}
+use Rattle.lk_machine.specs.Machine.{rest_word, rest_rw}
+use Rattle.lk_law.specs.Resting.{world_at_rest}
+use Rattle.lk_law.specs.World.{World}
+use Rattle.lk_law.proofs.common.RestWorld.{empty_is_sound}
+use Rattle.lk_domain.specs.Calls.{no_calls}
+use Rattle.lk_domain.specs.Keeps.{Slot, Keeps, Knows, undrawn}
+use Rattle.lk_domain.specs.Ledgers.{no_ledger, with_share}
+use Rattle.lk_domain.specs.Plans.{IsLawfulPlan, cpus_of, kind_at, share_of, room_of}
+use Rattle.lk_domain.specs.Plays.{Draws}
+use Rattle.lk_domain.specs.Runs.{Runs, SeatFits, Deals}
+use Rattle.lk_domain.specs.Stand.{Stand}
+use Rattle.lk_domain.specs.Views.{view, dealer, drawer, total, times, numbers}
+use Rattle.lk_domain.specs.Views.{once_below}
+use Rattle.lk_domain.specs.Words.{version_at, lock_at, word_at, balance_at, node_at, IsOpening}
+use Rattle.lk_domain.specs.declared.journal.Journal.{Journal}
+use Rattle.lk_domain.specs.declared.plan.Plan.{Plan}
+use Rattle.lk_domain.specs.declared.view.View.{View}
+use Rattle.lk_domain.proofs.words.NodeWords.{none_reset, rest_number}
+use Rattle.lk_domain.proofs.ledger.Purses.{place_kept}
+use Rattle.lk_domain.proofs.words.Locks.{word_below, locks_else, same_locks}
+use Rattle.lk_domain.proofs.seats.Totals.{total-set, once_no, once_more, drawn}
+
+number_is : {a b : ℕ} → Some a ≡ Some b → a ≡ b
+number_is e = grind (arith, e)
+
+none_some : {a : ℕ} → None ≡ Some a → ⊥
+none_some e = cc
+
+-- a new table
+
+only_one : {A : Type 0} (a b : A) (i : ℕ) → get_elem? (a ∷ []) i ≡ some b → (i ≡ 0) × (a ≡ b)
+only_one a b zero e = (refl, some-injective a b e)
+only_one a b (suc i) e = absurd (some-ne-none b (sym e))
+
+rest_packed : 0 ≡ packed rest_word
+unfolding packed
+rest_packed = refl
+
+rest_shared : 0 ≡ packed_rw rest_rw
+unfolding packed_rw
+rest_shared = refl
+
+module _ (k : Plan) (ws : List ℕ) (j : Journal) (lawful : IsLawfulPlan k) (opens : IsOpening k ws)
+    (empty : j.entries.items ≡ []) (room : j.entries.room ≡ room_of k) where
+  abbrev s : State Slot View
+  s = opening ws (Some j ∷ []) (view (dealer k 0) no_calls no_ledger)
+
+  abbrev w : World
+  w = world_at_rest k.mode k.threshold k.topology.sockets.items (kind_at k)
+
+  roll : get_or ws 0 0 ≡ 0
+  roll = opens.zeros 0 (λ a lt e. omega arith)
+
+  first : (id : ℕ) (v : View) → get_elem? s.views id ≡ some v
+      → (id ≡ 0) × (view (dealer k 0) no_calls no_ledger ≡ v)
+  first id v at = only_one (view (dealer k 0) no_calls no_ledger) v id at
+
+  none_numbered : (id p : ℕ) (v : View) → get_elem? s.views id ≡ some v → v.who.number ≡ Some p → ⊥
+  none_numbered id p v at is = none_some (ap (λ (x : View). x.who.number) (first id v at).1 ∙ is)
+
+  starts_runs : Runs k s
+  starts_runs =
+      let few = lawful.accounts in
+      record {
+        lawful = lawful;
+        world = w;
+        histories = λ l. no_history;
+        sound = empty_is_sound k.mode k.threshold k.topology.sockets.items (kind_at k);
+        of_plan = record { mode = refl; turns = refl; threshold = refl; sockets = refl; kind = refl };
+        stored = record {
+          long = opens.long;
+          locks = record {
+            plain = λ n h off. opens.zeros (word_at n) (λ a lt e. let z = word_below k n h in omega arith) ∙ rest_packed;
+            shared = λ l h rw. opens.zeros (lock_at l) (λ a lt e. omega arith) ∙ rest_shared;
+          };
+          nodes = λ n q h i has. opens.zeros (node_at k n q) (λ a lt e. omega arith) ∙ sym (rest_number q);
+        };
+        seats = λ id v p at is. absurd (none_numbered id p v at is);
+        once = λ p. sym (ap (once_below p) roll ∙ once_no p 0 (omega arith));
+        blank = λ p h. record { frames = λ d. refl; holds = λ d l. refl };
+        roll = let z = roll in omega arith;
+        six = λ u h. (refl, λ l. refl);
+        planned = λ id v p at is. absurd (none_numbered id p v at is);
+        silent = λ id v at is. ap (λ (x : View). x.calls) (sym (first id v at).1);
+        deals = λ id v n at is. let e = first id v at in
+            record {
+              first = e.0;
+              next = roll ∙ number_is (ap (λ (x : View). x.who.dealt) e.1 ∙ is);
+              of_plan = ap (λ (x : View). x.who.plan) (sym e.1);
+            };
+      }
+
+  starts_keeps : Keeps k s
+  starts_keeps =
+      record {
+        journal = [];
+        replays = tt;
+        slots = refl;
+        shares = let e : undrawn k (get_or ws 0 0) ≡ room_of k = ap (undrawn k) roll in omega (arith, e);
+        place = inl (record {
+          journal = j;
+          home = refl;
+          items = empty;
+          room = room;
+          words = record { version = opens.zeros version_at (λ a lt e. omega arith); balances = opens.balances };
+          none_out = λ id v at. ap (λ (x : View). x.ledger.out) (sym (first id v at).1);
+        });
+        knows = λ id v at. subst (Knows k []) (first id v at).1 (record {
+          holder = λ ne. absurd (ne refl);
+          shut = λ ne. refl;
+          looking = tt;
+          looked = tt;
+          seen = omega arith;
+          own = λ p e. refl;
+          quiet = λ e. refl;
+          past = tt;
+        });
+        fresh = λ p h. refl;
+      }
+
+  -- the rule holds of a new table
+  pub starts : Stand k s
+  starts = record { runs = starts_runs; keeps = starts_keeps }
+
+-- a number is drawn
+
+unseated : (vs : List View) (roll : ℕ)
+    → ((p : ℕ) → total (λ v. times p (numbers v)) vs ≡ once_below p roll) → (p : ℕ) → roll ≤ p
+    → (j : ℕ) (u : View) → get_elem? vs j ≡ some u → u.who.number ≡ Some p → ⊥
+unseated vs roll once p h j u at e = let z = drawn vs roll once j u p at e in omega arith
+
+-- the shares that are left, and the next one
+sum_drop : (xs : List ℕ) (n : ℕ) → n < length xs → sum (drop n xs) ≡ get_or xs n 0 + sum (drop (n + 1) xs)
+sum_drop [] n h = absurd (omega arith)
+sum_drop (x ∷ xs) zero h = sum_by-cons (λ y. y) x xs
+sum_drop (x ∷ xs) (suc n) h =
+    let e : suc (n + 1) ≡ suc n + 1 = omega arith in
+    sum_drop xs n (omega arith) ∙ ap (λ i. get_or xs n 0 + sum (drop i (x ∷ xs))) e
+
+module _ (k plan : Plan) (slots id : ℕ) (m : Me Slot View) (n : ℕ) (t : Step Slot) (same : k ≡ plan)
+    (is : m.0 ≡ view (dealer plan n) no_calls no_ledger) (low : n < cpus_of plan) where
+  module _ (s : State Slot View) (both : Stand k s) (me : get_elem? s.views id ≡ some m.0) where
+    abbrev ok : Runs k s
+    ok = both.runs
+
+    abbrev kp : Keeps k s
+    kp = both.keeps
+
+    abbrev r : ℕ
+    r = get_or s.words 0 0
+
+    dealt : m.0.who.dealt ≡ Some n
+    dealt = ap (λ (v : View). v.who.dealt) is
+
+    d : Deals k r id n m.0.who.plan
+    d = ok.deals id m.0 n me dealt
+
+    abbrev u : View
+    u = view (drawer m.0.who.plan n) no_calls (with_share (share_of m.0.who.plan n))
+
+    abbrev ws : List ℕ
+    ws = set s.words 0 (n + 1)
+
+    near : n < cpus_of k
+    near = subst (λ (x : Plan). n < cpus_of x) (sym same) low
+
+    rolled : get_or ws 0 0 ≡ n + 1
+    rolled = get_or-set_same s.words 0 (n + 1) 0 (let l = ok.stored.long in omega arith)
+
+    other : (i : ℕ) → i ≢ 0 → get_or ws i 0 ≡ get_or s.words i 0
+    other i ne = get_or-set_other s.words 0 i (n + 1) 0 ne
+
+    fresh : (j : ℕ) (x : View) (p : ℕ) → r ≤ p → get_elem? s.views j ≡ some x → x.who.number ≡ Some p → ⊥
+    fresh j x p h at e = unseated s.views r ok.once p h j x at e
+
+    draws_runs : Runs k (record { words = ws; homes = s.homes; views = set s.views id u })
+    draws_runs =
+        let next = d.next in
+        record {
+          lawful = ok.lawful;
+          world = ok.world;
+          histories = ok.histories;
+          sound = ok.sound;
+          of_plan = ok.of_plan;
+          stored = record {
+            long = length-set s.words 0 (n + 1) ∙ ok.stored.long;
+            locks = locks_else k ok.world ok.world s.words ok.stored.locks 0 (n + 1) (inl (omega arith)) (same_locks ok.world);
+            nodes = λ y q h x has. other (node_at k y q) (λ e. omega arith) ∙ ok.stored.nodes y q h x has;
+          };
+          seats = λ j x q at e. ⊎_elim
+              (λ a. let z : n ≡ q = number_is (ap (λ (y : View). y.who.number) a.1 ∙ e) in
+              subst (λ (y : View). SeatFits ok.world q y.calls) a.1
+              (record {
+                mirrors = ok.blank q (omega arith);
+                stacked = tt;
+                few = omega arith;
+                rests = tt;
+                held = tt;
+                fresh = tt;
+                reset = none_reset _;
+                counted = λ j y rs e. absurd (none_some e);
+              }))
+              (λ a. ok.seats j x q a.1 e) (at_set s.views id j u x at);
+          once = λ p. omega (arith, total-set (λ y. times p (numbers y)) s.views id m.0 u me, ok.once p, once_more p n, ap (once_below p) rolled, ap (once_below p) next, ap (λ (x : View). times p (numbers x)) is);
+          blank = λ q h. ok.blank q (let z = rolled in omega arith);
+          roll = let z = rolled in let y = near in omega arith;
+          six = ok.six;
+          planned = λ j x q at e. ⊎_elim (λ a. ap (λ (y : View). y.who.plan) (sym a.1) ∙ d.of_plan) (λ a. ok.planned j x q a.1 e) (at_set s.views id j u x at);
+          silent = λ j x at e. ⊎_elim (λ a. ap (λ (y : View). y.calls) (sym a.1)) (λ a. ok.silent j x a.1 e) (at_set s.views id j u x at);
+          deals = λ j x q at e. ⊎_elim
+              (λ a. let z : n + 1 ≡ q = number_is (ap (λ (y : View). y.who.dealt) a.1 ∙ e) in
+              record { first = a.0 ∙ d.first; next = rolled ∙ z; of_plan = ap (λ (y : View). y.who.plan) (sym a.1) ∙ d.of_plan })
+              (λ a. absurd (a.0 ((ok.deals j x q a.1 e).first ∙ sym d.first))) (at_set s.views id j u x at);
+        }
+
+    draws_keeps : Keeps k (record { words = ws; homes = s.homes; views = set s.views id u })
+    draws_keeps =
+        let next = d.next in
+        let shares = ok.lawful.shares in
+        let in_plan = near in
+        let few = ok.lawful.accounts in
+        record {
+          journal = kp.journal;
+          replays = kp.replays;
+          slots = kp.slots;
+          shares = omega (
+            arith,
+            total-set (λ (x : View). x.ledger.share) s.views id m.0 u me,
+            kp.shares,
+            ap (λ (x : View). x.ledger.share) is,
+            sum_drop k.shares.items n (omega arith),
+            ap (undrawn k) rolled,
+            ap (undrawn k) next,
+            ap (λ (x : Plan). share_of x n) d.of_plan,
+          );
+          place = place_kept k kp.journal s id m.0 u ws me (ap (λ (x : View). x.ledger.out) (sym is)) (other version_at (λ e. omega arith))
+              (λ a lt. other (balance_at k a) (λ e. omega arith)) kp.place;
+          knows = λ j x at. ⊎_elim
+              (λ a. subst (Knows k kp.journal) a.1 (record {
+                holder = λ ne. absurd (ne refl);
+                shut = λ ne. refl;
+                looking = tt;
+                looked = tt;
+                seen = omega arith;
+                own = λ p e. sym (kp.fresh p (let z : n ≡ p = number_is e in omega arith));
+                quiet = λ e. absurd (none_some (sym e));
+                past = tt;
+              }))
+              (λ a. kp.knows j x a.1) (at_set s.views id j u x at);
+          fresh = λ q h. kp.fresh q (let z = rolled in omega arith);
+        }
+
+  -- the first seat may draw the number that it deals next
+  pub draws : Allows (Stand k) slots id m 0 (λ x. (x + 1) % 2 ^ 64) (Draws t m)
+  draws s both long me small =
+      let dl = d s both me in
+      let next = dl.next in
+      let few = both.runs.lawful.cpus in
+      let up : (get_or s.words 0 0 + 1) % 2 ^ 64 ≡ n + 1 = let z = near s both me in omega arith in (
+        u s both me,
+        keeps,
+        tt,
+        subst (λ (i : ℕ). Stand k (record { words = set s.words 0 i; homes = s.homes; views = set s.views id (u s both me) })) (sym up)
+            (record { runs = draws_runs s both me; keeps = draws_keeps s both me }),
+        (
+          dealt s both me ∙ ap Some (sym next),
+          (λ i. (view (drawer m.0.who.plan (sym next i)) no_calls (with_share (share_of m.0.who.plan (sym next i))), m.1)),
+        ),
+      )
+
+-- what the draw tells
+pub drawn_by : (plan : Plan) (m m' : Me Slot View) (n x : ℕ) (t : Step Slot)
+    → m.0 ≡ view (dealer plan n) no_calls no_ledger → Draws t m x m'
+    → (x ≡ n) × (m'.0 ≡ view (drawer plan n) no_calls (with_share (share_of plan n)))
+drawn_by plan m m' n x t is told =
+    let at : x ≡ n = number_is (sym told.0 ∙ ap (λ (v : View). v.who.dealt) is) in
+    let same : m.0.who.plan ≡ plan = ap (λ (v : View). v.who.plan) is in (
+      at,
+      ap (λ (y : Me Slot View). y.0) told.1
+          ∙ (λ i. view (drawer (same i) (at i)) no_calls (with_share (share_of (same i) (at i)))),
+    )

@@ -1,0 +1,268 @@
+-- Seats are cut in two, and joined.
+use Rattle.std.proofs.Common.{◌≡◌, ◌≢◌, ◌⊎◌, ⊎_elim, inl, inr, ℕ, zero, suc, ◌+◌, List, [], ◌∷◌}
+use Rattle.std.proofs.Common.{◌++◌, map, set, get_or, Option, Some, None, refl, sym, ap, ◌∙◌}
+use Rattle.std.proofs.Common.{subst, arith}
+use Rattle.std.proofs.lemmas.List.{map-append}
+use mathlib.Core.Logic.{dite}
+use native.Mathlib.Decide.{ℕ_discrete}
+use mathlib.Core.Option.{some, some-injective, some-ne-none}
+use lib.ListN.{get_elem?}
+use Rattle.atomic_table.specs.Table.{Splits, Joins}
+use Rattle.atomic_table.proofs.Lists.{at_set, at_longer, set_else}
+use Rattle.lk_domain.specs.Calls.{Calls, no_calls}
+use Rattle.lk_domain.specs.Keeps.{Slot, Keeps, Knows}
+use Rattle.lk_domain.specs.Ledgers.{Ledger, Past, Out, no_ledger, with_share}
+use Rattle.lk_domain.specs.Plans.{share_of}
+use Rattle.lk_domain.specs.Runs.{Runs, SeatFits, Deals}
+use Rattle.lk_domain.specs.Stand.{Stand}
+use Rattle.lk_domain.specs.Views.{view, dealer, drawer, newcomer, nobody, times, numbers, listed}
+use Rattle.lk_domain.specs.Views.{number_of, past_of, all_past, joined, with_more}
+use Rattle.lk_domain.specs.Views.{IsNumbered, own_number}
+use Rattle.lk_domain.specs.declared.plan.Plan.{Plan}
+use Rattle.lk_domain.specs.declared.view.View.{View}
+use Rattle.lk_domain.proofs.rows.Lands.{set_at}
+use Rattle.lk_domain.proofs.ledger.Purses.{past_more, past_known}
+use Rattle.lk_domain.proofs.seats.Totals.{total-set, total-append, times-append}
+
+none_some : {a : ℕ} → None ≡ Some a → ⊥
+none_some e = cc
+
+at_more : {A : Type 0} (l : List A) (x : A) (j : ℕ) (u : A) → get_elem? (l ++ x ∷ []) j ≡ some u
+    → (get_elem? l j ≡ some u) ⊎ (x ≡ u)
+at_more [] x zero u e = inr (some-injective x u e)
+at_more [] x (suc j) u e = absurd (some-ne-none u (sym e))
+at_more (y ∷ ys) x zero u e = inl e
+at_more (y ∷ ys) x (suc j) u e = at_more ys x j u e
+
+-- the first seat gives the number that it drew to a new one
+pub splits : (k plan : Plan) (id n : ℕ) → Splits {S = Slot} (Stand k) id
+    (view (drawer plan n) no_calls (with_share (share_of plan n)))
+    (view (dealer plan (n + 1)) no_calls no_ledger)
+    (view (newcomer plan n) no_calls (with_share (share_of plan n)))
+splits k plan id n s both me =
+    let ok : Runs k s = both.runs in
+    let kp : Keeps k s = both.keeps in
+    let g : Ledger = with_share (share_of plan n) in
+    let v : View = view (drawer plan n) no_calls g in
+    let w : View = view (dealer plan (n + 1)) no_calls no_ledger in
+    let u : View = view (newcomer plan n) no_calls g in
+    let vs : List View = set s.views id w in
+    let d = ok.deals id v (n + 1) me refl in
+    let each : (P : ℕ → View → Type 0) → P id w → ((y : View) → u ≡ y → (j : ℕ) → P j y)
+    → ((j : ℕ) (y : View) → get_elem? s.views j ≡ some y → P j y) → (j : ℕ) (y : View)
+    → get_elem? (vs ++ u ∷ []) j ≡ some y → P j y = λ P a b c j y at. ⊎_elim
+    (λ inside. ⊎_elim (λ t. subst (λ (z : View). P j z) t.1 (subst (λ (i : ℕ). P i w) (sym t.0) a)) (λ t. c j y t.1)
+    (at_set s.views id j w y inside))
+    (λ t. b y t j) (at_more vs u j y at) in
+    record {
+      runs = record {
+        lawful = ok.lawful;
+        world = ok.world;
+        histories = ok.histories;
+        sound = ok.sound;
+        of_plan = ok.of_plan;
+        stored = ok.stored;
+        seats = λ j y q. each (λ j y. y.who.number ≡ Some q → SeatFits ok.world q y.calls) (λ e. absurd (none_some e))
+            (λ y e j is. subst (λ (c : Calls). SeatFits ok.world q c) (ap (λ (z : View). z.calls) e)
+            (ok.seats id v q me (ap (λ (z : View). z.who.number) e ∙ is)))
+            (λ j y at is. ok.seats j y q at is) j y;
+        once = λ p. omega (arith, total-append (λ y. times p (numbers y)) vs (u ∷ []), total-set (λ y. times p (numbers y)) s.views id v w me, ok.once p);
+        blank = ok.blank;
+        roll = ok.roll;
+        six = ok.six;
+        planned = λ j y q. each (λ j y. y.who.number ≡ Some q → y.who.plan ≡ k) (λ e. absurd (none_some e))
+            (λ y e j is. ap (λ (z : View). z.who.plan) (sym e) ∙ d.of_plan) (λ j y at is. ok.planned j y q at is) j y;
+        silent = each (λ j y. y.who.number ≡ None → y.calls ≡ no_calls) (λ e. refl)
+            (λ y e j is. ap (λ (z : View). z.calls) (sym e)) ok.silent;
+        deals = λ j y q. each (λ j y. y.who.dealt ≡ Some q → Deals k (get_or s.words 0 0) j q y.who.plan)
+            (λ e. record { first = d.first; next = d.next ∙ number_is e; of_plan = d.of_plan })
+            (λ y e j is. absurd (none_some (ap (λ (z : View). z.who.dealt) e ∙ is))) (λ j y at is. ok.deals j y q at is) j y;
+      };
+      keeps = record {
+        journal = kp.journal;
+        replays = kp.replays;
+        slots = kp.slots;
+        shares = omega (arith, total-append (λ (y : View). y.ledger.share) vs (u ∷ []), total-set (λ (y : View). y.ledger.share) s.views id v w me, kp.shares);
+        place = ⊎_elim
+            (λ h. inl (record {
+              journal = h.journal;
+              home = h.home;
+              items = h.items;
+              room = h.room;
+              words = h.words;
+              none_out = each (λ j y. y.ledger.out ≡ None) refl (λ y e j. ap (λ (z : View). z.ledger.out) (sym e)) h.none_out;
+            }))
+            (λ h. inr (
+            let ne : h.seat ≢ id = λ e. out_none h.out
+            (ap (λ (y : View). y.ledger.out) (some-injective v h.view_is (sym me ∙ subst (λ (i : ℕ). get_elem? s.views i ≡ some h.view_is) e h.here)) ∙ h.has) in
+            record {
+              seat = h.seat;
+              view_is = h.view_is;
+              out = h.out;
+              here = at_longer vs (u ∷ []) h.seat h.view_is (set_else s.views id h.seat w ne ∙ h.here);
+              has = h.has;
+              list = h.list;
+              room = h.room;
+              long = h.long;
+              home = h.home;
+              version = h.version;
+              words = h.words;
+              sole = each (λ j y. y.ledger.out ≢ None → j ≡ h.seat) (λ q. absurd (q refl))
+                  (λ y e j q. absurd (q (ap (λ (z : View). z.ledger.out) (sym e)))) h.sole;
+            }))
+            kp.place;
+        knows = each (λ j y. Knows k kp.journal y)
+            (record { holder = λ q. absurd (q refl); shut = λ _. refl; looking = tt; looked = tt; seen = omega arith; own = λ p e. absurd (none_some e); quiet = λ e. refl; past = tt })
+            (λ y e j. subst (Knows k kp.journal) e (record {
+              holder = λ q. absurd (q refl);
+              shut = λ _. refl;
+              looking = tt;
+              looked = tt;
+              seen = omega arith;
+              own = (kp.knows id v me).own;
+              quiet = λ e. absurd (none_some (sym e));
+              past = tt;
+            }))
+            kp.knows;
+        fresh = kp.fresh;
+      };
+    }
+  where
+    number_is : {a b : ℕ} → Some a ≡ Some b → a ≡ b
+    number_is e = grind (arith, e)
+
+    out_none : (o : Out) → None ≡ Some o → ⊥
+    out_none o e = cc
+
+-- the numbers of what is kept
+pub numbers_past : (o : Option ℕ) (g : Ledger) (xs : List Past)
+    → listed o ++ map number_of xs ≡ map number_of (past_of o g ++ xs)
+numbers_past None g xs = refl
+numbers_past (Some p) g xs = refl
+
+-- A seat takes over the numbers of another, which does not have the journal.
+pub joins : (k : Plan) (id other : ℕ) (v u : View) → IsNumbered v → u.ledger.out ≡ None
+    → Joins {S = Slot} (Stand k) id v other u (view (joined v.who u) v.calls (with_more v.ledger u.ledger.share))
+    (view nobody no_calls no_ledger)
+joins k id other v u number home s both me ne at_other =
+    let ok : Runs k s = both.runs in
+    let kp : Keeps k s = both.keeps in
+    let w : View = view (joined v.who u) v.calls (with_more v.ledger u.ledger.share) in
+    let z : View = view nobody no_calls no_ledger in
+    let vs : List View = set s.views id w in
+    let there : get_elem? s.views other ≡ some u = sym (set_else s.views id other w ne) ∙ at_other in
+    let each : (P : ℕ → View → Type 0) → P id w → ((j : ℕ) → P j z)
+    → ((j : ℕ) (y : View) → get_elem? s.views j ≡ some y → P j y) → (j : ℕ) (y : View)
+    → get_elem? (set vs other z) j ≡ some y → P j y = λ P a b c j y at. ⊎_elim
+    (λ t. subst (λ (x : View). P j x) t.1 (b j))
+    (λ t. ⊎_elim (λ q. subst (λ (x : View). P j x) q.1 (subst (λ (i : ℕ). P i w) (sym q.0) a)) (λ q. c j y q.1)
+    (at_set s.views id j w y t.1))
+    (at_set vs other j z y at) in
+    record {
+      runs = record {
+        lawful = ok.lawful;
+        world = ok.world;
+        histories = ok.histories;
+        sound = ok.sound;
+        of_plan = ok.of_plan;
+        stored = ok.stored;
+        seats = λ j y q. each (λ j y. y.who.number ≡ Some q → SeatFits ok.world q y.calls)
+            (λ e. ok.seats id v q me e) (λ j e. absurd (none_some e)) (λ j y at is. ok.seats j y q at is) j y;
+        once = λ p.
+            let f : View → ℕ = λ y. times p (numbers y) in
+            omega (arith, total-set f vs other u z at_other, total-set f s.views id v w me, ok.once p, more p);
+        blank = ok.blank;
+        roll = ok.roll;
+        six = ok.six;
+        planned = λ j y q. each (λ j y. y.who.number ≡ Some q → y.who.plan ≡ k)
+            (λ e. ok.planned id v q me e) (λ j e. absurd (none_some e)) (λ j y at is. ok.planned j y q at is) j y;
+        silent = each (λ j y. y.who.number ≡ None → y.calls ≡ no_calls) (ok.silent id v me) (λ j e. refl) ok.silent;
+        deals = λ j y q. each (λ j y. y.who.dealt ≡ Some q → Deals k (get_or s.words 0 0) j q y.who.plan)
+            (ok.deals id v q me) (λ j e. absurd (none_some e)) (λ j y at is. ok.deals j y q at is) j y;
+      };
+      keeps = record {
+        journal = kp.journal;
+        replays = kp.replays;
+        slots = kp.slots;
+        shares = let f : View → ℕ = λ y. y.ledger.share in
+            omega (arith, total-set f vs other u z at_other, total-set f s.views id v w me, kp.shares);
+        place = ⊎_elim
+            (λ h. inl (record {
+              journal = h.journal;
+              home = h.home;
+              items = h.items;
+              room = h.room;
+              words = h.words;
+              none_out = each (λ j y. y.ledger.out ≡ None) (h.none_out id v me) (λ j. refl) h.none_out;
+            }))
+            (λ h. inr (dite (ℕ_discrete h.seat id)
+            (λ e. record {
+              seat = id;
+              view_is = w;
+              out = h.out;
+              here = set_else vs other id z (λ q. ne (sym q)) ∙ set_at s.views id v w me;
+              has = ap (λ (y : View). y.ledger.out) (some-injective v h.view_is (sym me ∙ subst (λ (i : ℕ). get_elem? s.views i ≡ some h.view_is) e h.here)) ∙ h.has;
+              list = h.list;
+              room = h.room;
+              long = h.long;
+              home = h.home;
+              version = h.version;
+              words = h.words;
+              sole = each (λ j y. y.ledger.out ≢ None → j ≡ id) (λ _. refl) (λ j q. absurd (q refl)) (λ j y at q. h.sole j y at q ∙ e);
+            })
+            (λ away.
+            let apart : h.seat ≢ other = λ e. out_none h.out
+            (sym home ∙ (ap (λ (y : View). y.ledger.out) (some-injective u h.view_is (sym there ∙ subst (λ (i : ℕ). get_elem? s.views i ≡ some h.view_is) e h.here)) ∙ h.has)) in
+            record {
+              seat = h.seat;
+              view_is = h.view_is;
+              out = h.out;
+              here = set_else vs other h.seat z apart ∙ (set_else s.views id h.seat w away ∙ h.here);
+              has = h.has;
+              list = h.list;
+              room = h.room;
+              long = h.long;
+              home = h.home;
+              version = h.version;
+              words = h.words;
+              sole = each (λ j y. y.ledger.out ≢ None → j ≡ h.seat) (λ q. h.sole id v me q) (λ j q. absurd (q refl)) h.sole;
+            })))
+            kp.place;
+        knows = each (λ j y. Knows k kp.journal y)
+            (let q = kp.knows id v me in record {
+              holder = q.holder;
+              shut = q.shut;
+              looking = q.looking;
+              looked = q.looked;
+              seen = q.seen;
+              own = q.own;
+              quiet = λ e. absurd (none_some (sym e ∙ number.1));
+              past = past_more k kp.journal v.who.ended (all_past u) q.past (past_known k kp.journal u (kp.knows other u there));
+            })
+            (λ j. record { holder = λ q. absurd (q refl); shut = λ _. refl; looking = tt; looked = tt; seen = omega arith; own = λ p e. absurd (none_some e); quiet = λ e. refl; past = tt })
+            kp.knows;
+        fresh = kp.fresh;
+      };
+    }
+  where
+    out_none : (o : Out) → None ≡ Some o → ⊥
+    out_none o e = cc
+
+    more : (p : ℕ) → times p (numbers (view (joined v.who u) v.calls (with_more v.ledger u.ledger.share)))
+        ≡ times p (numbers v) + times p (numbers u)
+    more p =
+        let a = listed v.who.number in
+        let b = map number_of v.who.ended in
+        let c = map number_of (all_past u) in
+        let e : map number_of (v.who.ended ++ all_past u) ≡ b ++ c = map-append number_of v.who.ended (all_past u) in
+        let d : numbers u ≡ c = numbers_past u.who.number u.ledger u.who.ended in
+        omega (arith, ap (λ (xs : List ℕ). times p (a ++ xs)) e, times-append p a (b ++ c), times-append p b c, times-append p a b, ap (times p) d)
+
+-- the same of a seat that is known by an equation
+pub splits_at : (k plan : Plan) (id n : ℕ) (v : View)
+    → v ≡ view (drawer plan n) no_calls (with_share (share_of plan n))
+    → Splits {S = Slot} (Stand k) id v (view (dealer v.who.plan (own_number v.who.dealt)) no_calls no_ledger)
+    (view (newcomer v.who.plan (own_number v.who.number)) no_calls v.ledger)
+splits_at k plan id n v is =
+    subst (λ (x : View). Splits {S = Slot} (Stand k) id x (view (dealer x.who.plan (own_number x.who.dealt)) no_calls no_ledger)
+    (view (newcomer x.who.plan (own_number x.who.number)) no_calls x.ledger)) (sym is) (splits k plan id n)

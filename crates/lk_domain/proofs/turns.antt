@@ -1,0 +1,5 @@
+pub mod Marks
+pub mod Courses
+pub mod Noted
+pub mod Stepped
+pub mod Carried

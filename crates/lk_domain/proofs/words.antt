@@ -1,0 +1,6 @@
+pub mod Locks
+pub mod NodeWords
+pub mod OnWords
+pub mod Numbers
+pub mod LockPlays
+pub mod Onward

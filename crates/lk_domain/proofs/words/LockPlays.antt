@@ -1,0 +1,247 @@
+-- What the step calls on the words of locks ask.
+use Rattle.std.proofs.Common.{◌≡◌, ℕ, ◌<◌, get_or, set}
+use Rattle.std.proofs.Common.{None, Bool, true, IfSome, get_or-set_other, refl, sym, ap, ◌∙◌}
+use Rattle.std.proofs.Common.{subst, arith}
+use Rattle.std.specs.Prelude.{unwrap_or}
+use mathlib.Core.Option.{some}
+use lib.ListN.{get_elem?}
+use Rattle.atomic_table.specs.Table.{State, Me, Step, keeps, Allows}
+use Rattle.lk_abs.specs.declared.names.LockName.{LockName}
+use Rattle.lk_abs.specs.declared.names.Mode.{Mode}
+use Rattle.lk_abs.specs.declared.names.Waiter.{Waiter}
+use Rattle.lk_word.specs.declared.spin_word.Fields.{Fields}
+use Rattle.lk_word.specs.SpinWord.{packed, IsPackable}
+use Rattle.lk_machine.specs.declared.parts.Frame.{Frame}
+use Rattle.lk_machine.specs.declared.parts.Pc.{Pc}
+use Rattle.lk_machine.specs.declared.setup.Verb.{Verb}
+use Rattle.lk_machine.specs.declared.setup.Verb.TheVariants.{Unlock, RUnlock, WUnlock}
+use Rattle.lk_machine.specs.TopRow.{target}
+use Rattle.lk_law.specs.Known.{Known}
+use Rattle.lk_law.specs.Leads.{Word, course_in, held_lock}
+use Rattle.lk_law.specs.World.{World}
+use Rattle.lk_domain.specs.Calls.{terms_of, Calls, Frees, StandsOn, StandsAt, acting, begin, Begins, row_of}
+use Rattle.lk_domain.specs.Calls.{is_on, grip_of, lock_name}
+use Rattle.lk_domain.specs.Keeps.{Slot, Keeps, Knows, any_count, sole_count}
+use Rattle.lk_domain.specs.Ledgers.{is_first, turned}
+use Rattle.lk_domain.specs.Plans.{locks_of}
+use Rattle.lk_domain.specs.Plays.{Makes, MadeBy, Acts, made, turned_of}
+use Rattle.lk_domain.specs.Runs.{Runs, waiter}
+use Rattle.lk_domain.specs.Stand.{Stand}
+use Rattle.lk_domain.specs.Views.{IsNumbered, own_number}
+use Rattle.lk_domain.specs.Words.{lock_at, word_at, version_at, balance_at, IsNode}
+use Rattle.lk_domain.specs.declared.plan.Plan.{Plan}
+use Rattle.lk_domain.specs.declared.view.View.{View}
+use Rattle.lk_law.proofs.common.Puts.{if_cases}
+use Rattle.lk_domain.proofs.rows.Fresh as fresh
+use Rattle.lk_domain.proofs.ledger.Held.{moved_any, moved_sole}
+use Rattle.lk_domain.proofs.rows.Grips.{own_lock}
+use Rattle.lk_domain.proofs.rows.Lands as lands
+use Rattle.lk_domain.proofs.rows.Sights.{IsSeen}
+use Rattle.lk_domain.proofs.words.Locks.{word_from, word_below}
+use Rattle.lk_domain.proofs.words.OnWords as on
+use Rattle.lk_domain.proofs.words.OnWords.{OnWord, word_stores, on_word, word_seen}
+use Rattle.lk_domain.proofs.ledger.Purses.{alters, knows_after}
+
+-- what a step that writes f of the word has to do with the row
+abbrev pub Writes : Pc → (ℕ → ℕ) → Type 0
+Writes pc f = (mode : Mode) (fr : Frame) (y : Fields) → IsPackable y → Known pc y
+    → f (packed y) ≡ packed (unwrap_or (word_stores mode pc fr (target pc fr) y) y)
+
+-- the same where that rests on the frame
+abbrev pub WritesAt : Pc → Frame → (ℕ → ℕ) → Type 0
+WritesAt pc fr f = (mode : Mode) (y : Fields) → IsPackable y → Known pc y
+    → f (packed y) ≡ packed (unwrap_or (word_stores mode pc fr (target pc fr) y) y)
+
+-- the row may free its lock
+abbrev pub MayFree : Pc → Type 0
+MayFree pc = (w : World) × (u : Waiter) × (f : Frame)
+    × (grip_of (target pc f) (course_in w u f pc (target pc f)) ≡ Frees)
+
+-- a call that begins changes no count of holds
+pub acting_any : (mode : Mode) (c : Calls) (v : Verb) (l : ℕ)
+    → any_count (acting mode c v l).holds ≡ any_count c.holds
+acting_any mode c v l =
+    if_cases (λ (x : Calls). any_count x.holds ≡ any_count c.holds) (is_on c.frames v l) c (begin mode c v l)
+    (λ _. refl) (λ _. by v)
+  where
+    by : (v : Verb) → any_count (begin mode c v l).holds ≡ any_count c.holds
+    by Unlock = moved_any _ _ c.holds
+    by RUnlock = moved_any _ _ c.holds
+    by WUnlock = moved_any _ _ c.holds
+    by _ = refl
+
+pub acting_sole : (mode : Mode) (c : Calls) (v : Verb) (l : ℕ)
+    → sole_count (acting mode c v l).holds ≡ sole_count c.holds
+acting_sole mode c v l =
+    if_cases (λ (x : Calls). sole_count x.holds ≡ sole_count c.holds) (is_on c.frames v l) c (begin mode c v l)
+    (λ _. refl) (λ _. by v)
+  where
+    by : (v : Verb) → sole_count (begin mode c v l).holds ≡ sole_count c.holds
+    by Unlock = moved_sole _ _ c.holds
+    by RUnlock = moved_sole _ _ c.holds
+    by WUnlock = moved_sole _ _ c.holds
+    by _ = refl
+
+-- the parts of one step on the word of a lock, and what it gives
+module _ (k : Plan) (slots id : ℕ) (m : Me Slot View) (number : IsNumbered m.0) (verb : Verb)
+    (l : LockName) (near : l.index < locks_of k) (pc : Pc)
+    (acts : StandsOn (acting m.0.who.plan.mode m.0.calls verb l.index) verb l pc)
+    (begins : Begins m.0.who.plan m.0.calls verb l.index) (word : (fr : Frame) → OnWord (target pc fr))
+    (home : MayFree pc → is_first l ≡ true → m.0.ledger.out ≡ None) where
+  module _ (s : State Slot View) (both : Stand k s) (me : get_elem? s.views id ≡ some m.0) where
+    abbrev pub ok : Runs k s
+    ok = both.runs
+
+    pub planned : m.0.who.plan ≡ k
+    planned = both.runs.planned id m.0 number.0 me number.1
+
+    abbrev pub asked : Begins k m.0.calls verb l.index
+    asked = subst (λ (j : Plan). Begins j m.0.calls verb l.index) planned begins
+
+    abbrev pub acts' : StandsOn (acting k.mode m.0.calls verb l.index) verb l pc
+    acts' = record {
+      frame = acts.frame;
+      trail = acts.trail;
+      rest = acts.rest;
+      is = ap (λ (q : Plan). (acting q.mode m.0.calls verb l.index).frames) (sym (both.runs.planned id m.0 number.0 me number.1)) ∙ acts.is;
+      place = acts.place;
+      lock = acts.lock;
+    }
+
+    abbrev pub on' : OnWord (target pc acts'.frame)
+    on' = word acts'.frame
+
+    abbrev unseen' : IsSeen pc (target pc acts'.frame) (acting k.mode m.0.calls verb l.index).runs
+    unseen' = word_seen pc acts'.frame (acting k.mode m.0.calls verb l.index).runs on'
+
+    abbrev pub y : Fields
+    y = on.found k s ok id m.0 me number.0 number.1 verb l pc asked acts' near on'
+
+    abbrev pub u : View
+    u = made m.0 verb l.index (Word y)
+
+    pub y_packs : IsPackable y
+    y_packs = on.found_packs k s ok id m.0 me number.0 number.1 verb l pc asked acts' near on'
+
+    pub y_is : get_or s.words (word_at l) 0 ≡ packed y
+    y_is = on.found_is k s ok id m.0 me number.0 number.1 verb l pc asked acts' near on'
+
+    met_is : lands.x k s ok id m.0 me number.0 number.1 verb l pc asked acts' unseen' ≡ Word y
+    met_is = on.met_is k s ok id m.0 me number.0 number.1 verb l pc asked acts' near on'
+
+    calls_are : u.calls ≡ row_of (terms_of k) number.0 (acting k.mode m.0.calls verb l.index) (Word y)
+    calls_are = (λ j. row_of (terms_of (planned j)) (own_number (number.1 j)) (acting (planned j).mode m.0.calls verb l.index) (Word y))
+
+    -- the machine part
+    pub rows : (i : ℕ)
+        → ((mode : Mode) → Known pc y → i ≡ packed (unwrap_or (word_stores mode pc acts.frame (target pc acts.frame) y) y))
+        → Runs k (record { words = set s.words (word_at l) i; homes = s.homes; views = set s.views id u })
+    rows i writes =
+        on.word_step k s ok id m.0 me number.0 number.1 verb l pc asked acts' near on' i
+        (writes k.mode (on.known k s ok id m.0 me number.0 number.1 verb l pc asked acts' near on').0)
+        u refl calls_are s.homes
+
+    -- the ledger part
+    knows : Knows k both.keeps.journal u
+    knows =
+        let unseen = unseen' in
+        let c : Calls = acting k.mode m.0.calls verb l.index in
+        let x = lands.x k s ok id m.0 me number.0 number.1 verb l pc asked acts' unseen in
+        let f = acts'.frame in
+        let t = target pc f in
+        let o = lands.o k s ok id m.0 me number.0 number.1 verb l pc asked acts' unseen in
+        let trail = lands.trail k s ok id m.0 me number.0 number.1 verb l pc asked acts' unseen in
+        let lock : held_lock t f ≡ l = own_lock t f (on_word t on') ∙ acts'.lock in
+        let ledger : u.ledger ≡ turned m.0.ledger (held_lock t f) (grip_of t o) trail =
+        (λ j. turned_of (terms_of (planned j)) (own_number (number.1 j)) (acting (planned j).mode m.0.calls verb l.index) (sym met_is j) m.0.ledger)
+        ∙ fresh.turns k s ok id m.0 me number.0 number.1 verb l pc asked acts' unseen m.0.ledger in
+        let holds = calls_are ∙ (ap (row_of (terms_of k) number.0 c) (sym met_is) ∙ lands.rowed k s ok id m.0 me number.0 number.1 verb l pc asked acts' unseen) in
+        knows_after k both.keeps.journal m.0 u number.0 number.1 (both.keeps.knows id m.0 me) c f.ctx (held_lock t f) trail
+        (acting_any k.mode m.0.calls verb l.index) (acting_sole k.mode m.0.calls verb l.index) refl (grip_of t o) ledger
+        (ap (λ (z : Calls). z.holds) holds)
+        (fresh.fresh k s ok id m.0 me number.0 number.1 verb l pc asked acts' unseen)
+        (λ e on_first. home (lands.m k s ok id m.0 me number.0 number.1 verb l pc asked acts' unseen, waiter number.0 f.ctx, f, e)
+        (ap is_first (sym lock) ∙ on_first))
+
+    pub keeps_on : (i : ℕ) → Keeps k (record { words = set s.words (word_at l) i; homes = s.homes; views = set s.views id u })
+    keeps_on i =
+        let purse : fresh.SamePurse m.0.ledger u.ledger =
+        fresh.turned_purse m.0.who.plan (own_number m.0.who.number) (acting m.0.who.plan.mode m.0.calls verb l.index) (Word y) m.0.ledger in
+        let from = word_from l in let below = word_below k l near in
+        alters k s both.keeps id m.0 u (set s.words (word_at l) i) me purse.share knows
+        (get_or-set_other s.words (word_at l) 0 i 0 (λ e. omega arith))
+        (get_or-set_other s.words (word_at l) version_at i 0 (λ e. omega arith))
+        (λ a lt. get_or-set_other s.words (word_at l) (balance_at k a) i 0 (λ e. omega arith)) purse.out
+
+    pub y_tail : IfSome y.tail (IsNode m.0.who.plan)
+    y_tail =
+        subst (λ (j : Plan). IfSome y.tail (IsNode j)) (sym planned)
+        (on.found_tail k s ok id m.0 me number.0 number.1 verb l pc asked acts' near on')
+
+    pub is_made : MadeBy verb l.index m (get_or s.words (word_at l) 0) (u, m.1)
+    is_made =
+        record {
+          found = y;
+          packs = y_packs;
+          tail = y_tail;
+          word = y_is;
+          seat = refl;
+        }
+
+  -- a step that makes the row, whatever it meets, and tells what follows from it
+  pub plays_on : (Tells : Me Slot View → ℕ → Me Slot View → Type 0) (f : ℕ → ℕ)
+      → ((s : State Slot View) (both : Stand k s) (me : get_elem? s.views id ≡ some m.0)
+      → Tells m (get_or s.words (word_at l) 0) (u s both me, m.1))
+      → WritesAt pc acts.frame f → Allows (Stand k) slots id m (word_at l) f (Tells m)
+  plays_on Tells f tells writes s both long me small =
+      let n : ℕ = get_or s.words (word_at l) 0 in (
+        u s both me,
+        keeps,
+        tt,
+        record {
+          runs = rows s both me (f n) (λ mode known. ap f (y_is s both me) ∙ writes mode (y s both me) (y_packs s both me) known);
+          keeps = keeps_on s both me (f n);
+        },
+        tells s both me,
+      )
+
+-- the same of a lock that is not a wait lock
+module _ (k : Plan) (slots id : ℕ) (m : Me Slot View) (number : IsNumbered m.0) (verb : Verb)
+    (l : ℕ) (near : l < locks_of k) (pc : Pc)
+    (acts : StandsAt (acting m.0.who.plan.mode m.0.calls verb l) verb l pc)
+    (begins : Begins m.0.who.plan m.0.calls verb l) (word : (fr : Frame) → OnWord (target pc fr))
+    (home : MayFree pc → is_first (lock_name l) ≡ true → m.0.ledger.out ≡ None) where
+  pub plays_at : (st : Step Slot) (f : ℕ → ℕ) → st.word ≡ lock_at l → WritesAt pc acts.frame f
+      → Allows (Stand k) slots id m (lock_at l) f (Makes verb st m)
+  plays_at st f at writes =
+      plays_on k slots id m number verb (lock_name l) near pc acts begins word home (Makes verb st) f
+      (λ s both me j e. let same : l ≡ j = omega arith in
+      subst (λ (z : ℕ). MadeBy verb z m (get_or s.words (lock_at l) 0)
+      (u k slots id m number verb (lock_name l) near pc acts begins word home s both me, m.1)) same
+      (is_made k slots id m number verb (lock_name l) near pc acts begins word home s both me)) writes
+
+-- what the calls ask, in which the word is named by its place
+module _ (k plan : Plan) (slots id : ℕ) (m : Me Slot View) (number : IsNumbered m.0) (verb : Verb)
+    (l i : ℕ) (st : Step Slot) (same : k ≡ plan) (near : l < locks_of plan) (at : i ≡ lock_at l)
+    (word : st.word ≡ i) where
+  pub asks : (kind : Pc → Bool) → Acts kind m.0 verb l
+      → ((pc : Pc) → kind pc ≡ true → (fr : Frame) → OnWord (target pc fr))
+      → ((pc : Pc) → kind pc ≡ true → MayFree pc → is_first (lock_name l) ≡ true → m.0.ledger.out ≡ None)
+      → (f : ℕ → ℕ) → ((pc : Pc) → kind pc ≡ true → Writes pc f)
+      → Allows (Stand k) slots id m i f (Makes verb st m)
+  asks kind acts on_word home f writes =
+      subst (λ (x : ℕ). Allows (Stand k) slots id m x f (Makes verb st m)) (sym at)
+      (plays_at k slots id m number verb l (subst (λ (x : Plan). l < locks_of x) (sym same) near) acts.row acts.stands acts.begins
+      (on_word acts.row acts.is) (home acts.row acts.is) st f (word ∙ at)
+      (λ mode y packs known. writes acts.row acts.is mode acts.stands.frame y packs known))
+
+  -- the same where what is written rests on the frame
+  pub asks_at : (kind : Pc → Bool) (acts : Acts kind m.0 verb l)
+      → ((pc : Pc) → kind pc ≡ true → (fr : Frame) → OnWord (target pc fr))
+      → ((pc : Pc) → kind pc ≡ true → MayFree pc → is_first (lock_name l) ≡ true → m.0.ledger.out ≡ None)
+      → (f : ℕ → ℕ) → WritesAt acts.row acts.stands.frame f
+      → Allows (Stand k) slots id m i f (Makes verb st m)
+  asks_at kind acts on_word home f writes =
+      subst (λ (x : ℕ). Allows (Stand k) slots id m x f (Makes verb st m)) (sym at)
+      (plays_at k slots id m number verb l (subst (λ (x : Plan). l < locks_of x) (sym same) near) acts.row acts.stands acts.begins
+      (on_word acts.row acts.is) (home acts.row acts.is) st f (word ∙ at) writes)

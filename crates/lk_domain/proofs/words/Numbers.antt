@@ -1,0 +1,150 @@
+-- What the steps on a lock's word do to its number.
+use Rattle.std.proofs.Common.{◌≡◌, inl, inr, ℕ, ◌+◌, ◌-◌, ◌%◌, ◌^◌, ◌<◌, Option, Some, None}
+use Rattle.std.proofs.Common.{Bool, true, false, eqb, ne_eqb, refl, sym, ap, ◌∙◌, arith}
+use Rattle.std.proofs.lemmas.Bool.{cases_Bool}
+use Rattle.std.specs.Prelude.{if◌then◌else◌, unwrap_or, ◌&&◌, not, is_some}
+use prog.Atomic.{either}
+use Rattle.lk_abs.specs.declared.names.Mode.{Mode}
+use Rattle.lk_word.specs.declared.spin_word.NodeName.{NodeName}
+use Rattle.lk_word.specs.declared.spin_word.Locked.{Locked}
+use Rattle.lk_word.specs.declared.spin_word.Locked.TheVariants.{Free, Held, Slow}
+use Rattle.lk_word.specs.declared.spin_word.Fields.{Fields}
+use Rattle.lk_word.specs.SpinWord.{packed, IsPackable, locked_number, tail_number}
+use Rattle.lk_word.proofs.SpinWordLemmas.{packed_small}
+use Rattle.lk_machine.specs.declared.parts.Frame.{Frame}
+use Rattle.lk_machine.specs.declared.parts.Pc.{Pc}
+use Rattle.lk_machine.specs.declared.parts.Pc.TheVariants.{F1, T1, T2, U1, V1, V2, P0, P3, G2, G3}
+use Rattle.lk_machine.specs.declared.parts.Pc.TheVariants.{G7, N1, N2}
+use Rattle.lk_machine.specs.rows.Spin.{is_free, is_unlocked, held_word}
+use Rattle.lk_machine.specs.TopRow.{target}
+use Rattle.lk_law.specs.Known.{Known}
+use Rattle.lk_law.specs.Leads.{course_in}
+use Rattle.lk_law.specs.World.{World}
+use Rattle.lk_abs.specs.declared.names.Waiter.{Waiter}
+use Rattle.lk_domain.specs.Calls.{grip_of, Frees}
+use Rattle.lk_domain.specs.Rows as kind
+use Rattle.lk_domain.proofs.words.OnWords.{OnWord, word_stores}
+
+-- which rows a kind of step makes
+
+pub look_on : (c : Pc) (f : Frame) → kind.is_look c ≡ true → OnWord (target c f)
+look_on T1 f h = tt
+look_on V1 f h = tt
+look_on P0 f h = tt
+look_on P3 f h = tt
+look_on G2 f h = tt
+look_on G7 f h = tt
+look_on N1 f h = tt
+look_on _ f h = cc h
+
+pub take_on : (c : Pc) (f : Frame) → kind.is_take c ≡ true → OnWord (target c f)
+take_on F1 f h = tt
+take_on T2 f h = tt
+take_on V2 f h = tt
+take_on G3 f h = tt
+take_on N2 f h = tt
+take_on _ f h = cc h
+
+pub free_on : (c : Pc) (f : Frame) → kind.is_free c ≡ true → OnWord (target c f)
+free_on U1 f h = tt
+free_on _ f h = cc h
+
+look_stores : (mode : Mode) (c : Pc) (f : Frame) (y : Fields) → kind.is_look c ≡ true
+    → word_stores mode c f (target c f) y ≡ None
+look_stores mode T1 f y h = elim (cases_Bool (is_free y)) [ inl e ↦ rw (e, word_stores) refl | inr e ↦ rw (e, word_stores) refl ]
+look_stores mode V1 f y h = refl
+look_stores mode P0 f y h = refl
+look_stores mode P3 f y h = refl
+look_stores mode G2 f y h = refl
+look_stores mode G7 f y h = refl
+look_stores mode N1 f y h = refl
+look_stores mode _ f y h = cc h
+
+pub looks : (mode : Mode) (c : Pc) (f : Frame) (y : Fields) → kind.is_look c ≡ true
+    → packed y ≡ packed (unwrap_or (word_stores mode c f (target c f) y) y)
+looks mode c f y h = ap (λ (o : Option Fields). packed (unwrap_or o y)) (sym (look_stores mode c f y h))
+
+take_stores : (mode : Mode) (c : Pc) (f : Frame) (y : Fields) → kind.is_take c ≡ true
+    → word_stores mode c f (target c f) y ≡ (if is_free y then Some held_word else None)
+take_stores mode F1 f y h = elim (cases_Bool (is_free y)) [ inl e ↦ rw (e, word_stores) refl | inr e ↦ rw (e, word_stores) refl ]
+take_stores mode T2 f y h = elim (cases_Bool (is_free y)) [ inl e ↦ rw (e, word_stores) refl | inr e ↦ rw (e, word_stores) refl ]
+take_stores mode V2 f y h = elim (cases_Bool (is_free y)) [ inl e ↦ rw (e, word_stores) refl | inr e ↦ rw (e, word_stores) refl ]
+take_stores mode G3 f y h = elim (cases_Bool (is_free y)) [ inl e ↦ rw (e, word_stores) refl | inr e ↦ rw (e, word_stores) refl ]
+take_stores mode N2 f y h = elim (cases_Bool (is_free y)) [ inl e ↦ rw (e, word_stores) refl | inr e ↦ rw (e, word_stores) refl ]
+take_stores mode _ f y h = cc h
+
+zero_test : (a : Locked) (b : Bool) (t : Option NodeName)
+    → eqb (locked_number a + (if b then 256 else 0) + tail_number t) 0
+    ≡ (is_unlocked a && not b && not (is_some t))
+zero_test Free false None = refl
+zero_test Free true None = refl
+zero_test Held false None = refl
+zero_test Held true None = refl
+zero_test Slow false None = refl
+zero_test Slow true None = refl
+zero_test Free false (Some n) = ne_eqb _ 0 (λ e. omega arith)
+zero_test Free true (Some n) = ne_eqb _ 0 (λ e. omega arith)
+zero_test Held false (Some n) = ne_eqb _ 0 (λ e. omega arith)
+zero_test Held true (Some n) = ne_eqb _ 0 (λ e. omega arith)
+zero_test Slow false (Some n) = ne_eqb _ 0 (λ e. omega arith)
+zero_test Slow true (Some n) = ne_eqb _ 0 (λ e. omega arith)
+
+-- a word is 0 exactly where it is free
+pub free_test : (y : Fields) → eqb (packed y) 0 ≡ is_free y
+unfolding packed
+free_test y = zero_test y.locked y.pending y.tail
+
+pub held_packed : packed held_word ≡ 1
+unfolding packed
+held_packed = refl
+
+-- an exchange of 0 for 1 takes a free word
+pub takes : (mode : Mode) (c : Pc) (f : Frame) (y : Fields) → kind.is_take c ≡ true
+    → either (eqb (packed y) 0) 1 (packed y)
+    ≡ packed (unwrap_or (word_stores mode c f (target c f) y) y)
+takes mode c f y h =
+    let t = take_stores mode c f y h in
+    let e = free_test y in
+    elim (cases_Bool (is_free y)) [
+      | inl d ↦ ap (λ b. either b 1 (packed y)) (e ∙ d)
+          ∙ (sym held_packed
+          ∙ ap (λ (o : Option Fields). packed (unwrap_or o y)) (sym (t ∙ ap (λ b. if b then Some held_word else None) d)))
+      | inr d ↦ ap (λ b. either b 1 (packed y)) (e ∙ d)
+          ∙ ap (λ (o : Option Fields). packed (unwrap_or o y)) (sym (t ∙ ap (λ b. if b then Some held_word else None) d))
+    ]
+
+less_one : (n r : ℕ) → n ≡ 1 + r → n < 2 ^ 32 → (n + (2 ^ 64 - 1)) % 2 ^ 64 ≡ r
+less_one n r e h = omega arith
+
+-- a release takes 1 off a held word
+pub releases : (mode : Mode) (c : Pc) (f : Frame) (y : Fields) → kind.is_free c ≡ true → IsPackable y
+    → Known c y
+    → (packed y + (2 ^ 64 - 1)) % 2 ^ 64
+    ≡ packed (unwrap_or (word_stores mode c f (target c f) y) y)
+unfolding packed
+releases mode U1 f y h fits held =
+    let e : locked_number y.locked ≡ 1 = ap locked_number held in
+    less_one _ _ (omega (arith, e)) (packed_small y fits)
+releases mode _ f y h fits held = cc h
+
+-- looks and takes free nothing
+
+pub look_frees : (w : World) (u : Waiter) (f : Frame) (c : Pc) → kind.is_look c ≡ true
+    → grip_of (target c f) (course_in w u f c (target c f)) ≡ Frees → ⊥
+look_frees w u f T1 h e = elim (cases_Bool (is_free (w.word f.lock))) [ inl d ↦ cc (rw d at e) | inr d ↦ cc (rw d at e) ]
+look_frees w u f V1 h e = cc e
+look_frees w u f P0 h e = cc e
+look_frees w u f P3 h e = cc e
+look_frees w u f G2 h e = cc e
+look_frees w u f G7 h e = cc e
+look_frees w u f N1 h e = cc e
+look_frees w u f _ h e = cc h
+
+pub take_frees : (w : World) (u : Waiter) (f : Frame) (c : Pc) → kind.is_take c ≡ true
+    → grip_of (target c f) (course_in w u f c (target c f)) ≡ Frees → ⊥
+take_frees w u f F1 h e = elim (cases_Bool (is_free (w.word f.lock))) [ inl d ↦ cc (rw d at e) | inr d ↦ cc (rw d at e) ]
+take_frees w u f T2 h e = elim (cases_Bool (is_free (w.word f.lock))) [ inl d ↦ cc (rw d at e) | inr d ↦ cc (rw d at e) ]
+take_frees w u f V2 h e = elim (cases_Bool (is_free (w.word f.lock))) [ inl d ↦ cc (rw d at e) | inr d ↦ cc (rw d at e) ]
+take_frees w u f G3 h e = elim (cases_Bool (is_free (w.word f.lock))) [ inl d ↦ cc (rw d at e) | inr d ↦ cc (rw d at e) ]
+take_frees w u f N2 h e = elim (cases_Bool (is_free (w.word f.lock))) [ inl d ↦ cc (rw d at e) | inr d ↦ cc (rw d at e) ]
+take_frees w u f _ h e = cc h

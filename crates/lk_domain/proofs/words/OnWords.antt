@@ -1,0 +1,278 @@
+-- The steps on the word of a lock.
+use Rattle.std.proofs.Common.{◌≡◌, ◌≢◌, inl, inr, ℕ, ◌<◌, List, set}
+use Rattle.std.proofs.Common.{get_or, Option, Some, None, false, refl, sym, ap, ◌∙◌}
+use Rattle.std.proofs.Common.{arith, length-set, get_or-set_other, IfSome}
+use Rattle.std.proofs.lemmas.Bool.{cases_lt, cases_eq}
+use Rattle.std.specs.Prelude.{unwrap_or}
+use mathlib.Core.Option.{Option as Maybe, some}
+use lib.ListN.{get_elem?}
+use Rattle.atomic_table.specs.Table.{State}
+use Rattle.lk_abs.specs.Names.{same_lock}
+use Rattle.lk_abs.specs.History.{LockHistory}
+use Rattle.lk_abs.specs.declared.names.Kind.{Kind}
+use Rattle.lk_abs.specs.declared.names.Mode.{Mode}
+use Rattle.lk_abs.specs.declared.names.Waiter.{Waiter}
+use Rattle.lk_abs.specs.declared.names.LockName.{LockName}
+use Rattle.lk_word.specs.declared.spin_word.NodeName.{NodeName}
+use Rattle.lk_word.specs.declared.spin_word.Fields.{Fields}
+use Rattle.lk_word.specs.SpinWord.{packed, IsPackable, IsTailInRange}
+use Rattle.lk_machine.specs.declared.parts.Node.{Node}
+use Rattle.lk_machine.specs.declared.parts.Frame.{Frame}
+use Rattle.lk_machine.specs.declared.parts.Pc.{Pc}
+use Rattle.lk_machine.specs.declared.parts.Pc.TheVariants.{G1, C1}
+use Rattle.lk_machine.specs.declared.setup.Verb.{Verb}
+use Rattle.lk_machine.specs.rows.Spin.{spin_row}
+use Rattle.lk_machine.specs.rows.Queue.{queue_row}
+use Rattle.lk_machine.specs.rows.Cna.{promotion_row}
+use Rattle.lk_machine.specs.TopRow.{Target, SpinWord, QueueWord, ChoiceWord, target}
+use Rattle.lk_law.specs.Families.{is_rw_row}
+use Rattle.lk_law.specs.Known.{Known, KnownNodes}
+use Rattle.lk_law.specs.Leads.{Word, met_in, stored_in}
+use Rattle.lk_law.specs.SoundWorld.{IsSoundWorld, is_rw_name}
+use Rattle.lk_law.specs.Steps.{stores_word}
+use Rattle.lk_law.specs.World.{World}
+use Rattle.lk_law.proofs.common.Knows.{row_knows, tail_is_used}
+use Rattle.lk_law.proofs.common.Puts.{if-true, if-false, same_lock-else}
+use Rattle.lk_law.proofs.common.Sames.{same_lock-self}
+use Rattle.lk_law.proofs.running.Calm.{node_comes_at_entry}
+use Rattle.lk_domain.specs.Calls.{terms_of, StandsOn, row_of, acting, Begins}
+use Rattle.lk_domain.specs.Plans.{cpus_of, locks_of}
+use Rattle.lk_domain.specs.Runs.{waiter, node_name, IsStored, Runs}
+use Rattle.lk_domain.specs.Words.{word_at, node_at, node_number, IsNode}
+use Rattle.lk_domain.specs.declared.plan.Plan.{Plan}
+use Rattle.lk_domain.specs.declared.view.View.{View}
+use Rattle.lk_domain.proofs.rows.Begun.{Elsewhere}
+use Rattle.lk_domain.proofs.rows.Lands as lands
+use Rattle.lk_domain.proofs.rows.Grips.{IsOwn, own_row, plain_name}
+use Rattle.lk_domain.proofs.rows.Lands.{keeps, counted_after}
+use Rattle.lk_domain.proofs.rows.Sights.{IsUnseen, IsSeen, Sees}
+use Rattle.lk_domain.proofs.rows.Poised.{Poised}
+use Rattle.lk_domain.proofs.words.Locks.{word_from, word_below, plain_stored}
+use Rattle.lk_domain.proofs.seats.Totals.{drawn}
+
+-- the row is on the word of its lock
+abbrev pub OnWord : Target → Type 0
+OnWord SpinWord = Unit {0}
+OnWord QueueWord = Unit {0}
+OnWord ChoiceWord = Unit {0}
+OnWord _ = ⊥
+
+pub on_word : (t : Target) → OnWord t → IsOwn t
+on_word SpinWord h = tt
+on_word QueueWord h = tt
+on_word ChoiceWord h = tt
+on_word _ h = absurd h
+
+word_unseen : (c : Pc) (t : Target) → OnWord t → IsUnseen c t
+word_unseen c SpinWord h = tt
+word_unseen c QueueWord h = tt
+word_unseen c ChoiceWord h = tt
+word_unseen c _ h = absurd h
+
+pub word_seen : (c : Pc) (f : Frame) (r : Option ℕ) → OnWord (target c f) → IsSeen c (target c f) r
+word_seen c f r h = (word_unseen c (target c f) h, sees c f h)
+  where
+    sees : (c : Pc) (f : Frame) → OnWord (target c f) → Sees c r
+    sees C1 f h = absurd h
+    sees _ f h = tt
+
+not_entry : (c : Pc) (f : Frame) → OnWord (target c f) → c ≢ G1
+not_entry G1 f h e = absurd h
+not_entry _ f h e = cc e
+
+-- what it stores
+abbrev pub word_stores : Mode → Pc → Frame → Target → Fields → Option Fields
+word_stores mode c f SpinWord y = (spin_row mode c f y).stores
+word_stores mode c f QueueWord y = (queue_row mode c f y).stores
+word_stores mode c f ChoiceWord y = (promotion_row c f y).stores
+word_stores mode c f _ y = None
+
+met_word : (m : World) (w : Waiter) (f : Frame) (t : Target) → OnWord t
+    → met_in m w f t ≡ Word (m.word f.lock)
+met_word m w f SpinWord h = refl
+met_word m w f QueueWord h = refl
+met_word m w f ChoiceWord h = refl
+met_word m w f _ h = absurd h
+
+word_of : (m : World) (w : Waiter) (f : Frame) (c : Pc) (t : Target) → OnWord t
+    → stored_in m w f c t ≡ stores_word m f.lock (word_stores m.mode c f t (m.word f.lock))
+word_of m w f c SpinWord h = refl
+word_of m w f c QueueWord h = refl
+word_of m w f c ChoiceWord h = refl
+word_of m w f c _ h = absurd h
+
+word_nodes : (m : World) (l : LockName) (o : Option Fields) → (stores_word m l o).node ≡ m.node
+word_nodes m l None = refl
+word_nodes m l (Some y) = refl
+
+word_here : (m : World) (l : LockName) (o : Option Fields)
+    → (stores_word m l o).word l ≡ unwrap_or o (m.word l)
+word_here m l None = refl
+word_here m l (Some y) = if-true (same_lock l l) y (m.word l) (same_lock-self l)
+
+word_rws : (m : World) (l : LockName) (o : Option Fields) → (stores_word m l o).rw ≡ m.rw
+word_rws m l None = refl
+word_rws m l (Some y) = refl
+
+word_else : (m : World) (l j : LockName) (o : Option Fields) → same_lock j l ≡ false
+    → (stores_word m l o).word j ≡ m.word j
+word_else m l j None h = refl
+word_else m l j (Some y) h = if-false (same_lock j l) y (m.word j) h
+
+-- the words of a table in which the word of a spinlock or a wait lock has changed
+pub lock_stored : (k : Plan) (m n : World) (ws : List ℕ) → IsStored k m ws → (l : LockName) (i : ℕ)
+    → l.index < locks_of k → is_rw_name m.kind l ≡ false → i ≡ packed (n.word l)
+    → ((j : LockName) → j ≢ l → n.word j ≡ m.word j) → n.node ≡ m.node → n.rw ≡ m.rw → n.kind ≡ m.kind
+    → IsStored k n (set ws (word_at l) i)
+lock_stored k m n ws st l i near off is others node rws kind =
+    let below = word_below k l near in
+    record {
+      long = length-set ws (word_at l) i ∙ st.long;
+      locks = plain_stored k m n ws st.locks l i (let z = st.long in omega arith) off is others rws kind;
+      nodes = λ a q h b has. get_or-set_other ws (word_at l) (node_at k a q) i 0 (λ e. omega arith)
+          ∙ (st.nodes a q h b has ∙ ap (λ (g : NodeName → Node). node_number q (g a)) (sym node));
+    }
+
+module _ (k : Plan) {S : Type 0} (s : State S View) (st : Runs k s) (id : ℕ) (v : View)
+    (me : get_elem? s.views id ≡ some v) (p : ℕ) (is : v.who.number ≡ Some p) where
+  -- only processors of the plan have frames
+  pub seated : (m : World) → Elsewhere st.world m p → (u : Waiter) (g : Frame) → m.frame u ≡ Some g
+      → u.cpu < cpus_of k
+  seated m others u g has =
+      elim (cases_eq u.cpu p) [
+        | inl e ↦ let x = drawn s.views (get_or s.words 0 0) st.once id v p me is in let y = st.roll in omega arith
+        | inr ne ↦ elim (cases_lt u.cpu (get_or s.words 0 0)) [
+          | inl lt ↦ let y = st.roll in omega arith
+          | inr ge ↦ let none : st.world.frame u ≡ None = (st.blank u.cpu (omega arith)).frames u.ctx in
+              let same = (others u ne).0 in absurd (grind (arith, none, same, has))
+        ]
+      ]
+
+  -- a word of the table has fields that pack
+  pub packable : (m : World) (hs : LockName → LockHistory) → IsSoundWorld m hs
+      → Elsewhere st.world m p → (l : LockName) → IsPackable (m.word l)
+  packable m hs ok others l = by (m.word l).tail refl
+    where
+      by : (o : Option NodeName) → (m.word l).tail ≡ o → IsTailInRange o
+      by None e = tt
+      by (Some a) e =
+          let t = tail_is_used m _ l a ok.spins e in
+          let low = seated m others t.0 t.1.0 t.1.1 in
+          let cpus = st.lawful.cpus in
+          let cpu = t.2.cpu in let index = t.2.index in
+          (omega arith, omega arith)
+
+  -- and its tail is a node of the domain
+  pub tail_in : (m : World) (hs : LockName → LockHistory) → IsSoundWorld m hs
+      → Elsewhere st.world m p → (l : LockName) → IfSome (m.word l).tail (IsNode k)
+  tail_in m hs ok others l = by (m.word l).tail refl
+    where
+      by : (o : Option NodeName) → (m.word l).tail ≡ o → IfSome o (IsNode k)
+      by None e = tt
+      by (Some a) e =
+          let t = tail_is_used m _ l a ok.spins e in
+          let low = seated m others t.0 t.1.0 t.1.1 in
+          record { cpu = let cpu = t.2.cpu in omega arith; index = t.2.index }
+
+  module _ (verb : Verb) (l : LockName) (pc : Pc) (asks : Begins k v.calls verb l.index)
+      (acts : StandsOn (acting k.mode v.calls verb l.index) verb l pc) (near : l.index < locks_of k)
+      (on : OnWord (target pc acts.frame)) where
+    abbrev pub unseen : IsSeen pc (target pc acts.frame) (acting k.mode v.calls verb l.index).runs
+    unseen = word_seen pc acts.frame (acting k.mode v.calls verb l.index).runs on
+
+    abbrev f : Frame
+    f = acts.frame
+
+    abbrev w : Waiter
+    w = waiter p f.ctx
+
+    abbrev at : Poised st.world p (acting k.mode v.calls verb l.index)
+    at = lands.at k s st id v me p is verb l pc asks acts unseen
+
+    abbrev pub m : World
+    m = at.acted.world
+
+    -- the word that the step meets
+    abbrev pub found : Fields
+    found = m.word f.lock
+
+    row_is : is_rw_row pc ≡ false
+    row_is = own_row pc acts.frame (on_word (target pc acts.frame) on)
+
+    -- the lock of the row is no reader-writer lock
+    pub plain_lock : is_rw_name st.world.kind l ≡ false
+    plain_lock =
+        ap (is_rw_name st.world.kind) (sym acts.lock)
+        ∙ (ap (λ (g : ℕ → Kind). is_rw_name g f.lock) (sym at.acted.same.kind)
+        ∙ plain_name m.kind f pc (lands.fitting k s st id v me p is verb l pc asks acts unseen) acts.place row_is)
+
+    pub found_is : get_or s.words (word_at l) 0 ≡ packed found
+    found_is = st.stored.locks.plain l near plain_lock ∙ λ i. packed (sym at.acted.same.word i (sym acts.lock i))
+
+    pub found_packs : IsPackable found
+    found_packs = packable m at.acted.histories at.acted.sound at.acted.others f.lock
+
+    pub found_tail : IfSome found.tail (IsNode k)
+    found_tail = tail_in m at.acted.histories at.acted.sound at.acted.others f.lock
+
+    pub known : Known pc found × KnownNodes pc f m.node
+    known =
+        let z = row_knows pc m _ w f at.acted.sound.spins (lands.live k s st id v me p is verb l pc asks acts unseen) acts.place in
+        (z.0 (ap Rattle.lk_law.specs.Agree.halts (at.acted.same.mode ∙ st.of_plan.mode) ∙ st.lawful.awake), z.1)
+
+    pub met_is : met_in m w f (target pc f) ≡ Word found
+    met_is = met_word m w f (target pc f) on
+
+    abbrev stores : Option Fields
+    stores = word_stores m.mode pc f (target pc f) found
+
+    row_words : (lands.n k s st id v me p is verb l pc asks acts unseen).word ≡ (stores_word m f.lock stores).word
+    row_words =
+        (lands.row_done k s st id v me p is verb l pc asks acts unseen).word
+        ∙ ap (λ (z : World). z.word) (word_of m w f pc (target pc f) on)
+
+    row_nodes : (lands.n k s st id v me p is verb l pc asks acts unseen).node ≡ m.node
+    row_nodes =
+        (lands.row_done k s st id v me p is verb l pc asks acts unseen).node
+        (node_comes_at_entry m w f pc
+        (record {
+          awake = lands.awake_row k s st id v me p is verb l pc asks acts unseen;
+          spin = row_is;
+        })
+        (lands.fitting k s st id v me p is verb l pc asks acts unseen).after
+        (not_entry pc f on))
+        ∙ (ap (λ (z : World). z.node) (word_of m w f pc (target pc f) on) ∙ word_nodes m f.lock stores)
+
+    row_rws : (lands.n k s st id v me p is verb l pc asks acts unseen).rw ≡ m.rw
+    row_rws =
+        (lands.row_done k s st id v me p is verb l pc asks acts unseen).rw
+        ∙ (ap (λ (z : World). z.rw) (word_of m w f pc (target pc f) on) ∙ word_rws m f.lock stores)
+
+    -- a step on a lock word that makes the row of the call, where it writes what the row stores
+    pub word_step : (i : ℕ)
+        → i ≡ packed (unwrap_or (word_stores k.mode pc f (target pc f) found) found)
+        → (u : View) → u.who ≡ v.who
+        → u.calls ≡ row_of (terms_of k) p (acting k.mode v.calls verb l.index) (Word found) → (homes : List (Maybe S))
+        → Runs k {S = S} (record { words = set s.words (word_at l) i; homes = homes; views = set s.views id u })
+    word_step i writes u who calls homes =
+        let n : World = lands.n k s st id v me p is verb l pc asks acts unseen in
+        let mode : k.mode ≡ m.mode = sym (at.acted.same.mode ∙ st.of_plan.mode) in
+        let here : n.word l ≡ unwrap_or stores found =
+        (λ j. row_words j (sym acts.lock j)) ∙ word_here m f.lock stores in
+        let low = word_from l in let high = word_below k l near in
+        lands.lands k s st id v me p is verb l pc asks acts unseen u who
+        (calls ∙ ap (row_of (terms_of k) p (acting k.mode v.calls verb l.index)) (sym met_is))
+        (set s.words (word_at l) i)
+        (lock_stored k st.world n s.words st.stored l i near plain_lock
+        (writes
+        ∙ (ap (λ (z : Mode). packed (unwrap_or (word_stores z pc f (target pc f) found) found)) mode
+        ∙ ap packed (sym here)))
+        (λ j ne. ap (λ (g : LockName → Fields). g j) row_words
+        ∙ (word_else m f.lock j stores (ap (same_lock j) acts.lock ∙ same_lock-else j l ne)
+        ∙ ap (λ (g : LockName → Fields). g j) at.acted.same.word))
+        (row_nodes ∙ at.acted.same.node) (row_rws ∙ at.acted.same.rw)
+        ((lands.row_done k s st id v me p is verb l pc asks acts unseen).kind ∙ at.acted.same.kind))
+        (get_or-set_other s.words (word_at l) 0 i 0 (λ e. omega arith))
+        (λ q e ne fit. ap (λ (g : NodeName → Node). g (node_name q (st.world.queued q))) (row_nodes ∙ at.acted.same.node))
+        (λ q e ne fit. counted_after st.world n e (sym (row_nodes ∙ at.acted.same.node)) fit.counted)
+        homes

@@ -1,0 +1,324 @@
+// The steps of a processor on the word of a reader-writer lock, and what it then notes of its calls.
+ghost use Rattle.std.specs.Prelude.{◌≡◌, ◌<◌, ◌==◌, ◌%◌, true, false, None, length};
+ghost use Rattle.lk_machine.specs.declared.setup.Verb.TheVariants.{Read, TryRead, RUnlock, Write};
+ghost use Rattle.lk_domain.specs.Calls.{lock_name, waits_in};
+ghost use Rattle.lk_domain.specs.Ledgers.{is_first};
+ghost use Rattle.lk_domain.specs.Plans.{locks_of};
+ghost use Rattle.lk_domain.specs.RwPlays.{ActsFor, SharedBy};
+ghost use Rattle.lk_domain.specs.RwRows.{watches_by, joins_by, quits_by, seizes_by, awaits_by};
+ghost use Rattle.lk_domain.specs.RwRows.{follows_by, leaves_by, watches_at, joins_at, seizes_at};
+ghost use Rattle.lk_domain.specs.RwRows.{watches_on, watch_takes, joins_on, join_takes, quits_on};
+ghost use Rattle.lk_domain.specs.RwRows.{seizes_on};
+ghost use Rattle.lk_domain.specs.RwSeats.{MadeShared};
+ghost use Rattle.lk_domain.specs.Seats.{IsOf, KeepsRest, calls_of, ledger_of, view_of};
+ghost use Rattle.lk_domain.specs.Views.{IsNumbered};
+
+use crate::cpu::{Cpu, Right};
+use crate::domain::Domain;
+use crate::rw_moves;
+use lk_abs::LockName;
+use lk_machine::Verb;
+
+// A look by the seat.
+fn seat_watches(seat: &mut Right, domain: &Domain, verb: Verb, lock: u32) -> u64
+    requires table { seat.old.table_id ≡ domain.now.table.shared.table_id }
+    requires lock { lock < locks_of domain.now.plan }
+    requires number { IsNumbered seat.old.me.0 }
+    requires row { ActsFor (watches_by verb) seat.old.me.0 verb lock }
+    ensures same { (seat.new.table_id ≡ seat.old.table_id) × (seat.new.id ≡ seat.old.id) }
+    ensures step { SharedBy verb lock seat.old.me result seat.new.me }
+{
+    match verb {
+        Verb::Read => rw_moves::watch_as_reader(seat, domain, lock),
+        Verb::Write => rw_moves::watch_as_writer(seat, domain, lock),
+        Verb::TryRead => rw_moves::watch_once_as_reader(seat, domain, lock),
+        Verb::TryWrite => rw_moves::watch_once_as_writer(seat, domain, lock),
+        _ => unreachable!(),
+    }
+}
+
+// A reader more by the seat.
+fn seat_joins(seat: &mut Right, domain: &Domain, verb: Verb, lock: u32) -> u64
+    requires table { seat.old.table_id ≡ domain.now.table.shared.table_id }
+    requires lock { lock < locks_of domain.now.plan }
+    requires number { IsNumbered seat.old.me.0 }
+    requires row { ActsFor (joins_by verb) seat.old.me.0 verb lock }
+    ensures same { (seat.new.table_id ≡ seat.old.table_id) × (seat.new.id ≡ seat.old.id) }
+    ensures step { SharedBy verb lock seat.old.me result seat.new.me }
+{
+    match verb {
+        Verb::Read => rw_moves::join(seat, domain, lock),
+        Verb::TryRead => rw_moves::join_once(seat, domain, lock),
+        _ => unreachable!(),
+    }
+}
+
+// An exchange of the empty word by the seat.
+fn seat_seizes(seat: &mut Right, domain: &Domain, verb: Verb, lock: u32) -> u64
+    requires table { seat.old.table_id ≡ domain.now.table.shared.table_id }
+    requires lock { lock < locks_of domain.now.plan }
+    requires number { IsNumbered seat.old.me.0 }
+    requires row { ActsFor (seizes_by verb) seat.old.me.0 verb lock }
+    ensures same { (seat.new.table_id ≡ seat.old.table_id) × (seat.new.id ≡ seat.old.id) }
+    ensures step { SharedBy verb lock seat.old.me result seat.new.me }
+{
+    match verb {
+        Verb::Write => rw_moves::seize(seat, domain, lock),
+        Verb::TryWrite => rw_moves::seize_once(seat, domain, lock),
+        _ => unreachable!(),
+    }
+}
+
+// Whether the call goes on after a look.
+fn waits_after_watch(verb: Verb, alone: bool, met: u64) -> bool
+    ensures { result ≡ watches_on alone verb met }
+{
+    match verb {
+        Verb::Read => alone | (met % 256 != 0),
+        Verb::Write => true,
+        Verb::TryRead => met % 512 == 0,
+        Verb::TryWrite => met == 0,
+        _ => false,
+    }
+}
+
+// Whether it has the lock then.
+fn has_after_watch(verb: Verb, met: u64) -> bool
+    ensures { result ≡ watch_takes verb met }
+{
+    match verb {
+        Verb::Read => met % 256 == 0,
+        _ => false,
+    }
+}
+
+// Whether the call goes on after it has added a reader.
+fn waits_after_join(verb: Verb, waits: bool, met: u64) -> bool
+    ensures { result ≡ joins_on waits verb met }
+{
+    match verb {
+        Verb::Read => waits | (met % 512 != 0),
+        _ => met % 512 != 0,
+    }
+}
+
+// Whether it has the lock then.
+fn has_after_join(verb: Verb, waits: bool, met: u64) -> bool
+    ensures { result ≡ join_takes waits verb met }
+{
+    match verb {
+        Verb::Read => !waits & (met % 512 == 0),
+        _ => met % 512 == 0,
+    }
+}
+
+// Whether the call goes on after an exchange of the empty word.
+fn waits_after_seize(verb: Verb, waits: bool, met: u64) -> bool
+    ensures { result ≡ seizes_on waits verb met }
+{
+    match verb {
+        Verb::Write => waits | (met != 0),
+        _ => false,
+    }
+}
+
+// A look.
+pub(crate) fn watch(cpu: &mut Cpu, domain: &Domain, verb: Verb, lock: u32) -> u64
+    requires domain { IsOf cpu.old domain.now }
+    requires lock { lock < locks_of domain.now.plan }
+    requires row { ActsFor (watches_at (length (calls_of cpu.old).frames == 1) verb)
+        (view_of cpu.old) verb lock }
+    ensures rest { KeepsRest cpu.old cpu.new }
+    ensures step { MadeShared verb lock cpu.old result cpu.new }
+{
+    prove!(domain.plan.locks.len() <= 32);
+    let alone = cpu.notes.depth == 1;
+    let met = seat_watches(&mut cpu.seat, domain, verb, lock);
+    let waits = waits_after_watch(verb, alone, met);
+    let has = has_after_watch(verb, met);
+    cpu.notes.step(lock, waits, false, has);
+    met
+}
+
+/// The first addition of a new call of `read_lock`, which is the row R1. It is `add_bias` of a call
+/// that has not waited.
+#[inline]
+pub fn join_first(cpu: &mut Cpu, domain: &Domain, verb: Verb, lock: LockName) -> u64
+    requires domain { IsOf cpu.old domain.now }
+    requires verb { verb ≡ Read }
+    requires lock { lock.index < locks_of domain.now.plan }
+    requires plain { lock.wait ≡ false }
+    requires fresh { waits_in (calls_of cpu.old).frames lock.index ≡ false }
+    requires row { ActsFor (joins_at (waits_in (calls_of cpu.old).frames lock.index) verb)
+        (view_of cpu.old) verb lock.index }
+    ensures rest { KeepsRest cpu.old cpu.new }
+    ensures step { MadeShared verb lock.index cpu.old result cpu.new }
+{
+    prove!(domain.plan.locks.len() <= 32);
+    let met = rw_moves::join(&mut cpu.seat, domain, lock.index);
+    cpu.notes.first_step(lock.index, met % 512 == 0);
+    met
+}
+
+/// Adds a reader to the word of a reader-writer lock, and gives the word that it met. By a call of
+/// `read_lock` this is the row R1, with which it begins, or R4, and by one of `try_read` Y2.
+pub fn add_bias(cpu: &mut Cpu, domain: &Domain, verb: Verb, lock: LockName) -> u64
+    requires domain { IsOf cpu.old domain.now }
+    requires lock { lock.index < locks_of domain.now.plan }
+    requires plain { lock.wait ≡ false }
+    requires row { ActsFor (joins_at (waits_in (calls_of cpu.old).frames lock.index) verb)
+        (view_of cpu.old) verb lock.index }
+    ensures rest { KeepsRest cpu.old cpu.new }
+    ensures step { MadeShared verb lock.index cpu.old result cpu.new }
+{
+    prove!(domain.plan.locks.len() <= 32);
+    let waited = cpu.notes.waiting[lock.index as usize];
+    let met = seat_joins(&mut cpu.seat, domain, verb, lock.index);
+    let waits = waits_after_join(verb, waited, met);
+    let has = has_after_join(verb, waited, met);
+    cpu.notes.step(lock.index, waits, false, has);
+    met
+}
+
+/// The first exchange of a new call of `write_lock`, which is the row Wr1. It is `empty_to_writer` of
+/// a call that has not waited.
+#[inline]
+pub fn seize_first(cpu: &mut Cpu, domain: &Domain, verb: Verb, lock: LockName) -> u64
+    requires domain { IsOf cpu.old domain.now }
+    requires verb { verb ≡ Write }
+    requires lock { lock.index < locks_of domain.now.plan }
+    requires plain { lock.wait ≡ false }
+    requires fresh { waits_in (calls_of cpu.old).frames lock.index ≡ false }
+    requires row { ActsFor (seizes_at (waits_in (calls_of cpu.old).frames lock.index) verb)
+        (view_of cpu.old) verb lock.index }
+    ensures rest { KeepsRest cpu.old cpu.new }
+    ensures step { MadeShared verb lock.index cpu.old result cpu.new }
+{
+    prove!(domain.plan.locks.len() <= 32);
+    let met = rw_moves::seize(&mut cpu.seat, domain, lock.index);
+    cpu.notes.first_step(lock.index, met == 0);
+    met
+}
+
+/// Exchanges the empty word of a reader-writer lock for that of a writer, and gives the word that it
+/// met. By a call of `write_lock` this is the row Wr1, with which it begins, or Wr3, and by one of
+/// `try_write` Y5.
+pub fn empty_to_writer(cpu: &mut Cpu, domain: &Domain, verb: Verb, lock: LockName) -> u64
+    requires domain { IsOf cpu.old domain.now }
+    requires lock { lock.index < locks_of domain.now.plan }
+    requires plain { lock.wait ≡ false }
+    requires row { ActsFor (seizes_at (waits_in (calls_of cpu.old).frames lock.index) verb)
+        (view_of cpu.old) verb lock.index }
+    ensures rest { KeepsRest cpu.old cpu.new }
+    ensures step { MadeShared verb lock.index cpu.old result cpu.new }
+{
+    prove!(domain.plan.locks.len() <= 32);
+    let waited = cpu.notes.waiting[lock.index as usize];
+    let met = seat_seizes(&mut cpu.seat, domain, verb, lock.index);
+    let waits = waits_after_seize(verb, waited, met);
+    cpu.notes.step(lock.index, waits, false, met == 0);
+    met
+}
+
+// Takes away the reader that the call has added.
+fn step_back(cpu: &mut Cpu, domain: &Domain, lock: u32) -> u64
+    requires domain { IsOf cpu.old domain.now }
+    requires lock { lock < locks_of domain.now.plan }
+    requires row { ActsFor (quits_by Read) (view_of cpu.old) Read lock }
+    ensures rest { KeepsRest cpu.old cpu.new }
+    ensures step { MadeShared Read lock cpu.old result cpu.new }
+{
+    rw_moves::quit(&mut cpu.seat, domain, lock)
+}
+
+// The same, and the try has failed.
+fn give_up(cpu: &mut Cpu, domain: &Domain, lock: u32) -> u64
+    requires domain { IsOf cpu.old domain.now }
+    requires lock { lock < locks_of domain.now.plan }
+    requires row { ActsFor (quits_by TryRead) (view_of cpu.old) TryRead lock }
+    ensures rest { KeepsRest cpu.old cpu.new }
+    ensures step { MadeShared TryRead lock cpu.old result cpu.new }
+{
+    prove!(domain.plan.locks.len() <= 32);
+    let met = rw_moves::quit_once(&mut cpu.seat, domain, lock);
+    cpu.notes.step(lock, false, false, false);
+    met
+}
+
+// Takes away a reader that holds the lock.
+fn release_as_reader(cpu: &mut Cpu, domain: &Domain, lock: u32) -> u64
+    requires domain { IsOf cpu.old domain.now }
+    requires lock { lock < locks_of domain.now.plan }
+    requires row { ActsFor (quits_by RUnlock) (view_of cpu.old) RUnlock lock }
+    ensures rest { KeepsRest cpu.old cpu.new }
+    ensures step { MadeShared RUnlock lock cpu.old result cpu.new }
+{
+    prove!(domain.plan.locks.len() <= 32);
+    let met = rw_moves::leave_as_reader(&mut cpu.seat, domain, lock);
+    cpu.notes.held[lock as usize] = false;
+    met
+}
+
+/// Takes a reader off the word of a reader-writer lock, and gives the word that it met. By a call of
+/// `read_lock` this is the row R3, by one of `try_read` Y3, and by one of `read_unlock` Z1.
+pub fn subtract_bias(cpu: &mut Cpu, domain: &Domain, verb: Verb, lock: LockName) -> u64
+    requires domain { IsOf cpu.old domain.now }
+    requires lock { lock.index < locks_of domain.now.plan }
+    requires plain { lock.wait ≡ false }
+    requires row { ActsFor (quits_by verb) (view_of cpu.old) verb lock.index }
+    ensures rest { KeepsRest cpu.old cpu.new }
+    ensures step { MadeShared verb lock.index cpu.old result cpu.new }
+{
+    match verb {
+        Verb::Read => step_back(cpu, domain, lock.index),
+        Verb::TryRead => give_up(cpu, domain, lock.index),
+        Verb::RUnlock => release_as_reader(cpu, domain, lock.index),
+        _ => unreachable!(),
+    }
+}
+
+/// Sets waiting in the word of a reader-writer lock, and gives the word that it met. This is the row
+/// Wr4.
+pub fn set_waiting(cpu: &mut Cpu, domain: &Domain, verb: Verb, lock: LockName) -> u64
+    requires domain { IsOf cpu.old domain.now }
+    requires lock { lock.index < locks_of domain.now.plan }
+    requires plain { lock.wait ≡ false }
+    requires row { ActsFor (awaits_by verb) (view_of cpu.old) verb lock.index }
+    ensures rest { KeepsRest cpu.old cpu.new }
+    ensures step { MadeShared verb lock.index cpu.old result cpu.new }
+{
+    rw_moves::set_waiting(&mut cpu.seat, domain, lock.index)
+}
+
+/// Exchanges the word in which the call alone waits for that of a writer, and gives the word that it
+/// met. This is the row Wr6.
+pub fn waiting_to_writer(cpu: &mut Cpu, domain: &Domain, verb: Verb, lock: LockName) -> u64
+    requires domain { IsOf cpu.old domain.now }
+    requires lock { lock.index < locks_of domain.now.plan }
+    requires plain { lock.wait ≡ false }
+    requires row { ActsFor (follows_by verb) (view_of cpu.old) verb lock.index }
+    ensures rest { KeepsRest cpu.old cpu.new }
+    ensures step { MadeShared verb lock.index cpu.old result cpu.new }
+{
+    prove!(domain.plan.locks.len() <= 32);
+    let met = rw_moves::follow(&mut cpu.seat, domain, lock.index);
+    cpu.notes.step(lock.index, true, false, met == 256);
+    met
+}
+
+/// Takes the writer off the word of a reader-writer lock, and gives the word that it met. This is
+/// the row Z2.
+pub fn writer_release(cpu: &mut Cpu, domain: &Domain, verb: Verb, lock: LockName) -> u64
+    requires domain { IsOf cpu.old domain.now }
+    requires lock { lock.index < locks_of domain.now.plan }
+    requires plain { lock.wait ≡ false }
+    requires row { ActsFor (leaves_by verb) (view_of cpu.old) verb lock.index }
+    requires home { is_first (lock_name lock.index) ≡ true → (ledger_of cpu.old).out ≡ None }
+    ensures rest { KeepsRest cpu.old cpu.new }
+    ensures step { MadeShared verb lock.index cpu.old result cpu.new }
+{
+    prove!(domain.plan.locks.len() <= 32);
+    let met = rw_moves::leave_as_writer(&mut cpu.seat, domain, lock.index);
+    cpu.notes.held[lock.index as usize] = false;
+    met
+}
