@@ -6,11 +6,14 @@ use Rattle.lk_abs.specs.declared.names.Mode.TheVariants.{Virt, Native, Cna, Pv}
 use Rattle.lk_word.specs.declared.spin_word.NodeName.{NodeName}
 use Rattle.lk_word.specs.declared.spin_word.Fields.{Fields}
 use Rattle.lk_word.specs.SpinWord.{packed}
+use Rattle.lk_machine.specs.declared.parts.Flag.{Flag}
+use Rattle.lk_machine.specs.declared.parts.Flag.TheVariants.{Unset, Go, Second}
 use Rattle.lk_machine.specs.declared.parts.Pc.{Pc}
 use Rattle.lk_machine.specs.declared.parts.Pc.TheVariants.{F1, V1, P0, P1, P2, P3, P4, G1, G7, G8, G9}
 use Rattle.lk_machine.specs.rows.Spin.{is_free, is_unlocked, after_fast, after_pending, to_queue}
 use Rattle.lk_domain.specs.Plans.{cpus_of}
-use Rattle.lk_domain.specs.Words.{IsNode, link_number}
+use Rattle.lk_domain.specs.NodePlays.{IsFlagNode}
+use Rattle.lk_domain.specs.Words.{IsNode, link_number, flag_number, name_number}
 use Rattle.lk_domain.specs.declared.plan.Plan.{Plan}
 use Rattle.lk_domain.proofs.Ways as seat
 
@@ -113,3 +116,54 @@ last_of_four q (inl h) na nb nc = absurd (na h)
 last_of_four q (inr (inl h)) na nb nc = absurd (nb h)
 last_of_four q (inr (inr (inl h))) na nb nc = absurd (nc h)
 last_of_four q (inr (inr (inr h))) na nb nc = h
+
+-- what a flag says
+
+pub unset_flag : (k : Plan) (n : ℕ) (x : Flag) → IsFlagNode k x → n ≡ flag_number x → n ≡ 0 → x ≡ Unset
+unset_flag k n Unset h e z = refl
+unset_flag k n Go h e z = absurd (omega (arith, e, z))
+unset_flag k n (Second m) h e z = absurd (omega (arith, e, z))
+
+pub go_flag : (k : Plan) (n : ℕ) (x : Flag) → IsFlagNode k x → n ≡ flag_number x → n ≡ 1 → x ≡ Go
+go_flag k n Unset h e z = absurd (omega (arith, e, z))
+go_flag k n Go h e z = refl
+go_flag k n (Second m) h e z = absurd (omega (arith, e, z))
+
+pub second_flag : (k : Plan) (n : ℕ) (x : Flag) → IsFlagNode k x → n ≡ flag_number x → n ≢ 0 → n ≢ 1
+    → Second (record { cpu = (n - 2) / 4; index = (n - 2) % 4 }) ≡ x
+second_flag k n Unset h e z y = absurd (z e)
+second_flag k n Go h e z y = absurd (y e)
+second_flag k n (Second m) h e z y =
+    let low = h.index in
+    let c : (n - 2) / 4 ≡ m.cpu = omega (arith, e, low) in
+    let i : (n - 2) % 4 ≡ m.index = omega (arith, e, low) in
+    λ j. Second (record { cpu = c j; index = i j })
+
+pub small_flag : (k : Plan) (n : ℕ) (x : Flag) → IsFlagNode k x → n ≡ flag_number x → cpus_of k ≤ 64 → n < 260
+small_flag k n Unset h e few = omega (arith, e)
+small_flag k n Go h e few = omega (arith, e)
+small_flag k n (Second m) h e few = let a = h.cpu in let b = h.index in omega (arith, e, few, a, b)
+
+-- what the name of a node says
+
+pub node_named : (k : Plan) (n : ℕ) (m : NodeName) → IsNode k m → n ≡ name_number m
+    → record { cpu = (n - 2) / 4; index = (n - 2) % 4 } ≡ m
+node_named k n m h e =
+    let low = h.index in
+    let c : (n - 2) / 4 ≡ m.cpu = omega (arith, e, low) in
+    let i : (n - 2) % 4 ≡ m.index = omega (arith, e, low) in
+    λ j. record { cpu = c j; index = i j }
+
+pub small_name : (k : Plan) (n : ℕ) (m : NodeName) → IsNode k m → n ≡ name_number m → cpus_of k ≤ 64 → n < 260
+small_name k n m h e few = let a = h.cpu in let b = h.index in omega (arith, e, few, a, b)
+
+pub least_name : (n : ℕ) (m : NodeName) → n ≡ name_number m → 2 ≤ n
+least_name n m e = omega (arith, e)
+
+-- who sees itself alone has nobody aside
+pub nobody_aside : (b t : Bool) (second : Option NodeName)
+    → (if b then (if t && not (is_some second) then G8 else G9) else G7) ≡ G8 → second ≡ None
+nobody_aside b t None e = refl
+nobody_aside true true (Some m) e = cc e
+nobody_aside true false (Some m) e = cc e
+nobody_aside false t (Some m) e = cc e

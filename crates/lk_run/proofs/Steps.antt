@@ -1,17 +1,25 @@
 -- What a step of a processor does to a call.
-use Rattle.std.proofs.Common.{◌≡◌, ℕ, ◌<◌, List, [], ◌∷◌, ◌++◌, Bool, eqb, refl, sym, ap, ◌∙◌, subst, arith}
+use Rattle.std.proofs.Common.{◌≡◌, ℕ, ◌<◌, List, [], ◌∷◌, ◌++◌, Bool, true, false, eqb, refl, sym, ap, ◌∙◌, subst, arith}
 use Rattle.std.proofs.Common.{◌||◌}
+use Rattle.lk_abs.specs.declared.holder.Manner.{Manner}
 use Rattle.lk_abs.specs.declared.holder.Manner.TheVariants.{Spins}
+use Rattle.lk_abs.specs.declared.names.LockName.{LockName}
 use Rattle.lk_machine.specs.declared.parts.Pc.{Pc}
 use Rattle.lk_machine.specs.declared.setup.Verb.{Verb}
-use Rattle.lk_domain.specs.Calls.{Mark, Calls, Takes, lock_name}
+use Rattle.lk_machine.specs.declared.setup.Verb.TheVariants.{Try}
+use Rattle.lk_abs.specs.declared.names.Kind.TheVariants.{Spin}
+use Rattle.lk_domain.specs.Plans.{kind_at}
+use Rattle.lk_domain.specs.Calls.{terms_of, Mark, Calls, Takes, lock_name}
 use Rattle.lk_domain.specs.Ledgers.{Ledger, Look, turned}
 use Rattle.lk_domain.specs.Paths.{IsAt, HasTaken, HasMissed, Any, Passes, is_busy, HasLooked}
+use Rattle.lk_domain.specs.Plays.{Acts, ActsOn, ActsIn}
+use Rattle.lk_domain.specs.Rows.{queues_up, looks_by}
+use Rattle.lk_domain.specs.declared.view.View.{View}
 use Rattle.lk_domain.specs.Seats.{IsOf, KeepsRest, view_of, calls_of}
-use Rattle.lk_domain.specs.Waits.{Moves, Gains, Misses}
+use Rattle.lk_domain.specs.Waits.{MayTake, Moves, Gains, Misses}
 use Rattle.lk_domain.specs.declared.cpu.Cpu.{Cpu}
 use Rattle.lk_domain.specs.declared.domain.Domain.{Domain}
-use Rattle.lk_domain.proofs.Ways.{IsSeat, Moved, Took, Missed}
+use Rattle.lk_domain.proofs.Ways.{IsSeat, Moved, Took, Missed, acts_first}
 
 -- the seat of a processor of the domain
 pub seat_of : (d : Domain) (a : Cpu) → IsOf a d → IsSeat d.plan a.number (view_of a)
@@ -41,21 +49,21 @@ module _ (d : Domain) (v : Verb) (l : ℕ) (old : Calls) (a b : Cpu) (rest : Kee
   pub moved : (c : Pc) → Moved d.plan a.number v l c old (view_of a) (view_of b) → Moves d v l c old a b
   moved c m =
       record {
-        waits = subst (λ (p : ℕ). IsAt d.plan.mode p v l c Any old (calls_of b)) (sym rest.same.number) m.at;
+        waits = subst (λ (p : ℕ). IsAt (terms_of d.plan) p v l c Any old (calls_of b)) (sym rest.same.number) m.at;
         ledger = m.ledger;
       }
 
   pub took : Took d.plan a.number v l old (view_of a) (view_of b) → Gains d v l Spins old a b
   took m =
       record {
-        taken = subst (λ (p : ℕ). HasTaken d.plan.mode p v l Spins old (calls_of b)) (sym rest.same.number) m.taken;
+        taken = subst (λ (p : ℕ). HasTaken (terms_of d.plan) p v l Spins old (calls_of b)) (sym rest.same.number) m.taken;
         ledger = m.ledger;
       }
 
   pub missed : Missed d.plan a.number v l old (view_of a) (view_of b) → Misses d v l old a b
   missed m =
       record {
-        missed = subst (λ (p : ℕ). HasMissed d.plan.mode p v l old (calls_of b)) (sym rest.same.number) m.missed;
+        missed = subst (λ (p : ℕ). HasMissed (terms_of d.plan) p v l old (calls_of b)) (sym rest.same.number) m.missed;
         ledger = m.ledger;
       }
 
@@ -95,6 +103,24 @@ passes_both b g h i p q =
       still = λ e. q.still e ∙ p.still e;
     }
 
-pub looked : (l : ℕ) (old : Calls) (last : List Mark) (g h i : Ledger) → Passes ((eqb l 0) || is_busy old) g h
-    → i ≡ turned h (lock_name l) (Takes Spins) last → HasLooked l Spins old last g i
-looked l old last g h i p e = record { between = h; passes = p; now = e }
+pub looked : (l : ℕ) (m : Manner) (old : Calls) (last : List Mark) (g h i : Ledger) → Passes ((eqb l 0) || is_busy old) g h
+    → i ≡ turned h (lock_name l) (Takes m) last → HasLooked l m old last g i
+looked l m old last g h i p e = record { between = h; passes = p; now = e }
+
+-- what a step call asks of a call on the lock itself
+pub plain_in : (kind : Pc → Bool) (m : View) (v : Verb) (n : LockName) → n.wait ≡ false → queues_up v ≡ false
+    → Acts kind m v n.index → ActsIn kind m v n
+plain_in kind m v n plain off acts =
+    let name : lock_name n.index ≡ n = λ i. record { index = n.index; wait = sym plain i } in
+    record {
+      acts = subst (ActsOn kind m v) name acts;
+      inside = plain ∙ sym off;
+      after = λ w. let z : true ≡ false = sym w ∙ plain in absurd (cc z);
+    }
+
+-- of a try that begins
+pub tries : (d : Domain) (l : ℕ) (a : Cpu) → IsOf a d → MayTake l (calls_of a) → kind_at d.plan l ≡ Spin
+    → ActsIn (looks_by Try) (view_of a) Try (lock_name l)
+tries d l a of may kind =
+    plain_in (looks_by Try) (view_of a) Try (lock_name l) refl refl
+    (acts_first (looks_by Try) d.plan a.number Try l (view_of a) (seat_of d a of) refl may.fresh may.free may.few kind refl)

@@ -1,55 +1,142 @@
--- A call of `lock` from row to row.
-use Rattle.std.proofs.Common.{◌≡◌, ℕ, List, [], ◌∷◌, ◌++◌, Option, Some, None, Bool, true, false, eqb, refl, sym, ap, ◌∙◌, subst, arith}
+-- What a step of a processor does to a call that waits: it goes on, looks, or has the lock for which it
+-- queued.
+use Rattle.std.proofs.Common.{◌≡◌, inl, inr, ℕ, List, [], ◌∷◌, ◌++◌, Option, Some, None, Bool, true, false, eqb, refl, sym, ap, ◌∙◌, subst, arith}
 use Rattle.std.proofs.Common.{◌||◌}
-use Rattle.std.specs.Prelude.{if◌then◌else◌}
+use Rattle.std.specs.Prelude.{if◌then◌else◌, ◌&&◌, not}
+use Rattle.lk_abs.specs.declared.holder.Manner.{Manner}
 use Rattle.lk_abs.specs.declared.holder.Manner.TheVariants.{Spins}
 use Rattle.lk_abs.specs.declared.names.LockName.{LockName}
 use Rattle.lk_abs.specs.declared.names.Mode.{Mode}
+use Rattle.lk_machine.specs.Moves.{wait_name}
 use Rattle.lk_machine.specs.declared.parts.Frame.{Frame}
 use Rattle.lk_machine.specs.declared.parts.Pc.{Pc}
-use Rattle.lk_machine.specs.declared.parts.Pc.TheVariants.{F1}
+use Rattle.lk_machine.specs.declared.parts.Pc.TheVariants.{G1}
 use Rattle.lk_machine.specs.declared.setup.Verb.{Verb}
-use Rattle.lk_machine.specs.declared.setup.Verb.TheVariants.{Lock}
+use Rattle.lk_machine.specs.declared.setup.Verb.TheVariants.{Lock, Read, Write}
 use Rattle.lk_machine.specs.TopRow.{target}
-use Rattle.lk_law.specs.Leads.{Met, Word, held_lock}
-use Rattle.lk_domain.specs.Calls.{Mark, mark, Running, running, Calls, acting, begin, holds_in, waits_in, lock_name}
-use Rattle.lk_domain.specs.Calls.{StandsAt, row_of, row_on, row_at, after, frames_after, course, Unchanged, Takes}
-use Rattle.lk_domain.specs.Ledgers.{turned}
-use Rattle.lk_domain.specs.NodePlays.{readied}
-use Rattle.lk_domain.specs.Paths.{next_frame, row_grip, IsAt, HasTaken, AreKept, Any, Passes, is_busy}
-use Rattle.lk_domain.specs.Plays.{Acts, MadeBy, rowed, turned_on, turned_at}
+use Rattle.lk_machine.specs.rows.Cna.{Sight}
+use Rattle.lk_law.specs.Families.{is_rw_row}
+use Rattle.lk_law.specs.Leads.{Met, Number, held_lock}
+use Rattle.lk_machine.specs.rows.Queue.{entry_row}
+use Rattle.lk_law.specs.Leads.{course_of}
+use Rattle.lk_law.specs.Sound.{after_wait}
+use Rattle.lk_law.proofs.common.Puts.{if-true, if-false}
+use Rattle.lk_domain.specs.Calls.{terms_of, sight_of, grip_of, Mark, mark, Running, running, Calls, acting, begin, holds_in, waits_in, lock_name}
+use Rattle.lk_domain.specs.Calls.{StandsOn, row_of, row_on, row_at, after, frames_after, course, Grip, Unchanged, Takes}
+use Rattle.lk_domain.specs.Ledgers.{Ledger, turned}
+use Rattle.lk_domain.specs.NodePlays.{readies}
+use Rattle.lk_domain.specs.Paths.{next_frame, row_grip, HasTaken, AreKept, Any, Passes, is_busy}
+use Rattle.lk_domain.specs.Plays.{rowed, turned_of, turned_on, turned_at}
+use Rattle.lk_domain.specs.Rows.{queues_up, is_patient, looks_by, takes_by, is_watch, is_swap}
+use Rattle.lk_law.specs.Premises.{IsThen}
+use Rattle.lk_domain.proofs.Turned.{is_taking}
 use Rattle.lk_domain.specs.Seats.{IsOf, KeepsRest, calls_of, ledger_of, view_of}
 use Rattle.lk_domain.specs.Views.{own_number}
 use Rattle.lk_domain.specs.declared.cpu.Cpu.{Cpu}
 use Rattle.lk_domain.specs.declared.domain.Domain.{Domain}
 use Rattle.lk_domain.specs.declared.plan.Plan.{Plan}
 use Rattle.lk_domain.specs.declared.view.View.{View}
-use Rattle.lk_domain.proofs.Acting.{acts_on, begins_on}
-use Rattle.lk_domain.proofs.Paths as path
 use Rattle.lk_run.specs.Polls.{Rises, NeverFalls, HasStayed}
-use Rattle.lk_run.specs.Phases.{Start, newest, Stands, Looked, Waits, Holds, starting}
-use Rattle.lk_run.proofs.Polls.{falls_none, rises_after, falls_after, stays_before}
+use Rattle.lk_run.specs.Phases.{Start, newest, LookedAs, WaitsAs, Holds, Won, Queues, resumes}
+use Rattle.lk_run.specs.Standing.{Stage, Outside, Inside, IsOn}
+use Rattle.lk_run.proofs.Polls.{rises_after, falls_after, stays_before}
+use Rattle.lk_run.proofs.Standing as path
 use Rattle.lk_run.proofs.Steps.{passes_none, passes_both, looked}
 
 -- where a row leads that goes on, and what its frame then is
-pub record Leads (mode : Mode) (p : ℕ) (c : Pc) (f : Frame) (x : Met) (e : Pc) (Q : Frame → Type 0) : Type 0 where
-  pub place : (next_frame mode p c f x).place ≡ Some e
-  pub grip : row_grip mode p c f x ≡ Unchanged
-  pub lock : (next_frame mode p c f x).lock ≡ f.lock
-  pub has : Q (next_frame mode p c f x)
+pub record Leads (mode : Mode) (p : ℕ) (z : Sight) (c : Pc) (f : Frame) (x : Met) (e : Pc) (Q : Frame → Type 0) : Type 0 where
+  pub place : (next_frame mode p z c f x).place ≡ Some e
+  pub grip : row_grip mode p z c f x ≡ Unchanged
+  pub lock : (next_frame mode p z c f x).lock ≡ f.lock
+  pub after : (next_frame mode p z c f x).then ≡ f.then
+  pub has : Q (next_frame mode p z c f x)
 
--- one that takes the lock
-pub record Ends (mode : Mode) (p : ℕ) (c : Pc) (f : Frame) (x : Met) : Type 0 where
-  pub place : (next_frame mode p c f x).place ≡ None
-  pub grip : row_grip mode p c f x ≡ Takes Spins
+-- one that takes the lock on which the frame acts
+pub record Ends (mode : Mode) (p : ℕ) (z : Sight) (c : Pc) (f : Frame) (x : Met) : Type 0 where
+  pub place : (next_frame mode p z c f x).place ≡ (if f.lock.wait then f.then else None)
+  pub grip : row_grip mode p z c f x ≡ Takes Spins
   pub own : held_lock (target c f) f ≡ f.lock
+  pub lock : (next_frame mode p z c f x).lock ≡ f.lock
+  pub after : (next_frame mode p z c f x).then ≡ f.then
+
+-- no look begins with a wait lock
+pub wait_turned : (g : Ledger) (n : LockName) (y : Grip) (t : List Mark) → n.wait ≡ true → turned g n y t ≡ g
+wait_turned g n Unchanged t w = refl
+wait_turned g n (Takes m) t w = if-false ((eqb n.index 0) && not n.wait) _ g (off (eqb n.index 0) n.wait w)
+  where
+    off : (a b : Bool) → b ≡ true → (a && not b) ≡ false
+    off true true w = refl
+    off false true w = refl
+    off a false w = cc w
+wait_turned g n Grip.Frees t w = if-false ((eqb n.index 0) && not n.wait) _ g (off (eqb n.index 0) n.wait w)
+  where
+    off : (a b : Bool) → b ≡ true → (a && not b) ≡ false
+    off true true w = refl
+    off false true w = refl
+    off a false w = cc w
+
+-- where a reader or a writer goes on is no row of a spinlock
+pub resumes_else : (v : Verb) (c : Pc) → is_rw_row c ≡ false → resumes v ≡ c → ⊥
+resumes_else v c spin e = let z : true ≡ false = sym (by v) ∙ (ap is_rw_row e ∙ spin) in cc z
+  where
+    by : (v : Verb) → is_rw_row (resumes v) ≡ true
+    by Read = refl
+    by Lock = refl
+    by _ = refl
+
+-- who queues takes, and goes on until it has the lock
+
+pub queues_taking : (v : Verb) (n : LockName) → Queues v n → is_taking v ≡ true
+queues_taking Lock n q = refl
+queues_taking Read n q = refl
+queues_taking Write n q = refl
+queues_taking _ n q = absurd q
+
+pub queues_patient : (v : Verb) (n : LockName) → Queues v n → is_patient v ≡ true
+queues_patient Lock n q = refl
+queues_patient Read n q = refl
+queues_patient Write n q = refl
+queues_patient _ n q = absurd q
+
+pub queues_inside : (v : Verb) (n : LockName) → Queues v n → n.wait ≡ queues_up v
+queues_inside Lock n q = q
+queues_inside Read n q = q
+queues_inside Write n q = q
+queues_inside _ n q = absurd q
+
+pub queues_looks : (v : Verb) (n : LockName) → Queues v n → (c : Pc) → is_watch c ≡ true → looks_by v c ≡ true
+queues_looks Lock n q c h = h
+queues_looks Read n q c h = h
+queues_looks Write n q c h = h
+queues_looks _ n q c h = absurd q
+
+pub queues_swaps : (v : Verb) (n : LockName) → Queues v n → (c : Pc) → is_swap c ≡ true → takes_by v c ≡ true
+queues_swaps Lock n q c h = h
+queues_swaps Read n q c h = h
+queues_swaps Write n q c h = h
+queues_swaps _ n q c h = absurd q
+
+pub next_is : (v : Verb) (n : LockName) → Queues v n → n.wait ≡ true → after_wait v ≡ Some (resumes v)
+next_is Lock n q w = let z : true ≡ false = sym w ∙ q in cc z
+next_is Read n q w = refl
+next_is Write n q w = refl
+next_is _ n q w = absurd q
+
+-- it knows where it goes on
+pub then_is : (v : Verb) (n : LockName) (next : Option Pc) → Queues v n → (n.wait ≡ true → next ≡ after_wait v) → n.wait ≡ true → IsThen next
+then_is Lock n next q after w = let z : true ≡ false = sym w ∙ q in absurd (cc z)
+then_is Read n next q after w = inl (after w)
+then_is Write n next q after w = inr (after w)
+then_is _ n next q after w = absurd q
+
+-- what a processor sees, whose calls before its step were those of a
+abbrev pub sees : Domain → Cpu → Cpu → Sight
+sees d a b = sight_of (terms_of d.plan) b.number (calls_of a).runs
 
 -- a step by which the newest of the calls `was` makes its row at c, which meets x
-module _ (d : Domain) (l : ℕ) (a b : Cpu) (rest : KeepsRest a b) (of : IsOf a d) (was : Calls) (x : Met)
-    (step : view_of b ≡ rowed (view_of a) was x) (c : Pc) (P : Frame → Type 0) (s : Start) (told : Option ℕ)
-    (at : IsAt d.plan.mode b.number Lock l c P s.calls was)
-    (passes : Passes ((eqb l 0) || is_busy s.calls) s.ledger (ledger_of a)) (falls : NeverFalls s.told told)
-    (rises : (y : Met) → HasStayed (newest was.frames ++ mark c y ∷ []) → Rises s.told told) where
+module _ (d : Domain) (v : Verb) (n : LockName) (a b : Cpu) (rest : KeepsRest a b) (of : IsOf a d) (was : Calls) (x : Met)
+    (step : view_of b ≡ rowed (view_of a) was x) (c : Pc) (P : Frame → Type 0) (stage : Stage) (old : Calls)
+    (at : IsOn (terms_of d.plan) b.number v n c P stage old was) where
   abbrev mode : Mode
   mode = d.plan.mode
 
@@ -59,194 +146,169 @@ module _ (d : Domain) (l : ℕ) (a b : Cpu) (rest : KeepsRest a b) (of : IsOf a 
   abbrev trail : List Mark
   trail = at.trail ++ mark c x ∷ []
 
-  mode_is : (view_of a).who.plan.mode ≡ mode
-  mode_is = ap (λ (k : Plan). k.mode) of.plan
+  -- what the processor sees
+  abbrev z : Sight
+  z = sight_of (terms_of d.plan) b.number was.runs
+
+  terms_are : terms_of (view_of a).who.plan ≡ terms_of d.plan
+  terms_are = ap terms_of of.plan
 
   number_is : own_number (view_of a).who.number ≡ b.number
   number_is = ap own_number a.numbered ∙ sym rest.same.number
 
-  calls : calls_of b ≡ row_of mode b.number was x
-  calls = ap (λ (v : View). v.calls) step ∙ (λ i. row_of (mode_is i) (number_is i) was x)
+  pub calls : calls_of b ≡ row_of (terms_of d.plan) b.number was x
+  calls = ap (λ (v : View). v.calls) step ∙ (λ i. row_of (terms_are i) (number_is i) was x)
 
-  turns : ledger_of b ≡ turned (ledger_of a) (held_lock (target c f) f) (row_grip mode b.number c f x) trail
+  pub turns : ledger_of b ≡ turned (ledger_of a) (held_lock (target c f) f) (row_grip mode b.number z c f x) trail
   turns =
       ap (λ (v : View). v.ledger) step
-      ∙ ((λ i. turned_on (mode_is i) (number_is i) was.frames x (ledger_of a))
-      ∙ (ap (λ (rs : List Running). turned_on mode b.number rs x (ledger_of a)) at.frames
-      ∙ ap (λ q. turned_at mode b.number (running Lock f at.trail) x (ledger_of a) q) at.place))
+      ∙ ((λ i. turned_of (terms_are i) (number_is i) was x (ledger_of a))
+      ∙ (ap (λ (rs : List Running). turned_on mode b.number z rs x (ledger_of a)) at.frames
+      ∙ ap (λ q. turned_at mode b.number z (running v f at.trail) x (ledger_of a) q) at.place))
 
-  before : newest was.frames ≡ at.trail
+  pub before : newest was.frames ≡ at.trail
   before = ap newest at.frames
 
   -- the trail of the call grows
-  grows : (e : Pc) → (next_frame mode b.number c f x).place ≡ Some e → newest (calls_of b).frames ≡ trail
+  pub grows : (e : Pc) → (next_frame mode b.number z c f x).place ≡ Some e → newest (calls_of b).frames ≡ trail
   grows e place =
       ap (λ (z : Calls). newest z.frames) calls
-      ∙ (ap (λ (xs : List Running). newest (row_on mode b.number xs was x).frames) at.frames
-      ∙ (ap (λ q. newest (row_at mode b.number (running Lock f at.trail) s.calls.frames was x q).frames) at.place
-      ∙ ap (λ q. newest (frames_after Lock (next_frame mode b.number c f x) trail s.calls.frames q)) place))
+      ∙ (ap (λ (xs : List Running). newest (row_on mode b.number z xs was x).frames) at.frames
+      ∙ (ap (λ q. newest (row_at mode b.number z (running v f at.trail) old.frames was x q).frames) at.place
+      ∙ ap (λ q. newest (frames_after v (next_frame mode b.number z c f x) trail old.frames q)) place))
 
-  goes_to : (e : Pc) (Q : Frame → Type 0) → Leads mode b.number c f x e Q → Looked d l e Q s b told
+  pub last_is : (next_frame mode b.number z c f x).place ≡ None → (calls_of b).last ≡ trail
+  last_is place = ap (λ (z : Calls). z.last) calls ∙ path.last_is at x place
+
+-- and the call began so
+module _ (d : Domain) (v : Verb) (n : LockName) (a b : Cpu) (rest : KeepsRest a b) (of : IsOf a d) (was : Calls) (x : Met)
+    (step : view_of b ≡ rowed (view_of a) was x) (c : Pc) (P : Frame → Type 0) (stage : Stage) (s : Start)
+    (at : IsOn (terms_of d.plan) b.number v n c P stage s.calls was) (told : Option ℕ)
+    (passes : Passes ((eqb n.index 0) || is_busy s.calls) s.ledger (ledger_of a)) (falls : NeverFalls s.told told)
+    (rises : (y : Met) → HasStayed (newest was.frames ++ mark c y ∷ []) → Rises s.told told) where
+  abbrev mode' : Mode
+  mode' = d.plan.mode
+
+  abbrev z' : Sight
+  z' = sight_of (terms_of d.plan) b.number was.runs
+
+  abbrev f' : Frame
+  f' = at.frame
+
+  -- what is polled where it goes on at another row
+  pub polls : (e : Pc) → (e ≡ c → ⊥) → (next_frame mode' b.number z' c f' x).place ≡ Some e
+      → (y : Met) → HasStayed (newest (calls_of b).frames ++ mark e y ∷ []) → Rises s.told told
+  polls e other place y h =
+      rises x (subst (λ t. HasStayed (t ++ mark c x ∷ [])) (sym (before d v n a b rest of was x step c P stage s.calls at))
+      (stays_before at.trail (mark c x) (mark e y) other
+      (subst (λ t. HasStayed (t ++ mark e y ∷ [])) (grows d v n a b rest of was x step c P stage s.calls at e place) h)))
+
+  -- what is polled where this row is the last
+  pub polls_over : {t : List Mark} → t ≡ at.trail ++ mark c x ∷ [] → HasStayed t → Rises s.told told
+  polls_over last h =
+      rises x (subst (λ t. HasStayed (t ++ mark c x ∷ [])) (sym (before d v n a b rest of was x step c P stage s.calls at)) (subst HasStayed last h))
+
+  -- the ledger of a row that begins and ends no look
+  pub passed : row_grip mode' b.number z' c f' x ≡ Unchanged → Passes ((eqb n.index 0) || is_busy s.calls) s.ledger (ledger_of b)
+  passed grip =
+      passes_both ((eqb n.index 0) || is_busy s.calls) s.ledger (ledger_of a) (ledger_of b) passes
+      (passes_none ((eqb n.index 0) || is_busy s.calls) (ledger_of a) (ledger_of b)
+      (turns d v n a b rest of was x step c P stage s.calls at
+      ∙ ap (λ y. turned (ledger_of a) (held_lock (target c f') f') y (at.trail ++ mark c x ∷ [])) grip))
+
+  goes_to : (e : Pc) (Q : Frame → Type 0) → Leads mode' b.number z' c f' x e Q → LookedAs stage d v n e Q s b told
   goes_to e Q leads =
       record {
-        at = subst (IsAt mode b.number Lock l e Q s.calls) (sym calls) (path.goes at x e Q leads.place leads.grip leads.lock leads.has);
-        passes = passes_both ((eqb l 0) || is_busy s.calls) s.ledger (ledger_of a) (ledger_of b) passes
-            (passes_none ((eqb l 0) || is_busy s.calls) (ledger_of a) (ledger_of b)
-            (turns ∙ ap (λ y. turned (ledger_of a) (held_lock (target c f) f) y trail) leads.grip));
+        at = subst (IsOn (terms_of d.plan) b.number v n e Q stage s.calls) (sym (calls d v n a b rest of was x step c P stage s.calls at))
+            (path.goes at x e Q leads.place leads.grip leads.lock leads.after leads.has);
+        passes = passed leads.grip;
         falls = falls;
       }
 
   -- the row leads back to itself
-  pub looks : (Q : Frame → Type 0) → Leads mode b.number c f x c Q → Looked d l c Q s b told
+  pub looks : (Q : Frame → Type 0) → Leads mode' b.number z' c f' x c Q → LookedAs stage d v n c Q s b told
   looks Q leads = goes_to c Q leads
 
   -- it leads to another
-  pub goes : (e : Pc) (Q : Frame → Type 0) → (e ≡ c → ⊥) → Leads mode b.number c f x e Q → Waits d l e Q s b told
-  goes e Q other leads =
-      record {
-        looked = goes_to e Q leads;
-        rises = λ y h. rises x (subst (λ t. HasStayed (t ++ mark c x ∷ [])) (sym before)
-            (stays_before at.trail (mark c x) (mark e y) other (subst (λ t. HasStayed (t ++ mark e y ∷ [])) (grows e leads.place) h)));
-      }
+  pub goes : (e : Pc) (Q : Frame → Type 0) → (e ≡ c → ⊥) → Leads mode' b.number z' c f' x e Q → WaitsAs stage d v n e Q s b told
+  goes e Q other leads = record { looked = goes_to e Q leads; rises = polls e other leads.place }
 
-  -- it takes the lock
-  pub takes : Ends mode b.number c f x → Holds d l s b told
-  takes ends =
-      let last : (calls_of b).last ≡ trail = ap (λ (z : Calls). z.last) calls ∙ path.last_is at x ends.place in
+-- it takes the lock for which it queued
+module _ (d : Domain) (v : Verb) (n : LockName) (a b : Cpu) (rest : KeepsRest a b) (of : IsOf a d) (was : Calls) (x : Met)
+    (step : view_of b ≡ rowed (view_of a) was x) (c : Pc) (P : Frame → Type 0) (s : Start)
+    (at : IsOn (terms_of d.plan) b.number v n c P Outside s.calls was) (told : Option ℕ)
+    (passes : Passes ((eqb n.index 0) || is_busy s.calls) s.ledger (ledger_of a)) (falls : NeverFalls s.told told)
+    (rises : (y : Met) → HasStayed (newest was.frames ++ mark c y ∷ []) → Rises s.told told)
+    (ends : Ends d.plan.mode b.number (sight_of (terms_of d.plan) b.number was.runs) c at.frame x) where
+  wait_is : at.frame.lock.wait ≡ n.wait
+  wait_is = ap (λ (z : LockName). z.wait) at.lock
+
+  now : ledger_of b ≡ turned (ledger_of a) n (Takes Spins) (at.trail ++ mark c x ∷ [])
+  now =
+      turns d v n a b rest of was x step c P Outside s.calls at
+      ∙ (λ i. turned (ledger_of a) ((ends.own ∙ at.lock) i) (ends.grip i) (at.trail ++ mark c x ∷ []))
+
+  -- the lock itself
+  takes : n.wait ≡ false → Holds d v n.index Spins s b told
+  takes plain =
+      let name : n ≡ lock_name n.index = λ i. record { index = n.index; wait = plain i } in
+      let place : (next_frame d.plan.mode b.number (sight_of (terms_of d.plan) b.number was.runs) c at.frame x).place ≡ None =
+      ends.place ∙ if-false at.frame.lock.wait at.frame.then None (wait_is ∙ plain) in
+      let last = last_is d v n a b rest of was x step c P Outside s.calls at place in
       record {
-        taken = subst (HasTaken mode b.number Lock l Spins s.calls) (sym calls) (path.takes at x Spins ends.place ends.grip ends.own);
-        look = looked l s.calls (calls_of b).last s.ledger (ledger_of a) (ledger_of b) passes
-            (turns
-            ∙ ((λ i. turned (ledger_of a) ((ends.own ∙ at.lock) i) (ends.grip i) trail)
-            ∙ ap (λ ms. turned (ledger_of a) (lock_name l) (Takes Spins) ms) (sym last)));
+        taken = subst (λ (z : Calls). HasTaken (terms_of d.plan) b.number v n.index Spins s.calls z)
+            (sym (calls d v n a b rest of was x step c P Outside s.calls at))
+            (path.takes at x Spins ends.grip place (ends.own ∙ (at.lock ∙ name)));
+        look = looked n.index Spins s.calls (calls_of b).last s.ledger (ledger_of a) (ledger_of b) passes
+            (now ∙ ((λ i. turned (ledger_of a) (name i) (Takes Spins) (at.trail ++ mark c x ∷ []))
+            ∙ ap (λ ms. turned (ledger_of a) (lock_name n.index) (Takes Spins) ms) (sym last)));
         polled = record {
           falls = falls;
-          rises = λ h. rises x (subst (λ t. HasStayed (t ++ mark c x ∷ [])) (sym before) (subst HasStayed last h));
+          rises = polls_over d v n a b rest of was x step c P Outside s at told passes falls rises last;
         };
       }
 
--- a step of a processor of the domain
-module _ (d : Domain) (l : ℕ) (a b : Cpu) (rest : KeepsRest a b) (of : IsOf a d) where
-  is_mode : (view_of a).who.plan.mode ≡ d.plan.mode
-  is_mode = ap (λ (k : Plan). k.mode) of.plan
-
-  -- the call goes on
-  module _ (x : Met) (step : view_of b ≡ rowed (view_of a) (calls_of a) x) (c : Pc) (P : Frame → Type 0) (s : Start)
-      (told : Option ℕ) (w : Waits d l c P s a told) where
-    here : IsAt d.plan.mode b.number Lock l c P s.calls (calls_of a)
-    here = subst (λ (n : ℕ). IsAt d.plan.mode n Lock l c P s.calls (calls_of a)) (sym rest.same.number) w.looked.at
-
-    plain : here.frame.lock.wait ≡ false
-    plain = ap (λ (z : LockName). z.wait) here.lock
-
-    pub on_looks : ((f : Frame) → f.lock.wait ≡ false → P f → Leads d.plan.mode b.number c f x c P) → Looked d l c P s b told
-    on_looks leads =
-        looks d l a b rest of (calls_of a) x step c P s told here w.looked.passes w.looked.falls w.rises P (leads here.frame plain here.has)
-
-    pub on_goes : (e : Pc) (Q : Frame → Type 0) → (e ≡ c → ⊥)
-        → ((f : Frame) → f.lock.wait ≡ false → P f → Leads d.plan.mode b.number c f x e Q) → Waits d l e Q s b told
-    on_goes e Q other leads =
-        goes d l a b rest of (calls_of a) x step c P s told here w.looked.passes w.looked.falls w.rises e Q other (leads here.frame plain here.has)
-
-    pub on_takes : ((f : Frame) → f.lock.wait ≡ false → P f → Ends d.plan.mode b.number c f x) → Holds d l s b told
-    on_takes ends =
-        takes d l a b rest of (calls_of a) x step c P s told here w.looked.passes w.looked.falls w.rises (ends here.frame plain here.has)
-
-  -- it begins
-  module _ (x : Met) (step : view_of b ≡ rowed (view_of a) (begin d.plan.mode (calls_of a) Lock l) x) (told : Option ℕ) where
-    first : IsAt d.plan.mode b.number Lock l F1 Any (calls_of a) (begin d.plan.mode (calls_of a) Lock l)
-    first = path.starts d.plan.mode b.number Lock l (calls_of a) refl
-
-    none : (y : Met) → HasStayed ([] ++ mark F1 y ∷ []) → Rises told told
-    none y h = absurd h
-
-    pub first_goes : (e : Pc) → (e ≡ F1 → ⊥)
-        → ((f : Frame) → f.lock.wait ≡ false → Leads d.plan.mode b.number F1 f x e Any) → Waits d l e Any (starting a told) b told
-    first_goes e other leads =
-        goes d l a b rest of (begin d.plan.mode (calls_of a) Lock l) x step F1 Any (starting a told) told first
-        (passes_none _ (ledger_of a) (ledger_of a) refl) (falls_none told) none e Any other (leads first.frame (ap (λ (z : LockName). z.wait) first.lock))
-
-    pub first_takes : ((f : Frame) → f.lock.wait ≡ false → Ends d.plan.mode b.number F1 f x) → Holds d l (starting a told) b told
-    first_takes ends =
-        takes d l a b rest of (begin d.plan.mode (calls_of a) Lock l) x step F1 Any (starting a told) told first
-        (passes_none _ (ledger_of a) (ledger_of a) refl) (falls_none told) none (ends first.frame (ap (λ (z : LockName). z.wait) first.lock))
-
-  -- a step on the word of the lock is one of the call that goes on, or begins
-  module _ {met : ℕ} (made : MadeBy Lock l a.seat.me met b.seat.me) where
-    acted : {c : Calls} → acting d.plan.mode (calls_of a) Lock l ≡ c → view_of b ≡ rowed (view_of a) c (Word made.found)
-    acted is = (λ i. (made.seat i).0)
-        ∙ ap (λ z. rowed (view_of a) z (Word made.found)) (ap (λ (m : Mode). acting m (calls_of a) Lock l) is_mode ∙ is)
-
-    pub on_word : {c : Pc} {P : Frame → Type 0} {n : ℕ} {old : Calls} → IsAt d.plan.mode n Lock l c P old (calls_of a)
-        → view_of b ≡ rowed (view_of a) (calls_of a) (Word made.found)
-    on_word at = acted (path.acts at refl)
-
-    pub first_word : waits_in (calls_of a).frames l ≡ false
-        → view_of b ≡ rowed (view_of a) (begin d.plan.mode (calls_of a) Lock l) (Word made.found)
-    first_word none = acted (path.acts_begin d.plan.mode (calls_of a) Lock l none)
-
--- a step that changed nothing
-module _ (d : Domain) (l : ℕ) (a b : Cpu) (rest : KeepsRest a b) (same : view_of b ≡ view_of a) (c : Pc) (P : Frame → Type 0) where
-  same_at : (old : Calls) → IsAt d.plan.mode a.number Lock l c P old (calls_of a) → IsAt d.plan.mode b.number Lock l c P old (calls_of b)
-  same_at old at =
-      subst (λ (n : ℕ). IsAt d.plan.mode n Lock l c P old (calls_of b)) (sym rest.same.number)
-      (path.kept at (record {
-        frames = ap (λ (v : View). v.calls.frames) same;
-        holds = ap (λ (v : View). v.calls.holds) same;
-        taken = let e = ap (λ (v : View). v.calls.taken) same in omega arith;
-      }))
-
-  pub same_stands : Stands d l c P a → Stands d l c P b
-  same_stands w = (w.0, same_at w.0 w.1)
-
-  pub same_waits : (s : Start) (told : Option ℕ) → Waits d l c P s a told → Waits d l c P s b told
-  same_waits s told w =
-      record {
+  -- the wait lock
+  grants : Queues v n → is_rw_row c ≡ false → n.wait ≡ true → WaitsAs Inside d v (wait_name n.index) (resumes v) Any s b told
+  grants queues spin wait =
+      let name : n ≡ wait_name n.index = λ i. record { index = n.index; wait = wait i } in
+      let place : (next_frame d.plan.mode b.number (sight_of (terms_of d.plan) b.number was.runs) c at.frame x).place ≡ Some (resumes v) =
+      ends.place ∙ (if-true at.frame.lock.wait at.frame.then None (wait_is ∙ wait) ∙ (at.after wait ∙ next_is v n queues wait)) in
+      subst (λ (z : LockName). WaitsAs Inside d v z (resumes v) Any s b told) name (record {
         looked = record {
-          at = same_at s.calls w.looked.at;
-          passes = subst (Passes ((eqb l 0) || is_busy s.calls) s.ledger) (ap (λ (v : View). v.ledger) (sym same)) w.looked.passes;
-          falls = w.looked.falls;
+          at = subst (IsOn (terms_of d.plan) b.number v n (resumes v) Any Inside s.calls)
+              (sym (calls d v n a b rest of was x step c P Outside s.calls at))
+              (path.grants at x Spins ends.grip refl (resumes v) place (ends.own ∙ at.lock) ends.lock ends.after);
+          passes = passes_both ((eqb n.index 0) || is_busy s.calls) s.ledger (ledger_of a) (ledger_of b) passes
+              (passes_none ((eqb n.index 0) || is_busy s.calls) (ledger_of a) (ledger_of b)
+              (now ∙ wait_turned (ledger_of a) n (Takes Spins) (at.trail ++ mark c x ∷ []) wait));
+          falls = falls;
         };
-        rises = λ x h. w.rises x (subst (λ (v : View). HasStayed (newest v.calls.frames ++ mark c x ∷ [])) same h);
-      }
+        rises = polls d v n a b rest of was x step c P Outside s at told passes falls rises (resumes v) (resumes_else v c spin) place;
+      })
 
--- what the step calls ask of a call that goes on
-
-module _ (d : Domain) (l : ℕ) (c : Pc) (P : Frame → Type 0) (a : Cpu) (w : Stands d l c P a) where
-  abbrev pub standing : StandsAt (calls_of a) Lock l c
-  standing =
-      record {
-        frame = w.1.frame;
-        trail = w.1.trail;
-        rest = w.0.frames;
-        is = w.1.frames;
-        place = w.1.place;
-        lock = w.1.lock;
-      }
-
-  abbrev pub acts_at : (kind : Pc → Bool) → kind c ≡ true → Acts kind (view_of a) Lock l
-  acts_at kind is =
-      record {
-        row = c;
-        is = is;
-        stands = acts_on (view_of a).who.plan.mode (calls_of a) l c standing;
-        begins = begins_on (calls_of a) l c standing;
-      }
+  pub wins : Queues v n → is_rw_row c ≡ false → Won n.wait d v n.index s b told
+  wins queues spin = by n.wait refl
+    where
+      by : (w : Bool) → n.wait ≡ w → Won w d v n.index s b told
+      by false e = takes e
+      by true e = grants queues spin e
 
 -- nested calls leave the call where it is, and it has polled
-pub polled : (d : Domain) (l : ℕ) (c : Pc) (P : Frame → Type 0) (s : Start) (a b : Cpu) (before after : Option ℕ)
-    → Looked d l c P s a before → KeepsRest a b → AreKept (calls_of a) (calls_of b)
-    → Passes (is_busy (calls_of a)) (ledger_of a) (ledger_of b) → Rises before after → Waits d l c P s b after
-polled d l c P s a b before after looked rest kept passes rose =
+pub polled_at : (d : Domain) (v : Verb) (n : LockName) (c : Pc) (P : Frame → Type 0) (stage : Stage) (s : Start) (a b : Cpu)
+    (before after : Option ℕ) → LookedAs stage d v n c P s a before → path.is_polled stage ≡ true
+    → holds_in (calls_of a).holds 0 ≡ holds_in s.calls.holds 0 → KeepsRest a b → AreKept (calls_of a) (calls_of b)
+    → Passes (is_busy (calls_of a)) (ledger_of a) (ledger_of b) → Rises before after → WaitsAs stage d v n c P s b after
+polled_at d v n c P stage s a b before after looked is same rest kept passes rose =
     let at = looked.at in
-    let busy : is_busy (calls_of a) ≡ ((eqb l 0) || is_busy s.calls) =
-    (λ i. holds_in (at.holds i) 0 || waits_in (at.frames i) 0)
+    let busy : is_busy (calls_of a) ≡ ((eqb n.index 0) || is_busy s.calls) =
+    (λ i. same i || waits_in (at.frames i) 0)
     ∙ (ap (λ (z : LockName). holds_in s.calls.holds 0 || (if eqb z.index 0 then true else waits_in s.calls.frames 0)) at.lock
-    ∙ by (holds_in s.calls.holds 0) (eqb l 0) (waits_in s.calls.frames 0)) in
+    ∙ by (holds_in s.calls.holds 0) (eqb n.index 0) (waits_in s.calls.frames 0)) in
     record {
       looked = record {
-        at = subst (λ (n : ℕ). IsAt d.plan.mode n Lock l c P s.calls (calls_of b)) (sym rest.same.number) (path.kept at kept);
-        passes = passes_both ((eqb l 0) || is_busy s.calls) s.ledger (ledger_of a) (ledger_of b) looked.passes
+        at = subst (λ (m : ℕ). IsOn (terms_of d.plan) m v n c P stage s.calls (calls_of b)) (sym rest.same.number) (path.kept at is kept);
+        passes = passes_both ((eqb n.index 0) || is_busy s.calls) s.ledger (ledger_of a) (ledger_of b) looked.passes
             (subst (λ z. Passes z (ledger_of a) (ledger_of b)) busy passes);
         falls = falls_after s.told before after looked.falls rose;
       };
@@ -259,10 +321,11 @@ polled d l c P s a b before after looked rest kept passes rose =
     by false true z = refl
     by false false z = refl
 
--- a private store before a row changes nothing of what the row does
-pub ready_row : (m : View) (v : Verb) (f : Frame) (t : List Mark) (rs : List Running) (pl : Pc) (x : Met)
-    → m.calls.frames ≡ running v f t ∷ rs → f.place ≡ Some pl → rowed (readied m) (readied m).calls x ≡ rowed m m.calls x
-ready_row m v f t rs pl x frames place = λ i. record m { calls = calls i; ledger = turned_on mode p m.calls.frames x m.ledger }
+-- private stores before the row that takes a node change nothing of what the row does
+pub ready_row : (n : ℕ) (m : View) (v : Verb) (f : Frame) (t : List Mark) (rs : List Running) (x : ℕ)
+    → m.calls.frames ≡ running v f t ∷ rs → f.place ≡ Some G1
+    → rowed (readies n m) (readies n m).calls (Number x) ≡ rowed m m.calls (Number x)
+ready_row n m v f t rs x frames place = λ i. record m { calls = calls i; ledger = ledger i }
   where
     mode : Mode
     mode = m.who.plan.mode
@@ -270,8 +333,19 @@ ready_row m v f t rs pl x frames place = λ i. record m { calls = calls i; ledge
     p : ℕ
     p = own_number m.who.number
 
-    row : (c : Calls) → row_on mode p m.calls.frames c x ≡ after v f (t ++ mark pl x ∷ []) rs c (target pl f) (course mode p pl f x)
-    row c = ap (λ (xs : List Running). row_on mode p xs c x) frames ∙ ap (λ q. row_at mode p (running v f t) rs c x q) place
+    row : (z : Sight) (c : Calls) → row_on mode p z m.calls.frames c (Number x)
+        ≡ after v f (t ++ mark G1 (Number x) ∷ []) rs c (target G1 f) (course_of (entry_row mode p x))
+    row z c = ap (λ (xs : List Running). row_on mode p z xs c (Number x)) frames
+        ∙ ap (λ q. row_at mode p z (running v f t) rs c (Number x) q) place
 
-    calls : row_of mode p (readied m).calls x ≡ row_of mode p m.calls x
-    calls = row (readied m).calls ∙ sym (row m.calls)
+    turn : (z : Sight) → turned_on mode p z m.calls.frames (Number x) m.ledger
+        ≡ turned m.ledger (held_lock (target G1 f) f) (grip_of (target G1 f) (course_of (entry_row mode p x)))
+        (t ++ mark G1 (Number x) ∷ [])
+    turn z = ap (λ (xs : List Running). turned_on mode p z xs (Number x) m.ledger) frames
+        ∙ ap (λ q. turned_at mode p z (running v f t) (Number x) m.ledger q) place
+
+    calls : row_of (terms_of m.who.plan) p (readies n m).calls (Number x) ≡ row_of (terms_of m.who.plan) p m.calls (Number x)
+    calls = row (sight_of (terms_of m.who.plan) p None) (readies n m).calls ∙ sym (row (sight_of (terms_of m.who.plan) p m.calls.runs) m.calls)
+
+    ledger : turned_of (terms_of m.who.plan) p (readies n m).calls (Number x) m.ledger ≡ turned_of (terms_of m.who.plan) p m.calls (Number x) m.ledger
+    ledger = turn (sight_of (terms_of m.who.plan) p None) ∙ sym (turn (sight_of (terms_of m.who.plan) p m.calls.runs))

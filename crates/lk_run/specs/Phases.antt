@@ -1,20 +1,28 @@
--- How a call of `lock` stands, and what a step of it does.
-use Rattle.std.specs.Prelude.{◌≡◌, ℕ, ◌||◌, ◌==◌, List, [], ◌∷◌, ◌++◌, Option}
+-- How a call that waits stands, and what a step of it does.
+use Rattle.std.specs.Prelude.{◌≡◌, ℕ, ◌<◌, ◌||◌, ◌==◌, Bool, true, false, List, [], ◌∷◌, ◌++◌, length, Option}
+use Rattle.std.specs.Prelude.{if◌then◌else◌}
+use Rattle.lk_abs.specs.declared.holder.Manner.{Manner}
 use Rattle.lk_abs.specs.declared.holder.Manner.TheVariants.{Spins}
+use Rattle.lk_abs.specs.declared.names.LockName.{LockName}
 use Rattle.lk_word.specs.declared.spin_word.Fields.{Fields}
 use Rattle.lk_word.specs.SpinWord.{packed, IsPackable}
+use Rattle.lk_machine.specs.Moves.{wait_name}
 use Rattle.lk_machine.specs.declared.parts.Frame.{Frame}
 use Rattle.lk_machine.specs.declared.parts.Pc.{Pc}
-use Rattle.lk_machine.specs.declared.setup.Verb.TheVariants.{Lock}
+use Rattle.lk_machine.specs.declared.parts.Pc.TheVariants.{F1, R2, R3, R4, Wr2, U1}
+use Rattle.lk_machine.specs.declared.setup.Verb.{Verb}
+use Rattle.lk_machine.specs.declared.setup.Verb.TheVariants.{Lock, Read, Write}
 use Rattle.lk_machine.specs.rows.Spin.{after_fast}
 use Rattle.lk_law.specs.Leads.{Met}
-use Rattle.lk_domain.specs.Calls.{Mark, mark, Running, Calls}
+use Rattle.lk_domain.specs.Calls.{terms_of, Terms, Mark, mark, Running, Calls, begun}
 use Rattle.lk_domain.specs.Ledgers.{Ledger}
-use Rattle.lk_domain.specs.Paths.{IsAt, Any, HasTaken, HasLooked, Passes, is_busy}
+use Rattle.lk_domain.specs.Paths.{Any, HasTaken, HasLooked, Passes, is_busy}
 use Rattle.lk_domain.specs.Seats.{calls_of, ledger_of}
 use Rattle.lk_domain.specs.declared.cpu.Cpu.{Cpu}
 use Rattle.lk_domain.specs.declared.domain.Domain.{Domain}
 use Rattle.lk_run.specs.Polls.{Rises, NeverFalls, HasStayed, IsPolled}
+use Rattle.lk_run.specs.Standing.{Stage, Outside, Inside, Entered, IsOn}
+use Rattle.lk_run.specs.Entering.{PathTo, HasEntered}
 
 -- what was there when the call began: the processor's calls, what it knew of the ledger, and what
 -- the interrupt source told
@@ -23,37 +31,91 @@ pub record Start : Type 0 where
   pub ledger : Ledger
   pub told : Option ℕ
 
+-- The operation may queue for the lock of this name: `lock` for the lock itself, and a reader or a
+-- writer for the wait lock.
+abbrev pub Queues : Verb → LockName → Type 0
+Queues Lock n = n.wait ≡ false
+Queues Read n = n.wait ≡ true
+Queues Write n = n.wait ≡ true
+Queues _ n = ⊥
+
+-- where a reader or a writer goes on that has the wait lock
+abbrev pub resumes : Verb → Pc
+resumes Read = R4
+resumes _ = Wr2
+
 -- the trail of the newest call
 abbrev pub newest : List Running → List Mark
 newest [] = []
 newest (r ∷ rs) = r.trail
 
--- some call of `lock` on l stands at the row c, with a frame that meets the condition
-abbrev pub Stands : Domain → ℕ → Pc → (Frame → Type 0) → Cpu → Type 0
-Stands domain l c P cpu =
-    (old : Calls) × IsAt domain.plan.mode cpu.number Lock l c P old (calls_of cpu)
+-- some call of this operation stands at the row c and at this stage, acts on the lock of the name n,
+-- and has a frame that meets the condition
+abbrev pub StandsAs : Stage → Domain → Verb → LockName → Pc → (Frame → Type 0) → Cpu → Type 0
+StandsAs stage domain v n c P cpu =
+    (old : Calls) × IsOn (terms_of domain.plan) cpu.number v n c P stage old (calls_of cpu)
 
 -- the call that began so stands there; since then nested calls alone have changed the ledger
-pub record Looked (domain : Domain) (l : ℕ) (c : Pc) (P : Frame → Type 0) (s : Start) (cpu : Cpu)
-    (told : Option ℕ) : Type 0 where
-  pub at : IsAt domain.plan.mode cpu.number Lock l c P s.calls (calls_of cpu)
-  pub passes : Passes ((l == 0) || is_busy s.calls) s.ledger (ledger_of cpu)
+pub record LookedAs (stage : Stage) (domain : Domain) (v : Verb) (n : LockName) (c : Pc)
+    (P : Frame → Type 0) (s : Start) (cpu : Cpu) (told : Option ℕ) : Type 0 where
+  pub at : IsOn (terms_of domain.plan) cpu.number v n c P stage s.calls (calls_of cpu)
+  pub passes : Passes ((n.index == 0) || is_busy s.calls) s.ledger (ledger_of cpu)
   pub falls : NeverFalls s.told told
 
 -- and the source was polled after each look after which the place was the same, the last one too
-pub record Waits (domain : Domain) (l : ℕ) (c : Pc) (P : Frame → Type 0) (s : Start) (cpu : Cpu)
-    (told : Option ℕ) : Type 0 where
-  pub looked : Looked domain l c P s cpu told
+pub record WaitsAs (stage : Stage) (domain : Domain) (v : Verb) (n : LockName) (c : Pc)
+    (P : Frame → Type 0) (s : Start) (cpu : Cpu) (told : Option ℕ) : Type 0 where
+  pub looked : LookedAs stage domain v n c P s cpu told
   pub rises : (x : Met)
       → HasStayed (newest (calls_of cpu).frames ++ mark c x ∷ [])
       → Rises s.told told
 
--- the call that began so has taken the lock
-pub record Holds (domain : Domain) (l : ℕ) (s : Start) (cpu : Cpu) (told : Option ℕ)
-    : Type 0 where
-  pub taken : HasTaken domain.plan.mode cpu.number Lock l Spins s.calls (calls_of cpu)
-  pub look : HasLooked l Spins s.calls (calls_of cpu).last s.ledger (ledger_of cpu)
+-- the same of a call that has no lock yet
+
+abbrev pub Stands : Domain → Verb → LockName → Pc → (Frame → Type 0) → Cpu → Type 0
+Stands domain v n c P cpu = StandsAs Outside domain v n c P cpu
+
+abbrev pub Looked : Domain → Verb → LockName → Pc → (Frame → Type 0) → Start → Cpu → Option ℕ
+    → Type 0
+Looked domain v n c P s cpu told = LookedAs Outside domain v n c P s cpu told
+
+abbrev pub Waits : Domain → Verb → LockName → Pc → (Frame → Type 0) → Start → Cpu → Option ℕ
+    → Type 0
+Waits domain v n c P s cpu told = WaitsAs Outside domain v n c P s cpu told
+
+-- some call waits so
+abbrev pub Waiting : Domain → Verb → LockName → Pc → (Frame → Type 0) → Cpu → Type 0
+Waiting domain v n c P cpu =
+    (s : Start) × (told : Option ℕ) × Waits domain v n c P s cpu told
+
+-- the call that began so has taken the lock, by its last row
+pub record Holds (domain : Domain) (v : Verb) (l : ℕ) (manner : Manner) (s : Start) (cpu : Cpu)
+    (told : Option ℕ) : Type 0 where
+  pub taken : HasTaken (terms_of domain.plan) cpu.number v l manner s.calls (calls_of cpu)
+  pub look : HasLooked l manner s.calls (calls_of cpu).last s.ledger (ledger_of cpu)
   pub polled : IsPolled (calls_of cpu).last s.told told
+
+-- it has entered its reader-writer lock, by a row after which it may have freed the wait lock
+pub record CameIn (domain : Domain) (v : Verb) (l : ℕ) (manner : Manner) (s : Start) (cpu : Cpu)
+    (told : Option ℕ) : Type 0 where
+  pub upto : List Mark
+  pub entered : HasEntered (terms_of domain.plan) cpu.number v l manner upto s.calls (calls_of cpu)
+  pub look : HasLooked l manner s.calls upto s.ledger (ledger_of cpu)
+  pub polled : IsPolled (calls_of cpu).last s.told told
+
+-- it has entered it, and is about to free the wait lock
+pub record HasPassed (t : Terms) (p : ℕ) (v : Verb) (l : ℕ) (manner : Manner) (s : Start)
+    (calls : Calls) (ledger : Ledger) (told : Option ℕ) : Type 0 where
+  pub at : IsOn t p v (wait_name l) U1 Any (Entered manner) s.calls calls
+  pub takes : PathTo t p (begun t.mode (length s.calls.frames) v l) at.trail manner
+  pub taken : s.calls.taken < calls.taken
+  pub look : HasLooked l manner s.calls at.trail s.ledger ledger
+  pub falls : NeverFalls s.told told
+  pub rises : (x : Met) → HasStayed (at.trail ++ mark U1 x ∷ []) → Rises s.told told
+
+abbrev pub Passed : Domain → Verb → ℕ → Manner → Start → Cpu → Option ℕ → Type 0
+Passed domain v l manner s cpu told =
+    HasPassed (terms_of domain.plan) cpu.number v l manner s (calls_of cpu) (ledger_of cpu) told
 
 -- a call that begins now
 abbrev pub starting : Cpu → Option ℕ → Start
@@ -61,25 +123,87 @@ starting cpu told = record { calls = calls_of cpu; ledger = ledger_of cpu; told 
 
 -- Whatever the call began with, it goes from the row a to the row b, while what the source tells
 -- goes from `before` to `after`.
-abbrev pub Goes : Domain → ℕ → Pc → (Frame → Type 0) → Pc → (Frame → Type 0) → Cpu → Option ℕ → Cpu
-    → Option ℕ → Type 0
-Goes domain l a P b Q old before new after = (s : Start) → Waits domain l a P s old before
-    → Waits domain l b Q s new after
 
--- it goes from the row until it has the lock
-abbrev pub Takes : Domain → ℕ → Pc → (Frame → Type 0) → Cpu → Option ℕ → Cpu → Option ℕ → Type 0
-Takes domain l a P old before new after = (s : Start) → Waits domain l a P s old before
-    → Holds domain l s new after
+abbrev pub GoesAs : Stage → Domain → Verb → LockName → Pc → (Frame → Type 0) → Pc
+    → (Frame → Type 0) → Cpu → Option ℕ → Cpu → Option ℕ → Type 0
+GoesAs stage domain v n a P b Q old before new after = (s : Start)
+    → WaitsAs stage domain v n a P s old before → WaitsAs stage domain v n b Q s new after
+
+abbrev pub Goes : Domain → Verb → LockName → Pc → (Frame → Type 0) → Pc → (Frame → Type 0) → Cpu
+    → Option ℕ → Cpu → Option ℕ → Type 0
+Goes domain v n a P b Q old before new after =
+    GoesAs Outside domain v n a P b Q old before new after
 
 -- a look leaves it at the row, and a poll is due
-abbrev pub Stays : Domain → ℕ → Pc → (Frame → Type 0) → Cpu → Cpu → Type 0
-Stays domain l a P old new = (s : Start) (told : Option ℕ) → Waits domain l a P s old told
-    → Looked domain l a P s new told
 
--- the call has met a word by its first row that was not free, and goes on by it
-pub record Arrives (domain : Domain) (l met : ℕ) (s : Start) (cpu : Cpu) (told : Option ℕ)
-    : Type 0 where
+abbrev pub StaysAs : Stage → Domain → Verb → LockName → Pc → (Frame → Type 0) → Cpu → Cpu → Type 0
+StaysAs stage domain v n a P old new = (s : Start) (told : Option ℕ)
+    → WaitsAs stage domain v n a P s old told → LookedAs stage domain v n a P s new told
+
+abbrev pub Stays : Domain → Verb → LockName → Pc → (Frame → Type 0) → Cpu → Cpu → Type 0
+Stays domain v n a P old new = StaysAs Outside domain v n a P old new
+
+-- a look leaves it so, while its frame changes
+abbrev pub StaysWith : Domain → Verb → LockName → Pc → (Frame → Type 0) → (Frame → Type 0) → Cpu
+    → Cpu → Type 0
+StaysWith domain v n a P Q old new = (s : Start) (told : Option ℕ)
+    → Waits domain v n a P s old told → Looked domain v n a Q s new told
+
+-- The call has the lock for which it queued: its lock, and then it is over, or the wait lock, and
+-- then it goes on.
+abbrev pub Won : Bool → Domain → Verb → ℕ → Start → Cpu → Option ℕ → Type 0
+Won false domain v l s cpu told = Holds domain v l Spins s cpu told
+Won true domain v l s cpu told = WaitsAs Inside domain v (wait_name l) (resumes v) Any s cpu told
+
+-- it goes from the row until it has that lock
+abbrev pub Takes : Domain → Verb → LockName → Pc → (Frame → Type 0) → Cpu → Option ℕ → Cpu
+    → Option ℕ → Type 0
+Takes domain v n a P old before new after = (s : Start) → Waits domain v n a P s old before
+    → Won n.wait domain v n.index s new after
+
+-- the call has met a word by the first row for its lock that was not free, and goes on by it
+pub record Arrives (domain : Domain) (v : Verb) (n : LockName) (met : ℕ) (s : Start) (cpu : Cpu)
+    (told : Option ℕ) : Type 0 where
   pub found : Fields
   pub packs : IsPackable found
   pub word : met ≡ packed found
-  pub waits : Waits domain l (after_fast domain.plan.mode found) Any s cpu told
+  pub waits : Waits domain v n (after_fast domain.plan.mode found) Any s cpu told
+
+-- a reader or a writer
+
+-- it enters its lock from the row, at once
+abbrev pub Enters : Domain → Verb → LockName → Pc → Manner → Cpu → Option ℕ → Cpu → Option ℕ → Type 0
+Enters domain v n a manner old before new after = (s : Start)
+    → Waits domain v n a Any s old before → CameIn domain v n.index manner s new after
+
+-- it goes from the row to take the wait lock
+abbrev pub SetsOut : Domain → Verb → LockName → Pc → Cpu → Option ℕ → Cpu → Option ℕ → Type 0
+SetsOut domain v n a old before new after = (s : Start)
+    → Waits domain v n a Any s old before
+    → Waits domain v (wait_name n.index) F1 Any s new after
+
+-- with the wait lock it goes from row to row
+
+abbrev pub StandsIn : Domain → Verb → LockName → Pc → Cpu → Type 0
+StandsIn domain v n c cpu = StandsAs Inside domain v (wait_name n.index) c Any cpu
+
+abbrev pub WaitsIn : Domain → Verb → LockName → Pc → Start → Cpu → Option ℕ → Type 0
+WaitsIn domain v n c s cpu told = WaitsAs Inside domain v (wait_name n.index) c Any s cpu told
+
+abbrev pub GoesIn : Domain → Verb → LockName → Pc → Pc → Cpu → Option ℕ → Cpu → Option ℕ → Type 0
+GoesIn domain v n a b old before new after =
+    GoesAs Inside domain v (wait_name n.index) a Any b Any old before new after
+
+abbrev pub StaysIn : Domain → Verb → LockName → Pc → Cpu → Cpu → Type 0
+StaysIn domain v n a old new = StaysAs Inside domain v (wait_name n.index) a Any old new
+
+-- and enters its lock, with the wait lock to be freed
+abbrev pub PassesIn : Domain → Verb → LockName → Pc → Manner → Cpu → Option ℕ → Cpu → Option ℕ
+    → Type 0
+PassesIn domain v n a manner old before new after = (s : Start)
+    → WaitsIn domain v n a s old before → Passed domain v n.index manner s new after
+
+-- where a reader goes on that has set its bias and found no way in: one below which no call waits
+-- takes it back, and one that has interrupted another leaves it
+abbrev pub biased : ℕ → Pc
+biased c = if c == 0 then R3 else R2

@@ -14,8 +14,8 @@ pub trait Irq {
     // always, or never.
     ghost polls: { Self → Option ℕ };
 
-    /// Is called between two looks of a call that waits, after each look after which the call stands
-    /// where it stood.
+    /// Is called between two looks of a call that waits, after each look after which the call
+    /// stands where it stood.
     fn poll<R: Wait>(&mut self, cpu: &mut Cpu, rt: &R, domain: &Domain)
         requires { IsOf cpu.old domain.now }
         ensures rest { KeepsRest cpu.old cpu.new }

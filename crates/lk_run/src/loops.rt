@@ -1,15 +1,14 @@
-// The loops of a call of `lock`: it looks, and polls after each look after which it stands where it
-// stood.
-ghost use Rattle.std.specs.Prelude.{◌≡◌, ◌<◌, Option, ℕ, true, false};
+// The loops of a call that queues for its lock, or for the wait lock of it: it looks, and polls
+// after each look after which it stands where it stood.
+ghost use Rattle.std.specs.Prelude.{◌≡◌, ◌<◌, Option, ℕ, true, false, IfSome, None};
 ghost use Rattle.lk_machine.specs.declared.parts.Pc.TheVariants.{V1, P3, P4, G6, G7, G8, G9};
 ghost use Rattle.lk_machine.specs.declared.parts.Pc.TheVariants.{G10, G11, N1};
-ghost use Rattle.lk_law.specs.Cna.{moves_aside};
 ghost use Rattle.lk_domain.specs.Paths.{Any, AreKept, Passes, is_busy};
 ghost use Rattle.lk_domain.specs.Plans.{locks_of};
 ghost use Rattle.lk_domain.specs.Seats.{IsOf, KeepsRest, calls_of, ledger_of};
 ghost use Rattle.lk_domain.specs.Words.{IsNode};
-ghost use Rattle.lk_run.specs.Frames.{Owns, Precedes};
-ghost use Rattle.lk_run.specs.Phases.{Start, Waits, Goes, Takes};
+ghost use Rattle.lk_run.specs.Frames.{Owns, Precedes, Fronts};
+ghost use Rattle.lk_run.specs.Phases.{Queues, Start, Waits, Goes, Takes};
 ghost use Rattle.lk_run.specs.Polls.{Rises};
 
 use crate::irq::Irq;
@@ -17,12 +16,18 @@ use crate::{arrival, front, pending, virt};
 use crossbeam_utils::Backoff;
 use lk_abs::LockName;
 use lk_domain::{Cpu, Domain};
-use lk_machine::Pc;
+use lk_machine::{Flag, Pc, Verb};
 use lk_word::NodeName;
 use std::sync::Wait;
 
 // Between two looks: it polls, and then gives way, so that the one for which it waits may run.
-fn give_way<I: Irq, R: Wait>(cpu: &mut Cpu, rt: &R, domain: &Domain, irq: &mut I, backoff: &Backoff)
+pub(crate) fn give_way<I: Irq, R: Wait>(
+    cpu: &mut Cpu,
+    rt: &R,
+    domain: &Domain,
+    irq: &mut I,
+    backoff: &Backoff,
+)
     requires { IsOf cpu.old domain.now }
     ensures rest { KeepsRest cpu.old cpu.new }
     ensures calls { AreKept (calls_of cpu.old) (calls_of cpu.new) }
@@ -38,22 +43,23 @@ pub(crate) fn spin<I: Irq, R: Wait>(
     cpu: &mut Cpu,
     rt: &R,
     domain: &Domain,
+    verb: Verb,
     lock: LockName,
     irq: &mut I,
 )
     requires domain { IsOf cpu.old domain.now }
     requires lock { lock.index < locks_of domain.now.plan }
-    requires plain { lock.wait ≡ false }
+    requires queues { Queues verb lock }
     requires waits { (s : Start)
-        × Waits domain.now lock.index V1 Any s cpu.old (I.polls irq.old) }
+        × Waits domain.now verb lock V1 Any s cpu.old (I.polls irq.old) }
     ensures rest { KeepsRest cpu.old cpu.new }
-    ensures taken { Takes domain.now lock.index V1 Any cpu.old (I.polls irq.old) cpu.new
+    ensures taken { Takes domain.now verb lock V1 Any cpu.old (I.polls irq.old) cpu.new
         (I.polls irq.new) }
 {
     let backoff = Backoff::new();
     for _ in rt.forever() {
-        if virt::loop_look(cpu, domain, lock) {
-            if virt::loop_swap(cpu, domain, lock) {
+        if virt::loop_look(cpu, domain, verb, lock) {
+            if virt::loop_swap(cpu, domain, verb, lock) {
                 return;
             }
         } else {
@@ -68,22 +74,23 @@ pub(crate) fn bare<I: Irq, R: Wait>(
     cpu: &mut Cpu,
     rt: &R,
     domain: &Domain,
+    verb: Verb,
     lock: LockName,
     irq: &mut I,
 )
     requires domain { IsOf cpu.old domain.now }
     requires lock { lock.index < locks_of domain.now.plan }
-    requires plain { lock.wait ≡ false }
+    requires queues { Queues verb lock }
     requires waits { (s : Start)
-        × Waits domain.now lock.index N1 Any s cpu.old (I.polls irq.old) }
+        × Waits domain.now verb lock N1 Any s cpu.old (I.polls irq.old) }
     ensures rest { KeepsRest cpu.old cpu.new }
-    ensures taken { Takes domain.now lock.index N1 Any cpu.old (I.polls irq.old) cpu.new
+    ensures taken { Takes domain.now verb lock N1 Any cpu.old (I.polls irq.old) cpu.new
         (I.polls irq.new) }
 {
     let backoff = Backoff::new();
     for _ in rt.forever() {
-        if arrival::look_bare(cpu, domain, lock) {
-            if arrival::swap_bare(cpu, domain, lock) {
+        if arrival::look_bare(cpu, domain, verb, lock) {
+            if arrival::swap_bare(cpu, domain, verb, lock) {
                 return;
             }
         } else {
@@ -98,21 +105,22 @@ pub(crate) fn watch<I: Irq, R: Wait>(
     cpu: &mut Cpu,
     rt: &R,
     domain: &Domain,
+    verb: Verb,
     lock: LockName,
     irq: &mut I,
 )
     requires domain { IsOf cpu.old domain.now }
     requires lock { lock.index < locks_of domain.now.plan }
-    requires plain { lock.wait ≡ false }
+    requires queues { Queues verb lock }
     requires waits { (s : Start)
-        × Waits domain.now lock.index P3 Any s cpu.old (I.polls irq.old) }
+        × Waits domain.now verb lock P3 Any s cpu.old (I.polls irq.old) }
     ensures rest { KeepsRest cpu.old cpu.new }
-    ensures goes { Goes domain.now lock.index P3 Any P4 Any cpu.old
+    ensures goes { Goes domain.now verb lock P3 Any P4 Any cpu.old
         (I.polls irq.old) cpu.new (I.polls irq.new) }
 {
     let backoff = Backoff::new();
     for _ in rt.forever() {
-        if pending::watch(cpu, domain, lock) {
+        if pending::watch(cpu, domain, verb, lock) {
             return;
         }
         give_way(cpu, rt, domain, irq, &backoff);
@@ -120,32 +128,35 @@ pub(crate) fn watch<I: Irq, R: Wait>(
     unreachable!()
 }
 
-// From G6, until the one before has handed the lead on.
+// From G6, until the one before has handed the lead on: gives the first of the second queue, if
+// there is one.
 pub(crate) fn turn<I: Irq, R: Wait>(
     cpu: &mut Cpu,
     rt: &R,
     domain: &Domain,
+    verb: Verb,
     lock: LockName,
     own: NodeName,
     irq: &mut I,
-)
+) -> Option<NodeName>
     requires domain { IsOf cpu.old domain.now }
-    requires mode { moves_aside domain.now.plan.mode ≡ false }
     requires lock { lock.index < locks_of domain.now.plan }
-    requires plain { lock.wait ≡ false }
+    requires queues { Queues verb lock }
     requires own { IsNode domain.now.plan own }
     requires waits { (s : Start)
-        × Waits domain.now lock.index G6 (Owns own) s cpu.old (I.polls irq.old) }
+        × Waits domain.now verb lock G6 (Owns own) s cpu.old (I.polls irq.old) }
     ensures rest { KeepsRest cpu.old cpu.new }
-    ensures goes { Goes domain.now lock.index G6 (Owns own) G7 (Owns own) cpu.old
+    ensures node { IfSome result (IsNode domain.now.plan) }
+    ensures goes { Goes domain.now verb lock G6 (Owns own) G7 (Fronts own result) cpu.old
         (I.polls irq.old) cpu.new (I.polls irq.new) }
 {
     let backoff = Backoff::new();
     for _ in rt.forever() {
-        if arrival::wait(cpu, domain, lock, own) {
-            return;
+        match arrival::wait(cpu, domain, verb, lock, own) {
+            Flag::Go => return None,
+            Flag::Second(first) => return Some(first),
+            Flag::Unset => give_way(cpu, rt, domain, irq, &backoff),
         }
-        give_way(cpu, rt, domain, irq, &backoff);
     }
     unreachable!()
 }
@@ -155,25 +166,30 @@ pub(crate) fn open<I: Irq, R: Wait>(
     cpu: &mut Cpu,
     rt: &R,
     domain: &Domain,
+    verb: Verb,
     lock: LockName,
     own: NodeName,
+    second: Option<NodeName>,
     irq: &mut I,
 ) -> bool
     requires domain { IsOf cpu.old domain.now }
     requires lock { lock.index < locks_of domain.now.plan }
-    requires plain { lock.wait ≡ false }
+    requires queues { Queues verb lock }
     requires own { IsNode domain.now.plan own }
     requires waits { (s : Start)
-        × Waits domain.now lock.index G7 (Owns own) s cpu.old (I.polls irq.old) }
+        × Waits domain.now verb lock G7 (Fronts own second) s cpu.old (I.polls irq.old) }
     ensures rest { KeepsRest cpu.old cpu.new }
-    ensures alone { result ≡ true → Goes domain.now lock.index G7 (Owns own) G8 (Owns own) cpu.old
+    ensures nobody { result ≡ true → second ≡ None }
+    ensures alone { result ≡ true
+        → Goes domain.now verb lock G7 (Fronts own second) G8 (Fronts own second) cpu.old
         (I.polls irq.old) cpu.new (I.polls irq.new) }
-    ensures others { result ≡ false → Goes domain.now lock.index G7 (Owns own) G9 (Owns own) cpu.old
+    ensures others { result ≡ false
+        → Goes domain.now verb lock G7 (Fronts own second) G9 (Fronts own second) cpu.old
         (I.polls irq.old) cpu.new (I.polls irq.new) }
 {
     let backoff = Backoff::new();
     for _ in rt.forever() {
-        match front::wait_as_front(cpu, domain, lock, own) {
+        match front::wait_as_front(cpu, domain, verb, lock, own, second) {
             Pc::G8 => return true,
             Pc::G9 => return false,
             _ => give_way(cpu, rt, domain, irq, &backoff),
@@ -187,24 +203,26 @@ pub(crate) fn next<I: Irq, R: Wait>(
     cpu: &mut Cpu,
     rt: &R,
     domain: &Domain,
+    verb: Verb,
     lock: LockName,
     own: NodeName,
+    second: Option<NodeName>,
     irq: &mut I,
 ) -> NodeName
     requires domain { IsOf cpu.old domain.now }
     requires lock { lock.index < locks_of domain.now.plan }
-    requires plain { lock.wait ≡ false }
+    requires queues { Queues verb lock }
     requires own { IsNode domain.now.plan own }
     requires waits { (s : Start)
-        × Waits domain.now lock.index G10 (Owns own) s cpu.old (I.polls irq.old) }
+        × Waits domain.now verb lock G10 (Fronts own second) s cpu.old (I.polls irq.old) }
     ensures rest { KeepsRest cpu.old cpu.new }
     ensures node { IsNode domain.now.plan result }
-    ensures goes { Goes domain.now lock.index G10 (Owns own) G11 (Precedes own result) cpu.old
-        (I.polls irq.old) cpu.new (I.polls irq.new) }
+    ensures goes { Goes domain.now verb lock G10 (Fronts own second) G11
+        (Precedes own second result) cpu.old (I.polls irq.old) cpu.new (I.polls irq.new) }
 {
     let backoff = Backoff::new();
     for _ in rt.forever() {
-        if let Some(next) = front::wait_for_next(cpu, domain, lock, own) {
+        if let Some(next) = front::wait_for_next(cpu, domain, verb, lock, own, second) {
             return next;
         }
         give_way(cpu, rt, domain, irq, &backoff);

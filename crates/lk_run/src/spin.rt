@@ -1,13 +1,13 @@
 // The calls on a spinlock. The comments show a word as (queue tail, pending, locked).
 ghost use Rattle.std.specs.Prelude.{◌≡◌, ◌≢◌, ◌<◌, Option, ℕ, true, false, None, length};
 ghost use Rattle.lk_abs.specs.declared.holder.Manner.TheVariants.{Spins};
+ghost use Rattle.lk_abs.specs.declared.names.Kind.TheVariants.{Spin};
 ghost use Rattle.lk_machine.specs.declared.parts.Pc.TheVariants.{T2};
 ghost use Rattle.lk_machine.specs.declared.setup.Verb.TheVariants.{Lock, Try};
-ghost use Rattle.lk_law.specs.Cna.{moves_aside};
-ghost use Rattle.lk_domain.specs.Calls.{Calls, holds_in, lock_name};
+ghost use Rattle.lk_domain.specs.Calls.{terms_of, Calls, holds_in, lock_name};
 ghost use Rattle.lk_domain.specs.Ledgers.{is_first};
 ghost use Rattle.lk_domain.specs.Paths.{HasTaken, HasLooked};
-ghost use Rattle.lk_domain.specs.Plans.{locks_of};
+ghost use Rattle.lk_domain.specs.Plans.{locks_of, kind_at};
 ghost use Rattle.lk_domain.specs.Seats.{IsOf, KeepsRest, calls_of, ledger_of};
 ghost use Rattle.lk_domain.specs.Waits.{MayTake, WaitsAt, Moves, Gains, Misses, Drops};
 ghost use Rattle.lk_run.specs.Phases.{Arrives, Holds, starting};
@@ -27,27 +27,28 @@ use std::sync::Wait;
 fn fast(cpu: &mut Cpu, domain: &Domain, lock: LockName) -> u64
     requires domain { IsOf cpu.old domain.now }
     requires lock { lock.index < locks_of domain.now.plan }
+    requires kind { kind_at domain.now.plan lock.index ≡ Spin }
     requires plain { lock.wait ≡ false }
     requires may { MayTake lock.index (calls_of cpu.old) }
     ensures rest { KeepsRest cpu.old cpu.new }
     ensures taken { result ≡ 0 → (told : Option ℕ)
-        → Holds domain.now lock.index (starting cpu.old told) cpu.new told }
+        → Holds domain.now Lock lock.index Spins (starting cpu.old told) cpu.new told }
     ensures waits { result ≢ 0 → (told : Option ℕ)
-        → Arrives domain.now lock.index result (starting cpu.old told) cpu.new told }
+        → Arrives domain.now Lock lock result (starting cpu.old told) cpu.new told }
 {
-    steps::take_free(cpu, domain, Verb::Lock, lock)
+    steps::take_first(cpu, domain, Verb::Lock, lock)
 }
 
-/// Holds the lock when it returns, in a domain of mode `virt` or `native`. It polls `irq` after each
-/// look after which it stands where it stood, and gives way between two such looks.
+/// Holds the lock when it returns. It polls `irq` after each look after which it stands where it
+/// stood, and gives way between two such looks.
 #[inline]
 pub fn lock<I: Irq, R: Wait>(cpu: &mut Cpu, rt: &R, domain: &Domain, lock: LockId, irq: &mut I)
     requires domain { IsOf cpu.old domain.now }
     requires lock { lock.index < locks_of domain.now.plan }
-    requires mode { moves_aside domain.now.plan.mode ≡ false }
+    requires kind { kind_at domain.now.plan lock.index ≡ Spin }
     requires may { MayTake lock.index (calls_of cpu.old) }
     ensures rest { KeepsRest cpu.old cpu.new }
-    ensures taken { HasTaken domain.now.plan.mode cpu.new.number Lock lock.index Spins
+    ensures taken { HasTaken (terms_of domain.now.plan) cpu.new.number Lock lock.index Spins
         (calls_of cpu.old) (calls_of cpu.new) }
     ensures look { HasLooked lock.index Spins (calls_of cpu.old) (calls_of cpu.new).last
         (ledger_of cpu.old) (ledger_of cpu.new) }
@@ -61,13 +62,14 @@ pub fn lock<I: Irq, R: Wait>(cpu: &mut Cpu, rt: &R, domain: &Domain, lock: LockI
     if met == 0 {
         return;
     }
-    contend(cpu, rt, domain, name, met, irq);
+    contend(cpu, rt, domain, Verb::Lock, name, met, irq);
 }
 
 // The row T1: true where the word was free. A look changes no word.
 fn try_look(cpu: &mut Cpu, domain: &Domain, lock: LockId) -> bool
     requires domain { IsOf cpu.old domain.now }
     requires lock { lock.index < locks_of domain.now.plan }
+    requires kind { kind_at domain.now.plan lock.index ≡ Spin }
     requires may { MayTake lock.index (calls_of cpu.old) }
     ensures rest { KeepsRest cpu.old cpu.new }
     ensures free { result ≡ true
@@ -107,6 +109,7 @@ fn try_swap(cpu: &mut Cpu, domain: &Domain, lock: LockId) -> bool
 pub fn try_lock(cpu: &mut Cpu, domain: &Domain, lock: LockId) -> bool
     requires domain { IsOf cpu.old domain.now }
     requires lock { lock.index < locks_of domain.now.plan }
+    requires kind { kind_at domain.now.plan lock.index ≡ Spin }
     requires may { MayTake lock.index (calls_of cpu.old) }
     ensures rest { KeepsRest cpu.old cpu.new }
     ensures taken { result ≡ true
@@ -118,10 +121,12 @@ pub fn try_lock(cpu: &mut Cpu, domain: &Domain, lock: LockId) -> bool
 }
 
 /// Frees a lock that the processor holds, in one step: (n, p, 1) -> (n, p, 0). Only the holder
-/// stores into the locked byte of a lock that is held; pending and the queue stay for those that wait.
+/// stores into the locked byte of a lock that is held; pending and the queue stay for those that
+/// wait.
 pub fn unlock(cpu: &mut Cpu, domain: &Domain, lock: LockId)
     requires domain { IsOf cpu.old domain.now }
     requires lock { lock.index < locks_of domain.now.plan }
+    requires kind { kind_at domain.now.plan lock.index ≡ Spin }
     requires few { length (calls_of cpu.old).frames < 6 }
     requires held { holds_in (calls_of cpu.old).holds lock.index ≡ true }
     requires home { is_first (lock_name lock.index) ≡ true → (ledger_of cpu.old).out ≡ None }

@@ -1,18 +1,23 @@
 // What the number of a word says, and where the rows lead that meet it.
-ghost use Rattle.std.specs.Prelude.{◌≡◌, ◌&&◌, not, Option, IfSome, if◌then◌else◌};
+ghost use Rattle.std.specs.Prelude.{◌≡◌, ◌&&◌, not, is_some, Option, IfSome, if◌then◌else◌};
 ghost use Rattle.lk_word.specs.declared.spin_word.Fields.{Fields};
-ghost use Rattle.lk_word.specs.declared.spin_word.NodeName.{NodeName};
+ghost use Rattle.lk_word.specs.declared.spin_word.NodeName.{NodeName, NodeName as Node};
 ghost use Rattle.lk_word.specs.SpinWord.{packed, IsPackable};
+ghost use Rattle.lk_law.specs.Cna.{moves_aside};
 ghost use Rattle.lk_machine.specs.Moves.{is_node};
 ghost use Rattle.lk_machine.specs.declared.parts.Pc.TheVariants.{G7, G8, G9};
+ghost use Rattle.lk_machine.specs.rows.Cna as choice_rows;
+ghost use Rattle.lk_machine.specs.rows.Cna.{is_held};
 ghost use Rattle.lk_machine.specs.rows.Spin as spin_rows;
 ghost use Rattle.lk_machine.specs.rows.Spin.{is_unlocked};
-ghost use Rattle.lk_domain.specs.Words.{IsNode, link_number};
+ghost use Rattle.lk_machine.specs.declared.parts.Flag.{Flag as FlagOf};
+ghost use Rattle.lk_domain.specs.NodePlays.{IsFlagNode};
+ghost use Rattle.lk_domain.specs.Words.{IsNode, link_number, flag_number, name_number};
 
 use lk_abs::Mode;
 use lk_domain::Domain;
-use lk_machine::{Pc, is_tail, is_unlocked};
-use lk_word::{Fields, NodeName, unpack};
+use lk_machine::{Flag, Pc, is_tail, is_unlocked};
+use lk_word::{Fields, Locked, NodeName, unpack};
 
 // The fields of a word that a step met.
 #[inline]
@@ -38,6 +43,25 @@ pub(crate) fn node_met(domain: &Domain, met: u64) -> Option<NodeName>
         return None;
     }
     Some(NodeName {
+        cpu: ((met - 2) / 4) as u32,
+        index: ((met - 2) % 4) as u32,
+    })
+}
+
+// What a flag says: it may name the first of a second queue.
+#[inline]
+pub(crate) fn flag_met(domain: &Domain, met: u64) -> Flag
+    requires flag { (flag : FlagOf) × IsFlagNode domain.now.plan flag × (met ≡ flag_number flag) }
+    ensures { (flag : FlagOf) → IsFlagNode domain.now.plan flag → met ≡ flag_number flag
+        → result ≡ flag }
+{
+    if met == 0 {
+        return Flag::Unset;
+    }
+    if met == 1 {
+        return Flag::Go;
+    }
+    Flag::Second(NodeName {
         cpu: ((met - 2) / 4) as u32,
         index: ((met - 2) % 4) as u32,
     })
@@ -89,16 +113,60 @@ pub(crate) fn is_sole(word: Fields, own: NodeName) -> bool
     is_unlocked(word) && !word.pending && is_tail(word, own)
 }
 
-// Where the front goes that looked at the word.
-pub(crate) fn after_look(word: Fields, own: NodeName) -> Pc
+// Where the front goes that looked at the word, by whether somebody stands aside.
+pub(crate) fn after_look(word: Fields, own: NodeName, aside: bool) -> Pc
     ensures { result ≡ (if is_unlocked word.locked && not word.pending
-        then (if is_node word.tail own then G8 else G9) else G7) }
+        then (if is_node word.tail own && not aside then G8 else G9) else G7) }
 {
     if !is_unlocked(word) || word.pending {
         Pc::G7
-    } else if is_tail(word, own) {
+    } else if is_tail(word, own) && !aside {
         Pc::G8
     } else {
         Pc::G9
     }
+}
+
+// Whether the family moves waiters aside.
+pub(crate) fn moves_waiters(mode: Mode) -> bool
+    ensures { result ≡ moves_aside mode }
+{
+    matches!(mode, Mode::Cna)
+}
+
+// Whether the word is that of a held lock whose queue ends with this node: nobody pends.
+pub(crate) fn is_last(word: Fields, own: NodeName) -> bool
+    ensures { result ≡ (is_held word.locked && not word.pending && is_node word.tail own) }
+{
+    matches!(word.locked, Locked::Held) && !word.pending && is_tail(word, own)
+}
+
+// The flag by which the next learns of those that stand aside.
+pub(crate) fn flag_for(second: Option<NodeName>) -> Flag
+    ensures { result ≡ choice_rows.flag_for second }
+{
+    match second {
+        None => Flag::Go,
+        Some(first) => Flag::Second(first),
+    }
+}
+
+// The node that a word names.
+#[inline]
+pub(crate) fn tail_met(domain: &Domain, met: u64) -> NodeName
+    requires tail { (node : Node) × IsNode domain.now.plan node × (met ≡ name_number node) }
+    ensures { (node : Node) → IsNode domain.now.plan node → met ≡ name_number node
+        → result ≡ node }
+{
+    NodeName {
+        cpu: ((met - 2) / 4) as u32,
+        index: ((met - 2) % 4) as u32,
+    }
+}
+
+// Whether somebody stands aside.
+pub(crate) fn stands_aside(second: Option<NodeName>) -> bool
+    ensures { result ≡ is_some second }
+{
+    second.is_some()
 }

@@ -1,6 +1,6 @@
-use Rattle.std.proofs.Common.{refl, sym, ap, ◌∙◌, ◌≡◌, Some, subst}
+use Rattle.lk_run.specs.Standing.{Outside}
+use Rattle.std.proofs.Common.{not, refl, sym, ap, ◌∙◌, ◌≡◌, Some, subst}
 use Rattle.lk_machine.specs.declared.parts.Pc.TheVariants.{G1, G2}
-use Rattle.lk_machine.specs.declared.setup.Verb.TheVariants.{Lock}
 use Rattle.lk_law.specs.Leads.{Number}
 use Rattle.lk_domain.specs.Calls.{slows}
 use Rattle.lk_domain.specs.NodePlays.{AtEntry}
@@ -11,22 +11,23 @@ use Rattle.lk_domain.specs.Paths.{Any}
 use Rattle.lk_run.specs.Frames.{Owns}
 use Rattle.lk_run.proofs.Rows as row
 use Rattle.lk_run.proofs.Steps.{still_of, rest_both}
-use Rattle.lk_run.proofs.Ways as way
+use Rattle.lk_run.proofs.Ways.{ready_row}
+use Rattle.lk_run.proofs.Stepped as way
 use Rattle.lk_run.proofs.arrival.enter.Goals as goal
 
 pub private_store-requires-clause-row : goal.private_store-requires-clause-row
 private_store-requires-clause-row c =
     let a = c.args.cpu.now in
     record {
-      lock = c.args.lock.index;
-      stands = way.standing c.args.domain.now c.args.lock.index G1 Any a c.requires.waits;
+      lock = c.args.lock;
+      at = way.at_row c.args.domain.now c.args.verb c.args.lock G1 Any a c.requires.queues c.requires.waits;
       cpu = a.numbered ∙ ap Some (sym c.requires.cpu);
       index = c.requires.index;
       low = c.requires.own.index;
     }
 
 pub private_store-requires-clause-ready : goal.private_store-requires-clause-ready
-private_store-requires-clause-ready c e = cc e
+private_store-requires-clause-ready c ne = absurd (ne refl)
 
 pub private_store-requires-2-clause-domain : goal.private_store-requires-2-clause-domain
 private_store-requires-2-clause-domain c =
@@ -35,15 +36,21 @@ private_store-requires-2-clause-domain c =
 pub private_store-requires-2-clause-row : goal.private_store-requires-2-clause-row
 private_store-requires-2-clause-row c =
     let a = c.args.cpu.now in
-    subst (AtEntry c.args.own) (sym (c.private_store.ensures.flag refl)) (record {
-      lock = c.args.lock.index;
-      stands = record {
-        frame = c.requires.waits.1.frame;
-        trail = c.requires.waits.1.trail;
-        rest = c.requires.waits.0.frames;
-        is = c.requires.waits.1.frames;
-        place = c.requires.waits.1.place;
-        lock = c.requires.waits.1.lock;
+    let at = way.at_row c.args.domain.now c.args.verb c.args.lock G1 Any a c.requires.queues c.requires.waits in
+    subst (AtEntry c.args.own c.args.verb) (sym (c.private_store.ensures.reset refl)) (record {
+      lock = c.args.lock;
+      at = record {
+        stands = record {
+          frame = at.stands.frame;
+          trail = at.stands.trail;
+          rest = at.stands.rest;
+          is = at.stands.is;
+          place = at.stands.place;
+          lock = at.stands.lock;
+        };
+        patient = at.patient;
+        inside = at.inside;
+        after = at.after;
       };
       cpu = a.numbered ∙ ap Some (sym c.requires.cpu);
       index = c.requires.index;
@@ -51,7 +58,7 @@ private_store-requires-2-clause-row c =
     })
 
 pub private_store-requires-2-clause-ready : goal.private_store-requires-2-clause-ready
-private_store-requires-2-clause-ready c e = ap (λ (v : View). v.calls.ready) (c.private_store.ensures.flag refl)
+private_store-requires-2-clause-ready c ne = ap (λ (v : View). v.calls.ready) (c.private_store.ensures.reset refl)
 
 pub returns-clause-rest : goal.returns-clause-rest
 returns-clause-rest c =
@@ -65,12 +72,12 @@ returns-clause-goes c told s w =
     let b = c.private_store-2.new.cpu in
     let l = c.args.lock.index in
     let n = slows (calls_of a).frames in
-    let reset = c.private_store.ensures.flag refl in
+    let reset = c.private_store.ensures.reset refl in
     let at = c.requires.waits.1 in
-    let first : view_of b ≡ rowed (view_of m) (calls_of m) (Number (slows (calls_of m).frames)) = (λ i. ((c.private_store-2.ensures.row refl).by i).0) in
+    let first : view_of b ≡ rowed (view_of m) (calls_of m) (Number (slows (calls_of m).frames)) = (λ i. ((c.private_store-2.ensures.row (ap not c.requires.mode)).by i).0) in
     let second : rowed (view_of m) (calls_of m) (Number (slows (calls_of m).frames)) ≡ rowed (view_of a) (calls_of a) (Number n) =
     ap (λ (v : View). rowed v v.calls (Number (slows v.calls.frames))) reset
-    ∙ way.ready_row (view_of a) Lock at.frame at.trail c.requires.waits.0.frames G1 (Number n) at.frames at.place in
+    ∙ ready_row 1 (view_of a) c.args.verb at.frame at.trail c.requires.waits.0.frames n at.frames at.place in
     let rest = rest_both a m b c.private_store.ensures.rest c.private_store-2.ensures.rest in
-    way.on_goes d l a b rest c.requires.domain (Number n) (first ∙ second) G1 Any s told w G2 (Owns c.args.own) (λ e. cc e)
-    (λ f plain has. row.enters d.plan.mode b.number f d.lawful.awake c.args.own n (c.requires.cpu ∙ sym rest.same.number) c.requires.index c.requires.own.index)
+    way.on_goes d c.args.verb c.args.lock a b rest c.requires.domain (Number n) (first ∙ second) G1 Any Outside s told w G2 (Owns c.args.own) (λ e. cc e)
+    (λ f has. row.enters d.plan.mode b.number f d.lawful.awake c.args.own n (c.requires.cpu ∙ sym rest.same.number) c.requires.index c.requires.own.index)

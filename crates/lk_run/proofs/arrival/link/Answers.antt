@@ -1,21 +1,21 @@
+use Rattle.lk_run.specs.Standing.{Outside}
 use Rattle.std.proofs.Common.{None}
 use Rattle.lk_machine.specs.declared.parts.Pc.TheVariants.{G5, G6}
 use Rattle.lk_law.specs.Leads.{Named}
 use Rattle.lk_run.specs.Frames.{Owns, Follows}
 use Rattle.lk_run.proofs.Rows as row
-use Rattle.lk_run.proofs.Ways as way
+use Rattle.lk_run.proofs.Stepped as way
 use Rattle.lk_run.proofs.arrival.link.Goals as goal
 
 pub link-requires-clause-row : goal.link-requires-clause-row
 link-requires-clause-row c =
     let has = c.requires.waits.1.has in
-    record { lock = c.args.lock.index; stands = way.standing c.args.domain.now c.args.lock.index G5 (Follows c.args.own c.args.prev) c.args.cpu.now c.requires.waits; prev = has.prev; me = has.owns.me }
+    record { lock = c.args.lock; at = way.at_row c.args.domain.now c.args.verb c.args.lock G5 (Follows c.args.own c.args.prev) c.args.cpu.now c.requires.queues c.requires.waits; prev = has.prev; me = has.owns.me }
 
 pub returns-clause-goes : goal.returns-clause-goes
 returns-clause-goes c told s w =
     let d = c.args.domain.now in
     let a = c.args.cpu.now in
     let b = c.link.new.cpu in
-    let l = c.args.lock.index in
-    way.on_goes d l a b c.link.ensures.rest c.requires.domain (Named None) (λ i. (c.link.ensures.row.by i).0) G5 (Follows c.args.own c.args.prev) s told w G6 (Owns c.args.own) (λ e. cc e)
-    (λ f plain has. row.links d.plan.mode b.number f d.lawful.awake c.args.own c.args.prev has)
+    way.on_goes d c.args.verb c.args.lock a b c.link.ensures.rest c.requires.domain (Named None) (λ i. (c.link.ensures.row.by i).0) G5 (Follows c.args.own c.args.prev) Outside s told w G6 (Owns c.args.own) (λ e. cc e)
+    (λ f has. row.links d.plan.mode b.number f d.lawful.awake c.args.own c.args.prev has)

@@ -1,6 +1,6 @@
 use Rattle.lk_machine.specs.declared.parts.Pc.TheVariants.{G7}
 use Rattle.lk_domain.specs.Seats.{IsOf, KeepsRest}
-use Rattle.lk_run.specs.Frames.{Owns}
+use Rattle.lk_run.specs.Frames.{Fronts}
 use Rattle.lk_run.specs.Phases.{Goes}
 use Rattle.lk_run.proofs.loops.open.Given as goal
 
@@ -8,4 +8,4 @@ abbrev pub invariant-loop : goal.invariant-loop
 invariant-loop g l =
     (goal.iterator-loop g).can_next l.iterator' × (goal.iterator-loop g).is_finite l.iterator'
     × IsOf l.cpu l.domain × KeepsRest l.fn.cpu l.cpu
-    × Goes l.domain l.lock.index G7 (Owns l.own) G7 (Owns l.own) l.fn.cpu (g.I.Irq.polls l.fn.irq) l.cpu (g.I.Irq.polls l.irq)
+    × Goes l.domain l.verb l.lock G7 (Fronts l.own l.second) G7 (Fronts l.own l.second) l.fn.cpu (g.I.Irq.polls l.fn.irq) l.cpu (g.I.Irq.polls l.irq)

@@ -1,13 +1,12 @@
 use Rattle.lk_machine.specs.declared.parts.Pc.TheVariants.{G6}
 use Rattle.lk_run.specs.Frames.{Owns}
 use Rattle.lk_run.proofs.Steps.{still_of, rest_both}
-use Rattle.lk_run.proofs.Ways as way
+use Rattle.lk_run.proofs.Stepped as way
 use Rattle.lk_run.proofs.loops.turn.Goals as goal
 
 pub loop-preserved : goal.loop-preserved
 loop-preserved g c =
     let d = c.args.domain.now in
-    let l = c.args.lock.index in
     let a = c.args.cpu.now in
     let m = c.loop.cpu in
     let n = c.wait.new.cpu in
@@ -17,7 +16,7 @@ loop-preserved g c =
       tt,
       still_of d n o c.give_way.ensures.rest (still_of d m n c.wait.ensures.rest inv.2),
       rest_both a n o (rest_both a m n inv.3 c.wait.ensures.rest) c.give_way.ensures.rest,
-      (λ s w. way.polled d l G6 (Owns c.args.own) s n o (g.I.Irq.polls c.loop.irq) (g.I.Irq.polls c.give_way.new.irq)
-          (c.wait.ensures.waits c.if-wait.false s (g.I.Irq.polls c.loop.irq) (inv.4 s w))
+      (λ s w. way.polled d c.args.verb c.args.lock G6 (Owns c.args.own) s n o (g.I.Irq.polls c.loop.irq) (g.I.Irq.polls c.give_way.new.irq)
+          (c.wait.ensures.waits c.in-Unset.is s (g.I.Irq.polls c.loop.irq) (inv.4 s w))
           c.give_way.ensures.rest c.give_way.ensures.calls c.give_way.ensures.ledger c.give_way.ensures.polls),
     )

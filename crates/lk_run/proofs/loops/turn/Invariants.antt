@@ -8,4 +8,4 @@ abbrev pub invariant-loop : goal.invariant-loop
 invariant-loop g l =
     (goal.iterator-loop g).can_next l.iterator' × (goal.iterator-loop g).is_finite l.iterator'
     × IsOf l.cpu l.domain × KeepsRest l.fn.cpu l.cpu
-    × Goes l.domain l.lock.index G6 (Owns l.own) G6 (Owns l.own) l.fn.cpu (g.I.Irq.polls l.fn.irq) l.cpu (g.I.Irq.polls l.irq)
+    × Goes l.domain l.verb l.lock G6 (Owns l.own) G6 (Owns l.own) l.fn.cpu (g.I.Irq.polls l.fn.irq) l.cpu (g.I.Irq.polls l.irq)

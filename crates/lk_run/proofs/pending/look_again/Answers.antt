@@ -1,25 +1,25 @@
+use Rattle.lk_run.proofs.Ways.{queues_taking}
+use Rattle.lk_run.specs.Standing.{Outside}
 use Rattle.std.proofs.Common.{refl, sym, ap, ◌∙◌, subst, ◌≡◌, ◌⊎◌, inl, inr}
 use Rattle.lk_machine.specs.declared.parts.Pc.TheVariants.{P0, P1, G1}
 use Rattle.lk_machine.specs.rows.Spin.{to_queue}
-use Rattle.lk_machine.specs.declared.setup.Verb.TheVariants.{Lock}
 use Rattle.lk_law.specs.Leads.{Word}
 use Rattle.lk_domain.specs.Paths.{Any}
-use Rattle.lk_domain.specs.Rows.{looks_by}
 use Rattle.lk_run.proofs.Places.{queue_place}
 use Rattle.lk_run.proofs.Rows as row
-use Rattle.lk_run.proofs.Ways.{Leads}
-use Rattle.lk_run.proofs.Ways as way
+use Rattle.lk_run.proofs.Ways.{Leads, sees}
+use Rattle.lk_run.proofs.Stepped as way
 use Rattle.lk_run.proofs.pending.look_again.Goals as goal
 
 pub look-met-requires-clause-row : goal.look-met-requires-clause-row
-look-met-requires-clause-row c = way.acts_at c.args.domain.now c.args.lock.index P0 Any c.args.cpu.now c.requires.waits (looks_by Lock) refl
+look-met-requires-clause-row c = inl (way.looks_in c.args.domain.now c.args.verb c.args.lock P0 Any c.args.cpu.now c.requires.queues c.requires.waits refl)
 
 pub word_met-requires : goal.word_met-requires
-word_met-requires c = let made = c.look-met.ensures.step.by in record { word = (made.found, made.packs, made.word) }
+word_met-requires c = let made = (c.look-met.ensures.word (way.looks_in c.args.domain.now c.args.verb c.args.lock P0 Any c.args.cpu.now c.requires.queues c.requires.waits refl)).by in record { word = (made.found, made.packs, made.word) }
 
 pub returns-clause-place : goal.returns-clause-place
 returns-clause-place c =
-    let made = c.look-met.ensures.step.by in
+    let made = (c.look-met.ensures.word (way.looks_in c.args.domain.now c.args.verb c.args.lock P0 Any c.args.cpu.now c.requires.queues c.requires.waits refl)).by in
     subst (λ q. (q ≡ P1) ⊎ (q ≡ G1)) (sym (c.to_queue.ensures ∙ ap to_queue (c.word_met.ensures made.found made.packs made.word))) (queue_place made.found)
 
 pub returns-clause-goes : goal.returns-clause-goes
@@ -28,9 +28,9 @@ returns-clause-goes c told s w =
     let a = c.args.cpu.now in
     let b = c.look-met.new.cpu in
     let l = c.args.lock.index in
-    let made = c.look-met.ensures.step.by in
+    let made = (c.look-met.ensures.word (way.looks_in c.args.domain.now c.args.verb c.args.lock P0 Any c.args.cpu.now c.requires.queues c.requires.waits refl)).by in
     let is = c.to_queue.ensures ∙ ap to_queue (c.word_met.ensures made.found made.packs made.word) in
-    way.on_goes d l a b c.look-met.ensures.rest c.requires.domain (Word made.found)
-    (way.on_word d l a b c.look-met.ensures.rest c.requires.domain made w.looked.at) P0 Any s told w c.to_queue.result Any
+    way.on_goes d c.args.verb c.args.lock a b c.look-met.ensures.rest c.requires.domain (Word made.found)
+    (way.on_word d c.args.verb c.args.lock a b c.look-met.ensures.rest c.requires.domain made (queues_taking c.args.verb c.args.lock c.requires.queues) w.looked.at) P0 Any Outside s told w c.to_queue.result Any
     (λ e. elim (queue_place made.found) [ inl h ↦ (let z : P1 ≡ P0 = sym h ∙ (sym is ∙ e) in cc z) | inr h ↦ (let z : G1 ≡ P0 = sym h ∙ (sym is ∙ e) in cc z) ])
-    (λ f plain has. subst (λ q. Leads d.plan.mode b.number P0 f (Word made.found) q Any) (sym is) (row.again_goes d.plan.mode b.number f made.found))
+    (λ f has. subst (λ q. Leads d.plan.mode b.number (sees d a b) P0 f (Word made.found) q Any) (sym is) (row.again_goes d.plan.mode b.number f made.found))

@@ -1,18 +1,19 @@
+use Rattle.lk_run.proofs.Ways.{queues_taking, queues_patient}
+use Rattle.lk_run.specs.Standing.{Outside}
 use Rattle.std.proofs.Common.{refl, sym, ap, ◌∙◌, subst, ◌≡◌, ◌⊎◌, inl, inr}
 use Rattle.lk_machine.specs.declared.parts.Pc.TheVariants.{P1, P2, P3, P4, G1}
 use Rattle.lk_machine.specs.rows.Spin.{after_pending}
-use Rattle.lk_machine.specs.declared.setup.Verb.TheVariants.{Lock}
 use Rattle.lk_law.specs.Leads.{Word}
 use Rattle.lk_domain.specs.Paths.{Any}
 use Rattle.lk_domain.specs.Rows.{pends_by}
 use Rattle.lk_run.proofs.Places.{pend_place}
 use Rattle.lk_run.proofs.Rows as row
-use Rattle.lk_run.proofs.Ways.{Leads}
-use Rattle.lk_run.proofs.Ways as way
+use Rattle.lk_run.proofs.Ways.{Leads, sees}
+use Rattle.lk_run.proofs.Stepped as way
 use Rattle.lk_run.proofs.pending.set_pending.Goals as goal
 
 pub set_pending-met-requires-clause-row : goal.set_pending-met-requires-clause-row
-set_pending-met-requires-clause-row c = way.acts_at c.args.domain.now c.args.lock.index P1 Any c.args.cpu.now c.requires.waits (pends_by Lock) refl
+set_pending-met-requires-clause-row c = way.acts_in c.args.domain.now c.args.verb c.args.lock P1 Any c.args.cpu.now c.requires.queues c.requires.waits (pends_by c.args.verb) (queues_patient c.args.verb c.args.lock c.requires.queues)
 
 pub word_met-requires : goal.word_met-requires
 word_met-requires c = let made = c.set_pending-met.ensures.step.by in record { word = (made.found, made.packs, made.word) }
@@ -30,12 +31,12 @@ returns-clause-goes c told s w =
     let l = c.args.lock.index in
     let made = c.set_pending-met.ensures.step.by in
     let is = c.after_pending.ensures ∙ ap after_pending (c.word_met.ensures made.found made.packs made.word) in
-    way.on_goes d l a b c.set_pending-met.ensures.rest c.requires.domain (Word made.found)
-    (way.on_word d l a b c.set_pending-met.ensures.rest c.requires.domain made w.looked.at) P1 Any s told w c.after_pending.result Any
+    way.on_goes d c.args.verb c.args.lock a b c.set_pending-met.ensures.rest c.requires.domain (Word made.found)
+    (way.on_word d c.args.verb c.args.lock a b c.set_pending-met.ensures.rest c.requires.domain made (queues_taking c.args.verb c.args.lock c.requires.queues) w.looked.at) P1 Any Outside s told w c.after_pending.result Any
     (λ e. elim (pend_place made.found) [
       | inl h ↦ (let z : P2 ≡ P1 = sym h ∙ (sym is ∙ e) in cc z)
       | inr (inl h) ↦ (let z : P3 ≡ P1 = sym h ∙ (sym is ∙ e) in cc z)
       | inr (inr (inl h)) ↦ (let z : P4 ≡ P1 = sym h ∙ (sym is ∙ e) in cc z)
       | inr (inr (inr h)) ↦ (let z : G1 ≡ P1 = sym h ∙ (sym is ∙ e) in cc z)
     ])
-    (λ f plain has. subst (λ q. Leads d.plan.mode b.number P1 f (Word made.found) q Any) (sym is) (row.pends d.plan.mode b.number f made.found))
+    (λ f has. subst (λ q. Leads d.plan.mode b.number (sees d a b) P1 f (Word made.found) q Any) (sym is) (row.pends d.plan.mode b.number f made.found))

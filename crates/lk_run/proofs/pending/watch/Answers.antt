@@ -1,20 +1,20 @@
-use Rattle.std.proofs.Common.{refl, sym, ap, ◌∙◌}
+use Rattle.lk_run.proofs.Ways.{queues_taking}
+use Rattle.lk_run.specs.Standing.{Outside}
+use Rattle.std.proofs.Common.{inl, refl, sym, ap, ◌∙◌}
 use Rattle.lk_word.specs.declared.spin_word.Fields.{Fields}
 use Rattle.lk_machine.specs.declared.parts.Pc.TheVariants.{P3, P4}
 use Rattle.lk_machine.specs.rows.Spin.{is_unlocked}
-use Rattle.lk_machine.specs.declared.setup.Verb.TheVariants.{Lock}
 use Rattle.lk_law.specs.Leads.{Word}
 use Rattle.lk_domain.specs.Paths.{Any}
-use Rattle.lk_domain.specs.Rows.{looks_by}
 use Rattle.lk_run.proofs.Rows as row
-use Rattle.lk_run.proofs.Ways as way
+use Rattle.lk_run.proofs.Stepped as way
 use Rattle.lk_run.proofs.pending.watch.Goals as goal
 
 pub look-met-requires-clause-row : goal.look-met-requires-clause-row
-look-met-requires-clause-row c = way.acts_at c.args.domain.now c.args.lock.index P3 Any c.args.cpu.now c.requires.waits (looks_by Lock) refl
+look-met-requires-clause-row c = inl (way.looks_in c.args.domain.now c.args.verb c.args.lock P3 Any c.args.cpu.now c.requires.queues c.requires.waits refl)
 
 pub word_met-requires : goal.word_met-requires
-word_met-requires c = let made = c.look-met.ensures.step.by in record { word = (made.found, made.packs, made.word) }
+word_met-requires c = let made = (c.look-met.ensures.word (way.looks_in c.args.domain.now c.args.verb c.args.lock P3 Any c.args.cpu.now c.requires.queues c.requires.waits refl)).by in record { word = (made.found, made.packs, made.word) }
 
 pub returns-clause-free : goal.returns-clause-free
 returns-clause-free c is told s w =
@@ -22,10 +22,10 @@ returns-clause-free c is told s w =
     let a = c.args.cpu.now in
     let b = c.look-met.new.cpu in
     let l = c.args.lock.index in
-    let made = c.look-met.ensures.step.by in
-    way.on_goes d l a b c.look-met.ensures.rest c.requires.domain (Word made.found)
-    (way.on_word d l a b c.look-met.ensures.rest c.requires.domain made w.looked.at) P3 Any s told w P4 Any (λ e. cc e)
-    (λ f plain has. row.watch_sees d.plan.mode b.number f made.found (sym (c.is_unlocked.ensures ∙ ap (λ (y : Fields). is_unlocked y.locked) (c.word_met.ensures made.found made.packs made.word)) ∙ is))
+    let made = (c.look-met.ensures.word (way.looks_in c.args.domain.now c.args.verb c.args.lock P3 Any c.args.cpu.now c.requires.queues c.requires.waits refl)).by in
+    way.on_goes d c.args.verb c.args.lock a b c.look-met.ensures.rest c.requires.domain (Word made.found)
+    (way.on_word d c.args.verb c.args.lock a b c.look-met.ensures.rest c.requires.domain made (queues_taking c.args.verb c.args.lock c.requires.queues) w.looked.at) P3 Any Outside s told w P4 Any (λ e. cc e)
+    (λ f has. row.watch_sees d.plan.mode b.number f made.found (sym (c.is_unlocked.ensures ∙ ap (λ (y : Fields). is_unlocked y.locked) (c.word_met.ensures made.found made.packs made.word)) ∙ is))
 
 pub returns-clause-held : goal.returns-clause-held
 returns-clause-held c is s told w =
@@ -33,7 +33,7 @@ returns-clause-held c is s told w =
     let a = c.args.cpu.now in
     let b = c.look-met.new.cpu in
     let l = c.args.lock.index in
-    let made = c.look-met.ensures.step.by in
-    way.on_looks d l a b c.look-met.ensures.rest c.requires.domain (Word made.found)
-    (way.on_word d l a b c.look-met.ensures.rest c.requires.domain made w.looked.at) P3 Any s told w
-    (λ f plain has. row.watch_waits d.plan.mode b.number f made.found (sym (c.is_unlocked.ensures ∙ ap (λ (y : Fields). is_unlocked y.locked) (c.word_met.ensures made.found made.packs made.word)) ∙ is))
+    let made = (c.look-met.ensures.word (way.looks_in c.args.domain.now c.args.verb c.args.lock P3 Any c.args.cpu.now c.requires.queues c.requires.waits refl)).by in
+    way.on_looks d c.args.verb c.args.lock a b c.look-met.ensures.rest c.requires.domain (Word made.found)
+    (way.on_word d c.args.verb c.args.lock a b c.look-met.ensures.rest c.requires.domain made (queues_taking c.args.verb c.args.lock c.requires.queues) w.looked.at) P3 Any Outside s told w
+    (λ f has. row.watch_waits d.plan.mode b.number f made.found (sym (c.is_unlocked.ensures ∙ ap (λ (y : Fields). is_unlocked y.locked) (c.word_met.ensures made.found made.packs made.word)) ∙ is))

@@ -1,4 +1,6 @@
-use Rattle.std.proofs.Common.{refl}
+use Rattle.std.proofs.Common.{refl, sym, subst}
+use Rattle.lk_domain.specs.Paths.{Any}
+use Rattle.lk_run.specs.Phases.{Waits, starting}
 use Rattle.lk_machine.specs.declared.setup.Verb.TheVariants.{Lock}
 use Rattle.lk_law.specs.Leads.{Word}
 use Rattle.lk_machine.specs.rows.Spin.{after_fast}
@@ -7,41 +9,43 @@ use Rattle.lk_domain.specs.Seats.{view_of}
 use Rattle.lk_domain.proofs.Ways as seat
 use Rattle.lk_run.proofs.Places.{free_by, held_by, not_fast}
 use Rattle.lk_run.proofs.Rows as row
-use Rattle.lk_run.proofs.Steps.{seat_of}
-use Rattle.lk_run.proofs.Ways as way
+use Rattle.lk_run.proofs.Steps.{plain_in, seat_of}
+use Rattle.lk_run.proofs.Stepped as way
 use Rattle.lk_run.proofs.spin.fast.Goals as goal
 
-pub take_free-requires-clause-row : goal.take_free-requires-clause-row
-take_free-requires-clause-row c =
+pub take_first-requires-clause-row : goal.take_first-requires-clause-row
+take_first-requires-clause-row c =
     let d = c.args.domain.now in
     let a = c.args.cpu.now in
     let may = c.requires.may in
-    seat.acts_first (takes_by Lock) d.plan a.number Lock c.args.lock.index (view_of a) (seat_of d a c.requires.domain) refl may.fresh may.free may.few refl
+    plain_in (takes_by Lock) (view_of a) Lock c.args.lock c.requires.plain refl
+    (seat.acts_first (takes_by Lock) d.plan a.number Lock c.args.lock.index (view_of a) (seat_of d a c.requires.domain) refl may.fresh may.free may.few c.requires.kind refl)
 
 pub returns-clause-taken : goal.returns-clause-taken
 returns-clause-taken c is told =
     let d = c.args.domain.now in
     let a = c.args.cpu.now in
-    let b = c.take_free.new.cpu in
+    let b = c.take_first.new.cpu in
     let l = c.args.lock.index in
-    let made = c.take_free.ensures.step.by in
-    way.first_takes d l a b c.take_free.ensures.rest c.requires.domain (Word made.found)
-    (way.first_word d l a b c.take_free.ensures.rest c.requires.domain made c.requires.may.fresh) told
-    (λ f plain. row.fast_takes d.plan.mode b.number f made.found plain (free_by c.take_free.result made.found made.word is))
+    let made = c.take_first.ensures.step.by in
+    way.first_takes d Lock c.args.lock.index a b c.take_first.ensures.rest c.requires.domain refl (λ e. cc e) (Word made.found)
+    (way.first_word d Lock c.args.lock a b c.take_first.ensures.rest c.requires.domain made c.requires.may.fresh) told refl refl
+    (λ f. row.fast_takes d.plan.mode b.number f made.found (free_by c.take_first.result made.found made.word is))
 
 pub returns-clause-waits : goal.returns-clause-waits
 returns-clause-waits c is told =
     let d = c.args.domain.now in
     let a = c.args.cpu.now in
-    let b = c.take_free.new.cpu in
+    let b = c.take_first.new.cpu in
     let l = c.args.lock.index in
-    let made = c.take_free.ensures.step.by in
+    let made = c.take_first.ensures.step.by in
     record {
       found = made.found;
       packs = made.packs;
       word = made.word;
-      waits = way.first_goes d l a b c.take_free.ensures.rest c.requires.domain (Word made.found)
-          (way.first_word d l a b c.take_free.ensures.rest c.requires.domain made c.requires.may.fresh) told
+      waits = subst (λ z. Waits d Lock z (after_fast d.plan.mode made.found) Any (starting a told) b told) (λ i. record { index = c.args.lock.index; wait = sym c.requires.plain i })
+          (way.first_goes d Lock c.args.lock.index a b c.take_first.ensures.rest c.requires.domain refl (λ e. cc e) (Word made.found)
+          (way.first_word d Lock c.args.lock a b c.take_first.ensures.rest c.requires.domain made c.requires.may.fresh) told
           (after_fast d.plan.mode made.found) (not_fast d.plan.mode made.found)
-          (λ f plain. row.fast_goes d.plan.mode b.number f made.found (held_by c.take_free.result made.found made.word is));
+          (λ f. row.fast_goes d.plan.mode b.number f made.found (held_by c.take_first.result made.found made.word is)));
     }

@@ -1,17 +1,19 @@
+use Rattle.std.specs.Prelude.{false}
 use Rattle.std.proofs.Common.{refl}
 use Rattle.lk_machine.specs.declared.parts.Pc.TheVariants.{T2}
 use Rattle.lk_machine.specs.declared.setup.Verb.TheVariants.{Try}
 use Rattle.lk_domain.specs.Rows.{takes_by}
 use Rattle.lk_domain.specs.Seats.{view_of}
 use Rattle.lk_domain.proofs.Ways as way
-use Rattle.lk_run.proofs.Steps.{seat_of, took, missed}
+use Rattle.lk_run.proofs.Steps.{plain_in, seat_of, took, missed}
 use Rattle.lk_run.proofs.spin.try_swap.Goals as goal
 
 pub take_free-requires-clause-row : goal.take_free-requires-clause-row
 take_free-requires-clause-row c =
     let d = c.args.domain.now in
     let a = c.args.cpu.now in
-    way.acts_next (takes_by Try) d.plan a.number Try c.args.lock.index T2 c.requires.waits.0 (view_of a) (seat_of d a c.requires.domain) refl c.requires.waits.1 refl
+    plain_in (takes_by Try) (view_of a) Try (record { index = c.args.lock.index; wait = false }) refl refl
+    (way.acts_next (takes_by Try) d.plan a.number Try c.args.lock.index T2 c.requires.waits.0 (view_of a) (seat_of d a c.requires.domain) refl c.requires.waits.1 refl)
 
 pub returns-clause-taken : goal.returns-clause-taken
 returns-clause-taken c is old at =

@@ -1,13 +1,18 @@
+use Rattle.std.proofs.Common.{refl}
+use Rattle.lk_domain.specs.Rows.{frees_by}
+use Rattle.lk_machine.specs.declared.setup.Verb.TheVariants.{Unlock}
+use Rattle.std.specs.Prelude.{false}
 use Rattle.lk_domain.specs.Seats.{view_of}
 use Rattle.lk_domain.proofs.Ways as way
-use Rattle.lk_run.proofs.Steps.{seat_of}
+use Rattle.lk_run.proofs.Steps.{plain_in, seat_of}
 use Rattle.lk_run.proofs.spin.unlock.Goals as goal
 
 pub release-requires-clause-row : goal.release-requires-clause-row
 release-requires-clause-row c =
     let d = c.args.domain.now in
     let a = c.args.cpu.now in
-    way.acts_release d.plan a.number c.args.lock.index (view_of a) (seat_of d a c.requires.domain) d.lawful.awake a.apart c.requires.few c.requires.held
+    plain_in (frees_by Unlock) (view_of a) Unlock (record { index = c.args.lock.index; wait = false }) refl refl
+    (way.acts_release d.plan a.number c.args.lock.index (view_of a) (seat_of d a c.requires.domain) d.lawful.awake a.apart c.requires.few c.requires.kind c.requires.held)
 
 pub returns-clause-freed : goal.returns-clause-freed
 returns-clause-freed c =

@@ -24,7 +24,7 @@ pub follow-requires-clause-waits : goal.follow-requires-clause-waits
 follow-requires-clause-waits g c =
     let s = c.requires.waits.0 in
     let w = c.requires.waits.1 in
-    (s, (subst (λ o. IfSome o (λ prev. (told : Option ℕ) → Goes c.args.domain.now c.args.lock.index G4 (Owns c.args.own) G5 (Follows c.args.own prev) c.args.cpu.now told c.exchange_tail.new.cpu told)) c.in-Some.is c.exchange_tail.ensures.behind) (g.I.Irq.polls c.args.irq.now) s w)
+    (s, (subst (λ o. IfSome o (λ prev. (told : Option ℕ) → Goes c.args.domain.now c.args.verb c.args.lock G4 (Owns c.args.own) G5 (Follows c.args.own prev) c.args.cpu.now told c.exchange_tail.new.cpu told)) c.in-Some.is c.exchange_tail.ensures.behind) (g.I.Irq.polls c.args.irq.now) s w)
 
 pub lead-requires-clause-domain : goal.lead-requires-clause-domain
 lead-requires-clause-domain g c =
@@ -42,7 +42,7 @@ returns-in-Some-clause-rest g c =
 
 pub returns-in-Some-clause-taken : goal.returns-in-Some-clause-taken
 returns-in-Some-clause-taken g c s w =
-    c.follow.ensures.taken s ((subst (λ o. IfSome o (λ prev. (told : Option ℕ) → Goes c.args.domain.now c.args.lock.index G4 (Owns c.args.own) G5 (Follows c.args.own prev) c.args.cpu.now told c.exchange_tail.new.cpu told)) c.in-Some.is c.exchange_tail.ensures.behind) (g.I.Irq.polls c.args.irq.now) s w)
+    c.follow.ensures.taken s ((subst (λ o. IfSome o (λ prev. (told : Option ℕ) → Goes c.args.domain.now c.args.verb c.args.lock G4 (Owns c.args.own) G5 (Follows c.args.own prev) c.args.cpu.now told c.exchange_tail.new.cpu told)) c.in-Some.is c.exchange_tail.ensures.behind) (g.I.Irq.polls c.args.irq.now) s w)
 
 pub returns-in-None-clause-rest : goal.returns-in-None-clause-rest
 returns-in-None-clause-rest g c =

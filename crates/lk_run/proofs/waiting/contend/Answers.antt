@@ -14,31 +14,31 @@ pub spin-requires-clause-waits : goal.spin-requires-clause-waits
 spin-requires-clause-waits g c =
     let s = c.requires.waits.0 in
     let w = c.requires.waits.1 in
-    (s, (subst (λ q. Waits c.args.domain.now c.args.lock.index q Any s c.args.cpu.now (g.I.Irq.polls c.args.irq.now)) (sym (c.after_fast.ensures ∙ (λ i. after_fast (c.mode.ensures i) (c.word_met.ensures w.found w.packs w.word i))) ∙ c.in-V1.is) w.waits))
+    (s, (subst (λ q. Waits c.args.domain.now c.args.verb c.args.lock q Any s c.args.cpu.now (g.I.Irq.polls c.args.irq.now)) (sym (c.after_fast.ensures ∙ (λ i. after_fast (c.mode.ensures i) (c.word_met.ensures w.found w.packs w.word i))) ∙ c.in-V1.is) w.waits))
 
 pub returns-in-V1-clause-taken : goal.returns-in-V1-clause-taken
 returns-in-V1-clause-taken g c s w =
-    c.spin.ensures.taken s (subst (λ q. Waits c.args.domain.now c.args.lock.index q Any s c.args.cpu.now (g.I.Irq.polls c.args.irq.now)) (sym (c.after_fast.ensures ∙ (λ i. after_fast (c.mode.ensures i) (c.word_met.ensures w.found w.packs w.word i))) ∙ c.in-V1.is) w.waits)
+    c.spin.ensures.taken s (subst (λ q. Waits c.args.domain.now c.args.verb c.args.lock q Any s c.args.cpu.now (g.I.Irq.polls c.args.irq.now)) (sym (c.after_fast.ensures ∙ (λ i. after_fast (c.mode.ensures i) (c.word_met.ensures w.found w.packs w.word i))) ∙ c.in-V1.is) w.waits)
 
 pub look_on-requires-clause-waits : goal.look_on-requires-clause-waits
 look_on-requires-clause-waits g c =
     let s = c.requires.waits.0 in
     let w = c.requires.waits.1 in
-    (s, (subst (λ q. Waits c.args.domain.now c.args.lock.index q Any s c.args.cpu.now (g.I.Irq.polls c.args.irq.now)) (sym (c.after_fast.ensures ∙ (λ i. after_fast (c.mode.ensures i) (c.word_met.ensures w.found w.packs w.word i))) ∙ c.in-P0.is) w.waits))
+    (s, (subst (λ q. Waits c.args.domain.now c.args.verb c.args.lock q Any s c.args.cpu.now (g.I.Irq.polls c.args.irq.now)) (sym (c.after_fast.ensures ∙ (λ i. after_fast (c.mode.ensures i) (c.word_met.ensures w.found w.packs w.word i))) ∙ c.in-P0.is) w.waits))
 
 pub returns-in-P0-clause-taken : goal.returns-in-P0-clause-taken
 returns-in-P0-clause-taken g c s w =
-    c.look_on.ensures.taken s (subst (λ q. Waits c.args.domain.now c.args.lock.index q Any s c.args.cpu.now (g.I.Irq.polls c.args.irq.now)) (sym (c.after_fast.ensures ∙ (λ i. after_fast (c.mode.ensures i) (c.word_met.ensures w.found w.packs w.word i))) ∙ c.in-P0.is) w.waits)
+    c.look_on.ensures.taken s (subst (λ q. Waits c.args.domain.now c.args.verb c.args.lock q Any s c.args.cpu.now (g.I.Irq.polls c.args.irq.now)) (sym (c.after_fast.ensures ∙ (λ i. after_fast (c.mode.ensures i) (c.word_met.ensures w.found w.packs w.word i))) ∙ c.in-P0.is) w.waits)
 
 pub pend-requires-clause-waits : goal.pend-requires-clause-waits
 pend-requires-clause-waits g c =
     let s = c.requires.waits.0 in
     let w = c.requires.waits.1 in
-    (s, (subst (λ q. Waits c.args.domain.now c.args.lock.index q Any s c.args.cpu.now (g.I.Irq.polls c.args.irq.now)) (sym (c.after_fast.ensures ∙ (λ i. after_fast (c.mode.ensures i) (c.word_met.ensures w.found w.packs w.word i))) ∙ c.in-P1.is) w.waits))
+    (s, (subst (λ q. Waits c.args.domain.now c.args.verb c.args.lock q Any s c.args.cpu.now (g.I.Irq.polls c.args.irq.now)) (sym (c.after_fast.ensures ∙ (λ i. after_fast (c.mode.ensures i) (c.word_met.ensures w.found w.packs w.word i))) ∙ c.in-P1.is) w.waits))
 
 pub returns-in-P1-clause-taken : goal.returns-in-P1-clause-taken
 returns-in-P1-clause-taken g c s w =
-    c.pend.ensures.taken s (subst (λ q. Waits c.args.domain.now c.args.lock.index q Any s c.args.cpu.now (g.I.Irq.polls c.args.irq.now)) (sym (c.after_fast.ensures ∙ (λ i. after_fast (c.mode.ensures i) (c.word_met.ensures w.found w.packs w.word i))) ∙ c.in-P1.is) w.waits)
+    c.pend.ensures.taken s (subst (λ q. Waits c.args.domain.now c.args.verb c.args.lock q Any s c.args.cpu.now (g.I.Irq.polls c.args.irq.now)) (sym (c.after_fast.ensures ∙ (λ i. after_fast (c.mode.ensures i) (c.word_met.ensures w.found w.packs w.word i))) ∙ c.in-P1.is) w.waits)
 
 pub slow-requires : goal.slow-requires
 slow-requires g c =
@@ -46,15 +46,14 @@ slow-requires g c =
     let w = c.requires.waits.1 in
     record {
       domain = c.requires.domain;
-      mode = c.requires.mode;
       lock = c.requires.lock;
-      plain = c.requires.plain;
-      waits = (s, (subst (λ q. Waits c.args.domain.now c.args.lock.index q Any s c.args.cpu.now (g.I.Irq.polls c.args.irq.now)) (sym (c.after_fast.ensures ∙ (λ i. after_fast (c.mode.ensures i) (c.word_met.ensures w.found w.packs w.word i))) ∙ (last_of_four c.after_fast.result (subst (λ q. (q ≡ V1) ⊎ (q ≡ P0) ⊎ (q ≡ P1) ⊎ (q ≡ G1)) (sym (c.after_fast.ensures ∙ (λ i. after_fast (c.mode.ensures i) (c.word_met.ensures w.found w.packs w.word i)))) (fast_place c.args.domain.now.plan.mode w.found)) c.in_default.not-V1 c.in_default.not-P0 c.in_default.not-P1)) w.waits));
+      queues = c.requires.queues;
+      waits = (s, (subst (λ q. Waits c.args.domain.now c.args.verb c.args.lock q Any s c.args.cpu.now (g.I.Irq.polls c.args.irq.now)) (sym (c.after_fast.ensures ∙ (λ i. after_fast (c.mode.ensures i) (c.word_met.ensures w.found w.packs w.word i))) ∙ (last_of_four c.after_fast.result (subst (λ q. (q ≡ V1) ⊎ (q ≡ P0) ⊎ (q ≡ P1) ⊎ (q ≡ G1)) (sym (c.after_fast.ensures ∙ (λ i. after_fast (c.mode.ensures i) (c.word_met.ensures w.found w.packs w.word i)))) (fast_place c.args.domain.now.plan.mode w.found)) c.in_default.not-V1 c.in_default.not-P0 c.in_default.not-P1)) w.waits));
     }
 
 pub returns-in_default : goal.returns-in_default
 returns-in_default g c =
     record {
       rest = c.slow.ensures.rest;
-      taken = λ s w. c.slow.ensures.taken s (subst (λ q. Waits c.args.domain.now c.args.lock.index q Any s c.args.cpu.now (g.I.Irq.polls c.args.irq.now)) (sym (c.after_fast.ensures ∙ (λ i. after_fast (c.mode.ensures i) (c.word_met.ensures w.found w.packs w.word i))) ∙ (last_of_four c.after_fast.result (subst (λ q. (q ≡ V1) ⊎ (q ≡ P0) ⊎ (q ≡ P1) ⊎ (q ≡ G1)) (sym (c.after_fast.ensures ∙ (λ i. after_fast (c.mode.ensures i) (c.word_met.ensures w.found w.packs w.word i)))) (fast_place c.args.domain.now.plan.mode w.found)) c.in_default.not-V1 c.in_default.not-P0 c.in_default.not-P1)) w.waits);
+      taken = λ s w. c.slow.ensures.taken s (subst (λ q. Waits c.args.domain.now c.args.verb c.args.lock q Any s c.args.cpu.now (g.I.Irq.polls c.args.irq.now)) (sym (c.after_fast.ensures ∙ (λ i. after_fast (c.mode.ensures i) (c.word_met.ensures w.found w.packs w.word i))) ∙ (last_of_four c.after_fast.result (subst (λ q. (q ≡ V1) ⊎ (q ≡ P0) ⊎ (q ≡ P1) ⊎ (q ≡ G1)) (sym (c.after_fast.ensures ∙ (λ i. after_fast (c.mode.ensures i) (c.word_met.ensures w.found w.packs w.word i)))) (fast_place c.args.domain.now.plan.mode w.found)) c.in_default.not-V1 c.in_default.not-P0 c.in_default.not-P1)) w.waits);
     }

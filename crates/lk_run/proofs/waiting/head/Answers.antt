@@ -15,7 +15,7 @@ pub next-next-requires-clause-waits : goal.next-next-requires-clause-waits
 next-next-requires-clause-waits g c =
     let s = c.requires.waits.0 in
     let w = c.requires.waits.1 in
-    (s, c.take_head.ensures.goes (g.I.Irq.polls c.args.irq.now) s (w))
+    (s, c.take_head.ensures.goes c.requires.mode (g.I.Irq.polls c.args.irq.now) s (w))
 
 pub hand_on-requires-clause-domain : goal.hand_on-requires-clause-domain
 hand_on-requires-clause-domain g c =
@@ -25,7 +25,7 @@ pub hand_on-requires-clause-waits : goal.hand_on-requires-clause-waits
 hand_on-requires-clause-waits g c =
     let s = c.requires.waits.0 in
     let w = c.requires.waits.1 in
-    (s.calls, (c.next-next.ensures.goes s (c.take_head.ensures.goes (g.I.Irq.polls c.args.irq.now) s (w))).looked.at)
+    (s.calls, (c.next-next.ensures.goes s (c.take_head.ensures.goes c.requires.mode (g.I.Irq.polls c.args.irq.now) s (w))).looked.at)
 
 pub returns-clause-rest : goal.returns-clause-rest
 returns-clause-rest g c =
@@ -33,4 +33,4 @@ returns-clause-rest g c =
 
 pub returns-clause-taken : goal.returns-clause-taken
 returns-clause-taken g c s w =
-    c.hand_on.ensures.taken (g.I.Irq.polls c.next-next.new.irq) s (c.next-next.ensures.goes s (c.take_head.ensures.goes (g.I.Irq.polls c.args.irq.now) s (w)))
+    c.hand_on.ensures.taken (g.I.Irq.polls c.next-next.new.irq) s (c.next-next.ensures.goes s (c.take_head.ensures.goes c.requires.mode (g.I.Irq.polls c.args.irq.now) s (w)))

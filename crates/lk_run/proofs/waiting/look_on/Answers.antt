@@ -19,7 +19,7 @@ pub pend-requires-clause-waits : goal.pend-requires-clause-waits
 pend-requires-clause-waits g c =
     let s = c.requires.waits.0 in
     let w = c.requires.waits.1 in
-    (s, (subst (λ q. Waits c.args.domain.now c.args.lock.index q Any s c.look_again.new.cpu (g.I.Irq.polls c.args.irq.now)) c.in-P1.is (c.look_again.ensures.goes (g.I.Irq.polls c.args.irq.now) s w)))
+    (s, (subst (λ q. Waits c.args.domain.now c.args.verb c.args.lock q Any s c.look_again.new.cpu (g.I.Irq.polls c.args.irq.now)) c.in-P1.is (c.look_again.ensures.goes (g.I.Irq.polls c.args.irq.now) s w)))
 
 pub returns-in-P1-clause-rest : goal.returns-in-P1-clause-rest
 returns-in-P1-clause-rest g c =
@@ -27,7 +27,7 @@ returns-in-P1-clause-rest g c =
 
 pub returns-in-P1-clause-taken : goal.returns-in-P1-clause-taken
 returns-in-P1-clause-taken g c s w =
-    c.pend.ensures.taken s (subst (λ q. Waits c.args.domain.now c.args.lock.index q Any s c.look_again.new.cpu (g.I.Irq.polls c.args.irq.now)) c.in-P1.is (c.look_again.ensures.goes (g.I.Irq.polls c.args.irq.now) s w))
+    c.pend.ensures.taken s (subst (λ q. Waits c.args.domain.now c.args.verb c.args.lock q Any s c.look_again.new.cpu (g.I.Irq.polls c.args.irq.now)) c.in-P1.is (c.look_again.ensures.goes (g.I.Irq.polls c.args.irq.now) s w))
 
 pub slow-requires : goal.slow-requires
 slow-requires g c =
@@ -35,15 +35,14 @@ slow-requires g c =
     let w = c.requires.waits.1 in
     record {
       domain = still_of c.args.domain.now c.args.cpu.now c.look_again.new.cpu c.look_again.ensures.rest c.requires.domain;
-      mode = c.requires.mode;
       lock = c.requires.lock;
-      plain = c.requires.plain;
-      waits = (s, (subst (λ q. Waits c.args.domain.now c.args.lock.index q Any s c.look_again.new.cpu (g.I.Irq.polls c.args.irq.now)) (last_of_two c.look_again.result c.look_again.ensures.place c.in_default.not-P1) (c.look_again.ensures.goes (g.I.Irq.polls c.args.irq.now) s w)));
+      queues = c.requires.queues;
+      waits = (s, (subst (λ q. Waits c.args.domain.now c.args.verb c.args.lock q Any s c.look_again.new.cpu (g.I.Irq.polls c.args.irq.now)) (last_of_two c.look_again.result c.look_again.ensures.place c.in_default.not-P1) (c.look_again.ensures.goes (g.I.Irq.polls c.args.irq.now) s w)));
     }
 
 pub returns-in_default : goal.returns-in_default
 returns-in_default g c =
     record {
       rest = rest_both c.args.cpu.now c.look_again.new.cpu c.slow.new.cpu c.look_again.ensures.rest c.slow.ensures.rest;
-      taken = λ s w. c.slow.ensures.taken s (subst (λ q. Waits c.args.domain.now c.args.lock.index q Any s c.look_again.new.cpu (g.I.Irq.polls c.args.irq.now)) (last_of_two c.look_again.result c.look_again.ensures.place c.in_default.not-P1) (c.look_again.ensures.goes (g.I.Irq.polls c.args.irq.now) s w));
+      taken = λ s w. c.slow.ensures.taken s (subst (λ q. Waits c.args.domain.now c.args.verb c.args.lock q Any s c.look_again.new.cpu (g.I.Irq.polls c.args.irq.now)) (last_of_two c.look_again.result c.look_again.ensures.place c.in_default.not-P1) (c.look_again.ensures.goes (g.I.Irq.polls c.args.irq.now) s w));
     }

@@ -1,0 +1,400 @@
+-- Where the rows of a front that chooses the next lead, by what they meet.
+use Rattle.std.proofs.Common.{◌≡◌, ℕ, ◌+◌, IfSome, Option, Some, None, Bool, true, false, inl, inr, refl, sym, ap, ◌∙◌, subst, List, [], ◌∷◌}
+use Rattle.std.proofs.lemmas.Bool.{cases_Bool}
+use Rattle.std.specs.Prelude.{if◌then◌else◌, ◌&&◌, not, is_some}
+use Rattle.lk_abs.specs.declared.names.Mode.{Mode}
+use Rattle.lk_word.specs.declared.spin_word.NodeName.{NodeName}
+use Rattle.lk_word.specs.declared.spin_word.Fields.{Fields}
+use Rattle.lk_machine.specs.declared.parts.Flag.{Flag}
+use Rattle.lk_machine.specs.declared.parts.Frame.{Frame}
+use Rattle.lk_machine.specs.declared.parts.Pc.{Pc}
+use Rattle.lk_machine.specs.declared.parts.Pc.TheVariants.{C1, C2, C3, C4, C5, C6, C7, C8, C9, C10}
+use Rattle.lk_machine.specs.declared.parts.Why.{Why}
+use Rattle.lk_machine.specs.declared.parts.Why.TheVariants as why
+use Rattle.lk_machine.specs.Moves.{is_node, node_of}
+use Rattle.lk_machine.specs.Row.{learns_all, A, B, K, T, Reason, Y, Second}
+use Rattle.lk_machine.specs.rows.Cna.{Sight, may_stay, search_first, search_on, after_tail, is_held, is_last, flag_for}
+use Rattle.lk_machine.specs.TopRow.{target}
+use Rattle.lk_law.specs.Leads.{Met, Word, Number, Flagged, Named, Course, course_of}
+use Rattle.lk_law.specs.Steps.{led}
+use Rattle.lk_law.proofs.common.Puts.{if-false}
+use Rattle.lk_domain.specs.Calls.{course, grip_of, Unchanged}
+use Rattle.lk_domain.specs.NodePlays.{IsFlagNode}
+use Rattle.lk_domain.specs.Words.{IsNode}
+use Rattle.lk_domain.specs.declared.plan.Plan.{Plan}
+use Rattle.lk_run.specs.Choices.{first_by, over_by, more_by, met_by, IsFirstNode, IsMoreNode}
+use Rattle.lk_run.specs.Frames.{Fronts, Precedes, Skips, Appends, Ties, Parts, Flushes, Returns, Promotes, Promoting}
+use Rattle.lk_run.specs.declared.seen.First.{First}
+use Rattle.lk_run.specs.declared.seen.First.TheVariants as first
+use Rattle.lk_run.specs.declared.seen.More.{More}
+use Rattle.lk_run.specs.declared.seen.More.TheVariants as more
+use Rattle.lk_run.proofs.Ways.{Leads, Ends}
+
+-- the course by what is seen behind the front
+abbrev told_first : First → Course
+told_first first.Waits = course_of {A = Option NodeName} (learns_all C1 (K 0 ∷ []))
+told_first (first.Promotes m) = course_of {A = Option NodeName} (learns_all C3 (K 0 ∷ Reason why.Promotion ∷ []))
+told_first (first.Chooses n) = course_of {A = Option NodeName} (learns_all C7 (K 0 ∷ Y (Some n) ∷ []))
+told_first (first.Skips n) = course_of {A = Option NodeName} (learns_all C2 (K 1 ∷ A (Some n) ∷ B (Some n) ∷ []))
+told_first (first.Flushes m n) = course_of {A = Option NodeName} (learns_all C3 (K 0 ∷ A (Some n) ∷ Reason why.Flush ∷ []))
+
+first_course : (s : Sight) (second x : Option NodeName)
+    → course_of (search_first s second x) ≡ told_first (first_by s second x)
+first_course s None None = refl
+first_course s (Some m) None = refl
+first_course s None (Some n) =
+    elim (cases_Bool (may_stay s)) [
+      | inl a ↦ elim (cases_Bool (s.local n)) [ inl b ↦ rw (a, b) refl | inr b ↦ rw (a, b) refl ]
+      | inr a ↦ rw a refl
+    ]
+first_course s (Some m) (Some n) =
+    elim (cases_Bool (may_stay s)) [
+      | inl a ↦ elim (cases_Bool (s.local n)) [ inl b ↦ rw (a, b) refl | inr b ↦ rw (a, b) refl ]
+      | inr a ↦ rw a refl
+    ]
+
+-- who is named as the first of the second queue is that
+over_named : (a b : Bool) (second : Option NodeName) (n m k : NodeName)
+    → (if a then (if b then first.Chooses n else first.Skips n) else over_by second n) ≡ first.Flushes m k → second ≡ Some m
+over_named true true second n m k e = absurd (cc e)
+over_named true false second n m k e = absurd (cc e)
+over_named false b None n m k e = absurd (cc e)
+over_named false b (Some j) n m k e = (let q : j ≡ m = cc e in ap (λ z. Some z) q)
+
+none_named : (a b : Bool) (second : Option NodeName) (n m : NodeName)
+    → (if a then (if b then first.Chooses n else first.Skips n) else over_by second n) ≡ first.Promotes m → ⊥
+none_named true true second n m e = cc e
+none_named true false second n m e = cc e
+none_named false b None n m e = cc e
+none_named false b (Some j) n m e = cc e
+
+pub promotes_named : (s : Sight) (second x : Option NodeName) (m : NodeName) → first_by s second x ≡ first.Promotes m
+    → second ≡ Some m
+promotes_named s None None m e = absurd (cc e)
+promotes_named s (Some j) None m e = (let q : j ≡ m = cc e in ap (λ z. Some z) q)
+promotes_named s None (Some n) m e = absurd (none_named (may_stay s) (s.local n) None n m e)
+promotes_named s (Some j) (Some n) m e = absurd (none_named (may_stay s) (s.local n) (Some j) n m e)
+
+flushes_named : (s : Sight) (second x : Option NodeName) (m k : NodeName) → first_by s second x ≡ first.Flushes m k
+    → second ≡ Some m
+flushes_named s None None m k e = absurd (cc e)
+flushes_named s (Some j) None m k e = absurd (cc e)
+flushes_named s None (Some n) m k e = over_named (may_stay s) (s.local n) None n m k e
+flushes_named s (Some j) (Some n) m k e = over_named (may_stay s) (s.local n) (Some j) n m k e
+
+-- the course by what is seen behind those that were passed over
+abbrev told_more : Frame → More → Course
+told_more f (more.Skips n) = course_of {A = Option NodeName} (learns_all C2 (B (Some n) ∷ K (f.k + 1) ∷ []))
+told_more f (more.Appends m n) = course_of {A = Option NodeName} (learns_all C3 (Y (Some n) ∷ Reason why.Append ∷ []))
+told_more f (more.Begins n) = course_of {A = Option NodeName} (learns_all C5 (Y (Some n) ∷ Second f.a ∷ []))
+told_more f (more.Flushes m) = course_of {A = Option NodeName} (learns_all C3 (K 0 ∷ Reason why.Flush ∷ []))
+told_more f more.Chooses = course_of {A = Option NodeName} (learns_all C7 (K 0 ∷ Y f.a ∷ []))
+
+more_course : (s : Sight) (f : Frame) (second x : Option NodeName) → f.second ≡ second
+    → course_of (search_on s f x) ≡ told_more f (more_by s second x)
+more_course s f None None e = rw e refl
+more_course s f (Some m) None e = rw e refl
+more_course s f None (Some n) e =
+    elim (cases_Bool (s.local n)) [ inl b ↦ rw (b, e) refl | inr b ↦ rw b refl ]
+more_course s f (Some m) (Some n) e =
+    elim (cases_Bool (s.local n)) [ inl b ↦ rw (b, e) refl | inr b ↦ rw b refl ]
+
+met_named : (b : Bool) (second : Option NodeName) (n m y : NodeName)
+    → (if b then met_by second n else more.Skips n) ≡ more.Appends m y → second ≡ Some m
+met_named true None n m y e = absurd (cc e)
+met_named true (Some j) n m y e = (let q : j ≡ m = cc e in ap (λ z. Some z) q)
+met_named false second n m y e = absurd (cc e)
+
+met_flushes : (b : Bool) (second : Option NodeName) (n m : NodeName)
+    → (if b then met_by second n else more.Skips n) ≡ more.Flushes m → ⊥
+met_flushes true None n m e = cc e
+met_flushes true (Some j) n m e = cc e
+met_flushes false second n m e = cc e
+
+met_chooses : (b : Bool) (second : Option NodeName) (n : NodeName)
+    → (if b then met_by second n else more.Skips n) ≡ more.Chooses → ⊥
+met_chooses true None n e = cc e
+met_chooses true (Some j) n e = cc e
+met_chooses false second n e = cc e
+
+appends_named : (s : Sight) (second x : Option NodeName) (m y : NodeName) → more_by s second x ≡ more.Appends m y → second ≡ Some m
+appends_named s None None m y e = absurd (cc e)
+appends_named s (Some j) None m y e = absurd (cc e)
+appends_named s None (Some n) m y e = met_named (s.local n) None n m y e
+appends_named s (Some j) (Some n) m y e = met_named (s.local n) (Some j) n m y e
+
+more_flushes_named : (s : Sight) (second x : Option NodeName) (m : NodeName) → more_by s second x ≡ more.Flushes m → second ≡ Some m
+more_flushes_named s None None m e = absurd (cc e)
+more_flushes_named s (Some j) None m e = (let q : j ≡ m = cc e in ap (λ z. Some z) q)
+more_flushes_named s None (Some n) m e = absurd (met_flushes (s.local n) None n m e)
+more_flushes_named s (Some j) (Some n) m e = absurd (met_flushes (s.local n) (Some j) n m e)
+
+first_is : (z : Sight) (f : Frame) (second x : Option NodeName) → f.second ≡ second → (v : First)
+    → first_by z second x ≡ v → course_of (search_first z f.second x) ≡ told_first v
+first_is z f second x is v e =
+    ap (λ (o : Option NodeName). course_of (search_first z o x)) is ∙ (first_course z second x ∙ ap told_first e)
+
+more_is : (z : Sight) (f : Frame) (second x : Option NodeName) → f.second ≡ second → (v : More)
+    → more_by z second x ≡ v → course_of (search_on z f x) ≡ told_more f v
+more_is z f second x is v e = more_course z f second x is ∙ ap (told_more f) e
+
+-- whether the front is the last of the main queue
+last_by : (f : Frame) (y : Fields) (own : NodeName) → f.me ≡ Some own → (b : Bool)
+    → (is_held y.locked && not y.pending && is_node y.tail own) ≡ b → is_last f y ≡ b
+last_by f y own me b e = (λ i. is_held y.locked && not y.pending && is_node y.tail (node_of (me i))) ∙ e
+
+-- where the last of the second queue was looked for
+tail_is : (f : Frame) (t : NodeName) (w : Why) → f.why ≡ w
+    → course_of {A = Option NodeName} (learns_all (after_tail f.why) (T (Some t) ∷ []))
+    ≡ course_of {A = Option NodeName} (learns_all (after_tail w) (T (Some t) ∷ []))
+tail_is f t w e = ap (λ (y : Why). course_of {A = Option NodeName} (learns_all (after_tail y) (T (Some t) ∷ []))) e
+
+module _ (mode : Mode) (p : ℕ) {z : Sight} (f : Frame) where
+  -- a row whose course is known
+  by_course : (c : Pc) (x : Met) (o : Course) (e : Pc) (Q : Frame → Type 0) → course mode p z c f x ≡ o
+      → (led f o.leads).place ≡ Some e → grip_of (target c f) o ≡ Unchanged → (led f o.leads).lock ≡ f.lock
+      → (led f o.leads).then ≡ f.then → Q (led f o.leads) → Leads mode p z c f x e Q
+  by_course c x o e Q is place grip lock after has =
+      record {
+        place = ap (λ (y : Course). (led f y.leads).place) is ∙ place;
+        grip = ap (λ (y : Course). grip_of (target c f) y) is ∙ grip;
+        lock = ap (λ (y : Course). (led f y.leads).lock) is ∙ lock;
+        after = ap (λ (y : Course). (led f y.leads).then) is ∙ after;
+        has = subst (λ (y : Course). Q (led f y.leads)) (sym is) has;
+      }
+
+  -- C1
+  module _ (own : NodeName) (second x : Option NodeName) (has : Fronts own second f) where
+    pub first_waits : first_by z second x ≡ first.Waits → Leads mode p z C1 f (Named x) C1 (Fronts own second)
+    first_waits e =
+        by_course C1 (Named x) (told_first first.Waits) C1 (Fronts own second) (first_is z f second x has.second first.Waits e) refl refl refl refl
+        (record { me = has.me; second = has.second })
+
+    pub first_promotes : (m : NodeName) → first_by z second x ≡ first.Promotes m
+        → Leads mode p z C1 f (Named x) C3 (Promotes own m)
+    first_promotes m e =
+        by_course C1 (Named x) (told_first (first.Promotes m)) C3 (Promotes own m) (first_is z f second x has.second (first.Promotes m) e) refl refl refl refl
+        (record { fronts = record { me = has.me; second = has.second ∙ promotes_named z second x m e }; why_is = refl })
+
+    pub first_chooses : (y : NodeName) → first_by z second x ≡ first.Chooses y
+        → Leads mode p z C1 f (Named x) C7 (Precedes own second y)
+    first_chooses y e =
+        by_course C1 (Named x) (told_first (first.Chooses y)) C7 (Precedes own second y) (first_is z f second x has.second (first.Chooses y) e) refl refl refl refl
+        (record { fronts = record { me = has.me; second = has.second }; next = refl })
+
+    pub first_skips : (a : NodeName) → first_by z second x ≡ first.Skips a
+        → Leads mode p z C1 f (Named x) C2 (Skips own second a a)
+    first_skips a e =
+        by_course C1 (Named x) (told_first (first.Skips a)) C2 (Skips own second a a) (first_is z f second x has.second (first.Skips a) e) refl refl refl refl
+        (record { fronts = record { me = has.me; second = has.second }; first = refl; last = refl })
+
+    pub first_flushes : (m a : NodeName) → first_by z second x ≡ first.Flushes m a
+        → Leads mode p z C1 f (Named x) C3 (Flushes own m a)
+    first_flushes m a e =
+        by_course C1 (Named x) (told_first (first.Flushes m a)) C3 (Flushes own m a) (first_is z f second x has.second (first.Flushes m a) e) refl refl refl refl
+        (record {
+          fronts = record { me = has.me; second = has.second ∙ flushes_named z second x m a e };
+          a_is = refl;
+          why_is = refl;
+        })
+
+  -- C2
+  module _ (own : NodeName) (second x : Option NodeName) (a b : NodeName) (has : Skips own second a b f) where
+    pub more_skips : (n : NodeName) → more_by z second x ≡ more.Skips n
+        → Leads mode p z C2 f (Named x) C2 (Skips own second a n)
+    more_skips n e =
+        by_course C2 (Named x) (told_more f (more.Skips n)) C2 (Skips own second a n) (more_is z f second x has.fronts.second (more.Skips n) e) refl refl refl refl
+        (record { fronts = record { me = has.fronts.me; second = has.fronts.second }; first = has.first; last = refl })
+
+    pub more_appends : (m y : NodeName) → more_by z second x ≡ more.Appends m y
+        → Leads mode p z C2 f (Named x) C3 (Appends own m a b y)
+    more_appends m y e =
+        by_course C2 (Named x) (told_more f (more.Appends m y)) C3 (Appends own m a b y) (more_is z f second x has.fronts.second (more.Appends m y) e) refl refl refl refl
+        (record {
+          skips = record {
+            fronts = record { me = has.fronts.me; second = has.fronts.second ∙ appends_named z second x m y e };
+            first = has.first;
+            last = has.last;
+          };
+          next = refl;
+          why_is = refl;
+        })
+
+    pub more_begins : (y : NodeName) → more_by z second x ≡ more.Begins y
+        → Leads mode p z C2 f (Named x) C5 (Parts own a b y)
+    more_begins y e =
+        by_course C2 (Named x) (told_more f (more.Begins y)) C5 (Parts own a b y) (more_is z f second x has.fronts.second (more.Begins y) e) refl refl refl refl
+        (record { fronts = record { me = has.fronts.me; second = has.first }; last = has.last; next = refl })
+
+    pub more_flushes : (m : NodeName) → more_by z second x ≡ more.Flushes m
+        → Leads mode p z C2 f (Named x) C3 (Flushes own m a)
+    more_flushes m e =
+        by_course C2 (Named x) (told_more f (more.Flushes m)) C3 (Flushes own m a) (more_is z f second x has.fronts.second (more.Flushes m) e) refl refl refl refl
+        (record {
+          fronts = record { me = has.fronts.me; second = has.fronts.second ∙ more_flushes_named z second x m e };
+          a_is = has.first;
+          why_is = refl;
+        })
+
+    pub more_chooses : more_by z second x ≡ more.Chooses → Leads mode p z C2 f (Named x) C7 (Precedes own second a)
+    more_chooses e =
+        by_course C2 (Named x) (told_more f more.Chooses) C7 (Precedes own second a) (more_is z f second x has.fronts.second more.Chooses e) refl refl refl refl
+        (record { fronts = record { me = has.fronts.me; second = has.fronts.second }; next = has.first })
+
+  -- C3
+  pub appends_tail : (own m a b y t : NodeName) → Appends own m a b y f
+      → Leads mode p z C3 f (Named (Some t)) C4 (Ties own m a b y t)
+  appends_tail own m a b y t has =
+      by_course C3 (Named (Some t)) _ C4 (Ties own m a b y t) (tail_is f t why.Append has.why_is) refl refl refl refl
+      (record {
+        fronts = record { me = has.skips.fronts.me; second = has.skips.fronts.second };
+        a_is = has.skips.first;
+        b_is = has.skips.last;
+        next = has.next;
+        tail = refl;
+      })
+
+  pub flushes_tail : (own m a t : NodeName) → Flushes own m a f
+      → Leads mode p z C3 f (Named (Some t)) C9 (Returns own m a t)
+  flushes_tail own m a t has =
+      by_course C3 (Named (Some t)) _ C9 (Returns own m a t) (tail_is f t why.Flush has.why_is) refl refl refl refl
+      (record { fronts = record { me = has.fronts.me; second = has.fronts.second }; a_is = has.a_is; tail = refl })
+
+  pub promotes_tail : (own m t : NodeName) → Promotes own m f
+      → Leads mode p z C3 f (Named (Some t)) C10 (Promoting own m t)
+  promotes_tail own m t has =
+      by_course C3 (Named (Some t)) _ C10 (Promoting own m t) (tail_is f t why.Promotion has.why_is) refl refl refl refl
+      (record { fronts = record { me = has.fronts.me; second = has.fronts.second }; tail = refl })
+
+  -- C4
+  pub ties : (own m a b y t : NodeName) (x : Option NodeName) → Ties own m a b y t f
+      → Leads mode p z C4 f (Named x) C5 (Parts own m b y)
+  ties own m a b y t x has =
+      record {
+        place = refl;
+        grip = refl;
+        lock = refl;
+        after = refl;
+        has = record {
+          fronts = record { me = has.fronts.me; second = has.fronts.second };
+          last = has.b_is;
+          next = has.next;
+        };
+      }
+
+  -- C5
+  pub cuts : (own m b y : NodeName) (x : Option NodeName) → Parts own m b y f
+      → Leads mode p z C5 f (Named x) C6 (Parts own m b y)
+  cuts own m b y x has =
+      record {
+        place = refl;
+        grip = refl;
+        lock = refl;
+        after = refl;
+        has = record { fronts = record { me = has.fronts.me; second = has.fronts.second }; last = has.last; next = has.next };
+      }
+
+  -- C6
+  pub sets_tail : (own m b y : NodeName) (x : Option NodeName) → Parts own m b y f
+      → Leads mode p z C6 f (Named x) C7 (Precedes own (Some m) y)
+  sets_tail own m b y x has =
+      record {
+        place = refl;
+        grip = refl;
+        lock = refl;
+        after = refl;
+        has = record { fronts = record { me = has.fronts.me; second = has.fronts.second }; next = has.next };
+      }
+
+  -- C7
+  pub counts : (own : NodeName) (second : Option NodeName) (y : NodeName) (x : ℕ) → Precedes own second y f
+      → Leads mode p z C7 f (Number x) C8 (Precedes own second y)
+  counts own second y x has =
+      record {
+        place = refl;
+        grip = refl;
+        lock = refl;
+        after = refl;
+        has = record { fronts = record { me = has.fronts.me; second = has.fronts.second }; next = has.next };
+      }
+
+  -- C8
+  pub hands_chosen : (x : Flag) → Ends mode p z C8 f (Flagged x)
+  hands_chosen x = record { place = refl; grip = refl; own = refl; lock = refl; after = refl }
+
+  -- C9
+  pub returns : (own m a t : NodeName) (x : Option NodeName) → Returns own m a t f
+      → Leads mode p z C9 f (Named x) C7 (Precedes own None m)
+  returns own m a t x has =
+      record {
+        place = refl;
+        grip = refl;
+        lock = refl;
+        after = refl;
+        has = record { fronts = record { me = has.fronts.me; second = refl }; next = has.fronts.second };
+      }
+
+  -- C10
+  module _ (y : Fields) (own m t : NodeName) (has : Promoting own m t f) where
+    pub promoted : (is_held y.locked && not y.pending && is_node y.tail own) ≡ true
+        → Leads mode p z C10 f (Word y) C7 (Precedes own None m)
+    promoted e =
+        record {
+          place = rw (last_by f y own has.fronts.me true e) refl;
+          grip = rw (last_by f y own has.fronts.me true e) refl;
+          lock = rw (last_by f y own has.fronts.me true e) refl;
+          after = rw (last_by f y own has.fronts.me true e) refl;
+          has = record {
+            fronts = record { me = rw (last_by f y own has.fronts.me true e) has.fronts.me; second = rw (last_by f y own has.fronts.me true e) refl };
+            next = rw (last_by f y own has.fronts.me true e) has.fronts.second;
+          };
+        }
+
+    pub not_promoted : (is_held y.locked && not y.pending && is_node y.tail own) ≡ false
+        → Leads mode p z C10 f (Word y) C1 (Fronts own (Some m))
+    not_promoted e =
+        record {
+          place = rw (last_by f y own has.fronts.me false e) refl;
+          grip = rw (last_by f y own has.fronts.me false e) refl;
+          lock = rw (last_by f y own has.fronts.me false e) refl;
+          after = rw (last_by f y own has.fronts.me false e) refl;
+          has = record { me = rw (last_by f y own has.fronts.me false e) has.fronts.me; second = rw (last_by f y own has.fronts.me false e) has.fronts.second };
+        }
+
+-- the nodes that are named are those of the plan
+
+pub first_node : (k : Plan) (s : Sight) (second x : Option NodeName) → IfSome second (IsNode k) → IfSome x (IsNode k)
+    → IsFirstNode k (first_by s second x)
+first_node k s None None h g = tt
+first_node k s (Some m) None h g = h
+first_node k s None (Some n) h g = by (may_stay s) (s.local n)
+  where
+    by : (a b : Bool) → IsFirstNode k (if a then (if b then first.Chooses n else first.Skips n) else over_by None n)
+    by true true = g
+    by true false = g
+    by false b = g
+first_node k s (Some m) (Some n) h g = by (may_stay s) (s.local n)
+  where
+    by : (a b : Bool) → IsFirstNode k (if a then (if b then first.Chooses n else first.Skips n) else over_by (Some m) n)
+    by true true = g
+    by true false = g
+    by false b = (h, g)
+
+pub more_node : (k : Plan) (s : Sight) (second x : Option NodeName) → IfSome second (IsNode k) → IfSome x (IsNode k)
+    → IsMoreNode k (more_by s second x)
+more_node k s None None h g = tt
+more_node k s (Some m) None h g = h
+more_node k s None (Some n) h g = by (s.local n)
+  where
+    by : (b : Bool) → IsMoreNode k (if b then met_by None n else more.Skips n)
+    by true = g
+    by false = g
+more_node k s (Some m) (Some n) h g = by (s.local n)
+  where
+    by : (b : Bool) → IsMoreNode k (if b then met_by (Some m) n else more.Skips n)
+    by true = (h, g)
+    by false = g
+
+pub flag_node : (k : Plan) (o : Option NodeName) → IfSome o (IsNode k) → IsFlagNode k (flag_for o)
+flag_node k None h = tt
+flag_node k (Some n) h = h

@@ -1,0 +1,139 @@
+-- What a step of a processor does to a call of a reader or a writer.
+use Rattle.std.proofs.Common.{◌≡◌, ℕ, ◌+◌, ◌<◌, List, [], ◌∷◌, ◌++◌, length, Option, Some, None, Bool, true, false, eqb, refl, sym, ap, ◌∙◌, subst, arith}
+use Rattle.std.proofs.Common.{◌||◌}
+use Rattle.lk_abs.specs.declared.holder.Manner.{Manner}
+use Rattle.lk_abs.specs.declared.names.LockName.{LockName}
+use Rattle.lk_abs.specs.declared.names.Mode.{Mode}
+use Rattle.lk_word.specs.declared.spin_word.Fields.{Fields}
+use Rattle.lk_machine.specs.Moves.{wait_name}
+use Rattle.lk_machine.specs.declared.parts.Frame.{Frame}
+use Rattle.lk_machine.specs.declared.parts.Pc.{Pc}
+use Rattle.lk_machine.specs.declared.parts.Pc.TheVariants.{F1, U1}
+use Rattle.lk_machine.specs.declared.setup.Verb.{Verb}
+use Rattle.lk_machine.specs.TopRow.{target}
+use Rattle.lk_law.specs.Leads.{Met, held_lock}
+use Rattle.lk_law.specs.Sound.{after_wait, takes_wait}
+use Rattle.lk_domain.specs.Calls.{terms_of, sight_of, Mark, mark, running, Calls, lock_name, begun, row_of, Unchanged, Takes, Frees}
+use Rattle.lk_domain.specs.Ledgers.{turned}
+use Rattle.lk_domain.specs.Paths.{next_frame, row_grip, HasLooked, Any, Passes, is_busy}
+use Rattle.lk_domain.specs.Plays.{rowed}
+use Rattle.lk_domain.specs.Seats.{IsOf, KeepsRest, calls_of, ledger_of, view_of}
+use Rattle.lk_domain.specs.declared.cpu.Cpu.{Cpu}
+use Rattle.lk_domain.specs.declared.domain.Domain.{Domain}
+use Rattle.lk_run.specs.Entering.{HasEntered}
+use Rattle.lk_run.specs.Polls.{Rises, NeverFalls, HasStayed}
+use Rattle.lk_run.specs.Phases.{Start, newest, Waits, WaitsAs, CameIn, HasPassed, Passed}
+use Rattle.lk_run.specs.Standing.{Outside, Inside, Entered, IsOn}
+use Rattle.lk_run.proofs.RwRows.{TakesBy, SetsOut, FreesIt}
+use Rattle.lk_run.proofs.Standing as path
+use Rattle.lk_run.proofs.Polls.{stays_before}
+use Rattle.lk_run.proofs.Steps.{looked}
+use Rattle.lk_run.proofs.Ways as way
+
+-- the lock that a frame acts on is the one of its operation
+own_name : (f : Frame) (n : LockName) → f.lock ≡ n → lock_name f.lock.index ≡ lock_name n.index
+own_name f n e = ap (λ (z : LockName). lock_name z.index) e
+
+-- a call that has no lock yet
+module _ (d : Domain) (v : Verb) (n : LockName) (a b : Cpu) (rest : KeepsRest a b) (of : IsOf a d) (was : Calls) (x : Met)
+    (step : view_of b ≡ rowed (view_of a) was x) (c : Pc) (P : Frame → Type 0) (s : Start)
+    (at : IsOn (terms_of d.plan) b.number v n c P Outside s.calls was) (told : Option ℕ)
+    (passes : Passes ((eqb n.index 0) || is_busy s.calls) s.ledger (ledger_of a)) (falls : NeverFalls s.told told)
+    (rises : (y : Met) → HasStayed (newest was.frames ++ mark c y ∷ []) → Rises s.told told) where
+  abbrev mode : Mode
+  mode = d.plan.mode
+
+  -- it enters its lock, and is over
+  pub enters : (m : Manner) → TakesBy mode b.number (sight_of (terms_of d.plan) b.number was.runs) c at.frame x m None → CameIn d v n.index m s b told
+  enters m takes =
+      let own = takes.own ∙ own_name at.frame n at.lock in
+      let last = way.last_is d v n a b rest of was x step c P Outside s.calls at takes.place in
+      let turns =
+      way.turns d v n a b rest of was x step c P Outside s.calls at
+      ∙ ((λ i. turned (ledger_of a) (own i) (takes.grip i) (at.trail ++ mark c x ∷ []))
+      ∙ ap (λ ms. turned (ledger_of a) (lock_name n.index) (Takes m) ms) (sym last)) in
+      record {
+        upto = (calls_of b).last;
+        entered = subst (λ (z : Calls). HasEntered (terms_of d.plan) b.number v n.index m z.last s.calls z)
+            (sym (way.calls d v n a b rest of was x step c P Outside s.calls at))
+            (path.enters_at_once at x m takes.grip takes.place own);
+        look = looked n.index m s.calls (calls_of b).last s.ledger (ledger_of a) (ledger_of b) passes turns;
+        polled = record {
+          falls = falls;
+          rises = way.polls_over d v n a b rest of was x step c P Outside s at told passes falls rises last;
+        };
+      }
+
+-- it goes to take the wait lock
+module _ (d : Domain) (v : Verb) (l : ℕ) (a b : Cpu) (rest : KeepsRest a b) (of : IsOf a d) (was : Calls) (x : Met)
+    (step : view_of b ≡ rowed (view_of a) was x) (c : Pc) (P : Frame → Type 0) (s : Start)
+    (at : IsOn (terms_of d.plan) b.number v (lock_name l) c P Outside s.calls was) (told : Option ℕ)
+    (passes : Passes ((eqb l 0) || is_busy s.calls) s.ledger (ledger_of a)) (falls : NeverFalls s.told told)
+    (rises : (y : Met) → HasStayed (newest was.frames ++ mark c y ∷ []) → Rises s.told told) where
+  pub sets_out : (e : Pc) → SetsOut d.plan.mode b.number (sight_of (terms_of d.plan) b.number was.runs) c at.frame x e → Some e ≡ after_wait v → (F1 ≡ c → ⊥)
+      → Waits d v (wait_name l) F1 Any s b told
+  sets_out e out next other =
+      record {
+        looked = record {
+          at = subst (IsOn (terms_of d.plan) b.number v (wait_name l) F1 Any Outside s.calls)
+              (sym (way.calls d v (lock_name l) a b rest of was x step c P Outside s.calls at))
+              (path.queues at x e out.frame out.grip next);
+          passes = way.passed d v (lock_name l) a b rest of was x step c P Outside s at told passes falls rises out.grip;
+          falls = falls;
+        };
+        rises = way.polls d v (lock_name l) a b rest of was x step c P Outside s at told passes falls rises F1 other
+            (ap (λ (g : Frame). g.place) out.frame);
+      }
+
+-- a call that has the wait lock enters its lock
+module _ (d : Domain) (v : Verb) (l : ℕ) (a b : Cpu) (rest : KeepsRest a b) (of : IsOf a d) (x : Met)
+    (step : view_of b ≡ rowed (view_of a) (calls_of a) x) (c : Pc) (s : Start) (told : Option ℕ)
+    (w : WaitsAs Inside d v (wait_name l) c Any s a told) where
+  pub here : IsOn (terms_of d.plan) b.number v (wait_name l) c Any Inside s.calls (calls_of a)
+  here = subst (λ (m : ℕ). IsOn (terms_of d.plan) m v (wait_name l) c Any Inside s.calls (calls_of a)) (sym rest.same.number) w.looked.at
+
+  pub passes : (m : Manner) → TakesBy d.plan.mode b.number (way.sees d a b) c here.frame x m (Some U1) → (U1 ≡ c → ⊥) → Passed d v l m s b told
+  passes m takes other =
+      let at = here in
+      let out = row_of (terms_of d.plan) b.number (calls_of a) x in
+      let own = takes.own ∙ own_name at.frame (wait_name l) at.lock in
+      let turns =
+      way.turns d v (wait_name l) a b rest of (calls_of a) x step c Any Inside s.calls at
+      ∙ (λ i. turned (ledger_of a) (own i) (takes.grip i) (at.trail ++ mark c x ∷ [])) in
+      let count = path.count_is at x m takes.grip in
+      let least = at.taken in
+      let before = way.before d v (wait_name l) a b rest of (calls_of a) x step c Any Inside s.calls at in
+      subst (λ (z : Calls). HasPassed (terms_of d.plan) b.number v l m s z (ledger_of b) told)
+      (sym (way.calls d v (wait_name l) a b rest of (calls_of a) x step c Any Inside s.calls at)) (record {
+        at = path.enters at x m takes.place takes.grip own takes.lock takes.after;
+        takes = path.path_to at x m takes.grip;
+        taken = omega (arith, count, least);
+        look = looked l m s.calls (at.trail ++ mark c x ∷ []) s.ledger (ledger_of a) (ledger_of b) w.looked.passes turns;
+        falls = w.looked.falls;
+        rises = λ y h. w.rises x (subst (λ t. HasStayed (t ++ mark c x ∷ [])) (sym before)
+            (stays_before at.trail (mark c x) (mark U1 y) other h));
+      })
+
+-- and frees the wait lock
+module _ (d : Domain) (v : Verb) (l : ℕ) (m : Manner) (a b : Cpu) (rest : KeepsRest a b) (of : IsOf a d) (x : Met)
+    (step : view_of b ≡ rowed (view_of a) (calls_of a) x) (s : Start) (told : Option ℕ) (w : Passed d v l m s a told)
+    (waits : takes_wait v ≡ true) where
+  pub gone : HasPassed (terms_of d.plan) b.number v l m s (calls_of a) (ledger_of a) told
+  gone = subst (λ (p : ℕ). HasPassed (terms_of d.plan) p v l m s (calls_of a) (ledger_of a) told) (sym rest.same.number) w
+
+  pub ends : FreesIt d.plan.mode b.number (way.sees d a b) U1 gone.at.frame x → CameIn d v l m s b told
+  ends free =
+      let at = gone.at in
+      let same : ledger_of b ≡ ledger_of a =
+      way.turns d v (wait_name l) a b rest of (calls_of a) x step U1 Any (Entered m) s.calls at
+      ∙ ((λ i. turned (ledger_of a) ((free.own ∙ at.lock) i) (free.grip i) (at.trail ++ mark U1 x ∷ []))
+      ∙ way.wait_turned (ledger_of a) (wait_name l) Frees (at.trail ++ mark U1 x ∷ []) refl) in
+      let last = way.last_is d v (wait_name l) a b rest of (calls_of a) x step U1 Any (Entered m) s.calls at free.place in
+      record {
+        upto = at.trail;
+        entered = subst (λ (z : Calls). HasEntered (terms_of d.plan) b.number v l m at.trail s.calls z)
+            (sym (way.calls d v (wait_name l) a b rest of (calls_of a) x step U1 Any (Entered m) s.calls at))
+            (path.leaves at x refl free.place free.grip free.own waits gone.takes gone.taken);
+        look = subst (λ g. HasLooked l m s.calls at.trail s.ledger g) (sym same) gone.look;
+        polled = record { falls = gone.falls; rises = λ h. gone.rises x (subst HasStayed last h) };
+      }

@@ -1,0 +1,214 @@
+-- What a step of a processor does to a try of a reader or a writer, and to a release of one.
+use Rattle.std.proofs.Common.{◌≡◌, ℕ, ◌<◌, List, [], ◌∷◌, ◌++◌, length, Some, None, Bool, true, false, refl, sym, ap, ◌∙◌, subst}
+use Rattle.std.specs.Prelude.{if◌then◌else◌}
+use Rattle.lk_abs.specs.declared.holder.Manner.{Manner}
+use Rattle.lk_abs.specs.declared.holder.Manner.TheVariants.{Reads, Writes}
+use Rattle.lk_abs.specs.declared.names.Kind.TheVariants.{Rw}
+use Rattle.lk_abs.specs.declared.names.LockName.{LockName}
+use Rattle.lk_word.specs.declared.rw_word.RwFields.{RwFields}
+use Rattle.lk_machine.specs.Moves.{first_place}
+use Rattle.lk_machine.specs.declared.parts.Frame.{Frame}
+use Rattle.lk_machine.specs.declared.parts.Pc.{Pc}
+use Rattle.lk_machine.specs.declared.parts.Pc.TheVariants.{Y2, Y5, Z1, Z2}
+use Rattle.lk_machine.specs.declared.setup.Verb.{Verb}
+use Rattle.lk_machine.specs.declared.setup.Verb.TheVariants.{RUnlock, WUnlock, TryRead, TryWrite}
+use Rattle.lk_machine.specs.TopRow.{target}
+use Rattle.lk_law.specs.Leads.{Met, Shared, held_lock}
+use Rattle.lk_law.specs.Sound.{takes_wait}
+use Rattle.lk_domain.specs.Calls.{terms_of, sight_of, Terms, mark, Calls, begin, begun, acting, is_on, waits_in, holds_in, way_in, lock_name, row_of}
+use Rattle.lk_domain.specs.Calls.{Unchanged, Takes, Frees, are_calls}
+use Rattle.lk_domain.specs.Ledgers.{Ledger, turned}
+use Rattle.lk_domain.specs.Paths.{IsAt, HasTaken, HasMissed, Any, row_grip, next_frame}
+use Rattle.lk_domain.specs.Plans.{kind_at}
+use Rattle.lk_domain.specs.Plays.{rowed, turned_of}
+use Rattle.lk_domain.specs.RwPlays.{ActsFor, SharedBy}
+use Rattle.lk_domain.specs.RwRows.{joins_at, seizes_at}
+use Rattle.lk_domain.specs.Seats.{IsOf, KeepsRest, calls_of, ledger_of, view_of}
+use Rattle.lk_domain.specs.Views.{own_number}
+use Rattle.lk_domain.specs.Waits.{WaitsAt, Moves, Gains, Misses}
+use Rattle.lk_domain.specs.declared.cpu.Cpu.{Cpu}
+use Rattle.lk_domain.specs.declared.domain.Domain.{Domain}
+use Rattle.lk_domain.specs.declared.plan.Plan.{Plan}
+use Rattle.lk_domain.specs.declared.view.View.{View}
+use Rattle.lk_domain.proofs.Freed.{not_unlocking, released}
+use Rattle.lk_domain.proofs.Turned.{is_taking}
+use Rattle.lk_run.specs.Entering.{HasLeft, Leaves}
+use Rattle.lk_run.specs.Standing.{Outside, IsOn}
+use Rattle.lk_run.proofs.RwRows.{TakesBy, Fails}
+use Rattle.lk_run.proofs.RwSteps as rw
+use Rattle.lk_run.proofs.Standing as path
+use Rattle.lk_run.proofs.Stepped as step
+use Rattle.lk_run.proofs.Ways as way
+use Rattle.lk_run.proofs.Ways.{Leads}
+
+module _ (d : Domain) (v : Verb) (l : ℕ) (a b : Cpu) (rest : KeepsRest a b) (of : IsOf a d) (was : Calls) (x : Met)
+    (is : view_of b ≡ rowed (view_of a) was x) (c : Pc) (old : Calls)
+    (at : IsOn (terms_of d.plan) b.number v (lock_name l) c Any Outside old was) where
+  turns : ledger_of b ≡ turned (ledger_of a) (held_lock (target c at.frame) at.frame) (row_grip d.plan.mode b.number (sight_of (terms_of d.plan) b.number was.runs) c at.frame x) (at.trail ++ mark c x ∷ [])
+  turns = way.turns d v (lock_name l) a b rest of was x is c Any Outside old at
+
+  calls : calls_of b ≡ row_of (terms_of d.plan) b.number was x
+  calls = way.calls d v (lock_name l) a b rest of was x is c Any Outside old at
+
+  moves_at : (e : Pc) → Leads d.plan.mode b.number (sight_of (terms_of d.plan) b.number was.runs) c at.frame x e Any → Moves d v l e old a b
+  moves_at e leads =
+      record {
+        waits = path.at_of (subst (IsOn (terms_of d.plan) b.number v (lock_name l) e Any Outside old) (sym calls)
+            (path.goes at x e Any leads.place leads.grip leads.lock leads.after leads.has));
+        ledger = turns ∙ ap (λ y. turned (ledger_of a) (held_lock (target c at.frame) at.frame) y (at.trail ++ mark c x ∷ [])) leads.grip;
+      }
+
+  gains_at : (m : Manner) → TakesBy d.plan.mode b.number (sight_of (terms_of d.plan) b.number was.runs) c at.frame x m None → Gains d v l m old a b
+  gains_at m takes =
+      let own = takes.own ∙ ap (λ (z : LockName). lock_name z.index) at.lock in
+      let last = way.last_is d v (lock_name l) a b rest of was x is c Any Outside old at takes.place in
+      record {
+        taken = subst (λ (z : Calls). HasTaken (terms_of d.plan) b.number v l m old z) (sym calls) (path.takes at x m takes.grip takes.place own);
+        ledger = turns ∙ ((λ i. turned (ledger_of a) (own i) (takes.grip i) (at.trail ++ mark c x ∷ []))
+            ∙ ap (λ ms. turned (ledger_of a) (lock_name l) (Takes m) ms) (sym last));
+      }
+
+  misses_at : Fails d.plan.mode b.number (sight_of (terms_of d.plan) b.number was.runs) c at.frame x → Misses d v l old a b
+  misses_at fails =
+      record {
+        missed = subst (λ (z : Calls). HasMissed (terms_of d.plan) b.number v l old z) (sym calls) (path.misses at x fails.place fails.grip);
+        ledger = turns ∙ ap (λ y. turned (ledger_of a) (held_lock (target c at.frame) at.frame) y (at.trail ++ mark c x ∷ [])) fails.grip;
+      }
+
+-- a try that begins
+module _ (d : Domain) (v : Verb) (l : ℕ) (a b : Cpu) (rest : KeepsRest a b) (of : IsOf a d) (takes : is_taking v ≡ true)
+    (no : takes_wait v ≡ false) {met : ℕ} (made : SharedBy v l a.seat.me met b.seat.me) (none : waits_in (calls_of a).frames l ≡ false) where
+  abbrev row : Pc
+  row = first_place d.plan.mode v
+
+  first_is : view_of b ≡ rowed (view_of a) (begin d.plan.mode (calls_of a) v l) (Shared made.found)
+  first_is = step.first_shared d v (lock_name l) a b rest of made none
+
+  first_at : IsOn (terms_of d.plan) b.number v (lock_name l) row Any Outside (calls_of a) (begin d.plan.mode (calls_of a) v l)
+  first_at = path.starts (terms_of d.plan) b.number v l (calls_of a) takes (λ e. let z : true ≡ false = sym e ∙ no in absurd (cc z))
+
+  pub first_moves : (e : Pc) → ((f : Frame) → Leads d.plan.mode b.number (sight_of (terms_of d.plan) b.number None) row f (Shared made.found) e Any) → Moves d v l e (calls_of a) a b
+  first_moves e leads =
+      moves_at d v l a b rest of (begin d.plan.mode (calls_of a) v l) (Shared made.found) first_is row (calls_of a) first_at e (leads first_at.frame)
+
+  pub first_misses : ((f : Frame) → Fails d.plan.mode b.number (sight_of (terms_of d.plan) b.number None) row f (Shared made.found)) → Misses d v l (calls_of a) a b
+  first_misses fails =
+      misses_at d v l a b rest of (begin d.plan.mode (calls_of a) v l) (Shared made.found) first_is row (calls_of a) first_at (fails first_at.frame)
+
+-- one that goes on
+module _ (d : Domain) (v : Verb) (l : ℕ) (a b : Cpu) (rest : KeepsRest a b) (of : IsOf a d) (takes : is_taking v ≡ true)
+    (no : takes_wait v ≡ false) {met : ℕ} (made : SharedBy v l a.seat.me met b.seat.me) (c : Pc) (old : Calls)
+    (at : WaitsAt d v l c old a) where
+  on_at : IsOn (terms_of d.plan) b.number v (lock_name l) c Any Outside old (calls_of a)
+  on_at = subst (λ (m : ℕ). IsOn (terms_of d.plan) m v (lock_name l) c Any Outside old (calls_of a)) (sym rest.same.number) (path.on_of at no)
+
+  on_is : view_of b ≡ rowed (view_of a) (calls_of a) (Shared made.found)
+  on_is = step.on_shared d v (lock_name l) a b rest of made takes on_at
+
+  pub on_moves : (e : Pc) → ((f : Frame) → Leads d.plan.mode b.number (way.sees d a b) c f (Shared made.found) e Any) → Moves d v l e old a b
+  on_moves e leads = moves_at d v l a b rest of (calls_of a) (Shared made.found) on_is c old on_at e (leads on_at.frame)
+
+  pub on_gains : (m : Manner) → ((f : Frame) → TakesBy d.plan.mode b.number (way.sees d a b) c f (Shared made.found) m None) → Gains d v l m old a b
+  on_gains m takes = gains_at d v l a b rest of (calls_of a) (Shared made.found) on_is c old on_at m (takes on_at.frame)
+
+  pub on_misses : ((f : Frame) → Fails d.plan.mode b.number (way.sees d a b) c f (Shared made.found)) → Misses d v l old a b
+  on_misses fails = misses_at d v l a b rest of (calls_of a) (Shared made.found) on_is c old on_at (fails on_at.frame)
+
+-- a release, which begins and ends in one step
+
+-- of a reader or of the writer
+pub data Lets : Verb → Pc → Manner → Type 0 where
+  reader : Lets RUnlock Z1 Reads
+  writer : Lets WUnlock Z2 Writes
+
+pub acts_leaving : {v : Verb} {c : Pc} {m : Manner} → Lets v c m → (kind : Pc → Bool) → kind c ≡ true → (d : Domain) (l : ℕ) (a : Cpu)
+    → IsOf a d → length (calls_of a).frames < 6 → way_in (calls_of a).holds l ≡ Some m → kind_at d.plan l ≡ Rw
+    → ActsFor kind (view_of a) v l
+acts_leaving reader kind is d l a of few held rw =
+    record {
+      inside = false;
+      acts = record {
+        row = Z1;
+        is = is;
+        stands = record {
+          frame = begun (view_of a).who.plan.mode (length (calls_of a).frames) RUnlock l;
+          trail = [];
+          rest = (calls_of a).frames;
+          is = ap (λ b. (if b then calls_of a else begin (view_of a).who.plan.mode (calls_of a) RUnlock l).frames) (not_unlocking RUnlock refl (calls_of a).frames l a.apart);
+          place = refl;
+          lock = refl;
+        };
+        begins = λ _. (few, held, ap (λ (j : Plan). kind_at j l) of.plan ∙ rw);
+      };
+    }
+acts_leaving writer kind is d l a of few held rw =
+    record {
+      inside = false;
+      acts = record {
+        row = Z2;
+        is = is;
+        stands = record {
+          frame = begun (view_of a).who.plan.mode (length (calls_of a).frames) WUnlock l;
+          trail = [];
+          rest = (calls_of a).frames;
+          is = ap (λ b. (if b then calls_of a else begin (view_of a).who.plan.mode (calls_of a) WUnlock l).frames) (not_unlocking WUnlock refl (calls_of a).frames l a.apart);
+          place = refl;
+          lock = refl;
+        };
+        begins = λ _. (few, held, ap (λ (j : Plan). kind_at j l) of.plan ∙ rw);
+      };
+    }
+
+-- what the one row does
+abbrev After : Terms → ℕ → Calls → Verb → ℕ → RwFields → Calls
+After terms p old v l y = row_of terms p (begin terms.mode old v l) (Shared y)
+
+ends : {v : Verb} {c : Pc} {m : Manner} → Lets v c m → (terms : Terms) (p : ℕ) (old : Calls) (l : ℕ) (y : RwFields)
+    → HasLeft c l old (After terms p old v l y)
+ends reader terms p old l y =
+    record { word = y; trail = refl; frames = refl; holds = refl; none = released (length old.frames) l old.holds; taken = refl }
+ends writer terms p old l y =
+    record { word = y; trail = refl; frames = refl; holds = refl; none = released (length old.frames) l old.holds; taken = refl }
+
+closes : {v : Verb} {c : Pc} {m : Manner} → Lets v c m → (terms : Terms) (p : ℕ) (old : Calls) (l : ℕ) (y : RwFields) (g : Ledger)
+    → turned_of terms p (begin terms.mode old v l) (Shared y) g ≡ turned g (lock_name l) Frees (After terms p old v l y).last
+closes reader terms p old l y g = refl
+closes writer terms p old l y g = refl
+
+pub leaves : {v : Verb} {c : Pc} {m : Manner} → Lets v c m → (l : ℕ) (a b : Cpu) {met : ℕ}
+    → SharedBy v l a.seat.me met b.seat.me → Leaves c l a b
+leaves {v} {c} lets l a b made =
+    let terms = terms_of (view_of a).who.plan in
+    let mode = terms.mode in
+    let p = own_number (view_of a).who.number in
+    let acts : acting mode (calls_of a) v l ≡ begin mode (calls_of a) v l =
+    ap (λ t. if t then calls_of a else begin mode (calls_of a) v l) (unlocks lets l) in
+    let is : calls_of b ≡ After terms p (calls_of a) v l made.found =
+    (λ i. (made.seat i).0.calls) ∙ ap (λ z. row_of terms p z (Shared made.found)) acts in
+    record {
+      left = subst (λ (z : Calls). HasLeft c l (calls_of a) z) (sym is) (ends lets terms p (calls_of a) l made.found);
+      ledger = (λ i. (made.seat i).0.ledger)
+          ∙ (ap (λ (z : Calls). turned_of terms p z (Shared made.found) (ledger_of a)) acts
+          ∙ (closes lets terms p (calls_of a) l made.found (ledger_of a)
+          ∙ ap (λ (z : Calls). turned (ledger_of a) (lock_name l) Frees z.last) (sym is)));
+    }
+  where
+    unlocks : {v : Verb} {c : Pc} {m : Manner} → Lets v c m → (l : ℕ) → is_on (calls_of a).frames v l ≡ false
+    unlocks reader l = not_unlocking RUnlock refl (calls_of a).frames l a.apart
+    unlocks writer l = not_unlocking WUnlock refl (calls_of a).frames l a.apart
+
+-- what is asked of a try that goes on
+pub acts_try : (d : Domain) (v : Verb) (l : ℕ) (c : Pc) (a : Cpu) (old : Calls) → WaitsAt d v l c old a → takes_wait v ≡ false
+    → (kind : Pc → Bool) → kind c ≡ true → ActsFor kind (view_of a) v l
+acts_try d v l c a old at off kind is =
+    rw.acts_for d v (lock_name l) c Any Outside a (old, path.on_of at off) kind is
+
+-- it does not depend on what waits
+
+pub joins_Y2 : (b : Bool) → joins_at b TryRead Y2 ≡ true
+joins_Y2 true = refl
+joins_Y2 false = refl
+
+pub seizes_Y5 : (b : Bool) → seizes_at b TryWrite Y5 ≡ true
+seizes_Y5 true = refl
+seizes_Y5 false = refl

@@ -1,0 +1,247 @@
+-- What a step call of a processor does to its call that waits.
+use Rattle.std.proofs.Common.{◌≡◌, ℕ, List, [], ◌∷◌, ◌++◌, length, Option, Bool, true, false, eqb, eq-eqb, refl, sym, ap, ◌∙◌, subst, arith}
+use Rattle.std.proofs.Common.{◌||◌}
+use Rattle.std.specs.Prelude.{if◌then◌else◌, ◌&&◌, None}
+use Rattle.lk_abs.specs.declared.holder.Manner.TheVariants.{Spins}
+use Rattle.lk_abs.specs.declared.names.LockName.{LockName}
+use Rattle.lk_abs.specs.declared.names.Mode.{Mode}
+use Rattle.lk_machine.specs.Moves.{first_place, wait_name}
+use Rattle.lk_machine.specs.declared.parts.Frame.{Frame}
+use Rattle.lk_machine.specs.declared.parts.Pc.{Pc}
+use Rattle.lk_machine.specs.declared.setup.Verb.{Verb}
+use Rattle.lk_machine.specs.declared.setup.Verb.TheVariants.{Lock}
+use Rattle.lk_law.specs.Families.{is_rw_row}
+use Rattle.lk_law.specs.Leads.{Met, Word, Shared}
+use Rattle.lk_law.specs.Sound.{takes_wait}
+use Rattle.lk_domain.specs.Calls.{terms_of, sight_of, Terms, begun, mark, Running, Calls, acting, begin, is_on, waits_in, holds_in, lock_name, held_in, StandsOn}
+use Rattle.lk_domain.specs.Paths.{Walk, Passes, AreKept, is_busy, Any}
+use Rattle.lk_domain.specs.Plays.{ActsIn, MadeBy, made, rowed}
+use Rattle.lk_domain.specs.RwPlays.{SharedBy}
+use Rattle.lk_domain.specs.NodePlays.{AtRow, counting}
+use Rattle.lk_domain.specs.Rows.{looks_by, takes_by, is_watch, is_swap}
+use Rattle.lk_domain.specs.Seats.{IsOf, KeepsRest, calls_of, ledger_of, view_of}
+use Rattle.lk_domain.specs.declared.cpu.Cpu.{Cpu}
+use Rattle.lk_domain.specs.declared.domain.Domain.{Domain}
+use Rattle.lk_domain.specs.declared.plan.Plan.{Plan}
+use Rattle.lk_domain.specs.declared.view.View.{View}
+use Rattle.lk_domain.proofs.Acting.{acts_on, begins_on}
+use Rattle.lk_domain.proofs.Paths as domain_path
+use Rattle.lk_domain.proofs.Turned.{is_taking, verb_self}
+use Rattle.lk_run.specs.Polls.{Rises, HasStayed}
+use Rattle.lk_run.specs.Phases.{Start, newest, StandsAs, LookedAs, WaitsAs, Waits, Won, Queues, starting}
+use Rattle.lk_run.specs.Standing.{Stage, Outside, IsOn, HoldsAt}
+use Rattle.lk_run.proofs.Polls.{falls_none}
+use Rattle.lk_run.proofs.Standing as path
+use Rattle.lk_run.proofs.Steps.{passes_none}
+use Rattle.lk_run.proofs.Ways as way
+use Rattle.lk_run.proofs.Ways.{Leads, Ends, queues_patient, queues_inside, queues_looks, queues_swaps, then_is}
+
+-- the newest call is that of the operation on this lock, so it goes on
+pub goes_on : (mode' : Mode) {terms : Terms} {p : ℕ} {v : Verb} {n : LockName} {pl : Pc} {P : Frame → Type 0} {stage : Stage} {old c : Calls}
+    → IsOn terms p v n pl P stage old c → is_taking v ≡ true → acting mode' c v n.index ≡ c
+goes_on mode' {v} {n} {c} at t =
+    ap (λ b. if b then c else begin mode' c v n.index)
+    (ap (λ (xs : List Running). is_on xs v n.index) at.frames
+    ∙ (λ i. verb_self v t i && eq-eqb at.frame.lock.index n.index (ap (λ (z : LockName). z.index) at.lock) i))
+
+-- a step of a processor of the domain
+module _ (d : Domain) (v : Verb) (n : LockName) (a b : Cpu) (rest : KeepsRest a b) (of : IsOf a d) where
+  is_mode : (view_of a).who.plan.mode ≡ d.plan.mode
+  is_mode = ap (λ (k : Plan). k.mode) of.plan
+
+  -- the call goes on
+  module _ (x : Met) (step : view_of b ≡ rowed (view_of a) (calls_of a) x) (c : Pc) (P : Frame → Type 0) (stage : Stage)
+      (s : Start) (told : Option ℕ) (w : WaitsAs stage d v n c P s a told) where
+    pub here : IsOn (terms_of d.plan) b.number v n c P stage s.calls (calls_of a)
+    here = subst (λ (m : ℕ). IsOn (terms_of d.plan) m v n c P stage s.calls (calls_of a)) (sym rest.same.number) w.looked.at
+
+    pub on_looks_as : (Q : Frame → Type 0) → ((f : Frame) → P f → Leads d.plan.mode b.number (way.sees d a b) c f x c Q)
+        → LookedAs stage d v n c Q s b told
+    on_looks_as Q leads =
+        way.looks d v n a b rest of (calls_of a) x step c P stage s here told w.looked.passes w.looked.falls w.rises Q
+        (leads here.frame here.has)
+
+    pub on_looks : ((f : Frame) → P f → Leads d.plan.mode b.number (way.sees d a b) c f x c P) → LookedAs stage d v n c P s b told
+    on_looks leads = on_looks_as P leads
+
+    pub on_goes : (e : Pc) (Q : Frame → Type 0) → (e ≡ c → ⊥) → ((f : Frame) → P f → Leads d.plan.mode b.number (way.sees d a b) c f x e Q)
+        → WaitsAs stage d v n e Q s b told
+    on_goes e Q other leads =
+        way.goes d v n a b rest of (calls_of a) x step c P stage s here told w.looked.passes w.looked.falls w.rises e Q other
+        (leads here.frame here.has)
+
+  module _ (x : Met) (step : view_of b ≡ rowed (view_of a) (calls_of a) x) (c : Pc) (P : Frame → Type 0)
+      (s : Start) (told : Option ℕ) (w : Waits d v n c P s a told) where
+    pub on_takes : Queues v n → is_rw_row c ≡ false → ((f : Frame) → P f → Ends d.plan.mode b.number (way.sees d a b) c f x)
+        → Won n.wait d v n.index s b told
+    on_takes queues spin ends =
+        let at = here x step c P Outside s told w in
+        way.wins d v n a b rest of (calls_of a) x step c P s at told w.looked.passes w.looked.falls w.rises
+        (ends at.frame at.has) queues spin
+
+  -- a step on a word of the lock is one of the call that goes on, or begins
+  module _ (x : Met) (seat : b.seat.me ≡ (made a.seat.me.0 v n.index x, a.seat.me.1)) where
+    acted : {c : Calls} → acting d.plan.mode (calls_of a) v n.index ≡ c → view_of b ≡ rowed (view_of a) c x
+    acted is = (λ i. (seat i).0)
+        ∙ ap (λ z. rowed (view_of a) z x) (ap (λ (m : Mode). acting m (calls_of a) v n.index) is_mode ∙ is)
+
+    on_it : {c : Pc} {P : Frame → Type 0} {stage : Stage} {m : ℕ} {old : Calls} → is_taking v ≡ true
+        → IsOn (terms_of d.plan) m v n c P stage old (calls_of a) → view_of b ≡ rowed (view_of a) (calls_of a) x
+    on_it takes at = acted (goes_on d.plan.mode at takes)
+
+    first_of_it : waits_in (calls_of a).frames n.index ≡ false
+        → view_of b ≡ rowed (view_of a) (begin d.plan.mode (calls_of a) v n.index) x
+    first_of_it none = acted (domain_path.acts_begin d.plan.mode (calls_of a) v n.index none)
+
+  -- on that of a spinlock or a wait lock
+  module _ {met : ℕ} (made : MadeBy v n.index a.seat.me met b.seat.me) where
+    pub on_word : {c : Pc} {P : Frame → Type 0} {stage : Stage} {m : ℕ} {old : Calls} → is_taking v ≡ true
+        → IsOn (terms_of d.plan) m v n c P stage old (calls_of a) → view_of b ≡ rowed (view_of a) (calls_of a) (Word made.found)
+    on_word takes at = on_it (Word made.found) made.seat takes at
+
+    pub first_word : waits_in (calls_of a).frames n.index ≡ false
+        → view_of b ≡ rowed (view_of a) (begin d.plan.mode (calls_of a) v n.index) (Word made.found)
+    first_word none = first_of_it (Word made.found) made.seat none
+
+  -- on that of a reader-writer lock
+  module _ {met : ℕ} (made : SharedBy v n.index a.seat.me met b.seat.me) where
+    pub on_shared : {c : Pc} {P : Frame → Type 0} {stage : Stage} {m : ℕ} {old : Calls} → is_taking v ≡ true
+        → IsOn (terms_of d.plan) m v n c P stage old (calls_of a) → view_of b ≡ rowed (view_of a) (calls_of a) (Shared made.found)
+    on_shared takes at = on_it (Shared made.found) made.seat takes at
+
+    pub first_shared : waits_in (calls_of a).frames n.index ≡ false
+        → view_of b ≡ rowed (view_of a) (begin d.plan.mode (calls_of a) v n.index) (Shared made.found)
+    first_shared none = first_of_it (Shared made.found) made.seat none
+
+-- the call begins
+module _ (d : Domain) (v : Verb) (l : ℕ) (a b : Cpu) (rest : KeepsRest a b) (of : IsOf a d) (takes : is_taking v ≡ true)
+    (free : takes_wait v ≡ true → held_in (calls_of a).holds (length (calls_of a).frames) (wait_name l) ≡ None)
+    (x : Met) (step : view_of b ≡ rowed (view_of a) (begin d.plan.mode (calls_of a) v l) x) (told : Option ℕ) where
+  abbrev row : Pc
+  row = first_place d.plan.mode v
+
+  pub first : IsOn (terms_of d.plan) b.number v (lock_name l) row Any Outside (calls_of a) (begin d.plan.mode (calls_of a) v l)
+  first = path.starts (terms_of d.plan) b.number v l (calls_of a) takes free
+
+  pub none_yet : (y : Met) → HasStayed ([] ++ mark row y ∷ []) → Rises told told
+  none_yet y h = absurd h
+
+  pub first_goes : (e : Pc) → (e ≡ row → ⊥)
+      → ((f : Frame) → Leads d.plan.mode b.number (sight_of (terms_of d.plan) b.number None) row f x e Any) → Waits d v (lock_name l) e Any (starting a told) b told
+  first_goes e other leads =
+      way.goes d v (lock_name l) a b rest of (begin d.plan.mode (calls_of a) v l) x step row Any Outside (starting a told) first told
+      (passes_none _ (ledger_of a) (ledger_of a) refl) (falls_none told) none_yet e Any other (leads first.frame)
+
+  pub first_takes : Queues v (lock_name l) → is_rw_row row ≡ false → ((f : Frame) → Ends d.plan.mode b.number (sight_of (terms_of d.plan) b.number None) row f x)
+      → Won false d v l (starting a told) b told
+  first_takes queues spin ends =
+      way.wins d v (lock_name l) a b rest of (begin d.plan.mode (calls_of a) v l) x step row Any (starting a told) first told
+      (passes_none _ (ledger_of a) (ledger_of a) refl) (falls_none told) none_yet (ends first.frame) queues spin
+
+-- a step that changed nothing
+module _ (d : Domain) (v : Verb) (n : LockName) (a b : Cpu) (rest : KeepsRest a b) (same : view_of b ≡ view_of a) (c : Pc)
+    (P : Frame → Type 0) where
+  same_at : (stage : Stage) (old : Calls) → IsOn (terms_of d.plan) a.number v n c P stage old (calls_of a)
+      → IsOn (terms_of d.plan) b.number v n c P stage old (calls_of b)
+  same_at stage old at =
+      subst (λ (w : View). IsOn (terms_of d.plan) b.number v n c P stage old w.calls) (sym same)
+      (subst (λ (m : ℕ). IsOn (terms_of d.plan) m v n c P stage old (calls_of a)) (sym rest.same.number) at)
+
+  pub same_stands : StandsAs Outside d v n c P a → StandsAs Outside d v n c P b
+  same_stands w = (w.0, same_at Outside w.0 w.1)
+
+  pub same_waits : (s : Start) (told : Option ℕ) → Waits d v n c P s a told → Waits d v n c P s b told
+  same_waits s told w =
+      record {
+        looked = record {
+          at = same_at Outside s.calls w.looked.at;
+          passes = subst (Passes ((eqb n.index 0) || is_busy s.calls) s.ledger) (ap (λ (v : View). v.ledger) (sym same)) w.looked.passes;
+          falls = w.looked.falls;
+        };
+        rises = λ x h. w.rises x (subst (λ (v : View). HasStayed (newest v.calls.frames ++ mark c x ∷ [])) same h);
+      }
+
+-- the count was read: the call stands where it stood
+module _ (d : Domain) (v : Verb) (n : LockName) (a b : Cpu) (rest : KeepsRest a b) (k : ℕ) (same : view_of b ≡ counting k (view_of a))
+    (c : Pc) (P : Frame → Type 0) where
+  counted_at : (old : Calls) → IsOn (terms_of d.plan) a.number v n c P Outside old (calls_of a)
+      → IsOn (terms_of d.plan) b.number v n c P Outside old (calls_of b)
+  counted_at old at =
+      path.kept (subst (λ (m : ℕ). IsOn (terms_of d.plan) m v n c P Outside old (calls_of a)) (sym rest.same.number) at) refl
+      (record {
+        frames = ap (λ (v : View). v.calls.frames) same;
+        holds = ap (λ (v : View). v.calls.holds) same;
+        taken = let e = ap (λ (v : View). v.calls.taken) same in omega (arith, e);
+      })
+
+  pub counted_waits : (s : Start) (told : Option ℕ) → Waits d v n c P s a told → Waits d v n c P s b told
+  counted_waits s told w =
+      record {
+        looked = record {
+          at = counted_at s.calls w.looked.at;
+          passes = subst (Passes ((eqb n.index 0) || is_busy s.calls) s.ledger) (ap (λ (v : View). v.ledger) (sym same)) w.looked.passes;
+          falls = w.looked.falls;
+        };
+        rises = λ x h. w.rises x (subst (λ (v : View). HasStayed (newest v.calls.frames ++ mark c x ∷ [])) same h);
+      }
+
+  abbrev pub counted_stands : StandsAs Outside d v n c P a → StandsAs Outside d v n c P b
+  counted_stands w = (
+    w.0,
+    record {
+      frame = w.1.frame;
+      trail = w.1.trail;
+      walk = subst (λ (p : ℕ). Walk (terms_of d.plan) p (begun d.plan.mode (length w.0.frames) v n.index) w.1.trail w.1.frame)
+          (sym rest.same.number) w.1.walk;
+      frames = ap (λ (v : View). v.calls.frames) same ∙ w.1.frames;
+      holds = ap (λ (v : View). v.calls.holds) same ∙ w.1.holds;
+      taken = let e = ap (λ (v : View). v.calls.taken) same in let t = w.1.taken in omega (arith, e, t);
+      place = w.1.place;
+      lock = w.1.lock;
+      ctx = w.1.ctx;
+      after = w.1.after;
+      free = w.1.free;
+      has = w.1.has;
+    },
+  )
+
+-- what the step calls ask of a call that goes on
+module _ (d : Domain) (v : Verb) (n : LockName) (c : Pc) (P : Frame → Type 0) (a : Cpu) (queues : Queues v n)
+    (w : StandsAs Outside d v n c P a) where
+  abbrev standing : StandsOn (calls_of a) v n c
+  standing = path.stands w.1
+
+  abbrev pub at_row : AtRow c v n (view_of a)
+  at_row =
+      record {
+        stands = standing;
+        patient = queues_patient v n queues;
+        inside = queues_inside v n queues;
+        after = then_is v n w.1.frame.then queues w.1.after;
+      }
+
+  abbrev pub acts_in : (kind : Pc → Bool) → kind c ≡ true → ActsIn kind (view_of a) v n
+  acts_in kind is =
+      record {
+        acts = record {
+          row = c;
+          is = is;
+          stands = acts_on (calls_of a) v n c standing (view_of a).who.plan.mode;
+          begins = begins_on (calls_of a) v n c standing (view_of a).who.plan;
+        };
+        inside = queues_inside v n queues;
+        after = then_is v n w.1.frame.then queues w.1.after;
+      }
+
+  abbrev pub looks_in : is_watch c ≡ true → ActsIn (looks_by v) (view_of a) v n
+  looks_in is = acts_in (looks_by v) (queues_looks v n queues c is)
+
+  abbrev pub takes_in : is_swap c ≡ true → ActsIn (takes_by v) (view_of a) v n
+  takes_in is = acts_in (takes_by v) (queues_swaps v n queues c is)
+
+-- nested calls leave a call where it is that has no lock yet, and it has polled
+pub polled : (d : Domain) (v : Verb) (n : LockName) (c : Pc) (P : Frame → Type 0) (s : Start) (a b : Cpu)
+    (before after : Option ℕ) → LookedAs Outside d v n c P s a before → KeepsRest a b → AreKept (calls_of a) (calls_of b)
+    → Passes (is_busy (calls_of a)) (ledger_of a) (ledger_of b) → Rises before after → Waits d v n c P s b after
+polled d v n c P s a b before after looked rest kept passes rose =
+    way.polled_at d v n c P Outside s a b before after looked refl (ap (λ hs. holds_in hs 0) looked.at.holds) rest kept passes rose

@@ -1,0 +1,41 @@
+use Rattle.lk_run.specs.Standing.{Outside}
+use Rattle.lk_run.proofs.Ways.{sees}
+use Rattle.std.proofs.Common.{refl, sym, subst, Some}
+use Rattle.lk_word.specs.declared.spin_word.NodeName.{NodeName}
+use Rattle.lk_machine.specs.declared.parts.Pc.TheVariants.{C3, C10}
+use Rattle.lk_law.specs.Leads.{Named}
+use Rattle.lk_domain.specs.Words.{IsNode}
+use Rattle.lk_domain.specs.declared.plan.Plan.{Plan}
+use Rattle.lk_run.specs.Frames.{Promotes, Promoting}
+use Rattle.lk_run.proofs.Ways.{Leads}
+use Rattle.lk_run.proofs.ChoiceRows as row
+use Rattle.lk_run.proofs.Stepped as way
+use Rattle.lk_run.proofs.choice.tail_to_promote.Goals as goal
+
+pub second_tail-met-requires-clause-row : goal.second_tail-met-requires-clause-row
+second_tail-met-requires-clause-row c =
+    record { lock = c.args.lock; at = way.at_row c.args.domain.now c.args.verb c.args.lock C3 (Promotes c.args.own c.args.first) c.args.cpu.now c.requires.queues c.requires.waits; second = c.requires.waits.1.has.fronts.second }
+
+pub tail_met-requires : goal.tail_met-requires
+tail_met-requires c =
+    let seen = (c.second_tail-met.ensures.seen refl).by in
+    let node = subst (λ (k : Plan). IsNode k seen.found) c.requires.domain.plan seen.node in
+    record { tail = (seen.found, node, seen.word) }
+
+pub returns-clause-node : goal.returns-clause-node
+returns-clause-node c =
+    let seen = (c.second_tail-met.ensures.seen refl).by in
+    let node = subst (λ (k : Plan). IsNode k seen.found) c.requires.domain.plan seen.node in
+    subst (IsNode c.args.domain.now.plan) (sym (c.tail_met.ensures seen.found node seen.word)) node
+
+pub returns-clause-goes : goal.returns-clause-goes
+returns-clause-goes c told s w =
+    let d = c.args.domain.now in
+    let a = c.args.cpu.now in
+    let b = c.second_tail-met.new.cpu in
+    let seen = (c.second_tail-met.ensures.seen refl).by in
+    let node = subst (λ (k : Plan). IsNode k seen.found) c.requires.domain.plan seen.node in
+    let is = c.tail_met.ensures seen.found node seen.word in
+    way.on_goes d c.args.verb c.args.lock a b c.second_tail-met.ensures.rest c.requires.domain (Named (Some seen.found)) (λ i. (seen.seat i).0) C3 (Promotes c.args.own c.args.first) Outside s told w C10 (Promoting c.args.own c.args.first c.tail_met.result) (λ e. cc e)
+    (λ f has. subst (λ (t : NodeName). Leads d.plan.mode b.number (sees d a b) C3 f (Named (Some seen.found)) C10 (Promoting c.args.own c.args.first t)) (sym is)
+    (row.promotes_tail d.plan.mode b.number f c.args.own c.args.first seen.found has))

@@ -1,0 +1,28 @@
+use Rattle.std.proofs.Common.{ap, refl, eqb, eq-eqb, ne_eqb, inr, length, true, false}
+use Rattle.lk_abs.specs.declared.holder.Manner.TheVariants.{Reads, Writes}
+use Rattle.lk_machine.specs.declared.parts.Pc.TheVariants.{Y1, Y2, Y3, Y4, Y5}
+use Rattle.lk_machine.specs.declared.setup.Verb.TheVariants.{TryRead, TryWrite}
+use Rattle.lk_domain.specs.Calls.{waits_in}
+use Rattle.lk_domain.specs.RwPlays.{ActsFor}
+use Rattle.lk_domain.specs.RwRows.{watches_at, joins_at, seizes_at, quits_by}
+use Rattle.lk_domain.specs.Seats.{calls_of, view_of}
+use Rattle.lk_run.proofs.RwPlaces.{is_open_by, is_shut_by, empty_by, full_by}
+use Rattle.lk_run.proofs.RwRows as row
+use Rattle.lk_run.proofs.RwSteps as rw
+use Rattle.lk_run.proofs.RwTries as try
+use Rattle.lk_run.proofs.readers.try_fail.Goals as goal
+
+pub subtract_bias-requires-clause-row : goal.subtract_bias-requires-clause-row
+subtract_bias-requires-clause-row c =
+    try.acts_try c.args.domain.now TryRead c.args.lock.index Y3 c.args.cpu.now c.requires.waits.0 c.requires.waits.1 refl
+    (quits_by TryRead) refl
+
+pub returns-clause-missed : goal.returns-clause-missed
+returns-clause-missed c old at =
+    let d = c.args.domain.now in
+    let a = c.args.cpu.now in
+    let b = c.subtract_bias.new.cpu in
+    let l = c.args.lock.index in
+    let made = c.subtract_bias.ensures.step.by in
+    try.on_misses d TryRead l a b c.subtract_bias.ensures.rest c.requires.domain refl refl made Y3 old at
+    (λ f. row.gives_up d.plan.mode b.number f made.found)

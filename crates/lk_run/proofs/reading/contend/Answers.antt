@@ -1,0 +1,29 @@
+use Rattle.std.proofs.Common.{◌≡◌, ◌≢◌, ℕ, sym, ap, ◌∙◌, subst, arith}
+use Rattle.lk_machine.specs.declared.parts.Pc.TheVariants.{R2, R3}
+use Rattle.lk_machine.specs.declared.setup.Verb.TheVariants.{Read}
+use Rattle.lk_domain.specs.Paths.{Any}
+use Rattle.lk_run.specs.Phases.{Waits}
+use Rattle.lk_run.proofs.RwSteps.{biased_alone, biased_nested}
+use Rattle.lk_run.proofs.reading.contend.Goals as goal
+
+pub queue-requires-clause-waits : goal.queue-requires-clause-waits
+queue-requires-clause-waits g c =
+    let s = c.requires.waits.0 in
+    let w = c.requires.waits.1 in
+    (s, biased_alone c.args.domain.now c.args.lock s c.args.cpu.now (g.I.Irq.polls c.args.irq.now) w (sym c.depth-alone.ensures ∙ c.if-alone.true))
+
+pub returns-then-alone-clause-entered : goal.returns-then-alone-clause-entered
+returns-then-alone-clause-entered g c s w =
+    c.queue.ensures.entered s
+    (biased_alone c.args.domain.now c.args.lock s c.args.cpu.now (g.I.Irq.polls c.args.irq.now) w (sym c.depth-alone.ensures ∙ c.if-alone.true))
+
+pub spin-requires-clause-waits : goal.spin-requires-clause-waits
+spin-requires-clause-waits g c =
+    let s = c.requires.waits.0 in
+    let w = c.requires.waits.1 in
+    (s, biased_nested c.args.domain.now c.args.lock s c.args.cpu.now (g.I.Irq.polls c.args.irq.now) w (λ e. c.if-alone.false (c.depth-alone.ensures ∙ e)))
+
+pub returns-else-alone-clause-entered : goal.returns-else-alone-clause-entered
+returns-else-alone-clause-entered g c s w =
+    c.spin.ensures.entered s
+    (biased_nested c.args.domain.now c.args.lock s c.args.cpu.now (g.I.Irq.polls c.args.irq.now) w (λ e. c.if-alone.false (c.depth-alone.ensures ∙ e)))

@@ -1,0 +1,77 @@
+-- What a call has done that took a reader-writer lock: where its rows took the lock, and how they
+-- went on from there.
+use Rattle.std.specs.Prelude.{◌≡◌, ◌⊎◌, ℕ, ◌<◌, false, List, [], ◌∷◌, ◌++◌, length, Option, Some, None}
+use Rattle.lk_abs.specs.declared.holder.Manner.{Manner}
+use Rattle.lk_word.specs.declared.spin_word.Fields.{Fields}
+use Rattle.lk_machine.specs.declared.parts.Frame.{Frame}
+use Rattle.lk_machine.specs.declared.parts.Pc.{Pc}
+use Rattle.lk_machine.specs.declared.parts.Pc.TheVariants.{U1}
+use Rattle.lk_machine.specs.declared.setup.Verb.{Verb}
+use Rattle.lk_law.specs.Leads.{Met, Word, Shared}
+use Rattle.lk_word.specs.declared.rw_word.RwFields.{RwFields}
+use Rattle.lk_domain.specs.Calls.{sight_of, Terms, Mark, mark, hold, Calls, Takes, Frees, begun, lock_name}
+use Rattle.lk_domain.specs.Calls.{free_of, moved_to, holds_in}
+use Rattle.lk_domain.specs.Ledgers.{turned}
+use Rattle.lk_domain.specs.Paths.{Walk, next_frame, row_grip}
+use Rattle.lk_domain.specs.Seats.{calls_of, ledger_of}
+use Rattle.lk_domain.specs.declared.cpu.Cpu.{Cpu}
+
+-- the rows of the trail lead from the frame a to a row that takes a lock in this manner; the call may
+-- go on from there
+pub record PathTo (t : Terms) (p : ℕ) (a : Frame) (trail : List Mark) (manner : Manner)
+    : Type 0 where
+  pub before : List Mark
+  pub frame : Frame
+  pub row : Pc
+  pub met : Met
+  pub runs : Option ℕ
+  pub walk : Walk t p a before frame
+  pub place : frame.place ≡ Some row
+  pub is : trail ≡ before ++ mark row met ∷ []
+  pub grips : row_grip t.mode p (sight_of t p runs) row frame met ≡ Takes manner
+
+-- the rows of the trail lead from the frame a to a row that ends the call
+pub record Over (t : Terms) (p : ℕ) (a : Frame) (trail : List Mark) : Type 0 where
+  pub before : List Mark
+  pub frame : Frame
+  pub row : Pc
+  pub met : Met
+  pub runs : Option ℕ
+  pub walk : Walk t p a before frame
+  pub place : frame.place ≡ Some row
+  pub is : trail ≡ before ++ mark row met ∷ []
+  pub ends : (next_frame t.mode p (sight_of t p runs) row frame met).place ≡ None
+
+-- no row more, or the one by which the wait lock is freed
+abbrev pub FreesWait : List Mark → Type 0
+FreesWait behind = (behind ≡ []) ⊎ ((x : Met) × (behind ≡ mark U1 x ∷ []))
+
+-- The call v on l has taken the lock in this manner, by the rows of the first trail; where it had the
+-- wait lock then, it has freed that, and is over.
+pub record HasEntered (t : Terms) (p : ℕ) (v : Verb) (l : ℕ) (manner : Manner)
+    (upto : List Mark) (old new : Calls) : Type 0 where
+  pub takes : PathTo t p (begun t.mode (length old.frames) v l) upto manner
+  pub over : Over t p (begun t.mode (length old.frames) v l) new.last
+  pub behind : List Mark
+  pub last : new.last ≡ upto ++ behind
+  pub release : FreesWait behind
+  pub frames : new.frames ≡ old.frames
+  pub holds : new.holds ≡ hold (length old.frames) (lock_name l) manner new.taken ∷ old.holds
+  pub taken : old.taken < new.taken
+
+-- it has freed the lock, by one row
+pub record HasLeft (c : Pc) (l : ℕ) (old new : Calls) : Type 0 where
+  pub word : RwFields
+  pub trail : new.last ≡ mark c (Shared word) ∷ []
+  pub frames : new.frames ≡ old.frames
+  pub holds : new.holds
+      ≡ free_of (length old.frames) (lock_name l)
+      (moved_to (length old.frames) (lock_name l) old.holds)
+  pub none : holds_in new.holds l ≡ false
+  pub taken : new.taken ≡ old.taken
+
+-- a step by which a reader or the writer frees the lock
+pub record Leaves (c : Pc) (l : ℕ) (before after : Cpu) : Type 0 where
+  pub left : HasLeft c l (calls_of before) (calls_of after)
+  pub ledger : ledger_of after
+      ≡ turned (ledger_of before) (lock_name l) Frees (calls_of after).last
