@@ -8,10 +8,9 @@ use Rattle.lk_abs.specs.Journal.{Replays, is_write}
 use Rattle.lk_abs.specs.declared.ledger.Job.{Job}
 use Rattle.lk_abs.specs.declared.ledger.Reply.{Reply}
 use Rattle.lk_domain.specs.Keeps.{IsOpen, IsVersion}
-use Rattle.lk_abs.specs.declared.names.Kind.TheVariants.{Spin}
 use Rattle.lk_domain.specs.Calls.{Mark}
 use Rattle.lk_domain.specs.Ledgers.{Ledger, Look, loaded, sighted, look_sees, new_look, opened, closed}
-use Rattle.lk_domain.specs.Plans.{IsLawfulPlan, accounts_of, cpus_of}
+use Rattle.lk_domain.specs.Plans.{accounts_of, cpus_of}
 use Rattle.lk_domain.specs.Plays.{OneState}
 use Rattle.lk_domain.specs.Seats.{IsOf, IsSame, KeepsCalls, view_of, ledger_of}
 use Rattle.lk_domain.specs.Who.{Who}
@@ -19,7 +18,7 @@ use Rattle.lk_domain.specs.Views.{total}
 use Rattle.lk_domain.specs.declared.cpu.Cpu.{Cpu}
 use Rattle.lk_domain.specs.declared.domain.Domain.{Domain}
 use Rattle.lk_domain.specs.declared.plan.Plan.{Plan}
-use Rattle.lk_guard.specs.Guards.{Guard, guard_in, guard_of, IsTaken}
+use Rattle.lk_guard.specs.Guards.{Guard, reads_as, IsToRead}
 use Rattle.lk_guard.specs.Reads.{account_of, amount_of, below, Answers, ReadsAt, HasRead}
 use Rattle.lk_guard.specs.Reads.{all_loaded, HasLooked, HasSummed, IsFreshLook}
 use Rattle.lk_guard.proofs.Balances.{loads_small, right_reply}
@@ -139,16 +138,16 @@ has_looked d b of one g v job reply loads is f answers reads seen =
 
 -- a read in a hold of its own
 module _ (h : Guard) (p v : ℕ) (job : Job) (reply : Reply) (g0 g1 g2 : Ledger) (trail : List Mark)
-    (begins : g1 ≡ opened g0 h.reads_as trail) (looks : HasLooked h.opening p v job reply g1 g2)
+    (begins : g1 ≡ opened g0 (reads_as h.kind) trail) (looks : HasLooked h.opening p v job reply g1 g2)
   where
     abbrev look : Look
-    look = record (new_look h.reads_as trail) { version = Some v; loads = looks.loads }
+    look = record (new_look (reads_as h.kind) trail) { version = Some v; loads = looks.loads }
 
     -- before the look ends
     open_look : g2 ≡ record g0 { seen = v; look = Some look }
     open_look =
         looks.ledger
-        ∙ (loads_fresh (sighted g1 v) (with_sight (new_look h.reads_as trail) v) looks.loads
+        ∙ (loads_fresh (sighted g1 v) (with_sight (new_look (reads_as h.kind) trail) v) looks.loads
         (ap (λ (g : Ledger). look_sees g.look v) begins) refl
         ∙ ap (λ (g : Ledger). record g { seen = v; look = Some look }) begins)
 
@@ -156,7 +155,7 @@ module _ (h : Guard) (p v : ℕ) (job : Job) (reply : Reply) (g0 g1 g2 : Ledger)
     out_kept = ap (λ (g : Ledger). g.out) open_look
 
     pub has_read : (g3 : Ledger) → g3 ≡ closed g2
-        → IsTaken h p h.reads h.reads_as (new_look h.reads_as trail) → HasRead h p v job reply g0 g3
+        → IsToRead h p (new_look (reads_as h.kind) trail) → HasRead h p v job reply g0 g3
     has_read g3 ends taken =
         record {
           look = look;
@@ -169,7 +168,3 @@ module _ (h : Guard) (p v : ℕ) (job : Job) (reply : Reply) (g0 g1 g2 : Ledger)
           };
           ledger = ends ∙ ap closed open_look;
         }
-
--- a plan has spinlocks alone
-pub spin_guard : (k : Plan) → IsLawfulPlan k → guard_in k ≡ guard_of k.mode Spin k.balances.items
-spin_guard k lawful = ap (λ kind. guard_of k.mode kind k.balances.items) (lawful.spins 0)

@@ -10,7 +10,7 @@ use Rattle.lk_abs.specs.declared.ledger.Reply.TheVariants.{Amount}
 use Rattle.lk_domain.specs.Ledgers.{Ledger, Look, loaded, sighted}
 use Rattle.lk_domain.specs.Places.{places}
 use Rattle.lk_domain.specs.Views.{total}
-use Rattle.lk_guard.specs.Guards.{Guard, IsTaken}
+use Rattle.lk_guard.specs.Guards.{Guard, IsToRead}
 
 -- account and amount of a load
 
@@ -52,7 +52,7 @@ pub record ReadsAt (opening : List ℕ) (p v : ℕ) (job : Job) (reply : Reply)
 -- is the job's reply on one state of the journal with v entries.
 pub record IsRead (h : Guard) (p v : ℕ) (job : Job) (reply : Reply) (g : Ledger)
     (look : Look) : Type 0 where
-  pub taken : IsTaken h p h.reads h.reads_as look
+  pub taken : IsToRead h p look
   pub version : look.version ≡ Some v
   pub answers : Answers (length h.opening) job reply look.loads
   pub seen : g.seen ≤ v

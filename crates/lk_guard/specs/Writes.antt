@@ -5,7 +5,7 @@ use Rattle.lk_abs.specs.declared.ledger.Entry.{Entry}
 use Rattle.lk_abs.specs.declared.ledger.Job.{Job}
 use Rattle.lk_abs.specs.declared.ledger.Reply.{Reply}
 use Rattle.lk_domain.specs.Ledgers.{Ledger, Look, new_look, manner_of, trail_of, listed_look}
-use Rattle.lk_guard.specs.Guards.{Guard, IsTaken, IsBare}
+use Rattle.lk_guard.specs.Guards.{Guard, IsToWrite, IsBare}
 
 abbrev pub entry : ℕ → ℕ → Job → Reply → Entry
 entry p n job reply = record { worker = p; number = n; job = job; reply = reply }
@@ -23,7 +23,7 @@ pub record IsWritten (h : Guard) (p place : ℕ) (e : Entry) (g : Ledger) (first
     : Type 0 where
   pub seen : g.seen ≤ place
   pub state : WritesAt h.opening place e
-  pub taken : IsTaken h p h.writes h.writes_as first × IsTaken h p h.writes h.writes_as second
+  pub taken : IsToWrite h p first × IsToWrite h p second
   pub bare : IsBare first × IsBare second
 
 -- what the processor knows of the ledger after a write with these two looks

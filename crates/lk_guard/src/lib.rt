@@ -10,3 +10,4 @@ mod writing;
 
 pub use gate::{Gate, OpenGate};
 pub use region::Region;
+pub use working::writes;

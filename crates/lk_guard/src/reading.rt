@@ -7,7 +7,7 @@ ghost use Rattle.lk_domain.specs.Keeps.{holds_first};
 ghost use Rattle.lk_domain.specs.Plans.{accounts_of};
 ghost use Rattle.lk_domain.specs.Plays.{OneState};
 ghost use Rattle.lk_domain.specs.Seats.{IsOf, IsSame, KeepsCalls, calls_of, ledger_of, view_of};
-ghost use Rattle.lk_guard.specs.Guards.{CanRun, guard_in};
+ghost use Rattle.lk_guard.specs.Guards.{guard_in};
 ghost use Rattle.lk_guard.specs.Idle.{IsIdle};
 ghost use Rattle.lk_guard.specs.Reads.{IsFreshLook, HasSummed, HasLooked, HasRead};
 
@@ -83,8 +83,9 @@ fn look(cpu: &mut Cpu, domain: &Domain, job: Job) -> (u64, Reply)
 }
 
 impl Region {
-    /// Does a `Sum` or `Get` in a hold of the lock of its own. It gives the number of entries of
-    /// the journal then, and the reply. It takes no memory.
+    /// Does a `Sum` or `Get` in a hold of the lock of its own, which other readers may have too
+    /// where it is a reader-writer lock. It gives the number of entries of the journal then, and
+    /// the reply. It takes no memory.
     pub fn read<I: Irq, R: Wait>(
         &self,
         cpu: &mut Cpu,
@@ -93,7 +94,6 @@ impl Region {
         job: Job,
     ) -> (u64, Reply)
         requires domain { IsOf cpu.old self.now.domain }
-        requires runs { CanRun self.now.domain.plan.mode }
         requires idle { IsIdle cpu.old }
         requires job { IsAmong (accounts_of self.now.domain.plan) job }
         requires reads { is_write job ≡ false }
@@ -102,9 +102,9 @@ impl Region {
         ensures read { HasRead (guard_in self.now.domain.plan) cpu.old.number result.0 job result.1
             (ledger_of cpu.old) (ledger_of cpu.new) }
     {
-        self.hold(cpu, rt, irq);
+        self.hold_to_read(cpu, rt, irq);
         let seen = look(cpu, &self.domain, job);
-        self.let_go(cpu);
+        self.end_read(cpu);
         seen
     }
 }

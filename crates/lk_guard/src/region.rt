@@ -1,17 +1,15 @@
 // The ledger of a domain, under its lock 0.
 ghost use Rattle.std.specs.Prelude.{◌≡◌, None};
-ghost use Rattle.lk_abs.specs.declared.holder.Manner.TheVariants.{Spins};
-ghost use Rattle.lk_machine.specs.declared.setup.Verb.TheVariants.{Lock};
 ghost use Rattle.lk_domain.specs.Ledgers.{closed};
 ghost use Rattle.lk_domain.specs.Plans.{locks_of, kind_at};
 ghost use Rattle.lk_domain.specs.Seats.{IsOf, IsSame, ledger_of};
-ghost use Rattle.lk_guard.specs.Guards.{CanRun, guard_in};
+ghost use Rattle.lk_guard.specs.Guards.{guard_in, reads_as, reads_by, writes_as, writes_by};
 ghost use Rattle.lk_guard.specs.Holding.{IsHolding, HasBegun};
 ghost use Rattle.lk_guard.specs.Idle.{IsIdle};
 
 use lk_abs::Kind;
 use lk_domain::{Cpu, Domain, LockId};
-use lk_run::{Irq, lock, unlock};
+use lk_run::{Irq, lock, read_lock, read_unlock, unlock, write_lock, write_unlock};
 use std::sync::Wait;
 
 // The lock that guards the ledger.
@@ -51,26 +49,63 @@ impl Region {
         domain
     }
 
-    // Takes the lock, and so begins a look.
-    pub(crate) fn hold<I: Irq, R: Wait>(&self, cpu: &mut Cpu, rt: &R, irq: &mut I)
+    // Takes the lock for a read, and so begins a look: a spinlock alone, another beside readers.
+    pub(crate) fn hold_to_read<I: Irq, R: Wait>(&self, cpu: &mut Cpu, rt: &R, irq: &mut I)
         requires domain { IsOf cpu.old self.now.domain }
-        requires runs { CanRun self.now.domain.plan.mode }
         requires idle { IsIdle cpu.old }
         ensures same { IsSame cpu.old cpu.new }
-        ensures begun { HasBegun (guard_in self.now.domain.plan) Lock Spins cpu.old cpu.new }
+        ensures begun { HasBegun (guard_in self.now.domain.plan)
+            (reads_by (kind_at self.now.domain.plan 0)) (reads_as (kind_at self.now.domain.plan 0))
+            cpu.old cpu.new }
     {
-        lock(cpu, rt, &self.domain, FIRST, irq);
+        match self.guard {
+            Kind::Spin => lock(cpu, rt, &self.domain, FIRST, irq),
+            Kind::Rw => read_lock(cpu, rt, &self.domain, FIRST, irq),
+        }
     }
 
-    // Frees the lock, and so ends a look.
-    pub(crate) fn let_go(&self, cpu: &mut Cpu)
+    // Takes the lock for a write, alone, and so begins a look.
+    pub(crate) fn hold_to_write<I: Irq, R: Wait>(&self, cpu: &mut Cpu, rt: &R, irq: &mut I)
         requires domain { IsOf cpu.old self.now.domain }
-        requires holding { IsHolding Spins cpu.old }
+        requires idle { IsIdle cpu.old }
+        ensures same { IsSame cpu.old cpu.new }
+        ensures begun { HasBegun (guard_in self.now.domain.plan)
+            (writes_by (kind_at self.now.domain.plan 0)) (writes_as (kind_at self.now.domain.plan 0))
+            cpu.old cpu.new }
+    {
+        match self.guard {
+            Kind::Spin => lock(cpu, rt, &self.domain, FIRST, irq),
+            Kind::Rw => write_lock(cpu, rt, &self.domain, FIRST, irq),
+        }
+    }
+
+    // Frees the lock after a read, and so ends a look.
+    pub(crate) fn end_read(&self, cpu: &mut Cpu)
+        requires domain { IsOf cpu.old self.now.domain }
+        requires holding { IsHolding (reads_as (kind_at self.now.domain.plan 0)) cpu.old }
         requires home { (ledger_of cpu.old).out ≡ None }
         ensures same { IsSame cpu.old cpu.new }
         ensures idle { IsIdle cpu.new }
         ensures ledger { ledger_of cpu.new ≡ closed (ledger_of cpu.old) }
     {
-        unlock(cpu, &self.domain, FIRST);
+        match self.guard {
+            Kind::Spin => unlock(cpu, &self.domain, FIRST),
+            Kind::Rw => read_unlock(cpu, &self.domain, FIRST),
+        }
+    }
+
+    // Frees the lock after a write, and so ends a look.
+    pub(crate) fn end_write(&self, cpu: &mut Cpu)
+        requires domain { IsOf cpu.old self.now.domain }
+        requires holding { IsHolding (writes_as (kind_at self.now.domain.plan 0)) cpu.old }
+        requires home { (ledger_of cpu.old).out ≡ None }
+        ensures same { IsSame cpu.old cpu.new }
+        ensures idle { IsIdle cpu.new }
+        ensures ledger { ledger_of cpu.new ≡ closed (ledger_of cpu.old) }
+    {
+        match self.guard {
+            Kind::Spin => unlock(cpu, &self.domain, FIRST),
+            Kind::Rw => write_unlock(cpu, &self.domain, FIRST),
+        }
     }
 }

@@ -5,7 +5,7 @@ ghost use Rattle.lk_abs.specs.Journal.{is_write};
 ghost use Rattle.lk_domain.specs.Plans.{accounts_of};
 ghost use Rattle.lk_domain.specs.Seats.{IsOf, IsSame, ledger_of};
 ghost use Rattle.lk_guard.specs.Deeds.{HasDone, Worked, writes_in, reads_in};
-ghost use Rattle.lk_guard.specs.Guards.{CanRun, guard_in};
+ghost use Rattle.lk_guard.specs.Guards.{guard_in};
 ghost use Rattle.lk_guard.specs.Idle.{IsIdle};
 
 use crate::gate::Gate;
@@ -15,8 +15,8 @@ use lk_domain::Cpu;
 use lk_run::NoIrq;
 use std::sync::Wait;
 
-// Whether a job may change balances.
-fn writes(job: Job) -> bool
+/// Whether a job may change balances.
+pub fn writes(job: Job) -> bool
     ensures { result ≡ is_write job }
 {
     matches!(job, Job::Move { .. } | Job::Add { .. })
@@ -26,7 +26,6 @@ impl Region {
     // Does one job: writes it, or keeps the record of its read.
     fn do_one<R: Wait>(&self, cpu: &mut Cpu, rt: &R, reads: &mut List<Seen>, number: u32, job: Job)
         requires domain { IsOf cpu.old self.now.domain }
-        requires runs { CanRun self.now.domain.plan.mode }
         requires idle { IsIdle cpu.old }
         requires job { IsAmong (accounts_of self.now.domain.plan) job }
         requires share { is_write job ≡ true → 1 ≤ (ledger_of cpu.old).share }
@@ -62,7 +61,6 @@ impl Region {
         gate: &G,
     )
         requires domain { IsOf cpu.old self.now.domain }
-        requires runs { CanRun self.now.domain.plan.mode }
         requires idle { IsIdle cpu.old }
         requires jobs { All (IsAmong (accounts_of self.now.domain.plan)) jobs.now.items }
         requires few { length jobs.now.items < 2 ^ 32 }

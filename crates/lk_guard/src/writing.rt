@@ -5,7 +5,7 @@ ghost use Rattle.lk_abs.specs.Journal.{is_write};
 ghost use Rattle.lk_domain.specs.Keeps.{holds_first, alone_first};
 ghost use Rattle.lk_domain.specs.Plans.{accounts_of};
 ghost use Rattle.lk_domain.specs.Seats.{IsOf, IsSame, KeepsCalls, calls_of, ledger_of};
-ghost use Rattle.lk_guard.specs.Guards.{CanRun, guard_in};
+ghost use Rattle.lk_guard.specs.Guards.{guard_in};
 ghost use Rattle.lk_guard.specs.Idle.{IsIdle};
 ghost use Rattle.lk_guard.specs.Writes.{HasAppended, HasWritten};
 
@@ -53,7 +53,6 @@ impl Region {
         job: Job,
     ) -> Reply
         requires domain { IsOf cpu.old self.now.domain }
-        requires runs { CanRun self.now.domain.plan.mode }
         requires idle { IsIdle cpu.old }
         requires job { IsAmong (accounts_of self.now.domain.plan) job }
         requires writes { is_write job ≡ true }
@@ -63,9 +62,9 @@ impl Region {
         ensures written { HasWritten (guard_in self.now.domain.plan) cpu.old.number number job
             result (ledger_of cpu.old) (ledger_of cpu.new) }
     {
-        self.hold(cpu, rt, irq);
+        self.hold_to_write(cpu, rt, irq);
         let reply = append(cpu, &self.domain, number, job);
-        self.let_go(cpu);
+        self.end_write(cpu);
         reply
     }
 }
