@@ -5,7 +5,7 @@ ghost use Rattle.lk_forms.specs.declared.answers.LineRefusal.{LineRefusal};
 ghost use Rattle.lk_stream.specs.Outcome.{refused_fault};
 ghost use Rattle.lk_stream.specs.declared.answers.ReplayFault.{ReplayFault};
 ghost use Rattle.lk_job_forms.specs.JobFile.{job_file};
-ghost use Rattle.lk_job_forms.specs.Workload.{Workload, IsLawful, RunsNow, workload_of};
+ghost use Rattle.lk_job_forms.specs.Workload.{Workload, IsLawful, workload_of};
 ghost use Rattle.lk_ledger.specs.Reading.{Reads};
 
 use crate::script::JobScript;
@@ -25,9 +25,8 @@ pub fn read_jobs<S: Source>(alloc: Global, source: &mut S) -> Result<JobFile, Re
     ensures reads { Reads (S.left source.old) (S.left source.new) (S.faults source.old)
         (S.faults source.new) result }
 
-    // A file that is read is lawful, and its lock runs on threads now.
+    // A file that is read is lawful.
     ensures lawful { IfOk result (λ file. IsLawful (workload_of file)) }
-    ensures runs { IfOk result (λ file. RunsNow (workload_of file)) }
 
     // A job file is read whole, where no read failed and there is memory.
     ensures complete { (bytes : List ℕ) (work : Workload) → S.left source.old ≡ Some bytes

@@ -2,7 +2,7 @@
 ghost use Rattle.std.specs.Prelude.{◌≡◌, ◌≤◌, ◌++◌, ℕ, List, Ok, Err, Some, None, Option, IfOk, IfErr, OnOk, OnErr};
 ghost use Rattle.lk_job_forms.specs.Grammar.{nothing_read, has_end};
 ghost use Rattle.lk_job_forms.specs.Reader.{reading};
-ghost use Rattle.lk_job_forms.specs.Workload.{IsLawful, RunsNow, workload_of};
+ghost use Rattle.lk_job_forms.specs.Workload.{IsLawful, workload_of};
 
 use lk_abs::Memory;
 use lk_forms::Fault;
@@ -33,7 +33,6 @@ impl JobScript {
         requires { has_end (reading self.reader) ≡ true }
         ensures says { workload_of result ≡ (reading self.reader).work }
         ensures lawful { IsLawful (workload_of result) }
-        ensures runs { RunsNow (workload_of result) }
     {
         let JobScript { reader } = self;
         reader.finish()

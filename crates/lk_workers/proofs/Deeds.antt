@@ -15,10 +15,7 @@ use Rattle.lk_domain.specs.Ledgers.{Ledger, Look}
 use Rattle.lk_domain.specs.declared.plan.Plan.{Plan}
 use Rattle.lk_guard.proofs.Balances.{right_reply}
 use Rattle.lk_guard.specs.Deeds.{Deed, wrote, saw, AreDeeds, after_deed, after_deeds, records_of, reads_in, writes_in}
-use Rattle.lk_abs.specs.declared.names.Kind.{Kind}
-use Rattle.lk_abs.specs.declared.names.Kind.TheVariants.{Spin, Rw}
-use Rattle.lk_domain.specs.Plans.{kind_at}
-use Rattle.lk_guard.specs.Guards.{Guard, IsBare, IsTaken, guard_in, guard_of}
+use Rattle.lk_guard.specs.Guards.{Guard, IsBare, IsToWrite, guard_in}
 use Rattle.lk_guard.specs.Reads.{Answers}
 use Rattle.lk_job_forms.specs.Outcome.{IsReadAt, label_of, tag_of, reads_from, writes_from}
 use Rattle.lk_workers.specs.UnderLock.{Shows, others, sights}
@@ -58,14 +55,6 @@ sights_seen k v ks is = ap (λ (w : Option ℕ). if is_some w then k ∷ sights 
 
 others_seen : (k : Look) (v : ℕ) (ks : List Look) → k.version ≡ Some v → others (k ∷ ks) ≡ others ks
 others_seen k v ks is = ap (λ (w : Option ℕ). if is_none w then k ∷ others ks else others ks) is
-
--- the guard of a plan has its opening balances, whichever the kind of its lock
-same_opening : (plan : Plan) → length plan.balances.items ≡ length (guard_in plan).opening
-same_opening plan = by_kind (kind_at plan 0)
-  where
-    by_kind : (kind : Kind) → length plan.balances.items ≡ length (guard_of plan.mode kind plan.balances.items).opening
-    by_kind Spin = refl
-    by_kind Rw = refl
 
 -- a pair of a worker's number and job, with the worker
 abbrev pub tagged : ℕ → ℕ × Job → ℕ × ℕ × Job
@@ -190,17 +179,17 @@ module _ (h : Guard) (p : ℕ) where
       (here, sights_show (n + 1) jobs (after_deed g (saw r k)) ds are.1)
 
   -- and the others are two for each write
-  pub others_taken : (n : ℕ) (jobs : List Job) (g : Ledger) (ds : List Deed) → AreDeeds h p n jobs g ds → All (IsTaken h p h.writes h.writes_as) (others (looks_by ds))
-  others_taken n [] g [] are = All-nil (IsTaken h p h.writes h.writes_as)
+  pub others_taken : (n : ℕ) (jobs : List Job) (g : Ledger) (ds : List Deed) → AreDeeds h p n jobs g ds → All (IsToWrite h p) (others (looks_by ds))
+  others_taken n [] g [] are = All-nil (IsToWrite h p)
   others_taken n [] g (d ∷ ds) are = absurd are
   others_taken n (job ∷ jobs) g [] are = absurd are
   others_taken n (job ∷ jobs) g (wrote place e k l ∷ ds) are =
-      let taken = IsTaken h p h.writes h.writes_as in
+      let taken = IsToWrite h p in
       let more = others_taken (n + 1) jobs (after_deed g (wrote place e k l)) ds are.1 in
       subst (All taken) (sym (others_bare k (l ∷ looks_by ds) are.0.written.bare.0 ∙ ap (λ ks. k ∷ ks) (others_bare l (looks_by ds) are.0.written.bare.1)))
       (All-cons taken k (l ∷ others (looks_by ds)) are.0.written.taken.0 (All-cons taken l (others (looks_by ds)) are.0.written.taken.1 more))
   others_taken n (job ∷ jobs) g (saw r k ∷ ds) are =
-      subst (All (IsTaken h p h.writes h.writes_as)) (sym (others_seen k r.version (looks_by ds) are.0.read.version)) (others_taken (n + 1) jobs (after_deed g (saw r k)) ds are.1)
+      subst (All (IsToWrite h p)) (sym (others_seen k r.version (looks_by ds) are.0.read.version)) (others_taken (n + 1) jobs (after_deed g (saw r k)) ds are.1)
 
   pub others_twice : (n : ℕ) (jobs : List Job) (g : Ledger) (ds : List Deed) → AreDeeds h p n jobs g ds → length (others (looks_by ds)) ≡ 2 * writes_in jobs
   others_twice n [] g [] are = refl
@@ -238,7 +227,6 @@ reads_right plan js p n (job ∷ jobs) g [] r are ended is = absurd is
 reads_right plan js p n (job ∷ jobs) g (wrote place e k l ∷ ds) r are ended is = reads_right plan js p (n + 1) jobs (after_deed g (wrote place e k l)) ds r are.1 ended.1.1 is
 reads_right plan js p n (job ∷ jobs) g (saw x k ∷ ds) r are ended is = ⊎_elim
     (λ q.
-    let many : length plan.balances.items ≡ length (guard_in plan).opening = same_opening plan in
-    let answers : Answers (length plan.balances.items) x.job x.reply k.loads = subst (λ (m : ℕ). Answers m x.job x.reply k.loads) (sym many) (subst (λ (j : Job). Answers (length (guard_in plan).opening) j x.reply k.loads) (sym are.0.task) are.0.read.answers) in
+    let answers : Answers (length plan.balances.items) x.job x.reply k.loads = subst (λ (j : Job). Answers (length plan.balances.items) j x.reply k.loads) (sym are.0.task) are.0.read.answers in
     subst (IsReadAt plan.balances.items js) (sym q) (read_at plan js x k ended.0 are.0.read.version answers (ap is_write are.0.task ∙ are.0.reads)))
     (λ t. reads_right plan js p (n + 1) jobs (after_deed g (saw x k)) ds r are.1 ended.1 t) is

@@ -18,7 +18,7 @@ use Rattle.lk_domain.specs.declared.cpu.Cpu.{Cpu}
 use Rattle.lk_domain.specs.declared.domain.Domain.{Domain}
 use Rattle.lk_domain.specs.declared.plan.Plan.{Plan}
 use Rattle.lk_guard.specs.Deeds.{Deed, AreDeeds, records_of, reads_in, writes_in}
-use Rattle.lk_guard.specs.Guards.{Guard, guard_in, guard_of}
+use Rattle.lk_guard.specs.Guards.{Guard, guard_in}
 use Rattle.lk_job_forms.specs.Outcome.{IsFresh, IsMerge, IsOutcome, IsReadAt, label_of, writes_from}
 use Rattle.lk_job_forms.specs.Workload.{Workload, jobs_of, workers_of}
 use Rattle.lk_workers.specs.Plans.{IsPlanOf}
@@ -59,7 +59,11 @@ told d jobs js i w through past =
 
 -- the guard of the plan is that of the workload
 guard_is : (work : Workload) (plan : Plan) → IsPlanOf work plan → guard_in plan ≡ guard_for work
-guard_is work plan of = λ i. guard_of (of.mode i) (get_or (of.locks i) 0 Spin) (of.balances i)
+guard_is work plan of = λ i. record {
+  terms = record { mode = of.mode i; threshold = of.threshold i; sockets = of.sockets i };
+  kind = get_or (of.locks i) 0 Spin;
+  opening = of.balances i;
+}
 
 -- some worker, where there is one
 one_of : (ws : List Worker) (i : ℕ) → i < length ws → Worker

@@ -1,16 +1,14 @@
 -- The plan of a file, its workers before their jobs, and their processors after them.
-use Rattle.std.proofs.Common.{◌≡◌, ◌<◌, ℕ, zero, suc, Some, List, [], ◌∷◌, length, map, get_or, refl, sym, ap, subst, ◌∙◌, arith}
+use Rattle.std.proofs.Common.{◌≡◌, ◌<◌, ℕ, Some, List, [], ◌∷◌, length, map, get_or, refl, sym, ap, subst, ◌∙◌, arith}
 use Rattle.std.proofs.lemmas.List.{length-map, get_or-map as get_or_map_within}
 use Rattle.std.proofs.Math.ListN.{get_or-map}
-use Rattle.std.specs.Prelude.{slice_get, true, false}
+use Rattle.std.specs.Prelude.{◌≢◌, slice_get, false}
 use Rattle.std.specs.List.{sum}
 use Rattle.std.proofs.lemmas.Option.{slice_get_within, get_or_from_slice_get}
 use Rattle.lk_abs.specs.Jobs.{full}
 use Rattle.lk_abs.specs.ListOf.{ListOf}
 use Rattle.lk_abs.specs.declared.ledger.Job.{Job}
 use Rattle.lk_abs.specs.declared.ledger.Seen.{Seen}
-use Rattle.lk_abs.specs.declared.names.Kind.{Kind}
-use Rattle.lk_abs.specs.declared.names.Kind.TheVariants.{Spin, Rw}
 use Rattle.lk_abs.specs.declared.names.Mode.{Mode}
 use Rattle.lk_abs.specs.declared.names.Mode.TheVariants.{Virt, Native, Cna, Pv}
 use Rattle.lk_domain.specs.Calls.{Calls}
@@ -23,53 +21,36 @@ use Rattle.lk_domain.specs.declared.cpu.Cpu.{Cpu}
 use Rattle.lk_domain.specs.declared.domain.Domain.{Domain}
 use Rattle.lk_domain.specs.declared.plan.Plan.{Plan}
 use Rattle.lk_guard.specs.Deeds.{Worked, writes_in}
-use Rattle.lk_guard.specs.Guards.{CanRun, guard_in}
+use Rattle.lk_guard.specs.Guards.{guard_in}
 use Rattle.lk_guard.specs.Idle.{IsIdle}
-use Rattle.lk_job_forms.specs.Workload.{IsLawful, RunsNow, Workload, guard_runs, mode_runs, jobs_of, workers_of, workload_of}
+use Rattle.lk_job_forms.specs.Workload.{IsLawful, Workload, jobs_of, workers_of, workload_of}
 use Rattle.lk_job_forms.specs.declared.file.JobFile.{JobFile}
 use Rattle.lk_law.specs.Agree.{halts}
 use Rattle.lk_workers.specs.Plans.{IsPlanOf}
 use Rattle.lk_workers.specs.Workers.{AreReady, AreThrough, IsReady, IsThrough, cpu_of, no_records, reads_of}
 use Rattle.lk_workers.specs.declared.worker.Worker.{Worker}
 
--- what runs now
+-- of the families that a workload can have, none halts its processors
+is_awake : (m : Mode) → m ≢ Pv → halts m ≡ false
+is_awake Virt other = refl
+is_awake Native other = refl
+is_awake Cna other = refl
+is_awake Pv other = absurd (other refl)
 
-pub can_run : (m : Mode) → mode_runs m ≡ true → CanRun m
-can_run Virt runs = refl
-can_run Native runs = refl
-can_run Cna runs = cc
-can_run Pv runs = cc
-
-is_awake : (m : Mode) → mode_runs m ≡ true → halts m ≡ false
-is_awake Virt runs = refl
-is_awake Native runs = refl
-is_awake Cna runs = cc
-is_awake Pv runs = cc
-
-is_spin : (k : Kind) → guard_runs k ≡ true → k ≡ Spin
-is_spin Spin runs = refl
-is_spin Rw runs = cc
-
--- a domain may be made of the plan of a lawful workload that runs now
-pub lawful_plan : (work : Workload) (plan : Plan) → IsLawful work → RunsNow work → IsPlanOf work plan → IsLawfulPlan plan
-lawful_plan work plan lawful runs of =
+-- a domain may be made of the plan of a lawful workload
+pub lawful_plan : (work : Workload) (plan : Plan) → IsLawful work → IsPlanOf work plan → IsLawfulPlan plan
+lawful_plan work plan lawful of =
     let cpus : length plan.topology.sockets.items ≡ workers_of work = ap length of.sockets ∙ lawful.each in
-    let locks : plan.locks.items ≡ Spin ∷ [] = of.locks ∙ ap (λ (k : Kind). k ∷ []) (is_spin work.guard runs.guard) in
     record {
-      awake = ap halts of.mode ∙ is_awake work.mode runs.mode;
+      awake = ap halts of.mode ∙ is_awake work.mode lawful.mode;
       some = omega (arith, cpus, lawful.some);
       cpus = omega (arith, cpus, lawful.few);
-      any = omega (arith, ap length locks);
-      locks = omega (arith, ap length locks);
-      spins = λ i. ap (λ (ks : List Kind). get_or ks i Spin) locks ∙ alone i;
+      any = omega (arith, ap length of.locks);
+      locks = omega (arith, ap length of.locks);
       accounts = omega (arith, ap length of.balances, lawful.accounts);
       small = subst (λ (bs : List ℕ). sum bs < full) (sym of.balances) lawful.total;
       shares = ap length of.shares ∙ (length-map work.jobs writes_in ∙ sym cpus);
     }
-  where
-    alone : (i : ℕ) → get_or (Spin ∷ []) i Spin ≡ Spin
-    alone zero = refl
-    alone (suc i) = refl
 
 -- the same plan in other room is one of the workload too
 pub same_plan : (work : Workload) (k j : Plan) → IsSamePlan k j → IsPlanOf work j → IsPlanOf work k

@@ -3,7 +3,6 @@ use Rattle.std.specs.Prelude.{◌≡◌, [], ◌∷◌, map}
 use Rattle.lk_domain.specs.declared.domain.Domain.{Domain}
 use Rattle.lk_domain.specs.declared.plan.Plan.{Plan}
 use Rattle.lk_guard.specs.Deeds.{writes_in}
-use Rattle.lk_guard.specs.Guards.{CanRun}
 use Rattle.lk_job_forms.specs.Workload.{IsLawful, Workload}
 
 -- The plan has the lock and the accounts of the workload, and a processor for each worker, which may
@@ -16,8 +15,7 @@ pub record IsPlanOf (work : Workload) (plan : Plan) : Type 0 where
   pub balances : plan.balances.items ≡ work.balances
   pub shares : plan.shares.items ≡ map writes_in work.jobs
 
--- the domain is made for the workload, which is lawful and of a family whose locks run
+-- the domain is made for the workload, which is lawful
 pub record IsFor (work : Workload) (domain : Domain) : Type 0 where
   pub lawful : IsLawful work
-  pub runs : CanRun work.mode
   pub plan : IsPlanOf work domain.plan

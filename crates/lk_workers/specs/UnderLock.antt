@@ -4,18 +4,25 @@ use Rattle.std.specs.Prelude.{is_none, is_some, slice_index_or}
 use Rattle.std.specs.List.{AllZip}
 use Rattle.lk_abs.specs.declared.ledger.Job.{Job}
 use Rattle.lk_abs.specs.declared.ledger.Seen.{Seen}
+use Rattle.lk_domain.specs.Calls.{Terms}
 use Rattle.lk_domain.specs.Ledgers.{Look}
 use Rattle.lk_domain.specs.Seats.{ledger_of}
 use Rattle.lk_domain.specs.declared.cpu.Cpu.{Cpu}
 use Rattle.lk_domain.specs.declared.ending.Closed.{Closed}
 use Rattle.lk_guard.specs.Deeds.{writes_in}
-use Rattle.lk_guard.specs.Guards.{Guard, guard_of, IsTaken}
+use Rattle.lk_guard.specs.Guards.{Guard, IsToRead, IsToWrite}
 use Rattle.lk_guard.specs.Reads.{Answers}
 use Rattle.lk_job_forms.specs.Workload.{Workload, workers_of, jobs_of}
 
--- how the ledger of a workload is guarded
+-- what rows read of a workload, and how its ledger is guarded
+
+abbrev pub terms_for : Workload → Terms
+terms_for work =
+    record { mode = work.mode; threshold = work.threshold; sockets = work.sockets }
+
 abbrev pub guard_for : Workload → Guard
-guard_for work = guard_of work.mode work.guard work.balances
+guard_for work =
+    record { terms = terms_for work; kind = work.guard; opening = work.balances }
 
 -- the looks of a processor, and of all processors at the end of a domain, in order
 abbrev pub looks_of : Cpu → List Look
@@ -38,7 +45,7 @@ records_by worker reads = filter (λ r. r.worker == worker) reads
 -- The look is in a hold that the worker took for a read. In it the version of the record was loaded,
 -- and the balances that its job asks, and the reply is of these.
 pub record Shows (h : Guard) (worker : ℕ) (look : Look) (r : Seen) : Type 0 where
-  pub taken : IsTaken h worker h.reads h.reads_as look
+  pub taken : IsToRead h worker look
   pub version : look.version ≡ Some r.version
   pub answers : Answers (length h.opening) r.job r.reply look.loads
 
@@ -47,7 +54,7 @@ pub record Shows (h : Guard) (worker : ℕ) (look : Look) (r : Seen) : Type 0 wh
 pub record AreLooksOf (h : Guard) (worker : ℕ) (jobs : List Job) (reads : List Seen)
     (looks : List Look) : Type 0 where
   pub shown : AllZip (Shows h worker) (sights looks) reads
-  pub taken : All (IsTaken h worker h.writes h.writes_as) (others looks)
+  pub taken : All (IsToWrite h worker) (others looks)
   pub twice : length (others looks) ≡ 2 * writes_in jobs
 
 -- Every read and write of the workload was made under its lock: these records and looks, those of

@@ -1,23 +1,13 @@
 // How many entries and records the jobs of a file will leave.
 ghost use Rattle.std.specs.Prelude.{◌≡◌, ◌<◌, ◌^◌, IfOk, length, map};
 ghost use Rattle.std.specs.List.{sum_by};
-ghost use Rattle.lk_abs.specs.Journal.{is_write};
 ghost use Rattle.lk_guard.specs.Deeds.{reads_in, writes_in};
 ghost use Rattle.lk_job_forms.specs.Workload.{IsLawful, workload_of};
 
 use lk_abs::{Job, List, Memory};
+use lk_guard::writes;
 use lk_job_forms::JobFile;
 use std::alloc::Global;
-
-// Whether a job may change a balance.
-fn writes(job: Job) -> bool
-    ensures { result ≡ is_write job }
-{
-    match job {
-        Job::Move { .. } | Job::Add { .. } => true,
-        Job::Sum | Job::Get { .. } => false,
-    }
-}
 
 // How many of the jobs write.
 fn count_writes(jobs: &[Job]) -> u32

@@ -1,7 +1,7 @@
 // The domain of a file, and its workers.
 ghost use Rattle.std.specs.Prelude.{◌≡◌, IfOk, length, map};
 ghost use Rattle.lk_domain.specs.Plans.{IsLawfulPlan};
-ghost use Rattle.lk_job_forms.specs.Workload.{IsLawful, RunsNow, workers_of, workload_of};
+ghost use Rattle.lk_job_forms.specs.Workload.{IsLawful, workers_of, workload_of};
 ghost use Rattle.lk_workers.specs.Plans.{IsFor, IsPlanOf};
 ghost use Rattle.lk_workers.specs.Workers.{AreReady, cpu_of, no_records, reads_of};
 
@@ -16,7 +16,6 @@ use std::alloc::Global;
 // The plan of a domain for the file.
 fn plan_of(alloc: Global, file: &JobFile) -> Result<Plan, Memory>
     requires lawful { IsLawful (workload_of file.now) }
-    requires runs { RunsNow (workload_of file.now) }
     ensures lawful { IfOk result (λ plan. IsLawfulPlan plan) }
     ensures plan { IfOk result (λ plan. IsPlanOf (workload_of file.now) plan) }
 {
@@ -55,7 +54,6 @@ fn hire(alloc: Global, mut cpus: List<Cpu>, file: &JobFile) -> Result<List<Worke
 // A region at rest for the file, and its workers, which are ready.
 pub(crate) fn make(alloc: Global, file: &JobFile) -> Result<(Region, List<Worker>), Memory>
     requires lawful { IsLawful (workload_of file.now) }
-    requires runs { RunsNow (workload_of file.now) }
     ensures suits { IfOk result (λ made. IsFor (workload_of file.now) made.0.domain) }
     ensures each { IfOk result (λ made. length made.1.items ≡ workers_of (workload_of file.now)) }
     ensures ready { IfOk result

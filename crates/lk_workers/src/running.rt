@@ -1,7 +1,7 @@
 // The jobs of a file are run, and the domain is closed.
 ghost use Rattle.std.specs.Prelude.{◌≡◌, ◌+◌, ◌++◌, ◌≤◌, [], IfOk, length, map};
 ghost use Rattle.lk_job_forms.specs.Outcome.{IsOutcome};
-ghost use Rattle.lk_job_forms.specs.Workload.{IsLawful, RunsNow, workload_of};
+ghost use Rattle.lk_job_forms.specs.Workload.{IsLawful, workload_of};
 ghost use Rattle.lk_workers.specs.UnderLock.{UnderLock, looks_in};
 ghost use Rattle.lk_workers.specs.Workers.{all_records, cpu_of};
 
@@ -60,7 +60,6 @@ pub fn run_jobs<G: Gate, R: Threads + Wait + Sync>(
     gate: &G,
 ) -> Result<Outcome, Memory>
     requires lawful { IsLawful (workload_of file.now) }
-    requires runs { RunsNow (workload_of file.now) }
     ensures outcome { IfOk result (λ o. IsOutcome (workload_of file.now) o.closed.journal.items
         o.reads.items o.closed.balances.items) }
     ensures under_lock { IfOk result
