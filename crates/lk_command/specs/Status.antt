@@ -1,7 +1,7 @@
 -- The numbers and the notes of the statuses.
 use Rattle.std.specs.Prelude.{ℕ, List, [], ◌++◌, codes, decimal, Result, Ok, Err}
 use Rattle.lk_forms.specs.declared.answers.Fault.{Fault}
-use Rattle.lk_forms.specs.declared.answers.Fault.TheVariants.{NoFormat, NotText, UnknownWord, WordCount, BadNumber, OutOfRange, Misplaced, Repeated, WrongLock, Reheld, NotHeld, StillHeld, Crossed, NoEnd, NotYet}
+use Rattle.lk_forms.specs.declared.answers.Fault.TheVariants.{NoFormat, NotText, UnknownWord, WordCount, BadNumber, OutOfRange, Misplaced, Repeated, WrongLock, Reheld, NotHeld, StillHeld, Crossed, NoEnd}
 use Rattle.lk_forms.specs.declared.answers.Which.{Which}
 use Rattle.lk_forms.specs.declared.answers.Which.TheVariants.{Line, Input, Words, Handlers, Acts, Jobs, Total}
 use Rattle.lk_text.specs.declared.sink.WriteFault.{WriteFault}
@@ -60,7 +60,6 @@ fault_name NotHeld = codes "NotHeld"
 fault_name StillHeld = codes "StillHeld"
 fault_name Crossed = codes "Crossed"
 fault_name NoEnd = codes "NoEnd"
-fault_name NotYet = codes "NotYet"
 
 -- the name of a limit
 abbrev pub which_name : Which → List ℕ

@@ -28,7 +28,6 @@ fn name_of(fault: Fault) -> &'static [u8]
         Fault::StillHeld => b"StillHeld",
         Fault::Crossed => b"Crossed",
         Fault::NoEnd => b"NoEnd",
-        Fault::NotYet => b"NotYet",
     }
 }
 
