@@ -2,11 +2,13 @@
 
 use std::sync::atomic::{AtomicU64, Ordering};
 
-/// Two numbers. Each is read and then written, and so two holders at once would lose a change.
+/// Two numbers. Each is read and then written, and so two holders at once would lose a change; and
+/// who reads both while another changes them may find them apart.
 #[derive(Drop)]
 pub struct Numbers {
     first: AtomicU64,
     second: AtomicU64,
+    apart: AtomicU64,
 }
 
 // Reads the number, and writes the next one.
@@ -21,14 +23,25 @@ impl Numbers {
         Numbers {
             first: AtomicU64::new(0),
             second: AtomicU64::new(0),
+            apart: AtomicU64::new(0),
         }
     }
 
-    /// Raises both by one, so often. Only who holds the lock may do this.
+    /// Raises both by one, so often. Only who holds the lock alone may do this.
     pub fn change(&self, times: u16) {
         for _ in 0..times {
             raise(&self.first);
             raise(&self.second);
+        }
+    }
+
+    /// Reads both so often, and notes whether they were ever apart. Who does this holds the lock.
+    pub fn compare(&self, times: u16) {
+        for _ in 0..times {
+            let first = self.first.load(Ordering::SeqCst);
+            if first != self.second.load(Ordering::SeqCst) {
+                self.apart.store(1, Ordering::SeqCst);
+            }
         }
     }
 
@@ -38,5 +51,10 @@ impl Numbers {
             self.first.load(Ordering::SeqCst),
             self.second.load(Ordering::SeqCst),
         )
+    }
+
+    /// Whether nobody who compared them found them apart.
+    pub fn were_one(&self) -> bool {
+        self.apart.load(Ordering::SeqCst) == 0
     }
 }

@@ -1,28 +1,42 @@
 // The plan of the domain.
-ghost use Rattle.std.specs.Prelude.{◌≡◌, IfOk};
-ghost use Rattle.lk_domain.specs.Plans.{IsLawfulPlan, cpus_of};
+ghost use Rattle.std.specs.Prelude.{◌≡◌, ◌≤◌, IfOk, length};
+ghost use Rattle.lk_domain.specs.Plans.{IsLawfulPlan, cpus_of, kind_at, locks_of};
 
 use crate::race::Race;
-use lk_abs::{Kind, List, Memory, Topology};
+use lk_abs::{List, Memory, Topology};
 use lk_domain::Plan;
 use std::alloc::Global;
 
-/// One spinlock, and a processor for each thread, all on one socket. The ledger has no accounts, and
-/// so no processor may write an entry.
+// How many handovers may pass a waiter of the other socket by.
+const THRESHOLD: u32 = 16;
+
+// Two sockets, whose processors take turns.
+fn sockets(alloc: Global, threads: u32) -> Result<List<u32>, Memory>
+    ensures { IfOk result (λ sockets. length sockets.items ≡ threads) }
+{
+    let mut sockets = List::new(alloc, threads as usize)?;
+    for cpu in 0..threads {
+        sockets.push(cpu % 2);
+    }
+    Ok(sockets)
+}
+
+/// One lock of the race's kind, and a processor for each thread, on two sockets. The ledger has no
+/// accounts, and so no processor may write an entry.
 pub fn plan_of(alloc: Global, race: &Race) -> Result<Plan, Memory>
     ensures lawful { IfOk result (λ plan. IsLawfulPlan plan) }
-    ensures mode { IfOk result (λ plan. plan.mode ≡ race.now.mode) }
     ensures cpus { IfOk result (λ plan. cpus_of plan ≡ race.now.threads) }
+    ensures locks { IfOk result (λ plan. locks_of plan ≡ 1) }
+    ensures kind { IfOk result (λ plan. kind_at plan 0 ≡ race.now.kind) }
 {
-    let cpus = race.threads as usize;
     Ok(Plan {
         mode: race.mode,
         topology: Topology {
-            sockets: List::filled(alloc, 0, cpus)?,
+            sockets: sockets(alloc, race.threads)?,
         },
-        threshold: 0,
-        locks: List::filled(alloc, Kind::Spin, 1)?,
+        threshold: THRESHOLD,
+        locks: List::filled(alloc, race.kind, 1)?,
         balances: List::new(alloc, 0)?,
-        shares: List::filled(alloc, 0, cpus)?,
+        shares: List::filled(alloc, 0, race.threads as usize)?,
     })
 }

@@ -1,13 +1,14 @@
 // A race: each processor takes the lock in turns of its own.
 ghost use Rattle.std.specs.Prelude.{◌≡◌, ◌≤◌, ◌*◌, false, length};
+ghost use Rattle.lk_abs.specs.declared.names.Kind.TheVariants.{Spin, Rw};
 ghost use Rattle.lk_law.specs.Agree.{halts};
-ghost use Rattle.lk_law.specs.Cna.{moves_aside};
 ghost use Rattle.lk_domain.specs.Ends.{AllRest, Rests};
+ghost use Rattle.lk_domain.specs.Plans.{kind_at, locks_of};
 
 use crate::numbers::Numbers;
-use lk_abs::{List, Mode};
+use lk_abs::{Kind, List, Mode};
 use lk_domain::{Cpu, Domain, LockId};
-use lk_run::{NoIrq, lock, unlock};
+use lk_run::{NoIrq, lock, read_lock, read_unlock, unlock, write_lock, write_unlock};
 use std::sync::Wait;
 use std::thread;
 use std::thread::Threads;
@@ -15,18 +16,22 @@ use std::thread::Threads;
 // The one lock of the domain.
 const LOCK: LockId = LockId { index: 0 };
 
+// Of so many turns under a reader-writer lock the last is a writer's.
+const HUNDRED: u32 = 100;
+
 /// What is done in a race.
 #[derive(Clone, Copy)]
 pub struct Race {
     /// The mode of the lock.
     pub mode: Mode,
+    /// Its kind.
+    pub kind: Kind,
     /// How many threads there are, each with a processor.
     pub threads: u32,
     /// How often each of them takes the lock.
     pub turns: u32,
-    /// How often the numbers are changed in a turn.
+    /// How often the numbers are changed or compared in a turn.
     pub work: u16,
-    ghost runs: { moves_aside mode ≡ false },
     ghost awake: { halts mode ≡ false },
     ghost some: { 1 ≤ threads },
     ghost few: { threads ≤ 64 },
@@ -40,32 +45,90 @@ impl Race {
         u64::from(self.threads) * u64::from(self.turns)
     }
 
-    /// What both numbers are at the end, if the lock had one holder at most at each moment.
+    // In how many of its turns each of them changes the numbers.
+    fn writes(&self) -> u32 {
+        match self.kind {
+            Kind::Spin => self.turns,
+            Kind::Rw => self.turns / HUNDRED,
+        }
+    }
+
+    /// What both numbers are at the end, if nobody else held the lock where one held it alone.
     pub fn changes(&self) -> u64 {
-        self.all_turns() * u64::from(self.work)
+        u64::from(self.threads) * u64::from(self.writes()) * u64::from(self.work)
     }
 }
 
-// One turn of a processor, which holds the lock from `lock` to `unlock`, and nothing at either end.
-fn take_turn<R: Wait>(cpu: &mut Cpu, rt: &R, domain: &Domain, numbers: &Numbers, work: u16)
-    requires runs { moves_aside domain.now.plan.mode ≡ false }
+// All turns of a processor under a spinlock, which it holds from `lock` to `unlock`, and nothing in
+// between two turns.
+fn take_turns<R: Wait>(cpu: &mut Cpu, rt: &R, domain: &Domain, numbers: &Numbers, race: &Race)
+    requires one { locks_of domain.now.plan ≡ 1 }
+    requires kind { kind_at domain.now.plan 0 ≡ Spin }
+    requires rests { Rests domain.now cpu.old.number cpu.old }
+    ensures rests { Rests domain.now cpu.old.number cpu.new }
+{
+    let work = race.work;
+    for _ in 0..race.turns {
+        lock(cpu, rt, domain, LOCK, &mut NoIrq);
+        numbers.change(work);
+        unlock(cpu, domain, LOCK);
+    }
+}
+
+// A turn under a reader-writer lock that the processor shares with other readers.
+fn read_turn<R: Wait>(cpu: &mut Cpu, rt: &R, domain: &Domain, numbers: &Numbers, work: u16)
+    requires one { locks_of domain.now.plan ≡ 1 }
+    requires kind { kind_at domain.now.plan 0 ≡ Rw }
     requires rests { Rests domain.now cpu.old.number cpu.old }
     ensures number { cpu.new.number ≡ cpu.old.number }
     ensures rests { Rests domain.now cpu.old.number cpu.new }
 {
-    lock(cpu, rt, domain, LOCK, &mut NoIrq);
-    numbers.change(work);
-    unlock(cpu, domain, LOCK);
+    read_lock(cpu, rt, domain, LOCK, &mut NoIrq);
+    numbers.compare(work);
+    read_unlock(cpu, domain, LOCK);
 }
 
-// All turns of a processor.
-fn take_turns<R: Wait>(cpu: &mut Cpu, rt: &R, domain: &Domain, numbers: &Numbers, race: &Race)
-    requires runs { moves_aside domain.now.plan.mode ≡ false }
+// One that it has alone. It is one in a hundred, and so out of the way of the others.
+#[inline(never)]
+fn write_turn<R: Wait>(cpu: &mut Cpu, rt: &R, domain: &Domain, numbers: &Numbers, work: u16)
+    requires one { locks_of domain.now.plan ≡ 1 }
+    requires kind { kind_at domain.now.plan 0 ≡ Rw }
+    requires rests { Rests domain.now cpu.old.number cpu.old }
+    ensures number { cpu.new.number ≡ cpu.old.number }
+    ensures rests { Rests domain.now cpu.old.number cpu.new }
+{
+    write_lock(cpu, rt, domain, LOCK, &mut NoIrq);
+    numbers.change(work);
+    write_unlock(cpu, domain, LOCK);
+}
+
+// All turns of a processor under a reader-writer lock.
+#[inline(never)]
+fn share_turns<R: Wait>(cpu: &mut Cpu, rt: &R, domain: &Domain, numbers: &Numbers, race: &Race)
+    requires one { locks_of domain.now.plan ≡ 1 }
+    requires kind { kind_at domain.now.plan 0 ≡ Rw }
     requires rests { Rests domain.now cpu.old.number cpu.old }
     ensures rests { Rests domain.now cpu.old.number cpu.new }
 {
-    for _ in 0..race.turns {
-        take_turn(cpu, rt, domain, numbers, race.work);
+    for turn in 0..race.turns {
+        if turn % HUNDRED < HUNDRED - 1 {
+            read_turn(cpu, rt, domain, numbers, race.work);
+        } else {
+            write_turn(cpu, rt, domain, numbers, race.work);
+        }
+    }
+}
+
+// All turns of a processor.
+fn take_part<R: Wait>(cpu: &mut Cpu, rt: &R, domain: &Domain, numbers: &Numbers, race: &Race)
+    requires one { locks_of domain.now.plan ≡ 1 }
+    requires kind { kind_at domain.now.plan 0 ≡ race.now.kind }
+    requires rests { Rests domain.now cpu.old.number cpu.old }
+    ensures rests { Rests domain.now cpu.old.number cpu.new }
+{
+    match race.kind {
+        Kind::Spin => take_turns(cpu, rt, domain, numbers, race),
+        Kind::Rw => share_turns(cpu, rt, domain, numbers, race),
     }
 }
 
@@ -77,7 +140,8 @@ pub fn take_all_turns<R: Threads + Wait + Sync>(
     race: &Race,
     cpus: &mut List<Cpu>,
 )
-    requires runs { moves_aside domain.now.plan.mode ≡ false }
+    requires one { locks_of domain.now.plan ≡ 1 }
+    requires kind { kind_at domain.now.plan 0 ≡ race.now.kind }
     requires rest { AllRest domain.now cpus.old.items }
     ensures all { length cpus.new.items ≡ length cpus.old.items }
     ensures rest { AllRest domain.now cpus.new.items }
@@ -88,7 +152,7 @@ pub fn take_all_turns<R: Threads + Wait + Sync>(
             rt,
             cpus.as_mut_slice(),
             count,
-            &|_, cpu| { take_turns(cpu, rt, domain, numbers, race) },
+            &|_, cpu| { take_part(cpu, rt, domain, numbers, race) },
         );
     }
 }

@@ -1,20 +1,28 @@
 // The words of the program.
 ghost use Rattle.std.specs.Prelude.{◌≡◌, IfSome, false};
 ghost use Rattle.lk_law.specs.Agree.{halts};
-ghost use Rattle.lk_law.specs.Cna.{moves_aside};
 
 use crate::race::Race;
-use lk_abs::Mode;
+use lk_abs::{Kind, Mode};
 use std::env::{self, Env};
 
 // The mode of a word, if its locks run.
 fn mode_of(word: &str) -> Option<Mode>
-    ensures runs { IfSome result (λ mode. moves_aside mode ≡ false) }
     ensures awake { IfSome result (λ mode. halts mode ≡ false) }
 {
     match word {
         "virt" => Some(Mode::Virt),
         "native" => Some(Mode::Native),
+        "cna" => Some(Mode::Cna),
+        _ => None,
+    }
+}
+
+// The kind of lock of a word.
+fn kind_of(word: &str) -> Option<Kind> {
+    match word {
+        "spin" => Some(Kind::Spin),
+        "rw" => Some(Kind::Rw),
         _ => None,
     }
 }
@@ -23,6 +31,7 @@ fn mode_of(word: &str) -> Option<Mode>
 pub fn race_of<R: Env + Alloc>(rt: &R) -> Option<Race> {
     let mut words = env::args(rt).ok()?.skip(1);
     let mode = mode_of(words.next()?.as_str())?;
+    let kind = kind_of(words.next()?.as_str())?;
     let threads = words.next()?.parse::<u32>().ok()?;
     let turns = words.next()?.parse::<u32>().ok()?;
     let work = words.next()?.parse::<u16>().ok()?;
@@ -31,6 +40,7 @@ pub fn race_of<R: Env + Alloc>(rt: &R) -> Option<Race> {
     }
     Some(Race {
         mode,
+        kind,
         threads,
         turns,
         work,
