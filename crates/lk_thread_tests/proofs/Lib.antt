@@ -1,2 +1,1 @@
-mod Nested
 mod TakenOff

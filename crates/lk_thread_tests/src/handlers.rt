@@ -1,15 +1,16 @@
 // Handlers that come while a call waits.
 ghost use Rattle.std.specs.Prelude.{◌≡◌, ◌≢◌, ◌<◌, Some, true, false, length};
+ghost use Rattle.lk_abs.specs.declared.names.Kind.TheVariants.{Spin};
 ghost use Rattle.lk_law.specs.Agree.{halts};
-ghost use Rattle.lk_law.specs.Cna.{moves_aside};
 ghost use Rattle.lk_domain.specs.Ends.{AllRest, Rests};
 ghost use Rattle.lk_domain.specs.Paths.{AreKept, Passes, is_busy};
-ghost use Rattle.lk_domain.specs.Plans.{locks_of};
+ghost use Rattle.lk_domain.specs.Plans.{kind_at, locks_of};
 ghost use Rattle.lk_domain.specs.Seats.{IsOf, KeepsRest, calls_of, ledger_of};
 ghost use Rattle.lk_domain.specs.Waits.{MayTake};
+ghost use Rattle.lk_thread_tests.specs.Stages.{AreAll};
 
 use crate::stage::{LOCKS, Sign, open};
-use lk_abs::{List, Mode};
+use lk_abs::{Kind, List, Mode};
 use lk_domain::{Cpu, Domain, LockId};
 use lk_run::{Irq, NoIrq, lock, try_lock, unlock};
 use std::process::Abort;
@@ -128,12 +129,12 @@ fn holds_first_alone(cpu: &Cpu) -> bool {
 fn may_visit(cpu: &Cpu, domain: &Domain, id: LockId) -> bool
     ensures other { result ≡ true → id.index ≢ 0 }
     ensures lock { result ≡ true → id.index < locks_of domain.now.plan }
-    ensures runs { result ≡ true → moves_aside domain.now.plan.mode ≡ false }
+    ensures kind { result ≡ true → kind_at domain.now.plan id.index ≡ Spin }
     ensures may { result ≡ true → MayTake id.index (calls_of cpu.now) }
 {
     id.index != 0
         && id.index < domain.locks()
-        && domain.mode() != Mode::Cna
+        && domain.kind(id) == Kind::Spin
         && cpu.depth() < 6
         && !cpu.holds(id)
         && !cpu.waits(id)
@@ -144,7 +145,7 @@ fn visit<I: Irq, R: Wait>(cpu: &mut Cpu, rt: &R, domain: &Domain, id: LockId, ir
     requires domain { IsOf cpu.old domain.now }
     requires other { id.index ≢ 0 }
     requires lock { id.index < locks_of domain.now.plan }
-    requires runs { moves_aside domain.now.plan.mode ≡ false }
+    requires kind { kind_at domain.now.plan id.index ≡ Spin }
     requires may { MayTake id.index (calls_of cpu.old) }
     ensures rest { KeepsRest cpu.old cpu.new }
     ensures calls { AreKept (calls_of cpu.old) (calls_of cpu.new) }
@@ -156,7 +157,7 @@ fn visit<I: Irq, R: Wait>(cpu: &mut Cpu, rt: &R, domain: &Domain, id: LockId, ir
 
 // Holds a lock until so many handlers have come.
 fn hold<R: Wait>(cpu: &mut Cpu, rt: &R, domain: &Domain, board: &Board, id: LockId, handlers: u64)
-    requires runs { moves_aside domain.now.plan.mode ≡ false }
+    requires spins { AreAll Spin domain.now.plan }
     requires lock { id.index < locks_of domain.now.plan }
     requires rests { Rests domain.now cpu.old.number cpu.old }
     ensures number { cpu.new.number ≡ cpu.old.number }
@@ -177,7 +178,7 @@ fn wait<I: Irq, R: Wait>(
     looks: u64,
     irq: &mut I,
 )
-    requires runs { moves_aside domain.now.plan.mode ≡ false }
+    requires spins { AreAll Spin domain.now.plan }
     requires lock { 0 < locks_of domain.now.plan }
     requires rests { Rests domain.now cpu.old.number cpu.old }
     ensures number { cpu.new.number ≡ cpu.old.number }
@@ -193,6 +194,7 @@ fn wait<I: Irq, R: Wait>(
 
 // Whether the lock is free.
 fn is_free(cpu: &mut Cpu, domain: &Domain, id: LockId) -> bool
+    requires spins { AreAll Spin domain.now.plan }
     requires lock { id.index < locks_of domain.now.plan }
     requires rests { Rests domain.now cpu.old.number cpu.old }
     ensures number { cpu.new.number ≡ cpu.old.number }
@@ -208,6 +210,7 @@ fn is_free(cpu: &mut Cpu, domain: &Domain, id: LockId) -> bool
 
 // The locks from this one on are free.
 fn look_from(cpu: &mut Cpu, domain: &Domain, board: &Board, first: u32)
+    requires spins { AreAll Spin domain.now.plan }
     requires locks { locks_of domain.now.plan ≡ LOCKS }
     requires rests { Rests domain.now cpu.old.number cpu.old }
     ensures number { cpu.new.number ≡ cpu.old.number }
@@ -222,7 +225,7 @@ fn look_from(cpu: &mut Cpu, domain: &Domain, board: &Board, first: u32)
 
 // The task waits for lock 0.
 fn wait_with_one<R: Wait>(cpu: &mut Cpu, rt: &R, domain: &Domain, board: &Board)
-    requires runs { moves_aside domain.now.plan.mode ≡ false }
+    requires spins { AreAll Spin domain.now.plan }
     requires locks { locks_of domain.now.plan ≡ LOCKS }
     requires rests { Rests domain.now cpu.old.number cpu.old }
     ensures number { cpu.new.number ≡ cpu.old.number }
@@ -240,6 +243,7 @@ fn wait_with_one<R: Wait>(cpu: &mut Cpu, rt: &R, domain: &Domain, board: &Board)
 
 // Lock 0 is held by the task, and all others are free.
 fn look_once(cpu: &mut Cpu, domain: &Domain, board: &Board)
+    requires spins { AreAll Spin domain.now.plan }
     requires locks { locks_of domain.now.plan ≡ LOCKS }
     requires rests { Rests domain.now cpu.old.number cpu.old }
     ensures number { cpu.new.number ≡ cpu.old.number }
@@ -253,7 +257,7 @@ fn look_once(cpu: &mut Cpu, domain: &Domain, board: &Board)
 
 // What each of three processors does.
 fn play_one<R: Wait>(cpu: &mut Cpu, rt: &R, domain: &Domain, board: &Board)
-    requires runs { moves_aside domain.now.plan.mode ≡ false }
+    requires spins { AreAll Spin domain.now.plan }
     requires locks { locks_of domain.now.plan ≡ LOCKS }
     requires rests { Rests domain.now cpu.old.number cpu.old }
     ensures number { cpu.new.number ≡ cpu.old.number }
@@ -268,7 +272,7 @@ fn play_one<R: Wait>(cpu: &mut Cpu, rt: &R, domain: &Domain, board: &Board)
 
 // All three at once, each on a thread of its own.
 fn play_ones<R: Threads + Wait + Sync>(rt: &R, domain: &Domain, board: &Board, cpus: &mut List<Cpu>)
-    requires runs { moves_aside domain.now.plan.mode ≡ false }
+    requires spins { AreAll Spin domain.now.plan }
     requires locks { locks_of domain.now.plan ≡ LOCKS }
     requires rest { AllRest domain.now cpus.old.items }
 {
@@ -286,7 +290,7 @@ fn play_ones<R: Threads + Wait + Sync>(rt: &R, domain: &Domain, board: &Board, c
 // The task waits for lock 0; as many calls of its processor are in the slow path when the last
 // handler comes.
 fn wait_with_five<R: Wait>(cpu: &mut Cpu, rt: &R, domain: &Domain, board: &Board, queued: u32)
-    requires runs { moves_aside domain.now.plan.mode ≡ false }
+    requires spins { AreAll Spin domain.now.plan }
     requires locks { locks_of domain.now.plan ≡ LOCKS }
     requires rests { Rests domain.now cpu.old.number cpu.old }
     ensures number { cpu.new.number ≡ cpu.old.number }
@@ -330,9 +334,9 @@ fn wait_with_five<R: Wait>(cpu: &mut Cpu, rt: &R, domain: &Domain, board: &Board
     wait(cpu, rt, domain, board, 0, &mut first);
 }
 
-// In `native` the first task pends at each lock.
+// In `native` and `cna` the first task pends at each lock.
 fn pend_with_five<R: Wait>(cpu: &mut Cpu, rt: &R, domain: &Domain, board: &Board)
-    requires runs { moves_aside domain.now.plan.mode ≡ false }
+    requires spins { AreAll Spin domain.now.plan }
     requires locks { locks_of domain.now.plan ≡ LOCKS }
     requires rests { Rests domain.now cpu.old.number cpu.old }
     ensures number { cpu.new.number ≡ cpu.old.number }
@@ -344,23 +348,24 @@ fn pend_with_five<R: Wait>(cpu: &mut Cpu, rt: &R, domain: &Domain, board: &Board
 
 // So the second one queues there: with a node of its own at four locks, and without one at two.
 fn queue_with_five<R: Wait>(cpu: &mut Cpu, rt: &R, domain: &Domain, board: &Board)
-    requires runs { moves_aside domain.now.plan.mode ≡ false }
+    requires spins { AreAll Spin domain.now.plan }
     requires locks { locks_of domain.now.plan ≡ LOCKS }
     requires rests { Rests domain.now cpu.old.number cpu.old }
     ensures number { cpu.new.number ≡ cpu.old.number }
     ensures rests { Rests domain.now cpu.old.number cpu.new }
 {
     board.expect(board.came.comes(1));
-    let queued = if domain.mode() == Mode::Native {
-        LOCKS
-    } else {
+    let queued = if domain.mode() == Mode::Virt {
         0
+    } else {
+        LOCKS
     };
     wait_with_five(cpu, rt, domain, board, queued);
 }
 
 // All locks are free once both tasks have ended.
 fn look_at_end(cpu: &mut Cpu, domain: &Domain, board: &Board)
+    requires spins { AreAll Spin domain.now.plan }
     requires locks { locks_of domain.now.plan ≡ LOCKS }
     requires rests { Rests domain.now cpu.old.number cpu.old }
     ensures number { cpu.new.number ≡ cpu.old.number }
@@ -373,7 +378,7 @@ fn look_at_end(cpu: &mut Cpu, domain: &Domain, board: &Board)
 
 // What each of nine processors does.
 fn play_five<R: Wait>(cpu: &mut Cpu, rt: &R, domain: &Domain, board: &Board)
-    requires runs { moves_aside domain.now.plan.mode ≡ false }
+    requires spins { AreAll Spin domain.now.plan }
     requires locks { locks_of domain.now.plan ≡ LOCKS }
     requires rests { Rests domain.now cpu.old.number cpu.old }
     ensures number { cpu.new.number ≡ cpu.old.number }
@@ -397,7 +402,7 @@ fn play_fives<R: Threads + Wait + Sync>(
     board: &Board,
     cpus: &mut List<Cpu>,
 )
-    requires runs { moves_aside domain.now.plan.mode ≡ false }
+    requires spins { AreAll Spin domain.now.plan }
     requires locks { locks_of domain.now.plan ≡ LOCKS }
     requires rest { AllRest domain.now cpus.old.items }
 {
@@ -411,10 +416,9 @@ fn play_fives<R: Threads + Wait + Sync>(
 
 // The test with one handler.
 fn test_one(rt: &(impl Abort + AllocGlobal + Threads + Wait + Sync), mode: Mode) -> Result<(), Fail>
-    requires runs { moves_aside mode ≡ false }
     requires awake { halts mode ≡ false }
 {
-    let Ok((domain, mut cpus)) = open(rt.alloc(), mode, 3) else {
+    let Ok((domain, mut cpus)) = open(rt.alloc(), mode, Kind::Spin, 3) else {
         return Err("no memory".into());
     };
     let board = Board::new();
@@ -431,10 +435,9 @@ fn test_five(
     rt: &(impl Abort + AllocGlobal + Threads + Wait + Sync),
     mode: Mode,
 ) -> Result<(), Fail>
-    requires runs { moves_aside mode ≡ false }
     requires awake { halts mode ≡ false }
 {
-    let Ok((domain, mut cpus)) = open(rt.alloc(), mode, 9) else {
+    let Ok((domain, mut cpus)) = open(rt.alloc(), mode, Kind::Spin, 9) else {
         return Err("no memory".into());
     };
     let board = Board::new();
@@ -450,11 +453,13 @@ fn test_five(
 #[test]
 fn a_handler_takes_another_lock(rt: HostRuntime) -> Result<(), Fail> {
     test_one(&rt, Mode::Virt)?;
-    test_one(&rt, Mode::Native)
+    test_one(&rt, Mode::Native)?;
+    test_one(&rt, Mode::Cna)
 }
 
 #[test]
 fn five_handlers_wait_in_all_contexts(rt: HostRuntime) -> Result<(), Fail> {
     test_five(&rt, Mode::Virt)?;
-    test_five(&rt, Mode::Native)
+    test_five(&rt, Mode::Native)?;
+    test_five(&rt, Mode::Cna)
 }

@@ -8,4 +8,8 @@ mod handlers;
 #[cfg(test)]
 mod lock_calls;
 #[cfg(test)]
+mod region_calls;
+#[cfg(test)]
+mod rw_calls;
+#[cfg(test)]
 mod stage;

@@ -1,11 +1,10 @@
 // The calls on locks, by two processors of one thread.
 ghost use Rattle.std.specs.Prelude.{◌≡◌, None, false};
 ghost use Rattle.lk_law.specs.Agree.{halts};
-ghost use Rattle.lk_law.specs.Cna.{moves_aside};
 ghost use Rattle.lk_domain.specs.Seats.{IsOf, ledger_of};
 
 use crate::stage::{LOCKS, open, take_last};
-use lk_abs::Mode;
+use lk_abs::{Kind, Mode};
 use lk_domain::{Cpu, Domain, LockId};
 use lk_run::{NoIrq, lock, try_lock, unlock};
 use std::alloc::{AllocError, Global};
@@ -41,13 +40,15 @@ fn make_call<R: Wait>(
     verb: &str,
     id: LockId,
 ) -> Option<bool>
-    requires runs { moves_aside domain.now.plan.mode ≡ false }
     requires domain { IsOf cpu.old domain.now }
     requires home { (ledger_of cpu.old).out ≡ None }
     ensures domain { IsOf cpu.new domain.now }
     ensures home { (ledger_of cpu.new).out ≡ None }
 {
-    if id.index >= domain.locks() || cpu.waits(id) || cpu.depth() > 0 {
+    if id.index >= domain.locks() || domain.kind(id) != Kind::Spin {
+        return None;
+    }
+    if cpu.waits(id) || cpu.depth() > 0 {
         return None;
     }
     match (verb, cpu.holds(id)) {
@@ -88,7 +89,6 @@ fn make_call_by<R: Wait>(
     verb: &str,
     id: LockId,
 ) -> Option<bool>
-    requires runs { moves_aside domain.now.plan.mode ≡ false }
     requires domain { IsOf first.old domain.now × IsOf second.old domain.now }
     requires home { ((ledger_of first.old).out ≡ None) × ((ledger_of second.old).out ≡ None) }
     ensures domain { IsOf first.new domain.now × IsOf second.new domain.now }
@@ -109,7 +109,6 @@ fn play<R: Abort + AllocGlobal + Wait>(
     second: &mut Cpu,
     row: &str,
 ) -> Result<(), Fail>
-    requires runs { moves_aside domain.now.plan.mode ≡ false }
     requires domain { IsOf first.old domain.now × IsOf second.old domain.now }
     requires home { ((ledger_of first.old).out ≡ None) × ((ledger_of second.old).out ≡ None) }
     ensures domain { IsOf first.new domain.now × IsOf second.new domain.now }
@@ -132,10 +131,9 @@ fn play<R: Abort + AllocGlobal + Wait>(
 
 // Plays all rows in this mode.
 fn play_all(rt: &(impl Abort + AllocGlobal + Wait), mode: Mode) -> Result<(), Fail>
-    requires runs { moves_aside mode ≡ false }
     requires awake { halts mode ≡ false }
 {
-    let Ok((domain, mut cpus)) = open(rt.alloc(), mode, 2) else {
+    let Ok((domain, mut cpus)) = open(rt.alloc(), mode, Kind::Spin, 2) else {
         return Err("no memory".into());
     };
     let mut second = take_last(&mut cpus, &domain);
@@ -149,5 +147,6 @@ fn play_all(rt: &(impl Abort + AllocGlobal + Wait), mode: Mode) -> Result<(), Fa
 #[test]
 fn calls_on_locks(rt: HostRuntime) -> Result<(), Fail> {
     play_all(&rt, Mode::Virt)?;
-    play_all(&rt, Mode::Native)
+    play_all(&rt, Mode::Native)?;
+    play_all(&rt, Mode::Cna)
 }

@@ -1,9 +1,11 @@
 // A domain for tests of running locks, and signs by which its threads meet.
-ghost use Rattle.std.specs.Prelude.{◌≡◌, ◌+◌, ◌<◌, ◌≤◌, false, None, IfOk, length};
+ghost use Rattle.std.specs.Prelude.{◌≡◌, ◌+◌, ◌<◌, ◌≤◌, false, IfOk, length};
 ghost use Rattle.lk_law.specs.Agree.{halts};
 ghost use Rattle.lk_domain.specs.Ends.{AllRest};
 ghost use Rattle.lk_domain.specs.Plans.{IsLawfulPlan, cpus_of, locks_of};
-ghost use Rattle.lk_domain.specs.Seats.{IsOf, ledger_of};
+ghost use Rattle.lk_domain.specs.Seats.{IsOf};
+ghost use Rattle.lk_guard.specs.Idle.{IsIdle};
+ghost use Rattle.lk_thread_tests.specs.Stages.{AreAll};
 
 use lk_abs::{Kind, List, Memory, Mode, Topology};
 use lk_domain::{Cpu, Domain, Plan};
@@ -54,7 +56,7 @@ impl Sign {
 }
 
 // The plan of such a domain.
-fn plan_of(alloc: Global, mode: Mode, cpus: usize) -> Result<Plan, Memory>
+fn plan_of(alloc: Global, mode: Mode, kind: Kind, cpus: usize) -> Result<Plan, Memory>
     requires awake { halts mode ≡ false }
     requires some { 1 ≤ cpus }
     requires few { cpus ≤ 64 }
@@ -62,6 +64,7 @@ fn plan_of(alloc: Global, mode: Mode, cpus: usize) -> Result<Plan, Memory>
     ensures mode { IfOk result (λ plan. plan.mode ≡ mode) }
     ensures cpus { IfOk result (λ plan. cpus_of plan ≡ cpus) }
     ensures locks { IfOk result (λ plan. locks_of plan ≡ LOCKS) }
+    ensures kinds { IfOk result (λ plan. AreAll kind plan) }
 {
     Ok(Plan {
         mode,
@@ -69,23 +72,29 @@ fn plan_of(alloc: Global, mode: Mode, cpus: usize) -> Result<Plan, Memory>
             sockets: List::filled(alloc, 0, cpus)?,
         },
         threshold: 0,
-        locks: List::filled(alloc, Kind::Spin, LOCKS as usize)?,
+        locks: List::filled(alloc, kind, LOCKS as usize)?,
         balances: List::new(alloc, 0)?,
         shares: List::filled(alloc, 0, cpus)?,
     })
 }
 
-/// A domain of six spinlocks and no accounts, with so many processors.
-pub fn open(alloc: Global, mode: Mode, cpus: usize) -> Result<(Domain, List<Cpu>), Memory>
+/// A domain of six locks of this kind and no accounts, with so many processors.
+pub fn open(
+    alloc: Global,
+    mode: Mode,
+    kind: Kind,
+    cpus: usize,
+) -> Result<(Domain, List<Cpu>), Memory>
     requires awake { halts mode ≡ false }
     requires some { 1 ≤ cpus }
     requires few { cpus ≤ 64 }
     ensures mode { IfOk result (λ made. made.0.plan.mode ≡ mode) }
     ensures locks { IfOk result (λ made. locks_of made.0.plan ≡ LOCKS) }
+    ensures kinds { IfOk result (λ made. AreAll kind made.0.plan) }
     ensures many { IfOk result (λ made. length made.1.items ≡ cpus) }
     ensures rest { IfOk result (λ made. AllRest made.0 made.1.items) }
 {
-    let plan = plan_of(alloc, mode, cpus)?;
+    let plan = plan_of(alloc, mode, kind, cpus)?;
     let made = Domain::new(alloc, &plan)?;
     Ok(made)
 }
@@ -95,7 +104,7 @@ pub fn take_last(cpus: &mut List<Cpu>, domain: &Domain) -> Cpu
     requires some { 0 < length cpus.old.items }
     requires rest { AllRest domain.now cpus.old.items }
     ensures domain { IsOf result domain.now }
-    ensures home { (ledger_of result).out ≡ None }
+    ensures idle { IsIdle result }
     ensures long { length cpus.new.items + 1 ≡ length cpus.old.items }
     ensures rest { AllRest domain.now cpus.new.items }
 {

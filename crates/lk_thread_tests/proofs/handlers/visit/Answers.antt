@@ -1,4 +1,4 @@
-use Rattle.lk_thread_tests.proofs.Nested.{kept, passed}
+use Rattle.lk_run.proofs.Nested.{kept, passed}
 use Rattle.lk_thread_tests.proofs.handlers.visit.Goals as goal
 
 pub returns-clause-calls : goal.returns-clause-calls

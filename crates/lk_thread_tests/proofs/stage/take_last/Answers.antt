@@ -5,9 +5,10 @@ pub returns-clause-domain : goal.returns-clause-domain
 returns-clause-domain c =
     (taken_off c.args.domain.now c.args.cpus.now.items c.pop.new.self.items c.pop.result c.requires.rest c.pop.ensures.items).domain_is
 
-pub returns-clause-home : goal.returns-clause-home
-returns-clause-home c =
-    (taken_off c.args.domain.now c.args.cpus.now.items c.pop.new.self.items c.pop.result c.requires.rest c.pop.ensures.items).home
+pub returns-clause-idle : goal.returns-clause-idle
+returns-clause-idle c =
+    let rests = taken_off c.args.domain.now c.args.cpus.now.items c.pop.new.self.items c.pop.result c.requires.rest c.pop.ensures.items in
+    record { frames = rests.frames; holds = rests.holds; home = rests.home }
 
 pub returns-clause-long : goal.returns-clause-long
 returns-clause-long c = one_less c.args.cpus.now.items c.pop.new.self.items c.pop.result c.pop.ensures.items

@@ -1,0 +1,18 @@
+-- The locks of a test, and a processor that holds one.
+use Rattle.std.specs.Prelude.{◌≡◌, ◌<◌, ℕ, None}
+use Rattle.lk_abs.specs.declared.holder.Manner.{Manner}
+use Rattle.lk_abs.specs.declared.names.Kind.{Kind}
+use Rattle.lk_domain.specs.Plans.{kind_at, locks_of}
+use Rattle.lk_domain.specs.Seats.{ledger_of}
+use Rattle.lk_domain.specs.declared.cpu.Cpu.{Cpu}
+use Rattle.lk_domain.specs.declared.plan.Plan.{Plan}
+use Rattle.lk_guard.specs.Holding.{IsHolding}
+
+-- all locks of the plan are of this kind
+abbrev pub AreAll : Kind → Plan → Type 0
+AreAll kind k = (i : ℕ) → i < locks_of k → kind_at k i ≡ kind
+
+-- the processor holds lock 0 alone, in this manner, and has not taken the journal out
+pub record HasFirst (m : Manner) (cpu : Cpu) : Type 0 where
+  pub holding : IsHolding m cpu
+  pub home : (ledger_of cpu).out ≡ None
