@@ -10,6 +10,7 @@ The program that does this is written below. It is proved and built by `rt run`,
 that is thrown away; with FOLDER a later call builds only what has changed. Printed are the nanoseconds an operation, the best of
 N runs (five, if not said) of each a thousand hashes or more.
 """
+import argparse
 import os
 import shutil
 import subprocess
@@ -157,23 +158,16 @@ def best(program, cpus, step, rounds, runs):
     return least
 
 
-def main(argv):
-    runs, folder = 5, None
-    while argv and argv[0].startswith("--"):
-        option = argv.pop(0)
-        if option == "--runs" and argv:
-            runs = int(argv.pop(0))
-        elif option == "--in" and argv:
-            folder = os.path.abspath(argv.pop(0))
-        else:
-            sys.exit(__doc__)
-    if argv:
-        sys.exit(__doc__)
+def main():
+    said = argparse.ArgumentParser(usage=__doc__)
+    said.add_argument("--runs", type=int, default=5)
+    said.add_argument("--in", dest="folder")
+    args = said.parse_args()
     with tempfile.TemporaryDirectory() as scratch:
-        program = build(folder or scratch)
+        program = build(os.path.abspath(args.folder) if args.folder else scratch)
         print("%-34s %12s %12s %12s" % ("ns an operation", "find, enter", "find", "find, remove"))
         for name, cpus, step, rounds in (("4,096 places, each its own home", 1024, 1, 1000), ("64 places, one home for all", 16, 64, 20000)):
-            print("%-34s %12.1f %12.1f %12.1f" % (name, *best(program, cpus, step, rounds, runs)))
+            print("%-34s %12.1f %12.1f %12.1f" % (name, *best(program, cpus, step, rounds, args.runs)))
 
 
-main(sys.argv[1:])
+main()

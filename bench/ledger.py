@@ -1,5 +1,5 @@
 #!/usr/bin/env python3
-"""ledger.py [--runs N] [--jobs N] [--workers N] [--accounts N] [--mode MODE] PROGRAM
+"""ledger.py [--runs N] [--jobs N] [--workers N] [--accounts N] [--mode MODE] [--guard KIND] PROGRAM
 
 Measures `PROGRAM ledger` beside the plain peer in ledger.rs, which does the same under a `std::sync::Mutex`: the same job file is
 given to both in turn, N times (eleven, if not said), and the least and the median of the times by the clock are printed, with their
@@ -19,9 +19,9 @@ HERE = os.path.dirname(os.path.abspath(__file__))
 CHECK = os.path.join(HERE, "..", "tools", "ledger_check.py")
 
 
-def job_file(mode, jobs, workers, accounts, seed=5):
+def job_file(mode, guard, jobs, workers, accounts, seed=5):
     draw = random.Random(seed)
-    lines = ["qjobs 1", "mode " + mode, "workers %d" % workers, "accounts " + " ".join(["1000"] * accounts)]
+    lines = ["qjobs 1", "mode " + mode, "guard " + guard, "workers %d" % workers, "accounts " + " ".join(["1000"] * accounts)]
     for _ in range(jobs):
         worker, one, other = draw.randrange(workers), draw.randrange(accounts), draw.randrange(accounts)
         said = draw.choice(["move %d %d %d" % (one, other, draw.randrange(50))] * 4 + ["add %d %d" % (one, draw.randrange(50))] * 2
@@ -42,6 +42,7 @@ def main():
     for name, value in (("--runs", 11), ("--jobs", 100000), ("--workers", 4), ("--accounts", 8)):
         said.add_argument(name, type=int, default=value)
     said.add_argument("--mode", default="virt")
+    said.add_argument("--guard", default="spin")
     said.add_argument("program")
     args = said.parse_args()
     with tempfile.TemporaryDirectory() as folder:
@@ -49,12 +50,12 @@ def main():
         subprocess.run(["rustc", "-O", "-o", peer, os.path.join(HERE, "ledger.rs")], check=True)
         commands = {"qlock ledger": [args.program, "ledger"], "plain, Mutex": [peer]}
         with open(given, "w") as file:
-            file.write(job_file(args.mode, args.jobs // 50, args.workers, args.accounts))
+            file.write(job_file(args.mode, args.guard, args.jobs // 50, args.workers, args.accounts))
         for command in commands.values():
             timed(command, given, out)
             subprocess.run([sys.executable, CHECK, given, out], check=True)
         with open(given, "w") as file:
-            file.write(job_file(args.mode, args.jobs, args.workers, args.accounts))
+            file.write(job_file(args.mode, args.guard, args.jobs, args.workers, args.accounts))
         times = {name: [] for name in commands}
         for _ in range(args.runs):
             for name, command in commands.items():

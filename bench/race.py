@@ -1,17 +1,24 @@
 #!/usr/bin/env python3
-"""race.py [--runs N] PROGRAM [MODE..]
+"""race.py [--runs N] [--kind spin|rw] PROGRAM [MODE..]
 
-Compares the running locks of these modes (`virt` and `native`, if none is said) with plain Rust. PROGRAM is a built `lk_race`
+Compares the running locks of these modes (`virt`, `native` and `cna`, if none is said) with plain Rust. PROGRAM is a built `lk_race`
 (`rt run` in crates/lk_race leaves it in out/). Beside each mode stands the same lock in plain Rust, over atomic words with every step
-SeqCst: the test-and-set lock beside `virt`, the queued lock beside `native`. And std's Mutex stands beside all. These are in `race.rs`,
-which is compiled here by `rustc -O`. Each race is run N times (sixty, if not said), all locks in turn, so that they have the same
-machine; printed are the least and the middle nanoseconds a turn, and the least against that of the same lock in plain Rust.
+SeqCst: the test-and-set lock, the queued lock, and that of Dice and Kogan on two sockets whose processors take turns, with a threshold
+of 16; and beside all stand std's Mutex and RwLock. These are in `race.rs`, which is compiled here by `rustc -O`. Each race is run N
+times (sixty, if not said), all locks in turn, so that they have the same machine; printed are the least and the middle nanoseconds a
+turn, and the least against that of the same lock in plain Rust.
 
-bare      a turn takes the lock and frees it
-work      it changes two numbers in between, each by a load and a store
+spin, bare   a turn takes the lock and frees it
+spin, work   it changes two numbers in between, each by a load and a store
+rw, bare     a turn takes the lock as a reader and frees it, and each hundredth as a writer
+rw, work     a reader compares the two numbers, and a writer changes them
+
+Where a jump crosses a line of 32 bytes, many processors of Intel take some 2 ns more for it, and a turn is short: so a figure of either
+program also goes by where the compiler happened to lay its loop.
 On two and four threads each thread makes its share of the turns. Where the lock is contended, or more threads are there than
 processors are free, the times are those of the scheduler, and differ from run to run: read the least alone.
 """
+import argparse
 import os
 import re
 import statistics
@@ -21,7 +28,8 @@ import tempfile
 
 HERE = os.path.dirname(os.path.abspath(__file__))
 TURNS = {1: 400000, 2: 400000, 4: 200000}
-PLAIN = {"virt": "tas", "native": "queue"}
+MODES = ["virt", "native", "cna"]
+OF_STD = {"spin": "Mutex", "rw": "RwLock"}
 
 
 def turn(command, threads, turns, work):
@@ -33,33 +41,42 @@ def turn(command, threads, turns, work):
     return int(re.search(r"(\d+) microseconds", told.stderr)[1]) * 1e3 / turns
 
 
-def main(argv):
-    runs = 60
-    if argv[:1] == ["--runs"] and len(argv) > 1:
-        runs, argv = int(argv[1]), argv[2:]
-    if not argv or argv[0].startswith("-"):
-        sys.exit(__doc__)
-    program, modes = os.path.abspath(argv[0]), argv[1:] or list(PLAIN)
-    if not set(modes) <= set(PLAIN):
-        sys.exit(__doc__)
+def race(name, locks, threads, turns, work, runs):
+    """Runs a race of all locks, and prints a line for each."""
+    times = {lock: [] for lock in locks}
+    for _ in range(runs):
+        for lock, command in locks.items():
+            times[lock].append(turn(command, threads, turns, work))
+    for lock, its_times in times.items():
+        peer = times.get("plain " + lock)
+        ratio = "%10.2f" % (min(its_times) / min(peer)) if peer else ""
+        print("%-22s %-13s %10.1f %10.1f %s" % (name, lock, min(its_times), statistics.median(its_times), ratio), flush=True)
+
+
+def main():
+    said = argparse.ArgumentParser(usage=__doc__)
+    said.add_argument("--runs", type=int, default=60)
+    said.add_argument("--kind", choices=list(OF_STD))
+    said.add_argument("program")
+    said.add_argument("modes", nargs="*")
+    args = said.parse_args()
+    modes = args.modes or MODES
+    if not set(modes) <= set(MODES):
+        said.error("a mode is one of " + ", ".join(MODES))
+    program = os.path.abspath(args.program)
     with tempfile.TemporaryDirectory() as scratch:
         plain = os.path.join(scratch, "race")
         subprocess.run(["rustc", "-O", "--edition", "2024", "-o", plain, os.path.join(HERE, "race.rs")], check=True)
-        locks = {"Mutex": [plain, "mutex"]}
-        for mode in modes:
-            locks["plain " + mode] = [plain, PLAIN[mode]]
-            locks[mode] = [program, mode]
-        print("%-18s %-13s %10s %10s %10s" % ("race", "lock", "least ns", "middle ns", "to plain"))
-        for threads, turns in TURNS.items():
-            for name, work in (("bare", 0), ("work", 1)):
-                times = {lock: [] for lock in locks}
-                for _ in range(runs):
-                    for lock, command in locks.items():
-                        times[lock].append(turn(command, threads, turns, work))
-                race = "%s, %d thread%s" % (name, threads, "s" * (threads > 1))
-                for lock, all_times in times.items():
-                    figures = "%-18s %-13s %10.1f %10.1f" % (race, lock, min(all_times), statistics.median(all_times))
-                    print(figures, "%10.2f" % (min(all_times) / min(times["plain " + lock])) if lock in modes else "", flush=True)
+        print("%-22s %-13s %10s %10s %10s" % ("race", "lock", "least ns", "middle ns", "to plain"))
+        for kind in [args.kind] if args.kind else OF_STD:
+            locks = {OF_STD[kind]: [plain, "std", kind]}
+            for mode in modes:
+                locks["plain " + mode] = [plain, mode, kind]
+                locks[mode] = [program, mode, kind]
+            for threads, turns in TURNS.items():
+                for name, work in (("bare", 0), ("work", 1)):
+                    title = "%s, %s, %d thread%s" % (kind, name, threads, "s" * (threads > 1))
+                    race(title, locks, threads, turns, work, args.runs)
 
 
-main(sys.argv[1:])
+main()

@@ -1,15 +1,16 @@
-// The locks of `virt` and of `native` in plain Rust, over atomic words and by the same steps as `lk_run` makes them, and the Mutex of
-// std: to compare the speed of `lk_race`, whose words and answers these are. `bench/race.py` compiles and runs it.
-// race tas|queue|mutex THREADS TURNS WORK
+// The locks of `lk_run` in plain Rust, over atomic words and by the same steps, and the Mutex and the RwLock of std: to compare the
+// speed of `lk_race`, whose words and answers these are. `bench/race.py` compiles and runs it.
+// race virt|native|cna|std spin|rw THREADS TURNS WORK
 use std::hint::spin_loop;
-use std::sync::Mutex;
 use std::sync::atomic::{AtomicU64, Ordering::SeqCst};
+use std::sync::{Mutex, RwLock};
 use std::time::Instant;
 
 #[derive(Default)]
 struct Numbers {
     first: AtomicU64,
     second: AtomicU64,
+    torn: AtomicU64,
 }
 
 fn raise(number: &AtomicU64) {
@@ -18,10 +19,20 @@ fn raise(number: &AtomicU64) {
 }
 
 impl Numbers {
+    #[inline]
     fn change(&self, times: u16) {
         for _ in 0..times {
             raise(&self.first);
             raise(&self.second);
+        }
+    }
+
+    #[inline]
+    fn compare(&self, times: u16) {
+        for _ in 0..times {
+            if self.first.load(SeqCst) != self.second.load(SeqCst) {
+                self.torn.store(1, SeqCst);
+            }
         }
     }
 }
@@ -49,7 +60,21 @@ impl Backoff {
     }
 }
 
-#[inline]
+// A processor, and how many of its calls are in a queue.
+struct Cpu {
+    number: u64,
+    queued: u64,
+}
+
+trait Spin: Sync {
+    fn lock(&self, cpu: &mut Cpu);
+    fn unlock(&self);
+}
+
+// The test-and-set lock.
+#[derive(Default)]
+struct TestAndSet(Word);
+
 fn swap(word: &Word) -> bool {
     word.0.compare_exchange(0, 1, SeqCst, SeqCst).is_ok()
 }
@@ -68,16 +93,18 @@ fn wait(word: &Word) {
     }
 }
 
-#[inline]
-fn lock(word: &Word) {
-    if !swap(word) {
-        wait(word);
+impl Spin for TestAndSet {
+    #[inline]
+    fn lock(&self, _cpu: &mut Cpu) {
+        if !swap(&self.0) {
+            wait(&self.0);
+        }
     }
-}
 
-#[inline]
-fn unlock(word: &Word) {
-    word.0.fetch_sub(1, SeqCst);
+    #[inline]
+    fn unlock(&self) {
+        self.0.0.fetch_sub(1, SeqCst);
+    }
 }
 
 // The queued lock: bit 0 is locked, bit 8 is pending, and the bits from 16 on name the node at the tail, whose number is raised by four.
@@ -85,40 +112,49 @@ const LOCKED: u64 = 1;
 const PENDING: u64 = 1 << 8;
 const LOW: u64 = (1 << 16) - 1;
 
-// A node of a processor, which has four of them: whether it leads, and its successor's number raised by two.
+fn tail(node: u64) -> u64 {
+    (node + 4) << 16
+}
+
+// What a flag is: a number above GO names the first node of a second queue, as a link does, by its number raised by two.
+const UNSET: u64 = 0;
+const GO: u64 = 1;
+
+// A node of a processor, which has four of them: whether it leads, and its successor; and what a front that chooses notes in it: the
+// last of the second queue whose first it is, and how many handovers were made since that queue is not empty.
 #[derive(Default)]
 #[repr(align(32))]
 struct Node {
     flag: AtomicU64,
     next: AtomicU64,
+    second_tail: AtomicU64,
+    runs: AtomicU64,
 }
 
-struct Queue {
+// A queued lock, in the compact form of Dice and Kogan where CHOOSES.
+struct Queue<const CHOOSES: bool> {
     word: Word,
     nodes: Vec<Node>,
 }
 
-// A processor, and how many of its calls are in the queue.
-struct Cpu {
-    number: u64,
-    queued: u64,
+// Two sockets, whose processors take turns.
+const THRESHOLD: u64 = 16;
+
+fn socket(node: u64) -> u64 {
+    node / 4 % 2
 }
 
-impl Queue {
-    fn new(cpus: u32) -> Queue {
+impl<const CHOOSES: bool> Queue<CHOOSES> {
+    fn new(cpus: u32) -> Self {
         Queue { word: Word::default(), nodes: (0..4 * cpus).map(|_| Node::default()).collect() }
     }
 
-    #[inline]
-    fn lock(&self, cpu: &mut Cpu) {
-        if let Err(met) = self.word.0.compare_exchange(0, LOCKED, SeqCst, SeqCst) {
-            self.contend(cpu, met);
-        }
+    fn next_of(&self, node: u64) -> Option<u64> {
+        self.nodes[node as usize].next.load(SeqCst).checked_sub(2)
     }
 
-    #[inline]
-    fn unlock(&self) {
-        self.word.0.fetch_sub(LOCKED, SeqCst);
+    fn link(&self, node: u64, next: Option<u64>) {
+        self.nodes[node as usize].next.store(next.map_or(0, |next| next + 2), SeqCst);
     }
 
     #[inline(never)]
@@ -154,7 +190,11 @@ impl Queue {
 
     fn queue(&self, own: u64) {
         let (word, node) = (&self.word.0, &self.nodes[own as usize]);
-        node.flag.store(0, SeqCst);
+        node.flag.store(UNSET, SeqCst);
+        if CHOOSES {
+            node.second_tail.store(0, SeqCst);
+            node.runs.store(0, SeqCst);
+        }
         node.next.store(0, SeqCst);
         let mut met = word.load(SeqCst);
         if met == 0 {
@@ -163,83 +203,287 @@ impl Queue {
                 Err(now) => met = now,
             }
         }
-        let tail = (own + 4) << 16;
-        while let Err(now) = word.compare_exchange(met, met & LOW | tail, SeqCst, SeqCst) {
+        while let Err(now) = word.compare_exchange(met, met & LOW | tail(own), SeqCst, SeqCst) {
             met = now;
         }
+        let mut flag = UNSET;
         if met >> 16 != 0 {
-            self.nodes[((met >> 16) - 4) as usize].next.store(own + 2, SeqCst);
+            self.link((met >> 16) - 4, Some(own));
             let mut backoff = Backoff(0);
-            while node.flag.load(SeqCst) == 0 {
-                backoff.snooze();
+            while flag == UNSET {
+                flag = node.flag.load(SeqCst);
+                if flag == UNSET {
+                    backoff.snooze();
+                }
             }
         }
         let mut backoff = Backoff(0);
         let alone = loop {
             met = word.load(SeqCst);
             if met & LOW == 0 {
-                break met == tail;
+                break met == tail(own) && flag <= GO;
             }
             backoff.snooze();
         };
-        if alone && word.compare_exchange(tail, LOCKED, SeqCst, SeqCst).is_ok() {
+        if alone && word.compare_exchange(tail(own), LOCKED, SeqCst, SeqCst).is_ok() {
             return;
         }
         word.fetch_add(LOCKED, SeqCst);
+        if CHOOSES {
+            self.choose(own, flag.checked_sub(2));
+        } else {
+            let mut backoff = Backoff(0);
+            loop {
+                match self.next_of(own) {
+                    None => backoff.snooze(),
+                    Some(next) => return self.nodes[next as usize].flag.store(GO, SeqCst),
+                }
+            }
+        }
+    }
+
+    // Hands the lead to the next, and with it what it has to know of the second queue.
+    fn hand(&self, next: u64, second: Option<u64>, runs: u64) {
+        let node = &self.nodes[next as usize];
+        node.runs.store(if second.is_some() { runs + 1 } else { 0 }, SeqCst);
+        node.flag.store(second.map_or(GO, |second| second + 2), SeqCst);
+    }
+
+    // The second queue returns before the rest, which begins with this node.
+    fn flush(&self, second: u64, rest: u64) {
+        let last = self.nodes[second as usize].second_tail.load(SeqCst) - 2;
+        self.link(last, Some(rest));
+        self.hand(second, None, 0);
+    }
+
+    fn choose(&self, own: u64, second: Option<u64>) {
+        let runs = self.nodes[own as usize].runs.load(SeqCst);
         let mut backoff = Backoff(0);
-        let next = loop {
-            match node.next.load(SeqCst) {
-                0 => backoff.snooze(),
-                next => break next,
+        let first = loop {
+            match (self.next_of(own), second) {
+                (Some(first), _) => break first,
+                (None, Some(second)) => {
+                    let last = self.nodes[second as usize].second_tail.load(SeqCst) - 2;
+                    let (mine, all) = (tail(own) | LOCKED, tail(last) | LOCKED);
+                    if self.word.0.compare_exchange(mine, all, SeqCst, SeqCst).is_ok() {
+                        return self.hand(second, None, 0);
+                    }
+                }
+                (None, None) => backoff.snooze(),
             }
         };
-        self.nodes[(next - 2) as usize].flag.store(1, SeqCst);
+        if runs >= THRESHOLD {
+            return match second {
+                Some(second) => self.flush(second, first),
+                None => self.hand(first, None, 0),
+            };
+        }
+        if socket(first) == socket(own) {
+            return self.hand(first, second, runs);
+        }
+        let mut last = first;
+        while let Some(next) = self.next_of(last) {
+            if socket(next) == socket(own) {
+                self.move_aside(first, last, second);
+                return self.hand(next, second.or(Some(first)), runs);
+            }
+            last = next;
+        }
+        match second {
+            Some(second) => self.flush(second, first),
+            None => self.hand(first, None, 0),
+        }
+    }
+
+    // Those from the first to the last go to the end of the second queue.
+    fn move_aside(&self, first: u64, last: u64, second: Option<u64>) {
+        if let Some(second) = second {
+            let behind = self.nodes[second as usize].second_tail.load(SeqCst) - 2;
+            self.link(behind, Some(first));
+        }
+        self.link(last, None);
+        let second = second.unwrap_or(first);
+        self.nodes[second as usize].second_tail.store(last + 2, SeqCst);
     }
 }
 
-fn main() {
-    let words: Vec<String> = std::env::args().collect();
-    let [_, kind, rest @ ..] = &words[..] else { panic!("no kind") };
-    let numbers: Vec<u32> = rest.iter().map(|word| word.parse().unwrap()).collect();
-    let [threads, turns, work] = numbers[..] else { panic!("three numbers") };
-    let work = work as u16;
-    let (word, mutex, numbers) = (Word::default(), Mutex::new(()), Numbers::default());
-    let queue = Queue::new(threads);
+impl<const CHOOSES: bool> Spin for Queue<CHOOSES> {
+    #[inline]
+    fn lock(&self, cpu: &mut Cpu) {
+        if let Err(met) = self.word.0.compare_exchange(0, LOCKED, SeqCst, SeqCst) {
+            self.contend(cpu, met);
+        }
+    }
+
+    #[inline]
+    fn unlock(&self) {
+        self.word.0.fetch_sub(LOCKED, SeqCst);
+    }
+}
+
+// The reader-writer lock with its wait lock: the low byte is the writer's, bit 8 is waiting, and the bits from 9 on count readers.
+const WRITER: u64 = 255;
+const WAITING: u64 = 1 << 8;
+const READER: u64 = 1 << 9;
+
+struct Shared<L> {
+    word: Word,
+    wait: L,
+}
+
+impl<L: Spin> Shared<L> {
+    #[inline]
+    fn read(&self, cpu: &mut Cpu) {
+        if self.word.0.fetch_add(READER, SeqCst) % READER != 0 {
+            self.wait_as_reader(cpu);
+        }
+    }
+
+    #[inline(never)]
+    fn wait_as_reader(&self, cpu: &mut Cpu) {
+        self.word.0.fetch_sub(READER, SeqCst);
+        self.wait.lock(cpu);
+        self.word.0.fetch_add(READER, SeqCst);
+        let mut backoff = Backoff(0);
+        while self.word.0.load(SeqCst) & WRITER != 0 {
+            backoff.snooze();
+        }
+        self.wait.unlock();
+    }
+
+    #[inline]
+    fn write(&self, cpu: &mut Cpu) {
+        if self.word.0.compare_exchange(0, WRITER, SeqCst, SeqCst).is_err() {
+            self.wait_as_writer(cpu);
+        }
+    }
+
+    #[inline(never)]
+    fn wait_as_writer(&self, cpu: &mut Cpu) {
+        let word = &self.word.0;
+        self.wait.lock(cpu);
+        if word.load(SeqCst) != 0 || word.compare_exchange(0, WRITER, SeqCst, SeqCst).is_err() {
+            word.fetch_or(WAITING, SeqCst);
+            let mut backoff = Backoff(0);
+            while word.load(SeqCst) != WAITING || word.compare_exchange(WAITING, WRITER, SeqCst, SeqCst).is_err() {
+                backoff.snooze();
+            }
+        }
+        self.wait.unlock();
+    }
+}
+
+// What a race is over.
+trait Lock: Sync {
+    fn read(&self, cpu: &mut Cpu, within: impl FnOnce());
+    fn write(&self, cpu: &mut Cpu, within: impl FnOnce());
+}
+
+struct Alone<L>(L);
+
+impl<L: Spin> Lock for Alone<L> {
+    #[inline]
+    fn read(&self, cpu: &mut Cpu, within: impl FnOnce()) {
+        self.write(cpu, within);
+    }
+
+    #[inline]
+    fn write(&self, cpu: &mut Cpu, within: impl FnOnce()) {
+        self.0.lock(cpu);
+        within();
+        self.0.unlock();
+    }
+}
+
+impl<L: Spin> Lock for Shared<L> {
+    #[inline]
+    fn read(&self, cpu: &mut Cpu, within: impl FnOnce()) {
+        Shared::read(self, cpu);
+        within();
+        self.word.0.fetch_sub(READER, SeqCst);
+    }
+
+    #[inline]
+    fn write(&self, cpu: &mut Cpu, within: impl FnOnce()) {
+        Shared::write(self, cpu);
+        within();
+        self.word.0.fetch_sub(WRITER, SeqCst);
+    }
+}
+
+impl Lock for Mutex<()> {
+    #[inline]
+    fn read(&self, cpu: &mut Cpu, within: impl FnOnce()) {
+        Lock::write(self, cpu, within);
+    }
+
+    #[inline]
+    fn write(&self, _cpu: &mut Cpu, within: impl FnOnce()) {
+        let _held = self.lock().unwrap();
+        within();
+    }
+}
+
+impl Lock for RwLock<()> {
+    #[inline]
+    fn read(&self, _cpu: &mut Cpu, within: impl FnOnce()) {
+        let _held = self.read().unwrap();
+        within();
+    }
+
+    #[inline]
+    fn write(&self, _cpu: &mut Cpu, within: impl FnOnce()) {
+        let _held = self.write().unwrap();
+        within();
+    }
+}
+
+// Each thread takes its turns. Under a reader-writer lock the last of a hundred writes, and the others read.
+fn run(lock: impl Lock, shared: bool, threads: u32, turns: u32, work: u16) {
+    let numbers = Numbers::default();
     let start = Instant::now();
     std::thread::scope(|scope| {
         for number in 0..u64::from(threads) {
-            let (word, queue, mutex, numbers) = (&word, &queue, &mutex, &numbers);
-            match kind.as_str() {
-                "tas" => scope.spawn(move || {
-                    for _ in 0..turns {
-                        lock(word);
-                        numbers.change(work);
-                        unlock(word);
+            let (lock, numbers) = (&lock, &numbers);
+            scope.spawn(move || {
+                let mut cpu = Cpu { number, queued: 0 };
+                for turn in 0..turns {
+                    if shared && turn % 100 != 99 {
+                        lock.read(&mut cpu, || numbers.compare(work));
+                    } else {
+                        lock.write(&mut cpu, || numbers.change(work));
                     }
-                }),
-                "queue" => scope.spawn(move || {
-                    let mut cpu = Cpu { number, queued: 0 };
-                    for _ in 0..turns {
-                        queue.lock(&mut cpu);
-                        numbers.change(work);
-                        queue.unlock();
-                    }
-                }),
-                "mutex" => scope.spawn(move || {
-                    for _ in 0..turns {
-                        let _held = mutex.lock().unwrap();
-                        numbers.change(work);
-                    }
-                }),
-                _ => panic!("another kind"),
-            };
+                }
+            });
         }
     });
     let time = start.elapsed();
     let (first, second) = (numbers.first.load(SeqCst), numbers.second.load(SeqCst));
-    let wanted = u64::from(threads) * u64::from(turns) * u64::from(work);
+    let writes = if shared { turns / 100 } else { turns };
+    let wanted = u64::from(threads) * u64::from(writes) * u64::from(work);
+    let right = (first, second) == (wanted, wanted) && numbers.torn.load(SeqCst) == 0;
     println!("turns {}", u64::from(threads) * u64::from(turns));
     println!("numbers {first} {second}");
-    println!("{}", if (first, second) == (wanted, wanted) { "right" } else { "wrong" });
+    println!("{}", if right { "right" } else { "wrong" });
     eprintln!("{} microseconds", time.as_micros());
+}
+
+fn main() {
+    let words: Vec<String> = std::env::args().collect();
+    let [_, mode, kind, rest @ ..] = &words[..] else { panic!("no mode and kind") };
+    let numbers: Vec<u32> = rest.iter().map(|word| word.parse().unwrap()).collect();
+    let [threads, turns, work] = numbers[..] else { panic!("three numbers") };
+    let work = work as u16;
+    let word = Word::default();
+    match (mode.as_str(), kind.as_str()) {
+        ("virt", "spin") => run(Alone(TestAndSet::default()), false, threads, turns, work),
+        ("native", "spin") => run(Alone(Queue::<false>::new(threads)), false, threads, turns, work),
+        ("cna", "spin") => run(Alone(Queue::<true>::new(threads)), false, threads, turns, work),
+        ("std", "spin") => run(Mutex::new(()), false, threads, turns, work),
+        ("virt", "rw") => run(Shared { word, wait: TestAndSet::default() }, true, threads, turns, work),
+        ("native", "rw") => run(Shared { word, wait: Queue::<false>::new(threads) }, true, threads, turns, work),
+        ("cna", "rw") => run(Shared { word, wait: Queue::<true>::new(threads) }, true, threads, turns, work),
+        ("std", "rw") => run(RwLock::new(()), true, threads, turns, work),
+        _ => panic!("another mode or kind"),
+    }
 }
