@@ -186,7 +186,7 @@ def draw_job(draw, accounts):
     return (verb, draw.randrange(accounts)) if verb == "get" else (verb,)
 
 
-def draw_file(draw, modes=("virt", "native"), guards=("spin",), most=200):
+def draw_file(draw, modes=("virt", "native", "cna"), guards=("spin", "rw"), most=200):
     workers, accounts = draw.randint(1, 16), draw.choice((0, 1, 2, 3, 8, 64))
     share = LIMIT // max(accounts, 1)
     balances = [draw.choice((0, draw.randrange(30), draw.randrange(share))) for _ in range(accounts)]
