@@ -12,4 +12,7 @@ pub use family::Family;
 pub use machine::{MAX_FRAMES, MAX_NODES, Machine};
 pub use parts::{Counts, Flag, Frame, Node, Pc, State, Why};
 pub use setup::{Op, Setup, Verb};
-pub use word::{HELD, is_free, is_held, is_last, is_tail, is_unlocked, named};
+pub use word::{
+    HELD, after_fast, after_pending, is_free, is_held, is_last, is_tail, is_unlocked, named,
+    to_queue,
+};

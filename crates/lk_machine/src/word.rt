@@ -1,11 +1,13 @@
-// What rows ask of a word, and the node that a register names.
+// What rows ask of a word, where those lead that meet it, and the node that a register names.
 
 ghost use Rattle.std.specs.Prelude.{◌≡◌};
 ghost use Rattle.lk_machine.specs.rows.Cna.{is_held, is_last};
 ghost use Rattle.lk_machine.specs.Moves.{is_node, node_of};
+ghost use Rattle.lk_machine.specs.rows.Spin.{after_fast, after_pending, to_queue};
 ghost use Rattle.lk_machine.specs.rows.Spin.{is_free, is_unlocked};
 
-use crate::parts::Frame;
+use crate::parts::{Frame, Pc};
+use lk_abs::Mode;
 use lk_word::{Fields, Locked, NodeName};
 
 /// The word of a lock that somebody has and nobody waits for, `0,0,1`.
@@ -65,4 +67,47 @@ pub fn named(node: Option<NodeName>) -> NodeName
     ensures { result ≡ node_of node }
 {
     node.unwrap_or(NodeName { cpu: 0, index: 0 })
+}
+
+/// Where a row leads that met this word before the call has set pending: to the queue where somebody
+/// pends or queues, and else to P1, since the pending bit is free to be set.
+#[inline]
+pub fn to_queue(word: Fields) -> Pc
+    ensures { result ≡ to_queue word }
+{
+    if word.pending || word.tail.is_some() {
+        Pc::G1
+    } else {
+        Pc::P1
+    }
+}
+
+/// Where F1 leads that met this word, which was not free. A word that is pending alone, `0,1,0`, is
+/// about to be taken, so that P0 looks at it once more.
+#[inline]
+pub fn after_fast(mode: Mode, word: Fields) -> Pc
+    ensures { result ≡ after_fast mode word }
+{
+    match mode {
+        Mode::Virt => Pc::V1,
+        Mode::Pv => Pc::G1,
+        _ if is_unlocked(word) && word.pending && word.tail.is_none() => Pc::P0,
+        _ => to_queue(word),
+    }
+}
+
+/// Where P1 leads, by the word before it. Only who met no pending bit owns the one that it set.
+#[inline]
+pub fn after_pending(word: Fields) -> Pc
+    ensures { result ≡ after_pending word }
+{
+    if word.pending {
+        Pc::G1
+    } else if word.tail.is_some() {
+        Pc::P2
+    } else if is_unlocked(word) {
+        Pc::P4
+    } else {
+        Pc::P3
+    }
 }

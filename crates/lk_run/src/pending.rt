@@ -7,10 +7,10 @@ ghost use Rattle.lk_domain.specs.Plans.{locks_of};
 ghost use Rattle.lk_domain.specs.Seats.{IsOf, KeepsRest};
 ghost use Rattle.lk_run.specs.Phases.{Queues, Stands, Goes, Stays, Takes};
 
-use crate::words::{after_pending, to_queue, word_met};
+use crate::words::word_met;
 use lk_abs::LockName;
 use lk_domain::{Cpu, Domain, steps};
-use lk_machine::{Pc, Verb, is_unlocked};
+use lk_machine::{Pc, Verb, after_pending, is_unlocked, to_queue};
 
 // The row P0, of a call that met (0, 1, 0): the one that pends is about to take the lock, so the
 // word is looked at once more. A look changes no word.

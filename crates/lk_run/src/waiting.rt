@@ -15,11 +15,11 @@ ghost use Rattle.lk_run.specs.Frames.{Owns, Follows, Fronts};
 ghost use Rattle.lk_run.specs.Phases.{Queues, Start, Stands, Waits, Goes, Won, Takes, Arrives};
 
 use crate::irq::Irq;
-use crate::words::{after_fast, moves_waiters, word_met};
+use crate::words::{moves_waiters, word_met};
 use crate::{arrival, choosing, front, loops, pending};
 use lk_abs::LockName;
 use lk_domain::{Cpu, Domain};
-use lk_machine::{Pc, Verb};
+use lk_machine::{Pc, Verb, after_fast};
 use lk_word::NodeName;
 use std::sync::Wait;
 

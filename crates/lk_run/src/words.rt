@@ -8,7 +8,6 @@ ghost use Rattle.lk_machine.specs.Moves.{is_node};
 ghost use Rattle.lk_machine.specs.declared.parts.Pc.TheVariants.{G7, G8, G9};
 ghost use Rattle.lk_machine.specs.rows.Cna as choice_rows;
 ghost use Rattle.lk_machine.specs.rows.Cna.{is_held};
-ghost use Rattle.lk_machine.specs.rows.Spin as spin_rows;
 ghost use Rattle.lk_machine.specs.rows.Spin.{is_unlocked};
 ghost use Rattle.lk_machine.specs.declared.parts.Flag.{Flag as FlagOf};
 ghost use Rattle.lk_domain.specs.NodePlays.{IsFlagNode};
@@ -65,44 +64,6 @@ pub(crate) fn flag_met(domain: &Domain, met: u64) -> Flag
         cpu: ((met - 2) / 4) as u32,
         index: ((met - 2) % 4) as u32,
     })
-}
-
-// Where a call goes that met a word that is pending, or has a queue, or neither.
-pub(crate) fn to_queue(word: Fields) -> Pc
-    ensures { result ≡ spin_rows.to_queue word }
-{
-    if word.pending || word.tail.is_some() {
-        Pc::G1
-    } else {
-        Pc::P1
-    }
-}
-
-// Where the first row leads that met a word that was not free.
-pub(crate) fn after_fast(mode: Mode, word: Fields) -> Pc
-    ensures { result ≡ spin_rows.after_fast mode word }
-{
-    match mode {
-        Mode::Virt => Pc::V1,
-        Mode::Pv => Pc::G1,
-        _ if is_unlocked(word) && word.pending && word.tail.is_none() => Pc::P0,
-        _ => to_queue(word),
-    }
-}
-
-// Where setting pending leads, by the word before it.
-pub(crate) fn after_pending(word: Fields) -> Pc
-    ensures { result ≡ spin_rows.after_pending word }
-{
-    if word.pending {
-        Pc::G1
-    } else if word.tail.is_some() {
-        Pc::P2
-    } else if is_unlocked(word) {
-        Pc::P4
-    } else {
-        Pc::P3
-    }
 }
 
 // Whether the word is that of a free lock with one waiter in its queue, which has this node: nobody

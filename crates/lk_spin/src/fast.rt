@@ -4,11 +4,11 @@ ghost use Rattle.lk_machine.specs.Machine.{top_frame};
 ghost use Rattle.lk_machine.specs.Ready.{IsReady};
 ghost use Rattle.lk_machine.specs.Moves.{missed};
 ghost use Rattle.lk_machine.specs.TopRow.{row, on_word};
-ghost use Rattle.lk_machine.specs.rows.Spin.{after_fast, to_queue, takes};
+ghost use Rattle.lk_machine.specs.rows.Spin.{takes};
 
-use lk_abs::{Event, How, Mode, What};
-use lk_machine::{HELD, Machine, Pc, is_free, is_unlocked};
-use lk_word::{Fields, Locked};
+use lk_abs::{Event, How, What};
+use lk_machine::{HELD, Machine, Pc, after_fast, is_free};
+use lk_word::Locked;
 
 // Takes the free word: no other field is set, so the word with the locked byte alone is what the
 // exchange leaves.
@@ -26,30 +26,6 @@ fn take(machine: &mut Machine, cpu: u32, how: How) -> Event
     machine.set_word(lock, HELD);
     machine.granted(cpu);
     event
-}
-
-// Where a word that is pending or has a queue sends to: the queue; else the pending bit is free to
-// be set.
-pub(crate) fn to_queue(word: Fields) -> Pc
-    ensures { result ≡ to_queue word }
-{
-    if word.pending || word.tail.is_some() {
-        Pc::G1
-    } else {
-        Pc::P1
-    }
-}
-
-// Where the fast path leads that met a word that was not free.
-fn after_fast(mode: Mode, word: Fields) -> Pc
-    ensures { result ≡ after_fast mode word }
-{
-    match mode {
-        Mode::Virt => Pc::V1,
-        Mode::Pv => Pc::G1,
-        _ if is_unlocked(word) && word.pending && word.tail.is_none() => Pc::P0,
-        _ => to_queue(word),
-    }
 }
 
 /// F1: swaps the word from free to locked. Who swaps is alone, since the word had no holder, no

@@ -3,11 +3,9 @@ ghost use Rattle.std.specs.Prelude.{◌≡◌, Some};
 ghost use Rattle.lk_machine.specs.Machine.{top_frame};
 ghost use Rattle.lk_machine.specs.Ready.{IsReady};
 ghost use Rattle.lk_machine.specs.TopRow.{row};
-ghost use Rattle.lk_machine.specs.rows.Spin.{after_pending};
 
-use crate::fast::to_queue;
 use lk_abs::{Event, How, What};
-use lk_machine::{Machine, Pc, is_unlocked};
+use lk_machine::{Machine, Pc, after_pending, is_unlocked, to_queue};
 use lk_word::{Fields, Locked};
 
 /// P0: looks once more at a word that was pending alone, and so about to be taken.
@@ -20,22 +18,6 @@ pub(crate) fn look_again(machine: &mut Machine, cpu: u32) -> Option<Event>
     let word = machine.word_met(cpu);
     machine.set_place(cpu, to_queue(word));
     None
-}
-
-// Where setting pending leads, by the word before it. Only who met no pending bit owns the one that
-// it set.
-fn after_pending(word: Fields) -> Pc
-    ensures { result ≡ after_pending word }
-{
-    if word.pending {
-        Pc::G1
-    } else if word.tail.is_some() {
-        Pc::P2
-    } else if is_unlocked(word) {
-        Pc::P4
-    } else {
-        Pc::P3
-    }
 }
 
 /// P1: sets pending, and gets the word before it.
