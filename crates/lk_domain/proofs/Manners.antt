@@ -28,9 +28,6 @@ spun_is Writes h = cc h
 pub suits_spun : (kind : ℕ → Kind) (l : LockName) (m : Manner) → is_rw_name kind l ≡ false → Suits kind l m → m ≡ Spins
 suits_spun kind l m off h = spun_is m (h ∙ ap not off)
 
-pub spun_suits : (kind : ℕ → Kind) (l : LockName) (m : Manner) → is_rw_name kind l ≡ false → m ≡ Spins → Suits kind l m
-spun_suits kind l m off e = ap is_spun e ∙ ap not (sym off)
-
 -- one hold of a list, by what is true of all of them
 pub held_cases : (kind : ℕ → Kind) (hs : List Hold) (d : ℕ) (k : LockName) → AreHeld kind hs
     → is_rw_name kind k ≡ false → (held_in hs d k ≡ None) ⊎ (held_in hs d k ≡ Some Spins)

@@ -10,47 +10,16 @@ use Rattle.lk_machine.specs.declared.parts.Pc.{Pc}
 use Rattle.lk_machine.specs.declared.setup.Verb.{Verb}
 use Rattle.lk_machine.specs.declared.setup.Verb.TheVariants.{Lock, Try, Read, TryRead, Write, TryWrite}
 use Rattle.lk_machine.specs.Moves.{first_place}
-use Rattle.lk_machine.specs.Row.{Lead, Goes, Yields, Change}
-use Rattle.lk_machine.specs.Row as row
 use Rattle.lk_machine.specs.rows.Cna.{Sight}
 use Rattle.lk_machine.specs.TopRow.{target}
 use Rattle.lk_law.specs.Leads.{Met, held_lock}
-use Rattle.lk_law.specs.Steps.{led}
 use Rattle.lk_domain.specs.Calls.{mark, Running, running, hold, Calls, StandsAt, acting, begin, begun, is_on}
 use Rattle.lk_domain.specs.Calls.{is_verb, Begins, MayBegin, holds_in, waits_in, lock_name, row_of, row_on, row_at}
 use Rattle.lk_domain.specs.Calls.{Terms, sight_of, after, frames_after, last_after, holds_after, taken_after, course, Grip, Unchanged, Takes}
 use Rattle.lk_domain.specs.Paths.{next_frame, row_grip, still, onward, Path, IsAt, HasTaken, HasMissed, AreKept, Any}
 use Rattle.lk_domain.specs.declared.plan.Plan.{Plan}
 use Rattle.lk_domain.proofs.Turned.{is_taking, verb_self}
-
--- a frame keeps its lock and its context
-
-changed_lock : (f : Frame) (c : Change) → ((row.with_change f c).lock ≡ f.lock) × ((row.with_change f c).ctx ≡ f.ctx)
-changed_lock f (row.Prev n) = (refl, refl)
-changed_lock f (row.Second n) = (refl, refl)
-changed_lock f (row.Y n) = (refl, refl)
-changed_lock f (row.Left n) = (refl, refl)
-changed_lock f (row.A n) = (refl, refl)
-changed_lock f (row.B n) = (refl, refl)
-changed_lock f (row.K n) = (refl, refl)
-changed_lock f (row.T n) = (refl, refl)
-changed_lock f (row.Reason n) = (refl, refl)
-changed_lock f (row.Tailed b) = (refl, refl)
-changed_lock f (row.HashedIs b) = (refl, refl)
-changed_lock f (row.TargetIs n) = (refl, refl)
-
-all_lock : (f : Frame) (cs : List Change)
-    → ((row.changed_all f cs).lock ≡ f.lock) × ((row.changed_all f cs).ctx ≡ f.ctx)
-all_lock f [] = (refl, refl)
-all_lock f (c ∷ cs) =
-    let a = all_lock (row.with_change f c) cs in
-    let b = changed_lock f c in
-    (a.0 ∙ b.0, a.1 ∙ b.1)
-
-led_ctx : (f : Frame) (lead : Lead) → (led f lead).ctx ≡ f.ctx
-led_ctx f (Goes c cs) = (all_lock f cs).1
-led_ctx f (Yields c cs) = (all_lock f cs).1
-led_ctx f _ = refl
+use Rattle.lk_domain.proofs.rows.Went.{led_ctx}
 
 -- a call that stands at a row
 module _ {t : Terms} {p : ℕ} {v : Verb} {l : ℕ} {pl : Pc} {P : Frame → Type 0} {old c : Calls}

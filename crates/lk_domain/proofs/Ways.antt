@@ -11,9 +11,9 @@ use Rattle.lk_word.specs.declared.spin_word.Fields.{Fields}
 use Rattle.lk_word.specs.SpinWord.{packed}
 use Rattle.lk_machine.specs.declared.parts.Frame.{Frame}
 use Rattle.lk_machine.specs.declared.parts.Pc.{Pc}
-use Rattle.lk_machine.specs.declared.parts.Pc.TheVariants.{F1, T1, T2, U1, V1, V2}
+use Rattle.lk_machine.specs.declared.parts.Pc.TheVariants.{T1, T2, U1}
 use Rattle.lk_machine.specs.declared.setup.Verb.{Verb}
-use Rattle.lk_machine.specs.declared.setup.Verb.TheVariants.{Lock, Try, Unlock}
+use Rattle.lk_machine.specs.declared.setup.Verb.TheVariants.{Try, Unlock}
 use Rattle.lk_machine.specs.Moves.{first_place}
 use Rattle.lk_machine.specs.Programs.{kind_of}
 use Rattle.lk_abs.specs.declared.names.Kind.TheVariants.{Spin}
@@ -137,12 +137,6 @@ not_zero n y is h = sym (free_test y) ∙ (ap (λ (z : ℕ). eqb z 0) (sym is) �
 -- the rows
 
 module _ (mode : Mode) (p : ℕ) (z : Sight) (f : Frame) (y : Fields) (plain : f.lock.wait ≡ false) where
-  pub V1_free : is_free y ≡ true → (next_frame mode p z V1 f (Word y)).place ≡ Some V2
-  V1_free e = rw e refl
-
-  pub V1_held : is_free y ≡ false → (next_frame mode p z V1 f (Word y)).place ≡ Some V1
-  V1_held e = rw e refl
-
   pub T1_free : is_free y ≡ true → (next_frame mode p z T1 f (Word y)).place ≡ Some T2
   T1_free e = rw e refl
 
@@ -151,25 +145,6 @@ module _ (mode : Mode) (p : ℕ) (z : Sight) (f : Frame) (y : Fields) (plain : f
 
   pub T1_lock : is_free y ≡ true → (next_frame mode p z T1 f (Word y)).lock ≡ f.lock
   T1_lock e = rw e refl
-
-  pub V2_held : is_free y ≡ false → (next_frame mode p z V2 f (Word y)).place ≡ Some V1
-  V2_held e = rw e refl
-
-  pub V2_grip : is_free y ≡ false → row_grip mode p z V2 f (Word y) ≡ Unchanged
-  V2_grip e = rw e refl
-
-  pub V2_lock : is_free y ≡ false → (next_frame mode p z V2 f (Word y)).lock ≡ f.lock
-  V2_lock e = rw e refl
-
-module _ (p : ℕ) (z : Sight) (f : Frame) (y : Fields) where
-  pub F1_held : is_free y ≡ false → (next_frame Virt p z F1 f (Word y)).place ≡ Some V1
-  F1_held e = rw e refl
-
-  pub F1_grip : is_free y ≡ false → row_grip Virt p z F1 f (Word y) ≡ Unchanged
-  F1_grip e = rw e refl
-
-  pub F1_lock : is_free y ≡ false → (next_frame Virt p z F1 f (Word y)).lock ≡ f.lock
-  F1_lock e = rw e refl
 
 -- the lock is no wait lock
 not_wait : (f : Frame) → f.lock.wait ≡ false → f.lock.wait ≡ true → IsThen f.then
@@ -184,24 +159,6 @@ module _ (k : Plan) (p : ℕ) (l : ℕ) (m n : Me Slot View) (met : ℕ) (seat :
 
     begun_is : acting k.mode m.0.calls v l ≡ begin k.mode m.0.calls v l
     begun_is = path.acts_begin k.mode m.0.calls v l none
-
-  -- F1
-  module _ (virt : k.mode ≡ Virt) (none : waits_in m.0.calls.frames l ≡ false)
-      (made : MadeBy Lock l m met n) where
-    pub F1_takes : eqb met 0 ≡ true → Took k p Lock l m.0.calls m.0 n.0
-    F1_takes h =
-        let at = first Lock refl none made in
-        let o = rows.takes_free k.mode p {z = sight_of (terms_of k) p None} at.frame false (ap (λ (z : LockName). z.wait) at.lock) (not_wait at.frame (ap (λ (z : LockName). z.wait) at.lock)) made.found Lock F1 refl (is_zero met made.found made.word h) in
-        takes k p Lock l F1 m.0.calls m n met seat made (begin k.mode m.0.calls Lock l) (begun_is Lock refl none made) at tt o.place.0 (o.grip (ap (λ (z : LockName). z.wait) at.lock))
-
-    pub F1_waits : eqb met 0 ≡ false → Moved k p Lock l V1 m.0.calls m.0 n.0
-    F1_waits h =
-        let at = first Lock refl none made in
-        let e = not_zero met made.found made.word h in
-        moves k p Lock l F1 m.0.calls m n met seat made (begin k.mode m.0.calls Lock l) (begun_is Lock refl none made) at tt V1
-        (subst (λ mode. (next_frame mode p (sight_of (terms_of k) p None) F1 at.frame (Word made.found)).place ≡ Some V1) (sym virt) (F1_held p (sight_of (terms_of k) p None) at.frame made.found e))
-        (subst (λ mode. row_grip mode p (sight_of (terms_of k) p None) F1 at.frame (Word made.found) ≡ Unchanged) (sym virt) (F1_grip p (sight_of (terms_of k) p None) at.frame made.found e))
-        (subst (λ mode. (next_frame mode p (sight_of (terms_of k) p None) F1 at.frame (Word made.found)).lock ≡ at.frame.lock) (sym virt) (F1_lock p (sight_of (terms_of k) p None) at.frame made.found e))
 
   -- T1
   module _ (none : waits_in m.0.calls.frames l ≡ false) (made : MadeBy Try l m met n) where
@@ -235,33 +192,6 @@ module _ (k : Plan) (p : ℕ) (l : ℕ) (m n : Me Slot View) (met : ℕ) (seat :
       T2_misses h =
           let o = rows.takes_held k.mode p {z = sight_of (terms_of k) p m.0.calls.runs} at.frame false (plain at) (not_wait at.frame (plain at)) made.found Try T2 refl (not_zero met made.found made.word h) in
           misses k p Try l T2 old m n met seat made m.0.calls (path.acts at refl) at tt o.place.0 (o.grip (ap (λ (z : LockName). z.wait) at.lock))
-
-    -- V1
-    module _ (made : MadeBy Lock l m met n) (at : IsAt (terms_of k) p Lock l V1 Any old m.0.calls) where
-      pub V1_sees : eqb met 0 ≡ true → Moved k p Lock l V2 old m.0 n.0
-      V1_sees h =
-          let e = is_zero met made.found made.word h in
-          moves k p Lock l V1 old m n met seat made m.0.calls (path.acts at refl) at tt V2
-          (V1_free k.mode p (sight_of (terms_of k) p m.0.calls.runs) at.frame made.found (plain at) e) refl refl
-
-      pub V1_waits : eqb met 0 ≡ false → Moved k p Lock l V1 old m.0 n.0
-      V1_waits h =
-          let e = not_zero met made.found made.word h in
-          moves k p Lock l V1 old m n met seat made m.0.calls (path.acts at refl) at tt V1
-          (V1_held k.mode p (sight_of (terms_of k) p m.0.calls.runs) at.frame made.found (plain at) e) refl refl
-
-    -- V2
-    module _ (made : MadeBy Lock l m met n) (at : IsAt (terms_of k) p Lock l V2 Any old m.0.calls) where
-      pub V2_takes : eqb met 0 ≡ true → Took k p Lock l old m.0 n.0
-      V2_takes h =
-          let o = rows.takes_free k.mode p {z = sight_of (terms_of k) p m.0.calls.runs} at.frame false (plain at) (not_wait at.frame (plain at)) made.found Lock V2 refl (is_zero met made.found made.word h) in
-          takes k p Lock l V2 old m n met seat made m.0.calls (path.acts at refl) at tt o.place.0 (o.grip (ap (λ (z : LockName). z.wait) at.lock))
-
-      pub V2_waits : eqb met 0 ≡ false → Moved k p Lock l V1 old m.0 n.0
-      V2_waits h =
-          let e = not_zero met made.found made.word h in
-          moves k p Lock l V2 old m n met seat made m.0.calls (path.acts at refl) at tt V1
-          (V2_held k.mode p (sight_of (terms_of k) p m.0.calls.runs) at.frame made.found (plain at) e) (V2_grip k.mode p (sight_of (terms_of k) p m.0.calls.runs) at.frame made.found (plain at) e) (V2_lock k.mode p (sight_of (terms_of k) p m.0.calls.runs) at.frame made.found (plain at) e)
 
 -- what the step calls ask
 

@@ -86,10 +86,6 @@ pub record AtBare (lock : LockName) (verb : Verb) (v : View) : Type 0 where
 abbrev pub readies : ℕ → View → View
 readies n v = record v { calls = record v.calls { ready = n; runs = None } }
 
--- after the first, by which its flag is
-abbrev pub readied : View → View
-readied v = readies 1 v
-
 -- after the store into this word, where those before it are reset
 abbrev pub readied_by : Part → View → View
 readied_by q v = readies (part_index q + 1) v

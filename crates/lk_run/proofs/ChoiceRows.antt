@@ -1,7 +1,7 @@
 -- Where the rows of a front that chooses the next lead, by what they meet.
-use Rattle.std.proofs.Common.{◌≡◌, ℕ, ◌+◌, IfSome, Option, Some, None, Bool, true, false, inl, inr, refl, sym, ap, ◌∙◌, subst, List, [], ◌∷◌}
+use Rattle.std.proofs.Common.{◌≡◌, ℕ, ◌+◌, IfSome, Option, Some, None, Bool, true, false, inl, inr, refl, sym, ap, ◌∙◌, subst, [], ◌∷◌}
 use Rattle.std.proofs.lemmas.Bool.{cases_Bool}
-use Rattle.std.specs.Prelude.{if◌then◌else◌, ◌&&◌, not, is_some}
+use Rattle.std.specs.Prelude.{if◌then◌else◌, ◌&&◌, not}
 use Rattle.lk_abs.specs.declared.names.Mode.{Mode}
 use Rattle.lk_word.specs.declared.spin_word.NodeName.{NodeName}
 use Rattle.lk_word.specs.declared.spin_word.Fields.{Fields}
@@ -17,7 +17,6 @@ use Rattle.lk_machine.specs.rows.Cna.{Sight, may_stay, search_first, search_on, 
 use Rattle.lk_machine.specs.TopRow.{target}
 use Rattle.lk_law.specs.Leads.{Met, Word, Number, Flagged, Named, Course, course_of}
 use Rattle.lk_law.specs.Steps.{led}
-use Rattle.lk_law.proofs.common.Puts.{if-false}
 use Rattle.lk_domain.specs.Calls.{course, grip_of, Unchanged}
 use Rattle.lk_domain.specs.NodePlays.{IsFlagNode}
 use Rattle.lk_domain.specs.Words.{IsNode}
@@ -110,12 +109,6 @@ met_flushes : (b : Bool) (second : Option NodeName) (n m : NodeName)
 met_flushes true None n m e = cc e
 met_flushes true (Some j) n m e = cc e
 met_flushes false second n m e = cc e
-
-met_chooses : (b : Bool) (second : Option NodeName) (n : NodeName)
-    → (if b then met_by second n else more.Skips n) ≡ more.Chooses → ⊥
-met_chooses true None n e = cc e
-met_chooses true (Some j) n e = cc e
-met_chooses false second n e = cc e
 
 appends_named : (s : Sight) (second x : Option NodeName) (m y : NodeName) → more_by s second x ≡ more.Appends m y → second ≡ Some m
 appends_named s None None m y e = absurd (cc e)

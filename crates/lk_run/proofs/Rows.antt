@@ -9,7 +9,6 @@ use Rattle.lk_word.specs.declared.spin_word.Fields.{Fields}
 use Rattle.lk_machine.specs.declared.parts.Flag.{Flag}
 use Rattle.lk_machine.specs.declared.parts.Flag.TheVariants.{Unset, Go, Second}
 use Rattle.lk_machine.specs.declared.parts.Frame.{Frame}
-use Rattle.lk_machine.specs.declared.parts.Pc.{Pc}
 use Rattle.lk_machine.specs.declared.parts.Pc.TheVariants.{F1, V1, V2, P0, P1, P2, P3, P4, G1, G2, G3, G4, G5}
 use Rattle.lk_machine.specs.declared.parts.Pc.TheVariants.{G6, G7, G8, G9, G10, G11, N1, N2, C1}
 use Rattle.lk_machine.specs.Moves.{is_node, node_of}

@@ -1,6 +1,5 @@
 -- Where the rows of readers and writers lead, by what they meet.
-use Rattle.std.proofs.Common.{◌≡◌, ℕ, Option, Some, None, Bool, true, false, eqb, refl, sym, ap, ◌∙◌, subst}
-use Rattle.std.specs.Prelude.{if◌then◌else◌}
+use Rattle.std.proofs.Common.{◌≡◌, ℕ, Option, Some, None, true, false, refl}
 use Rattle.lk_abs.specs.declared.holder.Manner.{Manner}
 use Rattle.lk_abs.specs.declared.holder.Manner.TheVariants.{Reads, Writes}
 use Rattle.lk_abs.specs.declared.names.Mode.{Mode}
@@ -10,7 +9,7 @@ use Rattle.lk_word.specs.declared.spin_word.Fields.{Fields}
 use Rattle.lk_machine.specs.Moves.{waiting}
 use Rattle.lk_machine.specs.declared.parts.Frame.{Frame}
 use Rattle.lk_machine.specs.declared.parts.Pc.{Pc}
-use Rattle.lk_machine.specs.declared.parts.Pc.TheVariants.{F1, U1, R1, R2, R3, R4, R5, Wr1, Wr2, Wr3, Wr4}
+use Rattle.lk_machine.specs.declared.parts.Pc.TheVariants.{U1, R1, R2, R3, R4, R5, Wr1, Wr2, Wr3, Wr4}
 use Rattle.lk_machine.specs.declared.parts.Pc.TheVariants.{Wr5, Wr6, Y1, Y2, Y3, Y4, Y5}
 use Rattle.lk_machine.specs.TopRow.{target}
 use Rattle.lk_machine.specs.rows.Rw.{is_empty, is_open, is_cleared, after_bias}

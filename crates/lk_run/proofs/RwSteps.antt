@@ -1,5 +1,5 @@
 -- What a step call on the word of a reader-writer lock asks of a call, and what it does to it.
-use Rattle.std.proofs.Common.{◌≡◌, inl, inr, ℕ, ◌≢◌, ◌<◌, ◌≤◌, List, length, Option, Some, None, Bool, true, false, eqb, eq-eqb, ne_eqb, refl, sym, ap, ◌∙◌, subst, arith}
+use Rattle.std.proofs.Common.{◌≡◌, inl, inr, ℕ, ◌≢◌, List, length, Option, Some, None, Bool, true, false, eqb, eq-eqb, ne_eqb, refl, ap, ◌∙◌, subst, arith}
 use Rattle.std.specs.Prelude.{if◌then◌else◌}
 use Rattle.lk_abs.specs.declared.holder.Manner.{Manner}
 use Rattle.lk_abs.specs.declared.names.LockName.{LockName}
@@ -13,7 +13,7 @@ use Rattle.lk_machine.specs.declared.setup.Verb.TheVariants.{Read, TryRead, TryW
 use Rattle.lk_law.specs.Leads.{Met, Word, Shared}
 use Rattle.lk_law.specs.Sound.{after_wait, takes_wait}
 use Rattle.lk_law.proofs.common.Puts.{if-true}
-use Rattle.lk_domain.specs.Calls.{terms_of, sight_of, Running, Calls, begin, waits_in, holds_in, lock_name, held_in}
+use Rattle.lk_domain.specs.Calls.{terms_of, sight_of, Running, begin, waits_in, lock_name, held_in}
 use Rattle.lk_domain.specs.Paths.{Any}
 use Rattle.lk_domain.specs.Plans.{kind_at}
 use Rattle.lk_domain.specs.Plays.{ActsIn, MadeBy, rowed}

@@ -2,8 +2,8 @@
 use Rattle.std.proofs.Common.{◌≡◌, inl, inr, ℕ, ◌+◌, ◌<◌, List, [], ◌∷◌, ◌++◌, length, Some, None, Bool}
 use Rattle.std.proofs.lemmas.Bool.{cases_Bool}
 use Rattle.std.proofs.Common.{true, false, eqb, eqb-true, eq-eqb, refl, sym, ap, ◌∙◌, subst, arith}
-use Rattle.std.specs.Prelude.{if◌then◌else◌, ◌&&◌}
-use Rattle.lk_abs.specs.Names.{same_lock, same_bool}
+use Rattle.std.specs.Prelude.{◌&&◌}
+use Rattle.lk_abs.specs.Names.{same_lock}
 use Rattle.lk_abs.specs.declared.holder.Manner.{Manner}
 use Rattle.lk_abs.specs.declared.holder.Manner.TheVariants.{Spins}
 use Rattle.lk_abs.specs.declared.names.LockName.{LockName}
@@ -13,49 +13,21 @@ use Rattle.lk_machine.specs.declared.parts.Pc.{Pc}
 use Rattle.lk_machine.specs.declared.parts.Pc.TheVariants.{F1, U1}
 use Rattle.lk_machine.specs.declared.setup.Verb.{Verb}
 use Rattle.lk_machine.specs.declared.setup.Verb.TheVariants.{Lock, Try, Read, TryRead, Write, TryWrite}
-use Rattle.lk_machine.specs.Row.{Lead, Goes, Yields, Change}
-use Rattle.lk_machine.specs.Row as row
 use Rattle.lk_machine.specs.TopRow.{target}
-use Rattle.lk_law.specs.Steps.{led}
 use Rattle.lk_law.specs.Leads.{Met, held_lock}
 use Rattle.lk_law.specs.Sound.{after_wait, takes_wait}
 use Rattle.lk_law.proofs.common.Puts.{if-true, if-false, not-true}
 use Rattle.lk_law.proofs.common.Sames.{same_lock-self, same_lock-true}
 use Rattle.lk_domain.proofs.Stacks.{and_parts}
-use Rattle.lk_domain.specs.Calls.{sight_of, Terms, mark, Running, running, Hold, hold, Calls, StandsOn, acting, begin, begun, is_on}
-use Rattle.lk_domain.specs.Calls.{is_verb, Begins, holds_in, waits_in, lock_name, row_of, row_on, row_at}
+use Rattle.lk_domain.specs.Calls.{sight_of, Terms, mark, Running, running, Hold, hold, Calls, StandsOn, begin, begun}
+use Rattle.lk_domain.specs.Calls.{lock_name, row_of, row_on, row_at}
 use Rattle.lk_domain.specs.Calls.{after, frames_after, last_after, holds_after, taken_after, course, Unchanged, Takes, Frees}
 use Rattle.lk_domain.specs.Calls.{free_of, held_in}
 use Rattle.lk_domain.specs.Paths.{next_frame, row_grip, still, onward, IsAt, HasTaken, HasMissed, AreKept, Any}
-use Rattle.lk_domain.specs.declared.plan.Plan.{Plan}
-use Rattle.lk_domain.proofs.Turned.{is_taking, verb_self}
+use Rattle.lk_domain.proofs.Turned.{is_taking}
+use Rattle.lk_domain.proofs.rows.Went.{led_ctx}
 use Rattle.lk_run.specs.Entering.{PathTo, Over, HasEntered}
 use Rattle.lk_run.specs.Standing.{Stage, Outside, Inside, Entered, HoldsAt, IsOn}
-
--- a frame keeps its context
-
-changed_ctx : (f : Frame) (c : Change) → (row.with_change f c).ctx ≡ f.ctx
-changed_ctx f (row.Prev n) = refl
-changed_ctx f (row.Second n) = refl
-changed_ctx f (row.Y n) = refl
-changed_ctx f (row.Left n) = refl
-changed_ctx f (row.A n) = refl
-changed_ctx f (row.B n) = refl
-changed_ctx f (row.K n) = refl
-changed_ctx f (row.T n) = refl
-changed_ctx f (row.Reason n) = refl
-changed_ctx f (row.Tailed b) = refl
-changed_ctx f (row.HashedIs b) = refl
-changed_ctx f (row.TargetIs n) = refl
-
-all_ctx : (f : Frame) (cs : List Change) → (row.changed_all f cs).ctx ≡ f.ctx
-all_ctx f [] = refl
-all_ctx f (c ∷ cs) = all_ctx (row.with_change f c) cs ∙ changed_ctx f c
-
-pub led_ctx : (f : Frame) (lead : Lead) → (led f lead).ctx ≡ f.ctx
-led_ctx f (Goes c cs) = all_ctx f cs
-led_ctx f (Yields c cs) = all_ctx f cs
-led_ctx f _ = refl
 
 append_nil : {A : Type 0} (xs : List A) → xs ++ [] ≡ xs
 append_nil [] = refl

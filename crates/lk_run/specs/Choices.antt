@@ -1,5 +1,5 @@
 -- Where a front goes that chooses the next, by what it sees.
-use Rattle.std.specs.Prelude.{ℕ, Option, Some, None, Bool, if◌then◌else◌}
+use Rattle.std.specs.Prelude.{Option, Some, None, if◌then◌else◌}
 use Rattle.lk_word.specs.declared.spin_word.NodeName.{NodeName}
 use Rattle.lk_machine.specs.rows.Cna.{Sight, may_stay}
 use Rattle.lk_domain.specs.Words.{IsNode}

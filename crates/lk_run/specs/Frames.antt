@@ -2,7 +2,6 @@
 use Rattle.std.specs.Prelude.{◌≡◌, Option, Some, None}
 use Rattle.lk_word.specs.declared.spin_word.NodeName.{NodeName}
 use Rattle.lk_machine.specs.declared.parts.Frame.{Frame}
-use Rattle.lk_machine.specs.declared.parts.Why.{Why}
 use Rattle.lk_machine.specs.declared.parts.Why.TheVariants as why
 
 -- its own node, and the first of the second queue, if it knows one

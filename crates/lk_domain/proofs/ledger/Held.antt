@@ -10,7 +10,7 @@ use Rattle.lk_abs.specs.declared.names.Kind.{Kind}
 use Rattle.lk_abs.specs.declared.names.LockName.{LockName}
 use Rattle.lk_law.proofs.common.Puts.{if-true, if-false}
 use Rattle.lk_law.proofs.common.Sames.{same_lock-true, same_lock-self}
-use Rattle.lk_domain.specs.Calls.{Hold, hold, holds_in, held_in, free_of, moved_to, lock_name, AreHeld}
+use Rattle.lk_domain.specs.Calls.{Hold, holds_in, held_in, free_of, moved_to, lock_name, AreHeld}
 use Rattle.lk_domain.specs.Keeps.{any_count, sole_count, is_sole}
 use Rattle.lk_domain.proofs.Stacks.{and_true, and_false, same_swap, unheld}
 
@@ -188,8 +188,3 @@ free_sole c l (h ∷ hs) off =
         second : (a b : Bool) → (a && b) ≡ true → b ≡ true
         second true b e = e
         second false b e = cc e
-
--- one hold more, of lock 0 or of another
-pub hold_any : (c : ℕ) (l : LockName) (m : Manner) (n : ℕ) (hs : List Hold)
-    → any_count (hold c l m n ∷ hs) ≡ (if same_lock l (lock_name 0) then 1 else 0) + any_count hs
-hold_any c l m n hs = refl

@@ -62,15 +62,6 @@ parts_small true false = omega arith
 parts_small false true = omega arith
 parts_small false false = omega arith
 
-pub rw_small : (y : RwFields) → IsPackableRw y → packed_rw y < 2 ^ 32
-unfolding packed_rw
-rw_small y fits = let s = parts_small y.waiting y.writer in omega (arith, s, fits)
-
--- a choice of two effects that store the same, or two that store nothing
-either_stores : {A : Type 0} (b : Bool) (x y z : A) → x ≡ z → y ≡ z → (if b then x else y) ≡ z
-either_stores true x y z h k = h
-either_stores false x y z h k = k
-
 -- a look
 pub watches : (mode : Mode) (v : Verb) (c : Pc) (f : Frame) (y : RwFields) → watches_by v c ≡ true
     → packed_rw y ≡ packed_rw (writes mode c f y)

@@ -12,9 +12,8 @@ use Rattle.lk_word.specs.SpinWord.{packed}
 use Rattle.lk_machine.specs.declared.parts.Frame.{Frame}
 use Rattle.lk_machine.specs.declared.parts.Pc.{Pc}
 use Rattle.lk_machine.specs.declared.parts.Flag.{Flag}
-use Rattle.lk_machine.specs.declared.parts.Flag.TheVariants.{Unset, Go, Second}
 use Rattle.lk_machine.specs.declared.parts.Pc.TheVariants.{F1, T1, T2, U1, V1, V2, P0, P1, P2, P3, P4}
-use Rattle.lk_machine.specs.declared.parts.Pc.TheVariants.{G1, G2, G3, G4, G5, G6, G7, G8, G9, G10, G11}
+use Rattle.lk_machine.specs.declared.parts.Pc.TheVariants.{G1, G2, G3, G4, G5, G6, G7, G8, G9, G11}
 use Rattle.lk_machine.specs.declared.parts.Pc.TheVariants.{N1, N2, E1, W1, R4, Wr2, C1, C7, C8, C10}
 use Rattle.lk_machine.specs.declared.setup.Verb.{Verb}
 use Rattle.lk_machine.specs.declared.setup.Verb.TheVariants.{Lock, Try, Unlock, Read, Write}
@@ -23,7 +22,7 @@ use Rattle.lk_machine.specs.Row.{Lead}
 use Rattle.lk_machine.specs.rows.Cna.{Sight, is_last}
 use Rattle.lk_machine.specs.rows.Spin.{is_free, is_unlocked, after_fast, after_pending, to_queue}
 use Rattle.lk_machine.specs.rows.Queue.{own_node, after_entry, after_arrival, after_look, after_head}
-use Rattle.lk_machine.specs.rows.Queue.{after_link, after_flag, after_next, is_sole}
+use Rattle.lk_machine.specs.rows.Queue.{after_link, is_sole}
 use Rattle.lk_machine.specs.TopRow.{target}
 use Rattle.lk_law.specs.Families.{is_slow}
 use Rattle.lk_law.specs.Leads.{Met, Word, Number, Flagged, Named}
@@ -117,15 +116,6 @@ link_slow Native turns f = ((G6, refl, refl), refl)
 link_slow Cna turns f = ((G6, refl, refl), refl)
 link_slow Pv turns f = ((W1, refl, refl), refl)
 
-flag_slow : (f : Frame) (x : Flag) → Leads f true (after_flag x).leads
-flag_slow f Unset = ((G6, refl, refl), refl)
-flag_slow f Go = ((G7, refl, refl), refl)
-flag_slow f (Second n) = ((G7, refl, refl), refl)
-
-next_slow : (f : Frame) (x : Option NodeName) → Leads f true (after_next x).leads
-next_slow f None = ((G10, refl, refl), refl)
-next_slow f (Some n) = ((G11, refl, refl), refl)
-
 -- tests
 
 pub or_true : (b : Bool) → (b || true) ≡ true
@@ -188,12 +178,6 @@ module _ (mode : Mode) (p : ℕ) {z : Sight} (f : Frame) (w : Bool) (wait : f.lo
 
   pub linked : (x : Option NodeName) → Outcome mode p z G5 f (Named x) true true false
   linked x = let y' = link_slow mode 1 f in goes G5 (Named x) true true y'.0 y'.1
-
-  pub flag_seen : (x : Flag) → Outcome mode p z G6 f (Flagged x) true true false
-  flag_seen x = let y' = flag_slow f x in goes G6 (Flagged x) true true y'.0 y'.1
-
-  pub link_seen : (x : Option NodeName) → Outcome mode p z G10 f (Named x) true true false
-  link_seen x = let y' = next_slow f x in goes G10 (Named x) true true y'.0 y'.1
 
   pub handed : (x : Flag) → Outcome mode p z G11 f (Flagged x) w false (not w)
   handed x = gains G11 (Flagged x) (onward f w wait after) refl

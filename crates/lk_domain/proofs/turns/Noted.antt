@@ -71,15 +71,6 @@ ordered_on ls l rest xs b s nobody here lt h = h
 ordered_on ls l rest xs b s (one r e) here lt h =
     ordered_more ls r rest (here ∙ sym e) (let z : r.frame.lock.index ≡ l = e in omega arith) h
 
--- the lock of the newest call
-pub newest_is : (n : Notes) (c : Calls) (r : Running) (rs : List Running) (d : ℕ) → IsNoted n c
-    → c.frames ≡ r ∷ rs → d ≡ n.depth - 1 → get_or n.order d 0 ≡ r.frame.lock.index
-newest_is n c r rs d h is top =
-    let deep : n.depth ≡ length rs + 1 = h.deep ∙ (ap (λ (xs : List Running). length xs) is ∙ omega arith) in
-    let at : d ≡ length rs = omega arith in
-    ap (λ (i : ℕ). get_or n.order i 0) at
-    ∙ ((subst (AreOrdered n.order) is h.ordered).locks (length rs) (omega arith) ∙ top_lock r rs)
-
 pub newest_low : (n : Notes) (c : Calls) (r : Running) (rs : List Running) → IsNoted n c
     → c.frames ≡ r ∷ rs → r.frame.lock.index < 32
 newest_low n c r rs h is =
@@ -263,20 +254,6 @@ module _ (n : Notes) (c d : Calls) (l : ℕ) (slow : Bool) (was : IsNoted n c)
       top_is xs b z (one r at) e h =
           let is : get_or n.order (length s.others) 0 ≡ l = h.locks (length s.others) (omega arith) ∙ (top_lock r s.others ∙ at) in
           let low = h.low (length s.others) (omega arith) in (is, omega arith)
-
--- nor where only the trails or the ledger changed
-pub same_noted : (n : Notes) (c d : Calls) → d.frames ≡ c.frames → d.holds ≡ c.holds → IsNoted n c → IsNoted n d
-same_noted n c d frames holds h =
-    record {
-      deep = h.deep ∙ ap (λ (xs : List Running). length xs) (sym frames);
-      few = subst (λ (xs : List Running). length xs ≤ 6) (sym frames) h.few;
-      counted = h.counted ∙ ap slows (sym frames);
-      long = h.long;
-      ordered = subst (AreOrdered n.order) (sym frames) h.ordered;
-      marked = mark_same n.held (holds_in c.holds) (holds_in d.holds) h.marked (λ x. ap (λ hs. holds_in hs x) holds);
-      noted = mark_same n.waiting (waits_in c.frames) (waits_in d.frames) h.noted (λ x. ap (λ xs. waits_in xs x) frames);
-      slow = mark_same n.slow (slow_in c.frames) (slow_in d.frames) h.slow (λ x. ap (λ xs. slow_in xs x) frames);
-    }
 
 -- a lock is freed
 pub freed_noted : (n : Notes) (c d : Calls) (ms : List Bool) → d.frames ≡ c.frames → Marks ms (holds_in d.holds)

@@ -234,14 +234,3 @@ module _ (k plan : Plan) (slots id : ℕ) (m : Me Slot View) (number : IsNumbere
       (plays_at k slots id m number verb l (subst (λ (x : Plan). l < locks_of x) (sym same) near) acts.row acts.stands acts.begins
       (on_word acts.row acts.is) (home acts.row acts.is) st f (word ∙ at)
       (λ mode y packs known. writes acts.row acts.is mode acts.stands.frame y packs known))
-
-  -- the same where what is written rests on the frame
-  pub asks_at : (kind : Pc → Bool) (acts : Acts kind m.0 verb l)
-      → ((pc : Pc) → kind pc ≡ true → (fr : Frame) → OnWord (target pc fr))
-      → ((pc : Pc) → kind pc ≡ true → MayFree pc → is_first (lock_name l) ≡ true → m.0.ledger.out ≡ None)
-      → (f : ℕ → ℕ) → WritesAt acts.row acts.stands.frame f
-      → Allows (Stand k) slots id m i f (Makes verb st m)
-  asks_at kind acts on_word home f writes =
-      subst (λ (x : ℕ). Allows (Stand k) slots id m x f (Makes verb st m)) (sym at)
-      (plays_at k slots id m number verb l (subst (λ (x : Plan). l < locks_of x) (sym same) near) acts.row acts.stands acts.begins
-      (on_word acts.row acts.is) (home acts.row acts.is) st f (word ∙ at) writes)

@@ -2,7 +2,6 @@ use Rattle.lk_run.specs.Standing.{Outside}
 use Rattle.std.proofs.Common.{not, refl, sym, ap, ◌∙◌, ◌≡◌, ℕ, Some, subst}
 use Rattle.lk_word.specs.declared.spin_word.NodeName.{NodeName}
 use Rattle.lk_machine.specs.declared.parts.Pc.TheVariants.{G1, G2}
-use Rattle.lk_machine.specs.declared.setup.Verb.TheVariants.{Lock}
 use Rattle.lk_law.specs.Leads.{Number}
 use Rattle.lk_domain.specs.Calls.{slows}
 use Rattle.lk_domain.specs.NodePlays.{AtEntry, readies}

@@ -1,6 +1,6 @@
 use Rattle.lk_run.specs.Standing.{Outside}
 use Rattle.lk_run.proofs.Ways.{queues_taking, queues_patient}
-use Rattle.std.proofs.Common.{refl, sym, ap, ◌∙◌, subst, IfSome, Option, ℕ}
+use Rattle.std.proofs.Common.{sym, ap, ◌∙◌, subst, IfSome, Option, ℕ}
 use Rattle.lk_word.specs.declared.spin_word.Fields.{Fields}
 use Rattle.lk_machine.specs.declared.parts.Pc.TheVariants.{G4, G5, G7}
 use Rattle.lk_law.specs.Leads.{Word}

@@ -1,5 +1,4 @@
 use Rattle.lk_run.specs.Standing.{Outside}
-use Rattle.std.proofs.Common.{refl}
 use Rattle.lk_machine.specs.declared.parts.Pc.TheVariants.{C5, C6}
 use Rattle.lk_law.specs.Leads.{Named}
 use Rattle.lk_run.specs.Frames.{Parts}

@@ -1,6 +1,6 @@
 use Rattle.lk_run.specs.Standing.{Outside}
 use Rattle.lk_run.proofs.Ways.{sees}
-use Rattle.std.proofs.Common.{◌≡◌, ◌<◌, refl, sym, ap, ◌∙◌, subst, IfSome}
+use Rattle.std.proofs.Common.{◌≡◌, ◌<◌, sym, ◌∙◌, subst, IfSome}
 use Rattle.lk_machine.specs.declared.parts.Pc.TheVariants.{C2, C3, C5, C7}
 use Rattle.lk_law.specs.Leads.{Named}
 use Rattle.lk_domain.specs.Calls.{sight_of, terms_of}
@@ -10,7 +10,7 @@ use Rattle.lk_domain.specs.Words.{IsNode}
 use Rattle.lk_domain.specs.declared.plan.Plan.{Plan}
 use Rattle.lk_run.specs.Choices.{more_by, IsMoreNode}
 use Rattle.lk_run.specs.Frames.{Precedes, Skips, Appends, Parts, Flushes}
-use Rattle.lk_run.proofs.Steps.{still_of, rest_both}
+use Rattle.lk_run.proofs.Steps.{still_of}
 use Rattle.lk_run.proofs.ChoiceRows as row
 use Rattle.lk_run.proofs.Stepped as way
 use Rattle.lk_run.proofs.choice.look_more.Goals as goal

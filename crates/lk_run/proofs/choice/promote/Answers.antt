@@ -1,6 +1,6 @@
 use Rattle.lk_run.specs.Standing.{Outside}
 use Rattle.lk_run.proofs.Ways.{queues_taking, queues_patient}
-use Rattle.std.proofs.Common.{refl, sym, ap, ◌∙◌, Some, None}
+use Rattle.std.proofs.Common.{sym, ap, ◌∙◌, Some, None}
 use Rattle.std.specs.Prelude.{◌&&◌, not}
 use Rattle.lk_word.specs.declared.spin_word.Fields.{Fields}
 use Rattle.lk_machine.specs.Moves.{is_node}

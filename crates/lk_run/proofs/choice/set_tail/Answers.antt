@@ -1,5 +1,5 @@
 use Rattle.lk_run.specs.Standing.{Outside}
-use Rattle.std.proofs.Common.{refl, Some}
+use Rattle.std.proofs.Common.{Some}
 use Rattle.lk_machine.specs.declared.parts.Pc.TheVariants.{C6, C7}
 use Rattle.lk_law.specs.Leads.{Named}
 use Rattle.lk_run.specs.Frames.{Parts, Precedes}

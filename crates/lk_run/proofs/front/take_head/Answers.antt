@@ -1,6 +1,5 @@
 use Rattle.lk_run.specs.Standing.{Outside}
 use Rattle.lk_run.proofs.Ways.{queues_taking, queues_patient}
-use Rattle.std.proofs.Common.{refl}
 use Rattle.lk_machine.specs.declared.parts.Pc.TheVariants.{G9, G10, C1}
 use Rattle.lk_law.specs.Leads.{Word}
 use Rattle.lk_domain.specs.Rows.{stakes_by}

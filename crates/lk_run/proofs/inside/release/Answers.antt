@@ -1,8 +1,6 @@
-use Rattle.std.proofs.Common.{◌≡◌, refl, sym, ap, ◌∙◌, subst}
-use Rattle.std.specs.Prelude.{true, ℕ}
+use Rattle.std.proofs.Common.{◌≡◌, sym, subst}
 use Rattle.lk_abs.specs.declared.names.LockName.{LockName}
 use Rattle.lk_machine.specs.Moves.{wait_name}
-use Rattle.lk_law.specs.Leads.{Word}
 use Rattle.lk_domain.specs.Plays.{ActsIn}
 use Rattle.lk_domain.specs.Rows.{frees_by}
 use Rattle.lk_domain.specs.Seats.{view_of}

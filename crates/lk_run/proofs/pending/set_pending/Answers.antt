@@ -1,6 +1,6 @@
 use Rattle.lk_run.proofs.Ways.{queues_taking, queues_patient}
 use Rattle.lk_run.specs.Standing.{Outside}
-use Rattle.std.proofs.Common.{refl, sym, ap, ◌∙◌, subst, ◌≡◌, ◌⊎◌, inl, inr}
+use Rattle.std.proofs.Common.{sym, ap, ◌∙◌, subst, ◌≡◌, ◌⊎◌, inl, inr}
 use Rattle.lk_machine.specs.declared.parts.Pc.TheVariants.{P1, P2, P3, P4, G1}
 use Rattle.lk_machine.specs.rows.Spin.{after_pending}
 use Rattle.lk_law.specs.Leads.{Word}

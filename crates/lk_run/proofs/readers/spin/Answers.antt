@@ -1,17 +1,16 @@
-use Rattle.std.proofs.Common.{◌≡◌, ap, sym, refl, ◌∙◌, eqb, eq-eqb, ne_eqb, inr, length, subst}
-use Rattle.lk_abs.specs.declared.holder.Manner.TheVariants.{Reads, Writes}
+use Rattle.std.proofs.Common.{◌≡◌, ap, refl, eqb, ne_eqb, inr, length, subst}
+use Rattle.lk_abs.specs.declared.holder.Manner.TheVariants.{Reads}
 use Rattle.lk_abs.specs.declared.names.LockName.{LockName}
-use Rattle.lk_machine.specs.Moves.{rw_name, wait_name}
-use Rattle.lk_machine.specs.declared.parts.Pc.TheVariants.{R1, R2, R3, R4, R5, Wr1, Wr2, Wr3, Wr4, Wr5, Wr6}
-use Rattle.lk_machine.specs.declared.setup.Verb.TheVariants.{Read, Write}
+use Rattle.lk_machine.specs.declared.parts.Pc.TheVariants.{R2}
+use Rattle.lk_machine.specs.declared.setup.Verb.TheVariants.{Read}
 use Rattle.lk_law.specs.Leads.{Shared}
-use Rattle.lk_domain.specs.Calls.{lock_name, waits_in}
+use Rattle.lk_domain.specs.Calls.{lock_name}
 use Rattle.lk_domain.specs.Paths.{Any}
-use Rattle.lk_domain.specs.RwRows.{watches_at, joins_at, seizes_at, quits_by, awaits_by, follows_by, lets_in, has_no_writer}
-use Rattle.lk_domain.specs.Seats.{calls_of, view_of}
-use Rattle.lk_run.specs.Phases.{Waits, Looked, CameIn, biased, starting}
-use Rattle.lk_run.specs.Standing.{Outside, Inside}
-use Rattle.lk_run.proofs.RwPlaces.{is_open_by, is_shut_by, no_writer_by, writer_by, empty_by, full_by, cleared_by, uncleared_by}
+use Rattle.lk_domain.specs.RwRows.{watches_at}
+use Rattle.lk_domain.specs.Seats.{calls_of}
+use Rattle.lk_run.specs.Phases.{Waits}
+use Rattle.lk_run.specs.Standing.{Outside}
+use Rattle.lk_run.proofs.RwPlaces.{no_writer_by, writer_by}
 use Rattle.lk_run.proofs.RwRows as row
 use Rattle.lk_run.proofs.RwSteps as rw
 use Rattle.lk_run.proofs.Stepped as way

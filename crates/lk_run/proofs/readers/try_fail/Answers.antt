@@ -1,14 +1,8 @@
-use Rattle.std.proofs.Common.{ap, refl, eqb, eq-eqb, ne_eqb, inr, length, true, false}
-use Rattle.lk_abs.specs.declared.holder.Manner.TheVariants.{Reads, Writes}
-use Rattle.lk_machine.specs.declared.parts.Pc.TheVariants.{Y1, Y2, Y3, Y4, Y5}
-use Rattle.lk_machine.specs.declared.setup.Verb.TheVariants.{TryRead, TryWrite}
-use Rattle.lk_domain.specs.Calls.{waits_in}
-use Rattle.lk_domain.specs.RwPlays.{ActsFor}
-use Rattle.lk_domain.specs.RwRows.{watches_at, joins_at, seizes_at, quits_by}
-use Rattle.lk_domain.specs.Seats.{calls_of, view_of}
-use Rattle.lk_run.proofs.RwPlaces.{is_open_by, is_shut_by, empty_by, full_by}
+use Rattle.std.proofs.Common.{refl}
+use Rattle.lk_machine.specs.declared.parts.Pc.TheVariants.{Y3}
+use Rattle.lk_machine.specs.declared.setup.Verb.TheVariants.{TryRead}
+use Rattle.lk_domain.specs.RwRows.{quits_by}
 use Rattle.lk_run.proofs.RwRows as row
-use Rattle.lk_run.proofs.RwSteps as rw
 use Rattle.lk_run.proofs.RwTries as try
 use Rattle.lk_run.proofs.readers.try_fail.Goals as goal
 

@@ -1,8 +1,4 @@
-use Rattle.std.proofs.Common.{◌≡◌, ◌≢◌, ℕ, sym, ap, ◌∙◌, subst, arith}
-use Rattle.lk_machine.specs.declared.parts.Pc.TheVariants.{R2, R3}
-use Rattle.lk_machine.specs.declared.setup.Verb.TheVariants.{Read}
-use Rattle.lk_domain.specs.Paths.{Any}
-use Rattle.lk_run.specs.Phases.{Waits}
+use Rattle.std.proofs.Common.{sym, ◌∙◌}
 use Rattle.lk_run.proofs.RwSteps.{biased_alone, biased_nested}
 use Rattle.lk_run.proofs.reading.contend.Goals as goal
 

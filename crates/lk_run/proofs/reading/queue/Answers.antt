@@ -1,4 +1,3 @@
-use Rattle.lk_machine.specs.declared.setup.Verb.TheVariants.{Read}
 use Rattle.lk_abs.specs.declared.holder.Manner.TheVariants.{Reads}
 use Rattle.lk_run.proofs.reading.queue.Goals as goal
 

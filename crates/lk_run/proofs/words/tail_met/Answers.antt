@@ -1,5 +1,5 @@
 use Rattle.std.proofs.Common.{arith}
-use Rattle.lk_run.proofs.Places.{node_named, small_name, least_name}
+use Rattle.lk_run.proofs.Places.{node_named, small_name}
 use Rattle.lk_run.proofs.words.tail_met.Goals as goal
 
 pub overflow_cast-result : goal.overflow_cast-result
