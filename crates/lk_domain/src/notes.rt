@@ -43,8 +43,9 @@ impl Notes {
         self.order[self.depth as usize - 1]
     }
 
-    // The call for the lock has made a row. One that neither waited nor waits has only to note that
-    // it took the lock, as the first exchange of `lock` where the lock is free: that is one store.
+    // The call for the lock has made a row. One that waits on as it waited has nothing to note, as
+    // most rows of a call that queues; and one that neither waited nor waits only that it took the
+    // lock.
     #[inline]
     pub(crate) fn step(&mut self, lock: u32, waits: bool, slow: bool, taken: bool)
         requires lock { lock < 32 }
@@ -52,10 +53,14 @@ impl Notes {
         ensures { (c : Calls) (d : Calls) → IsNoted self.old c → Steps c d lock waits slow taken
             → IsNoted self.new d }
     {
-        if waits | self.waiting[lock as usize] {
+        let index = lock as usize;
+        if waits && self.waiting[index] && self.slow[index] == slow && !taken {
+            return;
+        }
+        if waits | self.waiting[index] {
             self.step_waiting(lock, waits, slow, taken);
         } else if taken {
-            self.held[lock as usize] = true;
+            self.held[index] = true;
         }
     }
 

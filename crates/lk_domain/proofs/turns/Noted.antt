@@ -255,6 +255,15 @@ module _ (n : Notes) (c d : Calls) (l : ℕ) (slow : Bool) (was : IsNoted n c)
           let is : get_or n.order (length s.others) 0 ≡ l = h.locks (length s.others) (omega arith) ∙ (top_lock r s.others ∙ at) in
           let low = h.low (length s.others) (omega arith) in (is, omega arith)
 
+-- so a call that waited and waits, in the slow path or not as before, has nothing to note
+pub goes_on : (n : Notes) (c d : Calls) (l : ℕ) (waits slow taken : Bool) → l < 32 → IsNoted n c
+    → Steps c d l waits slow taken → waits ≡ true → get_or n.waiting l false ≡ true
+    → get_or n.slow l false ≡ slow → taken ≡ false → IsNoted n d
+goes_on n c d l true slow false lt was s _ on same _ =
+    stays n c d l slow was s (sym (was.noted.each l lt) ∙ on) (sym (was.slow.each l lt) ∙ same)
+goes_on n c d l true slow true lt was s _ on same e = cc e
+goes_on n c d l false slow taken lt was s e on same _ = cc e
+
 -- a lock is freed
 pub freed_noted : (n : Notes) (c d : Calls) (ms : List Bool) → d.frames ≡ c.frames → Marks ms (holds_in d.holds)
     → IsNoted n c → IsNoted (record n { held = ms }) d
