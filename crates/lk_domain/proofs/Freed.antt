@@ -106,7 +106,7 @@ pub record Ends (old new : Calls) (l : ℕ) (x : Fields) : Type 0 where
   pub frames : new.frames ≡ old.frames
   pub holds : new.holds ≡ free_of (length old.frames) (lock_name l) (moved_to (length old.frames) (lock_name l) old.holds)
   pub taken : new.taken ≡ old.taken
-  pub last : new.last ≡ mark U1 (Word x) ∷ []
+  pub last : new.last ≡ mark U1 (Word x) 0 ∷ []
 
 ends_by : (mode : Mode) → halts mode ≡ false → (p : ℕ) (z : Sight) (old : Calls) (l : ℕ) (x : Fields)
     → Ends old (row_on mode p z (begin mode old Unlock l).frames (begin mode old Unlock l) (Word x)) l x

@@ -13,7 +13,7 @@ use Rattle.lk_machine.specs.Moves.{first_place}
 use Rattle.lk_machine.specs.rows.Cna.{Sight}
 use Rattle.lk_machine.specs.TopRow.{target}
 use Rattle.lk_law.specs.Leads.{Met, held_lock}
-use Rattle.lk_domain.specs.Calls.{mark, Running, running, hold, Calls, StandsAt, acting, begin, begun, is_on}
+use Rattle.lk_domain.specs.Calls.{mark, read_at, Running, running, hold, Calls, StandsAt, acting, begin, begun, is_on}
 use Rattle.lk_domain.specs.Calls.{is_verb, Begins, MayBegin, holds_in, waits_in, lock_name, row_of, row_on, row_at}
 use Rattle.lk_domain.specs.Calls.{Terms, sight_of, after, frames_after, last_after, holds_after, taken_after, course, Grip, Unchanged, Takes}
 use Rattle.lk_domain.specs.Paths.{next_frame, row_grip, still, onward, Path, IsAt, HasTaken, HasMissed, AreKept, Any}
@@ -34,7 +34,7 @@ module _ {t : Terms} {p : ℕ} {v : Verb} {l : ℕ} {pl : Pc} {P : Frame → Typ
   stands = record { frame = at.frame; trail = at.trail; rest = old.frames; is = at.frames; place = at.place; lock = at.lock }
 
   rowed : (x : Met)
-      → row_of t p c x ≡ after v f (at.trail ++ mark pl x ∷ []) old.frames c (target pl f) (course t.mode p z pl f x)
+      → row_of t p c x ≡ after v f (at.trail ++ mark pl x (read_at pl z) ∷ []) old.frames c (target pl f) (course t.mode p z pl f x)
   rowed x =
       ap (λ (xs : List Running). row_on t.mode p z xs c x) at.frames
       ∙ ap (λ o. row_at t.mode p z (running v f at.trail) old.frames c x o) at.place
@@ -48,10 +48,10 @@ module _ {t : Terms} {p : ℕ} {v : Verb} {l : ℕ} {pl : Pc} {P : Frame → Typ
       let is = rowed x in
       record {
         frame = g;
-        trail = at.trail ++ mark pl x ∷ [];
+        trail = at.trail ++ mark pl x (read_at pl z) ∷ [];
         walk = onward at.trail f pl d x c.runs at.walk at.place place;
         frames = ap (λ (d : Calls). d.frames) is
-            ∙ ap (λ q. frames_after v g (at.trail ++ mark pl x ∷ []) old.frames q) place;
+            ∙ ap (λ q. frames_after v g (at.trail ++ mark pl x (read_at pl z) ∷ []) old.frames q) place;
         holds = ap (λ (d : Calls). d.holds) is
             ∙ (ap (λ y. holds_after y f.ctx (held_lock (target pl f) f) (c.taken + 1) c.holds) grip ∙ at.holds);
         taken = (let a = ap (λ (d : Calls). d.taken) is ∙ ap (λ y. taken_after y c.taken) grip in let b = at.taken in omega arith);
@@ -62,9 +62,9 @@ module _ {t : Terms} {p : ℕ} {v : Verb} {l : ℕ} {pl : Pc} {P : Frame → Typ
       }
 
   pub last_is : (x : Met) → (next_frame t.mode p z pl f x).place ≡ None
-      → (row_of t p c x).last ≡ at.trail ++ mark pl x ∷ []
+      → (row_of t p c x).last ≡ at.trail ++ mark pl x (read_at pl z) ∷ []
   last_is x place =
-      ap (λ (d : Calls). d.last) (rowed x) ∙ ap (λ q. last_after (at.trail ++ mark pl x ∷ []) c.last q) place
+      ap (λ (d : Calls). d.last) (rowed x) ∙ ap (λ q. last_after (at.trail ++ mark pl x (read_at pl z) ∷ []) c.last q) place
 
   ended : (x : Met) (y : Grip) → (next_frame t.mode p z pl f x).place ≡ None → row_grip t.mode p z pl f x ≡ y
       → Path t p (begun t.mode (length old.frames) v l) (row_of t p c x).last y
@@ -85,7 +85,7 @@ module _ {t : Terms} {p : ℕ} {v : Verb} {l : ℕ} {pl : Pc} {P : Frame → Typ
   frames_end : (x : Met) → (next_frame t.mode p z pl f x).place ≡ None → (row_of t p c x).frames ≡ old.frames
   frames_end x place =
       ap (λ (d : Calls). d.frames) (rowed x)
-      ∙ ap (λ q. frames_after v (next_frame t.mode p z pl f x) (at.trail ++ mark pl x ∷ []) old.frames q) place
+      ∙ ap (λ q. frames_after v (next_frame t.mode p z pl f x) (at.trail ++ mark pl x (read_at pl z) ∷ []) old.frames q) place
 
   -- the row takes the lock
   pub takes : (x : Met) (m : Manner) → (next_frame t.mode p z pl f x).place ≡ None

@@ -24,7 +24,7 @@ use Rattle.lk_law.proofs.common.Puts.{if_cases, if-true, if-false, not-true}
 use Rattle.lk_law.proofs.common.Sames.{same_lock-self, same_lock-true}
 use Rattle.lk_domain.specs.Calls.{terms_of, Mark, mark, Running, running, Hold, hold, Calls, StandsOn}
 use Rattle.lk_domain.specs.Calls.{Grip, Unchanged, Takes, Frees, free_of}
-use Rattle.lk_domain.specs.Calls.{grip_of, course, after, frames_after, row_of, sight_of}
+use Rattle.lk_domain.specs.Calls.{grip_of, course, after, frames_after, row_of, read_at, sight_of}
 use Rattle.lk_domain.specs.Calls.{holds_after}
 use Rattle.lk_domain.specs.Calls.{row_on, row_at, acting, begun, begin, is_on, is_verb, Begins, MayBegin}
 use Rattle.lk_domain.specs.Calls.{slows, waits_in, slow_in, holds_in, are_calls, lock_name}
@@ -343,7 +343,7 @@ module _ (k : Plan) (p : ℕ) (old new : Calls) (v : Verb) (n : LockName) (c : P
   g = led f' o.leads
 
   abbrev trail : List Mark
-  trail = stands.trail ++ mark c x ∷ []
+  trail = stands.trail ++ mark c x (read_at c (sight_of (terms_of k) p (acting k.mode old v l).runs)) ∷ []
 
   abbrev ac : Calls
   ac = acting k.mode old v l

@@ -21,7 +21,7 @@ use Rattle.lk_machine.specs.rows.Spin.{is_free}
 use Rattle.lk_machine.specs.TopRow.{target}
 use Rattle.lk_law.specs.Agree.{halts}
 use Rattle.lk_law.specs.Leads.{Met, Word}
-use Rattle.lk_domain.specs.Calls.{terms_of, mark, Running, running, Calls, StandsAt, acting, begin, lock_name}
+use Rattle.lk_domain.specs.Calls.{terms_of, mark, read_at, Running, running, Calls, StandsAt, acting, begin, lock_name}
 use Rattle.lk_machine.specs.rows.Cna.{Sight}
 use Rattle.lk_law.specs.Premises.{IsThen}
 use Rattle.lk_domain.specs.Calls.{sight_of, row_of, Unchanged, Takes, Frees, holds_in, waits_in, begun, are_calls}
@@ -82,18 +82,18 @@ module _ (k : Plan) (p : ℕ) (v : Verb) (l : ℕ) (pl : Pc) (old : Calls) (m n 
       ∙ ap (λ d. row_of (terms_of k) p d x) acts)
 
   turns : n.0.ledger
-      ≡ turned m.0.ledger (lock_name l) (row_grip k.mode p z pl f x) (at.trail ++ mark pl x ∷ [])
+      ≡ turned m.0.ledger (lock_name l) (row_grip k.mode p z pl f x) (at.trail ++ mark pl x (read_at pl z) ∷ [])
   turns =
       ap (λ (y : Me Slot View). y.0.ledger) made.seat
       ∙ ((λ i. turned_of (terms_of (seat.plan i)) (own_number (seat.number i)) (acting (seat.plan i).mode m.0.calls v l) x m.0.ledger)
       ∙ (ap (λ (d : Calls). turned_of (terms_of k) p d x m.0.ledger) acts
       ∙ (ap (λ (rs : List Running). turned_on k.mode p z rs x m.0.ledger) at.frames
       ∙ (ap (λ q. turned_at k.mode p z (running v f at.trail) x m.0.ledger q) at.place
-      ∙ ap (λ (j : LockName). turned m.0.ledger j (row_grip k.mode p z pl f x) (at.trail ++ mark pl x ∷ []))
+      ∙ ap (λ (j : LockName). turned m.0.ledger j (row_grip k.mode p z pl f x) (at.trail ++ mark pl x (read_at pl z) ∷ []))
       (own_lock (target pl f) f unseen ∙ at.lock)))))
 
   still_turned : row_grip k.mode p z pl f x ≡ Unchanged → n.0.ledger ≡ m.0.ledger
-  still_turned grip = turns ∙ ap (λ y. turned m.0.ledger (lock_name l) y (at.trail ++ mark pl x ∷ [])) grip
+  still_turned grip = turns ∙ ap (λ y. turned m.0.ledger (lock_name l) y (at.trail ++ mark pl x (read_at pl z) ∷ [])) grip
 
   pub moves : (d : Pc) → (next_frame k.mode p z pl f x).place ≡ Some d
       → row_grip k.mode p z pl f x ≡ Unchanged → (next_frame k.mode p z pl f x).lock ≡ f.lock
@@ -111,11 +111,11 @@ module _ (k : Plan) (p : ℕ) (v : Verb) (l : ℕ) (pl : Pc) (old : Calls) (m n 
       record {
         taken = subst (HasTaken (terms_of k) p v l Spins old) (sym calls) t;
         ledger = turns
-            ∙ (λ i. turned m.0.ledger (lock_name l) (grip i) (at.trail ++ mark pl x ∷ []))
+            ∙ (λ i. turned m.0.ledger (lock_name l) (grip i) (at.trail ++ mark pl x (read_at pl z) ∷ []))
             ∙ ap (λ ms. turned m.0.ledger (lock_name l) (Takes Spins) ms) (last place);
       }
     where
-      last : (next_frame k.mode p z pl f x).place ≡ None → at.trail ++ mark pl x ∷ [] ≡ n.0.calls.last
+      last : (next_frame k.mode p z pl f x).place ≡ None → at.trail ++ mark pl x (read_at pl z) ∷ [] ≡ n.0.calls.last
       last place = sym (ap (λ (d : Calls). d.last) calls ∙ path.last_is at x place)
 
   pub misses : (next_frame k.mode p z pl f x).place ≡ None → row_grip k.mode p z pl f x ≡ Unchanged
@@ -262,7 +262,7 @@ frees k p l m n met seat awake calm made =
     ∙ ((λ i. row_of (terms_of (seat.plan i)) (own_number (seat.number i)) (acting (plan i) old Unlock l) x)
     ∙ ap (λ b. row_of (terms_of k) p (if b then old else begin k.mode old Unlock l) x) (not_on old.frames l calm)) in
     let e = freed.ends k awake p old l made.found in
-    let last : n.0.calls.last ≡ mark U1 x ∷ [] = ap (λ (z : Calls). z.last) is ∙ e.last in
+    let last : n.0.calls.last ≡ mark U1 x 0 ∷ [] = ap (λ (z : Calls). z.last) is ∙ e.last in
     record {
       freed = record {
         word = made.found;
@@ -280,7 +280,7 @@ frees k p l m n met seat awake calm made =
   where
     turns : (mode : Mode) → halts mode ≡ false → (y : Fields)
         → turned_on mode p (sight_of (terms_of k) p None) (begin mode m.0.calls Unlock l).frames (Word y) m.0.ledger
-        ≡ turned m.0.ledger (lock_name l) Frees (mark U1 (Word y) ∷ [])
+        ≡ turned m.0.ledger (lock_name l) Frees (mark U1 (Word y) 0 ∷ [])
     turns Virt h y = refl
     turns Native h y = refl
     turns Cna h y = refl

@@ -11,7 +11,7 @@ use Rattle.lk_abs.specs.declared.names.LockName.{LockName}
 use Rattle.lk_abs.specs.declared.events.What.TheVariants.{RTake, RRelease, WTake, WRelease}
 use Rattle.lk_machine.specs.declared.parts.Frame.{Frame}
 use Rattle.lk_machine.specs.declared.parts.Pc.{Pc}
-use Rattle.lk_machine.specs.declared.parts.Pc.TheVariants.{Z1, Z2}
+use Rattle.lk_machine.specs.declared.parts.Pc.TheVariants.{C1, C7, Z1, Z2}
 use Rattle.lk_machine.specs.declared.setup.Verb.{Verb}
 use Rattle.lk_machine.specs.declared.setup.Verb.TheVariants.{Lock, Try, Unlock, Read, TryRead}
 use Rattle.lk_machine.specs.declared.setup.Verb.TheVariants.{RUnlock, Write, TryWrite, WUnlock}
@@ -28,10 +28,11 @@ use Rattle.lk_law.specs.Steps.{led}
 use Rattle.lk_domain.specs.Plans.{kind_at}
 use Rattle.lk_domain.specs.declared.plan.Plan.{Plan}
 
--- a row of a trail, and what it met
+-- a row of a trail, what it met, and how many handovers the call had read for it in its own node
 pub record Mark : Type 0 where
   pub row : Pc
   pub met : Met
+  pub runs : ℕ
 
 -- a call that waits: its frame, and its trail so far
 pub record Running : Type 0 where
@@ -64,8 +65,8 @@ pub record Calls : Type 0 where
 abbrev pub no_calls : Calls
 no_calls = record { frames = []; holds = []; last = []; taken = 0; ready = 0; runs = None }
 
-abbrev pub mark : Pc → Met → Mark
-mark c x = record { row = c; met = x }
+abbrev pub mark : Pc → Met → ℕ → Mark
+mark c x n = record { row = c; met = x; runs = n }
 
 abbrev pub running : Verb → Frame → List Mark → Running
 running v f t = record { verb = v; frame = f; trail = t }
@@ -234,6 +235,13 @@ sight_of t p r =
 abbrev pub setting : Mode → ℕ → Sight → Setting
 setting mode p z = record { mode = mode; turns = 1; cpu = p; sight = z }
 
+-- how many handovers a call has read for its row: a front does so before it chooses the next, and
+-- before it tells the next how many they are
+abbrev pub read_at : Pc → Sight → ℕ
+read_at C1 z = z.runs
+read_at C7 z = z.runs
+read_at _ z = 0
+
 -- the course of the row at c of a frame that met this
 abbrev pub course : Mode → ℕ → Sight → Pc → Frame → Met → Course
 course mode p z c f x = course_at (setting mode p z) c f (target c f) x
@@ -243,7 +251,7 @@ course mode p z c f x = course_at (setting mode p z) c f (target c f) x
 abbrev pub row_at : Mode → ℕ → Sight → Running → List Running → Calls → Met → Option Pc → Calls
 row_at mode p z r rs c x None = c
 row_at mode p z r rs c x (Some d) =
-    after r.verb r.frame (r.trail ++ mark d x ∷ []) rs c (target d r.frame)
+    after r.verb r.frame (r.trail ++ mark d x (read_at d z) ∷ []) rs c (target d r.frame)
     (course mode p z d r.frame x)
 
 abbrev pub row_on : Mode → ℕ → Sight → List Running → Calls → Met → Calls

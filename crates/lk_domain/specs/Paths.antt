@@ -13,7 +13,7 @@ use Rattle.lk_machine.specs.TopRow.{target}
 use Rattle.lk_law.specs.Leads.{Met, Word}
 use Rattle.lk_law.specs.Steps.{led}
 use Rattle.lk_domain.specs.Calls.{Mark, mark, running, hold, Calls, Grip, Unchanged, Takes}
-use Rattle.lk_domain.specs.Calls.{grip_of, course, Terms, sight_of}
+use Rattle.lk_domain.specs.Calls.{grip_of, course, read_at, Terms, sight_of}
 use Rattle.lk_domain.specs.Calls.{begun, lock_name, free_of, moved_to, holds_in, waits_in}
 use Rattle.lk_domain.specs.Ledgers.{Ledger, Look, turned}
 
@@ -25,14 +25,15 @@ next_frame mode p z c f x = led f (course mode p z c f x).leads
 abbrev pub row_grip : Mode → ℕ → Sight → Pc → Frame → Met → Grip
 row_grip mode p z c f x = grip_of (target c f) (course mode p z c f x)
 
--- The rows of the list lead from the frame a to the frame at the end. Where a front looks for the
--- next it has read some count of handovers in its own node.
+-- The rows of the list lead from the frame a to the frame at the end, a front that chooses the next
+-- by the count of handovers that its mark has.
 pub data Walk (t : Terms) (p : ℕ) (a : Frame) : List Mark → Frame → Type 0 where
   still : Walk t p a [] a
   onward : (ks : List Mark) (f : Frame) (c d : Pc) (x : Met) (r : Option ℕ)
       → Walk t p a ks f → f.place ≡ Some c
       → (next_frame t.mode p (sight_of t p r) c f x).place ≡ Some d
-      → Walk t p a (ks ++ mark c x ∷ []) (next_frame t.mode p (sight_of t p r) c f x)
+      → Walk t p a (ks ++ mark c x (read_at c (sight_of t p r)) ∷ [])
+      (next_frame t.mode p (sight_of t p r) c f x)
 
 -- the rows of the trail lead from the frame a to a row that ends the call, and does this to the
 -- holds
@@ -44,7 +45,7 @@ pub record Path (t : Terms) (p : ℕ) (a : Frame) (trail : List Mark) (grip : Gr
   pub runs : Option ℕ
   pub walk : Walk t p a before frame
   pub place : frame.place ≡ Some row
-  pub is : trail ≡ before ++ mark row met ∷ []
+  pub is : trail ≡ before ++ mark row met (read_at row (sight_of t p runs)) ∷ []
   pub ends : (next_frame t.mode p (sight_of t p runs) row frame met).place ≡ None
   pub grips : row_grip t.mode p (sight_of t p runs) row frame met ≡ grip
 
@@ -84,7 +85,7 @@ pub record HasMissed (t : Terms) (p : ℕ) (v : Verb) (l : ℕ) (old new : Calls
 -- it has freed the lock, by the one row U1
 pub record HasFreed (l : ℕ) (old new : Calls) : Type 0 where
   pub word : Fields
-  pub trail : new.last ≡ mark U1 (Word word) ∷ []
+  pub trail : new.last ≡ mark U1 (Word word) 0 ∷ []
   pub frames : new.frames ≡ old.frames
   pub holds : new.holds
       ≡ free_of (length old.frames) (lock_name l)

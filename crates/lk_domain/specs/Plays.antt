@@ -14,7 +14,7 @@ use Rattle.lk_machine.specs.rows.Cna.{Sight}
 use Rattle.lk_machine.specs.TopRow.{target}
 use Rattle.lk_law.specs.Leads.{Met, Word, held_lock}
 use Rattle.lk_law.specs.Premises.{IsThen}
-use Rattle.lk_domain.specs.Calls.{Running, Calls, mark, grip_of, course, row_of, acting, StandsOn}
+use Rattle.lk_domain.specs.Calls.{Running, Calls, mark, read_at, grip_of, course, row_of, acting, StandsOn}
 use Rattle.lk_domain.specs.Calls.{Begins, lock_name, no_calls, Terms, terms_of, sight_of}
 use Rattle.lk_domain.specs.Places.{places}
 use Rattle.lk_abs.specs.Journal.{Replays}
@@ -35,7 +35,7 @@ abbrev pub turned_at : Mode → ℕ → Sight → Running → Met → Ledger →
 turned_at mode p z r x g None = g
 turned_at mode p z r x g (Some d) =
     turned g (held_lock (target d r.frame) r.frame)
-    (grip_of (target d r.frame) (course mode p z d r.frame x)) (r.trail ++ mark d x ∷ [])
+    (grip_of (target d r.frame) (course mode p z d r.frame x)) (r.trail ++ mark d x (read_at d z) ∷ [])
 
 abbrev pub turned_on : Mode → ℕ → Sight → List Running → Met → Ledger → Ledger
 turned_on mode p z [] x g = g

@@ -1,21 +1,19 @@
 -- What a step of a processor does to a call of a reader or a writer.
-use Rattle.std.proofs.Common.{◌≡◌, ℕ, ◌+◌, ◌<◌, List, [], ◌∷◌, ◌++◌, length, Option, Some, None, Bool, true, false, eqb, refl, sym, ap, ◌∙◌, subst, arith}
+use Rattle.std.proofs.Common.{◌≡◌, ℕ, [], ◌∷◌, ◌++◌, Option, Some, None, true, eqb, refl, sym, ap, ◌∙◌, subst, arith}
 use Rattle.std.proofs.Common.{◌||◌}
 use Rattle.lk_abs.specs.declared.holder.Manner.{Manner}
 use Rattle.lk_abs.specs.declared.names.LockName.{LockName}
 use Rattle.lk_abs.specs.declared.names.Mode.{Mode}
-use Rattle.lk_word.specs.declared.spin_word.Fields.{Fields}
 use Rattle.lk_machine.specs.Moves.{wait_name}
 use Rattle.lk_machine.specs.declared.parts.Frame.{Frame}
 use Rattle.lk_machine.specs.declared.parts.Pc.{Pc}
 use Rattle.lk_machine.specs.declared.parts.Pc.TheVariants.{F1, U1}
 use Rattle.lk_machine.specs.declared.setup.Verb.{Verb}
-use Rattle.lk_machine.specs.TopRow.{target}
-use Rattle.lk_law.specs.Leads.{Met, held_lock}
+use Rattle.lk_law.specs.Leads.{Met}
 use Rattle.lk_law.specs.Sound.{after_wait, takes_wait}
-use Rattle.lk_domain.specs.Calls.{terms_of, sight_of, Mark, mark, running, Calls, lock_name, begun, row_of, Unchanged, Takes, Frees}
+use Rattle.lk_domain.specs.Calls.{terms_of, sight_of, read_at, mark, Calls, lock_name, row_of, Takes, Frees}
 use Rattle.lk_domain.specs.Ledgers.{turned}
-use Rattle.lk_domain.specs.Paths.{next_frame, row_grip, HasLooked, Any, Passes, is_busy}
+use Rattle.lk_domain.specs.Paths.{HasLooked, Any, Passes, is_busy}
 use Rattle.lk_domain.specs.Plays.{rowed}
 use Rattle.lk_domain.specs.Seats.{IsOf, KeepsRest, calls_of, ledger_of, view_of}
 use Rattle.lk_domain.specs.declared.cpu.Cpu.{Cpu}
@@ -39,7 +37,7 @@ module _ (d : Domain) (v : Verb) (n : LockName) (a b : Cpu) (rest : KeepsRest a 
     (step : view_of b ≡ rowed (view_of a) was x) (c : Pc) (P : Frame → Type 0) (s : Start)
     (at : IsOn (terms_of d.plan) b.number v n c P Outside s.calls was) (told : Option ℕ)
     (passes : Passes ((eqb n.index 0) || is_busy s.calls) s.ledger (ledger_of a)) (falls : NeverFalls s.told told)
-    (rises : (y : Met) → HasStayed (newest was.frames ++ mark c y ∷ []) → Rises s.told told) where
+    (rises : (y : Met) (r : ℕ) → HasStayed (newest was.frames ++ mark c y r ∷ []) → Rises s.told told) where
   abbrev mode : Mode
   mode = d.plan.mode
 
@@ -50,7 +48,7 @@ module _ (d : Domain) (v : Verb) (n : LockName) (a b : Cpu) (rest : KeepsRest a 
       let last = way.last_is d v n a b rest of was x step c P Outside s.calls at takes.place in
       let turns =
       way.turns d v n a b rest of was x step c P Outside s.calls at
-      ∙ ((λ i. turned (ledger_of a) (own i) (takes.grip i) (at.trail ++ mark c x ∷ []))
+      ∙ ((λ i. turned (ledger_of a) (own i) (takes.grip i) (at.trail ++ way.marked d b was c x ∷ []))
       ∙ ap (λ ms. turned (ledger_of a) (lock_name n.index) (Takes m) ms) (sym last)) in
       record {
         upto = (calls_of b).last;
@@ -69,7 +67,7 @@ module _ (d : Domain) (v : Verb) (l : ℕ) (a b : Cpu) (rest : KeepsRest a b) (o
     (step : view_of b ≡ rowed (view_of a) was x) (c : Pc) (P : Frame → Type 0) (s : Start)
     (at : IsOn (terms_of d.plan) b.number v (lock_name l) c P Outside s.calls was) (told : Option ℕ)
     (passes : Passes ((eqb l 0) || is_busy s.calls) s.ledger (ledger_of a)) (falls : NeverFalls s.told told)
-    (rises : (y : Met) → HasStayed (newest was.frames ++ mark c y ∷ []) → Rises s.told told) where
+    (rises : (y : Met) (r : ℕ) → HasStayed (newest was.frames ++ mark c y r ∷ []) → Rises s.told told) where
   pub sets_out : (e : Pc) → SetsOut d.plan.mode b.number (sight_of (terms_of d.plan) b.number was.runs) c at.frame x e → Some e ≡ after_wait v → (F1 ≡ c → ⊥)
       → Waits d v (wait_name l) F1 Any s b told
   sets_out e out next other =
@@ -99,7 +97,7 @@ module _ (d : Domain) (v : Verb) (l : ℕ) (a b : Cpu) (rest : KeepsRest a b) (o
       let own = takes.own ∙ own_name at.frame (wait_name l) at.lock in
       let turns =
       way.turns d v (wait_name l) a b rest of (calls_of a) x step c Any Inside s.calls at
-      ∙ (λ i. turned (ledger_of a) (own i) (takes.grip i) (at.trail ++ mark c x ∷ [])) in
+      ∙ (λ i. turned (ledger_of a) (own i) (takes.grip i) (at.trail ++ way.marked d b (calls_of a) c x ∷ [])) in
       let count = path.count_is at x m takes.grip in
       let least = at.taken in
       let before = way.before d v (wait_name l) a b rest of (calls_of a) x step c Any Inside s.calls at in
@@ -108,10 +106,10 @@ module _ (d : Domain) (v : Verb) (l : ℕ) (a b : Cpu) (rest : KeepsRest a b) (o
         at = path.enters at x m takes.place takes.grip own takes.lock takes.after;
         takes = path.path_to at x m takes.grip;
         taken = omega (arith, count, least);
-        look = looked l m s.calls (at.trail ++ mark c x ∷ []) s.ledger (ledger_of a) (ledger_of b) w.looked.passes turns;
+        look = looked l m s.calls (at.trail ++ way.marked d b (calls_of a) c x ∷ []) s.ledger (ledger_of a) (ledger_of b) w.looked.passes turns;
         falls = w.looked.falls;
-        rises = λ y h. w.rises x (subst (λ t. HasStayed (t ++ mark c x ∷ [])) (sym before)
-            (stays_before at.trail (mark c x) (mark U1 y) other h));
+        rises = λ y r h. w.rises x (read_at c (way.sees d a b)) (subst (λ t. HasStayed (t ++ way.marked d b (calls_of a) c x ∷ [])) (sym before)
+            (stays_before at.trail (way.marked d b (calls_of a) c x) (mark U1 y r) other h));
       })
 
 -- and frees the wait lock
@@ -126,8 +124,8 @@ module _ (d : Domain) (v : Verb) (l : ℕ) (m : Manner) (a b : Cpu) (rest : Keep
       let at = gone.at in
       let same : ledger_of b ≡ ledger_of a =
       way.turns d v (wait_name l) a b rest of (calls_of a) x step U1 Any (Entered m) s.calls at
-      ∙ ((λ i. turned (ledger_of a) ((free.own ∙ at.lock) i) (free.grip i) (at.trail ++ mark U1 x ∷ []))
-      ∙ way.wait_turned (ledger_of a) (wait_name l) Frees (at.trail ++ mark U1 x ∷ []) refl) in
+      ∙ ((λ i. turned (ledger_of a) ((free.own ∙ at.lock) i) (free.grip i) (at.trail ++ mark U1 x 0 ∷ []))
+      ∙ way.wait_turned (ledger_of a) (wait_name l) Frees (at.trail ++ mark U1 x 0 ∷ []) refl) in
       let last = way.last_is d v (wait_name l) a b rest of (calls_of a) x step U1 Any (Entered m) s.calls at free.place in
       record {
         upto = at.trail;
@@ -135,5 +133,5 @@ module _ (d : Domain) (v : Verb) (l : ℕ) (m : Manner) (a b : Cpu) (rest : Keep
             (sym (way.calls d v (wait_name l) a b rest of (calls_of a) x step U1 Any (Entered m) s.calls at))
             (path.leaves at x refl free.place free.grip free.own waits gone.takes gone.taken);
         look = subst (λ g. HasLooked l m s.calls at.trail s.ledger g) (sym same) gone.look;
-        polled = record { falls = gone.falls; rises = λ h. gone.rises x (subst HasStayed last h) };
+        polled = record { falls = gone.falls; rises = λ h. gone.rises x 0 (subst HasStayed last h) };
       }

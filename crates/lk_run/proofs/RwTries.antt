@@ -1,5 +1,5 @@
 -- What a step of a processor does to a try of a reader or a writer, and to a release of one.
-use Rattle.std.proofs.Common.{◌≡◌, ℕ, ◌<◌, List, [], ◌∷◌, ◌++◌, length, Some, None, Bool, true, false, refl, sym, ap, ◌∙◌, subst}
+use Rattle.std.proofs.Common.{◌≡◌, ℕ, ◌<◌, [], ◌∷◌, ◌++◌, length, Some, None, Bool, true, false, refl, sym, ap, ◌∙◌, subst}
 use Rattle.std.specs.Prelude.{if◌then◌else◌}
 use Rattle.lk_abs.specs.declared.holder.Manner.{Manner}
 use Rattle.lk_abs.specs.declared.holder.Manner.TheVariants.{Reads, Writes}
@@ -15,10 +15,10 @@ use Rattle.lk_machine.specs.declared.setup.Verb.TheVariants.{RUnlock, WUnlock, T
 use Rattle.lk_machine.specs.TopRow.{target}
 use Rattle.lk_law.specs.Leads.{Met, Shared, held_lock}
 use Rattle.lk_law.specs.Sound.{takes_wait}
-use Rattle.lk_domain.specs.Calls.{terms_of, sight_of, Terms, mark, Calls, begin, begun, acting, is_on, waits_in, holds_in, way_in, lock_name, row_of}
-use Rattle.lk_domain.specs.Calls.{Unchanged, Takes, Frees, are_calls}
+use Rattle.lk_domain.specs.Calls.{terms_of, sight_of, Terms, Calls, begin, begun, acting, is_on, waits_in, way_in, lock_name, row_of}
+use Rattle.lk_domain.specs.Calls.{Takes, Frees}
 use Rattle.lk_domain.specs.Ledgers.{Ledger, turned}
-use Rattle.lk_domain.specs.Paths.{IsAt, HasTaken, HasMissed, Any, row_grip, next_frame}
+use Rattle.lk_domain.specs.Paths.{HasTaken, HasMissed, Any, row_grip}
 use Rattle.lk_domain.specs.Plans.{kind_at}
 use Rattle.lk_domain.specs.Plays.{rowed, turned_of}
 use Rattle.lk_domain.specs.RwPlays.{ActsFor, SharedBy}
@@ -29,7 +29,6 @@ use Rattle.lk_domain.specs.Waits.{WaitsAt, Moves, Gains, Misses}
 use Rattle.lk_domain.specs.declared.cpu.Cpu.{Cpu}
 use Rattle.lk_domain.specs.declared.domain.Domain.{Domain}
 use Rattle.lk_domain.specs.declared.plan.Plan.{Plan}
-use Rattle.lk_domain.specs.declared.view.View.{View}
 use Rattle.lk_domain.proofs.Freed.{not_unlocking, released}
 use Rattle.lk_domain.proofs.Turned.{is_taking}
 use Rattle.lk_run.specs.Entering.{HasLeft, Leaves}
@@ -44,7 +43,7 @@ use Rattle.lk_run.proofs.Ways.{Leads}
 module _ (d : Domain) (v : Verb) (l : ℕ) (a b : Cpu) (rest : KeepsRest a b) (of : IsOf a d) (was : Calls) (x : Met)
     (is : view_of b ≡ rowed (view_of a) was x) (c : Pc) (old : Calls)
     (at : IsOn (terms_of d.plan) b.number v (lock_name l) c Any Outside old was) where
-  turns : ledger_of b ≡ turned (ledger_of a) (held_lock (target c at.frame) at.frame) (row_grip d.plan.mode b.number (sight_of (terms_of d.plan) b.number was.runs) c at.frame x) (at.trail ++ mark c x ∷ [])
+  turns : ledger_of b ≡ turned (ledger_of a) (held_lock (target c at.frame) at.frame) (row_grip d.plan.mode b.number (sight_of (terms_of d.plan) b.number was.runs) c at.frame x) (at.trail ++ way.marked d b was c x ∷ [])
   turns = way.turns d v (lock_name l) a b rest of was x is c Any Outside old at
 
   calls : calls_of b ≡ row_of (terms_of d.plan) b.number was x
@@ -55,7 +54,7 @@ module _ (d : Domain) (v : Verb) (l : ℕ) (a b : Cpu) (rest : KeepsRest a b) (o
       record {
         waits = path.at_of (subst (IsOn (terms_of d.plan) b.number v (lock_name l) e Any Outside old) (sym calls)
             (path.goes at x e Any leads.place leads.grip leads.lock leads.after leads.has));
-        ledger = turns ∙ ap (λ y. turned (ledger_of a) (held_lock (target c at.frame) at.frame) y (at.trail ++ mark c x ∷ [])) leads.grip;
+        ledger = turns ∙ ap (λ y. turned (ledger_of a) (held_lock (target c at.frame) at.frame) y (at.trail ++ way.marked d b was c x ∷ [])) leads.grip;
       }
 
   gains_at : (m : Manner) → TakesBy d.plan.mode b.number (sight_of (terms_of d.plan) b.number was.runs) c at.frame x m None → Gains d v l m old a b
@@ -64,7 +63,7 @@ module _ (d : Domain) (v : Verb) (l : ℕ) (a b : Cpu) (rest : KeepsRest a b) (o
       let last = way.last_is d v (lock_name l) a b rest of was x is c Any Outside old at takes.place in
       record {
         taken = subst (λ (z : Calls). HasTaken (terms_of d.plan) b.number v l m old z) (sym calls) (path.takes at x m takes.grip takes.place own);
-        ledger = turns ∙ ((λ i. turned (ledger_of a) (own i) (takes.grip i) (at.trail ++ mark c x ∷ []))
+        ledger = turns ∙ ((λ i. turned (ledger_of a) (own i) (takes.grip i) (at.trail ++ way.marked d b was c x ∷ []))
             ∙ ap (λ ms. turned (ledger_of a) (lock_name l) (Takes m) ms) (sym last));
       }
 
@@ -72,7 +71,7 @@ module _ (d : Domain) (v : Verb) (l : ℕ) (a b : Cpu) (rest : KeepsRest a b) (o
   misses_at fails =
       record {
         missed = subst (λ (z : Calls). HasMissed (terms_of d.plan) b.number v l old z) (sym calls) (path.misses at x fails.place fails.grip);
-        ledger = turns ∙ ap (λ y. turned (ledger_of a) (held_lock (target c at.frame) at.frame) y (at.trail ++ mark c x ∷ [])) fails.grip;
+        ledger = turns ∙ ap (λ y. turned (ledger_of a) (held_lock (target c at.frame) at.frame) y (at.trail ++ way.marked d b was c x ∷ [])) fails.grip;
       }
 
 -- a try that begins

@@ -19,7 +19,7 @@ use Rattle.lk_law.specs.Sound.{after_wait, takes_wait}
 use Rattle.lk_law.proofs.common.Puts.{if-true, if-false, not-true}
 use Rattle.lk_law.proofs.common.Sames.{same_lock-self, same_lock-true}
 use Rattle.lk_domain.proofs.Stacks.{and_parts}
-use Rattle.lk_domain.specs.Calls.{sight_of, Terms, mark, Running, running, Hold, hold, Calls, StandsOn, begin, begun}
+use Rattle.lk_domain.specs.Calls.{sight_of, read_at, Terms, mark, Running, running, Hold, hold, Calls, StandsOn, begin, begun}
 use Rattle.lk_domain.specs.Calls.{lock_name, row_of, row_on, row_at}
 use Rattle.lk_domain.specs.Calls.{after, frames_after, last_after, holds_after, taken_after, course, Unchanged, Takes, Frees}
 use Rattle.lk_domain.specs.Calls.{free_of, held_in}
@@ -63,26 +63,26 @@ module _ {terms : Terms} {p : ℕ} {v : Verb} {n : LockName} {pl : Pc} {P : Fram
   stands = record { frame = at.frame; trail = at.trail; rest = old.frames; is = at.frames; place = at.place; lock = at.lock }
 
   pub rowed : (x : Met)
-      → row_of terms p c x ≡ after v f (at.trail ++ mark pl x ∷ []) old.frames c (target pl f) (course terms.mode p (sight_of terms p c.runs) pl f x)
+      → row_of terms p c x ≡ after v f (at.trail ++ mark pl x (read_at pl (sight_of terms p c.runs)) ∷ []) old.frames c (target pl f) (course terms.mode p (sight_of terms p c.runs) pl f x)
   rowed x =
       ap (λ (xs : List Running). row_on terms.mode p (sight_of terms p c.runs) xs c x) at.frames
       ∙ ap (λ o. row_at terms.mode p (sight_of terms p c.runs) (running v f at.trail) old.frames c x o) at.place
 
   pub frames_on : (x : Met) (d : Pc) → (next_frame terms.mode p (sight_of terms p c.runs) pl f x).place ≡ Some d
-      → (row_of terms p c x).frames ≡ running v (next_frame terms.mode p (sight_of terms p c.runs) pl f x) (at.trail ++ mark pl x ∷ []) ∷ old.frames
+      → (row_of terms p c x).frames ≡ running v (next_frame terms.mode p (sight_of terms p c.runs) pl f x) (at.trail ++ mark pl x (read_at pl (sight_of terms p c.runs)) ∷ []) ∷ old.frames
   frames_on x d place =
       ap (λ (z : Calls). z.frames) (rowed x)
-      ∙ ap (λ q. frames_after v (next_frame terms.mode p (sight_of terms p c.runs) pl f x) (at.trail ++ mark pl x ∷ []) old.frames q) place
+      ∙ ap (λ q. frames_after v (next_frame terms.mode p (sight_of terms p c.runs) pl f x) (at.trail ++ mark pl x (read_at pl (sight_of terms p c.runs)) ∷ []) old.frames q) place
 
   frames_off : (x : Met) → (next_frame terms.mode p (sight_of terms p c.runs) pl f x).place ≡ None → (row_of terms p c x).frames ≡ old.frames
   frames_off x place =
       ap (λ (z : Calls). z.frames) (rowed x)
-      ∙ ap (λ q. frames_after v (next_frame terms.mode p (sight_of terms p c.runs) pl f x) (at.trail ++ mark pl x ∷ []) old.frames q) place
+      ∙ ap (λ q. frames_after v (next_frame terms.mode p (sight_of terms p c.runs) pl f x) (at.trail ++ mark pl x (read_at pl (sight_of terms p c.runs)) ∷ []) old.frames q) place
 
   pub last_is : (x : Met) → (next_frame terms.mode p (sight_of terms p c.runs) pl f x).place ≡ None
-      → (row_of terms p c x).last ≡ at.trail ++ mark pl x ∷ []
+      → (row_of terms p c x).last ≡ at.trail ++ mark pl x (read_at pl (sight_of terms p c.runs)) ∷ []
   last_is x place =
-      ap (λ (z : Calls). z.last) (rowed x) ∙ ap (λ q. last_after (at.trail ++ mark pl x ∷ []) c.last q) place
+      ap (λ (z : Calls). z.last) (rowed x) ∙ ap (λ q. last_after (at.trail ++ mark pl x (read_at pl (sight_of terms p c.runs)) ∷ []) c.last q) place
 
   -- the row leads to another
   pub goes : (x : Met) (d : Pc) (Q : Frame → Type 0) → (next_frame terms.mode p (sight_of terms p c.runs) pl f x).place ≡ Some d
@@ -95,7 +95,7 @@ module _ {terms : Terms} {p : ℕ} {v : Verb} {n : LockName} {pl : Pc} {P : Fram
       let same : (row_of terms p c x).taken ≡ c.taken = ap (λ (z : Calls). z.taken) is ∙ ap (λ y. taken_after y c.taken) grip in
       record {
         frame = g;
-        trail = at.trail ++ mark pl x ∷ [];
+        trail = at.trail ++ mark pl x (read_at pl (sight_of terms p c.runs)) ∷ [];
         walk = onward at.trail f pl d x c.runs at.walk at.place place;
         frames = frames_on x d place;
         holds = still_held stage (length old.frames) n old.holds c (row_of terms p c x)
@@ -122,7 +122,7 @@ module _ {terms : Terms} {p : ℕ} {v : Verb} {n : LockName} {pl : Pc} {P : Fram
       ∙ ap (λ j. hold (length old.frames) l m j ∷ c.holds) (sym (count_is x m grip)))
 
   pub path_to : (x : Met) (m : Manner) → row_grip terms.mode p (sight_of terms p c.runs) pl f x ≡ Takes m
-      → PathTo terms p (begun terms.mode (length old.frames) v n.index) (at.trail ++ mark pl x ∷ []) m
+      → PathTo terms p (begun terms.mode (length old.frames) v n.index) (at.trail ++ mark pl x (read_at pl (sight_of terms p c.runs)) ∷ []) m
   path_to x m grip =
       record { before = at.trail; frame = f; row = pl; met = x; runs = c.runs; walk = at.walk; place = at.place; is = refl; grips = grip }
 
@@ -205,7 +205,7 @@ module _ {terms : Terms} {p : ℕ} {v : Verb} {n : LockName} {pl : Pc} {P : Fram
   grants spins d place own lock next =
       record {
         frame = next_frame terms.mode p (sight_of terms p c.runs) pl at.frame x;
-        trail = at.trail ++ mark pl x ∷ [];
+        trail = at.trail ++ mark pl x (read_at pl (sight_of terms p c.runs)) ∷ [];
         walk = onward at.trail at.frame pl d x c.runs at.walk at.place place;
         frames = frames_on at x d place;
         holds = (
@@ -233,7 +233,7 @@ module _ {terms : Terms} {p : ℕ} {v : Verb} {l : ℕ} {pl : Pc} {P : Frame →
       let same : (row_of terms p c x).taken ≡ c.taken = ap (λ (z : Calls). z.taken) is ∙ ap (λ y. taken_after y c.taken) grip in
       record {
         frame = next_frame terms.mode p (sight_of terms p c.runs) pl at.frame x;
-        trail = at.trail ++ mark pl x ∷ [];
+        trail = at.trail ++ mark pl x (read_at pl (sight_of terms p c.runs)) ∷ [];
         walk = onward at.trail at.frame pl F1 x c.runs at.walk at.place place;
         frames = frames_on at x F1 place;
         holds = ap (λ (z : Calls). z.holds) is
@@ -259,7 +259,7 @@ module _ {terms : Terms} {p : ℕ} {v : Verb} {n : LockName} {pl : Pc} {P : Fram
       let out = row_of terms p c x in
       record {
         frame = next_frame terms.mode p (sight_of terms p c.runs) pl at.frame x;
-        trail = at.trail ++ mark pl x ∷ [];
+        trail = at.trail ++ mark pl x (read_at pl (sight_of terms p c.runs)) ∷ [];
         walk = onward at.trail at.frame pl U1 x c.runs at.walk at.place place;
         frames = frames_on at x U1 place;
         holds = (
@@ -332,9 +332,9 @@ module _ {terms : Terms} {p : ℕ} {v : Verb} {l : ℕ} {m : Manner} {old c : Ca
       record {
         takes = takes;
         over = over at x place;
-        behind = mark pl x ∷ [];
+        behind = mark pl x (read_at pl (sight_of terms p c.runs)) ∷ [];
         last = last_is at x place;
-        release = inr (x, ap (λ c. mark c x ∷ []) release);
+        release = inr (x, ap (λ q. mark q x (read_at q (sight_of terms p c.runs)) ∷ []) release);
         frames = frames_off at x place;
         holds = ap (λ (z : Calls). z.holds) is
             ∙ ((λ i. holds_after (grip i) (at.ctx i) ((own ∙ at.lock) i) (c.taken + 1) (at.holds.1 i))

@@ -2,14 +2,12 @@
 use Rattle.std.proofs.Common.{◌≡◌, ℕ, List, [], ◌∷◌, ◌++◌, length, Option, Bool, true, false, eqb, eq-eqb, refl, sym, ap, ◌∙◌, subst, arith}
 use Rattle.std.proofs.Common.{◌||◌}
 use Rattle.std.specs.Prelude.{if◌then◌else◌, ◌&&◌, None}
-use Rattle.lk_abs.specs.declared.holder.Manner.TheVariants.{Spins}
 use Rattle.lk_abs.specs.declared.names.LockName.{LockName}
 use Rattle.lk_abs.specs.declared.names.Mode.{Mode}
 use Rattle.lk_machine.specs.Moves.{first_place, wait_name}
 use Rattle.lk_machine.specs.declared.parts.Frame.{Frame}
 use Rattle.lk_machine.specs.declared.parts.Pc.{Pc}
 use Rattle.lk_machine.specs.declared.setup.Verb.{Verb}
-use Rattle.lk_machine.specs.declared.setup.Verb.TheVariants.{Lock}
 use Rattle.lk_law.specs.Families.{is_rw_row}
 use Rattle.lk_law.specs.Leads.{Met, Word, Shared}
 use Rattle.lk_law.specs.Sound.{takes_wait}
@@ -29,7 +27,7 @@ use Rattle.lk_domain.proofs.Paths as domain_path
 use Rattle.lk_domain.proofs.Turned.{is_taking, verb_self}
 use Rattle.lk_run.specs.Polls.{Rises, HasStayed}
 use Rattle.lk_run.specs.Phases.{Start, newest, StandsAs, LookedAs, WaitsAs, Waits, Won, Queues, starting}
-use Rattle.lk_run.specs.Standing.{Stage, Outside, IsOn, HoldsAt}
+use Rattle.lk_run.specs.Standing.{Stage, Outside, IsOn}
 use Rattle.lk_run.proofs.Polls.{falls_none}
 use Rattle.lk_run.proofs.Standing as path
 use Rattle.lk_run.proofs.Steps.{passes_none}
@@ -123,8 +121,8 @@ module _ (d : Domain) (v : Verb) (l : ℕ) (a b : Cpu) (rest : KeepsRest a b) (o
   pub first : IsOn (terms_of d.plan) b.number v (lock_name l) row Any Outside (calls_of a) (begin d.plan.mode (calls_of a) v l)
   first = path.starts (terms_of d.plan) b.number v l (calls_of a) takes free
 
-  pub none_yet : (y : Met) → HasStayed ([] ++ mark row y ∷ []) → Rises told told
-  none_yet y h = absurd h
+  pub none_yet : (y : Met) (r : ℕ) → HasStayed ([] ++ mark row y r ∷ []) → Rises told told
+  none_yet y r h = absurd h
 
   pub first_goes : (e : Pc) → (e ≡ row → ⊥)
       → ((f : Frame) → Leads d.plan.mode b.number (sight_of (terms_of d.plan) b.number None) row f x e Any) → Waits d v (lock_name l) e Any (starting a told) b told
@@ -158,7 +156,7 @@ module _ (d : Domain) (v : Verb) (n : LockName) (a b : Cpu) (rest : KeepsRest a 
           passes = subst (Passes ((eqb n.index 0) || is_busy s.calls) s.ledger) (ap (λ (v : View). v.ledger) (sym same)) w.looked.passes;
           falls = w.looked.falls;
         };
-        rises = λ x h. w.rises x (subst (λ (v : View). HasStayed (newest v.calls.frames ++ mark c x ∷ [])) same h);
+        rises = λ x r h. w.rises x r (subst (λ (v : View). HasStayed (newest v.calls.frames ++ mark c x r ∷ [])) same h);
       }
 
 -- the count was read: the call stands where it stood
@@ -182,7 +180,7 @@ module _ (d : Domain) (v : Verb) (n : LockName) (a b : Cpu) (rest : KeepsRest a 
           passes = subst (Passes ((eqb n.index 0) || is_busy s.calls) s.ledger) (ap (λ (v : View). v.ledger) (sym same)) w.looked.passes;
           falls = w.looked.falls;
         };
-        rises = λ x h. w.rises x (subst (λ (v : View). HasStayed (newest v.calls.frames ++ mark c x ∷ [])) same h);
+        rises = λ x r h. w.rises x r (subst (λ (v : View). HasStayed (newest v.calls.frames ++ mark c x r ∷ [])) same h);
       }
 
   abbrev pub counted_stands : StandsAs Outside d v n c P a → StandsAs Outside d v n c P b

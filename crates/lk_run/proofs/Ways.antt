@@ -1,9 +1,8 @@
 -- What a step of a processor does to a call that waits: it goes on, looks, or has the lock for which it
 -- queued.
-use Rattle.std.proofs.Common.{◌≡◌, inl, inr, ℕ, List, [], ◌∷◌, ◌++◌, Option, Some, None, Bool, true, false, eqb, refl, sym, ap, ◌∙◌, subst, arith}
+use Rattle.std.proofs.Common.{◌≡◌, inl, inr, ℕ, List, [], ◌∷◌, ◌++◌, Option, Some, None, Bool, true, false, eqb, refl, sym, ap, ◌∙◌, subst}
 use Rattle.std.proofs.Common.{◌||◌}
 use Rattle.std.specs.Prelude.{if◌then◌else◌, ◌&&◌, not}
-use Rattle.lk_abs.specs.declared.holder.Manner.{Manner}
 use Rattle.lk_abs.specs.declared.holder.Manner.TheVariants.{Spins}
 use Rattle.lk_abs.specs.declared.names.LockName.{LockName}
 use Rattle.lk_abs.specs.declared.names.Mode.{Mode}
@@ -21,8 +20,8 @@ use Rattle.lk_machine.specs.rows.Queue.{entry_row}
 use Rattle.lk_law.specs.Leads.{course_of}
 use Rattle.lk_law.specs.Sound.{after_wait}
 use Rattle.lk_law.proofs.common.Puts.{if-true, if-false}
-use Rattle.lk_domain.specs.Calls.{terms_of, sight_of, grip_of, Mark, mark, Running, running, Calls, acting, begin, holds_in, waits_in, lock_name}
-use Rattle.lk_domain.specs.Calls.{StandsOn, row_of, row_on, row_at, after, frames_after, course, Grip, Unchanged, Takes}
+use Rattle.lk_domain.specs.Calls.{terms_of, sight_of, read_at, grip_of, Mark, mark, Running, running, Calls, holds_in, waits_in, lock_name}
+use Rattle.lk_domain.specs.Calls.{row_of, row_on, row_at, after, frames_after, Grip, Unchanged, Takes}
 use Rattle.lk_domain.specs.Ledgers.{Ledger, turned}
 use Rattle.lk_domain.specs.NodePlays.{readies}
 use Rattle.lk_domain.specs.Paths.{next_frame, row_grip, HasTaken, AreKept, Any, Passes, is_busy}
@@ -34,7 +33,6 @@ use Rattle.lk_domain.specs.Seats.{IsOf, KeepsRest, calls_of, ledger_of, view_of}
 use Rattle.lk_domain.specs.Views.{own_number}
 use Rattle.lk_domain.specs.declared.cpu.Cpu.{Cpu}
 use Rattle.lk_domain.specs.declared.domain.Domain.{Domain}
-use Rattle.lk_domain.specs.declared.plan.Plan.{Plan}
 use Rattle.lk_domain.specs.declared.view.View.{View}
 use Rattle.lk_run.specs.Polls.{Rises, NeverFalls, HasStayed}
 use Rattle.lk_run.specs.Phases.{Start, newest, LookedAs, WaitsAs, Holds, Won, Queues, resumes}
@@ -133,6 +131,10 @@ then_is _ n next q after w = absurd q
 abbrev pub sees : Domain → Cpu → Cpu → Sight
 sees d a b = sight_of (terms_of d.plan) b.number (calls_of a).runs
 
+-- the mark of a row of the newest of the calls `was`
+abbrev pub marked : Domain → Cpu → Calls → Pc → Met → Mark
+marked d b was c x = mark c x (read_at c (sight_of (terms_of d.plan) b.number was.runs))
+
 -- a step by which the newest of the calls `was` makes its row at c, which meets x
 module _ (d : Domain) (v : Verb) (n : LockName) (a b : Cpu) (rest : KeepsRest a b) (of : IsOf a d) (was : Calls) (x : Met)
     (step : view_of b ≡ rowed (view_of a) was x) (c : Pc) (P : Frame → Type 0) (stage : Stage) (old : Calls)
@@ -144,7 +146,7 @@ module _ (d : Domain) (v : Verb) (n : LockName) (a b : Cpu) (rest : KeepsRest a 
   f = at.frame
 
   abbrev trail : List Mark
-  trail = at.trail ++ mark c x ∷ []
+  trail = at.trail ++ marked d b was c x ∷ []
 
   -- what the processor sees
   abbrev z : Sight
@@ -185,7 +187,7 @@ module _ (d : Domain) (v : Verb) (n : LockName) (a b : Cpu) (rest : KeepsRest a 
     (step : view_of b ≡ rowed (view_of a) was x) (c : Pc) (P : Frame → Type 0) (stage : Stage) (s : Start)
     (at : IsOn (terms_of d.plan) b.number v n c P stage s.calls was) (told : Option ℕ)
     (passes : Passes ((eqb n.index 0) || is_busy s.calls) s.ledger (ledger_of a)) (falls : NeverFalls s.told told)
-    (rises : (y : Met) → HasStayed (newest was.frames ++ mark c y ∷ []) → Rises s.told told) where
+    (rises : (y : Met) (r : ℕ) → HasStayed (newest was.frames ++ mark c y r ∷ []) → Rises s.told told) where
   abbrev mode' : Mode
   mode' = d.plan.mode
 
@@ -197,16 +199,16 @@ module _ (d : Domain) (v : Verb) (n : LockName) (a b : Cpu) (rest : KeepsRest a 
 
   -- what is polled where it goes on at another row
   pub polls : (e : Pc) → (e ≡ c → ⊥) → (next_frame mode' b.number z' c f' x).place ≡ Some e
-      → (y : Met) → HasStayed (newest (calls_of b).frames ++ mark e y ∷ []) → Rises s.told told
-  polls e other place y h =
-      rises x (subst (λ t. HasStayed (t ++ mark c x ∷ [])) (sym (before d v n a b rest of was x step c P stage s.calls at))
-      (stays_before at.trail (mark c x) (mark e y) other
-      (subst (λ t. HasStayed (t ++ mark e y ∷ [])) (grows d v n a b rest of was x step c P stage s.calls at e place) h)))
+      → (y : Met) (r : ℕ) → HasStayed (newest (calls_of b).frames ++ mark e y r ∷ []) → Rises s.told told
+  polls e other place y r h =
+      rises x (read_at c z') (subst (λ t. HasStayed (t ++ marked d b was c x ∷ [])) (sym (before d v n a b rest of was x step c P stage s.calls at))
+      (stays_before at.trail (marked d b was c x) (mark e y r) other
+      (subst (λ t. HasStayed (t ++ mark e y r ∷ [])) (grows d v n a b rest of was x step c P stage s.calls at e place) h)))
 
   -- what is polled where this row is the last
-  pub polls_over : {t : List Mark} → t ≡ at.trail ++ mark c x ∷ [] → HasStayed t → Rises s.told told
+  pub polls_over : {t : List Mark} → t ≡ at.trail ++ marked d b was c x ∷ [] → HasStayed t → Rises s.told told
   polls_over last h =
-      rises x (subst (λ t. HasStayed (t ++ mark c x ∷ [])) (sym (before d v n a b rest of was x step c P stage s.calls at)) (subst HasStayed last h))
+      rises x (read_at c z') (subst (λ t. HasStayed (t ++ marked d b was c x ∷ [])) (sym (before d v n a b rest of was x step c P stage s.calls at)) (subst HasStayed last h))
 
   -- the ledger of a row that begins and ends no look
   pub passed : row_grip mode' b.number z' c f' x ≡ Unchanged → Passes ((eqb n.index 0) || is_busy s.calls) s.ledger (ledger_of b)
@@ -214,7 +216,7 @@ module _ (d : Domain) (v : Verb) (n : LockName) (a b : Cpu) (rest : KeepsRest a 
       passes_both ((eqb n.index 0) || is_busy s.calls) s.ledger (ledger_of a) (ledger_of b) passes
       (passes_none ((eqb n.index 0) || is_busy s.calls) (ledger_of a) (ledger_of b)
       (turns d v n a b rest of was x step c P stage s.calls at
-      ∙ ap (λ y. turned (ledger_of a) (held_lock (target c f') f') y (at.trail ++ mark c x ∷ [])) grip))
+      ∙ ap (λ y. turned (ledger_of a) (held_lock (target c f') f') y (at.trail ++ marked d b was c x ∷ [])) grip))
 
   goes_to : (e : Pc) (Q : Frame → Type 0) → Leads mode' b.number z' c f' x e Q → LookedAs stage d v n e Q s b told
   goes_to e Q leads =
@@ -238,15 +240,15 @@ module _ (d : Domain) (v : Verb) (n : LockName) (a b : Cpu) (rest : KeepsRest a 
     (step : view_of b ≡ rowed (view_of a) was x) (c : Pc) (P : Frame → Type 0) (s : Start)
     (at : IsOn (terms_of d.plan) b.number v n c P Outside s.calls was) (told : Option ℕ)
     (passes : Passes ((eqb n.index 0) || is_busy s.calls) s.ledger (ledger_of a)) (falls : NeverFalls s.told told)
-    (rises : (y : Met) → HasStayed (newest was.frames ++ mark c y ∷ []) → Rises s.told told)
+    (rises : (y : Met) (r : ℕ) → HasStayed (newest was.frames ++ mark c y r ∷ []) → Rises s.told told)
     (ends : Ends d.plan.mode b.number (sight_of (terms_of d.plan) b.number was.runs) c at.frame x) where
   wait_is : at.frame.lock.wait ≡ n.wait
   wait_is = ap (λ (z : LockName). z.wait) at.lock
 
-  now : ledger_of b ≡ turned (ledger_of a) n (Takes Spins) (at.trail ++ mark c x ∷ [])
+  now : ledger_of b ≡ turned (ledger_of a) n (Takes Spins) (at.trail ++ marked d b was c x ∷ [])
   now =
       turns d v n a b rest of was x step c P Outside s.calls at
-      ∙ (λ i. turned (ledger_of a) ((ends.own ∙ at.lock) i) (ends.grip i) (at.trail ++ mark c x ∷ []))
+      ∙ (λ i. turned (ledger_of a) ((ends.own ∙ at.lock) i) (ends.grip i) (at.trail ++ marked d b was c x ∷ []))
 
   -- the lock itself
   takes : n.wait ≡ false → Holds d v n.index Spins s b told
@@ -260,7 +262,7 @@ module _ (d : Domain) (v : Verb) (n : LockName) (a b : Cpu) (rest : KeepsRest a 
             (sym (calls d v n a b rest of was x step c P Outside s.calls at))
             (path.takes at x Spins ends.grip place (ends.own ∙ (at.lock ∙ name)));
         look = looked n.index Spins s.calls (calls_of b).last s.ledger (ledger_of a) (ledger_of b) passes
-            (now ∙ ((λ i. turned (ledger_of a) (name i) (Takes Spins) (at.trail ++ mark c x ∷ []))
+            (now ∙ ((λ i. turned (ledger_of a) (name i) (Takes Spins) (at.trail ++ marked d b was c x ∷ []))
             ∙ ap (λ ms. turned (ledger_of a) (lock_name n.index) (Takes Spins) ms) (sym last)));
         polled = record {
           falls = falls;
@@ -281,7 +283,7 @@ module _ (d : Domain) (v : Verb) (n : LockName) (a b : Cpu) (rest : KeepsRest a 
               (path.grants at x Spins ends.grip refl (resumes v) place (ends.own ∙ at.lock) ends.lock ends.after);
           passes = passes_both ((eqb n.index 0) || is_busy s.calls) s.ledger (ledger_of a) (ledger_of b) passes
               (passes_none ((eqb n.index 0) || is_busy s.calls) (ledger_of a) (ledger_of b)
-              (now ∙ wait_turned (ledger_of a) n (Takes Spins) (at.trail ++ mark c x ∷ []) wait));
+              (now ∙ wait_turned (ledger_of a) n (Takes Spins) (at.trail ++ marked d b was c x ∷ []) wait));
           falls = falls;
         };
         rises = polls d v n a b rest of was x step c P Outside s at told passes falls rises (resumes v) (resumes_else v c spin) place;
@@ -312,7 +314,7 @@ polled_at d v n c P stage s a b before after looked is same rest kept passes ros
             (subst (λ z. Passes z (ledger_of a) (ledger_of b)) busy passes);
         falls = falls_after s.told before after looked.falls rose;
       };
-      rises = λ y h. rises_after s.told before after looked.falls rose;
+      rises = λ y r h. rises_after s.told before after looked.falls rose;
     }
   where
     by : (x y z : Bool) → (x || (if y then true else z)) ≡ (y || (x || z))
@@ -334,13 +336,13 @@ ready_row n m v f t rs x frames place = λ i. record m { calls = calls i; ledger
     p = own_number m.who.number
 
     row : (z : Sight) (c : Calls) → row_on mode p z m.calls.frames c (Number x)
-        ≡ after v f (t ++ mark G1 (Number x) ∷ []) rs c (target G1 f) (course_of (entry_row mode p x))
+        ≡ after v f (t ++ mark G1 (Number x) 0 ∷ []) rs c (target G1 f) (course_of (entry_row mode p x))
     row z c = ap (λ (xs : List Running). row_on mode p z xs c (Number x)) frames
         ∙ ap (λ q. row_at mode p z (running v f t) rs c (Number x) q) place
 
     turn : (z : Sight) → turned_on mode p z m.calls.frames (Number x) m.ledger
         ≡ turned m.ledger (held_lock (target G1 f) f) (grip_of (target G1 f) (course_of (entry_row mode p x)))
-        (t ++ mark G1 (Number x) ∷ [])
+        (t ++ mark G1 (Number x) 0 ∷ [])
     turn z = ap (λ (xs : List Running). turned_on mode p z xs (Number x) m.ledger) frames
         ∙ ap (λ q. turned_at mode p z (running v f t) (Number x) m.ledger q) place
 

@@ -2,14 +2,13 @@
 -- went on from there.
 use Rattle.std.specs.Prelude.{◌≡◌, ◌⊎◌, ℕ, ◌<◌, false, List, [], ◌∷◌, ◌++◌, length, Option, Some, None}
 use Rattle.lk_abs.specs.declared.holder.Manner.{Manner}
-use Rattle.lk_word.specs.declared.spin_word.Fields.{Fields}
 use Rattle.lk_machine.specs.declared.parts.Frame.{Frame}
 use Rattle.lk_machine.specs.declared.parts.Pc.{Pc}
 use Rattle.lk_machine.specs.declared.parts.Pc.TheVariants.{U1}
 use Rattle.lk_machine.specs.declared.setup.Verb.{Verb}
-use Rattle.lk_law.specs.Leads.{Met, Word, Shared}
+use Rattle.lk_law.specs.Leads.{Met, Shared}
 use Rattle.lk_word.specs.declared.rw_word.RwFields.{RwFields}
-use Rattle.lk_domain.specs.Calls.{sight_of, Terms, Mark, mark, hold, Calls, Takes, Frees, begun, lock_name}
+use Rattle.lk_domain.specs.Calls.{read_at, sight_of, Terms, Mark, mark, hold, Calls, Takes, Frees, begun, lock_name}
 use Rattle.lk_domain.specs.Calls.{free_of, moved_to, holds_in}
 use Rattle.lk_domain.specs.Ledgers.{turned}
 use Rattle.lk_domain.specs.Paths.{Walk, next_frame, row_grip}
@@ -27,7 +26,7 @@ pub record PathTo (t : Terms) (p : ℕ) (a : Frame) (trail : List Mark) (manner 
   pub runs : Option ℕ
   pub walk : Walk t p a before frame
   pub place : frame.place ≡ Some row
-  pub is : trail ≡ before ++ mark row met ∷ []
+  pub is : trail ≡ before ++ mark row met (read_at row (sight_of t p runs)) ∷ []
   pub grips : row_grip t.mode p (sight_of t p runs) row frame met ≡ Takes manner
 
 -- the rows of the trail lead from the frame a to a row that ends the call
@@ -39,12 +38,12 @@ pub record Over (t : Terms) (p : ℕ) (a : Frame) (trail : List Mark) : Type 0 w
   pub runs : Option ℕ
   pub walk : Walk t p a before frame
   pub place : frame.place ≡ Some row
-  pub is : trail ≡ before ++ mark row met ∷ []
+  pub is : trail ≡ before ++ mark row met (read_at row (sight_of t p runs)) ∷ []
   pub ends : (next_frame t.mode p (sight_of t p runs) row frame met).place ≡ None
 
 -- no row more, or the one by which the wait lock is freed
 abbrev pub FreesWait : List Mark → Type 0
-FreesWait behind = (behind ≡ []) ⊎ ((x : Met) × (behind ≡ mark U1 x ∷ []))
+FreesWait behind = (behind ≡ []) ⊎ ((x : Met) × (behind ≡ mark U1 x 0 ∷ []))
 
 -- The call v on l has taken the lock in this manner, by the rows of the first trail; where it had the
 -- wait lock then, it has freed that, and is over.
@@ -62,7 +61,7 @@ pub record HasEntered (t : Terms) (p : ℕ) (v : Verb) (l : ℕ) (manner : Manne
 -- it has freed the lock, by one row
 pub record HasLeft (c : Pc) (l : ℕ) (old new : Calls) : Type 0 where
   pub word : RwFields
-  pub trail : new.last ≡ mark c (Shared word) ∷ []
+  pub trail : new.last ≡ mark c (Shared word) 0 ∷ []
   pub frames : new.frames ≡ old.frames
   pub holds : new.holds
       ≡ free_of (length old.frames) (lock_name l)

@@ -66,8 +66,8 @@ pub record LookedAs (stage : Stage) (domain : Domain) (v : Verb) (n : LockName) 
 pub record WaitsAs (stage : Stage) (domain : Domain) (v : Verb) (n : LockName) (c : Pc)
     (P : Frame → Type 0) (s : Start) (cpu : Cpu) (told : Option ℕ) : Type 0 where
   pub looked : LookedAs stage domain v n c P s cpu told
-  pub rises : (x : Met)
-      → HasStayed (newest (calls_of cpu).frames ++ mark c x ∷ [])
+  pub rises : (x : Met) (n : ℕ)
+      → HasStayed (newest (calls_of cpu).frames ++ mark c x n ∷ [])
       → Rises s.told told
 
 -- the same of a call that has no lock yet
@@ -111,7 +111,7 @@ pub record HasPassed (t : Terms) (p : ℕ) (v : Verb) (l : ℕ) (manner : Manner
   pub taken : s.calls.taken < calls.taken
   pub look : HasLooked l manner s.calls at.trail s.ledger ledger
   pub falls : NeverFalls s.told told
-  pub rises : (x : Met) → HasStayed (at.trail ++ mark U1 x ∷ []) → Rises s.told told
+  pub rises : (x : Met) (n : ℕ) → HasStayed (at.trail ++ mark U1 x n ∷ []) → Rises s.told told
 
 abbrev pub Passed : Domain → Verb → ℕ → Manner → Start → Cpu → Option ℕ → Type 0
 Passed domain v l manner s cpu told =

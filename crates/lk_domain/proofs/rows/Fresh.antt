@@ -15,7 +15,7 @@ use Rattle.lk_machine.specs.TopRow.{Target, target}
 use Rattle.lk_law.specs.Leads.{Met, Course, held_lock}
 use Rattle.lk_law.proofs.common.Puts.{if_cases}
 use Rattle.lk_domain.specs.Calls.{terms_of, Mark, mark, Running, running, Calls, StandsOn, Grip}
-use Rattle.lk_domain.specs.Calls.{Unchanged, Takes, Frees, sight_of}
+use Rattle.lk_domain.specs.Calls.{Unchanged, Takes, Frees, read_at, sight_of}
 use Rattle.lk_domain.specs.Calls.{grip_of, holds_in, acting, Begins}
 use Rattle.lk_domain.specs.Ledgers.{Ledger, turned, opened, closed, is_first}
 use Rattle.lk_domain.specs.Plays.{turned_on, turned_of, turned_at}
@@ -50,13 +50,13 @@ module _ (k : Plan) {S : Type 0} (s : State S View) (st : Runs k s) (id : ℕ) (
   pub turns : (g : Ledger)
       → turned_of (terms_of k) p c (lands.x k s st id v me p is verb l pc asks acts unseen) g
       ≡ turned g (held_lock t f) (grip_of t o)
-      (acts.trail ++ mark pc (lands.x k s st id v me p is verb l pc asks acts unseen) ∷ [])
+      (acts.trail ++ mark pc (lands.x k s st id v me p is verb l pc asks acts unseen) (read_at pc (sight_of (terms_of k) p c.runs)) ∷ [])
   turns g =
       let x = lands.x k s st id v me p is verb l pc asks acts unseen in
       let course_is = lands.course_is k s st id v me p is verb l pc asks acts unseen in
       ap (λ (xs : List Running). turned_on k.mode p (sight_of (terms_of k) p c.runs) xs x g) acts.is
       ∙ (ap (λ q. turned_at k.mode p (sight_of (terms_of k) p c.runs) (running verb f acts.trail) x g q) acts.place
-      ∙ (λ i. turned g (held_lock t f) (grip_of t (course_is i)) (acts.trail ++ mark pc x ∷ [])))
+      ∙ (λ i. turned g (held_lock t f) (grip_of t (course_is i)) (acts.trail ++ mark pc x (read_at pc (sight_of (terms_of k) p c.runs)) ∷ [])))
 
 -- a row leaves the share, and the journal where it is
 pub record SamePurse (g h : Ledger) : Type 0 where
@@ -79,7 +79,7 @@ purse_on mode p z (r ∷ rs) x g = by r.frame.place
     by None = record { share = refl; out = refl }
     by (Some c) =
         turned_same g (held_lock (target c r.frame) r.frame)
-        (grip_of (target c r.frame) (Rattle.lk_domain.specs.Calls.course mode p z c r.frame x)) (r.trail ++ mark c x ∷ [])
+        (grip_of (target c r.frame) (Rattle.lk_domain.specs.Calls.course mode p z c r.frame x)) (r.trail ++ mark c x (read_at c z) ∷ [])
 
 pub turned_purse : (k : Plan) (p : ℕ) (c : Calls) (x : Met) (g : Ledger) → SamePurse g (turned_of (terms_of k) p c x g)
 turned_purse k p c x g = purse_on k.mode p (sight_of (terms_of k) p c.runs) c.frames x g

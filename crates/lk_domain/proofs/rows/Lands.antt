@@ -38,7 +38,7 @@ use Rattle.lk_domain.specs.Calls.{terms_of, Mark, mark, Running, running, Calls,
 use Rattle.lk_domain.specs.Calls.{StandsOn, Takes, grip_of, after}
 use Rattle.lk_domain.specs.Calls.{AreHeld, AreFresh, Suits, is_seeking, is_leaving, releases, holds_in, waits_in}
 use Rattle.lk_domain.specs.Calls.{frames_after, holds_after, setting, course, row_of, row_on, row_at}
-use Rattle.lk_domain.specs.Calls.{acting, begin, is_on, Begins, sight_of, count_of}
+use Rattle.lk_domain.specs.Calls.{acting, begin, is_on, Begins, sight_of, count_of, read_at}
 use Rattle.lk_domain.specs.Plans.{cpus_of}
 use Rattle.lk_domain.specs.Runs.{waiter, node_name, Mirrors, SeatFits, IsReset, IsStored, IsOfPlan}
 use Rattle.lk_domain.specs.Runs.{IsIdle, IsCounted, Runs}
@@ -237,7 +237,7 @@ module _ (k : Plan) {S : Type 0} (s : State S View) (st : Runs k s) (id : ℕ) (
     n = (row_in m w f pc).0
 
     abbrev pub trail : List Mark
-    trail = acts.trail ++ mark pc x ∷ []
+    trail = acts.trail ++ mark pc x (read_at pc (sight_of (terms_of k) p c.runs)) ∷ []
 
     abbrev pub o : Course
     o = course_in m w f pc t
