@@ -20,6 +20,10 @@ and_256 n = and_pow n 8
 pub bit_8_test : (n : ℕ) → not (eqb (bit_and n 256) 0) ≡ eqb (n / 256 % 2) 1
 bit_8_test n = grind (arith, nat_tests, and_256 n)
 
+-- the test of the bits 9 to 15
+pub unused_test : (n : ℕ) → eqb (bit_and n 65024) 0 ≡ eqb (n / 512 % 128) 0
+unused_test n = grind (arith, nat_tests, and_unused n)
+
 -- `|` adds a part below 2 ^ k to a part that 2 ^ k divides
 pub or_part : (k a b whole : ℕ) → whole ≡ a * 2 ^ k → b < 2 ^ k → bit_or whole b ≡ whole + b
 or_part k a b whole e below = rw e (or_shifted a k b below)

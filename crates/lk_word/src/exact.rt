@@ -1,23 +1,29 @@
 //! The law that packing loses nothing.
 
 ghost use Rattle.std.specs.Prelude.{◌≡◌, ◌≢◌, ◌<◌, ◌^◌, ℕ, IfSome, IfNone};
+ghost use Rattle.lk_word.specs.declared.spin_word.Layout.{Layout};
 ghost use Rattle.lk_word.specs.declared.spin_word.Fields.{Fields};
 ghost use Rattle.lk_word.specs.declared.rw_word.RwFields.{RwFields};
 ghost use Rattle.lk_word.specs.SpinWord.{IsPackable, packed, unpacked};
 ghost use Rattle.lk_word.specs.RwWord.{IsPackableRw, packed_rw, unpacked_rw};
 
-/// Packing is exact. Different fields have different words, each word is below 2^32 and unpacks to
-/// its fields, and a word of 32 bits unpacks to nothing only where no fields pack to it.
+/// Packing is exact, in each layout. Different fields have different words, each word is below 2^32
+/// and unpacks to its fields, and a word of 32 bits unpacks to nothing only where no fields pack to
+/// it.
 ///
 /// It does nothing when it runs: its contract is the law.
 pub fn packing_is_exact()
-    ensures injective { (f g : Fields) → IsPackable f → IsPackable g → packed f ≡ packed g → f ≡ g }
-    ensures bounded { (f : Fields) → IsPackable f → packed f < 2 ^ 32 }
-    ensures unpacks { (f : Fields) → IsPackable f → unpacked (packed f) ≡ Some f }
-    ensures packs { (word : ℕ) → word < 2 ^ 32 →
-        IfSome (unpacked word) (λ f. IsPackable f × (packed f ≡ word)) }
-    ensures refuses { (word : ℕ) →
-        IfNone (unpacked word) ((f : Fields) → IsPackable f → packed f ≢ word) }
+    ensures injective { (layout : Layout) (f g : Fields) → IsPackable layout f
+        → IsPackable layout g → packed layout f ≡ packed layout g → f ≡ g }
+    ensures bounded { (layout : Layout) (f : Fields) → IsPackable layout f
+        → packed layout f < 2 ^ 32 }
+    ensures unpacks { (layout : Layout) (f : Fields) → IsPackable layout f
+        → unpacked layout (packed layout f) ≡ Some f }
+    ensures packs { (layout : Layout) (word : ℕ) → word < 2 ^ 32 →
+        IfSome (unpacked layout word) (λ f. IsPackable layout f × (packed layout f ≡ word)) }
+    ensures refuses { (layout : Layout) (word : ℕ) →
+        IfNone (unpacked layout word)
+        ((f : Fields) → IsPackable layout f → packed layout f ≢ word) }
 
     // the same of the reader-writer word, whose readers need no bound but for its 32 bits
     ensures rw_injective { (f g : RwFields) → packed_rw f ≡ packed_rw g → f ≡ g }

@@ -1,18 +1,19 @@
 //! The word of a queued spinlock.
 //!
-//! The layout is that of Linux's qspinlock_types.h for fewer than 16,384 processors:
+//! The layouts are the two of Linux's qspinlock_types.h: the narrow one for fewer than 16,384
+//! processors, and the wide one for more.
 //!
-//! | Bits | Content |
-//! |---|---|
-//! | 0 to 7 | the locked byte: 0 free, 1 held, 3 held and slow |
-//! | 8 | pending |
-//! | 9 to 15 | unused, 0 |
-//! | 16 to 17 | the tail's index, 0 to 3 |
-//! | 18 to 31 | the tail's processor plus one, 0 where there is no queue |
+//! | Bits, narrow | Bits, wide | Content |
+//! |---|---|---|
+//! | 0 to 7 | 0 to 7 | the locked byte: 0 free, 1 held, 3 held and slow |
+//! | 8 | 8 | pending |
+//! | 9 to 15 | | unused, 0 |
+//! | 16 to 17 | 9 to 10 | the tail's index, 0 to 3 |
+//! | 18 to 31 | 11 to 31 | the tail's processor plus one, 0 where there is no queue |
 
-ghost use Rattle.std.specs.Prelude.{◌≡◌, ◌≢◌, ◌↔◌, IsNone, IfSome, IfNone};
+ghost use Rattle.std.specs.Prelude.{◌≡◌, ◌≢◌, ◌↔◌, ◌/◌, ◌%◌, ◌^◌, ◌≤◌, ◌==◌, ℕ, bit_and, not, IsNone, IfSome, IfNone};
 ghost use Rattle.lk_word.specs.declared.spin_word.Fields.{Fields};
-ghost use Rattle.lk_word.specs.SpinWord.{IsPackable, IsTailInRange, packed, unpacked, locked_number, locked_of, tail_number, tail_of, IsRefused};
+ghost use Rattle.lk_word.specs.SpinWord.{IsPackable, IsTailInRange, packed, unpacked, locked_number, locked_of, tail_number, tail_in, IsRefused, cpu_unit, index_unit, unused_values};
 
 const LOCKED_MASK: u32 = 0xff;
 
@@ -20,11 +21,19 @@ const PENDING: u32 = 0x100;
 
 const UNUSED_MASK: u32 = 0xfe00;
 
-const TAIL_INDEX_SHIFT: u32 = 16;
+// The lowest bit above the pending bit.
+const ABOVE_PENDING: u32 = 0x200;
 
 const TAIL_INDEX_MASK: u32 = 3;
 
-const TAIL_CPU_SHIFT: u32 = 18;
+/// Where the tail stands in a word.
+#[derive(Clone, Copy, Debug, PartialEq, Eq)]
+pub enum Layout {
+    /// From bit 16 on, so that the pending bit has a byte of its own, and the tail 16 bits.
+    Narrow,
+    /// From bit 9 on, right above the pending bit.
+    Wide,
+}
 
 /// A queue node: one of the four nodes of a processor, named by its index from 0 to 3.
 #[derive(Clone, Copy, Debug, PartialEq, Eq)]
@@ -50,36 +59,32 @@ pub struct Fields {
     pub tail: Option<NodeName>,
 }
 
-/// The word with these fields. A tail's processor is at most 16,382 and its index at most 3.
+/// The word with these fields. A tail's processor is at most 16,382 in the narrow layout, and at
+/// most 2,097,150 in the wide one. Its index is at most 3.
 #[inline]
-pub fn pack(fields: Fields) -> u32
-    requires { IsPackable fields }
-    ensures { result ≡ packed fields }
+pub fn pack(layout: Layout, fields: Fields) -> u32
+    requires { IsPackable layout fields }
+    ensures { result ≡ packed layout fields }
 {
     let locked = pack_locked(fields.locked);
     let pending = if fields.pending { PENDING } else { 0 };
-    let tail = pack_tail(fields.tail);
+    let tail = pack_tail(layout, fields.tail);
     tail | pending | locked
 }
 
 /// The fields in this word, or `None` for a word that no fields pack to: one with an unused bit,
 /// with a locked byte other than 0, 1 and 3, or with a tail index and no tail processor.
 #[inline]
-pub fn unpack(word: u32) -> Option<Fields>
-    ensures read { result ≡ unpacked word }
-    ensures fields { IfSome result (λ f. IsPackable f × (packed f ≡ word)) }
-    ensures unpackable { IfNone result ((f : Fields) → IsPackable f → packed f ≢ word) }
-    ensures refused { IsNone result ↔ IsRefused word }
+pub fn unpack(layout: Layout, word: u32) -> Option<Fields>
+    ensures read { result ≡ unpacked layout word }
+    ensures fields { IfSome result (λ f. IsPackable layout f × (packed layout f ≡ word)) }
+    ensures unpackable { IfNone result
+        ((f : Fields) → IsPackable layout f → packed layout f ≢ word) }
+    ensures refused { IsNone result ↔ IsRefused layout word }
 {
-    if word & UNUSED_MASK != 0 {
-        return None;
-    }
     let locked = unpack_locked(word & LOCKED_MASK)?;
     let pending = word & PENDING != 0;
-    let tail = unpack_tail(
-        word >> TAIL_CPU_SHIFT,
-        (word >> TAIL_INDEX_SHIFT) & TAIL_INDEX_MASK,
-    )?;
+    let tail = unpack_tail(layout, word)?;
     Some(Fields {
         locked,
         pending,
@@ -110,27 +115,76 @@ fn unpack_locked(byte: u32) -> Option<Locked>
     }
 }
 
+// The lowest bit of the tail.
 #[inline]
-fn pack_tail(tail: Option<NodeName>) -> u32
-    requires { IsTailInRange tail }
-    ensures { result ≡ tail_number tail }
+fn tail_shift(layout: Layout) -> u32
+    ensures unit { 2 ^ result ≡ index_unit layout }
+    ensures low { result ≤ 16 }
 {
-    match tail {
-        Some(node) => ((node.cpu + 1) << TAIL_CPU_SHIFT) | (node.index << TAIL_INDEX_SHIFT),
-        None => 0,
+    match layout {
+        Layout::Narrow => 16,
+        Layout::Wide => 9,
+    }
+}
+
+// The bits that are 0 in each word.
+#[inline]
+fn unused_mask(layout: Layout) -> u32
+    ensures { (word : ℕ) → (bit_and word result == 0) ≡ (word / 512 % unused_values layout == 0) }
+{
+    match layout {
+        Layout::Narrow => UNUSED_MASK,
+        Layout::Wide => 0,
     }
 }
 
 #[inline]
-fn unpack_tail(cpu_plus_one: u32, index: u32) -> Option<Option<NodeName>>
-    ensures { result ≡ tail_of cpu_plus_one index }
+fn pack_tail(layout: Layout, tail: Option<NodeName>) -> u32
+    requires { IsTailInRange layout tail }
+    ensures { result ≡ tail_number layout tail }
 {
-    match (cpu_plus_one, index) {
-        (0, 0) => Some(None),
-        (0, _) => None,
-        _ => Some(Some(NodeName {
-            cpu: cpu_plus_one - 1,
-            index,
-        })),
+    match tail {
+        Some(node) => (((node.cpu + 1) << 2) | node.index) << tail_shift(layout),
+        None => 0,
     }
+}
+
+// Whether a bit is set that is 0 in each word.
+#[inline]
+fn has_unused_bit(layout: Layout, word: u32) -> bool
+    ensures { result ≡ not (word / 512 % unused_values layout == 0) }
+{
+    word & unused_mask(layout) != 0
+}
+
+// The tail's processor plus one, and its index.
+#[inline]
+fn tail_parts(layout: Layout, word: u32) -> (u32, u32)
+    ensures cpu { result.0 ≡ word / cpu_unit layout }
+    ensures index { result.1 ≡ word / index_unit layout % 4 }
+{
+    let tail = word >> tail_shift(layout);
+    (tail >> 2, tail & TAIL_INDEX_MASK)
+}
+
+// What stands above the pending bit: no tail, a tail, or what no fields pack to. A word without a
+// tail has no bit there, in each layout; so who looks at one does not ask for the layout.
+#[inline]
+fn unpack_tail(layout: Layout, word: u32) -> Option<Option<NodeName>>
+    ensures { result ≡ tail_in layout word }
+{
+    if word < ABOVE_PENDING {
+        return Some(None);
+    }
+    if has_unused_bit(layout, word) {
+        return None;
+    }
+    let (cpu_plus_one, index) = tail_parts(layout, word);
+    if cpu_plus_one == 0 {
+        return None;
+    }
+    Some(Some(NodeName {
+        cpu: cpu_plus_one - 1,
+        index,
+    }))
 }

@@ -15,10 +15,10 @@ pub returns-clause-unpacks : goal.returns-clause-unpacks
 returns-clause-unpacks c = spin.unpacked-packed
 
 pub returns-clause-packs : goal.returns-clause-packs
-returns-clause-packs c = λ word fits. spin.outcome_fields (unpacked word) word fits refl
+returns-clause-packs c = λ layout word fits. spin.outcome_fields layout (unpacked layout word) word fits refl
 
 pub returns-clause-refuses : goal.returns-clause-refuses
-returns-clause-refuses c = λ word. spin.outcome_unpackable (unpacked word) word refl
+returns-clause-refuses c = λ layout word. spin.outcome_unpackable layout (unpacked layout word) word refl
 
 pub returns-clause-rw_injective : goal.returns-clause-rw_injective
 returns-clause-rw_injective c = rw_word.packed_rw_injective
