@@ -14,3 +14,4 @@ pub mod Recording
 pub mod Unkicked
 pub mod Judging
 pub mod Sums
+pub mod Aside

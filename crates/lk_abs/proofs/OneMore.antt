@@ -46,7 +46,7 @@ Shared before = (l : LockName) → IsShared (history_of l before).holders
 Owned : List Event → Event → Type 0
 Owned before e = (l : LockName) → lock_of e.what ≡ Some l → OwnsUp (history_of l before) e.by e.what
 
-Ordered : Rules → List Event → Event → Type 0
+unfoldable pub Ordered : Rules → List Event → Event → Type 0
 Ordered rules before e = (l : LockName) → lock_of e.what ≡ Some l → InOrder rules (history_of l before) e.by e.what
 
 Few : ℕ → List Event → Type 0

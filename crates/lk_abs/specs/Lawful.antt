@@ -1,11 +1,13 @@
 -- When a history is lawful. Each law speaks of every prefix of the history, and so of what stands after every act.
-use Rattle.std.specs.Prelude.{◌≡◌, ℕ, ◌≤◌, ◌==◌, ◌⊎◌, Some, Bool, true, List, [], ◌∷◌, ◌++◌, not, length, if◌then◌else◌, slice_get, slice_index_or, count_by, All, Contains}
+use Rattle.std.specs.Prelude.{◌≡◌, ℕ, ◌≤◌, ◌==◌, ◌⊎◌, ◌||◌, nat_lt, Some, Bool, true, false, List, [], ◌∷◌, ◌++◌, not, length, if◌then◌else◌, slice_get, slice_index_or, count_by, All, Contains}
 use Rattle.std.proofs.Common.{suc}
 use Rattle.lk_abs.specs.History.{LockHistory, is_writer, history_of, lock_of}
 use Rattle.lk_abs.specs.declared.holder.Manner.{Manner}
 use Rattle.lk_abs.specs.declared.holder.Manner.TheVariants.{Spins, Reads, Writes}
 use Rattle.lk_abs.specs.declared.holder.Holder.{Holder}
 use Rattle.lk_abs.specs.Kicks.{sleeps, IsOwed}
+use Rattle.lk_abs.specs.declared.names.Format.{Format}
+use Rattle.lk_abs.specs.declared.names.Format.TheVariants.{One, Two}
 use Rattle.lk_abs.specs.declared.names.Mode.{Mode}
 use Rattle.lk_abs.specs.declared.names.Mode.TheVariants.{Cna, Pv}
 use Rattle.lk_abs.specs.declared.names.Waiter.{Waiter}
@@ -16,8 +18,10 @@ use Rattle.lk_abs.specs.declared.events.How.TheVariants.{Head, Sole}
 use Rattle.lk_abs.specs.declared.events.What.{What}
 use Rattle.lk_abs.specs.declared.events.What.TheVariants.{Take, Release, Arrive, Pass, Flush, Promote, Leave, RTake, RRelease, WTake, WRelease}
 
--- what the laws read of a setup: the lock family, the socket of each processor, and how many handovers may pass a moved waiter by
+-- what the laws read of a setup: the format, the lock family, the socket of each processor, and how
+-- many handovers may pass a moved waiter by
 pub record Rules : Type 0 where
+  pub format : Format
   pub mode : Mode
   pub sockets : List ℕ
   pub threshold : ℕ
@@ -76,18 +80,32 @@ movable far [] = 0
 movable far (u ∷ []) = 0
 movable far (u ∷ v ∷ us) = if far u then suc (movable far (v ∷ us)) else 0
 
--- whether two processors stand on different sockets
-abbrev pub is_far : Rules → ℕ → ℕ → Bool
-is_far rules p q = not (slice_index_or rules.sockets p 0 == slice_index_or rules.sockets q 0)
+-- whether two processors stand on the same socket
+abbrev pub same_socket : List ℕ → ℕ → ℕ → Bool
+same_socket sockets p q = slice_index_or sockets p 0 == slice_index_or sockets q 0
 
--- How many waiters a handover may move aside: in `cna` those right behind the front that stand on another socket than it and
--- have a waiter behind them, else none.
+-- whether a waiter in this context is never moved aside: in the second format, one in an interrupt
+abbrev pub stays : Format → ℕ → Bool
+stays One ctx = false
+stays Two ctx = nat_lt 0 ctx
+
+-- whether the waiter is local to the processor: it is never moved aside, or stands on the same
+-- socket
+abbrev pub is_local : Format → List ℕ → ℕ → Waiter → Bool
+is_local format sockets p u = stays format u.ctx || same_socket sockets p u.cpu
+
+-- whether the waiter is not local to the front
+abbrev pub is_far : Rules → Waiter → Waiter → Bool
+is_far rules front u = not (is_local rules.format rules.sockets front.cpu u)
+
+-- How many waiters a handover may move aside: in `cna` those right behind the front that are not
+-- local to it and have a waiter behind them, else none.
 abbrev pub lawful_moves : Rules → List Waiter → ℕ
 lawful_moves rules main = by_mode rules.mode
   where
     behind : List Waiter → ℕ
     behind [] = 0
-    behind (w ∷ ws) = movable (λ u. is_far rules u.cpu w.cpu) ws
+    behind (w ∷ ws) = movable (is_far rules w) ws
 
     by_mode : Mode → ℕ
     by_mode Cna = behind main

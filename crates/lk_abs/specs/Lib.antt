@@ -12,3 +12,5 @@ pub mod Remembered
 pub mod NoKick
 pub mod Jobs
 pub mod Journal
+pub mod Workload
+pub mod Outcome

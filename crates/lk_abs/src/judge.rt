@@ -12,7 +12,7 @@ use crate::kick_record::KickRecord;
 use crate::list::List;
 use crate::lock_record::LockRecord;
 use crate::memory::Memory;
-use crate::names::{Kind, LockName, Mode, Topology};
+use crate::names::{Format, Kind, LockName, Mode, Topology};
 use crate::rulebook::Rulebook;
 use std::alloc::Global;
 use std::marker::Model;
@@ -52,11 +52,12 @@ fn silent_locks(alloc: Global, locks: usize, waiters: usize) -> Result<List<Lock
 impl Judge {
     ghost use Rattle.lk_abs.specs.Judge.{IsDeclared, IsInRange, history_at, table_breach, breach_of, Events, TellsLocks, TakesOne, HasTaken};
 
-    /// A judge that has taken no event, for a lock family, the sockets of up to 1,024 processors,
-    /// the most handovers that may pass a waiter by, and the declared locks. It takes all its
-    /// memory here.
+    /// A judge that has taken no event, for a format, a lock family, the sockets of up to 1,024
+    /// processors, the most handovers that may pass a waiter by, and the declared locks. It takes
+    /// all its memory here.
     pub fn new(
         alloc: Global,
+        format: Format,
         mode: Mode,
         topology: &Topology,
         threshold: u32,
@@ -66,7 +67,12 @@ impl Judge {
         requires threshold { threshold ≤ 65535 }
         requires declared { length locks.now.items ≤ 32 }
         ensures rules { IfOk result (λ j. j.rules
-            ≡ record { mode = mode; sockets = topology.now.sockets.items; threshold = threshold }) }
+            ≡ record {
+              format = format;
+              mode = mode;
+              sockets = topology.now.sockets.items;
+              threshold = threshold;
+            }) }
         ensures locks { IfOk result (λ j. length j.locks ≡ length locks.now.items * 2) }
         ensures taken { IfOk result (λ j. HasTaken j []) }
     {
@@ -75,6 +81,7 @@ impl Judge {
         let locks = silent_locks(alloc, locks.len() * 2, processors * 6)?;
         let kicks = KickRecord::new(alloc, processors)?;
         let rules = Rulebook {
+            format,
             mode,
             sockets,
             threshold,

@@ -8,7 +8,7 @@ ghost use Rattle.lk_abs.specs.NoKick.{no_kick};
 ghost use Rattle.lk_abs.specs.Judge.{Events};
 
 use crate::events::Event;
-use crate::names::{LockName, Mode};
+use crate::names::{Format, LockName, Mode, Waiter};
 
 /// The judge is exact: a lawful history with one event more on a lock is lawful exactly where the
 /// event breaks no clause of the table and, in the paravirtual lock, leaves no front of a free lock
@@ -30,4 +30,12 @@ pub fn judge_is_exact()
     // And what is looked for, lock by lock, is found exactly where a front is left asleep.
     ensures no_kick { (es : Events) (ls : List LockName)
         → (no_kick (kicks_of es) (λ l. history_of l es) ls ≡ None) ↔ All (FrontIsOwed es) ls }
+{}
+
+/// In the second format a lawful history moves only tasks aside, and no waiter in an interrupt.
+pub fn aside_are_tasks()
+    ensures { (rules : Rules) (es : Events) (l : LockName)
+        → IsLawful rules es
+        → rules.format ≡ Format.Two
+        → All (λ (u : Waiter). u.ctx ≡ 0) (history_of l es).second }
 {}

@@ -17,6 +17,18 @@ pub enum Mode {
     Pv,
 }
 
+/// The format of an input, and of the locks that are made by it. It says how the words are laid
+/// out, how many processors a trace may have, and whom a front of the compact NUMA-aware lock may
+/// move aside.
+#[derive(Clone, Copy, Debug, PartialEq, Eq)]
+pub enum Format {
+    /// Narrow words, and at most 64 processors in a trace.
+    One,
+    /// Wide words, and at most 1,024 processors in a trace. A waiter in an interrupt is never moved
+    /// aside.
+    Two,
+}
+
 /// What a declared lock is.
 #[derive(Clone, Copy, Debug, PartialEq, Eq)]
 pub enum Kind {

@@ -1,14 +1,16 @@
 // The rules that a judge goes by.
 ghost use Rattle.std.specs.Prelude.{◌≡◌, ◌≤◌, ◌+◌, length, drop, slice_index_or};
-ghost use Rattle.lk_abs.specs.Lawful.{movable, is_far, lawful_moves};
+ghost use Rattle.lk_abs.specs.Lawful.{movable, stays, is_local, is_far, lawful_moves};
 
 use crate::list::List;
-use crate::names::{Mode, Waiter};
+use crate::names::{Format, Mode, Waiter};
 use std::marker::Model;
 
-/// The lock family, where the processors stand, and how many handovers may pass a moved waiter by.
+/// The format, the lock family, where the processors stand, and how many handovers may pass a moved
+/// waiter by.
 #[derive(Drop)]
 pub(crate) struct Rulebook {
+    pub(crate) format: Format,
     pub(crate) mode: Mode,
     pub(crate) sockets: List<u32>,
     pub(crate) threshold: u32,
@@ -19,7 +21,12 @@ impl Model for Rulebook {
 
     ghost Value = { Rules };
 
-    ghost view = { λ r. record { mode = r.mode; sockets = r.sockets.items; threshold = r.threshold } };
+    ghost view = { λ r. record {
+      format = r.format;
+      mode = r.mode;
+      sockets = r.sockets.items;
+      threshold = r.threshold;
+    } };
 }
 
 impl Rulebook {
@@ -40,21 +47,31 @@ impl Rulebook {
         }
     }
 
-    /// Whether two processors stand on different sockets.
-    fn is_far(&self, cpu: u32, other: u32) -> bool
-        ensures { result ≡ is_far self.now cpu other }
+    /// Whether no front may move a waiter aside: in the second format, one in an interrupt.
+    fn stays(&self, waiter: Waiter) -> bool
+        ensures { result ≡ stays self.now.format waiter.ctx }
     {
-        self.socket_of(cpu) != self.socket_of(other)
+        match self.format {
+            Format::One => false,
+            Format::Two => waiter.ctx > 0,
+        }
     }
 
-    /// How many of these waiters, first to last, stand far from the processor and have a waiter
-    /// behind them.
-    fn movable(&self, cpu: u32, behind: &[Waiter]) -> u32
+    /// Whether a waiter is not local to the front.
+    fn is_far(&self, front: Waiter, waiter: Waiter) -> bool
+        ensures { result ≡ is_far self.now front waiter }
+    {
+        !(self.stays(waiter) || self.socket_of(front.cpu) == self.socket_of(waiter.cpu))
+    }
+
+    /// How many of these waiters, first to last, are far from the front and have a waiter behind
+    /// them.
+    fn movable(&self, front: Waiter, behind: &[Waiter]) -> u32
         requires { length behind.now ≤ 6144 }
-        ensures { result ≡ movable (λ u. is_far self.now u.cpu cpu) behind.now }
+        ensures { result ≡ movable (is_far self.now front) behind.now }
     {
         for at in 0..behind.len() {
-            if at + 1 == behind.len() || !self.is_far(behind[at].cpu, cpu) {
+            if at + 1 == behind.len() || !self.is_far(front, behind[at]) {
                 return at as u32;
             }
         }
@@ -67,7 +84,7 @@ impl Rulebook {
         ensures { result ≡ lawful_moves self.now main.now }
     {
         match (self.mode, main.get(0)) {
-            (Mode::Cna, Some(front)) => self.movable(front.cpu, &main[1..]),
+            (Mode::Cna, Some(front)) => self.movable(*front, &main[1..]),
             _ => 0,
         }
     }

@@ -10,7 +10,7 @@ add-zero n = omega arith
 
 pub returns-then-at-behind : goal.returns-then-at-behind
 returns-then-at-behind c =
-    let far : Waiter → Bool = λ u. is_far c.args.self.now u.cpu c.args.cpu in
+    let far : Waiter → Bool = is_far c.args.self.now c.args.front in
     let counted : movable far (drop c.loop-at.at c.args.behind.now) ≡ 0 → c.loop-at.at ≡ movable far c.args.behind.now = λ none. sym (c.loop-at.invariant.counted ∙ ap (λ n. c.loop-at.at + n) none ∙ add-zero c.loop-at.at) in
     elim c.then-at-behind.branch [
       | then-at-behind-via-then-at-behind w ↦ counted (movable-last far c.loop-at.at c.args.behind.now w.if-at-behind.true)

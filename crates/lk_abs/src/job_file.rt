@@ -1,0 +1,25 @@
+// A job file, once it is read.
+
+use crate::ledger::Job;
+use crate::list::List;
+use crate::names::{Format, Kind, Mode, Topology};
+
+/// What a job file says.
+#[derive(Drop)]
+pub struct JobFile {
+    /// The format, which says how the lock's word is laid out, and whom a front of `cna` may move
+    /// aside.
+    pub format: Format,
+    /// The family of the lock: one whose waiters spin.
+    pub mode: Mode,
+    /// The kind of the one lock.
+    pub guard: Kind,
+    /// The socket of each worker.
+    pub topology: Topology,
+    /// How many handovers a waiter that stands aside may see.
+    pub threshold: u32,
+    /// The opening balance of each account.
+    pub balances: List<u64>,
+    /// The jobs of each worker, in the order of their lines.
+    pub jobs: List<List<Job>>,
+}
