@@ -7,4 +7,5 @@ pub mod Reasons
 pub mod Takes
 pub mod AtHand
 pub mod Decimal
+pub mod NumberLemmas
 pub mod Conveyed

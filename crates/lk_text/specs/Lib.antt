@@ -1,4 +1,5 @@
 pub mod Causes
+pub mod Numbers
 pub mod Bytes
 pub mod SureSource
 pub mod MemSource

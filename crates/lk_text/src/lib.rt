@@ -1,9 +1,11 @@
-//! Sources and sinks of bytes, the lines of a source, and texts for a sink.
+//! Sources and sinks of bytes, the lines of a source, the numbers that words write, and texts for a
+//! sink.
 #![tactic(auto)]
 
 mod block;
 mod digits;
 mod line;
+mod numbers;
 mod page;
 mod reader;
 mod sink;
@@ -11,6 +13,7 @@ mod source;
 
 pub use block::Block;
 pub use line::LineBuf;
+pub use numbers::read_number;
 pub use page::Page;
 pub use reader::{LineFault, LineReader, MAX_INPUT, MAX_LINE};
 pub use sink::{MemSink, NullSink, Sink, StdSink, WriteFault, put};

@@ -17,7 +17,7 @@ use Rattle.std.proofs.lemmas.Bool.{eqb-true}
 use Rattle.clap.specs.Kinds.{IsAmong}
 use Rattle.clap.specs.declared.error.kind.ErrorKind.{ErrorKind}
 use Rattle.clap.specs.declared.error.kind.ErrorKind.TheVariants.{OutOfMemory}
-use Rattle.lk_forms.proofs.NumberLemmas.{number_of-other}
+use Rattle.lk_text.proofs.NumberLemmas.{number_of-other}
 use Rattle.lk_words.specs.declared.asked.Reading.{Reading}
 use Rattle.lk_words.specs.declared.asked.Reading.TheVariants.{Gen, Load}
 use Rattle.lk_words.specs.Reading.{reading_of, is_flag, as_start, start_of, with_start}

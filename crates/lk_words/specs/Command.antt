@@ -7,7 +7,7 @@ use Rattle.lk_words.specs.Reading.{start_of}
 use Rattle.lk_words.specs.declared.asked.Reading.{Reading}
 use Rattle.lk_words.specs.declared.asked.Reading.TheVariants.{Replay, Osq, Audit, Ledger, Gen, Load}
 
--- the number behind a command, which is read by the grammar of traces and not by clap
+-- the number behind a command, which is read as the numbers of a trace are, and not by clap
 abbrev pub number_rule : Rule
 number_rule = record (new_rule (codes "n")) { required = true; action = Some Set }
 

@@ -1,7 +1,7 @@
 -- What the words behind the program's name ask for.
 use Rattle.std.specs.Prelude.{ℕ, ◌==◌, ◌&&◌, nat_le, Bool, false, List, [], ◌∷◌, Option, None, Some, option_map, option_and_then, codes, if◌then◌else◌}
 use Rattle.std.specs.Str.{bytes_eq}
-use Rattle.lk_forms.specs.Words.{number_of}
+use Rattle.lk_text.specs.Numbers.{number_of}
 use Rattle.lk_words.specs.declared.asked.Reading.{Reading}
 use Rattle.lk_words.specs.declared.asked.Reading.TheVariants.{Replay, Osq, Audit, Ledger, Gen, Load}
 

@@ -11,7 +11,7 @@ use crate::command::qlock;
 use clap::error::ErrorKind;
 use clap::{ArgMatches, Error};
 use lk_abs::Memory;
-use lk_forms::read_number;
+use lk_text::read_number;
 use std::alloc::Global;
 
 // The last start number, which is one less than the modulus of the draws.

@@ -1,0 +1,31 @@
+// The number that a word writes.
+ghost use Rattle.std.specs.Prelude.{◌≡◌, ◌<◌, ◌+◌, ◌*◌, ◌^◌, SomeIff};
+ghost use Rattle.lk_text.specs.Numbers.{number_of};
+
+/// The most digits of a number.
+pub const MAX_DIGITS: usize = 20;
+
+// The number with one more digit, if it stays below 2^64.
+fn with_digit(value: u64, digit: u8) -> Option<u64>
+    ensures { SomeIff result (value * 10 + digit < 2 ^ 64) (value * 10 + digit) }
+{
+    value.checked_mul(10)?.checked_add(u64::from(digit))
+}
+
+/// The number that a word of 1 to 20 digits writes. None where it has another byte or another
+/// length, or writes 2^64 or more; leading zeros are digits.
+pub fn read_number(word: &[u8]) -> Option<u64>
+    ensures { result ≡ number_of word.now }
+{
+    if word.is_empty() || word.len() > MAX_DIGITS {
+        return None;
+    }
+    let mut value: u64 = 0;
+    for b in word {
+        if !b.is_ascii_digit() {
+            return None;
+        }
+        value = with_digit(value, *b - b'0')?;
+    }
+    Some(value)
+}
