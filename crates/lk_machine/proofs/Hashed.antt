@@ -1,11 +1,12 @@
 -- The entries of the hash, by number and by name.
-use Rattle.std.proofs.Common.{◌≡◌, ◌≢◌, ℕ, ◌+◌, ◌*◌, ◌/◌, ◌%◌, ◌<◌, ◌≤◌, [], ◌∷◌, List, Option, None, Some, Bool, true, false, eqb, ltb, ◌&&◌, length, map, ap, ◌∙◌, sym, refl, arith, inl, inr}
+use Rattle.std.proofs.Common.{◌≡◌, ℕ, ◌+◌, ◌*◌, ◌/◌, ◌%◌, [], ◌∷◌, List, Option, None, Some, Bool, true, false, eqb, ◌&&◌, length, ap, ◌∙◌, sym, refl, arith, inl, inr}
 use Rattle.std.specs.Prelude.{if◌then◌else◌, is_some}
 use Rattle.std.proofs.lemmas.Bool.{cases_Bool, cases_eq, cases_lt, lt-ltb, le-ltb, eq-eqb, ne_eqb}
 use Rattle.std.proofs.lemmas.List.{length-map}
 use Rattle.lk_abs.specs.Names.{same_bool, same_lock}
 use Rattle.lk_abs.specs.declared.names.LockName.{LockName}
 use Rattle.lk_word.specs.declared.spin_word.NodeName.{NodeName}
+use Rattle.lk_word.specs.declared.spin_word.Layout.TheVariants.{Wide}
 use Rattle.lk_word.specs.SpinWord.{IsTailInRange}
 use Rattle.lk_hash.specs.Entries as numbers
 use Rattle.lk_machine.specs.Machine.{entry_in, with_entry, without_entry, lock_number}
@@ -54,7 +55,7 @@ lock_number_named l = by l.index l.wait
         let even : eqb ((2 * i + 0) % 2) 1 ≡ false = ne_eqb ((2 * i + 0) % 2) 1 (omega arith) in
         (λ j. record { index = half j; wait = even j })
 
-pub node_number_named : (n : NodeName) → IsTailInRange (Some n) → node_named (node_number n) ≡ n
+pub node_number_named : (n : NodeName) → IsTailInRange Wide (Some n) → node_named (node_number n) ≡ n
 node_number_named n range =
     let cpu : (4 * n.cpu + n.index) / 4 ≡ n.cpu = omega (arith, range.1) in
     let index : (4 * n.cpu + n.index) % 4 ≡ n.index = omega (arith, range.1) in
@@ -107,7 +108,7 @@ without-named l (e ∷ es) =
           (ap (λ xs. named e ∷ xs) (without-named l es))
     ]
 
-with-named : (l : LockName) (n : NodeName) (es : List numbers.Entry) → IsTailInRange (Some n)
+with-named : (l : LockName) (n : NodeName) (es : List numbers.Entry) → IsTailInRange Wide (Some n)
     → entries_named (numbers.with_entry (lock_number l) (node_number n) es) ≡ with_entry l n (entries_named es)
 with-named l n [] range =
     let a = lock_number_named l in let b = node_number_named n range in (λ j. (a j, b j) ∷ [])
@@ -130,7 +131,7 @@ without_entry-absent l (e ∷ es) absent =
       | inr other ↦ let rest = rw other at absent in rw other (ap (λ xs. e ∷ xs) (without_entry-absent l es rest))
     ]
 
-pub entered_named : (l : LockName) (n : NodeName) (es : List numbers.Entry) → IsTailInRange (Some n)
+pub entered_named : (l : LockName) (n : NodeName) (es : List numbers.Entry) → IsTailInRange Wide (Some n)
     → entry_in l (entries_named es) ≡ None
     → entries_named (numbers.with_entry (lock_number l) (node_number n) es) ≡ with_entry l n (without_entry l (entries_named es))
 entered_named l n es range absent =

@@ -3,3 +3,4 @@ pub mod Kept
 pub mod Packed
 pub mod Release
 pub mod Rested
+pub mod Words

@@ -118,11 +118,12 @@ abbrev pub node_of : Option NodeName → NodeName
 node_of None = record { cpu = 0; index = 0 }
 node_of (Some n) = n
 
--- the waiter whose frame has the node as its own
-unfoldable pub waiter_of : Machine → NodeName → Waiter
+-- the context of the frame that has the node as its own, if there is one
+unfoldable pub context_of : Machine → NodeName → Option ℕ
 unfolding cpu_at
-waiter_of m n =
-    record {
-      cpu = n.cpu;
-      ctx = unwrap_or (position (λ f. is_node f.me n) (cpu_at m n.cpu).frames) 0;
-    }
+context_of m n = position (λ f. is_node f.me n) (cpu_at m n.cpu).frames
+
+-- the waiter whose frame has the node as its own; of a node that nobody uses, the task
+unfoldable pub waiter_of : Machine → NodeName → Waiter
+unfolding context_of
+waiter_of m n = record { cpu = n.cpu; ctx = unwrap_or (context_of m n) 0 }

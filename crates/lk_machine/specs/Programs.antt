@@ -107,7 +107,7 @@ pub record HasPrograms (setup : Setup) (p : ℕ) : Type 0 where
 -- A setup within the limits, whose programs are lawful.
 pub record IsLawfulSetup (setup : Setup) : Type 0 where
   pub some : 0 < length setup.topology.sockets.items
-  pub few : length setup.topology.sockets.items ≤ 64
+  pub few : length setup.topology.sockets.items ≤ 1024
   pub locks : length setup.locks.items ≤ 32
   pub threshold : setup.threshold ≤ 65535
   pub spins : (0 < setup.spins) × (setup.spins ≤ 65535)

@@ -7,6 +7,7 @@ use Rattle.lk_machine.specs.declared.parts.Counts.{Counts}
 use Rattle.lk_machine.specs.declared.parts.Pc.{Pc}
 use Rattle.lk_machine.specs.declared.parts.Pc.TheVariants.{G4, C10, E6, K3}
 use Rattle.lk_machine.specs.Machine.{Machine, HasNode, top_frame, queued_at}
+use Rattle.lk_machine.specs.Packed.{layout_of}
 use Rattle.lk_machine.specs.Moves.{CanMove}
 use Rattle.lk_machine.specs.TopRow.{Target, FlagOf, NextOf, ChoiceFlag, ChoiceNext, SecondTailOf}
 use Rattle.lk_machine.specs.TopRow.{RunsOf, PvFlag, PvNext, StateOf, target}
@@ -52,5 +53,7 @@ pub record IsReady (m : Machine) (p : ℕ) : Type 0 where
   pub lock : (top_frame m p).lock.index < length m.locks
   pub queued : queued_at m p ≤ 6
   pub reaches : (c : Pc) → (top_frame m p).place ≡ Some c → HasTarget m (target c (top_frame m p))
-  pub stores : (c : Pc) → (top_frame m p).place ≡ Some c → IsTailInRange (stored_name c (top_frame m p))
+  pub stores : (c : Pc)
+      → (top_frame m p).place ≡ Some c
+      → IsTailInRange (layout_of m.setup.format) (stored_name c (top_frame m p))
   pub counts : CountsWithin (2 ^ 64 - 2) m.counts

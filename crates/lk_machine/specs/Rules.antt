@@ -5,6 +5,7 @@ use Rattle.lk_machine.specs.declared.setup.Setup.{Setup}
 abbrev pub rules_of : Setup → Rules
 rules_of setup =
     record {
+      format = setup.format;
       mode = setup.mode;
       sockets = setup.topology.sockets.items;
       threshold = setup.threshold;

@@ -1,5 +1,6 @@
 -- The row of the top frame of a processor.
 use Rattle.std.specs.Prelude.{ℕ, Option, Some, None, Bool}
+use Rattle.lk_abs.specs.Lawful.{is_local}
 use Rattle.lk_abs.specs.declared.names.LockName.{LockName}
 use Rattle.lk_word.specs.declared.spin_word.NodeName.{NodeName}
 use Rattle.lk_word.specs.declared.spin_word.Fields.{Fields}
@@ -20,13 +21,13 @@ use Rattle.lk_machine.specs.declared.parts.Pc.TheVariants.{Y3, Y4, Y5, Z1, Z2}
 use Rattle.lk_machine.specs.Machine.{Machine, word_at, node_at, queued_at, entry_at, halted_at}
 use Rattle.lk_machine.specs.Machine.{kicked_at, set_word, set_node, set_queued, set_entry}
 use Rattle.lk_machine.specs.Machine.{set_halted, set_kicked, top_frame, rw_at, set_rw}
-use Rattle.lk_machine.specs.Moves.{node_of}
+use Rattle.lk_machine.specs.Moves.{node_of, waiter_of}
 use Rattle.lk_machine.specs.Row.{Answer, Effect, applied}
 use Rattle.lk_machine.specs.rows.Spin.{spin_row}
 use Rattle.lk_machine.specs.rows.Queue.{queue_row, entry_row, flag_row, next_row}
 use Rattle.lk_machine.specs.rows.Pv.{pv_row, pv_flag_row, pv_next_row, state_row, hash_row}
 use Rattle.lk_machine.specs.rows.Pv.{halt_row, kick_row}
-use Rattle.lk_machine.specs.rows.Cna.{Sight, same_socket, search_row, second_row, runs_row}
+use Rattle.lk_machine.specs.rows.Cna.{Sight, search_row, second_row, runs_row}
 use Rattle.lk_machine.specs.rows.Cna.{handover_row, promotion_row}
 use Rattle.lk_machine.specs.rows.Rw.{rw_row}
 
@@ -146,13 +147,13 @@ target Y5 f = RwWord
 target Z1 f = RwWord
 target Z2 f = RwWord
 
--- what the frame reads besides
+-- what the frame reads besides: a node is local where its waiter is
 abbrev pub sight_at : Machine → ℕ → Frame → Sight
 sight_at m p f =
     record {
       runs = (node_at m (node_of f.me)).runs;
       threshold = m.setup.threshold;
-      local = λ n. same_socket m.setup.topology.sockets.items p n.cpu;
+      local = λ n. is_local m.setup.format m.setup.topology.sockets.items p (waiter_of m n);
     }
 
 -- the machine after a store into the word of a frame's lock, or after none

@@ -1,14 +1,14 @@
 // The machine's data, its readers and its writers.
 
 ghost use Rattle.std.specs.Prelude.{slice_index_or, ◌≡◌, ◌<◌, ◌≤◌, ◌-◌, ◌*◌, Some, length, slice_get, position, IfSome, vec_capacity};
-ghost use Rattle.lk_machine.specs.Machine.{Machine as MachineValue, CpuState as CpuValue, LockState as LockValue, HasTop, HasNode, top_frame, frame_at, depth_at, queued_at, preempted_at, halted_at, kicked_at, handlers_at, word_at, rw_at, node_at, set_word, set_rw, set_node, set_top, set_queued, set_preempted, set_halted, set_kicked, set_counts};
+ghost use Rattle.lk_machine.specs.Machine.{Machine as MachineValue, CpuState as CpuValue, HasTop, HasNode, top_frame, frame_at, depth_at, queued_at, preempted_at, halted_at, kicked_at, handlers_at, word_at, rw_at, node_at, set_word, set_rw, set_node, set_top, set_queued, set_preempted, set_halted, set_kicked, set_counts};
 ghost use Rattle.lk_word.specs.SpinWord.{IsPackable};
 ghost use Rattle.lk_word.specs.RwWord.{IsPackableRw};
-ghost use Rattle.lk_machine.specs.Packed.{fields_in, rw_fields_in, IsPacked, IsPackedRw};
+ghost use Rattle.lk_machine.specs.Packed.{layout_of};
 ghost use Rattle.lk_machine.specs.Hashed.{entries_named};
 ghost use Rattle.lk_machine.specs.Programs.{HasPrograms, handlers_of};
-ghost use Rattle.lk_machine.specs.Moves.{is_node, waiter_of};
-ghost use Rattle.lk_machine.specs.rows.Cna.{same_socket};
+ghost use Rattle.lk_machine.specs.Moves.{is_node, context_of, waiter_of};
+ghost use Rattle.lk_abs.specs.Lawful.{is_local, same_socket, stays};
 
 mod fields;
 mod hash;
@@ -16,14 +16,15 @@ mod moves;
 mod packed;
 mod rest;
 mod top;
+mod words;
 
 use crate::parts::{Counts, Frame, Node, Pc};
 use crate::setup::Setup;
-use lk_abs::{LockName, Mode, Waiter};
+use lk_abs::{Format, LockName, Mode, Waiter};
 use lk_hash::LockHash;
 use lk_word::{Fields, NodeName, RwFields};
-use packed::{fields_in, rw_fields_in, rw_word_of, word_of};
 use std::marker::Model;
+use words::Words;
 
 /// How many frames a processor can have: its task, and five interrupts above it.
 pub const MAX_FRAMES: usize = 6;
@@ -62,30 +63,11 @@ impl Model for CpuState {
     ghost invariant = { λ c. (length c.frames.items ≤ 6) × (6 ≤ vec_capacity c.frames) };
 }
 
-/// One declared lock, in words as they are packed.
-#[derive(Drop)]
-struct LockState {
-    /// The word of a spinlock.
-    spin: u32,
-    /// The word of a reader-writer lock.
-    rw: u32,
-    /// The word of a reader-writer lock's wait lock.
-    wait: u32,
-}
-
-impl Model for LockState {
-    ghost Value = { LockValue };
-
-    ghost view = { λ l. record { spin = fields_in l.spin; rw = rw_fields_in l.rw; wait = fields_in l.wait } };
-
-    ghost invariant = { λ l. IsPacked l.spin × IsPackedRw l.rw × IsPacked l.wait };
-}
-
 /// A machine: the words of its locks, its processors, and what they counted.
 #[derive(Drop)]
 pub struct Machine {
     setup: Setup,
-    locks: Vec<LockState>,
+    words: Words,
     cpus: Vec<CpuState>,
     /// The node of each lock that is entered. It has at least four places a processor.
     hash: LockHash,
@@ -97,14 +79,15 @@ impl Model for Machine {
 
     ghost view = { λ m. record {
       setup = m.setup;
-      locks = m.locks.items;
+      locks = m.words.locks;
       cpus = m.cpus.items;
       hash = entries_named m.hash.entries;
       counts = m.counts;
     } };
 
-    ghost invariant = { λ m. (length m.cpus.items ≤ 64) × (length m.locks.items ≤ 32)
-        × (4 * length m.cpus.items ≤ m.hash.places) };
+    ghost invariant = { λ m. (length m.cpus.items ≤ 1024) × (length m.words.locks ≤ 32)
+        × (4 * length m.cpus.items ≤ m.hash.places)
+        × (m.words.layout ≡ layout_of m.setup.format) };
 }
 
 // Whether a frame's own node has this name.
@@ -118,7 +101,7 @@ fn is_node(own: Option<NodeName>, name: NodeName) -> bool
 }
 
 // The context of the frame that has the node as its own.
-fn context_of(frames: &[Frame], name: NodeName) -> Option<usize>
+fn context_in(frames: &[Frame], name: NodeName) -> Option<usize>
     ensures value { result ≡ position (λ f. is_node f.me name) frames.now }
     ensures bound { IfSome result (λ ctx. ctx < length frames.now) }
 {
@@ -132,10 +115,9 @@ impl Machine {
     pub fn word(&self, lock: LockName) -> Fields
         requires { lock.index < length self.now.locks }
         ensures fields { result ≡ word_at self.now lock }
-        ensures packable { IsPackable result }
+        ensures packable { IsPackable (layout_of self.now.setup.format) result }
     {
-        let state = &self.locks[lock.index as usize];
-        fields_in(if lock.wait { state.wait } else { state.spin })
+        self.words.word(lock)
     }
 
     /// Stores the word of a spinlock or a wait lock.
@@ -143,16 +125,10 @@ impl Machine {
     #[tactic(auto, unfolding(crate::specs::Machine::lock_at, crate::specs::Machine::set_word, crate::specs::Machine::set_lock))]
     pub fn set_word(&mut self, lock: LockName, fields: Fields)
         requires lock { lock.index < length self.old.locks }
-        requires packable { IsPackable fields }
+        requires packable { IsPackable (layout_of self.old.setup.format) fields }
         ensures { self.new ≡ set_word self.old lock fields }
     {
-        let word = word_of(fields);
-        let state = &mut self.locks[lock.index as usize];
-        if lock.wait {
-            state.wait = word;
-        } else {
-            state.spin = word;
-        }
+        self.words.set_word(lock, fields);
     }
 
     /// The word of a reader-writer lock.
@@ -163,8 +139,7 @@ impl Machine {
         ensures fields { result ≡ rw_at self.now index }
         ensures packable { IsPackableRw result }
     {
-        let state = &self.locks[index as usize];
-        rw_fields_in(state.rw)
+        self.words.rw(index)
     }
 
     /// Stores the word of a reader-writer lock.
@@ -175,9 +150,7 @@ impl Machine {
         requires packable { IsPackableRw fields }
         ensures { self.new ≡ set_rw self.old index fields }
     {
-        let word = rw_word_of(fields);
-        let state = &mut self.locks[index as usize];
-        state.rw = word;
+        self.words.set_rw(index, fields);
     }
 
     /// A node.
@@ -202,17 +175,24 @@ impl Machine {
         state.nodes[name.index as usize] = node;
     }
 
-    /// The waiter whose frame has the node as its own.
-    #[tactic(auto, unfolding(crate::specs::Moves::waiter_of, crate::specs::Machine::cpu_at))]
+    /// The context of the frame that has the node as its own, or `None` where no frame has it.
+    #[tactic(auto, unfolding(crate::specs::Moves::context_of, crate::specs::Machine::cpu_at))]
+    pub fn context_of(&self, name: NodeName) -> Option<u32>
+        ensures { result ≡ context_of self.now name }
+    {
+        let state = self.cpus.get(name.cpu as usize)?;
+        let ctx = context_in(&state.frames, name)?;
+        Some(ctx as u32)
+    }
+
+    /// The waiter whose frame has the node as its own; of a node that nobody uses, the task.
+    #[tactic(auto, unfolding(crate::specs::Moves::waiter_of))]
     pub fn waiter_of(&self, name: NodeName) -> Waiter
-        requires { name.cpu < length self.now.cpus }
         ensures { result ≡ waiter_of self.now name }
     {
-        let state = &self.cpus[name.cpu as usize];
-        let ctx = context_of(&state.frames, name).unwrap_or(0);
         Waiter {
             cpu: name.cpu,
-            ctx: ctx as u32,
+            ctx: self.context_of(name).unwrap_or(0),
         }
     }
 
@@ -342,6 +322,14 @@ impl Machine {
         self.cpus.len() as u32
     }
 
+    /// The format.
+    #[inline]
+    pub fn format(&self) -> Format
+        ensures { result ≡ self.now.setup.format }
+    {
+        self.setup.format
+    }
+
     /// The lock family.
     #[inline]
     pub fn mode(&self) -> Mode
@@ -388,10 +376,32 @@ impl Machine {
         }
     }
 
-    /// Whether two processors stand on the same socket.
-    pub fn same_socket(&self, one: u32, other: u32) -> bool
+    // Whether two processors stand on the same socket.
+    fn same_socket(&self, one: u32, other: u32) -> bool
         ensures { result ≡ same_socket self.now.setup.topology.sockets.items one other }
     {
         self.socket_number(one) == self.socket_number(other)
+    }
+
+    // Whether no front may move the waiter of a node aside: in the second format, one in an
+    // interrupt.
+    fn stays(&self, name: NodeName) -> bool
+        ensures { result ≡ stays self.now.setup.format (waiter_of self.now name).ctx }
+    {
+        match self.setup.format {
+            Format::One => false,
+            Format::Two => self.waiter_of(name).ctx > 0,
+        }
+    }
+
+    /// Whether a node is local to a processor: its waiter stands on the same socket or, in the
+    /// second format, is in an interrupt.
+    #[tactic(auto, unfolding(crate::specs::Moves::waiter_of))]
+    pub fn is_local(&self, cpu: u32, name: NodeName) -> bool
+        ensures { let setup = self.now.setup in
+            result ≡ is_local setup.format setup.topology.sockets.items cpu
+            (waiter_of self.now name) }
+    {
+        self.stays(name) || self.same_socket(cpu, name.cpu)
     }
 }

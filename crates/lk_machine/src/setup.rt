@@ -1,6 +1,6 @@
 // What a machine is made of.
 
-use lk_abs::{Kind, List, Mode, Topology};
+use lk_abs::{Format, Kind, List, Mode, Topology};
 
 /// What an operation does to its lock.
 #[derive(Clone, Copy, Debug, PartialEq, Eq)]
@@ -37,6 +37,8 @@ pub struct Op {
 /// What a machine is made of. It never changes.
 #[derive(Drop)]
 pub struct Setup {
+    /// The format, which says how the words are laid out, and whom a front of `cna` may move aside.
+    pub format: Format,
     /// The lock family.
     pub mode: Mode,
     /// The processors, and the socket of each.

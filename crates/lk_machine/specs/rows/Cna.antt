@@ -1,8 +1,8 @@
 -- The rows in which a front of Dice and Kogan's lock chooses whom to hand the lead: it looks for a
--- waiter of its own socket behind it, moves those that it passes over to the second queue, and now
+-- local waiter behind it, moves those that it passes over to the second queue, and now
 -- and then lets the second queue return.
-use Rattle.std.specs.Prelude.{◌+◌, ◌==◌, ◌&&◌, not, is_some, nat_lt, ℕ, Option, Some, None, Bool}
-use Rattle.std.specs.Prelude.{true, false, List, [], ◌∷◌, if◌then◌else◌, slice_index_or}
+use Rattle.std.specs.Prelude.{◌+◌, ◌&&◌, not, is_some, nat_lt, ℕ, Option, Some, None, Bool}
+use Rattle.std.specs.Prelude.{true, false, [], ◌∷◌, if◌then◌else◌}
 use Rattle.lk_abs.specs.declared.events.What.TheVariants as what
 use Rattle.lk_word.specs.declared.spin_word.NodeName.{NodeName}
 use Rattle.lk_word.specs.declared.spin_word.Locked.{Locked}
@@ -19,12 +19,8 @@ use Rattle.lk_machine.specs.Moves.{is_node, node_of}
 use Rattle.lk_machine.specs.Row.{Effect, Goes, Leaves, Nothing, Says, Passes, A, B, K, T, Reason, Y}
 use Rattle.lk_machine.specs.Row.{Second, looks, learns_all}
 
--- two processors stand on the same socket
-abbrev pub same_socket : List ℕ → ℕ → ℕ → Bool
-same_socket sockets p q = slice_index_or sockets p 0 == slice_index_or sockets q 0
-
 -- What a front reads besides the field of its row: the count of handovers in its own node, which no
--- other waiter reads or writes, the threshold, and which nodes are of its own socket.
+-- other waiter reads or writes, the threshold, and of which nodes the waiters are local to it.
 pub record Sight : Type 0 where
   pub runs : ℕ
   pub threshold : ℕ

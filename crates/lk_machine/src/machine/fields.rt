@@ -2,6 +2,7 @@
 
 ghost use Rattle.std.specs.Prelude.{◌≡◌, ◌<◌, length};
 ghost use Rattle.lk_word.specs.SpinWord.{IsTailInRange};
+ghost use Rattle.lk_machine.specs.Packed.{layout_of};
 ghost use Rattle.lk_machine.specs.Machine.{HasNode, node_at, rest_node, set_node, set_word, word_at};
 
 use crate::machine::Machine;
@@ -37,7 +38,7 @@ impl Machine {
     #[inline]
     pub fn set_tail(&mut self, lock: LockName, tail: Option<NodeName>)
         requires lock { lock.index < length self.old.locks }
-        requires tail { IsTailInRange tail }
+        requires tail { IsTailInRange (layout_of self.old.setup.format) tail }
         ensures { self.new
             ≡ set_word self.old lock (record (word_at self.old lock) { tail = tail }) }
     {

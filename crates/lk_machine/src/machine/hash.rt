@@ -1,9 +1,11 @@
 // The hash: the node of each lock that is entered, by which a release finds whom to kick.
 
 ghost use Rattle.std.specs.Prelude.{◌≡◌, ◌<◌, ◌*◌, ◌^◌, true, is_some, length, Some, None};
+ghost use Rattle.lk_word.specs.declared.spin_word.Layout.TheVariants.{Wide};
 ghost use Rattle.lk_word.specs.SpinWord.{IsTailInRange};
 ghost use Rattle.lk_machine.specs.Machine.{entry_at, set_entry, lock_number};
 ghost use Rattle.lk_machine.specs.Hashed.{node_number, node_named};
+ghost use Rattle.lk_machine.specs.Packed.{layout_of};
 
 use crate::machine::Machine;
 use lk_abs::LockName;
@@ -19,7 +21,7 @@ fn lock_number(lock: LockName) -> u32
 
 // The number by which the hash knows a node.
 fn node_number(node: NodeName) -> u32
-    requires { IsTailInRange (Some node) }
+    requires { IsTailInRange Wide (Some node) }
     ensures { result ≡ node_number node }
 {
     4 * node.cpu + node.index
@@ -49,10 +51,10 @@ impl Machine {
     }
 
     /// Enters a lock with a node into the hash.
-    #[tactic(auto, using(crate::proofs::Hashed::hashed), unfolding(crate::specs::Machine::entry_at, crate::specs::Machine::set_entry))]
+    #[tactic(auto, using(crate::proofs::Hashed::hashed, lk_word::proofs::SpinWordLemmas::in_wide), unfolding(crate::specs::Machine::entry_at, crate::specs::Machine::set_entry))]
     pub fn hash_enter(&mut self, lock: LockName, node: NodeName)
         requires lock { lock.index < length self.old.locks }
-        requires node { IsTailInRange (Some node) }
+        requires node { IsTailInRange (layout_of self.old.setup.format) (Some node) }
         requires absent { entry_at self.old lock ≡ None }
         requires room { length self.old.hash < 4 * length self.old.cpus }
         ensures { self.new ≡ set_entry self.old lock (Some node) }

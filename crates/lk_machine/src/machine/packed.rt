@@ -3,18 +3,29 @@
 ghost use Rattle.std.specs.Prelude.{◌≡◌};
 ghost use Rattle.lk_word.specs.SpinWord.{IsPackable};
 ghost use Rattle.lk_word.specs.RwWord.{IsPackableRw};
-ghost use Rattle.lk_machine.specs.Packed.{fields_in, rw_fields_in, IsPacked, IsPackedRw};
+ghost use Rattle.lk_machine.specs.Packed.{fields_in, layout_of, rw_fields_in, IsPacked, IsPackedRw};
 
-use lk_word::{Fields, RwFields, pack, pack_rw, unpack, unpack_rw};
+use lk_abs::Format;
+use lk_word::{Fields, Layout, RwFields, pack, pack_rw, unpack, unpack_rw};
+
+// The layout of the words of a format.
+pub(super) fn layout_of(format: Format) -> Layout
+    ensures { result ≡ layout_of format }
+{
+    match format {
+        Format::One => Layout::Narrow,
+        Format::Two => Layout::Wide,
+    }
+}
 
 // The fields in the word of a spinlock or a wait lock.
 #[inline]
-pub(super) fn fields_in(word: u32) -> Fields
-    requires { IsPacked word }
-    ensures fields { result ≡ fields_in word }
-    ensures packable { IsPackable result }
+pub(super) fn fields_in(layout: Layout, word: u32) -> Fields
+    requires { IsPacked layout word }
+    ensures fields { result ≡ fields_in layout word }
+    ensures packable { IsPackable layout result }
 {
-    match unpack(word) {
+    match unpack(layout, word) {
         Some(fields) => fields,
         None => unreachable!(),
     }
@@ -23,12 +34,12 @@ pub(super) fn fields_in(word: u32) -> Fields
 // The word in which these fields stand.
 #[inline]
 #[tactic(auto, using(crate::proofs::Packed::packing))]
-pub(super) fn word_of(fields: Fields) -> u32
-    requires { IsPackable fields }
-    ensures packed { IsPacked result }
-    ensures fields { fields_in result ≡ fields }
+pub(super) fn word_of(layout: Layout, fields: Fields) -> u32
+    requires { IsPackable layout fields }
+    ensures packed { IsPacked layout result }
+    ensures fields { fields_in layout result ≡ fields }
 {
-    pack(fields)
+    pack(layout, fields)
 }
 
 // The fields in the word of a reader-writer lock.

@@ -1,32 +1,18 @@
 // The machine at rest.
 
 ghost use Rattle.std.specs.Prelude.{◌≡◌, ◌<◌, ◌≤◌, ◌*◌, [], ◌∷◌, IfOk, length, replicate, slice_get, vec_capacity};
-ghost use Rattle.lk_machine.specs.Machine.{rest_lock, rest_node, rest_frame, rest_counts};
+ghost use Rattle.lk_machine.specs.Machine.{rest_node, rest_frame, rest_counts};
 ghost use Rattle.lk_machine.specs.Run.{first_frame, rest_cpu, rest_cpus, at_rest};
 
 use crate::machine::moves::started;
-use crate::machine::packed::{rw_word_of, word_of};
-use crate::machine::{CpuState, LockState, MAX_FRAMES, MAX_NODES, Machine};
+use crate::machine::packed::layout_of;
+use crate::machine::words::Words;
+use crate::machine::{CpuState, MAX_FRAMES, MAX_NODES, Machine};
 use crate::parts::{Counts, Flag, Frame, Node, State, Why};
 use crate::setup::{Op, Setup};
 use lk_abs::{List, LockName, Memory, Mode};
 use lk_hash::LockHash;
-use lk_word::{Fields, Locked, RwFields};
 use std::alloc::Global;
-
-// The word of a lock that nobody holds or wants.
-const REST_WORD: Fields = Fields {
-    locked: Locked::Free,
-    pending: false,
-    tail: None,
-};
-
-// The same of a reader-writer lock.
-const REST_RW: RwFields = RwFields {
-    readers: 0,
-    waiting: false,
-    writer: false,
-};
 
 impl Machine {
     /// The machine at rest. All its memory is taken here.
@@ -37,17 +23,17 @@ impl Machine {
     #[tactic(auto, using(crate::proofs::Rested::rested))]
     pub fn new(alloc: Global, setup: Setup) -> Result<Machine, Memory>
         requires some { 0 < length setup.topology.sockets.items }
-        requires few { length setup.topology.sockets.items ≤ 64 }
+        requires few { length setup.topology.sockets.items ≤ 1024 }
         requires locks { length setup.locks.items ≤ 32 }
         requires progs { length setup.progs.items ≡ length setup.topology.sockets.items }
         ensures { IfOk result (λ machine. machine ≡ at_rest setup) }
     {
-        let locks = rest_locks(alloc, setup.locks.len())?;
+        let words = Words::new(alloc, layout_of(setup.format), setup.locks.len())?;
         let cpus = rest_cpus(alloc, &setup)?;
         let hash = empty_hash(alloc, cpus.len() as u32)?;
         Ok(Machine {
             setup,
-            locks,
+            words,
             cpus,
             hash,
             counts: rest_counts(),
@@ -58,7 +44,7 @@ impl Machine {
 // The hash of a machine of so many processors at rest.
 fn empty_hash(alloc: Global, cpus: u32) -> Result<LockHash, Memory>
     requires some { 1 ≤ cpus }
-    requires few { cpus ≤ 64 }
+    requires few { cpus ≤ 1024 }
     ensures places { IfOk result (λ hash. 4 * cpus ≤ hash.places) }
     ensures empty { IfOk result (λ hash. hash.entries ≡ []) }
 {
@@ -66,17 +52,6 @@ fn empty_hash(alloc: Global, cpus: u32) -> Result<LockHash, Memory>
         Ok(hash) => Ok(hash),
         Err(_) => Err(Memory),
     }
-}
-
-// So many locks at rest.
-fn rest_locks(alloc: Global, count: usize) -> Result<Vec<LockState>, Memory>
-    ensures { IfOk result (λ locks. locks.items ≡ replicate count rest_lock) }
-{
-    let mut locks = Vec::with_capacity(alloc, count)?;
-    for _ in 0..count {
-        locks.push(rest_lock()).map_err(|_| Memory)?;
-    }
-    Ok(locks)
 }
 
 // The processors at rest.
@@ -132,17 +107,6 @@ fn first_frame(mode: Mode, program: &List<Op>) -> Frame
         rest_frame()
     } else {
         started(mode, rest_frame(), *program.get(0))
-    }
-}
-
-// A lock that nobody holds or wants.
-fn rest_lock() -> LockState
-    ensures { result ≡ rest_lock }
-{
-    LockState {
-        spin: word_of(REST_WORD),
-        rw: rw_word_of(REST_RW),
-        wait: word_of(REST_WORD),
     }
 }
 
