@@ -1,4 +1,4 @@
-// A front looks for a waiter of its own socket.
+// A front looks for a waiter that is local to it.
 ghost use Rattle.std.specs.Prelude.{◌≡◌, ◌<◌, ◌+◌, ◌^◌, Some};
 ghost use Rattle.lk_machine.specs.Machine.{node_at, top_frame};
 ghost use Rattle.lk_machine.specs.Moves.{node_of};
@@ -72,14 +72,14 @@ fn after_look(machine: &Machine, cpu: u32, frame: Frame, node: Node) -> Frame
         None => after_none(frame),
         Some(met) => {
             let goes_on = node.runs < machine.threshold();
-            after_first(frame, met, goes_on, machine.same_socket(cpu, met.cpu))
+            after_first(frame, met, goes_on, machine.is_local(cpu, met))
         }
     }
 }
 
-/// C1: looks who is linked behind it. While the run may go on it chooses that one if it is local,
-/// and else passes it over; when the run is over those aside return. Where nobody is linked, those
-/// aside may return as the rest.
+/// C1: looks at its own `next`. While the run may go on, it chooses that waiter if it is local,
+/// and else passes it over. When the run is over, those aside return. Where nobody is linked,
+/// those aside may return as the rest. It stores nothing.
 pub(crate) fn look(machine: &mut Machine, cpu: u32) -> Option<Event>
     requires ready { IsCnaReady machine.old cpu }
     requires here { (top_frame machine.old cpu).place ≡ Some Pc.C1 }
@@ -152,12 +152,13 @@ fn after_link(machine: &Machine, cpu: u32, frame: Frame, next: Option<NodeName>)
 {
     match next {
         None => after_last(frame),
-        Some(met) => after_more(frame, met, machine.same_socket(cpu, met.cpu)),
+        Some(met) => after_more(frame, met, machine.is_local(cpu, met)),
     }
 }
 
-/// C2: looks who is linked behind the last that it passed over: a local one is chosen, another is
-/// passed over too. Where nobody is linked, nobody is moved.
+/// C2: looks at `next` of the last that it passed over, b. A local waiter is chosen, another is
+/// passed over too. Where nobody is linked, nobody is moved. It stores nothing: those passed over
+/// still stand in the queue until C5.
 pub(crate) fn pass_over(machine: &mut Machine, cpu: u32) -> Option<Event>
     requires ready { IsCnaReady machine.old cpu }
     requires here { (top_frame machine.old cpu).place ≡ Some Pc.C2 }
@@ -182,7 +183,8 @@ fn after_tail(why: Why) -> Pc
     }
 }
 
-/// C3: finds the last of the second queue, in the node of its first.
+/// C3: looks up the last of the secondary queue, in the node of its first. Heads alone store there
+/// (C6), and this is the only one.
 pub(crate) fn find_tail(machine: &mut Machine, cpu: u32) -> Option<Event>
     requires ready { IsCnaReady machine.old cpu }
     requires here { (top_frame machine.old cpu).place ≡ Some Pc.C3 }

@@ -62,8 +62,9 @@ fn reset(machine: &mut Machine, me: Option<NodeName>)
     }
 }
 
-/// G1: takes the next node of its processor, at rest, if one of the four is left. Frames nest, so
-/// the nodes below the count are those of the frames below.
+/// G1: counts itself into the slow path of its processor, `i -> i + 1`, and takes the i-th of its
+/// four nodes, reset. Frames nest, so the nodes below i are those of the frames below, and this
+/// one is unused. From i = 4 on there is none.
 #[tactic(auto, using(lk_machine::proofs::Kept::kept, crate::proofs::Own::own_is_there), unfolding(lk_machine::specs::Machine::set_queued, lk_machine::specs::Machine::set_cpu))]
 pub(crate) fn enter(machine: &mut Machine, cpu: u32) -> Option<Event>
     requires ready { IsReady machine.old cpu }
@@ -109,7 +110,8 @@ pub(crate) fn take_out(machine: &mut Machine, cpu: u32, how: How) -> Event
     event
 }
 
-/// G2: looks once more whether the word is free, before it touches the queue.
+/// G2: looks once more for the free word, `0,0,0`, before it touches the queue: to reset the node
+/// may have taken a while.
 pub(crate) fn look_again(machine: &mut Machine, cpu: u32) -> Option<Event>
     requires ready { IsReady machine.old cpu }
     requires here { (top_frame machine.old cpu).place ≡ Some Pc.G2 }
@@ -125,7 +127,8 @@ pub(crate) fn look_again(machine: &mut Machine, cpu: u32) -> Option<Event>
     None
 }
 
-/// G3: swaps the word from free to locked; if another was faster, it queues.
+/// G3: swaps the free word, `0,0,0 -> 0,0,1`, as F1. If another was faster, the word stays, and
+/// this waiter queues.
 pub(crate) fn swap_again(machine: &mut Machine, cpu: u32) -> Option<Event>
     requires ready { IsReady machine.old cpu }
     requires here { (top_frame machine.old cpu).place ≡ Some Pc.G3 }
@@ -159,8 +162,9 @@ fn arrived(mode: Mode, frame: Frame, met: Option<NodeName>) -> Frame
     }
 }
 
-/// G4: exchanges the tail with its own node, and keeps the locked byte and the pending bit. From
-/// here on it has its place in the queue, though the node before it does not know of it yet.
+/// G4: exchanges the tail with its own node, `t,p,l -> n,p,l`, and keeps the pending bit and the
+/// locked byte. From here on it has its place in the queue, though the node before it, t, does not
+/// know of it yet. Without a tail before, it is the queue head.
 pub(crate) fn exchange_tail(machine: &mut Machine, cpu: u32) -> Option<Event>
     requires ready { IsReady machine.old cpu }
     requires here { (top_frame machine.old cpu).place ≡ Some Pc.G4 }
@@ -193,8 +197,9 @@ fn linked(mode: Mode, spins: u32, frame: Frame) -> Frame
     }
 }
 
-/// G5: links its node behind the one before it. Only this waiter links there: it met that node as
-/// the tail.
+/// G5: stores its own node into `next` of the node before it, `none -> n`. Only this waiter links
+/// there, since it alone met that node as the tail; and that node is not given back before its
+/// waiter has seen the link.
 #[tactic(auto, using(lk_machine::proofs::Kept::kept, crate::proofs::Leads::link_leads))]
 pub(crate) fn link(machine: &mut Machine, cpu: u32) -> Option<Event>
     requires ready { IsReady machine.old cpu }
@@ -210,7 +215,8 @@ pub(crate) fn link(machine: &mut Machine, cpu: u32) -> Option<Event>
     None
 }
 
-/// G6: waits for its own flag, which the front before it sets once.
+/// G6: looks at its own flag until the head before it has set it, `unset -> go`. Only this waiter
+/// looks there, and only the head before it stores there.
 pub(crate) fn wait(machine: &mut Machine, cpu: u32) -> Option<Event>
     requires ready { IsReady machine.old cpu }
     requires here { (top_frame machine.old cpu).place ≡ Some Pc.G6 }
@@ -233,7 +239,8 @@ pub(crate) fn wait(machine: &mut Machine, cpu: u32) -> Option<Event>
     None
 }
 
-/// N1: looks until the word is free, without a node to queue with.
+/// N1: looks for the free word, `0,0,0`, without a node to queue with. It stores nothing and
+/// stands in no order.
 pub(crate) fn look_bare(machine: &mut Machine, cpu: u32) -> Option<Event>
     requires ready { IsReady machine.old cpu }
     requires here { (top_frame machine.old cpu).place ≡ Some Pc.N1 }
@@ -249,7 +256,8 @@ pub(crate) fn look_bare(machine: &mut Machine, cpu: u32) -> Option<Event>
     None
 }
 
-/// N2: swaps the word from free to locked; if another was faster, it looks again.
+/// N2: swaps the free word, `0,0,0 -> 0,0,1`, as F1. If another was faster, the word stays, and
+/// this waiter looks again.
 pub(crate) fn swap_bare(machine: &mut Machine, cpu: u32) -> Option<Event>
     requires ready { IsReady machine.old cpu }
     requires here { (top_frame machine.old cpu).place ≡ Some Pc.N2 }

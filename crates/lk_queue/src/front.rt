@@ -24,9 +24,9 @@ fn after_look(frame: Frame, word: Fields) -> Pc
     }
 }
 
-/// G7: waits as the front until the lock is free and no pending waiter is about to take it. From
-/// then on nobody else may: a fast path meets the tail, and a pending bit set on a word with a tail
-/// is cleared again.
+/// G7: looks as the queue head for `*,0,0`: the lock is free, and no pending waiter is about to
+/// take it. From then on nobody else may take it: a fast path meets the tail, and a pending bit
+/// that is set on a word with a tail is cleared again.
 pub(crate) fn wait_as_front(machine: &mut Machine, cpu: u32) -> Option<Event>
     requires ready { IsReady machine.old cpu }
     requires here { (top_frame machine.old cpu).place ≡ Some Pc.G7 }
@@ -46,8 +46,9 @@ fn is_sole(frame: Frame, word: Fields) -> bool
     is_unlocked(word) && !word.pending && is_tail(word, named(frame.me))
 }
 
-/// G8: swaps the word to locked with no queue, where it is alone in it; if a waiter or a pending
-/// bit came meanwhile, it keeps the queue.
+/// G8: swaps the word of a lone head, `n,0,0 -> 0,0,1`: it takes the lock and leaves no queue. If
+/// a waiter took the tail or set pending meanwhile, the word stays. The swap compares the whole
+/// word, so no tail is lost.
 pub(crate) fn take_sole(machine: &mut Machine, cpu: u32) -> Option<Event>
     requires ready { IsReady machine.old cpu }
     requires here { (top_frame machine.old cpu).place ≡ Some Pc.G8 }
@@ -72,8 +73,8 @@ fn after_head(mode: Mode) -> Pc
     }
 }
 
-/// G9: stores locked. The byte is free since G7, and only the front may take it, so a plain store
-/// of the byte will do.
+/// G9: stores held into the locked byte, `t,p,0 -> t,p,1`. The byte is free since G7, and only the
+/// head may take it, so a plain store will do. Tail and pending stay.
 pub(crate) fn take_head(machine: &mut Machine, cpu: u32) -> Option<Event>
     requires ready { IsReady machine.old cpu }
     requires here { (top_frame machine.old cpu).place ≡ Some Pc.G9 }
@@ -94,9 +95,9 @@ pub(crate) fn take_head(machine: &mut Machine, cpu: u32) -> Option<Event>
     Some(event)
 }
 
-/// G10: looks at its own link until the next waiter has stored it. Who has taken the tail will;
-/// after a claim that failed by a pending bit nobody may have, and then it looks until somebody
-/// comes.
+/// G10: looks at its own `next` until its successor has stored it, `none -> y`. Whoever has taken
+/// the tail will store it. After a claim that a pending bit made fail nobody may have taken the
+/// tail; then it looks until somebody comes.
 pub(crate) fn wait_for_next(machine: &mut Machine, cpu: u32) -> Option<Event>
     requires ready { IsReady machine.old cpu }
     requires here { (top_frame machine.old cpu).place ≡ Some Pc.G10 }
@@ -118,7 +119,9 @@ pub(crate) fn wait_for_next(machine: &mut Machine, cpu: u32) -> Option<Event>
     None
 }
 
-/// G11: hands the lead to the next by its flag, gives the node back, and goes on as the holder.
+/// G11: stores go into the flag of its successor y, `unset -> go`, which makes that one the head,
+/// gives its own node back, and goes on as the holder. Nobody else knows y as its successor, so
+/// nobody else stores there; and nobody looks at the own node any more.
 pub(crate) fn hand_on(machine: &mut Machine, cpu: u32) -> Option<Event>
     requires ready { IsReady machine.old cpu }
     requires here { (top_frame machine.old cpu).place ≡ Some Pc.G11 }

@@ -28,8 +28,8 @@ fn take(machine: &mut Machine, cpu: u32, how: How) -> Event
     event
 }
 
-/// F1: swaps the word from free to locked. Who swaps is alone, since the word had no holder, no
-/// pending waiter and no queue.
+/// F1: swaps the free word, `0,0,0 -> 0,0,1`. Nobody held the lock, nobody was pending and nobody
+/// queued, so who swaps is alone. Any other word stays, and says where this waiter goes on.
 pub(crate) fn fast(machine: &mut Machine, cpu: u32) -> Option<Event>
     requires ready { IsReady machine.old cpu }
     requires here { (top_frame machine.old cpu).place ≡ Some Pc.F1 }
@@ -44,7 +44,7 @@ pub(crate) fn fast(machine: &mut Machine, cpu: u32) -> Option<Event>
     None
 }
 
-/// T1: looks whether the word is free; if not, the try has failed.
+/// T1: looks for the free word, `0,0,0`, and stores nothing. Another word ends the try.
 pub(crate) fn try_look(machine: &mut Machine, cpu: u32) -> Option<Event>
     requires ready { IsReady machine.old cpu }
     requires here { (top_frame machine.old cpu).place ≡ Some Pc.T1 }
@@ -78,7 +78,8 @@ fn miss(machine: &mut Machine, cpu: u32) -> Event
     event
 }
 
-/// T2: swaps the word from free to locked, once; if another was faster, the try has failed.
+/// T2: swaps the free word, `0,0,0 -> 0,0,1`, once. That it was free at T1 says nothing by now, so
+/// this is a swap and no store. If another was faster, the word stays and the try has failed.
 pub(crate) fn try_swap(machine: &mut Machine, cpu: u32) -> Option<Event>
     requires ready { IsReady machine.old cpu }
     requires here { (top_frame machine.old cpu).place ≡ Some Pc.T2 }
@@ -91,7 +92,9 @@ pub(crate) fn try_swap(machine: &mut Machine, cpu: u32) -> Option<Event>
     Some(miss(machine, cpu))
 }
 
-/// U1: stores free into the locked byte, and leaves a pending bit and a queue that came meanwhile.
+/// U1: stores free into the locked byte, `t,p,1 -> t,p,0`. Only the holder stores there while the
+/// lock is held, so it needs no swap. A pending bit and a tail that came meanwhile stay for those
+/// who wait.
 pub(crate) fn release(machine: &mut Machine, cpu: u32) -> Option<Event>
     requires ready { IsReady machine.old cpu }
     requires here { (top_frame machine.old cpu).place ≡ Some Pc.U1 }
@@ -105,7 +108,8 @@ pub(crate) fn release(machine: &mut Machine, cpu: u32) -> Option<Event>
     Some(event)
 }
 
-/// V1: looks until the word is free. Nothing is stored, so the waiters do not disturb the holder.
+/// V1: looks until the word is free, `0,0,0`. It stores nothing, so the waiters do not disturb the
+/// holder.
 pub(crate) fn loop_look(machine: &mut Machine, cpu: u32) -> Option<Event>
     requires ready { IsReady machine.old cpu }
     requires here { (top_frame machine.old cpu).place ≡ Some Pc.V1 }
@@ -121,7 +125,8 @@ pub(crate) fn loop_look(machine: &mut Machine, cpu: u32) -> Option<Event>
     None
 }
 
-/// V2: swaps the word from free to locked; if another was faster, it looks again.
+/// V2: swaps the free word, `0,0,0 -> 0,0,1`. If another was faster, the word stays, and this
+/// waiter looks again. No waiter leaves a trace in the word, so there is nothing to undo.
 pub(crate) fn loop_swap(machine: &mut Machine, cpu: u32) -> Option<Event>
     requires ready { IsReady machine.old cpu }
     requires here { (top_frame machine.old cpu).place ≡ Some Pc.V2 }

@@ -8,7 +8,9 @@ use lk_abs::{Event, How, What};
 use lk_machine::{Machine, Pc, after_pending, is_unlocked, to_queue};
 use lk_word::{Fields, Locked};
 
-/// P0: looks once more at a word that was pending alone, and so about to be taken.
+/// P0: looks once more at a word that was pending alone, `0,1,0`. Its waiter is about to take the
+/// lock and clear the bit. With a bit or a tail this waiter queues; else it may set pending
+/// itself.
 pub(crate) fn look_again(machine: &mut Machine, cpu: u32) -> Option<Event>
     requires ready { IsReady machine.old cpu }
     requires here { (top_frame machine.old cpu).place ≡ Some Pc.P0 }
@@ -20,7 +22,9 @@ pub(crate) fn look_again(machine: &mut Machine, cpu: u32) -> Option<Event>
     None
 }
 
-/// P1: sets pending, and gets the word before it.
+/// P1: sets pending, `t,p,l -> t,1,l`, and gets the word before it in the same operation. If p was
+/// 0 and t was none, this is the first waiter, and the bit is its own. If p was 1 the bit is
+/// another's, and stays. If there is a tail the bit is its own and has to go again (P2).
 pub(crate) fn set_pending(machine: &mut Machine, cpu: u32) -> Option<Event>
     requires ready { IsReady machine.old cpu }
     requires here { (top_frame machine.old cpu).place ≡ Some Pc.P1 }
@@ -34,7 +38,8 @@ pub(crate) fn set_pending(machine: &mut Machine, cpu: u32) -> Option<Event>
     None
 }
 
-/// P2: clears the pending bit that it set, since there is a queue that it has to join.
+/// P2: clears pending, `t,1,l -> t,0,l`. The bit is the one that it set at P1 on a word with a
+/// queue: whoever meets a pending bit leaves it alone, so nobody has set it since. It then queues.
 pub(crate) fn clear_pending(machine: &mut Machine, cpu: u32) -> Option<Event>
     requires ready { IsReady machine.old cpu }
     requires here { (top_frame machine.old cpu).place ≡ Some Pc.P2 }
@@ -47,7 +52,8 @@ pub(crate) fn clear_pending(machine: &mut Machine, cpu: u32) -> Option<Event>
     None
 }
 
-/// P3: waits for the holder to release. Nobody else can take the lock then: the word is pending.
+/// P3: looks until the locked byte is free, `t,1,0`. The bit keeps all others off: a fast path
+/// meets it and fails, and a queue head waits until it is clear.
 pub(crate) fn watch(machine: &mut Machine, cpu: u32) -> Option<Event>
     requires ready { IsReady machine.old cpu }
     requires here { (top_frame machine.old cpu).place ≡ Some Pc.P3 }
@@ -63,7 +69,9 @@ pub(crate) fn watch(machine: &mut Machine, cpu: u32) -> Option<Event>
     None
 }
 
-/// P4: takes the lock and clears pending in one store; a tail that came meanwhile stays.
+/// P4: takes the lock and clears pending in one store, `t,1,0 -> t,0,1`. The byte is free since
+/// P3, and with the bit set nobody else may take it, so a plain store will do. A tail that came
+/// meanwhile stays: it is another part of the word.
 #[tactic(auto, using(lk_machine::proofs::Kept::kept), unfolding(lk_machine::specs::Machine::set_word, lk_machine::specs::Machine::set_lock))]
 pub(crate) fn take_pending(machine: &mut Machine, cpu: u32) -> Option<Event>
     requires ready { IsReady machine.old cpu }

@@ -1,8 +1,5 @@
 use Rattle.lk_machine.specs.declared.parts.Pc.TheVariants.{E15}
 use Rattle.lk_pv.proofs.hand.hand_on.Goals as goal
 
-pub waiter_of-requires : goal.waiter_of-requires
-waiter_of-requires c = rw (c.named-next.ensures, c.frame-frame.ensures) (c.requires.ready.ready.reaches E15 c.requires.here).cpu
-
 pub set_flag-requires : goal.set_flag-requires
 set_flag-requires c = rw (c.named-next.ensures, c.frame-frame.ensures) (c.requires.ready.ready.reaches E15 c.requires.here)
