@@ -40,6 +40,9 @@ use Rattle.lk_core.proofs.Same.{has_top_same}
 use Rattle.lk_core.proofs.ReadyRows.{ready_at, cna_ready_at, rw_ready_at, pv_ready_at, has_programs}
 use Rattle.lk_core.proofs.Runs.{acts_keep}
 use Rattle.lk_core.proofs.Setups.{setup_kept}
+use Rattle.lk_machine.specs.declared.family.Family.{Family}
+use Rattle.lk_machine.specs.declared.family.Family.TheVariants.{Spin, Queue, Cna, Pv, Rw}
+use Rattle.lk_core.specs.Ready.{IsReadyFor, MakesARow, RowsAreReady}
 
 -- n is the machine after the act, and e its event
 pub record IsDone (m : Machine) (a : Act) (n : Machine) (e : Option Event) : Type 0 where
@@ -224,3 +227,20 @@ module _ (m : Machine) (p : ℕ) (range : p < length m.cpus) (sound : IsSound m)
   pub shared_ready : (c : Pc) → (top_frame m p).place ≡ Some c → family_of c ≡ family.Rw
       → CountsWithin (2 ^ 64 - 2) m.counts → IsRwReady m p
   shared_ready c at on counts = rw_ready_at m hs shows p range c at on counts
+
+-- a step that is not idle finds what its row asks
+pub rows_are_ready : RowsAreReady
+rows_are_ready m p range sound counts busy awake = by_place (top_frame m p).place refl
+  where
+    ready : (c : Pc) → (top_frame m p).place ≡ Some c → (family : Family) → family_of c ≡ family
+        → IsReadyFor family m p
+    ready c here Spin e = row_ready m p range sound c here counts
+    ready c here Queue e = row_ready m p range sound c here counts
+    ready c here Cna e = choice_ready m p range sound c here e counts
+    ready c here Pv e = halting_ready m p range sound c here e counts
+    ready c here Rw e = shared_ready m p range sound c here e counts
+
+    by_place : (o : Option Pc) → (top_frame m p).place ≡ o → MakesARow m p
+    by_place None here = absurd (busy (inr (inr here)))
+    by_place (Some c) here =
+        record { place = c; here = here; ready = ready c here (family_of c) refl }

@@ -57,6 +57,7 @@ ended_is n w f live place =
       mode = refl;
       turns = refl;
       threshold = refl;
+      format = refl;
       sockets = refl;
       word = λ l. refl;
       node = λ k. refl;

@@ -139,6 +139,7 @@ rewritten x v a b p i =
       mode = refl;
       turns = refl;
       threshold = refl;
+      format = refl;
       sockets = refl;
       word = λ l. refl;
       node = λ k. refl;

@@ -34,4 +34,4 @@ mod HashRoom
 mod Stored
 mod ReadyRows
 mod ActDone
-mod RowsReady
+mod Sights

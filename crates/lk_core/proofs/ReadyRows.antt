@@ -120,12 +120,12 @@ module _ (m : Machine) (hs : LockName → LockHistory) (shows : ShowsAll m hs) (
   spins_of = spin_part (world m).kind hs
 
   -- a queue has no more waiters than there are frames
-  queue_few : (l : LockName) → length (spins_of l).main ≤ 384
+  queue_few : (l : LockName) → length (spins_of l).main ≤ 6144
   queue_few l =
       let all = queue_is_distinct (world m) (spin_part (world m).kind hs) l shows.world.spins in
       let cpus = shows.whole.cpus in
       let count = shows.whole.setup.few in
-      each_few 384 (λ u. (i : ℕ) × (slice_get (spins_of l).main i ≡ Some u)) (spins_of l).main
+      each_few 6144 (λ u. (i : ℕ) × (slice_get (spins_of l).main i ≡ Some u)) (spins_of l).main
       (record { inside = λ i u h. (i, h); place = λ u h. h; once = all.1 })
       (λ u h. let f = all.0 h.0 u h.1 in
       let in_cpu = frame_within m u f.0 f.1 in
@@ -168,7 +168,7 @@ module _ (m : Machine) (hs : LockName → LockHistory) (shows : ShowsAll m hs) (
       let cpus = shows.whole.cpus in
       let count = shows.whole.setup.few in
       let kind = (shows.world.fits (top_of m p) f live).rw c at (rw_is c on) in
-      let few = readers_are_few 384 (world m) hs f.lock.index shows.world kind
+      let few = readers_are_few 6144 (world m) hs f.lock.index shows.world kind
       (λ u d e. let in_cpu = frame_within m u d e in let in_ctx = ctx_within u d e in
       (in_ctx, omega arith)) (λ u l e. ap (held_at m u l) e) in
       record { ready = ready_at c at counts; room = omega (arith, few) }

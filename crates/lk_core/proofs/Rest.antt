@@ -298,6 +298,7 @@ module _ (setup : Setup) (ok : IsLawfulSetup setup) where
               linked = λ i u v h k. absurd (none-some u h);
               last = λ i u h. absurd (none-some u h);
             };
+            moved = λ i u h. absurd (none-some u h);
             lead = λ v h. absurd (none-some v h);
             empty = λ h. refl;
             lengths = refl;
@@ -479,13 +480,13 @@ module _ (setup : Setup) (ok : IsLawfulSetup setup) where
   -- and nobody has halted, or is owed a kick
   pub rest_shows_kicks : ShowsKicks (world (at_rest setup)) []
   rest_shows_kicks =
-      let x = empty_world setup.mode setup.threshold setup.topology.sockets.items (world m).kind in
+      let x = empty_world setup.format setup.mode setup.threshold setup.topology.sockets.items (world m).kind in
       kicks_same x (world m) [] (record {
         halted = λ p. halted p;
         kicked = λ p. kicked p;
         asleep = λ u. awake (frame_at m u) u refl;
         owed = λ u. owes (frame_at m u) u refl;
-      }) (empty_shows setup.mode setup.threshold setup.topology.sockets.items (world m).kind)
+      }) (empty_shows setup.format setup.mode setup.threshold setup.topology.sockets.items (world m).kind)
     where
       awake : (o : Option Frame) → (u : Waiter) → frame_at m u ≡ o → asleep_in o ≡ false
       awake None u e = refl

@@ -22,7 +22,7 @@ use Rattle.lk_machine.specs.Moves.{program_of, waiter_of, rw_name}
 use Rattle.lk_machine.specs.Row.{Lead, Freed, Tell, Nothing, Says, Passes, moved, event_of, counted}
 use Rattle.lk_machine.specs.Row.{Effect}
 use Rattle.lk_machine.specs.rows.Spin.{spin_row}
-use Rattle.lk_machine.specs.rows.Cna.{search_row, second_row, runs_row, handover_row, promotion_row}
+use Rattle.lk_machine.specs.rows.Cna.{Sight, search_row, second_row, runs_row, handover_row, promotion_row}
 use Rattle.lk_machine.specs.rows.Queue.{queue_row, entry_row, flag_row, next_row}
 use Rattle.lk_machine.specs.rows.Pv.{pv_row, pv_flag_row, pv_next_row, state_row, hash_row}
 use Rattle.lk_machine.specs.rows.Pv.{halt_row, kick_row}
@@ -54,6 +54,7 @@ use Rattle.lk_core.proofs.Kicks.{SameKicks, kicks_same, kicks_then, kicks_moved,
 use Rattle.lk_core.proofs.Kicks.{kicks_put_held}
 use Rattle.lk_core.proofs.Access.{top_frame-is}
 use Rattle.lk_core.proofs.Lists.{within_end}
+use Rattle.lk_core.proofs.Sights.{sight_same}
 use Rattle.lk_core.proofs.Same.{KeepsFrames, top_same}
 use Rattle.lk_core.proofs.Walks.{LeadFits, LeadIn}
 use Rattle.lk_core.proofs.RowsFit.{spin_fits, queue_fits, entry_fits, flag_fits, next_fits}
@@ -269,8 +270,11 @@ module _ (m : Machine) (p : ℕ) (f : Frame) (c : Pc) (hs : LockName → LockHis
       (λ V row. handover_fits (HasNode m) f (node_at m k).flag m.setup.mode V c row)
       (handover_in (HasNode m) c f (node_at m k).flag)
       (λ q. owing_target c f (ChoiceFlag k) e q refl) law
-  by_target (ChoiceNext k) e law =
+  by_target (ChoiceNext k) e as_seen =
       let o = search_row (sight_at m p f) c f (node_at m k).next in
+      let by : Sight → Type 0 = λ s. let q = search_row s c f (node_at m k).next in
+      Law (lead_on (stores_next (world m) k q.stores) w f q.leads) q.tells in
+      let law = subst by (sight_same m hs a.shows w f) as_seen in
       applied_kept (counted (stored_next m k o.stores) o.counts) (stores_next (world m) k o.stores)
       o.leads o.tells
       (counts_stored m (stored_next m k o.stores) (stores_next (world m) k o.stores) o.counts
@@ -290,8 +294,11 @@ module _ (m : Machine) (p : ℕ) (f : Frame) (c : Pc) (hs : LockName → LockHis
       (λ V row. second_fits (HasNode m) f (node_at m k).second_tail m.setup.mode V c row)
       (second_in (HasNode m) c f (node_at m k).second_tail)
       (λ q. owing_target c f (SecondTailOf k) e q refl) law
-  by_target (RunsOf k) e law =
+  by_target (RunsOf k) e as_seen =
       let o = runs_row (sight_at m p f) c f (node_at m k).runs in
+      let by : Sight → Type 0 = λ s. let q = runs_row s c f (node_at m k).runs in
+      Law (lead_on (stores_runs (world m) k q.stores) w f q.leads) q.tells in
+      let law = subst by (sight_same m hs a.shows w f) as_seen in
       applied_kept (counted (stored_runs m k o.stores) o.counts) (stores_runs (world m) k o.stores)
       o.leads o.tells
       (counts_stored m (stored_runs m k o.stores) (stores_runs (world m) k o.stores) o.counts
@@ -456,7 +463,7 @@ module _ (m : Machine) (p : ℕ) (f : Frame) (c : Pc) (hs : LockName → LockHis
   row_on_kept =
       let to = to_of m (row_in (world m) w f c).1 in
       let law = every_row_keeps c (world m) hs (rules_of m.setup) w to f a.shows.world
-      (record { mode = refl; sockets = refl; threshold = refl }) newest a.live a.place
+      (record { format = refl; mode = refl; sockets = refl; threshold = refl }) newest a.live a.place
       (goes_to m hs a.shows w f c a.live a.place) in
       by_target (target c f) refl (
         law.0,

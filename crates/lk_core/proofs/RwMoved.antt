@@ -128,6 +128,7 @@ world-set_rw m i x lt =
       mode = ap (λ (s : Setup). s.mode) (setup-set_rw m i x);
       turns = ap (λ (s : Setup). s.spins) (setup-set_rw m i x);
       threshold = ap (λ (s : Setup). s.threshold) (setup-set_rw m i x);
+      format = ap (λ (s : Setup). s.format) (setup-set_rw m i x);
       sockets = ap (λ (s : Setup). s.topology.sockets.items) (setup-set_rw m i x);
       entry = λ k. entry-set_rw m i x k;
       halted = λ q. halted-set_rw m i x q;

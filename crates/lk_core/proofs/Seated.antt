@@ -33,6 +33,7 @@ pub record SameWorld (a b : World) : Type 0 where
   pub mode : a.mode ≡ b.mode
   pub turns : a.turns ≡ b.turns
   pub threshold : a.threshold ≡ b.threshold
+  pub format : a.format ≡ b.format
   pub sockets : a.sockets ≡ b.sockets
   pub word : (l : LockName) → a.word l ≡ b.word l
   pub node : (n : NodeName) → a.node n ≡ b.node n
@@ -51,6 +52,7 @@ alike a b e =
       mode = e.mode i;
       turns = e.turns i;
       threshold = e.threshold i;
+      format = e.format i;
       sockets = e.sockets i;
       word = λ l. e.word l i;
       node = λ n. e.node n i;
@@ -106,6 +108,11 @@ pub threshold-set_cpu : (m : Machine) (p : ℕ) (c : CpuState)
     → (world (set_cpu m p c)).threshold ≡ m.setup.threshold
 unfolding set_cpu
 threshold-set_cpu m p c = refl
+
+pub format-set_cpu : (m : Machine) (p : ℕ) (c : CpuState)
+    → (world (set_cpu m p c)).format ≡ m.setup.format
+unfolding set_cpu
+format-set_cpu m p c = refl
 
 pub sockets-set_cpu : (m : Machine) (p : ℕ) (c : CpuState)
     → (world (set_cpu m p c)).sockets ≡ m.setup.topology.sockets.items
@@ -171,6 +178,7 @@ world-set_cpu m p c frames nodes queued halted kicked =
       mode = mode-set_cpu m p c;
       turns = turns-set_cpu m p c;
       threshold = threshold-set_cpu m p c;
+      format = format-set_cpu m p c;
       sockets = sockets-set_cpu m p c;
       word = λ l. word-set_cpu m p c l;
       node = λ n. node-set_cpu m p c nodes n;
@@ -205,6 +213,7 @@ world-reseated m w o c r =
       mode = mode-set_cpu m w.cpu c;
       turns = turns-set_cpu m w.cpu c;
       threshold = threshold-set_cpu m w.cpu c;
+      format = format-set_cpu m w.cpu c;
       sockets = sockets-set_cpu m w.cpu c;
       word = λ l. word-set_cpu m w.cpu c l;
       node = λ k. node-set_cpu m w.cpu c r.nodes k;

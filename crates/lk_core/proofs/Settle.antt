@@ -173,6 +173,7 @@ module _ (n : Machine) (p : ℕ) (d h : Frame) (hs : LockName → LockHistory)
         mode = refl;
         turns = refl;
         threshold = refl;
+        format = refl;
         sockets = refl;
         word = λ l. refl;
         node = λ k. refl;

@@ -1,13 +1,16 @@
 -- How a frame at a row stands to the lock on which it acts.
 use Rattle.std.proofs.Common.{◌≡◌, inl, inr, Bool, ℕ, Option, Some, true, false, arith, ap, ◌<◌}
-use Rattle.std.proofs.Common.{refl, sym, ◌∙◌, length}
+use Rattle.std.proofs.Common.{None, ◌≤◌, refl, sym, ◌∙◌, length}
+use Rattle.std.proofs.lemmas.Bool.{cases_lt}
+use Rattle.std.proofs.lemmas.List.{get_or_past}
+use Rattle.std.proofs.lemmas.Option.{slice_get_past}
 use Rattle.lk_abs.specs.History.{LockHistory}
 use Rattle.lk_abs.specs.declared.names.Mode.{Mode}
 use Rattle.lk_abs.specs.declared.names.LockName.{LockName}
 use Rattle.lk_machine.specs.declared.parts.Frame.{Frame}
 use Rattle.lk_machine.specs.declared.parts.Pc.{Pc}
 use Rattle.lk_machine.specs.declared.parts.Pc.TheVariants.{U5}
-use Rattle.lk_machine.specs.Machine.{Machine, top_of}
+use Rattle.lk_machine.specs.Machine.{Machine, cpu_at, depth_at, frame_at, no_cpu, top_of}
 use Rattle.lk_machine.specs.declared.setup.Verb.{Verb}
 use Rattle.lk_machine.specs.declared.setup.Verb.TheVariants.{Lock, Unlock}
 use Rattle.lk_machine.specs.TopRow.{row}
@@ -98,8 +101,29 @@ stands mode v f c place (Owing pv is plain waits) =
     away true = refl
     away false = refl
 
+-- a processor has six frames at most
+pub few_frames : (m : Machine) (hs : LockName → LockHistory) → ShowsAll m hs → (p : ℕ)
+    → length (cpu_at m p).frames ≤ 6
+unfolding cpu_at depth_at
+few_frames m hs shows p =
+    elim (cases_lt p (length m.cpus)) [
+      | inl lt ↦ (shows.whole.tops p lt).few
+      | inr ge ↦ let past = get_or_past m.cpus p no_cpu ge in rw past (omega arith)
+    ]
+
+nobody_deep : (m : Machine) (hs : LockName → LockHistory) → ShowsAll m hs → (p c : ℕ) → 6 ≤ c
+    → frame_at m (record { cpu = p; ctx = c }) ≡ None
+unfolding frame_at
+nobody_deep m hs shows p c ge =
+    let few = few_frames m hs shows p in
+    slice_get_past (cpu_at m p).frames c (omega (arith, ge, few))
+
 -- the frame on top is the newest of its processor
 pub top_newest : (m : Machine) (hs : LockName → LockHistory) → ShowsAll m hs → (p : ℕ)
     → p < length m.cpus → IsNewest (world m) (top_of m p)
 top_newest m hs shows p range = let top = shows.whole.tops p range in
-    record { above = λ d lt. above_top m p d lt; low = omega (arith, top.few, top.some) }
+    record {
+      above = λ d lt. above_top m p d lt;
+      low = omega (arith, top.few, top.some);
+      shallow = λ q d ge. nobody_deep m hs shows q d ge;
+    }

@@ -5,12 +5,16 @@ use Rattle.lk_abs.specs.History.{LockHistory}
 use Rattle.lk_abs.specs.declared.names.Waiter.{Waiter}
 use Rattle.lk_abs.specs.declared.names.LockName.{LockName}
 use Rattle.lk_word.specs.declared.spin_word.NodeName.{NodeName}
+use Rattle.lk_word.specs.declared.spin_word.Layout.{Layout}
+use Rattle.lk_word.specs.declared.spin_word.Layout.TheVariants.{Narrow}
 use Rattle.lk_word.specs.SpinWord.{IsTailInRange}
+use Rattle.lk_word.proofs.SpinWordLemmas.{from_narrow}
 use Rattle.lk_machine.specs.declared.parts.Frame.{Frame}
 use Rattle.lk_machine.specs.declared.parts.Pc.{Pc}
 use Rattle.lk_machine.specs.declared.parts.Pc.TheVariants.{G4, C10, E6, K3}
 use Rattle.lk_machine.specs.Machine.{Machine, frame_at, HasNode}
 use Rattle.lk_machine.specs.Moves.{node_of}
+use Rattle.lk_machine.specs.Packed.{layout_of}
 use Rattle.lk_machine.specs.Ready.{stored_name}
 use Rattle.lk_law.specs.Phase.{has_node}
 use Rattle.lk_law.specs.Places.{snapshot}
@@ -28,15 +32,21 @@ use Rattle.lk_core.proofs.Reach.{own_here}
 
 module _ (m : Machine) (hs : LockName → LockHistory) (shows : ShowsAll m hs) (w : Waiter)
     (f : Frame) (live : frame_at m w ≡ Some f) where
-  -- a node of the machine can stand in a word
-  named : (o : Option NodeName) → HasNode m (node_of o) → IsTailInRange o
-  named None there = tt
-  named (Some n) there =
+  abbrev layout : Layout
+  layout = layout_of m.setup.format
+
+  -- a node of the machine can stand in a word, in each layout
+  near : (o : Option NodeName) → HasNode m (node_of o) → IsTailInRange Narrow o
+  near None there = tt
+  near (Some n) there =
       let cpus = shows.whole.cpus in
       let few = shows.whole.setup.few in
       let cpu : n.cpu ≤ 16382 = omega (arith, there.cpu, cpus, few) in
       let index : n.index ≤ 3 = omega (arith, there.index) in
       (cpu, index)
+
+  named : (o : Option NodeName) → HasNode m (node_of o) → IsTailInRange layout o
+  named o there = from_narrow layout o (near o there)
 
   -- the node of a waiter that uses it, as one of its processor's
   used_node : (u : Waiter) (n : NodeName) → Uses (world m) u n → IsOwnNode u n → HasNode m n
@@ -60,7 +70,7 @@ module _ (m : Machine) (hs : LockName → LockHistory) (shows : ShowsAll m hs) (
       let u = named_front_is_used (world m) (spin_part (world m).kind hs) w f K3 shows.world.spins live at refl in
       used_node u.0 (node_of f.y) u.1 u.2
 
-  pub stored_within : (c : Pc) → f.place ≡ Some c → IsTailInRange (stored_name c f)
+  pub stored_within : (c : Pc) → f.place ≡ Some c → IsTailInRange layout (stored_name c f)
   stored_within G4 at = named f.me (own_here m hs shows w f live G4 at refl)
   stored_within C10 at = named f.t (promoted at)
   stored_within E6 at = named f.me (own_here m hs shows w f live E6 at refl)

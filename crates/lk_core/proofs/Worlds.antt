@@ -30,7 +30,7 @@ use Rattle.lk_core.proofs.Access.{cpu_same, cpu_other, word_set_word}
 use Rattle.lk_core.proofs.Seated.{alike, entry-set_cpu, frame-set_cpu, halted-set_cpu}
 use Rattle.lk_core.proofs.Seated.{held-set_counts, held-set_cpu, held-set_lock, kicked-set_cpu}
 use Rattle.lk_core.proofs.Seated.{kind-set_cpu, mode-set_cpu, node-set_cpu, queued-set_cpu}
-use Rattle.lk_core.proofs.Seated.{rw-set_cpu, sockets-set_cpu, threshold-set_cpu, turns-set_cpu}
+use Rattle.lk_core.proofs.Seated.{rw-set_cpu, format-set_cpu, sockets-set_cpu, threshold-set_cpu, turns-set_cpu}
 use Rattle.lk_core.proofs.Seated.{word-set_cpu}
 
 queued_changed : (m : Machine) (p : ℕ) (c : CpuState) → p < length m.cpus → (q : ℕ)
@@ -59,6 +59,7 @@ world-set_queued m p n lt =
       mode = mode-set_cpu m p c;
       turns = turns-set_cpu m p c;
       threshold = threshold-set_cpu m p c;
+      format = format-set_cpu m p c;
       sockets = sockets-set_cpu m p c;
       word = λ l. word-set_cpu m p c l;
       node = λ k. node-set_cpu m p c refl k;
@@ -104,6 +105,7 @@ world-set_halted m p b lt =
       mode = mode-set_cpu m p c;
       turns = turns-set_cpu m p c;
       threshold = threshold-set_cpu m p c;
+      format = format-set_cpu m p c;
       sockets = sockets-set_cpu m p c;
       word = λ l. word-set_cpu m p c l;
       node = λ k. node-set_cpu m p c refl k;
@@ -149,6 +151,7 @@ world-set_kicked m p b lt =
       mode = mode-set_cpu m p c;
       turns = turns-set_cpu m p c;
       threshold = threshold-set_cpu m p c;
+      format = format-set_cpu m p c;
       sockets = sockets-set_cpu m p c;
       word = λ l. word-set_cpu m p c l;
       node = λ k. node-set_cpu m p c refl k;
@@ -214,6 +217,7 @@ world-hashing m l x es entries =
       mode = refl;
       turns = refl;
       threshold = refl;
+      format = refl;
       sockets = refl;
       word = λ k. word-hashing m es k;
       node = λ n. node-hashing m es n;
@@ -315,6 +319,7 @@ world-set_node m n x has four =
       mode = mode-set_cpu m n.cpu c;
       turns = turns-set_cpu m n.cpu c;
       threshold = threshold-set_cpu m n.cpu c;
+      format = format-set_cpu m n.cpu c;
       sockets = sockets-set_cpu m n.cpu c;
       word = λ l. word-set_cpu m n.cpu c l;
       node = λ k. node_changed m n c x has.cpu (omega (arith, four, has.index)) refl k;
@@ -395,6 +400,7 @@ world-set_word m l x lt =
       mode = ap (λ (s : Setup). s.mode) (setup-set_word m l x);
       turns = ap (λ (s : Setup). s.spins) (setup-set_word m l x);
       threshold = ap (λ (s : Setup). s.threshold) (setup-set_word m l x);
+      format = ap (λ (s : Setup). s.format) (setup-set_word m l x);
       sockets = ap (λ (s : Setup). s.topology.sockets.items) (setup-set_word m l x);
       word = λ k. word_set_word m l x lt k;
       node = λ n. node-set_word m l x n;
@@ -458,6 +464,7 @@ world-set_counts m x =
       mode = ap (λ (s : Setup). s.mode) (setup-set_counts m x);
       turns = ap (λ (s : Setup). s.spins) (setup-set_counts m x);
       threshold = ap (λ (s : Setup). s.threshold) (setup-set_counts m x);
+      format = ap (λ (s : Setup). s.format) (setup-set_counts m x);
       sockets = ap (λ (s : Setup). s.topology.sockets.items) (setup-set_counts m x);
       word = λ k. word-set_counts m x k;
       node = λ n. node-set_counts m x n;

@@ -19,6 +19,7 @@ pub mod MoveAllowed
 pub mod Front
 pub mod Laws
 pub mod Named
+pub mod Seen
 pub mod RowsKeep
 pub mod StoreRowsKeep
 pub mod Allowed

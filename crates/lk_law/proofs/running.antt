@@ -5,3 +5,4 @@ pub mod SharedHolds
 pub mod Leads
 pub mod Calm
 pub mod Tells
+pub mod Links

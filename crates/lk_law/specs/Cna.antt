@@ -69,7 +69,7 @@ first_node own (w ∷ ws) = Some (own w)
 
 -- what the one that leads knows: its registers, and how the lists stand to them
 pub record FrontAgrees (phase : Waiter → Phase) (own : Waiter → NodeName) (node : NodeName → Node)
-    (local : Waiter → NodeName → Bool) (threshold : ℕ)
+    (local : Waiter → Waiter → Bool) (threshold : ℕ)
     (main second : List Waiter) (passes : List ℕ) (w : Waiter) (stage : Stage)
     (named : Option NodeName) : Type 0 where
   -- the first of second is named, or the first of those that are moved
@@ -109,13 +109,19 @@ pub record FrontAgrees (phase : Waiter → Phase) (own : Waiter → NodeName) (n
   pub run_next : (y : NodeName)
       → told_runs stage ≡ Some y
       → (node y).runs ≡ (if same_none named then 0 else ((node (own w)).runs + 1))
+  -- where it has chosen the next and moves nobody, the node that its own link names is that of a
+  -- waiter behind it
+  pub own_link : (n : NodeName)
+      → picks stage ≡ true
+      → (node (own w)).next ≡ Some n
+      → (i : ℕ) × (v : Waiter) × (slice_get main (suc i) ≡ Some v) × (phase v ≡ Waits) × (own v ≡ n)
   -- those passed over are the first behind w, and none is local
   pub some : (a b : NodeName) (k : ℕ) → passed_over stage ≡ Some (a, b, k) → (i : ℕ) × (k ≡ suc i)
   pub far : (a b : NodeName) (k i : ℕ)
       → passed_over stage ≡ Some (a, b, k)
       → i < k
       → (u : Waiter) × (slice_get main (suc i) ≡ Some u) × (phase u ≡ Waits)
-      × (local w (own u) ≡ false)
+      × (local w u ≡ false)
   pub near : (a b : NodeName) (k : ℕ) (u : Waiter)
       → passed_over stage ≡ Some (a, b, k)
       → slice_get main 1 ≡ Some u
@@ -132,7 +138,7 @@ pub record FrontAgrees (phase : Waiter → Phase) (own : Waiter → NodeName) (n
   pub kin : (a b : NodeName) (k j : ℕ) (y : NodeName)
       → passed_over stage ≡ Some (a, b, k)
       → chosen stage ≡ Some (j, y)
-      → local w y ≡ true
+      → (v : Waiter) × (slice_get main (suc j) ≡ Some v) × (local w v ≡ true)
   pub before : (a : NodeName)
       → before_of stage ≡ Some a
       → (v : Waiter) × (slice_get main 1 ≡ Some v) × (phase v ≡ Waits) × (own v ≡ a)
@@ -167,12 +173,16 @@ named_by _ f r = r
 
 -- the two queues of a lock, and the one that leads
 pub record CnaAgrees (tail : Option NodeName) (phase : Waiter → Phase) (own : Waiter → NodeName)
-    (node : NodeName → Node) (local : Waiter → NodeName → Bool) (threshold : ℕ)
+    (node : NodeName → Node) (local : Waiter → Waiter → Bool) (threshold : ℕ)
     (stage : Waiter → Stage) (kept : Waiter → Option NodeName) (main second : List Waiter)
     (passes : List ℕ) : Type 0 where
   pub queue : QueueAgrees tail (part second phase) own
       (shown (front_cut own stage (slice_get main 0)) node) main
   pub second_ok : SecondAgrees phase own node second (front_tip stage (slice_get main 0))
+  -- each waiter that stands aside is not local to some waiter, as to the front that moved it
+  pub moved : (i : ℕ) (u : Waiter)
+      → slice_get second i ≡ Some u
+      → (w : Waiter) × (local w u ≡ false)
   pub lead : (w : Waiter)
       → slice_get main 0 ≡ Some w
       → FrontAgrees phase own node local threshold main second passes w (stage w)
@@ -190,7 +200,7 @@ pub record FlatAgrees (tail : Option NodeName) (phase : Waiter → Phase) (own :
 
 -- the lists of a lock, by whether its family moves waiters aside
 pub record ListsAgree (aside : Bool) (tail : Option NodeName) (phase : Waiter → Phase)
-    (own : Waiter → NodeName) (node : NodeName → Node) (local : Waiter → NodeName → Bool)
+    (own : Waiter → NodeName) (node : NodeName → Node) (local : Waiter → Waiter → Bool)
     (threshold : ℕ)
     (stage : Waiter → Stage) (kept : Waiter → Option NodeName) (main second : List Waiter)
     (passes : List ℕ) : Type 0 where

@@ -3,6 +3,7 @@
 use Rattle.std.specs.Prelude.{◌≤◌, ℕ, Option, ◌≡◌, ◌≢◌, ◌<◌, Some, None, Bool, true, false}
 use Rattle.std.specs.Prelude.{slice_get, is_some}
 use Rattle.lk_abs.specs.History.{LockHistory}
+use Rattle.lk_abs.specs.declared.names.Format.TheVariants.{Two}
 use Rattle.lk_abs.specs.declared.names.Waiter.{Waiter}
 use Rattle.lk_abs.specs.declared.names.LockName.{LockName}
 use Rattle.lk_word.specs.declared.spin_word.NodeName.{NodeName}
@@ -147,6 +148,11 @@ abbrev pub SkippedIsQueued : Type 0
 SkippedIsQueued = (m : World) (hs : LockName → LockHistory) (w : Waiter) (f : Frame)
     → IsSoundSpinWorld m hs → m.frame w ≡ Some f → f.place ≡ Some C2
     → (u : Waiter) × (slice_get (hs f.lock).main f.k ≡ Some u)
+
+-- In the second format who stands aside is a task: no waiter in an interrupt is moved there.
+abbrev pub AsideAreTasks : Type 0
+AsideAreTasks = (m : World) (hs : LockName → LockHistory) (l : LockName) (i : ℕ) (u : Waiter)
+    → IsSoundSpinWorld m hs → m.format ≡ Two → slice_get (hs l).second i ≡ Some u → u.ctx ≡ 0
 
 -- In every sound world who stands in the main queue of a lock has a frame, and stands in it once.
 abbrev pub QueueIsDistinct : Type 0

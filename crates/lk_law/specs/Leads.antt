@@ -1,6 +1,6 @@
 -- What a row does, told by the value that it meets: so a running processor knows from the one word
 -- that it read where its frame goes on, and what its row has told.
-use Rattle.std.specs.Prelude.{◌==◌, ◌&&◌, ◌≡◌, ◌≢◌, ℕ, Option, Some, None, Bool, true, false, []}
+use Rattle.std.specs.Prelude.{◌&&◌, ◌≡◌, ◌≢◌, ℕ, Option, Some, None, Bool, true, false, []}
 use Rattle.std.specs.Prelude.{if◌then◌else◌}
 use Rattle.lk_abs.specs.Names.{same_lock, same_waiter}
 use Rattle.lk_abs.specs.declared.holder.Manner.{Manner}
@@ -15,7 +15,7 @@ use Rattle.lk_machine.specs.declared.parts.State.{State}
 use Rattle.lk_machine.specs.declared.parts.Frame.{Frame}
 use Rattle.lk_machine.specs.declared.parts.Pc.{Pc}
 use Rattle.lk_machine.specs.declared.parts.Pc.TheVariants.{G1}
-use Rattle.lk_machine.specs.Moves.{node_of, rw_name}
+use Rattle.lk_machine.specs.Moves.{rw_name}
 use Rattle.lk_machine.specs.Row.{Lead, Goes, Enters, Tell, Nothing, Effect}
 use Rattle.lk_machine.specs.rows.Spin.{spin_row}
 use Rattle.lk_machine.specs.rows.Queue.{queue_row, entry_row, flag_row, next_row}
@@ -30,7 +30,7 @@ use Rattle.lk_machine.specs.TopRow.{PvNext, StateOf, HashEntry, Halted, KickOf, 
 use Rattle.lk_law.specs.Families.{may_halt, is_rw_row, is_ending_row}
 use Rattle.lk_law.specs.Premises.{IsThen}
 use Rattle.lk_law.specs.World.{World}
-use Rattle.lk_law.specs.Steps.{Made, put_frame, put_held, led, lead_on, way_led, way_told, sight_in}
+use Rattle.lk_law.specs.Steps.{put_frame, put_held, led, lead_on, way_led, way_told, sight_in}
 use Rattle.lk_law.specs.Steps.{row_in_at, stores_word, stores_rw, stores_flag, stores_next}
 use Rattle.lk_law.specs.Steps.{stores_second, stores_runs, stores_state, stores_entry}
 use Rattle.lk_law.specs.Steps.{stores_halted, stores_kicked, stores_queued}
@@ -47,6 +47,9 @@ pub data Met : Type 0 where
   Flagged : Flag → Met
   -- a node that is named, or none: by a link, as the last of a second queue, or in the hash
   Named : Option NodeName → Met
+  -- a link with its mark, by which a running processor knows whether the call that uses the named
+  -- node is in a context above 0
+  Linked : Option NodeName → Bool → Met
   -- the state of a node
   Stated : State → Met
   -- a mark of a processor: that it has halted, or that a kick of it is remembered
@@ -192,6 +195,7 @@ pub record RowDone (m n : World) (w : Waiter) (f : Frame) (c : Pc) (t : Target) 
   pub mode : n.mode ≡ m.mode
   pub turns : n.turns ≡ m.turns
   pub threshold : n.threshold ≡ m.threshold
+  pub format : n.format ≡ m.format
   pub sockets : n.sockets ≡ m.sockets
   pub kind : n.kind ≡ m.kind
   pub frame : (u : Waiter)
@@ -204,6 +208,9 @@ pub record RowDone (m n : World) (w : Waiter) (f : Frame) (c : Pc) (t : Target) 
   pub rw : n.rw ≡ (stored_in m w f c t).rw
   pub node : enters o.leads ≡ false → n.node ≡ (stored_in m w f c t).node
   pub queued : (q : ℕ) → q ≢ w.cpu → n.queued q ≡ m.queued q
+  pub entry : n.entry ≡ (stored_in m w f c t).entry
+  pub halted : n.halted ≡ (stored_in m w f c t).halted
+  pub kicked : n.kicked ≡ (stored_in m w f c t).kicked
 
 -- Every row is done so.
 abbrev pub RowIsDone : Type 0
@@ -226,8 +233,8 @@ RowIsCalm = (m : World) (w : Waiter) (f : Frame) (c : Pc) → IsPlainRow c
     → (f.lock.wait ≡ true → IsThen f.then)
     → is_release (led f (course_in m w f c (target c f)).leads).place ≡ false
 
--- But for the entry no such row gives a node.
+-- But for the entry no row of a spinlock gives a node.
 abbrev pub NodeComesAtEntry : Type 0
-NodeComesAtEntry = (m : World) (w : Waiter) (f : Frame) (c : Pc) → IsPlainRow c
+NodeComesAtEntry = (m : World) (w : Waiter) (f : Frame) (c : Pc) → is_rw_row c ≡ false
     → (f.lock.wait ≡ true → IsThen f.then) → c ≢ G1
     → enters (course_in m w f c (target c f)).leads ≡ false

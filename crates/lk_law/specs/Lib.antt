@@ -21,6 +21,7 @@ pub mod SoundWorld
 pub mod RwKnown
 pub mod Sound
 pub mod Kicked
+pub mod Halting
 pub mod MachineLaws
 pub mod WorldLaws
 pub mod Leads

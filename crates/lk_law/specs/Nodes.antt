@@ -1,6 +1,6 @@
--- What a running processor may store into nodes, and which nodes its rows name: in every sound
--- world of a family that halts no processor.
-use Rattle.std.specs.Prelude.{◌≡◌, ◌≢◌, ◌≤◌, ℕ, Bool, Some, None, true, false}
+-- What a running processor may store into nodes, and which nodes its rows name, in every sound
+-- world.
+use Rattle.std.specs.Prelude.{◌≡◌, ◌≢◌, ℕ, Bool, Some, true, false, Option}
 use Rattle.lk_abs.specs.History.{LockHistory}
 use Rattle.lk_abs.specs.declared.names.Waiter.{Waiter}
 use Rattle.lk_abs.specs.declared.names.LockName.{LockName}
@@ -9,13 +9,15 @@ use Rattle.lk_machine.specs.declared.parts.Flag.TheVariants.{Unset, Second}
 use Rattle.lk_machine.specs.declared.parts.Node.{Node}
 use Rattle.lk_machine.specs.declared.parts.Frame.{Frame}
 use Rattle.lk_machine.specs.declared.parts.Pc.{Pc}
-use Rattle.lk_machine.specs.declared.parts.Pc.TheVariants.{G5, G6, G10, C1, C2, C3, C7, C8}
+use Rattle.lk_machine.specs.declared.parts.Pc.TheVariants.{G5, G6, G10, C1, C2, C3, C4, C7, C8, C9}
+use Rattle.lk_machine.specs.declared.parts.Why.{Why}
+use Rattle.lk_machine.specs.declared.parts.Why.TheVariants as why
 use Rattle.lk_machine.specs.Moves.{node_of}
 use Rattle.lk_law.specs.Agree.{halts}
 use Rattle.lk_law.specs.Cna.{moves_aside}
-use Rattle.lk_law.specs.Families.{chooses, may_halt}
+use Rattle.lk_law.specs.Families.{chooses}
 use Rattle.lk_law.specs.Known.{IsOwnNode, choice_node}
-use Rattle.lk_law.specs.Premises.{Uses, GoesTo}
+use Rattle.lk_law.specs.Premises.{IsShallow, Uses, GoesTo}
 use Rattle.lk_law.specs.SoundWorld.{IsSoundWorld}
 use Rattle.lk_law.specs.SpinWorld.{IsSoundSpinWorld}
 use Rattle.lk_law.specs.Steps.{put_node, row_in}
@@ -32,12 +34,8 @@ IsPlainNode m x = moves_aside m.mode ≡ false → (k : NodeName) → x.flag ≢
 -- What is stored into a node that nobody uses keeps every sound world.
 abbrev pub FreeNodeKeeps : Type 0
 FreeNodeKeeps = (m : World) (hs : LockName → LockHistory) (n : NodeName) (x : Node)
-    → IsSoundWorld m hs → halts m.mode ≡ false → IsFree m n → IsPlainNode m x
+    → IsSoundWorld m hs → IsFree m n → IsPlainNode m x
     → IsSoundWorld (put_node m n x) hs
-
--- no context of the processor is above the sixth
-abbrev pub IsShallow : World → ℕ → Type 0
-IsShallow m p = (c : ℕ) → 6 ≤ c → m.frame (record { cpu = p; ctx = c }) ≡ None
 
 -- The node that the next frame of a processor gets is used by nobody.
 abbrev pub FreshIsFree : Type 0
@@ -59,7 +57,7 @@ LinkIsUsed = (m : World) (hs : LockName → LockHistory) (w : Waiter) (f : Frame
 -- Where a row hands the lead on, some waiter uses the node that it names.
 abbrev pub LeadGoesOn : Type 0
 LeadGoesOn = (m : World) (hs : LockName → LockHistory) (w : Waiter) (f : Frame) (c : Pc)
-    → IsSoundSpinWorld m hs → m.frame w ≡ Some f → f.place ≡ Some c → may_halt c ≡ false
+    → IsSoundSpinWorld m hs → m.frame w ≡ Some f → f.place ≡ Some c
     → (to : Waiter) × GoesTo m to (row_in m w f c).1
 
 -- A front finds the last of the second queue in the node of its first, and it is used.
@@ -102,3 +100,25 @@ ChosenWaits = (m : World) (hs : LockName → LockHistory) (w : Waiter) (f : Fram
     → ((m.node (node_of f.y)).flag ≡ Unset)
     × ((u : Waiter) (g : Frame) (d : Pc) → Uses m u (node_of f.y) → m.frame u ≡ Some g
     → g.place ≡ Some d → chooses d ≡ false)
+
+-- Where no processor halts, the node that the link of a used node names is used.
+abbrev pub LinkedIsUsed : Type 0
+LinkedIsUsed = (m : World) (hs : LockName → LockHistory) (u : Waiter) (a n : NodeName)
+    → IsSoundSpinWorld m hs → halts m.mode ≡ false → Uses m u a → (m.node a).next ≡ Some n
+    → (w : Waiter) × Uses m w n × IsOwnNode w n
+
+-- whether a front that stands at this place, for this reason, will link others behind the second
+-- queue: those that it passed over, or the rest of the queue
+abbrev pub will_link : Pc → Why → Bool
+will_link C2 y = true
+will_link C3 why.Append = true
+will_link C3 why.Flush = true
+will_link C4 y = true
+will_link C9 y = true
+will_link c y = false
+
+-- The first of those that it will link is used.
+abbrev pub PassedIsUsed : Type 0
+PassedIsUsed = (m : World) (hs : LockName → LockHistory) (w : Waiter) (f : Frame) (c : Pc)
+    → IsSoundSpinWorld m hs → m.frame w ≡ Some f → f.place ≡ Some c → will_link c f.why ≡ true
+    → (u : Waiter) × Uses m u (node_of f.a) × IsOwnNode u (node_of f.a)

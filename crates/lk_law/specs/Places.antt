@@ -2,6 +2,7 @@
 -- snapshot of a world.
 use Rattle.std.specs.Prelude.{◌==◌, Option, Some, None, Bool, false, is_some, if◌then◌else◌}
 use Rattle.lk_abs.specs.Names.{same_lock}
+use Rattle.lk_abs.specs.Lawful.{is_local}
 use Rattle.lk_abs.specs.declared.holder.Manner.TheVariants.{Spins}
 use Rattle.lk_abs.specs.declared.names.LockName.{LockName}
 use Rattle.lk_word.specs.declared.spin_word.NodeName.{NodeName}
@@ -16,7 +17,6 @@ use Rattle.lk_machine.specs.declared.parts.Pc.TheVariants.{E8, E9, E10, E11, E12
 use Rattle.lk_machine.specs.declared.parts.Pc.TheVariants.{K2, K3, U2, U3, U4, U5}
 use Rattle.lk_machine.specs.declared.parts.Why.{Why}
 use Rattle.lk_machine.specs.Moves.{node_of}
-use Rattle.lk_machine.specs.rows.Cna.{same_socket}
 use Rattle.lk_law.specs.Phase.{Phase}
 use Rattle.lk_law.specs.Phase.Phase.{Idle, Seeks, Releases, Undoes, Watches, Claims, Prepared}
 use Rattle.lk_law.specs.Phase.Phase.{Links, Waits, Leads, Stakes, Holds, Hands, Presses, Tends}
@@ -222,7 +222,7 @@ snapshot m =
     record {
       mode = m.mode;
       threshold = m.threshold;
-      local = λ u n. same_socket m.sockets u.cpu n.cpu;
+      local = λ w u. is_local m.format m.sockets w.cpu u;
       word = m.word;
       phase = λ l u. phase_on l (m.frame u);
       own = λ u. own_in (m.frame u);

@@ -1,6 +1,6 @@
 -- What the laws of rows suppose of the acting frame and its world, and what an end of a halt and an
 -- interrupt make of a world.
-use Rattle.std.specs.Prelude.{◌≡◌, ◌⊎◌, ◌<◌, ℕ, Option, Some, None, true, false, ◌+◌, if◌then◌else◌}
+use Rattle.std.specs.Prelude.{◌≡◌, ◌⊎◌, ◌<◌, ◌≤◌, ℕ, Option, Some, None, true, false, ◌+◌, if◌then◌else◌}
 use Rattle.lk_abs.specs.Lawful.{Rules}
 use Rattle.lk_abs.specs.declared.names.Waiter.{Waiter}
 use Rattle.lk_word.specs.declared.spin_word.NodeName.{NodeName}
@@ -16,10 +16,15 @@ use Rattle.lk_law.specs.World.{World}
 use Rattle.lk_law.specs.Steps.{put_frame, put_halted}
 use Rattle.lk_law.specs.Places.{post_of}
 
--- w is the newest frame of its processor, and one of six
+-- no context of the processor is above the sixth
+abbrev pub IsShallow : World → ℕ → Type 0
+IsShallow m p = (c : ℕ) → 6 ≤ c → m.frame (record { cpu = p; ctx = c }) ≡ None
+
+-- w is the newest frame of its processor, and one of six; nor has another processor more than six
 pub record IsNewest (m : World) (w : Waiter) : Type 0 where
   pub above : (c : ℕ) → w.ctx < c → m.frame (record { cpu = w.cpu; ctx = c }) ≡ None
   pub low : w.ctx < 6
+  pub shallow : (p : ℕ) → IsShallow m p
 
 -- the frame of this waiter has the node as its own
 abbrev pub Uses : World → Waiter → NodeName → Type 0
@@ -32,6 +37,7 @@ GoesTo m to _ = Unit {0}
 
 -- the world follows these rules
 pub record FollowsRules (m : World) (rules : Rules) : Type 0 where
+  pub format : rules.format ≡ m.format
   pub mode : rules.mode ≡ m.mode
   pub sockets : rules.sockets ≡ m.sockets
   pub threshold : rules.threshold ≡ m.threshold

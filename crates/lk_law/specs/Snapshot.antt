@@ -24,9 +24,10 @@ use Rattle.lk_law.specs.Phase.Phase.{Releases, Links, Waits, Hands, Prepared}
 -- what the laws read of all locks, waiters and nodes at one moment
 pub record Snapshot : Type 0 where
   pub mode : Mode
-  -- how many handovers may pass a moved waiter by, and which nodes are of a waiter's own socket
+  -- how many handovers may pass a moved waiter by; and which waiters are local to another, which
+  -- never moves them aside
   pub threshold : ℕ
-  pub local : Waiter → NodeName → Bool
+  pub local : Waiter → Waiter → Bool
   pub word : LockName → Fields
   pub phase : LockName → Waiter → Phase
   -- the node of a waiter

@@ -77,6 +77,7 @@ held_of m u l = held_at m u l (frame_at m u)
 abbrev pub world : Machine → World
 world m =
     record {
+      format = m.setup.format;
       mode = m.setup.mode;
       turns = m.setup.spins;
       threshold = m.setup.threshold;

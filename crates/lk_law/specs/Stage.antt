@@ -3,7 +3,7 @@
 use Rattle.std.specs.Prelude.{ℕ, Option, Some, None, Bool, true, false}
 use Rattle.lk_word.specs.declared.spin_word.NodeName.{NodeName}
 
--- how far a waiter that leads the queue has come with its search for the next of its socket
+-- how far a waiter that leads the queue has come with its search for a local next
 pub data Stage : Type 0 where
   -- no search is on
   Rests : Stage

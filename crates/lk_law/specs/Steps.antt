@@ -1,7 +1,9 @@
 -- A row on a world, outright: which word, node, frame and hold there are afterwards, and what it
 -- tells.
-use Rattle.std.specs.Prelude.{◌-◌, ◌==◌, ◌&&◌, ℕ, Option, Some, None, Bool, if◌then◌else◌}
+use Rattle.std.specs.Prelude.{◌-◌, ◌==◌, ◌&&◌, ℕ, Option, Some, None, Bool, false, if◌then◌else◌}
+use Rattle.std.proofs.Common.{zero, suc}
 use Rattle.lk_abs.specs.Names.{same_lock, same_waiter}
+use Rattle.lk_abs.specs.Lawful.{is_local}
 use Rattle.lk_abs.specs.History.{LockHistory, told}
 use Rattle.lk_abs.specs.declared.holder.Manner.{Manner}
 use Rattle.lk_abs.specs.declared.holder.Manner.TheVariants.{Spins, Reads, Writes}
@@ -18,12 +20,12 @@ use Rattle.lk_machine.specs.declared.parts.Node.{Node}
 use Rattle.lk_machine.specs.declared.parts.Frame.{Frame}
 use Rattle.lk_machine.specs.declared.parts.Pc.{Pc}
 use Rattle.lk_machine.specs.Machine.{rest_node}
-use Rattle.lk_machine.specs.Moves.{node_of, rw_name, waiting}
+use Rattle.lk_machine.specs.Moves.{is_node, node_of, rw_name, waiting}
 use Rattle.lk_machine.specs.Row.{Lead, Goes, Enters, Granted, Freed, Missed, Leaves, Yields, Tell}
 use Rattle.lk_machine.specs.Row.{Nothing, Says, Passes, gone, entered, Effect, Done, TakesWait}
 use Rattle.lk_machine.specs.rows.Spin.{spin_row}
 use Rattle.lk_machine.specs.rows.Queue.{queue_row, entry_row, flag_row, next_row}
-use Rattle.lk_machine.specs.rows.Cna.{Sight, same_socket, search_row, second_row, runs_row}
+use Rattle.lk_machine.specs.rows.Cna.{Sight, search_row, second_row, runs_row}
 use Rattle.lk_machine.specs.rows.Cna.{handover_row, promotion_row}
 use Rattle.lk_machine.specs.TopRow.{Target, SpinWord, QueueWord, Queued, FlagOf, NextOf, ChoiceWord}
 use Rattle.lk_machine.specs.TopRow.{ChoiceFlag, ChoiceNext, SecondTailOf, RunsOf, PvWord, PvFlag}
@@ -188,13 +190,33 @@ stores_queued m p (Some i) = put_queued m p i
 abbrev pub Made : Type 0
 Made = World × Tell
 
--- what a front reads besides the field of its row
+-- the frame, if there is one, has the node as its own
+abbrev pub has_own : NodeName → Option Frame → Bool
+has_own n None = false
+has_own n (Some f) = is_node f.me n
+
+-- the first of so many contexts, from this one on, whose frame has the node; 0 where none has
+abbrev pub first_user : (ℕ → Option Frame) → NodeName → ℕ → ℕ → ℕ
+first_user frames n c zero = 0
+first_user frames n c (suc count) =
+    if has_own n (frames c) then c else first_user frames n (suc c) count
+
+-- the waiter whose frame has the node as its own, of the six that its processor can have; of a node
+-- that nobody uses, the task
+abbrev pub waiter_in : World → NodeName → Waiter
+waiter_in m n =
+    record {
+      cpu = n.cpu;
+      ctx = first_user (λ c. m.frame (record { cpu = n.cpu; ctx = c })) n 0 6;
+    }
+
+-- what a front reads besides the field of its row: a node is local where its waiter is
 abbrev pub sight_in : World → Waiter → Frame → Sight
 sight_in m w f =
     record {
       runs = (m.node (node_of f.me)).runs;
       threshold = m.threshold;
-      local = λ n. same_socket m.sockets w.cpu n.cpu;
+      local = λ n. is_local m.format m.sockets w.cpu (waiter_in m n);
     }
 
 -- the row at c of the frame f of w, by what it operates on

@@ -2,6 +2,7 @@
 -- and so are the words and seats of running threads. Here is what a row does to a world, outright:
 -- the word, the node, the frame and the hold after it.
 use Rattle.std.specs.Prelude.{ℕ, Option, Bool, List}
+use Rattle.lk_abs.specs.declared.names.Format.{Format}
 use Rattle.lk_abs.specs.declared.names.Kind.{Kind}
 use Rattle.lk_abs.specs.declared.holder.Manner.{Manner}
 use Rattle.lk_abs.specs.declared.names.Mode.{Mode}
@@ -15,6 +16,7 @@ use Rattle.lk_machine.specs.declared.parts.Frame.{Frame}
 
 -- all that a machine has, as functions of names
 pub record World : Type 0 where
+  pub format : Format
   pub mode : Mode
   -- how many turns a paravirtual waiter spins
   pub turns : ℕ

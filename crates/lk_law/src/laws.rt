@@ -7,7 +7,7 @@ ghost use Rattle.lk_machine.specs.declared.parts.Pc.TheVariants.{G6, G7, G8, G9,
 ghost use Rattle.lk_machine.specs.declared.parts.Pc.TheVariants.{C1, C2, C3, C4, C5, C6, C7, C8};
 ghost use Rattle.lk_machine.specs.declared.parts.Pc.TheVariants.{C9, C10, R1, R5, Wr1, Wr6, Z1, Z2};
 ghost use Rattle.lk_law.specs.Known.{RowKnows, TailIsUsed, NextIsUsed, NodeIsOnes, ChoiceIsUsed};
-ghost use Rattle.lk_law.specs.Known.{PassesAreBounded, RunIsShort, SkippedIsQueued};
+ghost use Rattle.lk_law.specs.Known.{PassesAreBounded, RunIsShort, SkippedIsQueued, AsideAreTasks};
 ghost use Rattle.lk_law.specs.Known.{QueueIsDistinct, HaltingNextIsUsed, NamedFrontIsUsed};
 ghost use Rattle.lk_law.specs.Known.{EntryIsUsed, NobodyHalts};
 ghost use Rattle.lk_law.specs.Walk.{MainIsTheWalk, MainIsTheShownWalk, SecondIsTheWalk};
@@ -77,10 +77,10 @@ pub fn queue_rows_keep()
 {}
 
 /// Each row in which a front of Dice and Kogan's lock chooses the next keeps every sound world in
-/// the same way: it looks for a waiter of its own socket, moves those that it passed over to the
+/// the same way: it looks for a waiter that is local to it, moves those that it passed over to the
 /// second queue, tells the next how many handovers were made, hands the lead on, and lets the
-/// second queue return. The handover moves only waiters of other sockets, and names the one behind
-/// them.
+/// second queue return. The handover moves only waiters that are not local, and names the one
+/// behind them.
 pub fn choice_rows_keep()
     ensures look { SpinRowKeeps C1 }
     ensures pass_over { SpinRowKeeps C2 }
@@ -99,6 +99,11 @@ pub fn choice_rows_keep()
 pub fn passes_are_bounded()
     ensures bounded { PassesAreBounded }
     ensures short { RunIsShort }
+{}
+
+/// In every sound world of the second format no waiter in an interrupt stands aside.
+pub fn aside_are_tasks()
+    ensures { AsideAreTasks }
 {}
 
 /// Each row of a reader or a writer keeps every sound world, whatever word it meets: readers come

@@ -5,9 +5,9 @@
 mod domains;
 mod laws;
 
-pub use domains::{holds_move, nodes_are_free, rest_is_sound, rows_are_led};
+pub use domains::{halts_are_kicked, holds_move, nodes_are_free, rest_is_sound, rows_are_led};
 pub use laws::{
-    choice_rows_keep, every_row_keeps, frames_keep, halts_end, kicks_are_shown,
+    aside_are_tasks, choice_rows_keep, every_row_keeps, frames_keep, halts_end, kicks_are_shown,
     main_is_the_shown_walk, main_is_the_walk, nodes_are_used, passes_are_bounded, queue_rows_keep,
     rows_know, rw_rows_keep, rw_rows_know, second_is_the_walk, spin_rows_keep,
 };

@@ -1,18 +1,17 @@
 -- The events of the choice are allowed on the histories before them; and no waiter that stands
 -- aside is passed by too often.
-use Rattle.std.proofs.Common.{◌≡◌, ◌<◌, ◌≤◌, ℕ, zero, suc, Some, Bool, true, false, List, [], ◌∷◌}
+use Rattle.std.proofs.Common.{◌≡◌, ◌<◌, ◌≤◌, ℕ, zero, suc, Some, Bool, true, List, [], ◌∷◌}
 use Rattle.std.proofs.Common.{arith, ap, refl, sym, ◌∙◌, subst, slice_get}
-use Rattle.std.specs.Prelude.{◌==◌, not}
+use Rattle.std.specs.Prelude.{not}
 use Rattle.lk_abs.specs.History.{LockHistory}
 use Rattle.lk_abs.specs.declared.holder.Manner.TheVariants.{Spins}
-use Rattle.lk_abs.specs.Lawful.{Rules, is_far, movable, lawful_moves}
+use Rattle.lk_abs.specs.Lawful.{Rules, is_far, is_local, movable, lawful_moves}
 use Rattle.lk_abs.specs.declared.names.Mode.{Mode}
 use Rattle.lk_abs.specs.declared.names.Mode.TheVariants.{Virt, Native, Cna, Pv}
 use Rattle.lk_abs.specs.declared.names.Waiter.{Waiter}
 use Rattle.lk_abs.specs.declared.names.LockName.{LockName}
 use Rattle.lk_abs.specs.declared.events.What.TheVariants.{Pass, Flush, Promote}
 use Rattle.lk_word.specs.declared.spin_word.NodeName.{NodeName}
-use Rattle.lk_machine.specs.rows.Cna.{same_socket}
 use Rattle.lk_law.specs.Phase.{has_node}
 use Rattle.lk_law.specs.Phase.Phase.{Holds, Waits}
 use Rattle.lk_law.specs.Stage.Stage.{Counts, Picked}
@@ -47,13 +46,11 @@ movable_least far (u ∷ v ∷ ws) (suc k) each =
 
 -- how many a handover may move in the family that moves waiters aside
 cna_moves : (rules : Rules) (w : Waiter) (ws : List Waiter) → rules.mode ≡ Cna
-    → lawful_moves rules (w ∷ ws) ≡ movable (λ u. is_far rules u.cpu w.cpu) ws
+    → lawful_moves rules (w ∷ ws) ≡ movable (is_far rules w) ws
 cna_moves rules w ws e = go rules.mode e
   where
     go : (mode : Mode) → mode ≡ Cna
-        → lawful_moves
-        (record { mode = mode; sockets = rules.sockets; threshold = rules.threshold }) (w ∷ ws)
-        ≡ movable (λ u. is_far rules u.cpu w.cpu) ws
+        → lawful_moves (record rules { mode = mode }) (w ∷ ws) ≡ movable (is_far rules w) ws
     go Cna e = refl
     go Virt e = cc e
     go Native e = cc e
@@ -64,9 +61,6 @@ aside_cna Cna e = refl
 aside_cna Virt e = cc e
 aside_cna Native e = cc e
 aside_cna Pv e = cc e
-
-not_same : (p q : ℕ) → (p == q) ≡ false → not (q == p) ≡ true
-not_same p q e = grind (arith, e)
 
 cons_of : (ws : List Waiter) (w : Waiter) → slice_get ws 0 ≡ Some w
     → (us : List Waiter) × (ws ≡ w ∷ us)
@@ -135,27 +129,23 @@ module _ (rules : Rules) {s : Snapshot} {hs : LockName → LockHistory} (ok : Sn
         let v = (front_lead (here ok aside) (front ok was) was is).next 0 y refl in
         allow_moves to 0 (omega arith) (next_at 0 v.0 v.1 v.2 v.3)
 
-    -- The lead goes behind those that were passed over, none of which is of the front's socket.
+    -- The lead goes behind those that were passed over, none of which is local to the front.
     pub allow_move : (a b : NodeName) (k : ℕ) → rules.mode ≡ s.mode
-        → ((u : Waiter) (n : NodeName) → s.local u n ≡ same_socket rules.sockets u.cpu n.cpu)
+        → ((u v : Waiter) → s.local u v ≡ is_local rules.format rules.sockets u.cpu v)
         → s.stage l w ≡ Counts a b k y → MayFollow rules hs (record { by = w; what = Pass l to k })
     allow_move a b k mode local is =
         let at = front ok was in
         let o = front_lead (here ok aside) at was is in
         let v = o.next k y refl in
         let c = cons_of (hs l).main w at in
-        let least : k ≤ movable (λ u. is_far rules u.cpu w.cpu) c.0 =
-        movable_least (λ u. is_far rules u.cpu w.cpu) c.0 k (λ i lt.
+        let least : k ≤ movable (is_far rules w) c.0 =
+        movable_least (is_far rules w) c.0 k (λ i lt.
         let f = o.far a b k i refl lt in
-        let z = get_below (hs l).main (suc (suc i)) (suc k) v.0 v.1 (omega (arith, lt)) in
-        let cpu : (s.own f.0).cpu ≡ f.0.cpu =
-        ap (λ (n : NodeName). n.cpu) (ok.nodes.placed l f.0 (ap has_node f.2)) in
-        let off : same_socket rules.sockets w.cpu f.0.cpu ≡ false =
-        ap (same_socket rules.sockets w.cpu) (sym cpu) ∙ sym (local w (s.own f.0)) ∙ f.3 in (
+        let z = get_below (hs l).main (suc (suc i)) (suc k) v.0 v.1 (omega (arith, lt)) in (
           f.0,
           z.0,
           ap (λ (us : List Waiter). slice_get us (suc i)) (sym c.1) ∙ f.1,
-          not_same _ _ off,
+          ap not (sym (local w f.0) ∙ f.3),
           ap (λ (us : List Waiter). slice_get us (suc (suc i))) (sym c.1)
               ∙ z.1,
         )) in

@@ -1,5 +1,5 @@
 -- The handover of the choice, and the return of the second queue, keep every sound world.
-use Rattle.std.proofs.Common.{◌≡◌, inl, inr, ℕ, Option, Some, None, Bool, true, false, List, []}
+use Rattle.std.proofs.Common.{◌≡◌, inl, inr, ℕ, Option, Some, None, Bool, true, false, []}
 use Rattle.std.proofs.Common.{◌∷◌, arith, ap, refl, sym, ◌∙◌, subst}
 use Rattle.std.specs.Prelude.{◌==◌, ◌&&◌, not}
 use Rattle.std.proofs.lemmas.Bool.{cases_Bool, eqb-true}
@@ -13,7 +13,8 @@ use Rattle.lk_machine.specs.declared.parts.Pc.TheVariants.{C1, C7, C8, C9, C10}
 use Rattle.lk_machine.specs.Moves.{is_node, node_of}
 use Rattle.lk_machine.specs.Row.{Tell, Says, Passes, Goes, Y, Second, looks}
 use Rattle.lk_machine.specs.Row.{Leaves}
-use Rattle.lk_machine.specs.rows.Cna.{flag_for, is_held, is_last, same_socket}
+use Rattle.lk_abs.specs.Lawful.{is_local}
+use Rattle.lk_machine.specs.rows.Cna.{flag_for, is_held, is_last}
 use Rattle.lk_law.specs.Phase.{seeks}
 use Rattle.lk_law.specs.Phase.Phase.{Holds}
 use Rattle.lk_law.specs.Stage.Stage.{Hangs, Counts, Picks, Picked}
@@ -108,11 +109,7 @@ module _ {a : Acting} (at : StandsAwake a C8) where
       (aside_here at refl) a.to uses.0.lock (used_noded at.sound a.to next uses) next
       (used_own at.sound a.to next uses)
       (node_of a.frame.a) (node_of a.frame.b) a.frame.k at.follows.mode
-      (λ u n. sockets_same at.follows.sockets u.cpu n.cpu) is)
-    where
-      sockets_same : {ss ts : List ℕ} → ss ≡ ts → (p q : ℕ)
-          → same_socket ts p q ≡ same_socket ss p q
-      sockets_same e p q = ap (λ (rs : List ℕ). same_socket rs p q) (sym e)
+      (λ u v i. is_local (sym at.follows.format i) (sym at.follows.sockets i) u.cpu v) is)
 
 pub choice_hand_on_keeps : SpinRowKeeps C8
 choice_hand_on_keeps =

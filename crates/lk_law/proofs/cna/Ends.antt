@@ -30,7 +30,7 @@ no-passes [] ws e h = refl
 no-passes (p ∷ ps) ws e h = let f = ap length h in absurd (omega arith)
 
 module _ {tail : Option NodeName} {phase : Waiter → Phase} {own : Waiter → NodeName}
-    {node : NodeName → Node} {local : Waiter → NodeName → Bool} {threshold : ℕ}
+    {node : NodeName → Node} {local : Waiter → Waiter → Bool} {threshold : ℕ}
     {stage : Waiter → Stage} {kept : Waiter → Option NodeName} {main second : List Waiter}
     {passes : List ℕ} {x : Waiter}
     (ok : CnaAgrees tail phase own node local threshold stage kept main second passes) where
@@ -50,6 +50,7 @@ module _ {tail : Option NodeName} {phase : Waiter → Phase} {own : Waiter → N
           run_none = λ p q. run;
           run_short = λ c d j p. cc p;
           run_picks = λ n p. cc p;
+          own_link = λ n p. cc p;
           run_next = λ z p. cc p;
           some = λ c d j p. cc p;
           far = λ c d j i p. cc p;
@@ -98,6 +99,7 @@ module _ {tail : Option NodeName} {phase : Waiter → Phase} {own : Waiter → N
                 linked = λ i u v h. cc h;
                 last = λ i u h. cc h;
               });
+          moved = ok.moved;
           lead = λ u h.
               let same : x ≡ u = cc (at, h) in
               let P : Waiter → Type 0 =
@@ -148,6 +150,7 @@ module _ {tail : Option NodeName} {phase : Waiter → Phase} {own : Waiter → N
                   linked = λ i u v h. cc h;
                   last = λ i u h. cc h;
                 });
+            moved = ok.moved;
             lead = λ u h. absurd (cc (gone, h));
             lengths = ok.lengths;
             empty = λ h. se;

@@ -1,4 +1,4 @@
-use Rattle.std.proofs.Common.{◌≡◌, ◌≢◌, ℕ, zero, suc, Option, Some, None, Bool, List, [], ◌∷◌}
+use Rattle.std.proofs.Common.{false, ◌≡◌, ◌≢◌, ℕ, zero, suc, Option, Some, None, Bool, List, [], ◌∷◌}
 use Rattle.std.proofs.Common.{◌++◌, length, ◌⊎◌, inl, inr, arith, ap, refl, sym, ◌∙◌, subst, ◌<◌}
 use Rattle.std.proofs.Common.{◌≤◌, ◌+◌, slice_get, drop, take, replicate, length-append}
 use Rattle.std.specs.Prelude.{map, if◌then◌else◌}
@@ -78,7 +78,7 @@ length-skips k (w ∷ main) v h = go k main h
 
 -- row C8, with the nodes and lists of one lock
 module _ {tail : Option NodeName} {phase phase' : Waiter → Phase} {own own' : Waiter → NodeName}
-    {node node' : NodeName → Node} {local : Waiter → NodeName → Bool} {threshold : ℕ}
+    {node node' : NodeName → Node} {local : Waiter → Waiter → Bool} {threshold : ℕ}
     {stage stage' : Waiter → Stage} {kept : Waiter → Option NodeName}
     {main second : List Waiter} {passes : List ℕ} {w v : Waiter} {k : ℕ} {y : NodeName} {x : Node}
     (ok : CnaAgrees tail phase own node local threshold stage kept main second passes)
@@ -327,6 +327,7 @@ module _ {tail : Option NodeName} {phase phase' : Waiter → Phase} {own own' : 
           run_none = λ p q. rw hand-v (hand-run_none (hand-first ∙ ap (first_node own) p));
           run_short = λ a c j p. cc p;
           run_picks = λ n p. cc p;
+          own_link = λ n p. cc p;
           run_next = λ z p. cc p;
           some = λ a c j p. cc p;
           far = λ a c j i p. cc p;
@@ -346,16 +347,22 @@ module _ {tail : Option NodeName} {phase phase' : Waiter → Phase} {own own' : 
           bounded = λ i n h. rw hand-v ((hand-pass i n h).0);
         }
 
-    pub c8_all : (kept' : Waiter → Option NodeName)
+    pub c8_all : ((i : ℕ) (u : Waiter) → i < k → slice_get main (suc i) ≡ Some u
+        → (z : Waiter) × (local z u ≡ false))
+        → (kept' : Waiter → Option NodeName)
         → CnaAgrees tail phase' own' node' local threshold stage' kept' (drop (suc k) main)
         (second ++ take k (drop 1 main)) (map (λ n. suc n) (passes ++ replicate k 0))
-    c8_all kept' =
+    c8_all skipped kept' =
         record {
           queue = let e : front_cut own' stage' (slice_get (drop (suc k) main) 0) ≡ None =
               rw hand-at (rw hand-rests refl) in
               rw e (c8_queue second hand-queue step to knows.last);
           second_ok = let e : front_tip stage' (slice_get (drop (suc k) main) 0) ≡ None =
               rw hand-at (rw hand-rests refl) in rw e joined;
+          moved = λ i u h. elim (get-join second (take k (drop 1 main)) i u h) [
+            | inl a ↦ ok.moved i u a
+            | inr p ↦ let s = get-skip k main p.0 u p.2 in skipped p.0 u s.0 s.1
+          ];
           lead = λ u h.
               let same : v ≡ u = grind (arith, hand-at, h) in
               let P : Waiter → Type 0 =

@@ -1,6 +1,6 @@
 use Rattle.std.proofs.Common.{◌≡◌, ◌≢◌, ℕ, suc, Option, Some, None, Bool, true, List, []}
 use Rattle.std.proofs.Common.{◌∷◌, ◌++◌, inl, inr, arith, ap, refl, sym, ◌∙◌, subst, slice_get}
-use Rattle.std.proofs.Common.{drop, take}
+use Rattle.std.proofs.Common.{drop, take, length, ◌+◌}
 use Rattle.lk_abs.specs.declared.names.Waiter.{Waiter}
 use Rattle.lk_word.specs.declared.spin_word.NodeName.{NodeName}
 use Rattle.lk_machine.specs.declared.parts.Node.{Node}
@@ -13,8 +13,8 @@ use Rattle.lk_law.specs.Cna.{CnaAgrees, FrontAgrees, SecondAgrees, part, shown, 
 use Rattle.lk_law.specs.Cna.{front_tip, named_by, first_node}
 use Rattle.lk_law.specs.Stage.Stage.{Picks}
 use Rattle.lk_law.proofs.common.Cases.{node_cases}
-use Rattle.lk_law.proofs.common.Lists.{last_cases}
-use Rattle.lk_law.proofs.cna.Joined.{get-join_left, nonempty}
+use Rattle.lk_law.proofs.common.Lists.{last_cases, get-drop_one}
+use Rattle.lk_law.proofs.cna.Joined.{get-join_left, get-join_right, nonempty}
 use Rattle.lk_law.proofs.cna.Parts.{part_cases, part_in, part_out, not_in, outside_part, shown_at}
 use Rattle.lk_law.proofs.cna.Parts.{shown_else}
 use Rattle.lk_law.proofs.queue.Insert.{queue_insert, insert-lists, PutsBack}
@@ -22,7 +22,7 @@ use Rattle.lk_law.proofs.cna.Steps.{LetsReturn, JoinsAt}
 
 -- rows C9 and C10: second is put right behind the one that leads
 module _ {tail tail' : Option NodeName} {phase : Waiter → Phase} {own : Waiter → NodeName}
-    {node node' : NodeName → Node} {local : Waiter → NodeName → Bool} {threshold : ℕ}
+    {node node' : NodeName → Node} {local : Waiter → Waiter → Bool} {threshold : ℕ}
     {stage stage' : Waiter → Stage} {kept kept' : Waiter → Option NodeName}
     {main second : List Waiter} {passes : List ℕ} {w : Waiter} {y t : NodeName} {x : Node}
     (ok : CnaAgrees tail phase own node local threshold stage kept main second passes)
@@ -223,6 +223,27 @@ module _ {tail tail' : Option NodeName} {phase : Waiter → Phase} {own : Waiter
         run_none = λ p q. cc q;
         run_short = λ a c j p. cc p;
         run_picks = λ n p q. cc q;
+        own_link = λ n p e.
+            let z = join-second.waits join-z.0 join-z.1 join-z.2 in
+            let nz : w ≢ join-z.1 = (λ e. cc (ap phase e, z.0, step.holds)) in
+            let here : (node (own w)).next ≡ Some n =
+            ap (λ (x : Node). x.next) (sym (join-other w (rw step.holds refl) nz)) ∙ e in
+            elim at.way [
+              | inl v ↦
+                  let out = part_out second phase v.0 (join-queue.members.inside 1 v.0 v.1) in
+                  let is : Some n ≡ Some (own v.0) =
+                  sym here ∙ join-queue.links.linked 0 w v.0 step.front v.1 (out.0 ∙ v.2) in
+                  let q : n ≡ own v.0 = cc is in (
+                    length second + 0,
+                    v.0,
+                    get-join_right second (drop 1 main) 0 ∙ (get-drop_one main 0 ∙ v.1),
+                    v.2,
+                    sym q,
+                  )
+              | inr none ↦
+                  let is : None ≡ Some n =
+                  sym (join-queue.links.last 0 w step.front none.0) ∙ here in absurd (cc is)
+            ];
         run_next = λ z p. cc p;
         some = λ a c j p. cc p;
         far = λ a c j i p. cc p;
@@ -262,6 +283,7 @@ module _ {tail tail' : Option NodeName} {phase : Waiter → Phase} {own : Waiter
           linked = λ i u v h. cc h;
           last = λ i u h. cc h;
         };
+        moved = λ i u h. cc h;
         lead = λ u h.
             let same : w ≡ u = grind (arith, h) in
             let P : Waiter → Type 0 =

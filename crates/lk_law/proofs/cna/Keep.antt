@@ -14,7 +14,7 @@ use Rattle.lk_law.proofs.cna.Steps.{OthersAct}
 
 -- the last of those passed over
 pub parted-at : {phase : Waiter → Phase} {own : Waiter → NodeName} {node : NodeName → Node}
-    {local : Waiter → NodeName → Bool} {threshold : ℕ} {main second : List Waiter}
+    {local : Waiter → Waiter → Bool} {threshold : ℕ} {main second : List Waiter}
     {passes : List ℕ} {w : Waiter} {g : Stage} {named : Option NodeName}
     → FrontAgrees phase own node local threshold main second passes w g named
     → (b : NodeName)
@@ -40,7 +40,7 @@ parted-at {phase = phase} {own = own} {main = main} {g = g} o b e =
 
 -- what the one that leads knows stays true while others act
 module _ {phase phase' : Waiter → Phase} {own own' : Waiter → NodeName}
-    {node node' : NodeName → Node} {local : Waiter → NodeName → Bool} {threshold : ℕ}
+    {node node' : NodeName → Node} {local : Waiter → Waiter → Bool} {threshold : ℕ}
     {main main' second : List Waiter} {passes : List ℕ} {w : Waiter} {g : Stage}
     {named tip : Option NodeName}
     (o : FrontAgrees phase own node local threshold main second passes w g named)
@@ -130,6 +130,10 @@ module _ {phase phase' : Waiter → Phase} {own own' : Waiter → NodeName}
         run_none = λ p q. keep-runs ∙ o.run_none p q;
         run_short = λ c d j p. rw keep-runs (o.run_short c d j p);
         run_picks = λ n p q. rw keep-runs (o.run_picks n p q);
+        own_link = λ n p e.
+            let v = o.own_link n p (sym (act.links p) ∙ (ap (λ m. (node' m).next) (sym act.own_w) ∙ e)) in
+            let q = act.waits v.1 v.3 (act.not_behind v.0 v.1 v.2) in
+            (v.0, v.1, act.grows (suc v.0) v.1 v.2, q.0, q.1 ∙ v.4);
         run_next = λ y p. let f = keep-y y p in
             ap (λ m. (node' m).runs) (sym f.2) ∙ (act.fields f.0 (rw f.1 refl)).0
             ∙ ap (λ m. (node m).runs) f.2 ∙ o.run_next y p
@@ -137,7 +141,7 @@ module _ {phase phase' : Waiter → Phase} {own own' : Waiter → NodeName}
         some = o.some;
         far = λ a b k i p lt. let f = o.far a b k i p lt in
             let q = act.waits f.0 f.2 (act.not_behind i f.0 f.1) in
-            (f.0, act.grows (suc i) f.0 f.1, q.0, rw q.1 f.3);
+            (f.0, act.grows (suc i) f.0 f.1, q.0, f.3);
         near = λ a b k u p h. let s = o.some a b k p in let s1 = s.1 in
             let f = o.far a b k 0 p (omega arith) in
             let q = act.waits f.0 f.2 (act.not_behind 0 f.0 f.1) in
@@ -155,7 +159,8 @@ module _ {phase phase' : Waiter → Phase} {own own' : Waiter → NodeName}
         next = λ k y p.
             let v = o.next k y p in let q = act.waits v.0 v.2 (act.not_behind k v.0 v.1) in
             (v.0, act.grows (suc k) v.0 v.1, q.0, q.1 ∙ v.3);
-        kin = o.kin;
+        kin = λ a b k j y p q. let v = o.kin a b k j y p q in
+            (v.0, act.grows (suc j) v.0 v.1, v.2);
         before = λ a p. let v = o.before a p in
             let q = act.waits v.0 v.2 (act.not_behind 0 v.0 v.1) in
             (v.0, act.grows 1 v.0 v.1, q.0, q.1 ∙ v.3);

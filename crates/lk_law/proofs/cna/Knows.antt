@@ -2,9 +2,12 @@
 -- waiter that stands aside is passed by.
 use Rattle.std.proofs.Common.{◌≡◌, ◌<◌, inl, inr, ℕ, Option, Some, None, Bool, true, false, List}
 use Rattle.std.proofs.Common.{arith, ap, refl, sym, ◌∙◌, subst, slice_get}
-use Rattle.std.specs.Prelude.{◌==◌, is_some, if◌then◌else◌}
-use Rattle.std.proofs.lemmas.Bool.{cases_Bool}
+use Rattle.std.specs.Prelude.{◌==◌, ◌||◌, nat_lt, is_some, if◌then◌else◌}
+use Rattle.std.proofs.lemmas.Bool.{cases_Bool, ltb-false}
 use Rattle.lk_abs.specs.History.{LockHistory}
+use Rattle.lk_abs.specs.Lawful.{is_local, same_socket}
+use Rattle.lk_abs.specs.declared.names.Format.{Format}
+use Rattle.lk_abs.specs.declared.names.Format.TheVariants.{One, Two}
 use Rattle.lk_abs.specs.declared.names.Waiter.{Waiter}
 use Rattle.lk_abs.specs.declared.names.LockName.{LockName}
 use Rattle.lk_word.specs.declared.spin_word.NodeName.{NodeName}
@@ -26,7 +29,7 @@ use Rattle.lk_law.specs.Places.{stage_at, stage_why, stage_if, stage_on, kept_in
 use Rattle.lk_law.specs.Families.{chooses}
 use Rattle.lk_law.specs.Premises.{Uses}
 use Rattle.lk_law.specs.Known.{IsOwnNode, ChoiceIsUsed, PassesAreBounded, RunIsShort}
-use Rattle.lk_law.specs.Known.{SkippedIsQueued, QueueIsDistinct}
+use Rattle.lk_law.specs.Known.{SkippedIsQueued, QueueIsDistinct, AsideAreTasks}
 use Rattle.lk_law.proofs.common.Puts.{if-true, if-false}
 use Rattle.lk_law.proofs.common.Worlds.{phase_on-here, stage_on-here}
 use Rattle.lk_law.proofs.common.Users.{user_of, own_node, some_is}
@@ -205,6 +208,28 @@ skipped_is_queued m hs w f ok live place =
     let k = o.some (node_of f.a) (node_of f.b) f.k refl in
     let u = o.far (node_of f.a) (node_of f.b) f.k k.0 refl (let e = k.1 in omega arith) in
     (u.0, subst (λ (i : ℕ). slice_get (hs f.lock).main i ≡ Some u.0) (sym k.1) u.1)
+
+-- In the second format who stands aside is a task.
+pub aside_are_tasks : AsideAreTasks
+aside_are_tasks m hs l i u ok two h =
+    elim (cases_Bool (moves_aside m.mode)) [
+      | inl e ↦ let v = ((ok.agrees.locks l).lists.cna e).moved i u h in
+          by_format m.format two v.0 v.1
+      | inr e ↦ absurd (let none = ((ok.agrees.locks l).lists.flat e).single in
+          cc (ap (λ (us : List Waiter). slice_get us i) none, h))
+    ]
+  where
+    by_ctx : (c : ℕ) (b : Bool) → (nat_lt 0 c || b) ≡ false → c ≡ 0
+    by_ctx c b e =
+        elim (cases_Bool (nat_lt 0 c)) [
+          | inl some ↦ absurd (let no : true ≡ false = rw some at e in cc no)
+          | inr none ↦ let le = ltb-false 0 c none in omega (arith, le)
+        ]
+
+    by_format : (format : Format) → format ≡ Two → (w : Waiter)
+        → is_local format m.sockets w.cpu u ≡ false → u.ctx ≡ 0
+    by_format One e w far = cc e
+    by_format Two e w far = by_ctx u.ctx (same_socket m.sockets w.cpu u.cpu) far
 
 -- In every sound world who stands in the main queue stands in it once, and has a frame.
 pub queue_is_distinct : QueueIsDistinct

@@ -34,7 +34,7 @@ use Rattle.lk_law.proofs.cna.Steps.{HandsOver, LetsReturn}
 
 -- where waiters are moved aside there are two queues
 pub cna_lists : {aside : Bool} {tail : Option NodeName} {phase : Waiter → Phase}
-    {own : Waiter → NodeName} {node : NodeName → Node} {local : Waiter → NodeName → Bool}
+    {own : Waiter → NodeName} {node : NodeName → Node} {local : Waiter → Waiter → Bool}
     {threshold : ℕ}
     {stage : Waiter → Stage} {kept : Waiter
     → Option NodeName} {main second : List Waiter} {passes : List ℕ} → aside ≡ true

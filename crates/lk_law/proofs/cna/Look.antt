@@ -76,7 +76,7 @@ next_at {phase = phase} {own = own} {main = main} ok i w n at next =
 
 -- the one that leads goes to another place of its search; the lists stay
 module _ {tail : Option NodeName} {phase : Waiter → Phase} {own : Waiter → NodeName}
-    {node node' : NodeName → Node} {local : Waiter → NodeName → Bool} {threshold : ℕ}
+    {node node' : NodeName → Node} {local : Waiter → Waiter → Bool} {threshold : ℕ}
     {stage stage' : Waiter → Stage} {kept kept' : Waiter
     → Option NodeName} {main second : List Waiter}
     {passes : List ℕ} {w : Waiter}
@@ -94,6 +94,7 @@ module _ {tail : Option NodeName} {phase : Waiter → Phase} {own : Waiter → N
             rw at_w refl in rw e queue;
         second_ok = let e : front_tip stage' (slice_get main 0) ≡ tip_of (stage' w) =
             rw at_w refl in rw e second_ok;
+        moved = ok.moved;
         lead = λ u h.
             let same : w ≡ u = grind (arith, h, at_w) in
             let P : Waiter → Type 0 =
@@ -134,7 +135,7 @@ look-named own (z ∷ ws) u n h g =
 
 -- what the one that leads knows of the queue and of those that it has passed over
 module _ {tail : Option NodeName} {phase : Waiter → Phase} {own : Waiter → NodeName}
-    {node : NodeName → Node} {local : Waiter → NodeName → Bool} {threshold : ℕ}
+    {node : NodeName → Node} {local : Waiter → Waiter → Bool} {threshold : ℕ}
     {stage : Waiter → Stage} {kept : Waiter → Option NodeName} {main second : List Waiter}
     {passes : List ℕ} {w : Waiter}
     (ok : CnaAgrees tail phase own node local threshold stage kept main second passes)
@@ -172,7 +173,7 @@ module _ {tail : Option NodeName} {phase : Waiter → Phase} {own : Waiter → N
 
 -- it looks on: no word and no node changes
 module _ {tail : Option NodeName} {phase : Waiter → Phase} {own : Waiter → NodeName}
-    {node : NodeName → Node} {local : Waiter → NodeName → Bool} {threshold : ℕ}
+    {node : NodeName → Node} {local : Waiter → Waiter → Bool} {threshold : ℕ}
     {stage stage' : Waiter → Stage} {kept kept' : Waiter
     → Option NodeName} {main second : List Waiter}
     {passes : List ℕ} {w : Waiter}
@@ -232,6 +233,8 @@ module _ {tail : Option NodeName} {phase : Waiter → Phase} {own : Waiter → N
         run_none = λ p q. cc q;
         run_short = λ c d j p. cc p;
         run_picks = λ m p e. short m (same ∙ e);
+        own_link = λ m p e.
+            (0, v.0, v.1, v.2, v.3 ∙ (let r : Some n ≡ Some m = sym there ∙ e in let f : n ≡ m = cc r in f));
         run_next = λ z p. cc p;
         some = λ c d j p. cc p;
         far = λ c d j i p. cc p;

@@ -10,7 +10,7 @@ use Rattle.lk_law.proofs.common.Lists.{get_cases}
 
 module _ {tail : Option NodeName} {phase : Waiter → Phase} {own : Waiter
     → NodeName} {node : NodeName → Node}
-    {local : Waiter → NodeName → Bool} {threshold : ℕ} {stage : Waiter → Stage} {kept : Waiter
+    {local : Waiter → Waiter → Bool} {threshold : ℕ} {stage : Waiter → Stage} {kept : Waiter
     → Option NodeName}
     {main second : List Waiter} {passes : List ℕ}
     (ok : CnaAgrees tail phase own node local threshold stage kept main second passes) where

@@ -49,7 +49,7 @@ name_is e = cc e
 
 -- on the lists of a lock whose front chooses
 module _ {tail : Option NodeName} {phase : Waiter → Phase} {own : Waiter → NodeName}
-    {node : NodeName → Node} {local : Waiter → NodeName → Bool} {threshold : ℕ}
+    {node : NodeName → Node} {local : Waiter → Waiter → Bool} {threshold : ℕ}
     {stage : Waiter → Stage} {kept : Waiter → Option NodeName} {main second : List Waiter}
     {passes : List ℕ} {w : Waiter} {g : Stage}
     (ok : CnaAgrees tail phase own node local threshold stage kept main second passes)

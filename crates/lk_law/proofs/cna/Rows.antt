@@ -9,7 +9,7 @@ use Rattle.lk_machine.specs.Machine.{rest_node}
 use Rattle.lk_law.specs.Phase.{Phase, queues, leads, has_node}
 use Rattle.lk_law.specs.Snapshot.{Moves, Rewrites}
 use Rattle.lk_law.specs.Phase.Phase.{Prepared, Links, Waits, Holds}
-use Rattle.lk_law.specs.Stage.{Stage, cut_of, parted}
+use Rattle.lk_law.specs.Stage.{Stage, cut_of, parted, picks}
 use Rattle.lk_law.specs.Cna.{CnaAgrees, FrontAgrees, is_in, part, shown, front_cut, front_tip}
 use Rattle.lk_law.specs.Cna.{named_by}
 use Rattle.lk_law.specs.Stage.Stage.{Rests, Counts, Picked, Cuts, Hangs, Picks}
@@ -52,7 +52,7 @@ shown_bare (Some p) node node' n e =
 
 -- a fresh node is at rest
 pub cna_rest : {tail : Option NodeName} {phase : Waiter → Phase} {own : Waiter → NodeName}
-    {node : NodeName → Node} {local : Waiter → NodeName → Bool} {threshold : ℕ}
+    {node : NodeName → Node} {local : Waiter → Waiter → Bool} {threshold : ℕ}
     {stage : Waiter → Stage} {kept : Waiter → Option NodeName} {main second : List Waiter}
     {passes : List ℕ}
     → CnaAgrees tail phase own node local threshold stage kept main second passes → (u : Waiter)
@@ -67,7 +67,7 @@ cna_rest {phase = phase} {own = own} {node = node} {stage = stage} {main = main}
     sym (shown_bare c node node (own u) (ap (λ (n : Node). n.next) q)).1 ∙ q
 
 module _ {tail : Option NodeName} {phase : Waiter → Phase} {own : Waiter → NodeName}
-    {node : NodeName → Node} {local : Waiter → NodeName → Bool} {threshold : ℕ}
+    {node : NodeName → Node} {local : Waiter → Waiter → Bool} {threshold : ℕ}
     {stage : Waiter → Stage} {kept : Waiter → Option NodeName} {main second : List Waiter}
     {passes : List ℕ}
     (ok : CnaAgrees tail phase own node local threshold stage kept main second passes) where
@@ -122,6 +122,7 @@ module _ {tail : Option NodeName} {phase : Waiter → Phase} {own : Waiter → N
               (rw w.1 at (second_keep {phase' = phase'} {own' = own} {node' = node} ok.second_ok
               (λ i u h. let ne : u ≢ x = (λ e. out i (h ∙ ap (λ z. Some z) e)) in
               (moves.others u ne, refl, refl))));
+          moved = ok.moved;
           lead = λ u h.
               let same : w.0 ≡ u = cc (at, h) in
               let P : Waiter → Type 0 =
@@ -139,6 +140,7 @@ module _ {tail : Option NodeName} {phase : Waiter → Phase} {own : Waiter → N
                 not_aside = rows-apart_s w.0 w.1;
                 own_w = refl;
                 fields = λ u r. (refl, refl);
+                links = λ p. refl;
                 cuts = λ u r ne e. (ok.lead w.0 w.1).cut (own u) e;
               })));
           lengths = ok.lengths;
@@ -206,6 +208,7 @@ module _ {tail : Option NodeName} {phase : Waiter → Phase} {own : Waiter → N
               (λ e. let s : u ≡ a.0 = apart u a.0 (rw r.0 refl) ma.3 (e ∙ l.0) in
               not_in second a.0 ma.1 i (h ∙ ap (λ z. Some z) s)) in
               (moves.others u ne, refl, writes.others (own u) no)));
+          moved = ok.moved;
           lead = λ w h.
               let m = rows-main 0 w h in
               let nx : w ≢ x = (λ e. let f = ok.queue.ends.first w h in let z = ap phase e in
@@ -221,6 +224,18 @@ module _ {tail : Option NodeName} {phase : Waiter → Phase} {own : Waiter → N
                 not_aside = rows-apart_s w h;
                 own_w = refl;
                 fields = λ u r. ((field u).0, (field u).1);
+                links = λ pk.
+                    let cw : front_cut own stage (slice_get main 0) ≡ cut_of (own w) (stage w) =
+                    rw h refl in
+                    let s = cut-picks (own w) (stage w) pk in
+                    let no : own w ≢ p = (λ f.
+                    let d : c ≡ Some (own w, s.0) = cw ∙ s.1 in
+                    let g : (shown c node p).next ≡ Some s.0 = ap (λ o. (shown o node p).next) d
+                    ∙ ap (λ (n : Node). n.next) (shown_at (own w) s.0 node p (sym f)) in
+                    let k : (shown c node p).next ≡ None =
+                    ap (λ n. (shown c node n).next) l.0 ∙ l.1 in
+                    cc (g, k)) in
+                    ap (λ (n : Node). n.next) (writes.others (own w) no);
                 cuts = λ u r ne e. let b = own u in
                     let cw : front_cut own stage (slice_get main 0) ≡ cut_of (own w) (stage w) =
                     rw h refl in
@@ -267,6 +282,12 @@ module _ {tail : Option NodeName} {phase : Waiter → Phase} {own : Waiter → N
         cut-of n (Counts a d k y) b h = let e : d ≡ b = cc h in (y, ap (λ z. Some (z, y)) e)
         cut-of n _ b h = cc h
 
+        cut-picks : (n : NodeName) (g : Stage) → picks g ≡ true
+            → (y : NodeName) × (cut_of n g ≡ Some (n, y))
+        cut-picks n (Picks y) h = (y, refl)
+        cut-picks n (Picked y) h = (y, refl)
+        cut-picks n _ h = cc h
+
   module _ {phase' : Waiter → Phase} {stage' : Waiter → Stage} {kept' : Waiter → Option NodeName}
       {x : Waiter} where
     -- rows G6 to G9: the one that leads moves on
@@ -290,6 +311,7 @@ module _ {tail : Option NodeName} {phase : Waiter → Phase} {own : Waiter → N
           second_ok = rw st (second_keep ok.second_ok
               (λ i u h. let ne : u ≢ x = (λ e. out i (h ∙ ap (λ z. Some z) e)) in
               (step.moves.others u ne, refl, refl)));
+          moved = ok.moved;
           lead = λ w h.
               let e : x ≡ w = cc (step.front, h) in
               let P : Waiter → Type 0 =
@@ -307,6 +329,7 @@ module _ {tail : Option NodeName} {phase : Waiter → Phase} {own : Waiter → N
                 not_aside = rows-apart_s x step.front;
                 own_w = refl;
                 fields = λ u r. (refl, refl);
+                links = λ p. refl;
                 cuts = λ u r ne e. (ok.lead x step.front).cut (own u) e;
               }))));
           lengths = ok.lengths;
@@ -373,6 +396,7 @@ module _ {tail : Option NodeName} {phase : Waiter → Phase} {own : Waiter → N
           queue = rw ce (queue_keep ok.queue pq pb pf);
           second_ok = rw te (second_keep ok.second_ok
               (λ i u h. let s = same u (rw (ok.second_ok.waits i u h).0 refl) in (s.0, s.1, s.2)));
+          moved = ok.moved;
           lead = λ w h.
               let s = sm 0 w h in
               let nf : (node' (own' w)).flag ≡ (node (own w)).flag =
@@ -387,6 +411,7 @@ module _ {tail : Option NodeName} {phase : Waiter → Phase} {own : Waiter → N
                 fields = λ u r. let z = same u r in
                     let f : node' (own u) ≡ node (own u) = ap node' (sym z.1) ∙ z.2 in
                     (ap (λ (n : Node). n.runs) f, ap (λ (n : Node). n.second_tail) f);
+                links = λ p. ap (λ m. (node' m).next) (sym s.1) ∙ ap (λ (n : Node). n.next) s.2;
                 cuts = λ u r ne e. let z = same u (rw r refl) in
                     let f : node' (own u) ≡ node (own u) = ap node' (sym z.1) ∙ z.2 in
                     ap (λ (n : Node). n.next) f ∙ (ok.lead w h).cut (own u) e;

@@ -1,7 +1,7 @@
 -- The rows of the choice of the next keep every sound world.
 use Rattle.lk_law.specs.Pv.Post.{Off}
-use Rattle.std.proofs.Common.{◌≡◌, ◌≢◌, ◌<◌, ◌⊎◌, inl, inr, ℕ, suc, Option, Some, None, Bool, true}
-use Rattle.std.proofs.Common.{false, [], ◌∷◌, arith, ap, refl, sym, ◌∙◌, slice_get}
+use Rattle.std.proofs.Common.{◌≡◌, ◌≢◌, ◌<◌, ◌⊎◌, inl, inr, ℕ, suc, Option, Some, None, Bool, true, []}
+use Rattle.std.proofs.Common.{false, ◌∷◌, arith, ap, refl, sym, ◌∙◌, slice_get}
 use Rattle.std.specs.Prelude.{if◌then◌else◌, is_some, ◌+◌}
 use Rattle.std.proofs.lemmas.Bool.{ltb-true}
 use Rattle.lk_abs.specs.declared.names.Waiter.{Waiter}
@@ -51,6 +51,7 @@ use Rattle.lk_law.proofs.common.Acting.{Acting, StandsAwake, Kept, spin_row_keep
 use Rattle.lk_law.proofs.common.Acting.{phase_here}
 use Rattle.lk_law.proofs.common.Acting.{phase_shown, own_here, slow_here, Going, gone_on}
 use Rattle.lk_law.proofs.common.Acting.{going_step, going_stays, goes_kept, awake_here}
+use Rattle.lk_law.proofs.cna.Seen.{seen_as}
 
 -- a row of the choice is one of a front that holds the lock
 record IsChoice (c : Pc) : Type 0 where
@@ -222,7 +223,7 @@ module _ {a : Acting} (at : StandsAwake a C1) where
       (stage_shown at refl) (look_now at refl g C3 refl refl refl refl fits)
       (look_kept at refl g C3 refl refl refl refl fits ∙ sym (kept_shown at refl)))
 
-  -- the next is of its socket, or nobody stands aside: the lead goes to it
+  -- the next is local, or nobody stands aside: the lead goes to it
   first_picks : (n : NodeName) → (a.world.node mine).next ≡ Some n
       → (may_stay (sight_in a.world a.by a.frame) ≡ true) ⊎ (a.frame.second ≡ None)
       → NextKept (learns_all C7 (K 0 ∷ Y (Some n) ∷ []))
@@ -239,9 +240,10 @@ module _ {a : Acting} (at : StandsAwake a C1) where
       (next_shown (Some n) e)
       (elim may [ inl s ↦ inl (short_shown s) | inr none ↦ inr (kept_shown at refl ∙ none) ]))
 
-  -- the next is of another socket: it is passed over
+  -- the next is not local: it is passed over
   first_skips : (n : NodeName) → (a.world.node mine).next ≡ Some n
-      → may_stay (sight_in a.world a.by a.frame) ≡ true → before.local a.by n ≡ false
+      → may_stay (sight_in a.world a.by a.frame) ≡ true
+      → (sight_in a.world a.by a.frame).local n ≡ false
       → NextKept (learns_all C2 (K 1 ∷ A (Some n) ∷ B (Some n) ∷ []))
   first_skips n e may far =
       let g : Frame = record a.frame { k = 1; a = Some n; b = Some n; place = Some C2 } in
@@ -253,7 +255,7 @@ module _ {a : Acting} (at : StandsAwake a C1) where
       (look_others at refl g C2 refl refl refl refl fits)
       n (stage_shown at refl) (look_now at refl g C2 refl refl refl refl fits)
       (look_kept at refl g C2 refl refl refl refl fits ∙ sym (kept_shown at refl))
-      (next_shown (Some n) e) far (short_shown may))
+      (next_shown (Some n) e) (seen_as at n false far) (short_shown may))
 
   -- the lead stayed long enough on this socket: those that stand aside return before the rest
   first_flushes : (n : NodeName) → (a.world.node mine).next ≡ Some n → is_some a.frame.second ≡ true
@@ -312,8 +314,9 @@ module _ {a : Acting} (at : StandsAwake a C2) where
   knows_b : is_some a.frame.b ≡ true
   knows_b = (fit_here at).choice.last C2 at.place refl
 
-  -- one more of another socket is passed over
-  on_skips : (n : NodeName) → (a.world.node past).next ≡ Some n → from.local a.by n ≡ false
+  -- one more that is not local is passed over
+  on_skips : (n : NodeName) → (a.world.node past).next ≡ Some n
+      → (sight_in a.world a.by a.frame).local n ≡ false
       → OnKept (learns_all C2 (B (Some n) ∷ K (a.frame.k + 1) ∷ []))
   on_skips n e far =
       let g : Frame = record a.frame { b = Some n; k = a.frame.k + 1; place = Some C2 } in
@@ -326,10 +329,12 @@ module _ {a : Acting} (at : StandsAwake a C2) where
       (look_others at refl g C2 refl refl refl refl fits)
       (node_of a.frame.a) past n a.frame.k (stage_shown at refl)
       (look_now at refl g C2 refl refl refl refl fits ∙ ap (Skips (node_of a.frame.a) n) more)
-      (look_kept at refl g C2 refl refl refl refl fits ∙ sym (kept_shown at refl)) e far)
+      (look_kept at refl g C2 refl refl refl refl fits ∙ sym (kept_shown at refl)) e
+      (seen_as at n false far))
 
-  -- one of its socket is found, and the second queue gets those that were passed over
-  on_meets : (n : NodeName) → (a.world.node past).next ≡ Some n → from.local a.by n ≡ true
+  -- a local one is found, and the second queue gets those that were passed over
+  on_meets : (n : NodeName) → (a.world.node past).next ≡ Some n
+      → (sight_in a.world a.by a.frame).local n ≡ true
       → is_some a.frame.second ≡ true → OnKept (learns_all C3 (Y (Some n) ∷ Reason why.Append ∷ []))
   on_meets n e near some =
       let g : Frame = record a.frame { y = Some n; why = why.Append; place = Some C3 } in
@@ -341,10 +346,12 @@ module _ {a : Acting} (at : StandsAwake a C2) where
       (look_others at refl g C3 refl refl refl refl fits)
       (node_of a.frame.a) past n a.frame.k (stage_shown at refl)
       (look_now at refl g C3 refl refl refl refl fits)
-      (look_kept at refl g C3 refl refl refl refl fits ∙ sym (kept_shown at refl)) e near)
+      (look_kept at refl g C3 refl refl refl refl fits ∙ sym (kept_shown at refl)) e
+      (seen_as at n true near))
 
   -- the same, and nobody stands aside yet
-  on_ties : (n : NodeName) → (a.world.node past).next ≡ Some n → from.local a.by n ≡ true
+  on_ties : (n : NodeName) → (a.world.node past).next ≡ Some n
+      → (sight_in a.world a.by a.frame).local n ≡ true
       → a.frame.second ≡ None → OnKept (learns_all C5 (Y (Some n) ∷ Second a.frame.a ∷ []))
   on_ties n e near none =
       let g : Frame = record a.frame { y = Some n; second = a.frame.a; place = Some C5 } in
@@ -356,9 +363,10 @@ module _ {a : Acting} (at : StandsAwake a C2) where
       (look_others at refl g C5 refl refl refl refl fits)
       (node_of a.frame.a) past n a.frame.k (stage_shown at refl)
       (look_now at refl g C5 refl refl refl refl fits) (kept_shown at refl ∙ none)
-      (look_kept at refl g C5 refl refl refl refl fits ∙ some_is a.frame.a knows_a) e near)
+      (look_kept at refl g C5 refl refl refl refl fits ∙ some_is a.frame.a knows_a) e
+      (seen_as at n true near))
 
-  -- nobody of its socket is found: those that stand aside return
+  -- nobody local is found: those that stand aside return
   on_flushes : is_some a.frame.second ≡ true → OnKept (learns_all C3 (K 0 ∷ Reason why.Flush ∷ []))
   on_flushes some =
       let g : Frame = record a.frame { k = 0; why = why.Flush; place = Some C3 } in

@@ -1,4 +1,4 @@
--- The lists after C1 and C2: the one that leads passes over waiters, meets one of its socket, or
+-- The lists after C1 and C2: the one that leads passes over waiters, meets a local one, or
 -- gives up.
 use Rattle.std.proofs.Common.{◌≡◌, ◌≢◌, ℕ, suc, Option, Some, None, Bool, true, false, List, []}
 use Rattle.std.proofs.Common.{◌⊎◌, inl, inr, arith, ap, refl, sym, ◌∙◌, subst, ◌<◌, slice_get}
@@ -7,7 +7,7 @@ use Rattle.lk_abs.specs.declared.names.Waiter.{Waiter}
 use Rattle.lk_word.specs.declared.spin_word.NodeName.{NodeName}
 use Rattle.lk_machine.specs.declared.parts.Node.{Node}
 use Rattle.lk_law.specs.Phase.{Phase}
-use Rattle.lk_law.specs.Phase.Phase.{Holds}
+use Rattle.lk_law.specs.Phase.Phase.{Holds, Waits}
 use Rattle.lk_law.specs.Stage.{Stage}
 use Rattle.lk_law.specs.Cna.{CnaAgrees}
 use Rattle.lk_law.specs.Stage.Stage.{Rests, Skips, Meets, Ties, Picks, Flushes, Promotes}
@@ -17,7 +17,7 @@ use Rattle.lk_law.proofs.cna.Parts.{nobody-first}
 use Rattle.lk_law.proofs.cna.Look.{look-pick}
 
 module _ {tail : Option NodeName} {phase : Waiter → Phase} {own : Waiter → NodeName}
-    {node : NodeName → Node} {local : Waiter → NodeName → Bool} {threshold : ℕ}
+    {node : NodeName → Node} {local : Waiter → Waiter → Bool} {threshold : ℕ}
     {stage stage' : Waiter → Stage} {kept kept' : Waiter
     → Option NodeName} {main second : List Waiter}
     {passes : List ℕ} {w : Waiter}
@@ -26,7 +26,8 @@ module _ {tail : Option NodeName} {phase : Waiter → Phase} {own : Waiter → N
     (stages : (u : Waiter) → u ≢ w → stage' u ≡ stage u) where
   -- C1 meets a waiter that is not local
   pub c1_skip : (n : NodeName) → stage w ≡ Rests → stage' w ≡ Skips n n 1 → kept' w ≡ kept w
-      → (node (own w)).next ≡ Some n → local w n ≡ false → (node (own w)).runs < threshold
+      → (node (own w)).next ≡ Some n → ((u : Waiter) → phase u ≡ Waits → own u ≡ n → local w u ≡ false)
+      → (node (own w)).runs < threshold
       → CnaAgrees tail phase own node local threshold stage' kept' main second passes
   c1_skip n is now same next far short =
       let v = look-next ok at_w owner Rests is refl 0 w n at_w next in
@@ -43,10 +44,11 @@ module _ {tail : Option NodeName} {phase : Waiter → Phase} {own : Waiter → N
         run_none = o.run_none;
         run_short = λ c d j p. short;
         run_picks = λ n p q. cc p;
+        own_link = λ n p. cc p;
         run_next = λ z p. cc p;
         some = λ c d j p. let k = skip-k n n 1 c d j p in (0, sym k.2);
         far = λ c d j i p lt. let k = skip-k n n 1 c d j p in
-            let z : i ≡ 0 = (let e = k.2 in omega arith) in (v.0, rw z v.1, v.2, rw v.3 far);
+            let z : i ≡ 0 = (let e = k.2 in omega arith) in (v.0, rw z v.1, v.2, far v.0 v.2 v.3);
         near = λ c d j u p h. let k = skip-k n n 1 c d j p in let e : v.0 ≡ u = cc (v.1, h) in
             ap own (sym e) ∙ v.3 ∙ k.0;
         close = λ c d j u p h. let k = skip-k n n 1 c d j p in
@@ -64,7 +66,8 @@ module _ {tail : Option NodeName} {phase : Waiter → Phase} {own : Waiter → N
 
   -- C2 meets a waiter that is not local
   pub c2_skip : (a b n : NodeName) (k : ℕ) → stage w ≡ Skips a b k → stage' w ≡ Skips a n (suc k)
-      → kept' w ≡ kept w → (node b).next ≡ Some n → local w n ≡ false
+      → kept' w ≡ kept w → (node b).next ≡ Some n
+      → ((u : Waiter) → phase u ≡ Waits → own u ≡ n → local w u ≡ false)
       → CnaAgrees tail phase own node local threshold stage' kept' main second passes
   c2_skip a b n k is now same next away =
       let o = front_lead ok at_w owner is in
@@ -83,12 +86,13 @@ module _ {tail : Option NodeName} {phase : Waiter → Phase} {own : Waiter → N
         run_none = o.run_none;
         run_short = λ c d j p. o.run_short a b k refl;
         run_picks = λ n p q. cc p;
+        own_link = λ n p. cc p;
         run_next = λ z p. cc p;
         some = λ c d j p. let e = skip-k a n (suc k) c d j p in (k, sym e.2);
         far = λ c d j i p lt. let e = skip-k a n (suc k) c d j p in let f = e.2 in
             elim (cases_lt i k) [
               | inl less ↦ o.far a b k i refl less
-              | inr ge ↦ let z : i ≡ k = omega arith in (v.0, rw z v.1, v.2, rw v.3 away)
+              | inr ge ↦ let z : i ≡ k = omega arith in (v.0, rw z v.1, v.2, away v.0 v.2 v.3)
             ];
         near = λ c d j u p h. let e = skip-k a n (suc k) c d j p in o.near a b k u refl h ∙ e.0;
         close = λ c d j u p h. let e = skip-k a n (suc k) c d j p in
@@ -106,7 +110,8 @@ module _ {tail : Option NodeName} {phase : Waiter → Phase} {own : Waiter → N
 
   -- C2 meets a local waiter, and second has waiters
   pub c2_meet : (a b n : NodeName) (k : ℕ) → stage w ≡ Skips a b k → stage' w ≡ Meets a b k n
-      → kept' w ≡ kept w → (node b).next ≡ Some n → local w n ≡ true
+      → kept' w ≡ kept w → (node b).next ≡ Some n
+      → ((u : Waiter) → phase u ≡ Waits → own u ≡ n → local w u ≡ true)
       → CnaAgrees tail phase own node local threshold stage' kept' main second passes
   c2_meet a b n k is now same next near =
       let o = front_lead ok at_w owner is in
@@ -124,6 +129,7 @@ module _ {tail : Option NodeName} {phase : Waiter → Phase} {own : Waiter → N
         run_none = o.run_none;
         run_short = o.run_short;
         run_picks = λ n p q. cc p;
+        own_link = λ n p. cc p;
         run_next = λ z p. cc p;
         some = o.some;
         far = o.far;
@@ -132,7 +138,8 @@ module _ {tail : Option NodeName} {phase : Waiter → Phase} {own : Waiter → N
         cut = λ c p. cc p;
         next = λ j z p. let e = pick-k k n j z p in
             (v.0, subst (λ (m : ℕ). slice_get main (suc m) ≡ Some v.0) e.0 v.1, v.2, v.3 ∙ e.1);
-        kin = λ c d j m z p q. let e = pick-k k n m z q in ap (local w) (sym e.1) ∙ near;
+        kin = λ c d j m z p q. let e = pick-k k n m z q in
+            (v.0, subst (λ (i : ℕ). slice_get main (suc i) ≡ Some v.0) e.0 v.1, near v.0 v.2 v.3);
         before = λ c p. cc p;
         lengths = o.lengths;
         oldest = o.oldest;
@@ -141,7 +148,8 @@ module _ {tail : Option NodeName} {phase : Waiter → Phase} {own : Waiter → N
 
   -- C2 meets a local waiter, and second is empty
   pub c2_first : (a b n : NodeName) (k : ℕ) → stage w ≡ Skips a b k → stage' w ≡ Ties a b k n
-      → kept w ≡ None → kept' w ≡ Some a → (node b).next ≡ Some n → local w n ≡ true
+      → kept w ≡ None → kept' w ≡ Some a → (node b).next ≡ Some n
+      → ((u : Waiter) → phase u ≡ Waits → own u ≡ n → local w u ≡ true)
       → CnaAgrees tail phase own node local threshold stage' kept' main second passes
   c2_first a b n k is now none named next near =
       let o = front_lead ok at_w owner is in
@@ -160,6 +168,7 @@ module _ {tail : Option NodeName} {phase : Waiter → Phase} {own : Waiter → N
         run_none = o.run_none;
         run_short = o.run_short;
         run_picks = λ n p q. cc p;
+        own_link = λ n p. cc p;
         run_next = λ z p. cc p;
         some = o.some;
         far = o.far;
@@ -168,7 +177,8 @@ module _ {tail : Option NodeName} {phase : Waiter → Phase} {own : Waiter → N
         cut = λ c p. cc p;
         next = λ j z p. let e = pick-k k n j z p in
             (v.0, subst (λ (m : ℕ). slice_get main (suc m) ≡ Some v.0) e.0 v.1, v.2, v.3 ∙ e.1);
-        kin = λ c d j m z p q. let e = pick-k k n m z q in ap (local w) (sym e.1) ∙ near;
+        kin = λ c d j m z p q. let e = pick-k k n m z q in
+            (v.0, subst (λ (i : ℕ). slice_get main (suc i) ≡ Some v.0) e.0 v.1, near v.0 v.2 v.3);
         before = λ c p. cc p;
         lengths = o.lengths;
         oldest = o.oldest;
@@ -194,6 +204,7 @@ module _ {tail : Option NodeName} {phase : Waiter → Phase} {own : Waiter → N
         run_none = o.run_none;
         run_short = λ c d j p. cc p;
         run_picks = λ n p q. cc p;
+        own_link = λ n p. cc p;
         run_next = λ z p. cc p;
         some = λ c d j p. cc p;
         far = λ c d j i p. cc p;
@@ -247,6 +258,7 @@ module _ {tail : Option NodeName} {phase : Waiter → Phase} {own : Waiter → N
         run_none = o.run_none;
         run_short = λ c d j p. cc p;
         run_picks = λ n p q. cc p;
+        own_link = λ n p. cc p;
         run_next = λ z p. cc p;
         some = λ c d j p. cc p;
         far = λ c d j i p. cc p;
@@ -278,6 +290,7 @@ module _ {tail : Option NodeName} {phase : Waiter → Phase} {own : Waiter → N
         run_none = o.run_none;
         run_short = λ c d j p. cc p;
         run_picks = λ n p q. cc p;
+        own_link = λ n p. cc p;
         run_next = λ z p. cc p;
         some = λ c d j p. cc p;
         far = λ c d j i p. cc p;

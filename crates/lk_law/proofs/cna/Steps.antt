@@ -10,7 +10,7 @@ use Rattle.lk_machine.specs.rows.Cna.{flag_for}
 use Rattle.lk_law.specs.Phase.{Phase, leads, queues}
 use Rattle.lk_law.specs.Phase.Phase.{Waits, Hands, Idle, Holds}
 use Rattle.lk_law.specs.Snapshot.{Moves, Rewrites}
-use Rattle.lk_law.specs.Stage.{Stage, cut_of, tip_of, parted, tail_seen, tied}
+use Rattle.lk_law.specs.Stage.{Stage, cut_of, tip_of, parted, picks, tail_seen, tied}
 use Rattle.lk_law.specs.Stage.Stage.{Rests, Picks}
 use Rattle.lk_law.specs.Cna.{named_by, first_node, same_none}
 use Rattle.lk_law.proofs.common.Cases.{Apart}
@@ -30,6 +30,7 @@ pub record OthersAct (phase phase' : Waiter → Phase) (own own' : Waiter → No
       → queues (phase u) ≡ true
       → ((node' (own u)).runs ≡ (node (own u)).runs)
       × ((node' (own u)).second_tail ≡ (node (own u)).second_tail)
+  pub links : picks stage ≡ true → (node' (own w)).next ≡ (node (own w)).next
   pub cuts : (u : Waiter)
       → phase u ≡ Waits
       → u ≢ w

@@ -36,7 +36,7 @@ first-of own (z ∷ ws) n h = (z, refl, (let q : own z ≡ n = cc h in q))
 
 -- the one that leads stores into one node
 module _ {tail : Option NodeName} {phase : Waiter → Phase} {own : Waiter → NodeName}
-    {node node' : NodeName → Node} {local : Waiter → NodeName → Bool} {threshold : ℕ}
+    {node node' : NodeName → Node} {local : Waiter → Waiter → Bool} {threshold : ℕ}
     {stage stage' : Waiter → Stage} {kept : Waiter → Option NodeName} {main second : List Waiter}
     {passes : List ℕ} {w : Waiter} {m : NodeName} {x : Node} (kept' : Waiter → Option NodeName)
     (ok : CnaAgrees tail phase own node local threshold stage kept main second passes)
@@ -170,6 +170,7 @@ module _ {tail : Option NodeName} {phase : Waiter → Phase} {own : Waiter → N
         run_none = λ p q. runs (own w) ∙ o.run_none p q;
         run_short = λ c d j p. rw (runs (own w)) (o.run_short c d j p);
         run_picks = λ n p. cc p;
+        own_link = λ n p. cc p;
         run_next = λ j p. cc p;
         some = o.some;
         far = o.far;
@@ -210,6 +211,7 @@ module _ {tail : Option NodeName} {phase : Waiter → Phase} {own : Waiter → N
         run_none = λ p q. runs ∙ o.run_none p q;
         run_short = λ c d j p. rw runs (o.run_short c d j p);
         run_picks = λ n p q. rw runs (o.run_picks n p q);
+        own_link = λ n p. cc p;
         run_next = λ j p. let e : y ≡ j = cc p in
             ap (λ n. (node' n).runs) (sym e ∙ at) ∙ ap (λ (n : Node). n.runs) (writes.now ∙ store)
             ∙ ap (λ n. if same_none (kept w) then 0 else (n + 1)) (sym runs);
@@ -251,6 +253,7 @@ module _ {tail : Option NodeName} {phase : Waiter → Phase} {own : Waiter → N
         run_none = λ p q. runs ∙ o.run_none p q;
         run_short = λ c d j p. rw runs (o.run_short c d j p);
         run_picks = λ n p q. rw runs (o.run_picks n p q);
+        own_link = λ n p e. o.own_link n refl (sym (nx (own w)) ∙ e);
         run_next = λ j p. let e : y ≡ j = cc p in
             ap (λ n. (node' n).runs) (sym e ∙ at) ∙ ap (λ (n : Node). n.runs) (writes.now ∙ store)
             ∙ ap (λ n. if same_none (kept w) then 0 else (n + 1)) (sym runs);
@@ -314,6 +317,7 @@ module _ {tail : Option NodeName} {phase : Waiter → Phase} {own : Waiter → N
         run_none = λ p q. absurd (there p);
         run_short = λ c d j p. rw (runs (own w)) (o.run_short c d j p);
         run_picks = λ n p. cc p;
+        own_link = λ n p. cc p;
         run_next = λ j p. cc p;
         some = o.some;
         far = o.far;
@@ -393,6 +397,7 @@ module _ {tail : Option NodeName} {phase : Waiter → Phase} {own : Waiter → N
         run_none = λ p q. runs (own w) ∙ o.run_none p q;
         run_short = λ c d j p. rw (runs (own w)) (o.run_short c d j p);
         run_picks = λ n p. cc p;
+        own_link = λ n p. cc p;
         run_next = λ j p. cc p;
         some = o.some;
         far = o.far;

@@ -15,7 +15,7 @@ use Rattle.lk_law.proofs.cna.Joined.{nonempty}
 use Rattle.lk_law.proofs.cna.Look.{look-some, look-named, look-turn}
 
 module _ {tail : Option NodeName} {phase : Waiter → Phase} {own : Waiter → NodeName}
-    {node : NodeName → Node} {local : Waiter → NodeName → Bool} {threshold : ℕ}
+    {node : NodeName → Node} {local : Waiter → Waiter → Bool} {threshold : ℕ}
     {stage stage' : Waiter → Stage} {kept kept' : Waiter
     → Option NodeName} {main second : List Waiter}
     {passes : List ℕ} {w : Waiter}
@@ -38,6 +38,7 @@ module _ {tail : Option NodeName} {phase : Waiter → Phase} {own : Waiter → N
         run_none = o.run_none;
         run_short = λ c d j p. cc p;
         run_picks = λ n p q. cc p;
+        own_link = λ n p. cc p;
         run_next = λ z p. cc p;
         some = λ c d j p. cc p;
         far = λ c d j i p. cc p;
@@ -81,6 +82,7 @@ module _ {tail : Option NodeName} {phase : Waiter → Phase} {own : Waiter → N
         run_none = o.run_none;
         run_short = o.run_short;
         run_picks = λ n p q. cc p;
+        own_link = λ n p. cc p;
         run_next = λ z p. cc p;
         some = o.some;
         far = o.far;
@@ -122,6 +124,7 @@ module _ {tail : Option NodeName} {phase : Waiter → Phase} {own : Waiter → N
         run_none = o.run_none;
         run_short = λ c d j p. cc p;
         run_picks = λ n p q. cc p;
+        own_link = λ n p. cc p;
         run_next = λ z p. cc p;
         some = λ c d j p. cc p;
         far = λ c d j i p. cc p;
@@ -163,6 +166,7 @@ module _ {tail : Option NodeName} {phase : Waiter → Phase} {own : Waiter → N
         run_none = o.run_none;
         run_short = λ c d j p. cc p;
         run_picks = λ n p q. cc p;
+        own_link = λ n p. cc p;
         run_next = λ z p. cc p;
         some = λ c d j p. cc p;
         far = λ c d j i p. cc p;

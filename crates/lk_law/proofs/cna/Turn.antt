@@ -24,7 +24,7 @@ use Rattle.lk_law.proofs.cna.Steps.{HandsOver, IsHandedTo, KnowsMoved}
 
 -- rows C8, with the registers of the one that leads
 module _ {tail : Option NodeName} {phase phase' : Waiter → Phase} {own own' : Waiter → NodeName}
-    {node node' : NodeName → Node} {local : Waiter → NodeName → Bool} {threshold : ℕ}
+    {node node' : NodeName → Node} {local : Waiter → Waiter → Bool} {threshold : ℕ}
     {stage stage' : Waiter → Stage} {kept : Waiter → Option NodeName}
     {main second : List Waiter} {passes : List ℕ} {w : Waiter} {y : NodeName} {x : Node}
     (ok : CnaAgrees tail phase own node local threshold stage kept main second passes)
@@ -76,7 +76,7 @@ module _ {tail : Option NodeName} {phase phase' : Waiter → Phase} {own own' : 
         v.0,
         v.1,
         c8_all ok step (record { place = v.1; waits = v.2; owned = v.3 }) knows
-            (rw (append-nil second) joined) kept',
+            (rw (append-nil second) joined) (λ i u lt. absurd (omega (arith, lt))) kept',
       )
 
   -- k waiters are moved
@@ -246,4 +246,8 @@ module _ {tail : Option NodeName} {phase phase' : Waiter → Phase} {own own' : 
     pub c8_move : (kept' : Waiter → Option NodeName)
         → CnaAgrees tail phase' own' node' local threshold stage' kept' (drop (suc k) main)
         (second ++ take k (drop 1 main)) (map (λ n. suc n) (passes ++ replicate k 0))
-    c8_move kept' = c8_all ok step move-to move-knows move-joined kept'
+    c8_move kept' =
+        c8_all ok step move-to move-knows move-joined
+        (λ i u lt h. let f = turn-lead.far a b k i move-skipped lt in
+        let same : f.0 ≡ u = grind (arith, f.1, h) in
+        (w, ap (local w) (sym same) ∙ f.3)) kept'

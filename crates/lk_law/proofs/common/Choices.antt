@@ -130,7 +130,7 @@ fixed_choice g d place fixed awake waking unaware plainly =
     (λ h. absurd (let n = turns_halt d h in grind (arith, n, awake))) unaware plainly
 
 -- a family that moves waiters aside halts nobody
-aside_awake : (mode : Mode) → moves_aside mode ≡ true → halts mode ≡ false
+pub aside_awake : (mode : Mode) → moves_aside mode ≡ true → halts mode ≡ false
 aside_awake Cna e = refl
 aside_awake Virt e = cc e
 aside_awake Native e = cc e

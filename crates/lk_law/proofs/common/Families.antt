@@ -60,7 +60,7 @@ pub record Last (phase : Waiter → Phase) (own : Waiter → NodeName) (n : Node
   pub owned : own by ≡ n
 
 module _ {aside : Bool} {tail : Option NodeName} {phase : Waiter → Phase} {own : Waiter → NodeName}
-    {node : NodeName → Node} {local : Waiter → NodeName → Bool} {threshold : ℕ}
+    {node : NodeName → Node} {local : Waiter → Waiter → Bool} {threshold : ℕ}
     {stage : Waiter → Stage} {kept : Waiter
     → Option NodeName} {main second : List Waiter} {passes : List ℕ}
     (ok : ListsAgree aside tail phase own node local threshold stage kept main second passes) where
@@ -189,7 +189,7 @@ module _ {aside : Bool} {tail : Option NodeName} {phase : Waiter → Phase} {own
       }
 
 module _ {aside : Bool} {tail : Option NodeName} {phase phase' : Waiter → Phase}
-    {own : Waiter → NodeName} {node : NodeName → Node} {local : Waiter → NodeName → Bool}
+    {own : Waiter → NodeName} {node : NodeName → Node} {local : Waiter → Waiter → Bool}
     {threshold : ℕ}
     {stage stage' : Waiter → Stage} {kept kept' : Waiter → Option NodeName}
     {main second : List Waiter} {passes : List ℕ} {w : Waiter} {r r' : Phase}
@@ -273,7 +273,7 @@ module _ {aside : Bool} {tail : Option NodeName} {phase phase' : Waiter → Phas
 
 -- the node that was met gets the own node as its next
 pub lists_link : {aside : Bool} {tail : Option NodeName} {phase phase' : Waiter → Phase}
-    {own : Waiter → NodeName} {node node' : NodeName → Node} {local : Waiter → NodeName → Bool}
+    {own : Waiter → NodeName} {node node' : NodeName → Node} {local : Waiter → Waiter → Bool}
     {threshold : ℕ} {stage stage' : Waiter → Stage} {kept kept' : Waiter → Option NodeName}
     {main second : List Waiter} {passes : List ℕ} {w : Waiter} {p : NodeName} {y : Node}
     → ListsAgree aside tail phase own node local threshold stage kept main second passes
@@ -307,7 +307,7 @@ pub record IsSole (tail : Option NodeName) (own : Waiter → NodeName) (node : N
 
 -- the only waiter of the queue leaves it
 pub lists_sole : {aside : Bool} {tail : Option NodeName} {phase phase' : Waiter → Phase}
-    {own own' : Waiter → NodeName} {node : NodeName → Node} {local : Waiter → NodeName → Bool}
+    {own own' : Waiter → NodeName} {node : NodeName → Node} {local : Waiter → Waiter → Bool}
     {threshold : ℕ} {stage stage' : Waiter → Stage} {kept kept' : Waiter → Option NodeName}
     {main second : List Waiter} {passes : List ℕ} {w : Waiter} {r : Phase}
     → ListsAgree aside tail phase own node local threshold stage kept main second passes

@@ -2,6 +2,7 @@
 -- something.
 use Rattle.std.proofs.Common.{◌≡◌, ℕ, None, false, List, [], arith, refl, sym, subst}
 use Rattle.lk_abs.specs.History.{LockHistory, no_history}
+use Rattle.lk_abs.specs.declared.names.Format.{Format}
 use Rattle.lk_abs.specs.declared.names.Kind.{Kind}
 use Rattle.lk_abs.specs.declared.names.LockName.{LockName}
 use Rattle.lk_abs.specs.declared.names.Mode.{Mode}
@@ -11,14 +12,16 @@ use Rattle.lk_machine.specs.Machine.{rest_node, rest_word}
 use Rattle.lk_machine.specs.declared.parts.Node.{Node}
 use Rattle.lk_law.specs.Phase.Phase.{Idle}
 use Rattle.lk_law.specs.Snapshot.{QueueAgrees}
+use Rattle.lk_law.specs.Resting.{RestIsSound}
 use Rattle.lk_law.specs.World.{World}
 use Rattle.lk_law.specs.SpinWorld.{IsSoundSpinWorld}
 use Rattle.lk_law.specs.SoundWorld.{IsSoundWorld, spin_part, is_rw_name}
 use Rattle.lk_law.proofs.common.Puts.{if_cases}
 
-abbrev pub empty_world : Mode → ℕ → List ℕ → (ℕ → Kind) → World
-empty_world mode t sockets kind =
+abbrev pub empty_world : Format → Mode → ℕ → List ℕ → (ℕ → Kind) → World
+empty_world format mode t sockets kind =
     record {
+      format = format;
       mode = mode;
       turns = 1;
       threshold = t;
@@ -59,9 +62,9 @@ nobody own node =
       };
     }
 
-pub empty_sound : (mode : Mode) (t : ℕ) (sockets : List ℕ) (kind : ℕ → Kind)
-    → IsSoundSpinWorld (empty_world mode t sockets kind) (λ l. no_history)
-empty_sound mode t sockets kind =
+pub empty_sound : (format : Format) (mode : Mode) (t : ℕ) (sockets : List ℕ) (kind : ℕ → Kind)
+    → IsSoundSpinWorld (empty_world format mode t sockets kind) (λ l. no_history)
+empty_sound format mode t sockets kind =
     record {
       plain = record { byte = λ a l e. cc e; flag = λ e n k h. cc h };
       turning = omega arith;
@@ -116,6 +119,7 @@ empty_sound mode t sockets kind =
                 linked = λ i u v h k. cc h;
                 last = λ i u h k. cc h;
               };
+              moved = λ i u h. cc h;
               lead = λ w h. cc h;
               empty = λ h. refl;
               lengths = refl;
@@ -147,13 +151,13 @@ none_told kind = (λ i l. each l i)
         (λ e. refl) (λ e. refl)
 
 -- and so it is with reader-writer locks, whichever locks are such
-pub empty_is_sound : (mode : Mode) (t : ℕ) (sockets : List ℕ) (kind : ℕ → Kind)
-    → IsSoundWorld (empty_world mode t sockets kind) (λ l. no_history)
-empty_is_sound mode t sockets kind =
+pub empty_is_sound : (format : Format) (mode : Mode) (t : ℕ) (sockets : List ℕ) (kind : ℕ → Kind)
+    → IsSoundWorld (empty_world format mode t sockets kind) (λ l. no_history)
+empty_is_sound format mode t sockets kind =
     record {
       spins =
-          subst (IsSoundSpinWorld (empty_world mode t sockets kind)) (sym (none_told kind))
-          (empty_sound mode t sockets kind);
+          subst (IsSoundSpinWorld (empty_world format mode t sockets kind)) (sym (none_told kind))
+          (empty_sound format mode t sockets kind);
       rws = λ i k. record {
         counted = [];
         readers = record {
@@ -176,4 +180,21 @@ empty_is_sound mode t sockets kind =
         passes = refl;
       };
       fits = λ u f h. cc h;
+    }
+
+-- the same where a waiter spins for so many turns
+pub rest_is_sound : RestIsSound
+rest_is_sound format mode turns t sockets kind some =
+    let e = empty_is_sound format mode t sockets kind in
+    record {
+      spins = record {
+        plain = record { byte = e.spins.plain.byte; flag = e.spins.plain.flag };
+        turning = some;
+        agrees = e.spins.agrees;
+        registers = e.spins.registers;
+        asleep = e.spins.asleep;
+        resting = e.spins.resting;
+      };
+      rws = e.rws;
+      fits = e.fits;
     }

@@ -100,6 +100,7 @@ module _ {m n : World} {w : Waiter} {f g : Frame} {way : Option Manner}
       record {
         mode = t.mode;
         threshold = t.threshold;
+        format = t.format;
         sockets = t.sockets;
         entries = t.entries;
         word = word;

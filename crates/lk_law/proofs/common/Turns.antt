@@ -27,6 +27,7 @@ pub record Turn (m n : World) (w : Waiter) (f g : Frame) (way : Option Manner) :
   pub mode : n.mode ≡ m.mode
   pub turns : n.turns ≡ m.turns
   pub threshold : n.threshold ≡ m.threshold
+  pub format : n.format ≡ m.format
   pub sockets : n.sockets ≡ m.sockets
   pub entries : (k : LockName) → k ≢ f.lock → n.entry k ≡ m.entry k
   pub halted : (p : ℕ) → n.halted p ≡ true
@@ -46,6 +47,7 @@ module _ {m : World} {w : Waiter} {f g : Frame} {way : Option Manner} (live : m.
     mode = refl;
     turns = refl;
     threshold = refl;
+    format = refl;
     sockets = refl;
     entries = λ k ne. refl;
     halted = λ p h. inl h;
@@ -62,6 +64,7 @@ module _ {m : World} {w : Waiter} {f g : Frame} {way : Option Manner} (live : m.
         mode = refl;
         turns = refl;
         threshold = refl;
+        format = refl;
         sockets = refl;
         entries = λ k ne. refl;
         halted = λ p h. inl h;
@@ -78,6 +81,7 @@ module _ {m : World} {w : Waiter} {f g : Frame} {way : Option Manner} (live : m.
         mode = refl;
         turns = refl;
         threshold = refl;
+        format = refl;
         sockets = refl;
         entries = λ k ne. refl;
         halted = λ p h. inl h;
@@ -96,6 +100,7 @@ queued_turn p i t =
       mode = t.mode;
       turns = t.turns;
       threshold = t.threshold;
+      format = t.format;
       sockets = t.sockets;
       entries = t.entries;
       halted = t.halted;

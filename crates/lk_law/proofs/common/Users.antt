@@ -1,6 +1,8 @@
 -- Who uses a node: the laws read a node of a waiter exactly where its frame has one.
-use Rattle.std.proofs.Common.{◌≡◌, Option, Some, None, Bool, true, false, arith, ap, refl, sym, ◌∙◌}
+use Rattle.std.proofs.Common.{◌≡◌, ◌<◌, ◌≤◌, ◌+◌, ℕ, zero, suc, Option, Some, None, Bool, true, false}
+use Rattle.std.proofs.Common.{arith, ap, refl, sym, ◌∙◌, inl, inr}
 use Rattle.std.proofs.Common.{subst}
+use Rattle.std.proofs.lemmas.Bool.{cases_Bool, cases_lt}
 use Rattle.std.specs.Prelude.{if◌then◌else◌, is_some}
 use Rattle.lk_abs.specs.Names.{same_lock}
 use Rattle.lk_abs.specs.History.{LockHistory}
@@ -14,7 +16,8 @@ use Rattle.lk_law.specs.Phase.Phase.{Idle}
 use Rattle.lk_law.specs.World.{World}
 use Rattle.lk_law.specs.SpinWorld.{IsSoundSpinWorld}
 use Rattle.lk_law.specs.Places.{snapshot, phase_of, phase_on, own_in}
-use Rattle.lk_law.specs.Premises.{Uses}
+use Rattle.lk_law.specs.Premises.{IsShallow, Uses}
+use Rattle.lk_law.specs.Steps.{has_own, first_user, waiter_in}
 use Rattle.lk_law.specs.Known.{IsOwnNode, NodeIsOnes}
 use Rattle.lk_law.proofs.common.Before.{nodes_apart}
 use Rattle.lk_law.proofs.common.Puts.{same_node-self}
@@ -89,3 +92,52 @@ node_is_ones m hs u v n ok at_u at_v =
           (used_noded ok v n at_v) (own ∙ sym (used_own ok v n at_v)),
       subst (IsOwnNode u) own (own_node ok at_u.0.lock u (used_noded ok u n at_u)),
     )
+
+-- a frame that has the node is there
+has_own-frame : (n : NodeName) (o : Option Frame) → has_own n o ≡ true
+    → (f : Frame) × (o ≡ Some f) × (is_node f.me n ≡ true)
+has_own-frame n None h = cc h
+has_own-frame n (Some f) h = (f, refl, h)
+
+-- the first context whose frame has the node is the only one
+first_is : (frames : ℕ → Option Frame) (n : NodeName) (ctx c count : ℕ) → c ≤ ctx
+    → ctx < c + count → has_own n (frames ctx) ≡ true
+    → ((d : ℕ) → has_own n (frames d) ≡ true → d ≡ ctx) → first_user frames n c count ≡ ctx
+first_is frames n ctx c zero le lt has only = absurd (omega (arith, le, lt))
+first_is frames n ctx c (suc count) le lt has only =
+    elim (cases_Bool (has_own n (frames c))) [
+      | inl here ↦ rw here (only c here)
+      | inr other ↦
+          let ne : c ≡ ctx → ⊥ = λ e. cc (ap (λ (d : ℕ). has_own n (frames d)) e, other, has) in
+          rw other (first_is frames n ctx (suc c) count
+          (let apart = ne in grind (arith, le, apart)) (omega (arith, lt)) has only)
+    ]
+
+-- who uses a node is the waiter that a front finds of it
+pub user_found : {m : World} {hs : LockName → LockHistory} → IsSoundSpinWorld m hs
+    → ((p : ℕ) → IsShallow m p) → (u : Waiter) (n : NodeName) → Uses m u n → waiter_in m n ≡ u
+user_found {m = m} {hs = hs} ok shallow u n uses = (λ i. record { cpu = cpu i; ctx = ctx i })
+  where
+    cpu : n.cpu ≡ u.cpu
+    cpu = (node_is_ones m hs u u n ok uses uses).1.cpu
+
+    -- the waiter of that context
+    at : ℕ → Waiter
+    at c = record { cpu = n.cpu; ctx = c }
+
+    here : at u.ctx ≡ u
+    here = (λ i. record { cpu = cpu i; ctx = u.ctx })
+
+    low : u.ctx < 6
+    low = elim (cases_lt u.ctx 6) [
+      | inl lt ↦ lt
+      | inr ge ↦ absurd (let none = shallow u.cpu u.ctx ge in cc (none, uses.1))
+    ]
+
+    ctx : first_user (λ c. m.frame (at c)) n 0 6 ≡ u.ctx
+    ctx =
+        first_is (λ c. m.frame (at c)) n u.ctx 0 6 (omega arith) (omega (arith, low))
+        (ap (has_own n) (ap m.frame here ∙ uses.1) ∙ uses.2)
+        (λ d has.
+        let f = has_own-frame n (m.frame (at d)) has in
+        ap (λ (v : Waiter). v.ctx) (node_is_ones m hs (at d) u n ok f uses).0)

@@ -1,7 +1,7 @@
 -- A row moves one frame of a world: the step of its snapshot.
 use Rattle.lk_law.specs.Pv.Post.{Off, Kicks}
 use Rattle.lk_law.specs.Pv.{Post, at_halt}
-use Rattle.std.proofs.Common.{◌≡◌, ◌≢◌, ◌⊎◌, ◌<◌, inl, inr, ℕ, Option, None, Some, Bool, List, true}
+use Rattle.std.proofs.Common.{◌≡◌, ◌≢◌, ◌⊎◌, ◌<◌, inl, inr, ℕ, Option, None, Some, Bool, true}
 use Rattle.std.proofs.Common.{false, arith, ap, ◌+◌, refl, sym, ◌∙◌, subst}
 use Rattle.std.specs.Prelude.{if◌then◌else◌, is_some}
 use Rattle.lk_abs.specs.Names.{same_lock}
@@ -15,7 +15,7 @@ use Rattle.lk_machine.specs.declared.parts.Frame.{Frame}
 use Rattle.lk_machine.specs.declared.parts.Pc.{Pc}
 use Rattle.lk_machine.specs.declared.parts.Pc.TheVariants.{C2, C3, C4, C5, C6, C7, C8, C9, C10, W6}
 use Rattle.lk_machine.specs.declared.parts.Pc.TheVariants.{E12}
-use Rattle.lk_machine.specs.rows.Cna.{same_socket}
+use Rattle.lk_abs.specs.Lawful.{is_local}
 use Rattle.lk_machine.specs.Moves.{node_of}
 use Rattle.lk_law.specs.Phase.{Phase}
 use Rattle.lk_law.specs.Phase.Phase.{Idle}
@@ -196,6 +196,7 @@ pub record HoldsChange (m m' : World) (w : Waiter) (l : LockName) (x : Fields)
     (h h' : Bool) : Type 0 where
   pub mode : m'.mode ≡ m.mode
   pub threshold : m'.threshold ≡ m.threshold
+  pub format : m'.format ≡ m.format
   pub sockets : m'.sockets ≡ m.sockets
   pub entries : (k : LockName) → k ≢ l → m'.entry k ≡ m.entry k
   pub word : m'.word l ≡ x
@@ -255,8 +256,7 @@ module _ (m m' : World) (w : Waiter) (f g : Frame)
         owns = λ u ne. ap own_in (moves.others u ne);
         mode = holds.mode;
         threshold = holds.threshold;
-        local = ap {B = Waiter → NodeName → Bool}
-            (λ (ss : List ℕ) (u : Waiter) (n : NodeName). same_socket ss u.cpu n.cpu) holds.sockets;
+        local = (λ i w u. is_local (holds.format i) (holds.sockets i) w.cpu u);
         stages = λ k u ne. ap (stage_on k) (moves.others u ne);
         was_calm = λ k ne. ap (stage_on k) moves.was ∙ acts-calm f l k from ne;
         calm = λ k ne. ap (stage_on k) moves.now ∙ acts-calm g l k to ne;

@@ -225,6 +225,7 @@ module _ {m : World} {w : Waiter} {f g : Frame} {way : Option Manner} (live : m.
         mode = refl;
         turns = refl;
         threshold = refl;
+        format = refl;
         sockets = refl;
         entries = λ k ne. put_word-else m.entry f.lock k x ne;
         halted = λ p h. inl h;

@@ -121,6 +121,7 @@ module _ {m : World} {hs : LockName → LockHistory} {w : Waiter} {f : Frame} (g
       (record {
         mode = refl;
         threshold = refl;
+        format = refl;
         sockets = refl;
         entries = λ k ne. refl;
         word = refl;

@@ -5,6 +5,7 @@ use Rattle.std.proofs.Common.{List, [], ◌∷◌, ◌++◌, arith, ap, ◌+◌,
 use Rattle.std.specs.Prelude.{◌==◌, if◌then◌else◌}
 use Rattle.std.proofs.lemmas.Bool.{cases_Bool, eqb-true}
 use Rattle.lk_abs.specs.Lawful.{FrontIsOwed, IsFront}
+use Rattle.lk_abs.specs.declared.names.Format.{Format}
 use Rattle.lk_abs.specs.declared.names.Kind.{Kind}
 use Rattle.lk_abs.specs.Names.{same_lock}
 use Rattle.lk_abs.specs.History.{LockHistory, history_of}
@@ -35,6 +36,7 @@ use Rattle.lk_law.specs.Steps.{put_frame, put_kicked}
 use Rattle.lk_law.specs.Premises.{IsNewest, HasNoPlace, roused}
 use Rattle.lk_law.specs.Kicked.{ShowsKicks, BeginShows, EndShows, WakeShows, NudgeShows, IntShows}
 use Rattle.lk_law.specs.Kicked.{IntAwakeShows, SpinFrontsAreOwed}
+use Rattle.lk_law.specs.Halting.{SleepingFrontIsKicked}
 use Rattle.lk_law.proofs.common.Families.{lists_main}
 use Rattle.lk_law.proofs.pv.Laws.{para_owed}
 use Rattle.lk_law.proofs.common.Puts.{if-true, if-false, put_moves}
@@ -283,13 +285,33 @@ front_is_owed m es {hs = hs} on ok shows l is w front_e free_e asleep =
           inl (omega (arith, lt, k))
     ]
 
+-- the same of the world alone
+pub sleeping_front_is_kicked : SleepingFrontIsKicked
+sleeping_front_is_kicked m hs l w d on ok free front live asleep =
+    let s = snapshot m in
+    let o = ok.agrees.locks l in
+    let shown : queues (phase_on l (Some d)) ≡ true =
+    sym (ap (λ (q : Option Frame). queues (phase_on l q)) live) ∙ lists_main o.lists 0 w front in
+    let here = phase_acts l d shown in
+    let post : s.post l w ≡ post_of d =
+    ap (post_on l) live ∙ if-true (same_lock d.lock l) (post_of d) Off here in
+    let lies : (s.post l w ≡ Sleeps) ⊎ (s.post l w ≡ Naps) = elim (sleeping_row d.place d asleep) [
+      | inl q ↦ inl (post ∙ ap (λ (c : Option Pc). post_if c d) q)
+      | inr q ↦ inr (post ∙ ap (λ (c : Option Pc). post_if c d) q)
+    ] in
+    elim (para_owed ok.agrees on l free w front lies) [
+      | inl k ↦ inl k
+      | inr x ↦ let q = kick_frame x.0 (m.frame x.1) x.2 x.3 in
+          inr (x.1, (q.0, q.1, q.2, ap (λ (n : NodeName). n.cpu) q.3 ∙ x.4))
+    ]
+
 pub spin_fronts_are_owed : SpinFrontsAreOwed
 spin_fronts_are_owed m es on ok shows l = front_is_owed m es on ok shows l refl
 
 -- where nobody is there and nothing has happened
-pub empty_shows : (mode : Mode) (t : ℕ) (sockets : List ℕ) (kind : ℕ → Kind)
-    → ShowsKicks (empty_world mode t sockets kind) []
-empty_shows mode t sockets kind =
+pub empty_shows : (format : Format) (mode : Mode) (t : ℕ) (sockets : List ℕ) (kind : ℕ → Kind)
+    → ShowsKicks (empty_world format mode t sockets kind) []
+empty_shows format mode t sockets kind =
     record {
       asleep = λ u h. cc h;
       rests = λ u r. let e = r.1 in cc e;

@@ -193,6 +193,7 @@ module _ {a : Acting} (at : StandsIn true a U5) where
         mode = refl;
         turns = refl;
         threshold = refl;
+        format = refl;
         sockets = refl;
         entries = λ k ne. refl;
         halted = λ p h. inl h;

@@ -239,6 +239,7 @@ module _ {a : Acting} (at : StandsIn true a G1) where
         mode = refl;
         turns = refl;
         threshold = refl;
+        format = refl;
         sockets = refl;
         entries = λ k ne. refl;
         halted = λ p h. inl h;
@@ -281,6 +282,7 @@ module _ {a : Acting} (at : StandsIn true a G1) where
         mode = refl;
         turns = refl;
         threshold = refl;
+        format = refl;
         sockets = refl;
         entries = λ k ne. refl;
         halted = λ p h. inl h;

@@ -323,6 +323,7 @@ module _ {a : Acting} (at : StandsIn true a W6) where
         mode = refl;
         turns = refl;
         threshold = refl;
+        format = refl;
         sockets = refl;
         entries = λ k ne. refl;
         halted = λ p h. halt_only m.halted a.by.cpu p h;

@@ -102,6 +102,7 @@ module _ {a : Acting} (at : StandsAwake a G1) where
         mode = refl;
         turns = refl;
         threshold = refl;
+        format = refl;
         sockets = refl;
         entries = λ k ne. refl;
         halted = λ p h. inl h;
@@ -144,6 +145,7 @@ module _ {a : Acting} (at : StandsAwake a G1) where
         mode = refl;
         turns = refl;
         threshold = refl;
+        format = refl;
         sockets = refl;
         entries = λ k ne. refl;
         halted = λ p h. inl h;

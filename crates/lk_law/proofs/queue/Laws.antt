@@ -84,7 +84,7 @@ chooses_nothing {l = l} step off =
 -- where a waiter leads the queue of the free lock, no other may take it in its next step
 stakes_alone : {locked : Locked} {pending aside : Bool} {tail : Option NodeName}
     {phase : Waiter → Phase} {own : Waiter → NodeName} {node : NodeName → Node}
-    {local : Waiter → NodeName → Bool}
+    {local : Waiter → Waiter → Bool}
     {threshold : ℕ} {stage : Waiter → Stage} {kept : Waiter
     → Option NodeName} {main second : List Waiter} {passes : List ℕ}
     → PendingAgrees locked pending phase
@@ -150,7 +150,7 @@ goes_on r r' f way =
 
 -- where nobody is moved aside there is one queue
 pub flat_lists : {aside : Bool} {tail : Option NodeName} {phase : Waiter → Phase}
-    {own : Waiter → NodeName} {node : NodeName → Node} {local : Waiter → NodeName → Bool}
+    {own : Waiter → NodeName} {node : NodeName → Node} {local : Waiter → Waiter → Bool}
     {threshold : ℕ}
     {stage : Waiter → Stage} {kept : Waiter
     → Option NodeName} {main second : List Waiter} {passes : List ℕ} → aside ≡ false

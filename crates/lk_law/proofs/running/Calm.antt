@@ -2,7 +2,7 @@
 use Rattle.std.proofs.Common.{◌≡◌, ◌≢◌, ◌⊎◌, inl, inr, ℕ, Option, Some, None, Bool, true, false}
 use Rattle.std.proofs.Common.{refl, sym, ap, ◌∙◌, subst, List, []}
 use Rattle.std.proofs.lemmas.Bool.{cases_Bool}
-use Rattle.std.specs.Prelude.{if◌then◌else◌, is_some, ◌&&◌, not}
+use Rattle.std.specs.Prelude.{if◌then◌else◌, is_some, ◌&&◌, not, ◌-◌, ◌==◌}
 use Rattle.lk_abs.specs.declared.names.Mode.{Mode}
 use Rattle.lk_abs.specs.declared.names.Mode.TheVariants.{Virt, Native, Cna, Pv}
 use Rattle.lk_word.specs.declared.spin_word.NodeName.{NodeName}
@@ -16,7 +16,10 @@ use Rattle.lk_machine.specs.declared.parts.Pc.{Pc}
 use Rattle.lk_machine.specs.declared.parts.Pc.TheVariants.{F1, T1, T2, U1, V1, V2, P0, P1, P2, P3}
 use Rattle.lk_machine.specs.declared.parts.Pc.TheVariants.{P4, G1, G2, G3, G4, G5, G6, G7, G8, G9}
 use Rattle.lk_machine.specs.declared.parts.Pc.TheVariants.{G10, G11, N1, N2, C1, C2, C3, C4, C5, C6}
-use Rattle.lk_machine.specs.declared.parts.Pc.TheVariants.{C7, C8, C9, C10, E1, W1}
+use Rattle.lk_machine.specs.declared.parts.Pc.TheVariants.{C7, C8, C9, C10, H1, H2, W1, W2, W3, W4}
+use Rattle.lk_machine.specs.declared.parts.Pc.TheVariants.{W5, W6, W7, E1, E2, E3, E4, E5, E6, E7}
+use Rattle.lk_machine.specs.declared.parts.Pc.TheVariants.{E8, E9, E10, E11, E12, E13, E14, E15, K1}
+use Rattle.lk_machine.specs.declared.parts.Pc.TheVariants.{K2, K3, U2, U3, U4, U5}
 use Rattle.lk_machine.specs.Moves.{is_node, node_of}
 use Rattle.lk_machine.specs.Row.{Effect, Lead, Goes, Granted, Missed, Leaves, Change}
 use Rattle.lk_machine.specs.rows.Spin.{is_free, is_unlocked, to_queue, after_fast}
@@ -25,7 +28,8 @@ use Rattle.lk_machine.specs.rows.Queue.{is_sole, own_node}
 use Rattle.lk_machine.specs.rows.Queue.{after_entry, after_look, after_arrival, after_head}
 use Rattle.lk_machine.specs.rows.Queue.{after_flag, after_next, after_link}
 use Rattle.lk_machine.specs.rows.Cna.{Sight, is_last, may_stay, after_none, after_tail}
-use Rattle.lk_machine.specs.rows.Cna.{search_first, search_on}
+use Rattle.lk_machine.specs.rows.Cna.{search_first, search_on, is_held}
+use Rattle.lk_machine.specs.rows.Pv.{pv_after_next, is_set, is_running, is_halted}
 use Rattle.lk_machine.specs.TopRow.{target}
 use Rattle.lk_law.specs.Families.{is_ending_row, may_halt, is_rw_row}
 use Rattle.lk_law.specs.Leads.{course_in, is_release, enters, RowIsCalm, NodeComesAtEntry}
@@ -212,5 +216,57 @@ row_is_calm m w f c plain inner = at c plain.awake plain.spin
         → is_release (led f (course_in m w f c (target c f)).leads).place ≡ false
     at c a b = elim (entry_or c) [ inl e ↦ subst (λ (d : Pc). is_release (led f (course_in m w f d (target d f)).leads).place ≡ false) (sym e) (entry m.mode (own_node w.cpu (m.queued w.cpu))) | inr ne ↦ (mild m w f inner c a b ne).calm ]
 
+-- a row of the lock that halts processors gives no node
+module _ (m : World) (w : Waiter) (f : Frame) where
+  bare_either : {A : Type 0} (b : Bool) (x y : Effect A) → enters x.leads ≡ false
+      → enters y.leads ≡ false → enters (if b then x else y).leads ≡ false
+  bare_either true x y h k = h
+  bare_either false x y h k = k
+
+  bare_next : (x : Option NodeName) → enters (pv_after_next x).leads ≡ false
+  bare_next None = refl
+  bare_next (Some n) = refl
+
+  bare_halting : (c : Pc) → may_halt c ≡ true → enters (course_in m w f c (target c f)).leads ≡ false
+  bare_halting H1 h = refl
+  bare_halting H2 h = bare_either (is_unlocked (m.word f.lock).locked) _ _ refl refl
+  bare_halting W1 h = refl
+  bare_halting W2 h =
+      bare_either (is_running (m.node (node_of f.prev)).state) _ _
+      (bare_either (f.left - 1 == 0) _ _ refl refl) refl
+  bare_halting W3 h = refl
+  bare_halting W4 h = bare_either (is_set (m.node (node_of f.me)).flag) _ _ refl refl
+  bare_halting W5 h = refl
+  bare_halting W6 h = refl
+  bare_halting W7 h = bare_either (is_halted (m.node (node_of f.me)).state) _ _ refl refl
+  bare_halting E1 h = refl
+  bare_halting E2 h = refl
+  bare_halting E3 h = refl
+  bare_halting E4 h =
+      bare_either (is_unlocked (m.word f.lock).locked && (m.word f.lock).pending) _ _ refl
+      (bare_either (f.left - 1 == 0) _ _ refl refl)
+  bare_halting E5 h = refl
+  bare_halting E6 h = refl
+  bare_halting E7 h = bare_either (is_unlocked (m.word f.lock).locked) _ _ refl refl
+  bare_halting E8 h = refl
+  bare_halting E9 h = refl
+  bare_halting E10 h = refl
+  bare_halting E11 h = refl
+  bare_halting E12 h = refl
+  bare_halting E13 h = bare_either (Rattle.lk_machine.specs.rows.Cna.is_last f (m.word f.lock)) _ _ refl refl
+  bare_halting E14 h = bare_next (m.node (node_of f.me)).next
+  bare_halting E15 h = refl
+  bare_halting K1 h = bare_either (is_halted (m.node (node_of f.y)).state) _ _ refl refl
+  bare_halting K2 h = refl
+  bare_halting K3 h = refl
+  bare_halting U2 h = bare_either (is_held (m.word f.lock).locked) _ _ refl refl
+  bare_halting U3 h = refl
+  bare_halting U4 h = refl
+  bare_halting U5 h = refl
+  bare_halting _ h = cc h
+
 pub node_comes_at_entry : NodeComesAtEntry
-node_comes_at_entry m w f c plain inner ne = (mild m w f inner c plain.awake plain.spin ne).bare
+node_comes_at_entry m w f c spin inner ne = elim (cases_Bool (may_halt c)) [
+  | inl on ↦ bare_halting m w f c on
+  | inr off ↦ (mild m w f inner c off spin ne).bare
+]

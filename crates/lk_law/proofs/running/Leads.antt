@@ -35,6 +35,7 @@ record SameFrames (m x : World) : Type 0 where
   pub mode : x.mode ≡ m.mode
   pub turns : x.turns ≡ m.turns
   pub threshold : x.threshold ≡ m.threshold
+  pub format : x.format ≡ m.format
   pub sockets : x.sockets ≡ m.sockets
   pub kind : x.kind ≡ m.kind
   pub frame : x.frame ≡ m.frame
@@ -46,6 +47,7 @@ same m =
       mode = refl;
       turns = refl;
       threshold = refl;
+      format = refl;
       sockets = refl;
       kind = refl;
       frame = refl;
@@ -54,47 +56,47 @@ same m =
 
 word_same : (m : World) (l : LockName) (o : Option Fields) → SameFrames m (stores_word m l o)
 word_same m l None = same m
-word_same m l (Some x) = record { mode = refl; turns = refl; threshold = refl; sockets = refl; kind = refl; frame = refl; held = refl }
+word_same m l (Some x) = record { mode = refl; turns = refl; threshold = refl; format = refl; sockets = refl; kind = refl; frame = refl; held = refl }
 
 rw_same : (m : World) (i : ℕ) (o : Option RwFields) → SameFrames m (stores_rw m i o)
 rw_same m i None = same m
-rw_same m i (Some x) = record { mode = refl; turns = refl; threshold = refl; sockets = refl; kind = refl; frame = refl; held = refl }
+rw_same m i (Some x) = record { mode = refl; turns = refl; threshold = refl; format = refl; sockets = refl; kind = refl; frame = refl; held = refl }
 
 flag_same : (m : World) (n : NodeName) (o : Option Flag) → SameFrames m (stores_flag m n o)
 flag_same m n None = same m
-flag_same m n (Some x) = record { mode = refl; turns = refl; threshold = refl; sockets = refl; kind = refl; frame = refl; held = refl }
+flag_same m n (Some x) = record { mode = refl; turns = refl; threshold = refl; format = refl; sockets = refl; kind = refl; frame = refl; held = refl }
 
 next_same : (m : World) (n : NodeName) (o : Option (Option NodeName)) → SameFrames m (stores_next m n o)
 next_same m n None = same m
-next_same m n (Some x) = record { mode = refl; turns = refl; threshold = refl; sockets = refl; kind = refl; frame = refl; held = refl }
+next_same m n (Some x) = record { mode = refl; turns = refl; threshold = refl; format = refl; sockets = refl; kind = refl; frame = refl; held = refl }
 
 second_same : (m : World) (n : NodeName) (o : Option (Option NodeName)) → SameFrames m (stores_second m n o)
 second_same m n None = same m
-second_same m n (Some x) = record { mode = refl; turns = refl; threshold = refl; sockets = refl; kind = refl; frame = refl; held = refl }
+second_same m n (Some x) = record { mode = refl; turns = refl; threshold = refl; format = refl; sockets = refl; kind = refl; frame = refl; held = refl }
 
 runs_same : (m : World) (n : NodeName) (o : Option ℕ) → SameFrames m (stores_runs m n o)
 runs_same m n None = same m
-runs_same m n (Some x) = record { mode = refl; turns = refl; threshold = refl; sockets = refl; kind = refl; frame = refl; held = refl }
+runs_same m n (Some x) = record { mode = refl; turns = refl; threshold = refl; format = refl; sockets = refl; kind = refl; frame = refl; held = refl }
 
 state_same : (m : World) (n : NodeName) (o : Option State) → SameFrames m (stores_state m n o)
 state_same m n None = same m
-state_same m n (Some x) = record { mode = refl; turns = refl; threshold = refl; sockets = refl; kind = refl; frame = refl; held = refl }
+state_same m n (Some x) = record { mode = refl; turns = refl; threshold = refl; format = refl; sockets = refl; kind = refl; frame = refl; held = refl }
 
 entry_same : (m : World) (l : LockName) (o : Option (Option NodeName)) → SameFrames m (stores_entry m l o)
 entry_same m l None = same m
-entry_same m l (Some x) = record { mode = refl; turns = refl; threshold = refl; sockets = refl; kind = refl; frame = refl; held = refl }
+entry_same m l (Some x) = record { mode = refl; turns = refl; threshold = refl; format = refl; sockets = refl; kind = refl; frame = refl; held = refl }
 
 halted_same : (m : World) (p : ℕ) (o : Option Bool) → SameFrames m (stores_halted m p o)
 halted_same m p None = same m
-halted_same m p (Some x) = record { mode = refl; turns = refl; threshold = refl; sockets = refl; kind = refl; frame = refl; held = refl }
+halted_same m p (Some x) = record { mode = refl; turns = refl; threshold = refl; format = refl; sockets = refl; kind = refl; frame = refl; held = refl }
 
 kicked_same : (m : World) (p : ℕ) (o : Option Bool) → SameFrames m (stores_kicked m p o)
 kicked_same m p None = same m
-kicked_same m p (Some x) = record { mode = refl; turns = refl; threshold = refl; sockets = refl; kind = refl; frame = refl; held = refl }
+kicked_same m p (Some x) = record { mode = refl; turns = refl; threshold = refl; format = refl; sockets = refl; kind = refl; frame = refl; held = refl }
 
 queued_same : (m : World) (p : ℕ) (o : Option ℕ) → SameFrames m (stores_queued m p o)
 queued_same m p None = same m
-queued_same m p (Some x) = record { mode = refl; turns = refl; threshold = refl; sockets = refl; kind = refl; frame = refl; held = refl }
+queued_same m p (Some x) = record { mode = refl; turns = refl; threshold = refl; format = refl; sockets = refl; kind = refl; frame = refl; held = refl }
 
 stored_same : (m : World) (w : Waiter) (f : Frame) (c : Pc) (t : Target) → SameFrames m (stored_in m w f c t)
 stored_same m w f c SpinWord = word_same m f.lock _
@@ -144,13 +146,13 @@ row_is_led m w f c RwWord =
 rest_same : (m : World) (w : Waiter) (lead : Lead) → SameFrames m (led_rest m w lead)
 rest_same m w (Goes c cs) = same m
 rest_same m w (Enters None c) = same m
-rest_same m w (Enters (Some n) c) = record { mode = refl; turns = refl; threshold = refl; sockets = refl; kind = refl; frame = refl; held = refl }
+rest_same m w (Enters (Some n) c) = record { mode = refl; turns = refl; threshold = refl; format = refl; sockets = refl; kind = refl; frame = refl; held = refl }
 rest_same m w Granted = same m
 rest_same m w Freed = same m
 rest_same m w Missed = same m
 rest_same m w Done = same m
 rest_same m w (TakesWait c) = same m
-rest_same m w Leaves = record { mode = refl; turns = refl; threshold = refl; sockets = refl; kind = refl; frame = refl; held = refl }
+rest_same m w Leaves = record { mode = refl; turns = refl; threshold = refl; format = refl; sockets = refl; kind = refl; frame = refl; held = refl }
 rest_same m w (Yields c cs) = same m
 
 rest_word : (m : World) (w : Waiter) (lead : Lead) → (led_rest m w lead).word ≡ m.word
@@ -177,6 +179,24 @@ rest_queued m w (Enters None c) q ne = refl
 rest_queued m w (Enters (Some n) c) q ne = refl
 rest_queued m w Leaves q ne = put_number-else m.queued w.cpu q (m.queued w.cpu - 1) ne
 rest_queued m w _ q ne = refl
+
+rest_entry : (m : World) (w : Waiter) (lead : Lead) → (led_rest m w lead).entry ≡ m.entry
+rest_entry m w (Enters None c) = refl
+rest_entry m w (Enters (Some n) c) = refl
+rest_entry m w Leaves = refl
+rest_entry m w _ = refl
+
+rest_halted : (m : World) (w : Waiter) (lead : Lead) → (led_rest m w lead).halted ≡ m.halted
+rest_halted m w (Enters None c) = refl
+rest_halted m w (Enters (Some n) c) = refl
+rest_halted m w Leaves = refl
+rest_halted m w _ = refl
+
+rest_kicked : (m : World) (w : Waiter) (lead : Lead) → (led_rest m w lead).kicked ≡ m.kicked
+rest_kicked m w (Enters None c) = refl
+rest_kicked m w (Enters (Some n) c) = refl
+rest_kicked m w Leaves = refl
+rest_kicked m w _ = refl
 
 stored_queued : (m : World) (w : Waiter) (f : Frame) (c : Pc) (t : Target) (q : ℕ) → q ≢ w.cpu
     → (stored_in m w f c t).queued q ≡ m.queued q
@@ -280,6 +300,7 @@ lead_done m w f c t on =
       mode = rest.mode ∙ stored.mode;
       turns = rest.turns ∙ stored.turns;
       threshold = rest.threshold ∙ stored.threshold;
+      format = rest.format ∙ stored.format;
       sockets = rest.sockets ∙ stored.sockets;
       kind = rest.kind ∙ stored.kind;
       frame = gone_frame m x w f f.lock o.leads (way_led o.leads) stored y rest;
@@ -289,6 +310,9 @@ lead_done m w f c t on =
       rw = rest_rw x w o.leads;
       node = rest_node x w o.leads;
       queued = λ q ne. rest_queued x w o.leads q ne ∙ stored_queued m w f c t q ne;
+      entry = rest_entry x w o.leads;
+      halted = rest_halted x w o.leads;
+      kicked = rest_kicked x w o.leads;
     })
 
 rw_done : (m : World) (w : Waiter) (f : Frame) (c : Pc)
@@ -303,6 +327,7 @@ rw_done m w f c =
       mode = stored.mode;
       turns = stored.turns;
       threshold = stored.threshold;
+      format = stored.format;
       sockets = stored.sockets;
       kind = stored.kind;
       frame = gone_frame m x w f l o.leads (way_told o.tells) stored x (same x);
@@ -311,6 +336,9 @@ rw_done m w f c =
       rw = refl;
       node = λ h. refl;
       queued = λ q ne. stored_queued m w f c RwWord q ne;
+      entry = refl;
+      halted = refl;
+      kicked = refl;
     })
 
 pub row_is_done : RowIsDone

@@ -11,12 +11,13 @@ use Rattle.lk_machine.specs.declared.parts.Flag.TheVariants.{Second}
 use Rattle.lk_machine.specs.declared.parts.Node.{Node}
 use Rattle.lk_machine.specs.declared.parts.Frame.{Frame}
 use Rattle.lk_machine.specs.declared.parts.Pc.{Pc}
-use Rattle.lk_machine.specs.declared.parts.Pc.TheVariants.{G5, G10}
+use Rattle.lk_machine.specs.declared.parts.Pc.TheVariants.{G5, G10, E14}
 use Rattle.lk_machine.specs.Moves.{node_of}
-use Rattle.lk_law.specs.Agree.{halts, LockAgrees}
+use Rattle.lk_law.specs.Agree.{LockAgrees, Owed, node_state}
 use Rattle.lk_law.specs.Known.{IsOwnNode}
-use Rattle.lk_law.specs.Nodes.{IsFree, IsPlainNode, IsShallow, FreeNodeKeeps, FreshIsFree}
+use Rattle.lk_law.specs.Nodes.{IsFree, IsPlainNode, FreeNodeKeeps, FreshIsFree}
 use Rattle.lk_law.specs.Nodes.{PrevIsUsed, LinkIsUsed}
+use Rattle.lk_law.specs.Halting.{HaltingLinkIsUsed}
 use Rattle.lk_law.specs.Phase.{Phase, has_node, queues}
 use Rattle.lk_law.specs.Phase.Phase.{Prepared, Links, Holds}
 use Rattle.lk_law.specs.Places.{snapshot, phase_if, phase_on, slow_in, own_in}
@@ -27,7 +28,9 @@ use Rattle.lk_law.specs.SoundWorld.{IsSoundWorld, spin_part}
 use Rattle.lk_law.specs.Steps.{put_node}
 use Rattle.lk_law.specs.World.{World}
 use Rattle.lk_law.proofs.common.Before.{before_lt, nodes_apart}
-use Rattle.lk_law.proofs.common.Families.{Last, lists_keep, lists_rest, lists_met, lists_front}
+use Rattle.lk_law.proofs.common.Families.{Last, lists_keep, lists_rest, lists_met, lists_front, lists_main}
+use Rattle.lk_law.proofs.pv.Keep.{pv_keep, agrees-noded}
+use Rattle.lk_law.proofs.pv.Laws.{halts_flat}
 use Rattle.lk_law.proofs.common.Frame.{queue_node}
 use Rattle.lk_law.proofs.common.Puts.{if-false, if_cases, same_node-else}
 use Rattle.lk_law.proofs.common.Users.{user_of, own_node, used_noded, used_own}
@@ -38,7 +41,7 @@ prepared_node : (r : Phase) → r ≡ Prepared → has_node r ≡ true
 prepared_node r h = grind arith
 
 module _ (m : World) (hs : LockName → LockHistory) (n : NodeName) (x : Node)
-    (ok : IsSoundSpinWorld m hs) (awake : halts m.mode ≡ false) (free : IsFree m n)
+    (ok : IsSoundSpinWorld m hs) (free : IsFree m n)
     (plain : IsPlainNode m x) where
   abbrev s : Snapshot
   s = snapshot m
@@ -69,7 +72,23 @@ module _ (m : World) (hs : LockName → LockHistory) (n : NodeName) (x : Node)
         holders = o.holders;
         hold = o.hold;
         pend = o.pend;
-        posts = λ on. absurd (grind (arith, awake, on));
+        posts = λ on. let a = o.posts on in
+            record {
+              posts = pv_keep (s.word l).locked (s.entry l) (slice_get (hs l).main 0) (s.post l)
+                  (node_state s) (node_state s') s.own s.own (λ u. Owed s u.cpu) (λ u. Owed s u.cpu) a.posts
+                  (λ u q. (
+                    ap (λ (y : Node). y.state)
+                        (others l u (agrees-noded (s.post l u) (s.phase l u) (a.suits u) q)),
+                    refl,
+                  ))
+                  (λ z q. (
+                    ap (λ (y : Node). y.state)
+                        (others l z (queue_node (s.phase l z) (lists_main o.lists 0 z q))),
+                    refl,
+                  ))
+                  (λ z q d. d);
+              suits = a.suits;
+            };
         lists = lists_keep o.lists {phase' = s.phase l} {own' = s.own} {node' = s'.node}
             {stage' = s.stage l} {kept' = s.kept}
             (λ u q. (refl, refl, others l u (queue_node (s.phase l u) q), refl, refl))
@@ -101,9 +120,9 @@ module _ (m : World) (hs : LockName → LockHistory) (n : NodeName) (x : Node)
       }
 
 pub free_node_keeps : FreeNodeKeeps
-free_node_keeps m hs n x ok awake free plain =
+free_node_keeps m hs n x ok free plain =
     record {
-      spins = spin_free_node_keeps m (spin_part m.kind hs) n x ok.spins awake free plain;
+      spins = spin_free_node_keeps m (spin_part m.kind hs) n x ok.spins free plain;
       rws = ok.rws;
       fits = ok.fits;
     }
@@ -132,7 +151,7 @@ fresh_is_free m hs p ok low u uses =
 module _ {m : World} {hs : LockName → LockHistory} {w : Waiter} {f : Frame} {c : Pc}
     (ok : IsSoundSpinWorld m hs) (live : m.frame w ≡ Some f) (place : f.place ≡ Some c) where
   -- the phase of the frame at its lock
-  here : (snapshot m).phase f.lock w
+  pub here : (snapshot m).phase f.lock w
       ≡ phase_if (Some c) (is_some f.me) (node_of f.prev) (node_of f.y)
   here = ap (phase_on f.lock) live ∙ phase_on-here f.lock f refl
       ∙ ap (λ (o : Option Pc). phase_if o (is_some f.me) (node_of f.prev) (node_of f.y)) place
@@ -156,6 +175,17 @@ link_is_used m hs w f n ok live place linked =
     let s = snapshot m in
     let lists = (ok.agrees.locks f.lock).lists in
     let flat = lists.flat ((ok.registers w f live).choice.plainly G10 place refl) in
+    let own : s.own w ≡ node_of f.me = ap own_in live in
+    let first : slice_get (hs f.lock).main 0 ≡ Some w = lists_front lists w (let e = here ok live place in grind (arith, e)) in
+    let next : (m.node (s.own w)).next ≡ Some n = ap (λ (k : NodeName). (m.node k).next) own ∙ linked in
+    let v = second_is flat.queue w n first next in
+    of_waiter ok live place n v.0 (ap has_node v.2) v.3
+
+pub halting_link_is_used : HaltingLinkIsUsed
+halting_link_is_used m hs w f n ok live place linked =
+    let s = snapshot m in
+    let lists = (ok.agrees.locks f.lock).lists in
+    let flat = lists.flat (halts_flat m.mode ((ok.registers w f live).choice.halting E14 place refl)) in
     let own : s.own w ≡ node_of f.me = ap own_in live in
     let first : slice_get (hs f.lock).main 0 ≡ Some w = lists_front lists w (let e = here ok live place in grind (arith, e)) in
     let next : (m.node (s.own w)).next ≡ Some n = ap (λ (k : NodeName). (m.node k).next) own ∙ linked in

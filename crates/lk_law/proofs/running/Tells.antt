@@ -1,7 +1,7 @@
 -- Where a row hands the lead on, some waiter uses the node that it names.
 use Rattle.std.proofs.Common.{◌≡◌, ◌≢◌, ℕ, Option, Some, None, Bool, true, false, refl, sym, ap, ◌∙◌}
 use Rattle.std.proofs.Common.{subst}
-use Rattle.std.specs.Prelude.{if◌then◌else◌, is_some}
+use Rattle.std.specs.Prelude.{if◌then◌else◌, is_some, ◌-◌, ◌==◌, ◌&&◌}
 use Rattle.lk_abs.specs.History.{LockHistory}
 use Rattle.lk_abs.specs.declared.names.Mode.{Mode}
 use Rattle.lk_abs.specs.declared.names.Mode.TheVariants.{Virt, Native, Cna, Pv}
@@ -19,20 +19,21 @@ use Rattle.lk_machine.specs.declared.parts.Pc.TheVariants.{W3, W4, W5, W6, W7, E
 use Rattle.lk_machine.specs.declared.parts.Pc.TheVariants.{E6, E7, E8, E9, E10, E11, E12, E13, E14}
 use Rattle.lk_machine.specs.declared.parts.Pc.TheVariants.{E15, K1, K2, K3, U2, U3, U4, U5}
 use Rattle.lk_machine.specs.Row.{Effect, Tell, Nothing, Says, Passes}
-use Rattle.lk_machine.specs.rows.Spin.{is_free}
+use Rattle.lk_machine.specs.rows.Spin.{is_free, is_unlocked}
 use Rattle.lk_machine.specs.rows.Queue.{after_flag, after_next, is_sole}
 use Rattle.lk_machine.specs.rows.Cna.{Sight, after_none, is_last, may_stay, search_first, search_on}
+use Rattle.lk_machine.specs.rows.Cna.{is_held}
+use Rattle.lk_machine.specs.rows.Pv.{pv_after_next, is_set, is_running, is_halted}
 use Rattle.lk_machine.specs.rows.Rw.{is_open, is_empty, is_cleared}
 use Rattle.lk_machine.specs.Moves.{node_of}
 use Rattle.lk_machine.specs.TopRow.{target}
-use Rattle.lk_law.specs.Families.{may_halt}
 use Rattle.lk_law.specs.Leads.{course_in}
 use Rattle.lk_law.specs.Nodes.{LeadGoesOn}
 use Rattle.lk_law.specs.Premises.{Uses, GoesTo}
 use Rattle.lk_law.specs.SpinWorld.{IsSoundSpinWorld}
 use Rattle.lk_law.specs.Steps.{Made, row_in, sight_in}
 use Rattle.lk_law.specs.World.{World}
-use Rattle.lk_law.proofs.common.Knows.{next_is_used}
+use Rattle.lk_law.proofs.common.Knows.{next_is_used, halting_next_is_used}
 use Rattle.lk_law.proofs.cna.Knows.{choice_is_used}
 use Rattle.lk_law.proofs.running.Leads.{row_is_led}
 
@@ -73,6 +74,10 @@ module _ (m : World) (hs : LockName → LockHistory) (w : Waiter) (f : Frame)
   nobody None = refl
   nobody (Some n) = refl
 
+  behind : (x : Option NodeName) → passes (pv_after_next x).tells ≡ false
+  behind None = refl
+  behind (Some n) = refl
+
   first : (x : Option NodeName) → passes (search_first s f.second x).tells ≡ false
   first None = nobody f.second
   first (Some n) =
@@ -84,67 +89,51 @@ module _ (m : World) (hs : LockName → LockHistory) (w : Waiter) (f : Frame)
   further (Some n) =
       either (s.local n) _ _ (either (is_some f.second) _ _ refl refl) refl
 
-  to : (c : Pc) → f.place ≡ Some c → may_halt c ≡ false
+  to : (c : Pc) → f.place ≡ Some c
       → (to : Waiter) × GoesTo m to (course_in m w f c (target c f)).tells
-  to G11 at h = let u = next_is_used m hs w f ok live at in (u.0, u.1)
-  to C8 at h = let u = choice_is_used m hs w f C8 ok live at refl in (u.0, u.1)
-  to F1 at h = quiet _ (either (is_free (m.word f.lock)) _ _ refl refl)
-  to T1 at h = quiet _ (either (is_free (m.word f.lock)) _ _ refl refl)
-  to T2 at h = quiet _ (either (is_free (m.word f.lock)) _ _ refl refl)
-  to V2 at h = quiet _ (either (is_free (m.word f.lock)) _ _ refl refl)
-  to G3 at h = quiet _ (either (is_free (m.word f.lock)) _ _ refl refl)
-  to G6 at h = quiet _ (flagged (m.node (node_of f.me)).flag)
-  to G8 at h = quiet _ (either (is_sole f (m.word f.lock)) _ _ refl refl)
-  to G10 at h = quiet _ (next (m.node (node_of f.me)).next)
-  to N2 at h = quiet _ (either (is_free (m.word f.lock)) _ _ refl refl)
-  to C1 at h = quiet _ (first (m.node (node_of f.me)).next)
-  to C2 at h = quiet _ (further (m.node (node_of f.b)).next)
-  to C10 at h = quiet _ (either (is_last f (m.word f.lock)) _ _ refl refl)
-  to R1 at h = quiet _ (either (is_open (m.rw f.lock.index)) _ _ refl refl)
-  to R2 at h = quiet _ (either (m.rw f.lock.index).writer _ _ refl refl)
-  to R5 at h = quiet _ (either (m.rw f.lock.index).writer _ _ refl refl)
-  to Wr1 at h = quiet _ (either (is_empty (m.rw f.lock.index)) _ _ refl refl)
-  to Wr3 at h = quiet _ (either (is_empty (m.rw f.lock.index)) _ _ refl refl)
-  to Wr6 at h = quiet _ (either (is_cleared (m.rw f.lock.index)) _ _ refl refl)
-  to Y1 at h = quiet _ (either (is_open (m.rw f.lock.index)) _ _ refl refl)
-  to Y2 at h = quiet _ (either (is_open (m.rw f.lock.index)) _ _ refl refl)
-  to Y4 at h = quiet _ (either (is_empty (m.rw f.lock.index)) _ _ refl refl)
-  to Y5 at h = quiet _ (either (is_empty (m.rw f.lock.index)) _ _ refl refl)
-  to H1 at h = cc h
-  to H2 at h = cc h
-  to W1 at h = cc h
-  to W2 at h = cc h
-  to W3 at h = cc h
-  to W4 at h = cc h
-  to W5 at h = cc h
-  to W6 at h = cc h
-  to W7 at h = cc h
-  to E1 at h = cc h
-  to E2 at h = cc h
-  to E3 at h = cc h
-  to E4 at h = cc h
-  to E5 at h = cc h
-  to E6 at h = cc h
-  to E7 at h = cc h
-  to E8 at h = cc h
-  to E9 at h = cc h
-  to E10 at h = cc h
-  to E11 at h = cc h
-  to E12 at h = cc h
-  to E13 at h = cc h
-  to E14 at h = cc h
-  to E15 at h = cc h
-  to K1 at h = cc h
-  to K2 at h = cc h
-  to K3 at h = cc h
-  to U2 at h = cc h
-  to U3 at h = cc h
-  to U4 at h = cc h
-  to U5 at h = cc h
-  to _ at h = (anybody, tt)
+  to G11 at = let u = next_is_used m hs w f ok live at in (u.0, u.1)
+  to C8 at = let u = choice_is_used m hs w f C8 ok live at refl in (u.0, u.1)
+  to F1 at = quiet _ (either (is_free (m.word f.lock)) _ _ refl refl)
+  to T1 at = quiet _ (either (is_free (m.word f.lock)) _ _ refl refl)
+  to T2 at = quiet _ (either (is_free (m.word f.lock)) _ _ refl refl)
+  to V2 at = quiet _ (either (is_free (m.word f.lock)) _ _ refl refl)
+  to G3 at = quiet _ (either (is_free (m.word f.lock)) _ _ refl refl)
+  to G6 at = quiet _ (flagged (m.node (node_of f.me)).flag)
+  to G8 at = quiet _ (either (is_sole f (m.word f.lock)) _ _ refl refl)
+  to G10 at = quiet _ (next (m.node (node_of f.me)).next)
+  to N2 at = quiet _ (either (is_free (m.word f.lock)) _ _ refl refl)
+  to C1 at = quiet _ (first (m.node (node_of f.me)).next)
+  to C2 at = quiet _ (further (m.node (node_of f.b)).next)
+  to C10 at = quiet _ (either (is_last f (m.word f.lock)) _ _ refl refl)
+  to R1 at = quiet _ (either (is_open (m.rw f.lock.index)) _ _ refl refl)
+  to R2 at = quiet _ (either (m.rw f.lock.index).writer _ _ refl refl)
+  to R5 at = quiet _ (either (m.rw f.lock.index).writer _ _ refl refl)
+  to Wr1 at = quiet _ (either (is_empty (m.rw f.lock.index)) _ _ refl refl)
+  to Wr3 at = quiet _ (either (is_empty (m.rw f.lock.index)) _ _ refl refl)
+  to Wr6 at = quiet _ (either (is_cleared (m.rw f.lock.index)) _ _ refl refl)
+  to Y1 at = quiet _ (either (is_open (m.rw f.lock.index)) _ _ refl refl)
+  to Y2 at = quiet _ (either (is_open (m.rw f.lock.index)) _ _ refl refl)
+  to Y4 at = quiet _ (either (is_empty (m.rw f.lock.index)) _ _ refl refl)
+  to Y5 at = quiet _ (either (is_empty (m.rw f.lock.index)) _ _ refl refl)
+  to E15 at = let u = halting_next_is_used m hs w f ok live at in (u.0, u.1)
+  to H2 at = quiet _ (either (is_unlocked (m.word f.lock).locked) _ _ refl refl)
+  to W2 at =
+      quiet _ (either (is_running (m.node (node_of f.prev)).state) _ _
+      (either (f.left - 1 == 0) _ _ refl refl) refl)
+  to W4 at = quiet _ (either (is_set (m.node (node_of f.me)).flag) _ _ refl refl)
+  to W7 at = quiet _ (either (is_halted (m.node (node_of f.me)).state) _ _ refl refl)
+  to E4 at =
+      quiet _ (either (is_unlocked (m.word f.lock).locked && (m.word f.lock).pending) _ _ refl
+      (either (f.left - 1 == 0) _ _ refl refl))
+  to E7 at = quiet _ (either (is_unlocked (m.word f.lock).locked) _ _ refl refl)
+  to E13 at = quiet _ (either (is_last f (m.word f.lock)) _ _ refl refl)
+  to E14 at = quiet _ (behind (m.node (node_of f.me)).next)
+  to K1 at = quiet _ (either (is_halted (m.node (node_of f.y)).state) _ _ refl refl)
+  to U2 at = quiet _ (either (is_held (m.word f.lock).locked) _ _ refl refl)
+  to _ at = (anybody, tt)
 
 pub lead_goes_on : LeadGoesOn
-lead_goes_on m hs w f c ok live at awake =
+lead_goes_on m hs w f c ok live at =
     subst (λ (t : Tell). (to : Waiter) × GoesTo m to t)
     (sym (ap (λ (p : Made). p.1) (row_is_led m w f c (target c f))))
-    (to m hs w f ok live c at awake)
+    (to m hs w f ok live c at)

@@ -63,6 +63,7 @@ use Rattle.lk_law.proofs.common.BothLayers.{IsOf, told_on-else, fits_after}
 pub record RwStored (m n : World) (i : ℕ) (x : RwFields) : Type 0 where
   pub modes : n.mode ≡ m.mode
   pub thresholds : n.threshold ≡ m.threshold
+  pub formats : n.format ≡ m.format
   pub socketses : n.sockets ≡ m.sockets
   pub entries : n.entry ≡ m.entry
   pub words : n.word ≡ m.word
@@ -82,6 +83,7 @@ rw_unstored m i =
     record {
       modes = refl;
       thresholds = refl;
+      formats = refl;
       socketses = refl;
       entries = refl;
       words = refl;
@@ -102,6 +104,7 @@ rw_stored m i x =
     record {
       modes = refl;
       thresholds = refl;
+      formats = refl;
       socketses = refl;
       entries = refl;
       words = refl;
@@ -359,6 +362,7 @@ module _ {m n : World} {hs : LockName → LockHistory} {w : Waiter} {f g : Frame
       (record {
         mode = go.stored.modes;
         threshold = go.stored.thresholds;
+        format = go.stored.formats;
         sockets = go.stored.socketses;
         entries = λ k ne. ap (λ (h : LockName → Option NodeName). h k) go.stored.entries;
         word = ap (λ (h : LockName → Fields). h l) word;

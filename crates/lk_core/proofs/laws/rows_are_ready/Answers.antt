@@ -1,4 +1,4 @@
-use Rattle.lk_core.proofs.RowsReady.{rows_are_ready}
+use Rattle.lk_core.proofs.ActDone.{rows_are_ready}
 use Rattle.lk_core.proofs.laws.rows_are_ready.Goals as goal
 
 pub returns : goal.returns

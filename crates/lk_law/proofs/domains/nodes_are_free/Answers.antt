@@ -1,5 +1,6 @@
 use Rattle.lk_law.proofs.cna.Named.{second_tail_is_used, behind_is_used, first_is_used, chosen_waits_for_it}
 use Rattle.lk_law.proofs.running.Nodes.{free_node_keeps, fresh_is_free, prev_is_used, link_is_used}
+use Rattle.lk_law.proofs.running.Links.{linked_is_used, passed_is_used}
 use Rattle.lk_law.proofs.running.Tells.{lead_goes_on}
 use Rattle.lk_law.proofs.domains.nodes_are_free.Goals as goal
 
@@ -29,3 +30,9 @@ returns-clause-first c = first_is_used
 
 pub returns-clause-chosen : goal.returns-clause-chosen
 returns-clause-chosen c = chosen_waits_for_it
+
+pub returns-clause-linked : goal.returns-clause-linked
+returns-clause-linked c = linked_is_used
+
+pub returns-clause-passed : goal.returns-clause-passed
+returns-clause-passed c = passed_is_used
