@@ -17,7 +17,7 @@ use Rattle.lk_law.specs.Agree.{halts}
 use Rattle.lk_law.specs.Leads.{Word}
 use Rattle.lk_law.proofs.common.Puts.{if_cases, if-true, if-false, not-true}
 use Rattle.lk_law.proofs.common.Sames.{same_lock-true}
-use Rattle.lk_machine.specs.rows.Cna.{Sight}
+use Rattle.lk_domain.specs.Calls.{Outlook}
 use Rattle.lk_domain.specs.Calls.{terms_of, mark, Running, Hold, Calls, are_calls, is_on, is_verb, begin, row_of, row_on, sight_of}
 use Rattle.lk_domain.specs.declared.plan.Plan.{Plan}
 use Rattle.lk_domain.specs.Calls.{moved_to, free_of, lock_name, holds_in}
@@ -108,7 +108,7 @@ pub record Ends (old new : Calls) (l : ℕ) (x : Fields) : Type 0 where
   pub taken : new.taken ≡ old.taken
   pub last : new.last ≡ mark U1 (Word x) 0 ∷ []
 
-ends_by : (mode : Mode) → halts mode ≡ false → (p : ℕ) (z : Sight) (old : Calls) (l : ℕ) (x : Fields)
+ends_by : (mode : Mode) → halts mode ≡ false → (p : ℕ) (z : Outlook) (old : Calls) (l : ℕ) (x : Fields)
     → Ends old (row_on mode p z (begin mode old Unlock l).frames (begin mode old Unlock l) (Word x)) l x
 ends_by Virt h p z old l x = record { frames = refl; holds = refl; taken = refl; last = refl }
 ends_by Native h p z old l x = record { frames = refl; holds = refl; taken = refl; last = refl }

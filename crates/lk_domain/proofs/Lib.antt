@@ -10,5 +10,6 @@ pub mod Freed
 pub mod Paths
 pub mod Ways
 pub mod ledger
+pub mod Seating
 pub mod queue
 pub mod rw

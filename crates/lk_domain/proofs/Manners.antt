@@ -321,23 +321,23 @@ after_others rs Frees d l n hs e are = fresh_kept rs hs (free_of d l hs) (λ x w
 pub after_fresh : (verb : Verb) (g : Frame) (t : List Mark) (rs : List Running) (q : Option Pc) (y : Grip) (d : ℕ)
     (l : LockName) (n : ℕ) (hs : List Hold) (s : Bool) → g.place ≡ q → g.lock.index ≡ l.index
     → (s ≡ true → (holds_in hs l.index ≡ false) × (waits_in rs l.index ≡ false))
-    → (s ≡ false → q ≡ None)
+    → (s ≡ false → is_seeking q ≡ false)
     → ((m : Manner) → y ≡ Takes m → s ≡ true)
     → ((m : Manner) → y ≡ Takes m → l.wait ≡ false → is_seeking q ≡ false)
     → AreFresh rs hs → AreFresh (frames_after verb g t rs q) (holds_after y d l n hs)
 after_fresh verb g t rs None y d l n hs s place index was ends seeks over are =
     after_others rs y d l n hs (λ m e plain. (was (seeks m e)).1) are
 after_fresh verb g t rs (Some c) y d l n hs s place index was ends seeks over are = (
-  λ h. let a = was (still s refl) in (
+  λ h. let a = was (still (sym (ap is_seeking place) ∙ h) s refl) in (
     ap (holds_in (holds_after y d l n hs)) index ∙ unheld_yet y refl (sym (ap is_seeking place) ∙ h) a.0,
     ap (waits_in rs) index ∙ a.1,
   ),
   after_others rs y d l n hs (λ m e plain. (was (seeks m e)).1) are,
 )
   where
-    still : (b : Bool) → s ≡ b → s ≡ true
-    still true e = e
-    still false e = absurd (let z : Some c ≡ None = ends e in cc z)
+    still : is_seeking (Some c) ≡ true → (b : Bool) → s ≡ b → s ≡ true
+    still h true e = e
+    still h false e = absurd (let z : true ≡ false = sym h ∙ ends e in cc z)
 
     unheld_yet : (z : Grip) → y ≡ z → is_seeking (Some c) ≡ true → holds_in hs l.index ≡ false
         → holds_in (holds_after z d l n hs) l.index ≡ false

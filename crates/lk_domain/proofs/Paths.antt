@@ -10,13 +10,13 @@ use Rattle.lk_machine.specs.declared.parts.Pc.{Pc}
 use Rattle.lk_machine.specs.declared.setup.Verb.{Verb}
 use Rattle.lk_machine.specs.declared.setup.Verb.TheVariants.{Lock, Try, Read, TryRead, Write, TryWrite}
 use Rattle.lk_machine.specs.Moves.{first_place}
-use Rattle.lk_machine.specs.rows.Cna.{Sight}
+use Rattle.lk_domain.specs.Calls.{Outlook}
 use Rattle.lk_machine.specs.TopRow.{target}
 use Rattle.lk_law.specs.Leads.{Met, held_lock}
 use Rattle.lk_domain.specs.Calls.{mark, read_at, Running, running, hold, Calls, StandsAt, acting, begin, begun, is_on}
 use Rattle.lk_domain.specs.Calls.{is_verb, Begins, MayBegin, holds_in, waits_in, lock_name, row_of, row_on, row_at}
 use Rattle.lk_domain.specs.Calls.{Terms, sight_of, after, frames_after, last_after, holds_after, taken_after, course, Grip, Unchanged, Takes}
-use Rattle.lk_domain.specs.Paths.{next_frame, row_grip, still, onward, Path, IsAt, HasTaken, HasMissed, AreKept, Any}
+use Rattle.lk_domain.specs.Paths.{next_frame, row_grip, still, onward, Path, IsAt, HasTaken, HasMissed, Any}
 use Rattle.lk_domain.specs.declared.plan.Plan.{Plan}
 use Rattle.lk_domain.proofs.Turned.{is_taking, verb_self}
 use Rattle.lk_domain.proofs.rows.Went.{led_ctx}
@@ -27,7 +27,7 @@ module _ {t : Terms} {p : ℕ} {v : Verb} {l : ℕ} {pl : Pc} {P : Frame → Typ
   abbrev f : Frame
   f = at.frame
 
-  abbrev z : Sight
+  abbrev z : Outlook
   z = sight_of t p c.runs
 
   pub stands : StandsAt c v l pl
@@ -54,7 +54,7 @@ module _ {t : Terms} {p : ℕ} {v : Verb} {l : ℕ} {pl : Pc} {P : Frame → Typ
             ∙ ap (λ q. frames_after v g (at.trail ++ mark pl x (read_at pl z) ∷ []) old.frames q) place;
         holds = ap (λ (d : Calls). d.holds) is
             ∙ (ap (λ y. holds_after y f.ctx (held_lock (target pl f) f) (c.taken + 1) c.holds) grip ∙ at.holds);
-        taken = (let a = ap (λ (d : Calls). d.taken) is ∙ ap (λ y. taken_after y c.taken) grip in let b = at.taken in omega arith);
+        taken = ap (λ (d : Calls). d.taken) is ∙ (ap (λ y. taken_after y c.taken) grip ∙ at.taken);
         place = place;
         lock = lock ∙ at.lock;
         ctx = led_ctx f (course t.mode p z pl f x).leads ∙ at.ctx;
@@ -87,7 +87,13 @@ module _ {t : Terms} {p : ℕ} {v : Verb} {l : ℕ} {pl : Pc} {P : Frame → Typ
       ap (λ (d : Calls). d.frames) (rowed x)
       ∙ ap (λ q. frames_after v (next_frame t.mode p z pl f x) (at.trail ++ mark pl x (read_at pl z) ∷ []) old.frames q) place
 
-  -- the row takes the lock
+  -- the row takes the lock, and no other was taken since the call began
+  pub taken_once : (x : Met) (m : Manner) → row_grip t.mode p z pl f x ≡ Takes m
+      → (row_of t p c x).taken ≡ old.taken + 1
+  taken_once x m grip =
+      ap (λ (d : Calls). d.taken) (rowed x)
+      ∙ (ap (λ y. taken_after y c.taken) grip ∙ ap (λ (n : ℕ). n + 1) at.taken)
+
   pub takes : (x : Met) (m : Manner) → (next_frame t.mode p z pl f x).place ≡ None
       → row_grip t.mode p z pl f x ≡ Takes m → held_lock (target pl f) f ≡ f.lock
       → HasTaken t p v l m old (row_of t p c x)
@@ -114,7 +120,7 @@ module _ {t : Terms} {p : ℕ} {v : Verb} {l : ℕ} {pl : Pc} {P : Frame → Typ
         frames = frames_end x place;
         holds = ap (λ (d : Calls). d.holds) is
             ∙ (ap (λ y. holds_after y f.ctx (held_lock (target pl f) f) (c.taken + 1) c.holds) grip ∙ at.holds);
-        taken = (let a = ap (λ (d : Calls). d.taken) is ∙ ap (λ y. taken_after y c.taken) grip in let b = at.taken in omega arith);
+        taken = ap (λ (d : Calls). d.taken) is ∙ (ap (λ y. taken_after y c.taken) grip ∙ at.taken);
       }
 
   pub on_it : is_taking v ≡ true → is_on c.frames v l ≡ true
@@ -128,22 +134,6 @@ module _ {t : Terms} {p : ℕ} {v : Verb} {l : ℕ} {pl : Pc} {P : Frame → Typ
   pub no_begin : (k : Plan) → is_taking v ≡ true → Begins k c v l
   no_begin k t off = absurd (let e : true ≡ false = sym (on_it t) ∙ off in let z : ⊥ = cc in z)
 
-  -- nested calls leave it where it is
-  pub kept : {d : Calls} → AreKept c d → IsAt t p v l pl P old d
-  kept k =
-      record {
-        frame = f;
-        trail = at.trail;
-        walk = at.walk;
-        frames = k.frames ∙ at.frames;
-        holds = k.holds ∙ at.holds;
-        taken = let a = at.taken in let b = k.taken in omega arith;
-        place = at.place;
-        lock = at.lock;
-        ctx = at.ctx;
-        has = at.has;
-      }
-
 -- a call begins
 pub starts : (t : Terms) (p : ℕ) (v : Verb) (l : ℕ) (c : Calls) → is_taking v ≡ true
     → IsAt t p v l (first_place t.mode v) Any c (begin t.mode c v l)
@@ -154,7 +144,7 @@ starts t p v l c takes =
       walk = still;
       frames = refl;
       holds = keeps v takes;
-      taken = omega arith;
+      taken = refl;
       place = refl;
       lock = refl;
       ctx = refl;

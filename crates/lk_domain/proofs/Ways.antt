@@ -1,6 +1,6 @@
 -- What the rows of `virt` do to a call, by what they meet.
 use Rattle.std.proofs.Common.{◌≡◌, ◌≢◌, ℕ, ◌+◌, ◌≤◌, List, [], ◌∷◌, ◌++◌, length, Option, Some, None, Bool, true, false}
-use Rattle.std.proofs.Common.{eqb, eqb-true, refl, sym, ap, ◌∙◌, subst}
+use Rattle.std.proofs.Common.{eqb, eqb-true, refl, sym, ap, ◌∙◌, subst, arith}
 use Rattle.std.specs.Prelude.{if◌then◌else◌}
 use Rattle.atomic_table.specs.Table.{Me}
 use Rattle.lk_abs.specs.declared.holder.Manner.TheVariants.{Spins}
@@ -8,6 +8,7 @@ use Rattle.lk_abs.specs.declared.names.LockName.{LockName}
 use Rattle.lk_abs.specs.declared.names.Mode.{Mode}
 use Rattle.lk_abs.specs.declared.names.Mode.TheVariants.{Virt, Native, Cna, Pv}
 use Rattle.lk_word.specs.declared.spin_word.Fields.{Fields}
+use Rattle.lk_word.specs.declared.spin_word.Layout.{Layout}
 use Rattle.lk_word.specs.SpinWord.{packed}
 use Rattle.lk_machine.specs.declared.parts.Frame.{Frame}
 use Rattle.lk_machine.specs.declared.parts.Pc.{Pc}
@@ -22,7 +23,7 @@ use Rattle.lk_machine.specs.TopRow.{target}
 use Rattle.lk_law.specs.Agree.{halts}
 use Rattle.lk_law.specs.Leads.{Met, Word}
 use Rattle.lk_domain.specs.Calls.{terms_of, mark, read_at, Running, running, Calls, StandsAt, acting, begin, lock_name}
-use Rattle.lk_machine.specs.rows.Cna.{Sight}
+use Rattle.lk_domain.specs.Calls.{Outlook}
 use Rattle.lk_law.specs.Premises.{IsThen}
 use Rattle.lk_domain.specs.Calls.{sight_of, row_of, Unchanged, Takes, Frees, holds_in, waits_in, begun, are_calls}
 use Rattle.lk_domain.specs.Keeps.{Slot}
@@ -46,6 +47,7 @@ use Rattle.lk_domain.proofs.Turned.{is_taking}
 pub record IsSeat (k : Plan) (p : ℕ) (v : View) : Type 0 where
   pub plan : v.who.plan ≡ k
   pub number : v.who.number ≡ Some p
+  pub awake : halts k.mode ≡ false
 
 -- a call, with what the ledger was
 
@@ -55,6 +57,7 @@ pub record Moved (k : Plan) (p : ℕ) (v : Verb) (l : ℕ) (c : Pc) (old : Calls
 
 pub record Took (k : Plan) (p : ℕ) (v : Verb) (l : ℕ) (old : Calls) (m n : View) : Type 0 where
   pub taken : HasTaken (terms_of k) p v l Spins old n.calls
+  pub once : n.calls.taken ≡ old.taken + 1
   pub ledger : n.ledger ≡ turned m.ledger (lock_name l) (Takes Spins) n.calls.last
 
 pub record Missed (k : Plan) (p : ℕ) (v : Verb) (l : ℕ) (old : Calls) (m n : View) : Type 0 where
@@ -72,7 +75,7 @@ module _ (k : Plan) (p : ℕ) (v : Verb) (l : ℕ) (pl : Pc) (old : Calls) (m n 
   abbrev f : Frame
   f = at.frame
 
-  abbrev z : Sight
+  abbrev z : Outlook
   z = sight_of (terms_of k) p c.runs
 
   calls : n.0.calls ≡ row_of (terms_of k) p c x
@@ -110,6 +113,7 @@ module _ (k : Plan) (p : ℕ) (v : Verb) (l : ℕ) (pl : Pc) (old : Calls) (m n 
       let t = path.takes at x Spins place grip (own_lock (target pl f) f unseen) in
       record {
         taken = subst (HasTaken (terms_of k) p v l Spins old) (sym calls) t;
+        once = ap (λ (d : Calls). d.taken) calls ∙ path.taken_once at x Spins grip;
         ledger = turns
             ∙ (λ i. turned m.0.ledger (lock_name l) (grip i) (at.trail ++ mark pl x (read_at pl z) ∷ []))
             ∙ ap (λ ms. turned m.0.ledger (lock_name l) (Takes Spins) ms) (last place);
@@ -128,15 +132,16 @@ module _ (k : Plan) (p : ℕ) (v : Verb) (l : ℕ) (pl : Pc) (old : Calls) (m n 
 
 -- what a word says
 
-pub is_zero : (n : ℕ) (y : Fields) → n ≡ packed y → eqb n 0 ≡ true → is_free y ≡ true
-is_zero n y is h = sym (free_test y) ∙ (ap (λ (z : ℕ). eqb z 0) (sym is) ∙ h)
+module _ (layout : Layout) where
+  pub is_zero : (n : ℕ) (y : Fields) → n ≡ packed layout y → eqb n 0 ≡ true → is_free y ≡ true
+  is_zero n y is h = sym (free_test layout y) ∙ (ap (λ (z : ℕ). eqb z 0) (sym is) ∙ h)
 
-pub not_zero : (n : ℕ) (y : Fields) → n ≡ packed y → eqb n 0 ≡ false → is_free y ≡ false
-not_zero n y is h = sym (free_test y) ∙ (ap (λ (z : ℕ). eqb z 0) (sym is) ∙ h)
+  pub not_zero : (n : ℕ) (y : Fields) → n ≡ packed layout y → eqb n 0 ≡ false → is_free y ≡ false
+  not_zero n y is h = sym (free_test layout y) ∙ (ap (λ (z : ℕ). eqb z 0) (sym is) ∙ h)
 
 -- the rows
 
-module _ (mode : Mode) (p : ℕ) (z : Sight) (f : Frame) (y : Fields) (plain : f.lock.wait ≡ false) where
+module _ (mode : Mode) (p : ℕ) (z : Outlook) (f : Frame) (y : Fields) (plain : f.lock.wait ≡ false) where
   pub T1_free : is_free y ≡ true → (next_frame mode p z T1 f (Word y)).place ≡ Some T2
   T1_free e = rw e refl
 
@@ -165,7 +170,7 @@ module _ (k : Plan) (p : ℕ) (l : ℕ) (m n : Me Slot View) (met : ℕ) (seat :
     pub T1_sees : eqb met 0 ≡ true → Moved k p Try l T2 m.0.calls m.0 n.0
     T1_sees h =
         let at = first Try refl none made in
-        let e = is_zero met made.found made.word h in
+        let e = is_zero _ met made.found made.word h in
         moves k p Try l T1 m.0.calls m n met seat made (begin k.mode m.0.calls Try l) (begun_is Try refl none made) at tt T2
         (T1_free k.mode p (sight_of (terms_of k) p None) at.frame made.found (ap (λ (z : LockName). z.wait) at.lock) e) (T1_grip k.mode p (sight_of (terms_of k) p None) at.frame made.found (ap (λ (z : LockName). z.wait) at.lock) e)
         (T1_lock k.mode p (sight_of (terms_of k) p None) at.frame made.found (ap (λ (z : LockName). z.wait) at.lock) e)
@@ -173,7 +178,7 @@ module _ (k : Plan) (p : ℕ) (l : ℕ) (m n : Me Slot View) (met : ℕ) (seat :
     pub T1_misses : eqb met 0 ≡ false → Missed k p Try l m.0.calls m.0 n.0
     T1_misses h =
         let at = first Try refl none made in
-        let o = rows.looks_held k.mode p {z = sight_of (terms_of k) p None} at.frame false (ap (λ (z : LockName). z.wait) at.lock) (not_wait at.frame (ap (λ (z : LockName). z.wait) at.lock)) made.found Try T1 refl (not_zero met made.found made.word h) in
+        let o = rows.looks_held k.mode p {z = sight_of (terms_of k) p None} at.frame false (ap (λ (z : LockName). z.wait) at.lock) (not_wait at.frame (ap (λ (z : LockName). z.wait) at.lock)) made.found Try T1 refl (not_zero _ met made.found made.word h) in
         misses k p Try l T1 m.0.calls m n met seat made (begin k.mode m.0.calls Try l) (begun_is Try refl none made) at tt o.place.0 (o.grip (ap (λ (z : LockName). z.wait) at.lock))
 
   -- the rows of a call that goes on
@@ -185,12 +190,12 @@ module _ (k : Plan) (p : ℕ) (l : ℕ) (m n : Me Slot View) (met : ℕ) (seat :
     module _ (made : MadeBy Try l m met n) (at : IsAt (terms_of k) p Try l T2 Any old m.0.calls) where
       pub T2_takes : eqb met 0 ≡ true → Took k p Try l old m.0 n.0
       T2_takes h =
-          let o = rows.takes_free k.mode p {z = sight_of (terms_of k) p m.0.calls.runs} at.frame false (plain at) (not_wait at.frame (plain at)) made.found Try T2 refl (is_zero met made.found made.word h) in
+          let o = rows.takes_free k.mode p {z = sight_of (terms_of k) p m.0.calls.runs} at.frame false (plain at) (not_wait at.frame (plain at)) made.found Try T2 refl (is_zero _ met made.found made.word h) in
           takes k p Try l T2 old m n met seat made m.0.calls (path.acts at refl) at tt o.place.0 (o.grip (ap (λ (z : LockName). z.wait) at.lock))
 
       pub T2_misses : eqb met 0 ≡ false → Missed k p Try l old m.0 n.0
       T2_misses h =
-          let o = rows.takes_held k.mode p {z = sight_of (terms_of k) p m.0.calls.runs} at.frame false (plain at) (not_wait at.frame (plain at)) made.found Try T2 refl (not_zero met made.found made.word h) in
+          let o = rows.takes_held k.mode p {z = sight_of (terms_of k) p m.0.calls.runs} at.frame false (plain at) (not_wait at.frame (plain at)) made.found Try T2 refl (not_zero _ met made.found made.word h) in
           misses k p Try l T2 old m n met seat made m.0.calls (path.acts at refl) at tt o.place.0 (o.grip (ap (λ (z : LockName). z.wait) at.lock))
 
 -- what the step calls ask
@@ -206,7 +211,7 @@ acts_first kind k p v l m seat t none free few fits is =
       stands = subst (λ (c : Calls). StandsAt c v l (first_place k.mode v))
           (sym (ap (λ (j : Plan). acting j.mode m.calls v l) seat.plan ∙ path.acts_begin k.mode m.calls v l none))
           (path.stands (path.starts (terms_of k) p v l m.calls t));
-      begins = λ _. (few, path.may_begin m.calls v l t free none, ap (λ (j : Plan). kind_at j l) seat.plan ∙ fits);
+      begins = λ _. (few, path.may_begin m.calls v l t free none, ap (λ (j : Plan). kind_at j l) seat.plan ∙ fits, λ on. absurd (grind (arith, ap (λ (j : Plan). halts j.mode) seat.plan, seat.awake, on)));
     }
 
 -- one that goes on
@@ -238,7 +243,7 @@ acts_release k p l m seat awake calm few spin has =
         place = starts_at k.mode awake;
         lock = refl;
       };
-      begins = λ _. (few, has, ap (λ (j : Plan). kind_at j l) seat.plan ∙ spin);
+      begins = λ _. (few, has, ap (λ (j : Plan). kind_at j l) seat.plan ∙ spin, λ on. absurd (grind (arith, ap (λ (j : Plan). halts j.mode) seat.plan, seat.awake, on)));
     }
   where
     starts_at : (mode : Mode) → halts mode ≡ false → Some (first_place mode Unlock) ≡ Some U1

@@ -3,7 +3,9 @@ pub mod NodeStores
 pub mod OnNodes
 pub mod Entries
 pub mod Unfreed
+pub mod Relinks
 pub mod NodePlays
+pub mod NodeAsks
 pub mod ChoicePlays
 pub mod LockSwaps
 pub mod FrontPlays

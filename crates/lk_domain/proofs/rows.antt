@@ -3,5 +3,8 @@ pub mod Went
 pub mod Grips
 pub mod Poised
 pub mod Sights
+pub mod Kept
 pub mod Lands
 pub mod Fresh
+pub mod Users
+pub mod Halts

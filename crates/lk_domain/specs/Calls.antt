@@ -1,31 +1,36 @@
 -- What a seat knows of its processor's locks: the calls that it is in, each with its trail, and the
 -- locks that it holds. And what a row makes of this, by the value that it meets.
-use Rattle.std.specs.Prelude.{◌≡◌, ℕ, ◌+◌, ◌<◌, ◌==◌, ◌&&◌, not, Bool, true, false, List, []}
+use Rattle.std.specs.Prelude.{◌≡◌, ℕ, ◌+◌, ◌<◌, ◌==◌, ◌&&◌, ◌||◌, not, nat_lt, Bool, true, false, List, []}
 use Rattle.std.specs.Prelude.{◌∷◌, ◌++◌, length, Option, Some, None, if◌then◌else◌}
 use Rattle.lk_abs.specs.Names.{same_lock}
 use Rattle.lk_abs.specs.declared.holder.Manner.{Manner}
 use Rattle.lk_abs.specs.declared.holder.Manner.TheVariants.{Spins, Reads, Writes}
+use Rattle.lk_abs.specs.declared.names.Format.{Format}
+use Rattle.lk_abs.specs.declared.names.Format.TheVariants.{One, Two}
 use Rattle.lk_abs.specs.declared.names.Kind.{Kind}
 use Rattle.lk_abs.specs.declared.names.Mode.{Mode}
 use Rattle.lk_abs.specs.declared.names.LockName.{LockName}
 use Rattle.lk_abs.specs.declared.events.What.TheVariants.{RTake, RRelease, WTake, WRelease}
+use Rattle.lk_word.specs.declared.spin_word.NodeName.{NodeName}
 use Rattle.lk_machine.specs.declared.parts.Frame.{Frame}
 use Rattle.lk_machine.specs.declared.parts.Pc.{Pc}
-use Rattle.lk_machine.specs.declared.parts.Pc.TheVariants.{C1, C7, Z1, Z2}
+use Rattle.lk_machine.specs.declared.parts.Pc.TheVariants.{C1, C2, C3, C7, Z1, Z2, U1, U2}
 use Rattle.lk_machine.specs.declared.setup.Verb.{Verb}
+use Rattle.lk_law.specs.Agree.{halts}
 use Rattle.lk_machine.specs.declared.setup.Verb.TheVariants.{Lock, Try, Unlock, Read, TryRead}
 use Rattle.lk_machine.specs.declared.setup.Verb.TheVariants.{RUnlock, Write, TryWrite, WUnlock}
 use Rattle.lk_machine.specs.Machine.{rest_frame}
 use Rattle.lk_machine.specs.Moves.{started}
 use Rattle.lk_machine.specs.Programs.{kind_of, is_release as is_unlocking}
-use Rattle.lk_machine.specs.rows.Cna.{Sight, same_socket}
+use Rattle.lk_abs.specs.Lawful.{same_socket}
+use Rattle.lk_machine.specs.rows.Cna.{Sight}
 use Rattle.lk_machine.specs.Row.{Lead, Granted, Freed, Leaves, Yields, Tell, Says}
-use Rattle.lk_machine.specs.TopRow.{Target, RwWord, target}
+use Rattle.lk_machine.specs.TopRow.{Target, RwWord, Halted, target}
 use Rattle.lk_law.specs.Families.{is_slow}
-use Rattle.lk_law.specs.Leads.{Met, Setting, Course, course_at, held_lock, is_release}
+use Rattle.lk_law.specs.Leads.{Met, Named, Linked, Setting, Course, course_at, held_lock, is_release}
 use Rattle.lk_law.specs.SoundWorld.{is_rw_name}
 use Rattle.lk_law.specs.Steps.{led}
-use Rattle.lk_domain.specs.Plans.{kind_at}
+use Rattle.lk_domain.specs.Plans.{kind_at, turns_by}
 use Rattle.lk_domain.specs.declared.plan.Plan.{Plan}
 
 -- a row of a trail, what it met, and how many handovers the call had read for it in its own node
@@ -60,10 +65,26 @@ pub record Calls : Type 0 where
   pub ready : ℕ
   -- how many handovers the newest call has read in its own node, for its next row
   pub runs : Option ℕ
+  -- where processors halt: whether this one has; at how many places of the hash the newest call has
+  -- looked for the entry of its lock, and not found it; and the node with which it found it at the next
+  pub halted : Bool
+  pub looked : ℕ
+  pub spot : Option NodeName
 
 -- a processor with no call and no lock
 abbrev pub no_calls : Calls
-no_calls = record { frames = []; holds = []; last = []; taken = 0; ready = 0; runs = None }
+no_calls =
+    record {
+      frames = [];
+      holds = [];
+      last = [];
+      taken = 0;
+      ready = 0;
+      runs = None;
+      halted = false;
+      looked = 0;
+      spot = None;
+    }
 
 abbrev pub mark : Pc → Met → ℕ → Mark
 mark c x n = record { row = c; met = x; runs = n }
@@ -84,6 +105,35 @@ abbrev pub held_in : List Hold → ℕ → LockName → Option Manner
 held_in [] c l = None
 held_in (h ∷ hs) c l = if (c == h.ctx) && same_lock l h.lock then Some h.manner else held_in hs c l
 
+-- whether a context is that of an interrupt
+abbrev pub is_inner : ℕ → Bool
+is_inner c = nat_lt 0 c
+
+-- The node that a front has met first behind its own, while it may still link it, and what the mark
+-- of the link said: whether the call that uses it is in a context above 0. C1 meets it, and C2 and
+-- C3 keep it.
+abbrev pub Told : Type 0
+Told = Option (NodeName × Bool)
+
+abbrev pub told_by : Told → Pc → Met → Told
+told_by o C1 (Linked (Some n) b) = Some (n, b)
+told_by o C2 x = o
+told_by o C3 x = o
+told_by o c x = None
+
+abbrev pub told_from : Told → List Mark → Told
+told_from o [] = o
+told_from o (k ∷ ks) = told_from (told_by o k.row k.met) ks
+
+-- by a trail
+abbrev pub told : List Mark → Told
+told ks = told_from None ks
+
+-- by the call of a context, if there is one
+abbrev pub told_in : List Running → ℕ → Told
+told_in [] c = None
+told_in (r ∷ rs) c = if c == r.frame.ctx then told r.trail else told_in rs c
+
 -- the contexts of the calls are numbered from the oldest
 abbrev pub Stacked : List Running → Type 0
 Stacked [] = Unit {0}
@@ -95,12 +145,18 @@ is_leaving (Some Z1) = true
 is_leaving (Some Z2) = true
 is_leaving _ = false
 
--- the frame stands at the release of the lock of its operation; at that of a wait lock it may stand,
--- when it has the lock for which it took the wait lock
-abbrev pub releases : Frame → Bool
-releases f = is_release f.place && not (f.lock.wait && not (is_leaving f.place))
+-- the place is the first row of a release
+abbrev pub begins_release : Option Pc → Bool
+begins_release (Some U1) = true
+begins_release (Some U2) = true
+begins_release c = is_leaving c
 
--- no call waits at such a release
+-- the frame stands at the first row of the release of the lock of its operation; at that of a wait
+-- lock it may stand, when it has the lock for which it took the wait lock
+abbrev pub releases : Frame → Bool
+releases f = begins_release f.place && not (f.lock.wait && not (is_leaving f.place))
+
+-- no call waits at such a row
 abbrev pub Rests : List Running → Type 0
 Rests [] = Unit {0}
 Rests (r ∷ rs) = (releases r.frame ≡ false) × Rests rs
@@ -194,6 +250,11 @@ abbrev pub last_after : List Mark → List Mark → Option Pc → List Mark
 last_after t last None = t
 last_after t last (Some c) = last
 
+-- whether the processor has halted after a row that operates on x
+abbrev pub halted_after : Target → Bool → Bool
+halted_after Halted b = true
+halted_after _ b = b
+
 -- the calls after the row of the newest frame f, which operates on x and takes this course; t is
 -- its trail with this row
 abbrev pub after : Verb → Frame → List Mark → List Running → Calls → Target → Course → Calls
@@ -205,56 +266,93 @@ after v f t rs c x o =
       taken = taken_after (grip_of x o) c.taken;
       ready = 0;
       runs = None;
+      halted = halted_after x c.halted;
+      looked = 0;
+      spot = None;
     }
 
--- what the rows read of a plan: the family, the threshold, and the socket of each processor
+-- what the rows read of a plan: the format, the family, the threshold, and the socket of each
+-- processor
 pub record Terms : Type 0 where
+  pub format : Format
   pub mode : Mode
   pub threshold : ℕ
   pub sockets : List ℕ
 
 abbrev pub terms_of : Plan → Terms
 terms_of k =
-    record { mode = k.mode; threshold = k.threshold; sockets = k.topology.sockets.items }
+    record {
+      format = k.format;
+      mode = k.mode;
+      threshold = k.threshold;
+      sockets = k.topology.sockets.items;
+    }
 
--- what a front sees that chooses the next: the threshold, the processors of its own socket, and the
--- handovers that it has read in its own node
+-- whether a link with this mark names a call that is never moved aside: in the second format, one
+-- in an interrupt
+abbrev pub stays_by : Format → Bool → Bool
+stays_by One mark = false
+stays_by Two mark = mark
+
+-- What a seat sees while its front chooses the next: the count of handovers that it has read in its
+-- own node, the threshold, and, by the mark of the link that names a node, whether the node is
+-- local.
+pub record Outlook : Type 0 where
+  pub runs : ℕ
+  pub threshold : ℕ
+  pub local : Bool → NodeName → Bool
+
 abbrev pub count_of : Option ℕ → ℕ
 count_of None = 0
 count_of (Some r) = r
 
-abbrev pub sight_of : Terms → ℕ → Option ℕ → Sight
+abbrev pub sight_of : Terms → ℕ → Option ℕ → Outlook
 sight_of t p r =
     record {
       runs = count_of r;
       threshold = t.threshold;
-      local = λ n. same_socket t.sockets p n.cpu;
+      local = λ mark n. stays_by t.format mark || same_socket t.sockets p n.cpu;
     }
 
--- what a row reads besides, where nobody spins before a halt
+-- what a row reads besides
 abbrev pub setting : Mode → ℕ → Sight → Setting
-setting mode p z = record { mode = mode; turns = 1; cpu = p; sight = z }
+setting mode p z =
+    record { mode = mode; turns = turns_by mode z.threshold; cpu = p; sight = z }
 
 -- how many handovers a call has read for its row: a front does so before it chooses the next, and
 -- before it tells the next how many they are
-abbrev pub read_at : Pc → Sight → ℕ
+abbrev pub read_at : Pc → Outlook → ℕ
 read_at C1 z = z.runs
 read_at C7 z = z.runs
 read_at _ z = 0
 
+-- what is met but for the mark of a link
+abbrev pub plain : Met → Met
+plain (Linked o b) = Named o
+plain x = x
+
+-- and that mark; all but links have none
+abbrev pub mark_of : Met → Bool
+mark_of (Linked o b) = b
+mark_of x = false
+
+-- what the front sees, by what it has met
+abbrev pub sight_by : Outlook → Met → Sight
+sight_by z x = record { runs = z.runs; threshold = z.threshold; local = z.local (mark_of x) }
+
 -- the course of the row at c of a frame that met this
-abbrev pub course : Mode → ℕ → Sight → Pc → Frame → Met → Course
-course mode p z c f x = course_at (setting mode p z) c f (target c f) x
+abbrev pub course : Mode → ℕ → Outlook → Pc → Frame → Met → Course
+course mode p z c f x = course_at (setting mode p (sight_by z x)) c f (target c f) (plain x)
 
 -- the calls after the row of the newest call, which met x
 
-abbrev pub row_at : Mode → ℕ → Sight → Running → List Running → Calls → Met → Option Pc → Calls
+abbrev pub row_at : Mode → ℕ → Outlook → Running → List Running → Calls → Met → Option Pc → Calls
 row_at mode p z r rs c x None = c
 row_at mode p z r rs c x (Some d) =
     after r.verb r.frame (r.trail ++ mark d x (read_at d z) ∷ []) rs c (target d r.frame)
     (course mode p z d r.frame x)
 
-abbrev pub row_on : Mode → ℕ → Sight → List Running → Calls → Met → Calls
+abbrev pub row_on : Mode → ℕ → Outlook → List Running → Calls → Met → Calls
 row_on mode p z [] c x = c
 row_on mode p z (r ∷ rs) c x = row_at mode p z r rs c x r.frame.place
 
@@ -329,10 +427,11 @@ MayBegin c WUnlock l = way_in c.holds l ≡ Some Writes
 MayBegin c _ l = IsClear c l
 
 -- where the call of this operation on this lock begins, it may, it is one of six, and the lock is
--- of its kind
+-- of its kind; and where processors halt it is the only one
 abbrev pub Begins : Plan → Calls → Verb → ℕ → Type 0
 Begins k c v l = is_on c.frames v l ≡ false
     → (length c.frames < 6) × MayBegin c v l × (kind_at k l ≡ kind_of v)
+    × (halts k.mode ≡ true → c.frames ≡ [])
 
 -- the place is a row of a call that does not have its lock yet
 abbrev pub is_seeking : Option Pc → Bool

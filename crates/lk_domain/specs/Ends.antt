@@ -34,10 +34,14 @@ pub record Rests (domain : Domain) (i : ℕ) (cpu : Cpu) : Type 0 where
 abbrev pub AllRest : Domain → List Cpu → Type 0
 AllRest domain cpus = (i : ℕ) (d : Cpu) → i < length cpus → Rests domain i (slice_index_or cpus i d)
 
--- what is kept of the processors from the number n on is in the list
+-- What is kept of the processors from the number n on is in the list, of processors of whichever kind,
+-- which know so much of the ledger.
+abbrev pub HasPast : {C : Type 0} → (C → Ledger) → ℕ → List C → List Past → Type 0
+HasPast {C} ledger n cpus xs = (i : ℕ) (d : C) → n ≤ i → i < length cpus
+    → In (past_at i (ledger (slice_index_or cpus i d))) xs
+
 abbrev pub HasFrom : ℕ → List Cpu → List Past → Type 0
-HasFrom n cpus xs = (i : ℕ) (d : Cpu) → n ≤ i → i < length cpus
-    → In (past_at i (ledger_of (slice_index_or cpus i d))) xs
+HasFrom n cpus xs = HasPast ledger_of n cpus xs
 
 -- the journal at the end, as the one seat knows it that has all numbers
 pub record IsEnd (plan : Plan) (v : View) (js : List Entry) : Type 0 where
@@ -47,9 +51,12 @@ pub record IsEnd (plan : Plan) (v : View) (js : List Entry) : Type 0 where
 
 -- The journal at the end of a domain with these processors: it replays, it has of each processor
 -- what this knew of it, and no entry of another.
-pub record IsFinal (plan : Plan) (cpus : List Cpu) (js : List Entry) : Type 0 where
+pub record IsFinalOf {C : Type 0} (ledger : C → Ledger) (plan : Plan) (cpus : List C) (js : List Entry) : Type 0 where
   pub replays : Replays plan.balances.items js
-  pub past : (i : ℕ) (d : Cpu)
+  pub past : (i : ℕ) (d : C)
       → i < length cpus
-      → IsPast plan js (past_at i (ledger_of (slice_index_or cpus i d)))
+      → IsPast plan js (past_at i (ledger (slice_index_or cpus i d)))
   pub none : (q : ℕ) → length cpus ≤ q → places q js ≡ []
+
+abbrev pub IsFinal : Plan → List Cpu → List Entry → Type 0
+IsFinal plan cpus js = IsFinalOf ledger_of plan cpus js

@@ -12,6 +12,7 @@ pub mod Rows
 pub mod Plays
 pub mod NodePlays
 pub mod Marked
+pub mod Seated
 pub mod Seats
 pub mod NodeSeats
 pub mod RwRows

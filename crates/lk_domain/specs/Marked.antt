@@ -5,10 +5,10 @@ use Rattle.lk_law.specs.Families.{is_slow}
 use Rattle.lk_domain.specs.Calls.{Running, Calls, slows, waits_in, slow_in, holds_in}
 use Rattle.lk_domain.specs.declared.notes.Notes.{Notes}
 
--- the marks are those of the numbers of which f holds
+-- the marks are those of the numbers of which f holds: it holds of none above them
 pub record Marks (marks : List Bool) (f : ℕ → Bool) : Type 0 where
   pub long : length marks ≡ 32
-  pub each : (l : ℕ) → l < 32 → slice_index_or marks l false ≡ f l
+  pub each : (l : ℕ) → slice_index_or marks l false ≡ f l
 
 -- the lock for which the call of a context waits
 abbrev pub lock_in : List Running → ℕ → ℕ

@@ -13,13 +13,14 @@ use Rattle.lk_machine.specs.declared.parts.Pc.TheVariants.{C6, C7, C8, C9}
 use Rattle.lk_machine.specs.declared.setup.Verb.{Verb}
 use Rattle.lk_machine.specs.rows.Cna.{flag_for}
 use Rattle.lk_law.specs.Cna.{moves_aside}
-use Rattle.lk_law.specs.Leads.{Number, Flagged, Named}
+use Rattle.lk_law.specs.Leads.{Number, Flagged, Named, Linked}
 use Rattle.lk_law.specs.Premises.{IsThen}
-use Rattle.lk_domain.specs.Calls.{StandsOn, slows}
+use Rattle.lk_domain.specs.Calls.{StandsOn, slows, told, is_inner}
 use Rattle.lk_domain.specs.Plays.{ActsIn, Goes}
 use Rattle.lk_domain.specs.Rows.{is_patient, queues_up, promotes_by}
 use Rattle.lk_domain.specs.declared.plan.Plan.{Plan}
 use Rattle.lk_domain.specs.Words.{IsNode, name_number, flag_number, link_number, node_at, part_index}
+use Rattle.lk_domain.specs.Words.{marked}
 use Rattle.lk_domain.specs.declared.part.Part.{Part}
 use Rattle.lk_domain.specs.declared.part.Part.TheVariants as part
 use Rattle.lk_domain.specs.declared.view.View.{View}
@@ -38,12 +39,14 @@ pub record AtOwn (row : Pc) (own : NodeName) (verb : Verb) (v : View) : Type 0 w
   pub at : AtRow row verb lock v
   pub me : at.stands.frame.me ≡ Some own
 
--- it will link its own node behind that of the one before it
-pub record AtPrev (before own : NodeName) (verb : Verb) (v : View) : Type 0 where
+-- it will link its own node behind that of the one before it; the mark says whether its context is
+-- above 0
+pub record AtPrev (before own : NodeName) (mark : Bool) (verb : Verb) (v : View) : Type 0 where
   pub lock : LockName
   pub at : AtRow G5 verb lock v
   pub prev : at.stands.frame.prev ≡ Some before
   pub me : at.stands.frame.me ≡ Some own
+  pub marks : mark ≡ is_inner at.stands.frame.ctx
 
 -- it will hand the lead on to the one with this node, by this flag: where it has chosen the next, by
 -- that which names the first of the second queue
@@ -115,12 +118,13 @@ pub record SeesFlag {S : Type 0} (m : Me S View) (met : ℕ) (n : Me S View) : T
   pub word : met ≡ flag_number found
   pub seat : Goes (Flagged found) m n
 
--- the call has looked at the link of its node
+-- the call has looked at the link of a node, which has this mark
 pub record SeesLink {S : Type 0} (m : Me S View) (met : ℕ) (n : Me S View) : Type 0 where
   pub found : Option NodeName
+  pub mark : Bool
   pub node : IfSome found (IsNode m.0.who.plan)
-  pub word : met ≡ link_number found
-  pub seat : Goes (Named found) m n
+  pub word : met ≡ marked mark (link_number found)
+  pub seat : Goes (Linked found mark) m n
 
 -- It looks for the one behind it, in its own node. Where it chooses the next it has read the count of
 -- handovers there.
@@ -149,7 +153,14 @@ LooksAt part.Flag own verb v = AtOwn G6 own verb v
 LooksAt part.Next own verb v = AtLink own verb v
 LooksAt _ own verb v = ⊥
 
--- the call has stored a node's name, or looked at one: this is the one that it met
+-- the call has stored a link, and met this one
+pub record Relinks {S : Type 0} (m : Me S View) (met : ℕ) (n : Me S View) : Type 0 where
+  pub found : Option NodeName
+  pub mark : Bool
+  pub word : met ≡ marked mark (link_number found)
+  pub seat : Goes (Linked found mark) m n
+
+-- the call has stored the last of the second queue, and met this one
 pub record Names {S : Type 0} (m : Me S View) (met : ℕ) (n : Me S View) : Type 0 where
   pub found : Option NodeName
   pub word : met ≡ link_number found
@@ -169,13 +180,15 @@ appends C4 = true
 appends C9 = true
 appends _ = false
 
-pub record AtAppend (node next : NodeName) (verb : Verb) (v : View) : Type 0 where
+-- the mark is that of the link in which the call met the first of them
+pub record AtAppend (node next : NodeName) (mark : Bool) (verb : Verb) (v : View) : Type 0 where
   pub lock : LockName
   pub row : Pc
   pub is : appends row ≡ true
   pub at : AtRow row verb lock v
   pub t : at.stands.frame.t ≡ Some node
   pub a : at.stands.frame.a ≡ Some next
+  pub marks : told at.stands.trail ≡ Some (next, mark)
 
 -- it cuts the link of the last that it passed over
 pub record AtCut (node : NodeName) (verb : Verb) (v : View) : Type 0 where

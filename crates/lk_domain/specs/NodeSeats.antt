@@ -1,7 +1,7 @@
 -- What the step calls on the words of nodes say of their processor.
 use Rattle.std.specs.Prelude.{ℕ}
 use Rattle.lk_law.specs.Leads.{Met}
-use Rattle.lk_domain.specs.NodePlays.{SeesFlag, SeesLink, SeesTail, Names, Counted}
+use Rattle.lk_domain.specs.NodePlays.{SeesFlag, SeesLink, SeesTail, Relinks, Names, Counted}
 use Rattle.lk_domain.specs.Plays.{Goes}
 use Rattle.lk_domain.specs.declared.cpu.Cpu.{Cpu}
 
@@ -17,7 +17,11 @@ pub record FlagSeen (old : Cpu) (met : ℕ) (new : Cpu) : Type 0 where
 pub record LinkSeen (old : Cpu) (met : ℕ) (new : Cpu) : Type 0 where
   pub by : SeesLink old.seat.me met new.seat.me
 
--- the newest call has stored a node's name into a word of a node, or looked at one
+-- the newest call has stored a link
+pub record LinkMet (old : Cpu) (met : ℕ) (new : Cpu) : Type 0 where
+  pub by : Relinks old.seat.me met new.seat.me
+
+-- the newest call has stored the last of the second queue
 pub record NameMet (old : Cpu) (met : ℕ) (new : Cpu) : Type 0 where
   pub by : Names old.seat.me met new.seat.me
 

@@ -8,7 +8,7 @@ use Rattle.lk_machine.specs.declared.parts.Frame.{Frame}
 use Rattle.lk_machine.specs.declared.parts.Pc.{Pc}
 use Rattle.lk_machine.specs.declared.parts.Pc.TheVariants.{U1}
 use Rattle.lk_machine.specs.declared.setup.Verb.{Verb}
-use Rattle.lk_machine.specs.rows.Cna.{Sight}
+use Rattle.lk_domain.specs.Calls.{Outlook}
 use Rattle.lk_machine.specs.TopRow.{target}
 use Rattle.lk_law.specs.Leads.{Met, Word}
 use Rattle.lk_law.specs.Steps.{led}
@@ -18,11 +18,11 @@ use Rattle.lk_domain.specs.Calls.{begun, lock_name, free_of, moved_to, holds_in,
 use Rattle.lk_domain.specs.Ledgers.{Ledger, Look, turned}
 
 -- the frame f after its row at c, which met x
-abbrev pub next_frame : Mode → ℕ → Sight → Pc → Frame → Met → Frame
+abbrev pub next_frame : Mode → ℕ → Outlook → Pc → Frame → Met → Frame
 next_frame mode p z c f x = led f (course mode p z c f x).leads
 
 -- what the row does to the holds
-abbrev pub row_grip : Mode → ℕ → Sight → Pc → Frame → Met → Grip
+abbrev pub row_grip : Mode → ℕ → Outlook → Pc → Frame → Met → Grip
 row_grip mode p z c f x = grip_of (target c f) (course mode p z c f x)
 
 -- The rows of the list lead from the frame a to the frame at the end, a front that chooses the next
@@ -50,7 +50,7 @@ pub record Path (t : Terms) (p : ℕ) (a : Frame) (trail : List Mark) (grip : Gr
   pub grips : row_grip t.mode p (sight_of t p runs) row frame met ≡ grip
 
 -- The call v on l of the processor p, which began where its calls were the old ones, stands at the
--- row c; its frame meets the condition.
+-- row c; its frame meets the condition, and no lock was taken since it began.
 pub record IsAt (t : Terms) (p : ℕ) (v : Verb) (l : ℕ) (c : Pc) (condition : Frame → Type 0)
     (old new : Calls) : Type 0 where
   pub frame : Frame
@@ -58,7 +58,7 @@ pub record IsAt (t : Terms) (p : ℕ) (v : Verb) (l : ℕ) (c : Pc) (condition :
   pub walk : Walk t p (begun t.mode (length old.frames) v l) trail frame
   pub frames : new.frames ≡ running v frame trail ∷ old.frames
   pub holds : new.holds ≡ old.holds
-  pub taken : old.taken ≤ new.taken
+  pub taken : new.taken ≡ old.taken
   pub place : frame.place ≡ Some c
   pub lock : frame.lock ≡ lock_name l
   pub ctx : frame.ctx ≡ length old.frames
@@ -75,12 +75,12 @@ pub record HasTaken (t : Terms) (p : ℕ) (v : Verb) (l : ℕ) (manner : Manner)
   pub holds : new.holds ≡ hold (length old.frames) (lock_name l) manner new.taken ∷ old.holds
   pub taken : old.taken < new.taken
 
--- it has missed the lock
+-- it has missed the lock, and has taken no other
 pub record HasMissed (t : Terms) (p : ℕ) (v : Verb) (l : ℕ) (old new : Calls) : Type 0 where
   pub path : Path t p (begun t.mode (length old.frames) v l) new.last Unchanged
   pub frames : new.frames ≡ old.frames
   pub holds : new.holds ≡ old.holds
-  pub taken : old.taken ≤ new.taken
+  pub taken : new.taken ≡ old.taken
 
 -- it has freed the lock, by the one row U1
 pub record HasFreed (l : ℕ) (old new : Calls) : Type 0 where

@@ -10,7 +10,7 @@ use Rattle.lk_word.specs.declared.spin_word.Fields.{Fields}
 use Rattle.lk_word.specs.SpinWord.{packed, IsPackable}
 use Rattle.lk_machine.specs.declared.parts.Pc.{Pc}
 use Rattle.lk_machine.specs.declared.setup.Verb.{Verb}
-use Rattle.lk_machine.specs.rows.Cna.{Sight}
+use Rattle.lk_domain.specs.Calls.{Outlook}
 use Rattle.lk_machine.specs.TopRow.{target}
 use Rattle.lk_law.specs.Leads.{Met, Word, held_lock}
 use Rattle.lk_law.specs.Premises.{IsThen}
@@ -21,7 +21,7 @@ use Rattle.lk_abs.specs.Journal.{Replays}
 use Rattle.lk_domain.specs.Keeps.{Slot, IsOpen, balance}
 use Rattle.lk_domain.specs.Ledgers.{Ledger, Out, turned, loaded, sighted, taken_out, stored}
 use Rattle.lk_domain.specs.Ledgers.{brought, with_share}
-use Rattle.lk_domain.specs.Plans.{accounts_of, share_of}
+use Rattle.lk_domain.specs.Plans.{accounts_of, share_of, layout_in}
 use Rattle.lk_domain.specs.Rows.{queues_up}
 use Rattle.lk_domain.specs.Views.{view, drawer, own_number}
 use Rattle.lk_domain.specs.Words.{lock_at, balance_at, IsNode}
@@ -31,13 +31,13 @@ use Rattle.lk_domain.specs.declared.view.View.{View}
 
 -- what a row of the newest call makes of what its processor knows of the ledger
 
-abbrev pub turned_at : Mode → ℕ → Sight → Running → Met → Ledger → Option Pc → Ledger
+abbrev pub turned_at : Mode → ℕ → Outlook → Running → Met → Ledger → Option Pc → Ledger
 turned_at mode p z r x g None = g
 turned_at mode p z r x g (Some d) =
     turned g (held_lock (target d r.frame) r.frame)
     (grip_of (target d r.frame) (course mode p z d r.frame x)) (r.trail ++ mark d x (read_at d z) ∷ [])
 
-abbrev pub turned_on : Mode → ℕ → Sight → List Running → Met → Ledger → Ledger
+abbrev pub turned_on : Mode → ℕ → Outlook → List Running → Met → Ledger → Ledger
 turned_on mode p z [] x g = g
 turned_on mode p z (r ∷ rs) x g = turned_at mode p z r x g r.frame.place
 
@@ -61,17 +61,17 @@ made v verb l x = rowed v (acting v.who.plan.mode v.calls verb l) x
 pub record MadeBy {S : Type 0} (verb : Verb) (l : ℕ) (m : Me S View) (met : ℕ)
     (n : Me S View) : Type 0 where
   pub found : Fields
-  pub packs : IsPackable found
+  pub packs : IsPackable (layout_in m.0.who.plan) found
   pub tail : IfSome found.tail (IsNode m.0.who.plan)
-  pub word : met ≡ packed found
+  pub word : met ≡ packed (layout_in m.0.who.plan) found
   pub seat : n ≡ (made m.0 verb l (Word found), m.1)
 
 -- the number is that of such a word
 pub record IsWord (k : Plan) (n : ℕ) : Type 0 where
   pub found : Fields
-  pub packs : IsPackable found
+  pub packs : IsPackable (layout_in k) found
   pub tail : IfSome found.tail (IsNode k)
-  pub word : n ≡ packed found
+  pub word : n ≡ packed (layout_in k) found
 
 -- what a step on the word of a lock tells
 abbrev pub Makes : Verb → {S : Type 0} → Step S → Me S View → ℕ → Me S View → Type 0
@@ -112,9 +112,9 @@ Goes x m n = n ≡ (went m.0 x, m.1)
 -- the newest call, which goes on, has made its row, and met this word
 pub record WentBy {S : Type 0} (m : Me S View) (met : ℕ) (n : Me S View) : Type 0 where
   pub found : Fields
-  pub packs : IsPackable found
+  pub packs : IsPackable (layout_in m.0.who.plan) found
   pub tail : IfSome found.tail (IsNode m.0.who.plan)
-  pub word : met ≡ packed found
+  pub word : met ≡ packed (layout_in m.0.who.plan) found
   pub seat : Goes (Word found) m n
 
 -- What an exchange of a whole word tells that is tried again where it fails: it has made the row of

@@ -1,6 +1,6 @@
 -- The machine part of the rule of a domain's table: a world that is sound, whose locks and nodes
 -- are the words, and whose frames and holds are those of the seats.
-use Rattle.std.specs.Prelude.{◌≡◌, ℕ, ◌<◌, ◌≤◌, List, ◌∷◌, length, Some, None, true, false}
+use Rattle.std.specs.Prelude.{◌≡◌, ℕ, ◌<◌, ◌≤◌, List, ◌∷◌, length, Some, None, Bool, true, false, ◌≢◌, ◌⊎◌, Option}
 use Rattle.std.specs.Prelude.{slice_index}
 use mathlib.Core.Option.{some}
 use lib.ListN.{get_elem?}
@@ -12,18 +12,23 @@ use Rattle.lk_abs.specs.declared.names.Waiter.{Waiter}
 use Rattle.lk_word.specs.declared.spin_word.NodeName.{NodeName}
 use Rattle.lk_word.specs.RwWord.{packed_rw}
 use Rattle.lk_word.specs.SpinWord.{packed}
+use Rattle.lk_machine.specs.declared.parts.Frame.{Frame}
 use Rattle.lk_machine.specs.declared.parts.Node.{Node}
 use Rattle.lk_machine.specs.declared.parts.Pc.{Pc}
+use Rattle.lk_machine.specs.declared.parts.Pc.TheVariants.{U3, E9}
 use Rattle.lk_machine.specs.Moves.{node_of}
+use Rattle.lk_law.specs.Agree.{halts}
 use Rattle.lk_law.specs.Families.{chooses}
+use Rattle.lk_law.specs.Nodes.{will_link}
+use Rattle.lk_law.specs.Premises.{Uses}
 use Rattle.lk_law.specs.SoundWorld.{IsSoundWorld, is_rw_name}
 use Rattle.lk_law.specs.World.{World}
 use Rattle.lk_domain.specs.Calls.{Calls, no_calls, frame_in, held_in, Stacked, Rests, AreHeld}
-use Rattle.lk_domain.specs.Calls.{AreFresh, Running}
-use Rattle.lk_domain.specs.Plans.{IsLawfulPlan, cpus_of, locks_of, kind_at}
+use Rattle.lk_domain.specs.Calls.{AreFresh, Running, told_in, is_inner, lock_name}
+use Rattle.lk_domain.specs.Plans.{cpus_of, locks_of, kind_at, layout_in, IsRunningPlan, turns_of}
 use Rattle.lk_domain.specs.Views.{total, times, numbers, once_below}
 use Rattle.lk_domain.specs.Words.{lock_at, word_at, node_at, words_of, part_index, has_part}
-use Rattle.lk_domain.specs.Words.{node_number}
+use Rattle.lk_domain.specs.Words.{node_number, stored_number, state_at, hash_at, kick_at, places_of, IsNode, state_number, pair_number, mark_number}
 use Rattle.lk_domain.specs.declared.part.Part.{Part}
 use Rattle.lk_domain.specs.declared.plan.Plan.{Plan}
 use Rattle.lk_domain.specs.declared.view.View.{View}
@@ -34,10 +39,11 @@ waiter p c = record { cpu = p; ctx = c }
 abbrev pub node_name : ℕ → ℕ → NodeName
 node_name p j = record { cpu = p; index = j }
 
--- the world is of this plan, and a waiter would spin for one turn
+-- the world is of this plan
 pub record IsOfPlan (k : Plan) (m : World) : Type 0 where
+  pub format : m.format ≡ k.format
   pub mode : m.mode ≡ k.mode
-  pub turns : m.turns ≡ 1
+  pub turns : m.turns ≡ turns_of k
   pub threshold : m.threshold ≡ k.threshold
   pub sockets : m.sockets ≡ k.topology.sockets.items
   pub kind : m.kind ≡ kind_at k
@@ -63,10 +69,29 @@ abbrev pub IsCounted : World → Calls → Type 0
 IsCounted m c = (n : ℕ) (x : Running) (rs : List Running) → c.runs ≡ Some n → c.frames ≡ x ∷ rs
     → HasCounted m x n
 
+-- Where no processor halts: if the link of a node that a call uses names a node, a call uses that
+-- node too, and the mark of the link says whether that call is in a context above 0. Where
+-- processors halt no link has a mark, and of the node that it names nothing is said here.
+pub record AreMarked (m : World) (marks : NodeName → Bool) : Type 0 where
+  pub says : halts m.mode ≡ false
+      → (a b : NodeName) (u : Waiter)
+      → Uses m u a
+      → (m.node a).next ≡ Some b
+      → (w : Waiter) × Uses m w b × (marks a ≡ is_inner w.ctx)
+  pub bare : halts m.mode ≡ true → (a : NodeName) → marks a ≡ false
+
+-- what a mark told a front of the node that it will link behind the second queue is true of the
+-- call that uses that node
+abbrev pub AreTold : World → List Running → Type 0
+AreTold m rs = (d : ℕ) (f : Frame) (c : Pc) (a : NodeName) (b : Bool) (w : Waiter)
+    → frame_in rs d ≡ Some f → f.place ≡ Some c → will_link c f.why ≡ true → f.a ≡ Some a
+    → told_in rs d ≡ Some (a, b) → Uses m w a → b ≡ is_inner w.ctx
+
 -- The calls of a seat with the number p: the world's processor is theirs; their contexts are
 -- numbered from the oldest, and there are six at most; none waits at a release; each lock is held
 -- once, in a manner of its kind, and by nobody who waits for it; of the node to come as many words
--- are reset as the seat knows; and a front's count of handovers is what the seat has read.
+-- are reset as the seat knows; a front's count of handovers is what the seat has read; and what a
+-- mark told it of the node that it will link is true.
 pub record SeatFits (m : World) (p : ℕ) (c : Calls) : Type 0 where
   pub mirrors : Mirrors m p c
   pub stacked : Stacked c.frames
@@ -76,27 +101,87 @@ pub record SeatFits (m : World) (p : ℕ) (c : Calls) : Type 0 where
   pub fresh : AreFresh c.frames c.holds
   pub reset : IsReset c.ready (m.node (node_name p (m.queued p)))
   pub counted : IsCounted m c
+  pub told : AreTold m c.frames
+  -- where processors halt, each is in one call at most; and it has halted where its seat says so
+  pub single : halts m.mode ≡ true → length c.frames ≤ 1
+  pub halted : m.halted p ≡ c.halted
 
 -- the word of each spinlock, wait lock and reader-writer lock is packed
 pub record AreLocks (k : Plan) (m : World) (ws : List ℕ) : Type 0 where
   pub plain : (n : LockName)
       → n.index < locks_of k
       → is_rw_name m.kind n ≡ false
-      → slice_index ws (word_at n) ≡ packed (m.word n)
+      → slice_index ws (word_at n) ≡ packed (layout_in k) (m.word n)
   pub shared : (l : ℕ)
       → l < locks_of k
       → m.kind l ≡ Rw
       → slice_index ws (lock_at l) ≡ packed_rw (m.rw l)
 
--- the words are those of the locks, and each word that a node has is its number
-pub record IsStored (k : Plan) (m : World) (ws : List ℕ) : Type 0 where
+-- the words are those of the locks, and each word that a node has is its number, that of a link
+-- with the mark
+pub record IsStored (k : Plan) (m : World) (marks : NodeName → Bool) (ws : List ℕ) : Type 0 where
   pub long : length ws ≡ words_of k
   pub locks : AreLocks k m ws
   pub nodes : (n : NodeName) (q : Part)
       → n.cpu < cpus_of k
       → n.index < 4
       → has_part k.mode q ≡ true
-      → slice_index ws (node_at k n q) ≡ node_number q (m.node n)
+      → slice_index ws (node_at k n q) ≡ stored_number (marks n) q (node_number q (m.node n))
+
+-- The hash is the map of the pairs in its places: each entry stands at one place, and each place that
+-- is not empty has an entry.
+pub record IsHashed (k : Plan) (m : World) (ws : List ℕ) : Type 0 where
+  pub entered : (l : LockName) (n : NodeName)
+      → m.entry l ≡ Some n
+      → (l.wait ≡ false) × (l.index < locks_of k) × ((i : ℕ) × (i < places_of k)
+      × (slice_index ws (hash_at k i) ≡ pair_number l.index n))
+  pub placed : (i : ℕ)
+      → i < places_of k
+      → (slice_index ws (hash_at k i) ≡ 0)
+      ⊎ ((l : ℕ) × (n : NodeName) × IsNode k n × (l < locks_of k) × (m.entry (lock_name l) ≡ Some n)
+      × (slice_index ws (hash_at k i) ≡ pair_number l n))
+  -- no lock stands in two places
+  pub once : (i j l : ℕ) (a b : NodeName)
+      → i < places_of k
+      → j < places_of k
+      → IsNode k a
+      → IsNode k b
+      → l < locks_of k
+      → slice_index ws (hash_at k i) ≡ pair_number l a
+      → slice_index ws (hash_at k j) ≡ pair_number l b
+      → i ≡ j
+
+-- where processors halt, their words: the states of the nodes, the kicks, and the hash
+pub record IsHalting (k : Plan) (m : World) (ws : List ℕ) : Type 0 where
+  pub states : (n : NodeName)
+      → n.cpu < cpus_of k
+      → n.index < 4
+      → slice_index ws (state_at k n) ≡ state_number (m.node n).state
+  pub kicks : (p : ℕ) → p < cpus_of k → slice_index ws (kick_at k p) ≡ mark_number (m.kicked p)
+  pub hash : IsHashed k m ws
+
+-- the newest call seeks the entry of its lock: a release that finds whom to kick, or a front that took
+-- the lock while it entered itself
+abbrev pub seeks_entry : Option Pc → Bool
+seeks_entry (Some U3) = true
+seeks_entry (Some E9) = true
+seeks_entry _ = false
+
+-- It has looked at so many places, and none has an entry of the lock; and where it has found one, that
+-- stands at the next.
+pub record Sought (k : Plan) (ws : List ℕ) (l n : ℕ) (spot : Option NodeName) : Type 0 where
+  pub passed : (i : ℕ) (a : NodeName)
+      → i < n
+      → IsNode k a
+      → slice_index ws (hash_at k i) ≢ pair_number l a
+  pub inside : n ≤ places_of k
+  pub found : (a : NodeName)
+      → spot ≡ Some a
+      → (n < places_of k) × (slice_index ws (hash_at k n) ≡ pair_number l a)
+
+abbrev pub Seeks : Plan → List ℕ → Calls → Type 0
+Seeks k ws c = (x : Running) (rs : List Running) → c.frames ≡ x ∷ rs
+    → seeks_entry x.frame.place ≡ true → Sought k ws x.frame.lock.index c.looked c.spot
 
 -- the first seat alone deals the numbers, and as many were dealt as the roll word says
 pub record Deals (k : Plan) (roll id n : ℕ) (plan : Plan) : Type 0 where
@@ -110,13 +195,18 @@ IsIdle m u = (m.frame u ≡ None) × ((l : LockName) → m.held u l ≡ None)
 
 -- the machine part of the rule
 pub record Runs (k : Plan) {S : Type 0} (s : State S View) : Type 0 where
-  pub lawful : IsLawfulPlan k
+  pub lawful : IsRunningPlan k
   -- the world for which words and seats stand, and its histories
   pub world : World
   pub histories : LockName → LockHistory
   pub sound : IsSoundWorld world histories
   pub of_plan : IsOfPlan k world
-  pub stored : IsStored k world s.words
+  -- the marks of the links
+  pub marks : NodeName → Bool
+  pub stored : IsStored k world marks s.words
+  pub marked : AreMarked world marks
+  pub halting : halts k.mode ≡ true → IsHalting k world s.words
+  pub seeks : (id : ℕ) (v : View) → get_elem? s.views id ≡ some v → Seeks k s.words v.calls
   pub seats : (id : ℕ) (v : View) (p : ℕ)
       → get_elem? s.views id ≡ some v
       → v.who.number ≡ Some p

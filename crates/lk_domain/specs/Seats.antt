@@ -1,16 +1,18 @@
 -- What clauses say of a processor and its domain.
 use Rattle.std.specs.Prelude.{◌≡◌, ℕ, ◌+◌, ◌<◌, ◌≤◌, List, [], ◌++◌, Some, length, slice_index}
-use Rattle.std.specs.Prelude.{slice_index_or}
+use Rattle.std.specs.Prelude.{slice_index_or, false}
+use Rattle.lk_law.specs.Agree.{halts}
 use Rattle.lk_abs.specs.declared.ledger.Entry.{Entry}
 use Rattle.lk_machine.specs.declared.setup.Verb.{Verb}
 use Rattle.lk_domain.specs.Calls.{Calls, no_calls}
 use Rattle.lk_domain.specs.Places.{AllOf}
 use Rattle.lk_abs.specs.Journal.{Replays}
 use Rattle.lk_domain.specs.Keeps.{balance}
-use Rattle.lk_domain.specs.Ledgers.{Ledger, Out, with_share, loaded, sighted, taken_out, stored}
+use Rattle.lk_domain.specs.Ledgers.{Ledger, Out, with_share, taken_out}
 use Rattle.lk_domain.specs.Ledgers.{brought}
 use Rattle.lk_domain.specs.Plans.{cpus_of, accounts_of, share_of}
-use Rattle.lk_domain.specs.Plays.{MadeBy, OneState}
+use Rattle.lk_domain.specs.Plays.{MadeBy}
+use Rattle.lk_domain.specs.Seated.{HasLoadedBy, HasSeenBy, HasStoredBy}
 use Rattle.lk_domain.specs.Views.{newcomer}
 use Rattle.lk_domain.specs.declared.cpu.Cpu.{Cpu}
 use Rattle.lk_domain.specs.declared.domain.Domain.{Domain}
@@ -29,11 +31,12 @@ calls_of cpu = cpu.seat.me.0.calls
 abbrev pub ledger_of : Cpu → Ledger
 ledger_of cpu = cpu.seat.me.0.ledger
 
--- the processor is one of the domain
+-- the processor is one of the domain, whose family halts none
 pub record IsOf (cpu : Cpu) (domain : Domain) : Type 0 where
   pub table : cpu.seat.table_id ≡ domain.table.shared.table_id
   pub plan : cpu.seat.me.0.who.plan ≡ domain.plan
   pub low : cpu.number < cpus_of domain.plan
+  pub awake : halts domain.plan.mode ≡ false
 
 -- it is the same processor of the same domain, with the same slots
 pub record IsSame (old new : Cpu) : Type 0 where
@@ -70,17 +73,12 @@ pub record KeepsCalls (old new : Cpu) : Type 0 where
   pub same : IsSame old new
   pub calls : calls_of new ≡ calls_of old
 
--- a balance was loaded; where the journal is out it is what the processor knows of the word
-pub record HasLoaded (account : ℕ) (old : Cpu) (met : ℕ) (new : Cpu) : Type 0 where
-  pub ledger : ledger_of new ≡ loaded (ledger_of old) account met
-  pub out : (o : Out) → (ledger_of old).out ≡ Some o → met ≡ slice_index o.words account
-  pub one : OneState (view_of new)
+-- a balance was loaded, the version was
+abbrev pub HasLoaded : ℕ → Cpu → ℕ → Cpu → Type 0
+HasLoaded account old met new = HasLoadedBy account (view_of old) met (view_of new)
 
--- the version was loaded
-pub record HasSeen (old : Cpu) (met : ℕ) (new : Cpu) : Type 0 where
-  pub ledger : ledger_of new ≡ sighted (ledger_of old) met
-  pub rises : (ledger_of old).seen ≤ met
-  pub one : OneState (view_of new)
+abbrev pub HasSeen : Cpu → ℕ → Cpu → Type 0
+HasSeen old met new = HasSeenBy (view_of old) met (view_of new)
 
 -- the journal is out with the processor
 pub record IsOut (plan : Plan) (old : Ledger) (journal : Journal) (new : Ledger) : Type 0 where
@@ -96,8 +94,7 @@ pub record IsOut (plan : Plan) (old : Ledger) (journal : Journal) (new : Ledger)
 
 -- a balance was stored
 abbrev pub HasStored : ℕ → ℕ → Cpu → Cpu → Type 0
-HasStored account amount old new = (o : Out) → (ledger_of old).out ≡ Some o
-    → ledger_of new ≡ stored (ledger_of old) o account amount
+HasStored account amount old new = HasStoredBy account amount (view_of old) (view_of new)
 
 -- The journal is one that the processor may bring home: the one that it took out, in its room, with
 -- entries of its own, which are no more than its share and after which the balances are the words.

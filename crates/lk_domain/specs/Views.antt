@@ -1,6 +1,7 @@
 -- What a seat knows: who it is, its processor's locks, and the ledger.
 use Rattle.std.specs.Prelude.{◌≡◌, ℕ, ◌+◌, ◌==◌, List, [], ◌∷◌, ◌++◌, map, Option, Some, None}
 use Rattle.std.specs.Prelude.{nat_lt, if◌then◌else◌}
+use Rattle.lk_abs.specs.declared.names.Format.TheVariants.{One}
 use Rattle.lk_abs.specs.declared.names.Mode.TheVariants.{Virt}
 use Rattle.lk_domain.specs.Calls.{Calls}
 use Rattle.lk_domain.specs.Ledgers.{Ledger, Past}
@@ -26,6 +27,7 @@ newcomer k n = record { plan = k; number = Some n; ended = []; dealt = None }
 abbrev pub no_plan : Plan
 no_plan =
     record {
+      format = One;
       mode = Virt;
       topology = record { sockets = record { items = []; room = 0 } };
       threshold = 0;

@@ -1,5 +1,5 @@
 -- What contracts of the calls say of a processor and its domain.
-use Rattle.std.specs.Prelude.{◌≡◌, ℕ, ◌<◌, false, length}
+use Rattle.std.specs.Prelude.{◌≡◌, ℕ, ◌+◌, ◌<◌, false, length}
 use Rattle.lk_abs.specs.declared.holder.Manner.{Manner}
 use Rattle.lk_machine.specs.declared.parts.Pc.{Pc}
 use Rattle.lk_machine.specs.declared.setup.Verb.{Verb}
@@ -26,10 +26,11 @@ pub record Moves (domain : Domain) (v : Verb) (l : ℕ) (c : Pc) (old : Calls)
   pub waits : WaitsAt domain v l c old after
   pub ledger : ledger_of after ≡ ledger_of before
 
--- one by which it takes the lock
+-- one by which it takes the lock, the only one that was taken since it began
 pub record Gains (domain : Domain) (v : Verb) (l : ℕ) (manner : Manner) (old : Calls)
     (before after : Cpu) : Type 0 where
   pub taken : HasTaken (terms_of domain.plan) after.number v l manner old (calls_of after)
+  pub once : (calls_of after).taken ≡ old.taken + 1
   pub ledger : ledger_of after
       ≡ turned (ledger_of before) (lock_name l) (Takes manner) (calls_of after).last
 

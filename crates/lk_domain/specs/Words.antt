@@ -1,13 +1,16 @@
 -- Where the words of a domain stand in its table, and what their numbers say. The words of two locks
 -- stand eight words apart, so that they do not share a line of a cache.
 use Rattle.std.specs.Prelude.{◌≡◌, ◌≢◌, ℕ, ◌+◌, ◌*◌, ◌<◌, List, length, Option, Some, None, not}
-use Rattle.std.specs.Prelude.{slice_index, Bool, true, false}
+use Rattle.std.specs.Prelude.{slice_index, Bool, true, false, if◌then◌else◌, ◌==◌, ◌&&◌}
 use Rattle.lk_abs.specs.declared.names.LockName.{LockName}
 use Rattle.lk_abs.specs.declared.names.Mode.{Mode}
 use Rattle.lk_word.specs.declared.spin_word.NodeName.{NodeName}
 use Rattle.lk_machine.specs.declared.parts.Flag.{Flag}
 use Rattle.lk_machine.specs.declared.parts.Flag.TheVariants.{Unset, Go, Second}
 use Rattle.lk_machine.specs.declared.parts.Node.{Node}
+use Rattle.lk_machine.specs.declared.parts.State.{State}
+use Rattle.lk_machine.specs.declared.parts.State.TheVariants.{Running, Halted, Hashed}
+use Rattle.lk_law.specs.Agree.{halts}
 use Rattle.lk_law.specs.Cna.{moves_aside}
 use Rattle.lk_domain.specs.Plans.{locks_of, cpus_of, accounts_of}
 use Rattle.lk_domain.specs.declared.part.Part.{Part}
@@ -49,8 +52,9 @@ part_index part.Runs = 3
 abbrev pub node_at : Plan → NodeName → Part → ℕ
 node_at k n q = 72 + part_index q + 8 * locks_of k + (16 * n.cpu + 4 * n.index)
 
--- The words that a node has, by the family: all four where waiters are moved aside, and else its
--- flag and its link, and nobody reads or writes the other two places.
+-- The words that a node has here, by the family: all four where waiters are moved aside, and else its
+-- flag and its link, and nobody reads or writes the other two places. Where processors halt it has its
+-- state elsewhere, which is the last that a call resets.
 abbrev pub has_part : Mode → Part → Bool
 has_part mode part.Flag = true
 has_part mode part.Next = true
@@ -60,13 +64,46 @@ has_part mode part.Runs = moves_aside mode
 -- the word is the last of them
 abbrev pub is_last : Mode → Part → Bool
 is_last mode part.Flag = false
-is_last mode part.Next = not (moves_aside mode)
+is_last mode part.Next = not (moves_aside mode) && not (halts mode)
 is_last mode part.SecondTail = false
 is_last mode part.Runs = true
 
+-- Where processors halt, behind them the words of which that family alone has need: a state for each
+-- node, the places of the hash, four for each processor, and for each processor, on a line of the cache
+-- of its own, whether a kick of it is remembered. There is room for them in each family.
+abbrev pub far_of : Plan → ℕ
+far_of k = 72 + 8 * locks_of k + 16 * cpus_of k
+
+abbrev pub state_at : Plan → NodeName → ℕ
+state_at k n = far_of k + (4 * n.cpu + n.index)
+
+abbrev pub places_of : Plan → ℕ
+places_of k = 4 * cpus_of k
+
+abbrev pub hash_at : Plan → ℕ → ℕ
+hash_at k i = far_of k + 4 * cpus_of k + i
+
+abbrev pub kick_at : Plan → ℕ → ℕ
+kick_at k p = far_of k + 8 * cpus_of k + 8 * p
+
 -- how many words there are
 abbrev pub words_of : Plan → ℕ
-words_of k = 72 + 8 * locks_of k + 16 * cpus_of k
+words_of k = 72 + 8 * locks_of k + 32 * cpus_of k
+
+-- the number of a state
+abbrev pub state_number : State → ℕ
+state_number Running = 0
+state_number Halted = 1
+state_number Hashed = 2
+
+-- the number of an entry of the hash: a lock, which is below 32, with a node; 0 is an empty place
+abbrev pub pair_number : ℕ → NodeName → ℕ
+pair_number l n = 1 + l + 32 * (4 * n.cpu + n.index)
+
+-- the number of a mark
+abbrev pub mark_number : Bool → ℕ
+mark_number false = 0
+mark_number true = 1
 
 -- a node of the domain
 pub record IsNode (k : Plan) (n : NodeName) : Type 0 where
@@ -88,12 +125,23 @@ abbrev pub link_number : Option NodeName → ℕ
 link_number None = 0
 link_number (Some n) = name_number n
 
--- the number of a word of a node
+-- A link that names a node has a mark, which says whether the call that uses the node is in a
+-- context above 0. A mark adds 2^32. Where no node is named there is none.
+abbrev pub marked : Bool → ℕ → ℕ
+marked false i = i
+marked true i = if i == 0 then 0 else 4294967296 + i
+
+-- the number of a word of a node, but for the mark
 abbrev pub node_number : Part → Node → ℕ
 node_number part.Flag x = flag_number x.flag
 node_number part.Next x = link_number x.next
 node_number part.SecondTail x = link_number x.second_tail
 node_number part.Runs x = x.runs
+
+-- with the mark, if it is a link
+abbrev pub stored_number : Bool → Part → ℕ → ℕ
+stored_number b part.Next i = marked b i
+stored_number b q i = i
 
 -- the words of a new table: all are 0 but the balances
 pub record IsOpening (k : Plan) (ws : List ℕ) : Type 0 where

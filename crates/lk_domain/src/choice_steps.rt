@@ -4,7 +4,7 @@ ghost use Rattle.std.specs.Prelude.{◌≡◌, ◌<◌, None, IfSome};
 ghost use Rattle.lk_law.specs.Leads.{Number};
 ghost use Rattle.lk_domain.specs.NodePlays.{AtAppend, AtCut, AtSecondTail, AtSkipped, AtOwnRuns};
 ghost use Rattle.lk_domain.specs.NodePlays.{AtRuns, AtPromotion};
-ghost use Rattle.lk_domain.specs.NodeSeats.{NameMet, LinkSeen, TailSeen, RunsSeen, Went};
+ghost use Rattle.lk_domain.specs.NodeSeats.{LinkMet, NameMet, LinkSeen, TailSeen, RunsSeen, Went};
 ghost use Rattle.lk_domain.specs.Plans.{locks_of};
 ghost use Rattle.lk_domain.specs.Seats.{IsOf, KeepsRest, Made, view_of};
 ghost use Rattle.lk_domain.specs.Words.{IsNode};
@@ -23,23 +23,31 @@ pub fn cut(cpu: &mut Cpu, domain: &Domain, verb: Verb, node: NodeName) -> u64
     requires node { IsNode domain.now.plan node }
     requires row { AtCut node verb (view_of cpu.old) }
     ensures rest { KeepsRest cpu.old cpu.new }
-    ensures met { NameMet cpu.old result cpu.new }
+    ensures met { LinkMet cpu.old result cpu.new }
 {
     node_moves::cut(&mut cpu.seat, domain, verb, node)
 }
 
 /// Links a node behind the last of the second queue, and gives the number that it met: the first of
-/// those that the newest call has passed over, or of the rest of the queue. These are the rows C4 and
-/// C9.
-pub fn append(cpu: &mut Cpu, domain: &Domain, verb: Verb, node: NodeName, next: NodeName) -> u64
+/// those that the newest call has passed over, or of the rest of the queue. The mark is that of the
+/// link in which the call met the node: whether the call that uses it is in a context above 0.
+/// These are the rows C4 and C9.
+pub fn append(
+    cpu: &mut Cpu,
+    domain: &Domain,
+    verb: Verb,
+    node: NodeName,
+    next: NodeName,
+    mark: bool,
+) -> u64
     requires domain { IsOf cpu.old domain.now }
     requires node { IsNode domain.now.plan node }
     requires next { IsNode domain.now.plan next }
-    requires row { AtAppend node next verb (view_of cpu.old) }
+    requires row { AtAppend node next mark verb (view_of cpu.old) }
     ensures rest { KeepsRest cpu.old cpu.new }
-    ensures met { NameMet cpu.old result cpu.new }
+    ensures met { LinkMet cpu.old result cpu.new }
 {
-    node_moves::append(&mut cpu.seat, domain, verb, node, next)
+    node_moves::append(&mut cpu.seat, domain, verb, node, next, mark)
 }
 
 /// Looks at the last of the second queue in the node of its first, or stores it there, and gives the

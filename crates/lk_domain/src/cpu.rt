@@ -1,5 +1,5 @@
 // A processor: the right to step in a domain.
-ghost use Rattle.std.specs.Prelude.{◌≡◌, ◌<◌, Some, true, length};
+ghost use Rattle.std.specs.Prelude.{◌≡◌, Some, true, length};
 ghost use Rattle.lk_domain.specs.Calls.{slows, holds_in, waits_in, are_calls};
 ghost use Rattle.lk_domain.specs.Marked.{IsNoted};
 ghost use Rattle.lk_domain.specs.Plays.{carried_with};
@@ -47,19 +47,17 @@ impl Cpu {
         self.notes.queued
     }
 
-    /// Whether it holds the lock, in whichever way.
+    /// Whether it holds the lock, in whichever way: a lock that no domain has is not held.
     pub fn holds(&self, lock: LockId) -> bool
-        requires { lock.index < 32 }
         ensures { result ≡ holds_in self.now.seat.me.0.calls.holds lock.index }
     {
-        self.notes.held[lock.index as usize]
+        lock.index < 32 && self.notes.held[lock.index as usize]
     }
 
-    /// Whether one of its calls waits for the lock.
+    /// Whether one of its calls waits for the lock: for one that no domain has none does.
     pub fn waits(&self, lock: LockId) -> bool
-        requires { lock.index < 32 }
         ensures { result ≡ waits_in self.now.seat.me.0.calls.frames lock.index }
     {
-        self.notes.waiting[lock.index as usize]
+        lock.index < 32 && self.notes.waiting[lock.index as usize]
     }
 }

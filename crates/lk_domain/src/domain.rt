@@ -1,10 +1,10 @@
 // A domain: one table of words, and what it was made of.
 ghost use Rattle.std.specs.Prelude.{◌≡◌, ◌+◌, ◌*◌, ◌<◌, ◌≤◌, Some, length, slice_get};
-ghost use Rattle.lk_domain.specs.Plans.{IsLawfulPlan, cpus_of, locks_of, accounts_of};
-ghost use Rattle.lk_domain.specs.Words.{words_of, lock_at, word_at, balance_at, node_at, IsNode};
+ghost use Rattle.lk_domain.specs.Plans.{cpus_of, locks_of, accounts_of, layout_in, IsRunningPlan};
+ghost use Rattle.lk_domain.specs.Words.{words_of, lock_at, word_at, node_at, IsNode};
 ghost use Rattle.lk_domain.specs.NodePlays.{IsFlagNode};
-ghost use Rattle.lk_domain.specs.Words.{name_number, flag_number};
-ghost use Rattle.lk_word.specs.SpinWord.{tail_number};
+ghost use Rattle.lk_domain.specs.Words.{name_number, flag_number, marked};
+ghost use Rattle.lk_word.specs.SpinWord.{index_unit, tail_number};
 
 use crate::journal::Journal;
 use crate::part::Part;
@@ -12,9 +12,9 @@ use crate::plan::Plan;
 use crate::rule::Order;
 use crate::view::View;
 use atomic_table::Table;
-use lk_abs::{Kind, LockName, Mode};
+use lk_abs::{Format, Kind, LockName, Mode};
 use lk_machine::Flag;
-use lk_word::NodeName;
+use lk_word::{Layout, NodeName};
 use std::alloc::Global;
 
 /// Locks for processors that really run, and a ledger under them.
@@ -22,7 +22,7 @@ use std::alloc::Global;
 pub struct Domain {
     pub(crate) table: Table<Option<Journal>, View, Plan, Order, Global>,
     pub(crate) plan: Plan,
-    ghost lawful: { IsLawfulPlan plan },
+    ghost lawful: { IsRunningPlan plan },
     ghost words: { table.shared.table_id.words ≡ words_of plan },
     ghost slots: { table.shared.table_id.slots ≡ 1 },
     ghost key: { table.shared.key ≡ plan },
@@ -43,7 +43,26 @@ impl Domain {
         self.plan.mode
     }
 
-    /// How many handovers may pass a waiter of another socket by.
+    /// Its format.
+    #[inline]
+    pub fn format(&self) -> Format
+        ensures { result ≡ self.now.plan.format }
+    {
+        self.plan.format
+    }
+
+    /// How the words of its locks are laid out.
+    #[inline]
+    pub fn layout(&self) -> Layout
+        ensures { result ≡ layout_in self.now.plan }
+    {
+        match self.plan.format {
+            Format::One => Layout::Narrow,
+            Format::Two => Layout::Wide,
+        }
+    }
+
+    /// How many handovers may pass a waiter that was moved aside by.
     pub fn threshold(&self) -> u32
         ensures { result ≡ self.now.plan.threshold }
     {
@@ -101,24 +120,6 @@ impl Domain {
         if name.wait { word + 1 } else { word }
     }
 
-    // Where the balances begin.
-    pub(crate) fn first_balance(&self) -> usize
-        ensures { result ≡ balance_at self.now.plan 0 }
-    {
-        prove!(self.plan.locks.len() <= 32);
-        8 + 8 * self.plan.locks.len()
-    }
-
-    // Where a balance stands.
-    pub(crate) fn balance_of(&self, account: u32) -> usize
-        requires { account < accounts_of self.now.plan }
-        ensures { result ≡ balance_at self.now.plan account }
-    {
-        prove!(self.plan.locks.len() <= 32);
-        prove!(self.plan.balances.len() <= 64);
-        8 + 8 * self.plan.locks.len() + account as usize
-    }
-
     // Where a word of a node stands.
     pub(crate) fn node_of(&self, node: NodeName, part: Part) -> usize
         requires { IsNode self.now.plan node }
@@ -131,13 +132,27 @@ impl Domain {
         72 + place + 8 * self.plan.locks.len() + (16 * node.cpu as usize + 4 * node.index as usize)
     }
 
+    // What a tail's index counts for in a word. What is below it is no part of the tail.
+    pub(crate) fn tail_unit(&self) -> u64
+        ensures { result ≡ index_unit (layout_in self.now.plan) }
+    {
+        match self.plan.format {
+            Format::One => 65_536,
+            Format::Two => 512,
+        }
+    }
+
     // The number of the word of a free lock with this node as the tail.
     pub(crate) fn tail_of(&self, node: NodeName) -> u64
         requires { IsNode self.now.plan node }
-        ensures { result ≡ tail_number (Some node) }
+        ensures { result ≡ tail_number (layout_in self.now.plan) (Some node) }
     {
         prove!(self.plan.topology.sockets.len() <= 64);
-        65536 * node.index as u64 + 262144 * (node.cpu as u64 + 1)
+        let (index, cpu) = (node.index as u64, node.cpu as u64);
+        match self.plan.format {
+            Format::One => 65_536 * index + 262_144 * (cpu + 1),
+            Format::Two => 512 * index + 2_048 * (cpu + 1),
+        }
     }
 
     // The number of a flag.
@@ -150,6 +165,16 @@ impl Domain {
             Flag::Go => 1,
             Flag::Second(node) => self.name_of(node),
         }
+    }
+
+    // The number of a link to a node, with its mark.
+    pub(crate) fn link_of(&self, node: NodeName, mark: bool) -> u64
+        requires { IsNode self.now.plan node }
+        ensures { result ≡ marked mark (name_number node) }
+    {
+        prove!(self.plan.topology.sockets.len() <= 64);
+        let name = self.name_of(node);
+        if mark { 4_294_967_296 + name } else { name }
     }
 
     // The number of a node.

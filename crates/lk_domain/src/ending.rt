@@ -1,18 +1,14 @@
 // The end of a domain.
-ghost use Rattle.std.specs.Prelude.{◌≡◌, ◌+◌, ◌<◌, ◌≤◌, ℕ, [], None, Err, IfOk, length};
-ghost use Rattle.std.specs.Prelude.{take, drop};
-ghost use Rattle.std.specs.Slots.{IsFull, slots_items, slots_len};
-ghost use Rattle.lk_domain.specs.Ends.{AllRest, HasFrom, IsEnd, IsFinal};
+ghost use Rattle.std.specs.Prelude.{◌≡◌, ◌<◌, None, Err, IfOk, length};
+ghost use Rattle.lk_domain.specs.Ends.{AllRest, HasFrom, IsFinal};
 ghost use Rattle.lk_abs.specs.Journal.{balances_after};
-ghost use Rattle.lk_domain.specs.Plans.{cpus_of, accounts_of, kind_at};
-ghost use Rattle.lk_domain.specs.Seats.{IsOf, calls_of, ledger_of, view_of};
-ghost use Rattle.lk_domain.specs.Views.{view, joined, numbers, with_more, times, all_past};
+ghost use Rattle.lk_domain.specs.Plans.{cpus_of, kind_at};
+ghost use Rattle.lk_domain.specs.Seated.{IsSeatOf};
+ghost use Rattle.lk_domain.specs.Views.{all_past};
 
-use crate::cpu::Cpu;
+use crate::cpu::{Cpu, Right};
 use crate::domain::{Domain, LockId};
-use crate::journal::Journal;
-use crate::rule::TakeOver;
-use atomic_table::Closed as Left;
+use crate::ledger_steps;
 use lk_abs::{Entry, Kind, List, Mode};
 use std::alloc::Global;
 use std::snapshot::Snapshot;
@@ -65,82 +61,29 @@ impl Closed {
     }
 }
 
-// One processor takes over the numbers of another, which rests.
-fn join(cpu: &mut Cpu, domain: &Domain, other: Cpu)
-    requires domain { IsOf cpu.old domain.now × IsOf other domain.now }
-    requires home { (ledger_of other).out ≡ None }
-    ensures domain { IsOf cpu.new domain.now }
-    ensures view { view_of cpu.new ≡ view (joined (view_of cpu.old).who (view_of other))
-        (calls_of cpu.old) (with_more (ledger_of cpu.old) (ledger_of other).share) }
-{
-    let Cpu {
-        number: _,
-        notes: _,
-        seat,
-    } = other;
-    domain
-        .table
-        .shared
-        .join_seat::<TakeOver>(&mut cpu.seat, seat);
-}
-
-// One processor takes over the numbers of all others.
-fn join_all(domain: &Domain, mut cpus: List<Cpu>) -> Cpu
+// One processor takes over the numbers of all others: it has them all at the end.
+fn join_all(domain: &Domain, mut cpus: List<Cpu>) -> Right
     requires some { 0 < length cpus.items }
     requires rest { AllRest domain.now cpus.items }
-    ensures domain { IsOf result domain.now }
-    ensures home { (ledger_of result).out ≡ None }
-    ensures all { HasFrom 0 cpus.items (all_past (view_of result)) }
+    ensures seat { IsSeatOf domain.now.plan domain.now.table.shared.table_id result }
+    ensures home { result.me.0.ledger.out ≡ None }
+    ensures all { HasFrom 0 cpus.items (all_past result.me.0) }
 {
-    let mut last = cpus.pop();
-    while cpus.len() > 0 {
-        join(&mut last, domain, cpus.pop());
-    }
-    last
-}
-
-// So many words of a table at its end, from this one on.
-fn read(
-    closed: &Left<Option<Journal>, Global>,
-    first: usize,
-    count: usize,
-    balances: &mut List<u64>,
-)
-    requires full { IsFull closed.now.words }
-    requires inside { first + count ≤ slots_len closed.now.words }
-    requires empty { balances.old ≡ record { items = []; room = count } }
-    ensures { balances.new.items ≡ take count (drop first (slots_items closed.now.words)) }
-{
-    for account in 0..count {
-        balances.push(closed.word(first + account));
-    }
-}
-
-// The journal, once one processor has all numbers, and the balances.
-fn close_one(domain: Domain, cpu: Cpu, balances: &mut List<u64>) -> List<Entry>
-    requires domain { IsOf cpu domain }
-    requires all { (p : ℕ) → p < cpus_of domain.plan → 1 ≤ times p (numbers (view_of cpu)) }
-    requires home { (ledger_of cpu).out ≡ None }
-    requires empty { balances.old ≡ record { items = []; room = accounts_of domain.plan } }
-    ensures end { IsEnd domain.plan (view_of cpu) result.items }
-    ensures balances { balances.new.items ≡ balances_after domain.plan.balances.items result.items }
-{
-    let first = domain.first_balance();
-    let count = domain.accounts() as usize;
-    let Domain { table, plan: _ } = domain;
     let Cpu {
         number: _,
         notes: _,
         seat,
-    } = cpu;
-    let mut closed = table.close_with(seat);
-    read(&closed, first, count, balances);
-    let slot = closed.take(0);
-    closed.free();
-    match slot {
-        Some(journal) => journal.into_list(),
-        None => unreachable!(),
+    } = cpus.pop();
+    let mut last = seat;
+    while cpus.len() > 0 {
+        let Cpu {
+            number: _,
+            notes: _,
+            seat,
+        } = cpus.pop();
+        ledger_steps::join(&mut last, &domain.table, &domain.plan, seat);
     }
+    last
 }
 
 /// The end of a domain, with all its processors, of which none holds or waits.
@@ -162,7 +105,8 @@ pub fn close(alloc: Global, domain: Domain, cpus: List<Cpu>) -> Result<Closed, C
     let guard = domain.kind(LockId { index: 0 });
     let at_end = Snapshot::of(&cpus);
     let last = join_all(&domain, cpus);
-    let journal = close_one(domain, last, &mut balances);
+    let Domain { table, plan } = domain;
+    let journal = ledger_steps::end(table, &plan, last, &mut balances);
     Ok(Closed {
         balances,
         journal,

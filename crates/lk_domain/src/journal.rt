@@ -28,6 +28,13 @@ impl Journal {
         self.entries.push(entry);
     }
 
+    /// How many entries it has.
+    pub fn count(&self) -> usize
+        ensures { result ≡ length self.now.entries.items }
+    {
+        self.entries.len()
+    }
+
     /// The entries, as a list with the same room.
     pub fn into_list(self) -> List<Entry>
         ensures { result ≡ self.entries }

@@ -1,8 +1,9 @@
 // A new domain, and its processors.
-ghost use Rattle.std.specs.Prelude.{◌≡◌, ◌+◌, ◌<◌, [], IfOk, length, slice_set};
+ghost use Rattle.std.specs.Prelude.{◌≡◌, ◌+◌, ◌<◌, [], IfOk, false, length, slice_set};
 ghost use Rattle.lk_domain.specs.Calls.{no_calls};
 ghost use Rattle.lk_domain.specs.Ledgers.{no_ledger};
-ghost use Rattle.lk_domain.specs.Plans.{IsLawfulPlan, IsSamePlan, cpus_of, room_of};
+ghost use Rattle.lk_domain.specs.Plans.{IsLawfulPlan, IsRunningPlan, IsSamePlan, cpus_of, room_of};
+ghost use Rattle.lk_law.specs.Agree.{halts};
 ghost use Rattle.lk_domain.specs.Seats.{IsDealt, AreDealt};
 ghost use Rattle.lk_domain.specs.Views.{view, dealer};
 ghost use Rattle.lk_domain.specs.Words.{words_of, IsOpening};
@@ -18,8 +19,8 @@ use lk_abs::{List, Memory, Topology};
 use std::alloc::Global;
 
 impl Plan {
-    // The same plan, in room of its own.
-    fn copied(&self, alloc: Global) -> Result<Plan, Memory>
+    /// The same plan, in room of its own.
+    pub fn copied(&self, alloc: Global) -> Result<Plan, Memory>
         ensures { IfOk result (λ plan. IsSamePlan plan self.now) }
     {
         let topology = Topology {
@@ -29,6 +30,7 @@ impl Plan {
         let balances = List::from_slice(alloc, self.balances.as_slice())?;
         let shares = List::from_slice(alloc, self.shares.as_slice())?;
         Ok(Plan {
+            format: self.format,
             mode: self.mode,
             topology,
             threshold: self.threshold,
@@ -38,9 +40,9 @@ impl Plan {
         })
     }
 
-    // How many entries all processors may write.
-    fn room(&self) -> usize
-        requires { IsLawfulPlan self.now }
+    /// How many entries all processors may write.
+    pub fn room(&self) -> usize
+        requires { IsRunningPlan self.now }
         ensures { result ≡ room_of self.now }
     {
         let mut room = 0;
@@ -59,13 +61,13 @@ fn write(words: &mut List<u64>, at: usize, number: u64)
     *words.get_mut(at) = number;
 }
 
-// The words of a new table.
-fn opening_words(alloc: Global, plan: &Plan) -> Result<List<u64>, Memory>
-    requires { IsLawfulPlan plan.now }
+/// The words of a new table.
+pub fn opening_words(alloc: Global, plan: &Plan) -> Result<List<u64>, Memory>
+    requires { IsRunningPlan plan.now }
     ensures { IfOk result (λ words. IsOpening plan.now words.items) }
 {
     let first = 8 + 8 * plan.locks.len();
-    let mut words = List::filled(alloc, 0, first + 64 + 16 * plan.topology.sockets.len())?;
+    let mut words = List::filled(alloc, 0, first + 64 + 32 * plan.topology.sockets.len())?;
     for account in 0..plan.balances.len() {
         write(&mut words, first + account, *plan.balances.get(account));
     }
@@ -91,7 +93,7 @@ impl Domain {
 
     // A domain with the seat that deals the numbers.
     fn rest(alloc: Global, plan: Plan) -> Result<(Domain, Right), Memory>
-        requires { IsLawfulPlan plan }
+        requires { IsRunningPlan plan }
         ensures plan { IfOk result (λ made. made.0.plan ≡ plan) }
         ensures table { IfOk result (λ made. made.1.table_id ≡ made.0.table.shared.table_id) }
         ensures dealer { IfOk result (λ made. made.1.me.0
@@ -111,6 +113,7 @@ impl Domain {
     fn deal(&self, seat: &mut Right, number: u32) -> Cpu
         requires table { seat.old.table_id ≡ self.now.table.shared.table_id }
         requires low { number < cpus_of self.now.plan }
+        requires awake { halts self.now.plan.mode ≡ false }
         requires dealer { seat.old.me.0 ≡ view (dealer self.now.plan number) no_calls no_ledger }
         ensures table { seat.new.table_id ≡ seat.old.table_id }
         ensures dealer { seat.new.me.0

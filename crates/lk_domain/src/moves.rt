@@ -269,7 +269,7 @@ pub(crate) fn exchange_tail(
 {
     let word = domain.word_of(lock);
     let tail = domain.tail_of(own);
-    let new = expected % 65536 + tail;
+    let new = expected % domain.tail_unit() + tail;
     let met = domain
         .table
         .shared

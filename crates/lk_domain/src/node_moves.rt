@@ -2,7 +2,7 @@
 ghost use Rattle.std.specs.Prelude.{◌≡◌, ◌≢◌, ◌<◌, true};
 ghost use Rattle.lk_machine.specs.declared.parts.Pc.TheVariants.{G6};
 ghost use Rattle.lk_domain.specs.NodePlays.{AtOwn, AtPrev, AtNext, AtEntry, AtBare};
-ghost use Rattle.lk_domain.specs.NodePlays.{AtAppend, AtCut, AtTail, AtNewTail, Names, AtLink};
+ghost use Rattle.lk_domain.specs.NodePlays.{AtAppend, AtCut, AtTail, AtNewTail, Relinks, Names, AtLink};
 ghost use Rattle.lk_domain.specs.NodePlays.{AtSkipped, AtOwnRuns, AtRuns, IsFlagNode, Counted, Tells, SeesTail};
 ghost use Rattle.lk_domain.specs.NodePlays.{Enters, Links, Hands, readied_by, SeesFlag, SeesLink};
 ghost use Rattle.lk_domain.specs.Plans.{locks_of};
@@ -14,8 +14,8 @@ use crate::cpu::Right;
 use crate::domain::Domain;
 use crate::part::Part;
 use crate::rule::{
-    Counts, Entries, FlagLooks, Handovers, LinkLooks, Linkings, Namings, Resets, RunsLooks,
-    TailLooks,
+    Counts, Entries, FlagLooks, Handovers, LinkLooks, Linkings, Namings, Relinkings, Resets,
+    RunsLooks, TailLooks,
 };
 use lk_abs::LockName;
 use lk_machine::{Flag, Verb};
@@ -30,7 +30,7 @@ pub(crate) fn reset(
     own: NodeName,
     part: Part,
     value: u64,
-) -> u64
+)
     requires table { seat.old.table_id ≡ domain.now.table.shared.table_id }
     requires number { IsNumbered seat.old.me.0 }
     requires own { IsNode domain.now.plan own }
@@ -42,8 +42,7 @@ pub(crate) fn reset(
     ensures step { seat.new.me ≡ (readied_by part seat.old.me.0, seat.old.me.1) }
 {
     let word = domain.node_of(own, part);
-    let met = domain.table.shared.swap::<Resets>(seat, word, value);
-    met
+    domain.table.shared.swap::<Resets>(seat, word, value);
 }
 
 // Resets the last word of the node to come, whose other words are reset, and takes the node.
@@ -54,7 +53,7 @@ pub(crate) fn enter(
     own: NodeName,
     part: Part,
     value: u64,
-) -> u64
+)
     requires table { seat.old.table_id ≡ domain.now.table.shared.table_id }
     requires number { IsNumbered seat.old.me.0 }
     requires own { IsNode domain.now.plan own }
@@ -64,47 +63,46 @@ pub(crate) fn enter(
     requires part { has_part domain.now.plan.mode part ≡ true }
     requires ready { seat.old.me.0.calls.ready ≡ part_index part }
     ensures same { (seat.new.table_id ≡ seat.old.table_id) × (seat.new.id ≡ seat.old.id) }
-    ensures step { Enters seat.old.me result seat.new.me }
+    ensures step { Enters seat.old.me 0 seat.new.me }
 {
     let word = domain.node_of(own, part);
-    let met = domain.table.shared.swap::<Entries>(seat, word, value);
-    met
+    domain.table.shared.swap::<Entries>(seat, word, value);
 }
 
 // Enters without a node, where four calls of the processor have theirs, by a look at the word of the
 // lock.
-pub(crate) fn enter_bare(seat: &mut Right, domain: &Domain, _verb: Verb, lock: LockName) -> u64
+pub(crate) fn enter_bare(seat: &mut Right, domain: &Domain, _verb: Verb, lock: LockName)
     requires table { seat.old.table_id ≡ domain.now.table.shared.table_id }
     requires number { IsNumbered seat.old.me.0 }
     requires lock { lock.index < locks_of domain.now.plan }
     requires row { AtBare lock _verb seat.old.me.0 }
     ensures same { (seat.new.table_id ≡ seat.old.table_id) × (seat.new.id ≡ seat.old.id) }
-    ensures step { Enters seat.old.me result seat.new.me }
+    ensures step { Enters seat.old.me 0 seat.new.me }
 {
     let word = domain.word_of(lock);
-    let met = domain.table.shared.load::<Entries>(seat, word);
-    met
+    domain.table.shared.load::<Entries>(seat, word);
 }
 
 // Links the own node behind the one before it, whose link is none: only the call that took the tail
-// from it stores there.
+// from it stores there. The mark is that of the call's context.
 pub(crate) fn link(
     seat: &mut Right,
     domain: &Domain,
     _verb: Verb,
     prev: NodeName,
     own: NodeName,
+    mark: bool,
 ) -> u64
     requires table { seat.old.table_id ≡ domain.now.table.shared.table_id }
     requires number { IsNumbered seat.old.me.0 }
     requires prev { IsNode domain.now.plan prev }
     requires own { IsNode domain.now.plan own }
-    requires row { AtPrev prev own _verb seat.old.me.0 }
+    requires row { AtPrev prev own mark _verb seat.old.me.0 }
     ensures same { (seat.new.table_id ≡ seat.old.table_id) × (seat.new.id ≡ seat.old.id) }
     ensures step { Links seat.old.me result seat.new.me }
 {
     let word = domain.node_of(prev, Part::Next);
-    let name = domain.name_of(own);
+    let name = domain.link_of(own, mark);
     let met = domain.table.shared.swap::<Linkings>(seat, word, name);
     met
 }
@@ -161,32 +159,34 @@ pub(crate) fn cut(seat: &mut Right, domain: &Domain, _verb: Verb, node: NodeName
     requires node { IsNode domain.now.plan node }
     requires row { AtCut node _verb seat.old.me.0 }
     ensures same { (seat.new.table_id ≡ seat.old.table_id) × (seat.new.id ≡ seat.old.id) }
-    ensures step { Names seat.old.me result seat.new.me }
+    ensures step { Relinks seat.old.me result seat.new.me }
 {
     let word = domain.node_of(node, Part::Next);
-    let met = domain.table.shared.swap::<Namings>(seat, word, 0);
+    let met = domain.table.shared.swap::<Relinkings>(seat, word, 0);
     met
 }
 
-// Links a node behind the last of the second queue.
+// Links a node behind the last of the second queue. The mark is that of the link in which the call
+// met the node.
 pub(crate) fn append(
     seat: &mut Right,
     domain: &Domain,
     _verb: Verb,
     node: NodeName,
     next: NodeName,
+    mark: bool,
 ) -> u64
     requires table { seat.old.table_id ≡ domain.now.table.shared.table_id }
     requires number { IsNumbered seat.old.me.0 }
     requires node { IsNode domain.now.plan node }
     requires next { IsNode domain.now.plan next }
-    requires row { AtAppend node next _verb seat.old.me.0 }
+    requires row { AtAppend node next mark _verb seat.old.me.0 }
     ensures same { (seat.new.table_id ≡ seat.old.table_id) × (seat.new.id ≡ seat.old.id) }
-    ensures step { Names seat.old.me result seat.new.me }
+    ensures step { Relinks seat.old.me result seat.new.me }
 {
     let word = domain.node_of(node, Part::Next);
-    let name = domain.name_of(next);
-    let met = domain.table.shared.swap::<Namings>(seat, word, name);
+    let name = domain.link_of(next, mark);
+    let met = domain.table.shared.swap::<Relinkings>(seat, word, name);
     met
 }
 

@@ -1,5 +1,5 @@
 // Steps on the words of the ledger, by a processor that holds lock 0.
-ghost use Rattle.std.specs.Prelude.{◌≡◌, ◌<◌, ◌≤◌, ◌+◌, Some, None};
+ghost use Rattle.std.specs.Prelude.{◌≡◌, ◌<◌, Some, None};
 ghost use Rattle.lk_domain.specs.Keeps.{holds_first, alone_first};
 ghost use Rattle.lk_domain.specs.Ledgers.{Out};
 ghost use Rattle.lk_domain.specs.Plans.{accounts_of};
@@ -9,7 +9,7 @@ ghost use Rattle.lk_domain.specs.Seats.{MayCome, CameHome, calls_of, ledger_of};
 use crate::cpu::Cpu;
 use crate::domain::Domain;
 use crate::journal::Journal;
-use crate::rule::{BringJournal, LoadBalance, LoadVersion, StoreBalance, TakeJournal};
+use crate::ledger_steps;
 
 /// Loads a balance.
 pub fn load(cpu: &mut Cpu, domain: &Domain, account: u32) -> u64
@@ -19,8 +19,7 @@ pub fn load(cpu: &mut Cpu, domain: &Domain, account: u32) -> u64
     ensures rest { KeepsCalls cpu.old cpu.new }
     ensures loaded { HasLoaded account cpu.old result cpu.new }
 {
-    let word = domain.balance_of(account);
-    domain.table.shared.load::<LoadBalance>(&mut cpu.seat, word)
+    ledger_steps::load(&mut cpu.seat, &domain.table, &domain.plan, account)
 }
 
 /// Stores a balance, with the journal out.
@@ -32,11 +31,7 @@ pub fn store(cpu: &mut Cpu, domain: &Domain, account: u32, amount: u64)
     ensures rest { KeepsCalls cpu.old cpu.new }
     ensures stored { HasStored account amount cpu.old cpu.new }
 {
-    let word = domain.balance_of(account);
-    domain
-        .table
-        .shared
-        .store::<StoreBalance>(&mut cpu.seat, word, amount);
+    ledger_steps::store(&mut cpu.seat, &domain.table, &domain.plan, account, amount);
 }
 
 /// The number of entries of the journal.
@@ -46,7 +41,7 @@ pub fn version(cpu: &mut Cpu, domain: &Domain) -> u64
     ensures rest { KeepsCalls cpu.old cpu.new }
     ensures seen { HasSeen cpu.old result cpu.new }
 {
-    domain.table.shared.load::<LoadVersion>(&mut cpu.seat, 1)
+    ledger_steps::version(&mut cpu.seat, &domain.table, &domain.plan)
 }
 
 /// Takes the journal out, by a load of the version.
@@ -57,12 +52,7 @@ pub fn journal_out(cpu: &mut Cpu, domain: &Domain) -> Journal
     ensures rest { KeepsCalls cpu.old cpu.new }
     ensures out { IsOut domain.now.plan (ledger_of cpu.old) result (ledger_of cpu.new) }
 {
-    let table = &domain.table.shared;
-    table.load::<TakeJournal>(&mut cpu.seat, 1);
-    match table.exchange(&mut cpu.seat, 0, None) {
-        Some(journal) => journal,
-        None => unreachable!(),
-    }
+    ledger_steps::journal_out(&mut cpu.seat, &domain.table, &domain.plan)
 }
 
 /// Brings the journal home, by a store of the version.
@@ -73,8 +63,5 @@ pub fn journal_home(cpu: &mut Cpu, domain: &Domain, journal: Journal)
     ensures rest { KeepsCalls cpu.old cpu.new }
     ensures ledger { CameHome cpu.old.number (ledger_of cpu.old) journal (ledger_of cpu.new) }
 {
-    let table = &domain.table.shared;
-    let version = journal.entries.len() as u64;
-    drop(table.exchange(&mut cpu.seat, 0, Some(journal)));
-    table.store::<BringJournal>(&mut cpu.seat, 1, version);
+    ledger_steps::journal_home(&mut cpu.seat, &domain.table, &domain.plan, journal);
 }

@@ -37,7 +37,7 @@ impl Part {
     {
         match self {
             Part::Flag | Part::SecondTail => false,
-            Part::Next => !matches!(mode, Mode::Cna),
+            Part::Next => !matches!(mode, Mode::Cna | Mode::Pv),
             Part::Runs => true,
         }
     }

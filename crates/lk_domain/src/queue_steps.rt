@@ -24,7 +24,7 @@ use lk_machine::{Flag, Verb};
 use lk_word::NodeName;
 
 // Resets the last word of the node to come: the call enters the slow path with it.
-fn enter(cpu: &mut Cpu, domain: &Domain, verb: Verb, own: NodeName, part: Part, value: u64) -> u64
+fn enter(cpu: &mut Cpu, domain: &Domain, verb: Verb, own: NodeName, part: Part, value: u64)
     requires domain { IsOf cpu.old domain.now }
     requires own { IsNode domain.now.plan own }
     requires value { value ≡ 0 }
@@ -36,13 +36,12 @@ fn enter(cpu: &mut Cpu, domain: &Domain, verb: Verb, own: NodeName, part: Part, 
     ensures row { Went (Number (slows (calls_of cpu.old).frames)) cpu.old cpu.new }
 {
     let lock = cpu.notes.newest();
-    let met = node_moves::enter(&mut cpu.seat, domain, verb, own, part, value);
+    node_moves::enter(&mut cpu.seat, domain, verb, own, part, value);
     cpu.notes.step(lock, true, true, false);
-    met
 }
 
 // Resets another word of the node to come.
-fn reset(cpu: &mut Cpu, domain: &Domain, verb: Verb, own: NodeName, part: Part, value: u64) -> u64
+fn reset(cpu: &mut Cpu, domain: &Domain, verb: Verb, own: NodeName, part: Part, value: u64)
     requires domain { IsOf cpu.old domain.now }
     requires own { IsNode domain.now.plan own }
     requires value { value ≡ 0 }
@@ -51,13 +50,13 @@ fn reset(cpu: &mut Cpu, domain: &Domain, verb: Verb, own: NodeName, part: Part, 
     ensures rest { KeepsRest cpu.old cpu.new }
     ensures reset { view_of cpu.new ≡ readied_by part (view_of cpu.old) }
 {
-    node_moves::reset(&mut cpu.seat, domain, verb, own, part, value)
+    node_moves::reset(&mut cpu.seat, domain, verb, own, part, value);
 }
 
-/// Resets a word of the node that the newest call gets next, and gives the number that it met. The
-/// words are reset in the order of `Part`, as many as a node has in a domain of this family: where
-/// waiters are moved aside four, and else the flag and the link. The last of them makes the row G1:
-/// the call then has the node.
+/// Resets a word of the node that the newest call gets next; what the word held is of no use to
+/// anybody. The words are reset in the order of `Part`, as many as a node has in a domain of this
+/// family: where waiters are moved aside four, and else the flag and the link. The last of them makes
+/// the row G1: the call then has the node.
 pub fn private_store(
     cpu: &mut Cpu,
     domain: &Domain,
@@ -65,7 +64,7 @@ pub fn private_store(
     own: NodeName,
     part: Part,
     value: u64,
-) -> u64
+)
     requires domain { IsOf cpu.old domain.now }
     requires own { IsNode domain.now.plan own }
     requires value { value ≡ 0 }
@@ -79,15 +78,15 @@ pub fn private_store(
         → Went (Number (slows (calls_of cpu.old).frames)) cpu.old cpu.new }
 {
     if part.is_last(domain.mode()) {
-        enter(cpu, domain, verb, own, part, value)
+        enter(cpu, domain, verb, own, part, value);
     } else {
-        reset(cpu, domain, verb, own, part, value)
+        reset(cpu, domain, verb, own, part, value);
     }
 }
 
-/// Looks at the word of a lock, which is not used, and gives it. This is the row G1 of a call that
-/// gets no node.
-pub fn enter_bare(cpu: &mut Cpu, domain: &Domain, verb: Verb, lock: LockName) -> u64
+/// Looks at the word of a lock, of which nothing is used. This is the row G1 of a call that gets no
+/// node.
+pub fn enter_bare(cpu: &mut Cpu, domain: &Domain, verb: Verb, lock: LockName)
     requires domain { IsOf cpu.old domain.now }
     requires lock { lock.index < locks_of domain.now.plan }
     requires row { AtBare lock verb (view_of cpu.old) }
@@ -95,27 +94,35 @@ pub fn enter_bare(cpu: &mut Cpu, domain: &Domain, verb: Verb, lock: LockName) ->
     ensures row { Went (Number (slows (calls_of cpu.old).frames)) cpu.old cpu.new }
 {
     prove!(domain.plan.locks.len() <= 32);
-    let met = node_moves::enter_bare(&mut cpu.seat, domain, verb, lock);
+    node_moves::enter_bare(&mut cpu.seat, domain, verb, lock);
     cpu.notes.step(lock.index, true, true, false);
-    met
 }
 
 /// Links the own node of the newest call behind the one before it, and gives the number that it
-/// met, which is that of no node. This is the row G5.
-pub fn link(cpu: &mut Cpu, domain: &Domain, verb: Verb, prev: NodeName, own: NodeName) -> u64
+/// met, which is that of no node. The mark says whether the call is in a context above 0. This is
+/// the row G5.
+pub fn link(
+    cpu: &mut Cpu,
+    domain: &Domain,
+    verb: Verb,
+    prev: NodeName,
+    own: NodeName,
+    mark: bool,
+) -> u64
     requires domain { IsOf cpu.old domain.now }
     requires prev { IsNode domain.now.plan prev }
     requires own { IsNode domain.now.plan own }
-    requires row { AtPrev prev own verb (view_of cpu.old) }
+    requires row { AtPrev prev own mark verb (view_of cpu.old) }
     ensures rest { KeepsRest cpu.old cpu.new }
     ensures met { result ≡ 0 }
     ensures row { Went (Named None) cpu.old cpu.new }
 {
-    node_moves::link(&mut cpu.seat, domain, verb, prev, own)
+    node_moves::link(&mut cpu.seat, domain, verb, prev, own, mark)
 }
 
-/// Looks at a word of the own node of the newest call, and gives its number. These are the rows G6,
-/// G10 and C1; before C1 the call has read the count of handovers in its node.
+/// Looks at a word of the own node of the newest call, and gives its number, that of a link with
+/// the mark. These are the rows G6, G10 and C1; before C1 the call has read the count of handovers
+/// in its node.
 pub fn look_own(cpu: &mut Cpu, domain: &Domain, verb: Verb, own: NodeName, part: Part) -> u64
     requires domain { IsOf cpu.old domain.now }
     requires own { IsNode domain.now.plan own }

@@ -2,6 +2,7 @@
 ghost use Rattle.lk_domain.specs.Calls.{no_calls};
 ghost use Rattle.lk_domain.specs.Ledgers.{no_ledger};
 ghost use Rattle.lk_domain.specs.NodePlays.{Readies, Enters, Links, SeesFlag, SeesLink, Hands, Names};
+ghost use Rattle.lk_domain.specs.NodePlays.{Relinks};
 ghost use Rattle.lk_domain.specs.NodePlays.{Counted, Tells, SeesTail};
 ghost use Rattle.lk_domain.specs.Plays.{Makes, WentBy, Swaps, Draws, Loads, Sees, TakesJournal, Stores, Brings};
 ghost use Rattle.lk_domain.specs.RwPlays.{Shares};
@@ -164,7 +165,14 @@ impl Play<Option<Journal>, View> for Counts {
     ghost then = { λ _. Tells };
 }
 
-// A front stores the name of a node into a word of another's.
+// A front stores a link into the node of another waiter.
+pub struct Relinkings;
+
+impl Play<Option<Journal>, View> for Relinkings {
+    ghost then = { λ _. Relinks };
+}
+
+// A front stores the last of the second queue into the node of its first.
 pub struct Namings;
 
 impl Play<Option<Journal>, View> for Namings {

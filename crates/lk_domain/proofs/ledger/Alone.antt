@@ -18,7 +18,7 @@ use Rattle.lk_domain.specs.Calls.{Calls, no_calls, lock_name}
 use Rattle.lk_domain.specs.Keeps.{Slot, any_count, sole_count, is_sole, holds_first, Keeps, AtHome, Away}
 use Rattle.lk_domain.specs.Ledgers.{Out}
 use Rattle.lk_domain.specs.Plans.{locks_of}
-use Rattle.lk_domain.specs.Runs.{Runs, SeatFits, waiter}
+use Rattle.lk_domain.specs.Runs.{Runs, SeatFits, waiter, Seeks}
 use Rattle.lk_domain.specs.Stand.{Stand}
 use Rattle.lk_domain.specs.Views.{IsNumbered}
 use Rattle.lk_domain.specs.Words.{node_at}
@@ -27,7 +27,9 @@ use Rattle.lk_domain.specs.declared.view.View.{View}
 use Rattle.lk_domain.proofs.ledger.Held.{any_some, sole_le, sole_some}
 use Rattle.lk_domain.proofs.words.Locks.{IsApart, locks_else, same_locks}
 use Rattle.lk_domain.proofs.Manners.{held_spun}
-use Rattle.lk_domain.proofs.rows.Lands as lands
+use Rattle.lk_domain.proofs.rows.Kept as rule
+use Rattle.lk_domain.proofs.rows.Kept.{halting_same}
+use Rattle.lk_domain.proofs.rows.Halts.{same_marks, far_set, seeks_same}
 use Rattle.lk_domain.proofs.Stacks.{holder_of}
 use Rattle.lk_domain.proofs.seats.Totals.{apart}
 
@@ -131,12 +133,17 @@ module _ (k : Plan) {S : Type 0} (s : State S View) (st : Runs k s) (id : ℕ) (
   paged w who calls i x page homes =
       let old : SeatFits st.world n.0 v.calls = st.seats id v n.0 me n.1 in
       let fit : SeatFits st.world n.0 w.calls = subst (SeatFits st.world n.0) (sym calls) old in
-      lands.keeps k s st id v me n.0 n.1 st.world st.histories w (set s.words i x) st.sound st.of_plan
+      let far = far_set k s.words i x (let b = page.below in omega (arith, b)) in
+      rule.keeps k s st id v me n.0 n.1 st.world st.histories st.marks w (set s.words i x) st.sound st.of_plan
       (record {
         long = length-set s.words i x ∙ st.stored.long;
         locks = locks_else k st.world st.world s.words st.stored.locks i x page.apart (same_locks st.world);
         nodes = λ y q cpu index has. get_or-set_other s.words i (node_at k y q) x 0 (let b = page.below in λ e. omega arith)
             ∙ st.stored.nodes y q cpu index has;
       })
+      (rule.right k s st id v me n.0 n.1)
       (get_or-set_other s.words i 0 x 0 (let b = page.low in λ e. omega arith))
-      (λ u ne. (refl, λ l. refl)) (λ q ne. refl) (λ q d ne f. refl) (λ q d ne f. f.counted) who fit homes
+      (λ u ne. (refl, λ l. refl)) (λ q ne. refl) (λ q d ne f. refl) (λ q d ne f. f.counted) (λ q d ne f. f.told) who fit
+      (halting_same k s st.world st.world (set s.words i x) id n.0 far (same_marks st.world) (λ b. refl) st.halting)
+      (subst (Seeks k (set s.words i x)) (sym calls)
+      (seeks_same k s.words (set s.words i x) far v.calls (st.seeks id v me))) homes

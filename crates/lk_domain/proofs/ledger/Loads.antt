@@ -16,7 +16,7 @@ use Rattle.lk_domain.specs.Keeps.{Slot, Keeps, Knows, AtHome, IsOpen, balance, u
 use Rattle.lk_domain.specs.Keeps.{holds_first, alone_first}
 use Rattle.lk_domain.specs.Ledgers.{Ledger, Look, Out, no_ledger, loaded, sighted, taken_out, look_loads}
 use Rattle.lk_domain.specs.Ledgers.{look_sees, listed_look, manner_of, trail_of}
-use Rattle.lk_domain.specs.Plans.{IsLawfulPlan, accounts_of, locks_of}
+use Rattle.lk_domain.specs.Plans.{IsRunningPlan, accounts_of, locks_of}
 use Rattle.lk_domain.specs.Plays.{Loads, LoadedBy, Sees, OneState, TakenBy, TakesJournal}
 use Rattle.lk_domain.specs.Stand.{Stand}
 use Rattle.lk_domain.specs.Views.{view, IsNumbered}
@@ -26,7 +26,7 @@ use Rattle.lk_domain.specs.declared.view.View.{View}
 use Rattle.lk_domain.proofs.ledger.Alone as alone
 use Rattle.lk_domain.proofs.ledger.Alone.{IsPage, paged, some_out, out_is}
 use Rattle.lk_domain.proofs.ledger.Held.{any_once, sole_le}
-use Rattle.lk_domain.proofs.rows.Lands.{set_at}
+use Rattle.lk_domain.proofs.rows.Kept.{set_at}
 use Rattle.lk_domain.proofs.ledger.Purses.{alters, ended_more, look_ends}
 use Rattle.lk_domain.proofs.seats.Totals.{total-same, term_le}
 
@@ -36,7 +36,7 @@ pub version_page : (k : Plan) → IsPage k version_at
 version_page k =
     record { low = omega arith; below = omega arith; apart = inl (omega arith) }
 
-pub balance_page : (k : Plan) → IsLawfulPlan k → (a : ℕ) → a < accounts_of k
+pub balance_page : (k : Plan) → IsRunningPlan k → (a : ℕ) → a < accounts_of k
     → IsPage k (balance_at k a)
 balance_page k law a lt =
     record {

@@ -28,7 +28,7 @@ use Rattle.lk_domain.specs.Words.{version_at, balance_at}
 use Rattle.lk_domain.specs.declared.plan.Plan.{Plan}
 use Rattle.lk_domain.specs.declared.view.View.{View}
 use Rattle.lk_domain.proofs.ledger.Held.{any_none, free_any, free_sole, sole_le}
-use Rattle.lk_domain.proofs.rows.Lands.{set_at}
+use Rattle.lk_domain.proofs.rows.Kept.{set_at}
 use Rattle.lk_domain.proofs.seats.Totals.{total-same}
 
 take_all : {A : Type 0} (xs : List A) → take (length xs) xs ≡ xs

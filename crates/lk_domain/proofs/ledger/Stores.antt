@@ -13,7 +13,7 @@ use Rattle.lk_domain.specs.Places.{AllOf, places, places_from}
 use Rattle.lk_abs.specs.Journal.{Replays}
 use Rattle.lk_domain.specs.Keeps.{Slot, Keeps, Knows, Away, ArePast, AreEnded, balance, undrawn, holds_first}
 use Rattle.lk_domain.specs.Ledgers.{Ledger, Out, no_ledger, stored, brought}
-use Rattle.lk_domain.specs.Plans.{IsLawfulPlan, accounts_of, locks_of}
+use Rattle.lk_domain.specs.Plans.{IsRunningPlan, accounts_of, locks_of}
 use Rattle.lk_domain.specs.Plays.{Stores, Brings}
 use Rattle.lk_domain.specs.Seats.{MayCome}
 use Rattle.lk_domain.specs.Stand.{Stand}
@@ -26,7 +26,7 @@ use Rattle.lk_domain.proofs.ledger.Alone as alone
 use Rattle.lk_domain.proofs.ledger.Alone.{paged, some_out, out_is}
 use Rattle.lk_domain.proofs.ledger.Grown.{all_grow, places-append, places_kept, past_grows, own_once, other_once, knows_grows}
 use Rattle.lk_domain.proofs.ledger.Grown.{drop_front}
-use Rattle.lk_domain.proofs.rows.Lands.{set_at}
+use Rattle.lk_domain.proofs.rows.Kept.{set_at}
 use Rattle.lk_domain.proofs.ledger.Loads.{version_page, balance_page}
 use Rattle.lk_domain.proofs.seats.Totals.{total-same, total-set, apart, drawn}
 
@@ -37,7 +37,7 @@ module _ (k : Plan) (s : State Slot View) (both : Stand k s) (id : ℕ) (v : Vie
   abbrev kp : Keeps k s
   kp = both.keeps
 
-  abbrev law : IsLawfulPlan k
+  abbrev law : IsRunningPlan k
   law = both.runs.lawful
 
   kv : Knows k kp.journal v

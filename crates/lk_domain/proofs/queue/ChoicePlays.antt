@@ -1,6 +1,7 @@
 -- What the step calls ask by which a front of Dice and Kogan's lock stores the names of nodes.
+use Rattle.std.proofs.Common.{eqb, false}
 use Rattle.std.proofs.Common.{◌≡◌, ◌≢◌, ◌⊎◌, inl, inr, ℕ, get_or, Option, Some, None, true}
-use Rattle.std.proofs.Common.{refl, sym, ap, ◌∙◌, subst}
+use Rattle.std.proofs.Common.{refl, sym, ap, ◌∙◌, subst, Bool, List, eq-eqb}
 use mathlib.Core.Option.{some}
 use lib.ListN.{get_elem?}
 use Rattle.atomic_table.specs.Table.{State, Me, keeps, Allows}
@@ -15,19 +16,20 @@ use Rattle.lk_machine.specs.TopRow.{target}
 use Rattle.lk_law.specs.Cna.{moves_aside}
 use Rattle.lk_law.specs.Families.{chooses}
 use Rattle.lk_law.specs.Known.{choice_node}
-use Rattle.lk_law.specs.Leads.{Named, stored_in}
+use Rattle.lk_law.specs.Leads.{Named, stored_in, Linked}
 use Rattle.lk_law.specs.Steps.{stores_next, stores_second}
 use Rattle.lk_law.specs.World.{World}
 use Rattle.lk_law.proofs.cna.Knows.{choice_is_used}
 use Rattle.lk_law.proofs.cna.Named.{second_tail_is_used}
-use Rattle.lk_domain.specs.Calls.{StandsOn, acting}
+use Rattle.lk_law.proofs.common.Choices.{aside_awake}
+use Rattle.lk_domain.specs.Calls.{StandsOn, acting, Calls, Running, frame_in, running, told}
 use Rattle.lk_domain.specs.Keeps.{Slot}
 use Rattle.lk_domain.specs.NodePlays.{Names, SeesTail, AtAppend, AtCut, AtTail, AtNewTail, appends}
 use Rattle.lk_domain.specs.Plays.{went}
 use Rattle.lk_domain.specs.Runs.{waiter}
 use Rattle.lk_domain.specs.Stand.{Stand}
 use Rattle.lk_domain.specs.Views.{IsNumbered}
-use Rattle.lk_domain.specs.Words.{node_at, link_number, name_number, IsNode}
+use Rattle.lk_domain.specs.Words.{node_at, link_number, name_number, IsNode, marked}
 use Rattle.lk_domain.specs.declared.part.Part.TheVariants as part
 use Rattle.lk_domain.specs.declared.plan.Plan.{Plan}
 use Rattle.lk_domain.specs.declared.view.View.{View}
@@ -35,8 +37,20 @@ use Rattle.lk_domain.proofs.rows.Lands as lands
 use Rattle.lk_domain.proofs.rows.Sights.{IsSeen, Sees}
 use Rattle.lk_domain.proofs.words.LockPlays.{MayFree}
 use Rattle.lk_domain.proofs.queue.NodePlays as play
-use Rattle.lk_domain.proofs.queue.NodeStores.{OnNode, unseen_by, next_here, tail_here}
+use Rattle.lk_domain.proofs.queue.Relinks.{remarked, remarked_here, remarked_else, relinked}
+use Rattle.lk_domain.proofs.queue.NodeStores.{OnNode, unseen_by, next_here, tail_here, row_else}
 use Rattle.lk_domain.proofs.queue.OnNodes.{IsUsed}
+use Rattle.lk_domain.proofs.Acting.{acting_is}
+use Rattle.lk_domain.proofs.Stacks.{frame_in-top}
+use Rattle.lk_domain.proofs.words.NodeWords.{stored_zero}
+use Rattle.lk_domain.specs.Calls.{told_in}
+use Rattle.lk_domain.specs.NodePlays.{Relinks}
+use Rattle.lk_law.proofs.common.Cases.{node_cases}
+use Rattle.lk_law.proofs.common.Puts.{if-true}
+use Rattle.lk_law.proofs.running.Links.{passed_is_used}
+use Rattle.lk_law.specs.Nodes.{will_link, looks_along}
+use Rattle.lk_law.specs.Premises.{Uses}
+use Rattle.lk_machine.specs.declared.parts.Node.{Node}
 
 -- the rows free nothing
 
@@ -76,34 +90,95 @@ module _ (k : Plan) (slots id : ℕ) (m : Me Slot View) (number : IsNumbered m.0
       ap moves_aside (sym (at.acted.same.mode ∙ st.of_plan.mode))
       ∙ (at.acted.sound.spins.registers (waiter number.0 acts.frame.ctx) acts.frame live).choice.choice pc acts.place front
 
-  -- a store into a link
-  pub links : (on : OnNode (target pc acts.frame) a part.Next) (o : Option NodeName) (i : ℕ) → i ≡ link_number o
-      → ((n : World) (w : Waiter) → ((stored_in n w acts.frame pc (target pc acts.frame)).node a).next ≡ o)
-      → Allows (Stand k) slots id m (node_at k a part.Next) (λ _. i) (Names m)
-  links on o i is writes s both long me small =
+  -- a link is cut
+  pub cut_link : (on : OnNode (target pc acts.frame) a part.Next) → (looks_along pc ≡ true → ⊥)
+      → ((n : World) (w : Waiter) → ((stored_in n w acts.frame pc (target pc acts.frame)).node a).next ≡ None)
+      → Allows (Stand k) slots id m (node_at k a part.Next) (λ _. 0) (Relinks m)
+  cut_link on off writes s both long me small =
       let world = play.world k slots id m number v lock pc acts a part.Next near entry calm on frees s both me refl in
+      let marks = play.marks k slots id m number v lock pc acts a part.Next near entry calm on frees s both me refl in
       let w = waiter number.0 acts.frame.ctx in
       let x = (world.node a).next in
       let used = choice_is_used world _ w acts.frame pc
       (play.sound k slots id m number v lock pc acts a part.Next near entry calm on frees s both me refl)
       (play.live k slots id m number v lock pc acts a part.Next near entry calm on frees s both me refl) acts.place front in (
-        went m.0 (Named x),
+        went m.0 (Linked x (marks a)),
         keeps,
         tt,
-        play.stands k slots id m number v lock pc acts a part.Next near entry calm on frees s both me refl i
-            (is ∙ ap link_number (sym (writes world w))) (inr (subst (IsUsed world) here used)) (inl (λ e. cc e)) (Named x) refl,
+        play.stands_marked k slots id m number v lock pc acts a part.Next near entry calm on frees s both me refl marks (λ b ne. refl)
+            (play.leaves k slots id m number v lock pc acts a part.Next near entry calm on frees s both me refl
+            (λ b c next. elim (node_cases b a) [
+              | inl e ↦ absurd (none_some (sym (writes world w)
+                  ∙ (ap (λ d. ((stored_in world w acts.frame pc (target pc acts.frame)).node d).next) (sym e) ∙ next)))
+              | inr ne ↦ ap (λ (y : Node). y.next) (sym (row_else world w acts.frame pc (target pc acts.frame) a b part.Next on ne)) ∙ next
+            ]))
+            0 (sym (ap (λ (o : Option NodeName). marked (marks a) (link_number o)) (writes world w) ∙ stored_zero (marks a) part.Next))
+            (inr (subst (IsUsed world) here used)) (inl (λ e. cc e)) (Linked x (marks a)) refl (λ e. absurd (off e)),
         record {
           found = x;
+          mark = marks a;
+          word = play.word_is k slots id m number v lock pc acts a part.Next near entry calm on frees s both me refl;
+          seat = refl;
+        },
+      )
+    where
+      none_some : {b : NodeName} → None ≡ Some b → ⊥
+      none_some e = cc e
+
+  -- a node is linked behind another, with the mark that the call was told with it
+  pub tie_link : (on : OnNode (target pc acts.frame) a part.Next) → (looks_along pc ≡ true → ⊥) → will_link pc acts.frame.why ≡ true
+      → (next : NodeName) → acts.frame.a ≡ Some next → (mark : Bool) → told acts.trail ≡ Some (next, mark)
+      → (i : ℕ) → i ≡ marked mark (name_number next)
+      → ((n : World) (w : Waiter) → ((stored_in n w acts.frame pc (target pc acts.frame)).node a).next ≡ Some next)
+      → Allows (Stand k) slots id m (node_at k a part.Next) (λ _. i) (Relinks m)
+  tie_link on off will next first mark knows i is writes s both long me small =
+      let world = play.world k slots id m number v lock pc acts a part.Next near entry calm on frees s both me refl in
+      let marks = play.marks k slots id m number v lock pc acts a part.Next near entry calm on frees s both me refl in
+      let sound = play.sound k slots id m number v lock pc acts a part.Next near entry calm on frees s both me refl in
+      let live = play.live k slots id m number v lock pc acts a part.Next near entry calm on frees s both me refl in
+      let w = waiter number.0 acts.frame.ctx in
+      let x = (world.node a).next in
+      let used = choice_is_used world _ w acts.frame pc sound live acts.place front in
+      let passed = passed_is_used world _ w acts.frame pc sound live acts.place will in
+      let ms = remarked a mark marks in
+      let same = acting_is m.0.calls v lock pc acts k.mode in (
+        went m.0 (Linked x (marks a)),
+        keeps,
+        tt,
+        play.stands_marked k slots id m number v lock pc acts a part.Next near entry calm on frees s both me refl ms
+            (λ b ne. remarked_else a mark marks b (λ e. ne e refl))
+            (relinked world _ _ marks a mark sound
+            (λ halting. let z : true ≡ false = sym halting ∙ aside_awake world.mode ((sound.registers w acts.frame live).choice.choice pc acts.place front) in cc z)
+            (play.was_marked k slots id m number v lock pc acts a part.Next near entry calm on frees s both me refl)
+            next (writes world w)
+            (λ b ne. ap (λ (y : Node). y.next) (row_else world w acts.frame pc (target pc acts.frame) a b part.Next on ne))
+            (λ free. free passed.0 (subst (Uses world passed.0) (ap node_of first) passed.1))
+            (λ u there.
+            play.was_told k slots id m number v lock pc acts a part.Next near entry calm on frees s both me refl
+            acts.frame.ctx acts.frame pc next mark u
+            (ap (λ (c : Calls). frame_in c.frames acts.frame.ctx) same
+            ∙ (ap (λ (rs : List Running). frame_in rs acts.frame.ctx) acts.is ∙ frame_in-top (running v acts.frame acts.trail) acts.rest))
+            acts.place will first
+            (ap (λ (c : Calls). told_in c.frames acts.frame.ctx) same
+            ∙ (ap (λ (rs : List Running). told_in rs acts.frame.ctx) acts.is
+            ∙ (if-true (eqb acts.frame.ctx acts.frame.ctx) (told acts.trail) (told_in acts.rest acts.frame.ctx)
+            (eq-eqb acts.frame.ctx acts.frame.ctx refl) ∙ knows))) there))
+            i (is ∙ (ap (λ (b : Bool). marked b (name_number next)) (sym (remarked_here a mark marks))
+            ∙ ap (λ (o : Option NodeName). marked (ms a) (link_number o)) (sym (writes world w))))
+            (inr (subst (IsUsed world) here used)) (inl (λ e. cc e)) (Linked x (marks a)) refl (λ e. absurd (off e)),
+        record {
+          found = x;
+          mark = marks a;
           word = play.word_is k slots id m number v lock pc acts a part.Next near entry calm on frees s both me refl;
           seat = refl;
         },
       )
 
   -- a store of the last of a second queue
-  pub names : (on : OnNode (target pc acts.frame) a part.SecondTail) (o : Option NodeName) (i : ℕ) → i ≡ link_number o
+  pub names : (looks_along pc ≡ true → ⊥) → (on : OnNode (target pc acts.frame) a part.SecondTail) (o : Option NodeName) (i : ℕ) → i ≡ link_number o
       → ((n : World) (w : Waiter) → ((stored_in n w acts.frame pc (target pc acts.frame)).node a).second_tail ≡ o)
       → Allows (Stand k) slots id m (node_at k a part.SecondTail) (λ _. i) (Names m)
-  names on o i is writes s both long me small =
+  names off on o i is writes s both long me small =
       let has = aside s both me (unseen_by both.runs.world (waiter number.0 acts.frame.ctx) acts.frame pc (target pc acts.frame) a part.SecondTail on, play.calm' k slots id m number v lock pc acts a part.SecondTail near entry calm on frees s both me) in
       let world = play.world k slots id m number v lock pc acts a part.SecondTail near entry calm on frees s both me has in
       let w = waiter number.0 acts.frame.ctx in
@@ -114,7 +189,7 @@ module _ (k : Plan) (slots id : ℕ) (m : Me Slot View) (number : IsNumbered m.0
         went m.0 (Named x),
         keeps,
         tt,
-        play.stands k slots id m number v lock pc acts a part.SecondTail near entry calm on frees s both me has i
+        play.stands k slots id m number v lock pc acts a part.SecondTail near entry calm on frees s both me has (λ e. cc e) off i
             (is ∙ ap link_number (sym (writes world w))) (inr (subst (IsUsed world) here used)) (inl (λ e. cc e)) (Named x) refl,
         record {
           found = x;
@@ -141,7 +216,7 @@ tail_look k slots id m number v lock acts a near second s both long me small =
       went m.0 (Named (Some seen.0)),
       keeps,
       tt,
-      play.stands k slots id m number v lock C3 acts a part.SecondTail near e tt tgt C3_frees s both me has
+      play.stands k slots id m number v lock C3 acts a part.SecondTail near e tt tgt C3_frees s both me has (λ e. cc e) (λ e. cc e)
           (get_or s.words (node_at k a part.SecondTail) 0) is (inl refl) (inl (λ e. cc e)) (Named (Some seen.0)) (ap Named (sym named)),
       record {
         found = seen.0;
@@ -157,55 +232,56 @@ module _ (k plan : Plan) (slots id : ℕ) (m : Me Slot View) (number : IsNumbere
   abbrev there : IsNode k a
   there = subst (λ (j : Plan). IsNode j a) (sym same) near
 
-  pub cuts : i ≡ node_at plan a part.Next → AtCut a v m.0 → Allows (Stand k) slots id m i (λ _. 0) (Names m)
+  pub cuts : i ≡ node_at plan a part.Next → AtCut a v m.0 → Allows (Stand k) slots id m i (λ _. 0) (Relinks m)
   cuts at acts =
       let here : node_of acts.at.stands.frame.b ≡ a = ap node_of acts.b in
-      subst (λ (x : ℕ). Allows (Stand k) slots id m x (λ _. 0) (Names m)) (ap (λ (j : Plan). node_at j a part.Next) same ∙ sym at)
-      (links k slots id m number v acts.lock C5 acts.at.stands a there (λ e. cc e) tt C5_frees refl here here None 0 refl
+      subst (λ (x : ℕ). Allows (Stand k) slots id m x (λ _. 0) (Relinks m)) (ap (λ (j : Plan). node_at j a part.Next) same ∙ sym at)
+      (cut_link k slots id m number v acts.lock C5 acts.at.stands a there (λ e. cc e) tt C5_frees refl here here (λ e. cc e)
       (λ n w. ap (λ b. ((stores_next n b (Some None)).node a).next) here ∙ next_here n a (Some None)))
 
-  append_at_C4 : (lock : LockName) (acts : StandsOn m.0.calls v lock C4) (next : NodeName) → acts.frame.t ≡ Some a
-      → acts.frame.a ≡ Some next → (x : ℕ) → x ≡ name_number next
-      → Allows (Stand k) slots id m (node_at k a part.Next) (λ _. x) (Names m)
-  append_at_C4 lock acts next t first x named =
+  append_at_C4 : (lock : LockName) (acts : StandsOn m.0.calls v lock C4) (next : NodeName) (mark : Bool) → acts.frame.t ≡ Some a
+      → acts.frame.a ≡ Some next → told acts.trail ≡ Some (next, mark) → (x : ℕ) → x ≡ marked mark (name_number next)
+      → Allows (Stand k) slots id m (node_at k a part.Next) (λ _. x) (Relinks m)
+  append_at_C4 lock acts next mark t first knows x named =
       let here : node_of acts.frame.t ≡ a = ap node_of t in
-      links k slots id m number v lock C4 acts a there (λ e. cc e) tt C4_frees refl here here acts.frame.a x
-      (named ∙ ap link_number (sym first))
-      (λ n w. ap (λ b. ((stores_next n b (Some acts.frame.a)).node a).next) here ∙ next_here n a (Some acts.frame.a))
+      tie_link k slots id m number v lock C4 acts a there (λ e. cc e) tt C4_frees refl here here (λ e. cc e) refl next first mark knows x
+      named
+      (λ n w. ap (λ b. ((stores_next n b (Some acts.frame.a)).node a).next) here ∙ (next_here n a (Some acts.frame.a) ∙ first))
 
-  append_at_C9 : (lock : LockName) (acts : StandsOn m.0.calls v lock C9) (next : NodeName) → acts.frame.t ≡ Some a
-      → acts.frame.a ≡ Some next → (x : ℕ) → x ≡ name_number next
-      → Allows (Stand k) slots id m (node_at k a part.Next) (λ _. x) (Names m)
-  append_at_C9 lock acts next t first x named =
+  append_at_C9 : (lock : LockName) (acts : StandsOn m.0.calls v lock C9) (next : NodeName) (mark : Bool) → acts.frame.t ≡ Some a
+      → acts.frame.a ≡ Some next → told acts.trail ≡ Some (next, mark) → (x : ℕ) → x ≡ marked mark (name_number next)
+      → Allows (Stand k) slots id m (node_at k a part.Next) (λ _. x) (Relinks m)
+  append_at_C9 lock acts next mark t first knows x named =
       let here : node_of acts.frame.t ≡ a = ap node_of t in
-      links k slots id m number v lock C9 acts a there (λ e. cc e) tt C9_frees refl here here acts.frame.a x
-      (named ∙ ap link_number (sym first))
-      (λ n w. ap (λ b. ((stores_next n b (Some acts.frame.a)).node a).next) here ∙ next_here n a (Some acts.frame.a))
+      tie_link k slots id m number v lock C9 acts a there (λ e. cc e) tt C9_frees refl here here (λ e. cc e) refl next first mark knows x
+      named
+      (λ n w. ap (λ b. ((stores_next n b (Some acts.frame.a)).node a).next) here ∙ (next_here n a (Some acts.frame.a) ∙ first))
 
   append_on : (lock : LockName) (pc : Pc) → (pc ≡ C4) ⊎ (pc ≡ C9) → (acts : StandsOn m.0.calls v lock pc) (next : NodeName)
-      → acts.frame.t ≡ Some a → acts.frame.a ≡ Some next → (x : ℕ) → x ≡ name_number next
-      → Allows (Stand k) slots id m (node_at k a part.Next) (λ _. x) (Names m)
+      (mark : Bool) → acts.frame.t ≡ Some a → acts.frame.a ≡ Some next → told acts.trail ≡ Some (next, mark)
+      → (x : ℕ) → x ≡ marked mark (name_number next)
+      → Allows (Stand k) slots id m (node_at k a part.Next) (λ _. x) (Relinks m)
   append_on lock pc (inl e) =
-      subst (λ (c : Pc). (acts : StandsOn m.0.calls v lock c) (next : NodeName) → acts.frame.t ≡ Some a
-      → acts.frame.a ≡ Some next → (x : ℕ) → x ≡ name_number next
-      → Allows (Stand k) slots id m (node_at k a part.Next) (λ _. x) (Names m)) (sym e) (append_at_C4 lock)
+      subst (λ (c : Pc). (acts : StandsOn m.0.calls v lock c) (next : NodeName) (mark : Bool) → acts.frame.t ≡ Some a
+      → acts.frame.a ≡ Some next → told acts.trail ≡ Some (next, mark) → (x : ℕ) → x ≡ marked mark (name_number next)
+      → Allows (Stand k) slots id m (node_at k a part.Next) (λ _. x) (Relinks m)) (sym e) (append_at_C4 lock)
   append_on lock pc (inr e) =
-      subst (λ (c : Pc). (acts : StandsOn m.0.calls v lock c) (next : NodeName) → acts.frame.t ≡ Some a
-      → acts.frame.a ≡ Some next → (x : ℕ) → x ≡ name_number next
-      → Allows (Stand k) slots id m (node_at k a part.Next) (λ _. x) (Names m)) (sym e) (append_at_C9 lock)
+      subst (λ (c : Pc). (acts : StandsOn m.0.calls v lock c) (next : NodeName) (mark : Bool) → acts.frame.t ≡ Some a
+      → acts.frame.a ≡ Some next → told acts.trail ≡ Some (next, mark) → (x : ℕ) → x ≡ marked mark (name_number next)
+      → Allows (Stand k) slots id m (node_at k a part.Next) (λ _. x) (Relinks m)) (sym e) (append_at_C9 lock)
 
-  pub appends_to : i ≡ node_at plan a part.Next → (next : NodeName) → AtAppend a next v m.0 → (x : ℕ)
-      → x ≡ name_number next → Allows (Stand k) slots id m i (λ _. x) (Names m)
-  appends_to at next acts x named =
-      subst (λ (y : ℕ). Allows (Stand k) slots id m y (λ _. x) (Names m)) (ap (λ (j : Plan). node_at j a part.Next) same ∙ sym at)
-      (append_on acts.lock acts.row (append_is acts.row acts.is) acts.at.stands next acts.t acts.a x named)
+  pub appends_to : i ≡ node_at plan a part.Next → (next : NodeName) (mark : Bool) → AtAppend a next mark v m.0 → (x : ℕ)
+      → x ≡ marked mark (name_number next) → Allows (Stand k) slots id m i (λ _. x) (Relinks m)
+  appends_to at next mark acts x named =
+      subst (λ (y : ℕ). Allows (Stand k) slots id m y (λ _. x) (Relinks m)) (ap (λ (j : Plan). node_at j a part.Next) same ∙ sym at)
+      (append_on acts.lock acts.row (append_is acts.row acts.is) acts.at.stands next mark acts.t acts.a acts.marks x named)
 
   pub sets_tail : i ≡ node_at plan a part.SecondTail → (tail : NodeName) → AtNewTail a tail v m.0 → (x : ℕ)
       → x ≡ name_number tail → Allows (Stand k) slots id m i (λ _. x) (Names m)
   sets_tail at tail acts x named =
       let here : node_of acts.at.stands.frame.second ≡ a = ap node_of acts.second in
       subst (λ (y : ℕ). Allows (Stand k) slots id m y (λ _. x) (Names m)) (ap (λ (j : Plan). node_at j a part.SecondTail) same ∙ sym at)
-      (names k slots id m number v acts.lock C6 acts.at.stands a there (λ e. cc e) tt C6_frees refl here here acts.at.stands.frame.b x
+      (names k slots id m number v acts.lock C6 acts.at.stands a there (λ e. cc e) tt C6_frees refl here (λ e. cc e) here acts.at.stands.frame.b x
       (named ∙ ap link_number (sym acts.b))
       (λ n w. ap (λ b. ((stores_second n b (Some acts.at.stands.frame.b)).node a).second_tail) here ∙ tail_here n a (Some acts.at.stands.frame.b)))
 

@@ -23,13 +23,14 @@ use Rattle.lk_machine.specs.TopRow.{target}
 use Rattle.lk_law.specs.Cna.{moves_aside}
 use Rattle.lk_law.specs.Families.{chooses}
 use Rattle.lk_law.specs.Known.{choice_node}
-use Rattle.lk_law.specs.Leads.{Flagged, Named, Number, stored_in}
+use Rattle.lk_law.specs.Leads.{Flagged, Number, stored_in, Linked, Named}
 use Rattle.lk_law.specs.Nodes.{looks_along}
 use Rattle.lk_law.specs.Premises.{Uses}
 use Rattle.lk_law.specs.Steps.{stores_flag, stores_next, stores_runs, sight_in}
 use Rattle.lk_law.specs.World.{World}
 use Rattle.lk_law.proofs.cna.Knows.{choice_is_used, run_is_short}
 use Rattle.lk_law.proofs.cna.Named.{behind_is_used, chosen_waits_for_it}
+use Rattle.lk_law.proofs.common.Choices.{aside_awake}
 use Rattle.lk_domain.specs.Calls.{Running, running, StandsOn, grip_led, Unchanged, Frees}
 use Rattle.lk_domain.specs.Keeps.{Slot}
 use Rattle.lk_domain.specs.NodePlays.{counting, SeesLink, Hands, Counted, Tells, AtLink, AtSkipped, AtNext}
@@ -42,16 +43,21 @@ use Rattle.lk_domain.specs.Words.{node_at, flag_number, link_number, version_at,
 use Rattle.lk_domain.specs.declared.part.Part.TheVariants as part
 use Rattle.lk_domain.specs.declared.plan.Plan.{Plan}
 use Rattle.lk_domain.specs.declared.view.View.{View}
-use Rattle.lk_domain.proofs.rows.Lands as lands
+use Rattle.lk_domain.proofs.rows.Kept as rule
+use Rattle.lk_domain.proofs.rows.Kept.{halting_same}
+use Rattle.lk_domain.proofs.rows.Halts.{seeks_same}
 use Rattle.lk_domain.proofs.rows.Sights.{Sees}
 use Rattle.lk_domain.proofs.words.LockPlays.{MayFree}
 use Rattle.lk_domain.proofs.ledger.Purses.{alters, knows_same}
 use Rattle.lk_domain.proofs.queue.ChoicePlays.{aside}
 use Rattle.lk_domain.proofs.queue.LockSwaps.{set_self}
 use Rattle.lk_domain.proofs.queue.NodePlays as play
-use Rattle.lk_domain.proofs.queue.NodePlays.{link_look, hand_on, node_bare}
+use Rattle.lk_domain.proofs.queue.NodePlays.{link_look, hand_on}
+use Rattle.lk_domain.proofs.queue.Relinks.{node_bare}
 use Rattle.lk_domain.proofs.queue.NodeStores.{OnNode, flag_here, runs_here}
 use Rattle.lk_domain.proofs.queue.OnNodes.{IsUsed, top_live}
+use Rattle.lk_domain.proofs.rows.Users.{IsTrue}
+use Rattle.lk_domain.specs.Words.{marked}
 
 -- a row that only looks
 
@@ -99,6 +105,11 @@ C7_frees t = cc t.3
 C8_frees : MayFree C8 → ⊥
 C8_frees t = cc t.3
 
+along_front : (c : Pc) → looks_along c ≡ true → chooses c ≡ true
+along_front C1 h = refl
+along_front C2 h = refl
+along_front _ h = cc h
+
 -- a look along the links
 along : (k : Plan) (slots id : ℕ) (m : Me Slot View) → IsNumbered m.0 → (v : Verb) (lock : LockName) (pc : Pc)
     → (acts : StandsOn m.0.calls v lock pc) (a : NodeName) → IsNode k a → pc ≢ G1 → Sees pc m.0.calls.runs
@@ -109,29 +120,45 @@ along : (k : Plan) (slots id : ℕ) (m : Me Slot View) → IsNumbered m.0 → (v
 along k slots id m number v lock pc acts a near entry sees frees along_it tgt here still s both long me small =
     let world = play.world k slots id m number v lock pc acts a part.Next near entry sees tgt frees s both me refl in
     let y : Option NodeName = (world.node a).next in
-    let is : get_or s.words (node_at k a part.Next) 0 ≡ link_number y =
+    let marks = play.marks k slots id m number v lock pc acts a part.Next near entry sees tgt frees s both me refl in
+    let sound = play.sound k slots id m number v lock pc acts a part.Next near entry sees tgt frees s both me refl in
+    let live = play.live k slots id m number v lock pc acts a part.Next near entry sees tgt frees s both me refl in
+    let is : get_or s.words (node_at k a part.Next) 0 ≡ marked (marks a) (link_number y) =
     play.word_is k slots id m number v lock pc acts a part.Next near entry sees tgt frees s both me refl in
     let w = waiter number.0 acts.frame.ctx in
     let there : (o : Option NodeName) → y ≡ o → IfSome o (IsNode m.0.who.plan) =
     λ o e'. linked o (λ b q.
     play.is_node k slots id m number v lock pc acts a part.Next near entry sees tgt frees s both me refl b
-    (behind_is_used world _ w acts.frame pc b
-    (play.sound k slots id m number v lock pc acts a part.Next near entry sees tgt frees s both me refl)
-    (play.live k slots id m number v lock pc acts a part.Next near entry sees tgt frees s both me refl) acts.place along_it
-    (ap (λ c. (world.node c).next) here ∙ (e' ∙ q)))) in (
-      went m.0 (Named y),
+    (behind_is_used world _ w acts.frame pc b sound live acts.place along_it (ap (λ c. (world.node c).next) here ∙ (e' ∙ q)))) in
+    -- what the mark says is true of the call that uses the node which is named
+    let true_ : IsTrue world pc (Linked y (marks a)) =
+    λ first b names.
+    let named : (world.node a).next ≡ Some b = name_is names in
+    let user = behind_is_used world _ w acts.frame pc b sound live acts.place along_it (ap (λ c. (world.node c).next) here ∙ named) in
+    let owner = choice_is_used world _ w acts.frame pc sound live acts.place (along_front pc along_it) in (
+      λ free. free user.0 user.1,
+      λ u used. (play.was_marked k slots id m number v lock pc acts a part.Next near entry sees tgt frees s both me refl).says
+          (aside_awake world.mode ((sound.registers w acts.frame live).choice.choice pc acts.place (along_front pc along_it))) a b owner.0 u
+          (subst (Uses world owner.0) here owner.1) named used,
+    ) in (
+      went m.0 (Linked y (marks a)),
       keeps,
       tt,
-      play.stands k slots id m number v lock pc acts a part.Next near entry sees tgt frees s both me refl
+      play.stands_marked k slots id m number v lock pc acts a part.Next near entry sees tgt frees s both me refl marks (λ b ne. refl)
+          (play.leaves k slots id m number v lock pc acts a part.Next near entry sees tgt frees s both me refl
+          (λ b c h. ap (λ (g : NodeName → Node). (g b).next) (sym (still world w)) ∙ h))
           (get_or s.words (node_at k a part.Next) 0)
-          (is ∙ ap (λ (g : NodeName → Node). link_number (g a).next) (sym (still world w))) (inl (still world w))
-          (inl (λ e. cc e)) (Named y) refl,
-      record { found = y; node = there y refl; word = is; seat = refl },
+          (is ∙ ap (λ (g : NodeName → Node). marked (marks a) (link_number (g a).next)) (sym (still world w))) (inl (still world w))
+          (inl (λ e. cc e)) (Linked y (marks a)) refl true_,
+      record { found = y; mark = marks a; node = there y refl; word = is; seat = refl },
     )
   where
     linked : (o : Option NodeName) → ((b : NodeName) → o ≡ Some b → IsNode m.0.who.plan b) → IfSome o (IsNode m.0.who.plan)
     linked None h = tt
     linked (Some b) h = h b refl
+
+    name_is : {o : Option NodeName} {b : NodeName} → Named o ≡ Named (Some b) → o ≡ Some b
+    name_is e = cc e
 
 stored_none : (n : World) (b : NodeName) (o : Option (Option NodeName)) → o ≡ None → (stores_next n b o).node ≡ n.node
 stored_none n b o e = ap (λ (x : Option (Option NodeName)). (stores_next n b x).node) e
@@ -173,7 +200,7 @@ choose_on k slots id m number v lock acts a near to i named s both long me small
       went m.0 (Flagged Unset),
       keeps,
       tt,
-      play.stands k slots id m number v lock C8 acts a part.Flag near e tt tgt C8_frees s both me refl i
+      play.stands k slots id m number v lock C8 acts a part.Flag near e tt tgt C8_frees s both me refl (λ e. cc e) (λ e. cc e) i
           (named ∙ sym (ap flag_number
           (ap (λ b. ((stores_flag world b (Some (flag_for acts.frame.second))).node a).flag) tgt
           ∙ flag_here world a (Some (flag_for acts.frame.second)))))
@@ -211,7 +238,7 @@ tell_on k slots id m number v lock acts a near to n alone more s both long me sm
       went m.0 (Number x),
       keeps,
       tt,
-      play.stands k slots id m number v lock C7 acts a part.Runs near e tt tgt C7_frees s both me has n
+      play.stands k slots id m number v lock C7 acts a part.Runs near e tt tgt C7_frees s both me has (λ e. cc e) (λ e. cc e) n
           (told ∙ sym (ap (λ b. ((stores_runs world b (Some (if is_some acts.frame.second then (sight_in world w acts.frame).runs + 1 else 0))).node a).runs) tgt
           ∙ runs_here world a (Some (if is_some acts.frame.second then (sight_in world w acts.frame).runs + 1 else 0))))
           (inr (subst (IsUsed world) tgt used))
@@ -277,9 +304,9 @@ module _ (k : Plan) (slots id : ℕ) (m : Me Slot View) (number : IsNumbered m.0
   pub reads : Stand k (record { words = set s.words j n; homes = s.homes; views = set s.views id u })
   reads =
       record {
-        runs = lands.keeps k s st id m.0 me p number.1 st.world st.histories u (set s.words j n) st.sound st.of_plan
-            (subst (IsStored k st.world) (sym same_words) st.stored) (ap (λ (ws : List ℕ). get_or ws 0 0) same_words)
-            (λ x ne. (refl, λ i. refl)) (λ q ne. refl) (λ q d ne f. refl) (λ q d ne f. f.counted) refl
+        runs = rule.keeps k s st id m.0 me p number.1 st.world st.histories st.marks u (set s.words j n) st.sound st.of_plan
+            (subst (IsStored k st.world st.marks) (sym same_words) st.stored) (rule.right k s st id m.0 me p number.1) (ap (λ (ws : List ℕ). get_or ws 0 0) same_words)
+            (λ x ne. (refl, λ i. refl)) (λ q ne. refl) (λ q d ne f. refl) (λ q d ne f. f.counted) (λ q d ne f. f.told) refl
             (record {
               mirrors = record { frames = fits.mirrors.frames; holds = fits.mirrors.holds };
               stacked = fits.stacked;
@@ -289,7 +316,14 @@ module _ (k : Plan) (slots id : ℕ) (m : Me Slot View) (number : IsNumbered m.0
               fresh = fits.fresh;
               reset = fits.reset;
               counted = counted;
-            }) s.homes;
+              told = fits.told;
+              single = fits.single;
+              halted = fits.halted;
+            })
+            (halting_same k s st.world st.world (set s.words j n) id p (λ i high. ap (λ (ws : List ℕ). get_or ws i 0) same_words)
+            (record { entry = refl; halted = refl; kicked = refl }) (λ b. refl) st.halting)
+            (seeks_same k s.words (set s.words j n) (λ i high. ap (λ (ws : List ℕ). get_or ws i 0) same_words)
+            m.0.calls (st.seeks id m.0 me)) s.homes;
         keeps = alters k s both.keeps id m.0 u (set s.words j n) me refl
             (knows_same k both.keeps.journal m.0 u (both.keeps.knows id m.0 me) refl refl refl refl)
             (ap (λ (ws : List ℕ). get_or ws 0 0) same_words) (ap (λ (ws : List ℕ). get_or ws version_at 0) same_words)

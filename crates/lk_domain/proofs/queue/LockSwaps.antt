@@ -17,12 +17,11 @@ use Rattle.lk_machine.specs.declared.parts.Frame.{Frame}
 use Rattle.lk_machine.specs.declared.parts.Pc.{Pc}
 use Rattle.lk_machine.specs.declared.setup.Verb.{Verb}
 use Rattle.lk_machine.specs.TopRow.{target}
-use Rattle.lk_law.specs.Known.{Known}
 use Rattle.lk_law.specs.Leads.{Word}
 use Rattle.lk_domain.specs.Calls.{Calls, StandsOn, acting, Begins}
 use Rattle.lk_domain.specs.Keeps.{Slot}
 use Rattle.lk_domain.specs.Ledgers.{is_first}
-use Rattle.lk_domain.specs.Plans.{locks_of}
+use Rattle.lk_domain.specs.Plans.{locks_of, layout_in}
 use Rattle.lk_domain.specs.Plays.{ActsOn, IsWord, Swaps, made, rowed}
 use Rattle.lk_domain.specs.Stand.{Stand}
 use Rattle.lk_domain.specs.Views.{IsNumbered}
@@ -32,7 +31,7 @@ use Rattle.lk_domain.specs.declared.view.View.{View}
 use Rattle.lk_domain.proofs.Acting.{is_first_of, acting_now}
 use Rattle.lk_domain.proofs.words.LockPlays as plays
 use Rattle.lk_domain.proofs.words.LockPlays.{MayFree}
-use Rattle.lk_domain.proofs.words.OnWords.{OnWord, word_stores}
+use Rattle.lk_domain.proofs.words.OnWords.{OnWord, word_stores, KnownHere}
 
 pub set_self : (ws : List ℕ) (i : ℕ) → set ws i (get_or ws i 0) ≡ ws
 set_self [] i = refl
@@ -57,17 +56,19 @@ module _ (k : Plan) (slots id : ℕ) (m : Me Slot View) (number : IsNumbered m.0
     (home : MayFree pc → is_first l ≡ true → m.0.ledger.out ≡ None)
     (later : is_first_of pc verb ≡ false) where
   pub swaps : (st : Step Slot) (old new : ℕ) → st.first ≡ old
-      → ((mode : Mode) (y : Fields) → IsPackable y → Known pc y → packed y ≡ old
-      → new ≡ packed (unwrap_or (word_stores mode pc acts.frame (target pc acts.frame) y) y))
+      → ((mode : Mode) (y : Fields) → IsPackable (layout_in k) y → KnownHere pc acts.frame y → packed (layout_in k) y ≡ old
+      → new ≡ packed (layout_in k) (unwrap_or (word_stores mode pc acts.frame (target pc acts.frame) y) y))
       → Allows (Stand k) slots id m (word_at l) (λ n. either (eqb n old) new n) (Swaps st m)
   swaps st old new first writes s both long me small =
       let n : ℕ = get_or s.words (word_at l) 0 in
       let y : Fields = plays.y k slots id m number verb l near pc acts asks word home s both me in
-      let packs = plays.y_packs k slots id m number verb l near pc acts asks word home s both me in
+      let fits = plays.y_packs k slots id m number verb l near pc acts asks word home s both me in
       let tail = plays.y_tail k slots id m number verb l near pc acts asks word home s both me in
-      let is : n ≡ packed y = plays.y_is k slots id m number verb l near pc acts asks word home s both me in
+      let is : n ≡ packed (layout_in k) y = plays.y_is k slots id m number verb l near pc acts asks word home s both me in
+      let packs = plays.y_packable k slots id m number verb l near pc acts asks word home s both me in
+      let named = plays.y_word k slots id m number verb l near pc acts asks word home s both me in
       let found : IsWord m.0.who.plan n =
-      record { found = y; packs = packs; tail = tail; word = is } in
+      record { found = y; packs = packs; tail = tail; word = named } in
       let u : View = made m.0 verb l.index (Word y) in
       dite (ℕ_discrete n old)
       (λ hit. (
@@ -78,7 +79,7 @@ module _ (k : Plan) (slots id : ℕ) (m : Me Slot View) (number : IsNumbered m.0
             (sym (ap (λ b. either b new n) (eq-eqb n old hit)))
             (record {
               runs = plays.rows k slots id m number verb l near pc acts asks word home s both me new
-                  (λ mode known. writes mode y packs known (sym is ∙ hit));
+                  (λ mode known. writes mode y fits known (sym is ∙ hit));
               keeps = plays.keeps_on k slots id m number verb l near pc acts asks word home s both me new;
             }),
         record {
@@ -86,7 +87,7 @@ module _ (k : Plan) (slots id : ℕ) (m : Me Slot View) (number : IsNumbered m.0
             found = y;
             packs = packs;
             tail = tail;
-            word = is;
+            word = named;
             seat = ap (λ (c : Calls). (rowed m.0 c (Word y), m.1)) (acting_now m.0.who.plan.mode m.0.calls verb l pc acts later);
           };
           stands = λ ne. absurd (ne (hit ∙ sym first));
@@ -109,10 +110,12 @@ module _ (k plan : Plan) (slots id : ℕ) (m : Me Slot View) (number : IsNumbere
       → ((pc : Pc) → kind pc ≡ true → (fr : Frame) → OnWord (target pc fr))
       → (MayFree acts.row → is_first l ≡ true → m.0.ledger.out ≡ None)
       → is_first_of acts.row verb ≡ false → (old new : ℕ) → st.first ≡ old
-      → ((mode : Mode) (y : Fields) → IsPackable y → Known acts.row y → packed y ≡ old
-      → new ≡ packed (unwrap_or (word_stores mode acts.row acts.stands.frame (target acts.row acts.stands.frame) y) y))
+      → ((mode : Mode) (y : Fields) → IsPackable (layout_in plan) y → KnownHere acts.row acts.stands.frame y → packed (layout_in plan) y ≡ old
+      → new ≡ packed (layout_in plan) (unwrap_or (word_stores mode acts.row acts.stands.frame (target acts.row acts.stands.frame) y) y))
       → Allows (Stand k) slots id m i (λ n. either (eqb n old) new n) (Swaps st m)
   asks_swap kind acts on_word home later old new first writes =
       subst (λ (x : ℕ). Allows (Stand k) slots id m x (λ n. either (eqb n old) new n) (Swaps st m)) (sym at)
       (swaps k slots id m number verb l (subst (λ (x : Plan). l.index < locks_of x) (sym same) near) acts.row acts.stands acts.begins
-      (on_word acts.row acts.is) home later st old new first writes)
+      (on_word acts.row acts.is) home later st old new first
+      (subst (λ (x : Plan). (mode : Mode) (y : Fields) → IsPackable (layout_in x) y → KnownHere acts.row acts.stands.frame y → packed (layout_in x) y ≡ old
+      → new ≡ packed (layout_in x) (unwrap_or (word_stores mode acts.row acts.stands.frame (target acts.row acts.stands.frame) y) y)) (sym same) writes))

@@ -13,12 +13,12 @@ use Rattle.lk_machine.specs.declared.parts.Node.{Node}
 use Rattle.lk_machine.specs.declared.parts.Pc.{Pc}
 use Rattle.lk_machine.specs.declared.parts.Pc.TheVariants.{G1, G5, G6, G10, G11}
 use Rattle.lk_machine.specs.declared.setup.Verb.{Verb}
-use Rattle.lk_machine.specs.Moves.{node_of}
+use Rattle.lk_machine.specs.Moves.{node_of, is_node as has_name}
 use Rattle.lk_machine.specs.rows.Queue.{flag_row, next_row}
 use Rattle.lk_machine.specs.TopRow.{target}
 use Rattle.lk_law.specs.Cna.{moves_aside}
 use Rattle.lk_law.specs.Known.{KnownNodes}
-use Rattle.lk_law.specs.Leads.{Met, Number, Flagged, Named, held_lock, stored_in}
+use Rattle.lk_law.specs.Leads.{Met, Number, Flagged, Named, held_lock, stored_in, Linked}
 use Rattle.lk_law.specs.Premises.{Uses}
 use Rattle.lk_law.specs.SoundWorld.{spin_part}
 use Rattle.lk_law.specs.SpinWorld.{IsSoundSpinWorld}
@@ -30,11 +30,11 @@ use Rattle.lk_law.proofs.running.Nodes.{link_is_used, prev_is_used}
 use Rattle.lk_domain.specs.Calls.{terms_of, Calls, StandsOn, acting, Begins, row_of, slows, grip_of}
 use Rattle.lk_domain.specs.Keeps.{Slot, Keeps, Knows}
 use Rattle.lk_domain.specs.Ledgers.{turned}
-use Rattle.lk_domain.specs.NodePlays.{AtOwn, AtPrev, AtEntry, AtBare, IsFlagNode}
+use Rattle.lk_domain.specs.NodePlays.{IsFlagNode}
 use Rattle.lk_domain.specs.NodePlays.{readied_by, Readies, Enters, Links, Hands, SeesFlag, SeesLink}
-use Rattle.lk_domain.specs.Plans.{locks_of, accounts_of}
+use Rattle.lk_domain.specs.Plans.{locks_of}
 use Rattle.lk_domain.specs.Plays.{went, turned_of}
-use Rattle.lk_domain.specs.Runs.{waiter, node_name, Runs}
+use Rattle.lk_domain.specs.Runs.{waiter, node_name, Runs, AreTold}
 use Rattle.lk_domain.specs.Stand.{Stand}
 use Rattle.lk_domain.specs.Views.{IsNumbered, own_number}
 use Rattle.lk_domain.specs.Words.{word_at, node_at, version_at, balance_at, flag_number, part_index}
@@ -48,8 +48,7 @@ use Rattle.lk_domain.proofs.rows.Fresh as fresh
 use Rattle.lk_domain.proofs.rows.Lands as lands
 use Rattle.lk_domain.proofs.rows.Sights.{IsSeen, Sees}
 use Rattle.lk_domain.proofs.rows.Poised.{Poised}
-use Rattle.lk_domain.proofs.words.NodeWords.{place_is}
-use Rattle.lk_domain.proofs.words.Locks.{word_from, word_below}
+use Rattle.lk_domain.proofs.words.NodeWords.{place_is, stored_plain, stored_zero}
 use Rattle.lk_domain.proofs.words.LockPlays.{MayFree, acting_any, acting_sole}
 use Rattle.lk_domain.proofs.words.OnWords.{seated}
 use Rattle.lk_domain.proofs.ledger.Purses.{alters, knows_after, knows_same}
@@ -58,21 +57,16 @@ use Rattle.lk_domain.proofs.queue.OnNodes as on
 use Rattle.lk_domain.proofs.queue.NodeStores.{OnNode, met_of, met_there, flag_here, next_here}
 use Rattle.lk_domain.proofs.queue.OnNodes.{IsUsed}
 use Rattle.lk_domain.proofs.queue.Unfreed.{G1_frees, G5_frees, G6_frees, G10_frees, G11_frees}
-
--- the word is none of the ledger's
-pub record IsBare (k : Plan) (j : ℕ) : Type 0 where
-  pub roll : j ≢ 0
-  pub version : j ≢ version_at
-  pub balances : (a : ℕ) → a < accounts_of k → j ≢ balance_at k a
-
-pub node_bare : (k : Plan) → accounts_of k ≤ 64 → (a : NodeName) (q : Part) → IsBare k (node_at k a q)
-node_bare k few a q =
-    record { roll = λ e. omega arith; version = λ e. omega arith; balances = λ b lt e. omega arith }
-
-lock_bare : (k : Plan) (l : LockName) → l.index < locks_of k → IsBare k (word_at l)
-lock_bare k l near =
-    let from = word_from l in let below = word_below k l near in
-    record { roll = λ e. omega arith; version = λ e. omega arith; balances = λ b lt e. omega arith }
+use Rattle.lk_domain.proofs.rows.Users.{AreRight, KeepsMarks, IsTrue}
+use Rattle.lk_domain.specs.Calls.{plain, is_inner}
+use Rattle.lk_domain.specs.Words.{marked, stored_number}
+use Rattle.lk_law.specs.Agree.{halts}
+use Rattle.std.proofs.Common.{Bool}
+use Rattle.lk_domain.proofs.queue.NodeStores.{next_else, row_nexts}
+use Rattle.lk_law.proofs.common.Puts.{same_node-self}
+use Rattle.lk_law.proofs.common.Users.{node_is_ones}
+use Rattle.lk_law.specs.Nodes.{looks_along}
+use Rattle.lk_domain.proofs.queue.Relinks.{remarked, remarked_here, remarked_else, relinked, IsBare, node_bare, alone, lock_bare}
 
 -- the ledger part of a step of the newest call
 module _ (k : Plan) (id : ℕ) (m : Me Slot View) (number : IsNumbered m.0) (v : Verb) (lock : LockName) (pc : Pc)
@@ -98,33 +92,36 @@ module _ (k : Plan) (id : ℕ) (m : Me Slot View) (number : IsNumbered m.0) (v :
     abbrev pub x : Met
     x = lands.x k s both.runs id m.0 me number.0 number.1 v lock pc asks acts' unseen
 
-    pub knows : (y : Met) → y ≡ x → Knows k both.keeps.journal (went m.0 y)
-    knows y is =
+    -- the world in which the row is made
+    abbrev pub made_in : World
+    made_in = lands.m k s both.runs id m.0 me number.0 number.1 v lock pc asks acts' unseen
+
+    pub knows : (y : Met) → plain y ≡ x → IsTrue made_in pc y → Knows k both.keeps.journal (went m.0 y)
+    knows y is true_ =
         let c : Calls = acting k.mode m.0.calls v lock.index in
         let f = acts'.frame in
         let t = target pc f in
         let u : View = went m.0 y in
         let o = lands.o k s both.runs id m.0 me number.0 number.1 v lock pc asks acts' unseen in
-        let trail = lands.trail k s both.runs id m.0 me number.0 number.1 v lock pc asks acts' unseen in
+        let trail = lands.trail k s both.runs id m.0 me number.0 number.1 v lock pc asks acts' unseen y in
         let ledger : u.ledger ≡ turned m.0.ledger (held_lock t f) (grip_of t o) trail =
-        (λ j. turned_of (terms_of (planned j)) (own_number (number.1 j)) m.0.calls (is j) m.0.ledger)
-        ∙ (ap (λ (z : Calls). turned_of (terms_of k) number.0 z x m.0.ledger) (sym (acting_is m.0.calls v lock pc acts k.mode))
-        ∙ fresh.turns k s both.runs id m.0 me number.0 number.1 v lock pc asks acts' unseen m.0.ledger) in
+        (λ j. turned_of (terms_of (planned j)) (own_number (number.1 j)) m.0.calls y m.0.ledger)
+        ∙ (ap (λ (z : Calls). turned_of (terms_of k) number.0 z y m.0.ledger) (sym (acting_is m.0.calls v lock pc acts k.mode))
+        ∙ fresh.turns k s both.runs id m.0 me number.0 number.1 v lock pc asks acts' unseen y is true_ m.0.ledger) in
         let rowed =
-        calls_are y ∙ (ap (row_of (terms_of k) number.0 c) is
-        ∙ lands.rowed k s both.runs id m.0 me number.0 number.1 v lock pc asks acts' unseen) in
+        calls_are y ∙ lands.rowed k s both.runs id m.0 me number.0 number.1 v lock pc asks acts' unseen y is true_ in
         knows_after k both.keeps.journal m.0 u number.0 number.1 (both.keeps.knows id m.0 me) c f.ctx (held_lock t f) trail
         (acting_any k.mode m.0.calls v lock.index) (acting_sole k.mode m.0.calls v lock.index) refl (grip_of t o) ledger
         (ap (λ (z : Calls). z.holds) rowed)
         (fresh.fresh k s both.runs id m.0 me number.0 number.1 v lock pc asks acts' unseen)
         (λ e first. absurd (frees (lands.m k s both.runs id m.0 me number.0 number.1 v lock pc asks acts' unseen, waiter number.0 f.ctx, f, e)))
 
-    pub kept : (y : Met) → y ≡ x → (j n : ℕ) → IsBare k j
+    pub kept : (y : Met) → plain y ≡ x → IsTrue made_in pc y → (j n : ℕ) → IsBare k j
         → Keeps k (record { words = set s.words j n; homes = s.homes; views = set s.views id (went m.0 y) })
-    kept y is j n bare =
+    kept y is true_ j n bare =
         let purse : fresh.SamePurse m.0.ledger (went m.0 y).ledger =
         fresh.turned_purse m.0.who.plan (own_number m.0.who.number) m.0.calls y m.0.ledger in
-        alters k s both.keeps id m.0 (went m.0 y) (set s.words j n) me purse.share (knows y is)
+        alters k s both.keeps id m.0 (went m.0 y) (set s.words j n) me purse.share (knows y is true_)
         (get_or-set_other s.words j 0 n 0 (λ e. bare.roll (sym e)))
         (get_or-set_other s.words j version_at n 0 (λ e. bare.version (sym e)))
         (λ a lt. get_or-set_other s.words j (balance_at k a) n 0 (λ e. bare.balances a lt (sym e))) purse.out
@@ -190,7 +187,10 @@ module _ (k : Plan) (slots id : ℕ) (m : Me Slot View) (number : IsNumbered m.0
     abbrev pub after : Node
     after = (stored_in world (waiter p acts.frame.ctx) acts.frame pc (target pc acts.frame)).node a
 
-    pub word_is : get_or s.words (node_at k a q) 0 ≡ node_number q before
+    abbrev pub marks : NodeName → Bool
+    marks = st.marks
+
+    pub word_is : get_or s.words (node_at k a q) 0 ≡ stored_number (marks a) q (node_number q before)
     word_is = on.word_is k s st id m.0 me p number.1 v lock pc ask go a q near has entry calm' target_is
 
     abbrev pub IsSafe : Type 0
@@ -201,19 +201,44 @@ module _ (k : Plan) (slots id : ℕ) (m : Me Slot View) (number : IsNumbered m.0
     abbrev pub IsQuiet : Type 0
     IsQuiet = (q ≢ part.Runs) ⊎ ((u : Waiter) → Uses world u a → on.Chooses world u → ⊥)
 
-    -- the rule after it, where it writes what the row stores
-    pub stands : (i : ℕ) → i ≡ node_number q after → IsSafe → IsQuiet → (x : Met) → x ≡ met_of q before
+    -- the world after the store of the row
+    abbrev pub stored : World
+    stored = stored_in world (waiter p acts.frame.ctx) acts.frame pc (target pc acts.frame)
+
+    -- where the step leaves all links the marks are still right
+    pub leaves : ((b c : NodeName) → (stored.node b).next ≡ Some c → (world.node b).next ≡ Some c) → KeepsMarks world stored marks
+    leaves = on.leaves_marks k s st id m.0 me p number.1 v lock pc ask go a q near has entry calm' target_is
+
+    -- who uses a node here used it before the step
+    pub was_marked : AreRight world marks
+    was_marked = lands.marked_here k s st id m.0 me p number.1 v lock pc ask go unseen
+
+    pub was_told : AreTold world (acting k.mode m.0.calls v lock.index).frames
+    was_told = lands.told_here k s st id m.0 me p number.1 v lock pc ask go unseen
+
+    -- the rule after it, where it writes what the row stores; a link with a mark that says what it is to say
+    pub stands_marked : (ms : NodeName → Bool) → ((b : NodeName) → (b ≡ a → q ≢ part.Next) → ms b ≡ marks b)
+        → KeepsMarks world stored ms
+        → (i : ℕ) → i ≡ stored_number (ms a) q (node_number q after) → IsSafe → IsQuiet
+        → (x : Met) → plain x ≡ met_of q before → IsTrue world pc x
         → Stand k (record { words = set s.words (node_at k a q) i; homes = s.homes; views = set s.views id (went m.0 x) })
-    stands i writes safe quiet x is =
+    stands_marked ms others links i writes safe quiet x is true_ =
         let meets = met_there world (waiter p acts.frame.ctx) acts.frame pc (target pc acts.frame) a q target_is in
         record {
-          runs = on.node_step k s st id m.0 me p number.1 v lock pc ask go a q near has entry calm' target_is i writes safe quiet
-              (went m.0 x) refl
-              (calls_are k id m number v lock pc acts s both me x
-              ∙ ap (row_of (terms_of k) p (acting k.mode m.0.calls v lock.index)) is) s.homes;
-          keeps = kept k id m number v lock pc acts s both me unseen frees x (is ∙ sym meets) (node_at k a q) i
+          runs = on.node_step k s st id m.0 me p number.1 v lock pc ask go a q near has entry calm' target_is ms others links i writes
+              safe quiet x is true_ (went m.0 x) refl (calls_are k id m number v lock pc acts s both me x) s.homes;
+          keeps = kept k id m number v lock pc acts s both me unseen frees x (is ∙ sym meets) true_ (node_at k a q) i
               (node_bare k st.lawful.accounts a q);
         }
+
+    -- the same where the word is no link
+    pub stands : q ≢ part.Next → (looks_along pc ≡ true → ⊥) → (i : ℕ) → i ≡ node_number q after → IsSafe → IsQuiet → (x : Met)
+        → plain x ≡ met_of q before
+        → Stand k (record { words = set s.words (node_at k a q) i; homes = s.homes; views = set s.views id (went m.0 x) })
+    stands apart first i writes safe quiet x is =
+        stands_marked marks (λ b ne. refl)
+        (leaves (λ b c h. sym (row_nexts world (waiter p acts.frame.ctx) acts.frame pc (target pc acts.frame) a q target_is apart b) ∙ h))
+        i (writes ∙ sym (stored_plain (marks a) q (node_number q after) apart)) safe quiet x is (λ e. absurd (first e))
 
 -- a look at the own flag
 pub flag_look : (k : Plan) (slots id : ℕ) (m : Me Slot View) → IsNumbered m.0 → (v : Verb) (lock : LockName)
@@ -240,7 +265,7 @@ flag_look k slots id m number v lock acts a near own s both long me small =
       went m.0 (Flagged y),
       keeps,
       tt,
-      stands k slots id m number v lock G6 acts a part.Flag near e tt tgt G6_frees s both me refl
+      stands k slots id m number v lock G6 acts a part.Flag near e tt tgt G6_frees s both me refl (λ e. cc e) (λ e. cc e)
           (get_or s.words (node_at k a part.Flag) 0)
           (is ∙ ap (λ (g : NodeName → Node). flag_number (g a).flag) (sym stored)) (inl stored) (inl (λ e. cc e)) (Flagged y) refl,
       record {
@@ -279,35 +304,54 @@ hand_on k slots id m number v lock acts a near to s both long me small =
       went m.0 (Flagged Unset),
       keeps,
       tt,
-      stands k slots id m number v lock G11 acts a part.Flag near e tt tgt G11_frees s both me refl 1
+      stands k slots id m number v lock G11 acts a part.Flag near e tt tgt G11_frees s both me refl (λ e. cc e) (λ e. cc e) 1
           (sym (ap flag_number (ap (λ b. ((stores_flag world b (Some Go)).node a).flag) tgt ∙ flag_here world a (Some Go))))
           (inr (subst (IsUsed world) tgt (used.0, used.1, used.2))) (inl (λ e. cc e)) (Flagged Unset) (ap Flagged (sym unset)),
       (is ∙ ap flag_number unset, refl),
     )
 
--- the own node is linked behind the one before
+-- the own node is linked behind the one before, with the mark of the call's context
 pub link_on : (k : Plan) (slots id : ℕ) (m : Me Slot View) → IsNumbered m.0 → (v : Verb) (lock : LockName)
     → (acts : StandsOn m.0.calls v lock G5) (a own : NodeName) → IsNode k a → acts.frame.prev ≡ Some a
-    → acts.frame.me ≡ Some own → (i : ℕ) → i ≡ name_number own
+    → acts.frame.me ≡ Some own → (mark : Bool) → mark ≡ is_inner acts.frame.ctx → (i : ℕ) → i ≡ marked mark (name_number own)
     → Allows (Stand k) slots id m (node_at k a part.Next) (λ _. i) (Links m)
-link_on k slots id m number v lock acts a own near before mine i named s both long me small =
+link_on k slots id m number v lock acts a own near before mine mark mark_is i named s both long me small =
     let tgt : node_of acts.frame.prev ≡ a = ap node_of before in
     let e : G5 ≢ G1 = λ e. cc e in
     let world = world k slots id m number v lock G5 acts a part.Next near e tt tgt G5_frees s both me refl in
+    let marks = marks k slots id m number v lock G5 acts a part.Next near e tt tgt G5_frees s both me refl in
     let known = known k slots id m number v lock G5 acts a part.Next near e tt tgt G5_frees s both me refl in
     let is = word_is k slots id m number v lock G5 acts a part.Next near e tt tgt G5_frees s both me refl in
+    let sound = sound k slots id m number v lock G5 acts a part.Next near e tt tgt G5_frees s both me refl in
+    let live = live k slots id m number v lock G5 acts a part.Next near e tt tgt G5_frees s both me refl in
+    let at = at k slots id m number v lock G5 acts a part.Next near e tt tgt G5_frees s both me refl in
+    let acts' = acts' k id m number v lock G5 acts s both me in
+    let w = waiter number.0 acts.frame.ctx in
     let none : (world.node a).next ≡ None = ap (λ b. (world.node b).next) (sym tgt) ∙ known in
-    let used = prev_is_used world _ (waiter number.0 acts.frame.ctx) acts.frame
-    (sound k slots id m number v lock G5 acts a part.Next near e tt tgt G5_frees s both me refl)
-    (live k slots id m number v lock G5 acts a part.Next near e tt tgt G5_frees s both me refl) acts.place in (
+    let used = prev_is_used world _ w acts.frame sound live acts.place in
+    let stored : (stores_next world (node_of acts.frame.prev) (Some acts.frame.me)).node ≡ (stores_next world a (Some acts.frame.me)).node =
+    ap (λ b. (stores_next world b (Some acts.frame.me)).node) tgt in
+    let here : ((stores_next world (node_of acts.frame.prev) (Some acts.frame.me)).node a).next ≡ Some own =
+    ap (λ (g : NodeName → Node). (g a).next) stored ∙ (next_here world a (Some acts.frame.me) ∙ mine) in
+    let uses : Uses world w own = (acts.frame, live, ap (λ o. has_name o own) mine ∙ same_node-self own) in
+    let ms = remarked a mark marks in (
       went m.0 (Named None),
       keeps,
       tt,
-      stands k slots id m number v lock G5 acts a part.Next near e tt tgt G5_frees s both me refl i
-          (named ∙ (ap link_number (sym mine) ∙ sym (ap link_number
-          (ap (λ b. ((stores_next world b (Some acts.frame.me)).node a).next) tgt ∙ next_here world a (Some acts.frame.me)))))
-          (inr (subst (IsUsed world) tgt used)) (inl (λ e. cc e)) (Named None) (ap Named (sym none)),
-      (is ∙ ap link_number none, refl),
+      stands_marked k slots id m number v lock G5 acts a part.Next near e tt tgt G5_frees s both me refl ms
+          (λ b ne. remarked_else a mark marks b (λ e. ne e refl))
+          (relinked world _ _ marks a mark sound
+          (λ halting. mark_is ∙ ap is_inner (alone _ _ acts'.rest acts'.is at.stacked
+          (at.single (ap halts (sym at.acted.same.mode) ∙ halting))))
+          (was_marked k slots id m number v lock G5 acts a part.Next near e tt tgt G5_frees s both me refl)
+          own here
+          (λ b ne. ap (λ (g : NodeName → Node). (g b).next) stored ∙ ap (λ (y : Node). y.next) (next_else world a b (Some acts.frame.me) ne))
+          (λ free. free w uses)
+          (λ u there. mark_is ∙ ap (λ (z : Waiter). is_inner z.ctx) (node_is_ones world _ w u own sound uses there).0))
+          i (named ∙ (ap (λ (b : Bool). marked b (name_number own)) (sym (remarked_here a mark marks))
+          ∙ ap (λ (o : Option NodeName). marked (ms a) (link_number o)) (sym here)))
+          (inr (subst (IsUsed world) tgt used)) (inl (λ e. cc e)) (Named None) (ap Named (sym none)) (λ e. cc e),
+      (is ∙ (ap (λ (o : Option NodeName). marked (marks a) (link_number o)) none ∙ stored_zero (marks a) part.Next), refl),
     )
 
 -- a look at the own link
@@ -318,8 +362,9 @@ link_look k slots id m number v lock acts a near own s both long me small =
     let tgt : node_of acts.frame.me ≡ a = ap node_of own in
     let e : G10 ≢ G1 = λ e. cc e in
     let world = world k slots id m number v lock G10 acts a part.Next near e tt tgt G10_frees s both me refl in
+    let marks = marks k slots id m number v lock G10 acts a part.Next near e tt tgt G10_frees s both me refl in
     let y : Option NodeName = (world.node a).next in
-    let is : get_or s.words (node_at k a part.Next) 0 ≡ link_number y =
+    let is : get_or s.words (node_at k a part.Next) 0 ≡ marked (marks a) (link_number y) =
     word_is k slots id m number v lock G10 acts a part.Next near e tt tgt G10_frees s both me refl in
     let w = waiter number.0 acts.frame.ctx in
     let stored : (stored_in world w acts.frame G10 (target G10 acts.frame)).node ≡ world.node =
@@ -331,13 +376,16 @@ link_look k slots id m number v lock acts a near own s both long me small =
     (sound k slots id m number v lock G10 acts a part.Next near e tt tgt G10_frees s both me refl)
     (live k slots id m number v lock G10 acts a part.Next near e tt tgt G10_frees s both me refl) acts.place
     (ap (λ c. (world.node c).next) tgt ∙ (e' ∙ q)))) in (
-      went m.0 (Named y),
+      went m.0 (Linked y (marks a)),
       keeps,
       tt,
-      stands k slots id m number v lock G10 acts a part.Next near e tt tgt G10_frees s both me refl
+      stands_marked k slots id m number v lock G10 acts a part.Next near e tt tgt G10_frees s both me refl marks (λ b ne. refl)
+          (leaves k slots id m number v lock G10 acts a part.Next near e tt tgt G10_frees s both me refl
+          (λ b c h. ap (λ (g : NodeName → Node). (g b).next) (sym stored) ∙ h))
           (get_or s.words (node_at k a part.Next) 0)
-          (is ∙ ap (λ (g : NodeName → Node). link_number (g a).next) (sym stored)) (inl stored) (inl (λ e. cc e)) (Named y) refl,
-      record { found = y; node = there y refl; word = is; seat = refl },
+          (is ∙ ap (λ (g : NodeName → Node). marked (marks a) (link_number (g a).next)) (sym stored)) (inl stored) (inl (λ e. cc e))
+          (Linked y (marks a)) refl (λ e. cc e),
+      record { found = y; mark = marks a; node = there y refl; word = is; seat = refl },
     )
   where
     none : (n : World) (b : NodeName) (y : Option NodeName)
@@ -392,7 +440,7 @@ enter_on k slots id m number v lock q last has acts low ready s both long me sma
         runs = entry.enters k s st id m.0 me p number.1 v lock ask go q last has low ready (went m.0 x) refl
             (calls_are k id m number v lock G1 acts s both me x) s.homes;
         keeps = kept k id m number v lock G1 acts s both me (tt, tt) G1_frees x
-            (ap Number (sym (entry.count_is k s st id m.0 me p number.1 v lock ask go))) (node_at k a q) 0
+            (ap Number (sym (entry.count_is k s st id m.0 me p number.1 v lock ask go))) (λ e. cc e) (node_at k a q) 0
             (node_bare k st.lawful.accounts a q);
       },
       refl,
@@ -414,56 +462,7 @@ enter_bare_on k slots id m number v lock near acts high s both long me small =
         runs = entry.enters_bare k s st id m.0 me p number.1 v lock ask go high near (went m.0 x) refl
             (calls_are k id m number v lock G1 acts s both me x) s.homes;
         keeps = kept k id m number v lock G1 acts s both me (tt, tt) G1_frees x
-            (ap Number (sym (entry.count_is k s st id m.0 me p number.1 v lock ask go))) (word_at lock) (get_or s.words (word_at lock) 0) (lock_bare k lock near);
+            (ap Number (sym (entry.count_is k s st id m.0 me p number.1 v lock ask go))) (λ e. cc e) (word_at lock) (get_or s.words (word_at lock) 0) (lock_bare k lock near);
       },
       refl,
     )
-
--- what the calls ask, in which the word is named by its place
-module _ (k plan : Plan) (slots id : ℕ) (m : Me Slot View) (number : IsNumbered m.0) (v : Verb) (i : ℕ)
-    (same : k ≡ plan) where
-  pub look_flag : (own : NodeName) → IsNode plan own → i ≡ node_at plan own part.Flag → AtOwn G6 own v m.0
-      → Allows (Stand k) slots id m i (λ n. n) (SeesFlag m)
-  look_flag own near at acts =
-      subst (λ (x : ℕ). Allows (Stand k) slots id m x (λ n. n) (SeesFlag m)) (ap (λ (j : Plan). node_at j own part.Flag) same ∙ sym at)
-      (flag_look k slots id m number v acts.lock acts.at.stands own (subst (λ (j : Plan). IsNode j own) (sym same) near) acts.me)
-
-  pub link_up : (prev own : NodeName) → IsNode plan prev → i ≡ node_at plan prev part.Next → AtPrev prev own v m.0
-      → (x : ℕ) → x ≡ name_number own → Allows (Stand k) slots id m i (λ _. x) (Links m)
-  link_up prev own near at acts x named =
-      subst (λ (y : ℕ). Allows (Stand k) slots id m y (λ _. x) (Links m)) (ap (λ (j : Plan). node_at j prev part.Next) same ∙ sym at)
-      (link_on k slots id m number v acts.lock acts.at.stands prev own (subst (λ (j : Plan). IsNode j prev) (sym same) near)
-      acts.prev acts.me x named)
-
-  to_come : (own : NodeName) → AtEntry own v m.0 → node_name number.0 (slows m.0.calls.frames) ≡ own
-  to_come own acts =
-      let cpu : number.0 ≡ own.cpu = some_is (sym number.1 ∙ acts.cpu) in let index = acts.index in
-      (λ j. record { cpu = cpu j; index = sym index j })
-    where
-      some_is : {a b : ℕ} → Some a ≡ Some b → a ≡ b
-      some_is e = grind (arith, e)
-
-  pub reset_one : (own : NodeName) (q : Part) → i ≡ node_at plan own q → AtEntry own v m.0
-      → (q ≢ part.Flag → m.0.calls.ready ≡ part_index q) → m.0.who.plan ≡ plan → (st : Step Slot) → st.word ≡ i
-      → Allows (Stand k) slots id m i (λ _. 0) (Readies st m)
-  reset_one own q at acts ready of st word =
-      subst (λ (x : ℕ). Allows (Stand k) slots id m x (λ _. 0) (Readies st m))
-      (sym (at ∙ (λ j. node_at (sym same j) (sym (to_come own acts) j) q)))
-      (reset_on k slots id m number q (let a = acts.index in let b = acts.low in omega arith) ready st
-      (word ∙ (at ∙ (λ j. node_at (sym of j) (sym (to_come own acts) j) q))))
-
-  pub reset_last : (own : NodeName) (q : Part) → i ≡ node_at plan own q → AtEntry own v m.0
-      → is_last plan.mode q ≡ true → has_part plan.mode q ≡ true
-      → m.0.calls.ready ≡ part_index q → Allows (Stand k) slots id m i (λ _. 0) (Enters m)
-  reset_last own q at acts last has ready =
-      subst (λ (x : ℕ). Allows (Stand k) slots id m x (λ _. 0) (Enters m))
-      (sym (at ∙ (λ j. node_at (sym same j) (sym (to_come own acts) j) q)))
-      (enter_on k slots id m number v acts.lock q (ap (λ (j : Plan). is_last j.mode q) same ∙ last)
-      (ap (λ (j : Plan). has_part j.mode q) same ∙ has) acts.at.stands
-      (let a = acts.index in let b = acts.low in omega arith) ready)
-
-  pub bare_look : (lock : LockName) → lock.index < locks_of plan → i ≡ word_at lock → AtBare lock v m.0
-      → Allows (Stand k) slots id m i (λ n. n) (Enters m)
-  bare_look lock near at acts =
-      subst (λ (x : ℕ). Allows (Stand k) slots id m x (λ n. n) (Enters m)) (sym at)
-      (enter_bare_on k slots id m number v lock (subst (λ (j : Plan). lock.index < locks_of j) (sym same) near) acts.at.stands acts.high)

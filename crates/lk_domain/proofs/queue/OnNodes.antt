@@ -1,6 +1,6 @@
 -- The steps on a word of a node.
-use Rattle.std.proofs.Common.{◌≡◌, ◌≢◌, ◌⊎◌, inl, inr, ℕ, ◌+◌, ◌<◌, List, set, get_or}
-use Rattle.std.proofs.Common.{Option, Some, None, true, refl, sym, ap, ◌∙◌, subst, arith}
+use Rattle.std.proofs.Common.{◌≡◌, ◌≢◌, ◌⊎◌, inl, inr, ℕ, ◌+◌, ◌<◌, List, set, get_or, Bool}
+use Rattle.std.proofs.Common.{Option, Some, None, true, refl, sym, ap, ◌∙◌, subst, arith, false}
 use Rattle.std.proofs.Common.{◌∷◌, eqb, eq-eqb, get_or-set_other}
 use Rattle.std.specs.Prelude.{is_some}
 use mathlib.Core.Option.{Option as Maybe, some}
@@ -18,13 +18,12 @@ use Rattle.lk_machine.specs.declared.setup.Verb.{Verb}
 use Rattle.lk_machine.specs.TopRow.{target}
 use Rattle.lk_abs.specs.History.{LockHistory}
 use Rattle.lk_machine.specs.Moves.{node_of}
-use Rattle.lk_law.specs.Agree.{halts}
 use Rattle.lk_law.specs.Families.{chooses}
 use Rattle.lk_law.specs.Known.{IsOwnNode}
 use Rattle.lk_law.specs.Phase.{has_node}
 use Rattle.lk_law.specs.Places.{phase_at, phase_if, phase_of}
 use Rattle.lk_law.specs.SpinWorld.{IsSoundSpinWorld}
-use Rattle.lk_law.specs.Leads.{stored_in}
+use Rattle.lk_law.specs.Leads.{stored_in, enters, Met}
 use Rattle.lk_law.specs.Nodes.{IsFree}
 use Rattle.lk_law.specs.Premises.{Uses}
 use Rattle.lk_law.specs.Steps.{put_node}
@@ -36,25 +35,29 @@ use Rattle.lk_law.proofs.running.Calm.{node_comes_at_entry}
 use Rattle.lk_law.proofs.running.Nodes.{free_node_keeps, fresh_is_free}
 use Rattle.lk_domain.specs.Calls.{terms_of, Running, frame_in, Calls, StandsOn, row_of, acting, Begins, slows}
 use Rattle.lk_domain.specs.Plans.{cpus_of}
-use Rattle.lk_domain.specs.Runs.{waiter, node_name, SeatFits, Runs, IsCounted}
-use Rattle.lk_domain.specs.Words.{node_at, node_number, part_index, has_part, IsNode}
+use Rattle.lk_domain.specs.Runs.{waiter, node_name, SeatFits, Runs, IsCounted, Seeks}
+use Rattle.lk_domain.specs.Words.{node_at, node_number, stored_number, part_index, has_part, IsNode}
 use Rattle.lk_domain.specs.declared.part.Part.{Part}
 use Rattle.lk_domain.specs.declared.part.Part.TheVariants as part
 use Rattle.lk_domain.specs.declared.plan.Plan.{Plan}
 use Rattle.lk_domain.specs.declared.view.View.{View}
 use Rattle.lk_domain.proofs.rows.Begun.{Elsewhere}
 use Rattle.lk_domain.proofs.rows.Grips.{own_row}
+use Rattle.lk_domain.proofs.rows.Kept as rule
 use Rattle.lk_domain.proofs.rows.Lands as lands
-use Rattle.lk_domain.proofs.rows.Lands.{keeps, counted_after}
+use Rattle.lk_domain.proofs.rows.Kept.{keeps, counted_after, halting_same}
+use Rattle.lk_domain.proofs.rows.Halts.{SameMarks, marks_trans, acted_marks, stored_marks, far_set, seeks_same}
 use Rattle.lk_domain.proofs.rows.Sights.{IsSeen, Sees}
 use Rattle.lk_domain.proofs.rows.Poised.{Poised}
 use Rattle.lk_domain.proofs.words.Locks.{SameLocks, locks_trans, acted_locks}
 use Rattle.lk_domain.proofs.words.NodeWords.{part_is, part_cases, reset_part, reset_number}
-use Rattle.lk_domain.proofs.words.NodeWords.{reset_others}
+use Rattle.lk_domain.proofs.words.NodeWords.{reset_others, stored_zero, low}
 use Rattle.lk_domain.proofs.Stacks.{frame_in-above}
 use Rattle.lk_domain.proofs.seats.Totals.{drawn}
 use Rattle.lk_domain.proofs.queue.Counts.{queued_is}
-use Rattle.lk_domain.proofs.queue.NodeStores.{node_stored, node_here, node_else, OnNode, met_of, unseen_by, own_by, met_there, row_else, row_others, row_locks}
+use Rattle.lk_domain.proofs.queue.NodeStores.{node_stored, node_here, node_else, OnNode, met_of, unseen_by, own_by, met_there, row_else, row_others, row_locks, unmarked_by, row_state}
+use Rattle.lk_domain.proofs.rows.Users.{KeepsMarks, IsTrue, bare_me, kept_marks}
+use Rattle.lk_domain.specs.Calls.{plain}
 
 -- the node to come of a processor
 abbrev pub to_come : (NodeName → Node) → World → ℕ → Node
@@ -157,26 +160,32 @@ module _ (k : Plan) {S : Type 0} (s : State S View) (st : Runs k s) (id : ℕ) (
     abbrev pub after : Node
     after = (stored_in m w f pc (target pc f)).node a
 
-    pub word_is : get_or s.words (node_at k a q) 0 ≡ node_number q before
+    pub word_is : get_or s.words (node_at k a q) 0 ≡ stored_number (st.marks a) q (node_number q before)
     word_is =
         st.stored.nodes a q near.cpu near.index has
-        ∙ ap (λ (g : NodeName → Node). node_number q (g a)) (sym at.acted.same.node)
+        ∙ ap (λ (g : NodeName → Node). stored_number (st.marks a) q (node_number q (g a))) (sym at.acted.same.node)
+
+    -- the row gives no node
+    row_bare : enters (lands.o k s st id v me p is verb l pc asks acts unseen).leads ≡ false
+    row_bare =
+        node_comes_at_entry m w f pc
+        (own_row pc f (own_by st.world w f pc (target pc f) a q on))
+        (lands.fitting k s st id v me p is verb l pc asks acts unseen).after entry
 
     nodes_are : (lands.n k s st id v me p is verb l pc asks acts unseen).node ≡ (stored_in m w f pc (target pc f)).node
-    nodes_are =
-        (lands.row_done k s st id v me p is verb l pc asks acts unseen).node
-        (node_comes_at_entry m w f pc
-        (record {
-          awake = lands.awake_row k s st id v me p is verb l pc asks acts unseen;
-          spin = own_row pc f (own_by st.world w f pc (target pc f) a q on);
-        })
-        (lands.fitting k s st id v me p is verb l pc asks acts unseen).after entry)
+    nodes_are = (lands.row_done k s st id v me p is verb l pc asks acts unseen).node row_bare
 
     locks_are : SameLocks m (lands.n k s st id v me p is verb l pc asks acts unseen)
     locks_are =
         let done = lands.row_done k s st id v me p is verb l pc asks acts unseen in
         let stored = row_locks m w f pc (target pc f) a q on in
         record { word = done.word ∙ stored.word; rw = done.rw ∙ stored.rw; kind = done.kind }
+
+    marks_are : SameMarks m (lands.n k s st id v me p is verb l pc asks acts unseen)
+    marks_are =
+        let done = lands.row_done k s st id v me p is verb l pc asks acts unseen in
+        let z = stored_marks m w f pc (target pc f) (unmarked_by m w f pc (target pc f) a q on) in
+        record { entry = done.entry ∙ z.entry; halted = done.halted ∙ z.halted; kicked = done.kicked ∙ z.kicked }
 
     -- the step stores nothing, or into a node that is used
     abbrev pub IsSafe : Type 0
@@ -214,20 +223,39 @@ module _ (k : Plan) {S : Type 0} (s : State S View) (st : Runs k s) (id : ℕ) (
     chooses_here u ne h =
         record { frame = h.frame; row = h.row; live = (at.acted.others u ne).0 ∙ h.live; place = h.place; front = h.front }
 
-    -- a step on a word of a node that makes the row of the call, where it writes what the row stores
-    pub node_step : (i : ℕ) → i ≡ node_number q after → IsSafe → IsQuiet → (u : View) → u.who ≡ v.who
-        → u.calls ≡ row_of (terms_of k) p (acting k.mode v.calls verb l.index) (met_of q before) → (homes : List (Maybe S))
+    -- where it leaves all links, their marks are still right
+    pub leaves_marks : ((b c : NodeName) → ((stored_in m w f pc (target pc f)).node b).next ≡ Some c → (m.node b).next ≡ Some c)
+        → KeepsMarks m (stored_in m w f pc (target pc f)) st.marks
+    leaves_marks =
+        kept_marks m (stored_in m w f pc (target pc f)) _ st.marks at.acted.sound.spins
+        (lands.marked_here k s st id v me p is verb l pc asks acts unseen)
+
+    -- A step on a word of a node that makes the row of the call, where it writes what the row stores; of a
+    -- link, with a mark that says what it is to say.
+    pub node_step : (marks : NodeName → Bool) → ((b : NodeName) → (b ≡ a → q ≢ part.Next) → marks b ≡ st.marks b)
+        → KeepsMarks m (stored_in m w f pc (target pc f)) marks
+        → (i : ℕ) → i ≡ stored_number (marks a) q (node_number q after) → IsSafe → IsQuiet
+        → (y : Met) → plain y ≡ met_of q before → IsTrue m pc y → (u : View) → u.who ≡ v.who
+        → u.calls ≡ row_of (terms_of k) p (acting k.mode v.calls verb l.index) y → (homes : List (Maybe S))
         → Runs k {S = S} (record { words = set s.words (node_at k a q) i; homes = homes; views = set s.views id u })
-    node_step i writes safe quiet u who calls homes =
+    node_step marks kept links i writes safe quiet y meets true_ u who calls homes =
         let n : World = lands.n k s st id v me p is verb l pc asks acts unseen in
         let same = at.acted.same in
-        lands.lands k s st id v me p is verb l pc asks acts unseen u who
-        (calls ∙ ap (row_of (terms_of k) p (acting k.mode v.calls verb l.index)) (sym (met_there m w f pc (target pc f) a q on)))
+        lands.lands k s st id v me p is verb l pc asks acts unseen y (meets ∙ sym (met_there m w f pc (target pc f) a q on)) true_
+        (λ b mine. inl (bare_me f (lands.o k s st id v me p is verb l pc asks acts unseen).leads b row_bare mine))
+        marks
+        (record {
+          used = λ awake b c e uses next free. links.used awake b c e uses (ap (λ (g : NodeName → Node). (g b).next) (sym nodes_are) ∙ next) free;
+          says = λ awake b c e j uses next there. links.says awake b c e j uses (ap (λ (g : NodeName → Node). (g b).next) (sym nodes_are) ∙ next) there;
+          bare = links.bare;
+        })
+        u who calls
         (set s.words (node_at k a q) i)
-        (node_stored k st.world n s.words st.stored a q i near
-        (writes ∙ ap (λ (g : NodeName → Node). node_number q (g a)) (sym nodes_are))
+        (node_stored k st.world n st.marks marks s.words st.stored a q i near
+        (writes ∙ ap (λ (g : NodeName → Node). stored_number (marks a) q (node_number q (g a))) (sym nodes_are))
         (λ b r h ne. ap (λ (g : NodeName → Node). node_number r (g b)) nodes_are
         ∙ (stays b r ne ∙ ap (λ (g : NodeName → Node). node_number r (g b)) same.node))
+        kept
         (locks_trans (acted_locks same) locks_are))
         (get_or-set_other s.words (node_at k a q) 0 i 0 (λ e. omega arith))
         (λ r d ne fit. ap (λ (g : NodeName → Node). to_come g st.world r) nodes_are
@@ -237,6 +265,11 @@ module _ (k : Plan) {S : Type 0} (s : State S View) (st : Runs k s) (id : ℕ) (
         ap (λ (g : NodeName → Node). (g b).runs) nodes_are
         ∙ (runs_stay quiet b u (uses_here u b away uses) (chooses_here u away on)
         ∙ ap (λ (g : NodeName → Node). (g b).runs) same.node)))
+        (halting_same k s st.world n (set s.words (node_at k a q) i) id p
+        (far_set k s.words (node_at k a q) i (let c = near.cpu in let e = near.index in let z = low q in omega arith))
+        (marks_trans (acted_marks same) marks_are)
+        (λ b. ap (λ (g : NodeName → Node). (g b).state) nodes_are
+        ∙ (row_state m w f pc (target pc f) a q on b ∙ ap (λ (g : NodeName → Node). (g b).state) same.node)) st.halting)
         homes
 
   pub index_is : st.world.queued p ≡ slows v.calls.frames
@@ -257,31 +290,40 @@ module _ (k : Plan) {S : Type 0} (s : State S View) (st : Runs k s) (id : ℕ) (
       let y : Node = reset_part q (st.world.node a) in
       let n : World = put_node st.world a y in
       let sound =
-      free_node_keeps st.world st.histories a y st.sound (ap halts st.of_plan.mode ∙ st.lawful.awake)
+      free_node_keeps st.world st.histories a y st.sound
       (subst (IsFree st.world) is_a (to_come_free p v.calls fits)) (λ off b. plain q (st.world.node a) b (st.sound.spins.plain.flag off a b)) in
       let here : n.node a ≡ y = node_here st.world a y in
       let away : (b : NodeName) → b ≢ a → n.node b ≡ st.world.node b = λ b ne. node_else st.world a b y ne in
-      keeps k s st id v me p is n st.histories u (set s.words (node_at k a q) 0) sound
+      keeps k s st id v me p is n st.histories st.marks u (set s.words (node_at k a q) 0) sound
       (record {
         mode = st.of_plan.mode;
         turns = st.of_plan.turns;
         threshold = st.of_plan.threshold;
+        format = st.of_plan.format;
         sockets = st.of_plan.sockets;
         kind = st.of_plan.kind;
       })
-      (node_stored k st.world n s.words st.stored a q 0 (record { cpu = in_plan; index = few })
-      (sym (ap (node_number q) here ∙ reset_number q (st.world.node a)))
+      (node_stored k st.world n st.marks st.marks s.words st.stored a q 0 (record { cpu = in_plan; index = few })
+      (sym (ap (stored_number (st.marks a) q) (ap (node_number q) here ∙ reset_number q (st.world.node a)) ∙ stored_zero (st.marks a) q))
       (λ b r h ne. elim (node_cases b a) [
         | inl e ↦ ap (λ (z : NodeName). node_number r (n.node z)) e
             ∙ (ap (node_number r) here ∙ (reset_others q r (st.world.node a) (ne e)
             ∙ ap (λ (z : NodeName). node_number r (st.world.node z)) (sym e)))
         | inr off ↦ ap (node_number r) (away b off)
-      ]) (record { word = refl; rw = refl; kind = refl }))
+      ]) (λ b ne. refl) (record { word = refl; rw = refl; kind = refl }))
+      (record {
+        says = λ awake b c e j uses next there. elim (node_cases b a) [
+          | inl same ↦ absurd (to_come_free p v.calls fits e (subst (Uses st.world e) (same ∙ sym is_a) uses))
+          | inr ne ↦ (rule.right k s st id v me p is).says awake b c e j uses (ap (λ (z : Node). z.next) (sym (away b ne)) ∙ next) there
+        ];
+        bare = (rule.right k s st id v me p is).bare;
+      })
       (get_or-set_other s.words (node_at k a q) 0 0 0 (λ e. omega arith))
       (λ x ne. (refl, λ j. refl)) (λ q ne. refl)
       (λ r d ne fit. away (node_name r (st.world.queued r)) (λ e. ne (ap (λ (z : NodeName). z.cpu) e)))
       (λ r d ne fit. counts_beside n fit (λ b u cpu uses on. ap (λ (z : Node). z.runs) (away b (λ e.
       to_come_free p v.calls fits u (subst (Uses st.world u) (e ∙ sym is_a) uses)))))
+      (λ r d ne fit. fit.told)
       who
       (subst (λ (c : Calls). SeatFits n p c) (sym calls) (record {
         mirrors = record { frames = fits.mirrors.frames; holds = fits.mirrors.holds };
@@ -296,10 +338,31 @@ module _ (k : Plan) {S : Type 0} (s : State S View) (st : Runs k s) (id : ℕ) (
               | inr ne ↦ reset_others q r (st.world.node a) ne ∙ before_it r lt ne
             ]);
         counted = λ j x rs e. absurd (none_some e);
-      })) homes
+        told = fits.told;
+        single = fits.single;
+        halted = fits.halted;
+      }))
+      (halting_same k s st.world n (set s.words (node_at k a q) 0) id p
+      (far_set k s.words (node_at k a q) 0 (let c = in_plan in let z = low q in omega (arith, c, z, few)))
+      (record { entry = refl; halted = refl; kicked = refl })
+      (λ b. elim (node_cases b a) [
+        | inl e ↦ ap (λ (z : NodeName). (n.node z).state) e ∙ (ap (λ (z : Node). z.state) here
+            ∙ (reset_state q (st.world.node a) ∙ ap (λ (z : NodeName). (st.world.node z).state) (sym e)))
+        | inr off ↦ ap (λ (z : Node). z.state) (away b off)
+      ]) st.halting)
+      (subst (Seeks k (set s.words (node_at k a q) 0)) (sym calls)
+      (seeks_same k s.words (set s.words (node_at k a q) 0)
+      (far_set k s.words (node_at k a q) 0 (let c = in_plan in let z = low q in omega (arith, c, z, few)))
+      (record v.calls { ready = part_index q + 1; runs = None }) (st.seeks id v me))) homes
     where
       none_some : {j : ℕ} → None ≡ Some j → ⊥
       none_some e = cc e
+
+      reset_state : (q : Part) (x : Node) → (reset_part q x).state ≡ x.state
+      reset_state part.Flag x = refl
+      reset_state part.Next x = refl
+      reset_state part.SecondTail x = refl
+      reset_state part.Runs x = refl
 
       plain : (q : Part) (x : Node) (b : NodeName) → x.flag ≢ Second b → (reset_part q x).flag ≢ Second b
       plain part.Flag x b ne e = cc e

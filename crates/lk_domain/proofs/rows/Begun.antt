@@ -23,9 +23,8 @@ use Rattle.lk_machine.specs.Machine.{rest_frame}
 use Rattle.lk_machine.specs.Moves.{node_of}
 use Rattle.lk_machine.specs.Programs.{way_before, kind_of}
 use Rattle.lk_law.specs.Agree.{halts}
-use Rattle.lk_law.specs.Families.{may_halt, is_ending_row}
+use Rattle.lk_law.specs.Families.{may_halt}
 use Rattle.lk_law.specs.Holds.{hands_hold, held_by, hands_share, shared_by}
-use Rattle.lk_law.specs.Leads.{is_release}
 use Rattle.lk_law.specs.Phase.{Phase, seeks}
 use Rattle.lk_law.specs.Phase.Phase.{Idle, Releases}
 use Rattle.lk_law.specs.Places.{phase_at, phase_if, phase_of, phase_on}
@@ -45,23 +44,27 @@ use Rattle.lk_law.proofs.running.Holds.{holder_is_one, hold_moves}
 use Rattle.lk_law.proofs.running.SharedHolds.{share_moves, put_here, put_waiters, put_locks}
 use Rattle.lk_domain.specs.Calls.{Running, running, Hold, Calls, Stacked, Rests, frame_in, held_in}
 use Rattle.lk_domain.specs.Calls.{holds_in, moved_to, lock_name, begun, begin, MayBegin, AreHeld, releases}
-use Rattle.lk_domain.specs.Calls.{way_in, is_leaving}
+use Rattle.lk_domain.specs.Calls.{way_in, is_leaving, begins_release}
 use Rattle.lk_domain.specs.Runs.{waiter, Mirrors}
 use Rattle.lk_domain.proofs.Manners.{held_cases, held_spun, moved-here, moved_same}
 use Rattle.lk_domain.proofs.Manners.{way_of, held_once, moved_way}
 use Rattle.lk_domain.proofs.Stacks.{frame_in-above, unheld, holder_of, moved-else, moved-away}
 
--- words and nodes, and what never changes, are as before
+-- words and nodes, halts, kicks and the hash, and what never changes, are as before
 pub record SameWords (m n : World) : Type 0 where
   pub mode : n.mode ≡ m.mode
   pub turns : n.turns ≡ m.turns
   pub threshold : n.threshold ≡ m.threshold
+  pub format : n.format ≡ m.format
   pub sockets : n.sockets ≡ m.sockets
   pub kind : n.kind ≡ m.kind
   pub word : n.word ≡ m.word
   pub rw : n.rw ≡ m.rw
   pub node : n.node ≡ m.node
   pub queued : n.queued ≡ m.queued
+  pub entry : n.entry ≡ m.entry
+  pub halted : n.halted ≡ m.halted
+  pub kicked : n.kicked ≡ m.kicked
 
 -- the other processors' frames and holds are as before
 abbrev pub Elsewhere : World → World → ℕ → Type 0
@@ -88,10 +91,6 @@ if_if : {A : Type 0} (b : Bool) (x y z : A)
 if_if true x y z = refl
 if_if false x y z = refl
 
--- where no processor halts none sleeps
-pub no_sleeper : (m : World) (p : ℕ) → halts m.mode ≡ false → HasNoSleeper m p
-no_sleeper m p awake on = absurd (grind (arith, awake, on))
-
 -- a frame without a place and without a wait lock fits any kinds
 pub fits_idle : (kind : ℕ → Kind) (f : Frame) → f.place ≡ None → f.lock.wait ≡ false → RwFits kind f
 fits_idle kind f none plain =
@@ -104,7 +103,7 @@ fits_idle kind f none plain =
     }
 
 -- a row that releases is the only one by which a waiter does
-releases_only : (c : Pc) (b : Bool) (x y : NodeName) → may_halt c ≡ false → is_ending_row c ≡ false
+releases_only : (c : Pc) (b : Bool) (x y : NodeName) → may_halt c ≡ false → begins_release (Some c) ≡ false
     → phase_at c b x y ≡ Releases → ⊥
 releases_only c b x y awake h e = grind (arith, awake, h, e)
 
@@ -117,7 +116,7 @@ leaving_only c false (inl e) = grind (arith, e)
 leaving_only c false (inr e) = grind (arith, e)
 
 module _ (m : World) (hs : LockName → LockHistory) (ok : IsSoundWorld m hs)
-    (awake : halts m.mode ≡ false) (p : ℕ) (c : Calls) (mirrors : Mirrors m p c)
+    (p : ℕ) (c : Calls) (lone : halts m.mode ≡ true → c.frames ≡ []) (mirrors : Mirrors m p c)
     (stacked : Stacked c.frames) (are : AreHeld m.kind c.holds) where
   abbrev d : ℕ
   d = length c.frames
@@ -128,14 +127,28 @@ module _ (m : World) (hs : LockName → LockHistory) (ok : IsSoundWorld m hs)
   abbrev rested : Frame
   rested = record rest_frame { ctx = d }
 
+  -- where processors halt, this one has no frame yet, and so none that sleeps
+  frameless : halts m.mode ≡ true → (u : Waiter) → u.cpu ≡ p → m.frame u ≡ None
+  frameless on u e =
+      subst (λ (z : ℕ). m.frame (waiter z u.ctx) ≡ None) (sym e)
+      (mirrors.frames u.ctx ∙ ap (λ (xs : List Running). frame_in xs u.ctx) (lone on))
+
+  no_sleeper : (n : World) → n.frame ≡ m.frame → n.mode ≡ m.mode → HasNoSleeper n p
+  no_sleeper n frames mode on u f e live =
+      absurd (none_some (sym (ap (λ (g : Waiter → Option Frame). g u) frames
+      ∙ frameless (ap halts (sym mode) ∙ on) u e) ∙ live))
+    where
+      none_some : {f : Frame} → None ≡ Some f → ⊥
+      none_some q = cc q
+
   -- the frame of a new call comes on top
-  comes : (n : World) (gs : LockName → LockHistory) → IsSoundWorld n gs → halts n.mode ≡ false
+  comes : (n : World) (gs : LockName → LockHistory) → IsSoundWorld n gs → n.frame ≡ m.frame → n.mode ≡ m.mode
       → (v : Verb) (l : ℕ) → n.frame (waiter p d) ≡ None
       → n.held (waiter p d) (lock_name l) ≡ way_before v → n.kind l ≡ kind_of v
       → IsSoundWorld (put_frame (put_frame n (waiter p d) (Some rested)) (waiter p d) (Some (begun n.mode d v l))) gs
-  comes n gs sound off v l none held kind =
+  comes n gs sound frames mode v l none held kind =
       let w = waiter p d in
-      let first = end_keeps n gs w None (Some rested) sound none tt (refl, refl) (λ _. no_sleeper n w.cpu off)
+      let first = end_keeps n gs w None (Some rested) sound none tt (refl, refl) (λ _. no_sleeper n frames mode)
       (λ f e. subst (RwFits n.kind) (let q : rested ≡ f = cc e in q) (fits_idle n.kind rested refl refl)) in
       begin_keeps (put_frame n w (Some rested)) gs w rested rested (record { verb = v; lock = l }) first
       (if-true (same_waiter w w) (Some rested) (n.frame w) (same_waiter-self w)) refl held kind refl
@@ -171,9 +184,9 @@ module _ (m : World) (hs : LockName → LockHistory) (ok : IsSoundWorld m hs)
       record {
         world = put_frame (put_frame m (waiter p d) (Some rested)) (waiter p d) (Some (begun m.mode d v l));
         histories = hs;
-        sound = comes m hs ok awake v l topless (mirrors.holds d (lock_name l) ∙ way) kind;
+        sound = comes m hs ok refl refl v l topless (mirrors.holds d (lock_name l) ∙ way) kind;
         mirrors = begun_mirrors m v l c.holds refl mirrors.holds;
-        same = record { mode = refl; turns = refl; threshold = refl; sockets = refl; kind = refl; word = refl; rw = refl; node = refl; queued = refl };
+        same = record { mode = refl; turns = refl; threshold = refl; format = refl; sockets = refl; kind = refl; word = refl; rw = refl; node = refl; queued = refl; entry = refl; halted = refl; kicked = refl };
         others = begun_else m (begun m.mode d v l) (λ u ne. (refl, λ k. refl));
       }
 
@@ -182,11 +195,14 @@ module _ (m : World) (hs : LockName → LockHistory) (ok : IsSoundWorld m hs)
   taking_begins v l kind way free = plainly_begins v l kind (unheld c.holds d l free ∙ sym way)
 
   -- the row of a frame is none of the lock that halts processors
-  plain_row : (f : Frame) (pc : Pc) (u : Waiter) → m.frame u ≡ Some f → f.place ≡ Some pc
+  plain_row : (f : Frame) (pc : Pc) (u : Waiter) → u.cpu ≡ p → m.frame u ≡ Some f → f.place ≡ Some pc
       → may_halt pc ≡ false
-  plain_row f pc u live place =
+  plain_row f pc u here live place =
       Rattle.lk_law.proofs.common.Puts.not-true (may_halt pc)
-      (λ h. let on = (ok.spins.registers u f live).choice.halting pc place h in grind (arith, awake, on))
+      (λ h. let on = (ok.spins.registers u f live).choice.halting pc place h in absurd (none_some (sym (frameless on u here) ∙ live)))
+    where
+      none_some : {f : Frame} → None ≡ Some f → ⊥
+      none_some q = cc q
 
   -- a context of the processor that holds a lock is not at work on it
   unworked : Rests c.frames → (l : LockName) (e : ℕ) → m.held (waiter p e) l ≡ Some Spins
@@ -203,11 +219,11 @@ module _ (m : World) (hs : LockName → LockHistory) (ok : IsSoundWorld m hs)
       settled r a b = grind (arith, a, b)
 
       placed : (f : Frame) (o : Option Pc) → m.frame (waiter p e) ≡ Some f → f.place ≡ o
-          → is_release o ≡ false
+          → begins_release o ≡ false
           → phase_if o (is_some f.me) (node_of f.prev) (node_of f.y) ≡ Releases → ⊥
       placed f None live at h q = cc
       placed f (Some pc) live at h q =
-          releases_only pc (is_some f.me) (node_of f.prev) (node_of f.y) (plain_row f pc (waiter p e) live at) h q
+          releases_only pc (is_some f.me) (node_of f.prev) (node_of f.y) (plain_row f pc (waiter p e) refl live at) h q
 
       chosen : (b : Bool) (r : Phase) → (b ≡ true → r ≡ Releases → ⊥) → (if b then r else Idle) ≡ Releases → ⊥
       chosen true r h q = h refl q
@@ -223,7 +239,7 @@ module _ (m : World) (hs : LockName → LockHistory) (ok : IsSoundWorld m hs)
       at_one f live h q =
           chosen (same_lock f.lock l) (phase_of f)
           (λ on. placed f f.place live refl
-          (calm_at (is_release f.place) f.lock.wait (is_leaving f.place) h (ap (λ (z : LockName). z.wait) (same_lock-true f.lock l on) ∙ plain)))
+          (calm_at (begins_release f.place) f.lock.wait (is_leaving f.place) h (ap (λ (z : LockName). z.wait) (same_lock-true f.lock l on) ∙ plain)))
           (ap (phase_on l) (sym live) ∙ q)
 
       not_released : (rs : List Running) → Rests rs → m.frame (waiter p e) ≡ frame_in rs e
@@ -277,9 +293,9 @@ module _ (m : World) (hs : LockName → LockHistory) (ok : IsSoundWorld m hs)
       record {
         world = put_frame (put_frame n w (Some rested)) w (Some (begun m.mode d Unlock l));
         histories = held_by hs k w;
-        sound = comes n (held_by hs k w) sound awake Unlock l topless (moved d k ∙ moved-here m.kind d l c.holds are off has) spin;
+        sound = comes n (held_by hs k w) sound refl refl Unlock l topless (moved d k ∙ moved-here m.kind d l c.holds are off has) spin;
         mirrors = begun_mirrors n Unlock l (moved_to d k c.holds) refl moved;
-        same = record { mode = refl; turns = refl; threshold = refl; sockets = refl; kind = refl; word = refl; rw = refl; node = refl; queued = refl };
+        same = record { mode = refl; turns = refl; threshold = refl; format = refl; sockets = refl; kind = refl; word = refl; rw = refl; node = refl; queued = refl; entry = refl; halted = refl; kicked = refl };
         others = begun_else n (begun m.mode d Unlock l)
             (λ x ne. (refl, λ j. elsewhere (same_waiter x w) (same_waiter x u) (same_lock j k) (m.held x j) (else_at x p d ne) (else_at x p from.0 ne)));
       }
@@ -323,13 +339,13 @@ module _ (m : World) (hs : LockName → LockHistory) (ok : IsSoundWorld m hs)
       chosen false r (inr h) = cc h
 
       left : (q : Option Pc) (w : Bool) → (rw_phase_if q w ≡ Unreads) ⊎ (rw_phase_if q w ≡ Unwrites)
-          → (is_release q && not (w && not (is_leaving q))) ≡ false → ⊥
+          → (begins_release q && not (w && not (is_leaving q))) ≡ false → ⊥
       left None w (inl h) f = cc h
       left None w (inr h) f = cc h
       left (Some pc) w h f = by pc (leaving_only pc w h) w f
         where
           by : (pc : Pc) → is_leaving (Some pc) ≡ true → (w : Bool)
-              → (is_release (Some pc) && not (w && not (is_leaving (Some pc)))) ≡ false → ⊥
+              → (begins_release (Some pc) && not (w && not (is_leaving (Some pc)))) ≡ false → ⊥
           by Z1 h true f = cc f
           by Z1 h false f = cc f
           by Z2 h true f = cc f
@@ -384,9 +400,9 @@ module _ (m : World) (hs : LockName → LockHistory) (ok : IsSoundWorld m hs)
       record {
         world = put_frame (put_frame n w (Some rested)) w (Some (begun m.mode d v l));
         histories = shared_by hs l way u w;
-        sound = comes n (shared_by hs l way u w) sound awake v l topless (moved d k ∙ (moved_way d l c.holds ∙ (has ∙ sym before))) kind;
+        sound = comes n (shared_by hs l way u w) sound refl refl v l topless (moved d k ∙ (moved_way d l c.holds ∙ (has ∙ sym before))) kind;
         mirrors = begun_mirrors n v l (moved_to d k c.holds) refl moved;
-        same = record { mode = refl; turns = refl; threshold = refl; sockets = refl; kind = refl; word = refl; rw = refl; node = refl; queued = refl };
+        same = record { mode = refl; turns = refl; threshold = refl; format = refl; sockets = refl; kind = refl; word = refl; rw = refl; node = refl; queued = refl; entry = refl; halted = refl; kicked = refl };
         others = begun_else n (begun m.mode d v l)
             (λ x ne. (
               refl,

@@ -10,13 +10,13 @@ use Rattle.lk_abs.specs.declared.names.LockName.{LockName}
 use Rattle.lk_machine.specs.declared.parts.Frame.{Frame}
 use Rattle.lk_machine.specs.declared.parts.Pc.{Pc}
 use Rattle.lk_machine.specs.declared.setup.Verb.{Verb}
-use Rattle.lk_machine.specs.rows.Cna.{Sight}
+use Rattle.lk_domain.specs.Calls.{Outlook}
 use Rattle.lk_machine.specs.TopRow.{Target, target}
 use Rattle.lk_law.specs.Leads.{Met, Course, held_lock}
 use Rattle.lk_law.proofs.common.Puts.{if_cases}
 use Rattle.lk_domain.specs.Calls.{terms_of, Mark, mark, Running, running, Calls, StandsOn, Grip}
 use Rattle.lk_domain.specs.Calls.{Unchanged, Takes, Frees, read_at, sight_of}
-use Rattle.lk_domain.specs.Calls.{grip_of, holds_in, acting, Begins}
+use Rattle.lk_domain.specs.Calls.{grip_of, holds_in, acting, Begins, plain}
 use Rattle.lk_domain.specs.Ledgers.{Ledger, turned, opened, closed, is_first}
 use Rattle.lk_domain.specs.Plays.{turned_on, turned_of, turned_at}
 use Rattle.lk_domain.specs.Runs.{Runs}
@@ -24,6 +24,7 @@ use Rattle.lk_domain.specs.declared.plan.Plan.{Plan}
 use Rattle.lk_domain.specs.declared.view.View.{View}
 use Rattle.lk_domain.proofs.rows.Lands as lands
 use Rattle.lk_domain.proofs.rows.Sights.{IsSeen}
+use Rattle.lk_domain.proofs.rows.Users.{IsTrue}
 
 module _ (k : Plan) {S : Type 0} (s : State S View) (st : Runs k s) (id : ℕ) (v : View)
     (me : get_elem? s.views id ≡ some v) (p : ℕ) (is : v.who.number ≡ Some p) (verb : Verb)
@@ -47,13 +48,12 @@ module _ (k : Plan) {S : Type 0} (s : State S View) (st : Runs k s) (id : ℕ) (
   fresh = lands.unheld_before k s st id v me p is verb l pc asks acts unseen
 
   -- what the row makes of the ledger
-  pub turns : (g : Ledger)
-      → turned_of (terms_of k) p c (lands.x k s st id v me p is verb l pc asks acts unseen) g
-      ≡ turned g (held_lock t f) (grip_of t o)
-      (acts.trail ++ mark pc (lands.x k s st id v me p is verb l pc asks acts unseen) (read_at pc (sight_of (terms_of k) p c.runs)) ∷ [])
-  turns g =
-      let x = lands.x k s st id v me p is verb l pc asks acts unseen in
-      let course_is = lands.course_is k s st id v me p is verb l pc asks acts unseen in
+  pub turns : (x : Met) → plain x ≡ lands.x k s st id v me p is verb l pc asks acts unseen
+      → IsTrue (lands.m k s st id v me p is verb l pc asks acts unseen) pc x → (g : Ledger)
+      → turned_of (terms_of k) p c x g
+      ≡ turned g (held_lock t f) (grip_of t o) (lands.trail k s st id v me p is verb l pc asks acts unseen x)
+  turns x meets true_ g =
+      let course_is = lands.course_is k s st id v me p is verb l pc asks acts unseen x meets true_ in
       ap (λ (xs : List Running). turned_on k.mode p (sight_of (terms_of k) p c.runs) xs x g) acts.is
       ∙ (ap (λ q. turned_at k.mode p (sight_of (terms_of k) p c.runs) (running verb f acts.trail) x g q) acts.place
       ∙ (λ i. turned g (held_lock t f) (grip_of t (course_is i)) (acts.trail ++ mark pc x (read_at pc (sight_of (terms_of k) p c.runs)) ∷ [])))
@@ -70,7 +70,7 @@ turned_same g l (Takes m) t =
 turned_same g l Frees t =
     if_cases (SamePurse g) (is_first l) (closed g) g (λ _. record { share = refl; out = refl }) (λ _. record { share = refl; out = refl })
 
-purse_on : (mode : Mode) (p : ℕ) (z : Sight) (rs : List Running) (x : Met) (g : Ledger)
+purse_on : (mode : Mode) (p : ℕ) (z : Outlook) (rs : List Running) (x : Met) (g : Ledger)
     → SamePurse g (turned_on mode p z rs x g)
 purse_on mode p z [] x g = record { share = refl; out = refl }
 purse_on mode p z (r ∷ rs) x g = by r.frame.place

@@ -1,5 +1,5 @@
 -- What a row takes, and where it then leads.
-use Rattle.std.proofs.Common.{◌≡◌, ◌⊎◌, inl, inr, Option, Some, None, Bool, true, false}
+use Rattle.std.proofs.Common.{◌≡◌, ◌≢◌, ◌⊎◌, inl, inr, Option, Some, None, Bool, true, false}
 use Rattle.std.proofs.Common.{refl, sym, ap, ◌∙◌, subst, arith}
 use Rattle.std.proofs.lemmas.Bool.{cases_Bool}
 use Rattle.std.specs.Prelude.{if◌then◌else◌, ◌&&◌, not}
@@ -12,51 +12,35 @@ use Rattle.lk_abs.specs.declared.names.Mode.{Mode}
 use Rattle.lk_abs.specs.declared.names.Mode.TheVariants.{Virt, Native, Cna, Pv}
 use Rattle.lk_abs.specs.declared.names.Waiter.{Waiter}
 use Rattle.lk_word.specs.declared.rw_word.RwFields.{RwFields}
+use Rattle.lk_word.specs.declared.spin_word.Fields.{Fields}
 use Rattle.lk_machine.specs.declared.parts.Frame.{Frame}
 use Rattle.lk_machine.specs.declared.parts.Pc.{Pc}
+use Rattle.lk_machine.specs.declared.parts.Pc.TheVariants.{U2, U3, U4, U5}
 use Rattle.lk_machine.specs.declared.parts.Pc.TheVariants.{U1, R1, R2, R3, R4, R5, Wr1, Wr2, Wr3, Wr4}
 use Rattle.lk_machine.specs.declared.parts.Pc.TheVariants.{Wr5, Wr6, Y1, Y2, Y3, Y4, Y5, Z1, Z2}
 use Rattle.lk_machine.specs.declared.setup.Verb.TheVariants.{Unlock}
 use Rattle.lk_machine.specs.Moves.{first_place}
 use Rattle.lk_machine.specs.Row.{Effect, Lead, Granted, Freed, Leaves, Yields, Tell, Says}
 use Rattle.lk_machine.specs.rows.Rw.{rw_row, is_open, is_empty, is_cleared}
-use Rattle.lk_machine.specs.TopRow.{Target, SpinWord, QueueWord, Queued, FlagOf, NextOf, RwWord}
-use Rattle.lk_machine.specs.TopRow.{ChoiceWord, ChoiceFlag, ChoiceNext, SecondTailOf, RunsOf, target}
-use Rattle.lk_law.specs.Families.{may_halt, is_rw_row}
+use Rattle.lk_machine.specs.rows.Cna.{is_held}
+use Rattle.lk_machine.specs.TopRow.{Target, RwWord, target}
+use Rattle.lk_law.specs.Families.{is_rw_row}
 use Rattle.lk_law.specs.Leads.{Course, course_in, held_lock, enters}
 use Rattle.lk_law.specs.RwPhase.{is_inner}
 use Rattle.lk_law.specs.SoundWorld.{RwFits, is_rw, is_rw_name, rw_own_phase}
 use Rattle.lk_law.specs.Steps.{led}
 use Rattle.lk_law.specs.World.{World}
-use Rattle.lk_domain.specs.Calls.{Takes, Frees, grip_of, grip_led, grip_told, is_seeking, is_spun, Suits, releases, is_leaving}
+use Rattle.lk_domain.specs.Calls.{Takes, Frees, grip_of, grip_led, grip_told, is_seeking, is_spun, Suits, releases, is_leaving, begins_release}
 
 -- on what a row of a spinlock or a wait lock operates
 abbrev pub IsOwn : Target → Type 0
-IsOwn SpinWord = Unit {0}
-IsOwn QueueWord = Unit {0}
-IsOwn Queued = Unit {0}
-IsOwn (FlagOf n) = Unit {0}
-IsOwn (NextOf n) = Unit {0}
-IsOwn ChoiceWord = Unit {0}
-IsOwn (ChoiceFlag n) = Unit {0}
-IsOwn (ChoiceNext n) = Unit {0}
-IsOwn (SecondTailOf n) = Unit {0}
-IsOwn (RunsOf n) = Unit {0}
-IsOwn _ = ⊥
+IsOwn RwWord = ⊥
+IsOwn _ = Unit {0}
 
 -- the lock of such a row is its frame's
 pub own_lock : (t : Target) (f : Frame) → IsOwn t → held_lock t f ≡ f.lock
-own_lock SpinWord f h = refl
-own_lock QueueWord f h = refl
-own_lock Queued f h = refl
-own_lock (FlagOf n) f h = refl
-own_lock (NextOf n) f h = refl
-own_lock ChoiceWord f h = refl
-own_lock (ChoiceFlag n) f h = refl
-own_lock (ChoiceNext n) f h = refl
-own_lock (SecondTailOf n) f h = refl
-own_lock (RunsOf n) f h = refl
-own_lock _ f h = absurd h
+own_lock RwWord f h = absurd h
+own_lock _ f h = refl
 
 -- it is no row of a reader or a writer
 pub own_row : (c : Pc) (f : Frame) → IsOwn (target c f) → is_rw_row c ≡ false
@@ -96,17 +80,8 @@ takes_spins t o y h e = by t h e
     lead _ e = cc e
 
     by : (t : Target) → IsOwn t → grip_of t o ≡ Takes y → y ≡ Spins
-    by SpinWord h e = lead o.leads e
-    by QueueWord h e = lead o.leads e
-    by Queued h e = lead o.leads e
-    by (FlagOf n) h e = lead o.leads e
-    by (NextOf n) h e = lead o.leads e
-    by ChoiceWord h e = lead o.leads e
-    by (ChoiceFlag n) h e = lead o.leads e
-    by (ChoiceNext n) h e = lead o.leads e
-    by (SecondTailOf n) h e = lead o.leads e
-    by (RunsOf n) h e = lead o.leads e
-    by _ h e = absurd h
+    by RwWord h e = absurd h
+    by _ h e = lead o.leads e
 
 -- a reader-writer lock is taken as a reader or as the writer
 takes_shared : (tell : Tell) (y : Manner) → grip_told tell ≡ Takes y → is_spun y ≡ false
@@ -137,26 +112,45 @@ module _ (m : World) (w : Waiter) (f : Frame) (c : Pc) where
   o = course_in m w f c t
 
   -- a release takes nothing
-  pub takes_seeks : (y : Manner) → may_halt c ≡ false → grip_of t o ≡ Takes y → is_seeking (Some c) ≡ true
-  takes_seeks y awake e = by c awake e
+  pub takes_seeks : (y : Manner) → grip_of t o ≡ Takes y → is_seeking (Some c) ≡ true
+  takes_seeks y e = by c e
     where
-      by : (c : Pc) → may_halt c ≡ false → grip_of (target c f) (course_in m w f c (target c f)) ≡ Takes y
-          → is_seeking (Some c) ≡ true
-      by U1 a e = cc e
-      by Z1 a e = cc e
-      by Z2 a e = cc e
-      by _ a e = cc a
+      freed : (b : Bool) (x z : Effect Fields) → grip_led x.leads ≢ Takes y → grip_led z.leads ≢ Takes y
+          → grip_led (if b then x else z).leads ≢ Takes y
+      freed true x z h k = h
+      freed false x z h k = k
 
-  -- and it ends its call
-  pub release_ends : may_halt c ≡ false → is_seeking (Some c) ≡ false → (led f o.leads).place ≡ None
-  release_ends awake h = by c awake h
+      by : (c : Pc) → grip_of (target c f) (course_in m w f c (target c f)) ≡ Takes y
+          → is_seeking (Some c) ≡ true
+      by U1 e = cc e
+      by U2 e = absurd (freed (is_held (m.word f.lock).locked) _ _ (λ q. cc q) (λ q. cc q) e)
+      by U3 e = cc e
+      by U4 e = cc e
+      by U5 e = cc e
+      by Z1 e = cc e
+      by Z2 e = cc e
+      by _ e = refl
+
+  -- and its call seeks nothing after it
+  pub release_ends : is_seeking (Some c) ≡ false → is_seeking (led f o.leads).place ≡ false
+  release_ends h = by c h
     where
-      by : (c : Pc) → may_halt c ≡ false → is_seeking (Some c) ≡ false
-          → (led f (course_in m w f c (target c f)).leads).place ≡ None
-      by U1 a h = refl
-      by Z1 a h = refl
-      by Z2 a h = refl
-      by _ a h = cc (a, h)
+      either_ends : (b : Bool) (x z : Effect Fields) → is_seeking (led f x.leads).place ≡ false
+          → is_seeking (led f z.leads).place ≡ false
+          → is_seeking (led f (if b then x else z).leads).place ≡ false
+      either_ends true x z h k = h
+      either_ends false x z h k = k
+
+      by : (c : Pc) → is_seeking (Some c) ≡ false
+          → is_seeking (led f (course_in m w f c (target c f)).leads).place ≡ false
+      by U1 h = refl
+      by U2 h = either_ends (is_held (m.word f.lock).locked) _ _ refl refl
+      by U3 h = refl
+      by U4 h = refl
+      by U5 h = refl
+      by Z1 h = refl
+      by Z2 h = refl
+      by _ h = cc h
 
 -- What a row of a reader or a writer does: where it takes its lock, its call ends or frees the wait
 -- lock, and it comes to the release of no other lock.
@@ -176,20 +170,20 @@ frees Cna = refl
 frees Pv = refl
 
 frees_calm : (mode : Mode) (b : Bool) → b ≡ true
-    → (Rattle.lk_law.specs.Leads.is_release (Some (first_place mode Unlock))
+    → (begins_release (Some (first_place mode Unlock))
     && not (b && not (is_leaving (Some (first_place mode Unlock))))) ≡ false
 frees_calm Virt b e = rw e refl
 frees_calm Native b e = rw e refl
 frees_calm Cna b e = rw e refl
 frees_calm Pv b e = rw e refl
 
-bias_place : (b : Bool) → Rattle.lk_law.specs.Leads.is_release (Some (if b then R3 else R2)) ≡ false
+bias_place : (b : Bool) → begins_release (Some (if b then R3 else R2)) ≡ false
 bias_place true = refl
 bias_place false = refl
 
-empty_place : (b : Bool) (c d : Pc) → Rattle.lk_law.specs.Leads.is_release (Some c) ≡ false
-    → Rattle.lk_law.specs.Leads.is_release (Some d) ≡ false
-    → Rattle.lk_law.specs.Leads.is_release (Some (if b then c else d)) ≡ false
+empty_place : (b : Bool) (c d : Pc) → begins_release (Some c) ≡ false
+    → begins_release (Some d) ≡ false
+    → begins_release (Some (if b then c else d)) ≡ false
 empty_place true c d h k = h
 empty_place false c d h k = k
 
@@ -267,17 +261,8 @@ own_over t f o y h e plain = by t h e
     lead _ e = cc e
 
     by : (t : Target) → IsOwn t → grip_of t o ≡ Takes y → is_seeking (led f o.leads).place ≡ false
-    by SpinWord h e = lead o.leads e
-    by QueueWord h e = lead o.leads e
-    by Queued h e = lead o.leads e
-    by (FlagOf n) h e = lead o.leads e
-    by (NextOf n) h e = lead o.leads e
-    by ChoiceWord h e = lead o.leads e
-    by (ChoiceFlag n) h e = lead o.leads e
-    by (ChoiceNext n) h e = lead o.leads e
-    by (SecondTailOf n) h e = lead o.leads e
-    by (RunsOf n) h e = lead o.leads e
-    by _ h e = absurd h
+    by RwWord h e = absurd h
+    by _ h e = lead o.leads e
 
 -- in a world, by a frame that fits it
 module _ (m : World) (w : Waiter) (f : Frame) (c : Pc) (fits : RwFits m.kind f) (place : f.place ≡ Some c) where

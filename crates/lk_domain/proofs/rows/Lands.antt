@@ -1,18 +1,15 @@
 -- A step that makes the row of a call keeps the machine part of the rule, where the words afterwards
 -- are those of the world after the row.
-use Rattle.std.proofs.Common.{◌≡◌, ◌≢◌, ◌⊎◌, ⊎_elim, inl, inr, ℕ, zero, suc, ◌+◌, ◌<◌, ◌≤◌, List, [], ◌∷◌, ◌++◌}
+use Rattle.std.proofs.Common.{◌≡◌, ◌⊎◌, inl, inr, ℕ, suc, ◌+◌, ◌<◌, List, ◌∷◌, ◌++◌, []}
 use Rattle.std.proofs.Common.{length, set, get_or, Option, Some, None, Bool, true, false, refl, sym}
-use Rattle.std.proofs.Common.{ap, ◌∙◌, subst, arith}
+use Rattle.std.proofs.Common.{ap, ◌∙◌, subst, arith, eqb, eq-eqb}
 use Rattle.std.proofs.lemmas.Bool.{cases_Bool, cases_eq}
-use Rattle.std.specs.Prelude.{if◌then◌else◌, ◌&&◌, not, is_some}
-use mathlib.Core.Option.{Option as Maybe, some, some-ne-none}
+use Rattle.std.specs.Prelude.{◌&&◌, ◌||◌, not, is_some}
+use mathlib.Core.Option.{Option as Maybe, some}
 use lib.ListN.{get_elem?}
 use Rattle.atomic_table.specs.Table.{State}
-use Rattle.atomic_table.proofs.Lists.{at_set}
-use Rattle.lk_abs.specs.History.{LockHistory}
 use Rattle.lk_abs.specs.declared.holder.Manner.{Manner}
 use Rattle.lk_abs.specs.declared.names.Kind.{Kind}
-use Rattle.lk_abs.specs.declared.names.Mode.{Mode}
 use Rattle.lk_abs.specs.declared.names.Waiter.{Waiter}
 use Rattle.lk_abs.specs.declared.names.LockName.{LockName}
 use Rattle.lk_word.specs.declared.spin_word.NodeName.{NodeName}
@@ -21,113 +18,54 @@ use Rattle.lk_machine.specs.declared.parts.Frame.{Frame}
 use Rattle.lk_machine.specs.declared.parts.Pc.{Pc}
 use Rattle.lk_machine.specs.declared.parts.Pc.TheVariants.{C1, C2}
 use Rattle.lk_machine.specs.declared.setup.Verb.{Verb}
-use Rattle.lk_machine.specs.rows.Cna.{Sight, same_socket}
-use Rattle.lk_machine.specs.Moves.{node_of}
+use Rattle.lk_abs.specs.Lawful.{is_local, same_socket, stays}
+use Rattle.lk_abs.specs.declared.names.Format.{Format}
+use Rattle.lk_abs.specs.declared.names.Format.TheVariants.{One, Two}
+use Rattle.lk_law.specs.Premises.{IsShallow}
+use Rattle.lk_law.specs.Steps.{waiter_in}
+use Rattle.lk_domain.specs.Calls.{Outlook, is_inner, mark_of, sight_by, stays_by}
+use Rattle.lk_machine.specs.Moves.{node_of, is_node}
 use Rattle.lk_machine.specs.TopRow.{Target}
 use Rattle.lk_machine.specs.TopRow.{target}
 use Rattle.lk_law.specs.Agree.{halts}
-use Rattle.lk_law.specs.Families.{is_rw_row, may_halt}
-use Rattle.lk_law.specs.Leads.{Met, Course}
+use Rattle.lk_law.specs.Families.{is_rw_row}
+use Rattle.lk_law.specs.Leads.{Met, Named, Course, course_at}
+use Rattle.lk_law.specs.Nodes.{IsFree, looks_along}
+use Rattle.lk_law.specs.Known.{choice_node}
+use Rattle.lk_law.proofs.common.Users.{user_found}
+use Rattle.lk_law.proofs.cna.Named.{behind_is_used}
+use Rattle.lk_law.specs.Premises.{Uses}
 use Rattle.lk_law.specs.Leads.{course_in, met_in, setting_in, held_lock, RowDone}
-use Rattle.lk_law.specs.SoundWorld.{IsSoundWorld, RwFits}
+use Rattle.lk_law.specs.SoundWorld.{RwFits}
 use Rattle.lk_law.specs.Steps.{row_in, led, sight_in}
 use Rattle.lk_law.specs.World.{World}
-use Rattle.lk_law.proofs.common.Puts.{not-true}
-use Rattle.lk_law.proofs.running.Calm.{row_is_calm}
-use Rattle.lk_domain.specs.Calls.{terms_of, Mark, mark, Running, running, Calls, no_calls, Stacked, Rests}
+use Rattle.lk_law.proofs.common.Puts.{if-true}
+use Rattle.lk_domain.specs.Calls.{terms_of, Mark, mark, Running, running, Calls, Stacked, Rests}
 use Rattle.lk_domain.specs.Calls.{StandsOn, Takes, grip_of, after}
 use Rattle.lk_domain.specs.Calls.{AreHeld, AreFresh, Suits, is_seeking, is_leaving, releases, holds_in, waits_in}
 use Rattle.lk_domain.specs.Calls.{frames_after, holds_after, setting, course, row_of, row_on, row_at}
-use Rattle.lk_domain.specs.Calls.{acting, begin, is_on, Begins, sight_of, count_of, read_at}
-use Rattle.lk_domain.specs.Plans.{cpus_of}
-use Rattle.lk_domain.specs.Runs.{waiter, node_name, Mirrors, SeatFits, IsReset, IsStored, IsOfPlan}
-use Rattle.lk_domain.specs.Runs.{IsIdle, IsCounted, Runs}
-use Rattle.lk_domain.specs.Views.{numbers}
-use Rattle.lk_domain.specs.Who.{Who}
-use Rattle.lk_domain.specs.Words.{node_number}
+use Rattle.lk_domain.specs.Calls.{plain, frame_in, told, told_in}
+use Rattle.lk_domain.specs.Calls.{acting, Begins, sight_of, count_of, read_at}
+use Rattle.lk_domain.specs.Runs.{waiter, node_name, SeatFits, IsStored}
+use Rattle.lk_domain.specs.Runs.{AreTold, Runs, Seeks}
+use Rattle.lk_domain.proofs.rows.Halts.{begins_none, halted_row, hash_same}
+use Rattle.lk_domain.specs.Words.{node_number, stored_number, state_number, mark_number}
 use Rattle.lk_domain.specs.declared.plan.Plan.{Plan}
 use Rattle.lk_domain.specs.declared.view.View.{View}
 use Rattle.lk_domain.proofs.words.NodeWords.{none_reset}
-use Rattle.lk_domain.proofs.rows.Begun.{Elsewhere}
 use Rattle.lk_domain.proofs.rows.Grips.{IsOwn, own_lock, rw_target, takes_seeks, release_ends, shared_calm, taken_over}
 use Rattle.lk_domain.proofs.rows.Grips.{taken_suits}
 use Rattle.lk_domain.proofs.words.Locks.{locks_same}
 use Rattle.lk_domain.proofs.Manners.{after_held, after_fresh}
-use Rattle.lk_domain.proofs.Manners.{held_above}
-use Rattle.lk_domain.proofs.Stacks.{frame_in-above}
-use Rattle.lk_domain.proofs.seats.Totals.{total-same, apart, drawn}
+use Rattle.lk_domain.proofs.Stacks.{frame_in-above, frame_in-top}
 use Rattle.lk_domain.proofs.rows.Went as went
 use Rattle.lk_domain.proofs.rows.Went.{Went, led_ctx, led_index}
+use Rattle.lk_domain.proofs.rows.Users.{acting_frame, acting_told, after_cases, below_it, Grows, AreRight}
+use Rattle.lk_domain.proofs.rows.Users.{KeepsMarks, marked_after, told_after, IsTrue, newest_told}
 use Rattle.lk_domain.proofs.rows.Poised.{RestsBelow, Poised, poised}
-use Rattle.lk_domain.proofs.rows.Sights.{IsSeen, Sees, SeesSame, same_course, unseen_cases}
-
--- a seat whose newest call has read its count acts by that call
-pub acting_same : (mode : Mode) (c : Calls) (v : Verb) (l r : ℕ) → (acting mode c v l).runs ≡ Some r → acting mode c v l ≡ c
-acting_same mode c v l r e = by (is_on c.frames v l) e
-  where
-    by : (b : Bool) → (if b then c else begin mode c v l).runs ≡ Some r → (if b then c else begin mode c v l) ≡ c
-    by true h = refl
-    by false h = cc h
-
--- a count is there where the nodes are the same
-pub counted_after : (m n : World) (c : Calls) → m.node ≡ n.node → IsCounted m c → IsCounted n c
-counted_after m n c same counted j x rs runs frames =
-    let h = counted j x rs runs frames in
-    record {
-      row = h.row;
-      place = h.place;
-      front = h.front;
-      is = ap (λ (g : NodeName → Node). (g (node_of x.frame.me)).runs) (sym same) ∙ h.is;
-    }
-
-pub set_at : {A : Type 0} (l : List A) (i : ℕ) (a b : A) → get_elem? l i ≡ some a
-    → get_elem? (set l i b) i ≡ some b
-set_at [] i a b e = absurd (some-ne-none a (sym e))
-set_at (x ∷ xs) zero a b e = refl
-set_at (x ∷ xs) (suc i) a b e = set_at xs i a b e
-
--- the calls after a row are as the rule wants them
-
-after_stacked : (v : Verb) (g : Frame) (t : List Mark) (rs : List Running) (q : Option Pc)
-    → g.ctx ≡ length rs → Stacked rs → Stacked (frames_after v g t rs q)
-after_stacked v g t rs None e s = s
-after_stacked v g t rs (Some c) e s = (e, s)
-
-after_few : (v : Verb) (g : Frame) (t : List Mark) (rs : List Running) (q : Option Pc)
-    → length rs < 6 → length (frames_after v g t rs q) ≤ 6
-after_few v g t rs None h = omega arith
-after_few v g t rs (Some c) h = omega arith
-
-after_rests : (v : Verb) (g : Frame) (t : List Mark) (rs : List Running) (q : Option Pc)
-    → releases g ≡ false → Rests rs → Rests (frames_after v g t rs q)
-after_rests v g t rs None calm h = h
-after_rests v g t rs (Some c) calm h = (calm, h)
-
-mirrors_else : (m n : World) (p q : ℕ) (c : Calls) → Elsewhere m n p → q ≢ p → Mirrors m q c
-    → Mirrors n q c
-mirrors_else m n p q c others ne s =
-    record {
-      frames = λ d. (others (waiter q d) ne).0 ∙ s.frames d;
-      holds = λ d l. (others (waiter q d) ne).1 l ∙ s.holds d l;
-    }
-
--- the contexts of a processor
-idle_above : (n : World) (p : ℕ) (c : Calls) → SeatFits n p c → (w : Waiter) → 6 ≤ w.ctx → w.cpu ≡ p
-    → IsIdle n w
-idle_above n p c fit w high e =
-    subst (λ (z : ℕ). IsIdle n (waiter z w.ctx)) (sym e) (
-      fit.mirrors.frames w.ctx ∙ frame_in-above c.frames w.ctx fit.stacked (let x = fit.few in omega arith),
-      λ l. fit.mirrors.holds w.ctx l ∙ held_above n.kind c.holds w.ctx l fit.held high,
-    )
-
--- the nodes to come of the other processors are as before
-abbrev pub KeepsComing : World → World → ℕ → Type 0
-KeepsComing m n p = (q : ℕ) (d : Calls) → q ≢ p → SeatFits m q d
-    → n.node (node_name q (m.queued q)) ≡ m.node (node_name q (m.queued q))
-
--- and so are the counts that they have read
-abbrev pub KeepsCounts : World → World → ℕ → Type 0
-KeepsCounts m n p = (q : ℕ) (d : Calls) → q ≢ p → SeatFits m q d → IsCounted n d
+use Rattle.lk_domain.proofs.rows.Sights.{IsSeen, Sees, SeesWhom, SeesSame, same_course, unseen_cases}
+use Rattle.lk_domain.proofs.rows.Kept as rule
+use Rattle.lk_domain.proofs.rows.Kept.{acting_same, counted_after, unlooked, acting_halted, after_stacked, after_few, fewer, after_rests, KeepsComing, Halting, KeepsCounts, KeepsTold}
 
 module _ (k : Plan) {S : Type 0} (s : State S View) (st : Runs k s) (id : ℕ) (v : View)
     (me : get_elem? s.views id ≡ some v) (p : ℕ) (is : v.who.number ≡ Some p) where
@@ -137,85 +75,14 @@ module _ (k : Plan) {S : Type 0} (s : State S View) (st : Runs k s) (id : ℕ) (
   abbrev roll_of : ℕ
   roll_of = get_or s.words 0 0
 
-  -- The step of a seat that leaves who it is, and the other processors' frames and holds and the
-  -- nodes to come, as they are, keeps the rule.
-  pub keeps : (n : World) (hs : LockName → LockHistory) (u : View) (ws : List ℕ)
-      → IsSoundWorld n hs → IsOfPlan k n → IsStored k n ws → get_or ws 0 0 ≡ roll_of
-      → Elsewhere st.world n p → ((q : ℕ) → q ≢ p → n.queued q ≡ st.world.queued q)
-      → KeepsComing st.world n p → KeepsCounts st.world n p → u.who ≡ v.who → SeatFits n p u.calls
-      → (homes : List (Maybe S))
-      → Runs k {S = S} (record { words = ws; homes = homes; views = set s.views id u })
-  keeps n hs u ws sound of_plan stored roll others queued coming counts who fit homes =
-      let views = set s.views id u in
-      let number : u.who.number ≡ Some p = ap (λ (x : Who). x.number) who ∙ is in
-      record {
-        lawful = st.lawful;
-        world = n;
-        histories = hs;
-        sound = sound;
-        of_plan = of_plan;
-        stored = stored;
-        seats = λ j x q at is'. ⊎_elim
-            (λ t. let same : p ≡ q = number_is (sym number ∙ (ap (λ (y : View). y.who.number) t.1 ∙ is')) in
-            subst (λ (y : View). SeatFits n q y.calls) t.1
-            (subst (λ (y : ℕ). SeatFits n y u.calls) same fit))
-            (λ t.
-            let ne : q ≢ p = λ e. t.0 (apart s.views roll_of st.once id j v x p me t.1 is (is' ∙ ap Some e)) in
-            let old = st.seats j x q t.1 is' in
-            record {
-              mirrors = mirrors_else st.world n p q x.calls others ne old.mirrors;
-              stacked = old.stacked;
-              few = old.few;
-              rests = old.rests;
-              held = subst (λ (kind : ℕ → Kind). AreHeld kind x.calls.holds) (sym (of_plan.kind ∙ sym st.of_plan.kind)) old.held;
-              fresh = old.fresh;
-              reset = subst (λ (i : ℕ). IsReset x.calls.ready (n.node (node_name q i))) (sym (queued q ne))
-                  (subst (IsReset x.calls.ready) (sym (coming q x.calls ne old)) old.reset);
-              counted = counts q x.calls ne old;
-            })
-            (at_set s.views id j u x at);
-        once = λ q. total-same (λ y. Rattle.lk_domain.specs.Views.times q (numbers y)) s.views id v u me
-            (ap (λ (w : Who). Rattle.lk_domain.specs.Views.times q (Rattle.lk_domain.specs.Views.listed w.number ++ Rattle.std.proofs.Common.map Rattle.lk_domain.specs.Views.number_of w.ended)) (sym who))
-            ∙ (st.once q ∙ ap (Rattle.lk_domain.specs.Views.once_below q) (sym roll));
-        blank = λ q h. let h' : roll_of ≤ q = subst (λ (r : ℕ). r ≤ q) roll h in
-            mirrors_else st.world n p q no_calls others
-            (λ e. let z = drawn s.views roll_of st.once id v p me is in omega arith) (st.blank q h');
-        roll = subst (λ (r : ℕ). r ≤ cpus_of k) (sym roll) st.roll;
-        six = λ w high. elim (cases_eq w.cpu p) [
-          | inl e ↦ idle_above n p u.calls fit w high e
-          | inr ne ↦ ((others w ne).0 ∙ (st.six w high).0, λ l. (others w ne).1 l ∙ (st.six w high).1 l)
-        ];
-        planned = λ j x q at e. ⊎_elim
-            (λ a. ap (λ (z : View). z.who.plan) (sym a.1) ∙ (ap (λ (w : Who). w.plan) who ∙ st.planned id v p me is))
-            (λ a. st.planned j x q a.1 e) (at_set s.views id j u x at);
-        silent = λ j x at none. ⊎_elim
-            (λ a. absurd (some_none (sym number ∙ (ap (λ (z : View). z.who.number) a.1 ∙ none))))
-            (λ a. st.silent j x a.1 none) (at_set s.views id j u x at);
-        deals = λ j x q at is'. ⊎_elim
-            (λ a. let same : v.who ≡ x.who = sym who ∙ ap (λ (z : View). z.who) a.1 in
-            let d = st.deals id v q me (ap (λ (w : Who). w.dealt) same ∙ is') in
-            record { first = a.0 ∙ d.first; next = roll ∙ d.next; of_plan = ap (λ (w : Who). w.plan) (sym same) ∙ d.of_plan })
-            (λ a. let d = st.deals j x q a.1 is' in record { first = d.first; next = roll ∙ d.next; of_plan = d.of_plan })
-            (at_set s.views id j u x at);
-      }
-    where
-      number_is : {a b : ℕ} → Some a ≡ Some b → a ≡ b
-      number_is e = grind (arith, e)
-
-      some_none : {a : ℕ} → Some a ≡ None → ⊥
-      some_none e = cc
-
   module _ (verb : Verb) (l : LockName) (pc : Pc) (asks : Begins k v.calls verb l.index)
       (acts : StandsOn (acting k.mode v.calls verb l.index) verb l pc)
       (unseen : IsSeen pc (target pc acts.frame) (acting k.mode v.calls verb l.index).runs) where
     abbrev pub c : Calls
     c = acting k.mode v.calls verb l.index
 
-    pub awake : halts st.world.mode ≡ false
-    awake = ap halts st.of_plan.mode ∙ st.lawful.awake
-
     abbrev pub at : Poised st.world p c
-    at = poised k st.world st.histories st.sound awake st.of_plan.kind k.mode st.of_plan.mode p v.calls fits verb l.index asks
+    at = poised k st.world st.histories st.sound st.of_plan.kind st.of_plan.mode p v.calls fits verb l.index asks
 
     abbrev f : Frame
     f = acts.frame
@@ -236,8 +103,8 @@ module _ (k : Plan) {S : Type 0} (s : State S View) (st : Runs k s) (id : ℕ) (
     abbrev pub n : World
     n = (row_in m w f pc).0
 
-    abbrev pub trail : List Mark
-    trail = acts.trail ++ mark pc x (read_at pc (sight_of (terms_of k) p c.runs)) ∷ []
+    abbrev pub trail : Met → List Mark
+    trail y = acts.trail ++ mark pc y (read_at pc (sight_of (terms_of k) p c.runs)) ∷ []
 
     abbrev pub o : Course
     o = course_in m w f pc t
@@ -248,32 +115,48 @@ module _ (k : Plan) {S : Type 0} (s : State S View) (st : Runs k s) (id : ℕ) (
     same_mode : m.mode ≡ k.mode
     same_mode = at.acted.same.mode ∙ st.of_plan.mode
 
-    awake_here : halts m.mode ≡ false
-    awake_here = ap halts same_mode ∙ st.lawful.awake
+    -- no processor has more than six calls
+    shallow : (q : ℕ) → IsShallow m q
+    shallow q d ge =
+        elim (cases_eq q p) [
+          | inl e ↦ ap (λ (r : ℕ). m.frame (waiter r d)) e
+              ∙ (at.acted.mirrors.frames d
+              ∙ frame_in-above c.frames d at.stacked (let few = at.few in omega (arith, few, ge)))
+          | inr ne ↦ (at.acted.others (waiter q d) ne).0 ∙ (st.six (waiter q d) ge).0
+        ]
 
-    pub done : Went m n p (after verb f trail acts.rest c t o)
-    done =
-        went.goes m at.acted.histories at.acted.sound awake_here p c at.acted.mirrors at.stacked at.few
-        verb f acts.trail acts.rest acts.is pc acts.place trail
+    pub done : (y : Met) → Went m n p (after verb f (trail y) acts.rest c t o)
+    done y =
+        went.goes m at.acted.histories at.acted.sound p c at.acted.mirrors at.stacked at.few shallow
+        verb f acts.trail acts.rest acts.is pc acts.place (trail y)
 
     pub live : m.frame w ≡ Some f
     live =
-        went.live m at.acted.histories at.acted.sound awake_here p c at.acted.mirrors at.stacked at.few
+        went.live m at.acted.histories at.acted.sound p c at.acted.mirrors at.stacked at.few shallow
         verb f acts.trail acts.rest acts.is pc acts.place
 
     pub row_done : RowDone m n w f pc t o
     row_done =
-        went.done m at.acted.histories at.acted.sound awake_here p c at.acted.mirrors at.stacked at.few
+        went.done m at.acted.histories at.acted.sound p c at.acted.mirrors at.stacked at.few shallow
         verb f acts.trail acts.rest acts.is pc acts.place
 
     -- what the seat sees
-    abbrev pub z : Sight
+    abbrev pub z : Outlook
     z = sight_of (terms_of k) p c.runs
 
-    local_is : z.local ≡ (sight_in m w f).local
-    local_is =
-        let local : List ℕ → NodeName → Bool = λ ss n. same_socket ss p n.cpu in
-        ap local (sym (at.acted.same.sockets ∙ st.of_plan.sockets))
+    -- who is met is local for the seat, by the mark of the link, where it is local for the row
+    local_is : (mark : Bool) (n : NodeName) → mark ≡ is_inner (waiter_in m n).ctx
+        → z.local mark n ≡ (sight_in m w f).local n
+    local_is mark n true_ =
+        let format : m.format ≡ k.format = at.acted.same.format ∙ st.of_plan.format in
+        let sockets = at.acted.same.sockets ∙ st.of_plan.sockets in
+        ap (λ (b : Bool). b || same_socket k.topology.sockets.items p n.cpu)
+        (ap (stays_by k.format) true_ ∙ marks_stay k.format (waiter_in m n).ctx)
+        ∙ (λ i. is_local (sym format i) (sym sockets i) p (waiter_in m n))
+      where
+        marks_stay : (format : Format) (c : ℕ) → stays_by format (is_inner c) ≡ stays format c
+        marks_stay One c = refl
+        marks_stay Two c = refl
 
     -- the count that it has read is still there
     pub counted : (r : ℕ) → c.runs ≡ Some r → (m.node (node_of f.me)).runs ≡ r
@@ -283,44 +166,62 @@ module _ (k : Plan) {S : Type 0} (s : State S View) (st : Runs k s) (id : ℕ) (
         ∙ (fits.counted r (running verb f acts.trail) acts.rest
         (ap (λ (d : Calls). d.runs) (sym on) ∙ e) (ap (λ (d : Calls). d.frames) (sym on) ∙ acts.is)).is
 
-    counting : (o : Option ℕ) → c.runs ≡ o → is_some o ≡ true → z ≡ sight_in m w f
+    counting : (o : Option ℕ) → c.runs ≡ o → is_some o ≡ true
+        → (z.runs ≡ (sight_in m w f).runs) × (z.threshold ≡ (sight_in m w f).threshold)
     counting None e h = cc h
     counting (Some r) e h =
         let runs : z.runs ≡ (sight_in m w f).runs = ap count_of e ∙ sym (counted r e) in
         let threshold : z.threshold ≡ (sight_in m w f).threshold = sym (at.acted.same.threshold ∙ st.of_plan.threshold) in
-        (λ i. record { runs = runs i; threshold = threshold i; local = local_is i })
+        (runs, threshold)
 
-    sees_same : (d : Pc) → Sees d c.runs → SeesSame d z (sight_in m w f)
-    sees_same C1 h = counting c.runs refl h
-    sees_same C2 h = local_is
-    sees_same _ h = tt
+    -- what a look along the links meets
+    along_met : (d : Pc) → looks_along d ≡ true → met_in m w f (target d f) ≡ Named (m.node (node_of (choice_node d f))).next
+    along_met C1 h = refl
+    along_met C2 h = refl
+    along_met _ h = cc h
+
+    sees_whom : (y : Met) → plain y ≡ x → IsTrue m pc y → looks_along pc ≡ true → SeesWhom (sight_by z y) (sight_in m w f) x
+    sees_whom y meets true_ along = subst (SeesWhom (sight_by z y) (sight_in m w f)) meets (by (plain y) refl)
+      where
+        name_is : {o o' : Option NodeName} → Named o ≡ Named o' → o ≡ o'
+        name_is e = cc e
+
+        by : (u : Met) → plain y ≡ u → SeesWhom (sight_by z y) (sight_in m w f) u
+        by (Named (Some n)) e =
+            let named : (m.node (node_of (choice_node pc f))).next ≡ Some n = name_is (sym (along_met pc along) ∙ (sym meets ∙ e)) in
+            let user = behind_is_used m _ w f pc n at.acted.sound.spins live acts.place along named in
+            local_is (mark_of y) n ((true_ along n e).1 user.0 user.1
+            ∙ ap (λ (u : Waiter). is_inner u.ctx) (sym (user_found at.acted.sound.spins shallow user.0 n user.1)))
+        by _ e = tt
+
+    sees_same : (y : Met) (d : Pc) → (looks_along d ≡ true → SeesWhom (sight_by z y) (sight_in m w f) x) → Sees d c.runs
+        → SeesSame d (sight_by z y) (sight_in m w f) x
+    sees_same y C1 whom h = let s = counting c.runs refl h in (s.0, s.1, whom refl)
+    sees_same y C2 whom h = whom refl
+    sees_same y _ whom h = tt
 
     -- the row's course, as the seat computes it
-    pub course_is : course k.mode p z pc f x ≡ o
-    course_is =
-        same_course (setting k.mode p z) (setting_in m w f) pc f t x unseen.0 (sym same_mode)
-        (sym (at.acted.same.turns ∙ st.of_plan.turns)) refl (sees_same pc unseen.1)
+    pub course_is : (y : Met) → plain y ≡ x → IsTrue m pc y → course k.mode p z pc f y ≡ o
+    course_is y meets true_ =
+        ap (course_at (setting k.mode p (sight_by z y)) pc f t) meets
+        ∙ same_course (setting k.mode p (sight_by z y)) (setting_in m w f) pc f t x unseen.0 (sym same_mode)
+        (sym (at.acted.same.turns ∙ st.of_plan.turns)) refl (sees_same y pc (sees_whom y meets true_) unseen.1)
 
     -- these are the calls after the row
-    pub rowed : row_of (terms_of k) p c x ≡ after verb f trail acts.rest c t o
-    rowed =
-        ap (λ (xs : List Running). row_on k.mode p z xs c x) acts.is
-        ∙ (ap (λ q. row_at k.mode p z (running verb f acts.trail) acts.rest c x q) acts.place
-        ∙ ap (after verb f trail acts.rest c t) course_is)
+    pub rowed : (y : Met) → plain y ≡ x → IsTrue m pc y → row_of (terms_of k) p c y ≡ after verb f (trail y) acts.rest c t o
+    rowed y meets true_ =
+        ap (λ (xs : List Running). row_on k.mode p z xs c y) acts.is
+        ∙ (ap (λ q. row_at k.mode p z (running verb f acts.trail) acts.rest c y q) acts.place
+        ∙ ap (after verb f (trail y) acts.rest c t) (course_is y meets true_))
 
     -- the frame fits its lock
     pub fitting : RwFits m.kind f
     fitting = at.acted.sound.fits w f live
 
-    pub awake_row : may_halt pc ≡ false
-    awake_row =
-        not-true (may_halt pc)
-        (λ h. let on = (at.acted.sound.spins.registers w f live).choice.halting pc acts.place h in grind (arith, awake_here, on))
-
     calm : releases (led f o.leads) ≡ false
     calm = elim (cases_Bool (is_rw_row pc)) [
       | inl e ↦ shared_calm m w f pc fitting acts.place e
-      | inr e ↦ ap (λ b. b && not ((led f o.leads).lock.wait && not (is_leaving (led f o.leads).place))) (row_is_calm m w f pc (record { awake = awake_row; spin = e }) fitting.after)
+      | inr e ↦ ap (λ b. b && not ((led f o.leads).lock.wait && not (is_leaving (led f o.leads).place))) (begins_none m w f pc fitting.after e)
     ]
 
     kinds : IsOwn t ⊎ (is_rw_row pc ≡ true)
@@ -345,61 +246,191 @@ module _ (k : Plan) {S : Type 0} (s : State S View) (st : Runs k s) (id : ℕ) (
 
     -- a row that takes the lock finds that its processor does not hold it
     pub unheld_before : (y : Manner) → grip_of t o ≡ Takes y → holds_in c.holds (held_lock t f).index ≡ false
-    unheld_before y e = (waited (takes_seeks m w f pc y awake_row e)).0
+    unheld_before y e = (waited (takes_seeks m w f pc y e)).0
 
-    fresh_now : AreFresh (frames_after verb (led f o.leads) trail acts.rest (led f o.leads).place)
+    fresh_now : (y : Met) → AreFresh (frames_after verb (led f o.leads) (trail y) acts.rest (led f o.leads).place)
         (holds_after (grip_of t o) f.ctx (held_lock t f) (c.taken + 1) c.holds)
-    fresh_now =
-        after_fresh verb (led f o.leads) trail acts.rest (led f o.leads).place (grip_of t o) f.ctx (held_lock t f) (c.taken + 1)
-        c.holds (is_seeking (Some pc)) refl (led_index f o.leads ∙ sym held_index) waited (release_ends m w f pc awake_row)
-        (λ y e. takes_seeks m w f pc y awake_row e) (taken_over m w f pc fitting acts.place kinds) fresh_all.1
+    fresh_now y =
+        after_fresh verb (led f o.leads) (trail y) acts.rest (led f o.leads).place (grip_of t o) f.ctx (held_lock t f) (c.taken + 1)
+        c.holds (is_seeking (Some pc)) refl (led_index f o.leads ∙ sym held_index) waited (release_ends m w f pc)
+        (λ y e. takes_seeks m w f pc y e) (taken_over m w f pc fitting acts.place kinds) fresh_all.1
+
+    -- who uses a node where the call has begun used it before
+    pub acted_frame : (u : Waiter) (b : NodeName) → (uses : Uses m u b) → st.world.frame u ≡ Some uses.0
+    acted_frame u b uses =
+        elim (cases_eq u.cpu p) [
+          | inl e ↦
+              let here : m.frame (waiter p u.ctx) ≡ Some uses.0 = subst (λ (q : ℕ). m.frame (waiter q u.ctx) ≡ Some uses.0) e uses.1 in
+              subst (λ (q : ℕ). st.world.frame (waiter q u.ctx) ≡ Some uses.0) (sym e)
+              (fits.mirrors.frames u.ctx
+              ∙ acting_frame k.mode v.calls verb l.index u.ctx uses.0 b (sym (at.acted.mirrors.frames u.ctx) ∙ here) uses.2)
+          | inr ne ↦ sym (at.acted.others u ne).0 ∙ uses.1
+        ]
+
+    abbrev pub was_used : (u : Waiter) (b : NodeName) → Uses m u b → Uses st.world u b
+    was_used u b uses = (uses.0, acted_frame u b uses, uses.2)
+
+    -- so the marks are right there, and what fronts were told is true
+    pub marked_here : AreRight m st.marks
+    marked_here =
+        record {
+          says = λ awake a b u e uses next there.
+              (rule.right k s st id v me p is).says (ap halts (sym at.acted.same.mode) ∙ awake) a b u e (was_used u a uses)
+              (ap (λ (g : NodeName → Node). (g a).next) (sym at.acted.same.node) ∙ next) (was_used e b there);
+          bare = λ on. (rule.right k s st id v me p is).bare (ap halts (sym at.acted.same.mode) ∙ on);
+        }
+
+    pub told_here : AreTold m c.frames
+    told_here d g e a b u at_d place on first knows uses =
+        let y = acting_told k.mode v.calls verb l.index d g a b at_d knows in
+        fits.told d g e a b u y.0 place on first y.1 (was_used u a uses)
+
+    -- the frame keeps its node, or leaves it, or has got one that nobody used
+    abbrev pub IsMine : Type 0
+    IsMine = (b : NodeName) → is_node (led f o.leads).me b ≡ true
+        → (is_node f.me b ≡ true) ⊎ (IsFree m b × ((n.node b).next ≡ None))
+
+    -- the calls below that of the row
+    rest_live : (d : ℕ) (g : Frame) → frame_in acts.rest d ≡ Some g → m.frame (waiter p d) ≡ Some g
+    rest_live d g e =
+        at.acted.mirrors.frames d ∙ (ap (λ (xs : List Running). frame_in xs d) acts.is
+        ∙ (below_it (running verb f acts.trail) acts.rest d g stands e).0)
+
+    rest_told : AreTold m acts.rest
+    rest_told d g e a b u at_d place on first knows uses =
+        let y = below_it (running verb f acts.trail) acts.rest d g stands at_d in
+        told_here d g e a b u (ap (λ (xs : List Running). frame_in xs d) acts.is ∙ y.0) place on first
+        (ap (λ (xs : List Running). told_in xs d) acts.is ∙ (y.1 ∙ knows)) uses
+
+    -- and its own
+    own_told : (e : Pc) (a : NodeName) (b : Bool) (u : Waiter) → f.place ≡ Some e
+        → Rattle.lk_law.specs.Nodes.will_link e f.why ≡ true → f.a ≡ Some a
+        → told acts.trail ≡ Some (a, b) → Uses m u a → b ≡ Rattle.lk_domain.specs.Calls.is_inner u.ctx
+    own_told e a b u place on first knows uses =
+        told_here f.ctx f e a b u
+        (ap (λ (xs : List Running). frame_in xs f.ctx) acts.is ∙ frame_in-top (running verb f acts.trail) acts.rest)
+        place on first
+        (ap (λ (xs : List Running). told_in xs f.ctx) acts.is
+        ∙ (if-true (eqb f.ctx f.ctx) (told acts.trail) (told_in acts.rest f.ctx) (eq-eqb f.ctx f.ctx refl) ∙ knows)) uses
+
+    grows : (y : Met) → IsMine → Grows m (done y).world
+    grows y mine u b uses =
+        elim (cases_eq u.cpu p) [
+          | inl e ↦ own e
+          | inr ne ↦ inl (uses.0, sym ((done y).others u ne).0 ∙ uses.1, uses.2)
+        ]
+      where
+        at_p : u.cpu ≡ p → frame_in (frames_after verb (led f o.leads) (trail y) acts.rest (led f o.leads).place) u.ctx ≡ Some uses.0
+        at_p e =
+            sym ((done y).mirrors.frames u.ctx)
+            ∙ subst (λ (q : ℕ). (done y).world.frame (waiter q u.ctx) ≡ Some uses.0) e uses.1
+
+        own : u.cpu ≡ p
+            → Uses m u b ⊎ (IsFree m b × (((done y).world.node b).next ≡ None))
+        own e =
+            elim (after_cases verb (led f o.leads) (trail y) acts.rest (led f o.leads).place u.ctx uses.0 (at_p e)) [
+              | inl j ↦ elim (mine b (ap (λ (g : Frame). is_node g.me b) (sym j.1) ∙ uses.2)) [
+                | inl keeps' ↦
+                    let ctx : u.ctx ≡ f.ctx = j.0 ∙ led_ctx f o.leads in
+                    let here : m.frame u ≡ Some f = (λ i. m.frame (waiter (e i) (ctx i))) ∙ live in
+                    inl (f, here, keeps')
+                | inr free ↦ inr (free.0, ap (λ (g : NodeName → Node). (g b).next) (done y).node ∙ free.1)
+              ]
+              | inr j ↦
+                  let here : m.frame u ≡ Some uses.0 = (λ i. m.frame (waiter (e i) u.ctx)) ∙ rest_live u.ctx uses.0 j.0 in
+                  inl (uses.0, here, uses.2)
+            ]
+
+    told_now : (y : Met) → IsTrue m pc y → IsMine
+        → AreTold (done y).world (frames_after verb (led f o.leads) (trail y) acts.rest (led f o.leads).place)
+    told_now y true_ mine d g e a b u at_d place on first knows uses =
+        let world = (done y).world in
+        elim (after_cases verb (led f o.leads) (trail y) acts.rest (led f o.leads).place d g at_d) [
+          | inl j ↦
+              newest_told m world _ at.acted.sound.spins (grows y mine) w f live acts.trail y
+              (read_at pc (sight_of (terms_of k) p c.runs)) own_told pc acts.place true_ e a b u
+              (ap (λ (h : Frame). h.place) (sym j.1) ∙ place)
+              (ap (λ (h : Frame). Rattle.lk_law.specs.Nodes.will_link e h.why) (sym j.1) ∙ on)
+              (ap (λ (h : Frame). h.a) (sym j.1) ∙ first) (sym j.2 ∙ knows) uses
+          | inr j ↦
+              told_after m world _ at.acted.sound.spins (grows y mine) p acts.rest rest_live rest_told d g e a b u j.0 place on first
+              (sym j.1 ∙ knows) uses
+        ]
+
+    told_others : (y : Met) → IsMine → KeepsTold st.world (done y).world p
+    told_others y mine q e ne fit =
+        told_after m (done y).world _ at.acted.sound.spins (grows y mine) q e.frames
+        (λ j g at_j. (at.acted.others (waiter q j) ne).0 ∙ (fit.mirrors.frames j ∙ at_j))
+        (λ j g i a b u at_j place on first knows uses. fit.told j g i a b u at_j place on first knows (was_used u a uses))
 
     -- the step of the call keeps the rule, where the words are those of the world after the row
-    pub lands : (u : View) → u.who ≡ v.who → u.calls ≡ row_of (terms_of k) p c x → (ws : List ℕ)
-        → IsStored k n ws → get_or ws 0 0 ≡ roll_of → KeepsComing st.world n p → KeepsCounts st.world n p
-        → (homes : List (Maybe S))
+    pub lands : (y : Met) → plain y ≡ x → IsTrue m pc y → IsMine → (marks : NodeName → Bool) → KeepsMarks m n marks
+        → (u : View) → u.who ≡ v.who → u.calls ≡ row_of (terms_of k) p c y → (ws : List ℕ)
+        → IsStored k n marks ws → get_or ws 0 0 ≡ roll_of → KeepsComing st.world n p → KeepsCounts st.world n p
+        → Halting k s st.world n ws id p → (homes : List (Maybe S))
         → Runs k {S = S} (record { words = ws; homes = homes; views = set s.views id u })
-    lands u who calls ws stored roll coming counts homes =
-        let d = done in
+    lands y meets true_ mine marks links u who calls ws stored roll coming counts beside homes =
+        let d = done y in
         let r = row_done in
-        let is_after : u.calls ≡ after verb f trail acts.rest c t o = calls ∙ rowed in
+        let is_after : u.calls ≡ after verb f (trail y) acts.rest c t o = calls ∙ rowed y meets true_ in
         let low : length acts.rest < 6 =
         let y : length c.frames ≡ suc (length acts.rest) = ap (λ (xs : List Running). length xs) acts.is in
         let z = at.few in omega arith in
         let below : Rests acts.rest = subst RestsBelow acts.is at.below in
         let same = at.acted.same in
-        keeps d.world d.histories u ws d.sound
+        rule.keeps k s st id v me p is d.world d.histories marks u ws d.sound
         (record {
           mode = d.mode ∙ (r.mode ∙ same_mode);
           turns = d.turns ∙ (r.turns ∙ (same.turns ∙ st.of_plan.turns));
           threshold = d.threshold ∙ (r.threshold ∙ (same.threshold ∙ st.of_plan.threshold));
+          format = d.format ∙ (r.format ∙ (same.format ∙ st.of_plan.format));
           sockets = d.sockets ∙ (r.sockets ∙ (same.sockets ∙ st.of_plan.sockets));
           kind = d.kind ∙ (r.kind ∙ (same.kind ∙ st.of_plan.kind));
         })
         (record {
           long = stored.long;
           locks = locks_same k n d.world ws stored.locks (record { word = d.word; rw = d.rw; kind = d.kind });
-          nodes = λ y q a b h. stored.nodes y q a b h ∙ ap (λ (g : NodeName → Node). node_number q (g y)) (sym d.node);
-        }) roll
+          nodes = λ e q a b h. stored.nodes e q a b h ∙ ap (λ (g : NodeName → Node). stored_number (marks e) q (node_number q (g e))) (sym d.node);
+        })
+        (marked_after m d.world marks (d.mode ∙ r.mode) (grows y mine) (record {
+          used = λ awake a b e uses next free. links.used awake a b e uses (ap (λ (g : NodeName → Node). (g a).next) (sym d.node) ∙ next) free;
+          says = λ awake a b e i uses next there. links.says awake a b e i uses (ap (λ (g : NodeName → Node). (g a).next) (sym d.node) ∙ next) there;
+          bare = links.bare;
+        })) roll
         (λ y ne. ((d.others y ne).0 ∙ (at.acted.others y ne).0, λ j. (d.others y ne).1 j ∙ (at.acted.others y ne).1 j))
         (λ q ne. ap (λ (g : ℕ → ℕ). g q) d.queued ∙ (r.queued q ne ∙ ap (λ (g : ℕ → ℕ). g q) same.queued))
         (λ q e ne fit. ap (λ (g : NodeName → Node). g (node_name q (st.world.queued q))) d.node ∙ coming q e ne fit)
         (λ q e ne fit. counted_after n d.world e (sym d.node) (counts q e ne fit))
+        (told_others y mine)
         who
-        (subst (λ (y : Calls). SeatFits d.world p y) (sym is_after) (record {
+        (subst (λ (e : Calls). SeatFits d.world p e) (sym is_after) (record {
           mirrors = d.mirrors;
-          stacked = after_stacked verb (led f o.leads) trail acts.rest (led f o.leads).place (led_ctx f o.leads ∙ stands.0) stands.1;
-          few = after_few verb (led f o.leads) trail acts.rest (led f o.leads).place low;
-          rests = after_rests verb (led f o.leads) trail acts.rest (led f o.leads).place calm below;
+          stacked = after_stacked verb (led f o.leads) (trail y) acts.rest (led f o.leads).place (led_ctx f o.leads ∙ stands.0) stands.1;
+          few = after_few verb (led f o.leads) (trail y) acts.rest (led f o.leads).place low;
+          rests = after_rests verb (led f o.leads) (trail y) acts.rest (led f o.leads).place calm below;
           held = subst (λ (kind : ℕ → Kind). AreHeld kind (holds_after (grip_of t o) f.ctx (held_lock t f) (c.taken + 1) c.holds))
               (sym (d.kind ∙ (r.kind ∙ same.kind)))
               (after_held st.world.kind (grip_of t o) f.ctx (held_lock t f) (c.taken + 1) c.holds (let z = stands.0 in omega arith)
               (λ y e. (subst (λ (kind : ℕ → Kind). Suits kind (held_lock t f) y) same.kind (taken_suits m w f pc fitting acts.place kinds y e), λ _. unheld_before y e))
               at.held);
-          fresh = fresh_now;
+          fresh = fresh_now y;
           reset = none_reset _;
           counted = λ j y rs e. absurd (none_some e);
-        })) homes
+          told = told_now y true_ mine;
+          single = λ on. fewer verb (led f o.leads) (trail y) acts.rest (led f o.leads).place
+              (let y : length c.frames ≡ suc (length acts.rest) = ap (λ (xs : List Running). length xs) acts.is in
+              let z = at.single (ap halts (sym (d.mode ∙ (r.mode ∙ same.mode))) ∙ on) in omega arith);
+          halted = ap (λ (g : ℕ → Bool). g p) d.halted ∙ (ap (λ (g : ℕ → Bool). g p) r.halted
+              ∙ halted_row m w f pc c.halted (ap (λ (g : ℕ → Bool). g p) same.halted ∙ (fits.halted ∙ acting_halted k.mode v.calls verb l.index)));
+        })) (record {
+          words = λ on. let b = beside.words on in record {
+            states = λ y a i. b.states y a i ∙ ap (λ (g : NodeName → Node). state_number (g y).state) (sym d.node);
+            kicks = λ q lt. b.kicks q lt ∙ ap (λ (g : ℕ → Bool). mark_number (g q)) (sym d.kicked);
+            hash = hash_same k n d.world ws d.entry b.hash;
+          };
+          halted = λ q ne. ap (λ (g : ℕ → Bool). g q) d.halted ∙ beside.halted q ne;
+          seeks = beside.seeks;
+        }) (subst (Seeks k ws) (sym is_after) (λ y rs e h. unlooked k ws y.frame.lock.index)) homes
       where
         none_some : {a : ℕ} → None ≡ Some a → ⊥
         none_some e = cc e

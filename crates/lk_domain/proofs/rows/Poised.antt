@@ -38,6 +38,7 @@ pub record Poised (m : World) (p : ℕ) (c : Calls) : Type 0 where
   pub below : RestsBelow c.frames
   pub held : AreHeld m.kind c.holds
   pub fresh : AreFresh c.frames c.holds
+  pub single : halts m.mode ≡ true → length c.frames ≤ 1
 
 rests_below : (rs : List Running) → Rests rs → RestsBelow rs
 rests_below [] h = tt
@@ -51,25 +52,25 @@ begun_held kind WUnlock d l hs low h = moved_held kind d (lock_name l) hs low h
 begun_held kind _ d l hs low h = h
 
 -- a call that begins waits for a lock that its processor does not hold
-begun_fresh : (mode : Mode) (c : Calls) (v : Verb) (l : ℕ) → halts mode ≡ false → MayBegin c v l
+begun_fresh : (mode : Mode) (c : Calls) (v : Verb) (l : ℕ) → MayBegin c v l
     → AreFresh c.frames c.holds
     → AreFresh (running v (begun mode (length c.frames) v l) [] ∷ c.frames) (holds_begun v (length c.frames) l c.holds)
-begun_fresh mode c v l awake may are = by v may
+begun_fresh mode c v l may are = by v may
   where
     moved : AreFresh c.frames (moved_to (length c.frames) (lock_name l) c.holds)
     moved =
         fresh_kept c.frames c.holds (moved_to (length c.frames) (lock_name l) c.holds)
         (λ x w h. moved_names (length c.frames) (lock_name l) c.holds x ∙ h) are
 
-    released : (mode : Mode) → halts mode ≡ false → is_seeking (Some (first_place mode Unlock)) ≡ true → ⊥
-    released Virt a h = cc h
-    released Native a h = cc h
-    released Cna a h = cc h
-    released Pv a h = cc a
+    released : (mode : Mode) → is_seeking (Some (first_place mode Unlock)) ≡ true → ⊥
+    released Virt h = cc h
+    released Native h = cc h
+    released Cna h = cc h
+    released Pv h = cc h
 
     by : (v : Verb) → MayBegin c v l
         → AreFresh (running v (begun mode (length c.frames) v l) [] ∷ c.frames) (holds_begun v (length c.frames) l c.holds)
-    by Unlock may = (λ h. absurd (released mode awake h), moved)
+    by Unlock may = (λ h. absurd (released mode h), moved)
     by RUnlock may = (λ h. absurd (let z : false ≡ true = h in cc z), moved)
     by WUnlock may = (λ h. absurd (let z : false ≡ true = h in cc z), moved)
     by Lock may = (λ _. may, are)
@@ -79,18 +80,18 @@ begun_fresh mode c v l awake may are = by v may
     by Write may = (λ _. may, are)
     by TryWrite may = (λ _. may, are)
 
-pub poised : (k : Plan) (m : World) (hs : LockName → LockHistory) → IsSoundWorld m hs → halts m.mode ≡ false
-    → m.kind ≡ kind_at k → (mode : Mode) → m.mode ≡ mode → (p : ℕ) (c : Calls)
-    → SeatFits m p c → (v : Verb) (l : ℕ) → Begins k c v l → Poised m p (acting mode c v l)
-poised k m hs ok awake kinds mode is p c fits v l asks =
-    if_cases (λ (x : Calls). Poised m p x) (is_on c.frames v l) c (begin mode c v l)
+pub poised : (k : Plan) (m : World) (hs : LockName → LockHistory) → IsSoundWorld m hs
+    → m.kind ≡ kind_at k → m.mode ≡ k.mode → (p : ℕ) (c : Calls)
+    → SeatFits m p c → (v : Verb) (l : ℕ) → Begins k c v l → Poised m p (acting k.mode c v l)
+poised k m hs ok kinds is p c fits v l asks =
+    if_cases (λ (x : Calls). Poised m p x) (is_on c.frames v l) c (begin k.mode c v l)
     (λ _. record {
       acted = record {
         world = m;
         histories = hs;
         sound = ok;
         mirrors = fits.mirrors;
-        same = record { mode = refl; turns = refl; threshold = refl; sockets = refl; kind = refl; word = refl; rw = refl; node = refl; queued = refl };
+        same = record { mode = refl; turns = refl; threshold = refl; format = refl; sockets = refl; kind = refl; word = refl; rw = refl; node = refl; queued = refl; entry = refl; halted = refl; kicked = refl };
         others = λ u ne. (refl, λ j. refl);
       };
       stacked = fits.stacked;
@@ -98,13 +99,15 @@ poised k m hs ok awake kinds mode is p c fits v l asks =
       below = rests_below c.frames fits.rests;
       held = fits.held;
       fresh = fits.fresh;
+      single = fits.single;
     })
     (λ off. let a = asks off in record {
       acted = subst (λ (x : Mode). Acted m p (begin x c v l)) is
-          (begins m hs ok awake p c fits.mirrors fits.stacked fits.held fits.rests v l a.1 (ap (λ (g : ℕ → Kind). g l) kinds ∙ a.2));
+          (begins m hs ok p c (λ on. a.3 (ap halts (sym is) ∙ on)) fits.mirrors fits.stacked fits.held fits.rests v l a.1 (ap (λ (g : ℕ → Kind). g l) kinds ∙ a.2));
       stacked = (refl, fits.stacked);
       few = let x = a.0 in omega arith;
       below = fits.rests;
       held = begun_held m.kind v (length c.frames) l c.holds a.0 fits.held;
-      fresh = begun_fresh mode c v l (ap halts (sym is) ∙ awake) a.1 fits.fresh;
+      fresh = begun_fresh k.mode c v l a.1 fits.fresh;
+      single = λ on. let e = ap (λ (xs : List Running). length xs) (a.3 (ap halts (sym is) ∙ on)) in omega (arith, e);
     })

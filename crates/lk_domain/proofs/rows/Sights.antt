@@ -1,7 +1,7 @@
 -- A seat that sees enough knows where its row leads.
 use Rattle.std.proofs.Common.{◌≡◌, ◌≢◌, ◌⊎◌, inl, inr, ℕ}
-use Rattle.std.proofs.Common.{Option, Some, None, Bool, true, false, refl}
-use Rattle.std.proofs.Common.{ap, arith}
+use Rattle.std.proofs.Common.{Option, Some, None, true, false, refl}
+use Rattle.std.proofs.Common.{arith}
 use Rattle.std.proofs.lemmas.Bool.{cases_Bool}
 use Rattle.std.specs.Prelude.{is_some}
 use Rattle.lk_word.specs.declared.spin_word.NodeName.{NodeName}
@@ -11,28 +11,19 @@ use Rattle.lk_machine.specs.declared.parts.Pc.TheVariants.{C1, C2, C4, C5, C7, C
 use Rattle.lk_machine.specs.rows.Spin.{spin_row}
 use Rattle.lk_machine.specs.rows.Queue.{queue_row, entry_row, next_row}
 use Rattle.lk_machine.specs.rows.Rw.{rw_row}
-use Rattle.lk_machine.specs.rows.Cna.{Sight, search_row, runs_row, after_more}
+use Rattle.lk_machine.specs.rows.Cna.{Sight, search_row, runs_row, after_first, after_more}
 use Rattle.lk_machine.specs.TopRow.{Target, SpinWord, QueueWord, Queued, FlagOf, NextOf, RwWord}
 use Rattle.lk_machine.specs.TopRow.{ChoiceWord, ChoiceFlag, ChoiceNext, SecondTailOf, RunsOf, target}
+use Rattle.lk_machine.specs.TopRow.{PvWord, PvFlag, PvNext, StateOf, HashEntry, Halted, KickOf}
+use Rattle.lk_machine.specs.rows.Pv.{pv_row, state_row}
 use Rattle.lk_law.specs.Families.{is_rw_row}
-use Rattle.lk_law.specs.Leads.{Met, Word, Shared, Number, Flagged, Named, Setting, course_of}
+use Rattle.lk_law.specs.Leads.{Met, Word, Shared, Number, Flagged, Named, Stated, Marked, Setting, course_of}
 use Rattle.lk_law.specs.Leads.{course_at}
 use Rattle.lk_domain.proofs.rows.Grips.{IsOwn}
 
--- the target is that of a row of a spinlock, or of a choice of the next
+-- every target is one whose course a seat can compute
 abbrev pub IsUnseen : Pc → Target → Type 0
-IsUnseen c SpinWord = Unit {0}
-IsUnseen c QueueWord = Unit {0}
-IsUnseen c Queued = Unit {0}
-IsUnseen c (FlagOf n) = Unit {0}
-IsUnseen c (NextOf n) = Unit {0}
-IsUnseen c ChoiceWord = Unit {0}
-IsUnseen c (ChoiceFlag n) = Unit {0}
-IsUnseen c (ChoiceNext n) = Unit {0}
-IsUnseen c (SecondTailOf n) = Unit {0}
-IsUnseen c (RunsOf n) = Unit {0}
-IsUnseen c RwWord = Unit {0}
-IsUnseen c _ = ⊥
+IsUnseen c t = Unit {0}
 
 -- it is one of a spinlock or a wait lock, or of a reader or a writer
 pub unseen_cases : (c : Pc) (f : Frame) → IsUnseen c (target c f)
@@ -43,18 +34,8 @@ unseen_cases c f h = elim (cases_Bool (is_rw_row c)) [ inl e ↦ inr e | inr e �
     own c f e h = plain (target c f) h (rw_apart c f e)
       where
         plain : (t : Target) → IsUnseen c t → t ≢ RwWord → IsOwn t
-        plain SpinWord h ne = tt
-        plain QueueWord h ne = tt
-        plain Queued h ne = tt
-        plain (FlagOf n) h ne = tt
-        plain (NextOf n) h ne = tt
-        plain ChoiceWord h ne = tt
-        plain (ChoiceFlag n) h ne = tt
-        plain (ChoiceNext n) h ne = tt
-        plain (SecondTailOf n) h ne = tt
-        plain (RunsOf n) h ne = tt
         plain RwWord h ne = absurd (ne refl)
-        plain _ h ne = absurd h
+        plain _ h ne = tt
 
         rw_apart : (c : Pc) (f : Frame) → is_rw_row c ≡ false → target c f ≢ RwWord
         rw_apart c f h e = grind (arith, h, e)
@@ -68,21 +49,32 @@ Sees c r = Unit {0}
 abbrev pub IsSeen : Pc → Target → Option ℕ → Type 0
 IsSeen c t r = IsUnseen c t × Sees c r
 
--- The course needs of the setting the family, the turns and the processor; and where a front looks
--- along the links, what it sees.
-abbrev pub SeesSame : Pc → Sight → Sight → Type 0
-SeesSame C1 s s' = s ≡ s'
-SeesSame C2 s s' = s.local ≡ s'.local
-SeesSame c s s' = Unit {0}
+-- who is met is local for both, or for neither
+abbrev pub SeesWhom : Sight → Sight → Met → Type 0
+SeesWhom s s' (Named (Some n)) = s.local n ≡ s'.local n
+SeesWhom s s' x = Unit {0}
 
-search_more : (s s' : Sight) (f : Frame) (x : Option NodeName) → s.local ≡ s'.local
+-- The course needs of the setting the family, the turns and the processor; and where a front looks
+-- along the links, what it sees: of the nodes, whether the one that it meets is local.
+abbrev pub SeesSame : Pc → Sight → Sight → Met → Type 0
+SeesSame C1 s s' x = (s.runs ≡ s'.runs) × (s.threshold ≡ s'.threshold) × SeesWhom s s' x
+SeesSame C2 s s' x = SeesWhom s s' x
+SeesSame c s s' x = Unit {0}
+
+search_front : (s s' : Sight) (f : Frame) (x : Option NodeName) → SeesSame C1 s s' (Named x)
+    → course_of (search_row s C1 f x) ≡ course_of (search_row s' C1 f x)
+search_front s s' f None h = refl
+search_front s s' f (Some n) h =
+    (λ i. course_of (after_first (record { runs = h.0 i; threshold = h.1 i; local = λ m. h.2 i }) f.second n))
+
+search_more : (s s' : Sight) (f : Frame) (x : Option NodeName) → SeesSame C2 s s' (Named x)
     → course_of (search_row s C2 f x) ≡ course_of (search_row s' C2 f x)
 search_more s s' f None h = refl
-search_more s s' f (Some n) h = ap (λ (g : NodeName → Bool). course_of (after_more (record s { local = g }) f n)) h
+search_more s s' f (Some n) h = (λ i. course_of (after_more (record s { local = λ m. h i }) f n))
 
-search_course : (s s' : Sight) (c : Pc) (f : Frame) (x : Option NodeName) → SeesSame c s s'
+search_course : (s s' : Sight) (c : Pc) (f : Frame) (x : Option NodeName) → SeesSame c s s' (Named x)
     → course_of (search_row s c f x) ≡ course_of (search_row s' c f x)
-search_course s s' C1 f x h = ap (λ (z : Sight). course_of (search_row z C1 f x)) h
+search_course s s' C1 f x h = search_front s s' f x h
 search_course s s' C2 f x h = search_more s s' f x h
 search_course s s' C4 f x h = refl
 search_course s s' C5 f x h = refl
@@ -95,7 +87,7 @@ runs_course s s' C7 f x = refl
 runs_course s s' _ f x = refl
 
 pub same_course : (s s' : Setting) (c : Pc) (f : Frame) (t : Target) (x : Met) → IsUnseen c t
-    → s.mode ≡ s'.mode → s.turns ≡ s'.turns → s.cpu ≡ s'.cpu → SeesSame c s.sight s'.sight
+    → s.mode ≡ s'.mode → s.turns ≡ s'.turns → s.cpu ≡ s'.cpu → SeesSame c s.sight s'.sight x
     → course_at s c f t x ≡ course_at s' c f t x
 same_course s s' c f SpinWord (Word x) h mode turns cpu sees = (λ i. course_of (spin_row (mode i) c f x))
 same_course s s' c f SpinWord _ h mode turns cpu sees = refl
@@ -119,4 +111,17 @@ same_course s s' c f (SecondTailOf n) (Named x) h mode turns cpu sees = refl
 same_course s s' c f (SecondTailOf n) _ h mode turns cpu sees = refl
 same_course s s' c f (RunsOf n) (Number x) h mode turns cpu sees = runs_course s.sight s'.sight c f x
 same_course s s' c f (RunsOf n) _ h mode turns cpu sees = refl
-same_course s s' c f _ x h mode turns cpu sees = absurd h
+same_course s s' c f PvWord (Word x) h mode turns cpu sees = (λ i. course_of (pv_row (turns i) c f x))
+same_course s s' c f PvWord _ h mode turns cpu sees = refl
+same_course s s' c f (PvFlag n) (Flagged x) h mode turns cpu sees = refl
+same_course s s' c f (PvFlag n) _ h mode turns cpu sees = refl
+same_course s s' c f (PvNext n) (Named x) h mode turns cpu sees = refl
+same_course s s' c f (PvNext n) _ h mode turns cpu sees = refl
+same_course s s' c f (StateOf n) (Stated x) h mode turns cpu sees = (λ i. course_of (state_row (turns i) c f x))
+same_course s s' c f (StateOf n) _ h mode turns cpu sees = refl
+same_course s s' c f HashEntry (Named x) h mode turns cpu sees = refl
+same_course s s' c f HashEntry _ h mode turns cpu sees = refl
+same_course s s' c f Halted (Marked x) h mode turns cpu sees = refl
+same_course s s' c f Halted _ h mode turns cpu sees = refl
+same_course s s' c f (KickOf q) (Marked x) h mode turns cpu sees = refl
+same_course s s' c f (KickOf q) _ h mode turns cpu sees = refl

@@ -20,18 +20,16 @@ use Rattle.lk_machine.specs.Row.{Lead, Goes, Granted, Freed, Leaves}
 use Rattle.lk_machine.specs.Row.{Yields, Tell, Says, Change, with_change, changed_all, Prev, Second, Y}
 use Rattle.lk_machine.specs.Row.{Left, A, B, K, T, Reason, Tailed, HashedIs, TargetIs}
 use Rattle.lk_machine.specs.TopRow.{Target, RwWord, target}
-use Rattle.lk_law.specs.Agree.{halts}
-use Rattle.lk_law.specs.Families.{may_halt}
 use Rattle.lk_law.specs.Leads.{Course, course_in, held_lock, way_after, RowDone}
 use Rattle.lk_law.specs.Phase.{has_node}
 use Rattle.lk_law.specs.Phase.Phase.{Idle}
 use Rattle.lk_law.specs.Places.{phase_of, phase_if}
-use Rattle.lk_law.specs.Premises.{IsNewest}
+use Rattle.lk_law.specs.Premises.{IsNewest, IsShallow}
 use Rattle.lk_law.specs.SoundWorld.{IsSoundWorld}
 use Rattle.lk_law.specs.Steps.{put_frame, row_in, led, way_led, way_told, told_event, told_on}
 use Rattle.lk_law.specs.World.{World}
 use Rattle.lk_law.proofs.common.EveryRow.{every_row_keeps}
-use Rattle.lk_law.proofs.common.Puts.{if-true, if-false, not-true}
+use Rattle.lk_law.proofs.common.Puts.{if-true, if-false}
 use Rattle.lk_law.proofs.common.Sames.{same_lock-true, same_waiter-self}
 use Rattle.lk_law.proofs.rw.Begins.{end_keeps}
 use Rattle.lk_law.proofs.running.Leads.{row_is_done}
@@ -146,17 +144,22 @@ pub record Went (m n : World) (p : ℕ) (c : Calls) : Type 0 where
   pub mode : world.mode ≡ n.mode
   pub turns : world.turns ≡ n.turns
   pub threshold : world.threshold ≡ n.threshold
+  pub format : world.format ≡ n.format
   pub sockets : world.sockets ≡ n.sockets
   pub kind : world.kind ≡ n.kind
   pub word : world.word ≡ n.word
   pub rw : world.rw ≡ n.rw
   pub node : world.node ≡ n.node
   pub queued : world.queued ≡ n.queued
+  pub entry : world.entry ≡ n.entry
+  pub halted : world.halted ≡ n.halted
+  pub kicked : world.kicked ≡ n.kicked
   pub others : Elsewhere m world p
 
 module _ (m : World) (hs : LockName → LockHistory) (ok : IsSoundWorld m hs)
-    (awake : halts m.mode ≡ false) (p : ℕ) (c : Calls) (mirrors : Mirrors m p c)
-    (stacked : Stacked c.frames) (few : length c.frames ≤ 6) (verb : Verb) (f : Frame)
+    (p : ℕ) (c : Calls) (mirrors : Mirrors m p c)
+    (stacked : Stacked c.frames) (few : length c.frames ≤ 6)
+    (shallow : (q : ℕ) → IsShallow m q) (verb : Verb) (f : Frame)
     (t : List Mark) (rs : List Running) (is : c.frames ≡ running verb f t ∷ rs) (pc : Pc)
     (place : f.place ≡ Some pc) where
   abbrev w : Waiter
@@ -188,26 +191,22 @@ module _ (m : World) (hs : LockName → LockHistory) (ok : IsSoundWorld m hs)
             ∙ frame_in-above (running verb f t ∷ rs) e stands (let x = stands.0 in omega arith));
         low = let x = stands.0 in
             let y : length c.frames ≡ suc (length rs) = ap (λ (xs : List Running). length xs) is in omega arith;
+        shallow = shallow;
       }
 
-  awake_row : may_halt pc ≡ false
-  awake_row =
-      not-true (may_halt pc)
-      (λ h. let on = (ok.spins.registers w f live).choice.halting pc place h in grind (arith, awake, on))
-
   abbrev rules : Rules
-  rules = record { mode = m.mode; sockets = m.sockets; threshold = m.threshold }
+  rules = record { format = m.format; mode = m.mode; sockets = m.sockets; threshold = m.threshold }
 
   abbrev to : Waiter
-  to = (lead_goes_on m _ w f pc ok.spins live place awake_row).0
+  to = (lead_goes_on m _ w f pc ok.spins live place).0
 
   abbrev hs' : LockName → LockHistory
   hs' = told_on hs (told_event w f.lock to (row_in m w f pc).1)
 
   row_sound : IsSoundWorld n hs'
   row_sound =
-      (every_row_keeps pc m hs rules w to f ok (record { mode = refl; sockets = refl; threshold = refl })
-      newest live place (lead_goes_on m _ w f pc ok.spins live place awake_row).1).0
+      (every_row_keeps pc m hs rules w to f ok (record { format = refl; mode = refl; sockets = refl; threshold = refl })
+      newest live place (lead_goes_on m _ w f pc ok.spins live place).1).0
 
   pub done : RowDone m n w f pc x o
   done = row_is_done m w f pc x
@@ -297,12 +296,16 @@ module _ (m : World) (hs : LockName → LockHistory) (ok : IsSoundWorld m hs)
         mode = refl;
         turns = refl;
         threshold = refl;
+        format = refl;
         sockets = refl;
         kind = refl;
         word = refl;
         rw = refl;
         node = refl;
         queued = refl;
+        entry = refl;
+        halted = refl;
+        kicked = refl;
         others = end_others;
       }
       by (Some d) e = record {
@@ -313,11 +316,15 @@ module _ (m : World) (hs : LockName → LockHistory) (ok : IsSoundWorld m hs)
         mode = refl;
         turns = refl;
         threshold = refl;
+        format = refl;
         sockets = refl;
         kind = refl;
         word = refl;
         rw = refl;
         node = refl;
         queued = refl;
+        entry = refl;
+        halted = refl;
+        kicked = refl;
         others = row_others;
       }

@@ -1,5 +1,5 @@
 -- The steps on the word of a reader-writer lock.
-use Rattle.std.proofs.Common.{◌≡◌, ◌≢◌, ◌⊎◌, inl, inr, ℕ, ◌<◌, ◌≤◌, List, length, set}
+use Rattle.std.proofs.Common.{◌≡◌, ◌≢◌, ◌⊎◌, inl, inr, ℕ, ◌<◌, ◌≤◌, List, length, set, Bool}
 use Rattle.std.proofs.Common.{get_or, Option, Some, None, true, false, refl, sym, ap, ◌∙◌, subst}
 use Rattle.std.proofs.Common.{arith, length-set, get_or-set_other, eqb, eq-eqb, ne_eqb}
 use Rattle.std.proofs.lemmas.Bool.{cases_lt, cases_eq}
@@ -19,12 +19,12 @@ use Rattle.lk_machine.specs.Moves.{rw_name, wait_name}
 use Rattle.lk_machine.specs.declared.parts.Node.{Node}
 use Rattle.lk_machine.specs.declared.parts.Frame.{Frame}
 use Rattle.lk_machine.specs.declared.parts.Pc.{Pc}
-use Rattle.lk_machine.specs.declared.parts.Pc.TheVariants.{C1, Z1}
+use Rattle.lk_machine.specs.declared.parts.Pc.TheVariants.{C1, Z1, C2}
 use Rattle.lk_machine.specs.declared.setup.Verb.{Verb}
 use Rattle.lk_machine.specs.rows.Rw.{rw_row}
 use Rattle.lk_machine.specs.TopRow.{target}
 use Rattle.lk_law.specs.Families.{is_rw_row}
-use Rattle.lk_law.specs.Leads.{Shared, met_in, stored_in}
+use Rattle.lk_law.specs.Leads.{Shared, met_in, stored_in, enters}
 use Rattle.lk_law.specs.RwKnown.{RwKnown}
 use Rattle.lk_law.specs.RwPhase.{is_counted, is_inner}
 use Rattle.lk_law.specs.RwPhase.RwPhase.{Unreads}
@@ -40,19 +40,22 @@ use Rattle.lk_domain.specs.Calls.{terms_of, Calls, StandsOn, row_of, acting, Beg
 use Rattle.lk_domain.specs.Keeps.{sole_count}
 use Rattle.lk_domain.specs.Plans.{cpus_of, locks_of}
 use Rattle.lk_domain.specs.Runs.{waiter, node_name, IsIdle, IsStored, Runs}
-use Rattle.lk_domain.specs.Words.{lock_at, node_at, node_number}
+use Rattle.lk_domain.specs.Words.{lock_at, node_at, node_number, stored_number}
 use Rattle.lk_domain.specs.declared.plan.Plan.{Plan}
 use Rattle.lk_domain.specs.declared.view.View.{View}
 use Rattle.lk_domain.proofs.rows.Grips.{rw_target, shared_bare}
 use Rattle.lk_domain.proofs.rows.Lands as lands
 use Rattle.lk_domain.proofs.rows.Sights.{IsUnseen, IsSeen, Sees}
 use Rattle.lk_domain.proofs.rows.Poised.{Poised}
-use Rattle.lk_domain.proofs.rows.Lands.{counted_after}
+use Rattle.lk_domain.proofs.rows.Kept.{counted_after, halting_same}
+use Rattle.lk_domain.proofs.rows.Halts.{marks_trans, acted_marks, rw_marks, far_set}
 use Rattle.lk_domain.proofs.words.Locks.{shared_stored}
 use Rattle.lk_domain.proofs.Manners.{held_above, held_cases}
 use Rattle.lk_domain.proofs.Stacks.{frame_in-above}
 use Rattle.lk_domain.proofs.seats.Totals.{drawn}
 use Rattle.lk_domain.proofs.ledger.Held.{reads_sole}
+use Rattle.lk_domain.proofs.rows.Users.{bare_me, kept_marks}
+use Rattle.lk_law.specs.Nodes.{looks_along}
 
 rw_nodes : (m : World) (l : ℕ) (o : Option RwFields) → (stores_rw m l o).node ≡ m.node
 rw_nodes m l None = refl
@@ -71,16 +74,21 @@ stored_else m l j None ne = refl
 stored_else m l j (Some y) ne = if-false (eqb j l) y (m.rw j) (ne_eqb j l ne)
 
 -- the words of a table in which the word of a reader-writer lock has changed
-rw_stored : (k : Plan) (m n : World) (ws : List ℕ) → IsStored k m ws → (l : ℕ) (i : ℕ) → l < locks_of k
+rw_stored : (k : Plan) (m n : World) (marks : NodeName → Bool) (ws : List ℕ) → IsStored k m marks ws → (l : ℕ) (i : ℕ) → l < locks_of k
     → m.kind l ≡ Rw → i ≡ packed_rw (n.rw l) → ((j : ℕ) → j ≢ l → n.rw j ≡ m.rw j) → n.word ≡ m.word
-    → n.node ≡ m.node → n.kind ≡ m.kind → IsStored k n (set ws (lock_at l) i)
-rw_stored k m n ws st l i near on is others words node kind =
+    → n.node ≡ m.node → n.kind ≡ m.kind → IsStored k n marks (set ws (lock_at l) i)
+rw_stored k m n marks ws st l i near on is others words node kind =
     record {
       long = length-set ws (lock_at l) i ∙ st.long;
       locks = shared_stored k m n ws st.locks l i (let z = st.long in omega arith) on is others words kind;
       nodes = λ a q h b has. get_or-set_other ws (lock_at l) (node_at k a q) i 0 (λ e. omega arith)
-          ∙ (st.nodes a q h b has ∙ ap (λ (g : NodeName → Node). node_number q (g a)) (sym node));
+          ∙ (st.nodes a q h b has ∙ ap (λ (g : NodeName → Node). stored_number (marks a) q (node_number q (g a))) (sym node));
     }
+
+pub off_links : (c : Pc) → is_rw_row c ≡ true → looks_along c ≡ true → ⊥
+off_links C1 on h = cc on
+off_links C2 on h = cc on
+off_links _ on h = cc h
 
 -- a row of a reader or a writer is no look along links
 pub rw_sees : (c : Pc) → is_rw_row c ≡ true → (r : Option ℕ) → Sees c r
@@ -227,10 +235,13 @@ module _ (k : Plan) {S : Type 0} (s : State S View) (st : Runs k s) (id : ℕ) (
         (lands.row_done k s st id v me p is verb n pc asks acts unseen).word
         ∙ (ap (λ (z : World). z.word) stored_is ∙ rw_words m l stores)
 
+    -- the row gives no node
+    row_bare : enters (lands.o k s st id v me p is verb n pc asks acts unseen).leads ≡ false
+    row_bare = shared_bare m w f pc (lands.fitting k s st id v me p is verb n pc asks acts unseen) acts.place row
+
     row_nodes : (lands.n k s st id v me p is verb n pc asks acts unseen).node ≡ m.node
     row_nodes =
-        (lands.row_done k s st id v me p is verb n pc asks acts unseen).node
-        (shared_bare m w f pc (lands.fitting k s st id v me p is verb n pc asks acts unseen) acts.place row)
+        (lands.row_done k s st id v me p is verb n pc asks acts unseen).node row_bare
         ∙ (ap (λ (z : World). z.node) stored_is ∙ rw_nodes m l stores)
 
     -- a step on the word that makes the row of the call, where it writes what the row stores
@@ -243,10 +254,16 @@ module _ (k : Plan) {S : Type 0} (s : State S View) (st : Runs k s) (id : ℕ) (
         let after : World = lands.n k s st id v me p is verb n pc asks acts unseen in
         let mode : k.mode ≡ m.mode = sym (at.acted.same.mode ∙ st.of_plan.mode) in
         let here : after.rw l ≡ unwrap_or stores found = ap (λ (g : ℕ → RwFields). g l) row_rw ∙ stored_here m l stores in
-        lands.lands k s st id v me p is verb n pc asks acts unseen u who
-        (calls ∙ ap (row_of (terms_of k) p (acting k.mode v.calls verb l)) (sym met_is))
+        lands.lands k s st id v me p is verb n pc asks acts unseen (Shared found) (sym met_is)
+        (λ e. absurd (off_links pc row e))
+        (λ b mine. inl (bare_me f (lands.o k s st id v me p is verb n pc asks acts unseen).leads b row_bare mine))
+        st.marks
+        (kept_marks m after _ st.marks at.acted.sound.spins
+        (lands.marked_here k s st id v me p is verb n pc asks acts unseen)
+        (λ a b h. ap (λ (g : NodeName → Node). (g a).next) (sym row_nodes) ∙ h))
+        u who calls
         (set s.words (lock_at l) i)
-        (rw_stored k st.world after s.words st.stored l i near kind_was
+        (rw_stored k st.world after st.marks s.words st.stored l i near kind_was
         (writes
         ∙ (ap (λ (z : Mode). packed_rw (unwrap_or (rw_row z pc f found).stores found)) mode ∙ ap packed_rw (sym here)))
         (λ j ne. ap (λ (g : ℕ → RwFields). g j) row_rw ∙ (stored_else m l j stores ne ∙ ap (λ (g : ℕ → RwFields). g j) at.acted.same.rw))
@@ -255,4 +272,15 @@ module _ (k : Plan) {S : Type 0} (s : State S View) (st : Runs k s) (id : ℕ) (
         (get_or-set_other s.words (lock_at l) 0 i 0 (λ e. omega arith))
         (λ q e ne fit. ap (λ (g : NodeName → Node). g (node_name q (st.world.queued q))) (row_nodes ∙ at.acted.same.node))
         (λ q e ne fit. counted_after st.world after e (sym (row_nodes ∙ at.acted.same.node)) fit.counted)
+        (halting_same k s st.world after (set s.words (lock_at l) i) id p
+        (far_set k s.words (lock_at l) i (omega arith))
+        (marks_trans (acted_marks at.acted.same)
+        (let d = lands.row_done k s st id v me p is verb n pc asks acts unseen in
+        let z = rw_marks m l stores in
+        record {
+          entry = d.entry ∙ (ap (λ (x : World). x.entry) stored_is ∙ z.entry);
+          halted = d.halted ∙ (ap (λ (x : World). x.halted) stored_is ∙ z.halted);
+          kicked = d.kicked ∙ (ap (λ (x : World). x.kicked) stored_is ∙ z.kicked);
+        }))
+        (λ a. ap (λ (g : NodeName → Node). (g a).state) (row_nodes ∙ at.acted.same.node)) st.halting)
         homes

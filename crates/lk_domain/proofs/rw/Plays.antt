@@ -39,6 +39,7 @@ use Rattle.lk_domain.proofs.ledger.Alone.{some_out, out_is}
 use Rattle.lk_domain.proofs.ledger.Purses.{alters, knows_after}
 use Rattle.lk_domain.proofs.rw.Numbers as numbers
 use Rattle.lk_domain.proofs.rw.OnShared as on
+use Rattle.lk_domain.proofs.rw.OnShared.{off_links}
 
 first_index : (l : ℕ) → is_first (lock_name l) ≡ true → l ≡ 0
 first_index l e = grind (arith, e)
@@ -117,15 +118,14 @@ module _ (k : Plan) (slots id : ℕ) (m : Me Slot View) (number : IsNumbered m.0
     knows home =
         let c : Calls = acting k.mode m.0.calls verb l in
         let f = acts'.frame in
-        let x = lands.x k s ok id m.0 me number.0 number.1 verb n pc asked acts' unseen in
         let o = lands.o k s ok id m.0 me number.0 number.1 verb n pc asked acts' unseen in
-        let trail = lands.trail k s ok id m.0 me number.0 number.1 verb n pc asked acts' unseen in
+        let trail = lands.trail k s ok id m.0 me number.0 number.1 verb n pc asked acts' unseen (Shared y) in
         let lock : held_lock t f ≡ lock_name l =
         ap (λ (z : Target). held_lock z f) (rw_target pc f row) ∙ ap (λ (z : LockName). rw_name z.index) acts'.lock in
         let ledger : u.ledger ≡ turned m.0.ledger (held_lock t f) (grip_of t o) trail =
-        (λ j. turned_of (terms_of (planned j)) (own_number (number.1 j)) (acting (planned j).mode m.0.calls verb l) (sym met_is j) m.0.ledger)
-        ∙ fresh.turns k s ok id m.0 me number.0 number.1 verb n pc asked acts' unseen m.0.ledger in
-        let holds = calls_are ∙ (ap (row_of (terms_of k) number.0 c) (sym met_is) ∙ lands.rowed k s ok id m.0 me number.0 number.1 verb n pc asked acts' unseen) in
+        (λ j. turned_of (terms_of (planned j)) (own_number (number.1 j)) (acting (planned j).mode m.0.calls verb l) (Shared y) m.0.ledger)
+        ∙ fresh.turns k s ok id m.0 me number.0 number.1 verb n pc asked acts' unseen (Shared y) (sym met_is) (λ e. absurd (off_links pc row e)) m.0.ledger in
+        let holds = calls_are ∙ lands.rowed k s ok id m.0 me number.0 number.1 verb n pc asked acts' unseen (Shared y) (sym met_is) (λ e. absurd (off_links pc row e)) in
         knows_after k both.keeps.journal m.0 u number.0 number.1 (both.keeps.knows id m.0 me) c f.ctx (held_lock t f) trail
         (acting_any k.mode m.0.calls verb l) (acting_sole k.mode m.0.calls verb l) refl (grip_of t o) ledger
         (ap (λ (z : Calls). z.holds) holds)

@@ -28,7 +28,7 @@ use Rattle.lk_law.specs.Leads.{Met, Shared, Course, course_of, course_at, held_l
 use Rattle.lk_law.specs.Steps.{led}
 use Rattle.lk_domain.specs.Calls.{Grip, Unchanged, grip_of, grip_told, course, setting}
 use Rattle.lk_domain.specs.Calls.{terms_of, sight_of, acting, are_calls}
-use Rattle.lk_machine.specs.rows.Cna.{Sight}
+use Rattle.lk_domain.specs.Calls.{Outlook, sight_by}
 use Rattle.lk_domain.specs.Keeps.{Slot}
 use Rattle.lk_domain.specs.Marked.{IsNoted, Steps}
 use Rattle.lk_domain.specs.Plays.{ActsIn, carried_with}
@@ -248,9 +248,9 @@ module _ (v : Verb) (l met : ℕ) (m n : Me Slot View) (made : SharedBy v l m me
       let x : Met = Shared made.found in
       let name : LockName = record { index = l; wait = acts.inside } in
       let index : f.lock.index ≡ l = ap (λ (z : LockName). z.index) acts.acts.stands.lock in
-      let z : Sight = sight_of (terms_of m.0.who.plan) p (acting mode' m.0.calls v l).runs in
+      let z : Outlook = sight_of (terms_of m.0.who.plan) p (acting mode' m.0.calls v l).runs in
       let is : course mode' p z c f x ≡ course_of (rw_row mode' c f made.found) =
-      ap (λ (t : Target). course_at (setting mode' p z) c f t x) (rw_target c f row) in
+      ap (λ (t : Target). course_at (setting mode' p (sight_by z x)) c f t x) (rw_target c f row) in
       turn_by m.0.who.plan p m.0.calls n.0.calls v name c x takes calm few acts.acts.stands acts.acts.begins
       (ap (λ (z : Me Slot View). z.0.calls) made.seat) waits false taken
       (subst (λ (o : Course). Comes waits false (led f o.leads).place) (sym is) does.place)

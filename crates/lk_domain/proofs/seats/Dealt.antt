@@ -1,5 +1,5 @@
 -- A new table; numbers are drawn, and seats are cut and joined.
-use Rattle.std.proofs.Common.{◌≡◌, ◌≢◌, ⊎_elim, inl, ℕ, zero, suc, ◌+◌, ◌%◌, ◌^◌, ◌<◌}
+use Rattle.std.proofs.Common.{◌≡◌, ◌≢◌, ⊎_elim, inl, ℕ, zero, suc, ◌+◌, ◌%◌, ◌^◌, ◌<◌, false}
 use Rattle.std.proofs.Common.{◌≤◌, List, [], ◌∷◌, drop, length, set, get_or, Some, None}
 use Rattle.std.proofs.Common.{refl, sym, ap, ◌∙◌, subst, arith, length-set}
 use Rattle.std.proofs.Common.{get_or-set_other, get_or-set_same}
@@ -9,27 +9,34 @@ use mathlib.Core.Option.{some, some-injective, some-ne-none}
 use lib.ListN.{get_elem?}
 use Rattle.atomic_table.specs.Table.{State, Me, Step, keeps, Allows, opening}
 use Rattle.atomic_table.proofs.Lists.{at_set}
-use Rattle.lk_abs.specs.History.{no_history}
+use Rattle.lk_abs.specs.History.{no_history, LockHistory}
+use Rattle.lk_word.specs.declared.spin_word.Layout.{Layout}
+use Rattle.lk_abs.specs.declared.names.LockName.{LockName}
+use Rattle.lk_word.specs.declared.spin_word.NodeName.{NodeName}
+use Rattle.lk_machine.specs.declared.parts.Frame.{Frame}
+use Rattle.lk_law.specs.SoundWorld.{IsSoundWorld}
+use Rattle.lk_law.proofs.common.Puts.{not-true}
 use Rattle.lk_word.specs.SpinWord.{packed}
 use Rattle.lk_word.specs.RwWord.{packed_rw}
 use Rattle.lk_machine.specs.Machine.{rest_word, rest_rw}
 use Rattle.lk_law.specs.Resting.{world_at_rest}
 use Rattle.lk_law.specs.World.{World}
-use Rattle.lk_law.proofs.common.RestWorld.{empty_is_sound}
-use Rattle.lk_domain.specs.Calls.{no_calls}
+use Rattle.lk_law.proofs.common.RestWorld.{rest_is_sound}
+use Rattle.lk_domain.specs.Calls.{no_calls, Running}
 use Rattle.lk_domain.specs.Keeps.{Slot, Keeps, Knows, undrawn}
 use Rattle.lk_domain.specs.Ledgers.{no_ledger, with_share}
-use Rattle.lk_domain.specs.Plans.{IsLawfulPlan, cpus_of, kind_at, share_of, room_of}
+use Rattle.lk_domain.specs.Plans.{cpus_of, kind_at, share_of, room_of, layout_in, IsRunningPlan, turns_of}
 use Rattle.lk_domain.specs.Plays.{Draws}
-use Rattle.lk_domain.specs.Runs.{Runs, SeatFits, Deals}
+use Rattle.lk_domain.specs.Runs.{Runs, SeatFits, Deals, Seeks, Mirrors, waiter}
+use Rattle.lk_domain.proofs.rows.Halts.{far_same, far_set, same_marks, seeks_same, IsFarSame}
 use Rattle.lk_domain.specs.Stand.{Stand}
 use Rattle.lk_domain.specs.Views.{view, dealer, drawer, total, times, numbers}
 use Rattle.lk_domain.specs.Views.{once_below}
-use Rattle.lk_domain.specs.Words.{version_at, lock_at, word_at, balance_at, node_at, IsOpening}
+use Rattle.lk_domain.specs.Words.{version_at, lock_at, word_at, balance_at, node_at, stored_number, IsOpening, state_at, kick_at, hash_at}
 use Rattle.lk_domain.specs.declared.journal.Journal.{Journal}
 use Rattle.lk_domain.specs.declared.plan.Plan.{Plan}
 use Rattle.lk_domain.specs.declared.view.View.{View}
-use Rattle.lk_domain.proofs.words.NodeWords.{none_reset, rest_number}
+use Rattle.lk_domain.proofs.words.NodeWords.{none_reset, rest_number, stored_zero}
 use Rattle.lk_domain.proofs.ledger.Purses.{place_kept}
 use Rattle.lk_domain.proofs.words.Locks.{word_below, locks_else, same_locks}
 use Rattle.lk_domain.proofs.seats.Totals.{total-set, once_no, once_more, drawn}
@@ -37,8 +44,14 @@ use Rattle.lk_domain.proofs.seats.Totals.{total-set, once_no, once_more, drawn}
 number_is : {a b : ℕ} → Some a ≡ Some b → a ≡ b
 number_is e = grind (arith, e)
 
-none_some : {a : ℕ} → None ≡ Some a → ⊥
+none_some : {A : Type 0} {a : A} → None ≡ Some a → ⊥
 none_some e = cc
+
+none_node : {a : NodeName} → None ≡ Some a → ⊥
+none_node e = cc e
+
+no_frame : {x : Running} {rs : List Running} → [] ≡ x ∷ rs → ⊥
+no_frame e = cc e
 
 -- a new table
 
@@ -46,21 +59,21 @@ only_one : {A : Type 0} (a b : A) (i : ℕ) → get_elem? (a ∷ []) i ≡ some 
 only_one a b zero e = (refl, some-injective a b e)
 only_one a b (suc i) e = absurd (some-ne-none b (sym e))
 
-rest_packed : 0 ≡ packed rest_word
+rest_packed : (layout : Layout) → 0 ≡ packed layout rest_word
 unfolding packed
-rest_packed = refl
+rest_packed layout = refl
 
 rest_shared : 0 ≡ packed_rw rest_rw
 unfolding packed_rw
 rest_shared = refl
 
-module _ (k : Plan) (ws : List ℕ) (j : Journal) (lawful : IsLawfulPlan k) (opens : IsOpening k ws)
+module _ (k : Plan) (ws : List ℕ) (j : Journal) (lawful : IsRunningPlan k) (opens : IsOpening k ws)
     (empty : j.entries.items ≡ []) (room : j.entries.room ≡ room_of k) where
   abbrev s : State Slot View
   s = opening ws (Some j ∷ []) (view (dealer k 0) no_calls no_ledger)
 
   abbrev w : World
-  w = world_at_rest k.mode k.threshold k.topology.sockets.items (kind_at k)
+  w = world_at_rest k.format k.mode (turns_of k) k.threshold k.topology.sockets.items (kind_at k)
 
   roll : get_or ws 0 0 ≡ 0
   roll = opens.zeros 0 (λ a lt e. omega arith)
@@ -79,16 +92,29 @@ module _ (k : Plan) (ws : List ℕ) (j : Journal) (lawful : IsLawfulPlan k) (ope
         lawful = lawful;
         world = w;
         histories = λ l. no_history;
-        sound = empty_is_sound k.mode k.threshold k.topology.sockets.items (kind_at k);
-        of_plan = record { mode = refl; turns = refl; threshold = refl; sockets = refl; kind = refl };
+        sound = rest_is_sound k.format k.mode (turns_of k) k.threshold k.topology.sockets.items (kind_at k) lawful.turns;
+        of_plan = record { mode = refl; turns = refl; threshold = refl; format = refl; sockets = refl; kind = refl };
+        marks = λ n. false;
+        marked = record { says = λ awake a b u uses next. absurd (none_some uses.1); bare = λ on a. refl };
         stored = record {
           long = opens.long;
           locks = record {
-            plain = λ n h off. opens.zeros (word_at n) (λ a lt e. let z = word_below k n h in omega arith) ∙ rest_packed;
+            plain = λ n h off. opens.zeros (word_at n) (λ a lt e. let z = word_below k n h in omega arith) ∙ rest_packed (layout_in k);
             shared = λ l h rw. opens.zeros (lock_at l) (λ a lt e. omega arith) ∙ rest_shared;
           };
-          nodes = λ n q h i has. opens.zeros (node_at k n q) (λ a lt e. omega arith) ∙ sym (rest_number q);
+          nodes = λ n q h i has. opens.zeros (node_at k n q) (λ a lt e. omega arith)
+              ∙ sym (ap (stored_number false q) (rest_number q) ∙ stored_zero false q);
         };
+        halting = λ on. record {
+          states = λ n lt low. opens.zeros (state_at k n) (λ a lt e. omega arith);
+          kicks = λ p lt. opens.zeros (kick_at k p) (λ a lt e. omega arith);
+          hash = record {
+            entered = λ l n e. absurd (none_node e);
+            placed = λ i lt. inl (opens.zeros (hash_at k i) (λ a lt e. omega arith));
+            once = λ i j l a b lt kt na nb low x y. absurd (let z : get_or ws (hash_at k i) 0 ≡ 0 = opens.zeros (hash_at k i) (λ a lt e. omega arith) in omega (arith, z, x));
+          };
+        };
+        seeks = λ id v at x rs e h. absurd (no_frame (ap (λ (y : View). y.calls.frames) (first id v at).1 ∙ e));
         seats = λ id v p at is. absurd (none_numbered id p v at is);
         once = λ p. sym (ap (once_below p) roll ∙ once_no p 0 (omega arith));
         blank = λ p h. record { frames = λ d. refl; holds = λ d l. refl };
@@ -138,6 +164,15 @@ module _ (k : Plan) (ws : List ℕ) (j : Journal) (lawful : IsLawfulPlan k) (ope
 
 -- a number is drawn
 
+-- who has no frame has not halted
+unhalted : (m : World) {hs : LockName → LockHistory} → IsSoundWorld m hs → (q : ℕ) → Mirrors m q no_calls → m.halted q ≡ false
+unhalted m ok q none = not-true (m.halted q) (λ h. let r = ok.spins.resting q h in
+    let is : m.frame r.0 ≡ None = subst (λ (z : ℕ). m.frame (waiter z r.0.ctx) ≡ None) (sym r.2) (none.frames r.0.ctx) in
+    no_one (sym is ∙ r.3))
+  where
+    no_one : {f : Frame} → None ≡ Some f → ⊥
+    no_one e = cc e
+
 unseated : (vs : List View) (roll : ℕ)
     → ((p : ℕ) → total (λ v. times p (numbers v)) vs ≡ once_below p roll) → (p : ℕ) → roll ≤ p
     → (j : ℕ) (u : View) → get_elem? vs j ≡ some u → u.who.number ≡ Some p → ⊥
@@ -184,6 +219,9 @@ module _ (k plan : Plan) (slots id : ℕ) (m : Me Slot View) (n : ℕ) (t : Step
     other : (i : ℕ) → i ≢ 0 → get_or ws i 0 ≡ get_or s.words i 0
     other i ne = get_or-set_other s.words 0 i (n + 1) 0 ne
 
+    far : IsFarSame k s.words ws
+    far = far_set k s.words 0 (n + 1) (omega arith)
+
     fresh : (j : ℕ) (x : View) (p : ℕ) → r ≤ p → get_elem? s.views j ≡ some x → x.who.number ≡ Some p → ⊥
     fresh j x p h at e = unseated s.views r ok.once p h j x at e
 
@@ -196,11 +234,17 @@ module _ (k plan : Plan) (slots id : ℕ) (m : Me Slot View) (n : ℕ) (t : Step
           histories = ok.histories;
           sound = ok.sound;
           of_plan = ok.of_plan;
+          marks = ok.marks;
+          marked = ok.marked;
           stored = record {
             long = length-set s.words 0 (n + 1) ∙ ok.stored.long;
             locks = locks_else k ok.world ok.world s.words ok.stored.locks 0 (n + 1) (inl (omega arith)) (same_locks ok.world);
             nodes = λ y q h x has. other (node_at k y q) (λ e. omega arith) ∙ ok.stored.nodes y q h x has;
           };
+          halting = λ on. far_same k ok.world ok.world s.words ws far (same_marks ok.world) (λ a. refl) (ok.halting on);
+          seeks = λ j x at. ⊎_elim
+              (λ a. subst (λ (y : View). Seeks k ws y.calls) a.1 (λ y rs e h. absurd (no_frame e)))
+              (λ a. seeks_same k s.words ws far x.calls (ok.seeks j x a.1)) (at_set s.views id j u x at);
           seats = λ j x q at e. ⊎_elim
               (λ a. let z : n ≡ q = number_is (ap (λ (y : View). y.who.number) a.1 ∙ e) in
               subst (λ (y : View). SeatFits ok.world q y.calls) a.1
@@ -213,6 +257,9 @@ module _ (k plan : Plan) (slots id : ℕ) (m : Me Slot View) (n : ℕ) (t : Step
                 fresh = tt;
                 reset = none_reset _;
                 counted = λ j y rs e. absurd (none_some e);
+                told = λ d f c a b w at'. absurd (none_some at');
+                single = λ on. omega arith;
+                halted = unhalted ok.world ok.sound q (ok.blank q (omega arith));
               }))
               (λ a. ok.seats j x q a.1 e) (at_set s.views id j u x at);
           once = λ p. omega (arith, total-set (λ y. times p (numbers y)) s.views id m.0 u me, ok.once p, once_more p n, ap (once_below p) rolled, ap (once_below p) next, ap (λ (x : View). times p (numbers x)) is);

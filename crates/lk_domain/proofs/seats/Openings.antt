@@ -9,7 +9,7 @@ use Rattle.atomic_table.specs.Table.{opening}
 use Rattle.lk_domain.specs.Calls.{no_calls}
 use Rattle.lk_domain.specs.Keeps.{Slot}
 use Rattle.lk_domain.specs.Ledgers.{no_ledger}
-use Rattle.lk_domain.specs.Plans.{IsLawfulPlan, accounts_of, room_of}
+use Rattle.lk_domain.specs.Plans.{IsRunningPlan, accounts_of, room_of}
 use Rattle.lk_domain.specs.Seats.{IsDealt, AreDealt}
 use Rattle.lk_domain.specs.Stand.{Stand}
 use Rattle.lk_domain.specs.Views.{view, dealer}
@@ -43,7 +43,7 @@ pub record IsOpened (k : Plan) (n : ℕ) (ws : List ℕ) : Type 0 where
   pub balances : (a : ℕ) → a < n → get_or ws (balance_at k a) 0 ≡ get_or k.balances.items a 0
   pub zeros : (i : ℕ) → ((a : ℕ) → a < accounts_of k → i ≢ balance_at k a) → get_or ws i 0 ≡ 0
 
-pub opened_more : (k : Plan) (n at x : ℕ) (ws : List ℕ) → IsLawfulPlan k → IsOpened k n ws
+pub opened_more : (k : Plan) (n at x : ℕ) (ws : List ℕ) → IsRunningPlan k → IsOpened k n ws
     → n < accounts_of k → at ≡ balance_at k n → x ≡ get_or k.balances.items n 0
     → IsOpened k (n + 1) (set ws at x)
 opened_more k n at x ws lawful o lt here is =
@@ -60,7 +60,7 @@ opened_more k n at x ws lawful o lt here is =
     }
 
 -- the rule holds of a new table whose parts are known by equations
-pub starts_at : (k : Plan) (ws vs : List ℕ) (xs : List Slot) (j : Journal) → IsLawfulPlan k
+pub starts_at : (k : Plan) (ws vs : List ℕ) (xs : List Slot) (j : Journal) → IsRunningPlan k
     → IsOpening k ws → j.entries ≡ record { items = []; room = room_of k } → vs ≡ ws → xs ≡ Some j ∷ []
     → Stand k (opening vs xs (view (dealer k 0) no_calls no_ledger))
 starts_at k ws vs xs j lawful opens empty words slots =
@@ -68,7 +68,7 @@ starts_at k ws vs xs j lawful opens empty words slots =
     (subst (λ (z : List Slot). Stand k (opening ws z (view (dealer k 0) no_calls no_ledger))) (sym slots)
     (starts k ws j lawful opens (ap (λ z. z.items) empty) (ap (λ z. z.room) empty)))
 
-each_more : {A : Type 0} (P : ℕ → A → Type 0) (xs : List A) (x : A)
+pub each_more : {A : Type 0} (P : ℕ → A → Type 0) (xs : List A) (x : A)
     → ((i : ℕ) (d : A) → i < length xs → P i (get_or xs i d)) → P (length xs) x
     → (i : ℕ) (d : A) → i < length (xs ++ x ∷ []) → P i (get_or (xs ++ x ∷ []) i d)
 each_more P [] x h here zero d lt = here

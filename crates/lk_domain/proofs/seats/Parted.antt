@@ -9,23 +9,26 @@ use mathlib.Core.Option.{some, some-injective, some-ne-none}
 use lib.ListN.{get_elem?}
 use Rattle.atomic_table.specs.Table.{Splits, Joins}
 use Rattle.atomic_table.proofs.Lists.{at_set, at_longer, set_else}
-use Rattle.lk_domain.specs.Calls.{Calls, no_calls}
+use Rattle.lk_domain.specs.Calls.{Calls, no_calls, Running}
 use Rattle.lk_domain.specs.Keeps.{Slot, Keeps, Knows}
 use Rattle.lk_domain.specs.Ledgers.{Ledger, Past, Out, no_ledger, with_share}
 use Rattle.lk_domain.specs.Plans.{share_of}
-use Rattle.lk_domain.specs.Runs.{Runs, SeatFits, Deals}
+use Rattle.lk_domain.specs.Runs.{Runs, SeatFits, Deals, Seeks}
 use Rattle.lk_domain.specs.Stand.{Stand}
 use Rattle.lk_domain.specs.Views.{view, dealer, drawer, newcomer, nobody, times, numbers, listed}
 use Rattle.lk_domain.specs.Views.{number_of, past_of, all_past, joined, with_more}
 use Rattle.lk_domain.specs.Views.{IsNumbered, own_number}
 use Rattle.lk_domain.specs.declared.plan.Plan.{Plan}
 use Rattle.lk_domain.specs.declared.view.View.{View}
-use Rattle.lk_domain.proofs.rows.Lands.{set_at}
+use Rattle.lk_domain.proofs.rows.Kept.{set_at}
 use Rattle.lk_domain.proofs.ledger.Purses.{past_more, past_known}
 use Rattle.lk_domain.proofs.seats.Totals.{total-set, total-append, times-append}
 
 none_some : {a : ℕ} → None ≡ Some a → ⊥
 none_some e = cc
+
+no_frame : {x : Running} {rs : List Running} → [] ≡ x ∷ rs → ⊥
+no_frame e = cc e
 
 at_more : {A : Type 0} (l : List A) (x : A) (j : ℕ) (u : A) → get_elem? (l ++ x ∷ []) j ≡ some u
     → (get_elem? l j ≡ some u) ⊎ (x ≡ u)
@@ -61,7 +64,13 @@ splits k plan id n s both me =
         histories = ok.histories;
         sound = ok.sound;
         of_plan = ok.of_plan;
+        marks = ok.marks;
         stored = ok.stored;
+        marked = ok.marked;
+        halting = ok.halting;
+        seeks = each (λ j y. Seeks k s.words y.calls) (λ x rs e h. absurd (no_frame e))
+            (λ y e j. subst (Seeks k s.words) (ap (λ (z : View). z.calls) e) (λ x rs e h. absurd (no_frame e)))
+            ok.seeks;
         seats = λ j y q. each (λ j y. y.who.number ≡ Some q → SeatFits ok.world q y.calls) (λ e. absurd (none_some e))
             (λ y e j is. subst (λ (c : Calls). SeatFits ok.world q c) (ap (λ (z : View). z.calls) e)
             (ok.seats id v q me (ap (λ (z : View). z.who.number) e ∙ is)))
@@ -165,7 +174,11 @@ joins k id other v u number home s both me ne at_other =
         histories = ok.histories;
         sound = ok.sound;
         of_plan = ok.of_plan;
+        marks = ok.marks;
         stored = ok.stored;
+        marked = ok.marked;
+        halting = ok.halting;
+        seeks = each (λ j y. Seeks k s.words y.calls) (ok.seeks id v me) (λ j x rs e h. absurd (no_frame e)) ok.seeks;
         seats = λ j y q. each (λ j y. y.who.number ≡ Some q → SeatFits ok.world q y.calls)
             (λ e. ok.seats id v q me e) (λ j e. absurd (none_some e)) (λ j y at is. ok.seats j y q at is) j y;
         once = λ p.

@@ -8,26 +8,30 @@ use Rattle.lk_abs.specs.declared.names.Mode.{Mode}
 use Rattle.lk_abs.specs.declared.names.Mode.TheVariants.{Virt, Native, Cna, Pv}
 use Rattle.lk_word.specs.declared.spin_word.NodeName.{NodeName}
 use Rattle.lk_word.specs.declared.spin_word.Fields.{Fields}
+use Rattle.lk_word.specs.declared.spin_word.Layout.{Layout}
 use Rattle.lk_word.specs.SpinWord.{packed}
 use Rattle.lk_machine.specs.declared.parts.Frame.{Frame}
 use Rattle.lk_machine.specs.declared.parts.Pc.{Pc}
 use Rattle.lk_machine.specs.declared.parts.Flag.{Flag}
 use Rattle.lk_machine.specs.declared.parts.Pc.TheVariants.{F1, T1, T2, U1, V1, V2, P0, P1, P2, P3, P4}
-use Rattle.lk_machine.specs.declared.parts.Pc.TheVariants.{G1, G2, G3, G4, G5, G6, G7, G8, G9, G11}
-use Rattle.lk_machine.specs.declared.parts.Pc.TheVariants.{N1, N2, E1, W1, R4, Wr2, C1, C7, C8, C10}
+use Rattle.lk_machine.specs.declared.parts.Pc.TheVariants.{G1, G2, G3, G4, G5, G6, G7, G8, G9, G10, G11}
+use Rattle.lk_machine.specs.declared.parts.Pc.TheVariants.{N1, N2, E1, W1, R4, Wr2, C1, C2, C3, C5, C7, C8, C10}
 use Rattle.lk_machine.specs.declared.setup.Verb.{Verb}
 use Rattle.lk_machine.specs.declared.setup.Verb.TheVariants.{Lock, Try, Unlock, Read, Write}
 use Rattle.lk_machine.specs.Moves.{is_node, node_of}
-use Rattle.lk_machine.specs.Row.{Lead}
-use Rattle.lk_machine.specs.rows.Cna.{Sight, is_last}
+use Rattle.lk_machine.specs.Row.{Effect, Lead}
+use Rattle.lk_machine.specs.rows.Cna.{Sight, is_last, may_stay, search_first, search_on}
+use Rattle.lk_domain.specs.Calls.{Outlook, sight_by}
+use Rattle.lk_domain.specs.NodePlays.{looks_behind}
 use Rattle.lk_machine.specs.rows.Spin.{is_free, is_unlocked, after_fast, after_pending, to_queue}
 use Rattle.lk_machine.specs.rows.Queue.{own_node, after_entry, after_arrival, after_look, after_head}
 use Rattle.lk_machine.specs.rows.Queue.{after_link, is_sole}
 use Rattle.lk_machine.specs.TopRow.{target}
 use Rattle.lk_law.specs.Families.{is_slow}
-use Rattle.lk_law.specs.Leads.{Met, Word, Number, Flagged, Named}
+use Rattle.lk_law.specs.Leads.{Met, Word, Number, Flagged, Linked, Named}
 use Rattle.lk_law.specs.Premises.{IsThen}
 use Rattle.lk_law.specs.Steps.{led}
+use Rattle.lk_domain.specs.Plans.{turns_by}
 use Rattle.lk_domain.specs.Calls.{Grip, Unchanged, Takes, grip_of, grip_led, course}
 use Rattle.lk_domain.specs.Rows.{is_watch, is_swap, queues_up, is_patient, take_holds}
 use Rattle.lk_domain.specs.Rows.{looks_by, takes_by, frees_by, is_look, is_take, looks_on}
@@ -47,7 +51,7 @@ grip_if false = Unchanged
 
 -- The row of a call that met this, by whether it goes on, in the slow path, and whether it takes its
 -- lock; with its wait lock it does not have that yet.
-pub record Outcome (mode : Mode) (p : ℕ) (z : Sight) (c : Pc) (f : Frame) (x : Met)
+pub record Outcome (mode : Mode) (p : ℕ) (z : Outlook) (c : Pc) (f : Frame) (x : Met)
     (waits slow taken : Bool) : Type 0 where
   pub place : Comes waits slow (led f (course mode p z c f x).leads).place
   pub grip : f.lock.wait ≡ false → grip_of (target c f) (course mode p z c f x) ≡ grip_if taken
@@ -155,7 +159,36 @@ module _ (f : Frame) (w : Bool) (wait : f.lock.wait ≡ w) (after : f.lock.wait 
       by true e = rw e (elim (after e) [ inl h ↦ rw h (R4, refl, refl) | inr h ↦ rw h (Wr2, refl, refl) ])
       by false e = rw e (refl, refl)
 
-module _ (mode : Mode) (p : ℕ) {z : Sight} (f : Frame) (w : Bool) (wait : f.lock.wait ≡ w)
+-- a look along the links goes on in the queue, and takes nothing
+record GoesOn (f : Frame) (o : Effect (Option NodeName)) : Type 0 where
+  place : Comes true true (led f o.leads).place
+  grip : grip_led o.leads ≡ Unchanged
+
+either_on : (f : Frame) (b : Bool) (x y : Effect (Option NodeName)) → GoesOn f x → GoesOn f y → GoesOn f (if b then x else y)
+either_on f true x y h k = h
+either_on f false x y h k = k
+
+first_on : (f : Frame) (s : Sight) (second x : Option NodeName) → GoesOn f (search_first s second x)
+first_on f s None None = record { place = (C1, refl, refl); grip = refl }
+first_on f s (Some m) None = record { place = (C3, refl, refl); grip = refl }
+first_on f s None (Some n) =
+    either_on f (may_stay s) _ _
+    (either_on f (s.local n) _ _ (record { place = (C7, refl, refl); grip = refl }) (record { place = (C2, refl, refl); grip = refl }))
+    (record { place = (C7, refl, refl); grip = refl })
+first_on f s (Some m) (Some n) =
+    either_on f (may_stay s) _ _
+    (either_on f (s.local n) _ _ (record { place = (C7, refl, refl); grip = refl }) (record { place = (C2, refl, refl); grip = refl }))
+    (record { place = (C3, refl, refl); grip = refl })
+
+more_on : (f : Frame) (s : Sight) (x : Option NodeName) → GoesOn f (search_on s f x)
+more_on f s None =
+    either_on f (is_some f.second) _ _ (record { place = (C3, refl, refl); grip = refl }) (record { place = (C7, refl, refl); grip = refl })
+more_on f s (Some n) =
+    either_on f (s.local n) _ _
+    (either_on f (is_some f.second) _ _ (record { place = (C3, refl, refl); grip = refl }) (record { place = (C5, refl, refl); grip = refl }))
+    (record { place = (C2, refl, refl); grip = refl })
+
+module _ (mode : Mode) (p : ℕ) {z : Outlook} (f : Frame) (w : Bool) (wait : f.lock.wait ≡ w)
     (after : f.lock.wait ≡ true → IsThen f.then) where
   -- a row that takes the lock, and one that does not
   gains : (c : Pc) (x : Met) → Comes w false (led f (course mode p z c f x).leads).place
@@ -177,7 +210,16 @@ module _ (mode : Mode) (p : ℕ) {z : Sight} (f : Frame) (w : Bool) (wait : f.lo
   entered i = goes G1 (Number i) true true (after_entry mode (own_node p i), refl, entry_slow mode (own_node p i)) refl
 
   pub linked : (x : Option NodeName) → Outcome mode p z G5 f (Named x) true true false
-  linked x = let y' = link_slow mode 1 f in goes G5 (Named x) true true y'.0 y'.1
+  linked x = let y' = link_slow mode (turns_by mode z.threshold) f in goes G5 (Named x) true true y'.0 y'.1
+
+  pub behind : (c : Pc) → looks_behind c ≡ true → (x : Option NodeName) (i : Bool) → Outcome mode p z c f (Linked x i) true true false
+  behind G10 h None i = goes G10 (Linked None i) true true (G10, refl, refl) refl
+  behind G10 h (Some n) i = goes G10 (Linked (Some n) i) true true (G11, refl, refl) refl
+  behind C1 h x i = let y' = first_on f (sight_by z (Linked x i)) f.second x in goes C1 (Linked x i) true true y'.place y'.grip
+  behind _ h x i = cc h
+
+  pub skipped : (x : Option NodeName) (i : Bool) → Outcome mode p z C2 f (Linked x i) true true false
+  skipped x i = let y' = more_on f (sight_by z (Linked x i)) x in goes C2 (Linked x i) true true y'.place y'.grip
 
   pub handed : (x : Flag) → Outcome mode p z G11 f (Flagged x) w false (not w)
   handed x = gains G11 (Flagged x) (onward f w wait after) refl
@@ -245,10 +287,10 @@ module _ (mode : Mode) (p : ℕ) {z : Sight} (f : Frame) (w : Bool) (wait : f.lo
 
     -- by the number of the word
 
-    pub looked : (v : Verb) (c : Pc) (met : ℕ) → looks_by v c ≡ true → met ≡ packed y
+    pub looked : (layout : Layout) (v : Verb) (c : Pc) (met : ℕ) → looks_by v c ≡ true → met ≡ packed layout y
         → Outcome mode p z c f (Word y) (looks_on v (eqb met 0)) (is_slow (Some c)) false
-    looked v c met h is =
-        let test : eqb met 0 ≡ is_free y = ap (λ (n : ℕ). eqb n 0) is ∙ free_test y in
+    looked layout v c met h is =
+        let test : eqb met 0 ≡ is_free y = ap (λ (n : ℕ). eqb n 0) is ∙ free_test layout y in
         elim (cases_Bool (is_free y)) [
           | inl e ↦ subst (λ b. Outcome mode p z c f (Word y) b (is_slow (Some c)) false)
               (sym (ap (looks_on v) (test ∙ e) ∙ or_true (is_patient v))) (looks_free v c h e)
@@ -256,10 +298,10 @@ module _ (mode : Mode) (p : ℕ) {z : Sight} (f : Frame) (w : Bool) (wait : f.lo
               (sym (ap (looks_on v) (test ∙ e) ∙ or_false (is_patient v))) (looks_held v c h e)
         ]
 
-    pub took : (v : Verb) (c : Pc) (met : ℕ) → w ≡ queues_up v → takes_by v c ≡ true → met ≡ packed y
+    pub took : (layout : Layout) (v : Verb) (c : Pc) (met : ℕ) → w ≡ queues_up v → takes_by v c ≡ true → met ≡ packed layout y
         → Outcome mode p z c f (Word y) (takes_on v (eqb met 0)) (is_slow (Some c) && not (eqb met 0)) (take_holds v (eqb met 0))
-    took v c met own h is =
-        let test : eqb met 0 ≡ is_free y = ap (λ (n : ℕ). eqb n 0) is ∙ free_test y in
+    took layout v c met own h is =
+        let test : eqb met 0 ≡ is_free y = ap (λ (n : ℕ). eqb n 0) is ∙ free_test layout y in
         elim (cases_Bool (is_free y)) [
           | inl e ↦ subst (λ b. Outcome mode p z c f (Word y) (takes_on v b) (is_slow (Some c) && not b) (take_holds v b)) (sym (test ∙ e))
               (subst (λ b. Outcome mode p z c f (Word y) b (is_slow (Some c) && false) (take_holds v true)) (own ∙ sym (free_on v))

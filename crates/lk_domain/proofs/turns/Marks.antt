@@ -12,14 +12,14 @@ pub mark_set : (ms : List Bool) (f g : ℕ → Bool) (l : ℕ) (b : Bool) → l 
 mark_set ms f g l b lt m here far =
     record {
       long = length-set ms l b ∙ m.long;
-      each = λ x xlt. dite (ℕ_discrete x l)
+      each = λ x. dite (ℕ_discrete x l)
           (λ e. ap (λ (y : ℕ). get_or (set ms l b) y false) e
           ∙ (get_or-set_same ms l b false (omega (arith, m.long, lt)) ∙ (sym here ∙ ap g (sym e))))
-          (λ ne. get_or-set_other ms l x b false ne ∙ (m.each x xlt ∙ sym (far x ne)));
+          (λ ne. get_or-set_other ms l x b false ne ∙ (m.each x ∙ sym (far x ne)));
     }
 
 pub mark_same : (ms : List Bool) (f g : ℕ → Bool) → Marks ms f → ((x : ℕ) → g x ≡ f x) → Marks ms g
-mark_same ms f g m same = record { long = m.long; each = λ x lt. m.each x lt ∙ sym (same x) }
+mark_same ms f g m same = record { long = m.long; each = λ x. m.each x ∙ sym (same x) }
 
 get_false : (k l : ℕ) → get_or (replicate k false) l false ≡ false
 get_false zero l = refl
@@ -27,10 +27,10 @@ get_false (suc k) zero = refl
 get_false (suc k) (suc l) = get_false k l
 
 pub none_held : (c : Calls) → c ≡ no_calls → Marks (replicate 32 false) (holds_in c.holds)
-none_held c e = record { long = refl; each = λ l lt. get_false 32 l ∙ ap (λ (y : Calls). holds_in y.holds l) (sym e) }
+none_held c e = record { long = refl; each = λ l. get_false 32 l ∙ ap (λ (y : Calls). holds_in y.holds l) (sym e) }
 
 pub none_waiting : (c : Calls) → c ≡ no_calls → Marks (replicate 32 false) (waits_in c.frames)
-none_waiting c e = record { long = refl; each = λ l lt. get_false 32 l ∙ ap (λ (y : Calls). waits_in y.frames l) (sym e) }
+none_waiting c e = record { long = refl; each = λ l. get_false 32 l ∙ ap (λ (y : Calls). waits_in y.frames l) (sym e) }
 
 pub none_slow : (c : Calls) → c ≡ no_calls → Marks (replicate 32 false) (slow_in c.frames)
-none_slow c e = record { long = refl; each = λ l lt. get_false 32 l ∙ ap (λ (y : Calls). slow_in y.frames l) (sym e) }
+none_slow c e = record { long = refl; each = λ l. get_false 32 l ∙ ap (λ (y : Calls). slow_in y.frames l) (sym e) }

@@ -104,7 +104,7 @@ module _ (n : Notes) (c d : Calls) (l : ℕ) (waits slow taken : Bool) (was : Is
         let long = behind_long l s.others c.frames s.waited s.slowly s.before in
         let deep = was.deep in
         let bit : w ≡ (if s.waited then 1 else 0) =
-        at ∙ (byte (get_or n.waiting l false) ∙ ap (λ b. if b then 1 else 0) (was.noted.each l lt ∙ waited_is)) in
+        at ∙ (byte (get_or n.waiting l false) ∙ ap (λ b. if b then 1 else 0) (was.noted.each l ∙ waited_is)) in
         omega arith
 
     pub others_low : length s.others < 6
@@ -115,11 +115,11 @@ module _ (n : Notes) (c d : Calls) (l : ℕ) (waits slow taken : Bool) (was : Is
         let long = behind_long l s.others c.frames s.waited s.slowly s.before in
         let deep = was.deep in
         let bit : w ≡ (if s.waited then 1 else 0) =
-        at ∙ (byte (get_or n.waiting l false) ∙ ap (λ b. if b then 1 else 0) (was.noted.each l lt ∙ waited_is)) in
+        at ∙ (byte (get_or n.waiting l false) ∙ ap (λ b. if b then 1 else 0) (was.noted.each l ∙ waited_is)) in
         omega arith
 
     slow_bit : (w : ℕ) → w ≡ bool_byte (get_or n.slow l false) → w ≡ (if s.slowly then 1 else 0)
-    slow_bit w at = at ∙ (byte (get_or n.slow l false) ∙ ap (λ b. if b then 1 else 0) (was.slow.each l lt ∙ slowly_is))
+    slow_bit w at = at ∙ (byte (get_or n.slow l false) ∙ ap (λ b. if b then 1 else 0) (was.slow.each l ∙ slowly_is))
 
     pub queued_ok : (w : ℕ) → w ≡ bool_byte (get_or n.slow l false) → w ≤ n.queued
     queued_ok w at =
@@ -180,7 +180,7 @@ module _ (n : Notes) (c d : Calls) (l : ℕ) (waits slow taken : Bool) (was : Is
               (ordered_below n.order o l s.others (omega arith)
               (ordered_others n.order l s.others c.frames s.waited s.slowly s.before was.ordered));
           marked = mark_set n.held (holds_in c.holds) (holds_in d.holds) l (get_or n.held l false || taken) lt was.marked
-              (s.held ∙ ap (λ b. b || taken) (sym (was.marked.each l lt))) s.holds;
+              (s.held ∙ ap (λ b. b || taken) (sym (was.marked.each l))) s.holds;
           noted = mark_set n.waiting (waits_in c.frames) (waits_in d.frames) l waits lt was.noted
               (behind_waits l s.others d.frames waits slow s.none s.after) waits_else;
           slow = mark_set n.slow (slow_in c.frames) (slow_in d.frames) l slow lt was.slow
@@ -260,7 +260,7 @@ pub goes_on : (n : Notes) (c d : Calls) (l : ℕ) (waits slow taken : Bool) → 
     → Steps c d l waits slow taken → waits ≡ true → get_or n.waiting l false ≡ true
     → get_or n.slow l false ≡ slow → taken ≡ false → IsNoted n d
 goes_on n c d l true slow false lt was s _ on same _ =
-    stays n c d l slow was s (sym (was.noted.each l lt) ∙ on) (sym (was.slow.each l lt) ∙ same)
+    stays n c d l slow was s (sym (was.noted.each l) ∙ on) (sym (was.slow.each l) ∙ same)
 goes_on n c d l true slow true lt was s _ on same e = cc e
 goes_on n c d l false slow taken lt was s e on same _ = cc e
 
@@ -310,7 +310,7 @@ module _ (n : Notes) (c d : Calls) (l : ℕ) (waits slow taken : Bool) (was : Is
   still =
       same_frames l s.others d.frames waits slow s.after ends
       ∙ sym (same_frames l s.others c.frames s.waited s.slowly s.before
-      (sym (waited_is n c d l waits slow taken was s) ∙ (sym (was.noted.each l lt) ∙ quiet)))
+      (sym (waited_is n c d l waits slow taken was s) ∙ (sym (was.noted.each l) ∙ quiet)))
 
   pub taken_noted : taken ≡ true → IsNoted (record n { held = set n.held l true }) d
   taken_noted e =

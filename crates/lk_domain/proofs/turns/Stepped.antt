@@ -1,6 +1,7 @@
 -- What the step calls do to the calls of their processor.
 use Rattle.std.proofs.Common.{◌≡◌, ◌⊎◌, inl, inr, ℕ, ◌<◌, ◌≤◌, List, ◌∷◌, length, get_or, Some, Bool, true, false, eqb, refl, sym, ap, ◌∙◌, subst}
-use Rattle.std.proofs.Common.{◌||◌}
+use Rattle.std.proofs.Common.{◌||◌, Option}
+use Rattle.lk_word.specs.declared.spin_word.NodeName.{NodeName}
 use Rattle.std.specs.Prelude.{◌&&◌, not}
 use Rattle.atomic_table.specs.Table.{Me}
 use Rattle.lk_abs.specs.declared.names.LockName.{LockName}
@@ -8,19 +9,19 @@ use Rattle.lk_abs.specs.declared.names.Mode.{Mode}
 use Rattle.lk_machine.specs.declared.parts.Frame.{Frame}
 use Rattle.lk_machine.specs.declared.parts.Flag.TheVariants.{Unset}
 use Rattle.lk_machine.specs.declared.parts.Pc.{Pc}
-use Rattle.lk_machine.specs.declared.parts.Pc.TheVariants.{U1, P1, P2, P4, G1, G4, G8, G9, G11, C8, C10}
+use Rattle.lk_machine.specs.declared.parts.Pc.TheVariants.{U1, P1, P2, P4, G1, G4, G8, G9, G10, G11, C1, C2, C8, C10}
 use Rattle.lk_machine.specs.declared.setup.Verb.{Verb}
 use Rattle.lk_machine.specs.declared.setup.Verb.TheVariants.{Lock, Try, Read, Write}
 use Rattle.lk_machine.specs.rows.Queue.{is_sole}
 use Rattle.lk_machine.specs.TopRow.{target}
 use Rattle.lk_law.specs.Families.{is_slow}
-use Rattle.lk_law.specs.Leads.{Met, Word, Number, Flagged}
+use Rattle.lk_law.specs.Leads.{Met, Word, Number, Flagged, Linked}
 use Rattle.lk_law.specs.Premises.{IsThen}
-use Rattle.lk_machine.specs.rows.Cna.{Sight}
+use Rattle.lk_domain.specs.Calls.{Outlook}
 use Rattle.lk_domain.specs.Calls.{terms_of, Calls, Running, running, slows, StandsOn, are_calls, row_of, acting, sight_of}
 use Rattle.lk_domain.specs.Keeps.{Slot}
 use Rattle.lk_domain.specs.Marked.{IsNoted, Steps}
-use Rattle.lk_domain.specs.NodePlays.{AtRow, Enters, Hands}
+use Rattle.lk_domain.specs.NodePlays.{AtRow, Enters, Hands, looks_behind}
 use Rattle.lk_domain.specs.Plays.{ActsIn, MadeBy, Goes}
 use Rattle.lk_domain.specs.Rows.{looks_by, takes_by, frees_by, looks_on, takes_on, take_holds}
 use Rattle.lk_domain.specs.Rows.{pends_by, clears_by, claims_by, arrives_by, soles_by, stakes_by, promotes_by}
@@ -35,7 +36,7 @@ use Rattle.lk_domain.proofs.turns.Courses.{pend_kind, clear_kind, claim_kind, ar
 use Rattle.lk_domain.proofs.rows.Grips.{IsOwn}
 use Rattle.lk_domain.proofs.words.Numbers.{look_on, take_on}
 use Rattle.lk_domain.proofs.words.OnWords.{OnWord, on_word}
-use Rattle.lk_domain.proofs.Turned.{Turn, turn, is_taking}
+use Rattle.lk_domain.proofs.Turned.{Turn, turn, is_opening, is_taking}
 
 -- the operations take their locks
 
@@ -74,7 +75,7 @@ module _ (v : Verb) (l : LockName) (met : ℕ) (m n : Me Slot View) (made : Made
   p = own_number m.0.who.number
 
   -- what the seat sees of the plan and of its count
-  abbrev sight : Sight
+  abbrev sight : Outlook
   sight = sight_of (terms_of m.0.who.plan) p (acting mode m.0.calls v l.index).runs
 
   turned : (kind : Pc → Bool) (acts : ActsIn kind m.0 v l) → is_taking v ≡ true
@@ -112,7 +113,7 @@ module _ (v : Verb) (l : LockName) (met : ℕ) (m n : Me Slot View) (made : Made
   looks acts =
       let a = acts.acts in
       turned (looks_by v) acts (looks_taking v a.row a.is) (look_on a.row a.stands.frame (look_kind v a.row a.is)) _ _ _
-      (course.looked mode p a.stands.frame (queues_up v) (inside (looks_by v) acts) (after (looks_by v) acts) made.found v a.row met a.is made.word)
+      (course.looked mode p a.stands.frame (queues_up v) (inside (looks_by v) acts) (after (looks_by v) acts) made.found _ v a.row met a.is made.word)
 
   -- after an exchange
   pub takes : (acts : ActsIn (takes_by v) m.0 v l)
@@ -121,7 +122,7 @@ module _ (v : Verb) (l : LockName) (met : ℕ) (m n : Me Slot View) (made : Made
   takes acts =
       let a = acts.acts in
       turned (takes_by v) acts (takes_taking v a.row a.is) (take_on a.row a.stands.frame (take_kind v a.row a.is)) _ _ _
-      (course.took mode p a.stands.frame (queues_up v) (inside (takes_by v) acts) (after (takes_by v) acts) made.found v a.row met refl a.is made.word)
+      (course.took mode p a.stands.frame (queues_up v) (inside (takes_by v) acts) (after (takes_by v) acts) made.found _ v a.row met refl a.is made.word)
 
   -- a wait lock is freed
   pub frees : queues_up v ≡ true → ActsIn (frees_by v) m.0 v l → Turn m.0.calls n.0.calls l.index U1 false false false
@@ -188,7 +189,7 @@ module _ (v : Verb) (l : LockName) (met : ℕ) (m n : Me Slot View) (made : Made
         let t = looks acts in
         subst (λ (b : Bool). Steps m.0.calls n.0.calls l.index b (get_or notes.slow l.index false) false) (sym e)
         (subst (λ (b : Bool). Steps m.0.calls n.0.calls l.index (looks_on v (eqb met 0)) b false)
-        (sym (was.slow.each l.index lt ∙ t.was)) t.steps)
+        (sym (was.slow.each l.index ∙ t.was)) t.steps)
 
     pub takes_noted : ActsIn (takes_by v) m.0 v l → (w h : Bool) → w ≡ takes_on v (eqb met 0)
         → h ≡ take_holds v (eqb met 0)
@@ -198,7 +199,7 @@ module _ (v : Verb) (l : LockName) (met : ℕ) (m n : Me Slot View) (made : Made
         subst (λ (b : Bool). Steps m.0.calls n.0.calls l.index b (get_or notes.slow l.index false && not (eqb met 0)) h) (sym e)
         (subst (λ (b : Bool). Steps m.0.calls n.0.calls l.index (takes_on v (eqb met 0)) (get_or notes.slow l.index false && not (eqb met 0)) b) (sym d)
         (subst (λ (b : Bool). Steps m.0.calls n.0.calls l.index (takes_on v (eqb met 0)) (b && not (eqb met 0)) (take_holds v (eqb met 0)))
-        (sym (was.slow.each l.index lt ∙ t.was)) t.steps))
+        (sym (was.slow.each l.index ∙ t.was)) t.steps))
 
 -- the marks of a row that ends a call on a spinlock, and goes on where it took a wait lock
 pub noted_as : (old new : Calls) (l : ℕ) (v : Verb) (slow g : Bool) → g ≡ queues_up v
@@ -212,8 +213,25 @@ pub noted_sole : (old new : Calls) (l : ℕ) (v : Verb) (b g : Bool) → g ≡ q
 noted_sole old new l v b g e = subst (λ (a : Bool). Steps old new l (a || not b) (not b) (not a && b)) (sym e)
 
 -- what the seat sees in a call
-abbrev sees : View → Verb → ℕ → Sight
+abbrev sees : View → Verb → ℕ → Outlook
 sees w v l = sight_of (terms_of w.who.plan) (own_number w.who.number) (acting w.who.plan.mode w.calls v l).runs
+
+-- the rows that look at the own link
+
+behind_own : (c : Pc) (f : Frame) → looks_behind c ≡ true → IsOwn (target c f)
+behind_own G10 f h = tt
+behind_own C1 f h = tt
+behind_own _ f h = cc h
+
+pub behind_slow : (c : Pc) → looks_behind c ≡ true → is_slow (Some c) ≡ true
+behind_slow G10 h = refl
+behind_slow C1 h = refl
+behind_slow _ h = cc h
+
+pub behind_later : (c : Pc) → looks_behind c ≡ true → is_opening c ≡ false
+behind_later G10 h = refl
+behind_later C1 h = refl
+behind_later _ h = cc h
 
 -- on the word of a node, by the newest call
 module _ (v : Verb) (l : LockName) (m n : Me Slot View) (calm : are_calls m.0.calls.frames ≡ true)
@@ -241,6 +259,20 @@ module _ (v : Verb) (l : LockName) (m n : Me Slot View) (calm : are_calls m.0.ca
   enters x at went =
       goes G1 (Number (slows m.0.calls.frames)) at went tt true true false
       (course.entered m.0.who.plan.mode (own_number m.0.who.number) at.stands.frame (queues_up v) (wait_of at) (then_of at) (slows m.0.calls.frames))
+
+  -- it has looked at a link: at its own, or at that of the last that it has passed over
+
+  pub behind : (c : Pc) → looks_behind c ≡ true → (x : Option NodeName) (i : Bool) → AtRow c v l m.0 → Goes (Linked x i) m n
+      → Turn m.0.calls n.0.calls l.index c true true false
+  behind c is x i at went =
+      goes c (Linked x i) at went (behind_own c at.stands.frame is) true true false
+      (course.behind m.0.who.plan.mode (own_number m.0.who.number) at.stands.frame (queues_up v) (wait_of at) (then_of at) c is x i)
+
+  pub skipped : (x : Option NodeName) (i : Bool) → AtRow C2 v l m.0 → Goes (Linked x i) m n
+      → Turn m.0.calls n.0.calls l.index C2 true true false
+  skipped x i at went =
+      goes C2 (Linked x i) at went tt true true false
+      (course.skipped m.0.who.plan.mode (own_number m.0.who.number) at.stands.frame (queues_up v) (wait_of at) (then_of at) x i)
 
   -- it has handed the lead on
   pub hands : (x : ℕ) (c : Pc) → (c ≡ G11) ⊎ (c ≡ C8) → AtRow c v l m.0 → Hands m x n

@@ -10,20 +10,20 @@ use Rattle.lk_abs.specs.declared.names.LockName.{LockName}
 use Rattle.lk_abs.specs.declared.names.Mode.{Mode}
 use Rattle.lk_abs.specs.declared.names.Waiter.{Waiter}
 use Rattle.lk_word.specs.declared.spin_word.Fields.{Fields}
+use Rattle.lk_word.specs.declared.spin_word.Layout.{Layout}
 use Rattle.lk_word.specs.SpinWord.{packed, IsPackable}
 use Rattle.lk_machine.specs.declared.parts.Frame.{Frame}
 use Rattle.lk_machine.specs.declared.parts.Pc.{Pc}
 use Rattle.lk_machine.specs.declared.setup.Verb.{Verb}
 use Rattle.lk_machine.specs.declared.setup.Verb.TheVariants.{Unlock, RUnlock, WUnlock}
 use Rattle.lk_machine.specs.TopRow.{target}
-use Rattle.lk_law.specs.Known.{Known}
 use Rattle.lk_law.specs.Leads.{Word, course_in, held_lock}
 use Rattle.lk_law.specs.World.{World}
 use Rattle.lk_domain.specs.Calls.{terms_of, Calls, Frees, StandsOn, StandsAt, acting, begin, Begins, row_of}
 use Rattle.lk_domain.specs.Calls.{is_on, grip_of, lock_name}
 use Rattle.lk_domain.specs.Keeps.{Slot, Keeps, Knows, any_count, sole_count}
 use Rattle.lk_domain.specs.Ledgers.{is_first, turned}
-use Rattle.lk_domain.specs.Plans.{locks_of}
+use Rattle.lk_domain.specs.Plans.{locks_of, layout_in}
 use Rattle.lk_domain.specs.Plays.{Makes, MadeBy, Acts, made, turned_of}
 use Rattle.lk_domain.specs.Runs.{Runs, waiter}
 use Rattle.lk_domain.specs.Stand.{Stand}
@@ -39,18 +39,18 @@ use Rattle.lk_domain.proofs.rows.Lands as lands
 use Rattle.lk_domain.proofs.rows.Sights.{IsSeen}
 use Rattle.lk_domain.proofs.words.Locks.{word_from, word_below}
 use Rattle.lk_domain.proofs.words.OnWords as on
-use Rattle.lk_domain.proofs.words.OnWords.{OnWord, word_stores, on_word, word_seen}
+use Rattle.lk_domain.proofs.words.OnWords.{OnWord, word_stores, on_word, word_seen, KnownHere, off_links}
 use Rattle.lk_domain.proofs.ledger.Purses.{alters, knows_after}
 
 -- what a step that writes f of the word has to do with the row
-abbrev pub Writes : Pc → (ℕ → ℕ) → Type 0
-Writes pc f = (mode : Mode) (fr : Frame) (y : Fields) → IsPackable y → Known pc y
-    → f (packed y) ≡ packed (unwrap_or (word_stores mode pc fr (target pc fr) y) y)
+abbrev pub Writes : Layout → Pc → (ℕ → ℕ) → Type 0
+Writes layout pc f = (mode : Mode) (fr : Frame) (y : Fields) → IsPackable layout y → KnownHere pc fr y
+    → f (packed layout y) ≡ packed layout (unwrap_or (word_stores mode pc fr (target pc fr) y) y)
 
 -- the same where that rests on the frame
-abbrev pub WritesAt : Pc → Frame → (ℕ → ℕ) → Type 0
-WritesAt pc fr f = (mode : Mode) (y : Fields) → IsPackable y → Known pc y
-    → f (packed y) ≡ packed (unwrap_or (word_stores mode pc fr (target pc fr) y) y)
+abbrev pub WritesAt : Layout → Pc → Frame → (ℕ → ℕ) → Type 0
+WritesAt layout pc fr f = (mode : Mode) (y : Fields) → IsPackable layout y → KnownHere pc fr y
+    → f (packed layout y) ≡ packed layout (unwrap_or (word_stores mode pc fr (target pc fr) y) y)
 
 -- the row may free its lock
 abbrev pub MayFree : Pc → Type 0
@@ -120,10 +120,10 @@ module _ (k : Plan) (slots id : ℕ) (m : Me Slot View) (number : IsNumbered m.0
     abbrev pub u : View
     u = made m.0 verb l.index (Word y)
 
-    pub y_packs : IsPackable y
+    pub y_packs : IsPackable (layout_in k) y
     y_packs = on.found_packs k s ok id m.0 me number.0 number.1 verb l pc asked acts' near on'
 
-    pub y_is : get_or s.words (word_at l) 0 ≡ packed y
+    pub y_is : get_or s.words (word_at l) 0 ≡ packed (layout_in k) y
     y_is = on.found_is k s ok id m.0 me number.0 number.1 verb l pc asked acts' near on'
 
     met_is : lands.x k s ok id m.0 me number.0 number.1 verb l pc asked acts' unseen' ≡ Word y
@@ -134,11 +134,11 @@ module _ (k : Plan) (slots id : ℕ) (m : Me Slot View) (number : IsNumbered m.0
 
     -- the machine part
     pub rows : (i : ℕ)
-        → ((mode : Mode) → Known pc y → i ≡ packed (unwrap_or (word_stores mode pc acts.frame (target pc acts.frame) y) y))
+        → ((mode : Mode) → KnownHere pc acts.frame y → i ≡ packed (layout_in k) (unwrap_or (word_stores mode pc acts.frame (target pc acts.frame) y) y))
         → Runs k (record { words = set s.words (word_at l) i; homes = s.homes; views = set s.views id u })
     rows i writes =
         on.word_step k s ok id m.0 me number.0 number.1 verb l pc asked acts' near on' i
-        (writes k.mode (on.known k s ok id m.0 me number.0 number.1 verb l pc asked acts' near on').0)
+        (writes k.mode (on.known k s ok id m.0 me number.0 number.1 verb l pc asked acts' near on'))
         u refl calls_are s.homes
 
     -- the ledger part
@@ -146,16 +146,15 @@ module _ (k : Plan) (slots id : ℕ) (m : Me Slot View) (number : IsNumbered m.0
     knows =
         let unseen = unseen' in
         let c : Calls = acting k.mode m.0.calls verb l.index in
-        let x = lands.x k s ok id m.0 me number.0 number.1 verb l pc asked acts' unseen in
         let f = acts'.frame in
         let t = target pc f in
         let o = lands.o k s ok id m.0 me number.0 number.1 verb l pc asked acts' unseen in
-        let trail = lands.trail k s ok id m.0 me number.0 number.1 verb l pc asked acts' unseen in
+        let trail = lands.trail k s ok id m.0 me number.0 number.1 verb l pc asked acts' unseen (Word y) in
         let lock : held_lock t f ≡ l = own_lock t f (on_word t on') ∙ acts'.lock in
         let ledger : u.ledger ≡ turned m.0.ledger (held_lock t f) (grip_of t o) trail =
-        (λ j. turned_of (terms_of (planned j)) (own_number (number.1 j)) (acting (planned j).mode m.0.calls verb l.index) (sym met_is j) m.0.ledger)
-        ∙ fresh.turns k s ok id m.0 me number.0 number.1 verb l pc asked acts' unseen m.0.ledger in
-        let holds = calls_are ∙ (ap (row_of (terms_of k) number.0 c) (sym met_is) ∙ lands.rowed k s ok id m.0 me number.0 number.1 verb l pc asked acts' unseen) in
+        (λ j. turned_of (terms_of (planned j)) (own_number (number.1 j)) (acting (planned j).mode m.0.calls verb l.index) (Word y) m.0.ledger)
+        ∙ fresh.turns k s ok id m.0 me number.0 number.1 verb l pc asked acts' unseen (Word y) (sym met_is) (λ e. absurd (off_links pc acts'.frame on' e)) m.0.ledger in
+        let holds = calls_are ∙ lands.rowed k s ok id m.0 me number.0 number.1 verb l pc asked acts' unseen (Word y) (sym met_is) (λ e. absurd (off_links pc acts'.frame on' e)) in
         knows_after k both.keeps.journal m.0 u number.0 number.1 (both.keeps.knows id m.0 me) c f.ctx (held_lock t f) trail
         (acting_any k.mode m.0.calls verb l.index) (acting_sole k.mode m.0.calls verb l.index) refl (grip_of t o) ledger
         (ap (λ (z : Calls). z.holds) holds)
@@ -178,13 +177,21 @@ module _ (k : Plan) (slots id : ℕ) (m : Me Slot View) (number : IsNumbered m.0
         subst (λ (j : Plan). IfSome y.tail (IsNode j)) (sym planned)
         (on.found_tail k s ok id m.0 me number.0 number.1 verb l pc asked acts' near on')
 
+    -- the same by the plan that the seat knows
+
+    pub y_packable : IsPackable (layout_in m.0.who.plan) y
+    y_packable = subst (λ (j : Plan). IsPackable (layout_in j) y) (sym planned) y_packs
+
+    pub y_word : get_or s.words (word_at l) 0 ≡ packed (layout_in m.0.who.plan) y
+    y_word = y_is ∙ ap (λ (j : Plan). packed (layout_in j) y) (sym planned)
+
     pub is_made : MadeBy verb l.index m (get_or s.words (word_at l) 0) (u, m.1)
     is_made =
         record {
           found = y;
-          packs = y_packs;
+          packs = y_packable;
           tail = y_tail;
-          word = y_is;
+          word = y_word;
           seat = refl;
         }
 
@@ -192,7 +199,7 @@ module _ (k : Plan) (slots id : ℕ) (m : Me Slot View) (number : IsNumbered m.0
   pub plays_on : (Tells : Me Slot View → ℕ → Me Slot View → Type 0) (f : ℕ → ℕ)
       → ((s : State Slot View) (both : Stand k s) (me : get_elem? s.views id ≡ some m.0)
       → Tells m (get_or s.words (word_at l) 0) (u s both me, m.1))
-      → WritesAt pc acts.frame f → Allows (Stand k) slots id m (word_at l) f (Tells m)
+      → WritesAt (layout_in k) pc acts.frame f → Allows (Stand k) slots id m (word_at l) f (Tells m)
   plays_on Tells f tells writes s both long me small =
       let n : ℕ = get_or s.words (word_at l) 0 in (
         u s both me,
@@ -211,7 +218,7 @@ module _ (k : Plan) (slots id : ℕ) (m : Me Slot View) (number : IsNumbered m.0
     (acts : StandsAt (acting m.0.who.plan.mode m.0.calls verb l) verb l pc)
     (begins : Begins m.0.who.plan m.0.calls verb l) (word : (fr : Frame) → OnWord (target pc fr))
     (home : MayFree pc → is_first (lock_name l) ≡ true → m.0.ledger.out ≡ None) where
-  pub plays_at : (st : Step Slot) (f : ℕ → ℕ) → st.word ≡ lock_at l → WritesAt pc acts.frame f
+  pub plays_at : (st : Step Slot) (f : ℕ → ℕ) → st.word ≡ lock_at l → WritesAt (layout_in k) pc acts.frame f
       → Allows (Stand k) slots id m (lock_at l) f (Makes verb st m)
   plays_at st f at writes =
       plays_on k slots id m number verb (lock_name l) near pc acts begins word home (Makes verb st) f
@@ -227,10 +234,11 @@ module _ (k plan : Plan) (slots id : ℕ) (m : Me Slot View) (number : IsNumbere
   pub asks : (kind : Pc → Bool) → Acts kind m.0 verb l
       → ((pc : Pc) → kind pc ≡ true → (fr : Frame) → OnWord (target pc fr))
       → ((pc : Pc) → kind pc ≡ true → MayFree pc → is_first (lock_name l) ≡ true → m.0.ledger.out ≡ None)
-      → (f : ℕ → ℕ) → ((pc : Pc) → kind pc ≡ true → Writes pc f)
+      → (f : ℕ → ℕ) → ((pc : Pc) → kind pc ≡ true → Writes (layout_in plan) pc f)
       → Allows (Stand k) slots id m i f (Makes verb st m)
   asks kind acts on_word home f writes =
       subst (λ (x : ℕ). Allows (Stand k) slots id m x f (Makes verb st m)) (sym at)
       (plays_at k slots id m number verb l (subst (λ (x : Plan). l < locks_of x) (sym same) near) acts.row acts.stands acts.begins
       (on_word acts.row acts.is) (home acts.row acts.is) st f (word ∙ at)
-      (λ mode y packs known. writes acts.row acts.is mode acts.stands.frame y packs known))
+      (subst (λ (x : Plan). WritesAt (layout_in x) acts.row acts.stands.frame f) (sym same)
+      (λ mode y packs known. writes acts.row acts.is mode acts.stands.frame y packs known)))

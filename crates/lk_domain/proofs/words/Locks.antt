@@ -13,7 +13,7 @@ use Rattle.lk_law.specs.SoundWorld.{is_rw, is_rw_name}
 use Rattle.lk_law.specs.World.{World}
 use Rattle.lk_law.proofs.common.Cases.{lock_cases}
 use Rattle.lk_domain.specs.Calls.{lock_name}
-use Rattle.lk_domain.specs.Plans.{locks_of}
+use Rattle.lk_domain.specs.Plans.{locks_of, layout_in}
 use Rattle.lk_domain.specs.Runs.{AreLocks}
 use Rattle.lk_domain.specs.Words.{lock_at, place_of, word_at}
 use Rattle.lk_domain.specs.declared.plan.Plan.{Plan}
@@ -82,7 +82,7 @@ pub locks_same : (k : Plan) (m n : World) (ws : List ℕ) → AreLocks k m ws �
 locks_same k m n ws are same =
     record {
       plain = λ j near off. are.plain j near (ap (λ (g : ℕ → Kind). is_rw_name g j) (sym same.kind) ∙ off)
-          ∙ ap (λ (g : LockName → Fields). packed (g j)) (sym same.word);
+          ∙ ap (λ (g : LockName → Fields). packed (layout_in k) (g j)) (sym same.word);
       shared = λ l near rw. are.shared l near (ap (λ (g : ℕ → Kind). g l) (sym same.kind) ∙ rw)
           ∙ ap (λ (g : ℕ → RwFields). packed_rw (g l)) (sym same.rw);
     }
@@ -99,16 +99,16 @@ locks_else k m n ws are i x out same =
 
 -- the word of a spinlock or a wait lock has changed
 pub plain_stored : (k : Plan) (m n : World) (ws : List ℕ) → AreLocks k m ws → (l : LockName) (i : ℕ)
-    → word_at l < Rattle.std.proofs.Common.length ws → is_rw_name m.kind l ≡ false → i ≡ packed (n.word l)
+    → word_at l < Rattle.std.proofs.Common.length ws → is_rw_name m.kind l ≡ false → i ≡ packed (layout_in k) (n.word l)
     → ((j : LockName) → j ≢ l → n.word j ≡ m.word j) → n.rw ≡ m.rw → n.kind ≡ m.kind
     → AreLocks k n (set ws (word_at l) i)
 plain_stored k m n ws are l i long off is others rws kind =
     record {
       plain = λ j near h. elim (lock_cases j l) [
         | inl e ↦ ap (λ (z : LockName). get_or (set ws (word_at l) i) (word_at z) 0) e
-            ∙ (get_or-set_same ws (word_at l) i 0 long ∙ (is ∙ ap (λ (z : LockName). packed (n.word z)) (sym e)))
+            ∙ (get_or-set_same ws (word_at l) i 0 long ∙ (is ∙ ap (λ (z : LockName). packed (layout_in k) (n.word z)) (sym e)))
         | inr ne ↦ get_or-set_other ws (word_at l) (word_at j) i 0 (words_differ j l ne)
-            ∙ (are.plain j near (ap (λ (g : ℕ → Kind). is_rw_name g j) (sym kind) ∙ h) ∙ ap packed (sym (others j ne)))
+            ∙ (are.plain j near (ap (λ (g : ℕ → Kind). is_rw_name g j) (sym kind) ∙ h) ∙ ap (packed (layout_in k)) (sym (others j ne)))
       ];
       shared = λ j near rw.
           let rw' : m.kind j ≡ Rw = ap (λ (g : ℕ → Kind). g j) (sym kind) ∙ rw in
@@ -126,7 +126,7 @@ shared_stored k m n ws are l i long on is others words kind =
       plain = λ j near off.
           let off' : is_rw_name m.kind j ≡ false = ap (λ (g : ℕ → Kind). is_rw_name g j) (sym kind) ∙ off in
           get_or-set_other ws (lock_at l) (word_at j) i 0 (λ e. shared_differs m.kind l j on off' (sym e))
-          ∙ (are.plain j near off' ∙ ap (λ (g : LockName → Fields). packed (g j)) (sym words));
+          ∙ (are.plain j near off' ∙ ap (λ (g : LockName → Fields). packed (layout_in k) (g j)) (sym words));
       shared = λ j near rw. elim (cases_eq j l) [
         | inl e ↦ ap (λ (z : ℕ). get_or (set ws (lock_at l) i) (lock_at z) 0) e
             ∙ (get_or-set_same ws (lock_at l) i 0 long ∙ (is ∙ ap (λ (z : ℕ). packed_rw (n.rw z)) (sym e)))

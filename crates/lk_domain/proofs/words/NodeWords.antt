@@ -5,7 +5,7 @@ use Rattle.lk_word.specs.declared.spin_word.NodeName.{NodeName}
 use Rattle.lk_machine.specs.declared.parts.Node.{Node}
 use Rattle.lk_machine.specs.Machine.{rest_node}
 use Rattle.lk_domain.specs.Runs.{IsReset}
-use Rattle.lk_domain.specs.Words.{part_index, node_at, node_number, has_part, is_last}
+use Rattle.lk_domain.specs.Words.{part_index, node_at, node_number, stored_number, has_part, is_last}
 use Rattle.lk_domain.specs.declared.part.Part.{Part}
 use Rattle.lk_domain.specs.declared.part.Part.TheVariants as part
 use Rattle.lk_domain.specs.declared.plan.Plan.{Plan}
@@ -20,6 +20,21 @@ rest_number part.Flag = refl
 rest_number part.Next = refl
 rest_number part.SecondTail = refl
 rest_number part.Runs = refl
+
+-- a mark is one of a link, and where no node is named there is none
+
+pub stored_zero : (b : Bool) (q : Part) → stored_number b q 0 ≡ 0
+stored_zero b part.Flag = refl
+stored_zero true part.Next = refl
+stored_zero false part.Next = refl
+stored_zero b part.SecondTail = refl
+stored_zero b part.Runs = refl
+
+pub stored_plain : (b : Bool) (q : Part) (i : ℕ) → q ≢ part.Next → stored_number b q i ≡ i
+stored_plain b part.Flag i ne = refl
+stored_plain b part.Next i ne = absurd (ne refl)
+stored_plain b part.SecondTail i ne = refl
+stored_plain b part.Runs i ne = refl
 
 pub low : (q : Part) → part_index q < 4
 low part.Flag = omega arith

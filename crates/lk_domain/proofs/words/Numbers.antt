@@ -9,6 +9,8 @@ use Rattle.lk_word.specs.declared.spin_word.NodeName.{NodeName}
 use Rattle.lk_word.specs.declared.spin_word.Locked.{Locked}
 use Rattle.lk_word.specs.declared.spin_word.Locked.TheVariants.{Free, Held, Slow}
 use Rattle.lk_word.specs.declared.spin_word.Fields.{Fields}
+use Rattle.lk_word.specs.declared.spin_word.Layout.{Layout}
+use Rattle.lk_word.specs.declared.spin_word.Layout.TheVariants.{Narrow, Wide}
 use Rattle.lk_word.specs.SpinWord.{packed, IsPackable, locked_number, tail_number}
 use Rattle.lk_word.proofs.SpinWordLemmas.{packed_small}
 use Rattle.lk_machine.specs.declared.parts.Frame.{Frame}
@@ -17,13 +19,12 @@ use Rattle.lk_machine.specs.declared.parts.Pc.TheVariants.{F1, T1, T2, U1, V1, V
 use Rattle.lk_machine.specs.declared.parts.Pc.TheVariants.{G7, N1, N2}
 use Rattle.lk_machine.specs.rows.Spin.{is_free, is_unlocked, held_word}
 use Rattle.lk_machine.specs.TopRow.{target}
-use Rattle.lk_law.specs.Known.{Known}
 use Rattle.lk_law.specs.Leads.{course_in}
 use Rattle.lk_law.specs.World.{World}
 use Rattle.lk_abs.specs.declared.names.Waiter.{Waiter}
 use Rattle.lk_domain.specs.Calls.{grip_of, Frees}
 use Rattle.lk_domain.specs.Rows as kind
-use Rattle.lk_domain.proofs.words.OnWords.{OnWord, word_stores}
+use Rattle.lk_domain.proofs.words.OnWords.{OnWord, word_stores, KnownHere}
 
 -- which rows a kind of step makes
 
@@ -60,9 +61,10 @@ look_stores mode G7 f y h = refl
 look_stores mode N1 f y h = refl
 look_stores mode _ f y h = cc h
 
-pub looks : (mode : Mode) (c : Pc) (f : Frame) (y : Fields) → kind.is_look c ≡ true
-    → packed y ≡ packed (unwrap_or (word_stores mode c f (target c f) y) y)
-looks mode c f y h = ap (λ (o : Option Fields). packed (unwrap_or o y)) (sym (look_stores mode c f y h))
+module _ (layout : Layout) where
+  pub looks : (mode : Mode) (c : Pc) (f : Frame) (y : Fields) → kind.is_look c ≡ true
+      → packed layout y ≡ packed layout (unwrap_or (word_stores mode c f (target c f) y) y)
+  looks mode c f y h = ap (λ (o : Option Fields). packed layout (unwrap_or o y)) (sym (look_stores mode c f y h))
 
 take_stores : (mode : Mode) (c : Pc) (f : Frame) (y : Fields) → kind.is_take c ≡ true
     → word_stores mode c f (target c f) y ≡ (if is_free y then Some held_word else None)
@@ -73,59 +75,66 @@ take_stores mode G3 f y h = elim (cases_Bool (is_free y)) [ inl e ↦ rw (e, wor
 take_stores mode N2 f y h = elim (cases_Bool (is_free y)) [ inl e ↦ rw (e, word_stores) refl | inr e ↦ rw (e, word_stores) refl ]
 take_stores mode _ f y h = cc h
 
-zero_test : (a : Locked) (b : Bool) (t : Option NodeName)
-    → eqb (locked_number a + (if b then 256 else 0) + tail_number t) 0
-    ≡ (is_unlocked a && not b && not (is_some t))
-zero_test Free false None = refl
-zero_test Free true None = refl
-zero_test Held false None = refl
-zero_test Held true None = refl
-zero_test Slow false None = refl
-zero_test Slow true None = refl
-zero_test Free false (Some n) = ne_eqb _ 0 (λ e. omega arith)
-zero_test Free true (Some n) = ne_eqb _ 0 (λ e. omega arith)
-zero_test Held false (Some n) = ne_eqb _ 0 (λ e. omega arith)
-zero_test Held true (Some n) = ne_eqb _ 0 (λ e. omega arith)
-zero_test Slow false (Some n) = ne_eqb _ 0 (λ e. omega arith)
-zero_test Slow true (Some n) = ne_eqb _ 0 (λ e. omega arith)
+-- a tail is a number above 0
+tail_some : (layout : Layout) (n : NodeName) → 0 < tail_number layout (Some n)
+tail_some Narrow n = omega arith
+tail_some Wide n = omega arith
 
--- a word is 0 exactly where it is free
-pub free_test : (y : Fields) → eqb (packed y) 0 ≡ is_free y
-unfolding packed
-free_test y = zero_test y.locked y.pending y.tail
+module _ (layout : Layout) where
+  zero_test : (a : Locked) (b : Bool) (t : Option NodeName)
+      → eqb (locked_number a + (if b then 256 else 0) + tail_number layout t) 0
+      ≡ (is_unlocked a && not b && not (is_some t))
+  zero_test Free false None = refl
+  zero_test Free true None = refl
+  zero_test Held false None = refl
+  zero_test Held true None = refl
+  zero_test Slow false None = refl
+  zero_test Slow true None = refl
+  zero_test Free false (Some n) = ne_eqb _ 0 (λ e. omega (arith, tail_some layout n))
+  zero_test Free true (Some n) = ne_eqb _ 0 (λ e. omega (arith, tail_some layout n))
+  zero_test Held false (Some n) = ne_eqb _ 0 (λ e. omega (arith, tail_some layout n))
+  zero_test Held true (Some n) = ne_eqb _ 0 (λ e. omega (arith, tail_some layout n))
+  zero_test Slow false (Some n) = ne_eqb _ 0 (λ e. omega (arith, tail_some layout n))
+  zero_test Slow true (Some n) = ne_eqb _ 0 (λ e. omega (arith, tail_some layout n))
 
-pub held_packed : packed held_word ≡ 1
-unfolding packed
-held_packed = refl
+  -- a word is 0 exactly where it is free
+  pub free_test : (y : Fields) → eqb (packed layout y) 0 ≡ is_free y
+  unfolding packed
+  free_test y = zero_test y.locked y.pending y.tail
 
--- an exchange of 0 for 1 takes a free word
-pub takes : (mode : Mode) (c : Pc) (f : Frame) (y : Fields) → kind.is_take c ≡ true
-    → either (eqb (packed y) 0) 1 (packed y)
-    ≡ packed (unwrap_or (word_stores mode c f (target c f) y) y)
-takes mode c f y h =
-    let t = take_stores mode c f y h in
-    let e = free_test y in
-    elim (cases_Bool (is_free y)) [
-      | inl d ↦ ap (λ b. either b 1 (packed y)) (e ∙ d)
-          ∙ (sym held_packed
-          ∙ ap (λ (o : Option Fields). packed (unwrap_or o y)) (sym (t ∙ ap (λ b. if b then Some held_word else None) d)))
-      | inr d ↦ ap (λ b. either b 1 (packed y)) (e ∙ d)
-          ∙ ap (λ (o : Option Fields). packed (unwrap_or o y)) (sym (t ∙ ap (λ b. if b then Some held_word else None) d))
-    ]
+  pub held_packed : packed layout held_word ≡ 1
+  unfolding packed
+  held_packed = refl
+
+  -- an exchange of 0 for 1 takes a free word
+  pub takes : (mode : Mode) (c : Pc) (f : Frame) (y : Fields) → kind.is_take c ≡ true
+      → either (eqb (packed layout y) 0) 1 (packed layout y)
+      ≡ packed layout (unwrap_or (word_stores mode c f (target c f) y) y)
+  takes mode c f y h =
+      let t = take_stores mode c f y h in
+      let e = free_test y in
+      elim (cases_Bool (is_free y)) [
+        | inl d ↦ ap (λ b. either b 1 (packed layout y)) (e ∙ d)
+            ∙ (sym held_packed
+            ∙ ap (λ (o : Option Fields). packed layout (unwrap_or o y)) (sym (t ∙ ap (λ b. if b then Some held_word else None) d)))
+        | inr d ↦ ap (λ b. either b 1 (packed layout y)) (e ∙ d)
+            ∙ ap (λ (o : Option Fields). packed layout (unwrap_or o y)) (sym (t ∙ ap (λ b. if b then Some held_word else None) d))
+      ]
 
 less_one : (n r : ℕ) → n ≡ 1 + r → n < 2 ^ 32 → (n + (2 ^ 64 - 1)) % 2 ^ 64 ≡ r
 less_one n r e h = omega arith
 
--- a release takes 1 off a held word
-pub releases : (mode : Mode) (c : Pc) (f : Frame) (y : Fields) → kind.is_free c ≡ true → IsPackable y
-    → Known c y
-    → (packed y + (2 ^ 64 - 1)) % 2 ^ 64
-    ≡ packed (unwrap_or (word_stores mode c f (target c f) y) y)
-unfolding packed
-releases mode U1 f y h fits held =
-    let e : locked_number y.locked ≡ 1 = ap locked_number held in
-    less_one _ _ (omega (arith, e)) (packed_small y fits)
-releases mode _ f y h fits held = cc h
+module _ (layout : Layout) where
+  -- a release takes 1 off a held word
+  pub releases : (mode : Mode) (c : Pc) (f : Frame) (y : Fields) → kind.is_free c ≡ true → IsPackable layout y
+      → KnownHere c f y
+      → (packed layout y + (2 ^ 64 - 1)) % 2 ^ 64
+      ≡ packed layout (unwrap_or (word_stores mode c f (target c f) y) y)
+  unfolding packed
+  releases mode U1 f y h fits held =
+      let e : locked_number y.locked ≡ 1 = ap locked_number (held.awake refl) in
+      less_one _ _ (omega (arith, e)) (packed_small layout y fits)
+  releases mode _ f y h fits held = cc h
 
 -- looks and takes free nothing
 

@@ -1,5 +1,5 @@
 -- The steps on the word of a lock.
-use Rattle.std.proofs.Common.{◌≡◌, ◌≢◌, inl, inr, ℕ, ◌<◌, List, set}
+use Rattle.std.proofs.Common.{◌≡◌, ◌≢◌, inl, inr, ℕ, ◌<◌, List, set, Bool, true}
 use Rattle.std.proofs.Common.{get_or, Option, Some, None, false, refl, sym, ap, ◌∙◌}
 use Rattle.std.proofs.Common.{arith, length-set, get_or-set_other, IfSome}
 use Rattle.std.proofs.lemmas.Bool.{cases_lt, cases_eq}
@@ -15,62 +15,74 @@ use Rattle.lk_abs.specs.declared.names.Waiter.{Waiter}
 use Rattle.lk_abs.specs.declared.names.LockName.{LockName}
 use Rattle.lk_word.specs.declared.spin_word.NodeName.{NodeName}
 use Rattle.lk_word.specs.declared.spin_word.Fields.{Fields}
+use Rattle.lk_word.proofs.SpinWordLemmas.{from_narrow}
 use Rattle.lk_word.specs.SpinWord.{packed, IsPackable, IsTailInRange}
 use Rattle.lk_machine.specs.declared.parts.Node.{Node}
 use Rattle.lk_machine.specs.declared.parts.Frame.{Frame}
 use Rattle.lk_machine.specs.declared.parts.Pc.{Pc}
-use Rattle.lk_machine.specs.declared.parts.Pc.TheVariants.{G1, C1}
+use Rattle.lk_machine.specs.declared.parts.Pc.TheVariants.{G1, C1, C2, H1}
 use Rattle.lk_machine.specs.declared.setup.Verb.{Verb}
 use Rattle.lk_machine.specs.rows.Spin.{spin_row}
 use Rattle.lk_machine.specs.rows.Queue.{queue_row}
 use Rattle.lk_machine.specs.rows.Cna.{promotion_row}
-use Rattle.lk_machine.specs.TopRow.{Target, SpinWord, QueueWord, ChoiceWord, target}
-use Rattle.lk_law.specs.Families.{is_rw_row}
-use Rattle.lk_law.specs.Known.{Known, KnownNodes}
-use Rattle.lk_law.specs.Leads.{Word, met_in, stored_in}
+use Rattle.lk_machine.specs.TopRow.{Target, SpinWord, QueueWord, ChoiceWord, target, PvWord}
+use Rattle.lk_law.specs.Families.{is_rw_row, stays_awake, may_halt}
+use Rattle.lk_law.specs.Known.{Known, KnownHalting}
+use Rattle.lk_law.specs.Leads.{Word, met_in, stored_in, enters}
+use Rattle.lk_machine.specs.rows.Pv.{pv_row}
 use Rattle.lk_law.specs.SoundWorld.{IsSoundWorld, is_rw_name}
 use Rattle.lk_law.specs.Steps.{stores_word}
 use Rattle.lk_law.specs.World.{World}
 use Rattle.lk_law.proofs.common.Knows.{row_knows, tail_is_used}
+use Rattle.lk_law.proofs.running.Nodes.{here}
+use Rattle.lk_law.specs.Phase.{pends}
+use Rattle.lk_law.specs.Places.{phase_at}
 use Rattle.lk_law.proofs.common.Puts.{if-true, if-false, same_lock-else}
 use Rattle.lk_law.proofs.common.Sames.{same_lock-self}
 use Rattle.lk_law.proofs.running.Calm.{node_comes_at_entry}
 use Rattle.lk_domain.specs.Calls.{terms_of, StandsOn, row_of, acting, Begins}
-use Rattle.lk_domain.specs.Plans.{cpus_of, locks_of}
+use Rattle.lk_domain.specs.Plans.{cpus_of, locks_of, layout_in}
 use Rattle.lk_domain.specs.Runs.{waiter, node_name, IsStored, Runs}
-use Rattle.lk_domain.specs.Words.{word_at, node_at, node_number, IsNode}
+use Rattle.lk_domain.specs.Words.{word_at, node_at, node_number, IsNode, stored_number}
 use Rattle.lk_domain.specs.declared.plan.Plan.{Plan}
 use Rattle.lk_domain.specs.declared.view.View.{View}
 use Rattle.lk_domain.proofs.rows.Begun.{Elsewhere}
 use Rattle.lk_domain.proofs.rows.Lands as lands
 use Rattle.lk_domain.proofs.rows.Grips.{IsOwn, own_row, plain_name}
-use Rattle.lk_domain.proofs.rows.Lands.{keeps, counted_after}
-use Rattle.lk_domain.proofs.rows.Sights.{IsUnseen, IsSeen, Sees}
+use Rattle.lk_domain.proofs.rows.Halts.{SameMarks, marks_trans, word_marks, far_set, acted_marks}
+use Rattle.lk_domain.proofs.rows.Kept.{counted_after, halting_same}
+use Rattle.lk_domain.proofs.rows.Sights.{IsSeen, Sees}
 use Rattle.lk_domain.proofs.rows.Poised.{Poised}
 use Rattle.lk_domain.proofs.words.Locks.{word_from, word_below, plain_stored}
 use Rattle.lk_domain.proofs.seats.Totals.{drawn}
+use Rattle.lk_domain.proofs.rows.Users.{bare_me, kept_marks}
+use Rattle.lk_law.specs.Nodes.{looks_along}
+
+-- what is known of the word that a row meets: by one of a family that halts no processor, and by one of
+-- the lock that halts them
+pub record KnownHere (c : Pc) (f : Frame) (y : Fields) : Type 0 where
+  pub awake : stays_awake c ≡ true → Known c y
+  pub halting : may_halt c ≡ true → (e : Option NodeName) × KnownHalting c f y e
+  -- who presses, or pends, meets pending set
+  pub pressed : ((b : _) (x z : NodeName) → pends (phase_at c b x z) ≡ true) → y.pending ≡ true
 
 -- the row is on the word of its lock
 abbrev pub OnWord : Target → Type 0
 OnWord SpinWord = Unit {0}
 OnWord QueueWord = Unit {0}
 OnWord ChoiceWord = Unit {0}
+OnWord PvWord = Unit {0}
 OnWord _ = ⊥
 
 pub on_word : (t : Target) → OnWord t → IsOwn t
 on_word SpinWord h = tt
 on_word QueueWord h = tt
 on_word ChoiceWord h = tt
+on_word PvWord h = tt
 on_word _ h = absurd h
 
-word_unseen : (c : Pc) (t : Target) → OnWord t → IsUnseen c t
-word_unseen c SpinWord h = tt
-word_unseen c QueueWord h = tt
-word_unseen c ChoiceWord h = tt
-word_unseen c _ h = absurd h
-
 pub word_seen : (c : Pc) (f : Frame) (r : Option ℕ) → OnWord (target c f) → IsSeen c (target c f) r
-word_seen c f r h = (word_unseen c (target c f) h, sees c f h)
+word_seen c f r h = (tt, sees c f h)
   where
     sees : (c : Pc) (f : Frame) → OnWord (target c f) → Sees c r
     sees C1 f h = absurd h
@@ -85,6 +97,7 @@ abbrev pub word_stores : Mode → Pc → Frame → Target → Fields → Option 
 word_stores mode c f SpinWord y = (spin_row mode c f y).stores
 word_stores mode c f QueueWord y = (queue_row mode c f y).stores
 word_stores mode c f ChoiceWord y = (promotion_row c f y).stores
+word_stores mode c f PvWord y = (pv_row 1 c f y).stores
 word_stores mode c f _ y = None
 
 met_word : (m : World) (w : Waiter) (f : Frame) (t : Target) → OnWord t
@@ -92,13 +105,20 @@ met_word : (m : World) (w : Waiter) (f : Frame) (t : Target) → OnWord t
 met_word m w f SpinWord h = refl
 met_word m w f QueueWord h = refl
 met_word m w f ChoiceWord h = refl
+met_word m w f PvWord h = refl
 met_word m w f _ h = absurd h
+
+-- what a row of the lock that halts processors stores does not rest on the turns
+turns_stored : (a b : ℕ) (c : Pc) (f : Frame) (y : Fields) → (pv_row a c f y).stores ≡ (pv_row b c f y).stores
+turns_stored a b H1 f y = refl
+turns_stored a b _ f y = refl
 
 word_of : (m : World) (w : Waiter) (f : Frame) (c : Pc) (t : Target) → OnWord t
     → stored_in m w f c t ≡ stores_word m f.lock (word_stores m.mode c f t (m.word f.lock))
 word_of m w f c SpinWord h = refl
 word_of m w f c QueueWord h = refl
 word_of m w f c ChoiceWord h = refl
+word_of m w f c PvWord h = ap (stores_word m f.lock) (turns_stored m.turns 1 c f (m.word f.lock))
 word_of m w f c _ h = absurd h
 
 word_nodes : (m : World) (l : LockName) (o : Option Fields) → (stores_word m l o).node ≡ m.node
@@ -119,18 +139,24 @@ word_else : (m : World) (l j : LockName) (o : Option Fields) → same_lock j l �
 word_else m l j None h = refl
 word_else m l j (Some y) h = if-false (same_lock j l) y (m.word j) h
 
+-- a row on a word is no look along links
+pub off_links : (c : Pc) (f : Frame) → OnWord (target c f) → looks_along c ≡ true → ⊥
+off_links C1 f on h = on
+off_links C2 f on h = on
+off_links _ f on h = cc h
+
 -- the words of a table in which the word of a spinlock or a wait lock has changed
-pub lock_stored : (k : Plan) (m n : World) (ws : List ℕ) → IsStored k m ws → (l : LockName) (i : ℕ)
-    → l.index < locks_of k → is_rw_name m.kind l ≡ false → i ≡ packed (n.word l)
+pub lock_stored : (k : Plan) (m n : World) (marks : NodeName → Bool) (ws : List ℕ) → IsStored k m marks ws → (l : LockName) (i : ℕ)
+    → l.index < locks_of k → is_rw_name m.kind l ≡ false → i ≡ packed (layout_in k) (n.word l)
     → ((j : LockName) → j ≢ l → n.word j ≡ m.word j) → n.node ≡ m.node → n.rw ≡ m.rw → n.kind ≡ m.kind
-    → IsStored k n (set ws (word_at l) i)
-lock_stored k m n ws st l i near off is others node rws kind =
+    → IsStored k n marks (set ws (word_at l) i)
+lock_stored k m n marks ws st l i near off is others node rws kind =
     let below = word_below k l near in
     record {
       long = length-set ws (word_at l) i ∙ st.long;
       locks = plain_stored k m n ws st.locks l i (let z = st.long in omega arith) off is others rws kind;
       nodes = λ a q h b has. get_or-set_other ws (word_at l) (node_at k a q) i 0 (λ e. omega arith)
-          ∙ (st.nodes a q h b has ∙ ap (λ (g : NodeName → Node). node_number q (g a)) (sym node));
+          ∙ (st.nodes a q h b has ∙ ap (λ (g : NodeName → Node). stored_number (marks a) q (node_number q (g a))) (sym node));
     }
 
 module _ (k : Plan) {S : Type 0} (s : State S View) (st : Runs k s) (id : ℕ) (v : View)
@@ -150,17 +176,17 @@ module _ (k : Plan) {S : Type 0} (s : State S View) (st : Runs k s) (id : ℕ) (
 
   -- a word of the table has fields that pack
   pub packable : (m : World) (hs : LockName → LockHistory) → IsSoundWorld m hs
-      → Elsewhere st.world m p → (l : LockName) → IsPackable (m.word l)
+      → Elsewhere st.world m p → (l : LockName) → IsPackable (layout_in k) (m.word l)
   packable m hs ok others l = by (m.word l).tail refl
     where
-      by : (o : Option NodeName) → (m.word l).tail ≡ o → IsTailInRange o
+      by : (o : Option NodeName) → (m.word l).tail ≡ o → IsTailInRange (layout_in k) o
       by None e = tt
       by (Some a) e =
           let t = tail_is_used m _ l a ok.spins e in
           let low = seated m others t.0 t.1.0 t.1.1 in
           let cpus = st.lawful.cpus in
           let cpu = t.2.cpu in let index = t.2.index in
-          (omega arith, omega arith)
+          from_narrow (layout_in k) (Some a) (omega arith, omega arith)
 
   -- and its tail is a node of the domain
   pub tail_in : (m : World) (hs : LockName → LockHistory) → IsSoundWorld m hs
@@ -206,19 +232,26 @@ module _ (k : Plan) {S : Type 0} (s : State S View) (st : Runs k s) (id : ℕ) (
         ∙ (ap (λ (g : ℕ → Kind). is_rw_name g f.lock) (sym at.acted.same.kind)
         ∙ plain_name m.kind f pc (lands.fitting k s st id v me p is verb l pc asks acts unseen) acts.place row_is)
 
-    pub found_is : get_or s.words (word_at l) 0 ≡ packed found
-    found_is = st.stored.locks.plain l near plain_lock ∙ λ i. packed (sym at.acted.same.word i (sym acts.lock i))
+    pub found_is : get_or s.words (word_at l) 0 ≡ packed (layout_in k) found
+    found_is = st.stored.locks.plain l near plain_lock ∙ λ i. packed (layout_in k) (sym at.acted.same.word i (sym acts.lock i))
 
-    pub found_packs : IsPackable found
+    pub found_packs : IsPackable (layout_in k) found
     found_packs = packable m at.acted.histories at.acted.sound at.acted.others f.lock
 
     pub found_tail : IfSome found.tail (IsNode k)
     found_tail = tail_in m at.acted.histories at.acted.sound at.acted.others f.lock
 
-    pub known : Known pc found × KnownNodes pc f m.node
+    pub known : KnownHere pc f found
     known =
-        let z = row_knows pc m _ w f at.acted.sound.spins (lands.live k s st id v me p is verb l pc asks acts unseen) acts.place in
-        (z.0 (ap Rattle.lk_law.specs.Agree.halts (at.acted.same.mode ∙ st.of_plan.mode) ∙ st.lawful.awake), z.1)
+        let live = lands.live k s st id v me p is verb l pc asks acts unseen in
+        let z = row_knows pc m _ w f at.acted.sound.spins live acts.place in
+        let choice = (at.acted.sound.spins.registers w f live).choice in
+        record {
+          awake = λ h. z.0 (choice.waking pc acts.place h);
+          halting = λ h. (m.entry f.lock, z.2 (choice.halting pc acts.place h));
+          pressed = λ h. (at.acted.sound.spins.agrees.locks f.lock).pend.set w
+              (ap pends (here at.acted.sound.spins live acts.place) ∙ h _ _ _);
+        }
 
     pub met_is : met_in m w f (target pc f) ≡ Word found
     met_is = met_word m w f (target pc f) on
@@ -231,17 +264,29 @@ module _ (k : Plan) {S : Type 0} (s : State S View) (st : Runs k s) (id : ℕ) (
         (lands.row_done k s st id v me p is verb l pc asks acts unseen).word
         ∙ ap (λ (z : World). z.word) (word_of m w f pc (target pc f) on)
 
+    -- the row gives no node
+    row_bare : enters (lands.o k s st id v me p is verb l pc asks acts unseen).leads ≡ false
+    row_bare =
+        node_comes_at_entry m w f pc
+        row_is
+        (lands.fitting k s st id v me p is verb l pc asks acts unseen).after
+        (not_entry pc f on)
+
     row_nodes : (lands.n k s st id v me p is verb l pc asks acts unseen).node ≡ m.node
     row_nodes =
-        (lands.row_done k s st id v me p is verb l pc asks acts unseen).node
-        (node_comes_at_entry m w f pc
-        (record {
-          awake = lands.awake_row k s st id v me p is verb l pc asks acts unseen;
-          spin = row_is;
-        })
-        (lands.fitting k s st id v me p is verb l pc asks acts unseen).after
-        (not_entry pc f on))
+        (lands.row_done k s st id v me p is verb l pc asks acts unseen).node row_bare
         ∙ (ap (λ (z : World). z.node) (word_of m w f pc (target pc f) on) ∙ word_nodes m f.lock stores)
+
+    row_marks : SameMarks m (lands.n k s st id v me p is verb l pc asks acts unseen)
+    row_marks =
+        let d = lands.row_done k s st id v me p is verb l pc asks acts unseen in
+        let z = word_marks m f.lock stores in
+        let e = word_of m w f pc (target pc f) on in
+        record {
+          entry = d.entry ∙ (ap (λ (x : World). x.entry) e ∙ z.entry);
+          halted = d.halted ∙ (ap (λ (x : World). x.halted) e ∙ z.halted);
+          kicked = d.kicked ∙ (ap (λ (x : World). x.kicked) e ∙ z.kicked);
+        }
 
     row_rws : (lands.n k s st id v me p is verb l pc asks acts unseen).rw ≡ m.rw
     row_rws =
@@ -250,7 +295,7 @@ module _ (k : Plan) {S : Type 0} (s : State S View) (st : Runs k s) (id : ℕ) (
 
     -- a step on a lock word that makes the row of the call, where it writes what the row stores
     pub word_step : (i : ℕ)
-        → i ≡ packed (unwrap_or (word_stores k.mode pc f (target pc f) found) found)
+        → i ≡ packed (layout_in k) (unwrap_or (word_stores k.mode pc f (target pc f) found) found)
         → (u : View) → u.who ≡ v.who
         → u.calls ≡ row_of (terms_of k) p (acting k.mode v.calls verb l.index) (Word found) → (homes : List (Maybe S))
         → Runs k {S = S} (record { words = set s.words (word_at l) i; homes = homes; views = set s.views id u })
@@ -260,13 +305,19 @@ module _ (k : Plan) {S : Type 0} (s : State S View) (st : Runs k s) (id : ℕ) (
         let here : n.word l ≡ unwrap_or stores found =
         (λ j. row_words j (sym acts.lock j)) ∙ word_here m f.lock stores in
         let low = word_from l in let high = word_below k l near in
-        lands.lands k s st id v me p is verb l pc asks acts unseen u who
-        (calls ∙ ap (row_of (terms_of k) p (acting k.mode v.calls verb l.index)) (sym met_is))
+        lands.lands k s st id v me p is verb l pc asks acts unseen (Word found) (sym met_is)
+        (λ e. absurd (off_links pc acts.frame on e))
+        (λ b mine. inl (bare_me f (lands.o k s st id v me p is verb l pc asks acts unseen).leads b row_bare mine))
+        st.marks
+        (kept_marks m n _ st.marks at.acted.sound.spins
+        (lands.marked_here k s st id v me p is verb l pc asks acts unseen)
+        (λ a b h. ap (λ (g : NodeName → Node). (g a).next) (sym row_nodes) ∙ h))
+        u who calls
         (set s.words (word_at l) i)
-        (lock_stored k st.world n s.words st.stored l i near plain_lock
+        (lock_stored k st.world n st.marks s.words st.stored l i near plain_lock
         (writes
-        ∙ (ap (λ (z : Mode). packed (unwrap_or (word_stores z pc f (target pc f) found) found)) mode
-        ∙ ap packed (sym here)))
+        ∙ (ap (λ (z : Mode). packed (layout_in k) (unwrap_or (word_stores z pc f (target pc f) found) found)) mode
+        ∙ ap (packed (layout_in k)) (sym here)))
         (λ j ne. ap (λ (g : LockName → Fields). g j) row_words
         ∙ (word_else m f.lock j stores (ap (same_lock j) acts.lock ∙ same_lock-else j l ne)
         ∙ ap (λ (g : LockName → Fields). g j) at.acted.same.word))
@@ -275,4 +326,7 @@ module _ (k : Plan) {S : Type 0} (s : State S View) (st : Runs k s) (id : ℕ) (
         (get_or-set_other s.words (word_at l) 0 i 0 (λ e. omega arith))
         (λ q e ne fit. ap (λ (g : NodeName → Node). g (node_name q (st.world.queued q))) (row_nodes ∙ at.acted.same.node))
         (λ q e ne fit. counted_after st.world n e (sym (row_nodes ∙ at.acted.same.node)) fit.counted)
+        (halting_same k s st.world n (set s.words (word_at l) i) id p (far_set k s.words (word_at l) i (omega arith))
+        (marks_trans (acted_marks at.acted.same) row_marks)
+        (λ a. ap (λ (g : NodeName → Node). (g a).state) (row_nodes ∙ at.acted.same.node)) st.halting)
         homes

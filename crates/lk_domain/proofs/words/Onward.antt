@@ -14,7 +14,7 @@ use Rattle.lk_law.specs.Leads.{Word}
 use Rattle.lk_domain.specs.Calls.{Calls}
 use Rattle.lk_domain.specs.Keeps.{Slot}
 use Rattle.lk_domain.specs.Ledgers.{is_first}
-use Rattle.lk_domain.specs.Plans.{locks_of}
+use Rattle.lk_domain.specs.Plans.{locks_of, layout_in}
 use Rattle.lk_domain.specs.Plays.{ActsOn, MadeBy, WentBy, rowed}
 use Rattle.lk_domain.specs.Rows.{queues_up, is_patient, is_watch, looks_by, takes_by, frees_by, pends_by}
 use Rattle.lk_domain.specs.Rows.{clears_by, claims_by, arrives_by, soles_by, stakes_by, promotes_by}
@@ -104,7 +104,7 @@ module _ (k plan : Plan) (slots id : ℕ) (m : Me Slot View) (number : IsNumbere
   pub asks_on : (kind : Pc → Bool) (acts : ActsOn kind m.0 verb n)
       → ((pc : Pc) → kind pc ≡ true → (fr : Frame) → OnWord (target pc fr))
       → (MayFree acts.row → is_first n ≡ true → m.0.ledger.out ≡ None)
-      → is_first_of acts.row verb ≡ false → (f : ℕ → ℕ) → WritesAt acts.row acts.stands.frame f
+      → is_first_of acts.row verb ≡ false → (f : ℕ → ℕ) → WritesAt (layout_in plan) acts.row acts.stands.frame f
       → Allows (Stand k) slots id m i f (WentBy m)
   asks_on kind acts on home later f writes =
       let low = subst (λ (x : Plan). n.index < locks_of x) (sym same) near in
@@ -113,12 +113,12 @@ module _ (k plan : Plan) (slots id : ℕ) (m : Me Slot View) (number : IsNumbere
       (plays_on k slots id m number verb n low acts.row acts.stands acts.begins word home (λ a x b. WentBy a x b) f
       (λ s both me. record {
         found = plays.y k slots id m number verb n low acts.row acts.stands acts.begins word home s both me;
-        packs = plays.y_packs k slots id m number verb n low acts.row acts.stands acts.begins word home s both me;
+        packs = plays.y_packable k slots id m number verb n low acts.row acts.stands acts.begins word home s both me;
         tail = plays.y_tail k slots id m number verb n low acts.row acts.stands acts.begins word home s both me;
-        word = plays.y_is k slots id m number verb n low acts.row acts.stands acts.begins word home s both me;
+        word = plays.y_word k slots id m number verb n low acts.row acts.stands acts.begins word home s both me;
         seat = ap (λ (c : Calls). (rowed m.0 c (Word (plays.y k slots id m number verb n low acts.row acts.stands acts.begins word home s both me)), m.1))
             (acting_now m.0.who.plan.mode m.0.calls verb n acts.row acts.stands later);
-      }) writes)
+      }) (subst (λ (x : Plan). WritesAt (layout_in x) acts.row acts.stands.frame f) (sym same) writes))
 
 -- such a step is one of the operation, on the lock
 pub made_on : (v : Verb) (l : LockName) (met : ℕ) (m n : Me Slot View) (kind : Pc → Bool) (acts : ActsOn kind m.0 v l)

@@ -20,7 +20,7 @@ fetch_sub-met-requires c =
           (λ pc h fr. clear_on pc fr (clear_kind v pc h).0)
           (λ may. absurd (clear_frees may.0 may.1 may.2 acts.row (clear_kind v acts.row acts.is).0 may.3))
           (clear_later v acts.row acts.is) (λ n. (n + (2 ^ 64 - 256)) % 2 ^ 64)
-          (λ mode y packs known. clears mode acts.row acts.stands.frame y (clear_kind v acts.row acts.is).0 packs known),
+          (λ mode y packs known. clears _ mode acts.row acts.stands.frame y (clear_kind v acts.row acts.is).0 packs known),
     )
 
 pub returns-clause-step : goal.returns-clause-step

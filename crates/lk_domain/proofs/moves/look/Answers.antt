@@ -20,7 +20,7 @@ load-met-requires c =
           (λ pc h fr. look_on pc fr (look_kind v pc h))
           (λ may. absurd (look_frees may.0 may.1 may.2 acts.row (look_kind v acts.row acts.is) may.3))
           (look_later v acts.row c.requires.verb acts.is) (λ n. n)
-          (λ mode y packs known. looks mode acts.row acts.stands.frame y (look_kind v acts.row acts.is)),
+          (λ mode y packs known. looks _ mode acts.row acts.stands.frame y (look_kind v acts.row acts.is)),
     )
 
 pub returns-clause-step : goal.returns-clause-step

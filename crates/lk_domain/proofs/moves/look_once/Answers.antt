@@ -17,5 +17,5 @@ load-met-requires c =
       asks d.table.shared.key d.plan z.slots c.args.seat.now.id c.args.seat.now.me c.requires.number Try c.args.lock i
           (step z.slots i 0 0 none) d.key c.requires.lock c.lock_word-word.ensures refl is_look c.requires.row
           (λ pc h fr. look_on pc fr h) (λ pc h may. absurd (look_frees may.0 may.1 may.2 pc h may.3))
-          (λ n. n) (λ pc h mode fr y packs known. looks mode pc fr y h),
+          (λ n. n) (λ pc h mode fr y packs known. looks _ mode pc fr y h),
     )

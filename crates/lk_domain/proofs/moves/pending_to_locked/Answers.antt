@@ -20,7 +20,7 @@ fetch_sub-met-requires c =
           (λ pc h fr. claim_on pc fr (claim_kind v pc h).0)
           (λ may. absurd (claim_frees may.0 may.1 may.2 acts.row (claim_kind v acts.row acts.is).0 may.3))
           (claim_later v acts.row acts.is) (λ n. (n + (2 ^ 64 - 255)) % 2 ^ 64)
-          (λ mode y packs known. claims mode acts.row acts.stands.frame y (claim_kind v acts.row acts.is).0 packs known),
+          (λ mode y packs known. claims _ mode acts.row acts.stands.frame y (claim_kind v acts.row acts.is).0 packs known),
     )
 
 pub returns-clause-step : goal.returns-clause-step

@@ -20,7 +20,7 @@ fetch_sub-met-requires c =
           (λ pc h fr. free_on pc fr (free_kind v pc h).0)
           (λ may first. absurd (wait_last v c.args.lock c.requires.verb c.requires.row.inside first))
           (free_later v acts.row c.requires.verb acts.is) (λ n. (n + (2 ^ 64 - 1)) % 2 ^ 64)
-          (λ mode y packs known. releases mode acts.row acts.stands.frame y (free_kind v acts.row acts.is).0 packs known),
+          (λ mode y packs known. releases _ mode acts.row acts.stands.frame y (free_kind v acts.row acts.is).0 packs known),
     )
 
 pub returns-clause-step : goal.returns-clause-step

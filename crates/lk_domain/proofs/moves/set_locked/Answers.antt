@@ -20,7 +20,7 @@ fetch_add-met-requires c =
           (λ pc h fr. stake_on pc fr (stake_kind v pc h).0)
           (λ may. absurd (stake_frees may.0 may.1 may.2 acts.row (stake_kind v acts.row acts.is).0 may.3))
           (stake_later v acts.row acts.is) (λ n. (n + 1) % 2 ^ 64)
-          (λ mode y packs known. stakes mode acts.row acts.stands.frame y (stake_kind v acts.row acts.is).0 packs known),
+          (λ mode y packs known. stakes _ mode acts.row acts.stands.frame y (stake_kind v acts.row acts.is).0 packs known),
     )
 
 pub returns-clause-step : goal.returns-clause-step

@@ -21,7 +21,7 @@ fetch_or-met-requires c =
           (λ pc h fr. pend_on pc fr (pend_kind v pc h).0)
           (λ may. absurd (pend_frees may.0 may.1 may.2 acts.row (pend_kind v acts.row acts.is).0 may.3))
           (pend_later v acts.row acts.is) (λ n. bit_or n 256)
-          (λ mode y packs known. pends mode acts.row acts.stands.frame y (pend_kind v acts.row acts.is).0),
+          (λ mode y packs known. pends _ mode acts.row acts.stands.frame y (pend_kind v acts.row acts.is).0),
     )
 
 pub returns-clause-step : goal.returns-clause-step

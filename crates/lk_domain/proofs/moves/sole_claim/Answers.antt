@@ -1,5 +1,6 @@
 use Rattle.std.proofs.Common.{arith, ap, ◌∙◌, eqb, ℕ}
 use prog.Atomic.{either}
+use Rattle.lk_domain.specs.Plans.{layout_in}
 use Rattle.lk_word.specs.SpinWord.{packed}
 use Rattle.lk_machine.specs.Moves.{node_of}
 use Rattle.lk_domain.specs.Rows.{soles_by}
@@ -26,8 +27,8 @@ compare_exchange-met-requires c =
           (λ pc h fr. sole_on pc fr (sole_kind v pc h).0)
           (λ may. absurd (sole_frees may.0 may.1 may.2 acts.row (sole_kind v acts.row acts.is).0 may.3))
           (sole_later v acts.row acts.is) (λ n. either (eqb n tail) 1 n)
-          (λ mode y packs known. ap (λ (t : ℕ). either (eqb (packed y) t) 1 (packed y)) c.tail_of-tail.ensures
-          ∙ sole_takes mode acts.row acts.stands.frame y own (sole_kind v acts.row acts.is).0 packs
+          (λ mode y packs known. ap (λ (t : ℕ). either (eqb (packed (layout_in d.plan) y) t) 1 (packed (layout_in d.plan) y)) c.tail_of-tail.ensures
+          ∙ sole_takes (layout_in d.plan) mode acts.row acts.stands.frame y own (sole_kind v acts.row acts.is).0 packs
           (let a = near.cpu in let b = near.index in let few = d.lawful.cpus in (omega arith, omega arith)) (ap node_of c.requires.row.me)),
     )
 

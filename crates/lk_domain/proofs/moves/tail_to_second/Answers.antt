@@ -1,5 +1,6 @@
 use Rattle.std.proofs.Common.{arith, ap, ◌∙◌, ◌+◌, eqb, ℕ}
 use prog.Atomic.{either}
+use Rattle.lk_domain.specs.Plans.{layout_in}
 use Rattle.lk_word.specs.SpinWord.{packed}
 use Rattle.lk_machine.specs.Moves.{node_of}
 use Rattle.lk_domain.specs.Rows.{promotes_by}
@@ -26,8 +27,8 @@ compare_exchange-met-requires c =
           (λ pc h fr. promote_on pc fr (promote_kind v pc h).0)
           (λ may. absurd (promote_frees may.0 may.1 may.2 acts.row (promote_kind v acts.row acts.is).0 may.3))
           (promote_later v acts.row acts.is) (λ n. either (eqb n old) new n)
-          (λ mode y packs known. (λ j. either (eqb (packed y) (c.tail_of-met_own.ensures j + 1)) (c.tail_of-new.ensures j + 1) (packed y))
-          ∙ promotes mode acts.row acts.stands.frame y c.args.own c.args.tail (promote_kind v acts.row acts.is).0 packs
+          (λ mode y packs known. (λ j. either (eqb (packed (layout_in d.plan) y) (c.tail_of-met_own.ensures j + 1)) (c.tail_of-new.ensures j + 1) (packed (layout_in d.plan) y))
+          ∙ promotes (layout_in d.plan) mode acts.row acts.stands.frame y c.args.own c.args.tail (promote_kind v acts.row acts.is).0 packs
           (let a = near.cpu in let b = near.index in let few = d.lawful.cpus in (omega arith, omega arith)) (ap node_of c.requires.row.me) c.requires.row.t),
     )
 

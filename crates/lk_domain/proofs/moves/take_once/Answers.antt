@@ -18,5 +18,5 @@ compare_exchange-met-requires c =
       asks d.table.shared.key d.plan z.slots c.args.seat.now.id c.args.seat.now.me c.requires.number Try c.args.lock i
           (step z.slots i 0 1 none) d.key c.requires.lock c.lock_word-word.ensures refl is_take c.requires.row
           (λ pc h fr. take_on pc fr h) (λ pc h may. absurd (take_frees may.0 may.1 may.2 pc h may.3))
-          (λ n. either (eqb n 0) 1 n) (λ pc h mode fr y packs known. takes mode pc fr y h),
+          (λ n. either (eqb n 0) 1 n) (λ pc h mode fr y packs known. takes _ mode pc fr y h),
     )

@@ -21,7 +21,7 @@ compare_exchange-met-requires c =
           (λ pc h fr. take_on pc fr (take_kind v pc h))
           (λ may. absurd (take_frees may.0 may.1 may.2 acts.row (take_kind v acts.row acts.is) may.3))
           (take_later v acts.row c.requires.verb acts.is) (λ n. either (eqb n 0) 1 n)
-          (λ mode y packs known. takes mode acts.row acts.stands.frame y (take_kind v acts.row acts.is)),
+          (λ mode y packs known. takes _ mode acts.row acts.stands.frame y (take_kind v acts.row acts.is)),
     )
 
 pub returns-clause-step : goal.returns-clause-step

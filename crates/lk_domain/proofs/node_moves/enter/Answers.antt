@@ -3,11 +3,11 @@ use Rattle.atomic_table.specs.Table.{Allows}
 use Rattle.lk_domain.specs.NodePlays.{Enters}
 use Rattle.lk_domain.specs.Stand.{Stand}
 use Rattle.lk_domain.proofs.words.NodeWords.{low}
-use Rattle.lk_domain.proofs.queue.NodePlays.{reset_last}
+use Rattle.lk_domain.proofs.queue.NodeAsks.{reset_last}
 use Rattle.lk_domain.proofs.node_moves.enter.Goals as goal
 
-pub swap-met-requires : goal.swap-met-requires
-swap-met-requires c =
+pub swap-requires : goal.swap-requires
+swap-requires c =
     let d = c.args.domain.now in
     let k = d.table.shared.key in
     let z = d.table.shared.table_id in

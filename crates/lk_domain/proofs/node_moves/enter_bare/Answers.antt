@@ -1,10 +1,10 @@
 use Rattle.std.proofs.Common.{arith}
 use Rattle.lk_domain.proofs.words.Locks.{word_below}
-use Rattle.lk_domain.proofs.queue.NodePlays.{bare_look}
+use Rattle.lk_domain.proofs.queue.NodeAsks.{bare_look}
 use Rattle.lk_domain.proofs.node_moves.enter_bare.Goals as goal
 
-pub load-met-requires : goal.load-met-requires
-load-met-requires c =
+pub load-requires : goal.load-requires
+load-requires c =
     let d = c.args.domain.now in
     let z = d.table.shared.table_id in
     let i = c.word_of-word.result in (

@@ -1,5 +1,5 @@
 use Rattle.std.proofs.Common.{arith}
-use Rattle.lk_domain.proofs.queue.NodePlays.{look_flag}
+use Rattle.lk_domain.proofs.queue.NodeAsks.{look_flag}
 use Rattle.lk_domain.proofs.node_moves.look_flag.Goals as goal
 
 pub load-met-requires : goal.load-met-requires

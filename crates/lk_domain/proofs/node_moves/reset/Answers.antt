@@ -5,11 +5,11 @@ use Rattle.lk_domain.specs.NodePlays.{Readies}
 use Rattle.lk_domain.specs.Words.{node_at}
 use Rattle.lk_domain.specs.Stand.{Stand}
 use Rattle.lk_domain.proofs.words.NodeWords.{low}
-use Rattle.lk_domain.proofs.queue.NodePlays.{reset_one}
+use Rattle.lk_domain.proofs.queue.NodeAsks.{reset_one}
 use Rattle.lk_domain.proofs.node_moves.reset.Goals as goal
 
-pub swap-met-requires : goal.swap-met-requires
-swap-met-requires c =
+pub swap-requires : goal.swap-requires
+swap-requires c =
     let d = c.args.domain.now in
     let k = d.table.shared.key in
     let z = d.table.shared.table_id in
@@ -23,5 +23,5 @@ swap-met-requires c =
 
 pub returns-clause-step : goal.returns-clause-step
 returns-clause-step c =
-    c.swap-met.ensures.2 c.args.own c.args.part
+    c.swap.ensures.2 c.args.own c.args.part
     (c.node_of-word.ensures ∙ (λ j. node_at (sym c.requires.plan j) c.args.own c.args.part))

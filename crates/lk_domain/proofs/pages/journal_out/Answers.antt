@@ -1,25 +1,33 @@
-use Rattle.std.proofs.Common.{sym, ap, ◌∙◌, ◌∷◌, List, ℕ, Some, arith}
-use mathlib.Core.Option.{none}
-use Rattle.atomic_table.specs.Table.{step, Me, rest}
-use Rattle.lk_domain.specs.Keeps.{Slot}
-use Rattle.lk_domain.specs.declared.view.View.{View}
-use Rattle.lk_domain.proofs.ledger.Loads.{takes_journal}
+use Rattle.std.proofs.Common.{refl, ap, ◌∙◌}
+use Rattle.lk_domain.specs.Who.{Who}
+use Rattle.lk_domain.proofs.Seating.{table_of, seat_of}
+use Rattle.lk_domain.proofs.ledger.Told as told
 use Rattle.lk_domain.proofs.pages.journal_out.Goals as goal
 
-pub load-requires : goal.load-requires
-load-requires c =
+pub journal_out-requires : goal.journal_out-requires
+journal_out-requires c =
     let d = c.args.domain.now in
-    let z = d.table.shared.table_id in
-    let cpu = c.args.cpu.now in (
-      c.requires.domain.table,
-      (let w = d.words in omega arith),
-      takes_journal d.table.shared.key z.slots cpu.seat.id cpu.seat.me (step z.slots 1 0 0 none) (cpu.number, cpu.numbered) c.requires.held c.requires.home,
-    )
+    record {
+      table = table_of d;
+      seat = seat_of c.args.cpu.now d c.requires.domain;
+      held = c.requires.held;
+      home = c.requires.home;
+    }
 
-pub exchange-requires : goal.exchange-requires
-exchange-requires c =
-    let t = c.load.ensures.2 in
-    let at = ap (λ (x : Me Slot View). x.1) t.seat in (
-      c.load.ensures.0 ∙ c.requires.domain.table,
-      (Some t.journal, at ∙ ap (λ (l : List (ℕ × Slot)). (0, Some t.journal) ∷ rest l) (sym at)),
-    )
+pub invariant_of-cpu : goal.invariant_of-cpu
+invariant_of-cpu c =
+    let cpu = c.args.cpu.now in
+    let old = cpu.seat.me.0.calls in
+    let new = c.journal_out.new.seat.me.0.calls in
+    let kept = c.journal_out.ensures.rest in
+    record {
+      numbered = ap (λ (w : Who). w.number) kept.who ∙ cpu.numbered;
+      noted = told.noted old new kept.calls cpu.noted;
+      apart = told.apart old new kept.calls cpu.apart;
+      carried = kept.carried;
+    }
+
+pub returns-clause-rest : goal.returns-clause-rest
+returns-clause-rest c =
+    let kept = c.journal_out.ensures.rest in
+    record { same = record { table = kept.table; id = kept.id; number = refl; who = kept.who }; calls = kept.calls }

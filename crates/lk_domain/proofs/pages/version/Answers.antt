@@ -1,32 +1,32 @@
-use Rattle.std.proofs.Common.{refl, arith}
-use mathlib.Core.Option.{none}
-use Rattle.atomic_table.specs.Table.{step}
-use Rattle.lk_domain.specs.Ledgers.{sighted}
-use Rattle.lk_domain.proofs.ledger.Loads.{sees}
+use Rattle.std.proofs.Common.{refl, ap, ◌∙◌}
+use Rattle.lk_domain.specs.Who.{Who}
+use Rattle.lk_domain.proofs.Seating.{table_of, seat_of}
 use Rattle.lk_domain.proofs.ledger.Told as told
 use Rattle.lk_domain.proofs.pages.version.Goals as goal
 
-pub load-requires : goal.load-requires
-load-requires c =
+pub version-requires : goal.version-requires
+version-requires c =
     let d = c.args.domain.now in
-    let z = d.table.shared.table_id in
-    let cpu = c.args.cpu.now in (
-      c.requires.domain.table,
-      (let w = d.words in omega arith),
-      sees d.table.shared.key z.slots cpu.seat.id cpu.seat.me (step z.slots 1 0 0 none) (cpu.number, cpu.numbered) c.requires.held,
-    )
+    record {
+      table = table_of d;
+      seat = seat_of c.args.cpu.now d c.requires.domain;
+      held = c.requires.held;
+    }
 
 pub invariant_of-cpu : goal.invariant_of-cpu
 invariant_of-cpu c =
     let cpu = c.args.cpu.now in
-    let m = cpu.seat.me in
-    let n = c.load.new.seat.me in
-    let e = c.load.ensures.2.seat in
-    let g = sighted m.0.ledger c.load.result in
-    let same = told.calls m n g e in
+    let old = cpu.seat.me.0.calls in
+    let new = c.version.new.seat.me.0.calls in
+    let kept = c.version.ensures.rest in
     record {
-      numbered = told.numbered m n g e cpu.numbered;
-      noted = told.noted m.0.calls n.0.calls same cpu.noted;
-      apart = told.apart m.0.calls n.0.calls same cpu.apart;
-      carried = told.carried m n g e refl cpu.carried;
+      numbered = ap (λ (w : Who). w.number) kept.who ∙ cpu.numbered;
+      noted = told.noted old new kept.calls cpu.noted;
+      apart = told.apart old new kept.calls cpu.apart;
+      carried = kept.carried;
     }
+
+pub returns-clause-rest : goal.returns-clause-rest
+returns-clause-rest c =
+    let kept = c.version.ensures.rest in
+    record { same = record { table = kept.table; id = kept.id; number = refl; who = kept.who }; calls = kept.calls }

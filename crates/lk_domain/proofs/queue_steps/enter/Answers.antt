@@ -20,25 +20,25 @@ pub step-requires-clause-steps : goal.step-requires-clause-steps
 step-requires-clause-steps c =
     let cpu = c.args.cpu.now in
     let m = cpu.seat.me in
-    let n = c.enter-met.new.seat.me in
+    let n = c.enter.new.seat.me in
     let row = c.requires.row in
     let same = stepped.newest m.0.calls c.args.verb row.lock c.newest-lock.result G1 row.at.stands (λ r rs e. c.newest-lock.ensures m.0.calls r rs cpu.noted e) in (
       m.0.calls,
       n.0.calls,
       cpu.noted,
       subst (λ (l : ℕ). Steps m.0.calls n.0.calls l _ _ _) same
-          (stepped.enters c.args.verb row.lock m n cpu.apart cpu.noted.few c.enter-met.result row.at c.enter-met.ensures.step).steps,
+          (stepped.enters c.args.verb row.lock m n cpu.apart cpu.noted.few 0 row.at c.enter.ensures.step).steps,
     )
 
 pub invariant_of-cpu : goal.invariant_of-cpu
 invariant_of-cpu c =
     let cpu = c.args.cpu.now in
     let m = cpu.seat.me in
-    let n = c.enter-met.new.seat.me in
+    let n = c.enter.new.seat.me in
     let at = c.requires.row in
-    let told = c.enter-met.ensures.step in
+    let told = c.enter.ensures.step in
     let same = stepped.newest m.0.calls c.args.verb at.lock c.newest-lock.result G1 at.at.stands (λ r rs e. c.newest-lock.ensures m.0.calls r rs cpu.noted e) in
-    let t = stepped.enters c.args.verb at.lock m n cpu.apart cpu.noted.few c.enter-met.result at.at told in
+    let t = stepped.enters c.args.verb at.lock m n cpu.apart cpu.noted.few 0 at.at told in
     record {
       numbered = row.node_numbered (Number (slows m.0.calls.frames)) m n told cpu.numbered;
       noted = c.step.ensures m.0.calls n.0.calls cpu.noted (subst (λ (l : ℕ). Steps m.0.calls n.0.calls l _ _ _) same t.steps);

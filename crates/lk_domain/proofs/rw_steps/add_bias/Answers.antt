@@ -26,7 +26,7 @@ step-requires-clause-steps c =
       m.0.calls,
       n.0.calls,
       cpu.noted,
-      stepped.join_noted v l met m n made cpu.apart cpu.noted.few b _ (cpu.noted.noted.each l lt) c.requires.row c.waits_after_join-waits.result c.has_after_join-has.result c.waits_after_join-waits.ensures c.has_after_join-has.ensures,
+      stepped.join_noted v l met m n made cpu.apart cpu.noted.few b _ (cpu.noted.noted.each l) c.requires.row c.waits_after_join-waits.result c.has_after_join-has.result c.waits_after_join-waits.ensures c.has_after_join-has.ensures,
     )
 
 pub invariant_of-cpu : goal.invariant_of-cpu
@@ -43,7 +43,7 @@ invariant_of-cpu c =
     record {
       numbered = stepped.numbered v l met m n made cpu.apart cpu.noted.few cpu.numbered;
       noted = c.step.ensures m.0.calls n.0.calls cpu.noted
-          (stepped.join_noted v l met m n made cpu.apart cpu.noted.few b _ (cpu.noted.noted.each l lt) c.requires.row c.waits_after_join-waits.result c.has_after_join-has.result c.waits_after_join-waits.ensures c.has_after_join-has.ensures);
+          (stepped.join_noted v l met m n made cpu.apart cpu.noted.few b _ (cpu.noted.noted.each l) c.requires.row c.waits_after_join-waits.result c.has_after_join-has.result c.waits_after_join-waits.ensures c.has_after_join-has.ensures);
       apart = (stepped.join v l met m n made cpu.apart cpu.noted.few b c.requires.row).apart;
       carried = stepped.carried v l met m n made cpu.apart cpu.noted.few cpu.carried;
     }

@@ -22,7 +22,7 @@ seize-met-requires-clause-row c =
 pub first_step-requires-clause-fresh : goal.first_step-requires-clause-fresh
 first_step-requires-clause-fresh c =
     let lt : c.args.lock.index < 32 = (let lock = c.requires.lock in let few = c.args.domain.now.lawful.locks in omega arith) in
-    c.args.cpu.now.noted.noted.each c.args.lock.index lt ∙ c.requires.fresh
+    c.args.cpu.now.noted.noted.each c.args.lock.index ∙ c.requires.fresh
 
 pub first_step-requires-clause-steps : goal.first_step-requires-clause-steps
 first_step-requires-clause-steps c =

@@ -17,7 +17,7 @@ invariant_of-cpu c =
     let met = c.release-met.result in
     let made = c.release-met.ensures.step in
     let lt : l < 32 = (let lock = c.requires.lock in let few = c.args.domain.now.lawful.locks in omega arith) in
-    let awake = ap (λ (k : Plan). halts k.mode) c.requires.domain.plan ∙ c.args.domain.now.lawful.awake in
+    let awake = ap (λ (k : Plan). halts k.mode) c.requires.domain.plan ∙ c.requires.domain.awake in
     let frames = freed.frames_are l met m n made cpu.apart awake in
     record {
       numbered = row.numbered Unlock l met m n made cpu.numbered;

@@ -24,7 +24,7 @@ unslow old new l slow waits taken = subst (λ (b : Bool). Steps old new l waits 
 pub first_step-requires-clause-fresh : goal.first_step-requires-clause-fresh
 first_step-requires-clause-fresh c =
     let lt : c.args.lock.index < 32 = (let lock = c.requires.lock in let few = c.args.domain.now.lawful.locks in omega arith) in
-    c.args.cpu.now.noted.noted.each c.args.lock.index lt ∙ c.requires.fresh
+    c.args.cpu.now.noted.noted.each c.args.lock.index ∙ c.requires.fresh
 
 pub first_step-requires-clause-steps : goal.first_step-requires-clause-steps
 first_step-requires-clause-steps c =
@@ -36,7 +36,7 @@ first_step-requires-clause-steps c =
       m.0.calls,
       n.0.calls,
       cpu.noted,
-      unslow m.0.calls n.0.calls l (get_or cpu.notes.slow l false) _ _ (cpu.noted.slow.each l lt ∙ none_slow m.0.calls.frames l c.requires.fresh)
+      unslow m.0.calls n.0.calls l (get_or cpu.notes.slow l false) _ _ (cpu.noted.slow.each l ∙ none_slow m.0.calls.frames l c.requires.fresh)
           (stepped.takes_noted Lock c.args.lock c.take_free-met.result m n c.take_free-met.ensures.step cpu.apart cpu.noted.few
           cpu.notes cpu.noted lt (by_lock c.args.verb m.0 c.args.lock c.requires.verb c.requires.row) _ _ refl refl),
     )
@@ -55,7 +55,7 @@ invariant_of-cpu c =
       numbered = row.numbered Lock l.index met m n made cpu.numbered;
       noted = c.first_step.ensures m.0.calls n.0.calls cpu.noted
           (unslow m.0.calls n.0.calls l.index (get_or cpu.notes.slow l.index false) _ _
-          (cpu.noted.slow.each l.index lt ∙ none_slow m.0.calls.frames l.index c.requires.fresh)
+          (cpu.noted.slow.each l.index ∙ none_slow m.0.calls.frames l.index c.requires.fresh)
           (stepped.takes_noted Lock l met m n made cpu.apart cpu.noted.few cpu.notes cpu.noted lt row_is _ _ refl refl));
       apart = (stepped.takes Lock l met m n made cpu.apart cpu.noted.few row_is).apart;
       carried = row.carried Lock l.index met m n made cpu.carried;

@@ -65,6 +65,7 @@ returns-clause-cpu c =
         table = c.split_seat-seat.ensures.3 ∙ (c.fetch_add-number.ensures.0 ∙ c.requires.table);
         plan = ap (λ (v : View). v.who.plan) at ∙ ap (λ (v : View). v.who.plan) t.1;
         low = (let z = t.0 in let y = c.requires.low in omega arith);
+        awake = c.requires.awake;
       };
       number = (let z = t.0 in let y = c.requires.low in omega arith);
       who = ap (λ (v : View). v.who) at ∙ ap (λ (v : View). Rattle.lk_domain.specs.Views.newcomer v.who.plan (Rattle.lk_domain.specs.Views.own_number v.who.number)) t.1;

@@ -1,7 +1,7 @@
 use Rattle.std.proofs.Common.{ap, arith, ◌+◌, ◌∙◌, ◌∷◌, [], length, length-append}
 use Rattle.std.specs.Slots.{slots_items}
 use Rattle.lk_domain.proofs.ledger.Last.{read_more, some_inside}
-use Rattle.lk_domain.proofs.ending.read.Goals as goal
+use Rattle.lk_domain.proofs.ledger_steps.read.Goals as goal
 
 pub loop-account-preserved : goal.loop-account-preserved
 loop-account-preserved c =

@@ -1,6 +1,6 @@
 use Rattle.std.proofs.Common.{◌≡◌, take, drop, length}
 use Rattle.std.specs.Slots.{slots_items}
-use Rattle.lk_domain.proofs.ending.read.Given as goal
+use Rattle.lk_domain.proofs.ledger_steps.read.Given as goal
 
 abbrev pub invariant-loop-account : goal.invariant-loop-account
 invariant-loop-account l = record {

@@ -1,0 +1,85 @@
+-- The marks of links where one is stored, and words that are none of the ledger.
+use Rattle.std.proofs.Common.{◌≡◌, ◌≢◌, inl, inr, ℕ, ◌<◌, ◌≤◌, Some}
+use Rattle.std.proofs.Common.{true, sym, ap, ◌∙◌, subst, arith}
+use Rattle.lk_abs.specs.declared.names.LockName.{LockName}
+use Rattle.lk_abs.specs.declared.names.Waiter.{Waiter}
+use Rattle.lk_word.specs.declared.spin_word.NodeName.{NodeName}
+use Rattle.lk_law.specs.Premises.{Uses}
+use Rattle.lk_law.specs.SpinWorld.{IsSoundSpinWorld}
+use Rattle.lk_law.specs.World.{World}
+use Rattle.lk_domain.specs.Plans.{locks_of, accounts_of}
+use Rattle.lk_domain.specs.Words.{word_at, node_at, version_at, balance_at}
+use Rattle.lk_domain.specs.declared.part.Part.{Part}
+use Rattle.lk_domain.specs.declared.plan.Plan.{Plan}
+use Rattle.lk_domain.proofs.words.Locks.{word_from, word_below}
+use Rattle.lk_abs.specs.History.{LockHistory}
+use Rattle.lk_domain.proofs.rows.Users.{AreRight, KeepsMarks}
+use Rattle.lk_domain.specs.Calls.{is_inner}
+use Rattle.lk_law.specs.Agree.{halts}
+use Rattle.std.proofs.Common.{Bool, false, List, ◌∷◌, length, suc}
+use Rattle.lk_domain.specs.Calls.{Running, Stacked}
+use Rattle.lk_law.proofs.common.Cases.{node_cases}
+use Rattle.lk_law.proofs.common.Puts.{if-false, if-true, same_node-else, same_node-self}
+use Rattle.lk_law.proofs.running.Links.{linked_is_used}
+use Rattle.lk_law.specs.Nodes.{IsFree}
+use Rattle.lk_law.specs.Snapshot.{same_node}
+use Rattle.std.specs.Prelude.{if◌then◌else◌}
+
+-- the marks of the links, where one is stored
+abbrev pub remarked : NodeName → Bool → (NodeName → Bool) → NodeName → Bool
+remarked a mark marks b = if same_node b a then mark else marks b
+
+pub remarked_here : (a : NodeName) (mark : Bool) (marks : NodeName → Bool) → remarked a mark marks a ≡ mark
+remarked_here a mark marks = if-true (same_node a a) mark (marks a) (same_node-self a)
+
+pub remarked_else : (a : NodeName) (mark : Bool) (marks : NodeName → Bool) (b : NodeName) → b ≢ a
+    → remarked a mark marks b ≡ marks b
+remarked_else a mark marks b ne = if-false (same_node b a) mark (marks b) (same_node-else b a ne)
+
+-- a link is stored to a node that is used, with the mark of the call that uses it
+pub relinked : (m n : World) (hs : LockName → LockHistory) (marks : NodeName → Bool) (a : NodeName) (mark : Bool)
+    → IsSoundSpinWorld m hs → (halts m.mode ≡ true → mark ≡ false) → AreRight m marks → (to : NodeName) → (n.node a).next ≡ Some to
+    → ((b : NodeName) → b ≢ a → (n.node b).next ≡ (m.node b).next) → (IsFree m to → ⊥)
+    → ((u : Waiter) → Uses m u to → mark ≡ is_inner u.ctx) → KeepsMarks m n (remarked a mark marks)
+relinked m n hs marks a mark ok unmarked were to here others taken is =
+    record {
+      used = λ awake b c u uses next free. elim (node_cases b a) [
+        | inl e ↦ taken (subst (IsFree m) (sym (to_is b c e next)) free)
+        | inr ne ↦ let w = linked_is_used m hs u b c ok awake uses (sym (others b ne) ∙ next) in free w.0 w.1
+      ];
+      says = λ awake b c u w uses next there. elim (node_cases b a) [
+        | inl e ↦ ap (remarked a mark marks) e ∙ (remarked_here a mark marks
+            ∙ is w (subst (Uses m w) (sym (to_is b c e next)) there))
+        | inr ne ↦ remarked_else a mark marks b ne ∙ were.says awake b c u w uses (sym (others b ne) ∙ next) there
+      ];
+      bare = λ on b. elim (node_cases b a) [
+        | inl e ↦ ap (remarked a mark marks) e ∙ (remarked_here a mark marks ∙ unmarked on)
+        | inr ne ↦ remarked_else a mark marks b ne ∙ were.bare on b
+      ];
+    }
+  where
+    to_is : (b c : NodeName) → b ≡ a → (n.node b).next ≡ Some c → to ≡ c
+    to_is b c e next =
+        let q : Some to ≡ Some c = sym here ∙ (ap (λ (d : NodeName). (n.node d).next) (sym e) ∙ next) in cc q
+
+-- a call that is the only one of its processor is of context 0
+pub alone : (xs : List Running) (x : Running) (rs : List Running) → xs ≡ x ∷ rs → Stacked xs → length xs ≤ 1
+    → x.frame.ctx ≡ 0
+alone xs x rs e stacked few =
+    let count : length xs ≡ suc (length rs) = ap (λ (ys : List Running). length ys) e in
+    let top = (subst Stacked e stacked).0 in omega (arith, count, top, few)
+
+-- the word is none of the ledger's
+pub record IsBare (k : Plan) (j : ℕ) : Type 0 where
+  pub roll : j ≢ 0
+  pub version : j ≢ version_at
+  pub balances : (a : ℕ) → a < accounts_of k → j ≢ balance_at k a
+
+pub node_bare : (k : Plan) → accounts_of k ≤ 64 → (a : NodeName) (q : Part) → IsBare k (node_at k a q)
+node_bare k few a q =
+    record { roll = λ e. omega arith; version = λ e. omega arith; balances = λ b lt e. omega arith }
+
+pub lock_bare : (k : Plan) (l : LockName) → l.index < locks_of k → IsBare k (word_at l)
+lock_bare k l near =
+    let from = word_from l in let below = word_below k l near in
+    record { roll = λ e. omega arith; version = λ e. omega arith; balances = λ b lt e. omega arith }

@@ -1,0 +1,246 @@
+-- A step of a seat keeps the machine part of the rule, where the words afterwards are those of the new
+-- world: what is the other processors'.
+use Rattle.std.proofs.Common.{◌≡◌, ◌≢◌, ◌⊎◌, ⊎_elim, inl, inr, ℕ, zero, suc, ◌+◌, ◌<◌, ◌≤◌, List, ◌∷◌, ◌++◌, []}
+use Rattle.std.proofs.Common.{length, set, get_or, Option, Some, None, Bool, true, false, refl, sym}
+use Rattle.std.proofs.Common.{ap, ◌∙◌, subst, arith}
+use Rattle.std.proofs.lemmas.Bool.{cases_eq}
+use Rattle.std.specs.Prelude.{if◌then◌else◌, not}
+use mathlib.Core.Option.{Option as Maybe, some, some-ne-none}
+use lib.ListN.{get_elem?}
+use Rattle.atomic_table.specs.Table.{State}
+use Rattle.atomic_table.proofs.Lists.{at_set}
+use Rattle.lk_abs.specs.History.{LockHistory}
+use Rattle.lk_abs.specs.declared.names.Kind.{Kind}
+use Rattle.lk_abs.specs.declared.names.Mode.{Mode}
+use Rattle.lk_abs.specs.declared.names.Waiter.{Waiter}
+use Rattle.lk_abs.specs.declared.names.LockName.{LockName}
+use Rattle.lk_word.specs.declared.spin_word.NodeName.{NodeName}
+use Rattle.lk_machine.specs.declared.parts.Node.{Node}
+use Rattle.lk_machine.specs.declared.parts.Frame.{Frame}
+use Rattle.lk_machine.specs.declared.parts.Pc.{Pc}
+use Rattle.lk_machine.specs.declared.setup.Verb.{Verb}
+use Rattle.lk_machine.specs.Moves.{node_of}
+use Rattle.lk_law.specs.Agree.{halts}
+use Rattle.lk_law.specs.SoundWorld.{IsSoundWorld}
+use Rattle.lk_law.specs.World.{World}
+use Rattle.lk_domain.specs.Calls.{Mark, Running, Calls, no_calls, Stacked, Rests}
+use Rattle.lk_domain.specs.Calls.{after}
+use Rattle.lk_domain.specs.Calls.{AreHeld, releases}
+use Rattle.lk_domain.specs.Calls.{frames_after}
+use Rattle.lk_domain.specs.Calls.{told}
+use Rattle.lk_domain.specs.Calls.{acting, begin, is_on}
+use Rattle.lk_domain.specs.Plans.{cpus_of}
+use Rattle.lk_domain.specs.Runs.{waiter, node_name, Mirrors, SeatFits, IsReset, IsStored, IsOfPlan}
+use Rattle.lk_domain.specs.Runs.{IsIdle, IsCounted, AreTold, Runs, IsHalting, Seeks, Sought}
+use Rattle.lk_domain.proofs.rows.Halts.{SameMarks, IsFarSame, far_same, seeks_same}
+use Rattle.lk_domain.specs.Views.{numbers}
+use Rattle.lk_domain.specs.Who.{Who}
+use Rattle.lk_domain.specs.declared.plan.Plan.{Plan}
+use Rattle.lk_domain.specs.declared.view.View.{View}
+use Rattle.lk_domain.proofs.rows.Begun.{Elsewhere}
+use Rattle.lk_domain.proofs.Manners.{held_above}
+use Rattle.lk_domain.proofs.Stacks.{frame_in-above}
+use Rattle.lk_domain.proofs.seats.Totals.{total-same, apart, drawn}
+use Rattle.lk_domain.proofs.rows.Users.{AreRight}
+use Rattle.lk_domain.proofs.rows.Users.{right_marks, marks_right}
+
+-- a seat whose newest call has read its count acts by that call
+pub acting_same : (mode : Mode) (c : Calls) (v : Verb) (l r : ℕ) → (acting mode c v l).runs ≡ Some r → acting mode c v l ≡ c
+acting_same mode c v l r e = by (is_on c.frames v l) e
+  where
+    by : (b : Bool) → (if b then c else begin mode c v l).runs ≡ Some r → (if b then c else begin mode c v l) ≡ c
+    by true h = refl
+    by false h = cc h
+
+-- a count is there where the nodes are the same
+pub counted_after : (m n : World) (c : Calls) → m.node ≡ n.node → IsCounted m c → IsCounted n c
+counted_after m n c same counted j x rs runs frames =
+    let h = counted j x rs runs frames in
+    record {
+      row = h.row;
+      place = h.place;
+      front = h.front;
+      is = ap (λ (g : NodeName → Node). (g (node_of x.frame.me)).runs) (sym same) ∙ h.is;
+    }
+
+pub set_at : {A : Type 0} (l : List A) (i : ℕ) (a b : A) → get_elem? l i ≡ some a
+    → get_elem? (set l i b) i ≡ some b
+set_at [] i a b e = absurd (some-ne-none a (sym e))
+set_at (x ∷ xs) zero a b e = refl
+set_at (x ∷ xs) (suc i) a b e = set_at xs i a b e
+
+-- a call that has looked at no place of the hash has passed nothing by
+pub unlooked : (k : Plan) (ws : List ℕ) (l : ℕ) → Sought k ws l 0 None
+unlooked k ws l =
+    record { passed = λ i a lt. absurd (omega (arith, lt)); inside = omega arith; found = λ a e. absurd (none_some e) }
+  where
+    none_some : {a : NodeName} → None ≡ Some a → ⊥
+    none_some e = cc e
+
+-- a call that begins has halted nobody
+pub acting_halted : (mode : Mode) (c : Calls) (v : Verb) (l : ℕ) → c.halted ≡ (acting mode c v l).halted
+acting_halted mode c v l = by (is_on c.frames v l)
+  where
+    by : (b : Bool) → c.halted ≡ (if b then c else begin mode c v l).halted
+    by true = refl
+    by false = refl
+
+-- the calls after a row are as the rule wants them
+
+pub after_stacked : (v : Verb) (g : Frame) (t : List Mark) (rs : List Running) (q : Option Pc)
+    → g.ctx ≡ length rs → Stacked rs → Stacked (frames_after v g t rs q)
+after_stacked v g t rs None e s = s
+after_stacked v g t rs (Some c) e s = (e, s)
+
+pub after_few : (v : Verb) (g : Frame) (t : List Mark) (rs : List Running) (q : Option Pc)
+    → length rs < 6 → length (frames_after v g t rs q) ≤ 6
+after_few v g t rs None h = omega arith
+after_few v g t rs (Some c) h = omega arith
+
+pub fewer : (v : Verb) (g : Frame) (t : List Mark) (rs : List Running) (q : Option Pc)
+    → suc (length rs) ≤ 1 → length (frames_after v g t rs q) ≤ 1
+fewer v g t rs None h = omega arith
+fewer v g t rs (Some c) h = omega arith
+
+pub after_rests : (v : Verb) (g : Frame) (t : List Mark) (rs : List Running) (q : Option Pc)
+    → releases g ≡ false → Rests rs → Rests (frames_after v g t rs q)
+after_rests v g t rs None calm h = h
+after_rests v g t rs (Some c) calm h = (calm, h)
+
+mirrors_else : (m n : World) (p q : ℕ) (c : Calls) → Elsewhere m n p → q ≢ p → Mirrors m q c
+    → Mirrors n q c
+mirrors_else m n p q c others ne s =
+    record {
+      frames = λ d. (others (waiter q d) ne).0 ∙ s.frames d;
+      holds = λ d l. (others (waiter q d) ne).1 l ∙ s.holds d l;
+    }
+
+-- the contexts of a processor
+idle_above : (n : World) (p : ℕ) (c : Calls) → SeatFits n p c → (w : Waiter) → 6 ≤ w.ctx → w.cpu ≡ p
+    → IsIdle n w
+idle_above n p c fit w high e =
+    subst (λ (z : ℕ). IsIdle n (waiter z w.ctx)) (sym e) (
+      fit.mirrors.frames w.ctx ∙ frame_in-above c.frames w.ctx fit.stacked (let x = fit.few in omega arith),
+      λ l. fit.mirrors.holds w.ctx l ∙ held_above n.kind c.holds w.ctx l fit.held high,
+    )
+
+-- the nodes to come of the other processors are as before
+abbrev pub KeepsComing : World → World → ℕ → Type 0
+KeepsComing m n p = (q : ℕ) (d : Calls) → q ≢ p → SeatFits m q d
+    → n.node (node_name q (m.queued q)) ≡ m.node (node_name q (m.queued q))
+
+-- What is there of halts, kicks and the hash after a step of the processor p: the words are the
+-- world's, the other processors have halted as before, and who seeks an entry has not passed it by.
+pub record Halting (k : Plan) {S : Type 0} (s : State S View) (m n : World) (ws : List ℕ) (id p : ℕ) : Type 0 where
+  pub words : halts k.mode ≡ true → IsHalting k n ws
+  pub halted : (q : ℕ) → q ≢ p → n.halted q ≡ m.halted q
+  pub seeks : (j : ℕ) (x : View) → get_elem? s.views j ≡ some x → Seeks k s.words x.calls → j ≢ id → Seeks k ws x.calls
+
+-- so it is where a word below those of halts was written
+pub halting_same : (k : Plan) {S : Type 0} (s : State S View) (m n : World) (ws : List ℕ) (id p : ℕ)
+    → IsFarSame k s.words ws → SameMarks m n → ((a : NodeName) → (n.node a).state ≡ (m.node a).state)
+    → (halts k.mode ≡ true → IsHalting k m s.words) → Halting k s m n ws id p
+halting_same k s m n ws id p far same state h =
+    record {
+      words = λ on. far_same k m n s.words ws far same state (h on);
+      halted = λ q ne. ap (λ (g : ℕ → Bool). g q) same.halted;
+      seeks = λ j x at seeks ne. seeks_same k s.words ws far x.calls seeks;
+    }
+
+-- and so are the counts that they have read
+abbrev pub KeepsCounts : World → World → ℕ → Type 0
+KeepsCounts m n p = (q : ℕ) (d : Calls) → q ≢ p → SeatFits m q d → IsCounted n d
+
+-- and what their fronts were told
+abbrev pub KeepsTold : World → World → ℕ → Type 0
+KeepsTold m n p = (q : ℕ) (d : Calls) → q ≢ p → SeatFits m q d → AreTold n d.frames
+
+module _ (k : Plan) {S : Type 0} (s : State S View) (st : Runs k s) (id : ℕ) (v : View)
+    (me : get_elem? s.views id ≡ some v) (p : ℕ) (is : v.who.number ≡ Some p) where
+  abbrev fits : SeatFits st.world p v.calls
+  fits = st.seats id v p me is
+
+  abbrev roll_of : ℕ
+  roll_of = get_or s.words 0 0
+
+  -- the marks of the links are right
+  pub right : AreRight st.world st.marks
+  right = right_marks st.world _ st.marks st.sound.spins st.marked
+
+  -- The step of a seat that leaves who it is, and the other processors' frames and holds and the
+  -- nodes to come, as they are, keeps the rule.
+  pub keeps : (n : World) (hs : LockName → LockHistory) (marks : NodeName → Bool) (u : View) (ws : List ℕ)
+      → IsSoundWorld n hs → IsOfPlan k n → IsStored k n marks ws → AreRight n marks → get_or ws 0 0 ≡ roll_of
+      → Elsewhere st.world n p → ((q : ℕ) → q ≢ p → n.queued q ≡ st.world.queued q)
+      → KeepsComing st.world n p → KeepsCounts st.world n p → KeepsTold st.world n p → u.who ≡ v.who
+      → SeatFits n p u.calls
+      → Halting k s st.world n ws id p → Seeks k ws u.calls
+      → (homes : List (Maybe S))
+      → Runs k {S = S} (record { words = ws; homes = homes; views = set s.views id u })
+  keeps n hs marks u ws sound of_plan stored marked roll others queued coming counts tolds who fit beside sought homes =
+      let views = set s.views id u in
+      let number : u.who.number ≡ Some p = ap (λ (x : Who). x.number) who ∙ is in
+      record {
+        lawful = st.lawful;
+        world = n;
+        histories = hs;
+        sound = sound;
+        of_plan = of_plan;
+        marks = marks;
+        stored = stored;
+        marked = marks_right n _ marks sound.spins marked;
+        halting = beside.words;
+        seeks = λ j x at. ⊎_elim (λ a. subst (λ (y : View). Seeks k ws y.calls) a.1 sought)
+            (λ a. beside.seeks j x a.1 (st.seeks j x a.1) a.0) (at_set s.views id j u x at);
+        seats = λ j x q at is'. ⊎_elim
+            (λ t. let same : p ≡ q = number_is (sym number ∙ (ap (λ (y : View). y.who.number) t.1 ∙ is')) in
+            subst (λ (y : View). SeatFits n q y.calls) t.1
+            (subst (λ (y : ℕ). SeatFits n y u.calls) same fit))
+            (λ t.
+            let ne : q ≢ p = λ e. t.0 (apart s.views roll_of st.once id j v x p me t.1 is (is' ∙ ap Some e)) in
+            let old = st.seats j x q t.1 is' in
+            record {
+              mirrors = mirrors_else st.world n p q x.calls others ne old.mirrors;
+              stacked = old.stacked;
+              few = old.few;
+              rests = old.rests;
+              held = subst (λ (kind : ℕ → Kind). AreHeld kind x.calls.holds) (sym (of_plan.kind ∙ sym st.of_plan.kind)) old.held;
+              fresh = old.fresh;
+              reset = subst (λ (i : ℕ). IsReset x.calls.ready (n.node (node_name q i))) (sym (queued q ne))
+                  (subst (IsReset x.calls.ready) (sym (coming q x.calls ne old)) old.reset);
+              counted = counts q x.calls ne old;
+              told = tolds q x.calls ne old;
+              single = λ on. old.single (ap halts (st.of_plan.mode ∙ sym of_plan.mode) ∙ on);
+              halted = beside.halted q ne ∙ old.halted;
+            })
+            (at_set s.views id j u x at);
+        once = λ q. total-same (λ y. Rattle.lk_domain.specs.Views.times q (numbers y)) s.views id v u me
+            (ap (λ (w : Who). Rattle.lk_domain.specs.Views.times q (Rattle.lk_domain.specs.Views.listed w.number ++ Rattle.std.proofs.Common.map Rattle.lk_domain.specs.Views.number_of w.ended)) (sym who))
+            ∙ (st.once q ∙ ap (Rattle.lk_domain.specs.Views.once_below q) (sym roll));
+        blank = λ q h. let h' : roll_of ≤ q = subst (λ (r : ℕ). r ≤ q) roll h in
+            mirrors_else st.world n p q no_calls others
+            (λ e. let z = drawn s.views roll_of st.once id v p me is in omega arith) (st.blank q h');
+        roll = subst (λ (r : ℕ). r ≤ cpus_of k) (sym roll) st.roll;
+        six = λ w high. elim (cases_eq w.cpu p) [
+          | inl e ↦ idle_above n p u.calls fit w high e
+          | inr ne ↦ ((others w ne).0 ∙ (st.six w high).0, λ l. (others w ne).1 l ∙ (st.six w high).1 l)
+        ];
+        planned = λ j x q at e. ⊎_elim
+            (λ a. ap (λ (z : View). z.who.plan) (sym a.1) ∙ (ap (λ (w : Who). w.plan) who ∙ st.planned id v p me is))
+            (λ a. st.planned j x q a.1 e) (at_set s.views id j u x at);
+        silent = λ j x at none. ⊎_elim
+            (λ a. absurd (some_none (sym number ∙ (ap (λ (z : View). z.who.number) a.1 ∙ none))))
+            (λ a. st.silent j x a.1 none) (at_set s.views id j u x at);
+        deals = λ j x q at is'. ⊎_elim
+            (λ a. let same : v.who ≡ x.who = sym who ∙ ap (λ (z : View). z.who) a.1 in
+            let d = st.deals id v q me (ap (λ (w : Who). w.dealt) same ∙ is') in
+            record { first = a.0 ∙ d.first; next = roll ∙ d.next; of_plan = ap (λ (w : Who). w.plan) (sym same) ∙ d.of_plan })
+            (λ a. let d = st.deals j x q a.1 is' in record { first = d.first; next = roll ∙ d.next; of_plan = d.of_plan })
+            (at_set s.views id j u x at);
+      }
+    where
+      number_is : {a b : ℕ} → Some a ≡ Some b → a ≡ b
+      number_is e = grind (arith, e)
+
+      some_none : {a : ℕ} → Some a ≡ None → ⊥
+      some_none e = cc
