@@ -1,0 +1,20 @@
+-- What the steps of a paravirtual domain rest on.
+pub mod Unmarked
+pub mod OnStates
+pub mod StatePlays
+pub mod OnMarks
+pub mod MarkPlays
+pub mod WordPlays
+pub mod PvSwaps
+pub mod Fails
+pub mod PvNodes
+pub mod PvEntries
+pub mod Quits
+pub mod PvRunning
+pub mod Dealing
+pub mod PvSeating
+pub mod HashMaps
+pub mod OnHash
+pub mod OnSeeks
+pub mod Kicked
+pub mod ways

@@ -1,0 +1,439 @@
+-- The steps on the kick word of a processor: a halt, and its end.
+use Rattle.std.proofs.Common.{◌≡◌, ◌≢◌, inl, inr, ℕ, ◌<◌, List, [], ◌∷◌, set, get_or, length-set}
+use Rattle.std.proofs.Common.{Option, Some, None, Bool, true, false, eqb, eq-eqb, ne_eqb, refl, sym, ap, ◌∙◌, subst, arith}
+use Rattle.std.proofs.Common.{get_or-set_other, get_or-set_same}
+use Rattle.std.proofs.lemmas.Bool.{cases_eq}
+use Rattle.std.specs.Prelude.{if◌then◌else◌, ◌&&◌, not}
+use mathlib.Core.Option.{Option as Maybe, some}
+use lib.ListN.{get_elem?}
+use Rattle.atomic_table.specs.Table.{State as Table}
+use Rattle.lk_abs.specs.Lawful.{Rules}
+use Rattle.lk_abs.specs.declared.names.Waiter.{Waiter}
+use Rattle.lk_abs.specs.declared.names.LockName.{LockName}
+use Rattle.lk_word.specs.declared.spin_word.NodeName.{NodeName}
+use Rattle.lk_machine.specs.declared.parts.Node.{Node}
+use Rattle.lk_machine.specs.declared.parts.Frame.{Frame}
+use Rattle.lk_machine.specs.declared.parts.Pc.{Pc}
+use Rattle.lk_machine.specs.declared.parts.Pc.TheVariants.{G1, W6, E12, U5}
+use Rattle.lk_machine.specs.Moves.{node_of}
+use Rattle.lk_machine.specs.declared.setup.Verb.{Verb}
+use Rattle.lk_machine.specs.Acts.{stands_halting, after_halt}
+use Rattle.lk_machine.specs.TopRow.{target}
+use Rattle.lk_law.specs.Agree.{halts}
+use Rattle.lk_law.specs.Families.{chooses}
+use Rattle.lk_law.specs.Leads.{Marked, met_in, stored_in, enters}
+use Rattle.lk_law.specs.Premises.{IsNewest, roused}
+use Rattle.lk_law.specs.Steps.{put_halted, put_kicked}
+use Rattle.lk_law.specs.World.{World}
+use Rattle.lk_law.proofs.common.Puts.{if-false}
+use Rattle.lk_law.proofs.pv.HaltLayers.{wake_keeps}
+use Rattle.lk_law.proofs.running.Calm.{node_comes_at_entry}
+use Rattle.lk_domain.specs.Calls.{terms_of, Running, Calls, StandsOn, Stacked, AreFresh, row_of, acting, Begins}
+use Rattle.lk_domain.specs.Calls.{frame_in, begins_release, is_seeking, is_leaving}
+use Rattle.lk_domain.specs.Plans.{cpus_of}
+use Rattle.lk_domain.specs.Runs.{waiter, node_name, IsStored, IsHalting, SeatFits, Runs, Seeks, seeks_entry, Mirrors}
+use Rattle.lk_domain.specs.Words.{places_of, node_at, node_number, state_at, kick_at, hash_at, state_number, mark_number, stored_number}
+use Rattle.lk_domain.specs.declared.part.Part.{Part}
+use Rattle.lk_domain.specs.declared.part.Part.TheVariants as part
+use Rattle.lk_domain.specs.declared.plan.Plan.{Plan}
+use Rattle.lk_domain.specs.declared.view.View.{View}
+use Rattle.lk_domain.proofs.Stacks.{frame_in-above}
+use Rattle.lk_domain.proofs.rows.Begun.{same_at, else_at}
+use Rattle.lk_domain.proofs.rows.Grips.{IsOwn, own_row}
+use Rattle.lk_domain.proofs.rows.Halts.{hash_same}
+use Rattle.lk_domain.proofs.rows.Kept as rule
+use Rattle.lk_domain.proofs.rows.Lands as lands
+use Rattle.lk_domain.proofs.rows.Kept.{counted_after}
+use Rattle.lk_domain.proofs.rows.Poised.{Poised}
+use Rattle.lk_domain.proofs.rows.Sights.{IsSeen}
+use Rattle.lk_domain.proofs.words.Locks.{SameLocks, locks_else, locks_same, locks_trans, acted_locks}
+use Rattle.lk_domain.proofs.queue.LockSwaps.{set_self}
+use Rattle.lk_domain.proofs.queue.OnNodes.{in_plan, top_live}
+use Rattle.lk_pvdomain.specs.PvRows.{halts_at}
+use Rattle.lk_pvdomain.specs.PvPlays.{stirred, woken}
+use Rattle.lk_pvdomain.proofs.OnStates.{seeks_hash, hash_words}
+use Rattle.lk_domain.proofs.rows.Users.{bare_me}
+use Rattle.lk_pvdomain.proofs.Unmarked.{unseen_links, marks_stay, untold}
+
+if_if : {A : Type 0} (b : Bool) (x y z : A) → (if b then x else (if b then y else z)) ≡ (if b then x else z)
+if_if true x y z = refl
+if_if false x y z = refl
+
+pub halt_seen : (c : Pc) (f : Frame) (r : Option ℕ) → halts_at c ≡ true → IsSeen c (target c f) r
+halt_seen W6 f r h = (tt, tt)
+halt_seen E12 f r h = (tt, tt)
+halt_seen _ f r h = cc h
+
+halt_own : (c : Pc) (f : Frame) → halts_at c ≡ true → IsOwn (target c f)
+halt_own W6 f h = tt
+halt_own E12 f h = tt
+halt_own _ f h = cc h
+
+halt_entry : (c : Pc) → halts_at c ≡ true → c ≢ G1
+halt_entry G1 h e = cc h
+halt_entry _ h e = cc e
+
+halt_met : (m : World) (w : Waiter) (f : Frame) (c : Pc) → halts_at c ≡ true → met_in m w f (target c f) ≡ Marked (m.halted w.cpu)
+halt_met m w f W6 h = refl
+halt_met m w f E12 h = refl
+halt_met m w f _ h = cc h
+
+halt_stored : (m : World) (w : Waiter) (f : Frame) (c : Pc) → halts_at c ≡ true
+    → stored_in m w f c (target c f) ≡ put_halted m w.cpu true
+halt_stored m w f W6 h = refl
+halt_stored m w f E12 h = refl
+halt_stored m w f _ h = cc h
+
+-- where a halt may end
+after_calm : (o : Option Pc) → stands_halting o ≡ true → begins_release (after_halt o) ≡ false
+after_calm (Some W6) h = refl
+after_calm (Some E12) h = refl
+after_calm _ h = cc h
+
+was_seeking : (o : Option Pc) → stands_halting o ≡ true → is_seeking o ≡ true
+was_seeking (Some W6) h = refl
+was_seeking (Some E12) h = refl
+was_seeking _ h = cc h
+
+after_unsought : (o : Option Pc) → stands_halting o ≡ true → seeks_entry (after_halt o) ≡ false
+after_unsought (Some W6) h = refl
+after_unsought (Some E12) h = refl
+after_unsought _ h = cc h
+
+halting_unchosen : (o : Option Pc) (c : Pc) → o ≡ Some c → stands_halting o ≡ true → chooses c ≡ true → ⊥
+halting_unchosen (Some W6) c e h k = let q : W6 ≡ c = same e in let z = ap chooses q ∙ k in cc z
+  where
+    same : {a b : Pc} → Some a ≡ Some b → a ≡ b
+    same q = grind (arith, q)
+halting_unchosen (Some E12) c e h k = let q : E12 ≡ c = same e in let z = ap chooses q ∙ k in cc z
+  where
+    same : {a b : Pc} → Some a ≡ Some b → a ≡ b
+    same q = grind (arith, q)
+halting_unchosen _ c e h k = cc h
+
+abbrev top_place : List Running → Option Pc
+top_place [] = None
+top_place (r ∷ rs) = r.frame.place
+
+-- kick words stand apart
+kick_place : (k : Plan) (p q : ℕ) → kick_at k p ≡ kick_at k q → p ≡ q
+kick_place k p q e = omega (arith, e)
+
+node_kick : (k : Plan) (p : ℕ) (b : NodeName) (q : Part) → b.cpu < cpus_of k → b.index < 4 → node_at k b q ≡ kick_at k p → ⊥
+node_kick k p b part.Flag lt h e = omega (arith, lt, h, e)
+node_kick k p b part.Next lt h e = omega (arith, lt, h, e)
+node_kick k p b part.SecondTail lt h e = omega (arith, lt, h, e)
+node_kick k p b part.Runs lt h e = omega (arith, lt, h, e)
+
+module _ (k : Plan) {S : Type 0} (s : Table S View) (st : Runs k s) (id : ℕ) (v : View)
+    (me : get_elem? s.views id ≡ some v) (p : ℕ) (is : v.who.number ≡ Some p)
+    (halting : halts k.mode ≡ true) where
+  abbrev fits : SeatFits st.world p v.calls
+  fits = st.seats id v p me is
+
+  -- the row by which the processor halts
+  module _ (verb : Verb) (l : LockName) (pc : Pc) (asks : Begins k v.calls verb l.index)
+      (acts : StandsOn (acting k.mode v.calls verb l.index) verb l pc) (on : halts_at pc ≡ true)
+      (goes_on : acting k.mode v.calls verb l.index ≡ v.calls) (awake : v.calls.halted ≡ false) where
+    abbrev pub unseen : IsSeen pc (target pc acts.frame) (acting k.mode v.calls verb l.index).runs
+    unseen = halt_seen pc acts.frame (acting k.mode v.calls verb l.index).runs on
+
+    abbrev f : Frame
+    f = acts.frame
+
+    abbrev w : Waiter
+    w = waiter p f.ctx
+
+    abbrev at : Poised st.world p (acting k.mode v.calls verb l.index)
+    at = lands.at k s st id v me p is verb l pc asks acts unseen
+
+    abbrev m : World
+    m = at.acted.world
+
+    abbrev n : World
+    n = lands.n k s st id v me p is verb l pc asks acts unseen
+
+    pub met_is : met_in m w f (target pc f) ≡ Marked false
+    met_is =
+        halt_met m w f pc on
+        ∙ ap Marked (ap (λ (g : ℕ → Bool). g p) at.acted.same.halted ∙ (fits.halted ∙ awake))
+
+    is_stored : stored_in m w f pc (target pc f) ≡ put_halted m p true
+    is_stored = halt_stored m w f pc on
+
+    -- the row gives no node
+    row_bare : enters (lands.o k s st id v me p is verb l pc asks acts unseen).leads ≡ false
+    row_bare =
+        node_comes_at_entry m w f pc (own_row pc f (halt_own pc f on)) (lands.fitting k s st id v me p is verb l pc asks acts unseen).after (halt_entry pc on)
+
+    nodes : n.node ≡ st.world.node
+    nodes =
+        (lands.row_done k s st id v me p is verb l pc asks acts unseen).node row_bare
+        ∙ (ap (λ (z : World). z.node) is_stored ∙ at.acted.same.node)
+
+    row_locks : SameLocks st.world n
+    row_locks =
+        let d = lands.row_done k s st id v me p is verb l pc asks acts unseen in
+        locks_trans (acted_locks at.acted.same)
+        (record {
+          word = d.word ∙ ap (λ (x : World). x.word) is_stored;
+          rw = d.rw ∙ ap (λ (x : World). x.rw) is_stored;
+          kind = d.kind;
+        })
+
+    pub halt_step : (u : View) → u.who ≡ v.who
+        → u.calls ≡ row_of (terms_of k) p (acting k.mode v.calls verb l.index) (Marked false) → (homes : List (Maybe S))
+        → Runs k {S = S} (record {
+          words = set s.words (kick_at k p) (get_or s.words (kick_at k p) 0);
+          homes = homes;
+          views = set s.views id u;
+        })
+    halt_step u who calls homes =
+        let j : ℕ = kick_at k p in
+        let same : set s.words j (get_or s.words j 0) ≡ s.words = set_self s.words j in
+        let d = lands.row_done k s st id v me p is verb l pc asks acts unseen in
+        let entry = d.entry ∙ (ap (λ (x : World). x.entry) is_stored ∙ at.acted.same.entry) in
+        let kicked = d.kicked ∙ (ap (λ (x : World). x.kicked) is_stored ∙ at.acted.same.kicked) in
+        lands.lands k s st id v me p is verb l pc asks acts unseen (Marked false) (sym met_is)
+        (unseen_links m _ at.acted.sound.spins (ap halts (at.acted.same.mode ∙ st.of_plan.mode) ∙ halting) w f pc
+        (lands.live k s st id v me p is verb l pc asks acts unseen) acts.place (Marked false))
+        (λ b mine. inl (bare_me f (lands.o k s st id v me p is verb l pc asks acts unseen).leads b row_bare mine))
+        st.marks (marks_stay m n st.marks (ap halts (at.acted.same.mode ∙ st.of_plan.mode) ∙ halting) (lands.marked_here k s st id v me p is verb l pc asks acts unseen))
+        u who calls
+        (set s.words j (get_or s.words j 0))
+        (subst (IsStored k n st.marks) (sym same) (record {
+          long = st.stored.long;
+          locks = locks_same k st.world n s.words st.stored.locks row_locks;
+          nodes = λ b q lt h has. st.stored.nodes b q lt h has ∙ ap (λ (g : NodeName → Node). stored_number (st.marks b) q (node_number q (g b))) (sym nodes);
+        }))
+        (ap (λ (ws : List ℕ). get_or ws 0 0) same)
+        (λ q e ne fit. ap (λ (g : NodeName → Node). g (node_name q (st.world.queued q))) nodes)
+        (λ q e ne fit. counted_after st.world n e (sym nodes) fit.counted)
+        (record {
+          words = λ h. let b = st.halting h in
+              subst (IsHalting k n) (sym same) (record {
+                states = λ a lt low. b.states a lt low ∙ ap (λ (g : NodeName → Node). state_number (g a).state) (sym nodes);
+                kicks = λ q lt. b.kicks q lt ∙ ap (λ (g : ℕ → Bool). mark_number (g q)) (sym kicked);
+                hash = hash_same k st.world n s.words entry b.hash;
+              });
+          halted = λ q ne. ap (λ (g : ℕ → Bool). g q) (d.halted ∙ ap (λ (x : World). x.halted) is_stored)
+              ∙ (if-false (eqb q p) true (m.halted q) (ne_eqb q p ne) ∙ ap (λ (g : ℕ → Bool). g q) at.acted.same.halted);
+          seeks = λ j' x here seeks ne. subst (λ (ws : List ℕ). Seeks k ws x.calls) (sym same) seeks;
+        })
+        homes
+
+  -- the row by which a kick is remembered, which ends a release
+  module _ (verb : Verb) (l : LockName) (asks : Begins k v.calls verb l.index)
+      (acts : StandsOn (acting k.mode v.calls verb l.index) verb l U5)
+      (near : (node_of acts.frame.target).cpu < cpus_of k) where
+    abbrev q : ℕ
+    q = (node_of acts.frame.target).cpu
+
+    abbrev f₁ : Frame
+    f₁ = acts.frame
+
+    abbrev w₁ : Waiter
+    w₁ = waiter p f₁.ctx
+
+    abbrev at₁ : Poised st.world p (acting k.mode v.calls verb l.index)
+    at₁ = lands.at k s st id v me p is verb l U5 asks acts (tt, tt)
+
+    abbrev m₁ : World
+    m₁ = at₁.acted.world
+
+    abbrev n₁ : World
+    n₁ = lands.n k s st id v me p is verb l U5 asks acts (tt, tt)
+
+    -- whether one was remembered already
+    abbrev pub kick_found : Bool
+    kick_found = m₁.kicked q
+
+    pub kick_is : get_or s.words (kick_at k q) 0 ≡ mark_number kick_found
+    kick_is =
+        (st.halting halting).kicks q near
+        ∙ ap (λ (g : ℕ → Bool). mark_number (g q)) (sym at₁.acted.same.kicked)
+
+    row_bare₁ : enters (lands.o k s st id v me p is verb l U5 asks acts (tt, tt)).leads ≡ false
+    row_bare₁ = node_comes_at_entry m₁ w₁ f₁ U5 refl (lands.fitting k s st id v me p is verb l U5 asks acts (tt, tt)).after (λ e. cc e)
+
+    nodes₁ : n₁.node ≡ st.world.node
+    nodes₁ =
+        (lands.row_done k s st id v me p is verb l U5 asks acts (tt, tt)).node row_bare₁
+        ∙ at₁.acted.same.node
+
+    pub kick_step : (u : View) → u.who ≡ v.who
+        → u.calls ≡ row_of (terms_of k) p (acting k.mode v.calls verb l.index) (Marked kick_found) → (homes : List (Maybe S))
+        → Runs k {S = S} (record { words = set s.words (kick_at k q) 1; homes = homes; views = set s.views id u })
+    kick_step u who calls homes =
+        let ws : List ℕ = set s.words (kick_at k q) 1 in
+        let d = lands.row_done k s st id v me p is verb l U5 asks acts (tt, tt) in
+        let long = st.stored.long in
+        let other : (j : ℕ) → j ≢ kick_at k q → get_or ws j 0 ≡ get_or s.words j 0 =
+        λ j ne. get_or-set_other s.words (kick_at k q) j 1 0 ne in
+        let hashes : (j : ℕ) → j < places_of k → get_or ws (hash_at k j) 0 ≡ get_or s.words (hash_at k j) 0 =
+        λ j lt. other (hash_at k j) (λ e. omega (arith, e, lt)) in
+        let entry = d.entry ∙ at₁.acted.same.entry in
+        let locks = locks_trans (acted_locks at₁.acted.same) (record { word = d.word; rw = d.rw; kind = d.kind }) in
+        lands.lands k s st id v me p is verb l U5 asks acts (tt, tt) (Marked kick_found) refl (λ e. cc e)
+        (λ b mine. inl (bare_me f₁ (lands.o k s st id v me p is verb l U5 asks acts (tt, tt)).leads b row_bare₁ mine))
+        st.marks (marks_stay m₁ n₁ st.marks (ap halts (at₁.acted.same.mode ∙ st.of_plan.mode) ∙ halting) (lands.marked_here k s st id v me p is verb l U5 asks acts (tt, tt)))
+        u who calls ws
+        (record {
+          long = length-set s.words (kick_at k q) 1 ∙ long;
+          locks = locks_else k st.world n₁ s.words st.stored.locks (kick_at k q) 1 (inr (omega arith)) locks;
+          nodes = λ b r lt h has. other (node_at k b r) (λ e. node_kick k q b r lt h e)
+              ∙ (st.stored.nodes b r lt h has ∙ ap (λ (g : NodeName → Node). stored_number (st.marks b) r (node_number r (g b))) (sym nodes₁));
+        })
+        (other 0 (λ e. omega (arith, e)))
+        (λ r e ne fit. ap (λ (g : NodeName → Node). g (node_name r (st.world.queued r))) nodes₁)
+        (λ r e ne fit. counted_after st.world n₁ e (sym nodes₁) fit.counted)
+        (record {
+          words = λ h. let b = st.halting h in
+              record {
+                states = λ a lt low. other (state_at k a) (λ e. omega (arith, e, lt, low))
+                    ∙ (b.states a lt low ∙ ap (λ (g : NodeName → Node). state_number (g a).state) (sym nodes₁));
+                kicks = λ r lt. elim (cases_eq r q) [
+                  | inl e ↦ ap (λ (z : ℕ). get_or ws (kick_at k z) 0) e
+                      ∙ (get_or-set_same s.words (kick_at k q) 1 0 (omega (arith, long, near))
+                      ∙ sym (ap (λ (z : ℕ). mark_number (n₁.kicked z)) e
+                      ∙ (ap (λ (g : ℕ → Bool). mark_number (g q)) d.kicked
+                      ∙ ap (λ b. mark_number (if b then true else m₁.kicked q)) (eq-eqb q q refl))))
+                  | inr ne ↦ other (kick_at k r) (λ e. ne (kick_place k r q e))
+                      ∙ (b.kicks r lt ∙ ap mark_number (sym (ap (λ (g : ℕ → Bool). g r) d.kicked
+                      ∙ (if-false (eqb r q) true (m₁.kicked r) (ne_eqb r q ne) ∙ ap (λ (g : ℕ → Bool). g r) at₁.acted.same.kicked))))
+                ];
+                hash = hash_words k st.world n₁ s.words ws entry hashes b.hash;
+              };
+          halted = λ r ne. ap (λ (g : ℕ → Bool). g r) (d.halted ∙ at₁.acted.same.halted);
+          seeks = λ j x here seeks ne. seeks_hash k s.words ws hashes x.calls seeks;
+        })
+        homes
+
+  -- the kick is taken, which ends the halt of the processor's one call
+  module _ (x : Running) (is_x : v.calls.frames ≡ x ∷ []) (asleep : v.calls.halted ≡ true) where
+    abbrev y : Waiter
+    y = waiter p x.frame.ctx
+
+    abbrev gone : Frame
+    gone = record x.frame { place = after_halt x.frame.place }
+
+    abbrev x' : Running
+    x' = record x { frame = gone }
+
+    live : st.world.frame y ≡ Some x.frame
+    live = top_live k s st id v me p is fits x [] is_x
+
+    stacked : Stacked (x ∷ [])
+    stacked = subst Stacked is_x fits.stacked
+
+    newest : IsNewest st.world y
+    newest =
+        record {
+          above = λ c lt. fits.mirrors.frames c
+              ∙ (ap (λ (xs : List Running). frame_in xs c) is_x
+              ∙ frame_in-above (x ∷ []) c stacked (let e = stacked.0 in omega (arith, e, lt)));
+          low = let e = stacked.0 in omega (arith, e);
+          shallow = λ q c ge. (st.six (waiter q c) ge).0;
+        }
+
+    abbrev rules : Rules
+    rules = record { format = st.world.format; mode = st.world.mode; sockets = st.world.sockets; threshold = st.world.threshold }
+
+    abbrev n' : World
+    n' = put_kicked (roused st.world y x.frame) p false
+
+    stood : stands_halting x.frame.place ≡ true
+    stood = (wake_keeps st.world st.histories rules y x.frame st.sound newest live (fits.halted ∙ asleep)).0
+
+    abbrev c' : Calls
+    c' = record v.calls { frames = x' ∷ []; halted = false }
+
+    pub woken_is : (woken v).calls ≡ c'
+    woken_is = ap (λ (fs : List Running). record v.calls { frames = stirred fs; halted = false }) is_x
+
+    mirrors' : Mirrors n' p c'
+    mirrors' =
+        record {
+          frames = λ d. (λ i. if same_at p d x.frame.ctx i then Some gone else (fits.mirrors.frames d ∙ ap (λ (xs : List Running). frame_in xs d) is_x) i)
+              ∙ if_if (eqb d x.frame.ctx) (Some gone) (Some x.frame) None;
+          holds = fits.mirrors.holds;
+        }
+
+    on' : halts st.world.mode ≡ true
+    on' = ap halts st.of_plan.mode ∙ halting
+
+    fit' : SeatFits n' p c'
+    fit' =
+        record {
+          mirrors = mirrors';
+          stacked = (stacked.0, tt);
+          few = omega arith;
+          rests = (ap (λ b. b && not (gone.lock.wait && not (is_leaving gone.place))) (after_calm x.frame.place stood), tt);
+          held = fits.held;
+          fresh = (
+            λ h. (subst (λ (rs : List Running). AreFresh rs v.calls.holds) is_x fits.fresh).0 (was_seeking x.frame.place stood),
+            tt,
+          );
+          reset = fits.reset;
+          counted = λ j z rs runs e. let o = fits.counted j x [] runs is_x in
+              absurd (halting_unchosen x.frame.place o.row o.place stood o.front);
+          told = untold n' _ (wake_keeps st.world st.histories rules y x.frame st.sound newest live (fits.halted ∙ asleep)).1.spins on' n' p (x' ∷ []) (λ d g at'. mirrors'.frames d ∙ at');
+          single = λ _. omega arith;
+          halted = ap (λ b. if b then false else st.world.halted p) (eq-eqb p p refl);
+        }
+
+    pub wake_step : (u : View) → u.who ≡ v.who → u.calls ≡ (woken v).calls → (homes : List (Maybe S))
+        → Runs k {S = S} (record { words = set s.words (kick_at k p) 0; homes = homes; views = set s.views id u })
+    wake_step u who calls homes =
+        let ws : List ℕ = set s.words (kick_at k p) 0 in
+        let low : p < cpus_of k = in_plan k s st id v me p is in
+        let long = st.stored.long in
+        let other : (j : ℕ) → j ≢ kick_at k p → get_or ws j 0 ≡ get_or s.words j 0 =
+        λ j ne. get_or-set_other s.words (kick_at k p) j 0 0 ne in
+        let hashes : (j : ℕ) → j < places_of k → get_or ws (hash_at k j) 0 ≡ get_or s.words (hash_at k j) 0 =
+        λ j lt. other (hash_at k j) (λ e. omega (arith, e, lt)) in
+        rule.keeps k s st id v me p is n' _ st.marks u ws
+        (wake_keeps st.world st.histories rules y x.frame st.sound newest live (fits.halted ∙ asleep)).1
+        (record {
+          mode = st.of_plan.mode;
+          turns = st.of_plan.turns;
+          threshold = st.of_plan.threshold;
+          format = st.of_plan.format;
+          sockets = st.of_plan.sockets;
+          kind = st.of_plan.kind;
+        })
+        (record {
+          long = length-set s.words (kick_at k p) 0 ∙ long;
+          locks = locks_else k st.world n' s.words st.stored.locks (kick_at k p) 0 (inr (omega arith)) (record { word = refl; rw = refl; kind = refl });
+          nodes = λ b q lt h has. other (node_at k b q) (λ e. node_kick k p b q lt h e) ∙ st.stored.nodes b q lt h has;
+        })
+        (record {
+          says = λ off. absurd (let z : true ≡ false = sym on' ∙ off in cc z);
+          bare = λ h. (rule.right k s st id v me p is).bare on';
+        })
+        (other 0 (λ e. omega (arith, e)))
+        (λ z ne. (if-false _ (Some gone) (st.world.frame z) (else_at z p x.frame.ctx ne), λ j. refl))
+        (λ q ne. refl) (λ q d ne f. refl) (λ q d ne f. counted_after st.world n' d refl f.counted)
+        (λ q d ne f. untold st.world _ st.sound.spins on' n' q d.frames (λ j g at'. f.mirrors.frames j ∙ at')) who
+        (subst (SeatFits n' p) (sym (calls ∙ woken_is)) fit')
+        (record {
+          words = λ h. let b = st.halting h in
+              record {
+                states = λ a lt low'. other (state_at k a) (λ e. omega (arith, e, lt, low')) ∙ b.states a lt low';
+                kicks = λ q lt. elim (cases_eq q p) [
+                  | inl e ↦ ap (λ (z : ℕ). get_or ws (kick_at k z) 0) e
+                      ∙ (get_or-set_same s.words (kick_at k p) 0 0 (omega (arith, long, low))
+                      ∙ sym (ap (λ (z : ℕ). mark_number (n'.kicked z)) e
+                      ∙ ap (λ b. mark_number (if b then false else st.world.kicked p)) (eq-eqb p p refl)))
+                  | inr ne ↦ other (kick_at k q) (λ e. ne (kick_place k q p e))
+                      ∙ (b.kicks q lt ∙ ap mark_number (sym (if-false (eqb q p) false (st.world.kicked q) (ne_eqb q p ne))))
+                ];
+                hash = hash_words k st.world n' s.words ws refl hashes b.hash;
+              };
+          halted = λ q ne. if-false (eqb q p) false (st.world.halted q) (ne_eqb q p ne);
+          seeks = λ j z here seeks ne. seeks_hash k s.words ws hashes z.calls seeks;
+        })
+        (subst (Seeks k ws) (sym (calls ∙ woken_is)) (λ z rs e h. absurd (
+        let q : seeks_entry (after_halt x.frame.place) ≡ seeks_entry z.frame.place = ap (λ (fs : List Running). seeks_entry (top_place fs)) e in
+        let r : false ≡ true = sym (after_unsought x.frame.place stood) ∙ (q ∙ h) in cc r)))
+        homes

@@ -1,0 +1,82 @@
+-- What the last of a queue asks, who leaves it by one exchange of the whole word.
+use Rattle.std.proofs.Common.{◌≡◌, inl, inr, ℕ, ◌+◌, ◌<◌, ◌≤◌, Some, None, true, false, eqb}
+use Rattle.std.proofs.Common.{refl, sym, ap, ◌∙◌, subst}
+use Rattle.std.proofs.lemmas.Bool.{cases_Bool}
+use Rattle.std.specs.Prelude.{unwrap_or, ◌&&◌, not}
+use prog.Atomic.{either}
+use Rattle.lk_abs.specs.declared.names.LockName.{LockName}
+use Rattle.lk_abs.specs.declared.names.Mode.{Mode}
+use Rattle.lk_word.specs.declared.spin_word.NodeName.{NodeName}
+use Rattle.lk_word.specs.declared.spin_word.Fields.{Fields}
+use Rattle.lk_word.specs.declared.spin_word.Locked.TheVariants.{Held}
+use Rattle.lk_word.specs.declared.spin_word.Layout.{Layout}
+use Rattle.lk_word.specs.SpinWord.{packed, IsPackable, tail_number}
+use Rattle.lk_machine.specs.Moves.{is_node, node_of}
+use Rattle.lk_machine.specs.declared.parts.Frame.{Frame}
+use Rattle.lk_machine.specs.declared.parts.Pc.{Pc}
+use Rattle.lk_machine.specs.declared.parts.Pc.TheVariants.{E13}
+use Rattle.lk_machine.specs.declared.setup.Verb.{Verb}
+use Rattle.lk_machine.specs.rows.Cna.{is_held, is_last}
+use Rattle.lk_machine.specs.TopRow.{target}
+use Rattle.atomic_table.specs.Table.{Me, Allows}
+use Rattle.lk_domain.specs.Keeps.{Slot}
+use Rattle.lk_domain.specs.Plans.{locks_of, layout_in}
+use Rattle.lk_domain.specs.Plays.{WentBy}
+use Rattle.lk_domain.specs.Stand.{Stand}
+use Rattle.lk_domain.specs.Views.{IsNumbered}
+use Rattle.lk_domain.specs.Words.{word_at}
+use Rattle.lk_domain.specs.declared.plan.Plan.{Plan}
+use Rattle.lk_domain.specs.declared.view.View.{View}
+use Rattle.lk_domain.proofs.Acting.{is_first_of}
+use Rattle.lk_domain.proofs.words.Onward.{asks_on}
+use Rattle.lk_domain.proofs.words.LockPlays.{MayFree}
+use Rattle.lk_domain.proofs.words.Numbers.{held_packed}
+use Rattle.lk_domain.proofs.words.OnWords.{OnWord, word_stores}
+use Rattle.lk_domain.proofs.queue.Pending.{last_word, last_is, last_test}
+use Rattle.lk_pvdomain.specs.PvPlays.{AtLast}
+use Rattle.lk_pvdomain.specs.PvRows.{quits}
+use Rattle.lk_pvdomain.proofs.WordPlays.{acts_at, either_frees}
+
+quit_on : (c : Pc) (f : Frame) → quits c ≡ true → OnWord (target c f)
+quit_on E13 f h = tt
+quit_on _ f h = cc h
+
+-- it frees nothing
+quit_frees : (c : Pc) → quits c ≡ true → MayFree c → ⊥
+quit_frees E13 h t = either_frees (is_last t.2 (t.0.word t.2.lock)) _ _ (λ e. cc e) (λ e. cc e) t.3
+quit_frees _ h t = cc h
+
+quit_later : (c : Pc) (v : Verb) → quits c ≡ true → is_first_of c v ≡ false
+quit_later E13 v h = refl
+quit_later _ v h = cc h
+
+-- an exchange of the word of a held lock with the own node as its tail for 1 leaves a held lock without one
+quit : (layout : Layout) (mode : Mode) (c : Pc) (f : Frame) (y : Fields) (n : NodeName) → quits c ≡ true
+    → IsPackable layout y → (n.cpu ≤ 16382) × (n.index ≤ 3) → node_of f.me ≡ n
+    → either (eqb (packed layout y) (tail_number layout (Some n) + 1)) 1 (packed layout y)
+    ≡ packed layout (unwrap_or (word_stores mode c f (target c f) y) y)
+quit layout mode E13 f y n h fits near own =
+    let e = last_test layout f y n fits near own in
+    elim (cases_Bool (is_last f y)) [
+      | inl d ↦
+          let is : y ≡ last_word n = last_is y.locked y.pending y.tail n
+          (subst (λ (z : NodeName). (is_held y.locked && not y.pending && is_node y.tail z) ≡ true) own d) in
+          let new : record y { tail = None } ≡ record { locked = Held; pending = false; tail = None } =
+          (λ i. record (is i) { tail = None }) in
+          ap (λ b. either b 1 (packed layout y)) (e ∙ d)
+          ∙ (sym (held_packed layout) ∙ (ap (packed layout) (sym new) ∙ rw (d, word_stores) refl))
+      | inr d ↦ ap (λ b. either b 1 (packed layout y)) (e ∙ d) ∙ rw (d, word_stores) refl
+    ]
+quit layout mode _ f y n h fits near own = cc h
+
+module _ (k plan : Plan) (slots id : ℕ) (m : Me Slot View) (number : IsNumbered m.0) (verb : Verb)
+    (n : LockName) (i : ℕ) (same : k ≡ plan) (near : n.index < locks_of plan) (at : i ≡ word_at n) where
+  pub quit_asks : (own : NodeName) → (own.cpu ≤ 16382) × (own.index ≤ 3) → (last : ℕ)
+      → last ≡ tail_number (layout_in plan) (Some own) + 1 → AtLast own verb n m.0
+      → Allows (Stand k) slots id m i (λ x. either (eqb x last) 1 x) (WentBy m)
+  quit_asks own small last is h =
+      asks_on k plan slots id m number verb n i same near at quits
+      (acts_at quits m verb n (record { row = E13; is = refl; stands = h.stands })) (λ c q f. quit_on c f q)
+      (λ may. absurd (quit_frees E13 refl may)) (quit_later E13 verb refl) (λ x. either (eqb x last) 1 x)
+      (λ mode y packs known. ap (λ (t : ℕ). either (eqb (packed (layout_in plan) y) t) 1 (packed (layout_in plan) y)) is
+      ∙ quit (layout_in plan) mode E13 h.stands.frame y own refl packs small (ap node_of h.me))

@@ -1,0 +1,32 @@
+use Rattle.std.proofs.Common.{refl, subst}
+use Rattle.lk_machine.specs.declared.parts.Pc.TheVariants.{H2}
+use Rattle.lk_machine.specs.declared.setup.Verb.TheVariants.{Lock}
+use Rattle.lk_pvdomain.specs.PvPaths.{At, Steals}
+use Rattle.lk_pvdomain.specs.PvRows.{tries_steal}
+use Rattle.lk_pvdomain.proofs.ways.Ways.{numbered}
+use Rattle.lk_pvdomain.proofs.ways.Leads.{acts}
+use Rattle.lk_pvdomain.proofs.ways.Arrives.{h2_takes, h2_again, h2_joins}
+use Rattle.lk_pvdomain.proofs.arriving.swap.Goals as goal
+
+pub steal-requires : goal.steal-requires
+steal-requires g c =
+    let w = c.requires.at.1 in
+    record { table = w.of.table_is; number = numbered w; lock = w.low; seen = refl; row = acts w tries_steal refl }
+
+pub returns-then-steal-eq0 : goal.returns-then-steal-eq0
+returns-then-steal-eq0 g c =
+    record {
+      took = λ e s w. h2_takes c.steal.ensures.same w c.steal.ensures.step c.if-steal-eq0.true;
+      again = λ e. absurd (cc e);
+      joins = λ e. absurd (cc e);
+    }
+
+pub returns : goal.returns
+returns g c =
+    record {
+      took = λ e. absurd (cc e);
+      again = λ e t s w. h2_again c.steal.ensures.same
+          (subst (λ b. At c.args.domain.now Lock c.args.lock c.args.own s H2 (Steals c.args.own b) c.args.seat.now) t w) c.steal.ensures.step c.if-steal-eq0.false;
+      joins = λ e t s w. h2_joins c.steal.ensures.same
+          (subst (λ b. At c.args.domain.now Lock c.args.lock c.args.own s H2 (Steals c.args.own b) c.args.seat.now) t w) c.steal.ensures.step c.if-steal-eq0.false;
+    }

@@ -1,0 +1,70 @@
+use Rattle.std.proofs.Common.{sym, ap, arith, ◌∙◌, Some}
+use mathlib.Core.Option.{none}
+use Rattle.atomic_table.specs.Table.{step, Me}
+use Rattle.lk_domain.specs.Calls.{no_calls}
+use Rattle.lk_domain.specs.Keeps.{Slot}
+use Rattle.lk_domain.specs.Plays.{carried_with}
+use Rattle.lk_domain.specs.Views.{dealer, drawer, view}
+use Rattle.lk_domain.specs.declared.view.View.{View}
+use Rattle.lk_domain.proofs.seats.Dealt.{draws, drawn_by}
+use Rattle.lk_domain.proofs.seats.Parted.{splits_at}
+use Rattle.lk_pvdomain.proofs.domain.PvDomain.deal.Goals as goal
+
+pub fetch_add-number-requires : goal.fetch_add-number-requires
+fetch_add-number-requires c =
+    let d = c.args.self.now in
+    let k = d.table.shared.key in
+    let z = d.table.shared.table_id in (
+      c.requires.table,
+      omega (arith, d.words),
+      draws k d.plan z.slots c.args.seat.now.id c.args.seat.now.me c.args.number (step z.slots 0 1 0 none) d.key c.requires.dealer c.requires.low,
+    )
+
+pub split_seat-seat-requires : goal.split_seat-seat-requires
+split_seat-seat-requires c =
+    let d = c.args.self.now in
+    let k = d.table.shared.key in
+    let seat = c.fetch_add-number.new.seat in
+    let t = drawn_by d.plan c.args.seat.now.me seat.me c.args.number c.fetch_add-number.result (step d.table.shared.table_id.slots 0 1 0 none) c.requires.dealer c.fetch_add-number.ensures.2 in (
+      c.fetch_add-number.ensures.0 ∙ c.requires.table,
+      omega (arith, d.words),
+      splits_at k d.plan seat.id c.args.number seat.me.0 t.1,
+    )
+
+pub invariant_of-result : goal.invariant_of-result
+invariant_of-result c =
+    let d = c.args.self.now in
+    let seat = c.fetch_add-number.new.seat in
+    let t = drawn_by d.plan c.args.seat.now.me seat.me c.args.number c.fetch_add-number.result (step d.table.shared.table_id.slots 0 1 0 none) c.requires.dealer c.fetch_add-number.ensures.2 in
+    let at = ap (λ (x : Me Slot View). x.0) c.split_seat-seat.ensures.4 in
+    let few = d.lawful.cpus in
+    record {
+      numbered = ap (λ (v : View). v.who.number) at ∙ (ap (λ (v : View). Some (Rattle.lk_domain.specs.Views.own_number v.who.number)) t.1 ∙ (let z = t.0 in let y = c.requires.low in ap Some (omega arith)));
+      carried = ap (λ (x : Me Slot View). x.1) c.split_seat-seat.ensures.4 ∙ ap carried_with (sym (ap (λ (v : View). v.ledger.out) at ∙ ap (λ (v : View). v.ledger.out) t.1));
+    }
+
+pub returns-clause-dealer : goal.returns-clause-dealer
+returns-clause-dealer c =
+    let d = c.args.self.now in
+    let t = drawn_by d.plan c.args.seat.now.me c.fetch_add-number.new.seat.me c.args.number c.fetch_add-number.result (step d.table.shared.table_id.slots 0 1 0 none) c.requires.dealer c.fetch_add-number.ensures.2 in
+    ap (λ (x : Me Slot View). x.0) c.split_seat-seat.ensures.2
+    ∙ ap (λ (v : View). view (dealer v.who.plan (Rattle.lk_domain.specs.Views.own_number v.who.dealt)) no_calls Rattle.lk_domain.specs.Ledgers.no_ledger) t.1
+
+pub returns-clause-cpu : goal.returns-clause-cpu
+returns-clause-cpu c =
+    let d = c.args.self.now in
+    let t = drawn_by d.plan c.args.seat.now.me c.fetch_add-number.new.seat.me c.args.number c.fetch_add-number.result (step d.table.shared.table_id.slots 0 1 0 none) c.requires.dealer c.fetch_add-number.ensures.2 in
+    let at = ap (λ (x : Me Slot View). x.0) c.split_seat-seat.ensures.4 in
+    let few = d.lawful.cpus in
+    record {
+      domain_is = record {
+        table = c.split_seat-seat.ensures.3 ∙ (c.fetch_add-number.ensures.0 ∙ c.requires.table);
+        plan = ap (λ (v : View). v.who.plan) at ∙ ap (λ (v : View). v.who.plan) t.1;
+        low = (let z = t.0 in let y = c.requires.low in omega arith);
+      };
+      number = (let z = t.0 in let y = c.requires.low in omega arith);
+      who = ap (λ (v : View). v.who) at ∙ ap (λ (v : View). Rattle.lk_domain.specs.Views.newcomer v.who.plan (Rattle.lk_domain.specs.Views.own_number v.who.number)) t.1;
+      calls = ap (λ (v : View). v.calls) at;
+      ledger = ap (λ (v : View). v.ledger) at ∙ ap (λ (v : View). v.ledger) t.1;
+      slots = ap (λ (x : Me Slot View). x.1) c.split_seat-seat.ensures.4;
+    }

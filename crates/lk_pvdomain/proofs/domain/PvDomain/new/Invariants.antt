@@ -1,0 +1,16 @@
+use Rattle.std.proofs.Common.{◌≡◌, length}
+use Rattle.lk_domain.specs.Calls.{no_calls}
+use Rattle.lk_domain.specs.Ledgers.{no_ledger}
+use Rattle.lk_domain.specs.Plans.{cpus_of}
+use Rattle.lk_pvdomain.specs.PvSeats.{AreDealt}
+use Rattle.lk_domain.specs.Views.{view, dealer}
+use Rattle.lk_pvdomain.proofs.domain.PvDomain.new.Given as goal
+
+abbrev pub invariant-loop-number : goal.invariant-loop-number
+invariant-loop-number l = record {
+  table : l.seat.table_id ≡ l.domain.table.shared.table_id;
+  seat : l.seat.me.0 ≡ view (dealer l.domain.plan l.number) no_calls no_ledger;
+  room : l.cpus.room ≡ cpus_of l.domain.plan;
+  many : length l.cpus.items ≡ l.number;
+  dealt : AreDealt l.domain l.cpus.items;
+}

@@ -1,0 +1,18 @@
+use Rattle.std.proofs.Common.{◌≡◌, ◌<◌, take, length, None}
+use Rattle.lk_domain.specs.Ends.{HasPast}
+use Rattle.lk_domain.specs.Seated.{IsSeatOf}
+use Rattle.lk_domain.specs.Views.{all_past}
+use Rattle.lk_pvdomain.specs.PvSeats.{ledger_of}
+use Rattle.lk_pvdomain.proofs.ending.join_all.Given as goal
+
+abbrev pub decreases-loop-cpus : goal.decreases-loop-cpus
+decreases-loop-cpus l = length l.cpus.items
+
+abbrev pub invariant-loop-cpus : goal.invariant-loop-cpus
+invariant-loop-cpus l = record {
+  rest : l.cpus.items ≡ take (length l.cpus.items) l.fn.cpus.items;
+  few : length l.cpus.items < length l.fn.cpus.items;
+  seat : IsSeatOf l.domain.plan l.domain.table.shared.table_id l.last;
+  home : l.last.me.0.ledger.out ≡ None;
+  has : HasPast ledger_of (length l.cpus.items) l.fn.cpus.items (all_past l.last.me.0);
+}

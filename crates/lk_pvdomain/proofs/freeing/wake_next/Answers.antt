@@ -1,0 +1,54 @@
+use Rattle.std.proofs.Common.{refl, sym, subst, ap, ◌∙◌, ◌<◌, arith}
+use Rattle.lk_domain.specs.Ledgers.{Ledger}
+use Rattle.lk_domain.specs.Plans.{cpus_of}
+use Rattle.lk_domain.specs.Words.{IsNode}
+use Rattle.lk_domain.specs.declared.plan.Plan.{Plan}
+use Rattle.lk_pvdomain.specs.PvRows.{drops}
+use Rattle.lk_pvdomain.proofs.ways.Ways.{numbered}
+use Rattle.lk_pvdomain.proofs.ways.Leads.{word_asks, seek_asks}
+use Rattle.lk_pvdomain.proofs.ways.Frees.{u3_finds, u4_frees, u5_kicks, kick_asks, out_freed, pair_cpu, freed_once}
+use Rattle.lk_pvdomain.proofs.freeing.wake_next.Goals as goal
+
+pub take_out-pair-requires : goal.take_out-pair-requires
+take_out-pair-requires c =
+    let w = c.requires.at.1 in
+    record { table = w.of.table_is; number = numbered w; lock = w.low; plan = w.of.plan; row = seek_asks w refl; fresh = w.fresh }
+
+pub drop_slow-requires : goal.drop_slow-requires
+drop_slow-requires c =
+    let v = c.requires.at.1 in
+    let w = u3_finds c.take_out-pair.ensures.same v c.take_out-pair.ensures.step in
+    record {
+      table = w.of.table_is;
+      number = numbered w;
+      lock = w.low;
+      row = word_asks w drops refl;
+      home = λ e. ap (λ (y : Ledger). y.out) (w.ledger ∙ sym v.ledger) ∙ c.requires.home e;
+    }
+
+pub kick-requires : goal.kick-requires
+kick-requires c =
+    let v = c.requires.at.1 in
+    let k = c.take_out-pair.ensures.step in
+    let w = u3_finds c.take_out-pair.ensures.same v k in
+    let x = u4_frees c.drop_slow.ensures.same w c.drop_slow.ensures.step in
+    let few = c.args.domain.now.lawful.locks in
+    let low = v.low in
+    let near = subst (λ (p : Plan). IsNode p k.node) v.of.plan k.near in
+    let cpu = pair_cpu c.args.lock k.node c.take_out-pair.result (omega (arith, few, low)) near.index k.word in
+    record {
+      table = x.1.of.table_is;
+      number = numbered x.1;
+      target = subst (λ n. n < cpus_of c.args.domain.now.plan) (sym cpu) near.cpu;
+      row = kick_asks x.1 _ (sym cpu) (λ e. ap (λ (y : Ledger). y.out) x.1.ledger ∙ (out_freed c.requires.at.0.ledger c.args.lock x.0
+          ∙ (ap (λ (y : Ledger). y.out) (sym v.ledger) ∙ c.requires.home e)));
+    }
+
+pub returns : goal.returns
+returns c =
+    record {
+      freed = λ s v.
+          let w = u3_finds c.take_out-pair.ensures.same v c.take_out-pair.ensures.step in
+          let x = u4_frees c.drop_slow.ensures.same w c.drop_slow.ensures.step in
+          freed_once x.0 (u5_kicks c.kick.ensures.same c.kick.ensures.step.found x.1 c.kick.ensures.step.seat);
+    }

@@ -1,0 +1,23 @@
+use Rattle.std.proofs.Common.{arith, subst}
+use Rattle.lk_abs.specs.declared.names.LockName.{LockName}
+use Rattle.lk_domain.specs.Calls.{running}
+use Rattle.lk_pvdomain.specs.PvPlays.{SeesPlace}
+use Rattle.lk_pvdomain.proofs.OnSeeks.{look_asks}
+use Rattle.lk_pvdomain.proofs.hash.look_place.Goals as goal
+
+pub load-met-requires : goal.load-met-requires
+load-met-requires c =
+    let d = c.args.domain.now in
+    let z = d.table.shared.table_id in (
+      c.requires.table,
+      (let few = d.lawful.locks in let low = c.requires.place in omega (arith, c.place_of-word.ensures, d.words, few, low)),
+      look_asks d.table.shared.key d.plan z.slots c.args.seat.now.id c.args.seat.now.me c.requires.number c.place_of-word.result
+          d.key d.halting c.args.lock c.requires.lock c.requires.row c.args.place c.requires.place c.requires.next
+          c.place_of-word.ensures,
+    )
+
+pub returns-clause-step : goal.returns-clause-step
+returns-clause-step c =
+    let h = c.requires.row in
+    subst (λ (z : LockName). SeesPlace z.index c.args.seat.now.me c.load-met.result c.load-met.new.seat.me) h.stands.lock
+    (c.load-met.ensures.2 (running h.verb h.stands.frame h.stands.trail) h.stands.rest h.stands.is)

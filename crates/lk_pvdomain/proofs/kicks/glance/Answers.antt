@@ -1,0 +1,12 @@
+use Rattle.std.proofs.Common.{arith}
+use Rattle.lk_pvdomain.proofs.MarkPlays.{glance_asks}
+use Rattle.lk_pvdomain.proofs.kicks.glance.Goals as goal
+
+pub load-met-requires : goal.load-met-requires
+load-met-requires c =
+    let d = c.args.domain.now in
+    let z = d.table.shared.table_id in (
+      c.requires.table,
+      (let few = d.lawful.cpus in let low = c.requires.cpu in omega (arith, c.kick_of-word.ensures, d.words, low)),
+      glance_asks d.table.shared.key d.plan z.slots c.args.seat.now.id c.args.seat.now.me c.kick_of-word.result d.key d.halting,
+    )

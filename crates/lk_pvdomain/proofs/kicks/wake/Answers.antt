@@ -1,0 +1,13 @@
+use Rattle.std.proofs.Common.{arith}
+use Rattle.lk_pvdomain.proofs.MarkPlays.{wake_asks}
+use Rattle.lk_pvdomain.proofs.kicks.wake.Goals as goal
+
+pub swap-met-requires : goal.swap-met-requires
+swap-met-requires c =
+    let d = c.args.domain.now in
+    let z = d.table.shared.table_id in (
+      c.requires.table,
+      (let few = d.lawful.cpus in let low = c.requires.cpu in omega (arith, c.kick_of-word.ensures, d.words, low)),
+      wake_asks d.table.shared.key d.plan z.slots c.args.seat.now.id c.args.seat.now.me c.kick_of-word.result d.key d.halting
+          c.args.cpu c.kick_of-word.ensures c.requires.number c.requires.one.0 c.requires.one.1 c.requires.asleep,
+    )

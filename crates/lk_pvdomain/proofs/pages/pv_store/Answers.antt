@@ -1,0 +1,25 @@
+use Rattle.std.proofs.Common.{refl, ap, ◌∙◌}
+use Rattle.lk_domain.specs.Who.{Who}
+use Rattle.lk_pvdomain.proofs.PvSeating.{table_of, seat_of}
+use Rattle.lk_pvdomain.proofs.pages.pv_store.Goals as goal
+
+pub store-requires : goal.store-requires
+store-requires c =
+    let d = c.args.domain.now in
+    record {
+      table = table_of d;
+      seat = seat_of c.args.cpu.now d c.requires.domain;
+      account = c.requires.account;
+      held = c.requires.held;
+      out = c.requires.out;
+    }
+
+pub invariant_of-cpu : goal.invariant_of-cpu
+invariant_of-cpu c =
+    let kept = c.store.ensures.rest in
+    record { numbered = ap (λ (w : Who). w.number) kept.who ∙ c.args.cpu.now.numbered; carried = kept.carried }
+
+pub returns-clause-rest : goal.returns-clause-rest
+returns-clause-rest c =
+    let kept = c.store.ensures.rest in
+    record { same = record { table = kept.table; id = kept.id; number = refl; who = kept.who }; calls = kept.calls }

@@ -1,0 +1,23 @@
+use Rattle.std.proofs.Common.{refl, ap, ◌∙◌}
+use Rattle.lk_domain.specs.Who.{Who}
+use Rattle.lk_pvdomain.proofs.PvSeating.{table_of, seat_of}
+use Rattle.lk_pvdomain.proofs.pages.pv_version.Goals as goal
+
+pub version-requires : goal.version-requires
+version-requires c =
+    let d = c.args.domain.now in
+    record {
+      table = table_of d;
+      seat = seat_of c.args.cpu.now d c.requires.domain;
+      held = c.requires.held;
+    }
+
+pub invariant_of-cpu : goal.invariant_of-cpu
+invariant_of-cpu c =
+    let kept = c.version.ensures.rest in
+    record { numbered = ap (λ (w : Who). w.number) kept.who ∙ c.args.cpu.now.numbered; carried = kept.carried }
+
+pub returns-clause-rest : goal.returns-clause-rest
+returns-clause-rest c =
+    let kept = c.version.ensures.rest in
+    record { same = record { table = kept.table; id = kept.id; number = refl; who = kept.who }; calls = kept.calls }

@@ -1,0 +1,246 @@
+-- The rows of a release, where processors halt.
+use Rattle.std.proofs.Common.{inl, inr, ◌≡◌, ◌≢◌, ℕ, ◌<◌, ◌-◌, ◌/◌, ◌%◌, Some, None, Bool, true, false, refl, ap, subst, ◌∙◌, arith, [], ◌∷◌, ◌++◌, List}
+use Rattle.std.proofs.Common.{append-nil, eqb, eq-eqb, sym}
+use Rattle.std.proofs.lemmas.Bool.{cases_Bool}
+use Rattle.std.specs.Prelude.{not, ◌&&◌, if◌then◌else◌}
+use Rattle.atomic_table.specs.Table.{Me}
+use Rattle.atomic_table.specs.Seated.{TableId}
+use Rattle.lk_abs.specs.Names.{same_lock}
+use Rattle.lk_abs.specs.declared.names.LockName.{LockName}
+use Rattle.lk_abs.specs.declared.names.Mode.{Mode}
+use Rattle.lk_abs.specs.declared.names.Mode.TheVariants.{Virt, Native, Cna, Pv}
+use Rattle.lk_abs.specs.declared.holder.Manner.TheVariants.{Spins}
+use Rattle.lk_word.specs.declared.spin_word.NodeName.{NodeName}
+use Rattle.lk_word.specs.declared.spin_word.Fields.{Fields}
+use Rattle.lk_machine.specs.declared.parts.Frame.{Frame}
+use Rattle.lk_machine.specs.declared.parts.Pc.TheVariants.{U2, U3, U4, U5}
+use Rattle.lk_machine.specs.declared.setup.Verb.TheVariants.{Try, Unlock}
+use Rattle.lk_machine.specs.Moves.{first_place, node_of}
+use Rattle.lk_machine.specs.rows.Cna.{is_held}
+use Rattle.lk_law.specs.Agree.{halts}
+use Rattle.lk_law.specs.Leads.{Word, Named, Marked as MarkedMet}
+use Rattle.lk_law.proofs.common.Puts.{if_cases, if-true, if-false}
+use Rattle.lk_domain.specs.Calls.{Outlook, Terms, Mark, mark, lock_name, Frees, Unchanged, Takes, Hold, holds_in, free_of, moved_to}
+use Rattle.lk_domain.specs.Keeps.{Slot}
+use Rattle.lk_domain.specs.Ledgers.{Ledger, Look, is_first, closed, opened, turned, listed_look}
+use Rattle.lk_domain.specs.Paths.{Any}
+use Rattle.lk_domain.specs.Plans.{locks_of}
+use Rattle.lk_domain.specs.Plays.{went, WentBy, MadeBy}
+use Rattle.lk_domain.specs.Words.{pair_number}
+use Rattle.lk_domain.specs.declared.view.View.{View}
+use Rattle.lk_pvdomain.specs.declared.domain.PvDomain.{PvDomain}
+use Rattle.lk_pvdomain.specs.PvPaths.{Start, starting, AtOn, RestsOn, EndedOn, Kicks, freed, Took, Ended, first_of}
+use Rattle.lk_pvdomain.specs.PvPlays.{AtKick, EmptiesAt}
+use Rattle.atomic_table.specs.declared.shared.Seat.{Seat}
+use Rattle.lk_pvdomain.specs.PvCalls.{without}
+use Rattle.lk_pvdomain.specs.PvRows.{tries_release}
+use Rattle.lk_domain.proofs.Freed.{released}
+use Rattle.lk_pvdomain.proofs.Fails.{release_again, release_failed}
+use Rattle.lk_pvdomain.proofs.ways.Ways.{Goes, Drops, goes, ends, drops, yields, stands}
+use Rattle.lk_pvdomain.proofs.ways.Arrives.{met, first, first_step}
+
+held_off : (b : Bool) → not b ≡ false → b ≡ true
+held_off true e = refl
+held_off false e = cc e
+
+held_on : (b : Bool) → not b ≡ true → b ≡ false
+held_on false e = refl
+held_on true e = cc e
+
+pub first_is : (m : Mode) → halts m ≡ true → first_place m Unlock ≡ U2
+first_is Pv h = refl
+first_is Virt h = cc h
+first_is Native h = cc h
+first_is Cna h = cc h
+
+pub first_tries : (m : Mode) → halts m ≡ true → tries_release (first_place m Unlock) ≡ true
+first_tries m h = ap tries_release (first_is m h)
+
+module _ {t : Terms} {p : ℕ} {z : Outlook} (f : Frame) where
+  U2_frees : (x : Fields) → is_held x.locked ≡ true → Drops t p z U2 f (Word x) Frees
+  U2_frees x e = record { place = rw e refl; grips = rw e refl; own = refl; wakes = refl }
+
+  U2_seeks : (x : Fields) → is_held x.locked ≡ false → Goes t p z U2 f (Word x) U3 Any
+  U2_seeks x e = record { place = rw e refl; grip = rw e refl; lock = rw e refl; wakes = refl; has = tt }
+
+  U3_finds : (n : NodeName) → Goes t p z U3 f (Named (Some n)) U4 (Kicks n)
+  U3_finds n = record { place = refl; grip = refl; lock = refl; wakes = refl; has = refl }
+
+module _ {d : PvDomain} {l : ℕ} {own : NodeName} {ta : TableId} {a : Me Slot View} (r : RestsOn d own ta a) (ia : ℕ) (low : l < locks_of d.plan) where
+  begun_at : AtOn d Unlock l own (starting Unlock l ta ia a) U2 Any ta ia (met r Unlock l ia low)
+  begun_at = subst (λ c. AtOn d Unlock l own (starting Unlock l ta ia a) c Any ta ia (met r Unlock l ia low)) (first_is d.plan.mode d.halting)
+      (first r Unlock l ia low)
+
+module _ {d : PvDomain} {l : ℕ} {own : NodeName} {ta tb : TableId} {ia ib : ℕ} {a b : Me Slot View} (same : (tb ≡ ta) × (ib ≡ ia))
+    (r : RestsOn d own ta a) (low : l < locks_of d.plan) where
+  pub u2_frees : {n : ℕ} (k : MadeBy Unlock l a n b) → n % 256 ≡ 1 → EndedOn d Unlock l own (starting Unlock l ta ia a) Frees tb ib b
+  u2_frees k e =
+      drops (begun_at r ia low) same (Word k.found) (first_step r Unlock l ia low (Word k.found) k.seat) Frees
+      (U2_frees (begun_at r ia low).frame k.found (held_off (is_held k.found.locked) (release_again _ k.found _ k.word e)))
+
+  pub u2_seeks : {n : ℕ} (k : MadeBy Unlock l a n b) → n % 256 ≢ 1 → AtOn d Unlock l own (starting Unlock l ta ia a) U3 Any tb ib b
+  u2_seeks k ne =
+      goes (begun_at r ia low) same (Word k.found) (first_step r Unlock l ia low (Word k.found) k.seat) U3 Any
+      (U2_seeks (begun_at r ia low).frame k.found (held_on (is_held k.found.locked) (release_failed _ k.found _ k.word ne)))
+
+module _ {d : PvDomain} {l : ℕ} {own : NodeName} {s : Start} {ta tb : TableId} {ia ib : ℕ} {a b : Me Slot View}
+    (same : (tb ≡ ta) × (ib ≡ ia)) where
+  pub u3_finds : {n : ℕ} → AtOn d Unlock l own s U3 Any ta ia a → (k : EmptiesAt l a n b) → AtOn d Unlock l own s U4 (Kicks k.node) tb ib b
+  u3_finds w k = goes w same (Named (Some k.node)) k.seat U4 (Kicks k.node) (U3_finds w.frame k.node)
+
+  pub u4_frees : {n : ℕ} {node : NodeName} → AtOn d Unlock l own s U4 (Kicks node) ta ia a → WentBy a n b
+      → (t : List Mark) × AtOn d Unlock l own (freed s l t) U5 (Kicks node) tb ib b
+  u4_frees {node} w k = (w.trail ++ mark U4 (Word k.found) 0 ∷ [], yields w same (Word k.found) k.seat U5 (Kicks node) refl refl refl refl refl w.has)
+
+  pub u5_kicks : {node : NodeName} (found : Bool) → AtOn d Unlock l own s U5 (Kicks node) ta ia a → b ≡ (went a.0 (MarkedMet found), a.1)
+      → EndedOn d Unlock l own s Frees tb ib b
+  u5_kicks found w step = ends w same (MarkedMet found) step Frees refl refl refl refl
+
+-- what a kick asks
+module _ {d : PvDomain} {l : ℕ} {own node : NodeName} {s : Start} {ta : TableId} {ia : ℕ} {a : Me Slot View}
+    (w : AtOn d Unlock l own s U5 (Kicks node) ta ia a) where
+  pub kick_asks : (cpu : ℕ) → node.cpu ≡ cpu → (is_first (lock_name l) ≡ true → a.0.ledger.out ≡ None) → AtKick cpu a.0
+  kick_asks cpu e home =
+      record { verb = Unlock; lock = lock_name l; stands = stands w; home = home; target = ap (λ o. (node_of o).cpu) w.has ∙ e }
+
+-- a release leaves the journal where it is
+pub out_freed : (g : Ledger) (l : ℕ) (t : List Mark) → (turned g (lock_name l) Frees t).out ≡ g.out
+out_freed g l t = by (is_first (lock_name l))
+  where
+    by : (b : Bool) → (if b then closed g else g).out ≡ g.out
+    by true = refl
+    by false = refl
+
+-- whom a pair names
+pub pair_cpu : (l : ℕ) (n : NodeName) (m : ℕ) → l < 32 → n.index < 4 → m ≡ pair_number l n → (m - 1) / 128 ≡ n.cpu
+pair_cpu l n m low index e = omega (arith, low, index, e)
+
+-- to free again what is free changes nothing
+free_twice : (c : ℕ) (l : LockName) (hs : List Hold) → free_of c l (free_of c l hs) ≡ free_of c l hs
+free_twice c l [] = refl
+free_twice c l (h ∷ hs) =
+    if_cases (λ (gs : List Hold). free_of c l gs ≡ gs) ((eqb h.ctx c) && same_lock h.lock l) (free_of c l hs) (h ∷ free_of c l hs)
+    (λ e. free_twice c l hs)
+    (λ e. if-false ((eqb h.ctx c) && same_lock h.lock l) (free_of c l (free_of c l hs)) (h ∷ free_of c l (free_of c l hs)) e
+    ∙ ap (λ (gs : List Hold). h ∷ gs) (free_twice c l hs))
+
+closed_twice : (g : Ledger) → closed (closed g) ≡ closed g
+closed_twice g = ap (λ (xs : List Look). record g { look = None; looks = xs }) (append-nil (g.looks ++ listed_look g.look))
+
+turned_twice : (g : Ledger) (l : LockName) (t u : List Mark) → turned (turned g l Frees t) l Frees u ≡ turned g l Frees t
+turned_twice g l t u = by (is_first l)
+  where
+    by : (b : Bool) → (if b then closed (if b then closed g else g) else (if b then closed g else g)) ≡ (if b then closed g else g)
+    by true = closed_twice g
+    by false = refl
+
+-- so a release that has freed the lock by U4 is over as one that has freed it once
+pub freed_once : {d : PvDomain} {l : ℕ} {own : NodeName} {s : Start} {tb : TableId} {ib : ℕ} {b : Me Slot View} (t : List Mark)
+    → EndedOn d Unlock l own (freed s l t) Frees tb ib b → EndedOn d Unlock l own s Frees tb ib b
+freed_once {l} {s} {b} t e =
+    record {
+      over = record {
+        of = e.over.of;
+        table_was = e.over.table_was;
+        id_was = e.over.id_was;
+        who = e.over.who;
+        slots = e.over.slots;
+        frames = e.over.frames;
+        awake = e.over.awake;
+        fresh = e.over.fresh;
+      };
+      path = e.path;
+      holds = e.holds ∙ free_twice 0 (lock_name l) s.holds;
+      taken = e.taken;
+      ledger = e.ledger ∙ turned_twice s.ledger (lock_name l) t b.0.calls.last;
+    }
+
+-- what a release leaves of the holds
+let_go : (c : ℕ) (l : LockName) (hs : List Hold) → free_of c l (moved_to c l hs) ≡ without l hs
+let_go c l [] = refl
+let_go c l (h ∷ hs) = elim (cases_Bool (same_lock h.lock l)) [
+  | inl e ↦
+      ap (λ (m : Hold). free_of c l (m ∷ moved_to c l hs)) (if-true (same_lock h.lock l) (record h { ctx = c }) h e)
+      ∙ (if-true ((eqb c c) && same_lock h.lock l) (free_of c l (moved_to c l hs)) (record h { ctx = c } ∷ free_of c l (moved_to c l hs))
+      (λ i. eq-eqb c c refl i && e i)
+      ∙ (let_go c l hs ∙ sym (if-true (same_lock h.lock l) (without l hs) (h ∷ without l hs) e)))
+  | inr e ↦
+      ap (λ (m : Hold). free_of c l (m ∷ moved_to c l hs)) (if-false (same_lock h.lock l) (record h { ctx = c }) h e)
+      ∙ (if-false ((eqb h.ctx c) && same_lock h.lock l) (free_of c l (moved_to c l hs)) (h ∷ free_of c l (moved_to c l hs))
+      (ap (λ b. (eqb h.ctx c) && b) e ∙ no (eqb h.ctx c))
+      ∙ (ap (λ (gs : List Hold). h ∷ gs) (let_go c l hs) ∙ sym (if-false (same_lock h.lock l) (without l hs) (h ∷ without l hs) e)))
+]
+  where
+    no : (b : Bool) → (b && false) ≡ false
+    no true = refl
+    no false = refl
+
+-- what a release leaves as it was
+pub record IsLet (old new : Seat Slot View) : Type 0 where
+  pub table_was : new.table_id ≡ old.table_id
+  pub id_was : new.id ≡ old.id
+  pub who : new.me.0.who ≡ old.me.0.who
+  pub slots : new.me.1 ≡ old.me.1
+  pub out : new.me.0.ledger.out ≡ old.me.0.ledger.out
+  pub frames : new.me.0.calls.frames ≡ []
+  pub awake : new.me.0.calls.halted ≡ false
+  pub fresh : new.me.0.calls.looked ≡ 0
+
+pub is_let : (d : PvDomain) (l : ℕ) (own : NodeName) (old new : Seat Slot View)
+    → Ended d Unlock l own (first_of Unlock l old) Frees new → IsLet old new
+is_let d l own old new e =
+    record {
+      table_was = e.over.table_was;
+      id_was = e.over.id_was;
+      who = e.over.who;
+      slots = e.over.slots;
+      out = ap (λ (y : Ledger). y.out) e.ledger ∙ out_freed old.me.0.ledger l new.me.0.calls.last;
+      frames = e.over.frames;
+      awake = e.over.awake;
+      fresh = e.over.fresh;
+    }
+
+-- so does one that takes the lock, and one that misses it
+pub out_taken : (g : Ledger) (l : ℕ) (t : List Mark) → (turned g (lock_name l) (Takes Spins) t).out ≡ g.out
+out_taken g l t = by (is_first (lock_name l))
+  where
+    by : (b : Bool) → (if b then opened g Spins t else g).out ≡ g.out
+    by true = refl
+    by false = refl
+
+pub is_tried : (d : PvDomain) (l : ℕ) (own : NodeName) (old new : Seat Slot View) (b : Bool)
+    → (b ≡ true → Took d Try l own (first_of Try l old) new) → (b ≡ false → Ended d Try l own (first_of Try l old) Unchanged new)
+    → IsLet old new
+is_tried d l own old new true took missed =
+    let e = took refl in
+    record {
+      table_was = e.over.table_was;
+      id_was = e.over.id_was;
+      who = e.over.who;
+      slots = e.over.slots;
+      out = ap (λ (y : Ledger). y.out) e.ledger ∙ out_taken old.me.0.ledger l new.me.0.calls.last;
+      frames = e.over.frames;
+      awake = e.over.awake;
+      fresh = e.over.fresh;
+    }
+is_tried d l own old new false took missed =
+    let e = missed refl in
+    record {
+      table_was = e.over.table_was;
+      id_was = e.over.id_was;
+      who = e.over.who;
+      slots = e.over.slots;
+      out = ap (λ (y : Ledger). y.out) e.ledger;
+      frames = e.over.frames;
+      awake = e.over.awake;
+      fresh = e.over.fresh;
+    }
+
+-- nothing of the lock is held then, and all other holds stand
+module _ (d : PvDomain) (l : ℕ) (own : NodeName) (old new : Seat Slot View)
+    (e : Ended d Unlock l own (first_of Unlock l old) Frees new) where
+  pub freed_none : holds_in new.me.0.calls.holds l ≡ false
+  freed_none = ap (λ (hs : List Hold). holds_in hs l) e.holds ∙ released 0 l old.me.0.calls.holds
+
+  pub freed_others : new.me.0.calls.holds ≡ without (lock_name l) old.me.0.calls.holds
+  freed_others = e.holds ∙ let_go 0 (lock_name l) old.me.0.calls.holds

@@ -1,0 +1,7 @@
+pub mod PvPlans
+pub mod PvRows
+pub mod PvPlays
+pub mod PvSeats
+pub mod PvPaths
+pub mod PvCalls
+pub mod Laws

@@ -1,0 +1,48 @@
+-- What a call of a processor has done that is over, where processors halt.
+use Rattle.std.specs.Prelude.{◌≡◌, ℕ, false, [], ◌∷◌, List, if◌then◌else◌}
+use Rattle.lk_abs.specs.Names.{same_lock}
+use Rattle.lk_abs.specs.declared.names.LockName.{LockName}
+use Rattle.lk_word.specs.declared.spin_word.NodeName.{NodeName}
+use Rattle.lk_machine.specs.declared.setup.Verb.{Verb}
+use Rattle.lk_machine.specs.declared.setup.Verb.TheVariants.{Lock, Try, Unlock}
+use Rattle.lk_domain.specs.Calls.{Calls, Hold, holds_in, Frees, Unchanged}
+use Rattle.lk_pvdomain.specs.declared.cpu.PvCpu.{PvCpu}
+use Rattle.lk_pvdomain.specs.declared.domain.PvDomain.{PvDomain}
+use Rattle.lk_pvdomain.specs.PvPaths.{Took, Ended, first_of}
+
+-- the processor is in no call, and has not halted
+pub record IsResting (c : Calls) : Type 0 where
+  pub frames : c.frames ≡ []
+  pub awake : c.halted ≡ false
+  pub fresh : c.looked ≡ 0
+
+-- the node of its calls
+abbrev pub own_node : PvCpu → NodeName
+own_node cpu = record { cpu = cpu.number; index = 0 }
+
+-- A call of this operation has taken the lock: its rows lead from the first one to one that grants, and
+-- it holds the lock besides what it held. A look at the ledger has begun with lock 0.
+pub record HasTakenBy (v : Verb) (d : PvDomain) (l : ℕ) (old new : PvCpu) : Type 0 where
+  pub took : Took d v l (own_node old) (first_of v l old.seat) new.seat
+  pub rests : IsResting new.seat.me.0.calls
+
+abbrev pub HasTaken : PvDomain → ℕ → PvCpu → PvCpu → Type 0
+HasTaken d l old new = HasTakenBy Lock d l old new
+
+-- A call of `try_lock` has missed it, and holds what it held.
+pub record HasMissed (d : PvDomain) (l : ℕ) (old new : PvCpu) : Type 0 where
+  pub missed : Ended d Try l (own_node old) (first_of Try l old.seat) Unchanged new.seat
+  pub rests : IsResting new.seat.me.0.calls
+
+-- A release has freed the lock: its rows lead from the first one to one that frees, by U2 alone, or by U4
+-- with U5 behind it, which changes nothing of what is held. What it held of the lock is gone. A look at the
+-- ledger has ended with lock 0.
+pub record HasFreed (d : PvDomain) (l : ℕ) (old new : PvCpu) : Type 0 where
+  pub ended : Ended d Unlock l (own_node old) (first_of Unlock l old.seat) Frees new.seat
+  pub none : holds_in new.seat.me.0.calls.holds l ≡ false
+  pub rests : IsResting new.seat.me.0.calls
+
+-- the holds but those of this lock
+abbrev pub without : LockName → List Hold → List Hold
+without l [] = []
+without l (h ∷ hs) = if same_lock h.lock l then without l hs else h ∷ without l hs

@@ -1,0 +1,198 @@
+-- Where a call stands between two of its rows, and what it has done when it is over, where processors
+-- halt. A processor is in one call at most, and nothing comes between the rows of a call.
+use Rattle.std.specs.Prelude.{◌≡◌, ℕ, ◌+◌, ◌<◌, Bool, true, false, List, [], ◌∷◌, ◌++◌, Option, Some, None}
+use Rattle.atomic_table.specs.Table.{Me}
+use Rattle.atomic_table.specs.Seated.{TableId}
+use Rattle.atomic_table.specs.declared.shared.Seat.{Seat}
+use Rattle.lk_abs.specs.declared.holder.Manner.TheVariants.{Spins}
+use Rattle.lk_word.specs.declared.spin_word.NodeName.{NodeName}
+use Rattle.lk_machine.specs.Acts.{stands_halting, after_halt}
+use Rattle.lk_machine.specs.declared.parts.Frame.{Frame}
+use Rattle.lk_machine.specs.declared.parts.Pc.{Pc}
+use Rattle.lk_machine.specs.declared.setup.Verb.{Verb}
+use Rattle.lk_law.specs.Leads.{Met}
+use Rattle.lk_domain.specs.Calls.{Terms, Mark, mark, Hold, hold, Grip, Takes, Frees, read_at, sight_of}
+use Rattle.lk_domain.specs.Calls.{terms_of, begun, lock_name, running, holds_begun, holds_after, taken_after}
+use Rattle.lk_domain.specs.Keeps.{Slot}
+use Rattle.lk_domain.specs.Ledgers.{Ledger, turned}
+use Rattle.lk_domain.specs.Paths.{next_frame, row_grip}
+use Rattle.lk_domain.specs.Plans.{locks_of}
+use Rattle.lk_domain.specs.Who.{Who}
+use Rattle.lk_domain.specs.Words.{IsNode}
+use Rattle.lk_domain.specs.declared.view.View.{View}
+use Rattle.lk_pvdomain.specs.declared.domain.PvDomain.{PvDomain}
+
+-- The rows of the list lead from the frame a to the frame at the end. Where its processor had halted,
+-- the frame has gone on when the halt ended, which is no row.
+pub data PvWalk (t : Terms) (p : ℕ) (a : Frame) : List Mark → Frame → Type 0 where
+  still : PvWalk t p a [] a
+  onward : (ks : List Mark) (f : Frame) (c d : Pc) (x : Met) (r : Option ℕ)
+      → PvWalk t p a ks f → f.place ≡ Some c
+      → (next_frame t.mode p (sight_of t p r) c f x).place ≡ Some d
+      → PvWalk t p a (ks ++ mark c x (read_at c (sight_of t p r)) ∷ [])
+      (next_frame t.mode p (sight_of t p r) c f x)
+  awoken : (ks : List Mark) (f : Frame) → PvWalk t p a ks f → stands_halting f.place ≡ true
+      → PvWalk t p a ks (record f { place = after_halt f.place })
+
+-- the rows of the trail lead from the frame a to a row that ends the call, and does this to the holds
+pub record PvPath (t : Terms) (p : ℕ) (a : Frame) (trail : List Mark) (grip : Grip) : Type 0 where
+  pub before : List Mark
+  pub frame : Frame
+  pub row : Pc
+  pub met : Met
+  pub runs : Option ℕ
+  pub walk : PvWalk t p a before frame
+  pub place : frame.place ≡ Some row
+  pub is : trail ≡ before ++ mark row met (read_at row (sight_of t p runs)) ∷ []
+  pub ends : (next_frame t.mode p (sight_of t p runs) row frame met).place ≡ None
+  pub grips : row_grip t.mode p (sight_of t p runs) row frame met ≡ grip
+
+-- what was there when the call began, of the seat and of its view
+pub record Start : Type 0 where
+  pub table : TableId
+  pub id : ℕ
+  pub who : Who
+  pub holds : List Hold
+  pub taken : ℕ
+  pub ledger : Ledger
+  pub slots : List (ℕ × Slot)
+
+-- where a call of this operation on this lock begins
+abbrev pub starting : Verb → ℕ → TableId → ℕ → Me Slot View → Start
+starting v l table id m =
+    record {
+      table = table;
+      id = id;
+      who = m.0.who;
+      holds = holds_begun v 0 l m.0.calls.holds;
+      taken = m.0.calls.taken;
+      ledger = m.0.ledger;
+      slots = m.1;
+    }
+
+abbrev pub first_of : Verb → ℕ → Seat Slot View → Start
+first_of v l a = starting v l a.table_id a.id a.me
+
+-- it is a processor of the domain: its first node is this
+pub record IsSeat (d : PvDomain) (own : NodeName) (table : TableId) (m : Me Slot View) : Type 0 where
+  pub table_is : table ≡ d.table.shared.table_id
+  pub plan : m.0.who.plan ≡ d.plan
+  pub number : m.0.who.number ≡ Some own.cpu
+  pub near : IsNode d.plan own
+  pub index : own.index ≡ 0
+
+-- it is in no call, and has not halted
+pub record RestsOn (d : PvDomain) (own : NodeName) (table : TableId) (m : Me Slot View) : Type 0 where
+  pub of : IsSeat d own table m
+  pub frames : m.0.calls.frames ≡ []
+  pub awake : m.0.calls.halted ≡ false
+  pub fresh : m.0.calls.looked ≡ 0
+
+abbrev pub Rests : PvDomain → NodeName → Seat Slot View → Type 0
+Rests d own a = RestsOn d own a.table_id a.me
+
+-- The call of this operation on the lock l, which began so, stands at the row c, its processor has not
+-- halted, and its frame meets the condition.
+pub record AtOn (d : PvDomain) (v : Verb) (l : ℕ) (own : NodeName) (s : Start) (c : Pc) (condition : Frame → Type 0)
+    (table : TableId) (id : ℕ) (m : Me Slot View) : Type 0 where
+  pub of : IsSeat d own table m
+  pub low : l < locks_of d.plan
+  pub table_was : table ≡ s.table
+  pub id_was : id ≡ s.id
+  pub who : m.0.who ≡ s.who
+  pub holds : m.0.calls.holds ≡ s.holds
+  pub taken : m.0.calls.taken ≡ s.taken
+  pub ledger : m.0.ledger ≡ s.ledger
+  pub slots : m.1 ≡ s.slots
+  pub awake : m.0.calls.halted ≡ false
+  pub fresh : m.0.calls.looked ≡ 0
+  pub frame : Frame
+  pub trail : List Mark
+  pub walk : PvWalk (terms_of d.plan) own.cpu (begun d.plan.mode 0 v l) trail frame
+  pub frames : m.0.calls.frames ≡ running v frame trail ∷ []
+  pub place : frame.place ≡ Some c
+  pub lock : frame.lock ≡ lock_name l
+  pub ctx : frame.ctx ≡ 0
+  pub has : condition frame
+
+abbrev pub At : PvDomain → Verb → ℕ → NodeName → Start → Pc → (Frame → Type 0) → Seat Slot View → Type 0
+At d v l own s c P a = AtOn d v l own s c P a.table_id a.id a.me
+
+-- the call that began so is over, and its processor is in none
+pub record IsOver (d : PvDomain) (own : NodeName) (s : Start) (table : TableId) (id : ℕ) (m : Me Slot View) : Type 0 where
+  pub of : IsSeat d own table m
+  pub table_was : table ≡ s.table
+  pub id_was : id ≡ s.id
+  pub who : m.0.who ≡ s.who
+  pub slots : m.1 ≡ s.slots
+  pub frames : m.0.calls.frames ≡ []
+  pub awake : m.0.calls.halted ≡ false
+  pub fresh : m.0.calls.looked ≡ 0
+
+-- it has taken the lock, by its last row
+pub record TookOn (d : PvDomain) (v : Verb) (l : ℕ) (own : NodeName) (s : Start) (table : TableId) (id : ℕ)
+    (m : Me Slot View) : Type 0 where
+  pub over : IsOver d own s table id m
+  pub path : PvPath (terms_of d.plan) own.cpu (begun d.plan.mode 0 v l) m.0.calls.last (Takes Spins)
+  pub holds : m.0.calls.holds ≡ hold 0 (lock_name l) Spins m.0.calls.taken ∷ s.holds
+  pub taken : m.0.calls.taken ≡ s.taken + 1
+  pub ledger : m.0.ledger ≡ turned s.ledger (lock_name l) (Takes Spins) m.0.calls.last
+
+abbrev pub Took : PvDomain → Verb → ℕ → NodeName → Start → Seat Slot View → Type 0
+Took d v l own s a = TookOn d v l own s a.table_id a.id a.me
+
+-- The call is over by its last row, which has done this to the holds: it has missed the lock, or freed it.
+pub record EndedOn (d : PvDomain) (v : Verb) (l : ℕ) (own : NodeName) (s : Start) (grip : Grip) (table : TableId) (id : ℕ)
+    (m : Me Slot View) : Type 0 where
+  pub over : IsOver d own s table id m
+  pub path : PvPath (terms_of d.plan) own.cpu (begun d.plan.mode 0 v l) m.0.calls.last grip
+  pub holds : m.0.calls.holds ≡ holds_after grip 0 (lock_name l) (s.taken + 1) s.holds
+  pub taken : m.0.calls.taken ≡ taken_after grip s.taken
+  pub ledger : m.0.ledger ≡ turned s.ledger (lock_name l) grip m.0.calls.last
+
+abbrev pub Ended : PvDomain → Verb → ℕ → NodeName → Start → Grip → Seat Slot View → Type 0
+Ended d v l own s grip a = EndedOn d v l own s grip a.table_id a.id a.me
+
+-- the release has freed the lock, and is about to kick
+abbrev pub freed : Start → ℕ → List Mark → Start
+freed s l t = record s { holds = holds_after Frees 0 (lock_name l) (s.taken + 1) s.holds; ledger = turned s.ledger (lock_name l) Frees t }
+
+-- the one to kick
+abbrev pub Kicks : NodeName → Frame → Type 0
+Kicks n f = f.target ≡ Some n
+
+-- its own node
+abbrev pub Owns : NodeName → Frame → Type 0
+Owns own f = f.me ≡ Some own
+
+-- and the node before it
+pub record Follows (own before : NodeName) (f : Frame) : Type 0 where
+  pub me : f.me ≡ Some own
+  pub prev : f.prev ≡ Some before
+
+-- and so many turns before it halts
+pub record Spares (own before : NodeName) (n : ℕ) (f : Frame) : Type 0 where
+  pub me : f.me ≡ Some own
+  pub prev : f.prev ≡ Some before
+  pub left : f.left ≡ n
+
+-- it leads the queue, and knows whether its lock is entered in the hash
+pub record Leads (own : NodeName) (hashed : Bool) (f : Frame) : Type 0 where
+  pub me : f.me ≡ Some own
+  pub hashed_is : f.hashed ≡ hashed
+
+-- and has so many turns before it halts
+pub record Tries (own : NodeName) (hashed : Bool) (n : ℕ) (f : Frame) : Type 0 where
+  pub me : f.me ≡ Some own
+  pub hashed_is : f.hashed ≡ hashed
+  pub left : f.left ≡ n
+
+-- the one behind it
+pub record Precedes (own behind : NodeName) (f : Frame) : Type 0 where
+  pub me : f.me ≡ Some own
+  pub next : f.y ≡ Some behind
+
+-- it looks whether it may steal the lock, whose word had a tail when it looked last, or not
+pub record Steals (own : NodeName) (tailed : Bool) (f : Frame) : Type 0 where
+  pub me : f.me ≡ Some own
+  pub tailed_is : f.tailed ≡ tailed

@@ -1,0 +1,178 @@
+// The calls of a processor whose family halts.
+ghost use Rattle.std.specs.Prelude.{◌≡◌, ◌<◌, true, false, None};
+ghost use Rattle.lk_machine.specs.declared.parts.Pc.TheVariants.{E1, G1, G4, G5};
+ghost use Rattle.lk_machine.specs.declared.setup.Verb.TheVariants.{Lock, Try, Unlock};
+ghost use Rattle.lk_domain.specs.Calls.{Frees, Unchanged, holds_in, lock_name};
+ghost use Rattle.lk_domain.specs.Ledgers.{is_first};
+ghost use Rattle.lk_domain.specs.Paths.{Any};
+ghost use Rattle.lk_domain.specs.Plans.{locks_of};
+ghost use Rattle.lk_domain.specs.Words.{IsNode};
+ghost use Rattle.lk_pvdomain.specs.PvSeats.{IsOf, IsSame, calls_of, ledger_of};
+ghost use Rattle.lk_pvdomain.specs.PvCalls.{HasFreed, HasMissed, HasTaken, HasTakenBy, IsResting, without};
+ghost use Rattle.lk_pvdomain.specs.PvPaths.{At, Ended, Follows, Owns, Rests, Start, Took, first_of};
+
+use crate::cpu::{PvCpu, Right};
+use crate::domain::PvDomain;
+use crate::{arriving, freeing, handing, leading, shared, waiting};
+use lk_domain::LockId;
+use lk_word::NodeName;
+use std::sync::Wait;
+
+// The row F1: true where it took the lock.
+fn fast(seat: &mut Right, domain: &PvDomain, lock: u32, own: NodeName) -> bool
+    requires rests { Rests domain.now own seat.old }
+    requires lock { lock < locks_of domain.now.plan }
+    requires free { holds_in seat.old.me.0.calls.holds lock ≡ false }
+    ensures took { result ≡ true → Took domain.now Lock lock own (first_of Lock lock seat.old) seat.new }
+    ensures goes { result ≡ false
+        → At domain.now Lock lock own (first_of Lock lock seat.old) G1 Any seat.new }
+{
+    let _ = own;
+    if shared::take_free(seat, domain, lock) == 0 {
+        return true;
+    }
+    false
+}
+
+// From E1: it leads the queue.
+fn head<R: Wait>(seat: &mut Right, rt: &R, domain: &PvDomain, lock: u32, own: NodeName)
+    requires at { (s : Start) × At domain.now Lock lock own s E1 (Owns own) seat.old }
+    ensures took { (s : Start) → At domain.now Lock lock own s E1 (Owns own) seat.old
+        → Took domain.now Lock lock own s seat.new }
+{
+    leading::lead(seat, rt, domain, lock, own);
+    handing::hand(seat, rt, domain, lock, own);
+}
+
+// From G5: it comes behind another.
+fn follow<R: Wait>(
+    seat: &mut Right,
+    rt: &R,
+    domain: &PvDomain,
+    lock: u32,
+    own: NodeName,
+    prev: NodeName,
+)
+    requires prev { IsNode domain.now.plan prev }
+    requires at { (s : Start) × At domain.now Lock lock own s G5 (Follows own prev) seat.old }
+    ensures took { (s : Start) → At domain.now Lock lock own s G5 (Follows own prev) seat.old
+        → Took domain.now Lock lock own s seat.new }
+{
+    arriving::link(seat, domain, lock, own, prev);
+    waiting::wait(seat, rt, domain, lock, own, prev);
+    head(seat, rt, domain, lock, own);
+}
+
+// From G4: it joins the queue.
+fn queue<R: Wait>(seat: &mut Right, rt: &R, domain: &PvDomain, lock: u32, own: NodeName)
+    requires at { (s : Start) × At domain.now Lock lock own s G4 (Owns own) seat.old }
+    ensures took { (s : Start) → At domain.now Lock lock own s G4 (Owns own) seat.old
+        → Took domain.now Lock lock own s seat.new }
+{
+    match arriving::arrive(seat, rt, domain, lock, own) {
+        Some(prev) => follow(seat, rt, domain, lock, own, prev),
+        None => head(seat, rt, domain, lock, own),
+    }
+}
+
+// A call of `lock`, from its first row until it has the lock.
+fn take<R: Wait>(seat: &mut Right, rt: &R, domain: &PvDomain, lock: u32, own: NodeName)
+    requires rests { Rests domain.now own seat.old }
+    requires lock { lock < locks_of domain.now.plan }
+    requires free { holds_in seat.old.me.0.calls.holds lock ≡ false }
+    ensures took { Took domain.now Lock lock own (first_of Lock lock seat.old) seat.new }
+{
+    if fast(seat, domain, lock, own) {
+        return;
+    }
+    arriving::enter(seat, domain, lock, own);
+    if arriving::steal(seat, rt, domain, lock, own) {
+        return;
+    }
+    queue(seat, rt, domain, lock, own);
+}
+
+/// Takes the lock: it waits until it has it, and halts between two looks where that takes long.
+pub fn pv_lock<R: Wait>(cpu: &mut PvCpu, rt: &R, domain: &PvDomain, lock: LockId)
+    requires domain { IsOf cpu.old domain.now }
+    requires lock { lock.index < locks_of domain.now.plan }
+    requires rests { IsResting (calls_of cpu.old) }
+    requires free { holds_in (calls_of cpu.old).holds lock.index ≡ false }
+    ensures same { IsSame cpu.old cpu.new }
+    ensures taken { HasTaken domain.now lock.index cpu.old cpu.new }
+{
+    let own = NodeName {
+        cpu: cpu.number,
+        index: 0,
+    };
+    take(&mut cpu.seat, rt, domain, lock.index, own);
+}
+
+// A release, from its first row until it has freed the lock and kicked whom it had to.
+fn free<R: Wait>(seat: &mut Right, rt: &R, domain: &PvDomain, lock: u32, own: NodeName)
+    requires rests { Rests domain.now own seat.old }
+    requires lock { lock < locks_of domain.now.plan }
+    requires held { holds_in seat.old.me.0.calls.holds lock ≡ true }
+    requires home { is_first (lock_name lock) ≡ true → seat.old.me.0.ledger.out ≡ None }
+    ensures freed { Ended domain.now Unlock lock own (first_of Unlock lock seat.old) Frees seat.new }
+{
+    if freeing::release(seat, rt, domain, lock, own) {
+        return;
+    }
+    freeing::wake_next(seat, domain, lock, own);
+}
+
+/// Frees a lock that the processor holds; where its byte is slow it kicks the one that waits for that.
+pub fn pv_unlock<R: Wait>(cpu: &mut PvCpu, rt: &R, domain: &PvDomain, lock: LockId)
+    requires domain { IsOf cpu.old domain.now }
+    requires lock { lock.index < locks_of domain.now.plan }
+    requires rests { IsResting (calls_of cpu.old) }
+    requires held { holds_in (calls_of cpu.old).holds lock.index ≡ true }
+    requires home { is_first (lock_name lock.index) ≡ true → (ledger_of cpu.old).out ≡ None }
+    ensures same { IsSame cpu.old cpu.new }
+    ensures freed { HasFreed domain.now lock.index cpu.old cpu.new }
+    ensures others { (calls_of cpu.new).holds
+        ≡ without (lock_name lock.index) (calls_of cpu.old).holds }
+{
+    let own = NodeName {
+        cpu: cpu.number,
+        index: 0,
+    };
+    free(&mut cpu.seat, rt, domain, lock.index, own);
+}
+
+// The rows T1 and T2: true where it took the lock.
+fn attempt(seat: &mut Right, domain: &PvDomain, lock: u32, own: NodeName) -> bool
+    requires rests { Rests domain.now own seat.old }
+    requires lock { lock < locks_of domain.now.plan }
+    requires free { holds_in seat.old.me.0.calls.holds lock ≡ false }
+    ensures took { result ≡ true → Took domain.now Try lock own (first_of Try lock seat.old) seat.new }
+    ensures missed { result ≡ false
+        → Ended domain.now Try lock own (first_of Try lock seat.old) Unchanged seat.new }
+{
+    let _ = own;
+    if shared::look_once(seat, domain, lock) != 0 {
+        return false;
+    }
+    if shared::take_once(seat, domain, lock) == 0 {
+        return true;
+    }
+    false
+}
+
+/// Takes the lock where its word is free, and says whether it did.
+pub fn pv_try_lock(cpu: &mut PvCpu, domain: &PvDomain, lock: LockId) -> bool
+    requires domain { IsOf cpu.old domain.now }
+    requires lock { lock.index < locks_of domain.now.plan }
+    requires rests { IsResting (calls_of cpu.old) }
+    requires free { holds_in (calls_of cpu.old).holds lock.index ≡ false }
+    ensures same { IsSame cpu.old cpu.new }
+    ensures taken { result ≡ true → HasTakenBy Try domain.now lock.index cpu.old cpu.new }
+    ensures missed { result ≡ false → HasMissed domain.now lock.index cpu.old cpu.new }
+{
+    let own = NodeName {
+        cpu: cpu.number,
+        index: 0,
+    };
+    attempt(&mut cpu.seat, domain, lock.index, own)
+}

@@ -1,0 +1,199 @@
+// A domain whose waiters halt: one table of words, and what it was made of.
+ghost use Rattle.std.specs.Prelude.{◌≡◌, ◌<◌, ◌+◌, Some, true};
+ghost use Rattle.lk_word.specs.SpinWord.{index_unit, tail_number};
+ghost use Rattle.lk_law.specs.Agree.{halts};
+ghost use Rattle.lk_domain.specs.Plans.{IsRunningPlan, cpus_of, layout_in, locks_of, accounts_of, turns_of};
+ghost use Rattle.lk_domain.specs.Words.{words_of, lock_at, IsNode, state_at, kick_at, hash_at, places_of};
+ghost use Rattle.lk_domain.specs.Words.{state_number, far_of, node_at, name_number, part_index, pair_number};
+
+use atomic_table::Table;
+use lk_abs::Format;
+use lk_domain::{Journal, Order, Part, Plan, View};
+use lk_machine::State;
+use lk_word::{Layout, NodeName};
+use std::alloc::Global;
+
+/// Locks for processors that really run and halt, and a ledger under them.
+#[derive(Drop)]
+pub struct PvDomain {
+    pub(crate) table: Table<Option<Journal>, View, Plan, Order, Global>,
+    pub(crate) plan: Plan,
+    ghost lawful: { IsRunningPlan plan },
+    ghost halting: { halts plan.mode ≡ true },
+    ghost words: { table.shared.table_id.words ≡ words_of plan },
+    ghost slots: { table.shared.table_id.slots ≡ 1 },
+    ghost key: { table.shared.key ≡ plan },
+}
+
+impl PvDomain {
+    /// How many accounts its ledger has.
+    pub fn accounts(&self) -> u32
+        ensures { result ≡ accounts_of self.now.plan }
+    {
+        prove!(self.plan.balances.len() <= 64);
+        self.plan.balances.len() as u32
+    }
+
+    // How the words of its locks are laid out.
+    pub(crate) fn layout(&self) -> Layout
+        ensures { result ≡ layout_in self.now.plan }
+    {
+        match self.plan.format {
+            Format::One => Layout::Narrow,
+            Format::Two => Layout::Wide,
+        }
+    }
+
+    // For how many turns a waiter spins before it halts.
+    pub(crate) fn turns(&self) -> u32
+        ensures { result ≡ turns_of self.now.plan }
+    {
+        self.plan.threshold
+    }
+
+    // Where the word of a lock stands.
+    pub(crate) fn lock_word(&self, lock: u32) -> usize
+        requires { lock < locks_of self.now.plan }
+        ensures { result ≡ lock_at lock }
+    {
+        prove!(self.plan.locks.len() <= 32);
+        8 + 8 * lock as usize
+    }
+
+    // Where the flag or the link of a node stands.
+    pub(crate) fn node_of(&self, node: NodeName, part: Part) -> usize
+        requires { IsNode self.now.plan node }
+        ensures { result ≡ node_at self.now.plan node part }
+    {
+        prove!(self.plan.locks.len() <= 32);
+        prove!(self.plan.topology.sockets.len() <= 64);
+        let place = index_of(part);
+        72 + place + 8 * self.plan.locks.len() + (16 * node.cpu as usize + 4 * node.index as usize)
+    }
+
+    // What the index of a tail counts for: what is below it is no part of the tail.
+    pub(crate) fn tail_unit(&self) -> u64
+        ensures { result ≡ index_unit (layout_in self.now.plan) }
+    {
+        match self.plan.format {
+            Format::One => 65_536,
+            Format::Two => 512,
+        }
+    }
+
+    // The number of the word of a free lock with this node as the tail.
+    pub(crate) fn tail_of(&self, node: NodeName) -> u64
+        requires { IsNode self.now.plan node }
+        ensures { result ≡ tail_number (layout_in self.now.plan) (Some node) }
+    {
+        prove!(self.plan.topology.sockets.len() <= 64);
+        let (index, cpu) = (node.index as u64, node.cpu as u64);
+        match self.plan.format {
+            Format::One => 65_536 * index + 262_144 * (cpu + 1),
+            Format::Two => 512 * index + 2_048 * (cpu + 1),
+        }
+    }
+
+    // The number of the word of a held lock with this node as the tail, and nobody pending.
+    pub(crate) fn last_of(&self, node: NodeName) -> u64
+        requires { IsNode self.now.plan node }
+        ensures { result ≡ tail_number (layout_in self.now.plan) (Some node) + 1 }
+    {
+        prove!(self.plan.topology.sockets.len() <= 64);
+        let (index, cpu) = (node.index as u64, node.cpu as u64);
+        match self.plan.format {
+            Format::One => 65_536 * index + 262_144 * (cpu + 1) + 1,
+            Format::Two => 512 * index + 2_048 * (cpu + 1) + 1,
+        }
+    }
+
+    // The number of a node.
+    pub(crate) fn name_of(&self, node: NodeName) -> u64
+        requires { IsNode self.now.plan node }
+        ensures { result ≡ name_number node }
+    {
+        prove!(self.plan.topology.sockets.len() <= 64);
+        2 + (4 * node.cpu as u64 + node.index as u64)
+    }
+
+    // Where the words begin of which this family alone has need.
+    pub(crate) fn far(&self) -> usize
+        ensures { result ≡ far_of self.now.plan }
+    {
+        prove!(self.plan.locks.len() <= 32);
+        prove!(self.plan.topology.sockets.len() <= 64);
+        72 + 8 * self.plan.locks.len() + 16 * self.plan.topology.sockets.len()
+    }
+
+    // Where the state of a node stands.
+    pub(crate) fn state_of(&self, node: NodeName) -> usize
+        requires { IsNode self.now.plan node }
+        ensures { result ≡ state_at self.now.plan node }
+    {
+        prove!(self.plan.locks.len() <= 32);
+        prove!(self.plan.topology.sockets.len() <= 64);
+        self.far() + (4 * node.cpu as usize + node.index as usize)
+    }
+
+    // Where it stands whether a kick of a processor is remembered.
+    pub(crate) fn kick_of(&self, cpu: u32) -> usize
+        requires { cpu < cpus_of self.now.plan }
+        ensures { result ≡ kick_at self.now.plan cpu }
+    {
+        prove!(self.plan.locks.len() <= 32);
+        prove!(self.plan.topology.sockets.len() <= 64);
+        self.far() + 8 * self.plan.topology.sockets.len() + 8 * cpu as usize
+    }
+
+    // The number of a lock and a node, as the hash has them.
+    pub(crate) fn pair_of(&self, lock: u32, node: NodeName) -> u64
+        requires lock { lock < locks_of self.now.plan }
+        requires node { IsNode self.now.plan node }
+        ensures { result ≡ pair_number lock node }
+    {
+        prove!(self.plan.locks.len() <= 32);
+        prove!(self.plan.topology.sockets.len() <= 64);
+        1 + lock as u64 + 32 * (4 * node.cpu as u64 + node.index as u64)
+    }
+
+    // How many places the hash has.
+    pub(crate) fn places(&self) -> usize
+        ensures { result ≡ places_of self.now.plan }
+    {
+        prove!(self.plan.topology.sockets.len() <= 64);
+        4 * self.plan.topology.sockets.len()
+    }
+
+    // Where a place of the hash stands.
+    pub(crate) fn place_of(&self, place: usize) -> usize
+        requires { place < places_of self.now.plan }
+        ensures { result ≡ hash_at self.now.plan place }
+    {
+        prove!(self.plan.locks.len() <= 32);
+        prove!(self.plan.topology.sockets.len() <= 64);
+        self.far() + 4 * self.plan.topology.sockets.len() + place
+    }
+}
+
+// The place of a word among those of a node.
+fn index_of(part: Part) -> usize
+    ensures { (result ≡ part_index part) × (result < 4) }
+{
+    match part {
+        Part::Flag => 0,
+        Part::Next => 1,
+        Part::SecondTail => 2,
+        Part::Runs => 3,
+    }
+}
+
+// The number of a state.
+pub(crate) fn number_of(state: State) -> u64
+    ensures { result ≡ state_number state }
+{
+    match state {
+        State::Running => 0,
+        State::Halted => 1,
+        State::Hashed => 2,
+    }
+}

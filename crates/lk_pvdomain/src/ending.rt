@@ -1,0 +1,88 @@
+// The end of a domain whose waiters halt.
+ghost use Rattle.std.specs.Prelude.{◌≡◌, ◌<◌, None, Err, IfOk, length};
+ghost use Rattle.lk_abs.specs.Journal.{balances_after};
+ghost use Rattle.lk_domain.specs.Ends.{HasPast};
+ghost use Rattle.lk_domain.specs.Plans.{cpus_of};
+ghost use Rattle.lk_domain.specs.Seated.{IsSeatOf};
+ghost use Rattle.lk_domain.specs.Views.{all_past};
+ghost use Rattle.lk_pvdomain.specs.PvSeats.{AllRest, IsFinal, ledger_of};
+
+use crate::cpu::{PvCpu, Right};
+use crate::domain::PvDomain;
+use lk_abs::{Entry, List};
+use lk_domain::ledger_steps;
+use std::alloc::Global;
+use std::snapshot::Snapshot;
+
+/// What a domain left.
+#[derive(Drop)]
+pub struct PvClosed {
+    pub(crate) balances: List<u64>,
+    pub(crate) journal: List<Entry>,
+    // The processors as they were at the end. It has no bytes.
+    pub(crate) cpus: Snapshot<List<PvCpu>>,
+}
+
+/// Memory was wanting for the end of a domain: it and its processors are as before.
+#[derive(Drop)]
+pub struct PvBack {
+    pub domain: PvDomain,
+    pub cpus: List<PvCpu>,
+}
+
+impl PvClosed {
+    /// The balances after the journal.
+    pub fn balances(&self) -> &List<u64>
+        ensures { result.now ≡ self.now.balances }
+    {
+        &self.balances
+    }
+
+    /// The journal.
+    pub fn journal(&self) -> &List<Entry>
+        ensures { result.now ≡ self.now.journal }
+    {
+        &self.journal
+    }
+}
+
+// One processor takes over the numbers of all others: it has them all at the end.
+fn join_all(domain: &PvDomain, mut cpus: List<PvCpu>) -> Right
+    requires some { 0 < length cpus.items }
+    requires rest { AllRest domain.now cpus.items }
+    ensures seat { IsSeatOf domain.now.plan domain.now.table.shared.table_id result }
+    ensures home { result.me.0.ledger.out ≡ None }
+    ensures all { HasPast ledger_of 0 cpus.items (all_past result.me.0) }
+{
+    let PvCpu { number: _, seat } = cpus.pop();
+    let mut last = seat;
+    while cpus.len() > 0 {
+        let PvCpu { number: _, seat } = cpus.pop();
+        ledger_steps::join(&mut last, &domain.table, &domain.plan, seat);
+    }
+    last
+}
+
+/// The end of a domain, with all its processors, of which none holds or waits.
+pub fn pv_close(alloc: Global, domain: PvDomain, cpus: List<PvCpu>) -> Result<PvClosed, PvBack>
+    requires all { length cpus.items ≡ cpus_of domain.plan }
+    requires rest { AllRest domain cpus.items }
+    ensures back { (b : PvBack) → result ≡ Err b → (b.domain ≡ domain) × (b.cpus ≡ cpus) }
+    ensures cpus { IfOk result (λ closed. closed.cpus.value ≡ cpus) }
+    ensures balances { IfOk result (λ closed. closed.balances.items
+        ≡ balances_after domain.plan.balances.items closed.journal.items) }
+    ensures ends { IfOk result (λ closed. IsFinal domain.plan cpus.items closed.journal.items) }
+{
+    let Ok(mut balances) = List::new(alloc, domain.accounts() as usize) else {
+        return Err(PvBack { domain, cpus });
+    };
+    let at_end = Snapshot::of(&cpus);
+    let last = join_all(&domain, cpus);
+    let PvDomain { table, plan } = domain;
+    let journal = ledger_steps::end(table, &plan, last, &mut balances);
+    Ok(PvClosed {
+        balances,
+        journal,
+        cpus: at_end,
+    })
+}

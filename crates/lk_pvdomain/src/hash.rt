@@ -1,0 +1,139 @@
+// The steps of a seat on places of the hash, each one operation.
+ghost use Rattle.std.specs.Prelude.{◌≡◌, ◌<◌, None, Some};
+ghost use Rattle.lk_domain.specs.Calls.{lock_name};
+ghost use Rattle.lk_domain.specs.Plans.{locks_of};
+ghost use Rattle.lk_domain.specs.Plays.{Goes};
+ghost use Rattle.lk_law.specs.Leads.{Named};
+ghost use Rattle.lk_domain.specs.Views.{IsNumbered};
+ghost use Rattle.lk_domain.specs.Words.{IsNode, places_of};
+ghost use Rattle.lk_word.specs.declared.spin_word.NodeName.{NodeName as Name};
+ghost use Rattle.lk_pvdomain.specs.PvPlays.{AtFill, AtSeek, EmptiesAt, Fills, SeesPlace, looked_at};
+
+use crate::cpu::Right;
+use crate::domain::PvDomain;
+use crate::rule::{Erasings, Fillings, PlaceLooks};
+use lk_word::NodeName;
+use std::sync::Wait;
+
+// Puts the lock into the hash at a place, if that is empty: the rows E6, with the own node, and K3, with
+// the next one's.
+pub(crate) fn fill(
+    seat: &mut Right,
+    domain: &PvDomain,
+    lock: u32,
+    node: NodeName,
+    place: usize,
+) -> u64
+    requires table { seat.old.table_id ≡ domain.now.table.shared.table_id }
+    requires number { IsNumbered seat.old.me.0 }
+    requires lock { lock < locks_of domain.now.plan }
+    requires node { IsNode domain.now.plan node }
+    requires place { place < places_of domain.now.plan }
+    requires row { AtFill node (lock_name lock) seat.old.me.0 }
+    ensures same { (seat.new.table_id ≡ seat.old.table_id) × (seat.new.id ≡ seat.old.id) }
+    ensures step { Fills seat.old.me result seat.new.me }
+{
+    let word = domain.place_of(place);
+    let pair = domain.pair_of(lock, node);
+    let met = domain
+        .table
+        .shared
+        .compare_exchange::<Fillings>(seat, word, 0, pair);
+    met
+}
+
+// Puts the lock into the hash at the first place that it finds empty.
+pub(crate) fn put_in<R: Wait>(
+    seat: &mut Right,
+    rt: &R,
+    domain: &PvDomain,
+    lock: u32,
+    node: NodeName,
+)
+    requires table { seat.old.table_id ≡ domain.now.table.shared.table_id }
+    requires number { IsNumbered seat.old.me.0 }
+    requires lock { lock < locks_of domain.now.plan }
+    requires node { IsNode domain.now.plan node }
+    requires row { AtFill node (lock_name lock) seat.old.me.0 }
+    ensures same { (seat.new.table_id ≡ seat.old.table_id) × (seat.new.id ≡ seat.old.id) }
+    ensures step { Goes (Named None) seat.old.me seat.new.me }
+{
+    let places = domain.places();
+    let mut place = 0;
+    for _ in rt.forever() {
+        if fill(seat, domain, lock, node, place) == 0 {
+            return;
+        }
+        place = if place + 1 < places { place + 1 } else { 0 };
+    }
+    unreachable!()
+}
+
+// Looks at the next place for the entry of the lock.
+pub(crate) fn look_place(seat: &mut Right, domain: &PvDomain, lock: u32, place: usize) -> u64
+    requires table { seat.old.table_id ≡ domain.now.table.shared.table_id }
+    requires number { IsNumbered seat.old.me.0 }
+    requires lock { lock < locks_of domain.now.plan }
+    requires place { place < places_of domain.now.plan }
+    requires row { AtSeek (lock_name lock) seat.old.me.0 }
+    requires next { seat.old.me.0.calls.looked ≡ place }
+    ensures same { (seat.new.table_id ≡ seat.old.table_id) × (seat.new.id ≡ seat.old.id) }
+    ensures step { SeesPlace lock seat.old.me result seat.new.me }
+{
+    let word = domain.place_of(place);
+    let met = domain.table.shared.load::<PlaceLooks>(seat, word);
+    met
+}
+
+// Finds the place of the lock's entry, by one look at each.
+pub(crate) fn find(seat: &mut Right, domain: &PvDomain, lock: u32) -> usize
+    requires table { seat.old.table_id ≡ domain.now.table.shared.table_id }
+    requires number { IsNumbered seat.old.me.0 }
+    requires lock { lock < locks_of domain.now.plan }
+    requires plan { seat.old.me.0.who.plan ≡ domain.now.plan }
+    requires row { AtSeek (lock_name lock) seat.old.me.0 }
+    requires fresh { seat.old.me.0.calls.looked ≡ 0 }
+    ensures same { (seat.new.table_id ≡ seat.old.table_id) × (seat.new.id ≡ seat.old.id) }
+    ensures place { result < places_of domain.now.plan }
+    ensures found { (a : Name) × (seat.new.me ≡ (looked_at result (Some a) seat.old.me.0, seat.old.me.1)) }
+{
+    for place in 0..domain.places() {
+        let met = look_place(seat, domain, lock, place);
+        if met != 0 && (met - 1) % 32 == lock as u64 {
+            return place;
+        }
+    }
+    unreachable!()
+}
+
+// Takes the entry of the lock out of the hash, where it was found: the rows U3 and E9.
+pub(crate) fn erase(seat: &mut Right, domain: &PvDomain, lock: u32, place: usize) -> u64
+    requires table { seat.old.table_id ≡ domain.now.table.shared.table_id }
+    requires number { IsNumbered seat.old.me.0 }
+    requires lock { lock < locks_of domain.now.plan }
+    requires place { place < places_of domain.now.plan }
+    requires row { AtSeek (lock_name lock) seat.old.me.0 }
+    requires found { (a : Name) × (seat.old.me.0.calls.spot ≡ Some a) }
+    requires next { seat.old.me.0.calls.looked ≡ place }
+    ensures same { (seat.new.table_id ≡ seat.old.table_id) × (seat.new.id ≡ seat.old.id) }
+    ensures step { EmptiesAt lock seat.old.me result seat.new.me }
+{
+    let word = domain.place_of(place);
+    let met = domain.table.shared.swap::<Erasings>(seat, word, 0);
+    met
+}
+
+// Finds the entry of the lock and takes it out: the rows U3 and E9, with the looks before them.
+pub(crate) fn take_out(seat: &mut Right, domain: &PvDomain, lock: u32) -> u64
+    requires table { seat.old.table_id ≡ domain.now.table.shared.table_id }
+    requires number { IsNumbered seat.old.me.0 }
+    requires lock { lock < locks_of domain.now.plan }
+    requires plan { seat.old.me.0.who.plan ≡ domain.now.plan }
+    requires row { AtSeek (lock_name lock) seat.old.me.0 }
+    requires fresh { seat.old.me.0.calls.looked ≡ 0 }
+    ensures same { (seat.new.table_id ≡ seat.old.table_id) × (seat.new.id ≡ seat.old.id) }
+    ensures step { EmptiesAt lock seat.old.me result seat.new.me }
+{
+    let place = find(seat, domain, lock);
+    erase(seat, domain, lock, place)
+}

@@ -1,0 +1,159 @@
+// A call that leads the queue, until it has taken the lock: the rows E1 to E12.
+ghost use Rattle.std.specs.Prelude.{◌≡◌, ◌%◌, true, false};
+ghost use Rattle.lk_machine.specs.declared.parts.Pc.TheVariants.{E1, E2, E4, E5, E6, E10, E13};
+ghost use Rattle.lk_machine.specs.declared.setup.Verb.TheVariants.{Lock};
+ghost use Rattle.lk_domain.specs.Plans.{turns_of};
+ghost use Rattle.lk_pvdomain.specs.PvPaths.{At, Leads, Owns, Start, Tries};
+
+use crate::cpu::Right;
+use crate::domain::PvDomain;
+use crate::{hash, kicks, states, tries, words};
+use crossbeam_utils::Backoff;
+use lk_machine::{State, Verb};
+use lk_word::NodeName;
+use std::sync::Wait;
+
+// The row E4, for so many turns: true where it took the lock. The word is the one that it met last.
+fn head<R: Wait>(
+    seat: &mut Right,
+    rt: &R,
+    domain: &PvDomain,
+    lock: u32,
+    own: NodeName,
+    hashed: bool,
+    seen: u64,
+) -> bool
+    requires at { (s : Start)
+        × At domain.now Lock lock own s E4 (Tries own hashed (turns_of domain.now.plan)) seat.old }
+    ensures takes { result ≡ true → (s : Start)
+        → At domain.now Lock lock own s E4 (Tries own hashed (turns_of domain.now.plan)) seat.old
+        → At domain.now Lock lock own s E13 (Owns own) seat.new }
+    ensures stops { result ≡ false → (s : Start)
+        → At domain.now Lock lock own s E4 (Tries own hashed (turns_of domain.now.plan)) seat.old
+        → At domain.now Lock lock own s E5 (Leads own hashed) seat.new }
+{
+    let _ = (own, hashed);
+    let backoff = Backoff::new();
+    let mut left = domain.turns();
+    let mut met = seen;
+    for _ in rt.forever() {
+        met = tries::head(seat, rt, domain, lock, takeable(met));
+        if met % 512 == 256 {
+            return true;
+        }
+        if left <= 1 {
+            return false;
+        }
+        left -= 1;
+        backoff.snooze();
+    }
+    unreachable!()
+}
+
+// The same word with its byte free and pending set, from which a front may take the lock.
+fn takeable(met: u64) -> u64
+    ensures { result % 512 ≡ 256 }
+{
+    met % 4_294_967_296 / 512 * 512 + 256
+}
+
+// The rows E6 to E9: it enters its lock into the hash, and makes the byte slow. True where the lock was
+// free, which it has then.
+fn enter<R: Wait>(seat: &mut Right, rt: &R, domain: &PvDomain, lock: u32, own: NodeName) -> bool
+    requires at { (s : Start) × At domain.now Lock lock own s E6 (Owns own) seat.old }
+    ensures takes { result ≡ true → (s : Start)
+        → At domain.now Lock lock own s E6 (Owns own) seat.old
+        → At domain.now Lock lock own s E13 (Owns own) seat.new }
+    ensures waits { result ≡ false → (s : Start)
+        → At domain.now Lock lock own s E6 (Owns own) seat.old
+        → At domain.now Lock lock own s E10 (Leads own true) seat.new }
+{
+    hash::put_in(seat, rt, domain, lock, own);
+    if words::slow(seat, domain, Verb::Lock, lock) % 256 != 0 {
+        return false;
+    }
+    words::win(seat, domain, Verb::Lock, lock);
+    hash::take_out(seat, domain, lock);
+    true
+}
+
+// The rows E10 to E12: it halts until it is kicked, if the byte is slow.
+fn nap<R: Wait>(seat: &mut Right, rt: &R, domain: &PvDomain, lock: u32, own: NodeName)
+    requires at { (s : Start) × At domain.now Lock lock own s E10 (Leads own true) seat.old }
+    ensures goes { (s : Start) → At domain.now Lock lock own s E10 (Leads own true) seat.old
+        → At domain.now Lock lock own s E2 (Leads own true) seat.new }
+{
+    states::store_state(seat, domain, own, State::Hashed);
+    if words::look_word(seat, domain, Verb::Lock, lock) % 256 != 3 {
+        return;
+    }
+    kicks::halt(seat, domain, own.cpu);
+    kicks::sleep(seat, rt, domain, own.cpu);
+}
+
+// The rows E2 to E9: true where it took the lock.
+fn attempt<R: Wait>(
+    seat: &mut Right,
+    rt: &R,
+    domain: &PvDomain,
+    lock: u32,
+    own: NodeName,
+    hashed: bool,
+) -> bool
+    requires at { (s : Start) × At domain.now Lock lock own s E2 (Leads own hashed) seat.old }
+    ensures takes { result ≡ true → (s : Start)
+        → At domain.now Lock lock own s E2 (Leads own hashed) seat.old
+        → At domain.now Lock lock own s E13 (Owns own) seat.new }
+    ensures waits { result ≡ false → (s : Start)
+        → At domain.now Lock lock own s E2 (Leads own hashed) seat.old
+        → At domain.now Lock lock own s E10 (Leads own true) seat.new }
+{
+    states::store_state(seat, domain, own, State::Running);
+    let met = words::press(seat, domain, Verb::Lock, lock);
+    if head(seat, rt, domain, lock, own, hashed, met) {
+        return true;
+    }
+    words::relent(seat, domain, Verb::Lock, lock);
+    if hashed {
+        return false;
+    }
+    enter(seat, rt, domain, lock, own)
+}
+
+// From E2 until it has taken the lock.
+fn strive<R: Wait>(
+    seat: &mut Right,
+    rt: &R,
+    domain: &PvDomain,
+    lock: u32,
+    own: NodeName,
+    hashed: bool,
+)
+    requires at { (s : Start) × At domain.now Lock lock own s E2 (Leads own hashed) seat.old }
+    ensures takes { (s : Start) → At domain.now Lock lock own s E2 (Leads own hashed) seat.old
+        → At domain.now Lock lock own s E13 (Owns own) seat.new }
+{
+    if attempt(seat, rt, domain, lock, own, hashed) {
+        return;
+    }
+    for _ in rt.forever() {
+        nap(seat, rt, domain, lock, own);
+        if attempt(seat, rt, domain, lock, own, true) {
+            return;
+        }
+    }
+    unreachable!()
+}
+
+// From E1 until it has taken the lock.
+pub(crate) fn lead<R: Wait>(seat: &mut Right, rt: &R, domain: &PvDomain, lock: u32, own: NodeName)
+    requires at { (s : Start) × At domain.now Lock lock own s E1 (Owns own) seat.old }
+    ensures takes { (s : Start) → At domain.now Lock lock own s E1 (Owns own) seat.old
+        → At domain.now Lock lock own s E13 (Owns own) seat.new }
+{
+    if states::look_state(seat, domain, own) == 2 {
+        strive(seat, rt, domain, lock, own, true);
+        return;
+    }
+    strive(seat, rt, domain, lock, own, false);
+}

@@ -1,0 +1,50 @@
+// What the number of a word says.
+ghost use Rattle.std.specs.Prelude.{◌≡◌, ◌&&◌, not, Bool, Option, IfSome};
+ghost use Rattle.lk_word.specs.declared.spin_word.Fields.{Fields};
+ghost use Rattle.lk_word.specs.declared.spin_word.NodeName.{NodeName};
+ghost use Rattle.lk_word.specs.SpinWord.{packed, IsPackable};
+ghost use Rattle.lk_machine.specs.Moves.{is_node};
+ghost use Rattle.lk_machine.specs.rows.Cna.{is_held};
+ghost use Rattle.lk_domain.specs.Plans.{layout_in};
+ghost use Rattle.lk_domain.specs.Words.{IsNode, link_number, marked};
+
+use crate::domain::PvDomain;
+use lk_machine::is_tail;
+use lk_word::{Fields, Locked, NodeName, unpack};
+
+// The fields of a word that a step met.
+pub(crate) fn word_met(domain: &PvDomain, met: u64) -> Fields
+    requires word { (word : Fields) × IsPackable (layout_in domain.now.plan) word
+        × (met ≡ packed (layout_in domain.now.plan) word) }
+    ensures { (word : Fields) → IsPackable (layout_in domain.now.plan) word
+        → met ≡ packed (layout_in domain.now.plan) word → result ≡ word }
+{
+    match unpack(domain.layout(), met as u32) {
+        Some(word) => word,
+        None => unreachable!(),
+    }
+}
+
+// The node that a link names, if it names one.
+pub(crate) fn node_met(domain: &PvDomain, met: u64) -> Option<NodeName>
+    requires link { (node : Option NodeName) × (mark : Bool) × IfSome node (IsNode domain.now.plan)
+        × (met ≡ marked mark (link_number node)) }
+    ensures { (node : Option NodeName) (mark : Bool) → IfSome node (IsNode domain.now.plan)
+        → met ≡ marked mark (link_number node) → result ≡ node }
+{
+    let name = met % 4294967296;
+    if name < 2 {
+        return None;
+    }
+    Some(NodeName {
+        cpu: ((name - 2) / 4) as u32,
+        index: ((name - 2) % 4) as u32,
+    })
+}
+
+// Whether the word is that of a held lock whose queue ends with this node: nobody pends.
+pub(crate) fn is_last(word: Fields, own: NodeName) -> bool
+    ensures { result ≡ (is_held word.locked && not word.pending && is_node word.tail own) }
+{
+    matches!(word.locked, Locked::Held) && !word.pending && is_tail(word, own)
+}

@@ -1,0 +1,101 @@
+// The steps of a seat on flags and links of nodes, each one operation.
+ghost use Rattle.std.specs.Prelude.{◌≡◌, ◌≢◌, false};
+ghost use Rattle.lk_domain.specs.NodePlays.{AtEntry, AtPrev, Hands, Links, SeesFlag, SeesLink, readied_by};
+ghost use Rattle.lk_domain.specs.Views.{IsNumbered};
+ghost use Rattle.lk_domain.specs.Words.{IsNode, part_index};
+ghost use Rattle.lk_domain.specs.declared.part.Part.TheVariants as part_is;
+ghost use Rattle.lk_pvdomain.specs.PvPlays.{AtFlag, AtBehind, AtHand};
+
+use crate::cpu::Right;
+use crate::domain::PvDomain;
+use crate::rule::{FlagLooks, Handovers, LinkLooks, Linkings, Resets};
+use lk_domain::Part;
+use lk_machine::Verb;
+use lk_word::NodeName;
+
+// Looks at the own flag, by a waiter: the rows W1 and W4.
+pub(crate) fn look_flag(seat: &mut Right, domain: &PvDomain, own: NodeName) -> u64
+    requires table { seat.old.table_id ≡ domain.now.table.shared.table_id }
+    requires number { IsNumbered seat.old.me.0 }
+    requires own { IsNode domain.now.plan own }
+    requires row { AtFlag own seat.old.me.0 }
+    ensures same { (seat.new.table_id ≡ seat.old.table_id) × (seat.new.id ≡ seat.old.id) }
+    ensures step { SeesFlag seat.old.me result seat.new.me }
+{
+    let word = domain.node_of(own, Part::Flag);
+    let met = domain.table.shared.load::<FlagLooks>(seat, word);
+    met
+}
+
+// Looks at the own link, by a front that has the lock: the row E14.
+pub(crate) fn look_next(seat: &mut Right, domain: &PvDomain, own: NodeName) -> u64
+    requires table { seat.old.table_id ≡ domain.now.table.shared.table_id }
+    requires number { IsNumbered seat.old.me.0 }
+    requires own { IsNode domain.now.plan own }
+    requires row { AtBehind own seat.old.me.0 }
+    ensures same { (seat.new.table_id ≡ seat.old.table_id) × (seat.new.id ≡ seat.old.id) }
+    ensures step { SeesLink seat.old.me result seat.new.me }
+{
+    let word = domain.node_of(own, Part::Next);
+    let met = domain.table.shared.load::<LinkLooks>(seat, word);
+    met
+}
+
+// Hands the lead on: the row E15.
+pub(crate) fn hand(seat: &mut Right, domain: &PvDomain, to: NodeName) -> u64
+    requires table { seat.old.table_id ≡ domain.now.table.shared.table_id }
+    requires number { IsNumbered seat.old.me.0 }
+    requires to { IsNode domain.now.plan to }
+    requires row { AtHand to seat.old.me.0 }
+    ensures same { (seat.new.table_id ≡ seat.old.table_id) × (seat.new.id ≡ seat.old.id) }
+    ensures step { Hands seat.old.me result seat.new.me }
+{
+    let word = domain.node_of(to, Part::Flag);
+    let met = domain.table.shared.swap::<Handovers>(seat, word, 1);
+    met
+}
+
+// Links the own node behind the one before it: the row G5. No call here is within another, so the link
+// has no mark.
+pub(crate) fn link(
+    seat: &mut Right,
+    domain: &PvDomain,
+    _verb: Verb,
+    prev: NodeName,
+    own: NodeName,
+) -> u64
+    requires table { seat.old.table_id ≡ domain.now.table.shared.table_id }
+    requires number { IsNumbered seat.old.me.0 }
+    requires prev { IsNode domain.now.plan prev }
+    requires own { IsNode domain.now.plan own }
+    requires row { AtPrev prev own false _verb seat.old.me.0 }
+    ensures same { (seat.new.table_id ≡ seat.old.table_id) × (seat.new.id ≡ seat.old.id) }
+    ensures step { Links seat.old.me result seat.new.me }
+{
+    let word = domain.node_of(prev, Part::Next);
+    let name = domain.name_of(own);
+    let met = domain.table.shared.swap::<Linkings>(seat, word, name);
+    met
+}
+
+// Resets the flag or the link of the node to come, which nobody uses.
+pub(crate) fn reset(
+    seat: &mut Right,
+    domain: &PvDomain,
+    _verb: Verb,
+    own: NodeName,
+    part: Part,
+) -> u64
+    requires table { seat.old.table_id ≡ domain.now.table.shared.table_id }
+    requires number { IsNumbered seat.old.me.0 }
+    requires own { IsNode domain.now.plan own }
+    requires row { AtEntry own _verb seat.old.me.0 }
+    requires ready { part ≢ part_is.Flag → seat.old.me.0.calls.ready ≡ part_index part }
+    requires plan { seat.old.me.0.who.plan ≡ domain.now.plan }
+    ensures same { (seat.new.table_id ≡ seat.old.table_id) × (seat.new.id ≡ seat.old.id) }
+    ensures step { seat.new.me ≡ (readied_by part seat.old.me.0, seat.old.me.1) }
+{
+    let word = domain.node_of(own, part);
+    let met = domain.table.shared.swap::<Resets>(seat, word, 0);
+    met
+}

@@ -1,0 +1,156 @@
+// What the steps tell, besides those of a domain that halts nobody.
+ghost use Rattle.lk_domain.specs.NodePlays.{Enters, Hands, Links, Readies, SeesFlag, SeesLink};
+ghost use Rattle.lk_domain.specs.Plays.{Makes, Swaps, WentBy};
+ghost use Rattle.lk_pvdomain.specs.PvPlays.{SeesState, Halts, Wakes, Stays, Kicks, Fills, SeesHash, Empties, Tries};
+ghost use Rattle.lk_pvdomain.specs.PvPlays.{release_fails, head_fails, steal_fails};
+ghost use Rattle.lk_machine.specs.declared.setup.Verb.TheVariants.{Lock, Try, Unlock};
+
+use atomic_table::Play;
+use lk_domain::{Journal, View};
+
+// A step on the state of a node.
+pub struct StateSteps;
+
+impl Play<Option<Journal>, View> for StateSteps {
+    ghost then = { λ _. SeesState };
+}
+
+// A step on the word of a lock.
+pub struct WordSteps;
+
+impl Play<Option<Journal>, View> for WordSteps {
+    ghost then = { λ _. WentBy };
+}
+
+// The processor halts, by a look at its kick word.
+pub struct HaltLooks;
+
+impl Play<Option<Journal>, View> for HaltLooks {
+    ghost then = { λ _. Halts };
+}
+
+// A look of which nothing is told.
+pub struct Glances;
+
+impl Play<Option<Journal>, View> for Glances {
+    ghost then = { λ _. Stays };
+}
+
+// The exchange that takes a kick.
+pub struct Wakings;
+
+impl Play<Option<Journal>, View> for Wakings {
+    ghost then = { λ _. Wakes };
+}
+
+// A kick is remembered.
+pub struct KickStores;
+
+impl Play<Option<Journal>, View> for KickStores {
+    ghost then = { λ _. Kicks };
+}
+
+// A swap by a release, which may be tried again.
+pub struct ReleaseTries;
+
+impl Play<Option<Journal>, View> for ReleaseTries {
+    ghost then = { Tries release_fails Unlock };
+}
+
+// A swap by a front, which may be tried again.
+pub struct HeadTries;
+
+impl Play<Option<Journal>, View> for HeadTries {
+    ghost then = { Tries head_fails Lock };
+}
+
+// A swap by a thief, which may be tried again.
+pub struct StealTries;
+
+impl Play<Option<Journal>, View> for StealTries {
+    ghost then = { Tries steal_fails Lock };
+}
+
+// A waiter looks at its flag.
+pub struct FlagLooks;
+
+impl Play<Option<Journal>, View> for FlagLooks {
+    ghost then = { λ _. SeesFlag };
+}
+
+// A call looks at the link of its node.
+pub struct LinkLooks;
+
+impl Play<Option<Journal>, View> for LinkLooks {
+    ghost then = { λ _. SeesLink };
+}
+
+// A call hands the lead on.
+pub struct Handovers;
+
+impl Play<Option<Journal>, View> for Handovers {
+    ghost then = { λ _. Hands };
+}
+
+// A call links its node behind the one before it.
+pub struct Linkings;
+
+impl Play<Option<Journal>, View> for Linkings {
+    ghost then = { λ _. Links };
+}
+
+// A word of the node to come is reset.
+pub struct Resets;
+
+impl Play<Option<Journal>, View> for Resets {
+    ghost then = { Readies };
+}
+
+// A step on the word of a lock by a call that takes it.
+pub struct Locks;
+
+impl Play<Option<Journal>, View> for Locks {
+    ghost then = { Makes Lock };
+}
+
+// The same by a call that tries it once.
+pub struct TryCalls;
+
+impl Play<Option<Journal>, View> for TryCalls {
+    ghost then = { Makes Try };
+}
+
+// An exchange of the whole word, which may be tried again.
+pub struct Exchanges;
+
+impl Play<Option<Journal>, View> for Exchanges {
+    ghost then = { Swaps };
+}
+
+// The last private store of a node to come, by which the call enters the slow path.
+pub struct Entries;
+
+impl Play<Option<Journal>, View> for Entries {
+    ghost then = { λ _. Enters };
+}
+
+// An entry is put into the hash, where its place is empty.
+pub struct Fillings;
+
+impl Play<Option<Journal>, View> for Fillings {
+    ghost then = { λ _. Fills };
+}
+
+// A look at a place of the hash.
+pub struct PlaceLooks;
+
+impl Play<Option<Journal>, View> for PlaceLooks {
+    ghost then = { λ _. SeesHash };
+}
+
+// An entry is taken out of the hash.
+pub struct Erasings;
+
+impl Play<Option<Journal>, View> for Erasings {
+    ghost then = { λ _. Empties };
+}

@@ -1,0 +1,76 @@
+// The steps of a seat on the states of nodes, each one operation.
+ghost use Rattle.std.specs.Prelude.{◌≡◌};
+ghost use Rattle.lk_domain.specs.NodePlays.{AtEntry, Enters};
+ghost use Rattle.lk_domain.specs.Views.{IsNumbered};
+ghost use Rattle.lk_domain.specs.Words.{IsNode};
+ghost use Rattle.lk_pvdomain.specs.PvPlays.{AtState, AtTold, SeesState};
+ghost use Rattle.lk_pvdomain.specs.PvRows.{looks_state, stores_own, state_told, rouses, roused_to};
+
+use crate::cpu::Right;
+use crate::domain::{PvDomain, number_of};
+use crate::rule::{Entries, StateSteps};
+use lk_machine::{State, Verb};
+use lk_word::NodeName;
+
+// Looks at a state: the row W2, of the node before, or W5 or E1, of the own.
+pub(crate) fn look_state(seat: &mut Right, domain: &PvDomain, node: NodeName) -> u64
+    requires table { seat.old.table_id ≡ domain.now.table.shared.table_id }
+    requires number { IsNumbered seat.old.me.0 }
+    requires node { IsNode domain.now.plan node }
+    requires row { AtState looks_state node seat.old.me.0 }
+    ensures same { (seat.new.table_id ≡ seat.old.table_id) × (seat.new.id ≡ seat.old.id) }
+    ensures step { SeesState seat.old.me result seat.new.me }
+{
+    let word = domain.state_of(node);
+    let met = domain.table.shared.load::<StateSteps>(seat, word);
+    met
+}
+
+// Stores the own state: the rows W3, E2 and E10.
+pub(crate) fn store_state(seat: &mut Right, domain: &PvDomain, node: NodeName, state: State) -> u64
+    requires table { seat.old.table_id ≡ domain.now.table.shared.table_id }
+    requires number { IsNumbered seat.old.me.0 }
+    requires node { IsNode domain.now.plan node }
+    requires row { AtTold stores_own state_told node state seat.old.me.0 }
+    ensures same { (seat.new.table_id ≡ seat.old.table_id) × (seat.new.id ≡ seat.old.id) }
+    ensures step { SeesState seat.old.me result seat.new.me }
+{
+    let word = domain.state_of(node);
+    let number = number_of(state);
+    let met = domain.table.shared.swap::<StateSteps>(seat, word, number);
+    met
+}
+
+// Exchanges the state that says halted: the rows W7, of the own node for running, and K1, of the next
+// one's for hashed.
+pub(crate) fn rouse(seat: &mut Right, domain: &PvDomain, node: NodeName, state: State) -> u64
+    requires table { seat.old.table_id ≡ domain.now.table.shared.table_id }
+    requires number { IsNumbered seat.old.me.0 }
+    requires node { IsNode domain.now.plan node }
+    requires row { AtTold rouses roused_to node state seat.old.me.0 }
+    ensures same { (seat.new.table_id ≡ seat.old.table_id) × (seat.new.id ≡ seat.old.id) }
+    ensures step { SeesState seat.old.me result seat.new.me }
+{
+    let word = domain.state_of(node);
+    let number = number_of(state);
+    let met = domain
+        .table
+        .shared
+        .compare_exchange::<StateSteps>(seat, word, 1, number);
+    met
+}
+
+// Resets the state of the node to come, by which the call enters the slow path: the row G1.
+pub(crate) fn enter(seat: &mut Right, domain: &PvDomain, _verb: Verb, own: NodeName) -> u64
+    requires table { seat.old.table_id ≡ domain.now.table.shared.table_id }
+    requires number { IsNumbered seat.old.me.0 }
+    requires own { IsNode domain.now.plan own }
+    requires row { AtEntry own _verb seat.old.me.0 }
+    requires ready { seat.old.me.0.calls.ready ≡ 2 }
+    ensures same { (seat.new.table_id ≡ seat.old.table_id) × (seat.new.id ≡ seat.old.id) }
+    ensures step { Enters seat.old.me result seat.new.me }
+{
+    let word = domain.state_of(own);
+    let met = domain.table.shared.swap::<Entries>(seat, word, 0);
+    met
+}

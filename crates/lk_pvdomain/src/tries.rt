@@ -1,0 +1,152 @@
+// The swaps of a byte of a word, each by one exchange of the whole word.
+ghost use Rattle.std.specs.Prelude.{◌≡◌, ◌<◌, ◌%◌, None, true};
+ghost use Rattle.lk_domain.specs.Calls.{lock_name};
+ghost use Rattle.lk_domain.specs.Ledgers.{is_first};
+ghost use Rattle.lk_domain.specs.Plans.{locks_of};
+ghost use Rattle.lk_domain.specs.Plays.{Acts, MadeBy};
+ghost use Rattle.lk_domain.specs.Views.{IsNumbered};
+ghost use Rattle.lk_machine.specs.declared.setup.Verb.TheVariants.{Lock, Unlock};
+ghost use Rattle.lk_pvdomain.specs.PvPlays.{TriedBy, release_fails, head_fails, steal_fails};
+ghost use Rattle.lk_pvdomain.specs.PvRows.{tries_release, tries_head, tries_steal};
+
+use crate::cpu::Right;
+use crate::domain::PvDomain;
+use crate::rule::{HeadTries, ReleaseTries, StealTries};
+use std::sync::Wait;
+
+// Exchanges a held word for a free one: the row U2, with which a release begins, or nothing.
+pub(crate) fn try_release(seat: &mut Right, domain: &PvDomain, lock: u32, expected: u64) -> u64
+    requires table { seat.old.table_id ≡ domain.now.table.shared.table_id }
+    requires number { IsNumbered seat.old.me.0 }
+    requires lock { lock < locks_of domain.now.plan }
+    requires expected { expected % 256 ≡ 1 }
+    requires row { Acts tries_release seat.old.me.0 Unlock lock }
+    requires home { is_first (lock_name lock) ≡ true → seat.old.me.0.ledger.out ≡ None }
+    ensures same { (seat.new.table_id ≡ seat.old.table_id) × (seat.new.id ≡ seat.old.id) }
+    ensures step { TriedBy release_fails Unlock (lock_name lock) expected seat.old.me result seat.new.me }
+{
+    let word = domain.lock_word(lock);
+    let met = domain
+        .table
+        .shared
+        .compare_exchange::<ReleaseTries>(seat, word, expected, expected - 1);
+    met
+}
+
+// Exchanges a free word with pending set for a held one without it, by the front: the row E4, or nothing.
+pub(crate) fn try_head(seat: &mut Right, domain: &PvDomain, lock: u32, expected: u64) -> u64
+    requires table { seat.old.table_id ≡ domain.now.table.shared.table_id }
+    requires number { IsNumbered seat.old.me.0 }
+    requires lock { lock < locks_of domain.now.plan }
+    requires expected { expected % 512 ≡ 256 }
+    requires row { Acts tries_head seat.old.me.0 Lock lock }
+    ensures same { (seat.new.table_id ≡ seat.old.table_id) × (seat.new.id ≡ seat.old.id) }
+    ensures step { TriedBy head_fails Lock (lock_name lock) expected seat.old.me result seat.new.me }
+{
+    let word = domain.lock_word(lock);
+    let met = domain
+        .table
+        .shared
+        .compare_exchange::<HeadTries>(seat, word, expected, expected - 255);
+    met
+}
+
+// Exchanges a free byte for a held one, whatever pending and tail are: the row H2, or nothing.
+pub(crate) fn try_steal(seat: &mut Right, domain: &PvDomain, lock: u32, expected: u64) -> u64
+    requires table { seat.old.table_id ≡ domain.now.table.shared.table_id }
+    requires number { IsNumbered seat.old.me.0 }
+    requires lock { lock < locks_of domain.now.plan }
+    requires expected { expected % 256 ≡ 0 }
+    requires row { Acts tries_steal seat.old.me.0 Lock lock }
+    ensures same { (seat.new.table_id ≡ seat.old.table_id) × (seat.new.id ≡ seat.old.id) }
+    ensures step { TriedBy steal_fails Lock (lock_name lock) expected seat.old.me result seat.new.me }
+{
+    let word = domain.lock_word(lock);
+    let met = domain
+        .table
+        .shared
+        .compare_exchange::<StealTries>(seat, word, expected, expected + 1);
+    met
+}
+
+// The row U2: the exchange is tried until it is made, or the byte is not held.
+pub(crate) fn release<R: Wait>(
+    seat: &mut Right,
+    rt: &R,
+    domain: &PvDomain,
+    lock: u32,
+    seen: u64,
+) -> u64
+    requires table { seat.old.table_id ≡ domain.now.table.shared.table_id }
+    requires number { IsNumbered seat.old.me.0 }
+    requires lock { lock < locks_of domain.now.plan }
+    requires seen { seen % 256 ≡ 1 }
+    requires row { Acts tries_release seat.old.me.0 Unlock lock }
+    requires home { is_first (lock_name lock) ≡ true → seat.old.me.0.ledger.out ≡ None }
+    ensures same { (seat.new.table_id ≡ seat.old.table_id) × (seat.new.id ≡ seat.old.id) }
+    ensures step { MadeBy Unlock lock seat.old.me result seat.new.me }
+{
+    let mut expected = seen;
+    for _ in rt.forever() {
+        let met = try_release(seat, domain, lock, expected);
+        if met == expected || met % 256 != 1 {
+            return met;
+        }
+        expected = met;
+    }
+    unreachable!()
+}
+
+// The row H2: the exchange is tried until it is made, or the byte is not free.
+pub(crate) fn steal<R: Wait>(
+    seat: &mut Right,
+    rt: &R,
+    domain: &PvDomain,
+    lock: u32,
+    seen: u64,
+) -> u64
+    requires table { seat.old.table_id ≡ domain.now.table.shared.table_id }
+    requires number { IsNumbered seat.old.me.0 }
+    requires lock { lock < locks_of domain.now.plan }
+    requires seen { seen % 256 ≡ 0 }
+    requires row { Acts tries_steal seat.old.me.0 Lock lock }
+    ensures same { (seat.new.table_id ≡ seat.old.table_id) × (seat.new.id ≡ seat.old.id) }
+    ensures step { MadeBy Lock lock seat.old.me result seat.new.me }
+{
+    let mut expected = seen;
+    for _ in rt.forever() {
+        let met = try_steal(seat, domain, lock, expected);
+        if met == expected || met % 256 != 0 {
+            return met;
+        }
+        expected = met;
+    }
+    unreachable!()
+}
+
+// The row E4: the exchange is tried until it is made, or the byte is not free or nobody pends.
+pub(crate) fn head<R: Wait>(
+    seat: &mut Right,
+    rt: &R,
+    domain: &PvDomain,
+    lock: u32,
+    seen: u64,
+) -> u64
+    requires table { seat.old.table_id ≡ domain.now.table.shared.table_id }
+    requires number { IsNumbered seat.old.me.0 }
+    requires lock { lock < locks_of domain.now.plan }
+    requires seen { seen % 512 ≡ 256 }
+    requires row { Acts tries_head seat.old.me.0 Lock lock }
+    ensures same { (seat.new.table_id ≡ seat.old.table_id) × (seat.new.id ≡ seat.old.id) }
+    ensures step { MadeBy Lock lock seat.old.me result seat.new.me }
+{
+    let mut expected = seen;
+    for _ in rt.forever() {
+        let met = try_head(seat, domain, lock, expected);
+        if met == expected || met % 512 != 256 {
+            return met;
+        }
+        expected = met;
+    }
+    unreachable!()
+}
