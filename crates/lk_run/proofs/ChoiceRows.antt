@@ -15,9 +15,9 @@ use Rattle.lk_machine.specs.Moves.{is_node, node_of}
 use Rattle.lk_machine.specs.Row.{learns_all, A, B, K, T, Reason, Y, Second}
 use Rattle.lk_machine.specs.rows.Cna.{Sight, may_stay, search_first, search_on, after_tail, is_held, is_last, flag_for}
 use Rattle.lk_machine.specs.TopRow.{target}
-use Rattle.lk_law.specs.Leads.{Met, Word, Number, Flagged, Named, Course, course_of}
+use Rattle.lk_law.specs.Leads.{Met, Word, Number, Flagged, Named, Linked, Course, course_of}
 use Rattle.lk_law.specs.Steps.{led}
-use Rattle.lk_domain.specs.Calls.{course, grip_of, Unchanged}
+use Rattle.lk_domain.specs.Calls.{course, grip_of, Unchanged, Outlook, sight_by}
 use Rattle.lk_domain.specs.NodePlays.{IsFlagNode}
 use Rattle.lk_domain.specs.Words.{IsNode}
 use Rattle.lk_domain.specs.declared.plan.Plan.{Plan}
@@ -131,6 +131,54 @@ more_is : (z : Sight) (f : Frame) (second x : Option NodeName) → f.second ≡ 
     → more_by z second x ≡ v → course_of (search_on z f x) ≡ told_more f v
 more_is z f second x is v e = more_course z f second x is ∙ ap (told_more f) e
 
+-- where it goes by that
+abbrev pub more_pc : More → Pc
+more_pc (more.Skips n) = C2
+more_pc (more.Appends m n) = C3
+more_pc (more.Begins n) = C5
+more_pc (more.Flushes m) = C3
+more_pc more.Chooses = C7
+
+more_place : (f : Frame) (v : More) → (led f (told_more f v).leads).place ≡ Some (more_pc v)
+more_place f (more.Skips n) = refl
+more_place f (more.Appends m n) = refl
+more_place f (more.Begins n) = refl
+more_place f (more.Flushes m) = refl
+more_place f more.Chooses = refl
+
+-- whatever it sees it goes on
+pub more_goes : (mode : Mode) (p : ℕ) (z : Outlook) (f : Frame) (second x : Option NodeName) (i : Bool) → f.second ≡ second → (v : More)
+    → more_by (sight_by z (Linked x i)) second x ≡ v → (led f (course mode p z C2 f (Linked x i)).leads).place ≡ Some (more_pc v)
+more_goes mode p z f second x i is v e =
+    ap (λ (y : Course). (led f y.leads).place) (more_is (sight_by z (Linked x i)) f second x is v e) ∙ more_place f v
+
+-- who is passed over, or before whom those aside return, is named by the link
+skips_if : (a b : Bool) (second : Option NodeName) (n k : NodeName)
+    → (if a then (if b then first.Chooses n else first.Skips n) else over_by second n) ≡ first.Skips k → n ≡ k
+skips_if true true second n k e = absurd (cc e)
+skips_if true false second n k e = cc e
+skips_if false b None n k e = absurd (cc e)
+skips_if false b (Some j) n k e = absurd (cc e)
+
+pub skips_met : (s : Sight) (second x : Option NodeName) (k : NodeName) → first_by s second x ≡ first.Skips k → x ≡ Some k
+skips_met s None None k e = absurd (cc e)
+skips_met s (Some j) None k e = absurd (cc e)
+skips_met s None (Some n) k e = ap (λ z. Some z) (skips_if (may_stay s) (s.local n) None n k e)
+skips_met s (Some j) (Some n) k e = ap (λ z. Some z) (skips_if (may_stay s) (s.local n) (Some j) n k e)
+
+flushes_if : (a b : Bool) (second : Option NodeName) (n m k : NodeName)
+    → (if a then (if b then first.Chooses n else first.Skips n) else over_by second n) ≡ first.Flushes m k → n ≡ k
+flushes_if true true second n m k e = absurd (cc e)
+flushes_if true false second n m k e = absurd (cc e)
+flushes_if false b None n m k e = absurd (cc e)
+flushes_if false b (Some j) n m k e = cc e
+
+pub flushes_met : (s : Sight) (second x : Option NodeName) (m k : NodeName) → first_by s second x ≡ first.Flushes m k → x ≡ Some k
+flushes_met s None None m k e = absurd (cc e)
+flushes_met s (Some j) None m k e = absurd (cc e)
+flushes_met s None (Some n) m k e = ap (λ z. Some z) (flushes_if (may_stay s) (s.local n) None n m k e)
+flushes_met s (Some j) (Some n) m k e = ap (λ z. Some z) (flushes_if (may_stay s) (s.local n) (Some j) n m k e)
+
 -- whether the front is the last of the main queue
 last_by : (f : Frame) (y : Fields) (own : NodeName) → f.me ≡ Some own → (b : Bool)
     → (is_held y.locked && not y.pending && is_node y.tail own) ≡ b → is_last f y ≡ b
@@ -142,7 +190,23 @@ tail_is : (f : Frame) (t : NodeName) (w : Why) → f.why ≡ w
     ≡ course_of {A = Option NodeName} (learns_all (after_tail w) (T (Some t) ∷ []))
 tail_is f t w e = ap (λ (y : Why). course_of {A = Option NodeName} (learns_all (after_tail y) (T (Some t) ∷ []))) e
 
-module _ (mode : Mode) (p : ℕ) {z : Sight} (f : Frame) where
+-- the mark counts where somebody is named alone
+
+pub first_marks : (z : Outlook) (second x : Option NodeName) (i j : Bool) → ((n : NodeName) → x ≡ Some n → i ≡ j)
+    → first_by (sight_by z (Linked x i)) second x ≡ first_by (sight_by z (Linked x j)) second x
+first_marks z None None i j same = refl
+first_marks z (Some m) None i j same = refl
+first_marks z None (Some n) i j same = ap (λ (b : Bool). first_by (sight_by z (Linked (Some n) b)) None (Some n)) (same n refl)
+first_marks z (Some m) (Some n) i j same = ap (λ (b : Bool). first_by (sight_by z (Linked (Some n) b)) (Some m) (Some n)) (same n refl)
+
+pub more_marks : (z : Outlook) (second x : Option NodeName) (i j : Bool) → ((n : NodeName) → x ≡ Some n → i ≡ j)
+    → more_by (sight_by z (Linked x i)) second x ≡ more_by (sight_by z (Linked x j)) second x
+more_marks z None None i j same = refl
+more_marks z (Some m) None i j same = refl
+more_marks z None (Some n) i j same = ap (λ (b : Bool). more_by (sight_by z (Linked (Some n) b)) None (Some n)) (same n refl)
+more_marks z (Some m) (Some n) i j same = ap (λ (b : Bool). more_by (sight_by z (Linked (Some n) b)) (Some m) (Some n)) (same n refl)
+
+module _ (mode : Mode) (p : ℕ) {z : Outlook} (f : Frame) where
   -- a row whose course is known
   by_course : (c : Pc) (x : Met) (o : Course) (e : Pc) (Q : Frame → Type 0) → course mode p z c f x ≡ o
       → (led f o.leads).place ≡ Some e → grip_of (target c f) o ≡ Unchanged → (led f o.leads).lock ≡ f.lock
@@ -157,55 +221,55 @@ module _ (mode : Mode) (p : ℕ) {z : Sight} (f : Frame) where
       }
 
   -- C1
-  module _ (own : NodeName) (second x : Option NodeName) (has : Fronts own second f) where
-    pub first_waits : first_by z second x ≡ first.Waits → Leads mode p z C1 f (Named x) C1 (Fronts own second)
+  module _ (own : NodeName) (second x : Option NodeName) {i : Bool} (has : Fronts own second f) where
+    pub first_waits : first_by (sight_by z (Linked x i)) second x ≡ first.Waits → Leads mode p z C1 f (Linked x i) C1 (Fronts own second)
     first_waits e =
-        by_course C1 (Named x) (told_first first.Waits) C1 (Fronts own second) (first_is z f second x has.second first.Waits e) refl refl refl refl
+        by_course C1 (Linked x i) (told_first first.Waits) C1 (Fronts own second) (first_is (sight_by z (Linked x i)) f second x has.second first.Waits e) refl refl refl refl
         (record { me = has.me; second = has.second })
 
-    pub first_promotes : (m : NodeName) → first_by z second x ≡ first.Promotes m
-        → Leads mode p z C1 f (Named x) C3 (Promotes own m)
+    pub first_promotes : (m : NodeName) → first_by (sight_by z (Linked x i)) second x ≡ first.Promotes m
+        → Leads mode p z C1 f (Linked x i) C3 (Promotes own m)
     first_promotes m e =
-        by_course C1 (Named x) (told_first (first.Promotes m)) C3 (Promotes own m) (first_is z f second x has.second (first.Promotes m) e) refl refl refl refl
-        (record { fronts = record { me = has.me; second = has.second ∙ promotes_named z second x m e }; why_is = refl })
+        by_course C1 (Linked x i) (told_first (first.Promotes m)) C3 (Promotes own m) (first_is (sight_by z (Linked x i)) f second x has.second (first.Promotes m) e) refl refl refl refl
+        (record { fronts = record { me = has.me; second = has.second ∙ promotes_named (sight_by z (Linked x i)) second x m e }; why_is = refl })
 
-    pub first_chooses : (y : NodeName) → first_by z second x ≡ first.Chooses y
-        → Leads mode p z C1 f (Named x) C7 (Precedes own second y)
+    pub first_chooses : (y : NodeName) → first_by (sight_by z (Linked x i)) second x ≡ first.Chooses y
+        → Leads mode p z C1 f (Linked x i) C7 (Precedes own second y)
     first_chooses y e =
-        by_course C1 (Named x) (told_first (first.Chooses y)) C7 (Precedes own second y) (first_is z f second x has.second (first.Chooses y) e) refl refl refl refl
+        by_course C1 (Linked x i) (told_first (first.Chooses y)) C7 (Precedes own second y) (first_is (sight_by z (Linked x i)) f second x has.second (first.Chooses y) e) refl refl refl refl
         (record { fronts = record { me = has.me; second = has.second }; next = refl })
 
-    pub first_skips : (a : NodeName) → first_by z second x ≡ first.Skips a
-        → Leads mode p z C1 f (Named x) C2 (Skips own second a a)
+    pub first_skips : (a : NodeName) → first_by (sight_by z (Linked x i)) second x ≡ first.Skips a
+        → Leads mode p z C1 f (Linked x i) C2 (Skips own second a a)
     first_skips a e =
-        by_course C1 (Named x) (told_first (first.Skips a)) C2 (Skips own second a a) (first_is z f second x has.second (first.Skips a) e) refl refl refl refl
+        by_course C1 (Linked x i) (told_first (first.Skips a)) C2 (Skips own second a a) (first_is (sight_by z (Linked x i)) f second x has.second (first.Skips a) e) refl refl refl refl
         (record { fronts = record { me = has.me; second = has.second }; first = refl; last = refl })
 
-    pub first_flushes : (m a : NodeName) → first_by z second x ≡ first.Flushes m a
-        → Leads mode p z C1 f (Named x) C3 (Flushes own m a)
+    pub first_flushes : (m a : NodeName) → first_by (sight_by z (Linked x i)) second x ≡ first.Flushes m a
+        → Leads mode p z C1 f (Linked x i) C3 (Flushes own m a)
     first_flushes m a e =
-        by_course C1 (Named x) (told_first (first.Flushes m a)) C3 (Flushes own m a) (first_is z f second x has.second (first.Flushes m a) e) refl refl refl refl
+        by_course C1 (Linked x i) (told_first (first.Flushes m a)) C3 (Flushes own m a) (first_is (sight_by z (Linked x i)) f second x has.second (first.Flushes m a) e) refl refl refl refl
         (record {
-          fronts = record { me = has.me; second = has.second ∙ flushes_named z second x m a e };
+          fronts = record { me = has.me; second = has.second ∙ flushes_named (sight_by z (Linked x i)) second x m a e };
           a_is = refl;
           why_is = refl;
         })
 
   -- C2
-  module _ (own : NodeName) (second x : Option NodeName) (a b : NodeName) (has : Skips own second a b f) where
-    pub more_skips : (n : NodeName) → more_by z second x ≡ more.Skips n
-        → Leads mode p z C2 f (Named x) C2 (Skips own second a n)
+  module _ (own : NodeName) (second x : Option NodeName) {i : Bool} (a b : NodeName) (has : Skips own second a b f) where
+    pub more_skips : (n : NodeName) → more_by (sight_by z (Linked x i)) second x ≡ more.Skips n
+        → Leads mode p z C2 f (Linked x i) C2 (Skips own second a n)
     more_skips n e =
-        by_course C2 (Named x) (told_more f (more.Skips n)) C2 (Skips own second a n) (more_is z f second x has.fronts.second (more.Skips n) e) refl refl refl refl
+        by_course C2 (Linked x i) (told_more f (more.Skips n)) C2 (Skips own second a n) (more_is (sight_by z (Linked x i)) f second x has.fronts.second (more.Skips n) e) refl refl refl refl
         (record { fronts = record { me = has.fronts.me; second = has.fronts.second }; first = has.first; last = refl })
 
-    pub more_appends : (m y : NodeName) → more_by z second x ≡ more.Appends m y
-        → Leads mode p z C2 f (Named x) C3 (Appends own m a b y)
+    pub more_appends : (m y : NodeName) → more_by (sight_by z (Linked x i)) second x ≡ more.Appends m y
+        → Leads mode p z C2 f (Linked x i) C3 (Appends own m a b y)
     more_appends m y e =
-        by_course C2 (Named x) (told_more f (more.Appends m y)) C3 (Appends own m a b y) (more_is z f second x has.fronts.second (more.Appends m y) e) refl refl refl refl
+        by_course C2 (Linked x i) (told_more f (more.Appends m y)) C3 (Appends own m a b y) (more_is (sight_by z (Linked x i)) f second x has.fronts.second (more.Appends m y) e) refl refl refl refl
         (record {
           skips = record {
-            fronts = record { me = has.fronts.me; second = has.fronts.second ∙ appends_named z second x m y e };
+            fronts = record { me = has.fronts.me; second = has.fronts.second ∙ appends_named (sight_by z (Linked x i)) second x m y e };
             first = has.first;
             last = has.last;
           };
@@ -213,25 +277,25 @@ module _ (mode : Mode) (p : ℕ) {z : Sight} (f : Frame) where
           why_is = refl;
         })
 
-    pub more_begins : (y : NodeName) → more_by z second x ≡ more.Begins y
-        → Leads mode p z C2 f (Named x) C5 (Parts own a b y)
+    pub more_begins : (y : NodeName) → more_by (sight_by z (Linked x i)) second x ≡ more.Begins y
+        → Leads mode p z C2 f (Linked x i) C5 (Parts own a b y)
     more_begins y e =
-        by_course C2 (Named x) (told_more f (more.Begins y)) C5 (Parts own a b y) (more_is z f second x has.fronts.second (more.Begins y) e) refl refl refl refl
+        by_course C2 (Linked x i) (told_more f (more.Begins y)) C5 (Parts own a b y) (more_is (sight_by z (Linked x i)) f second x has.fronts.second (more.Begins y) e) refl refl refl refl
         (record { fronts = record { me = has.fronts.me; second = has.first }; last = has.last; next = refl })
 
-    pub more_flushes : (m : NodeName) → more_by z second x ≡ more.Flushes m
-        → Leads mode p z C2 f (Named x) C3 (Flushes own m a)
+    pub more_flushes : (m : NodeName) → more_by (sight_by z (Linked x i)) second x ≡ more.Flushes m
+        → Leads mode p z C2 f (Linked x i) C3 (Flushes own m a)
     more_flushes m e =
-        by_course C2 (Named x) (told_more f (more.Flushes m)) C3 (Flushes own m a) (more_is z f second x has.fronts.second (more.Flushes m) e) refl refl refl refl
+        by_course C2 (Linked x i) (told_more f (more.Flushes m)) C3 (Flushes own m a) (more_is (sight_by z (Linked x i)) f second x has.fronts.second (more.Flushes m) e) refl refl refl refl
         (record {
-          fronts = record { me = has.fronts.me; second = has.fronts.second ∙ more_flushes_named z second x m e };
+          fronts = record { me = has.fronts.me; second = has.fronts.second ∙ more_flushes_named (sight_by z (Linked x i)) second x m e };
           a_is = has.first;
           why_is = refl;
         })
 
-    pub more_chooses : more_by z second x ≡ more.Chooses → Leads mode p z C2 f (Named x) C7 (Precedes own second a)
+    pub more_chooses : more_by (sight_by z (Linked x i)) second x ≡ more.Chooses → Leads mode p z C2 f (Linked x i) C7 (Precedes own second a)
     more_chooses e =
-        by_course C2 (Named x) (told_more f more.Chooses) C7 (Precedes own second a) (more_is z f second x has.fronts.second more.Chooses e) refl refl refl refl
+        by_course C2 (Linked x i) (told_more f more.Chooses) C7 (Precedes own second a) (more_is (sight_by z (Linked x i)) f second x has.fronts.second more.Chooses e) refl refl refl refl
         (record { fronts = record { me = has.fronts.me; second = has.fronts.second }; next = has.first })
 
   -- C3
@@ -260,8 +324,8 @@ module _ (mode : Mode) (p : ℕ) {z : Sight} (f : Frame) where
       (record { fronts = record { me = has.fronts.me; second = has.fronts.second }; tail = refl })
 
   -- C4
-  pub ties : (own m a b y t : NodeName) (x : Option NodeName) → Ties own m a b y t f
-      → Leads mode p z C4 f (Named x) C5 (Parts own m b y)
+  pub ties : (own m a b y t : NodeName) (x : Option NodeName) {i : Bool} → Ties own m a b y t f
+      → Leads mode p z C4 f (Linked x i) C5 (Parts own m b y)
   ties own m a b y t x has =
       record {
         place = refl;
@@ -276,8 +340,8 @@ module _ (mode : Mode) (p : ℕ) {z : Sight} (f : Frame) where
       }
 
   -- C5
-  pub cuts : (own m b y : NodeName) (x : Option NodeName) → Parts own m b y f
-      → Leads mode p z C5 f (Named x) C6 (Parts own m b y)
+  pub cuts : (own m b y : NodeName) (x : Option NodeName) {i : Bool} → Parts own m b y f
+      → Leads mode p z C5 f (Linked x i) C6 (Parts own m b y)
   cuts own m b y x has =
       record {
         place = refl;
@@ -316,8 +380,8 @@ module _ (mode : Mode) (p : ℕ) {z : Sight} (f : Frame) where
   hands_chosen x = record { place = refl; grip = refl; own = refl; lock = refl; after = refl }
 
   -- C9
-  pub returns : (own m a t : NodeName) (x : Option NodeName) → Returns own m a t f
-      → Leads mode p z C9 f (Named x) C7 (Precedes own None m)
+  pub returns : (own m a t : NodeName) (x : Option NodeName) {i : Bool} → Returns own m a t f
+      → Leads mode p z C9 f (Linked x i) C7 (Precedes own None m)
   returns own m a t x has =
       record {
         place = refl;

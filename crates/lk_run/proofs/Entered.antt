@@ -1,5 +1,5 @@
 -- What a step of a processor does to a call of a reader or a writer.
-use Rattle.std.proofs.Common.{◌≡◌, ℕ, [], ◌∷◌, ◌++◌, Option, Some, None, true, eqb, refl, sym, ap, ◌∙◌, subst, arith}
+use Rattle.std.proofs.Common.{◌≡◌, inl, inr, ℕ, ◌+◌, ◌-◌, [], ◌∷◌, ◌++◌, length, Option, Some, None, true, eqb, refl, sym, ap, ◌∙◌, subst, arith, length-append}
 use Rattle.std.proofs.Common.{◌||◌}
 use Rattle.lk_abs.specs.declared.holder.Manner.{Manner}
 use Rattle.lk_abs.specs.declared.names.LockName.{LockName}
@@ -11,7 +11,7 @@ use Rattle.lk_machine.specs.declared.parts.Pc.TheVariants.{F1, U1}
 use Rattle.lk_machine.specs.declared.setup.Verb.{Verb}
 use Rattle.lk_law.specs.Leads.{Met}
 use Rattle.lk_law.specs.Sound.{after_wait, takes_wait}
-use Rattle.lk_domain.specs.Calls.{terms_of, sight_of, read_at, mark, Calls, lock_name, row_of, Takes, Frees}
+use Rattle.lk_domain.specs.Calls.{terms_of, sight_of, read_at, mark, Calls, lock_name, row_of, Unchanged, Takes, Frees}
 use Rattle.lk_domain.specs.Ledgers.{turned}
 use Rattle.lk_domain.specs.Paths.{HasLooked, Any, Passes, is_busy}
 use Rattle.lk_domain.specs.Plays.{rowed}
@@ -19,7 +19,7 @@ use Rattle.lk_domain.specs.Seats.{IsOf, KeepsRest, calls_of, ledger_of, view_of}
 use Rattle.lk_domain.specs.declared.cpu.Cpu.{Cpu}
 use Rattle.lk_domain.specs.declared.domain.Domain.{Domain}
 use Rattle.lk_run.specs.Entering.{HasEntered}
-use Rattle.lk_run.specs.Polls.{Rises, NeverFalls, HasStayed}
+use Rattle.lk_run.specs.Polls.{NeverFalls, RisesBy, HasStayed, Acquires}
 use Rattle.lk_run.specs.Phases.{Start, newest, Waits, WaitsAs, CameIn, HasPassed, Passed}
 use Rattle.lk_run.specs.Standing.{Outside, Inside, Entered, IsOn}
 use Rattle.lk_run.proofs.RwRows.{TakesBy, SetsOut, FreesIt}
@@ -37,7 +37,8 @@ module _ (d : Domain) (v : Verb) (n : LockName) (a b : Cpu) (rest : KeepsRest a 
     (step : view_of b ≡ rowed (view_of a) was x) (c : Pc) (P : Frame → Type 0) (s : Start)
     (at : IsOn (terms_of d.plan) b.number v n c P Outside s.calls was) (told : Option ℕ)
     (passes : Passes ((eqb n.index 0) || is_busy s.calls) s.ledger (ledger_of a)) (falls : NeverFalls s.told told)
-    (rises : (y : Met) (r : ℕ) → HasStayed (newest was.frames ++ mark c y r ∷ []) → Rises s.told told) where
+    (rises : (y : Met) (r k : ℕ) → HasStayed k (newest was.frames ++ mark c y r ∷ []) → RisesBy k s.told told)
+    (once : Acquires 0 s.calls was s.told told) where
   abbrev mode : Mode
   mode = d.plan.mode
 
@@ -58,16 +59,22 @@ module _ (d : Domain) (v : Verb) (n : LockName) (a b : Cpu) (rest : KeepsRest a 
         look = looked n.index m s.calls (calls_of b).last s.ledger (ledger_of a) (ledger_of b) passes turns;
         polled = record {
           falls = falls;
-          rises = way.polls_over d v n a b rest of was x step c P Outside s at told passes falls rises last;
+          rises = way.polls_over d v n a b rest of was x step c P Outside s at told passes falls rises once last;
         };
+        once = subst (λ k. Acquires k s.calls (calls_of b) s.told told) (alone (length (calls_of b).last))
+            (way.counts d v n a b rest of was x step c P Outside s at told passes falls rises once (Takes m) 1 takes.grip refl);
       }
+    where
+      alone : (k : ℕ) → 1 ≡ 1 + (k - k)
+      alone k = omega arith
 
 -- it goes to take the wait lock
 module _ (d : Domain) (v : Verb) (l : ℕ) (a b : Cpu) (rest : KeepsRest a b) (of : IsOf a d) (was : Calls) (x : Met)
     (step : view_of b ≡ rowed (view_of a) was x) (c : Pc) (P : Frame → Type 0) (s : Start)
     (at : IsOn (terms_of d.plan) b.number v (lock_name l) c P Outside s.calls was) (told : Option ℕ)
     (passes : Passes ((eqb l 0) || is_busy s.calls) s.ledger (ledger_of a)) (falls : NeverFalls s.told told)
-    (rises : (y : Met) (r : ℕ) → HasStayed (newest was.frames ++ mark c y r ∷ []) → Rises s.told told) where
+    (rises : (y : Met) (r k : ℕ) → HasStayed k (newest was.frames ++ mark c y r ∷ []) → RisesBy k s.told told)
+    (once : Acquires 0 s.calls was s.told told) where
   pub sets_out : (e : Pc) → SetsOut d.plan.mode b.number (sight_of (terms_of d.plan) b.number was.runs) c at.frame x e → Some e ≡ after_wait v → (F1 ≡ c → ⊥)
       → Waits d v (wait_name l) F1 Any s b told
   sets_out e out next other =
@@ -76,10 +83,14 @@ module _ (d : Domain) (v : Verb) (l : ℕ) (a b : Cpu) (rest : KeepsRest a b) (o
           at = subst (IsOn (terms_of d.plan) b.number v (wait_name l) F1 Any Outside s.calls)
               (sym (way.calls d v (lock_name l) a b rest of was x step c P Outside s.calls at))
               (path.queues at x e out.frame out.grip next);
-          passes = way.passed d v (lock_name l) a b rest of was x step c P Outside s at told passes falls rises out.grip;
+          passes = way.passed d v (lock_name l) a b rest of was x step c P Outside s at told passes falls rises once out.grip;
           falls = falls;
+          stays = way.polls_over d v (lock_name l) a b rest of was x step c P Outside s at told passes falls rises once
+              (way.grows d v (lock_name l) a b rest of was x step c P Outside s.calls at F1 (ap (λ (g : Frame). g.place) out.frame));
+          once = way.counts d v (lock_name l) a b rest of was x step c P Outside s at told passes falls rises once Unchanged 0 out.grip
+              (way.none_more was.taken);
         };
-        rises = way.polls d v (lock_name l) a b rest of was x step c P Outside s at told passes falls rises F1 other
+        rises = way.polls d v (lock_name l) a b rest of was x step c P Outside s at told passes falls rises once F1 other
             (ap (λ (g : Frame). g.place) out.frame);
       }
 
@@ -108,9 +119,14 @@ module _ (d : Domain) (v : Verb) (l : ℕ) (a b : Cpu) (rest : KeepsRest a b) (o
         taken = omega (arith, count, least);
         look = looked l m s.calls (at.trail ++ way.marked d b (calls_of a) c x ∷ []) s.ledger (ledger_of a) (ledger_of b) w.looked.passes turns;
         falls = w.looked.falls;
-        rises = λ y r h. w.rises x (read_at c (way.sees d a b)) (subst (λ t. HasStayed (t ++ way.marked d b (calls_of a) c x ∷ [])) (sym before)
-            (stays_before at.trail (way.marked d b (calls_of a) c x) (mark U1 y r) other h));
+        rises = λ y r k h. w.rises x (read_at c (way.sees d a b)) k (subst (λ t. HasStayed k (t ++ way.marked d b (calls_of a) c x ∷ [])) (sym before)
+            (stays_before k at.trail (way.marked d b (calls_of a) c x) (mark U1 y r) other h));
+        once = both out w.looked.once count;
       })
+    where
+      both : (z : Calls) → Acquires 1 s.calls (calls_of a) s.told told → z.taken ≡ (calls_of a).taken + 1 → Acquires 2 s.calls z s.told told
+      both z (inl h) e = inl h
+      both z (inr g) e = inr (omega (arith, g, e))
 
 -- and frees the wait lock
 module _ (d : Domain) (v : Verb) (l : ℕ) (m : Manner) (a b : Cpu) (rest : KeepsRest a b) (of : IsOf a d) (x : Met)
@@ -133,5 +149,14 @@ module _ (d : Domain) (v : Verb) (l : ℕ) (m : Manner) (a b : Cpu) (rest : Keep
             (sym (way.calls d v (wait_name l) a b rest of (calls_of a) x step U1 Any (Entered m) s.calls at))
             (path.leaves at x refl free.place free.grip free.own waits gone.takes gone.taken);
         look = subst (λ g. HasLooked l m s.calls at.trail s.ledger g) (sym same) gone.look;
-        polled = record { falls = gone.falls; rises = λ h. gone.rises x 0 (subst HasStayed last h) };
+        polled = record { falls = gone.falls; rises = λ k h. gone.rises x 0 k (subst (HasStayed k) last h) };
+        once = both (length at.trail) gone.once (ap length last ∙ length-append at.trail (mark U1 x 0 ∷ []))
+            (ap (λ (z : Calls). z.taken) (way.calls d v (wait_name l) a b rest of (calls_of a) x step U1 Any (Entered m) s.calls at)
+            ∙ path.count_after at x Frees free.grip);
       }
+    where
+      both : (i : ℕ) → Acquires 2 s.calls (calls_of a) s.told told → length (calls_of b).last ≡ i + 1
+          → (calls_of b).taken ≡ (calls_of a).taken
+          → Acquires (1 + (length (calls_of b).last - i)) s.calls (calls_of b) s.told told
+      both i (inl h) long same = inl h
+      both i (inr e) long same = inr (omega (arith, e, long, same))

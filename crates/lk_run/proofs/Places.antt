@@ -1,27 +1,47 @@
 -- Where a row may lead, and what the number of a word says.
-use Rattle.std.proofs.Common.{◌≡◌, ◌≢◌, ◌⊎◌, inl, inr, ℕ, ◌-◌, ◌/◌, ◌%◌, ◌<◌, ◌≤◌, Option, IfSome, arith, Some, None, Bool, true, false, eq-eqb, ne_eqb, refl, sym, ◌∙◌}
+use Rattle.std.proofs.Common.{◌≡◌, ◌≢◌, ◌⊎◌, inl, inr, ℕ, ◌-◌, ◌/◌, ◌%◌, ◌<◌, ◌≤◌, Option, IfSome, arith, Some, None, Bool, true, false, eq-eqb, ne_eqb, refl, sym, ap, subst, ◌∙◌, eqb, ◌+◌}
 use Rattle.std.specs.Prelude.{if◌then◌else◌, ◌&&◌, not, is_some}
 use Rattle.lk_abs.specs.declared.names.Mode.{Mode}
 use Rattle.lk_abs.specs.declared.names.Mode.TheVariants.{Virt, Native, Cna, Pv}
 use Rattle.lk_word.specs.declared.spin_word.NodeName.{NodeName}
 use Rattle.lk_word.specs.declared.spin_word.Fields.{Fields}
-use Rattle.lk_word.specs.SpinWord.{packed}
+use Rattle.lk_word.specs.declared.spin_word.Layout.{Layout}
+use Rattle.lk_word.specs.SpinWord.{packed, IsPackable}
 use Rattle.lk_machine.specs.declared.parts.Flag.{Flag}
 use Rattle.lk_machine.specs.declared.parts.Flag.TheVariants.{Unset, Go, Second}
 use Rattle.lk_machine.specs.declared.parts.Pc.{Pc}
 use Rattle.lk_machine.specs.declared.parts.Pc.TheVariants.{F1, V1, P0, P1, P2, P3, P4, G1, G7, G8, G9}
+use Rattle.lk_machine.specs.declared.setup.Verb.{Verb}
 use Rattle.lk_machine.specs.rows.Spin.{is_free, is_unlocked, after_fast, after_pending, to_queue}
-use Rattle.lk_domain.specs.Plans.{cpus_of}
+use Rattle.lk_domain.specs.Plans.{cpus_of, layout_in}
+use Rattle.lk_domain.specs.Seats.{IsOf, Made}
+use Rattle.lk_domain.specs.declared.cpu.Cpu.{Cpu}
+use Rattle.lk_domain.specs.declared.domain.Domain.{Domain}
 use Rattle.lk_domain.specs.NodePlays.{IsFlagNode}
-use Rattle.lk_domain.specs.Words.{IsNode, link_number, flag_number, name_number}
+use Rattle.lk_domain.specs.Words.{IsNode, link_number, flag_number, name_number, marked}
+use Rattle.std.proofs.lemmas.Bool.{cases_eq}
+use Rattle.lk_law.proofs.common.Puts.{if-true, if-false}
 use Rattle.lk_domain.specs.declared.plan.Plan.{Plan}
 use Rattle.lk_domain.proofs.Ways as seat
 
-pub free_by : (n : ℕ) (y : Fields) → n ≡ packed y → n ≡ 0 → is_free y ≡ true
-free_by n y is h = seat.is_zero n y is (eq-eqb n 0 h)
+-- the word that a step met, by the plan of the domain
+pub record IsMet (domain : Domain) (met : ℕ) (found : Fields) : Type 0 where
+  pub packs : IsPackable (layout_in domain.plan) found
+  pub word : met ≡ packed (layout_in domain.plan) found
 
-pub held_by : (n : ℕ) (y : Fields) → n ≡ packed y → n ≢ 0 → is_free y ≡ false
-held_by n y is h = seat.not_zero n y is (ne_eqb n 0 h)
+pub met_by : (domain : Domain) (cpu new : Cpu) {v : Verb} {l met : ℕ} → IsOf cpu domain
+    → (made : Made v l cpu met new) → IsMet domain met made.by.found
+met_by domain cpu new near made =
+    record {
+      packs = subst (λ (k : Plan). IsPackable (layout_in k) made.by.found) near.plan made.by.packs;
+      word = made.by.word ∙ ap (λ (k : Plan). packed (layout_in k) made.by.found) near.plan;
+    }
+
+pub free_by : (layout : Layout) (n : ℕ) (y : Fields) → n ≡ packed layout y → n ≡ 0 → is_free y ≡ true
+free_by layout n y is h = seat.is_zero layout n y is (eq-eqb n 0 h)
+
+pub held_by : (layout : Layout) (n : ℕ) (y : Fields) → n ≡ packed layout y → n ≢ 0 → is_free y ≡ false
+held_by layout n y is h = seat.not_zero layout n y is (ne_eqb n 0 h)
 
 pub queue_place : (y : Fields) → (to_queue y ≡ P1) ⊎ (to_queue y ≡ G1)
 queue_place y = by y.pending (is_some y.tail)
@@ -77,6 +97,16 @@ not_fast mode y e =
       | inr (inr (inr h)) ↦ (let z : G1 ≡ F1 = sym h ∙ e in cc z)
     ]
 
+-- a link but for its mark
+
+pub marked_rest : (b : Bool) (i : ℕ) → i < 4294967296 → marked b i % 4294967296 ≡ i
+marked_rest false i h = omega (arith, h)
+marked_rest true i h =
+    elim (cases_eq i 0) [
+      | inl e ↦ ap (λ n. n % 4294967296) (if-true (eqb i 0) 0 (4294967296 + i) (eq-eqb i 0 e)) ∙ sym e
+      | inr ne ↦ ap (λ n. n % 4294967296) (if-false (eqb i 0) 0 (4294967296 + i) (ne_eqb i 0 ne)) ∙ (let z : (4294967296 + i) % 4294967296 ≡ i = omega (arith, h) in z)
+    ]
+
 -- what a link names
 
 pub no_link : (n : ℕ) (x : Option NodeName) → n ≡ link_number x → n < 2 → x ≡ None
@@ -95,6 +125,12 @@ some_link k n (Some m) node e h =
 pub small_link : (k : Plan) (n : ℕ) (x : Option NodeName) → IfSome x (IsNode k) → n ≡ link_number x → cpus_of k ≤ 64 → n < 260
 small_link k n None node e h = omega (arith, e)
 small_link k n (Some m) node e h = let a = node.cpu in let b = node.index in omega (arith, e, h, a, b)
+
+pub name_is : (k : Plan) (met : ℕ) (mark : Bool) (x : Option NodeName) → IfSome x (IsNode k) → met ≡ marked mark (link_number x)
+    → cpus_of k ≤ 64 → met % 4294967296 ≡ link_number x
+name_is k met mark x node is few =
+    ap (λ n. n % 4294967296) is
+    ∙ marked_rest mark (link_number x) (let s = small_link k (link_number x) x node refl few in omega (arith, s))
 
 pub each_some : {A : Type 0} (P : A → Type 0) (o : Option A) → ((x : A) → o ≡ Some x → P x) → IfSome o P
 each_some P None f = tt

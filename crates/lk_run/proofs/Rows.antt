@@ -13,11 +13,11 @@ use Rattle.lk_machine.specs.declared.parts.Pc.TheVariants.{F1, V1, V2, P0, P1, P
 use Rattle.lk_machine.specs.declared.parts.Pc.TheVariants.{G6, G7, G8, G9, G10, G11, N1, N2, C1}
 use Rattle.lk_machine.specs.Moves.{is_node, node_of}
 use Rattle.lk_machine.specs.rows.Spin.{is_free, is_unlocked, after_fast, after_pending, to_queue}
-use Rattle.lk_machine.specs.rows.Cna.{Sight}
+use Rattle.lk_domain.specs.Calls.{Outlook}
 use Rattle.lk_machine.specs.rows.Queue.{own_node}
 use Rattle.lk_law.specs.Agree.{halts}
 use Rattle.lk_law.specs.Cna.{moves_aside, node_in}
-use Rattle.lk_law.specs.Leads.{Word, Number, Flagged, Named}
+use Rattle.lk_law.specs.Leads.{Word, Number, Flagged, Named, Linked}
 use Rattle.lk_law.proofs.common.Puts.{if-true, if-false}
 use Rattle.lk_domain.specs.Paths.{Any}
 use Rattle.lk_run.specs.Frames.{Owns, Follows, Precedes, Fronts}
@@ -29,7 +29,7 @@ sole_by : (f : Frame) (y : Fields) (own : NodeName) → f.me ≡ Some own → (b
     → (is_unlocked y.locked && not y.pending && is_node y.tail (node_of f.me)) ≡ b
 sole_by f y own me b e = (λ i. is_unlocked y.locked && not y.pending && is_node y.tail (node_of (me i))) ∙ e
 
-module _ (mode : Mode) (p : ℕ) {z : Sight} (f : Frame) where
+module _ (mode : Mode) (p : ℕ) {z : Outlook} (f : Frame) where
   -- on the word of the lock
   module _ (y : Fields) where
     -- F1
@@ -212,10 +212,10 @@ module _ (mode : Mode) (p : ℕ) {z : Sight} (f : Frame) where
 
   -- G10
   module _ (own : NodeName) (second : Option NodeName) (has : Fronts own second f) where
-    pub next_waits : (x : Option NodeName) → x ≡ None → Leads mode p z G10 f (Named x) G10 (Fronts own second)
+    pub next_waits : (x : Option NodeName) {i : Bool} → x ≡ None → Leads mode p z G10 f (Linked x i) G10 (Fronts own second)
     next_waits x e = record { place = rw e refl; grip = rw e refl; lock = rw e refl; after = rw e refl; has = record { me = rw e has.me; second = rw e has.second } }
 
-    pub next_sees : (x : Option NodeName) (to : NodeName) → x ≡ Some to → Leads mode p z G10 f (Named x) G11 (Precedes own second to)
+    pub next_sees : (x : Option NodeName) {i : Bool} (to : NodeName) → x ≡ Some to → Leads mode p z G10 f (Linked x i) G11 (Precedes own second to)
     next_sees x to e =
         record {
           place = rw e refl;

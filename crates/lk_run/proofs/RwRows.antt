@@ -13,7 +13,7 @@ use Rattle.lk_machine.specs.declared.parts.Pc.TheVariants.{U1, R1, R2, R3, R4, R
 use Rattle.lk_machine.specs.declared.parts.Pc.TheVariants.{Wr5, Wr6, Y1, Y2, Y3, Y4, Y5}
 use Rattle.lk_machine.specs.TopRow.{target}
 use Rattle.lk_machine.specs.rows.Rw.{is_empty, is_open, is_cleared, after_bias}
-use Rattle.lk_machine.specs.rows.Cna.{Sight}
+use Rattle.lk_domain.specs.Calls.{Outlook}
 use Rattle.lk_law.specs.Agree.{halts}
 use Rattle.lk_law.specs.Leads.{Met, Word, Shared, held_lock}
 use Rattle.lk_domain.specs.Calls.{Unchanged, Takes, Frees, lock_name}
@@ -21,7 +21,7 @@ use Rattle.lk_domain.specs.Paths.{next_frame, row_grip, Any}
 use Rattle.lk_run.proofs.Ways.{Leads}
 
 -- a row that takes the lock of a reader or a writer, and where the call goes on, if it does
-pub record TakesBy (mode : Mode) (p : ℕ) (z : Sight) (c : Pc) (f : Frame) (x : Met) (m : Manner) (e : Option Pc) : Type 0 where
+pub record TakesBy (mode : Mode) (p : ℕ) (z : Outlook) (c : Pc) (f : Frame) (x : Met) (m : Manner) (e : Option Pc) : Type 0 where
   pub place : (next_frame mode p z c f x).place ≡ e
   pub grip : row_grip mode p z c f x ≡ Takes m
   pub own : held_lock (target c f) f ≡ lock_name f.lock.index
@@ -29,16 +29,16 @@ pub record TakesBy (mode : Mode) (p : ℕ) (z : Sight) (c : Pc) (f : Frame) (x :
   pub after : (next_frame mode p z c f x).then ≡ f.then
 
 -- one by which it goes to take the wait lock
-pub record SetsOut (mode : Mode) (p : ℕ) (z : Sight) (c : Pc) (f : Frame) (x : Met) (e : Pc) : Type 0 where
+pub record SetsOut (mode : Mode) (p : ℕ) (z : Outlook) (c : Pc) (f : Frame) (x : Met) (e : Pc) : Type 0 where
   pub frame : next_frame mode p z c f x ≡ waiting f e
   pub grip : row_grip mode p z c f x ≡ Unchanged
 
 -- one that ends a try that failed
-pub record Fails (mode : Mode) (p : ℕ) (z : Sight) (c : Pc) (f : Frame) (x : Met) : Type 0 where
+pub record Fails (mode : Mode) (p : ℕ) (z : Outlook) (c : Pc) (f : Frame) (x : Met) : Type 0 where
   pub place : (next_frame mode p z c f x).place ≡ None
   pub grip : row_grip mode p z c f x ≡ Unchanged
 
-module _ (mode : Mode) (p : ℕ) {z : Sight} (f : Frame) (y : RwFields) where
+module _ (mode : Mode) (p : ℕ) {z : Outlook} (f : Frame) (y : RwFields) where
   -- R1
   pub reader_enters : is_open y ≡ true → TakesBy mode p z R1 f (Shared y) Reads None
   reader_enters e = record { place = rw e refl; grip = rw e refl; own = refl; lock = rw e refl; after = rw e refl }
@@ -158,10 +158,10 @@ module _ (mode : Mode) (p : ℕ) {z : Sight} (f : Frame) (y : RwFields) where
   once_fails e = record { place = rw e refl; grip = rw e refl }
 
 -- U1, by which the wait lock is freed
-pub record FreesIt (mode : Mode) (p : ℕ) (z : Sight) (c : Pc) (f : Frame) (x : Met) : Type 0 where
+pub record FreesIt (mode : Mode) (p : ℕ) (z : Outlook) (c : Pc) (f : Frame) (x : Met) : Type 0 where
   pub place : (next_frame mode p z c f x).place ≡ None
   pub grip : row_grip mode p z c f x ≡ Frees
   pub own : held_lock (target c f) f ≡ f.lock
 
-pub frees : (mode : Mode) (p : ℕ) {z : Sight} (f : Frame) (y : Fields) → FreesIt mode p z U1 f (Word y)
+pub frees : (mode : Mode) (p : ℕ) {z : Outlook} (f : Frame) (y : Fields) → FreesIt mode p z U1 f (Word y)
 frees mode p f y = record { place = refl; grip = refl; own = refl }

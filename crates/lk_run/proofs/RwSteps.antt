@@ -91,14 +91,14 @@ module _ (d : Domain) (v : Verb) (l : ℕ) (a b : Cpu) (rest : KeepsRest a b) (o
   first_enters m leads =
       enter.enters d v (lock_name l) a b rest of (begin d.plan.mode (calls_of a) v l) x is row Any (starting a told) at told
       (passes_none _ (ledger_of a) (ledger_of a) refl) (falls_none told)
-      (step.none_yet d v l a b rest of takes free x is told) m (leads at.frame)
+      (step.none_yet d v l a b rest of takes free x is told) (step.none_taken d v l a b rest of takes free x is told) m (leads at.frame)
 
   pub first_sets_out : (e : Pc) → ((f : Frame) → SetsOut d.plan.mode b.number (sight_of (terms_of d.plan) b.number None) row f x e) → Some e ≡ after_wait v → (F1 ≡ row → ⊥)
       → Waits d v (wait_name l) F1 Any (starting a told) b told
   first_sets_out e leads next other =
       enter.sets_out d v l a b rest of (begin d.plan.mode (calls_of a) v l) x is row Any (starting a told) at told
       (passes_none _ (ledger_of a) (ledger_of a) refl) (falls_none told)
-      (step.none_yet d v l a b rest of takes free x is told) e (leads at.frame) next other
+      (step.none_yet d v l a b rest of takes free x is told) (step.none_taken d v l a b rest of takes free x is told) e (leads at.frame) next other
 
   pub first_goes : (e : ℕ → Pc) → (e (length (calls_of a).frames) ≡ row → ⊥)
       → ((f : Frame) → Leads d.plan.mode b.number (sight_of (terms_of d.plan) b.number None) row f x (e f.ctx) Any)
@@ -106,7 +106,7 @@ module _ (d : Domain) (v : Verb) (l : ℕ) (a b : Cpu) (rest : KeepsRest a b) (o
   first_goes e other leads =
       way.goes d v (lock_name l) a b rest of (begin d.plan.mode (calls_of a) v l) x is row Any Outside (starting a told) at told
       (passes_none _ (ledger_of a) (ledger_of a) refl) (falls_none told)
-      (step.none_yet d v l a b rest of takes free x is told) (e (length (calls_of a).frames)) Any other
+      (step.none_yet d v l a b rest of takes free x is told) (step.none_taken d v l a b rest of takes free x is told) (e (length (calls_of a).frames)) Any other
       (subst (λ k. Leads d.plan.mode b.number (sight_of (terms_of d.plan) b.number None) row at.frame x (e k) Any) at.ctx (leads at.frame))
 
 -- a call that goes on, without the wait lock
@@ -118,7 +118,7 @@ module _ (d : Domain) (v : Verb) (l : ℕ) (a b : Cpu) (rest : KeepsRest a b) (o
       let is = step.on_shared d v (lock_name l) a b rest of made takes w.looked.at in
       let at = step.here d v (lock_name l) a b rest of (Shared made.found) is c Any Outside s told w in
       enter.enters d v (lock_name l) a b rest of (calls_of a) (Shared made.found) is c Any s at told
-      w.looked.passes w.looked.falls w.rises m (leads at.frame)
+      w.looked.passes w.looked.falls w.rises w.looked.once m (leads at.frame)
 
   pub on_sets_out : (e : Pc) → ((f : Frame) → SetsOut d.plan.mode b.number (way.sees d a b) c f (Shared made.found) e) → Some e ≡ after_wait v
       → (F1 ≡ c → ⊥) → Waits d v (wait_name l) F1 Any s b told
@@ -126,7 +126,7 @@ module _ (d : Domain) (v : Verb) (l : ℕ) (a b : Cpu) (rest : KeepsRest a b) (o
       let is = step.on_shared d v (lock_name l) a b rest of made takes w.looked.at in
       let at = step.here d v (lock_name l) a b rest of (Shared made.found) is c Any Outside s told w in
       enter.sets_out d v l a b rest of (calls_of a) (Shared made.found) is c Any s at told
-      w.looked.passes w.looked.falls w.rises e (leads at.frame) next other
+      w.looked.passes w.looked.falls w.rises w.looked.once e (leads at.frame) next other
 
 -- with it
 module _ (d : Domain) (v : Verb) (l : ℕ) (a b : Cpu) (rest : KeepsRest a b) (of : IsOf a d) (takes : is_taking v ≡ true)

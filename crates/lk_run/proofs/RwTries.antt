@@ -1,5 +1,5 @@
 -- What a step of a processor does to a try of a reader or a writer, and to a release of one.
-use Rattle.std.proofs.Common.{◌≡◌, ℕ, ◌<◌, [], ◌∷◌, ◌++◌, length, Some, None, Bool, true, false, refl, sym, ap, ◌∙◌, subst}
+use Rattle.std.proofs.Common.{◌≡◌, ℕ, ◌+◌, ◌<◌, [], ◌∷◌, ◌++◌, length, Some, None, Bool, true, false, refl, sym, ap, ◌∙◌, subst}
 use Rattle.std.specs.Prelude.{if◌then◌else◌}
 use Rattle.lk_abs.specs.declared.holder.Manner.{Manner}
 use Rattle.lk_abs.specs.declared.holder.Manner.TheVariants.{Reads, Writes}
@@ -14,9 +14,10 @@ use Rattle.lk_machine.specs.declared.setup.Verb.{Verb}
 use Rattle.lk_machine.specs.declared.setup.Verb.TheVariants.{RUnlock, WUnlock, TryRead, TryWrite}
 use Rattle.lk_machine.specs.TopRow.{target}
 use Rattle.lk_law.specs.Leads.{Met, Shared, held_lock}
+use Rattle.lk_law.specs.Agree.{halts}
 use Rattle.lk_law.specs.Sound.{takes_wait}
 use Rattle.lk_domain.specs.Calls.{terms_of, sight_of, Terms, Calls, begin, begun, acting, is_on, waits_in, way_in, lock_name, row_of}
-use Rattle.lk_domain.specs.Calls.{Takes, Frees}
+use Rattle.lk_domain.specs.Calls.{Unchanged, Takes, Frees}
 use Rattle.lk_domain.specs.Ledgers.{Ledger, turned}
 use Rattle.lk_domain.specs.Paths.{HasTaken, HasMissed, Any, row_grip}
 use Rattle.lk_domain.specs.Plans.{kind_at}
@@ -42,7 +43,7 @@ use Rattle.lk_run.proofs.Ways.{Leads}
 
 module _ (d : Domain) (v : Verb) (l : ℕ) (a b : Cpu) (rest : KeepsRest a b) (of : IsOf a d) (was : Calls) (x : Met)
     (is : view_of b ≡ rowed (view_of a) was x) (c : Pc) (old : Calls)
-    (at : IsOn (terms_of d.plan) b.number v (lock_name l) c Any Outside old was) where
+    (at : IsOn (terms_of d.plan) b.number v (lock_name l) c Any Outside old was) (count : was.taken ≡ old.taken) where
   turns : ledger_of b ≡ turned (ledger_of a) (held_lock (target c at.frame) at.frame) (row_grip d.plan.mode b.number (sight_of (terms_of d.plan) b.number was.runs) c at.frame x) (at.trail ++ way.marked d b was c x ∷ [])
   turns = way.turns d v (lock_name l) a b rest of was x is c Any Outside old at
 
@@ -53,7 +54,8 @@ module _ (d : Domain) (v : Verb) (l : ℕ) (a b : Cpu) (rest : KeepsRest a b) (o
   moves_at e leads =
       record {
         waits = path.at_of (subst (IsOn (terms_of d.plan) b.number v (lock_name l) e Any Outside old) (sym calls)
-            (path.goes at x e Any leads.place leads.grip leads.lock leads.after leads.has));
+            (path.goes at x e Any leads.place leads.grip leads.lock leads.after leads.has))
+            (ap (λ (z : Calls). z.taken) calls ∙ (path.count_after at x Unchanged leads.grip ∙ count));
         ledger = turns ∙ ap (λ y. turned (ledger_of a) (held_lock (target c at.frame) at.frame) y (at.trail ++ way.marked d b was c x ∷ [])) leads.grip;
       }
 
@@ -63,6 +65,7 @@ module _ (d : Domain) (v : Verb) (l : ℕ) (a b : Cpu) (rest : KeepsRest a b) (o
       let last = way.last_is d v (lock_name l) a b rest of was x is c Any Outside old at takes.place in
       record {
         taken = subst (λ (z : Calls). HasTaken (terms_of d.plan) b.number v l m old z) (sym calls) (path.takes at x m takes.grip takes.place own);
+        once = ap (λ (z : Calls). z.taken) calls ∙ (path.count_is at x m takes.grip ∙ ap (λ (n : ℕ). n + 1) count);
         ledger = turns ∙ ((λ i. turned (ledger_of a) (own i) (takes.grip i) (at.trail ++ way.marked d b was c x ∷ []))
             ∙ ap (λ ms. turned (ledger_of a) (lock_name l) (Takes m) ms) (sym last));
       }
@@ -70,7 +73,7 @@ module _ (d : Domain) (v : Verb) (l : ℕ) (a b : Cpu) (rest : KeepsRest a b) (o
   misses_at : Fails d.plan.mode b.number (sight_of (terms_of d.plan) b.number was.runs) c at.frame x → Misses d v l old a b
   misses_at fails =
       record {
-        missed = subst (λ (z : Calls). HasMissed (terms_of d.plan) b.number v l old z) (sym calls) (path.misses at x fails.place fails.grip);
+        missed = subst (λ (z : Calls). HasMissed (terms_of d.plan) b.number v l old z) (sym calls) (path.misses at count x fails.place fails.grip);
         ledger = turns ∙ ap (λ y. turned (ledger_of a) (held_lock (target c at.frame) at.frame) y (at.trail ++ way.marked d b was c x ∷ [])) fails.grip;
       }
 
@@ -88,11 +91,11 @@ module _ (d : Domain) (v : Verb) (l : ℕ) (a b : Cpu) (rest : KeepsRest a b) (o
 
   pub first_moves : (e : Pc) → ((f : Frame) → Leads d.plan.mode b.number (sight_of (terms_of d.plan) b.number None) row f (Shared made.found) e Any) → Moves d v l e (calls_of a) a b
   first_moves e leads =
-      moves_at d v l a b rest of (begin d.plan.mode (calls_of a) v l) (Shared made.found) first_is row (calls_of a) first_at e (leads first_at.frame)
+      moves_at d v l a b rest of (begin d.plan.mode (calls_of a) v l) (Shared made.found) first_is row (calls_of a) first_at refl e (leads first_at.frame)
 
   pub first_misses : ((f : Frame) → Fails d.plan.mode b.number (sight_of (terms_of d.plan) b.number None) row f (Shared made.found)) → Misses d v l (calls_of a) a b
   first_misses fails =
-      misses_at d v l a b rest of (begin d.plan.mode (calls_of a) v l) (Shared made.found) first_is row (calls_of a) first_at (fails first_at.frame)
+      misses_at d v l a b rest of (begin d.plan.mode (calls_of a) v l) (Shared made.found) first_is row (calls_of a) first_at refl (fails first_at.frame)
 
 -- one that goes on
 module _ (d : Domain) (v : Verb) (l : ℕ) (a b : Cpu) (rest : KeepsRest a b) (of : IsOf a d) (takes : is_taking v ≡ true)
@@ -105,13 +108,13 @@ module _ (d : Domain) (v : Verb) (l : ℕ) (a b : Cpu) (rest : KeepsRest a b) (o
   on_is = step.on_shared d v (lock_name l) a b rest of made takes on_at
 
   pub on_moves : (e : Pc) → ((f : Frame) → Leads d.plan.mode b.number (way.sees d a b) c f (Shared made.found) e Any) → Moves d v l e old a b
-  on_moves e leads = moves_at d v l a b rest of (calls_of a) (Shared made.found) on_is c old on_at e (leads on_at.frame)
+  on_moves e leads = moves_at d v l a b rest of (calls_of a) (Shared made.found) on_is c old on_at at.taken e (leads on_at.frame)
 
   pub on_gains : (m : Manner) → ((f : Frame) → TakesBy d.plan.mode b.number (way.sees d a b) c f (Shared made.found) m None) → Gains d v l m old a b
-  on_gains m takes = gains_at d v l a b rest of (calls_of a) (Shared made.found) on_is c old on_at m (takes on_at.frame)
+  on_gains m takes = gains_at d v l a b rest of (calls_of a) (Shared made.found) on_is c old on_at at.taken m (takes on_at.frame)
 
   pub on_misses : ((f : Frame) → Fails d.plan.mode b.number (way.sees d a b) c f (Shared made.found)) → Misses d v l old a b
-  on_misses fails = misses_at d v l a b rest of (calls_of a) (Shared made.found) on_is c old on_at (fails on_at.frame)
+  on_misses fails = misses_at d v l a b rest of (calls_of a) (Shared made.found) on_is c old on_at at.taken (fails on_at.frame)
 
 -- a release, which begins and ends in one step
 
@@ -119,6 +122,10 @@ module _ (d : Domain) (v : Verb) (l : ℕ) (a b : Cpu) (rest : KeepsRest a b) (o
 pub data Lets : Verb → Pc → Manner → Type 0 where
   reader : Lets RUnlock Z1 Reads
   writer : Lets WUnlock Z2 Writes
+
+-- where no processor halts
+asleep : {k j : Plan} → k ≡ j → halts j.mode ≡ false → halts k.mode ≡ true → ⊥
+asleep same awake on = let z : true ≡ false = sym on ∙ (ap (λ (q : Plan). halts q.mode) same ∙ awake) in cc z
 
 pub acts_leaving : {v : Verb} {c : Pc} {m : Manner} → Lets v c m → (kind : Pc → Bool) → kind c ≡ true → (d : Domain) (l : ℕ) (a : Cpu)
     → IsOf a d → length (calls_of a).frames < 6 → way_in (calls_of a).holds l ≡ Some m → kind_at d.plan l ≡ Rw
@@ -137,7 +144,7 @@ acts_leaving reader kind is d l a of few held rw =
           place = refl;
           lock = refl;
         };
-        begins = λ _. (few, held, ap (λ (j : Plan). kind_at j l) of.plan ∙ rw);
+        begins = λ _. (few, held, ap (λ (j : Plan). kind_at j l) of.plan ∙ rw, λ on. absurd (asleep of.plan of.awake on));
       };
     }
 acts_leaving writer kind is d l a of few held rw =
@@ -154,7 +161,7 @@ acts_leaving writer kind is d l a of few held rw =
           place = refl;
           lock = refl;
         };
-        begins = λ _. (few, held, ap (λ (j : Plan). kind_at j l) of.plan ∙ rw);
+        begins = λ _. (few, held, ap (λ (j : Plan). kind_at j l) of.plan ∙ rw, λ on. absurd (asleep of.plan of.awake on));
       };
     }
 

@@ -21,7 +21,7 @@ use Rattle.lk_law.proofs.common.Sames.{same_lock-self, same_lock-true}
 use Rattle.lk_domain.proofs.Stacks.{and_parts}
 use Rattle.lk_domain.specs.Calls.{sight_of, read_at, Terms, mark, Running, running, Hold, hold, Calls, StandsOn, begin, begun}
 use Rattle.lk_domain.specs.Calls.{lock_name, row_of, row_on, row_at}
-use Rattle.lk_domain.specs.Calls.{after, frames_after, last_after, holds_after, taken_after, course, Unchanged, Takes, Frees}
+use Rattle.lk_domain.specs.Calls.{after, frames_after, last_after, holds_after, taken_after, course, Grip, Unchanged, Takes, Frees}
 use Rattle.lk_domain.specs.Calls.{free_of, held_in}
 use Rattle.lk_domain.specs.Paths.{next_frame, row_grip, still, onward, IsAt, HasTaken, HasMissed, AreKept, Any}
 use Rattle.lk_domain.proofs.Turned.{is_taking}
@@ -109,6 +109,11 @@ module _ {terms : Terms} {p : ℕ} {v : Verb} {n : LockName} {pl : Pc} {P : Fram
         free = at.free;
         has = has;
       }
+
+  -- how many locks were taken
+  pub count_after : (x : Met) (y : Grip) → row_grip terms.mode p (sight_of terms p c.runs) pl f x ≡ y
+      → (row_of terms p c x).taken ≡ taken_after y c.taken
+  count_after x y grip = ap (λ (z : Calls). z.taken) (rowed x) ∙ ap (λ y. taken_after y c.taken) grip
 
   -- it takes a lock
   pub count_is : (x : Met) (m : Manner) → row_grip terms.mode p (sight_of terms p c.runs) pl f x ≡ Takes m → (row_of terms p c x).taken ≡ c.taken + 1
@@ -372,7 +377,7 @@ starts terms p v l c t free =
     keeps TryWrite t = refl
     keeps _ t = cc t
 
--- a try stands on its lock
+-- a try stands on its lock, and has taken none
 
 pub on_of : {terms : Terms} {p : ℕ} {v : Verb} {l : ℕ} {c : Pc} {old new : Calls} → IsAt terms p v l c Any old new
     → takes_wait v ≡ false → IsOn terms p v (lock_name l) c Any Outside old new
@@ -383,7 +388,7 @@ on_of at none =
       walk = at.walk;
       frames = at.frames;
       holds = at.holds;
-      taken = at.taken;
+      taken = let e = at.taken in omega (arith, e);
       place = at.place;
       lock = at.lock;
       ctx = at.ctx;
@@ -393,15 +398,15 @@ on_of at none =
     }
 
 pub at_of : {terms : Terms} {p : ℕ} {v : Verb} {l : ℕ} {c : Pc} {old new : Calls} → IsOn terms p v (lock_name l) c Any Outside old new
-    → IsAt terms p v l c Any old new
-at_of at =
+    → new.taken ≡ old.taken → IsAt terms p v l c Any old new
+at_of at count =
     record {
       frame = at.frame;
       trail = at.trail;
       walk = at.walk;
       frames = at.frames;
       holds = at.holds;
-      taken = at.taken;
+      taken = count;
       place = at.place;
       lock = at.lock;
       ctx = at.ctx;
@@ -410,11 +415,10 @@ at_of at =
 
 -- it misses the lock
 pub misses : {terms : Terms} {p : ℕ} {v : Verb} {n : LockName} {pl : Pc} {P : Frame → Type 0} {old c : Calls}
-    → (at : IsOn terms p v n pl P Outside old c) → (x : Met) → (next_frame terms.mode p (sight_of terms p c.runs) pl at.frame x).place ≡ None
+    → (at : IsOn terms p v n pl P Outside old c) → c.taken ≡ old.taken → (x : Met) → (next_frame terms.mode p (sight_of terms p c.runs) pl at.frame x).place ≡ None
     → row_grip terms.mode p (sight_of terms p c.runs) pl at.frame x ≡ Unchanged → HasMissed terms p v n.index old (row_of terms p c x)
-misses {terms} {p} {pl} {c} at x place grip =
+misses {terms} {p} {pl} {c} at count x place grip =
     let is = rowed at x in
-    let same : (row_of terms p c x).taken ≡ c.taken = ap (λ (z : Calls). z.taken) is ∙ ap (λ y. taken_after y c.taken) grip in
     record {
       path = record {
         before = at.trail;
@@ -431,5 +435,5 @@ misses {terms} {p} {pl} {c} at x place grip =
       frames = frames_off at x place;
       holds = ap (λ (z : Calls). z.holds) is
           ∙ (ap (λ y. holds_after y at.frame.ctx (held_lock (target pl at.frame) at.frame) (c.taken + 1) c.holds) grip ∙ at.holds);
-      taken = (let b = at.taken in omega (arith, same, b));
+      taken = count_after at x Unchanged grip ∙ count;
     }

@@ -1,18 +1,22 @@
 -- What a step call of a processor does to its call that waits.
-use Rattle.std.proofs.Common.{◌≡◌, ℕ, List, [], ◌∷◌, ◌++◌, length, Option, Bool, true, false, eqb, eq-eqb, refl, sym, ap, ◌∙◌, subst, arith}
+use Rattle.std.proofs.Common.{◌≡◌, inr, ℕ, zero, suc, ◌+◌, List, [], ◌∷◌, ◌++◌, length, Option, Bool, true, false, eqb, eq-eqb, refl, sym, ap, ◌∙◌, subst, arith}
 use Rattle.std.proofs.Common.{◌||◌}
-use Rattle.std.specs.Prelude.{if◌then◌else◌, ◌&&◌, None}
+use Rattle.std.specs.Prelude.{if◌then◌else◌, ◌&&◌, None, Some}
 use Rattle.lk_abs.specs.declared.names.LockName.{LockName}
 use Rattle.lk_abs.specs.declared.names.Mode.{Mode}
 use Rattle.lk_machine.specs.Moves.{first_place, wait_name}
 use Rattle.lk_machine.specs.declared.parts.Frame.{Frame}
 use Rattle.lk_machine.specs.declared.parts.Pc.{Pc}
 use Rattle.lk_machine.specs.declared.setup.Verb.{Verb}
+use Rattle.lk_abs.specs.Names.{same_lock}
+use Rattle.lk_law.proofs.common.Puts.{if-false}
 use Rattle.lk_law.specs.Families.{is_rw_row}
 use Rattle.lk_law.specs.Leads.{Met, Word, Shared}
 use Rattle.lk_law.specs.Sound.{takes_wait}
+use Rattle.lk_domain.specs.Calls.{told, told_by}
+use Rattle.lk_domain.proofs.rows.Users.{told_on}
 use Rattle.lk_domain.specs.Calls.{terms_of, sight_of, Terms, begun, mark, Running, Calls, acting, begin, is_on, waits_in, holds_in, lock_name, held_in, StandsOn}
-use Rattle.lk_domain.specs.Paths.{Walk, Passes, AreKept, is_busy, Any}
+use Rattle.lk_domain.specs.Paths.{Walk, Passes, AreKept, is_busy, Any, next_frame}
 use Rattle.lk_domain.specs.Plays.{ActsIn, MadeBy, made, rowed}
 use Rattle.lk_domain.specs.RwPlays.{SharedBy}
 use Rattle.lk_domain.specs.NodePlays.{AtRow, counting}
@@ -25,9 +29,9 @@ use Rattle.lk_domain.specs.declared.view.View.{View}
 use Rattle.lk_domain.proofs.Acting.{acts_on, begins_on}
 use Rattle.lk_domain.proofs.Paths as domain_path
 use Rattle.lk_domain.proofs.Turned.{is_taking, verb_self}
-use Rattle.lk_run.specs.Polls.{Rises, HasStayed}
+use Rattle.lk_run.specs.Polls.{Rises, RisesBy, HasStayed, Acquires}
 use Rattle.lk_run.specs.Phases.{Start, newest, StandsAs, LookedAs, WaitsAs, Waits, Won, Queues, starting}
-use Rattle.lk_run.specs.Standing.{Stage, Outside, IsOn}
+use Rattle.lk_run.specs.Standing.{Stage, Outside, Inside, IsOn}
 use Rattle.lk_run.proofs.Polls.{falls_none}
 use Rattle.lk_run.proofs.Standing as path
 use Rattle.lk_run.proofs.Steps.{passes_none}
@@ -56,7 +60,7 @@ module _ (d : Domain) (v : Verb) (n : LockName) (a b : Cpu) (rest : KeepsRest a 
     pub on_looks_as : (Q : Frame → Type 0) → ((f : Frame) → P f → Leads d.plan.mode b.number (way.sees d a b) c f x c Q)
         → LookedAs stage d v n c Q s b told
     on_looks_as Q leads =
-        way.looks d v n a b rest of (calls_of a) x step c P stage s here told w.looked.passes w.looked.falls w.rises Q
+        way.looks d v n a b rest of (calls_of a) x step c P stage s here told w.looked.passes w.looked.falls w.rises w.looked.once Q
         (leads here.frame here.has)
 
     pub on_looks : ((f : Frame) → P f → Leads d.plan.mode b.number (way.sees d a b) c f x c P) → LookedAs stage d v n c P s b told
@@ -65,7 +69,7 @@ module _ (d : Domain) (v : Verb) (n : LockName) (a b : Cpu) (rest : KeepsRest a 
     pub on_goes : (e : Pc) (Q : Frame → Type 0) → (e ≡ c → ⊥) → ((f : Frame) → P f → Leads d.plan.mode b.number (way.sees d a b) c f x e Q)
         → WaitsAs stage d v n e Q s b told
     on_goes e Q other leads =
-        way.goes d v n a b rest of (calls_of a) x step c P stage s here told w.looked.passes w.looked.falls w.rises e Q other
+        way.goes d v n a b rest of (calls_of a) x step c P stage s here told w.looked.passes w.looked.falls w.rises w.looked.once e Q other
         (leads here.frame here.has)
 
   module _ (x : Met) (step : view_of b ≡ rowed (view_of a) (calls_of a) x) (c : Pc) (P : Frame → Type 0)
@@ -74,8 +78,21 @@ module _ (d : Domain) (v : Verb) (n : LockName) (a b : Cpu) (rest : KeepsRest a 
         → Won n.wait d v n.index s b told
     on_takes queues spin ends =
         let at = here x step c P Outside s told w in
-        way.wins d v n a b rest of (calls_of a) x step c P s at told w.looked.passes w.looked.falls w.rises
+        way.wins d v n a b rest of (calls_of a) x step c P s at told w.looked.passes w.looked.falls w.rises w.looked.once
         (ends at.frame at.has) queues spin
+
+  -- what the newest call was told, after its row
+  module _ (x : Met) (step : view_of b ≡ rowed (view_of a) (calls_of a) x) (c : Pc) (P : Frame → Type 0) (stage : Stage)
+      (w : StandsAs stage d v n c P a) where
+    stood : IsOn (terms_of d.plan) b.number v n c P stage w.0 (calls_of a)
+    stood = subst (λ (m : ℕ). IsOn (terms_of d.plan) m v n c P stage w.0 (calls_of a)) (sym rest.same.number) w.1
+
+    pub told_on_row : (e : Pc) → ((f : Frame) → P f → (next_frame d.plan.mode b.number (way.sees d a b) c f x).place ≡ Some e)
+        → told (newest (calls_of b).frames) ≡ told_by (told (newest (calls_of a).frames)) c x
+    told_on_row e place =
+        ap told (way.grows d v n a b rest of (calls_of a) x step c P stage w.0 stood e (place stood.frame stood.has))
+        ∙ (told_on stood.trail (way.marked d b (calls_of a) c x)
+        ∙ ap (λ t. told_by (told t) c x) (sym (way.before d v n a b rest of (calls_of a) x step c P stage w.0 stood)))
 
   -- a step on a word of the lock is one of the call that goes on, or begins
   module _ (x : Met) (seat : b.seat.me ≡ (made a.seat.me.0 v n.index x, a.seat.me.1)) where
@@ -121,20 +138,24 @@ module _ (d : Domain) (v : Verb) (l : ℕ) (a b : Cpu) (rest : KeepsRest a b) (o
   pub first : IsOn (terms_of d.plan) b.number v (lock_name l) row Any Outside (calls_of a) (begin d.plan.mode (calls_of a) v l)
   first = path.starts (terms_of d.plan) b.number v l (calls_of a) takes free
 
-  pub none_yet : (y : Met) (r : ℕ) → HasStayed ([] ++ mark row y r ∷ []) → Rises told told
-  none_yet y r h = absurd h
+  pub none_yet : (y : Met) (r k : ℕ) → HasStayed k ([] ++ mark row y r ∷ []) → RisesBy k told told
+  none_yet y r zero h = falls_none told
+  none_yet y r (suc k) h = absurd h
+
+  pub none_taken : Acquires 0 (calls_of a) (begin d.plan.mode (calls_of a) v l) told told
+  none_taken = inr (way.none_more (calls_of a).taken)
 
   pub first_goes : (e : Pc) → (e ≡ row → ⊥)
       → ((f : Frame) → Leads d.plan.mode b.number (sight_of (terms_of d.plan) b.number None) row f x e Any) → Waits d v (lock_name l) e Any (starting a told) b told
   first_goes e other leads =
       way.goes d v (lock_name l) a b rest of (begin d.plan.mode (calls_of a) v l) x step row Any Outside (starting a told) first told
-      (passes_none _ (ledger_of a) (ledger_of a) refl) (falls_none told) none_yet e Any other (leads first.frame)
+      (passes_none _ (ledger_of a) (ledger_of a) refl) (falls_none told) none_yet none_taken e Any other (leads first.frame)
 
   pub first_takes : Queues v (lock_name l) → is_rw_row row ≡ false → ((f : Frame) → Ends d.plan.mode b.number (sight_of (terms_of d.plan) b.number None) row f x)
       → Won false d v l (starting a told) b told
   first_takes queues spin ends =
       way.wins d v (lock_name l) a b rest of (begin d.plan.mode (calls_of a) v l) x step row Any (starting a told) first told
-      (passes_none _ (ledger_of a) (ledger_of a) refl) (falls_none told) none_yet (ends first.frame) queues spin
+      (passes_none _ (ledger_of a) (ledger_of a) refl) (falls_none told) none_yet none_taken (ends first.frame) queues spin
 
 -- a step that changed nothing
 module _ (d : Domain) (v : Verb) (n : LockName) (a b : Cpu) (rest : KeepsRest a b) (same : view_of b ≡ view_of a) (c : Pc)
@@ -155,8 +176,10 @@ module _ (d : Domain) (v : Verb) (n : LockName) (a b : Cpu) (rest : KeepsRest a 
           at = same_at Outside s.calls w.looked.at;
           passes = subst (Passes ((eqb n.index 0) || is_busy s.calls) s.ledger) (ap (λ (v : View). v.ledger) (sym same)) w.looked.passes;
           falls = w.looked.falls;
+          stays = λ i h. w.looked.stays i (subst (λ (v : View). HasStayed i (newest v.calls.frames)) same h);
+          once = subst (λ (v : View). Acquires 0 s.calls v.calls s.told told) (sym same) w.looked.once;
         };
-        rises = λ x r h. w.rises x r (subst (λ (v : View). HasStayed (newest v.calls.frames ++ mark c x r ∷ [])) same h);
+        rises = λ x r i h. w.rises x r i (subst (λ (v : View). HasStayed i (newest v.calls.frames ++ mark c x r ∷ [])) same h);
       }
 
 -- the count was read: the call stands where it stood
@@ -179,8 +202,10 @@ module _ (d : Domain) (v : Verb) (n : LockName) (a b : Cpu) (rest : KeepsRest a 
           at = counted_at s.calls w.looked.at;
           passes = subst (Passes ((eqb n.index 0) || is_busy s.calls) s.ledger) (ap (λ (v : View). v.ledger) (sym same)) w.looked.passes;
           falls = w.looked.falls;
+          stays = λ i h. w.looked.stays i (subst (λ (v : View). HasStayed i (newest v.calls.frames)) same h);
+          once = subst (λ (v : View). Acquires 0 s.calls v.calls s.told told) (sym same) w.looked.once;
         };
-        rises = λ x r h. w.rises x r (subst (λ (v : View). HasStayed (newest v.calls.frames ++ mark c x r ∷ [])) same h);
+        rises = λ x r i h. w.rises x r i (subst (λ (v : View). HasStayed i (newest v.calls.frames ++ mark c x r ∷ [])) same h);
       }
 
   abbrev pub counted_stands : StandsAs Outside d v n c P a → StandsAs Outside d v n c P b
@@ -243,3 +268,16 @@ pub polled : (d : Domain) (v : Verb) (n : LockName) (c : Pc) (P : Frame → Type
     → Passes (is_busy (calls_of a)) (ledger_of a) (ledger_of b) → Rises before after → Waits d v n c P s b after
 polled d v n c P s a b before after looked rest kept passes rose =
     way.polled_at d v n c P Outside s a b before after looked refl (ap (λ hs. holds_in hs 0) looked.at.holds) rest kept passes rose
+
+-- nor one that has the wait lock
+pub polled_in : (d : Domain) (v : Verb) (l : ℕ) (c : Pc) (P : Frame → Type 0) (s : Start) (a b : Cpu)
+    (before after : Option ℕ) → LookedAs Inside d v (wait_name l) c P s a before → KeepsRest a b → AreKept (calls_of a) (calls_of b)
+    → Passes (is_busy (calls_of a)) (ledger_of a) (ledger_of b) → Rises before after → WaitsAs Inside d v (wait_name l) c P s b after
+polled_in d v l c P s a b before after looked rest kept passes rose =
+    way.polled_at d v (wait_name l) c P Inside s a b before after looked refl
+    (ap (λ hs. holds_in hs 0) looked.at.holds.1
+    ∙ if-false (same_lock (wait_name l) (lock_name 0)) true (holds_in s.calls.holds 0) (other (eqb l 0))) rest kept passes rose
+  where
+    other : (b : Bool) → (b && false) ≡ false
+    other true = refl
+    other false = refl

@@ -23,7 +23,7 @@ use Rattle.lk_domain.proofs.Ways.{IsSeat, Moved, Took, Missed, acts_first}
 
 -- the seat of a processor of the domain
 pub seat_of : (d : Domain) (a : Cpu) → IsOf a d → IsSeat d.plan a.number (view_of a)
-seat_of d a of = record { plan = of.plan; number = a.numbered }
+seat_of d a of = record { plan = of.plan; number = a.numbered; awake = of.awake }
 
 pub still_of : (d : Domain) (a b : Cpu) → KeepsRest a b → IsOf a d → IsOf b d
 still_of d a b rest of =
@@ -31,6 +31,7 @@ still_of d a b rest of =
       table = rest.same.table ∙ of.table;
       plan = ap (λ (w : Rattle.lk_domain.specs.Who.Who). w.plan) rest.same.who ∙ of.plan;
       low = subst (λ (n : ℕ). n < Rattle.lk_domain.specs.Plans.cpus_of d.plan) (sym rest.same.number) of.low;
+      awake = of.awake;
     }
 
 pub rest_both : (a b c : Cpu) → KeepsRest a b → KeepsRest b c → KeepsRest a c
@@ -57,6 +58,7 @@ module _ (d : Domain) (v : Verb) (l : ℕ) (old : Calls) (a b : Cpu) (rest : Kee
   took m =
       record {
         taken = subst (λ (p : ℕ). HasTaken (terms_of d.plan) p v l Spins old (calls_of b)) (sym rest.same.number) m.taken;
+        once = m.once;
         ledger = m.ledger;
       }
 

@@ -1,6 +1,6 @@
 -- What a step of a processor does to a call that waits: it goes on, looks, or has the lock for which it
 -- queued.
-use Rattle.std.proofs.Common.{◌≡◌, inl, inr, ℕ, List, [], ◌∷◌, ◌++◌, Option, Some, None, Bool, true, false, eqb, refl, sym, ap, ◌∙◌, subst}
+use Rattle.std.proofs.Common.{◌≡◌, inl, inr, ℕ, ◌+◌, List, [], ◌∷◌, ◌++◌, Option, Some, None, Bool, true, false, eqb, refl, sym, ap, ◌∙◌, subst, arith}
 use Rattle.std.proofs.Common.{◌||◌}
 use Rattle.std.specs.Prelude.{if◌then◌else◌, ◌&&◌, not}
 use Rattle.lk_abs.specs.declared.holder.Manner.TheVariants.{Spins}
@@ -13,7 +13,7 @@ use Rattle.lk_machine.specs.declared.parts.Pc.TheVariants.{G1}
 use Rattle.lk_machine.specs.declared.setup.Verb.{Verb}
 use Rattle.lk_machine.specs.declared.setup.Verb.TheVariants.{Lock, Read, Write}
 use Rattle.lk_machine.specs.TopRow.{target}
-use Rattle.lk_machine.specs.rows.Cna.{Sight}
+use Rattle.lk_domain.specs.Calls.{Outlook}
 use Rattle.lk_law.specs.Families.{is_rw_row}
 use Rattle.lk_law.specs.Leads.{Met, Number, held_lock}
 use Rattle.lk_machine.specs.rows.Queue.{entry_row}
@@ -21,7 +21,7 @@ use Rattle.lk_law.specs.Leads.{course_of}
 use Rattle.lk_law.specs.Sound.{after_wait}
 use Rattle.lk_law.proofs.common.Puts.{if-true, if-false}
 use Rattle.lk_domain.specs.Calls.{terms_of, sight_of, read_at, grip_of, Mark, mark, Running, running, Calls, holds_in, waits_in, lock_name}
-use Rattle.lk_domain.specs.Calls.{row_of, row_on, row_at, after, frames_after, Grip, Unchanged, Takes}
+use Rattle.lk_domain.specs.Calls.{row_of, row_on, row_at, after, frames_after, taken_after, Grip, Unchanged, Takes}
 use Rattle.lk_domain.specs.Ledgers.{Ledger, turned}
 use Rattle.lk_domain.specs.NodePlays.{readies}
 use Rattle.lk_domain.specs.Paths.{next_frame, row_grip, HasTaken, AreKept, Any, Passes, is_busy}
@@ -34,15 +34,15 @@ use Rattle.lk_domain.specs.Views.{own_number}
 use Rattle.lk_domain.specs.declared.cpu.Cpu.{Cpu}
 use Rattle.lk_domain.specs.declared.domain.Domain.{Domain}
 use Rattle.lk_domain.specs.declared.view.View.{View}
-use Rattle.lk_run.specs.Polls.{Rises, NeverFalls, HasStayed}
+use Rattle.lk_run.specs.Polls.{Rises, NeverFalls, RisesBy, HasStayed, Acquires}
 use Rattle.lk_run.specs.Phases.{Start, newest, LookedAs, WaitsAs, Holds, Won, Queues, resumes}
-use Rattle.lk_run.specs.Standing.{Stage, Outside, Inside, IsOn}
-use Rattle.lk_run.proofs.Polls.{rises_after, falls_after, stays_before}
+use Rattle.lk_run.specs.Standing.{Stage, Outside, Inside, IsOn, locks_at}
+use Rattle.lk_run.proofs.Polls.{rises_after, falls_after, stays_before, more_after, polled_by}
 use Rattle.lk_run.proofs.Standing as path
 use Rattle.lk_run.proofs.Steps.{passes_none, passes_both, looked}
 
 -- where a row leads that goes on, and what its frame then is
-pub record Leads (mode : Mode) (p : ℕ) (z : Sight) (c : Pc) (f : Frame) (x : Met) (e : Pc) (Q : Frame → Type 0) : Type 0 where
+pub record Leads (mode : Mode) (p : ℕ) (z : Outlook) (c : Pc) (f : Frame) (x : Met) (e : Pc) (Q : Frame → Type 0) : Type 0 where
   pub place : (next_frame mode p z c f x).place ≡ Some e
   pub grip : row_grip mode p z c f x ≡ Unchanged
   pub lock : (next_frame mode p z c f x).lock ≡ f.lock
@@ -50,7 +50,7 @@ pub record Leads (mode : Mode) (p : ℕ) (z : Sight) (c : Pc) (f : Frame) (x : M
   pub has : Q (next_frame mode p z c f x)
 
 -- one that takes the lock on which the frame acts
-pub record Ends (mode : Mode) (p : ℕ) (z : Sight) (c : Pc) (f : Frame) (x : Met) : Type 0 where
+pub record Ends (mode : Mode) (p : ℕ) (z : Outlook) (c : Pc) (f : Frame) (x : Met) : Type 0 where
   pub place : (next_frame mode p z c f x).place ≡ (if f.lock.wait then f.then else None)
   pub grip : row_grip mode p z c f x ≡ Takes Spins
   pub own : held_lock (target c f) f ≡ f.lock
@@ -128,7 +128,7 @@ then_is Write n next q after w = inr (after w)
 then_is _ n next q after w = absurd q
 
 -- what a processor sees, whose calls before its step were those of a
-abbrev pub sees : Domain → Cpu → Cpu → Sight
+abbrev pub sees : Domain → Cpu → Cpu → Outlook
 sees d a b = sight_of (terms_of d.plan) b.number (calls_of a).runs
 
 -- the mark of a row of the newest of the calls `was`
@@ -149,7 +149,7 @@ module _ (d : Domain) (v : Verb) (n : LockName) (a b : Cpu) (rest : KeepsRest a 
   trail = at.trail ++ marked d b was c x ∷ []
 
   -- what the processor sees
-  abbrev z : Sight
+  abbrev z : Outlook
   z = sight_of (terms_of d.plan) b.number was.runs
 
   terms_are : terms_of (view_of a).who.plan ≡ terms_of d.plan
@@ -182,33 +182,52 @@ module _ (d : Domain) (v : Verb) (n : LockName) (a b : Cpu) (rest : KeepsRest a 
   pub last_is : (next_frame mode b.number z c f x).place ≡ None → (calls_of b).last ≡ trail
   last_is place = ap (λ (z : Calls). z.last) calls ∙ path.last_is at x place
 
+pub none_more : (m : ℕ) → m ≡ m + 0
+none_more m = omega arith
+
 -- and the call began so
 module _ (d : Domain) (v : Verb) (n : LockName) (a b : Cpu) (rest : KeepsRest a b) (of : IsOf a d) (was : Calls) (x : Met)
     (step : view_of b ≡ rowed (view_of a) was x) (c : Pc) (P : Frame → Type 0) (stage : Stage) (s : Start)
     (at : IsOn (terms_of d.plan) b.number v n c P stage s.calls was) (told : Option ℕ)
     (passes : Passes ((eqb n.index 0) || is_busy s.calls) s.ledger (ledger_of a)) (falls : NeverFalls s.told told)
-    (rises : (y : Met) (r : ℕ) → HasStayed (newest was.frames ++ mark c y r ∷ []) → Rises s.told told) where
+    (rises : (y : Met) (r k : ℕ) → HasStayed k (newest was.frames ++ mark c y r ∷ []) → RisesBy k s.told told)
+    (once : Acquires (locks_at stage) s.calls was s.told told) where
   abbrev mode' : Mode
   mode' = d.plan.mode
 
-  abbrev z' : Sight
+  abbrev z' : Outlook
   z' = sight_of (terms_of d.plan) b.number was.runs
 
   abbrev f' : Frame
   f' = at.frame
 
+  -- what is polled up to this row
+  pub polls_over : {t : List Mark} → t ≡ at.trail ++ marked d b was c x ∷ [] → (k : ℕ) → HasStayed k t → RisesBy k s.told told
+  polls_over last k h =
+      rises x (read_at c z') k (subst (λ t. HasStayed k (t ++ marked d b was c x ∷ [])) (sym (before d v n a b rest of was x step c P stage s.calls at))
+      (subst (HasStayed k) last h))
+
   -- what is polled where it goes on at another row
   pub polls : (e : Pc) → (e ≡ c → ⊥) → (next_frame mode' b.number z' c f' x).place ≡ Some e
-      → (y : Met) (r : ℕ) → HasStayed (newest (calls_of b).frames ++ mark e y r ∷ []) → Rises s.told told
-  polls e other place y r h =
-      rises x (read_at c z') (subst (λ t. HasStayed (t ++ marked d b was c x ∷ [])) (sym (before d v n a b rest of was x step c P stage s.calls at))
-      (stays_before at.trail (marked d b was c x) (mark e y r) other
-      (subst (λ t. HasStayed (t ++ mark e y r ∷ [])) (grows d v n a b rest of was x step c P stage s.calls at e place) h)))
+      → (y : Met) (r k : ℕ) → HasStayed k (newest (calls_of b).frames ++ mark e y r ∷ []) → RisesBy k s.told told
+  polls e other place y r k h =
+      polls_over refl k
+      (stays_before k at.trail (marked d b was c x) (mark e y r) other
+      (subst (λ t. HasStayed k (t ++ mark e y r ∷ [])) (grows d v n a b rest of was x step c P stage s.calls at e place) h))
 
-  -- what is polled where this row is the last
-  pub polls_over : {t : List Mark} → t ≡ at.trail ++ marked d b was c x ∷ [] → HasStayed t → Rises s.told told
-  polls_over last h =
-      rises x (read_at c z') (subst (λ t. HasStayed (t ++ marked d b was c x ∷ [])) (sym (before d v n a b rest of was x step c P stage s.calls at)) (subst HasStayed last h))
+  -- how many locks it has taken after this row
+  pub counts : (y : Grip) (m : ℕ) → row_grip mode' b.number z' c f' x ≡ y
+      → taken_after y was.taken ≡ was.taken + m → Acquires (locks_at stage + m) s.calls (calls_of b) s.told told
+  counts y m grip more = by once
+    where
+      now : (calls_of b).taken ≡ was.taken + m
+      now =
+          ap (λ (z : Calls). z.taken) (calls d v n a b rest of was x step c P stage s.calls at)
+          ∙ (path.count_after at x y grip ∙ more)
+
+      by : Acquires (locks_at stage) s.calls was s.told told → Acquires (locks_at stage + m) s.calls (calls_of b) s.told told
+      by (inl h) = inl h
+      by (inr e) = inr (omega (arith, now, e))
 
   -- the ledger of a row that begins and ends no look
   pub passed : row_grip mode' b.number z' c f' x ≡ Unchanged → Passes ((eqb n.index 0) || is_busy s.calls) s.ledger (ledger_of b)
@@ -225,6 +244,9 @@ module _ (d : Domain) (v : Verb) (n : LockName) (a b : Cpu) (rest : KeepsRest a 
             (path.goes at x e Q leads.place leads.grip leads.lock leads.after leads.has);
         passes = passed leads.grip;
         falls = falls;
+        stays = polls_over (grows d v n a b rest of was x step c P stage s.calls at e leads.place);
+        once = subst (λ m. Acquires m s.calls (calls_of b) s.told told) (sym (none_more (locks_at stage)))
+            (counts Unchanged 0 leads.grip (none_more was.taken));
       }
 
   -- the row leads back to itself
@@ -240,7 +262,8 @@ module _ (d : Domain) (v : Verb) (n : LockName) (a b : Cpu) (rest : KeepsRest a 
     (step : view_of b ≡ rowed (view_of a) was x) (c : Pc) (P : Frame → Type 0) (s : Start)
     (at : IsOn (terms_of d.plan) b.number v n c P Outside s.calls was) (told : Option ℕ)
     (passes : Passes ((eqb n.index 0) || is_busy s.calls) s.ledger (ledger_of a)) (falls : NeverFalls s.told told)
-    (rises : (y : Met) (r : ℕ) → HasStayed (newest was.frames ++ mark c y r ∷ []) → Rises s.told told)
+    (rises : (y : Met) (r k : ℕ) → HasStayed k (newest was.frames ++ mark c y r ∷ []) → RisesBy k s.told told)
+    (once : Acquires 0 s.calls was s.told told)
     (ends : Ends d.plan.mode b.number (sight_of (terms_of d.plan) b.number was.runs) c at.frame x) where
   wait_is : at.frame.lock.wait ≡ n.wait
   wait_is = ap (λ (z : LockName). z.wait) at.lock
@@ -266,8 +289,9 @@ module _ (d : Domain) (v : Verb) (n : LockName) (a b : Cpu) (rest : KeepsRest a 
             ∙ ap (λ ms. turned (ledger_of a) (lock_name n.index) (Takes Spins) ms) (sym last)));
         polled = record {
           falls = falls;
-          rises = polls_over d v n a b rest of was x step c P Outside s at told passes falls rises last;
+          rises = polls_over d v n a b rest of was x step c P Outside s at told passes falls rises once last;
         };
+        once = counts d v n a b rest of was x step c P Outside s at told passes falls rises once (Takes Spins) 1 ends.grip refl;
       }
 
   -- the wait lock
@@ -285,8 +309,11 @@ module _ (d : Domain) (v : Verb) (n : LockName) (a b : Cpu) (rest : KeepsRest a 
               (passes_none ((eqb n.index 0) || is_busy s.calls) (ledger_of a) (ledger_of b)
               (now ∙ wait_turned (ledger_of a) n (Takes Spins) (at.trail ++ marked d b was c x ∷ []) wait));
           falls = falls;
+          stays = polls_over d v n a b rest of was x step c P Outside s at told passes falls rises once
+              (grows d v n a b rest of was x step c P Outside s.calls at (resumes v) place);
+          once = counts d v n a b rest of was x step c P Outside s at told passes falls rises once (Takes Spins) 1 ends.grip refl;
         };
-        rises = polls d v n a b rest of was x step c P Outside s at told passes falls rises (resumes v) (resumes_else v c spin) place;
+        rises = polls d v n a b rest of was x step c P Outside s at told passes falls rises once (resumes v) (resumes_else v c spin) place;
       })
 
   pub wins : Queues v n → is_rw_row c ≡ false → Won n.wait d v n.index s b told
@@ -313,8 +340,11 @@ polled_at d v n c P stage s a b before after looked is same rest kept passes ros
         passes = passes_both ((eqb n.index 0) || is_busy s.calls) s.ledger (ledger_of a) (ledger_of b) looked.passes
             (subst (λ z. Passes z (ledger_of a) (ledger_of b)) busy passes);
         falls = falls_after s.told before after looked.falls rose;
+        stays = λ k h. more_after k s.told before after (looked.stays k (subst (λ xs. HasStayed k (newest xs)) kept.frames h)) rose;
+        once = inl (rises_after s.told before after looked.falls rose);
       };
-      rises = λ y r h. rises_after s.told before after looked.falls rose;
+      rises = λ y r k h. polled_by k (newest (calls_of a).frames) (mark c y r) s.told before after looked.stays rose
+          (subst (λ xs. HasStayed k (newest xs ++ mark c y r ∷ [])) kept.frames h);
     }
   where
     by : (x y z : Bool) → (x || (if y then true else z)) ≡ (y || (x || z))
@@ -335,12 +365,12 @@ ready_row n m v f t rs x frames place = λ i. record m { calls = calls i; ledger
     p : ℕ
     p = own_number m.who.number
 
-    row : (z : Sight) (c : Calls) → row_on mode p z m.calls.frames c (Number x)
+    row : (z : Outlook) (c : Calls) → row_on mode p z m.calls.frames c (Number x)
         ≡ after v f (t ++ mark G1 (Number x) 0 ∷ []) rs c (target G1 f) (course_of (entry_row mode p x))
     row z c = ap (λ (xs : List Running). row_on mode p z xs c (Number x)) frames
         ∙ ap (λ q. row_at mode p z (running v f t) rs c (Number x) q) place
 
-    turn : (z : Sight) → turned_on mode p z m.calls.frames (Number x) m.ledger
+    turn : (z : Outlook) → turned_on mode p z m.calls.frames (Number x) m.ledger
         ≡ turned m.ledger (held_lock (target G1 f) f) (grip_of (target G1 f) (course_of (entry_row mode p x)))
         (t ++ mark G1 (Number x) 0 ∷ [])
     turn z = ap (λ (xs : List Running). turned_on mode p z xs (Number x) m.ledger) frames

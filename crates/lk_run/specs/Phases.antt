@@ -1,11 +1,13 @@
 -- How a call that waits stands, and what a step of it does.
-use Rattle.std.specs.Prelude.{◌≡◌, ℕ, ◌<◌, ◌||◌, ◌==◌, Bool, true, false, List, [], ◌∷◌, ◌++◌, length, Option}
+use Rattle.std.specs.Prelude.{◌≡◌, ℕ, ◌+◌, ◌-◌, ◌<◌, ◌||◌, ◌==◌, Bool, true, false, List, [], ◌∷◌, ◌++◌, length, Option}
+use Rattle.std.specs.Prelude.{Some}
 use Rattle.std.specs.Prelude.{if◌then◌else◌}
 use Rattle.lk_abs.specs.declared.holder.Manner.{Manner}
 use Rattle.lk_abs.specs.declared.holder.Manner.TheVariants.{Spins}
 use Rattle.lk_abs.specs.declared.names.LockName.{LockName}
 use Rattle.lk_word.specs.declared.spin_word.Fields.{Fields}
 use Rattle.lk_word.specs.SpinWord.{packed, IsPackable}
+use Rattle.lk_word.specs.declared.spin_word.NodeName.{NodeName}
 use Rattle.lk_machine.specs.Moves.{wait_name}
 use Rattle.lk_machine.specs.declared.parts.Frame.{Frame}
 use Rattle.lk_machine.specs.declared.parts.Pc.{Pc}
@@ -14,14 +16,15 @@ use Rattle.lk_machine.specs.declared.setup.Verb.{Verb}
 use Rattle.lk_machine.specs.declared.setup.Verb.TheVariants.{Lock, Read, Write}
 use Rattle.lk_machine.specs.rows.Spin.{after_fast}
 use Rattle.lk_law.specs.Leads.{Met}
-use Rattle.lk_domain.specs.Calls.{terms_of, Terms, Mark, mark, Running, Calls, begun}
+use Rattle.lk_domain.specs.Plans.{layout_in}
+use Rattle.lk_domain.specs.Calls.{terms_of, Terms, Mark, mark, Running, Calls, begun, told}
 use Rattle.lk_domain.specs.Ledgers.{Ledger}
 use Rattle.lk_domain.specs.Paths.{Any, HasTaken, HasLooked, Passes, is_busy}
 use Rattle.lk_domain.specs.Seats.{calls_of, ledger_of}
 use Rattle.lk_domain.specs.declared.cpu.Cpu.{Cpu}
 use Rattle.lk_domain.specs.declared.domain.Domain.{Domain}
-use Rattle.lk_run.specs.Polls.{Rises, NeverFalls, HasStayed, IsPolled}
-use Rattle.lk_run.specs.Standing.{Stage, Outside, Inside, Entered, IsOn}
+use Rattle.lk_run.specs.Polls.{NeverFalls, RisesBy, HasStayed, IsPolled, Acquires}
+use Rattle.lk_run.specs.Standing.{Stage, Outside, Inside, Entered, IsOn, locks_at}
 use Rattle.lk_run.specs.Entering.{PathTo, HasEntered}
 
 -- what was there when the call began: the processor's calls, what it knew of the ledger, and what
@@ -49,26 +52,35 @@ abbrev pub newest : List Running → List Mark
 newest [] = []
 newest (r ∷ rs) = r.trail
 
+-- the node that the newest call will link behind the second queue is a, and the link in which it
+-- met a had the mark b
+abbrev pub Knows : NodeName → Bool → Cpu → Type 0
+Knows a b cpu = told (newest (calls_of cpu).frames) ≡ Some (a, b)
+
 -- some call of this operation stands at the row c and at this stage, acts on the lock of the name n,
 -- and has a frame that meets the condition
 abbrev pub StandsAs : Stage → Domain → Verb → LockName → Pc → (Frame → Type 0) → Cpu → Type 0
 StandsAs stage domain v n c P cpu =
     (old : Calls) × IsOn (terms_of domain.plan) cpu.number v n c P stage old (calls_of cpu)
 
--- the call that began so stands there; since then nested calls alone have changed the ledger
+-- The call that began so stands there; since then nested calls alone have changed the ledger, and it
+-- has taken the locks of its stage. The source was polled after each look after which the place was
+-- the same, but for the last one.
 pub record LookedAs (stage : Stage) (domain : Domain) (v : Verb) (n : LockName) (c : Pc)
     (P : Frame → Type 0) (s : Start) (cpu : Cpu) (told : Option ℕ) : Type 0 where
   pub at : IsOn (terms_of domain.plan) cpu.number v n c P stage s.calls (calls_of cpu)
   pub passes : Passes ((n.index == 0) || is_busy s.calls) s.ledger (ledger_of cpu)
   pub falls : NeverFalls s.told told
+  pub stays : (k : ℕ) → HasStayed k (newest (calls_of cpu).frames) → RisesBy k s.told told
+  pub once : Acquires (locks_at stage) s.calls (calls_of cpu) s.told told
 
--- and the source was polled after each look after which the place was the same, the last one too
+-- and after the last one too
 pub record WaitsAs (stage : Stage) (domain : Domain) (v : Verb) (n : LockName) (c : Pc)
     (P : Frame → Type 0) (s : Start) (cpu : Cpu) (told : Option ℕ) : Type 0 where
   pub looked : LookedAs stage domain v n c P s cpu told
-  pub rises : (x : Met) (n : ℕ)
-      → HasStayed (newest (calls_of cpu).frames ++ mark c x n ∷ [])
-      → Rises s.told told
+  pub rises : (x : Met) (n k : ℕ)
+      → HasStayed k (newest (calls_of cpu).frames ++ mark c x n ∷ [])
+      → RisesBy k s.told told
 
 -- the same of a call that has no lock yet
 
@@ -94,14 +106,18 @@ pub record Holds (domain : Domain) (v : Verb) (l : ℕ) (manner : Manner) (s : S
   pub taken : HasTaken (terms_of domain.plan) cpu.number v l manner s.calls (calls_of cpu)
   pub look : HasLooked l manner s.calls (calls_of cpu).last s.ledger (ledger_of cpu)
   pub polled : IsPolled (calls_of cpu).last s.told told
+  pub once : Acquires 1 s.calls (calls_of cpu) s.told told
 
--- it has entered its reader-writer lock, by a row after which it may have freed the wait lock
+-- it has entered its reader-writer lock, by a row after which it may have freed the wait lock; it
+-- has taken that too, then
 pub record CameIn (domain : Domain) (v : Verb) (l : ℕ) (manner : Manner) (s : Start) (cpu : Cpu)
     (told : Option ℕ) : Type 0 where
   pub upto : List Mark
   pub entered : HasEntered (terms_of domain.plan) cpu.number v l manner upto s.calls (calls_of cpu)
   pub look : HasLooked l manner s.calls upto s.ledger (ledger_of cpu)
   pub polled : IsPolled (calls_of cpu).last s.told told
+  pub once : Acquires (1 + (length (calls_of cpu).last - length upto)) s.calls (calls_of cpu) s.told
+      told
 
 -- it has entered it, and is about to free the wait lock
 pub record HasPassed (t : Terms) (p : ℕ) (v : Verb) (l : ℕ) (manner : Manner) (s : Start)
@@ -111,7 +127,9 @@ pub record HasPassed (t : Terms) (p : ℕ) (v : Verb) (l : ℕ) (manner : Manner
   pub taken : s.calls.taken < calls.taken
   pub look : HasLooked l manner s.calls at.trail s.ledger ledger
   pub falls : NeverFalls s.told told
-  pub rises : (x : Met) (n : ℕ) → HasStayed (at.trail ++ mark U1 x n ∷ []) → Rises s.told told
+  pub rises : (x : Met) (n k : ℕ) → HasStayed k (at.trail ++ mark U1 x n ∷ [])
+      → RisesBy k s.told told
+  pub once : Acquires 2 s.calls calls s.told told
 
 abbrev pub Passed : Domain → Verb → ℕ → Manner → Start → Cpu → Option ℕ → Type 0
 Passed domain v l manner s cpu told =
@@ -165,8 +183,8 @@ Takes domain v n a P old before new after = (s : Start) → Waits domain v n a P
 pub record Arrives (domain : Domain) (v : Verb) (n : LockName) (met : ℕ) (s : Start) (cpu : Cpu)
     (told : Option ℕ) : Type 0 where
   pub found : Fields
-  pub packs : IsPackable found
-  pub word : met ≡ packed found
+  pub packs : IsPackable (layout_in domain.plan) found
+  pub word : met ≡ packed (layout_in domain.plan) found
   pub waits : Waits domain v n (after_fast domain.plan.mode found) Any s cpu told
 
 -- a reader or a writer

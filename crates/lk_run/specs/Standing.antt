@@ -17,6 +17,12 @@ pub data Stage : Type 0 where
   Inside : Stage
   Entered : Manner → Stage
 
+-- how many these are
+abbrev pub locks_at : Stage → ℕ
+locks_at Outside = 0
+locks_at Inside = 1
+locks_at (Entered m) = 2
+
 -- The processor holds what it held when the call began, and what the call has by now. The call is of
 -- the context c, and acts on the lock of the name n.
 abbrev pub HoldsAt : Stage → ℕ → LockName → List Hold → Calls → Type 0

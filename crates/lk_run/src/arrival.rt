@@ -156,15 +156,16 @@ pub(crate) fn exchange_tail<R: Wait>(
     for _ in rt.forever() {
         let met = steps::exchange_tail(cpu, domain, verb, lock, expected, own);
         if met == expected {
-            return word_met(met).tail;
+            return word_met(domain, met).tail;
         }
         expected = met;
     }
     unreachable!()
 }
 
-// The row G5: the link of prev, none -> own. Only the call whose exchange met prev as the tail
-// stores into it, and prev waits for it before it goes.
+// The row G5: the link of prev, none -> own, with a mark where the call is in a context above 0.
+// Only the call whose exchange met prev as the tail stores into it, and prev waits for it before it
+// goes.
 pub(crate) fn link(
     cpu: &mut Cpu,
     domain: &Domain,
@@ -184,7 +185,8 @@ pub(crate) fn link(
         told }
 {
     let _ = lock;
-    steps::link(cpu, domain, verb, prev, own);
+    let inner = cpu.depth() > 1;
+    steps::link(cpu, domain, verb, prev, own, inner);
 }
 
 // The row G6: gives the own flag. Where it is set the one before has the lock, and this call is the

@@ -1,7 +1,7 @@
 // The rows of a front that has the lock and chooses whom to hand the lead, one step each. The main
 // queue is shown as (own, a .. b, y, ..), and the second one, of those that stand aside, as
 // [first .. t].
-ghost use Rattle.std.specs.Prelude.{◌≡◌, ◌≢◌, ◌<◌, Option, ℕ, true, false, IfSome, None, Some};
+ghost use Rattle.std.specs.Prelude.{◌≡◌, Bool, ◌≢◌, ◌<◌, Option, ℕ, true, false, IfSome, None, Some};
 ghost use Rattle.lk_word.specs.declared.spin_word.NodeName.{NodeName as Node};
 ghost use Rattle.lk_machine.specs.declared.parts.Pc.TheVariants.{C1, C2, C3, C4, C5, C6, C7, C8};
 ghost use Rattle.lk_machine.specs.declared.parts.Pc.TheVariants.{C9, C10};
@@ -11,21 +11,22 @@ ghost use Rattle.lk_domain.specs.Words.{IsNode};
 ghost use Rattle.lk_run.specs.Choices.{IsFirstNode, IsMoreNode};
 ghost use Rattle.lk_run.specs.Frames.{Fronts, Precedes, Skips, Appends, Ties, Parts, Flushes};
 ghost use Rattle.lk_run.specs.Frames.{Returns, Promotes, Promoting};
-ghost use Rattle.lk_run.specs.Phases.{Queues, Stands, Goes, Stays, StaysWith, Takes};
+ghost use Rattle.lk_run.specs.Phases.{Queues, Knows, Stands, Goes, Stays, StaysWith, Takes};
 ghost use Rattle.lk_run.specs.declared.seen.First.TheVariants as first_is;
 ghost use Rattle.lk_run.specs.declared.seen.More.TheVariants as more_is;
 
 use crate::seen::{First, More, first_seen, more_seen};
-use crate::words::{flag_for, is_last, node_met, tail_met, word_met};
+use crate::words::{flag_for, is_last, mark_met, node_met, tail_met, word_met};
 use lk_abs::LockName;
 use lk_domain::{Cpu, Domain, Part, steps};
 use lk_machine::Verb;
 use lk_word::NodeName;
 
 // The row C1, with the look at the own count of handovers that it asks for: what the link of the
-// own node says. While the run may go on, a waiter of the own socket is chosen, and another is the
-// first that is passed over; when it is over, those aside return before the next, or it is chosen
-// where nobody stands aside. Where nobody is behind, those aside are all of the rest.
+// own node says. While the run may go on, a local waiter is chosen, and another is the first that
+// is passed over; when it is over, those aside return before the next, or it is chosen where nobody
+// stands aside. Where nobody is behind, those aside are all of the rest. The answer has the mark of
+// the link besides: C4 and C9 store it again with the node that it came with.
 pub(crate) fn look_first(
     cpu: &mut Cpu,
     domain: &Domain,
@@ -33,38 +34,50 @@ pub(crate) fn look_first(
     lock: LockName,
     own: NodeName,
     second: Option<NodeName>,
-) -> First
+) -> (First, bool)
     requires domain { IsOf cpu.old domain.now }
     requires own { IsNode domain.now.plan own }
     requires second { IfSome second (IsNode domain.now.plan) }
     requires queues { Queues verb lock }
     requires waits { Stands domain.now verb lock C1 (Fronts own second) cpu.old }
     ensures rest { KeepsRest cpu.old cpu.new }
-    ensures node { IsFirstNode domain.now.plan result }
-    ensures waits { result ≡ first_is.Waits
+    ensures node { IsFirstNode domain.now.plan result.0 }
+    ensures waits { result.0 ≡ first_is.Waits
         → Stays domain.now verb lock C1 (Fronts own second) cpu.old cpu.new }
-    ensures named { (first : Node) → result ≡ first_is.Promotes first → second ≡ Some first }
-    ensures promotes { (first : Node) → result ≡ first_is.Promotes first → (told : Option ℕ)
+    ensures named { (first : Node) → result.0 ≡ first_is.Promotes first → second ≡ Some first }
+    ensures promotes { (first : Node) → result.0 ≡ first_is.Promotes first → (told : Option ℕ)
         → Goes domain.now verb lock C1 (Fronts own second) C3 (Promotes own first) cpu.old told
         cpu.new told }
-    ensures chooses { (y : Node) → result ≡ first_is.Chooses y → (told : Option ℕ)
+    ensures chooses { (y : Node) → result.0 ≡ first_is.Chooses y → (told : Option ℕ)
         → Goes domain.now verb lock C1 (Fronts own second) C7 (Precedes own second y) cpu.old
         told cpu.new told }
-    ensures skips { (a : Node) → result ≡ first_is.Skips a → (told : Option ℕ)
+    ensures skips { (a : Node) → result.0 ≡ first_is.Skips a → (told : Option ℕ)
         → Goes domain.now verb lock C1 (Fronts own second) C2 (Skips own second a a) cpu.old told
         cpu.new told }
-    ensures flushes { (first a : Node) → result ≡ first_is.Flushes first a → (told : Option ℕ)
+    ensures flushes { (first a : Node) → result.0 ≡ first_is.Flushes first a → (told : Option ℕ)
         → Goes domain.now verb lock C1 (Fronts own second) C3 (Flushes own first a) cpu.old told
         cpu.new told }
+    ensures skipped { (a : Node) → result.0 ≡ first_is.Skips a → Knows a result.1 cpu.new }
+    ensures flushed { (first a : Node) → result.0 ≡ first_is.Flushes first a
+        → Knows a result.1 cpu.new }
 {
     let _ = lock;
     let runs = steps::own_runs(cpu, domain, verb, own);
     let met = steps::look_own(cpu, domain, verb, own, Part::Next);
-    first_seen(domain, cpu.number(), runs, second, node_met(domain, met))
+    let mark = mark_met(domain, met);
+    let seen = first_seen(
+        domain,
+        cpu.number(),
+        runs,
+        second,
+        node_met(domain, met),
+        mark,
+    );
+    (seen, mark)
 }
 
-// The row C2: what the link of b, the last that was passed over, says. A waiter of the own socket
-// is chosen, and another is passed over too; where nobody is behind, nobody is moved.
+// The row C2: what the link of b, the last that was passed over, says. A local waiter is chosen,
+// and another is passed over too; where nobody is behind, nobody is moved.
 pub(crate) fn look_more(
     cpu: &mut Cpu,
     domain: &Domain,
@@ -97,10 +110,13 @@ pub(crate) fn look_more(
     ensures chooses { result ≡ more_is.Chooses → (told : Option ℕ)
         → Goes domain.now verb lock C2 (Skips own second a b) C7 (Precedes own second a) cpu.old
         told cpu.new told }
+    ensures knows { (first : Node) (mark : Bool) → Knows first mark cpu.old
+        → Knows first mark cpu.new }
 {
     let _ = (lock, own, a);
     let met = steps::look_next(cpu, domain, verb, b);
-    more_seen(domain, cpu.number(), second, node_met(domain, met))
+    let mark = mark_met(domain, met);
+    more_seen(domain, cpu.number(), second, node_met(domain, met), mark)
 }
 
 // The row C3 before those passed over, from a to b, go aside: the last of [first .. t], as the node
@@ -125,6 +141,7 @@ pub(crate) fn tail_to_append(
     ensures goes { (told : Option ℕ)
         → Goes domain.now verb lock C3 (Appends own first a b y) C4 (Ties own first a b y result)
         cpu.old told cpu.new told }
+    ensures knows { (mark : Bool) → Knows a mark cpu.old → Knows a mark cpu.new }
 {
     let _ = (lock, own, a, b, y);
     let met = steps::second_tail(cpu, domain, verb, first, None);
@@ -150,6 +167,7 @@ pub(crate) fn tail_to_flush(
     ensures goes { (told : Option ℕ)
         → Goes domain.now verb lock C3 (Flushes own first a) C9 (Returns own first a result)
         cpu.old told cpu.new told }
+    ensures knows { (mark : Bool) → Knows a mark cpu.old → Knows a mark cpu.new }
 {
     let _ = (lock, own, a);
     let met = steps::second_tail(cpu, domain, verb, first, None);
@@ -190,6 +208,7 @@ pub(crate) fn append_moved(
     own: NodeName,
     first: NodeName,
     a: NodeName,
+    mark: bool,
     b: NodeName,
     y: NodeName,
     t: NodeName,
@@ -199,13 +218,14 @@ pub(crate) fn append_moved(
     requires t { IsNode domain.now.plan t }
     requires queues { Queues verb lock }
     requires waits { Stands domain.now verb lock C4 (Ties own first a b y t) cpu.old }
+    requires knows { Knows a mark cpu.old }
     ensures rest { KeepsRest cpu.old cpu.new }
     ensures goes { (told : Option ℕ)
         → Goes domain.now verb lock C4 (Ties own first a b y t) C5 (Parts own first b y)
         cpu.old told cpu.new told }
 {
     let _ = (lock, own, first, b, y);
-    steps::append(cpu, domain, verb, t, a);
+    steps::append(cpu, domain, verb, t, a, mark);
 }
 
 // The row C5: the link of b, y -> none. What stands aside ends with b, and the front alone knows
@@ -342,6 +362,7 @@ pub(crate) fn append_rest(
     own: NodeName,
     first: NodeName,
     a: NodeName,
+    mark: bool,
     t: NodeName,
 )
     requires domain { IsOf cpu.old domain.now }
@@ -349,13 +370,14 @@ pub(crate) fn append_rest(
     requires t { IsNode domain.now.plan t }
     requires queues { Queues verb lock }
     requires waits { Stands domain.now verb lock C9 (Returns own first a t) cpu.old }
+    requires knows { Knows a mark cpu.old }
     ensures rest { KeepsRest cpu.old cpu.new }
     ensures goes { (told : Option ℕ)
         → Goes domain.now verb lock C9 (Returns own first a t) C7 (Precedes own None first)
         cpu.old told cpu.new told }
 {
     let _ = (lock, own, first);
-    steps::append(cpu, domain, verb, t, a);
+    steps::append(cpu, domain, verb, t, a, mark);
 }
 
 // The row C10: true where those aside are the rest of the queue.
@@ -387,5 +409,5 @@ pub(crate) fn promote(
 {
     let _ = first;
     let met = steps::tail_to_second(cpu, domain, verb, lock, own, t);
-    is_last(word_met(met), own)
+    is_last(word_met(domain, met), own)
 }

@@ -6,7 +6,7 @@ ghost use Rattle.lk_domain.specs.Plans.{locks_of};
 ghost use Rattle.lk_domain.specs.Seats.{IsOf, KeepsRest};
 ghost use Rattle.lk_domain.specs.Words.{IsNode};
 ghost use Rattle.lk_run.specs.Frames.{Fronts, Precedes, Skips, Appends, Parts, Flushes, Promotes};
-ghost use Rattle.lk_run.specs.Phases.{Queues, Start, Waiting, Waits, Goes, Takes};
+ghost use Rattle.lk_run.specs.Phases.{Queues, Knows, Start, Waiting, Waits, Goes, Takes};
 
 use crate::choice;
 use crate::irq::Irq;
@@ -126,6 +126,7 @@ fn append(
     own: NodeName,
     first: NodeName,
     a: NodeName,
+    mark: bool,
     b: NodeName,
     y: NodeName,
 )
@@ -137,12 +138,13 @@ fn append(
     requires y { IsNode domain.now.plan y }
     requires queues { Queues verb lock }
     requires waits { Waiting domain.now verb lock C3 (Appends own first a b y) cpu.old }
+    requires knows { Knows a mark cpu.old }
     ensures rest { KeepsRest cpu.old cpu.new }
     ensures taken { (told : Option ℕ)
         → Takes domain.now verb lock C3 (Appends own first a b y) cpu.old told cpu.new told }
 {
     let t = choice::tail_to_append(cpu, domain, verb, lock, own, first, a, b, y);
-    choice::append_moved(cpu, domain, verb, lock, own, first, a, b, y, t);
+    choice::append_moved(cpu, domain, verb, lock, own, first, a, mark, b, y, t);
     part(cpu, domain, verb, lock, own, first, b, y);
 }
 
@@ -155,18 +157,20 @@ fn flush(
     own: NodeName,
     first: NodeName,
     a: NodeName,
+    mark: bool,
 )
     requires domain { IsOf cpu.old domain.now }
     requires first { IsNode domain.now.plan first }
     requires a { IsNode domain.now.plan a }
     requires queues { Queues verb lock }
     requires waits { Waiting domain.now verb lock C3 (Flushes own first a) cpu.old }
+    requires knows { Knows a mark cpu.old }
     ensures rest { KeepsRest cpu.old cpu.new }
     ensures taken { (told : Option ℕ)
         → Takes domain.now verb lock C3 (Flushes own first a) cpu.old told cpu.new told }
 {
     let t = choice::tail_to_flush(cpu, domain, verb, lock, own, first, a);
-    choice::append_rest(cpu, domain, verb, lock, own, first, a, t);
+    choice::append_rest(cpu, domain, verb, lock, own, first, a, mark, t);
     give_alone(cpu, domain, verb, lock, own, first);
 }
 
@@ -198,7 +202,7 @@ fn promote(
     choice::promote(cpu, domain, verb, lock, own, first, t)
 }
 
-// From C2: a is passed over, and it looks for a waiter of its own socket behind it.
+// From C2: a is passed over, and the front looks for a local waiter behind it.
 fn pass_over<I: Irq, R: Wait>(
     cpu: &mut Cpu,
     rt: &R,
@@ -208,6 +212,7 @@ fn pass_over<I: Irq, R: Wait>(
     own: NodeName,
     second: Option<NodeName>,
     a: NodeName,
+    mark: bool,
     irq: &mut I,
 )
     requires domain { IsOf cpu.old domain.now }
@@ -217,6 +222,7 @@ fn pass_over<I: Irq, R: Wait>(
     requires queues { Queues verb lock }
     requires waits { (s : Start)
         × Waits domain.now verb lock C2 (Skips own second a a) s cpu.old (I.polls irq.old) }
+    requires knows { Knows a mark cpu.old }
     ensures rest { KeepsRest cpu.old cpu.new }
     ensures taken { Takes domain.now verb lock C2 (Skips own second a a) cpu.old (I.polls irq.old)
         cpu.new (I.polls irq.new) }
@@ -229,9 +235,13 @@ fn pass_over<I: Irq, R: Wait>(
                 b = next;
                 give_way(cpu, rt, domain, irq, &backoff);
             }
-            More::Appends(first, y) => return append(cpu, domain, verb, lock, own, first, a, b, y),
+            More::Appends(first, y) => {
+                return append(cpu, domain, verb, lock, own, first, a, mark, b, y);
+            }
             More::Begins(y) => return part(cpu, domain, verb, lock, own, a, b, y),
-            More::Flushes(first) => return flush(cpu, domain, verb, lock, own, first, a),
+            More::Flushes(first) => {
+                return flush(cpu, domain, verb, lock, own, first, a, mark);
+            }
             More::Chooses => return give(cpu, domain, verb, lock, own, second, a),
         }
     }
@@ -262,7 +272,8 @@ pub(crate) fn choose<I: Irq, R: Wait>(
 {
     let backoff = Backoff::new();
     for _ in rt.forever() {
-        match choice::look_first(cpu, domain, verb, lock, own, second) {
+        let (seen, mark) = choice::look_first(cpu, domain, verb, lock, own, second);
+        match seen {
             First::Waits => give_way(cpu, rt, domain, irq, &backoff),
             First::Promotes(first) => {
                 if promote(cpu, domain, verb, lock, own, first) {
@@ -270,8 +281,12 @@ pub(crate) fn choose<I: Irq, R: Wait>(
                 }
             }
             First::Chooses(y) => return give(cpu, domain, verb, lock, own, second, y),
-            First::Skips(a) => return pass_over(cpu, rt, domain, verb, lock, own, second, a, irq),
-            First::Flushes(first, a) => return flush(cpu, domain, verb, lock, own, first, a),
+            First::Skips(a) => {
+                return pass_over(cpu, rt, domain, verb, lock, own, second, a, mark, irq);
+            }
+            First::Flushes(first, a) => {
+                return flush(cpu, domain, verb, lock, own, first, a, mark);
+            }
         }
     }
     unreachable!()

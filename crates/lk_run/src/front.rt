@@ -41,7 +41,7 @@ pub(crate) fn wait_as_front(
         → Stays domain.now verb lock G7 (Fronts own second) cpu.old cpu.new }
 {
     let met = steps::look(cpu, domain, verb, lock);
-    after_look(word_met(met), own, stands_aside(second))
+    after_look(word_met(domain, met), own, stands_aside(second))
 }
 
 // The row G8: true where it took the lock.
@@ -68,7 +68,7 @@ pub(crate) fn take_sole(
         told }
 {
     let met = steps::sole_claim(cpu, domain, verb, lock, own);
-    is_sole(word_met(met), own)
+    is_sole(word_met(domain, met), own)
 }
 
 // The row G9: (n, *, 0) -> (n, *, 1). Nobody else stores into the locked byte of a free lock with a

@@ -25,7 +25,7 @@ pub(crate) fn look_again(cpu: &mut Cpu, domain: &Domain, verb: Verb, lock: LockN
         → Goes domain.now verb lock P0 Any result Any cpu.old told cpu.new told }
 {
     let met = steps::look(cpu, domain, verb, lock);
-    to_queue(word_met(met))
+    to_queue(word_met(domain, met))
 }
 
 // The row P1, and where it leads.
@@ -45,7 +45,7 @@ pub(crate) fn set_pending(cpu: &mut Cpu, domain: &Domain, verb: Verb, lock: Lock
         → Goes domain.now verb lock P1 Any result Any cpu.old told cpu.new told }
 {
     let met = steps::set_pending(cpu, domain, verb, lock);
-    after_pending(word_met(met))
+    after_pending(word_met(domain, met))
 }
 
 // The row P2: (n, 1, *) -> (n, 0, *). The bit is this call's own, since it met none when it set it;
@@ -75,7 +75,7 @@ pub(crate) fn watch(cpu: &mut Cpu, domain: &Domain, verb: Verb, lock: LockName) 
     ensures held { result ≡ false → Stays domain.now verb lock P3 Any cpu.old cpu.new }
 {
     let met = steps::look(cpu, domain, verb, lock);
-    is_unlocked(word_met(met))
+    is_unlocked(word_met(domain, met))
 }
 
 // The row P4: (*, 1, 0) -> (*, 0, 1). It takes the lock and clears its own pending bit in one step,

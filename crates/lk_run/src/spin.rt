@@ -11,7 +11,7 @@ ghost use Rattle.lk_domain.specs.Plans.{locks_of, kind_at};
 ghost use Rattle.lk_domain.specs.Seats.{IsOf, KeepsRest, calls_of, ledger_of};
 ghost use Rattle.lk_domain.specs.Waits.{MayTake, WaitsAt, Moves, Gains, Misses, Drops};
 ghost use Rattle.lk_run.specs.Phases.{Arrives, Holds, starting};
-ghost use Rattle.lk_run.specs.Polls.{IsPolled};
+ghost use Rattle.lk_run.specs.Polls.{Acquires, IsPolled};
 
 use crate::irq::Irq;
 use crate::waiting::contend;
@@ -53,6 +53,8 @@ pub fn lock<I: Irq, R: Wait>(cpu: &mut Cpu, rt: &R, domain: &Domain, lock: LockI
     ensures look { HasLooked lock.index Spins (calls_of cpu.old) (calls_of cpu.new).last
         (ledger_of cpu.old) (ledger_of cpu.new) }
     ensures polls { IsPolled (calls_of cpu.new).last (I.polls irq.old) (I.polls irq.new) }
+    ensures once { Acquires 1 (calls_of cpu.old) (calls_of cpu.new) (I.polls irq.old)
+        (I.polls irq.new) }
 {
     let name = LockName {
         index: lock.index,

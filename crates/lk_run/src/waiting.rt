@@ -484,7 +484,7 @@ pub(crate) fn contend<I: Irq, R: Wait>(
     ensures taken { (s : Start) → Arrives domain.now verb lock met s cpu.old (I.polls irq.old)
         → Won lock.wait domain.now verb lock.index s cpu.new (I.polls irq.new) }
 {
-    match after_fast(domain.mode(), word_met(met)) {
+    match after_fast(domain.mode(), word_met(domain, met)) {
         Pc::V1 => loops::spin(cpu, rt, domain, verb, lock, irq),
         Pc::P0 => look_on(cpu, rt, domain, verb, lock, irq),
         Pc::P1 => pend(cpu, rt, domain, verb, lock, irq),

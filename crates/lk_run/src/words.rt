@@ -1,5 +1,5 @@
 // What the number of a word says, and where the rows lead that meet it.
-ghost use Rattle.std.specs.Prelude.{◌≡◌, ◌&&◌, not, is_some, Option, IfSome, if◌then◌else◌};
+ghost use Rattle.std.specs.Prelude.{◌≡◌, ◌&&◌, not, is_some, Bool, Option, IfSome, if◌then◌else◌};
 ghost use Rattle.lk_word.specs.declared.spin_word.Fields.{Fields};
 ghost use Rattle.lk_word.specs.declared.spin_word.NodeName.{NodeName, NodeName as Node};
 ghost use Rattle.lk_word.specs.SpinWord.{packed, IsPackable};
@@ -11,7 +11,8 @@ ghost use Rattle.lk_machine.specs.rows.Cna.{is_held};
 ghost use Rattle.lk_machine.specs.rows.Spin.{is_unlocked};
 ghost use Rattle.lk_machine.specs.declared.parts.Flag.{Flag as FlagOf};
 ghost use Rattle.lk_domain.specs.NodePlays.{IsFlagNode};
-ghost use Rattle.lk_domain.specs.Words.{IsNode, link_number, flag_number, name_number};
+ghost use Rattle.lk_domain.specs.Plans.{layout_in};
+ghost use Rattle.lk_domain.specs.Words.{IsNode, link_number, flag_number, name_number, marked};
 
 use lk_abs::Mode;
 use lk_domain::Domain;
@@ -20,11 +21,13 @@ use lk_word::{Fields, Locked, NodeName, unpack};
 
 // The fields of a word that a step met.
 #[inline]
-pub(crate) fn word_met(met: u64) -> Fields
-    requires word { (word : Fields) × IsPackable word × (met ≡ packed word) }
-    ensures { (word : Fields) → IsPackable word → met ≡ packed word → result ≡ word }
+pub(crate) fn word_met(domain: &Domain, met: u64) -> Fields
+    requires word { (word : Fields) × IsPackable (layout_in domain.now.plan) word
+        × (met ≡ packed (layout_in domain.now.plan) word) }
+    ensures { (word : Fields) → IsPackable (layout_in domain.now.plan) word
+        → met ≡ packed (layout_in domain.now.plan) word → result ≡ word }
 {
-    match unpack(met as u32) {
+    match unpack(domain.layout(), met as u32) {
         Some(word) => word,
         None => unreachable!(),
     }
@@ -33,18 +36,30 @@ pub(crate) fn word_met(met: u64) -> Fields
 // The node that a link names, if it names one.
 #[inline]
 pub(crate) fn node_met(domain: &Domain, met: u64) -> Option<NodeName>
-    requires link { (node : Option NodeName) × IfSome node (IsNode domain.now.plan)
-        × (met ≡ link_number node) }
-    ensures { (node : Option NodeName) → IfSome node (IsNode domain.now.plan)
-        → met ≡ link_number node → result ≡ node }
+    requires link { (node : Option NodeName) × (mark : Bool) × IfSome node (IsNode domain.now.plan)
+        × (met ≡ marked mark (link_number node)) }
+    ensures { (node : Option NodeName) (mark : Bool) → IfSome node (IsNode domain.now.plan)
+        → met ≡ marked mark (link_number node) → result ≡ node }
 {
-    if met < 2 {
+    let name = met % 4_294_967_296;
+    if name < 2 {
         return None;
     }
     Some(NodeName {
-        cpu: ((met - 2) / 4) as u32,
-        index: ((met - 2) % 4) as u32,
+        cpu: ((name - 2) / 4) as u32,
+        index: ((name - 2) % 4) as u32,
     })
+}
+
+// The mark of a link that names a node: whether the call that uses the node is in a context above
+// 0.
+#[inline]
+pub(crate) fn mark_met(domain: &Domain, met: u64) -> bool
+    ensures { (node : Node) (mark : Bool) → IsNode domain.now.plan node
+        → met ≡ marked mark (name_number node) → result ≡ mark }
+{
+    let _ = domain;
+    met >= 4_294_967_296
 }
 
 // What a flag says: it may name the first of a second queue.

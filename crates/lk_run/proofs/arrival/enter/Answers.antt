@@ -1,4 +1,5 @@
 use Rattle.lk_run.specs.Standing.{Outside}
+use Rattle.std.specs.Prelude.{◌&&◌}
 use Rattle.std.proofs.Common.{not, refl, sym, ap, ◌∙◌, ◌≡◌, Some, subst}
 use Rattle.lk_machine.specs.declared.parts.Pc.TheVariants.{G1, G2}
 use Rattle.lk_law.specs.Leads.{Number}
@@ -74,10 +75,10 @@ returns-clause-goes c told s w =
     let n = slows (calls_of a).frames in
     let reset = c.private_store.ensures.reset refl in
     let at = c.requires.waits.1 in
-    let first : view_of b ≡ rowed (view_of m) (calls_of m) (Number (slows (calls_of m).frames)) = (λ i. ((c.private_store-2.ensures.row (ap not c.requires.mode)).by i).0) in
+    let first : view_of b ≡ rowed (view_of m) (calls_of m) (Number (slows (calls_of m).frames)) = (λ i. ((c.private_store-2.ensures.row (λ i. not (c.requires.mode i) && not (c.requires.domain.awake i))).by i).0) in
     let second : rowed (view_of m) (calls_of m) (Number (slows (calls_of m).frames)) ≡ rowed (view_of a) (calls_of a) (Number n) =
     ap (λ (v : View). rowed v v.calls (Number (slows v.calls.frames))) reset
     ∙ ready_row 1 (view_of a) c.args.verb at.frame at.trail c.requires.waits.0.frames n at.frames at.place in
     let rest = rest_both a m b c.private_store.ensures.rest c.private_store-2.ensures.rest in
     way.on_goes d c.args.verb c.args.lock a b rest c.requires.domain (Number n) (first ∙ second) G1 Any Outside s told w G2 (Owns c.args.own) (λ e. cc e)
-    (λ f has. row.enters d.plan.mode b.number f d.lawful.awake c.args.own n (c.requires.cpu ∙ sym rest.same.number) c.requires.index c.requires.own.index)
+    (λ f has. row.enters d.plan.mode b.number f c.requires.domain.awake c.args.own n (c.requires.cpu ∙ sym rest.same.number) c.requires.index c.requires.own.index)

@@ -18,4 +18,4 @@ returns-clause-goes c told s w =
     let b = c.enter_bare.new.cpu in
     let n = slows (calls_of a).frames in
     way.on_goes d c.args.verb c.args.lock a b c.enter_bare.ensures.rest c.requires.domain (Number n) (λ i. (c.enter_bare.ensures.row.by i).0) G1 Any Outside s told w N1 Any (λ e. cc e)
-    (λ f has. row.enters_bare d.plan.mode b.number f d.lawful.awake n c.requires.full)
+    (λ f has. row.enters_bare d.plan.mode b.number f c.requires.domain.awake n c.requires.full)

@@ -1,4 +1,5 @@
 use Rattle.lk_run.specs.Standing.{Outside}
+use Rattle.std.specs.Prelude.{◌&&◌}
 use Rattle.std.proofs.Common.{not, refl, sym, ap, ◌∙◌, ◌≡◌, ℕ, Some, subst}
 use Rattle.lk_word.specs.declared.spin_word.NodeName.{NodeName}
 use Rattle.lk_machine.specs.declared.parts.Pc.TheVariants.{G1, G2}
@@ -83,11 +84,11 @@ private_store-requires-3-clause-part c = c.requires.mode
 pub private_store-requires-3-clause-row : goal.private_store-requires-3-clause-row
 private_store-requires-3-clause-row c =
     subst (AtEntry c.args.own c.args.verb)
-    (sym (c.private_store-2.ensures.reset (ap not c.requires.mode) ∙ ap (readies 2) (c.private_store.ensures.reset refl)))
+    (sym (c.private_store-2.ensures.reset (λ i. not (c.requires.mode i) && not (c.requires.domain.awake i)) ∙ ap (readies 2) (c.private_store.ensures.reset refl)))
     (entry c.args.own c.args.cpu.now c.args.verb c.args.lock c.args.domain.now c.requires.queues c.requires.waits c.requires.cpu c.requires.index c.requires.own 2)
 
 pub private_store-requires-3-clause-ready : goal.private_store-requires-3-clause-ready
-private_store-requires-3-clause-ready c ne = ap (λ (v : View). v.calls.ready) (c.private_store-2.ensures.reset (ap not c.requires.mode))
+private_store-requires-3-clause-ready c ne = ap (λ (v : View). v.calls.ready) (c.private_store-2.ensures.reset (λ i. not (c.requires.mode i) && not (c.requires.domain.awake i)))
 
 pub private_store-requires-4-clause-domain : goal.private_store-requires-4-clause-domain
 private_store-requires-4-clause-domain c =
@@ -103,7 +104,7 @@ pub private_store-requires-4-clause-row : goal.private_store-requires-4-clause-r
 private_store-requires-4-clause-row c =
     subst (AtEntry c.args.own c.args.verb)
     (sym (c.private_store-3.ensures.reset refl
-    ∙ (ap (readies 3) (c.private_store-2.ensures.reset (ap not c.requires.mode)) ∙ ap (readies 3) (c.private_store.ensures.reset refl))))
+    ∙ (ap (readies 3) (c.private_store-2.ensures.reset (λ i. not (c.requires.mode i) && not (c.requires.domain.awake i))) ∙ ap (readies 3) (c.private_store.ensures.reset refl))))
     (entry c.args.own c.args.cpu.now c.args.verb c.args.lock c.args.domain.now c.requires.queues c.requires.waits c.requires.cpu c.requires.index c.requires.own 3)
 
 pub private_store-requires-4-clause-ready : goal.private_store-requires-4-clause-ready
@@ -126,7 +127,7 @@ returns-clause-goes c told s w =
     let n = slows (calls_of a).frames in
     let reset : view_of m ≡ readies 3 (view_of a) =
     c.private_store-3.ensures.reset refl
-    ∙ (ap (readies 3) (c.private_store-2.ensures.reset (ap not c.requires.mode)) ∙ ap (readies 3) (c.private_store.ensures.reset refl)) in
+    ∙ (ap (readies 3) (c.private_store-2.ensures.reset (λ i. not (c.requires.mode i) && not (c.requires.domain.awake i))) ∙ ap (readies 3) (c.private_store.ensures.reset refl)) in
     let at = c.requires.waits.1 in
     let first : view_of b ≡ rowed (view_of m) (calls_of m) (Number (slows (calls_of m).frames)) = (λ i. ((c.private_store-4.ensures.row refl).by i).0) in
     let second : rowed (view_of m) (calls_of m) (Number (slows (calls_of m).frames)) ≡ rowed (view_of a) (calls_of a) (Number n) =
@@ -137,4 +138,4 @@ returns-clause-goes c told s w =
     (rest_both a c.private_store.new.cpu c.private_store-2.new.cpu c.private_store.ensures.rest c.private_store-2.ensures.rest)
     c.private_store-3.ensures.rest) c.private_store-4.ensures.rest in
     way.on_goes d c.args.verb c.args.lock a b rest c.requires.domain (Number n) (first ∙ second) G1 Any Outside s told w G2 (Owns c.args.own) (λ e. cc e)
-    (λ f has. row.enters d.plan.mode b.number f d.lawful.awake c.args.own n (c.requires.cpu ∙ sym rest.same.number) c.requires.index c.requires.own.index)
+    (λ f has. row.enters d.plan.mode b.number f c.requires.domain.awake c.args.own n (c.requires.cpu ∙ sym rest.same.number) c.requires.index c.requires.own.index)

@@ -20,7 +20,7 @@ returns-clause-free c is told s w =
     let made = (c.look.ensures.word (way.looks_in c.args.domain.now c.args.verb c.args.lock G2 (Owns c.args.own) c.args.cpu.now c.requires.queues c.requires.waits refl)).by in
     way.on_goes d c.args.verb c.args.lock a b c.look.ensures.rest c.requires.domain (Word made.found)
     (way.on_word d c.args.verb c.args.lock a b c.look.ensures.rest c.requires.domain made (queues_taking c.args.verb c.args.lock c.requires.queues) w.looked.at) G2 (Owns c.args.own) Outside s told w G3 (Owns c.args.own) (λ e. cc e)
-    (λ f has. row.glance_sees d.plan.mode b.number f made.found c.args.own has (free_by c.look.result made.found made.word is))
+    (λ f has. row.glance_sees d.plan.mode b.number f made.found c.args.own has (free_by _ c.look.result made.found made.word is))
 
 pub returns-clause-held : goal.returns-clause-held
 returns-clause-held c is told s w =
@@ -30,4 +30,4 @@ returns-clause-held c is told s w =
     let made = (c.look.ensures.word (way.looks_in c.args.domain.now c.args.verb c.args.lock G2 (Owns c.args.own) c.args.cpu.now c.requires.queues c.requires.waits refl)).by in
     way.on_goes d c.args.verb c.args.lock a b c.look.ensures.rest c.requires.domain (Word made.found)
     (way.on_word d c.args.verb c.args.lock a b c.look.ensures.rest c.requires.domain made (queues_taking c.args.verb c.args.lock c.requires.queues) w.looked.at) G2 (Owns c.args.own) Outside s told w G4 (Owns c.args.own) (λ e. cc e)
-    (λ f has. row.glance_misses d.plan.mode b.number f made.found c.args.own has (held_by c.look.result made.found made.word is))
+    (λ f has. row.glance_misses d.plan.mode b.number f made.found c.args.own has (held_by _ c.look.result made.found made.word is))

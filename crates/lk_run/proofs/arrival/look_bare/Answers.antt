@@ -20,7 +20,7 @@ returns-clause-free c is told s w =
     let made = (c.look.ensures.word (way.looks_in c.args.domain.now c.args.verb c.args.lock N1 Any c.args.cpu.now c.requires.queues c.requires.waits refl)).by in
     way.on_goes d c.args.verb c.args.lock a b c.look.ensures.rest c.requires.domain (Word made.found)
     (way.on_word d c.args.verb c.args.lock a b c.look.ensures.rest c.requires.domain made (queues_taking c.args.verb c.args.lock c.requires.queues) w.looked.at) N1 Any Outside s told w N2 Any (λ e. cc e)
-    (λ f has. row.bare_sees d.plan.mode b.number f made.found (seat.is_zero c.look.result made.found made.word is))
+    (λ f has. row.bare_sees d.plan.mode b.number f made.found (seat.is_zero _ c.look.result made.found made.word is))
 
 pub returns-clause-held : goal.returns-clause-held
 returns-clause-held c is s told w =
@@ -30,4 +30,4 @@ returns-clause-held c is s told w =
     let made = (c.look.ensures.word (way.looks_in c.args.domain.now c.args.verb c.args.lock N1 Any c.args.cpu.now c.requires.queues c.requires.waits refl)).by in
     way.on_looks d c.args.verb c.args.lock a b c.look.ensures.rest c.requires.domain (Word made.found)
     (way.on_word d c.args.verb c.args.lock a b c.look.ensures.rest c.requires.domain made (queues_taking c.args.verb c.args.lock c.requires.queues) w.looked.at) N1 Any Outside s told w
-    (λ f has. row.bare_waits d.plan.mode b.number f made.found (seat.not_zero c.look.result made.found made.word is))
+    (λ f has. row.bare_waits d.plan.mode b.number f made.found (seat.not_zero _ c.look.result made.found made.word is))

@@ -20,7 +20,7 @@ returns-clause-taken c is told s w =
     let made = c.take_free.ensures.step.by in
     way.on_takes d c.args.verb c.args.lock a b c.take_free.ensures.rest c.requires.domain (Word made.found)
     (way.on_word d c.args.verb c.args.lock a b c.take_free.ensures.rest c.requires.domain made (queues_taking c.args.verb c.args.lock c.requires.queues) w.looked.at) G3 (Owns c.args.own) s told w c.requires.queues refl
-    (λ f has. row.retry_takes d.plan.mode b.number f made.found c.args.own has (free_by c.take_free.result made.found made.word is))
+    (λ f has. row.retry_takes d.plan.mode b.number f made.found c.args.own has (free_by _ c.take_free.result made.found made.word is))
 
 pub returns-clause-held : goal.returns-clause-held
 returns-clause-held c is told s w =
@@ -30,4 +30,4 @@ returns-clause-held c is told s w =
     let made = c.take_free.ensures.step.by in
     way.on_goes d c.args.verb c.args.lock a b c.take_free.ensures.rest c.requires.domain (Word made.found)
     (way.on_word d c.args.verb c.args.lock a b c.take_free.ensures.rest c.requires.domain made (queues_taking c.args.verb c.args.lock c.requires.queues) w.looked.at) G3 (Owns c.args.own) Outside s told w G4 (Owns c.args.own) (λ e. cc e)
-    (λ f has. row.retry_misses d.plan.mode b.number f made.found c.args.own has (held_by c.take_free.result made.found made.word is))
+    (λ f has. row.retry_misses d.plan.mode b.number f made.found c.args.own has (held_by _ c.take_free.result made.found made.word is))

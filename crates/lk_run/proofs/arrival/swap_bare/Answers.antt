@@ -20,7 +20,7 @@ returns-clause-taken c is told s w =
     let made = c.take_free.ensures.step.by in
     way.on_takes d c.args.verb c.args.lock a b c.take_free.ensures.rest c.requires.domain (Word made.found)
     (way.on_word d c.args.verb c.args.lock a b c.take_free.ensures.rest c.requires.domain made (queues_taking c.args.verb c.args.lock c.requires.queues) w.looked.at) N2 Any s told w c.requires.queues refl
-    (λ f has. row.bare_takes d.plan.mode b.number f made.found (seat.is_zero c.take_free.result made.found made.word is))
+    (λ f has. row.bare_takes d.plan.mode b.number f made.found (seat.is_zero _ c.take_free.result made.found made.word is))
 
 pub returns-clause-held : goal.returns-clause-held
 returns-clause-held c is told s w =
@@ -30,4 +30,4 @@ returns-clause-held c is told s w =
     let made = c.take_free.ensures.step.by in
     way.on_goes d c.args.verb c.args.lock a b c.take_free.ensures.rest c.requires.domain (Word made.found)
     (way.on_word d c.args.verb c.args.lock a b c.take_free.ensures.rest c.requires.domain made (queues_taking c.args.verb c.args.lock c.requires.queues) w.looked.at) N2 Any Outside s told w N1 Any (λ e. cc e)
-    (λ f has. row.bare_misses d.plan.mode b.number f made.found (seat.not_zero c.take_free.result made.found made.word is))
+    (λ f has. row.bare_misses d.plan.mode b.number f made.found (seat.not_zero _ c.take_free.result made.found made.word is))

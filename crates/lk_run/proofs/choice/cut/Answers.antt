@@ -1,6 +1,6 @@
 use Rattle.lk_run.specs.Standing.{Outside}
 use Rattle.lk_machine.specs.declared.parts.Pc.TheVariants.{C5, C6}
-use Rattle.lk_law.specs.Leads.{Named}
+use Rattle.lk_law.specs.Leads.{Linked}
 use Rattle.lk_run.specs.Frames.{Parts}
 use Rattle.lk_run.proofs.ChoiceRows as row
 use Rattle.lk_run.proofs.Stepped as way
@@ -16,5 +16,5 @@ returns-clause-goes c told s w =
     let a = c.args.cpu.now in
     let b = c.cut.new.cpu in
     let met = c.cut.ensures.met.by in
-    way.on_goes d c.args.verb c.args.lock a b c.cut.ensures.rest c.requires.domain (Named met.found) (λ i. (met.seat i).0) C5 (Parts c.args.own c.args.first c.args.b c.args.y) Outside s told w C6 (Parts c.args.own c.args.first c.args.b c.args.y) (λ e. cc e)
+    way.on_goes d c.args.verb c.args.lock a b c.cut.ensures.rest c.requires.domain (Linked met.found met.mark) (λ i. (met.seat i).0) C5 (Parts c.args.own c.args.first c.args.b c.args.y) Outside s told w C6 (Parts c.args.own c.args.first c.args.b c.args.y) (λ e. cc e)
     (λ f has. row.cuts d.plan.mode b.number f c.args.own c.args.first c.args.b c.args.y met.found has)

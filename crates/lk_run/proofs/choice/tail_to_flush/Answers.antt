@@ -1,6 +1,6 @@
 use Rattle.lk_run.specs.Standing.{Outside}
 use Rattle.lk_run.proofs.Ways.{sees}
-use Rattle.std.proofs.Common.{refl, sym, subst, Some}
+use Rattle.std.proofs.Common.{refl, sym, subst, Some, ◌∙◌}
 use Rattle.lk_word.specs.declared.spin_word.NodeName.{NodeName}
 use Rattle.lk_machine.specs.declared.parts.Pc.TheVariants.{C3, C9}
 use Rattle.lk_law.specs.Leads.{Named}
@@ -39,3 +39,13 @@ returns-clause-goes c told s w =
     way.on_goes d c.args.verb c.args.lock a b c.second_tail-met.ensures.rest c.requires.domain (Named (Some seen.found)) (λ i. (seen.seat i).0) C3 (Flushes c.args.own c.args.first c.args.a) Outside s told w C9 (Returns c.args.own c.args.first c.args.a c.tail_met.result) (λ e. cc e)
     (λ f has. subst (λ (t : NodeName). Leads d.plan.mode b.number (sees d a b) C3 f (Named (Some seen.found)) C9 (Returns c.args.own c.args.first c.args.a t)) (sym is)
     (row.flushes_tail d.plan.mode b.number f c.args.own c.args.first c.args.a seen.found has))
+
+pub returns-clause-knows : goal.returns-clause-knows
+returns-clause-knows c mark was =
+    let d = c.args.domain.now in
+    let a = c.args.cpu.now in
+    let b = c.second_tail-met.new.cpu in
+    let seen = (c.second_tail-met.ensures.seen refl).by in
+    way.told_on_row d c.args.verb c.args.lock a b c.second_tail-met.ensures.rest c.requires.domain (Named (Some seen.found)) (λ i. (seen.seat i).0) C3
+    (Flushes c.args.own c.args.first c.args.a) Outside c.requires.waits C9
+    (λ f has. (row.flushes_tail d.plan.mode b.number {z = sees d a b} f c.args.own c.args.first c.args.a seen.found has).place) ∙ was

@@ -1,4 +1,6 @@
-use Rattle.std.proofs.Common.{subst}
+use Rattle.std.proofs.Common.{subst, ap, ◌∙◌, List}
+use Rattle.lk_domain.specs.Calls.{Running, told}
+use Rattle.lk_run.specs.Phases.{newest}
 use Rattle.lk_machine.specs.declared.parts.Pc.TheVariants.{C2}
 use Rattle.lk_run.specs.Choices.{IsMoreNode}
 use Rattle.lk_run.specs.Frames.{Skips}
@@ -37,6 +39,7 @@ loop-preserved g c =
       (λ s w. way.polled d c.args.verb c.args.lock C2 (Skips c.args.own c.args.second c.args.a next) s n o (g.I.Irq.polls c.loop.irq) (g.I.Irq.polls c.give_way.new.irq)
           (c.look_more.ensures.skips next c.in-Skips.is s (g.I.Irq.polls c.loop.irq) (inv.5 s w))
           c.give_way.ensures.rest c.give_way.ensures.calls c.give_way.ensures.ledger c.give_way.ensures.polls),
+      ap (λ (rs : List Running). told (newest rs)) c.give_way.ensures.calls.frames ∙ c.look_more.ensures.knows c.args.a c.args.mark inv.6,
     )
 
 pub give_way-requires : goal.give_way-requires
@@ -253,3 +256,9 @@ returns-in-Chooses-clause-taken g c s w =
     let n = c.look_more.new.cpu in
     let inv = c.loop.invariant in
     c.give.ensures.taken (g.I.Irq.polls c.loop.irq) s (c.look_more.ensures.chooses c.in-Chooses.is (g.I.Irq.polls c.loop.irq) s (inv.5 s w))
+
+pub append-requires-clause-knows : goal.append-requires-clause-knows
+append-requires-clause-knows g c = c.look_more.ensures.knows c.args.a c.args.mark c.loop.invariant.6
+
+pub flush-requires-clause-knows : goal.flush-requires-clause-knows
+flush-requires-clause-knows g c = c.look_more.ensures.knows c.args.a c.args.mark c.loop.invariant.6

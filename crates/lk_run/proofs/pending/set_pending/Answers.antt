@@ -1,3 +1,4 @@
+use Rattle.lk_run.proofs.Places.{met_by}
 use Rattle.lk_run.proofs.Ways.{queues_taking, queues_patient}
 use Rattle.lk_run.specs.Standing.{Outside}
 use Rattle.std.proofs.Common.{sym, ap, ◌∙◌, subst, ◌≡◌, ◌⊎◌, inl, inr}
@@ -16,12 +17,12 @@ pub set_pending-met-requires-clause-row : goal.set_pending-met-requires-clause-r
 set_pending-met-requires-clause-row c = way.acts_in c.args.domain.now c.args.verb c.args.lock P1 Any c.args.cpu.now c.requires.queues c.requires.waits (pends_by c.args.verb) (queues_patient c.args.verb c.args.lock c.requires.queues)
 
 pub word_met-requires : goal.word_met-requires
-word_met-requires c = let made = c.set_pending-met.ensures.step.by in record { word = (made.found, made.packs, made.word) }
+word_met-requires c = let step = c.set_pending-met.ensures.step in let made = step.by in let met = met_by c.args.domain.now c.args.cpu.now c.set_pending-met.new.cpu c.requires.domain step in record { word = (made.found, met.packs, met.word) }
 
 pub returns-clause-place : goal.returns-clause-place
 returns-clause-place c =
-    let made = c.set_pending-met.ensures.step.by in
-    subst (λ q. (q ≡ P2) ⊎ (q ≡ P3) ⊎ (q ≡ P4) ⊎ (q ≡ G1)) (sym (c.after_pending.ensures ∙ ap after_pending (c.word_met.ensures made.found made.packs made.word))) (pend_place made.found)
+    let step = c.set_pending-met.ensures.step in let made = step.by in let met = met_by c.args.domain.now c.args.cpu.now c.set_pending-met.new.cpu c.requires.domain step in
+    subst (λ q. (q ≡ P2) ⊎ (q ≡ P3) ⊎ (q ≡ P4) ⊎ (q ≡ G1)) (sym (c.after_pending.ensures ∙ ap after_pending (c.word_met.ensures made.found met.packs met.word))) (pend_place made.found)
 
 pub returns-clause-goes : goal.returns-clause-goes
 returns-clause-goes c told s w =
@@ -29,8 +30,8 @@ returns-clause-goes c told s w =
     let a = c.args.cpu.now in
     let b = c.set_pending-met.new.cpu in
     let l = c.args.lock.index in
-    let made = c.set_pending-met.ensures.step.by in
-    let is = c.after_pending.ensures ∙ ap after_pending (c.word_met.ensures made.found made.packs made.word) in
+    let step = c.set_pending-met.ensures.step in let made = step.by in let met = met_by c.args.domain.now c.args.cpu.now c.set_pending-met.new.cpu c.requires.domain step in
+    let is = c.after_pending.ensures ∙ ap after_pending (c.word_met.ensures made.found met.packs met.word) in
     way.on_goes d c.args.verb c.args.lock a b c.set_pending-met.ensures.rest c.requires.domain (Word made.found)
     (way.on_word d c.args.verb c.args.lock a b c.set_pending-met.ensures.rest c.requires.domain made (queues_taking c.args.verb c.args.lock c.requires.queues) w.looked.at) P1 Any Outside s told w c.after_pending.result Any
     (λ e. elim (pend_place made.found) [

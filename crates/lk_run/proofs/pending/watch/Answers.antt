@@ -1,3 +1,4 @@
+use Rattle.lk_run.proofs.Places.{met_by}
 use Rattle.lk_run.proofs.Ways.{queues_taking}
 use Rattle.lk_run.specs.Standing.{Outside}
 use Rattle.std.proofs.Common.{inl, refl, sym, ap, ◌∙◌}
@@ -14,7 +15,7 @@ pub look-met-requires-clause-row : goal.look-met-requires-clause-row
 look-met-requires-clause-row c = inl (way.looks_in c.args.domain.now c.args.verb c.args.lock P3 Any c.args.cpu.now c.requires.queues c.requires.waits refl)
 
 pub word_met-requires : goal.word_met-requires
-word_met-requires c = let made = (c.look-met.ensures.word (way.looks_in c.args.domain.now c.args.verb c.args.lock P3 Any c.args.cpu.now c.requires.queues c.requires.waits refl)).by in record { word = (made.found, made.packs, made.word) }
+word_met-requires c = let step = (c.look-met.ensures.word (way.looks_in c.args.domain.now c.args.verb c.args.lock P3 Any c.args.cpu.now c.requires.queues c.requires.waits refl)) in let made = step.by in let met = met_by c.args.domain.now c.args.cpu.now c.look-met.new.cpu c.requires.domain step in record { word = (made.found, met.packs, met.word) }
 
 pub returns-clause-free : goal.returns-clause-free
 returns-clause-free c is told s w =
@@ -22,10 +23,10 @@ returns-clause-free c is told s w =
     let a = c.args.cpu.now in
     let b = c.look-met.new.cpu in
     let l = c.args.lock.index in
-    let made = (c.look-met.ensures.word (way.looks_in c.args.domain.now c.args.verb c.args.lock P3 Any c.args.cpu.now c.requires.queues c.requires.waits refl)).by in
+    let step = (c.look-met.ensures.word (way.looks_in c.args.domain.now c.args.verb c.args.lock P3 Any c.args.cpu.now c.requires.queues c.requires.waits refl)) in let made = step.by in let met = met_by c.args.domain.now c.args.cpu.now c.look-met.new.cpu c.requires.domain step in
     way.on_goes d c.args.verb c.args.lock a b c.look-met.ensures.rest c.requires.domain (Word made.found)
     (way.on_word d c.args.verb c.args.lock a b c.look-met.ensures.rest c.requires.domain made (queues_taking c.args.verb c.args.lock c.requires.queues) w.looked.at) P3 Any Outside s told w P4 Any (λ e. cc e)
-    (λ f has. row.watch_sees d.plan.mode b.number f made.found (sym (c.is_unlocked.ensures ∙ ap (λ (y : Fields). is_unlocked y.locked) (c.word_met.ensures made.found made.packs made.word)) ∙ is))
+    (λ f has. row.watch_sees d.plan.mode b.number f made.found (sym (c.is_unlocked.ensures ∙ ap (λ (y : Fields). is_unlocked y.locked) (c.word_met.ensures made.found met.packs met.word)) ∙ is))
 
 pub returns-clause-held : goal.returns-clause-held
 returns-clause-held c is s told w =
@@ -33,7 +34,7 @@ returns-clause-held c is s told w =
     let a = c.args.cpu.now in
     let b = c.look-met.new.cpu in
     let l = c.args.lock.index in
-    let made = (c.look-met.ensures.word (way.looks_in c.args.domain.now c.args.verb c.args.lock P3 Any c.args.cpu.now c.requires.queues c.requires.waits refl)).by in
+    let step = (c.look-met.ensures.word (way.looks_in c.args.domain.now c.args.verb c.args.lock P3 Any c.args.cpu.now c.requires.queues c.requires.waits refl)) in let made = step.by in let met = met_by c.args.domain.now c.args.cpu.now c.look-met.new.cpu c.requires.domain step in
     way.on_looks d c.args.verb c.args.lock a b c.look-met.ensures.rest c.requires.domain (Word made.found)
     (way.on_word d c.args.verb c.args.lock a b c.look-met.ensures.rest c.requires.domain made (queues_taking c.args.verb c.args.lock c.requires.queues) w.looked.at) P3 Any Outside s told w
-    (λ f has. row.watch_waits d.plan.mode b.number f made.found (sym (c.is_unlocked.ensures ∙ ap (λ (y : Fields). is_unlocked y.locked) (c.word_met.ensures made.found made.packs made.word)) ∙ is))
+    (λ f has. row.watch_waits d.plan.mode b.number f made.found (sym (c.is_unlocked.ensures ∙ ap (λ (y : Fields). is_unlocked y.locked) (c.word_met.ensures made.found met.packs met.word)) ∙ is))

@@ -34,7 +34,7 @@ returns-clause-passed c is told s w =
           (watches_at (eqb (length (calls_of c.args.cpu.now).frames) 1) Read) (ap (λ b. watches_at b Read R5) (eq-eqb (length (calls_of c.args.cpu.now).frames) 1 c.requires.alone));
     })).by in
     rw.on_passes d Read l a b c.look.ensures.rest c.requires.domain refl made R5 s told w Reads
-    (λ f. row.wait_enters d.plan.mode b.number f made.found d.lawful.awake (no_writer_by c.look.result made.found made.word is)) (λ e. cc e)
+    (λ f. row.wait_enters d.plan.mode b.number f made.found c.requires.domain.awake (no_writer_by c.look.result made.found made.word is)) (λ e. cc e)
 
 pub returns-clause-held : goal.returns-clause-held
 returns-clause-held c is s told w =

@@ -1,5 +1,27 @@
+use Rattle.lk_machine.specs.declared.parts.Pc.TheVariants.{R5}
+use Rattle.lk_machine.specs.declared.setup.Verb.TheVariants.{Read}
+use Rattle.lk_domain.specs.Paths.{Any}
+use Rattle.lk_run.proofs.Steps.{still_of, rest_both}
+use Rattle.lk_run.proofs.Stepped as way
 use Rattle.lk_run.proofs.reading.wait.Goals as goal
 
 pub returns-then-wait-clause-passed : goal.returns-then-wait-clause-passed
 returns-then-wait-clause-passed g c s w =
     c.wait.ensures.passed c.if-wait.true (g.I.Irq.polls c.loop.irq) s (c.loop.invariant.4 s w)
+
+pub loop-preserved : goal.loop-preserved
+loop-preserved g c =
+    let d = c.args.domain.now in
+    let a = c.args.cpu.now in
+    let m = c.loop.cpu in
+    let n = c.wait.new.cpu in
+    let o = c.give_way.new.cpu in
+    let inv = c.loop.invariant in (
+      tt,
+      tt,
+      still_of d n o c.give_way.ensures.rest (still_of d m n c.wait.ensures.rest inv.2),
+      rest_both a n o (rest_both a m n inv.3 c.wait.ensures.rest) c.give_way.ensures.rest,
+      (λ s w. way.polled_in d Read c.args.lock.index R5 Any s n o (g.I.Irq.polls c.loop.irq) (g.I.Irq.polls c.give_way.new.irq)
+          (c.wait.ensures.held c.if-wait.false s (g.I.Irq.polls c.loop.irq) (inv.4 s w))
+          c.give_way.ensures.rest c.give_way.ensures.calls c.give_way.ensures.ledger c.give_way.ensures.polls),
+    )

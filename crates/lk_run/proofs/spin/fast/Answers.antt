@@ -7,7 +7,7 @@ use Rattle.lk_machine.specs.rows.Spin.{after_fast}
 use Rattle.lk_domain.specs.Rows.{takes_by}
 use Rattle.lk_domain.specs.Seats.{view_of}
 use Rattle.lk_domain.proofs.Ways as seat
-use Rattle.lk_run.proofs.Places.{free_by, held_by, not_fast}
+use Rattle.lk_run.proofs.Places.{met_by, free_by, held_by, not_fast}
 use Rattle.lk_run.proofs.Rows as row
 use Rattle.lk_run.proofs.Steps.{plain_in, seat_of}
 use Rattle.lk_run.proofs.Stepped as way
@@ -30,7 +30,7 @@ returns-clause-taken c is told =
     let made = c.take_first.ensures.step.by in
     way.first_takes d Lock c.args.lock.index a b c.take_first.ensures.rest c.requires.domain refl (λ e. cc e) (Word made.found)
     (way.first_word d Lock c.args.lock a b c.take_first.ensures.rest c.requires.domain made c.requires.may.fresh) told refl refl
-    (λ f. row.fast_takes d.plan.mode b.number f made.found (free_by c.take_first.result made.found made.word is))
+    (λ f. row.fast_takes d.plan.mode b.number f made.found (free_by _ c.take_first.result made.found made.word is))
 
 pub returns-clause-waits : goal.returns-clause-waits
 returns-clause-waits c is told =
@@ -39,13 +39,14 @@ returns-clause-waits c is told =
     let b = c.take_first.new.cpu in
     let l = c.args.lock.index in
     let made = c.take_first.ensures.step.by in
+    let met = met_by d a b c.requires.domain c.take_first.ensures.step in
     record {
       found = made.found;
-      packs = made.packs;
-      word = made.word;
+      packs = met.packs;
+      word = met.word;
       waits = subst (λ z. Waits d Lock z (after_fast d.plan.mode made.found) Any (starting a told) b told) (λ i. record { index = c.args.lock.index; wait = sym c.requires.plain i })
           (way.first_goes d Lock c.args.lock.index a b c.take_first.ensures.rest c.requires.domain refl (λ e. cc e) (Word made.found)
           (way.first_word d Lock c.args.lock a b c.take_first.ensures.rest c.requires.domain made c.requires.may.fresh) told
           (after_fast d.plan.mode made.found) (not_fast d.plan.mode made.found)
-          (λ f. row.fast_goes d.plan.mode b.number f made.found (held_by c.take_first.result made.found made.word is)));
+          (λ f. row.fast_goes d.plan.mode b.number f made.found (held_by _ c.take_first.result made.found made.word is)));
     }

@@ -14,6 +14,10 @@ pub returns-then-met-eq0-clause-polls : goal.returns-then-met-eq0-clause-polls
 returns-then-met-eq0-clause-polls g c =
     (c.fast-met.ensures.taken c.if-met-eq0.true (g.I.Irq.polls c.args.irq.now)).polled
 
+pub returns-then-met-eq0-clause-once : goal.returns-then-met-eq0-clause-once
+returns-then-met-eq0-clause-once g c =
+    (c.fast-met.ensures.taken c.if-met-eq0.true (g.I.Irq.polls c.args.irq.now)).once
+
 pub contend-requires-clause-domain : goal.contend-requires-clause-domain
 contend-requires-clause-domain g c =
     still_of c.args.domain.now c.args.cpu.now c.fast-met.new.cpu c.fast-met.ensures.rest c.requires.domain
@@ -37,3 +41,7 @@ returns-clause-look g c =
 pub returns-clause-polls : goal.returns-clause-polls
 returns-clause-polls g c =
     (c.contend.ensures.taken (starting c.args.cpu.now (g.I.Irq.polls c.args.irq.now)) (c.fast-met.ensures.waits c.if-met-eq0.false (g.I.Irq.polls c.args.irq.now))).polled
+
+pub returns-clause-once : goal.returns-clause-once
+returns-clause-once g c =
+    (c.contend.ensures.taken (starting c.args.cpu.now (g.I.Irq.polls c.args.irq.now)) (c.fast-met.ensures.waits c.if-met-eq0.false (g.I.Irq.polls c.args.irq.now))).once

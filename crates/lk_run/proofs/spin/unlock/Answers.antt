@@ -12,11 +12,11 @@ release-requires-clause-row c =
     let d = c.args.domain.now in
     let a = c.args.cpu.now in
     plain_in (frees_by Unlock) (view_of a) Unlock (record { index = c.args.lock.index; wait = false }) refl refl
-    (way.acts_release d.plan a.number c.args.lock.index (view_of a) (seat_of d a c.requires.domain) d.lawful.awake a.apart c.requires.few c.requires.kind c.requires.held)
+    (way.acts_release d.plan a.number c.args.lock.index (view_of a) (seat_of d a c.requires.domain) c.requires.domain.awake a.apart c.requires.few c.requires.kind c.requires.held)
 
 pub returns-clause-freed : goal.returns-clause-freed
 returns-clause-freed c =
     let d = c.args.domain.now in
     let a = c.args.cpu.now in
-    let t = way.frees d.plan a.number c.args.lock.index a.seat.me c.release.new.cpu.seat.me c.release.result (seat_of d a c.requires.domain) d.lawful.awake a.apart c.release.ensures.step.by in
+    let t = way.frees d.plan a.number c.args.lock.index a.seat.me c.release.new.cpu.seat.me c.release.result (seat_of d a c.requires.domain) c.requires.domain.awake a.apart c.release.ensures.step.by in
     record { freed = t.freed; ledger = t.ledger }

@@ -21,7 +21,7 @@ returns-clause-taken c is told s w =
     let made = c.take_free.ensures.step.by in
     way.on_takes d c.args.verb c.args.lock a b c.take_free.ensures.rest c.requires.domain (Word made.found)
     (way.on_word d c.args.verb c.args.lock a b c.take_free.ensures.rest c.requires.domain made (queues_taking c.args.verb c.args.lock c.requires.queues) w.looked.at) V2 Any s told w c.requires.queues refl
-    (λ f has. row.loop_takes d.plan.mode b.number f made.found (seat.is_zero c.take_free.result made.found made.word is))
+    (λ f has. row.loop_takes d.plan.mode b.number f made.found (seat.is_zero _ c.take_free.result made.found made.word is))
 
 pub returns-clause-held : goal.returns-clause-held
 returns-clause-held c is told s w =
@@ -32,4 +32,4 @@ returns-clause-held c is told s w =
     let made = c.take_free.ensures.step.by in
     way.on_goes d c.args.verb c.args.lock a b c.take_free.ensures.rest c.requires.domain (Word made.found)
     (way.on_word d c.args.verb c.args.lock a b c.take_free.ensures.rest c.requires.domain made (queues_taking c.args.verb c.args.lock c.requires.queues) w.looked.at) V2 Any Outside s told w V1 Any (λ e. cc e)
-    (λ f has. row.loop_misses d.plan.mode b.number f made.found (seat.not_zero c.take_free.result made.found made.word is))
+    (λ f has. row.loop_misses d.plan.mode b.number f made.found (seat.not_zero _ c.take_free.result made.found made.word is))

@@ -1,16 +1,31 @@
-use Rattle.std.proofs.Common.{sym, arith}
-use Rattle.lk_run.proofs.Places.{no_link, some_link, small_link}
+use Rattle.std.proofs.Common.{◌≡◌, ◌%◌, sym, arith}
+use Rattle.lk_domain.specs.Words.{link_number}
+use Rattle.lk_run.proofs.Places.{no_link, some_link, small_link, name_is}
 use Rattle.lk_run.proofs.words.node_met.Goals as goal
 
-pub returns-then-met-lt2 : goal.returns-then-met-lt2
-returns-then-met-lt2 c node has is = sym (no_link c.args.met node is c.if-met-lt2.true)
+pub returns-then-name-lt2 : goal.returns-then-name-lt2
+returns-then-name-lt2 c node mark has is =
+    let k = c.args.domain.now.plan in
+    sym (no_link (c.args.met % 4294967296) node (name_is k c.args.met mark node has is c.args.domain.now.lawful.cpus) c.if-name-lt2.true)
 
 pub overflow_cast-result : goal.overflow_cast-result
 overflow_cast-result c =
     let link = c.requires.link in
-    let small = small_link c.args.domain.now.plan c.args.met link.0 link.1 link.2 c.args.domain.now.lawful.cpus in
+    let k = c.args.domain.now.plan in
+    let cpus = c.args.domain.now.lawful.cpus in
+    let small = small_link k (c.args.met % 4294967296) link.0 link.2 (name_is k c.args.met link.1 link.0 link.2 link.3 cpus) cpus in
+    omega (arith, small)
+
+pub overflow_cast-result-2 : goal.overflow_cast-result-2
+overflow_cast-result-2 c =
+    let link = c.requires.link in
+    let k = c.args.domain.now.plan in
+    let cpus = c.args.domain.now.lawful.cpus in
+    let small = small_link k (c.args.met % 4294967296) link.0 link.2 (name_is k c.args.met link.1 link.0 link.2 link.3 cpus) cpus in
     omega (arith, small)
 
 pub returns : goal.returns
-returns c node has is =
-    some_link c.args.domain.now.plan c.args.met node has is (let low = c.if-met-lt2.false in omega (arith, low))
+returns c node mark has is =
+    let k = c.args.domain.now.plan in
+    some_link k (c.args.met % 4294967296) node has (name_is k c.args.met mark node has is c.args.domain.now.lawful.cpus)
+    (let low = c.if-name-lt2.false in omega (arith, low))

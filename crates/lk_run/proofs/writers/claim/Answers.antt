@@ -26,7 +26,7 @@ returns-clause-passed c is told s w =
     let l = c.args.lock.index in
     let made = c.waiting_to_writer.ensures.step.by in
     rw.on_passes d Write l a b c.waiting_to_writer.ensures.rest c.requires.domain refl made Wr6 s told w Writes
-    (λ f. row.claim_enters d.plan.mode b.number f made.found d.lawful.awake (cleared_by c.waiting_to_writer.result made.found made.word is)) (λ e. cc e)
+    (λ f. row.claim_enters d.plan.mode b.number f made.found c.requires.domain.awake (cleared_by c.waiting_to_writer.result made.found made.word is)) (λ e. cc e)
 
 pub returns-clause-biased : goal.returns-clause-biased
 returns-clause-biased c is told s w =

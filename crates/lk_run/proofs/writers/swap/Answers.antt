@@ -28,7 +28,7 @@ returns-clause-passed c is told s w =
     let l = c.args.lock.index in
     let made = c.empty_to_writer.ensures.step.by in
     rw.on_passes d Write l a b c.empty_to_writer.ensures.rest c.requires.domain refl made Wr3 s told w Writes
-    (λ f. row.swap_enters d.plan.mode b.number f made.found d.lawful.awake (empty_by c.empty_to_writer.result made.found made.word is)) (λ e. cc e)
+    (λ f. row.swap_enters d.plan.mode b.number f made.found c.requires.domain.awake (empty_by c.empty_to_writer.result made.found made.word is)) (λ e. cc e)
 
 pub returns-clause-others : goal.returns-clause-others
 returns-clause-others c is told s w =
