@@ -10,7 +10,7 @@ use Rattle.lk_abs.specs.declared.ledger.Job.{Job}
 use Rattle.lk_abs.specs.declared.ledger.Reply.{Reply}
 use Rattle.lk_domain.proofs.ledger.Loads.{entries_long}
 use Rattle.lk_domain.specs.Ledgers.{Ledger, Out, brought, manner_of, trail_of}
-use Rattle.lk_domain.specs.Plans.{IsLawfulPlan, accounts_of}
+use Rattle.lk_domain.specs.Plans.{IsRunningPlan, accounts_of}
 use Rattle.lk_domain.specs.Seats.{IsOut, MayCome, CameHome}
 use Rattle.lk_domain.specs.declared.journal.Journal.{Journal}
 use Rattle.lk_domain.specs.declared.plan.Plan.{Plan}
@@ -19,7 +19,7 @@ use Rattle.lk_guard.specs.Writes.{entry, after_append, HasAppended}
 use Rattle.lk_guard.proofs.Balances.{small, replays_more, balances_more, words_are}
 
 -- where the journal j was taken out
-module _ (k : Plan) (lawful : IsLawfulPlan k) (g0 g1 : Ledger) (j : Journal) (t : IsOut k g0 j g1) where
+module _ (k : Plan) (lawful : IsRunningPlan k) (g0 g1 : Ledger) (j : Journal) (t : IsOut k g0 j g1) where
   -- the words are its balances
   words_out : words_of g1 ≡ balances_after k.balances.items j.entries.items
   words_out = ap words_of t.ledger ∙ words_are k j.entries.items t.words t.long t.are

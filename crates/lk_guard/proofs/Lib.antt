@@ -2,3 +2,4 @@ pub mod Balances
 pub mod Looks
 pub mod Appends
 pub mod Rounds
+pub mod Begins

@@ -19,6 +19,7 @@ use Rattle.lk_domain.specs.declared.cpu.Cpu.{Cpu}
 use Rattle.lk_domain.specs.declared.domain.Domain.{Domain}
 use Rattle.lk_domain.specs.declared.plan.Plan.{Plan}
 use Rattle.lk_guard.specs.Guards.{Guard, reads_as, IsToRead}
+use Rattle.lk_run.specs.Polls.{IsPolled}
 use Rattle.lk_guard.specs.Reads.{account_of, amount_of, below, Answers, ReadsAt, HasRead}
 use Rattle.lk_guard.specs.Reads.{all_loaded, HasLooked, HasSummed, IsFreshLook}
 use Rattle.lk_guard.proofs.Balances.{loads_small, right_reply}
@@ -104,6 +105,7 @@ same_of d a b same of =
       table = same.table ∙ of.table;
       plan = ap (λ (w : Who). w.plan) same.who ∙ of.plan;
       low = subst (λ (n : ℕ). n < cpus_of d.plan) (sym same.number) of.low;
+      awake = of.awake;
     }
 
 pub both_keep : (a b c : Cpu) → KeepsCalls a b → KeepsCalls b c → KeepsCalls a c
@@ -155,8 +157,9 @@ module _ (h : Guard) (p v : ℕ) (job : Job) (reply : Reply) (g0 g1 g2 : Ledger)
     out_kept = ap (λ (g : Ledger). g.out) open_look
 
     pub has_read : (g3 : Ledger) → g3 ≡ closed g2
-        → IsToRead h p (new_look (reads_as h.kind) trail) → HasRead h p v job reply g0 g3
-    has_read g3 ends taken =
+        → IsToRead h p (new_look (reads_as h.kind) trail) → {before after : Option ℕ} → IsPolled trail before after
+        → HasRead h p v job reply g0 g3 before after
+    has_read g3 ends taken polled =
         record {
           look = look;
           read = record {
@@ -167,4 +170,5 @@ module _ (h : Guard) (p v : ℕ) (job : Job) (reply : Reply) (g0 g1 g2 : Ledger)
             state = subst (λ (g : Ledger). ReadsAt h.opening p v job reply g.own) begins looks.state;
           };
           ledger = ends ∙ ap closed open_look;
+          polled = polled;
         }

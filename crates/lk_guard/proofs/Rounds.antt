@@ -1,6 +1,6 @@
 -- The jobs of a worker, one after another.
 use Rattle.std.proofs.Common.{◌≡◌, ℕ, zero, suc, ◌+◌, ◌<◌, ◌≤◌, true, false, Bool, List, [], ◌∷◌, ◌++◌}
-use Rattle.std.proofs.Common.{length, get_or, slice_get, Some, take, drop, sym, refl, ap, ◌∙◌, subst, arith, length-append}
+use Rattle.std.proofs.Common.{length, get_or, slice_get, Option, Some, take, drop, sym, refl, ap, ◌∙◌, subst, arith, length-append}
 use Rattle.std.proofs.lemmas.Option.{get_or_from_slice_get}
 use Rattle.std.proofs.lemmas.List.{append_assoc, append-nil, take_more, length-take-le}
 use Rattle.std.specs.Prelude.{if◌then◌else◌}
@@ -18,7 +18,8 @@ use Rattle.lk_guard.specs.Writes.{entry, HasWritten}
 -- one job was done
 
 pub done_write : (h : Guard) (p n : ℕ) (job : Job) (reply : Reply) (g g' : Ledger) (rs : List Seen)
-    → is_write job ≡ true → HasWritten h p n job reply g g' → HasDone h p n job g g' rs rs
+    → is_write job ≡ true → {before after : Option ℕ} → HasWritten h p n job reply g g' before after
+    → HasDone h p n job g g' rs rs
 done_write h p n job reply g g' rs writes w =
     record {
       deed = wrote w.place (entry p n job reply) w.first w.second;
@@ -32,7 +33,7 @@ seen_record p n v job reply =
     record { worker = p; number = n; version = v; job = job; reply = reply }
 
 pub done_read : (h : Guard) (p n v : ℕ) (job : Job) (reply : Reply) (g g' : Ledger)
-    (rs rs' : List Seen) → is_write job ≡ false → HasRead h p v job reply g g'
+    (rs rs' : List Seen) → is_write job ≡ false → {before after : Option ℕ} → HasRead h p v job reply g g' before after
     → rs' ≡ rs ++ seen_record p n v job reply ∷ [] → HasDone h p n job g g' rs rs'
 done_read h p n v job reply g g' rs rs' reads t e =
     record {

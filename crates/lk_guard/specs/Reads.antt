@@ -1,5 +1,5 @@
 -- What a read of the ledger leaves.
-use Rattle.std.specs.Prelude.{◌≡◌, ℕ, zero, suc, ◌≤◌, List, [], ◌∷◌, ◌++◌, map, length, None, Some}
+use Rattle.std.specs.Prelude.{◌≡◌, ℕ, zero, suc, ◌≤◌, List, [], ◌∷◌, ◌++◌, map, length, Option, None, Some}
 use Rattle.lk_abs.specs.Jobs.{reply_to}
 use Rattle.lk_abs.specs.Journal.{balances_after, Replays}
 use Rattle.lk_abs.specs.declared.ledger.Entry.{Entry}
@@ -10,6 +10,7 @@ use Rattle.lk_abs.specs.declared.ledger.Reply.TheVariants.{Amount}
 use Rattle.lk_domain.specs.Ledgers.{Ledger, Look, loaded, sighted}
 use Rattle.lk_domain.specs.Places.{places}
 use Rattle.lk_domain.specs.Views.{total}
+use Rattle.lk_run.specs.Polls.{IsPolled}
 use Rattle.lk_guard.specs.Guards.{Guard, IsToRead}
 
 -- account and amount of a load
@@ -62,12 +63,14 @@ pub record IsRead (h : Guard) (p v : ℕ) (job : Job) (reply : Reply) (g : Ledge
 abbrev pub after_read : Ledger → ℕ → Look → Ledger
 after_read g v look = record g { seen = v; look = None; looks = g.looks ++ look ∷ [] }
 
--- a read in a hold of its own, which left one look more
-pub record HasRead (h : Guard) (p v : ℕ) (job : Job) (reply : Reply) (old new : Ledger) : Type 0
-  where
-    pub look : Look
-    pub read : IsRead h p v job reply old look
-    pub ledger : new ≡ after_read old v look
+-- a read in a hold of its own, which left one look more; while it waited for that hold what
+-- interrupts it was polled, which told the first number before and the second one after
+pub record HasRead (h : Guard) (p v : ℕ) (job : Job) (reply : Reply) (old new : Ledger)
+    (before after : Option ℕ) : Type 0 where
+  pub look : Look
+  pub read : IsRead h p v job reply old look
+  pub ledger : new ≡ after_read old v look
+  pub polled : IsPolled look.trail before after
 
 -- these balances are loaded after what was known so, the newest first
 abbrev pub all_loaded : Ledger → List (ℕ × ℕ) → Ledger

@@ -1,10 +1,11 @@
 -- What a write to the ledger leaves.
-use Rattle.std.specs.Prelude.{◌≡◌, ℕ, ◌+◌, ◌-◌, ◌≤◌, List, [], ◌∷◌, ◌++◌, length, Some, None}
+use Rattle.std.specs.Prelude.{◌≡◌, ℕ, ◌+◌, ◌-◌, ◌≤◌, List, [], ◌∷◌, ◌++◌, length, Option, Some, None}
 use Rattle.lk_abs.specs.Journal.{balances_after, Replays, IsRight}
 use Rattle.lk_abs.specs.declared.ledger.Entry.{Entry}
 use Rattle.lk_abs.specs.declared.ledger.Job.{Job}
 use Rattle.lk_abs.specs.declared.ledger.Reply.{Reply}
 use Rattle.lk_domain.specs.Ledgers.{Ledger, Look, new_look, manner_of, trail_of, listed_look}
+use Rattle.lk_run.specs.Polls.{IsPolled}
 use Rattle.lk_guard.specs.Guards.{Guard, IsToWrite, IsBare}
 
 abbrev pub entry : ℕ → ℕ → Job → Reply → Entry
@@ -38,14 +39,17 @@ after_write g place e first second =
       looks = (g.looks ++ first ∷ []) ++ second ∷ [];
     }
 
--- a write in a hold of its own, which appended one entry and left two looks more
-pub record HasWritten (h : Guard) (p n : ℕ) (job : Job) (reply : Reply) (old new : Ledger) : Type 0
-  where
-    pub place : ℕ
-    pub first : Look
-    pub second : Look
-    pub written : IsWritten h p place (entry p n job reply) old first second
-    pub ledger : new ≡ after_write old place (entry p n job reply) first second
+-- a write in a hold of its own, which appended one entry and left two looks more; while it waited
+-- for that hold what interrupts it was polled, which told the first number before and the second one
+-- after
+pub record HasWritten (h : Guard) (p n : ℕ) (job : Job) (reply : Reply) (old new : Ledger)
+    (before after : Option ℕ) : Type 0 where
+  pub place : ℕ
+  pub first : Look
+  pub second : Look
+  pub written : IsWritten h p place (entry p n job reply) old first second
+  pub ledger : new ≡ after_write old place (entry p n job reply) first second
+  pub polled : IsPolled first.trail before after
 
 -- what the processor knows of the ledger where the journal came home with one entry more, and it
 -- still holds the lock

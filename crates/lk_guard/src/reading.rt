@@ -85,7 +85,7 @@ fn look(cpu: &mut Cpu, domain: &Domain, job: Job) -> (u64, Reply)
 impl Region {
     /// Does a `Sum` or `Get` in a hold of the lock of its own, which other readers may have too
     /// where it is a reader-writer lock. It gives the number of entries of the journal then, and
-    /// the reply. It takes no memory.
+    /// the reply. It polls `irq` while it waits for the lock, as `lock` does. It takes no memory.
     pub fn read<I: Irq, R: Wait>(
         &self,
         cpu: &mut Cpu,
@@ -100,7 +100,7 @@ impl Region {
         ensures same { IsSame cpu.old cpu.new }
         ensures idle { IsIdle cpu.new }
         ensures read { HasRead (guard_in self.now.domain.plan) cpu.old.number result.0 job result.1
-            (ledger_of cpu.old) (ledger_of cpu.new) }
+            (ledger_of cpu.old) (ledger_of cpu.new) (I.polls irq.old) (I.polls irq.new) }
     {
         self.hold_to_read(cpu, rt, irq);
         let seen = look(cpu, &self.domain, job);

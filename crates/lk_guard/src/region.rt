@@ -56,7 +56,7 @@ impl Region {
         ensures same { IsSame cpu.old cpu.new }
         ensures begun { HasBegun (guard_in self.now.domain.plan)
             (reads_by (kind_at self.now.domain.plan 0)) (reads_as (kind_at self.now.domain.plan 0))
-            cpu.old cpu.new }
+            cpu.old cpu.new (I.polls irq.old) (I.polls irq.new) }
     {
         match self.guard {
             Kind::Spin => lock(cpu, rt, &self.domain, FIRST, irq),
@@ -71,7 +71,7 @@ impl Region {
         ensures same { IsSame cpu.old cpu.new }
         ensures begun { HasBegun (guard_in self.now.domain.plan)
             (writes_by (kind_at self.now.domain.plan 0)) (writes_as (kind_at self.now.domain.plan 0))
-            cpu.old cpu.new }
+            cpu.old cpu.new (I.polls irq.old) (I.polls irq.new) }
     {
         match self.guard {
             Kind::Spin => lock(cpu, rt, &self.domain, FIRST, irq),

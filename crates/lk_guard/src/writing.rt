@@ -43,7 +43,8 @@ fn append(cpu: &mut Cpu, domain: &Domain, number: u32, job: Job) -> Reply
 
 impl Region {
     /// Does a `Move` or `Add` in a hold of the lock of its own, appends its entry to the journal,
-    /// and gives the reply. It takes no memory.
+    /// and gives the reply. It polls `irq` while it waits for the lock, as `lock` does. It takes no
+    /// memory.
     pub fn write<I: Irq, R: Wait>(
         &self,
         cpu: &mut Cpu,
@@ -60,7 +61,7 @@ impl Region {
         ensures same { IsSame cpu.old cpu.new }
         ensures idle { IsIdle cpu.new }
         ensures written { HasWritten (guard_in self.now.domain.plan) cpu.old.number number job
-            result (ledger_of cpu.old) (ledger_of cpu.new) }
+            result (ledger_of cpu.old) (ledger_of cpu.new) (I.polls irq.old) (I.polls irq.new) }
     {
         self.hold_to_write(cpu, rt, irq);
         let reply = append(cpu, &self.domain, number, job);

@@ -1,5 +1,7 @@
 -- What the answers to a job file mean, and what they exclude, since a text says one thing.
 use Rattle.std.proofs.Common.{◌≡◌, ◌⊎◌, ℕ, List, Option, Some, None, Result, Ok, Err, IfSome, IsOkUnless, IsErrAnd, refl, sym, ap, ◌∙◌, inl, inr, arith}
+use Rattle.lk_abs.specs.Workload.{Workload, workload_of}
+use Rattle.lk_abs.specs.declared.job_file.JobFile.{JobFile}
 use Rattle.lk_text.specs.Causes.{Rose}
 use Rattle.lk_forms.specs.declared.answers.LineRefusal.{LineRefusal}
 use Rattle.lk_forms.specs.declared.answers.LineRefusal.TheVariants.{Bad, Limit}
@@ -10,8 +12,6 @@ use Rattle.lk_stream.specs.declared.answers.ReplayFault.{ReplayFault}
 use Rattle.lk_stream.specs.declared.answers.ReplayFault.TheVariants as fault
 use Rattle.lk_job_forms.specs.Grammar.{Reading}
 use Rattle.lk_job_forms.specs.JobFile.{job_file, job_grammar, said_in}
-use Rattle.lk_job_forms.specs.Workload.{Workload, workload_of}
-use Rattle.lk_job_forms.specs.declared.file.JobFile.{JobFile}
 use Rattle.lk_ledger.specs.Reading.{IsRead, Reads}
 
 -- a count that is 0 did not rise

@@ -2,9 +2,9 @@
 use Rattle.std.proofs.Common.{◌<◌, ◌^◌, ℕ, List, length, arith}
 use Rattle.lk_abs.specs.declared.ledger.Entry.{Entry}
 use Rattle.lk_abs.specs.declared.ledger.Seen.{Seen}
+use Rattle.lk_abs.specs.Workload.{Workload, IsLawful}
+use Rattle.lk_abs.specs.Outcome.{IsOutcome}
 use Rattle.lk_domain.proofs.ledger.Loads.{entries_long}
-use Rattle.lk_job_forms.specs.Outcome.{IsOutcome}
-use Rattle.lk_job_forms.specs.Workload.{Workload, IsLawful}
 
 -- there are few closing balances
 pub few_balances : (work : Workload) (journal : List Entry) (reads : List Seen)

@@ -4,6 +4,8 @@ use Rattle.std.specs.Prelude.{ℕ, List, Option}
 use Rattle.std.specs.Io.KnownBytes.{Appends, IsAtEnd, Keeps}
 use Rattle.lk_abs.specs.declared.ledger.Entry.{Entry}
 use Rattle.lk_abs.specs.declared.ledger.Seen.{Seen}
+use Rattle.lk_abs.specs.Workload.{Workload}
+use Rattle.lk_abs.specs.Outcome.{IsOutcome}
 use Rattle.lk_text.specs.Causes.{Rose}
 use Rattle.lk_text.specs.Bytes.{AppendsFront}
 use Rattle.lk_forms.specs.declared.answers.LineRefusal.{LineRefusal}
@@ -11,9 +13,7 @@ use Rattle.lk_forms.specs.declared.answers.LineRefusal.TheVariants.{Bad, Limit}
 use Rattle.lk_stream.specs.Outside.{Outside}
 use Rattle.lk_stream.specs.declared.answers.ReplayFault.{ReplayFault}
 use Rattle.lk_stream.specs.declared.answers.ReplayFault.TheVariants as fault
-use Rattle.lk_job_forms.specs.Outcome.{IsOutcome}
 use Rattle.lk_job_forms.specs.Texts.{outcome_text}
-use Rattle.lk_job_forms.specs.Workload.{Workload}
 use Rattle.lk_workers.specs.UnderLock.{UnderLock, looks_in}
 use Rattle.lk_workers.specs.declared.running.Outcome.{Outcome}
 use Rattle.lk_ledger.specs.Reading.{SaysJobs, IsRefused}

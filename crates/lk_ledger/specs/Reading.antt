@@ -2,6 +2,8 @@
 -- its count of faults.
 use Rattle.std.specs.Prelude.{◌≡◌, ◌++◌, ℕ, List, [], Option, Result, Ok, Err, IfSome, ⊤, refl}
 use Rattle.std.specs.Io.KnownBytes.{IsAtEnd}
+use Rattle.lk_abs.specs.Workload.{Workload, workload_of}
+use Rattle.lk_abs.specs.declared.job_file.JobFile.{JobFile}
 use Rattle.lk_text.specs.Causes.{Rose}
 use Rattle.lk_forms.specs.declared.answers.LineRefusal.{LineRefusal}
 use Rattle.lk_forms.specs.declared.answers.LineRefusal.TheVariants.{Bad, Limit}
@@ -9,8 +11,6 @@ use Rattle.lk_stream.specs.declared.answers.ReplayFault.{ReplayFault}
 use Rattle.lk_stream.specs.declared.answers.ReplayFault.TheVariants as fault
 use Rattle.lk_job_forms.specs.Grammar.{Reading}
 use Rattle.lk_job_forms.specs.JobFile.{job_file, job_grammar}
-use Rattle.lk_job_forms.specs.Workload.{Workload, workload_of}
-use Rattle.lk_job_forms.specs.declared.file.JobFile.{JobFile}
 
 -- a known text says this workload as a job file
 abbrev pub SaysJobs : Option (List ℕ) → Workload → Type 0

@@ -1,12 +1,12 @@
 // The word `ledger`, from bytes to bytes.
 ghost use Rattle.std.specs.Prelude.{◌≡◌, ◌⊎◌, ℕ, List, Some, Ok, Err, IfOk, IfErr, IsOkUnless, IsErrAnd};
+ghost use Rattle.lk_abs.specs.Workload.{Workload};
 ghost use Rattle.lk_text.specs.Causes.{Rose};
 ghost use Rattle.lk_forms.specs.declared.answers.LineRefusal.{LineRefusal};
 ghost use Rattle.lk_stream.specs.Outside.{outside};
 ghost use Rattle.lk_stream.specs.Outcome.{refused_fault};
 ghost use Rattle.lk_stream.specs.declared.answers.ReplayFault.{ReplayFault};
 ghost use Rattle.lk_job_forms.specs.JobFile.{job_file};
-ghost use Rattle.lk_job_forms.specs.Workload.{Workload};
 ghost use Rattle.lk_ledger.specs.Outcome.{HasRun, FaultMeans};
 
 use crate::reading::read_jobs;

@@ -9,6 +9,7 @@ use Rattle.lk_abs.specs.Journal.{balances_after, is_write}
 use Rattle.lk_abs.specs.declared.ledger.Entry.{Entry}
 use Rattle.lk_abs.specs.declared.ledger.Job.{Job}
 use Rattle.lk_abs.specs.declared.ledger.Seen.{Seen}
+use Rattle.lk_abs.specs.Outcome.{IsReadAt, label_of, tag_of, reads_from, writes_from}
 use Rattle.lk_domain.specs.Ends.{In}
 use Rattle.lk_domain.specs.Keeps.{AreEnded, IsEnded, IsVersion}
 use Rattle.lk_domain.specs.Ledgers.{Ledger, Look}
@@ -17,7 +18,6 @@ use Rattle.lk_guard.proofs.Balances.{right_reply}
 use Rattle.lk_guard.specs.Deeds.{Deed, wrote, saw, AreDeeds, after_deed, after_deeds, records_of, reads_in, writes_in}
 use Rattle.lk_guard.specs.Guards.{Guard, IsBare, IsToWrite, guard_in}
 use Rattle.lk_guard.specs.Reads.{Answers}
-use Rattle.lk_job_forms.specs.Outcome.{IsReadAt, label_of, tag_of, reads_from, writes_from}
 use Rattle.lk_workers.specs.UnderLock.{Shows, others, sights}
 use Rattle.lk_workers.proofs.Places.{entry_at}
 

@@ -3,8 +3,8 @@ use Rattle.std.proofs.Common.{◌≡◌, ◌≢◌, ◌+◌, ◌<◌, ◌==◌, 
 use Rattle.std.proofs.lemmas.List.{append-nil, map-append}
 use Rattle.lk_abs.specs.declared.ledger.Job.{Job}
 use Rattle.lk_abs.specs.declared.ledger.Seen.{Seen}
+use Rattle.lk_abs.specs.Outcome.{asked_from, reads_from, tag_of}
 use Rattle.lk_domain.specs.Ends.{In}
-use Rattle.lk_job_forms.specs.Outcome.{asked_from, reads_from, tag_of}
 use Rattle.lk_workers.specs.UnderLock.{records_by}
 use Rattle.lk_workers.specs.Workers.{all_records, records_in}
 use Rattle.lk_workers.specs.declared.worker.Worker.{Worker}

@@ -4,8 +4,8 @@ use Rattle.std.specs.List.{sum_by}
 use Rattle.std.proofs.lemmas.List.Sums.{sum_by-cons}
 use Rattle.lk_abs.specs.Journal.{is_write}
 use Rattle.lk_abs.specs.declared.ledger.Job.{Job}
+use Rattle.lk_abs.specs.Workload.{job_count}
 use Rattle.lk_guard.specs.Deeds.{reads_in, writes_in}
-use Rattle.lk_job_forms.specs.Workload.{job_count}
 
 -- a job either writes or reads
 pub each_counts : (jobs : List Job) → writes_in jobs + reads_in jobs ≡ length jobs

@@ -9,6 +9,8 @@ use Rattle.lk_abs.specs.declared.ledger.Entry.{Entry}
 use Rattle.lk_abs.specs.declared.ledger.Job.{Job}
 use Rattle.lk_abs.specs.declared.ledger.Seen.{Seen}
 use Rattle.lk_abs.specs.declared.names.Kind.TheVariants.{Spin}
+use Rattle.lk_abs.specs.Workload.{Workload, jobs_of, workers_of}
+use Rattle.lk_abs.specs.Outcome.{IsFresh, IsMerge, IsOutcome, IsReadAt, label_of, writes_from}
 use Rattle.lk_domain.specs.Ends.{In, IsFinal, past_at}
 use Rattle.lk_domain.specs.Keeps.{AreEnded, IsPast}
 use Rattle.lk_domain.specs.Ledgers.{Ledger, with_share}
@@ -19,8 +21,6 @@ use Rattle.lk_domain.specs.declared.domain.Domain.{Domain}
 use Rattle.lk_domain.specs.declared.plan.Plan.{Plan}
 use Rattle.lk_guard.specs.Deeds.{Deed, AreDeeds, records_of, reads_in, writes_in}
 use Rattle.lk_guard.specs.Guards.{Guard, guard_in}
-use Rattle.lk_job_forms.specs.Outcome.{IsFresh, IsMerge, IsOutcome, IsReadAt, label_of, writes_from}
-use Rattle.lk_job_forms.specs.Workload.{Workload, jobs_of, workers_of}
 use Rattle.lk_workers.specs.Plans.{IsPlanOf}
 use Rattle.lk_workers.specs.UnderLock.{AreLooksOf, UnderLock, guard_for, looks_of, records_by}
 use Rattle.lk_workers.specs.Workers.{AreThrough, IsThrough, all_records, cpu_of, records_in}
@@ -60,7 +60,7 @@ told d jobs js i w through past =
 -- the guard of the plan is that of the workload
 guard_is : (work : Workload) (plan : Plan) → IsPlanOf work plan → guard_in plan ≡ guard_for work
 guard_is work plan of = λ i. record {
-  terms = record { mode = of.mode i; threshold = of.threshold i; sockets = of.sockets i };
+  terms = record { format = of.format i; mode = of.mode i; threshold = of.threshold i; sockets = of.sockets i };
   kind = get_or (of.locks i) 0 Spin;
   opening = of.balances i;
 }

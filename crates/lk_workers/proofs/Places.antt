@@ -4,9 +4,9 @@ use Rattle.std.specs.Prelude.{slice_get}
 use Rattle.std.specs.List.{All, flat_map}
 use Rattle.std.proofs.lemmas.Option.{none-some, same_Some}
 use Rattle.lk_abs.specs.declared.ledger.Entry.{Entry}
+use Rattle.lk_abs.specs.Outcome.{entries_of}
 use Rattle.lk_domain.specs.Ends.{In}
 use Rattle.lk_domain.specs.Places.{places_from}
-use Rattle.lk_job_forms.specs.Outcome.{entries_of}
 
 -- the entry of a place
 abbrev pub entry_at : ℕ × Entry → Entry

@@ -11,6 +11,8 @@ use Rattle.lk_abs.specs.declared.ledger.Job.{Job}
 use Rattle.lk_abs.specs.declared.ledger.Seen.{Seen}
 use Rattle.lk_abs.specs.declared.names.Mode.{Mode}
 use Rattle.lk_abs.specs.declared.names.Mode.TheVariants.{Virt, Native, Cna, Pv}
+use Rattle.lk_abs.specs.Workload.{IsLawful, Workload, jobs_of, workers_of, workload_of}
+use Rattle.lk_abs.specs.declared.job_file.JobFile.{JobFile}
 use Rattle.lk_domain.specs.Calls.{Calls}
 use Rattle.lk_domain.specs.Ends.{AllRest, Rests}
 use Rattle.lk_domain.specs.Ledgers.{Ledger, with_share}
@@ -23,8 +25,6 @@ use Rattle.lk_domain.specs.declared.plan.Plan.{Plan}
 use Rattle.lk_guard.specs.Deeds.{Worked, writes_in}
 use Rattle.lk_guard.specs.Guards.{guard_in}
 use Rattle.lk_guard.specs.Idle.{IsIdle}
-use Rattle.lk_job_forms.specs.Workload.{IsLawful, Workload, jobs_of, workers_of, workload_of}
-use Rattle.lk_job_forms.specs.declared.file.JobFile.{JobFile}
 use Rattle.lk_law.specs.Agree.{halts}
 use Rattle.lk_workers.specs.Plans.{IsPlanOf}
 use Rattle.lk_workers.specs.Workers.{AreReady, AreThrough, IsReady, IsThrough, cpu_of, no_records, reads_of}
@@ -55,6 +55,7 @@ lawful_plan work plan lawful of =
 -- the same plan in other room is one of the workload too
 pub same_plan : (work : Workload) (k j : Plan) → IsSamePlan k j → IsPlanOf work j → IsPlanOf work k
 same_plan work k j same of = record {
+  format = same.format ∙ of.format;
   mode = same.mode ∙ of.mode;
   locks = same.locks ∙ of.locks;
   sockets = same.sockets ∙ of.sockets;
@@ -103,6 +104,7 @@ is_through d jobs all i old new these ready same idle worked = record {
       table = same.table ∙ ready.rests.domain_is.table;
       plan = ap (λ (w : Who). w.plan) same.who ∙ ready.rests.domain_is.plan;
       low = subst (λ (n : ℕ). n < cpus_of d.plan) (sym same.number) ready.rests.domain_is.low;
+      awake = ready.rests.domain_is.awake;
     };
     number = same.number ∙ ready.rests.number;
     who = same.who ∙ ready.rests.who;

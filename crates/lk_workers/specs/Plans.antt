@@ -1,13 +1,14 @@
 -- The domain that a job file asks for.
 use Rattle.std.specs.Prelude.{◌≡◌, [], ◌∷◌, map}
+use Rattle.lk_abs.specs.Workload.{IsLawful, Workload}
 use Rattle.lk_domain.specs.declared.domain.Domain.{Domain}
 use Rattle.lk_domain.specs.declared.plan.Plan.{Plan}
 use Rattle.lk_guard.specs.Deeds.{writes_in}
-use Rattle.lk_job_forms.specs.Workload.{IsLawful, Workload}
 
 -- The plan has the lock and the accounts of the workload, and a processor for each worker, which may
 -- write as many entries as the worker has jobs that write.
 pub record IsPlanOf (work : Workload) (plan : Plan) : Type 0 where
+  pub format : plan.format ≡ work.format
   pub mode : plan.mode ≡ work.mode
   pub locks : plan.locks.items ≡ work.guard ∷ []
   pub sockets : plan.topology.sockets.items ≡ work.sockets

@@ -4,6 +4,7 @@ use Rattle.std.specs.Prelude.{is_none, is_some, slice_index_or}
 use Rattle.std.specs.List.{AllZip}
 use Rattle.lk_abs.specs.declared.ledger.Job.{Job}
 use Rattle.lk_abs.specs.declared.ledger.Seen.{Seen}
+use Rattle.lk_abs.specs.Workload.{Workload, workers_of, jobs_of}
 use Rattle.lk_domain.specs.Calls.{Terms}
 use Rattle.lk_domain.specs.Ledgers.{Look}
 use Rattle.lk_domain.specs.Seats.{ledger_of}
@@ -12,13 +13,17 @@ use Rattle.lk_domain.specs.declared.ending.Closed.{Closed}
 use Rattle.lk_guard.specs.Deeds.{writes_in}
 use Rattle.lk_guard.specs.Guards.{Guard, IsToRead, IsToWrite}
 use Rattle.lk_guard.specs.Reads.{Answers}
-use Rattle.lk_job_forms.specs.Workload.{Workload, workers_of, jobs_of}
 
 -- what rows read of a workload, and how its ledger is guarded
 
 abbrev pub terms_for : Workload → Terms
 terms_for work =
-    record { mode = work.mode; threshold = work.threshold; sockets = work.sockets }
+    record {
+      format = work.format;
+      mode = work.mode;
+      threshold = work.threshold;
+      sockets = work.sockets;
+    }
 
 abbrev pub guard_for : Workload → Guard
 guard_for work =

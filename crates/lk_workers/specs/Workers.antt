@@ -4,6 +4,7 @@ use Rattle.std.specs.List.{flat_map}
 use Rattle.lk_abs.specs.ListOf.{ListOf}
 use Rattle.lk_abs.specs.declared.ledger.Job.{Job}
 use Rattle.lk_abs.specs.declared.ledger.Seen.{Seen}
+use Rattle.lk_abs.specs.Workload.{Workload, jobs_of}
 use Rattle.lk_domain.specs.Ends.{Rests}
 use Rattle.lk_domain.specs.Ledgers.{with_share}
 use Rattle.lk_domain.specs.Seats.{ledger_of}
@@ -11,7 +12,6 @@ use Rattle.lk_domain.specs.declared.cpu.Cpu.{Cpu}
 use Rattle.lk_domain.specs.declared.domain.Domain.{Domain}
 use Rattle.lk_guard.specs.Deeds.{Worked, reads_in, writes_in}
 use Rattle.lk_guard.specs.Guards.{guard_in}
-use Rattle.lk_job_forms.specs.Workload.{Workload, jobs_of}
 use Rattle.lk_workers.specs.declared.worker.Worker.{Worker}
 
 -- parts of a worker

@@ -1,16 +1,15 @@
 // The domain of a file, and its workers.
 ghost use Rattle.std.specs.Prelude.{◌≡◌, IfOk, length, map};
+ghost use Rattle.lk_abs.specs.Workload.{IsLawful, workers_of, workload_of};
 ghost use Rattle.lk_domain.specs.Plans.{IsLawfulPlan};
-ghost use Rattle.lk_job_forms.specs.Workload.{IsLawful, workers_of, workload_of};
 ghost use Rattle.lk_workers.specs.Plans.{IsFor, IsPlanOf};
 ghost use Rattle.lk_workers.specs.Workers.{AreReady, cpu_of, no_records, reads_of};
 
 use crate::counts::{count_reads, entry_counts};
 use crate::worker::Worker;
-use lk_abs::{List, Memory, Topology};
+use lk_abs::{JobFile, List, Memory, Topology};
 use lk_domain::{Cpu, Domain, Plan};
 use lk_guard::Region;
-use lk_job_forms::JobFile;
 use std::alloc::Global;
 
 // The plan of a domain for the file.
@@ -26,6 +25,7 @@ fn plan_of(alloc: Global, file: &JobFile) -> Result<Plan, Memory>
     let balances = List::from_slice(alloc, file.balances.as_slice())?;
     let shares = entry_counts(alloc, file)?;
     Ok(Plan {
+        format: file.format,
         mode: file.mode,
         topology,
         threshold: file.threshold,

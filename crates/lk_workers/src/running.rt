@@ -1,17 +1,16 @@
 // The jobs of a file are run, and the domain is closed.
 ghost use Rattle.std.specs.Prelude.{◌≡◌, ◌+◌, ◌++◌, ◌≤◌, [], IfOk, length, map};
-ghost use Rattle.lk_job_forms.specs.Outcome.{IsOutcome};
-ghost use Rattle.lk_job_forms.specs.Workload.{IsLawful, workload_of};
+ghost use Rattle.lk_abs.specs.Outcome.{IsOutcome};
+ghost use Rattle.lk_abs.specs.Workload.{IsLawful, workload_of};
 ghost use Rattle.lk_workers.specs.UnderLock.{UnderLock, looks_in};
 ghost use Rattle.lk_workers.specs.Workers.{all_records, cpu_of};
 
 use crate::counts::record_count;
 use crate::making::make;
 use crate::worker::{Worker, run_all};
-use lk_abs::{List, Memory, Seen};
+use lk_abs::{JobFile, List, Memory, Seen};
 use lk_domain::{Closed, Cpu, close};
 use lk_guard::Gate;
-use lk_job_forms::JobFile;
 use std::alloc::Global;
 use std::sync::Wait;
 use std::thread::Threads;

@@ -1,13 +1,12 @@
 // A worker, and all workers at once.
 ghost use Rattle.std.specs.Prelude.{◌≡◌, ◌<◌, length};
-ghost use Rattle.lk_job_forms.specs.Workload.{jobs_of, workers_of, workload_of};
+ghost use Rattle.lk_abs.specs.Workload.{jobs_of, workers_of, workload_of};
 ghost use Rattle.lk_workers.specs.Plans.{IsFor};
 ghost use Rattle.lk_workers.specs.Workers.{AreReady, AreThrough, IsReady, IsThrough};
 
-use lk_abs::{List, Seen};
+use lk_abs::{JobFile, List, Seen};
 use lk_domain::Cpu;
 use lk_guard::{Gate, Region};
-use lk_job_forms::JobFile;
 use std::sync::Wait;
 use std::thread;
 use std::thread::Threads;

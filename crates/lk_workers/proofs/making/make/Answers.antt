@@ -1,6 +1,6 @@
 use Rattle.std.proofs.Common.{sym, subst}
+use Rattle.lk_abs.specs.Workload.{workload_of}
 use Rattle.lk_domain.specs.declared.domain.Domain.{Domain}
-use Rattle.lk_job_forms.specs.Workload.{workload_of}
 use Rattle.lk_workers.specs.Plans.{IsFor}
 use Rattle.lk_workers.specs.Workers.{AreReady}
 use Rattle.lk_workers.proofs.Starts.{all_ready, same_plan}

@@ -1,10 +1,10 @@
 use Rattle.std.proofs.Common.{ℕ, [], map, ap, sym, subst, ◌∙◌}
 use Rattle.lk_abs.specs.ListOf.{ListOf}
 use Rattle.lk_abs.specs.declared.ledger.Seen.{Seen}
+use Rattle.lk_abs.specs.Workload.{workload_of}
 use Rattle.lk_domain.specs.Ends.{AllRest}
 use Rattle.lk_domain.specs.declared.cpu.Cpu.{Cpu}
 use Rattle.lk_domain.specs.declared.domain.Domain.{Domain}
-use Rattle.lk_job_forms.specs.Workload.{workload_of}
 use Rattle.lk_workers.specs.UnderLock.{UnderLock, looks_of}
 use Rattle.lk_workers.proofs.Outcomes.{all_outcome, through_count}
 use Rattle.lk_workers.proofs.Starts.{all_rest}

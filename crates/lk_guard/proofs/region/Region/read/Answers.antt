@@ -34,5 +34,6 @@ returns-clause-read g c =
     let reply = c.look-seen.result.1 in
     let begun = c.hold_to_read.ensures.begun in
     let done = has_read h b.number v c.args.job reply (ledger_of a) (ledger_of b) (ledger_of c.look-seen.new.cpu)
-    begun.trail begun.ledger c.look-seen.ensures.looked (ledger_of c.end_read.new.cpu) c.end_read.ensures.ledger begun.taken in
-    subst (λ p. HasRead h p v c.args.job reply (ledger_of a) (ledger_of c.end_read.new.cpu)) c.hold_to_read.ensures.same.number done
+    begun.trail begun.ledger c.look-seen.ensures.looked (ledger_of c.end_read.new.cpu) c.end_read.ensures.ledger begun.taken begun.polled in
+    subst (λ p. HasRead h p v c.args.job reply (ledger_of a) (ledger_of c.end_read.new.cpu) (g.I.Irq.polls c.args.irq.now)
+    (g.I.Irq.polls c.hold_to_read.new.irq)) c.hold_to_read.ensures.same.number done

@@ -1,0 +1,76 @@
+-- A hold that a call took begins a look.
+use Rattle.std.proofs.Common.{◌≡◌, ℕ, [], ◌∷◌, ◌++◌, length, Option, refl, sym, ap, ◌∙◌, subst}
+use Rattle.lk_abs.specs.declared.holder.Manner.{Manner}
+use Rattle.lk_abs.specs.declared.holder.Manner.TheVariants.{Spins}
+use Rattle.lk_machine.specs.declared.setup.Verb.{Verb}
+use Rattle.lk_machine.specs.declared.setup.Verb.TheVariants.{Lock}
+use Rattle.lk_domain.specs.Calls.{terms_of, begun, hold, lock_name}
+use Rattle.lk_domain.specs.Ledgers.{Ledger, opened}
+use Rattle.lk_domain.specs.Paths.{HasTaken, HasLooked}
+use Rattle.lk_domain.specs.Seats.{calls_of, ledger_of}
+use Rattle.lk_domain.specs.declared.cpu.Cpu.{Cpu}
+use Rattle.lk_domain.specs.declared.domain.Domain.{Domain}
+use Rattle.lk_run.specs.Entering.{PathTo}
+use Rattle.lk_run.specs.Phases.{CameIn, starting}
+use Rattle.lk_run.specs.Polls.{HasStayed, IsPolled}
+use Rattle.lk_run.proofs.Polls.{stays_more}
+use Rattle.lk_guard.specs.Guards.{guard_in}
+use Rattle.lk_guard.specs.Holding.{HasBegun}
+use Rattle.lk_guard.specs.Idle.{IsIdle}
+
+module _ (d : Domain) (a b : Cpu) (before after : Option ℕ) (idle : IsIdle a) where
+  -- of a spinlock
+  pub lock_begins : HasTaken (terms_of d.plan) b.number Lock 0 Spins (calls_of a) (calls_of b)
+      → HasLooked 0 Spins (calls_of a) (calls_of b).last (ledger_of a) (ledger_of b)
+      → IsPolled (calls_of b).last before after
+      → HasBegun (guard_in d.plan) Lock Spins a b before after
+  lock_begins taken look polled =
+      let path = taken.path in
+      let trail = (calls_of b).last in
+      record {
+        trail = trail;
+        holding = record {
+          nth = (calls_of b).taken;
+          frames = taken.frames ∙ idle.frames;
+          holds = taken.holds ∙ (λ i. hold (length (idle.frames i)) (lock_name 0) Spins (calls_of b).taken ∷ idle.holds i);
+        };
+        taken = record {
+          manner = refl;
+          path = subst (λ (k : ℕ). PathTo (terms_of d.plan) b.number (begun d.plan.mode k Lock 0) trail Spins) (ap length idle.frames) (record {
+            before = path.before;
+            frame = path.frame;
+            row = path.row;
+            met = path.met;
+            runs = path.runs;
+            walk = path.walk;
+            place = path.place;
+            is = path.is;
+            grips = path.grips;
+          });
+        };
+        ledger = look.now ∙ ap (λ (g : Ledger). opened g Spins trail) (look.passes.still refl);
+        polled = polled;
+      }
+
+  -- of a reader-writer lock: its trail is the rows up to the one that took it
+  pub entry_begins : (v : Verb) (m : Manner) → CameIn d v 0 m (starting a before) b after
+      → HasBegun (guard_in d.plan) v m a b before after
+  entry_begins v m came =
+      let entered = came.entered in
+      record {
+        trail = came.upto;
+        holding = record {
+          nth = (calls_of b).taken;
+          frames = entered.frames ∙ idle.frames;
+          holds = entered.holds ∙ (λ i. hold (length (idle.frames i)) (lock_name 0) m (calls_of b).taken ∷ idle.holds i);
+        };
+        taken = record {
+          manner = refl;
+          path = subst (λ (k : ℕ). PathTo (terms_of d.plan) b.number (begun d.plan.mode k v 0) came.upto m) (ap length idle.frames) entered.takes;
+        };
+        ledger = came.look.now ∙ ap (λ (g : Ledger). opened g m came.upto) (came.look.passes.still refl);
+        polled = record {
+          falls = came.polled.falls;
+          rises = λ k h. came.polled.rises k (subst (HasStayed k) (sym entered.last) (stays_more k came.upto entered.behind h));
+        };
+      }

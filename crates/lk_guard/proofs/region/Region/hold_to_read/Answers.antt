@@ -1,0 +1,28 @@
+use Rattle.std.proofs.Common.{sym, ◌∙◌, subst}
+use Rattle.lk_abs.specs.declared.holder.Manner.TheVariants.{Reads}
+use Rattle.lk_abs.specs.declared.names.Kind.{Kind}
+use Rattle.lk_machine.specs.declared.setup.Verb.TheVariants.{Read}
+use Rattle.lk_guard.specs.Guards.{guard_in, reads_as, reads_by}
+use Rattle.lk_guard.specs.Holding.{HasBegun}
+use Rattle.lk_guard.proofs.Begins.{lock_begins, entry_begins}
+use Rattle.lk_guard.proofs.region.Region.hold_to_read.Goals as goal
+
+pub returns-in-Spin-clause-begun : goal.returns-in-Spin-clause-begun
+returns-in-Spin-clause-begun g c =
+    let d = c.args.self.now.domain in
+    let a = c.args.cpu.now in
+    let b = c.lock.new.cpu in
+    let before = g.I.Irq.polls c.args.irq.now in
+    let after = g.I.Irq.polls c.lock.new.irq in
+    subst (λ (q : Kind). HasBegun (guard_in d.plan) (reads_by q) (reads_as q) a b before after) (sym (c.args.self.now.kind ∙ c.in-Spin.is))
+    (lock_begins d a b before after c.requires.idle c.lock.ensures.taken c.lock.ensures.look c.lock.ensures.polls)
+
+pub returns-in-Rw-clause-begun : goal.returns-in-Rw-clause-begun
+returns-in-Rw-clause-begun g c =
+    let d = c.args.self.now.domain in
+    let a = c.args.cpu.now in
+    let b = c.read_lock.new.cpu in
+    let before = g.I.Irq.polls c.args.irq.now in
+    let after = g.I.Irq.polls c.read_lock.new.irq in
+    subst (λ (q : Kind). HasBegun (guard_in d.plan) (reads_by q) (reads_as q) a b before after) (sym (c.args.self.now.kind ∙ c.in-Rw.is))
+    (entry_begins d a b before after c.requires.idle Read Reads c.read_lock.ensures.entered)
