@@ -3,12 +3,13 @@ use Rattle.std.proofs.Common.{◌≡◌, ◌≤◌, ◌<◌, ◌+◌, ◌==◌, 
 use Rattle.std.proofs.lemmas.Bool.Decides.{nat_tests}
 use Rattle.lk_abs.specs.declared.names.Kind.{Kind}
 use Rattle.lk_abs.specs.declared.names.Mode.{Mode}
+use Rattle.lk_abs.specs.declared.limits.TheConstants.{MAX_SOCKET, MAX_TURNS}
 use Rattle.lk_machine.specs.declared.setup.Op.{Op}
 use Rattle.lk_machine.specs.declared.setup.Setup.{Setup}
-use Rattle.lk_forms.specs.declared.limits.TheConstants.{MAX_CPUS, MAX_HANDLERS, MAX_LOCKS, MAX_SOCKET, MAX_TURNS}
-use Rattle.lk_forms.specs.Words.{number_of}
+use Rattle.lk_text.specs.Numbers.{number_of}
+use Rattle.lk_forms.specs.declared.limits.TheConstants.{MAX_HANDLERS, MAX_LOCKS}
 use Rattle.lk_forms.specs.Operations.{and_then, or_fault, ops_of}
-use Rattle.lk_forms.specs.Grammar.{one_word, two_words, no_words, in_range, number_in, numbers_from, cpus_of, cpu_word, with_cpus, with_sockets, with_lock, with_program, with_handler, has_program, given_handlers, mode_word, kind_word, next_lock, mode_line, cpus_line, sockets_line, threshold_line, spins_line, lock_line, program_line, handler_line, irq_line, header_line}
+use Rattle.lk_forms.specs.Grammar.{one_word, two_words, no_words, in_range, number_in, numbers_from, cpus_of, cpu_word, with_cpus, with_sockets, with_lock, with_program, with_handler, has_program, given_handlers, mode_word, kind_word, next_lock, mode_line, most_cpus, cpus_line, sockets_line, threshold_line, spins_line, lock_line, program_line, handler_line, irq_line, header_line}
 use Rattle.lk_forms.specs.declared.answers.Fault.TheVariants.{WordCount, BadNumber, OutOfRange, Repeated}
 use Rattle.lk_forms.specs.declared.answers.Which.TheVariants.{Handlers}
 use Rattle.lk_forms.specs.declared.answers.LineRefusal.{LineRefusal}
@@ -19,7 +20,7 @@ use Rattle.lk_forms.specs.declared.keyword.Keyword.TheVariants as keyword
 -- what one line may make of a setup
 pub data Changes (s : Setup) : Setup → Type 0 where
   to_mode : (m : Mode) → Changes s (record s { mode = m })
-  to_cpus : (n : ℕ) → 1 ≤ n → n ≤ MAX_CPUS → Changes s (with_cpus s n)
+  to_cpus : (n : ℕ) → 1 ≤ n → n ≤ most_cpus s.format → Changes s (with_cpus s n)
   to_sockets : (ns : List ℕ) → length ns ≡ cpus_of s → Changes s (with_sockets s ns)
   to_threshold : (t : ℕ) → t ≤ MAX_TURNS → Changes s (record s { threshold = t })
   to_spins : (n : ℕ) → 1 ≤ n → n ≤ MAX_TURNS → Changes s (record s { spins = n })
@@ -76,9 +77,9 @@ mode_line-ok s args s' is =
 
 cpus_line-ok : (s : Setup) (args : List (List ℕ)) (s' : Setup) → cpus_line s args ≡ Ok s' → Changes s s'
 cpus_line-ok s args s' is =
-    let word = and_then-ok (one_word args) (λ word. and_then (number_in 1 MAX_CPUS word) (λ n. Ok (with_cpus s n))) s' is in
-    let n = and_then-ok (number_in 1 MAX_CPUS word.0) (λ n. Ok (with_cpus s n)) s' word.2 in
-    let within = number_in-ok 1 MAX_CPUS word.0 n.0 n.1 in
+    let word = and_then-ok (one_word args) (λ word. and_then (number_in 1 (most_cpus s.format) word) (λ n. Ok (with_cpus s n))) s' is in
+    let n = and_then-ok (number_in 1 (most_cpus s.format) word.0) (λ n. Ok (with_cpus s n)) s' word.2 in
+    let within = number_in-ok 1 (most_cpus s.format) word.0 n.0 n.1 in
     changed s _ s' (to_cpus n.0 within.0 within.1) n.2
 
 sockets_line-ok : (s : Setup) (args : List (List ℕ)) (s' : Setup) → sockets_line s args ≡ Ok s' → Changes s s'

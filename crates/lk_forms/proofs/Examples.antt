@@ -92,6 +92,18 @@ sixty_fifth_processor : verdict (trace (codes "qtrace 1\nmode virt\ncpus 65\n"))
 unfolding verdict
 sixty_fifth_processor = refl
 
+sixty_fifth_of_format_two : verdict (trace (codes "qtrace 2\nmode virt\ncpus 65\nlock 0 spin\nprog 64 lock 0 unlock 0\ngo\nstep 64 2\nend\n")) ≡ (2, None)
+unfolding verdict
+sixty_fifth_of_format_two = refl
+
+over_a_thousand : verdict (trace (codes "qtrace 2\nmode virt\ncpus 1025\n")) ≡ (3, Some (Bad fault.OutOfRange))
+unfolding verdict
+over_a_thousand = refl
+
+format_spelled : verdict (trace (codes "qtrace 02\n")) ≡ (1, Some (Bad fault.NoFormat))
+unfolding verdict
+format_spelled = refl
+
 sixty_fifth_socket : verdict (trace (codes "qtrace 1\nmode virt\ncpus 1\nsockets 64\n")) ≡ (4, Some (Bad fault.OutOfRange))
 unfolding verdict
 sixty_fifth_socket = refl

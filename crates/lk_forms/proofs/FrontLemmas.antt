@@ -8,10 +8,10 @@ use Rattle.std.specs.Char.{is_ascii_digit}
 use Rattle.std.specs.List.{list_all}
 use Rattle.std.specs.Str.{all_ascii_digits}
 use Rattle.std.specs.Str.Parse.{digits_value}
+use Rattle.lk_text.proofs.NumberLemmas.{and_split, value_of_digit, number_of-digits}
 use Rattle.lk_forms.specs.Words.{is_blank, is_text, is_filled, words}
 use Rattle.lk_forms.specs.Fronts.{HasDigits, HasNumber}
 use Rattle.lk_forms.proofs.WordLemmas.{is_solid, ends_word, words-blank, text-blank, words-word, text-word}
-use Rattle.lk_forms.proofs.NumberLemmas.{and_split, value_of_digit, number_of-digits}
 
 -- digits
 

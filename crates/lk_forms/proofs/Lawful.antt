@@ -5,21 +5,25 @@ use Rattle.std.proofs.lemmas.Bool.{cases_lt}
 use Rattle.std.proofs.lemmas.Bool.Decides.{nat_tests}
 use Rattle.std.proofs.lemmas.Option.{slice_get_within, get_or_from_slice_get, slice_get-get_or}
 use Rattle.std.proofs.lemmas.List.{get_or_append_left, get_or_past, length-append}
+use Rattle.std.proofs.Math.ListN.{length-replicate}
 use Rattle.std.proofs.lemmas.List.Elements.{All-replicate, All-set, All-get_or, All-push, All-weaker, All-nil}
 use Rattle.lk_abs.specs.ListOf.{ListOf}
+use Rattle.lk_abs.specs.declared.names.Format.{Format}
+use Rattle.lk_abs.specs.declared.names.Format.TheVariants.{One, Two}
 use Rattle.lk_abs.specs.declared.names.Kind.{Kind}
+use Rattle.lk_abs.specs.declared.limits.TheConstants.{MAX_TURNS}
 use Rattle.lk_machine.specs.Programs.{program_at, handlers_of, IsLawfulProgram, IsLawfulSetup}
 use Rattle.lk_machine.specs.declared.setup.Op.{Op}
 use Rattle.lk_machine.specs.declared.setup.Setup.{Setup}
-use Rattle.lk_forms.specs.declared.limits.TheConstants.{MAX_HANDLERS, MAX_OPS, MAX_TURNS}
-use Rattle.lk_forms.specs.Grammar.{Reading, has_go, reading_of, list_of, default_setup, given_handlers, with_more}
+use Rattle.lk_forms.specs.declared.limits.TheConstants.{MAX_CPUS, MAX_HANDLERS, MAX_OPS}
+use Rattle.lk_forms.specs.Grammar.{Reading, has_go, reading_of, list_of, default_setup, given_handlers, with_more, cpus_of, most_cpus}
 use Rattle.lk_forms.specs.Agrees.{IsRoomy}
 use Rattle.lk_forms.specs.Keywords.{rank_of, fault_of_place, fault_of_ranks}
 use Rattle.lk_forms.specs.declared.keyword.Keyword.{Keyword}
 use Rattle.lk_forms.specs.declared.keyword.Keyword.TheVariants as keyword
 use Rattle.lk_forms.specs.declared.answers.Sched.TheVariants.{Blank, Run, End}
 use Rattle.lk_forms.proofs.Changes.{Changes, to_mode, to_cpus, to_sockets, to_threshold, to_spins, one_lock, one_program, one_handler, nothing}
-use Rattle.lk_forms.proofs.Roomy.{roomy-changed}
+use Rattle.lk_forms.proofs.Roomy.{roomy-changed, roomy-format}
 use Rattle.lk_forms.proofs.Readings.{Steps, skips, begins, sets, schedules, kept}
 use Rattle.lk_forms.proofs.LawfulPrograms.{lawful_program}
 
@@ -116,6 +120,10 @@ said-changed s _ (one_handler p words ops below few read) said =
     }
 said-changed s _ nothing said = said
 
+-- the format is no part of this
+said-format : (s : Setup) (format : Format) → IsSaid s → IsSaid (record s { format = format })
+said-format s format said = record { roomy = roomy-format s format said.roomy; threshold = said.threshold; spins = said.spins; progs = said.progs; irqs = said.irqs }
+
 -- all lines
 
 said-first : IsSaid default_setup
@@ -129,7 +137,7 @@ said-first = record {
 
 said-step : (r r' : Reading) → Steps r r' → IsSaid r.setup → IsSaid r'.setup
 said-step r _ skips said = said
-said-step r _ (begins first) said = said
+said-step r _ (begins format first) said = said-format r.setup format said
 said-step r _ (sets last k s behind fine header changes) said = said-changed r.setup s changes said
 said-step r _ (schedules last k args Blank behind fine schedule says) said = said
 said-step r _ (schedules last k args (Run what times) behind fine schedule says) said = said
@@ -188,6 +196,38 @@ lawful_setup lines =
       lawful = λ p h. (program_good s said p h).0;
     }
 
+-- there are no more processors than the format has
+
+-- nor before it is said, when there is one
+abbrev IsLimited : Reading → Type 0
+IsLimited r = (r.rank ≡ None → cpus_of r.setup ≤ MAX_CPUS) × (cpus_of r.setup ≤ most_cpus r.setup.format)
+
+within_each : (format : Format) (n : ℕ) → n ≤ MAX_CPUS → n ≤ most_cpus format
+within_each One n few = few
+within_each Two n few = omega arith
+
+limited-changed : (s s' : Setup) → Changes s s' → cpus_of s ≤ most_cpus s.format → cpus_of s' ≤ most_cpus s'.format
+limited-changed s _ (to_mode m) few = few
+limited-changed s _ (to_cpus n some most) few = rw length-replicate most
+limited-changed s _ (to_sockets ns many) few = rw many few
+limited-changed s _ (to_threshold t within) few = few
+limited-changed s _ (to_spins n some within) few = few
+limited-changed s _ (one_lock k room) few = few
+limited-changed s _ (one_program p words ops below read) few = few
+limited-changed s _ (one_handler p words ops below room read) few = few
+limited-changed s _ nothing few = few
+
+limited-step : (r r' : Reading) → Steps r r' → IsLimited r → IsLimited r'
+limited-step r _ skips limited = limited
+limited-step r _ (begins format first) limited = (λ none. cc, within_each format (cpus_of r.setup) (limited.0 first))
+limited-step r _ (sets last k s behind fine header changes) limited = (λ none. cc, limited-changed r.setup s changes limited.1)
+limited-step r _ (schedules last k args Blank behind fine schedule says) limited = limited
+limited-step r _ (schedules last k args (Run what times) behind fine schedule says) limited = (λ none. cc, limited.1)
+limited-step r _ (schedules last k args End behind fine schedule says) limited = (λ none. cc, limited.1)
+
+pub limited_cpus : (lines : List (List ℕ)) → cpus_of (reading_of lines).setup ≤ most_cpus (reading_of lines).setup.format
+limited_cpus lines = (kept IsLimited limited-step lines (λ none. omega arith, omega arith)).1
+
 -- before `go` there are no acts
 
 -- lines come in the order of their ranks
@@ -210,7 +250,7 @@ in_order last _ fine = by_ranks last 10 fine
 
 no_acts-step : (r r' : Reading) → Steps r r' → (has_go r ≡ false → r.acts ≡ []) → has_go r' ≡ false → r'.acts ≡ []
 no_acts-step r _ skips none early = none early
-no_acts-step r _ (begins first) none early = none (rw first refl)
+no_acts-step r _ (begins format first) none early = none (rw first refl)
 no_acts-step r _ (sets last k s behind fine header changes) none early =
     let order = in_order last k fine in
     none (rw behind (grind (arith, nat_tests, early, order)))

@@ -6,8 +6,8 @@ use Rattle.std.proofs.lemmas.Bool.Decides.{nat_tests}
 use Rattle.std.proofs.lemmas.Option.{get_or_from_slice_get, slice_get_within}
 use Rattle.std.proofs.lemmas.List.{get_or_append_left, take-append-drop, take-append-le, take_more, length-take-le}
 use Rattle.std.proofs.Math.Nat.{eq-or-lt_of_le}
+use Rattle.lk_text.proofs.NumberLemmas.{and_split}
 use Rattle.lk_forms.specs.declared.limits.TheConstants.{MAX_OPS}
-use Rattle.lk_forms.proofs.NumberLemmas.{and_split}
 use Rattle.std.proofs.Math.Seq.{take-append_seam, get_or-append_seam, take-append-add}
 use Rattle.lk_abs.specs.declared.holder.Manner.{Manner}
 use Rattle.lk_abs.specs.declared.holder.Manner.TheVariants.{Spins, Reads, Writes}

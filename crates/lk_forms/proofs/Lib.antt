@@ -1,6 +1,5 @@
 mod Examples
 pub mod WordLemmas
-pub mod NumberLemmas
 pub mod FrontLemmas
 pub mod Decimals
 pub mod WalkLemmas

@@ -3,15 +3,17 @@ use Rattle.std.proofs.Common.{◌≡◌, ◌≢◌, ◌≤◌, ◌==◌, ◌&&�
 use Rattle.std.proofs.lemmas.Bool.{leb-false, le-leb}
 use Rattle.lk_abs.specs.declared.events.Act.{Act}
 use Rattle.lk_abs.specs.declared.events.Act.TheVariants as act
+use Rattle.lk_abs.specs.declared.names.Format.{Format}
 use Rattle.lk_machine.specs.declared.setup.Setup.{Setup}
+use Rattle.lk_text.specs.Numbers.{number_of}
 use Rattle.lk_forms.specs.declared.limits.TheConstants.{MAX_ACTS}
-use Rattle.lk_forms.specs.Words.{number_of, words, is_text, is_comment}
+use Rattle.lk_forms.specs.Words.{words, is_text, is_comment}
 use Rattle.lk_forms.specs.Keywords.{keyword_of, rank_of, is_misplaced, fault_of_ranks, fault_of_place}
 use Rattle.lk_forms.specs.Operations.{and_then, or_fault, unless}
-use Rattle.lk_forms.specs.Grammar.{Reading, is_format, read, read_words, read_ranked, read_known, read_placed, read_header, one_word, two_words, in_range, number_in, cpu_word, run_of, step_line, act_line, schedule_args, header_line, last_rank, has_go}
+use Rattle.lk_forms.specs.Grammar.{Reading, format_said, read_format, read, read_words, read_ranked, read_known, read_placed, read_header, one_word, two_words, in_range, number_in, cpu_word, run_of, step_line, act_line, schedule_args, header_line, last_rank, has_go}
 use Rattle.lk_forms.specs.Schedule.{rank_behind, schedule_of, schedule_words, schedule_known}
 use Rattle.lk_forms.specs.declared.answers.Fault.{Fault}
-use Rattle.lk_forms.specs.declared.answers.Fault.TheVariants.{NoFormat, NotText, BadNumber, OutOfRange, Misplaced, Repeated}
+use Rattle.lk_forms.specs.declared.answers.Fault.TheVariants.{NotText, BadNumber, OutOfRange, Misplaced, Repeated}
 use Rattle.lk_forms.specs.declared.answers.Which.TheVariants.{Acts}
 use Rattle.lk_forms.specs.declared.answers.LineRefusal.{LineRefusal}
 use Rattle.lk_forms.specs.declared.answers.LineRefusal.TheVariants.{Bad, Limit, Memory}
@@ -69,11 +71,11 @@ module _ (r : Reading) (early : has_go r ≡ false) where
   known_heads last k args below = unless_heads (fault_of_place last k) (read_placed r k args) (header_heads k args (omega arith))
 
   ranked_heads : (rank : Option ℕ) (first : List ℕ) (args : List (List ℕ)) → nat_lt (unwrap_or rank 0) 9 ≡ true → Makes (Heads r) (read_ranked r rank first args)
-  ranked_heads None first args below = by_format (is_format first args)
+  ranked_heads None first args below = by_format (format_said first args)
     where
-      by_format : (b : Bool) → Makes (Heads r) (if b then Ok (record r { rank = Some 0 }) else Err (Bad NoFormat))
-      by_format true = (refl, omega arith)
-      by_format false = tt
+      by_format : (said : Option Format) → Makes (Heads r) (read_format r said)
+      by_format None = tt
+      by_format (Some format) = (refl, omega arith)
   ranked_heads (Some last) first args below = by_keyword (keyword_of first)
     where
       by_keyword : (k : Option Keyword) → Makes (Heads r) (read_known r last k args)

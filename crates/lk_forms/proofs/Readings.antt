@@ -1,13 +1,14 @@
 -- What an accepted line makes of what is read.
 use Rattle.std.proofs.Common.{◌≡◌, ℕ, Bool, true, false, List, [], ◌∷◌, Option, None, Some, Result, Ok, Err, length, fold, refl, subst, nat_le, if◌then◌else◌}
 use Rattle.std.specs.Result.{result_unwrap_or}
+use Rattle.lk_abs.specs.declared.names.Format.{Format}
 use Rattle.lk_machine.specs.declared.setup.Setup.{Setup}
 use Rattle.lk_forms.specs.Words.{words, is_text, is_comment}
 use Rattle.lk_forms.specs.Keywords.{keyword_of, rank_of, fault_of_place}
 use Rattle.lk_forms.specs.Operations.{unless}
-use Rattle.lk_forms.specs.Grammar.{Reading, nothing_read, cpus_of, header_line, schedule_args, scheduled, read_header, read_schedule, read_placed, read_known, is_format, read_ranked, read_words, read, next_reading, reading_of}
+use Rattle.lk_forms.specs.Grammar.{Reading, nothing_read, cpus_of, header_line, schedule_args, scheduled, read_header, read_schedule, read_placed, read_known, format_said, read_format, read_ranked, read_words, read, next_reading, reading_of}
 use Rattle.lk_forms.specs.declared.answers.Fault.{Fault}
-use Rattle.lk_forms.specs.declared.answers.Fault.TheVariants.{NoFormat, NotText}
+use Rattle.lk_forms.specs.declared.answers.Fault.TheVariants.{NotText}
 use Rattle.lk_forms.specs.declared.answers.LineRefusal.{LineRefusal}
 use Rattle.lk_forms.specs.declared.answers.LineRefusal.TheVariants.{Bad}
 use Rattle.lk_forms.specs.declared.answers.Sched.{Sched}
@@ -17,7 +18,7 @@ use Rattle.lk_forms.proofs.Changes.{Changes, and_then-ok, if-ok, header_line-cha
 -- what one accepted line may make of what is read
 pub data Steps (r : Reading) : Reading → Type 0 where
   skips : Steps r r
-  begins : r.rank ≡ None → Steps r (record r { rank = Some 0 })
+  begins : (format : Format) → r.rank ≡ None → Steps r (record r { rank = Some 0; setup = record r.setup { format = format } })
   sets : (last : ℕ) (k : Keyword) (s : Setup) → r.rank ≡ Some last → fault_of_place last k ≡ None → nat_le (rank_of k) 9 ≡ true → Changes r.setup s
       → Steps r (record r { rank = Some (rank_of k); setup = s })
   schedules : (last : ℕ) (k : Keyword) (args : List (List ℕ)) (said : Sched) → r.rank ≡ Some last → fault_of_place last k ≡ None → nat_le (rank_of k) 9 ≡ false
@@ -46,7 +47,11 @@ known-steps r last (Some k) args r' behind is =
     placed-steps r last k args r' (nat_le (rank_of k) 9) refl behind fine.0 fine.1
 
 ranked-steps : (r : Reading) (rank : Option ℕ) (first : List ℕ) (args : List (List ℕ)) (r' : Reading) → r.rank ≡ rank → read_ranked r rank first args ≡ Ok r' → Steps r r'
-ranked-steps r None first args r' behind is = reached r _ r' (begins behind) (if-ok (is_format first args) (Ok (record r { rank = Some 0 })) (Bad NoFormat) r' is).1
+ranked-steps r None first args r' behind is = by_format (format_said first args) is
+  where
+    by_format : (said : Option Format) → read_format r said ≡ Ok r' → Steps r r'
+    by_format None other = cc
+    by_format (Some format) same = reached r _ r' (begins format behind) same
 ranked-steps r (Some last) first args r' behind is = known-steps r last (keyword_of first) args r' behind is
 
 words-steps : (r : Reading) (ws : List (List ℕ)) (r' : Reading) → read_words r ws ≡ Ok r' → Steps r r'

@@ -85,7 +85,7 @@ says-next r line (Err why) same = same
 -- ranks end with that of the line `end`
 rank-small : (r r' : Reading) → Steps r r' → last_rank r ≤ 11 → last_rank r' ≤ 11
 rank-small r _ skips few = few
-rank-small r _ (begins first) few = omega arith
+rank-small r _ (begins format first) few = omega arith
 rank-small r _ (sets last k s behind fine header changes) few = grind (arith, nat_tests, header)
 rank-small r _ (schedules last k args Blank behind fine schedule said) few = few
 rank-small r _ (schedules last k args (Run what times) behind fine schedule said) few = omega arith

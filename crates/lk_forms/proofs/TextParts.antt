@@ -12,7 +12,7 @@ use Rattle.lk_abs.specs.declared.events.How.{How}
 use Rattle.lk_abs.specs.declared.events.How.TheVariants as how
 use Rattle.lk_abs.specs.declared.events.RwHow.{RwHow}
 use Rattle.lk_abs.specs.declared.events.RwHow.TheVariants as rw_how
-use Rattle.lk_forms.proofs.NumberLemmas.{and_split}
+use Rattle.lk_text.proofs.NumberLemmas.{and_split}
 use Rattle.lk_forms.specs.Texts.{how_text, rw_text, wait_mark, lock_text, waiter_text, owing_text, moved_text}
 
 -- numbers, each with another byte behind it

@@ -5,7 +5,7 @@ use Rattle.std.specs.Char.{digit_value}
 use Rattle.std.proofs.lemmas.Bool.Decides.{nat_tests}
 use Rattle.std.specs.Prelude.{slice_index_or}
 use Rattle.std.specs.List.{flat_map, list_all}
-use Rattle.lk_forms.proofs.NumberLemmas.{and_split}
+use Rattle.lk_text.proofs.NumberLemmas.{and_split}
 use Rattle.std.specs.Str.Parse.{AllDigits}
 use Rattle.lk_abs.specs.declared.events.Event.{Event}
 use Rattle.lk_machine.specs.declared.parts.Counts.{Counts}

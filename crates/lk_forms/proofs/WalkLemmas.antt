@@ -2,7 +2,7 @@
 use Rattle.std.proofs.Common.{◌≡◌, ◌≢◌, ◌≤◌, ◌<◌, ◌+◌, ◌-◌, ℕ, zero, suc, true, false, List, [], ◌∷◌, ◌++◌, Option, None, Some, length, take, get_or, refl, ap, ◌∙◌, ◌==◌, ◌&&◌, ◌⊎◌, inl, inr, if◌then◌else◌, add-one, add-zero, zero-add, arith}
 use Rattle.std.proofs.lemmas.Bool.{cases_lt}
 use Rattle.std.proofs.lemmas.Bool.Decides.{nat_tests}
-use Rattle.lk_forms.proofs.NumberLemmas.{and_false}
+use Rattle.lk_text.proofs.NumberLemmas.{and_false}
 use Rattle.std.proofs.lemmas.List.{take_more, length-take-le}
 use Rattle.lk_abs.specs.declared.holder.Manner.{Manner}
 use Rattle.lk_machine.specs.Programs.{way_from, way_after, op_way, is_try}

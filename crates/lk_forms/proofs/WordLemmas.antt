@@ -3,8 +3,8 @@ use Rattle.std.proofs.Common.{◌≡◌, ◌≤◌, ◌<◌, ◌+◌, ◌&&◌, 
 use Rattle.std.proofs.lemmas.Bool.Decides.{nat_tests}
 use Rattle.std.proofs.lemmas.List.Sums.{prefix_len-le-length}
 use Rattle.std.specs.List.{list_all, position, position_or_len, slice_split, onto_first, prefix_len}
+use Rattle.lk_text.proofs.NumberLemmas.{and_split}
 use Rattle.lk_forms.specs.Words.{is_blank, is_allowed, is_filled, is_text, words}
-use Rattle.lk_forms.proofs.NumberLemmas.{and_split}
 
 -- where the first word starts
 abbrev pub start_of : List ℕ → ℕ

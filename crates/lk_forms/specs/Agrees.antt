@@ -1,7 +1,7 @@
 -- What calls that read words answer, and what they do to a setup.
 use Rattle.std.specs.Prelude.{◌≡◌, ◌⊎◌, ◌≤◌, Result, Ok, Err, All, length}
 use Rattle.lk_machine.specs.declared.setup.Setup.{Setup}
-use Rattle.lk_forms.specs.declared.limits.TheConstants.{MAX_CPUS, MAX_HANDLERS, MAX_LOCKS}
+use Rattle.lk_forms.specs.declared.limits.TheConstants.{MAX_HANDLERS, MAX_LOCKS, MAX_WIDE_CPUS}
 use Rattle.lk_forms.specs.Grammar.{cpus_of}
 use Rattle.lk_forms.specs.declared.answers.LineRefusal.{LineRefusal}
 use Rattle.lk_forms.specs.declared.answers.LineRefusal.TheVariants.{Memory}
@@ -20,7 +20,7 @@ IsAnswer said view (Err why) = said ≡ Err why
 -- a setup of at least one processor, with a program for each and not too many processors and locks, and room for more of each
 pub record IsRoomy (s : Setup) : Type 0 where
   pub some : 1 ≤ cpus_of s
-  pub few : cpus_of s ≤ MAX_CPUS
+  pub few : cpus_of s ≤ MAX_WIDE_CPUS
   pub locks : length s.locks.items ≤ MAX_LOCKS
   pub lock_room : s.locks.room ≡ MAX_LOCKS
   pub progs : length s.progs.items ≡ cpus_of s

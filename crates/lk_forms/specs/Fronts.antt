@@ -2,7 +2,8 @@
 use Rattle.std.specs.Prelude.{◌≡◌, ℕ, true, List, ◌∷◌, ◌++◌, Some}
 use Rattle.std.specs.Str.{all_ascii_digits}
 use Rattle.std.specs.Str.Parse.{digits_value}
-use Rattle.lk_forms.specs.Words.{is_text, words, number_of}
+use Rattle.lk_text.specs.Numbers.{number_of}
+use Rattle.lk_forms.specs.Words.{is_text, words}
 
 -- these bytes are digits, which write this number, and then those
 pub record HasDigits (bytes : List ℕ) (n : ℕ) (rest : List ℕ) : Type 0 where

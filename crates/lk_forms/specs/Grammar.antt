@@ -1,19 +1,23 @@
 -- What a line of a trace says behind the lines before it, or why it is refused: the checks stand in their order, and the first
 -- that fails is the answer.
-use Rattle.std.specs.Prelude.{ℕ, ◌==◌, ◌+◌, ◌-◌, ◌^◌, ◌&&◌, nat_le, nat_lt, Bool, false, List, [], ◌∷◌, ◌++◌, Option, None, Some, Result, Ok, Err, length, replicate, slice_index_or, slice_set, fold, is_some, unwrap_or, codes, if◌then◌else◌}
+use Rattle.std.specs.Prelude.{ℕ, ◌==◌, ◌+◌, ◌-◌, ◌^◌, ◌&&◌, nat_le, nat_lt, Bool, List, [], ◌∷◌, ◌++◌, Option, None, Some, Result, Ok, Err, length, replicate, slice_index_or, slice_set, fold, is_some, unwrap_or, codes, if◌then◌else◌}
 use Rattle.std.specs.Result.{result_unwrap_or, result_err}
 use Rattle.std.specs.Str.{bytes_eq}
 use Rattle.lk_abs.specs.ListOf.{ListOf}
+use Rattle.lk_abs.specs.declared.names.Format.{Format}
+use Rattle.lk_abs.specs.declared.names.Format.TheVariants.{One, Two}
 use Rattle.lk_abs.specs.declared.names.Kind.{Kind}
 use Rattle.lk_abs.specs.declared.names.Kind.TheVariants.{Spin, Rw}
 use Rattle.lk_abs.specs.declared.names.Mode.{Mode}
 use Rattle.lk_abs.specs.declared.names.Mode.TheVariants.{Virt, Native, Cna, Pv}
 use Rattle.lk_abs.specs.declared.events.Act.{Act}
 use Rattle.lk_abs.specs.declared.events.Act.TheVariants as act
+use Rattle.lk_abs.specs.declared.limits.TheConstants.{MAX_SOCKET, MAX_TURNS}
 use Rattle.lk_machine.specs.declared.setup.Op.{Op}
 use Rattle.lk_machine.specs.declared.setup.Setup.{Setup}
-use Rattle.lk_forms.specs.declared.limits.TheConstants.{MAX_ACTS, MAX_CPUS, MAX_HANDLERS, MAX_LOCKS, MAX_OPS, MAX_SOCKET, MAX_TURNS, USUAL_SPINS}
-use Rattle.lk_forms.specs.Words.{words, is_text, is_comment, number_of}
+use Rattle.lk_text.specs.Numbers.{number_of}
+use Rattle.lk_forms.specs.declared.limits.TheConstants.{MAX_ACTS, MAX_CPUS, MAX_HANDLERS, MAX_LOCKS, MAX_OPS, MAX_WIDE_CPUS, USUAL_SPINS}
+use Rattle.lk_forms.specs.Words.{words, is_text, is_comment}
 use Rattle.lk_forms.specs.Keywords.{keyword_of, rank_of, fault_of_place}
 use Rattle.lk_forms.specs.Operations.{and_then, unless, or_fault, ops_of}
 use Rattle.lk_forms.specs.declared.answers.Fault.{Fault}
@@ -70,10 +74,12 @@ no_programs cpus = list_of cpus (replicate cpus (list_of 0 []))
 abbrev pub no_handlers : ℕ → ListOf (ListOf (ListOf Op))
 no_handlers cpus = list_of cpus (replicate cpus (list_of MAX_HANDLERS []))
 
--- what no line has said: mode `virt` stands for the mode until it is said
+-- what no line has said: format 1 stands for the format, and mode `virt` for the mode, until they
+-- are said
 abbrev pub default_setup : Setup
 default_setup =
     record {
+      format = One;
       mode = Virt;
       topology = record { sockets = list_of 1 (replicate 1 0) };
       threshold = MAX_TURNS;
@@ -106,9 +112,16 @@ mode_line s args = and_then (one_word args) (λ word. and_then (mode_word word) 
 abbrev pub with_cpus : Setup → ℕ → Setup
 with_cpus s n = record s { topology = record { sockets = list_of n (replicate n 0) }; progs = no_programs n; irqs = no_handlers n }
 
+-- the most processors of a trace of this format
+abbrev pub most_cpus : Format → ℕ
+most_cpus One = MAX_CPUS
+most_cpus Two = MAX_WIDE_CPUS
+
 -- `cpus n`
 abbrev pub cpus_line : Setup → List (List ℕ) → Result Setup LineRefusal
-cpus_line s args = and_then (one_word args) (λ word. and_then (number_in 1 MAX_CPUS word) (λ n. Ok (with_cpus s n)))
+cpus_line s args =
+    and_then (one_word args)
+    (λ word. and_then (number_in 1 (most_cpus s.format) word) (λ n. Ok (with_cpus s n)))
 
 -- the setup with these sockets of its processors
 abbrev pub with_sockets : Setup → List ℕ → Setup
@@ -271,14 +284,27 @@ abbrev pub read_known : Reading → ℕ → Option Keyword → List (List ℕ) �
 read_known r last None args = Err (Bad UnknownWord)
 read_known r last (Some k) args = unless (fault_of_place last k) (read_placed r k args)
 
--- the two words `qtrace` and `1`
-abbrev pub is_format : List ℕ → List (List ℕ) → Bool
-is_format first (version ∷ []) = bytes_eq first (codes "qtrace") && bytes_eq version (codes "1")
-is_format first _ = false
+-- the format with this number: the word is exactly `1` or `2`
+abbrev pub format_numbered : List ℕ → Option Format
+format_numbered version =
+    if bytes_eq version (codes "1") then Some One
+    else if bytes_eq version (codes "2") then Some Two else None
+
+-- the format that the two words `qtrace` and `1`, or `qtrace` and `2`, say
+abbrev pub format_said : List ℕ → List (List ℕ) → Option Format
+format_said first (version ∷ []) =
+    if bytes_eq first (codes "qtrace") then format_numbered version else None
+format_said first _ = None
+
+-- what is read by the first line, which says the format
+abbrev pub read_format : Reading → Option Format → Result Reading LineRefusal
+read_format r None = Err (Bad NoFormat)
+read_format r (Some format) =
+    Ok (record r { rank = Some 0; setup = record r.setup { format = format } })
 
 -- a line that is neither blank nor a comment: the first such line has to be the format's
 abbrev pub read_ranked : Reading → Option ℕ → List ℕ → List (List ℕ) → Result Reading LineRefusal
-read_ranked r None first args = if is_format first args then Ok (record r { rank = Some 0 }) else Err (Bad NoFormat)
+read_ranked r None first args = read_format r (format_said first args)
 read_ranked r (Some last) first args = read_known r last (keyword_of first) args
 
 -- the words of a line: none, a comment, or what is said

@@ -10,8 +10,8 @@ use Rattle.lk_machine.specs.Programs.{kind_of, is_try, is_release, way_at, way_b
 use Rattle.lk_machine.specs.declared.setup.Verb.{Verb}
 use Rattle.lk_machine.specs.declared.setup.Verb.TheVariants.{Lock, Try, Unlock, Read, TryRead, RUnlock, Write, TryWrite, WUnlock}
 use Rattle.lk_machine.specs.declared.setup.Op.{Op}
+use Rattle.lk_text.specs.Numbers.{number_of}
 use Rattle.lk_forms.specs.declared.limits.TheConstants.{MAX_OPS}
-use Rattle.lk_forms.specs.Words.{number_of}
 use Rattle.lk_forms.specs.declared.answers.Fault.{Fault}
 use Rattle.lk_forms.specs.declared.answers.Fault.TheVariants.{UnknownWord, WordCount, BadNumber, WrongLock, Reheld, NotHeld, StillHeld, Crossed}
 use Rattle.lk_forms.specs.declared.answers.Which.TheVariants.{Words}

@@ -1,20 +1,20 @@
 // A header is read line by line.
 ghost use Rattle.std.specs.Prelude.{◌≡◌, ◌<◌, IfOk, Some, None, false, true};
 ghost use Rattle.lk_forms.specs.Words.{words};
-ghost use Rattle.lk_forms.specs.Grammar.{header_line, default_setup, is_format};
+ghost use Rattle.lk_forms.specs.Grammar.{header_line, default_setup, format_numbered, format_said};
 ghost use Rattle.lk_forms.specs.Agrees.{Agrees, IsRoomy};
 
 use crate::answers::{Fault, HeaderStep, LineRefusal};
 use crate::arguments::{no_words, one_word};
 use crate::keyword::{GO_RANK, Keyword};
-use crate::limits::{MAX_LOCKS, MAX_TURNS, USUAL_SPINS};
+use crate::limits::{MAX_LOCKS, USUAL_SPINS};
 use crate::settings::{
     cpus_line, irq_line, lock_line, mode_line, program_line, sockets_line, spins_line,
     threshold_line,
 };
 use crate::tables::{no_handlers, no_programs, zero_sockets};
 use crate::words::{is_comment, is_text, next_word};
-use lk_abs::{List, Memory, Mode, Topology};
+use lk_abs::{Format, List, MAX_TURNS, Memory, Mode, Topology};
 use lk_machine::Setup;
 use std::alloc::Global;
 
@@ -24,6 +24,7 @@ fn default_setup(alloc: Global) -> Result<Setup, Memory>
 {
     let sockets = zero_sockets(alloc, 1)?;
     Ok(Setup {
+        format: Format::One,
         mode: Mode::Virt,
         topology: Topology { sockets },
         threshold: MAX_TURNS as u32,
@@ -58,13 +59,26 @@ fn header_line(
     }
 }
 
-// The two words `qtrace` and `1`.
-fn is_format(first: &[u8], args: &[u8]) -> bool
-    ensures { result ≡ is_format first.now (words args.now) }
+/// The format with this number: the word is exactly `1` or `2`, or there is none.
+pub fn format_numbered(version: &[u8]) -> Option<Format>
+    ensures { result ≡ format_numbered version.now }
+{
+    if version == b"1".as_slice() {
+        Some(Format::One)
+    } else if version == b"2".as_slice() {
+        Some(Format::Two)
+    } else {
+        None
+    }
+}
+
+// The format that the two words `qtrace` and `1`, or `qtrace` and `2`, say.
+fn format_said(first: &[u8], args: &[u8]) -> Option<Format>
+    ensures { result ≡ format_said first.now (words args.now) }
 {
     match one_word(args) {
-        Ok(version) => first == b"qtrace".as_slice() && version == b"1".as_slice(),
-        Err(_) => false,
+        Ok(version) if first == b"qtrace".as_slice() => format_numbered(version),
+        _ => None,
     }
 }
 
@@ -152,10 +166,11 @@ impl HeaderReader {
         ensures { ReadsOn (read_ranked (reading self.old) None first.now (words args.now))
             (reading self.old) (reading self.new) result }
     {
-        if !is_format(first, args) {
+        let Some(format) = format_said(first, args) else {
             return Err(LineRefusal::Bad(Fault::NoFormat));
-        }
+        };
         self.rank = Some(0);
+        self.setup.format = format;
         Ok(HeaderStep::More)
     }
 

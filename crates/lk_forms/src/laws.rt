@@ -1,10 +1,12 @@
 // Laws of the forms: each is the contract of a function that does nothing.
-ghost use Rattle.lk_forms.specs.SetupLaws.{SetupsAreLawful, ActsComeLast};
+ghost use Rattle.lk_forms.specs.SetupLaws.{SetupsAreLawful, FormatsLimitCpus, ActsComeLast};
 ghost use Rattle.lk_forms.specs.TextLaws.{EventsAreTold, EndsAreTold, CountsAreTold, TranscriptsAreTold};
 
-/// What accepted lines say is a lawful setup, and before `go` they say no acts.
+/// What accepted lines say is a lawful setup, with at most as many processors as its format allows.
+/// Before `go` they say no acts.
 pub fn lines_say_lawful_setups()
     ensures lawful { SetupsAreLawful }
+    ensures cpus { FormatsLimitCpus }
     ensures acts { ActsComeLast }
 {}
 

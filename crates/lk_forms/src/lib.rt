@@ -21,10 +21,10 @@ mod words;
 
 pub use answers::{Fault, HeaderStep, LineRefusal, Sched, Which};
 pub use arguments::{cpu_word, no_words, number_in, one_word, two_words};
-pub use header::HeaderReader;
+pub use header::{HeaderReader, format_numbered};
 pub use laws::{lines_say_lawful_setups, texts_tell_all};
-pub use limits::{MAX_ACTS, MAX_CPUS, MAX_HANDLERS, MAX_LOCKS, MAX_OPS, MAX_SOCKET, MAX_TURNS};
+pub use limits::{MAX_ACTS, MAX_CPUS, MAX_HANDLERS, MAX_LOCKS, MAX_OPS, MAX_WIDE_CPUS};
 pub use schedule::schedule_line;
 pub use settings::{count_words, kind_word, read_sockets};
 pub use texts::{count_line, end_line, event_line, write_event};
-pub use words::{is_comment, is_text, next_word, read_number};
+pub use words::{is_comment, is_text, next_word};

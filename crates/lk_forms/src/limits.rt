@@ -3,14 +3,11 @@
 /// The most acts of a trace.
 pub const MAX_ACTS: u64 = 100_000_000;
 
-/// The most processors.
+/// The most processors of a trace in format 1, and of a run of the optimistic spin queue.
 pub const MAX_CPUS: usize = 64;
 
-/// The greatest number of a socket.
-pub const MAX_SOCKET: u64 = 63;
-
-/// The greatest threshold, and the greatest number of spins.
-pub const MAX_TURNS: u64 = 65_535;
+/// The most processors of a trace in format 2.
+pub const MAX_WIDE_CPUS: usize = 1_024;
 
 /// How many turns a waiter spins where no line says it.
 pub const USUAL_SPINS: u32 = 32_768;
@@ -23,6 +20,3 @@ pub const MAX_OPS: usize = 64;
 
 /// The most handlers of a processor.
 pub const MAX_HANDLERS: usize = 16;
-
-/// The most digits of a number.
-pub const MAX_DIGITS: usize = 20;

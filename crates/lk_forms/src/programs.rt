@@ -8,9 +8,10 @@ ghost use Rattle.lk_forms.specs.Operations.{lock_word, op_of, closed, ops_of};
 use crate::answers::{Fault, LineRefusal, Which};
 use crate::limits::MAX_OPS;
 use crate::operations::{fault_of_hold, is_declared, is_nothing_held, verb_of};
-use crate::words::{next_word, read_number};
+use crate::words::next_word;
 use lk_abs::{Kind, List};
 use lk_machine::Op;
+use lk_text::read_number;
 use std::alloc::Global;
 
 // The lock's number, in the words behind the verb, and what stands behind it.

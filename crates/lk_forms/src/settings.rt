@@ -1,20 +1,23 @@
 // The lines of a header, each by the words behind its keyword.
 ghost use Rattle.std.specs.Prelude.{◌≡◌, ◌≤◌, ◌<◌, ◌⊎◌, Ok, Err, IfOk, IfErr, length, []};
-ghost use Rattle.lk_forms.specs.Words.{words, number_of};
-ghost use Rattle.lk_forms.specs.declared.limits.TheConstants.{MAX_LOCKS, MAX_SOCKET};
+ghost use Rattle.lk_abs.specs.declared.limits.TheConstants.{MAX_SOCKET};
+ghost use Rattle.lk_text.specs.Numbers.{number_of};
+ghost use Rattle.lk_forms.specs.Words.{words};
+ghost use Rattle.lk_forms.specs.declared.limits.TheConstants.{MAX_LOCKS, MAX_WIDE_CPUS};
 ghost use Rattle.lk_forms.specs.Operations.{and_then, or_fault};
 ghost use Rattle.lk_forms.specs.declared.answers.Fault.TheVariants.{BadNumber};
-ghost use Rattle.lk_forms.specs.Grammar.{cpus_of, mode_of, mode_word, mode_line, cpus_line, numbers_from, sockets_line, threshold_line, spins_line, kind_named, kind_word, next_lock, lock_line, has_program, program_line, handler_line, irq_line};
+ghost use Rattle.lk_forms.specs.Grammar.{cpus_of, mode_of, mode_word, mode_line, most_cpus, cpus_line, numbers_from, sockets_line, threshold_line, spins_line, kind_named, kind_word, next_lock, lock_line, has_program, program_line, handler_line, irq_line};
 ghost use Rattle.lk_forms.specs.Agrees.{Agrees, IsAnswer, IsRoomy};
 
 use crate::answers::{Fault, LineRefusal, Which};
 use crate::arguments::{cpu_word, number_in, one_word, two_words};
-use crate::limits::{MAX_CPUS, MAX_HANDLERS, MAX_LOCKS, MAX_SOCKET, MAX_TURNS};
+use crate::limits::{MAX_CPUS, MAX_HANDLERS, MAX_LOCKS, MAX_WIDE_CPUS};
 use crate::programs::read_ops;
 use crate::tables::{no_handlers, no_programs, zero_sockets};
-use crate::words::{next_word, read_number};
-use lk_abs::{Kind, List, Mode};
+use crate::words::next_word;
+use lk_abs::{Format, Kind, List, MAX_SOCKET, MAX_TURNS, Mode};
 use lk_machine::Setup;
+use lk_text::read_number;
 use std::alloc::Global;
 
 // The mode that a word is, if it is one.
@@ -49,12 +52,23 @@ pub(crate) fn mode_line(setup: &mut Setup, args: &[u8]) -> Result<(), LineRefusa
     Ok(())
 }
 
+// The most processors of a trace of this format.
+fn most_cpus(format: Format) -> usize
+    ensures value { result ≡ most_cpus format }
+    ensures few { result ≤ MAX_WIDE_CPUS }
+{
+    match format {
+        Format::One => MAX_CPUS,
+        Format::Two => MAX_WIDE_CPUS,
+    }
+}
+
 /// `cpus n`
 pub(crate) fn cpus_line(alloc: Global, setup: &mut Setup, args: &[u8]) -> Result<(), LineRefusal>
     ensures { Agrees (cpus_line setup.old (words args.now)) setup.old setup.new result }
 {
     let word = one_word(args)?;
-    let cpus = number_in(1, MAX_CPUS as u64, word)? as usize;
+    let cpus = number_in(1, most_cpus(setup.format) as u64, word)? as usize;
     let sockets = zero_sockets(alloc, cpus)?;
     let progs = no_programs(alloc, cpus)?;
     let irqs = no_handlers(alloc, cpus)?;

@@ -1,9 +1,7 @@
-// The words of a line, and the numbers among them.
-ghost use Rattle.std.specs.Prelude.{◌≡◌, not, ◌≤◌, ◌<◌, ◌+◌, ◌^◌, ◌∷◌, [], ℕ, List, Option, MatchOption, IfSome, SomeIff, ◌*◌, Some, None, length};
+// The words of a line.
+ghost use Rattle.std.specs.Prelude.{◌≡◌, not, ◌≤◌, ◌<◌, ◌∷◌, [], MatchOption, IfSome, length};
 ghost use Rattle.std.specs.List.{position, position_or_len};
-ghost use Rattle.lk_forms.specs.Words.{is_blank, is_allowed, is_text, is_comment, words, number_of};
-
-use crate::limits::MAX_DIGITS;
+ghost use Rattle.lk_forms.specs.Words.{is_blank, is_allowed, is_text, is_comment, words};
 
 /// A space, a tab or a carriage return.
 #[inline]
@@ -77,29 +75,4 @@ pub fn next_word(bytes: &[u8]) -> Option<(&[u8], &[u8])>
         return None;
     }
     Some(bytes.split_at(word_end(bytes)))
-}
-
-// The number with one more digit, if it stays below 2^64.
-fn with_digit(value: u64, digit: u8) -> Option<u64>
-    ensures { SomeIff result (value * 10 + digit < 2 ^ 64) (value * 10 + digit) }
-{
-    value.checked_mul(10)?.checked_add(u64::from(digit))
-}
-
-/// The number that a word of 1 to 20 digits writes. None where it has another byte or another
-/// length, or writes 2^64 or more; leading zeros are digits.
-pub fn read_number(word: &[u8]) -> Option<u64>
-    ensures { result ≡ number_of word.now }
-{
-    if word.is_empty() || word.len() > MAX_DIGITS {
-        return None;
-    }
-    let mut value: u64 = 0;
-    for b in word {
-        if !b.is_ascii_digit() {
-            return None;
-        }
-        value = with_digit(value, *b - b'0')?;
-    }
-    Some(value)
 }

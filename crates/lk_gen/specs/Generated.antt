@@ -1,5 +1,6 @@
 -- The generated trace of a start number.
 use Rattle.std.specs.Prelude.{ℕ, ◌+◌, ◌*◌, ◌%◌, ◌/◌, List, [], ◌∷◌, ◌++◌, codes, decimal, map, replicate, zero, suc}
+use Rattle.lk_abs.specs.declared.names.Format.TheVariants.{One}
 use Rattle.lk_abs.specs.declared.events.Act.{Act}
 use Rattle.lk_abs.specs.declared.events.Act.TheVariants as act
 use Rattle.lk_abs.specs.declared.names.Kind.TheVariants.{Spin}
@@ -100,6 +101,7 @@ generated_acts start = step_acts 25000 (draw_after 512 start)
 abbrev pub head_setup : Setup
 head_setup =
     record {
+      format = One;
       mode = Cna;
       topology = record { sockets = list_of 32 (map (λ p. p / 8) (numbers 32 0)) };
       threshold = 16;

@@ -1,6 +1,7 @@
 -- Examples of job files, which compute.
 use Rattle.std.proofs.Common.{◌≡◌, refl, [], ◌∷◌, Ok, Err}
 use Rattle.std.specs.Prelude.{codes}
+use Rattle.lk_abs.specs.declared.names.Format.TheVariants.{One, Two}
 use Rattle.lk_abs.specs.declared.names.Kind.TheVariants.{Spin, Rw}
 use Rattle.lk_abs.specs.declared.names.Mode.TheVariants.{Virt, Native, Cna}
 use Rattle.lk_abs.specs.declared.ledger.Job.TheVariants.{Move, Add, Sum, Get}
@@ -8,12 +9,12 @@ use Rattle.lk_forms.specs.declared.answers.LineRefusal.TheVariants.{Bad, Limit}
 use Rattle.lk_forms.specs.declared.answers.Fault.TheVariants as fault
 use Rattle.lk_forms.specs.declared.answers.Which.TheVariants as which
 use Rattle.lk_job_forms.specs.JobFile.{job_file}
-use Rattle.lk_job_forms.specs.Workload.{usual_workload}
+use Rattle.lk_job_forms.specs.Grammar.{usual_workload}
 
 one_worker : job_file (codes "qjobs 1\nmode virt\nworkers 1\naccounts 10 0 5\njob 0 move 0 1 4\njob 0 get 1\njob 0 move 0 2 7\njob 0 add 2 1\njob 0 sum\nend\n") ≡ Ok (record usual_workload { balances = 10 ∷ 0 ∷ 5 ∷ []; jobs = (Move 0 1 4 ∷ Get 1 ∷ Move 0 2 7 ∷ Add 2 1 ∷ Sum ∷ []) ∷ [] })
 one_worker = refl
 
-every_line : job_file (codes "# every line\nqjobs 1\n\nmode virt\nguard spin\nworkers 2\nsockets 0 1\nthreshold 16\naccounts 5 5\njob 1\tget 0 \njob 0 sum\nend") ≡ Ok (record { mode = Virt; guard = Spin; sockets = 0 ∷ 1 ∷ []; threshold = 16; balances = 5 ∷ 5 ∷ []; jobs = (Sum ∷ []) ∷ (Get 0 ∷ []) ∷ [] })
+every_line : job_file (codes "# every line\nqjobs 1\n\nmode virt\nguard spin\nworkers 2\nsockets 0 1\nthreshold 16\naccounts 5 5\njob 1\tget 0 \njob 0 sum\nend") ≡ Ok (record { format = One; mode = Virt; guard = Spin; sockets = 0 ∷ 1 ∷ []; threshold = 16; balances = 5 ∷ 5 ∷ []; jobs = (Sum ∷ []) ∷ (Get 0 ∷ []) ∷ [] })
 every_line = refl
 
 no_jobs : job_file (codes "qjobs 1\nmode virt\nend\n") ≡ Ok usual_workload
@@ -36,6 +37,9 @@ no_verb = refl
 
 no_pv : job_file (codes "qjobs 1\nmode pv\n") ≡ Err (2, Bad fault.UnknownWord)
 no_pv = refl
+
+wide : job_file (codes "qjobs 2\nmode native\nend\n") ≡ Ok (record usual_workload { format = Two; mode = Native })
+wide = refl
 
 queued : job_file (codes "qjobs 1\nmode native\nend\n") ≡ Ok (record usual_workload { mode = Native })
 queued = refl

@@ -1,6 +1,7 @@
 -- What a whole text says as a job file is lawful.
 use Rattle.std.proofs.Common.{◌+◌, ◌&&◌, ℕ, Bool, true, false, List, [], ◌∷◌, Option, None, Some, Result, Ok, Err, IfOk, length, nat_le, nat_lt, if◌then◌else◌}
 use Rattle.std.proofs.lemmas.Result.{IfOk-at_ok}
+use Rattle.lk_abs.specs.Workload.{IsLawful}
 use Rattle.lk_text.specs.Feeds.{pieces, line_of}
 use Rattle.lk_text.specs.declared.reader.TheConstants.{MAX_INPUT, MAX_LINE}
 use Rattle.lk_forms.specs.declared.answers.Fault.{Fault}
@@ -8,7 +9,6 @@ use Rattle.lk_forms.specs.declared.answers.LineRefusal.{LineRefusal}
 use Rattle.lk_forms.specs.declared.answers.LineRefusal.TheVariants.{Limit}
 use Rattle.lk_forms.specs.declared.answers.Which.TheVariants.{Line, Input}
 use Rattle.lk_stream.specs.Grammar.{Place, says_from, says_at_end, next_place, placed, unless_refused, first_place}
-use Rattle.lk_job_forms.specs.Workload.{IsLawful}
 use Rattle.lk_job_forms.specs.Grammar.{Reading, IsSound, read, ending}
 use Rattle.lk_job_forms.specs.JobFile.{job_grammar, said_in, JobFilesAreLawful}
 use Rattle.lk_job_forms.proofs.Lawful.{read_sound, first_sound}

@@ -8,12 +8,14 @@ use Rattle.std.proofs.lemmas.Result.{IfOk-at_ok}
 use Rattle.std.proofs.lemmas.List.{length-set, length-replicate}
 use Rattle.std.proofs.lemmas.List.Elements.{All-nil, All-cons, All-replicate, All-set, All-get_or, All-push}
 use Rattle.std.proofs.lemmas.List.Sums.{sum_by-cons, sum_by-set}
+use Rattle.lk_abs.specs.declared.names.Format.{Format}
 use Rattle.lk_abs.specs.declared.names.Mode.{Mode}
 use Rattle.lk_abs.specs.declared.names.Mode.TheVariants.{Virt, Native, Cna, Pv}
 use Rattle.lk_abs.specs.declared.ledger.Job.{Job}
 use Rattle.lk_abs.specs.declared.ledger.Job.TheVariants.{Sum}
 use Rattle.lk_abs.specs.Jobs.{full}
-use Rattle.lk_forms.specs.declared.limits.TheConstants.{MAX_SOCKET, MAX_TURNS}
+use Rattle.lk_abs.specs.declared.limits.TheConstants.{MAX_SOCKET, MAX_TURNS, MAX_ACCOUNTS, MAX_AMOUNT, MAX_JOBS, MAX_WORKERS}
+use Rattle.lk_abs.specs.Workload.{Workload, workers_of, jobs_of, job_count, IsFair, IsLawful}
 use Rattle.lk_forms.specs.Words.{words, is_text, is_comment}
 use Rattle.lk_forms.specs.Operations.{and_then, or_fault}
 use Rattle.lk_forms.specs.Grammar.{one_word, two_words, no_words, number_in, numbers_from, cpu_word, kind_word}
@@ -22,13 +24,11 @@ use Rattle.lk_forms.specs.declared.answers.Which.TheVariants.{Total}
 use Rattle.lk_forms.specs.declared.answers.LineRefusal.{LineRefusal}
 use Rattle.lk_forms.specs.declared.answers.LineRefusal.TheVariants.{Bad, Limit}
 use Rattle.lk_forms.proofs.Changes.{and_then-ok, if-ok, else-ok, number_in-ok, cpu_word-ok}
-use Rattle.lk_job_forms.specs.declared.limits.TheConstants.{MAX_ACCOUNTS, MAX_AMOUNT, MAX_JOBS, MAX_WORKERS}
 use Rattle.lk_job_forms.specs.declared.keyword.Keyword.{Keyword}
 use Rattle.lk_job_forms.specs.declared.keyword.Keyword.TheVariants as keyword
-use Rattle.lk_job_forms.specs.Workload.{Workload, workers_of, jobs_of, job_count, IsFair, IsLawful}
 use Rattle.lk_job_forms.specs.Lines.{mode_named, mode_word, balances_from, balances_of, opened, three_words, amount_word, move_of, add_of, get_of, job_of, worker_job, line_args}
 use Rattle.lk_job_forms.specs.Keywords.{keyword_of, rank_of, fault_of_place, fault_of_ranks}
-use Rattle.lk_job_forms.specs.Grammar.{Reading, IsSound, nothing_read, is_format, read, read_words, read_ranked, read_known, read_placed}
+use Rattle.lk_job_forms.specs.Grammar.{Reading, IsSound, nothing_read, format_said, read_format, read, read_words, read_ranked, read_known, read_placed}
 use Rattle.lk_job_forms.proofs.Drafts.{job_count-none}
 use Rattle.lk_job_forms.proofs.Kept.{then_keeps, if_keeps, unless_keeps}
 
@@ -283,7 +283,16 @@ pub known_sound : (r : Reading) (last : ℕ) (k : Keyword) (args : List (List �
 known_sound r last k args behind sound = unless_keeps _ (fault_of_place last k) (read_placed r k args) (λ fine. placed_sound r last k args behind fine sound)
 
 ranked_sound : (r : Reading) (rank : Option ℕ) (first : List ℕ) (args : List (List ℕ)) → r.rank ≡ rank → IsSound r → IfOk (read_ranked r rank first args) IsSound
-ranked_sound r None first args behind sound = if_keeps _ (is_format first args) _ _ (λ first. record { lawful = sound.lawful; early = λ low. sound.early (rw behind (omega arith)) }) (λ other. tt)
+ranked_sound r None first args behind sound = by_format (format_said first args)
+  where
+    by_format : (said : Option Format) → IfOk (read_format r said) IsSound
+    by_format None = tt
+    by_format (Some format) =
+        let lawful = sound.lawful in
+        record {
+          lawful = record { mode = lawful.mode; some = lawful.some; few = lawful.few; each = lawful.each; near = lawful.near; threshold = lawful.threshold; accounts = lawful.accounts; total = lawful.total; jobs = lawful.jobs; fair = lawful.fair };
+          early = λ low. sound.early (rw behind (omega arith));
+        }
 ranked_sound r (Some last) first args behind sound = by_keyword (keyword_of first)
   where
     by_keyword : (o : Option Keyword) → IfOk (read_known r last o args) IsSound

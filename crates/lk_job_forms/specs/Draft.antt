@@ -1,14 +1,15 @@
 -- What a draft says, and what a line makes of it.
 use Rattle.std.specs.Prelude.{◌≡◌, ◌⊎◌, Result, Ok, Err, map}
+use Rattle.lk_abs.specs.Workload.{Workload}
 use Rattle.lk_forms.specs.declared.answers.LineRefusal.{LineRefusal}
 use Rattle.lk_forms.specs.declared.answers.LineRefusal.TheVariants.{Memory}
-use Rattle.lk_job_forms.specs.Workload.{Workload}
 use Rattle.lk_job_forms.specs.declared.draft.Draft.{Draft}
 
 -- what is said by a draft
 abbrev pub work_of : Draft → Workload
 work_of draft =
     record {
+      format = draft.format;
       mode = draft.mode;
       guard = draft.guard;
       sockets = draft.sockets.items;

@@ -1,16 +1,36 @@
 -- What lines of a job file say, one after the other.
-use Rattle.std.specs.Prelude.{◌≡◌, ◌≤◌, ℕ, ◌==◌, ◌&&◌, Bool, false, List, [], ◌∷◌, Option, None, Some, Result, Ok, Err, is_some, unwrap_or, codes, if◌then◌else◌}
+use Rattle.std.specs.Prelude.{◌≡◌, ◌≤◌, ℕ, ◌==◌, Bool, List, [], ◌∷◌, Option, None, Some, Result, Ok, Err, is_some, replicate, unwrap_or, codes, if◌then◌else◌}
 use Rattle.std.specs.Str.{bytes_eq}
 use Rattle.lk_forms.specs.Words.{words, is_text, is_comment}
+use Rattle.lk_abs.specs.declared.names.Format.{Format}
+use Rattle.lk_abs.specs.declared.names.Format.TheVariants.{One}
+use Rattle.lk_abs.specs.declared.names.Kind.TheVariants.{Spin}
+use Rattle.lk_abs.specs.declared.names.Mode.TheVariants.{Virt}
+use Rattle.lk_abs.specs.declared.limits.TheConstants.{MAX_TURNS}
+use Rattle.lk_abs.specs.Workload.{Workload, job_count, IsLawful}
+use Rattle.lk_forms.specs.Grammar.{format_numbered}
 use Rattle.lk_forms.specs.Operations.{and_then, unless}
 use Rattle.lk_forms.specs.declared.answers.Fault.{Fault}
 use Rattle.lk_forms.specs.declared.answers.Fault.TheVariants.{NoFormat, NotText, UnknownWord, NoEnd}
 use Rattle.lk_forms.specs.declared.answers.LineRefusal.{LineRefusal}
 use Rattle.lk_forms.specs.declared.answers.LineRefusal.TheVariants.{Bad}
 use Rattle.lk_job_forms.specs.Keywords.{keyword_of, rank_of, fault_of_place}
-use Rattle.lk_job_forms.specs.Workload.{Workload, usual_workload, job_count, IsLawful}
 use Rattle.lk_job_forms.specs.Lines.{line_args}
 use Rattle.lk_job_forms.specs.declared.keyword.Keyword.{Keyword}
+
+-- what no line has said: format 1 stands for the format, and mode `virt` for the mode, until they
+-- are said
+abbrev pub usual_workload : Workload
+usual_workload =
+    record {
+      format = One;
+      mode = Virt;
+      guard = Spin;
+      sockets = replicate 1 0;
+      threshold = MAX_TURNS;
+      balances = [];
+      jobs = replicate 1 [];
+    }
 
 -- what accepted lines have said: the rank of the last one that has a keyword, and the workload
 pub record Reading : Type 0 where
@@ -41,15 +61,21 @@ abbrev pub read_known : Reading → ℕ → Option Keyword → List (List ℕ) �
 read_known r last None args = Err (Bad UnknownWord)
 read_known r last (Some k) args = unless (fault_of_place last k) (read_placed r k args)
 
--- the two words `qjobs` and `1`
-abbrev pub is_format : List ℕ → List (List ℕ) → Bool
-is_format first (version ∷ []) = bytes_eq first (codes "qjobs") && bytes_eq version (codes "1")
-is_format first _ = false
+-- the format that the two words `qjobs` and `1`, or `qjobs` and `2`, say
+abbrev pub format_said : List ℕ → List (List ℕ) → Option Format
+format_said first (version ∷ []) =
+    if bytes_eq first (codes "qjobs") then format_numbered version else None
+format_said first _ = None
+
+-- what is read by the first line, which says the format
+abbrev pub read_format : Reading → Option Format → Result Reading LineRefusal
+read_format r None = Err (Bad NoFormat)
+read_format r (Some format) =
+    Ok (record r { rank = Some 0; work = record r.work { format = format } })
 
 -- a line that is neither blank nor a comment: the first such line has to be the format's
 abbrev pub read_ranked : Reading → Option ℕ → List ℕ → List (List ℕ) → Result Reading LineRefusal
-read_ranked r None first args =
-    if is_format first args then Ok (record r { rank = Some 0 }) else Err (Bad NoFormat)
+read_ranked r None first args = read_format r (format_said first args)
 read_ranked r (Some last) first args = read_known r last (keyword_of first) args
 
 abbrev pub read_words : Reading → List (List ℕ) → Result Reading LineRefusal

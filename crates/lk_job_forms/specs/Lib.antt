@@ -1,5 +1,4 @@
 pub mod Keywords
-pub mod Workload
 pub mod Props
 pub mod Lines
 pub mod Grammar
@@ -7,5 +6,4 @@ pub mod Draft
 pub mod Reader
 pub mod JobFile
 pub mod Texts
-pub mod Outcome
 pub mod TextLaws

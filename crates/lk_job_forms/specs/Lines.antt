@@ -8,17 +8,16 @@ use Rattle.lk_abs.specs.declared.names.Mode.TheVariants.{Virt, Native, Cna}
 use Rattle.lk_abs.specs.declared.ledger.Job.{Job}
 use Rattle.lk_abs.specs.declared.ledger.Job.TheVariants.{Move, Add, Sum, Get}
 use Rattle.lk_abs.specs.Jobs.{full}
+use Rattle.lk_abs.specs.declared.limits.TheConstants.{MAX_SOCKET, MAX_TURNS, MAX_ACCOUNTS, MAX_AMOUNT, MAX_JOBS, MAX_WORKERS}
+use Rattle.lk_abs.specs.Workload.{Workload, workers_of, jobs_of, job_count}
 use Rattle.lk_forms.specs.Operations.{and_then, or_fault}
 use Rattle.lk_forms.specs.Grammar.{one_word, two_words, no_words, number_in, numbers_from, cpu_word, kind_word}
-use Rattle.lk_forms.specs.declared.limits.TheConstants.{MAX_SOCKET, MAX_TURNS}
 use Rattle.lk_forms.specs.declared.answers.Fault.TheVariants.{UnknownWord, WordCount, OutOfRange, Misplaced}
 use Rattle.lk_forms.specs.declared.answers.Which.TheVariants.{Jobs, Total}
 use Rattle.lk_forms.specs.declared.answers.LineRefusal.{LineRefusal}
 use Rattle.lk_forms.specs.declared.answers.LineRefusal.TheVariants.{Bad, Limit}
-use Rattle.lk_job_forms.specs.declared.limits.TheConstants.{MAX_ACCOUNTS, MAX_AMOUNT, MAX_JOBS, MAX_WORKERS}
 use Rattle.lk_job_forms.specs.declared.keyword.Keyword.{Keyword}
 use Rattle.lk_job_forms.specs.declared.keyword.Keyword.TheVariants as keyword
-use Rattle.lk_job_forms.specs.Workload.{Workload, workers_of, jobs_of, job_count}
 
 -- the lines that stand once
 

@@ -6,9 +6,9 @@ use Rattle.lk_abs.specs.declared.ledger.Reply.{Reply}
 use Rattle.lk_abs.specs.declared.ledger.Reply.TheVariants.{Amount}
 use Rattle.lk_abs.specs.declared.ledger.Entry.{Entry}
 use Rattle.lk_abs.specs.declared.ledger.Seen.{Seen}
+use Rattle.lk_abs.specs.Workload.{Workload}
+use Rattle.lk_abs.specs.Outcome.{IsOutcome}
 use Rattle.lk_job_forms.specs.Texts.{entry_text, seen_text, balance_text, total_text, outcome_text}
-use Rattle.lk_job_forms.specs.Workload.{Workload}
-use Rattle.lk_job_forms.specs.Outcome.{IsOutcome}
 
 -- numbers of 64 bits, as all of the code are
 

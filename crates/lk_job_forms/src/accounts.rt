@@ -2,14 +2,13 @@
 ghost use Rattle.std.specs.Prelude.{◌≡◌, ◌≤◌, ◌⊎◌, [], IfOk, IfErr, Ok, Err, length, nat_lt};
 ghost use Rattle.std.specs.List.{sum};
 ghost use Rattle.lk_abs.specs.Jobs.{full};
+ghost use Rattle.lk_abs.specs.declared.limits.TheConstants.{MAX_ACCOUNTS};
 ghost use Rattle.lk_forms.specs.Words.{words};
-ghost use Rattle.lk_job_forms.specs.declared.limits.TheConstants.{MAX_ACCOUNTS};
 ghost use Rattle.lk_job_forms.specs.Lines.{balances_from, balances_of, accounts_line};
 ghost use Rattle.lk_job_forms.specs.Draft.{work_of, Makes};
 
 use crate::draft::Draft;
-use crate::limits::{MAX_ACCOUNTS, MAX_AMOUNT};
-use lk_abs::List;
+use lk_abs::{List, MAX_ACCOUNTS, MAX_AMOUNT};
 use lk_forms::{Fault, LineRefusal, Which, next_word, number_in};
 use std::alloc::Global;
 

@@ -1,16 +1,16 @@
 // What the lines of a job file have said so far.
 ghost use Rattle.std.specs.Prelude.{◌≡◌, ◌≤◌, [], IfOk, length, map, replicate};
-ghost use Rattle.lk_job_forms.specs.declared.limits.TheConstants.{MAX_ACCOUNTS, MAX_WORKERS};
-ghost use Rattle.lk_job_forms.specs.Workload.{job_count};
+ghost use Rattle.lk_abs.specs.declared.limits.TheConstants.{MAX_ACCOUNTS, MAX_WORKERS};
+ghost use Rattle.lk_abs.specs.Workload.{job_count};
 
-use crate::limits::MAX_JOBS;
-use lk_abs::{Job, Kind, List, Memory, Mode};
-use lk_forms::{LineRefusal, MAX_TURNS, Which};
+use lk_abs::{Format, Job, Kind, List, MAX_JOBS, MAX_TURNS, Memory, Mode};
+use lk_forms::{LineRefusal, Which};
 use std::alloc::Global;
 
 /// A job file whose jobs are still growing.
 #[derive(Drop)]
 pub(crate) struct Draft {
+    pub format: Format,
     pub mode: Mode,
     pub guard: Kind,
     pub sockets: List<u32>,
@@ -39,8 +39,9 @@ pub(crate) fn no_jobs(alloc: Global, workers: usize) -> Result<List<Vec<Job>>, M
 
 impl Draft {
     ghost use Rattle.std.specs.Prelude.{◌≡◌, ◌<◌, IfOk, false, map, nat_le};
-    ghost use Rattle.lk_job_forms.specs.declared.limits.TheConstants.{MAX_JOBS};
-    ghost use Rattle.lk_job_forms.specs.Workload.{usual_workload, workers_of, job_count};
+    ghost use Rattle.lk_abs.specs.declared.limits.TheConstants.{MAX_JOBS};
+    ghost use Rattle.lk_abs.specs.Workload.{workers_of, job_count};
+    ghost use Rattle.lk_job_forms.specs.Grammar.{usual_workload};
     ghost use Rattle.lk_job_forms.specs.Lines.{with_job};
     ghost use Rattle.lk_job_forms.specs.Draft.{work_of, Makes};
 
@@ -49,6 +50,7 @@ impl Draft {
         ensures { IfOk result (λ draft. work_of draft ≡ usual_workload) }
     {
         Ok(Draft {
+            format: Format::One,
             mode: Mode::Virt,
             guard: Kind::Spin,
             sockets: List::filled(alloc, 0, 1)?,

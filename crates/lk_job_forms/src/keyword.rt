@@ -17,7 +17,7 @@ pub(crate) enum Keyword {
     Workers,
     /// `sockets`: where the workers stand.
     Sockets,
-    /// `threshold`: how long a front stays on its socket.
+    /// `threshold`: how many handovers may pass a waiter that was moved aside by.
     Threshold,
     /// `accounts`: the opening balances.
     Accounts,

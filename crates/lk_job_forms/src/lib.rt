@@ -1,23 +1,19 @@
 //! The forms of text of the ledger: the grammar of job files, and the lines of an outcome. Its
 //! `specs/` say what each line of a job file says behind the lines before it, or why it is refused,
-//! what each line of an outcome looks like, and which outcomes a job file may have.
+//! and what each line of an outcome looks like.
 #![tactic(auto)]
 
 mod accounts;
 mod answers;
 mod draft;
-mod file;
 mod jobs;
 mod keyword;
 mod laws;
-mod limits;
 mod reader;
 mod settings;
 mod texts;
 
 pub use answers::JobStep;
-pub use file::JobFile;
 pub use laws::{job_files_are_lawful, outcomes_tell_all};
-pub use limits::{MAX_ACCOUNTS, MAX_AMOUNT, MAX_JOBS, MAX_WORKERS};
 pub use reader::JobReader;
 pub use texts::{balance_line, entry_line, seen_line, total_line};

@@ -2,26 +2,27 @@
 ghost use Rattle.std.specs.Prelude.{◌≡◌, Some, map};
 ghost use Rattle.std.proofs.Props.{props};
 ghost use Rattle.lk_forms.specs.Words.{words};
-ghost use Rattle.lk_job_forms.specs.Grammar.{IsSound, is_format};
+ghost use Rattle.lk_job_forms.specs.Grammar.{IsSound, format_said};
 ghost use Rattle.lk_job_forms.specs.Props.{IsFair-prop};
 ghost use Rattle.lk_job_forms.specs.Draft.{work_of};
 
 use crate::answers::JobStep;
 use crate::draft::Draft;
-use crate::file::JobFile;
 use crate::keyword::{END_RANK, Keyword};
 use crate::settings::line_args;
-use lk_abs::{Job, List, Memory, Topology};
-use lk_forms::{Fault, LineRefusal, is_comment, is_text, next_word, no_words, one_word};
+use lk_abs::{Format, Job, JobFile, List, Memory, Topology};
+use lk_forms::{
+    Fault, LineRefusal, format_numbered, is_comment, is_text, next_word, no_words, one_word,
+};
 use std::alloc::Global;
 
-// The two words `qjobs` and `1`.
-fn is_format(first: &[u8], args: &[u8]) -> bool
-    ensures { result ≡ is_format first.now (words args.now) }
+// The format that the two words `qjobs` and `1`, or `qjobs` and `2`, say.
+fn format_said(first: &[u8], args: &[u8]) -> Option<Format>
+    ensures { result ≡ format_said first.now (words args.now) }
 {
     match one_word(args) {
-        Ok(version) => first == b"qjobs".as_slice() && version == b"1".as_slice(),
-        Err(_) => false,
+        Ok(version) if first == b"qjobs".as_slice() => format_numbered(version),
+        _ => None,
     }
 }
 
@@ -40,9 +41,9 @@ pub struct JobReader {
 
 impl JobReader {
     ghost use Rattle.std.specs.Prelude.{◌≡◌, IfOk, Some, None, false, true};
+    ghost use Rattle.lk_abs.specs.Workload.{IsLawful, workload_of};
     ghost use Rattle.lk_forms.specs.Words.{words};
     ghost use Rattle.lk_job_forms.specs.declared.keyword.Keyword.TheVariants as keyword;
-    ghost use Rattle.lk_job_forms.specs.Workload.{IsLawful, workload_of};
     ghost use Rattle.lk_job_forms.specs.Grammar.{nothing_read, read, read_placed, read_known, read_ranked, has_end, ending};
     ghost use Rattle.lk_job_forms.specs.Reader.{reading, step_of, ReadsOn};
 
@@ -97,10 +98,11 @@ impl JobReader {
         ensures { ReadsOn (read_ranked (reading self.old) None first.now (words args.now))
             (reading self.old) (reading self.new) result }
     {
-        if !is_format(first, args) {
+        let Some(format) = format_said(first, args) else {
             return Err(LineRefusal::Bad(Fault::NoFormat));
-        }
+        };
         self.rank = Some(0);
+        self.draft.format = format;
         Ok(JobStep::More)
     }
 
@@ -167,6 +169,7 @@ impl JobReader {
     {
         let JobReader { draft, lists, .. } = self;
         let Draft {
+            format,
             mode,
             guard,
             sockets,
@@ -175,6 +178,7 @@ impl JobReader {
             ..
         } = draft;
         JobFile {
+            format,
             mode,
             guard,
             topology: Topology { sockets },

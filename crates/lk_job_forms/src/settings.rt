@@ -8,11 +8,9 @@ use crate::accounts::accounts_line;
 use crate::draft::{Draft, no_jobs};
 use crate::jobs::job_line;
 use crate::keyword::Keyword;
-use crate::limits::MAX_WORKERS;
-use lk_abs::{List, Mode};
+use lk_abs::{List, MAX_TURNS, MAX_WORKERS, Mode};
 use lk_forms::{
-    Fault, LineRefusal, MAX_TURNS, count_words, kind_word, no_words, number_in, one_word,
-    read_sockets,
+    Fault, LineRefusal, count_words, kind_word, no_words, number_in, one_word, read_sockets,
 };
 use std::alloc::Global;
 

@@ -1,5 +1,5 @@
 pub mod Pieces
-pub mod Cut
+pub mod Cuts
 pub mod Places
 pub mod ReadOn
 pub mod Turns

@@ -14,7 +14,7 @@ use Rattle.lk_forms.specs.Trace.{bytes_of, whole_lines}
 use Rattle.lk_stream.specs.Grammar.{Grammar, Place, Refused, Says, first_place, placed, next_place, says_at_end, unless_refused, says_from, saying, place_after}
 use Rattle.lk_stream.specs.Reads.{IsCutTo, Leads, ReadsTo}
 use Rattle.lk_stream.proofs.Pieces.{whole_lines_of}
-use Rattle.lk_stream.proofs.Cut.{cut_on, says_line, taken_whole, cut_fresh, long_piece, much_piece, over_at, whole_on, over_on}
+use Rattle.lk_stream.proofs.Cuts.{cut_on, says_line, taken_whole, cut_fresh, long_piece, much_piece, over_at, whole_on, over_on}
 use Rattle.lk_stream.proofs.Places.{next-within, next-long, next-much, leads_nowhere, leads_on}
 
 module _ {S : Type 0} (g : Grammar S) where

@@ -8,7 +8,7 @@ use lk_forms::{Fault, LineRefusal, Which};
 use lk_text::LineFault;
 
 /// What a fault of the reader means at this line.
-pub(crate) fn cut(line: u64, fault: LineFault) -> ReplayFault
+pub fn cut(line: u64, fault: LineFault) -> ReplayFault
     ensures { result ≡ cut_at line fault }
 {
     match fault {

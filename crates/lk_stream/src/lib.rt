@@ -9,7 +9,7 @@ mod script;
 mod stream;
 
 pub use answers::{ReplayFault, Stop};
-pub use faults::refused;
+pub use faults::{cut, refused};
 pub use header::next_header_step;
 pub use script::Script;
 pub use stream::{follow, put_before_read};

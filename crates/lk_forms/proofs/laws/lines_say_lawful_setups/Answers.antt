@@ -1,5 +1,5 @@
-use Rattle.lk_forms.proofs.Lawful.{lawful_setup, no_acts_before_go}
+use Rattle.lk_forms.proofs.Lawful.{lawful_setup, limited_cpus, no_acts_before_go}
 use Rattle.lk_forms.proofs.laws.lines_say_lawful_setups.Goals as goal
 
 pub returns : goal.returns
-returns c = record { lawful = lawful_setup; acts = no_acts_before_go }
+returns c = record { lawful = lawful_setup; cpus = limited_cpus; acts = no_acts_before_go }
