@@ -6,11 +6,11 @@ use Rattle.std.specs.Str.{bytes_eq}
 use Rattle.lk_abs.specs.declared.events.Event.{Event}
 use Rattle.lk_machine.specs.Run.{Occurrence, events_of}
 use Rattle.lk_machine.specs.declared.setup.Setup.{Setup}
+use Rattle.lk_text.proofs.NumberLemmas.{and_split}
 use Rattle.lk_forms.specs.Texts.{count_name}
 use Rattle.lk_forms.specs.declared.limits.TheConstants.{MAX_ACTS}
 use Rattle.lk_forms.specs.declared.answers.Fault.{Fault}
 use Rattle.lk_forms.specs.declared.answers.Fault.TheVariants.{UnknownWord, OutOfRange, WrongLock, Misplaced}
-use Rattle.lk_forms.proofs.NumberLemmas.{and_split}
 use Rattle.lk_audit_forms.specs.Parts.{spaced, if_some, one_word, two_words, plain_number}
 use Rattle.lk_audit_forms.specs.EventLines.{event_told}
 use Rattle.lk_audit_forms.specs.Ranges.{is_next_act, is_in_setup, fits_lock, checked, read_event}

@@ -16,7 +16,7 @@ use Rattle.lk_forms.specs.declared.answers.LineRefusal.TheVariants.{Bad, Limit, 
 use Rattle.lk_forms.specs.Grammar.{read as read_header, ending as header_ending}
 use Rattle.lk_stream.specs.Grammar.{Place, Good, Refused, Says, placed, next_place, says_at_end}
 use Rattle.lk_stream.specs.Reads.{IsCutTo, ReadsTo}
-use Rattle.lk_stream.proofs.Cut.{cut_on, says_line}
+use Rattle.lk_stream.proofs.Cuts.{cut_on, says_line}
 use Rattle.lk_stream.proofs.Places.{next-within}
 use Rattle.lk_stream.proofs.ReadOn.{reads_nothing, reads_end, long_line, long_text, line_refused, line_read}
 use Rattle.lk_abs.proofs.OneMore.{lawful-nil}

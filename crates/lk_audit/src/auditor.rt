@@ -37,6 +37,7 @@ impl Auditor {
     {
         let judge = Judge::new(
             alloc,
+            setup.format,
             setup.mode,
             &setup.topology,
             setup.threshold,

@@ -13,7 +13,7 @@ use Rattle.lk_audit_forms.proofs.Names.{some_then, some_same, waiter_printed, wa
 use Rattle.lk_audit_forms.proofs.Whats.{args_of, verb_of, what_joined, what_printed, what_read, verb_lacks, waiter_lacks, args_lack}
 
 -- what ends alike begins alike
-cut_last : (a b : List ℕ) (x : ℕ) → a ++ x ∷ [] ≡ b ++ x ∷ [] → a ≡ b
+pub cut_last : (a b : List ℕ) (x : ℕ) → a ++ x ∷ [] ≡ b ++ x ∷ [] → a ≡ b
 cut_last [] [] x is = refl
 cut_last [] (c ∷ []) x is = cc
 cut_last [] (c ∷ d ∷ b) x is = cc

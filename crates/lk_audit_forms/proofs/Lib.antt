@@ -4,3 +4,4 @@ pub mod Names
 pub mod Whats
 pub mod Events
 pub mod Cuts
+pub mod Closings

@@ -6,7 +6,7 @@ use Rattle.std.proofs.lemmas.Fmt.{decimal_is_IsNumeral}
 use Rattle.std.specs.List.{list_all, slice_split, onto_first, join_with_byte}
 use Rattle.std.specs.Char.{digit_value}
 use Rattle.std.specs.Str.Parse.{AllDigits}
-use Rattle.lk_forms.proofs.NumberLemmas.{and_split}
+use Rattle.lk_text.proofs.NumberLemmas.{and_split}
 use Rattle.lk_audit_forms.specs.Parts.{parts}
 
 -- none of the bytes is the mark

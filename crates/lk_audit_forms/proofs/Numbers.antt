@@ -6,8 +6,8 @@ use Rattle.std.proofs.lemmas.Fmt.{decimal_is_IsNumeral, decimal-digits_value, de
 use Rattle.std.proofs.lemmas.Str.Parse.{IsNumeralModel, numerals_by_value, tells_all_ascii_digits}
 use Rattle.std.specs.Str.{all_ascii_digits}
 use Rattle.std.specs.Str.Parse.{digits_value}
-use Rattle.lk_forms.specs.Words.{number_of, is_number}
-use Rattle.lk_forms.proofs.NumberLemmas.{and_split}
+use Rattle.lk_text.specs.Numbers.{number_of, is_number}
+use Rattle.lk_text.proofs.NumberLemmas.{and_split}
 use Rattle.lk_audit_forms.specs.Parts.{has_leading_zero, plain_number, small_number, if_some}
 
 own : IsNumeralModel (λ ds. all_ascii_digits ds ≡ true) (digits_value 10)

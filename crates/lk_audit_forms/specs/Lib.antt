@@ -5,3 +5,4 @@ pub mod Closing
 pub mod Grammar
 pub mod Texts
 pub mod Exact
+pub mod ExactClosing

@@ -3,7 +3,7 @@
 use Rattle.std.specs.Prelude.{ℕ, ◌==◌, ◌^◌, nat_lt, Bool, false, List, [], ◌∷◌, Option, None, Some, if◌then◌else◌}
 use Rattle.std.specs.List.{slice_split}
 use Rattle.std.specs.Borrow.{Bor}
-use Rattle.lk_forms.specs.Words.{number_of}
+use Rattle.lk_text.specs.Numbers.{number_of}
 
 -- the parts between each byte that is this mark: at least one, and an empty one where marks stand
 -- beside each other, or at an end

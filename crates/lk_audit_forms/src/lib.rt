@@ -13,6 +13,6 @@ mod texts;
 
 pub use answers::{BreachName, Told};
 pub use closing::{CLOSING_LINES, line_told};
-pub use laws::events_are_read_as_printed;
+pub use laws::{closing_lines_are_read_as_printed, events_are_read_as_printed};
 pub use ranges::read_event;
 pub use texts::{breach_line, lawful_line};

@@ -4,7 +4,7 @@ ghost use Rattle.std.specs.List.{position};
 ghost use Rattle.std.specs.Option.{option_map};
 ghost use Rattle.lk_audit_forms.specs.Parts.{parts, words_left, shown, one_word, two_words, has_leading_zero, plain_number, small_number};
 
-use lk_forms::read_number;
+use lk_text::read_number;
 
 fn first_mark(bytes: &[u8], mark: u8) -> Option<usize>
     ensures { result ≡ position (λ b. b == mark) bytes.now }

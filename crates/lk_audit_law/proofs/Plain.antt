@@ -15,9 +15,9 @@ use Rattle.lk_abs.specs.declared.events.RwHow.TheVariants as rw_how
 use Rattle.lk_abs.specs.declared.events.What.{What}
 use Rattle.lk_abs.specs.declared.events.What.TheVariants as what
 use Rattle.lk_text.specs.Feeds.{HasNoFeed}
+use Rattle.lk_text.proofs.NumberLemmas.{and_split}
 use Rattle.lk_forms.specs.Texts.{how_text, rw_text, wait_mark, lock_text, waiter_text, owing_text, moved_text, what_text, event_text}
 use Rattle.lk_forms.proofs.TextParts.{moved_more}
-use Rattle.lk_forms.proofs.NumberLemmas.{and_split}
 use Rattle.lk_forms.proofs.Decimals.{decimal_small, decimal_short}
 use Rattle.lk_audit_forms.specs.Exact.{IsShortLock, IsShortWaiter, IsTellable, IsTold}
 use Rattle.lk_audit_forms.proofs.Marks.{lacks, decimal_lacks}

@@ -1,7 +1,8 @@
-//! The program: `qlock replay` reads a trace from standard input and writes its transcript to
-//! standard output; `qlock ledger` reads a job file there, runs its jobs on threads, and writes what
-//! came of them; `qlock gen` and `qlock load` write the generated trace of a start number, and the
-//! closing lines of its replay.
+//! The program, over standard input, output and error. `qlock replay` reads a trace and writes its
+//! transcript, and `qlock osq` does so with a run of the optimistic spin queue. `qlock audit` reads a
+//! transcript from anybody and says whether it is lawful. `qlock ledger` reads a job file, runs its
+//! jobs on threads, and writes what came of them. `qlock gen` and `qlock load` write the generated
+//! trace of a start number, and the closing lines of its replay.
 #![tactic(auto)]
 
 use lk_command::answer;

@@ -1,5 +1,6 @@
 -- What a ledger comes to, by what `ledger` answers.
 use Rattle.std.proofs.Common.{◌≡◌, ◌⊎◌, ℕ, List, Some, Result, Ok, Err, IfOk, IfErr, IsOkUnless, IsErrAnd, inl, inr, ap, refl}
+use Rattle.lk_abs.specs.Workload.{Workload}
 use Rattle.lk_text.specs.Causes.{Rose}
 use Rattle.lk_forms.specs.declared.answers.LineRefusal.{LineRefusal}
 use Rattle.lk_stream.specs.Outside.{Outside}
@@ -7,7 +8,6 @@ use Rattle.lk_stream.specs.Outcome.{refused_fault}
 use Rattle.lk_stream.specs.declared.answers.ReplayFault.{ReplayFault}
 use Rattle.lk_stream.specs.declared.answers.ReplayFault.TheVariants as fault
 use Rattle.lk_job_forms.specs.JobFile.{job_file}
-use Rattle.lk_job_forms.specs.Workload.{Workload}
 use Rattle.lk_workers.specs.declared.running.Outcome.{Outcome}
 use Rattle.lk_ledger.specs.Outcome.{HasRun, FaultMeans}
 use Rattle.lk_command.specs.Status.{status_at, came_to}

@@ -4,13 +4,13 @@ use Rattle.std.specs.Prelude.{◌≡◌, ◌⊎◌, ℕ, List, Some, Ok, Err}
 use Rattle.std.specs.Io.KnownBytes.{Keeps}
 use Rattle.lk_abs.specs.declared.ledger.Entry.{Entry}
 use Rattle.lk_abs.specs.declared.ledger.Seen.{Seen}
+use Rattle.lk_abs.specs.Workload.{Workload}
 use Rattle.lk_text.specs.Causes.{Rose}
 use Rattle.lk_forms.specs.declared.answers.LineRefusal.{LineRefusal}
 use Rattle.lk_forms.specs.declared.answers.LineRefusal.TheVariants.{Bad, Limit}
 use Rattle.lk_stream.specs.Outside.{Outside}
 use Rattle.lk_stream.specs.Outcome.{refused_fault}
 use Rattle.lk_job_forms.specs.JobFile.{job_file}
-use Rattle.lk_job_forms.specs.Workload.{Workload}
 use Rattle.lk_ledger.specs.Outcome.{IsRun, RefusedAt, CutByRead, CutByWrite}
 use Rattle.lk_command.specs.Status.{status_at}
 use Rattle.lk_command.specs.declared.status.Status.{Status}

@@ -16,7 +16,7 @@ use Rattle.lk_forms.specs.declared.answers.Which.TheVariants.{Line, Input}
 use Rattle.lk_stream.specs.Reads.{IsCutTo}
 use Rattle.lk_replay.specs.Reads.{IsAccepted, ReadsTo}
 use Rattle.lk_stream.proofs.Pieces.{bytes_of-push, whole_lines_of}
-use Rattle.lk_stream.proofs.Cut.{cut_on, says_line, taken_whole, cut_fresh, long_piece, much_piece, over_at, whole_on, over_on}
+use Rattle.lk_stream.proofs.Cuts.{cut_on, says_line, taken_whole, cut_fresh, long_piece, much_piece, over_at, whole_on, over_on}
 use Rattle.lk_replay.proofs.Refusals.{refusal_within, refusal_long, refusal_much, accepted-push, reading_after-accepted}
 
 -- ---- what the text says
