@@ -10,13 +10,12 @@
 //! processors, the calls, and the end of the domain.
 #![tactic(auto)]
 
-mod fault;
 mod numbers;
 mod plan;
 mod race;
 mod words;
 
-use fault::Fault;
+use lk_abs::Memory;
 use lk_domain::{Domain, close};
 use numbers::Numbers;
 use plan::plan_of;
@@ -29,7 +28,7 @@ use std::thread::Threads;
 use std::time::{Duration, Instant};
 use words::race_of;
 
-// The status of numbers that are wrong.
+// The status of a race whose numbers are wrong, or of which nothing came.
 const WRONG: u8 = 1;
 
 // The status of words that are not those of a race.
@@ -40,50 +39,54 @@ const USAGE: u8 = 2;
 struct Outcome {
     numbers: (u64, u64),
     were_one: bool,
-    time: Duration,
+    time: io::Result<Duration>,
 }
 
 // The race, from the plan of its domain to the domain's end.
 fn carry_out<R: Threads + Wait + Sync + AllocGlobal + Clock>(
     rt: &R,
     race: &Race,
-) -> Result<Outcome, Fault> {
+) -> Result<Outcome, Memory> {
     let plan = plan_of(rt.alloc(), race)?;
     let (domain, mut cpus) = Domain::new(rt.alloc(), &plan)?;
     let numbers = Numbers::new();
-    let start = Instant::now(rt)?;
+    let start = Instant::now(rt);
     take_all_turns(rt, &domain, &numbers, race, &mut cpus);
-    let time = start.elapsed(rt)?;
+    let time = match start {
+        Ok(start) => start.elapsed(rt),
+        Err(why) => Err(why),
+    };
     match close(rt.alloc(), domain, cpus) {
-        Ok(_) => {
-            Ok(Outcome {
-                numbers: numbers.read(),
-                were_one: numbers.were_one(),
-                time,
-            })
-        }
-        Err(_) => Err(Fault::Memory),
+        Ok(_) => Ok(Outcome {
+            numbers: numbers.read(),
+            were_one: numbers.were_one(),
+            time,
+        }),
+        Err(_) => Err(Memory),
     }
 }
 
 // Tells what came of a race, and whether the numbers are what they have to be.
-fn tell(rt: &(impl Print + Eprint), race: &Race, outcome: &Outcome) -> io::Result<bool> {
+fn tell(rt: &(impl Print + Eprint), race: &Race, outcome: Outcome) -> io::Result<bool> {
     let (first, second) = outcome.numbers;
     let right = outcome.were_one && first == race.changes() && second == race.changes();
     println!(rt; "turns {}", race.all_turns())?;
     println!(rt; "numbers {first} {second}")?;
     println!(rt; "{}", if right { "right" } else { "wrong" })?;
-    eprintln!(rt; "{} microseconds", outcome.time.as_micros())?;
+    eprintln!(rt; "{} microseconds", outcome.time?.as_micros())?;
     Ok(right)
 }
 
-fn main(rt: HostRuntime) -> Result<ExitCode, Fault> {
+fn main(rt: HostRuntime) -> io::Result<ExitCode> {
     let Some(race) = race_of(&rt) else {
         eprintln!(rt; "usage: lk_race virt|native|cna spin|rw THREADS TURNS WORK")?;
         return Ok(ExitCode::from(USAGE));
     };
-    let outcome = carry_out(&rt, &race)?;
-    if tell(&rt, &race, &outcome)? {
+    let Ok(outcome) = carry_out(&rt, &race) else {
+        eprintln!(rt; "there is not enough memory")?;
+        return Ok(ExitCode::from(WRONG));
+    };
+    if tell(&rt, &race, outcome)? {
         Ok(ExitCode::SUCCESS)
     } else {
         Ok(ExitCode::from(WRONG))

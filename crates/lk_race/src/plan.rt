@@ -3,7 +3,7 @@ ghost use Rattle.std.specs.Prelude.{◌≡◌, ◌≤◌, IfOk, length};
 ghost use Rattle.lk_domain.specs.Plans.{IsLawfulPlan, cpus_of, kind_at, locks_of};
 
 use crate::race::Race;
-use lk_abs::{List, Memory, Topology};
+use lk_abs::{Format, List, Memory, Topology};
 use lk_domain::Plan;
 use std::alloc::Global;
 
@@ -30,6 +30,7 @@ pub fn plan_of(alloc: Global, race: &Race) -> Result<Plan, Memory>
     ensures kind { IfOk result (λ plan. kind_at plan 0 ≡ race.now.kind) }
 {
     Ok(Plan {
+        format: Format::One,
         mode: race.mode,
         topology: Topology {
             sockets: sockets(alloc, race.threads)?,

@@ -1,50 +1,33 @@
 // The header of a trace, read line by line.
-ghost use Rattle.std.specs.Prelude.{◌≡◌, ◌<◌, ℕ, List, IfOk, IfSome, OnOk, true, false};
-ghost use Rattle.lk_text.specs.Reader.{looked_at, GaveLine};
-ghost use Rattle.lk_forms.specs.Grammar.{read, has_go};
-ghost use Rattle.lk_forms.specs.Reader.{ReadsOn, reading, step_of};
+ghost use Rattle.std.specs.Prelude.{◌≡◌, ◌<◌, IfOk, OnOk, true, false};
+ghost use Rattle.lk_text.specs.Reader.{looked_at};
+ghost use Rattle.lk_forms.specs.Grammar.{has_go};
+ghost use Rattle.lk_forms.specs.Reader.{reading, step_of};
 ghost use Rattle.lk_steps.specs.Header.{IsSaid};
 
-use crate::fault::StepsFault;
-use lk_forms::{HeaderReader, HeaderStep, LineRefusal};
-use lk_text::{LineFault, LineReader, Source};
-
-// What the header makes of the next line, if there is one.
-fn next_step<S: Source>(
-    header: &mut HeaderReader,
-    reader: &mut LineReader,
-    source: &mut S,
-) -> Result<Option<Result<HeaderStep, LineRefusal>>, LineFault>
-    requires { has_go (reading header.old) ≡ false }
-    ensures given { IfOk result (λ given. IfSome given (λ said. (line : List ℕ)
-        × GaveLine reader.old reader.new (S.left source.old) (S.left source.new) line × ReadsOn (read (reading header.old) line) (reading header.old) (reading header.new) said)) }
-{
-    match reader.next_line(source) {
-        Ok(Some(line)) => Ok(Some(header.line(line))),
-        Ok(None) => Ok(None),
-        Err(fault) => Err(fault),
-    }
-}
+use lk_forms::{HeaderReader, HeaderStep};
+use lk_stream::{ReplayFault, cut, next_header_step, refused};
+use lk_text::{LineReader, Source};
 
 // Reads one line of the header.
 fn read_step<S: Source>(
     header: &mut HeaderReader,
     reader: &mut LineReader,
     source: &mut S,
-) -> Result<HeaderStep, StepsFault>
+) -> Result<HeaderStep, ReplayFault>
     requires { has_go (reading header.old) ≡ false }
     ensures step { IfOk result (λ step. step ≡ step_of (reading header.new)) }
     ensures said { OnOk result (IsSaid (reading header.old) → IsSaid (reading header.new)) }
     ensures looked { OnOk result (looked_at reader.old < looked_at reader.new) }
 {
-    match next_step(header, reader, source) {
+    match next_header_step(header, reader, source) {
         Ok(Some(Ok(step))) => Ok(step),
-        Ok(Some(Err(why))) => Err(StepsFault::of_refusal(reader.lines(), why)),
-        Ok(None) => Err(StepsFault::BadInput {
+        Ok(Some(Err(why))) => Err(refused(reader.lines(), why)),
+        Ok(None) => Err(ReplayFault::BadInput {
             line: reader.lines() + 1,
             fault: header.ending(),
         }),
-        Err(fault) => Err(StepsFault::of_reader(reader.lines() + 1, fault)),
+        Err(fault) => Err(cut(reader.lines() + 1, fault)),
     }
 }
 
@@ -53,7 +36,7 @@ pub(crate) fn read_header<S: Source>(
     header: &mut HeaderReader,
     reader: &mut LineReader,
     source: &mut S,
-) -> Result<(), StepsFault>
+) -> Result<(), ReplayFault>
     requires go { has_go (reading header.old) ≡ false }
     requires said { IsSaid (reading header.old) }
     ensures gone { OnOk result (has_go (reading header.new) ≡ true) }

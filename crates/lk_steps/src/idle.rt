@@ -8,87 +8,66 @@ ghost use Rattle.lk_machine.specs.Programs.{HasPrograms};
 use lk_abs::Act;
 use lk_machine::{MAX_FRAMES, Machine, Pc};
 
-/// Why an act changes nothing.
-#[derive(Clone, Copy, PartialEq, Eq)]
-pub(crate) enum Idle {
-    /// The processor is preempted.
-    Preempted,
-    /// It has halted, and no kick of it is remembered.
-    Halted,
-    /// It has finished.
-    Finished,
-    /// It has six frames.
-    Full,
-    /// It has no handler left.
-    NoHandler,
-    /// It stands between the test before a halt and the halt, where interrupts are off.
-    AboutToHalt,
-    /// It is not preempted.
-    Going,
-    /// It has not halted.
-    Awake,
+/// The processor of an act.
+pub(crate) fn cpu_of(act: Act) -> u32
+    ensures { result ≡ processor_of act }
+{
+    match act {
+        Act::Step(cpu)
+        | Act::Interrupt(cpu)
+        | Act::Preempt(cpu)
+        | Act::Resume(cpu)
+        | Act::Nudge(cpu) => cpu,
+    }
 }
 
-fn step_idle(machine: &Machine, cpu: u32) -> Option<Idle>
+// Why a step would be idle, where the processor is not preempted.
+fn step_idle(machine: &Machine, cpu: u32) -> Option<&'static str>
     requires { HasTop machine.now cpu }
 {
-    if machine.preempted(cpu) {
-        return Some(Idle::Preempted);
-    }
     if machine.halted(cpu) {
         return if machine.kicked(cpu) {
             None
         } else {
-            Some(Idle::Halted)
+            Some("halted")
         };
     }
     match machine.place(cpu) {
         Some(_) => None,
-        None => Some(Idle::Finished),
+        None => Some("finished"),
     }
 }
 
-fn interrupt_idle(machine: &Machine, cpu: u32) -> Option<Idle>
+// Why an interrupt would not come, where the processor is not preempted.
+fn interrupt_idle(machine: &Machine, cpu: u32) -> Option<&'static str>
     requires top { HasTop machine.now cpu }
     requires programs { HasPrograms machine.now.setup cpu }
 {
     let is_before_halt = matches!(machine.place(cpu), Some(Pc::W6 | Pc::E12));
-    if machine.preempted(cpu) {
-        Some(Idle::Preempted)
-    } else if machine.depth(cpu) as usize == MAX_FRAMES {
-        Some(Idle::Full)
+    if machine.depth(cpu) as usize == MAX_FRAMES {
+        Some("six contexts")
     } else if machine.handlers_left(cpu) == 0 {
-        Some(Idle::NoHandler)
+        Some("no handler left")
     } else if is_before_halt && !machine.halted(cpu) {
-        Some(Idle::AboutToHalt)
+        Some("about to halt")
     } else {
         None
-    }
-}
-
-fn nudge_idle(machine: &Machine, cpu: u32) -> Option<Idle>
-    requires { HasTop machine.now cpu }
-{
-    if machine.preempted(cpu) {
-        Some(Idle::Preempted)
-    } else if machine.halted(cpu) {
-        None
-    } else {
-        Some(Idle::Awake)
     }
 }
 
 /// Why the act would be idle; none where it would not.
-pub(crate) fn idle_of(machine: &Machine, act: Act) -> Option<Idle>
+pub(crate) fn idle_of(machine: &Machine, act: Act) -> Option<&'static str>
     requires top { HasTop machine.now (processor_of act) }
     requires programs { HasPrograms machine.now.setup (processor_of act) }
 {
-    match act {
-        Act::Step(cpu) => step_idle(machine, cpu),
-        Act::Interrupt(cpu) => interrupt_idle(machine, cpu),
-        Act::Preempt(cpu) if machine.preempted(cpu) => Some(Idle::Preempted),
-        Act::Resume(cpu) if !machine.preempted(cpu) => Some(Idle::Going),
-        Act::Preempt(_) | Act::Resume(_) => None,
-        Act::Nudge(cpu) => nudge_idle(machine, cpu),
+    let cpu = cpu_of(act);
+    match (act, machine.preempted(cpu)) {
+        (Act::Resume(_), true) => None,
+        (Act::Resume(_), false) => Some("not preempted"),
+        (_, true) => Some("preempted"),
+        (Act::Step(_), false) => step_idle(machine, cpu),
+        (Act::Interrupt(_), false) => interrupt_idle(machine, cpu),
+        (Act::Nudge(_), false) if !machine.halted(cpu) => Some("not halted"),
+        (Act::Nudge(_) | Act::Preempt(_), false) => None,
     }
 }

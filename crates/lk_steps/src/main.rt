@@ -1,51 +1,63 @@
-//! The program: reads a trace from standard input, and writes each of its acts as a line to standard output.
+//! The program: reads a trace from standard input, and writes each of its acts as a line to standard output; or, with the word
+//! `replay`, its transcript, so that a quick run has both of one small program.
 #![tactic(auto)]
 
-mod fault;
+mod asked;
 mod header;
 mod idle;
-mod sight;
+mod lines;
 mod spot;
 mod step;
 mod steps;
 mod text;
 mod told;
 
-use fault::StepsFault;
+use asked::{Asked, asked_by};
+use lk_replay::replay;
+use lk_stream::ReplayFault;
 use lk_text::{StdSink, StdSource};
 use std::alloc::Global;
-use std::env;
 use std::process::ExitCode;
 use steps::Steps;
 
 // The status of words that the program does not know.
 const USAGE: u8 = 2;
 
-// Whether the program was called with words, of which it wants none.
-fn has_words(rt: &HostRuntime) -> bool {
-    match env::args(rt) {
-        Ok(mut words) => words.nth(1).is_some(),
-        Err(_) => true,
+// Reads the trace to its end, and tells what was asked of it.
+fn tell(alloc: Global, rt: &HostRuntime, asked: Asked) -> Result<(), ReplayFault> {
+    let mut source = StdSource::new(rt.stdin());
+    let mut sink = StdSink::new(rt.stdout());
+    match asked {
+        Asked::Steps => Steps::open(alloc, &mut source)?.run(&mut source, &mut sink),
+        Asked::Replay => {
+            replay(alloc, &mut source, &mut sink)?;
+            Ok(())
+        }
     }
 }
 
-// Reads the trace to its end, and tells its acts.
-fn tell(alloc: Global, rt: &HostRuntime) -> Result<(), StepsFault> {
-    let mut source = StdSource::new(rt.stdin());
-    let mut sink = StdSink::new(rt.stdout());
-    Steps::open(alloc, &mut source)?.run(&mut source, &mut sink)
+// Writes why a trace was not told to its end, and gives the exit status: those of `qlock replay`.
+fn refuse(rt: &HostRuntime, fault: ReplayFault) -> ExitCode {
+    let (told, status) = match fault {
+        ReplayFault::BadInput { line, fault } => {
+            (eprintln!(rt; "bad input line {line}: {fault:?}"), 3)
+        }
+        ReplayFault::Limit { line, which } => (eprintln!(rt; "limit line {line}: {which:?}"), 7),
+        ReplayFault::ReadFault => (eprintln!(rt; "read fault"), 4),
+        ReplayFault::WriteFault => (eprintln!(rt; "write fault"), 5),
+        ReplayFault::Memory => (eprintln!(rt; "out of memory"), 6),
+    };
+    let _ = told;
+    ExitCode::from(status)
 }
 
 fn main(rt: HostRuntime) -> ExitCode {
-    if has_words(&rt) {
-        let _ = eprintln!(rt; "usage: qlock-steps < TRACE");
+    let Some(asked) = asked_by(&rt) else {
+        let _ = eprintln!(rt; "usage: qlock-steps [replay] < TRACE");
         return ExitCode::from(USAGE);
-    }
-    match tell(rt.alloc(), &rt) {
+    };
+    match tell(rt.alloc(), &rt, asked) {
         Ok(()) => ExitCode::SUCCESS,
-        Err(fault) => {
-            let _ = eprintln!(rt; "{fault}");
-            ExitCode::from(fault.number())
-        }
+        Err(fault) => refuse(&rt, fault),
     }
 }

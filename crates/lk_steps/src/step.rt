@@ -1,144 +1,131 @@
 // What an act does.
-ghost use Rattle.std.specs.Prelude.{◌≡◌};
+ghost use Rattle.std.specs.Prelude.{◌≡◌, ◌≤◌, length};
 ghost use Rattle.lk_machine.specs.Acts.{processor_of};
-ghost use Rattle.lk_machine.specs.Machine.{HasTop};
 ghost use Rattle.lk_steps.specs.Shown.{CanShow};
 
-use crate::idle::{Idle, idle_of};
-use crate::sight::{Sight, sight_at};
+use crate::idle::{cpu_of, idle_of};
 use crate::spot::{Spot, spot_of};
-use lk_abs::{Act, Event, Waiter};
+use crate::text::Text;
+use lk_abs::{Act, Memory, Waiter};
 use lk_machine::{Frame, Machine, Pc};
+use std::alloc::Global;
 
-/// What an act does.
-#[derive(Clone, Copy, PartialEq, Eq)]
-pub(crate) enum Deed {
-    /// A step makes the row of the top frame: on what it operates, what it meets there, and what it leaves.
-    Row {
-        place: Pc,
-        spot: Spot,
-        met: Sight,
-        left: Sight,
-    },
-    /// It does something else.
-    Other(Act),
-    /// It changes nothing, for this reason.
-    Idle(Act, Idle),
-}
+// Room for the text of an act, and for what stands in a part of the machine.
+const TEXT_ROOM: usize = 128;
 
-/// An act that was made.
-#[derive(Clone, Copy, PartialEq, Eq)]
-pub(crate) struct Step {
-    /// Whose act it was.
-    pub(crate) by: Waiter,
-    pub(crate) deed: Deed,
-    /// Whether it decided nothing: what it met stays, and so does its frame.
-    pub(crate) is_vain: bool,
-}
-
-/// An act that is about to be made: the top frame of its processor, and what it does, where a row leaves what it meets.
+/// What an act is about to do.
 #[derive(Clone, Copy)]
-pub(crate) struct Aim {
-    pub(crate) cpu: u32,
-    pub(crate) frame: Frame,
-    pub(crate) deed: Deed,
+pub(crate) enum Deed {
+    /// A step makes this row of the top frame, on this part of the machine.
+    Row(Pc, Spot),
+    /// It does something else.
+    Other,
+    /// It changes nothing, for this reason.
+    Idle(&'static str),
 }
 
-fn cpu_of(act: Act) -> u32
-    ensures { result ≡ processor_of act }
-{
-    match act {
-        Act::Step(cpu)
-        | Act::Interrupt(cpu)
-        | Act::Preempt(cpu)
-        | Act::Resume(cpu)
-        | Act::Nudge(cpu) => cpu,
-    }
-}
-
-// The row that a step makes, if it makes one.
-fn row_of(machine: &Machine, act: Act, frame: &Frame) -> Option<Pc>
-    requires { HasTop machine.now (processor_of act) }
-{
-    match act {
-        Act::Step(cpu) if !machine.halted(cpu) => frame.place,
-        _ => None,
-    }
-}
-
-// What the act does.
-fn deed_of(machine: &Machine, locks: u32, act: Act, frame: &Frame) -> Deed
+/// What the act is about to do, where this is the top frame of its processor.
+pub(crate) fn deed_of(machine: &Machine, locks: u32, act: Act, frame: &Frame) -> Deed
     requires { CanShow machine.now locks (processor_of act) }
 {
     if let Some(why) = idle_of(machine, act) {
-        return Deed::Idle(act, why);
+        return Deed::Idle(why);
     }
-    let Some(place) = row_of(machine, act, frame) else {
-        return Deed::Other(act);
-    };
-    let spot = spot_of(place, cpu_of(act), frame);
-    let met = sight_at(machine, locks, spot);
-    Deed::Row {
-        place,
-        spot,
-        met,
-        left: met,
-    }
-}
-
-/// What the act is about to do.
-pub(crate) fn aim_of(machine: &Machine, locks: u32, act: Act) -> Aim
-    requires { CanShow machine.now locks (processor_of act) }
-    ensures { result.cpu ≡ processor_of act }
-{
     let cpu = cpu_of(act);
-    let frame = machine.frame(cpu);
-    let deed = deed_of(machine, locks, act, &frame);
-    Aim { cpu, frame, deed }
+    match (act, frame.place) {
+        (Act::Step(_), Some(place)) if !machine.halted(cpu) => {
+            Deed::Row(place, spot_of(place, cpu, frame))
+        }
+        _ => Deed::Other,
+    }
 }
 
-/// What the act did, on the machine after it.
-pub(crate) fn step_of(machine: &Machine, locks: u32, aim: Aim, event: Option<Event>) -> Step
-    requires { CanShow machine.now locks aim.cpu }
-{
-    let own = Waiter {
-        cpu: aim.cpu,
-        ctx: aim.frame.ctx,
-    };
-    let by = match event {
-        Some(event) => event.by,
-        None => own,
-    };
-    let is_still = event.is_none() && machine.frame(aim.cpu) == aim.frame;
-    match aim.deed {
-        Deed::Row {
-            place,
-            spot,
-            met,
-            ..
-        } => {
-            let left = sight_at(machine, locks, spot);
-            let deed = Deed::Row {
-                place,
-                spot,
-                met,
-                left,
-            };
-            Step {
-                by,
-                deed,
-                is_vain: is_still && met == left,
+// The word of an act in a schedule.
+fn act_word(act: Act) -> &'static str {
+    match act {
+        Act::Step(_) => "step",
+        Act::Interrupt(_) => "int",
+        Act::Preempt(_) => "pre",
+        Act::Resume(_) => "res",
+        Act::Nudge(_) => "nudge",
+    }
+}
+
+/// An act that was made, as it is told.
+#[derive(Drop)]
+pub(crate) struct Step {
+    /// Whose act it was, and what it did.
+    pub(crate) text: Text,
+    // What a row met in its part of the machine, and what it left there.
+    met: Text,
+    left: Text,
+    /// Whether the act decided nothing: what it met stays, and so does its frame.
+    pub(crate) is_vain: bool,
+}
+
+impl Step {
+    /// Nothing.
+    pub(crate) fn new(alloc: Global) -> Result<Step, Memory> {
+        Ok(Step {
+            text: Text::new(alloc, TEXT_ROOM)?,
+            met: Text::new(alloc, TEXT_ROOM)?,
+            left: Text::new(alloc, TEXT_ROOM)?,
+            is_vain: false,
+        })
+    }
+
+    /// Notes what the act meets, before it is made.
+    pub(crate) fn meet(&mut self, machine: &Machine, locks: u32, deed: Deed)
+        requires { locks ≤ length machine.now.locks }
+    {
+        self.met.text.clear();
+        if let Deed::Row(_, spot) = deed {
+            spot.tell_value(machine, locks, &mut self.met);
+        }
+    }
+
+    /// Notes what it left, once it is made.
+    pub(crate) fn leave(&mut self, machine: &Machine, locks: u32, deed: Deed)
+        requires { locks ≤ length machine.now.locks }
+    {
+        self.left.text.clear();
+        if let Deed::Row(_, spot) = deed {
+            spot.tell_value(machine, locks, &mut self.left);
+        }
+    }
+
+    // Tells a row, and what it met and left.
+    fn tell_row(&mut self, place: Pc, spot: Spot, stays: bool) {
+        self.text.row(place);
+        self.text.word(" ");
+        spot.tell_name(&mut self.text);
+        self.text.word(" ");
+        self.text.append(&self.met);
+        if !stays {
+            self.text.word(" -> ");
+            self.text.append(&self.left);
+        }
+    }
+
+    /// Tells the act, whose act it was, and whether it left its frame and told no event.
+    pub(crate) fn tell(&mut self, by: Waiter, act: Act, deed: Deed, is_still: bool) {
+        self.text.text.clear();
+        self.text.pair(by.cpu, ".", by.ctx);
+        self.text.word(" ");
+        let stays = self.met.text.as_str() == self.left.text.as_str();
+        match deed {
+            Deed::Row(place, spot) => self.tell_row(place, spot, stays),
+            Deed::Other => self.text.word(act_word(act)),
+            Deed::Idle(why) => {
+                self.text.word(act_word(act));
+                self.text.word(" idle, ");
+                self.text.word(why);
             }
         }
-        Deed::Other(_) => Step {
-            by,
-            deed: aim.deed,
-            is_vain: false,
-        },
-        Deed::Idle(..) => Step {
-            by,
-            deed: aim.deed,
-            is_vain: true,
-        },
+        self.is_vain = match deed {
+            Deed::Row(..) => stays && is_still,
+            Deed::Other => false,
+            Deed::Idle(_) => true,
+        };
     }
 }

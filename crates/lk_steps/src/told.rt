@@ -3,8 +3,9 @@ ghost use Rattle.std.specs.Prelude.{◌≡◌, ◌≤◌, ◌<◌, ◌+◌, IfOk
 ghost use Rattle.lk_machine.specs.Acts.{next, processor_of};
 ghost use Rattle.lk_machine.specs.Programs.{IsLawfulSetup};
 
-use crate::step::{Step, aim_of, step_of};
-use lk_abs::{Act, Event, Memory};
+use crate::idle::cpu_of;
+use crate::step::{Step, deed_of};
+use lk_abs::{Act, Event, Memory, Waiter};
 use lk_core::rest_shows;
 use lk_machine::{Machine, Setup};
 use std::alloc::Global;
@@ -36,20 +37,34 @@ impl Told {
         })
     }
 
-    /// Makes the act, and gives what it did and its event: those that `lk_machine` defines.
-    pub(crate) fn act(&mut self, act: Act) -> (Step, Option<Event>)
+    /// Makes the act, tells what it did, and gives its event: the act and the event that
+    /// `lk_machine` defines.
+    pub(crate) fn act(&mut self, act: Act, step: &mut Step) -> Option<Event>
         requires ready { CanGoOn self.old }
         requires few { self.old.acts < 100000000 }
         requires processor { processor_of act < length self.old.machine.cpus }
         ensures machine { self.new.machine ≡ (next self.old.machine act).0 }
-        ensures event { result.1 ≡ (next self.old.machine act).1 }
+        ensures event { result ≡ (next self.old.machine act).1 }
         ensures ready { CanGoOn self.new }
         ensures acts { self.new.acts ≡ self.old.acts + 1 }
         ensures cpus { length self.new.machine.cpus ≡ length self.old.machine.cpus }
     {
-        let aim = aim_of(&self.machine, self.locks, act);
+        let cpu = cpu_of(act);
+        let frame = self.machine.frame(cpu);
+        let deed = deed_of(&self.machine, self.locks, act, &frame);
+        step.meet(&self.machine, self.locks, deed);
         let event = lk_core::act(&mut self.machine, act);
         self.acts += 1;
-        (step_of(&self.machine, self.locks, aim, event), event)
+        step.leave(&self.machine, self.locks, deed);
+        let by = match event {
+            Some(event) => event.by,
+            None => Waiter {
+                cpu,
+                ctx: frame.ctx,
+            },
+        };
+        let is_still = event.is_none() && self.machine.frame(cpu) == frame;
+        step.tell(by, act, deed, is_still);
+        event
     }
 }
