@@ -1,0 +1,162 @@
+// The word `ledger`: job files over sources and sinks in memory.
+
+use crate::command::{ended, ran};
+use std::process::Abort;
+use std::str;
+use std::sync::Wait;
+use std::test::Fail;
+use std::thread::Threads;
+
+// What is wanted of a file: the status, what is written, and the note.
+type Case = (&'static str, (u8, &'static str, &'static str));
+
+// Job files of one worker, done or refused.
+const CASES: [Case; 11] = [
+    (
+        "qjobs 1\nmode virt\naccounts 9223372036854775807\njob 0 add 0 1\nend",
+        (
+            0,
+            "entry 1 0 add 0 1 full\nbalance 0 9223372036854775807\nend 1 0\n",
+            "",
+        ),
+    ),
+    (
+        "qjobs 1\nmode virt\naccounts 5\njob 0 move 0 0 3\nend\n# behind\n\n",
+        (0, "entry 1 0 move 0 0 3 ok\nbalance 0 5\nend 1 0\n", ""),
+    ),
+    (
+        "qjobs 1\nmode virt\nworkers 16\njob 15 sum\nend\n",
+        (0, "read 15 1 0 sum 0\nend 0 1\n", ""),
+    ),
+    ("qjobs 1\nmode virt\nend\n", (0, "end 0 0\n", "")),
+    (
+        "qjobs 1\nmode virt\naccounts 9223372036854775807 1\n",
+        (7, "", "limit line 3: Total\n"),
+    ),
+    ("", (3, "", "bad input line 1: NoFormat\n")),
+    (
+        "qjobs 1\nmode virt\naccounts 1\njob 0 mul 0 2\nend\n",
+        (3, "", "bad input line 4: UnknownWord\n"),
+    ),
+    (
+        "qjobs 1\nmode pv\nend\n",
+        (3, "", "bad input line 2: UnknownWord\n"),
+    ),
+    (
+        "qjobs 1\nmode virt\nguard try\nend\n",
+        (3, "", "bad input line 3: UnknownWord\n"),
+    ),
+    (
+        "qjobs 1\nmode virt\nend\njob 0 sum\n",
+        (3, "", "bad input line 4: Misplaced\n"),
+    ),
+    (
+        "qjobs 1\nmode virt\njob 0 sum\n",
+        (3, "", "bad input line 4: NoEnd\n"),
+    ),
+];
+
+#[test]
+fn files_of_one_worker(rt: HostRuntime) -> Result<(), Fail> {
+    for (file, wanted) in CASES {
+        let ran = ran(&rt, "ledger", file.as_bytes(), [0, 0, 0])?;
+        ended(&rt, &ran, wanted);
+    }
+    Ok(())
+}
+
+// The modes of a job file, with the kinds of its lock.
+const FAMILIES: [(&str, &str); 6] = [
+    ("virt", "spin"),
+    ("virt", "rw"),
+    ("native", "spin"),
+    ("native", "rw"),
+    ("cna", "spin"),
+    ("cna", "rw"),
+];
+
+// A file of one worker behind its mode and its lock, and its one outcome.
+const JOBS: &str = "\
+workers 1
+accounts 10 0 5
+job 0 move 0 1 4
+job 0 get 1
+job 0 move 0 2 7
+job 0 add 2 1
+job 0 sum
+end
+";
+
+const OUTCOME: &str = "\
+entry 1 0 move 0 1 4 ok
+entry 2 0 move 0 2 7 short
+entry 3 0 add 2 1 ok
+read 0 2 1 get 1 4
+read 0 5 3 sum 16
+balance 0 6
+balance 1 4
+balance 2 6
+end 3 2
+";
+
+#[test]
+fn one_outcome_in_each_mode(rt: HostRuntime) -> Result<(), Fail> {
+    for (mode, kind) in FAMILIES {
+        let file = format!(in rt.alloc(); "qjobs 1\nmode {mode}\nguard {kind}\n{JOBS}")?;
+        let ran = ran(&rt, "ledger", file.as_bytes(), [0, 0, 0])?;
+        ended(&rt, &ran, (0, OUTCOME, ""));
+    }
+    Ok(())
+}
+
+// Four workers, on two sockets, each of which adds one.
+const FOUR: &str = "\
+job 0 add 0 1
+job 1 add 0 1
+job 2 add 0 1
+job 3 add 0 1
+";
+
+// Each worker adds one a thousand times, under a lock of `cna` with this threshold.
+fn all_add(
+    rt: &(impl Abort + AllocGlobal + Threads + Wait + Sync),
+    threshold: u32,
+) -> Result<(), Fail> {
+    let alloc = rt.alloc();
+    let jobs = FOUR.repeat(alloc, 1_000)?;
+    let header = "qjobs 1\nmode cna\nworkers 4\nsockets 0 1 0 1";
+    let file = format!(in alloc; "{header}\nthreshold {threshold}\naccounts 0\n{jobs}end\n")?;
+    let ran = ran(rt, "ledger", file.as_bytes(), [0, 0, 0])?;
+    assert_eq!(rt; ran.status, 0);
+    let text = str::from_utf8(ran.text.bytes())?;
+    assert!(rt; text.ends_with("\nbalance 0 4000\nend 4000 0\n"));
+    Ok(())
+}
+
+#[test]
+fn a_sum_of_four_workers(rt: HostRuntime) -> Result<(), Fail> {
+    all_add(&rt, 1)?;
+    all_add(&rt, 0)
+}
+
+// A file of 22 bytes is read byte by byte: each of its reads fails in turn, and the one that finds
+// its end; and then its one write. Nothing is written.
+#[test]
+fn failing_calls(rt: HostRuntime) -> Result<(), Fail> {
+    let file = b"qjobs 1\nmode virt\nend\n";
+    for read in 1..24 {
+        let ran = ran(&rt, "ledger", file, [read, 0, 0])?;
+        ended(&rt, &ran, (4, "", "read fault\n"));
+    }
+    ended(
+        &rt,
+        &ran(&rt, "ledger", file, [24, 0, 0])?,
+        (0, "end 0 0\n", ""),
+    );
+    ended(
+        &rt,
+        &ran(&rt, "ledger", file, [0, 1, 0])?,
+        (5, "", "write fault\n"),
+    );
+    Ok(())
+}

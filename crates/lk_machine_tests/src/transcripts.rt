@@ -1,0 +1,71 @@
+// Worked traces, and worked runs of the spin queue, replayed byte for byte.
+
+use crate::runs::{EVERY_OUTCOME, RUNS};
+use crate::slowed::{has_only_steps, is_slow, slowed};
+use crate::traces::{CNA, PV, QUEUE, RW, VIRT};
+use lk_osq_replay::osq;
+use lk_replay::replay;
+use lk_text::{MemSink, SureSource};
+use std::process::Abort;
+use std::str;
+use std::test::Fail;
+
+// What is written for a trace, or for a run, that comes in pieces of so many bytes.
+fn written(rt: &(impl Abort + AllocGlobal), input: &str, chunk: usize) -> Result<MemSink, Fail> {
+    let alloc = rt.alloc();
+    let mut source = SureSource::new(alloc, input.as_bytes(), chunk.max(1))?;
+    let mut sink = MemSink::new(alloc, 100_000, &[])?;
+    let is_done = if input.contains("qosq 1\n") {
+        osq(alloc, &mut source, &mut sink).is_ok()
+    } else {
+        replay(alloc, &mut source, &mut sink).is_ok()
+    };
+    assert!(rt; is_done, "at {input}");
+    Ok(sink)
+}
+
+// Replays a text as it stands, and a trace that has only steps also with a preemption before each.
+fn replay_one(rt: &(impl Abort + AllocGlobal), input: &str, transcript: &str) -> Result<(), Fail> {
+    let sink = written(rt, input, 5)?;
+    assert_eq!(rt; sink.bytes(), transcript.as_bytes(), "at {input}");
+    if has_only_steps(input) {
+        let slow = slowed(rt.alloc(), input)?;
+        let sink = written(rt, slow.as_str(), 1_000)?;
+        assert!(rt;
+            is_slow(str::from_utf8(sink.bytes())?, transcript),
+            "at {input}"
+        );
+    }
+    Ok(())
+}
+
+// Replays each trace or run of a text.
+fn replay_all(rt: &(impl Abort + AllocGlobal), text: &str) -> Result<(), Fail> {
+    let mut parts = text.split("---\n");
+    while let Some(input) = parts.next() {
+        let transcript = parts.next().ok_or("no transcript")?;
+        replay_one(rt, input, transcript)?;
+    }
+    Ok(())
+}
+
+#[test]
+fn worked_traces(rt: HostRuntime) -> Result<(), Fail> {
+    for text in [QUEUE, CNA, RW, PV, VIRT, RUNS, EVERY_OUTCOME] {
+        replay_all(&rt, text)?;
+    }
+    Ok(())
+}
+
+// What a replay answers of the trace of a waiter that takes by the pending bit, the first of its
+// text.
+#[test]
+fn a_summary(rt: HostRuntime) -> Result<(), Fail> {
+    let (trace, _) = QUEUE.split_once("---\n").ok_or("no trace")?;
+    let mut source = SureSource::new(rt.alloc(), trace.as_bytes(), 1_000)?;
+    let mut sink = MemSink::new(rt.alloc(), 1_000, &[])?;
+    let summary = replay(rt.alloc(), &mut source, &mut sink)?;
+    assert!(rt; summary.acts == 9 && summary.events == 4);
+    assert!(rt; summary.counts.lock_pending == 1 && summary.counts.lock_slowpath == 0);
+    Ok(())
+}
