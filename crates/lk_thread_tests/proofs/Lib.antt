@@ -1,1 +1,2 @@
+mod Halted
 mod TakenOff

@@ -4,9 +4,13 @@
 #![tactic(auto)]
 
 #[cfg(test)]
+mod far_waiters;
+#[cfg(test)]
 mod handlers;
 #[cfg(test)]
 mod lock_calls;
+#[cfg(test)]
+mod pv_calls;
 #[cfg(test)]
 mod region_calls;
 #[cfg(test)]

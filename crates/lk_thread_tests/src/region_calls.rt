@@ -6,7 +6,7 @@ ghost use Rattle.lk_domain.specs.Plans.{share_of};
 ghost use Rattle.lk_domain.specs.Seats.{IsOf, ledger_of};
 ghost use Rattle.lk_guard.specs.Idle.{IsIdle};
 
-use lk_abs::{Job, Kind, List, Memory, Mode, Reply, Topology};
+use lk_abs::{Format, Job, Kind, List, Memory, Mode, Reply, Topology};
 use lk_domain::{Cpu, Domain, Plan};
 use lk_guard::Region;
 use lk_run::NoIrq;
@@ -27,6 +27,7 @@ fn plan_of(alloc: Global, mode: Mode, kind: Kind) -> Result<Plan, Memory>
     ensures shares { IfOk result (λ plan. (share_of plan 0 ≡ 2) × (share_of plan 1 ≡ 2)) }
 {
     Ok(Plan {
+        format: Format::One,
         mode,
         topology: Topology {
             sockets: List::filled(alloc, 0, 2)?,

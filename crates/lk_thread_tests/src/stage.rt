@@ -1,5 +1,6 @@
 // A domain for tests of running locks, and signs by which its threads meet.
 ghost use Rattle.std.specs.Prelude.{◌≡◌, ◌+◌, ◌<◌, ◌≤◌, false, IfOk, length};
+ghost use Rattle.lk_abs.specs.declared.names.Kind.TheVariants.{Spin};
 ghost use Rattle.lk_law.specs.Agree.{halts};
 ghost use Rattle.lk_domain.specs.Ends.{AllRest};
 ghost use Rattle.lk_domain.specs.Plans.{IsLawfulPlan, cpus_of, locks_of};
@@ -7,7 +8,7 @@ ghost use Rattle.lk_domain.specs.Seats.{IsOf};
 ghost use Rattle.lk_guard.specs.Idle.{IsIdle};
 ghost use Rattle.lk_thread_tests.specs.Stages.{AreAll};
 
-use lk_abs::{Kind, List, Memory, Mode, Topology};
+use lk_abs::{Format, Kind, List, Memory, Mode, Topology};
 use lk_domain::{Cpu, Domain, Plan};
 use std::alloc::Global;
 use std::sync::atomic::{AtomicU64, Ordering};
@@ -67,6 +68,7 @@ fn plan_of(alloc: Global, mode: Mode, kind: Kind, cpus: usize) -> Result<Plan, M
     ensures kinds { IfOk result (λ plan. AreAll kind plan) }
 {
     Ok(Plan {
+        format: Format::One,
         mode,
         topology: Topology {
             sockets: List::filled(alloc, 0, cpus)?,
@@ -95,6 +97,38 @@ pub fn open(
     ensures rest { IfOk result (λ made. AllRest made.0 made.1.items) }
 {
     let plan = plan_of(alloc, mode, kind, cpus)?;
+    let made = Domain::new(alloc, &plan)?;
+    Ok(made)
+}
+
+// The plan of a domain of `cna` with six processors, of which the fourth is on a socket of its own.
+fn plan_of_two(alloc: Global, format: Format) -> Result<Plan, Memory>
+    ensures lawful { IfOk result (λ plan. IsLawfulPlan plan) }
+    ensures cpus { IfOk result (λ plan. cpus_of plan ≡ 6) }
+    ensures locks { IfOk result (λ plan. locks_of plan ≡ LOCKS) }
+    ensures kinds { IfOk result (λ plan. AreAll Spin plan) }
+{
+    Ok(Plan {
+        format,
+        mode: Mode::Cna,
+        topology: Topology {
+            sockets: List::from_slice(alloc, &[0, 0, 0, 1, 0, 0])?,
+        },
+        threshold: 8,
+        locks: List::filled(alloc, Kind::Spin, LOCKS as usize)?,
+        balances: List::new(alloc, 0)?,
+        shares: List::filled(alloc, 0, 6)?,
+    })
+}
+
+/// Such a domain.
+pub fn open_two(alloc: Global, format: Format) -> Result<(Domain, List<Cpu>), Memory>
+    ensures locks { IfOk result (λ made. locks_of made.0.plan ≡ LOCKS) }
+    ensures kinds { IfOk result (λ made. AreAll Spin made.0.plan) }
+    ensures many { IfOk result (λ made. length made.1.items ≡ 6) }
+    ensures rest { IfOk result (λ made. AllRest made.0 made.1.items) }
+{
+    let plan = plan_of_two(alloc, format)?;
     let made = Domain::new(alloc, &plan)?;
     Ok(made)
 }

@@ -1,0 +1,30 @@
+-- What the calls of a processor that may halt leave of lock 1.
+use Rattle.std.proofs.Common.{◌≡◌, List, true, false, refl, ap, ◌∙◌}
+use Rattle.lk_machine.specs.declared.setup.Verb.{Verb}
+use Rattle.lk_domain.specs.Calls.{Hold, holds_in}
+use Rattle.lk_pvdomain.specs.PvCalls.{HasTakenBy, HasMissed, HasFreed, IsResting}
+use Rattle.lk_pvdomain.specs.PvSeats.{IsOf, IsSame, calls_of}
+use Rattle.lk_pvdomain.specs.declared.cpu.PvCpu.{PvCpu}
+use Rattle.lk_pvdomain.specs.declared.domain.PvDomain.{PvDomain}
+use Rattle.lk_pvdomain.proofs.PvSeating.{same_of}
+use Rattle.lk_thread_tests.specs.Halting.{IsReady, HasOne}
+
+module _ (d : PvDomain) (old new : PvCpu) (same : IsSame old new) where
+  pub has : (v : Verb) → IsOf old d → HasTakenBy v d 1 old new → HasOne d new
+  has v of taken =
+      record {
+        domain_is = same_of d old new same of;
+        rests = taken.rests;
+        held = ap (λ (hs : List Hold). holds_in hs 1) taken.took.holds;
+      }
+
+  pub missed : IsReady d old → HasMissed d 1 old new → IsReady d new
+  missed ready miss =
+      record {
+        domain_is = same_of d old new same ready.domain_is;
+        rests = miss.rests;
+        free = ap (λ (hs : List Hold). holds_in hs 1) miss.missed.holds ∙ ready.free;
+      }
+
+  pub freed : IsOf old d → HasFreed d 1 old new → IsReady d new
+  freed of free = record { domain_is = same_of d old new same of; rests = free.rests; free = free.none }

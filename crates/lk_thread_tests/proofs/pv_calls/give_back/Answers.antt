@@ -1,0 +1,6 @@
+use Rattle.lk_thread_tests.proofs.Halted.{freed}
+use Rattle.lk_thread_tests.proofs.pv_calls.give_back.Goals as goal
+
+pub returns : goal.returns
+returns g c =
+    record { ready = freed c.args.domain.now c.args.cpu.now c.pv_unlock.new.cpu c.pv_unlock.ensures.same c.requires.has.domain_is c.pv_unlock.ensures.freed }

@@ -1,0 +1,19 @@
+-- A processor of a test that may halt.
+use Rattle.std.specs.Prelude.{◌≡◌, true, false}
+use Rattle.lk_domain.specs.Calls.{holds_in}
+use Rattle.lk_pvdomain.specs.PvCalls.{IsResting}
+use Rattle.lk_pvdomain.specs.PvSeats.{IsOf, calls_of}
+use Rattle.lk_pvdomain.specs.declared.cpu.PvCpu.{PvCpu}
+use Rattle.lk_pvdomain.specs.declared.domain.PvDomain.{PvDomain}
+
+-- it is in no call and does not hold lock 1
+pub record IsReady (domain : PvDomain) (cpu : PvCpu) : Type 0 where
+  pub domain_is : IsOf cpu domain
+  pub rests : IsResting (calls_of cpu)
+  pub free : holds_in (calls_of cpu).holds 1 ≡ false
+
+-- it is in no call and holds it
+pub record HasOne (domain : PvDomain) (cpu : PvCpu) : Type 0 where
+  pub domain_is : IsOf cpu domain
+  pub rests : IsResting (calls_of cpu)
+  pub held : holds_in (calls_of cpu).holds 1 ≡ true
