@@ -1,4 +1,4 @@
-"""The names, files and links of the documents, and the documents that the sources name."""
+"""The names, files, links and code of the documents, and the documents that the sources name."""
 import re
 from pathlib import PurePosixPath
 
@@ -6,6 +6,8 @@ from tables import rows_of, unfenced, without
 
 LINK = re.compile(r"\[[^\]\n]*\]\(([^)\s]+)\)")
 SPAN = re.compile(r"`([^`\n]+)`")
+# A fenced block that names the file from which it is taken.
+SHOWN = re.compile(r"^```\w+ (\S+)\n(.*?)^```$", re.M | re.S)
 CLAUSES = re.compile(r"(?:`(?:\w+::)*(\w+)`,? )?clauses? ((?:`\w+`(?:, | and )?)+)")
 HEADING = re.compile(r"^#+ (.*)$", re.M)
 OURS = (".antt", ".rt", ".md", ".qtrace", ".qosq", ".transcript", ".py", ".edit")
@@ -20,6 +22,7 @@ def failures(sources):
     texts = {path: unfenced((sources.top / path).read_text()) for path in sources.documents()}
     outside = LINUX | {name for text in texts.values() for name in outside_names(text)}
     for path, text in texts.items():
+        yield from (f"{path}: {failure}" for failure in shown(sources, path))
         yield from (f"{path}: {failure}" for failure in links(sources, path, text))
         yield from (f"{path}: {failure}" for failure in names(sources, path, text, outside))
         yield from (f"{path}: {failure}" for failure in steps(sources, text))
@@ -46,6 +49,16 @@ def comments(sources, path):
 
 def labels(sources, text):
     return sorted(set(LABEL.findall(text)) - set(sources.rows))
+
+
+def shown(sources, path):
+    """A block of code that names its file stands there, line by line; `..` stands for lines that are left out."""
+    for file, block in SHOWN.findall((sources.top / path).read_text()):
+        lines = [line.strip() for line in sources.text.get(file, "").splitlines()]
+        for piece in re.split(r"^\s*\.\.\n", block, flags=re.M):
+            wanted = [line.strip() for line in piece.splitlines()]
+            if not any(lines[at : at + len(wanted)] == wanted for at in range(len(lines))):
+                yield f"the code that begins `{wanted[0] if wanted else ''}` does not stand in {file}"
 
 
 def anchors(text):
@@ -88,7 +101,7 @@ def steps(sources, text):
 
 def is_known(sources, path, span, outside):
     if span.startswith(FOLDERS) or re.fullmatch(r"[\w*][\w./*-]*", span) and span.endswith(OURS):
-        return sources.has_file(span, str(PurePosixPath(path).parent))
+        return sources.has_file(span.split(" ")[0])
     parts = span.split("::")
     if not all(re.fullmatch(r"\w+", part) for part in parts):
         return True
@@ -98,7 +111,7 @@ def is_known(sources, path, span, outside):
         return True
     if span.isupper() and "_" in span:
         return sources.mentions(span)
-    return not is_ours(span) or set(parts) <= sources.declared
+    return not is_ours(span) or set(parts) <= sources.declared or sources.has_beside(parts[-1], str(PurePosixPath(path).parent))
 
 
 def is_ours(span):

@@ -293,6 +293,8 @@ def judge_files(file, outcome):
 
 def main(words):
     seed, options = 1, {}
+    if words[:1] in (["-h"], ["--help"]):
+        return print(__doc__.strip())
     if words[:1] == ["--examples"] and len(words) == 2:
         for file in sorted(Path(words[1]).glob("*.qjobs")):
             judge_files(file, file.with_suffix(".outcome"))

@@ -1,4 +1,5 @@
-"""The tables of docs/rows against the code: each row of the machine stands once, with the function that makes it."""
+"""The tables of docs/rows against the code: each row of the machine stands once, with the function that makes it, and the functions
+and step calls that make it on threads."""
 import re
 from collections import Counter
 from pathlib import PurePosixPath
@@ -6,6 +7,10 @@ from pathlib import PurePosixPath
 from tables import rows_of, unfenced
 
 CODE = re.compile(r"\[`(\w+)::(\w+)`\]\(([^)]+)\)")
+# A function with the comment above it and its body; what a comment says of rows; the step calls that a cell or a body names.
+FUNCTION = re.compile(r"^((?://.*\n)+)(?:#\[.*\n)*(?:pub(?:\(crate\))? )?fn (\w+)", re.M)
+SAID = re.compile(r"\b[Rr]ows? ([^.]*)")
+STEPS = re.compile(r"\bsteps::(\w+)")
 DISPATCH = re.compile(r"\b(?:Pc::)?([A-Z]\w*)\)?\s*=>\s*(\w+)::(\w+)\(")
 
 
@@ -22,6 +27,7 @@ def failures(sources):
                 if row and "Row" in row and "Code" in row:
                     told[row["Row"]] += 1
                     yield from (f"{path}: {row['Row']}: {failure}" for failure in code(sources, row, made))
+                    yield from (f"{path}: {row['Row']}: {failure}" for failure in threads(sources, row))
     for label in sources.rows:
         if told[label] != 1:
             yield f"docs/rows: the row {label} stands {told[label]} times"
@@ -40,3 +46,35 @@ def code(sources, row, made):
         yield f"its code is {made.get(row['Row'])}"
     if PurePosixPath(file).stem != module or not re.search(rf"\bfn {name}\b", sources.text.get(file, "")):
         yield f"no function {module}::{name} in {file}"
+
+
+def functions(text):
+    """Each function of a file with the comment above it, its name and its body."""
+    for found in FUNCTION.finditer(text):
+        yield found[1], found[2], text[found.end() : text.find("\n}\n", found.end())]
+
+
+def rows_in(sources, comment):
+    """The rows that a comment names behind the word row, up to the end of its sentence."""
+    found = set()
+    for words in SAID.findall(" ".join(line.strip(" /") for line in comment.splitlines())):
+        for first, last in re.findall(r"(\w+) to (\w+)", words):
+            if {first, last} <= set(sources.rows):
+                found |= set(sources.rows[sources.rows.index(first) : sources.rows.index(last) + 1])
+        found |= set(re.findall(r"\w+", words)) & set(sources.rows)
+    return found
+
+
+def threads(sources, row):
+    """Each function of the column On threads says that it makes the row, and they make each step call that is named, and no other."""
+    if "On threads" not in row:
+        return
+    made = set()
+    for _, name, link in CODE.findall(row["On threads"]):
+        file = str(PurePosixPath(*[part for part in PurePosixPath(link).parts if part != ".."]))
+        bodies = [body for comment, found, body in functions(sources.text.get(file, "")) if found == name and row["Row"] in rows_in(sources, comment)]
+        if not bodies:
+            yield f"{file} has no function {name} that says it makes the row"
+        made |= {step for body in bodies for step in STEPS.findall(body)}
+    if made != set(STEPS.findall(row["On threads"])):
+        yield f"on threads it is made by the step calls {', '.join(sorted(made)) or 'none'}"

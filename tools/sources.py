@@ -3,6 +3,7 @@ import re
 import shutil
 import subprocess
 from collections import defaultdict
+from pathlib import PurePosixPath
 
 CODE = re.compile(r"\b(?:fn|struct|enum|trait|const|static|type|mod)\s+(\w+)")
 CLAUSE = re.compile(r"\b(?:ensures|requires|invariant)\s+(\w+)\s*\{")
@@ -18,6 +19,7 @@ class Sources:
     def __init__(self, top):
         self.top = top
         self.files = sorted(listed(top))
+        self.endings = {ending for path in self.files for ending in endings_of(path)}
         self.crates = re.findall(r"^(\w+)[^:#]*:", (top / "crates.txt").read_text(), re.M)
         self.text = {path: (top / path).read_text() for path in self.files if path.endswith((".rt", ".antt"))}
         self.names = {path: set(names_in(path, text)) for path, text in self.text.items()}
@@ -40,17 +42,26 @@ class Sources:
         paths = [path for path in self.files if not path.endswith(".md")]
         return any(re.search(rf"\b{word}\b", (self.top / path).read_text(errors="replace")) for path in paths)
 
-    def has_file(self, name, folder):
-        """Whether a file or folder has this name: from the top, from the folder, or as the end of its path."""
-        pattern = re.compile(re.escape(name.rstrip("/")).replace(r"\*", "[^/]*") + r"(?:[/.].*)?")
-        for path in self.files:
-            inside = path[len(folder) + 1 :] if path.startswith(f"{folder}/") else path
-            if pattern.fullmatch(path) or pattern.fullmatch(inside):
-                return True
-            starts = (at + 1 for at, letter in enumerate(path) if letter == "/")
-            if any(pattern.fullmatch(path, start) for start in starts):
-                return True
-        return False
+    def has_beside(self, name, folder):
+        """Whether a script or program in the folder of a document has a function of this name."""
+        beside = [path for path in self.files if str(PurePosixPath(path).parent) == folder and path.endswith((".c", ".h", ".py"))]
+        return any(re.search(rf"\b{name}\(", (self.top / path).read_text()) for path in beside)
+
+    def has_file(self, name):
+        """Whether a file or folder has this name, with or without its suffix: from the top, or as the end of its path."""
+        name = name.rstrip("/")
+        if "*" in name:
+            pattern = re.compile(re.escape(name).replace(r"\*", "[^/]*"))
+            return any(pattern.fullmatch(ending) for ending in self.endings)
+        return name in self.endings
+
+
+def endings_of(path):
+    """Each end of a path from a folder's or the file's name on, and each front of that up to a folder or a suffix."""
+    for start in [0, *(at + 1 for at, letter in enumerate(path) if letter == "/")]:
+        tail = path[start:]
+        yield tail
+        yield from (tail[:at] for at, letter in enumerate(tail) if letter in "/.")
 
 
 def listed(top):
