@@ -10,9 +10,15 @@ CONTEXTS_END = ("int", "nudge", "wake")
 
 
 class Rules(NamedTuple):
+    format: str
     mode: str
     sockets: list
     threshold: int
+
+    def is_local(self, waiter, front):
+        """Whether the front may not move the waiter aside."""
+        is_interrupt = self.format == "2" and waiter[1] > 0
+        return is_interrupt or self.sockets[waiter[0]] == self.sockets[front[0]]
 
 
 class Event(NamedTuple):
@@ -37,11 +43,11 @@ def event_of(line):
 
 def rules_of(lines):
     """The rules that the lines of a header say; what is left out has the default of docs/FORMATS.md."""
-    said = {"mode": ["virt"], "cpus": ["1"], "threshold": ["65535"]}
+    said = {"qtrace": ["1"], "mode": ["virt"], "cpus": ["1"], "threshold": ["65535"]}
     words = [line.split() for line in lines if line.split() and not line.split()[0].startswith("#")]
     said.update({first: rest for first, *rest in words})
     sockets = said.get("sockets", ["0"] * int(said["cpus"][0]))
-    return Rules(said["mode"][0], [int(socket) for socket in sockets], int(said["threshold"][0]))
+    return Rules(said["qtrace"][0], said["mode"][0], [int(socket) for socket in sockets], int(said["threshold"][0]))
 
 
 class Lock:
@@ -59,10 +65,9 @@ class Lock:
     def lawful_moves(self, rules):
         if rules.mode != "cna" or not self.main:
             return 0
-        socket = rules.sockets[self.main[0][0]]
         moves = 0
         for waiter, _behind in zip(self.main[1:], self.main[2:]):
-            if rules.sockets[waiter[0]] == socket:
+            if rules.is_local(waiter, self.main[0]):
                 break
             moves += 1
         return moves

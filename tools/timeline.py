@@ -1,17 +1,28 @@
 #!/usr/bin/env python3
-"""timeline.py [TITLE] < STEPS > PICTURE
+"""timeline.py [--mark ACT] [TITLE] < STEPS > PICTURE
 
-Draws what qlock-steps says of a trace as one SVG: time goes down, a row for each line; a lane for each processor, in it a bar for
-each context, a nested one right of the one that it interrupts, in the colour of what the context does; beside the bars the row
-and the event of the act, and at the right what the act met and left. Arrows show links, handovers and kicks. Each lane is as wide
-as its labels ask; where they do not fit beside each other the run ends, so that nothing overlaps.
+Draws what `./qlock steps` says of a trace as one SVG. Time goes down, a row for each line. Each processor has a lane, and in it a bar
+for each context, a nested one right of the one that it interrupts, in the colour of what the context does. Beside the bars stand the
+row and the event of the act, and at the right what the act met and left. Where lanes with events would be wider than a page, the
+events stand at the right too. Arrows show links, handovers and kicks. ACT is the number of the act that matters: its line is marked.
+Over a label a browser shows what the row does.
+
+A lane is as wide as its labels ask, so that one in which little happens is narrow; a processor that never acts has none. Letters have at least 10 pixels where the picture
+is as wide as a page, unless there are too many lanes for that.
 """
+import argparse
 import re
 import sys
+from pathlib import Path
 from xml.sax.saxutils import escape
 
-WIDTH, ROW, TOP = 1200, 16, 64
-LETTER, BAR, GAP = 6.03, 7, 4
+# The width of a page, and the letters' least size on it. A letter is so wide for each pixel of its size.
+PAGE, LEAST, SLIM = 830, 10, 0.603
+ROW, TOP = 17, 66
+SIZE, BAR, GAP = 11, 7, 4
+LETTER = SIZE * SLIM
+MARK = "#fff3bf"
+PARTS = Path(__file__).resolve().parent.parent / "crates" / "lk_machine" / "src" / "parts.rt"
 COLOURS = {"runs": "#e4e4e4", "seeks": "#f0c94a", "pending": "#ee7f2d", "queued": "#9cc5ea", "leads": "#2f6db5", "holds": "#3c9a5f",
            "halted": "#5b4a63"}
 ARROWS = {"link": "#2f6db5", "handover": "#3c9a5f", "kick": "#b3261e"}
@@ -35,20 +46,26 @@ class Act:
     def numbers(self):
         return self.first if self.last is None else self.first + "-" + self.last
 
-    def label(self):
-        """The row, or the word of the act, and the event behind it."""
+    def is_row(self):
+        return re.match(r"[A-Z]", self.row)
+
+    def label(self, has_event):
+        """The row, or the word of the act, and with it the event, if one is told there."""
         if self.is_idle:
             return self.deed.replace("step idle", "idle") + self.suffix()
-        if self.event in (self.row, None):
+        if self.event in (self.row, None) or not has_event:
             return self.row + self.suffix()
-        return self.row + " " + self.event if re.match(r"[A-Z]", self.row) else self.event
+        return self.row + " " + self.event if self.is_row() else self.event
+
+    def has_number(self, number):
+        return int(self.first) <= number <= int(self.last or self.first)
 
     def suffix(self):
         return " x" + self.times.split()[0] if self.times else ""
 
     def values(self):
         """On what the act operated, what it met there, and what it left."""
-        return " ".join(self.words[1:]) if re.match(r"[A-Z]", self.row) else ""
+        return " ".join(self.words[1:]) if self.is_row() else ""
 
     def met(self):
         return self.words[3].strip("()").split(",")
@@ -154,40 +171,53 @@ class Story:
 
 
 def width(texts):
-    return LETTER * max(map(len, texts))
+    return LETTER * max(map(len, texts), default=0)
+
+
+def meanings():
+    """What each row does: the comment of its label in the sources."""
+    text = PARTS.read_text() if PARTS.exists() else ""
+    return {label: said for said, label in re.findall(r"^    /// (.*)\n    (\w+),$", text, re.M)}
 
 
 class Picture:
-    def __init__(self, story, title):
-        self.story, self.title = story, title
+    def __init__(self, story, title, mark):
+        self.story, self.title, self.mark = story, title, mark
         self.cpus = 1 + max(context.cpu for context in story.contexts)
         self.depths = [1 + max([c.depth for c in story.contexts if c.cpu == cpu] or [0]) for cpu in range(self.cpus)]
-        self.margin = 16 + width(["act"] + [act.numbers() for act in story.acts])
-        self.values = 12 + width(["met -> left"] + [act.values() for act in story.acts])
-        self.lanes_at = self.place_lanes()
-        self.height = TOP + ROW * len(story.acts) + 10
+        self.margin = 14 + width(["act"] + [act.numbers() for act in story.acts])
+        self.place(True)
+        if self.width * LEAST > PAGE * SIZE:
+            self.place(False)
+        self.height = TOP + ROW * len(story.acts) + 8
+        self.meanings = meanings()
         self.parts = []
 
     def bars_room(self, cpu):
         return 4 + (BAR + 1) * self.depths[cpu] + GAP
 
-    def place_lanes(self):
-        """Where each lane begins, and where the last one ends."""
-        labels = [["processor 0"] + [act.label() for act in self.story.acts if act.cpu == cpu] for cpu in range(self.cpus)]
-        needs = [self.bars_room(cpu) + width(labels[cpu]) + 6 for cpu in range(self.cpus)]
-        spare = WIDTH - self.margin - self.values - sum(needs)
-        if spare < 0:
-            sys.exit("timeline: the labels of %d processors do not fit beside each other" % self.cpus)
-        places = [self.margin]
-        for need in needs:
-            places.append(places[-1] + need + spare / self.cpus)
-        return places
+    def place(self, has_events):
+        """Where each lane begins, where the last one ends, and how wide all is; with the events in the lanes, or at the right."""
+        self.has_events = has_events
+        self.lanes_at = [self.margin]
+        for cpu in range(self.cpus):
+            labels = [act.label(has_events) for act in self.story.acts if act.cpu == cpu]
+            room = self.bars_room(cpu) + width([f"cpu {cpu}", *labels]) + 7 if labels else 0
+            self.lanes_at.append(self.lanes_at[-1] + room)
+        events = [] if has_events else [self.event_aside(act) for act in self.story.acts]
+        self.events_room = 8 + width(events) if any(events) else 0
+        values = 14 + width(["met -> left"] + [act.values() for act in self.story.acts])
+        self.width = max(self.lanes_at[-1] + self.events_room + values, 8 + width([self.title]) * 1.2, self.legend_width())
+
+    def event_aside(self, act):
+        return act.event if act.event and act.event != act.row else ""
 
     def add(self, text, *values):
         self.parts.append(text % values)
 
-    def text(self, x, y, words, style=""):
-        self.add('<text x="%.1f" y="%.1f"%s>%s</text>', x, y, style, escape(words))
+    def text(self, x, y, words, style="", meaning=""):
+        hover = f"<title>{escape(meaning)}</title>" if meaning else ""
+        self.add('<text x="%.1f" y="%.1f"%s>%s%s</text>', x, y, style, hover, escape(words))
 
     def bar_x(self, context):
         return self.lanes_at[context.cpu] + 4 + (BAR + 1) * context.depth
@@ -195,28 +225,43 @@ class Picture:
     def y(self, at):
         return TOP + ROW * at
 
+    def legend_width(self):
+        return sum(30 + LETTER * len(phase) for phase in COLOURS) + sum(44 + LETTER * len(arrow) for arrow in ARROWS)
+
     def legend(self):
         self.text(8, 18, self.title, ' font-weight="bold" font-size="13"')
         x = 8
         for phase, colour in COLOURS.items():
-            self.add('<rect x="%d" y="27" width="12" height="11" fill="%s"/>', x, colour)
-            self.text(x + 16, 36, phase)
-            x += 34 + LETTER * len(phase)
+            self.add('<rect x="%.1f" y="27" width="12" height="11" fill="%s"/>', x, colour)
+            self.text(x + 15, 37, phase)
+            x += 30 + LETTER * len(phase)
         for arrow, colour in ARROWS.items():
-            self.add('<path d="M%d 33 h22" stroke="%s" stroke-width="1.4" marker-end="url(#%s)"/>', x, colour, arrow)
-            self.text(x + 32, 36, arrow)
-            x += 50 + LETTER * len(arrow)
+            self.add('<path d="M%.1f 33 h20" stroke="%s" stroke-width="1.4" marker-end="url(#%s)"/>', x, colour, arrow)
+            self.text(x + 26, 37, arrow)
+            x += 44 + LETTER * len(arrow)
 
     def lanes(self):
-        self.text(8, TOP - 6, "act")
+        self.text(6, TOP - 6, "act")
         for cpu in range(self.cpus):
             left, right = self.lanes_at[cpu:cpu + 2]
+            if left == right:
+                continue
             self.add('<rect x="%.1f" y="%d" width="%.1f" height="%d" fill="%s"/>', left, TOP - 18, right - left, self.height - TOP + 14,
-                     "#f7f7f5" if cpu % 2 else "#ffffff")
-            self.text(left + 4, TOP - 6, "processor %d" % cpu, ' font-weight="bold"')
-        self.text(WIDTH - self.values + 6, TOP - 6, "met -> left")
+                     "#f4f4f1" if cpu % 2 else "#ffffff")
+            self.text(left + 4, TOP - 6, f"cpu {cpu}", ' font-weight="bold"', f"processor {cpu}")
+        right = self.lanes_at[-1] + 6
+        if self.events_room:
+            self.text(right, TOP - 6, "event", ' font-weight="bold"')
+        self.text(right + self.events_room, TOP - 6, "met -> left")
+
+    def marks(self):
+        """A line at each fifth act, and the band of the act that matters."""
+        for at, act in enumerate(self.story.acts):
+            if self.mark is not None and act.has_number(self.mark):
+                self.add('<rect x="0" y="%d" width="%.1f" height="%d" fill="%s"/>', self.y(at), self.width, ROW, MARK)
+                self.add('<path d="M0 %d v%d" stroke="#e8590c" stroke-width="6"/>', self.y(at), ROW)
         for at in range(0, len(self.story.acts) + 1, 5):
-            self.add('<path d="M0 %d h%d" stroke="#dddddd" stroke-width="0.6"/>', self.y(at), WIDTH)
+            self.add('<path d="M0 %d h%.1f" stroke="#dddddd" stroke-width="0.6"/>', self.y(at), self.width)
 
     def bars(self):
         for context in self.story.contexts:
@@ -237,11 +282,18 @@ class Picture:
 
     def labels(self):
         for at, act in enumerate(self.story.acts):
-            baseline = self.y(at) + 10
-            style = ' fill="#888888"' if act.is_idle or act.times else ' font-weight="bold"' if act.event else ""
+            baseline = self.y(at) + 12
+            style = ' fill="#777777"' if act.is_idle or act.times else ' font-weight="bold"' if act.event else ""
+            right = self.lanes_at[-1] + 6
             self.text(8, baseline, act.numbers())
-            self.text(self.lanes_at[act.cpu] + self.bars_room(act.cpu), baseline, act.label(), style)
-            self.text(WIDTH - self.values + 6, baseline, act.values(), ' fill="#555555"')
+            self.text(self.lanes_at[act.cpu] + self.bars_room(act.cpu), baseline, act.label(self.has_events), style, self.meaning(act))
+            if self.events_room:
+                self.text(right, baseline, self.event_aside(act), ' font-weight="bold"')
+            self.text(right + self.events_room, baseline, act.values(), ' fill="#555555"')
+
+    def meaning(self, act):
+        said = self.meanings.get(act.row)
+        return f"{act.row}: {said}" if said else ""
 
     def draw_arrows(self):
         for at, one, other, kind in self.story.arrows:
@@ -256,19 +308,24 @@ class Picture:
                      '<path d="M0 0 L8 4 L0 8 z" fill="%s"/></marker>', kind, colour)
         self.lanes()
         self.legend()
+        self.marks()
         self.bars()
         self.labels()
         self.draw_arrows()
-        head = ('<svg xmlns="http://www.w3.org/2000/svg" width="%d" height="%d" viewBox="0 0 %d %d" font-family="DejaVu Sans Mono, monospace"'
-                ' font-size="10">\n<rect width="100%%" height="100%%" fill="#ffffff"/>\n' % (WIDTH, self.height, WIDTH, self.height))
-        return head + "\n".join(self.parts) + "\n</svg>\n"
+        head = ('<svg xmlns="http://www.w3.org/2000/svg" width="%.0f" height="%d" viewBox="0 0 %.0f %d" font-family="DejaVu Sans Mono, monospace"'
+                ' font-size="%d">\n<rect width="100%%" height="100%%" fill="#ffffff"/>\n')
+        return head % (self.width, self.height, self.width, self.height, SIZE) + "\n".join(self.parts) + "\n</svg>\n"
 
 
 def main():
+    said = argparse.ArgumentParser(description=__doc__, formatter_class=argparse.RawDescriptionHelpFormatter, usage="timeline.py [--mark ACT] [TITLE] < STEPS > PICTURE")
+    said.add_argument("--mark", type=int, metavar="ACT")
+    said.add_argument("title", nargs="?", default="", metavar="TITLE")
+    args = said.parse_args()
     acts = [Act(line.rstrip("\n")) for line in sys.stdin]
     if not acts:
         sys.exit("timeline: no acts")
-    sys.stdout.write(Picture(Story(acts), sys.argv[1] if len(sys.argv) > 1 else "").draw())
+    sys.stdout.write(Picture(Story(acts), args.title, args.mark).draw())
 
 
 if __name__ == "__main__":
