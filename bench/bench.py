@@ -214,6 +214,8 @@ def instructions(program, word, path):
 
 def main(argv):
     runs, keep = 5, None
+    if argv[:1] in (["-h"], ["--help"]):
+        return print(__doc__.strip())
     while argv and argv[0].startswith("--"):
         option = argv.pop(0)
         if option == "--runs" and argv:

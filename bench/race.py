@@ -53,7 +53,7 @@ def race(name, locks, threads, turns, work, runs):
     for lock, its_times in times.items():
         peer = times.get("plain " + lock)
         told = [min(its_times), statistics.median(its_times)]
-        ratios = "%10.2f %10.2f" % (told[0] / min(peer), told[1] / statistics.median(peer)) if peer else ""
+        ratios = "%12.2f %12.2f" % (told[0] / min(peer), told[1] / statistics.median(peer)) if peer else ""
         print("%-22s %-13s %10.1f %10.1f %s" % (name, lock, *told, ratios), flush=True)
 
 
@@ -71,7 +71,7 @@ def main():
     with tempfile.TemporaryDirectory() as scratch:
         plain = os.path.join(scratch, "race")
         subprocess.run(["rustc", "-O", "--edition", "2024", "-o", plain, os.path.join(HERE, "race.rs")], check=True)
-        print("%-22s %-13s %10s %10s %10s %10s" % ("race", "lock", "least ns", "middle ns", "to plain", "to plain"))
+        print("%-22s %-13s %10s %10s %12s %12s" % ("race", "lock", "least ns", "middle ns", "least ratio", "middle ratio"))
         for kind in [args.kind] if args.kind else OF_STD:
             locks = {OF_STD[kind]: [plain, "std", kind]}
             for mode in modes:
