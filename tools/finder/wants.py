@@ -1,0 +1,108 @@
+"""What is searched for, and the programs that say whether a trace has it."""
+import os
+import re
+import subprocess
+import sys
+
+LINE = re.compile(r"(\d+)(?:-(\d+))? (\d+\.\d+) (.*?)(?:: (.*))?$")
+LINK_ROWS = ("G10", "C1", "E14")
+ROUNDS, TURNS = 3, 300
+
+
+def program(variable, crate):
+    named = os.environ.get(variable)
+    out = os.path.join(os.path.dirname(__file__), "../../crates", crate, "out")
+    for path in [named] if named else [os.path.join(out, crate), os.path.join(out, "unproved")]:
+        if os.access(path, os.X_OK):
+            return path
+    sys.exit(f"find: there is no program of {crate}; `./qlock find` builds it")
+
+
+class Programs:
+    def __init__(self):
+        self.main, self.steps_program, self.runs = None, None, 0
+
+    def ran(self, command, text):
+        self.runs += 1
+        return subprocess.run(command, input=text, capture_output=True, text=True)
+
+    def steps(self, text):
+        """The lines of a trace's acts, or None where it is refused."""
+        self.steps_program = self.steps_program or program("QLOCK_STEPS", "lk_steps")
+        run = self.ran([self.steps_program], text)
+        return run.stdout.splitlines() if run.returncode == 0 else None
+
+    def told(self, word, text):
+        self.main = self.main or program("QLOCK", "lk_cli")
+        return self.ran([self.main, word], text)
+
+
+def parts(line):
+    """Of a line: its first and last act, the waiter, what it did, and the event or an empty text."""
+    first, last, who, deed, event = LINE.match(line).groups()
+    return int(first), int(last or first), who, deed.split(", ")[0], event or ""
+
+
+class Event:
+    """An event whose text has the pattern."""
+
+    def __init__(self, programs, pattern):
+        self.programs, self.pattern = programs, re.compile(pattern)
+
+    def act(self, trace):
+        """The first act that has what is wanted, or None."""
+        for first, _, _, _, event in map(parts, self.programs.steps(trace.text()) or []):
+            if event and self.pattern.search(event):
+                return first
+        return None
+
+
+class Row:
+    """A row."""
+
+    def __init__(self, programs, row):
+        self.programs, self.row = programs, row
+
+    def act(self, trace):
+        for first, _, _, deed, _ in map(parts, self.programs.steps(trace.text()) or []):
+            if deed.split()[0] == self.row:
+                return first
+        return None
+
+
+class Count:
+    """A count above 0. At which act it rises the transcript does not say."""
+
+    def __init__(self, programs, name):
+        self.programs, self.name = programs, name
+
+    def act(self, trace):
+        run = self.programs.told("replay", trace.text())
+        found = re.search(rf"^{self.name} (\d+)$", run.stdout, re.M)
+        return len(trace.acts) if run.returncode == 0 and found and int(found[1]) else None
+
+
+class Stuck:
+    """A queue head that polls for a link which nobody will store: its own node is the tail, and nothing changes any more however
+    often everybody goes on. That more turns would change nothing is not proved: each processor gets some rounds of many turns."""
+
+    def __init__(self, programs):
+        self.programs = programs
+
+    def act(self, trace):
+        rounds = [f"step {cpu} {TURNS}" for cpu in range(trace.cpus)] * ROUNDS
+        wakes = [f"res {cpu}" for cpu in range(trace.cpus)]
+        lines = self.programs.steps(trace.text([*wakes, *rounds]))
+        last = len(trace.acts) + trace.cpus + (ROUNDS - 1) * TURNS * trace.cpus
+        return len(trace.acts) if lines and self.is_stuck([parts(line) for line in lines], last) else None
+
+    def is_stuck(self, lines, last):
+        ends = [line for line in lines if line[1] > last]
+        if any(event or " -> " in deed for _, _, _, deed, event in ends):
+            return False
+        tails = {}
+        for words in (deed.split() for _, _, _, deed, _ in lines):
+            if words[1:2] == ["lock"]:
+                tails[words[2]] = words[-1].strip("()").split(",")[0]
+        polled = [deed.split() for _, _, _, deed, _ in ends if deed.split()[0] in LINK_ROWS]
+        return any(words[-1].endswith(",0)") and words[2] in tails.values() for words in polled)
