@@ -1,32 +1,30 @@
-"""The kernel's source: Debian's package linux-source-6.1, fetched and unpacked into a build folder, and never committed."""
+"""The kernel's source: Debian's package linux-source-VERSION, fetched and unpacked into a build folder, and never committed."""
 import glob
-import hashlib
 import os
 import re
 import subprocess
 import tarfile
 
-PACKAGE = "linux-source-6.1"
 FILES = [
     "Makefile",
-    "kernel/locking/qspinlock.c", "kernel/locking/qspinlock_paravirt.h", "kernel/locking/qrwlock.c",
+    "kernel/locking/qspinlock.c", "kernel/locking/qspinlock_paravirt.h", "kernel/locking/qrwlock.c", "kernel/locking/osq_lock.c",
     "kernel/locking/mcs_spinlock.h", "kernel/locking/lock_events.h", "kernel/locking/lock_events_list.h",
     "include/asm-generic/qspinlock.h", "include/asm-generic/qspinlock_types.h",
     "include/asm-generic/qrwlock.h", "include/asm-generic/qrwlock_types.h",
-    "include/asm-generic/mcs_spinlock.h", "include/linux/hash.h",
+    "include/asm-generic/mcs_spinlock.h", "include/linux/hash.h", "include/linux/osq_lock.h",
     "arch/x86/include/asm/qspinlock.h", "arch/x86/kernel/kvm.c",
 ]
 
 
-def fetch(build):
+def fetch(build, package):
     """The path of the package's archive of the source, which is fetched where it is not there."""
-    archive = os.path.join(build, "package/usr/src", PACKAGE + ".tar.xz")
+    archive = os.path.join(build, "package/usr/src", package + ".tar.xz")
     if os.path.exists(archive):
         return archive
-    found = glob.glob(os.path.join(build, PACKAGE + "_*.deb"))
+    found = glob.glob(os.path.join(build, package + "_*.deb"))
     if not found:
-        subprocess.run(["apt-get", "-qq", "-o", "APT::Sandbox::User=root", "download", PACKAGE], cwd=build, check=True)
-        found = glob.glob(os.path.join(build, PACKAGE + "_*.deb"))
+        subprocess.run(["apt-get", "-qq", "-o", "APT::Sandbox::User=root", "download", package], cwd=build, check=True)
+        found = glob.glob(os.path.join(build, package + "_*.deb"))
     subprocess.run(["dpkg-deb", "-x", found[0], os.path.join(build, "package")], check=True)
     return archive
 
@@ -43,38 +41,33 @@ def function_of(path, name):
 
 
 def version(source):
+    """The whole version of the source, as 6.1.192."""
     with open(os.path.join(source, "Makefile")) as makefile:
         named = dict(re.findall(r"^(VERSION|PATCHLEVEL|SUBLEVEL) = (\d+)$", makefile.read(), re.M))
     return ".".join(named[part] for part in ("VERSION", "PATCHLEVEL", "SUBLEVEL"))
 
 
-def unpack(build):
-    """The folder with the files that are compiled, as they are; of kvm.c only one function."""
-    source = os.path.join(build, "source")
-    if os.path.exists(os.path.join(source, "kvm_wait.inc")):
-        return source
-    top = PACKAGE + "/"
+def extract(archive, top, source):
+    """Unpacks the files that are compiled out of the archive, in which they stand below the folder `top`."""
     wanted = {top + name for name in FILES}
-    with tarfile.open(fetch(build)) as archive:
-        for member in archive:
+    with tarfile.open(archive) as members:
+        for member in members:
             if member.name in wanted:
                 member.name = member.name[len(top):]
-                archive.extract(member, source)
+                members.extract(member, source)
                 wanted.remove(top + member.name)
             if not wanted:
-                break
-    if wanted:
-        raise SystemExit("conformance: the package has no " + ", ".join(sorted(wanted)))
+                return
+    raise SystemExit("conformance: the package has no " + ", ".join(sorted(wanted)))
+
+
+def unpack(build, linux):
+    """The folder with the files of this version that are compiled, as they are; of kvm.c only one function."""
+    source, package = os.path.join(build, "source"), "linux-source-" + linux
+    if os.path.exists(os.path.join(source, "kvm_wait.inc")):
+        return source
+    extract(fetch(build, package), package + "/", source)
     line, text = function_of(os.path.join(source, "arch/x86/kernel/kvm.c"), "kvm_wait")
     with open(os.path.join(source, "kvm_wait.inc"), "w") as part:
         part.write('#line %d "%s/arch/x86/kernel/kvm.c"\n%s\n' % (line, source, text))
     return source
-
-
-def sums(source):
-    """A line for each file: its SHA-256, and its name."""
-    lines = []
-    for name in FILES:
-        with open(os.path.join(source, name), "rb") as data:
-            lines.append(hashlib.sha256(data.read()).hexdigest() + "  " + name)
-    return lines

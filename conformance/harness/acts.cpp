@@ -2,7 +2,6 @@
 #include <cstring>
 #include "fault.h"
 #include "machine.h"
-#include "table.h"
 
 constexpr uint8_t held_byte = 1, slow_byte = 3;
 constexpr uint32_t writer_bits = 0x1ff, locked_bits = 0xff, pending_bit = 0x100;
@@ -11,10 +10,12 @@ const char *const count_names[count_kinds] = {"lock_pending",   "lock_slowpath",
                                               "lock_no_node",   "pv_lock_stealing", "pv_wait_node", "pv_wait_head",   "pv_kick_unlock"};
 extern "C" const char *const lock_event_names[];
 
+static int number_of(int processor) { return machine.setup.numbers[processor]; }
+
 static Who who(const Context &context) { return {context.processor, context.depth}; }
 
 void tell(Context &context, const std::string &event) {
-    machine.transcript += std::to_string(machine.acts) + " " + std::to_string(context.processor) + "." + std::to_string(context.depth) +
+    machine.transcript += std::to_string(machine.acts) + " " + std::to_string(number_of(context.processor)) + "." + std::to_string(context.depth) +
                           " " + event + "\n";
     machine.last_event = machine.acts;
 }
@@ -106,13 +107,13 @@ static void tell_of_pv(Context &context, Row row, const Made &made) {
     case Row::E7: if (!made.before) take(context, "head"); break;
     case Row::E13: if (made.has_swapped) tell(context, "leave " + context.lock_name()); break;
     case Row::U2: if (made.has_swapped) release(context, ""); break;
-    case Row::U4: release(context, " owing " + std::to_string(context.target)); break;
+    case Row::U4: release(context, " owing " + std::to_string(number_of(context.target))); break;
     default: tell_of_rw_lock(context, row, made);
     }
 }
 
 static void tell_of_pass(Context &context, const Spot &to) {
-    tell(context, "pass " + context.lock_name() + " " + std::to_string(to.processor) + "." +
+    tell(context, "pass " + context.lock_name() + " " + std::to_string(number_of(to.processor)) + "." +
                       std::to_string(machine.context_of_node[to.processor][to.index]));
 }
 
@@ -163,6 +164,7 @@ static bool is_act(Context &context, const Entry &entry, const Made &made) {
     case When::never: return false;
     case When::last_look: return made.ends_loop;
     case When::nonzero: return made.before != 0;
+    case When::other: fail("a look for the own node is none of a spinlock");
     case When::swapped: return made.has_swapped;
     case When::held: return is_held;
     case When::swapped_or_held: return made.has_swapped || is_held;
@@ -211,7 +213,7 @@ static void check_locked_byte(const Made &made, const std::string &event) {
 
 void record(Context &context, const Made &made) {
     machine.operations++;
-    const Entry *entry = table.find(*made.at, made.spot.word, context);
+    const Entry *entry = table.find(*made.at, made.spot.word, context.standing());
     if (!entry)
         fail("no line of the table: %s:%d %s, %s of %s, after %s", made.at->file, made.at->line, made.at->function,
              name_of(made.at->operation), name_of(made.spot.word), name_of(context.last));

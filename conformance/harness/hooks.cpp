@@ -1,30 +1,15 @@
 // The functions that the shims call: each gives way, makes its operation alone, and records it.
 #include <cstring>
-#include <functional>
 #include "changes.h"
+#include "effects.h"
 #include "fault.h"
 #include "scheduler.h"
-#include "table.h"
 
 namespace {
-struct Effect {
-    bool stores;
-    uint64_t after;
-    bool has_swapped = false;
-};
-
-uint64_t bits_of(int size) { return size == 8 ? ~0ull : (1ull << 8 * size) - 1; }
-
-uint64_t value_at(const volatile void *address, int size) {
-    uint64_t value = 0;
-    memcpy(&value, (const void *)address, size);
-    return value;
-}
-
 ChangeKind change_of(const shim_place *at, const volatile void *address, int size) {
     if (change.kind == ChangeKind::nothing) return ChangeKind::nothing;
     Word word = address ? spot_of(address, size).word : Word::none;
-    return change.at(table.find(*at, word, *machine.current));
+    return change.at(table.find(*at, word, machine.current->standing()));
 }
 
 // The lock of the operation is the one on which the context acts.
@@ -61,22 +46,21 @@ void make_left_out_look(const shim_place *at) {
     make_none(at, false);
 }
 
-uint64_t operate(const shim_place *at, volatile void *address, int size, const std::function<Effect(uint64_t)> &effect) {
+uint64_t operate(const shim_place *at, volatile void *address, int size, const Maker &effect) {
     give_way(at);
     Context &context = *machine.current;
     Spot spot = spot_of(address, size);
     uint64_t before = value_at(address, size);
     uint8_t locked_before = locked_byte(spot);
     Effect made = effect(before);
-    uint64_t after = made.stores ? made.after & bits_of(size) : before;
-    memcpy((void *)address, &after, size);
+    uint64_t after = store_effect(made, address, size, before);
     note_lock(context, *at, spot);
     record(context, {at, spot, before, after, made.has_swapped, false, locked_before});
     return before;
 }
 
 // Makes the operation, twice where the change says so; answers what the last one met.
-uint64_t operate_by(ChangeKind kind, const shim_place *at, volatile void *address, int size, const std::function<Effect(uint64_t)> &effect) {
+uint64_t operate_by(ChangeKind kind, const shim_place *at, volatile void *address, int size, const Maker &effect) {
     if (kind == ChangeKind::repeat) operate(at, address, size, effect);
     return operate(at, address, size, effect);
 }
@@ -108,7 +92,7 @@ uint64_t shim_load(const shim_place *at, const volatile void *address, int size)
     uint64_t turned = kind == ChangeKind::value ? change.bits : 0;
     if (at->operation == shim_wait_operation) return look(at, address, size, kind) ^ turned;
     if (kind == ChangeKind::skip) return 0;
-    return operate_by(kind, at, (volatile void *)address, size, [](uint64_t) { return Effect{false, 0}; }) ^ turned;
+    return operate_by(kind, at, (volatile void *)address, size, no_effect) ^ turned;
 }
 
 int shim_ends(int ends) {
@@ -133,7 +117,7 @@ void shim_store(const shim_place *at, volatile void *address, int size, uint64_t
     ChangeKind kind = change_of(at, address, size);
     if (kind == ChangeKind::skip) return;
     if (kind == ChangeKind::value) value ^= change.bits;
-    operate_by(kind, at, address, size, [=](uint64_t) { return Effect{true, value}; });
+    operate_by(kind, at, address, size, store_of(value));
 }
 
 uint64_t shim_swap(const shim_place *at, volatile void *address, int size, uint64_t expected, uint64_t value) {
@@ -141,8 +125,12 @@ uint64_t shim_swap(const shim_place *at, volatile void *address, int size, uint6
     expected &= bits_of(size);
     if (kind == ChangeKind::skip) return expected;
     if (kind == ChangeKind::value) value ^= change.bits;
+    if (kind == ChangeKind::blind) {
+        operate(at, address, size, blind_swap_of(value));
+        return expected;
+    }
     uint64_t compared = kind == ChangeKind::expected ? expected ^ change.bits : expected;
-    uint64_t met = operate_by(kind, at, address, size, [=](uint64_t before) { return Effect{before == compared, value, before == compared}; });
+    uint64_t met = operate_by(kind, at, address, size, swap_of(compared, value));
     return kind == ChangeKind::expected ? met ^ change.bits : met;
 }
 
@@ -150,7 +138,7 @@ uint64_t shim_exchange(const shim_place *at, volatile void *address, int size, u
     ChangeKind kind = change_of(at, address, size);
     if (kind == ChangeKind::skip) return value_at(address, size);
     if (kind == ChangeKind::value) value ^= change.bits;
-    return operate_by(kind, at, address, size, [=](uint64_t) { return Effect{true, value}; });
+    return operate_by(kind, at, address, size, store_of(value));
 }
 
 uint64_t shim_update(const shim_place *at, volatile void *address, int size, uint64_t argument) {
@@ -160,7 +148,7 @@ uint64_t shim_update(const shim_place *at, volatile void *address, int size, uin
     return operate_by(kind, at, address, size, [=](uint64_t before) { return Effect{true, updated(at, before, turned)}; });
 }
 
-void *shim_of_processor(const void *variable, int processor) { return copy_of(variable, processor); }
+void *shim_of_processor(const void *variable, int number) { return copy_of(variable, machine.setup.processor_numbered(number)); }
 
 void *shim_own_node(const shim_place *at, const void *variable) {
     machine.first_node = (char *)variable;
@@ -175,7 +163,7 @@ void *shim_own_node(const shim_place *at, const void *variable) {
     return copy_of(variable, context.processor);
 }
 
-int shim_processor(void) { return machine.current->processor; }
+int shim_processor(void) { return machine.setup.numbers[machine.current->processor]; }
 
 int shim_processors(void) { return machine.setup.processors; }
 
@@ -200,14 +188,15 @@ void shim_halt(const shim_place *at) {
     give_way(&context.own_place);
 }
 
-void shim_kick(const shim_place *at, int processor) {
+void shim_kick(const shim_place *at, int number) {
     ChangeKind kind = change_of(at, nullptr, 0);
     if (kind == ChangeKind::skip) return;
-    if (kind == ChangeKind::value) processor ^= (int)change.bits;
+    if (kind == ChangeKind::value) number ^= (int)change.bits;
     Context &context = *machine.current;
+    int processor = machine.setup.processor_numbered(number);
     make_without_word(at, false);
     machine.processors[processor].is_kicked = true;
-    tell(context, "kick " + std::to_string(processor));
+    tell(context, "kick " + std::to_string(number));
     if (processor != context.target) fail("Linux: a kick of another processor than that of the node in the hash");
 }
 

@@ -1,10 +1,7 @@
 #include "machine.h"
-#include <cstdarg>
 #include <cstdio>
-#include <cstdlib>
 #include "fault.h"
 #include "scheduler.h"
-#include "table.h"
 
 // What the kernel's code goes by.
 extern "C" {
@@ -15,6 +12,10 @@ void __pv_init_lock_hash(void);
 }
 
 Machine machine;
+
+Standing Context::standing() const {
+    return {phase, machine.setup.mode == Mode::pv ? Code::pv : Code::native, last};
+}
 
 void Machine::start() {
     if (setup.mode == Mode::test_and_set && !shim_has_test_and_set) fail("this code of Linux has no test-and-set lock");
@@ -56,20 +57,10 @@ std::string Machine::closing() const {
     return text;
 }
 
-static void show_state() {
+void show_state() {
     fprintf(stderr, "after %llu acts:\n", (unsigned long long)machine.acts);
     for (int p = 0; p < machine.setup.processors; p++)
         for (const Context *context : machine.processors[p].stack)
-            fprintf(stderr, "  %d.%d operation %zu, at %s:%d, last row %s\n", p, context->depth, context->position,
+            fprintf(stderr, "  %d.%d operation %zu, at %s:%d, last row %s\n", machine.setup.numbers[p], context->depth, context->position,
                     context->at ? context->at->function : "the end", context->at ? context->at->line : 0, name_of(context->last));
-}
-
-void fail(const char *format, ...) {
-    va_list arguments;
-    va_start(arguments, format);
-    vfprintf(stderr, format, arguments);
-    va_end(arguments);
-    fputc('\n', stderr);
-    show_state();
-    exit(9);
 }

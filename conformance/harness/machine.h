@@ -8,12 +8,9 @@
 #include <utility>
 #include <vector>
 #include "memory.h"
-#include "rows.h"
 #include "setup.h"
+#include "table.h"
 #include "../shims/operations.h"
-
-// How far a context is in its operation.
-enum class Phase { outside, trying, locking, with_node, without_node, queued };
 
 // The last look of a waiting loop, until it is known whether the loop ends.
 struct Look {
@@ -55,6 +52,7 @@ struct Context {
     Look look;
     shim_place own_place; // a place that is not one of an operation of Linux
 
+    Standing standing() const;
     std::string lock_name() const { return std::to_string(lock) + (is_wait_lock ? "w" : ""); }
 };
 

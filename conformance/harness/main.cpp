@@ -2,7 +2,8 @@
 //   harness TABLE drive < TRACE                       writes the transcript of the trace
 //   harness TABLE random FAMILY SEED RUNS FOLDER      random runs: FOLDER/N.trace, FOLDER/N.linux and FOLDER/index
 //     --leave                                         an interrupt may also come before the count of the nodes falls
-//     --change KIND FUNCTION LINE ROW [BITS]          (one word) one change of what the kernel's code does
+//     --wide                                          traces of format 2, with processors of high numbers
+//     --change KIND FUNCTION OPERATION ROW [BITS]          (one word) one change of what the kernel's code does
 // The index has a line for each run: its number, how it ended, and the causes of differences that it met.
 #include <cstdio>
 #include <fstream>
@@ -14,11 +15,11 @@
 
 struct Arguments {
     std::vector<std::string> words;
-    bool stops_before_leave = false;
+    bool is_wide = false;
 };
 
 static int usage() {
-    fprintf(stderr, "usage: harness TABLE drive | harness TABLE random FAMILY SEED RUNS FOLDER [--leave] [--change CHANGE]\n");
+    fprintf(stderr, "usage: harness TABLE drive | harness TABLE random FAMILY SEED RUNS FOLDER [--leave] [--wide] [--change CHANGE]\n");
     return 2;
 }
 
@@ -31,24 +32,24 @@ static std::string causes_text() {
 }
 
 // One run. On x86 it is made again where a tail came in between the halves of setting pending, with P1 at the second half.
-static Schedule random_run(const Family &family, uint64_t seed, Ending &ending) {
+static Schedule random_run(const Family &family, bool is_wide, uint64_t seed, Ending &ending) {
     machine.late_pending.clear();
     for (int tries = 0;; tries++) {
         Random random(seed);
         Kind kind;
-        machine.setup = random_setup(random, family, kind);
+        machine.setup = random_setup(random, family, is_wide, kind);
         Schedule schedule = random_schedule(random, kind, ending);
         if (machine.split_pending.empty() || tries == 8) return schedule;
         machine.late_pending.insert(machine.split_pending.begin(), machine.split_pending.end());
     }
 }
 
-static void random_runs(const Family &family, uint64_t seed, int runs, const std::string &folder) {
+static void random_runs(const Family &family, bool is_wide, uint64_t seed, int runs, const std::string &folder) {
     std::ofstream index(folder + "/index");
     uint64_t acts = 0;
     for (int run = 0; run < runs; run++) {
         Ending ending;
-        Schedule schedule = random_run(family, seed * 1000003 + run, ending);
+        Schedule schedule = random_run(family, is_wide, seed * 1000003 + run, ending);
         std::string number = std::to_string(run), about = name_of(ending) + causes_text();
         std::ofstream(folder + "/" + number + ".trace")
             << trace_text(machine.setup, schedule, std::string(family.name) + " seed " + std::to_string(seed) + " run " + number + ": " + about);
@@ -65,6 +66,7 @@ static bool read_arguments(int count, char **values, Arguments &arguments) {
     for (int i = 2; i < count; i++) {
         std::string word = values[i];
         if (word == "--leave") machine.stops_before_leave = true;
+        else if (word == "--wide") arguments.is_wide = true;
         else if (word == "--change" && i + 1 < count) change.read(values[++i]);
         else arguments.words.push_back(word);
     }
@@ -82,6 +84,6 @@ int main(int count, char **values) {
         return 0;
     }
     if (words.size() != 5 || words[0] != "random") return usage();
-    random_runs(family_named(words[1]), std::stoull(words[2]), std::stoi(words[3]), words[4]);
+    random_runs(family_named(words[1]), arguments.is_wide, std::stoull(words[2]), std::stoi(words[3]), words[4]);
     return 0;
 }

@@ -83,12 +83,6 @@ Spot node_spot(long offset, int size) {
 const char *node_at(int processor, int index) { return (char *)copy_of(machine.first_node, processor) + index * node_size; }
 } // namespace
 
-const char *name_of(Word word) {
-    static const char *const names[] = {"-",    "word", "locked", "pending", "both", "tail",  "rw.word",   "rw.writer",
-                                        "next", "flag", "count",  "cpu",     "state", "hash.lock", "hash.node"};
-    return names[(int)word];
-}
-
 Spot spot_of(const volatile void *address, int size) {
     const char *p = (const char *)address;
     if (is_within(p, locks, sizeof(LockMemory) * most_locks)) return lock_spot(p - (const char *)locks, size);

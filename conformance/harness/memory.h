@@ -1,11 +1,9 @@
 // The memory that the kernel's code works on: locks, the nodes of each processor, and the hash of the paravirtual lock.
 #pragma once
 #include <cstdint>
+#include "words.h"
 
 constexpr int most_processors = 64, most_locks = 32, nodes_each = 4;
-
-// What an address is.
-enum class Word { none, word, locked, pending, both, tail, rw_word, rw_writer, next, flag, count, cpu, state, hash_lock, hash_node };
 
 struct Spot {
     Word word = Word::none;
@@ -18,7 +16,6 @@ struct Spot {
     bool is_of_rw_lock() const { return word == Word::rw_word || word == Word::rw_writer; }
 };
 
-const char *name_of(Word word);
 // What the `size` bytes from this address are.
 Spot spot_of(const volatile void *address, int size);
 // All locks free, all nodes at rest.

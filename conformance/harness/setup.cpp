@@ -1,5 +1,20 @@
 #include "setup.h"
+#include <algorithm>
 #include "fault.h"
+
+void Setup::set_processors(int count) {
+    processors = cpus = count;
+    programs.resize(count);
+    handlers.resize(count);
+    numbers.clear();
+    for (int p = 0; p < count; p++) numbers.push_back(p);
+}
+
+int Setup::processor_numbered(int number) const {
+    auto found = std::lower_bound(numbers.begin(), numbers.end(), number);
+    if (found == numbers.end() || *found != number) fail("no processor has the number %d", number);
+    return (int)(found - numbers.begin());
+}
 
 static const char *const mode_names[] = {"virt", "native", "cna", "pv"};
 static const char *const verb_names[] = {"lock", "try", "unlock", "read", "tryread", "runlock", "write", "trywrite", "wunlock"};

@@ -15,13 +15,20 @@ using Program = std::vector<Operation>;
 struct Setup {
     Mode mode = Mode::native; // cna stands for the native code, on one socket
     int threshold = 65535;
+    int format = 1;
     int processors = 1;
+    int cpus = 1; // as many the header says; of these only the processors have a program or a handler
+    std::vector<int> numbers = {0}; // of each processor, by which Linux and the trace call it; they rise
     int spins = 32768;
     std::vector<bool> is_rw;                    // of each lock
     std::vector<Program> programs;              // of each processor
     std::vector<std::vector<Program>> handlers; // of each processor
 
     int locks() const { return (int)is_rw.size(); }
+    // So many processors, with their own numbers and no programs.
+    void set_processors(int count);
+    // Which processor has this number; one that none has ends the run.
+    int processor_numbered(int number) const;
 };
 
 const char *name_of(Mode mode);

@@ -17,6 +17,7 @@ const Family &family_named(const std::string &name) {
 namespace {
 using Locks = std::vector<int>;
 constexpr size_t longest_program = 24;
+constexpr int most_numbers = 1024; // of processors, in format 2
 
 // What a random program is like.
 struct Taste {
@@ -113,12 +114,6 @@ class Builder {
         return all;
     }
 
-    void set_processors(int processors) {
-        setup.processors = processors;
-        setup.programs.resize(processors);
-        setup.handlers.resize(processors);
-    }
-
     // A processor of a tower: a task and handlers that each wait for another lock.
     void add_piling(int processor) {
         Locks order = shuffled(all_locks());
@@ -133,7 +128,7 @@ class Builder {
     void add_tower() {
         int locks = random.between(6, 7), piling = random.between(1, 2);
         for (int lock = 0; lock < locks; lock++) setup.is_rw.push_back(family.has_rw && random.with_chance(0.3));
-        set_processors(1 + locks + piling);
+        setup.set_processors(1 + locks + piling);
         Program &holder = setup.programs[0];
         for (int lock = 0; lock < locks; lock++) holder.push_back({setup.is_rw[lock] ? Verb::write : Verb::lock, lock});
         for (int lock = locks - 1; lock >= 0; lock--) holder.push_back({setup.is_rw[lock] ? Verb::write_unlock : Verb::unlock, lock});
@@ -186,7 +181,7 @@ class Builder {
     }
 
     void add_processors(Kind kind) {
-        set_processors(random_processors(kind));
+        setup.set_processors(random_processors(kind));
         int locks = random_locks(kind);
         for (int lock = 0; lock < locks; lock++) setup.is_rw.push_back(family.has_rw && (lock == 0 || random.with_chance(0.6)));
         bool is_deep = kind == Kind::deep_interrupts;
@@ -214,10 +209,22 @@ public:
         return setup;
     }
 };
+
+// The processors of a setup get any numbers below that of format 2's header, so that tails in the wide word are high.
+void spread(Random &random, Setup &setup) {
+    setup.format = 2;
+    setup.cpus = random.between(setup.processors, most_numbers);
+    std::set<int> numbers;
+    if (random.with_chance(0.5)) numbers.insert(setup.cpus - 1);
+    while ((int)numbers.size() < setup.processors) numbers.insert(random.below(setup.cpus));
+    setup.numbers.assign(numbers.begin(), numbers.end());
+}
 } // namespace
 
-Setup random_setup(Random &random, const Family &family, Kind &kind) {
+Setup random_setup(Random &random, const Family &family, bool is_wide, Kind &kind) {
     int draw = random.below(11);
     kind = draw < 6 ? Kind::plain : draw < 8 ? Kind::interrupts : draw < 10 ? Kind::deep_interrupts : Kind::tower;
-    return Builder(random, family).build(kind);
+    Setup setup = Builder(random, family).build(kind);
+    if (is_wide) spread(random, setup);
+    return setup;
 }

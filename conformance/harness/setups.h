@@ -19,4 +19,5 @@ enum class Kind {
     tower // one processor holds all locks, and on another one contexts pile up that wait for them
 };
 
-Setup random_setup(Random &random, const Family &family, Kind &kind);
+// In format 2 where it is wide, with processors of high numbers.
+Setup random_setup(Random &random, const Family &family, bool is_wide, Kind &kind);

@@ -1,7 +1,6 @@
 #include "table.h"
 #include <fstream>
 #include "fault.h"
-#include "machine.h"
 
 Table table;
 
@@ -13,16 +12,10 @@ static const char *const operation_names[] = {
 
 const char *name_of(shim_operation operation) { return operation_names[operation]; }
 
-static shim_operation operation_named(const std::string &name) {
+shim_operation operation_named(const std::string &name) {
     for (int i = 0; i < shim_operations; i++)
         if (name == operation_names[i]) return (shim_operation)i;
     fail("no operation %s", name.c_str());
-}
-
-static Word word_named(const std::string &name) {
-    for (int i = 0; i <= (int)Word::hash_node; i++)
-        if (name == name_of((Word)i)) return (Word)i;
-    fail("no word %s", name.c_str());
 }
 
 const char *name_of(Row row) {
@@ -35,34 +28,23 @@ const char *name_of(Row row) {
 }
 
 Row row_named(const std::string &label) {
-    for (int i = 0; i <= (int)Row::Z2; i++)
+    for (int i = 0; i <= (int)Row::X7; i++)
         if (label == name_of((Row)i)) return (Row)i;
     fail("no row %s", label.c_str());
-}
-
-std::vector<std::string> words_of(const std::string &line) {
-    std::vector<std::string> words;
-    std::string word;
-    for (char letter : line + " ") {
-        if (letter != ' ' && letter != '\t' && letter != '\r') {
-            word += letter;
-        } else if (!word.empty()) {
-            words.push_back(word);
-            word.clear();
-        }
-    }
-    return words;
 }
 
 static void add_condition(Entry &entry, const std::string &word) {
     if (word == "by-try") entry.by = By::a_try;
     else if (word == "by-node") entry.by = By::with_node;
     else if (word == "by-nonode") entry.by = By::without_node;
+    else if (word == "by-quitter") entry.by = By::a_quitter;
+    else if (word == "by-releaser") entry.by = By::a_releaser;
     else if (word == "native") entry.code = Code::native;
     else if (word == "pv") entry.code = Code::pv;
     else if (word.rfind("after-", 0) == 0) entry.after = row_named(word.substr(6));
     else if (word == "last-look") entry.when = When::last_look;
     else if (word == "nonzero") entry.when = When::nonzero;
+    else if (word == "other") entry.when = When::other;
     else if (word == "swapped") entry.when = When::swapped;
     else if (word == "held") entry.when = When::held;
     else if (word == "swapped-or-held") entry.when = When::swapped_or_held;
@@ -102,16 +84,17 @@ static bool is_by(By by, Phase phase) {
     case By::a_try: return phase == Phase::trying;
     case By::with_node: return phase == Phase::with_node;
     case By::without_node: return phase == Phase::without_node;
+    case By::a_quitter: return phase == Phase::quitting;
+    case By::a_releaser: return phase == Phase::releasing;
     }
     return false;
 }
 
-const Entry *Table::find(const shim_place &at, Word word, const Context &context) const {
-    Code code = machine.setup.mode == Mode::pv ? Code::pv : Code::native;
+const Entry *Table::find(const shim_place &at, Word word, const Standing &standing) const {
     for (const Entry &entry : entries)
         if (entry.line == at.line && entry.operation == at.operation && entry.word == word && entry.function == at.function &&
-            entry.file == at.file && is_by(entry.by, context.phase) && (entry.code == Code::either || entry.code == code) &&
-            (entry.after == Row::none || entry.after == context.last))
+            entry.file == at.file && is_by(entry.by, standing.phase) && (entry.code == Code::either || entry.code == standing.code) &&
+            (entry.after == Row::none || entry.after == standing.last))
             return &entry;
     return nullptr;
 }

@@ -1,14 +1,17 @@
-// The table of operations: which row an operation at a place of the kernel's code is. The file operations.txt says how to read it.
+// The table of operations: which row an operation at a place of the kernel's code is. operations/6.1.txt says how to read it.
 #pragma once
 #include <string>
 #include <vector>
-#include "memory.h"
 #include "rows.h"
+#include "words.h"
 #include "../shims/operations.h"
 
-enum class By { anyone, a_try, with_node, without_node };
+// How far a waiter is in its operation.
+enum class Phase { outside, trying, locking, with_node, without_node, queued, quitting, releasing };
+
+enum class By { anyone, a_try, with_node, without_node, a_quitter, a_releaser };
 enum class Code { either, native, pv };
-enum class When { always, never, last_look, nonzero, swapped, held, swapped_or_held, second_half };
+enum class When { always, never, last_look, nonzero, other, swapped, held, swapped_or_held, second_half };
 
 struct Entry {
     std::string file, function;
@@ -22,16 +25,22 @@ struct Entry {
     When when = When::always;
 };
 
-struct Context;
+// What of the one who makes an operation says which line is meant.
+struct Standing {
+    Phase phase;
+    Code code;
+    Row last;
+};
 
 struct Table {
     std::vector<Entry> entries;
 
     void read(const std::string &path);
-    // The entry of the operation that the context makes at this place on this word; null where there is none.
-    const Entry *find(const shim_place &at, Word word, const Context &context) const;
+    // The entry of the operation that is made at this place on this word; null where there is none.
+    const Entry *find(const shim_place &at, Word word, const Standing &standing) const;
 };
 
 extern Table table;
 const char *name_of(shim_operation operation);
-std::vector<std::string> words_of(const std::string &line);
+// The operation with this name; a name that is none ends the run.
+shim_operation operation_named(const std::string &name);

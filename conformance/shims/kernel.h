@@ -21,6 +21,10 @@ typedef uint8_t u8;
 typedef uint16_t u16;
 typedef uint32_t u32;
 typedef uint64_t u64;
+typedef long ssize_t;
+struct file;
+#define __user
+typedef long long loff_t;
 typedef struct { int counter; } atomic_t;
 #define ATOMIC_INIT(i)	{ (i) }
 #define BITS_PER_LONG	64
@@ -96,8 +100,12 @@ extern int shim_is_pv;
 /* ---- loads and stores ---- */
 #define READ_ONCE(x)		((typeof(x))shim_load(SHIM_AT(load), &(x), sizeof(x)))
 #define WRITE_ONCE(x, v)	shim_store(SHIM_AT(store), &(x), sizeof(x), SHIM_VALUE(v))
+/* Where the code says that an access races on purpose, it is an operation. */
+#define data_race(x)		READ_ONCE(x)
+#define smp_load_acquire(p)	READ_ONCE(*(p))
 #define smp_store_release(p, v)	shim_store(SHIM_AT(store), (p), sizeof(*(p)), SHIM_VALUE(v))
 #define smp_store_mb(x, v)	shim_store(SHIM_AT(store), &(x), sizeof(x), SHIM_VALUE(v))
+#define atomic_set(v, i)	((v)->counter = (i))
 #define atomic_read(v)		((int)shim_load(SHIM_AT(load), &(v)->counter, 4))
 #define SHIM_WAIT(p, condition) ({ \
 	typeof(*(p)) VAL; \
@@ -118,20 +126,33 @@ extern int shim_is_pv;
 	if (shim_met != shim_expected) \
 		*shim_before = shim_met; \
 	shim_met == shim_expected; })
+#define atomic_try_cmpxchg(v, b, a)	SHIM_TRY(v, b, a)
 #define atomic_try_cmpxchg_acquire(v, b, a)	SHIM_TRY(v, b, a)
 #define atomic_try_cmpxchg_relaxed(v, b, a)	SHIM_TRY(v, b, a)
 #define SHIM_ATOMIC_SWAP(v, b, a) ((int)shim_swap(SHIM_AT(swap), &(v)->counter, 4, (u32)(b), (u32)(a)))
 #define atomic_cmpxchg(v, b, a)			SHIM_ATOMIC_SWAP(v, b, a)
 #define atomic_cmpxchg_acquire(v, b, a)		SHIM_ATOMIC_SWAP(v, b, a)
+#define atomic_cmpxchg_release(v, b, a)		SHIM_ATOMIC_SWAP(v, b, a)
 #define atomic_cmpxchg_relaxed(v, b, a)		SHIM_ATOMIC_SWAP(v, b, a)
 #define SHIM_SWAP(p, b, a) ((typeof(*(p)))shim_swap(SHIM_AT(swap), (p), sizeof(*(p)), SHIM_VALUE(b), SHIM_VALUE(a)))
 #define cmpxchg(p, b, a)		SHIM_SWAP(p, b, a)
 #define cmpxchg_acquire(p, b, a)	SHIM_SWAP(p, b, a)
 #define cmpxchg_release(p, b, a)	SHIM_SWAP(p, b, a)
 #define cmpxchg_relaxed(p, b, a)	SHIM_SWAP(p, b, a)
+#define SHIM_TRY_ANY(p, before, after) ({ \
+	typeof(*(p)) shim_expected = *(before); \
+	typeof(*(p)) shim_met = (typeof(*(p)))shim_swap(SHIM_AT(swap), (p), sizeof(*(p)), SHIM_VALUE(shim_expected), SHIM_VALUE(after)); \
+	if (shim_met != shim_expected) \
+		*(before) = shim_met; \
+	shim_met == shim_expected; })
+#define try_cmpxchg(p, b, a)		SHIM_TRY_ANY(p, b, a)
+#define try_cmpxchg_acquire(p, b, a)	SHIM_TRY_ANY(p, b, a)
+#define try_cmpxchg_release(p, b, a)	SHIM_TRY_ANY(p, b, a)
+#define try_cmpxchg_relaxed(p, b, a)	SHIM_TRY_ANY(p, b, a)
 #define SHIM_EXCHANGE(p, a) ((typeof(*(p)))shim_exchange(SHIM_AT(exchange), (p), sizeof(*(p)), SHIM_VALUE(a)))
 #define xchg(p, a)		SHIM_EXCHANGE(p, a)
 #define xchg_relaxed(p, a)	SHIM_EXCHANGE(p, a)
+#define atomic_xchg(v, a)	((int)SHIM_EXCHANGE(&(v)->counter, a))
 
 /* ---- changes in one operation ---- */
 #define SHIM_UPDATE(kind, i, v) ((u32)shim_update(SHIM_AT(kind), &(v)->counter, 4, (u32)(i)))
@@ -187,6 +208,7 @@ extern void __pv_init_lock_hash(void);
 #define pv_kick(cpu)	shim_kick(SHIM_AT(kick), (cpu))
 #define pv_vcpu_is_preempted(cpu)	((void)(cpu), false)
 #define DECLARE_STATIC_KEY_TRUE(n)	extern int n
+#define DECLARE_STATIC_KEY_FALSE(n)	extern int n
 #define static_branch_likely(p)		(*(p))
 
 /*
