@@ -330,13 +330,16 @@ class JobFile(Reader):
 
     def __init__(self):
         super().__init__()
-        self.workers, self.accounts, self.count = 1, 0, 0
+        self.mode, self.workers, self.accounts, self.count = "", 1, 0, 0
 
     def say_mode(self, words):
-        self.choice(words[0], "a mode of a job file", MODES[:3])
+        self.mode = words[0]
+        self.choice(words[0], "a mode", MODES)
 
     def say_guard(self, words):
         self.choice(words[0], "a kind of lock", KINDS)
+        if (self.mode, words[0]) == ("pv", "rw"):
+            self.refuse("WrongLock", "the lock of a ledger of mode pv is a spinlock, and \"rw\" is a reader-writer lock")
 
     def say_workers(self, words):
         self.workers = self.value(words[0], "the number of workers", 1, 16)

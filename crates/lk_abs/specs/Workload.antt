@@ -1,8 +1,9 @@
 -- What a job file says: the lock, the workers, the accounts, and the jobs.
-use Rattle.std.specs.Prelude.{◌≤◌, ◌<◌, ◌≡◌, ◌≢◌, ℕ, List, [], All, length, map, slice_index_or}
+use Rattle.std.specs.Prelude.{◌≤◌, ◌<◌, ◌≡◌, ℕ, List, [], All, length, map, slice_index_or}
 use Rattle.std.specs.List.{sum, sum_by}
 use Rattle.lk_abs.specs.declared.names.Format.{Format}
 use Rattle.lk_abs.specs.declared.names.Kind.{Kind}
+use Rattle.lk_abs.specs.declared.names.Kind.TheVariants.{Spin}
 use Rattle.lk_abs.specs.declared.names.Mode.{Mode}
 use Rattle.lk_abs.specs.declared.names.Mode.TheVariants.{Pv}
 use Rattle.lk_abs.specs.declared.ledger.Job.{Job}
@@ -58,9 +59,9 @@ IsBounded (job.Get account) = Unit {0}
 abbrev pub IsFair : ℕ → Job → Type 0
 IsFair accounts job = IsAmong accounts job × IsBounded job
 
--- what holds of everything that a job file can say
+-- What holds of everything that a job file can say. Where processors halt, all locks are spinlocks.
 pub record IsLawful (w : Workload) : Type 0 where
-  pub mode : w.mode ≢ Pv
+  pub guarded : w.mode ≡ Pv → w.guard ≡ Spin
   pub some : 1 ≤ workers_of w
   pub few : workers_of w ≤ MAX_WORKERS
   pub each : length w.sockets ≡ workers_of w

@@ -3,7 +3,7 @@ use Rattle.std.proofs.Common.{◌≡◌, refl, [], ◌∷◌, Ok, Err}
 use Rattle.std.specs.Prelude.{codes}
 use Rattle.lk_abs.specs.declared.names.Format.TheVariants.{One, Two}
 use Rattle.lk_abs.specs.declared.names.Kind.TheVariants.{Spin, Rw}
-use Rattle.lk_abs.specs.declared.names.Mode.TheVariants.{Virt, Native, Cna}
+use Rattle.lk_abs.specs.declared.names.Mode.TheVariants.{Virt, Native, Cna, Pv}
 use Rattle.lk_abs.specs.declared.ledger.Job.TheVariants.{Move, Add, Sum, Get}
 use Rattle.lk_forms.specs.declared.answers.LineRefusal.TheVariants.{Bad, Limit}
 use Rattle.lk_forms.specs.declared.answers.Fault.TheVariants as fault
@@ -35,8 +35,14 @@ total = refl
 no_verb : job_file (codes "qjobs 1\nmode virt\naccounts 1\njob 0 mul 0 2\n") ≡ Err (4, Bad fault.UnknownWord)
 no_verb = refl
 
-no_pv : job_file (codes "qjobs 1\nmode pv\n") ≡ Err (2, Bad fault.UnknownWord)
-no_pv = refl
+halting : job_file (codes "qjobs 1\nmode pv\nguard spin\nend\n") ≡ Ok (record usual_workload { mode = Pv })
+halting = refl
+
+halting_readers : job_file (codes "qjobs 1\nmode pv\nguard rw\nend\n") ≡ Err (3, Bad fault.WrongLock)
+halting_readers = refl
+
+no_family : job_file (codes "qjobs 1\nmode mcs\n") ≡ Err (2, Bad fault.UnknownWord)
+no_family = refl
 
 wide : job_file (codes "qjobs 2\nmode native\nend\n") ≡ Ok (record usual_workload { format = Two; mode = Native })
 wide = refl

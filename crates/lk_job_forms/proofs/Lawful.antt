@@ -9,6 +9,8 @@ use Rattle.std.proofs.lemmas.List.{length-set, length-replicate}
 use Rattle.std.proofs.lemmas.List.Elements.{All-nil, All-cons, All-replicate, All-set, All-get_or, All-push}
 use Rattle.std.proofs.lemmas.List.Sums.{sum_by-cons, sum_by-set}
 use Rattle.lk_abs.specs.declared.names.Format.{Format}
+use Rattle.lk_abs.specs.declared.names.Kind.{Kind}
+use Rattle.lk_abs.specs.declared.names.Kind.TheVariants.{Spin, Rw}
 use Rattle.lk_abs.specs.declared.names.Mode.{Mode}
 use Rattle.lk_abs.specs.declared.names.Mode.TheVariants.{Virt, Native, Cna, Pv}
 use Rattle.lk_abs.specs.declared.ledger.Job.{Job}
@@ -26,7 +28,7 @@ use Rattle.lk_forms.specs.declared.answers.LineRefusal.TheVariants.{Bad, Limit}
 use Rattle.lk_forms.proofs.Changes.{and_then-ok, if-ok, else-ok, number_in-ok, cpu_word-ok}
 use Rattle.lk_job_forms.specs.declared.keyword.Keyword.{Keyword}
 use Rattle.lk_job_forms.specs.declared.keyword.Keyword.TheVariants as keyword
-use Rattle.lk_job_forms.specs.Lines.{mode_named, mode_word, balances_from, balances_of, opened, three_words, amount_word, move_of, add_of, get_of, job_of, worker_job, line_args}
+use Rattle.lk_job_forms.specs.Lines.{mode_named, mode_word, suited, balances_from, balances_of, opened, three_words, amount_word, move_of, add_of, get_of, job_of, worker_job, line_args}
 use Rattle.lk_job_forms.specs.Keywords.{keyword_of, rank_of, fault_of_place, fault_of_ranks}
 use Rattle.lk_job_forms.specs.Grammar.{Reading, IsSound, nothing_read, format_said, read_format, read, read_words, read_ranked, read_known, read_placed}
 use Rattle.lk_job_forms.proofs.Drafts.{job_count-none}
@@ -39,14 +41,13 @@ record Keeps (w v : Workload) : Type 0 where
 
 -- the lines that stand once
 
-named_is_not_pv : (word : List ℕ) (m : Mode) → mode_named word ≡ Some m → m ≢ Pv
-named_is_not_pv word m is = by_words (bytes_eq word (codes "virt")) (bytes_eq word (codes "native")) (bytes_eq word (codes "cna")) is
-  where
-    by_words : (a b c : Bool) → (if a then Some Virt else if b then Some Native else if c then Some Cna else None) ≡ Some m → m ≢ Pv
-    by_words true b c is = λ pv. cc
-    by_words false true c is = λ pv. cc
-    by_words false false true is = λ pv. cc
-    by_words false false false is = λ pv. cc
+-- a guard that suits its family
+suits : (m : Mode) (k g : Kind) → suited m k ≡ Ok g → m ≡ Pv → g ≡ Spin
+suits Pv Spin g is pv = cc
+suits Pv Rw g is pv = cc
+suits Virt k g is pv = cc
+suits Native k g is pv = cc
+suits Cna k g is pv = cc
 
 -- the numbers of the words are as many, and within the range
 length-numbers : (low high : ℕ) (before : List ℕ) (words : List (List ℕ)) (ns : List ℕ) → numbers_from low high before words ≡ Ok ns → length ns ≡ length before + length words
@@ -115,27 +116,27 @@ module _ (w : Workload) (lawful : IsLawful w) where
   mode_kept : (args : List (List ℕ)) → IfOk (line_args keyword.Mode w args) (Keeps w)
   mode_kept args = then_keeps _ (one_word args) _ (λ word _. then_keeps _ (mode_word word) _ (λ m is. kept word m (mode_named word) refl is))
     where
-      kept : (word : List ℕ) (m : Mode) (found : Option Mode) → mode_named word ≡ found → or_fault UnknownWord found ≡ Ok m → Keeps w (record w { mode = m })
+      kept : (word : List ℕ) (m : Mode) (found : Option Mode) → mode_named word ≡ found → or_fault UnknownWord found ≡ Ok m → Keeps w (record w { mode = m; guard = Spin })
       kept word m None named is = cc
       kept word m (Some n) named is =
           let same : mode_named word ≡ Some m = cc in
           record {
-            lawful = record { mode = named_is_not_pv word m same; some = lawful.some; few = lawful.few; each = lawful.each; near = lawful.near; threshold = lawful.threshold; accounts = lawful.accounts; total = lawful.total; jobs = lawful.jobs; fair = lawful.fair };
+            lawful = record { guarded = λ _. refl; some = lawful.some; few = lawful.few; each = lawful.each; near = lawful.near; threshold = lawful.threshold; accounts = lawful.accounts; total = lawful.total; jobs = lawful.jobs; fair = lawful.fair };
             none = λ none. none;
           }
 
   guard_kept : (args : List (List ℕ)) → IfOk (line_args keyword.Guard w args) (Keeps w)
-  guard_kept args = then_keeps _ (one_word args) _ (λ word _. then_keeps _ (kind_word word) _ (λ k is. record {
-    lawful = record { mode = lawful.mode; some = lawful.some; few = lawful.few; each = lawful.each; near = lawful.near; threshold = lawful.threshold; accounts = lawful.accounts; total = lawful.total; jobs = lawful.jobs; fair = lawful.fair };
+  guard_kept args = then_keeps _ (one_word args) _ (λ word _. then_keeps _ (kind_word word) _ (λ k _. then_keeps _ (suited w.mode k) _ (λ g is. record {
+    lawful = record { guarded = suits w.mode k g is; some = lawful.some; few = lawful.few; each = lawful.each; near = lawful.near; threshold = lawful.threshold; accounts = lawful.accounts; total = lawful.total; jobs = lawful.jobs; fair = lawful.fair };
     none = λ none. none;
-  }))
+  })))
 
   workers_kept : (args : List (List ℕ)) → IfOk (line_args keyword.Workers w args) (Keeps w)
   workers_kept args = then_keeps _ (one_word args) _ (λ word _. then_keeps _ (number_in 1 MAX_WORKERS word) _ (λ n is.
       let within = number_in-ok 1 MAX_WORKERS word n is in
       record {
         lawful = record {
-          mode = lawful.mode;
+          guarded = lawful.guarded;
           some = omega (arith, within.0, count_none n);
           few = omega (arith, within.1, count_none n);
           each = length-replicate n 0 ∙ sym (count_none n);
@@ -154,7 +155,7 @@ module _ (w : Workload) (lawful : IsLawful w) where
       let count = length-numbers 0 MAX_SOCKET [] args ss is in
       record {
         lawful = record {
-          mode = lawful.mode;
+          guarded = lawful.guarded;
           some = lawful.some;
           few = lawful.few;
           each = grind (arith, nat_tests, all, count);
@@ -170,7 +171,7 @@ module _ (w : Workload) (lawful : IsLawful w) where
 
   threshold_kept : (args : List (List ℕ)) → IfOk (line_args keyword.Threshold w args) (Keeps w)
   threshold_kept args = then_keeps _ (one_word args) _ (λ word _. then_keeps _ (number_in 0 MAX_TURNS word) _ (λ t is. record {
-    lawful = record { mode = lawful.mode; some = lawful.some; few = lawful.few; each = lawful.each; near = lawful.near; threshold = (number_in-ok 0 MAX_TURNS word t is).1; accounts = lawful.accounts; total = lawful.total; jobs = lawful.jobs; fair = lawful.fair };
+    lawful = record { guarded = lawful.guarded; some = lawful.some; few = lawful.few; each = lawful.each; near = lawful.near; threshold = (number_in-ok 0 MAX_TURNS word t is).1; accounts = lawful.accounts; total = lawful.total; jobs = lawful.jobs; fair = lawful.fair };
     none = λ none. none;
   }))
 
@@ -184,7 +185,7 @@ module _ (w : Workload) (lawful : IsLawful w) where
       let below = rw same at room.0 in
       record {
         lawful = record {
-          mode = lawful.mode;
+          guarded = lawful.guarded;
           some = lawful.some;
           few = lawful.few;
           each = lawful.each;
@@ -220,7 +221,7 @@ module _ (w : Workload) (lawful : IsLawful w) where
           let under : job_count w.jobs < MAX_JOBS = grind (arith, nat_tests, few) in
           let same : length (slice_set w.jobs worker more) ≡ length w.jobs = length-set w.jobs worker more in
           record {
-            mode = lawful.mode;
+            guarded = lawful.guarded;
             some = rw same lawful.some;
             few = rw same lawful.few;
             each = lawful.each ∙ sym same;
@@ -290,7 +291,7 @@ ranked_sound r None first args behind sound = by_format (format_said first args)
     by_format (Some format) =
         let lawful = sound.lawful in
         record {
-          lawful = record { mode = lawful.mode; some = lawful.some; few = lawful.few; each = lawful.each; near = lawful.near; threshold = lawful.threshold; accounts = lawful.accounts; total = lawful.total; jobs = lawful.jobs; fair = lawful.fair };
+          lawful = record { guarded = lawful.guarded; some = lawful.some; few = lawful.few; each = lawful.each; near = lawful.near; threshold = lawful.threshold; accounts = lawful.accounts; total = lawful.total; jobs = lawful.jobs; fair = lawful.fair };
           early = λ low. sound.early (rw behind (omega arith));
         }
 ranked_sound r (Some last) first args behind sound = by_keyword (keyword_of first)
@@ -311,7 +312,7 @@ read_sound r line sound = if_keeps _ (is_text line) _ _ (λ text. by_words (word
 pub first_sound : IsSound nothing_read
 first_sound = record {
   lawful = record {
-    mode = λ pv. cc;
+    guarded = λ pv. refl;
     some = omega arith;
     few = omega arith;
     each = refl;

@@ -4,7 +4,9 @@ use Rattle.std.specs.Prelude.{ℕ, ◌==◌, nat_le, nat_lt, List, [], ◌∷◌
 use Rattle.std.specs.List.{sum}
 use Rattle.std.specs.Str.{bytes_eq}
 use Rattle.lk_abs.specs.declared.names.Mode.{Mode}
-use Rattle.lk_abs.specs.declared.names.Mode.TheVariants.{Virt, Native, Cna}
+use Rattle.lk_abs.specs.declared.names.Kind.{Kind}
+use Rattle.lk_abs.specs.declared.names.Kind.TheVariants.{Spin, Rw}
+use Rattle.lk_abs.specs.declared.names.Mode.TheVariants.{Virt, Native, Cna, Pv}
 use Rattle.lk_abs.specs.declared.ledger.Job.{Job}
 use Rattle.lk_abs.specs.declared.ledger.Job.TheVariants.{Move, Add, Sum, Get}
 use Rattle.lk_abs.specs.Jobs.{full}
@@ -12,7 +14,7 @@ use Rattle.lk_abs.specs.declared.limits.TheConstants.{MAX_SOCKET, MAX_TURNS, MAX
 use Rattle.lk_abs.specs.Workload.{Workload, workers_of, jobs_of, job_count}
 use Rattle.lk_forms.specs.Operations.{and_then, or_fault}
 use Rattle.lk_forms.specs.Grammar.{one_word, two_words, no_words, number_in, numbers_from, cpu_word, kind_word}
-use Rattle.lk_forms.specs.declared.answers.Fault.TheVariants.{UnknownWord, WordCount, OutOfRange, Misplaced}
+use Rattle.lk_forms.specs.declared.answers.Fault.TheVariants.{UnknownWord, WordCount, OutOfRange, Misplaced, WrongLock}
 use Rattle.lk_forms.specs.declared.answers.Which.TheVariants.{Jobs, Total}
 use Rattle.lk_forms.specs.declared.answers.LineRefusal.{LineRefusal}
 use Rattle.lk_forms.specs.declared.answers.LineRefusal.TheVariants.{Bad, Limit}
@@ -26,20 +28,28 @@ mode_named word =
     if bytes_eq word (codes "virt") then Some Virt
     else if bytes_eq word (codes "native") then Some Native
     else if bytes_eq word (codes "cna") then Some Cna
+    else if bytes_eq word (codes "pv") then Some Pv
     else None
 
 abbrev pub mode_word : List ℕ → Result Mode LineRefusal
 mode_word word = or_fault UnknownWord (mode_named word)
 
--- `mode m`
+-- `mode m`: the guard is a spinlock until a line says another
 abbrev pub mode_line : Workload → List (List ℕ) → Result Workload LineRefusal
 mode_line w args =
-    and_then (one_word args) (λ word. and_then (mode_word word) (λ m. Ok (record w { mode = m })))
+    and_then (one_word args) (λ word. and_then (mode_word word) (λ m.
+    Ok (record w { mode = m; guard = Spin })))
+
+-- the kind of a lock of this family: where processors halt, all locks are spinlocks
+abbrev pub suited : Mode → Kind → Result Kind LineRefusal
+suited Pv Rw = Err (Bad WrongLock)
+suited m k = Ok k
 
 -- `guard g`
 abbrev pub guard_line : Workload → List (List ℕ) → Result Workload LineRefusal
 guard_line w args =
-    and_then (one_word args) (λ word. and_then (kind_word word) (λ k. Ok (record w { guard = k })))
+    and_then (one_word args) (λ word. and_then (kind_word word) (λ k. and_then (suited w.mode k) (λ g.
+    Ok (record w { guard = g }))))
 
 -- so many workers, each on socket 0 and without a job
 abbrev pub with_workers : Workload → ℕ → Workload

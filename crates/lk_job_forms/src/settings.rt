@@ -1,14 +1,14 @@
 // The lines that stand once, each by the words behind its keyword.
 ghost use Rattle.std.specs.Prelude.{◌≡◌};
 ghost use Rattle.lk_forms.specs.Words.{words};
-ghost use Rattle.lk_job_forms.specs.Lines.{mode_named, mode_word, mode_line, guard_line, workers_line, sockets_line, threshold_line, line_args};
+ghost use Rattle.lk_job_forms.specs.Lines.{mode_named, mode_word, mode_line, suited, guard_line, workers_line, sockets_line, threshold_line, line_args};
 ghost use Rattle.lk_job_forms.specs.Draft.{work_of, Makes};
 
 use crate::accounts::accounts_line;
 use crate::draft::{Draft, no_jobs};
 use crate::jobs::job_line;
 use crate::keyword::Keyword;
-use lk_abs::{List, MAX_TURNS, MAX_WORKERS, Mode};
+use lk_abs::{Kind, List, MAX_TURNS, MAX_WORKERS, Mode};
 use lk_forms::{
     Fault, LineRefusal, count_words, kind_word, no_words, number_in, one_word, read_sockets,
 };
@@ -24,6 +24,8 @@ fn mode_named(word: &[u8]) -> Option<Mode>
         Some(Mode::Native)
     } else if word == b"cna".as_slice() {
         Some(Mode::Cna)
+    } else if word == b"pv".as_slice() {
+        Some(Mode::Pv)
     } else {
         None
     }
@@ -35,13 +37,24 @@ fn mode_word(word: &[u8]) -> Result<Mode, LineRefusal>
     mode_named(word).ok_or(LineRefusal::Bad(Fault::UnknownWord))
 }
 
-// `mode m`
+// `mode m`: the guard is a spinlock until a line says another.
 fn mode_line(draft: &mut Draft, args: &[u8]) -> Result<(), LineRefusal>
     ensures { Makes (mode_line (work_of draft.old) (words args.now)) draft.old draft.new result }
 {
     let word = one_word(args)?;
     draft.mode = mode_word(word)?;
+    draft.guard = Kind::Spin;
     Ok(())
+}
+
+// The kind of a lock of this family: where processors halt, all locks are spinlocks.
+fn suited(mode: Mode, kind: Kind) -> Result<Kind, LineRefusal>
+    ensures { result ≡ suited mode kind }
+{
+    match (mode, kind) {
+        (Mode::Pv, Kind::Rw) => Err(LineRefusal::Bad(Fault::WrongLock)),
+        _ => Ok(kind),
+    }
 }
 
 // `guard g`
@@ -49,7 +62,7 @@ fn guard_line(draft: &mut Draft, args: &[u8]) -> Result<(), LineRefusal>
     ensures { Makes (guard_line (work_of draft.old) (words args.now)) draft.old draft.new result }
 {
     let word = one_word(args)?;
-    draft.guard = kind_word(word)?;
+    draft.guard = suited(draft.mode, kind_word(word)?)?;
     Ok(())
 }
 
