@@ -193,6 +193,10 @@ pub record Deals (k : Plan) (roll id n : ℕ) (plan : Plan) : Type 0 where
 abbrev pub IsIdle : World → Waiter → Type 0
 IsIdle m u = (m.frame u ≡ None) × ((l : LockName) → m.held u l ≡ None)
 
+-- no seat has this number for its own
+abbrev pub IsNobodys : List View → ℕ → Type 0
+IsNobodys vs p = (id : ℕ) (v : View) → get_elem? vs id ≡ some v → v.who.number ≢ Some p
+
 -- the machine part of the rule
 pub record Runs (k : Plan) {S : Type 0} (s : State S View) : Type 0 where
   pub lawful : IsRunningPlan k
@@ -211,11 +215,12 @@ pub record Runs (k : Plan) {S : Type 0} (s : State S View) : Type 0 where
       → get_elem? s.views id ≡ some v
       → v.who.number ≡ Some p
       → SeatFits world p v.calls
-  -- each number below the roll word is one seat's, by itself or as an ended one, and no other is
-  -- any seat's; and a number that was not dealt has no frame and no lock
+  -- Each number below the roll word is one seat's, by itself or as an ended one, and no other is
+  -- any seat's. A number that no seat has for its own, which was not dealt or whose seat has ended, has
+  -- no frame and no lock.
   pub once : (p : ℕ)
       → total (λ v. times p (numbers v)) s.views ≡ once_below p (slice_index s.words 0)
-  pub blank : (p : ℕ) → slice_index s.words 0 ≤ p → Mirrors world p no_calls
+  pub blank : (p : ℕ) → IsNobodys s.views p → Mirrors world p no_calls
   pub roll : slice_index s.words 0 ≤ cpus_of k
   -- each processor has six contexts
   pub six : (u : Waiter) → 6 ≤ u.ctx → IsIdle world u

@@ -31,7 +31,6 @@ pub record IsKept (old new : Seat Slot View) : Type 0 where
   pub id : new.id ≡ old.id
   pub who : new.me.0.who ≡ old.me.0.who
   pub calls : new.me.0.calls ≡ old.me.0.calls
-  pub carried : new.me.1 ≡ carried_with new.me.0.ledger.out
 
 -- a balance was loaded; where the journal is out it is what the processor knows of the word
 pub record HasLoadedBy (account : ℕ) (old : View) (met : ℕ) (new : View) : Type 0 where

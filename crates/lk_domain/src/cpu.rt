@@ -10,15 +10,16 @@ use crate::notes::Notes;
 use crate::view::View;
 use atomic_table::Seat;
 
-// The right to step in a domain's table.
-pub(crate) type Right = Seat<Option<Journal>, View>;
+/// The right to step in a domain's table.
+pub type Right = Seat<Option<Journal>, View>;
 
 /// A processor: the right to step in a domain.
 #[derive(Drop)]
 pub struct Cpu {
     pub(crate) number: u32,
     pub(crate) notes: Notes,
-    pub(crate) seat: Right,
+    /// Its right to step: what steps at the ledger takes it, and leaves it a seat of the processor.
+    pub seat: Right,
     ghost numbered: { seat.me.0.who.number ≡ Some number },
     ghost noted: { IsNoted notes seat.me.0.calls },
     ghost apart: { are_calls seat.me.0.calls.frames ≡ true },

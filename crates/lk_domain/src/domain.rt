@@ -20,8 +20,10 @@ use std::alloc::Global;
 /// Locks for processors that really run, and a ledger under them.
 #[derive(Drop)]
 pub struct Domain {
-    pub(crate) table: Table<Option<Journal>, View, Plan, Order, Global>,
-    pub(crate) plan: Plan,
+    /// The table of its words.
+    pub table: Table<Option<Journal>, View, Plan, Order, Global>,
+    /// What it was made of.
+    pub plan: Plan,
     ghost lawful: { IsRunningPlan plan },
     ghost words: { table.shared.table_id.words ≡ words_of plan },
     ghost slots: { table.shared.table_id.slots ≡ 1 },

@@ -47,12 +47,22 @@ fn first_balance(plan: &Plan) -> usize
     8 + 8 * plan.locks.len()
 }
 
+/// How many accounts the ledger has.
+pub fn accounts(plan: &Plan) -> u32
+    requires { IsRunningPlan plan.now }
+    ensures { result ≡ accounts_of plan.now }
+{
+    prove!(plan.balances.len() <= 64);
+    plan.balances.len() as u32
+}
+
 /// Loads a balance.
 pub fn load(seat: &mut Right, table: &Words, plan: &Plan, account: u32) -> u64
     requires table { IsTableOf plan.now table.now.shared.table_id table.now.shared.key }
     requires seat { IsSeatOf plan.now table.now.shared.table_id seat.old }
     requires account { account < accounts_of plan.now }
     requires held { holds_first seat.old.me.0.calls }
+    ensures seat { IsSeatOf plan.now table.now.shared.table_id seat.new }
     ensures rest { IsKept seat.old seat.new }
     ensures loaded { HasLoadedBy account seat.old.me.0 result seat.new.me.0 }
 {
@@ -67,6 +77,7 @@ pub fn store(seat: &mut Right, table: &Words, plan: &Plan, account: u32, amount:
     requires account { account < accounts_of plan.now }
     requires held { holds_first seat.old.me.0.calls }
     requires out { (o : Out) × (seat.old.me.0.ledger.out ≡ Some o) }
+    ensures seat { IsSeatOf plan.now table.now.shared.table_id seat.new }
     ensures rest { IsKept seat.old seat.new }
     ensures stored { HasStoredBy account amount seat.old.me.0 seat.new.me.0 }
 {
@@ -79,6 +90,7 @@ pub fn version(seat: &mut Right, table: &Words, plan: &Plan) -> u64
     requires table { IsTableOf plan.now table.now.shared.table_id table.now.shared.key }
     requires seat { IsSeatOf plan.now table.now.shared.table_id seat.old }
     requires held { holds_first seat.old.me.0.calls }
+    ensures seat { IsSeatOf plan.now table.now.shared.table_id seat.new }
     ensures rest { IsKept seat.old seat.new }
     ensures seen { HasSeenBy seat.old.me.0 result seat.new.me.0 }
 {
@@ -92,6 +104,7 @@ pub fn journal_out(seat: &mut Right, table: &Words, plan: &Plan) -> Journal
     requires seat { IsSeatOf plan.now table.now.shared.table_id seat.old }
     requires held { alone_first seat.old.me.0.calls }
     requires home { seat.old.me.0.ledger.out ≡ None }
+    ensures seat { IsSeatOf plan.now table.now.shared.table_id seat.new }
     ensures rest { IsKept seat.old seat.new }
     ensures out { IsOut plan.now seat.old.me.0.ledger result seat.new.me.0.ledger }
 {
@@ -110,6 +123,7 @@ pub fn journal_home(seat: &mut Right, table: &Words, plan: &Plan, journal: Journ
     requires held { holds_first seat.old.me.0.calls }
     requires may { (p : ℕ) × (seat.old.me.0.who.number ≡ Some p)
         × MayCome plan.now p seat.old.me.0.ledger journal }
+    ensures seat { IsSeatOf plan.now table.now.shared.table_id seat.new }
     ensures rest { IsKept seat.old seat.new }
     ensures ledger { (p : ℕ) → seat.old.me.0.who.number ≡ Some p
         → CameHome p seat.old.me.0.ledger journal seat.new.me.0.ledger }

@@ -22,7 +22,7 @@ pub mod steps;
 mod verbs;
 mod view;
 
-pub use cpu::Cpu;
+pub use cpu::{Cpu, Right};
 pub use domain::{Domain, LockId};
 pub use ending::{CloseBack, Closed, close};
 pub use journal::Journal;

@@ -1,31 +1,79 @@
 -- A front that has halted on a free lock is kicked; and who seeks an entry finds it.
-use Rattle.std.proofs.Common.{◌≡◌, inl, inr, Option, Some, None, true}
-use Rattle.std.proofs.Common.{refl, ap, ◌∙◌, arith, slice_get}
+use Rattle.std.proofs.Common.{◌≡◌, ◌≤◌, ℕ, List, [], ◌∷◌, length, eqb, Bool, inl, inr, Option, Some, None, true, false}
+use Rattle.std.proofs.Common.{refl, ap, ◌∙◌, arith, slice_get, get_or}
 use Rattle.std.specs.Prelude.{if◌then◌else◌, is_some}
+use mathlib.Core.Option.{some}
+use lib.ListN.{get_elem?}
+use Rattle.atomic_table.specs.Table.{State}
 use Rattle.lk_abs.specs.History.{no_history}
+use Rattle.lk_abs.specs.declared.names.Waiter.{Waiter}
 use Rattle.lk_word.specs.declared.spin_word.NodeName.{NodeName}
+use Rattle.lk_machine.specs.declared.parts.Frame.{Frame}
 use Rattle.lk_machine.specs.declared.parts.Pc.TheVariants.{U3}
+use Rattle.lk_machine.specs.Moves.{node_of}
 use Rattle.lk_law.specs.Agree.{halts}
+use Rattle.lk_law.specs.Kicked.{Owes}
 use Rattle.lk_law.specs.SoundWorld.{spin_part}
 use Rattle.lk_law.proofs.common.Knows.{row_knows, entry_is_used}
 use Rattle.lk_law.proofs.pv.HaltsShown.{sleeping_front_is_kicked}
-use Rattle.lk_domain.specs.Runs.{waiter, seeks_entry}
+use Rattle.lk_domain.specs.Calls.{Running, frame_in}
+use Rattle.lk_domain.specs.Keeps.{Slot}
+use Rattle.lk_domain.specs.Runs.{Runs, waiter, seeks_entry}
 use Rattle.lk_domain.specs.Words.{mark_number, IsNode}
+use Rattle.lk_domain.specs.declared.plan.Plan.{Plan}
+use Rattle.lk_domain.specs.declared.view.View.{View}
 use Rattle.lk_domain.proofs.queue.OnNodes.{top_live}
+use Rattle.lk_domain.proofs.seats.Owners.{framed}
+use Rattle.lk_domain.proofs.seats.Totals.{drawn}
 use Rattle.lk_domain.proofs.words.OnWords.{seated}
-use Rattle.lk_pvdomain.specs.Laws.{FrontIsKicked, EntryIsFound}
+use Rattle.lk_pvdomain.specs.Laws.{FrontIsKicked, EntryIsFound, WillKick}
 use Rattle.lk_pvdomain.proofs.HashMaps.{sought_is_there}
 
+frame_is : (b : Bool) (x f : Frame) → (if b then Some x else None) ≡ Some f → x ≡ f
+frame_is true x f e = cc e
+frame_is false x f e = cc e
+
+none_some : {f : Frame} → None ≡ Some f → ⊥
+none_some e = cc e
+
+-- the one call of a processor
+one_call : (rs : List Running) (d : ℕ) (f : Frame) → length rs ≤ 1 → frame_in rs d ≡ Some f
+    → (x : Running) × (rs ≡ x ∷ []) × (x.frame ≡ f)
+one_call [] d f few e = absurd (none_some e)
+one_call (x ∷ []) d f few e = (x, refl, frame_is (eqb d x.frame.ctx) x.frame f e)
+one_call (x ∷ y ∷ rs) d f few e = absurd (omega (arith, few))
+
+-- whose frame owes a processor a kick
+kicker : (k : Plan) (s : State Slot View) (st : Runs k s) (p : ℕ) (u : Waiter) → halts st.world.mode ≡ true
+    → Owes st.world p u → (id : ℕ) × (v : View) × (get_elem? s.views id ≡ some v) × WillKick v p
+kicker k s st p u on owes =
+    let by = framed k s st u owes.0 owes.1 in
+    let v = by.seat.view_is in
+    let one = one_call v.calls.frames u.ctx owes.0 ((st.seats by.seat.id v u.cpu by.seat.at by.seat.number).single on) by.is in (
+      by.seat.id,
+      v,
+      by.seat.at,
+      record {
+        call = one.0;
+        only = one.1;
+        place = ap (λ (g : Frame). g.place) one.2 ∙ owes.2;
+        target = ap (λ (g : Frame). (node_of g.target).cpu) one.2 ∙ owes.3;
+      },
+    )
+
 pub front_is_kicked : FrontIsKicked
-front_is_kicked k s both l w f on plain free front live asleep low =
+front_is_kicked k s both l w f on plain free front live asleep =
     let st = both.runs in
     let m = st.world in
+    let by = framed k s st w f live in
+    let drew = drawn s.views (get_or s.words 0 0) st.once by.seat.id by.seat.view_is w.cpu by.seat.at by.seat.number in
+    let few = st.roll in
     let front' : slice_get (spin_part m.kind st.histories l).main 0 ≡ Some w =
     ap (λ b. slice_get (if b then no_history else st.histories l).main 0) plain ∙ front in
     elim (sleeping_front_is_kicked m (spin_part m.kind st.histories) l w f (ap halts st.of_plan.mode ∙ on) st.sound.spins free
     front' live asleep) [
-      | inl h ↦ inl ((st.halting on).kicks w.cpu low ∙ ap mark_number h)
-      | inr h ↦ inr h
+      | inl h ↦ inl ((st.halting on).kicks w.cpu (omega (arith, drew, few)) ∙ ap mark_number h)
+      | inr h ↦ inr (kicker k s st w.cpu h.0 (ap halts st.of_plan.mode ∙ on) h.1)
     ]
 
 some_of : (o : Option NodeName) → is_some o ≡ true → (a : NodeName) × (o ≡ Some a)

@@ -1,5 +1,5 @@
 -- When a domain whose waiters halt may be made of a plan, and the plan that its table then has.
-use Rattle.std.specs.Prelude.{◌≡◌, ◌<◌, ◌≤◌, ℕ, length}
+use Rattle.std.specs.Prelude.{◌≡◌, ◌<◌, ◌≤◌, ℕ, length, replicate}
 use Rattle.std.specs.List.{sum}
 use Rattle.lk_abs.specs.Jobs.{full}
 use Rattle.lk_abs.specs.declared.names.Kind.TheVariants.{Spin}
@@ -26,6 +26,7 @@ pub record IsPlanOf (p : PvPlan) (k : Plan) : Type 0 where
   pub mode : k.mode ≡ Pv
   pub spins : k.threshold ≡ p.spins
   pub cpus : cpus_of k ≡ length p.shares.items
+  pub sockets : k.topology.sockets.items ≡ replicate (length p.shares.items) 0
   pub locks : locks_of k ≡ p.locks
   pub kinds : (l : ℕ) → kind_at k l ≡ Spin
   pub balances : k.balances.items ≡ p.balances.items

@@ -11,12 +11,11 @@ ghost use Rattle.lk_domain.specs.Words.{IsNode};
 ghost use Rattle.lk_pvdomain.specs.PvPaths.{At, Follows, Owns, Spares, Start, Steals, Took};
 ghost use Rattle.lk_word.specs.declared.spin_word.NodeName.{NodeName as Node};
 
-use crate::cpu::Right;
 use crate::domain::PvDomain;
 use crate::met::word_met;
 use crate::{nodes, shared, states, tries, words};
 use crossbeam_utils::Backoff;
-use lk_domain::Part;
+use lk_domain::{Part, Right};
 use lk_machine::{Verb, is_unlocked};
 use lk_word::{Fields, NodeName};
 use std::sync::Wait;

@@ -11,10 +11,10 @@ ghost use Rattle.lk_pvdomain.specs.PvSeats.{IsOf, IsSame, calls_of, ledger_of};
 ghost use Rattle.lk_pvdomain.specs.PvCalls.{HasFreed, HasMissed, HasTaken, HasTakenBy, IsResting, without};
 ghost use Rattle.lk_pvdomain.specs.PvPaths.{At, Ended, Follows, Owns, Rests, Start, Took, first_of};
 
-use crate::cpu::{PvCpu, Right};
+use crate::cpu::PvCpu;
 use crate::domain::PvDomain;
 use crate::{arriving, freeing, handing, leading, shared, waiting};
-use lk_domain::LockId;
+use lk_domain::{LockId, Right};
 use lk_word::NodeName;
 use std::sync::Wait;
 

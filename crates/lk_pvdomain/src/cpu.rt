@@ -2,17 +2,14 @@
 ghost use Rattle.std.specs.Prelude.{◌≡◌, Some};
 ghost use Rattle.lk_domain.specs.Plays.{carried_with};
 
-use atomic_table::Seat;
-use lk_domain::{Journal, View};
-
-// The right to step in a domain's table.
-pub(crate) type Right = Seat<Option<Journal>, View>;
+use lk_domain::Right;
 
 /// A processor: the right to step in a domain whose waiters halt.
 #[derive(Drop)]
 pub struct PvCpu {
     pub(crate) number: u32,
-    pub(crate) seat: Right,
+    /// Its right to step: what steps at the ledger takes it, and leaves it a seat of the processor.
+    pub seat: Right,
     ghost numbered: { seat.me.0.who.number ≡ Some number },
     ghost carried: { seat.me.1 ≡ carried_with seat.me.0.ledger.out },
 }

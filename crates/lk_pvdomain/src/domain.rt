@@ -16,8 +16,10 @@ use std::alloc::Global;
 /// Locks for processors that really run and halt, and a ledger under them.
 #[derive(Drop)]
 pub struct PvDomain {
-    pub(crate) table: Table<Option<Journal>, View, Plan, Order, Global>,
-    pub(crate) plan: Plan,
+    /// The table of its words.
+    pub table: Table<Option<Journal>, View, Plan, Order, Global>,
+    /// What it was made of.
+    pub plan: Plan,
     ghost lawful: { IsRunningPlan plan },
     ghost halting: { halts plan.mode ≡ true },
     ghost words: { table.shared.table_id.words ≡ words_of plan },

@@ -7,10 +7,10 @@ ghost use Rattle.lk_domain.specs.Seated.{IsSeatOf};
 ghost use Rattle.lk_domain.specs.Views.{all_past};
 ghost use Rattle.lk_pvdomain.specs.PvSeats.{AllRest, IsFinal, ledger_of};
 
-use crate::cpu::{PvCpu, Right};
+use crate::cpu::PvCpu;
 use crate::domain::PvDomain;
 use lk_abs::{Entry, List};
-use lk_domain::ledger_steps;
+use lk_domain::{Right, ledger_steps};
 use std::alloc::Global;
 use std::snapshot::Snapshot;
 

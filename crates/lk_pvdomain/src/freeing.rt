@@ -8,9 +8,9 @@ ghost use Rattle.lk_domain.specs.Paths.{Any};
 ghost use Rattle.lk_domain.specs.Plans.{locks_of};
 ghost use Rattle.lk_pvdomain.specs.PvPaths.{At, Ended, Rests, Start, first_of};
 
-use crate::cpu::Right;
 use crate::domain::PvDomain;
 use crate::{hash, kicks, tries, words};
+use lk_domain::Right;
 use lk_machine::Verb;
 use lk_word::NodeName;
 use std::sync::Wait;

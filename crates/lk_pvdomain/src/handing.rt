@@ -5,11 +5,11 @@ ghost use Rattle.lk_machine.specs.declared.setup.Verb.TheVariants.{Lock};
 ghost use Rattle.lk_domain.specs.Words.{IsNode};
 ghost use Rattle.lk_pvdomain.specs.PvPaths.{At, Owns, Precedes, Start, Took};
 
-use crate::cpu::Right;
 use crate::domain::PvDomain;
 use crate::met::{is_last, node_met, word_met};
 use crate::{hash, nodes, states, words};
 use crossbeam_utils::Backoff;
+use lk_domain::Right;
 use lk_machine::{State, Verb};
 use lk_word::NodeName;
 use std::sync::Wait;

@@ -9,9 +9,9 @@ ghost use Rattle.lk_domain.specs.Words.{IsNode, places_of};
 ghost use Rattle.lk_word.specs.declared.spin_word.NodeName.{NodeName as Name};
 ghost use Rattle.lk_pvdomain.specs.PvPlays.{AtFill, AtSeek, EmptiesAt, Fills, SeesPlace, looked_at};
 
-use crate::cpu::Right;
 use crate::domain::PvDomain;
 use crate::rule::{Erasings, Fillings, PlaceLooks};
+use lk_domain::Right;
 use lk_word::NodeName;
 use std::sync::Wait;
 

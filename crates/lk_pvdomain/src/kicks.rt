@@ -5,9 +5,9 @@ ghost use Rattle.lk_domain.specs.Plans.{cpus_of};
 ghost use Rattle.lk_domain.specs.Views.{IsNumbered};
 ghost use Rattle.lk_pvdomain.specs.PvPlays.{AtHalt, AtKick, Halts, Wakes, Stays, Kicks, woken};
 
-use crate::cpu::Right;
 use crate::domain::PvDomain;
 use crate::rule::{Glances, HaltLooks, KickStores, Wakings};
+use lk_domain::Right;
 use std::sync::Wait;
 
 // The processor halts, by a look at its kick word: the rows W6 and E12.

@@ -1,8 +1,8 @@
 // What the rule says, as clauses of functions that do nothing.
 ghost use Rattle.lk_pvdomain.specs.Laws.{FrontIsKicked, EntryIsFound};
 
-/// Between any two steps of any processors, a front that has halted on a free lock has its kick word set,
-/// or a release is about to kick it.
+/// Between any two steps of any processors, a front that has halted on a free lock, or is about to, has its
+/// kick word set, or a seat is about to kick it.
 pub fn fronts_are_kicked()
     ensures kicked { FrontIsKicked }
 {}

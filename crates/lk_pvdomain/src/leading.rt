@@ -5,10 +5,10 @@ ghost use Rattle.lk_machine.specs.declared.setup.Verb.TheVariants.{Lock};
 ghost use Rattle.lk_domain.specs.Plans.{turns_of};
 ghost use Rattle.lk_pvdomain.specs.PvPaths.{At, Leads, Owns, Start, Tries};
 
-use crate::cpu::Right;
 use crate::domain::PvDomain;
 use crate::{hash, kicks, states, tries, words};
 use crossbeam_utils::Backoff;
+use lk_domain::Right;
 use lk_machine::{State, Verb};
 use lk_word::NodeName;
 use std::sync::Wait;

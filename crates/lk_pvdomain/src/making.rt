@@ -8,12 +8,12 @@ ghost use Rattle.lk_law.specs.Agree.{halts};
 ghost use Rattle.lk_pvdomain.specs.PvPlans.{IsLawful, IsPlanOf};
 ghost use Rattle.lk_pvdomain.specs.PvSeats.{IsDealt, AreDealt};
 
-use crate::cpu::{PvCpu, Right};
+use crate::cpu::PvCpu;
 use crate::domain::PvDomain;
 use crate::plan::PvPlan;
 use atomic_table::{Refused, Table};
 use lk_abs::{List, Memory};
-use lk_domain::{Deal, Draw, Journal, Plan, opening_words};
+use lk_domain::{Deal, Draw, Journal, Plan, Right, opening_words};
 use std::alloc::Global;
 
 impl PvDomain {

@@ -6,10 +6,9 @@ ghost use Rattle.lk_domain.specs.Words.{IsNode, part_index};
 ghost use Rattle.lk_domain.specs.declared.part.Part.TheVariants as part_is;
 ghost use Rattle.lk_pvdomain.specs.PvPlays.{AtFlag, AtBehind, AtHand};
 
-use crate::cpu::Right;
 use crate::domain::PvDomain;
 use crate::rule::{FlagLooks, Handovers, LinkLooks, Linkings, Resets};
-use lk_domain::Part;
+use lk_domain::{Part, Right};
 use lk_machine::Verb;
 use lk_word::NodeName;
 

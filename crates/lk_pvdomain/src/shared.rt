@@ -9,9 +9,9 @@ ghost use Rattle.lk_domain.specs.Views.{IsNumbered};
 ghost use Rattle.lk_domain.specs.Words.{IsNode};
 ghost use Rattle.lk_machine.specs.declared.setup.Verb.TheVariants.{Lock, Try};
 
-use crate::cpu::Right;
 use crate::domain::PvDomain;
 use crate::rule::{Exchanges, Locks, TryCalls};
+use lk_domain::Right;
 use lk_word::NodeName;
 
 // Exchanges the free word for the held one: the row F1, with which a call of `pv_lock` begins.

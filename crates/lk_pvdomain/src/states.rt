@@ -6,9 +6,9 @@ ghost use Rattle.lk_domain.specs.Words.{IsNode};
 ghost use Rattle.lk_pvdomain.specs.PvPlays.{AtState, AtTold, SeesState};
 ghost use Rattle.lk_pvdomain.specs.PvRows.{looks_state, stores_own, state_told, rouses, roused_to};
 
-use crate::cpu::Right;
 use crate::domain::{PvDomain, number_of};
 use crate::rule::{Entries, StateSteps};
+use lk_domain::Right;
 use lk_machine::{State, Verb};
 use lk_word::NodeName;
 

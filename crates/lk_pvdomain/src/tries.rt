@@ -9,9 +9,9 @@ ghost use Rattle.lk_machine.specs.declared.setup.Verb.TheVariants.{Lock, Unlock}
 ghost use Rattle.lk_pvdomain.specs.PvPlays.{TriedBy, release_fails, head_fails, steal_fails};
 ghost use Rattle.lk_pvdomain.specs.PvRows.{tries_release, tries_head, tries_steal};
 
-use crate::cpu::Right;
 use crate::domain::PvDomain;
 use crate::rule::{HeadTries, ReleaseTries, StealTries};
+use lk_domain::Right;
 use std::sync::Wait;
 
 // Exchanges a held word for a free one: the row U2, with which a release begins, or nothing.

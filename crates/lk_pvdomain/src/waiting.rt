@@ -6,10 +6,10 @@ ghost use Rattle.lk_domain.specs.Plans.{turns_of};
 ghost use Rattle.lk_domain.specs.Words.{IsNode};
 ghost use Rattle.lk_pvdomain.specs.PvPaths.{At, Follows, Owns, Spares, Start};
 
-use crate::cpu::Right;
 use crate::domain::PvDomain;
 use crate::{kicks, nodes, states};
 use crossbeam_utils::Backoff;
+use lk_domain::Right;
 use lk_machine::State;
 use lk_word::NodeName;
 use std::sync::Wait;

@@ -9,9 +9,9 @@ ghost use Rattle.lk_domain.specs.Words.{IsNode};
 ghost use Rattle.lk_pvdomain.specs.PvPlays.{AtLast, AtWord};
 ghost use Rattle.lk_pvdomain.specs.PvRows.{looks_word, presses, relents, slows, wins, signs, drops};
 
-use crate::cpu::Right;
 use crate::domain::PvDomain;
 use crate::rule::WordSteps;
+use lk_domain::Right;
 use lk_machine::Verb;
 use lk_word::NodeName;
 

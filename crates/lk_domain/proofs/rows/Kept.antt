@@ -5,10 +5,10 @@ use Rattle.std.proofs.Common.{length, set, get_or, Option, Some, None, Bool, tru
 use Rattle.std.proofs.Common.{ap, ◌∙◌, subst, arith}
 use Rattle.std.proofs.lemmas.Bool.{cases_eq}
 use Rattle.std.specs.Prelude.{if◌then◌else◌, not}
-use mathlib.Core.Option.{Option as Maybe, some, some-ne-none}
+use mathlib.Core.Option.{Option as Maybe, some, some-injective, some-ne-none}
 use lib.ListN.{get_elem?}
 use Rattle.atomic_table.specs.Table.{State}
-use Rattle.atomic_table.proofs.Lists.{at_set}
+use Rattle.atomic_table.proofs.Lists.{at_set, set_else}
 use Rattle.lk_abs.specs.History.{LockHistory}
 use Rattle.lk_abs.specs.declared.names.Kind.{Kind}
 use Rattle.lk_abs.specs.declared.names.Mode.{Mode}
@@ -40,7 +40,7 @@ use Rattle.lk_domain.specs.declared.view.View.{View}
 use Rattle.lk_domain.proofs.rows.Begun.{Elsewhere}
 use Rattle.lk_domain.proofs.Manners.{held_above}
 use Rattle.lk_domain.proofs.Stacks.{frame_in-above}
-use Rattle.lk_domain.proofs.seats.Totals.{total-same, apart, drawn}
+use Rattle.lk_domain.proofs.seats.Totals.{total-same, apart}
 use Rattle.lk_domain.proofs.rows.Users.{AreRight}
 use Rattle.lk_domain.proofs.rows.Users.{right_marks, marks_right}
 
@@ -217,9 +217,13 @@ module _ (k : Plan) {S : Type 0} (s : State S View) (st : Runs k s) (id : ℕ) (
         once = λ q. total-same (λ y. Rattle.lk_domain.specs.Views.times q (numbers y)) s.views id v u me
             (ap (λ (w : Who). Rattle.lk_domain.specs.Views.times q (Rattle.lk_domain.specs.Views.listed w.number ++ Rattle.std.proofs.Common.map Rattle.lk_domain.specs.Views.number_of w.ended)) (sym who))
             ∙ (st.once q ∙ ap (Rattle.lk_domain.specs.Views.once_below q) (sym roll));
-        blank = λ q h. let h' : roll_of ≤ q = subst (λ (r : ℕ). r ≤ q) roll h in
-            mirrors_else st.world n p q no_calls others
-            (λ e. let z = drawn s.views roll_of st.once id v p me is in omega arith) (st.blank q h');
+        blank = λ q none. let free : q ≢ p = λ e. none id u (set_at s.views id v u me) (number ∙ ap Some (sym e)) in
+            mirrors_else st.world n p q no_calls others free
+            (st.blank q (λ j x at is'. elim (cases_eq j id) [
+              | inl e ↦ free (number_is (sym is' ∙ (ap (λ (z : View). z.who.number)
+                  (some-injective x v (sym (subst (λ (i : ℕ). get_elem? s.views i ≡ some x) e at) ∙ me)) ∙ is)))
+              | inr ne ↦ none j x (set_else s.views id j u ne ∙ at) is'
+            ]));
         roll = subst (λ (r : ℕ). r ≤ cpus_of k) (sym roll) st.roll;
         six = λ w high. elim (cases_eq w.cpu p) [
           | inl e ↦ idle_above n p u.calls fit w high e

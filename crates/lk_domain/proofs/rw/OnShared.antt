@@ -52,7 +52,7 @@ use Rattle.lk_domain.proofs.rows.Halts.{marks_trans, acted_marks, rw_marks, far_
 use Rattle.lk_domain.proofs.words.Locks.{shared_stored}
 use Rattle.lk_domain.proofs.Manners.{held_above, held_cases}
 use Rattle.lk_domain.proofs.Stacks.{frame_in-above}
-use Rattle.lk_domain.proofs.seats.Totals.{drawn}
+use Rattle.lk_domain.proofs.seats.Totals.{drawn, nobodys}
 use Rattle.lk_domain.proofs.ledger.Held.{reads_sole}
 use Rattle.lk_domain.proofs.rows.Users.{bare_me, kept_marks}
 use Rattle.lk_law.specs.Nodes.{looks_along}
@@ -120,7 +120,7 @@ module _ (k : Plan) {S : Type 0} (s : State S View) (st : Runs k s) (id : ℕ) (
             let others = at.acted.others u ne in
             let idle : IsIdle st.world u = elim far [
               | inl h ↦ st.six u h
-              | inr h ↦ let few = st.roll in let b = st.blank u.cpu (omega (arith, h, few)) in (b.frames u.ctx, λ l. b.holds u.ctx l)
+              | inr h ↦ let few = st.roll in let b = st.blank u.cpu (nobodys s.views (get_or s.words 0 0) st.once u.cpu (omega (arith, h, few))) in (b.frames u.ctx, λ l. b.holds u.ctx l)
             ] in (others.0 ∙ idle.0, λ l. others.1 l ∙ idle.1 l)
       ]
 

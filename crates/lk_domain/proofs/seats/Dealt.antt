@@ -5,10 +5,12 @@ use Rattle.std.proofs.Common.{refl, sym, ap, ◌∙◌, subst, arith, length-set
 use Rattle.std.proofs.Common.{get_or-set_other, get_or-set_same}
 use Rattle.std.specs.List.{sum}
 use Rattle.std.proofs.lemmas.List.Sums.{sum_by-cons}
+use mathlib.Core.Logic.{dite}
 use mathlib.Core.Option.{some, some-injective, some-ne-none}
+use native.Mathlib.Decide.{ℕ_discrete}
 use lib.ListN.{get_elem?}
 use Rattle.atomic_table.specs.Table.{State, Me, Step, keeps, Allows, opening}
-use Rattle.atomic_table.proofs.Lists.{at_set}
+use Rattle.atomic_table.proofs.Lists.{at_set, set_else}
 use Rattle.lk_abs.specs.History.{no_history, LockHistory}
 use Rattle.lk_word.specs.declared.spin_word.Layout.{Layout}
 use Rattle.lk_abs.specs.declared.names.LockName.{LockName}
@@ -249,7 +251,7 @@ module _ (k plan : Plan) (slots id : ℕ) (m : Me Slot View) (n : ℕ) (t : Step
               (λ a. let z : n ≡ q = number_is (ap (λ (y : View). y.who.number) a.1 ∙ e) in
               subst (λ (y : View). SeatFits ok.world q y.calls) a.1
               (record {
-                mirrors = ok.blank q (omega arith);
+                mirrors = ok.blank q (λ h y at is. fresh h y q (omega arith) at is);
                 stacked = tt;
                 few = omega arith;
                 rests = tt;
@@ -259,11 +261,14 @@ module _ (k plan : Plan) (slots id : ℕ) (m : Me Slot View) (n : ℕ) (t : Step
                 counted = λ j y rs e. absurd (none_some e);
                 told = λ d f c a b w at'. absurd (none_some at');
                 single = λ on. omega arith;
-                halted = unhalted ok.world ok.sound q (ok.blank q (omega arith));
+                halted = unhalted ok.world ok.sound q (ok.blank q (λ h y at is. fresh h y q (omega arith) at is));
               }))
               (λ a. ok.seats j x q a.1 e) (at_set s.views id j u x at);
           once = λ p. omega (arith, total-set (λ y. times p (numbers y)) s.views id m.0 u me, ok.once p, once_more p n, ap (once_below p) rolled, ap (once_below p) next, ap (λ (x : View). times p (numbers x)) is);
-          blank = λ q h. ok.blank q (let z = rolled in omega arith);
+          blank = λ q none. ok.blank q (λ j x at e. dite (ℕ_discrete j id)
+              (λ same. none_some (sym (ap (λ (y : View). y.who.number) is) ∙ (ap (λ (y : View). y.who.number)
+              (some-injective m.0 x (sym me ∙ subst (λ (i : ℕ). get_elem? s.views i ≡ some x) same at)) ∙ e)))
+              (λ ne. none j x (set_else s.views id j u ne ∙ at) e));
           roll = let z = rolled in let y = near in omega arith;
           six = ok.six;
           planned = λ j x q at e. ⊎_elim (λ a. ap (λ (y : View). y.who.plan) (sym a.1) ∙ d.of_plan) (λ a. ok.planned j x q a.1 e) (at_set s.views id j u x at);

@@ -1,6 +1,6 @@
 -- Seats are cut in two, and joined.
 use Rattle.std.proofs.Common.{◌≡◌, ◌≢◌, ◌⊎◌, ⊎_elim, inl, inr, ℕ, zero, suc, ◌+◌, List, [], ◌∷◌}
-use Rattle.std.proofs.Common.{◌++◌, map, set, get_or, Option, Some, None, refl, sym, ap, ◌∙◌}
+use Rattle.std.proofs.Common.{◌++◌, length, map, set, get_or, Option, Some, None, refl, sym, ap, ◌∙◌}
 use Rattle.std.proofs.Common.{subst, arith}
 use Rattle.std.proofs.lemmas.List.{map-append}
 use mathlib.Core.Logic.{dite}
@@ -8,11 +8,12 @@ use native.Mathlib.Decide.{ℕ_discrete}
 use mathlib.Core.Option.{some, some-injective, some-ne-none}
 use lib.ListN.{get_elem?}
 use Rattle.atomic_table.specs.Table.{Splits, Joins}
-use Rattle.atomic_table.proofs.Lists.{at_set, at_longer, set_else}
-use Rattle.lk_domain.specs.Calls.{Calls, no_calls, Running}
+use Rattle.atomic_table.proofs.Lists.{at_set, at_longer, at_last, set_else}
+use Rattle.lk_domain.specs.Calls.{Calls, no_calls, Running, Hold, frame_in, held_in}
 use Rattle.lk_domain.specs.Keeps.{Slot, Keeps, Knows}
 use Rattle.lk_domain.specs.Ledgers.{Ledger, Past, Out, no_ledger, with_share}
 use Rattle.lk_domain.specs.Plans.{share_of}
+use Rattle.lk_domain.specs.Seated.{HoldsNothing}
 use Rattle.lk_domain.specs.Runs.{Runs, SeatFits, Deals, Seeks}
 use Rattle.lk_domain.specs.Stand.{Stand}
 use Rattle.lk_domain.specs.Views.{view, dealer, drawer, newcomer, nobody, times, numbers, listed}
@@ -21,6 +22,7 @@ use Rattle.lk_domain.specs.Views.{IsNumbered, own_number}
 use Rattle.lk_domain.specs.declared.plan.Plan.{Plan}
 use Rattle.lk_domain.specs.declared.view.View.{View}
 use Rattle.lk_domain.proofs.rows.Kept.{set_at}
+use Rattle.lk_domain.proofs.seats.Owners.{number_cases}
 use Rattle.lk_domain.proofs.ledger.Purses.{past_more, past_known}
 use Rattle.lk_domain.proofs.seats.Totals.{total-set, total-append, times-append}
 
@@ -76,7 +78,10 @@ splits k plan id n s both me =
             (ok.seats id v q me (ap (λ (z : View). z.who.number) e ∙ is)))
             (λ j y at is. ok.seats j y q at is) j y;
         once = λ p. omega (arith, total-append (λ y. times p (numbers y)) vs (u ∷ []), total-set (λ y. times p (numbers y)) s.views id v w me, ok.once p);
-        blank = ok.blank;
+        blank = λ q none. ok.blank q (λ j y at is. dite (ℕ_discrete j id)
+            (λ e. none (length vs) u (at_last vs u (length vs) refl) (ap (λ (z : View). z.who.number)
+            (some-injective v y (sym me ∙ subst (λ (i : ℕ). get_elem? s.views i ≡ some y) e at)) ∙ is))
+            (λ away. none j y (at_longer vs (u ∷ []) j y (set_else s.views id j w away ∙ at)) is));
         roll = ok.roll;
         six = ok.six;
         planned = λ j y q. each (λ j y. y.who.number ≡ Some q → y.who.plan ≡ k) (λ e. absurd (none_some e))
@@ -149,11 +154,12 @@ pub numbers_past : (o : Option ℕ) (g : Ledger) (xs : List Past)
 numbers_past None g xs = refl
 numbers_past (Some p) g xs = refl
 
--- A seat takes over the numbers of another, which does not have the journal.
-pub joins : (k : Plan) (id other : ℕ) (v u : View) → IsNumbered v → u.ledger.out ≡ None
+-- A seat takes over the numbers of another, which is in no call, holds nothing and has not the journal.
+pub joins : (k : Plan) (id other : ℕ) (v u : View) → IsNumbered v → HoldsNothing u
     → Joins {S = Slot} (Stand k) id v other u (view (joined v.who u) v.calls (with_more v.ledger u.ledger.share))
     (view nobody no_calls no_ledger)
-joins k id other v u number home s both me ne at_other =
+joins k id other v u number rests s both me ne at_other =
+    let home : u.ledger.out ≡ None = rests.home in
     let ok : Runs k s = both.runs in
     let kp : Keeps k s = both.keeps in
     let w : View = view (joined v.who u) v.calls (with_more v.ledger u.ledger.share) in
@@ -184,7 +190,19 @@ joins k id other v u number home s both me ne at_other =
         once = λ p.
             let f : View → ℕ = λ y. times p (numbers y) in
             omega (arith, total-set f vs other u z at_other, total-set f s.views id v w me, ok.once p, more p);
-        blank = ok.blank;
+        blank = λ q none. ⊎_elim
+            (λ e. let m = (ok.seats other u q there e).mirrors in record {
+              frames = λ d. m.frames d ∙ ap (λ (xs : List Running). frame_in xs d) rests.frames;
+              holds = λ d l. m.holds d l ∙ ap (λ (hs : List Hold). held_in hs d l) rests.holds;
+            })
+            (λ not. ok.blank q (λ j y at is. dite (ℕ_discrete j other)
+            (λ e. not (ap (λ (x : View). x.who.number)
+            (some-injective u y (sym there ∙ subst (λ (i : ℕ). get_elem? s.views i ≡ some y) e at)) ∙ is))
+            (λ far. dite (ℕ_discrete j id)
+            (λ e. none id w (set_else vs other id z (λ x. ne (sym x)) ∙ set_at s.views id v w me) (ap (λ (x : View). x.who.number)
+            (some-injective v y (sym me ∙ subst (λ (i : ℕ). get_elem? s.views i ≡ some y) e at)) ∙ is))
+            (λ away. none j y (set_else vs other j z far ∙ (set_else s.views id j w away ∙ at)) is))))
+            (number_cases u.who.number q);
         roll = ok.roll;
         six = ok.six;
         planned = λ j y q. each (λ j y. y.who.number ≡ Some q → y.who.plan ≡ k)

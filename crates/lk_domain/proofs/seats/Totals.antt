@@ -7,6 +7,7 @@ use mathlib.Core.Logic.{dite}
 use native.Mathlib.Decide.{ℕ_discrete, dec_lt}
 use mathlib.Core.Option.{some, some-injective, some-ne-none}
 use lib.ListN.{get_elem?}
+use Rattle.lk_domain.specs.Runs.{IsNobodys}
 use Rattle.lk_domain.specs.Views.{total, times, listed, number_of, numbers, once_below}
 use Rattle.lk_domain.specs.declared.view.View.{View}
 
@@ -90,3 +91,7 @@ module _ (vs : List View) (roll : ℕ)
   drawn i v p at e =
       dite (dec_lt p roll) (λ h. h)
       (λ h. absurd (omega (arith, term_le (λ x. times p (numbers x)) vs i v at, counted p v e, once p, once_no p roll (omega arith))))
+
+  -- a number that was not drawn is nobody's
+  pub nobodys : (p : ℕ) → roll ≤ p → IsNobodys vs p
+  nobodys p h i v at e = let z = drawn i v p at e in omega arith

@@ -54,7 +54,7 @@ use Rattle.lk_domain.proofs.rows.Kept.{counted_after, halting_same}
 use Rattle.lk_domain.proofs.rows.Sights.{IsSeen, Sees}
 use Rattle.lk_domain.proofs.rows.Poised.{Poised}
 use Rattle.lk_domain.proofs.words.Locks.{word_from, word_below, plain_stored}
-use Rattle.lk_domain.proofs.seats.Totals.{drawn}
+use Rattle.lk_domain.proofs.seats.Totals.{drawn, nobodys}
 use Rattle.lk_domain.proofs.rows.Users.{bare_me, kept_marks}
 use Rattle.lk_law.specs.Nodes.{looks_along}
 
@@ -169,7 +169,7 @@ module _ (k : Plan) {S : Type 0} (s : State S View) (st : Runs k s) (id : ℕ) (
         | inl e ↦ let x = drawn s.views (get_or s.words 0 0) st.once id v p me is in let y = st.roll in omega arith
         | inr ne ↦ elim (cases_lt u.cpu (get_or s.words 0 0)) [
           | inl lt ↦ let y = st.roll in omega arith
-          | inr ge ↦ let none : st.world.frame u ≡ None = (st.blank u.cpu (omega arith)).frames u.ctx in
+          | inr ge ↦ let none : st.world.frame u ≡ None = (st.blank u.cpu (nobodys s.views (get_or s.words 0 0) st.once u.cpu (omega arith))).frames u.ctx in
               let same = (others u ne).0 in absurd (grind (arith, none, same, has))
         ]
       ]

@@ -16,7 +16,7 @@ join_seat-requires c =
       c.requires.other.table_is,
       c.requires.other.carried ∙ ap carried_with c.requires.rests.home,
       (let w = c.requires.table.words in omega arith),
-      joins table.key seat.id other.id seat.me.0 other.me.0 at.number c.requires.rests.home,
+      joins table.key seat.id other.id seat.me.0 other.me.0 at.number c.requires.rests,
     )
 
 pub returns-clause-seat : goal.returns-clause-seat

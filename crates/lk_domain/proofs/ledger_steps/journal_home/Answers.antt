@@ -3,6 +3,7 @@ use mathlib.Core.Option.{none}
 use Rattle.atomic_table.specs.Table.{step, Me, rest}
 use Rattle.lk_domain.specs.Keeps.{Slot}
 use Rattle.lk_domain.specs.Plays.{carried_with}
+use Rattle.lk_domain.specs.Who.{Who}
 use Rattle.lk_domain.specs.declared.view.View.{View}
 use Rattle.lk_domain.proofs.ledger.Stores.{brings_at}
 use Rattle.lk_domain.proofs.ledger.Told as told
@@ -35,11 +36,23 @@ returns-clause-rest c =
     let e = c.exchange.ensures.3 ∙ ap (λ (l : List (ℕ × Slot)). let m : Me Slot View = (seat.me.0, (0, Some c.args.journal) ∷ l) in m) alone in
     let t = told.came_home (step z.slots 1 c.len-version.result 0 none) c.exchange.new.seat.me c.store.new.seat.me c.len-version.result seat.me.0
     c.args.journal may.out c.requires.may.0 may.more c.store.ensures.2 e may.has c.requires.may.1 may.items in
+    record { table = c.store.ensures.0 ∙ c.exchange.ensures.0; id = c.store.ensures.1 ∙ c.exchange.ensures.1; who = ap (λ (x : Me Slot View). x.0.who) t; calls = ap (λ (x : Me Slot View). x.0.calls) t }
+
+pub returns-clause-seat : goal.returns-clause-seat
+returns-clause-seat c =
+    let at = c.requires.seat in
+    let z = c.args.table.now.shared.table_id in
+    let seat = c.args.seat.now in
+    let may = c.requires.may.2 in
+    let alone : rest seat.me.1 ≡ [] = ap rest (at.carried ∙ ap carried_with may.has) in
+    let e = c.exchange.ensures.3 ∙ ap (λ (l : List (ℕ × Slot)). let m : Me Slot View = (seat.me.0, (0, Some c.args.journal) ∷ l) in m) alone in
+    let t = told.came_home (step z.slots 1 c.len-version.result 0 none) c.exchange.new.seat.me c.store.new.seat.me c.len-version.result seat.me.0
+    c.args.journal may.out c.requires.may.0 may.more c.store.ensures.2 e may.has c.requires.may.1 may.items in
+    let who = ap (λ (x : Me Slot View). x.0.who) t in
     record {
-      table = c.store.ensures.0 ∙ c.exchange.ensures.0;
-      id = c.store.ensures.1 ∙ c.exchange.ensures.1;
-      who = ap (λ (x : Me Slot View). x.0.who) t;
-      calls = ap (λ (x : Me Slot View). x.0.calls) t;
+      table_is = (c.store.ensures.0 ∙ c.exchange.ensures.0) ∙ at.table_is;
+      plan_is = ap (λ (w : Who). w.plan) who ∙ at.plan_is;
+      number = (at.number.0, ap (λ (w : Who). w.number) who ∙ at.number.1);
       carried = ap (λ (x : Me Slot View). x.1) t ∙ ap (λ (x : Me Slot View). carried_with x.0.ledger.out) (sym t);
     }
 

@@ -5,6 +5,7 @@ use Rattle.lk_domain.specs.Keeps.{Slot}
 use Rattle.lk_domain.specs.Ledgers.{loaded}
 use Rattle.lk_domain.specs.Words.{balance_at}
 use Rattle.lk_domain.specs.declared.plan.Plan.{Plan}
+use Rattle.lk_domain.specs.Who.{Who}
 use Rattle.lk_domain.specs.declared.view.View.{View}
 use Rattle.lk_domain.proofs.ledger.Loads.{loads}
 use Rattle.lk_domain.proofs.ledger.Told as told
@@ -31,11 +32,20 @@ returns-clause-rest c =
     let n = c.load.new.seat.me in
     let e = c.load.ensures.2 c.args.account (c.balance_word-word.ensures ∙ ap (λ (k : Plan). balance_at k c.args.account) (sym at.plan_is)) in
     let g = loaded m.0.ledger c.args.account c.load.result in
+    record { table = c.load.ensures.0; id = c.load.ensures.1; who = told.who m n g e.seat; calls = told.calls m n g e.seat }
+
+pub returns-clause-seat : goal.returns-clause-seat
+returns-clause-seat c =
+    let at = c.requires.seat in
+    let m = c.args.seat.now.me in
+    let n = c.load.new.seat.me in
+    let e = c.load.ensures.2 c.args.account (c.balance_word-word.ensures ∙ ap (λ (k : Plan). balance_at k c.args.account) (sym at.plan_is)) in
+    let g = loaded m.0.ledger c.args.account c.load.result in
+    let who = told.who m n g e.seat in
     record {
-      table = c.load.ensures.0;
-      id = c.load.ensures.1;
-      who = told.who m n g e.seat;
-      calls = told.calls m n g e.seat;
+      table_is = (c.load.ensures.0) ∙ at.table_is;
+      plan_is = ap (λ (w : Who). w.plan) who ∙ at.plan_is;
+      number = (at.number.0, ap (λ (w : Who). w.number) who ∙ at.number.1);
       carried = told.carried m n g e.seat refl at.carried;
     }
 

@@ -6,6 +6,7 @@ use Rattle.lk_domain.specs.Ledgers.{stored}
 use Rattle.lk_domain.specs.Plays.{carried_with}
 use Rattle.lk_domain.specs.Words.{balance_at}
 use Rattle.lk_domain.specs.declared.plan.Plan.{Plan}
+use Rattle.lk_domain.specs.Who.{Who}
 use Rattle.lk_domain.specs.declared.view.View.{View}
 use Rattle.lk_domain.proofs.ledger.Stores.{stores}
 use Rattle.lk_domain.proofs.ledger.Told as told
@@ -34,11 +35,21 @@ returns-clause-rest c =
     let o = c.requires.out.0 in
     let e = c.store.ensures.2 c.args.account o (c.balance_word-word.ensures ∙ ap (λ (k : Plan). balance_at k c.args.account) (sym at.plan_is)) c.requires.out.1 in
     let g = stored m.0.ledger o c.args.account c.args.amount in
+    record { table = c.store.ensures.0; id = c.store.ensures.1; who = told.who m n g e; calls = told.calls m n g e }
+
+pub returns-clause-seat : goal.returns-clause-seat
+returns-clause-seat c =
+    let at = c.requires.seat in
+    let m = c.args.seat.now.me in
+    let n = c.store.new.seat.me in
+    let o = c.requires.out.0 in
+    let e = c.store.ensures.2 c.args.account o (c.balance_word-word.ensures ∙ ap (λ (k : Plan). balance_at k c.args.account) (sym at.plan_is)) c.requires.out.1 in
+    let g = stored m.0.ledger o c.args.account c.args.amount in
+    let who = told.who m n g e in
     record {
-      table = c.store.ensures.0;
-      id = c.store.ensures.1;
-      who = told.who m n g e;
-      calls = told.calls m n g e;
+      table_is = (c.store.ensures.0) ∙ at.table_is;
+      plan_is = ap (λ (w : Who). w.plan) who ∙ at.plan_is;
+      number = (at.number.0, ap (λ (w : Who). w.number) who ∙ at.number.1);
       carried = told.carried m n g e (ap carried_with (sym c.requires.out.1)) at.carried;
     }
 

@@ -1,8 +1,9 @@
-use Rattle.std.proofs.Common.{refl, ap, arith}
+use Rattle.std.proofs.Common.{refl, ap, ◌∙◌, arith}
 use mathlib.Core.Option.{none}
 use Rattle.atomic_table.specs.Table.{step, Me}
 use Rattle.lk_domain.specs.Keeps.{Slot}
 use Rattle.lk_domain.specs.Ledgers.{sighted}
+use Rattle.lk_domain.specs.Who.{Who}
 use Rattle.lk_domain.specs.declared.view.View.{View}
 use Rattle.lk_domain.proofs.ledger.Loads.{sees}
 use Rattle.lk_domain.proofs.ledger.Told as told
@@ -25,11 +26,20 @@ returns-clause-rest c =
     let n = c.load.new.seat.me in
     let e = c.load.ensures.2.seat in
     let g = sighted m.0.ledger c.load.result in
+    record { table = c.load.ensures.0; id = c.load.ensures.1; who = told.who m n g e; calls = told.calls m n g e }
+
+pub returns-clause-seat : goal.returns-clause-seat
+returns-clause-seat c =
+    let at = c.requires.seat in
+    let m = c.args.seat.now.me in
+    let n = c.load.new.seat.me in
+    let e = c.load.ensures.2.seat in
+    let g = sighted m.0.ledger c.load.result in
+    let who = told.who m n g e in
     record {
-      table = c.load.ensures.0;
-      id = c.load.ensures.1;
-      who = told.who m n g e;
-      calls = told.calls m n g e;
+      table_is = (c.load.ensures.0) ∙ at.table_is;
+      plan_is = ap (λ (w : Who). w.plan) who ∙ at.plan_is;
+      number = (at.number.0, ap (λ (w : Who). w.number) who ∙ at.number.1);
       carried = told.carried m n g e refl c.requires.seat.carried;
     }
 

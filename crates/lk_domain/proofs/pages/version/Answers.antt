@@ -23,7 +23,7 @@ invariant_of-cpu c =
       numbered = ap (λ (w : Who). w.number) kept.who ∙ cpu.numbered;
       noted = told.noted old new kept.calls cpu.noted;
       apart = told.apart old new kept.calls cpu.apart;
-      carried = kept.carried;
+      carried = c.version.ensures.seat.carried;
     }
 
 pub returns-clause-rest : goal.returns-clause-rest

@@ -16,7 +16,7 @@ journal_home-requires c =
 pub invariant_of-cpu : goal.invariant_of-cpu
 invariant_of-cpu c =
     let kept = c.journal_home.ensures.rest in
-    record { numbered = ap (λ (w : Who). w.number) kept.who ∙ c.args.cpu.now.numbered; carried = kept.carried }
+    record { numbered = ap (λ (w : Who). w.number) kept.who ∙ c.args.cpu.now.numbered; carried = c.journal_home.ensures.seat.carried }
 
 pub returns-clause-rest : goal.returns-clause-rest
 returns-clause-rest c =
