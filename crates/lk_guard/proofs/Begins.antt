@@ -1,9 +1,10 @@
 -- A hold that a call took begins a look.
-use Rattle.std.proofs.Common.{◌≡◌, ℕ, [], ◌∷◌, ◌++◌, length, Option, refl, sym, ap, ◌∙◌, subst}
+use Rattle.std.proofs.Common.{◌≡◌, ℕ, ◌∷◌, length, Option, true, false, refl, sym, ap, ◌∙◌, subst}
 use Rattle.lk_abs.specs.declared.holder.Manner.{Manner}
 use Rattle.lk_abs.specs.declared.holder.Manner.TheVariants.{Spins}
 use Rattle.lk_machine.specs.declared.setup.Verb.{Verb}
 use Rattle.lk_machine.specs.declared.setup.Verb.TheVariants.{Lock}
+use Rattle.lk_law.specs.Agree.{halts}
 use Rattle.lk_domain.specs.Calls.{terms_of, begun, hold, lock_name}
 use Rattle.lk_domain.specs.Ledgers.{Ledger, opened}
 use Rattle.lk_domain.specs.Paths.{HasTaken, HasLooked}
@@ -18,7 +19,11 @@ use Rattle.lk_guard.specs.Guards.{guard_in}
 use Rattle.lk_guard.specs.Holding.{HasBegun}
 use Rattle.lk_guard.specs.Idle.{IsIdle}
 
-module _ (d : Domain) (a b : Cpu) (before after : Option ℕ) (idle : IsIdle a) where
+module _ (d : Domain) (a b : Cpu) (before after : Option ℕ) (idle : IsIdle a) (awake : halts d.plan.mode ≡ false) where
+  -- no processor of the domain halts
+  asleep : halts d.plan.mode ≡ true → ⊥
+  asleep on = let no : true ≡ false = sym on ∙ awake in cc no
+
   -- of a spinlock
   pub lock_begins : HasTaken (terms_of d.plan) b.number Lock 0 Spins (calls_of a) (calls_of b)
       → HasLooked 0 Spins (calls_of a) (calls_of b).last (ledger_of a) (ledger_of b)
@@ -36,7 +41,7 @@ module _ (d : Domain) (a b : Cpu) (before after : Option ℕ) (idle : IsIdle a) 
         };
         taken = record {
           manner = refl;
-          path = subst (λ (k : ℕ). PathTo (terms_of d.plan) b.number (begun d.plan.mode k Lock 0) trail Spins) (ap length idle.frames) (record {
+          path = λ _. subst (λ (k : ℕ). PathTo (terms_of d.plan) b.number (begun d.plan.mode k Lock 0) trail Spins) (ap length idle.frames) (record {
             before = path.before;
             frame = path.frame;
             row = path.row;
@@ -47,6 +52,7 @@ module _ (d : Domain) (a b : Cpu) (before after : Option ℕ) (idle : IsIdle a) 
             is = path.is;
             grips = path.grips;
           });
+          halting = λ on. absurd (asleep on);
         };
         ledger = look.now ∙ ap (λ (g : Ledger). opened g Spins trail) (look.passes.still refl);
         polled = polled;
@@ -66,7 +72,8 @@ module _ (d : Domain) (a b : Cpu) (before after : Option ℕ) (idle : IsIdle a) 
         };
         taken = record {
           manner = refl;
-          path = subst (λ (k : ℕ). PathTo (terms_of d.plan) b.number (begun d.plan.mode k v 0) came.upto m) (ap length idle.frames) entered.takes;
+          path = λ _. subst (λ (k : ℕ). PathTo (terms_of d.plan) b.number (begun d.plan.mode k v 0) came.upto m) (ap length idle.frames) entered.takes;
+          halting = λ on. absurd (asleep on);
         };
         ledger = came.look.now ∙ ap (λ (g : Ledger). opened g m came.upto) (came.look.passes.still refl);
         polled = record {

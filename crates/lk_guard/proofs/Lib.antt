@@ -3,3 +3,4 @@ pub mod Looks
 pub mod Appends
 pub mod Rounds
 pub mod Begins
+pub mod PvBegins

@@ -3,21 +3,21 @@ use Rattle.std.proofs.Common.{◌≡◌, ℕ, suc, ◌+◌, ◌<◌, ◌≤◌, 
 use Rattle.std.proofs.Common.{Option, Some, sym, refl, ap, ◌∙◌, subst, arith}
 use Rattle.std.proofs.lemmas.List.{append-nil}
 use Rattle.std.specs.List.{sum}
+use Rattle.atomic_table.specs.declared.shared.Seat.{Seat}
 use Rattle.lk_abs.specs.Jobs.{full}
 use Rattle.lk_abs.specs.Journal.{Replays, is_write}
 use Rattle.lk_abs.specs.declared.ledger.Job.{Job}
 use Rattle.lk_abs.specs.declared.ledger.Reply.{Reply}
-use Rattle.lk_domain.specs.Keeps.{IsOpen, IsVersion}
+use Rattle.lk_domain.specs.Keeps.{IsOpen, IsVersion, Slot}
 use Rattle.lk_domain.specs.Calls.{Mark}
 use Rattle.lk_domain.specs.Ledgers.{Ledger, Look, loaded, sighted, look_sees, new_look, opened, closed}
-use Rattle.lk_domain.specs.Plans.{accounts_of, cpus_of}
+use Rattle.lk_domain.specs.Plans.{IsRunningPlan, accounts_of}
 use Rattle.lk_domain.specs.Plays.{OneState}
-use Rattle.lk_domain.specs.Seats.{IsOf, IsSame, KeepsCalls, view_of, ledger_of}
+use Rattle.lk_domain.specs.Seated.{IsKept}
 use Rattle.lk_domain.specs.Who.{Who}
-use Rattle.lk_domain.specs.Views.{total}
-use Rattle.lk_domain.specs.declared.cpu.Cpu.{Cpu}
-use Rattle.lk_domain.specs.declared.domain.Domain.{Domain}
+use Rattle.lk_domain.specs.Views.{IsNumbered, own_number, total}
 use Rattle.lk_domain.specs.declared.plan.Plan.{Plan}
+use Rattle.lk_domain.specs.declared.view.View.{View}
 use Rattle.lk_guard.specs.Guards.{Guard, reads_as, IsToRead}
 use Rattle.lk_run.specs.Polls.{IsPolled}
 use Rattle.lk_guard.specs.Reads.{account_of, amount_of, below, Answers, ReadsAt, HasRead}
@@ -47,33 +47,33 @@ loads_fresh g k loads e none =
     (ap (λ (xs : List (ℕ × ℕ)). loads ++ xs) none ∙ append-nil loads)
 
 -- the loads of an open look are of the one state
-module _ (d : Domain) (cpu : Cpu) (of : IsOf cpu d) (one : OneState (view_of cpu)) (k : Look)
-    (has : (ledger_of cpu).look ≡ Some k) where
-  open_is : IsOpen d.plan one.journal (view_of cpu).calls (Some k)
+module _ (plan : Plan) (lawful : IsRunningPlan plan) (b : View) (of : b.who.plan ≡ plan) (one : OneState b) (k : Look)
+    (has : b.ledger.look ≡ Some k) where
+  open_is : IsOpen plan one.journal b.calls (Some k)
   open_is =
-      subst (λ (plan : Plan). IsOpen plan one.journal (view_of cpu).calls (Some k)) of.plan
-      (subst (IsOpen (view_of cpu).who.plan one.journal (view_of cpu).calls) has one.looking)
+      subst (λ (q : Plan). IsOpen q one.journal b.calls (Some k)) of
+      (subst (IsOpen b.who.plan one.journal b.calls) has one.looking)
 
-  replays_is : Replays d.plan.balances.items one.journal
-  replays_is = subst (λ (plan : Plan). Replays plan.balances.items one.journal) of.plan one.replays
+  replays_is : Replays plan.balances.items one.journal
+  replays_is = subst (λ (q : Plan). Replays q.balances.items one.journal) of one.replays
 
   -- their sum is below the limit
-  pub sum_small : (n : ℕ) → map account_of k.loads ≡ below n → n ≤ accounts_of d.plan
+  pub sum_small : (n : ℕ) → map account_of k.loads ≡ below n → n ≤ accounts_of plan
       → total amount_of k.loads < full
   sum_small n are le =
-      loads_small d.plan one.journal n k.loads d.lawful.small replays_is open_is.1.loads are le
+      loads_small plan one.journal n k.loads lawful.small replays_is open_is.1.loads are le
 
   -- and the reply of them is right
-  pub reads_at : (v : ℕ) (job : Job) (reply : Reply) → k.version ≡ Some v
-      → Answers (accounts_of d.plan) job reply k.loads → is_write job ≡ false
-      → ReadsAt d.plan.balances.items cpu.number v job reply (ledger_of cpu).own
-  reads_at v job reply version answers reads =
+  pub reads_at : (p v : ℕ) (job : Job) (reply : Reply) → b.who.number ≡ Some p → k.version ≡ Some v
+      → Answers (accounts_of plan) job reply k.loads → is_write job ≡ false
+      → ReadsAt plan.balances.items p v job reply b.ledger.own
+  reads_at p v job reply numbered version answers reads =
       record {
         journal = one.journal;
         replays = replays_is;
         version = subst (IsVersion one.journal) version open_is.1.version;
-        right = right_reply d.plan one.journal job reply k.loads open_is.1.loads answers reads;
-        all = one.own cpu.number cpu.numbered;
+        right = right_reply plan one.journal job reply k.loads open_is.1.loads answers reads;
+        all = one.own p numbered;
       }
 
 -- one balance more was summed
@@ -87,55 +87,41 @@ summed_more n sum x g h h' s e =
       ledger = e ∙ ap (λ (l : Ledger). loaded l n x) s.ledger;
     }
 
-pub summed_small : (d : Domain) (b : Cpu) → IsOf b d → OneState (view_of b) → (n sum : ℕ) (g : Ledger)
-    → IsFreshLook g → HasSummed n sum g (ledger_of b) → n ≤ accounts_of d.plan → sum < full
-summed_small d b of one n sum g f s le =
+pub summed_small : (plan : Plan) → IsRunningPlan plan → (b : View) → b.who.plan ≡ plan → OneState b → (n sum : ℕ)
+    (g : Ledger) → IsFreshLook g → HasSummed n sum g b.ledger → n ≤ accounts_of plan → sum < full
+summed_small plan lawful b of one n sum g f s le =
     let whole = s.ledger ∙ loads_fresh g f.look s.loads f.has f.none in
     omega (
       arith,
       s.sum_is,
-      sum_small d b of one (record f.look { loads = s.loads }) (ap (λ (h : Ledger). h.look) whole) n s.are le,
+      sum_small plan lawful b of one (record f.look { loads = s.loads }) (ap (λ (h : Ledger). h.look) whole) n s.are le,
     )
 
--- a step keeps the processor one of the domain
+-- two steps keep what each keeps
+pub both_keep : (a b c : Seat Slot View) → IsKept a b → IsKept b c → IsKept a c
+both_keep a b c h k = record { table = k.table ∙ h.table; id = k.id ∙ h.id; who = k.who ∙ h.who; calls = k.calls ∙ h.calls }
 
-pub same_of : (d : Domain) (a b : Cpu) → IsSame a b → IsOf a d → IsOf b d
-same_of d a b same of =
-    record {
-      table = same.table ∙ of.table;
-      plan = ap (λ (w : Who). w.plan) same.who ∙ of.plan;
-      low = subst (λ (n : ℕ). n < cpus_of d.plan) (sym same.number) of.low;
-      awake = of.awake;
-    }
-
-pub both_keep : (a b c : Cpu) → KeepsCalls a b → KeepsCalls b c → KeepsCalls a c
-both_keep a b c h k =
-    record {
-      same = record {
-        table = k.same.table ∙ h.same.table;
-        id = k.same.id ∙ h.same.id;
-        number = k.same.number ∙ h.same.number;
-        who = k.same.who ∙ h.same.who;
-      };
-      calls = k.calls ∙ h.calls;
-    }
+-- and the number
+pub numbered_as : (a b : Seat Slot View) → IsNumbered a.me.0 → IsKept a b
+    → b.me.0.who.number ≡ Some (own_number a.me.0.who.number)
+numbered_as a b number h = ap (λ (w : Who). w.number) h.who ∙ (number.1 ∙ ap Some (sym (ap own_number number.1)))
 
 -- the version and then these balances were loaded
-pub has_looked : (d : Domain) (b : Cpu) → IsOf b d → OneState (view_of b) → (g : Ledger) (v : ℕ)
-    (job : Job) (reply : Reply) (loads : List (ℕ × ℕ))
-    → ledger_of b ≡ all_loaded (sighted g v) loads → IsFreshLook g
-    → Answers (accounts_of d.plan) job reply loads → is_write job ≡ false → g.seen ≤ v
-    → HasLooked d.plan.balances.items b.number v job reply g (ledger_of b)
-has_looked d b of one g v job reply loads is f answers reads seen =
+pub has_looked : (plan : Plan) → IsRunningPlan plan → (b : View) → b.who.plan ≡ plan → OneState b → (p : ℕ)
+    → b.who.number ≡ Some p → (g : Ledger) (v : ℕ) (job : Job) (reply : Reply) (loads : List (ℕ × ℕ))
+    → b.ledger ≡ all_loaded (sighted g v) loads → IsFreshLook g
+    → Answers (accounts_of plan) job reply loads → is_write job ≡ false → g.seen ≤ v
+    → HasLooked plan.balances.items p v job reply g b.ledger
+has_looked plan lawful b of one p numbered g v job reply loads is f answers reads seen =
     let whole = is ∙ loads_fresh (sighted g v) (with_sight f.look v) loads (ap (λ (o : Option Look). look_sees o v) f.has) f.none in
     let k : Look = record (with_sight f.look v) { loads = loads } in
-    let state = reads_at d b of one k (ap (λ (h : Ledger). h.look) whole) v job reply refl answers reads in
+    let state = reads_at plan lawful b of one k (ap (λ (h : Ledger). h.look) whole) p v job reply numbered refl answers reads in
     record {
       loads = loads;
       answers = answers;
       ledger = is;
       seen = seen;
-      state = subst (ReadsAt d.plan.balances.items b.number v job reply) (ap (λ (h : Ledger). h.own) whole) state;
+      state = subst (ReadsAt plan.balances.items p v job reply) (ap (λ (h : Ledger). h.own) whole) state;
     }
 
 -- a read in a hold of its own
@@ -163,7 +149,7 @@ module _ (h : Guard) (p v : ℕ) (job : Job) (reply : Reply) (g0 g1 g2 : Ledger)
         record {
           look = look;
           read = record {
-            taken = record { manner = taken.manner; path = taken.path };
+            taken = record { manner = taken.manner; path = taken.path; halting = taken.halting };
             version = refl;
             answers = looks.answers;
             seen = subst (λ (g : Ledger). g.seen ≤ v) begins looks.seen;

@@ -1,10 +1,16 @@
 -- A processor that does nothing.
-use Rattle.std.specs.Prelude.{◌≡◌, [], None}
-use Rattle.lk_domain.specs.Seats.{calls_of, ledger_of}
+use Rattle.lk_domain.specs.Seated.{HoldsNothing}
+use Rattle.lk_domain.specs.Seats.{view_of}
 use Rattle.lk_domain.specs.declared.cpu.Cpu.{Cpu}
+use Rattle.lk_pvdomain.specs.PvCalls.{IsResting}
+use Rattle.lk_pvdomain.specs.PvSeats.{calls_of, view_of as pv_view}
+use Rattle.lk_pvdomain.specs.declared.cpu.PvCpu.{PvCpu}
 
 -- it waits for nothing, holds nothing, and does not have the journal out
-pub record IsIdle (cpu : Cpu) : Type 0 where
-  pub frames : (calls_of cpu).frames ≡ []
-  pub holds : (calls_of cpu).holds ≡ []
-  pub home : (ledger_of cpu).out ≡ None
+abbrev pub IsIdle : Cpu → Type 0
+IsIdle cpu = HoldsNothing (view_of cpu)
+
+-- the same of one whose family halts, which has not halted
+pub record IsFree (cpu : PvCpu) : Type 0 where
+  pub nothing : HoldsNothing (pv_view cpu)
+  pub rests : IsResting (calls_of cpu)

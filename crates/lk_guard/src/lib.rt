@@ -2,6 +2,7 @@
 #![tactic(auto)]
 
 mod gate;
+mod pv_region;
 mod reading;
 mod region;
 mod settling;
@@ -9,5 +10,6 @@ mod working;
 mod writing;
 
 pub use gate::{Gate, OpenGate};
+pub use pv_region::PvRegion;
 pub use region::Region;
 pub use working::writes;

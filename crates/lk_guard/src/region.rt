@@ -13,7 +13,7 @@ use lk_run::{Irq, lock, read_lock, read_unlock, unlock, write_lock, write_unlock
 use std::sync::Wait;
 
 // The lock that guards the ledger.
-const FIRST: LockId = LockId { index: 0 };
+pub(crate) const FIRST: LockId = LockId { index: 0 };
 
 /// A domain whose one lock guards its ledger.
 #[derive(Drop)]

@@ -1,4 +1,4 @@
-// A job on the balance words of a domain, by a processor that has the journal out.
+// A job on the balance words of a domain, by the seat of a processor that has the journal out.
 ghost use Rattle.std.specs.Prelude.{◌≡◌, ◌<◌, true, slice_index, slice_set};
 ghost use Rattle.std.specs.List.{sum};
 ghost use Rattle.lk_abs.specs.Jobs.{IsAmong, after_job, reply_to};
@@ -6,113 +6,133 @@ ghost use Rattle.lk_abs.specs.Journal.{is_write};
 ghost use Rattle.lk_abs.specs.declared.ledger.Job.TheVariants as job;
 ghost use Rattle.lk_domain.specs.Keeps.{holds_first};
 ghost use Rattle.lk_domain.specs.Plans.{accounts_of};
-ghost use Rattle.lk_domain.specs.Seats.{IsOf, KeepsCalls, calls_of, ledger_of};
+ghost use Rattle.lk_domain.specs.Seated.{IsKept, IsSeatOf, IsTableOf};
 ghost use Rattle.lk_guard.specs.Settling.{Stands, words_of, with_words};
 
 use lk_abs::{Job, Reply};
-use lk_domain::{Cpu, Domain, load, store};
+use lk_domain::ledger_steps::{Words, accounts, load, store};
+use lk_domain::{Plan, Right};
 
 /// No sum of balances reaches it.
 const FULL: u64 = 1 << 63;
 
 // The balance of an account.
-fn balance_of(cpu: &mut Cpu, domain: &Domain, account: u32) -> u64
-    requires domain { IsOf cpu.old domain.now }
-    requires held { holds_first (calls_of cpu.old) }
-    requires stands { Stands (accounts_of domain.now.plan) (ledger_of cpu.old) }
-    requires account { account < accounts_of domain.now.plan }
-    ensures rest { KeepsCalls cpu.old cpu.new }
-    ensures ledger { ledger_of cpu.new ≡ ledger_of cpu.old }
-    ensures balance { result ≡ slice_index (words_of (ledger_of cpu.old)) account }
+fn balance_of(seat: &mut Right, table: &Words, plan: &Plan, account: u32) -> u64
+    requires table { IsTableOf plan.now table.now.shared.table_id table.now.shared.key }
+    requires seat { IsSeatOf plan.now table.now.shared.table_id seat.old }
+    requires held { holds_first seat.old.me.0.calls }
+    requires stands { Stands (accounts_of plan.now) seat.old.me.0.ledger }
+    requires account { account < accounts_of plan.now }
+    ensures seat { IsSeatOf plan.now table.now.shared.table_id seat.new }
+    ensures rest { IsKept seat.old seat.new }
+    ensures ledger { seat.new.me.0.ledger ≡ seat.old.me.0.ledger }
+    ensures balance { result ≡ slice_index (words_of seat.old.me.0.ledger) account }
 {
-    load(cpu, domain, account)
+    load(seat, table, plan, account)
 }
 
 // The sum of the balances.
-fn sum_of(cpu: &mut Cpu, domain: &Domain) -> u64
-    requires domain { IsOf cpu.old domain.now }
-    requires held { holds_first (calls_of cpu.old) }
-    requires stands { Stands (accounts_of domain.now.plan) (ledger_of cpu.old) }
-    ensures rest { KeepsCalls cpu.old cpu.new }
-    ensures ledger { ledger_of cpu.new ≡ ledger_of cpu.old }
-    ensures sum { result ≡ sum (words_of (ledger_of cpu.old)) }
+fn sum_of(seat: &mut Right, table: &Words, plan: &Plan) -> u64
+    requires table { IsTableOf plan.now table.now.shared.table_id table.now.shared.key }
+    requires seat { IsSeatOf plan.now table.now.shared.table_id seat.old }
+    requires held { holds_first seat.old.me.0.calls }
+    requires stands { Stands (accounts_of plan.now) seat.old.me.0.ledger }
+    ensures seat { IsSeatOf plan.now table.now.shared.table_id seat.new }
+    ensures rest { IsKept seat.old seat.new }
+    ensures ledger { seat.new.me.0.ledger ≡ seat.old.me.0.ledger }
+    ensures sum { result ≡ sum (words_of seat.old.me.0.ledger) }
 {
     let mut sum = 0;
-    for account in 0..domain.accounts() {
-        sum += balance_of(cpu, domain, account);
+    for account in 0..accounts(plan) {
+        sum += balance_of(seat, table, plan, account);
     }
     sum
 }
 
 // Makes the balance of an account this amount.
-fn put(cpu: &mut Cpu, domain: &Domain, account: u32, amount: u64)
-    requires domain { IsOf cpu.old domain.now }
-    requires held { holds_first (calls_of cpu.old) }
-    requires stands { Stands (accounts_of domain.now.plan) (ledger_of cpu.old) }
-    requires account { account < accounts_of domain.now.plan }
-    ensures rest { KeepsCalls cpu.old cpu.new }
-    ensures ledger { ledger_of cpu.new ≡ with_words (ledger_of cpu.old)
-        (slice_set (words_of (ledger_of cpu.old)) account amount) }
+fn put(seat: &mut Right, table: &Words, plan: &Plan, account: u32, amount: u64)
+    requires table { IsTableOf plan.now table.now.shared.table_id table.now.shared.key }
+    requires seat { IsSeatOf plan.now table.now.shared.table_id seat.old }
+    requires held { holds_first seat.old.me.0.calls }
+    requires stands { Stands (accounts_of plan.now) seat.old.me.0.ledger }
+    requires account { account < accounts_of plan.now }
+    ensures seat { IsSeatOf plan.now table.now.shared.table_id seat.new }
+    ensures rest { IsKept seat.old seat.new }
+    ensures ledger { seat.new.me.0.ledger ≡ with_words seat.old.me.0.ledger
+        (slice_set (words_of seat.old.me.0.ledger) account amount) }
 {
-    store(cpu, domain, account, amount);
+    store(seat, table, plan, account, amount);
 }
 
 // Moves an amount, if the account has as much.
-fn move_amount(cpu: &mut Cpu, domain: &Domain, from: u32, to: u32, amount: u64) -> Reply
-    requires domain { IsOf cpu.old domain.now }
-    requires held { holds_first (calls_of cpu.old) }
-    requires stands { Stands (accounts_of domain.now.plan) (ledger_of cpu.old) }
-    requires from { from < accounts_of domain.now.plan }
-    requires to { to < accounts_of domain.now.plan }
-    ensures rest { KeepsCalls cpu.old cpu.new }
-    ensures ledger { ledger_of cpu.new ≡ with_words (ledger_of cpu.old)
-        (after_job (words_of (ledger_of cpu.old)) (job.Move from to amount)) }
-    ensures reply { result ≡ reply_to (words_of (ledger_of cpu.old)) (job.Move from to amount) }
+fn move_amount(
+    seat: &mut Right,
+    table: &Words,
+    plan: &Plan,
+    from: u32,
+    to: u32,
+    amount: u64,
+) -> Reply
+    requires table { IsTableOf plan.now table.now.shared.table_id table.now.shared.key }
+    requires seat { IsSeatOf plan.now table.now.shared.table_id seat.old }
+    requires held { holds_first seat.old.me.0.calls }
+    requires stands { Stands (accounts_of plan.now) seat.old.me.0.ledger }
+    requires from { from < accounts_of plan.now }
+    requires to { to < accounts_of plan.now }
+    ensures seat { IsSeatOf plan.now table.now.shared.table_id seat.new }
+    ensures rest { IsKept seat.old seat.new }
+    ensures ledger { seat.new.me.0.ledger ≡ with_words seat.old.me.0.ledger
+        (after_job (words_of seat.old.me.0.ledger) (job.Move from to amount)) }
+    ensures reply { result ≡ reply_to (words_of seat.old.me.0.ledger) (job.Move from to amount) }
 {
-    let held = balance_of(cpu, domain, from);
+    let held = balance_of(seat, table, plan, from);
     if held < amount {
         return Reply::Short;
     }
-    put(cpu, domain, from, held - amount);
-    let held = balance_of(cpu, domain, to);
-    put(cpu, domain, to, held + amount);
+    put(seat, table, plan, from, held - amount);
+    let held = balance_of(seat, table, plan, to);
+    put(seat, table, plan, to, held + amount);
     Reply::Done
 }
 
 // Adds an amount, if the sum stays below the limit.
-fn add(cpu: &mut Cpu, domain: &Domain, account: u32, amount: u64) -> Reply
-    requires domain { IsOf cpu.old domain.now }
-    requires held { holds_first (calls_of cpu.old) }
-    requires stands { Stands (accounts_of domain.now.plan) (ledger_of cpu.old) }
-    requires account { account < accounts_of domain.now.plan }
-    ensures rest { KeepsCalls cpu.old cpu.new }
-    ensures ledger { ledger_of cpu.new ≡ with_words (ledger_of cpu.old)
-        (after_job (words_of (ledger_of cpu.old)) (job.Add account amount)) }
-    ensures reply { result ≡ reply_to (words_of (ledger_of cpu.old)) (job.Add account amount) }
+fn add(seat: &mut Right, table: &Words, plan: &Plan, account: u32, amount: u64) -> Reply
+    requires table { IsTableOf plan.now table.now.shared.table_id table.now.shared.key }
+    requires seat { IsSeatOf plan.now table.now.shared.table_id seat.old }
+    requires held { holds_first seat.old.me.0.calls }
+    requires stands { Stands (accounts_of plan.now) seat.old.me.0.ledger }
+    requires account { account < accounts_of plan.now }
+    ensures seat { IsSeatOf plan.now table.now.shared.table_id seat.new }
+    ensures rest { IsKept seat.old seat.new }
+    ensures ledger { seat.new.me.0.ledger ≡ with_words seat.old.me.0.ledger
+        (after_job (words_of seat.old.me.0.ledger) (job.Add account amount)) }
+    ensures reply { result ≡ reply_to (words_of seat.old.me.0.ledger) (job.Add account amount) }
 {
-    if amount >= FULL - sum_of(cpu, domain) {
+    if amount >= FULL - sum_of(seat, table, plan) {
         return Reply::Full;
     }
-    let held = balance_of(cpu, domain, account);
-    put(cpu, domain, account, held + amount);
+    let held = balance_of(seat, table, plan, account);
+    put(seat, table, plan, account, held + amount);
     Reply::Done
 }
 
 // Does a job that writes, on the balance words.
-pub(crate) fn settle(cpu: &mut Cpu, domain: &Domain, job: Job) -> Reply
-    requires domain { IsOf cpu.old domain.now }
-    requires held { holds_first (calls_of cpu.old) }
-    requires stands { Stands (accounts_of domain.now.plan) (ledger_of cpu.old) }
-    requires job { IsAmong (accounts_of domain.now.plan) job }
+pub(crate) fn settle(seat: &mut Right, table: &Words, plan: &Plan, job: Job) -> Reply
+    requires table { IsTableOf plan.now table.now.shared.table_id table.now.shared.key }
+    requires seat { IsSeatOf plan.now table.now.shared.table_id seat.old }
+    requires held { holds_first seat.old.me.0.calls }
+    requires stands { Stands (accounts_of plan.now) seat.old.me.0.ledger }
+    requires job { IsAmong (accounts_of plan.now) job }
     requires writes { is_write job ≡ true }
-    ensures rest { KeepsCalls cpu.old cpu.new }
-    ensures ledger { ledger_of cpu.new ≡ with_words (ledger_of cpu.old)
-        (after_job (words_of (ledger_of cpu.old)) job) }
-    ensures reply { result ≡ reply_to (words_of (ledger_of cpu.old)) job }
+    ensures seat { IsSeatOf plan.now table.now.shared.table_id seat.new }
+    ensures rest { IsKept seat.old seat.new }
+    ensures ledger { seat.new.me.0.ledger ≡ with_words seat.old.me.0.ledger
+        (after_job (words_of seat.old.me.0.ledger) job) }
+    ensures reply { result ≡ reply_to (words_of seat.old.me.0.ledger) job }
 {
     match job {
-        Job::Move { from, to, amount } => move_amount(cpu, domain, from, to, amount),
-        Job::Add { account, amount } => add(cpu, domain, account, amount),
+        Job::Move { from, to, amount } => move_amount(seat, table, plan, from, to, amount),
+        Job::Add { account, amount } => add(seat, table, plan, account, amount),
         _ => unreachable!(),
     }
 }

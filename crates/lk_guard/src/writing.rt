@@ -1,10 +1,11 @@
 // A write to the ledger, in a hold of its lock.
-ghost use Rattle.std.specs.Prelude.{◌≡◌, ◌<◌, ◌≤◌, true, None};
+ghost use Rattle.std.specs.Prelude.{◌≡◌, ◌<◌, ◌≤◌, true, Some, None};
 ghost use Rattle.lk_abs.specs.Jobs.{IsAmong};
 ghost use Rattle.lk_abs.specs.Journal.{is_write};
 ghost use Rattle.lk_domain.specs.Keeps.{holds_first, alone_first};
 ghost use Rattle.lk_domain.specs.Plans.{accounts_of};
-ghost use Rattle.lk_domain.specs.Seats.{IsOf, IsSame, KeepsCalls, calls_of, ledger_of};
+ghost use Rattle.lk_domain.specs.Seated.{IsKept, IsSeatOf, IsTableOf};
+ghost use Rattle.lk_domain.specs.Seats.{IsOf, IsSame, ledger_of};
 ghost use Rattle.lk_guard.specs.Guards.{guard_in};
 ghost use Rattle.lk_guard.specs.Idle.{IsIdle};
 ghost use Rattle.lk_guard.specs.Writes.{HasAppended, HasWritten};
@@ -12,32 +13,49 @@ ghost use Rattle.lk_guard.specs.Writes.{HasAppended, HasWritten};
 use crate::region::Region;
 use crate::settling::settle;
 use lk_abs::{Entry, Job, Reply};
-use lk_domain::{Cpu, Domain, journal_home, journal_out};
+use lk_domain::ledger_steps::{Words, journal_home, journal_out};
+use lk_domain::{Cpu, Plan, Right};
 use lk_run::Irq;
 use std::sync::Wait;
 
+// A job of a worker, with its number.
+#[derive(Clone, Copy)]
+pub(crate) struct Task {
+    pub(crate) worker: u32,
+    pub(crate) number: u32,
+    pub(crate) job: Job,
+}
+
 // Takes the journal out, does the job on the balances, and brings the journal home with its entry.
-fn append(cpu: &mut Cpu, domain: &Domain, number: u32, job: Job) -> Reply
-    requires domain { IsOf cpu.old domain.now }
-    requires held { holds_first (calls_of cpu.old) }
-    requires alone { alone_first (calls_of cpu.old) }
-    requires home { (ledger_of cpu.old).out ≡ None }
-    requires job { IsAmong (accounts_of domain.now.plan) job }
-    requires writes { is_write job ≡ true }
-    requires share { 1 ≤ (ledger_of cpu.old).share }
-    ensures rest { KeepsCalls cpu.old cpu.new }
-    ensures appended { HasAppended domain.now.plan.balances.items cpu.old.number number job result
-        (ledger_of cpu.old) (ledger_of cpu.new) }
+pub(crate) fn append(seat: &mut Right, table: &Words, plan: &Plan, task: Task) -> Reply
+    requires table { IsTableOf plan.now table.now.shared.table_id table.now.shared.key }
+    requires seat { IsSeatOf plan.now table.now.shared.table_id seat.old }
+    requires worker { seat.old.me.0.who.number ≡ Some task.worker }
+    requires held { holds_first seat.old.me.0.calls }
+    requires alone { alone_first seat.old.me.0.calls }
+    requires home { seat.old.me.0.ledger.out ≡ None }
+    requires job { IsAmong (accounts_of plan.now) task.job }
+    requires writes { is_write task.job ≡ true }
+    requires share { 1 ≤ seat.old.me.0.ledger.share }
+    ensures seat { IsSeatOf plan.now table.now.shared.table_id seat.new }
+    ensures rest { IsKept seat.old seat.new }
+    ensures appended { HasAppended plan.now.balances.items task.worker task.number task.job result
+        seat.old.me.0.ledger seat.new.me.0.ledger }
 {
-    let mut journal = journal_out(cpu, domain);
-    let reply = settle(cpu, domain, job);
+    let Task {
+        worker,
+        number,
+        job,
+    } = task;
+    let mut journal = journal_out(seat, table, plan);
+    let reply = settle(seat, table, plan, job);
     journal.push(Entry {
-        worker: cpu.number(),
+        worker,
         number,
         job,
         reply,
     });
-    journal_home(cpu, domain, journal);
+    journal_home(seat, table, plan, journal);
     reply
 }
 
@@ -64,7 +82,13 @@ impl Region {
             result (ledger_of cpu.old) (ledger_of cpu.new) (I.polls irq.old) (I.polls irq.new) }
     {
         self.hold_to_write(cpu, rt, irq);
-        let reply = append(cpu, &self.domain, number, job);
+        let worker = cpu.number();
+        let task = Task {
+            worker,
+            number,
+            job,
+        };
+        let reply = append(&mut cpu.seat, &self.domain.table, &self.domain.plan, task);
         self.end_write(cpu);
         reply
     }
