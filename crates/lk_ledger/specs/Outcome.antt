@@ -14,7 +14,8 @@ use Rattle.lk_stream.specs.Outside.{Outside}
 use Rattle.lk_stream.specs.declared.answers.ReplayFault.{ReplayFault}
 use Rattle.lk_stream.specs.declared.answers.ReplayFault.TheVariants as fault
 use Rattle.lk_job_forms.specs.Texts.{outcome_text}
-use Rattle.lk_workers.specs.UnderLock.{UnderLock, looks_in}
+use Rattle.lk_workers.specs.Ended.{balances_in, journal_in, looks_in}
+use Rattle.lk_workers.specs.UnderLock.{UnderLock}
 use Rattle.lk_workers.specs.declared.running.Outcome.{Outcome}
 use Rattle.lk_ledger.specs.Reading.{SaysJobs, IsRefused}
 
@@ -30,8 +31,8 @@ pub record MayCome (input : Option (List ℕ)) (journal : List Entry) (reads : L
 pub record Left (input : Option (List ℕ)) (left : Outcome) : Type 0 where
   pub work : Workload
   pub says : SaysJobs input work
-  pub outcome : IsOutcome work left.closed.journal.items left.reads.items
-      left.closed.balances.items
+  pub outcome : IsOutcome work (journal_in left.closed) left.reads.items
+      (balances_in left.closed)
   pub under_lock : UnderLock work left.reads.items (looks_in left.closed)
 
 -- The text is a job file, and was read to its end. The whole text of an outcome was written that may
@@ -48,7 +49,7 @@ pub record HasRun (old new : Outside) (left : Outcome) : Type 0 where
   pub came : Left old.left left
   pub all_read : IsAtEnd new.left
   pub written : Appends old.held new.held
-      (outcome_text left.closed.journal.items left.reads.items left.closed.balances.items)
+      (outcome_text (journal_in left.closed) left.reads.items (balances_in left.closed))
 
 -- the text is refused at this line, and nothing was written
 pub record RefusedAt (old new : Outside) (line : ℕ) (why : LineRefusal) : Type 0 where

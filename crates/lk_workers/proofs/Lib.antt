@@ -4,3 +4,5 @@ mod Places
 mod Gathered
 mod Outcomes
 mod Starts
+mod PvStarts
+mod Closes

@@ -1,6 +1,6 @@
 -- All workers together, with the journal at the end of their domain.
-use Rattle.std.proofs.Common.{◌≡◌, ◌+◌, ◌<◌, ◌≤◌, ℕ, zero, suc, List, [], ◌∷◌, ⊎_elim, length, map, get_or, refl, sym, ap, subst, ◌∙◌, arith, length-append}
-use Rattle.std.specs.List.{sum_by}
+use Rattle.std.proofs.Common.{Bool, false, ◌≡◌, ◌+◌, ◌<◌, ◌≤◌, ℕ, zero, suc, List, [], ◌∷◌, ⊎_elim, length, map, get_or, refl, sym, ap, subst, ◌∙◌, arith, length-append}
+use Rattle.std.specs.List.{flat_map, sum_by}
 use Rattle.std.proofs.lemmas.Bool.{cases_lt}
 use Rattle.std.proofs.lemmas.List.{get_or_past, length-map}
 use Rattle.std.proofs.Math.ListN.{get_or-map}
@@ -11,80 +11,88 @@ use Rattle.lk_abs.specs.declared.ledger.Seen.{Seen}
 use Rattle.lk_abs.specs.declared.names.Kind.TheVariants.{Spin}
 use Rattle.lk_abs.specs.Workload.{Workload, jobs_of, workers_of}
 use Rattle.lk_abs.specs.Outcome.{IsFresh, IsMerge, IsOutcome, IsReadAt, label_of, writes_from}
-use Rattle.lk_domain.specs.Ends.{In, IsFinal, past_at}
+use Rattle.lk_domain.specs.Ends.{In, IsFinalOf, past_at}
 use Rattle.lk_domain.specs.Keeps.{AreEnded, IsPast}
-use Rattle.lk_domain.specs.Ledgers.{Ledger, with_share}
+use Rattle.lk_domain.specs.Ledgers.{Ledger, Look, with_share}
 use Rattle.lk_domain.specs.Places.{places}
-use Rattle.lk_domain.specs.Seats.{ledger_of}
-use Rattle.lk_domain.specs.declared.cpu.Cpu.{Cpu}
-use Rattle.lk_domain.specs.declared.domain.Domain.{Domain}
 use Rattle.lk_domain.specs.declared.plan.Plan.{Plan}
-use Rattle.lk_guard.specs.Deeds.{Deed, AreDeeds, records_of, reads_in, writes_in}
+use Rattle.lk_law.specs.Agree.{halts}
+use Rattle.lk_guard.specs.Deeds.{Deed, AreDeeds, Worked, records_of, reads_in, writes_in}
 use Rattle.lk_guard.specs.Guards.{Guard, guard_in}
 use Rattle.lk_workers.specs.Plans.{IsPlanOf}
-use Rattle.lk_workers.specs.UnderLock.{AreLooksOf, UnderLock, guard_for, looks_of, records_by}
-use Rattle.lk_workers.specs.Workers.{AreThrough, IsThrough, all_records, cpu_of, records_in}
-use Rattle.lk_workers.specs.declared.worker.Worker.{Worker}
+use Rattle.lk_workers.specs.UnderLock.{AreLooksOf, UnderLock, guard_for, records_by, terms_in}
 use Rattle.lk_workers.proofs.JobCounts.{more_reads}
 use Rattle.lk_workers.proofs.Deeds as deeds
 use Rattle.lk_workers.proofs.Deeds.{placed, looks_by}
 use Rattle.lk_workers.proofs.Gathered.{Notes, by_worker, tags_gathered}
 use Rattle.lk_workers.proofs.Places.{all_in, entries_are, entry_at, in_flat, in_get, stands}
 
--- What a worker did, with the journal at the end: its deeds are its entries there, its records and
--- its looks, and these are of beginnings of the journal.
-pub record Told (plan : Plan) (js : List Entry) (i : ℕ) (jobs : List Job) (worker : Worker) : Type 0 where
+-- What a worker did, of whichever kind, with the journal at the end: its deeds are its entries there, its
+-- records and its looks, and these are of beginnings of the journal.
+pub record Told (plan : Plan) (js : List Entry) (i : ℕ) (jobs : List Job) (g : Ledger) (reads : List Seen) : Type 0 where
   pub start : Ledger
   pub done : List Deed
   pub are : AreDeeds (guard_in plan) i 1 jobs start done
   pub own : places i js ≡ placed done
-  pub records : worker.reads.items ≡ records_of done
-  pub looks : looks_of worker.cpu ≡ looks_by done
+  pub records : reads ≡ records_of done
+  pub looks : g.looks ≡ looks_by done
   pub ended : AreEnded plan js (looks_by done)
 
-told : (d : Domain) (jobs : List Job) (js : List Entry) (i : ℕ) (w : Worker) → IsThrough d jobs i w → IsPast d.plan js (past_at i (ledger_of w.cpu)) → Told d.plan js i jobs w
-told d jobs js i w through past =
-    let g : Ledger = with_share (writes_in jobs) in
-    let ds = through.worked.deeds in
-    let looks : looks_of w.cpu ≡ looks_by ds = ap (λ (l : Ledger). l.looks) through.worked.ledger ∙ deeds.looks_after g ds in
+-- it did its jobs, and the journal has of it what it knew
+told : (plan : Plan) (jobs : List Job) (js : List Entry) (i : ℕ) (g : Ledger) (reads : List Seen)
+    → Worked (guard_in plan) i jobs (with_share (writes_in jobs)) g [] reads → IsPast plan js (past_at i g) → Told plan js i jobs g reads
+told plan jobs js i g reads worked past =
+    let first : Ledger = with_share (writes_in jobs) in
+    let ds = worked.deeds in
+    let looks : g.looks ≡ looks_by ds = ap (λ (l : Ledger). l.looks) worked.ledger ∙ deeds.looks_after first ds in
     record {
-      start = g;
+      start = first;
       done = ds;
-      are = through.worked.are;
-      own = sym past.own ∙ (ap (λ (l : Ledger). l.own) through.worked.ledger ∙ deeds.own_after g ds);
-      records = through.worked.records;
+      are = worked.are;
+      own = sym past.own ∙ (ap (λ (l : Ledger). l.own) worked.ledger ∙ deeds.own_after first ds);
+      records = worked.records;
       looks = looks;
-      ended = subst (AreEnded d.plan js) looks past.looked;
+      ended = subst (AreEnded plan js) looks past.looked;
     }
 
+-- the plan is one of which the workload is served: it has its guard and its accounts
+pub record Serves (work : Workload) (plan : Plan) : Type 0 where
+  pub guard : guard_in plan ≡ guard_for work
+  pub balances : plan.balances.items ≡ work.balances
+
 -- the guard of the plan is that of the workload
-guard_is : (work : Workload) (plan : Plan) → IsPlanOf work plan → guard_in plan ≡ guard_for work
-guard_is work plan of = λ i. record {
+guard_is : (work : Workload) (plan : Plan) → halts work.mode ≡ false → IsPlanOf work plan → guard_in plan ≡ guard_for work
+guard_is work plan awake of = (λ i. record {
   terms = record { format = of.format i; mode = of.mode i; threshold = of.threshold i; sockets = of.sockets i };
   kind = get_or (of.locks i) 0 Spin;
   opening = of.balances i;
-}
+}) ∙ ap (λ (halting : Bool). record { terms = terms_in halting work; kind = work.guard; opening = work.balances }) (sym awake)
 
 -- some worker, where there is one
-one_of : (ws : List Worker) (i : ℕ) → i < length ws → Worker
+one_of : {W : Type 0} (ws : List W) (i : ℕ) → i < length ws → W
 one_of [] i within = absurd (omega (arith, within))
 one_of (w ∷ ws) i within = w
 
-get_itself : (ws : List Worker) (i : ℕ) (d : Worker) → get_or ws i (get_or ws i d) ≡ get_or ws i d
+get_itself : {W : Type 0} (ws : List W) (i : ℕ) (d : W) → get_or ws i (get_or ws i d) ≡ get_or ws i d
 get_itself [] i d = refl
 get_itself (w ∷ ws) zero d = refl
 get_itself (w ∷ ws) (suc i) d = get_itself ws i d
 
-module _ (work : Workload) (plan : Plan) (of : IsPlanOf work plan) (js : List Entry) (ws : List Worker) (many : length ws ≡ workers_of work)
-    (each : (i : ℕ) (d : Worker) → i < length ws → Told plan js i (jobs_of work i) (get_or ws i d)) where
-  told_at : (i : ℕ) (below : i < workers_of work) → (w : Worker) × (i < length ws) × Told plan js i (jobs_of work i) (get_or ws i w)
+-- workers of whichever kind, on processors of whichever kind, by what these know and by their records
+module _ {W C : Type 0} (cpu_of : W → C) (ledger_of : C → Ledger) (records_in : W → List Seen) (work : Workload) (plan : Plan)
+    (of : Serves work plan) (js : List Entry) (ws : List W) (many : length ws ≡ workers_of work)
+    (each : (i : ℕ) (d : W) → i < length ws → Told plan js i (jobs_of work i) (ledger_of (cpu_of (get_or ws i d))) (records_in (get_or ws i d))) where
+  abbrev pub looks_of : C → List Look
+  looks_of c = (ledger_of c).looks
+
+  told_at : (i : ℕ) (below : i < workers_of work) → (w : W) × (i < length ws) × Told plan js i (jobs_of work i) (ledger_of (cpu_of (get_or ws i w))) (records_in (get_or ws i w))
   told_at i below = let within : i < length ws = omega (arith, below, many) in (one_of ws i within, within, each i (one_of ws i within) within)
 
-  notes : (i : ℕ) (d : Worker) → i < length ws → Notes (0 + i) (jobs_of work i) (get_or ws i d)
+  notes : (i : ℕ) (d : W) → i < length ws → Notes records_in (0 + i) (jobs_of work i) (get_or ws i d)
   notes i d within =
       let t = each i d within in
       let h : Guard = guard_in plan in
-      subst (λ (j : ℕ). Notes j (jobs_of work i) (get_or ws i d)) (let e : i ≡ 0 + i = omega arith in e) (record {
+      subst (λ (j : ℕ). Notes records_in j (jobs_of work i) (get_or ws i d)) (let e : i ≡ 0 + i = omega arith in e) (record {
         own = λ r is. deeds.record_worker h i 1 (jobs_of work i) t.start t.done r t.are (subst (In r) t.records is);
         tags = ap (map _) t.records ∙ deeds.tags_are h i 1 (jobs_of work i) t.start t.done t.are;
       })
@@ -100,11 +108,12 @@ module _ (work : Workload) (plan : Plan) (of : IsPlanOf work plan) (js : List En
       (cases_lt worker (workers_of work))
 
   -- a record of a worker has seen what it should
-  fresh_of : (r : Seen) (i : ℕ) (w : Worker) → i < length ws → get_or ws i w ≡ w → In r w.reads.items → IsFresh js (all_records ws) r
+  fresh_of : (r : Seen) (i : ℕ) (w : W) → i < length ws → get_or ws i w ≡ w → In r (records_in w) → IsFresh js (flat_map records_in ws) r
   fresh_of r i w within is mine =
       let h : Guard = guard_in plan in
       let jobs = jobs_of work i in
-      let t : Told plan js i jobs w = subst (Told plan js i jobs) is (each i w within) in
+      let t : Told plan js i jobs (ledger_of (cpu_of w)) (records_in w) =
+      subst (λ (v : W). Told plan js i jobs (ledger_of (cpu_of v)) (records_in v)) is (each i w within) in
       let here = subst (In r) t.records mine in
       let by : r.worker ≡ i = deeds.record_worker h i 1 jobs t.start t.done r t.are here in
       let place : (k : ℕ) (e : Entry) → _ → e.worker ≡ r.worker → In (k, e) (placed t.done) = λ k e at same.
@@ -113,15 +122,15 @@ module _ (work : Workload) (plan : Plan) (of : IsPlanOf work plan) (js : List En
         after = λ k e at same less. (deeds.fresh_entry h i 1 jobs t.start t.done r k e t.are here (place k e at same)).0 less;
         before = λ k e at same less. (deeds.fresh_entry h i 1 jobs t.start t.done r k e t.are here (place k e at same)).1 less;
         rises = λ k s at same less.
-            let from = in_flat records_in ws s (in_get (all_records ws) k s at) in
+            let from = in_flat records_in ws s (in_get (flat_map records_in ws) k s at) in
             let other = each from.0 w from.1 in
             let theirs : s.worker ≡ from.0 = deeds.record_worker h from.0 1 (jobs_of work from.0) other.start other.done s other.are (subst (In s) other.records (from.2 w)) in
             let one : from.0 ≡ i = sym theirs ∙ (same ∙ by) in
-            let in_w : In s w.reads.items = subst (λ (v : Worker). In s v.reads.items) (ap (λ (j : ℕ). get_or ws j w) one ∙ is) (from.2 w) in
+            let in_w : In s (records_in w) = subst (λ (v : W). In s (records_in v)) (ap (λ (j : ℕ). get_or ws j w) one ∙ is) (from.2 w) in
             deeds.fresh_record h i 1 jobs t.start t.done r s t.are here (subst (In s) t.records in_w) less;
       }
 
-  read_of : (r : Seen) → In r (all_records ws) → IsReadAt work.balances js r
+  read_of : (r : Seen) → In r (flat_map records_in ws) → IsReadAt work.balances js r
   read_of r is =
       let from = in_flat records_in ws r is in
       let i : ℕ = from.0 in
@@ -129,13 +138,13 @@ module _ (work : Workload) (plan : Plan) (of : IsPlanOf work plan) (js : List En
       let t = each i w from.1 in
       subst (λ (bs : List ℕ). IsReadAt bs js r) of.balances (deeds.reads_right plan js i 1 (jobs_of work i) t.start t.done r t.are t.ended (subst (In r) t.records (from.2 w)))
 
-  pub outcome : (cpus : List Cpu) (closing : List ℕ) → cpus ≡ map cpu_of ws → IsFinal plan cpus js → closing ≡ balances_after plan.balances.items js → IsOutcome work js (all_records ws) closing
+  pub outcome : (cpus : List C) (closing : List ℕ) → cpus ≡ map cpu_of ws → IsFinalOf ledger_of plan cpus js → closing ≡ balances_after plan.balances.items js → IsOutcome work js (flat_map records_in ws) closing
   outcome cpus closing are final sums = record {
     replays = subst (λ (bs : List ℕ). Replays bs js) of.balances final.replays;
     merge = merged (λ q past. final.none q (omega (arith, past, ap length are, length-map ws cpu_of)));
-    records = tags_gathered 0 work.jobs ws many notes;
-    read_at = all_in (IsReadAt work.balances js) (all_records ws) read_of;
-    fresh = all_in (IsFresh js (all_records ws)) (all_records ws) (λ r is.
+    records = tags_gathered records_in 0 work.jobs ws many notes;
+    read_at = all_in (IsReadAt work.balances js) (flat_map records_in ws) read_of;
+    fresh = all_in (IsFresh js (flat_map records_in ws)) (flat_map records_in ws) (λ r is.
         let from = in_flat records_in ws r is in
         let w = one_of ws from.0 from.1 in
         fresh_of r from.0 (get_or ws from.0 w) from.1 (get_itself ws from.0 w) (from.2 w));
@@ -143,64 +152,78 @@ module _ (work : Workload) (plan : Plan) (of : IsPlanOf work plan) (js : List En
   }
 
   -- the looks of one worker
-  looks_at : (i : ℕ) (w : Worker) → i < length ws → AreLooksOf (guard_in plan) i (jobs_of work i) (records_by i (all_records ws)) (looks_of (get_or ws i w).cpu)
+  looks_at : (i : ℕ) (w : W) → i < length ws → AreLooksOf (guard_in plan) i (jobs_of work i) (records_by i (flat_map records_in ws)) (looks_of (cpu_of (get_or ws i w)))
   looks_at i w within =
       let h : Guard = guard_in plan in
       let jobs = jobs_of work i in
       let t = each i w within in
       let zero_i : 0 + i ≡ i = omega arith in
-      let records : records_by i (all_records ws) ≡ records_of t.done = ap (λ (j : ℕ). records_by j (all_records ws)) (sym zero_i) ∙ (by_worker 0 work.jobs ws many notes i w within ∙ t.records) in
-      subst (λ (rs : List Seen). AreLooksOf h i jobs rs (looks_of (get_or ws i w).cpu)) (sym records) (subst (AreLooksOf h i jobs (records_of t.done)) (sym t.looks) (record {
+      let records : records_by i (flat_map records_in ws) ≡ records_of t.done = ap (λ (j : ℕ). records_by j (flat_map records_in ws)) (sym zero_i) ∙ (by_worker records_in 0 work.jobs ws many notes i w within ∙ t.records) in
+      subst (λ (rs : List Seen). AreLooksOf h i jobs rs (looks_of (cpu_of (get_or ws i w)))) (sym records) (subst (AreLooksOf h i jobs (records_of t.done)) (sym t.looks) (record {
         shown = deeds.sights_show h i 1 jobs t.start t.done t.are;
         taken = deeds.others_taken h i 1 jobs t.start t.done t.are;
         twice = deeds.others_twice h i 1 jobs t.start t.done t.are;
       }))
 
-  pub under_lock : (cpus : List Cpu) → cpus ≡ map cpu_of ws → UnderLock work (all_records ws) (map looks_of cpus)
+  pub under_lock : (cpus : List C) → cpus ≡ map cpu_of ws → UnderLock work (flat_map records_in ws) (map looks_of cpus)
   under_lock cpus are = record {
     each = length-map cpus looks_of ∙ (ap length are ∙ (length-map ws cpu_of ∙ many));
     looks_are = λ i below.
         let found = told_at i below in
-        let shown : get_or (map looks_of cpus) i [] ≡ looks_of (get_or ws i found.0).cpu = ap (λ (cs : List Cpu). get_or (map looks_of cs) i []) are ∙ looks_map ws i found.0 found.1 in
-        subst (λ (h : Guard). AreLooksOf h i (jobs_of work i) (records_by i (all_records ws)) (get_or (map looks_of cpus) i [])) (guard_is work plan of)
-        (subst (AreLooksOf (guard_in plan) i (jobs_of work i) (records_by i (all_records ws))) (sym shown) (looks_at i found.0 found.1));
+        let shown : get_or (map looks_of cpus) i [] ≡ looks_of (cpu_of (get_or ws i found.0)) = ap (λ (cs : List C). get_or (map looks_of cs) i []) are ∙ looks_map ws i found.0 found.1 in
+        subst (λ (h : Guard). AreLooksOf h i (jobs_of work i) (records_by i (flat_map records_in ws)) (get_or (map looks_of cpus) i [])) of.guard
+        (subst (AreLooksOf (guard_in plan) i (jobs_of work i) (records_by i (flat_map records_in ws))) (sym shown) (looks_at i found.0 found.1));
   }
     where
-      looks_map : (l : List Worker) (i : ℕ) (d : Worker) → i < length l → get_or (map looks_of (map cpu_of l)) i [] ≡ looks_of (get_or l i d).cpu
+      looks_map : (l : List W) (i : ℕ) (d : W) → i < length l → get_or (map looks_of (map cpu_of l)) i [] ≡ looks_of (cpu_of (get_or l i d))
       looks_map [] i d within = absurd (omega (arith, within))
       looks_map (y ∷ l) zero d within = refl
       looks_map (y ∷ l) (suc i) d within = looks_map l i d (omega (arith, within))
 
 -- each worker has told, after the jobs and the end
-pub all_told : (d : Domain) (work : Workload) (js : List Entry) (ws : List Worker) (cpus : List Cpu) → cpus ≡ map cpu_of ws → AreThrough d work ws → IsFinal d.plan cpus js
-    → (i : ℕ) (w : Worker) → i < length ws → Told d.plan js i (jobs_of work i) (get_or ws i w)
-all_told d work js ws cpus are through final i w within =
-    let here : get_or cpus i (cpu_of w) ≡ cpu_of (get_or ws i w) = ap (λ (cs : List Cpu). get_or cs i (cpu_of w)) are ∙ get_or-map cpu_of ws i w in
+pub all_told : {W C : Type 0} (cpu_of : W → C) (ledger_of : C → Ledger) (records_in : W → List Seen) (plan : Plan) (work : Workload) (js : List Entry)
+    (ws : List W) (cpus : List C) → cpus ≡ map cpu_of ws
+    → ((i : ℕ) (w : W) → i < length ws → Worked (guard_in plan) i (jobs_of work i) (with_share (writes_in (jobs_of work i))) (ledger_of (cpu_of (get_or ws i w))) [] (records_in (get_or ws i w)))
+    → IsFinalOf ledger_of plan cpus js
+    → (i : ℕ) (w : W) → i < length ws → Told plan js i (jobs_of work i) (ledger_of (cpu_of (get_or ws i w))) (records_in (get_or ws i w))
+all_told {C} cpu_of ledger_of records_in plan work js ws cpus are worked final i w within =
+    let here : get_or cpus i (cpu_of w) ≡ cpu_of (get_or ws i w) = ap (λ (cs : List C). get_or cs i (cpu_of w)) are ∙ get_or-map cpu_of ws i w in
     let past = final.past i (cpu_of w) (omega (arith, within, ap length are, length-map ws cpu_of)) in
-    told d (jobs_of work i) js i (get_or ws i w) (through i w within) (subst (λ (c : Cpu). IsPast d.plan js (past_at i (ledger_of c))) here past)
+    told plan (jobs_of work i) js i (ledger_of (cpu_of (get_or ws i w))) (records_in (get_or ws i w)) (worked i w within)
+    (subst (λ (c : C). IsPast plan js (past_at i (ledger_of c))) here past)
 
 -- there are as many records as jobs that read
-pub all_count : (file : List (List Job)) (ws : List Worker) → length ws ≡ length file → ((i : ℕ) (w : Worker) → i < length ws → length (get_or ws i w).reads.items ≡ reads_in (get_or file i []))
-    → length (all_records ws) ≡ sum_by reads_in file
-all_count [] [] many each = refl
-all_count [] (w ∷ ws) many each = absurd (omega (arith, many))
-all_count (jobs ∷ file) [] many each = absurd (omega (arith, many))
-all_count (jobs ∷ file) (w ∷ ws) many each =
-    omega (arith, each 0 w (omega arith), all_count file ws (omega (arith, many)) (λ i x within. each (suc i) x (omega (arith, within))), length-append w.reads.items (all_records ws), more_reads jobs file)
+pub all_count : {W : Type 0} (records_in : W → List Seen) (file : List (List Job)) (ws : List W) → length ws ≡ length file → ((i : ℕ) (w : W) → i < length ws → length (records_in (get_or ws i w)) ≡ reads_in (get_or file i []))
+    → length (flat_map records_in ws) ≡ sum_by reads_in file
+all_count records_in [] [] many each = refl
+all_count records_in [] (w ∷ ws) many each = absurd (omega (arith, many))
+all_count records_in (jobs ∷ file) [] many each = absurd (omega (arith, many))
+all_count records_in (jobs ∷ file) (w ∷ ws) many each =
+    omega (arith, each 0 w (omega arith), all_count records_in file ws (omega (arith, many)) (λ i x within. each (suc i) x (omega (arith, within))), length-append (records_in w) (flat_map records_in ws), more_reads jobs file)
 
 -- so all records of workers that are through have the room that was taken for them
-pub through_count : (d : Domain) (work : Workload) (ws : List Worker) → length ws ≡ workers_of work → AreThrough d work ws → length (all_records ws) ≡ sum_by reads_in work.jobs
-through_count d work ws many through = all_count work.jobs ws many (λ i w within.
-    let t = (through i w within).worked in
-    ap length t.records ∙ deeds.records_count (guard_in d.plan) i 1 (jobs_of work i) (with_share (writes_in (jobs_of work i))) t.deeds t.are)
+pub through_count : {W C : Type 0} (cpu_of : W → C) (ledger_of : C → Ledger) (records_in : W → List Seen) (plan : Plan) (work : Workload) (ws : List W)
+    → length ws ≡ workers_of work
+    → ((i : ℕ) (w : W) → i < length ws → Worked (guard_in plan) i (jobs_of work i) (with_share (writes_in (jobs_of work i))) (ledger_of (cpu_of (get_or ws i w))) [] (records_in (get_or ws i w)))
+    → length (flat_map records_in ws) ≡ sum_by reads_in work.jobs
+through_count cpu_of ledger_of records_in plan work ws many worked = all_count records_in work.jobs ws many (λ i w within.
+    let t = worked i w within in
+    ap length t.records ∙ deeds.records_count (guard_in plan) i 1 (jobs_of work i) (with_share (writes_in (jobs_of work i))) t.deeds t.are)
 
--- what comes of the domain e, which was d, once its workers are through and it is closed
-pub all_outcome : (d e : Domain) (work : Workload) (js : List Entry) (ws : List Worker) (cpus : List Cpu) (rs : List Seen) (closing : List ℕ) → e ≡ d → IsPlanOf work d.plan → length ws ≡ workers_of work → AreThrough d work ws
-    → cpus ≡ map cpu_of ws → rs ≡ all_records ws → IsFinal e.plan cpus js → closing ≡ balances_after e.plan.balances.items js → IsOutcome work js rs closing × UnderLock work rs (map looks_of cpus)
-all_outcome d e work js ws cpus rs closing same of many through are reads ends sums =
-    let final : IsFinal d.plan cpus js = subst (λ (x : Domain). IsFinal x.plan cpus js) same ends in
-    let closes = sums ∙ ap (λ (x : Domain). balances_after x.plan.balances.items js) same in
-    let each = all_told d work js ws cpus are through final in (
-      subst (λ (l : List Seen). IsOutcome work js l closing) (sym reads) (outcome work d.plan of js ws many each cpus closing are final closes),
-      subst (λ (l : List Seen). UnderLock work l (map looks_of cpus)) (sym reads) (under_lock work d.plan of js ws many each cpus are),
+-- what comes of the plan j, which is k, once its workers are through and its domain is closed
+pub all_outcome : {W C : Type 0} (cpu_of : W → C) (ledger_of : C → Ledger) (records_in : W → List Seen) (j k : Plan) (work : Workload) (js : List Entry)
+    (ws : List W) (cpus : List C) (rs : List Seen) (closing : List ℕ) → j ≡ k → Serves work k → length ws ≡ workers_of work
+    → ((i : ℕ) (w : W) → i < length ws → Worked (guard_in k) i (jobs_of work i) (with_share (writes_in (jobs_of work i))) (ledger_of (cpu_of (get_or ws i w))) [] (records_in (get_or ws i w)))
+    → cpus ≡ map cpu_of ws → rs ≡ flat_map records_in ws → IsFinalOf ledger_of j cpus js → closing ≡ balances_after j.balances.items js
+    → IsOutcome work js rs closing × UnderLock work rs (map (λ c. (ledger_of c).looks) cpus)
+all_outcome {C} cpu_of ledger_of records_in j k work js ws cpus rs closing same of many worked are reads ends sums =
+    let final = subst (λ (x : Plan). IsFinalOf ledger_of x cpus js) same ends in
+    let closes = sums ∙ ap (λ (x : Plan). balances_after x.balances.items js) same in
+    let each = all_told cpu_of ledger_of records_in k work js ws cpus are worked final in (
+      subst (λ (l : List Seen). IsOutcome work js l closing) (sym reads) (outcome cpu_of ledger_of records_in work k of js ws many each cpus closing are final closes),
+      subst (λ (l : List Seen). UnderLock work l (map (λ (c : C). (ledger_of c).looks) cpus)) (sym reads) (under_lock cpu_of ledger_of records_in work k of js ws many each cpus are),
     )
+
+-- a queued domain serves the workload of which its plan is
+pub serves : (work : Workload) (plan : Plan) → halts work.mode ≡ false → IsPlanOf work plan → Serves work plan
+serves work plan awake of = record { guard = guard_is work plan awake of; balances = of.balances }

@@ -1,16 +1,14 @@
 -- The plan of a file, its workers before their jobs, and their processors after them.
-use Rattle.std.proofs.Common.{◌≡◌, ◌<◌, ℕ, Some, List, [], ◌∷◌, length, map, get_or, refl, sym, ap, subst, ◌∙◌, arith}
+use Rattle.std.proofs.Common.{◌≡◌, ◌<◌, ℕ, Some, List, [], ◌∷◌, length, map, get_or, sym, ap, subst, ◌∙◌, arith}
 use Rattle.std.proofs.lemmas.List.{length-map, get_or-map as get_or_map_within}
 use Rattle.std.proofs.Math.ListN.{get_or-map}
-use Rattle.std.specs.Prelude.{◌≢◌, slice_get, false}
+use Rattle.std.specs.Prelude.{slice_get, false}
 use Rattle.std.specs.List.{sum}
 use Rattle.std.proofs.lemmas.Option.{slice_get_within, get_or_from_slice_get}
 use Rattle.lk_abs.specs.Jobs.{full}
 use Rattle.lk_abs.specs.ListOf.{ListOf}
 use Rattle.lk_abs.specs.declared.ledger.Job.{Job}
 use Rattle.lk_abs.specs.declared.ledger.Seen.{Seen}
-use Rattle.lk_abs.specs.declared.names.Mode.{Mode}
-use Rattle.lk_abs.specs.declared.names.Mode.TheVariants.{Virt, Native, Cna, Pv}
 use Rattle.lk_abs.specs.Workload.{IsLawful, Workload, jobs_of, workers_of, workload_of}
 use Rattle.lk_abs.specs.declared.job_file.JobFile.{JobFile}
 use Rattle.lk_domain.specs.Calls.{Calls}
@@ -30,19 +28,12 @@ use Rattle.lk_workers.specs.Plans.{IsPlanOf}
 use Rattle.lk_workers.specs.Workers.{AreReady, AreThrough, IsReady, IsThrough, cpu_of, no_records, reads_of}
 use Rattle.lk_workers.specs.declared.worker.Worker.{Worker}
 
--- of the families that a workload can have, none halts its processors
-is_awake : (m : Mode) → m ≢ Pv → halts m ≡ false
-is_awake Virt other = refl
-is_awake Native other = refl
-is_awake Cna other = refl
-is_awake Pv other = absurd (other refl)
-
 -- a domain may be made of the plan of a lawful workload
-pub lawful_plan : (work : Workload) (plan : Plan) → IsLawful work → IsPlanOf work plan → IsLawfulPlan plan
-lawful_plan work plan lawful of =
+pub lawful_plan : (work : Workload) (plan : Plan) → halts work.mode ≡ false → IsLawful work → IsPlanOf work plan → IsLawfulPlan plan
+lawful_plan work plan awake lawful of =
     let cpus : length plan.topology.sockets.items ≡ workers_of work = ap length of.sockets ∙ lawful.each in
     record {
-      awake = ap halts of.mode ∙ is_awake work.mode lawful.mode;
+      awake = ap halts of.mode ∙ awake;
       some = omega (arith, cpus, lawful.some);
       cpus = omega (arith, cpus, lawful.few);
       any = omega (arith, ap length of.locks);
@@ -65,7 +56,7 @@ same_plan work k j same of = record {
 }
 
 -- workers on new processors, with room for their records, are ready
-pub all_ready : (work : Workload) (d : Domain) (cpus : List Cpu) (ws : List Worker) → IsPlanOf work d.plan → AreDealt d cpus → map cpu_of ws ≡ cpus → map reads_of ws ≡ map no_records work.jobs → AreReady d work ws
+pub all_ready : (work : Workload) (d : Domain) (cpus : List Cpu) (ws : List (Worker Cpu)) → IsPlanOf work d.plan → AreDealt d cpus → map cpu_of ws ≡ cpus → map reads_of ws ≡ map no_records work.jobs → AreReady d work ws
 all_ready work d cpus ws of dealt are room i w within =
     let here : get_or cpus i (cpu_of w) ≡ cpu_of (get_or ws i w) = ap (λ (cs : List Cpu). get_or cs i (cpu_of w)) (sym are) ∙ get_or-map cpu_of ws i w in
     let inside : i < length cpus = omega (arith, within, ap length are, length-map ws cpu_of) in
@@ -86,17 +77,17 @@ all_ready work d cpus ws of dealt are room i w within =
     }
 
 -- after their jobs the processors rest
-pub all_rest : (work : Workload) (d : Domain) (cpus : List Cpu) (ws : List Worker) → cpus ≡ map cpu_of ws → AreThrough d work ws → AllRest d cpus
+pub all_rest : (work : Workload) (d : Domain) (cpus : List Cpu) (ws : List (Worker Cpu)) → cpus ≡ map cpu_of ws → AreThrough d work ws → AllRest d cpus
 all_rest work d cpus ws are through i c within =
     at_list ws (λ w below. (through i w below).rests) are (omega (arith, within, ap length are, length-map ws cpu_of))
   where
-    at_list : (l : List Worker) → ((w : Worker) → i < length l → Rests d i (get_or l i w).cpu) → cpus ≡ map cpu_of l → i < length l → Rests d i (get_or cpus i c)
+    at_list : (l : List (Worker Cpu)) → ((w : Worker Cpu) → i < length l → Rests d i (get_or l i w).cpu) → cpus ≡ map cpu_of l → i < length l → Rests d i (get_or cpus i c)
     at_list [] each same below = absurd (omega (arith, below))
     at_list (y ∷ l) each same below =
         subst (Rests d i) (sym (ap (λ (cs : List Cpu). get_or cs i c) same ∙ get_or_map_within cpu_of (y ∷ l) i y c below)) (each y below)
 
 -- a worker that was ready is through after its jobs
-pub is_through : (d : Domain) (jobs all : List Job) (i : ℕ) (old new : Worker) → all ≡ jobs → IsReady d jobs i old → IsSame old.cpu new.cpu → IsIdle new.cpu
+pub is_through : (d : Domain) (jobs all : List Job) (i : ℕ) (old new : Worker Cpu) → all ≡ jobs → IsReady d jobs i old → IsSame old.cpu new.cpu → IsIdle new.cpu
     → Worked (guard_in d.plan) old.cpu.number all (ledger_of old.cpu) (ledger_of new.cpu) old.reads.items new.reads.items → IsThrough d jobs i new
 is_through d jobs all i old new these ready same idle worked = record {
   rests = record {

@@ -1,3 +1,5 @@
 pub mod Plans
 pub mod Workers
 pub mod UnderLock
+pub mod PvWorkers
+pub mod Ended

@@ -1,5 +1,5 @@
 -- Every read and write was made under the lock, as the looks of the processors tell.
-use Rattle.std.specs.Prelude.{◌≡◌, ◌<◌, ◌*◌, ◌==◌, ℕ, List, [], Some, All, filter, length, map}
+use Rattle.std.specs.Prelude.{◌≡◌, ◌<◌, ◌*◌, ◌==◌, ℕ, Bool, true, false, List, [], Some, All, filter, length, replicate}
 use Rattle.std.specs.Prelude.{is_none, is_some, slice_index_or}
 use Rattle.std.specs.List.{AllZip}
 use Rattle.lk_abs.specs.declared.ledger.Job.{Job}
@@ -7,17 +7,23 @@ use Rattle.lk_abs.specs.declared.ledger.Seen.{Seen}
 use Rattle.lk_abs.specs.Workload.{Workload, workers_of, jobs_of}
 use Rattle.lk_domain.specs.Calls.{Terms}
 use Rattle.lk_domain.specs.Ledgers.{Look}
-use Rattle.lk_domain.specs.Seats.{ledger_of}
-use Rattle.lk_domain.specs.declared.cpu.Cpu.{Cpu}
-use Rattle.lk_domain.specs.declared.ending.Closed.{Closed}
+use Rattle.lk_law.specs.Agree.{halts}
 use Rattle.lk_guard.specs.Deeds.{writes_in}
 use Rattle.lk_guard.specs.Guards.{Guard, IsToRead, IsToWrite}
 use Rattle.lk_guard.specs.Reads.{Answers}
 
--- what rows read of a workload, and how its ledger is guarded
+-- What rows read of a workload, and how its ledger is guarded. Where processors halt no row asks for a
+-- socket, and the threshold says for how many turns a waiter spins.
 
-abbrev pub terms_for : Workload → Terms
-terms_for work =
+abbrev pub terms_in : Bool → Workload → Terms
+terms_in true work =
+    record {
+      format = work.format;
+      mode = work.mode;
+      threshold = 32768;
+      sockets = replicate (workers_of work) 0;
+    }
+terms_in false work =
     record {
       format = work.format;
       mode = work.mode;
@@ -25,16 +31,12 @@ terms_for work =
       sockets = work.sockets;
     }
 
+abbrev pub terms_for : Workload → Terms
+terms_for work = terms_in (halts work.mode) work
+
 abbrev pub guard_for : Workload → Guard
 guard_for work =
     record { terms = terms_for work; kind = work.guard; opening = work.balances }
-
--- the looks of a processor, and of all processors at the end of a domain, in order
-abbrev pub looks_of : Cpu → List Look
-looks_of cpu = (ledger_of cpu).looks
-
-abbrev pub looks_in : Closed → List (List Look)
-looks_in closed = map looks_of closed.cpus.value.items
 
 -- the looks in which a version was loaded, and the others
 abbrev pub sights : List Look → List Look

@@ -16,17 +16,17 @@ use Rattle.lk_workers.specs.declared.worker.Worker.{Worker}
 
 -- parts of a worker
 
-abbrev pub cpu_of : Worker → Cpu
+abbrev pub cpu_of : {C : Type 0} → Worker C → C
 cpu_of worker = worker.cpu
 
-abbrev pub reads_of : Worker → ListOf Seen
+abbrev pub reads_of : {C : Type 0} → Worker C → ListOf Seen
 reads_of worker = worker.reads
 
-abbrev pub records_in : Worker → List Seen
+abbrev pub records_in : {C : Type 0} → Worker C → List Seen
 records_in worker = worker.reads.items
 
 -- the records of all workers, one worker after another
-abbrev pub all_records : List Worker → List Seen
+abbrev pub all_records : {C : Type 0} → List (Worker C) → List Seen
 all_records workers = flat_map records_in workers
 
 -- an empty list with room for a record of each job that reads
@@ -35,22 +35,22 @@ no_records jobs = record { items = []; room = reads_in jobs }
 
 -- The worker i of the domain before its jobs: its processor may write an entry for each that writes,
 -- and its list has room for a record of each that reads.
-pub record IsReady (domain : Domain) (jobs : List Job) (i : ℕ) (worker : Worker) : Type 0 where
+pub record IsReady (domain : Domain) (jobs : List Job) (i : ℕ) (worker : Worker Cpu) : Type 0 where
   pub rests : Rests domain i worker.cpu
   pub ledger : ledger_of worker.cpu ≡ with_share (writes_in jobs)
   pub reads : worker.reads ≡ no_records jobs
 
 -- the worker i of the domain after its jobs, which it did in order
-pub record IsThrough (domain : Domain) (jobs : List Job) (i : ℕ) (worker : Worker) : Type 0 where
+pub record IsThrough (domain : Domain) (jobs : List Job) (i : ℕ) (worker : Worker Cpu) : Type 0 where
   pub rests : Rests domain i worker.cpu
   pub worked : Worked (guard_in domain.plan) i jobs (with_share (writes_in jobs))
       (ledger_of worker.cpu) [] worker.reads.items
 
 -- each worker is so, in order of their numbers
-abbrev pub AreReady : Domain → Workload → List Worker → Type 0
-AreReady domain work workers = (i : ℕ) (d : Worker) → i < length workers
+abbrev pub AreReady : Domain → Workload → List (Worker Cpu) → Type 0
+AreReady domain work workers = (i : ℕ) (d : Worker Cpu) → i < length workers
     → IsReady domain (jobs_of work i) i (slice_index_or workers i d)
 
-abbrev pub AreThrough : Domain → Workload → List Worker → Type 0
-AreThrough domain work workers = (i : ℕ) (d : Worker) → i < length workers
+abbrev pub AreThrough : Domain → Workload → List (Worker Cpu) → Type 0
+AreThrough domain work workers = (i : ℕ) (d : Worker Cpu) → i < length workers
     → IsThrough domain (jobs_of work i) i (slice_index_or workers i d)

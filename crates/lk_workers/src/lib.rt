@@ -2,8 +2,11 @@
 #![tactic(auto)]
 
 mod counts;
+mod ended;
 mod making;
+mod pv_worker;
 mod running;
 mod worker;
 
+pub use ended::Ended;
 pub use running::{Outcome, run_jobs};

@@ -1,16 +1,22 @@
 // The jobs of a file are run, and the domain is closed.
-ghost use Rattle.std.specs.Prelude.{◌≡◌, ◌+◌, ◌++◌, ◌≤◌, [], IfOk, length, map};
+ghost use Rattle.std.specs.Prelude.{◌≡◌, ◌+◌, ◌++◌, ◌≤◌, [], IfOk, false, length, map};
 ghost use Rattle.lk_abs.specs.Outcome.{IsOutcome};
 ghost use Rattle.lk_abs.specs.Workload.{IsLawful, workload_of};
-ghost use Rattle.lk_workers.specs.UnderLock.{UnderLock, looks_in};
+ghost use Rattle.lk_abs.specs.declared.names.Mode.TheVariants.{Pv};
+ghost use Rattle.lk_law.specs.Agree.{halts};
+ghost use Rattle.lk_workers.specs.Ended.{IsEndOf, balances_in, journal_in, looks_in};
+ghost use Rattle.lk_workers.specs.UnderLock.{UnderLock};
 ghost use Rattle.lk_workers.specs.Workers.{all_records, cpu_of};
 
 use crate::counts::record_count;
-use crate::making::make;
+use crate::ended::Ended;
+use crate::making::{make, make_pv};
+use crate::pv_worker::run_all as run_all_pv;
 use crate::worker::{Worker, run_all};
-use lk_abs::{JobFile, List, Memory, Seen};
-use lk_domain::{Closed, Cpu, close};
+use lk_abs::{JobFile, List, Memory, Mode, Seen};
+use lk_domain::close;
 use lk_guard::Gate;
+use lk_pvdomain::pv_close;
 use std::alloc::Global;
 use std::sync::Wait;
 use std::thread::Threads;
@@ -19,7 +25,7 @@ use std::thread::Threads;
 #[derive(Drop)]
 pub struct Outcome {
     /// The journal and the closing balances.
-    pub closed: Closed,
+    pub closed: Ended,
     /// The records of the jobs that read, by worker and then by number.
     pub reads: List<Seen>,
 }
@@ -35,7 +41,7 @@ fn append(all: &mut List<Seen>, reads: &[Seen])
 }
 
 // The processors of the workers, and all their records, into lists that have the room.
-fn gather(mut workers: List<Worker>, cpus: &mut List<Cpu>, reads: &mut List<Seen>)
+fn gather<C: Drop>(mut workers: List<Worker<C>>, cpus: &mut List<C>, reads: &mut List<Seen>)
     requires cpus { cpus.old ≡ record { items = []; room = length workers.items } }
     requires reads { reads.old ≡ record { items = []; room = length (all_records workers.items) } }
     ensures cpus { cpus.new.items ≡ map cpu_of workers.items }
@@ -46,6 +52,64 @@ fn gather(mut workers: List<Worker>, cpus: &mut List<Cpu>, reads: &mut List<Seen
         cpus.push(cpu);
         append(reads, seen.as_slice());
     }
+}
+
+// The jobs of a file whose waiters spin.
+fn run_queued<G: Gate, R: Threads + Wait + Sync>(
+    rt: &R,
+    alloc: Global,
+    file: &JobFile,
+    gate: &G,
+) -> Result<Outcome, Memory>
+    requires lawful { IsLawful (workload_of file.now) }
+    requires awake { halts file.now.mode ≡ false }
+    ensures outcome { IfOk result (λ o. IsOutcome (workload_of file.now) (journal_in o.closed)
+        o.reads.items (balances_in o.closed)) }
+    ensures under_lock { IfOk result
+        (λ o. UnderLock (workload_of file.now) o.reads.items (looks_in o.closed)) }
+    ensures end { IfOk result (λ o. IsEndOf file.now o.closed) }
+{
+    let mut cpus = List::new(alloc, file.jobs.len())?;
+    let mut reads = List::new(alloc, record_count(file))?;
+    let (region, mut workers) = make(alloc, file)?;
+    run_all(rt, &region, file, gate, &mut workers);
+    gather(workers, &mut cpus, &mut reads);
+    let Ok(closed) = close(alloc, region.into_domain(), cpus) else {
+        return Err(Memory);
+    };
+    Ok(Outcome {
+        closed: Ended::Queued(closed),
+        reads,
+    })
+}
+
+// The jobs of a file whose waiters halt.
+fn run_pv<G: Gate, R: Threads + Wait + Sync>(
+    rt: &R,
+    alloc: Global,
+    file: &JobFile,
+    gate: &G,
+) -> Result<Outcome, Memory>
+    requires lawful { IsLawful (workload_of file.now) }
+    requires mode { file.now.mode ≡ Pv }
+    ensures outcome { IfOk result (λ o. IsOutcome (workload_of file.now) (journal_in o.closed)
+        o.reads.items (balances_in o.closed)) }
+    ensures under_lock { IfOk result
+        (λ o. UnderLock (workload_of file.now) o.reads.items (looks_in o.closed)) }
+    ensures end { IfOk result (λ o. IsEndOf file.now o.closed) }
+{
+    let mut cpus = List::new(alloc, file.jobs.len())?;
+    let mut reads = List::new(alloc, record_count(file))?;
+    let (region, mut workers) = make_pv(alloc, file)?;
+    run_all_pv(rt, &region, file, gate, &mut workers);
+    gather(workers, &mut cpus, &mut reads);
+    let Ok(closed) = pv_close(alloc, region.into_domain(), cpus) else {
+        return Err(Memory);
+    };
+    Ok(Outcome {
+        closed: Ended::Pv(closed),
+        reads,
+    })
 }
 
 /// Does the jobs of a file, those of each worker in a thread of its own, over one ledger whose
@@ -59,20 +123,14 @@ pub fn run_jobs<G: Gate, R: Threads + Wait + Sync>(
     gate: &G,
 ) -> Result<Outcome, Memory>
     requires lawful { IsLawful (workload_of file.now) }
-    ensures outcome { IfOk result (λ o. IsOutcome (workload_of file.now) o.closed.journal.items
-        o.reads.items o.closed.balances.items) }
+    ensures outcome { IfOk result (λ o. IsOutcome (workload_of file.now) (journal_in o.closed)
+        o.reads.items (balances_in o.closed)) }
     ensures under_lock { IfOk result
         (λ o. UnderLock (workload_of file.now) o.reads.items (looks_in o.closed)) }
-    ensures mode { IfOk result (λ o. o.closed.mode ≡ file.now.mode) }
-    ensures guard { IfOk result (λ o. o.closed.guard ≡ file.now.guard) }
+    ensures end { IfOk result (λ o. IsEndOf file.now o.closed) }
 {
-    let mut cpus = List::new(alloc, file.jobs.len())?;
-    let mut reads = List::new(alloc, record_count(file))?;
-    let (region, mut workers) = make(alloc, file)?;
-    run_all(rt, &region, file, gate, &mut workers);
-    gather(workers, &mut cpus, &mut reads);
-    let Ok(closed) = close(alloc, region.into_domain(), cpus) else {
-        return Err(Memory);
-    };
-    Ok(Outcome { closed, reads })
+    match file.mode {
+        Mode::Pv => run_pv(rt, alloc, file, gate),
+        Mode::Virt | Mode::Native | Mode::Cna => run_queued(rt, alloc, file, gate),
+    }
 }

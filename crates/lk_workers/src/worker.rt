@@ -11,10 +11,10 @@ use std::sync::Wait;
 use std::thread;
 use std::thread::Threads;
 
-/// A processor, and the records of what was read on it.
+/// A processor, of whichever family, and the records of what was read on it.
 #[derive(Drop)]
-pub(crate) struct Worker {
-    pub(crate) cpu: Cpu,
+pub(crate) struct Worker<C> {
+    pub(crate) cpu: C,
     pub(crate) reads: List<Seen>,
 }
 
@@ -25,7 +25,7 @@ fn run_one<G: Gate, R: Wait>(
     file: &JobFile,
     gate: &G,
     index: usize,
-    worker: &mut Worker,
+    worker: &mut Worker<Cpu>,
 )
     requires suits { IsFor (workload_of file.now) region.now.domain }
     requires index { index < workers_of (workload_of file.now) }
@@ -43,7 +43,7 @@ fn run_each<G: Gate, R: Threads + Wait + Sync>(
     region: &Region,
     file: &JobFile,
     gate: &G,
-    workers: &mut [Worker],
+    workers: &mut [Worker<Cpu>],
 )
     requires suits { IsFor (workload_of file.now) region.now.domain }
     requires each { length workers.old ≡ workers_of (workload_of file.now) }
@@ -55,7 +55,7 @@ fn run_each<G: Gate, R: Threads + Wait + Sync>(
         rt,
         workers,
         count,
-        &|index: usize, worker: &mut Worker|
+        &|index: usize, worker: &mut Worker<Cpu>|
             requires { IsFor (workload_of file.now) region.now.domain
                 × (index < workers_of (workload_of file.now))
                 × IsReady region.now.domain (jobs_of (workload_of file.now) index) index worker.now }
@@ -71,7 +71,7 @@ pub(crate) fn run_all<G: Gate, R: Threads + Wait + Sync>(
     region: &Region,
     file: &JobFile,
     gate: &G,
-    workers: &mut List<Worker>,
+    workers: &mut List<Worker<Cpu>>,
 )
     requires suits { IsFor (workload_of file.now) region.now.domain }
     requires each { length workers.old.items ≡ workers_of (workload_of file.now) }

@@ -1,0 +1,77 @@
+// All workers at once, where their processors may halt.
+ghost use Rattle.std.specs.Prelude.{◌≡◌, ◌<◌, length};
+ghost use Rattle.lk_abs.specs.Workload.{jobs_of, workers_of, workload_of};
+ghost use Rattle.lk_workers.specs.Plans.{IsPvFor};
+ghost use Rattle.lk_workers.specs.PvWorkers.{AreReady, AreThrough, IsReady, IsThrough};
+
+use crate::worker::Worker;
+use lk_abs::{JobFile, List};
+use lk_guard::{Gate, PvRegion};
+use lk_pvdomain::PvCpu;
+use std::sync::Wait;
+use std::thread;
+use std::thread::Threads;
+
+// The jobs of one worker.
+fn run_one<G: Gate, R: Wait>(
+    rt: &R,
+    region: &PvRegion,
+    file: &JobFile,
+    gate: &G,
+    index: usize,
+    worker: &mut Worker<PvCpu>,
+)
+    requires suits { IsPvFor (workload_of file.now) region.now.domain }
+    requires index { index < workers_of (workload_of file.now) }
+    requires ready { IsReady region.now.domain (jobs_of (workload_of file.now) index) index
+        worker.old }
+    ensures { IsThrough region.now.domain (jobs_of (workload_of file.now) index) index worker.new }
+{
+    let jobs = file.jobs.get(index);
+    region.work(&mut worker.cpu, rt, jobs, &mut worker.reads, gate);
+}
+
+// The jobs of all workers, each in a thread of its own.
+fn run_each<G: Gate, R: Threads + Wait + Sync>(
+    rt: &R,
+    region: &PvRegion,
+    file: &JobFile,
+    gate: &G,
+    workers: &mut [Worker<PvCpu>],
+)
+    requires suits { IsPvFor (workload_of file.now) region.now.domain }
+    requires each { length workers.old ≡ workers_of (workload_of file.now) }
+    requires ready { AreReady region.now.domain (workload_of file.now) workers.old }
+    ensures through { AreThrough region.now.domain (workload_of file.now) workers.new }
+{
+    let count = workers.len();
+    thread::for_each_mut(
+        rt,
+        workers,
+        count,
+        &|index: usize, worker: &mut Worker<PvCpu>|
+            requires { IsPvFor (workload_of file.now) region.now.domain
+                × (index < workers_of (workload_of file.now))
+                × IsReady region.now.domain (jobs_of (workload_of file.now) index) index worker.now }
+            ensures { IsThrough region.entry.now.domain (jobs_of (workload_of file.entry.now) index)
+                index worker.exit.now }
+        { run_one(rt, region, file, gate, index, worker) },
+    );
+}
+
+/// Does the jobs of all workers, those of each in a thread of its own.
+pub(crate) fn run_all<G: Gate, R: Threads + Wait + Sync>(
+    rt: &R,
+    region: &PvRegion,
+    file: &JobFile,
+    gate: &G,
+    workers: &mut List<Worker<PvCpu>>,
+)
+    requires suits { IsPvFor (workload_of file.now) region.now.domain }
+    requires each { length workers.old.items ≡ workers_of (workload_of file.now) }
+    requires ready { AreReady region.now.domain (workload_of file.now) workers.old.items }
+    ensures each { length workers.new.items ≡ length workers.old.items }
+    ensures through { AreThrough region.now.domain (workload_of file.now) workers.new.items }
+{
+    run_each(rt, region, file, gate, workers.as_mut_slice());
+}
