@@ -8,6 +8,7 @@ use Rattle.lk_stream.specs.Outcome.{refused_fault}
 use Rattle.lk_stream.specs.declared.answers.ReplayFault.{ReplayFault}
 use Rattle.lk_stream.specs.declared.answers.ReplayFault.TheVariants as fault
 use Rattle.lk_job_forms.specs.JobFile.{job_file}
+use Rattle.lk_workers.specs.Ended.{balances_in, journal_in}
 use Rattle.lk_workers.specs.declared.running.Outcome.{Outcome}
 use Rattle.lk_ledger.specs.Outcome.{HasRun, FaultMeans}
 use Rattle.lk_command.specs.Status.{status_at, came_to}
@@ -18,9 +19,9 @@ module _ (old new : Outside) where
   means_of : (answer : Result Outcome ReplayFault) → IfOk answer (HasRun old new)
       → IfErr answer (FaultMeans old new) → LedgerMeans old new (came_to answer)
   means_of (Ok left) done means = (
-    left.closed.journal.items,
+    journal_in left.closed,
     left.reads.items,
-    left.closed.balances.items,
+    balances_in left.closed,
     record {
       comes = record {
         work = done.came.work;

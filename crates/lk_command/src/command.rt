@@ -39,12 +39,15 @@ use std::io::{self, ErrorKind};
 use std::sync::Wait;
 use std::thread::Threads;
 
-// The words behind the program's name.
+// The words behind the program's name. Room for them is asked for once, so that a request that is
+// refused is answered: `collect` would ask again, for less.
 fn words_of(alloc: Global, mut args: Args) -> Result<Vec<String>, Memory>
     ensures { IfOk result (λ words. words.items ≡ drop 1 (into_iter_items args)) }
 {
     let _name = args.next();
-    Ok(args.collect(alloc)?)
+    let mut words = Vec::with_capacity(alloc, args.len())?;
+    words.extend(args)?;
+    Ok(words)
 }
 
 // What the words behind the program's name ask for.
