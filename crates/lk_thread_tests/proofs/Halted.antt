@@ -1,9 +1,9 @@
 -- What the calls of a processor that may halt leave of lock 1.
-use Rattle.std.proofs.Common.{◌≡◌, List, true, false, refl, ap, ◌∙◌}
+use Rattle.std.proofs.Common.{List, ap, ◌∙◌}
 use Rattle.lk_machine.specs.declared.setup.Verb.{Verb}
 use Rattle.lk_domain.specs.Calls.{Hold, holds_in}
-use Rattle.lk_pvdomain.specs.PvCalls.{HasTakenBy, HasMissed, HasFreed, IsResting}
-use Rattle.lk_pvdomain.specs.PvSeats.{IsOf, IsSame, calls_of}
+use Rattle.lk_pvdomain.specs.PvCalls.{HasTakenBy, HasMissed, HasFreed}
+use Rattle.lk_pvdomain.specs.PvSeats.{IsOf, IsSame}
 use Rattle.lk_pvdomain.specs.declared.cpu.PvCpu.{PvCpu}
 use Rattle.lk_pvdomain.specs.declared.domain.PvDomain.{PvDomain}
 use Rattle.lk_pvdomain.proofs.PvSeating.{same_of}

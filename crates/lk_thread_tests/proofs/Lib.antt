@@ -1,2 +1,3 @@
 mod Halted
 mod TakenOff
+mod Written

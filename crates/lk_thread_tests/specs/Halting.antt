@@ -1,8 +1,9 @@
 -- A processor of a test that may halt.
-use Rattle.std.specs.Prelude.{◌≡◌, true, false}
+use Rattle.std.specs.Prelude.{◌≡◌, ◌<◌, ◌≤◌, ℕ, List, true, false, length, slice_index_or}
 use Rattle.lk_domain.specs.Calls.{holds_in}
+use Rattle.lk_guard.specs.Idle.{IsFree}
 use Rattle.lk_pvdomain.specs.PvCalls.{IsResting}
-use Rattle.lk_pvdomain.specs.PvSeats.{IsOf, calls_of}
+use Rattle.lk_pvdomain.specs.PvSeats.{IsOf, calls_of, ledger_of}
 use Rattle.lk_pvdomain.specs.declared.cpu.PvCpu.{PvCpu}
 use Rattle.lk_pvdomain.specs.declared.domain.PvDomain.{PvDomain}
 
@@ -17,3 +18,12 @@ pub record HasOne (domain : PvDomain) (cpu : PvCpu) : Type 0 where
   pub domain_is : IsOf cpu domain
   pub rests : IsResting (calls_of cpu)
   pub held : holds_in (calls_of cpu).holds 1 ≡ true
+
+-- it does nothing, and may write so many entries
+pub record MayWrite (domain : PvDomain) (n : ℕ) (cpu : PvCpu) : Type 0 where
+  pub domain_is : IsOf cpu domain
+  pub free : IsFree cpu
+  pub share : n ≤ (ledger_of cpu).share
+
+abbrev pub AllMayWrite : PvDomain → ℕ → List PvCpu → Type 0
+AllMayWrite domain n cpus = (i : ℕ) (d : PvCpu) → i < length cpus → MayWrite domain n (slice_index_or cpus i d)

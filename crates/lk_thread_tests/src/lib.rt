@@ -12,6 +12,8 @@ mod lock_calls;
 #[cfg(test)]
 mod pv_calls;
 #[cfg(test)]
+mod pv_region;
+#[cfg(test)]
 mod region_calls;
 #[cfg(test)]
 mod rw_calls;

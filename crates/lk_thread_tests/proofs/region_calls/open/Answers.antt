@@ -1,6 +1,5 @@
-use Rattle.std.proofs.Common.{◌≡◌, ◌+◌, ◌∙◌, subst, ap, sym, arith, length}
+use Rattle.std.proofs.Common.{◌≡◌, ◌+◌, ◌∙◌, subst, sym, arith, length}
 use Rattle.lk_domain.specs.Seats.{IsOf}
-use Rattle.lk_domain.specs.declared.domain.Domain.{Domain}
 use Rattle.lk_thread_tests.proofs.TakenOff as off
 use Rattle.lk_thread_tests.proofs.region_calls.open.Goals as goal
 

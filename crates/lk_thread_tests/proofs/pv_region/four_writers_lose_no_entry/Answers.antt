@@ -1,0 +1,12 @@
+use Rattle.lk_thread_tests.proofs.Written.{last_may}
+use Rattle.lk_thread_tests.proofs.pv_region.four_writers_lose_no_entry.Goals as goal
+
+pub read-requires-clause-domain : goal.read-requires-clause-domain
+read-requires-clause-domain g c =
+    (last_may c.in-Ok.region.domain 0 c.add_at_once.new.cpus.items c.pop-reader.new.self.items c.pop-reader.result c.add_at_once.ensures.ready
+    c.pop-reader.ensures.items).domain_is
+
+pub read-requires-clause-free : goal.read-requires-clause-free
+read-requires-clause-free g c =
+    (last_may c.in-Ok.region.domain 0 c.add_at_once.new.cpus.items c.pop-reader.new.self.items c.pop-reader.result c.add_at_once.ensures.ready
+    c.pop-reader.ensures.items).free
