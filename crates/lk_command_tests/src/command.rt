@@ -1,7 +1,7 @@
 // The program's call: the words that it is asked by, its statuses, what it writes, and its notes.
 
 use lk_command::run;
-use lk_guard::OpenGate;
+use lk_guard::{Gate, OpenGate};
 use lk_text::{MemSink, MemSource};
 use std::alloc::{AllocError, Global};
 use std::env::Args;
@@ -13,7 +13,7 @@ use std::thread::Threads;
 
 /// What came of the program's call: the number of its status, what it wrote, and its notes.
 #[derive(Drop)]
-pub struct Outcome {
+pub struct Ran {
     pub status: u8,
     pub text: MemSink,
     pub notes: MemSink,
@@ -29,29 +29,22 @@ pub fn args_of(alloc: Global, words: &str) -> Result<Args, AllocError> {
     Ok(args.into_iter())
 }
 
-// Runs the program's call on an input that comes byte by byte. The read, the write and the note of
-// these numbers fail, 0 for none.
-fn ran_by(
+/// Runs the program's call, whose jobs pass this gate, on an input that comes byte by byte. The read,
+/// the write and the note of these numbers fail, 0 for none.
+pub fn call_with(
     rt: &(impl Abort + AllocGlobal + Threads + Wait + Sync),
     args: io::Result<Args>,
     input: &[u8],
     fails: [u64; 3],
-) -> Result<Outcome, Fail> {
+    gate: &impl Gate,
+) -> Result<Ran, Fail> {
     let alloc = rt.alloc();
     let [read, write, note] = fails;
     let mut source = MemSource::new(alloc, input, 1, &[read])?;
     let mut text = MemSink::new(alloc, 524_288, &[write])?;
     let mut notes = MemSink::new(alloc, 1_000, &[note])?;
-    let status = run(
-        rt,
-        alloc,
-        args,
-        &mut source,
-        &mut text,
-        &mut notes,
-        &OpenGate,
-    );
-    Ok(Outcome {
+    let status = run(rt, alloc, args, &mut source, &mut text, &mut notes, gate);
+    Ok(Ran {
         status: status.number(),
         text,
         notes,
@@ -59,34 +52,35 @@ fn ran_by(
 }
 
 /// Runs what these words ask for.
-pub fn ran(
+pub fn call(
     rt: &(impl Abort + AllocGlobal + Threads + Wait + Sync),
     words: &str,
     input: &[u8],
     fails: [u64; 3],
-) -> Result<Outcome, Fail> {
-    ran_by(rt, Ok(args_of(rt.alloc(), words)?), input, fails)
+) -> Result<Ran, Fail> {
+    let args = args_of(rt.alloc(), words)?;
+    call_with(rt, Ok(args), input, fails, &OpenGate)
 }
 
 /// Sees that a call ended with this status, wrote this text, and noted this.
-pub fn ended(rt: &impl Abort, ran: &Outcome, wanted: (u8, &str, &str)) {
+pub fn ended(rt: &impl Abort, ran: &Ran, wanted: (u8, &str, &str)) {
     let (status, text, note) = wanted;
     assert_eq!(rt; ran.status, status, "of {note}");
     assert_eq!(rt; ran.text.bytes(), text.as_bytes(), "of {note}");
     assert_eq!(rt; ran.notes.bytes(), note.as_bytes());
 }
 
-// The smallest trace.
-const SMALL: &str =
-    "qtrace 1\nmode virt\ncpus 1\nlock 0 spin\nprog 0 lock 0 unlock 0\ngo\nstep 0 2\nend\n";
+/// A trace of one reader.
+pub const TRACE: &str =
+    "qtrace 1\nmode virt\nlock 0 rw\nprog 0 read 0 runlock 0\ngo\nstep 0 2\nend\n";
 
 // Its events.
-const EVENTS: &str = "1 0.0 take 0 fast\n2 0.0 release 0\n";
+const EVENTS: &str = "1 0.0 rtake 0 fast\n2 0.0 rrelease 0\n";
 
 // Its transcript.
-const SMALL_TEXT: &str = "\
-1 0.0 take 0 fast
-2 0.0 release 0
+const TRANSCRIPT: &str = "\
+1 0.0 rtake 0 fast
+2 0.0 rrelease 0
 end 2
 lock_pending 0
 lock_slowpath 0
@@ -123,7 +117,7 @@ type Case = (
 );
 
 const CASES: [Case; 9] = [
-    ("replay", SMALL, [0, 0], (0, SMALL_TEXT, "")),
+    ("replay", TRACE, [0, 0], (0, TRANSCRIPT, "")),
     ("replay", "", [0, 0], (3, "", NO_FORMAT)),
     (
         "replay",
@@ -131,29 +125,29 @@ const CASES: [Case; 9] = [
         [0, 0],
         (3, "", "bad input line 5: Crossed\n"),
     ),
-    ("replay", SMALL, [78, 0], (4, EVENTS, "read fault\n")),
-    ("replay", SMALL, [0, 1], (5, "", "write fault\n")),
+    ("replay", TRACE, [70, 0], (4, EVENTS, "read fault\n")),
+    ("replay", TRACE, [0, 1], (5, "", "write fault\n")),
     ("replay", LONG, [0, 0], (7, "", "limit line 4: Acts\n")),
     ("replay", RUN, [0, 0], (3, "", NO_FORMAT)),
     ("osq", RUN, [0, 0], (0, RUN_TEXT, "")),
-    ("osq", SMALL, [0, 0], (3, "", NO_FORMAT)),
+    ("osq", TRACE, [0, 0], (3, "", NO_FORMAT)),
 ];
 
 #[test]
 fn statuses_and_notes(rt: HostRuntime) -> Result<(), Fail> {
     for (word, input, [read, write], wanted) in CASES {
-        let ran = ran(&rt, word, input.as_bytes(), [read, write, 0])?;
+        let ran = call(&rt, word, input.as_bytes(), [read, write, 0])?;
         ended(&rt, &ran, wanted);
     }
     Ok(())
 }
 
-// The header of the smallest trace with its transcript is lawful. A release without its take is not.
+// The header of the trace with its transcript is lawful. A release without its take is not.
 #[test]
 fn audits_by_the_program(rt: HostRuntime) -> Result<(), Fail> {
-    let (header, _) = SMALL.split_once("step").ok_or("no schedule")?;
-    let lawful = format!(in rt.alloc(); "{header}{SMALL_TEXT}")?;
-    let unlawful = format!(in rt.alloc(); "{header}2 0.0 release 0\n")?;
+    let (header, _) = TRACE.split_once("step").ok_or("no schedule")?;
+    let lawful = format!(in rt.alloc(); "{header}{TRANSCRIPT}")?;
+    let unlawful = format!(in rt.alloc(); "{header}2 0.0 rrelease 0\n")?;
     let table = [
         (lawful.as_str(), [0, 0], (0, "lawful 2\n", "")),
         (lawful.as_str(), [1, 0], (4, "", "read fault\n")),
@@ -161,12 +155,12 @@ fn audits_by_the_program(rt: HostRuntime) -> Result<(), Fail> {
         (
             unlawful.as_str(),
             [0, 0],
-            (8, "breach 7 NotHolder\n", "unlawful line 7\n"),
+            (8, "breach 6 NotHolder\n", "unlawful line 6\n"),
         ),
-        (header, [0, 0], (3, "", "bad input line 7: NoEnd\n")),
+        (header, [0, 0], (3, "", "bad input line 6: NoEnd\n")),
     ];
     for (input, [read, write], wanted) in table {
-        let ran = ran(&rt, "audit", input.as_bytes(), [read, write, 0])?;
+        let ran = call(&rt, "audit", input.as_bytes(), [read, write, 0])?;
         ended(&rt, &ran, wanted);
     }
     Ok(())
@@ -200,7 +194,7 @@ replay x";
 #[test]
 fn words_are_read(rt: HostRuntime) -> Result<(), Fail> {
     for words in NO_COMMANDS.lines() {
-        let ran = ran(&rt, words, SMALL.as_bytes(), [0, 0, 0])?;
+        let ran = call(&rt, words, TRACE.as_bytes(), [0, 0, 0])?;
         ended(&rt, &ran, (2, "", USAGE));
     }
     Ok(())
@@ -210,10 +204,10 @@ fn words_are_read(rt: HostRuntime) -> Result<(), Fail> {
 #[test]
 fn words_that_can_not_be_read(rt: HostRuntime) -> Result<(), Fail> {
     let no_text = Err(io::Error::from(ErrorKind::InvalidData));
-    let ran = ran_by(&rt, no_text, SMALL.as_bytes(), [0, 0, 0])?;
+    let ran = call_with(&rt, no_text, TRACE.as_bytes(), [0, 0, 0], &OpenGate)?;
     ended(&rt, &ran, (2, "", USAGE));
     let no_memory = Err(io::Error::from(ErrorKind::OutOfMemory));
-    let ran = ran_by(&rt, no_memory, SMALL.as_bytes(), [0, 0, 0])?;
+    let ran = call_with(&rt, no_memory, TRACE.as_bytes(), [0, 0, 0], &OpenGate)?;
     ended(&rt, &ran, (6, "", "out of memory\n"));
     Ok(())
 }
@@ -221,7 +215,7 @@ fn words_that_can_not_be_read(rt: HostRuntime) -> Result<(), Fail> {
 // A note that can't be written is left out, and the status stays.
 #[test]
 fn failing_notes(rt: HostRuntime) -> Result<(), Fail> {
-    let ran = ran(&rt, "replay", b"", [0, 0, 1])?;
+    let ran = call(&rt, "replay", b"", [0, 0, 1])?;
     ended(&rt, &ran, (3, "", ""));
     Ok(())
 }

@@ -1,6 +1,6 @@
 // What the program's call makes of the generated trace.
 
-use crate::command::ran;
+use crate::command::call;
 use lk_text::MemSink;
 use std::process::Abort;
 use std::str;
@@ -14,7 +14,7 @@ fn written(
     words: &str,
     input: &[u8],
 ) -> Result<MemSink, Fail> {
-    let ran = ran(rt, words, input, [0, 0, 0])?;
+    let ran = call(rt, words, input, [0, 0, 0])?;
     assert_eq!(rt; ran.status, 0, "of {words}");
     Ok(ran.text)
 }
@@ -58,7 +58,7 @@ fn gen_and_load_of_seven(rt: HostRuntime) -> Result<(), Fail> {
 fn failing_writes(rt: HostRuntime) -> Result<(), Fail> {
     let trace = written(&rt, "gen 7", b"")?;
     for (words, write) in [("gen 7", 1), ("gen 7", 2), ("gen 7", 100), ("load 7", 1)] {
-        let ran = ran(&rt, words, b"", [0, write, 0])?;
+        let ran = call(&rt, words, b"", [0, write, 0])?;
         assert_eq!(rt; ran.status, 5, "of {words} at {write}");
         assert!(rt; ran.notes.bytes() == b"write fault\n".as_slice());
         assert!(rt;

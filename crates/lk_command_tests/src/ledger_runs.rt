@@ -1,6 +1,6 @@
 // The word `ledger`: job files over sources and sinks in memory.
 
-use crate::command::{ended, ran};
+use crate::command::{call, ended};
 use std::process::Abort;
 use std::str;
 use std::sync::Wait;
@@ -11,7 +11,7 @@ use std::thread::Threads;
 type Case = (&'static str, (u8, &'static str, &'static str));
 
 // Job files of one worker, done or refused.
-const CASES: [Case; 11] = [
+const CASES: [Case; 12] = [
     (
         "qjobs 1\nmode virt\naccounts 9223372036854775807\njob 0 add 0 1\nend",
         (
@@ -39,8 +39,12 @@ const CASES: [Case; 11] = [
         (3, "", "bad input line 4: UnknownWord\n"),
     ),
     (
-        "qjobs 1\nmode pv\nend\n",
+        "qjobs 1\nmode mcs\nend\n",
         (3, "", "bad input line 2: UnknownWord\n"),
+    ),
+    (
+        "qjobs 1\nmode pv\nguard rw\nend\n",
+        (3, "", "bad input line 3: WrongLock\n"),
     ),
     (
         "qjobs 1\nmode virt\nguard try\nend\n",
@@ -59,20 +63,21 @@ const CASES: [Case; 11] = [
 #[test]
 fn files_of_one_worker(rt: HostRuntime) -> Result<(), Fail> {
     for (file, wanted) in CASES {
-        let ran = ran(&rt, "ledger", file.as_bytes(), [0, 0, 0])?;
+        let ran = call(&rt, "ledger", file.as_bytes(), [0, 0, 0])?;
         ended(&rt, &ran, wanted);
     }
     Ok(())
 }
 
-// The modes of a job file, with the kinds of its lock.
-const FAMILIES: [(&str, &str); 6] = [
+/// The modes of a job file, with the kinds of its lock.
+pub const FAMILIES: [(&str, &str); 7] = [
     ("virt", "spin"),
     ("virt", "rw"),
     ("native", "spin"),
     ("native", "rw"),
     ("cna", "spin"),
     ("cna", "rw"),
+    ("pv", "spin"),
 ];
 
 // A file of one worker behind its mode and its lock, and its one outcome.
@@ -103,13 +108,13 @@ end 3 2
 fn one_outcome_in_each_mode(rt: HostRuntime) -> Result<(), Fail> {
     for (mode, kind) in FAMILIES {
         let file = format!(in rt.alloc(); "qjobs 1\nmode {mode}\nguard {kind}\n{JOBS}")?;
-        let ran = ran(&rt, "ledger", file.as_bytes(), [0, 0, 0])?;
+        let ran = call(&rt, "ledger", file.as_bytes(), [0, 0, 0])?;
         ended(&rt, &ran, (0, OUTCOME, ""));
     }
     Ok(())
 }
 
-// Four workers, on two sockets, each of which adds one.
+// Four workers, each of which adds one.
 const FOUR: &str = "\
 job 0 add 0 1
 job 1 add 0 1
@@ -117,26 +122,40 @@ job 2 add 0 1
 job 3 add 0 1
 ";
 
-// Each worker adds one a thousand times, under a lock of `cna` with this threshold.
-fn all_add(
-    rt: &(impl Abort + AllocGlobal + Threads + Wait + Sync),
-    threshold: u32,
-) -> Result<(), Fail> {
+// The family of their lock: `cna` on two sockets, with a threshold, and one whose waiters halt.
+const HEADERS: [&str; 3] = [
+    "mode cna\nworkers 4\nsockets 0 1 0 1\nthreshold 1",
+    "mode cna\nworkers 4\nsockets 0 1 0 1\nthreshold 0",
+    "mode pv\nworkers 4",
+];
+
+// Each worker adds one a thousand times.
+#[test]
+fn a_sum_of_four_workers(rt: HostRuntime) -> Result<(), Fail> {
     let alloc = rt.alloc();
     let jobs = FOUR.repeat(alloc, 1_000)?;
-    let header = "qjobs 1\nmode cna\nworkers 4\nsockets 0 1 0 1";
-    let file = format!(in alloc; "{header}\nthreshold {threshold}\naccounts 0\n{jobs}end\n")?;
-    let ran = ran(rt, "ledger", file.as_bytes(), [0, 0, 0])?;
-    assert_eq!(rt; ran.status, 0);
-    let text = str::from_utf8(ran.text.bytes())?;
-    assert!(rt; text.ends_with("\nbalance 0 4000\nend 4000 0\n"));
+    for header in HEADERS {
+        let file = format!(in alloc; "qjobs 1\n{header}\naccounts 0\n{jobs}end\n")?;
+        let ran = call(&rt, "ledger", file.as_bytes(), [0, 0, 0])?;
+        assert_eq!(rt; ran.status, 0);
+        let text = str::from_utf8(ran.text.bytes())?;
+        assert!(rt;
+            text.ends_with("\nbalance 0 4000\nend 4000 0\n"),
+            "of {header}"
+        );
+    }
     Ok(())
 }
 
+// One job more than a file may have is refused at its line, and nothing is written.
 #[test]
-fn a_sum_of_four_workers(rt: HostRuntime) -> Result<(), Fail> {
-    all_add(&rt, 1)?;
-    all_add(&rt, 0)
+fn one_job_too_many(rt: HostRuntime) -> Result<(), Fail> {
+    let alloc = rt.alloc();
+    let jobs = "job 0 sum\n".repeat(alloc, 100_001)?;
+    let file = format!(in alloc; "qjobs 1\nmode virt\n{jobs}end\n")?;
+    let ran = call(&rt, "ledger", file.as_bytes(), [0, 0, 0])?;
+    ended(&rt, &ran, (7, "", "limit line 100003: Jobs\n"));
+    Ok(())
 }
 
 // A file of 22 bytes is read byte by byte: each of its reads fails in turn, and the one that finds
@@ -145,17 +164,17 @@ fn a_sum_of_four_workers(rt: HostRuntime) -> Result<(), Fail> {
 fn failing_calls(rt: HostRuntime) -> Result<(), Fail> {
     let file = b"qjobs 1\nmode virt\nend\n";
     for read in 1..24 {
-        let ran = ran(&rt, "ledger", file, [read, 0, 0])?;
+        let ran = call(&rt, "ledger", file, [read, 0, 0])?;
         ended(&rt, &ran, (4, "", "read fault\n"));
     }
     ended(
         &rt,
-        &ran(&rt, "ledger", file, [24, 0, 0])?,
+        &call(&rt, "ledger", file, [24, 0, 0])?,
         (0, "end 0 0\n", ""),
     );
     ended(
         &rt,
-        &ran(&rt, "ledger", file, [0, 1, 0])?,
+        &call(&rt, "ledger", file, [0, 1, 0])?,
         (5, "", "write fault\n"),
     );
     Ok(())

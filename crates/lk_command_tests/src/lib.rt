@@ -5,6 +5,8 @@
 #[cfg(test)]
 mod command;
 #[cfg(test)]
+mod full_sinks;
+#[cfg(test)]
 mod generated;
 #[cfg(test)]
 mod ledger_runs;

@@ -2,13 +2,12 @@
 ghost use Rattle.std.specs.Prelude.{IfSome};
 ghost use Rattle.lk_abs.specs.Workload.{IsLawful, workload_of};
 
-use crate::command::args_of;
+use crate::command::{args_of, call_with};
+use crate::ledger_runs::FAMILIES;
 use lk_abs::{JobFile, Reply};
-use lk_command::run;
 use lk_guard::{Gate, OpenGate};
 use lk_job_forms::JobReader;
-use lk_text::{MemSink, MemSource};
-use lk_workers::run_jobs;
+use lk_workers::{Outcome, run_jobs};
 use std::alloc::Global;
 use std::process::Abort;
 use std::sync::Wait;
@@ -121,6 +120,18 @@ fn file_of(alloc: Global, lines: &str, jobs: &str, times: u32) -> Option<JobFile
     }
 }
 
+// Runs the jobs of such a file, which pass this gate.
+fn run_file(
+    rt: &(impl Abort + AllocGlobal + Threads + Wait + Sync),
+    lines: &str,
+    jobs: &str,
+    times: u32,
+    gate: &impl Gate,
+) -> Result<Outcome, Fail> {
+    let file = file_of(rt.alloc(), lines, jobs, times).ok_or("refused")?;
+    Ok(run_jobs(rt, rt.alloc(), &file, gate)?)
+}
+
 // Two workers that move amounts, the first thrice and the second twice.
 const TWO: &str = "\
 job 0 move 0 1 1
@@ -137,11 +148,6 @@ balance 1 4
 end 5 0
 ";
 
-// The modes of a job file, and the kinds of its lock.
-const MODES: [&str; 3] = ["virt", "native", "cna"];
-
-const KINDS: [&str; 2] = ["spin", "rw"];
-
 // Runs both with a gate at which they meet.
 fn meet(
     rt: &(impl Abort + AllocGlobal + Threads + Wait + Sync),
@@ -150,11 +156,8 @@ fn meet(
 ) -> Result<(), Fail> {
     let alloc = rt.alloc();
     let lines = format!(in alloc; "qjobs 1\nmode {mode}\nguard {kind}\nworkers 2\naccounts 5 5")?;
-    let file = file_of(alloc, lines.as_str(), TWO, 1).ok_or("refused")?;
     let gate = Meeting::new();
-    let Ok(outcome) = run_jobs(rt, alloc, &file, &gate) else {
-        return Err("no memory".into());
-    };
+    let outcome = run_file(rt, lines.as_str(), TWO, 1, &gate)?;
     gate.check(rt);
     let journal = outcome.closed.journal();
     assert_eq!(rt; journal.len(), 5);
@@ -168,42 +171,24 @@ fn meet(
 // So both run at once, and each job is done between the two passes of its gate.
 #[test]
 fn two_workers_meet(rt: HostRuntime) -> Result<(), Fail> {
-    for mode in MODES {
-        for kind in KINDS {
-            meet(&rt, mode, kind)?;
-        }
+    for (mode, kind) in FAMILIES {
+        meet(&rt, mode, kind)?;
     }
     Ok(())
 }
 
-// Runs the word `ledger` with such a gate, which is the one that it hands on.
-fn meet_in_a_ledger(rt: &(impl Abort + AllocGlobal + Threads + Wait + Sync)) -> Result<(), Fail> {
-    let alloc = rt.alloc();
-    let file = format!(in alloc; "qjobs 1\nmode native\nworkers 2\naccounts 5 5\n{TWO}\nend\n")?;
-    let mut source = MemSource::new(alloc, file.as_bytes(), 4_096, &[])?;
-    let mut sink = MemSink::new(alloc, 1_000, &[])?;
-    let mut notes = MemSink::new(alloc, 1_000, &[])?;
-    let gate = Meeting::new();
-    let args = args_of(alloc, "ledger")?;
-    let status = run(
-        rt,
-        alloc,
-        Ok(args),
-        &mut source,
-        &mut sink,
-        &mut notes,
-        &gate,
-    );
-    assert_eq!(rt; status.number(), 0);
-    gate.check(rt);
-    let text = str::from_utf8(sink.bytes()).ok().ok_or("no text")?;
-    assert!(rt; text.ends_with(ENDS));
-    Ok(())
-}
-
+// The word `ledger` hands such a gate on.
 #[test]
 fn a_ledger_passes_its_gate(rt: HostRuntime) -> Result<(), Fail> {
-    meet_in_a_ledger(&rt)
+    let alloc = rt.alloc();
+    let file = format!(in alloc; "qjobs 1\nmode native\nworkers 2\naccounts 5 5\n{TWO}\nend\n")?;
+    let gate = Meeting::new();
+    let args = args_of(alloc, "ledger")?;
+    let ran = call_with(&rt, Ok(args), file.as_bytes(), [0, 0, 0], &gate)?;
+    assert_eq!(rt; ran.status, 0);
+    gate.check(&rt);
+    assert!(rt; str::from_utf8(ran.text.bytes())?.ends_with(ENDS));
+    Ok(())
 }
 
 // Two workers that move amounts between two accounts, and two that read the sum of both.
@@ -220,10 +205,7 @@ fn read_beside(
 ) -> Result<(), Fail> {
     let alloc = rt.alloc();
     let lines = format!(in alloc; "qjobs 1\nmode {mode}\nguard rw\nworkers 4\naccounts 5 5")?;
-    let file = file_of(alloc, lines.as_str(), FOUR, 500).ok_or("refused")?;
-    let Ok(outcome) = run_jobs(rt, alloc, &file, &OpenGate) else {
-        return Err("no memory".into());
-    };
+    let outcome = run_file(rt, lines.as_str(), FOUR, 500, &OpenGate)?;
     assert_eq!(rt; outcome.closed.journal().len(), 1_000);
     assert_eq!(rt; outcome.reads.len(), 1_000);
     for seen in outcome.reads.as_slice() {
@@ -234,7 +216,7 @@ fn read_beside(
 
 #[test]
 fn readers_beside_writers(rt: HostRuntime) -> Result<(), Fail> {
-    for mode in MODES {
+    for mode in ["virt", "native", "cna"] {
         read_beside(&rt, mode)?;
     }
     Ok(())

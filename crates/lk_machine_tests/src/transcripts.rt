@@ -4,21 +4,41 @@ use crate::runs::{EVERY_OUTCOME, RUNS};
 use crate::slowed::{has_only_steps, is_slow, slowed};
 use crate::traces::{CNA, PV, QUEUE, RW, VIRT};
 use lk_osq_replay::osq;
-use lk_replay::replay;
+use lk_replay::{ReplayFault, Summary, replay};
 use lk_text::{MemSink, SureSource};
+use std::alloc::Global;
 use std::process::Abort;
 use std::str;
 use std::test::Fail;
 
-// What is written for a trace, or for a run, that comes in pieces of so many bytes.
-fn written(rt: &(impl Abort + AllocGlobal), input: &str, chunk: usize) -> Result<MemSink, Fail> {
-    let alloc = rt.alloc();
-    let mut source = SureSource::new(alloc, input.as_bytes(), chunk.max(1))?;
+// What `replay` answers of a trace that comes in pieces of so many bytes, and the sink after it.
+fn replayed(
+    alloc: Global,
+    trace: &str,
+    chunk: usize,
+) -> Result<(Result<Summary, ReplayFault>, MemSink), Fail> {
+    let mut source = SureSource::new(alloc, trace.as_bytes(), chunk.max(1))?;
     let mut sink = MemSink::new(alloc, 100_000, &[])?;
-    let is_done = if input.contains("qosq 1\n") {
-        osq(alloc, &mut source, &mut sink).is_ok()
+    let answer = replay(alloc, &mut source, &mut sink);
+    Ok((answer, sink))
+}
+
+// What `osq` answers of a run of the spin queue, and the sink after it.
+fn obeyed(alloc: Global, run: &str) -> Result<(Result<u64, ReplayFault>, MemSink), Fail> {
+    let mut source = SureSource::new(alloc, run.as_bytes(), 5)?;
+    let mut sink = MemSink::new(alloc, 100_000, &[])?;
+    let answer = osq(alloc, &mut source, &mut sink);
+    Ok((answer, sink))
+}
+
+// What is written for a trace, or for a run, that is done.
+fn written(rt: &(impl Abort + AllocGlobal), input: &str, chunk: usize) -> Result<MemSink, Fail> {
+    let (is_done, sink) = if input.contains("qosq 1\n") {
+        let (answer, sink) = obeyed(rt.alloc(), input)?;
+        (answer.is_ok(), sink)
     } else {
-        replay(alloc, &mut source, &mut sink).is_ok()
+        let (answer, sink) = replayed(rt.alloc(), input, chunk)?;
+        (answer.is_ok(), sink)
     };
     assert!(rt; is_done, "at {input}");
     Ok(sink)
@@ -62,9 +82,8 @@ fn worked_traces(rt: HostRuntime) -> Result<(), Fail> {
 #[test]
 fn a_summary(rt: HostRuntime) -> Result<(), Fail> {
     let (trace, _) = QUEUE.split_once("---\n").ok_or("no trace")?;
-    let mut source = SureSource::new(rt.alloc(), trace.as_bytes(), 1_000)?;
-    let mut sink = MemSink::new(rt.alloc(), 1_000, &[])?;
-    let summary = replay(rt.alloc(), &mut source, &mut sink)?;
+    let (answer, _sink) = replayed(rt.alloc(), trace, 1_000)?;
+    let summary = answer?;
     assert!(rt; summary.acts == 9 && summary.events == 4);
     assert!(rt; summary.counts.lock_pending == 1 && summary.counts.lock_slowpath == 0);
     Ok(())
