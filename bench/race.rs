@@ -1,6 +1,10 @@
-// The locks of `lk_run` in plain Rust, over atomic words and by the same steps, and the Mutex and the RwLock of std: to compare the
-// speed of `lk_race`, whose words and answers these are. `bench/race.py` compiles and runs it.
+// The locks of `lk_run` and `lk_pvdomain` in plain Rust, over atomic words and by the same steps, and the Mutex and the RwLock of std:
+// to compare the speed of `lk_race`, whose words and answers these are. `bench/race.py` compiles and runs it.
 // race virt|native|cna|std spin|rw THREADS TURNS WORK
+// race pv spin THREADS TURNS WORK [SPINS]
+mod race_pv;
+
+use race_pv::Paravirtual;
 use std::hint::spin_loop;
 use std::sync::atomic::{AtomicU64, Ordering::SeqCst};
 use std::sync::{Mutex, RwLock};
@@ -472,13 +476,15 @@ fn main() {
     let words: Vec<String> = std::env::args().collect();
     let [_, mode, kind, rest @ ..] = &words[..] else { panic!("no mode and kind") };
     let numbers: Vec<u32> = rest.iter().map(|word| word.parse().unwrap()).collect();
-    let [threads, turns, work] = numbers[..] else { panic!("three numbers") };
+    let [threads, turns, work, ref spins @ ..] = numbers[..] else { panic!("three numbers") };
+    let spins = spins.first().copied().unwrap_or(32768);
     let work = work as u16;
     let word = Word::default();
     match (mode.as_str(), kind.as_str()) {
         ("virt", "spin") => run(Alone(TestAndSet::default()), false, threads, turns, work),
         ("native", "spin") => run(Alone(Queue::<false>::new(threads)), false, threads, turns, work),
         ("cna", "spin") => run(Alone(Queue::<true>::new(threads)), false, threads, turns, work),
+        ("pv", "spin") => run(Alone(Paravirtual::new(threads, spins)), false, threads, turns, work),
         ("std", "spin") => run(Mutex::new(()), false, threads, turns, work),
         ("virt", "rw") => run(Shared { word, wait: TestAndSet::default() }, true, threads, turns, work),
         ("native", "rw") => run(Shared { word, wait: Queue::<false>::new(threads) }, true, threads, turns, work),

@@ -6,19 +6,26 @@
 //! compares them as a reader in 99 turns of a hundred. At the end the numbers are told, and to
 //! standard error the time that the turns took.
 //!
+//! `lk_race pv spin THREADS TURNS WORK [SPINS]` does so with a lock whose waiters halt: each spins
+//! for so many turns, or 32,768, and then sleeps until it is kicked.
+//!
 //! It is a whole program over running locks: a plan, the domain that is made of it with its
 //! processors, the calls, and the end of the domain.
 #![tactic(auto)]
 
+mod course;
 mod numbers;
 mod plan;
+mod pv_race;
 mod race;
 mod words;
 
 use lk_abs::Memory;
 use lk_domain::{Domain, close};
+use lk_pvdomain::{PvDomain, pv_close};
 use numbers::Numbers;
-use plan::plan_of;
+use plan::{plan_of, pv_plan_of};
+use pv_race::{PvRace, take_all_pv_turns};
 use race::{Race, take_all_turns};
 use std::io;
 use std::process::ExitCode;
@@ -26,7 +33,7 @@ use std::rt::Clock;
 use std::sync::Wait;
 use std::thread::Threads;
 use std::time::{Duration, Instant};
-use words::race_of;
+use words::{Asked, race_of};
 
 // The status of a race whose numbers are wrong, or of which nothing came.
 const WRONG: u8 = 1;
@@ -34,16 +41,26 @@ const WRONG: u8 = 1;
 // The status of words that are not those of a race.
 const USAGE: u8 = 2;
 
-// What came of a race.
+// What came of a race, and what both numbers have to be.
 #[derive(Drop)]
 struct Outcome {
+    turns: u64,
+    wanted: u64,
     numbers: (u64, u64),
     were_one: bool,
     time: io::Result<Duration>,
 }
 
-// The race, from the plan of its domain to the domain's end.
-fn carry_out<R: Threads + Wait + Sync + AllocGlobal + Clock>(
+// The time since the start, if there is a clock.
+fn time_since(rt: &impl Clock, start: io::Result<Instant>) -> io::Result<Duration> {
+    match start {
+        Ok(start) => start.elapsed(rt),
+        Err(why) => Err(why),
+    }
+}
+
+// The race of waiters that spin, from the plan of its domain to the domain's end.
+fn spin<R: Threads + Wait + Sync + AllocGlobal + Clock>(
     rt: &R,
     race: &Race,
 ) -> Result<Outcome, Memory> {
@@ -52,12 +69,11 @@ fn carry_out<R: Threads + Wait + Sync + AllocGlobal + Clock>(
     let numbers = Numbers::new();
     let start = Instant::now(rt);
     take_all_turns(rt, &domain, &numbers, race, &mut cpus);
-    let time = match start {
-        Ok(start) => start.elapsed(rt),
-        Err(why) => Err(why),
-    };
+    let time = time_since(rt, start);
     match close(rt.alloc(), domain, cpus) {
         Ok(_) => Ok(Outcome {
+            turns: race.course.all_turns(),
+            wanted: race.course.changes(race.writes()),
             numbers: numbers.read(),
             were_one: numbers.were_one(),
             time,
@@ -66,27 +82,68 @@ fn carry_out<R: Threads + Wait + Sync + AllocGlobal + Clock>(
     }
 }
 
+// The race of waiters that halt.
+fn halt<R: Threads + Wait + Sync + AllocGlobal + Clock>(
+    rt: &R,
+    race: &PvRace,
+) -> Result<Outcome, Memory> {
+    let plan = pv_plan_of(rt.alloc(), race)?;
+    let (domain, mut cpus) = PvDomain::new(rt.alloc(), &plan)?;
+    let numbers = Numbers::new();
+    let start = Instant::now(rt);
+    take_all_pv_turns(rt, &domain, &numbers, race, &mut cpus);
+    let time = time_since(rt, start);
+    match pv_close(rt.alloc(), domain, cpus) {
+        Ok(_) => Ok(Outcome {
+            turns: race.course.all_turns(),
+            wanted: race.course.changes(race.course.turns),
+            numbers: numbers.read(),
+            were_one: numbers.were_one(),
+            time,
+        }),
+        Err(_) => Err(Memory),
+    }
+}
+
+// The race for which the words ask.
+fn carry_out<R: Threads + Wait + Sync + AllocGlobal + Clock>(
+    rt: &R,
+    asked: &Asked,
+) -> Result<Outcome, Memory> {
+    match asked {
+        Asked::Spins(race) => spin(rt, race),
+        Asked::Halts(race) => halt(rt, race),
+    }
+}
+
 // Tells what came of a race, and whether the numbers are what they have to be.
-fn tell(rt: &(impl Print + Eprint), race: &Race, outcome: Outcome) -> io::Result<bool> {
+fn tell(rt: &(impl Print + Eprint), outcome: Outcome) -> io::Result<bool> {
     let (first, second) = outcome.numbers;
-    let right = outcome.were_one && first == race.changes() && second == race.changes();
-    println!(rt; "turns {}", race.all_turns())?;
+    let right = outcome.were_one && first == outcome.wanted && second == outcome.wanted;
+    println!(rt; "turns {}", outcome.turns)?;
     println!(rt; "numbers {first} {second}")?;
     println!(rt; "{}", if right { "right" } else { "wrong" })?;
     eprintln!(rt; "{} microseconds", outcome.time?.as_micros())?;
     Ok(right)
 }
 
+// How the program is called.
+fn tell_usage(rt: &impl Eprint) -> io::Result<()> {
+    eprintln!(rt; "usage: lk_race virt|native|cna spin|rw THREADS TURNS WORK")?;
+    eprintln!(rt; "       lk_race pv spin THREADS TURNS WORK [SPINS]")?;
+    Ok(())
+}
+
 fn main(rt: HostRuntime) -> io::Result<ExitCode> {
-    let Some(race) = race_of(&rt) else {
-        eprintln!(rt; "usage: lk_race virt|native|cna spin|rw THREADS TURNS WORK")?;
+    let Some(asked) = race_of(&rt) else {
+        tell_usage(&rt)?;
         return Ok(ExitCode::from(USAGE));
     };
-    let Ok(outcome) = carry_out(&rt, &race) else {
+    let Ok(outcome) = carry_out(&rt, &asked) else {
         eprintln!(rt; "there is not enough memory")?;
         return Ok(ExitCode::from(WRONG));
     };
-    if tell(&rt, &race, outcome)? {
+    if tell(&rt, outcome)? {
         Ok(ExitCode::SUCCESS)
     } else {
         Ok(ExitCode::from(WRONG))

@@ -1,10 +1,13 @@
-// The plan of the domain.
+// The plans of the domains.
 ghost use Rattle.std.specs.Prelude.{◌≡◌, ◌≤◌, IfOk, length};
 ghost use Rattle.lk_domain.specs.Plans.{IsLawfulPlan, cpus_of, kind_at, locks_of};
+ghost use Rattle.lk_pvdomain.specs.PvPlans.{IsLawful};
 
+use crate::pv_race::PvRace;
 use crate::race::Race;
 use lk_abs::{Format, List, Memory, Topology};
 use lk_domain::Plan;
+use lk_pvdomain::PvPlan;
 use std::alloc::Global;
 
 // How many handovers may pass a waiter of the other socket by.
@@ -25,7 +28,7 @@ fn sockets(alloc: Global, threads: u32) -> Result<List<u32>, Memory>
 /// accounts, and so no processor may write an entry.
 pub fn plan_of(alloc: Global, race: &Race) -> Result<Plan, Memory>
     ensures lawful { IfOk result (λ plan. IsLawfulPlan plan) }
-    ensures cpus { IfOk result (λ plan. cpus_of plan ≡ race.now.threads) }
+    ensures cpus { IfOk result (λ plan. cpus_of plan ≡ race.now.course.threads) }
     ensures locks { IfOk result (λ plan. locks_of plan ≡ 1) }
     ensures kind { IfOk result (λ plan. kind_at plan 0 ≡ race.now.kind) }
 {
@@ -33,11 +36,28 @@ pub fn plan_of(alloc: Global, race: &Race) -> Result<Plan, Memory>
         format: Format::One,
         mode: race.mode,
         topology: Topology {
-            sockets: sockets(alloc, race.threads)?,
+            sockets: sockets(alloc, race.course.threads)?,
         },
         threshold: THRESHOLD,
         locks: List::filled(alloc, race.kind, 1)?,
         balances: List::new(alloc, 0)?,
-        shares: List::filled(alloc, 0, race.threads as usize)?,
+        shares: List::filled(alloc, 0, race.course.threads as usize)?,
+    })
+}
+
+/// One lock whose waiters halt after so many turns as the race says, and a processor for each thread. The
+/// ledger has no accounts, and so no processor may write an entry.
+pub fn pv_plan_of(alloc: Global, race: &PvRace) -> Result<PvPlan, Memory>
+    ensures lawful { IfOk result (λ plan. IsLawful plan) }
+    ensures cpus { IfOk result (λ plan. length plan.shares.items ≡ race.now.course.threads) }
+    ensures locks { IfOk result (λ plan. plan.locks ≡ 1) }
+    ensures spins { IfOk result (λ plan. plan.spins ≡ race.now.spins) }
+{
+    Ok(PvPlan {
+        format: Format::One,
+        spins: u32::from(race.spins),
+        locks: 1,
+        balances: List::new(alloc, 0)?,
+        shares: List::filled(alloc, 0, race.course.threads as usize)?,
     })
 }

@@ -1,10 +1,11 @@
-// A race: each processor takes the lock in turns of its own.
-ghost use Rattle.std.specs.Prelude.{◌≡◌, ◌≤◌, ◌*◌, false, length};
+// A race whose waiters spin: each processor takes the lock in turns of its own.
+ghost use Rattle.std.specs.Prelude.{◌≡◌, false, length};
 ghost use Rattle.lk_abs.specs.declared.names.Kind.TheVariants.{Spin, Rw};
 ghost use Rattle.lk_law.specs.Agree.{halts};
 ghost use Rattle.lk_domain.specs.Ends.{AllRest, Rests};
 ghost use Rattle.lk_domain.specs.Plans.{kind_at, locks_of};
 
+use crate::course::Course;
 use crate::numbers::Numbers;
 use lk_abs::{Kind, List, Mode};
 use lk_domain::{Cpu, Domain, LockId};
@@ -19,43 +20,25 @@ const LOCK: LockId = LockId { index: 0 };
 // Of so many turns under a reader-writer lock the last is a writer's.
 const HUNDRED: u32 = 100;
 
-/// What is done in a race.
+/// A race over a lock whose waiters spin.
 #[derive(Clone, Copy)]
 pub struct Race {
     /// The mode of the lock.
     pub mode: Mode,
     /// Its kind.
     pub kind: Kind,
-    /// How many threads there are, each with a processor.
-    pub threads: u32,
-    /// How often each of them takes the lock.
-    pub turns: u32,
-    /// How often the numbers are changed or compared in a turn.
-    pub work: u16,
+    /// What its threads do.
+    pub course: Course,
     ghost awake: { halts mode ≡ false },
-    ghost some: { 1 ≤ threads },
-    ghost few: { threads ≤ 64 },
 }
 
 impl Race {
-    /// How often all threads take the lock.
-    pub fn all_turns(&self) -> u64
-        ensures { result ≡ self.now.threads * self.now.turns }
-    {
-        u64::from(self.threads) * u64::from(self.turns)
-    }
-
-    // In how many of its turns each of them changes the numbers.
-    fn writes(&self) -> u32 {
+    /// In how many of its turns each thread changes the numbers.
+    pub fn writes(&self) -> u32 {
         match self.kind {
-            Kind::Spin => self.turns,
-            Kind::Rw => self.turns / HUNDRED,
+            Kind::Spin => self.course.turns,
+            Kind::Rw => self.course.turns / HUNDRED,
         }
-    }
-
-    /// What both numbers are at the end, if nobody else held the lock where one held it alone.
-    pub fn changes(&self) -> u64 {
-        u64::from(self.threads) * u64::from(self.writes()) * u64::from(self.work)
     }
 }
 
@@ -67,8 +50,8 @@ fn take_turns<R: Wait>(cpu: &mut Cpu, rt: &R, domain: &Domain, numbers: &Numbers
     requires rests { Rests domain.now cpu.old.number cpu.old }
     ensures rests { Rests domain.now cpu.old.number cpu.new }
 {
-    let work = race.work;
-    for _ in 0..race.turns {
+    let work = race.course.work;
+    for _ in 0..race.course.turns {
         lock(cpu, rt, domain, LOCK, &mut NoIrq);
         numbers.change(work);
         unlock(cpu, domain, LOCK);
@@ -110,11 +93,12 @@ fn share_turns<R: Wait>(cpu: &mut Cpu, rt: &R, domain: &Domain, numbers: &Number
     requires rests { Rests domain.now cpu.old.number cpu.old }
     ensures rests { Rests domain.now cpu.old.number cpu.new }
 {
-    for turn in 0..race.turns {
+    let work = race.course.work;
+    for turn in 0..race.course.turns {
         if turn % HUNDRED < HUNDRED - 1 {
-            read_turn(cpu, rt, domain, numbers, race.work);
+            read_turn(cpu, rt, domain, numbers, work);
         } else {
-            write_turn(cpu, rt, domain, numbers, race.work);
+            write_turn(cpu, rt, domain, numbers, work);
         }
     }
 }

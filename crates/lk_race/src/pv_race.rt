@@ -1,0 +1,92 @@
+// A race whose waiters halt: each processor takes the lock in turns of its own.
+ghost use Rattle.std.specs.Prelude.{◌≡◌, ◌≤◌, length};
+ghost use Rattle.lk_domain.specs.Plans.{locks_of};
+ghost use Rattle.lk_pvdomain.specs.PvSeats.{AllRest, AreDealt, IsDealt, Rests};
+ghost use Rattle.lk_race.specs.Halting.{HasIt, IsReady};
+
+use crate::course::Course;
+use crate::numbers::Numbers;
+use lk_abs::List;
+use lk_domain::LockId;
+use lk_pvdomain::{PvCpu, PvDomain, pv_lock, pv_unlock};
+use std::sync::Wait;
+use std::thread;
+use std::thread::Threads;
+
+// The one lock of the domain.
+const LOCK: LockId = LockId { index: 0 };
+
+/// A race over a lock whose waiters halt.
+#[derive(Clone, Copy)]
+pub struct PvRace {
+    /// For how many turns a waiter spins before it halts.
+    pub spins: u16,
+    /// What its threads do.
+    pub course: Course,
+    ghost some: { 1 ≤ spins },
+}
+
+// Takes the lock.
+fn take<R: Wait>(cpu: &mut PvCpu, rt: &R, domain: &PvDomain)
+    requires one { locks_of domain.now.plan ≡ 1 }
+    requires ready { IsReady domain.now cpu.old.number cpu.old }
+    ensures has { HasIt domain.now cpu.old.number cpu.new }
+{
+    pv_lock(cpu, rt, domain, LOCK);
+}
+
+// Frees it.
+fn give_back<R: Wait>(cpu: &mut PvCpu, rt: &R, domain: &PvDomain)
+    requires one { locks_of domain.now.plan ≡ 1 }
+    requires has { HasIt domain.now cpu.old.number cpu.old }
+    ensures ready { IsReady domain.now cpu.old.number cpu.new }
+{
+    pv_unlock(cpu, rt, domain, LOCK);
+}
+
+// All turns of a processor: it has the lock from `take` to `give_back`, and nothing in between two turns.
+fn take_turns<R: Wait>(cpu: &mut PvCpu, rt: &R, domain: &PvDomain, numbers: &Numbers, race: &PvRace)
+    requires one { locks_of domain.now.plan ≡ 1 }
+    requires ready { IsReady domain.now cpu.old.number cpu.old }
+    ensures ready { IsReady domain.now cpu.old.number cpu.new }
+{
+    let work = race.course.work;
+    for _ in 0..race.course.turns {
+        take(cpu, rt, domain);
+        numbers.change(work);
+        give_back(cpu, rt, domain);
+    }
+}
+
+// All turns of a new processor.
+fn take_part<R: Wait>(cpu: &mut PvCpu, rt: &R, domain: &PvDomain, numbers: &Numbers, race: &PvRace)
+    requires one { locks_of domain.now.plan ≡ 1 }
+    requires new { IsDealt domain.now cpu.old.number cpu.old }
+    ensures rests { Rests domain.now cpu.old.number cpu.new }
+{
+    take_turns(cpu, rt, domain, numbers, race);
+}
+
+/// All processors, which are new, take their turns at once, each on a thread of its own.
+pub fn take_all_pv_turns<R: Threads + Wait + Sync>(
+    rt: &R,
+    domain: &PvDomain,
+    numbers: &Numbers,
+    race: &PvRace,
+    cpus: &mut List<PvCpu>,
+)
+    requires one { locks_of domain.now.plan ≡ 1 }
+    requires dealt { AreDealt domain.now cpus.old.items }
+    ensures all { length cpus.new.items ≡ length cpus.old.items }
+    ensures rest { AllRest domain.now cpus.new.items }
+{
+    let count = cpus.len();
+    if count > 0 {
+        thread::for_each_mut(
+            rt,
+            cpus.as_mut_slice(),
+            count,
+            &|_, cpu| { take_part(cpu, rt, domain, numbers, race) },
+        );
+    }
+}
