@@ -121,17 +121,24 @@ class Maker:
         trace.acts = list(self.acts(trace))
         return trace
 
+    def extended(self, begun):
+        """A trace that begins with the acts of another one."""
+        trace = begun.copy()
+        trace.acts += list(self.acts(begun))
+        return trace
+
     def acts(self, trace):
-        """Bursts of one processor's steps, of a mean length that is drawn for the whole trace, and other acts between them."""
+        """Bursts of one processor's steps, of a mean length that is drawn for the whole trace, and other acts between them. They come
+        behind the acts that the trace has."""
         mean = self.random.choice([1, 2, 4, 8])
-        left = {cpu: len(handlers) for cpu, handlers in trace.handlers.items()}
-        paused = set()
+        left = {cpu: len(handlers) - trace.acts.count(("int", cpu)) for cpu, handlers in trace.handlers.items()}
+        paused = set(cpu for cpu in range(trace.cpus) if trace.acts.count(("pre", cpu)) > trace.acts.count(("res", cpu)))
         count = 0
-        most = self.options.acts or 30 * trace.cpus + 20 * sum(left.values())
+        most = self.options.acts or 30 * trace.cpus + 20 * sum(map(len, trace.handlers.values()))
         while count < most:
             cpu = self.random.randrange(trace.cpus)
             burst = [("step", cpu)] * (1 + int(self.random.expovariate(1 / mean)))
-            if left.get(cpu) and self.random.random() < 0.35:
+            if left.get(cpu, 0) > 0 and self.random.random() < 0.35:
                 left[cpu] -= 1
                 burst.append(("int", cpu))
             if self.options.preempt and self.random.random() < 0.08:

@@ -6,7 +6,7 @@ import sys
 
 LINE = re.compile(r"(\d+)(?:-(\d+))? (\d+\.\d+) (.*?)(?:: (.*))?$")
 LINK_ROWS = ("G10", "C1", "E14")
-ROUNDS, TURNS = 3, 300
+ROUNDS, TURNS = 3, 100
 
 
 def program(variable, crate):
@@ -84,12 +84,26 @@ class Count:
 
 class Stuck:
     """A queue head that polls for a link which nobody will store: its own node is the tail, and nothing changes any more however
-    often everybody goes on. That more turns would change nothing is not proved: each processor gets some rounds of many turns."""
+    often everybody goes on. That more turns would change nothing is not proved: each processor gets some rounds of many turns.
+
+    The one way to it that is known needs a waiter without a node, which sets the pending bit while a head is about to claim the lock
+    as one alone (docs/rows/queue.md, G10). The levels are the steps of that way; a trace that has not all of them is not looked at."""
+
+    HIGHEST = 11
 
     def __init__(self, programs):
         self.programs = programs
 
+    def level(self, trace):
+        """How far along that way the trace gets, and by which act."""
+        way, best = Way(), (0, 0)
+        for line in self.programs.steps(trace.text()) or []:
+            best = max(best, (way.after(*parts(line)), -parts(line)[1]))
+        return best[0], -best[1]
+
     def act(self, trace):
+        if self.level(trace)[0] < self.HIGHEST:
+            return None
         rounds = [f"step {cpu} {TURNS}" for cpu in range(trace.cpus)] * ROUNDS
         wakes = [f"res {cpu}" for cpu in range(trace.cpus)]
         lines = self.programs.steps(trace.text([*wakes, *rounds]))
@@ -106,3 +120,44 @@ class Stuck:
                 tails[words[2]] = words[-1].strip("()").split(",")[0]
         polled = [deed.split() for _, _, _, deed, _ in ends if deed.split()[0] in LINK_ROWS]
         return any(words[-1].endswith(",0)") and words[2] in tails.values() for words in polled)
+
+
+class Way:
+    """How far the acts so far have led to a head that waits for nobody. Levels 1 to 4 are the nodes of one processor that are in use,
+    each by the context of its number, so that there are contexts left.
+    Behind them a waiter of that processor, which will find no node, meets the lock held alone and will set the pending bit (5); then
+    somebody else sets it (6), a head queues (7) and sees the free word (8); the waiter sets the bit (9), and the claim of the head
+    fails (10); the waiter takes the bit back and finds no node (11)."""
+
+    def __init__(self):
+        self.nodes, self.bare = {}, {}
+
+    def after(self, _first, _last, who, deed, _event):
+        row, kind, name, met, *stored = deed.split()[:6] if len(deed.split()) > 3 else [deed.split()[0], "", "", ""]
+        cpu = who.split(".")[0]
+        if kind == "nodes":
+            self.nodes[name] = int(stored[1] if stored else met)
+            if row == "G1" and int(met) >= 4 and who in self.bare and self.bare[who][1] == 10:
+                return 11
+            self.bare.pop(who, None)
+            return self.nodes[name] if who == f"{name}.{met}" else 0
+        if kind == "lock":
+            return self.on_lock(row, name, met.strip("()").split(","), bool(stored), who, cpu)
+        return 0
+
+    def on_lock(self, row, name, met, is_stored, who, cpu):
+        if row in ("F1", "P0") and self.nodes.get(cpu, 0) == 4 and met == ["0", "0", "1"]:
+            self.bare[who] = [name, 5]
+            return 5
+        if row == "P1" and who in self.bare:
+            self.bare[who][1] = 9 if self.bare[who][1] == 8 and met[0] != "0" else 0
+            return self.bare[who][1]
+        if row == "P2" and who in self.bare:
+            return self.bare[who][1]
+        steps = {"P1": (5, met[1] == "0"), "G4": (6, met[0] == "0"), "G7": (7, met[1:] == ["0", "0"]), "G8": (9, not is_stored)}
+        level, is_one = steps.get(row, (0, False))
+        found = 0
+        for waits in self.bare.values():
+            if waits[0] == name and waits[1] == level and is_one:
+                waits[1] = found = level + 1
+        return found
