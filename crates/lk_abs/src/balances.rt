@@ -80,8 +80,8 @@ fn add(balances: &mut List<u64>, account: u32, amount: u64) -> Reply
     Reply::Done
 }
 
-/// Does a job on the balances, by account, and gives its reply. `Short` and `Full` change nothing.
-/// It takes no memory.
+/// Does a job on the balances, which stand in the order of their accounts, and returns its reply.
+/// A reply `Short` or `Full` means that no balance changed. The function takes no memory.
 #[tactic(auto, using(crate::proofs::Sums::small_after))]
 pub fn apply(balances: &mut List<u64>, job: Job) -> Reply
     requires accounts { IsAmong (length balances.old.items) job }

@@ -6,31 +6,31 @@ ghost use Rattle.lk_abs.specs.Breaches.{is_by_front};
 use crate::list::List;
 use crate::names::{LockName, Waiter};
 
-/// How a spinlock was taken.
+/// How a spinlock was acquired: the last word of the event `take`.
 #[derive(Clone, Copy, Debug, PartialEq, Eq)]
 pub enum How {
-    /// By the first exchange of a `lock`.
+    /// By the first compare-and-swap of a `lock`, on the fast path.
     Fast,
-    /// By the exchange of a `try`.
+    /// By the compare-and-swap of a `try`.
     Try,
-    /// By the waiter that had set the pending bit.
+    /// By the waiter that had set the pending bit, when the holder before it released.
     Pending,
     /// By the test-and-set loop of mode `virt`.
     Virt,
-    /// By the last look before a waiter joins the queue.
+    /// By the compare-and-swap that a waiter makes once more before it joins the queue.
     Retry,
-    /// By a waiter that has no node left.
+    /// By a waiter whose processor had no queue node left. It polls the word and does not queue.
     NoNode,
-    /// By a paravirtual waiter that passes the queue by.
+    /// By a waiter in mode `pv` that acquires the free lock past its queue.
     Steal,
-    /// By the front of the queue, with others behind it.
+    /// By the queue head, in a step that leaves the tail in the word.
     Head,
-    /// By the front of the queue, alone in it.
+    /// By the queue head, in the compare-and-swap that also empties the queue.
     Sole,
 }
 
 impl How {
-    /// Whether only the front of the queue takes so.
+    /// Whether only the queue head acquires so.
     pub(crate) fn is_by_front(self) -> bool
         ensures { result ≡ is_by_front self }
     {
@@ -38,32 +38,32 @@ impl How {
     }
 }
 
-/// How a reader-writer lock was taken.
+/// How a reader-writer lock was acquired: the last word of the events `rtake` and `wtake`.
 #[derive(Clone, Copy, Debug, PartialEq, Eq)]
 pub enum RwHow {
-    /// By the first step.
+    /// By the first step, on the fast path.
     Fast,
-    /// By a reader in an interrupt, which waits for the writer alone.
+    /// By a reader in an interrupt, which waits for the writer and not for the queue.
     Irq,
     /// By the holder of the wait lock.
     Queued,
-    /// By a try.
+    /// By a `tryread` or a `trywrite`.
     Try,
 }
 
 /// What an event says.
 #[derive(Clone, Copy, Debug, PartialEq, Eq)]
 pub enum What {
-    /// A spinlock is taken.
+    /// A waiter acquires a spinlock.
     Take {
         lock: LockName,
         how: How,
     },
-    /// A try fails.
+    /// A try fails, on a lock of either kind.
     Miss {
         lock: LockName,
     },
-    /// A spinlock is released; `owing` is the processor that is owed a kick.
+    /// A waiter releases a spinlock. If `owing` names a processor, the release must also kick it.
     Release {
         lock: LockName,
         owing: Option<u32>,
@@ -76,21 +76,22 @@ pub enum What {
     Arrive {
         lock: LockName,
     },
-    /// The front hands the lead to `to`, after it moved so many waiters to the second queue.
+    /// The queue head hands off to `to`. Before that it moved this many waiters to the secondary
+    /// queue.
     Pass {
         lock: LockName,
         to: Waiter,
         moved: u32,
     },
-    /// The second queue returns before the rest of the main one.
+    /// The secondary queue returns in front of the rest of the main queue.
     Flush {
         lock: LockName,
     },
-    /// The second queue returns as the rest of the main one, which was empty.
+    /// The secondary queue returns as the rest of the main queue, which was empty.
     Promote {
         lock: LockName,
     },
-    /// The front, which holds the lock, leaves the queue empty.
+    /// The queue head, which holds the lock, leaves the queue and nobody stays in it.
     Leave {
         lock: LockName,
     },
@@ -102,32 +103,32 @@ pub enum What {
     Wake {
         lock: LockName,
     },
-    /// A handler begins.
+    /// An interrupt handler begins. If its processor had halted, the halt ends.
     Int,
-    /// A halt ends without a kick.
+    /// A halt ends without a kick: the hypervisor woke the processor for reasons of its own.
     Nudge,
-    /// A reader takes a reader-writer lock.
+    /// A reader acquires a reader-writer lock.
     RTake {
         lock: LockName,
         how: RwHow,
     },
-    /// A reader releases.
+    /// A reader releases a reader-writer lock.
     RRelease {
         lock: LockName,
     },
-    /// A writer takes a reader-writer lock.
+    /// A writer acquires a reader-writer lock.
     WTake {
         lock: LockName,
         how: RwHow,
     },
-    /// A writer releases.
+    /// A writer releases a reader-writer lock.
     WRelease {
         lock: LockName,
     },
 }
 
 impl What {
-    /// The lock that the event is on, if it is on one.
+    /// The lock that the event names; none for `kick`, `int` and `nudge`.
     pub fn lock(self) -> Option<LockName>
         ensures { result ≡ lock_of self }
     {
@@ -151,16 +152,16 @@ impl What {
     }
 }
 
-/// One event of a history.
+/// One event of a history: one line of a transcript without the number of its act.
 #[derive(Clone, Copy, Debug, PartialEq, Eq)]
 pub struct Event {
-    /// Whose step it was.
+    /// The waiter that made the step.
     pub by: Waiter,
     /// What happened.
     pub what: What,
 }
 
-/// What a schedule does to a machine; each names its processor.
+/// What one line of a schedule does to a machine. Each act names its processor.
 #[derive(Clone, Copy, Debug, PartialEq, Eq)]
 pub enum Act {
     /// The processor makes its next step.
@@ -169,67 +170,68 @@ pub enum Act {
     Interrupt(u32),
     /// The processor is preempted.
     Preempt(u32),
-    /// The processor goes on.
+    /// The preempted processor goes on.
     Resume(u32),
-    /// A halt of the processor ends.
+    /// A halt of the processor ends without a kick.
     Nudge(u32),
 }
 
 /// The queues of one lock.
 #[derive(Drop)]
 pub struct Lists {
-    /// The main queue, its front first.
+    /// The main queue, beginning with the queue head.
     pub main: List<Waiter>,
-    /// The second queue, which holds the waiters that were moved aside.
+    /// The secondary queue: the waiters that were moved aside, the first moved first.
     pub second: List<Waiter>,
-    /// For each waiter of the second queue the handovers since its move.
+    /// For each waiter of the secondary queue, the number of handoffs since it was moved.
     pub passes: List<u32>,
 }
 
 /// Why a history with one more event is not lawful.
 #[derive(Clone, Copy, Debug, PartialEq, Eq)]
 pub enum Breach {
-    /// A lock is taken beside a holder with which it cannot be shared.
+    /// A lock is acquired while it has a holder with which it cannot be shared.
     Beside {
         lock: LockName,
         held_by: Waiter,
         by: Waiter,
     },
-    /// A lock is released or handed on by a waiter that does not hold it so.
+    /// A lock is released or handed off by a waiter that does not hold it in that manner.
     NotHolder {
         lock: LockName,
         by: Waiter,
     },
-    /// A waiter that stands in a queue of the lock, or holds it, arrives, takes or releases.
+    /// A waiter that stands in a queue of the lock arrives, releases, or acquires in another way
+    /// than a queue head does; or a waiter that holds the lock arrives.
     Twice {
         lock: LockName,
         by: Waiter,
     },
-    /// Another than the front does what only the front may do.
+    /// A waiter that is not the queue head does what only the queue head may do.
     WrongHead {
         lock: LockName,
         first: Option<Waiter>,
         by: Waiter,
     },
-    /// More waiters are moved aside than is lawful.
+    /// A handoff moves more waiters aside than is lawful.
     WrongMove {
         lock: LockName,
         moved: u32,
         lawful: u32,
     },
-    /// The lead goes to another than the next.
+    /// A handoff goes to a waiter that is not the successor.
     WrongNext {
         lock: LockName,
         first: Option<Waiter>,
         named: Waiter,
     },
-    /// A moved waiter has seen more handovers than the threshold.
+    /// A moved waiter has been passed by more handoffs than the threshold.
     OverThreshold {
         lock: LockName,
         waiter: Waiter,
         passes: u32,
     },
-    /// The front of a free lock sleeps, and its processor is owed no kick.
+    /// The queue head of a free lock has halted, and its processor has no kick pending.
     NoKick {
         lock: LockName,
         waiter: Waiter,

@@ -7,11 +7,11 @@ use crate::names::Waiter;
 /// How a lock is held: a spinlock, or a reader-writer lock as a reader or as the writer.
 #[derive(Clone, Copy, Debug, PartialEq, Eq)]
 pub enum Manner {
-    /// A spinlock is held.
+    /// A waiter holds a spinlock.
     Spins,
-    /// A reader holds.
+    /// A reader holds a reader-writer lock.
     Reads,
-    /// The writer holds.
+    /// The writer holds a reader-writer lock.
     Writes,
 }
 
@@ -27,8 +27,8 @@ impl Manner {
 /// A holder of a lock.
 #[derive(Clone, Copy, Debug, PartialEq, Eq)]
 pub struct Holder {
-    /// Who holds.
+    /// The waiter that holds.
     pub waiter: Waiter,
-    /// In what manner.
+    /// How it holds.
     pub manner: Manner,
 }

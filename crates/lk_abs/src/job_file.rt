@@ -7,16 +7,16 @@ use crate::names::{Format, Kind, Mode, Topology};
 /// What a job file says.
 #[derive(Drop)]
 pub struct JobFile {
-    /// The format, which says how the lock's word is laid out, and whom a front of `cna` may move
-    /// aside.
+    /// The format. It says how the lock's word is laid out, and which waiters a queue head of mode
+    /// `cna` may move aside.
     pub format: Format,
-    /// The family of the lock: one whose waiters spin.
+    /// The lock family.
     pub mode: Mode,
     /// The kind of the one lock.
     pub guard: Kind,
     /// The socket of each worker.
     pub topology: Topology,
-    /// How many handovers a waiter that stands aside may see.
+    /// The threshold of mode `cna`: the most handoffs that may pass a moved waiter.
     pub threshold: u32,
     /// The opening balance of each account.
     pub balances: List<u64>,

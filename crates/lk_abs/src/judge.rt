@@ -17,8 +17,8 @@ use crate::rulebook::Rulebook;
 use std::alloc::Global;
 use std::marker::Model;
 
-/// Judges histories event by event. Contracts see the rules that it goes by, for each lock what the
-/// events so far say of it, and what they say of halts and kicks.
+/// Judges histories event by event. Contracts see its rules, for each lock what the events so far
+/// say of it, and what they say of halts and kicks.
 #[derive(Drop)]
 pub struct Judge {
     rules: Rulebook,
@@ -52,9 +52,13 @@ fn silent_locks(alloc: Global, locks: usize, waiters: usize) -> Result<List<Lock
 impl Judge {
     ghost use Rattle.lk_abs.specs.Judge.{IsDeclared, IsInRange, history_at, table_breach, breach_of, Events, TellsLocks, TakesOne, HasTaken};
 
-    /// A judge that has taken no event, for a format, a lock family, the sockets of up to 1,024
-    /// processors, the most handovers that may pass a waiter by, and the declared locks. It takes
-    /// all its memory here.
+    /// A judge that has taken no event. It is made for a format, a lock family, the sockets of up
+    /// to 1,024 processors, the threshold in handoffs (at most 65,535), and up to 32 declared
+    /// locks. It takes all its memory here.
+    ///
+    /// # Errors
+    ///
+    /// There is not enough memory.
     pub fn new(
         alloc: Global,
         format: Format,
@@ -93,12 +97,15 @@ impl Judge {
         })
     }
 
-    /// Judges one event after those that were taken before, fewer than 2^63. `Ok` says that the
-    /// history with this event is lawful, and that the event is taken; a breach names the first
-    /// clause that it breaks. After `NoKick`, which is found last, the event is told; after any
-    /// other breach the judge is as it was. A judge that answered a breach is asked no more. It
-    /// takes no memory, since a waiter that stands in a queue does not arrive again, so that no
-    /// queue is longer than there are waiters.
+    /// Judges one more event, after fewer than 2^63 events. `Ok` says that the history with this
+    /// event is lawful, and that the event is taken. The call takes no memory: a waiter that
+    /// stands in a queue does not arrive again, so no queue is longer than there are waiters.
+    ///
+    /// # Errors
+    ///
+    /// The first clause that the event breaks. `NoKick` is looked for last, and after it the event
+    /// is taken; after any other breach the judge is as it was. Ask a judge that has answered a
+    /// breach no more.
     pub fn take(&mut self, event: &Event) -> Result<(), Breach>
         requires { IsInRange self.old event.now }
         ensures verdict { result_err result ≡ breach_of self.old event.now }
@@ -138,7 +145,7 @@ impl Judge {
         }
     }
 
-    /// The breach that the front of the lock of that number is left asleep, if it is.
+    /// The breach that the queue head of this lock has halted without a pending kick, if so.
     fn left_asleep(&self, place: usize) -> Option<Breach>
         requires { place < length self.now.locks }
         ensures { let lock = lock_at place in
@@ -155,7 +162,8 @@ impl Judge {
         }
     }
 
-    /// The first of the locks, by number, whose front is left asleep.
+    /// The breach of the first lock, by number, whose queue head has halted without a pending
+    /// kick.
     fn no_kick(&self) -> Option<Breach>
         ensures { let locks = locks_from 0 (length self.now.locks) in
             result ≡ no_kick (state_of self.now.kicks) (history_at self.now) locks }
@@ -169,7 +177,7 @@ impl Judge {
         None
     }
 
-    /// In `pv`, the first of the locks, by number, whose front is left asleep.
+    /// The same, in mode `pv`; none in the other modes.
     fn unkicked(&self) -> Option<Breach>
         ensures { let kicks = state_of self.now.kicks in
             result ≡ unkicked self.now.rules.mode kicks (history_at self.now)

@@ -10,10 +10,10 @@ ghost use Rattle.lk_abs.specs.Judge.{Events};
 use crate::events::Event;
 use crate::names::{Format, LockName, Mode, Waiter};
 
-/// The judge is exact: a lawful history with one event more on a lock is lawful exactly where the
-/// event breaks no clause of the table and, in the paravirtual lock, leaves no front of a free lock
-/// asleep that is owed no kick; and with one event more on no lock it is lawful exactly where the
-/// event leaves no such front.
+/// The judge is exact. A lawful history with one more event on a lock is lawful exactly if the
+/// event breaks no clause of the table and, in mode `pv`, leaves no queue head of a free lock
+/// halted without a pending kick. With one more event on no lock it is lawful exactly if the event
+/// leaves no such queue head.
 pub fn judge_is_exact()
     ensures on_a_lock { (rules : Rules) (es : Events) (e : Event) (l : LockName)
         → IsLawful rules es
@@ -32,7 +32,7 @@ pub fn judge_is_exact()
         → (no_kick (kicks_of es) (λ l. history_of l es) ls ≡ None) ↔ All (FrontIsOwed es) ls }
 {}
 
-/// In the second format a lawful history moves only tasks aside, and no waiter in an interrupt.
+/// In format 2 a lawful history moves only tasks aside, and no waiter in an interrupt.
 pub fn aside_are_tasks()
     ensures { (rules : Rules) (es : Events) (l : LockName)
         → IsLawful rules es

@@ -1,9 +1,9 @@
 // Jobs on a ledger, and what is written of them.
 
-/// A job on the accounts of a ledger.
+/// A job on the accounts of a ledger. Accounts are numbered from 0.
 #[derive(Clone, Copy, Debug, PartialEq, Eq)]
 pub enum Job {
-    /// Moves an amount between two accounts.
+    /// Moves an amount from one account to another.
     Move { from: u32, to: u32, amount: u64 },
     /// Adds an amount to an account.
     Add { account: u32, amount: u64 },
@@ -13,16 +13,16 @@ pub enum Job {
     Get { account: u32 },
 }
 
-/// What came of a job.
+/// The reply to a job.
 #[derive(Clone, Copy, Debug, PartialEq, Eq)]
 pub enum Reply {
-    /// It was done.
+    /// The job is done.
     Done,
-    /// The account has less than the amount; nothing was done.
+    /// The balance is less than the amount, so nothing was done.
     Short,
-    /// The sum would reach 2^63; nothing was done.
+    /// The sum of all balances would reach 2^63, so nothing was done.
     Full,
-    /// The amount that was asked for.
+    /// The sum or the balance that the job asked for.
     Amount(u64),
 }
 
@@ -39,14 +39,14 @@ pub struct Entry {
     pub reply: Reply,
 }
 
-/// The record of a job that reads.
+/// The record of a job that only reads.
 #[derive(Clone, Copy, Debug, PartialEq, Eq)]
 pub struct Seen {
     /// The worker, from 0.
     pub worker: u32,
     /// The number of the worker's job, from 1.
     pub number: u32,
-    /// How many entries of the journal it saw.
+    /// How many entries the journal had when the job read.
     pub version: u64,
     /// The job.
     pub job: Job,

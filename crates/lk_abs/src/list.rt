@@ -7,8 +7,8 @@ use crate::memory::Memory;
 use std::alloc::Global;
 use std::marker::Model;
 
-/// Items in order, in room that is taken when the list is made. Contracts see the items and the
-/// room; no call changes the room.
+/// A list whose memory is taken when it is made. Contracts see its items and its room, which is
+/// the most items that it can hold. No call changes the room.
 #[derive(Drop)]
 pub struct List<T> {
     items: Vec<T>,
@@ -29,7 +29,11 @@ impl<T> Model for List<T> {
 impl<T> List<T> {
     ghost use Rattle.lk_abs.specs.ListLends.{LendsItem, LendsItems};
 
-    /// An empty list with this room, which is taken at once.
+    /// An empty list with room for so many items.
+    ///
+    /// # Errors
+    ///
+    /// There is not enough memory.
     pub fn new(alloc: Global, room: usize) -> Result<List<T>, Memory>
         ensures { IfOk result (λ list. list ≡ record { items = []; room = room }) }
     {
@@ -37,7 +41,7 @@ impl<T> List<T> {
         Ok(List { items, room })
     }
 
-    /// Appends an item.
+    /// Appends an item. There must be room for it.
     pub fn push(&mut self, item: T)
         requires { length self.old.items < self.old.room }
         ensures { self.new ≡ record self.old { items = self.old.items ++ item ∷ [] } }
@@ -48,7 +52,7 @@ impl<T> List<T> {
         }
     }
 
-    /// Takes the last item off.
+    /// Removes the last item and returns it.
     pub fn pop(&mut self) -> T
         requires { 0 < length self.old.items }
         ensures items { self.old.items ≡ self.new.items ++ result ∷ [] }
@@ -60,7 +64,7 @@ impl<T> List<T> {
         }
     }
 
-    /// Takes the first item off, and moves the others up by one place.
+    /// Removes the first item and returns it. The other items move one place towards the front.
     pub fn pop_front(&mut self) -> T
         requires { 0 < length self.old.items }
         ensures items { self.old.items ≡ result ∷ self.new.items }
@@ -70,7 +74,8 @@ impl<T> List<T> {
         self.pop()
     }
 
-    /// Takes the item at a place out, and moves the later ones up by one place.
+    /// Removes the item at this place and returns it. The later items move one place towards the
+    /// front.
     pub fn remove(&mut self, at: usize) -> T
         requires { at < length self.old.items }
         ensures item { slice_get self.old.items at ≡ Some result }
@@ -79,7 +84,8 @@ impl<T> List<T> {
         self.items.remove(at)
     }
 
-    /// Puts an item in front, and moves the others down by one place.
+    /// Inserts an item at the front. The other items move one place towards the end. There must be
+    /// room for it.
     pub fn push_front(&mut self, item: T)
         requires { length self.old.items < self.old.room }
         ensures { self.new ≡ record self.old { items = item ∷ self.old.items } }
@@ -88,14 +94,14 @@ impl<T> List<T> {
         self.as_mut_slice().rotate_right(1);
     }
 
-    /// How many items there are.
+    /// The number of items.
     pub fn len(&self) -> usize
         ensures { result ≡ length self.now.items }
     {
         self.items.len()
     }
 
-    /// The item at a place.
+    /// The item at this place, counted from 0.
     pub fn get(&self, at: usize) -> &T
         requires { at < length self.now.items }
         ensures { slice_get self.now.items at ≡ Some result.now }
@@ -103,7 +109,7 @@ impl<T> List<T> {
         &self.items[at]
     }
 
-    /// The item at a place, for writing.
+    /// The item at this place, counted from 0, for writing.
     pub fn get_mut(&mut self, at: usize) -> &mut T
         requires { at < length self.old.items }
         ensures* writes_back { sem 𝓛 (LendsItem T.row self.entry at result) }
@@ -129,7 +135,7 @@ impl<T> List<T> {
 }
 
 impl<T: Drop> List<T> {
-    /// Takes all items out.
+    /// Removes all items. The room stays.
     pub fn clear(&mut self)
         ensures { self.new ≡ record self.old { items = [] } }
     {
@@ -138,7 +144,11 @@ impl<T: Drop> List<T> {
 }
 
 impl<T: Copy> List<T> {
-    /// A full list of these items.
+    /// A list of these items, with room for no more.
+    ///
+    /// # Errors
+    ///
+    /// There is not enough memory.
     pub fn from_slice(alloc: Global, items: &[T]) -> Result<List<T>, Memory>
         ensures { IfOk result (λ list. list
             ≡ record { items = items.now; room = length items.now }) }
@@ -148,7 +158,11 @@ impl<T: Copy> List<T> {
         Ok(List { items, room })
     }
 
-    /// A full list of one item, so many times.
+    /// A list of so many copies of one item, with room for no more.
+    ///
+    /// # Errors
+    ///
+    /// There is not enough memory.
     pub fn filled(alloc: Global, item: T, count: usize) -> Result<List<T>, Memory>
         ensures { IfOk result (λ list. list
             ≡ record { items = replicate count item; room = count }) }

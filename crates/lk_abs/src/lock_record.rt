@@ -157,8 +157,8 @@ impl LockRecord {
         }
     }
 
-    /// A release by a waiter that does not hold the lock so, or a handover, a flush, a promotion or
-    /// a leave by one that does not hold it.
+    /// A release by a waiter that does not hold the lock in that manner, or a handoff, a flush, a
+    /// promotion or a leave by one that does not hold it.
     fn not_holder(&self, by: Waiter, what: What) -> Option<Breach>
         ensures { result ≡ not_holder self.now.history by what }
     {
@@ -179,7 +179,7 @@ impl LockRecord {
         }
     }
 
-    /// A second hold or a second place in a queue.
+    /// A second acquisition, or a second place in a queue.
     fn twice(&self, by: Waiter, what: What) -> Option<Breach>
         ensures { result ≡ twice self.now.history by what }
     {
@@ -195,7 +195,7 @@ impl LockRecord {
         }
     }
 
-    /// What only the front may do, by another.
+    /// A step that only the queue head may make, by another waiter.
     fn wrong_head(&self, by: Waiter, what: What) -> Option<Breach>
         ensures { result ≡ wrong_head self.now.history by what }
     {
@@ -215,7 +215,7 @@ impl LockRecord {
         }
     }
 
-    /// A handover that moves more waiters aside than is lawful.
+    /// A handoff that moves more waiters aside than is lawful.
     fn wrong_move(&self, rules: &Rulebook, what: What) -> Option<Breach>
         ensures { result ≡ wrong_move rules.now self.now.history what }
     {
@@ -236,7 +236,7 @@ impl LockRecord {
         }
     }
 
-    /// A handover to another than the next.
+    /// A handoff to a waiter that is not the successor.
     fn wrong_next(&self, what: What) -> Option<Breach>
         ensures { result ≡ wrong_next self.now.history what }
     {
@@ -255,7 +255,7 @@ impl LockRecord {
         }
     }
 
-    /// The first waiter that a handover moves aside, where one handover is too many.
+    /// The first waiter that a handoff moves aside, if the threshold allows no handoff past it.
     fn moved_over(&self, rules: &Rulebook, lock: LockName, moved: u32) -> Option<Breach>
         ensures { result
             ≡ moved_over lock rules.now.threshold (slice_get self.now.history.main 1) moved }
@@ -272,7 +272,7 @@ impl LockRecord {
         }
     }
 
-    /// A handover that passes a waiter by too often.
+    /// A handoff past a waiter that was passed by too often.
     fn over_threshold(&self, rules: &Rulebook, by: Waiter, what: What) -> Option<Breach>
         ensures { result ≡ over_threshold rules.now self.now.history by what }
     {
@@ -301,7 +301,7 @@ impl LockRecord {
             .or(self.over_threshold(rules, by, what))
     }
 
-    /// Tells the history of the lock on by an event that breaks no clause.
+    /// Adds an event that breaks no clause to the history of the lock.
     fn tell(&mut self, rules: &Rulebook, by: Waiter, what: What)
         requires in_range { IsOneOf self.old.room by }
         requires small { rules.now.threshold ≤ 65535 }
@@ -343,7 +343,7 @@ impl LockRecord {
         }
     }
 
-    /// Judges one event more, and tells the history of the lock on by it where it breaks no clause.
+    /// Judges one more event, and adds it to the history of the lock if it breaks no clause.
     pub(crate) fn take(&mut self, rules: &Rulebook, by: Waiter, what: What) -> Result<(), Breach>
         requires small { rules.now.threshold ≤ 65535 }
         requires in_range { IsOneOf self.old.room by }
@@ -359,7 +359,7 @@ impl LockRecord {
         Ok(())
     }
 
-    /// The front of the main queue, where nobody holds the lock.
+    /// The queue head, if nobody holds the lock.
     pub(crate) fn free_front(&self) -> Option<Waiter>
         ensures value { result ≡ free_front self.now.history }
         ensures in_range { IfSome result (λ w. IsOneOf self.now.room w) }

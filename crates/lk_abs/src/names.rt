@@ -4,42 +4,45 @@ ghost use Rattle.lk_abs.specs.Names.{place_of, lock_at};
 
 use crate::list::List;
 
-/// The lock family that a whole machine uses.
+/// The lock family: which lock all spinlocks of a machine are.
 #[derive(Clone, Copy, Debug, PartialEq, Eq)]
 pub enum Mode {
-    /// A spinning test-and-set lock, as Linux uses it under a hypervisor without paravirtual locks.
+    /// A test-and-set spinlock, as Linux uses it under a hypervisor without paravirtual locks
+    /// (`virt_spin_lock`).
     Virt,
-    /// The queued spinlock of Linux.
+    /// The queued spinlock of Linux (`kernel/locking/qspinlock.c`).
     Native,
     /// The compact NUMA-aware lock of Dice and Kogan.
     Cna,
-    /// The paravirtual queued spinlock of Linux.
+    /// The paravirtual queued spinlock of Linux (`kernel/locking/qspinlock_paravirt.h`).
     Pv,
 }
 
-/// The format of an input, and of the locks that are made by it. It says how the words are laid
-/// out, how many processors a trace may have, and whom a front of the compact NUMA-aware lock may
+/// The format of an input, and of the locks that are made from it. It says how lock words are laid
+/// out, how many processors a trace may have, and which waiters a queue head of mode `cna` may
 /// move aside.
 #[derive(Clone, Copy, Debug, PartialEq, Eq)]
 pub enum Format {
-    /// Narrow words, and at most 64 processors in a trace.
+    /// Narrow words, at most 64 processors in a trace, and any waiter of another socket may be
+    /// moved aside.
     One,
-    /// Wide words, and at most 1,024 processors in a trace. A waiter in an interrupt is never moved
-    /// aside.
+    /// Wide words, and at most 1,024 processors in a trace. A waiter in an interrupt is never
+    /// moved aside.
     Two,
 }
 
-/// What a declared lock is.
+/// The kind of a declared lock.
 #[derive(Clone, Copy, Debug, PartialEq, Eq)]
 pub enum Kind {
     /// A spinlock.
     Spin,
-    /// A queued reader-writer lock, which has a wait lock beside it.
+    /// A queued reader-writer lock (`kernel/locking/qrwlock.c`). It has a wait lock, which is a
+    /// spinlock.
     Rw,
 }
 
-/// Who takes locks: a context of a processor. Context 0 is the task, context c the c-th nested
-/// interrupt.
+/// Who acquires locks: a processor in an interrupt context. Context 0 is the task, and context c
+/// is the c-th nested interrupt.
 #[derive(Clone, Copy, Debug, PartialEq, Eq)]
 pub struct Waiter {
     /// The processor, from 0.
@@ -53,7 +56,7 @@ pub struct Waiter {
 pub struct LockName {
     /// The number of the declared lock, from 0.
     pub index: u32,
-    /// Whether its wait lock is meant.
+    /// Whether the wait lock is meant.
     pub wait: bool,
 }
 
@@ -78,9 +81,9 @@ impl LockName {
     }
 }
 
-/// Where the processors stand.
+/// The sockets of all processors.
 #[derive(Drop)]
 pub struct Topology {
-    /// For each processor the number of its socket.
+    /// For each processor, the number of its socket.
     pub sockets: List<u32>,
 }

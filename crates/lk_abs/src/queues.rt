@@ -8,7 +8,7 @@ use crate::events::{Breach, Lists};
 use crate::list::List;
 use crate::names::{LockName, Waiter};
 
-/// Each waiter that stands aside has seen one handover more.
+/// Counts one more handoff past each waiter of the secondary queue.
 fn count_on(passes: &mut List<u32>)
     requires { All (λ n. n ≤ 65535) passes.old.items }
     ensures { passes.new ≡ record passes.old { items = map (λ n. suc n) passes.old.items } }
@@ -19,7 +19,8 @@ fn count_on(passes: &mut List<u32>)
     }
 }
 
-/// The front hands on: so many waiters behind it go aside, and the front leaves.
+/// The queue head hands off: so many waiters behind it move to the secondary queue, and the head
+/// leaves.
 pub(crate) fn hand_on(lists: &mut Lists, moved: usize)
     requires moved { moved < length lists.old.main.items }
     requires second { length lists.old.second.items + moved ≤ lists.old.second.room }
@@ -36,7 +37,7 @@ pub(crate) fn hand_on(lists: &mut Lists, moved: usize)
     count_on(&mut lists.passes);
 }
 
-/// The second queue returns, right behind the front.
+/// The secondary queue returns, directly behind the queue head.
 pub(crate) fn rejoin(lists: &mut Lists)
     requires front { 0 < length lists.old.main.items }
     requires room { length lists.old.main.items + length lists.old.second.items
@@ -52,7 +53,7 @@ pub(crate) fn rejoin(lists: &mut Lists)
     lists.passes.clear();
 }
 
-/// The earliest of these waiters that one handover more passes by too often.
+/// The earliest of these waiters whom one more handoff would pass too often.
 pub(crate) fn first_over(
     lock: LockName,
     threshold: u32,

@@ -6,8 +6,7 @@ use crate::list::List;
 use crate::names::{Format, Mode, Waiter};
 use std::marker::Model;
 
-/// The format, the lock family, where the processors stand, and how many handovers may pass a moved
-/// waiter by.
+/// The rules: the format, the lock family, the sockets of the processors, and the threshold.
 #[derive(Drop)]
 pub(crate) struct Rulebook {
     pub(crate) format: Format,
@@ -30,7 +29,7 @@ impl Model for Rulebook {
 }
 
 impl Rulebook {
-    /// The most handovers that may pass a moved waiter by.
+    /// The threshold: the most handoffs that may pass a moved waiter.
     pub(crate) fn threshold(&self) -> u32
         ensures { result ≡ self.now.threshold }
     {
@@ -47,7 +46,7 @@ impl Rulebook {
         }
     }
 
-    /// Whether no front may move a waiter aside: in the second format, one in an interrupt.
+    /// Whether no queue head may move the waiter aside: in format 2, a waiter in an interrupt.
     fn stays(&self, waiter: Waiter) -> bool
         ensures { result ≡ stays self.now.format waiter.ctx }
     {
@@ -57,15 +56,15 @@ impl Rulebook {
         }
     }
 
-    /// Whether a waiter is not local to the front.
+    /// Whether a waiter is not local to the queue head.
     fn is_far(&self, front: Waiter, waiter: Waiter) -> bool
         ensures { result ≡ is_far self.now front waiter }
     {
         !(self.stays(waiter) || self.socket_of(front.cpu) == self.socket_of(waiter.cpu))
     }
 
-    /// How many of these waiters, first to last, are far from the front and have a waiter behind
-    /// them.
+    /// How many of these waiters, first to last, are not local to the queue head and have a waiter
+    /// behind them.
     fn movable(&self, front: Waiter, behind: &[Waiter]) -> u32
         requires { length behind.now ≤ 6144 }
         ensures { result ≡ movable (is_far self.now front) behind.now }
@@ -78,7 +77,7 @@ impl Rulebook {
         behind.len() as u32
     }
 
-    /// How many waiters a handover may move aside.
+    /// How many waiters a handoff may move aside.
     pub(crate) fn lawful_moves(&self, main: &[Waiter]) -> u32
         requires { length main.now ≤ 6144 }
         ensures { result ≡ lawful_moves self.now main.now }

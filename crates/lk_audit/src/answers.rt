@@ -5,21 +5,21 @@ use lk_abs::Memory;
 use lk_audit_forms::BreachName;
 use lk_forms::{Fault, Which};
 
-/// Why a text is not accepted.
+/// Why an audit accepts a text not as lawful.
 #[derive(Clone, Copy, Debug, PartialEq, Eq)]
 pub enum AuditFault {
-    /// A line, or the end of the input, is refused; lines are numbered from 1.
+    /// The line is refused, or the input ends before it. Lines are counted from 1.
     BadInput { line: u64, fault: Fault },
-    /// A line passes a limit.
+    /// The line passes a limit. Lines are counted from 1.
     Limit { line: u64, which: Which },
-    /// The event of this line is not lawful behind those before it; what stands behind the line is
-    /// not judged.
+    /// The event of this line is not lawful after those before it. What follows the line was not
+    /// judged.
     Breach { line: u64, name: BreachName },
-    /// The source answered a fault.
+    /// A read from the source failed.
     ReadFault,
-    /// The sink answered a fault.
+    /// A write to the sink failed.
     WriteFault,
-    /// There was no memory; nothing was written.
+    /// There was not enough memory. Nothing was written.
     Memory,
 }
 

@@ -1,6 +1,6 @@
-//! The word `audit`: the header of a trace, and behind it a transcript from anybody, is read line by
-//! line in fixed memory, and each event is judged. The answer is whether the history is lawful, and
-//! at which line it first is not.
+//! The command `audit`: it reads the header of a trace and after it a transcript from any program,
+//! line by line in fixed memory, and judges each event. It answers whether the history is lawful,
+//! and else which line is the first that breaks it.
 #![tactic(auto)]
 
 mod answers;

@@ -53,17 +53,17 @@ fn tell<K: Sink>(sink: &mut K, answer: Result<u64, AuditFault>) -> Result<u64, A
     }
 }
 
-/// Reads the header of a trace and behind it a transcript from anybody to the end of the source,
-/// and judges whether its history is lawful for that header; gives the number of events. The one
-/// line of the verdict goes to the sink: `lawful e`, or `breach n Name` at the first line that
-/// breaks the history, behind which nothing is read. The programs of the header are read and not
-/// used, and the counts are not judged.
+/// Reads the header of a trace and after it a transcript from any program, to the end of the
+/// source, and judges whether the history is lawful under that header. Returns the number of
+/// events. It writes the verdict to the sink as one line: `lawful e`, or `breach n Name` for the
+/// first line that breaks the history. It reads nothing after that line. It reads the programs of
+/// the header and does not use them, and it does not judge the counts.
 ///
 /// # Errors
 ///
 /// The first line that is refused, the first that breaks the history, a fault of the source or of
-/// the sink, or no memory. Where it is neither lawful nor a breach, nothing is written but a front
-/// of the one line where a write failed.
+/// the sink, or no memory. A breach is written too. After the other errors nothing was written,
+/// except that after a fault of the sink a prefix of the verdict was.
 pub fn audit<S: Source, K: Sink>(
     alloc: Global,
     source: &mut S,

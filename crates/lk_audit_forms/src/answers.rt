@@ -4,35 +4,37 @@ ghost use Rattle.lk_audit_forms.specs.Texts.{name_of};
 
 use lk_abs::{Breach, Event};
 
-/// What an accepted line behind `go` tells.
+/// What an accepted line after `go` tells.
 #[derive(Clone, Copy, Debug, PartialEq, Eq)]
 pub enum Told {
-    /// An event, in the act of this number.
+    /// An event. `act` is the number of its act.
     Event { act: u64, event: Event },
-    /// The history ends: the line is `end`.
+    /// The end of the history: the line is `end`.
     End,
-    /// A count, which nobody judges.
+    /// A count, which the audit does not judge.
     Count,
 }
 
-/// The name of a clause of the laws that an event breaks; the judge also says whom it concerns.
+/// The name of the clause of the laws that an event breaks. The judge's `Breach` also says whom it
+/// concerns.
 #[derive(Clone, Copy, Debug, PartialEq, Eq)]
 pub enum BreachName {
-    /// A lock is taken beside a holder with which it cannot be shared.
+    /// A lock is acquired while it has a holder with which it cannot be shared.
     Beside,
-    /// A lock is released or handed on by a waiter that does not hold it so.
+    /// A lock is released or handed off by a waiter that does not hold it in that manner.
     NotHolder,
-    /// A waiter that stands in a queue of the lock, or holds it, arrives, takes or releases.
+    /// A waiter that stands in a queue of the lock arrives, releases, or acquires in another way
+    /// than a queue head does; or a waiter that holds the lock arrives.
     Twice,
-    /// Another than the front does what only the front may do.
+    /// A waiter that is not the queue head does what only the queue head may do.
     WrongHead,
-    /// More waiters are moved aside than is lawful.
+    /// A handoff moves more waiters aside than is lawful.
     WrongMove,
-    /// The lead goes to another than the next.
+    /// A handoff goes to a waiter that is not the successor.
     WrongNext,
-    /// A moved waiter has seen more handovers than the threshold.
+    /// A moved waiter has been passed by more handoffs than the threshold.
     OverThreshold,
-    /// The front of a free lock sleeps, and its processor is owed no kick.
+    /// The queue head of a free lock has halted, and its processor has no kick pending.
     NoKick,
 }
 

@@ -10,7 +10,7 @@ use crate::ranges::read_event;
 use lk_forms::{Fault, MAX_ACTS};
 use lk_machine::Setup;
 
-/// How many closing lines there are: `end`, and ten counts.
+/// The number of closing lines: `end`, and ten counts.
 pub const CLOSING_LINES: u32 = 11;
 
 // `end n`, by the words behind the first.
@@ -67,14 +67,15 @@ fn count_line(which: u32, line: &[u8]) -> Result<Told, Fault>
     }
 }
 
-/// What a line tells, without its line feed, behind acts up to `last` and so many closing lines. It
-/// takes no memory.
+/// What a line tells, without its line feed, after events of acts up to number `last` and after
+/// `closed` closing lines. It takes no memory.
 ///
 /// # Errors
 ///
-/// Those of [`read_event`](crate::read_event), and for a closing line `UnknownWord` where it is not
-/// spelled so, or is not the next; `OutOfRange` where there are fewer acts than `last` or more than
-/// [`MAX_ACTS`](lk_forms::MAX_ACTS); `Misplaced` behind the last.
+/// Those of [`read_event`](crate::read_event). For a closing line also: `UnknownWord` if the line
+/// is not spelled as it is printed, or is not the next closing line; `OutOfRange` if it says fewer
+/// acts than `last` or more than [`MAX_ACTS`](lk_forms::MAX_ACTS); `Misplaced` after the last
+/// closing line.
 pub fn line_told(line: &[u8], setup: &Setup, last: u64, closed: u32) -> Result<Told, Fault>
     ensures { result ≡ line_told setup.now last closed line.now }
 {

@@ -1,6 +1,6 @@
-//! The forms of text of the word `audit`: the header of a trace, and behind it a transcript from
-//! anybody. Its `specs/` say what each line tells behind the lines before it, or why it is refused;
-//! that is exactly what the printer of transcripts writes.
+//! The texts of the command `audit`: the header of a trace, and after it a transcript from any
+//! program. The `specs/` say what each line tells after the lines before it, or why it is refused.
+//! The accepted lines are exactly those that the printer of transcripts writes.
 #![tactic(auto)]
 
 mod answers;

@@ -123,15 +123,15 @@ fn fits_lock(setup: &Setup, what: What) -> bool
     }
 }
 
-/// The act's number and the event that a line tells, without its line feed, behind acts up to
-/// `last`. It takes no memory.
+/// The number of the act and the event that a line tells, without its line feed, after events of
+/// acts up to number `last`. It takes no memory.
 ///
 /// # Errors
 ///
-/// In this order: `UnknownWord` where the line is not spelled as the printer of transcripts spells
-/// the line of an event; `OutOfRange` where its act is not above `last` or is above
-/// [`MAX_ACTS`](lk_forms::MAX_ACTS), or it names a processor, a context or a lock that is not
-/// there; `WrongLock` where its lock is of the wrong kind.
+/// In this order: `UnknownWord` if the line is not spelled as the printer of transcripts spells an
+/// event; `OutOfRange` if its act is not above `last` or is above
+/// [`MAX_ACTS`](lk_forms::MAX_ACTS), or if it names a processor, a context or a lock that does not
+/// exist; `WrongLock` if its lock is of the wrong kind.
 pub fn read_event(line: &[u8], setup: &Setup, last: u64) -> Result<(u64, Event), Fault>
     ensures { result ≡ read_event setup.now last line.now }
 {

@@ -7,7 +7,7 @@ ghost use Rattle.lk_audit_forms.specs.Texts.{name_text, breach_text};
 use crate::answers::BreachName;
 use lk_text::LineBuf;
 
-/// `lawful e`: the line of a lawful history of so many events.
+/// `lawful e`: the verdict on a lawful history of `e` events.
 #[tactic(auto, using(lk_forms::proofs::Decimals::decimal_short))]
 pub fn lawful_line(events: u64) -> LineBuf
     ensures { line_text result ≡ lawful_text events }
@@ -36,7 +36,7 @@ fn name_text(name: BreachName) -> &'static [u8]
     }
 }
 
-/// `breach n Name`: the line of a history that is broken at the line of this number.
+/// `breach n Name`: the verdict on a history that line `n` breaks. Lines are counted from 1.
 #[tactic(auto, using(lk_forms::proofs::Decimals::decimal_short))]
 pub fn breach_line(line: u64, name: BreachName) -> LineBuf
     ensures { line_text result ≡ breach_text line name }

@@ -10,7 +10,7 @@ use lk_machine::{Flag, Machine, Pc, named};
 use lk_word::NodeName;
 
 /// C7: stores into `runs` of the successor y how many handoffs were made since the secondary queue
-/// became non-empty, `-> r + 1`, or `-> 0` where it is empty. y is not the head before C8, and
+/// became non-empty: `-> r + 1`, or `-> 0` if that queue is empty. Until C8 y is not the head, and
 /// only a head reads the count of its own node.
 pub(crate) fn count(machine: &mut Machine, cpu: u32) -> Option<Event>
     requires ready { IsCnaReady machine.old cpu }
@@ -40,9 +40,9 @@ fn flag_for(second: Option<NodeName>) -> Flag
     }
 }
 
-/// C8: stores the first node of the secondary queue into the flag of the successor y,
-/// `unset -> second`, or go where that queue is empty. This makes y the head. It then gives its
-/// own node back, and goes on as the holder. Count and queue were stored before, so y finds both.
+/// C8: stores into the flag of the successor y the first node of the secondary queue, or go if
+/// that queue is empty: `unset -> second`. This makes y the head. The old head gives its own node
+/// back, and goes on as the holder. It stored the count and the queue before, so y finds both.
 pub(crate) fn hand_on(machine: &mut Machine, cpu: u32) -> Option<Event>
     requires ready { IsCnaReady machine.old cpu }
     requires here { (top_frame machine.old cpu).place ≡ Some Pc.C8 }

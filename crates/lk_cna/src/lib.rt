@@ -1,5 +1,5 @@
-//! The rows in which a front of Dice and Kogan's lock chooses whom to hand the lead. Each is proved
-//! to be the row that `lk_machine` defines.
+//! The rows in which a queue head of Dice and Kogan's lock chooses its successor and hands off.
+//! Each row is proved to be the row that `lk_machine` defines.
 #![tactic(auto, using(lk_machine::proofs::Kept::kept))]
 
 mod hand;

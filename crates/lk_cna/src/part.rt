@@ -8,8 +8,9 @@ ghost use Rattle.lk_cna.specs.Row.{IsCnaReady};
 use lk_abs::{Event, What};
 use lk_machine::{Frame, Machine, Pc, is_last, named};
 
-/// C4: links those that it passed over behind the secondary queue: `next` of its last node t,
-/// `none -> a`. Only the head knows the secondary queue, and all in it wait for their flags.
+/// C4: links the waiters that it passed over behind the secondary queue: `next` of the last node t
+/// of that queue, `none -> a`. Only the head knows the secondary queue, and all waiters in it wait
+/// for their flags.
 pub(crate) fn append(machine: &mut Machine, cpu: u32) -> Option<Event>
     requires ready { IsCnaReady machine.old cpu }
     requires here { (top_frame machine.old cpu).place ≡ Some Pc.C4 }
@@ -23,8 +24,8 @@ pub(crate) fn append(machine: &mut Machine, cpu: u32) -> Option<Event>
     None
 }
 
-/// C5: cuts those that it passed over off from the rest: `next` of the last of them, `y -> none`.
-/// That one waits for its flag and looks at no link, and y is known to the head by now.
+/// C5: cuts the waiters that it passed over off from the rest: `next` of the last of them, `y ->
+/// none`. That waiter waits for its flag and reads no link, and the head knows y by now.
 pub(crate) fn cut(machine: &mut Machine, cpu: u32) -> Option<Event>
     requires ready { IsCnaReady machine.old cpu }
     requires here { (top_frame machine.old cpu).place ≡ Some Pc.C5 }
@@ -38,8 +39,8 @@ pub(crate) fn cut(machine: &mut Machine, cpu: u32) -> Option<Event>
     None
 }
 
-/// C6: stores the new last of the secondary queue into the node of its first, `-> b`. Only a head
-/// reads it there, at C3.
+/// C6: stores the new last node of the secondary queue into the first, `-> b`. Only a head reads
+/// it there, at C3.
 pub(crate) fn set_tail(machine: &mut Machine, cpu: u32) -> Option<Event>
     requires ready { IsCnaReady machine.old cpu }
     requires here { (top_frame machine.old cpu).place ≡ Some Pc.C6 }
@@ -65,8 +66,9 @@ fn rejoined(frame: Frame) -> Frame
     }
 }
 
-/// C9: links the rest behind the secondary queue, which returns before it: `next` of its last node
-/// t, `none -> a`. So the first of the secondary queue is the successor, and nobody stands aside.
+/// C9: links the rest of the main queue behind the secondary queue: `next` of the last node t of
+/// the secondary queue, `none -> a`. So the secondary queue returns before the rest, its first
+/// waiter is the successor, and nobody stands aside.
 pub(crate) fn flush(machine: &mut Machine, cpu: u32) -> Option<Event>
     requires ready { IsCnaReady machine.old cpu }
     requires here { (top_frame machine.old cpu).place ≡ Some Pc.C9 }
@@ -81,9 +83,10 @@ pub(crate) fn flush(machine: &mut Machine, cpu: u32) -> Option<Event>
     Some(event)
 }
 
-/// C10: swaps the tail from its own node to the last of the secondary queue, `n,0,1 -> t,0,1`,
-/// which returns as the rest. If another took the tail or set pending, the word stays, and the
-/// head looks again: the swap compares the whole word, so no waiter that came is lost.
+/// C10: swaps the tail from its own node to the last of the secondary queue, `n,0,1 -> t,0,1`. So
+/// the secondary queue returns as the rest of the main queue. If another waiter took the tail or
+/// set the pending bit, the word stays, and the head looks for a link again (C1). The swap
+/// compares the whole word, so no waiter that came is lost.
 pub(crate) fn promote(machine: &mut Machine, cpu: u32) -> Option<Event>
     requires ready { IsCnaReady machine.old cpu }
     requires here { (top_frame machine.old cpu).place ≡ Some Pc.C10 }

@@ -10,8 +10,8 @@ use crate::{hand, part, scan};
 use lk_abs::Event;
 use lk_machine::{Machine, Pc};
 
-/// Makes the row at which the top frame of a processor stands, and gives its event: one of C1 to
-/// C10. It takes no memory.
+/// Makes the row at which the newest frame of a processor stands, one of C1 to C10. Returns the
+/// event, if there is one. It takes no memory.
 #[inline]
 pub fn cna_row(machine: &mut Machine, cpu: u32, place: Pc) -> Option<Event>
     requires ready { IsCnaReady machine.old cpu }

@@ -77,9 +77,9 @@ fn after_look(machine: &Machine, cpu: u32, frame: Frame, node: Node) -> Frame
     }
 }
 
-/// C1: looks at its own `next`. While the run may go on, it chooses that waiter if it is local,
-/// and else passes it over. When the run is over, those aside return. Where nobody is linked,
-/// those aside may return as the rest. It stores nothing.
+/// C1: reads its own `next`. While fewer handoffs than the threshold were made, it chooses that
+/// waiter if it is local, and else passes it over. After that the waiters aside return. If nobody
+/// is linked, they may return as the rest. It stores nothing.
 pub(crate) fn look(machine: &mut Machine, cpu: u32) -> Option<Event>
     requires ready { IsCnaReady machine.old cpu }
     requires here { (top_frame machine.old cpu).place ≡ Some Pc.C1 }
@@ -156,9 +156,9 @@ fn after_link(machine: &Machine, cpu: u32, frame: Frame, next: Option<NodeName>)
     }
 }
 
-/// C2: looks at `next` of the last that it passed over, b. A local waiter is chosen, another is
-/// passed over too. Where nobody is linked, nobody is moved. It stores nothing: those passed over
-/// still stand in the queue until C5.
+/// C2: reads `next` of the last waiter that it passed over, b. It chooses a local waiter, and
+/// passes another over too. If nobody is linked, it moves nobody. It stores nothing: the waiters
+/// that it passed over stand in the queue until C5.
 pub(crate) fn pass_over(machine: &mut Machine, cpu: u32) -> Option<Event>
     requires ready { IsCnaReady machine.old cpu }
     requires here { (top_frame machine.old cpu).place ≡ Some Pc.C2 }
@@ -183,8 +183,8 @@ fn after_tail(why: Why) -> Pc
     }
 }
 
-/// C3: looks up the last of the secondary queue, in the node of its first. Heads alone store there
-/// (C6), and this is the only one.
+/// C3: reads the last node of the secondary queue, in the first. Only heads store there (C6), and
+/// this is the only head.
 pub(crate) fn find_tail(machine: &mut Machine, cpu: u32) -> Option<Event>
     requires ready { IsCnaReady machine.old cpu }
     requires here { (top_frame machine.old cpu).place ≡ Some Pc.C3 }

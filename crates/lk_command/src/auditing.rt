@@ -9,8 +9,8 @@ use lk_audit::audit;
 use lk_text::{Sink, Source};
 use std::alloc::Global;
 
-/// Reads a transcript from anybody from the source, behind the header of a trace, judges it, and
-/// writes the verdict to the sink.
+/// Reads the header of a trace and a transcript from the source, judges the transcript, and writes
+/// the verdict to the sink.
 pub(crate) fn run_audit<S: Source, K: Sink>(alloc: Global, source: &mut S, sink: &mut K) -> Status
     ensures runs { Audits
         (outside (S.left source.old) (S.faults source.old) (K.held sink.old) (K.faults sink.old))

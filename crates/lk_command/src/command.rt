@@ -133,12 +133,15 @@ fn obey<S: Source, K: Sink, G: Gate, R: Threads + Wait + Sync>(
     }
 }
 
-/// Does what the program's arguments ask, and notes why not. `replay` reads a trace from the source
-/// and writes its transcript to the sink, and `osq` does so with a run of the optimistic spin queue;
-/// `audit` judges a transcript from anybody, and writes its verdict; `ledger` reads a job file, runs
-/// its jobs on threads, and writes what came of them; `gen n` writes the generated trace of the start
-/// number, and `load n` replays that trace in memory and writes the closing lines. Only `ledger` uses
-/// threads, and passes the gate before and after each job.
+/// Does what the program's arguments ask. If it is not done, it writes a line to `notes` that says
+/// why.
+///
+/// `replay` reads a trace from the source and writes its transcript to the sink. `osq` does the
+/// same for a run of the optimistic spin queue. `audit` judges a transcript from any program, and
+/// writes its verdict. `ledger` reads a job file, runs its jobs on threads, and writes their
+/// outcome. `gen n` writes the trace that is generated from the start number. `load n` replays
+/// that trace in memory, and writes the closing lines. Only `ledger` uses threads, and its workers
+/// pass the gate before and after each job.
 pub fn run<S: Source, K: Sink, N: Sink, G: Gate, R: Threads + Wait + Sync>(
     rt: &R,
     alloc: Global,

@@ -17,8 +17,8 @@ use std::process::ExitCode;
 use std::sync::Wait;
 use std::thread::Threads;
 
-/// What `run` comes to, as the program's exit status: each of its clauses holds of the status of
-/// this number.
+/// Does what `run` does, and returns the program's exit status. Each clause of `run` holds of the
+/// status with that number.
 pub fn answer<S: Source, K: Sink, N: Sink, G: Gate, R: Threads + Wait + Sync>(
     rt: &R,
     alloc: Global,

@@ -12,7 +12,7 @@ use std::alloc::Global;
 use std::sync::Wait;
 use std::thread::Threads;
 
-/// Reads a job file from the source, runs its jobs on threads, and writes what came of them to the
+/// Reads a job file from the source, runs its jobs on threads, and writes their outcome to the
 /// sink.
 pub(crate) fn run_ledger<S: Source, K: Sink, G: Gate, R: Threads + Wait + Sync>(
     rt: &R,

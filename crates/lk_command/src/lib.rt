@@ -1,5 +1,5 @@
-//! The top call: what the program's arguments ask is done over a source and a sink, and answered by
-//! an exit status, with a line that says why where it is not done.
+//! The top call of the program. It does what the program's arguments ask, over a source and a
+//! sink. It returns an exit status, and writes a line that says why if something is not done.
 #![tactic(auto)]
 
 mod auditing;

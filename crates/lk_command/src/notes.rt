@@ -84,7 +84,7 @@ fn say<N: Sink>(notes: &mut N, text: &[u8])
     let _ = put(notes, text);
 }
 
-/// Writes the line of a status, if it has one. A fault in this changes nothing.
+/// Writes the line of a status, if the status has one. A fault of this write changes nothing.
 pub fn note<N: Sink>(notes: &mut N, status: Status)
     ensures { IsSaid (N.held notes.old) (N.held notes.new) (N.faults notes.old) (N.faults notes.new)
         (note_of status) }

@@ -9,7 +9,8 @@ use lk_osq_replay::osq;
 use lk_text::{Sink, Source};
 use std::alloc::Global;
 
-/// Reads a run of the optimistic spin queue from the source, and writes its transcript to the sink.
+/// Reads a run of the optimistic spin queue from the source, and writes its transcript to the
+/// sink.
 pub(crate) fn run_osq<S: Source, K: Sink>(alloc: Global, source: &mut S, sink: &mut K) -> Status
     ensures runs { OsqRuns
         (outside (S.left source.old) (S.faults source.old) (K.held sink.old) (K.faults sink.old))

@@ -6,24 +6,24 @@ use lk_forms::{Fault, Which};
 use lk_stream::ReplayFault;
 use lk_text::WriteFault;
 
-/// What a run of the program came to.
+/// How a run of the program ended.
 #[derive(Clone, Copy, Debug, PartialEq, Eq)]
 pub enum Status {
-    /// All that was asked was read and written.
+    /// All that was asked was read and written. Exit status 0.
     Done,
-    /// The words ask for nothing that there is.
+    /// The words name no command. Exit status 2.
     Usage,
-    /// The grammar refuses this line.
+    /// The grammar refuses this line, counted from 1. Exit status 3.
     BadInput { line: u64, fault: Fault },
-    /// A read failed.
+    /// A read failed. Exit status 4.
     ReadFault,
-    /// A write failed.
+    /// A write failed. Exit status 5.
     WriteFault,
-    /// There was no memory.
+    /// There was not enough memory. Exit status 6.
     Memory,
-    /// This line passes a limit.
+    /// This line, counted from 1, passes a limit. Exit status 7.
     Limit { line: u64, which: Which },
-    /// This line is the first that breaks an audited history.
+    /// This line, counted from 1, is the first that breaks an audited history. Exit status 8.
     Unlawful { line: u64 },
 }
 
@@ -47,7 +47,7 @@ impl Status {
         }
     }
 
-    /// What a command came to.
+    /// The status of a replay, a run or a ledger with this answer.
     pub fn of<T: Drop>(answer: Result<T, ReplayFault>) -> Status
         ensures { result ≡ came_to answer }
     {
@@ -61,7 +61,7 @@ impl Status {
         }
     }
 
-    /// What an audit came to.
+    /// The status of an audit with this answer.
     pub fn of_audit(answer: Result<u64, AuditFault>) -> Status
         ensures { result ≡ status_audited answer }
     {
@@ -76,7 +76,7 @@ impl Status {
         }
     }
 
-    /// What a text that is put came to.
+    /// The status of a command that only writes, with this answer.
     pub fn of_put(answer: Result<(), WriteFault>) -> Status
         ensures { result ≡ status_of_put answer }
     {

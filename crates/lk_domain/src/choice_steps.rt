@@ -16,8 +16,8 @@ use lk_abs::LockName;
 use lk_machine::Verb;
 use lk_word::NodeName;
 
-/// Cuts the link of the last node that the newest call has passed over, and gives the number that it
-/// met. This is the row C5.
+/// Cuts the link of the last node that the newest call has passed over, which is the row C5.
+/// Returns the number of the link before the step.
 pub fn cut(cpu: &mut Cpu, domain: &Domain, verb: Verb, node: NodeName) -> u64
     requires domain { IsOf cpu.old domain.now }
     requires node { IsNode domain.now.plan node }
@@ -28,10 +28,10 @@ pub fn cut(cpu: &mut Cpu, domain: &Domain, verb: Verb, node: NodeName) -> u64
     node_moves::cut(&mut cpu.seat, domain, verb, node)
 }
 
-/// Links a node behind the last of the second queue, and gives the number that it met: the first of
-/// those that the newest call has passed over, or of the rest of the queue. The mark is that of the
-/// link in which the call met the node: whether the call that uses it is in a context above 0.
-/// These are the rows C4 and C9.
+/// Links the node `next` behind the last node of the secondary queue, which is the row C4 or C9.
+/// `next` is the first node that the newest call has passed over (C4), or the first of the rest of
+/// the queue (C9). `mark` is the mark of the link in which the call met `next`: whether the waiter
+/// of `next` is in an interrupt. Returns the number of the link before the step.
 pub fn append(
     cpu: &mut Cpu,
     domain: &Domain,
@@ -50,9 +50,9 @@ pub fn append(
     node_moves::append(&mut cpu.seat, domain, verb, node, next, mark)
 }
 
-/// Looks at the last of the second queue in the node of its first, or stores it there, and gives the
-/// number that it met. These are the rows C3, where `store` is none, and C6, where it is the last
-/// that the newest call has passed over.
+/// Reads or stores the last node of the secondary queue, which stands in the first. If `store` is
+/// none, the call reads it, which is the row C3. Else it stores the last node that it has passed
+/// over, which is the row C6. Returns the number that stood there before the step.
 pub fn second_tail(
     cpu: &mut Cpu,
     domain: &Domain,
@@ -74,7 +74,7 @@ pub fn second_tail(
     }
 }
 
-/// Looks at the link of the last node that the newest call has passed over, and gives its number.
+/// Reads the link of the last node that the newest call has passed over, and returns its number.
 /// This is the row C2.
 pub fn look_next(cpu: &mut Cpu, domain: &Domain, verb: Verb, node: NodeName) -> u64
     requires domain { IsOf cpu.old domain.now }
@@ -86,8 +86,8 @@ pub fn look_next(cpu: &mut Cpu, domain: &Domain, verb: Verb, node: NodeName) -> 
     node_moves::look_on(&mut cpu.seat, domain, verb, node)
 }
 
-/// Reads the count of handovers in the own node of the newest call, and gives it. This is no row: the
-/// rows C1 and C7 ask for it.
+/// Reads the count of handoffs in the own node of the newest call, and returns it. This is no row
+/// of its own: the rows C1 and C7 use the count.
 pub fn own_runs(cpu: &mut Cpu, domain: &Domain, verb: Verb, own: NodeName) -> u64
     requires domain { IsOf cpu.old domain.now }
     requires own { IsNode domain.now.plan own }
@@ -98,8 +98,9 @@ pub fn own_runs(cpu: &mut Cpu, domain: &Domain, verb: Verb, own: NodeName) -> u6
     node_moves::look_runs(&mut cpu.seat, domain, verb, own)
 }
 
-/// Stores the count of handovers into the node of the next: one more than that of the own node, where
-/// somebody stands aside, and else 0. Gives the number that it met. This is the row C7.
+/// Stores the count of handoffs into the node of the successor, which is the row C7. The count is
+/// 0 if the secondary queue is empty, and else one more than that of the own node. Returns the
+/// number that stood there before the step.
 pub fn store_runs(cpu: &mut Cpu, domain: &Domain, verb: Verb, node: NodeName, runs: u32) -> u64
     requires domain { IsOf cpu.old domain.now }
     requires node { IsNode domain.now.plan node }
@@ -110,8 +111,9 @@ pub fn store_runs(cpu: &mut Cpu, domain: &Domain, verb: Verb, node: NodeName, ru
     node_moves::set_runs(&mut cpu.seat, domain, verb, node, runs)
 }
 
-/// Makes the second queue, whose last has the node `tail`, all of the rest of the queue, where the
-/// own node is the last of the main one, and gives the word that it met. This is the row C10.
+/// Swaps the tail from the own node to `tail`, the last node of the secondary queue, which is the
+/// row C10. If the own node was the last of the main queue, the secondary queue is then the rest
+/// of it. Returns the word before the step.
 pub fn tail_to_second(
     cpu: &mut Cpu,
     domain: &Domain,

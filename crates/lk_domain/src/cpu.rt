@@ -10,15 +10,15 @@ use crate::notes::Notes;
 use crate::view::View;
 use atomic_table::Seat;
 
-/// The right to step in a domain's table.
+/// A seat: the right to step in a domain's table.
 pub type Right = Seat<Option<Journal>, View>;
 
-/// A processor: the right to step in a domain.
+/// A processor of a domain. The thread that has it may step in the domain.
 #[derive(Drop)]
 pub struct Cpu {
     pub(crate) number: u32,
     pub(crate) notes: Notes,
-    /// Its right to step: what steps at the ledger takes it, and leaves it a seat of the processor.
+    /// Its seat. A step of the ledger takes the seat, and leaves a seat of the same processor.
     pub seat: Right,
     ghost numbered: { seat.me.0.who.number ≡ Some number },
     ghost noted: { IsNoted notes seat.me.0.calls },
@@ -27,35 +27,37 @@ pub struct Cpu {
 }
 
 impl Cpu {
-    /// Its number, from 0.
+    /// Its number, counted from 0.
     pub fn number(&self) -> u32
         ensures { result ≡ self.now.number }
     {
         self.number
     }
 
-    /// How many calls it is in that wait.
+    /// The number of its calls that wait for a lock: that of the task, and those of its nested
+    /// interrupt handlers.
     pub fn depth(&self) -> u32
         ensures { result ≡ length self.now.seat.me.0.calls.frames }
     {
         self.notes.depth
     }
 
-    /// How many of these are in the slow path: the index of the node that the next of them gets.
+    /// The number of these calls that are in the slow path. It is also the index of the node that
+    /// the next of them gets.
     pub fn queued(&self) -> u32
         ensures { result ≡ slows self.now.seat.me.0.calls.frames }
     {
         self.notes.queued
     }
 
-    /// Whether it holds the lock, in whichever way: a lock that no domain has is not held.
+    /// Whether it holds the lock, in any manner. A lock that no domain has is not held.
     pub fn holds(&self, lock: LockId) -> bool
         ensures { result ≡ holds_in self.now.seat.me.0.calls.holds lock.index }
     {
         lock.index < 32 && self.notes.held[lock.index as usize]
     }
 
-    /// Whether one of its calls waits for the lock: for one that no domain has none does.
+    /// Whether one of its calls waits for the lock. No call waits for a lock that no domain has.
     pub fn waits(&self, lock: LockId) -> bool
         ensures { result ≡ waits_in self.now.seat.me.0.calls.frames lock.index }
     {

@@ -17,12 +17,12 @@ use lk_machine::Flag;
 use lk_word::{Layout, NodeName};
 use std::alloc::Global;
 
-/// Locks for processors that really run, and a ledger under them.
+/// Locks that threads acquire, and a ledger that they guard.
 #[derive(Drop)]
 pub struct Domain {
-    /// The table of its words.
+    /// The table of its atomic words.
     pub table: Table<Option<Journal>, View, Plan, Order, Global>,
-    /// What it was made of.
+    /// The plan of which it was made.
     pub plan: Plan,
     ghost lawful: { IsRunningPlan plan },
     ghost words: { table.shared.table_id.words ≡ words_of plan },
@@ -30,15 +30,15 @@ pub struct Domain {
     ghost key: { table.shared.key ≡ plan },
 }
 
-/// A lock of a domain, by its number.
+/// The name of a lock in its domain.
 #[derive(Clone, Copy, Debug, PartialEq, Eq)]
 pub struct LockId {
-    /// From 0.
+    /// The number of the lock, counted from 0.
     pub index: u32,
 }
 
 impl Domain {
-    /// The family of its locks.
+    /// The lock family of all its locks.
     pub fn mode(&self) -> Mode
         ensures { result ≡ self.now.plan.mode }
     {
@@ -53,7 +53,7 @@ impl Domain {
         self.plan.format
     }
 
-    /// How the words of its locks are laid out.
+    /// The layout of its lock words.
     #[inline]
     pub fn layout(&self) -> Layout
         ensures { result ≡ layout_in self.now.plan }
@@ -64,7 +64,7 @@ impl Domain {
         }
     }
 
-    /// How many handovers may pass a waiter that was moved aside by.
+    /// The most handoffs that may pass a moved waiter, in mode `cna`.
     pub fn threshold(&self) -> u32
         ensures { result ≡ self.now.plan.threshold }
     {
@@ -79,7 +79,7 @@ impl Domain {
         *self.plan.topology.sockets.get(cpu as usize)
     }
 
-    /// The kind of a lock.
+    /// The kind of a lock: a spinlock or a reader-writer lock.
     pub fn kind(&self, lock: LockId) -> Kind
         requires { lock.index < locks_of self.now.plan }
         ensures { slice_get self.now.plan.locks.items lock.index ≡ Some result }
@@ -87,7 +87,7 @@ impl Domain {
         *self.plan.locks.get(lock.index as usize)
     }
 
-    /// How many locks it has.
+    /// The number of its locks, at most 32.
     pub fn locks(&self) -> u32
         ensures { result ≡ locks_of self.now.plan }
     {
@@ -95,7 +95,7 @@ impl Domain {
         self.plan.locks.len() as u32
     }
 
-    /// How many accounts its ledger has.
+    /// The number of accounts of its ledger, at most 64.
     pub fn accounts(&self) -> u32
         ensures { result ≡ accounts_of self.now.plan }
     {

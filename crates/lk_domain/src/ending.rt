@@ -13,7 +13,7 @@ use lk_abs::{Entry, Kind, List, Mode};
 use std::alloc::Global;
 use std::snapshot::Snapshot;
 
-/// What a domain left.
+/// What a domain leaves when it is closed.
 #[derive(Drop)]
 pub struct Closed {
     pub(crate) balances: List<u64>,
@@ -24,7 +24,8 @@ pub struct Closed {
     pub(crate) cpus: Snapshot<List<Cpu>>,
 }
 
-/// Memory was wanting for the end of a domain: it and its processors are as before.
+/// There was not enough memory to close the domain. The domain and its processors are as they were
+/// before the call.
 #[derive(Drop)]
 pub struct CloseBack {
     pub domain: Domain,
@@ -32,28 +33,28 @@ pub struct CloseBack {
 }
 
 impl Closed {
-    /// The balances after the journal.
+    /// The balances at the end, one for each account.
     pub fn balances(&self) -> &List<u64>
         ensures { result.now ≡ self.now.balances }
     {
         &self.balances
     }
 
-    /// The journal.
+    /// The journal: the entries of all processors, in order.
     pub fn journal(&self) -> &List<Entry>
         ensures { result.now ≡ self.now.journal }
     {
         &self.journal
     }
 
-    /// The family of the domain's locks.
+    /// The lock family of the domain.
     pub fn mode(&self) -> Mode
         ensures { result ≡ self.now.mode }
     {
         self.mode
     }
 
-    /// The kind of lock 0, under which the ledger was.
+    /// The kind of lock 0, which guarded the ledger.
     pub fn guard(&self) -> Kind
         ensures { result ≡ self.now.guard }
     {
@@ -86,7 +87,13 @@ fn join_all(domain: &Domain, mut cpus: List<Cpu>) -> Right
     last
 }
 
-/// The end of a domain, with all its processors, of which none holds or waits.
+/// Closes a domain. It takes all its processors back, none of which may hold a lock or be in a
+/// call.
+///
+/// # Errors
+///
+/// There is not enough memory for the balances. `CloseBack` gives the domain and the processors
+/// back.
 pub fn close(alloc: Global, domain: Domain, cpus: List<Cpu>) -> Result<Closed, CloseBack>
     requires all { length cpus.items ≡ cpus_of domain.plan }
     requires rest { AllRest domain cpus.items }

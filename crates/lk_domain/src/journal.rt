@@ -4,7 +4,7 @@ ghost use Rattle.std.specs.Prelude.{◌≡◌, ◌<◌, [], ◌∷◌, ◌++◌,
 use lk_abs::{Entry, List, Memory};
 use std::alloc::Global;
 
-/// The entries of a ledger, in room that is taken when the journal is made.
+/// The entries of a ledger, in order. Its memory is taken when the journal is made.
 #[derive(Drop)]
 pub struct Journal {
     pub(crate) entries: List<Entry>,
@@ -12,6 +12,10 @@ pub struct Journal {
 
 impl Journal {
     /// An empty journal with room for so many entries.
+    ///
+    /// # Errors
+    ///
+    /// There is not enough memory.
     pub fn new(alloc: Global, room: usize) -> Result<Journal, Memory>
         ensures { IfOk result (λ journal. journal.entries ≡ record { items = []; room = room }) }
     {
@@ -19,7 +23,7 @@ impl Journal {
         Ok(Journal { entries })
     }
 
-    /// Appends an entry.
+    /// Appends an entry. There must be room for it.
     pub fn push(&mut self, entry: Entry)
         requires { length self.old.entries.items < self.old.entries.room }
         ensures { self.new.entries
@@ -28,14 +32,14 @@ impl Journal {
         self.entries.push(entry);
     }
 
-    /// How many entries it has.
+    /// The number of its entries.
     pub fn count(&self) -> usize
         ensures { result ≡ length self.now.entries.items }
     {
         self.entries.len()
     }
 
-    /// The entries, as a list with the same room.
+    /// Its entries, as a list with the same room.
     pub fn into_list(self) -> List<Entry>
         ensures { result ≡ self.entries }
     {

@@ -1,5 +1,5 @@
-//! The steps of a seat on the words of the ledger, and its end, of whichever processor it is: the calls
-//! of a domain are made of these, and so are those of one whose family halts.
+//! The steps of a seat on the words of the ledger, and the end of a domain. The calls of all lock
+//! families are made of these.
 ghost use Rattle.std.specs.Prelude.{◌≡◌, ◌<◌, ◌≤◌, ◌+◌, ℕ, Some, None, [], length, take, drop};
 ghost use Rattle.std.specs.Slots.{IsFull, slots_items, slots_len};
 ghost use Rattle.lk_abs.specs.Journal.{balances_after};
@@ -24,7 +24,7 @@ use atomic_table::{Closed as Left, Table};
 use lk_abs::{Entry, List};
 use std::alloc::Global;
 
-/// The table of a domain.
+/// The table of a domain's words.
 pub type Words = Table<Option<Journal>, View, Plan, Order, Global>;
 
 // Where a balance stands.
@@ -47,7 +47,7 @@ fn first_balance(plan: &Plan) -> usize
     8 + 8 * plan.locks.len()
 }
 
-/// How many accounts the ledger has.
+/// The number of accounts of the ledger, at most 64.
 pub fn accounts(plan: &Plan) -> u32
     requires { IsRunningPlan plan.now }
     ensures { result ≡ accounts_of plan.now }
@@ -56,7 +56,7 @@ pub fn accounts(plan: &Plan) -> u32
     plan.balances.len() as u32
 }
 
-/// Loads a balance.
+/// Loads the balance of an account. The seat's processor must hold lock 0.
 pub fn load(seat: &mut Right, table: &Words, plan: &Plan, account: u32) -> u64
     requires table { IsTableOf plan.now table.now.shared.table_id table.now.shared.key }
     requires seat { IsSeatOf plan.now table.now.shared.table_id seat.old }
@@ -70,7 +70,8 @@ pub fn load(seat: &mut Right, table: &Words, plan: &Plan, account: u32) -> u64
     table.shared.load::<LoadBalance>(seat, word)
 }
 
-/// Stores a balance, with the journal out.
+/// Stores the balance of an account. The seat's processor must hold lock 0, and must have taken
+/// the journal out.
 pub fn store(seat: &mut Right, table: &Words, plan: &Plan, account: u32, amount: u64)
     requires table { IsTableOf plan.now table.now.shared.table_id table.now.shared.key }
     requires seat { IsSeatOf plan.now table.now.shared.table_id seat.old }
@@ -85,7 +86,8 @@ pub fn store(seat: &mut Right, table: &Words, plan: &Plan, account: u32, amount:
     table.shared.store::<StoreBalance>(seat, word, amount);
 }
 
-/// The number of entries of the journal.
+/// Loads the version of the ledger: the number of entries of the journal. The seat's processor
+/// must hold lock 0.
 pub fn version(seat: &mut Right, table: &Words, plan: &Plan) -> u64
     requires table { IsTableOf plan.now table.now.shared.table_id table.now.shared.key }
     requires seat { IsSeatOf plan.now table.now.shared.table_id seat.old }
@@ -98,7 +100,8 @@ pub fn version(seat: &mut Right, table: &Words, plan: &Plan) -> u64
     table.shared.load::<LoadVersion>(seat, 1)
 }
 
-/// Takes the journal out, by a load of the version.
+/// Takes the journal out of the domain, which begins with a load of the version. The seat's
+/// processor must hold lock 0 as its only holder.
 pub fn journal_out(seat: &mut Right, table: &Words, plan: &Plan) -> Journal
     requires table { IsTableOf plan.now table.now.shared.table_id table.now.shared.key }
     requires seat { IsSeatOf plan.now table.now.shared.table_id seat.old }
@@ -116,7 +119,8 @@ pub fn journal_out(seat: &mut Right, table: &Words, plan: &Plan) -> Journal
     }
 }
 
-/// Brings the journal home, by a store of the version.
+/// Brings the journal back into the domain, which ends with a store of the version. The seat's
+/// processor must hold lock 0.
 pub fn journal_home(seat: &mut Right, table: &Words, plan: &Plan, journal: Journal)
     requires table { IsTableOf plan.now table.now.shared.table_id table.now.shared.key }
     requires seat { IsSeatOf plan.now table.now.shared.table_id seat.old }
@@ -134,7 +138,7 @@ pub fn journal_home(seat: &mut Right, table: &Words, plan: &Plan, journal: Journ
     table.shared.store::<BringJournal>(seat, 1, version);
 }
 
-/// One seat takes over the numbers of another, which holds nothing and is in no call.
+/// Lets one seat take over the numbers of another, which must hold nothing and be in no call.
 pub fn join(seat: &mut Right, table: &Words, plan: &Plan, other: Right)
     requires table { IsTableOf plan.now table.now.shared.table_id table.now.shared.key }
     requires seat { IsSeatOf plan.now table.now.shared.table_id seat.old }
@@ -165,7 +169,8 @@ fn read(
     }
 }
 
-/// The journal, once one seat has all numbers, and the balances.
+/// Ends the table, once one seat has the numbers of all processors. Fills in the balances, and
+/// returns the entries of the journal.
 pub fn end(table: Words, plan: &Plan, seat: Right, balances: &mut List<u64>) -> List<Entry>
     requires table { IsTableOf plan.now table.shared.table_id table.shared.key }
     requires seat { IsSeatOf plan.now table.shared.table_id seat }

@@ -1,4 +1,4 @@
-//! Running locks over one table of atomic words, and a ledger under them.
+//! Locks for threads over one table of atomic words, and a ledger that they guard.
 #![tactic(auto)]
 
 mod choice_steps;

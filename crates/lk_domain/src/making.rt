@@ -19,7 +19,11 @@ use lk_abs::{List, Memory, Topology};
 use std::alloc::Global;
 
 impl Plan {
-    /// The same plan, in room of its own.
+    /// A copy of the plan, in memory of its own.
+    ///
+    /// # Errors
+    ///
+    /// There is not enough memory.
     pub fn copied(&self, alloc: Global) -> Result<Plan, Memory>
         ensures { IfOk result (λ plan. IsSamePlan plan self.now) }
     {
@@ -40,7 +44,7 @@ impl Plan {
         })
     }
 
-    /// How many entries all processors may write.
+    /// The number of entries that all processors together may write.
     pub fn room(&self) -> usize
         requires { IsRunningPlan self.now }
         ensures { result ≡ room_of self.now }
@@ -62,6 +66,10 @@ fn write(words: &mut List<u64>, at: usize, number: u64)
 }
 
 /// The words of a new table.
+///
+/// # Errors
+///
+/// There is not enough memory.
 pub fn opening_words(alloc: Global, plan: &Plan) -> Result<List<u64>, Memory>
     requires { IsRunningPlan plan.now }
     ensures { IfOk result (λ words. IsOpening plan.now words.items) }
@@ -75,7 +83,12 @@ pub fn opening_words(alloc: Global, plan: &Plan) -> Result<List<u64>, Memory>
 }
 
 impl Domain {
-    /// A domain at rest, and its processors in order of their numbers.
+    /// A new domain, in which nobody holds a lock, and its processors in the order of their
+    /// numbers.
+    ///
+    /// # Errors
+    ///
+    /// There is not enough memory.
     pub fn new(alloc: Global, plan: &Plan) -> Result<(Domain, List<Cpu>), Memory>
         requires { IsLawfulPlan plan.now }
         ensures plan { IfOk result (λ made. IsSamePlan made.0.plan plan.now) }

@@ -4,17 +4,17 @@ ghost use Rattle.lk_domain.specs.Words.{part_index, is_last};
 
 use lk_abs::Mode;
 
-/// A word of a node, in the order in which a call resets them.
+/// A word of a queue node. A call resets the words of its node in this order.
 #[derive(Clone, Copy, Debug, PartialEq, Eq)]
 pub enum Part {
-    /// Whether the one that waits on the node leads the queue.
+    /// Whether the waiter of the node is the queue head.
     Flag,
-    /// The node behind it.
+    /// The node of the successor.
     Next,
-    /// The last node of the second queue, in the node of its first.
+    /// The last node of the secondary queue. It stands in the first node of that queue.
     SecondTail,
-    /// How many handovers were made since the second queue became non-empty, in the node of the
-    /// one that leads.
+    /// The number of handoffs since the secondary queue became non-empty. It stands in the node of
+    /// the queue head.
     Runs,
 }
 

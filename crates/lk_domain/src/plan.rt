@@ -2,22 +2,22 @@
 
 use lk_abs::{Format, Kind, List, Mode, Topology};
 
-/// What a domain is made of.
+/// The plan of a domain: what it is made of.
 #[derive(Drop)]
 pub struct Plan {
-    /// The format, which says how the words of the locks are laid out, and whom a front of `cna`
-    /// may move aside.
+    /// The format. It says how lock words are laid out, and which waiters a queue head of mode
+    /// `cna` may move aside.
     pub format: Format,
-    /// The family of all its locks.
+    /// The lock family of all its locks.
     pub mode: Mode,
-    /// Its processors, each with the number of its socket.
+    /// The processors, each with the number of its socket.
     pub topology: Topology,
-    /// How many handovers may pass a waiter that was moved aside by.
+    /// The most handoffs that may pass a moved waiter, in mode `cna`.
     pub threshold: u32,
-    /// The kind of each lock.
+    /// The kind of each lock. Lock 0 guards the ledger.
     pub locks: List<Kind>,
     /// The opening balance of each account.
     pub balances: List<u64>,
-    /// For each processor, how many entries it may write.
+    /// For each processor, the most journal entries that it may write.
     pub shares: List<u32>,
 }

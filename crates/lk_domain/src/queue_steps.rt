@@ -53,10 +53,10 @@ fn reset(cpu: &mut Cpu, domain: &Domain, verb: Verb, own: NodeName, part: Part, 
     node_moves::reset(&mut cpu.seat, domain, verb, own, part, value);
 }
 
-/// Resets a word of the node that the newest call gets next; what the word held is of no use to
-/// anybody. The words are reset in the order of `Part`, as many as a node has in a domain of this
-/// family: where waiters are moved aside four, and else the flag and the link. The last of them makes
-/// the row G1: the call then has the node.
+/// Resets a word of the node that the newest call gets next. Nobody uses what the word held. A
+/// call resets the words in the order of `Part`: all four in a domain whose queue heads move
+/// waiters aside, and else the flag and the link. The reset of the last word is the row G1: from
+/// then on the call has the node.
 pub fn private_store(
     cpu: &mut Cpu,
     domain: &Domain,
@@ -84,7 +84,7 @@ pub fn private_store(
     }
 }
 
-/// Looks at the word of a lock, of which nothing is used. This is the row G1 of a call that gets no
+/// Reads the word of a lock and uses nothing of it. This is the row G1 of a call that gets no
 /// node.
 pub fn enter_bare(cpu: &mut Cpu, domain: &Domain, verb: Verb, lock: LockName)
     requires domain { IsOf cpu.old domain.now }
@@ -98,9 +98,9 @@ pub fn enter_bare(cpu: &mut Cpu, domain: &Domain, verb: Verb, lock: LockName)
     cpu.notes.step(lock.index, true, true, false);
 }
 
-/// Links the own node of the newest call behind the one before it, and gives the number that it
-/// met, which is that of no node. The mark says whether the call is in a context above 0. This is
-/// the row G5.
+/// Links the own node of the newest call behind its predecessor, which is the row G5. `mark` says
+/// whether the call is in an interrupt. Returns the number of the link before the step, which is
+/// that of no node.
 pub fn link(
     cpu: &mut Cpu,
     domain: &Domain,
@@ -120,9 +120,9 @@ pub fn link(
     node_moves::link(&mut cpu.seat, domain, verb, prev, own, mark)
 }
 
-/// Looks at a word of the own node of the newest call, and gives its number, that of a link with
-/// the mark. These are the rows G6, G10 and C1; before C1 the call has read the count of handovers
-/// in its node.
+/// Reads the flag or the link of the own node of the newest call, which is the row G6, G10 or C1.
+/// Returns its number; that of a link has the mark. Before C1 the call has read the count of
+/// handoffs in its node.
 pub fn look_own(cpu: &mut Cpu, domain: &Domain, verb: Verb, own: NodeName, part: Part) -> u64
     requires domain { IsOf cpu.old domain.now }
     requires own { IsNode domain.now.plan own }
@@ -138,10 +138,10 @@ pub fn look_own(cpu: &mut Cpu, domain: &Domain, verb: Verb, own: NodeName, part:
     }
 }
 
-/// Hands the lead of the newest call on to the one with this node, by which the call has its lock or
-/// its wait lock, and gives the number that it met, which is that of an unset flag. These are the
-/// rows G11, where the flag is `Go`, and C8, where it names the first of the second queue, if there is
-/// one.
+/// Hands off to the waiter of the node `to`. With this step the newest call has its lock, or its
+/// wait lock. In mode `native` it is the row G11, and the flag is `Go`. In mode `cna` it is the
+/// row C8, and the flag names the first node of the secondary queue, or is `Go` if that queue is
+/// empty. Returns the number of the flag before the step, which is that of an unset one.
 pub fn hand(cpu: &mut Cpu, domain: &Domain, verb: Verb, to: NodeName, flag: Flag) -> u64
     requires domain { IsOf cpu.old domain.now }
     requires to { IsNode domain.now.plan to }
@@ -158,8 +158,8 @@ pub fn hand(cpu: &mut Cpu, domain: &Domain, verb: Verb, to: NodeName, flag: Flag
     met
 }
 
-/// Exchanges the expected word of a lock for that with the own node as its tail, and gives the word
-/// that it met. This is the row G4 where that is the expected one; else nothing has changed, and the
+/// Swaps the word of a lock from `met` to the same word with the own node as its tail. Returns the
+/// word before the step. If that is `met`, this is the row G4. Else nothing has changed, and the
 /// call tries again.
 pub fn exchange_tail(
     cpu: &mut Cpu,
@@ -181,8 +181,8 @@ pub fn exchange_tail(
     moves::exchange_tail(&mut cpu.seat, domain, verb, lock, met, own)
 }
 
-/// Takes the free lock and empties its queue, where the own node is alone in it, and gives the word
-/// that it met. This is the row G8.
+/// Swaps the word of a lock from free, with the own node alone in its queue, to held without a
+/// queue. This is the row G8. Returns the word before the step.
 pub fn sole_claim(cpu: &mut Cpu, domain: &Domain, verb: Verb, lock: LockName, own: NodeName) -> u64
     requires domain { IsOf cpu.old domain.now }
     requires lock { lock.index < locks_of domain.now.plan }
@@ -201,7 +201,8 @@ pub fn sole_claim(cpu: &mut Cpu, domain: &Domain, verb: Verb, lock: LockName, ow
     met
 }
 
-/// Takes the free lock as the first of a queue, and gives the word that it met. This is the row G9.
+/// Acquires the free lock as the queue head, and leaves the queue in the word. This is the row G9.
+/// Returns the word before the step.
 pub fn set_locked(cpu: &mut Cpu, domain: &Domain, verb: Verb, lock: LockName) -> u64
     requires domain { IsOf cpu.old domain.now }
     requires lock { lock.index < locks_of domain.now.plan }

@@ -140,8 +140,8 @@ pub(crate) fn watch(cpu: &mut Cpu, domain: &Domain, verb: Verb, lock: u32) -> u6
     met
 }
 
-/// The first addition of a new call of `read_lock`, which is the row R1. It is `add_bias` of a call
-/// that has not waited.
+/// The row R1 of a new call of `read_lock`. It does what `add_bias` does in a call that has not
+/// waited.
 #[inline]
 pub fn join_first(cpu: &mut Cpu, domain: &Domain, verb: Verb, lock: LockName) -> u64
     requires domain { IsOf cpu.old domain.now }
@@ -160,8 +160,9 @@ pub fn join_first(cpu: &mut Cpu, domain: &Domain, verb: Verb, lock: LockName) ->
     met
 }
 
-/// Adds a reader to the word of a reader-writer lock, and gives the word that it met. By a call of
-/// `read_lock` this is the row R1, with which it begins, or R4, and by one of `try_read` Y2.
+/// Adds a reader to the word of a reader-writer lock, and returns the word before the step. In a
+/// call of `read_lock` this is the row R1, which is its first, or R4. In a call of `try_read` it
+/// is Y2.
 pub fn add_bias(cpu: &mut Cpu, domain: &Domain, verb: Verb, lock: LockName) -> u64
     requires domain { IsOf cpu.old domain.now }
     requires lock { lock.index < locks_of domain.now.plan }
@@ -180,8 +181,8 @@ pub fn add_bias(cpu: &mut Cpu, domain: &Domain, verb: Verb, lock: LockName) -> u
     met
 }
 
-/// The first exchange of a new call of `write_lock`, which is the row Wr1. It is `empty_to_writer` of
-/// a call that has not waited.
+/// The row Wr1 of a new call of `write_lock`. It does what `empty_to_writer` does in a call that
+/// has not waited.
 #[inline]
 pub fn seize_first(cpu: &mut Cpu, domain: &Domain, verb: Verb, lock: LockName) -> u64
     requires domain { IsOf cpu.old domain.now }
@@ -200,9 +201,9 @@ pub fn seize_first(cpu: &mut Cpu, domain: &Domain, verb: Verb, lock: LockName) -
     met
 }
 
-/// Exchanges the empty word of a reader-writer lock for that of a writer, and gives the word that it
-/// met. By a call of `write_lock` this is the row Wr1, with which it begins, or Wr3, and by one of
-/// `try_write` Y5.
+/// Swaps the word of a reader-writer lock from empty to held by a writer, and returns the word
+/// before the step. In a call of `write_lock` this is the row Wr1, which is its first, or Wr3. In
+/// a call of `try_write` it is Y5.
 pub fn empty_to_writer(cpu: &mut Cpu, domain: &Domain, verb: Verb, lock: LockName) -> u64
     requires domain { IsOf cpu.old domain.now }
     requires lock { lock.index < locks_of domain.now.plan }
@@ -259,8 +260,9 @@ fn release_as_reader(cpu: &mut Cpu, domain: &Domain, lock: u32) -> u64
     met
 }
 
-/// Takes a reader off the word of a reader-writer lock, and gives the word that it met. By a call of
-/// `read_lock` this is the row R3, by one of `try_read` Y3, and by one of `read_unlock` Z1.
+/// Takes a reader off the word of a reader-writer lock, and returns the word before the step. In a
+/// call of `read_lock` this is the row R3, in one of `try_read` Y3, and in one of `read_unlock`
+/// Z1.
 pub fn subtract_bias(cpu: &mut Cpu, domain: &Domain, verb: Verb, lock: LockName) -> u64
     requires domain { IsOf cpu.old domain.now }
     requires lock { lock.index < locks_of domain.now.plan }
@@ -277,8 +279,8 @@ pub fn subtract_bias(cpu: &mut Cpu, domain: &Domain, verb: Verb, lock: LockName)
     }
 }
 
-/// Sets waiting in the word of a reader-writer lock, and gives the word that it met. This is the row
-/// Wr4.
+/// Sets the waiting bit in the word of a reader-writer lock, and returns the word before the step.
+/// This is the row Wr4.
 pub fn set_waiting(cpu: &mut Cpu, domain: &Domain, verb: Verb, lock: LockName) -> u64
     requires domain { IsOf cpu.old domain.now }
     requires lock { lock.index < locks_of domain.now.plan }
@@ -290,8 +292,8 @@ pub fn set_waiting(cpu: &mut Cpu, domain: &Domain, verb: Verb, lock: LockName) -
     rw_moves::set_waiting(&mut cpu.seat, domain, lock.index)
 }
 
-/// Exchanges the word in which the call alone waits for that of a writer, and gives the word that it
-/// met. This is the row Wr6.
+/// Swaps the word of a reader-writer lock from that in which only the waiting bit is set to held
+/// by a writer, and returns the word before the step. This is the row Wr6.
 pub fn waiting_to_writer(cpu: &mut Cpu, domain: &Domain, verb: Verb, lock: LockName) -> u64
     requires domain { IsOf cpu.old domain.now }
     requires lock { lock.index < locks_of domain.now.plan }
@@ -306,8 +308,8 @@ pub fn waiting_to_writer(cpu: &mut Cpu, domain: &Domain, verb: Verb, lock: LockN
     met
 }
 
-/// Takes the writer off the word of a reader-writer lock, and gives the word that it met. This is
-/// the row Z2.
+/// Takes the writer off the word of a reader-writer lock, and returns the word before the step.
+/// This is the row Z2.
 pub fn writer_release(cpu: &mut Cpu, domain: &Domain, verb: Verb, lock: LockName) -> u64
     requires domain { IsOf cpu.old domain.now }
     requires lock { lock.index < locks_of domain.now.plan }

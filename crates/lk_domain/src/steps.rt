@@ -99,10 +99,11 @@ fn look_word(cpu: &mut Cpu, domain: &Domain, verb: Verb, lock: LockName) -> u64
     met
 }
 
-/// Looks at the word of a lock, and gives it: 0 where the lock is free. On a spinlock or a wait lock
-/// this is by a call of `try_lock` the row T1, and by another a row of its mode: V1, P0, P3, G2, G7 or
-/// N1. On a reader-writer lock itself it is by a call of `read_lock` the row R2 or R5, by one of
-/// `write_lock` Wr2 or Wr5, and by one of `try_read` or `try_write` Y1 or Y4.
+/// Reads the word of a lock, and returns it. The word 0 means that the lock is free.
+///
+/// On a spinlock or a wait lock this is the row T1 in a call of `try_lock`, and in another call
+/// V1, P0, P3, G2, G7 or N1. On a reader-writer lock it is R2 or R5 in a call of `read_lock`, Wr2
+/// or Wr5 in one of `write_lock`, Y1 in one of `try_read`, and Y4 in one of `try_write`.
 pub fn look(cpu: &mut Cpu, domain: &Domain, verb: Verb, lock: LockName) -> u64
     requires domain { IsOf cpu.old domain.now }
     requires lock { lock.index < locks_of domain.now.plan }
@@ -121,8 +122,9 @@ pub fn look(cpu: &mut Cpu, domain: &Domain, verb: Verb, lock: LockName) -> u64
     }
 }
 
-/// Swaps the free word of a lock for the held one, and gives the word that it met: 0 where it took
-/// the lock. By a call of `try_lock` this is the row T2, and by another F1, V2, G3 or N2.
+/// Swaps the word of a lock from free to held, and returns the word before the step. The word 0
+/// means that the call has acquired the lock. This is the row T2 in a call of `try_lock`, and in
+/// another call F1, V2, G3 or N2.
 pub fn take_free(cpu: &mut Cpu, domain: &Domain, verb: Verb, lock: LockName) -> u64
     requires domain { IsOf cpu.old domain.now }
     requires lock { lock.index < locks_of domain.now.plan }
@@ -139,8 +141,8 @@ pub fn take_free(cpu: &mut Cpu, domain: &Domain, verb: Verb, lock: LockName) -> 
     met
 }
 
-/// The first exchange of a new call of `lock`, which is the row F1. It is `take_free` of a call that
-/// has not waited.
+/// The row F1 of a new call of `lock`. It does what `take_free` does in a call that has not
+/// waited.
 #[inline]
 pub fn take_first(cpu: &mut Cpu, domain: &Domain, verb: Verb, lock: LockName) -> u64
     requires domain { IsOf cpu.old domain.now }
@@ -187,7 +189,8 @@ fn free_wait(cpu: &mut Cpu, domain: &Domain, verb: Verb, lock: LockName) -> u64
     met
 }
 
-/// Frees a lock that the processor holds, and gives the word that it met. This is the row U1.
+/// Releases a lock that the processor holds, and returns the word before the step. This is the row
+/// U1.
 pub fn release(cpu: &mut Cpu, domain: &Domain, verb: Verb, lock: LockName) -> u64
     requires domain { IsOf cpu.old domain.now }
     requires lock { lock.index < locks_of domain.now.plan }
@@ -202,7 +205,7 @@ pub fn release(cpu: &mut Cpu, domain: &Domain, verb: Verb, lock: LockName) -> u6
     }
 }
 
-/// Sets pending, and gives the word that it met. This is the row P1.
+/// Sets the pending bit, and returns the word before the step. This is the row P1.
 pub fn set_pending(cpu: &mut Cpu, domain: &Domain, verb: Verb, lock: LockName) -> u64
     requires domain { IsOf cpu.old domain.now }
     requires lock { lock.index < locks_of domain.now.plan }
@@ -213,7 +216,8 @@ pub fn set_pending(cpu: &mut Cpu, domain: &Domain, verb: Verb, lock: LockName) -
     moves::set_pending(&mut cpu.seat, domain, verb, lock)
 }
 
-/// Takes pending away, which the call has set, and gives the word that it met. This is the row P2.
+/// Clears the pending bit, which the call has set, and returns the word before the step. This is
+/// the row P2.
 pub fn clear_pending(cpu: &mut Cpu, domain: &Domain, verb: Verb, lock: LockName) -> u64
     requires domain { IsOf cpu.old domain.now }
     requires lock { lock.index < locks_of domain.now.plan }
@@ -224,8 +228,8 @@ pub fn clear_pending(cpu: &mut Cpu, domain: &Domain, verb: Verb, lock: LockName)
     moves::clear_pending(&mut cpu.seat, domain, verb, lock)
 }
 
-/// Takes the free lock and clears pending, which the call has set, and gives the word that it met.
-/// This is the row P4.
+/// Acquires the free lock and clears the pending bit, which the call has set. Returns the word
+/// before the step. This is the row P4.
 pub fn pending_to_locked(cpu: &mut Cpu, domain: &Domain, verb: Verb, lock: LockName) -> u64
     requires domain { IsOf cpu.old domain.now }
     requires lock { lock.index < locks_of domain.now.plan }

@@ -6,7 +6,7 @@ ghost use Rattle.lk_domain.specs.Ledgers.{Ledger};
 
 use std::marker::Model;
 
-/// What a seat knows. No value of it is made.
+/// What a seat knows, as contracts see it. The program never makes a value of it.
 pub struct View {
     // Its plan, the number of its processor, and those that it took over.
     pub ghost who: { Who },

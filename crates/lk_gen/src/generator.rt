@@ -107,9 +107,12 @@ fn steps_from(pages: u32, draw: u32) -> (Page, Left)
     )
 }
 
-/// Writes the generated trace of the start number. It takes no memory. `WriteFault` comes only
-/// where the sink's count of faults rose in this call, and then the sink took a front of the text;
-/// it doesn't come where the sink takes so many bytes for certain.
+/// Writes the trace that is generated from the start number. It takes no memory.
+///
+/// # Errors
+///
+/// A fault of the sink. The sink's count of faults rose in this call, and the sink took a prefix
+/// of the text. There is no fault if the sink is certain to take so many bytes.
 pub fn generate<K: Sink>(start: u32, sink: &mut K) -> Result<(), WriteFault>
     ensures ok { OnOk result (Appends (K.held sink.old) (K.held sink.new) (generated start)) }
     ensures err { OnErr result

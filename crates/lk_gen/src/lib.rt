@@ -1,5 +1,5 @@
-//! The generated trace of a start number: its text is written into any sink, without memory, and
-//! is good for every start.
+//! The trace that is generated from a start number. Its text is written to any sink without
+//! memory, and is good for every start number.
 #![tactic(auto)]
 
 mod generator;

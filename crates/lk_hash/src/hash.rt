@@ -15,8 +15,9 @@ use std::marker::Model;
 // How many places there are for each processor, at least: as many as it has nodes.
 const PLACES_PER_CPU: usize = 4;
 
-/// A finite map from locks to nodes, both told by numbers. Callers see its entries in the order of
-/// their locks, and not where they stand.
+/// A finite map from locks to nodes, each named by a number. Callers see the entries in the order
+/// of their locks, and not the places at which they stand. Linux's counterpart is `pv_lock_hash`
+/// (`kernel/locking/qspinlock_paravirt.h`).
 #[derive(Drop)]
 pub struct LockHash {
     places: Vec<Place>,
@@ -42,8 +43,8 @@ fn free_places(alloc: Global, count: usize) -> Result<Vec<Place>, Memory>
 }
 
 impl LockHash {
-    /// An empty hash for so many processors, from 1 to 1,024. It takes all its memory here: the least
-    /// power of two that is at least four places for each processor.
+    /// An empty hash for so many processors, from 1 to 1,024. It takes all its memory here: at
+    /// least four places for each processor, rounded up to a power of two.
     ///
     /// # Errors
     ///
@@ -60,14 +61,14 @@ impl LockHash {
         Ok(LockHash { places })
     }
 
-    /// How many places there are.
+    /// The number of places.
     pub fn places(&self) -> u32
         ensures { result ≡ self.now.places }
     {
         self.places.len() as u32
     }
 
-    /// The node of a lock; none where the lock is not entered.
+    /// The node of a lock; none if the lock has no entry.
     #[tactic(auto, using(crate::proofs::Table::read))]
     pub fn find(&self, lock: u32) -> Option<u32>
         ensures { result ≡ node_in lock self.now.entries }
@@ -78,7 +79,8 @@ impl LockHash {
         }
     }
 
-    /// Enters a lock with its node.
+    /// Enters a lock with its node. The lock must have no entry, and fewer locks are entered than
+    /// there are places.
     #[tactic(auto, using(crate::proofs::Table::entering))]
     pub fn enter(&mut self, lock: u32, node: u32)
         requires absent { node_in lock self.old.entries ≡ None }
@@ -89,7 +91,7 @@ impl LockHash {
         self.places[at] = Place::Taken { lock, node };
     }
 
-    /// Takes a lock out, and gives its node.
+    /// Removes the entry of a lock and returns its node. The lock must have an entry.
     #[tactic(auto, using(crate::proofs::Table::removing))]
     pub fn remove(&mut self, lock: u32) -> u32
         requires { is_some (node_in lock self.old.entries) ≡ true }

@@ -1,7 +1,8 @@
-//! The hash of locks: to each lock that is entered the node whose processor a release has to kick.
+//! The hash that tells a release which processor to kick: it maps each entered lock to a queue
+//! node.
 //!
-//! It is a finite map from numbers to numbers, kept by open addressing with linear probes. All its
-//! memory is taken when it is made.
+//! It is a finite map from numbers to numbers, kept by open addressing with linear probing. It
+//! takes all its memory when it is made.
 #![tactic(auto)]
 
 mod hash;

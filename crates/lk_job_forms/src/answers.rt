@@ -1,10 +1,10 @@
 // What the reader of job files answers.
 
-/// What comes after an accepted line of a job file.
+/// What may follow an accepted line of a job file.
 #[derive(Clone, Copy, Debug, PartialEq, Eq)]
 pub enum JobStep {
-    /// More lines.
+    /// Further lines.
     More,
-    /// Only blank lines and comments: the line `end` was read.
+    /// Only blank lines and comments, since the line `end` was read.
     End,
 }

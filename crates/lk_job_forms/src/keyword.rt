@@ -17,7 +17,7 @@ pub(crate) enum Keyword {
     Workers,
     /// `sockets`: where the workers stand.
     Sockets,
-    /// `threshold`: how many handovers may pass a waiter that was moved aside by.
+    /// `threshold`: the most handoffs that may pass a moved waiter.
     Threshold,
     /// `accounts`: the opening balances.
     Accounts,

@@ -7,8 +7,8 @@ pub fn job_files_are_lawful()
     ensures { JobFilesAreLawful }
 {}
 
-/// Each line of an outcome tells what it was made of, but for the number of an entry's job, and the
-/// text of an outcome tells all of it.
+/// Each line of an outcome determines what it was made of, except for the number of an entry's
+/// job. The text of an outcome determines all of it, these numbers included.
 pub fn outcomes_tell_all()
     ensures entries { EntriesAreTold }
     ensures reads { ReadsAreTold }

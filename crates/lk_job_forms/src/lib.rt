@@ -1,6 +1,6 @@
-//! The forms of text of the ledger: the grammar of job files, and the lines of an outcome. Its
-//! `specs/` say what each line of a job file says behind the lines before it, or why it is refused,
-//! and what each line of an outcome looks like.
+//! The texts of the ledger: the grammar of job files, and the lines of an outcome. The `specs/`
+//! say what each line of a job file means after the lines before it, or why it is refused, and
+//! what each line of an outcome looks like.
 #![tactic(auto)]
 
 mod accounts;

@@ -26,7 +26,7 @@ fn format_said(first: &[u8], args: &[u8]) -> Option<Format>
     }
 }
 
-/// Reads a job file, line by line. It keeps the allocator for what the lines say.
+/// Reads a job file, line by line. It keeps the allocator, since the lines need memory.
 #[derive(Drop)]
 pub struct JobReader {
     alloc: Global,
@@ -48,6 +48,10 @@ impl JobReader {
     ghost use Rattle.lk_job_forms.specs.Reader.{reading, step_of, ReadsOn};
 
     /// A reader that has read no line.
+    ///
+    /// # Errors
+    ///
+    /// There is not enough memory.
     pub fn new(alloc: Global) -> Result<JobReader, Memory>
         ensures { IfOk result (λ reader. reading reader ≡ nothing_read) }
     {
@@ -106,7 +110,7 @@ impl JobReader {
         Ok(JobStep::More)
     }
 
-    /// Whether the line `end` is read.
+    /// Whether the line `end` was read.
     pub fn is_ended(&self) -> bool
         ensures { result ≡ has_end (reading self.now) }
     {
@@ -124,9 +128,13 @@ impl JobReader {
         }
     }
 
-    /// Reads one more line, without its line feed. A refused line leaves the reader as it was, and
-    /// after `End` only blank lines and comments are accepted, each with `End`. It takes memory for
-    /// what the line says.
+    /// Reads one more line, without its line feed. After the line `end` it accepts only blank
+    /// lines and comments, and returns `End` for each. It takes memory for what the line says.
+    ///
+    /// # Errors
+    ///
+    /// The first check of `docs/FORMATS.md` that the line fails, or no memory. The reader is then
+    /// as it was.
     pub fn line(&mut self, line: &[u8]) -> Result<JobStep, LineRefusal>
         ensures { ReadsOn (read (reading self.old) line.now)
             (reading self.old) (reading self.new) result }
@@ -149,7 +157,8 @@ impl JobReader {
         }
     }
 
-    /// What is wrong where the input ends now; `end` is not read yet.
+    /// The fault of an input that ends here, without the line `end`: `NoFormat` before the format
+    /// line, else `NoEnd`.
     pub fn ending(&self) -> Fault
         requires { has_end (reading self.now) ≡ false }
         ensures { Some result ≡ ending (reading self.now) }
@@ -161,7 +170,7 @@ impl JobReader {
         }
     }
 
-    /// The job file that the lines say; `end` has to be read. It takes no memory.
+    /// The job file that was read. The line `end` must have been read. It takes no memory.
     pub fn finish(self) -> JobFile
         requires { has_end (reading self) ≡ true }
         ensures says { workload_of result ≡ (reading self).work }

@@ -62,8 +62,8 @@ fn write_answered(line: &mut LineBuf, job: Job, reply: Reply)
     line.word(b"\n");
 }
 
-/// The line of an entry of the journal, which has this number, counted from 1. It has no place for
-/// the number of the worker's job.
+/// The line of an entry of the journal. `n` is the number of the entry, counted from 1. The line
+/// does not tell the number of the worker's job.
 #[tactic(auto, using(lk_forms::proofs::Decimals::decimal_small, lk_forms::proofs::Decimals::decimal_short))]
 pub fn entry_line(n: u64, entry: &Entry) -> LineBuf
     ensures { line_text result ≡ entry_text n entry.now }
@@ -78,7 +78,7 @@ pub fn entry_line(n: u64, entry: &Entry) -> LineBuf
     line
 }
 
-/// The line of a read.
+/// The line of the record of a read.
 #[tactic(auto, using(lk_forms::proofs::Decimals::decimal_small, lk_forms::proofs::Decimals::decimal_short))]
 pub fn seen_line(seen: &Seen) -> LineBuf
     ensures { line_text result ≡ seen_text seen.now }
@@ -95,7 +95,7 @@ pub fn seen_line(seen: &Seen) -> LineBuf
     line
 }
 
-/// The line of an account and its balance.
+/// The line of an account, numbered from 0, and its balance.
 #[tactic(auto, using(lk_forms::proofs::Decimals::decimal_small, lk_forms::proofs::Decimals::decimal_short))]
 pub fn balance_line(account: u32, amount: u64) -> LineBuf
     ensures { line_text result ≡ balance_text account amount }
@@ -109,7 +109,7 @@ pub fn balance_line(account: u32, amount: u64) -> LineBuf
     line
 }
 
-/// The last line: how many entries and how many reads there are.
+/// The last line: the number of entries and the number of reads.
 #[tactic(auto, using(lk_forms::proofs::Decimals::decimal_short))]
 pub fn total_line(entries: u64, reads: u64) -> LineBuf
     ensures { line_text result ≡ total_text entries reads }

@@ -1,5 +1,5 @@
-//! The word `ledger`: a job file is read to its end, its jobs are run on threads, and what came of
-//! them is written.
+//! The command `ledger`: it reads a job file to its end, runs the jobs on threads, and writes
+//! their outcome.
 #![tactic(auto)]
 
 mod reading;

@@ -14,8 +14,8 @@ use lk_stream::{ReplayFault, follow};
 use lk_text::{NullSink, Source};
 use std::alloc::Global;
 
-/// Reads a job file to the end of the source. Behind its line `end` stand only blank lines and
-/// comments.
+/// Reads a job file to the end of the source. After the line `end` there may be only blank lines
+/// and comments.
 ///
 /// # Errors
 ///

@@ -19,14 +19,14 @@ use std::alloc::Global;
 use std::sync::Wait;
 use std::thread::Threads;
 
-/// Reads a job file to the end of the source, does the jobs of each worker in a thread of its own,
-/// and writes to the sink what came of them. Nothing is written before all jobs are done. The gate
-/// is passed before and after each job.
+/// Reads a job file to the end of the source, runs the jobs of each worker on a thread of its own,
+/// and writes the outcome to the sink. It writes nothing until all jobs are done. Each worker
+/// passes the gate before and after each job.
 ///
 /// # Errors
 ///
-/// The first line that is refused, a fault of the source or of the sink, or no memory. Nothing is
-/// written then, but for a front of the text where a write failed.
+/// The first line that is refused, a fault of the source or of the sink, or no memory. Then
+/// nothing was written, except that after a fault of the sink a prefix of the outcome was.
 pub fn ledger<S: Source, K: Sink, G: Gate, R: Threads + Wait + Sync>(
     rt: &R,
     alloc: Global,

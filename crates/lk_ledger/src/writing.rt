@@ -82,12 +82,12 @@ fn write_total<K: Sink>(
     block.flush(sink)
 }
 
-/// Writes what waits, and behind it the text of an outcome: the journal, the reads, the balances,
-/// and how many entries and reads there are. It takes no memory.
+/// Writes what waits in the block, and then the text of an outcome: the journal, the reads, the
+/// balances, and the numbers of entries and reads. It takes no memory.
 ///
 /// # Errors
 ///
-/// A fault of the sink; what was written before stays.
+/// A fault of the sink. What was written before it stays.
 pub fn write_outcome<K: Sink>(
     block: &mut Block,
     sink: &mut K,

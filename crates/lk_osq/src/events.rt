@@ -3,25 +3,25 @@
 /// What happened.
 #[derive(Clone, Copy, Debug, PartialEq, Eq)]
 pub enum OsqWhat {
-    /// It took the lock, which was free.
+    /// It acquired the free lock.
     TakeFree,
-    /// It arrived behind another.
+    /// It joined the queue behind another processor.
     Arrive,
-    /// It took the lock, which was handed to it.
+    /// It acquired the lock, which its predecessor had handed off to it.
     TakeHanded,
-    /// It gave up.
+    /// It gave up and left the queue.
     Quit,
-    /// It released the lock, and handed it to this processor, if it names one.
+    /// It released the lock, and handed it off if `to` names a processor.
     Release {
-        /// To whom; none where nobody waits.
+        /// The successor that gets the lock; none if nobody waits.
         to: Option<u32>,
     },
 }
 
-/// One event of a history.
+/// One event of a history of the optimistic spin queue.
 #[derive(Clone, Copy, Debug, PartialEq, Eq)]
 pub struct OsqEvent {
-    /// Who acted.
+    /// The processor that acted.
     pub cpu: u32,
     /// What happened.
     pub what: OsqWhat,

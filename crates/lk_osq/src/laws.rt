@@ -2,7 +2,8 @@
 ghost use Rattle.std.specs.Prelude.{ℕ, List};
 ghost use Rattle.lk_osq.specs.RunLaws.{ActKeeps, RunKeeps, RestShows, RunsInParts};
 
-/// Every act, of whatever processor, keeps what a machine shows, and its event is lawful after it.
+/// Each act of each processor keeps what a machine shows, and its event is lawful after the
+/// history so far.
 pub fn acts_keep()
     ensures keep { ActKeeps }
 {}
@@ -13,13 +14,14 @@ pub fn rest_shows()
     ensures rest { RestShows }
 {}
 
-/// The history of every list of acts from rest is lawful, and the machine afterwards shows what it
-/// tells.
+/// The history of every list of acts from rest is lawful, and the machine that the acts leave
+/// shows it.
 pub fn runs_keep()
     ensures run { RunKeeps }
 {}
 
-/// A run can be told in parts, and its occurrences without their numbers are its history.
+/// A run can be divided: the history of two lists of acts, one after the other, is that of both
+/// together. The events of a run, without the numbers of their acts, are its history.
 #[tactic(auto, using(crate::proofs::Joined::runs_in_parts))]
 pub fn runs_in_parts()
     ensures parts { RunsInParts }

@@ -1,5 +1,5 @@
-//! The optimistic spin queue (Linux's `osq_lock.c`), whose waiters may give up: its machine, and
-//! what holds of every history of it.
+//! The optimistic spin queue (Linux's `kernel/locking/osq_lock.c`), whose waiters may give up: its
+//! machine, and the laws of every history of it.
 #![tactic(auto)]
 
 mod events;

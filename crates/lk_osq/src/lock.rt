@@ -7,9 +7,9 @@ use crate::events::OsqWhat;
 use crate::outcomes::{Lead, Outcome, Store};
 use crate::places::Place;
 
-/// O1: makes its node fresh.
+/// O1: resets its node.
 ///
-/// It stands in no queue, so no other processor names its node, nor stores in it.
+/// The node stands in no queue. So no other processor names it or stores into it.
 pub(crate) fn enters(cpu: u32) -> Outcome
     ensures { result ≡ enters cpu }
 {
@@ -18,12 +18,13 @@ pub(crate) fn enters(cpu: u32) -> Outcome
 
 /// O2: exchanges the tail with itself.
 ///
-/// `t = none` becomes `t = p`, and it holds the lock: who leaves the queue stores none in the tail
-/// only as its last (X1, X5), so there is no holder, and nobody was handed the lock.
+/// `t = none` becomes `t = p`, and p acquires the lock. A processor that leaves the queue stores
+/// none into the tail only as its last (X1, X5). So there is no holder, and the lock was handed
+/// off to nobody.
 ///
-/// `.. a, t = a` becomes `.. a  p, t = p`, and it has arrived behind a. The link from a to p is
-/// *still to come*, and nobody else will give it. Its node is fresh, so it will not take the lock
-/// before one hands it over.
+/// `.. a, t = a` becomes `.. a  p, t = p`, and p has arrived behind a. The link from a to p is
+/// *still to come*, and nobody else will store it. The node of p was reset, so p does not acquire
+/// the lock before a predecessor hands it off.
 pub(crate) fn arrives(cpu: u32, tail: Option<u32>) -> Outcome
     ensures { result ≡ arrives cpu tail }
 {
@@ -43,20 +44,22 @@ pub(crate) fn arrives(cpu: u32, tail: Option<u32>) -> Outcome
     }
 }
 
-/// O4: links its node behind the one before it. (O3, before it, tells its own node who that is.)
+/// O4: links its node behind its predecessor. (O3, before it, stores the predecessor into the own
+/// node.)
 ///
-/// `a  p` becomes `a -> p`. The one before it is still a: a can leave only past the link behind
-/// itself, which this row has in hand, or as the last, which it is not.
+/// `a  p` becomes `a -> p`. The predecessor is still a. It can leave only past the link behind
+/// itself, which p has not stored yet, or as the last of the queue, which it is not.
 pub(crate) fn links(cpu: u32, prev: Option<u32>) -> Outcome
     ensures { result ≡ links cpu prev }
 {
     Outcome::writes(prev, Store::Next(Some(cpu)), Place::O5)
 }
 
-/// O5: looks at its own flag; without it, and where it was asked, it begins to give up.
+/// O5: polls its own flag. Where the flag is not set and p was asked to give up, it begins to give
+/// up.
 ///
-/// Only the holder that leaves sets the flag (X3), and it was the one directly before this one. So
-/// with the flag this one is the first, and nobody holds the lock.
+/// Only a holder that leaves sets the flag (X3), and that holder was the predecessor of p. So
+/// where the flag is set p is the first of the queue, and nobody holds the lock.
 pub(crate) fn waits(flag: bool, request: bool) -> Outcome
     ensures { result ≡ waits flag request }
 {

@@ -15,7 +15,7 @@ use lk_abs::{List, Memory};
 use std::alloc::Global;
 use std::marker::Model;
 
-/// The queue's tail, and the processors.
+/// The machine of the optimistic spin queue: its tail, and its processors.
 #[derive(Drop)]
 pub struct OsqMachine {
     tail: Option<u32>,
@@ -44,8 +44,8 @@ fn cpus_at_rest(alloc: Global, rounds: &List<u32>) -> Result<Vec<Cpu>, Memory>
 }
 
 impl OsqMachine {
-    /// The machine at rest, a processor for each number, which is how many rounds it has. All its
-    /// memory is taken here.
+    /// The machine at rest. It has a processor for each item of `rounds`, at most 64, and the item
+    /// is the number of rounds that the processor makes. It takes all its memory here.
     ///
     /// # Errors
     ///
@@ -170,15 +170,15 @@ impl OsqMachine {
         }
     }
 
-    /// How many processors there are.
+    /// The number of processors.
     pub fn cpus(&self) -> u32
         ensures { result ≡ length self.now.cpus }
     {
         self.cpus.len() as u32
     }
 
-    /// Does one act: a processor is asked to give up, or makes its row; and gives the event where
-    /// it has one. It takes no memory.
+    /// Does one act. With `give` the processor is asked to give up, else it makes its row. Returns
+    /// the event, if there is one. It takes no memory.
     pub fn act(&mut self, give: bool, cpu: u32) -> Option<OsqEvent>
         requires { cpu < length self.old.cpus }
         ensures next { self.new ≡ (next self.old give cpu).0 }

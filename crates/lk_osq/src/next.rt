@@ -6,7 +6,7 @@ ghost use Rattle.lk_osq.specs.Rows.{sees_tail, sees_next, grabs};
 use crate::outcomes::{Lead, Outcome, Store, is_cpu};
 use crate::places::Place;
 
-/// Q4, X4: looks whether it is the last.
+/// Q4, X4: reads the tail, to see whether it is the last.
 pub(crate) fn sees_tail(cpu: u32, tail: Option<u32>, last: Place, other: Place) -> Outcome
     ensures { result ≡ sees_tail cpu tail last other }
 {
@@ -17,8 +17,8 @@ pub(crate) fn sees_tail(cpu: u32, tail: Option<u32>, last: Place, other: Place) 
     }
 }
 
-/// Q6, X6: looks for the link to the one behind it. It is not there while it is still to come, or
-/// while that one has cut it.
+/// Q6, X6: reads the link to its successor. The link is not there while it is still to come, or
+/// while the successor has cut it.
 pub(crate) fn sees_next(next: Option<u32>, there: Place, missing: Place) -> Outcome
     ensures { result ≡ sees_next next there missing }
 {
@@ -32,8 +32,8 @@ pub(crate) fn sees_next(next: Option<u32>, there: Place, missing: Place) -> Outc
 /// Q7, X2, X7: exchanges its own next with none.
 ///
 /// `p -> b` becomes `p = b`: the link is *grabbed*. From now on b cannot cut it, and so cannot
-/// leave; and b stands directly behind p, since a node names nobody else. Where the link is not
-/// there nothing changes: the one behind it may have cut it since it was seen.
+/// leave. And b stands directly behind p, since a node names nobody else. If there is no link,
+/// nothing changes: the successor may have cut it since p saw it.
 pub(crate) fn grabs(cpu: u32, next: Option<u32>, without: Place, with: Place) -> Outcome
     ensures { result ≡ grabs cpu next without with }
 {

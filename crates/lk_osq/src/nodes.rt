@@ -10,28 +10,28 @@ use crate::places::Place;
 /// A processor's node.
 #[derive(Clone, Copy, Debug, PartialEq, Eq)]
 pub struct Node {
-    /// Whether the lock was handed to it.
+    /// Whether the lock was handed off to the processor.
     pub flag: bool,
-    /// The processor behind it, where that has linked its node and nobody has the link in hand.
+    /// The successor; none if it has not stored its link, or if the link is cut or grabbed.
     pub next: Option<u32>,
-    /// The processor before it, as it was last told.
+    /// The predecessor that was stored last. It may be out of date.
     pub prev: Option<u32>,
 }
 
-/// A processor: its node, and what it knows.
+/// A processor: its node, its registers, and its place.
 #[derive(Clone, Copy, Debug, PartialEq, Eq)]
 pub struct Cpu {
-    /// Its node, which others read and write.
+    /// Its node, which other processors read and write.
     pub node: Node,
-    /// The register for the processor before it.
+    /// The register for the predecessor.
     pub prev: Option<u32>,
-    /// The register for the processor behind it.
+    /// The register for the successor.
     pub y: Option<u32>,
-    /// Whether it was asked to give up.
+    /// Whether the processor was asked to give up.
     pub request: bool,
-    /// The rounds left, the one it is in among them.
+    /// How many rounds are left, the present one included.
     pub rounds: u32,
-    /// The row at which it stands; none where it is finished.
+    /// The row at which the processor stands; none if it is finished.
     pub place: Option<Place>,
 }
 

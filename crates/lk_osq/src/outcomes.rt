@@ -5,42 +5,42 @@ ghost use Rattle.lk_osq.specs.Rows.{looks, writes, tells, takes, swaps, is_cpu};
 use crate::events::OsqWhat;
 use crate::places::Place;
 
-/// Where a row leads.
+/// Where a row leads its processor.
 #[derive(Clone, Copy, Debug, PartialEq, Eq)]
 pub enum Lead {
-    /// To a place.
+    /// To this place.
     Goes(Place),
-    /// To a place, with this in the register for the processor before.
+    /// To this place, with this predecessor in its register.
     Knows(Place, Option<u32>),
-    /// To a place, with this in the register for the processor behind.
+    /// To this place, with this successor in its register.
     Meets(Place, u32),
-    /// Out of the round.
+    /// To the end of the round.
     Ends,
 }
 
-/// What is stored in a node.
+/// What a row stores into a node.
 #[derive(Clone, Copy, Debug, PartialEq, Eq)]
 pub enum Store {
-    /// The flag.
+    /// A new flag.
     Flag(bool),
-    /// The processor behind it.
+    /// A new successor, or none.
     Next(Option<u32>),
-    /// The processor before it.
+    /// A new predecessor, or none.
     Prev(Option<u32>),
-    /// No flag, and nobody behind it.
+    /// Flag not set, and no successor.
     Reset,
 }
 
-/// What a row does.
+/// What a row does. Each row is atomic.
 #[derive(Clone, Copy, Debug, PartialEq, Eq)]
 pub struct Outcome {
-    /// What it stores in the tail, if it does.
+    /// The value that it stores into the tail, if it stores there.
     pub tail: Option<Option<u32>>,
-    /// In whose node it stores, and what.
+    /// The processor into whose node it stores, and what it stores there.
     pub node: Option<(u32, Store)>,
-    /// Where it leads.
+    /// Where it leads the acting processor.
     pub leads: Lead,
-    /// What it tells.
+    /// The event, if there is one.
     pub tells: Option<OsqWhat>,
 }
 

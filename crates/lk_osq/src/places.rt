@@ -1,48 +1,48 @@
 // The rows by their labels.
 
-/// A row: one atomic step. `docs/OSQ.md` tells each of them.
+/// A row: one atomic step, named by its label. `docs/OSQ.md` has the table of all rows.
 #[derive(Clone, Copy, Debug, PartialEq, Eq)]
 pub enum Place {
-    /// Makes its node fresh.
+    /// Resets its node.
     O1,
-    /// Exchanges the tail: it takes the free lock, or arrives behind another.
+    /// Exchanges the tail. It acquires the free lock, or arrives behind a predecessor.
     O2,
-    /// Tells its node whom it stands behind.
+    /// Stores its predecessor into its own node.
     O3,
-    /// Links its node behind the one before it.
+    /// Links its node behind its predecessor.
     O4,
-    /// Waits for its own flag, or for a request to give up.
+    /// Polls its own flag, until it is set or until the processor is asked to give up.
     O5,
-    /// Cuts the link to itself, if it is there.
+    /// Cuts the link from its predecessor, if the link is there.
     Q1,
-    /// Looks at its flag once more.
+    /// Reads its own flag once more.
     Q2,
-    /// Looks whom it stands behind now.
+    /// Reads from its own node who its predecessor is now.
     Q3,
-    /// Looks whether it is the last.
+    /// Reads the tail, to see whether it is the last.
     Q4,
-    /// Swaps the tail back to the one before it: the last gives up.
+    /// Swaps the tail back to its predecessor: the last waiter gives up.
     Q5,
-    /// Looks for the link to the one behind it.
+    /// Reads the link to its successor.
     Q6,
-    /// Grabs the link to the one behind it.
+    /// Grabs the link to its successor.
     Q7,
-    /// Tells the node behind it whom it will stand behind.
+    /// Stores its predecessor into the node of its successor.
     Q8,
-    /// Links the one before it to the one behind it: one in the middle gives up.
+    /// Links its predecessor to its successor: a waiter in the middle gives up.
     Q9,
-    /// Frees the lock, if nobody is behind it.
+    /// Frees the lock, if it has no successor.
     X1,
-    /// Grabs the link to the one behind it.
+    /// Grabs the link to its successor.
     X2,
-    /// Hands the lock to the one behind it.
+    /// Hands the lock off to its successor.
     X3,
-    /// Looks whether it is the last.
+    /// Reads the tail, to see whether it is the last.
     X4,
-    /// Frees the lock: it is the last.
+    /// Frees the lock, if it is the last.
     X5,
-    /// Looks for the link to the one behind it.
+    /// Reads the link to its successor.
     X6,
-    /// Grabs the link to the one behind it.
+    /// Grabs the link to its successor.
     X7,
 }

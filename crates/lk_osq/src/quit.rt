@@ -7,14 +7,14 @@ use crate::events::OsqWhat;
 use crate::outcomes::{Lead, Outcome, Store, is_cpu};
 use crate::places::Place;
 
-/// Q1: swaps the link to itself from `a -> p` to none, where `a` is the one that it believes to be
-/// before it; `next` is that one's next.
+/// Q1: swaps the link to itself from `a -> p` to none. Here a is the predecessor that p believes
+/// in, and `next` is a's next.
 ///
-/// `a -> p` becomes `a x p`: the link is *cut*, and p alone can give it again. Only now is it
-/// certain that a stands before it, for a node names nobody else than the one directly behind it;
-/// what p believes may be long out of date. And as long as the link is cut, a can neither hand it
-/// the lock (X3 wants the link) nor leave the queue. So a plain store would not do: it would cut a
-/// link of others.
+/// `a -> p` becomes `a x p`: the link is *cut*, and p alone can store it again. Only now is it
+/// certain that a is the predecessor: a node names nobody but the processor directly behind it,
+/// and what p believes may be long out of date. While the link is cut, a can neither hand the lock
+/// off to p (X3 wants the link) nor leave the queue. A plain store would not do, since it could
+/// cut a link of others.
 pub(crate) fn cuts(cpu: u32, prev: Option<u32>, next: Option<u32>) -> Outcome
     ensures { result ≡ cuts cpu prev next }
 {
@@ -25,10 +25,11 @@ pub(crate) fn cuts(cpu: u32, prev: Option<u32>, next: Option<u32>) -> Outcome
     }
 }
 
-/// Q2: looks at its flag once more.
+/// Q2: reads its own flag once more.
 ///
-/// The link was not there: the one before it has grabbed it, to leave, or has left. If that was the
-/// holder, the lock is handed to this one, which can no longer give up: it takes the lock.
+/// The link was not there: the predecessor has grabbed it in order to leave, or has left. If that
+/// was the holder, it hands the lock off to p. Then p can no longer give up, and acquires the
+/// lock.
 pub(crate) fn sees_flag(flag: bool) -> Outcome
     ensures { result ≡ sees_flag flag }
 {
@@ -39,8 +40,8 @@ pub(crate) fn sees_flag(flag: bool) -> Outcome
     }
 }
 
-/// Q3: looks whom its node names as the one before it: another may stand there now. It tries the
-/// cut with that one.
+/// Q3: reads from its own node who its predecessor is, since another may stand there now. It tries
+/// the cut with that one.
 pub(crate) fn sees_prev(prev: Option<u32>) -> Outcome
     ensures { result ≡ sees_prev prev }
 {
@@ -52,10 +53,10 @@ pub(crate) fn sees_prev(prev: Option<u32>) -> Outcome
     }
 }
 
-/// Q5: swaps the tail from itself to the one before it: the last gives up.
+/// Q5: swaps the tail from itself to its predecessor: the last waiter gives up.
 ///
-/// `.. a x p, t = p` becomes `.. a, t = a`. Nobody stands behind p, and a's next is none since the
-/// cut, as the last's must be.
+/// `.. a x p, t = p` becomes `.. a, t = a`. Nobody stands behind p. The next of a is none since
+/// the cut, as that of the last has to be.
 pub(crate) fn withdraws(cpu: u32, prev: Option<u32>, tail: Option<u32>) -> Outcome
     ensures { result ≡ withdraws cpu prev tail }
 {
@@ -66,10 +67,11 @@ pub(crate) fn withdraws(cpu: u32, prev: Option<u32>, tail: Option<u32>) -> Outco
     }
 }
 
-/// Q9: links the one before it to the one behind it. (Q8, before it, tells b who that is.)
+/// Q9: links its predecessor to its successor. (Q8, before it, stores the predecessor into the
+/// node of the successor.)
 ///
-/// `a x p = b` becomes `a -> b`: p had both links in hand, the one before it cut and the one behind
-/// it grabbed, so neither a nor b could leave meanwhile. From now on nobody names p.
+/// `a x p = b` becomes `a -> b`. Until now p owned both links: the one from a was cut and the one
+/// to b grabbed, so neither a nor b could leave. From now on nobody names p.
 pub(crate) fn unlinks(prev: Option<u32>, y: Option<u32>) -> Outcome
     ensures { result ≡ unlinks prev y }
 {

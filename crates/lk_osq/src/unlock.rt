@@ -8,7 +8,7 @@ use crate::places::Place;
 
 /// X1, X5: swaps the tail from itself to none.
 ///
-/// `p, t = p` becomes `t = none`: p is the first, and the last too, so nobody waits.
+/// `p, t = p` becomes `t = none`. Here p is the first and the last of the queue, so nobody waits.
 pub(crate) fn frees(cpu: u32, tail: Option<u32>, other: Place) -> Outcome
     ensures { result ≡ frees cpu tail other }
 {
@@ -19,10 +19,10 @@ pub(crate) fn frees(cpu: u32, tail: Option<u32>, other: Place) -> Outcome
     }
 }
 
-/// X3: sets the flag of the one behind it, which holds the link to it no longer.
+/// X3: sets the flag of its successor, to which it no longer has the link.
 ///
-/// `p = b ..` becomes `b ..`, and b is the first. It waits: had it cut the link, p could not have
-/// grabbed it, and since p has grabbed it b cannot cut it. So b will look at its flag (O5, Q2)
+/// `p = b ..` becomes `b ..`, and b is the first. It waits: if it had cut the link, p could not
+/// have grabbed it, and now that p has grabbed it b cannot cut it. So b reads its flag (O5, Q2)
 /// before it can leave.
 pub(crate) fn hands(y: Option<u32>) -> Outcome
     ensures { result ≡ hands y }

@@ -20,7 +20,7 @@ fn is_format(first: &[u8], args: &[u8]) -> bool
     }
 }
 
-/// Reads the header, line by line.
+/// Reads the header of a run, line by line.
 #[derive(Drop)]
 pub struct OsqHeader {
     rank: Option<u32>,
@@ -33,6 +33,10 @@ impl OsqHeader {
     ghost use Rattle.lk_osq_forms.specs.Reader.{said_by, ReadsOn};
 
     /// A reader that has read no line. It takes all its memory here.
+    ///
+    /// # Errors
+    ///
+    /// There is not enough memory.
     pub fn new(alloc: Global) -> Result<OsqHeader, Memory>
         ensures { IfOk result (λ header. said_by header ≡ nothing_said) }
     {
@@ -75,8 +79,11 @@ impl OsqHeader {
         Ok(HeaderStep::More)
     }
 
-    /// Reads one more line of the header, without its line feed. A refused line leaves the reader
-    /// as it was. It takes no memory.
+    /// Reads one more line of the header, without its line feed. It takes no memory.
+    ///
+    /// # Errors
+    ///
+    /// The first check of `docs/FORMATS.md` that the line fails. The reader is then as it was.
     pub fn line(&mut self, line: &[u8]) -> Result<HeaderStep, LineRefusal>
         ensures { ReadsOn
             (header_of self.old.rank self.old.rounds.items line.now) self.old self.new result }
@@ -99,7 +106,7 @@ impl OsqHeader {
         }
     }
 
-    /// What is wrong where the input ends now.
+    /// The fault of an input that ends here: `NoFormat` before the format line, else `NoEnd`.
     pub fn ending(&self) -> Fault
         ensures { Some result ≡ ending (said_by self.now) }
     {
@@ -110,7 +117,7 @@ impl OsqHeader {
         }
     }
 
-    /// The rounds of each processor, of which there are 1 to 64.
+    /// For each of the 1 to 64 processors, how many rounds it makes.
     pub fn rounds(&self) -> &List<u32>
         ensures rounds { result.now ≡ self.now.rounds }
         ensures table { IsTable result.now }

@@ -1,6 +1,6 @@
-//! The forms of text of the word `osq`: the grammar of its input, and the lines of its history. Its
-//! `specs/` say what each line says behind the lines before it, or why it is refused, and what each
-//! line of a history looks like.
+//! The texts of the command `osq`: the grammar of its input, and the lines of its history. The
+//! `specs/` say what each line means after the lines before it, or why it is refused, and what
+//! each line of a history looks like.
 #![tactic(auto)]
 
 mod answers;

@@ -76,8 +76,12 @@ fn read_line(line: &[u8], cpus: u32, acts: u64, ended: bool) -> Result<Sched, Li
     }
 }
 
-/// Reads one line of a schedule, without its line feed, behind `acts` acts; `ended` says that the
-/// line `end` was read. It takes no memory.
+/// Reads one line of a schedule, without its line feed, after `acts` acts. `ended` says whether
+/// the line `end` was read. It takes no memory.
+///
+/// # Errors
+///
+/// The first check of `docs/FORMATS.md` that the line fails.
 #[inline]
 pub fn schedule_line(line: &[u8], cpus: u32, acts: u64, ended: bool) -> Result<Sched, LineRefusal>
     ensures value { result ≡ schedule_of cpus acts ended line.now }

@@ -27,8 +27,8 @@ fn write_what(block: &mut Block, what: OsqWhat)
     }
 }
 
-/// Writes the line of an event, in the act of this number, into a block that has room for 64 more
-/// bytes.
+/// Writes the line of an event into a block that has room for 64 more bytes. `act` is the number
+/// of the act, counted from 1.
 #[inline(always)]
 #[tactic(auto, using(lk_forms::proofs::Decimals::decimal_small, lk_forms::proofs::Decimals::decimal_short))]
 pub fn write_event(block: &mut Block, act: u64, event: OsqEvent)

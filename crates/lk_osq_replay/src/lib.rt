@@ -1,5 +1,5 @@
-//! The word `osq`: a run of the optimistic spin queue is read line by line, and its history is
-//! written.
+//! The command `osq`: it reads a run of the optimistic spin queue line by line, and writes the
+//! history of the run.
 #![tactic(auto)]
 
 mod replay;

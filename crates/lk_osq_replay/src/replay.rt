@@ -14,13 +14,13 @@ use lk_stream::{ReplayFault, follow};
 use lk_text::{Sink, Source};
 use std::alloc::Global;
 
-/// Reads a run of the optimistic spin queue to the end of the source, and writes its history to the
-/// sink; gives the number of acts.
+/// Reads a run of the optimistic spin queue to the end of the source, and writes its history to
+/// the sink. Returns the number of acts.
 ///
 /// # Errors
 ///
 /// The first line that is refused, a fault of the source or of the sink, or no memory. What was
-/// written before stays; where there was no memory nothing was.
+/// written before the fault stays. If there is no memory, nothing was written.
 pub fn osq<S: Source, K: Sink>(
     alloc: Global,
     source: &mut S,

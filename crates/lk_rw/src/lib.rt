@@ -1,4 +1,5 @@
-//! The rows of readers and writers. Each is proved to be the row that `lk_machine` defines.
+//! The rows of Linux's queued reader-writer lock (`kernel/locking/qrwlock.c`). Each row is proved
+//! to be the row that `lk_machine` defines.
 #![tactic(auto, using(lk_machine::proofs::Kept::kept))]
 
 mod reader;

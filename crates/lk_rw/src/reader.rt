@@ -30,9 +30,9 @@ fn admit_more(machine: &mut Machine, cpu: u32, word: RwFields, how: RwHow) -> Ev
     event
 }
 
-/// R1: adds a reader, `r,w,x -> r+1,w,x`. If nobody waits and no writer is in (`r,0,0 -> r+1,0,0`)
-/// it has come in; else a reader in an interrupt goes on to wait for the writer alone, and a task's
-/// reader to take itself back.
+/// R1: adds a reader, `r,w,x -> r+1,w,x`. If the waiting bit is clear and there is no writer
+/// (`r,0,0 -> r+1,0,0`), the reader has acquired. Else a reader in an interrupt goes on to wait
+/// for the writer alone (R2), and a reader of a task to take itself back (R3).
 pub(crate) fn first(machine: &mut Machine, cpu: u32) -> Option<Event>
     requires ready { IsRwReady machine.old cpu }
     requires here { (top_frame machine.old cpu).place ≡ Some Pc.R1 }
@@ -50,9 +50,9 @@ pub(crate) fn first(machine: &mut Machine, cpu: u32) -> Option<Event>
     None
 }
 
-/// R2: looks until no writer is in, past those that wait: an interrupt must not queue behind a
-/// writer that may wait for the reader below it. Its bias stays in the word, so that no writer
-/// comes in meanwhile.
+/// R2: polls until there is no writer, whoever waits. An interrupt must not queue behind a writer
+/// that may wait for the reader below it. The reader stays counted in the word, so that no writer
+/// acquires meanwhile.
 pub(crate) fn spin(machine: &mut Machine, cpu: u32) -> Option<Event>
     requires ready { IsRwReady machine.old cpu }
     requires here { (top_frame machine.old cpu).place ≡ Some Pc.R2 }
@@ -75,7 +75,7 @@ pub(crate) fn spin(machine: &mut Machine, cpu: u32) -> Option<Event>
     Some(event)
 }
 
-/// R3: takes its bias back, `r,w,x -> r-1,w,x`, and goes to take the wait lock.
+/// R3: takes itself back, `r,w,x -> r-1,w,x`, and goes on to acquire the wait lock.
 pub(crate) fn retreat(machine: &mut Machine, cpu: u32) -> Option<Event>
     requires ready { IsRwReady machine.old cpu }
     requires here { (top_frame machine.old cpu).place ≡ Some Pc.R3 }
@@ -89,7 +89,7 @@ pub(crate) fn retreat(machine: &mut Machine, cpu: u32) -> Option<Event>
     None
 }
 
-/// R4: adds a reader again, `r,w,x -> r+1,w,x`, now as the one that has the wait lock.
+/// R4: adds itself again, `r,w,x -> r+1,w,x`, now as the holder of the wait lock.
 pub(crate) fn join(machine: &mut Machine, cpu: u32) -> Option<Event>
     requires ready { IsRwReady machine.old cpu }
     requires here { (top_frame machine.old cpu).place ≡ Some Pc.R4 }
@@ -103,8 +103,7 @@ pub(crate) fn join(machine: &mut Machine, cpu: u32) -> Option<Event>
     None
 }
 
-/// R5: looks until no writer is in, and has then come in; it goes on to free the wait lock for the
-/// next.
+/// R5: polls until there is no writer. Then it has acquired, and goes on to release the wait lock.
 pub(crate) fn wait(machine: &mut Machine, cpu: u32) -> Option<Event>
     requires ready { IsRwReady machine.old cpu }
     requires here { (top_frame machine.old cpu).place ≡ Some Pc.R5 }
@@ -128,8 +127,7 @@ pub(crate) fn wait(machine: &mut Machine, cpu: u32) -> Option<Event>
     Some(event)
 }
 
-/// Y1: looks whether a reader may come in: nobody waits, and no writer is in. If not, the try has
-/// failed.
+/// Y1: reads the word. If the waiting bit is set or there is a writer, the try fails.
 pub(crate) fn try_look(machine: &mut Machine, cpu: u32) -> Option<Event>
     requires ready { IsRwReady machine.old cpu }
     requires here { (top_frame machine.old cpu).place ≡ Some Pc.Y1 }
@@ -143,7 +141,8 @@ pub(crate) fn try_look(machine: &mut Machine, cpu: u32) -> Option<Event>
     Some(miss(machine, cpu))
 }
 
-/// Y2: adds a reader, `r,w,x -> r+1,w,x`. If nobody waits and no writer is in, it has come in.
+/// Y2: adds a reader, `r,w,x -> r+1,w,x`. If the waiting bit is clear and there is no writer, the
+/// reader has acquired. Else it goes on to take itself back (Y3).
 pub(crate) fn try_add(machine: &mut Machine, cpu: u32) -> Option<Event>
     requires ready { IsRwReady machine.old cpu }
     requires here { (top_frame machine.old cpu).place ≡ Some Pc.Y2 }
@@ -160,7 +159,7 @@ pub(crate) fn try_add(machine: &mut Machine, cpu: u32) -> Option<Event>
     None
 }
 
-/// Y3: takes its bias back, `r,w,x -> r-1,w,x`: the try has failed.
+/// Y3: takes itself back, `r,w,x -> r-1,w,x`. The try fails.
 pub(crate) fn try_fail(machine: &mut Machine, cpu: u32) -> Option<Event>
     requires ready { IsRwReady machine.old cpu }
     requires here { (top_frame machine.old cpu).place ≡ Some Pc.Y3 }

@@ -10,8 +10,8 @@ use crate::{reader, writer};
 use lk_abs::Event;
 use lk_machine::{Machine, Pc};
 
-/// Makes the row at which the top frame of a processor stands, and gives its event: one of r1 to
-/// r5, w1 to w6, y1 to y5, z1 and z2. It takes no memory.
+/// Makes the row at which the newest frame of a processor stands, one of r1 to r5, w1 to w6, y1 to
+/// y5, z1 and z2. Returns the event, if there is one. It takes no memory.
 #[inline]
 pub fn rw_row(machine: &mut Machine, cpu: u32, place: Pc) -> Option<Event>
     requires ready { IsRwReady machine.old cpu }

@@ -12,8 +12,8 @@ use lk_abs::{Event, RwHow, What};
 use lk_machine::{Machine, Pc};
 use lk_word::RwFields;
 
-/// Wr1: swaps the empty word to the writer's, `0,0,0 -> 0,0,1`. If it is not empty, it goes to take
-/// the wait lock.
+/// Wr1: swaps the word from empty to the writer's, `0,0,0 -> 0,0,1`. If it is not empty, the
+/// writer goes on to acquire the wait lock.
 pub(crate) fn first(machine: &mut Machine, cpu: u32) -> Option<Event>
     requires ready { IsRwReady machine.old cpu }
     requires here { (top_frame machine.old cpu).place ≡ Some Pc.Wr1 }
@@ -37,7 +37,7 @@ pub(crate) fn first(machine: &mut Machine, cpu: u32) -> Option<Event>
     None
 }
 
-/// Wr2: has the wait lock, and looks whether the word is empty.
+/// Wr2: reads, as the holder of the wait lock, whether the word is empty.
 pub(crate) fn look(machine: &mut Machine, cpu: u32) -> Option<Event>
     requires ready { IsRwReady machine.old cpu }
     requires here { (top_frame machine.old cpu).place ≡ Some Pc.Wr2 }
@@ -53,8 +53,9 @@ pub(crate) fn look(machine: &mut Machine, cpu: u32) -> Option<Event>
     None
 }
 
-/// Wr3: swaps the empty word to the writer's, `0,0,0 -> 0,0,1`, and goes on to free the wait lock;
-/// a reader may have come in since Wr2, and then it goes on to wait.
+/// Wr3: swaps the word from empty to the writer's, `0,0,0 -> 0,0,1`, and goes on to release the
+/// wait lock. If the swap fails, since a reader was added after Wr2, it goes on to announce itself
+/// (Wr4).
 pub(crate) fn swap(machine: &mut Machine, cpu: u32) -> Option<Event>
     requires ready { IsRwReady machine.old cpu }
     requires here { (top_frame machine.old cpu).place ≡ Some Pc.Wr3 }
@@ -78,8 +79,7 @@ pub(crate) fn swap(machine: &mut Machine, cpu: u32) -> Option<Event>
     None
 }
 
-/// Wr4: sets waiting, `r,0,x -> r,1,x`: from here on no new reader comes in but those in
-/// interrupts.
+/// Wr4: sets the waiting bit, `r,w,x -> r,1,x`. From here on only readers in interrupts acquire.
 pub(crate) fn announce(machine: &mut Machine, cpu: u32) -> Option<Event>
     requires ready { IsRwReady machine.old cpu }
     requires here { (top_frame machine.old cpu).place ≡ Some Pc.Wr4 }
@@ -99,7 +99,7 @@ pub(crate) fn announce(machine: &mut Machine, cpu: u32) -> Option<Event>
     None
 }
 
-/// Wr5: looks until no reader's bias is in the word and no writer is in.
+/// Wr5: polls until no reader is counted in the word and there is no writer.
 pub(crate) fn wait(machine: &mut Machine, cpu: u32) -> Option<Event>
     requires ready { IsRwReady machine.old cpu }
     requires here { (top_frame machine.old cpu).place ≡ Some Pc.Wr5 }
@@ -115,8 +115,8 @@ pub(crate) fn wait(machine: &mut Machine, cpu: u32) -> Option<Event>
     None
 }
 
-/// Wr6: swaps waiting to the writer's word, `0,1,0 -> 0,0,1`, and goes on to free the wait lock; if
-/// a reader's bias came meanwhile, it looks again.
+/// Wr6: swaps the word from waiting to the writer's, `0,1,0 -> 0,0,1`, and goes on to release the
+/// wait lock. If a reader was added meanwhile, it polls again (Wr5).
 pub(crate) fn claim(machine: &mut Machine, cpu: u32) -> Option<Event>
     requires ready { IsRwReady machine.old cpu }
     requires here { (top_frame machine.old cpu).place ≡ Some Pc.Wr6 }
@@ -140,7 +140,7 @@ pub(crate) fn claim(machine: &mut Machine, cpu: u32) -> Option<Event>
     None
 }
 
-/// Y4: looks whether the word is empty. If not, the try has failed.
+/// Y4: reads the word. If it is not empty, the try fails.
 pub(crate) fn try_look(machine: &mut Machine, cpu: u32) -> Option<Event>
     requires ready { IsRwReady machine.old cpu }
     requires here { (top_frame machine.old cpu).place ≡ Some Pc.Y4 }
@@ -154,8 +154,8 @@ pub(crate) fn try_look(machine: &mut Machine, cpu: u32) -> Option<Event>
     Some(miss(machine, cpu))
 }
 
-/// Y5: swaps the empty word to the writer's once, `0,0,0 -> 0,0,1`. If it is not empty any more,
-/// the try has failed.
+/// Y5: swaps the word from empty to the writer's, `0,0,0 -> 0,0,1`. If it is no longer empty, the
+/// try fails.
 pub(crate) fn try_swap(machine: &mut Machine, cpu: u32) -> Option<Event>
     requires ready { IsRwReady machine.old cpu }
     requires here { (top_frame machine.old cpu).place ≡ Some Pc.Y5 }
@@ -178,7 +178,7 @@ pub(crate) fn try_swap(machine: &mut Machine, cpu: u32) -> Option<Event>
     Some(miss(machine, cpu))
 }
 
-/// Z2: the writer releases, `r,w,1 -> r,w,0`: biases of readers that wait stay.
+/// Z2: the writer releases, `r,w,1 -> r,w,0`. Readers that wait stay counted.
 pub(crate) fn release(machine: &mut Machine, cpu: u32) -> Option<Event>
     requires ready { IsRwReady machine.old cpu }
     requires here { (top_frame machine.old cpu).place ≡ Some Pc.Z2 }

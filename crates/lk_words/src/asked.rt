@@ -1,18 +1,18 @@
 // What the words behind the program's name can ask for.
 
-/// What the words behind the program's name ask for.
+/// What the words after the program's name ask for.
 #[derive(Clone, Copy, Debug, PartialEq, Eq)]
 pub enum Reading {
-    /// `replay`: a trace is replayed.
+    /// `replay`: replay a trace.
     Replay,
-    /// `osq`: a run of the optimistic spin queue is replayed.
+    /// `osq`: replay a run of the optimistic spin queue.
     Osq,
-    /// `audit`: a transcript from anybody is judged.
+    /// `audit`: judge a transcript from any program.
     Audit,
-    /// `ledger`: jobs are run on accounts under a lock.
+    /// `ledger`: run jobs on accounts under a lock.
     Ledger,
-    /// `gen n`: the generated trace of this start number is written.
+    /// `gen n`: write the trace that is generated from this start number.
     Gen(u32),
-    /// `load n`: that trace is replayed in memory, and its closing lines are written.
+    /// `load n`: replay that trace in memory, and write its closing lines.
     Load(u32),
 }

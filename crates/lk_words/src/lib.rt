@@ -1,4 +1,4 @@
-//! The words behind the program's name, and which command they ask for.
+//! The words after the program's name, and the command that they ask for.
 #![tactic(auto)]
 
 mod asked;

@@ -83,8 +83,12 @@ fn told(answer: Result<ArgMatches<'_>, Error>) -> Result<Option<Reading>, Memory
     }
 }
 
-/// What the words ask for, if they ask for anything. A word that begins with a hyphen asks for
-/// nothing, and clap is not asked then. The one error is want of memory.
+/// Returns what the words ask for; none if they name no command. If a word begins with a hyphen,
+/// the words name no command, and clap does not read them.
+///
+/// # Errors
+///
+/// There is not enough memory.
 pub fn reading(alloc: Global, words: &[String]) -> Result<Option<Reading>, Memory>
     ensures exact { IfOk result (λ r. r ≡ reading_of (map string_bytes words.now)) }
     ensures flag { list_any is_flag (map string_bytes words.now) ≡ true → result ≡ Ok None }

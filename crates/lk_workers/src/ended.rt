@@ -9,14 +9,14 @@ use lk_pvdomain::PvClosed;
 /// What the domain of a job file left, by the family of its locks.
 #[derive(Drop)]
 pub enum Ended {
-    /// Its waiters spin.
+    /// That of a family whose waiters spin.
     Queued(Closed),
-    /// Its waiters halt.
+    /// That of the paravirtual family, whose waiters halt.
     Pv(PvClosed),
 }
 
 impl Ended {
-    /// The balances after the journal.
+    /// The balances at the end, one for each account.
     pub fn balances(&self) -> &List<u64>
         ensures { result.now.items ≡ balances_in self.now }
     {
@@ -26,7 +26,7 @@ impl Ended {
         }
     }
 
-    /// The journal.
+    /// The journal: the jobs that changed balances, in order.
     pub fn journal(&self) -> &List<Entry>
         ensures { result.now.items ≡ journal_in self.now }
     {

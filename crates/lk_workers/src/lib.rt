@@ -1,4 +1,4 @@
-//! Workers on threads over one ledger: each list of a job file's jobs is done by a worker of its own.
+//! Workers on threads over one ledger. Each worker does one list of a job file's jobs.
 #![tactic(auto)]
 
 mod counts;

@@ -21,12 +21,12 @@ use std::alloc::Global;
 use std::sync::Wait;
 use std::thread::Threads;
 
-/// What came of a job file.
+/// The outcome of a job file.
 #[derive(Drop)]
 pub struct Outcome {
-    /// The journal and the closing balances.
+    /// The journal and the balances at the end.
     pub closed: Ended,
-    /// The records of the jobs that read, by worker and then by number.
+    /// The records of the jobs that read, sorted by worker and then by number.
     pub reads: List<Seen>,
 }
 
@@ -112,10 +112,14 @@ fn run_pv<G: Gate, R: Threads + Wait + Sync>(
     })
 }
 
-/// Does the jobs of a file, those of each worker in a thread of its own, over one ledger whose
-/// balances are under one lock, and closes the ledger. The gate is passed before and after each job.
-/// All memory is taken before the first job, but for the closing balances; where there is none for
-/// these, nothing of the run is kept.
+/// Does the jobs of a file over one ledger, those of each worker on a thread of its own, and then
+/// closes the ledger. One lock guards the balances. Each worker passes the gate before and after
+/// each job.
+///
+/// # Errors
+///
+/// There is not enough memory. All memory but that of the closing balances is taken before the
+/// first job. If there is none for these, nothing of the run is kept.
 pub fn run_jobs<G: Gate, R: Threads + Wait + Sync>(
     rt: &R,
     alloc: Global,
