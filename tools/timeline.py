@@ -4,7 +4,7 @@
 Draws what `./qlock steps` says of a trace as one SVG. Time goes down, a row for each line. Each processor has a lane, and in it a bar
 for each context, a nested one right of the one that it interrupts, in the colour of what the context does. Beside the bars stand the
 row and the event of the act, and at the right what the act met and left. Where lanes with events would be wider than a page, the
-events stand at the right too. Arrows show links, handovers and kicks. ACT is the number of the act that matters: its line is marked.
+events stand at the right too. Arrows show links, handoffs and kicks. ACT is the number of the act that matters: its line is marked.
 Over a label a browser shows what the row does.
 
 A lane is as wide as its labels ask, so that one in which little happens is narrow; a processor that never acts has none. Letters have at least 10 pixels where the picture
@@ -25,7 +25,7 @@ MARK = "#fff3bf"
 PARTS = Path(__file__).resolve().parent.parent / "crates" / "lk_machine" / "src" / "parts.rt"
 COLOURS = {"runs": "#e4e4e4", "seeks": "#f0c94a", "pending": "#ee7f2d", "queued": "#9cc5ea", "leads": "#2f6db5", "holds": "#3c9a5f",
            "halted": "#5b4a63"}
-ARROWS = {"link": "#2f6db5", "handover": "#3c9a5f", "kick": "#b3261e"}
+ARROWS = {"link": "#2f6db5", "handoff": "#3c9a5f", "kick": "#b3261e"}
 LINE = re.compile(r"(\d+)(?:-(\d+))? (\d+)\.(\d+) (.*?)(?:: (.*))?$")
 
 
@@ -165,7 +165,7 @@ class Story:
             other = self.stacks[cpu][depth]
             other.waits = "leads"
             other.phases[at] = other.phase()
-            self.arrows.append((at, context, other, "handover"))
+            self.arrows.append((at, context, other, "handoff"))
         elif what == "kick":
             self.arrows.append((at, context, self.top(int(rest[0])), "kick"))
 

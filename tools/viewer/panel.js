@@ -120,7 +120,7 @@ class Panel {
 
   second(name, lock) {
     const most = Math.max(0, ...lock.passes);
-    const passes = lock.second.length ? `<p>Passed by ${most} handover${most === 1 ? "" : "s"} since the first of them was moved; the threshold is ${this.header.threshold}.</p>` : "";
+    const passes = lock.second.length ? `<p>Passed by ${most} handoff${most === 1 ? "" : "s"} since the first of them was moved; the threshold is ${this.header.threshold}.</p>` : "";
     return this.queue("Secondary queue", "second", name, lock.second) + passes;
   }
 

@@ -43,7 +43,7 @@ class Story {
     const words = (line.event || "").split(" ");
     const concerned = words[0] === "pass" ? [line.cpu, cpuOf(words[2])] : [line.cpu];
     for (const cpu of concerned) this.drawCpu(state, cpu, at);
-    if (words[0] === "pass") this.arrow(at, line.who, words[2], "handover");
+    if (words[0] === "pass") this.arrow(at, line.who, words[2], "handoff");
     if (words[0] === "kick") this.arrow(at, line.who, state.top(+words[1]).who, "kick");
     if (LINKING.includes(line.row)) this.arrow(at, line.who, state.data.owners[line.name], "link");
   }
