@@ -1,5 +1,6 @@
 """What a page has to show behind each line of its acts, computed without the page's scripts: holders and queues by the transcript's
-events (tools/judge.py), and words, nodes, entries and processors by what the lines met and left."""
+events (tools/judge.py), words, nodes, entries and processors by what the lines met and left, and who is in the slow path by the rows
+that are to come."""
 import re
 
 import judge
@@ -8,6 +9,8 @@ LINE = re.compile(r"(\d+)(?:-(\d+))? (\d+\.\d+) (.*?)(?:, \d+ times)?(?:: (.*))?
 VALUE = re.compile(r"(\w+) (\w+) (\S+) (\S+)(?: -> (\S+))?$")
 REST = {"lock": "(0,0,0)", "node": "(0,0)", "second": "0", "runs": "0", "state": "running", "hash": "0"}
 FLAGS = {"0": "unset", "1": "go"}
+# How the rows of the slow path begin.
+SLOW = tuple("GNCHWEK")
 
 
 def spelled(waiter):
@@ -24,7 +27,7 @@ class Expected:
         self.judge = judge.Judge(self.rules)
         self.lines = [LINE.match(line).groups() for line in lines]
         self.events = [(int(line.split(" ", 1)[0]), judge.event_of(line)) for line in transcript.splitlines() if line[0].isdigit()]
-        self.values, self.node, self.preempted = {}, {}, set()
+        self.values, self.node, self.preempted, self.slow = {}, {}, set(), {}
         self.spinlocks = {words[1] for words in map(str.split, trace.splitlines()) if words[:1] == ["lock"] and words[2] == "spin"}
 
     def value(self, key):
@@ -36,6 +39,7 @@ class Expected:
             while self.events and self.events[0][0] <= int(last or first):
                 self.judge.take(self.events.pop(0)[1])
             self.tell(who, deed)
+            self.go_slow(at, who, deed)
             yield self.state(at)
 
     def tell(self, who, deed):
@@ -52,6 +56,14 @@ class Expected:
                 self.values.pop(f"{part} {self.node[who]}", None)
         self.values[f"{kind} {name}"] = left or met
 
+    def go_slow(self, at, who, deed):
+        """Keeps of each context that makes a row whether it is in the slow path behind it: it is from G1 on, as long as its next row is
+        one of the slow path. None where it makes no row any more."""
+        waiters = self.slow.setdefault(who.split(".")[0], {})
+        if not VALUE.match(deed) or not (waiters.get(who) or deed.startswith("G1 ")):
+            return
+        waiters[who] = next((later.startswith(SLOW) for _, _, other, later, _ in self.lines[at + 1 :] if other == who and VALUE.match(later)), None)
+
     def state(self, at):
         names = [key.split(" ")[1] for key in self.values if key.startswith("lock ")]
         return {
@@ -66,6 +78,7 @@ class Expected:
             "kicked": sorted(self.judge.kicked),
             "preempted": sorted(self.preempted),
             "next": self.next_contexts(at),
+            "slow": {cpu: sum(waiters.values()) for cpu, waiters in self.slow.items() if None not in waiters.values()},
         }
 
     def is_spin(self, name):
