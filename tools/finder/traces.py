@@ -134,9 +134,11 @@ class Maker:
         left = {cpu: len(handlers) - trace.acts.count(("int", cpu)) for cpu, handlers in trace.handlers.items()}
         paused = set(cpu for cpu in range(trace.cpus) if trace.acts.count(("pre", cpu)) > trace.acts.count(("res", cpu)))
         count = 0
-        most = self.options.acts or 30 * trace.cpus + 20 * sum(map(len, trace.handlers.values()))
+        # A processor without a program and a handler has nothing to do.
+        busy = [cpu for cpu in range(trace.cpus) if trace.programs.get(cpu) or trace.handlers.get(cpu)] or [0]
+        most = self.options.acts or 30 * len(busy) + 20 * sum(map(len, trace.handlers.values()))
         while count < most:
-            cpu = self.random.randrange(trace.cpus)
+            cpu = self.random.choice(busy)
             burst = [("step", cpu)] * (1 + int(self.random.expovariate(1 / mean)))
             if left.get(cpu, 0) > 0 and self.random.random() < 0.35:
                 left[cpu] -= 1

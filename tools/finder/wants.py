@@ -1,4 +1,5 @@
 """What is searched for, and the programs that say whether a trace has it."""
+import functools
 import os
 import re
 import subprocess
@@ -7,6 +8,8 @@ import sys
 LINE = re.compile(r"(\d+)(?:-(\d+))? (\d+\.\d+) (.*?)(?:: (.*))?$")
 LINK_ROWS = ("G10", "C1", "E14")
 ROUNDS, TURNS = 3, 100
+# How many traces' lines are kept.
+KEPT = 64
 
 
 def program(variable, crate):
@@ -21,6 +24,8 @@ def program(variable, crate):
 class Programs:
     def __init__(self):
         self.main, self.steps_program, self.runs = None, None, 0
+        # What a trace is asked for its acts more than once in turn.
+        self.steps = functools.lru_cache(KEPT)(self.steps)
 
     def ran(self, command, text):
         self.runs += 1
@@ -43,31 +48,59 @@ def parts(line):
     return int(first), int(last or first), who, deed.split(", ")[0], event or ""
 
 
-class Event:
+def text_of(line):
+    """A line without the numbers of its acts."""
+    return line.split(" ", 1)[1]
+
+
+class Line:
+    """A line of the acts."""
+
+    def __init__(self, programs, is_wanted):
+        self.programs, self.is_wanted = programs, is_wanted
+
+    def act(self, trace, behind=0):
+        """The first act behind this one that has what is wanted, or None."""
+        for line in self.programs.steps(trace.text()) or []:
+            if parts(line)[0] > behind and self.is_wanted(line):
+                return parts(line)[0]
+        return None
+
+
+def an_event(programs, pattern):
     """An event whose text has the pattern."""
+    wanted = re.compile(pattern)
+    return Line(programs, lambda line: parts(line)[4] and wanted.search(parts(line)[4]))
 
-    def __init__(self, programs, pattern):
-        self.programs, self.pattern = programs, re.compile(pattern)
+
+def a_row(programs, row):
+    return Line(programs, lambda line: parts(line)[3].split()[0] == row)
+
+
+def an_act(programs, pattern):
+    """An act whose line has the pattern."""
+    wanted = re.compile(pattern)
+    return Line(programs, lambda line: wanted.search(text_of(line)))
+
+
+class Behind:
+    """What is wanted, behind lines that have these patterns, in their order. The levels are how many of them a trace has."""
+
+    def __init__(self, programs, want, patterns):
+        self.programs, self.want, self.patterns = programs, want, list(map(re.compile, patterns))
+        self.HIGHEST = len(patterns)
+
+    def level(self, trace):
+        """How many of the lines the trace has, and the last act of the last of them."""
+        level, act = 0, 0
+        for line in self.programs.steps(trace.text()) or []:
+            if level < self.HIGHEST and self.patterns[level].search(text_of(line)):
+                level, act = level + 1, parts(line)[1]
+        return level, act
 
     def act(self, trace):
-        """The first act that has what is wanted, or None."""
-        for first, _, _, _, event in map(parts, self.programs.steps(trace.text()) or []):
-            if event and self.pattern.search(event):
-                return first
-        return None
-
-
-class Row:
-    """A row."""
-
-    def __init__(self, programs, row):
-        self.programs, self.row = programs, row
-
-    def act(self, trace):
-        for first, _, _, deed, _ in map(parts, self.programs.steps(trace.text()) or []):
-            if deed.split()[0] == self.row:
-                return first
-        return None
+        level, act = self.level(trace)
+        return self.want.act(trace, act) if level == self.HIGHEST else None
 
 
 class Count:
@@ -76,7 +109,7 @@ class Count:
     def __init__(self, programs, name):
         self.programs, self.name = programs, name
 
-    def act(self, trace):
+    def act(self, trace, _behind=0):
         run = self.programs.told("replay", trace.text())
         found = re.search(rf"^{self.name} (\d+)$", run.stdout, re.M)
         return len(trace.acts) if run.returncode == 0 and found and int(found[1]) else None
@@ -87,7 +120,8 @@ class Stuck:
     often everybody goes on. That more turns would change nothing is not proved: each processor gets some rounds of many turns.
 
     The one way to it that is known needs a waiter without a node, which sets the pending bit while a head is about to claim the lock
-    as one alone (docs/rows/queue.md, G10). The levels are the steps of that way; a trace that has not all of them is not looked at."""
+    as one alone (docs/rows/queue.md, G10). The levels are the steps of that way; a trace that has not all of them is not looked at.
+    Where no waiter sets the pending bit before it queues, in virt and pv, there is no such way."""
 
     HIGHEST = 11
 
