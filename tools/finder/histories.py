@@ -20,6 +20,11 @@ class History:
     def with_events(self, events):
         return History(self.trace, events)
 
+    def with_threshold(self, threshold):
+        trace = self.trace.copy()
+        trace.threshold = threshold
+        return History(trace, self.events)
+
 
 def first_history(programs, trace):
     """The transcript of a trace."""
@@ -30,7 +35,10 @@ def first_history(programs, trace):
 
 
 def changed(history, random):
-    """One change: an event is left out, doubled, or put elsewhere, is another waiter's, or has another number in it."""
+    """One change: an event is left out, doubled, or put elsewhere, is another waiter's, or has another number in it; or, in cna, the
+    threshold is another."""
+    if history.trace.threshold and random.randrange(6) == 0:
+        return history.with_threshold(random.randrange(history.trace.threshold))
     events, at = list(history.events), random.randrange(len(history.events))
     event = events.pop(at)
     kind = random.randrange(5)
