@@ -4,6 +4,7 @@
 
 mod block;
 mod digits;
+mod feeds;
 mod line;
 mod numbers;
 mod page;

@@ -6,9 +6,9 @@ ghost use Rattle.lk_text.specs.Feeds.{HasNoFeed, FeedAt};
 ghost use Rattle.lk_text.specs.Lines.{PassesLineLimit, PassesInputLimit};
 ghost use Rattle.lk_text.specs.declared.reader.TheConstants.{MAX_INPUT, MAX_LINE};
 
+use crate::feeds::{behind_last_feed, find_feed};
 use crate::source::{Failed, Source};
 use lk_abs::Memory;
-use memchr::{memchr, memrchr};
 use std::alloc::Global;
 
 /// The most bytes of a line, without its line feed.
@@ -19,9 +19,6 @@ pub const MAX_INPUT: u64 = 1 << 30;
 
 // The bytes that a reader takes ahead at most.
 const BLOCK: usize = 65_536;
-
-// So many bytes are searched for the end of a line before the others.
-const NEAR: usize = 32;
 
 /// Why a reader of lines gives no next line, and answers so from then on.
 #[derive(Clone, Copy, Debug, PartialEq, Eq)]
@@ -92,53 +89,6 @@ fn refill<S: Source>(
     source.read(&mut block[front..])
 }
 
-// How far the first line feed of the bytes from `at` to `end` lies behind `at`. The first `clear`
-// bytes are known to be none. Most lines are short, so the next few bytes are searched first.
-#[inline(always)]
-fn find_feed(block: &[u8], at: usize, clear: usize, end: usize) -> Option<usize>
-    requires ordered { at + clear ≤ end }
-    requires within { end ≤ length block.now }
-    requires plain { HasNoFeed (take clear (slice_range block.now at end)) }
-    ensures found { IfSome result (FeedAt (slice_range block.now at end)) }
-    ensures none { result ≡ None → HasNoFeed (slice_range block.now at end) }
-{
-    let from = at + clear;
-    if end - from >= NEAR {
-        if let Some(k) = memchr(b'\n', &block[from..from + NEAR]) {
-            return Some(clear + k);
-        }
-    }
-    find_far_feed(block, at, clear, end)
-}
-
-// The same, by a search of all the bytes.
-#[inline(never)]
-fn find_far_feed(block: &[u8], at: usize, clear: usize, end: usize) -> Option<usize>
-    requires ordered { at + clear ≤ end }
-    requires within { end ≤ length block.now }
-    requires plain { HasNoFeed (take clear (slice_range block.now at end)) }
-    ensures found { IfSome result (FeedAt (slice_range block.now at end)) }
-    ensures none { result ≡ None → HasNoFeed (slice_range block.now at end) }
-{
-    match memchr(b'\n', &block[at + clear..end]) {
-        Some(k) => Some(clear + k),
-        None => None,
-    }
-}
-
-// The place behind the last line feed from `front` to `end`, or 0 where there is none.
-fn behind_last_feed(block: &[u8], front: usize, end: usize) -> usize
-    requires ordered { front ≤ end }
-    requires within { end ≤ length block.now }
-    ensures within { result ≤ end }
-    ensures feed { 0 < result → slice_index block.now (result - 1) ≡ 10 }
-{
-    match memrchr(b'\n', &block[front..end]) {
-        Some(k) => front + k + 1,
-        None => 0,
-    }
-}
-
 // The limit that is passed, if one is, where the bytes of the span have to be looked at behind
 // those that were.
 #[inline(always)]
@@ -200,6 +150,37 @@ impl LineReader {
         ensures { result ≡ is_at_hand self.now }
     {
         self.at < self.whole
+    }
+
+    /// The bytes that were taken from the source and not looked at. The next line stands in front,
+    /// where one is at hand.
+    #[inline(always)]
+    pub fn ahead(&self) -> &[u8]
+        ensures { result.now ≡ pending self.now }
+    {
+        &self.block[self.at..self.end]
+    }
+
+    /// Takes the next line, of `line` bytes, behind which the caller has found the line feed. It
+    /// answers `false` where the line passes the limit of the input, and changes nothing then:
+    /// `next_line` answers the fault.
+    #[inline(always)]
+    pub fn take_front(&mut self, line: usize) -> bool
+        requires at_hand { is_at_hand self.old ≡ true }
+        requires feed { FeedAt (pending self.old) line }
+        requires short { line ≤ MAX_LINE }
+        ensures taken { result ≡ true → ((left : Option (List ℕ))
+            → GaveLine self.old self.new left left (take line (pending self.old))) }
+        ensures unchanged { result ≡ false → self.new ≡ self.old }
+    {
+        let all = line as u64 + 1;
+        if all > MAX_INPUT - self.looked {
+            return false;
+        }
+        self.at += line + 1;
+        self.looked += all;
+        self.lines += 1;
+        true
     }
 
     // Reads more bytes behind those that are pending: none at the end of input.

@@ -1,6 +1,6 @@
-use Rattle.std.proofs.Common.{◌+◌, arith}
+use Rattle.std.proofs.Common.{arith}
 use Rattle.lk_text.proofs.FeedLemmas.{found_near}
-use Rattle.lk_text.proofs.reader.find_feed.Goals as goal
+use Rattle.lk_text.proofs.feeds.find_feed.Goals as goal
 
 pub returns-in-Some-clause-found : goal.returns-in-Some-clause-found
 returns-in-Some-clause-found c =

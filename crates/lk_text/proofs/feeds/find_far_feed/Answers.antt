@@ -1,5 +1,5 @@
 use Rattle.lk_text.proofs.FeedLemmas.{found_in_part, none_in_part}
-use Rattle.lk_text.proofs.reader.find_far_feed.Goals as goal
+use Rattle.lk_text.proofs.feeds.find_far_feed.Goals as goal
 
 pub returns-in-Some-clause-found : goal.returns-in-Some-clause-found
 returns-in-Some-clause-found c = found_in_part _ _ _ _ _ c.requires.plain c.in-Some.ensures
