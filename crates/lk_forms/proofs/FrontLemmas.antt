@@ -1,5 +1,5 @@
 -- What stands in front of a line: blanks, digits, a first word.
-use Rattle.std.proofs.Common.{◌≡◌, ◌≢◌, ◌≤◌, ◌<◌, ◌+◌, ◌-◌, ◌*◌, ◌^◌, ℕ, true, List, [], ◌∷◌, ◌++◌, length, refl, sym, ap, ◌∙◌, arith, append_assoc, length-append, take, drop, get_or}
+use Rattle.std.proofs.Common.{◌≡◌, ◌≢◌, ◌≤◌, ◌<◌, ◌+◌, ◌-◌, ◌*◌, ◌^◌, ℕ, true, List, [], ◌∷◌, ◌++◌, length, refl, sym, ap, ◌∙◌, arith, append_assoc, length-append, take, drop, get_or, Some}
 use Rattle.std.proofs.lemmas.Bool.Decides.{nat_tests}
 use Rattle.std.proofs.lemmas.Int.Digits.{digits_value_push}
 use Rattle.std.proofs.lemmas.List.{take_all}
@@ -10,7 +10,8 @@ use Rattle.std.specs.Str.{all_ascii_digits}
 use Rattle.std.specs.Str.Parse.{digits_value}
 use Rattle.lk_text.proofs.NumberLemmas.{and_split, value_of_digit, number_of-digits}
 use Rattle.lk_forms.specs.Words.{is_blank, is_text, is_filled, words}
-use Rattle.lk_forms.specs.Fronts.{HasDigits, HasNumber}
+use Rattle.lk_text.specs.Numbers.{number_of}
+use Rattle.lk_forms.specs.Fronts.{HasDigits, HasNumber, EndsNumber}
 use Rattle.lk_forms.proofs.WordLemmas.{is_solid, ends_word, words-blank, text-blank, words-word, text-word}
 
 -- digits
@@ -49,27 +50,36 @@ digits-more bytes n (b ∷ rest) digit so_far some first is = rw (is, take_all (
 solid-digit : (b : ℕ) → is_ascii_digit b ≡ true → is_solid b ≡ true
 solid-digit b digit = grind (arith, nat_tests, digit)
 
-solid-digits : (ds : List ℕ) → all_ascii_digits ds ≡ true → list_all is_solid ds ≡ true
+pub solid-digits : (ds : List ℕ) → all_ascii_digits ds ≡ true → list_all is_solid ds ≡ true
 solid-digits [] all = refl
 solid-digits (d ∷ ds) all = let parts = and_split (is_ascii_digit d) (all_ascii_digits ds) all in rw (solid-digit d parts.0) (solid-digits ds parts.1)
 
-filled-long : (word : List ℕ) → 0 < length word → is_filled word ≡ true
+pub filled-long : (word : List ℕ) → 0 < length word → is_filled word ≡ true
 filled-long [] some = absurd (omega arith)
 filled-long (b ∷ word) some = refl
 
 module _ (bytes : List ℕ) (n : ℕ) (left : List ℕ) (has : HasDigits bytes n left) (some : length left ≢ length bytes) (few : length bytes ≤ 19) (fits : n < 2 ^ 64) where
-  has-number : (rest : List ℕ) → ends_word left ≡ true → words left ≡ words rest → (is_text rest ≡ true → is_text left ≡ true) → HasNumber bytes n rest
-  has-number rest ends same text =
-      let size : length bytes ≡ length has.digits + length left = ap length has.split ∙ length-append has.digits left in
-      let filled : 0 < length has.digits = omega (arith, size, some) in
+  has-size : length bytes ≡ length has.digits + length left
+  has-size = ap length has.split ∙ length-append has.digits left
+
+  pub has-some : 0 < length has.digits
+  has-some = let size = has-size in omega (arith, size, some)
+
+  pub has-value : number_of has.digits ≡ Some n
+  has-value =
+      let size = has-size in
       let short : length has.digits ≤ 20 = omega (arith, size, few) in
-      let solid = solid-digits has.digits has.all in
       let taken = take_all (length has.digits) has.digits (omega arith) in
       let all : all_ascii_digits (take (length has.digits) has.digits) ≡ true = rw taken has.all in
-      let value : n ≡ digits_value 10 (take (length has.digits) has.digits) = rw taken has.value in record {
+      let value : n ≡ digits_value 10 (take (length has.digits) has.digits) = rw taken has.value in
+      number_of-digits has.digits (length has.digits) n has-some short (omega arith) all value fits
+
+  has-number : (rest : List ℕ) → ends_word left ≡ true → words left ≡ words rest → (is_text rest ≡ true → is_text left ≡ true) → HasNumber bytes n rest
+  has-number rest ends same text =
+      let solid = solid-digits has.digits has.all in record {
         word = has.digits;
-        first = ap words has.split ∙ words-word has.digits left (filled-long has.digits filled) solid ends ∙ ap (λ ws. has.digits ∷ ws) same;
-        number = number_of-digits has.digits (length has.digits) n filled short (omega arith) all value fits;
+        first = ap words has.split ∙ words-word has.digits left (filled-long has.digits has-some) solid ends ∙ ap (λ ws. has.digits ∷ ws) same;
+        number = has-value;
         text = λ t. ap is_text has.split ∙ text-word has.digits left solid (text t);
       }
 
@@ -84,3 +94,16 @@ pub number-more : (bytes : List ℕ) (n : ℕ) (left : List ℕ) → HasDigits b
 number-more bytes n [] has some few fits more blank = absurd (omega arith)
 number-more bytes n (b ∷ rest) has some few fits more blank =
     rw (take_all (length (b ∷ rest) - 1) rest (omega arith)) (has-number bytes n (b ∷ rest) has some few fits rest blank (words-blank b rest blank) (text-blank b rest blank))
+
+-- this byte ends it
+pub number-before : (bytes : List ℕ) (n last : ℕ) (left : List ℕ) → HasDigits bytes n left → length left ≢ length bytes → length bytes ≤ 19 → n < 2 ^ 64 → 1 ≤ length left → get_or left 0 0 ≡ last
+    → EndsNumber bytes last n (take (length left - 1) (drop 1 left))
+number-before bytes n last [] has some few fits more is = absurd (omega arith)
+number-before bytes n last (b ∷ rest) has some few fits more is =
+    rw (take_all (length (b ∷ rest) - 1) rest (omega arith)) (record {
+      digits = has.digits;
+      split = has.split ∙ ap (λ x. has.digits ++ x ∷ rest) is;
+      some = has-some bytes n (b ∷ rest) has some few fits;
+      all = has.all;
+      number = has-value bytes n (b ∷ rest) has some few fits;
+    })

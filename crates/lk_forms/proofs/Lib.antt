@@ -1,6 +1,7 @@
 mod Examples
 pub mod WordLemmas
 pub mod FrontLemmas
+pub mod StepLines
 pub mod Decimals
 pub mod WalkLemmas
 pub mod OpsLemmas

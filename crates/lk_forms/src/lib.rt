@@ -5,6 +5,7 @@
 
 mod answers;
 mod arguments;
+mod front;
 mod header;
 mod keyword;
 mod laws;
@@ -21,6 +22,7 @@ mod words;
 
 pub use answers::{Fault, HeaderStep, LineRefusal, Sched, Which};
 pub use arguments::{cpu_word, no_words, number_in, one_word, two_words};
+pub use front::front_step;
 pub use header::{HeaderReader, format_numbered};
 pub use laws::{lines_say_lawful_setups, texts_tell_all};
 pub use limits::{MAX_ACTS, MAX_CPUS, MAX_HANDLERS, MAX_LOCKS, MAX_OPS, MAX_WIDE_CPUS};

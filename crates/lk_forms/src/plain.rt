@@ -17,9 +17,9 @@ use lk_abs::Act;
 /// number below 2^64.
 const MAX_PLAIN: usize = 23;
 
-// The number that the digits in front write, and what stands behind them.
+/// The number that the digits in front write, and what stands behind them.
 #[inline(always)]
-fn digits(bytes: &[u8]) -> (u64, &[u8])
+pub(crate) fn digits(bytes: &[u8]) -> (u64, &[u8])
     requires { length bytes.now ≤ 19 }
     ensures { HasDigits bytes.now result.0 result.1.now }
 {
