@@ -6,10 +6,11 @@ ghost use Rattle.lk_text.specs.Block.{waiting};
 ghost use Rattle.lk_text.specs.Reader.{is_at_hand, is_ended, GaveLine, MetEnd, GaveFault};
 ghost use Rattle.lk_forms.specs.Schedule.{schedule_of};
 
-use lk_forms::{LineRefusal, Sched, schedule_line};
+use lk_forms::{LineRefusal, Sched, front_step, schedule_line};
 use lk_text::{Block, LineFault, LineReader, Sink, Source, WriteFault};
 
-/// What the next line of the schedule says, if there is one, or why it is refused.
+/// What the next line of the schedule says, if there is one, or why it is refused. Most lines are
+/// plain steps at hand, and are read where they stand.
 pub(crate) fn next_said<S: Source>(
     reader: &mut LineReader,
     source: &mut S,
@@ -29,6 +30,13 @@ pub(crate) fn next_said<S: Source>(
     ensures idle { is_ended reader.old ≡ true → source.new ≡ source.old }
     ensures later { S.faults source.old ≤ S.faults source.new }
 {
+    if !ended
+        && reader.has_line()
+        && let Some((said, line)) = front_step(reader.ahead(), cpus, acts)
+        && reader.take_front(line)
+    {
+        return Ok(Some(Ok(said)));
+    }
     match reader.next_line(source) {
         Ok(Some(line)) => Ok(Some(schedule_line(line, cpus, acts, ended))),
         Ok(None) => Ok(None),
