@@ -162,3 +162,70 @@ module _ (a b : Run) (act : Act) (made : ℕ) (first : Makes a b (replicate made
 -- there is a processor
 pub some_cpus : (m : Machine) → IsSound m → 1 ≤ length m.cpus
 some_cpus m sound = let some = sound.1.whole.setup.some in let same = sound.1.whole.cpus in omega arith
+
+-- ---- acts that are counted later
+
+-- the run as it is where so many acts were made on its machine that told nothing, once they are counted
+abbrev pub gone_on : Run → Machine → ℕ → Run
+gone_on from m made = record { machine = m; acts = from.acts + made; events = from.events; some = (let some = from.some in omega arith) }
+
+pub made_nothing : (from : Run) → Makes from (gone_on from from.machine 0) []
+made_nothing from = record {
+  machine = refl;
+  setup = refl;
+  acts = refl;
+  events = sym (add-zero from.events);
+  lawful = λ es shows. subst (ShowsLawful from.machine) (sym (append-nil es)) shows;
+}
+
+pub ready_still : (from : Run) → CanGoOn from → CanGoOn (gone_on from from.machine 0)
+ready_still from ready = record {
+  sound = ready.sound;
+  few = (let few = ready.few in omega arith);
+  counts = CountsWithin-more from.acts (from.acts + 0) from.machine.counts (omega arith) ready.counts;
+}
+
+-- the acts are counted
+pub ready_counted : (from new : Run) (m : Machine) (made : ℕ) → new.machine ≡ m → new.acts ≡ from.acts + made
+    → CanGoOn (gone_on from m made) → CanGoOn new
+ready_counted from new m made machine acts ready = record {
+  sound = subst IsSound (sym machine) ready.sound;
+  few = (let few = ready.few in omega (arith, acts));
+  counts = subst (λ (k : Machine). CountsWithin new.acts k.counts) (sym machine)
+      (CountsWithin-more (from.acts + made) new.acts m.counts (omega (arith, acts)) ready.counts);
+}
+
+pub made_counted : (from new : Run) (m : Machine) (made : ℕ) (xs : List Act) → new.machine ≡ m → new.acts ≡ from.acts + made → new.events ≡ from.events
+    → Makes from (gone_on from m made) xs → Makes from new xs
+made_counted from new m made xs machine acts events whole = record {
+  machine = machine ∙ whole.machine;
+  setup = ap (λ (k : Machine). k.setup) machine ∙ whole.setup;
+  acts = acts ∙ whole.acts;
+  events = events ∙ whole.events;
+  lawful = λ es shows. subst (λ (k : Machine). ShowsLawful k (es ++ events_of (occurrences_in from xs))) (sym machine) (whole.lawful es shows);
+}
+
+module _ (from : Run) (m : Machine) (made : ℕ) (a : Act) where
+  -- one more act that told nothing
+  pub made_quietly : (m' : Machine) → m' ≡ (next m a).0 → None ≡ (next m a).1 → m'.setup ≡ m.setup
+      → ((es : List Event) → ShowsLawful m es → ShowsLawful m' (with_event es None))
+      → Makes (gone_on from m made) (gone_on from m' (made + 1)) (a ∷ [])
+  made_quietly m' machine told setup lawful =
+      made_one (gone_on from m made) (gone_on from m' (made + 1)) a None machine told setup (omega arith) (sym (add-zero from.events)) lawful
+
+  -- one more act that told an event, with which all are counted
+  pub made_telling : (new : Run) (e : Event) → new.machine ≡ (next m a).0 → Some e ≡ (next m a).1 → new.machine.setup ≡ m.setup
+      → new.acts ≡ from.acts + (made + 1) → new.events ≡ from.events + 1
+      → ((es : List Event) → ShowsLawful m es → ShowsLawful new.machine (with_event es (Some e)))
+      → Makes (gone_on from m made) new (a ∷ [])
+  made_telling new e machine told setup acts events lawful =
+      made_one (gone_on from m made) new a (Some e) machine told setup (omega (arith, acts)) events lawful
+
+  -- what happens in one more act, where nothing happened in those before it
+  pub occurrences_more : (e : Option Event) → e ≡ (next m a).1 → Makes from (gone_on from m made) (replicate made a)
+      → occurrences_in from (replicate made a) ≡ [] → occurrences_in from (replicate (made + 1) a) ≡ occurs (from.acts + made + 1) e
+  occurrences_more e told first none =
+      occurrences_on from (gone_on from m made) a made first 1
+      ∙ ap (λ l. l ++ occurrences_in (gone_on from m made) (a ∷ [])) none
+      ∙ occurrences_in-one (gone_on from m made) a
+      ∙ ap (occurs (from.acts + made + 1)) (sym told)

@@ -53,24 +53,9 @@ impl Run {
         self.machine.cpus()
     }
 
-    // Makes one act.
-    #[inline]
-    fn act(&mut self, act: Act) -> Option<Event>
-        requires ready { CanGoOn self.old }
-        requires few { self.old.acts < 100000000 }
-        requires processor { processor_of act < length self.old.machine.cpus }
-        ensures told { occurs self.new.acts result ≡ occurrences_in self.old (act ∷ []) }
-        ensures ready { CanGoOn self.new }
-        ensures made { Makes self.old self.new (act ∷ []) }
-    {
-        let event = lk_core::act(&mut self.machine, act);
-        self.acts += 1;
-        self.events += u64::from(event.is_some());
-        event
-    }
-
     // Makes an act until it tells an event, so many times at most, and gives how often it was made.
-    // It knows no sink, so that there is one machine code of it, whoever replays.
+    // It knows no sink, so that there is one machine code of it, whoever replays. The acts are
+    // counted once, when it stops.
     fn until_event(&mut self, act: Act, times: u64) -> (u64, Option<Event>)
         requires ready { CanGoOn self.old }
         requires few { self.old.acts + times ≤ 100000000 }
@@ -83,10 +68,13 @@ impl Run {
         ensures made { Makes self.old self.new (replicate result.0 act) }
     {
         for made in 0..times {
-            if let Some(event) = self.act(act) {
+            if let Some(event) = lk_core::act(&mut self.machine, act) {
+                self.acts += made + 1;
+                self.events += 1;
                 return (made + 1, Some(event));
             }
         }
+        self.acts += times;
         (times, None)
     }
 
