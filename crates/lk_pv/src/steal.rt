@@ -1,6 +1,6 @@
 // A waiter that may pass the queue by.
 ghost use Rattle.std.specs.Prelude.{◌≡◌, Some};
-ghost use Rattle.lk_machine.specs.Machine.{top_frame};
+ghost use Rattle.lk_machine.specs.Machine.{HasTop, set_top, top_frame};
 ghost use Rattle.lk_machine.specs.TopRow.{row};
 ghost use Rattle.lk_machine.specs.rows.Pv.{after_given_up, after_glance};
 ghost use Rattle.lk_pv.specs.Row.{IsPvReady};
@@ -32,9 +32,27 @@ fn after_glance(me: Option<NodeName>, word: Fields) -> Pc
     }
 }
 
+// The top frame notes whether the word had a tail, and goes to this place.
+fn note_tail(machine: &mut Machine, cpu: u32, tailed: bool, place: Pc)
+    requires { HasTop machine.old cpu }
+    ensures { machine.new
+        ≡ set_top machine.old cpu
+        (record (top_frame machine.old cpu) { tailed = tailed; place = Some place }) }
+{
+    let frame = machine.frame(cpu);
+    machine.set_frame(
+        cpu,
+        Frame {
+            tailed,
+            place: Some(place),
+            ..frame
+        },
+    );
+}
+
 /// H1: looks at the word (`pv_hybrid_queued_unfair_trylock`). At `*,0,0` it goes on to steal; else
 /// at `t,0,*` with a tail t it looks again; else it gives up, and joins the queue, or without a
-/// node looks again.
+/// node looks again. Where it met a tail at its last look too, the place alone is stored.
 pub(crate) fn glance(machine: &mut Machine, cpu: u32) -> Option<Event>
     requires ready { IsPvReady machine.old cpu }
     requires here { (top_frame machine.old cpu).place ≡ Some Pc.H1 }
@@ -43,14 +61,13 @@ pub(crate) fn glance(machine: &mut Machine, cpu: u32) -> Option<Event>
 {
     let frame = machine.frame(cpu);
     let word = machine.word(frame.lock);
-    machine.set_frame(
-        cpu,
-        Frame {
-            tailed: word.tail.is_some(),
-            place: Some(after_glance(frame.me, word)),
-            ..frame
-        },
-    );
+    let tailed = word.tail.is_some();
+    let place = after_glance(frame.me, word);
+    if tailed && frame.tailed {
+        machine.set_place(cpu, place);
+    } else {
+        note_tail(machine, cpu, tailed, place);
+    }
     None
 }
 
