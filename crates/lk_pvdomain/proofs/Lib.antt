@@ -9,6 +9,7 @@ pub mod PvSwaps
 pub mod Fails
 pub mod PvNodes
 pub mod PvEntries
+pub mod Spared
 pub mod Quits
 pub mod PvRunning
 pub mod Dealing

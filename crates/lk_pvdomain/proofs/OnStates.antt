@@ -36,7 +36,6 @@ use Rattle.lk_domain.specs.declared.view.View.{View}
 use Rattle.lk_domain.proofs.rows.Grips.{IsOwn, own_row}
 use Rattle.lk_domain.proofs.rows.Halts.{SameMarks, marks_trans, acted_marks, state_marks, hash_same}
 use Rattle.lk_domain.proofs.rows.Lands as lands
-use Rattle.lk_domain.proofs.rows.Kept.{Halting}
 use Rattle.lk_domain.proofs.rows.Poised.{Poised}
 use Rattle.lk_domain.proofs.rows.Sights.{IsSeen}
 use Rattle.lk_domain.proofs.words.Locks.{SameLocks, locks_else, locks_trans, acted_locks}

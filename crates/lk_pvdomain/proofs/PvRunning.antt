@@ -1,8 +1,7 @@
 -- A table runs by the plan of a domain whose waiters halt.
-use Rattle.std.proofs.Common.{◌≡◌, ◌<◌, ℕ, zero, suc, List, [], ◌∷◌, length, refl, sym, ap, ◌∙◌, subst, get_or, true, arith}
+use Rattle.std.proofs.Common.{◌≡◌, ℕ, zero, suc, length, refl, sym, ap, ◌∙◌, get_or, true, arith}
 use Rattle.std.specs.Prelude.{replicate}
 use Rattle.std.specs.List.{sum}
-use Rattle.lk_abs.specs.declared.names.Kind.{Kind}
 use Rattle.lk_abs.specs.declared.names.Kind.TheVariants.{Spin}
 use Rattle.lk_abs.specs.declared.names.Mode.{Mode}
 use Rattle.lk_law.specs.Agree.{halts}

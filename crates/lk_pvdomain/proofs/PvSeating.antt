@@ -1,5 +1,5 @@
 -- The seat of a processor that may halt, as the steps at the ledger ask for it; and what it is after a call.
-use Rattle.std.proofs.Common.{◌≡◌, ◌<◌, ℕ, sym, ap, ◌∙◌, subst}
+use Rattle.std.proofs.Common.{◌<◌, ℕ, sym, ap, ◌∙◌, subst}
 use Rattle.lk_domain.specs.Plans.{cpus_of}
 use Rattle.lk_domain.specs.Seated.{IsTableOf, IsSeatOf}
 use Rattle.lk_domain.specs.Who.{Who}

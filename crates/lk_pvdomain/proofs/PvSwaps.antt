@@ -6,7 +6,7 @@ use Rattle.std.specs.Prelude.{unwrap_or, if◌then◌else◌, ◌&&◌, ◌==◌
 use mathlib.Core.Logic.{dite}
 use native.Mathlib.Decide.{ℕ_discrete}
 use prog.Atomic.{either}
-use Rattle.atomic_table.specs.Table.{State, Me, Step, keeps, Allows}
+use Rattle.atomic_table.specs.Table.{State, Me, Step, keeps, Allows, stepped}
 use Rattle.lk_abs.specs.declared.names.LockName.{LockName}
 use Rattle.lk_abs.specs.declared.names.Mode.{Mode}
 use Rattle.lk_word.specs.declared.spin_word.NodeName.{NodeName}
@@ -39,7 +39,7 @@ use Rattle.lk_domain.proofs.words.LockPlays.{MayFree}
 use Rattle.lk_domain.proofs.words.OnWords.{OnWord, word_stores}
 use Rattle.lk_domain.proofs.queue.LockSwaps.{stands}
 use Rattle.lk_pvdomain.specs.PvPlays.{TriedBy, Tries, release_fails, head_fails, steal_fails}
-use Rattle.lk_pvdomain.proofs.Fails.{tail_512}
+use Rattle.lk_pvdomain.proofs.Fails.{tail_512, head_failed}
 use Rattle.lk_pvdomain.specs.PvRows.{tries_release, tries_head, tries_steal}
 
 module _ (k : Plan) (slots id : ℕ) (m : Me Slot View) (number : IsNumbered m.0) (verb : Verb)
@@ -186,6 +186,13 @@ steal_frees : MayFree H2 → ⊥
 steal_frees t =
     either_frees (Rattle.lk_machine.specs.rows.Spin.is_unlocked (t.0.word t.2.lock).locked) _ _ (λ e. cc e) (λ e. cc e) t.3
 
+-- an exchange of 0 for 0 stores what is there
+as_it_is : (n : ℕ) → either (eqb n 0) 0 n ≡ n
+as_it_is n =
+    dite (ℕ_discrete n 0)
+    (λ hit. ap (λ b. either b 0 n) (eq-eqb n 0 hit) ∙ sym hit)
+    (λ miss. ap (λ b. either b 0 n) (ne_eqb n 0 miss))
+
 -- each kind has one row
 
 at_release : (c : Pc) → tries_release c ≡ true → c ≡ U2
@@ -234,6 +241,23 @@ module _ (k plan : Plan) (slots id : ℕ) (m : Me Slot View) (number : IsNumbere
       subst (λ (z : ℕ). Allows (Stand k) slots id m z (λ n. either (eqb n x) (x - 255) n) (TriedBy head_fails verb l x m)) (sym at)
       (head_row (subst (StandsOn (acting m.0.who.plan.mode m.0.calls verb l.index) verb l) (at_head acts.row acts.is) acts.stands) acts.begins x small)
 
+  -- a look that stores what is there: at 0 the swap fails too
+  head_idle : StandsOn (acting m.0.who.plan.mode m.0.calls verb l.index) verb l E4
+      → Begins m.0.who.plan m.0.calls verb l.index
+      → Allows (Stand k) slots id m (word_at l) (λ n. either (eqb n 0) 0 n) (TriedBy head_fails verb l 0 m)
+  head_idle acts begins =
+      tries k slots id m number verb l low E4 acts begins (λ f. tt) (λ may. absurd (head_frees may)) head_fails 0 0
+      (λ y is. sym is ∙ ap (λ (o : Option Fields). packed (layout_in k) (unwrap_or o y))
+      (sym (head_misses acts.frame y.locked y.pending y.tail (head_failed (layout_in k) y 0 (sym is) (λ e. omega (arith, e))))))
+      (λ y fail. head_misses acts.frame y.locked y.pending y.tail fail) (λ mode y. refl)
+
+  pub head_looks : (acts : ActsOn tries_head m.0 verb l) → Allows (Stand k) slots id m i (λ n. n) (TriedBy head_fails verb l 0 m)
+  head_looks acts s both long me small =
+      let t = subst (λ (z : ℕ). Allows (Stand k) slots id m z (λ n. either (eqb n 0) 0 n) (TriedBy head_fails verb l 0 m)) (sym at)
+      (head_idle (subst (StandsOn (acting m.0.who.plan.mode m.0.calls verb l.index) verb l) (at_head acts.row acts.is) acts.stands) acts.begins)
+      s both long me small in
+      (t.0, t.1, t.2, subst (λ (n : ℕ). Stand k (stepped s i n id m.1 t.0 t.1)) (as_it_is (get_or s.words i 0)) t.3, t.4)
+
   steal_row : StandsOn (acting m.0.who.plan.mode m.0.calls verb l.index) verb l H2
       → Begins m.0.who.plan m.0.calls verb l.index → (x : ℕ) → x % 256 ≡ 0
       → Allows (Stand k) slots id m (word_at l) (λ n. either (eqb n x) (x + 1) n) (TriedBy steal_fails verb l x m)
@@ -273,6 +297,12 @@ module _ (k plan : Plan) (slots id : ℕ) (m : Me Slot View) (number : IsNumbere
       → Allows (Stand k) slots id m i (λ n. either (eqb n x) (x - 255) n) (Tries head_fails Lock st m)
   head_told small acts = told head_fails Lock (λ n. either (eqb n x) (x - 255) n)
       (head_asks k plan slots id m number Lock (lock_name l) i same near at acts x small)
+
+  pub head_looked : ActsOn tries_head m.0 Lock (lock_name l) → x ≡ 0
+      → Allows (Stand k) slots id m i (λ n. n) (Tries head_fails Lock st m)
+  head_looked acts none = told head_fails Lock (λ n. n)
+      (subst (λ (z : ℕ). Allows (Stand k) slots id m i (λ n. n) (TriedBy head_fails Lock (lock_name l) z m)) (sym none)
+      (head_looks k plan slots id m number Lock (lock_name l) i same near at acts))
 
   pub steal_told : x % 256 ≡ 0 → ActsOn tries_steal m.0 Lock (lock_name l)
       → Allows (Stand k) slots id m i (λ n. either (eqb n x) (x + 1) n) (Tries steal_fails Lock st m)

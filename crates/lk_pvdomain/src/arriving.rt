@@ -85,7 +85,8 @@ fn swap<R: Wait>(
         → At domain.now Lock lock own s G4 (Owns own) seat.new }
 {
     let _ = (own, tailed);
-    if tries::steal(seat, rt, domain, lock, 0) % 256 == 0 {
+    let seen = words::guess(domain, lock) / 256 * 256;
+    if tries::steal(seat, rt, domain, lock, seen) % 256 == 0 {
         return true;
     }
     false
@@ -171,7 +172,7 @@ pub(crate) fn arrive<R: Wait>(
         → At domain.now Lock lock own s G4 (Owns own) seat.old
         → At domain.now Lock lock own s G5 (Follows own prev) seat.new }
 {
-    let mut expected = 0;
+    let mut expected = words::guess(domain, lock);
     for _ in rt.forever() {
         let met = shared::exchange_tail(seat, domain, lock, expected, own);
         if met == expected {

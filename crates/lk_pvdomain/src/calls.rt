@@ -75,7 +75,22 @@ fn queue<R: Wait>(seat: &mut Right, rt: &R, domain: &PvDomain, lock: u32, own: N
     }
 }
 
+// From G1: it steals the lock, or joins the queue. It is out of the way of a call that nobody delays.
+#[inline(never)]
+fn contend<R: Wait>(seat: &mut Right, rt: &R, domain: &PvDomain, lock: u32, own: NodeName)
+    requires at { (s : Start) × At domain.now Lock lock own s G1 Any seat.old }
+    ensures took { (s : Start) → At domain.now Lock lock own s G1 Any seat.old
+        → Took domain.now Lock lock own s seat.new }
+{
+    arriving::enter(seat, domain, lock, own);
+    if arriving::steal(seat, rt, domain, lock, own) {
+        return;
+    }
+    queue(seat, rt, domain, lock, own);
+}
+
 // A call of `lock`, from its first row until it has the lock.
+#[inline]
 fn take<R: Wait>(seat: &mut Right, rt: &R, domain: &PvDomain, lock: u32, own: NodeName)
     requires rests { Rests domain.now own seat.old }
     requires lock { lock < locks_of domain.now.plan }
@@ -85,14 +100,11 @@ fn take<R: Wait>(seat: &mut Right, rt: &R, domain: &PvDomain, lock: u32, own: No
     if fast(seat, domain, lock, own) {
         return;
     }
-    arriving::enter(seat, domain, lock, own);
-    if arriving::steal(seat, rt, domain, lock, own) {
-        return;
-    }
-    queue(seat, rt, domain, lock, own);
+    contend(seat, rt, domain, lock, own);
 }
 
 /// Takes the lock: it waits until it has it, and halts between two looks where that takes long.
+#[inline]
 pub fn pv_lock<R: Wait>(cpu: &mut PvCpu, rt: &R, domain: &PvDomain, lock: LockId)
     requires domain { IsOf cpu.old domain.now }
     requires lock { lock.index < locks_of domain.now.plan }
@@ -109,6 +121,7 @@ pub fn pv_lock<R: Wait>(cpu: &mut PvCpu, rt: &R, domain: &PvDomain, lock: LockId
 }
 
 // A release, from its first row until it has freed the lock and kicked whom it had to.
+#[inline]
 fn free<R: Wait>(seat: &mut Right, rt: &R, domain: &PvDomain, lock: u32, own: NodeName)
     requires rests { Rests domain.now own seat.old }
     requires lock { lock < locks_of domain.now.plan }
@@ -123,6 +136,7 @@ fn free<R: Wait>(seat: &mut Right, rt: &R, domain: &PvDomain, lock: u32, own: No
 }
 
 /// Frees a lock that the processor holds; where its byte is slow it kicks the one that waits for that.
+#[inline]
 pub fn pv_unlock<R: Wait>(cpu: &mut PvCpu, rt: &R, domain: &PvDomain, lock: LockId)
     requires domain { IsOf cpu.old domain.now }
     requires lock { lock.index < locks_of domain.now.plan }

@@ -16,6 +16,7 @@ use lk_word::NodeName;
 use std::sync::Wait;
 
 // The row U2: true where it freed the lock.
+#[inline]
 pub(crate) fn release<R: Wait>(
     seat: &mut Right,
     rt: &R,
@@ -33,13 +34,21 @@ pub(crate) fn release<R: Wait>(
         → At domain.now Unlock lock own (first_of Unlock lock seat.old) U3 Any seat.new }
 {
     let _ = own;
-    if tries::release(seat, rt, domain, lock, 1) % 256 == 1 {
+    let met = tries::try_release(seat, domain, lock, 1);
+    if met == 1 {
+        return true;
+    }
+    if met % 256 != 1 {
+        return false;
+    }
+    if tries::release(seat, rt, domain, lock, met) % 256 == 1 {
         return true;
     }
     false
 }
 
 // The rows U3 to U5: it takes the entry out of the hash, frees the lock, and kicks whom the entry named.
+#[inline(never)]
 pub(crate) fn wake_next(seat: &mut Right, domain: &PvDomain, lock: u32, own: NodeName)
     requires at { (s : Start) × At domain.now Unlock lock own s U3 Any seat.old }
     requires home { is_first (lock_name lock) ≡ true → seat.old.me.0.ledger.out ≡ None }

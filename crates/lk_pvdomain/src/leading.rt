@@ -1,19 +1,19 @@
 // A call that leads the queue, until it has taken the lock: the rows E1 to E12.
-ghost use Rattle.std.specs.Prelude.{◌≡◌, ◌%◌, true, false};
+ghost use Rattle.std.specs.Prelude.{◌≡◌, true, false};
 ghost use Rattle.lk_machine.specs.declared.parts.Pc.TheVariants.{E1, E2, E4, E5, E6, E10, E13};
 ghost use Rattle.lk_machine.specs.declared.setup.Verb.TheVariants.{Lock};
 ghost use Rattle.lk_domain.specs.Plans.{turns_of};
 ghost use Rattle.lk_pvdomain.specs.PvPaths.{At, Leads, Owns, Start, Tries};
 
 use crate::domain::PvDomain;
-use crate::{hash, kicks, states, tries, words};
+use crate::{hash, kicks, pacing, states, tries, words};
 use crossbeam_utils::Backoff;
 use lk_domain::Right;
 use lk_machine::{State, Verb};
 use lk_word::NodeName;
 use std::sync::Wait;
 
-// The row E4, for so many turns: true where it took the lock. The word is the one that it met last.
+// The row E4, for so many turns: true where it took the lock.
 fn head<R: Wait>(
     seat: &mut Right,
     rt: &R,
@@ -21,7 +21,6 @@ fn head<R: Wait>(
     lock: u32,
     own: NodeName,
     hashed: bool,
-    seen: u64,
 ) -> bool
     requires at { (s : Start)
         × At domain.now Lock lock own s E4 (Tries own hashed (turns_of domain.now.plan)) seat.old }
@@ -35,26 +34,17 @@ fn head<R: Wait>(
     let _ = (own, hashed);
     let backoff = Backoff::new();
     let mut left = domain.turns();
-    let mut met = seen;
     for _ in rt.forever() {
-        met = tries::head(seat, rt, domain, lock, takeable(met));
-        if met % 512 == 256 {
+        if tries::head(seat, rt, domain, lock) % 512 == 256 {
             return true;
         }
         if left <= 1 {
             return false;
         }
         left -= 1;
-        backoff.snooze();
+        pacing::give_way(&backoff, left);
     }
     unreachable!()
-}
-
-// The same word with its byte free and pending set, from which a front may take the lock.
-fn takeable(met: u64) -> u64
-    ensures { result % 512 ≡ 256 }
-{
-    met % 4_294_967_296 / 512 * 512 + 256
 }
 
 // The rows E6 to E9: it enters its lock into the hash, and makes the byte slow. True where the lock was
@@ -109,8 +99,8 @@ fn attempt<R: Wait>(
         → At domain.now Lock lock own s E10 (Leads own true) seat.new }
 {
     states::store_state(seat, domain, own, State::Running);
-    let met = words::press(seat, domain, Verb::Lock, lock);
-    if head(seat, rt, domain, lock, own, hashed, met) {
+    words::press(seat, domain, Verb::Lock, lock);
+    if head(seat, rt, domain, lock, own, hashed) {
         return true;
     }
     words::relent(seat, domain, Verb::Lock, lock);

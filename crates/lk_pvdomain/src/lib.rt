@@ -15,6 +15,7 @@ mod leading;
 mod making;
 mod met;
 mod nodes;
+mod pacing;
 mod pages;
 mod plan;
 mod rule;

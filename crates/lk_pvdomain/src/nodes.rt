@@ -7,7 +7,7 @@ ghost use Rattle.lk_domain.specs.declared.part.Part.TheVariants as part_is;
 ghost use Rattle.lk_pvdomain.specs.PvPlays.{AtFlag, AtBehind, AtHand};
 
 use crate::domain::PvDomain;
-use crate::rule::{FlagLooks, Handovers, LinkLooks, Linkings, Resets};
+use crate::rule::{FlagLooks, Handovers, LinkLooks, Linkings, ResetLooks, Resets};
 use lk_domain::{Part, Right};
 use lk_machine::Verb;
 use lk_word::NodeName;
@@ -77,14 +77,25 @@ pub(crate) fn link(
     met
 }
 
-// Resets the flag or the link of the node to come, which nobody uses.
-pub(crate) fn reset(
-    seat: &mut Right,
-    domain: &PvDomain,
-    _verb: Verb,
-    own: NodeName,
-    part: Part,
-) -> u64
+// Looks at the flag or the link of the node to come, which nobody uses: where it is 0 it counts as reset.
+fn look_reset(seat: &mut Right, domain: &PvDomain, _verb: Verb, own: NodeName, part: Part) -> u64
+    requires table { seat.old.table_id ≡ domain.now.table.shared.table_id }
+    requires number { IsNumbered seat.old.me.0 }
+    requires own { IsNode domain.now.plan own }
+    requires row { AtEntry own _verb seat.old.me.0 }
+    requires ready { part ≢ part_is.Flag → seat.old.me.0.calls.ready ≡ part_index part }
+    requires plan { seat.old.me.0.who.plan ≡ domain.now.plan }
+    ensures same { (seat.new.table_id ≡ seat.old.table_id) × (seat.new.id ≡ seat.old.id) }
+    ensures spares { result ≡ 0 → seat.new.me ≡ (readied_by part seat.old.me.0, seat.old.me.1) }
+    ensures stays { result ≢ 0 → seat.new.me ≡ seat.old.me }
+{
+    let word = domain.node_of(own, part);
+    let met = domain.table.shared.load::<ResetLooks>(seat, word);
+    met
+}
+
+// Stores 0 into it.
+fn store_reset(seat: &mut Right, domain: &PvDomain, _verb: Verb, own: NodeName, part: Part) -> u64
     requires table { seat.old.table_id ≡ domain.now.table.shared.table_id }
     requires number { IsNumbered seat.old.me.0 }
     requires own { IsNode domain.now.plan own }
@@ -97,4 +108,22 @@ pub(crate) fn reset(
     let word = domain.node_of(own, part);
     let met = domain.table.shared.swap::<Resets>(seat, word, 0);
     met
+}
+
+// Resets the flag or the link of the node to come, by a store only where a look does not find it reset:
+// after a call that has stolen its lock it mostly is.
+pub(crate) fn reset(seat: &mut Right, domain: &PvDomain, verb: Verb, own: NodeName, part: Part)
+    requires table { seat.old.table_id ≡ domain.now.table.shared.table_id }
+    requires number { IsNumbered seat.old.me.0 }
+    requires own { IsNode domain.now.plan own }
+    requires row { AtEntry own verb seat.old.me.0 }
+    requires ready { part ≢ part_is.Flag → seat.old.me.0.calls.ready ≡ part_index part }
+    requires plan { seat.old.me.0.who.plan ≡ domain.now.plan }
+    ensures same { (seat.new.table_id ≡ seat.old.table_id) × (seat.new.id ≡ seat.old.id) }
+    ensures step { seat.new.me ≡ (readied_by part seat.old.me.0, seat.old.me.1) }
+{
+    if look_reset(seat, domain, verb, own, part) == 0 {
+        return;
+    }
+    store_reset(seat, domain, verb, own, part);
 }

@@ -2,7 +2,7 @@
 ghost use Rattle.lk_domain.specs.NodePlays.{Enters, Hands, Links, Readies, SeesFlag, SeesLink};
 ghost use Rattle.lk_domain.specs.Plays.{Makes, Swaps, WentBy};
 ghost use Rattle.lk_pvdomain.specs.PvPlays.{SeesState, Halts, Wakes, Stays, Kicks, Fills, SeesHash, Empties, Tries};
-ghost use Rattle.lk_pvdomain.specs.PvPlays.{release_fails, head_fails, steal_fails};
+ghost use Rattle.lk_pvdomain.specs.PvPlays.{SparedBy, release_fails, head_fails, steal_fails};
 ghost use Rattle.lk_machine.specs.declared.setup.Verb.TheVariants.{Lock, Try, Unlock};
 
 use atomic_table::Play;
@@ -106,6 +106,13 @@ impl Play<Option<Journal>, View> for Resets {
     ghost then = { Readies };
 }
 
+// A look at a word of the node to come, which need not be reset where it is 0.
+pub struct ResetLooks;
+
+impl Play<Option<Journal>, View> for ResetLooks {
+    ghost then = { λ st m. SparedBy (Readies st m) m };
+}
+
 // A step on the word of a lock by a call that takes it.
 pub struct Locks;
 
@@ -132,6 +139,13 @@ pub struct Entries;
 
 impl Play<Option<Journal>, View> for Entries {
     ghost then = { λ _. Enters };
+}
+
+// A look at that word, by which the call enters the slow path where it is 0.
+pub struct EntryLooks;
+
+impl Play<Option<Journal>, View> for EntryLooks {
+    ghost then = { λ _ m. SparedBy (Enters m) m };
 }
 
 // An entry is put into the hash, where its place is empty.

@@ -1,5 +1,5 @@
 // The steps of a seat on the states of nodes, each one operation.
-ghost use Rattle.std.specs.Prelude.{◌≡◌};
+ghost use Rattle.std.specs.Prelude.{◌≡◌, ◌≢◌};
 ghost use Rattle.lk_domain.specs.NodePlays.{AtEntry, Enters};
 ghost use Rattle.lk_domain.specs.Views.{IsNumbered};
 ghost use Rattle.lk_domain.specs.Words.{IsNode};
@@ -7,7 +7,7 @@ ghost use Rattle.lk_pvdomain.specs.PvPlays.{AtState, AtTold, SeesState};
 ghost use Rattle.lk_pvdomain.specs.PvRows.{looks_state, stores_own, state_told, rouses, roused_to};
 
 use crate::domain::{PvDomain, number_of};
-use crate::rule::{Entries, StateSteps};
+use crate::rule::{Entries, EntryLooks, StateSteps};
 use lk_domain::Right;
 use lk_machine::{State, Verb};
 use lk_word::NodeName;
@@ -60,8 +60,24 @@ pub(crate) fn rouse(seat: &mut Right, domain: &PvDomain, node: NodeName, state: 
     met
 }
 
-// Resets the state of the node to come, by which the call enters the slow path: the row G1.
-pub(crate) fn enter(seat: &mut Right, domain: &PvDomain, _verb: Verb, own: NodeName) -> u64
+// Looks at the state of the node to come: where it is 0 the call enters the slow path.
+fn look_entry(seat: &mut Right, domain: &PvDomain, _verb: Verb, own: NodeName) -> u64
+    requires table { seat.old.table_id ≡ domain.now.table.shared.table_id }
+    requires number { IsNumbered seat.old.me.0 }
+    requires own { IsNode domain.now.plan own }
+    requires row { AtEntry own _verb seat.old.me.0 }
+    requires ready { seat.old.me.0.calls.ready ≡ 2 }
+    ensures same { (seat.new.table_id ≡ seat.old.table_id) × (seat.new.id ≡ seat.old.id) }
+    ensures spares { result ≡ 0 → Enters seat.old.me result seat.new.me }
+    ensures stays { result ≢ 0 → seat.new.me ≡ seat.old.me }
+{
+    let word = domain.state_of(own);
+    let met = domain.table.shared.load::<EntryLooks>(seat, word);
+    met
+}
+
+// Stores 0 into it, by which the call enters the slow path.
+fn store_entry(seat: &mut Right, domain: &PvDomain, _verb: Verb, own: NodeName) -> u64
     requires table { seat.old.table_id ≡ domain.now.table.shared.table_id }
     requires number { IsNumbered seat.old.me.0 }
     requires own { IsNode domain.now.plan own }
@@ -73,4 +89,22 @@ pub(crate) fn enter(seat: &mut Right, domain: &PvDomain, _verb: Verb, own: NodeN
     let word = domain.state_of(own);
     let met = domain.table.shared.swap::<Entries>(seat, word, 0);
     met
+}
+
+// Resets the state of the node to come, by which the call enters the slow path: the row G1. It stores
+// only where a look does not find it reset.
+pub(crate) fn enter(seat: &mut Right, domain: &PvDomain, verb: Verb, own: NodeName) -> u64
+    requires table { seat.old.table_id ≡ domain.now.table.shared.table_id }
+    requires number { IsNumbered seat.old.me.0 }
+    requires own { IsNode domain.now.plan own }
+    requires row { AtEntry own verb seat.old.me.0 }
+    requires ready { seat.old.me.0.calls.ready ≡ 2 }
+    ensures same { (seat.new.table_id ≡ seat.old.table_id) × (seat.new.id ≡ seat.old.id) }
+    ensures step { Enters seat.old.me result seat.new.me }
+{
+    let met = look_entry(seat, domain, verb, own);
+    if met == 0 {
+        return met;
+    }
+    store_entry(seat, domain, verb, own)
 }

@@ -33,6 +33,21 @@ pub(crate) fn try_release(seat: &mut Right, domain: &PvDomain, lock: u32, expect
     met
 }
 
+// Looks at the word, by the front: the row E4 where the byte is not free or nobody pends, or nothing. A
+// look leaves the line of the word with the holder, from whom a failed exchange would take it.
+fn look_head(seat: &mut Right, domain: &PvDomain, lock: u32) -> u64
+    requires table { seat.old.table_id ≡ domain.now.table.shared.table_id }
+    requires number { IsNumbered seat.old.me.0 }
+    requires lock { lock < locks_of domain.now.plan }
+    requires row { Acts tries_head seat.old.me.0 Lock lock }
+    ensures same { (seat.new.table_id ≡ seat.old.table_id) × (seat.new.id ≡ seat.old.id) }
+    ensures step { TriedBy head_fails Lock (lock_name lock) 0 seat.old.me result seat.new.me }
+{
+    let word = domain.lock_word(lock);
+    let met = domain.table.shared.load::<HeadTries>(seat, word);
+    met
+}
+
 // Exchanges a free word with pending set for a held one without it, by the front: the row E4, or nothing.
 pub(crate) fn try_head(seat: &mut Right, domain: &PvDomain, lock: u32, expected: u64) -> u64
     requires table { seat.old.table_id ≡ domain.now.table.shared.table_id }
@@ -69,7 +84,9 @@ pub(crate) fn try_steal(seat: &mut Right, domain: &PvDomain, lock: u32, expected
     met
 }
 
-// The row U2: the exchange is tried until it is made, or the byte is not held.
+// The row U2: the exchange is tried until it is made, or the byte is not held. It is out of the way of a
+// release for which nobody waits, whose first try is its last.
+#[inline(never)]
 pub(crate) fn release<R: Wait>(
     seat: &mut Right,
     rt: &R,
@@ -124,14 +141,9 @@ pub(crate) fn steal<R: Wait>(
     unreachable!()
 }
 
-// The row E4: the exchange is tried until it is made, or the byte is not free or nobody pends.
-pub(crate) fn head<R: Wait>(
-    seat: &mut Right,
-    rt: &R,
-    domain: &PvDomain,
-    lock: u32,
-    seen: u64,
-) -> u64
+// The row E4, after a look at a free word with pending set: the exchange is tried until it is made, or
+// the byte is not free or nobody pends.
+fn swap_head<R: Wait>(seat: &mut Right, rt: &R, domain: &PvDomain, lock: u32, seen: u64) -> u64
     requires table { seat.old.table_id ≡ domain.now.table.shared.table_id }
     requires number { IsNumbered seat.old.me.0 }
     requires lock { lock < locks_of domain.now.plan }
@@ -149,4 +161,20 @@ pub(crate) fn head<R: Wait>(
         expected = met;
     }
     unreachable!()
+}
+
+// The row E4: a look where the word is as the front may not take it, and else an exchange.
+pub(crate) fn head<R: Wait>(seat: &mut Right, rt: &R, domain: &PvDomain, lock: u32) -> u64
+    requires table { seat.old.table_id ≡ domain.now.table.shared.table_id }
+    requires number { IsNumbered seat.old.me.0 }
+    requires lock { lock < locks_of domain.now.plan }
+    requires row { Acts tries_head seat.old.me.0 Lock lock }
+    ensures same { (seat.new.table_id ≡ seat.old.table_id) × (seat.new.id ≡ seat.old.id) }
+    ensures step { MadeBy Lock lock seat.old.me result seat.new.me }
+{
+    let met = look_head(seat, domain, lock);
+    if met % 512 != 256 {
+        return met;
+    }
+    swap_head(seat, rt, domain, lock, met)
 }

@@ -7,7 +7,7 @@ ghost use Rattle.lk_domain.specs.Words.{IsNode};
 ghost use Rattle.lk_pvdomain.specs.PvPaths.{At, Follows, Owns, Spares, Start};
 
 use crate::domain::PvDomain;
-use crate::{kicks, nodes, states};
+use crate::{kicks, nodes, pacing, states};
 use crossbeam_utils::Backoff;
 use lk_domain::Right;
 use lk_machine::State;
@@ -47,7 +47,7 @@ fn turns<R: Wait>(
             return false;
         }
         left -= 1;
-        backoff.snooze();
+        pacing::give_way(&backoff, left);
     }
     unreachable!()
 }

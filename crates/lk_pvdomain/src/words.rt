@@ -15,6 +15,14 @@ use lk_domain::Right;
 use lk_machine::Verb;
 use lk_word::NodeName;
 
+// The word as it is just now, of which nothing is told: what an exchange may expect.
+pub(crate) fn guess(domain: &PvDomain, lock: u32) -> u64
+    requires lock { lock < locks_of domain.now.plan }
+{
+    let word = domain.lock_word(lock);
+    domain.table.shared.peek(word)
+}
+
 // Looks at the word: the rows H1 and E11.
 pub(crate) fn look_word(seat: &mut Right, domain: &PvDomain, _verb: Verb, lock: u32) -> u64
     requires table { seat.old.table_id ≡ domain.now.table.shared.table_id }

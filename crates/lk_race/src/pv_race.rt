@@ -27,6 +27,7 @@ pub struct PvRace {
 }
 
 // Takes the lock.
+#[inline]
 fn take<R: Wait>(cpu: &mut PvCpu, rt: &R, domain: &PvDomain)
     requires one { locks_of domain.now.plan ≡ 1 }
     requires ready { IsReady domain.now cpu.old.number cpu.old }
@@ -36,6 +37,7 @@ fn take<R: Wait>(cpu: &mut PvCpu, rt: &R, domain: &PvDomain)
 }
 
 // Frees it.
+#[inline]
 fn give_back<R: Wait>(cpu: &mut PvCpu, rt: &R, domain: &PvDomain)
     requires one { locks_of domain.now.plan ≡ 1 }
     requires has { HasIt domain.now cpu.old.number cpu.old }

@@ -10,6 +10,9 @@ use Rattle.lk_pvdomain.proofs.ways.Ways.{numbered}
 use Rattle.lk_pvdomain.proofs.ways.Arrives.{kept, tail_asks, g4_first, g4_behind}
 use Rattle.lk_pvdomain.proofs.arriving.arrive.Goals as goal
 
+pub guess-expected-requires : goal.guess-expected-requires
+guess-expected-requires g c = record { lock = c.requires.at.1.low }
+
 pub exchange_tail-met-requires : goal.exchange_tail-met-requires
 exchange_tail-met-requires g c =
     let w = c.loop.invariant c.requires.at.0 c.requires.at.1 in

@@ -1,4 +1,4 @@
-use Rattle.std.proofs.Common.{refl, subst}
+use Rattle.std.proofs.Common.{arith, refl, subst}
 use Rattle.lk_machine.specs.declared.parts.Pc.TheVariants.{H2}
 use Rattle.lk_machine.specs.declared.setup.Verb.TheVariants.{Lock}
 use Rattle.lk_pvdomain.specs.PvPaths.{At, Steals}
@@ -8,10 +8,13 @@ use Rattle.lk_pvdomain.proofs.ways.Leads.{acts}
 use Rattle.lk_pvdomain.proofs.ways.Arrives.{h2_takes, h2_again, h2_joins}
 use Rattle.lk_pvdomain.proofs.arriving.swap.Goals as goal
 
+pub guess-requires : goal.guess-requires
+guess-requires g c = record { lock = c.requires.at.1.low }
+
 pub steal-requires : goal.steal-requires
 steal-requires g c =
     let w = c.requires.at.1 in
-    record { table = w.of.table_is; number = numbered w; lock = w.low; seen = refl; row = acts w tries_steal refl }
+    record { table = w.of.table_is; number = numbered w; lock = w.low; seen = omega arith; row = acts w tries_steal refl }
 
 pub returns-then-steal-eq0 : goal.returns-then-steal-eq0
 returns-then-steal-eq0 g c =

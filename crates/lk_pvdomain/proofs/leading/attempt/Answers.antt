@@ -13,27 +13,27 @@ store_state-requires g c =
     let w = c.requires.at.1 in
     record { table = w.of.table_is; number = numbered w; node = w.of.near; row = told_asks w c.args.own _ refl (mine w.frame c.args.own w.has.me) refl }
 
-pub press-met-requires : goal.press-met-requires
-press-met-requires g c =
+pub press-requires : goal.press-requires
+press-requires g c =
     let w = e2_runs c.store_state.ensures.same c.requires.at.1 c.store_state.ensures.step in
     record { table = w.of.table_is; number = numbered w; lock = w.low; row = word_asks w presses refl }
 
 pub head-requires : goal.head-requires
 head-requires g c =
-    record { at = (c.requires.at.0, e3_presses c.press-met.ensures.same (e2_runs c.store_state.ensures.same c.requires.at.1 c.store_state.ensures.step) c.press-met.ensures.step) }
+    record { at = (c.requires.at.0, e3_presses c.press.ensures.same (e2_runs c.store_state.ensures.same c.requires.at.1 c.store_state.ensures.step) c.press.ensures.step) }
 
 pub returns-then-head : goal.returns-then-head
 returns-then-head g c =
     record {
       takes = λ e s w. c.head.ensures.takes c.if-head.true s
-          (e3_presses c.press-met.ensures.same (e2_runs c.store_state.ensures.same w c.store_state.ensures.step) c.press-met.ensures.step);
+          (e3_presses c.press.ensures.same (e2_runs c.store_state.ensures.same w c.store_state.ensures.step) c.press.ensures.step);
       waits = λ e. absurd (cc e);
     }
 
 pub relent-requires : goal.relent-requires
 relent-requires g c =
     let w = c.head.ensures.stops c.if-head.false c.requires.at.0
-    (e3_presses c.press-met.ensures.same (e2_runs c.store_state.ensures.same c.requires.at.1 c.store_state.ensures.step) c.press-met.ensures.step) in
+    (e3_presses c.press.ensures.same (e2_runs c.store_state.ensures.same c.requires.at.1 c.store_state.ensures.step) c.press.ensures.step) in
     record { table = w.of.table_is; number = numbered w; lock = w.low; row = word_asks w relents refl }
 
 pub returns-then-hashed : goal.returns-then-hashed
@@ -43,7 +43,7 @@ returns-then-hashed g c =
       waits = λ e s w. e5_hashed c.relent.ensures.same
           (subst (λ h. At c.args.domain.now Lock c.args.lock c.args.own s E5 (Leads c.args.own h) c.head.new.seat) c.if-hashed.true
           (c.head.ensures.stops c.if-head.false s
-          (e3_presses c.press-met.ensures.same (e2_runs c.store_state.ensures.same w c.store_state.ensures.step) c.press-met.ensures.step)))
+          (e3_presses c.press.ensures.same (e2_runs c.store_state.ensures.same w c.store_state.ensures.step) c.press.ensures.step)))
           c.relent.ensures.step;
     }
 
@@ -55,7 +55,7 @@ enter-requires g c =
         e5_else c.relent.ensures.same
             (subst (λ h. At c.args.domain.now Lock c.args.lock c.args.own c.requires.at.0 E5 (Leads c.args.own h) c.head.new.seat) c.if-hashed.false
             (c.head.ensures.stops c.if-head.false c.requires.at.0
-            (e3_presses c.press-met.ensures.same (e2_runs c.store_state.ensures.same c.requires.at.1 c.store_state.ensures.step) c.press-met.ensures.step)))
+            (e3_presses c.press.ensures.same (e2_runs c.store_state.ensures.same c.requires.at.1 c.store_state.ensures.step) c.press.ensures.step)))
             c.relent.ensures.step,
       );
     }
@@ -66,7 +66,7 @@ returns-clause-takes g c e s w =
     (e5_else c.relent.ensures.same
     (subst (λ h. At c.args.domain.now Lock c.args.lock c.args.own s E5 (Leads c.args.own h) c.head.new.seat) c.if-hashed.false
     (c.head.ensures.stops c.if-head.false s
-    (e3_presses c.press-met.ensures.same (e2_runs c.store_state.ensures.same w c.store_state.ensures.step) c.press-met.ensures.step)))
+    (e3_presses c.press.ensures.same (e2_runs c.store_state.ensures.same w c.store_state.ensures.step) c.press.ensures.step)))
     c.relent.ensures.step)
 
 pub returns-clause-waits : goal.returns-clause-waits
@@ -75,5 +75,5 @@ returns-clause-waits g c e s w =
     (e5_else c.relent.ensures.same
     (subst (λ h. At c.args.domain.now Lock c.args.lock c.args.own s E5 (Leads c.args.own h) c.head.new.seat) c.if-hashed.false
     (c.head.ensures.stops c.if-head.false s
-    (e3_presses c.press-met.ensures.same (e2_runs c.store_state.ensures.same w c.store_state.ensures.step) c.press-met.ensures.step)))
+    (e3_presses c.press.ensures.same (e2_runs c.store_state.ensures.same w c.store_state.ensures.step) c.press.ensures.step)))
     c.relent.ensures.step)

@@ -1,25 +1,33 @@
-use Rattle.std.proofs.Common.{sym, refl, ◌∙◌, arith}
-use mathlib.Core.Option.{none}
-use Rattle.atomic_table.specs.Table.{step}
-use Rattle.lk_domain.specs.Words.{node_at}
-use Rattle.lk_domain.proofs.words.NodeWords.{low}
-use Rattle.lk_domain.proofs.queue.NodeAsks.{reset_one}
+use Rattle.std.proofs.Common.{◌≡◌, ◌≢◌, ◌∙◌, sym, ap, subst}
+use Rattle.atomic_table.specs.Table.{Me}
+use Rattle.lk_domain.specs.Keeps.{Slot}
+use Rattle.lk_domain.specs.NodePlays.{AtEntry, readied_by}
+use Rattle.lk_domain.specs.Views.{IsNumbered}
+use Rattle.lk_domain.specs.Words.{part_index}
+use Rattle.lk_domain.specs.declared.part.Part.TheVariants as part_is
+use Rattle.lk_domain.specs.declared.view.View.{View}
 use Rattle.lk_pvdomain.proofs.nodes.reset.Goals as goal
 
-pub swap-met-requires : goal.swap-met-requires
-swap-met-requires c =
-    let d = c.args.domain.now in
-    let k = d.table.shared.key in
-    let z = d.table.shared.table_id in
-    let i = c.node_of-word.result in
-    let seat = c.args.seat.now in (
-      c.requires.table,
-      (let a = c.requires.own.cpu in let b = c.requires.own.index in let e = low c.args.part in omega (arith, c.node_of-word.ensures, d.words, a, b, e)),
-      reset_one k d.plan z.slots seat.id seat.me c.requires.number c.args._verb i d.key c.args.own c.args.part c.node_of-word.ensures
-          c.requires.row c.requires.ready c.requires.plan (step z.slots i 0 0 none) refl,
-    )
+pub returns-then-look_reset-eq0-clause-step : goal.returns-then-look_reset-eq0-clause-step
+returns-then-look_reset-eq0-clause-step c = c.look_reset.ensures.spares c.if-look_reset-eq0.true
+
+pub store_reset-requires : goal.store_reset-requires
+store_reset-requires c =
+    let r = c.requires in
+    let back = sym (c.look_reset.ensures.stays c.if-look_reset-eq0.false) in
+    record {
+      table = c.look_reset.ensures.same.0 ∙ r.table;
+      number = subst (λ (m : Me Slot View). IsNumbered m.0) back r.number;
+      own = r.own;
+      row = subst (λ (m : Me Slot View). AtEntry c.args.own c.args.verb m.0) back r.row;
+      ready = subst (λ (m : Me Slot View). c.args.part ≢ part_is.Flag → m.0.calls.ready ≡ part_index c.args.part) back r.ready;
+      plan = subst (λ (m : Me Slot View). m.0.who.plan ≡ c.args.domain.now.plan) back r.plan;
+    }
+
+pub returns-clause-same : goal.returns-clause-same
+returns-clause-same c = (c.store_reset.ensures.same.0 ∙ c.look_reset.ensures.same.0, c.store_reset.ensures.same.1 ∙ c.look_reset.ensures.same.1)
 
 pub returns-clause-step : goal.returns-clause-step
 returns-clause-step c =
-    c.swap-met.ensures.2 c.args.own c.args.part
-    (c.node_of-word.ensures ∙ (λ j. node_at (sym c.requires.plan j) c.args.own c.args.part))
+    c.store_reset.ensures.step
+    ∙ ap (λ (m : Me Slot View). (readied_by c.args.part m.0, m.1)) (c.look_reset.ensures.stays c.if-look_reset-eq0.false)

@@ -1,14 +1,31 @@
-use Rattle.std.proofs.Common.{arith}
-use Rattle.lk_pvdomain.proofs.PvEntries.{enter_asks}
+use Rattle.std.proofs.Common.{◌≡◌, ◌∙◌, sym, subst}
+use Rattle.atomic_table.specs.Table.{Me}
+use Rattle.lk_domain.specs.Keeps.{Slot}
+use Rattle.lk_domain.specs.NodePlays.{AtEntry, Enters}
+use Rattle.lk_domain.specs.Views.{IsNumbered}
+use Rattle.lk_domain.specs.declared.view.View.{View}
 use Rattle.lk_pvdomain.proofs.states.enter.Goals as goal
 
-pub swap-met-requires : goal.swap-met-requires
-swap-met-requires c =
-    let d = c.args.domain.now in
-    let z = d.table.shared.table_id in
-    let i = c.state_of-word.result in (
-      c.requires.table,
-      (let few = d.lawful.locks in let a = c.requires.own.cpu in let b = c.requires.own.index in omega (arith, c.state_of-word.ensures, d.words, few, a, b)),
-      enter_asks d.table.shared.key d.plan z.slots c.args.seat.now.id c.args.seat.now.me c.requires.number i d.key d.halting
-          c.args.own c.state_of-word.ensures c.args._verb c.requires.row c.requires.ready,
-    )
+pub returns-then-met-eq0-clause-step : goal.returns-then-met-eq0-clause-step
+returns-then-met-eq0-clause-step c = c.look_entry-met.ensures.spares c.if-met-eq0.true
+
+pub store_entry-requires : goal.store_entry-requires
+store_entry-requires c =
+    let r = c.requires in
+    let back = sym (c.look_entry-met.ensures.stays c.if-met-eq0.false) in
+    record {
+      table = c.look_entry-met.ensures.same.0 ∙ r.table;
+      number = subst (λ (m : Me Slot View). IsNumbered m.0) back r.number;
+      own = r.own;
+      row = subst (λ (m : Me Slot View). AtEntry c.args.own c.args.verb m.0) back r.row;
+      ready = subst (λ (m : Me Slot View). m.0.calls.ready ≡ 2) back r.ready;
+    }
+
+pub returns-clause-same : goal.returns-clause-same
+returns-clause-same c =
+    (c.store_entry.ensures.same.0 ∙ c.look_entry-met.ensures.same.0, c.store_entry.ensures.same.1 ∙ c.look_entry-met.ensures.same.1)
+
+pub returns-clause-step : goal.returns-clause-step
+returns-clause-step c =
+    subst (λ (m : Me Slot View). Enters m c.store_entry.result c.store_entry.new.seat.me)
+    (c.look_entry-met.ensures.stays c.if-met-eq0.false) c.store_entry.ensures.step

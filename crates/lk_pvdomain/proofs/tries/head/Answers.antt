@@ -1,31 +1,44 @@
-use Rattle.std.proofs.Common.{◌≡◌, ◌⊎◌, inl, inr, ◌∙◌, true, subst}
+use Rattle.std.proofs.Common.{inr, ◌∙◌, sym, subst, arith}
+use Rattle.atomic_table.specs.Table.{Me}
 use Rattle.lk_machine.specs.declared.setup.Verb.TheVariants.{Lock}
-use Rattle.lk_domain.specs.Plays.{MadeBy}
+use Rattle.lk_domain.specs.Keeps.{Slot}
+use Rattle.lk_domain.specs.Plays.{Acts, MadeBy}
+use Rattle.lk_domain.specs.Views.{IsNumbered}
+use Rattle.lk_domain.specs.declared.view.View.{View}
 use Rattle.lk_pvdomain.specs.PvPlays.{head_fails}
+use Rattle.lk_pvdomain.specs.PvRows.{tries_head}
 use Rattle.lk_pvdomain.proofs.Fails.{tried, head_failed, head_again}
-use Rattle.lk_pvdomain.proofs.tries.head.Goals.{then-met-expected-via-then-met-expected, then-met-expected-via-else-met-expected+then-met-ne256}
 use Rattle.lk_pvdomain.proofs.tries.head.Goals as goal
 
-pub returns-then-met-expected-clause-step : goal.returns-then-met-expected-clause-step
-returns-then-met-expected-clause-step g c =
-    let t = c.try_head-met.ensures.step in
-    let met = c.try_head-met.result in
-    let n = c.try_head-met.new.seat.me in
-    let why : (met ≡ c.loop.expected) ⊎ (head_fails t.found ≡ true) = elim c.then-met-expected.branch [
-      | then-met-expected-via-then-met-expected w ↦ inl w.if-met-expected.true
-      | then-met-expected-via-else-met-expected+then-met-ne256 w ↦ inr (head_failed _ t.found met t.word w.if-met-ne256.true)
-    ] in
-    subst (λ m. MadeBy Lock c.args.lock m met n) c.loop.invariant.me
-    (tried head_fails Lock c.args.lock c.loop.expected c.loop.seat.me met n t why)
+pub returns-then-met-ne256-clause-step : goal.returns-then-met-ne256-clause-step
+returns-then-met-ne256-clause-step g c =
+    let t = c.look_head-met.ensures.step in
+    let met = c.look_head-met.result in
+    tried head_fails Lock c.args.lock 0 c.args.seat.now.me met c.look_head-met.new.seat.me t
+    (inr (head_failed _ t.found met t.word c.if-met-ne256.true))
 
-pub loop-preserved : goal.loop-preserved
-loop-preserved g c =
-    let t = c.try_head-met.ensures.step in
+pub swap_head-requires : goal.swap_head-requires
+swap_head-requires g c =
+    let t = c.look_head-met.ensures.step in
+    let met = c.look_head-met.result in
     let e = c.if-met-ne256.false in
-    let same = c.try_head-met.ensures.same in
-    let inv = c.loop.invariant in
+    let back = sym (t.stays (λ z. omega (arith, z, e)) (head_again _ t.found met t.word e)) in
     record {
-      same = (same.0 ∙ inv.same.0, same.1 ∙ inv.same.1);
-      me = t.stays c.if-met-expected.false (head_again _ t.found c.try_head-met.result t.word e) ∙ inv.me;
-      expected = e;
+      table = c.look_head-met.ensures.same.0 ∙ c.requires.table;
+      number = subst (λ (m : Me Slot View). IsNumbered m.0) back c.requires.number;
+      lock = c.requires.lock;
+      seen = e;
+      row = subst (λ (m : Me Slot View). Acts tries_head m.0 Lock c.args.lock) back c.requires.row;
     }
+
+pub returns-clause-same : goal.returns-clause-same
+returns-clause-same g c =
+    (c.swap_head.ensures.same.0 ∙ c.look_head-met.ensures.same.0, c.swap_head.ensures.same.1 ∙ c.look_head-met.ensures.same.1)
+
+pub returns-clause-step : goal.returns-clause-step
+returns-clause-step g c =
+    let t = c.look_head-met.ensures.step in
+    let met = c.look_head-met.result in
+    let e = c.if-met-ne256.false in
+    subst (λ m. MadeBy Lock c.args.lock m c.swap_head.result c.swap_head.new.seat.me)
+    (t.stays (λ z. omega (arith, z, e)) (head_again _ t.found met t.word e)) c.swap_head.ensures.step

@@ -1,5 +1,5 @@
 use Rattle.std.proofs.Common.{◌≡◌, ◌%◌}
-use Rattle.lk_pvdomain.proofs.tries.head.Given as goal
+use Rattle.lk_pvdomain.proofs.tries.swap_head.Given as goal
 
 abbrev pub invariant-loop : goal.invariant-loop
 invariant-loop g l = record {

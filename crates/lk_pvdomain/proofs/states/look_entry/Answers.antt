@@ -1,0 +1,24 @@
+use Rattle.std.proofs.Common.{arith}
+use Rattle.lk_domain.specs.NodePlays.{Enters}
+use Rattle.lk_pvdomain.proofs.PvEntries.{enter_asks}
+use Rattle.lk_pvdomain.proofs.Spared.{spared}
+use Rattle.lk_pvdomain.proofs.states.look_entry.Goals as goal
+
+pub load-met-requires : goal.load-met-requires
+load-met-requires c =
+    let d = c.args.domain.now in
+    let z = d.table.shared.table_id in
+    let i = c.state_of-word.result in
+    let seat = c.args.seat.now in (
+      c.requires.table,
+      (let few = d.lawful.locks in let a = c.requires.own.cpu in let b = c.requires.own.index in omega (arith, c.state_of-word.ensures, d.words, few, a, b)),
+      spared d.table.shared.key z.slots seat.id seat.me i (Enters seat.me)
+          (enter_asks d.table.shared.key d.plan z.slots seat.id seat.me c.requires.number i d.key d.halting
+          c.args.own c.state_of-word.ensures c.args._verb c.requires.row c.requires.ready),
+    )
+
+pub returns-clause-spares : goal.returns-clause-spares
+returns-clause-spares c e = c.load-met.ensures.2.spares e
+
+pub returns-clause-stays : goal.returns-clause-stays
+returns-clause-stays c ne = c.load-met.ensures.2.stays ne

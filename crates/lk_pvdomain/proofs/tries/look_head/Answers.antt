@@ -1,0 +1,19 @@
+use Rattle.std.proofs.Common.{arith, refl}
+use mathlib.Core.Option.{none}
+use Rattle.atomic_table.specs.Table.{step}
+use Rattle.lk_pvdomain.proofs.PvSwaps.{head_looked}
+use Rattle.lk_pvdomain.proofs.tries.look_head.Goals as goal
+
+pub load-met-requires : goal.load-met-requires
+load-met-requires c =
+    let d = c.args.domain.now in
+    let z = d.table.shared.table_id in
+    let i = c.lock_word-word.result in (
+      c.requires.table,
+      (let few = d.lawful.locks in let low = c.requires.lock in omega (arith, c.lock_word-word.ensures, d.words, low)),
+      head_looked d.table.shared.key d.plan z.slots c.args.seat.now.id c.args.seat.now.me c.requires.number c.args.lock i
+          (step z.slots i 0 0 none) d.key c.requires.lock c.lock_word-word.ensures refl 0 refl c.requires.row refl,
+    )
+
+pub returns-clause-step : goal.returns-clause-step
+returns-clause-step c = c.load-met.ensures.2 c.args.lock c.lock_word-word.ensures
