@@ -1,12 +1,14 @@
 -- What a machine on which acts are told has, and what lines of a header say.
-use Rattle.std.proofs.Common.{◌≡◌, ◌<◌, ◌∷◌, ◌++◌, ℕ, List, [], Ok, sym, ap, ◌∙◌, subst, arith, length}
+use Rattle.std.proofs.Common.{◌≡◌, ◌<◌, ◌+◌, ◌∷◌, ◌++◌, ℕ, zero, suc, List, [], Ok, sym, ap, refl, ◌∙◌, subst, arith, length, replicate}
 use Rattle.std.specs.Result.{result_unwrap_or}
 use Rattle.std.proofs.lemmas.Grind.{fold-append}
+use Rattle.lk_machine.specs.Acts.{next}
 use Rattle.lk_machine.specs.Machine.{Machine}
 use Rattle.lk_machine.specs.Programs.{IsLawfulSetup}
-use Rattle.lk_machine.specs.Run.{at_rest}
+use Rattle.lk_machine.specs.Run.{at_rest, machine_after}
 use Rattle.lk_machine.specs.declared.setup.Setup.{Setup}
 use Rattle.lk_abs.specs.History.{history_of}
+use Rattle.lk_abs.specs.declared.events.Act.{Act}
 use Rattle.lk_law.specs.Sound.{IsSound}
 use Rattle.lk_law.specs.MachineLaws.{RestShows}
 use Rattle.lk_forms.specs.Grammar.{Reading, read, next_reading, nothing_read}
@@ -47,6 +49,18 @@ ready_at_rest setup m locks same shows lawful count =
       };
       locks = count;
     })
+
+-- an act that is made once more
+made_again : (m : Machine) (act : Act) (made : ℕ)
+    → machine_after m (replicate (suc made) act) ≡ (next (machine_after m (replicate made act)) act).0
+made_again m act zero = refl
+made_again m act (suc made) = made_again (next m act).0 act made
+
+pub one_more : (m : Machine) (act : Act) (made : ℕ)
+    → machine_after m (replicate (made + 1) act) ≡ (next (machine_after m (replicate made act)) act).0
+one_more m act made =
+    let more : made + 1 ≡ suc made = omega arith in
+    ap (λ k. machine_after m (replicate k act)) more ∙ made_again m act made
 
 -- one line more that is accepted
 pub said_more : (r n : Reading) (line : List ℕ) → IsSaid r → read r line ≡ Ok n → IsSaid n

@@ -1,8 +1,10 @@
 // The acts of a trace, told one by one as its lines are read.
-ghost use Rattle.std.specs.Prelude.{◌≡◌, ◌≤◌, ◌<◌, ◌+◌, true, Ok, IfOk, IfSome, length};
+ghost use Rattle.std.specs.Prelude.{◌≡◌, ◌≤◌, ◌<◌, ◌+◌, true, Ok, IfOk, OnOk, IfSome, length, replicate};
 ghost use Rattle.lk_text.specs.Reader.{looked_at};
 ghost use Rattle.lk_machine.specs.Acts.{processor_of};
+ghost use Rattle.lk_machine.specs.Run.{machine_after};
 ghost use Rattle.lk_forms.specs.Schedule.{IsWithin};
+ghost use Rattle.lk_replay.specs.Schedule.{acts_said};
 ghost use Rattle.lk_steps.specs.Told.{CanGoOn};
 
 use crate::header::read_header;
@@ -73,6 +75,9 @@ impl Steps {
         requires ready { CanGoOn self.old.told }
         requires few { self.old.told.acts + times ≤ 100000000 }
         requires processor { processor_of act < length self.old.told.machine.cpus }
+        ensures made { OnOk result (self.new.told.machine
+            ≡ machine_after self.old.told.machine (replicate times act)) }
+        ensures counted { OnOk result (self.new.told.acts ≡ self.old.told.acts + times) }
         ensures ready { CanGoOn self.new.told }
         ensures reader { self.new.reader ≡ self.old.reader }
     {
@@ -88,6 +93,10 @@ impl Steps {
     fn obey<K: Sink>(&mut self, sink: &mut K, said: Sched) -> Result<(), ReplayFault>
         requires ready { CanGoOn self.old.told }
         requires within { IsWithin (length self.old.told.machine.cpus) self.old.told.acts said }
+        ensures made { OnOk result (self.new.told.machine
+            ≡ machine_after self.old.told.machine (acts_said said)) }
+        ensures counted { OnOk result
+            (self.new.told.acts ≡ self.old.told.acts + length (acts_said said)) }
         ensures ready { CanGoOn self.new.told }
         ensures reader { self.new.reader ≡ self.old.reader }
     {
