@@ -1,5 +1,5 @@
 // A run on its way: acts, made one after the other, and the lines of what happens in them.
-ghost use Rattle.std.specs.Prelude.{◌≡◌, ◌≤◌, ◌<◌, ◌+◌, ◌∷◌, [], ◌++◌, IfOk, OnOk, OnErr, length, replicate};
+ghost use Rattle.std.specs.Prelude.{◌≡◌, ◌≤◌, ◌<◌, ◌+◌, [], ◌++◌, IfOk, OnOk, OnErr, length, replicate};
 ghost use Rattle.lk_text.specs.Causes.{HasCause};
 ghost use Rattle.lk_text.specs.Bytes.{AppendsFront, Conveys};
 ghost use Rattle.lk_text.specs.Block.{waiting};
