@@ -89,20 +89,6 @@ fn contend<R: Wait>(seat: &mut Right, rt: &R, domain: &PvDomain, lock: u32, own:
     queue(seat, rt, domain, lock, own);
 }
 
-// A call of `lock`, from its first row until it has the lock.
-#[inline]
-fn take<R: Wait>(seat: &mut Right, rt: &R, domain: &PvDomain, lock: u32, own: NodeName)
-    requires rests { Rests domain.now own seat.old }
-    requires lock { lock < locks_of domain.now.plan }
-    requires free { holds_in seat.old.me.0.calls.holds lock ≡ false }
-    ensures took { Took domain.now Lock lock own (first_of Lock lock seat.old) seat.new }
-{
-    if fast(seat, domain, lock, own) {
-        return;
-    }
-    contend(seat, rt, domain, lock, own);
-}
-
 /// Takes the lock: it waits until it has it, and halts between two looks where that takes long.
 #[inline]
 pub fn pv_lock<R: Wait>(cpu: &mut PvCpu, rt: &R, domain: &PvDomain, lock: LockId)
@@ -117,22 +103,10 @@ pub fn pv_lock<R: Wait>(cpu: &mut PvCpu, rt: &R, domain: &PvDomain, lock: LockId
         cpu: cpu.number,
         index: 0,
     };
-    take(&mut cpu.seat, rt, domain, lock.index, own);
-}
-
-// A release, from its first row until it has freed the lock and kicked whom it had to.
-#[inline]
-fn free<R: Wait>(seat: &mut Right, rt: &R, domain: &PvDomain, lock: u32, own: NodeName)
-    requires rests { Rests domain.now own seat.old }
-    requires lock { lock < locks_of domain.now.plan }
-    requires held { holds_in seat.old.me.0.calls.holds lock ≡ true }
-    requires home { is_first (lock_name lock) ≡ true → seat.old.me.0.ledger.out ≡ None }
-    ensures freed { Ended domain.now Unlock lock own (first_of Unlock lock seat.old) Frees seat.new }
-{
-    if freeing::release(seat, rt, domain, lock, own) {
+    if fast(&mut cpu.seat, domain, lock.index, own) {
         return;
     }
-    freeing::wake_next(seat, domain, lock, own);
+    contend(&mut cpu.seat, rt, domain, lock.index, own);
 }
 
 /// Frees a lock that the processor holds; where its byte is slow it kicks the one that waits for that.
@@ -152,7 +126,10 @@ pub fn pv_unlock<R: Wait>(cpu: &mut PvCpu, rt: &R, domain: &PvDomain, lock: Lock
         cpu: cpu.number,
         index: 0,
     };
-    free(&mut cpu.seat, rt, domain, lock.index, own);
+    if freeing::release(&mut cpu.seat, rt, domain, lock.index, own) {
+        return;
+    }
+    freeing::wake_next(&mut cpu.seat, domain, lock.index, own);
 }
 
 // The rows T1 and T2: true where it took the lock.

@@ -26,27 +26,9 @@ pub struct PvRace {
     ghost some: { 1 ≤ spins },
 }
 
-// Takes the lock.
-#[inline]
-fn take<R: Wait>(cpu: &mut PvCpu, rt: &R, domain: &PvDomain)
-    requires one { locks_of domain.now.plan ≡ 1 }
-    requires ready { IsReady domain.now cpu.old.number cpu.old }
-    ensures has { HasIt domain.now cpu.old.number cpu.new }
-{
-    pv_lock(cpu, rt, domain, LOCK);
-}
-
-// Frees it.
-#[inline]
-fn give_back<R: Wait>(cpu: &mut PvCpu, rt: &R, domain: &PvDomain)
-    requires one { locks_of domain.now.plan ≡ 1 }
-    requires has { HasIt domain.now cpu.old.number cpu.old }
-    ensures ready { IsReady domain.now cpu.old.number cpu.new }
-{
-    pv_unlock(cpu, rt, domain, LOCK);
-}
-
-// All turns of a processor: it has the lock from `take` to `give_back`, and nothing in between two turns.
+// All turns of a processor: it has the lock from `pv_lock` to `pv_unlock`, and nothing in between two
+// turns. The loop is a function of its own, so that what stands around it plays no part in its speed.
+#[inline(never)]
 fn take_turns<R: Wait>(cpu: &mut PvCpu, rt: &R, domain: &PvDomain, numbers: &Numbers, race: &PvRace)
     requires one { locks_of domain.now.plan ≡ 1 }
     requires ready { IsReady domain.now cpu.old.number cpu.old }
@@ -54,9 +36,9 @@ fn take_turns<R: Wait>(cpu: &mut PvCpu, rt: &R, domain: &PvDomain, numbers: &Num
 {
     let work = race.course.work;
     for _ in 0..race.course.turns {
-        take(cpu, rt, domain);
+        pv_lock(cpu, rt, domain, LOCK);
         numbers.change(work);
-        give_back(cpu, rt, domain);
+        pv_unlock(cpu, rt, domain, LOCK);
     }
 }
 

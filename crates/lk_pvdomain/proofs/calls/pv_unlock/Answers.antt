@@ -1,12 +1,13 @@
-use Rattle.std.proofs.Common.{refl, sym, ap, ◌∙◌, arith}
-use Rattle.lk_domain.specs.Plays.{carried_with}
-use Rattle.lk_domain.specs.Who.{Who}
+use Rattle.std.proofs.Common.{refl, ap, ◌∙◌, arith}
+use Rattle.lk_domain.specs.Ledgers.{Ledger}
+use Rattle.lk_machine.specs.declared.setup.Verb.TheVariants.{Unlock}
 use Rattle.lk_pvdomain.specs.PvCalls.{own_node}
+use Rattle.lk_pvdomain.specs.PvPaths.{first_of}
 use Rattle.lk_pvdomain.proofs.ways.Frees.{is_let, freed_none, freed_others}
 use Rattle.lk_pvdomain.proofs.calls.pv_unlock.Goals as goal
 
-pub free-requires : goal.free-requires
-free-requires g c =
+pub release-requires : goal.release-requires
+release-requires g c =
     let o = c.requires.domain in
     let r = c.requires.rests in
     let low = o.low in
@@ -22,29 +23,39 @@ free-requires g c =
       home = c.requires.home;
     }
 
-pub invariant_of-cpu : goal.invariant_of-cpu
-invariant_of-cpu g c =
-    let t = is_let c.args.domain.now c.args.lock.index (own_node c.args.cpu.now) c.args.cpu.now.seat _ c.free.ensures.freed in
-    let cpu = c.args.cpu.now in
+pub wake_next-requires : goal.wake_next-requires
+wake_next-requires g c =
+    let w = c.release.ensures.seeks c.if-release.false in
     record {
-      numbered = ap (λ (w : Who). w.number) t.who ∙ cpu.numbered;
-      carried = t.slots ∙ (cpu.carried ∙ ap carried_with (sym t.out));
+      at = (first_of Unlock c.args.lock.index c.args.cpu.now.seat, w);
+      home = λ e. ap (λ (y : Ledger). y.out) w.ledger ∙ c.requires.home e;
     }
 
-pub returns-clause-same : goal.returns-clause-same
-returns-clause-same g c =
-    let t = is_let c.args.domain.now c.args.lock.index (own_node c.args.cpu.now) c.args.cpu.now.seat _ c.free.ensures.freed in
-    record { table = t.table_was; id = t.id_was; number = refl; who = t.who }
+pub returns-then-release-clause-freed : goal.returns-then-release-clause-freed
+returns-then-release-clause-freed g c =
+    let e = c.release.ensures.freed c.if-release.true in
+    let t = is_let c.args.domain.now c.args.lock.index (own_node c.args.cpu.now) c.args.cpu.now.seat _ e in
+    record {
+      ended = e;
+      none = freed_none c.args.domain.now c.args.lock.index (own_node c.args.cpu.now) c.args.cpu.now.seat _ e;
+      rests = record { frames = t.frames; awake = t.awake; fresh = t.fresh };
+    }
+
+pub returns-then-release-clause-others : goal.returns-then-release-clause-others
+returns-then-release-clause-others g c =
+    freed_others c.args.domain.now c.args.lock.index (own_node c.args.cpu.now) c.args.cpu.now.seat _ (c.release.ensures.freed c.if-release.true)
 
 pub returns-clause-freed : goal.returns-clause-freed
 returns-clause-freed g c =
-    let t = is_let c.args.domain.now c.args.lock.index (own_node c.args.cpu.now) c.args.cpu.now.seat _ c.free.ensures.freed in
+    let e = c.wake_next.ensures.freed (first_of Unlock c.args.lock.index c.args.cpu.now.seat) (c.release.ensures.seeks c.if-release.false) in
+    let t = is_let c.args.domain.now c.args.lock.index (own_node c.args.cpu.now) c.args.cpu.now.seat _ e in
     record {
-      ended = c.free.ensures.freed;
-      none = freed_none c.args.domain.now c.args.lock.index (own_node c.args.cpu.now) c.args.cpu.now.seat _ c.free.ensures.freed;
+      ended = e;
+      none = freed_none c.args.domain.now c.args.lock.index (own_node c.args.cpu.now) c.args.cpu.now.seat _ e;
       rests = record { frames = t.frames; awake = t.awake; fresh = t.fresh };
     }
 
 pub returns-clause-others : goal.returns-clause-others
 returns-clause-others g c =
-    freed_others c.args.domain.now c.args.lock.index (own_node c.args.cpu.now) c.args.cpu.now.seat _ c.free.ensures.freed
+    freed_others c.args.domain.now c.args.lock.index (own_node c.args.cpu.now) c.args.cpu.now.seat _
+    (c.wake_next.ensures.freed (first_of Unlock c.args.lock.index c.args.cpu.now.seat) (c.release.ensures.seeks c.if-release.false))
