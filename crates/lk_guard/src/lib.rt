@@ -1,6 +1,7 @@
 //! A ledger under lock 0: a write, a read, and all jobs of a worker.
 #![tactic(auto)]
 
+mod books;
 mod gate;
 mod pv_region;
 mod reading;

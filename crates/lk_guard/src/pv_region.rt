@@ -15,11 +15,11 @@ ghost use Rattle.lk_guard.specs.Writes.{HasWritten};
 ghost use Rattle.lk_pvdomain.specs.PvCalls.{IsResting};
 ghost use Rattle.lk_pvdomain.specs.PvSeats.{IsOf, IsSame, calls_of, ledger_of, view_of};
 
+use crate::books::Books;
 use crate::gate::Gate;
-use crate::reading::look;
 use crate::region::FIRST;
 use crate::working::writes;
-use crate::writing::{Task, append};
+use crate::writing::Task;
 use lk_abs::{Job, List, Reply, Seen};
 use lk_pvdomain::{PvCpu, PvDomain, pv_lock, pv_unlock};
 use std::sync::Wait;
@@ -46,6 +46,17 @@ impl PvRegion {
     {
         let PvRegion { domain } = self;
         domain
+    }
+
+    // The words of its ledger.
+    fn books(&self) -> Books<'_>
+        ensures table { result.table.now ≡ self.now.domain.table }
+        ensures plan { result.plan.now ≡ self.now.domain.plan }
+    {
+        Books {
+            table: &self.domain.table,
+            plan: &self.domain.plan,
+        }
     }
 
     // Takes the lock, and so begins a look.
@@ -93,7 +104,7 @@ impl PvRegion {
             number,
             job,
         };
-        let reply = append(&mut cpu.seat, &self.domain.table, &self.domain.plan, task);
+        let reply = self.books().append(&mut cpu.seat, task);
         self.end(cpu, rt);
         reply
     }
@@ -111,7 +122,7 @@ impl PvRegion {
             (ledger_of cpu.old) (ledger_of cpu.new) None None }
     {
         self.hold(cpu, rt);
-        let seen = look(&mut cpu.seat, &self.domain.table, &self.domain.plan, job);
+        let seen = self.books().look(&mut cpu.seat, job);
         self.end(cpu, rt);
         seen
     }

@@ -7,6 +7,7 @@ ghost use Rattle.lk_guard.specs.Guards.{guard_in, reads_as, reads_by, writes_as,
 ghost use Rattle.lk_guard.specs.Holding.{IsHolding, HasBegun};
 ghost use Rattle.lk_guard.specs.Idle.{IsIdle};
 
+use crate::books::Books;
 use lk_abs::Kind;
 use lk_domain::{Cpu, Domain, LockId};
 use lk_run::{Irq, lock, read_lock, read_unlock, unlock, write_lock, write_unlock};
@@ -47,6 +48,17 @@ impl Region {
     {
         let Region { domain, guard: _ } = self;
         domain
+    }
+
+    // The words of its ledger.
+    pub(crate) fn books(&self) -> Books<'_>
+        ensures table { result.table.now ≡ self.now.domain.table }
+        ensures plan { result.plan.now ≡ self.now.domain.plan }
+    {
+        Books {
+            table: &self.domain.table,
+            plan: &self.domain.plan,
+        }
     }
 
     // Takes the lock for a read, and so begins a look: a spinlock alone, another beside readers.

@@ -6,133 +6,124 @@ ghost use Rattle.lk_abs.specs.Journal.{is_write};
 ghost use Rattle.lk_abs.specs.declared.ledger.Job.TheVariants as job;
 ghost use Rattle.lk_domain.specs.Keeps.{holds_first};
 ghost use Rattle.lk_domain.specs.Plans.{accounts_of};
-ghost use Rattle.lk_domain.specs.Seated.{IsKept, IsSeatOf, IsTableOf};
+ghost use Rattle.lk_domain.specs.Seated.{IsKept, IsSeatOf};
 ghost use Rattle.lk_guard.specs.Settling.{Stands, words_of, with_words};
 
+use crate::books::Books;
 use lk_abs::{Job, Reply};
-use lk_domain::ledger_steps::{Words, accounts, load, store};
-use lk_domain::{Plan, Right};
+use lk_domain::Right;
+use lk_domain::ledger_steps::{accounts, load, store};
 
 /// No sum of balances reaches it.
 const FULL: u64 = 1 << 63;
 
-// The balance of an account.
-fn balance_of(seat: &mut Right, table: &Words, plan: &Plan, account: u32) -> u64
-    requires table { IsTableOf plan.now table.now.shared.table_id table.now.shared.key }
-    requires seat { IsSeatOf plan.now table.now.shared.table_id seat.old }
-    requires held { holds_first seat.old.me.0.calls }
-    requires stands { Stands (accounts_of plan.now) seat.old.me.0.ledger }
-    requires account { account < accounts_of plan.now }
-    ensures seat { IsSeatOf plan.now table.now.shared.table_id seat.new }
-    ensures rest { IsKept seat.old seat.new }
-    ensures ledger { seat.new.me.0.ledger ≡ seat.old.me.0.ledger }
-    ensures balance { result ≡ slice_index (words_of seat.old.me.0.ledger) account }
-{
-    load(seat, table, plan, account)
-}
-
-// The sum of the balances.
-fn sum_of(seat: &mut Right, table: &Words, plan: &Plan) -> u64
-    requires table { IsTableOf plan.now table.now.shared.table_id table.now.shared.key }
-    requires seat { IsSeatOf plan.now table.now.shared.table_id seat.old }
-    requires held { holds_first seat.old.me.0.calls }
-    requires stands { Stands (accounts_of plan.now) seat.old.me.0.ledger }
-    ensures seat { IsSeatOf plan.now table.now.shared.table_id seat.new }
-    ensures rest { IsKept seat.old seat.new }
-    ensures ledger { seat.new.me.0.ledger ≡ seat.old.me.0.ledger }
-    ensures sum { result ≡ sum (words_of seat.old.me.0.ledger) }
-{
-    let mut sum = 0;
-    for account in 0..accounts(plan) {
-        sum += balance_of(seat, table, plan, account);
+impl Books<'_> {
+    // The balance of an account.
+    fn balance_of(&self, seat: &mut Right, account: u32) -> u64
+        requires seat { IsSeatOf self.now.plan.now self.now.table.now.shared.table_id seat.old }
+        requires held { holds_first seat.old.me.0.calls }
+        requires stands { Stands (accounts_of self.now.plan.now) seat.old.me.0.ledger }
+        requires account { account < accounts_of self.now.plan.now }
+        ensures seat { IsSeatOf self.now.plan.now self.now.table.now.shared.table_id seat.new }
+        ensures rest { IsKept seat.old seat.new }
+        ensures ledger { seat.new.me.0.ledger ≡ seat.old.me.0.ledger }
+        ensures balance { result ≡ slice_index (words_of seat.old.me.0.ledger) account }
+    {
+        load(seat, self.table, self.plan, account)
     }
-    sum
-}
 
-// Makes the balance of an account this amount.
-fn put(seat: &mut Right, table: &Words, plan: &Plan, account: u32, amount: u64)
-    requires table { IsTableOf plan.now table.now.shared.table_id table.now.shared.key }
-    requires seat { IsSeatOf plan.now table.now.shared.table_id seat.old }
-    requires held { holds_first seat.old.me.0.calls }
-    requires stands { Stands (accounts_of plan.now) seat.old.me.0.ledger }
-    requires account { account < accounts_of plan.now }
-    ensures seat { IsSeatOf plan.now table.now.shared.table_id seat.new }
-    ensures rest { IsKept seat.old seat.new }
-    ensures ledger { seat.new.me.0.ledger ≡ with_words seat.old.me.0.ledger
-        (slice_set (words_of seat.old.me.0.ledger) account amount) }
-{
-    store(seat, table, plan, account, amount);
-}
-
-// Moves an amount, if the account has as much.
-fn move_amount(
-    seat: &mut Right,
-    table: &Words,
-    plan: &Plan,
-    from: u32,
-    to: u32,
-    amount: u64,
-) -> Reply
-    requires table { IsTableOf plan.now table.now.shared.table_id table.now.shared.key }
-    requires seat { IsSeatOf plan.now table.now.shared.table_id seat.old }
-    requires held { holds_first seat.old.me.0.calls }
-    requires stands { Stands (accounts_of plan.now) seat.old.me.0.ledger }
-    requires from { from < accounts_of plan.now }
-    requires to { to < accounts_of plan.now }
-    ensures seat { IsSeatOf plan.now table.now.shared.table_id seat.new }
-    ensures rest { IsKept seat.old seat.new }
-    ensures ledger { seat.new.me.0.ledger ≡ with_words seat.old.me.0.ledger
-        (after_job (words_of seat.old.me.0.ledger) (job.Move from to amount)) }
-    ensures reply { result ≡ reply_to (words_of seat.old.me.0.ledger) (job.Move from to amount) }
-{
-    let held = balance_of(seat, table, plan, from);
-    if held < amount {
-        return Reply::Short;
+    // The sum of the balances.
+    fn sum_of(&self, seat: &mut Right) -> u64
+        requires seat { IsSeatOf self.now.plan.now self.now.table.now.shared.table_id seat.old }
+        requires held { holds_first seat.old.me.0.calls }
+        requires stands { Stands (accounts_of self.now.plan.now) seat.old.me.0.ledger }
+        ensures seat { IsSeatOf self.now.plan.now self.now.table.now.shared.table_id seat.new }
+        ensures rest { IsKept seat.old seat.new }
+        ensures ledger { seat.new.me.0.ledger ≡ seat.old.me.0.ledger }
+        ensures sum { result ≡ sum (words_of seat.old.me.0.ledger) }
+    {
+        let mut sum = 0;
+        for account in 0..accounts(self.plan) {
+            sum += self.balance_of(seat, account);
+        }
+        sum
     }
-    put(seat, table, plan, from, held - amount);
-    let held = balance_of(seat, table, plan, to);
-    put(seat, table, plan, to, held + amount);
-    Reply::Done
-}
 
-// Adds an amount, if the sum stays below the limit.
-fn add(seat: &mut Right, table: &Words, plan: &Plan, account: u32, amount: u64) -> Reply
-    requires table { IsTableOf plan.now table.now.shared.table_id table.now.shared.key }
-    requires seat { IsSeatOf plan.now table.now.shared.table_id seat.old }
-    requires held { holds_first seat.old.me.0.calls }
-    requires stands { Stands (accounts_of plan.now) seat.old.me.0.ledger }
-    requires account { account < accounts_of plan.now }
-    ensures seat { IsSeatOf plan.now table.now.shared.table_id seat.new }
-    ensures rest { IsKept seat.old seat.new }
-    ensures ledger { seat.new.me.0.ledger ≡ with_words seat.old.me.0.ledger
-        (after_job (words_of seat.old.me.0.ledger) (job.Add account amount)) }
-    ensures reply { result ≡ reply_to (words_of seat.old.me.0.ledger) (job.Add account amount) }
-{
-    if amount >= FULL - sum_of(seat, table, plan) {
-        return Reply::Full;
+    // Makes the balance of an account this amount.
+    fn put(&self, seat: &mut Right, account: u32, amount: u64)
+        requires seat { IsSeatOf self.now.plan.now self.now.table.now.shared.table_id seat.old }
+        requires held { holds_first seat.old.me.0.calls }
+        requires stands { Stands (accounts_of self.now.plan.now) seat.old.me.0.ledger }
+        requires account { account < accounts_of self.now.plan.now }
+        ensures seat { IsSeatOf self.now.plan.now self.now.table.now.shared.table_id seat.new }
+        ensures rest { IsKept seat.old seat.new }
+        ensures ledger { seat.new.me.0.ledger ≡ with_words seat.old.me.0.ledger
+            (slice_set (words_of seat.old.me.0.ledger) account amount) }
+    {
+        store(seat, self.table, self.plan, account, amount);
     }
-    let held = balance_of(seat, table, plan, account);
-    put(seat, table, plan, account, held + amount);
-    Reply::Done
-}
 
-// Does a job that writes, on the balance words.
-pub(crate) fn settle(seat: &mut Right, table: &Words, plan: &Plan, job: Job) -> Reply
-    requires table { IsTableOf plan.now table.now.shared.table_id table.now.shared.key }
-    requires seat { IsSeatOf plan.now table.now.shared.table_id seat.old }
-    requires held { holds_first seat.old.me.0.calls }
-    requires stands { Stands (accounts_of plan.now) seat.old.me.0.ledger }
-    requires job { IsAmong (accounts_of plan.now) job }
-    requires writes { is_write job ≡ true }
-    ensures seat { IsSeatOf plan.now table.now.shared.table_id seat.new }
-    ensures rest { IsKept seat.old seat.new }
-    ensures ledger { seat.new.me.0.ledger ≡ with_words seat.old.me.0.ledger
-        (after_job (words_of seat.old.me.0.ledger) job) }
-    ensures reply { result ≡ reply_to (words_of seat.old.me.0.ledger) job }
-{
-    match job {
-        Job::Move { from, to, amount } => move_amount(seat, table, plan, from, to, amount),
-        Job::Add { account, amount } => add(seat, table, plan, account, amount),
-        _ => unreachable!(),
+    // Moves an amount, if the account has as much.
+    fn move_amount(&self, seat: &mut Right, from: u32, to: u32, amount: u64) -> Reply
+        requires seat { IsSeatOf self.now.plan.now self.now.table.now.shared.table_id seat.old }
+        requires held { holds_first seat.old.me.0.calls }
+        requires stands { Stands (accounts_of self.now.plan.now) seat.old.me.0.ledger }
+        requires from { from < accounts_of self.now.plan.now }
+        requires to { to < accounts_of self.now.plan.now }
+        ensures seat { IsSeatOf self.now.plan.now self.now.table.now.shared.table_id seat.new }
+        ensures rest { IsKept seat.old seat.new }
+        ensures ledger { seat.new.me.0.ledger ≡ with_words seat.old.me.0.ledger
+            (after_job (words_of seat.old.me.0.ledger) (job.Move from to amount)) }
+        ensures reply { result
+            ≡ reply_to (words_of seat.old.me.0.ledger) (job.Move from to amount) }
+    {
+        let held = self.balance_of(seat, from);
+        if held < amount {
+            return Reply::Short;
+        }
+        self.put(seat, from, held - amount);
+        let held = self.balance_of(seat, to);
+        self.put(seat, to, held + amount);
+        Reply::Done
+    }
+
+    // Adds an amount, if the sum stays below the limit.
+    fn add(&self, seat: &mut Right, account: u32, amount: u64) -> Reply
+        requires seat { IsSeatOf self.now.plan.now self.now.table.now.shared.table_id seat.old }
+        requires held { holds_first seat.old.me.0.calls }
+        requires stands { Stands (accounts_of self.now.plan.now) seat.old.me.0.ledger }
+        requires account { account < accounts_of self.now.plan.now }
+        ensures seat { IsSeatOf self.now.plan.now self.now.table.now.shared.table_id seat.new }
+        ensures rest { IsKept seat.old seat.new }
+        ensures ledger { seat.new.me.0.ledger ≡ with_words seat.old.me.0.ledger
+            (after_job (words_of seat.old.me.0.ledger) (job.Add account amount)) }
+        ensures reply { result ≡ reply_to (words_of seat.old.me.0.ledger) (job.Add account amount) }
+    {
+        if amount >= FULL - self.sum_of(seat) {
+            return Reply::Full;
+        }
+        let held = self.balance_of(seat, account);
+        self.put(seat, account, held + amount);
+        Reply::Done
+    }
+
+    // Does a job that writes, on the balance words.
+    pub(crate) fn settle(&self, seat: &mut Right, job: Job) -> Reply
+        requires seat { IsSeatOf self.now.plan.now self.now.table.now.shared.table_id seat.old }
+        requires held { holds_first seat.old.me.0.calls }
+        requires stands { Stands (accounts_of self.now.plan.now) seat.old.me.0.ledger }
+        requires job { IsAmong (accounts_of self.now.plan.now) job }
+        requires writes { is_write job ≡ true }
+        ensures seat { IsSeatOf self.now.plan.now self.now.table.now.shared.table_id seat.new }
+        ensures rest { IsKept seat.old seat.new }
+        ensures ledger { seat.new.me.0.ledger ≡ with_words seat.old.me.0.ledger
+            (after_job (words_of seat.old.me.0.ledger) job) }
+        ensures reply { result ≡ reply_to (words_of seat.old.me.0.ledger) job }
+    {
+        match job {
+            Job::Move { from, to, amount } => self.move_amount(seat, from, to, amount),
+            Job::Add { account, amount } => self.add(seat, account, amount),
+            _ => unreachable!(),
+        }
     }
 }

@@ -4,17 +4,17 @@ ghost use Rattle.lk_abs.specs.Jobs.{IsAmong};
 ghost use Rattle.lk_abs.specs.Journal.{is_write};
 ghost use Rattle.lk_domain.specs.Keeps.{holds_first, alone_first};
 ghost use Rattle.lk_domain.specs.Plans.{accounts_of};
-ghost use Rattle.lk_domain.specs.Seated.{IsKept, IsSeatOf, IsTableOf};
+ghost use Rattle.lk_domain.specs.Seated.{IsKept, IsSeatOf};
 ghost use Rattle.lk_domain.specs.Seats.{IsOf, IsSame, ledger_of};
 ghost use Rattle.lk_guard.specs.Guards.{guard_in};
 ghost use Rattle.lk_guard.specs.Idle.{IsIdle};
 ghost use Rattle.lk_guard.specs.Writes.{HasAppended, HasWritten};
 
+use crate::books::Books;
 use crate::region::Region;
-use crate::settling::settle;
 use lk_abs::{Entry, Job, Reply};
-use lk_domain::ledger_steps::{Words, journal_home, journal_out};
-use lk_domain::{Cpu, Plan, Right};
+use lk_domain::ledger_steps::{journal_home, journal_out};
+use lk_domain::{Cpu, Right};
 use lk_run::Irq;
 use std::sync::Wait;
 
@@ -26,37 +26,40 @@ pub(crate) struct Task {
     pub(crate) job: Job,
 }
 
-// Takes the journal out, does the job on the balances, and brings the journal home with its entry.
-pub(crate) fn append(seat: &mut Right, table: &Words, plan: &Plan, task: Task) -> Reply
-    requires table { IsTableOf plan.now table.now.shared.table_id table.now.shared.key }
-    requires seat { IsSeatOf plan.now table.now.shared.table_id seat.old }
-    requires worker { seat.old.me.0.who.number ≡ Some task.worker }
-    requires held { holds_first seat.old.me.0.calls }
-    requires alone { alone_first seat.old.me.0.calls }
-    requires home { seat.old.me.0.ledger.out ≡ None }
-    requires job { IsAmong (accounts_of plan.now) task.job }
-    requires writes { is_write task.job ≡ true }
-    requires share { 1 ≤ seat.old.me.0.ledger.share }
-    ensures seat { IsSeatOf plan.now table.now.shared.table_id seat.new }
-    ensures rest { IsKept seat.old seat.new }
-    ensures appended { HasAppended plan.now.balances.items task.worker task.number task.job result
-        seat.old.me.0.ledger seat.new.me.0.ledger }
-{
-    let Task {
-        worker,
-        number,
-        job,
-    } = task;
-    let mut journal = journal_out(seat, table, plan);
-    let reply = settle(seat, table, plan, job);
-    journal.push(Entry {
-        worker,
-        number,
-        job,
-        reply,
-    });
-    journal_home(seat, table, plan, journal);
-    reply
+impl Books<'_> {
+    // Takes the journal out, does the job on the balances, and brings the journal home with its
+    // entry.
+    pub(crate) fn append(&self, seat: &mut Right, task: Task) -> Reply
+        requires seat { IsSeatOf self.now.plan.now self.now.table.now.shared.table_id seat.old }
+        requires worker { seat.old.me.0.who.number ≡ Some task.worker }
+        requires held { holds_first seat.old.me.0.calls }
+        requires alone { alone_first seat.old.me.0.calls }
+        requires home { seat.old.me.0.ledger.out ≡ None }
+        requires job { IsAmong (accounts_of self.now.plan.now) task.job }
+        requires writes { is_write task.job ≡ true }
+        requires share { 1 ≤ seat.old.me.0.ledger.share }
+        ensures seat { IsSeatOf self.now.plan.now self.now.table.now.shared.table_id seat.new }
+        ensures rest { IsKept seat.old seat.new }
+        ensures appended { HasAppended self.now.plan.now.balances.items
+            task.worker task.number task.job result
+            seat.old.me.0.ledger seat.new.me.0.ledger }
+    {
+        let Task {
+            worker,
+            number,
+            job,
+        } = task;
+        let mut journal = journal_out(seat, self.table, self.plan);
+        let reply = self.settle(seat, job);
+        journal.push(Entry {
+            worker,
+            number,
+            job,
+            reply,
+        });
+        journal_home(seat, self.table, self.plan, journal);
+        reply
+    }
 }
 
 impl Region {
@@ -88,7 +91,7 @@ impl Region {
             number,
             job,
         };
-        let reply = append(&mut cpu.seat, &self.domain.table, &self.domain.plan, task);
+        let reply = self.books().append(&mut cpu.seat, task);
         self.end_write(cpu);
         reply
     }

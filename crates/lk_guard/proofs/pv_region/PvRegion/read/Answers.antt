@@ -2,6 +2,7 @@ use Rattle.std.proofs.Common.{ℕ, refl, ap, ◌∙◌, subst}
 use Rattle.lk_abs.specs.declared.holder.Manner.TheVariants.{Spins}
 use Rattle.lk_domain.specs.Ledgers.{Ledger, new_look}
 use Rattle.lk_domain.specs.Views.{own_number}
+use Rattle.lk_domain.specs.declared.plan.Plan.{Plan}
 use Rattle.lk_pvdomain.specs.PvSeats.{ledger_of}
 use Rattle.lk_guard.specs.Guards.{guard_in}
 use Rattle.lk_guard.specs.Reads.{HasLooked}
@@ -22,9 +23,12 @@ end-requires-clause-home g c =
     let d = c.args.self.now.domain in
     let b = c.hold.new.cpu in
     let begun = c.hold.ensures.begun in
+    let looked = subst (λ (k : Plan). HasLooked k.balances.items (own_number b.seat.me.0.who.number) c.look-seen.result.0
+    c.args.job c.look-seen.result.1 (ledger_of b) c.look-seen.new.seat.me.0.ledger) c.books.ensures.plan
+    c.look-seen.ensures.looked in
     out_kept (guard_in d.plan) (own_number b.seat.me.0.who.number) c.look-seen.result.0 c.args.job c.look-seen.result.1
     (ledger_of c.args.cpu.now) (ledger_of b) c.look-seen.new.seat.me.0.ledger begun.trail
-    (opens_to_read d (ledger_of c.args.cpu.now) (ledger_of b) begun.trail begun.ledger) c.look-seen.ensures.looked
+    (opens_to_read d (ledger_of c.args.cpu.now) (ledger_of b) begun.trail begun.ledger) looked
     ∙ c.requires.free.nothing.home
 
 pub returns-clause-read : goal.returns-clause-read
@@ -37,8 +41,11 @@ returns-clause-read g c =
     let v = c.look-seen.result.0 in
     let reply = c.look-seen.result.1 in
     let begun = c.hold.ensures.begun in
+    let looked = subst (λ (k : Plan). HasLooked k.balances.items (own_number b.seat.me.0.who.number) c.look-seen.result.0
+    c.args.job c.look-seen.result.1 (ledger_of b) c.look-seen.new.seat.me.0.ledger) c.books.ensures.plan
+    c.look-seen.ensures.looked in
     let looks = subst (λ (n : ℕ). HasLooked h.opening n v c.args.job reply (ledger_of b) e)
-    (ap own_number b.numbered ∙ c.hold.ensures.same.number) c.look-seen.ensures.looked in
+    (ap own_number b.numbered ∙ c.hold.ensures.same.number) looked in
     has_read h a.number v c.args.job reply (ledger_of a) (ledger_of b) e begun.trail
     (opens_to_read d (ledger_of a) (ledger_of b) begun.trail begun.ledger) looks
     (ledger_of c.end.new.cpu) c.end.ensures.ledger (taken_to_read d a.number begun.trail begun.taken) begun.polled

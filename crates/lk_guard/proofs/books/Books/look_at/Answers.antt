@@ -5,11 +5,11 @@ use Rattle.lk_domain.specs.Ledgers.{Ledger, loaded}
 use Rattle.lk_domain.specs.Plans.{accounts_of}
 use Rattle.lk_guard.specs.Reads.{Answers}
 use Rattle.lk_guard.proofs.Looks.{has_looked, both_keep, numbered_as}
-use Rattle.lk_guard.proofs.reading.look_at.Goals as goal
+use Rattle.lk_guard.proofs.books.Books.look_at.Goals as goal
 
 pub returns-clause-looked : goal.returns-clause-looked
 returns-clause-looked c =
-    let plan = c.args.plan.now in
+    let plan = c.args.self.now.plan.now in
     let a = c.args.seat.now in
     let b = c.load-balance.new.seat in
     let g = a.me.0.ledger in
@@ -21,5 +21,5 @@ returns-clause-looked c =
     let is = c.load-balance.ensures.loaded.ledger ∙ ap (λ (l : Ledger). loaded l account x) c.version-count.ensures.seen.ledger in
     let e : x ≡ x + 0 = omega arith in
     let answers : Answers (accounts_of plan) (Get account) (Amount x) loads = record { are = refl; right = ap Amount e } in
-    has_looked plan c.requires.table.lawful b.me.0 c.load-balance.ensures.seat.plan_is c.load-balance.ensures.loaded.one _ (numbered_as a b c.requires.seat.number keeps) g v (Get account) (Amount x) loads is c.requires.look answers refl
+    has_looked plan c.args.self.now.stand.lawful b.me.0 c.load-balance.ensures.seat.plan_is c.load-balance.ensures.loaded.one _ (numbered_as a b c.requires.seat.number keeps) g v (Get account) (Amount x) loads is c.requires.look answers refl
     c.version-count.ensures.seen.rises

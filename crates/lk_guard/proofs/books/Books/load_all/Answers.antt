@@ -1,6 +1,6 @@
 use Rattle.std.proofs.Common.{◌+◌, arith}
 use Rattle.lk_guard.proofs.Looks.{summed_more, summed_small, both_keep}
-use Rattle.lk_guard.proofs.reading.load_all.Goals as goal
+use Rattle.lk_guard.proofs.books.Books.load_all.Goals as goal
 
 pub overflow_add-sum : goal.overflow_add-sum
 overflow_add-sum c =
@@ -10,7 +10,7 @@ overflow_add-sum c =
     let g = c.args.seat.now.me.0.ledger in
     let inv = c.loop-account.invariant in
     let more = summed_more n c.loop-account.sum c.load-sum.result g a.ledger b.ledger inv.summed c.load-sum.ensures.loaded.ledger in
-    let less = summed_small c.args.plan.now c.requires.table.lawful b c.load-sum.ensures.seat.plan_is c.load-sum.ensures.loaded.one (n + 1) (c.loop-account.sum + c.load-sum.result) g c.requires.look more
+    let less = summed_small c.args.self.now.plan.now c.args.self.now.stand.lawful b c.load-sum.ensures.seat.plan_is c.load-sum.ensures.loaded.one (n + 1) (c.loop-account.sum + c.load-sum.result) g c.requires.look more
     (let lt = c.loop-account-test.true in let len = c.accounts-account-end.ensures in omega arith) in
     omega (arith, less)
 
