@@ -1,4 +1,4 @@
-//! A block of output: bytes that wait for a sink, in fixed memory, so that few writes are made.
+//! A buffer of output in front of a sink, so that few writes are made.
 ghost use Rattle.std.specs.Prelude.{◌≡◌, ◌≤◌, ◌+◌, ◌++◌, decimal, [], IfOk, OnOk, OnErr, length, vec_len};
 ghost use Rattle.std.specs.Io.KnownBytes.{Appends};
 ghost use Rattle.lk_text.specs.Causes.{HasCause};
@@ -12,8 +12,8 @@ use std::alloc::Global;
 // The bytes that a block holds at most.
 const ROOM: usize = 65_536;
 
-/// A block of output: bytes that wait for a sink, in fixed memory, so that few writes are made. It
-/// has room for 65,536 bytes.
+/// A buffer of 65,536 bytes in front of a sink. It collects what is written, so that the sink gets
+/// few large pieces. The bytes that wait in it have not reached the sink yet.
 #[derive(Drop)]
 pub struct Block {
     bytes: Vec<u8>,
@@ -25,7 +25,11 @@ pub struct Block {
 impl Block {
     ghost use Rattle.lk_text.specs.Block.{waiting};
 
-    /// Takes all its memory. Nothing waits at first.
+    /// An empty block. It takes all its memory here.
+    ///
+    /// # Errors
+    ///
+    /// There is not enough memory.
     pub fn new(alloc: Global) -> Result<Block, Memory>
         ensures { IfOk result (λ block. waiting block ≡ []) }
     {
@@ -33,8 +37,13 @@ impl Block {
         Ok(Block { bytes, len: 0 })
     }
 
-    /// Puts all that waits to the sink, and does not ask it where nothing waits. Nothing waits
-    /// afterwards: after a fault the part that the sink did not take is dropped.
+    /// Writes all bytes that wait to the sink. If none wait, the sink is not asked. The block is
+    /// empty afterwards.
+    ///
+    /// # Errors
+    ///
+    /// The sink answered a fault. It took a prefix of the bytes that waited, and the others are
+    /// dropped.
     pub fn flush<K: Sink>(&mut self, sink: &mut K) -> Result<(), WriteFault>
         ensures ok { OnOk result (Appends (K.held sink.old) (K.held sink.new) (waiting self.old)) }
         ensures err { OnErr result
@@ -48,8 +57,13 @@ impl Block {
         put(sink, &self.bytes[..len])
     }
 
-    /// Adds a text of at most 65,536 bytes. Where it finds no room, what waits is put first. After
-    /// a fault nothing waits.
+    /// Appends a text of at most 65,536 bytes. If there is no room for it, the block first writes
+    /// the bytes that wait to the sink.
+    ///
+    /// # Errors
+    ///
+    /// The sink answered a fault. It took a prefix of the bytes that waited. The block is empty,
+    /// and the text is not in it.
     pub fn push<K: Sink>(&mut self, sink: &mut K, text: &[u8]) -> Result<(), WriteFault>
         requires { length text.now ≤ 65536 }
         ensures ok { OnOk result
@@ -65,8 +79,13 @@ impl Block {
         Ok(())
     }
 
-    /// Makes room for `room` more bytes, at most 65,536: where there is less, what waits is put
-    /// first. After a fault nothing waits.
+    /// Makes room for `room` more bytes, at most 65,536. If there is less room, the block first
+    /// writes the bytes that wait to the sink.
+    ///
+    /// # Errors
+    ///
+    /// The sink answered a fault. It took a prefix of the bytes that waited, and the block is
+    /// empty.
     #[inline]
     pub fn make_room<K: Sink>(&mut self, sink: &mut K, room: usize) -> Result<(), WriteFault>
         requires { room ≤ 65536 }
@@ -84,7 +103,7 @@ impl Block {
         Ok(())
     }
 
-    /// Adds a text for which there is room.
+    /// Appends a text. There must be room for it, which `make_room` makes.
     #[inline(always)]
     pub fn word(&mut self, text: &[u8])
         requires { length (waiting self.old) + length text.now ≤ 65536 }
@@ -95,7 +114,8 @@ impl Block {
         self.len += text.len();
     }
 
-    /// Adds a number in decimal, without leading zeros, for which there is room.
+    /// Appends a number in decimal, without leading zeros: 1 to 20 digits. There must be room for
+    /// it.
     #[inline(always)]
     pub fn number(&mut self, n: u64)
         requires { length (waiting self.old) + length (decimal n) ≤ 65536 }

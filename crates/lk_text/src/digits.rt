@@ -14,7 +14,7 @@ pub(crate) fn copy_at(bytes: &mut [u8], at: usize, text: &[u8])
     place.copy_from_slice(text);
 }
 
-/// Prints a number at the place `at`, and gives the place behind it.
+/// Writes a number in decimal at the place `at`, and returns the place behind it.
 #[inline(always)]
 pub(crate) fn print_at(bytes: &mut [u8], at: usize, n: u64) -> usize
     requires { at + length (decimal n) ≤ length bytes.old }

@@ -4,11 +4,12 @@ ghost use Rattle.lk_text.specs.Feeds.{HasNoFeed, FeedAt};
 
 use memchr::{memchr, memrchr};
 
-// So many bytes are searched for the end of a line before the others.
+// The bytes that are searched for the end of a line before all others.
 const NEAR: usize = 32;
 
-/// How far the first line feed of the bytes from `at` to `end` lies behind `at`. The first `clear`
-/// bytes are known to be none. Most lines are short, so the next few bytes are searched first.
+/// The distance from `at` to the first line feed of the bytes from `at` to `end`. The first `clear`
+/// bytes are known to be no line feeds. Most lines are short, so the next few bytes are searched
+/// first.
 #[inline(always)]
 pub(crate) fn find_feed(block: &[u8], at: usize, clear: usize, end: usize) -> Option<usize>
     requires ordered { at + clear ≤ end }
@@ -41,7 +42,7 @@ fn find_far_feed(block: &[u8], at: usize, clear: usize, end: usize) -> Option<us
     }
 }
 
-/// The place behind the last line feed from `front` to `end`, or 0 where there is none.
+/// The place behind the last line feed from `front` to `end`, or 0 if there is none.
 pub(crate) fn behind_last_feed(block: &[u8], front: usize, end: usize) -> usize
     requires ordered { front ≤ end }
     requires within { end ≤ length block.now }

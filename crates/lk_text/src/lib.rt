@@ -1,5 +1,5 @@
-//! Sources and sinks of bytes, the lines of a source, the numbers that words write, and texts for a
-//! sink.
+//! Where bytes come from and where they go: sources and sinks, the lines of a source, numbers in
+//! decimal, and buffers in which text is put together for a sink.
 #![tactic(auto)]
 
 mod block;

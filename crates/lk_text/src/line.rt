@@ -3,7 +3,7 @@ ghost use Rattle.std.specs.Prelude.{◌≡◌, ◌≤◌, ◌+◌, ◌++◌, [],
 
 use crate::digits::{copy_at, print_at};
 
-/// A line of at most 128 bytes, put together from words and numbers.
+/// A line of at most 128 bytes, put together from words and numbers. It takes no memory.
 #[derive(Clone, Copy)]
 pub struct LineBuf {
     bytes: [u8; 128],

@@ -2,7 +2,7 @@
 ghost use Rattle.std.specs.Prelude.{◌≡◌, ◌<◌, ◌+◌, ◌*◌, ◌^◌, SomeIff};
 ghost use Rattle.lk_text.specs.Numbers.{number_of};
 
-/// The most digits of a number.
+/// The most digits of a number, leading zeros included.
 pub const MAX_DIGITS: usize = 20;
 
 // The number with one more digit, if it stays below 2^64.
@@ -12,8 +12,8 @@ fn with_digit(value: u64, digit: u8) -> Option<u64>
     value.checked_mul(10)?.checked_add(u64::from(digit))
 }
 
-/// The number that a word of 1 to 20 digits writes. None where it has another byte or another
-/// length, or writes 2^64 or more; leading zeros are digits.
+/// Reads a number in decimal: a word of 1 to 20 digits with a value below 2^64. Leading zeros are
+/// allowed, and count as digits. Returns `None` for any other word.
 pub fn read_number(word: &[u8]) -> Option<u64>
     ensures { result ≡ number_of word.now }
 {

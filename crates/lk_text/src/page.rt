@@ -3,8 +3,8 @@ ghost use Rattle.std.specs.Prelude.{◌≡◌, ◌≤◌, ◌+◌, ◌++◌, [],
 
 use crate::digits::{copy_at, print_at};
 
-/// A page of at most 1,024 bytes, put together from words and numbers: many short lines, so that
-/// one write does for all of them. It takes no memory.
+/// A text of at most 1,024 bytes, put together from words and numbers. Several short lines go out
+/// in one write that way. It takes no memory.
 #[derive(Clone, Copy)]
 pub struct Page {
     bytes: [u8; 1_024],

@@ -1,4 +1,4 @@
-//! The lines of a source, read in fixed memory.
+//! The lines of a source, read through a buffer of fixed size.
 ghost use Rattle.std.specs.Prelude.{◌≡◌, ◌≤◌, ◌<◌, ◌+◌, ◌-◌, List, ℕ, Option, Some, None, true, false, IfOk, IfErr, OnErr, IfSome, Ok, Err, length, take, drop, slice_range, slice_index, vec_len, Result};
 ghost use Rattle.std.specs.Io.KnownBytes.{ReadConsumes, Keeps, IsAtEnd};
 ghost use Rattle.lk_text.specs.Causes.{HasCause};
@@ -11,30 +11,31 @@ use crate::source::{Failed, Source};
 use lk_abs::Memory;
 use std::alloc::Global;
 
-/// The most bytes of a line, without its line feed.
+/// The most bytes of a line, not counting its line feed.
 pub const MAX_LINE: usize = 4_096;
 
-/// The most bytes of an input.
+/// The most bytes of an input: 2^30, which is 1 GiB.
 pub const MAX_INPUT: u64 = 1 << 30;
 
 // The bytes that a reader takes ahead at most.
 const BLOCK: usize = 65_536;
 
-/// Why a reader of lines gives no next line, and answers so from then on.
+/// Why a reader of lines returns no next line. It answers each later call with the same fault.
 #[derive(Clone, Copy, Debug, PartialEq, Eq)]
 pub enum LineFault {
-    /// The source answered a fault: its count of faults rose in the call that answered this first.
+    /// A read of the source failed. The source's count of faults rose in the call that answered
+    /// this first.
     ReadFault,
 
-    /// The line has more than 4,096 bytes, without its line feed. Where both limits are passed at
-    /// the same byte, this is answered.
+    /// The line has more than 4,096 bytes, not counting its line feed. If the same byte passes both
+    /// limits, this is the answer.
     TooLong,
 
-    /// Byte 2^30 + 1 of the input has to be looked at.
+    /// The line, with its line feed, reaches byte 2^30 + 1 of the input.
     TooMuch,
 }
 
-/// Reads the lines of one source in fixed memory.
+/// Reads the lines of one source through a buffer of 65,536 bytes, which is all its memory.
 #[derive(Drop)]
 pub struct LineReader {
     // Bytes of the source. Those from `at` to `end` were taken and not looked at, and as long as
@@ -120,7 +121,11 @@ impl LineReader {
     ghost use Rattle.lk_text.specs.declared.reader.LineFault.{LineFault};
     ghost use Rattle.lk_text.specs.Reader.{IsFresh, pending, unread, kept, looked_at, lines_given, is_ended, is_at_hand, KeepsPlace, EndsAt, GaveLine, MetEnd, GaveFault, NextLine, Reason};
 
-    /// Takes all its memory. No line was given, no byte was looked at, and no fault is kept.
+    /// A reader that has returned no line. It takes all its memory here.
+    ///
+    /// # Errors
+    ///
+    /// There is not enough memory.
     pub fn new(alloc: Global) -> Result<LineReader, Memory>
         ensures { IfOk result IsFresh }
     {
@@ -137,14 +142,15 @@ impl LineReader {
         })
     }
 
-    /// How many lines were given so far.
+    /// The number of lines that were returned so far.
     pub fn lines(&self) -> u64
         ensures { result ≡ lines_given self.now }
     {
         self.lines
     }
 
-    /// Whether a whole line is at hand: then the next call of `next_line` reads nothing.
+    /// Whether a whole line, with its line feed, is in the buffer. If so, the next call of
+    /// `next_line` does not ask the source.
     #[inline]
     pub fn has_line(&self) -> bool
         ensures { result ≡ is_at_hand self.now }
@@ -152,8 +158,8 @@ impl LineReader {
         self.at < self.whole
     }
 
-    /// The bytes that were taken from the source and not looked at. The next line stands in front,
-    /// where one is at hand.
+    /// The bytes that were read from the source and belong to no returned line. If `has_line`
+    /// answers `true`, the next line is in front.
     #[inline(always)]
     pub fn ahead(&self) -> &[u8]
         ensures { result.now ≡ pending self.now }
@@ -161,9 +167,9 @@ impl LineReader {
         &self.block[self.at..self.end]
     }
 
-    /// Takes the next line, of `line` bytes, behind which the caller has found the line feed. It
-    /// answers `false` where the line passes the limit of the input, and changes nothing then:
-    /// `next_line` answers the fault.
+    /// Takes the next line, whose end the caller has found in `ahead`: `line` bytes, at most 4,096,
+    /// and then the line feed. `has_line` must answer `true`. Returns `false` and changes nothing
+    /// if the line passes the limit of the input; `next_line` then answers `TooMuch`.
     #[inline(always)]
     pub fn take_front(&mut self, line: usize) -> bool
         requires at_hand { is_at_hand self.old ≡ true }
@@ -183,7 +189,7 @@ impl LineReader {
         true
     }
 
-    // Reads more bytes behind those that are pending: none at the end of input.
+    // Reads more bytes behind those that are pending: none at the end of the input.
     fn fill<S: Source>(&mut self, source: &mut S) -> Result<usize, Failed>
         requires open { kept self.old ≡ None }
         requires going { is_ended self.old ≡ false }
@@ -428,10 +434,14 @@ impl LineReader {
         }
     }
 
-    /// The next line, of at most 4,096 bytes, without its line feed. A last line without a line
-    /// feed is a line. `None` comes exactly at the end of input with no byte behind the last line
-    /// feed, and each later call then gives `None` and reads nothing. After a fault each later call
-    /// answers the same fault and reads nothing.
+    /// Returns the next line, of at most 4,096 bytes, without its line feed. The last line may have
+    /// no line feed. Returns `None` once the input has ended and every line was returned. Each
+    /// later call then returns `None` too, and does not ask the source.
+    ///
+    /// # Errors
+    ///
+    /// A failed read, or a limit that is passed. Each later call answers the same fault, and does
+    /// not ask the source.
     #[inline(always)]
     pub fn next_line<'a, S: Source>(
         &'a mut self,

@@ -10,25 +10,29 @@ use lk_abs::Memory;
 use std::alloc::Global;
 use std::io::Write;
 
-/// A sink did not take all bytes.
+/// A sink did not take all bytes that were written to it.
 #[derive(Clone, Copy, Debug, PartialEq, Eq)]
 pub struct WriteFault;
 
-/// Takes bytes, piece by piece, and counts its faults. The count never falls, and where it stands
-/// at 2^64 - 1 it stays there and counts as risen.
+/// Where bytes go. A sink takes them piece by piece, and counts its faults. The count never falls.
+/// Once it is 2^64 - 1 it stays there, and contracts read it as risen in every call.
 pub trait Sink {
-    /// The bytes that it holds, where it tells them.
+    /// The bytes that the sink holds, for contracts; none if it does not tell them.
     ghost held: { Self → Option (List ℕ) };
 
-    /// The count of its faults.
+    /// The number of its faults so far.
     ghost faults: { Self → ℕ };
 
-    /// How many bytes more it takes for certain.
+    /// How many more bytes the sink is certain to take.
     ghost sure: { Self → ℕ };
 
-    /// Appends a front of the piece and gives its number of bytes. `Failed`, which takes no byte,
-    /// comes only where the count of faults rose in this call, and so does 0 for a piece that is
-    /// not empty. Neither comes where the piece is one of the bytes that are taken for certain.
+    /// Takes a prefix of the piece, and returns the number of its bytes. A sink that is certain to
+    /// take the whole piece takes at least one byte of it. A return of 0 for a piece that is not
+    /// empty comes only if the count of faults rose in this call.
+    ///
+    /// # Errors
+    ///
+    /// The write failed and the sink took no byte. The count of faults rose in this call.
     fn write(&mut self, piece: &[u8]) -> Result<usize, Failed>
         ensures bound { WritesAtMost result piece.now }
         ensures bytes { WriteAppends (held self.old) (held self.new) result piece.now }
@@ -39,9 +43,13 @@ pub trait Sink {
             → TakesSurely (sure self.old) (sure self.new) result };
 }
 
-/// Writes all bytes. `WriteFault` comes only where the sink's count of faults rose in this call,
-/// and then the sink took a front of the bytes; it doesn't come where the sink takes so many bytes
-/// for certain. With no bytes the sink is not asked.
+/// Writes all bytes to the sink, in as many pieces as the sink wants. If there are no bytes, the
+/// sink is not asked.
+///
+/// # Errors
+///
+/// The sink took a prefix of the bytes, and its count of faults rose in this call. This does not
+/// happen if the sink is certain to take so many bytes.
 pub fn put<K: Sink>(sink: &mut K, bytes: &[u8]) -> Result<(), WriteFault>
     ensures ok { OnOk result (Appends (K.held sink.old) (K.held sink.new) bytes.now) }
     ensures err { OnErr result (AppendsFront (K.held sink.old) (K.held sink.new) bytes.now) }
@@ -60,9 +68,9 @@ pub fn put<K: Sink>(sink: &mut K, bytes: &[u8]) -> Result<(), WriteFault>
     Ok(())
 }
 
-/// Holds bytes up to a room that is taken at the start, and tells them. It takes each piece whole,
-/// and fails exactly in the calls whose numbers, from 1, are listed, and in a call whose piece
-/// passes its room.
+/// A sink in memory, which tells the bytes that it holds. Its room is taken at the start. It takes
+/// each piece whole. A write fails exactly if there is no room for its piece, or if its number,
+/// counted from 1, is in the list of those that are to fail.
 #[derive(Drop)]
 pub struct MemSink {
     bytes: Vec<u8>,
@@ -77,8 +85,12 @@ pub struct MemSink {
 impl MemSink {
     ghost use Rattle.lk_text.specs.MemSink.{bytes_held, faults_met, room_of, failing_writes, writes_made};
 
-    /// Takes room for `room` bytes, and a copy of the list of calls that fail. It is empty at
-    /// first, and no fault is counted.
+    /// An empty sink with room for `room` bytes. `fails` lists the numbers of the writes that are
+    /// to fail, counted from 1. The sink keeps a copy of it.
+    ///
+    /// # Errors
+    ///
+    /// There is not enough memory.
     pub fn new(alloc: Global, room: usize, fails: &[u64]) -> Result<MemSink, Memory>
         ensures held { IfOk result (λ sink. bytes_held sink ≡ []) }
         ensures faults { IfOk result (λ sink. faults_met sink ≡ 0) }
@@ -97,7 +109,7 @@ impl MemSink {
         })
     }
 
-    /// The bytes that it holds.
+    /// The bytes that the sink holds.
     pub fn bytes(&self) -> &[u8]
         ensures held { result.now ≡ bytes_held self.now }
         ensures within { length result.now ≤ room_of self.now }
@@ -149,12 +161,13 @@ impl Sink for MemSink {
     }
 }
 
-/// Takes each piece whole and keeps nothing. It never fails, and tells nothing.
+/// A sink that takes each piece whole and keeps nothing. It never fails, and does not tell what it
+/// took.
 #[derive(Drop)]
 pub struct NullSink;
 
 impl NullSink {
-    /// Takes no memory.
+    /// A sink that keeps nothing. It takes no memory.
     pub fn new() -> NullSink {
         NullSink
     }
@@ -180,8 +193,8 @@ impl Sink for NullSink {
     }
 }
 
-/// A writer of std as a sink. It tells no bytes, and each error that the writer answers raises its
-/// count of faults; so does a write that takes no byte of a piece that is not empty.
+/// A writer of std as a sink. It does not tell which bytes it took. Its count of faults rises when
+/// the writer answers an error, and when the writer takes no byte of a piece that is not empty.
 #[derive(Drop)]
 pub struct StdSink<W> {
     writer: W,
@@ -191,7 +204,7 @@ pub struct StdSink<W> {
 impl<W: Write> StdSink<W> {
     ghost use Rattle.lk_text.specs.StdSink.{writer_of, faults_met};
 
-    /// Takes no memory. No fault is counted at first.
+    /// The writer as a sink that has counted no fault. It takes no memory.
     pub fn new(writer: W) -> StdSink<W>
         ensures writer { writer_of result ≡ writer }
         ensures faults { faults_met result ≡ 0 }
@@ -199,7 +212,7 @@ impl<W: Write> StdSink<W> {
         StdSink { writer, faults: 0 }
     }
 
-    /// The count of its faults.
+    /// The number of its faults so far.
     pub fn faults(&self) -> u64
         ensures { result ≡ faults_met self.now }
     {

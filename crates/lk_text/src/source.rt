@@ -12,26 +12,29 @@ use std::io::Read;
 #[derive(Clone, Copy, Debug, PartialEq, Eq)]
 pub struct Failed;
 
-/// Gives bytes, piece by piece, and counts its faults. The count never falls, and where it stands
-/// at 2^64 - 1 it stays there and counts as risen.
+/// Where bytes come from. A source gives them piece by piece, and counts its faults. The count
+/// never falls. Once it is 2^64 - 1 it stays there, and contracts read it as risen in every call.
 pub trait Source {
-    /// The bytes that it has left, where it tells them.
+    /// The bytes that are left to read, for contracts; none if the source does not tell them.
     ghost left: { Self → Option (List ℕ) };
 
-    /// The count of its faults.
+    /// The number of its faults so far.
     ghost faults: { Self → ℕ };
 
-    /// Puts the next bytes into `buf` and gives their number. 0 for a `buf` that is not empty is
-    /// the end of input. `Failed` comes only where the count of faults rose in this call, and then
-    /// no byte is lost.
+    /// Reads the next bytes into the front of `buf`, and returns their number. A return of 0 for a
+    /// `buf` that is not empty means the end of the input.
+    ///
+    /// # Errors
+    ///
+    /// The read failed and no byte is lost. The count of faults rose in this call.
     fn read(&mut self, buf: &mut [u8]) -> Result<usize, Failed>
         ensures bound { ReadsAtMost result buf.new }
         ensures bytes { ReadConsumes (left self.old) (left self.new) result buf.new }
         ensures cause { HasCause (faults self.old) (faults self.new) result };
 }
 
-/// Bytes in memory, given in pieces of at most `chunk` bytes. It never fails, and tells what is
-/// left.
+/// A source of bytes in memory, which tells the bytes that are left. A read returns at most `chunk`
+/// bytes, and never fails.
 #[derive(Drop)]
 pub struct SureSource {
     bytes: Vec<u8>,
@@ -60,7 +63,11 @@ fn copy_next(bytes: &[u8], chunk: usize, buf: &mut [u8]) -> usize
 impl SureSource {
     ghost use Rattle.lk_text.specs.SureSource.{bytes_left, chunk_of};
 
-    /// Takes a copy of the bytes. `chunk` is the most bytes of a piece, at least 1.
+    /// A source of a copy of these bytes. `chunk` is the most bytes of one read, at least 1.
+    ///
+    /// # Errors
+    ///
+    /// There is not enough memory.
     pub fn new(alloc: Global, bytes: &[u8], chunk: usize) -> Result<SureSource, Memory>
         requires { 1 ≤ chunk }
         ensures left { IfOk result (λ source. bytes_left source ≡ bytes.now) }
@@ -97,8 +104,8 @@ impl Source for SureSource {
     }
 }
 
-/// Bytes in memory, given in pieces of at most `chunk` bytes. It tells what is left, and fails
-/// exactly in the calls whose numbers, from 1, are listed.
+/// A source of bytes in memory, which tells the bytes that are left. A read returns at most `chunk`
+/// bytes. It fails exactly if its number, counted from 1, is in the list of those that are to fail.
 #[derive(Drop)]
 pub struct MemSource {
     sure: SureSource,
@@ -110,8 +117,12 @@ pub struct MemSource {
 impl MemSource {
     ghost use Rattle.lk_text.specs.MemSource.{bytes_left, faults_met, chunk_of, failing_reads, reads_made};
 
-    /// Takes copies of the bytes and of the list of calls that fail. `chunk` is the most bytes of a
-    /// piece, at least 1. No fault is counted at first.
+    /// A source of a copy of these bytes. `chunk` is the most bytes of one read, at least 1.
+    /// `fails` lists the numbers of the reads that are to fail, counted from 1.
+    ///
+    /// # Errors
+    ///
+    /// There is not enough memory.
     pub fn new(
         alloc: Global,
         bytes: &[u8],
@@ -165,8 +176,8 @@ impl Source for MemSource {
     }
 }
 
-/// A reader of std as a source. It tells no bytes, and each error that the reader answers raises
-/// its count of faults.
+/// A reader of std as a source. It does not tell which bytes are left. Its count of faults rises
+/// when the reader answers an error.
 #[derive(Drop)]
 pub struct StdSource<R> {
     reader: R,
@@ -176,7 +187,7 @@ pub struct StdSource<R> {
 impl<R: Read> StdSource<R> {
     ghost use Rattle.lk_text.specs.StdSource.{reader_of, faults_met};
 
-    /// Takes no memory. No fault is counted at first.
+    /// The reader as a source that has counted no fault. It takes no memory.
     pub fn new(reader: R) -> StdSource<R>
         ensures reader { reader_of result ≡ reader }
         ensures faults { faults_met result ≡ 0 }
@@ -184,7 +195,7 @@ impl<R: Read> StdSource<R> {
         StdSource { reader, faults: 0 }
     }
 
-    /// The count of its faults.
+    /// The number of its faults so far.
     pub fn faults(&self) -> u64
         ensures { result ≡ faults_met self.now }
     {
