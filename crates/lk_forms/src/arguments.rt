@@ -12,7 +12,11 @@ use lk_text::read_number;
 
 const TOO_MANY_OR_FEW: LineRefusal = LineRefusal::Bad(Fault::WordCount);
 
-/// Exactly one word.
+/// Reads exactly one word.
+///
+/// # Errors
+///
+/// `WordCount`: there is no word, or there are more.
 pub fn one_word(args: &[u8]) -> Result<&[u8], LineRefusal>
     ensures { IsAnswer (one_word (words args.now)) (λ word. word.now) result }
 {
@@ -25,7 +29,11 @@ pub fn one_word(args: &[u8]) -> Result<&[u8], LineRefusal>
     }
 }
 
-/// Exactly two words.
+/// Reads exactly two words.
+///
+/// # Errors
+///
+/// `WordCount`: there are fewer words, or more.
 pub fn two_words(args: &[u8]) -> Result<(&[u8], &[u8]), LineRefusal>
     ensures { IsAnswer (two_words (words args.now)) (λ both. (both.0.now, both.1.now)) result }
 {
@@ -38,7 +46,11 @@ pub fn two_words(args: &[u8]) -> Result<(&[u8], &[u8]), LineRefusal>
     }
 }
 
-/// No word.
+/// Sees that there is no word.
+///
+/// # Errors
+///
+/// `WordCount`: there is a word.
 pub fn no_words(args: &[u8]) -> Result<(), LineRefusal>
     ensures { result ≡ no_words (words args.now) record {} }
 {
@@ -48,7 +60,11 @@ pub fn no_words(args: &[u8]) -> Result<(), LineRefusal>
     }
 }
 
-/// A number within a range.
+/// Reads a number from `low` to `high`.
+///
+/// # Errors
+///
+/// `BadNumber`: the word is not a number. `OutOfRange`: the number is lower or higher.
 pub fn number_in(low: u64, high: u64, word: &[u8]) -> Result<u64, LineRefusal>
     ensures value { result ≡ number_in low high word.now }
     ensures within { IfOk result (λ n. n ≤ high) }
@@ -61,8 +77,11 @@ pub fn number_in(low: u64, high: u64, word: &[u8]) -> Result<u64, LineRefusal>
     }
 }
 
-/// The processor, one of so many, that a word names. Where there is none, each number is out of
-/// range.
+/// Reads the number of one of `cpus` processors, which are numbered from 0.
+///
+/// # Errors
+///
+/// `BadNumber`: the word is not a number. `OutOfRange`: there is no processor of that number.
 pub fn cpu_word(cpus: u32, word: &[u8]) -> Result<u32, LineRefusal>
     ensures value { result ≡ cpu_word cpus word.now }
     ensures within { IfOk result (λ p. p < cpus) }
@@ -75,7 +94,7 @@ pub fn cpu_word(cpus: u32, word: &[u8]) -> Result<u32, LineRefusal>
     }
 }
 
-/// The run of an act, if there are not too many acts.
+/// The act, made `times` times behind `acts` acts, if a schedule may have so many.
 pub(crate) fn run_of(acts: u64, act: Act, times: u64) -> Result<Sched, LineRefusal>
     ensures { result ≡ run_of acts act times }
 {

@@ -1,6 +1,6 @@
-// A line `step p n` in front of other bytes, read together with the line feed that ends it: in one
-// pass, with no search for its end before. A single space stands between its words. Any other line
-// is left to the reader of lines.
+// A line `step p n` at the front of the bytes ahead, read in one pass together with its line feed,
+// so that nobody has to search for its end first. Single spaces stand between its words. Any other
+// line is left to the reader of lines.
 ghost use Rattle.std.specs.Prelude.{◌≡◌, ◌≤◌, ◌<◌, false, length, take, IfSome, Ok};
 ghost use Rattle.lk_abs.specs.declared.events.Act.TheVariants as act;
 ghost use Rattle.lk_text.specs.Feeds.{FeedAt};
@@ -63,8 +63,12 @@ fn step_run(cpus: u32, acts: u64, cpu: u64, times: u64) -> Option<Sched>
     run_of(acts, Act::Step(cpu as u32), times).ok()
 }
 
-/// What the line in front says before `end`, and how many bytes it has without its line feed, if
-/// it is a plain `step p n` and ends among these bytes.
+/// Reads the line at the front of these bytes, before the line `end`, if it is a plain `step p n`.
+/// `cpus` is the number of processors, and `acts` the number of acts so far. Returns what the line
+/// says, and its length in bytes without its line feed.
+///
+/// Returns `None` if there are fewer than 24 bytes, if the line is another or not plain, or if it
+/// is refused. `schedule_line` then reads the line.
 #[inline(always)]
 pub fn front_step(bytes: &[u8], cpus: u32, acts: u64) -> Option<(Sched, usize)>
     ensures said { IfSome result

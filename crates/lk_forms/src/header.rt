@@ -59,7 +59,7 @@ fn header_line(
     }
 }
 
-/// The format with this number: the word is exactly `1` or `2`, or there is none.
+/// The format that the word `1` or `2` names; none for any other word.
 pub fn format_numbered(version: &[u8]) -> Option<Format>
     ensures { result ≡ format_numbered version.now }
 {
@@ -82,7 +82,7 @@ fn format_said(first: &[u8], args: &[u8]) -> Option<Format>
     }
 }
 
-/// Reads the header of a trace, line by line. It keeps the allocator for what the lines say.
+/// Reads the header of a trace, line by line, and keeps what the lines say.
 #[derive(Drop)]
 pub struct HeaderReader {
     alloc: Global,
@@ -98,6 +98,10 @@ impl HeaderReader {
     ghost use Rattle.lk_forms.specs.Reader.{reading, ReadsOn};
 
     /// A reader that has read no line.
+    ///
+    /// # Errors
+    ///
+    /// There is not enough memory.
     pub fn new(alloc: Global) -> Result<HeaderReader, Memory>
         ensures { IfOk result (λ reader. reading reader ≡ nothing_read) }
     {
@@ -134,9 +138,13 @@ impl HeaderReader {
         }
     }
 
-    /// Reads one more line of the header, without its line feed. It may be called until it gave
-    /// `Go` or a refusal, and so refuses lines of the header alone; a refused line leaves the
-    /// reader as it was. It takes memory for what the line says.
+    /// Reads one more line of the header, given without its line feed. It must not be called after
+    /// it returned `Go`. It takes memory for what the line says.
+    ///
+    /// # Errors
+    ///
+    /// The first check of the grammar that the line fails, or not enough memory. The reader is then
+    /// as it was.
     pub fn line(&mut self, line: &[u8]) -> Result<HeaderStep, LineRefusal>
         requires { has_go (reading self.old) ≡ false }
         ensures { ReadsOn (read (reading self.old) line.now)
@@ -174,7 +182,8 @@ impl HeaderReader {
         Ok(HeaderStep::More)
     }
 
-    /// What is wrong where the input ends now.
+    /// What is wrong if the input ends here: `NoFormat` before the line that says the format, and
+    /// `NoEnd` behind it.
     pub fn ending(&self) -> Fault
         ensures { result ≡ ending (reading self.now) }
     {
@@ -185,7 +194,7 @@ impl HeaderReader {
         }
     }
 
-    /// The setup that the lines say; `go` has to be read.
+    /// Returns the setup that the lines say. `line` must have returned `Go`.
     pub fn finish(self) -> Setup
         requires { has_go (reading self) ≡ true }
         ensures { result ≡ (reading self).setup }

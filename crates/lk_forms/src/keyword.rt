@@ -15,9 +15,9 @@ pub(crate) enum Keyword {
     Cpus,
     /// `sockets`: the socket of each processor.
     Sockets,
-    /// `threshold`: how many handovers may stay on one socket.
+    /// `threshold`: how many handoffs may pass a moved waiter, in mode `cna`.
     Threshold,
-    /// `spins`: how many turns a waiter spins.
+    /// `spins`: how many polls a waiter makes before it halts, in mode `pv`.
     Spins,
     /// `lock`: one more lock.
     Lock,
@@ -33,9 +33,9 @@ pub(crate) enum Keyword {
     Int,
     /// `pre`: a processor is preempted.
     Pre,
-    /// `res`: a processor goes on.
+    /// `res`: a preempted processor goes on.
     Res,
-    /// `nudge`: a halt of a processor ends.
+    /// `nudge`: a halt of a processor ends without a kick.
     Nudge,
     /// `end`: the schedule ends.
     End,
@@ -89,7 +89,7 @@ impl Keyword {
         }
     }
 
-    /// Lines come in the order of their ranks.
+    /// The rank of a line with this keyword. Lines come in the order of their ranks.
     pub fn rank(self) -> u32
         ensures { result ≡ rank_of self }
     {
@@ -109,7 +109,8 @@ impl Keyword {
         }
     }
 
-    /// What is wrong with the place of a line behind the lines up to one of rank `last`.
+    /// What is wrong with the place of a line with this keyword, if the line before it that is
+    /// neither blank nor a comment has rank `last`.
     pub fn fault_of_place(self, last: u32) -> Option<Fault>
         ensures { result ≡ fault_of_place last self }
     {
@@ -127,7 +128,7 @@ impl Keyword {
     }
 }
 
-// Whether a line of a rank may not stand behind the lines up to one of rank `last`.
+// Whether a line of this rank may not stand behind one of rank `last`.
 fn is_misplaced(last: u32, rank: u32) -> bool
     ensures { result ≡ is_misplaced last rank }
 {

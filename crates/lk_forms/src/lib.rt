@@ -1,6 +1,6 @@
-//! The forms of text: the grammar of traces, and the lines of a transcript. Its `specs/` say what
-//! each line of a trace says behind the lines before it, or why it is refused, and what each line
-//! of a transcript looks like.
+//! The formats of text: the grammar of traces, and the lines of a transcript. Its `specs/` say what
+//! each line of a trace means after the lines before it, or why it is refused, and how each line
+//! of a transcript is written.
 #![tactic(auto)]
 
 mod answers;

@@ -5,19 +5,19 @@ ghost use Rattle.lk_text.specs.Block.{waiting};
 
 use lk_text::{Block, LineBuf};
 
-/// A place to which words and numbers are appended, with room for so many bytes.
+/// A place to which words and numbers are appended. It has room for `room` bytes.
 pub(crate) trait Page {
     ghost text: { Self → List ℕ };
 
     ghost room: { ℕ };
 
-    /// Appends a text.
+    /// Appends a text, for which there is room.
     fn word(&mut self, piece: &[u8])
         requires { length (text self.old) + length piece.now ≤ room }
         ensures text { text self.new ≡ text self.old ++ piece.now }
         ensures size { length (text self.new) ≡ length (text self.old) + length piece.now };
 
-    /// Appends a number in decimal.
+    /// Appends a number in decimal, for which there is room.
     fn number(&mut self, n: u64)
         requires { length (text self.old) + length (decimal n) ≤ room }
         ensures text { text self.new ≡ text self.old ++ decimal n }

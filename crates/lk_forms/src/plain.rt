@@ -17,7 +17,8 @@ use lk_abs::Act;
 /// number below 2^64.
 const MAX_PLAIN: usize = 23;
 
-/// The number that the digits in front write, and what stands behind them.
+/// Reads the digits at the front. Returns the number that they write, 0 if there are none, and the
+/// bytes behind them.
 #[inline(always)]
 pub(crate) fn digits(bytes: &[u8]) -> (u64, &[u8])
     requires { length bytes.now ≤ 19 }
@@ -106,7 +107,7 @@ fn short_act(line: &[u8], cpus: u32, acts: u64) -> Option<Sched>
     }
 }
 
-/// What a line says before `end`, if it says an act in the plain way.
+/// What a line of the schedule before `end` says, if it says an act in the plain way.
 #[inline(always)]
 pub(crate) fn plain_act(line: &[u8], cpus: u32, acts: u64) -> Option<Sched>
     ensures { IfSome result (λ said. schedule_of cpus acts false line.now ≡ Ok said) }

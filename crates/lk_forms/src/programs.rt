@@ -75,8 +75,11 @@ fn closed(kinds: &[Kind], ops: List<Op>) -> Result<List<Op>, LineRefusal>
     }
 }
 
-/// The program of these words, which has at least one operation. It takes room for the most
-/// operations.
+/// Reads a program of at least one operation. The list has room for the most operations.
+///
+/// # Errors
+///
+/// The first check of the grammar that a word fails, or not enough memory.
 pub(crate) fn read_ops(alloc: Global, kinds: &[Kind], args: &[u8]) -> Result<List<Op>, LineRefusal>
     requires { length kinds.now ≤ MAX_LOCKS }
     ensures ok { IfOk result

@@ -81,9 +81,14 @@ fn read_line(line: &[u8], cpus: u32, acts: u64, ended: bool) -> Result<Sched, Li
     read_words(line, cpus, acts, ended)
 }
 
-/// Reads one line of a schedule of `cpus` processors, without its line feed, behind `acts` acts;
-/// `ended` says that the line `end` was read. Without processors each number of one is out of
-/// range, and behind more acts than the limit each further act passes it. It takes no memory.
+/// Reads one line of a schedule, given without its line feed. `cpus` is the number of processors,
+/// `acts` the number of acts so far, and `ended` says that the line `end` was read. It takes no
+/// memory.
+///
+/// # Errors
+///
+/// The first check of the grammar that the line fails, or the limit of 10^8 acts. It never answers
+/// `Memory`.
 #[inline(always)]
 pub fn schedule_line(line: &[u8], cpus: u32, acts: u64, ended: bool) -> Result<Sched, LineRefusal>
     ensures value { result ≡ schedule_of cpus acts ended line.now }

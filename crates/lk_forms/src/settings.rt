@@ -109,7 +109,11 @@ fn kind_named(word: &[u8]) -> Option<Kind>
     }
 }
 
-/// The kind of lock that a word names.
+/// The kind of lock that a word names: `spin` or `rw`.
+///
+/// # Errors
+///
+/// `UnknownWord`: the word is another.
 pub fn kind_word(word: &[u8]) -> Result<Kind, LineRefusal>
     ensures { result ≡ kind_word word.now }
 {
@@ -142,7 +146,7 @@ pub(crate) fn lock_line(setup: &mut Setup, args: &[u8]) -> Result<(), LineRefusa
     Ok(())
 }
 
-/// How many words there are.
+/// The number of words.
 pub fn count_words(args: &[u8]) -> usize
     ensures { result ≡ length (words args.now) }
 {
@@ -155,7 +159,12 @@ pub fn count_words(args: &[u8]) -> usize
     count
 }
 
-/// The sockets of so many processors, one for each: there have to be as many words.
+/// Reads the sockets of `cpus` processors, one number from 0 to 63 for each. There must be exactly
+/// so many words.
+///
+/// # Errors
+///
+/// `BadNumber` or `OutOfRange`, for the first word that is wrong; or not enough memory.
 pub fn read_sockets(alloc: Global, cpus: usize, args: &[u8]) -> Result<List<u32>, LineRefusal>
     requires { length (words args.now) ≡ cpus }
     ensures ok { IfOk result (λ list.

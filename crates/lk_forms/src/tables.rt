@@ -7,7 +7,7 @@ use lk_abs::{List, Memory};
 use lk_machine::Op;
 use std::alloc::Global;
 
-/// Socket 0 for each processor.
+/// Socket 0 for each of `cpus` processors.
 pub(crate) fn zero_sockets(alloc: Global, cpus: usize) -> Result<List<u32>, Memory>
     ensures { IfOk result (λ list. list ≡ list_of cpus (replicate cpus 0)) }
 {
@@ -18,7 +18,7 @@ pub(crate) fn zero_sockets(alloc: Global, cpus: usize) -> Result<List<u32>, Memo
     Ok(sockets)
 }
 
-/// A program without an operation for each processor.
+/// A program without operations for each of `cpus` processors.
 pub(crate) fn no_programs(alloc: Global, cpus: usize) -> Result<List<List<Op>>, Memory>
     ensures { IfOk result (λ list. list ≡ no_programs cpus) }
 {
@@ -30,7 +30,7 @@ pub(crate) fn no_programs(alloc: Global, cpus: usize) -> Result<List<List<Op>>, 
     Ok(programs)
 }
 
-/// No handler for each processor.
+/// An empty list of handlers for each of `cpus` processors.
 pub(crate) fn no_handlers(alloc: Global, cpus: usize) -> Result<List<List<List<Op>>>, Memory>
     ensures { IfOk result (λ list. list ≡ no_handlers cpus) }
 {

@@ -105,7 +105,7 @@ fn write_named<P: Page>(page: &mut P, word: &[u8], lock: LockName)
     write_lock(page, lock);
 }
 
-// The lead is handed on.
+// A handoff.
 #[inline(always)]
 fn write_pass<P: Page>(page: &mut P, lock: LockName, to: Waiter, moved: u32)
     requires { length (P.text page.old) + 60 ≤ P.room }
@@ -177,7 +177,7 @@ fn write_line<P: Page>(page: &mut P, act: u64, event: &Event)
     page.word(b"\n");
 }
 
-/// The line of an event, in the act of this number.
+/// The line of an event, told in act `act`, with its line feed. Acts are numbered from 1.
 pub fn event_line(act: u64, event: &Event) -> LineBuf
     ensures { line_text result ≡ event_text act event.now }
 {
@@ -186,8 +186,8 @@ pub fn event_line(act: u64, event: &Event) -> LineBuf
     line
 }
 
-/// Writes the line of an event, in the act of this number, into a block that has room for 128 more
-/// bytes.
+/// Appends the line of an event, told in act `act`, to a block. The block must have room for 128
+/// more bytes.
 #[inline(always)]
 pub fn write_event(block: &mut Block, act: u64, event: &Event)
     requires { length (waiting block.old) + 128 ≤ 65536 }
@@ -196,7 +196,7 @@ pub fn write_event(block: &mut Block, act: u64, event: &Event)
     write_line(block, act, event);
 }
 
-/// The first of the closing lines: how many acts there were.
+/// The first of the closing lines, `end` and the number of acts, with its line feed.
 #[tactic(auto, using(crate::proofs::Decimals::decimal_short))]
 pub fn end_line(acts: u64) -> LineBuf
     ensures { line_text result ≡ end_text acts }
@@ -228,7 +228,8 @@ fn count_at(counts: &Counts, which: u32) -> (&'static [u8], u64)
     }
 }
 
-/// The line of one of the ten counts, by its place among the closing lines: `which` is below 10.
+/// The line of one of the ten counts, with its line feed. `which`, from 0 to 9, is its place among
+/// the counts of the closing lines. The counts have the names of Linux's lock events.
 #[tactic(auto, using(crate::proofs::Decimals::decimal_short))]
 pub fn count_line(counts: &Counts, which: u32) -> LineBuf
     requires { which < 10 }

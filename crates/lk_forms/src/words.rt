@@ -3,7 +3,7 @@ ghost use Rattle.std.specs.Prelude.{◌≡◌, not, ◌≤◌, ◌<◌, ◌∷�
 ghost use Rattle.std.specs.List.{position, position_or_len};
 ghost use Rattle.lk_forms.specs.Words.{is_blank, is_allowed, is_text, is_comment, words};
 
-/// A space, a tab or a carriage return.
+/// Whether the byte is a space, a tab or a carriage return.
 #[inline]
 pub(crate) fn is_blank(b: u8) -> bool
     ensures { result ≡ is_blank b }
@@ -17,14 +17,14 @@ fn is_allowed(b: u8) -> bool
     matches!(b, b' '..=b'~' | b'\t' | b'\r')
 }
 
-/// Whether every byte of the line is allowed.
+/// Whether a line may have each of these bytes: 0x20 to 0x7e, tab and carriage return.
 pub fn is_text(line: &[u8]) -> bool
     ensures { result ≡ is_text line.now }
 {
     line.iter().all(|b| is_allowed(*b))
 }
 
-/// Whether a word makes its line a comment.
+/// Whether a line with this first word is a comment: the word begins with `#`.
 pub fn is_comment(word: &[u8]) -> bool
     ensures { result ≡ is_comment word.now }
 {
@@ -64,7 +64,8 @@ fn word_end(bytes: &[u8]) -> usize
     first_blank(bytes).unwrap_or(bytes.len())
 }
 
-/// The first word, and what stands behind it.
+/// The first word, and the bytes behind it; none if there is no word. Spaces, tabs and carriage
+/// returns separate words.
 pub fn next_word(bytes: &[u8]) -> Option<(&[u8], &[u8])>
     ensures words { MatchOption result (words bytes.now ≡ [])
         (λ both. words bytes.now ≡ both.0.now ∷ words both.1.now) }
