@@ -6,27 +6,28 @@ use lk_machine::Counts;
 use lk_stream::ReplayFault;
 use lk_text::WriteFault;
 
-/// A run that was replayed whole.
+/// What a replay of a whole trace came to.
 #[derive(Clone, Copy, Debug, PartialEq, Eq)]
 pub struct Summary {
-    /// How many acts were made, those that changed nothing included.
+    /// The number of acts, those that changed nothing included.
     pub acts: u64,
-    /// How many events were written.
+    /// The number of events. Each has a line in the transcript.
     pub events: u64,
-    /// How often the run took each of ten ways.
+    /// The ten counts of the closing lines.
     pub counts: Counts,
 }
 
-/// Why a run was cut short. It takes no memory.
+/// Why a trace was not replayed to its end, behind its line `go`. No memory is taken there.
 #[derive(Clone, Copy, Debug, PartialEq, Eq)]
 pub enum RunFault {
-    /// The grammar refuses a line, or the end of the input; lines are numbered from 1.
+    /// The grammar refuses the line of this number, or the end of the input in its place. Lines are
+    /// numbered from 1. The events of the lines before it were written, and no closing lines.
     BadInput { line: u64, fault: Fault },
-    /// A line passes a limit.
+    /// The line of this number passes a limit. The events of the lines before it were written.
     Limit { line: u64, which: Which },
-    /// The source answered a fault.
+    /// A read failed. The events of the lines that were read whole were written.
     ReadFault,
-    /// The sink answered a fault.
+    /// A write failed. A prefix of the transcript was written.
     WriteFault,
 }
 

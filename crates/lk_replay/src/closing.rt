@@ -13,7 +13,12 @@ use lk_text::{Block, Sink, WriteFault};
 // How many counts a transcript tells.
 const COUNTS: u32 = 10;
 
-/// Writes what waits, and then the closing lines: how many acts there were, and the ten counts.
+/// Writes the bytes that wait in the block, and then the closing lines: the number of acts, and the
+/// ten counts.
+///
+/// # Errors
+///
+/// A write failed. A prefix of these bytes was written.
 pub fn write_closing<K: Sink>(
     block: &mut Block,
     sink: &mut K,

@@ -9,7 +9,7 @@ use crate::answers::RunFault;
 use lk_forms::{LineRefusal, Which};
 use lk_text::LineFault;
 
-/// What a fault of the reader means at this line.
+/// The fault of a run whose reader of lines answered this fault for the line of this number.
 pub(crate) fn cut_fault(line: u64, fault: LineFault) -> RunFault
     ensures { result ≡ cut_at line fault }
 {
@@ -26,7 +26,7 @@ pub(crate) fn cut_fault(line: u64, fault: LineFault) -> RunFault
     }
 }
 
-/// What a refusal of this line means, where it needed no memory.
+/// The fault of a run whose line of this number was refused for this reason, which is not `Memory`.
 pub(crate) fn refusal_fault(line: u64, why: LineRefusal) -> RunFault
     requires { why ≢ LineRefusal.Memory }
     ensures { as_replay_fault result ≡ refused_fault line why }

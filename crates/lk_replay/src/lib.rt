@@ -1,5 +1,5 @@
-//! Replays a trace in fixed memory: a line is read, its acts are made and their events written,
-//! before the next one is read. All memory is taken before the schedule begins.
+//! Replays a trace through a buffer of fixed size. It reads a line, makes its acts and writes their
+//! events, and then reads the next line. All memory is taken before the first act.
 #![tactic(auto)]
 
 mod answers;

@@ -21,7 +21,7 @@ use lk_text::{Block, LineReader, Sink, Source};
 use std::alloc::Global;
 use std::marker::Model;
 
-/// A replay whose header was read. It has all the memory that it needs, and can go on.
+/// A replay whose header was read. It has all the memory that the schedule needs.
 #[derive(Drop)]
 pub struct Replayer {
     state: Replaying,
@@ -39,8 +39,12 @@ impl Model for Replayer {
 }
 
 impl Replayer {
-    /// Reads the header up to the line `go`, and takes all memory. It answers every fault but that
-    /// of writing.
+    /// Reads the header of a trace up to the line `go`, and takes all the memory of the replay.
+    ///
+    /// # Errors
+    ///
+    /// The first line that is refused, a failed read, or not enough memory. It writes nothing, so
+    /// it never answers `WriteFault`.
     pub fn open<S: Source>(alloc: Global, source: &mut S) -> Result<Replayer, ReplayFault>
         ensures stands { IfOk result
             (λ replayer. (held : Option (List ℕ))
@@ -67,8 +71,14 @@ impl Replayer {
         })
     }
 
-    /// Reads on from the bytes that `open` took beyond the header, and then from the source, to the
-    /// end of the input, and writes the transcript. It takes no memory.
+    /// Reads the schedule to the end of the input, and writes the transcript. It begins with the
+    /// bytes that `open` read beyond the header, so the source has to be the same. It takes no
+    /// memory.
+    ///
+    /// # Errors
+    ///
+    /// The first line that is refused, a failed read or a failed write. [`RunFault`] says what was
+    /// written in each case.
     pub fn run<S: Source, K: Sink>(self, source: &mut S, sink: &mut K) -> Result<Summary, RunFault>
         ensures outcome { (input held : Option (List ℕ))
             → Stands input held self (S.left source.old) (K.held sink.old)

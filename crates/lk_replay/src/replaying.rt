@@ -1,5 +1,5 @@
-// A replay on its way: lines of the schedule are read one by one, and each one's acts are made.
-// What happens in them is written before the source is asked for more lines.
+// A replay behind its header. It reads a line of the schedule and makes its acts. Before it asks
+// the source for more lines it writes the events that wait.
 ghost use Rattle.std.specs.Prelude.{◌≡◌, ◌≤◌, ◌<◌, ◌++◌, ◌||◌, ℕ, List, [], Option, Ok, Err, true, IfOk, IfErr, OnOk, OnErr, length};
 ghost use Rattle.lk_text.specs.Causes.{HasCause};
 ghost use Rattle.lk_text.specs.Bytes.{AppendsFront, Conveys};
@@ -61,7 +61,7 @@ impl Replaying {
         }
     }
 
-    // Reads one line, and makes its acts: whether there may be more lines.
+    // Reads one line and makes its acts. Returns whether there may be more lines.
     fn turn<S: Source, K: Sink>(&mut self, source: &mut S, sink: &mut K) -> Result<bool, RunFault>
         requires { IsOpen self.old }
         ensures turns { (input held : Option (List ℕ))
@@ -92,7 +92,7 @@ impl Replaying {
         }
     }
 
-    // What the end of the input means: there are no more lines.
+    // The answer at the end of the input: `false`, there are no more lines, if `end` was read.
     fn end(&self) -> Result<bool, RunFault>
         ensures { result ≡ end_of self.now }
     {

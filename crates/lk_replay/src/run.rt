@@ -1,4 +1,4 @@
-// A run on its way: acts, made one after the other, and the lines of what happens in them.
+// The acts of a replay, made one after the other, and the lines of their events.
 ghost use Rattle.std.specs.Prelude.{◌≡◌, ◌≤◌, ◌<◌, ◌+◌, [], ◌++◌, IfOk, OnOk, OnErr, length, replicate};
 ghost use Rattle.lk_text.specs.Causes.{HasCause};
 ghost use Rattle.lk_text.specs.Bytes.{AppendsFront, Conveys};
@@ -18,7 +18,7 @@ use std::alloc::Global;
 // Room for the line of an event.
 const EVENT_ROOM: usize = 128;
 
-/// A machine, and how many acts were made on it and events told of it.
+/// A machine, the number of acts that were made on it, and the number of events that they told.
 #[derive(Drop)]
 pub(crate) struct Run {
     pub(crate) machine: Machine,
@@ -30,7 +30,7 @@ pub(crate) struct Run {
 impl Run {
     ghost use Rattle.lk_replay.specs.Run.{CanGoOn, RanTo, Makes, occurrences_in};
 
-    /// The machine at rest, on which no act was made. It takes all its memory here.
+    /// The machine of a setup, on which no act was made. It takes all its memory here.
     pub(crate) fn at_rest(alloc: Global, setup: Setup) -> Result<Run, Memory>
         requires { IsLawfulSetup setup }
         ensures nothing { IfOk result (λ run. RanTo run setup []) }
@@ -45,7 +45,7 @@ impl Run {
         })
     }
 
-    /// How many processors there are.
+    /// The number of processors.
     #[inline]
     pub(crate) fn cpus(&self) -> u32
         ensures { result ≡ length self.now.machine.cpus }
@@ -53,9 +53,9 @@ impl Run {
         self.machine.cpus()
     }
 
-    // Makes an act until it tells an event, so many times at most, and gives how often it was made.
-    // It knows no sink, so that there is one machine code of it, whoever replays. The acts are
-    // counted once, when it stops.
+    // Makes an act up to `times` times, and stops after one that tells an event. Returns how often
+    // the act was made. The function knows no sink, so that it is compiled once for all sinks. It
+    // adds to the count of acts once, when it stops.
     fn until_event(&mut self, act: Act, times: u64) -> (u64, Option<Event>)
         requires ready { CanGoOn self.old }
         requires few { self.old.acts + times ≤ 100000000 }
@@ -78,8 +78,8 @@ impl Run {
         (times, None)
     }
 
-    // Makes an act until it tells an event, so many times at most, writes that, and gives how often
-    // it was made.
+    // Makes an act up to `times` times, and stops after one that tells an event, which it writes.
+    // Returns how often the act was made.
     #[inline]
     fn make<K: Sink>(
         &mut self,
@@ -110,7 +110,7 @@ impl Run {
         Ok(made)
     }
 
-    /// Makes an act so many times, and writes what happens.
+    /// Makes an act `times` times, and writes the events that it tells.
     pub(crate) fn repeat<K: Sink>(
         &mut self,
         block: &mut Block,

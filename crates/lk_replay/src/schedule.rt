@@ -9,8 +9,8 @@ ghost use Rattle.lk_forms.specs.Schedule.{schedule_of};
 use lk_forms::{LineRefusal, Sched, front_step, schedule_line};
 use lk_text::{Block, LineFault, LineReader, Sink, Source, WriteFault};
 
-/// What the next line of the schedule says, if there is one, or why it is refused. Most lines are
-/// plain steps at hand, and are read where they stand.
+/// Reads the next line of the schedule. Returns what it says or why it is refused; none at the end
+/// of the input. Most lines are plain steps, and are read in the buffer of the reader.
 pub(crate) fn next_said<S: Source>(
     reader: &mut LineReader,
     source: &mut S,

@@ -15,7 +15,13 @@ use lk_stream::ReplayFault;
 use lk_text::{Sink, Source};
 use std::alloc::Global;
 
-/// Reads a trace to the end of the source, and writes its transcript to the sink.
+/// Replays a trace: reads it to the end of the source, and writes its transcript to the sink. It
+/// writes the events so far before it asks the source for more lines.
+///
+/// # Errors
+///
+/// The first line that is refused, by the first check that it fails; a failed read; a failed write;
+/// or not enough memory. [`ReplayFault`] says what was written in each case.
 pub fn replay<S: Source, K: Sink>(
     alloc: Global,
     source: &mut S,

@@ -5,27 +5,28 @@ use lk_abs::Memory;
 use lk_forms::{Fault, LineRefusal, Which};
 use lk_text::WriteFault;
 
-/// Why a text was cut short.
+/// Why a text was not read and obeyed to its end.
 #[derive(Clone, Copy, Debug, PartialEq, Eq)]
 pub enum ReplayFault {
-    /// The grammar refuses a line, or the end of the input; lines are numbered from 1.
+    /// The grammar refuses the line of this number, or the end of the input in its place. Lines are
+    /// numbered from 1. The output of the lines before it was written.
     BadInput { line: u64, fault: Fault },
-    /// A line passes a limit.
+    /// The line of this number passes a limit. The output of the lines before it was written.
     Limit { line: u64, which: Which },
-    /// The source answered a fault.
+    /// A read failed. The output of the lines that were read whole was written.
     ReadFault,
-    /// The sink answered a fault.
+    /// A write failed. A prefix of the output was written.
     WriteFault,
-    /// There was no memory; nothing was written.
+    /// There is not enough memory. Nothing was written.
     Memory,
 }
 
-/// Why a script does not go on behind a line.
+/// Why a script stops at a line.
 #[derive(Clone, Copy, Debug, PartialEq, Eq)]
 pub enum Stop {
     /// The line is refused.
     Refused(LineRefusal),
-    /// What it writes could not be written.
+    /// A write failed.
     WriteFault,
 }
 

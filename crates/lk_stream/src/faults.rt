@@ -7,7 +7,7 @@ use crate::answers::ReplayFault;
 use lk_forms::{Fault, LineRefusal, Which};
 use lk_text::LineFault;
 
-/// What a fault of the reader means at this line.
+/// The fault of a text whose reader of lines answered this fault for the line of this number.
 pub fn cut(line: u64, fault: LineFault) -> ReplayFault
     ensures { result ≡ cut_at line fault }
 {
@@ -24,7 +24,7 @@ pub fn cut(line: u64, fault: LineFault) -> ReplayFault
     }
 }
 
-/// What a refusal of this line means.
+/// The fault of a text whose line of this number was refused for this reason.
 pub fn refused(line: u64, why: LineRefusal) -> ReplayFault
     ensures { result ≡ refused_fault line why }
 {
@@ -35,8 +35,8 @@ pub fn refused(line: u64, why: LineRefusal) -> ReplayFault
     }
 }
 
-/// What the end of the input means in place of this line: there are no more lines, or this is
-/// wrong.
+/// The answer if the input ends in place of the line of this number: `false`, there are no more
+/// lines, or the fault that the script found in such an end.
 pub(crate) fn ended(line: u64, wrong: Option<Fault>) -> Result<bool, ReplayFault>
     ensures { result ≡ end_at line wrong }
 {

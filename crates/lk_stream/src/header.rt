@@ -1,4 +1,4 @@
-// The header of a trace, of which each reader of traces takes one line after the other.
+// The header of a trace, read line by line.
 ghost use Rattle.std.specs.Prelude.{◌≡◌, ◌≤◌, ℕ, List, Option, IfOk, IfErr, IfSome, Ok, None, true, false};
 ghost use Rattle.lk_text.specs.Reader.{is_ended, GaveLine, MetEnd, GaveFault};
 ghost use Rattle.lk_forms.specs.Grammar.{read, has_go};
@@ -7,7 +7,12 @@ ghost use Rattle.lk_forms.specs.Reader.{ReadsOn, reading};
 use lk_forms::{HeaderReader, HeaderStep, LineRefusal};
 use lk_text::{LineFault, LineReader, Source};
 
-/// What the header makes of the next line, if there is one.
+/// Reads the next line of a trace's header. Returns what the header answers to it; none at the end
+/// of the input. `header` must not have returned `Go`.
+///
+/// # Errors
+///
+/// A failed read, or a limit of bytes that is passed. The reader answers it from then on.
 pub fn next_header_step<S: Source>(
     header: &mut HeaderReader,
     reader: &mut LineReader,

@@ -1,5 +1,5 @@
-//! A text, read line by line in fixed memory: each line is obeyed before the next one is read. What
-//! the lines mean is left to a *script*, of which there is one for each grammar.
+//! Reads a text line by line through a buffer of fixed size, and obeys each line before it reads
+//! the next one. A *script* says what the lines mean. Each grammar has one.
 #![tactic(auto)]
 
 mod answers;

@@ -18,8 +18,12 @@ use crate::script::Script;
 use lk_text::{Block, LineFault, LineReader, Sink, Source, WriteFault};
 use std::alloc::Global;
 
-/// Puts what waits, where the source has to be asked for the next line: who waits for what comes of a
-/// line before it gives the next one gets it.
+/// Writes the bytes that wait in the block, if the reader has to ask the source for the next line.
+/// So whoever sends a line, and waits for its output before it sends the next one, gets it.
+///
+/// # Errors
+///
+/// A write failed. A prefix of the bytes that waited was written.
 pub fn put_before_read<K: Sink>(
     reader: &LineReader,
     block: &mut Block,
@@ -85,7 +89,7 @@ struct Stream<G> {
 }
 
 impl<G: Script + Drop> Stream<G> {
-    // Reads one line, and obeys it: whether there may be more lines.
+    // Reads one line and obeys it. Returns whether there may be more lines.
     fn turn<S: Source, K: Sink>(
         &mut self,
         source: &mut S,
@@ -204,13 +208,13 @@ impl<G: Script + Drop> Stream<G> {
     }
 }
 
-/// Reads a text to the end of the source and lets the script obey it, which it gives back. All
-/// memory but the script's is taken before the first line is read.
+/// Reads a text to the end of the source, lets the script obey it, and returns the script. All
+/// memory but the script's own is taken before the first line is read.
 ///
 /// # Errors
 ///
-/// The first line that is refused, a fault of the source or of the sink, or no memory, and then
-/// the sink is as it was.
+/// The first line that is refused, a failed read, a failed write, or not enough memory.
+/// [`ReplayFault`] says what was written in each case.
 pub fn follow<G: Script + Drop, S: Source, K: Sink>(
     alloc: Global,
     script: G,
