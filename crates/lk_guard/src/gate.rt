@@ -1,11 +1,11 @@
-// What a worker passes around each job.
+// What a worker calls around each job.
 
-/// What a worker passes before and after each job, outside all locks.
+/// What a worker calls before and after each job, while it holds no lock.
 pub trait Gate: Sync {
-    /// Is passed before the job with this number.
+    /// Called before the job of this number. The jobs of a worker are numbered from 1.
     fn before(&self, worker: u32, number: u32);
 
-    /// Is passed after it.
+    /// Called after the job of this number.
     fn after(&self, worker: u32, number: u32);
 }
 

@@ -1,4 +1,5 @@
-//! A ledger under lock 0: a write, a read, and all jobs of a worker.
+//! The ledger of a domain, which lock 0 guards: a write, a read, and all jobs of a worker. Each job
+//! is done in a critical section of its own.
 #![tactic(auto)]
 
 mod books;

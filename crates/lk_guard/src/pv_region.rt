@@ -24,7 +24,7 @@ use lk_abs::{Job, List, Reply, Seen};
 use lk_pvdomain::{PvCpu, PvDomain, pv_lock, pv_unlock};
 use std::sync::Wait;
 
-/// A domain whose waiters halt and whose one lock guards its ledger.
+/// A domain with the paravirtual lock, whose one lock guards its ledger.
 #[derive(Drop)]
 pub struct PvRegion {
     pub(crate) domain: PvDomain,
@@ -32,7 +32,7 @@ pub struct PvRegion {
 }
 
 impl PvRegion {
-    /// Puts the balances of a domain under its one lock.
+    /// Puts the ledger of a domain under its lock. The domain must have exactly one lock.
     pub fn new(domain: PvDomain) -> PvRegion
         requires { locks_of domain.plan ≡ 1 }
         ensures { result.domain ≡ domain }
@@ -40,7 +40,7 @@ impl PvRegion {
         PvRegion { domain }
     }
 
-    /// Gives the domain back.
+    /// Returns the domain.
     pub fn into_domain(self) -> PvDomain
         ensures { result ≡ self.domain }
     {
@@ -59,7 +59,7 @@ impl PvRegion {
         }
     }
 
-    // Takes the lock, and so begins a look.
+    // Acquires the lock, and so begins a look at the ledger.
     fn hold<R: Wait>(&self, cpu: &mut PvCpu, rt: &R)
         requires domain { IsOf cpu.old self.now.domain }
         requires free { IsFree cpu.old }
@@ -71,7 +71,7 @@ impl PvRegion {
         pv_lock(cpu, rt, &self.domain, FIRST);
     }
 
-    // Frees it, and so ends a look.
+    // Releases the lock, and so ends the look.
     fn end<R: Wait>(&self, cpu: &mut PvCpu, rt: &R)
         requires domain { IsOf cpu.old self.now.domain }
         requires rests { IsResting (calls_of cpu.old) }
@@ -84,8 +84,10 @@ impl PvRegion {
         pv_unlock(cpu, rt, &self.domain, FIRST);
     }
 
-    /// Does a `Move` or `Add` in a hold of the lock of its own, appends its entry to the journal,
-    /// and gives the reply. It takes no memory.
+    /// Does a `Move` or an `Add` in a critical section of its own, appends its entry to the
+    /// journal, and returns the reply. `number` is the number of the job, which the entry names.
+    /// The processor must hold nothing, and its share must have room for one more entry. It takes
+    /// no memory.
     pub fn write<R: Wait>(&self, cpu: &mut PvCpu, rt: &R, number: u32, job: Job) -> Reply
         requires domain { IsOf cpu.old self.now.domain }
         requires free { IsFree cpu.old }
@@ -109,8 +111,8 @@ impl PvRegion {
         reply
     }
 
-    /// Does a `Sum` or `Get` in a hold of the lock of its own. It gives the number of entries of the
-    /// journal then, and the reply. It takes no memory.
+    /// Does a `Sum` or a `Get` in a critical section of its own. Returns the number of entries that
+    /// the journal had then, and the reply. The processor must hold nothing. It takes no memory.
     pub fn read<R: Wait>(&self, cpu: &mut PvCpu, rt: &R, job: Job) -> (u64, Reply)
         requires domain { IsOf cpu.old self.now.domain }
         requires free { IsFree cpu.old }
@@ -161,8 +163,10 @@ impl PvRegion {
         }
     }
 
-    /// Does the jobs of one worker in their order, numbered from 1, each between `before` and
-    /// `after` of the gate, and keeps a record of each `Sum` and `Get`. It takes no memory.
+    /// Does the jobs of one worker in their order, numbered from 1. It calls `before` and `after`
+    /// of the gate around each job, and appends a record of each `Sum` and `Get` to `reads`, which
+    /// must have room for them. The processor's share must have room for the entries of the other
+    /// jobs. It takes no memory.
     pub fn work<G: Gate, R: Wait>(
         &self,
         cpu: &mut PvCpu,

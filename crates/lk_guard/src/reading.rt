@@ -1,4 +1,4 @@
-// A read of the ledger, in a hold of its lock.
+// A read of the ledger, in a critical section of its lock.
 ghost use Rattle.std.specs.Prelude.{◌≡◌, ◌<◌, false};
 ghost use Rattle.lk_abs.specs.Jobs.{IsAmong};
 ghost use Rattle.lk_abs.specs.Journal.{is_write};
@@ -41,7 +41,7 @@ impl Books<'_> {
         sum
     }
 
-    // Loads the version and all balances, and gives the version and the sum.
+    // Loads the version and all balances, and returns the version and the sum.
     fn look_at_all(&self, seat: &mut Right) -> (u64, Reply)
         requires seat { IsSeatOf self.now.plan.now self.now.table.now.shared.table_id seat.old }
         requires held { holds_first seat.old.me.0.calls }
@@ -57,7 +57,7 @@ impl Books<'_> {
         (count, Reply::Amount(sum))
     }
 
-    // Loads the version and one balance, and gives both.
+    // Loads the version and one balance, and returns both.
     fn look_at(&self, seat: &mut Right, account: u32) -> (u64, Reply)
         requires seat { IsSeatOf self.now.plan.now self.now.table.now.shared.table_id seat.old }
         requires held { holds_first seat.old.me.0.calls }
@@ -74,7 +74,7 @@ impl Books<'_> {
         (count, Reply::Amount(balance))
     }
 
-    // Loads the version and what the job asks, and gives the version and the reply.
+    // Loads the version and the balances that the job asks for. Returns the version and the reply.
     pub(crate) fn look(&self, seat: &mut Right, job: Job) -> (u64, Reply)
         requires seat { IsSeatOf self.now.plan.now self.now.table.now.shared.table_id seat.old }
         requires held { holds_first seat.old.me.0.calls }
@@ -96,9 +96,10 @@ impl Books<'_> {
 }
 
 impl Region {
-    /// Does a `Sum` or `Get` in a hold of the lock of its own, which other readers may have too
-    /// where it is a reader-writer lock. It gives the number of entries of the journal then, and
-    /// the reply. It polls `irq` while it waits for the lock, as `lock` does. It takes no memory.
+    /// Does a `Sum` or a `Get` in a critical section of its own. If the lock is a reader-writer
+    /// lock, other readers may be in theirs at the same time. Returns the number of entries that
+    /// the journal had then, and the reply. The processor must hold nothing. While it waits for the
+    /// lock it polls `irq`, as `lock` does. It takes no memory.
     pub fn read<I: Irq, R: Wait>(
         &self,
         cpu: &mut Cpu,

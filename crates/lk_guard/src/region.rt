@@ -26,7 +26,8 @@ pub struct Region {
 }
 
 impl Region {
-    /// Puts the balances of a domain under its one lock, which is of this kind.
+    /// Puts the ledger of a domain under its lock. The domain must have exactly one lock, and
+    /// `guard` must be its kind.
     pub fn new(domain: Domain, guard: Kind) -> Region
         requires alone { locks_of domain.plan ≡ 1 }
         requires kind { kind_at domain.plan 0 ≡ guard }
@@ -35,14 +36,14 @@ impl Region {
         Region { domain, guard }
     }
 
-    /// The kind of the lock.
+    /// The kind of the lock that guards the ledger.
     pub fn guard(&self) -> Kind
         ensures { result ≡ kind_at self.now.domain.plan 0 }
     {
         self.guard
     }
 
-    /// Gives the domain back.
+    /// Returns the domain.
     pub fn into_domain(self) -> Domain
         ensures { result ≡ self.domain }
     {
@@ -61,7 +62,8 @@ impl Region {
         }
     }
 
-    // Takes the lock for a read, and so begins a look: a spinlock alone, another beside readers.
+    // Acquires the lock for a read, and so begins a look at the ledger. A spinlock has one holder;
+    // a reader-writer lock is shared with other readers.
     pub(crate) fn hold_to_read<I: Irq, R: Wait>(&self, cpu: &mut Cpu, rt: &R, irq: &mut I)
         requires domain { IsOf cpu.old self.now.domain }
         requires idle { IsIdle cpu.old }
@@ -76,7 +78,7 @@ impl Region {
         }
     }
 
-    // Takes the lock for a write, alone, and so begins a look.
+    // Acquires the lock for a write, as its only holder, and so begins a look at the ledger.
     pub(crate) fn hold_to_write<I: Irq, R: Wait>(&self, cpu: &mut Cpu, rt: &R, irq: &mut I)
         requires domain { IsOf cpu.old self.now.domain }
         requires idle { IsIdle cpu.old }
@@ -91,7 +93,7 @@ impl Region {
         }
     }
 
-    // Frees the lock after a read, and so ends a look.
+    // Releases the lock after a read, and so ends the look.
     pub(crate) fn end_read(&self, cpu: &mut Cpu)
         requires domain { IsOf cpu.old self.now.domain }
         requires holding { IsHolding (reads_as (kind_at self.now.domain.plan 0)) cpu.old }
@@ -106,7 +108,7 @@ impl Region {
         }
     }
 
-    // Frees the lock after a write, and so ends a look.
+    // Releases the lock after a write, and so ends the look.
     pub(crate) fn end_write(&self, cpu: &mut Cpu)
         requires domain { IsOf cpu.old self.now.domain }
         requires holding { IsHolding (writes_as (kind_at self.now.domain.plan 0)) cpu.old }

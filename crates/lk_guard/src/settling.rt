@@ -14,7 +14,7 @@ use lk_abs::{Job, Reply};
 use lk_domain::Right;
 use lk_domain::ledger_steps::{accounts, load, store};
 
-/// No sum of balances reaches it.
+/// The sum of all balances stays below this amount.
 const FULL: u64 = 1 << 63;
 
 impl Books<'_> {
@@ -49,7 +49,7 @@ impl Books<'_> {
         sum
     }
 
-    // Makes the balance of an account this amount.
+    // Sets the balance of an account to this amount.
     fn put(&self, seat: &mut Right, account: u32, amount: u64)
         requires seat { IsSeatOf self.now.plan.now self.now.table.now.shared.table_id seat.old }
         requires held { holds_first seat.old.me.0.calls }
@@ -63,7 +63,7 @@ impl Books<'_> {
         store(seat, self.table, self.plan, account, amount);
     }
 
-    // Moves an amount, if the account has as much.
+    // Moves an amount from one account to another, if the first has so much.
     fn move_amount(&self, seat: &mut Right, from: u32, to: u32, amount: u64) -> Reply
         requires seat { IsSeatOf self.now.plan.now self.now.table.now.shared.table_id seat.old }
         requires held { holds_first seat.old.me.0.calls }

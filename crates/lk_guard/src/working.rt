@@ -15,7 +15,7 @@ use lk_domain::Cpu;
 use lk_run::NoIrq;
 use std::sync::Wait;
 
-/// Whether a job may change balances.
+/// Whether a job may change a balance: a `Move` or an `Add` may.
 pub fn writes(job: Job) -> bool
     ensures { result ≡ is_write job }
 {
@@ -50,8 +50,10 @@ impl Region {
         }
     }
 
-    /// Does the jobs of one worker in their order, numbered from 1, each between `before` and
-    /// `after` of the gate, and keeps a record of each `Sum` and `Get`. It takes no memory.
+    /// Does the jobs of one worker in their order, numbered from 1. It calls `before` and `after`
+    /// of the gate around each job, and appends a record of each `Sum` and `Get` to `reads`, which
+    /// must have room for them. The processor's share must have room for the entries of the other
+    /// jobs. It takes no memory.
     pub fn work<G: Gate, R: Wait>(
         &self,
         cpu: &mut Cpu,

@@ -1,4 +1,4 @@
-// A write to the ledger, in a hold of its lock.
+// A write to the ledger, in a critical section of its lock.
 ghost use Rattle.std.specs.Prelude.{◌≡◌, ◌<◌, ◌≤◌, true, Some, None};
 ghost use Rattle.lk_abs.specs.Jobs.{IsAmong};
 ghost use Rattle.lk_abs.specs.Journal.{is_write};
@@ -27,7 +27,7 @@ pub(crate) struct Task {
 }
 
 impl Books<'_> {
-    // Takes the journal out, does the job on the balances, and brings the journal home with its
+    // Takes the journal out, does the job on the balances, and brings the journal back with its
     // entry.
     pub(crate) fn append(&self, seat: &mut Right, task: Task) -> Reply
         requires seat { IsSeatOf self.now.plan.now self.now.table.now.shared.table_id seat.old }
@@ -63,9 +63,10 @@ impl Books<'_> {
 }
 
 impl Region {
-    /// Does a `Move` or `Add` in a hold of the lock of its own, appends its entry to the journal,
-    /// and gives the reply. It polls `irq` while it waits for the lock, as `lock` does. It takes no
-    /// memory.
+    /// Does a `Move` or an `Add` in a critical section of its own, appends its entry to the
+    /// journal, and returns the reply. `number` is the number of the job, which the entry names.
+    /// The processor must hold nothing, and its share must have room for one more entry. While it
+    /// waits for the lock it polls `irq`, as `lock` does. It takes no memory.
     pub fn write<I: Irq, R: Wait>(
         &self,
         cpu: &mut Cpu,
