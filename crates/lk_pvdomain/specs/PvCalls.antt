@@ -20,8 +20,8 @@ pub record IsResting (c : Calls) : Type 0 where
 abbrev pub own_node : PvCpu → NodeName
 own_node cpu = record { cpu = cpu.number; index = 0 }
 
--- A call of this operation has taken the lock: its rows lead from the first one to one that grants, and
--- it holds the lock besides what it held. A look at the ledger has begun with lock 0.
+-- A call of this operation has acquired the lock: its rows lead from the first one to one that grants,
+-- and it holds the lock besides what it held. A look at the ledger has begun with lock 0.
 pub record HasTakenBy (v : Verb) (d : PvDomain) (l : ℕ) (old new : PvCpu) : Type 0 where
   pub took : Took d v l (own_node old) (first_of v l old.seat) new.seat
   pub rests : IsResting new.seat.me.0.calls
@@ -34,7 +34,7 @@ pub record HasMissed (d : PvDomain) (l : ℕ) (old new : PvCpu) : Type 0 where
   pub missed : Ended d Try l (own_node old) (first_of Try l old.seat) Unchanged new.seat
   pub rests : IsResting new.seat.me.0.calls
 
--- A release has freed the lock: its rows lead from the first one to one that frees, by U2 alone, or by U4
+-- A call has released the lock: its rows lead from the first one to one that frees, by U2 alone, or by U4
 -- with U5 behind it, which changes nothing of what is held. What it held of the lock is gone. A look at the
 -- ledger has ended with lock 0.
 pub record HasFreed (d : PvDomain) (l : ℕ) (old new : PvCpu) : Type 0 where

@@ -176,7 +176,7 @@ pub record Spares (own before : NodeName) (n : ℕ) (f : Frame) : Type 0 where
   pub prev : f.prev ≡ Some before
   pub left : f.left ≡ n
 
--- it leads the queue, and knows whether its lock is entered in the hash
+-- it is the queue head, and knows whether its lock is entered in the hash
 pub record Leads (own : NodeName) (hashed : Bool) (f : Frame) : Type 0 where
   pub me : f.me ≡ Some own
   pub hashed_is : f.hashed ≡ hashed

@@ -64,7 +64,7 @@ pub record AtLast (own : NodeName) (verb : Verb) (lock : LockName) (v : View) : 
   pub stands : StandsOn v.calls verb lock E13
   pub me : stands.frame.me ≡ Some own
 
--- it hands the lead on to the one with this node
+-- it hands off to the waiter of this node
 pub record AtHand (to : NodeName) (v : View) : Type 0 where
   pub verb : Verb
   pub lock : LockName
@@ -195,7 +195,7 @@ pub record TriedBy {S : Type 0} (fails : Fields → Bool) (verb : Verb) (lock : 
   pub makes : (met ≡ expected) ⊎ (fails found ≡ true) → n ≡ (made m.0 verb lock.index (Word found), m.1)
   pub stays : met ≢ expected → fails found ≡ false → n ≡ m
 
--- where the swap of a release, of a front that tries, and of a thief fails
+-- where the swap of a release, of a queue head that tries, and of a call that steals fails
 abbrev pub release_fails : Fields → Bool
 release_fails x = not (is_held x.locked)
 

@@ -28,7 +28,7 @@ state_told W3 = Halted
 state_told E10 = Hashed
 state_told _ = Running
 
--- an exchange of the state that says halted: of the own for running, and of the next one's for hashed
+-- a swap of a halted state: of the own to running, and of the successor's to hashed
 abbrev pub rouses : Pc → Bool
 rouses W7 = true
 rouses K1 = true
@@ -92,7 +92,7 @@ abbrev pub drops : Pc → Bool
 drops U4 = true
 drops _ = false
 
--- the pending bit is cleared, which the front has set
+-- the pending bit is cleared, which the queue head has set
 abbrev pub relents : Pc → Bool
 relents E5 = true
 relents _ = false
@@ -102,7 +102,7 @@ abbrev pub quits : Pc → Bool
 quits E13 = true
 quits _ = false
 
--- a swap that is tried again: of a release, of a front, of a thief
+-- a swap that is tried again: of a release, of a queue head, of a call that steals
 abbrev pub tries_release : Pc → Bool
 tries_release U2 = true
 tries_release _ = false
@@ -121,7 +121,7 @@ looks_flag W1 = true
 looks_flag W4 = true
 looks_flag _ = false
 
--- the lock is put into the hash, with the own node or with the next one's
+-- the lock is put into the hash, with the own node or with the successor's
 abbrev pub fills : Pc → Bool
 fills E6 = true
 fills K3 = true

@@ -1,5 +1,5 @@
-// A call that has found its lock taken: it may steal the lock, and else joins the queue. The rows G1, H1,
-// H2, G4 and G5.
+// A call that has found its lock held: it may steal the lock, and else joins the queue. The rows
+// G1, H1, H2, G4 and G5.
 ghost use Rattle.std.specs.Prelude.{◌≡◌, ◌&&◌, not, is_some, true, false, None, Some, IfSome};
 ghost use Rattle.lk_machine.specs.declared.parts.Pc.TheVariants.{E1, G1, G4, G5, H1, H2, W1};
 ghost use Rattle.lk_machine.specs.declared.setup.Verb.TheVariants.{Lock};
@@ -32,14 +32,14 @@ pub(crate) fn enter(seat: &mut Right, domain: &PvDomain, lock: u32, own: NodeNam
     states::enter(seat, domain, Verb::Lock, own);
 }
 
-// Whether a thief may take the lock, by the word.
+// Whether a call may steal the lock: the byte is free and nobody pends.
 fn is_open(word: Fields) -> bool
     ensures { result ≡ (unlocked word.locked && not word.pending) }
 {
     is_unlocked(word) && !word.pending
 }
 
-// Whether it looks again.
+// Whether a call that may not steal reads the word again: there is a queue and nobody pends.
 fn is_passing(word: Fields) -> bool
     ensures { result ≡ (is_some word.tail && not word.pending) }
 {
@@ -52,7 +52,7 @@ fn is_queued(word: Fields) -> bool
     word.tail.is_some()
 }
 
-// The row H1: gives the word.
+// The row H1. Returns the word.
 fn glance(seat: &mut Right, domain: &PvDomain, lock: u32, own: NodeName) -> Fields
     requires at { (s : Start) × At domain.now Lock lock own s H1 (Owns own) seat.old }
     ensures goes { (s : Start) → At domain.now Lock lock own s H1 (Owns own) seat.old
@@ -64,7 +64,7 @@ fn glance(seat: &mut Right, domain: &PvDomain, lock: u32, own: NodeName) -> Fiel
     word_met(domain, met)
 }
 
-// The row H2: true where it took the lock.
+// The row H2. Returns whether it acquired the lock.
 fn swap<R: Wait>(
     seat: &mut Right,
     rt: &R,
@@ -92,7 +92,7 @@ fn swap<R: Wait>(
     false
 }
 
-// The rows H1 and H2 once: whether it took the lock, or joins the queue; none where it looks again.
+// The rows H1 and H2 once. Returns whether it acquired the lock; none if it tries once more.
 fn round<R: Wait>(
     seat: &mut Right,
     rt: &R,
@@ -128,7 +128,7 @@ fn round<R: Wait>(
     Some(false)
 }
 
-// From H1: true where it took the lock, and else it joins the queue.
+// From H1 on. Returns whether it acquired the lock; else it joins the queue.
 pub(crate) fn steal<R: Wait>(
     seat: &mut Right,
     rt: &R,
@@ -155,7 +155,7 @@ pub(crate) fn steal<R: Wait>(
     unreachable!()
 }
 
-// The row G4: gives the node before it in the queue, if there is one.
+// The row G4. Returns the node of its predecessor, if it has one.
 pub(crate) fn arrive<R: Wait>(
     seat: &mut Right,
     rt: &R,

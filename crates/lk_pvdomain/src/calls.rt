@@ -18,7 +18,7 @@ use lk_domain::{LockId, Right};
 use lk_word::NodeName;
 use std::sync::Wait;
 
-// The row F1: true where it took the lock.
+// The row F1. Returns whether it acquired the lock.
 fn fast(seat: &mut Right, domain: &PvDomain, lock: u32, own: NodeName) -> bool
     requires rests { Rests domain.now own seat.old }
     requires lock { lock < locks_of domain.now.plan }
@@ -34,7 +34,7 @@ fn fast(seat: &mut Right, domain: &PvDomain, lock: u32, own: NodeName) -> bool
     false
 }
 
-// From E1: it leads the queue.
+// From E1 on: it is the queue head.
 fn head<R: Wait>(seat: &mut Right, rt: &R, domain: &PvDomain, lock: u32, own: NodeName)
     requires at { (s : Start) × At domain.now Lock lock own s E1 (Owns own) seat.old }
     ensures took { (s : Start) → At domain.now Lock lock own s E1 (Owns own) seat.old
@@ -44,7 +44,7 @@ fn head<R: Wait>(seat: &mut Right, rt: &R, domain: &PvDomain, lock: u32, own: No
     handing::hand(seat, rt, domain, lock, own);
 }
 
-// From G5: it comes behind another.
+// From G5 on: it has a predecessor.
 fn follow<R: Wait>(
     seat: &mut Right,
     rt: &R,
@@ -63,7 +63,7 @@ fn follow<R: Wait>(
     head(seat, rt, domain, lock, own);
 }
 
-// From G4: it joins the queue.
+// From G4 on: it joins the queue.
 fn queue<R: Wait>(seat: &mut Right, rt: &R, domain: &PvDomain, lock: u32, own: NodeName)
     requires at { (s : Start) × At domain.now Lock lock own s G4 (Owns own) seat.old }
     ensures took { (s : Start) → At domain.now Lock lock own s G4 (Owns own) seat.old
@@ -75,7 +75,8 @@ fn queue<R: Wait>(seat: &mut Right, rt: &R, domain: &PvDomain, lock: u32, own: N
     }
 }
 
-// From G1: it steals the lock, or joins the queue. It is out of the way of a call that nobody delays.
+// From G1 on: it steals the lock, or joins the queue. It is a function of its own, to keep the code
+// of an uncontended call short.
 #[inline(never)]
 fn contend<R: Wait>(seat: &mut Right, rt: &R, domain: &PvDomain, lock: u32, own: NodeName)
     requires at { (s : Start) × At domain.now Lock lock own s G1 Any seat.old }
@@ -89,7 +90,11 @@ fn contend<R: Wait>(seat: &mut Right, rt: &R, domain: &PvDomain, lock: u32, own:
     queue(seat, rt, domain, lock, own);
 }
 
-/// Takes the lock: it waits until it has it, and halts between two looks where that takes long.
+/// Acquires the lock, and returns once the processor holds it. A waiter spins for at most as many
+/// turns as the plan says. Then it halts until it is kicked: its thread parks. The processor must
+/// be in no call, and must not hold this lock.
+///
+/// This is Linux's `queued_spin_lock`, with `__pv_queued_spin_lock_slowpath` behind it.
 #[inline]
 pub fn pv_lock<R: Wait>(cpu: &mut PvCpu, rt: &R, domain: &PvDomain, lock: LockId)
     requires domain { IsOf cpu.old domain.now }
@@ -109,7 +114,11 @@ pub fn pv_lock<R: Wait>(cpu: &mut PvCpu, rt: &R, domain: &PvDomain, lock: LockId
     contend(&mut cpu.seat, rt, domain, lock.index, own);
 }
 
-/// Frees a lock that the processor holds; where its byte is slow it kicks the one that waits for that.
+/// Releases a lock that the processor holds. If the locked byte is slow (Linux's `_Q_SLOW_VAL`), it
+/// then kicks the processor of the waiter that the hash names. The processor must be in no call,
+/// and must have brought the journal back before it releases lock 0.
+///
+/// This is Linux's `__pv_queued_spin_unlock`.
 #[inline]
 pub fn pv_unlock<R: Wait>(cpu: &mut PvCpu, rt: &R, domain: &PvDomain, lock: LockId)
     requires domain { IsOf cpu.old domain.now }
@@ -132,7 +141,7 @@ pub fn pv_unlock<R: Wait>(cpu: &mut PvCpu, rt: &R, domain: &PvDomain, lock: Lock
     freeing::wake_next(&mut cpu.seat, domain, lock.index, own);
 }
 
-// The rows T1 and T2: true where it took the lock.
+// The rows T1 and T2. Returns whether it acquired the lock.
 fn attempt(seat: &mut Right, domain: &PvDomain, lock: u32, own: NodeName) -> bool
     requires rests { Rests domain.now own seat.old }
     requires lock { lock < locks_of domain.now.plan }
@@ -151,7 +160,11 @@ fn attempt(seat: &mut Right, domain: &PvDomain, lock: u32, own: NodeName) -> boo
     false
 }
 
-/// Takes the lock where its word is free, and says whether it did.
+/// Tries once to acquire the lock, without waiting. Returns `true` if the processor now holds it,
+/// and `false` if a step of the call did not find the word free. The processor must be in no call,
+/// and must not hold this lock.
+///
+/// This is Linux's `queued_spin_trylock`.
 pub fn pv_try_lock(cpu: &mut PvCpu, domain: &PvDomain, lock: LockId) -> bool
     requires domain { IsOf cpu.old domain.now }
     requires lock { lock.index < locks_of domain.now.plan }

@@ -4,18 +4,20 @@ ghost use Rattle.lk_domain.specs.Plays.{carried_with};
 
 use lk_domain::Right;
 
-/// A processor: the right to step in a domain whose waiters halt.
+/// A processor of a [`PvDomain`](crate::PvDomain). The thread that has it may call the locks of
+/// that domain.
 #[derive(Drop)]
 pub struct PvCpu {
     pub(crate) number: u32,
-    /// Its right to step: what steps at the ledger takes it, and leaves it a seat of the processor.
+    /// Its seat, which is its right to step. A step of the ledger takes the seat, and leaves a seat
+    /// of the same processor.
     pub seat: Right,
     ghost numbered: { seat.me.0.who.number ≡ Some number },
     ghost carried: { seat.me.1 ≡ carried_with seat.me.0.ledger.out },
 }
 
 impl PvCpu {
-    /// Its number, from 0.
+    /// Its number, counted from 0.
     pub fn number(&self) -> u32
         ensures { result ≡ self.now.number }
     {

@@ -13,12 +13,12 @@ use lk_machine::State;
 use lk_word::{Layout, NodeName};
 use std::alloc::Global;
 
-/// Locks for processors that really run and halt, and a ledger under them.
+/// Paravirtual locks that threads acquire, and a ledger that lock 0 guards.
 #[derive(Drop)]
 pub struct PvDomain {
-    /// The table of its words.
+    /// The table of its atomic words.
     pub table: Table<Option<Journal>, View, Plan, Order, Global>,
-    /// What it was made of.
+    /// The plan of the table. Its `threshold` is the spin bound of the waiters, in turns.
     pub plan: Plan,
     ghost lawful: { IsRunningPlan plan },
     ghost halting: { halts plan.mode ≡ true },
@@ -28,7 +28,7 @@ pub struct PvDomain {
 }
 
 impl PvDomain {
-    /// How many accounts its ledger has.
+    /// The number of accounts of its ledger, at most 64.
     pub fn accounts(&self) -> u32
         ensures { result ≡ accounts_of self.now.plan }
     {
@@ -46,7 +46,7 @@ impl PvDomain {
         }
     }
 
-    // For how many turns a waiter spins before it halts.
+    // The spin bound: how many turns a waiter spins before it halts.
     pub(crate) fn turns(&self) -> u32
         ensures { result ≡ turns_of self.now.plan }
     {
@@ -118,7 +118,7 @@ impl PvDomain {
         2 + (4 * node.cpu as u64 + node.index as u64)
     }
 
-    // Where the words begin of which this family alone has need.
+    // Where the words begin that only this family needs.
     pub(crate) fn far(&self) -> usize
         ensures { result ≡ far_of self.now.plan }
     {
@@ -137,7 +137,7 @@ impl PvDomain {
         self.far() + (4 * node.cpu as usize + node.index as usize)
     }
 
-    // Where it stands whether a kick of a processor is remembered.
+    // Where the kick word of a processor stands: whether a kick of it is remembered.
     pub(crate) fn kick_of(&self, cpu: u32) -> usize
         requires { cpu < cpus_of self.now.plan }
         ensures { result ≡ kick_at self.now.plan cpu }

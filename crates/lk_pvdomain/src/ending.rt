@@ -14,7 +14,7 @@ use lk_domain::{Right, ledger_steps};
 use std::alloc::Global;
 use std::snapshot::Snapshot;
 
-/// What a domain left.
+/// What a domain leaves when it is closed.
 #[derive(Drop)]
 pub struct PvClosed {
     pub(crate) balances: List<u64>,
@@ -23,22 +23,25 @@ pub struct PvClosed {
     pub(crate) cpus: Snapshot<List<PvCpu>>,
 }
 
-/// Memory was wanting for the end of a domain: it and its processors are as before.
+/// There was not enough memory to close the domain. The domain and its processors are as they were
+/// before the call.
 #[derive(Drop)]
 pub struct PvBack {
+    /// The domain.
     pub domain: PvDomain,
+    /// All its processors, in the order in which they were given.
     pub cpus: List<PvCpu>,
 }
 
 impl PvClosed {
-    /// The balances after the journal.
+    /// The balances at the end, one for each account.
     pub fn balances(&self) -> &List<u64>
         ensures { result.now ≡ self.now.balances }
     {
         &self.balances
     }
 
-    /// The journal.
+    /// The journal: the entries of all processors, in order.
     pub fn journal(&self) -> &List<Entry>
         ensures { result.now ≡ self.now.journal }
     {
@@ -63,7 +66,13 @@ fn join_all(domain: &PvDomain, mut cpus: List<PvCpu>) -> Right
     last
 }
 
-/// The end of a domain, with all its processors, of which none holds or waits.
+/// Closes a domain. It takes all its processors back, in the order of their numbers. None of them
+/// may hold a lock or be in a call.
+///
+/// # Errors
+///
+/// There is not enough memory for the balances. [`PvBack`] gives the domain and the processors
+/// back.
 pub fn pv_close(alloc: Global, domain: PvDomain, cpus: List<PvCpu>) -> Result<PvClosed, PvBack>
     requires all { length cpus.items ≡ cpus_of domain.plan }
     requires rest { AllRest domain cpus.items }

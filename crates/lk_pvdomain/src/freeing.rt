@@ -15,7 +15,7 @@ use lk_machine::Verb;
 use lk_word::NodeName;
 use std::sync::Wait;
 
-// The row U2: true where it freed the lock.
+// The row U2. Returns whether it released the lock.
 #[inline]
 pub(crate) fn release<R: Wait>(
     seat: &mut Right,
@@ -47,7 +47,8 @@ pub(crate) fn release<R: Wait>(
     false
 }
 
-// The rows U3 to U5: it takes the entry out of the hash, frees the lock, and kicks whom the entry named.
+// The rows U3 to U5: it takes the entry out of the hash, frees the lock, and kicks the processor of
+// the node that the entry named.
 #[inline(never)]
 pub(crate) fn wake_next(seat: &mut Right, domain: &PvDomain, lock: u32, own: NodeName)
     requires at { (s : Start) × At domain.now Unlock lock own s U3 Any seat.old }

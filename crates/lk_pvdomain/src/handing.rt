@@ -1,4 +1,4 @@
-// A front that has taken the lock, until it has left the queue: the rows E13 to K3.
+// A queue head that has acquired the lock, until it has left the queue: the rows E13 to K3.
 ghost use Rattle.std.specs.Prelude.{◌≡◌};
 ghost use Rattle.lk_machine.specs.declared.parts.Pc.TheVariants.{E13, E14, E15};
 ghost use Rattle.lk_machine.specs.declared.setup.Verb.TheVariants.{Lock};
@@ -14,8 +14,8 @@ use lk_machine::{State, Verb};
 use lk_word::NodeName;
 use std::sync::Wait;
 
-// The row E14, until the one behind has linked itself. One has come, since the tail is not this call's
-// node, and it will.
+// The row E14, until the successor has linked itself. There is one, since the tail is not this
+// call's node.
 fn next<R: Wait>(seat: &mut Right, rt: &R, domain: &PvDomain, lock: u32, own: NodeName) -> NodeName
     requires at { (s : Start) × At domain.now Lock lock own s E14 (Owns own) seat.old }
     ensures node { IsNode domain.now.plan result }
@@ -33,8 +33,8 @@ fn next<R: Wait>(seat: &mut Right, rt: &R, domain: &PvDomain, lock: u32, own: No
     unreachable!()
 }
 
-// The rows E15 to K3: the lead goes to the next. Where that has halted, the lock is entered in the hash
-// for it, and its byte made slow, so that the release kicks it.
+// The rows E15 to K3: it hands off to its successor. If that has halted, the byte becomes slow and
+// the hash gets an entry for the successor, so that the release kicks it.
 fn pass<R: Wait>(
     seat: &mut Right,
     rt: &R,
@@ -56,7 +56,7 @@ fn pass<R: Wait>(
     hash::put_in(seat, rt, domain, lock, to);
 }
 
-// From E13: it leaves the queue as its last one, or hands the lead on.
+// From E13 on: it leaves the queue as the last in it, or hands off.
 pub(crate) fn hand<R: Wait>(seat: &mut Right, rt: &R, domain: &PvDomain, lock: u32, own: NodeName)
     requires at { (s : Start) × At domain.now Lock lock own s E13 (Owns own) seat.old }
     ensures took { (s : Start) → At domain.now Lock lock own s E13 (Owns own) seat.old

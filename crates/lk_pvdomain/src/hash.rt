@@ -15,8 +15,8 @@ use lk_domain::Right;
 use lk_word::NodeName;
 use std::sync::Wait;
 
-// Puts the lock into the hash at a place, if that is empty: the rows E6, with the own node, and K3, with
-// the next one's.
+// Puts the lock into the hash at a place, if that is empty: the rows E6, with the own node, and K3,
+// with the successor's.
 pub(crate) fn fill(
     seat: &mut Right,
     domain: &PvDomain,
@@ -85,7 +85,7 @@ pub(crate) fn look_place(seat: &mut Right, domain: &PvDomain, lock: u32, place: 
     met
 }
 
-// Finds the place of the lock's entry, by one look at each.
+// Finds the place of the lock's entry. It reads each place at most once.
 pub(crate) fn find(seat: &mut Right, domain: &PvDomain, lock: u32) -> usize
     requires table { seat.old.table_id ≡ domain.now.table.shared.table_id }
     requires number { IsNumbered seat.old.me.0 }
@@ -123,7 +123,7 @@ pub(crate) fn erase(seat: &mut Right, domain: &PvDomain, lock: u32, place: usize
     met
 }
 
-// Finds the entry of the lock and takes it out: the rows U3 and E9, with the looks before them.
+// Finds the entry of the lock and takes it out: the rows U3 and E9, with the reads before them.
 pub(crate) fn take_out(seat: &mut Right, domain: &PvDomain, lock: u32) -> u64
     requires table { seat.old.table_id ≡ domain.now.table.shared.table_id }
     requires number { IsNumbered seat.old.me.0 }

@@ -10,7 +10,7 @@ use crate::rule::{Glances, HaltLooks, KickStores, Wakings};
 use lk_domain::Right;
 use std::sync::Wait;
 
-// The processor halts, by a look at its kick word: the rows W6 and E12.
+// The processor halts, in a read of its kick word: the rows W6 and E12.
 pub(crate) fn halt(seat: &mut Right, domain: &PvDomain, cpu: u32) -> u64
     requires table { seat.old.table_id ≡ domain.now.table.shared.table_id }
     requires number { seat.old.me.0.who.number ≡ Some cpu }
@@ -25,7 +25,7 @@ pub(crate) fn halt(seat: &mut Right, domain: &PvDomain, cpu: u32) -> u64
     met
 }
 
-// A look of a halted processor at its kick word.
+// A halted processor reads its kick word.
 pub(crate) fn glance(seat: &mut Right, domain: &PvDomain, cpu: u32) -> u64
     requires table { seat.old.table_id ≡ domain.now.table.shared.table_id }
     requires cpu { cpu < cpus_of domain.now.plan }
@@ -37,7 +37,7 @@ pub(crate) fn glance(seat: &mut Right, domain: &PvDomain, cpu: u32) -> u64
     met
 }
 
-// Takes the kick, which ends the halt, if there is one.
+// Takes the kick, if there is one, which ends the halt.
 pub(crate) fn wake(seat: &mut Right, domain: &PvDomain, cpu: u32) -> u64
     requires table { seat.old.table_id ≡ domain.now.table.shared.table_id }
     requires number { seat.old.me.0.who.number ≡ Some cpu }
@@ -52,7 +52,7 @@ pub(crate) fn wake(seat: &mut Right, domain: &PvDomain, cpu: u32) -> u64
     met
 }
 
-// Sleeps until a kick ends the halt: it parks between two looks at the kick word.
+// Sleeps until a kick ends the halt: the thread parks on the kick word while that is 0.
 pub(crate) fn sleep<R: Wait>(seat: &mut Right, rt: &R, domain: &PvDomain, cpu: u32)
     requires table { seat.old.table_id ≡ domain.now.table.shared.table_id }
     requires number { seat.old.me.0.who.number ≡ Some cpu }
@@ -73,7 +73,8 @@ pub(crate) fn sleep<R: Wait>(seat: &mut Right, rt: &R, domain: &PvDomain, cpu: u
     unreachable!()
 }
 
-// Kicks the processor of the target: the row U5, and then it wakes who parks on that word.
+// Kicks this processor, which is the row U5, and then wakes a thread that is parked on its kick
+// word.
 pub(crate) fn kick(seat: &mut Right, domain: &PvDomain, target: u32) -> u64
     requires table { seat.old.table_id ≡ domain.now.table.shared.table_id }
     requires number { IsNumbered seat.old.me.0 }

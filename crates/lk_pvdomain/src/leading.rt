@@ -1,4 +1,4 @@
-// A call that leads the queue, until it has taken the lock: the rows E1 to E12.
+// A queue head, until it has acquired the lock: the rows E1 to E12.
 ghost use Rattle.std.specs.Prelude.{◌≡◌, true, false};
 ghost use Rattle.lk_machine.specs.declared.parts.Pc.TheVariants.{E1, E2, E4, E5, E6, E10, E13};
 ghost use Rattle.lk_machine.specs.declared.setup.Verb.TheVariants.{Lock};
@@ -13,7 +13,7 @@ use lk_machine::{State, Verb};
 use lk_word::NodeName;
 use std::sync::Wait;
 
-// The row E4, for so many turns: true where it took the lock.
+// The row E4, for as many turns as the spin bound says. Returns whether it acquired the lock.
 fn head<R: Wait>(
     seat: &mut Right,
     rt: &R,
@@ -47,8 +47,8 @@ fn head<R: Wait>(
     unreachable!()
 }
 
-// The rows E6 to E9: it enters its lock into the hash, and makes the byte slow. True where the lock was
-// free, which it has then.
+// The rows E6 to E9: it puts its lock into the hash, and makes the byte slow. Returns whether the
+// lock was free, which it has acquired then.
 fn enter<R: Wait>(seat: &mut Right, rt: &R, domain: &PvDomain, lock: u32, own: NodeName) -> bool
     requires at { (s : Start) × At domain.now Lock lock own s E6 (Owns own) seat.old }
     ensures takes { result ≡ true → (s : Start)
@@ -81,7 +81,7 @@ fn nap<R: Wait>(seat: &mut Right, rt: &R, domain: &PvDomain, lock: u32, own: Nod
     kicks::sleep(seat, rt, domain, own.cpu);
 }
 
-// The rows E2 to E9: true where it took the lock.
+// The rows E2 to E9. Returns whether it acquired the lock.
 fn attempt<R: Wait>(
     seat: &mut Right,
     rt: &R,
@@ -110,7 +110,7 @@ fn attempt<R: Wait>(
     enter(seat, rt, domain, lock, own)
 }
 
-// From E2 until it has taken the lock.
+// From E2 on, until it has acquired the lock.
 fn strive<R: Wait>(
     seat: &mut Right,
     rt: &R,
@@ -135,7 +135,7 @@ fn strive<R: Wait>(
     unreachable!()
 }
 
-// From E1 until it has taken the lock.
+// From E1 on, until it has acquired the lock.
 pub(crate) fn lead<R: Wait>(seat: &mut Right, rt: &R, domain: &PvDomain, lock: u32, own: NodeName)
     requires at { (s : Start) × At domain.now Lock lock own s E1 (Owns own) seat.old }
     ensures takes { (s : Start) → At domain.now Lock lock own s E1 (Owns own) seat.old

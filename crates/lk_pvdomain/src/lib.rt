@@ -1,4 +1,5 @@
-//! The paravirtual lock for processors that are threads, whose waiters halt until they are kicked.
+//! The paravirtual lock for threads. Each thread has a processor of a domain. A waiter spins for a
+//! while, and then halts until it is kicked. This is Linux's `qspinlock_paravirt.h`.
 #![tactic(auto)]
 
 mod arriving;

@@ -17,7 +17,12 @@ use lk_domain::{Deal, Draw, Journal, Plan, Right, opening_words};
 use std::alloc::Global;
 
 impl PvDomain {
-    /// A domain at rest, and its processors in order of their numbers.
+    /// A new domain, in which nobody holds a lock, and its processors in the order of their
+    /// numbers.
+    ///
+    /// # Errors
+    ///
+    /// There is not enough memory.
     pub fn new(alloc: Global, plan: &PvPlan) -> Result<(PvDomain, List<PvCpu>), Memory>
         requires { IsLawful plan.now }
         ensures plan { IfOk result (λ made. IsPlanOf plan.now made.0.plan) }
@@ -34,7 +39,7 @@ impl PvDomain {
         Ok((domain, cpus))
     }
 
-    // A domain with the seat that deals the numbers.
+    // A new domain, and the seat that deals the numbers of processors.
     fn rest(alloc: Global, plan: Plan) -> Result<(PvDomain, Right), Memory>
         requires plan { IsRunningPlan plan }
         requires halting { halts plan.mode ≡ true }

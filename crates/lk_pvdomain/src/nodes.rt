@@ -12,7 +12,7 @@ use lk_domain::{Part, Right};
 use lk_machine::Verb;
 use lk_word::NodeName;
 
-// Looks at the own flag, by a waiter: the rows W1 and W4.
+// A waiter reads its own flag: the rows W1 and W4.
 pub(crate) fn look_flag(seat: &mut Right, domain: &PvDomain, own: NodeName) -> u64
     requires table { seat.old.table_id ≡ domain.now.table.shared.table_id }
     requires number { IsNumbered seat.old.me.0 }
@@ -26,7 +26,7 @@ pub(crate) fn look_flag(seat: &mut Right, domain: &PvDomain, own: NodeName) -> u
     met
 }
 
-// Looks at the own link, by a front that has the lock: the row E14.
+// A queue head that has the lock reads its own link: the row E14.
 pub(crate) fn look_next(seat: &mut Right, domain: &PvDomain, own: NodeName) -> u64
     requires table { seat.old.table_id ≡ domain.now.table.shared.table_id }
     requires number { IsNumbered seat.old.me.0 }
@@ -40,7 +40,7 @@ pub(crate) fn look_next(seat: &mut Right, domain: &PvDomain, own: NodeName) -> u
     met
 }
 
-// Hands the lead on: the row E15.
+// Hands off to the waiter of the node `to`: the row E15.
 pub(crate) fn hand(seat: &mut Right, domain: &PvDomain, to: NodeName) -> u64
     requires table { seat.old.table_id ≡ domain.now.table.shared.table_id }
     requires number { IsNumbered seat.old.me.0 }
@@ -54,8 +54,8 @@ pub(crate) fn hand(seat: &mut Right, domain: &PvDomain, to: NodeName) -> u64
     met
 }
 
-// Links the own node behind the one before it: the row G5. No call here is within another, so the link
-// has no mark.
+// Links the own node behind that of its predecessor: the row G5. No call here is nested in another,
+// so the link has no mark.
 pub(crate) fn link(
     seat: &mut Right,
     domain: &PvDomain,
@@ -77,7 +77,8 @@ pub(crate) fn link(
     met
 }
 
-// Looks at the flag or the link of the node to come, which nobody uses: where it is 0 it counts as reset.
+// Reads the flag or the link of the node that the call gets next, which nobody uses. If it is 0 it
+// counts as reset.
 fn look_reset(seat: &mut Right, domain: &PvDomain, _verb: Verb, own: NodeName, part: Part) -> u64
     requires table { seat.old.table_id ≡ domain.now.table.shared.table_id }
     requires number { IsNumbered seat.old.me.0 }
@@ -110,8 +111,8 @@ fn store_reset(seat: &mut Right, domain: &PvDomain, _verb: Verb, own: NodeName, 
     met
 }
 
-// Resets the flag or the link of the node to come, by a store only where a look does not find it reset:
-// after a call that has stolen its lock it mostly is.
+// Resets the flag or the link of the node that the call gets next. It stores only if a read does
+// not find it reset. After a call that has stolen its lock it mostly does.
 pub(crate) fn reset(seat: &mut Right, domain: &PvDomain, verb: Verb, own: NodeName, part: Part)
     requires table { seat.old.table_id ≡ domain.now.table.shared.table_id }
     requires number { IsNumbered seat.old.me.0 }

@@ -1,11 +1,11 @@
-// How a waiter gives way between two turns.
+// How a waiter backs off between two turns.
 use crossbeam_utils::Backoff;
 
-// In one of so many turns a waiter gives way, and after the others it looks again at once: who waits for
-// its processor gets it, and the turns are over before many have had it.
+// A waiter backs off once in so many turns, and polls again at once after the others. It pauses for
+// ever longer at first, and later yields its CPU to a thread that waits for one.
 const TURNS: u32 = 16;
 
-// Gives way where the turns that are left are a multiple.
+// Backs off if the number of turns that are left is a multiple of `TURNS`.
 pub(crate) fn give_way(backoff: &Backoff, left: u32) {
     if left % TURNS == 0 {
         backoff.snooze();

@@ -11,7 +11,7 @@ use crate::cpu::PvCpu;
 use crate::domain::PvDomain;
 use lk_domain::{Journal, ledger_steps};
 
-/// Loads a balance.
+/// Loads the balance of an account. The processor must hold lock 0.
 pub fn pv_load(cpu: &mut PvCpu, domain: &PvDomain, account: u32) -> u64
     requires domain { IsOf cpu.old domain.now }
     requires account { account < accounts_of domain.now.plan }
@@ -22,7 +22,8 @@ pub fn pv_load(cpu: &mut PvCpu, domain: &PvDomain, account: u32) -> u64
     ledger_steps::load(&mut cpu.seat, &domain.table, &domain.plan, account)
 }
 
-/// Stores a balance, with the journal out.
+/// Stores the balance of an account. The processor must hold lock 0, and must have taken the
+/// journal out.
 pub fn pv_store(cpu: &mut PvCpu, domain: &PvDomain, account: u32, amount: u64)
     requires domain { IsOf cpu.old domain.now }
     requires account { account < accounts_of domain.now.plan }
@@ -34,7 +35,8 @@ pub fn pv_store(cpu: &mut PvCpu, domain: &PvDomain, account: u32, amount: u64)
     ledger_steps::store(&mut cpu.seat, &domain.table, &domain.plan, account, amount);
 }
 
-/// The number of entries of the journal.
+/// Loads the version of the ledger: the number of entries of the journal. The processor must hold
+/// lock 0.
 pub fn pv_version(cpu: &mut PvCpu, domain: &PvDomain) -> u64
     requires domain { IsOf cpu.old domain.now }
     requires held { holds_first (calls_of cpu.old) }
@@ -44,7 +46,8 @@ pub fn pv_version(cpu: &mut PvCpu, domain: &PvDomain) -> u64
     ledger_steps::version(&mut cpu.seat, &domain.table, &domain.plan)
 }
 
-/// Takes the journal out, by a load of the version.
+/// Takes the journal out of the domain, which begins with a load of the version. The processor
+/// must hold lock 0 as its only holder.
 pub fn pv_journal_out(cpu: &mut PvCpu, domain: &PvDomain) -> Journal
     requires domain { IsOf cpu.old domain.now }
     requires held { alone_first (calls_of cpu.old) }
@@ -55,7 +58,8 @@ pub fn pv_journal_out(cpu: &mut PvCpu, domain: &PvDomain) -> Journal
     ledger_steps::journal_out(&mut cpu.seat, &domain.table, &domain.plan)
 }
 
-/// Brings the journal home, by a store of the version.
+/// Brings the journal back into the domain, which ends with a store of the version. The processor
+/// must hold lock 0.
 pub fn pv_journal_home(cpu: &mut PvCpu, domain: &PvDomain, journal: Journal)
     requires domain { IsOf cpu.old domain.now }
     requires held { holds_first (calls_of cpu.old) }

@@ -1,4 +1,4 @@
-// What a domain whose waiters halt is made of.
+// The plan of a domain with the paravirtual lock.
 ghost use Rattle.std.specs.Prelude.{IfOk};
 ghost use Rattle.lk_pvdomain.specs.PvPlans.{IsLawful, IsPlanOf};
 
@@ -6,24 +6,24 @@ use lk_abs::{Format, Kind, List, Memory, Mode, Topology};
 use lk_domain::Plan;
 use std::alloc::Global;
 
-/// What a domain whose waiters halt is made of.
+/// The plan of a [`PvDomain`](crate::PvDomain): what it is made of.
 #[derive(Drop)]
 pub struct PvPlan {
-    /// The format, which says how the words of the locks are laid out.
+    /// The format. It says how lock words are laid out.
     pub format: Format,
-    /// For how many turns a waiter spins before it halts.
+    /// The spin bound: how many turns a waiter spins before it halts, 1 to 65,535.
     pub spins: u32,
-    /// How many locks it has, all of them spinlocks.
+    /// The number of locks, 1 to 32. All are spinlocks, and lock 0 guards the ledger.
     pub locks: u32,
-    /// The opening balance of each account.
+    /// The opening balance of each account, at most 64. Their sum is below 2^63.
     pub balances: List<u64>,
-    /// For each processor, how many entries it may write.
+    /// For each of 1 to 64 processors, the most journal entries that it may write.
     pub shares: List<u32>,
 }
 
 impl PvPlan {
-    // The plan of its table. The threshold says for how many turns a waiter spins, since no row of this
-    // family reads it else; and of sockets there is one.
+    // The plan of its table. The threshold holds the spin bound, since no row of this family reads
+    // a threshold. All processors are on one socket.
     pub(crate) fn whole(&self, alloc: Global) -> Result<Plan, Memory>
         requires { IsLawful self.now }
         ensures { IfOk result (IsPlanOf self.now) }

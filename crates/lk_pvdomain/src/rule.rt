@@ -1,4 +1,4 @@
-// What the steps tell, besides those of a domain that halts nobody.
+// What each kind of step on the table does to a seat.
 ghost use Rattle.lk_domain.specs.NodePlays.{Enters, Hands, Links, Readies, SeesFlag, SeesLink};
 ghost use Rattle.lk_domain.specs.Plays.{Makes, Swaps, WentBy};
 ghost use Rattle.lk_pvdomain.specs.PvPlays.{SeesState, Halts, Wakes, Stays, Kicks, Fills, SeesHash, Empties, Tries};
@@ -22,14 +22,14 @@ impl Play<Option<Journal>, View> for WordSteps {
     ghost then = { λ _. WentBy };
 }
 
-// The processor halts, by a look at its kick word.
+// The processor halts, in a read of its kick word.
 pub struct HaltLooks;
 
 impl Play<Option<Journal>, View> for HaltLooks {
     ghost then = { λ _. Halts };
 }
 
-// A look of which nothing is told.
+// A read that leaves the seat as it was.
 pub struct Glances;
 
 impl Play<Option<Journal>, View> for Glances {
@@ -57,42 +57,42 @@ impl Play<Option<Journal>, View> for ReleaseTries {
     ghost then = { Tries release_fails Unlock };
 }
 
-// A swap by a front, which may be tried again.
+// A swap by a queue head, which may be tried again.
 pub struct HeadTries;
 
 impl Play<Option<Journal>, View> for HeadTries {
     ghost then = { Tries head_fails Lock };
 }
 
-// A swap by a thief, which may be tried again.
+// A swap by a call that steals, which may be tried again.
 pub struct StealTries;
 
 impl Play<Option<Journal>, View> for StealTries {
     ghost then = { Tries steal_fails Lock };
 }
 
-// A waiter looks at its flag.
+// A waiter reads its flag.
 pub struct FlagLooks;
 
 impl Play<Option<Journal>, View> for FlagLooks {
     ghost then = { λ _. SeesFlag };
 }
 
-// A call looks at the link of its node.
+// A call reads the link of its node.
 pub struct LinkLooks;
 
 impl Play<Option<Journal>, View> for LinkLooks {
     ghost then = { λ _. SeesLink };
 }
 
-// A call hands the lead on.
+// A queue head hands off.
 pub struct Handovers;
 
 impl Play<Option<Journal>, View> for Handovers {
     ghost then = { λ _. Hands };
 }
 
-// A call links its node behind the one before it.
+// A call links its node behind that of its predecessor.
 pub struct Linkings;
 
 impl Play<Option<Journal>, View> for Linkings {

@@ -1,5 +1,5 @@
-// The steps of a seat that the paravirtual lock shares with the others: the first ones of a call, and the
-// one that puts the own node at the tail.
+// The steps of a seat that the paravirtual lock shares with the others: the first ones of a call,
+// and the one that puts the own node at the tail.
 ghost use Rattle.std.specs.Prelude.{◌≡◌, ◌<◌};
 ghost use Rattle.lk_domain.specs.Calls.{lock_name};
 ghost use Rattle.lk_domain.specs.Plans.{locks_of};
@@ -14,7 +14,7 @@ use crate::rule::{Exchanges, Locks, TryCalls};
 use lk_domain::Right;
 use lk_word::NodeName;
 
-// Exchanges the free word for the held one: the row F1, with which a call of `pv_lock` begins.
+// Swaps the free word to the held one: the row F1, with which a call of `pv_lock` begins.
 pub(crate) fn take_free(seat: &mut Right, domain: &PvDomain, lock: u32) -> u64
     requires table { seat.old.table_id ≡ domain.now.table.shared.table_id }
     requires lock { lock < locks_of domain.now.plan }
@@ -31,7 +31,7 @@ pub(crate) fn take_free(seat: &mut Right, domain: &PvDomain, lock: u32) -> u64
     met
 }
 
-// Looks at the word: the row T1, with which a call of `pv_try_lock` begins.
+// Reads the word: the row T1, with which a call of `pv_try_lock` begins.
 pub(crate) fn look_once(seat: &mut Right, domain: &PvDomain, lock: u32) -> u64
     requires table { seat.old.table_id ≡ domain.now.table.shared.table_id }
     requires lock { lock < locks_of domain.now.plan }
@@ -45,7 +45,7 @@ pub(crate) fn look_once(seat: &mut Right, domain: &PvDomain, lock: u32) -> u64
     met
 }
 
-// Exchanges the free word for the held one: the row T2.
+// Swaps the free word to the held one: the row T2.
 pub(crate) fn take_once(seat: &mut Right, domain: &PvDomain, lock: u32) -> u64
     requires table { seat.old.table_id ≡ domain.now.table.shared.table_id }
     requires lock { lock < locks_of domain.now.plan }
@@ -62,7 +62,7 @@ pub(crate) fn take_once(seat: &mut Right, domain: &PvDomain, lock: u32) -> u64
     met
 }
 
-// Puts the own node at the tail: the row G4, or nothing where another word was met than expected.
+// Puts the own node at the tail: the row G4, or no row if the word is not the expected one.
 pub(crate) fn exchange_tail(
     seat: &mut Right,
     domain: &PvDomain,

@@ -12,7 +12,7 @@ use lk_domain::Right;
 use lk_machine::{State, Verb};
 use lk_word::NodeName;
 
-// Looks at a state: the row W2, of the node before, or W5 or E1, of the own.
+// Reads a state: the row W2, of the predecessor's node, or W5 or E1, of the own.
 pub(crate) fn look_state(seat: &mut Right, domain: &PvDomain, node: NodeName) -> u64
     requires table { seat.old.table_id ≡ domain.now.table.shared.table_id }
     requires number { IsNumbered seat.old.me.0 }
@@ -41,8 +41,8 @@ pub(crate) fn store_state(seat: &mut Right, domain: &PvDomain, node: NodeName, s
     met
 }
 
-// Exchanges the state that says halted: the rows W7, of the own node for running, and K1, of the next
-// one's for hashed.
+// Swaps a state that is halted: the rows W7, of the own node to running, and K1, of the successor's
+// to hashed.
 pub(crate) fn rouse(seat: &mut Right, domain: &PvDomain, node: NodeName, state: State) -> u64
     requires table { seat.old.table_id ≡ domain.now.table.shared.table_id }
     requires number { IsNumbered seat.old.me.0 }
@@ -60,7 +60,7 @@ pub(crate) fn rouse(seat: &mut Right, domain: &PvDomain, node: NodeName, state: 
     met
 }
 
-// Looks at the state of the node to come: where it is 0 the call enters the slow path.
+// Reads the state of the node that the call gets next. If it is 0 the call enters the slow path.
 fn look_entry(seat: &mut Right, domain: &PvDomain, _verb: Verb, own: NodeName) -> u64
     requires table { seat.old.table_id ≡ domain.now.table.shared.table_id }
     requires number { IsNumbered seat.old.me.0 }
@@ -76,7 +76,7 @@ fn look_entry(seat: &mut Right, domain: &PvDomain, _verb: Verb, own: NodeName) -
     met
 }
 
-// Stores 0 into it, by which the call enters the slow path.
+// Stores 0 into it, with which the call enters the slow path.
 fn store_entry(seat: &mut Right, domain: &PvDomain, _verb: Verb, own: NodeName) -> u64
     requires table { seat.old.table_id ≡ domain.now.table.shared.table_id }
     requires number { IsNumbered seat.old.me.0 }
@@ -91,8 +91,8 @@ fn store_entry(seat: &mut Right, domain: &PvDomain, _verb: Verb, own: NodeName) 
     met
 }
 
-// Resets the state of the node to come, by which the call enters the slow path: the row G1. It stores
-// only where a look does not find it reset.
+// Resets the state of the node that the call gets next, with which the call enters the slow path:
+// the row G1. It stores only if a read does not find it reset.
 pub(crate) fn enter(seat: &mut Right, domain: &PvDomain, verb: Verb, own: NodeName) -> u64
     requires table { seat.old.table_id ≡ domain.now.table.shared.table_id }
     requires number { IsNumbered seat.old.me.0 }

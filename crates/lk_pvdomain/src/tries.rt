@@ -14,7 +14,7 @@ use crate::rule::{HeadTries, ReleaseTries, StealTries};
 use lk_domain::Right;
 use std::sync::Wait;
 
-// Exchanges a held word for a free one: the row U2, with which a release begins, or nothing.
+// Swaps a held word to a free one: the row U2, with which a release begins, or no row.
 pub(crate) fn try_release(seat: &mut Right, domain: &PvDomain, lock: u32, expected: u64) -> u64
     requires table { seat.old.table_id ≡ domain.now.table.shared.table_id }
     requires number { IsNumbered seat.old.me.0 }
@@ -33,8 +33,8 @@ pub(crate) fn try_release(seat: &mut Right, domain: &PvDomain, lock: u32, expect
     met
 }
 
-// Looks at the word, by the front: the row E4 where the byte is not free or nobody pends, or nothing. A
-// look leaves the line of the word with the holder, from whom a failed exchange would take it.
+// The queue head reads the word. If the byte is not free, or nobody pends, this is the row E4, and
+// else no row. A read leaves the cache line with the holder, while a failed swap would take it.
 fn look_head(seat: &mut Right, domain: &PvDomain, lock: u32) -> u64
     requires table { seat.old.table_id ≡ domain.now.table.shared.table_id }
     requires number { IsNumbered seat.old.me.0 }
@@ -48,7 +48,8 @@ fn look_head(seat: &mut Right, domain: &PvDomain, lock: u32) -> u64
     met
 }
 
-// Exchanges a free word with pending set for a held one without it, by the front: the row E4, or nothing.
+// The queue head swaps a free word with the pending bit to a held one without it: the row E4, or no
+// row.
 pub(crate) fn try_head(seat: &mut Right, domain: &PvDomain, lock: u32, expected: u64) -> u64
     requires table { seat.old.table_id ≡ domain.now.table.shared.table_id }
     requires number { IsNumbered seat.old.me.0 }
@@ -66,7 +67,7 @@ pub(crate) fn try_head(seat: &mut Right, domain: &PvDomain, lock: u32, expected:
     met
 }
 
-// Exchanges a free byte for a held one, whatever pending and tail are: the row H2, or nothing.
+// Swaps a free byte to a held one, whatever pending and tail are: the row H2, or no row.
 pub(crate) fn try_steal(seat: &mut Right, domain: &PvDomain, lock: u32, expected: u64) -> u64
     requires table { seat.old.table_id ≡ domain.now.table.shared.table_id }
     requires number { IsNumbered seat.old.me.0 }
@@ -84,8 +85,8 @@ pub(crate) fn try_steal(seat: &mut Right, domain: &PvDomain, lock: u32, expected
     met
 }
 
-// The row U2: the exchange is tried until it is made, or the byte is not held. It is out of the way of a
-// release for which nobody waits, whose first try is its last.
+// The row U2: the swap is tried until it is made, or the byte is not held. It is a function of its
+// own, to keep the code of an uncontended release short, whose first try is its last.
 #[inline(never)]
 pub(crate) fn release<R: Wait>(
     seat: &mut Right,
@@ -114,7 +115,7 @@ pub(crate) fn release<R: Wait>(
     unreachable!()
 }
 
-// The row H2: the exchange is tried until it is made, or the byte is not free.
+// The row H2: the swap is tried until it is made, or the byte is not free.
 pub(crate) fn steal<R: Wait>(
     seat: &mut Right,
     rt: &R,
@@ -141,8 +142,8 @@ pub(crate) fn steal<R: Wait>(
     unreachable!()
 }
 
-// The row E4, after a look at a free word with pending set: the exchange is tried until it is made, or
-// the byte is not free or nobody pends.
+// The row E4, after a read of a free word with the pending bit: the swap is tried until it is made,
+// or the byte is not free or nobody pends.
 fn swap_head<R: Wait>(seat: &mut Right, rt: &R, domain: &PvDomain, lock: u32, seen: u64) -> u64
     requires table { seat.old.table_id ≡ domain.now.table.shared.table_id }
     requires number { IsNumbered seat.old.me.0 }
@@ -163,7 +164,7 @@ fn swap_head<R: Wait>(seat: &mut Right, rt: &R, domain: &PvDomain, lock: u32, se
     unreachable!()
 }
 
-// The row E4: a look where the word is as the front may not take it, and else an exchange.
+// The row E4: a read if the queue head may not take the word as it is, and else a swap.
 pub(crate) fn head<R: Wait>(seat: &mut Right, rt: &R, domain: &PvDomain, lock: u32) -> u64
     requires table { seat.old.table_id ≡ domain.now.table.shared.table_id }
     requires number { IsNumbered seat.old.me.0 }

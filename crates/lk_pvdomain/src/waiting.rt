@@ -1,4 +1,4 @@
-// A call that waits in the queue, until the one before it hands the lead on: the rows W1 to W7.
+// A call that waits in the queue, until its predecessor hands off to it: the rows W1 to W7.
 ghost use Rattle.std.specs.Prelude.{◌≡◌, true, false};
 ghost use Rattle.lk_machine.specs.declared.parts.Pc.TheVariants.{E1, W1, W3, W4, W7};
 ghost use Rattle.lk_machine.specs.declared.setup.Verb.TheVariants.{Lock};
@@ -14,7 +14,8 @@ use lk_machine::State;
 use lk_word::NodeName;
 use std::sync::Wait;
 
-// The rows W1 and W2, for so many turns: true where it leads, and else it is about to halt.
+// The rows W1 and W2, for at most as many turns as the spin bound says. Returns whether it is the
+// queue head; else it is about to halt.
 fn turns<R: Wait>(
     seat: &mut Right,
     rt: &R,
@@ -76,7 +77,7 @@ fn doze<R: Wait>(
     kicks::sleep(seat, rt, domain, own.cpu);
 }
 
-// The rows W3 to W7: it says that it halts, and takes that back when it goes on.
+// The rows W3 to W7: it stores that it has halted, and takes that back when it goes on.
 fn pause<R: Wait>(
     seat: &mut Right,
     rt: &R,
@@ -94,7 +95,7 @@ fn pause<R: Wait>(
     states::rouse(seat, domain, own, State::Running);
 }
 
-// From W1 until it leads.
+// From W1 on, until it is the queue head.
 pub(crate) fn wait<R: Wait>(
     seat: &mut Right,
     rt: &R,

@@ -15,7 +15,7 @@ use lk_domain::Right;
 use lk_machine::Verb;
 use lk_word::NodeName;
 
-// The word as it is just now, of which nothing is told: what an exchange may expect.
+// The word as it is just now, of which contracts say nothing: what a swap may expect.
 pub(crate) fn guess(domain: &PvDomain, lock: u32) -> u64
     requires lock { lock < locks_of domain.now.plan }
 {
@@ -23,7 +23,7 @@ pub(crate) fn guess(domain: &PvDomain, lock: u32) -> u64
     domain.table.shared.peek(word)
 }
 
-// Looks at the word: the rows H1 and E11.
+// Reads the word: the rows H1 and E11.
 pub(crate) fn look_word(seat: &mut Right, domain: &PvDomain, _verb: Verb, lock: u32) -> u64
     requires table { seat.old.table_id ≡ domain.now.table.shared.table_id }
     requires number { IsNumbered seat.old.me.0 }
@@ -37,7 +37,7 @@ pub(crate) fn look_word(seat: &mut Right, domain: &PvDomain, _verb: Verb, lock: 
     met
 }
 
-// Sets pending: the row E3.
+// Sets the pending bit: the row E3.
 pub(crate) fn press(seat: &mut Right, domain: &PvDomain, _verb: Verb, lock: u32) -> u64
     requires table { seat.old.table_id ≡ domain.now.table.shared.table_id }
     requires number { IsNumbered seat.old.me.0 }
@@ -51,7 +51,7 @@ pub(crate) fn press(seat: &mut Right, domain: &PvDomain, _verb: Verb, lock: u32)
     met
 }
 
-// Makes a slow byte held, by who took the lock as slow: the row E8.
+// Makes a slow byte held, after the queue head has acquired the lock as slow: the row E8.
 pub(crate) fn win(seat: &mut Right, domain: &PvDomain, _verb: Verb, lock: u32) -> u64
     requires table { seat.old.table_id ≡ domain.now.table.shared.table_id }
     requires number { IsNumbered seat.old.me.0 }
@@ -65,7 +65,7 @@ pub(crate) fn win(seat: &mut Right, domain: &PvDomain, _verb: Verb, lock: u32) -
     met
 }
 
-// Makes a held byte slow, by who hands the lead on to one that halted: the row K2.
+// Makes a held byte slow, after a handoff to a waiter that has halted: the row K2.
 pub(crate) fn sign(seat: &mut Right, domain: &PvDomain, _verb: Verb, lock: u32) -> u64
     requires table { seat.old.table_id ≡ domain.now.table.shared.table_id }
     requires number { IsNumbered seat.old.me.0 }
@@ -94,7 +94,7 @@ pub(crate) fn drop_slow(seat: &mut Right, domain: &PvDomain, _verb: Verb, lock: 
     met
 }
 
-// Takes pending back: the row E5.
+// Clears the pending bit: the row E5.
 pub(crate) fn relent(seat: &mut Right, domain: &PvDomain, _verb: Verb, lock: u32) -> u64
     requires table { seat.old.table_id ≡ domain.now.table.shared.table_id }
     requires number { IsNumbered seat.old.me.0 }
@@ -122,7 +122,7 @@ pub(crate) fn slow(seat: &mut Right, domain: &PvDomain, _verb: Verb, lock: u32) 
     met
 }
 
-// Leaves the queue as its last one, by one exchange of the whole word: the row E13.
+// Leaves the queue as the last in it, by one swap of the whole word: the row E13.
 pub(crate) fn quit(
     seat: &mut Right,
     domain: &PvDomain,
