@@ -1,16 +1,17 @@
-// What the words behind the program's name ask for.
+// What the program's arguments ask for.
 
 use std::env;
 
-/// What the program is asked to tell of a trace.
+/// What the program writes for a trace.
 pub(crate) enum Asked {
-    /// Each act, as a line.
+    /// A line for each act, or for a run of acts that did the same.
     Steps,
-    /// The transcript, as `qlock replay` writes it.
+    /// The transcript that `qlock replay` writes.
     Replay,
 }
 
-/// What the words ask for: with none the acts, with `replay` the transcript, and with others nothing.
+/// What the program's arguments ask for: the acts if there are none, and the transcript for
+/// `replay`. Returns `None` for other arguments, and if they cannot be read.
 pub(crate) fn asked_by(rt: &HostRuntime) -> Option<Asked> {
     let mut words = env::args(rt).ok()?;
     let _name = words.next();

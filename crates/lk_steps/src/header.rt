@@ -32,6 +32,10 @@ fn read_step<S: Source>(
 }
 
 /// Reads the header up to the line `go`.
+///
+/// # Errors
+///
+/// The first line that is refused, a failed read, or not enough memory.
 pub(crate) fn read_header<S: Source>(
     header: &mut HeaderReader,
     reader: &mut LineReader,

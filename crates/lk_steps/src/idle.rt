@@ -8,7 +8,7 @@ ghost use Rattle.lk_machine.specs.Programs.{HasPrograms};
 use lk_abs::Act;
 use lk_machine::{MAX_FRAMES, Machine, Pc};
 
-/// The processor of an act.
+/// The processor that an act names.
 pub(crate) fn cpu_of(act: Act) -> u32
     ensures { result ≡ processor_of act }
 {
@@ -21,7 +21,7 @@ pub(crate) fn cpu_of(act: Act) -> u32
     }
 }
 
-// Why a step would be idle, where the processor is not preempted.
+// Why a step of a processor that is not preempted would be idle, if it would.
 fn step_idle(machine: &Machine, cpu: u32) -> Option<&'static str>
     requires { HasTop machine.now cpu }
 {
@@ -38,7 +38,7 @@ fn step_idle(machine: &Machine, cpu: u32) -> Option<&'static str>
     }
 }
 
-// Why an interrupt would not come, where the processor is not preempted.
+// Why an interrupt of a processor that is not preempted would not come, if so.
 fn interrupt_idle(machine: &Machine, cpu: u32) -> Option<&'static str>
     requires top { HasTop machine.now cpu }
     requires programs { HasPrograms machine.now.setup cpu }
@@ -55,7 +55,7 @@ fn interrupt_idle(machine: &Machine, cpu: u32) -> Option<&'static str>
     }
 }
 
-/// Why the act would be idle; none where it would not.
+/// Why the act would be idle, that is, change nothing; none if it would not.
 pub(crate) fn idle_of(machine: &Machine, act: Act) -> Option<&'static str>
     requires top { HasTop machine.now (processor_of act) }
     requires programs { HasPrograms machine.now.setup (processor_of act) }

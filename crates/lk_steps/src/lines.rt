@@ -9,22 +9,22 @@ use lk_text::{Sink, put};
 use std::alloc::Global;
 use std::mem;
 
-// Room for the lines that wait for the sink, and how many bytes of them are put at once.
+// The bytes of room for lines that wait for the sink, and how many of them are written at once.
 const ROOM: usize = 66_560;
 
 const FULL: usize = 65_536;
 
-// Room for the text of an act.
+// The bytes of room for the text of an act.
 const LINE_ROOM: usize = 128;
 
-/// Lines that wait for a sink, and the acts behind them that are not written yet.
+/// Lines that wait for a sink, and the acts behind them that have no line yet.
 #[derive(Drop)]
 pub(crate) struct Lines {
     waiting: Vec<u8>,
     // Whether there was no memory for a part of a line.
     is_cut: bool,
-    // Acts in a row that did the same: what they did, and their numbers, of which the first is 0
-    // where there is none.
+    // Consecutive acts that did the same: what they did, and the numbers of the first and the last.
+    // The first is 0 if there are none.
     run: Text,
     first: u64,
     last: u64,
@@ -32,7 +32,7 @@ pub(crate) struct Lines {
     line: Text,
 }
 
-// What an event says, without its act and waiter.
+// What the line of an event says, without its act and waiter.
 fn what_of(line: &[u8]) -> &[u8] {
     match line
         .iter()
@@ -47,6 +47,10 @@ fn what_of(line: &[u8]) -> &[u8] {
 
 impl Lines {
     /// No lines.
+    ///
+    /// # Errors
+    ///
+    /// There is not enough memory.
     pub(crate) fn new(alloc: Global) -> Result<Lines, Memory> {
         Ok(Lines {
             waiting: Vec::with_capacity(alloc, ROOM)?,
@@ -63,7 +67,7 @@ impl Lines {
         self.is_cut |= self.waiting.extend_from_slice(bytes).is_err();
     }
 
-    // Writes the acts that are not written yet, without the end of their line.
+    // Appends the line of the acts that have none yet, without its end.
     fn write_run(&mut self) {
         self.line.text.clear();
         self.line.number(self.first);
@@ -84,7 +88,7 @@ impl Lines {
             .is_err();
     }
 
-    /// Writes the acts that are not written yet, if there are some.
+    /// Appends the line of the acts that have none yet, if there are such acts.
     pub(crate) fn end_run(&mut self) {
         if self.first > 0 {
             self.write_run();
@@ -93,7 +97,8 @@ impl Lines {
         }
     }
 
-    /// Tells the act of this number. Where it decided nothing, it waits for more that do the same.
+    /// Tells the act of this number, and its event. An act that decided nothing waits for more acts
+    /// that do the same, and they get one line.
     pub(crate) fn tell(&mut self, act: u64, step: &mut Step, event: Option<Event>) {
         if step.is_vain && self.first > 0 && self.run.text.as_str() == step.text.text.as_str() {
             self.last = act;
@@ -113,7 +118,11 @@ impl Lines {
         }
     }
 
-    /// Puts all that waits.
+    /// Writes all lines that wait to the sink.
+    ///
+    /// # Errors
+    ///
+    /// `Memory` if there was not enough for a part of a line, and `WriteFault` if a write failed.
     pub(crate) fn put<K: Sink>(&mut self, sink: &mut K) -> Result<(), ReplayFault> {
         if self.is_cut || self.line.is_cut {
             return Err(ReplayFault::Memory);
@@ -123,7 +132,11 @@ impl Lines {
         Ok(())
     }
 
-    /// Puts what waits, if it is much.
+    /// Writes the lines that wait to the sink, if they have 65,536 bytes or more.
+    ///
+    /// # Errors
+    ///
+    /// Those of `put`.
     pub(crate) fn put_much<K: Sink>(&mut self, sink: &mut K) -> Result<(), ReplayFault> {
         if self.waiting.len() < FULL {
             return Ok(());

@@ -1,5 +1,6 @@
-//! The program: reads a trace from standard input, and writes each of its acts as a line to standard output; or, with the word
-//! `replay`, its transcript, so that a quick run has both of one small program.
+//! The program behind `./qlock steps`. It reads a trace from standard input, and writes each act as
+//! a line to standard output. With the word `replay` it writes the transcript, so that this one
+//! small program serves both commands of a quick run.
 #![tactic(auto)]
 
 mod asked;
@@ -20,7 +21,7 @@ use std::alloc::Global;
 use std::process::ExitCode;
 use steps::Steps;
 
-// The status of words that the program does not know.
+// The exit status for words that the program does not know.
 const USAGE: u8 = 2;
 
 // Reads the trace to its end, and tells what was asked of it.
@@ -36,7 +37,8 @@ fn tell(alloc: Global, rt: &HostRuntime, asked: Asked) -> Result<(), ReplayFault
     }
 }
 
-// Writes why a trace was not told to its end, and gives the exit status: those of `qlock replay`.
+// Writes to standard error why a trace was not told to its end. Returns the exit status, which is
+// that of `qlock replay`.
 fn refuse(rt: &HostRuntime, fault: ReplayFault) -> ExitCode {
     let (told, status) = match fault {
         ReplayFault::BadInput { line, fault } => {

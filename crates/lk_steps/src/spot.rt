@@ -1,4 +1,4 @@
-// On what a row operates.
+// The part of the machine on which a row operates.
 
 ghost use Rattle.std.specs.Prelude.{◌≤◌, length};
 
@@ -14,17 +14,18 @@ pub(crate) enum Spot {
     Word(LockName),
     /// The word of a reader-writer lock.
     Rw(u32),
-    /// How many frames of a processor are in the slow path.
+    /// The number of frames of a processor that are in the slow path.
     Queued(u32),
     /// The flag and the link of a node.
     Node(NodeName),
-    /// In a node, the last node of a second queue.
+    /// The last node of the secondary queue, which stands in this node.
     SecondTail(NodeName),
-    /// In a node, how many handovers were made since the second queue became non-empty.
+    /// The number of handoffs since the secondary queue became non-empty, which stands in this
+    /// node.
     Runs(NodeName),
-    /// What the processor of a node does.
+    /// The state of a node: what its processor does, in mode `pv`.
     State(NodeName),
-    /// A lock's entry in the hash.
+    /// The entry of a lock in the hash, in mode `pv`.
     Entry(LockName),
     /// Whether a processor has halted.
     Halt(u32),
@@ -32,7 +33,8 @@ pub(crate) enum Spot {
     Kick(u32),
 }
 
-// On what a row of the queue, or of the choice of the next, operates.
+// The part on which a row of the queue operates, or one of the choice of the successor in mode
+// `cna`.
 fn queue_spot(place: Pc, cpu: u32, frame: &Frame) -> Spot {
     match place {
         Pc::G1 => Spot::Queued(cpu),
@@ -47,7 +49,7 @@ fn queue_spot(place: Pc, cpu: u32, frame: &Frame) -> Spot {
     }
 }
 
-// On what a row of the paravirtual lock operates.
+// The part on which a row of the paravirtual lock operates.
 fn halting_spot(place: Pc, cpu: u32, frame: &Frame) -> Spot {
     match place {
         Pc::W1 | Pc::W4 | Pc::E14 => Spot::Node(named(frame.me)),
@@ -62,7 +64,7 @@ fn halting_spot(place: Pc, cpu: u32, frame: &Frame) -> Spot {
     }
 }
 
-/// On what the row of a processor's top frame operates.
+/// The part on which the row at this place operates, made by the top frame of a processor.
 pub(crate) fn spot_of(place: Pc, cpu: u32, frame: &Frame) -> Spot {
     match place.family() {
         Family::Spin => Spot::Word(frame.lock),
@@ -73,7 +75,7 @@ pub(crate) fn spot_of(place: Pc, cpu: u32, frame: &Frame) -> Spot {
 }
 
 impl Spot {
-    /// Appends its name.
+    /// Appends the name of the part.
     pub(crate) fn tell_name(self, text: &mut Text) {
         match self {
             Spot::Word(_) | Spot::Rw(_) => text.word("lock "),
@@ -97,7 +99,7 @@ impl Spot {
         }
     }
 
-    // Appends what stands there, if it is in a node.
+    // Appends the value of a part of a node.
     fn tell_node(self, name: NodeName, machine: &Machine, text: &mut Text) {
         if name.cpu >= machine.cpus() || name.index as usize >= MAX_NODES {
             return text.word("nothing");
@@ -115,7 +117,7 @@ impl Spot {
         }
     }
 
-    // Appends what stands there, if it is in a processor.
+    // Appends the value of a part of a processor.
     fn tell_cpu(self, cpu: u32, machine: &Machine, text: &mut Text) {
         if cpu >= machine.cpus() {
             return text.word("nothing");
@@ -128,7 +130,8 @@ impl Spot {
         text.number(u64::from(number));
     }
 
-    /// Appends what stands there, in a machine of so many locks.
+    /// Appends the value of the part, in a machine of `locks` locks; `nothing` if the machine has
+    /// no such part.
     pub(crate) fn tell_value(self, machine: &Machine, locks: u32, text: &mut Text)
         requires { locks ≤ length machine.now.locks }
     {

@@ -10,21 +10,21 @@ use lk_abs::{Act, Memory, Waiter};
 use lk_machine::{Frame, Machine, Pc};
 use std::alloc::Global;
 
-// Room for the text of an act, and for what stands in a part of the machine.
+// The bytes of room for the text of an act, and for the value of a part of the machine.
 const TEXT_ROOM: usize = 128;
 
 /// What an act is about to do.
 #[derive(Clone, Copy)]
 pub(crate) enum Deed {
-    /// A step makes this row of the top frame, on this part of the machine.
+    /// A step makes this row of the top frame, which operates on this part of the machine.
     Row(Pc, Spot),
-    /// It does something else.
+    /// An act that is neither a row nor idle.
     Other,
-    /// It changes nothing, for this reason.
+    /// The act changes nothing, for this reason.
     Idle(&'static str),
 }
 
-/// What the act is about to do, where this is the top frame of its processor.
+/// What the act is about to do. `frame` is the top frame of its processor.
 pub(crate) fn deed_of(machine: &Machine, locks: u32, act: Act, frame: &Frame) -> Deed
     requires { CanShow machine.now locks (processor_of act) }
 {
@@ -51,20 +51,25 @@ fn act_word(act: Act) -> &'static str {
     }
 }
 
-/// An act that was made, as it is told.
+/// The text of an act that was made.
 #[derive(Drop)]
 pub(crate) struct Step {
-    /// Whose act it was, and what it did.
+    /// Who acted, and what the act did.
     pub(crate) text: Text,
-    // What a row met in its part of the machine, and what it left there.
+    // The value of the row's part of the machine before the act, and after it.
     met: Text,
     left: Text,
-    /// Whether the act decided nothing: what it met stays, and so does its frame.
+    /// Whether the act decided nothing: it is idle, or it left its part and its frame as they were
+    /// and told no event.
     pub(crate) is_vain: bool,
 }
 
 impl Step {
-    /// Nothing.
+    /// No text.
+    ///
+    /// # Errors
+    ///
+    /// There is not enough memory.
     pub(crate) fn new(alloc: Global) -> Result<Step, Memory> {
         Ok(Step {
             text: Text::new(alloc, TEXT_ROOM)?,
@@ -74,7 +79,7 @@ impl Step {
         })
     }
 
-    /// Notes what the act meets, before it is made.
+    /// Notes the value of the act's part, before the act is made.
     pub(crate) fn meet(&mut self, machine: &Machine, locks: u32, deed: Deed)
         requires { locks ≤ length machine.now.locks }
     {
@@ -84,7 +89,7 @@ impl Step {
         }
     }
 
-    /// Notes what it left, once it is made.
+    /// Notes the value of the act's part, once the act is made.
     pub(crate) fn leave(&mut self, machine: &Machine, locks: u32, deed: Deed)
         requires { locks ≤ length machine.now.locks }
     {
@@ -94,7 +99,7 @@ impl Step {
         }
     }
 
-    // Tells a row, and what it met and left.
+    // Tells a row, its part, and the value of that part before and after.
     fn tell_row(&mut self, place: Pc, spot: Spot, stays: bool) {
         self.text.row(place);
         self.text.word(" ");
@@ -107,7 +112,8 @@ impl Step {
         }
     }
 
-    /// Tells the act, whose act it was, and whether it left its frame and told no event.
+    /// Puts the text of the act together. `by` is who acted. `is_still` says that the act left its
+    /// frame as it was and told no event.
     pub(crate) fn tell(&mut self, by: Waiter, act: Act, deed: Deed, is_still: bool) {
         self.text.text.clear();
         self.text.pair(by.cpu, ".", by.ctx);

@@ -17,19 +17,20 @@ use lk_stream::{ReplayFault, cut, refused};
 use lk_text::{LineFault, LineReader, Sink, Source};
 use std::alloc::Global;
 
-/// A trace whose header was read. It has the memory that it needs.
+/// A trace whose header was read. It has all the memory that the acts need.
 #[derive(Drop)]
 pub(crate) struct Steps {
     reader: LineReader,
     told: Told,
-    // The act that is told.
+    // The text of the act that is told.
     step: Step,
     lines: Lines,
     // Whether the line `end` was read.
     ended: bool,
 }
 
-// What the next line of the schedule says, if there is one, or why it is refused.
+// Reads the next line of the schedule. Returns what it says or why it is refused; none at the end
+// of the input.
 fn next_said<S: Source>(
     reader: &mut LineReader,
     source: &mut S,
@@ -50,7 +51,11 @@ fn next_said<S: Source>(
 }
 
 impl Steps {
-    /// Reads the header up to the line `go`.
+    /// Reads the header of a trace up to the line `go`.
+    ///
+    /// # Errors
+    ///
+    /// The first line that is refused, a failed read, or not enough memory.
     pub(crate) fn open<S: Source>(alloc: Global, source: &mut S) -> Result<Steps, ReplayFault>
         ensures { IfOk result (λ steps. CanGoOn steps.told) }
     {
@@ -70,7 +75,7 @@ impl Steps {
         })
     }
 
-    // Makes an act so many times, and tells each.
+    // Makes an act `times` times, and tells each.
     fn repeat<K: Sink>(&mut self, sink: &mut K, act: Act, times: u64) -> Result<(), ReplayFault>
         requires ready { CanGoOn self.old.told }
         requires few { self.old.told.acts + times ≤ 100000000 }
@@ -110,7 +115,7 @@ impl Steps {
         }
     }
 
-    // What the end of the input means: there are no more lines.
+    // The answer at the end of the input: `false`, there are no more lines, if `end` was read.
     fn end(&self) -> Result<bool, ReplayFault>
         ensures { ¬ (result ≡ Ok true) }
     {
@@ -123,7 +128,7 @@ impl Steps {
         })
     }
 
-    // Reads one line, and makes its acts: whether there may be more lines.
+    // Reads one line and makes its acts. Returns whether there may be more lines.
     fn turn<S: Source, K: Sink>(
         &mut self,
         source: &mut S,
@@ -162,8 +167,13 @@ impl Steps {
         }
     }
 
-    /// Reads on to the end of the input, and tells the acts of all lines before the first that is
-    /// refused.
+    /// Reads the schedule to the end of the input, and tells its acts.
+    ///
+    /// # Errors
+    ///
+    /// The first line that is refused, a failed read, a failed write, or not enough memory for a
+    /// text, which may come after lines were written. After a refused line or a failed read, the
+    /// acts of the lines before it were written.
     pub(crate) fn run<S: Source, K: Sink>(
         mut self,
         source: &mut S,

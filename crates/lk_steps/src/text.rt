@@ -1,4 +1,4 @@
-// Texts that are put together, and what stands in a machine as text.
+// Texts that are put together, and the values of a machine as text.
 
 use lk_abs::{LockName, Memory};
 use lk_machine::{Flag, Node, Pc};
@@ -6,17 +6,21 @@ use lk_word::{Fields, Locked, NodeName, RwFields};
 use std::alloc::Global;
 use std::fmt::Write;
 
-/// A text that is put together in memory.
+/// A text that is put together.
 #[derive(Drop)]
 pub(crate) struct Text {
     /// The text so far.
     pub(crate) text: String,
-    /// Whether there was no memory for a part of it, which it lacks then.
+    /// Whether the text lacks a part, for which there was not enough memory.
     pub(crate) is_cut: bool,
 }
 
 impl Text {
-    /// An empty text, with room for so many bytes.
+    /// An empty text, with room for `room` bytes.
+    ///
+    /// # Errors
+    ///
+    /// There is not enough memory.
     pub(crate) fn new(alloc: Global, room: usize) -> Result<Text, Memory> {
         Ok(Text {
             text: String::with_capacity(alloc, room)?,
@@ -35,7 +39,7 @@ impl Text {
         self.is_cut |= self.text.push_str(word).is_err();
     }
 
-    /// Appends a number.
+    /// Appends a number in decimal.
     pub(crate) fn number(&mut self, number: u64) {
         self.is_cut |= write!(self.text, "{number}").is_err();
     }
@@ -68,7 +72,8 @@ impl Text {
         }
     }
 
-    /// Appends a spinlock's word in Linux's notation: tail, pending, locked.
+    /// Appends the word of a spinlock as the comments of Linux's `qspinlock.c` do: tail, pending,
+    /// locked.
     pub(crate) fn fields(&mut self, fields: Fields) {
         self.word("(");
         self.node(fields.tail);
@@ -80,7 +85,7 @@ impl Text {
         });
     }
 
-    /// Appends a reader-writer lock's word: readers, waiting, writer.
+    /// Appends the word of a reader-writer lock: readers, waiting, writer.
     pub(crate) fn rw_fields(&mut self, fields: RwFields) {
         self.word("(");
         self.number(u64::from(fields.readers));
@@ -88,7 +93,8 @@ impl Text {
         self.word(if fields.writer { "1)" } else { "0)" });
     }
 
-    /// Appends the flag of a node, 0 or 1 or the first node of a second queue, and its link.
+    /// Appends the flag of a node, which is 0, 1, or the first node of a secondary queue, and its
+    /// link.
     pub(crate) fn link(&mut self, node: Node) {
         self.word("(");
         match node.flag {

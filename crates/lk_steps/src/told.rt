@@ -10,18 +10,25 @@ use lk_core::rest_shows;
 use lk_machine::{Machine, Setup};
 use std::alloc::Global;
 
-/// A machine, how many locks it has, and how many acts were made on it.
+/// A machine whose acts are told.
 #[derive(Drop)]
 pub(crate) struct Told {
+    /// The machine.
     pub(crate) machine: Machine,
+    /// The number of its locks.
     pub(crate) locks: u32,
+    /// The number of acts that were made on it.
     pub(crate) acts: u64,
 }
 
 impl Told {
     ghost use Rattle.lk_steps.specs.Told.{CanGoOn};
 
-    /// The machine at rest, on which no act was made. It takes all its memory here.
+    /// The machine of a setup, on which no act was made. It takes all its memory here.
+    ///
+    /// # Errors
+    ///
+    /// There is not enough memory.
     pub(crate) fn at_rest(alloc: Global, setup: Setup) -> Result<Told, Memory>
         requires { IsLawfulSetup setup }
         ensures ready { IfOk result CanGoOn }
@@ -37,8 +44,8 @@ impl Told {
         })
     }
 
-    /// Makes the act, tells what it did, and gives its event: the act and the event that
-    /// `lk_machine` defines.
+    /// Makes the act, puts what it did into `step`, and returns its event. The machine and the
+    /// event are what `lk_machine` defines.
     pub(crate) fn act(&mut self, act: Act, step: &mut Step) -> Option<Event>
         requires ready { CanGoOn self.old }
         requires few { self.old.acts < 100000000 }
