@@ -1,8 +1,11 @@
-//! The program, over standard input, output and error. `qlock replay` reads a trace and writes its
-//! transcript, and `qlock osq` does so with a run of the optimistic spin queue. `qlock audit` reads a
-//! transcript from anybody and says whether it is lawful. `qlock ledger` reads a job file, runs its
-//! jobs on threads, and writes what came of them. `qlock gen` and `qlock load` write the generated
-//! trace of a start number, and the closing lines of its replay.
+//! The program `qlock`, over standard input, output and error.
+//!
+//! - `qlock replay` reads a trace and writes its transcript.
+//! - `qlock osq` does so with a run of the optimistic spin queue.
+//! - `qlock audit` reads a history and says whether it is lawful.
+//! - `qlock ledger` reads a job file, runs its jobs on threads, and writes their outcome.
+//! - `qlock gen` writes the generated trace of a start number.
+//! - `qlock load` writes the closing lines of the replay of that trace.
 #![tactic(auto)]
 
 use lk_command::answer;

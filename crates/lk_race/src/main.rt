@@ -1,15 +1,15 @@
-//! Threads take one lock in turn, and change two numbers while they hold it.
+//! Threads acquire one lock in turn, and change two numbers while they hold it.
 //!
-//! `lk_race MODE KIND THREADS TURNS WORK` makes a domain of one lock of this mode and kind and of so
-//! many processors, and gives each processor to a thread of its own. In each of its turns a processor
-//! takes the lock, changes the numbers so often, and frees the lock; under a reader-writer lock it
-//! compares them as a reader in 99 turns of a hundred. At the end the numbers are told, and to
+//! `lk_race MODE KIND THREADS TURNS WORK` makes a domain with one lock of this mode and kind, and a
+//! processor for each thread. In each of its turns a thread acquires the lock, changes the numbers
+//! WORK times, and releases the lock. Under a reader-writer lock it compares the numbers as a
+//! reader in 99 of 100 turns. At the end the program writes the numbers to standard output, and to
 //! standard error the time that the turns took.
 //!
-//! `lk_race pv spin THREADS TURNS WORK [SPINS]` does so with a lock whose waiters halt: each spins
-//! for so many turns, or 32,768, and then sleeps until it is kicked.
+//! `lk_race pv spin THREADS TURNS WORK [SPINS]` does so with the paravirtual lock. A waiter spins
+//! for at most SPINS turns, or 32,768, and then sleeps until it is kicked.
 //!
-//! It is a whole program over running locks: a plan, the domain that is made of it with its
+//! This is a whole program with locks for threads: a plan, the domain that is made of it with its
 //! processors, the calls, and the end of the domain.
 #![tactic(auto)]
 
@@ -35,13 +35,13 @@ use std::thread::Threads;
 use std::time::{Duration, Instant};
 use words::{Asked, race_of};
 
-// The status of a race whose numbers are wrong, or of which nothing came.
+// The exit status of a race whose numbers are wrong, or for which there was not enough memory.
 const WRONG: u8 = 1;
 
-// The status of words that are not those of a race.
+// The exit status for words that ask for no race.
 const USAGE: u8 = 2;
 
-// What came of a race, and what both numbers have to be.
+// What a race came to, and what both numbers have to be.
 #[derive(Drop)]
 struct Outcome {
     turns: u64,
@@ -59,7 +59,7 @@ fn time_since(rt: &impl Clock, start: io::Result<Instant>) -> io::Result<Duratio
     }
 }
 
-// The race of waiters that spin, from the plan of its domain to the domain's end.
+// A race whose waiters spin, from the plan of its domain to the domain's end.
 fn spin<R: Threads + Wait + Sync + AllocGlobal + Clock>(
     rt: &R,
     race: &Race,
@@ -82,7 +82,7 @@ fn spin<R: Threads + Wait + Sync + AllocGlobal + Clock>(
     }
 }
 
-// The race of waiters that halt.
+// A race whose waiters halt.
 fn halt<R: Threads + Wait + Sync + AllocGlobal + Clock>(
     rt: &R,
     race: &PvRace,
@@ -116,7 +116,7 @@ fn carry_out<R: Threads + Wait + Sync + AllocGlobal + Clock>(
     }
 }
 
-// Tells what came of a race, and whether the numbers are what they have to be.
+// Writes what a race came to. Returns whether the numbers are what they have to be.
 fn tell(rt: &(impl Print + Eprint), outcome: Outcome) -> io::Result<bool> {
     let (first, second) = outcome.numbers;
     let right = outcome.were_one && first == outcome.wanted && second == outcome.wanted;

@@ -2,8 +2,9 @@
 
 use std::sync::atomic::{AtomicU64, Ordering};
 
-/// Two numbers. Each is read and then written, and so two holders at once would lose a change; and
-/// who reads both while another changes them may find them apart.
+/// Two numbers that are always changed together. A change reads a number and then writes it, so two
+/// holders at the same time may lose a change. A thread that reads both numbers while another
+/// changes them may find them different.
 #[derive(Drop)]
 pub struct Numbers {
     first: AtomicU64,
@@ -18,7 +19,7 @@ fn raise(number: &AtomicU64) {
 }
 
 impl Numbers {
-    /// Both are 0.
+    /// Two numbers that are 0.
     pub fn new() -> Numbers {
         Numbers {
             first: AtomicU64::new(0),
@@ -27,7 +28,7 @@ impl Numbers {
         }
     }
 
-    /// Raises both by one, so often. Only who holds the lock alone may do this.
+    /// Raises both numbers by one, `times` times. The caller must be the only holder of the lock.
     pub fn change(&self, times: u16) {
         for _ in 0..times {
             raise(&self.first);
@@ -35,7 +36,8 @@ impl Numbers {
         }
     }
 
-    /// Reads both so often, and notes whether they were ever apart. Who does this holds the lock.
+    /// Reads both numbers `times` times, and notes whether they ever differed. The caller must hold
+    /// the lock.
     pub fn compare(&self, times: u16) {
         for _ in 0..times {
             let first = self.first.load(Ordering::SeqCst);
@@ -45,7 +47,7 @@ impl Numbers {
         }
     }
 
-    /// Both, once all processors have ended.
+    /// Both numbers, once all threads have ended.
     pub fn read(&self) -> (u64, u64) {
         (
             self.first.load(Ordering::SeqCst),
@@ -53,7 +55,7 @@ impl Numbers {
         )
     }
 
-    /// Whether nobody who compared them found them apart.
+    /// Whether no comparison found them different.
     pub fn were_one(&self) -> bool {
         self.apart.load(Ordering::SeqCst) == 0
     }

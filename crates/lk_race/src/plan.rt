@@ -10,10 +10,10 @@ use lk_domain::Plan;
 use lk_pvdomain::PvPlan;
 use std::alloc::Global;
 
-// How many handovers may pass a waiter of the other socket by.
+// The most handoffs that may pass a waiter that was moved aside.
 const THRESHOLD: u32 = 16;
 
-// Two sockets, whose processors take turns.
+// Two sockets: processors with even numbers are on one, and those with odd numbers on the other.
 fn sockets(alloc: Global, threads: u32) -> Result<List<u32>, Memory>
     ensures { IfOk result (λ sockets. length sockets.items ≡ threads) }
 {
@@ -24,8 +24,12 @@ fn sockets(alloc: Global, threads: u32) -> Result<List<u32>, Memory>
     Ok(sockets)
 }
 
-/// One lock of the race's kind, and a processor for each thread, on two sockets. The ledger has no
-/// accounts, and so no processor may write an entry.
+/// A plan with one lock of the race's kind, and a processor for each thread, on two sockets. The
+/// ledger has no accounts, and no processor may write an entry.
+///
+/// # Errors
+///
+/// There is not enough memory.
 pub fn plan_of(alloc: Global, race: &Race) -> Result<Plan, Memory>
     ensures lawful { IfOk result (λ plan. IsLawfulPlan plan) }
     ensures cpus { IfOk result (λ plan. cpus_of plan ≡ race.now.course.threads) }
@@ -45,8 +49,12 @@ pub fn plan_of(alloc: Global, race: &Race) -> Result<Plan, Memory>
     })
 }
 
-/// One lock whose waiters halt after so many turns as the race says, and a processor for each thread. The
-/// ledger has no accounts, and so no processor may write an entry.
+/// A plan with one paravirtual lock of the race's spin bound, and a processor for each thread. The
+/// ledger has no accounts, and no processor may write an entry.
+///
+/// # Errors
+///
+/// There is not enough memory.
 pub fn pv_plan_of(alloc: Global, race: &PvRace) -> Result<PvPlan, Memory>
     ensures lawful { IfOk result (λ plan. IsLawful plan) }
     ensures cpus { IfOk result (λ plan. length plan.shares.items ≡ race.now.course.threads) }

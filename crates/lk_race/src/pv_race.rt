@@ -1,4 +1,4 @@
-// A race whose waiters halt: each processor takes the lock in turns of its own.
+// A race whose waiters halt.
 ghost use Rattle.std.specs.Prelude.{◌≡◌, ◌≤◌, length};
 ghost use Rattle.lk_domain.specs.Plans.{locks_of};
 ghost use Rattle.lk_pvdomain.specs.PvSeats.{AllRest, AreDealt, IsDealt, Rests};
@@ -16,18 +16,19 @@ use std::thread::Threads;
 // The one lock of the domain.
 const LOCK: LockId = LockId { index: 0 };
 
-/// A race over a lock whose waiters halt.
+/// A race for a lock whose waiters halt.
 #[derive(Clone, Copy)]
 pub struct PvRace {
-    /// For how many turns a waiter spins before it halts.
+    /// How many turns a waiter spins before it halts, at least 1.
     pub spins: u16,
     /// What its threads do.
     pub course: Course,
     ghost some: { 1 ≤ spins },
 }
 
-// All turns of a processor: it has the lock from `pv_lock` to `pv_unlock`, and nothing in between two
-// turns. The loop is a function of its own, so that what stands around it plays no part in its speed.
+// All turns of a processor. It holds the lock from `pv_lock` to `pv_unlock`, and nothing between
+// two turns. The loop is a function of its own, so that the code around it does not change its
+// speed.
 #[inline(never)]
 fn take_turns<R: Wait>(cpu: &mut PvCpu, rt: &R, domain: &PvDomain, numbers: &Numbers, race: &PvRace)
     requires one { locks_of domain.now.plan ≡ 1 }
@@ -51,7 +52,8 @@ fn take_part<R: Wait>(cpu: &mut PvCpu, rt: &R, domain: &PvDomain, numbers: &Numb
     take_turns(cpu, rt, domain, numbers, race);
 }
 
-/// All processors, which are new, take their turns at once, each on a thread of its own.
+/// Lets all processors, which must be new, take their turns at the same time, each on a thread of
+/// its own. Returns when all threads have ended.
 pub fn take_all_pv_turns<R: Threads + Wait + Sync>(
     rt: &R,
     domain: &PvDomain,

@@ -1,4 +1,4 @@
-// A race whose waiters spin: each processor takes the lock in turns of its own.
+// A race whose waiters spin.
 ghost use Rattle.std.specs.Prelude.{◌≡◌, false, length};
 ghost use Rattle.lk_abs.specs.declared.names.Kind.TheVariants.{Spin, Rw};
 ghost use Rattle.lk_law.specs.Agree.{halts};
@@ -17,15 +17,15 @@ use std::thread::Threads;
 // The one lock of the domain.
 const LOCK: LockId = LockId { index: 0 };
 
-// Of so many turns under a reader-writer lock the last is a writer's.
+// Under a reader-writer lock, the last of so many turns is a writer's, and the others are readers'.
 const HUNDRED: u32 = 100;
 
-/// A race over a lock whose waiters spin.
+/// A race for a lock whose waiters spin.
 #[derive(Clone, Copy)]
 pub struct Race {
-    /// The mode of the lock.
+    /// The lock family.
     pub mode: Mode,
-    /// Its kind.
+    /// The kind of the lock.
     pub kind: Kind,
     /// What its threads do.
     pub course: Course,
@@ -33,7 +33,7 @@ pub struct Race {
 }
 
 impl Race {
-    /// In how many of its turns each thread changes the numbers.
+    /// The number of turns in which each thread changes the numbers.
     pub fn writes(&self) -> u32 {
         match self.kind {
             Kind::Spin => self.course.turns,
@@ -42,7 +42,7 @@ impl Race {
     }
 }
 
-// All turns of a processor under a spinlock, which it holds from `lock` to `unlock`, and nothing in
+// All turns of a processor under a spinlock. It holds the lock from `lock` to `unlock`, and nothing
 // between two turns.
 fn take_turns<R: Wait>(cpu: &mut Cpu, rt: &R, domain: &Domain, numbers: &Numbers, race: &Race)
     requires one { locks_of domain.now.plan ≡ 1 }
@@ -58,7 +58,7 @@ fn take_turns<R: Wait>(cpu: &mut Cpu, rt: &R, domain: &Domain, numbers: &Numbers
     }
 }
 
-// A turn under a reader-writer lock that the processor shares with other readers.
+// A turn as a reader, beside other readers.
 fn read_turn<R: Wait>(cpu: &mut Cpu, rt: &R, domain: &Domain, numbers: &Numbers, work: u16)
     requires one { locks_of domain.now.plan ≡ 1 }
     requires kind { kind_at domain.now.plan 0 ≡ Rw }
@@ -71,7 +71,8 @@ fn read_turn<R: Wait>(cpu: &mut Cpu, rt: &R, domain: &Domain, numbers: &Numbers,
     read_unlock(cpu, domain, LOCK);
 }
 
-// One that it has alone. It is one in a hundred, and so out of the way of the others.
+// A turn as the writer. It is one in a hundred, and has a function of its own, to keep the code of
+// the others short.
 #[inline(never)]
 fn write_turn<R: Wait>(cpu: &mut Cpu, rt: &R, domain: &Domain, numbers: &Numbers, work: u16)
     requires one { locks_of domain.now.plan ≡ 1 }
@@ -116,7 +117,8 @@ fn take_part<R: Wait>(cpu: &mut Cpu, rt: &R, domain: &Domain, numbers: &Numbers,
     }
 }
 
-/// All processors take their turns at once, each on a thread of its own.
+/// Lets all processors take their turns at the same time, each on a thread of its own. Returns when
+/// all threads have ended.
 pub fn take_all_turns<R: Threads + Wait + Sync>(
     rt: &R,
     domain: &Domain,

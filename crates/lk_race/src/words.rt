@@ -1,4 +1,4 @@
-// The words of the program.
+// What the program's arguments ask for.
 ghost use Rattle.std.specs.Prelude.{◌≡◌, IfSome, false};
 ghost use Rattle.lk_law.specs.Agree.{halts};
 
@@ -8,19 +8,19 @@ use crate::race::Race;
 use lk_abs::{Kind, Mode};
 use std::env::{self, Env};
 
-// For how many turns a waiter spins before it halts, if no word says it.
+// How many turns a waiter spins before it halts, if no argument says it.
 const SPINS: u16 = 32_768;
 
-/// The race for which the words ask.
+/// The race for which the program's arguments ask.
 #[derive(Clone, Copy)]
 pub enum Asked {
-    /// Over a lock whose waiters spin.
+    /// A race for a lock whose waiters spin.
     Spins(Race),
-    /// Over one whose waiters halt.
+    /// A race for a lock whose waiters halt.
     Halts(PvRace),
 }
 
-// The mode of a word, if its locks run.
+// The mode that a word names, if waiters of that mode spin.
 fn mode_of(word: &str) -> Option<Mode>
     ensures awake { IfSome result (λ mode. halts mode ≡ false) }
 {
@@ -32,7 +32,7 @@ fn mode_of(word: &str) -> Option<Mode>
     }
 }
 
-// The kind of lock of a word.
+// The kind of lock that a word names.
 fn kind_of(word: &str) -> Option<Kind> {
     match word {
         "spin" => Some(Kind::Spin),
@@ -41,7 +41,7 @@ fn kind_of(word: &str) -> Option<Kind> {
     }
 }
 
-// A race over a lock whose waiters halt, which is a spinlock.
+// A race for a lock whose waiters halt, which is a spinlock.
 fn halting(kind: Kind, spins: Option<u16>, course: Course) -> Option<Asked> {
     let spins = spins.unwrap_or(SPINS);
     if spins < 1 {
@@ -53,7 +53,7 @@ fn halting(kind: Kind, spins: Option<u16>, course: Course) -> Option<Asked> {
     }
 }
 
-// A race over a lock of this mode, whose waiters never halt.
+// A race for a lock of this mode, whose waiters never halt.
 fn spinning(mode: &str, kind: Kind, spins: Option<u16>, course: Course) -> Option<Asked> {
     if spins.is_some() {
         return None;
@@ -62,7 +62,8 @@ fn spinning(mode: &str, kind: Kind, spins: Option<u16>, course: Course) -> Optio
     Some(Asked::Spins(Race { mode, kind, course }))
 }
 
-/// The race for which the program's words ask; none, where they are not those of one.
+/// The race for which the program's arguments ask. Returns `None` for other arguments, and if they
+/// cannot be read.
 pub fn race_of<R: Env + Alloc>(rt: &R) -> Option<Asked> {
     let mut words = env::args(rt).ok()?.skip(1);
     let mode = words.next()?;
