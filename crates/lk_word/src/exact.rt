@@ -1,4 +1,4 @@
-//! The law that packing loses nothing.
+//! The law that packing is exact.
 
 ghost use Rattle.std.specs.Prelude.{◌≡◌, ◌≢◌, ◌<◌, ◌^◌, ℕ, IfSome, IfNone};
 ghost use Rattle.lk_word.specs.declared.spin_word.Layout.{Layout};
@@ -7,11 +7,11 @@ ghost use Rattle.lk_word.specs.declared.rw_word.RwFields.{RwFields};
 ghost use Rattle.lk_word.specs.SpinWord.{IsPackable, packed, unpacked};
 ghost use Rattle.lk_word.specs.RwWord.{IsPackableRw, packed_rw, unpacked_rw};
 
-/// Packing is exact, in each layout. Different fields have different words, each word is below 2^32
-/// and unpacks to its fields, and a word of 32 bits unpacks to nothing only where no fields pack to
-/// it.
+/// Packing is exact, in each layout of a spinlock's word and for a reader-writer lock's word.
 ///
-/// It does nothing when it runs: its contract is the law.
+/// Different fields pack to different words. A packed word is below 2^32, and unpacks to the
+/// fields that it was packed from. A word unpacks to nothing only if no fields pack to it. The
+/// function does nothing: its contract is the law.
 pub fn packing_is_exact()
     ensures injective { (layout : Layout) (f g : Fields) → IsPackable layout f
         → IsPackable layout g → packed layout f ≡ packed layout g → f ≡ g }

@@ -1,8 +1,8 @@
-//! The two packed words of the queued locks, and what stands in them.
+//! The words of Linux's queued locks, and their fields. A word has 32 bits.
 //!
-//! `pack` and `unpack` go between a spinlock's word, in one of two layouts, and its fields,
-//! `pack_rw` and `unpack_rw` between a reader-writer lock's word and its fields. No call takes
-//! memory.
+//! `pack` and `unpack` convert between the word of a queued spinlock (`struct qspinlock`), in one
+//! of two layouts, and its fields. `pack_rw` and `unpack_rw` convert between the word of a queued
+//! reader-writer lock (`struct qrwlock`) and its fields. No call takes memory.
 #![tactic(auto)]
 
 mod exact;

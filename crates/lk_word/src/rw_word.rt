@@ -1,13 +1,12 @@
 //! The word of a queued reader-writer lock.
 //!
-//! The layout is that of Linux's qrwlock (`_QW_LOCKED` 0xff, `_QW_WAITING` 0x100,
-//! `_QR_BIAS` 1 << 9):
+//! The layout is that of Linux's `include/asm-generic/qrwlock.h`:
 //!
-//! | Bits | Content |
-//! |---|---|
-//! | 0 to 7 | the writer byte: 0, or 0xff for a writer |
-//! | 8 | waiting |
-//! | 9 to 31 | the number of readers |
+//! | Bits | Content | In Linux |
+//! |---|---|---|
+//! | 0 to 7 | the writer byte: 0, or 0xff for a writer | `_QW_LOCKED` |
+//! | 8 | the waiting bit | `_QW_WAITING` |
+//! | 9 to 31 | the number of readers | `_QR_BIAS` is one reader |
 
 ghost use Rattle.std.specs.Prelude.{◌≡◌, ◌≢◌, ◌↔◌, IsNone, IfSome, IfNone};
 ghost use Rattle.lk_word.specs.declared.rw_word.RwFields.{RwFields};
@@ -21,16 +20,19 @@ const WAITING: u32 = 0x100;
 
 const READERS_SHIFT: u32 = 9;
 
-/// What stands in a reader-writer lock's word. `waiting` says that a writer waits for the readers
-/// to leave.
+/// The fields of a reader-writer lock's word.
 #[derive(Clone, Copy, Debug, PartialEq, Eq)]
 pub struct RwFields {
+    /// How many readers the word counts. A reader that waits may be counted too.
     pub readers: u32,
+    /// Whether the waiting bit is set: a writer waits until no reader is counted and no other
+    /// writer holds the lock.
     pub waiting: bool,
+    /// Whether a writer holds the lock.
     pub writer: bool,
 }
 
-/// The word with these fields, of fewer than 2^23 readers.
+/// Packs these fields into a word. There must be fewer than 2^23 readers.
 #[inline]
 pub fn pack_rw(fields: RwFields) -> u32
     requires { IsPackableRw fields }
@@ -41,8 +43,8 @@ pub fn pack_rw(fields: RwFields) -> u32
     (fields.readers << READERS_SHIFT) | waiting | writer
 }
 
-/// The fields in this word, or `None` for a word that no fields pack to: one with a writer byte
-/// other than 0 and 0xff.
+/// Unpacks a word. Returns `None` exactly if no fields pack to it: then its writer byte is neither
+/// 0 nor 0xff.
 #[inline]
 pub fn unpack_rw(word: u32) -> Option<RwFields>
     ensures read { result ≡ unpacked_rw word }

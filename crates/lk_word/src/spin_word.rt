@@ -1,15 +1,15 @@
 //! The word of a queued spinlock.
 //!
-//! The layouts are the two of Linux's qspinlock_types.h: the narrow one for fewer than 16,384
-//! processors, and the wide one for more.
+//! The layouts are the two of Linux's `include/asm-generic/qspinlock_types.h`: the narrow one for
+//! fewer than 16,384 processors, and the wide one for 16,384 or more.
 //!
 //! | Bits, narrow | Bits, wide | Content |
 //! |---|---|---|
 //! | 0 to 7 | 0 to 7 | the locked byte: 0 free, 1 held, 3 held and slow |
-//! | 8 | 8 | pending |
+//! | 8 | 8 | the pending bit |
 //! | 9 to 15 | | unused, 0 |
 //! | 16 to 17 | 9 to 10 | the tail's index, 0 to 3 |
-//! | 18 to 31 | 11 to 31 | the tail's processor plus one, 0 where there is no queue |
+//! | 18 to 31 | 11 to 31 | the tail's processor plus one, or 0 if there is no queue |
 
 ghost use Rattle.std.specs.Prelude.{◌≡◌, ◌≢◌, ◌↔◌, ◌/◌, ◌%◌, ◌^◌, ◌≤◌, ◌==◌, ℕ, bit_and, not, IsNone, IfSome, IfNone};
 ghost use Rattle.lk_word.specs.declared.spin_word.Fields.{Fields};
@@ -26,41 +26,51 @@ const ABOVE_PENDING: u32 = 0x200;
 
 const TAIL_INDEX_MASK: u32 = 3;
 
-/// Where the tail stands in a word.
+/// The layout of a spinlock's word: which bits the tail has.
 #[derive(Clone, Copy, Debug, PartialEq, Eq)]
 pub enum Layout {
-    /// From bit 16 on, so that the pending bit has a byte of its own, and the tail 16 bits.
+    /// Bits 16 to 31. The pending bit has a byte of its own, and the tail has 16 bits.
     Narrow,
-    /// From bit 9 on, right above the pending bit.
+    /// Bits 9 to 31, directly above the pending bit.
     Wide,
 }
 
-/// A queue node: one of the four nodes of a processor, named by its index from 0 to 3.
+/// The name of a queue node (Linux's `struct qnode`). Each processor has four nodes.
 #[derive(Clone, Copy, Debug, PartialEq, Eq)]
 pub struct NodeName {
+    /// The processor that has the node, from 0.
     pub cpu: u32,
+    /// Which of its four nodes, from 0 to 3.
     pub index: u32,
 }
 
-/// The locked byte: 0, 1, or 3 for a held lock whose unlock has to take the slow path
-/// (Linux's `_Q_SLOW_VAL`, of the paravirtual spinlock).
+/// The locked byte.
 #[derive(Clone, Copy, Debug, PartialEq, Eq)]
 pub enum Locked {
+    /// 0: nobody holds the lock.
     Free,
+    /// 1: a waiter holds the lock (`_Q_LOCKED_VAL`).
     Held,
+    /// 3: a waiter holds the lock, and the release must take the slow path, which finds whom to
+    /// kick (`_Q_SLOW_VAL`). Only the paravirtual spinlock has this byte.
     Slow,
 }
 
-/// What stands in a spinlock's word. `tail` is the last node of the queue, if there is a queue.
+/// The fields of a spinlock's word.
 #[derive(Clone, Copy, Debug, PartialEq, Eq)]
 pub struct Fields {
+    /// The locked byte.
     pub locked: Locked,
+    /// Whether the pending bit is set.
     pub pending: bool,
+    /// The last node of the queue, or `None` if there is no queue.
     pub tail: Option<NodeName>,
 }
 
-/// The word with these fields. A tail's processor is at most 16,382 in the narrow layout, and at
-/// most 2,097,150 in the wide one. Its index is at most 3.
+/// Packs these fields into a word.
+///
+/// A tail's processor must be at most 16,382 in the narrow layout, and at most 2,097,150 in the
+/// wide one. A tail's index must be at most 3.
 #[inline]
 pub fn pack(layout: Layout, fields: Fields) -> u32
     requires { IsPackable layout fields }
@@ -72,8 +82,8 @@ pub fn pack(layout: Layout, fields: Fields) -> u32
     tail | pending | locked
 }
 
-/// The fields in this word, or `None` for a word that no fields pack to: one with an unused bit,
-/// with a locked byte other than 0, 1 and 3, or with a tail index and no tail processor.
+/// Unpacks a word. Returns `None` exactly if no fields pack to it: then it has an unused bit set,
+/// or a locked byte other than 0, 1 and 3, or a tail index without a tail processor.
 #[inline]
 pub fn unpack(layout: Layout, word: u32) -> Option<Fields>
     ensures read { result ≡ unpacked layout word }
@@ -127,7 +137,7 @@ fn tail_shift(layout: Layout) -> u32
     }
 }
 
-// The bits that are 0 in each word.
+// The bits that are 0 in each packed word.
 #[inline]
 fn unused_mask(layout: Layout) -> u32
     ensures { (word : ℕ) → (bit_and word result == 0) ≡ (word / 512 % unused_values layout == 0) }
@@ -149,7 +159,7 @@ fn pack_tail(layout: Layout, tail: Option<NodeName>) -> u32
     }
 }
 
-// Whether a bit is set that is 0 in each word.
+// Whether a bit is set that is 0 in each packed word.
 #[inline]
 fn has_unused_bit(layout: Layout, word: u32) -> bool
     ensures { result ≡ not (word / 512 % unused_values layout == 0) }
@@ -168,7 +178,7 @@ fn tail_parts(layout: Layout, word: u32) -> (u32, u32)
 }
 
 // What stands above the pending bit: no tail, a tail, or what no fields pack to. A word without a
-// tail has no bit there, in each layout; so who looks at one does not ask for the layout.
+// tail has no bit set there in either layout, so the layout is asked for only if there is one.
 #[inline]
 fn unpack_tail(layout: Layout, word: u32) -> Option<Option<NodeName>>
     ensures { result ≡ tail_in layout word }
