@@ -5,24 +5,24 @@ ghost use Rattle.lk_machine.specs.Family.{family_of};
 
 use crate::parts::Pc;
 
-/// A family of rows: those that one crate makes.
+/// A family of rows: the rows that one crate makes.
 #[derive(Clone, Copy, Debug, PartialEq, Eq)]
 pub enum Family {
-    /// On the word alone: the fast path, the try, the test-and-set loop, the pending path and the
-    /// plain release.
+    /// The rows of `lk_spin`, on the word alone: the fast path, the try, the test-and-set loop,
+    /// the pending path and the release outside mode `pv`.
     Spin,
-    /// Of the queue, and of waiting without a node.
+    /// The rows of `lk_queue`: the queue, and a waiter without a node.
     Queue,
-    /// Of the choice of the next, in the CNA lock.
+    /// The rows of `lk_cna`: a queue head chooses its successor and hands off.
     Cna,
-    /// Of the paravirtual lock.
+    /// The rows of `lk_pv`: the paravirtual lock.
     Pv,
-    /// Of readers and writers.
+    /// The rows of `lk_rw`: readers and writers.
     Rw,
 }
 
 impl Pc {
-    /// The family of a row.
+    /// The family of the row.
     #[inline]
     pub fn family(self) -> Family
         ensures { result ≡ family_of self }

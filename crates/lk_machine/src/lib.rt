@@ -1,5 +1,6 @@
-//! The machine of queued locks as plain data: its parts, its readers and writers, and the written
-//! steps that move it, each of which stands once in `specs/`, as data.
+//! The state of a replay of queued locks, as plain data: the words of the locks, the queue nodes,
+//! the frames of the processors, and the calls that read and change them. `specs/` defines each
+//! row, which is one atomic step of a lock, as data.
 #![tactic(auto)]
 
 mod family;

@@ -26,16 +26,16 @@ use lk_word::{Fields, NodeName, RwFields};
 use std::marker::Model;
 use words::Words;
 
-/// How many frames a processor can have: its task, and five interrupts above it.
+/// The most frames of a processor: one for its task, and five for nested interrupts.
 pub const MAX_FRAMES: usize = 6;
 
-/// How many nodes a processor has, as in Linux.
+/// The number of queue nodes of a processor (`MAX_NODES` in `kernel/locking/qspinlock.c`).
 pub const MAX_NODES: usize = 4;
 
-/// One processor. The room for its frames is taken when it is made.
+/// One processor. The memory for its frames is taken when it is made.
 #[derive(Drop)]
 struct CpuState {
-    /// By context, the top one last.
+    /// By context, the newest last.
     frames: Vec<Frame>,
     nodes: [Node; MAX_NODES],
     /// How many frames are in the slow path.
@@ -63,13 +63,14 @@ impl Model for CpuState {
     ghost invariant = { λ c. (length c.frames.items ≤ 6) × (6 ≤ vec_capacity c.frames) };
 }
 
-/// A machine: the words of its locks, its processors, and what they counted.
+/// The state of a replay: what it is made of, the words of the locks, the processors with their
+/// nodes and frames, the hash, and the counts.
 #[derive(Drop)]
 pub struct Machine {
     setup: Setup,
     words: Words,
     cpus: Vec<CpuState>,
-    /// The node of each lock that is entered. It has at least four places a processor.
+    /// The node of each lock that is entered. It has at least four places for each processor.
     hash: LockHash,
     counts: Counts,
 }
@@ -109,7 +110,7 @@ fn context_in(frames: &[Frame], name: NodeName) -> Option<usize>
 }
 
 impl Machine {
-    /// The word of a spinlock or a wait lock.
+    /// The fields of the word of a spinlock or a wait lock.
     #[inline]
     #[tactic(auto, unfolding(crate::specs::Machine::word_at, crate::specs::Machine::lock_at))]
     pub fn word(&self, lock: LockName) -> Fields
@@ -120,7 +121,7 @@ impl Machine {
         self.words.word(lock)
     }
 
-    /// Stores the word of a spinlock or a wait lock.
+    /// Stores the word of a spinlock or a wait lock. A tail must fit the layout of the format.
     #[inline]
     #[tactic(auto, unfolding(crate::specs::Machine::lock_at, crate::specs::Machine::set_word, crate::specs::Machine::set_lock))]
     pub fn set_word(&mut self, lock: LockName, fields: Fields)
@@ -131,7 +132,7 @@ impl Machine {
         self.words.set_word(lock, fields);
     }
 
-    /// The word of a reader-writer lock.
+    /// The fields of the word of a reader-writer lock, by the number of the lock.
     #[inline]
     #[tactic(auto, unfolding(crate::specs::Machine::rw_at, crate::specs::Machine::lock_at))]
     pub fn rw(&self, index: u32) -> RwFields
@@ -142,7 +143,8 @@ impl Machine {
         self.words.rw(index)
     }
 
-    /// Stores the word of a reader-writer lock.
+    /// Stores the word of a reader-writer lock, by the number of the lock. There must be fewer
+    /// than 2^23 readers.
     #[inline]
     #[tactic(auto, unfolding(crate::specs::Machine::lock_at, crate::specs::Machine::set_rw, crate::specs::Machine::set_lock))]
     pub fn set_rw(&mut self, index: u32, fields: RwFields)
@@ -153,7 +155,7 @@ impl Machine {
         self.words.set_rw(index, fields);
     }
 
-    /// A node.
+    /// A copy of a queue node.
     #[inline]
     #[tactic(auto, unfolding(crate::specs::Machine::node_at, crate::specs::Machine::cpu_at))]
     pub fn node(&self, name: NodeName) -> Node
@@ -164,7 +166,7 @@ impl Machine {
         state.nodes[name.index as usize]
     }
 
-    /// Stores a node.
+    /// Stores a queue node.
     #[inline]
     #[tactic(auto, unfolding(crate::specs::Machine::set_node, crate::specs::Machine::set_cpu, crate::specs::Machine::cpu_at))]
     pub fn set_node(&mut self, name: NodeName, node: Node)
@@ -175,7 +177,8 @@ impl Machine {
         state.nodes[name.index as usize] = node;
     }
 
-    /// The context of the frame that has the node as its own, or `None` where no frame has it.
+    /// The context (interrupt nesting level) of the frame that has the node as its own, or `None`
+    /// if no frame has it.
     #[tactic(auto, unfolding(crate::specs::Moves::context_of, crate::specs::Machine::cpu_at))]
     pub fn context_of(&self, name: NodeName) -> Option<u32>
         ensures { result ≡ context_of self.now name }
@@ -185,7 +188,8 @@ impl Machine {
         Some(ctx as u32)
     }
 
-    /// The waiter whose frame has the node as its own; of a node that nobody uses, the task.
+    /// The waiter whose frame has the node as its own. If no frame has it, this is the task of the
+    /// node's processor.
     #[tactic(auto, unfolding(crate::specs::Moves::waiter_of))]
     pub fn waiter_of(&self, name: NodeName) -> Waiter
         ensures { result ≡ waiter_of self.now name }
@@ -196,7 +200,8 @@ impl Machine {
         }
     }
 
-    /// How many frames of a processor are in the slow path.
+    /// The number of frames of a processor that are in the slow path. A frame without a node
+    /// counts too.
     #[inline]
     #[tactic(auto, unfolding(crate::specs::Machine::queued_at, crate::specs::Machine::cpu_at))]
     pub fn queued(&self, cpu: u32) -> u32
@@ -207,7 +212,7 @@ impl Machine {
         state.queued
     }
 
-    /// Stores how many frames of a processor are in the slow path.
+    /// Stores the number of frames of a processor that are in the slow path.
     #[inline]
     #[tactic(auto, unfolding(crate::specs::Machine::set_queued, crate::specs::Machine::set_cpu, crate::specs::Machine::cpu_at))]
     pub fn set_queued(&mut self, cpu: u32, count: u32)
@@ -218,7 +223,7 @@ impl Machine {
         state.queued = count;
     }
 
-    /// Whether a processor is preempted.
+    /// Whether the hypervisor has preempted a processor.
     #[inline]
     #[tactic(auto, unfolding(crate::specs::Machine::preempted_at, crate::specs::Machine::cpu_at))]
     pub fn preempted(&self, cpu: u32) -> bool
@@ -229,7 +234,7 @@ impl Machine {
         state.preempted
     }
 
-    /// Stores whether a processor is preempted.
+    /// Stores whether the hypervisor has preempted a processor.
     #[inline]
     #[tactic(auto, unfolding(crate::specs::Machine::set_preempted, crate::specs::Machine::set_cpu, crate::specs::Machine::cpu_at))]
     pub fn set_preempted(&mut self, cpu: u32, yes: bool)
@@ -262,7 +267,7 @@ impl Machine {
         state.halted = yes;
     }
 
-    /// Whether a kick of a processor is remembered.
+    /// Whether a processor remembers a kick: one was made, and has ended no halt yet.
     #[inline]
     #[tactic(auto, unfolding(crate::specs::Machine::kicked_at, crate::specs::Machine::cpu_at))]
     pub fn kicked(&self, cpu: u32) -> bool
@@ -273,7 +278,7 @@ impl Machine {
         state.kicked
     }
 
-    /// Stores whether a kick of a processor is remembered.
+    /// Stores whether a processor remembers a kick.
     #[inline]
     #[tactic(auto, unfolding(crate::specs::Machine::set_kicked, crate::specs::Machine::set_cpu, crate::specs::Machine::cpu_at))]
     pub fn set_kicked(&mut self, cpu: u32, yes: bool)
@@ -284,7 +289,7 @@ impl Machine {
         state.kicked = yes;
     }
 
-    /// How many interrupt handlers a processor has not used.
+    /// How many interrupt handlers of a processor have not begun yet.
     #[inline]
     #[tactic(auto, unfolding(crate::specs::Machine::handlers_at, crate::specs::Machine::cpu_at, crate::specs::Programs::handlers_of))]
     pub fn handlers_left(&self, cpu: u32) -> u32
@@ -297,7 +302,7 @@ impl Machine {
         handlers.saturating_sub(state.handlers)
     }
 
-    /// How often the machine took each of ten ways.
+    /// The ten counts.
     #[inline]
     pub fn counts(&self) -> Counts
         ensures { result ≡ self.now.counts }
@@ -305,7 +310,7 @@ impl Machine {
         self.counts
     }
 
-    /// Stores how often the machine took each of ten ways.
+    /// Stores the ten counts.
     #[inline]
     #[tactic(auto, unfolding(crate::specs::Machine::set_counts))]
     pub fn set_counts(&mut self, counts: Counts)
@@ -314,7 +319,7 @@ impl Machine {
         self.counts = counts;
     }
 
-    /// How many processors there are.
+    /// The number of processors.
     #[inline]
     pub fn cpus(&self) -> u32
         ensures { result ≡ length self.now.cpus }
@@ -322,7 +327,7 @@ impl Machine {
         self.cpus.len() as u32
     }
 
-    /// The format.
+    /// The format of the trace.
     #[inline]
     pub fn format(&self) -> Format
         ensures { result ≡ self.now.setup.format }
@@ -330,7 +335,7 @@ impl Machine {
         self.setup.format
     }
 
-    /// The lock family.
+    /// The lock family of all spinlocks.
     #[inline]
     pub fn mode(&self) -> Mode
         ensures { result ≡ self.now.setup.mode }
@@ -338,7 +343,8 @@ impl Machine {
         self.setup.mode
     }
 
-    /// How many handovers of a CNA lock may stay on one socket while waiters stand aside.
+    /// The CNA threshold: the most handoffs that a lock makes while its secondary queue is not
+    /// empty. After that the secondary queue returns.
     #[inline]
     pub fn threshold(&self) -> u32
         ensures { result ≡ self.now.setup.threshold }
@@ -346,7 +352,8 @@ impl Machine {
         self.setup.threshold
     }
 
-    /// How many turns a paravirtual waiter spins before it halts.
+    /// The spin bound, in polls: how many a paravirtual waiter makes before it halts (Linux's
+    /// `SPIN_THRESHOLD`).
     #[inline]
     pub fn spins(&self) -> u32
         ensures { result ≡ self.now.setup.spins }
@@ -363,7 +370,7 @@ impl Machine {
         *self.setup.topology.sockets.get(cpu as usize)
     }
 
-    // The number of a processor's socket; of none that there is it is 0.
+    // The number of a processor's socket, and 0 for a number that no processor has.
     fn socket_number(&self, cpu: u32) -> u32
         ensures { result ≡ slice_index_or self.now.setup.topology.sockets.items cpu 0 }
     {
@@ -383,8 +390,8 @@ impl Machine {
         self.socket_number(one) == self.socket_number(other)
     }
 
-    // Whether no front may move the waiter of a node aside: in the second format, one in an
-    // interrupt.
+    // Whether the waiter of a node is never moved aside, since it is in an interrupt and the
+    // format is the second.
     fn stays(&self, name: NodeName) -> bool
         ensures { result ≡ stays self.now.setup.format (waiter_of self.now name).ctx }
     {
@@ -394,8 +401,9 @@ impl Machine {
         }
     }
 
-    /// Whether a node is local to a processor: its waiter stands on the same socket or, in the
-    /// second format, is in an interrupt.
+    /// Whether the waiter of the node `name` is local to processor `cpu`: it runs on the same
+    /// socket or, in format 2, it is in an interrupt. A CNA queue head never moves a local waiter
+    /// aside.
     #[tactic(auto, unfolding(crate::specs::Moves::waiter_of))]
     pub fn is_local(&self, cpu: u32, name: NodeName) -> bool
         ensures { let setup = self.now.setup in

@@ -1,172 +1,176 @@
-// The parts of a machine.
+// The nodes, the counts, the rows and the frames of a machine.
 
 use lk_abs::LockName;
 use lk_word::NodeName;
 
-/// What a paravirtual waiter's node says of its processor.
+/// What a paravirtual waiter says of its processor, for others to read (Linux's
+/// `enum vcpu_state`).
 #[derive(Clone, Copy, Debug, PartialEq, Eq)]
 pub enum State {
-    /// It runs.
+    /// The processor runs (`vcpu_running`).
     Running,
-    /// It has halted, or is about to.
+    /// The waiter has said that its processor will halt, and has not taken that back
+    /// (`vcpu_halted`).
     Halted,
-    /// It has halted, and its node stands in the hash.
+    /// The waiter is the queue head, and its node was entered into the hash or is about to be
+    /// (`vcpu_hashed`).
     Hashed,
 }
 
-/// What a waiter's node says of its turn.
+/// The flag of a queue node: whether the queue head has handed off to its waiter.
 #[derive(Clone, Copy, Debug, PartialEq, Eq)]
 pub enum Flag {
-    /// It waits.
+    /// Nobody has handed off to the waiter.
     Unset,
-    /// It leads, and nobody stands aside.
+    /// The queue head has handed off to it, and there is no secondary queue.
     Go,
-    /// It leads, and this is the first node of the second queue.
+    /// The queue head has handed off to it. The secondary queue begins with this node.
     Second(NodeName),
 }
 
-/// A waiter's node in a queue.
+/// A queue node (Linux's `struct qnode`). What other processors read of a waiter stands here.
 #[derive(Clone, Copy, Debug, PartialEq, Eq)]
 pub struct Node {
-    /// Whether its waiter leads.
+    /// Whether the queue head has handed off to its waiter.
     pub flag: Flag,
-    /// The node behind it.
+    /// The link: the node behind it, or `None` while none is linked.
     pub next: Option<NodeName>,
-    /// Of the first node of a second queue: the last one.
+    /// In the first node of a secondary queue: the last node of that queue.
     pub second_tail: Option<NodeName>,
-    /// How many handovers were made since the second queue became non-empty.
+    /// How many handoffs were made since the secondary queue became non-empty.
     pub runs: u32,
-    /// What its processor does, in the paravirtual lock.
+    /// What its waiter says of its processor, in the paravirtual lock.
     pub state: State,
 }
 
-/// How often the machine took each of ten ways. The names are borrowed from Linux's lock events.
+/// The ten counts of a replay. Their names are those of Linux's lock events
+/// (`kernel/locking/lock_events_list.h`).
 #[derive(Clone, Copy, Debug, PartialEq, Eq)]
 pub struct Counts {
-    /// Takes by the pending bit.
+    /// Acquisitions by the pending bit (P4).
     pub lock_pending: u64,
-    /// Entries into the slow path.
+    /// Entries into the slow path (G1). In mode `pv`, waiters that became the queue head (E1).
     pub lock_slowpath: u64,
-    /// Entries with the second node of a processor.
+    /// Entries into the slow path with the second node of a processor.
     pub lock_use_node2: u64,
-    /// Entries with the third node of a processor.
+    /// Entries into the slow path with the third node of a processor.
     pub lock_use_node3: u64,
-    /// Entries with the fourth node of a processor.
+    /// Entries into the slow path with the fourth node of a processor.
     pub lock_use_node4: u64,
-    /// Entries with no node left.
+    /// Entries into the slow path with no node left.
     pub lock_no_node: u64,
-    /// Takes past the queue, in the paravirtual lock.
+    /// Acquisitions by stealing, in mode `pv` (H2).
     pub pv_lock_stealing: u64,
-    /// Halts of a waiter, or what came near one.
+    /// How often a waiter behind another went on to halt (W4). Not each of these becomes a halt.
     pub pv_wait_node: u64,
-    /// Halts of a front, or what came near one.
+    /// How often a queue head went on to halt (E10). Not each of these becomes a halt.
     pub pv_wait_head: u64,
-    /// Kicks by a release.
+    /// Kicks by a release (U5).
     pub pv_kick_unlock: u64,
 }
 
-/// The rows: the atomic steps in which the locks are written. `docs/ROWS.md` tells each of them.
+/// The rows: the atomic steps of the locks. `docs/ROWS.md` has a table of each family.
 #[derive(Clone, Copy, Debug, PartialEq, Eq)]
 pub enum Pc {
-    /// Swaps the free word to locked.
+    /// Swaps the free word to held: the fast path.
     F1,
-    /// Looks whether the word is free, in a try.
+    /// Reads whether the word is free, in a try.
     T1,
-    /// Swaps the free word to locked, in a try.
+    /// Swaps the free word to held, in a try.
     T2,
-    /// Stores free: the lock is released.
+    /// Stores free into the locked byte: the release.
     U1,
-    /// Looks whether the word is free, in the test-and-set loop.
+    /// Polls until the word is free, in the test-and-set loop.
     V1,
-    /// Swaps the free word to locked, in the test-and-set loop.
+    /// Swaps the free word to held, in the test-and-set loop.
     V2,
-    /// Looks once more at a word that was pending alone.
+    /// Reads once more a word that had only the pending bit set.
     P0,
-    /// Sets pending.
+    /// Sets the pending bit.
     P1,
     /// Clears the pending bit that it set.
     P2,
-    /// Waits for the holder to release, with pending set.
+    /// Polls until the holder releases, with the pending bit set.
     P3,
-    /// Takes the lock and clears pending.
+    /// Acquires the lock and clears the pending bit.
     P4,
-    /// Takes a node, if one is left.
+    /// Enters the slow path, and takes a queue node if one is left.
     G1,
-    /// Looks once more whether the word is free.
+    /// Reads once more whether the word is free.
     G2,
-    /// Swaps the free word to locked, before it joins the queue.
+    /// Swaps the free word to held, before it joins the queue.
     G3,
     /// Exchanges the tail: it joins the queue.
     G4,
-    /// Links its node behind the one before it.
+    /// Links its node behind its predecessor's.
     G5,
-    /// Waits for its own flag.
+    /// Polls its own flag until the queue head hands off to it.
     G6,
-    /// Waits as the front for the lock to be free and not pending.
+    /// Polls as the queue head until the lock is free and not pending.
     G7,
-    /// Takes the lock and empties the queue, where it is alone in it.
+    /// Swaps the word to acquire the lock and leave an empty queue.
     G8,
-    /// Takes the lock, with others behind it.
+    /// Acquires the lock as the queue head, and leaves the tail in the word.
     G9,
-    /// Waits for the link of the next.
+    /// Polls until its successor is linked.
     G10,
-    /// Hands the lead to the next.
+    /// Hands off to its successor.
     G11,
-    /// Looks whether the word is free, without a node.
+    /// Polls until the word is free, without a node.
     N1,
-    /// Swaps the free word to locked, without a node.
+    /// Swaps the free word to held, without a node.
     N2,
-    /// Looks at the link of the next, to choose whom to hand the lead.
+    /// Reads its own link, to choose its successor.
     C1,
-    /// Looks at the link of the last waiter that it passed over.
+    /// Reads the link of the last waiter that it passed over.
     C2,
-    /// Looks at the last node of the second queue.
+    /// Reads which node is the last of the secondary queue.
     C3,
-    /// Links the waiters that it passed over behind the second queue.
+    /// Links the waiters that it passed over behind the secondary queue.
     C4,
     /// Cuts the waiters that it passed over off from the rest.
     C5,
-    /// Stores the new last node of the second queue.
+    /// Stores the new last node of the secondary queue.
     C6,
-    /// Stores the count of handovers for the next front.
+    /// Stores the count of handoffs for its successor.
     C7,
-    /// Hands the lead on, with the second queue.
+    /// Hands off to its successor, with the secondary queue.
     C8,
-    /// Links the rest behind the second queue, which returns.
+    /// Links the rest of the queue behind the secondary queue, which returns.
     C9,
-    /// Swaps the tail to the last of the second queue, which returns.
+    /// Swaps the tail to the last of the secondary queue, which returns.
     C10,
-    /// Looks whether it may steal the lock.
+    /// Polls whether it may steal the lock.
     H1,
-    /// Swaps the byte to held: it steals the lock.
+    /// Swaps the free byte to held: it steals the lock.
     H2,
-    /// Looks at its own flag, spinning.
+    /// Polls its own flag, behind another waiter.
     W1,
-    /// Looks whether the one before it runs.
+    /// Polls whether its predecessor runs.
     W2,
     /// Stores that it halts.
     W3,
-    /// Looks at its flag once more.
+    /// Reads its own flag once more.
     W4,
-    /// Looks at its own state once more.
+    /// Reads its own state once more, right before it halts.
     W5,
-    /// Halts as a waiter.
+    /// Halts, as a waiter that has not seen its flag set.
     W6,
-    /// Swaps its state back to running.
+    /// Swaps its own state from halted to running.
     W7,
-    /// Looks at its own state as the front.
+    /// Reads its own state, as the queue head.
     E1,
     /// Stores that it runs.
     E2,
-    /// Sets pending, so that nobody steals.
+    /// Sets the pending bit, so that nobody steals.
     E3,
-    /// Swaps pending and free to held.
+    /// Swaps pending and free to held: it acquires the lock.
     E4,
-    /// Clears pending.
+    /// Clears the pending bit.
     E5,
     /// Enters itself into the hash.
     E6,
-    /// Exchanges the byte with slow.
+    /// Exchanges the locked byte with slow.
     E7,
     /// Stores held, since the byte was free.
     E8,
@@ -174,119 +178,122 @@ pub enum Pc {
     E9,
     /// Stores that it is hashed.
     E10,
-    /// Looks whether the byte is still slow.
+    /// Reads whether the byte is still slow, right before it halts.
     E11,
-    /// Halts as the front.
+    /// Halts as the queue head.
     E12,
-    /// Swaps the word to held with no queue.
+    /// Swaps the tail from its own node to none, as the holder.
     E13,
-    /// Waits for the link of the next, as the holder.
+    /// Polls until its successor is linked, as the holder.
     E14,
-    /// Hands the lead to the next, as the holder.
+    /// Hands off to its successor, as the holder.
     E15,
-    /// Swaps the state of the next from halted to hashed.
+    /// Swaps the state of the new queue head from halted to hashed.
     K1,
-    /// Stores slow.
+    /// Stores slow into the locked byte.
     K2,
-    /// Enters the next into the hash.
+    /// Enters the new queue head into the hash.
     K3,
-    /// Swaps held to free: the paravirtual release.
+    /// Swaps the byte from held to free: the paravirtual release.
     U2,
-    /// Removes the lock from the hash.
+    /// Removes the lock from the hash, and learns whom to kick.
     U3,
-    /// Stores free, and owes a kick.
+    /// Stores free into the slow byte: a kick is pending.
     U4,
-    /// Kicks.
+    /// Kicks the processor that it found in the hash.
     U5,
     /// Adds a reader.
     R1,
-    /// Waits for the writer, in an interrupt.
+    /// Polls until there is no writer, in an interrupt.
     R2,
     /// Takes the reader back.
     R3,
     /// Adds a reader, with the wait lock held.
     R4,
-    /// Waits for the writer, with the wait lock held.
+    /// Polls until there is no writer, with the wait lock held.
     R5,
-    /// Swaps the empty word to writer (w1).
+    /// Swaps the empty word to writer.
     Wr1,
-    /// Looks whether the word is empty (w2).
+    /// Reads whether the word is empty, with the wait lock held.
     Wr2,
-    /// Swaps the empty word to writer, with the wait lock held (w3).
+    /// Swaps the empty word to writer, with the wait lock held.
     Wr3,
-    /// Sets waiting (w4).
+    /// Sets the waiting bit.
     Wr4,
-    /// Waits for the readers (w5).
+    /// Polls until there are no readers and no writer.
     Wr5,
-    /// Swaps waiting to writer (w6).
+    /// Swaps the word from waiting to writer.
     Wr6,
-    /// Looks whether a reader may try.
+    /// Reads whether a reader may enter, in a try.
     Y1,
     /// Adds a reader, in a try.
     Y2,
-    /// Takes the reader back: the try failed.
+    /// Takes the reader back: the try fails.
     Y3,
-    /// Looks whether a writer may try.
+    /// Reads whether the word is empty, in a try.
     Y4,
     /// Swaps the empty word to writer, in a try.
     Y5,
-    /// Takes a reader away: it releases.
+    /// Takes a reader away: the release of a reader.
     Z1,
-    /// Stores no writer: it releases.
+    /// Stores that there is no writer: the release of the writer.
     Z2,
 }
 
-/// Why a CNA front looks at the last node of the second queue.
+/// Why a CNA queue head reads the last node of the secondary queue (C3).
 #[derive(Clone, Copy, Debug, PartialEq, Eq)]
 pub enum Why {
     /// To append the waiters that it passed over.
     Append,
-    /// To let the second queue return before the rest.
+    /// To let the secondary queue return in front of the rest of the main queue.
     Flush,
-    /// To let the second queue return as the rest.
+    /// To let the secondary queue return as the rest of the main queue, in which nobody is linked
+    /// behind the head.
     Promotion,
 }
 
-/// One context of a processor: its program, its place in it, and its registers. Registers keep old
-/// values across operations.
+/// One context of a processor, which is its task or a nested interrupt: its program, its place in
+/// the program, and its registers. A register keeps its value until a row stores another.
 #[derive(Clone, Copy, Debug, PartialEq, Eq)]
 pub struct Frame {
-    /// Its context: 0 is the task, c the c-th nested interrupt.
+    /// Its context (interrupt nesting level): 0 is the task, c the c-th nested interrupt.
     pub ctx: u32,
-    /// Its program: 0 is the task's, h the h-th handler.
+    /// Its program: 0 is the task's, h is that of the h-th handler.
     pub program: u32,
-    /// The position of its operation in the program.
+    /// The position of its operation in the program, from 0.
     pub at: u32,
-    /// The row at which it stands; none where it is finished.
+    /// The row that it makes next, or `None` if its program has ended.
     pub place: Option<Pc>,
     /// The lock on which it acts.
     pub lock: LockName,
-    /// Its own node.
+    /// Its own queue node, while it is in the slow path and got one.
     pub me: Option<NodeName>,
-    /// The node before its own.
+    /// The node of its predecessor, which it met as the tail (G4).
     pub prev: Option<NodeName>,
-    /// The first node of the second queue.
+    /// The first node of the secondary queue.
     pub second: Option<NodeName>,
-    /// The node to which it hands the lead.
+    /// The node of the successor to which it hands off.
     pub y: Option<NodeName>,
-    /// The first node that it passed over.
+    /// The first node that it passed over; at a flush, the first node of the rest of the main
+    /// queue.
     pub a: Option<NodeName>,
     /// The last node that it passed over.
     pub b: Option<NodeName>,
-    /// How many nodes it passed over.
+    /// How many waiters it passed over, to move them aside.
     pub k: u32,
-    /// The last node of the second queue.
+    /// The last node of the secondary queue.
     pub t: Option<NodeName>,
-    /// Why it looks at the last node of the second queue.
+    /// Why it reads the last node of the secondary queue.
     pub why: Why,
-    /// Whether the word that it met had a tail.
+    /// Whether the word that H1 met had a tail.
     pub tailed: bool,
-    /// How many turns are left.
+    /// How many polls are left before it goes on to halt.
     pub left: u32,
-    /// Whether it stands in the hash.
+    /// Whether its node was entered into the hash since it queued, or the holder is about to enter
+    /// it.
     pub hashed: bool,
     /// The node whose processor it kicks.
     pub target: Option<NodeName>,
-    /// The place after a wait lock is taken or freed.
+    /// The row at which it goes on once it has the wait lock.
     pub then: Option<Pc>,
 }

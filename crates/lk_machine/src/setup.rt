@@ -5,23 +5,25 @@ use lk_abs::{Format, Kind, List, Mode, Topology};
 /// What an operation does to its lock.
 #[derive(Clone, Copy, Debug, PartialEq, Eq)]
 pub enum Verb {
-    /// Takes a spinlock.
+    /// Acquires a spinlock (`queued_spin_lock`).
     Lock,
-    /// Tries to take a spinlock.
+    /// Tries to acquire a spinlock, and does not wait (`queued_spin_trylock`).
     Try,
-    /// Releases a spinlock.
+    /// Releases a spinlock (`queued_spin_unlock`).
     Unlock,
-    /// Takes a reader-writer lock as a reader.
+    /// Acquires a reader-writer lock as a reader (`queued_read_lock`).
     Read,
-    /// Tries to take a reader-writer lock as a reader.
+    /// Tries to acquire a reader-writer lock as a reader, and does not wait
+    /// (`queued_read_trylock`).
     TryRead,
-    /// Releases a reader-writer lock as a reader.
+    /// Releases a reader-writer lock as a reader (`queued_read_unlock`).
     RUnlock,
-    /// Takes a reader-writer lock as the writer.
+    /// Acquires a reader-writer lock as the writer (`queued_write_lock`).
     Write,
-    /// Tries to take a reader-writer lock as the writer.
+    /// Tries to acquire a reader-writer lock as the writer, and does not wait
+    /// (`queued_write_trylock`).
     TryWrite,
-    /// Releases a reader-writer lock as the writer.
+    /// Releases a reader-writer lock as the writer (`queued_write_unlock`).
     WUnlock,
 }
 
@@ -30,26 +32,29 @@ pub enum Verb {
 pub struct Op {
     /// What it does.
     pub verb: Verb,
-    /// The number of its lock.
+    /// The number of its lock, from 0.
     pub lock: u32,
 }
 
 /// What a machine is made of. It never changes.
 #[derive(Drop)]
 pub struct Setup {
-    /// The format, which says how the words are laid out, and whom a front of `cna` may move aside.
+    /// The format. It says how the words are laid out, and which waiters a queue head of mode
+    /// `cna` may move aside.
     pub format: Format,
-    /// The lock family.
+    /// The lock family of all spinlocks.
     pub mode: Mode,
     /// The processors, and the socket of each.
     pub topology: Topology,
-    /// How many handovers of a CNA lock may stay on one socket while waiters stand aside.
+    /// The CNA threshold: the most handoffs that a lock makes while its secondary queue is not
+    /// empty.
     pub threshold: u32,
-    /// How many turns a paravirtual waiter spins before it halts.
+    /// The spin bound, in polls: how many a paravirtual waiter makes before it halts (Linux's
+    /// `SPIN_THRESHOLD`).
     pub spins: u32,
-    /// The kind of each declared lock.
+    /// The kind of each declared lock, by its number.
     pub locks: List<Kind>,
-    /// The program of each processor.
+    /// The task's program of each processor.
     pub progs: List<List<Op>>,
     /// The interrupt handlers of each processor, in the order in which they are used.
     pub irqs: List<List<List<Op>>>,
@@ -59,7 +64,7 @@ impl Setup {
     ghost use Rattle.std.specs.Prelude.{◌≡◌, ◌≤◌};
     ghost use Rattle.lk_machine.specs.Programs.{HasPrograms, program_at, handlers_of};
 
-    /// A program of a processor: 0 is its task's, h its h-th handler.
+    /// A program of a processor: 0 is its task's, h is that of its h-th handler.
     #[tactic(auto, unfolding(crate::specs::Programs::program_at, crate::specs::Programs::handlers_of))]
     pub(crate) fn program(&self, cpu: u32, number: u32) -> &List<Op>
         requires programs { HasPrograms self.now cpu }

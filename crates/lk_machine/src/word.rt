@@ -1,4 +1,5 @@
-// What rows ask of a word, where those lead that meet it, and the node that a register names.
+// What rows ask of a word, where they lead by it, and the node that a register names. A word is
+// written as its tail, its pending bit and its locked byte; 0 is no tail, and `*` is any value.
 
 ghost use Rattle.std.specs.Prelude.{◌≡◌};
 ghost use Rattle.lk_machine.specs.rows.Cna.{is_held, is_last};
@@ -10,14 +11,14 @@ use crate::parts::{Frame, Pc};
 use lk_abs::Mode;
 use lk_word::{Fields, Locked, NodeName};
 
-/// The word of a lock that somebody has and nobody waits for, `0,0,1`.
+/// The word `0,0,1`: a waiter holds the lock, nobody pends and nobody queues.
 pub const HELD: Fields = Fields {
     locked: Locked::Held,
     pending: false,
     tail: None,
 };
 
-/// Whether nobody has the lock: `*,*,0`.
+/// Whether the locked byte is free, `*,*,0`: nobody holds the lock.
 #[inline]
 pub fn is_unlocked(word: Fields) -> bool
     ensures { result ≡ is_unlocked word.locked }
@@ -25,7 +26,8 @@ pub fn is_unlocked(word: Fields) -> bool
     matches!(word.locked, Locked::Free)
 }
 
-/// Whether somebody has the lock, and no kick is wanted: `*,*,1`.
+/// Whether the locked byte is held and not slow, `*,*,1`: the release need not look for a waiter
+/// to kick.
 #[inline]
 pub fn is_held(word: Fields) -> bool
     ensures { result ≡ is_held word.locked }
@@ -33,7 +35,7 @@ pub fn is_held(word: Fields) -> bool
     matches!(word.locked, Locked::Held)
 }
 
-/// Whether the word is free, `0,0,0`: not locked, not pending, and no queue.
+/// Whether the word is free, `0,0,0`: nobody holds the lock, nobody pends and nobody queues.
 #[inline]
 pub fn is_free(word: Fields) -> bool
     ensures { result ≡ is_free word }
@@ -52,8 +54,8 @@ pub fn is_tail(word: Fields, node: NodeName) -> bool
     }
 }
 
-/// Whether a frame's waiter has the lock and is the last of its queue, `t,0,1` where t is its own
-/// node: nobody pends.
+/// Whether the word is `n,0,1`, n being the frame's own node: the lock is held, nobody pends, and
+/// nobody queues behind the frame's waiter.
 #[inline]
 pub fn is_last(frame: Frame, word: Fields) -> bool
     ensures { result ≡ is_last frame word }
@@ -61,7 +63,8 @@ pub fn is_last(frame: Frame, word: Fields) -> bool
     is_held(word) && !word.pending && is_tail(word, named(frame.me))
 }
 
-/// The node that a register names. Where it names none, the rows that need one are not reached.
+/// The node that a register names. A register that names none stands for node 0 of processor 0, as
+/// in the definitions of the rows.
 #[inline]
 pub fn named(node: Option<NodeName>) -> NodeName
     ensures { result ≡ node_of node }
@@ -69,8 +72,8 @@ pub fn named(node: Option<NodeName>) -> NodeName
     node.unwrap_or(NodeName { cpu: 0, index: 0 })
 }
 
-/// Where a row leads that met this word before the call has set pending: to the queue where somebody
-/// pends or queues, and else to P1, since the pending bit is free to be set.
+/// The row after one that met this word, in a call that has not set the pending bit: G1 if another
+/// waiter pends or queues, and else P1, which sets the pending bit.
 #[inline]
 pub fn to_queue(word: Fields) -> Pc
     ensures { result ≡ to_queue word }
@@ -82,8 +85,9 @@ pub fn to_queue(word: Fields) -> Pc
     }
 }
 
-/// Where F1 leads that met this word, which was not free. A word that is pending alone, `0,1,0`, is
-/// about to be taken, so that P0 looks at it once more.
+/// The row after F1, which met this word and found it not free. Mode `virt` goes on to V1, and
+/// `pv` to G1. In the other modes P0 reads a word `0,1,0` once more, since its pending waiter is
+/// about to acquire the lock.
 #[inline]
 pub fn after_fast(mode: Mode, word: Fields) -> Pc
     ensures { result ≡ after_fast mode word }
@@ -96,7 +100,9 @@ pub fn after_fast(mode: Mode, word: Fields) -> Pc
     }
 }
 
-/// Where P1 leads, by the word before it. Only who met no pending bit owns the one that it set.
+/// The row after P1, which met this word and set the pending bit. If the bit was set before, it is
+/// another waiter's, and the call queues (G1). If there is a tail, the call clears the bit again
+/// (P2). Else it acquires the lock if that is free (P4), or waits for the holder (P3).
 #[inline]
 pub fn after_pending(word: Fields) -> Pc
     ensures { result ≡ after_pending word }

@@ -1,4 +1,4 @@
-// One field of a word or of a node is stored, and the others stay.
+// Stores of one field of a word or of a node. The other fields stay.
 
 ghost use Rattle.std.specs.Prelude.{◌≡◌, ◌<◌, length};
 ghost use Rattle.lk_word.specs.SpinWord.{IsTailInRange};
@@ -12,7 +12,7 @@ use lk_abs::LockName;
 use lk_word::{Fields, Locked, NodeName};
 
 impl Machine {
-    /// Stores the locked byte of a word.
+    /// Stores the locked byte of a word. The pending bit and the tail stay.
     #[inline]
     pub fn set_locked(&mut self, lock: LockName, locked: Locked)
         requires { lock.index < length self.old.locks }
@@ -23,7 +23,7 @@ impl Machine {
         self.set_word(lock, Fields { locked, ..word });
     }
 
-    /// Stores the pending bit of a word.
+    /// Stores the pending bit of a word. The locked byte and the tail stay.
     #[inline]
     pub fn set_pending(&mut self, lock: LockName, pending: bool)
         requires { lock.index < length self.old.locks }
@@ -34,7 +34,8 @@ impl Machine {
         self.set_word(lock, Fields { pending, ..word });
     }
 
-    /// Stores the tail of a word.
+    /// Stores the tail of a word. The locked byte and the pending bit stay. The tail must fit the
+    /// layout of the format.
     #[inline]
     pub fn set_tail(&mut self, lock: LockName, tail: Option<NodeName>)
         requires lock { lock.index < length self.old.locks }
@@ -57,7 +58,7 @@ impl Machine {
         self.set_node(name, Node { flag, ..node });
     }
 
-    /// Stores the link of a node.
+    /// Stores the link of a node to the node behind it.
     #[inline]
     pub fn set_next(&mut self, name: NodeName, next: Option<NodeName>)
         requires { HasNode self.old name }
@@ -68,7 +69,7 @@ impl Machine {
         self.set_node(name, Node { next, ..node });
     }
 
-    /// Stores in the first node of a second queue which is the last.
+    /// Stores into the first node of a secondary queue which node is the last of that queue.
     #[inline]
     pub fn set_second_tail(&mut self, name: NodeName, second_tail: Option<NodeName>)
         requires { HasNode self.old name }
@@ -86,7 +87,7 @@ impl Machine {
         );
     }
 
-    /// Stores the count of handovers of a node.
+    /// Stores into a node how many handoffs were made since the secondary queue became non-empty.
     #[inline]
     pub fn set_runs(&mut self, name: NodeName, runs: u32)
         requires { HasNode self.old name }
@@ -97,7 +98,7 @@ impl Machine {
         self.set_node(name, Node { runs, ..node });
     }
 
-    /// Stores what a node says of its processor.
+    /// Stores into a node what its waiter says of its processor.
     #[inline]
     pub fn set_state(&mut self, name: NodeName, state: State)
         requires { HasNode self.old name }
@@ -108,7 +109,8 @@ impl Machine {
         self.set_node(name, Node { state, ..node });
     }
 
-    /// Resets a node to rest.
+    /// Resets a node: its flag is unset, it names no other node, it has counted no handoffs, and
+    /// it says that its processor runs.
     #[inline]
     pub fn reset_node(&mut self, name: NodeName)
         requires { HasNode self.old name }

@@ -1,4 +1,5 @@
-// The hash: the node of each lock that is entered, by which a release finds whom to kick.
+// The hash has the queue head's node for each lock that is entered. By it a release finds whom to
+// kick.
 
 ghost use Rattle.std.specs.Prelude.{◌≡◌, ◌<◌, ◌*◌, ◌^◌, true, is_some, length, Some, None};
 ghost use Rattle.lk_word.specs.declared.spin_word.Layout.TheVariants.{Wide};
@@ -11,7 +12,7 @@ use crate::machine::Machine;
 use lk_abs::LockName;
 use lk_word::NodeName;
 
-// The number by which the hash knows a lock.
+// The number under which the hash has a lock.
 fn lock_number(lock: LockName) -> u32
     requires { lock.index < 32 }
     ensures { result ≡ lock_number lock }
@@ -19,7 +20,7 @@ fn lock_number(lock: LockName) -> u32
     2 * lock.index + u32::from(lock.wait)
 }
 
-// The number by which the hash knows a node.
+// The number that the hash has for a node.
 fn node_number(node: NodeName) -> u32
     requires { IsTailInRange Wide (Some node) }
     ensures { result ≡ node_number node }
@@ -38,7 +39,7 @@ fn node_named(number: u32) -> NodeName
 }
 
 impl Machine {
-    /// The node of a lock in the hash; none where the lock is not entered.
+    /// The entry of a lock in the hash: a node, or `None` if the lock is not entered.
     #[tactic(auto, using(crate::proofs::Hashed::hashed), unfolding(crate::specs::Machine::entry_at))]
     pub fn hashed(&self, lock: LockName) -> Option<NodeName>
         requires { lock.index < length self.now.locks }
@@ -50,7 +51,8 @@ impl Machine {
         }
     }
 
-    /// Enters a lock with a node into the hash.
+    /// Enters a lock into the hash, with this node (Linux's `pv_hash`). The lock must not be
+    /// entered, and the hash must have fewer than four entries for each processor.
     #[tactic(auto, using(crate::proofs::Hashed::hashed, lk_word::proofs::SpinWordLemmas::in_wide), unfolding(crate::specs::Machine::entry_at, crate::specs::Machine::set_entry))]
     pub fn hash_enter(&mut self, lock: LockName, node: NodeName)
         requires lock { lock.index < length self.old.locks }
@@ -62,7 +64,8 @@ impl Machine {
         self.hash.enter(lock_number(lock), node_number(node));
     }
 
-    /// Removes a lock from the hash, and gives its node.
+    /// Removes a lock from the hash, and returns its node (Linux's `pv_unhash`). The lock must be
+    /// entered.
     #[tactic(auto, using(crate::proofs::Hashed::hashed), unfolding(crate::specs::Machine::entry_at, crate::specs::Machine::set_entry))]
     pub fn hash_remove(&mut self, lock: LockName) -> NodeName
         requires lock { lock.index < length self.old.locks }

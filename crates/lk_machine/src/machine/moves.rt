@@ -1,4 +1,4 @@
-// How the top frame of a processor moves.
+// How the newest frame of a processor moves.
 
 ghost use Rattle.std.specs.Prelude.{◌≡◌, Some, ◌≤◌, ◌<◌, ◌+◌, length, drop, slice_get};
 ghost use Rattle.lk_machine.specs.Machine.{HasTop, depth_at, handlers_at, push, pop, set_top, top_frame};
@@ -53,7 +53,8 @@ fn is_release(verb: Verb) -> bool
     matches!(verb, Verb::Unlock | Verb::RUnlock | Verb::WUnlock)
 }
 
-// How many operations follow from a position on up to the release of a lock, it included.
+// How many operations there are from a position up to the release of a lock, with the release.
+// Without such a release, these are all operations from there on.
 fn to_release(program: &List<Op>, from: usize, lock: u32) -> usize
     requires { from ≤ length program.now.items }
     ensures value { result ≡ to_release (drop from program.now.items) lock }
@@ -69,7 +70,7 @@ fn to_release(program: &List<Op>, from: usize, lock: u32) -> usize
 }
 
 impl Machine {
-    // The operation at a position of a program of a processor, where the program has not ended.
+    // The operation at a position of a program of a processor, or `None` behind the last one.
     fn operation(&self, cpu: u32, number: u32, at: u32) -> Option<Op>
         requires programs { HasPrograms self.now.setup cpu }
         requires known { number ≤ handlers_of self.now.setup cpu }
@@ -84,7 +85,7 @@ impl Machine {
         }
     }
 
-    // The top frame begins an operation, at this position of its program.
+    // The newest frame begins an operation, at this position of its program.
     #[inline]
     fn begin(&mut self, cpu: u32, at: u32, op: Op)
         requires { HasTop self.old cpu }
@@ -97,7 +98,7 @@ impl Machine {
         self.set_frame(cpu, started);
     }
 
-    // The top frame, which has ended an operation, goes on at this position of its program.
+    // The newest frame has ended an operation, and goes on at this position of its program.
     fn settle(&mut self, cpu: u32, at: u32)
         requires top { HasTop self.old cpu }
         requires programs { HasPrograms self.old.setup cpu }
@@ -119,8 +120,8 @@ impl Machine {
         }
     }
 
-    /// The operation of the top frame is done: the frame begins the next one; or its program has
-    /// ended, and then it is finished, and a handler is popped.
+    /// Ends the operation of the newest frame, which begins the next operation of its program. If
+    /// there is none, the frame of a task is finished, and the frame of a handler is removed.
     #[inline(never)]
     pub fn done(&mut self, cpu: u32)
         requires { CanMove self.old cpu }
@@ -130,7 +131,8 @@ impl Machine {
         self.settle(cpu, at + 1);
     }
 
-    /// The top frame goes to take the wait lock of its reader-writer lock, and then to this place.
+    /// Sends the newest frame to acquire the wait lock of its reader-writer lock. Once it has the
+    /// wait lock, it goes on at the row `then`.
     pub fn take_wait(&mut self, cpu: u32, then: Pc)
         requires { HasTop self.old cpu }
         ensures { self.new ≡ take_wait self.old cpu then }
@@ -150,7 +152,7 @@ impl Machine {
         );
     }
 
-    /// The top frame goes to free its wait lock, by the release of a spinlock.
+    /// Sends the newest frame to release its wait lock, by the rows that release a spinlock.
     pub fn free_wait(&mut self, cpu: u32)
         requires { HasTop self.old cpu }
         ensures { self.new
@@ -164,8 +166,8 @@ impl Machine {
         self.set_place(cpu, place);
     }
 
-    /// The lock is granted: to the operation, which is done, or, as a wait lock, to the frame,
-    /// which goes on.
+    /// The newest frame has acquired its lock, and its operation is done. If the lock is a wait
+    /// lock, the frame goes on at the row that `take_wait` noted.
     #[inline(never)]
     pub fn granted(&mut self, cpu: u32)
         requires { CanMove self.old cpu }
@@ -185,8 +187,8 @@ impl Machine {
         }
     }
 
-    /// The lock is freed: the operation is done, and with a wait lock the one for which it was
-    /// taken.
+    /// The newest frame has released its lock, and its operation is done. If the lock is a wait
+    /// lock, this is the operation for which it was acquired.
     pub fn freed(&mut self, cpu: u32)
         requires { CanMove self.old cpu }
         ensures { self.new ≡ freed self.old cpu }
@@ -194,7 +196,8 @@ impl Machine {
         self.done(cpu);
     }
 
-    /// The try has failed: the frame goes on behind the release that would have ended it.
+    /// The try of the newest frame has failed. The frame goes on behind the operation that would
+    /// have released the lock.
     #[inline(never)]
     pub fn missed(&mut self, cpu: u32)
         requires { CanMove self.old cpu }
@@ -205,8 +208,8 @@ impl Machine {
         self.settle(cpu, frame.at + skipped);
     }
 
-    // How many operations a failed try skips: itself, and all up to the release that would have
-    // ended it.
+    // How many operations a failed try skips: itself, and all up to the one that would have
+    // released the lock.
     fn skipped(&self, cpu: u32, frame: Frame) -> u32
         requires programs { HasPrograms self.now.setup cpu }
         requires known { frame.program ≤ handlers_of self.now.setup cpu }
@@ -220,7 +223,7 @@ impl Machine {
         (to_release(program, after, frame.lock.index) + 1) as u32
     }
 
-    /// The top frame leaves the slow path, and gives its node back.
+    /// The newest frame leaves the slow path, and gives its node back.
     #[tactic(auto, using(crate::proofs::Kept::kept))]
     pub fn leave(&mut self, cpu: u32)
         requires { HasTop self.old cpu }
@@ -232,7 +235,7 @@ impl Machine {
         self.set_queued(cpu, queued.saturating_sub(1));
     }
 
-    /// The top frame leaves the slow path with the lock.
+    /// The newest frame leaves the slow path with the lock: `leave`, and then `granted`.
     #[inline(never)]
     #[tactic(auto, using(crate::proofs::Kept::kept))]
     pub fn leave_granted(&mut self, cpu: u32)
@@ -243,8 +246,9 @@ impl Machine {
         self.granted(cpu);
     }
 
-    /// The next handler becomes the frame of the next context on top, and begins. The processor is
-    /// not halted.
+    /// Begins the next interrupt handler of a processor, in a new frame one context above the
+    /// newest. A handler must be left, and the processor must have fewer than `MAX_FRAMES` frames.
+    /// This call ends no halt.
     #[inline(never)]
     #[tactic(auto, using(crate::proofs::Kept::pushed))]
     pub fn interrupt(&mut self, cpu: u32)
@@ -277,7 +281,7 @@ impl Machine {
         }
     }
 
-    // A frame comes on top, and uses up a handler.
+    // Adds a frame, the newest now, and uses up a handler.
     #[tactic(auto, unfolding(crate::specs::Machine::push, crate::specs::Machine::set_cpu, crate::specs::Machine::depth_at, crate::specs::Machine::handlers_at, crate::specs::Machine::cpu_at))]
     fn push(&mut self, cpu: u32, frame: Frame)
         requires in_range { cpu < length self.old.cpus }
@@ -293,7 +297,7 @@ impl Machine {
         state.handlers += 1;
     }
 
-    // The top frame goes.
+    // Removes the newest frame.
     #[tactic(auto, unfolding(crate::specs::Machine::pop, crate::specs::Machine::set_cpu, crate::specs::Machine::depth_at, crate::specs::Machine::cpu_at))]
     fn pop(&mut self, cpu: u32)
         requires { HasTop self.old cpu }

@@ -1,4 +1,4 @@
-// The packed words, and what stands in them.
+// The packed words, and their fields.
 
 ghost use Rattle.std.specs.Prelude.{◌≡◌};
 ghost use Rattle.lk_word.specs.SpinWord.{IsPackable};
@@ -18,7 +18,7 @@ pub(super) fn layout_of(format: Format) -> Layout
     }
 }
 
-// The fields in the word of a spinlock or a wait lock.
+// The fields of the packed word of a spinlock or a wait lock.
 #[inline]
 pub(super) fn fields_in(layout: Layout, word: u32) -> Fields
     requires { IsPacked layout word }
@@ -31,7 +31,7 @@ pub(super) fn fields_in(layout: Layout, word: u32) -> Fields
     }
 }
 
-// The word in which these fields stand.
+// The packed word with these fields.
 #[inline]
 #[tactic(auto, using(crate::proofs::Packed::packing))]
 pub(super) fn word_of(layout: Layout, fields: Fields) -> u32
@@ -42,7 +42,7 @@ pub(super) fn word_of(layout: Layout, fields: Fields) -> u32
     pack(layout, fields)
 }
 
-// The fields in the word of a reader-writer lock.
+// The fields of the packed word of a reader-writer lock.
 #[inline]
 pub(super) fn rw_fields_in(word: u32) -> RwFields
     requires { IsPackedRw word }
@@ -55,7 +55,7 @@ pub(super) fn rw_fields_in(word: u32) -> RwFields
     }
 }
 
-// The word of a reader-writer lock in which these fields stand.
+// The packed word of a reader-writer lock with these fields.
 #[inline]
 #[tactic(auto, using(crate::proofs::Packed::packing))]
 pub(super) fn rw_word_of(fields: RwFields) -> u32

@@ -15,7 +15,9 @@ use lk_hash::LockHash;
 use std::alloc::Global;
 
 impl Machine {
-    /// The machine at rest. All its memory is taken here.
+    /// A machine at rest: all locks are free, no node is used, and each task stands at the first
+    /// row of its program, if it has one. All memory is taken here. There must be 1 to 1,024
+    /// processors, a program for each of them, and at most 32 locks.
     ///
     /// # Errors
     ///

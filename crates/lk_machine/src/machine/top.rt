@@ -1,4 +1,4 @@
-// The frames of a processor, and what its top one meets and tells.
+// The frames of a processor, and what its newest one meets and tells.
 
 ghost use Rattle.std.specs.Prelude.{◌≡◌, ◌<◌, ◌-◌, Some, length};
 ghost use Rattle.lk_machine.specs.Machine.{HasTop, top_frame, frame_at, depth_at, word_at, rw_at, set_top};
@@ -11,7 +11,7 @@ use lk_abs::{Event, LockName, Waiter, What};
 use lk_word::{Fields, RwFields};
 
 impl Machine {
-    /// The top frame of a processor.
+    /// A copy of the newest frame of a processor.
     #[inline]
     #[tactic(auto, unfolding(crate::specs::Machine::frame_at, crate::specs::Machine::depth_at, crate::specs::Machine::cpu_at))]
     pub fn frame(&self, cpu: u32) -> Frame
@@ -22,7 +22,7 @@ impl Machine {
         state.frames[state.frames.len() - 1]
     }
 
-    /// Stores the top frame of a processor.
+    /// Stores the newest frame of a processor.
     #[inline]
     #[tactic(auto, unfolding(crate::specs::Machine::set_top, crate::specs::Machine::set_cpu, crate::specs::Machine::depth_at, crate::specs::Machine::cpu_at))]
     pub fn set_frame(&mut self, cpu: u32, frame: Frame)
@@ -34,7 +34,7 @@ impl Machine {
         state.frames[top] = frame;
     }
 
-    /// Stores the place of the top frame of a processor.
+    /// Stores the row at which the newest frame of a processor stands.
     #[inline]
     #[tactic(auto, unfolding(crate::specs::Machine::set_top, crate::specs::Machine::set_cpu, crate::specs::Machine::frame_at, crate::specs::Machine::depth_at, crate::specs::Machine::cpu_at))]
     pub fn set_place(&mut self, cpu: u32, place: Pc)
@@ -47,7 +47,7 @@ impl Machine {
         state.frames[top].place = Some(place);
     }
 
-    /// A frame of a processor.
+    /// A copy of the frame of a processor in this context (interrupt nesting level).
     #[inline]
     #[tactic(auto, unfolding(crate::specs::Machine::frame_at, crate::specs::Machine::depth_at, crate::specs::Machine::cpu_at))]
     pub fn frame_at(&self, cpu: u32, ctx: u32) -> Frame
@@ -59,7 +59,7 @@ impl Machine {
         state.frames[ctx as usize]
     }
 
-    /// How many frames a processor has.
+    /// The number of frames of a processor, which is 1 with no interrupt.
     #[inline]
     #[tactic(auto, unfolding(crate::specs::Machine::depth_at, crate::specs::Machine::cpu_at))]
     pub fn depth(&self, cpu: u32) -> u32
@@ -70,7 +70,8 @@ impl Machine {
         state.frames.len() as u32
     }
 
-    /// The row at which the top frame of a processor stands; none where it is finished.
+    /// The row at which the newest frame of a processor stands, or `None` if its program has
+    /// ended.
     #[inline]
     #[tactic(auto, unfolding(crate::specs::Machine::frame_at, crate::specs::Machine::depth_at, crate::specs::Machine::cpu_at))]
     pub fn place(&self, cpu: u32) -> Option<Pc>
@@ -82,7 +83,7 @@ impl Machine {
         state.frames[top].place
     }
 
-    /// The lock on which the top frame of a processor acts.
+    /// The lock on which the newest frame of a processor acts.
     #[inline]
     pub fn lock(&self, cpu: u32) -> LockName
         requires { HasTop self.now cpu }
@@ -91,7 +92,7 @@ impl Machine {
         self.frame(cpu).lock
     }
 
-    /// The word of a spinlock or a wait lock that the top frame of a processor meets.
+    /// The word of the spinlock or wait lock on which the newest frame of a processor acts.
     #[inline]
     pub fn word_met(&self, cpu: u32) -> Fields
         requires { IsReady self.now cpu }
@@ -100,7 +101,7 @@ impl Machine {
         self.word(self.lock(cpu))
     }
 
-    /// The word of a reader-writer lock that the top frame of a processor meets.
+    /// The word of the reader-writer lock on which the newest frame of a processor acts.
     #[inline]
     pub fn rw_met(&self, cpu: u32) -> RwFields
         requires { IsReady self.now cpu }
@@ -110,7 +111,7 @@ impl Machine {
         self.rw(self.lock(cpu).index)
     }
 
-    /// An event of the waiter of the top frame of a processor.
+    /// An event with this content, of the waiter whose frame is the newest of a processor.
     #[inline]
     pub fn event(&self, cpu: u32, what: What) -> Event
         requires { HasTop self.now cpu }

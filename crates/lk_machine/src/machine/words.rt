@@ -12,14 +12,14 @@ use lk_word::{Fields, Layout, Locked, RwFields};
 use std::alloc::Global;
 use std::marker::Model;
 
-// The word of a lock that nobody holds or wants.
+// The word of a spinlock that nobody holds, and for which nobody waits.
 const REST_WORD: Fields = Fields {
     locked: Locked::Free,
     pending: false,
     tail: None,
 };
 
-// The same of a reader-writer lock.
+// The same for a reader-writer lock.
 const REST_RW: RwFields = RwFields {
     readers: 0,
     waiting: false,
@@ -37,7 +37,7 @@ pub(crate) struct LockWords {
     pub wait: u32,
 }
 
-/// The words of all declared locks. Callers see what stands in them.
+/// The words of all declared locks, packed. Callers see their fields.
 #[derive(Drop)]
 pub(crate) struct Words {
     layout: Layout,
@@ -55,7 +55,7 @@ impl Model for Words {
     ghost invariant = { λ w. All (ArePacked w.layout) w.locks.items };
 }
 
-// The words of a lock that nobody holds or wants.
+// The words of a lock that nobody holds, and for which nobody waits.
 fn rest_lock(layout: Layout) -> LockWords
     ensures packed { ArePacked layout result }
     ensures rest { lock_in layout result ≡ rest_lock }
@@ -69,6 +69,10 @@ fn rest_lock(layout: Layout) -> LockWords
 
 impl Words {
     /// The words of so many locks at rest.
+    ///
+    /// # Errors
+    ///
+    /// There is not enough memory.
     pub fn new(alloc: Global, layout: Layout, count: usize) -> Result<Words, Memory>
         ensures { IfOk result
             (λ words. words ≡ record { layout = layout; locks = replicate count rest_lock }) }
@@ -80,7 +84,7 @@ impl Words {
         Ok(Words { layout, locks })
     }
 
-    /// How many locks there are.
+    /// The number of locks.
     #[inline]
     pub fn len(&self) -> usize
         ensures { result ≡ length self.now.locks }
@@ -88,7 +92,7 @@ impl Words {
         self.locks.len()
     }
 
-    /// The word of a spinlock or a wait lock.
+    /// The fields of the word of a spinlock or a wait lock.
     #[inline]
     #[tactic(auto)]
     pub fn word(&self, lock: LockName) -> Fields
@@ -117,7 +121,7 @@ impl Words {
         }
     }
 
-    /// The word of a reader-writer lock.
+    /// The fields of the word of a reader-writer lock.
     #[inline]
     #[tactic(auto)]
     pub fn rw(&self, index: u32) -> RwFields
