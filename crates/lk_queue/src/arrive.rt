@@ -1,4 +1,4 @@
-// A waiter on its way into the queue, up to where it leads.
+// A waiter on its way into the queue, up to where it is the head; and a waiter without a node.
 ghost use Rattle.std.specs.Prelude.{◌≡◌, ◌≤◌, ◌^◌, ◌-◌, Some, None};
 ghost use Rattle.lk_machine.specs.Machine.{top_frame};
 ghost use Rattle.lk_machine.specs.Moves.{node_of};
@@ -23,7 +23,7 @@ fn own_node(cpu: u32, queued: u32) -> Option<NodeName>
     }
 }
 
-// Where a frame goes that got this node.
+// The row after G1 of a frame that got this node, or none.
 fn after_entry(mode: Mode, me: Option<NodeName>) -> Pc
     ensures { result ≡ after_entry mode me }
 {
@@ -34,7 +34,7 @@ fn after_entry(mode: Mode, me: Option<NodeName>) -> Pc
     }
 }
 
-// The counts after an entry with so many frames before it.
+// The counts after an entry with so many frames in the slow path before it.
 fn entry_counts(mode: Mode, queued: u32, mut counts: Counts) -> Counts
     requires { CountsWithin (2 ^ 64 - 2) counts }
     ensures { result ≡ count_all counts (entry_counts mode queued) }
@@ -52,7 +52,7 @@ fn entry_counts(mode: Mode, queued: u32, mut counts: Counts) -> Counts
     counts
 }
 
-// The node of a frame at rest, where it has got one.
+// Resets the node of a frame, if it got one.
 fn reset(machine: &mut Machine, me: Option<NodeName>)
     requires { HasOwn machine.old me }
     ensures { machine.new ≡ with_rest machine.old me }
@@ -62,9 +62,9 @@ fn reset(machine: &mut Machine, me: Option<NodeName>)
     }
 }
 
-/// G1: counts itself into the slow path of its processor, `i -> i + 1`, and takes the i-th of its
-/// four nodes, reset. Frames nest, so the nodes below i are those of the frames below, and this
-/// one is unused. From i = 4 on there is none.
+/// G1: counts itself into the slow path of its processor, `i -> i + 1`, and takes node i of the
+/// processor's four, reset. Interrupts nest, so the frames below use nodes below i, and no frame
+/// uses node i. From i = 4 on no node is left, and this waiter goes on without one.
 #[tactic(auto, using(lk_machine::proofs::Kept::kept, crate::proofs::Own::own_is_there), unfolding(lk_machine::specs::Machine::set_queued, lk_machine::specs::Machine::set_cpu))]
 pub(crate) fn enter(machine: &mut Machine, cpu: u32) -> Option<Event>
     requires ready { IsReady machine.old cpu }
@@ -93,7 +93,7 @@ pub(crate) fn enter(machine: &mut Machine, cpu: u32) -> Option<Event>
     None
 }
 
-// Takes the free word, and leaves the slow path.
+// Stores held into the word, with no tail and no pending bit, and leaves the slow path.
 pub(crate) fn take_out(machine: &mut Machine, cpu: u32, how: How) -> Event
     requires { IsReady machine.old cpu }
     ensures next { machine.new
@@ -110,8 +110,8 @@ pub(crate) fn take_out(machine: &mut Machine, cpu: u32, how: How) -> Event
     event
 }
 
-/// G2: looks once more for the free word, `0,0,0`, before it touches the queue: to reset the node
-/// may have taken a while.
+/// G2: reads once more whether the word is free, `0,0,0`, before it touches the queue. The reset
+/// of the node may have taken a while, and the holder may have released meanwhile.
 pub(crate) fn look_again(machine: &mut Machine, cpu: u32) -> Option<Event>
     requires ready { IsReady machine.old cpu }
     requires here { (top_frame machine.old cpu).place ≡ Some Pc.G2 }
@@ -127,8 +127,8 @@ pub(crate) fn look_again(machine: &mut Machine, cpu: u32) -> Option<Event>
     None
 }
 
-/// G3: swaps the free word, `0,0,0 -> 0,0,1`, as F1. If another was faster, the word stays, and
-/// this waiter queues.
+/// G3: swaps the word from free to held, `0,0,0 -> 0,0,1`, as F1 does. If another waiter was
+/// faster, the word stays, and this waiter queues (G4).
 pub(crate) fn swap_again(machine: &mut Machine, cpu: u32) -> Option<Event>
     requires ready { IsReady machine.old cpu }
     requires here { (top_frame machine.old cpu).place ≡ Some Pc.G3 }
@@ -142,7 +142,7 @@ pub(crate) fn swap_again(machine: &mut Machine, cpu: u32) -> Option<Event>
     None
 }
 
-// The frame after its waiter took the tail: without a node before it, it leads.
+// The frame after its waiter exchanged the tail. Without a tail before, it is the queue head.
 fn arrived(mode: Mode, frame: Frame, met: Option<NodeName>) -> Frame
     ensures { result ≡ frame_after frame (after_arrival mode met).leads }
 {
@@ -162,9 +162,9 @@ fn arrived(mode: Mode, frame: Frame, met: Option<NodeName>) -> Frame
     }
 }
 
-/// G4: exchanges the tail with its own node, `t,p,l -> n,p,l`, and keeps the pending bit and the
-/// locked byte. From here on it has its place in the queue, though the node before it, t, does not
-/// know of it yet. Without a tail before, it is the queue head.
+/// G4: exchanges the tail for its own node, `t,p,l -> n,p,l`. The pending bit and the locked byte
+/// stay. From here on it has its place in the queue, though its predecessor's node t has no link
+/// to it yet. If there was no tail, it is the queue head.
 pub(crate) fn exchange_tail(machine: &mut Machine, cpu: u32) -> Option<Event>
     requires ready { IsReady machine.old cpu }
     requires here { (top_frame machine.old cpu).place ≡ Some Pc.G4 }
@@ -180,7 +180,8 @@ pub(crate) fn exchange_tail(machine: &mut Machine, cpu: u32) -> Option<Event>
     Some(event)
 }
 
-// Where a waiter goes that has linked its node.
+// The frame after its waiter linked its node. A paravirtual waiter has all polls of the spin bound
+// left.
 fn linked(mode: Mode, spins: u32, frame: Frame) -> Frame
     ensures { result ≡ frame_after frame (after_link mode spins) }
 {
@@ -197,9 +198,9 @@ fn linked(mode: Mode, spins: u32, frame: Frame) -> Frame
     }
 }
 
-/// G5: stores its own node into `next` of the node before it, `none -> n`. Only this waiter links
-/// there, since it alone met that node as the tail; and that node is not given back before its
-/// waiter has seen the link.
+/// G5: stores its own node into `next` of its predecessor's node, `none -> n`. Only this waiter
+/// links there, since it alone met that node as the tail. The predecessor does not give its node
+/// back before it has seen the link.
 #[tactic(auto, using(lk_machine::proofs::Kept::kept, crate::proofs::Leads::link_leads))]
 pub(crate) fn link(machine: &mut Machine, cpu: u32) -> Option<Event>
     requires ready { IsReady machine.old cpu }
@@ -215,8 +216,9 @@ pub(crate) fn link(machine: &mut Machine, cpu: u32) -> Option<Event>
     None
 }
 
-/// G6: looks at its own flag until the head before it has set it, `unset -> go`. Only this waiter
-/// looks there, and only the head before it stores there.
+/// G6: polls its own flag until the queue head hands off to it, `unset -> go`. In mode `cna` the
+/// flag may name the first node of the secondary queue. Only the head stores there, and each
+/// waiter polls its own node.
 pub(crate) fn wait(machine: &mut Machine, cpu: u32) -> Option<Event>
     requires ready { IsReady machine.old cpu }
     requires here { (top_frame machine.old cpu).place ≡ Some Pc.G6 }
@@ -239,8 +241,8 @@ pub(crate) fn wait(machine: &mut Machine, cpu: u32) -> Option<Event>
     None
 }
 
-/// N1: looks for the free word, `0,0,0`, without a node to queue with. It stores nothing and
-/// stands in no order.
+/// N1: polls until the word is free, `0,0,0`, as a waiter without a node. It stores nothing, and
+/// it has no place in the queue: others may acquire the lock before it.
 pub(crate) fn look_bare(machine: &mut Machine, cpu: u32) -> Option<Event>
     requires ready { IsReady machine.old cpu }
     requires here { (top_frame machine.old cpu).place ≡ Some Pc.N1 }
@@ -256,8 +258,8 @@ pub(crate) fn look_bare(machine: &mut Machine, cpu: u32) -> Option<Event>
     None
 }
 
-/// N2: swaps the free word, `0,0,0 -> 0,0,1`, as F1. If another was faster, the word stays, and
-/// this waiter looks again.
+/// N2: swaps the word from free to held, `0,0,0 -> 0,0,1`, as F1 does. If another waiter was
+/// faster, the word stays, and this waiter polls again (N1).
 pub(crate) fn swap_bare(machine: &mut Machine, cpu: u32) -> Option<Event>
     requires ready { IsReady machine.old cpu }
     requires here { (top_frame machine.old cpu).place ≡ Some Pc.N2 }

@@ -1,4 +1,4 @@
-// The front of the queue, up to the handover.
+// The queue head, up to the handoff.
 ghost use Rattle.std.specs.Prelude.{◌≡◌, Some};
 ghost use Rattle.lk_machine.specs.Machine.{top_frame};
 ghost use Rattle.lk_machine.specs.Ready.{IsReady};
@@ -10,7 +10,7 @@ use lk_abs::{Event, How, Mode, What};
 use lk_machine::{Flag, Frame, Machine, Pc, is_tail, is_unlocked, named};
 use lk_word::{Fields, Locked};
 
-// Where the front goes that looked at the word.
+// The row after G7 read this word.
 fn after_look(frame: Frame, word: Fields) -> Pc
     ensures { result ≡ after_look frame word }
 {
@@ -24,9 +24,9 @@ fn after_look(frame: Frame, word: Fields) -> Pc
     }
 }
 
-/// G7: looks as the queue head for `*,0,0`: the lock is free, and no pending waiter is about to
-/// take it. From then on nobody else may take it: a fast path meets the tail, and a pending bit
-/// that is set on a word with a tail is cleared again.
+/// G7: polls as the queue head until the word is `*,0,0`: the lock is free, and no pending waiter
+/// is about to acquire it. From then on nobody else can acquire it: a fast path fails on the tail,
+/// and a waiter that sets the pending bit on a word with a tail clears it again.
 pub(crate) fn wait_as_front(machine: &mut Machine, cpu: u32) -> Option<Event>
     requires ready { IsReady machine.old cpu }
     requires here { (top_frame machine.old cpu).place ≡ Some Pc.G7 }
@@ -39,16 +39,18 @@ pub(crate) fn wait_as_front(machine: &mut Machine, cpu: u32) -> Option<Event>
     None
 }
 
-// Whether the word is that of a free lock with one waiter in its queue, of this frame.
+// Whether the word is `n,0,0`, n being the frame's own node: the lock is free, and nobody queues
+// behind the frame's waiter.
 fn is_sole(frame: Frame, word: Fields) -> bool
     ensures { result ≡ is_sole frame word }
 {
     is_unlocked(word) && !word.pending && is_tail(word, named(frame.me))
 }
 
-/// G8: swaps the word of a lone head, `n,0,0 -> 0,0,1`: it takes the lock and leaves no queue. If
-/// a waiter took the tail or set pending meanwhile, the word stays. The swap compares the whole
-/// word, so no tail is lost.
+/// G8: swaps the word of a head that is alone in the queue, `n,0,0 -> 0,0,1`. So it acquires the
+/// lock and leaves an empty queue. If another waiter exchanged the tail or set the pending bit
+/// meanwhile, the word stays, and the head goes on to G9. The swap compares the whole word, so it
+/// loses no waiter that came.
 pub(crate) fn take_sole(machine: &mut Machine, cpu: u32) -> Option<Event>
     requires ready { IsReady machine.old cpu }
     requires here { (top_frame machine.old cpu).place ≡ Some Pc.G8 }
@@ -63,7 +65,7 @@ pub(crate) fn take_sole(machine: &mut Machine, cpu: u32) -> Option<Event>
     None
 }
 
-// Where the front goes that took the lock.
+// The row after G9.
 fn after_head(mode: Mode) -> Pc
     ensures { result ≡ after_head mode }
 {
@@ -73,8 +75,9 @@ fn after_head(mode: Mode) -> Pc
     }
 }
 
-/// G9: stores held into the locked byte, `t,p,0 -> t,p,1`. The byte is free since G7, and only the
-/// head may take it, so a plain store will do. Tail and pending stay.
+/// G9: stores held into the locked byte, `t,p,0 -> t,p,1`. The byte is free since G7, and nobody
+/// but the head can acquire the lock since then, so this needs no swap. The tail and the pending
+/// bit stay.
 pub(crate) fn take_head(machine: &mut Machine, cpu: u32) -> Option<Event>
     requires ready { IsReady machine.old cpu }
     requires here { (top_frame machine.old cpu).place ≡ Some Pc.G9 }
@@ -95,9 +98,9 @@ pub(crate) fn take_head(machine: &mut Machine, cpu: u32) -> Option<Event>
     Some(event)
 }
 
-/// G10: looks at its own `next` until its successor has stored it, `none -> y`. Whoever has taken
-/// the tail will store it. After a claim that a pending bit made fail nobody may have taken the
-/// tail; then it looks until somebody comes.
+/// G10: polls its own `next` until its successor has stored it, `none -> y`. A waiter that
+/// exchanged the tail stores the link in its next step (G5). But if G8 failed by a pending bit
+/// alone, there may be no successor yet, and then it polls until a waiter queues.
 pub(crate) fn wait_for_next(machine: &mut Machine, cpu: u32) -> Option<Event>
     requires ready { IsReady machine.old cpu }
     requires here { (top_frame machine.old cpu).place ≡ Some Pc.G10 }
@@ -119,9 +122,10 @@ pub(crate) fn wait_for_next(machine: &mut Machine, cpu: u32) -> Option<Event>
     None
 }
 
-/// G11: stores go into the flag of its successor y, `unset -> go`, which makes that one the head,
-/// gives its own node back, and goes on as the holder. Nobody else knows y as its successor, so
-/// nobody else stores there; and nobody looks at the own node any more.
+/// G11: hands off. It stores go into the flag of its successor y, `unset -> go`, which makes y's
+/// waiter the head. It gives its own node back, and goes on as the holder. Only the head stores
+/// into its successor's flag, and the successor has linked itself, so nobody needs the own node
+/// any more.
 pub(crate) fn hand_on(machine: &mut Machine, cpu: u32) -> Option<Event>
     requires ready { IsReady machine.old cpu }
     requires here { (top_frame machine.old cpu).place ≡ Some Pc.G11 }

@@ -10,8 +10,8 @@ use crate::{arrive, front};
 use lk_abs::Event;
 use lk_machine::{Machine, Pc};
 
-/// Makes the row at which the top frame of a processor stands, and gives its event: one of G1 to
-/// G11, N1 and N2. It takes no memory.
+/// Makes the row at which the newest frame of a processor stands, one of G1 to G11, N1 and N2.
+/// Returns the event, if there is one. It takes no memory.
 #[inline]
 pub fn queue_row(machine: &mut Machine, cpu: u32, place: Pc) -> Option<Event>
     requires ready { IsReady machine.old cpu }

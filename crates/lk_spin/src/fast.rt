@@ -10,8 +10,8 @@ use lk_abs::{Event, How, What};
 use lk_machine::{HELD, Machine, Pc, after_fast, is_free};
 use lk_word::Locked;
 
-// Takes the free word: no other field is set, so the word with the locked byte alone is what the
-// exchange leaves.
+// Swaps the free word to held. The free word has no tail and no pending bit, so the swap leaves
+// the locked byte alone set.
 fn take(machine: &mut Machine, cpu: u32, how: How) -> Event
     requires { IsReady machine.old cpu }
     ensures next { machine.new
@@ -28,8 +28,9 @@ fn take(machine: &mut Machine, cpu: u32, how: How) -> Event
     event
 }
 
-/// F1: swaps the free word, `0,0,0 -> 0,0,1`. Nobody held the lock, nobody was pending and nobody
-/// queued, so who swaps is alone. Any other word stays, and says where this waiter goes on.
+/// F1: swaps the word from free to held, `0,0,0 -> 0,0,1`. The free word says that nobody holds
+/// the lock, nobody pends and nobody queues, so this waiter is the only holder. Any other word
+/// stays, and says where the waiter goes on.
 pub(crate) fn fast(machine: &mut Machine, cpu: u32) -> Option<Event>
     requires ready { IsReady machine.old cpu }
     requires here { (top_frame machine.old cpu).place ≡ Some Pc.F1 }
@@ -44,7 +45,7 @@ pub(crate) fn fast(machine: &mut Machine, cpu: u32) -> Option<Event>
     None
 }
 
-/// T1: looks for the free word, `0,0,0`, and stores nothing. Another word ends the try.
+/// T1: reads whether the word is free, `0,0,0`, and stores nothing. If it is not, the try fails.
 pub(crate) fn try_look(machine: &mut Machine, cpu: u32) -> Option<Event>
     requires ready { IsReady machine.old cpu }
     requires here { (top_frame machine.old cpu).place ≡ Some Pc.T1 }
@@ -58,7 +59,7 @@ pub(crate) fn try_look(machine: &mut Machine, cpu: u32) -> Option<Event>
     Some(miss(machine, cpu))
 }
 
-// The try of the top frame has failed.
+// The try of the newest frame fails.
 fn miss(machine: &mut Machine, cpu: u32) -> Event
     requires { IsReady machine.old cpu }
     ensures next { machine.new ≡ missed machine.old cpu }
@@ -78,8 +79,9 @@ fn miss(machine: &mut Machine, cpu: u32) -> Event
     event
 }
 
-/// T2: swaps the free word, `0,0,0 -> 0,0,1`, once. That it was free at T1 says nothing by now, so
-/// this is a swap and no store. If another was faster, the word stays and the try has failed.
+/// T2: swaps the word from free to held, `0,0,0 -> 0,0,1`. Another waiter may have changed the
+/// word since T1, so this is a swap and not a store. If the word is no longer free, it stays, and
+/// the try fails.
 pub(crate) fn try_swap(machine: &mut Machine, cpu: u32) -> Option<Event>
     requires ready { IsReady machine.old cpu }
     requires here { (top_frame machine.old cpu).place ≡ Some Pc.T2 }
@@ -92,9 +94,9 @@ pub(crate) fn try_swap(machine: &mut Machine, cpu: u32) -> Option<Event>
     Some(miss(machine, cpu))
 }
 
-/// U1: stores free into the locked byte, `t,p,1 -> t,p,0`. Only the holder stores there while the
-/// lock is held, so it needs no swap. A pending bit and a tail that came meanwhile stay for those
-/// who wait.
+/// U1: stores free into the locked byte, `t,p,1 -> t,p,0`. While the lock is held only its holder
+/// stores into the byte, so it needs no swap. The pending bit and the tail stay: they belong to
+/// the waiters.
 pub(crate) fn release(machine: &mut Machine, cpu: u32) -> Option<Event>
     requires ready { IsReady machine.old cpu }
     requires here { (top_frame machine.old cpu).place ≡ Some Pc.U1 }
@@ -108,7 +110,7 @@ pub(crate) fn release(machine: &mut Machine, cpu: u32) -> Option<Event>
     Some(event)
 }
 
-/// V1: looks until the word is free, `0,0,0`. It stores nothing, so the waiters do not disturb the
+/// V1: polls until the word is free, `0,0,0`. It stores nothing, so the waiters do not disturb the
 /// holder.
 pub(crate) fn loop_look(machine: &mut Machine, cpu: u32) -> Option<Event>
     requires ready { IsReady machine.old cpu }
@@ -125,8 +127,8 @@ pub(crate) fn loop_look(machine: &mut Machine, cpu: u32) -> Option<Event>
     None
 }
 
-/// V2: swaps the free word, `0,0,0 -> 0,0,1`. If another was faster, the word stays, and this
-/// waiter looks again. No waiter leaves a trace in the word, so there is nothing to undo.
+/// V2: swaps the word from free to held, `0,0,0 -> 0,0,1`. If another waiter was faster, the word
+/// stays, and this waiter polls again (V1). It has stored nothing, so there is nothing to undo.
 pub(crate) fn loop_swap(machine: &mut Machine, cpu: u32) -> Option<Event>
     requires ready { IsReady machine.old cpu }
     requires here { (top_frame machine.old cpu).place ≡ Some Pc.V2 }

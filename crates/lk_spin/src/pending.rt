@@ -1,4 +1,4 @@
-// The pending path: the first waiter behind a holder waits at the word itself.
+// The pending path: the first waiter behind a holder sets the pending bit and polls the word.
 ghost use Rattle.std.specs.Prelude.{◌≡◌, Some};
 ghost use Rattle.lk_machine.specs.Machine.{top_frame};
 ghost use Rattle.lk_machine.specs.Ready.{IsReady};
@@ -8,9 +8,9 @@ use lk_abs::{Event, How, What};
 use lk_machine::{Machine, Pc, after_pending, is_unlocked, to_queue};
 use lk_word::{Fields, Locked};
 
-/// P0: looks once more at a word that was pending alone, `0,1,0`. Its waiter is about to take the
-/// lock and clear the bit. With a bit or a tail this waiter queues; else it may set pending
-/// itself.
+/// P0: reads once more a word that had only the pending bit set, `0,1,0`. The waiter that has set
+/// it is about to acquire the lock and clear the bit. If there is still a pending bit, or a tail,
+/// this waiter queues (G1). Else it goes on to set the pending bit itself (P1).
 pub(crate) fn look_again(machine: &mut Machine, cpu: u32) -> Option<Event>
     requires ready { IsReady machine.old cpu }
     requires here { (top_frame machine.old cpu).place ≡ Some Pc.P0 }
@@ -22,9 +22,10 @@ pub(crate) fn look_again(machine: &mut Machine, cpu: u32) -> Option<Event>
     None
 }
 
-/// P1: sets pending, `t,p,l -> t,1,l`, and gets the word before it in the same operation. If p was
-/// 0 and t was none, this is the first waiter, and the bit is its own. If p was 1 the bit is
-/// another's, and stays. If there is a tail the bit is its own and has to go again (P2).
+/// P1: sets the pending bit, `t,p,l -> t,1,l`, and gets the word before the step. If p was 1, the
+/// bit is another waiter's and stays, and this waiter queues (G1). If p was 0, the bit is its own.
+/// Then with a tail it clears the bit again (P2), and without one it is the next to acquire (P3,
+/// P4).
 pub(crate) fn set_pending(machine: &mut Machine, cpu: u32) -> Option<Event>
     requires ready { IsReady machine.old cpu }
     requires here { (top_frame machine.old cpu).place ≡ Some Pc.P1 }
@@ -38,8 +39,9 @@ pub(crate) fn set_pending(machine: &mut Machine, cpu: u32) -> Option<Event>
     None
 }
 
-/// P2: clears pending, `t,1,l -> t,0,l`. The bit is the one that it set at P1 on a word with a
-/// queue: whoever meets a pending bit leaves it alone, so nobody has set it since. It then queues.
+/// P2: clears the pending bit, `t,1,l -> t,0,l`, and goes on to queue (G1). It is the bit that
+/// this waiter set at P1 on a word with a tail. A waiter that meets a pending bit does not own it,
+/// so the bit is no other waiter's.
 pub(crate) fn clear_pending(machine: &mut Machine, cpu: u32) -> Option<Event>
     requires ready { IsReady machine.old cpu }
     requires here { (top_frame machine.old cpu).place ≡ Some Pc.P2 }
@@ -52,8 +54,8 @@ pub(crate) fn clear_pending(machine: &mut Machine, cpu: u32) -> Option<Event>
     None
 }
 
-/// P3: looks until the locked byte is free, `t,1,0`. The bit keeps all others off: a fast path
-/// meets it and fails, and a queue head waits until it is clear.
+/// P3: polls until the locked byte is free, `t,1,0`. Meanwhile the pending bit keeps all others
+/// from acquiring: the fast path fails on it, and a queue head polls until it is clear.
 pub(crate) fn watch(machine: &mut Machine, cpu: u32) -> Option<Event>
     requires ready { IsReady machine.old cpu }
     requires here { (top_frame machine.old cpu).place ≡ Some Pc.P3 }
@@ -69,9 +71,9 @@ pub(crate) fn watch(machine: &mut Machine, cpu: u32) -> Option<Event>
     None
 }
 
-/// P4: takes the lock and clears pending in one store, `t,1,0 -> t,0,1`. The byte is free since
-/// P3, and with the bit set nobody else may take it, so a plain store will do. A tail that came
-/// meanwhile stays: it is another part of the word.
+/// P4: acquires the lock and clears the pending bit in one store, `t,1,0 -> t,0,1`. The byte is
+/// free since P3, or since P1. With the bit set nobody else may acquire the lock, so this needs no
+/// swap. A tail that came meanwhile stays: the store leaves that part of the word.
 #[tactic(auto, using(lk_machine::proofs::Kept::kept), unfolding(lk_machine::specs::Machine::set_word, lk_machine::specs::Machine::set_lock))]
 pub(crate) fn take_pending(machine: &mut Machine, cpu: u32) -> Option<Event>
     requires ready { IsReady machine.old cpu }

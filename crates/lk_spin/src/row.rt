@@ -10,8 +10,8 @@ use crate::{fast, pending};
 use lk_abs::Event;
 use lk_machine::{Machine, Pc};
 
-/// Makes the row at which the top frame of a processor stands, and gives its event: one of F1, T1,
-/// T2, U1, V1, V2 and P0 to P4. It takes no memory.
+/// Makes the row at which the newest frame of a processor stands, one of F1, T1, T2, U1, V1, V2
+/// and P0 to P4. Returns the event, if there is one. It takes no memory.
 #[inline]
 pub fn spin_row(machine: &mut Machine, cpu: u32, place: Pc) -> Option<Event>
     requires ready { IsReady machine.old cpu }
