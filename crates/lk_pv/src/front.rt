@@ -1,4 +1,4 @@
-// A front, up to where it has the lock.
+// The queue head, up to where it has the lock.
 ghost use Rattle.std.specs.Prelude.{◌≡◌, Some};
 ghost use Rattle.lk_machine.specs.Machine.{top_frame};
 ghost use Rattle.lk_machine.specs.TopRow.{row};
@@ -24,8 +24,9 @@ fn is_slow(word: Fields) -> bool
     matches!(word.locked, Locked::Slow)
 }
 
-/// E1: notes whether its own state is hashed (`pv_wait_head_or_lock`). If so, it will not enter the
-/// hash itself.
+/// E1: reads its own state, and notes whether that is hashed (`pv_wait_head_or_lock`). If so, the
+/// holder has entered this node into the hash, or is about to (K3), and the head does not enter it
+/// itself.
 pub(crate) fn look_at_state(machine: &mut Machine, cpu: u32) -> Option<Event>
     requires ready { IsPvReady machine.old cpu }
     requires here { (top_frame machine.old cpu).place ≡ Some Pc.E1 }
@@ -48,7 +49,9 @@ pub(crate) fn look_at_state(machine: &mut Machine, cpu: u32) -> Option<Event>
     None
 }
 
-/// E2: own state: any -> running, by a store (`pv_wait_head_or_lock`).
+/// E2: stores running into its own state, `-> running` (`pv_wait_head_or_lock`). Nobody else
+/// stores there now: K1 swaps only a halted state, and the state of a head here is running or
+/// hashed.
 pub(crate) fn say_running(machine: &mut Machine, cpu: u32) -> Option<Event>
     requires ready { IsPvReady machine.old cpu }
     requires here { (top_frame machine.old cpu).place ≡ Some Pc.E2 }
@@ -62,7 +65,9 @@ pub(crate) fn say_running(machine: &mut Machine, cpu: u32) -> Option<Event>
     None
 }
 
-/// E3: `*,*,* -> *,1,*` (`set_pending`). It spins anew.
+/// E3: sets the pending bit, `t,p,l -> t,1,l` (`set_pending`), and begins to poll with the whole
+/// spin bound left. In mode `pv` only the queue head sets the bit. Those who would steal stop at
+/// it (H1).
 pub(crate) fn set_pending(machine: &mut Machine, cpu: u32) -> Option<Event>
     requires ready { IsPvReady machine.old cpu }
     requires here { (top_frame machine.old cpu).place ≡ Some Pc.E3 }
@@ -83,8 +88,9 @@ pub(crate) fn set_pending(machine: &mut Machine, cpu: u32) -> Option<Event>
     None
 }
 
-/// E4: `*,1,0 -> *,0,1`, by an exchange: it takes the lock (`trylock_clear_pending`). At another
-/// word nothing is stored; it makes another turn, or where none is left goes on to halt.
+/// E4: swaps byte and bit, `t,1,0 -> t,0,1`, and so acquires the lock (`trylock_clear_pending`).
+/// The byte was free, so nobody held the lock, and the bit is the one that it set at E3. The tail
+/// stays. Another word stays. Then it polls again, or goes on to halt if no polls are left (E5).
 pub(crate) fn take_pending(machine: &mut Machine, cpu: u32) -> Option<Event>
     requires ready { IsPvReady machine.old cpu }
     requires here { (top_frame machine.old cpu).place ≡ Some Pc.E4 }
@@ -117,7 +123,9 @@ pub(crate) fn take_pending(machine: &mut Machine, cpu: u32) -> Option<Event>
     None
 }
 
-/// E5: `*,*,* -> *,0,*` (`clear_pending`). Then it enters the hash, unless it stands there.
+/// E5: clears the pending bit, `t,1,l -> t,0,l` (`clear_pending`). It is the bit that it set at
+/// E3. From here on others may steal. It goes on to enter its node into the hash (E6), or to E10
+/// if the node was entered since it queued.
 pub(crate) fn clear_pending(machine: &mut Machine, cpu: u32) -> Option<Event>
     requires ready { IsPvReady machine.old cpu }
     requires here { (top_frame machine.old cpu).place ≡ Some Pc.E5 }
@@ -131,7 +139,8 @@ pub(crate) fn clear_pending(machine: &mut Machine, cpu: u32) -> Option<Event>
     None
 }
 
-/// E6: the lock's entry: none -> its own node (`pv_hash`).
+/// E6: enters its own node into the hash as the lock's entry, `none -> n` (`pv_hash`). Nobody else
+/// enters the lock meanwhile: the holder does so only for a head whose state it found halted (K3).
 pub(crate) fn enter_hash(machine: &mut Machine, cpu: u32) -> Option<Event>
     requires ready { IsPvReady machine.old cpu }
     requires here { (top_frame machine.old cpu).place ≡ Some Pc.E6 }
@@ -144,8 +153,9 @@ pub(crate) fn enter_hash(machine: &mut Machine, cpu: u32) -> Option<Event>
     None
 }
 
-/// E7: exchanges the byte with slow (`pv_wait_head_or_lock`). By `*,*,0 -> *,*,slow` it takes the
-/// lock; after `*,*,1 -> *,*,slow`, or where slow stood there, it notes that it stands in the hash.
+/// E7: exchanges the byte for slow, `t,p,l -> t,p,S` (`pv_wait_head_or_lock`). If l was free, it
+/// has acquired the lock by this (E8). Else the release will meet the slow byte, and find the
+/// entry of E6. The head notes that it is entered, and goes on to halt (E10).
 pub(crate) fn exchange_slow(machine: &mut Machine, cpu: u32) -> Option<Event>
     requires ready { IsPvReady machine.old cpu }
     requires here { (top_frame machine.old cpu).place ≡ Some Pc.E7 }
@@ -178,7 +188,8 @@ pub(crate) fn exchange_slow(machine: &mut Machine, cpu: u32) -> Option<Event>
     None
 }
 
-/// E8: `*,*,* -> *,*,1`, by a store (`pv_wait_head_or_lock`).
+/// E8: stores held into the byte, `t,p,S -> t,p,1` (`pv_wait_head_or_lock`). It holds the lock
+/// since E7, and nobody else stores into a byte that is not free, so it needs no swap.
 pub(crate) fn store_held(machine: &mut Machine, cpu: u32) -> Option<Event>
     requires ready { IsPvReady machine.old cpu }
     requires here { (top_frame machine.old cpu).place ≡ Some Pc.E8 }
@@ -191,7 +202,9 @@ pub(crate) fn store_held(machine: &mut Machine, cpu: u32) -> Option<Event>
     None
 }
 
-/// E9: the lock's entry: a node -> none (`pv_wait_head_or_lock`).
+/// E9: removes the lock's entry from the hash, `n -> none` (`pv_wait_head_or_lock`). It is the
+/// entry of E6. Nobody else has removed it: only a holder removes an entry (U3), and this waiter
+/// is the holder since E7.
 pub(crate) fn leave_hash(machine: &mut Machine, cpu: u32) -> Option<Event>
     requires ready { IsPvReady machine.old cpu }
     requires here { (top_frame machine.old cpu).place ≡ Some Pc.E9 }
@@ -204,7 +217,8 @@ pub(crate) fn leave_hash(machine: &mut Machine, cpu: u32) -> Option<Event>
     None
 }
 
-/// E10: own state: any -> hashed, by a store (`pv_wait_head_or_lock`).
+/// E10: stores hashed into its own state, `-> hashed` (`pv_wait_head_or_lock`). By this the waiter
+/// behind it learns that it does not run (W2).
 #[tactic(auto, using(lk_machine::proofs::Kept::kept), unfolding(lk_machine::specs::Machine::set_node, lk_machine::specs::Machine::set_cpu))]
 pub(crate) fn say_hashed(machine: &mut Machine, cpu: u32) -> Option<Event>
     requires ready { IsPvReady machine.old cpu }
@@ -222,7 +236,9 @@ pub(crate) fn say_hashed(machine: &mut Machine, cpu: u32) -> Option<Event>
     None
 }
 
-/// E11: looks at the byte (`pv_wait`). It halts only at `*,*,slow`, and else spins anew.
+/// E11: reads the byte (`pv_wait`). It halts (E12) only if the byte is slow, `t,p,S`. Else it
+/// polls again (E2): the lock was released meanwhile, or the holder has not made the byte slow yet
+/// (K2). Interrupts are off from this read until the processor has halted.
 pub(crate) fn test_slow(machine: &mut Machine, cpu: u32) -> Option<Event>
     requires ready { IsPvReady machine.old cpu }
     requires here { (top_frame machine.old cpu).place ≡ Some Pc.E11 }
@@ -238,8 +254,9 @@ pub(crate) fn test_slow(machine: &mut Machine, cpu: u32) -> Option<Event>
     None
 }
 
-/// E12: the processor: running -> halted (`pv_wait`). The place stays; the end of the halt moves it
-/// on.
+/// E12: halts the processor (`pv_wait`). The frame stays at E12 until an act ends the halt, and
+/// then goes on at E2. One of these is true: the byte is slow, so that the release will kick; the
+/// holder is about to make it slow (K2); or a kick is remembered or about to be made.
 pub(crate) fn halt(machine: &mut Machine, cpu: u32) -> Option<Event>
     requires ready { IsPvReady machine.old cpu }
     requires here { (top_frame machine.old cpu).place ≡ Some Pc.E12 }

@@ -1,5 +1,5 @@
-// A holder that came through the queue hands the lead on, and sees to it that a halted next one is
-// kicked.
+// The holder that came through the queue hands off, and sees to it that a new head that has halted
+// will be kicked.
 ghost use Rattle.std.specs.Prelude.{◌≡◌, Some};
 ghost use Rattle.lk_machine.specs.Machine.{top_frame};
 ghost use Rattle.lk_machine.specs.TopRow.{row};
@@ -10,8 +10,10 @@ use lk_abs::{Event, What};
 use lk_machine::{Flag, Frame, Machine, Pc, State, is_last, named};
 use lk_word::Locked;
 
-/// E13: `t,0,1 -> 0,0,1`, by an exchange, where the tail t is its own node: it leaves the queue
-/// empty. At another word nothing is stored.
+/// E13: swaps the tail from its own node to none, `n,0,1 -> 0,0,1`, and so leaves an empty queue
+/// (`queued_spin_lock_slowpath`). It holds the lock. If another waiter exchanged the tail, the
+/// word stays, and it goes on to hand off (E14). The swap compares the whole word, so it loses no
+/// waiter that came.
 pub(crate) fn leave_queue(machine: &mut Machine, cpu: u32) -> Option<Event>
     requires ready { IsPvReady machine.old cpu }
     requires here { (top_frame machine.old cpu).place ≡ Some Pc.E13 }
@@ -30,7 +32,9 @@ pub(crate) fn leave_queue(machine: &mut Machine, cpu: u32) -> Option<Event>
     None
 }
 
-/// E14: looks at its own link until the next one has linked its node.
+/// E14: polls its own `next` until its successor has stored it, `none -> y`
+/// (`queued_spin_lock_slowpath`). E13 met another tail, and the waiter that exchanged it stores
+/// the link in its next step (G5).
 pub(crate) fn wait_for_next(machine: &mut Machine, cpu: u32) -> Option<Event>
     requires ready { IsPvReady machine.old cpu }
     requires here { (top_frame machine.old cpu).place ≡ Some Pc.E14 }
@@ -52,7 +56,9 @@ pub(crate) fn wait_for_next(machine: &mut Machine, cpu: u32) -> Option<Event>
     None
 }
 
-/// E15: flag of the next: any -> go, by a store. The next one leads.
+/// E15: hands off. It stores go into the flag of its successor y, `unset -> go`, which makes y's
+/// waiter the head (`queued_spin_lock_slowpath`). It still holds the lock, and goes on to look
+/// whether the new head has halted (K1). Only the head stores into its successor's flag.
 pub(crate) fn hand_on(machine: &mut Machine, cpu: u32) -> Option<Event>
     requires ready { IsPvReady machine.old cpu }
     requires here { (top_frame machine.old cpu).place ≡ Some Pc.E15 }
@@ -74,8 +80,10 @@ pub(crate) fn hand_on(machine: &mut Machine, cpu: u32) -> Option<Event>
     Some(event)
 }
 
-/// K1: state of the next: halted -> hashed, by an exchange (`pv_kick_node`). Another state stays,
-/// and the holder goes on.
+/// K1: swaps the state of the new head's node y, `halted -> hashed` (`pv_kick_node`). A halted
+/// state says that the new head may have halted, so the holder makes the release kick it (K2, K3).
+/// Another state stays, and the holder goes on: the new head will not halt at W6, since it sees
+/// its flag set (W1, W4).
 pub(crate) fn mark_hashed(machine: &mut Machine, cpu: u32) -> Option<Event>
     requires ready { IsPvReady machine.old cpu }
     requires here { (top_frame machine.old cpu).place ≡ Some Pc.K1 }
@@ -93,7 +101,9 @@ pub(crate) fn mark_hashed(machine: &mut Machine, cpu: u32) -> Option<Event>
     None
 }
 
-/// K2: `*,*,* -> *,*,slow`, by a store (`pv_kick_node`).
+/// K2: stores slow into the byte, `t,p,1 -> t,p,S` (`pv_kick_node`). It holds the lock, and the
+/// new head finds its state hashed (E1) and so does not store into the byte (E5). So this needs no
+/// swap.
 pub(crate) fn store_slow(machine: &mut Machine, cpu: u32) -> Option<Event>
     requires ready { IsPvReady machine.old cpu }
     requires here { (top_frame machine.old cpu).place ≡ Some Pc.K2 }
@@ -106,7 +116,9 @@ pub(crate) fn store_slow(machine: &mut Machine, cpu: u32) -> Option<Event>
     None
 }
 
-/// K3: the lock's entry: none -> the node of the next (`pv_hash`). The holder goes on.
+/// K3: enters the new head's node into the hash as the lock's entry, `none -> y` (`pv_hash`), and
+/// goes on as the holder. The byte is slow before the entry is there. That does no harm, since the
+/// holder itself is who will release.
 pub(crate) fn enter_next(machine: &mut Machine, cpu: u32) -> Option<Event>
     requires ready { IsPvReady machine.old cpu }
     requires here { (top_frame machine.old cpu).place ≡ Some Pc.K3 }

@@ -1,9 +1,9 @@
-//! The rows of the paravirtual lock. Each is proved to be the row that `lk_machine` defines.
+//! The rows of the paravirtual lock. Each row is proved to be the row that `lk_machine` defines.
 //!
-//! A word is written as its tail, its pending bit and its locked byte, as in `t,0,1`. No tail is 0,
-//! the byte is 0, 1 or slow, and `*` is any value; where it stands on both sides of an arrow, the
-//! value stays. Beside a row stands the function of Linux's `qspinlock_paravirt.h` whose step it
-//! is, where there is one.
+//! A word is written as its tail, its pending bit and its locked byte, as in `t,0,1`. No tail is
+//! 0, and the byte is 0, 1 or S for slow. The row's own node is n, and y is the successor's. Each
+//! row names the function of Linux whose step it is, most of them in
+//! `kernel/locking/qspinlock_paravirt.h`.
 #![tactic(auto, using(lk_machine::proofs::Kept::kept))]
 
 mod front;

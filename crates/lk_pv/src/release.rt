@@ -1,4 +1,4 @@
-// The release, with the kick that it may owe.
+// The release, and the kick after it.
 ghost use Rattle.std.specs.Prelude.{◌≡◌, Some};
 ghost use Rattle.lk_machine.specs.Machine.{top_frame};
 ghost use Rattle.lk_machine.specs.TopRow.{row};
@@ -8,8 +8,9 @@ use lk_abs::{Event, What};
 use lk_machine::{Frame, Machine, Pc, is_held, named};
 use lk_word::Locked;
 
-/// U2: `*,*,1 -> *,*,0`, by an exchange of the byte alone: the lock is released
-/// (`__pv_queued_spin_unlock`). Another byte stays.
+/// U2: swaps the byte from held to free, `t,p,1 -> t,p,0`, and so releases the lock
+/// (`__pv_queued_spin_unlock`). A slow byte stays, and the release goes on to find whom to kick
+/// (U3). This is a swap, since the queue head may make the byte slow at any moment (E7).
 pub(crate) fn swap_free(machine: &mut Machine, cpu: u32) -> Option<Event>
     requires ready { IsPvReady machine.old cpu }
     requires here { (top_frame machine.old cpu).place ≡ Some Pc.U2 }
@@ -27,7 +28,9 @@ pub(crate) fn swap_free(machine: &mut Machine, cpu: u32) -> Option<Event>
     None
 }
 
-/// U3: the lock's entry: a node -> none (`pv_unhash`). The node is its target from now on.
+/// U3: removes the lock's entry from the hash, `n -> none`, and notes its node n as the target
+/// (`pv_unhash`). There is an entry: who makes the byte slow has entered the head before (E6), or
+/// is the holder, and enters it before it releases (K3).
 pub(crate) fn find_target(machine: &mut Machine, cpu: u32) -> Option<Event>
     requires ready { IsPvReady machine.old cpu }
     requires here { (top_frame machine.old cpu).place ≡ Some Pc.U3 }
@@ -47,8 +50,9 @@ pub(crate) fn find_target(machine: &mut Machine, cpu: u32) -> Option<Event>
     None
 }
 
-/// U4: `*,*,* -> *,*,0`, by a store: the lock is released, and a kick is owed
-/// (`__pv_queued_spin_unlock_slowpath`).
+/// U4: stores free into the byte, `t,p,S -> t,p,0`, and so releases the lock
+/// (`__pv_queued_spin_unlock_slowpath`). From here on a kick of the target's processor is pending.
+/// Only the holder changes a slow byte, so it needs no swap.
 pub(crate) fn store_free(machine: &mut Machine, cpu: u32) -> Option<Event>
     requires ready { IsPvReady machine.old cpu }
     requires here { (top_frame machine.old cpu).place ≡ Some Pc.U4 }
@@ -68,7 +72,8 @@ pub(crate) fn store_free(machine: &mut Machine, cpu: u32) -> Option<Event>
     Some(event)
 }
 
-/// U5: the kick of the target's processor: any -> remembered (`pv_kick`).
+/// U5: kicks the target's processor, which remembers the kick, `-> remembered` (`pv_kick`). The
+/// kick ends its halt. If it has not halted, the kick ends its next halt.
 #[tactic(auto, using(lk_machine::proofs::Kept::kept), unfolding(lk_machine::specs::Machine::set_kicked, lk_machine::specs::Machine::set_cpu))]
 pub(crate) fn kick(machine: &mut Machine, cpu: u32) -> Option<Event>
     requires ready { IsPvReady machine.old cpu }

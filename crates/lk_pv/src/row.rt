@@ -10,8 +10,8 @@ use crate::{front, hand, release, steal, wait};
 use lk_abs::Event;
 use lk_machine::{Machine, Pc};
 
-/// Makes the row at which the top frame of a processor stands, and gives its event: one of H1, H2,
-/// W1 to W7, E1 to E15, K1 to K3 and U2 to U5. It takes no memory.
+/// Makes the row at which the newest frame of a processor stands, one of H1, H2, W1 to W7, E1 to
+/// E15, K1 to K3 and U2 to U5. Returns the event, if there is one. It takes no memory.
 #[inline]
 pub fn pv_row(machine: &mut Machine, cpu: u32, place: Pc) -> Option<Event>
     requires ready { IsPvReady machine.old cpu }

@@ -1,4 +1,4 @@
-// A waiter that may pass the queue by.
+// A waiter that may steal the lock, past the queue.
 ghost use Rattle.std.specs.Prelude.{◌≡◌, Some};
 ghost use Rattle.lk_machine.specs.Machine.{HasTop, set_top, top_frame};
 ghost use Rattle.lk_machine.specs.TopRow.{row};
@@ -9,7 +9,7 @@ use lk_abs::{Event, How, What};
 use lk_machine::{Frame, Machine, Pc, is_unlocked};
 use lk_word::{Fields, Locked, NodeName};
 
-// Where a waiter goes that may not steal: with a node it joins the queue.
+// The row after a waiter gave up stealing: with a node it queues, and without one it polls again.
 fn after_given_up(me: Option<NodeName>) -> Pc
     ensures { result ≡ after_given_up me }
 {
@@ -19,7 +19,7 @@ fn after_given_up(me: Option<NodeName>) -> Pc
     }
 }
 
-// Where a waiter goes that met this word.
+// The row after H1 met this word.
 fn after_glance(me: Option<NodeName>, word: Fields) -> Pc
     ensures { result ≡ after_glance me word }
 {
@@ -32,7 +32,7 @@ fn after_glance(me: Option<NodeName>, word: Fields) -> Pc
     }
 }
 
-// The top frame notes whether the word had a tail, and goes to this place.
+// The newest frame notes whether the word had a tail, and goes to this row.
 fn note_tail(machine: &mut Machine, cpu: u32, tailed: bool, place: Pc)
     requires { HasTop machine.old cpu }
     ensures { machine.new
@@ -50,9 +50,10 @@ fn note_tail(machine: &mut Machine, cpu: u32, tailed: bool, place: Pc)
     );
 }
 
-/// H1: looks at the word (`pv_hybrid_queued_unfair_trylock`). At `*,0,0` it goes on to steal; else
-/// at `t,0,*` with a tail t it looks again; else it gives up, and joins the queue, or without a
-/// node looks again. Where it met a tail at its last look too, the place alone is stored.
+/// H1: polls whether it may steal the lock (`pv_hybrid_queued_unfair_trylock`), and stores
+/// nothing. At `t,0,0` it goes on to steal (H2). At another word with a tail and no pending bit it
+/// polls again. Else it gives up: with a node it queues (G4), and without one it polls again. The
+/// pending bit stops it, since the queue head has set that bit to acquire the lock itself.
 pub(crate) fn glance(machine: &mut Machine, cpu: u32) -> Option<Event>
     requires ready { IsPvReady machine.old cpu }
     requires here { (top_frame machine.old cpu).place ≡ Some Pc.H1 }
@@ -71,9 +72,10 @@ pub(crate) fn glance(machine: &mut Machine, cpu: u32) -> Option<Event>
     None
 }
 
-/// H2: `*,*,0 -> *,*,1`, by an exchange of the byte alone: it takes the lock past the queue
-/// (`pv_hybrid_queued_unfair_trylock`). At another byte nothing is stored; it looks again where H1
-/// met a tail, and else gives up.
+/// H2: swaps the byte from free to held, `t,p,0 -> t,p,1`, and so steals the lock
+/// (`pv_hybrid_queued_unfair_trylock`). The byte was free, so nobody held the lock. The pending
+/// bit and the tail stay. If the byte is not free, it stays. Then this waiter polls again (H1) if
+/// the word at H1 had a tail, and else gives up as at H1.
 #[tactic(auto, using(lk_machine::proofs::Kept::kept), unfolding(lk_machine::specs::Machine::set_word, lk_machine::specs::Machine::set_lock))]
 pub(crate) fn steal(machine: &mut Machine, cpu: u32) -> Option<Event>
     requires ready { IsPvReady machine.old cpu }

@@ -1,4 +1,4 @@
-// A waiter in the queue, which halts its processor after a while.
+// A waiter behind another, which halts its processor after a while.
 ghost use Rattle.std.specs.Prelude.{◌≡◌, Some};
 ghost use Rattle.lk_machine.specs.Machine.{top_frame};
 ghost use Rattle.lk_machine.specs.TopRow.{row};
@@ -23,7 +23,8 @@ fn is_running(state: State) -> bool
     matches!(state, State::Running)
 }
 
-/// W1: looks at its own flag (`pv_wait_node`). Where it is set, it goes on as the front.
+/// W1: polls its own flag (`pv_wait_node`). If it is set, this waiter is the queue head (E1). Else
+/// it polls its predecessor's state (W2). Only the queue head stores into the flag (E15).
 pub(crate) fn spin(machine: &mut Machine, cpu: u32) -> Option<Event>
     requires ready { IsPvReady machine.old cpu }
     requires here { (top_frame machine.old cpu).place ≡ Some Pc.W1 }
@@ -40,8 +41,10 @@ pub(crate) fn spin(machine: &mut Machine, cpu: u32) -> Option<Event>
     None
 }
 
-/// W2: looks at the state of the one before it (`pv_wait_early`). While that is running and turns
-/// are left, it makes another turn; else it goes on to halt.
+/// W2: polls the state of its predecessor's node (`pv_wait_early`). If the predecessor runs, and
+/// polls are left, it polls on (W1). Else it goes on to halt (W3). Another waiter may use that
+/// node by now. That does no harm: the state decides only how soon this waiter tries to halt, and
+/// W4 reads the flag once more.
 pub(crate) fn watch(machine: &mut Machine, cpu: u32) -> Option<Event>
     requires ready { IsPvReady machine.old cpu }
     requires here { (top_frame machine.old cpu).place ≡ Some Pc.W2 }
@@ -57,7 +60,9 @@ pub(crate) fn watch(machine: &mut Machine, cpu: u32) -> Option<Event>
     None
 }
 
-/// W3: own state: any -> halted, by a store (`pv_wait_node`).
+/// W3: stores halted into its own state, `running -> halted` (`pv_wait_node`). It does so before
+/// it reads the flag for the last time (W4), and a holder sets the flag (E15) before it tests the
+/// state (K1). So if W4 sees the flag unset, that test comes after this store.
 pub(crate) fn say_halted(machine: &mut Machine, cpu: u32) -> Option<Event>
     requires ready { IsPvReady machine.old cpu }
     requires here { (top_frame machine.old cpu).place ≡ Some Pc.W3 }
@@ -71,7 +76,9 @@ pub(crate) fn say_halted(machine: &mut Machine, cpu: u32) -> Option<Event>
     None
 }
 
-/// W4: looks at its own flag once more (`pv_wait_node`). While it is unset, it goes on to halt.
+/// W4: reads its own flag once more (`pv_wait_node`). If it is set, this waiter is the queue head,
+/// and does not halt (W7). Else it goes on to halt (W5): a holder that hands off before the halt
+/// has ended finds the state halted (K1), and sees to the kick.
 pub(crate) fn look_once_more(machine: &mut Machine, cpu: u32) -> Option<Event>
     requires ready { IsPvReady machine.old cpu }
     requires here { (top_frame machine.old cpu).place ≡ Some Pc.W4 }
@@ -90,7 +97,9 @@ pub(crate) fn look_once_more(machine: &mut Machine, cpu: u32) -> Option<Event>
     None
 }
 
-/// W5: looks at its own state (`pv_wait`). It halts only where that is still halted.
+/// W5: reads its own state (`pv_wait`). It halts (W6) only if that is still halted. Else the
+/// holder has marked it as hashed (K1), and the kick may have been made already. Interrupts are
+/// off from this read until the processor has halted.
 pub(crate) fn test_state(machine: &mut Machine, cpu: u32) -> Option<Event>
     requires ready { IsPvReady machine.old cpu }
     requires here { (top_frame machine.old cpu).place ≡ Some Pc.W5 }
@@ -104,8 +113,10 @@ pub(crate) fn test_state(machine: &mut Machine, cpu: u32) -> Option<Event>
     None
 }
 
-/// W6: the processor: running -> halted (`pv_wait`). The place stays; the end of the halt moves it
-/// on.
+/// W6: halts the processor (`pv_wait`). The frame stays at W6 until an act ends the halt, and then
+/// goes on at W7. If this waiter is the queue head by now, one of these is true: the holder is
+/// about to test its state (K1) or to make the byte slow (K2); the byte is slow; or a kick is
+/// remembered or about to be made.
 pub(crate) fn halt(machine: &mut Machine, cpu: u32) -> Option<Event>
     requires ready { IsPvReady machine.old cpu }
     requires here { (top_frame machine.old cpu).place ≡ Some Pc.W6 }
@@ -119,8 +130,9 @@ pub(crate) fn halt(machine: &mut Machine, cpu: u32) -> Option<Event>
     Some(event)
 }
 
-/// W7: own state: halted -> running, by an exchange; another state stays (`pv_wait_node`). Either
-/// way it spins anew.
+/// W7: swaps its own state, `halted -> running` (`pv_wait_node`). If the holder has marked it as
+/// hashed (K1), that stays: so this waiter learns at E1 that it need not enter itself into the
+/// hash. Either way it polls again (W1), with the whole spin bound left.
 pub(crate) fn say_running(machine: &mut Machine, cpu: u32) -> Option<Event>
     requires ready { IsPvReady machine.old cpu }
     requires here { (top_frame machine.old cpu).place ≡ Some Pc.W7 }

@@ -1,4 +1,4 @@
-// What the rows read of a state and a register.
+// What the rows read of a state and of a register.
 ghost use Rattle.std.specs.Prelude.{◌≡◌, ◌-◌, ◌==◌, [], ◌∷◌, true, is_some, Some, if◌then◌else◌};
 ghost use Rattle.lk_machine.specs.rows.Pv.{is_halted};
 ghost use Rattle.lk_machine.specs.Row.{Left, gone};
@@ -14,7 +14,7 @@ pub(crate) fn is_halted(state: State) -> bool
     matches!(state, State::Halted)
 }
 
-// The node that a frame surely names.
+// The node that a register names. It must name one.
 pub(crate) fn known(node: Option<NodeName>) -> NodeName
     requires { is_some node ≡ true }
     ensures { node ≡ Some result }
@@ -25,7 +25,7 @@ pub(crate) fn known(node: Option<NodeName>) -> NodeName
     }
 }
 
-// The frame after one turn: it makes another, or where no turns are left it goes elsewhere.
+// The frame after one failed poll: it polls again, or goes elsewhere if no polls are left.
 pub(crate) fn after_turn(frame: Frame, again: Pc, over: Pc) -> Frame
     ensures { result
         ≡ (if frame.left - 1 == 0 then gone frame over (Left 0 ∷ []) else gone frame again
