@@ -19,8 +19,11 @@ use lk_queue::queue_row;
 use lk_rw::rw_row;
 use lk_spin::spin_row;
 
-/// Does one act, and gives its event where it has one. It has no refusal and takes no memory: an
-/// act that is idle changes nothing.
+/// Does one act, and returns its event, if there is one. An idle act changes nothing. No act is
+/// refused, and none takes memory.
+///
+/// The act must name a processor of the machine, the machine must be sound, and each count must be
+/// at most 2^64 - 2. A machine at rest with a lawful setup is sound, and every act leaves it so.
 #[inline]
 pub fn act(machine: &mut Machine, act: Act) -> Option<Event>
     requires range { processor_of act < length machine.old.cpus }
@@ -30,12 +33,12 @@ pub fn act(machine: &mut Machine, act: Act) -> Option<Event>
     ensures next { machine.new ≡ (next machine.old act).0 }
     ensures event { result ≡ (next machine.old act).1 }
 
-    // It is idle exactly where `IsIdle` says so.
+    // The act is idle exactly if `IsIdle` says so.
     ensures idle { IsIdle machine.old act → (machine.new ≡ machine.old) × (result ≡ None) }
     ensures busy { ¬ IsIdle machine.old act → Happens machine.old act machine.new result }
 
-    // The machine stays sound, and whatever lawful history it showed, it shows with the event, and
-    // lawful.
+    // The machine stays sound. Whatever lawful history it showed, it shows that history with the
+    // event, which is lawful again.
     ensures sound { IsSound machine.new }
     ensures keeps { (es : List EventValue) → ShowsLawful machine.old es
         → ShowsLawful machine.new (with_event es result) }
@@ -58,8 +61,8 @@ pub fn act(machine: &mut Machine, act: Act) -> Option<Event>
     }
 }
 
-// The row of the top frame, or the end of a halt. A processor that is preempted stands still, and a
-// frame that is finished has no row.
+// Makes the row of the newest frame, or ends a halt. A preempted processor does nothing, and a
+// frame whose program has ended has no row.
 #[inline]
 fn step(machine: &mut Machine, cpu: u32) -> Option<Event>
     requires range { cpu < length machine.old.cpus }
@@ -92,7 +95,7 @@ fn stands_halting(place: Option<Pc>) -> bool
     matches!(place, Some(Pc::W6 | Pc::E12))
 }
 
-// The place behind a halt.
+// The row behind a halt.
 #[inline]
 fn behind_halt(place: Option<Pc>) -> Option<Pc>
     ensures { result ≡ after_halt place }
@@ -104,7 +107,7 @@ fn behind_halt(place: Option<Pc>) -> Option<Pc>
     }
 }
 
-// Whether a processor is between the last test before a halt and the halt.
+// Whether a processor is between the test before a halt (W5, E11) and the halt.
 fn is_about_to_halt(machine: &Machine, cpu: u32) -> bool
     requires { HasTop machine.now cpu }
     ensures { result
@@ -113,7 +116,7 @@ fn is_about_to_halt(machine: &Machine, cpu: u32) -> bool
     stands_halting(machine.place(cpu)) && !machine.halted(cpu)
 }
 
-// The halt of a processor ends, and its top frame goes on behind it.
+// Ends the halt of a processor, and its newest frame goes on behind the halt.
 #[tactic(auto, using(lk_machine::proofs::Kept::kept))]
 fn end_halt(machine: &mut Machine, cpu: u32)
     requires { HasTop machine.old cpu }
@@ -130,7 +133,7 @@ fn end_halt(machine: &mut Machine, cpu: u32)
     machine.set_halted(cpu, false);
 }
 
-// The halt of a processor ends, if it has halted.
+// Ends the halt of a processor, if it has halted.
 fn end_any_halt(machine: &mut Machine, cpu: u32)
     requires { HasTop machine.old cpu }
     ensures { machine.new ≡ awake machine.old cpu }
@@ -140,7 +143,7 @@ fn end_any_halt(machine: &mut Machine, cpu: u32)
     }
 }
 
-// A kick that is remembered ends the halt of a processor. It is remembered no more.
+// Ends the halt of a processor if it remembers a kick, which it then forgets.
 #[inline]
 #[tactic(auto, using(lk_machine::proofs::Kept::kept))]
 fn wake(machine: &mut Machine, cpu: u32) -> Option<Event>
@@ -163,7 +166,7 @@ fn wake(machine: &mut Machine, cpu: u32) -> Option<Event>
     })
 }
 
-// A halt ends without a kick; a kick that is remembered stays.
+// Ends a halt without a kick. A kick that is remembered stays, for a later halt.
 #[inline]
 fn nudge(machine: &mut Machine, cpu: u32) -> Option<Event>
     requires range { cpu < length machine.old.cpus }
@@ -185,8 +188,10 @@ fn nudge(machine: &mut Machine, cpu: u32) -> Option<Event>
     })
 }
 
-// The next handler comes on top, where there is one left and the processor has room for a frame; a
-// halt ends. Between the last test before a halt and the halt interrupts are off.
+// Begins the next handler in a new frame, if a handler is left and the processor has room for a
+// frame. A halt ends by that. Between the test before a halt and the halt interrupts are off: a
+// kick that came then could end a halt of the handler, and the interrupted frame would halt
+// unkicked.
 #[inline]
 fn interrupt(machine: &mut Machine, cpu: u32) -> Option<Event>
     requires range { cpu < length machine.old.cpus }

@@ -1,5 +1,5 @@
-// What a domain of running processors rests on beside the laws of the rows, as clauses of functions
-// that do nothing.
+// The laws on which a domain of running processors rests, beside the laws of the rows. The
+// functions do nothing: their contracts are the laws.
 
 ghost use Rattle.lk_law.specs.Holds.{HolderIsOne, HoldMoves, ShareMoves};
 ghost use Rattle.lk_law.specs.Leads.{RowIsLed, RowIsDone, RowIsCalm, NodeComesAtEntry};
@@ -9,9 +9,11 @@ ghost use Rattle.lk_law.specs.Nodes.{LinkedIsUsed, PassedIsUsed};
 ghost use Rattle.lk_law.specs.Resting.{RestIsSound};
 ghost use Rattle.lk_law.specs.Halting.{SleepingFrontIsKicked, HaltingLinkIsUsed};
 
-/// Every row is its store and then its course, which is told by the value that it meets. No row but
-/// those of a reader or a writer, and of a release that may kick, leads to a release; and but for
-/// the entry none of a spinlock gives a node.
+/// Every row is one store and then its course: where the frame goes on, and which event it tells.
+/// The frame and the value that the row meets decide the course.
+///
+/// A row outside the families `Pv` and `Rw` never leads to a row of a release. Of the rows outside
+/// `Rw` only G1 gives a frame a node.
 pub fn rows_are_led()
     ensures led { RowIsLed }
     ensures done { RowIsDone }
@@ -19,12 +21,22 @@ pub fn rows_are_led()
     ensures entry { NodeComesAtEntry }
 {}
 
-/// What is stored into a node that nobody uses keeps every sound world, and the node that the next
-/// frame of a processor gets is such a one. The node before that of a waiter that links, the one to
-/// which a front's is linked, and the one to which a row hands the lead, are used. So are the nodes
-/// that a front meets while it chooses the next; and whom it has chosen waits for its flag. In a
-/// family that halts no processor, the node that the link of any used node names is used. So is the
-/// first of those that a front will link behind the second queue.
+/// Which nodes are used, in every sound world, and which are not.
+///
+/// A store into a node that nobody uses keeps the world sound. Outside mode `cna` the stored flag
+/// must not name a secondary queue. Nobody uses the node that the next frame of a processor gets.
+///
+/// Some waiter uses each of these nodes:
+///
+/// - the predecessor's node, when a waiter links (G5);
+/// - the node that the head's own link names (G10), and the node to which a row hands off;
+/// - the nodes that a CNA queue head meets while it chooses its successor (C1 to C3), the first
+///   node of the secondary queue in a flag (G6), and the first node that a head will link behind
+///   the secondary queue;
+/// - outside mode `pv`, each node that the link of a used node names.
+///
+/// The flag of the waiter that a CNA queue head has chosen is unset, and that waiter chooses
+/// nobody.
 pub fn nodes_are_free()
     ensures store { FreeNodeKeeps }
     ensures fresh { FreshIsFree }
@@ -39,22 +51,24 @@ pub fn nodes_are_free()
     ensures passed { PassedIsUsed }
 {}
 
-/// A spinlock is held by one waiter at most. A hold of it, and one of a reader-writer lock, may go from
-/// one context to another: the world stays sound, and the history names the other as the holder.
+/// At most one waiter holds a spinlock. A spinlock or a reader-writer lock that is held may pass
+/// from one waiter to another, if neither is at work on it. Then the world stays sound, and the
+/// history names the other waiter as the holder.
 pub fn holds_move()
     ensures one { HolderIsOne }
     ensures moves { HoldMoves }
     ensures shares { ShareMoves }
 {}
 
-/// A world in which nobody is there is sound.
+/// A world is sound, with empty histories, if all its locks and nodes are at rest and no processor
+/// has a frame. The spin bound must be at least 1.
 pub fn rest_is_sound()
     ensures rest { RestIsSound }
 {}
 
-/// Where processors halt, a sleeping front of a free lock is owed a kick: the world alone shows it,
-/// without a history of events. And the node behind that of a front that looks for the next is
-/// used.
+/// In mode `pv`, if the queue head of a free lock has halted or is about to, a kick of it is
+/// pending: its processor remembers a kick, or a release is about to make one. The world alone
+/// says so, without the events before. And the node that the head's own link names is used (E14).
 pub fn halts_are_kicked()
     ensures kicked { SleepingFrontIsKicked }
     ensures link { HaltingLinkIsUsed }

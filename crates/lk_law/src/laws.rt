@@ -1,4 +1,4 @@
-// The laws, as clauses of functions that do nothing: who calls one may use its law.
+// The laws of the rows. The functions do nothing: their contracts are the laws.
 
 ghost use Rattle.lk_machine.specs.declared.parts.Pc.{Pc};
 ghost use Rattle.lk_machine.specs.declared.parts.Pc.TheVariants.{F1, T1, T2, U1, V1, V2, P0, P1};
@@ -19,30 +19,32 @@ ghost use Rattle.lk_law.specs.WorldLaws.{IntKeeps, InterruptKeeps, FrontsAreOwed
 ghost use Rattle.lk_law.specs.Kicked.{RowShows, BeginShows, EndShows, WakeShows, NudgeShows};
 ghost use Rattle.lk_law.specs.Kicked.{IntShows, IntAwakeShows, InterruptShows, SpinFrontsAreOwed};
 
-/// In every snapshot that agrees with its histories, the main queue of a lock is the walk from the
-/// node of the waiter that leads it: each node names the one behind it, or the waiter that has
-/// taken the tail from it will link its own.
+/// Outside mode `cna` the main queue of a lock is the chain of nodes from the queue head's on.
+/// Each node names the one behind it, or the waiter that met it as the tail will link its own. If
+/// there is no queue head, the main queue is empty. This holds of every snapshot that agrees with
+/// its histories.
 #[tactic(auto, using(crate::proofs::queue::Walks::main_is_the_walk))]
 pub fn main_is_the_walk()
     ensures walk { MainIsTheWalk }
 {}
 
-/// Where waiters are moved aside the same is true of what is shown of the queue: without those that
-/// stand aside, and with the link that the front has cut and will make good.
+/// In mode `cna` the same holds of the main queue as it is shown. The waiters of the secondary
+/// queue are left out. One link is put in if the head is about to hand off without it: to its
+/// successor, from the last waiter that it moves aside or from its own node.
 #[tactic(auto, using(crate::proofs::queue::Walks::main_is_the_shown_walk))]
 pub fn main_is_the_shown_walk()
     ensures walk { MainIsTheShownWalk }
 {}
 
-/// The second queue is the walk from its first, whom the front knows.
+/// In mode `cna` the secondary queue is the chain of nodes from its first node on. The queue head
+/// knows the first node, by a register or by its flag.
 pub fn second_is_the_walk()
     ensures walk { SecondIsTheWalk }
 {}
 
-/// Each row on a word that needs no queue keeps every sound world, whatever word it meets: the
-/// world afterwards is sound with the histories told on by the row's event, and the event is
-/// allowed after what came before it. These are the fast path, the try, the release, the
-/// test-and-set loop and the pending path.
+/// Each row of the fast path, the try, the release, the test-and-set loop and the pending path
+/// keeps every sound world, whatever word it meets. The world after the row is sound, with the
+/// row's event added to the histories, and the event may follow on them.
 pub fn spin_rows_keep()
     ensures fast { SpinRowKeeps F1 }
     ensures try_look { SpinRowKeeps T1 }
@@ -57,9 +59,9 @@ pub fn spin_rows_keep()
     ensures take_pending { SpinRowKeeps P4 }
 {}
 
-/// Each row of the slow path keeps every sound world in the same way: the entry, the last looks
-/// before the queue, the arrival and the link, the wait for the own flag, the looks and takes of
-/// the front, the handover, and the loop of a waiter without a node.
+/// Each row of the queue keeps every sound world in the same way: the entry into the slow path,
+/// the last try before the queue, the arrival and the link, the polls of the own flag, the rows of
+/// the queue head up to its handoff, and the loop of a waiter without a node.
 pub fn queue_rows_keep()
     ensures enter { SpinRowKeeps G1 }
     ensures look_again { SpinRowKeeps G2 }
@@ -76,11 +78,11 @@ pub fn queue_rows_keep()
     ensures swap_bare { SpinRowKeeps N2 }
 {}
 
-/// Each row in which a front of Dice and Kogan's lock chooses the next keeps every sound world in
-/// the same way: it looks for a waiter that is local to it, moves those that it passed over to the
-/// second queue, tells the next how many handovers were made, hands the lead on, and lets the
-/// second queue return. The handover moves only waiters that are not local, and names the one
-/// behind them.
+/// Each row in which a queue head of Dice and Kogan's lock chooses its successor keeps every sound
+/// world in the same way. In these rows the head looks for a waiter that is local to it, moves
+/// those that it passed over to the secondary queue, stores the count of handoffs, hands off, or
+/// lets the secondary queue return. A handoff moves only waiters that are not local, and goes to
+/// the waiter behind them.
 pub fn choice_rows_keep()
     ensures look { SpinRowKeeps C1 }
     ensures pass_over { SpinRowKeeps C2 }
@@ -94,21 +96,22 @@ pub fn choice_rows_keep()
     ensures promote { SpinRowKeeps C10 }
 {}
 
-/// In every sound world no waiter that stands aside was passed by more handovers than the
-/// threshold, and a front that is about to tell the next of such a waiter has made fewer.
+/// In every sound world no waiter of a secondary queue was passed by more handoffs than the
+/// threshold. A queue head that is about to store the count of handoffs, with a secondary queue,
+/// has counted fewer than the threshold.
 pub fn passes_are_bounded()
     ensures bounded { PassesAreBounded }
     ensures short { RunIsShort }
 {}
 
-/// In every sound world of the second format no waiter in an interrupt stands aside.
+/// In every sound world of format 2 no waiter in an interrupt stands in a secondary queue.
 pub fn aside_are_tasks()
     ensures { AsideAreTasks }
 {}
 
-/// Each row of a reader or a writer keeps every sound world, whatever word it meets: readers come
-/// in, wait, go back and release, writers take, wait and release, and tries fail; with the wait
-/// lock taken before, and freed after, by the rows of spinlocks.
+/// Six rows of readers and writers keep every sound world, whatever word they meet: the first row
+/// of a reader and of a writer, a reader's poll with the wait lock held, a writer's claim, and the
+/// two releases. `every_row_keeps` has the others.
 pub fn rw_rows_keep()
     ensures reader_first { RowKeeps R1 }
     ensures reader_wait { RowKeeps R5 }
@@ -118,25 +121,28 @@ pub fn rw_rows_keep()
     ensures writer_release { RowKeeps Z2 }
 {}
 
-/// Every row keeps every sound world, with spinlocks, reader-writer locks and their wait locks, in
-/// each family of locks.
+/// Every row keeps every sound world, in each mode, with spinlocks, reader-writer locks and their
+/// wait locks. The event of the row may follow on the histories.
 pub fn every_row_keeps()
     ensures rows { (c : Pc) → RowKeeps c }
 {}
 
-/// What happens to a frame between its operations keeps every sound world, with the histories as
-/// they were: it begins an operation, before which its waiter holds the lock as the verb wants; or
-/// it comes, goes or changes without a place. One comes only where no frame of its processor
-/// sleeps.
+/// What happens to a frame between its operations keeps every sound world, and the histories stay.
+/// A frame begins an operation, if its waiter holds the lock as the verb asks. Or a frame at no
+/// row comes, goes or changes. It comes only if no frame of its processor has halted the
+/// processor, or is about to.
 pub fn frames_keep()
     ensures begin { BeginKeeps }
     ensures end { EndKeeps }
 {}
 
-/// The end of a halt keeps every sound world: by a kick, which is remembered no more, by a nudge,
-/// or by an interrupt, and its event is allowed. A processor is halted only with its newest frame
-/// at a row at which it halts; and after the halt's end, or where the newest frame stands
-/// elsewhere, no frame of the processor sleeps, so that a new one may come.
+/// The end of a halt keeps every sound world, and its event may follow on the histories. A halt
+/// ends by a kick, which is remembered no more, by a nudge, or by an interrupt.
+///
+/// A processor has halted only with its newest frame at a row at which it halts (W6, E12), and
+/// only in mode `pv`. After the end of a halt, or if the newest frame stands at another row, no
+/// frame of the processor has halted it or is about to, so that the frame of an interrupt may
+/// come.
 pub fn halts_end()
     ensures spin_wake { SpinWakeKeeps }
     ensures spin_nudge { SpinNudgeKeeps }
@@ -151,10 +157,10 @@ pub fn halts_end()
     ensures interrupted { InterruptKeeps }
 {}
 
-/// What the events so far say of halts and kicks is what the world shows, after each row, between
-/// the operations, and after each end of a halt: who sleeps, which kicks are remembered, and how
-/// many releases owe one still. And where it is, a front that sleeps while nobody holds its lock is
-/// owed a kick by the history.
+/// The events say of halts and kicks what the world shows: which waiters have halted, which kicks
+/// are remembered, and how many kicks a release has still to make. Each row keeps this, and so
+/// does what happens between operations and at the end of a halt. While it holds, a queue head
+/// that has halted on a free lock has a kick pending in the history.
 pub fn kicks_are_shown()
     ensures rows { (c : Pc) → RowShows c }
     ensures begin { BeginShows }
@@ -168,22 +174,31 @@ pub fn kicks_are_shown()
     ensures owed { FrontsAreOwed }
 {}
 
-/// What every sound world says of the word and the nodes that a row meets.
+/// What a row meets in every sound world: what its lock's word and the nodes are, and in mode `pv`
+/// the lock's entry in the hash. For example the word at U1 is held, and the flag at G11 is unset.
 pub fn rows_know()
     ensures rows { (c : Pc) → RowKnows c }
 {}
 
-/// What every sound world says of the word that a row of a reader or a writer meets.
+/// What a row of a reader or a writer meets in every sound world. For example a reader that
+/// releases meets a word that counts at least one reader. If waiters without a frame hold nothing,
+/// a word counts no more readers than there are waiters.
 pub fn rw_rows_know()
     ensures rows { (c : Pc) → RwRowKnows c }
     ensures few { ReadersAreFew }
 {}
 
-/// In every sound world a tail is the node of a waiter that uses it, the node that a front is about
-/// to hand on to is used by the second of the queue, and a node is used by one waiter at most, as
-/// one of the four of its processor; and who stands in the main queue has a frame, and stands in it
-/// once. Where processors halt, the node of a lock's entry, and one that a holder looks after or a
-/// releaser will kick, is used by the first of the queue.
+/// Who uses which node, in every sound world.
+///
+/// At most one waiter uses a node, and it is one of the four of that waiter's processor. A tail is
+/// the node of a waiter that uses it. The node to which a queue head is about to hand off is used
+/// by the second of the queue. Each waiter of a main queue has a frame, and stands in the queue
+/// once. The node on which a row of the CNA choice operates is used, and the last waiter that a
+/// CNA queue head has passed over stands in the main queue, as far behind the head as it has
+/// counted.
+///
+/// In mode `pv`, the queue head uses the node of a lock's entry in the hash, the node that a
+/// holder looks after (K1 to K3), and the node whose processor a release will kick (U4).
 pub fn nodes_are_used()
     ensures tail { TailIsUsed }
     ensures next { NextIsUsed }

@@ -1,5 +1,9 @@
-//! The laws of the locks: what holds of words, nodes and frames at every moment, and that each row
-//! keeps it.
+//! The invariant of the locks, and the laws that each row keeps it.
+//!
+//! A *world* has the words, the nodes, the frames, and what is known of the processors, as
+//! functions of names. It is *sound* with some histories if it agrees with them: that is the
+//! invariant (`IsSoundWorld` in `specs/SoundWorld.antt`). A world is a machine of a replay, or the
+//! state of locks that threads use. The functions do nothing: their contracts are the laws.
 #![tactic(auto)]
 
 mod domains;
