@@ -66,10 +66,12 @@ pub enum What {
     /// A waiter releases a spinlock. If `owing` names a processor, the release must also kick it.
     Release {
         lock: LockName,
+        /// The processor that has a kick pending from this release on.
         owing: Option<u32>,
     },
     /// A processor is kicked.
     Kick {
+        /// The processor that is kicked. The waiter of the event kicks it.
         cpu: u32,
     },
     /// A waiter joins the queue at its tail.
@@ -80,7 +82,9 @@ pub enum What {
     /// queue.
     Pass {
         lock: LockName,
+        /// The waiter that is the queue head from here on.
         to: Waiter,
+        /// How many waiters directly behind the old head are moved.
         moved: u32,
     },
     /// The secondary queue returns in front of the rest of the main queue.
@@ -193,47 +197,60 @@ pub enum Breach {
     /// A lock is acquired while it has a holder with which it cannot be shared.
     Beside {
         lock: LockName,
+        /// The first of its holders, or a reader that acquires a lock which it holds already.
         held_by: Waiter,
+        /// The waiter that acquires.
         by: Waiter,
     },
     /// A lock is released or handed off by a waiter that does not hold it in that manner.
     NotHolder {
         lock: LockName,
+        /// The waiter of the event.
         by: Waiter,
     },
     /// A waiter that stands in a queue of the lock arrives, releases, or acquires in another way
     /// than a queue head does; or a waiter that holds the lock arrives.
     Twice {
         lock: LockName,
+        /// The waiter of the event.
         by: Waiter,
     },
     /// A waiter that is not the queue head does what only the queue head may do.
     WrongHead {
         lock: LockName,
+        /// The queue head, or `None` if the main queue is empty.
         first: Option<Waiter>,
+        /// The waiter of the event.
         by: Waiter,
     },
     /// A handoff moves more waiters aside than is lawful.
     WrongMove {
         lock: LockName,
+        /// How many waiters the handoff moves.
         moved: u32,
+        /// How many it may move at most.
         lawful: u32,
     },
     /// A handoff goes to a waiter that is not the successor.
     WrongNext {
         lock: LockName,
+        /// The successor: the first waiter behind the moved ones, or `None` if there is none.
         first: Option<Waiter>,
+        /// The waiter to which the handoff goes.
         named: Waiter,
     },
     /// A moved waiter has been passed by more handoffs than the threshold.
     OverThreshold {
         lock: LockName,
+        /// The moved waiter.
         waiter: Waiter,
+        /// How many handoffs have passed it, the last one included.
         passes: u32,
     },
     /// The queue head of a free lock has halted, and its processor has no kick pending.
     NoKick {
         lock: LockName,
+        /// The queue head.
         waiter: Waiter,
     },
 }

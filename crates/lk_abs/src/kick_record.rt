@@ -10,18 +10,22 @@ use crate::memory::Memory;
 use crate::names::Waiter;
 use std::alloc::Global;
 
-/// Who sleeps, and for each processor how many releases owe it a kick, how many kicks were made,
-/// and whether a kick is remembered; and how many events that was told.
+/// The halts and kicks of the events so far, by waiter and by processor.
 #[derive(Drop)]
 pub(crate) struct KickRecord {
+    /// For each waiter, whether it has halted. A processor has six places, one for each context.
     pub(crate) asleep: List<bool>,
+    /// For each processor, how many releases said that a kick of it is pending.
     pub(crate) owing: List<u64>,
+    /// For each processor, how many kicks of it were made.
     pub(crate) kicks: List<u64>,
+    /// For each processor, whether it remembers a kick.
     pub(crate) kicked: List<bool>,
+    /// How many events there were.
     pub(crate) told: u64,
 }
 
-/// No context of the processor sleeps any longer.
+/// Ends the halt of each context of the processor.
 fn rouse(asleep: &mut List<bool>, cpu: usize)
     requires within { cpu * 6 + 6 < length asleep.old.items + 1 }
     requires small { length asleep.old.items < 6145 }
@@ -34,8 +38,8 @@ fn rouse(asleep: &mut List<bool>, cpu: usize)
 }
 
 impl KickRecord {
-    /// A record of up to 1,024 processors: nobody sleeps, and no kick is owed. It takes all its
-    /// memory here.
+    /// A record of up to 1,024 processors: nobody has halted, and no kick is pending. It takes all
+    /// its memory here.
     pub(crate) fn new(alloc: Global, processors: usize) -> Result<KickRecord, Memory>
         requires { processors ≤ 1024 }
         ensures kept { IfOk result (λ k. IsKept k) }
@@ -56,7 +60,8 @@ impl KickRecord {
         })
     }
 
-    /// Whether the processor is owed a kick.
+    /// Whether the processor has a kick pending: a release has still to make one, or a kick was
+    /// made and has ended no halt yet.
     fn is_owed(&self, cpu: usize) -> bool
         requires within { cpu < length self.now.owing.items }
         requires room { HasRoom self.now }
@@ -65,7 +70,7 @@ impl KickRecord {
         *self.kicks.get(cpu) < *self.owing.get(cpu) || *self.kicked.get(cpu)
     }
 
-    /// Whether the waiter sleeps while its processor is owed no kick.
+    /// Whether the waiter has halted and its processor has no kick pending.
     pub(crate) fn is_left(&self, waiter: Waiter) -> bool
         requires cpu { waiter.cpu < length self.now.owing.items }
         requires ctx { waiter.ctx < 6 }
@@ -76,7 +81,7 @@ impl KickRecord {
         *self.asleep.get(cpu * 6 + waiter.ctx as usize) && !self.is_owed(cpu)
     }
 
-    /// Tells all but the number of events on.
+    /// Adds an event to all but the number of events.
     fn step(&mut self, event: &Event)
         requires room { HasRoom self.old }
         requires named { IsNamed (length self.old.owing.items) event.now }
@@ -118,7 +123,7 @@ impl KickRecord {
         }
     }
 
-    /// Tells what is kept on by one event after fewer than 2^63.
+    /// Adds an event to the record. There must be fewer than 2^63 events before it.
     pub(crate) fn tell(&mut self, event: &Event)
         requires kept { IsKept self.old }
         requires named { IsNamed (length self.old.owing.items) event.now }

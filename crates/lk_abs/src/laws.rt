@@ -27,7 +27,8 @@ pub fn judge_is_exact()
         → (IsLawful rules (es ++ e ∷ [])
         ↔ (rules.mode ≡ Mode.Pv → (k : LockName) → FrontIsOwed (es ++ e ∷ []) k)) }
 
-    // And what is looked for, lock by lock, is found exactly where a front is left asleep.
+    // The search, lock by lock, finds nothing exactly if no queue head of a free lock has halted
+    // without a kick pending.
     ensures no_kick { (es : Events) (ls : List LockName)
         → (no_kick (kicks_of es) (λ l. history_of l es) ls ≡ None) ↔ All (FrontIsOwed es) ls }
 {}
