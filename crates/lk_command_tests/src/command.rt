@@ -11,11 +11,14 @@ use std::sync::Wait;
 use std::test::Fail;
 use std::thread::Threads;
 
-/// What came of the program's call: the number of its status, what it wrote, and its notes.
+/// What came of a call of the program.
 #[derive(Drop)]
 pub struct Ran {
+    /// The exit status.
     pub status: u8,
+    /// What it wrote to standard output.
     pub text: MemSink,
+    /// What it wrote to standard error.
     pub notes: MemSink,
 }
 

@@ -28,7 +28,9 @@ pub struct Closed {
 /// before the call.
 #[derive(Drop)]
 pub struct CloseBack {
+    /// The domain that was to be closed.
     pub domain: Domain,
+    /// Its processors, as they were given to `close`.
     pub cpus: List<Cpu>,
 }
 

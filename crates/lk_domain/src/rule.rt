@@ -17,6 +17,7 @@ use crate::plan::Plan;
 use crate::view::View;
 use atomic_table::{Join, Play, Split, TableRule};
 
+/// The rule of a domain's table: its invariant, and what its first seat knows.
 pub struct Order;
 
 impl TableRule<Option<Journal>, View, Plan> for Order {
@@ -25,168 +26,168 @@ impl TableRule<Option<Journal>, View, Plan> for Order {
     ghost first = { λ plan. view (dealer plan 0) no_calls no_ledger };
 }
 
-// A step on a lock's word by a call of `lock`.
+/// A step on the word of a lock, by a call of `lock`.
 pub struct Locks;
 
 impl Play<Option<Journal>, View> for Locks {
     ghost then = { Makes Lock };
 }
 
-// The same by a call of `try_lock`.
+/// A step on the word of a lock, by a call of `try_lock`.
 pub struct Tries;
 
 impl Play<Option<Journal>, View> for Tries {
     ghost then = { Makes Try };
 }
 
-// The same by a call of `unlock`.
+/// A step on the word of a lock, by a call of `unlock`.
 pub struct Unlocks;
 
 impl Play<Option<Journal>, View> for Unlocks {
     ghost then = { Makes Unlock };
 }
 
-// A step on the word of a spinlock or a wait lock, by a call that goes on.
+/// A step on the word of a spinlock or a wait lock, by a call that goes on.
 pub struct WordSteps;
 
 impl Play<Option<Journal>, View> for WordSteps {
     ghost then = { λ _. WentBy };
 }
 
-// An exchange of such a whole word, which may be tried again.
+/// An exchange of the whole word of a spinlock or a wait lock. A call may try it again.
 pub struct Exchanges;
 
 impl Play<Option<Journal>, View> for Exchanges {
     ghost then = { Swaps };
 }
 
-// A step on a reader-writer lock's word by a call of `read_lock`.
+/// A step on the word of a reader-writer lock, by a call of `read_lock`.
 pub struct ReadCalls;
 
 impl Play<Option<Journal>, View> for ReadCalls {
     ghost then = { Shares Read };
 }
 
-// A step on a reader-writer lock's word by a call of `try_read`.
+/// A step on the word of a reader-writer lock, by a call of `try_read`.
 pub struct TryReadCalls;
 
 impl Play<Option<Journal>, View> for TryReadCalls {
     ghost then = { Shares TryRead };
 }
 
-// A step on a reader-writer lock's word by a call of `read_unlock`.
+/// A step on the word of a reader-writer lock, by a call of `read_unlock`.
 pub struct ReadUnlockCalls;
 
 impl Play<Option<Journal>, View> for ReadUnlockCalls {
     ghost then = { Shares RUnlock };
 }
 
-// A step on a reader-writer lock's word by a call of `write_lock`.
+/// A step on the word of a reader-writer lock, by a call of `write_lock`.
 pub struct WriteCalls;
 
 impl Play<Option<Journal>, View> for WriteCalls {
     ghost then = { Shares Write };
 }
 
-// A step on a reader-writer lock's word by a call of `try_write`.
+/// A step on the word of a reader-writer lock, by a call of `try_write`.
 pub struct TryWriteCalls;
 
 impl Play<Option<Journal>, View> for TryWriteCalls {
     ghost then = { Shares TryWrite };
 }
 
-// A step on a reader-writer lock's word by a call of `write_unlock`.
+/// A step on the word of a reader-writer lock, by a call of `write_unlock`.
 pub struct WriteUnlockCalls;
 
 impl Play<Option<Journal>, View> for WriteUnlockCalls {
     ghost then = { Shares WUnlock };
 }
 
-// A word of the node to come is reset.
+/// A call resets a word of the node that it will use, before it enters the slow path.
 pub struct Resets;
 
 impl Play<Option<Journal>, View> for Resets {
     ghost then = { Readies };
 }
 
-// A call enters the slow path.
+/// A call enters the slow path.
 pub struct Entries;
 
 impl Play<Option<Journal>, View> for Entries {
     ghost then = { λ _. Enters };
 }
 
-// A call links its node behind the one before it.
+/// A call links its node behind its predecessor's.
 pub struct Linkings;
 
 impl Play<Option<Journal>, View> for Linkings {
     ghost then = { λ _. Links };
 }
 
-// A call looks at the flag of its node.
+/// A call polls the flag of its node.
 pub struct FlagLooks;
 
 impl Play<Option<Journal>, View> for FlagLooks {
     ghost then = { λ _. SeesFlag };
 }
 
-// A call looks at the link of its node.
+/// A call reads the link of a node.
 pub struct LinkLooks;
 
 impl Play<Option<Journal>, View> for LinkLooks {
     ghost then = { λ _. SeesLink };
 }
 
-// A call hands the lead on.
+/// A call hands off.
 pub struct Handovers;
 
 impl Play<Option<Journal>, View> for Handovers {
     ghost then = { λ _. Hands };
 }
 
-// A front looks at the last of the second queue.
+/// A queue head reads which node is the last of the secondary queue.
 pub struct TailLooks;
 
 impl Play<Option<Journal>, View> for TailLooks {
     ghost then = { λ _. SeesTail };
 }
 
-// A front that chooses the next reads its count of handovers.
+/// A queue head that chooses its successor reads its count of handoffs.
 pub struct RunsLooks;
 
 impl Play<Option<Journal>, View> for RunsLooks {
     ghost then = { λ _. Counted };
 }
 
-// It tells the next how many there were.
+/// A queue head stores the count of handoffs for its successor.
 pub struct Counts;
 
 impl Play<Option<Journal>, View> for Counts {
     ghost then = { λ _. Tells };
 }
 
-// A front stores a link into the node of another waiter.
+/// A queue head stores a link into the node of another waiter.
 pub struct Relinkings;
 
 impl Play<Option<Journal>, View> for Relinkings {
     ghost then = { λ _. Relinks };
 }
 
-// A front stores the last of the second queue into the node of its first.
+/// A queue head stores the last node of the secondary queue into the first one.
 pub struct Namings;
 
 impl Play<Option<Journal>, View> for Namings {
     ghost then = { λ _. Names };
 }
 
-// The first seat draws a number.
+/// The first seat draws a number.
 pub struct Draw;
 
 impl Play<Option<Journal>, View> for Draw {
     ghost then = { Draws };
 }
 
-// The first seat gives the number that it drew to a new seat.
+/// The first seat gives the number that it drew to a new seat.
 pub struct Deal;
 
 impl Split<View> for Deal {
@@ -195,7 +196,7 @@ impl Split<View> for Deal {
     ghost right = { λ v. view (newcomer v.who.plan (own_number v.who.number)) no_calls v.ledger };
 }
 
-// A seat takes over the numbers of another.
+/// A seat takes over the numbers of another.
 pub struct TakeOver;
 
 impl Join<View> for TakeOver {
@@ -204,35 +205,35 @@ impl Join<View> for TakeOver {
     ghost spent = { view nobody no_calls no_ledger };
 }
 
-// A balance is loaded.
+/// A balance is loaded.
 pub struct LoadBalance;
 
 impl Play<Option<Journal>, View> for LoadBalance {
     ghost then = { Loads };
 }
 
-// The version is loaded.
+/// The version is loaded.
 pub struct LoadVersion;
 
 impl Play<Option<Journal>, View> for LoadVersion {
     ghost then = { Sees };
 }
 
-// The journal is taken out, by a load of the version.
+/// The journal is taken out, by a load of the version.
 pub struct TakeJournal;
 
 impl Play<Option<Journal>, View> for TakeJournal {
     ghost then = { TakesJournal };
 }
 
-// A balance is stored.
+/// A balance is stored.
 pub struct StoreBalance;
 
 impl Play<Option<Journal>, View> for StoreBalance {
     ghost then = { Stores };
 }
 
-// The journal is brought home, by a store of the version.
+/// The journal is brought home, by a store of the version.
 pub struct BringJournal;
 
 impl Play<Option<Journal>, View> for BringJournal {

@@ -10,15 +10,21 @@ use std::alloc::Global;
 /// A job file whose jobs are still growing.
 #[derive(Drop)]
 pub(crate) struct Draft {
+    /// The format.
     pub format: Format,
+    /// The lock family.
     pub mode: Mode,
+    /// The kind of the lock that guards the ledger.
     pub guard: Kind,
+    /// The socket of each worker's processor.
     pub sockets: List<u32>,
+    /// The CNA threshold, in handoffs.
     pub threshold: u32,
+    /// The opening balance of each account.
     pub balances: List<u64>,
     /// The jobs of each worker.
     pub jobs: List<Vec<Job>>,
-    /// How many jobs all workers have.
+    /// How many jobs all workers have together.
     pub count: usize,
     ghost counted: { count ≡ job_count (map (λ js. js.items) jobs.items) },
     ghost few_workers: { length jobs.items ≤ MAX_WORKERS },
