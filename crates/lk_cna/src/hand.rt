@@ -1,4 +1,4 @@
-// A front hands the lead on.
+// The queue head hands off.
 ghost use Rattle.std.specs.Prelude.{◌≡◌, Some};
 ghost use Rattle.lk_machine.specs.Machine.{top_frame};
 ghost use Rattle.lk_machine.specs.TopRow.{row};
@@ -30,7 +30,7 @@ pub(crate) fn count(machine: &mut Machine, cpu: u32) -> Option<Event>
     None
 }
 
-// The flag that tells the next of the second queue.
+// The flag by which the successor learns of the secondary queue.
 fn flag_for(second: Option<NodeName>) -> Flag
     ensures { result ≡ flag_for second }
 {

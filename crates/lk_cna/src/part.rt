@@ -1,4 +1,4 @@
-// A front parts its queue, or joins the second queue to it again.
+// The queue head moves waiters to the secondary queue, or lets that queue return.
 ghost use Rattle.std.specs.Prelude.{◌≡◌, Some, None, [], ◌∷◌};
 ghost use Rattle.lk_machine.specs.Machine.{top_frame};
 ghost use Rattle.lk_machine.specs.Row.{Second, Y, gone};
@@ -54,7 +54,8 @@ pub(crate) fn set_tail(machine: &mut Machine, cpu: u32) -> Option<Event>
     None
 }
 
-// The frame of a front whose second queue returned: it chose the first of those that stood aside.
+// The frame of a queue head whose secondary queue returned: its successor is the first of that
+// queue.
 fn rejoined(frame: Frame) -> Frame
     ensures { result ≡ gone frame Pc.C7 (Y frame.second ∷ Second None ∷ []) }
 {

@@ -1,4 +1,4 @@
-// A front looks for a waiter that is local to it.
+// The queue head looks for a waiter that is local to it.
 ghost use Rattle.std.specs.Prelude.{◌≡◌, ◌<◌, ◌+◌, ◌^◌, Some};
 ghost use Rattle.lk_machine.specs.Machine.{node_at, top_frame};
 ghost use Rattle.lk_machine.specs.Moves.{node_of};
@@ -10,7 +10,7 @@ use lk_abs::Event;
 use lk_machine::{Frame, Machine, Node, Pc, Why, named};
 use lk_word::NodeName;
 
-// Nobody is linked behind the front: those aside, if there are any, may return as the rest.
+// Nobody is linked behind the head. If there is a secondary queue, it may return as the rest.
 fn after_none(frame: Frame) -> Frame
     ensures { result ≡ frame_after frame (after_none frame.second).leads }
 {
@@ -29,8 +29,9 @@ fn after_none(frame: Frame) -> Frame
     }
 }
 
-// A waiter is linked behind the front. While the run may go on, it is chosen if it is local, and
-// else passed over; when the run is over, it is chosen, behind those aside where there are any.
+// A waiter is linked behind the head. While handoffs are left, it is chosen if it is local, and
+// else passed over. After that the secondary queue returns in front of it, or, if there is none,
+// it is chosen.
 fn after_first(frame: Frame, met: NodeName, goes_on: bool, is_local: bool) -> Frame
     ensures { (s : Sight) → may_stay s ≡ goes_on → s.local met ≡ is_local
         → result ≡ frame_after frame (after_first s frame.second met).leads }
@@ -61,7 +62,7 @@ fn after_first(frame: Frame, met: NodeName, goes_on: bool, is_local: bool) -> Fr
     }
 }
 
-// The frame after C1, by the own node that it met.
+// The frame after C1, by its own node.
 fn after_look(machine: &Machine, cpu: u32, frame: Frame, node: Node) -> Frame
     requires { node ≡ node_at machine.now (node_of frame.me) }
     ensures { result
@@ -78,8 +79,9 @@ fn after_look(machine: &Machine, cpu: u32, frame: Frame, node: Node) -> Frame
 }
 
 /// C1: reads its own `next`. While fewer handoffs than the threshold were made, it chooses that
-/// waiter if it is local, and else passes it over. After that the waiters aside return. If nobody
-/// is linked, they may return as the rest. It stores nothing.
+/// waiter if it is local, and else passes it over. After that the waiters aside return, or, if
+/// there are none, it chooses that waiter. If nobody is linked, the waiters aside may return as
+/// the rest, or, if there are none, it reads `next` again. It stores nothing.
 pub(crate) fn look(machine: &mut Machine, cpu: u32) -> Option<Event>
     requires ready { IsCnaReady machine.old cpu }
     requires here { (top_frame machine.old cpu).place ≡ Some Pc.C1 }
@@ -93,8 +95,8 @@ pub(crate) fn look(machine: &mut Machine, cpu: u32) -> Option<Event>
     None
 }
 
-// Nobody is linked behind the last that was passed over: nobody is moved, and those aside return
-// where there are any.
+// Nobody is linked behind the last waiter that was passed over, so nobody is moved. The secondary
+// queue returns, or, if there is none, the first waiter that was passed over is chosen.
 fn after_last(frame: Frame) -> Frame
     ensures { result ≡ frame_after frame (after_last frame).leads }
 {
@@ -114,7 +116,7 @@ fn after_last(frame: Frame) -> Frame
     }
 }
 
-// One more waiter is met: it is chosen if it is local, and else passed over too.
+// The next waiter is chosen if it is local, and else passed over too.
 fn after_more(frame: Frame, met: NodeName, is_local: bool) -> Frame
     requires { frame.k + 1 < 2 ^ 32 }
     ensures { (s : Sight) → s.local met ≡ is_local
@@ -157,8 +159,9 @@ fn after_link(machine: &Machine, cpu: u32, frame: Frame, next: Option<NodeName>)
 }
 
 /// C2: reads `next` of the last waiter that it passed over, b. It chooses a local waiter, and
-/// passes another over too. If nobody is linked, it moves nobody. It stores nothing: the waiters
-/// that it passed over stand in the queue until C5.
+/// passes another over too. If nobody is linked, it moves nobody: the waiters aside return, or, if
+/// there are none, it chooses the first that it passed over. It stores nothing: the waiters that
+/// it passed over stand in the queue until C5.
 pub(crate) fn pass_over(machine: &mut Machine, cpu: u32) -> Option<Event>
     requires ready { IsCnaReady machine.old cpu }
     requires here { (top_frame machine.old cpu).place ≡ Some Pc.C2 }
@@ -172,7 +175,7 @@ pub(crate) fn pass_over(machine: &mut Machine, cpu: u32) -> Option<Event>
     None
 }
 
-// Where a front goes that knows the last of the second queue.
+// The row of a queue head that knows the last of the secondary queue.
 fn after_tail(why: Why) -> Pc
     ensures { result ≡ after_tail why }
 {

@@ -1,5 +1,5 @@
-// The steps by which a front that chooses the next keeps the second queue, on the words of nodes, by
-// its newest call.
+// The steps by which a queue head of mode `cna` chooses its successor and keeps the secondary
+// queue, on the words of nodes. They are steps of the newest call of a processor.
 ghost use Rattle.std.specs.Prelude.{◌≡◌, ◌<◌, None, IfSome};
 ghost use Rattle.lk_law.specs.Leads.{Number};
 ghost use Rattle.lk_domain.specs.NodePlays.{AtAppend, AtCut, AtSecondTail, AtSkipped, AtOwnRuns};

@@ -19,7 +19,7 @@ use lk_abs::LockName;
 use lk_machine::Verb;
 use lk_word::NodeName;
 
-// Looks at the word, by a call that goes on until it has the lock.
+// Reads the word, by a call that goes on until it has the lock.
 pub(crate) fn look(seat: &mut Right, domain: &Domain, _verb: Verb, lock: LockName) -> u64
     requires table { seat.old.table_id ≡ domain.now.table.shared.table_id }
     requires lock { lock.index < locks_of domain.now.plan }
@@ -130,8 +130,8 @@ pub(crate) fn release_wait(seat: &mut Right, domain: &Domain, _verb: Verb, lock:
     met
 }
 
-// Sets bit 8, pending, whatever else the word is: nobody loses what he has set, and the call knows by
-// the old word whether it was the first.
+// Sets bit 8, pending, whatever else the word is: nobody loses what he has set, and the call knows
+// by the old word whether it was the first.
 pub(crate) fn set_pending(seat: &mut Right, domain: &Domain, _verb: Verb, lock: LockName) -> u64
     requires table { seat.old.table_id ≡ domain.now.table.shared.table_id }
     requires lock { lock.index < locks_of domain.now.plan }
@@ -159,8 +159,8 @@ pub(crate) fn clear_pending(seat: &mut Right, domain: &Domain, _verb: Verb, lock
     met
 }
 
-// Takes 256 off and adds 1, in one step: the call has set pending and has seen the byte free, which
-// nobody else may take, so that this clears pending and holds the lock.
+// Takes 256 off and adds 1, in one step: the call has set pending and has seen the byte free,
+// which nobody else may take, so that this clears pending and holds the lock.
 pub(crate) fn pending_to_locked(
     seat: &mut Right,
     domain: &Domain,
@@ -194,8 +194,8 @@ pub(crate) fn set_locked(seat: &mut Right, domain: &Domain, _verb: Verb, lock: L
     met
 }
 
-// Exchanges the word of a queue of the own node alone for the held one. A node that comes behind, or
-// a pending bit, makes it fail, so that neither is lost.
+// Exchanges the word of a queue of the own node alone for the held one. A node that comes behind,
+// or a pending bit, makes it fail, so that neither is lost.
 pub(crate) fn sole_claim(
     seat: &mut Right,
     domain: &Domain,
@@ -220,8 +220,8 @@ pub(crate) fn sole_claim(
     met
 }
 
-// Exchanges the word of a held lock of which the own node is the tail for that with another's. A node
-// that comes behind, or a pending bit, makes it fail.
+// Exchanges the word of a held lock of which the own node is the tail for that with another's. A
+// node that comes behind, or a pending bit, makes it fail.
 pub(crate) fn tail_to_second(
     seat: &mut Right,
     domain: &Domain,
@@ -249,8 +249,8 @@ pub(crate) fn tail_to_second(
     met
 }
 
-// Exchanges the expected word for that with the own node as the tail, and the same low half. It fails
-// where the word is another, and changes nothing then.
+// Exchanges the expected word for that with the own node as the tail, and the same low half. It
+// fails where the word is another, and changes nothing then.
 pub(crate) fn exchange_tail(
     seat: &mut Right,
     domain: &Domain,

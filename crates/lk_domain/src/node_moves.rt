@@ -21,8 +21,8 @@ use lk_abs::LockName;
 use lk_machine::{Flag, Verb};
 use lk_word::NodeName;
 
-// Resets a word of the node to come. Nobody uses the node: no tail, no link and no other call of the
-// processor names it.
+// Resets a word of the node to come. Nobody uses the node: no tail, no link and no other call of
+// the processor names it.
 pub(crate) fn reset(
     seat: &mut Right,
     domain: &Domain,
@@ -69,8 +69,8 @@ pub(crate) fn enter(
     domain.table.shared.swap::<Entries>(seat, word, value);
 }
 
-// Enters without a node, where four calls of the processor have theirs, by a look at the word of the
-// lock.
+// Enters without a node, where four calls of the processor have theirs, by a look at the word of
+// the lock.
 pub(crate) fn enter_bare(seat: &mut Right, domain: &Domain, _verb: Verb, lock: LockName)
     requires table { seat.old.table_id ≡ domain.now.table.shared.table_id }
     requires number { IsNumbered seat.old.me.0 }
@@ -83,8 +83,8 @@ pub(crate) fn enter_bare(seat: &mut Right, domain: &Domain, _verb: Verb, lock: L
     domain.table.shared.load::<Entries>(seat, word);
 }
 
-// Links the own node behind the one before it, whose link is none: only the call that took the tail
-// from it stores there. The mark is that of the call's context.
+// Links the own node behind the predecessor's, whose link is none: only the call that met that
+// node as the tail stores there. The mark is that of the call's context.
 pub(crate) fn link(
     seat: &mut Right,
     domain: &Domain,
@@ -107,7 +107,7 @@ pub(crate) fn link(
     met
 }
 
-// Looks at the own flag.
+// Polls the own flag.
 pub(crate) fn look_flag(seat: &mut Right, domain: &Domain, _verb: Verb, own: NodeName) -> u64
     requires table { seat.old.table_id ≡ domain.now.table.shared.table_id }
     requires number { IsNumbered seat.old.me.0 }
@@ -121,7 +121,7 @@ pub(crate) fn look_flag(seat: &mut Right, domain: &Domain, _verb: Verb, own: Nod
     met
 }
 
-// Looks at the own link.
+// Reads the own link.
 pub(crate) fn look_next(seat: &mut Right, domain: &Domain, _verb: Verb, own: NodeName) -> u64
     requires table { seat.old.table_id ≡ domain.now.table.shared.table_id }
     requires number { IsNumbered seat.old.me.0 }
@@ -135,8 +135,7 @@ pub(crate) fn look_next(seat: &mut Right, domain: &Domain, _verb: Verb, own: Nod
     met
 }
 
-// Hands the lead on, to a call that waits on its flag, which is unset: only the first of the queue
-// stores there.
+// Hands off, to a call that polls its flag. The flag is unset: only the queue head stores there.
 pub(crate) fn hand(seat: &mut Right, domain: &Domain, _verb: Verb, to: NodeName, flag: Flag) -> u64
     requires table { seat.old.table_id ≡ domain.now.table.shared.table_id }
     requires number { IsNumbered seat.old.me.0 }
@@ -152,7 +151,7 @@ pub(crate) fn hand(seat: &mut Right, domain: &Domain, _verb: Verb, to: NodeName,
     met
 }
 
-// Cuts the link of the last that was passed over.
+// Cuts the link of the last waiter that was passed over.
 pub(crate) fn cut(seat: &mut Right, domain: &Domain, _verb: Verb, node: NodeName) -> u64
     requires table { seat.old.table_id ≡ domain.now.table.shared.table_id }
     requires number { IsNumbered seat.old.me.0 }
@@ -166,8 +165,8 @@ pub(crate) fn cut(seat: &mut Right, domain: &Domain, _verb: Verb, node: NodeName
     met
 }
 
-// Links a node behind the last of the second queue. The mark is that of the link in which the call
-// met the node.
+// Links a node behind the last of the secondary queue. The mark is that of the link in which the
+// call met the node.
 pub(crate) fn append(
     seat: &mut Right,
     domain: &Domain,
@@ -190,7 +189,7 @@ pub(crate) fn append(
     met
 }
 
-// Stores the last of the second queue into the node of its first.
+// Stores the last node of the secondary queue into the first one.
 pub(crate) fn set_tail(
     seat: &mut Right,
     domain: &Domain,
@@ -212,7 +211,7 @@ pub(crate) fn set_tail(
     met
 }
 
-// Looks at the last of the second queue, in the node of its first.
+// Reads which node is the last of the secondary queue, in the first one.
 pub(crate) fn look_tail(seat: &mut Right, domain: &Domain, _verb: Verb, node: NodeName) -> u64
     requires table { seat.old.table_id ≡ domain.now.table.shared.table_id }
     requires number { IsNumbered seat.old.me.0 }
@@ -226,7 +225,7 @@ pub(crate) fn look_tail(seat: &mut Right, domain: &Domain, _verb: Verb, node: No
     met
 }
 
-// Looks at the link of the last that was passed over.
+// Reads the link of the last waiter that was passed over.
 pub(crate) fn look_on(seat: &mut Right, domain: &Domain, _verb: Verb, node: NodeName) -> u64
     requires table { seat.old.table_id ≡ domain.now.table.shared.table_id }
     requires number { IsNumbered seat.old.me.0 }
@@ -240,7 +239,7 @@ pub(crate) fn look_on(seat: &mut Right, domain: &Domain, _verb: Verb, node: Node
     met
 }
 
-// Reads the count of handovers in the own node, where only the one that hands the lead over stores.
+// Reads the count of handoffs in the own node, where only the queue head before stored.
 pub(crate) fn look_runs(seat: &mut Right, domain: &Domain, _verb: Verb, own: NodeName) -> u64
     requires table { seat.old.table_id ≡ domain.now.table.shared.table_id }
     requires number { IsNumbered seat.old.me.0 }
@@ -254,7 +253,7 @@ pub(crate) fn look_runs(seat: &mut Right, domain: &Domain, _verb: Verb, own: Nod
     met
 }
 
-// Stores the count of handovers into the node of the next.
+// Stores the count of handoffs into the successor's node.
 pub(crate) fn set_runs(
     seat: &mut Right,
     domain: &Domain,

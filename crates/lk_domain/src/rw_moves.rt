@@ -16,7 +16,7 @@ use crate::rule::{
     ReadCalls, ReadUnlockCalls, TryReadCalls, TryWriteCalls, WriteCalls, WriteUnlockCalls,
 };
 
-// Looks at the word, by a call of `read_lock`.
+// Reads the word, by a call of `read_lock`.
 pub(crate) fn watch_as_reader(seat: &mut Right, domain: &Domain, lock: u32) -> u64
     requires table { seat.old.table_id ≡ domain.now.table.shared.table_id }
     requires lock { lock < locks_of domain.now.plan }

@@ -16,14 +16,14 @@ pub(crate) fn is_empty(word: RwFields) -> bool
     word.readers == 0 && !word.waiting && !word.writer
 }
 
-// Whether a reader may come in.
+// Whether a reader may enter: there is no writer, and the waiting bit is clear.
 pub(crate) fn is_open(word: RwFields) -> bool
     ensures { result ≡ is_open word }
 {
     !(word.waiting || word.writer)
 }
 
-// Whether a writer waits, and nobody is before it.
+// Whether the waiting bit is set, and there is no reader and no writer.
 pub(crate) fn is_cleared(word: RwFields) -> bool
     ensures { result ≡ is_cleared word }
 {
@@ -62,7 +62,7 @@ pub(crate) fn written_word() -> RwFields
     }
 }
 
-// The reader-writer lock of the top frame's operation.
+// The reader-writer lock of the newest frame's operation.
 pub(crate) fn lock_of(machine: &Machine, cpu: u32) -> LockName
     requires { HasTop machine.now cpu }
     ensures { result ≡ rw_lock (top_frame machine.now cpu) }
@@ -73,7 +73,7 @@ pub(crate) fn lock_of(machine: &Machine, cpu: u32) -> LockName
     }
 }
 
-// The try of the top frame has failed.
+// The try of the newest frame fails.
 pub(crate) fn miss(machine: &mut Machine, cpu: u32) -> Event
     requires { IsReady machine.old cpu }
     ensures next { machine.new ≡ missed machine.old cpu }
