@@ -15,3 +15,4 @@ pub mod Unkicked
 pub mod Judging
 pub mod Sums
 pub mod Aside
+pub mod ByIndex

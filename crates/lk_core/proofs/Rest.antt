@@ -53,7 +53,7 @@ use Rattle.lk_law.specs.RwAgree.{RwAgrees}
 use Rattle.lk_law.specs.SoundWorld.{IsSoundWorld, RwFits, rw_phase_of, rw_phase_on, rw_phases}
 use Rattle.lk_law.specs.SoundWorld.{rw_helds, rw_waits}
 use Rattle.lk_law.proofs.rw.Begins.{begun_fits}
-use Rattle.lk_law.proofs.common.Lists.{get_past}
+use Rattle.lk_abs.proofs.ByIndex.{get_past}
 use Rattle.lk_core.proofs.Kicks.{owed_in, asleep_in, kicks_same}
 use Rattle.lk_core.proofs.Settle.{first_stage, first_outer}
 use Rattle.lk_core.proofs.Walks.{IsOuter, outer_held}

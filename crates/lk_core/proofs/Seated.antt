@@ -23,7 +23,7 @@ use Rattle.lk_law.specs.Sound.{world, held_at, held_of}
 use Rattle.lk_law.proofs.common.Cases.{waiter_cases}
 use Rattle.lk_law.proofs.common.Sames.{same_waiter-self}
 use Rattle.lk_law.proofs.common.Puts.{same_waiter-else}
-use Rattle.lk_law.proofs.common.Lists.{get-append_new}
+use Rattle.lk_abs.proofs.ByIndex.{get-append_new}
 use Rattle.lk_core.proofs.Lists.{get-set_same, get-set_other, get-take_below, get-take_end}
 use Rattle.lk_core.proofs.Lists.{get-push_other}
 use Rattle.lk_core.proofs.Access.{cpu_part, frame_changed}

@@ -30,7 +30,7 @@ use Rattle.lk_law.specs.Sound.{frees, owes_kick, Footing, Spinning, Sharing}
 use Rattle.lk_law.proofs.common.Cases.{waiter_cases}
 use Rattle.lk_law.proofs.common.Sames.{same_waiter-self}
 use Rattle.lk_law.proofs.common.Puts.{same_waiter-else}
-use Rattle.lk_law.proofs.common.Lists.{get_past}
+use Rattle.lk_abs.proofs.ByIndex.{get_past}
 use Rattle.lk_law.proofs.rw.Begins.{begin_keeps, end_keeps}
 use Rattle.lk_law.specs.SoundWorld.{IsSoundWorld, RwFits, rw_phase_at, rw_phase_if, rw_phase_of}
 use Rattle.lk_law.specs.RwPhase.{RwPhase, is_inner}

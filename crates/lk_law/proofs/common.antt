@@ -1,5 +1,4 @@
--- What all families share: names, lists, worlds and their steps, and what every row rests on.
-pub mod Lists
+-- What all families share: names, worlds and their steps, and what every row rests on.
 pub mod Cases
 pub mod Before
 pub mod Frame

@@ -12,7 +12,7 @@ use Rattle.lk_law.specs.Cna.{CnaAgrees, FrontAgrees, SecondAgrees, part, front_c
 use Rattle.lk_law.specs.Cna.{named_by}
 use Rattle.lk_law.specs.Stage.Stage.{Rests, Flushing, Promoting}
 use Rattle.lk_law.proofs.common.Cases.{waiter_cases, Apart}
-use Rattle.lk_law.proofs.common.Lists.{last_cases}
+use Rattle.lk_abs.proofs.ByIndex.{last_cases}
 use Rattle.lk_law.proofs.cna.Parts.{part_cases, part_out}
 use Rattle.lk_law.proofs.queue.Arrive.{arrive_first}
 use Rattle.lk_law.proofs.queue.Sole.{queue_sole, sole_empty}

@@ -10,7 +10,7 @@ use Rattle.lk_law.specs.Snapshot.{QueueAgrees}
 use Rattle.lk_law.specs.Stage.{Stage, cut_of, tip_of, passed_over, chosen, tail_seen, tied, hangs}
 use Rattle.lk_law.specs.Cna.{CnaAgrees, FrontAgrees, SecondAgrees, part, shown, front_cut}
 use Rattle.lk_law.specs.Cna.{front_tip, named_by, first_node}
-use Rattle.lk_law.proofs.common.Lists.{last_cases}
+use Rattle.lk_abs.proofs.ByIndex.{last_cases}
 use Rattle.lk_law.proofs.common.Families.{Last}
 
 module _ {tail : Option NodeName} {phase : Waiter → Phase} {own : Waiter → NodeName}

@@ -16,7 +16,7 @@ use Rattle.lk_law.specs.Cna.{front_tip, node_in, named_by, same_none, first_node
 use Rattle.lk_machine.specs.rows.Cna.{flag_for}
 use Rattle.lk_law.specs.Stage.Stage.{Rests}
 use Rattle.lk_law.proofs.common.Cases.{waiter_cases}
-use Rattle.lk_law.proofs.common.Lists.{get_cases, get-drop_one, get_within, get_past}
+use Rattle.lk_abs.proofs.ByIndex.{get_cases, get-drop_one, get_within, get_past}
 use Rattle.lk_law.proofs.cna.Joined.{get-drop, get-take_none, get_below, get-join, get-join_left}
 use Rattle.lk_law.proofs.cna.Joined.{get-join_last}
 use Rattle.lk_law.proofs.cna.Parts.{not_in}

@@ -9,7 +9,7 @@ use Rattle.lk_law.specs.Phase.Phase.{Waits}
 use Rattle.lk_law.specs.Stage.{Stage, passed_over, parted, chosen, told_runs, tied}
 use Rattle.lk_law.specs.Cna.{FrontAgrees, SecondAgrees, same_none, first_node}
 use Rattle.lk_law.specs.Stage.Stage.{Counts, Picked, Ties, Cuts, Hangs}
-use Rattle.lk_law.proofs.common.Lists.{last_cases}
+use Rattle.lk_abs.proofs.ByIndex.{last_cases}
 use Rattle.lk_law.proofs.cna.Steps.{OthersAct}
 
 -- the last of those passed over

@@ -14,7 +14,7 @@ use Rattle.lk_law.specs.Cna.{CnaAgrees, FrontAgrees, SecondAgrees, part, shown, 
 use Rattle.lk_law.specs.Cna.{front_tip, named_by, first_node}
 use Rattle.lk_law.specs.Stage.Stage.{Picks}
 use Rattle.lk_law.proofs.common.Cases.{node_cases}
-use Rattle.lk_law.proofs.common.Lists.{get_cases}
+use Rattle.lk_abs.proofs.ByIndex.{get_cases}
 use Rattle.lk_law.proofs.cna.Front.{front_lead, front_queue, front_second}
 use Rattle.lk_law.proofs.cna.Parts.{part_out, shown_at, shown_else, shown_flag}
 use Rattle.lk_law.proofs.queue.Lead.{follows_cases}

@@ -6,7 +6,7 @@ use Rattle.lk_machine.specs.declared.parts.Node.{Node}
 use Rattle.lk_law.specs.Phase.{Phase}
 use Rattle.lk_law.specs.Stage.{Stage}
 use Rattle.lk_law.specs.Cna.{CnaAgrees}
-use Rattle.lk_law.proofs.common.Lists.{get_cases}
+use Rattle.lk_abs.proofs.ByIndex.{get_cases}
 
 module _ {tail : Option NodeName} {phase : Waiter → Phase} {own : Waiter
     → NodeName} {node : NodeName → Node}

@@ -34,7 +34,7 @@ use Rattle.lk_law.proofs.cna.Knows.{lists, at_front, phase_here, stage_here}
 use Rattle.lk_law.proofs.cna.Look.{look-next, look-b}
 use Rattle.lk_law.proofs.cna.Parts.{shown_flag}
 use Rattle.lk_law.proofs.common.Families.{Last, lists_front}
-use Rattle.lk_law.proofs.common.Lists.{last_cases}
+use Rattle.lk_abs.proofs.ByIndex.{last_cases}
 use Rattle.lk_law.proofs.common.Puts.{if-true, if-false, not-true}
 use Rattle.lk_law.proofs.common.Users.{user_of, own_node, node_is_ones, some_is}
 use Rattle.lk_law.proofs.common.Worlds.{phase_on-here}

@@ -12,7 +12,7 @@ use Rattle.lk_law.specs.Phase.Phase.{Prepared, Waits, Aside}
 use Rattle.lk_law.specs.Stage.{Stage}
 use Rattle.lk_law.specs.Cna.{is_in, part, shown}
 use Rattle.lk_law.proofs.common.Cases.{waiter_cases, node_cases}
-use Rattle.lk_law.proofs.common.Lists.{get-drop_one}
+use Rattle.lk_abs.proofs.ByIndex.{get-drop_one}
 use Rattle.lk_law.proofs.cna.Joined.{get-take, get-take_in, get_below, get-join, get-join_left}
 use Rattle.lk_law.proofs.cna.Parts.{part_cases, part_in, part_out, not_in, is_in-get, outside_part}
 use Rattle.lk_law.proofs.cna.Parts.{shown_else, shown_flag}

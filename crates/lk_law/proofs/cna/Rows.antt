@@ -14,7 +14,7 @@ use Rattle.lk_law.specs.Cna.{CnaAgrees, FrontAgrees, is_in, part, shown, front_c
 use Rattle.lk_law.specs.Cna.{named_by}
 use Rattle.lk_law.specs.Stage.Stage.{Rests, Counts, Picked, Cuts, Hangs, Picks}
 use Rattle.lk_law.proofs.common.Cases.{waiter_cases, node_cases, Apart}
-use Rattle.lk_law.proofs.common.Lists.{get_cases, get-append_old}
+use Rattle.lk_abs.proofs.ByIndex.{get_cases, get-append_old}
 use Rattle.lk_law.proofs.cna.Joined.{get_below}
 use Rattle.lk_law.proofs.cna.Parts.{part_cases, part_out, not_in, outside_part, shown_at}
 use Rattle.lk_law.proofs.cna.Parts.{shown_else, shown_flag, shown_same}

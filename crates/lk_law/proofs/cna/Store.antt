@@ -12,7 +12,7 @@ use Rattle.lk_law.specs.Cna.{CnaAgrees, FrontAgrees, SecondAgrees, is_in, part, 
 use Rattle.lk_law.specs.Cna.{first_node}
 use Rattle.lk_law.specs.Stage.Stage.{Counts, Picked, Tips, Ties, Cuts, Hangs, Picks}
 use Rattle.lk_law.proofs.common.Cases.{node_cases, Apart}
-use Rattle.lk_law.proofs.common.Lists.{last_cases}
+use Rattle.lk_abs.proofs.ByIndex.{last_cases}
 use Rattle.lk_law.proofs.cna.Parts.{part_cases, part_out, not_in, shown_at, shown_else, shown_flag}
 use Rattle.lk_law.proofs.cna.Parts.{shown_same}
 use Rattle.lk_law.proofs.cna.Look.{queue_same, stage_turn}

@@ -14,7 +14,7 @@ use Rattle.lk_law.specs.Stage.{hangs}
 use Rattle.lk_law.specs.Cna.{CnaAgrees, FrontAgrees, SecondAgrees, is_in, part, shown, front_cut}
 use Rattle.lk_law.specs.Cna.{front_tip, named_by, first_node}
 use Rattle.lk_law.specs.Stage.Stage.{Counts, Picked}
-use Rattle.lk_law.proofs.common.Lists.{get-drop_one, last_cases}
+use Rattle.lk_abs.proofs.ByIndex.{get-drop_one, last_cases}
 use Rattle.lk_law.proofs.cna.Joined.{get-take_none, get_below}
 use Rattle.lk_law.proofs.cna.Parts.{part_out, not_in, shown_else, shown_flag}
 use Rattle.lk_law.proofs.cna.SecondJoin.{second_join, IsAppended}

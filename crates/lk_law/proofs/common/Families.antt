@@ -15,7 +15,7 @@ use Rattle.lk_law.specs.Stage.Stage.{Rests}
 use Rattle.lk_law.specs.Snapshot.{Moves, Rewrites, QueueAgrees}
 use Rattle.lk_law.specs.Cna.{ListsAgree, FlatAgrees, CnaAgrees, part, shown, front_cut, named_by}
 use Rattle.lk_law.proofs.common.Cases.{waiter_cases, Apart}
-use Rattle.lk_law.proofs.common.Lists.{get_cases, get-none_up, last_cases}
+use Rattle.lk_abs.proofs.ByIndex.{get_cases, get-none_up, last_cases}
 use Rattle.lk_law.proofs.cna.Parts.{part_cases, part_out, outside_part, shown_flag}
 use Rattle.lk_law.proofs.queue.Keep.{queue_keep}
 use Rattle.lk_law.proofs.queue.Arrive.{arrive_first, arrive_behind, no_queue}

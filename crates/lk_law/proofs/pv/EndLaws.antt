@@ -30,7 +30,7 @@ use Rattle.lk_law.specs.Snapshot.{Snapshot, Moves, Rewrites}
 use Rattle.lk_law.specs.Agree.{SnapshotAgrees, Step, Stays, LeavesSlowPath, Owed, halts, node_state}
 use Rattle.lk_law.proofs.common.Cases.{waiter_cases, node_cases}
 use Rattle.lk_law.proofs.common.Puts.{put_moves}
-use Rattle.lk_law.proofs.common.Lists.{get-drop_one}
+use Rattle.lk_abs.proofs.ByIndex.{get-drop_one}
 use Rattle.lk_law.proofs.common.Families.{lists_main, lists_rest}
 use Rattle.lk_law.proofs.spin.Laws.{SameNodes, lists_outside}
 use Rattle.lk_law.proofs.queue.Laws.{own_is}

@@ -18,7 +18,7 @@ use Rattle.lk_law.specs.Pv.Post.{Off, Joins, Spins, Rises, Kicks}
 use Rattle.lk_law.specs.Snapshot.{Snapshot, Moves, Rewrites}
 use Rattle.lk_law.specs.Agree.{ParaAgrees, SnapshotAgrees, Step, Stays, Owed, halts, node_state}
 use Rattle.lk_law.proofs.common.Cases.{waiter_cases, lock_cases, node_cases}
-use Rattle.lk_law.proofs.common.Lists.{get-append_old}
+use Rattle.lk_abs.proofs.ByIndex.{get-append_old}
 use Rattle.lk_law.proofs.common.Families.{lists_main, lists_rest}
 use Rattle.lk_law.proofs.pv.Keep.{pv_keep, noded_post, agrees-noded}
 use Rattle.lk_law.proofs.pv.Calls.{pv_byte}

@@ -18,7 +18,7 @@ use Rattle.lk_law.specs.Pv.{agrees}
 use Rattle.lk_law.specs.Pv.Post.{Off, Joins, Spins as Turns, Rises}
 use Rattle.lk_law.specs.Snapshot.{Snapshot, Rewrites}
 use Rattle.lk_law.specs.Agree.{SnapshotAgrees, Step, Stays, LeavesSlowPath, EntersSlowPath, halts}
-use Rattle.lk_law.proofs.common.Lists.{last_cases, get_cases}
+use Rattle.lk_abs.proofs.ByIndex.{last_cases, get_cases}
 use Rattle.lk_law.proofs.spin.Laws.{SameNodes, IsTurn, law_turn_as, law_take_as}
 use Rattle.lk_law.proofs.queue.EntryLaws.{next_node, enter_used, law_enter_as, law_enter_bare_as}
 use Rattle.lk_law.proofs.queue.Laws.{law_arrive_as, law_link_as}

@@ -10,8 +10,8 @@ use Rattle.lk_law.specs.Snapshot.{Moves, QueueAgrees}
 use Rattle.lk_machine.specs.Machine.{rest_node}
 use Rattle.lk_law.specs.Phase.Phase.{Prepared, Links, Leads, Waits, Hands}
 use Rattle.lk_law.proofs.common.Cases.{waiter_cases}
-use Rattle.lk_law.proofs.common.Lists.{get-append, get-append_old, get-append_new, get-append_none}
-use Rattle.lk_law.proofs.common.Lists.{get-append_last, get-append_two, get_cases, last_cases}
+use Rattle.lk_abs.proofs.ByIndex.{get-append, get-append_old, get-append_new, get-append_none}
+use Rattle.lk_abs.proofs.ByIndex.{get-append_last, get-append_two, get_cases, last_cases}
 
 -- a waiter seeks the tail and meets another node there
 module _ {tail : Option NodeName} {phase phase' : Waiter → Phase} {own : Waiter → NodeName}

@@ -9,7 +9,7 @@ use Rattle.lk_law.specs.Phase.{Phase, queues, follows}
 use Rattle.lk_law.specs.Snapshot.{QueueAgrees}
 use Rattle.lk_machine.specs.Machine.{rest_node}
 use Rattle.lk_law.specs.Phase.Phase.{Prepared, Links, Waits, Hands, Holds}
-use Rattle.lk_law.proofs.common.Lists.{get_cases, get-drop_one, get-none_up, last_cases}
+use Rattle.lk_abs.proofs.ByIndex.{get_cases, get-drop_one, get-none_up, last_cases}
 use Rattle.lk_law.proofs.cna.Joined.{get-join, get-join_left, get-join_right, get-join_two}
 use Rattle.lk_law.proofs.cna.Joined.{get-join_last}
 

@@ -8,7 +8,7 @@ use Rattle.lk_law.specs.Phase.{Phase, queues, leads, follows}
 use Rattle.lk_law.specs.Snapshot.{Moves, QueueAgrees}
 use Rattle.lk_law.specs.Phase.Phase.{Links, Waits, Hands}
 use Rattle.lk_law.proofs.common.Cases.{waiter_cases}
-use Rattle.lk_law.proofs.common.Lists.{get_cases}
+use Rattle.lk_abs.proofs.ByIndex.{get_cases}
 
 -- who leads the queue is its first
 pub lead_first : {tail : Option NodeName} {phase : Waiter → Phase} {own : Waiter → NodeName}

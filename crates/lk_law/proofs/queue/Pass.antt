@@ -11,7 +11,7 @@ use Rattle.lk_machine.specs.Machine.{rest_node}
 use Rattle.lk_law.specs.Phase.Phase.{Prepared, Links, Waits, Hands, Idle}
 use Rattle.lk_law.proofs.common.Cases.{Apart, waiter_cases, node_cases}
 use Rattle.lk_law.proofs.queue.Lead.{lead_first}
-use Rattle.lk_law.proofs.common.Lists.{get-drop_one}
+use Rattle.lk_abs.proofs.ByIndex.{get-drop_one}
 
 -- the head hands the lead to the second waiter, and leaves
 module _ {tail : Option NodeName} {phase phase' : Waiter → Phase} {own own' : Waiter → NodeName}

@@ -9,7 +9,7 @@ use Rattle.lk_law.specs.Snapshot.{Moves, QueueAgrees}
 use Rattle.lk_law.specs.Phase.Phase.{Idle}
 use Rattle.lk_law.proofs.common.Cases.{Apart, waiter_cases}
 use Rattle.lk_law.proofs.queue.Lead.{lead_first}
-use Rattle.lk_law.proofs.common.Lists.{get-drop_one, get-none_up, last_cases}
+use Rattle.lk_abs.proofs.ByIndex.{get-drop_one, get-none_up, last_cases}
 
 -- the only waiter of the queue leaves
 module _ {tail : Option NodeName} {phase phase' : Waiter → Phase} {own own' : Waiter → NodeName}

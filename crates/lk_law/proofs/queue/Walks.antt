@@ -14,7 +14,7 @@ use Rattle.lk_law.specs.Phase.{Phase, has_node, queues, leads}
 use Rattle.lk_law.specs.Phase.Phase.{Links}
 use Rattle.lk_law.specs.Snapshot.{QueueAgrees}
 use Rattle.lk_law.specs.Walk.{walk, IsBehind, MainIsTheWalk, MainIsTheShownWalk, SecondIsTheWalk}
-use Rattle.lk_law.proofs.common.Lists.{get_cases, get-none_up}
+use Rattle.lk_abs.proofs.ByIndex.{get_cases, get-none_up}
 use Rattle.lk_law.proofs.queue.Lead.{follows_cases, lead_first}
 use Rattle.lk_law.proofs.queue.Laws.{apart_on}
 use Rattle.lk_law.proofs.common.Frame.{queue_node}

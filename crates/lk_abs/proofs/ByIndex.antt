@@ -1,11 +1,10 @@
 -- Lists by index: what stands where after one more was appended, or the first was dropped.
-use Rattle.std.proofs.Common.{◌≡◌, ℕ, zero, suc, Some, None, List, [], ◌∷◌, ◌++◌, length, ◌⊎◌, inl}
-use Rattle.std.proofs.Common.{inr, arith, ap, refl, slice_get, drop, ◌≤◌}
+use Rattle.std.proofs.Common.{◌≡◌, ◌<◌, ◌≤◌, ℕ, zero, suc, Some, None, List, [], ◌∷◌, ◌++◌, length}
+use Rattle.std.proofs.Common.{◌⊎◌, inl, inr, arith, ap, refl, slice_get, drop}
 
 -- an element after one more was appended is an old one, or the new one at the end
 pub get-append : {A : Type 0} (xs : List A) (x : A) (i : ℕ) (u : A)
-    → slice_get (xs ++ x ∷ []) i ≡ Some u
-    → (slice_get xs i ≡ Some u) ⊎ ((i ≡ length xs) × (u ≡ x))
+    → slice_get (xs ++ x ∷ []) i ≡ Some u → (slice_get xs i ≡ Some u) ⊎ ((i ≡ length xs) × (u ≡ x))
 get-append [] x zero u h = inr (refl, grind arith)
 get-append [] x (suc i) u h = cc
 get-append (y ∷ xs) x zero u h = inl h
@@ -38,8 +37,7 @@ get-none_up (y ∷ xs) (suc i) h = get-none_up xs i h
 
 -- a list is empty, or has a last element
 pub last_cases : {A : Type 0} (xs : List A)
-    → (xs ≡ [])
-    ⊎ ((i : ℕ) × (u : A) × (slice_get xs i ≡ Some u) × (slice_get xs (suc i) ≡ None)
+    → (xs ≡ []) ⊎ ((i : ℕ) × (u : A) × (slice_get xs i ≡ Some u) × (slice_get xs (suc i) ≡ None)
     × (length xs ≡ suc i))
 last_cases [] = inl refl
 last_cases (x ∷ xs) = inr (elim (last_cases xs) [
@@ -77,6 +75,18 @@ get-append_two [] x i u v h k = cc
 get-append_two (y ∷ []) x zero u v h k = inr (h, refl, grind arith)
 get-append_two (y ∷ z ∷ xs) x zero u v h k = inl (h, k)
 get-append_two (y ∷ xs) x (suc i) u v h k = get-append_two xs x i u v h k
+
+-- where a list has something, and where it has nothing
+pub get_within : {A : Type 0} (xs : List A) (i : ℕ) (u : A) → slice_get xs i ≡ Some u
+    → i < length xs
+get_within [] i u h = cc
+get_within (y ∷ xs) zero u h = grind arith
+get_within (y ∷ xs) (suc i) u h = let r = get_within xs i u h in grind arith
+
+pub get_past : {A : Type 0} (xs : List A) (i : ℕ) → slice_get xs i ≡ None → length xs ≤ i
+get_past [] i h = grind arith
+get_past (y ∷ xs) zero h = cc
+get_past (y ∷ xs) (suc i) h = let r = get_past xs i h in grind arith
 
 -- below a place that is taken none is free
 pub get-some_down : {A : Type 0} (xs : List A) (i k : ℕ) (u : A) → i ≤ k → slice_get xs k ≡ Some u
