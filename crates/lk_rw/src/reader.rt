@@ -1,16 +1,27 @@
 // The rows of readers.
 ghost use Rattle.std.specs.Prelude.{◌≡◌, None, Some};
-ghost use Rattle.lk_machine.specs.Machine.{top_frame, rw_at};
+ghost use Rattle.lk_machine.specs.Machine.{HasTop, top_frame, rw_at};
 ghost use Rattle.lk_machine.specs.TopRow.{row, on_rw};
-ghost use Rattle.lk_machine.specs.Row.{Done};
+ghost use Rattle.lk_machine.specs.Row.{Done, event_of};
 ghost use Rattle.lk_machine.specs.Ready.{IsReady};
-ghost use Rattle.lk_machine.specs.rows.Rw.{admits, takes_written, one_more, one_less};
+ghost use Rattle.lk_machine.specs.rows.Rw.{admits, one_more};
 ghost use Rattle.lk_rw.specs.Row.{IsRwReady};
 
 use crate::word::{is_open, lock_of, miss, one_less, one_more};
 use lk_abs::{Event, RwHow, What};
 use lk_machine::{Machine, Pc};
 use lk_word::RwFields;
+
+// The event of a reader that has acquired in this way.
+fn acquired(machine: &Machine, cpu: u32, how: RwHow) -> Event
+    requires { HasTop machine.now cpu }
+    ensures { Some result
+        ≡ event_of machine.now cpu (top_frame machine.now cpu)
+        (admits (top_frame machine.now cpu) None how Done).tells }
+{
+    let lock = lock_of(machine, cpu);
+    machine.event(cpu, What::RTake { lock, how })
+}
 
 // The reader comes in with one more in the word, and its operation is done.
 fn admit_more(machine: &mut Machine, cpu: u32, word: RwFields, how: RwHow) -> Event
@@ -23,8 +34,8 @@ fn admit_more(machine: &mut Machine, cpu: u32, word: RwFields, how: RwHow) -> Ev
         ≡ (on_rw machine.old cpu (top_frame machine.old cpu)
         (admits (top_frame machine.old cpu) (Some (one_more word)) how Done)).1 }
 {
-    let lock = lock_of(machine, cpu);
-    let event = machine.event(cpu, What::RTake { lock, how });
+    let event = acquired(machine, cpu, how);
+    let lock = machine.lock(cpu);
     machine.set_rw(lock.index, one_more(word));
     machine.done(cpu);
     event
@@ -63,14 +74,7 @@ pub(crate) fn spin(machine: &mut Machine, cpu: u32) -> Option<Event>
         machine.set_place(cpu, Pc::R2);
         return None;
     }
-    let lock = lock_of(machine, cpu);
-    let event = machine.event(
-        cpu,
-        What::RTake {
-            lock,
-            how: RwHow::Irq,
-        },
-    );
+    let event = acquired(machine, cpu, RwHow::Irq);
     machine.done(cpu);
     Some(event)
 }
@@ -115,14 +119,7 @@ pub(crate) fn wait(machine: &mut Machine, cpu: u32) -> Option<Event>
         machine.set_place(cpu, Pc::R5);
         return None;
     }
-    let lock = lock_of(machine, cpu);
-    let event = machine.event(
-        cpu,
-        What::RTake {
-            lock,
-            how: RwHow::Queued,
-        },
-    );
+    let event = acquired(machine, cpu, RwHow::Queued);
     machine.free_wait(cpu);
     Some(event)
 }

@@ -1,16 +1,31 @@
 // The rows of writers.
 ghost use Rattle.std.specs.Prelude.{◌≡◌, None, Some};
-ghost use Rattle.lk_machine.specs.Machine.{top_frame, rw_at};
-ghost use Rattle.lk_machine.specs.TopRow.{row, on_rw};
-ghost use Rattle.lk_machine.specs.Row.{Done};
+ghost use Rattle.lk_machine.specs.Machine.{top_frame};
+ghost use Rattle.lk_machine.specs.TopRow.{row, stored_rw};
+ghost use Rattle.lk_machine.specs.Row.{Done, event_of};
 ghost use Rattle.lk_machine.specs.Ready.{IsReady};
-ghost use Rattle.lk_machine.specs.rows.Rw.{admits, takes_written, one_more, one_less};
+ghost use Rattle.lk_machine.specs.rows.Rw.{takes_written, written_word};
 ghost use Rattle.lk_rw.specs.Row.{IsRwReady};
 
 use crate::word::{is_cleared, is_empty, lock_of, miss, written_word};
 use lk_abs::{Event, RwHow, What};
 use lk_machine::{Machine, Pc};
 use lk_word::RwFields;
+
+// Stores the writer's word: the writer has acquired, in this way.
+fn take(machine: &mut Machine, cpu: u32, how: RwHow) -> Event
+    requires { IsReady machine.old cpu }
+    ensures word { machine.new
+        ≡ stored_rw machine.old (top_frame machine.old cpu).lock.index (Some written_word) }
+    ensures event { Some result
+        ≡ event_of machine.old cpu (top_frame machine.old cpu)
+        (takes_written (top_frame machine.old cpu) how Done).tells }
+{
+    let lock = lock_of(machine, cpu);
+    let event = machine.event(cpu, What::WTake { lock, how });
+    machine.set_rw(lock.index, written_word());
+    event
+}
 
 /// Wr1: swaps the word from empty to the writer's, `0,0,0 -> 0,0,1`. If it is not empty, the
 /// writer goes on to acquire the wait lock.
@@ -21,15 +36,7 @@ pub(crate) fn first(machine: &mut Machine, cpu: u32) -> Option<Event>
     ensures event { result ≡ (row machine.old cpu).1 }
 {
     if is_empty(machine.rw_met(cpu)) {
-        let lock = lock_of(machine, cpu);
-        let event = machine.event(
-            cpu,
-            What::WTake {
-                lock,
-                how: RwHow::Fast,
-            },
-        );
-        machine.set_rw(lock.index, written_word());
+        let event = take(machine, cpu, RwHow::Fast);
         machine.done(cpu);
         return Some(event);
     }
@@ -63,15 +70,7 @@ pub(crate) fn swap(machine: &mut Machine, cpu: u32) -> Option<Event>
     ensures event { result ≡ (row machine.old cpu).1 }
 {
     if is_empty(machine.rw_met(cpu)) {
-        let lock = lock_of(machine, cpu);
-        let event = machine.event(
-            cpu,
-            What::WTake {
-                lock,
-                how: RwHow::Queued,
-            },
-        );
-        machine.set_rw(lock.index, written_word());
+        let event = take(machine, cpu, RwHow::Queued);
         machine.free_wait(cpu);
         return Some(event);
     }
@@ -124,15 +123,7 @@ pub(crate) fn claim(machine: &mut Machine, cpu: u32) -> Option<Event>
     ensures event { result ≡ (row machine.old cpu).1 }
 {
     if is_cleared(machine.rw_met(cpu)) {
-        let lock = lock_of(machine, cpu);
-        let event = machine.event(
-            cpu,
-            What::WTake {
-                lock,
-                how: RwHow::Queued,
-            },
-        );
-        machine.set_rw(lock.index, written_word());
+        let event = take(machine, cpu, RwHow::Queued);
         machine.free_wait(cpu);
         return Some(event);
     }
@@ -163,15 +154,7 @@ pub(crate) fn try_swap(machine: &mut Machine, cpu: u32) -> Option<Event>
     ensures event { result ≡ (row machine.old cpu).1 }
 {
     if is_empty(machine.rw_met(cpu)) {
-        let lock = lock_of(machine, cpu);
-        let event = machine.event(
-            cpu,
-            What::WTake {
-                lock,
-                how: RwHow::Try,
-            },
-        );
-        machine.set_rw(lock.index, written_word());
+        let event = take(machine, cpu, RwHow::Try);
         machine.done(cpu);
         return Some(event);
     }
