@@ -24,26 +24,17 @@ enum Hold {
 pub(crate) fn verb_of(word: &[u8]) -> Option<Verb>
     ensures { result ≡ verb_of word.now }
 {
-    if word == b"lock".as_slice() {
-        Some(Verb::Lock)
-    } else if word == b"try".as_slice() {
-        Some(Verb::Try)
-    } else if word == b"unlock".as_slice() {
-        Some(Verb::Unlock)
-    } else if word == b"read".as_slice() {
-        Some(Verb::Read)
-    } else if word == b"tryread".as_slice() {
-        Some(Verb::TryRead)
-    } else if word == b"runlock".as_slice() {
-        Some(Verb::RUnlock)
-    } else if word == b"write".as_slice() {
-        Some(Verb::Write)
-    } else if word == b"trywrite".as_slice() {
-        Some(Verb::TryWrite)
-    } else if word == b"wunlock".as_slice() {
-        Some(Verb::WUnlock)
-    } else {
-        None
+    match word {
+        b"lock" => Some(Verb::Lock),
+        b"try" => Some(Verb::Try),
+        b"unlock" => Some(Verb::Unlock),
+        b"read" => Some(Verb::Read),
+        b"tryread" => Some(Verb::TryRead),
+        b"runlock" => Some(Verb::RUnlock),
+        b"write" => Some(Verb::Write),
+        b"trywrite" => Some(Verb::TryWrite),
+        b"wunlock" => Some(Verb::WUnlock),
+        _ => None,
     }
 }
 
