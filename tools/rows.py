@@ -7,8 +7,9 @@ from pathlib import PurePosixPath
 from tables import rows_of, unfenced
 
 CODE = re.compile(r"\[`(\w+)::(\w+)`\]\(([^)]+)\)")
-# A function with the comment above it and its body; what a comment says of rows; the step calls that a cell or a body names.
-FUNCTION = re.compile(r"^((?://.*\n)+)(?:#\[.*\n)*(?:pub(?:\(crate\))? )?fn (\w+)", re.M)
+# A function, or a method, with the comment above it and its body; what a comment says of rows; the step calls that a cell or a
+# body names.
+FUNCTION = re.compile(r"^((?: *//.*\n)+)(?: *#\[.*\n)*( *)(?:pub(?:\(crate\))? )?fn (\w+)", re.M)
 SAID = re.compile(r"\b[Rr]ows? ([^.]*)")
 STEPS = re.compile(r"\bsteps::(\w+)")
 DISPATCH = re.compile(r"\b(?:Pc::)?([A-Z]\w*)\)?\s*=>\s*(\w+)::(\w+)\(")
@@ -51,7 +52,7 @@ def code(sources, row, made):
 def functions(text):
     """Each function of a file with the comment above it, its name and its body."""
     for found in FUNCTION.finditer(text):
-        yield found[1], found[2], text[found.end() : text.find("\n}\n", found.end())]
+        yield found[1], found[3], text[found.end() : text.find(f"\n{found[2]}}}\n", found.end())]
 
 
 def rows_in(sources, comment):
