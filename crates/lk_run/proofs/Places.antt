@@ -88,6 +88,19 @@ fast_place mode y = by mode
 
 -- none of these is the place that it comes from
 
+pub queue_else : (y : Fields) → to_queue y ≡ P0 → ⊥
+queue_else y e =
+    elim (queue_place y) [ inl h ↦ (let z : P1 ≡ P0 = sym h ∙ e in cc z) | inr h ↦ (let z : G1 ≡ P0 = sym h ∙ e in cc z) ]
+
+pub pend_else : (y : Fields) → after_pending y ≡ P1 → ⊥
+pend_else y e =
+    elim (pend_place y) [
+      | inl h ↦ (let z : P2 ≡ P1 = sym h ∙ e in cc z)
+      | inr (inl h) ↦ (let z : P3 ≡ P1 = sym h ∙ e in cc z)
+      | inr (inr (inl h)) ↦ (let z : P4 ≡ P1 = sym h ∙ e in cc z)
+      | inr (inr (inr h)) ↦ (let z : G1 ≡ P1 = sym h ∙ e in cc z)
+    ]
+
 pub not_fast : (mode : Mode) (y : Fields) → after_fast mode y ≡ F1 → ⊥
 not_fast mode y e =
     elim (fast_place mode y) [
@@ -195,11 +208,3 @@ small_name k n m h e few = let a = h.cpu in let b = h.index in omega (arith, e, 
 
 pub least_name : (n : ℕ) (m : NodeName) → n ≡ name_number m → 2 ≤ n
 least_name n m e = omega (arith, e)
-
--- who sees itself alone has nobody aside
-pub nobody_aside : (b t : Bool) (second : Option NodeName)
-    → (if b then (if t && not (is_some second) then G8 else G9) else G7) ≡ G8 → second ≡ None
-nobody_aside b t None e = refl
-nobody_aside true true (Some m) e = cc e
-nobody_aside true false (Some m) e = cc e
-nobody_aside false t (Some m) e = cc e

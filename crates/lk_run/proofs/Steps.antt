@@ -46,6 +46,9 @@ rest_both a b c h k =
       slots = k.slots ∙ h.slots;
     }
 
+pub rest_same : (a : Cpu) → KeepsRest a a
+rest_same a = record { same = record { table = refl; id = refl; number = refl; who = refl }; slots = refl }
+
 module _ (d : Domain) (v : Verb) (l : ℕ) (old : Calls) (a b : Cpu) (rest : KeepsRest a b) where
   pub moved : (c : Pc) → Moved d.plan a.number v l c old (view_of a) (view_of b) → Moves d v l c old a b
   moved c m =

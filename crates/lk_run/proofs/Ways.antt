@@ -84,48 +84,52 @@ resumes_else v c spin e = let z : true ≡ false = sym (by v) ∙ (ap is_rw_row 
 
 -- who queues takes, and goes on until it has the lock
 
+pub not_is : (b : Bool) → not b ≡ true → b ≡ false
+not_is false q = refl
+not_is true q = absurd (cc q)
+
 pub queues_taking : (v : Verb) (n : LockName) → Queues v n → is_taking v ≡ true
 queues_taking Lock n q = refl
 queues_taking Read n q = refl
 queues_taking Write n q = refl
-queues_taking _ n q = absurd q
+queues_taking _ n q = absurd (cc q)
 
 pub queues_patient : (v : Verb) (n : LockName) → Queues v n → is_patient v ≡ true
 queues_patient Lock n q = refl
 queues_patient Read n q = refl
 queues_patient Write n q = refl
-queues_patient _ n q = absurd q
+queues_patient _ n q = absurd (cc q)
 
 pub queues_inside : (v : Verb) (n : LockName) → Queues v n → n.wait ≡ queues_up v
-queues_inside Lock n q = q
+queues_inside Lock n q = not_is n.wait q
 queues_inside Read n q = q
 queues_inside Write n q = q
-queues_inside _ n q = absurd q
+queues_inside _ n q = absurd (cc q)
 
 pub queues_looks : (v : Verb) (n : LockName) → Queues v n → (c : Pc) → is_watch c ≡ true → looks_by v c ≡ true
 queues_looks Lock n q c h = h
 queues_looks Read n q c h = h
 queues_looks Write n q c h = h
-queues_looks _ n q c h = absurd q
+queues_looks _ n q c h = absurd (cc q)
 
 pub queues_swaps : (v : Verb) (n : LockName) → Queues v n → (c : Pc) → is_swap c ≡ true → takes_by v c ≡ true
 queues_swaps Lock n q c h = h
 queues_swaps Read n q c h = h
 queues_swaps Write n q c h = h
-queues_swaps _ n q c h = absurd q
+queues_swaps _ n q c h = absurd (cc q)
 
 pub next_is : (v : Verb) (n : LockName) → Queues v n → n.wait ≡ true → after_wait v ≡ Some (resumes v)
-next_is Lock n q w = let z : true ≡ false = sym w ∙ q in cc z
+next_is Lock n q w = let z : true ≡ false = sym w ∙ not_is n.wait q in cc z
 next_is Read n q w = refl
 next_is Write n q w = refl
-next_is _ n q w = absurd q
+next_is _ n q w = absurd (cc q)
 
 -- it knows where it goes on
 pub then_is : (v : Verb) (n : LockName) (next : Option Pc) → Queues v n → (n.wait ≡ true → next ≡ after_wait v) → n.wait ≡ true → IsThen next
-then_is Lock n next q after w = let z : true ≡ false = sym w ∙ q in absurd (cc z)
+then_is Lock n next q after w = let z : true ≡ false = sym w ∙ not_is n.wait q in absurd (cc z)
 then_is Read n next q after w = inl (after w)
 then_is Write n next q after w = inr (after w)
-then_is _ n next q after w = absurd q
+then_is _ n next q after w = absurd (cc q)
 
 -- what a processor sees, whose calls before its step were those of a
 abbrev pub sees : Domain → Cpu → Cpu → Outlook

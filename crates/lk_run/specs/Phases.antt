@@ -1,6 +1,6 @@
 -- How a call that waits stands, and what a step of it does.
 use Rattle.std.specs.Prelude.{◌≡◌, ℕ, ◌+◌, ◌-◌, ◌<◌, ◌||◌, ◌==◌, Bool, true, false, List, [], ◌∷◌, ◌++◌, length, Option}
-use Rattle.std.specs.Prelude.{Some}
+use Rattle.std.specs.Prelude.{Some, not}
 use Rattle.std.specs.Prelude.{if◌then◌else◌}
 use Rattle.lk_abs.specs.declared.holder.Manner.{Manner}
 use Rattle.lk_abs.specs.declared.holder.Manner.TheVariants.{Spins}
@@ -36,11 +36,15 @@ pub record Start : Type 0 where
 
 -- The operation may queue for the lock of this name: `lock` for the lock itself, and a reader or a
 -- writer for the wait lock.
+
+abbrev pub queues_at : Verb → Bool → Bool
+queues_at Lock wait = not wait
+queues_at Read wait = wait
+queues_at Write wait = wait
+queues_at _ wait = false
+
 abbrev pub Queues : Verb → LockName → Type 0
-Queues Lock n = n.wait ≡ false
-Queues Read n = n.wait ≡ true
-Queues Write n = n.wait ≡ true
-Queues _ n = ⊥
+Queues v n = queues_at v n.wait ≡ true
 
 -- where a reader or a writer goes on that has the wait lock
 abbrev pub resumes : Verb → Pc
@@ -87,18 +91,9 @@ pub record WaitsAs (stage : Stage) (domain : Domain) (v : Verb) (n : LockName) (
 abbrev pub Stands : Domain → Verb → LockName → Pc → (Frame → Type 0) → Cpu → Type 0
 Stands domain v n c P cpu = StandsAs Outside domain v n c P cpu
 
-abbrev pub Looked : Domain → Verb → LockName → Pc → (Frame → Type 0) → Start → Cpu → Option ℕ
-    → Type 0
-Looked domain v n c P s cpu told = LookedAs Outside domain v n c P s cpu told
-
 abbrev pub Waits : Domain → Verb → LockName → Pc → (Frame → Type 0) → Start → Cpu → Option ℕ
     → Type 0
 Waits domain v n c P s cpu told = WaitsAs Outside domain v n c P s cpu told
-
--- some call waits so
-abbrev pub Waiting : Domain → Verb → LockName → Pc → (Frame → Type 0) → Cpu → Type 0
-Waiting domain v n c P cpu =
-    (s : Start) × (told : Option ℕ) × Waits domain v n c P s cpu told
 
 -- the call that began so has taken the lock, by its last row
 pub record Holds (domain : Domain) (v : Verb) (l : ℕ) (manner : Manner) (s : Start) (cpu : Cpu)
@@ -161,23 +156,11 @@ StaysAs stage domain v n a P old new = (s : Start) (told : Option ℕ)
 abbrev pub Stays : Domain → Verb → LockName → Pc → (Frame → Type 0) → Cpu → Cpu → Type 0
 Stays domain v n a P old new = StaysAs Outside domain v n a P old new
 
--- a look leaves it so, while its frame changes
-abbrev pub StaysWith : Domain → Verb → LockName → Pc → (Frame → Type 0) → (Frame → Type 0) → Cpu
-    → Cpu → Type 0
-StaysWith domain v n a P Q old new = (s : Start) (told : Option ℕ)
-    → Waits domain v n a P s old told → Looked domain v n a Q s new told
-
 -- The call has the lock for which it queued: its lock, and then it is over, or the wait lock, and
 -- then it goes on.
 abbrev pub Won : Bool → Domain → Verb → ℕ → Start → Cpu → Option ℕ → Type 0
 Won false domain v l s cpu told = Holds domain v l Spins s cpu told
 Won true domain v l s cpu told = WaitsAs Inside domain v (wait_name l) (resumes v) Any s cpu told
-
--- it goes from the row until it has that lock
-abbrev pub Takes : Domain → Verb → LockName → Pc → (Frame → Type 0) → Cpu → Option ℕ → Cpu
-    → Option ℕ → Type 0
-Takes domain v n a P old before new after = (s : Start) → Waits domain v n a P s old before
-    → Won n.wait domain v n.index s new after
 
 -- the call has met a word by the first row for its lock that was not free, and goes on by it
 pub record Arrives (domain : Domain) (v : Verb) (n : LockName) (met : ℕ) (s : Start) (cpu : Cpu)
@@ -225,3 +208,17 @@ PassesIn domain v n a manner old before new after = (s : Start)
 -- takes it back, and one that has interrupted another leaves it
 abbrev pub biased : ℕ → Pc
 biased c = if c == 0 then R3 else R2
+
+-- what one row does of these, whatever the source tells
+
+abbrev pub EntersBy : Domain → Verb → LockName → Pc → Manner → Cpu → Cpu → Type 0
+EntersBy domain v n a manner old new = (told : Option ℕ) → Enters domain v n a manner old told new told
+
+abbrev pub SetsOutBy : Domain → Verb → LockName → Pc → Cpu → Cpu → Type 0
+SetsOutBy domain v n a old new = (told : Option ℕ) → SetsOut domain v n a old told new told
+
+abbrev pub StepsIn : Domain → Verb → LockName → Pc → Pc → Cpu → Cpu → Type 0
+StepsIn domain v n a b old new = (told : Option ℕ) → GoesIn domain v n a b old told new told
+
+abbrev pub PassesBy : Domain → Verb → LockName → Pc → Manner → Cpu → Cpu → Type 0
+PassesBy domain v n a manner old new = (told : Option ℕ) → PassesIn domain v n a manner old told new told

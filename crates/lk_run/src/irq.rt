@@ -4,6 +4,7 @@ ghost use Rattle.lk_domain.specs.Paths.{AreKept, Passes, is_busy};
 ghost use Rattle.lk_domain.specs.Seats.{IsOf, KeepsRest, calls_of, ledger_of};
 ghost use Rattle.lk_run.specs.Polls.{Rises};
 
+use crossbeam_utils::Backoff;
 use lk_domain::{Cpu, Domain};
 use std::sync::Wait;
 
@@ -33,4 +34,22 @@ impl Irq for NoIrq {
     ghost polls = { λ _. None };
 
     fn poll<R: Wait>(&mut self, _cpu: &mut Cpu, _rt: &R, _domain: &Domain) {}
+}
+
+// Between two looks: it polls, and then gives way, so that the one for which it waits may run.
+pub(crate) fn give_way<I: Irq, R: Wait>(
+    cpu: &mut Cpu,
+    rt: &R,
+    domain: &Domain,
+    irq: &mut I,
+    backoff: &Backoff,
+)
+    requires { IsOf cpu.old domain.now }
+    ensures rest { KeepsRest cpu.old cpu.new }
+    ensures calls { AreKept (calls_of cpu.old) (calls_of cpu.new) }
+    ensures ledger { Passes (is_busy (calls_of cpu.old)) (ledger_of cpu.old) (ledger_of cpu.new) }
+    ensures polls { Rises (I.polls irq.old) (I.polls irq.new) }
+{
+    irq.poll(cpu, rt, domain);
+    backoff.snooze();
 }

@@ -1,94 +1,69 @@
 // The rows of the pending path, one step each. The comments show a word as (queue tail, pending,
 // locked).
-ghost use Rattle.std.specs.Prelude.{◌≡◌, ◌⊎◌, ◌<◌, Option, ℕ, true, false};
+ghost use Rattle.std.specs.Prelude.{◌≡◌, ◌⊎◌, true, false};
 ghost use Rattle.lk_machine.specs.declared.parts.Pc.TheVariants.{P0, P1, P2, P3, P4, G1};
 ghost use Rattle.lk_domain.specs.Paths.{Any};
-ghost use Rattle.lk_domain.specs.Plans.{locks_of};
-ghost use Rattle.lk_domain.specs.Seats.{IsOf, KeepsRest};
-ghost use Rattle.lk_run.specs.Phases.{Queues, Stands, Goes, Stays, Takes};
+ghost use Rattle.lk_run.specs.Words.{At, Steps, Looks, Takes};
 
+use crate::call::Call;
 use crate::words::word_met;
-use lk_abs::LockName;
-use lk_domain::{Cpu, Domain, steps};
-use lk_machine::{Pc, Verb, after_pending, is_unlocked, to_queue};
+use lk_domain::{Cpu, steps};
+use lk_machine::{Pc, after_pending, is_unlocked, to_queue};
 
-// The row P0, of a call that met (0, 1, 0): the one that pends is about to take the lock, so the
-// word is looked at once more. A look changes no word.
-pub(crate) fn look_again(cpu: &mut Cpu, domain: &Domain, verb: Verb, lock: LockName) -> Pc
-    requires domain { IsOf cpu.old domain.now }
-    requires lock { lock.index < locks_of domain.now.plan }
-    requires queues { Queues verb lock }
-    requires waits { Stands domain.now verb lock P0 Any cpu.old }
-    ensures rest { KeepsRest cpu.old cpu.new }
-    ensures place { (result ≡ P1) ⊎ (result ≡ G1) }
-    ensures goes { (told : Option ℕ)
-        → Goes domain.now verb lock P0 Any result Any cpu.old told cpu.new told }
-{
-    let met = steps::look(cpu, domain, verb, lock);
-    to_queue(word_met(domain, met))
-}
+impl<'a> Call<'a> {
+    // The row P0, of a call that met (0, 1, 0): the one that pends is about to take the lock, so the
+    // word is looked at once more. A look changes no word.
+    pub(crate) fn look_again(&self, cpu: &mut Cpu) -> Pc
+        requires { At self.now P0 Any cpu.old }
+        ensures place { (result ≡ P1) ⊎ (result ≡ G1) }
+        ensures goes { Steps self.now P0 Any result Any cpu.old cpu.new }
+    {
+        let met = steps::look(cpu, self.domain, self.verb, self.lock);
+        to_queue(word_met(self.domain, met))
+    }
 
-// The row P1, and where it leads.
-//   (0, 0, 1) -> (0, 1, 1), to P3: who waits here is the next one, without a node.
-//   (0, 0, 0) -> (0, 1, 0), to P4: the holder has gone meanwhile.
-//   (n, 0, *) -> (n, 1, *), to P2: a queue came first, and the bit goes back.
-//   (n, 1, *) stays, to G1: some other call pends, and the bit is not this call's.
-// Who met no pending bit owns the one that it set, so nobody else clears it.
-pub(crate) fn set_pending(cpu: &mut Cpu, domain: &Domain, verb: Verb, lock: LockName) -> Pc
-    requires domain { IsOf cpu.old domain.now }
-    requires lock { lock.index < locks_of domain.now.plan }
-    requires queues { Queues verb lock }
-    requires waits { Stands domain.now verb lock P1 Any cpu.old }
-    ensures rest { KeepsRest cpu.old cpu.new }
-    ensures place { (result ≡ P2) ⊎ (result ≡ P3) ⊎ (result ≡ P4) ⊎ (result ≡ G1) }
-    ensures goes { (told : Option ℕ)
-        → Goes domain.now verb lock P1 Any result Any cpu.old told cpu.new told }
-{
-    let met = steps::set_pending(cpu, domain, verb, lock);
-    after_pending(word_met(domain, met))
-}
+    // The row P1, and where it leads.
+    //   (0, 0, 1) -> (0, 1, 1), to P3: who waits here is the next one, without a node.
+    //   (0, 0, 0) -> (0, 1, 0), to P4: the holder has gone meanwhile.
+    //   (n, 0, *) -> (n, 1, *), to P2: a queue came first, and the bit goes back.
+    //   (n, 1, *) stays, to G1: some other call pends, and the bit is not this call's.
+    // Who met no pending bit owns the one that it set, so nobody else clears it.
+    pub(crate) fn set_pending(&self, cpu: &mut Cpu) -> Pc
+        requires { At self.now P1 Any cpu.old }
+        ensures place { (result ≡ P2) ⊎ (result ≡ P3) ⊎ (result ≡ P4) ⊎ (result ≡ G1) }
+        ensures goes { Steps self.now P1 Any result Any cpu.old cpu.new }
+    {
+        let met = steps::set_pending(cpu, self.domain, self.verb, self.lock);
+        after_pending(word_met(self.domain, met))
+    }
 
-// The row P2: (n, 1, *) -> (n, 0, *). The bit is this call's own, since it met none when it set it;
-// the front of the queue waits until it is clear.
-pub(crate) fn clear_pending(cpu: &mut Cpu, domain: &Domain, verb: Verb, lock: LockName)
-    requires domain { IsOf cpu.old domain.now }
-    requires lock { lock.index < locks_of domain.now.plan }
-    requires queues { Queues verb lock }
-    requires waits { Stands domain.now verb lock P2 Any cpu.old }
-    ensures rest { KeepsRest cpu.old cpu.new }
-    ensures goes { (told : Option ℕ)
-        → Goes domain.now verb lock P2 Any G1 Any cpu.old told cpu.new told }
-{
-    steps::clear_pending(cpu, domain, verb, lock);
-}
+    // The row P2: (n, 1, *) -> (n, 0, *). The bit is this call's own, since it met none when it set
+    // it; the front of the queue waits until it is clear.
+    pub(crate) fn clear_pending(&self, cpu: &mut Cpu)
+        requires { At self.now P2 Any cpu.old }
+        ensures { Steps self.now P2 Any G1 Any cpu.old cpu.new }
+    {
+        steps::clear_pending(cpu, self.domain, self.verb, self.lock);
+    }
 
-// The row P3: true where the word was (*, 1, 0). From then on nobody else may take the lock, since
-// the front of a queue waits for the pending bit. A look changes no word.
-pub(crate) fn watch(cpu: &mut Cpu, domain: &Domain, verb: Verb, lock: LockName) -> bool
-    requires domain { IsOf cpu.old domain.now }
-    requires lock { lock.index < locks_of domain.now.plan }
-    requires queues { Queues verb lock }
-    requires waits { Stands domain.now verb lock P3 Any cpu.old }
-    ensures rest { KeepsRest cpu.old cpu.new }
-    ensures free { result ≡ true → (told : Option ℕ)
-        → Goes domain.now verb lock P3 Any P4 Any cpu.old told cpu.new told }
-    ensures held { result ≡ false → Stays domain.now verb lock P3 Any cpu.old cpu.new }
-{
-    let met = steps::look(cpu, domain, verb, lock);
-    is_unlocked(word_met(domain, met))
-}
+    // The row P3: true where the word was (*, 1, 0). From then on nobody else may take the lock,
+    // since the front of a queue waits for the pending bit. A look changes no word.
+    pub(crate) fn watch(&self, cpu: &mut Cpu) -> bool
+        requires { At self.now P3 Any cpu.old }
+        ensures free { result ≡ true → Steps self.now P3 Any P4 Any cpu.old cpu.new }
+        ensures held { result ≡ false → Looks self.now P3 Any cpu.old cpu.new }
+    {
+        let met = steps::look(cpu, self.domain, self.verb, self.lock);
+        is_unlocked(word_met(self.domain, met))
+    }
 
-// The row P4: (*, 1, 0) -> (*, 0, 1). It takes the lock and clears its own pending bit in one step,
-// so that no word between the two can be seen; the tail stays, and with it those who came
-// meanwhile.
-pub(crate) fn take_pending(cpu: &mut Cpu, domain: &Domain, verb: Verb, lock: LockName)
-    requires domain { IsOf cpu.old domain.now }
-    requires lock { lock.index < locks_of domain.now.plan }
-    requires queues { Queues verb lock }
-    requires waits { Stands domain.now verb lock P4 Any cpu.old }
-    ensures rest { KeepsRest cpu.old cpu.new }
-    ensures taken { (told : Option ℕ)
-        → Takes domain.now verb lock P4 Any cpu.old told cpu.new told }
-{
-    steps::pending_to_locked(cpu, domain, verb, lock);
+    // The row P4: (*, 1, 0) -> (*, 0, 1). It takes the lock and clears its own pending bit in one
+    // step, so that no word between the two can be seen; the tail stays, and with it those who came
+    // meanwhile.
+    pub(crate) fn take_pending(&self, cpu: &mut Cpu)
+        requires { At self.now P4 Any cpu.old }
+        ensures { Takes self.now P4 Any cpu.old cpu.new }
+    {
+        steps::pending_to_locked(cpu, self.domain, self.verb, self.lock);
+    }
 }

@@ -11,9 +11,9 @@ ghost use Rattle.lk_domain.specs.Plans.{locks_of, kind_at};
 ghost use Rattle.lk_domain.specs.Seats.{IsOf, KeepsRest, calls_of};
 ghost use Rattle.lk_domain.specs.Waits.{MayTake, WaitsAt, Moves, Gains, Misses};
 ghost use Rattle.lk_run.specs.Entering.{Leaves};
-ghost use Rattle.lk_run.specs.Phases.{Start, Stands, Waits, Stays, CameIn, Enters, SetsOut};
+ghost use Rattle.lk_run.specs.Phases.{Stands, Waits, Stays, CameIn, EntersBy, SetsOutBy};
 ghost use Rattle.lk_run.specs.Phases.{starting};
-ghost use Rattle.lk_run.specs.Phases.{StandsIn, GoesIn, StaysIn, PassesIn, biased};
+ghost use Rattle.lk_run.specs.Phases.{StandsIn, StepsIn, StaysIn, PassesBy, biased};
 
 use lk_abs::LockName;
 use lk_domain::{Cpu, Domain, steps};
@@ -49,8 +49,7 @@ pub(crate) fn spin(cpu: &mut Cpu, domain: &Domain, lock: LockName) -> bool
     requires nested { length (calls_of cpu.old).frames ≢ 1 }
     requires waits { Stands domain.now Read lock R2 Any cpu.old }
     ensures rest { KeepsRest cpu.old cpu.new }
-    ensures entered { result ≡ true → (told : Option ℕ)
-        → Enters domain.now Read lock R2 Reads cpu.old told cpu.new told }
+    ensures entered { result ≡ true → EntersBy domain.now Read lock R2 Reads cpu.old cpu.new }
     ensures held { result ≡ false → Stays domain.now Read lock R2 Any cpu.old cpu.new }
 {
     steps::look(cpu, domain, Verb::Read, lock) % 256 == 0
@@ -64,8 +63,7 @@ pub(crate) fn retreat(cpu: &mut Cpu, domain: &Domain, lock: LockName)
     requires plain { lock.wait ≡ false }
     requires waits { Stands domain.now Read lock R3 Any cpu.old }
     ensures rest { KeepsRest cpu.old cpu.new }
-    ensures out { (told : Option ℕ)
-        → SetsOut domain.now Read lock R3 cpu.old told cpu.new told }
+    ensures out { SetsOutBy domain.now Read lock R3 cpu.old cpu.new }
 {
     steps::subtract_bias(cpu, domain, Verb::Read, lock);
 }
@@ -77,8 +75,7 @@ pub(crate) fn join(cpu: &mut Cpu, domain: &Domain, lock: LockName)
     requires plain { lock.wait ≡ false }
     requires waits { StandsIn domain.now Read lock R4 cpu.old }
     ensures rest { KeepsRest cpu.old cpu.new }
-    ensures goes { (told : Option ℕ)
-        → GoesIn domain.now Read lock R4 R5 cpu.old told cpu.new told }
+    ensures goes { StepsIn domain.now Read lock R4 R5 cpu.old cpu.new }
 {
     steps::add_bias(cpu, domain, Verb::Read, lock);
 }
@@ -92,8 +89,7 @@ pub(crate) fn wait(cpu: &mut Cpu, domain: &Domain, lock: LockName) -> bool
     requires alone { length (calls_of cpu.old).frames ≡ 1 }
     requires waits { StandsIn domain.now Read lock R5 cpu.old }
     ensures rest { KeepsRest cpu.old cpu.new }
-    ensures passed { result ≡ true → (told : Option ℕ)
-        → PassesIn domain.now Read lock R5 Reads cpu.old told cpu.new told }
+    ensures passed { result ≡ true → PassesBy domain.now Read lock R5 Reads cpu.old cpu.new }
     ensures held { result ≡ false → StaysIn domain.now Read lock R5 cpu.old cpu.new }
 {
     steps::look(cpu, domain, Verb::Read, lock) % 256 == 0

@@ -1,5 +1,15 @@
-// The calls of readers. The comments show the word of a reader-writer lock as (readers, waiting,
-// writer).
+// The calls of readers, read from the top: `read_lock` goes on in `contend` where its first row
+// finds no way in. The comments show the word of a reader-writer lock as (readers, waiting,
+// writer), and name the row from which a function goes on.
+//
+//   R1 adds its bias ------------------------ met (r, 0, 0): it has come in
+//
+//   alone        R3 takes the bias back, F1 queues for the wait lock
+//                R4 adds it again
+//                R5 looks until (r, w, 0) --- it has come in, U1 frees the wait lock
+//
+//   interrupted  R2 looks until (r, w, 0) --- it has come in
+//
 ghost use Rattle.std.specs.Prelude.{◌≡◌, ◌≢◌, ◌<◌, true, false, Some, length};
 ghost use Rattle.lk_abs.specs.declared.holder.Manner.TheVariants.{Reads};
 ghost use Rattle.lk_abs.specs.declared.names.Kind.TheVariants.{Rw};
@@ -14,80 +24,35 @@ ghost use Rattle.lk_run.specs.Entering.{Leaves};
 ghost use Rattle.lk_run.specs.Phases.{Start, Waits, WaitsIn, CameIn, Enters, PassesIn, biased};
 ghost use Rattle.lk_run.specs.Phases.{starting};
 
-use crate::irq::Irq;
-use crate::loops::give_way;
-use crate::{inside, readers};
+use crate::call::Call;
+use crate::irq::{Irq, give_way};
+use crate::readers;
 use crossbeam_utils::Backoff;
 use lk_abs::LockName;
 use lk_domain::{Cpu, Domain, LockId};
 use lk_machine::Verb;
 use std::sync::Wait;
 
-// From R2 until it has come in.
-fn spin<I: Irq, R: Wait>(cpu: &mut Cpu, rt: &R, domain: &Domain, lock: LockName, irq: &mut I)
+/// Holds the lock as a reader when it returns, beside other readers. A call that has interrupted
+/// another goes past writers that wait. It polls `irq` and gives way as `lock` does.
+#[inline]
+pub fn read_lock<I: Irq, R: Wait>(cpu: &mut Cpu, rt: &R, domain: &Domain, lock: LockId, irq: &mut I)
     requires domain { IsOf cpu.old domain.now }
     requires lock { lock.index < locks_of domain.now.plan }
-    requires plain { lock.wait ≡ false }
-    requires nested { length (calls_of cpu.old).frames ≢ 1 }
-    requires waits { (s : Start)
-        × Waits domain.now Read lock R2 Any s cpu.old (I.polls irq.old) }
+    requires kind { kind_at domain.now.plan lock.index ≡ Rw }
+    requires may { MayTake lock.index (calls_of cpu.old) }
     ensures rest { KeepsRest cpu.old cpu.new }
-    ensures entered { Enters domain.now Read lock R2 Reads cpu.old (I.polls irq.old) cpu.new
-        (I.polls irq.new) }
+    ensures entered { CameIn domain.now Read lock.index Reads (starting cpu.old (I.polls irq.old))
+        cpu.new (I.polls irq.new) }
 {
-    let backoff = Backoff::new();
-    for _ in rt.forever() {
-        if readers::spin(cpu, domain, lock) {
-            return;
-        }
-        give_way(cpu, rt, domain, irq, &backoff);
-    }
-    unreachable!()
-}
-
-// From R5, with the wait lock, until it has come in.
-fn wait<I: Irq, R: Wait>(cpu: &mut Cpu, rt: &R, domain: &Domain, lock: LockName, irq: &mut I)
-    requires domain { IsOf cpu.old domain.now }
-    requires lock { lock.index < locks_of domain.now.plan }
-    requires plain { lock.wait ≡ false }
-    requires alone { length (calls_of cpu.old).frames ≡ 1 }
-    requires waits { (s : Start)
-        × WaitsIn domain.now Read lock R5 s cpu.old (I.polls irq.old) }
-    ensures rest { KeepsRest cpu.old cpu.new }
-    ensures passed { PassesIn domain.now Read lock R5 Reads cpu.old (I.polls irq.old) cpu.new
-        (I.polls irq.new) }
-{
-    let backoff = Backoff::new();
-    for _ in rt.forever() {
-        if readers::wait(cpu, domain, lock) {
-            return;
-        }
-        give_way(cpu, rt, domain, irq, &backoff);
-    }
-    unreachable!()
-}
-
-// From R3: it takes its bias back and queues.
-fn queue<I: Irq, R: Wait>(cpu: &mut Cpu, rt: &R, domain: &Domain, lock: LockName, irq: &mut I)
-    requires domain { IsOf cpu.old domain.now }
-    requires lock { lock.index < locks_of domain.now.plan }
-    requires plain { lock.wait ≡ false }
-    requires alone { length (calls_of cpu.old).frames ≡ 1 }
-    requires waits { (s : Start)
-        × Waits domain.now Read lock R3 Any s cpu.old (I.polls irq.old) }
-    ensures rest { KeepsRest cpu.old cpu.new }
-    ensures entered { Enters domain.now Read lock R3 Reads cpu.old (I.polls irq.old) cpu.new
-        (I.polls irq.new) }
-{
-    let queue = LockName {
+    let name = LockName {
         index: lock.index,
-        wait: true,
+        wait: false,
     };
-    readers::retreat(cpu, domain, lock);
-    inside::queue(cpu, rt, domain, Verb::Read, queue, irq);
-    readers::join(cpu, domain, lock);
-    wait(cpu, rt, domain, lock, irq);
-    inside::release(cpu, domain, Verb::Read, queue);
+    if readers::first(cpu, domain, name) {
+        return;
+    }
+    contend(cpu, rt, domain, name, irq);
 }
 
 // From the place to which the first row led that found no way in: one that has interrupted another
@@ -112,26 +77,94 @@ fn contend<I: Irq, R: Wait>(cpu: &mut Cpu, rt: &R, domain: &Domain, lock: LockNa
     }
 }
 
-/// Holds the lock as a reader when it returns, beside other readers. A call that has interrupted
-/// another goes past writers that wait. It polls `irq` and gives way as `lock` does.
-#[inline]
-pub fn read_lock<I: Irq, R: Wait>(cpu: &mut Cpu, rt: &R, domain: &Domain, lock: LockId, irq: &mut I)
+// From R3: it takes its bias back and queues.
+fn queue<I: Irq, R: Wait>(cpu: &mut Cpu, rt: &R, domain: &Domain, lock: LockName, irq: &mut I)
+    requires domain { IsOf cpu.old domain.now }
+    requires lock { lock.index < locks_of domain.now.plan }
+    requires plain { lock.wait ≡ false }
+    requires alone { length (calls_of cpu.old).frames ≡ 1 }
+    requires waits { (s : Start)
+        × Waits domain.now Read lock R3 Any s cpu.old (I.polls irq.old) }
+    ensures rest { KeepsRest cpu.old cpu.new }
+    ensures entered { Enters domain.now Read lock R3 Reads cpu.old (I.polls irq.old) cpu.new
+        (I.polls irq.new) }
+{
+    let queue = Call {
+        domain,
+        verb: Verb::Read,
+        lock: LockName {
+            index: lock.index,
+            wait: true,
+        },
+    };
+    readers::retreat(cpu, domain, lock);
+    queue.acquire(cpu, rt, irq);
+    readers::join(cpu, domain, lock);
+    wait(cpu, rt, domain, lock, irq);
+    queue.release(cpu);
+}
+
+// From R5, with the wait lock, until it has come in.
+fn wait<I: Irq, R: Wait>(cpu: &mut Cpu, rt: &R, domain: &Domain, lock: LockName, irq: &mut I)
+    requires domain { IsOf cpu.old domain.now }
+    requires lock { lock.index < locks_of domain.now.plan }
+    requires plain { lock.wait ≡ false }
+    requires alone { length (calls_of cpu.old).frames ≡ 1 }
+    requires waits { (s : Start)
+        × WaitsIn domain.now Read lock R5 s cpu.old (I.polls irq.old) }
+    ensures rest { KeepsRest cpu.old cpu.new }
+    ensures passed { PassesIn domain.now Read lock R5 Reads cpu.old (I.polls irq.old) cpu.new
+        (I.polls irq.new) }
+{
+    let backoff = Backoff::new();
+    for _ in rt.forever() {
+        if readers::wait(cpu, domain, lock) {
+            return;
+        }
+        give_way(cpu, rt, domain, irq, &backoff);
+    }
+    unreachable!()
+}
+
+// From R2 until it has come in.
+fn spin<I: Irq, R: Wait>(cpu: &mut Cpu, rt: &R, domain: &Domain, lock: LockName, irq: &mut I)
+    requires domain { IsOf cpu.old domain.now }
+    requires lock { lock.index < locks_of domain.now.plan }
+    requires plain { lock.wait ≡ false }
+    requires nested { length (calls_of cpu.old).frames ≢ 1 }
+    requires waits { (s : Start)
+        × Waits domain.now Read lock R2 Any s cpu.old (I.polls irq.old) }
+    ensures rest { KeepsRest cpu.old cpu.new }
+    ensures entered { Enters domain.now Read lock R2 Reads cpu.old (I.polls irq.old) cpu.new
+        (I.polls irq.new) }
+{
+    let backoff = Backoff::new();
+    for _ in rt.forever() {
+        if readers::spin(cpu, domain, lock) {
+            return;
+        }
+        give_way(cpu, rt, domain, irq, &backoff);
+    }
+    unreachable!()
+}
+
+/// Takes the lock as a reader where nobody waits and no writer is in, and says whether it did.
+pub fn try_read(cpu: &mut Cpu, domain: &Domain, lock: LockId) -> bool
     requires domain { IsOf cpu.old domain.now }
     requires lock { lock.index < locks_of domain.now.plan }
     requires kind { kind_at domain.now.plan lock.index ≡ Rw }
     requires may { MayTake lock.index (calls_of cpu.old) }
     ensures rest { KeepsRest cpu.old cpu.new }
-    ensures entered { CameIn domain.now Read lock.index Reads (starting cpu.old (I.polls irq.old))
-        cpu.new (I.polls irq.new) }
+    ensures taken { result ≡ true
+        → Gains domain.now TryRead lock.index Reads (calls_of cpu.old) cpu.old cpu.new }
+    ensures missed { result ≡ false
+        → Misses domain.now TryRead lock.index (calls_of cpu.old) cpu.old cpu.new }
 {
     let name = LockName {
         index: lock.index,
         wait: false,
     };
-    if readers::first(cpu, domain, name) {
-        return;
-    }
-    contend(cpu, rt, domain, name, irq);
+    readers::try_look(cpu, domain, name) && try_enter(cpu, domain, name)
 }
 
 // From Y2: it saw that a reader may come in.
@@ -153,25 +186,6 @@ fn try_enter(cpu: &mut Cpu, domain: &Domain, lock: LockName) -> bool
     }
     readers::try_fail(cpu, domain, lock);
     false
-}
-
-/// Takes the lock as a reader where nobody waits and no writer is in, and says whether it did.
-pub fn try_read(cpu: &mut Cpu, domain: &Domain, lock: LockId) -> bool
-    requires domain { IsOf cpu.old domain.now }
-    requires lock { lock.index < locks_of domain.now.plan }
-    requires kind { kind_at domain.now.plan lock.index ≡ Rw }
-    requires may { MayTake lock.index (calls_of cpu.old) }
-    ensures rest { KeepsRest cpu.old cpu.new }
-    ensures taken { result ≡ true
-        → Gains domain.now TryRead lock.index Reads (calls_of cpu.old) cpu.old cpu.new }
-    ensures missed { result ≡ false
-        → Misses domain.now TryRead lock.index (calls_of cpu.old) cpu.old cpu.new }
-{
-    let name = LockName {
-        index: lock.index,
-        wait: false,
-    };
-    readers::try_look(cpu, domain, name) && try_enter(cpu, domain, name)
 }
 
 /// Frees a lock that the processor holds as a reader, in one step: (r, w, x) -> (r - 1, w, x).

@@ -43,6 +43,98 @@ pub(crate) enum More {
     Chooses,
 }
 
+// Where a front stands: its processor, in its domain.
+#[derive(Clone, Copy)]
+pub(crate) struct Site<'a> {
+    pub(crate) domain: &'a Domain,
+    pub(crate) cpu: u32,
+    ghost low: { cpu < cpus_of domain.now.plan },
+}
+
+impl<'a> Site<'a> {
+    // What the front meets in the link of its own node, with its mark. It has counted so many
+    // handovers.
+    pub(crate) fn first_seen(
+        &self,
+        runs: u64,
+        second: Option<NodeName>,
+        next: Option<NodeName>,
+        mark: bool,
+    ) -> First
+        requires { IfSome next (IsNode self.now.domain.now.plan) }
+        ensures { result ≡ first_by (sight_by (sight_of (terms_of self.now.domain.now.plan)
+            self.now.cpu (Some runs)) (Linked next mark)) second next }
+    {
+        match next {
+            None => nobody_behind(second),
+            Some(next) => self.somebody_behind(runs, second, next, mark),
+        }
+    }
+
+    // What it meets in the link of the last that it has passed over.
+    pub(crate) fn more_seen(
+        &self,
+        second: Option<NodeName>,
+        next: Option<NodeName>,
+        mark: bool,
+    ) -> More
+        requires { IfSome next (IsNode self.now.domain.now.plan) }
+        ensures { (r : Option ℕ)
+            → result ≡ more_by (sight_by (sight_of (terms_of self.now.domain.now.plan)
+            self.now.cpu r) (Linked next mark)) second next }
+    {
+        match next {
+            None => nobody_more(second),
+            Some(next) => self.somebody_more(second, next, mark),
+        }
+    }
+
+    // A waiter stands behind the front.
+    fn somebody_behind(
+        &self,
+        runs: u64,
+        second: Option<NodeName>,
+        next: NodeName,
+        mark: bool,
+    ) -> First
+        requires { IsNode self.now.domain.now.plan next }
+        ensures { result ≡ first_by (sight_by (sight_of (terms_of self.now.domain.now.plan)
+            self.now.cpu (Some runs)) (Linked (Some next) mark)) second (Some next) }
+    {
+        if runs >= self.domain.threshold() as u64 {
+            run_over(second, next)
+        } else if self.is_local(next, mark) {
+            First::Chooses(next)
+        } else {
+            First::Skips(next)
+        }
+    }
+
+    // A waiter stands behind those that were passed over.
+    fn somebody_more(&self, second: Option<NodeName>, next: NodeName, mark: bool) -> More
+        requires { IsNode self.now.domain.now.plan next }
+        ensures { (r : Option ℕ)
+            → result ≡ more_by (sight_by (sight_of (terms_of self.now.domain.now.plan)
+            self.now.cpu r) (Linked (Some next) mark)) second (Some next) }
+    {
+        if self.is_local(next, mark) {
+            local_met(second, next)
+        } else {
+            More::Skips(next)
+        }
+    }
+
+    // Whether a node that a link with this mark names is local to the processor: its call is never
+    // moved aside, or its processor stands on the same socket.
+    fn is_local(&self, node: NodeName, mark: bool) -> bool
+        requires { IsNode self.now.domain.now.plan node }
+        ensures { result ≡ (stays_by self.now.domain.now.plan.format mark
+            || same_socket (terms_of self.now.domain.now.plan).sockets self.now.cpu node.cpu) }
+    {
+        stays(self.domain, mark) || self.domain.socket(self.cpu) == self.domain.socket(node.cpu)
+    }
+}
+
 // Whether a link with this mark names a call that is never moved aside: in the second format, one
 // in an interrupt.
 fn stays(domain: &Domain, mark: bool) -> bool
@@ -51,27 +143,6 @@ fn stays(domain: &Domain, mark: bool) -> bool
     match domain.format() {
         Format::One => false,
         Format::Two => mark,
-    }
-}
-
-// Whether a node that a link with this mark names is local to the processor: its call is never
-// moved aside, or its processor stands on the same socket.
-fn is_local(domain: &Domain, cpu: u32, node: NodeName, mark: bool) -> bool
-    requires cpu { cpu < cpus_of domain.now.plan }
-    requires node { IsNode domain.now.plan node }
-    ensures { result ≡ (stays_by domain.now.plan.format mark
-        || same_socket (terms_of domain.now.plan).sockets cpu node.cpu) }
-{
-    stays(domain, mark) || domain.socket(cpu) == domain.socket(node.cpu)
-}
-
-// The run is over.
-fn run_over(second: Option<NodeName>, next: NodeName) -> First
-    ensures { result ≡ over_by second next }
-{
-    match second {
-        None => First::Chooses(next),
-        Some(first) => First::Flushes(first, next),
     }
 }
 
@@ -85,56 +156,13 @@ fn nobody_behind(second: Option<NodeName>) -> First
     }
 }
 
-// A waiter stands behind the front, which has counted so many handovers.
-fn somebody_behind(
-    domain: &Domain,
-    cpu: u32,
-    runs: u64,
-    second: Option<NodeName>,
-    next: NodeName,
-    mark: bool,
-) -> First
-    requires cpu { cpu < cpus_of domain.now.plan }
-    requires node { IsNode domain.now.plan next }
-    ensures { result ≡ first_by (sight_by (sight_of (terms_of domain.now.plan) cpu (Some runs))
-        (Linked (Some next) mark)) second (Some next) }
-{
-    if runs >= domain.threshold() as u64 {
-        run_over(second, next)
-    } else if is_local(domain, cpu, next, mark) {
-        First::Chooses(next)
-    } else {
-        First::Skips(next)
-    }
-}
-
-// What the front meets in the link of its own node, with its mark.
-pub(crate) fn first_seen(
-    domain: &Domain,
-    cpu: u32,
-    runs: u64,
-    second: Option<NodeName>,
-    next: Option<NodeName>,
-    mark: bool,
-) -> First
-    requires cpu { cpu < cpus_of domain.now.plan }
-    requires node { IfSome next (IsNode domain.now.plan) }
-    ensures { result ≡ first_by (sight_by (sight_of (terms_of domain.now.plan) cpu (Some runs))
-        (Linked next mark)) second next }
-{
-    match next {
-        None => nobody_behind(second),
-        Some(next) => somebody_behind(domain, cpu, runs, second, next, mark),
-    }
-}
-
-// A waiter that is local to the front was met.
-fn local_met(second: Option<NodeName>, next: NodeName) -> More
-    ensures { result ≡ met_by second next }
+// The run is over.
+fn run_over(second: Option<NodeName>, next: NodeName) -> First
+    ensures { result ≡ over_by second next }
 {
     match second {
-        None => More::Begins(next),
-        Some(first) => More::Appends(first, next),
+        None => First::Chooses(next),
+        Some(first) => First::Flushes(first, next),
     }
 }
 
@@ -148,43 +176,12 @@ fn nobody_more(second: Option<NodeName>) -> More
     }
 }
 
-// A waiter stands behind them.
-fn somebody_more(
-    domain: &Domain,
-    cpu: u32,
-    second: Option<NodeName>,
-    next: NodeName,
-    mark: bool,
-) -> More
-    requires cpu { cpu < cpus_of domain.now.plan }
-    requires node { IsNode domain.now.plan next }
-    ensures { (r : Option ℕ)
-        → result ≡ more_by (sight_by (sight_of (terms_of domain.now.plan) cpu r)
-        (Linked (Some next) mark)) second (Some next) }
+// A waiter that is local to the front was met.
+fn local_met(second: Option<NodeName>, next: NodeName) -> More
+    ensures { result ≡ met_by second next }
 {
-    if is_local(domain, cpu, next, mark) {
-        local_met(second, next)
-    } else {
-        More::Skips(next)
-    }
-}
-
-// What it meets in the link of the last that it has passed over.
-pub(crate) fn more_seen(
-    domain: &Domain,
-    cpu: u32,
-    second: Option<NodeName>,
-    next: Option<NodeName>,
-    mark: bool,
-) -> More
-    requires cpu { cpu < cpus_of domain.now.plan }
-    requires node { IfSome next (IsNode domain.now.plan) }
-    ensures { (r : Option ℕ)
-        → result ≡ more_by (sight_by (sight_of (terms_of domain.now.plan) cpu r) (Linked next mark))
-        second next }
-{
-    match next {
-        None => nobody_more(second),
-        Some(next) => somebody_more(domain, cpu, second, next, mark),
+    match second {
+        None => More::Begins(next),
+        Some(first) => More::Appends(first, next),
     }
 }

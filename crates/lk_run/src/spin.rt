@@ -13,8 +13,8 @@ ghost use Rattle.lk_domain.specs.Waits.{MayTake, WaitsAt, Moves, Gains, Misses, 
 ghost use Rattle.lk_run.specs.Phases.{Arrives, Holds, starting};
 ghost use Rattle.lk_run.specs.Polls.{Acquires, IsPolled};
 
+use crate::call::Call;
 use crate::irq::Irq;
-use crate::waiting::contend;
 use lk_abs::LockName;
 use lk_domain::{Cpu, Domain, LockId, steps};
 use lk_machine::Verb;
@@ -64,7 +64,12 @@ pub fn lock<I: Irq, R: Wait>(cpu: &mut Cpu, rt: &R, domain: &Domain, lock: LockI
     if met == 0 {
         return;
     }
-    contend(cpu, rt, domain, Verb::Lock, name, met, irq);
+    let call = Call {
+        domain,
+        verb: Verb::Lock,
+        lock: name,
+    };
+    call.contend(cpu, rt, irq, met);
 }
 
 // The row T1: true where the word was free. A look changes no word.

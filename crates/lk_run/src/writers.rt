@@ -14,8 +14,8 @@ ghost use Rattle.lk_domain.specs.Plans.{locks_of, kind_at};
 ghost use Rattle.lk_domain.specs.Seats.{IsOf, KeepsRest, calls_of, ledger_of};
 ghost use Rattle.lk_domain.specs.Waits.{MayTake, WaitsAt, Moves, Gains, Misses};
 ghost use Rattle.lk_run.specs.Entering.{Leaves};
-ghost use Rattle.lk_run.specs.Phases.{Start, Waits, CameIn, starting, StandsIn, GoesIn, StaysIn};
-ghost use Rattle.lk_run.specs.Phases.{PassesIn};
+ghost use Rattle.lk_run.specs.Phases.{Waits, CameIn, starting, StandsIn, StepsIn, StaysIn};
+ghost use Rattle.lk_run.specs.Phases.{PassesBy};
 
 use lk_abs::LockName;
 use lk_domain::{Cpu, Domain, steps};
@@ -48,10 +48,8 @@ pub(crate) fn look(cpu: &mut Cpu, domain: &Domain, lock: LockName) -> bool
     requires plain { lock.wait ≡ false }
     requires waits { StandsIn domain.now Write lock Wr2 cpu.old }
     ensures rest { KeepsRest cpu.old cpu.new }
-    ensures empty { result ≡ true → (told : Option ℕ)
-        → GoesIn domain.now Write lock Wr2 Wr3 cpu.old told cpu.new told }
-    ensures others { result ≡ false → (told : Option ℕ)
-        → GoesIn domain.now Write lock Wr2 Wr4 cpu.old told cpu.new told }
+    ensures empty { result ≡ true → StepsIn domain.now Write lock Wr2 Wr3 cpu.old cpu.new }
+    ensures others { result ≡ false → StepsIn domain.now Write lock Wr2 Wr4 cpu.old cpu.new }
 {
     steps::look(cpu, domain, Verb::Write, lock) == 0
 }
@@ -65,10 +63,8 @@ pub(crate) fn swap(cpu: &mut Cpu, domain: &Domain, lock: LockName) -> bool
     requires plain { lock.wait ≡ false }
     requires waits { StandsIn domain.now Write lock Wr3 cpu.old }
     ensures rest { KeepsRest cpu.old cpu.new }
-    ensures passed { result ≡ true → (told : Option ℕ)
-        → PassesIn domain.now Write lock Wr3 Writes cpu.old told cpu.new told }
-    ensures others { result ≡ false → (told : Option ℕ)
-        → GoesIn domain.now Write lock Wr3 Wr4 cpu.old told cpu.new told }
+    ensures passed { result ≡ true → PassesBy domain.now Write lock Wr3 Writes cpu.old cpu.new }
+    ensures others { result ≡ false → StepsIn domain.now Write lock Wr3 Wr4 cpu.old cpu.new }
 {
     steps::empty_to_writer(cpu, domain, Verb::Write, lock) == 0
 }
@@ -81,8 +77,7 @@ pub(crate) fn announce(cpu: &mut Cpu, domain: &Domain, lock: LockName)
     requires plain { lock.wait ≡ false }
     requires waits { StandsIn domain.now Write lock Wr4 cpu.old }
     ensures rest { KeepsRest cpu.old cpu.new }
-    ensures goes { (told : Option ℕ)
-        → GoesIn domain.now Write lock Wr4 Wr5 cpu.old told cpu.new told }
+    ensures goes { StepsIn domain.now Write lock Wr4 Wr5 cpu.old cpu.new }
 {
     steps::set_waiting(cpu, domain, Verb::Write, lock);
 }
@@ -95,8 +90,7 @@ pub(crate) fn wait(cpu: &mut Cpu, domain: &Domain, lock: LockName) -> bool
     requires plain { lock.wait ≡ false }
     requires waits { StandsIn domain.now Write lock Wr5 cpu.old }
     ensures rest { KeepsRest cpu.old cpu.new }
-    ensures cleared { result ≡ true → (told : Option ℕ)
-        → GoesIn domain.now Write lock Wr5 Wr6 cpu.old told cpu.new told }
+    ensures cleared { result ≡ true → StepsIn domain.now Write lock Wr5 Wr6 cpu.old cpu.new }
     ensures held { result ≡ false → StaysIn domain.now Write lock Wr5 cpu.old cpu.new }
 {
     steps::look(cpu, domain, Verb::Write, lock) == 256
@@ -112,10 +106,8 @@ pub(crate) fn claim(cpu: &mut Cpu, domain: &Domain, lock: LockName) -> bool
     requires plain { lock.wait ≡ false }
     requires waits { StandsIn domain.now Write lock Wr6 cpu.old }
     ensures rest { KeepsRest cpu.old cpu.new }
-    ensures passed { result ≡ true → (told : Option ℕ)
-        → PassesIn domain.now Write lock Wr6 Writes cpu.old told cpu.new told }
-    ensures biased { result ≡ false → (told : Option ℕ)
-        → GoesIn domain.now Write lock Wr6 Wr5 cpu.old told cpu.new told }
+    ensures passed { result ≡ true → PassesBy domain.now Write lock Wr6 Writes cpu.old cpu.new }
+    ensures biased { result ≡ false → StepsIn domain.now Write lock Wr6 Wr5 cpu.old cpu.new }
 {
     steps::waiting_to_writer(cpu, domain, Verb::Write, lock) == 256
 }

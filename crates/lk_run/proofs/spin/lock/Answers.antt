@@ -18,13 +18,13 @@ pub returns-then-met-eq0-clause-once : goal.returns-then-met-eq0-clause-once
 returns-then-met-eq0-clause-once g c =
     (c.fast-met.ensures.taken c.if-met-eq0.true (g.I.Irq.polls c.args.irq.now)).once
 
-pub contend-requires-clause-domain : goal.contend-requires-clause-domain
-contend-requires-clause-domain g c =
-    still_of c.args.domain.now c.args.cpu.now c.fast-met.new.cpu c.fast-met.ensures.rest c.requires.domain
-
-pub contend-requires-clause-waits : goal.contend-requires-clause-waits
-contend-requires-clause-waits g c =
-    (starting c.args.cpu.now (g.I.Irq.polls c.args.irq.now), c.fast-met.ensures.waits c.if-met-eq0.false (g.I.Irq.polls c.args.irq.now))
+pub contend-requires : goal.contend-requires
+contend-requires g c =
+    record {
+      domain = still_of c.args.domain.now c.args.cpu.now c.fast-met.new.cpu c.fast-met.ensures.rest c.requires.domain;
+      start = starting c.args.cpu.now (g.I.Irq.polls c.args.irq.now);
+      arrives = c.fast-met.ensures.waits c.if-met-eq0.false (g.I.Irq.polls c.args.irq.now);
+    }
 
 pub returns-clause-rest : goal.returns-clause-rest
 returns-clause-rest g c =
@@ -32,16 +32,16 @@ returns-clause-rest g c =
 
 pub returns-clause-taken : goal.returns-clause-taken
 returns-clause-taken g c =
-    (c.contend.ensures.taken (starting c.args.cpu.now (g.I.Irq.polls c.args.irq.now)) (c.fast-met.ensures.waits c.if-met-eq0.false (g.I.Irq.polls c.args.irq.now))).taken
+    (c.contend.ensures.has (starting c.args.cpu.now (g.I.Irq.polls c.args.irq.now)) (c.fast-met.ensures.waits c.if-met-eq0.false (g.I.Irq.polls c.args.irq.now))).taken
 
 pub returns-clause-look : goal.returns-clause-look
 returns-clause-look g c =
-    (c.contend.ensures.taken (starting c.args.cpu.now (g.I.Irq.polls c.args.irq.now)) (c.fast-met.ensures.waits c.if-met-eq0.false (g.I.Irq.polls c.args.irq.now))).look
+    (c.contend.ensures.has (starting c.args.cpu.now (g.I.Irq.polls c.args.irq.now)) (c.fast-met.ensures.waits c.if-met-eq0.false (g.I.Irq.polls c.args.irq.now))).look
 
 pub returns-clause-polls : goal.returns-clause-polls
 returns-clause-polls g c =
-    (c.contend.ensures.taken (starting c.args.cpu.now (g.I.Irq.polls c.args.irq.now)) (c.fast-met.ensures.waits c.if-met-eq0.false (g.I.Irq.polls c.args.irq.now))).polled
+    (c.contend.ensures.has (starting c.args.cpu.now (g.I.Irq.polls c.args.irq.now)) (c.fast-met.ensures.waits c.if-met-eq0.false (g.I.Irq.polls c.args.irq.now))).polled
 
 pub returns-clause-once : goal.returns-clause-once
 returns-clause-once g c =
-    (c.contend.ensures.taken (starting c.args.cpu.now (g.I.Irq.polls c.args.irq.now)) (c.fast-met.ensures.waits c.if-met-eq0.false (g.I.Irq.polls c.args.irq.now))).once
+    (c.contend.ensures.has (starting c.args.cpu.now (g.I.Irq.polls c.args.irq.now)) (c.fast-met.ensures.waits c.if-met-eq0.false (g.I.Irq.polls c.args.irq.now))).once

@@ -1,5 +1,4 @@
-use Rattle.std.proofs.Common.{◌≡◌, ◌%◌, sym, arith}
-use Rattle.lk_domain.specs.Words.{link_number}
+use Rattle.std.proofs.Common.{◌%◌, sym, arith}
 use Rattle.lk_run.proofs.Places.{no_link, some_link, small_link, name_is}
 use Rattle.lk_run.proofs.words.node_met.Goals as goal
 

@@ -1,0 +1,285 @@
+-- What a row does to a call that queues, and rows that follow each other.
+use Rattle.std.proofs.Common.{◌≡◌, ℕ, Option, Some, None, Bool, true, false, refl, sym, ap, ◌∙◌, IfSome, subst}
+use Rattle.std.specs.Option.{ForSome}
+use Rattle.lk_machine.specs.declared.parts.Frame.{Frame}
+use Rattle.lk_machine.specs.declared.parts.Pc.{Pc}
+use Rattle.lk_law.specs.Families.{is_rw_row}
+use Rattle.lk_law.specs.Leads.{Met, Word, Number}
+use Rattle.lk_domain.specs.NodePlays.{AtRow, AtEntry, counting, readies}
+use Rattle.lk_domain.specs.Words.{IsNode}
+use Rattle.lk_domain.specs.Calls.{slows}
+use Rattle.lk_domain.specs.declared.view.View.{View}
+use Rattle.lk_word.specs.declared.spin_word.NodeName.{NodeName}
+use Rattle.lk_machine.specs.declared.parts.Pc.TheVariants.{F1, G1, G2}
+use Rattle.lk_run.specs.Frames.{Owns}
+use Rattle.lk_run.proofs.Rows as rows
+use Rattle.lk_domain.specs.Paths.{Any, AreKept, Passes, is_busy}
+use Rattle.lk_domain.specs.Plays.{ActsIn, MadeBy, rowed}
+use Rattle.lk_domain.specs.Rows as row
+use Rattle.lk_domain.specs.Rows.{is_watch, is_swap, is_patient}
+use Rattle.lk_domain.specs.Seats.{IsOf, KeepsRest, calls_of, ledger_of, view_of}
+use Rattle.lk_domain.specs.declared.cpu.Cpu.{Cpu}
+use Rattle.lk_domain.specs.Plans.{layout_in}
+use Rattle.lk_word.specs.declared.spin_word.Fields.{Fields}
+use Rattle.lk_word.specs.SpinWord.{packed, IsPackable}
+use Rattle.lk_machine.specs.rows.Spin.{after_fast}
+use Rattle.lk_run.specs.Phases.{StandsAs}
+use Rattle.lk_run.specs.Polls.{Rises}
+use Rattle.lk_run.specs.Standing.{Outside}
+use Rattle.lk_run.specs.Words.{Waits, At, Waiting, Steps, Looks, LooksOn, Takes, Goes, Wins, Arriving, Won, IsNext, Meets}
+use Rattle.lk_run.specs.declared.call.Call.{Call}
+use Rattle.lk_run.proofs.Steps.{still_of, rest_both, rest_same}
+use Rattle.lk_run.proofs.Stepped as way
+use Rattle.lk_run.proofs.Ways.{Leads, Ends, sees, ready_row, queues_taking, queues_patient, queues_inside, then_is}
+
+-- what is behind a value, if there is one
+
+pub if_some : {A : Type 0} (P : A → Type 0) (o : Option A) → ForSome o P → IfSome o P
+if_some P None h = tt
+if_some P (Some x) h = h x refl
+
+pub for_some : {A : Type 0} (P : A → Type 0) (o : Option A) → IfSome o P → ForSome o P
+for_some P None h x e = absurd (cc e)
+for_some P (Some y) h x e = let same : y ≡ x = cc e in subst P same h
+
+-- a row of the call
+
+module _ {w : Call} {a b : Cpu} (of : IsOf a w.domain.now) (rest : KeepsRest a b) (x : Met)
+    (step : view_of b ≡ rowed (view_of a) (calls_of a) x) {c : Pc} {P : Frame → Type 0} where
+  pub steps_by : (e : Pc) (Q : Frame → Type 0) → (e ≡ c → ⊥)
+      → ((f : Frame) → P f → Leads w.domain.now.plan.mode b.number (sees w.domain.now a b) c f x e Q) → Steps w c P e Q a b
+  steps_by e Q other leads =
+      record {
+        rest = rest;
+        goes = λ s told y. way.on_goes w.domain.now w.verb w.lock a b rest of x step c P Outside s told y e Q other leads;
+      }
+
+  pub looks_by : (Q : Frame → Type 0) → ((f : Frame) → P f → Leads w.domain.now.plan.mode b.number (sees w.domain.now a b) c f x c Q)
+      → LooksOn w c P Q a b
+  looks_by Q leads =
+      record {
+        rest = rest;
+        stays = λ s told y. way.on_looks_as w.domain.now w.verb w.lock a b rest of x step c P Outside s told y Q leads;
+      }
+
+  pub takes_by : is_rw_row c ≡ false → ((f : Frame) → P f → Ends w.domain.now.plan.mode b.number (sees w.domain.now a b) c f x)
+      → Takes w c P a b
+  takes_by spin ends =
+      record {
+        rest = rest;
+        has = λ s told y. way.on_takes w.domain.now w.verb w.lock a b rest of x step c P s told y w.queues spin ends;
+      }
+
+-- a call that stands there
+module _ {w : Call} {c : Pc} {P : Frame → Type 0} {a : Cpu} (at : At w c P a) where
+  abbrev pub standing : StandsAs Outside w.domain.now w.verb w.lock c P a
+  standing = (at.start.calls, at.waits.looked.at)
+
+  -- what the step calls ask of it
+
+  abbrev pub at_row : AtRow c w.verb w.lock (view_of a)
+  at_row = way.at_row w.domain.now w.verb w.lock c P a w.queues standing
+
+  abbrev pub patient : is_patient w.verb ≡ true
+  patient = queues_patient w.verb w.lock w.queues
+
+  abbrev pub acts_in : (kind : Pc → Bool) → kind c ≡ true → ActsIn kind (view_of a) w.verb w.lock
+  acts_in kind is = way.acts_in w.domain.now w.verb w.lock c P a w.queues standing kind is
+
+  abbrev pub looks_in : is_watch c ≡ true → ActsIn (row.looks_by w.verb) (view_of a) w.verb w.lock
+  looks_in is = way.looks_in w.domain.now w.verb w.lock c P a w.queues standing is
+
+  abbrev pub takes_in : is_swap c ≡ true → ActsIn (row.takes_by w.verb) (view_of a) w.verb w.lock
+  takes_in is = way.takes_in w.domain.now w.verb w.lock c P a w.queues standing is
+
+  -- a step of it on the word of its lock
+  module _ {b : Cpu} (rest : KeepsRest a b) {met : ℕ} (made : MadeBy w.verb w.lock.index a.seat.me met b.seat.me) where
+    pub word : view_of b ≡ rowed (view_of a) (calls_of a) (Word made.found)
+    word = way.on_word w.domain.now w.verb w.lock a b rest at.domain made (queues_taking w.verb w.lock w.queues) at.waits.looked.at
+
+    pub word_steps : (e : Pc) (Q : Frame → Type 0) → (e ≡ c → ⊥)
+        → ((f : Frame) → P f → Leads w.domain.now.plan.mode b.number (sees w.domain.now a b) c f (Word made.found) e Q)
+        → Steps w c P e Q a b
+    word_steps e Q other leads = steps_by at.domain rest (Word made.found) word e Q other leads
+
+    pub word_looks : ((f : Frame) → P f → Leads w.domain.now.plan.mode b.number (sees w.domain.now a b) c f (Word made.found) c P)
+        → Looks w c P a b
+    word_looks leads = looks_by at.domain rest (Word made.found) word P leads
+
+    pub word_takes : is_rw_row c ≡ false
+        → ((f : Frame) → P f → Ends w.domain.now.plan.mode b.number (sees w.domain.now a b) c f (Word made.found)) → Takes w c P a b
+    word_takes spin ends = takes_by at.domain rest (Word made.found) word spin ends
+
+-- rows that follow each other
+
+module _ {w : Call} {a : Pc} {P : Frame → Type 0} where
+  -- a call that waits stands there
+  pub stands : {x : Cpu} {t : Option ℕ} → Waiting w a P x t → At w a P x
+  stands {t} y = record { domain = y.domain; start = y.start; told = t; waits = y.waits }
+
+  pub stay : {x : Cpu} (t : Option ℕ) → Goes w a P a P x t x t
+  stay {x} t = record { rest = rest_same x; goes = λ s y. y }
+
+  module _ {b : Pc} {Q : Frame → Type 0} {x y : Cpu} where
+    -- after a row
+    pub stepped : Steps w a P b Q x y → At w a P x → At w b Q y
+    stepped step at =
+        record {
+          domain = still_of w.domain.now x y step.rest at.domain;
+          start = at.start;
+          told = at.told;
+          waits = step.goes at.start at.told at.waits;
+        }
+
+    pub step_on : {t : Option ℕ} → Steps w a P b Q x y → Waiting w a P x t → Waiting w b Q y t
+    step_on {t} step at =
+        record { domain = still_of w.domain.now x y step.rest at.domain; start = at.start; waits = step.goes at.start t at.waits }
+
+    pub step_takes : {z : Cpu} → Steps w a P b Q x y → Takes w b Q y z → Takes w a P x z
+    step_takes {z} step won = record { rest = rest_both x y z step.rest won.rest; has = λ s t h. won.has s t (step.goes s t h) }
+
+    pub step_wins : {z : Cpu} {t u : Option ℕ} → Steps w a P b Q x y → Wins w b Q y t z u → Wins w a P x t z u
+    step_wins {z} {t} step won = record { rest = rest_both x y z step.rest won.rest; has = λ s h. won.has s (step.goes s t h) }
+
+    pub step_both : {e : Pc} {R : Frame → Type 0} {z : Cpu} → Steps w a P b Q x y → Steps w b Q e R y z → Steps w a P e R x z
+    step_both {z} one two = record { rest = rest_both x y z one.rest two.rest; goes = λ s t h. two.goes s t (one.goes s t h) }
+
+    -- after a path
+    module _ {t u : Option ℕ} (path : Goes w a P b Q x t y u) where
+      pub reached : Waiting w a P x t → Waiting w b Q y u
+      reached at = record { domain = still_of w.domain.now x y path.rest at.domain; start = at.start; waits = path.goes at.start at.waits }
+
+      pub path_wins : {z : Cpu} {v : Option ℕ} → Wins w b Q y u z v → Wins w a P x t z v
+      path_wins {z} won = record { rest = rest_both x y z path.rest won.rest; has = λ s h. won.has s (path.goes s h) }
+
+      pub path_takes : {z : Cpu} → Takes w b Q y z → Wins w a P x t z u
+      path_takes {z} won = record { rest = rest_both x y z path.rest won.rest; has = λ s h. won.has s u (path.goes s h) }
+
+      pub path_steps : {e : Pc} {R : Frame → Type 0} {z : Cpu} → Steps w b Q e R y z → Goes w a P e R x t z u
+      path_steps {z} step = record { rest = rest_both x y z path.rest step.rest; goes = λ s h. step.goes s u (path.goes s h) }
+
+      -- a look, and a poll after it
+      pub path_polls : {R : Frame → Type 0} {z o : Cpu} {v : Option ℕ} → LooksOn w b Q R y z → KeepsRest z o
+          → AreKept (calls_of z) (calls_of o) → Passes (is_busy (calls_of z)) (ledger_of z) (ledger_of o) → Rises u v
+          → Goes w a P b R x t o v
+      path_polls {R} {z} {o} {v} look rest kept passes rose =
+          record {
+            rest = rest_both x z o (rest_both x y z path.rest look.rest) rest;
+            goes = λ s h. way.polled w.domain.now w.verb w.lock b R s z o u v (look.stays s u (path.goes s h)) rest kept passes rose;
+          }
+
+  pub takes_wins : {x y : Cpu} {t : Option ℕ} → Takes w a P x y → Wins w a P x t y t
+  takes_wins {t} won = record { rest = won.rest; has = λ s h. won.has s t h }
+
+-- a step of the table that changed nothing of the call
+module _ {w : Call} {c : Pc} {P : Frame → Type 0} {a m : Cpu} where
+  pub still : At w c P a → KeepsRest a m → view_of m ≡ view_of a → At w c P m
+  still at rest same =
+      record {
+        domain = still_of w.domain.now a m rest at.domain;
+        start = at.start;
+        told = at.told;
+        waits = way.same_waits w.domain.now w.verb w.lock a m rest same c P at.start at.told at.waits;
+      }
+
+  pub same_steps : {e : Pc} {Q : Frame → Type 0} {b : Cpu} → KeepsRest a m → view_of m ≡ view_of a → Steps w c P e Q m b
+      → Steps w c P e Q a b
+  same_steps {b} rest same step =
+      record {
+        rest = rest_both a m b rest step.rest;
+        goes = λ s t h. step.goes s t (way.same_waits w.domain.now w.verb w.lock a m rest same c P s t h);
+      }
+
+-- the count of handovers was read
+module _ {w : Call} {c : Pc} {P : Frame → Type 0} {a m : Cpu} (rest : KeepsRest a m) (r : ℕ) (same : view_of m ≡ counting r (view_of a)) where
+  pub counted : At w c P a → At w c P m
+  counted at =
+      record {
+        domain = still_of w.domain.now a m rest at.domain;
+        start = at.start;
+        told = at.told;
+        waits = way.counted_waits w.domain.now w.verb w.lock a m rest r same c P at.start at.told at.waits;
+      }
+
+  pub counted_steps : {e : Pc} {Q : Frame → Type 0} {b : Cpu} → Steps w c P e Q m b → Steps w c P e Q a b
+  counted_steps {b} step =
+      record {
+        rest = rest_both a m b rest step.rest;
+        goes = λ s t h. step.goes s t (way.counted_waits w.domain.now w.verb w.lock a m rest r same c P s t h);
+      }
+
+  pub counted_looks : {Q : Frame → Type 0} {b : Cpu} → LooksOn w c P Q m b → LooksOn w c P Q a b
+  counted_looks {b} look =
+      record {
+        rest = rest_both a m b rest look.rest;
+        stays = λ s t h. look.stays s t (way.counted_waits w.domain.now w.verb w.lock a m rest r same c P s t h);
+      }
+
+-- where the word leads that the first row met
+module _ (w : Call) {met : ℕ} {word : Fields} (is : (found : Fields) → IsPackable (layout_in w.domain.now.plan) found
+    → met ≡ packed (layout_in w.domain.now.plan) found → word ≡ found) {q : Pc} (leads : q ≡ after_fast w.domain.now.plan.mode word) where
+  here : (found : Fields) → IsPackable (layout_in w.domain.now.plan) found → met ≡ packed (layout_in w.domain.now.plan) found
+      → after_fast w.domain.now.plan.mode found ≡ q
+  here found packs meets = sym (leads ∙ ap (after_fast w.domain.now.plan.mode) (is found packs meets))
+
+  pub arriving_at : {a : Cpu} {t : Option ℕ} → Arriving w met a t → Waiting w q Any a t
+  arriving_at {a} {t} h =
+      let s = h.start in
+      let x = h.arrives in
+      record {
+        domain = h.domain;
+        start = s;
+        waits = subst (λ p. Waits w p Any s a t) (here x.found x.packs x.word) x.waits;
+      }
+
+  pub won_by : {a b : Cpu} {t u : Option ℕ} → Wins w q Any a t b u → Won w met a t b u
+  won_by {a} {t} won = record { rest = won.rest; has = λ s h. won.has s (subst (λ p. Waits w p Any s a t) (here h.found h.packs h.word) h.waits) }
+
+-- the row G1 with a node, after so many private stores
+module _ {w : Call} {a : Cpu} (at : At w G1 Any a) {own : NodeName} (next : IsNext own a) (node : IsNode w.domain.now.plan own) where
+  pub entry_at : (k : ℕ) → AtEntry own w.verb (readies k (view_of a))
+  entry_at k =
+      let on = at.waits.looked.at in
+      record {
+        lock = w.lock;
+        at = record {
+          stands = record { frame = on.frame; trail = on.trail; rest = at.start.calls.frames; is = on.frames; place = on.place; lock = on.lock };
+          patient = queues_patient w.verb w.lock w.queues;
+          inside = queues_inside w.verb w.lock w.queues;
+          after = then_is w.verb w.lock on.frame.then w.queues on.after;
+        };
+        cpu = a.numbered ∙ ap Some (sym next.cpu_is);
+        index = next.index;
+        low = node.index;
+      }
+
+  pub entry : AtEntry own w.verb (view_of a)
+  entry = record { lock = w.lock; at = at_row at; cpu = a.numbered ∙ ap Some (sym next.cpu_is); index = next.index; low = node.index }
+
+  pub enters : {b : Cpu} (rest : KeepsRest a b) (k : ℕ) (m : Cpu) → view_of m ≡ readies k (view_of a)
+      → view_of b ≡ rowed (view_of m) (calls_of m) (Number (slows (calls_of m).frames)) → Steps w G1 Any G2 (Owns own) a b
+  enters rest k m reset last =
+      let on = at.waits.looked.at in
+      let n = slows (calls_of a).frames in
+      let same : rowed (view_of m) (calls_of m) (Number (slows (calls_of m).frames)) ≡ rowed (view_of a) (calls_of a) (Number n) =
+      ap (λ (v : View). rowed v v.calls (Number (slows v.calls.frames))) reset
+      ∙ ready_row k (view_of a) w.verb on.frame on.trail at.start.calls.frames n on.frames on.place in
+      steps_by at.domain rest (Number n) (last ∙ same) G2 (Owns own) (λ e. cc e)
+      (λ f has. rows.enters _ _ f at.domain.awake own n (next.cpu_is ∙ sym rest.same.number) next.index node.index)
+
+-- a row to a place that is known by now
+module _ {w : Call} {a : Pc} {P : Frame → Type 0} {b q : Pc} {Q : Frame → Type 0} {x y : Cpu} (is : b ≡ q) (step : Steps w a P b Q x y) where
+  pub step_at : {t : Option ℕ} → Waiting w a P x t → Waiting w q Q y t
+  step_at at = step_on (subst (λ p. Steps w a P p Q x y) is step) at
+
+  pub step_by : {z : Cpu} {t u : Option ℕ} → Wins w q Q y t z u → Wins w a P x t z u
+  step_by won = step_wins (subst (λ p. Steps w a P p Q x y) is step) won
+
+-- the first row met a word that was not free
+module _ {w : Call} {met : ℕ} {x y : Cpu} (meets : Meets w met x y) where
+  pub meets_on : {t : Option ℕ} → Waiting w F1 Any x t → Arriving w met y t
+  meets_on {t} at =
+      record { domain = still_of w.domain.now x y meets.rest at.domain; start = at.start; arrives = meets.arrives at.start t at.waits }
+
+  pub meets_wins : {z : Cpu} {t u : Option ℕ} → Won w met y t z u → Wins w F1 Any x t z u
+  meets_wins {z} {t} won = record { rest = rest_both x y z meets.rest won.rest; has = λ s h. won.has s (meets.arrives s t h) }

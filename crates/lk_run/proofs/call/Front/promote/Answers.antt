@@ -1,0 +1,55 @@
+use Rattle.lk_domain.specs.Rows.{promotes_by}
+use Rattle.lk_law.specs.Leads.{Word}
+use Rattle.lk_machine.specs.Moves.{is_node}
+use Rattle.lk_machine.specs.declared.parts.Pc.TheVariants.{C1, C7}
+use Rattle.lk_machine.specs.rows.Cna.{is_held}
+use Rattle.lk_run.proofs.Places.{met_by}
+use Rattle.lk_run.specs.Frames.{Fronts, Precedes}
+use Rattle.lk_word.specs.declared.spin_word.Fields.{Fields}
+use Rattle.std.proofs.Common.{None, Some, ap, sym, ◌∙◌}
+use Rattle.std.specs.Prelude.{not, ◌&&◌}
+use Rattle.lk_run.proofs.ChoiceRows as choice
+use Rattle.lk_run.proofs.Calling as on
+use Rattle.lk_run.proofs.call.Front.promote.Goals as goal
+
+pub tail_to_second-met-requires-clause-domain : goal.tail_to_second-met-requires-clause-domain
+tail_to_second-met-requires-clause-domain c = c.requires.waits.1.domain
+
+pub tail_to_second-met-requires-clause-row : goal.tail_to_second-met-requires-clause-row
+tail_to_second-met-requires-clause-row c =
+    let at = c.requires.waits.1 in
+    record {
+      acts = on.acts_in at (promotes_by c.args.self.now.call.verb) (on.patient at);
+      me = at.waits.looked.at.has.fronts.me;
+      t = at.waits.looked.at.has.tail;
+    }
+
+pub word_met-requires : goal.word_met-requires
+word_met-requires c =
+    let q = c.args.self.now in
+    let step = c.tail_to_second-met.ensures.step in
+    let made = step.by in
+    let met = met_by q.call.domain.now c.args.cpu.now c.tail_to_second-met.new.cpu c.requires.waits.1.domain step in
+    record { word = (made.found, met.packs, met.word) }
+
+pub returns-clause-promoted : goal.returns-clause-promoted
+returns-clause-promoted c is first =
+    let q = c.args.self.now in
+    let step = c.tail_to_second-met.ensures.step in
+    let made = step.by in
+    let met = met_by q.call.domain.now c.args.cpu.now c.tail_to_second-met.new.cpu c.requires.waits.1.domain step in
+    on.steps_by c.requires.waits.1.domain c.tail_to_second-met.ensures.rest (Word made.found) (on.word c.requires.waits.1 c.tail_to_second-met.ensures.rest made)
+    C7 (Precedes q.own None first) (λ e. cc e)
+    (λ f has. choice.promoted _ _ f made.found q.own first c.args.t has
+    (sym (c.is_last.ensures ∙ ap (λ (y : Fields). is_held y.locked && not y.pending && is_node y.tail q.own) (c.word_met.ensures made.found met.packs met.word)) ∙ is))
+
+pub returns-clause-others : goal.returns-clause-others
+returns-clause-others c is first =
+    let q = c.args.self.now in
+    let step = c.tail_to_second-met.ensures.step in
+    let made = step.by in
+    let met = met_by q.call.domain.now c.args.cpu.now c.tail_to_second-met.new.cpu c.requires.waits.1.domain step in
+    on.steps_by c.requires.waits.1.domain c.tail_to_second-met.ensures.rest (Word made.found) (on.word c.requires.waits.1 c.tail_to_second-met.ensures.rest made)
+    C1 (Fronts q.own (Some first)) (λ e. cc e)
+    (λ f has. choice.not_promoted _ _ f made.found q.own first c.args.t has
+    (sym (c.is_last.ensures ∙ ap (λ (y : Fields). is_held y.locked && not y.pending && is_node y.tail q.own) (c.word_met.ensures made.found met.packs met.word)) ∙ is))

@@ -1,0 +1,40 @@
+use Rattle.lk_domain.specs.Words.{IsNode}
+use Rattle.lk_machine.specs.declared.parts.Pc.TheVariants.{G4, G5}
+use Rattle.lk_run.specs.Frames.{Follows, Owns}
+use Rattle.lk_run.specs.Words.{Steps}
+use Rattle.std.proofs.Common.{IfSome, subst}
+use Rattle.lk_run.proofs.Calling as on
+use Rattle.lk_run.proofs.call.Queued.queue.Goals as goal
+
+pub exchange_tail-requires : goal.exchange_tail-requires
+exchange_tail-requires g c = on.stands c.requires
+
+pub follow-requires-clause-prev : goal.follow-requires-clause-prev
+follow-requires-clause-prev g c =
+    let n = c.args.self.now in
+    let node = subst (λ o. IfSome o (IsNode n.call.domain.now.plan)) c.in-Some.is c.exchange_tail.ensures.node in
+    let step = subst (λ o. IfSome o (λ prev. Steps n.call G4 (Owns n.own) G5 (Follows n.own prev) c.args.cpu.now c.exchange_tail.new.cpu)) c.in-Some.is c.exchange_tail.ensures.behind in
+    node
+
+pub follow-requires-clause-waits : goal.follow-requires-clause-waits
+follow-requires-clause-waits g c =
+    let n = c.args.self.now in
+    let node = subst (λ o. IfSome o (IsNode n.call.domain.now.plan)) c.in-Some.is c.exchange_tail.ensures.node in
+    let step = subst (λ o. IfSome o (λ prev. Steps n.call G4 (Owns n.own) G5 (Follows n.own prev) c.args.cpu.now c.exchange_tail.new.cpu)) c.in-Some.is c.exchange_tail.ensures.behind in
+    on.step_on step c.requires
+
+pub returns-in-Some : goal.returns-in-Some
+returns-in-Some g c =
+    let n = c.args.self.now in
+    let node = subst (λ o. IfSome o (IsNode n.call.domain.now.plan)) c.in-Some.is c.exchange_tail.ensures.node in
+    let step = subst (λ o. IfSome o (λ prev. Steps n.call G4 (Owns n.own) G5 (Follows n.own prev) c.args.cpu.now c.exchange_tail.new.cpu)) c.in-Some.is c.exchange_tail.ensures.behind in
+    on.step_wins step c.follow.ensures
+
+pub lead-requires-clause-second : goal.lead-requires-clause-second
+lead-requires-clause-second g c = tt
+
+pub lead-requires-clause-waits : goal.lead-requires-clause-waits
+lead-requires-clause-waits g c = on.step_on (c.exchange_tail.ensures.first c.in-None.is) c.requires
+
+pub returns-in-None : goal.returns-in-None
+returns-in-None g c = on.step_wins (c.exchange_tail.ensures.first c.in-None.is) c.lead.ensures

@@ -1,0 +1,51 @@
+// What a call that queues has from its first row to its last. Its rows and its path are methods in
+// the files beside this one. The processor, the runtime and what interrupts the call are handed to
+// each of them.
+ghost use Rattle.std.specs.Prelude.{◌<◌};
+ghost use Rattle.std.specs.Option.{ForSome};
+ghost use Rattle.lk_domain.specs.Plans.{locks_of};
+ghost use Rattle.lk_domain.specs.Words.{IsNode};
+ghost use Rattle.lk_run.specs.Phases.{Queues};
+
+use lk_abs::LockName;
+use lk_domain::Domain;
+use lk_machine::Verb;
+use lk_word::NodeName;
+
+// A call that queues for a lock: `lock` for its lock, and a reader or a writer for the wait lock of
+// it.
+#[derive(Clone, Copy)]
+pub(crate) struct Call<'a> {
+    pub(crate) domain: &'a Domain,
+    pub(crate) verb: Verb,
+    pub(crate) lock: LockName,
+    ghost declared: { lock.index < locks_of domain.now.plan },
+    ghost queues: { Queues verb lock },
+}
+
+// The call with its node, on its way to the front of the queue.
+#[derive(Clone, Copy)]
+pub(crate) struct Queued<'a> {
+    pub(crate) call: Call<'a>,
+    pub(crate) own: NodeName,
+    ghost node: { IsNode call.domain.now.plan own },
+}
+
+// The call as the front of the queue, and the first of the second queue, if there is one.
+#[derive(Clone, Copy)]
+pub(crate) struct Front<'a> {
+    pub(crate) call: Call<'a>,
+    pub(crate) own: NodeName,
+    pub(crate) second: Option<NodeName>,
+    ghost node: { IsNode call.domain.now.plan own },
+    ghost aside: { ForSome second (IsNode call.domain.now.plan) },
+}
+
+// Those that a front has passed over, from the first to the last. The mark is that of the link in
+// which the front met the first.
+#[derive(Clone, Copy)]
+pub(crate) struct Skipped {
+    pub(crate) first: NodeName,
+    pub(crate) mark: bool,
+    pub(crate) last: NodeName,
+}
