@@ -10,7 +10,7 @@ ghost use Rattle.lk_domain.specs.Paths.{HasTaken, HasLooked};
 ghost use Rattle.lk_domain.specs.Plans.{locks_of, kind_at};
 ghost use Rattle.lk_domain.specs.Seats.{IsOf, KeepsRest, calls_of, ledger_of};
 ghost use Rattle.lk_domain.specs.Waits.{MayTake, WaitsAt, Moves, Gains, Misses, Drops};
-ghost use Rattle.lk_run.specs.Phases.{Arrives, Holds, starting};
+ghost use Rattle.lk_run.specs.Phases.{Start, Arrives, Holds, starting};
 ghost use Rattle.lk_run.specs.Polls.{Acquires, IsPolled};
 
 use crate::call::Call;
@@ -39,6 +39,37 @@ fn fast(cpu: &mut Cpu, domain: &Domain, lock: LockName) -> u64
     steps::take_first(cpu, domain, Verb::Lock, lock)
 }
 
+// A lock that was not free, and the word that its first row met.
+#[derive(Clone, Copy)]
+struct Busy {
+    lock: LockId,
+    met: u64,
+}
+
+// From the place to which the first row led. It is out of the way of a call that takes a free lock,
+// which builds no `Call`.
+#[inline(never)]
+fn lock_slowpath<I: Irq, R: Wait>(cpu: &mut Cpu, rt: &R, domain: &Domain, busy: Busy, irq: &mut I)
+    requires domain { IsOf cpu.old domain.now }
+    requires lock { busy.lock.index < locks_of domain.now.plan }
+    requires waits { (s : Start) × Arrives domain.now Lock (lock_name busy.lock.index) busy.met s
+        cpu.old (I.polls irq.old) }
+    ensures rest { KeepsRest cpu.old cpu.new }
+    ensures has { (s : Start) → Arrives domain.now Lock (lock_name busy.lock.index) busy.met s
+        cpu.old (I.polls irq.old)
+        → Holds domain.now Lock busy.lock.index Spins s cpu.new (I.polls irq.new) }
+{
+    let call = Call {
+        domain,
+        verb: Verb::Lock,
+        lock: LockName {
+            index: busy.lock.index,
+            wait: false,
+        },
+    };
+    call.contend(cpu, rt, irq, busy.met);
+}
+
 /// Holds the lock when it returns. It polls `irq` after each look after which it stands where it
 /// stood, and gives way between two such looks.
 #[inline]
@@ -64,12 +95,7 @@ pub fn lock<I: Irq, R: Wait>(cpu: &mut Cpu, rt: &R, domain: &Domain, lock: LockI
     if met == 0 {
         return;
     }
-    let call = Call {
-        domain,
-        verb: Verb::Lock,
-        lock: name,
-    };
-    call.contend(cpu, rt, irq, met);
+    lock_slowpath(cpu, rt, domain, Busy { lock, met }, irq);
 }
 
 // The row T1: true where the word was free. A look changes no word.

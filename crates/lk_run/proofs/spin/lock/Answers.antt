@@ -18,30 +18,30 @@ pub returns-then-met-eq0-clause-once : goal.returns-then-met-eq0-clause-once
 returns-then-met-eq0-clause-once g c =
     (c.fast-met.ensures.taken c.if-met-eq0.true (g.I.Irq.polls c.args.irq.now)).once
 
-pub contend-requires : goal.contend-requires
-contend-requires g c =
-    record {
-      domain = still_of c.args.domain.now c.args.cpu.now c.fast-met.new.cpu c.fast-met.ensures.rest c.requires.domain;
-      start = starting c.args.cpu.now (g.I.Irq.polls c.args.irq.now);
-      arrives = c.fast-met.ensures.waits c.if-met-eq0.false (g.I.Irq.polls c.args.irq.now);
-    }
+pub lock_slowpath-requires-clause-domain : goal.lock_slowpath-requires-clause-domain
+lock_slowpath-requires-clause-domain g c =
+    still_of c.args.domain.now c.args.cpu.now c.fast-met.new.cpu c.fast-met.ensures.rest c.requires.domain
+
+pub lock_slowpath-requires-clause-waits : goal.lock_slowpath-requires-clause-waits
+lock_slowpath-requires-clause-waits g c =
+    (starting c.args.cpu.now (g.I.Irq.polls c.args.irq.now), c.fast-met.ensures.waits c.if-met-eq0.false (g.I.Irq.polls c.args.irq.now))
 
 pub returns-clause-rest : goal.returns-clause-rest
 returns-clause-rest g c =
-    rest_both c.args.cpu.now c.fast-met.new.cpu c.contend.new.cpu c.fast-met.ensures.rest c.contend.ensures.rest
+    rest_both c.args.cpu.now c.fast-met.new.cpu c.lock_slowpath.new.cpu c.fast-met.ensures.rest c.lock_slowpath.ensures.rest
 
 pub returns-clause-taken : goal.returns-clause-taken
 returns-clause-taken g c =
-    (c.contend.ensures.has (starting c.args.cpu.now (g.I.Irq.polls c.args.irq.now)) (c.fast-met.ensures.waits c.if-met-eq0.false (g.I.Irq.polls c.args.irq.now))).taken
+    (c.lock_slowpath.ensures.has (starting c.args.cpu.now (g.I.Irq.polls c.args.irq.now)) (c.fast-met.ensures.waits c.if-met-eq0.false (g.I.Irq.polls c.args.irq.now))).taken
 
 pub returns-clause-look : goal.returns-clause-look
 returns-clause-look g c =
-    (c.contend.ensures.has (starting c.args.cpu.now (g.I.Irq.polls c.args.irq.now)) (c.fast-met.ensures.waits c.if-met-eq0.false (g.I.Irq.polls c.args.irq.now))).look
+    (c.lock_slowpath.ensures.has (starting c.args.cpu.now (g.I.Irq.polls c.args.irq.now)) (c.fast-met.ensures.waits c.if-met-eq0.false (g.I.Irq.polls c.args.irq.now))).look
 
 pub returns-clause-polls : goal.returns-clause-polls
 returns-clause-polls g c =
-    (c.contend.ensures.has (starting c.args.cpu.now (g.I.Irq.polls c.args.irq.now)) (c.fast-met.ensures.waits c.if-met-eq0.false (g.I.Irq.polls c.args.irq.now))).polled
+    (c.lock_slowpath.ensures.has (starting c.args.cpu.now (g.I.Irq.polls c.args.irq.now)) (c.fast-met.ensures.waits c.if-met-eq0.false (g.I.Irq.polls c.args.irq.now))).polled
 
 pub returns-clause-once : goal.returns-clause-once
 returns-clause-once g c =
-    (c.contend.ensures.has (starting c.args.cpu.now (g.I.Irq.polls c.args.irq.now)) (c.fast-met.ensures.waits c.if-met-eq0.false (g.I.Irq.polls c.args.irq.now))).once
+    (c.lock_slowpath.ensures.has (starting c.args.cpu.now (g.I.Irq.polls c.args.irq.now)) (c.fast-met.ensures.waits c.if-met-eq0.false (g.I.Irq.polls c.args.irq.now))).once
