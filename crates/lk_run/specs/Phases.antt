@@ -11,7 +11,7 @@ use Rattle.lk_word.specs.declared.spin_word.NodeName.{NodeName}
 use Rattle.lk_machine.specs.Moves.{wait_name}
 use Rattle.lk_machine.specs.declared.parts.Frame.{Frame}
 use Rattle.lk_machine.specs.declared.parts.Pc.{Pc}
-use Rattle.lk_machine.specs.declared.parts.Pc.TheVariants.{F1, R2, R3, R4, Wr2, U1}
+use Rattle.lk_machine.specs.declared.parts.Pc.TheVariants.{R2, R3, R4, Wr2, U1}
 use Rattle.lk_machine.specs.declared.setup.Verb.{Verb}
 use Rattle.lk_machine.specs.declared.setup.Verb.TheVariants.{Lock, Read, Write}
 use Rattle.lk_machine.specs.rows.Spin.{after_fast}
@@ -87,10 +87,6 @@ pub record WaitsAs (stage : Stage) (domain : Domain) (v : Verb) (n : LockName) (
       → RisesBy k s.told told
 
 -- the same of a call that has no lock yet
-
-abbrev pub Stands : Domain → Verb → LockName → Pc → (Frame → Type 0) → Cpu → Type 0
-Stands domain v n c P cpu = StandsAs Outside domain v n c P cpu
-
 abbrev pub Waits : Domain → Verb → LockName → Pc → (Frame → Type 0) → Start → Cpu → Option ℕ
     → Type 0
 Waits domain v n c P s cpu told = WaitsAs Outside domain v n c P s cpu told
@@ -134,28 +130,6 @@ Passed domain v l manner s cpu told =
 abbrev pub starting : Cpu → Option ℕ → Start
 starting cpu told = record { calls = calls_of cpu; ledger = ledger_of cpu; told = told }
 
--- Whatever the call began with, it goes from the row a to the row b, while what the source tells
--- goes from `before` to `after`.
-
-abbrev pub GoesAs : Stage → Domain → Verb → LockName → Pc → (Frame → Type 0) → Pc
-    → (Frame → Type 0) → Cpu → Option ℕ → Cpu → Option ℕ → Type 0
-GoesAs stage domain v n a P b Q old before new after = (s : Start)
-    → WaitsAs stage domain v n a P s old before → WaitsAs stage domain v n b Q s new after
-
-abbrev pub Goes : Domain → Verb → LockName → Pc → (Frame → Type 0) → Pc → (Frame → Type 0) → Cpu
-    → Option ℕ → Cpu → Option ℕ → Type 0
-Goes domain v n a P b Q old before new after =
-    GoesAs Outside domain v n a P b Q old before new after
-
--- a look leaves it at the row, and a poll is due
-
-abbrev pub StaysAs : Stage → Domain → Verb → LockName → Pc → (Frame → Type 0) → Cpu → Cpu → Type 0
-StaysAs stage domain v n a P old new = (s : Start) (told : Option ℕ)
-    → WaitsAs stage domain v n a P s old told → LookedAs stage domain v n a P s new told
-
-abbrev pub Stays : Domain → Verb → LockName → Pc → (Frame → Type 0) → Cpu → Cpu → Type 0
-Stays domain v n a P old new = StaysAs Outside domain v n a P old new
-
 -- The call has the lock for which it queued: its lock, and then it is over, or the wait lock, and
 -- then it goes on.
 abbrev pub Won : Bool → Domain → Verb → ℕ → Start → Cpu → Option ℕ → Type 0
@@ -170,55 +144,7 @@ pub record Arrives (domain : Domain) (v : Verb) (n : LockName) (met : ℕ) (s : 
   pub word : met ≡ packed (layout_in domain.plan) found
   pub waits : Waits domain v n (after_fast domain.plan.mode found) Any s cpu told
 
--- a reader or a writer
-
--- it enters its lock from the row, at once
-abbrev pub Enters : Domain → Verb → LockName → Pc → Manner → Cpu → Option ℕ → Cpu → Option ℕ → Type 0
-Enters domain v n a manner old before new after = (s : Start)
-    → Waits domain v n a Any s old before → CameIn domain v n.index manner s new after
-
--- it goes from the row to take the wait lock
-abbrev pub SetsOut : Domain → Verb → LockName → Pc → Cpu → Option ℕ → Cpu → Option ℕ → Type 0
-SetsOut domain v n a old before new after = (s : Start)
-    → Waits domain v n a Any s old before
-    → Waits domain v (wait_name n.index) F1 Any s new after
-
--- with the wait lock it goes from row to row
-
-abbrev pub StandsIn : Domain → Verb → LockName → Pc → Cpu → Type 0
-StandsIn domain v n c cpu = StandsAs Inside domain v (wait_name n.index) c Any cpu
-
-abbrev pub WaitsIn : Domain → Verb → LockName → Pc → Start → Cpu → Option ℕ → Type 0
-WaitsIn domain v n c s cpu told = WaitsAs Inside domain v (wait_name n.index) c Any s cpu told
-
-abbrev pub GoesIn : Domain → Verb → LockName → Pc → Pc → Cpu → Option ℕ → Cpu → Option ℕ → Type 0
-GoesIn domain v n a b old before new after =
-    GoesAs Inside domain v (wait_name n.index) a Any b Any old before new after
-
-abbrev pub StaysIn : Domain → Verb → LockName → Pc → Cpu → Cpu → Type 0
-StaysIn domain v n a old new = StaysAs Inside domain v (wait_name n.index) a Any old new
-
--- and enters its lock, with the wait lock to be freed
-abbrev pub PassesIn : Domain → Verb → LockName → Pc → Manner → Cpu → Option ℕ → Cpu → Option ℕ
-    → Type 0
-PassesIn domain v n a manner old before new after = (s : Start)
-    → WaitsIn domain v n a s old before → Passed domain v n.index manner s new after
-
 -- where a reader goes on that has set its bias and found no way in: one below which no call waits
 -- takes it back, and one that has interrupted another leaves it
 abbrev pub biased : ℕ → Pc
 biased c = if c == 0 then R3 else R2
-
--- what one row does of these, whatever the source tells
-
-abbrev pub EntersBy : Domain → Verb → LockName → Pc → Manner → Cpu → Cpu → Type 0
-EntersBy domain v n a manner old new = (told : Option ℕ) → Enters domain v n a manner old told new told
-
-abbrev pub SetsOutBy : Domain → Verb → LockName → Pc → Cpu → Cpu → Type 0
-SetsOutBy domain v n a old new = (told : Option ℕ) → SetsOut domain v n a old told new told
-
-abbrev pub StepsIn : Domain → Verb → LockName → Pc → Pc → Cpu → Cpu → Type 0
-StepsIn domain v n a b old new = (told : Option ℕ) → GoesIn domain v n a b old told new told
-
-abbrev pub PassesBy : Domain → Verb → LockName → Pc → Manner → Cpu → Cpu → Type 0
-PassesBy domain v n a manner old new = (told : Option ℕ) → PassesIn domain v n a manner old told new told

@@ -9,9 +9,9 @@ ghost use Rattle.lk_domain.specs.Calls.{slows};
 ghost use Rattle.lk_domain.specs.NodePlays.{IsFlagNode};
 ghost use Rattle.lk_domain.specs.Paths.{Any};
 ghost use Rattle.lk_domain.specs.Seats.{calls_of};
-ghost use Rattle.lk_domain.specs.Words.{IsNode};
-ghost use Rattle.lk_run.specs.Frames.{Owns, Follows, Fronts};
-ghost use Rattle.lk_run.specs.Words.{At, Steps, Looks, Takes, IsNext};
+ghost use Rattle.lk_run.specs.Nodes.{At, Steps, Looks, Takes, IsNodeOf, Owns, Follows, Fronts};
+ghost use Rattle.lk_run.specs.Words as call;
+ghost use Rattle.lk_run.specs.Words.{IsNext};
 
 use crate::call::{Call, Queued};
 use crate::words::{flag_met, word_met};
@@ -27,25 +27,12 @@ impl<'a> Queued<'a> {
     pub(crate) fn enter(&self, cpu: &mut Cpu)
         requires mode { moves_aside self.now.call.domain.now.plan.mode ≡ false }
         requires node { IsNext self.now.own cpu.old }
-        requires waits { At self.now.call G1 Any cpu.old }
-        ensures { Steps self.now.call G1 Any G2 (Owns self.now.own) cpu.old cpu.new }
+        requires waits { call.At self.now.call G1 Any cpu.old }
+        ensures { call.Steps self.now.call G1 Any G2 (Owns self.now) cpu.old cpu.new }
     {
-        steps::private_store(
-            cpu,
-            self.call.domain,
-            self.call.verb,
-            self.own,
-            Part::Flag,
-            0,
-        );
-        steps::private_store(
-            cpu,
-            self.call.domain,
-            self.call.verb,
-            self.own,
-            Part::Next,
-            0,
-        );
+        let call = self.call;
+        steps::private_store(cpu, call.domain, call.verb, self.own, Part::Flag, 0);
+        steps::private_store(cpu, call.domain, call.verb, self.own, Part::Next, 0);
     }
 
     // The row G1 where waiters are moved aside: the node names no last of a second queue either,
@@ -53,51 +40,22 @@ impl<'a> Queued<'a> {
     pub(crate) fn enter_whole(&self, cpu: &mut Cpu)
         requires mode { moves_aside self.now.call.domain.now.plan.mode ≡ true }
         requires node { IsNext self.now.own cpu.old }
-        requires waits { At self.now.call G1 Any cpu.old }
-        ensures { Steps self.now.call G1 Any G2 (Owns self.now.own) cpu.old cpu.new }
+        requires waits { call.At self.now.call G1 Any cpu.old }
+        ensures { call.Steps self.now.call G1 Any G2 (Owns self.now) cpu.old cpu.new }
     {
-        steps::private_store(
-            cpu,
-            self.call.domain,
-            self.call.verb,
-            self.own,
-            Part::Flag,
-            0,
-        );
-        steps::private_store(
-            cpu,
-            self.call.domain,
-            self.call.verb,
-            self.own,
-            Part::Next,
-            0,
-        );
-        steps::private_store(
-            cpu,
-            self.call.domain,
-            self.call.verb,
-            self.own,
-            Part::SecondTail,
-            0,
-        );
-        steps::private_store(
-            cpu,
-            self.call.domain,
-            self.call.verb,
-            self.own,
-            Part::Runs,
-            0,
-        );
+        let call = self.call;
+        steps::private_store(cpu, call.domain, call.verb, self.own, Part::Flag, 0);
+        steps::private_store(cpu, call.domain, call.verb, self.own, Part::Next, 0);
+        steps::private_store(cpu, call.domain, call.verb, self.own, Part::SecondTail, 0);
+        steps::private_store(cpu, call.domain, call.verb, self.own, Part::Runs, 0);
     }
 
     // The row G2: gives the word. The reset of the node took a while, and the lock may be free by
     // now. A look changes no word.
     pub(crate) fn look_again(&self, cpu: &mut Cpu) -> u64
-        requires { At self.now.call G2 (Owns self.now.own) cpu.old }
-        ensures free { result ≡ 0
-            → Steps self.now.call G2 (Owns self.now.own) G3 (Owns self.now.own) cpu.old cpu.new }
-        ensures held { result ≢ 0
-            → Steps self.now.call G2 (Owns self.now.own) G4 (Owns self.now.own) cpu.old cpu.new }
+        requires { At self.now G2 Owns cpu.old }
+        ensures free { result ≡ 0 → Steps self.now G2 Owns G3 Owns cpu.old cpu.new }
+        ensures held { result ≢ 0 → Steps self.now G2 Owns G4 Owns cpu.old cpu.new }
     {
         steps::look(cpu, self.call.domain, self.call.verb, self.call.lock)
     }
@@ -107,11 +65,9 @@ impl<'a> Queued<'a> {
     //   its node is free again; nobody has seen it.
     //   any other word stays.
     pub(crate) fn swap_again(&self, cpu: &mut Cpu) -> u64
-        requires { At self.now.call G3 (Owns self.now.own) cpu.old }
-        ensures taken { result ≡ 0
-            → Takes self.now.call G3 (Owns self.now.own) cpu.old cpu.new }
-        ensures held { result ≢ 0
-            → Steps self.now.call G3 (Owns self.now.own) G4 (Owns self.now.own) cpu.old cpu.new }
+        requires { At self.now G3 Owns cpu.old }
+        ensures taken { result ≡ 0 → Takes self.now G3 Owns cpu.old cpu.new }
+        ensures held { result ≢ 0 → Steps self.now G3 Owns G4 Owns cpu.old cpu.new }
     {
         steps::take_free(cpu, self.call.domain, self.call.verb, self.call.lock)
     }
@@ -128,26 +84,18 @@ impl<'a> Queued<'a> {
         rt: &R,
         expected: u64,
     ) -> Option<NodeName>
-        requires { At self.now.call G4 (Owns self.now.own) cpu.old }
-        ensures node { IfSome result (IsNode self.now.call.domain.now.plan) }
-        ensures first { result ≡ None
-            → Steps self.now.call G4 (Owns self.now.own) G7 (Fronts self.now.own None) cpu.old
-            cpu.new }
+        requires { At self.now G4 Owns cpu.old }
+        ensures node { IfSome result (IsNodeOf self.now) }
+        ensures first { result ≡ None → Steps self.now G4 Owns G7 (Fronts None) cpu.old cpu.new }
         ensures behind { IfSome result (λ prev.
-            Steps self.now.call G4 (Owns self.now.own) G5 (Follows self.now.own prev) cpu.old
+            Steps self.now G4 Owns G5 (Follows prev) cpu.old
             cpu.new) }
     {
         let call = self.call;
+        let own = self.own;
         let mut expected = expected;
         for _ in rt.forever() {
-            let met = steps::exchange_tail(
-                cpu,
-                call.domain,
-                call.verb,
-                call.lock,
-                expected,
-                self.own,
-            );
+            let met = steps::exchange_tail(cpu, call.domain, call.verb, call.lock, expected, own);
             if met == expected {
                 return word_met(call.domain, met).tail;
             }
@@ -160,10 +108,9 @@ impl<'a> Queued<'a> {
     // 0. Only the call whose exchange met prev as the tail stores into it, and prev waits for it
     // before it goes.
     pub(crate) fn link(&self, cpu: &mut Cpu, prev: NodeName)
-        requires prev { IsNode self.now.call.domain.now.plan prev }
-        requires waits { At self.now.call G5 (Follows self.now.own prev) cpu.old }
-        ensures { Steps self.now.call G5 (Follows self.now.own prev) G6 (Owns self.now.own) cpu.old
-            cpu.new }
+        requires prev { IsNodeOf self.now prev }
+        requires waits { At self.now G5 (Follows prev) cpu.old }
+        ensures { Steps self.now G5 (Follows prev) G6 Owns cpu.old cpu.new }
     {
         let inner = cpu.depth() > 1;
         steps::link(cpu, self.call.domain, self.call.verb, prev, self.own, inner);
@@ -173,13 +120,12 @@ impl<'a> Queued<'a> {
     // the front; it may name the first of a second queue. The call looks at its own node, so that
     // who waits does not disturb the others.
     pub(crate) fn wait(&self, cpu: &mut Cpu) -> Flag
-        requires { At self.now.call G6 (Owns self.now.own) cpu.old }
+        requires { At self.now G6 Owns cpu.old }
         ensures node { IsFlagNode self.now.call.domain.now.plan result }
         ensures leads { result ≢ Unset
-            → Steps self.now.call G6 (Owns self.now.own) G7 (Fronts self.now.own (node_in result))
+            → Steps self.now G6 Owns G7 (Fronts (node_in result))
             cpu.old cpu.new }
-        ensures waits { result ≡ Unset
-            → Looks self.now.call G6 (Owns self.now.own) cpu.old cpu.new }
+        ensures waits { result ≡ Unset → Looks self.now G6 Owns cpu.old cpu.new }
     {
         let met = steps::look_own(cpu, self.call.domain, self.call.verb, self.own, Part::Flag);
         flag_met(self.call.domain, met)
@@ -190,17 +136,17 @@ impl<'a> Call<'a> {
     // The row G1 of a call whose processor has all its nodes in use: it waits without one.
     pub(crate) fn enter_bare(&self, cpu: &mut Cpu)
         requires full { 4 ≤ slows (calls_of cpu.old).frames }
-        requires waits { At self.now G1 Any cpu.old }
-        ensures { Steps self.now G1 Any N1 Any cpu.old cpu.new }
+        requires waits { call.At self.now G1 Any cpu.old }
+        ensures { call.Steps self.now G1 Any N1 Any cpu.old cpu.new }
     {
         steps::enter_bare(cpu, self.domain, self.verb, self.lock);
     }
 
     // The row N1, without a node: true where the word was free. A look changes no word.
     pub(crate) fn look_bare(&self, cpu: &mut Cpu) -> bool
-        requires { At self.now N1 Any cpu.old }
-        ensures free { result ≡ true → Steps self.now N1 Any N2 Any cpu.old cpu.new }
-        ensures held { result ≡ false → Looks self.now N1 Any cpu.old cpu.new }
+        requires { call.At self.now N1 Any cpu.old }
+        ensures free { result ≡ true → call.Steps self.now N1 Any N2 Any cpu.old cpu.new }
+        ensures held { result ≡ false → call.Looks self.now N1 Any cpu.old cpu.new }
     {
         steps::look(cpu, self.domain, self.verb, self.lock) == 0
     }
@@ -209,9 +155,9 @@ impl<'a> Call<'a> {
     //   (0, 0, 0) -> (0, 0, 1): nobody holds the lock, pends or queues, so it is this call's.
     //   any other word stays.
     pub(crate) fn swap_bare(&self, cpu: &mut Cpu) -> bool
-        requires { At self.now N2 Any cpu.old }
-        ensures taken { result ≡ true → Takes self.now N2 Any cpu.old cpu.new }
-        ensures held { result ≡ false → Steps self.now N2 Any N1 Any cpu.old cpu.new }
+        requires { call.At self.now N2 Any cpu.old }
+        ensures taken { result ≡ true → call.Takes self.now N2 Any cpu.old cpu.new }
+        ensures held { result ≡ false → call.Steps self.now N2 Any N1 Any cpu.old cpu.new }
     {
         steps::take_free(cpu, self.domain, self.verb, self.lock) == 0
     }

@@ -1,7 +1,7 @@
-// What a call that queues has from its first row to its last. Its rows and its path are methods in
+// What a call that waits has from its first row to its last. Its rows and its path are methods in
 // the files beside this one. The processor, the runtime and what interrupts the call are handed to
 // each of them.
-ghost use Rattle.std.specs.Prelude.{◌<◌};
+ghost use Rattle.std.specs.Prelude.{◌≡◌, ◌<◌, false};
 ghost use Rattle.std.specs.Option.{ForSome};
 ghost use Rattle.lk_domain.specs.Plans.{locks_of};
 ghost use Rattle.lk_domain.specs.Words.{IsNode};
@@ -48,4 +48,22 @@ pub(crate) struct Skipped {
     pub(crate) first: NodeName,
     pub(crate) mark: bool,
     pub(crate) last: NodeName,
+}
+
+// A reader whose first row found no way in. The name is that of its lock.
+#[derive(Clone, Copy)]
+pub(crate) struct Reader<'a> {
+    pub(crate) domain: &'a Domain,
+    pub(crate) lock: LockName,
+    ghost declared: { lock.index < locks_of domain.now.plan },
+    ghost plain: { lock.wait ≡ false },
+}
+
+// A writer whose first row met somebody. The name is that of its lock.
+#[derive(Clone, Copy)]
+pub(crate) struct Writer<'a> {
+    pub(crate) domain: &'a Domain,
+    pub(crate) lock: LockName,
+    ghost declared: { lock.index < locks_of domain.now.plan },
+    ghost plain: { lock.wait ≡ false },
 }

@@ -1,5 +1,5 @@
-// The calls of readers, read from the top: `read_lock` goes on in `contend` where its first row
-// finds no way in. The comments show the word of a reader-writer lock as (readers, waiting,
+// The calls of readers, read from the top: `read_lock` goes on in `read_slowpath` where its first
+// row finds no way in. The comments show the word of a reader-writer lock as (readers, waiting,
 // writer), and name the row from which a function goes on.
 //
 //   R1 adds its bias ------------------------ met (r, 0, 0): it has come in
@@ -10,31 +10,36 @@
 //
 //   interrupted  R2 looks until (r, w, 0) --- it has come in
 //
-ghost use Rattle.std.specs.Prelude.{◌≡◌, ◌≢◌, ◌<◌, true, false, Some, length};
+ghost use Rattle.std.specs.Prelude.{◌≡◌, ◌≢◌, ◌<◌, true, false, Some, length, Option, ℕ};
 ghost use Rattle.lk_abs.specs.declared.holder.Manner.TheVariants.{Reads};
 ghost use Rattle.lk_abs.specs.declared.names.Kind.TheVariants.{Rw};
-ghost use Rattle.lk_machine.specs.declared.parts.Pc.TheVariants.{R2, R3, R5, Y2, Z1};
+ghost use Rattle.lk_machine.specs.declared.parts.Pc.TheVariants.{R2, R3, R4, R5, Y2, Y3, Z1};
 ghost use Rattle.lk_machine.specs.declared.setup.Verb.TheVariants.{Read, TryRead};
-ghost use Rattle.lk_domain.specs.Calls.{Calls, way_in};
+ghost use Rattle.lk_domain.specs.Calls.{Calls, lock_name, way_in};
 ghost use Rattle.lk_domain.specs.Paths.{Any};
 ghost use Rattle.lk_domain.specs.Plans.{locks_of, kind_at};
 ghost use Rattle.lk_domain.specs.Seats.{IsOf, KeepsRest, calls_of};
-ghost use Rattle.lk_domain.specs.Waits.{MayTake, WaitsAt, Gains, Misses};
+ghost use Rattle.lk_domain.specs.Waits.{MayTake, WaitsAt, Gains, Misses, Moves};
 ghost use Rattle.lk_run.specs.Entering.{Leaves};
-ghost use Rattle.lk_run.specs.Phases.{Start, Waits, WaitsIn, CameIn, Enters, PassesIn, biased};
-ghost use Rattle.lk_run.specs.Phases.{starting};
+ghost use Rattle.lk_run.specs.Phases.{Start, Waits, CameIn, biased, starting};
+ghost use Rattle.lk_run.specs.Reading.{outside, inside, Passed, Entered, Queues};
+ghost use Rattle.lk_run.specs.Waiters.{Waiting, Earns, At, Steps, Looks, Gets};
 
-use crate::call::Call;
+use crate::call::{Call, Reader};
 use crate::irq::{Irq, give_way};
-use crate::readers;
 use crossbeam_utils::Backoff;
 use lk_abs::LockName;
-use lk_domain::{Cpu, Domain, LockId};
+use lk_domain::{Cpu, Domain, LockId, steps};
 use lk_machine::Verb;
 use std::sync::Wait;
 
-/// Holds the lock as a reader when it returns, beside other readers. A call that has interrupted
-/// another goes past writers that wait. It polls `irq` and gives way as `lock` does.
+/// Acquires a reader-writer lock as a reader, and returns when the processor holds it, maybe
+/// beside other readers (`queued_read_lock`).
+///
+/// A call that finds no writer comes in by one atomic operation. Otherwise it queues for the wait
+/// lock, behind the readers and writers that came before. A call in an interrupt passes waiting
+/// writers, since one of them may wait for the call that was interrupted. It polls `irq`, waits
+/// and ends as `lock` does.
 #[inline]
 pub fn read_lock<I: Irq, R: Wait>(cpu: &mut Cpu, rt: &R, domain: &Domain, lock: LockId, irq: &mut I)
     requires domain { IsOf cpu.old domain.now }
@@ -49,106 +54,166 @@ pub fn read_lock<I: Irq, R: Wait>(cpu: &mut Cpu, rt: &R, domain: &Domain, lock: 
         index: lock.index,
         wait: false,
     };
-    if readers::first(cpu, domain, name) {
+    if first(cpu, domain, name) {
         return;
     }
-    contend(cpu, rt, domain, name, irq);
+    read_slowpath(cpu, rt, domain, lock, irq);
+}
+
+// The row R1: true where it has come in.
+//   (r, 0, 0) -> (r + 1, 0, 0): nobody waits and no writer is in, so it has come in.
+//   (r, w, x) -> (r + 1, w, x) else: its bias is in the word, and no writer comes in past it.
+#[inline]
+fn first(cpu: &mut Cpu, domain: &Domain, lock: LockName) -> bool
+    requires domain { IsOf cpu.old domain.now }
+    requires lock { lock.index < locks_of domain.now.plan }
+    requires kind { kind_at domain.now.plan lock.index ≡ Rw }
+    requires plain { lock.wait ≡ false }
+    requires may { MayTake lock.index (calls_of cpu.old) }
+    ensures rest { KeepsRest cpu.old cpu.new }
+    ensures entered { result ≡ true → (told : Option ℕ)
+        → CameIn domain.now Read lock.index Reads (starting cpu.old told) cpu.new told }
+    ensures waits { result ≡ false → (told : Option ℕ)
+        → Waits domain.now Read lock (biased (length (calls_of cpu.old).frames)) Any
+        (starting cpu.old told) cpu.new told }
+{
+    steps::join_first(cpu, domain, Verb::Read, lock) % 512 == 0
 }
 
 // From the place to which the first row led that found no way in: one that has interrupted another
 // call does not queue behind a writer that may wait for the call below it.
 #[inline(never)]
-fn contend<I: Irq, R: Wait>(cpu: &mut Cpu, rt: &R, domain: &Domain, lock: LockName, irq: &mut I)
+fn read_slowpath<I: Irq, R: Wait>(cpu: &mut Cpu, rt: &R, domain: &Domain, lock: LockId, irq: &mut I)
     requires domain { IsOf cpu.old domain.now }
     requires lock { lock.index < locks_of domain.now.plan }
-    requires plain { lock.wait ≡ false }
-    requires waits { (s : Start) × Waits domain.now Read lock (biased (length s.calls.frames)) Any
-        s cpu.old (I.polls irq.old) }
+    requires waits { (s : Start)
+        × Waits domain.now Read (lock_name lock.index) (biased (length s.calls.frames)) Any s
+        cpu.old (I.polls irq.old) }
     ensures rest { KeepsRest cpu.old cpu.new }
-    ensures entered { (s : Start) → Waits domain.now Read lock (biased (length s.calls.frames)) Any
-        s cpu.old (I.polls irq.old)
+    ensures entered { (s : Start)
+        → Waits domain.now Read (lock_name lock.index) (biased (length s.calls.frames)) Any s
+        cpu.old (I.polls irq.old)
         → CameIn domain.now Read lock.index Reads s cpu.new (I.polls irq.new) }
 {
-    let alone = cpu.depth() == 1;
-    if alone {
-        queue(cpu, rt, domain, lock, irq);
-    } else {
-        spin(cpu, rt, domain, lock, irq);
-    }
-}
-
-// From R3: it takes its bias back and queues.
-fn queue<I: Irq, R: Wait>(cpu: &mut Cpu, rt: &R, domain: &Domain, lock: LockName, irq: &mut I)
-    requires domain { IsOf cpu.old domain.now }
-    requires lock { lock.index < locks_of domain.now.plan }
-    requires plain { lock.wait ≡ false }
-    requires alone { length (calls_of cpu.old).frames ≡ 1 }
-    requires waits { (s : Start)
-        × Waits domain.now Read lock R3 Any s cpu.old (I.polls irq.old) }
-    ensures rest { KeepsRest cpu.old cpu.new }
-    ensures entered { Enters domain.now Read lock R3 Reads cpu.old (I.polls irq.old) cpu.new
-        (I.polls irq.new) }
-{
-    let queue = Call {
+    let reader = Reader {
         domain,
-        verb: Verb::Read,
         lock: LockName {
             index: lock.index,
-            wait: true,
+            wait: false,
         },
     };
-    readers::retreat(cpu, domain, lock);
-    queue.acquire(cpu, rt, irq);
-    readers::join(cpu, domain, lock);
-    wait(cpu, rt, domain, lock, irq);
-    queue.release(cpu);
-}
-
-// From R5, with the wait lock, until it has come in.
-fn wait<I: Irq, R: Wait>(cpu: &mut Cpu, rt: &R, domain: &Domain, lock: LockName, irq: &mut I)
-    requires domain { IsOf cpu.old domain.now }
-    requires lock { lock.index < locks_of domain.now.plan }
-    requires plain { lock.wait ≡ false }
-    requires alone { length (calls_of cpu.old).frames ≡ 1 }
-    requires waits { (s : Start)
-        × WaitsIn domain.now Read lock R5 s cpu.old (I.polls irq.old) }
-    ensures rest { KeepsRest cpu.old cpu.new }
-    ensures passed { PassesIn domain.now Read lock R5 Reads cpu.old (I.polls irq.old) cpu.new
-        (I.polls irq.new) }
-{
-    let backoff = Backoff::new();
-    for _ in rt.forever() {
-        if readers::wait(cpu, domain, lock) {
-            return;
-        }
-        give_way(cpu, rt, domain, irq, &backoff);
+    let alone = cpu.depth() == 1;
+    if alone {
+        reader.queue(cpu, rt, irq);
+    } else {
+        reader.spin(cpu, rt, irq);
     }
-    unreachable!()
 }
 
-// From R2 until it has come in.
-fn spin<I: Irq, R: Wait>(cpu: &mut Cpu, rt: &R, domain: &Domain, lock: LockName, irq: &mut I)
-    requires domain { IsOf cpu.old domain.now }
-    requires lock { lock.index < locks_of domain.now.plan }
-    requires plain { lock.wait ≡ false }
-    requires nested { length (calls_of cpu.old).frames ≢ 1 }
-    requires waits { (s : Start)
-        × Waits domain.now Read lock R2 Any s cpu.old (I.polls irq.old) }
-    ensures rest { KeepsRest cpu.old cpu.new }
-    ensures entered { Enters domain.now Read lock R2 Reads cpu.old (I.polls irq.old) cpu.new
-        (I.polls irq.new) }
-{
-    let backoff = Backoff::new();
-    for _ in rt.forever() {
-        if readers::spin(cpu, domain, lock) {
-            return;
-        }
-        give_way(cpu, rt, domain, irq, &backoff);
+impl<'a> Reader<'a> {
+    // From R3: it takes its bias back and queues.
+    fn queue<I: Irq, R: Wait>(&self, cpu: &mut Cpu, rt: &R, irq: &mut I)
+        requires alone { length (calls_of cpu.old).frames ≡ 1 }
+        requires waits { Waiting (outside self.now) R3 cpu.old (I.polls irq.old) }
+        ensures { Earns (outside self.now) R3 (Entered self.now) cpu.old (I.polls irq.old) cpu.new
+            (I.polls irq.new) }
+    {
+        let queue = Call {
+            domain: self.domain,
+            verb: Verb::Read,
+            lock: LockName {
+                index: self.lock.index,
+                wait: true,
+            },
+        };
+        self.retreat(cpu);
+        queue.acquire(cpu, rt, irq);
+        self.join(cpu);
+        self.wait(cpu, rt, irq);
+        queue.release(cpu);
     }
-    unreachable!()
+
+    // From R5, with the wait lock, until it has come in.
+    fn wait<I: Irq, R: Wait>(&self, cpu: &mut Cpu, rt: &R, irq: &mut I)
+        requires alone { length (calls_of cpu.old).frames ≡ 1 }
+        requires waits { Waiting (inside self.now) R5 cpu.old (I.polls irq.old) }
+        ensures { Earns (inside self.now) R5 (Passed self.now) cpu.old (I.polls irq.old) cpu.new
+            (I.polls irq.new) }
+    {
+        let backoff = Backoff::new();
+        for _ in rt.forever() {
+            if self.watch(cpu) {
+                return;
+            }
+            give_way(cpu, rt, self.domain, irq, &backoff);
+        }
+        unreachable!()
+    }
+
+    // From R2 until it has come in.
+    fn spin<I: Irq, R: Wait>(&self, cpu: &mut Cpu, rt: &R, irq: &mut I)
+        requires nested { length (calls_of cpu.old).frames ≢ 1 }
+        requires waits { Waiting (outside self.now) R2 cpu.old (I.polls irq.old) }
+        ensures { Earns (outside self.now) R2 (Entered self.now) cpu.old (I.polls irq.old) cpu.new
+            (I.polls irq.new) }
+    {
+        let backoff = Backoff::new();
+        for _ in rt.forever() {
+            if self.look_past(cpu) {
+                return;
+            }
+            give_way(cpu, rt, self.domain, irq, &backoff);
+        }
+        unreachable!()
+    }
+
+    // The row R2, of a reader that has interrupted another call: true where no writer was in,
+    // (r, w, 0), so that it has come in, past those that wait: one of them may wait for the call
+    // below it. A look changes no word.
+    fn look_past(&self, cpu: &mut Cpu) -> bool
+        requires nested { length (calls_of cpu.old).frames ≢ 1 }
+        requires waits { At (outside self.now) R2 cpu.old }
+        ensures entered { result ≡ true
+            → Gets (outside self.now) R2 (Entered self.now) cpu.old cpu.new }
+        ensures held { result ≡ false → Looks (outside self.now) R2 cpu.old cpu.new }
+    {
+        steps::look(cpu, self.domain, Verb::Read, self.lock) % 256 == 0
+    }
+
+    // The row R3: (r, w, x) -> (r - 1, w, x). It takes its bias back, so that a writer that waits
+    // may come in, and goes to take the wait lock.
+    fn retreat(&self, cpu: &mut Cpu)
+        requires { At (outside self.now) R3 cpu.old }
+        ensures { Gets (outside self.now) R3 (Queues self.now) cpu.old cpu.new }
+    {
+        steps::subtract_bias(cpu, self.domain, Verb::Read, self.lock);
+    }
+
+    // The row R4: (r, w, x) -> (r + 1, w, x), now as the one that has the wait lock.
+    fn join(&self, cpu: &mut Cpu)
+        requires { At (inside self.now) R4 cpu.old }
+        ensures { Steps (inside self.now) R4 R5 cpu.old cpu.new }
+    {
+        steps::add_bias(cpu, self.domain, Verb::Read, self.lock);
+    }
+
+    // The row R5: true where no writer was in, (r, w, 0), so that it has come in. No other writer
+    // comes in past its bias. A look changes no word.
+    fn watch(&self, cpu: &mut Cpu) -> bool
+        requires alone { length (calls_of cpu.old).frames ≡ 1 }
+        requires waits { At (inside self.now) R5 cpu.old }
+        ensures passed { result ≡ true
+            → Gets (inside self.now) R5 (Passed self.now) cpu.old cpu.new }
+        ensures held { result ≡ false → Looks (inside self.now) R5 cpu.old cpu.new }
+    {
+        steps::look(cpu, self.domain, Verb::Read, self.lock) % 256 == 0
+    }
 }
 
-/// Takes the lock as a reader where nobody waits and no writer is in, and says whether it did.
+/// Tries to acquire a reader-writer lock as a reader, by three atomic operations at most, and
+/// returns whether it did (`queued_read_trylock`).
+///
+/// It never waits. It fails if a writer holds the lock, or waits for the readers to leave.
 pub fn try_read(cpu: &mut Cpu, domain: &Domain, lock: LockId) -> bool
     requires domain { IsOf cpu.old domain.now }
     requires lock { lock.index < locks_of domain.now.plan }
@@ -164,7 +229,7 @@ pub fn try_read(cpu: &mut Cpu, domain: &Domain, lock: LockId) -> bool
         index: lock.index,
         wait: false,
     };
-    readers::try_look(cpu, domain, name) && try_enter(cpu, domain, name)
+    try_look(cpu, domain, name) && try_enter(cpu, domain, name)
 }
 
 // From Y2: it saw that a reader may come in.
@@ -181,14 +246,63 @@ fn try_enter(cpu: &mut Cpu, domain: &Domain, lock: LockName) -> bool
         → WaitsAt domain.now TryRead lock.index Y2 old cpu.old
         → Misses domain.now TryRead lock.index old cpu.old cpu.new }
 {
-    if readers::try_add(cpu, domain, lock) {
+    if try_add(cpu, domain, lock) {
         return true;
     }
-    readers::try_fail(cpu, domain, lock);
+    try_fail(cpu, domain, lock);
     false
 }
 
-/// Frees a lock that the processor holds as a reader, in one step: (r, w, x) -> (r - 1, w, x).
+// The row Y1: true where a reader may come in, (r, 0, 0). A look changes no word.
+fn try_look(cpu: &mut Cpu, domain: &Domain, lock: LockName) -> bool
+    requires domain { IsOf cpu.old domain.now }
+    requires lock { lock.index < locks_of domain.now.plan }
+    requires kind { kind_at domain.now.plan lock.index ≡ Rw }
+    requires plain { lock.wait ≡ false }
+    requires may { MayTake lock.index (calls_of cpu.old) }
+    ensures rest { KeepsRest cpu.old cpu.new }
+    ensures open { result ≡ true
+        → Moves domain.now TryRead lock.index Y2 (calls_of cpu.old) cpu.old cpu.new }
+    ensures missed { result ≡ false
+        → Misses domain.now TryRead lock.index (calls_of cpu.old) cpu.old cpu.new }
+{
+    steps::look(cpu, domain, Verb::TryRead, lock) % 512 == 0
+}
+
+// The row Y2: true where it has come in.
+//   (r, 0, 0) -> (r + 1, 0, 0): nobody waits and no writer is in, so it has come in.
+//   (r, w, x) -> (r + 1, w, x) else: its bias goes back.
+fn try_add(cpu: &mut Cpu, domain: &Domain, lock: LockName) -> bool
+    requires domain { IsOf cpu.old domain.now }
+    requires lock { lock.index < locks_of domain.now.plan }
+    requires plain { lock.wait ≡ false }
+    requires waits { (old : Calls) × WaitsAt domain.now TryRead lock.index Y2 old cpu.old }
+    ensures rest { KeepsRest cpu.old cpu.new }
+    ensures taken { result ≡ true → (old : Calls)
+        → WaitsAt domain.now TryRead lock.index Y2 old cpu.old
+        → Gains domain.now TryRead lock.index Reads old cpu.old cpu.new }
+    ensures closed { result ≡ false → (old : Calls)
+        → WaitsAt domain.now TryRead lock.index Y2 old cpu.old
+        → Moves domain.now TryRead lock.index Y3 old cpu.old cpu.new }
+{
+    steps::add_bias(cpu, domain, Verb::TryRead, lock) % 512 == 0
+}
+
+// The row Y3: (r, w, x) -> (r - 1, w, x). It takes its bias back: the try has failed.
+fn try_fail(cpu: &mut Cpu, domain: &Domain, lock: LockName)
+    requires domain { IsOf cpu.old domain.now }
+    requires lock { lock.index < locks_of domain.now.plan }
+    requires plain { lock.wait ≡ false }
+    requires waits { (old : Calls) × WaitsAt domain.now TryRead lock.index Y3 old cpu.old }
+    ensures rest { KeepsRest cpu.old cpu.new }
+    ensures missed { (old : Calls) → WaitsAt domain.now TryRead lock.index Y3 old cpu.old
+        → Misses domain.now TryRead lock.index old cpu.old cpu.new }
+{
+    steps::subtract_bias(cpu, domain, Verb::TryRead, lock);
+}
+
+/// Releases a lock that the processor holds as a reader, by one atomic operation, the row Z1:
+/// (r, w, x) -> (r - 1, w, x) (`queued_read_unlock`).
 pub fn read_unlock(cpu: &mut Cpu, domain: &Domain, lock: LockId)
     requires domain { IsOf cpu.old domain.now }
     requires lock { lock.index < locks_of domain.now.plan }
@@ -202,5 +316,5 @@ pub fn read_unlock(cpu: &mut Cpu, domain: &Domain, lock: LockId)
         index: lock.index,
         wait: false,
     };
-    readers::release(cpu, domain, name);
+    steps::subtract_bias(cpu, domain, Verb::RUnlock, name);
 }

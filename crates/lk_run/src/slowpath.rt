@@ -27,9 +27,8 @@ ghost use Rattle.lk_machine.specs.declared.parts.Pc.TheVariants.{V1, P0, P1, P2,
 ghost use Rattle.lk_machine.specs.declared.parts.Pc.TheVariants.{G2, G3, G4, G5, G6, G7, G8, G9};
 ghost use Rattle.lk_machine.specs.declared.parts.Pc.TheVariants.{G10};
 ghost use Rattle.lk_domain.specs.Paths.{Any};
-ghost use Rattle.lk_domain.specs.Words.{IsNode};
-ghost use Rattle.lk_run.specs.Frames.{Owns, Follows, Fronts};
 ghost use Rattle.lk_run.specs.Heads as head;
+ghost use Rattle.lk_run.specs.Nodes as node;
 ghost use Rattle.lk_run.specs.Words.{At, Steps, Waiting, Wins, Arriving, Won, IsNext};
 
 use crate::call::{Call, Front, Queued};
@@ -181,7 +180,7 @@ impl<'a> Queued<'a> {
     fn prepare(&self, cpu: &mut Cpu)
         requires node { IsNext self.now.own cpu.old }
         requires waits { At self.now.call G1 Any cpu.old }
-        ensures { Steps self.now.call G1 Any G2 (Owns self.now.own) cpu.old cpu.new }
+        ensures { Steps self.now.call G1 Any G2 (node.Owns self.now) cpu.old cpu.new }
     {
         if moves_waiters(self.call.domain.mode()) {
             self.enter_whole(cpu);
@@ -192,8 +191,8 @@ impl<'a> Queued<'a> {
 
     // From G3: it saw the word free.
     fn retry<I: Irq, R: Wait>(&self, cpu: &mut Cpu, rt: &R, irq: &mut I)
-        requires { Waiting self.now.call G3 (Owns self.now.own) cpu.old (I.polls irq.old) }
-        ensures { Wins self.now.call G3 (Owns self.now.own) cpu.old (I.polls irq.old) cpu.new
+        requires { node.Waiting self.now G3 node.Owns cpu.old (I.polls irq.old) }
+        ensures { node.Wins self.now G3 node.Owns cpu.old (I.polls irq.old) cpu.new
             (I.polls irq.new) }
     {
         let met = self.swap_again(cpu);
@@ -205,8 +204,8 @@ impl<'a> Queued<'a> {
 
     // From G4: it joins the queue. The word is the one that it met last.
     fn queue<I: Irq, R: Wait>(&self, cpu: &mut Cpu, rt: &R, irq: &mut I, met: u64)
-        requires { Waiting self.now.call G4 (Owns self.now.own) cpu.old (I.polls irq.old) }
-        ensures { Wins self.now.call G4 (Owns self.now.own) cpu.old (I.polls irq.old) cpu.new
+        requires { node.Waiting self.now G4 node.Owns cpu.old (I.polls irq.old) }
+        ensures { node.Wins self.now G4 node.Owns cpu.old (I.polls irq.old) cpu.new
             (I.polls irq.new) }
     {
         match self.exchange_tail(cpu, rt, met) {
@@ -217,10 +216,9 @@ impl<'a> Queued<'a> {
 
     // From G5: it comes behind another.
     fn follow<I: Irq, R: Wait>(&self, cpu: &mut Cpu, rt: &R, irq: &mut I, prev: NodeName)
-        requires prev { IsNode self.now.call.domain.now.plan prev }
-        requires waits { Waiting self.now.call G5 (Follows self.now.own prev) cpu.old
-            (I.polls irq.old) }
-        ensures { Wins self.now.call G5 (Follows self.now.own prev) cpu.old (I.polls irq.old)
+        requires prev { node.IsNodeOf self.now prev }
+        requires waits { node.Waiting self.now G5 (node.Follows prev) cpu.old (I.polls irq.old) }
+        ensures { node.Wins self.now G5 (node.Follows prev) cpu.old (I.polls irq.old)
             cpu.new (I.polls irq.new) }
     {
         self.link(cpu, prev);
@@ -229,8 +227,8 @@ impl<'a> Queued<'a> {
 
     // From G6, until the one before has handed the lead on.
     fn wait_turn<I: Irq, R: Wait>(&self, cpu: &mut Cpu, rt: &R, irq: &mut I)
-        requires { Waiting self.now.call G6 (Owns self.now.own) cpu.old (I.polls irq.old) }
-        ensures { Wins self.now.call G6 (Owns self.now.own) cpu.old (I.polls irq.old) cpu.new
+        requires { node.Waiting self.now G6 node.Owns cpu.old (I.polls irq.old) }
+        ensures { node.Wins self.now G6 node.Owns cpu.old (I.polls irq.old) cpu.new
             (I.polls irq.new) }
     {
         let backoff = Backoff::new();
@@ -246,10 +244,9 @@ impl<'a> Queued<'a> {
 
     // From G7: it is the front, and this is the first of the second queue, if there is one.
     fn lead<I: Irq, R: Wait>(&self, cpu: &mut Cpu, rt: &R, irq: &mut I, second: Option<NodeName>)
-        requires second { IfSome second (IsNode self.now.call.domain.now.plan) }
-        requires waits { Waiting self.now.call G7 (Fronts self.now.own second) cpu.old
-            (I.polls irq.old) }
-        ensures { Wins self.now.call G7 (Fronts self.now.own second) cpu.old (I.polls irq.old)
+        requires second { IfSome second (node.IsNodeOf self.now) }
+        requires waits { node.Waiting self.now G7 (node.Fronts second) cpu.old (I.polls irq.old) }
+        ensures { node.Wins self.now G7 (node.Fronts second) cpu.old (I.polls irq.old)
             cpu.new (I.polls irq.new) }
     {
         let front = Front {

@@ -131,8 +131,7 @@ pub(crate) fn flag_for(second: Option<NodeName>) -> Flag
 #[inline]
 pub(crate) fn tail_met(domain: &Domain, met: u64) -> NodeName
     requires tail { (node : Node) × IsNode domain.now.plan node × (met ≡ name_number node) }
-    ensures { (node : Node) → IsNode domain.now.plan node → met ≡ name_number node
-        → result ≡ node }
+    ensures { (node : Node) → IsNode domain.now.plan node → met ≡ name_number node → result ≡ node }
 {
     NodeName {
         cpu: ((met - 2) / 4) as u32,

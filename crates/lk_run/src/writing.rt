@@ -1,6 +1,6 @@
-// The calls of writers, read from the top: `write_lock` goes on in `contend` where its first row met
-// somebody. The comments show the word of a reader-writer lock as (readers, waiting, writer), and
-// name the row from which a function goes on.
+// The calls of writers, read from the top: `write_lock` goes on in `write_slowpath` where its first
+// row met somebody. The comments show the word of a reader-writer lock as (readers, waiting,
+// writer), and name the row from which a function goes on.
 //
 //   Wr1 takes (0, 0, 0) --------------------- it has the lock
 //
@@ -10,31 +10,37 @@
 //                    Wr5 looks until (0, 1, 0)
 //                    Wr6 takes it ----------- it has the lock, U1 frees the wait lock
 //
-ghost use Rattle.std.specs.Prelude.{◌≡◌, ◌<◌, true, false, None, Some, length};
+ghost use Rattle.std.specs.Prelude.{◌≡◌, ◌<◌, true, false, None, Some, length, Option, ℕ};
 ghost use Rattle.lk_abs.specs.declared.holder.Manner.TheVariants.{Writes};
 ghost use Rattle.lk_abs.specs.declared.names.Kind.TheVariants.{Rw};
 ghost use Rattle.lk_machine.specs.Moves.{wait_name};
-ghost use Rattle.lk_machine.specs.declared.parts.Pc.TheVariants.{F1, Wr2, Wr3, Wr4, Wr5, Z2};
+ghost use Rattle.lk_machine.specs.declared.parts.Pc.TheVariants.{F1, Wr2, Wr3, Wr4, Wr5, Wr6, Y5, Z2};
 ghost use Rattle.lk_machine.specs.declared.setup.Verb.TheVariants.{Write, TryWrite};
-ghost use Rattle.lk_domain.specs.Calls.{lock_name, way_in};
+ghost use Rattle.lk_domain.specs.Calls.{lock_name, way_in, Calls};
 ghost use Rattle.lk_domain.specs.Ledgers.{is_first};
 ghost use Rattle.lk_domain.specs.Paths.{Any};
 ghost use Rattle.lk_domain.specs.Plans.{locks_of, kind_at};
 ghost use Rattle.lk_domain.specs.Seats.{IsOf, KeepsRest, calls_of, ledger_of};
-ghost use Rattle.lk_domain.specs.Waits.{MayTake, Gains, Misses};
+ghost use Rattle.lk_domain.specs.Waits.{MayTake, Gains, Misses, WaitsAt, Moves};
 ghost use Rattle.lk_run.specs.Entering.{Leaves};
-ghost use Rattle.lk_run.specs.Phases.{Start, Waits, WaitsIn, CameIn, PassesIn, starting};
+ghost use Rattle.lk_run.specs.Phases.{Start, Waits, CameIn, starting};
+ghost use Rattle.lk_run.specs.Waiters.{At, Waiting, Steps, Gets, Earns, Looks};
+ghost use Rattle.lk_run.specs.Writing.{inside, Passed};
 
-use crate::call::Call;
+use crate::call::{Call, Writer};
 use crate::irq::{Irq, give_way};
-use crate::writers;
 use crossbeam_utils::Backoff;
 use lk_abs::LockName;
-use lk_domain::{Cpu, Domain, LockId};
+use lk_domain::{Cpu, Domain, LockId, steps};
 use lk_machine::Verb;
 use std::sync::Wait;
 
-/// Holds the lock as its writer when it returns. It polls `irq` and gives way as `lock` does.
+/// Acquires a reader-writer lock as its writer, and returns when the processor holds it, alone
+/// (`queued_write_lock`).
+///
+/// A call that finds nobody takes the lock by one atomic operation. Otherwise it queues for the
+/// wait lock, and then keeps new readers out until those inside have left, but for readers in an
+/// interrupt. It polls `irq`, waits and ends as `lock` does.
 #[inline]
 pub fn write_lock<I: Irq, R: Wait>(
     cpu: &mut Cpu,
@@ -55,18 +61,43 @@ pub fn write_lock<I: Irq, R: Wait>(
         index: lock.index,
         wait: false,
     };
-    if writers::first(cpu, domain, name) {
+    if first(cpu, domain, name) {
         return;
     }
-    contend(cpu, rt, domain, name, irq);
+    write_slowpath(cpu, rt, domain, lock, irq);
+}
+
+// The row Wr1: true where it has the lock.
+//   (0, 0, 0) -> (0, 0, 1): no reader's bias is in the word, nobody waits and no writer is in.
+//   any other word stays, and it goes to take the wait lock.
+#[inline]
+fn first(cpu: &mut Cpu, domain: &Domain, lock: LockName) -> bool
+    requires domain { IsOf cpu.old domain.now }
+    requires lock { lock.index < locks_of domain.now.plan }
+    requires kind { kind_at domain.now.plan lock.index ≡ Rw }
+    requires plain { lock.wait ≡ false }
+    requires may { MayTake lock.index (calls_of cpu.old) }
+    ensures rest { KeepsRest cpu.old cpu.new }
+    ensures entered { result ≡ true → (told : Option ℕ)
+        → CameIn domain.now Write lock.index Writes (starting cpu.old told) cpu.new told }
+    ensures out { result ≡ false → (told : Option ℕ)
+        → Waits domain.now Write (wait_name lock.index) F1 Any (starting cpu.old told) cpu.new
+        told }
+{
+    steps::seize_first(cpu, domain, Verb::Write, lock) == 0
 }
 
 // From F1: the first row met a word that was not (0, 0, 0).
 #[inline(never)]
-fn contend<I: Irq, R: Wait>(cpu: &mut Cpu, rt: &R, domain: &Domain, lock: LockName, irq: &mut I)
+fn write_slowpath<I: Irq, R: Wait>(
+    cpu: &mut Cpu,
+    rt: &R,
+    domain: &Domain,
+    lock: LockId,
+    irq: &mut I,
+)
     requires domain { IsOf cpu.old domain.now }
     requires lock { lock.index < locks_of domain.now.plan }
-    requires plain { lock.wait ≡ false }
     requires waits { (s : Start)
         × Waits domain.now Write (wait_name lock.index) F1 Any s cpu.old (I.polls irq.old) }
     ensures rest { KeepsRest cpu.old cpu.new }
@@ -82,86 +113,123 @@ fn contend<I: Irq, R: Wait>(cpu: &mut Cpu, rt: &R, domain: &Domain, lock: LockNa
             wait: true,
         },
     };
+    let writer = Writer {
+        domain,
+        lock: LockName {
+            index: lock.index,
+            wait: false,
+        },
+    };
     queue.acquire(cpu, rt, irq);
-    look(cpu, rt, domain, lock, irq);
+    writer.enter(cpu, rt, irq);
     queue.release(cpu);
 }
 
-// From Wr2: it has the wait lock.
-fn look<I: Irq, R: Wait>(cpu: &mut Cpu, rt: &R, domain: &Domain, lock: LockName, irq: &mut I)
-    requires domain { IsOf cpu.old domain.now }
-    requires lock { lock.index < locks_of domain.now.plan }
-    requires plain { lock.wait ≡ false }
-    requires waits { (s : Start)
-        × WaitsIn domain.now Write lock Wr2 s cpu.old (I.polls irq.old) }
-    ensures rest { KeepsRest cpu.old cpu.new }
-    ensures passed { PassesIn domain.now Write lock Wr2 Writes cpu.old (I.polls irq.old) cpu.new
-        (I.polls irq.new) }
-{
-    if writers::look(cpu, domain, lock) {
-        swap(cpu, rt, domain, lock, irq);
-    } else {
-        announce(cpu, rt, domain, lock, irq);
-    }
-}
-
-// From Wr3: it saw that nobody was there.
-fn swap<I: Irq, R: Wait>(cpu: &mut Cpu, rt: &R, domain: &Domain, lock: LockName, irq: &mut I)
-    requires domain { IsOf cpu.old domain.now }
-    requires lock { lock.index < locks_of domain.now.plan }
-    requires plain { lock.wait ≡ false }
-    requires waits { (s : Start)
-        × WaitsIn domain.now Write lock Wr3 s cpu.old (I.polls irq.old) }
-    ensures rest { KeepsRest cpu.old cpu.new }
-    ensures passed { PassesIn domain.now Write lock Wr3 Writes cpu.old (I.polls irq.old) cpu.new
-        (I.polls irq.new) }
-{
-    if writers::swap(cpu, domain, lock) {
-        return;
-    }
-    announce(cpu, rt, domain, lock, irq);
-}
-
-// From Wr4: somebody is there.
-fn announce<I: Irq, R: Wait>(cpu: &mut Cpu, rt: &R, domain: &Domain, lock: LockName, irq: &mut I)
-    requires domain { IsOf cpu.old domain.now }
-    requires lock { lock.index < locks_of domain.now.plan }
-    requires plain { lock.wait ≡ false }
-    requires waits { (s : Start)
-        × WaitsIn domain.now Write lock Wr4 s cpu.old (I.polls irq.old) }
-    ensures rest { KeepsRest cpu.old cpu.new }
-    ensures passed { PassesIn domain.now Write lock Wr4 Writes cpu.old (I.polls irq.old) cpu.new
-        (I.polls irq.new) }
-{
-    writers::announce(cpu, domain, lock);
-    wait(cpu, rt, domain, lock, irq);
-}
-
-// From Wr5, with the wait lock, until it has the lock.
-fn wait<I: Irq, R: Wait>(cpu: &mut Cpu, rt: &R, domain: &Domain, lock: LockName, irq: &mut I)
-    requires domain { IsOf cpu.old domain.now }
-    requires lock { lock.index < locks_of domain.now.plan }
-    requires plain { lock.wait ≡ false }
-    requires waits { (s : Start)
-        × WaitsIn domain.now Write lock Wr5 s cpu.old (I.polls irq.old) }
-    ensures rest { KeepsRest cpu.old cpu.new }
-    ensures passed { PassesIn domain.now Write lock Wr5 Writes cpu.old (I.polls irq.old) cpu.new
-        (I.polls irq.new) }
-{
-    let backoff = Backoff::new();
-    for _ in rt.forever() {
-        if writers::wait(cpu, domain, lock) {
-            if writers::claim(cpu, domain, lock) {
-                return;
-            }
-        } else {
-            give_way(cpu, rt, domain, irq, &backoff);
+impl<'a> Writer<'a> {
+    // From Wr2: it has the wait lock.
+    fn enter<I: Irq, R: Wait>(&self, cpu: &mut Cpu, rt: &R, irq: &mut I)
+        requires { Waiting (inside self.now) Wr2 cpu.old (I.polls irq.old) }
+        ensures { Earns (inside self.now) Wr2 (Passed self.now) cpu.old (I.polls irq.old) cpu.new
+            (I.polls irq.new) }
+    {
+        if self.seize(cpu) {
+            return;
         }
+        self.announce(cpu);
+        self.wait(cpu, rt, irq);
     }
-    unreachable!()
+
+    // From Wr2: true where it has the lock, since nobody was there.
+    fn seize(&self, cpu: &mut Cpu) -> bool
+        requires { At (inside self.now) Wr2 cpu.old }
+        ensures passed { result ≡ true
+            → Gets (inside self.now) Wr2 (Passed self.now) cpu.old cpu.new }
+        ensures others { result ≡ false → Steps (inside self.now) Wr2 Wr4 cpu.old cpu.new }
+    {
+        if self.look(cpu) {
+            return self.swap(cpu);
+        }
+        false
+    }
+
+    // From Wr5, with the wait lock, until it has the lock.
+    fn wait<I: Irq, R: Wait>(&self, cpu: &mut Cpu, rt: &R, irq: &mut I)
+        requires { Waiting (inside self.now) Wr5 cpu.old (I.polls irq.old) }
+        ensures { Earns (inside self.now) Wr5 (Passed self.now) cpu.old (I.polls irq.old) cpu.new
+            (I.polls irq.new) }
+    {
+        let backoff = Backoff::new();
+        for _ in rt.forever() {
+            if self.watch(cpu) {
+                if self.claim(cpu) {
+                    return;
+                }
+            } else {
+                give_way(cpu, rt, self.domain, irq, &backoff);
+            }
+        }
+        unreachable!()
+    }
+
+    // The row Wr2, with the wait lock: true where the word was (0, 0, 0). A look changes no word.
+    fn look(&self, cpu: &mut Cpu) -> bool
+        requires { At (inside self.now) Wr2 cpu.old }
+        ensures empty { result ≡ true → Steps (inside self.now) Wr2 Wr3 cpu.old cpu.new }
+        ensures others { result ≡ false → Steps (inside self.now) Wr2 Wr4 cpu.old cpu.new }
+    {
+        steps::look(cpu, self.domain, Verb::Write, self.lock) == 0
+    }
+
+    // The row Wr3: true where it has the lock.
+    //   (0, 0, 0) -> (0, 0, 1): still nobody is there.
+    //   any other word stays: a reader has come meanwhile.
+    fn swap(&self, cpu: &mut Cpu) -> bool
+        requires { At (inside self.now) Wr3 cpu.old }
+        ensures passed { result ≡ true
+            → Gets (inside self.now) Wr3 (Passed self.now) cpu.old cpu.new }
+        ensures others { result ≡ false → Steps (inside self.now) Wr3 Wr4 cpu.old cpu.new }
+    {
+        steps::empty_to_writer(cpu, self.domain, Verb::Write, self.lock) == 0
+    }
+
+    // The row Wr4: (r, 0, x) -> (r, 1, x). From here on no new reader comes in but those that have
+    // interrupted another call.
+    fn announce(&self, cpu: &mut Cpu)
+        requires { At (inside self.now) Wr4 cpu.old }
+        ensures { Steps (inside self.now) Wr4 Wr5 cpu.old cpu.new }
+    {
+        steps::set_waiting(cpu, self.domain, Verb::Write, self.lock);
+    }
+
+    // The row Wr5: true where the word was (0, 1, 0): no reader's bias is in it, of those that hold
+    // the lock or of those that wait, and no writer. A look changes no word.
+    fn watch(&self, cpu: &mut Cpu) -> bool
+        requires { At (inside self.now) Wr5 cpu.old }
+        ensures cleared { result ≡ true → Steps (inside self.now) Wr5 Wr6 cpu.old cpu.new }
+        ensures held { result ≡ false → Looks (inside self.now) Wr5 cpu.old cpu.new }
+    {
+        steps::look(cpu, self.domain, Verb::Write, self.lock) == 256
+    }
+
+    // The row Wr6: true where it has the lock.
+    //   (0, 1, 0) -> (0, 0, 1): still no bias is in the word, and the waiting bit is its own, since
+    //   it has the wait lock.
+    //   any other word stays: a reader's bias has come meanwhile.
+    fn claim(&self, cpu: &mut Cpu) -> bool
+        requires { At (inside self.now) Wr6 cpu.old }
+        ensures passed { result ≡ true
+            → Gets (inside self.now) Wr6 (Passed self.now) cpu.old cpu.new }
+        ensures biased { result ≡ false → Steps (inside self.now) Wr6 Wr5 cpu.old cpu.new }
+    {
+        steps::waiting_to_writer(cpu, self.domain, Verb::Write, self.lock) == 256
+    }
 }
 
-/// Takes the lock as its writer where nobody holds it or waits for it, and says whether it did.
+/// Tries to acquire a reader-writer lock as its writer, by two atomic operations at most, and
+/// returns whether it did (`queued_write_trylock`).
+///
+/// It never waits. It fails unless the word is (0, 0, 0): nobody holds the lock, no reader has
+/// added itself, and no writer waits for the readers to leave.
 pub fn try_write(cpu: &mut Cpu, domain: &Domain, lock: LockId) -> bool
     requires domain { IsOf cpu.old domain.now }
     requires lock { lock.index < locks_of domain.now.plan }
@@ -177,11 +245,49 @@ pub fn try_write(cpu: &mut Cpu, domain: &Domain, lock: LockId) -> bool
         index: lock.index,
         wait: false,
     };
-    writers::try_look(cpu, domain, name) && writers::try_swap(cpu, domain, name)
+    try_look(cpu, domain, name) && try_swap(cpu, domain, name)
 }
 
-/// Frees a lock that the processor holds as its writer, in one step: (r, w, 1) -> (r, w, 0). Biases
-/// of readers that wait stay.
+// The row Y4: true where the word was (0, 0, 0). A look changes no word.
+fn try_look(cpu: &mut Cpu, domain: &Domain, lock: LockName) -> bool
+    requires domain { IsOf cpu.old domain.now }
+    requires lock { lock.index < locks_of domain.now.plan }
+    requires kind { kind_at domain.now.plan lock.index ≡ Rw }
+    requires plain { lock.wait ≡ false }
+    requires may { MayTake lock.index (calls_of cpu.old) }
+    ensures rest { KeepsRest cpu.old cpu.new }
+    ensures empty { result ≡ true
+        → Moves domain.now TryWrite lock.index Y5 (calls_of cpu.old) cpu.old cpu.new }
+    ensures missed { result ≡ false
+        → Misses domain.now TryWrite lock.index (calls_of cpu.old) cpu.old cpu.new }
+{
+    steps::look(cpu, domain, Verb::TryWrite, lock) == 0
+}
+
+// The row Y5: true where it has the lock.
+//   (0, 0, 0) -> (0, 0, 1): still nobody is there.
+//   any other word stays: some other call was faster.
+fn try_swap(cpu: &mut Cpu, domain: &Domain, lock: LockName) -> bool
+    requires domain { IsOf cpu.old domain.now }
+    requires lock { lock.index < locks_of domain.now.plan }
+    requires plain { lock.wait ≡ false }
+    requires waits { (old : Calls) × WaitsAt domain.now TryWrite lock.index Y5 old cpu.old }
+    ensures rest { KeepsRest cpu.old cpu.new }
+    ensures taken { result ≡ true → (old : Calls)
+        → WaitsAt domain.now TryWrite lock.index Y5 old cpu.old
+        → Gains domain.now TryWrite lock.index Writes old cpu.old cpu.new }
+    ensures missed { result ≡ false → (old : Calls)
+        → WaitsAt domain.now TryWrite lock.index Y5 old cpu.old
+        → Misses domain.now TryWrite lock.index old cpu.old cpu.new }
+{
+    steps::empty_to_writer(cpu, domain, Verb::TryWrite, lock) == 0
+}
+
+/// Releases a lock that the processor holds as its writer, by one atomic operation, the row Z2:
+/// (r, w, 1) -> (r, w, 0) (`queued_write_unlock`).
+///
+/// The count keeps the readers that wait. Before it releases lock 0, the processor must have
+/// given the journal back.
 pub fn write_unlock(cpu: &mut Cpu, domain: &Domain, lock: LockId)
     requires domain { IsOf cpu.old domain.now }
     requires lock { lock.index < locks_of domain.now.plan }
@@ -196,5 +302,5 @@ pub fn write_unlock(cpu: &mut Cpu, domain: &Domain, lock: LockId)
         index: lock.index,
         wait: false,
     };
-    writers::release(cpu, domain, name);
+    steps::writer_release(cpu, domain, Verb::WUnlock, name);
 }

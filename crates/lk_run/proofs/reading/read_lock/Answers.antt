@@ -1,6 +1,6 @@
 use Rattle.lk_run.specs.Phases.{starting}
 use Rattle.lk_run.proofs.reading.read_lock.Goals as goal
 
-pub contend-requires-clause-waits : goal.contend-requires-clause-waits
-contend-requires-clause-waits g c =
+pub read_slowpath-requires-clause-waits : goal.read_slowpath-requires-clause-waits
+read_slowpath-requires-clause-waits g c =
     (starting c.args.cpu.now (g.I.Irq.polls c.args.irq.now), c.first.ensures.waits c.if-first.false (g.I.Irq.polls c.args.irq.now))

@@ -1,6 +1,6 @@
 use Rattle.lk_run.specs.Phases.{starting}
 use Rattle.lk_run.proofs.writing.write_lock.Goals as goal
 
-pub contend-requires-clause-waits : goal.contend-requires-clause-waits
-contend-requires-clause-waits g c =
+pub write_slowpath-requires-clause-waits : goal.write_slowpath-requires-clause-waits
+write_slowpath-requires-clause-waits g c =
     (starting c.args.cpu.now (g.I.Irq.polls c.args.irq.now), c.first.ensures.out c.if-first.false (g.I.Irq.polls c.args.irq.now))

@@ -1,0 +1,38 @@
+use Rattle.std.proofs.Common.{ap, refl, eqb, ne_eqb, inr, length}
+use Rattle.lk_abs.specs.declared.holder.Manner.TheVariants.{Reads}
+use Rattle.lk_machine.specs.declared.parts.Pc.TheVariants.{R2}
+use Rattle.lk_machine.specs.declared.setup.Verb.TheVariants.{Read}
+use Rattle.lk_domain.specs.RwRows.{watches_at}
+use Rattle.lk_domain.specs.Seats.{calls_of}
+use Rattle.lk_run.proofs.RwPlaces.{no_writer_by, writer_by}
+use Rattle.lk_run.proofs.RwRows as row
+use Rattle.lk_run.proofs.RwCalling as on
+use Rattle.lk_run.proofs.call.Reader.look_past.Goals as goal
+
+pub look-requires-clause-row : goal.look-requires-clause-row
+look-requires-clause-row c =
+    inr (record {
+      plain = c.args.self.now.plain;
+      acts = on.acts c.requires.waits (watches_at (eqb (length (calls_of c.args.cpu.now).frames) 1) Read)
+          (ap (λ b. watches_at b Read R2) (ne_eqb (length (calls_of c.args.cpu.now).frames) 1 c.requires.nested));
+    })
+
+pub returns-clause-entered : goal.returns-clause-entered
+returns-clause-entered c is =
+    let made = (c.look.ensures.shared (record {
+      plain = c.args.self.now.plain;
+      acts = on.acts c.requires.waits (watches_at (eqb (length (calls_of c.args.cpu.now).frames) 1) Read)
+          (ap (λ b. watches_at b Read R2) (ne_eqb (length (calls_of c.args.cpu.now).frames) 1 c.requires.nested));
+    })).by in
+    on.enters c.requires.waits c.look.ensures.rest refl made Reads
+    (λ f. row.spin_enters _ _ f made.found (no_writer_by c.look.result made.found made.word is))
+
+pub returns-clause-held : goal.returns-clause-held
+returns-clause-held c is =
+    let made = (c.look.ensures.shared (record {
+      plain = c.args.self.now.plain;
+      acts = on.acts c.requires.waits (watches_at (eqb (length (calls_of c.args.cpu.now).frames) 1) Read)
+          (ap (λ b. watches_at b Read R2) (ne_eqb (length (calls_of c.args.cpu.now).frames) 1 c.requires.nested));
+    })).by in
+    on.looks c.requires.waits c.look.ensures.rest refl made
+    (λ f. row.spin_stays _ _ f made.found (writer_by c.look.result made.found made.word is))

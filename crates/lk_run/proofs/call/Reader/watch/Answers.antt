@@ -1,0 +1,38 @@
+use Rattle.std.proofs.Common.{ap, refl, eqb, eq-eqb, inr, length}
+use Rattle.lk_abs.specs.declared.holder.Manner.TheVariants.{Reads}
+use Rattle.lk_machine.specs.declared.parts.Pc.TheVariants.{R5}
+use Rattle.lk_machine.specs.declared.setup.Verb.TheVariants.{Read}
+use Rattle.lk_domain.specs.RwRows.{watches_at}
+use Rattle.lk_domain.specs.Seats.{calls_of}
+use Rattle.lk_run.proofs.RwPlaces.{no_writer_by, writer_by}
+use Rattle.lk_run.proofs.RwRows as row
+use Rattle.lk_run.proofs.RwCalling as on
+use Rattle.lk_run.proofs.call.Reader.watch.Goals as goal
+
+pub look-requires-clause-row : goal.look-requires-clause-row
+look-requires-clause-row c =
+    inr (record {
+      plain = c.args.self.now.plain;
+      acts = on.acts c.requires.waits (watches_at (eqb (length (calls_of c.args.cpu.now).frames) 1) Read)
+          (ap (λ b. watches_at b Read R5) (eq-eqb (length (calls_of c.args.cpu.now).frames) 1 c.requires.alone));
+    })
+
+pub returns-clause-passed : goal.returns-clause-passed
+returns-clause-passed c is =
+    let made = (c.look.ensures.shared (record {
+      plain = c.args.self.now.plain;
+      acts = on.acts c.requires.waits (watches_at (eqb (length (calls_of c.args.cpu.now).frames) 1) Read)
+          (ap (λ b. watches_at b Read R5) (eq-eqb (length (calls_of c.args.cpu.now).frames) 1 c.requires.alone));
+    })).by in
+    on.passes c.requires.waits c.look.ensures.rest refl made Reads
+    (λ f. row.wait_enters _ _ f made.found c.requires.waits.domain.awake (no_writer_by c.look.result made.found made.word is)) (λ e. cc e)
+
+pub returns-clause-held : goal.returns-clause-held
+returns-clause-held c is =
+    let made = (c.look.ensures.shared (record {
+      plain = c.args.self.now.plain;
+      acts = on.acts c.requires.waits (watches_at (eqb (length (calls_of c.args.cpu.now).frames) 1) Read)
+          (ap (λ b. watches_at b Read R5) (eq-eqb (length (calls_of c.args.cpu.now).frames) 1 c.requires.alone));
+    })).by in
+    on.looks c.requires.waits c.look.ensures.rest refl made
+    (λ f. row.wait_stays _ _ f made.found (writer_by c.look.result made.found made.word is))

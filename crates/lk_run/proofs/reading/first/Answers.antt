@@ -1,0 +1,44 @@
+use Rattle.std.proofs.Common.{ap, sym, refl, length, subst}
+use Rattle.lk_abs.specs.declared.holder.Manner.TheVariants.{Reads}
+use Rattle.lk_abs.specs.declared.names.LockName.{LockName}
+use Rattle.lk_machine.specs.declared.parts.Pc.TheVariants.{R1}
+use Rattle.lk_machine.specs.declared.setup.Verb.TheVariants.{Read}
+use Rattle.lk_domain.specs.Calls.{waits_in}
+use Rattle.lk_domain.specs.Paths.{Any}
+use Rattle.lk_domain.specs.RwRows.{joins_at}
+use Rattle.lk_domain.specs.Seats.{calls_of}
+use Rattle.lk_run.specs.Phases.{Waits, biased, starting}
+use Rattle.lk_run.proofs.RwPlaces.{is_open_by, is_shut_by}
+use Rattle.lk_run.proofs.RwRows as row
+use Rattle.lk_run.proofs.RwSteps as rw
+use Rattle.lk_run.proofs.reading.first.Goals as goal
+
+pub join_first-requires-clause-row : goal.join_first-requires-clause-row
+join_first-requires-clause-row c =
+    let d = c.args.domain.now in
+    let a = c.args.cpu.now in
+    let may = c.requires.may in
+    rw.acts_begin (joins_at (waits_in (calls_of a).frames c.args.lock.index) Read) d Read c.args.lock.index a c.requires.domain may refl c.requires.kind
+    (ap (λ b. joins_at b Read R1) may.fresh)
+
+pub returns-clause-entered : goal.returns-clause-entered
+returns-clause-entered c is told =
+    let d = c.args.domain.now in
+    let a = c.args.cpu.now in
+    let b = c.join_first.new.cpu in
+    let l = c.args.lock.index in
+    let made = c.join_first.ensures.step.by in
+    rw.first_enters d Read l a b c.join_first.ensures.rest c.requires.domain refl made c.requires.may.fresh told Reads
+    (λ f. row.reader_enters d.plan.mode b.number f made.found (is_open_by c.join_first.result made.found made.word is))
+
+pub returns-clause-waits : goal.returns-clause-waits
+returns-clause-waits c is told =
+    let d = c.args.domain.now in
+    let a = c.args.cpu.now in
+    let b = c.join_first.new.cpu in
+    let l = c.args.lock.index in
+    let made = c.join_first.ensures.step.by in
+    subst (λ (n : LockName). Waits d Read n (biased (length (calls_of a).frames)) Any (starting a told) b told)
+    (λ i. record { index = l; wait = sym c.requires.plain i })
+    (rw.first_goes d Read l a b c.join_first.ensures.rest c.requires.domain refl made c.requires.may.fresh told biased (rw.biased_else (length (calls_of a).frames))
+    (λ f. row.reader_biases d.plan.mode b.number f made.found (is_shut_by c.join_first.result made.found made.word is)))

@@ -1,0 +1,69 @@
+-- What contracts say of a reader or a writer that waits: where it stands, and what a row, or a path of
+-- rows, does. `Words` says the same of a call that queues.
+use Rattle.std.specs.Prelude.{ℕ, Option}
+use Rattle.lk_abs.specs.declared.names.LockName.{LockName}
+use Rattle.lk_machine.specs.declared.parts.Pc.{Pc}
+use Rattle.lk_machine.specs.declared.setup.Verb.{Verb}
+use Rattle.lk_domain.specs.Paths.{Any}
+use Rattle.lk_domain.specs.Seats.{IsOf, KeepsRest}
+use Rattle.lk_domain.specs.declared.cpu.Cpu.{Cpu}
+use Rattle.lk_domain.specs.declared.domain.Domain.{Domain}
+use Rattle.lk_run.specs.Phases.{Start, LookedAs, WaitsAs}
+use Rattle.lk_run.specs.Standing.{Stage}
+
+-- which call: its domain, its operation, the lock on which it acts, and what of its lock it has
+pub record Waiter : Type 0 where
+  pub stage : Stage
+  pub domain : Domain
+  pub verb : Verb
+  pub lock : LockName
+
+-- how the call waits that began so: it was polled after each look after which it stood where it stood
+abbrev pub Waits : Waiter → Pc → Start → Cpu → Option ℕ → Type 0
+Waits w c s cpu told = WaitsAs w.stage w.domain w.verb w.lock c Any s cpu told
+
+-- and but for the last look
+abbrev pub Looked : Waiter → Pc → Start → Cpu → Option ℕ → Type 0
+Looked w c s cpu told = LookedAs w.stage w.domain w.verb w.lock c Any s cpu told
+
+-- some call waits so at the row c
+pub record At (w : Waiter) (c : Pc) (cpu : Cpu) : Type 0 where
+  pub domain : IsOf cpu w.domain
+  pub start : Start
+  pub told : Option ℕ
+  pub waits : Waits w c start cpu told
+
+-- and this is what the source tells
+pub record Waiting (w : Waiter) (c : Pc) (cpu : Cpu) (told : Option ℕ) : Type 0 where
+  pub domain : IsOf cpu w.domain
+  pub start : Start
+  pub waits : Waits w c start cpu told
+
+-- a row leads from a to b
+pub record Steps (w : Waiter) (a b : Pc) (old new : Cpu) : Type 0 where
+  pub rest : KeepsRest old new
+  pub goes : (s : Start) (told : Option ℕ) → Waits w a s old told → Waits w b s new told
+
+-- a look leaves it at the row, and a poll is due
+pub record Looks (w : Waiter) (a : Pc) (old new : Cpu) : Type 0 where
+  pub rest : KeepsRest old new
+  pub stays : (s : Start) (told : Option ℕ) → Waits w a s old told → Looked w a s new told
+
+-- a row, or rows without a poll, lead from a to what is wanted of a call that began so
+pub record Gets (w : Waiter) (a : Pc) (Wanted : Start → Cpu → Option ℕ → Type 0) (old new : Cpu)
+    : Type 0 where
+  pub rest : KeepsRest old new
+  pub has : (s : Start) (told : Option ℕ) → Waits w a s old told → Wanted s new told
+
+-- A path, while what the source tells goes from `before` to `after`: from a to b, and from a to what
+-- is wanted.
+
+pub record Goes (w : Waiter) (a b : Pc) (old : Cpu) (before : Option ℕ) (new : Cpu)
+    (after : Option ℕ) : Type 0 where
+  pub rest : KeepsRest old new
+  pub goes : (s : Start) → Waits w a s old before → Waits w b s new after
+
+pub record Earns (w : Waiter) (a : Pc) (Wanted : Start → Cpu → Option ℕ → Type 0) (old : Cpu)
+    (before : Option ℕ) (new : Cpu) (after : Option ℕ) : Type 0 where
+  pub rest : KeepsRest old new
+  pub has : (s : Start) → Waits w a s old before → Wanted s new after
