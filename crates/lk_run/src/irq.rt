@@ -8,15 +8,16 @@ use crossbeam_utils::Backoff;
 use lk_domain::{Cpu, Domain};
 use std::sync::Wait;
 
-/// What may interrupt a call that waits. It may take and free other locks on the processor that it
-/// is lent.
+/// An interrupt source: what may run on a processor while a call waits there. Its handler may
+/// acquire other locks on that processor, and must release each of them before it returns.
 pub trait Irq {
     // How often it was polled, up to the last value of a `u64`, where it tells it. It tells it
     // always, or never.
     ghost polls: { Self → Option ℕ };
 
-    /// Is called between two looks of a call that waits, after each look after which the call
-    /// stands where it stood.
+    /// Runs between two polls of the lock, after each failed one. The handler must leave the
+    /// processor's calls, its critical sections and its place in the ledger unchanged. There is
+    /// no error.
     fn poll<R: Wait>(&mut self, cpu: &mut Cpu, rt: &R, domain: &Domain)
         requires { IsOf cpu.old domain.now }
         ensures rest { KeepsRest cpu.old cpu.new }
@@ -26,7 +27,7 @@ pub trait Irq {
         ensures polls { Rises (polls self.old) (polls self.new) };
 }
 
-/// No interrupts.
+/// An interrupt source that never interrupts.
 #[derive(Clone, Copy, Drop)]
 pub struct NoIrq;
 

@@ -70,8 +70,15 @@ fn lock_slowpath<I: Irq, R: Wait>(cpu: &mut Cpu, rt: &R, domain: &Domain, busy: 
     call.contend(cpu, rt, irq, busy.met);
 }
 
-/// Holds the lock when it returns. It polls `irq` after each look after which it stands where it
-/// stood, and gives way between two such looks.
+/// Acquires a spinlock, and returns when the processor holds it (`queued_spin_lock`).
+///
+/// A call that finds the lock free takes it by one atomic operation. In `native` and `cna` a call
+/// that waits pends or stands in the queue, by one of the four nodes of its processor. Where all
+/// four are in use, and always in `virt`, it spins on the word and can starve. After each failed
+/// poll of the lock it lets `irq` run, and gives way to other threads.
+///
+/// The processor must not hold the lock or wait for it, and may be in five other calls at most.
+/// There is no error and no timeout: the call waits for as long as others keep the lock.
 #[inline]
 pub fn lock<I: Irq, R: Wait>(cpu: &mut Cpu, rt: &R, domain: &Domain, lock: LockId, irq: &mut I)
     requires domain { IsOf cpu.old domain.now }
@@ -138,7 +145,10 @@ fn try_swap(cpu: &mut Cpu, domain: &Domain, lock: LockId) -> bool
     steps::take_free(cpu, domain, Verb::Try, name) == 0
 }
 
-/// Takes the lock where its word is free, and says whether it did.
+/// Tries to acquire a spinlock, by two atomic operations at most, and returns whether it did
+/// (`queued_spin_trylock`).
+///
+/// It never waits. It fails if somebody holds the lock, pends or queues.
 pub fn try_lock(cpu: &mut Cpu, domain: &Domain, lock: LockId) -> bool
     requires domain { IsOf cpu.old domain.now }
     requires lock { lock.index < locks_of domain.now.plan }
@@ -153,9 +163,12 @@ pub fn try_lock(cpu: &mut Cpu, domain: &Domain, lock: LockId) -> bool
     try_look(cpu, domain, lock) && try_swap(cpu, domain, lock)
 }
 
-/// Frees a lock that the processor holds, in one step: (n, p, 1) -> (n, p, 0). Only the holder
-/// stores into the locked byte of a lock that is held; pending and the queue stay for those that
-/// wait.
+/// Releases a spinlock that the processor holds, by one atomic operation: (n, p, 1) -> (n, p, 0)
+/// (`queued_spin_unlock`).
+///
+/// Only the holder stores into the locked byte of a lock that is held. Pending and the queue stay
+/// for those that wait. Before it releases lock 0, the processor must have given the journal
+/// back.
 pub fn unlock(cpu: &mut Cpu, domain: &Domain, lock: LockId)
     requires domain { IsOf cpu.old domain.now }
     requires lock { lock.index < locks_of domain.now.plan }
