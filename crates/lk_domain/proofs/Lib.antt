@@ -6,10 +6,12 @@ pub mod seats
 pub mod Acting
 pub mod turns
 pub mod Turned
+pub mod Outs
 pub mod Freed
 pub mod Paths
 pub mod Ways
 pub mod ledger
 pub mod Seating
+pub mod Crossing
 pub mod queue
 pub mod rw

@@ -3,3 +3,7 @@ pub mod Owners
 pub mod Dealt
 pub mod Parted
 pub mod Openings
+pub mod Marks
+pub mod Exclusive
+pub mod Takes
+pub mod Places

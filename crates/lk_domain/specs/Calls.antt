@@ -45,13 +45,14 @@ pub record Running : Type 0 where
   pub frame : Frame
   pub trail : List Mark
 
--- a lock that is held: by which context, in which manner, and the number of this acquisition by the
--- processor
+-- a lock that is held: by which context, in which manner, the number of this acquisition by the
+-- processor, and whether the value of the lock is out with it
 pub record Hold : Type 0 where
   pub ctx : ℕ
   pub lock : LockName
   pub manner : Manner
   pub nth : ℕ
+  pub out : Bool
 
 -- what a seat knows of its processor's locks
 pub record Calls : Type 0 where
@@ -93,7 +94,7 @@ abbrev pub running : Verb → Frame → List Mark → Running
 running v f t = record { verb = v; frame = f; trail = t }
 
 abbrev pub hold : ℕ → LockName → Manner → ℕ → Hold
-hold c l m n = record { ctx = c; lock = l; manner = m; nth = n }
+hold c l m n = record { ctx = c; lock = l; manner = m; nth = n; out = false }
 
 -- the frame of a context, if it has one
 abbrev pub frame_in : List Running → ℕ → Option Frame
@@ -189,6 +190,11 @@ holds_in (h ∷ hs) l = if same_lock h.lock (lock_name l) then true else holds_i
 abbrev pub way_in : List Hold → ℕ → Option Manner
 way_in [] l = None
 way_in (h ∷ hs) l = if same_lock h.lock (lock_name l) then Some h.manner else way_in hs l
+
+-- and whether its value is out
+abbrev pub hold_in : List Hold → ℕ → Option (Manner × Bool)
+hold_in [] l = None
+hold_in (h ∷ hs) l = if same_lock h.lock (lock_name l) then Some (h.manner, h.out) else hold_in hs l
 
 -- what a row does to the holds of its processor
 pub data Grip : Type 0 where

@@ -1,5 +1,5 @@
 -- What is left of a domain at its end.
-use Rattle.std.specs.Prelude.{◌≡◌, ℕ, ◌<◌, ◌≤◌, ◌⊎◌, List, [], ◌∷◌, length, None, slice_index_or}
+use Rattle.std.specs.Prelude.{◌≡◌, ℕ, ◌<◌, ◌≤◌, ◌⊎◌, List, [], ◌∷◌, length, None, Bool, true, false, slice_index_or}
 use Rattle.lk_abs.specs.declared.ledger.Entry.{Entry}
 use Rattle.lk_domain.specs.Places.{places}
 use Rattle.lk_abs.specs.Journal.{Replays}
@@ -60,3 +60,8 @@ pub record IsFinalOf {C : Type 0} (ledger : C → Ledger) (plan : Plan) (cpus : 
 
 abbrev pub IsFinal : Plan → List Cpu → List Entry → Type 0
 IsFinal plan cpus js = IsFinalOf ledger_of plan cpus js
+
+-- so many slots of a closed table are taken, and the others are filled
+pub record AreTaken (n : ℕ) (filled : List Bool) : Type 0 where
+  pub taken : (i : ℕ) → i < n → slice_index_or filled i false ≡ false
+  pub left : (i : ℕ) → n ≤ i → i < length filled → slice_index_or filled i false ≡ true

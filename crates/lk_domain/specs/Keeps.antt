@@ -1,29 +1,28 @@
 -- The ledger part of the rule of a domain's table: the journal is at home or with one seat that
 -- holds lock 0 alone, and each seat knows of it what is true.
-use Rattle.std.specs.Prelude.{◌≡◌, ◌≢◌, ◌⊎◌, ◌&&◌, ℕ, ◌+◌, ◌<◌, ◌≤◌, Bool, true, false, List}
+use Rattle.std.specs.Prelude.{◌≡◌, ◌≢◌, ◌⊎◌, ◌&&◌, ℕ, ◌+◌, ◌<◌, ◌≤◌, true, false, List}
 use Rattle.std.specs.Prelude.{[], ◌∷◌, length, take, drop, Option, Some, None, slice_index, if◌then◌else◌}
 use Rattle.std.specs.List.{sum}
 use mathlib.Core.Option.{none, some}
 use lib.ListN.{get_elem?}
 use Rattle.atomic_table.specs.Table.{State}
-use Rattle.lk_abs.specs.declared.holder.Manner.{Manner}
-use Rattle.lk_abs.specs.declared.holder.Manner.TheVariants.{Spins, Reads, Writes}
 use Rattle.lk_abs.specs.declared.ledger.Entry.{Entry}
+use Rattle.lk_abs.specs.declared.names.LockName.{LockName}
 use Rattle.lk_domain.specs.Calls.{Hold, Calls, lock_name}
 use Rattle.lk_abs.specs.Names.{same_lock}
 use Rattle.lk_domain.specs.Places.{places}
 use Rattle.lk_abs.specs.Journal.{balances_after, Replays}
-use Rattle.lk_domain.specs.Ledgers.{Look, Out, Past, no_ledger}
-use Rattle.lk_domain.specs.Plans.{accounts_of, room_of}
+use Rattle.lk_domain.specs.Ledgers.{Look, Out, Past, no_ledger, is_first}
+use Rattle.lk_domain.specs.Plans.{accounts_of, locks_of, room_of}
 use Rattle.lk_domain.specs.Views.{total}
+use Rattle.lk_values.specs.Guarded.{Among, Guarded}
+use Rattle.lk_domain.specs.Values.{IsOutWith, HoldsAlone, outs_of, out_in, FitsUnder}
+pub use Rattle.lk_domain.specs.Values.{is_sole, Slot}
 use Rattle.lk_domain.specs.Words.{version_at, balance_at}
 use Rattle.lk_domain.specs.declared.journal.Journal.{Journal}
 use Rattle.lk_domain.specs.declared.plan.Plan.{Plan}
+use Rattle.lk_domain.specs.declared.slot.Stowed.TheVariants.{Entries}
 use Rattle.lk_domain.specs.declared.view.View.{View}
-
--- what the table's one slot holds
-abbrev pub Slot : Type 0
-Slot = Option Journal
 
 -- the balance of an account after these entries
 abbrev pub balance : Plan → List Entry → ℕ → ℕ
@@ -34,11 +33,6 @@ abbrev pub undrawn : Plan → ℕ → ℕ
 undrawn k roll = sum (drop roll k.shares.items)
 
 -- how often lock 0 is held in any manner, and how often by this processor alone
-
-abbrev pub is_sole : Manner → Bool
-is_sole Spins = true
-is_sole Writes = true
-is_sole Reads = false
 
 abbrev pub any_count : List Hold → ℕ
 any_count [] = 0
@@ -65,7 +59,7 @@ pub record AreWords (k : Plan) (ws : List ℕ) (js : List Entry) : Type 0 where
 -- the journal is at home
 pub record AtHome (k : Plan) (js : List Entry) (s : State Slot View) : Type 0 where
   pub journal : Journal
-  pub home : get_elem? s.homes 0 ≡ some (some (Some journal))
+  pub home : get_elem? s.homes 0 ≡ some (some (Some (Entries journal)))
   pub items : journal.entries.items ≡ js
   pub room : journal.entries.room ≡ room_of k
   pub words : AreWords k s.words js
@@ -130,7 +124,8 @@ abbrev pub ArePast : Plan → List Entry → List Past → Type 0
 ArePast k js [] = Unit {0}
 ArePast k js (x ∷ xs) = IsPast k js x × ArePast k js xs
 
--- what a seat knows of the journal: who has it out holds lock 0 alone, and has no look open
+-- what a seat knows of the journal: who has it out holds lock 0 alone, and has no look open. The values
+-- that it has out are out with holds of its own.
 pub record Knows (k : Plan) (js : List Entry) (v : View) : Type 0 where
   pub holder : v.ledger.out ≢ None → alone_first v.calls
   pub shut : v.ledger.out ≢ None → v.ledger.look ≡ None
@@ -140,16 +135,23 @@ pub record Knows (k : Plan) (js : List Entry) (v : View) : Type 0 where
   pub own : (p : ℕ) → v.who.number ≡ Some p → v.ledger.own ≡ places p js
   pub quiet : v.who.number ≡ None → v.ledger ≡ no_ledger
   pub past : ArePast k js v.who.ended
+  pub values : (l : ℕ) → Among l (outs_of v) → IsOutWith l v.calls.holds
 
--- the ledger part of the rule
+-- What lies under the locks is at home: the journal under lock 0, and the value of the lock.
+pub record AllHome (l : LockName) (v : View) : Type 0 where
+  pub journal : is_first l ≡ true → v.ledger.out ≡ None
+  pub value : l.wait ≡ false → out_in v.calls.holds l.index ≡ false
+
+-- the part of the rule on what lies in the slots: the journal, and the values of the locks
 pub record Keeps (k : Plan) (s : State Slot View) : Type 0 where
   -- the journal, which replays
   pub journal : List Entry
   pub replays : Replays k.balances.items journal
-  pub slots : length s.homes ≡ 1
+  pub slots : length s.homes ≡ 1 + locks_of k
   -- its length and the shares that are left are the room
   pub shares : length journal + total (λ v. v.ledger.share) s.views
       + undrawn k (slice_index s.words 0) ≡ room_of k
   pub place : AtHome k journal s ⊎ Away k journal s
   pub knows : (id : ℕ) (v : View) → get_elem? s.views id ≡ some v → Knows k journal v
   pub fresh : (p : ℕ) → slice_index s.words 0 ≤ p → places p journal ≡ []
+  pub values : Guarded 1 (locks_of k) HoldsAlone outs_of (FitsUnder k) s.homes s.views

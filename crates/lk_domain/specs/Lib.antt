@@ -4,6 +4,7 @@ pub mod Calls
 pub mod Places
 pub mod Ledgers
 pub mod Who
+pub mod Values
 pub mod Views
 pub mod Runs
 pub mod Keeps

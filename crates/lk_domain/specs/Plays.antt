@@ -14,6 +14,7 @@ use Rattle.lk_domain.specs.Calls.{Outlook}
 use Rattle.lk_machine.specs.TopRow.{target}
 use Rattle.lk_law.specs.Leads.{Met, Word, held_lock}
 use Rattle.lk_law.specs.Premises.{IsThen}
+use Rattle.lk_values.specs.Guarded.{IsApart}
 use Rattle.lk_domain.specs.Calls.{Running, Calls, mark, read_at, grip_of, course, row_of, acting, StandsOn}
 use Rattle.lk_domain.specs.Calls.{Begins, lock_name, no_calls, Terms, terms_of, sight_of}
 use Rattle.lk_domain.specs.Places.{places}
@@ -24,9 +25,11 @@ use Rattle.lk_domain.specs.Ledgers.{brought, with_share}
 use Rattle.lk_domain.specs.Plans.{accounts_of, share_of, layout_in}
 use Rattle.lk_domain.specs.Rows.{queues_up}
 use Rattle.lk_domain.specs.Views.{view, drawer, own_number}
-use Rattle.lk_domain.specs.Words.{lock_at, balance_at, IsNode}
+use Rattle.lk_domain.specs.Values.{Key, taking, bringing, IsKeyOf, empty_places}
+use Rattle.lk_domain.specs.Words.{lock_at, balance_at, quiet_at, IsNode}
 use Rattle.lk_domain.specs.declared.journal.Journal.{Journal}
 use Rattle.lk_domain.specs.declared.plan.Plan.{Plan}
+use Rattle.lk_domain.specs.declared.slot.Stowed.TheVariants.{Entries, CellKey}
 use Rattle.lk_domain.specs.declared.view.View.{View}
 
 -- what a row of the newest call makes of what its processor knows of the ledger
@@ -165,7 +168,7 @@ pub record TakenBy (m : Me Slot View) (version : ℕ) (n : Me Slot View) : Type 
         record m.0 {
           ledger = taken_out m.0.ledger journal.entries.items journal.entries.room words;
         },
-        (0, Some journal) ∷ m.1,
+        (0, Some (Entries journal)) ∷ m.1,
       )
   pub replays : Replays m.0.who.plan.balances.items journal.entries.items
   pub long : length words ≡ accounts_of m.0.who.plan
@@ -186,17 +189,37 @@ Stores st m x n = (a : ℕ) (o : Out) → st.word ≡ balance_at m.0.who.plan a 
 
 -- the journal was brought home
 abbrev pub Brings : Step Slot → Me Slot View → ℕ → Me Slot View → Type 0
-Brings st m x n = (o : Out) (j : Journal) (p : ℕ) → m.0.ledger.out ≡ Some o
-    → m.1 ≡ (0, Some j) ∷ [] → m.0.who.number ≡ Some p
+Brings st m x n = (o : Out) (j : Journal) (p : ℕ) (xs : List (ℕ × Slot)) → m.0.ledger.out ≡ Some o
+    → m.1 ≡ (0, Some (Entries j)) ∷ xs → m.0.who.number ≡ Some p
     → n
     ≡ (
       record m.0 {
         ledger = brought m.0.ledger p o (drop (length o.list) j.entries.items);
       },
-      [],
+      xs,
     )
 
--- the slots that go with a view: the place of the journal, where it is out
-abbrev pub carried_with : Option Out → List (ℕ × Slot)
-carried_with None = []
-carried_with (Some o) = (0, None) ∷ []
+-- the value of a lock was taken out: the key of its cell
+pub record ValueTakenBy (l : ℕ) (m n : Me Slot View) : Type 0 where
+  pub key : Key
+  pub seat : n ≡ (taking l m.0, (1 + l, Some (CellKey key)) ∷ m.1)
+  pub is : IsKeyOf m.0.who.plan l key
+  pub apart : IsApart l m.0.who.outs
+
+abbrev pub TakesValue : Step Slot → Me Slot View → ℕ → Me Slot View → Type 0
+TakesValue st m x n = (l : ℕ) → st.word ≡ quiet_at m.0.who.plan l → ValueTakenBy l m n
+
+-- it was brought home
+abbrev pub BringsValue : Step Slot → Me Slot View → ℕ → Me Slot View → Type 0
+BringsValue st m x n = (l : ℕ) (y : Slot) (xs : List (ℕ × Slot)) → st.word ≡ quiet_at m.0.who.plan l
+    → m.1 ≡ (1 + l, y) ∷ xs → n ≡ (bringing l m.0, xs)
+
+-- the slots that go with a view, all of them empty: the place of the journal, where it is out, and those
+-- of the values that are out
+
+abbrev pub carried_with : List ℕ → Option Out → List (ℕ × Slot)
+carried_with ls None = empty_places ls
+carried_with ls (Some o) = (0, None) ∷ empty_places ls
+
+abbrev pub carried_of : View → List (ℕ × Slot)
+carried_of v = carried_with v.who.outs v.ledger.out

@@ -1,11 +1,11 @@
 -- What a seat asks and is told at the ledger, of whichever processor it is.
-use Rattle.std.specs.Prelude.{◌≡◌, ◌≤◌, ℕ, [], Some, None, slice_index}
+use Rattle.std.specs.Prelude.{◌≡◌, ◌≤◌, ◌+◌, ℕ, [], Some, None, slice_index}
 use Rattle.atomic_table.specs.Seated.{TableId}
 use Rattle.atomic_table.specs.declared.shared.Seat.{Seat}
 use Rattle.lk_domain.specs.Keeps.{Slot}
 use Rattle.lk_domain.specs.Ledgers.{Out, loaded, sighted, stored}
-use Rattle.lk_domain.specs.Plans.{IsRunningPlan}
-use Rattle.lk_domain.specs.Plays.{OneState, carried_with}
+use Rattle.lk_domain.specs.Plans.{IsRunningPlan, locks_of}
+use Rattle.lk_domain.specs.Plays.{OneState, carried_of}
 use Rattle.lk_domain.specs.Views.{IsNumbered}
 use Rattle.lk_domain.specs.Words.{words_of}
 use Rattle.lk_domain.specs.declared.plan.Plan.{Plan}
@@ -15,15 +15,15 @@ use Rattle.lk_domain.specs.declared.view.View.{View}
 pub record IsTableOf (k : Plan) (table : TableId) (key : Plan) : Type 0 where
   pub lawful : IsRunningPlan k
   pub words : table.words ≡ words_of k
-  pub slots : table.slots ≡ 1
+  pub slots : table.slots ≡ 1 + locks_of k
   pub key_is : key ≡ k
 
--- the seat is that of a processor of it, with the place of the journal where that is out
+-- the seat is that of a processor of it, with the places of what it has out
 pub record IsSeatOf (k : Plan) (table : TableId) (seat : Seat Slot View) : Type 0 where
   pub table_is : seat.table_id ≡ table
   pub plan_is : seat.me.0.who.plan ≡ k
   pub number : IsNumbered seat.me.0
-  pub carried : seat.me.1 ≡ carried_with seat.me.0.ledger.out
+  pub carried : seat.me.1 ≡ carried_of seat.me.0
 
 -- it is as it was, but for what it knows of the ledger
 pub record IsKept (old new : Seat Slot View) : Type 0 where

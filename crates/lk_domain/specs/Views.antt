@@ -15,13 +15,13 @@ view w c g = record { who = w; calls = c; ledger = g }
 -- the seat that deals the numbers, n next; it with a number that it has drawn; and the seat of that
 -- number
 abbrev pub dealer : Plan → ℕ → Who
-dealer k n = record { plan = k; number = None; ended = []; dealt = Some n }
+dealer k n = record { plan = k; number = None; ended = []; dealt = Some n; outs = [] }
 
 abbrev pub drawer : Plan → ℕ → Who
-drawer k n = record { plan = k; number = Some n; ended = []; dealt = Some (n + 1) }
+drawer k n = record { plan = k; number = Some n; ended = []; dealt = Some (n + 1); outs = [] }
 
 abbrev pub newcomer : Plan → ℕ → Who
-newcomer k n = record { plan = k; number = Some n; ended = []; dealt = None }
+newcomer k n = record { plan = k; number = Some n; ended = []; dealt = None; outs = [] }
 
 -- a plan of nothing
 abbrev pub no_plan : Plan
@@ -34,11 +34,12 @@ no_plan =
       locks = record { items = []; room = 0 };
       balances = record { items = []; room = 0 };
       shares = record { items = []; room = 0 };
+      cells = None;
     }
 
 -- what is left of a seat that was joined to another: it has no number, and knows nothing
 abbrev pub nobody : Who
-nobody = record { plan = no_plan; number = None; ended = []; dealt = None }
+nobody = record { plan = no_plan; number = None; ended = []; dealt = None; outs = [] }
 
 -- the sum over a list
 abbrev pub total : {A : Type 0} → (A → ℕ) → List A → ℕ

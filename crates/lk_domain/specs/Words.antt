@@ -48,6 +48,11 @@ part_index part.Next = 1
 part_index part.SecondTail = 2
 part_index part.Runs = 3
 
+-- The word by whose load the value of a lock goes out and comes home: that of the balance of this number,
+-- whether the ledger has it or not. No lock's word is on its line, and without a ledger nobody writes it.
+abbrev pub quiet_at : Plan → ℕ → ℕ
+quiet_at k l = balance_at k l
+
 -- Behind the balances, the words of the nodes. There is room for four words of each.
 abbrev pub node_at : Plan → NodeName → Part → ℕ
 node_at k n q = 72 + part_index q + 8 * locks_of k + (16 * n.cpu + 4 * n.index)

@@ -2,16 +2,16 @@
 ghost use Rattle.std.specs.Prelude.{◌≡◌, Some, true, length};
 ghost use Rattle.lk_domain.specs.Calls.{slows, holds_in, waits_in, are_calls};
 ghost use Rattle.lk_domain.specs.Marked.{IsNoted};
-ghost use Rattle.lk_domain.specs.Plays.{carried_with};
+ghost use Rattle.lk_domain.specs.Plays.{carried_of};
 
 use crate::domain::LockId;
-use crate::journal::Journal;
 use crate::notes::Notes;
+use crate::slot::Slot;
 use crate::view::View;
 use atomic_table::Seat;
 
 /// A seat: the right to step in a domain's table.
-pub type Right = Seat<Option<Journal>, View>;
+pub type Right = Seat<Slot, View>;
 
 /// A processor of a domain. The thread that has it may step in the domain.
 #[derive(Drop)]
@@ -23,7 +23,7 @@ pub struct Cpu {
     ghost numbered: { seat.me.0.who.number ≡ Some number },
     ghost noted: { IsNoted notes seat.me.0.calls },
     ghost apart: { are_calls seat.me.0.calls.frames ≡ true },
-    ghost carried: { seat.me.1 ≡ carried_with seat.me.0.ledger.out },
+    ghost carried: { seat.me.1 ≡ carried_of seat.me.0 },
 }
 
 impl Cpu {

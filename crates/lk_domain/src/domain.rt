@@ -6,10 +6,10 @@ ghost use Rattle.lk_domain.specs.NodePlays.{IsFlagNode};
 ghost use Rattle.lk_domain.specs.Words.{name_number, flag_number, marked};
 ghost use Rattle.lk_word.specs.SpinWord.{index_unit, tail_number};
 
-use crate::journal::Journal;
 use crate::part::Part;
 use crate::plan::Plan;
 use crate::rule::Order;
+use crate::slot::Slot;
 use crate::view::View;
 use atomic_table::Table;
 use lk_abs::{Format, Kind, LockName, Mode};
@@ -21,12 +21,12 @@ use std::alloc::Global;
 #[derive(Drop)]
 pub struct Domain {
     /// The table of its atomic words.
-    pub table: Table<Option<Journal>, View, Plan, Order, Global>,
+    pub table: Table<Slot, View, Plan, Order, Global>,
     /// The plan of which it was made.
     pub plan: Plan,
     ghost lawful: { IsRunningPlan plan },
     ghost words: { table.shared.table_id.words ≡ words_of plan },
-    ghost slots: { table.shared.table_id.slots ≡ 1 },
+    ghost slots: { table.shared.table_id.slots ≡ 1 + locks_of plan },
     ghost key: { table.shared.key ≡ plan },
 }
 

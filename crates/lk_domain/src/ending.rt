@@ -1,15 +1,17 @@
 // The end of a domain.
-ghost use Rattle.std.specs.Prelude.{◌≡◌, ◌<◌, None, Err, IfOk, length};
+ghost use Rattle.std.specs.Prelude.{◌≡◌, ◌<◌, [], None, Err, IfOk, length};
 ghost use Rattle.lk_domain.specs.Ends.{AllRest, HasFrom, IsFinal};
 ghost use Rattle.lk_abs.specs.Journal.{balances_after};
 ghost use Rattle.lk_domain.specs.Plans.{cpus_of, kind_at};
 ghost use Rattle.lk_domain.specs.Seated.{IsSeatOf};
+ghost use Rattle.lk_domain.specs.Values.{AreLaid};
 ghost use Rattle.lk_domain.specs.Views.{all_past};
 
 use crate::cpu::{Cpu, Right};
 use crate::domain::{Domain, LockId};
 use crate::ledger_steps;
 use lk_abs::{Entry, Kind, List, Mode};
+use lk_cell::Key;
 use std::alloc::Global;
 use std::snapshot::Snapshot;
 
@@ -18,6 +20,7 @@ use std::snapshot::Snapshot;
 pub struct Closed {
     pub(crate) balances: List<u64>,
     pub(crate) journal: List<Entry>,
+    pub(crate) keys: List<Option<Key>>,
     pub(crate) mode: Mode,
     pub(crate) guard: Kind,
     // The processors as they were at the end. It has no bytes.
@@ -49,6 +52,13 @@ impl Closed {
         &self.journal
     }
 
+    /// The keys of the values: for each lock the key of the cell in which its value lies, or none.
+    pub fn into_keys(self) -> List<Option<Key>>
+        ensures { result ≡ self.keys }
+    {
+        self.keys
+    }
+
     /// The lock family of the domain.
     pub fn mode(&self) -> Mode
         ensures { result ≡ self.now.mode }
@@ -70,6 +80,7 @@ fn join_all(domain: &Domain, mut cpus: List<Cpu>) -> Right
     requires rest { AllRest domain.now cpus.items }
     ensures seat { IsSeatOf domain.now.plan domain.now.table.shared.table_id result }
     ensures home { result.me.0.ledger.out ≡ None }
+    ensures holds { result.me.0.calls.holds ≡ [] }
     ensures all { HasFrom 0 cpus.items (all_past result.me.0) }
 {
     let Cpu {
@@ -94,8 +105,8 @@ fn join_all(domain: &Domain, mut cpus: List<Cpu>) -> Right
 ///
 /// # Errors
 ///
-/// There is not enough memory for the balances. `CloseBack` gives the domain and the processors
-/// back.
+/// There is not enough memory for the balances or the keys. `CloseBack` gives the domain and the
+/// processors back.
 pub fn close(alloc: Global, domain: Domain, cpus: List<Cpu>) -> Result<Closed, CloseBack>
     requires all { length cpus.items ≡ cpus_of domain.plan }
     requires rest { AllRest domain cpus.items }
@@ -105,9 +116,13 @@ pub fn close(alloc: Global, domain: Domain, cpus: List<Cpu>) -> Result<Closed, C
     ensures guard { IfOk result (λ closed. closed.guard ≡ kind_at domain.plan 0) }
     ensures balances { IfOk result (λ closed. closed.balances.items
         ≡ balances_after domain.plan.balances.items closed.journal.items) }
+    ensures keys { IfOk result (λ closed. AreLaid domain.plan closed.keys.items) }
     ensures ends { IfOk result (λ closed. IsFinal domain.plan cpus.items closed.journal.items) }
 {
     let Ok(mut balances) = List::new(alloc, domain.accounts() as usize) else {
+        return Err(CloseBack { domain, cpus });
+    };
+    let Ok(mut keys) = List::new(alloc, domain.locks() as usize) else {
         return Err(CloseBack { domain, cpus });
     };
     let mode = domain.mode();
@@ -115,10 +130,11 @@ pub fn close(alloc: Global, domain: Domain, cpus: List<Cpu>) -> Result<Closed, C
     let at_end = Snapshot::of(&cpus);
     let last = join_all(&domain, cpus);
     let Domain { table, plan } = domain;
-    let journal = ledger_steps::end(table, &plan, last, &mut balances);
+    let journal = ledger_steps::end(table, &plan, last, &mut balances, &mut keys);
     Ok(Closed {
         balances,
         journal,
+        keys,
         mode,
         guard,
         cpus: at_end,

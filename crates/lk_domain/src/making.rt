@@ -1,10 +1,12 @@
 // A new domain, and its processors.
-ghost use Rattle.std.specs.Prelude.{◌≡◌, ◌+◌, ◌<◌, [], IfOk, false, length, slice_set};
+ghost use Rattle.std.specs.Prelude.{◌≡◌, ◌+◌, ◌<◌, [], ◌∷◌, Some, None, IfOk, false, length, map, slice_set};
 ghost use Rattle.lk_domain.specs.Calls.{no_calls};
 ghost use Rattle.lk_domain.specs.Ledgers.{no_ledger};
-ghost use Rattle.lk_domain.specs.Plans.{IsLawfulPlan, IsRunningPlan, IsSamePlan, cpus_of, room_of};
+ghost use Rattle.lk_domain.specs.Plans.{IsLawfulPlan, IsRunningPlan, IsSamePlan, cpus_of, locks_of, room_of};
 ghost use Rattle.lk_law.specs.Agree.{halts};
 ghost use Rattle.lk_domain.specs.Seats.{IsDealt, AreDealt};
+ghost use Rattle.lk_domain.specs.Values.{AreLaid, AreShut, keys_of, lodged, nothing};
+ghost use Rattle.lk_domain.specs.declared.slot.Stowed.TheVariants.{Entries};
 ghost use Rattle.lk_domain.specs.Views.{view, dealer};
 ghost use Rattle.lk_domain.specs.Words.{words_of, IsOpening};
 
@@ -14,18 +16,22 @@ use crate::journal::Journal;
 use crate::notes::Notes;
 use crate::plan::Plan;
 use crate::rule::{Deal, Draw};
+use crate::slot::{Slot, Stowed};
 use atomic_table::{Refused, Table};
 use lk_abs::{List, Memory, Topology};
-use std::alloc::Global;
+use lk_cell::Key;
+use std::alloc::{AllocError, Global};
+use std::snapshot::Snapshot;
 
 impl Plan {
-    /// A copy of the plan, in memory of its own.
+    /// A copy of the plan, in memory of its own, but for the cells: it has none.
     ///
     /// # Errors
     ///
     /// There is not enough memory.
     pub fn copied(&self, alloc: Global) -> Result<Plan, Memory>
-        ensures { IfOk result (λ plan. IsSamePlan plan self.now) }
+        ensures plan { IfOk result (λ plan. IsSamePlan plan self.now) }
+        ensures cells { IfOk result (λ plan. plan.cells ≡ None) }
     {
         let topology = Topology {
             sockets: List::from_slice(alloc, self.topology.sockets.as_slice())?,
@@ -41,6 +47,7 @@ impl Plan {
             locks,
             balances,
             shares,
+            cells: None,
         })
     }
 
@@ -82,6 +89,47 @@ pub fn opening_words(alloc: Global, plan: &Plan) -> Result<List<u64>, Memory>
     Ok(words)
 }
 
+/// No keys for so many locks.
+///
+/// # Errors
+///
+/// There is not enough memory.
+pub fn no_keys(alloc: Global, locks: usize) -> Result<List<Option<Key>>, Memory>
+    ensures { IfOk result (λ keys. keys.items ≡ nothing locks) }
+{
+    let mut keys = List::new(alloc, locks)?;
+    for _lock in 0..locks {
+        keys.push(None);
+    }
+    Ok(keys)
+}
+
+// A slot with the key of a lock, if it has one.
+fn slot_of(key: Option<Key>) -> Slot
+    ensures { result ≡ lodged key }
+{
+    match key {
+        Some(key) => Some(Stowed::CellKey(key)),
+        None => None,
+    }
+}
+
+/// The slots of a new table: that of the journal, and one for each lock, with its key.
+pub fn opening_slots(
+    alloc: Global,
+    journal: Journal,
+    mut keys: List<Option<Key>>,
+) -> Result<Vec<Slot>, AllocError>
+    ensures { IfOk result (λ slots. slots.items ≡ Some (Entries journal) ∷ map lodged keys.items) }
+{
+    let mut slots = Vec::new(alloc);
+    slots.push(Some(Stowed::Entries(journal)))?;
+    while keys.len() > 0 {
+        slots.push(slot_of(keys.pop_front()))?;
+    }
+    Ok(slots)
+}
+
 impl Domain {
     /// A new domain, in which nobody holds a lock, and its processors in the order of their
     /// numbers.
@@ -95,7 +143,32 @@ impl Domain {
         ensures many { IfOk result (λ made. length made.1.items ≡ cpus_of plan.now) }
         ensures cpus { IfOk result (λ made. AreDealt made.0 made.1.items) }
     {
-        let (domain, mut seat) = Domain::rest(alloc, plan.copied(alloc)?)?;
+        let keys = no_keys(alloc, plan.locks.len())?;
+        Domain::with_values(alloc, plan, keys)
+    }
+
+    /// The same, where locks have values. For each lock there is the key of the cell in which its
+    /// value lies, or none.
+    ///
+    /// # Errors
+    ///
+    /// There is not enough memory. The keys are gone, and each value goes with its cell.
+    pub fn with_values(
+        alloc: Global,
+        plan: &Plan,
+        keys: List<Option<Key>>,
+    ) -> Result<(Domain, List<Cpu>), Memory>
+        requires lawful { IsLawfulPlan plan.now }
+        requires locks { length keys.items ≡ locks_of plan.now }
+        requires shut { AreShut keys.items }
+        ensures plan { IfOk result (λ made. IsSamePlan made.0.plan plan.now) }
+        ensures many { IfOk result (λ made. length made.1.items ≡ cpus_of plan.now) }
+        ensures cpus { IfOk result (λ made. AreDealt made.0 made.1.items) }
+        ensures cells { IfOk result (λ made. keys_of made.0.plan ≡ keys.items) }
+    {
+        let mut whole = plan.copied(alloc)?;
+        whole.cells = Some(Snapshot::of(&keys));
+        let (domain, mut seat) = Domain::rest(alloc, whole, keys)?;
         let count = domain.plan.topology.sockets.len();
         let mut cpus = List::new(alloc, count)?;
         for number in 0..count as u32 {
@@ -105,8 +178,9 @@ impl Domain {
     }
 
     // A domain with the seat that deals the numbers.
-    fn rest(alloc: Global, plan: Plan) -> Result<(Domain, Right), Memory>
-        requires { IsRunningPlan plan }
+    fn rest(alloc: Global, plan: Plan, keys: List<Option<Key>>) -> Result<(Domain, Right), Memory>
+        requires lawful { IsRunningPlan plan }
+        requires laid { AreLaid plan keys.items }
         ensures plan { IfOk result (λ made. made.0.plan ≡ plan) }
         ensures table { IfOk result (λ made. made.1.table_id ≡ made.0.table.shared.table_id) }
         ensures dealer { IfOk result (λ made. made.1.me.0
@@ -114,8 +188,7 @@ impl Domain {
     {
         let words = opening_words(alloc, &plan)?;
         let journal = Journal::new(alloc, plan.room())?;
-        let mut slots = Vec::with_capacity(alloc, 1)?;
-        slots.push_reserved(Some(journal));
+        let slots = opening_slots(alloc, journal, keys)?;
         match Table::new(alloc, words.as_slice(), slots, &plan) {
             Ok((table, dealer)) => Ok((Domain { table, plan }, dealer)),
             Err(Refused { slots: _ }) => Err(Memory),

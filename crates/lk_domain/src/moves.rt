@@ -1,5 +1,5 @@
 // The steps of a seat on the word of a spinlock or a wait lock, each one operation.
-ghost use Rattle.std.specs.Prelude.{◌≡◌, ◌<◌, true, None};
+ghost use Rattle.std.specs.Prelude.{◌≡◌, ◌<◌, true, false, None};
 ghost use Rattle.lk_machine.specs.declared.setup.Verb.TheVariants.{Lock, Try, Unlock};
 ghost use Rattle.lk_domain.specs.Calls.{lock_name};
 ghost use Rattle.lk_domain.specs.Ledgers.{is_first};
@@ -9,6 +9,7 @@ ghost use Rattle.lk_domain.specs.Plays.{Acts, ActsIn, ActsAs, MadeBy, SwappedBy}
 ghost use Rattle.lk_domain.specs.Rows.{is_look, is_take, is_free, queues_up};
 ghost use Rattle.lk_domain.specs.Rows.{looks_by, takes_by, frees_by, pends_by, clears_by, claims_by};
 ghost use Rattle.lk_domain.specs.Rows.{arrives_by, soles_by, stakes_by, is_patient};
+ghost use Rattle.lk_domain.specs.Values.{out_in};
 ghost use Rattle.lk_domain.specs.Views.{IsNumbered};
 ghost use Rattle.lk_domain.specs.Words.{IsNode};
 
@@ -107,6 +108,7 @@ pub(crate) fn release(seat: &mut Right, domain: &Domain, lock: u32) -> u64
     requires number { IsNumbered seat.old.me.0 }
     requires row { Acts is_free seat.old.me.0 Unlock lock }
     requires home { is_first (lock_name lock) ≡ true → seat.old.me.0.ledger.out ≡ None }
+    requires value { out_in seat.old.me.0.calls.holds lock ≡ false }
     ensures same { (seat.new.table_id ≡ seat.old.table_id) × (seat.new.id ≡ seat.old.id) }
     ensures step { MadeBy Unlock lock seat.old.me result seat.new.me }
 {

@@ -1,6 +1,8 @@
 // What a domain is made of.
 
 use lk_abs::{Format, Kind, List, Mode, Topology};
+use lk_cell::Key;
+use std::snapshot::Snapshot;
 
 /// The plan of a domain: what it is made of.
 #[derive(Drop)]
@@ -20,4 +22,7 @@ pub struct Plan {
     pub balances: List<u64>,
     /// For each processor, the most journal entries that it may write.
     pub shares: List<u32>,
+    /// The keys of the cells in which the values of the locks lie, as they were when the domain was
+    /// made. It has no keys: it says which cell is whose. A domain without values has none.
+    pub cells: Option<Snapshot<List<Option<Key>>>>,
 }

@@ -5,6 +5,7 @@ ghost use Rattle.lk_domain.specs.NodePlays.{Readies, Enters, Links, SeesFlag, Se
 ghost use Rattle.lk_domain.specs.NodePlays.{Relinks};
 ghost use Rattle.lk_domain.specs.NodePlays.{Counted, Tells, SeesTail};
 ghost use Rattle.lk_domain.specs.Plays.{Makes, WentBy, Swaps, Draws, Loads, Sees, TakesJournal, Stores, Brings};
+ghost use Rattle.lk_domain.specs.Plays.{TakesValue, BringsValue};
 ghost use Rattle.lk_domain.specs.RwPlays.{Shares};
 ghost use Rattle.lk_domain.specs.Stand.{Stand};
 ghost use Rattle.lk_domain.specs.Views.{view, dealer, newcomer, nobody, own_number, joined};
@@ -12,15 +13,15 @@ ghost use Rattle.lk_domain.specs.Views.{with_more};
 ghost use Rattle.lk_machine.specs.declared.setup.Verb.TheVariants.{Lock, Try, Unlock, Read, TryRead};
 ghost use Rattle.lk_machine.specs.declared.setup.Verb.TheVariants.{RUnlock, Write, TryWrite, WUnlock};
 
-use crate::journal::Journal;
 use crate::plan::Plan;
+use crate::slot::Slot;
 use crate::view::View;
 use atomic_table::{Join, Play, Split, TableRule};
 
 /// The rule of a domain's table: its invariant, and what its first seat knows.
 pub struct Order;
 
-impl TableRule<Option<Journal>, View, Plan> for Order {
+impl TableRule<Slot, View, Plan> for Order {
     ghost holds = { λ plan. Stand plan };
 
     ghost first = { λ plan. view (dealer plan 0) no_calls no_ledger };
@@ -29,161 +30,161 @@ impl TableRule<Option<Journal>, View, Plan> for Order {
 /// A step on the word of a lock, by a call of `lock`.
 pub struct Locks;
 
-impl Play<Option<Journal>, View> for Locks {
+impl Play<Slot, View> for Locks {
     ghost then = { Makes Lock };
 }
 
 /// A step on the word of a lock, by a call of `try_lock`.
 pub struct Tries;
 
-impl Play<Option<Journal>, View> for Tries {
+impl Play<Slot, View> for Tries {
     ghost then = { Makes Try };
 }
 
 /// A step on the word of a lock, by a call of `unlock`.
 pub struct Unlocks;
 
-impl Play<Option<Journal>, View> for Unlocks {
+impl Play<Slot, View> for Unlocks {
     ghost then = { Makes Unlock };
 }
 
 /// A step on the word of a spinlock or a wait lock, by a call that goes on.
 pub struct WordSteps;
 
-impl Play<Option<Journal>, View> for WordSteps {
+impl Play<Slot, View> for WordSteps {
     ghost then = { λ _. WentBy };
 }
 
 /// An exchange of the whole word of a spinlock or a wait lock. A call may try it again.
 pub struct Exchanges;
 
-impl Play<Option<Journal>, View> for Exchanges {
+impl Play<Slot, View> for Exchanges {
     ghost then = { Swaps };
 }
 
 /// A step on the word of a reader-writer lock, by a call of `read_lock`.
 pub struct ReadCalls;
 
-impl Play<Option<Journal>, View> for ReadCalls {
+impl Play<Slot, View> for ReadCalls {
     ghost then = { Shares Read };
 }
 
 /// A step on the word of a reader-writer lock, by a call of `try_read`.
 pub struct TryReadCalls;
 
-impl Play<Option<Journal>, View> for TryReadCalls {
+impl Play<Slot, View> for TryReadCalls {
     ghost then = { Shares TryRead };
 }
 
 /// A step on the word of a reader-writer lock, by a call of `read_unlock`.
 pub struct ReadUnlockCalls;
 
-impl Play<Option<Journal>, View> for ReadUnlockCalls {
+impl Play<Slot, View> for ReadUnlockCalls {
     ghost then = { Shares RUnlock };
 }
 
 /// A step on the word of a reader-writer lock, by a call of `write_lock`.
 pub struct WriteCalls;
 
-impl Play<Option<Journal>, View> for WriteCalls {
+impl Play<Slot, View> for WriteCalls {
     ghost then = { Shares Write };
 }
 
 /// A step on the word of a reader-writer lock, by a call of `try_write`.
 pub struct TryWriteCalls;
 
-impl Play<Option<Journal>, View> for TryWriteCalls {
+impl Play<Slot, View> for TryWriteCalls {
     ghost then = { Shares TryWrite };
 }
 
 /// A step on the word of a reader-writer lock, by a call of `write_unlock`.
 pub struct WriteUnlockCalls;
 
-impl Play<Option<Journal>, View> for WriteUnlockCalls {
+impl Play<Slot, View> for WriteUnlockCalls {
     ghost then = { Shares WUnlock };
 }
 
 /// A call resets a word of the node that it will use, before it enters the slow path.
 pub struct Resets;
 
-impl Play<Option<Journal>, View> for Resets {
+impl Play<Slot, View> for Resets {
     ghost then = { Readies };
 }
 
 /// A call enters the slow path.
 pub struct Entries;
 
-impl Play<Option<Journal>, View> for Entries {
+impl Play<Slot, View> for Entries {
     ghost then = { λ _. Enters };
 }
 
 /// A call links its node behind its predecessor's.
 pub struct Linkings;
 
-impl Play<Option<Journal>, View> for Linkings {
+impl Play<Slot, View> for Linkings {
     ghost then = { λ _. Links };
 }
 
 /// A call polls the flag of its node.
 pub struct FlagLooks;
 
-impl Play<Option<Journal>, View> for FlagLooks {
+impl Play<Slot, View> for FlagLooks {
     ghost then = { λ _. SeesFlag };
 }
 
 /// A call reads the link of a node.
 pub struct LinkLooks;
 
-impl Play<Option<Journal>, View> for LinkLooks {
+impl Play<Slot, View> for LinkLooks {
     ghost then = { λ _. SeesLink };
 }
 
 /// A call hands off.
 pub struct Handovers;
 
-impl Play<Option<Journal>, View> for Handovers {
+impl Play<Slot, View> for Handovers {
     ghost then = { λ _. Hands };
 }
 
 /// A queue head reads which node is the last of the secondary queue.
 pub struct TailLooks;
 
-impl Play<Option<Journal>, View> for TailLooks {
+impl Play<Slot, View> for TailLooks {
     ghost then = { λ _. SeesTail };
 }
 
 /// A queue head that chooses its successor reads its count of handoffs.
 pub struct RunsLooks;
 
-impl Play<Option<Journal>, View> for RunsLooks {
+impl Play<Slot, View> for RunsLooks {
     ghost then = { λ _. Counted };
 }
 
 /// A queue head stores the count of handoffs for its successor.
 pub struct Counts;
 
-impl Play<Option<Journal>, View> for Counts {
+impl Play<Slot, View> for Counts {
     ghost then = { λ _. Tells };
 }
 
 /// A queue head stores a link into the node of another waiter.
 pub struct Relinkings;
 
-impl Play<Option<Journal>, View> for Relinkings {
+impl Play<Slot, View> for Relinkings {
     ghost then = { λ _. Relinks };
 }
 
 /// A queue head stores the last node of the secondary queue into the first one.
 pub struct Namings;
 
-impl Play<Option<Journal>, View> for Namings {
+impl Play<Slot, View> for Namings {
     ghost then = { λ _. Names };
 }
 
 /// The first seat draws a number.
 pub struct Draw;
 
-impl Play<Option<Journal>, View> for Draw {
+impl Play<Slot, View> for Draw {
     ghost then = { Draws };
 }
 
@@ -208,34 +209,48 @@ impl Join<View> for TakeOver {
 /// A balance is loaded.
 pub struct LoadBalance;
 
-impl Play<Option<Journal>, View> for LoadBalance {
+impl Play<Slot, View> for LoadBalance {
     ghost then = { Loads };
 }
 
 /// The version is loaded.
 pub struct LoadVersion;
 
-impl Play<Option<Journal>, View> for LoadVersion {
+impl Play<Slot, View> for LoadVersion {
     ghost then = { Sees };
 }
 
 /// The journal is taken out, by a load of the version.
 pub struct TakeJournal;
 
-impl Play<Option<Journal>, View> for TakeJournal {
+impl Play<Slot, View> for TakeJournal {
     ghost then = { TakesJournal };
 }
 
 /// A balance is stored.
 pub struct StoreBalance;
 
-impl Play<Option<Journal>, View> for StoreBalance {
+impl Play<Slot, View> for StoreBalance {
     ghost then = { Stores };
 }
 
 /// The journal is brought home, by a store of the version.
 pub struct BringJournal;
 
-impl Play<Option<Journal>, View> for BringJournal {
+impl Play<Slot, View> for BringJournal {
     ghost then = { Brings };
+}
+
+// The key of a lock's value is taken out, by a load.
+pub struct TakeValue;
+
+impl Play<Slot, View> for TakeValue {
+    ghost then = { TakesValue };
+}
+
+// It is brought home, by a load.
+pub struct BringValue;
+
+impl Play<Slot, View> for BringValue {
+    ghost then = { BringsValue };
 }

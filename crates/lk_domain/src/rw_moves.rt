@@ -1,5 +1,5 @@
 // The steps of a seat on the word of a reader-writer lock, each one operation.
-ghost use Rattle.std.specs.Prelude.{◌≡◌, ◌<◌, true, None};
+ghost use Rattle.std.specs.Prelude.{◌≡◌, ◌<◌, true, false, None};
 ghost use Rattle.lk_machine.specs.declared.setup.Verb.TheVariants.{Read, TryRead, RUnlock, Write};
 ghost use Rattle.lk_machine.specs.declared.setup.Verb.TheVariants.{TryWrite, WUnlock};
 ghost use Rattle.lk_domain.specs.Calls.{lock_name};
@@ -8,6 +8,7 @@ ghost use Rattle.lk_domain.specs.Plans.{locks_of};
 ghost use Rattle.lk_domain.specs.RwPlays.{ActsFor, SharedBy};
 ghost use Rattle.lk_domain.specs.RwRows.{watches_by, joins_by, quits_by, seizes_by, awaits_by};
 ghost use Rattle.lk_domain.specs.RwRows.{follows_by, leaves_by};
+ghost use Rattle.lk_domain.specs.Values.{out_in};
 ghost use Rattle.lk_domain.specs.Views.{IsNumbered};
 
 use crate::cpu::Right;
@@ -223,6 +224,7 @@ pub(crate) fn leave_as_writer(seat: &mut Right, domain: &Domain, lock: u32) -> u
     requires number { IsNumbered seat.old.me.0 }
     requires row { ActsFor (leaves_by WUnlock) seat.old.me.0 WUnlock lock }
     requires home { is_first (lock_name lock) ≡ true → seat.old.me.0.ledger.out ≡ None }
+    requires value { out_in seat.old.me.0.calls.holds lock ≡ false }
     ensures same { (seat.new.table_id ≡ seat.old.table_id) × (seat.new.id ≡ seat.old.id) }
     ensures step { SharedBy WUnlock lock seat.old.me result seat.new.me }
 {

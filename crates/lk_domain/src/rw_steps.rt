@@ -11,6 +11,7 @@ ghost use Rattle.lk_domain.specs.RwRows.{watches_on, watch_takes, joins_on, join
 ghost use Rattle.lk_domain.specs.RwRows.{seizes_on};
 ghost use Rattle.lk_domain.specs.RwSeats.{MadeShared};
 ghost use Rattle.lk_domain.specs.Seats.{IsOf, KeepsRest, calls_of, ledger_of, view_of};
+ghost use Rattle.lk_domain.specs.Values.{out_in};
 ghost use Rattle.lk_domain.specs.Views.{IsNumbered};
 
 use crate::cpu::{Cpu, Right};
@@ -316,6 +317,7 @@ pub fn writer_release(cpu: &mut Cpu, domain: &Domain, verb: Verb, lock: LockName
     requires plain { lock.wait ≡ false }
     requires row { ActsFor (leaves_by verb) (view_of cpu.old) verb lock.index }
     requires home { is_first (lock_name lock.index) ≡ true → (ledger_of cpu.old).out ≡ None }
+    requires value { out_in (calls_of cpu.old).holds lock.index ≡ false }
     ensures rest { KeepsRest cpu.old cpu.new }
     ensures step { MadeShared verb lock.index cpu.old result cpu.new }
 {

@@ -12,6 +12,7 @@ ghost use Rattle.lk_domain.specs.Rows.{queues_up as queues};
 ghost use Rattle.lk_domain.specs.RwPlays.{Watches};
 ghost use Rattle.lk_domain.specs.RwSeats.{MadeShared};
 ghost use Rattle.lk_domain.specs.Seats.{IsOf, KeepsRest, Made, calls_of, ledger_of, view_of};
+ghost use Rattle.lk_domain.specs.Values.{out_in};
 ghost use Rattle.lk_domain.specs.Views.{IsNumbered};
 
 pub use crate::choice_steps::{
@@ -165,6 +166,7 @@ fn free_lock(cpu: &mut Cpu, domain: &Domain, lock: u32) -> u64
     requires lock { lock < locks_of domain.now.plan }
     requires row { Acts is_free (view_of cpu.old) Unlock lock }
     requires home { is_first (lock_name lock) ≡ true → (ledger_of cpu.old).out ≡ None }
+    requires value { out_in (calls_of cpu.old).holds lock ≡ false }
     ensures rest { KeepsRest cpu.old cpu.new }
     ensures step { Made Unlock lock cpu.old result cpu.new }
 {
@@ -196,6 +198,7 @@ pub fn release(cpu: &mut Cpu, domain: &Domain, verb: Verb, lock: LockName) -> u6
     requires lock { lock.index < locks_of domain.now.plan }
     requires row { ActsIn (frees_by verb) (view_of cpu.old) verb lock }
     requires home { is_first lock ≡ true → (ledger_of cpu.old).out ≡ None }
+    requires value { lock.wait ≡ false → out_in (calls_of cpu.old).holds lock.index ≡ false }
     ensures rest { KeepsRest cpu.old cpu.new }
     ensures step { Made verb lock.index cpu.old result cpu.new }
 {

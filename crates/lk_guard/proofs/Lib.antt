@@ -4,3 +4,4 @@ pub mod Appends
 pub mod Rounds
 pub mod Begins
 pub mod PvBegins
+pub mod Crossing

@@ -1,5 +1,5 @@
 -- What the steps on kick words ask.
-use Rattle.std.proofs.Common.{◌≡◌, ℕ, ◌<◌, ◌≤◌, get_or, set, Some, None, Bool, true, false}
+use Rattle.std.proofs.Common.{◌≡◌, ℕ, ◌<◌, ◌≤◌, get_or, set, Some, Bool, true, false}
 use Rattle.std.proofs.Common.{refl, sym, ap, ◌∙◌, subst, arith, get_or-set_other, [], ◌∷◌}
 use mathlib.Core.Logic.{dite}
 use native.Mathlib.Decide.{ℕ_discrete}
@@ -15,8 +15,8 @@ use Rattle.lk_machine.specs.TopRow.{target}
 use Rattle.lk_law.specs.Agree.{halts}
 use Rattle.lk_law.specs.Leads.{Met, Marked, held_lock}
 use Rattle.lk_domain.specs.Calls.{terms_of, Calls, Running, StandsOn, acting, grip_of, plain}
-use Rattle.lk_domain.specs.Keeps.{Slot, Keeps, Knows}
-use Rattle.lk_domain.specs.Ledgers.{is_first, turned}
+use Rattle.lk_domain.specs.Keeps.{AllHome, Slot, Keeps, Knows}
+use Rattle.lk_domain.specs.Ledgers.{turned}
 use Rattle.lk_domain.specs.Plans.{accounts_of, cpus_of}
 use Rattle.lk_domain.specs.Plays.{went, turned_of}
 use Rattle.lk_domain.specs.Runs.{Runs}
@@ -26,6 +26,7 @@ use Rattle.lk_domain.specs.Words.{version_at, balance_at, kick_at}
 use Rattle.lk_domain.specs.declared.plan.Plan.{Plan}
 use Rattle.lk_domain.specs.declared.view.View.{View}
 use Rattle.lk_domain.proofs.Acting.{acting_is}
+use Rattle.lk_domain.proofs.Outs.{acting_holds}
 use Rattle.lk_domain.proofs.ledger.Purses.{alters, knows_after, knows_same}
 use Rattle.lk_domain.proofs.queue.LockSwaps.{stands}
 use Rattle.lk_domain.proofs.queue.NodePlays.{acts', asks, calls_are, kept, planned}
@@ -105,17 +106,17 @@ wake_plays k slots id m number x halting is_x asleep s both long me small =
       record {
         runs = on.wake_step k s st id m.0 me p number.1 halting x is_x asleep (woken m.0) refl refl s.homes;
         keeps = alters k s both.keeps id m.0 (woken m.0) (set s.words j 0) me refl
-            (knows_same k both.keeps.journal m.0 (woken m.0) (both.keeps.knows id m.0 me) refl refl refl refl)
+            (knows_same k both.keeps.journal m.0 (woken m.0) (both.keeps.knows id m.0 me) refl refl refl refl (λ l is. is))
             (get_or-set_other s.words j 0 0 0 (λ e. bare.roll (sym e)))
             (get_or-set_other s.words j version_at 0 0 (λ e. bare.version (sym e)))
-            (λ a lt. get_or-set_other s.words j (balance_at k a) 0 0 (λ e. bare.balances a lt (sym e))) refl;
+            (λ a lt. get_or-set_other s.words j (balance_at k a) 0 0 (λ e. bare.balances a lt (sym e))) refl refl;
       },
       record { wakes = λ _. refl; stays = λ e. absurd (some e) },
     ))
 
 -- the ledger part of a row of the newest call that may free its lock
 module _ (k : Plan) (id : ℕ) (m : Me Slot View) (number : IsNumbered m.0) (v : Verb) (lock : LockName) (pc : Pc)
-    (acts : StandsOn m.0.calls v lock pc) (home : is_first lock ≡ true → m.0.ledger.out ≡ None)
+    (acts : StandsOn m.0.calls v lock pc) (home : AllHome lock m.0)
     (own : held_lock (target pc acts.frame) acts.frame ≡ lock) (s : Table Slot View) (both : Stand k s)
     (me : get_elem? s.views id ≡ some m.0)
     (unseen : IsSeen pc (target pc acts.frame) (acting k.mode m.0.calls v lock.index).runs) where
@@ -146,10 +147,11 @@ module _ (k : Plan) (id : ℕ) (m : Me Slot View) (number : IsNumbered m.0) (v :
       calls_are k id m number v lock pc acts s both me y
       ∙ lands.rowed k s both.runs id m.0 me number.0 number.1 v lock pc ask go unseen y is true_ in
       knows_after k both.keeps.journal m.0 u number.0 number.1 (both.keeps.knows id m.0 me) c f.ctx (held_lock t f) trail
-      (acting_any k.mode m.0.calls v lock.index) (acting_sole k.mode m.0.calls v lock.index) refl (grip_of t o) ledger
+      (acting_any k.mode m.0.calls v lock.index) (acting_sole k.mode m.0.calls v lock.index)
+      (acting_holds k.mode m.0.calls v lock.index) refl (grip_of t o) ledger
       (ap (λ (z : Calls). z.holds) rowed)
       (fresh.fresh k s both.runs id m.0 me number.0 number.1 v lock pc ask go unseen)
-      (λ e first. home (ap is_first (sym own) ∙ first))
+      (λ e. subst (λ (z : LockName). AllHome z m.0) (sym own) home)
 
   pub kept_home : (y : Met) → plain y ≡ x → IsTrue made_in pc y → (j n : ℕ) → IsBare k j
       → Keeps k (record { words = set s.words j n; homes = s.homes; views = set s.views id (went m.0 y) })
@@ -159,11 +161,11 @@ module _ (k : Plan) (id : ℕ) (m : Me Slot View) (number : IsNumbered m.0) (v :
       alters k s both.keeps id m.0 (went m.0 y) (set s.words j n) me purse.share (knows y is true_)
       (get_or-set_other s.words j 0 n 0 (λ e. bare.roll (sym e)))
       (get_or-set_other s.words j version_at n 0 (λ e. bare.version (sym e)))
-      (λ a lt. get_or-set_other s.words j (balance_at k a) n 0 (λ e. bare.balances a lt (sym e))) purse.out
+      (λ a lt. get_or-set_other s.words j (balance_at k a) n 0 (λ e. bare.balances a lt (sym e))) purse.out refl
 
 -- the row by which a kick is remembered
 pub kick_plays : (k : Plan) (slots id : ℕ) (m : Me Slot View) (number : IsNumbered m.0) (v : Verb) (lock : LockName)
-    → halts k.mode ≡ true → (acts : StandsOn m.0.calls v lock U5) → (is_first lock ≡ true → m.0.ledger.out ≡ None)
+    → halts k.mode ≡ true → (acts : StandsOn m.0.calls v lock U5) → AllHome lock m.0
     → (node_of acts.frame.target).cpu < cpus_of k
     → Allows (Stand k) slots id m (kick_at k (node_of acts.frame.target).cpu) (λ _. 1) (Kicks m)
 kick_plays k slots id m number v lock halting acts home near s both long me small =

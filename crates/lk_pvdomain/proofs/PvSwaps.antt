@@ -25,8 +25,7 @@ use Rattle.lk_machine.specs.rows.Pv.{pv_row}
 use Rattle.lk_machine.specs.TopRow.{target}
 use Rattle.lk_law.specs.Leads.{Word}
 use Rattle.lk_domain.specs.Calls.{StandsOn, acting, Begins, grip_led, Frees, lock_name}
-use Rattle.lk_domain.specs.Keeps.{Slot}
-use Rattle.lk_domain.specs.Ledgers.{is_first}
+use Rattle.lk_domain.specs.Keeps.{AllHome, Slot}
 use Rattle.lk_domain.specs.Plans.{locks_of, layout_in}
 use Rattle.lk_domain.specs.Plays.{ActsOn, made}
 use Rattle.lk_domain.specs.Stand.{Stand}
@@ -46,7 +45,7 @@ module _ (k : Plan) (slots id : ℕ) (m : Me Slot View) (number : IsNumbered m.0
     (l : LockName) (near : l.index < locks_of k) (pc : Pc)
     (acts : StandsOn (acting m.0.who.plan.mode m.0.calls verb l.index) verb l pc)
     (asks : Begins m.0.who.plan m.0.calls verb l.index) (word : (fr : Frame) → OnWord (target pc fr))
-    (home : MayFree pc → is_first l ≡ true → m.0.ledger.out ≡ None) where
+    (home : MayFree pc → AllHome l m.0) where
   pub tries : (fails : Fields → Bool) (old new : ℕ)
       → ((y : Fields) → packed (layout_in k) y ≡ old → new ≡ packed (layout_in k) (unwrap_or (pv_row 1 pc acts.frame y).stores y))
       → ((y : Fields) → fails y ≡ true → (pv_row 1 pc acts.frame y).stores ≡ None)
@@ -214,14 +213,14 @@ module _ (k plan : Plan) (slots id : ℕ) (m : Me Slot View) (number : IsNumbere
   low = subst (λ (x : Plan). l.index < locks_of x) (sym same) near
 
   release_row : StandsOn (acting m.0.who.plan.mode m.0.calls verb l.index) verb l U2
-      → Begins m.0.who.plan m.0.calls verb l.index → (is_first l ≡ true → m.0.ledger.out ≡ None) → (x : ℕ) → x % 256 ≡ 1
+      → Begins m.0.who.plan m.0.calls verb l.index → AllHome l m.0 → (x : ℕ) → x % 256 ≡ 1
       → Allows (Stand k) slots id m (word_at l) (λ n. either (eqb n x) (x - 1) n) (TriedBy release_fails verb l x m)
   release_row acts begins home x small =
       tries k slots id m number verb l low U2 acts begins (λ f. tt) (λ may. home) release_fails x (x - 1)
       (λ y is. free_by (layout_in k) acts.frame y.locked y.pending y.tail x small is)
       (λ y fail. free_misses acts.frame y.locked y.pending y.tail fail) (λ mode y. refl)
 
-  pub release_asks : (acts : ActsOn tries_release m.0 verb l) → (is_first l ≡ true → m.0.ledger.out ≡ None) → (x : ℕ) → x % 256 ≡ 1
+  pub release_asks : (acts : ActsOn tries_release m.0 verb l) → AllHome l m.0 → (x : ℕ) → x % 256 ≡ 1
       → Allows (Stand k) slots id m i (λ n. either (eqb n x) (x - 1) n) (TriedBy release_fails verb l x m)
   release_asks acts home x small =
       subst (λ (z : ℕ). Allows (Stand k) slots id m z (λ n. either (eqb n x) (x - 1) n) (TriedBy release_fails verb l x m)) (sym at)
@@ -288,7 +287,7 @@ module _ (k plan : Plan) (slots id : ℕ) (m : Me Slot View) (number : IsNumbere
             (subst (λ (z : ℕ). TriedBy fails v (lock_name l) z m (get_or s.words i 0) (t.0, Rattle.atomic_table.specs.Table.carried_after m.1 t.1)) (sym first) t.4),
       )
 
-  pub release_told : x % 256 ≡ 1 → ActsOn tries_release m.0 Unlock (lock_name l) → (is_first (lock_name l) ≡ true → m.0.ledger.out ≡ None)
+  pub release_told : x % 256 ≡ 1 → ActsOn tries_release m.0 Unlock (lock_name l) → AllHome (lock_name l) m.0
       → Allows (Stand k) slots id m i (λ n. either (eqb n x) (x - 1) n) (Tries release_fails Unlock st m)
   release_told small acts home = told release_fails Unlock (λ n. either (eqb n x) (x - 1) n)
       (release_asks k plan slots id m number Unlock (lock_name l) i same near at acts home x small)

@@ -19,8 +19,7 @@ use Rattle.lk_machine.specs.declared.parts.Pc.TheVariants.{P1, H1, E3, E5, E7, E
 use Rattle.lk_machine.specs.declared.setup.Verb.{Verb}
 use Rattle.atomic_table.specs.Table.{Me, Allows}
 use Rattle.lk_abs.specs.declared.names.LockName.{LockName}
-use Rattle.lk_domain.specs.Keeps.{Slot}
-use Rattle.lk_domain.specs.Ledgers.{is_first}
+use Rattle.lk_domain.specs.Keeps.{AllHome, Slot}
 use Rattle.lk_domain.specs.Plans.{locks_of, layout_in}
 use Rattle.lk_domain.specs.Plays.{ActsOn, WentBy}
 use Rattle.lk_domain.specs.Stand.{Stand}
@@ -279,7 +278,7 @@ module _ (k plan : Plan) (slots id : ℕ) (m : Me Slot View) (number : IsNumbere
       (λ may. absurd (sign_frees h.row h.is may)) (sign_later h.row verb h.is) (λ x. (x + 2) % 2 ^ 64)
       (λ mode y packs known. sign (layout_in plan) mode h.row h.stands.frame y h.is packs known)
 
-  pub drop_asks : AtWord drops verb n m.0 → (is_first n ≡ true → m.0.ledger.out ≡ None)
+  pub drop_asks : AtWord drops verb n m.0 → AllHome n m.0
       → Allows (Stand k) slots id m i (λ x. (x + (2 ^ 64 - 3)) % 2 ^ 64) (WentBy m)
   drop_asks h home =
       asks_on k plan slots id m number verb n i same near at drops (acts_at drops m verb n h) (λ c q f. drop_on c f q)

@@ -17,10 +17,10 @@ use Rattle.lk_machine.specs.rows.Spin.{is_unlocked}
 use Rattle.lk_machine.specs.rows.Cna.{is_held}
 use Rattle.lk_domain.specs.Calls.{Running, StandsOn, lock_name}
 use Rattle.lk_domain.specs.Plans.{layout_in}
+use Rattle.lk_domain.specs.Keeps.{AllHome}
 use Rattle.lk_domain.specs.Plays.{Goes, made}
 use Rattle.lk_domain.specs.Words.{state_number, pair_number, mark_number, lock_at, places_of, IsNode}
 use Rattle.lk_domain.specs.declared.view.View.{View}
-use Rattle.lk_domain.specs.Ledgers.{is_first}
 use Rattle.lk_pvdomain.specs.PvRows.{state_node, halts_at, looks_flag, fills, filled_with, erases}
 
 -- the newest call stands at a row of this kind, which operates on the state of this node
@@ -85,12 +85,12 @@ pub record AtHalt (v : View) : Type 0 where
   pub is : halts_at row ≡ true
   pub stands : StandsOn v.calls verb lock row
 
--- it will kick this processor, and the journal is at home where it has freed lock 0
+-- it will kick this processor, and all that lies under the lock that it has freed is at home
 pub record AtKick (cpu : ℕ) (v : View) : Type 0 where
   pub verb : Verb
   pub lock : LockName
   pub stands : StandsOn v.calls verb lock U5
-  pub home : is_first lock ≡ true → v.ledger.out ≡ None
+  pub home : AllHome lock v
   pub target : (node_of stands.frame.target).cpu ≡ cpu
 
 -- it will put the lock into the hash, with this node

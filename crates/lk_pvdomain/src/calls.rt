@@ -7,6 +7,7 @@ ghost use Rattle.lk_domain.specs.Ledgers.{is_first};
 ghost use Rattle.lk_domain.specs.Paths.{Any};
 ghost use Rattle.lk_domain.specs.Plans.{locks_of};
 ghost use Rattle.lk_domain.specs.Words.{IsNode};
+ghost use Rattle.lk_domain.specs.Values.{out_in};
 ghost use Rattle.lk_pvdomain.specs.PvSeats.{IsOf, IsSame, calls_of, ledger_of};
 ghost use Rattle.lk_pvdomain.specs.PvCalls.{HasFreed, HasMissed, HasTaken, HasTakenBy, IsResting, without};
 ghost use Rattle.lk_pvdomain.specs.PvPaths.{At, Ended, Follows, Owns, Rests, Start, Took, first_of};
@@ -126,6 +127,7 @@ pub fn pv_unlock<R: Wait>(cpu: &mut PvCpu, rt: &R, domain: &PvDomain, lock: Lock
     requires rests { IsResting (calls_of cpu.old) }
     requires held { holds_in (calls_of cpu.old).holds lock.index ≡ true }
     requires home { is_first (lock_name lock.index) ≡ true → (ledger_of cpu.old).out ≡ None }
+    requires value { out_in (calls_of cpu.old).holds lock.index ≡ false }
     ensures same { IsSame cpu.old cpu.new }
     ensures freed { HasFreed domain.now lock.index cpu.old cpu.new }
     ensures others { (calls_of cpu.new).holds

@@ -1,6 +1,6 @@
 // A processor whose family halts.
 ghost use Rattle.std.specs.Prelude.{◌≡◌, Some};
-ghost use Rattle.lk_domain.specs.Plays.{carried_with};
+ghost use Rattle.lk_domain.specs.Plays.{carried_of};
 
 use lk_domain::Right;
 
@@ -13,7 +13,7 @@ pub struct PvCpu {
     /// of the same processor.
     pub seat: Right,
     ghost numbered: { seat.me.0.who.number ≡ Some number },
-    ghost carried: { seat.me.1 ≡ carried_with seat.me.0.ledger.out },
+    ghost carried: { seat.me.1 ≡ carried_of seat.me.0 },
 }
 
 impl PvCpu {

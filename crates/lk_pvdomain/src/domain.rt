@@ -8,7 +8,7 @@ ghost use Rattle.lk_domain.specs.Words.{state_number, far_of, node_at, name_numb
 
 use atomic_table::Table;
 use lk_abs::Format;
-use lk_domain::{Journal, Order, Part, Plan, View};
+use lk_domain::{Order, Part, Plan, Slot, View};
 use lk_machine::State;
 use lk_word::{Layout, NodeName};
 use std::alloc::Global;
@@ -17,13 +17,13 @@ use std::alloc::Global;
 #[derive(Drop)]
 pub struct PvDomain {
     /// The table of its atomic words.
-    pub table: Table<Option<Journal>, View, Plan, Order, Global>,
+    pub table: Table<Slot, View, Plan, Order, Global>,
     /// The plan of the table. Its `threshold` is the spin bound of the waiters, in turns.
     pub plan: Plan,
     ghost lawful: { IsRunningPlan plan },
     ghost halting: { halts plan.mode ≡ true },
     ghost words: { table.shared.table_id.words ≡ words_of plan },
-    ghost slots: { table.shared.table_id.slots ≡ 1 },
+    ghost slots: { table.shared.table_id.slots ≡ 1 + locks_of plan },
     ghost key: { table.shared.key ≡ plan },
 }
 

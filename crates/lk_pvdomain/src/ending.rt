@@ -1,5 +1,5 @@
 // The end of a domain whose waiters halt.
-ghost use Rattle.std.specs.Prelude.{◌≡◌, ◌<◌, None, Err, IfOk, length};
+ghost use Rattle.std.specs.Prelude.{◌≡◌, ◌<◌, [], None, Err, IfOk, length};
 ghost use Rattle.lk_abs.specs.Journal.{balances_after};
 ghost use Rattle.lk_domain.specs.Ends.{HasPast};
 ghost use Rattle.lk_domain.specs.Plans.{cpus_of};
@@ -55,6 +55,7 @@ fn join_all(domain: &PvDomain, mut cpus: List<PvCpu>) -> Right
     requires rest { AllRest domain.now cpus.items }
     ensures seat { IsSeatOf domain.now.plan domain.now.table.shared.table_id result }
     ensures home { result.me.0.ledger.out ≡ None }
+    ensures holds { result.me.0.calls.holds ≡ [] }
     ensures all { HasPast ledger_of 0 cpus.items (all_past result.me.0) }
 {
     let PvCpu { number: _, seat } = cpus.pop();
@@ -85,10 +86,13 @@ pub fn pv_close(alloc: Global, domain: PvDomain, cpus: List<PvCpu>) -> Result<Pv
     let Ok(mut balances) = List::new(alloc, domain.accounts() as usize) else {
         return Err(PvBack { domain, cpus });
     };
+    let Ok(mut keys) = List::new(alloc, domain.plan.locks.len()) else {
+        return Err(PvBack { domain, cpus });
+    };
     let at_end = Snapshot::of(&cpus);
     let last = join_all(&domain, cpus);
     let PvDomain { table, plan } = domain;
-    let journal = ledger_steps::end(table, &plan, last, &mut balances);
+    let journal = ledger_steps::end(table, &plan, last, &mut balances, &mut keys);
     Ok(PvClosed {
         balances,
         journal,

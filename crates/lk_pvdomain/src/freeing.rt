@@ -6,6 +6,7 @@ ghost use Rattle.lk_domain.specs.Calls.{Frees, holds_in, lock_name};
 ghost use Rattle.lk_domain.specs.Ledgers.{is_first};
 ghost use Rattle.lk_domain.specs.Paths.{Any};
 ghost use Rattle.lk_domain.specs.Plans.{locks_of};
+ghost use Rattle.lk_domain.specs.Values.{out_in};
 ghost use Rattle.lk_pvdomain.specs.PvPaths.{At, Ended, Rests, Start, first_of};
 
 use crate::domain::PvDomain;
@@ -28,6 +29,7 @@ pub(crate) fn release<R: Wait>(
     requires lock { lock < locks_of domain.now.plan }
     requires held { holds_in seat.old.me.0.calls.holds lock ≡ true }
     requires home { is_first (lock_name lock) ≡ true → seat.old.me.0.ledger.out ≡ None }
+    requires value { out_in seat.old.me.0.calls.holds lock ≡ false }
     ensures freed { result ≡ true
         → Ended domain.now Unlock lock own (first_of Unlock lock seat.old) Frees seat.new }
     ensures seeks { result ≡ false
@@ -53,6 +55,7 @@ pub(crate) fn release<R: Wait>(
 pub(crate) fn wake_next(seat: &mut Right, domain: &PvDomain, lock: u32, own: NodeName)
     requires at { (s : Start) × At domain.now Unlock lock own s U3 Any seat.old }
     requires home { is_first (lock_name lock) ≡ true → seat.old.me.0.ledger.out ≡ None }
+    requires value { out_in seat.old.me.0.calls.holds lock ≡ false }
     ensures freed { (s : Start) → At domain.now Unlock lock own s U3 Any seat.old
         → Ended domain.now Unlock lock own s Frees seat.new }
 {

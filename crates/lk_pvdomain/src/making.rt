@@ -13,7 +13,7 @@ use crate::domain::PvDomain;
 use crate::plan::PvPlan;
 use atomic_table::{Refused, Table};
 use lk_abs::{List, Memory};
-use lk_domain::{Deal, Draw, Journal, Plan, Right, opening_words};
+use lk_domain::{Deal, Draw, Journal, Plan, Right, no_keys, opening_slots, opening_words};
 use std::alloc::Global;
 
 impl PvDomain {
@@ -43,6 +43,7 @@ impl PvDomain {
     fn rest(alloc: Global, plan: Plan) -> Result<(PvDomain, Right), Memory>
         requires plan { IsRunningPlan plan }
         requires halting { halts plan.mode ≡ true }
+        requires cells { plan.cells ≡ None }
         ensures plan { IfOk result (λ made. made.0.plan ≡ plan) }
         ensures table { IfOk result (λ made. made.1.table_id ≡ made.0.table.shared.table_id) }
         ensures dealer { IfOk result (λ made. made.1.me.0
@@ -50,8 +51,8 @@ impl PvDomain {
     {
         let words = opening_words(alloc, &plan)?;
         let journal = Journal::new(alloc, plan.room())?;
-        let mut slots = Vec::with_capacity(alloc, 1)?;
-        slots.push_reserved(Some(journal));
+        let keys = no_keys(alloc, plan.locks.len())?;
+        let slots = opening_slots(alloc, journal, keys)?;
         match Table::new(alloc, words.as_slice(), slots, &plan) {
             Ok((table, dealer)) => Ok((PvDomain { table, plan }, dealer)),
             Err(Refused { slots: _ }) => Err(Memory),

@@ -42,6 +42,7 @@ impl PvPlan {
             locks,
             balances,
             shares,
+            cells: None,
         })
     }
 }

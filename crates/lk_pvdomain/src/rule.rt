@@ -6,165 +6,165 @@ ghost use Rattle.lk_pvdomain.specs.PvPlays.{SparedBy, release_fails, head_fails,
 ghost use Rattle.lk_machine.specs.declared.setup.Verb.TheVariants.{Lock, Try, Unlock};
 
 use atomic_table::Play;
-use lk_domain::{Journal, View};
+use lk_domain::{Slot, View};
 
 // A step on the state of a node.
 pub struct StateSteps;
 
-impl Play<Option<Journal>, View> for StateSteps {
+impl Play<Slot, View> for StateSteps {
     ghost then = { λ _. SeesState };
 }
 
 // A step on the word of a lock.
 pub struct WordSteps;
 
-impl Play<Option<Journal>, View> for WordSteps {
+impl Play<Slot, View> for WordSteps {
     ghost then = { λ _. WentBy };
 }
 
 // The processor halts, in a read of its kick word.
 pub struct HaltLooks;
 
-impl Play<Option<Journal>, View> for HaltLooks {
+impl Play<Slot, View> for HaltLooks {
     ghost then = { λ _. Halts };
 }
 
 // A read that leaves the seat as it was.
 pub struct Glances;
 
-impl Play<Option<Journal>, View> for Glances {
+impl Play<Slot, View> for Glances {
     ghost then = { λ _. Stays };
 }
 
 // The exchange that takes a kick.
 pub struct Wakings;
 
-impl Play<Option<Journal>, View> for Wakings {
+impl Play<Slot, View> for Wakings {
     ghost then = { λ _. Wakes };
 }
 
 // A kick is remembered.
 pub struct KickStores;
 
-impl Play<Option<Journal>, View> for KickStores {
+impl Play<Slot, View> for KickStores {
     ghost then = { λ _. Kicks };
 }
 
 // A swap by a release, which may be tried again.
 pub struct ReleaseTries;
 
-impl Play<Option<Journal>, View> for ReleaseTries {
+impl Play<Slot, View> for ReleaseTries {
     ghost then = { Tries release_fails Unlock };
 }
 
 // A swap by a queue head, which may be tried again.
 pub struct HeadTries;
 
-impl Play<Option<Journal>, View> for HeadTries {
+impl Play<Slot, View> for HeadTries {
     ghost then = { Tries head_fails Lock };
 }
 
 // A swap by a call that steals, which may be tried again.
 pub struct StealTries;
 
-impl Play<Option<Journal>, View> for StealTries {
+impl Play<Slot, View> for StealTries {
     ghost then = { Tries steal_fails Lock };
 }
 
 // A waiter reads its flag.
 pub struct FlagLooks;
 
-impl Play<Option<Journal>, View> for FlagLooks {
+impl Play<Slot, View> for FlagLooks {
     ghost then = { λ _. SeesFlag };
 }
 
 // A call reads the link of its node.
 pub struct LinkLooks;
 
-impl Play<Option<Journal>, View> for LinkLooks {
+impl Play<Slot, View> for LinkLooks {
     ghost then = { λ _. SeesLink };
 }
 
 // A queue head hands off.
 pub struct Handovers;
 
-impl Play<Option<Journal>, View> for Handovers {
+impl Play<Slot, View> for Handovers {
     ghost then = { λ _. Hands };
 }
 
 // A call links its node behind that of its predecessor.
 pub struct Linkings;
 
-impl Play<Option<Journal>, View> for Linkings {
+impl Play<Slot, View> for Linkings {
     ghost then = { λ _. Links };
 }
 
 // A word of the node to come is reset.
 pub struct Resets;
 
-impl Play<Option<Journal>, View> for Resets {
+impl Play<Slot, View> for Resets {
     ghost then = { Readies };
 }
 
 // A look at a word of the node to come, which need not be reset where it is 0.
 pub struct ResetLooks;
 
-impl Play<Option<Journal>, View> for ResetLooks {
+impl Play<Slot, View> for ResetLooks {
     ghost then = { λ st m. SparedBy (Readies st m) m };
 }
 
 // A step on the word of a lock by a call that takes it.
 pub struct Locks;
 
-impl Play<Option<Journal>, View> for Locks {
+impl Play<Slot, View> for Locks {
     ghost then = { Makes Lock };
 }
 
 // The same by a call that tries it once.
 pub struct TryCalls;
 
-impl Play<Option<Journal>, View> for TryCalls {
+impl Play<Slot, View> for TryCalls {
     ghost then = { Makes Try };
 }
 
 // An exchange of the whole word, which may be tried again.
 pub struct Exchanges;
 
-impl Play<Option<Journal>, View> for Exchanges {
+impl Play<Slot, View> for Exchanges {
     ghost then = { Swaps };
 }
 
 // The last private store of a node to come, by which the call enters the slow path.
 pub struct Entries;
 
-impl Play<Option<Journal>, View> for Entries {
+impl Play<Slot, View> for Entries {
     ghost then = { λ _. Enters };
 }
 
 // A look at that word, by which the call enters the slow path where it is 0.
 pub struct EntryLooks;
 
-impl Play<Option<Journal>, View> for EntryLooks {
+impl Play<Slot, View> for EntryLooks {
     ghost then = { λ _ m. SparedBy (Enters m) m };
 }
 
 // An entry is put into the hash, where its place is empty.
 pub struct Fillings;
 
-impl Play<Option<Journal>, View> for Fillings {
+impl Play<Slot, View> for Fillings {
     ghost then = { λ _. Fills };
 }
 
 // A look at a place of the hash.
 pub struct PlaceLooks;
 
-impl Play<Option<Journal>, View> for PlaceLooks {
+impl Play<Slot, View> for PlaceLooks {
     ghost then = { λ _. SeesHash };
 }
 
 // An entry is taken out of the hash.
 pub struct Erasings;
 
-impl Play<Option<Journal>, View> for Erasings {
+impl Play<Slot, View> for Erasings {
     ghost then = { λ _. Empties };
 }

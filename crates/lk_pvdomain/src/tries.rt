@@ -1,10 +1,11 @@
 // The swaps of a byte of a word, each by one exchange of the whole word.
-ghost use Rattle.std.specs.Prelude.{◌≡◌, ◌<◌, ◌%◌, None, true};
+ghost use Rattle.std.specs.Prelude.{◌≡◌, ◌<◌, ◌%◌, None, true, false};
 ghost use Rattle.lk_domain.specs.Calls.{lock_name};
 ghost use Rattle.lk_domain.specs.Ledgers.{is_first};
 ghost use Rattle.lk_domain.specs.Plans.{locks_of};
 ghost use Rattle.lk_domain.specs.Plays.{Acts, MadeBy};
 ghost use Rattle.lk_domain.specs.Views.{IsNumbered};
+ghost use Rattle.lk_domain.specs.Values.{out_in};
 ghost use Rattle.lk_machine.specs.declared.setup.Verb.TheVariants.{Lock, Unlock};
 ghost use Rattle.lk_pvdomain.specs.PvPlays.{TriedBy, release_fails, head_fails, steal_fails};
 ghost use Rattle.lk_pvdomain.specs.PvRows.{tries_release, tries_head, tries_steal};
@@ -22,6 +23,7 @@ pub(crate) fn try_release(seat: &mut Right, domain: &PvDomain, lock: u32, expect
     requires expected { expected % 256 ≡ 1 }
     requires row { Acts tries_release seat.old.me.0 Unlock lock }
     requires home { is_first (lock_name lock) ≡ true → seat.old.me.0.ledger.out ≡ None }
+    requires value { out_in seat.old.me.0.calls.holds lock ≡ false }
     ensures same { (seat.new.table_id ≡ seat.old.table_id) × (seat.new.id ≡ seat.old.id) }
     ensures step { TriedBy release_fails Unlock (lock_name lock) expected seat.old.me result seat.new.me }
 {
@@ -101,6 +103,7 @@ pub(crate) fn release<R: Wait>(
     requires seen { seen % 256 ≡ 1 }
     requires row { Acts tries_release seat.old.me.0 Unlock lock }
     requires home { is_first (lock_name lock) ≡ true → seat.old.me.0.ledger.out ≡ None }
+    requires value { out_in seat.old.me.0.calls.holds lock ≡ false }
     ensures same { (seat.new.table_id ≡ seat.old.table_id) × (seat.new.id ≡ seat.old.id) }
     ensures step { MadeBy Unlock lock seat.old.me result seat.new.me }
 {

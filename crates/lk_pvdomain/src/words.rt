@@ -1,11 +1,12 @@
 // The steps of a seat on the word of a lock, each one operation.
-ghost use Rattle.std.specs.Prelude.{◌≡◌, ◌<◌, None, true};
+ghost use Rattle.std.specs.Prelude.{◌≡◌, ◌<◌, None, true, false};
 ghost use Rattle.lk_domain.specs.Calls.{lock_name};
 ghost use Rattle.lk_domain.specs.Ledgers.{is_first};
 ghost use Rattle.lk_domain.specs.Plans.{locks_of};
 ghost use Rattle.lk_domain.specs.Plays.{WentBy};
 ghost use Rattle.lk_domain.specs.Views.{IsNumbered};
 ghost use Rattle.lk_domain.specs.Words.{IsNode};
+ghost use Rattle.lk_domain.specs.Values.{out_in};
 ghost use Rattle.lk_pvdomain.specs.PvPlays.{AtLast, AtWord};
 ghost use Rattle.lk_pvdomain.specs.PvRows.{looks_word, presses, relents, slows, wins, signs, drops};
 
@@ -86,6 +87,7 @@ pub(crate) fn drop_slow(seat: &mut Right, domain: &PvDomain, _verb: Verb, lock: 
     requires lock { lock < locks_of domain.now.plan }
     requires row { AtWord drops _verb (lock_name lock) seat.old.me.0 }
     requires home { is_first (lock_name lock) ≡ true → seat.old.me.0.ledger.out ≡ None }
+    requires value { out_in seat.old.me.0.calls.holds lock ≡ false }
     ensures same { (seat.new.table_id ≡ seat.old.table_id) × (seat.new.id ≡ seat.old.id) }
     ensures step { WentBy seat.old.me result seat.new.me }
 {

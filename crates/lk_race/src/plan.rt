@@ -46,6 +46,7 @@ pub fn plan_of(alloc: Global, race: &Race) -> Result<Plan, Memory>
         locks: List::filled(alloc, race.kind, 1)?,
         balances: List::new(alloc, 0)?,
         shares: List::filled(alloc, 0, race.course.threads as usize)?,
+        cells: None,
     })
 }
 

@@ -10,6 +10,7 @@ ghost use Rattle.lk_domain.specs.Paths.{HasTaken, HasLooked};
 ghost use Rattle.lk_domain.specs.Plans.{locks_of, kind_at};
 ghost use Rattle.lk_domain.specs.Seats.{IsOf, KeepsRest, calls_of, ledger_of};
 ghost use Rattle.lk_domain.specs.Waits.{MayTake, WaitsAt, Moves, Gains, Misses, Drops};
+ghost use Rattle.lk_domain.specs.Values.{out_in};
 ghost use Rattle.lk_run.specs.Phases.{Start, Arrives, Holds, starting};
 ghost use Rattle.lk_run.specs.Polls.{Acquires, IsPolled};
 
@@ -176,6 +177,7 @@ pub fn unlock(cpu: &mut Cpu, domain: &Domain, lock: LockId)
     requires few { length (calls_of cpu.old).frames < 6 }
     requires held { holds_in (calls_of cpu.old).holds lock.index ≡ true }
     requires home { is_first (lock_name lock.index) ≡ true → (ledger_of cpu.old).out ≡ None }
+    requires value { out_in (calls_of cpu.old).holds lock.index ≡ false }
     ensures rest { KeepsRest cpu.old cpu.new }
     ensures freed { Drops lock.index cpu.old cpu.new }
 {

@@ -21,6 +21,7 @@ ghost use Rattle.lk_domain.specs.Ledgers.{is_first};
 ghost use Rattle.lk_domain.specs.Paths.{Any};
 ghost use Rattle.lk_domain.specs.Plans.{locks_of, kind_at};
 ghost use Rattle.lk_domain.specs.Seats.{IsOf, KeepsRest, calls_of, ledger_of};
+ghost use Rattle.lk_domain.specs.Values.{out_in};
 ghost use Rattle.lk_domain.specs.Waits.{MayTake, Gains, Misses, WaitsAt, Moves};
 ghost use Rattle.lk_run.specs.Entering.{Leaves};
 ghost use Rattle.lk_run.specs.Phases.{Start, Waits, CameIn, starting};
@@ -295,6 +296,7 @@ pub fn write_unlock(cpu: &mut Cpu, domain: &Domain, lock: LockId)
     requires few { length (calls_of cpu.old).frames < 6 }
     requires held { way_in (calls_of cpu.old).holds lock.index ≡ Some Writes }
     requires home { is_first (lock_name lock.index) ≡ true → (ledger_of cpu.old).out ≡ None }
+    requires value { out_in (calls_of cpu.old).holds lock.index ≡ false }
     ensures rest { KeepsRest cpu.old cpu.new }
     ensures left { Leaves Z2 lock.index cpu.old cpu.new }
 {

@@ -1,21 +1,25 @@
 -- What the calls of a processor that may halt leave of lock 1.
-use Rattle.std.proofs.Common.{List, ap, ◌∙◌}
+use Rattle.std.proofs.Common.{◌≡◌, List, ap, ◌∙◌}
 use Rattle.lk_machine.specs.declared.setup.Verb.{Verb}
-use Rattle.lk_domain.specs.Calls.{Hold, holds_in}
+use Rattle.lk_domain.specs.Calls.{Hold, holds_begun, holds_in}
+use Rattle.lk_domain.specs.Values.{out_in}
+use Rattle.lk_domain.proofs.Outs.{unheld_out}
 use Rattle.lk_pvdomain.specs.PvCalls.{HasTakenBy, HasMissed, HasFreed}
-use Rattle.lk_pvdomain.specs.PvSeats.{IsOf, IsSame}
+use Rattle.lk_pvdomain.specs.PvSeats.{IsOf, IsSame, calls_of}
 use Rattle.lk_pvdomain.specs.declared.cpu.PvCpu.{PvCpu}
 use Rattle.lk_pvdomain.specs.declared.domain.PvDomain.{PvDomain}
 use Rattle.lk_pvdomain.proofs.PvSeating.{same_of}
 use Rattle.lk_thread_tests.specs.Halting.{IsReady, HasOne}
 
 module _ (d : PvDomain) (old new : PvCpu) (same : IsSame old new) where
-  pub has : (v : Verb) → IsOf old d → HasTakenBy v d 1 old new → HasOne d new
-  has v of taken =
+  pub has : (v : Verb) → ((hs : List Hold) → holds_begun v 0 1 hs ≡ hs) → IsReady d old → HasTakenBy v d 1 old new → HasOne d new
+  has v same_holds ready taken =
       record {
-        domain_is = same_of d old new same of;
+        domain_is = same_of d old new same ready.domain_is;
         rests = taken.rests;
         held = ap (λ (hs : List Hold). holds_in hs 1) taken.took.holds;
+        home = ap (λ (hs : List Hold). out_in hs 1) taken.took.holds
+            ∙ (ap (λ (hs : List Hold). out_in hs 1) (same_holds (calls_of old).holds) ∙ unheld_out (calls_of old).holds 1 ready.free);
       }
 
   pub missed : IsReady d old → HasMissed d 1 old new → IsReady d new

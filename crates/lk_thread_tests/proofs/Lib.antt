@@ -1,3 +1,4 @@
 mod Halted
+mod Homes
 mod TakenOff
 mod Written

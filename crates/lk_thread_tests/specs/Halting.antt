@@ -1,6 +1,7 @@
 -- A processor of a test that may halt.
 use Rattle.std.specs.Prelude.{◌≡◌, ◌<◌, ◌≤◌, ℕ, List, true, false, length, slice_index_or}
 use Rattle.lk_domain.specs.Calls.{holds_in}
+use Rattle.lk_domain.specs.Values.{out_in}
 use Rattle.lk_guard.specs.Idle.{IsFree}
 use Rattle.lk_pvdomain.specs.PvCalls.{IsResting}
 use Rattle.lk_pvdomain.specs.PvSeats.{IsOf, calls_of, ledger_of}
@@ -13,11 +14,12 @@ pub record IsReady (domain : PvDomain) (cpu : PvCpu) : Type 0 where
   pub rests : IsResting (calls_of cpu)
   pub free : holds_in (calls_of cpu).holds 1 ≡ false
 
--- it is in no call and holds it
+-- it is in no call and holds it, with its value home
 pub record HasOne (domain : PvDomain) (cpu : PvCpu) : Type 0 where
   pub domain_is : IsOf cpu domain
   pub rests : IsResting (calls_of cpu)
   pub held : holds_in (calls_of cpu).holds 1 ≡ true
+  pub home : out_in (calls_of cpu).holds 1 ≡ false
 
 -- it does nothing, and may write so many entries
 pub record MayWrite (domain : PvDomain) (n : ℕ) (cpu : PvCpu) : Type 0 where

@@ -1,9 +1,10 @@
 -- The locks of a test, and a processor that holds one.
-use Rattle.std.specs.Prelude.{◌≡◌, ◌<◌, ℕ, None}
+use Rattle.std.specs.Prelude.{◌≡◌, ◌<◌, ℕ, None, false}
 use Rattle.lk_abs.specs.declared.holder.Manner.{Manner}
 use Rattle.lk_abs.specs.declared.names.Kind.{Kind}
 use Rattle.lk_domain.specs.Plans.{kind_at, locks_of}
-use Rattle.lk_domain.specs.Seats.{ledger_of}
+use Rattle.lk_domain.specs.Seats.{calls_of, ledger_of}
+use Rattle.lk_domain.specs.Values.{out_in}
 use Rattle.lk_domain.specs.declared.cpu.Cpu.{Cpu}
 use Rattle.lk_domain.specs.declared.plan.Plan.{Plan}
 use Rattle.lk_guard.specs.Holding.{IsHolding}
@@ -16,3 +17,7 @@ AreAll kind k = (i : ℕ) → i < locks_of k → kind_at k i ≡ kind
 pub record HasFirst (m : Manner) (cpu : Cpu) : Type 0 where
   pub holding : IsHolding m cpu
   pub home : (ledger_of cpu).out ≡ None
+
+-- the processor has no value out with a lock that it holds
+abbrev pub NoneOut : Cpu → Type 0
+NoneOut cpu = (l : ℕ) → out_in (calls_of cpu).holds l ≡ false

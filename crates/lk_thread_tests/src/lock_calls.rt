@@ -2,6 +2,7 @@
 ghost use Rattle.std.specs.Prelude.{◌≡◌, None, false};
 ghost use Rattle.lk_law.specs.Agree.{halts};
 ghost use Rattle.lk_domain.specs.Seats.{IsOf, ledger_of};
+ghost use Rattle.lk_thread_tests.specs.Stages.{NoneOut};
 
 use crate::stage::{LOCKS, open, take_last};
 use lk_abs::{Kind, Mode};
@@ -42,8 +43,10 @@ fn make_call<R: Wait>(
 ) -> Option<bool>
     requires domain { IsOf cpu.old domain.now }
     requires home { (ledger_of cpu.old).out ≡ None }
+    requires values { NoneOut cpu.old }
     ensures domain { IsOf cpu.new domain.now }
     ensures home { (ledger_of cpu.new).out ≡ None }
+    ensures values { NoneOut cpu.new }
 {
     if id.index >= domain.locks() || domain.kind(id) != Kind::Spin {
         return None;
@@ -91,8 +94,10 @@ fn make_call_by<R: Wait>(
 ) -> Option<bool>
     requires domain { IsOf first.old domain.now × IsOf second.old domain.now }
     requires home { ((ledger_of first.old).out ≡ None) × ((ledger_of second.old).out ≡ None) }
+    requires values { NoneOut first.old × NoneOut second.old }
     ensures domain { IsOf first.new domain.now × IsOf second.new domain.now }
     ensures home { ((ledger_of first.new).out ≡ None) × ((ledger_of second.new).out ≡ None) }
+    ensures values { NoneOut first.new × NoneOut second.new }
 {
     if place == "0" {
         make_call(first, rt, domain, verb, id)
@@ -111,8 +116,10 @@ fn play<R: Abort + AllocGlobal + Wait>(
 ) -> Result<(), Fail>
     requires domain { IsOf first.old domain.now × IsOf second.old domain.now }
     requires home { ((ledger_of first.old).out ≡ None) × ((ledger_of second.old).out ≡ None) }
+    requires values { NoneOut first.old × NoneOut second.old }
     ensures domain { IsOf first.new domain.now × IsOf second.new domain.now }
     ensures home { ((ledger_of first.new).out ≡ None) × ((ledger_of second.new).out ≡ None) }
+    ensures values { NoneOut first.new × NoneOut second.new }
 {
     let alloc = rt.alloc();
     let (call, wanted) = row.split_once(" = ").ok_or("no answer")?;

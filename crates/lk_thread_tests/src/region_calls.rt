@@ -36,6 +36,7 @@ fn plan_of(alloc: Global, mode: Mode, kind: Kind) -> Result<Plan, Memory>
         locks: List::filled(alloc, kind, 1)?,
         balances: List::filled(alloc, 5, 2)?,
         shares: List::filled(alloc, 2, 2)?,
+        cells: None,
     })
 }
 

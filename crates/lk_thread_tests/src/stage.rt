@@ -77,6 +77,7 @@ fn plan_of(alloc: Global, mode: Mode, kind: Kind, cpus: usize) -> Result<Plan, M
         locks: List::filled(alloc, kind, LOCKS as usize)?,
         balances: List::new(alloc, 0)?,
         shares: List::filled(alloc, 0, cpus)?,
+        cells: None,
     })
 }
 
@@ -118,6 +119,7 @@ fn plan_of_two(alloc: Global, format: Format) -> Result<Plan, Memory>
         locks: List::filled(alloc, Kind::Spin, LOCKS as usize)?,
         balances: List::new(alloc, 0)?,
         shares: List::filled(alloc, 0, 6)?,
+        cells: None,
     })
 }
 

@@ -41,6 +41,7 @@ fn plan_of(alloc: Global, file: &JobFile) -> Result<Plan, Memory>
         locks,
         balances,
         shares,
+        cells: None,
     })
 }
 

@@ -21,6 +21,7 @@ use Rattle.lk_domain.specs.Plans.{locks_of}
 use Rattle.lk_domain.specs.Runs.{Runs, SeatFits, waiter, Seeks}
 use Rattle.lk_domain.specs.Stand.{Stand}
 use Rattle.lk_domain.specs.Views.{IsNumbered}
+use Rattle.lk_domain.specs.Who.{Who}
 use Rattle.lk_domain.specs.Words.{node_at}
 use Rattle.lk_domain.specs.declared.plan.Plan.{Plan}
 use Rattle.lk_domain.specs.declared.view.View.{View}
@@ -28,7 +29,7 @@ use Rattle.lk_domain.proofs.ledger.Held.{any_some, sole_le, sole_some}
 use Rattle.lk_domain.proofs.words.Locks.{IsApart, locks_else, same_locks}
 use Rattle.lk_domain.proofs.Manners.{held_spun}
 use Rattle.lk_domain.proofs.rows.Kept as rule
-use Rattle.lk_domain.proofs.rows.Kept.{halting_same}
+use Rattle.lk_domain.proofs.rows.Kept.{SameWho, halting_same}
 use Rattle.lk_domain.proofs.rows.Halts.{same_marks, far_set, seeks_same}
 use Rattle.lk_domain.proofs.Stacks.{holder_of}
 use Rattle.lk_domain.proofs.seats.Totals.{apart}
@@ -44,7 +45,31 @@ has_lock k s ok i v at has = at_number v.who.number refl
         absurd (omega (arith, has, ap (λ (c : Calls). any_count c.holds) q))
     at_number (Some q) e = (q, e)
 
--- who holds it alone, and another that holds it, are one
+only_writes : (m : Manner) → is_sole m ≡ true → m ≢ Spins → m ≡ Writes
+only_writes Spins h ne = absurd (ne refl)
+only_writes Reads h ne = cc h
+only_writes Writes h ne = refl
+
+by_kind : (m : World) (l : ℕ) (o : Kind) → m.kind l ≡ o → (is_rw_name m.kind (lock_name l) ≡ false) ⊎ (m.kind l ≡ Rw)
+by_kind m l Spin e = inl (ap is_rw e)
+by_kind m l Rw e = inr e
+
+-- of a sound world: who holds a lock alone, and another that holds it, are one
+pub one_holder : (m : World) (hs : LockName → LockHistory) → IsSoundWorld m hs → (l : ℕ) (w o : Waiter) (a b : Manner)
+    → is_sole a ≡ true → m.held w (lock_name l) ≡ Some a → m.held o (lock_name l) ≡ Some b
+    → (is_rw_name m.kind (lock_name l) ≡ false
+    → (m.held w (lock_name l) ≡ Some Spins) × (m.held o (lock_name l) ≡ Some Spins))
+    → w ≡ o
+one_holder m hs ok l w o a b sole has other spun =
+    elim (by_kind m l (m.kind l) refl) [
+      | inl off ↦ let z = spun off in holder_is_one m _ (lock_name l) w o ok.spins z.0 z.1
+      | inr rw ↦
+          let holds = (ok.rws l rw).holds in
+          let writes : a ≡ Writes = only_writes a sole (λ e. holds.unspun w (has ∙ ap Some e)) in
+          sym (holds.alone w o b (has ∙ ap Some writes) other)
+    ]
+
+-- the same of seats, and of lock 0
 pub alone_seat : (k : Plan) (s : State Slot View) (ok : Runs k s) (i j : ℕ) (v u : View)
     → get_elem? s.views i ≡ some v → get_elem? s.views j ≡ some u → 1 ≤ sole_count v.calls.holds
     → 1 ≤ any_count u.calls.holds → j ≡ i
@@ -62,29 +87,6 @@ alone_seat k s ok i j v u a b hv hu =
       y.mirrors.holds e.0 (lock_name 0) ∙ held_spun ok.world.kind u.calls.holds e.0 (lock_name 0) e.1 y.held off e.2,
     )) in
     apart s.views (get_or s.words 0 0) ok.once i j v u n.0 a b n.1 (q.1 ∙ ap (λ (z : Waiter). Some z.cpu) (sym same))
-  where
-    only_writes : (m : Manner) → is_sole m ≡ true → m ≢ Spins → m ≡ Writes
-    only_writes Spins h ne = absurd (ne refl)
-    only_writes Reads h ne = cc h
-    only_writes Writes h ne = refl
-
-    by_kind : (m : World) (l : ℕ) (o : Kind) → m.kind l ≡ o → (is_rw_name m.kind (lock_name l) ≡ false) ⊎ (m.kind l ≡ Rw)
-    by_kind m l Spin e = inl (ap is_rw e)
-    by_kind m l Rw e = inr e
-
-    one_holder : (m : World) (hs : LockName → LockHistory) → IsSoundWorld m hs → (l : ℕ) (w o : Waiter) (a b : Manner)
-        → is_sole a ≡ true → m.held w (lock_name l) ≡ Some a → m.held o (lock_name l) ≡ Some b
-        → (is_rw_name m.kind (lock_name l) ≡ false
-        → (m.held w (lock_name l) ≡ Some Spins) × (m.held o (lock_name l) ≡ Some Spins))
-        → w ≡ o
-    one_holder m hs ok l w o a b sole has other spun =
-        elim (by_kind m l (m.kind l) refl) [
-          | inl off ↦ let z = spun off in holder_is_one m _ (lock_name l) w o ok.spins z.0 z.1
-          | inr rw ↦
-              let holds = (ok.rws l rw).holds in
-              let writes : a ≡ Writes = only_writes a sole (λ e. holds.unspun w (has ∙ ap Some e)) in
-              sym (holds.alone w o b (has ∙ ap Some writes) other)
-        ]
 
 pub some_out : (o : Option Out) → (o ≡ None) ⊎ ((x : Out) × (o ≡ Some x))
 some_out None = inl refl
@@ -126,15 +128,13 @@ pub record IsPage (k : Plan) (i : ℕ) : Type 0 where
 
 module _ (k : Plan) {S : Type 0} (s : State S View) (st : Runs k s) (id : ℕ) (v : View)
     (me : get_elem? s.views id ≡ some v) (n : IsNumbered v) where
-  -- the machine part, where a word of the ledger is written and a seat keeps its calls
-  pub paged : (w : View) → w.who ≡ v.who → w.calls ≡ v.calls → (i x : ℕ) → IsPage k i
-      → (homes : List (Maybe S))
+  -- the machine part, where a word of the ledger is written, and the calls of a seat are in its place
+  pub paged_as : (w : View) → SameWho v.who w.who → SeatFits st.world n.0 w.calls → (i x : ℕ) → IsPage k i
+      → Seeks k (set s.words i x) w.calls → (homes : List (Maybe S))
       → Runs k {S = S} (record { words = set s.words i x; homes = homes; views = set s.views id w })
-  paged w who calls i x page homes =
-      let old : SeatFits st.world n.0 v.calls = st.seats id v n.0 me n.1 in
-      let fit : SeatFits st.world n.0 w.calls = subst (SeatFits st.world n.0) (sym calls) old in
+  paged_as w who fit i x page seeks homes =
       let far = far_set k s.words i x (let b = page.below in omega (arith, b)) in
-      rule.keeps k s st id v me n.0 n.1 st.world st.histories st.marks w (set s.words i x) st.sound st.of_plan
+      rule.keeps_as k s st id v me n.0 n.1 st.world st.histories st.marks w (set s.words i x) st.sound st.of_plan
       (record {
         long = length-set s.words i x ∙ st.stored.long;
         locks = locks_else k st.world st.world s.words st.stored.locks i x page.apart (same_locks st.world);
@@ -145,5 +145,21 @@ module _ (k : Plan) {S : Type 0} (s : State S View) (st : Runs k s) (id : ℕ) (
       (get_or-set_other s.words i 0 x 0 (let b = page.low in λ e. omega arith))
       (λ u ne. (refl, λ l. refl)) (λ q ne. refl) (λ q d ne f. refl) (λ q d ne f. f.counted) (λ q d ne f. f.told) who fit
       (halting_same k s st.world st.world (set s.words i x) id n.0 far (same_marks st.world) (λ b. refl) st.halting)
+      seeks homes
+
+  -- and where it keeps its calls
+  pub paged : (w : View) → w.who ≡ v.who → w.calls ≡ v.calls → (i x : ℕ) → IsPage k i
+      → (homes : List (Maybe S))
+      → Runs k {S = S} (record { words = set s.words i x; homes = homes; views = set s.views id w })
+  paged w who calls i x page homes =
+      paged_as w
+      (record {
+        plan = ap (λ (x : Who). x.plan) who;
+        number = ap (λ (x : Who). x.number) who;
+        ended = ap (λ (x : Who). x.ended) who;
+        dealt = ap (λ (x : Who). x.dealt) who;
+      })
+      (subst (SeatFits st.world n.0) (sym calls) (st.seats id v n.0 me n.1)) i x page
       (subst (Seeks k (set s.words i x)) (sym calls)
-      (seeks_same k s.words (set s.words i x) far v.calls (st.seeks id v me))) homes
+      (seeks_same k s.words (set s.words i x) (far_set k s.words i x (let b = page.below in omega (arith, b))) v.calls
+      (st.seeks id v me))) homes

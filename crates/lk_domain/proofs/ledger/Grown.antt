@@ -122,6 +122,7 @@ knows_grows k js es y p h all other free holds =
       seen = omega (arith, length-append js es, h.seen);
       own = λ q e. h.own q e ∙ places_kept p q js es all (λ z. other (e ∙ ap Some z));
       quiet = h.quiet;
+      values = h.values;
     }
   where
     look_none : (o : Option Look) → IsOpen k js y.calls o → IsOpen k (js ++ es) y.calls o

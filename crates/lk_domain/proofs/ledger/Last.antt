@@ -6,26 +6,32 @@ use mathlib.Core.Option.{some, some-injective, some-ne-none}
 use native.Mathlib.Decide.{ℕ_discrete}
 use lib.ListN.{get_elem?}
 use Rattle.std.proofs.Common.{zero, suc}
+use Rattle.atomic_table.specs.Seated.{TableId}
 use Rattle.atomic_table.specs.Table.{State, Final, Seen}
+use Rattle.lk_values.specs.Guarded.{AreFit, AreIdle}
+use Rattle.lk_values.proofs.Guards.{idle_is_home}
 use Rattle.lk_abs.specs.declared.ledger.Entry.{Entry}
-use Rattle.lk_domain.specs.Calls.{Calls, no_calls}
+use Rattle.lk_domain.specs.Calls.{Calls, Hold, no_calls, way_in}
 use Rattle.lk_domain.specs.Ends.{IsEnd}
 use Rattle.lk_domain.specs.Keeps.{Slot, Keeps, AtHome, Away, balance, sole_count}
-use Rattle.lk_domain.specs.Plans.{cpus_of, accounts_of}
+use Rattle.lk_domain.specs.Plans.{cpus_of, accounts_of, locks_of}
 use Rattle.lk_domain.specs.Stand.{Stand}
+use Rattle.lk_domain.specs.Values.{HoldsAlone, FitsUnder, Fits, Key, cell_of, lodged, outs_of}
 use Rattle.lk_domain.specs.Views.{numbers, times}
 use Rattle.lk_domain.specs.Words.{balance_at}
 use Rattle.lk_domain.specs.declared.journal.Journal.{Journal}
 use Rattle.lk_domain.specs.declared.plan.Plan.{Plan}
+use Rattle.lk_domain.specs.declared.slot.Stowed.TheVariants.{Entries}
 use Rattle.lk_domain.specs.declared.view.View.{View}
 use Rattle.lk_domain.proofs.ledger.Alone.{out_is}
 use Rattle.lk_domain.proofs.ledger.Purses.{past_known}
+use Rattle.lk_domain.proofs.seats.Exclusive.{hold_way, has_way}
 use Rattle.lk_domain.proofs.seats.Totals.{terms_le, counted, once_le, drawn}
 
 -- the journal of a table at its end, and its words
 pub record Ends (k : Plan) (v : View) (ws : List ℕ) (slot : Slot) : Type 0 where
   pub journal : Journal
-  pub is : slot ≡ Some journal
+  pub is : slot ≡ Some (Entries journal)
   pub end : IsEnd k v journal.entries.items
   pub words : (a : ℕ)
       → a < accounts_of k
@@ -67,13 +73,13 @@ module _ (k : Plan) (s : State Slot View) (both : Stand k s) (id : ℕ) (v : Vie
       let h = at_home in
       record {
         journal = h.journal;
-        is = let z : some slot ≡ some (Some h.journal) = some-injective (some slot) (some (Some h.journal)) (sym at ∙ h.home) in some-injective slot (Some h.journal) z;
+        is = let z : some slot ≡ some (Some (Entries h.journal)) = some-injective (some slot) (some (Some (Entries h.journal))) (sym at ∙ h.home) in some-injective slot (Some (Entries h.journal)) z;
         end = subst (IsEnd k v) (sym h.items)
             (record { replays = kp.replays; past = past_known k kp.journal v (kp.knows id v me); none = λ q le. kp.fresh q (let r = both.runs.roll in omega arith) });
         words = λ a lt. h.words.balances a lt ∙ ap (λ (js : List Entry). balance k js a) (sym h.items);
       }
 
-  pub home_slot : (j : Journal) × (get_elem? s.homes 0 ≡ some (some (Some j)))
+  pub home_slot : (j : Journal) × (get_elem? s.homes 0 ≡ some (some (Some (Entries j))))
   home_slot = (at_home.journal, at_home.home)
 
 pub ended_with : (k : Plan) (id : ℕ) (v : View) (ws : List ℕ) (xs : List Slot) (slot : Slot)
@@ -82,10 +88,51 @@ pub ended_with : (k : Plan) (id : ℕ) (v : View) (ws : List ℕ) (xs : List Slo
 ended_with k id v ws xs slot fin all home at =
     let s = fin.0 in
     let j = home_slot k s fin.1.0 id v fin.1.1 all home in
-    let is : slot ≡ Some j.0 = some-injective slot (Some j.0) (sym at ∙ fin.4 0 (Some j.0) j.1) in
+    let is : slot ≡ Some (Entries j.0) = some-injective slot (Some (Entries j.0)) (sym at ∙ fin.4 0 (Some (Entries j.0)) j.1) in
     let e : Ends k v s.words slot =
     ends k s fin.1.0 id v fin.1.1 all home slot (subst (λ (z : Slot). get_elem? s.homes 0 ≡ some (some z)) (sym is) j.1) in
     subst (λ (l : List ℕ). Ends k v l slot) fin.2 e
+
+-- Where one seat has all numbers and holds nothing, nobody holds a lock: each value is at home.
+
+idle_end : (k : Plan) (s : State Slot View) (both : Stand k s) (id : ℕ) (v : View) → get_elem? s.views id ≡ some v
+    → ((q : ℕ) → q < cpus_of k → 1 ≤ times q (numbers v)) → v.calls.holds ≡ [] → AreIdle HoldsAlone s.views
+idle_end k s both id v me all none l i u here has =
+    let way = hold_way u.calls.holds l has.manner has.out has.held in
+    dite (ℕ_discrete i id)
+    (λ is.
+    let same : u ≡ v = some-injective u v (sym here ∙ (ap (λ (j : ℕ). get_elem? s.views j) is ∙ me)) in
+    let no : None ≡ Some has.manner =
+    ap (λ (hs : List Hold). way_in hs l) (sym none) ∙ (ap (λ (w : View). way_in w.calls.holds l) (sym same) ∙ way) in
+    absurd (let z : ⊥ = cc no in z))
+    (λ ne.
+    let roll = get_or s.words 0 0 in
+    let n = has_way k s both.runs i l u has.manner here way in
+    let below = drawn s.views roll both.runs.once i u n.0 here n.1 in
+    let a = terms_le (λ (y : View). times n.0 (numbers y)) s.views id i v u ne me here in
+    let b = counted n.0 u n.1 in
+    let c = both.runs.roll in
+    let d = all n.0 (omega arith) in
+    let f = both.runs.once n.0 in
+    let g = once_le n.0 roll in
+    absurd (omega (arith, a, b, d, f, g)))
+
+pub values_end : (k : Plan) (id : ℕ) (v : View) (ws : List ℕ) (xs : List Slot) → Final (Seen (Stand k) id v) ws xs
+    → ((q : ℕ) → q < cpus_of k → 1 ≤ times q (numbers v)) → v.calls.holds ≡ [] → AreFit 1 (locks_of k) (FitsUnder k) xs
+values_end k id v ws xs fin all none l low =
+    let s = fin.0 in
+    let both = fin.1.0 in
+    let h = idle_is_home 1 (locks_of k) HoldsAlone outs_of (FitsUnder k) s.homes s.views l both.keeps.values
+    (idle_end k s both id v fin.1.1 all none) low in
+    (h.value, fin.4 (1 + l) h.value h.home, h.meets)
+
+-- what lies in the slot of a lock is a key, or nothing
+pub is_lodged : (k : Plan) (l : ℕ) (x : Slot) → FitsUnder k l x → (key : Option Key) × (x ≡ lodged key)
+is_lodged k l x fits = by (cell_of k l) fits
+  where
+    by : (o : Option TableId) → Fits o x → (key : Option Key) × (x ≡ lodged key)
+    by None e = (None, e)
+    by (Some id) e = (Some e.0, e.1)
 
 word_at : (xs : List ℕ) (i x : ℕ) → get_elem? xs i ≡ some x → x ≡ get_or xs i 0
 word_at [] i x e = absurd (some-ne-none x (sym e))

@@ -20,14 +20,16 @@ use Rattle.lk_domain.specs.Plans.{IsRunningPlan, accounts_of, locks_of}
 use Rattle.lk_domain.specs.Plays.{Loads, LoadedBy, Sees, OneState, TakenBy, TakesJournal}
 use Rattle.lk_domain.specs.Stand.{Stand}
 use Rattle.lk_domain.specs.Views.{view, IsNumbered}
+use Rattle.lk_domain.specs.Who.{Who}
 use Rattle.lk_domain.specs.Words.{version_at, balance_at}
 use Rattle.lk_domain.specs.declared.plan.Plan.{Plan}
+use Rattle.lk_domain.specs.declared.slot.Stowed.TheVariants.{Entries}
 use Rattle.lk_domain.specs.declared.view.View.{View}
 use Rattle.lk_domain.proofs.ledger.Alone as alone
 use Rattle.lk_domain.proofs.ledger.Alone.{IsPage, paged, some_out, out_is}
 use Rattle.lk_domain.proofs.ledger.Held.{any_once, sole_le}
 use Rattle.lk_domain.proofs.rows.Kept.{set_at}
-use Rattle.lk_domain.proofs.ledger.Purses.{alters, ended_more, look_ends}
+use Rattle.lk_domain.proofs.ledger.Purses.{alters, ended_more, look_ends, first_slot}
 use Rattle.lk_domain.proofs.seats.Totals.{total-same, term_le}
 
 -- the words of the ledger
@@ -86,7 +88,7 @@ module _ (k : Plan) (s : State Slot View) (both : Stand k s) (id : ℕ) (v : Vie
       record {
         runs = paged k s both.runs id v me n w who calls i (get_or s.words i 0) page s.homes;
         keeps = alters k s kp id v w (set s.words i (get_or s.words i 0)) me share knows (same_word i 0)
-            (same_word i version_at) (λ a lt. same_word i (balance_at k a)) out;
+            (same_word i version_at) (λ a lt. same_word i (balance_at k a)) out (ap (λ (x : Who). x.outs) who);
       }
 
   -- what the rule gives of a view is of one state of the journal
@@ -134,6 +136,7 @@ module _ (k : Plan) (s : State Slot View) (both : Stand k s) (id : ℕ) (v : Vie
         own = kv.own;
         quiet = λ e. quiet_here (loaded v.ledger a x) e;
         past = kv.past;
+        values = kv.values;
       }
 
   pub load_out : (a : ℕ) → a < accounts_of k → (o : Out) → v.ledger.out ≡ Some o
@@ -183,6 +186,7 @@ module _ (k : Plan) (s : State Slot View) (both : Stand k s) (id : ℕ) (v : Vie
         own = kv.own;
         quiet = λ e. quiet_here (sighted v.ledger x) e;
         past = kv.past;
+        values = kv.values;
       }
 
   pub sight_stands : let x = get_or s.words version_at 0 in
@@ -221,6 +225,7 @@ module _ (k : Plan) (s : State Slot View) (both : Stand k s) (id : ℕ) (v : Vie
           own = kv.own;
           quiet = λ e. quiet_here taker.ledger e;
           past = kv.past;
+          values = kv.values;
         }
 
     pub take_stands : Stand k (record {
@@ -254,14 +259,15 @@ module _ (k : Plan) (s : State Slot View) (both : Stand k s) (id : ℕ) (v : Vie
             });
             knows = λ j y at. ⊎_elim (λ t. subst (Knows k kp.journal) t.1 take_knows) (λ t. kp.knows j y t.1) (at_set s.views id j taker y at);
             fresh = λ q le. kp.fresh q (subst (λ (r : ℕ). r ≤ q) (same_word version_at 0) le);
+            values = first_slot k s kp id v taker none me take_knows refl;
           };
         }
 
     pub take_tells : (m : Me Slot View) → m.0 ≡ v
-        → TakenBy m (get_or s.words version_at 0) (taker, (0, Some h.journal) ∷ m.1)
+        → TakenBy m (get_or s.words version_at 0) (taker, (0, Some (Entries h.journal)) ∷ m.1)
     take_tells m e =
         let z : m ≡ (v, m.1) = λ i. (e i, m.1) in
-        subst (λ (x : Me Slot View). TakenBy x (get_or s.words version_at 0) (taker, (0, Some h.journal) ∷ x.1)) (sym z)
+        subst (λ (x : Me Slot View). TakenBy x (get_or s.words version_at 0) (taker, (0, Some (Entries h.journal)) ∷ x.1)) (sym z)
         (record {
           journal = h.journal;
           words = ws;
@@ -330,7 +336,7 @@ takes_journal k slots id m st n sole none_out s both wide me _ =
     let most = any_once both.runs.world.kind m.0.calls.holds fit.held in let least = sole_le m.0.calls.holds in
     omega (arith, most, least, sole) in (
       taker k s both id m.0 me n holds none_out sole,
-      takes 0 (Some (h k s both id m.0 me n holds none_out sole).journal),
+      takes 0 (Some (Entries (h k s both id m.0 me n holds none_out sole).journal)),
       (h k s both id m.0 me n holds none_out sole).home,
       take_stands k s both id m.0 me n holds none_out sole,
       take_tells k s both id m.0 me n holds none_out sole m refl,

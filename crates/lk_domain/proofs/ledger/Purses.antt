@@ -1,12 +1,12 @@
 -- What the seats know of the journal stays true, where it stays where it is.
 use Rattle.std.proofs.Common.{◌≡◌, ◌≢◌, ◌⊎◌, ⊎_elim, inl, inr, ℕ, ◌+◌, ◌<◌, ◌≤◌, List, [], ◌∷◌, ◌++◌}
 use Rattle.std.proofs.Common.{length, eqb, get_or, take, set, Option, Some, None, Bool, true, false, refl, sym}
-use Rattle.std.proofs.Common.{ap, ◌∙◌, subst, arith}
+use Rattle.std.proofs.Common.{ap, ◌∙◌, subst, arith, length-set}
 use Rattle.std.proofs.lemmas.Bool.{cases_Bool}
 use Rattle.std.specs.Prelude.{if◌then◌else◌, ◌&&◌, not}
 use mathlib.Core.Logic.{dite}
 use native.Mathlib.Decide.{ℕ_discrete}
-use mathlib.Core.Option.{some, some-injective}
+use mathlib.Core.Option.{Option as Maybe, some, some-injective}
 use lib.ListN.{get_elem?}
 use Rattle.atomic_table.specs.Table.{State}
 use Rattle.atomic_table.proofs.Lists.{at_set, set_else}
@@ -19,9 +19,13 @@ use Rattle.lk_domain.specs.Calls.{Mark, Calls, Grip, Unchanged, Takes, Frees, ho
 use Rattle.lk_domain.specs.Calls.{lock_name}
 use Rattle.lk_domain.specs.Keeps.{Slot, AtHome, Away, AreWords, IsOpen, IsSight, IsEnded, AreEnded}
 use Rattle.lk_domain.specs.Keeps.{AreLoaded, IsVersion, IsPast, ArePast, Knows, Keeps, undrawn}
-use Rattle.lk_domain.specs.Keeps.{any_count, sole_count}
+use Rattle.lk_domain.specs.Keeps.{any_count, sole_count, AllHome}
 use Rattle.lk_domain.specs.Ledgers.{Ledger, Look, Past, turned, opened, closed, listed_look, is_first}
-use Rattle.lk_domain.specs.Plans.{accounts_of}
+use Rattle.lk_domain.specs.Plans.{accounts_of, locks_of}
+use Rattle.lk_domain.specs.Values.{HoldsAlone, IsOutWith, outs_of, FitsUnder}
+use Rattle.lk_values.specs.Guarded.{Among, Guarded, KeepsRights}
+use Rattle.lk_values.proofs.Guards.{step_keeps, step_leaves}
+use Rattle.lk_domain.proofs.Outs.{SameHolds, out_after, stays_out, out_alone}
 use Rattle.lk_domain.specs.Views.{past_of, all_past}
 use Rattle.lk_domain.specs.Who.{Who}
 use Rattle.lk_domain.specs.Words.{version_at, balance_at}
@@ -62,7 +66,7 @@ past_known k js v h = at_number v.who.number refl
     at_number None e = h.past
     at_number (Some p) e = (record { own = h.own p e; looked = h.looked; seen = h.seen }, h.past)
 
-open_same : (k : Plan) (js : List Entry) (c d : Calls) (o : Option Look)
+pub open_same : (k : Plan) (js : List Entry) (c d : Calls) (o : Option Look)
     → any_count d.holds ≡ any_count c.holds → IsOpen k js c o → IsOpen k js d o
 open_same k js c d None e h = tt
 open_same k js c d (Some x) e h = (e ∙ h.0, h.1)
@@ -70,8 +74,9 @@ open_same k js c d (Some x) e h = (e ∙ h.0, h.1)
 -- where the ledger's part of a view stays
 pub knows_same : (k : Plan) (js : List Entry) (v w : View) → Knows k js v → w.who ≡ v.who
     → w.ledger ≡ v.ledger → any_count w.calls.holds ≡ any_count v.calls.holds
-    → sole_count w.calls.holds ≡ sole_count v.calls.holds → Knows k js w
-knows_same k js v w h who same any sole =
+    → sole_count w.calls.holds ≡ sole_count v.calls.holds
+    → ((l : ℕ) → IsOutWith l v.calls.holds → IsOutWith l w.calls.holds) → Knows k js w
+knows_same k js v w h who same any sole outs =
     record {
       holder = λ ne. sole ∙ h.holder (λ e. ne (ap (λ (g : Ledger). g.out) same ∙ e));
       shut = λ ne. ap (λ (g : Ledger). g.look) same ∙ h.shut (λ e. ne (ap (λ (g : Ledger). g.out) same ∙ e));
@@ -81,6 +86,7 @@ knows_same k js v w h who same any sole =
       own = λ p e. ap (λ (g : Ledger). g.own) same ∙ h.own p (sym (ap (λ (x : Who). x.number) who) ∙ e);
       quiet = λ e. same ∙ h.quiet (sym (ap (λ (x : Who). x.number) who) ∙ e);
       past = subst (λ (x : Who). ArePast k js x.ended) (sym who) h.past;
+      values = λ l among. outs l (h.values l (subst (λ (x : Who). Among l x.outs) who among));
     }
 
 -- the name of lock 0
@@ -95,29 +101,46 @@ first_is j = by j.wait
 module _ (k : Plan) (js : List Entry) (v w : View) (p : ℕ) (is : v.who.number ≡ Some p)
     (knows : Knows k js v) (c : Calls) (d : ℕ) (j : LockName) (t : List Mark)
     (any : any_count c.holds ≡ any_count v.calls.holds)
-    (sole : sole_count c.holds ≡ sole_count v.calls.holds) (who : w.who ≡ v.who) where
+    (sole : sole_count c.holds ≡ sole_count v.calls.holds)
+    (same : (l : ℕ) → SameHolds v.calls.holds c.holds l) (who : w.who ≡ v.who) where
+  -- a value that is out is out with a hold that the row leaves
+  left_out : (y : Grip) → w.calls.holds ≡ holds_after y d j (c.taken + 1) c.holds
+      → ((m : Manner) → y ≡ Takes m → holds_in c.holds j.index ≡ false)
+      → (y ≡ Frees → AllHome j v) → (l : ℕ) → IsOutWith l v.calls.holds → IsOutWith l w.calls.holds
+  left_out y h fresh home l is =
+      subst (IsOutWith l) (sym h)
+      (out_after y d (c.taken + 1) j c.holds l fresh
+      (λ e plain. (same j.index).out ∙ (home e).value plain)
+      (stays_out v.calls.holds c.holds l (same l).hold is))
+
+  values_left : ((l : ℕ) → IsOutWith l v.calls.holds → IsOutWith l w.calls.holds) → (l : ℕ)
+      → Among l (outs_of w) → IsOutWith l w.calls.holds
+  values_left outs l among = outs l (knows.values l (subst (λ (x : Who). Among l x.outs) who among))
+
   no_number : w.who.number ≡ None → ⊥
   no_number e = let n : Some p ≡ None = sym is ∙ (sym (ap (λ (x : Who). x.number) who) ∙ e) in cc n
 
   -- the same of another lock
   other : (y : Grip) → is_first j ≡ false → w.ledger ≡ turned v.ledger j y t
-      → w.calls.holds ≡ holds_after y d j (c.taken + 1) c.holds → Knows k js w
-  other Unchanged off g h = knows_same k js v w knows who g (ap any_count h ∙ any) (ap sole_count h ∙ sole)
-  other (Takes m) off g h =
+      → w.calls.holds ≡ holds_after y d j (c.taken + 1) c.holds
+      → ((l : ℕ) → IsOutWith l v.calls.holds → IsOutWith l w.calls.holds) → Knows k js w
+  other Unchanged off g h outs = knows_same k js v w knows who g (ap any_count h ∙ any) (ap sole_count h ∙ sole) outs
+  other (Takes m) off g h outs =
       knows_same k js v w knows who (g ∙ if-false (is_first j) (opened v.ledger m t) v.ledger off)
       (ap any_count h ∙ (ap (λ b. (if b then 1 else 0) + any_count c.holds) (sym (first_is j) ∙ off) ∙ (let z : 0 + any_count c.holds ≡ any_count c.holds = omega arith in z ∙ any)))
-      (ap sole_count h ∙ (ap (λ b. (if b && Rattle.lk_domain.specs.Keeps.is_sole m then 1 else 0) + sole_count c.holds) (sym (first_is j) ∙ off) ∙ (let z : 0 + sole_count c.holds ≡ sole_count c.holds = omega arith in z ∙ sole)))
-  other Frees off g h =
+      (ap sole_count h ∙ (ap (λ b. (if b && Rattle.lk_domain.specs.Keeps.is_sole m then 1 else 0) + sole_count c.holds) (sym (first_is j) ∙ off) ∙ (let z : 0 + sole_count c.holds ≡ sole_count c.holds = omega arith in z ∙ sole))) outs
+  other Frees off g h outs =
       knows_same k js v w knows who (g ∙ if-false (is_first j) (closed v.ledger) v.ledger off)
-      (ap any_count h ∙ (free_any d j c.holds (sym (first_is j) ∙ off) ∙ any)) (ap sole_count h ∙ (free_sole d j c.holds (sym (first_is j) ∙ off) ∙ sole))
+      (ap any_count h ∙ (free_any d j c.holds (sym (first_is j) ∙ off) ∙ any)) (ap sole_count h ∙ (free_sole d j c.holds (sym (first_is j) ∙ off) ∙ sole)) outs
 
   -- of lock 0: a look begins where it is taken, and ends where it is freed
   first : (y : Grip) → is_first j ≡ true → w.ledger ≡ turned v.ledger j y t
       → w.calls.holds ≡ holds_after y d j (c.taken + 1) c.holds
       → ((m : Manner) → y ≡ Takes m → holds_in c.holds j.index ≡ false)
-      → (y ≡ Frees → v.ledger.out ≡ None) → Knows k js w
-  first Unchanged on g h fresh home = knows_same k js v w knows who g (ap any_count h ∙ any) (ap sole_count h ∙ sole)
-  first (Takes m) on g h fresh home =
+      → (y ≡ Frees → v.ledger.out ≡ None)
+      → ((l : ℕ) → IsOutWith l v.calls.holds → IsOutWith l w.calls.holds) → Knows k js w
+  first Unchanged on g h fresh home outs = knows_same k js v w knows who g (ap any_count h ∙ any) (ap sole_count h ∙ sole) outs
+  first (Takes m) on g h fresh home outs =
       let g' : w.ledger ≡ opened v.ledger m t = g ∙ if-true (is_first j) (opened v.ledger m t) v.ledger on in
       let zero : j.index ≡ 0 = index_zero j on in
       let none : any_count c.holds ≡ 0 = any_none c.holds (ap (holds_in c.holds) (sym zero) ∙ fresh m refl) in
@@ -134,11 +157,12 @@ module _ (k : Plan) (js : List Entry) (v w : View) (p : ℕ) (is : v.who.number 
         own = λ q e. ap (λ (x : Ledger). x.own) g' ∙ knows.own q (sym (ap (λ (x : Who). x.number) who) ∙ e);
         quiet = λ e. absurd (no_number e);
         past = subst (λ (x : Who). ArePast k js x.ended) (sym who) knows.past;
+        values = values_left outs;
       }
     where
       index_zero : (n : LockName) → is_first n ≡ true → n.index ≡ 0
       index_zero n e = grind (arith, e)
-  first Frees on g h fresh home =
+  first Frees on g h fresh home outs =
       let g' : w.ledger ≡ closed v.ledger = g ∙ if-true (is_first j) (closed v.ledger) v.ledger on in
       let out : w.ledger.out ≡ None = ap (λ (x : Ledger). x.out) g' ∙ home refl in
       record {
@@ -151,31 +175,56 @@ module _ (k : Plan) (js : List Entry) (v w : View) (p : ℕ) (is : v.who.number 
         own = λ q e. ap (λ (x : Ledger). x.own) g' ∙ knows.own q (sym (ap (λ (x : Who). x.number) who) ∙ e);
         quiet = λ e. absurd (no_number e);
         past = subst (λ (x : Who). ArePast k js x.ended) (sym who) knows.past;
+        values = values_left outs;
       }
 
   pub knows_after : (y : Grip) → w.ledger ≡ turned v.ledger j y t
       → w.calls.holds ≡ holds_after y d j (c.taken + 1) c.holds
       → ((m : Manner) → y ≡ Takes m → holds_in c.holds j.index ≡ false)
-      → (y ≡ Frees → is_first j ≡ true → v.ledger.out ≡ None) → Knows k js w
+      → (y ≡ Frees → AllHome j v) → Knows k js w
   knows_after y g h fresh home =
       elim (cases_Bool (is_first j)) [
-        | inl on ↦ first y on g h fresh (λ e. home e on)
-        | inr off ↦ other y off g h
+        | inl on ↦ first y on g h fresh (λ e. (home e).journal on) (left_out y h fresh home)
+        | inr off ↦ other y off g h (left_out y h fresh home)
       ]
 
--- the journal stays where it is
+-- who knows so has the right to the values that it has out
+pub rights_of : (k : Plan) (js : List Entry) (v w : View) → Knows k js w → w.who.outs ≡ v.who.outs
+    → KeepsRights HoldsAlone outs_of v w
+rights_of k js v w knows outs =
+    record {
+      same = outs;
+      rights = λ l among _. out_alone w.calls.holds l (knows.values l (subst (Among l) (sym outs) among));
+    }
+
+-- The values after a step that leaves their slots: all slots, or all but the journal's.
+pub same_slots : (k : Plan) (s : State Slot View) (kp : Keeps k s) (id : ℕ) (v w : View) {js : List Entry}
+    → get_elem? s.views id ≡ some v → Knows k js w → w.who.outs ≡ v.who.outs
+    → Guarded 1 (locks_of k) HoldsAlone outs_of (FitsUnder k) s.homes (set s.views id w)
+same_slots k s kp id v w {js} me knows outs =
+    step_keeps 1 (locks_of k) HoldsAlone outs_of (FitsUnder k) s.homes s.views id v w kp.values me (rights_of k js v w knows outs)
+
+pub first_slot : (k : Plan) (s : State Slot View) (kp : Keeps k s) (id : ℕ) (v w : View) (x : Maybe Slot) {js : List Entry}
+    → get_elem? s.views id ≡ some v → Knows k js w → w.who.outs ≡ v.who.outs
+    → Guarded 1 (locks_of k) HoldsAlone outs_of (FitsUnder k) (set s.homes 0 x) (set s.views id w)
+first_slot k s kp id v w x {js} me knows outs =
+    step_leaves 1 (locks_of k) HoldsAlone outs_of (FitsUnder k) s.homes (set s.homes 0 x) s.views id v w kp.values
+    (length-set s.homes 0 x) (λ l low. set_else s.homes 0 (1 + l) x (λ e. omega arith)) me (rights_of k js v w knows outs)
+
+-- the journal stays where it is, where its slot is left
 pub place_kept : (k : Plan) (js : List Entry) (s : State Slot View) (id : ℕ) (v w : View) (ws : List ℕ)
+    (hs : List (Maybe Slot)) → get_elem? hs 0 ≡ get_elem? s.homes 0
     → get_elem? s.views id ≡ some v → w.ledger.out ≡ v.ledger.out
     → get_or ws version_at 0 ≡ get_or s.words version_at 0
     → ((a : ℕ) → a < accounts_of k → get_or ws (balance_at k a) 0 ≡ get_or s.words (balance_at k a) 0)
     → AtHome k js s ⊎ Away k js s
-    → let after : State Slot View = record { words = ws; homes = s.homes; views = set s.views id w } in
+    → let after : State Slot View = record { words = ws; homes = hs; views = set s.views id w } in
     AtHome k js after ⊎ Away k js after
-place_kept k js s id v w ws me same first balances =
+place_kept k js s id v w ws hs slot me same first balances =
     ⊎_elim
     (λ h. inl (record {
       journal = h.journal;
-      home = h.home;
+      home = slot ∙ h.home;
       items = h.items;
       room = h.room;
       words = record { version = first ∙ h.words.version; balances = λ a lt. balances a lt ∙ h.words.balances a lt };
@@ -193,7 +242,7 @@ place_kept k js s id v w ws me same first balances =
       list = h.list;
       room = h.room;
       long = h.long;
-      home = h.home;
+      home = slot ∙ h.home;
       version = first ∙ h.version;
       words = λ a lt. balances a lt ∙ h.words a lt;
       sole = λ j x at ne. ⊎_elim (λ t. t.0) (λ t. h.sole j x t.1 ne ∙ e) (at_set s.views id j w x at);
@@ -207,7 +256,7 @@ place_kept k js s id v w ws me same first balances =
       list = h.list;
       room = h.room;
       long = h.long;
-      home = h.home;
+      home = slot ∙ h.home;
       version = first ∙ h.version;
       words = λ a lt. balances a lt ∙ h.words a lt;
       sole = λ j x at ne. ⊎_elim
@@ -220,15 +269,16 @@ pub alters : (k : Plan) (s : State Slot View) (kp : Keeps k s) (id : ℕ) (v w :
     → get_elem? s.views id ≡ some v → w.ledger.share ≡ v.ledger.share → Knows k kp.journal w
     → get_or ws 0 0 ≡ get_or s.words 0 0 → get_or ws version_at 0 ≡ get_or s.words version_at 0
     → ((a : ℕ) → a < accounts_of k → get_or ws (balance_at k a) 0 ≡ get_or s.words (balance_at k a) 0)
-    → w.ledger.out ≡ v.ledger.out
+    → w.ledger.out ≡ v.ledger.out → w.who.outs ≡ v.who.outs
     → Keeps k (record { words = ws; homes = s.homes; views = set s.views id w })
-alters k s kp id v w ws me share knows roll first balances same =
+alters k s kp id v w ws me share knows roll first balances same outs =
     record {
       journal = kp.journal;
       replays = kp.replays;
       slots = kp.slots;
       shares = omega (arith, kp.shares, total-same (λ (x : View). x.ledger.share) s.views id v w me (sym share), ap (undrawn k) roll);
-      place = place_kept k kp.journal s id v w ws me same first balances kp.place;
+      place = place_kept k kp.journal s id v w ws s.homes refl me same first balances kp.place;
       knows = λ j x at. ⊎_elim (λ t. subst (Knows k kp.journal) t.1 knows) (λ t. kp.knows j x t.1) (at_set s.views id j w x at);
       fresh = λ q h. kp.fresh q (subst (λ (r : ℕ). r ≤ q) roll h);
+      values = same_slots k s kp id v w me knows outs;
     }

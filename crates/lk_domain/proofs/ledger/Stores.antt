@@ -1,12 +1,12 @@
 -- What the steps ask that write a word of the ledger.
-use Rattle.std.proofs.Common.{◌≡◌, ◌≢◌, inl, inr, ⊎_elim, ℕ, ◌<◌, ◌≤◌, List, [], ◌∷◌, ◌++◌, length, set, drop}
+use Rattle.std.proofs.Common.{◌≡◌, ◌≢◌, inl, inr, ⊎_elim, ℕ, ◌<◌, ◌≤◌, List, ◌∷◌, ◌++◌, length, set, drop}
 use Rattle.std.proofs.Common.{get_or, Some, None, refl, sym, ap, ◌∙◌, subst, arith, length-set, length-append}
 use Rattle.std.proofs.Common.{get_or-set_other, get_or-set_same}
 use mathlib.Core.Logic.{dite}
 use mathlib.Core.Option.{some}
 use native.Mathlib.Decide.{ℕ_discrete}
 use lib.ListN.{get_elem?}
-use Rattle.atomic_table.specs.Table.{State, Me, Step, keeps, gives, Allows}
+use Rattle.atomic_table.specs.Table.{State, Me, Step, keeps, gives, rest, Allows}
 use Rattle.atomic_table.proofs.Lists.{at_set, set_here}
 use Rattle.lk_abs.specs.declared.ledger.Entry.{Entry}
 use Rattle.lk_domain.specs.Places.{AllOf, places, places_from}
@@ -21,11 +21,13 @@ use Rattle.lk_domain.specs.Views.{view, IsNumbered}
 use Rattle.lk_domain.specs.Words.{version_at, balance_at}
 use Rattle.lk_domain.specs.declared.journal.Journal.{Journal}
 use Rattle.lk_domain.specs.declared.plan.Plan.{Plan}
+use Rattle.lk_domain.specs.declared.slot.Stowed.TheVariants.{Entries}
 use Rattle.lk_domain.specs.declared.view.View.{View}
 use Rattle.lk_domain.proofs.ledger.Alone as alone
 use Rattle.lk_domain.proofs.ledger.Alone.{paged, some_out, out_is}
 use Rattle.lk_domain.proofs.ledger.Grown.{all_grow, places-append, places_kept, past_grows, own_once, other_once, knows_grows}
 use Rattle.lk_domain.proofs.ledger.Grown.{drop_front}
+use Rattle.lk_domain.proofs.ledger.Purses.{same_slots, first_slot}
 use Rattle.lk_domain.proofs.rows.Kept.{set_at}
 use Rattle.lk_domain.proofs.ledger.Loads.{version_page, balance_page}
 use Rattle.lk_domain.proofs.seats.Totals.{total-same, total-set, apart, drawn}
@@ -77,6 +79,7 @@ module _ (k : Plan) (s : State Slot View) (both : Stand k s) (id : ℕ) (v : Vie
           own = kv.own;
           quiet = λ e. quiet_here storer.ledger e;
           past = kv.past;
+          values = kv.values;
         }
 
     store_word : (b : ℕ) → b < accounts_of k → get_or ws (balance_at k b) 0 ≡ get_or (set o.words a x) b 0
@@ -116,6 +119,7 @@ module _ (k : Plan) (s : State Slot View) (both : Stand k s) (id : ℕ) (v : Vie
             });
             knows = λ j y at. ⊎_elim (λ t. subst (Knows k kp.journal) t.1 store_knows) (λ t. kp.knows j y t.1) (at_set s.views id j storer y at);
             fresh = λ q le. kp.fresh q (subst (λ (r : ℕ). r ≤ q) (other 0 (λ e. omega arith)) le);
+            values = same_slots k s kp id v storer me store_knows refl;
           };
         }
 
@@ -162,6 +166,7 @@ module _ (k : Plan) (s : State Slot View) (both : Stand k s) (id : ℕ) (v : Vie
           quiet = λ e. quiet_here bringer.ledger e;
           past = subst (λ (l : List Entry). ArePast k l v.who.ended) grown
               (past_grows k kp.journal es n.0 v.who.ended all (own_once k s both.runs id v n.0 me n.1) kv.past);
+          values = kv.values;
         }
 
     others_know : (i : ℕ) (y : View) → i ≢ id → get_elem? s.views i ≡ some y → Knows k js y
@@ -172,21 +177,21 @@ module _ (k : Plan) (s : State Slot View) (both : Stand k s) (id : ℕ) (v : Vie
         (other_once k s both.runs id i v y n.0 ne me at n.1)
         (λ e. ne (alone.alone_seat k s both.runs id i v y me at (let sole = kv.holder (out_is o v.ledger.out has) in omega arith) (omega arith))))
 
-    pub bring_stands : Stand k (record { words = ws'; homes = set s.homes 0 (some (Some j)); views = set s.views id bringer })
+    pub bring_stands : Stand k (record { words = ws'; homes = set s.homes 0 (some (Some (Entries j))); views = set s.views id bringer })
     bring_stands =
         let inside : 0 < length s.homes = (let z = kp.slots in omega arith) in
         let inside_words : 1 < length s.words = (let z = both.runs.stored.long in omega arith) in
         let below : n.0 < get_or s.words 0 0 = drawn s.views (get_or s.words 0 0) both.runs.once id v n.0 me n.1 in
         record {
-          runs = paged k s both.runs id v me n bringer refl refl version_at x (version_page k) (set s.homes 0 (some (Some j)));
+          runs = paged k s both.runs id v me n bringer refl refl version_at x (version_page k) (set s.homes 0 (some (Some (Entries j))));
           keeps = record {
             journal = js;
             replays = replays;
-            slots = length-set s.homes 0 (some (Some j)) ∙ kp.slots;
+            slots = length-set s.homes 0 (some (Some (Entries j))) ∙ kp.slots;
             shares = omega (arith, kp.shares, total-set (λ (y : View). y.ledger.share) s.views id v bringer me, ap (undrawn k) (other' 0 (λ e. omega arith)), length-append o.list es, ap (λ (l : List Entry). length l) list);
             place = inl (record {
               journal = j;
-              home = set_here s.homes 0 (some (Some j)) inside;
+              home = set_here s.homes 0 (some (Some (Entries j))) inside;
               items = items;
               room = room ∙ (ap (λ (y : Out). y.room) (sym same_out) ∙ h.room);
               words = record {
@@ -200,6 +205,7 @@ module _ (k : Plan) (s : State Slot View) (both : Stand k s) (id : ℕ) (v : Vie
             knows = λ i y at. ⊎_elim (λ t. subst (Knows k js) t.1 bring_knows) (λ t. others_know i y t.0 t.1) (at_set s.views id i bringer y at);
             fresh = λ q le. let le' : get_or s.words 0 0 ≤ q = subst (λ (r : ℕ). r ≤ q) (other' 0 (λ e. omega arith)) le in
                 ap (places q) (sym grown) ∙ (sym (places_kept n.0 q kp.journal es all (λ e. omega arith)) ∙ kp.fresh q le');
+            values = first_slot k s kp id v bringer (some (Some (Entries j))) me bring_knows refl;
           };
         }
 
@@ -232,35 +238,36 @@ stores k plan slots id m o a i x st same mine at word lt n holds has =
 
 -- the journal is brought home
 pub brings : (k : Plan) (slots id : ℕ) (v : View) (j : Journal) (o : Out) (n : IsNumbered v)
-    (es : List Entry) (x : ℕ) (st : Step Slot) → holds_first v.calls → v.ledger.out ≡ Some o
+    (es : List Entry) (xs : List (ℕ × Slot)) (x : ℕ) (st : Step Slot) → holds_first v.calls → v.ledger.out ≡ Some o
     → j.entries.items ≡ o.list ++ es → AllOf n.0 es → length es ≤ v.ledger.share
     → Replays k.balances.items (o.list ++ es)
     → ((a : ℕ) → a < accounts_of k → get_or o.words a 0 ≡ balance k (o.list ++ es) a)
     → j.entries.room ≡ o.room → x ≡ length j.entries.items
-    → (let m : Me Slot View = (v, (0, Some j) ∷ []) in Allows (Stand k) slots id m version_at (λ _. x) (λ _. Brings st m x))
-brings k slots id v j o n es x st holds has items all few replays words room size s both wide me _ = (
+    → (let m : Me Slot View = (v, (0, Some (Entries j)) ∷ xs) in Allows (Stand k) slots id m version_at (λ _. x) (λ _. Brings st m x))
+brings k slots id v j o n es xs x st holds has items all few replays words room size s both wide me _ = (
   bringer k s both id v me n holds o has j es x items all few replays words room size,
   gives,
   tt,
   bring_stands k s both id v me n holds o has j es x items all few replays words room size,
-  λ o' j' p' z z₁ z₂.
+  λ o' j' p' xs' z z₁ z₂.
       let a : Some o ≡ Some o' = sym has ∙ z in
       let b : o ≡ o' = cc in
       let c : Some n.0 ≡ Some p' = sym n.1 ∙ z₂ in
       let d : n.0 ≡ p' = cc in
-      let q : Some j ≡ Some j' = ap (λ (l : List (ℕ × Slot)). (get_or l 0 (0, Some j)).1) z₁ in
+      let q : Some (Entries j) ≡ Some (Entries j') = ap (λ (l : List (ℕ × Slot)). (get_or l 0 (0, Some (Entries j))).1) z₁ in
       let e : j ≡ j' = cc in
       let f : es ≡ drop (length o'.list) j'.entries.items =
       sym (ap (λ (l : List Entry). drop (length o.list) l) items ∙ drop_front o.list es) ∙ (λ i. drop (length (b i).list) (e i).entries.items) in
-      λ i. (view v.who v.calls (brought v.ledger (d i) (b i) (f i)), []),
+      let g : xs ≡ xs' = ap rest z₁ in
+      λ i. (view v.who v.calls (brought v.ledger (d i) (b i) (f i)), g i),
 )
 
 -- the same of a seat that is known by an equation
-pub brings_at : (k plan : Plan) (slots id : ℕ) (m : Me Slot View) (v : View) (j : Journal) (x : ℕ) (st : Step Slot)
-    → k ≡ plan → m ≡ (v, (0, Some j) ∷ []) → (n : IsNumbered v) → holds_first v.calls
+pub brings_at : (k plan : Plan) (slots id : ℕ) (m : Me Slot View) (v : View) (j : Journal) (xs : List (ℕ × Slot))
+    (x : ℕ) (st : Step Slot) → k ≡ plan → m ≡ (v, (0, Some (Entries j)) ∷ xs) → (n : IsNumbered v) → holds_first v.calls
     → MayCome plan n.0 v.ledger j → x ≡ length j.entries.items
     → Allows (Stand k) slots id m version_at (λ _. x) (λ _. Brings st m x)
-brings_at k plan slots id m v j x st same e n holds may size =
+brings_at k plan slots id m v j xs x st same e n holds may size =
     let may' : MayCome k n.0 v.ledger j = subst (λ (q : Plan). MayCome q n.0 v.ledger j) (sym same) may in
     subst (λ (y : Me Slot View). Allows (Stand k) slots id y version_at (λ _. x) (λ _. Brings st y x)) (sym e)
-    (brings k slots id v j may'.out n may'.more x st holds may'.has may'.items may'.worker may'.few may'.replays may'.words may'.room size)
+    (brings k slots id v j may'.out n may'.more xs x st holds may'.has may'.items may'.worker may'.few may'.replays may'.words may'.room size)

@@ -53,7 +53,6 @@ use Rattle.lk_domain.proofs.queue.ChoicePlays.{aside}
 use Rattle.lk_domain.proofs.queue.LockSwaps.{set_self}
 use Rattle.lk_domain.proofs.queue.NodePlays as play
 use Rattle.lk_domain.proofs.queue.NodePlays.{link_look, hand_on}
-use Rattle.lk_domain.proofs.queue.Relinks.{node_bare}
 use Rattle.lk_domain.proofs.queue.NodeStores.{OnNode, flag_here, runs_here}
 use Rattle.lk_domain.proofs.queue.OnNodes.{IsUsed, top_live}
 use Rattle.lk_domain.proofs.rows.Users.{IsTrue}
@@ -325,9 +324,9 @@ module _ (k : Plan) (slots id : ℕ) (m : Me Slot View) (number : IsNumbered m.0
             (seeks_same k s.words (set s.words j n) (λ i high. ap (λ (ws : List ℕ). get_or ws i 0) same_words)
             m.0.calls (st.seeks id m.0 me)) s.homes;
         keeps = alters k s both.keeps id m.0 u (set s.words j n) me refl
-            (knows_same k both.keeps.journal m.0 u (both.keeps.knows id m.0 me) refl refl refl refl)
+            (knows_same k both.keeps.journal m.0 u (both.keeps.knows id m.0 me) refl refl refl refl (λ l is. is))
             (ap (λ (ws : List ℕ). get_or ws 0 0) same_words) (ap (λ (ws : List ℕ). get_or ws version_at 0) same_words)
-            (λ b lt. ap (λ (ws : List ℕ). get_or ws (balance_at k b) 0) same_words) refl;
+            (λ b lt. ap (λ (ws : List ℕ). get_or ws (balance_at k b) 0) same_words) refl refl;
       }
 
   -- where it tells the next of a second queue there is room for one more

@@ -1,5 +1,5 @@
 -- What an exchange of a lock's whole word asks, which is tried again where it fails.
-use Rattle.std.proofs.Common.{◌≡◌, ℕ, zero, suc, ◌<◌, List, [], ◌∷◌, get_or, set, None, Bool, true, false}
+use Rattle.std.proofs.Common.{◌≡◌, ℕ, zero, suc, ◌<◌, List, [], ◌∷◌, get_or, set, Bool, true, false}
 use Rattle.std.proofs.Common.{eqb, eq-eqb, ne_eqb, refl, sym, ap, ◌∙◌, subst}
 use Rattle.std.specs.Prelude.{unwrap_or}
 use prog.Atomic.{either}
@@ -19,8 +19,7 @@ use Rattle.lk_machine.specs.declared.setup.Verb.{Verb}
 use Rattle.lk_machine.specs.TopRow.{target}
 use Rattle.lk_law.specs.Leads.{Word}
 use Rattle.lk_domain.specs.Calls.{Calls, StandsOn, acting, Begins}
-use Rattle.lk_domain.specs.Keeps.{Slot}
-use Rattle.lk_domain.specs.Ledgers.{is_first}
+use Rattle.lk_domain.specs.Keeps.{AllHome, Slot}
 use Rattle.lk_domain.specs.Plans.{locks_of, layout_in}
 use Rattle.lk_domain.specs.Plays.{ActsOn, IsWord, Swaps, made, rowed}
 use Rattle.lk_domain.specs.Stand.{Stand}
@@ -53,7 +52,7 @@ module _ (k : Plan) (slots id : ℕ) (m : Me Slot View) (number : IsNumbered m.0
     (l : LockName) (near : l.index < locks_of k) (pc : Pc)
     (acts : StandsOn (acting m.0.who.plan.mode m.0.calls verb l.index) verb l pc)
     (asks : Begins m.0.who.plan m.0.calls verb l.index) (word : (fr : Frame) → OnWord (target pc fr))
-    (home : MayFree pc → is_first l ≡ true → m.0.ledger.out ≡ None)
+    (home : MayFree pc → AllHome l m.0)
     (later : is_first_of pc verb ≡ false) where
   pub swaps : (st : Step Slot) (old new : ℕ) → st.first ≡ old
       → ((mode : Mode) (y : Fields) → IsPackable (layout_in k) y → KnownHere pc acts.frame y → packed (layout_in k) y ≡ old
@@ -108,7 +107,7 @@ module _ (k plan : Plan) (slots id : ℕ) (m : Me Slot View) (number : IsNumbere
     (at : i ≡ word_at l) where
   pub asks_swap : (kind : Pc → Bool) (acts : ActsOn kind m.0 verb l)
       → ((pc : Pc) → kind pc ≡ true → (fr : Frame) → OnWord (target pc fr))
-      → (MayFree acts.row → is_first l ≡ true → m.0.ledger.out ≡ None)
+      → (MayFree acts.row → AllHome l m.0)
       → is_first_of acts.row verb ≡ false → (old new : ℕ) → st.first ≡ old
       → ((mode : Mode) (y : Fields) → IsPackable (layout_in plan) y → KnownHere acts.row acts.stands.frame y → packed (layout_in plan) y ≡ old
       → new ≡ packed (layout_in plan) (unwrap_or (word_stores mode acts.row acts.stands.frame (target acts.row acts.stands.frame) y) y))

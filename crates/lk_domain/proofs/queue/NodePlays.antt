@@ -51,6 +51,7 @@ use Rattle.lk_domain.proofs.rows.Poised.{Poised}
 use Rattle.lk_domain.proofs.words.NodeWords.{place_is, stored_plain, stored_zero}
 use Rattle.lk_domain.proofs.words.LockPlays.{MayFree, acting_any, acting_sole}
 use Rattle.lk_domain.proofs.words.OnWords.{seated}
+use Rattle.lk_domain.proofs.Outs.{acting_holds}
 use Rattle.lk_domain.proofs.ledger.Purses.{alters, knows_after, knows_same}
 use Rattle.lk_domain.proofs.queue.Entries as entry
 use Rattle.lk_domain.proofs.queue.OnNodes as on
@@ -111,10 +112,11 @@ module _ (k : Plan) (id : ℕ) (m : Me Slot View) (number : IsNumbered m.0) (v :
         let rowed =
         calls_are y ∙ lands.rowed k s both.runs id m.0 me number.0 number.1 v lock pc asks acts' unseen y is true_ in
         knows_after k both.keeps.journal m.0 u number.0 number.1 (both.keeps.knows id m.0 me) c f.ctx (held_lock t f) trail
-        (acting_any k.mode m.0.calls v lock.index) (acting_sole k.mode m.0.calls v lock.index) refl (grip_of t o) ledger
+        (acting_any k.mode m.0.calls v lock.index) (acting_sole k.mode m.0.calls v lock.index)
+        (acting_holds k.mode m.0.calls v lock.index) refl (grip_of t o) ledger
         (ap (λ (z : Calls). z.holds) rowed)
         (fresh.fresh k s both.runs id m.0 me number.0 number.1 v lock pc asks acts' unseen)
-        (λ e first. absurd (frees (lands.m k s both.runs id m.0 me number.0 number.1 v lock pc asks acts' unseen, waiter number.0 f.ctx, f, e)))
+        (λ e. absurd (frees (lands.m k s both.runs id m.0 me number.0 number.1 v lock pc asks acts' unseen, waiter number.0 f.ctx, f, e)))
 
     pub kept : (y : Met) → plain y ≡ x → IsTrue made_in pc y → (j n : ℕ) → IsBare k j
         → Keeps k (record { words = set s.words j n; homes = s.homes; views = set s.views id (went m.0 y) })
@@ -124,7 +126,7 @@ module _ (k : Plan) (id : ℕ) (m : Me Slot View) (number : IsNumbered m.0) (v :
         alters k s both.keeps id m.0 (went m.0 y) (set s.words j n) me purse.share (knows y is true_)
         (get_or-set_other s.words j 0 n 0 (λ e. bare.roll (sym e)))
         (get_or-set_other s.words j version_at n 0 (λ e. bare.version (sym e)))
-        (λ a lt. get_or-set_other s.words j (balance_at k a) n 0 (λ e. bare.balances a lt (sym e))) purse.out
+        (λ a lt. get_or-set_other s.words j (balance_at k a) n 0 (λ e. bare.balances a lt (sym e))) purse.out refl
 
 -- a step of the newest call on a word of a node
 module _ (k : Plan) (slots id : ℕ) (m : Me Slot View) (number : IsNumbered m.0) (v : Verb) (lock : LockName) (pc : Pc)
@@ -413,10 +415,10 @@ reset_on k slots id m number q low ready step at s both long me small =
       record {
         runs = on.resets k s both.runs id m.0 me number.0 number.1 q low ready u refl refl s.homes;
         keeps = alters k s both.keeps id m.0 u (set s.words j 0) me refl
-            (knows_same k both.keeps.journal m.0 u (both.keeps.knows id m.0 me) refl refl refl refl)
+            (knows_same k both.keeps.journal m.0 u (both.keeps.knows id m.0 me) refl refl refl refl (λ l is. is))
             (get_or-set_other s.words j 0 0 0 (λ e. bare.roll (sym e)))
             (get_or-set_other s.words j version_at 0 0 (λ e. bare.version (sym e)))
-            (λ a lt. get_or-set_other s.words j (balance_at k a) 0 0 (λ e. bare.balances a lt (sym e))) refl;
+            (λ a lt. get_or-set_other s.words j (balance_at k a) 0 0 (λ e. bare.balances a lt (sym e))) refl refl;
       },
       λ own r is. ap (λ (x : Part). (readied_by x m.0, m.1))
           (place_is m.0.who.plan a own q r (sym at ∙ is)),

@@ -8,7 +8,7 @@ use Rattle.lk_machine.specs.declared.setup.Verb.{Verb}
 use Rattle.lk_domain.specs.Calls.{are_calls}
 use Rattle.lk_domain.specs.Keeps.{Slot}
 use Rattle.lk_domain.specs.Marked.{IsNoted}
-use Rattle.lk_domain.specs.Plays.{ActsIn, MadeBy, SwappedBy, carried_with}
+use Rattle.lk_domain.specs.Plays.{ActsIn, MadeBy, SwappedBy, carried_of}
 use Rattle.lk_domain.specs.Rows.{arrives_by}
 use Rattle.lk_domain.specs.declared.notes.Notes.{Notes}
 use Rattle.lk_domain.specs.declared.view.View.{View}
@@ -22,7 +22,7 @@ pub record Kept (notes : Notes) (m n : Me Slot View) : Type 0 where
   pub numbered : {p : ℕ} → m.0.who.number ≡ Some p → n.0.who.number ≡ Some p
   pub noted : IsNoted notes n.0.calls
   pub apart : are_calls n.0.calls.frames ≡ true
-  pub carried : m.1 ≡ carried_with m.0.ledger.out → n.1 ≡ carried_with n.0.ledger.out
+  pub carried : m.1 ≡ carried_of m.0 → n.1 ≡ carried_of n.0
 
 module _ (v : Verb) (l : LockName) (expected met : ℕ) (m n : Me Slot View) (told : SwappedBy expected m met n)
     (notes : Notes) (was : IsNoted notes m.0.calls) (calm : are_calls m.0.calls.frames ≡ true)
@@ -49,7 +49,7 @@ module _ (v : Verb) (l : LockName) (expected met : ℕ) (m n : Me Slot View) (to
         noted = subst (λ (x : Me Slot View). IsNoted notes x.0.calls) (sym same) was;
         apart = ap (λ (x : Me Slot View). are_calls x.0.calls.frames) same ∙ calm;
         carried = λ h. ap (λ (x : Me Slot View). x.1) same
-            ∙ (h ∙ ap (λ (x : Me Slot View). carried_with x.0.ledger.out) (sym same));
+            ∙ (h ∙ ap (λ (x : Me Slot View). carried_of x.0) (sym same));
       }
 
   pub swapped : Kept notes m n

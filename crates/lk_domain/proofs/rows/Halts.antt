@@ -1,30 +1,27 @@
 -- What a row leaves of halts, kicks and the hash; and where a row leads that is none of a reader or a
 -- writer.
-use Rattle.std.proofs.Common.{◌≡◌, ◌≢◌, ◌⊎◌, inl, inr, ℕ, Option, Some, None, Bool, true, false, List}
+use Rattle.std.proofs.Common.{◌≡◌, inl, inr, ℕ, Option, Some, None, Bool, true, false, List}
 use Rattle.std.proofs.Common.{refl, sym, ap, ◌∙◌, eq-eqb, arith, ◌<◌, ◌≤◌, set, get_or, get_or-set_other}
 use Rattle.std.proofs.lemmas.Bool.{cases_Bool}
 use Rattle.std.specs.Prelude.{if◌then◌else◌, is_some, ◌&&◌, ◌-◌, ◌==◌, not}
-use Rattle.lk_abs.specs.declared.names.Mode.{Mode}
 use Rattle.lk_abs.specs.declared.names.Waiter.{Waiter}
 use Rattle.lk_abs.specs.declared.names.LockName.{LockName}
 use Rattle.lk_word.specs.declared.spin_word.NodeName.{NodeName}
 use Rattle.lk_word.specs.declared.spin_word.Fields.{Fields}
 use Rattle.lk_word.specs.declared.rw_word.RwFields.{RwFields}
 use Rattle.lk_machine.specs.declared.parts.Flag.{Flag}
-use Rattle.lk_machine.specs.declared.parts.Node.{Node}
 use Rattle.lk_machine.specs.declared.parts.State.{State}
 use Rattle.lk_machine.specs.declared.parts.Frame.{Frame}
 use Rattle.lk_machine.specs.declared.parts.Pc.{Pc}
 use Rattle.lk_machine.specs.declared.parts.Pc.TheVariants.{H1, H2, W1, W2, W3, W4, W5, W6, W7, E1, E2}
 use Rattle.lk_machine.specs.declared.parts.Pc.TheVariants.{E3, E4, E5, E6, E7, E8, E9, E10, E11, E12}
-use Rattle.lk_machine.specs.declared.parts.Pc.TheVariants.{E13, E14, E15, K1, K2, K3, U2, U3, U4, U5, G4}
+use Rattle.lk_machine.specs.declared.parts.Pc.TheVariants.{E13, E14, E15, K1, K2, K3, U2, U3, U4, U5}
 use Rattle.lk_machine.specs.Moves.{node_of}
-use Rattle.lk_machine.specs.Row.{Effect, Lead}
+use Rattle.lk_machine.specs.Row.{Effect}
 use Rattle.lk_machine.specs.rows.Spin.{is_unlocked}
 use Rattle.lk_machine.specs.rows.Queue.{entry_row}
 use Rattle.lk_machine.specs.rows.Cna.{is_held, is_last}
 use Rattle.lk_machine.specs.rows.Pv.{pv_after_next, is_set, is_running, is_halted, is_slow_byte, after_given_up}
-use Rattle.lk_machine.specs.rows.Pv.{after_glance}
 use Rattle.lk_machine.specs.TopRow.{Target, SpinWord, QueueWord, Queued, FlagOf, NextOf, ChoiceWord}
 use Rattle.lk_machine.specs.TopRow.{ChoiceFlag, ChoiceNext, SecondTailOf, RunsOf, PvWord, PvFlag}
 use Rattle.lk_machine.specs.TopRow.{PvNext, StateOf, HashEntry, Halted, KickOf, RwWord, target}
@@ -32,7 +29,7 @@ use Rattle.lk_law.specs.Families.{may_halt, is_rw_row}
 use Rattle.lk_law.specs.Leads.{course_in, is_release, stored_in}
 use Rattle.lk_law.specs.Premises.{IsThen}
 use Rattle.lk_law.specs.Steps.{led, stores_word, stores_rw, stores_flag, stores_next, stores_second}
-use Rattle.lk_law.specs.Steps.{stores_runs, stores_state, stores_entry, stores_halted, stores_kicked}
+use Rattle.lk_law.specs.Steps.{stores_runs, stores_state, stores_entry, stores_kicked}
 use Rattle.lk_law.specs.Steps.{stores_queued, put_halted}
 use Rattle.lk_law.specs.World.{World}
 use Rattle.lk_law.proofs.running.Calm.{row_is_calm}

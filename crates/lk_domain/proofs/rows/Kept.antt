@@ -4,7 +4,7 @@ use Rattle.std.proofs.Common.{◌≡◌, ◌≢◌, ◌⊎◌, ⊎_elim, inl, in
 use Rattle.std.proofs.Common.{length, set, get_or, Option, Some, None, Bool, true, false, refl, sym}
 use Rattle.std.proofs.Common.{ap, ◌∙◌, subst, arith}
 use Rattle.std.proofs.lemmas.Bool.{cases_eq}
-use Rattle.std.specs.Prelude.{if◌then◌else◌, not}
+use Rattle.std.specs.Prelude.{if◌then◌else◌}
 use mathlib.Core.Option.{Option as Maybe, some, some-injective, some-ne-none}
 use lib.ListN.{get_elem?}
 use Rattle.atomic_table.specs.Table.{State}
@@ -24,10 +24,8 @@ use Rattle.lk_law.specs.Agree.{halts}
 use Rattle.lk_law.specs.SoundWorld.{IsSoundWorld}
 use Rattle.lk_law.specs.World.{World}
 use Rattle.lk_domain.specs.Calls.{Mark, Running, Calls, no_calls, Stacked, Rests}
-use Rattle.lk_domain.specs.Calls.{after}
 use Rattle.lk_domain.specs.Calls.{AreHeld, releases}
 use Rattle.lk_domain.specs.Calls.{frames_after}
-use Rattle.lk_domain.specs.Calls.{told}
 use Rattle.lk_domain.specs.Calls.{acting, begin, is_on}
 use Rattle.lk_domain.specs.Plans.{cpus_of}
 use Rattle.lk_domain.specs.Runs.{waiter, node_name, Mirrors, SeatFits, IsReset, IsStored, IsOfPlan}
@@ -155,6 +153,13 @@ KeepsCounts m n p = (q : ℕ) (d : Calls) → q ≢ p → SeatFits m q d → IsC
 abbrev pub KeepsTold : World → World → ℕ → Type 0
 KeepsTold m n p = (q : ℕ) (d : Calls) → q ≢ p → SeatFits m q d → AreTold n d.frames
 
+-- it is the same seat, but for the values that it has out
+pub record SameWho (w x : Who) : Type 0 where
+  pub plan : x.plan ≡ w.plan
+  pub number : x.number ≡ w.number
+  pub ended : x.ended ≡ w.ended
+  pub dealt : x.dealt ≡ w.dealt
+
 module _ (k : Plan) {S : Type 0} (s : State S View) (st : Runs k s) (id : ℕ) (v : View)
     (me : get_elem? s.views id ≡ some v) (p : ℕ) (is : v.who.number ≡ Some p) where
   abbrev fits : SeatFits st.world p v.calls
@@ -167,19 +172,19 @@ module _ (k : Plan) {S : Type 0} (s : State S View) (st : Runs k s) (id : ℕ) (
   pub right : AreRight st.world st.marks
   right = right_marks st.world _ st.marks st.sound.spins st.marked
 
-  -- The step of a seat that leaves who it is, and the other processors' frames and holds and the
-  -- nodes to come, as they are, keeps the rule.
-  pub keeps : (n : World) (hs : LockName → LockHistory) (marks : NodeName → Bool) (u : View) (ws : List ℕ)
+  -- The step of a seat that leaves who it is, but for the values that it has out, and the other
+  -- processors' frames and holds and the nodes to come, as they are, keeps the rule.
+  pub keeps_as : (n : World) (hs : LockName → LockHistory) (marks : NodeName → Bool) (u : View) (ws : List ℕ)
       → IsSoundWorld n hs → IsOfPlan k n → IsStored k n marks ws → AreRight n marks → get_or ws 0 0 ≡ roll_of
       → Elsewhere st.world n p → ((q : ℕ) → q ≢ p → n.queued q ≡ st.world.queued q)
-      → KeepsComing st.world n p → KeepsCounts st.world n p → KeepsTold st.world n p → u.who ≡ v.who
+      → KeepsComing st.world n p → KeepsCounts st.world n p → KeepsTold st.world n p → SameWho v.who u.who
       → SeatFits n p u.calls
       → Halting k s st.world n ws id p → Seeks k ws u.calls
       → (homes : List (Maybe S))
       → Runs k {S = S} (record { words = ws; homes = homes; views = set s.views id u })
-  keeps n hs marks u ws sound of_plan stored marked roll others queued coming counts tolds who fit beside sought homes =
+  keeps_as n hs marks u ws sound of_plan stored marked roll others queued coming counts tolds who fit beside sought homes =
       let views = set s.views id u in
-      let number : u.who.number ≡ Some p = ap (λ (x : Who). x.number) who ∙ is in
+      let number : u.who.number ≡ Some p = who.number ∙ is in
       record {
         lawful = st.lawful;
         world = n;
@@ -215,7 +220,7 @@ module _ (k : Plan) {S : Type 0} (s : State S View) (st : Runs k s) (id : ℕ) (
             })
             (at_set s.views id j u x at);
         once = λ q. total-same (λ y. Rattle.lk_domain.specs.Views.times q (numbers y)) s.views id v u me
-            (ap (λ (w : Who). Rattle.lk_domain.specs.Views.times q (Rattle.lk_domain.specs.Views.listed w.number ++ Rattle.std.proofs.Common.map Rattle.lk_domain.specs.Views.number_of w.ended)) (sym who))
+            (λ i. Rattle.lk_domain.specs.Views.times q (Rattle.lk_domain.specs.Views.listed (sym who.number i) ++ Rattle.std.proofs.Common.map Rattle.lk_domain.specs.Views.number_of (sym who.ended i)))
             ∙ (st.once q ∙ ap (Rattle.lk_domain.specs.Views.once_below q) (sym roll));
         blank = λ q none. let free : q ≢ p = λ e. none id u (set_at s.views id v u me) (number ∙ ap Some (sym e)) in
             mirrors_else st.world n p q no_calls others free
@@ -230,15 +235,14 @@ module _ (k : Plan) {S : Type 0} (s : State S View) (st : Runs k s) (id : ℕ) (
           | inr ne ↦ ((others w ne).0 ∙ (st.six w high).0, λ l. (others w ne).1 l ∙ (st.six w high).1 l)
         ];
         planned = λ j x q at e. ⊎_elim
-            (λ a. ap (λ (z : View). z.who.plan) (sym a.1) ∙ (ap (λ (w : Who). w.plan) who ∙ st.planned id v p me is))
+            (λ a. ap (λ (z : View). z.who.plan) (sym a.1) ∙ (who.plan ∙ st.planned id v p me is))
             (λ a. st.planned j x q a.1 e) (at_set s.views id j u x at);
         silent = λ j x at none. ⊎_elim
             (λ a. absurd (some_none (sym number ∙ (ap (λ (z : View). z.who.number) a.1 ∙ none))))
             (λ a. st.silent j x a.1 none) (at_set s.views id j u x at);
         deals = λ j x q at is'. ⊎_elim
-            (λ a. let same : v.who ≡ x.who = sym who ∙ ap (λ (z : View). z.who) a.1 in
-            let d = st.deals id v q me (ap (λ (w : Who). w.dealt) same ∙ is') in
-            record { first = a.0 ∙ d.first; next = roll ∙ d.next; of_plan = ap (λ (w : Who). w.plan) (sym same) ∙ d.of_plan })
+            (λ a. let d = st.deals id v q me (sym who.dealt ∙ (ap (λ (z : View). z.who.dealt) a.1 ∙ is')) in
+            record { first = a.0 ∙ d.first; next = roll ∙ d.next; of_plan = ap (λ (z : View). z.who.plan) (sym a.1) ∙ (who.plan ∙ d.of_plan) })
             (λ a. let d = st.deals j x q a.1 is' in record { first = d.first; next = roll ∙ d.next; of_plan = d.of_plan })
             (at_set s.views id j u x at);
       }
@@ -248,3 +252,22 @@ module _ (k : Plan) {S : Type 0} (s : State S View) (st : Runs k s) (id : ℕ) (
 
       some_none : {a : ℕ} → Some a ≡ None → ⊥
       some_none e = cc
+
+  -- so does one that leaves who it is
+  pub keeps : (n : World) (hs : LockName → LockHistory) (marks : NodeName → Bool) (u : View) (ws : List ℕ)
+      → IsSoundWorld n hs → IsOfPlan k n → IsStored k n marks ws → AreRight n marks → get_or ws 0 0 ≡ roll_of
+      → Elsewhere st.world n p → ((q : ℕ) → q ≢ p → n.queued q ≡ st.world.queued q)
+      → KeepsComing st.world n p → KeepsCounts st.world n p → KeepsTold st.world n p → u.who ≡ v.who
+      → SeatFits n p u.calls
+      → Halting k s st.world n ws id p → Seeks k ws u.calls
+      → (homes : List (Maybe S))
+      → Runs k {S = S} (record { words = ws; homes = homes; views = set s.views id u })
+  keeps n hs marks u ws sound of_plan stored marked roll others queued coming counts tolds who fit beside sought homes =
+      keeps_as n hs marks u ws sound of_plan stored marked roll others queued coming counts tolds
+      (record {
+        plan = ap (λ (x : Who). x.plan) who;
+        number = ap (λ (x : Who). x.number) who;
+        ended = ap (λ (x : Who). x.ended) who;
+        dealt = ap (λ (x : Who). x.dealt) who;
+      })
+      fit beside sought homes

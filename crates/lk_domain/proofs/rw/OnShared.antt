@@ -7,6 +7,7 @@ use Rattle.std.specs.Prelude.{unwrap_or}
 use mathlib.Core.Option.{Option as Maybe, some}
 use lib.ListN.{get_elem?}
 use Rattle.atomic_table.specs.Table.{State}
+use Rattle.lk_abs.specs.declared.holder.Manner.TheVariants.{Reads}
 use Rattle.lk_abs.specs.declared.names.Kind.{Kind}
 use Rattle.lk_abs.specs.declared.names.Kind.TheVariants.{Rw}
 use Rattle.lk_abs.specs.declared.names.Mode.{Mode}
@@ -40,6 +41,7 @@ use Rattle.lk_domain.specs.Calls.{terms_of, Calls, StandsOn, row_of, acting, Beg
 use Rattle.lk_domain.specs.Keeps.{sole_count}
 use Rattle.lk_domain.specs.Plans.{cpus_of, locks_of}
 use Rattle.lk_domain.specs.Runs.{waiter, node_name, IsIdle, IsStored, Runs}
+use Rattle.lk_domain.specs.Values.{out_in}
 use Rattle.lk_domain.specs.Words.{lock_at, node_at, node_number, stored_number}
 use Rattle.lk_domain.specs.declared.plan.Plan.{Plan}
 use Rattle.lk_domain.specs.declared.view.View.{View}
@@ -53,6 +55,7 @@ use Rattle.lk_domain.proofs.words.Locks.{shared_stored}
 use Rattle.lk_domain.proofs.Manners.{held_above, held_cases}
 use Rattle.lk_domain.proofs.Stacks.{frame_in-above}
 use Rattle.lk_domain.proofs.seats.Totals.{drawn, nobodys}
+use Rattle.lk_domain.proofs.Outs.{reads_unout}
 use Rattle.lk_domain.proofs.ledger.Held.{reads_sole}
 use Rattle.lk_domain.proofs.rows.Users.{bare_me, kept_marks}
 use Rattle.lk_law.specs.Nodes.{looks_along}
@@ -205,16 +208,23 @@ module _ (k : Plan) {S : Type 0} (s : State S View) (st : Runs k s) (id : ℕ) (
         acts.place row).1
 
     -- who releases as a reader holds the lock so, and nobody of its processor holds it alone
-    pub unalone : pc ≡ Z1 → l ≡ 0 → sole_count (acting k.mode v.calls verb l).holds ≡ 0
-    unalone reads first =
+    holds_read : pc ≡ Z1 → held_in (acting k.mode v.calls verb l).holds f.ctx (lock_name l) ≡ Some Reads
+    holds_read reads =
         let live = lands.live k s st id v me p is verb n pc asks acts unseen in
         let phase : rw_phases m l w ≡ Unreads =
         ap (rw_phase_on l) live
         ∙ (rw_here l f index_is
         ∙ (ap (λ (c : Option Pc). rw_phase_if c f.lock.wait) acts.place ∙ ap (λ (c : Pc). rw_phase_at c f.lock.wait) reads)) in
-        let held = sym (at.acted.mirrors.holds f.ctx (lock_name l)) ∙ (at.acted.sound.rws l kind_is).holds.unreads w phase in
+        sym (at.acted.mirrors.holds f.ctx (lock_name l)) ∙ (at.acted.sound.rws l kind_is).holds.unreads w phase
+
+    pub unalone : pc ≡ Z1 → l ≡ 0 → sole_count (acting k.mode v.calls verb l).holds ≡ 0
+    unalone reads first =
         reads_sole st.world.kind (acting k.mode v.calls verb l).holds f.ctx at.held
-        (ap (λ (i : ℕ). held_in (acting k.mode v.calls verb l).holds f.ctx (lock_name i)) (sym first) ∙ held)
+        (ap (λ (i : ℕ). held_in (acting k.mode v.calls verb l).holds f.ctx (lock_name i)) (sym first) ∙ holds_read reads)
+
+    -- nor is the value of the lock out
+    pub unout : pc ≡ Z1 → out_in (acting k.mode v.calls verb l).holds l ≡ false
+    unout reads = reads_unout st.world.kind (acting k.mode v.calls verb l).holds l f.ctx at.held (holds_read reads)
 
     pub met_is : met_in m w f (target pc f) ≡ Shared found
     met_is = ap (met_in m w f) (rw_target pc f row) ∙ ap (λ (i : ℕ). Shared (m.rw i)) index_is

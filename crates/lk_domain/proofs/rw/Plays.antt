@@ -1,6 +1,6 @@
 -- What the step calls on the words of reader-writer locks ask.
 use Rattle.std.proofs.Common.{◌≡◌, ℕ, ◌<◌, get_or, set}
-use Rattle.std.proofs.Common.{None, Bool, true, inl, inr, get_or-set_other, refl, sym, ap, ◌∙◌}
+use Rattle.std.proofs.Common.{None, Bool, true, false, inl, inr, get_or-set_other, refl, sym, ap, ◌∙◌}
 use Rattle.std.proofs.Common.{subst, arith}
 use mathlib.Core.Option.{some}
 use lib.ListN.{get_elem?}
@@ -11,7 +11,7 @@ use Rattle.lk_word.specs.declared.rw_word.RwFields.{RwFields}
 use Rattle.lk_word.specs.RwWord.{packed_rw, IsPackableRw}
 use Rattle.lk_machine.specs.declared.parts.Frame.{Frame}
 use Rattle.lk_machine.specs.declared.parts.Pc.{Pc}
-use Rattle.lk_machine.specs.declared.parts.Pc.TheVariants.{Z2}
+use Rattle.lk_machine.specs.declared.parts.Pc.TheVariants.{Z1, Z2}
 use Rattle.lk_machine.specs.declared.setup.Verb.{Verb}
 use Rattle.lk_machine.specs.Moves.{rw_name}
 use Rattle.lk_machine.specs.TopRow.{Target, target}
@@ -19,13 +19,14 @@ use Rattle.lk_law.specs.Families.{is_rw_row}
 use Rattle.lk_law.specs.Leads.{Shared, held_lock}
 use Rattle.lk_law.specs.RwKnown.{RwKnown}
 use Rattle.lk_domain.specs.Calls.{terms_of, Calls, Frees, StandsOn, acting, Begins, row_of, grip_of, lock_name}
-use Rattle.lk_domain.specs.Keeps.{Slot, Keeps, Knows}
+use Rattle.lk_domain.specs.Keeps.{Slot, Keeps, Knows, AllHome}
 use Rattle.lk_domain.specs.Ledgers.{is_first, turned}
 use Rattle.lk_domain.specs.Plans.{locks_of}
 use Rattle.lk_domain.specs.Plays.{made, turned_of}
 use Rattle.lk_domain.specs.Runs.{waiter, Runs}
 use Rattle.lk_domain.specs.RwPlays.{ActsFor, SharedBy, Shares}
 use Rattle.lk_domain.specs.Stand.{Stand}
+use Rattle.lk_domain.specs.Values.{out_in}
 use Rattle.lk_domain.specs.Views.{IsNumbered, own_number}
 use Rattle.lk_domain.specs.Words.{lock_at, version_at, balance_at}
 use Rattle.lk_domain.specs.declared.plan.Plan.{Plan}
@@ -36,6 +37,7 @@ use Rattle.lk_domain.proofs.rows.Lands as lands
 use Rattle.lk_domain.proofs.rows.Sights.{IsSeen}
 use Rattle.lk_domain.proofs.words.LockPlays.{acting_any, acting_sole}
 use Rattle.lk_domain.proofs.ledger.Alone.{some_out, out_is}
+use Rattle.lk_domain.proofs.Outs.{acting_holds}
 use Rattle.lk_domain.proofs.ledger.Purses.{alters, knows_after}
 use Rattle.lk_domain.proofs.rw.Numbers as numbers
 use Rattle.lk_domain.proofs.rw.OnShared as on
@@ -114,7 +116,7 @@ module _ (k : Plan) (slots id : ℕ) (m : Me Slot View) (number : IsNumbered m.0
     frees = grip_of t (lands.o k s ok id m.0 me number.0 number.1 verb n pc asked acts' unseen) ≡ Frees
 
     -- the ledger part
-    knows : (frees → is_first (lock_name l) ≡ true → m.0.ledger.out ≡ None) → Knows k both.keeps.journal u
+    knows : (frees → AllHome (lock_name l) m.0) → Knows k both.keeps.journal u
     knows home =
         let c : Calls = acting k.mode m.0.calls verb l in
         let f = acts'.frame in
@@ -127,12 +129,13 @@ module _ (k : Plan) (slots id : ℕ) (m : Me Slot View) (number : IsNumbered m.0
         ∙ fresh.turns k s ok id m.0 me number.0 number.1 verb n pc asked acts' unseen (Shared y) (sym met_is) (λ e. absurd (off_links pc row e)) m.0.ledger in
         let holds = calls_are ∙ lands.rowed k s ok id m.0 me number.0 number.1 verb n pc asked acts' unseen (Shared y) (sym met_is) (λ e. absurd (off_links pc row e)) in
         knows_after k both.keeps.journal m.0 u number.0 number.1 (both.keeps.knows id m.0 me) c f.ctx (held_lock t f) trail
-        (acting_any k.mode m.0.calls verb l) (acting_sole k.mode m.0.calls verb l) refl (grip_of t o) ledger
+        (acting_any k.mode m.0.calls verb l) (acting_sole k.mode m.0.calls verb l)
+        (acting_holds k.mode m.0.calls verb l) refl (grip_of t o) ledger
         (ap (λ (z : Calls). z.holds) holds)
         (fresh.fresh k s ok id m.0 me number.0 number.1 verb n pc asked acts' unseen)
-        (λ e on_first. home e (ap is_first (sym lock) ∙ on_first))
+        (λ e. subst (λ (z : LockName). AllHome z m.0) (sym lock) (home e))
 
-    pub keeps_on : (frees → is_first (lock_name l) ≡ true → m.0.ledger.out ≡ None) → (i : ℕ)
+    pub keeps_on : (frees → AllHome (lock_name l) m.0) → (i : ℕ)
         → Keeps k (record { words = set s.words (lock_at l) i; homes = s.homes; views = set s.views id u })
     keeps_on home i =
         let purse : fresh.SamePurse m.0.ledger u.ledger =
@@ -140,7 +143,7 @@ module _ (k : Plan) (slots id : ℕ) (m : Me Slot View) (number : IsNumbered m.0
         alters k s both.keeps id m.0 u (set s.words (lock_at l) i) me purse.share (knows home)
         (get_or-set_other s.words (lock_at l) 0 i 0 (λ e. omega arith))
         (get_or-set_other s.words (lock_at l) version_at i 0 (λ e. omega arith))
-        (λ a lt. get_or-set_other s.words (lock_at l) (balance_at k a) i 0 (λ e. omega arith)) purse.out
+        (λ a lt. get_or-set_other s.words (lock_at l) (balance_at k a) i 0 (λ e. omega arith)) purse.out refl
 
     pub is_made : SharedBy verb l m (get_or s.words (lock_at l) 0) (u, m.1)
     is_made =
@@ -155,7 +158,7 @@ module _ (k : Plan) (slots id : ℕ) (m : Me Slot View) (number : IsNumbered m.0
   -- a step that makes the row, whatever it meets
   pub plays : (st : Step Slot) (g : ℕ → ℕ) → st.word ≡ lock_at l
       → ((s : State Slot View) (both : Stand k s) (me : get_elem? s.views id ≡ some m.0)
-      → frees s both me → is_first (lock_name l) ≡ true → m.0.ledger.out ≡ None)
+      → frees s both me → AllHome (lock_name l) m.0)
       → Writes pc g → Allows (Stand k) slots id m (lock_at l) g (Shares verb st m)
   plays st g at home writes s both long me small =
       let x : ℕ = get_or s.words (lock_at l) 0 in (
@@ -170,23 +173,36 @@ module _ (k : Plan) (slots id : ℕ) (m : Me Slot View) (number : IsNumbered m.0
             subst (λ (z : ℕ). SharedBy verb z m x (u s both me, m.1)) same (is_made s both me),
       )
 
-  -- a row that frees lock 0 does so where the journal is at home: with a reader it never is out
-  pub home : (pc ≡ Z2 → is_first (lock_name l) ≡ true → m.0.ledger.out ≡ None)
+  unread : (s : State Slot View) (both : Stand k s) (me : get_elem? s.views id ≡ some m.0) → pc ≡ Z1 → l ≡ 0
+      → m.0.ledger.out ≡ None
+  unread s both me reads index =
+      let none = on.unalone k s (ok s both me) id m.0 me number.0 number.1 verb n pc (asked s both me) (acts' s both me) near row reads index in
+      elim (some_out m.0.ledger.out) [
+        | inl h ↦ h
+        | inr h ↦
+            let sole = (both.keeps.knows id m.0 me).holder (out_is h.0 m.0.ledger.out h.1) in
+            absurd (omega (arith, sole, none, acting_sole k.mode m.0.calls verb l))
+      ]
+
+  unout : (s : State Slot View) (both : Stand k s) (me : get_elem? s.views id ≡ some m.0) → pc ≡ Z1
+      → out_in m.0.calls.holds l ≡ false
+  unout s both me reads =
+      sym (acting_holds k.mode m.0.calls verb l l).out
+      ∙ on.unout k s (ok s both me) id m.0 me number.0 number.1 verb n pc (asked s both me) (acts' s both me) near row reads
+
+  -- a row that frees a lock does so where all is at home: with a reader the journal and the value of
+  -- the lock never are out
+  pub home : (pc ≡ Z2 → AllHome (lock_name l) m.0)
       → (s : State Slot View) (both : Stand k s) (me : get_elem? s.views id ≡ some m.0)
-      → frees s both me → is_first (lock_name l) ≡ true → m.0.ledger.out ≡ None
-  home written s both me e first =
+      → frees s both me → AllHome (lock_name l) m.0
+  home written s both me e =
       elim (frees_at (lands.m k s (ok s both me) id m.0 me number.0 number.1 verb n pc (asked s both me) (acts' s both me) (unseen s both me)) (waiter number.0 acts.frame.ctx)
       acts.frame pc row e) [
-        | inl reads ↦
-            let index : l ≡ 0 = first_index l first in
-            let none = on.unalone k s (ok s both me) id m.0 me number.0 number.1 verb n pc (asked s both me) (acts' s both me) near row reads index in
-            elim (some_out m.0.ledger.out) [
-              | inl h ↦ h
-              | inr h ↦
-                  let sole = (both.keeps.knows id m.0 me).holder (out_is h.0 m.0.ledger.out h.1) in
-                  absurd (omega (arith, sole, none, acting_sole k.mode m.0.calls verb l))
-            ]
-        | inr writes ↦ written writes first
+        | inl reads ↦ record {
+          journal = λ first. unread s both me reads (first_index l first);
+          value = λ plain. unout s both me reads;
+        }
+        | inr writes ↦ written writes
       ]
 
 -- what the calls ask, in which the word is named by its place
@@ -195,7 +211,7 @@ module _ (k plan : Plan) (slots id : ℕ) (m : Me Slot View) (number : IsNumbere
     (word : st.word ≡ i) where
   pub asks : (kind : Pc → Bool) → ActsFor kind m.0 verb l
       → ((pc : Pc) → kind pc ≡ true → is_rw_row pc ≡ true)
-      → ((pc : Pc) → kind pc ≡ true → pc ≡ Z2 → is_first (lock_name l) ≡ true → m.0.ledger.out ≡ None)
+      → ((pc : Pc) → kind pc ≡ true → pc ≡ Z2 → AllHome (lock_name l) m.0)
       → (g : ℕ → ℕ) → ((pc : Pc) → kind pc ≡ true → Writes pc g)
       → Allows (Stand k) slots id m i g (Shares verb st m)
   asks kind for rows written g writes =

@@ -31,7 +31,7 @@ use Rattle.lk_domain.specs.Calls.{terms_of, sight_of, acting, are_calls}
 use Rattle.lk_domain.specs.Calls.{Outlook, sight_by}
 use Rattle.lk_domain.specs.Keeps.{Slot}
 use Rattle.lk_domain.specs.Marked.{IsNoted, Steps}
-use Rattle.lk_domain.specs.Plays.{ActsIn, carried_with}
+use Rattle.lk_domain.specs.Plays.{ActsIn, carried_of}
 use Rattle.lk_domain.specs.Rows.{looks_by, queues_up as queues}
 use Rattle.lk_domain.specs.RwPlays.{ActsFor, SharedBy, Watches}
 use Rattle.lk_domain.specs.RwRows.{watches_at, watches_on, watch_takes, joins_at, joins_on, join_takes}
@@ -40,6 +40,7 @@ use Rattle.lk_domain.specs.RwRows.{leaves_by, watches_by, joins_by, seizes_by, o
 use Rattle.lk_domain.specs.Views.{own_number}
 use Rattle.lk_domain.specs.declared.notes.Notes.{Notes}
 use Rattle.lk_domain.specs.declared.view.View.{View}
+use Rattle.lk_domain.proofs.seats.Places.{carried_same}
 use Rattle.lk_domain.proofs.turns.Courses.{Comes}
 use Rattle.lk_domain.proofs.rows.Fresh.{turned_purse}
 use Rattle.lk_domain.proofs.rows.Grips.{rw_target}
@@ -347,8 +348,10 @@ module _ (v : Verb) (l met : ℕ) (m n : Me Slot View) (made : SharedBy v l m me
       ∙ (turned_purse m.0.who.plan (own_number m.0.who.number) (acting m.0.who.plan.mode m.0.calls v l)
       (Shared made.found) m.0.ledger).out
 
-  pub carried : m.1 ≡ carried_with m.0.ledger.out → n.1 ≡ carried_with n.0.ledger.out
-  carried h = ap (λ (x : Me Slot View). x.1) made.seat ∙ (h ∙ ap carried_with (sym out_same))
+  pub carried : m.1 ≡ carried_of m.0 → n.1 ≡ carried_of n.0
+  carried h =
+      ap (λ (x : Me Slot View). x.1) made.seat
+      ∙ (h ∙ carried_same m.0 n.0 (ap (λ (x : Me Slot View). x.0.who) made.seat) out_same)
 
 quit_plain : (c : Pc) → quits_by Read c ≡ true → (is_opening c ≡ false) × (is_slow (Some c) ≡ false)
 quit_plain R3 h = (refl, refl)

@@ -1,16 +1,18 @@
 -- A new table; numbers are drawn, and seats are cut and joined.
 use Rattle.std.proofs.Common.{◌≡◌, ◌≢◌, ⊎_elim, inl, ℕ, zero, suc, ◌+◌, ◌%◌, ◌^◌, ◌<◌, false}
-use Rattle.std.proofs.Common.{◌≤◌, List, [], ◌∷◌, drop, length, set, get_or, Some, None}
+use Rattle.std.proofs.Common.{◌≤◌, List, [], ◌∷◌, drop, length, map, set, get_or, slice_get, Option, Some, None}
 use Rattle.std.proofs.Common.{refl, sym, ap, ◌∙◌, subst, arith, length-set}
 use Rattle.std.proofs.Common.{get_or-set_other, get_or-set_same}
 use Rattle.std.specs.List.{sum}
+use Rattle.std.proofs.lemmas.List.{length-replicate, get_or-replicate}
+use Rattle.std.proofs.lemmas.Option.{slice_get-get_or}
 use Rattle.std.proofs.lemmas.List.Sums.{sum_by-cons}
 use mathlib.Core.Logic.{dite}
 use mathlib.Core.Option.{some, some-injective, some-ne-none}
 use native.Mathlib.Decide.{ℕ_discrete}
 use lib.ListN.{get_elem?}
 use Rattle.atomic_table.specs.Table.{State, Me, Step, keeps, Allows, opening}
-use Rattle.atomic_table.proofs.Lists.{at_set, set_else}
+use Rattle.atomic_table.proofs.Lists.{at_set, set_else, at_index, at_map}
 use Rattle.lk_abs.specs.History.{no_history, LockHistory}
 use Rattle.lk_word.specs.declared.spin_word.Layout.{Layout}
 use Rattle.lk_abs.specs.declared.names.LockName.{LockName}
@@ -27,7 +29,11 @@ use Rattle.lk_law.proofs.common.RestWorld.{rest_is_sound}
 use Rattle.lk_domain.specs.Calls.{no_calls, Running}
 use Rattle.lk_domain.specs.Keeps.{Slot, Keeps, Knows, undrawn}
 use Rattle.lk_domain.specs.Ledgers.{no_ledger, with_share}
-use Rattle.lk_domain.specs.Plans.{cpus_of, kind_at, share_of, room_of, layout_in, IsRunningPlan, turns_of}
+use Rattle.lk_values.proofs.Guards as guards
+use Rattle.lk_values.proofs.Guards.{step_keeps}
+use Rattle.lk_values.specs.Guarded.{Among}
+use Rattle.lk_domain.specs.Values.{HoldsAlone, outs_of, Fits, FitsUnder, nothing, Key, keys_of, id_of, lodged, AreLaid, AreShut}
+use Rattle.lk_domain.specs.Plans.{cpus_of, locks_of, kind_at, share_of, room_of, layout_in, IsRunningPlan, turns_of}
 use Rattle.lk_domain.specs.Plays.{Draws}
 use Rattle.lk_domain.specs.Runs.{Runs, SeatFits, Deals, Seeks, Mirrors, waiter}
 use Rattle.lk_domain.proofs.rows.Halts.{far_same, far_set, same_marks, seeks_same, IsFarSame}
@@ -37,6 +43,7 @@ use Rattle.lk_domain.specs.Views.{once_below}
 use Rattle.lk_domain.specs.Words.{version_at, lock_at, word_at, balance_at, node_at, stored_number, IsOpening, state_at, kick_at, hash_at}
 use Rattle.lk_domain.specs.declared.journal.Journal.{Journal}
 use Rattle.lk_domain.specs.declared.plan.Plan.{Plan}
+use Rattle.lk_domain.specs.declared.slot.Stowed.TheVariants.{Entries}
 use Rattle.lk_domain.specs.declared.view.View.{View}
 use Rattle.lk_domain.proofs.words.NodeWords.{none_reset, rest_number, stored_zero}
 use Rattle.lk_domain.proofs.ledger.Purses.{place_kept}
@@ -55,6 +62,48 @@ none_node e = cc e
 no_frame : {x : Running} {rs : List Running} → [] ≡ x ∷ rs → ⊥
 no_frame e = cc e
 
+-- the slots of the locks in a new table
+
+long_map : {A B : Type 0} (f : A → B) (xs : List A) → length (map f xs) ≡ length xs
+long_map f [] = refl
+long_map f (x ∷ xs) = ap (λ (i : ℕ). suc i) (long_map f xs)
+
+laid_at : (j : Journal) (ks : List (Option Key)) (l : ℕ) → l < length ks
+    → get_elem? (Some (Entries j) ∷ map lodged ks) (1 + l) ≡ some (lodged (get_or ks l None))
+laid_at j ks l low =
+    ap (λ (i : ℕ). get_elem? (Some (Entries j) ∷ map lodged ks) i) (let z : 1 + l ≡ suc l = omega arith in z)
+    ∙ at_map lodged ks l (get_or ks l None) (at_index ks l (get_or ks l None) low (read ks l low))
+  where
+    read : (ys : List (Option Key)) (i : ℕ) → i < length ys → get_or ys i None ≡ get_or ys i (get_or ys i None)
+    read [] i h = absurd (omega (arith, h))
+    read (y ∷ ys) zero h = refl
+    read (y ∷ ys) (suc i) h = read ys i (omega (arith, h))
+
+-- No lock has a key where the plan has none; and else the keys of the plan are laid, of cells that are shut.
+
+pub none_laid : (k : Plan) → keys_of k ≡ [] → AreLaid k (nothing (locks_of k))
+none_laid k none = (
+  length-replicate (locks_of k) None,
+  λ l d low.
+      let empty : get_or (nothing (locks_of k)) l d ≡ None = get_or-replicate (locks_of k) l None d low in
+      subst (λ (x : Option Key). FitsUnder k l (lodged x)) (sym empty)
+      (subst (λ (ks : List (Option Key)). Fits (id_of (slice_get ks l)) None) (sym none) refl),
+)
+
+pub keys_laid : (k : Plan) (ks : List (Option Key)) → keys_of k ≡ ks → length ks ≡ locks_of k → AreShut ks → AreLaid k ks
+keys_laid k ks same long shut = (
+  long,
+  λ l d low.
+      let at : slice_get ks l ≡ Some (get_or ks l d) = slice_get-get_or ks l d (omega (arith, low, long)) in
+      subst (λ (ys : List (Option Key)). Fits (id_of (slice_get ys l)) (lodged (get_or ks l d))) (sym same)
+      (subst (λ (x : Option (Option Key)). Fits (id_of x) (lodged (get_or ks l d))) (sym at)
+      (each (get_or ks l d) (λ key e. shut l key (at ∙ ap Some e)))),
+)
+  where
+    each : (x : Option Key) → ((key : Key) → x ≡ Some key → key.views ≡ false ∷ []) → Fits (id_of (Some x)) (lodged x)
+    each None shut = refl
+    each (Some key) shut = (key, refl, (refl, shut key refl))
+
 -- a new table
 
 only_one : {A : Type 0} (a b : A) (i : ℕ) → get_elem? (a ∷ []) i ≡ some b → (i ≡ 0) × (a ≡ b)
@@ -70,9 +119,10 @@ unfolding packed_rw
 rest_shared = refl
 
 module _ (k : Plan) (ws : List ℕ) (j : Journal) (lawful : IsRunningPlan k) (opens : IsOpening k ws)
-    (empty : j.entries.items ≡ []) (room : j.entries.room ≡ room_of k) where
+    (empty : j.entries.items ≡ []) (room : j.entries.room ≡ room_of k)
+    (ks : List (Option Key)) (laid : AreLaid k ks) where
   abbrev s : State Slot View
-  s = opening ws (Some j ∷ []) (view (dealer k 0) no_calls no_ledger)
+  s = opening ws (Some (Entries j) ∷ map lodged ks) (view (dealer k 0) no_calls no_ledger)
 
   abbrev w : World
   w = world_at_rest k.format k.mode (turns_of k) k.threshold k.topology.sockets.items (kind_at k)
@@ -137,7 +187,8 @@ module _ (k : Plan) (ws : List ℕ) (j : Journal) (lawful : IsRunningPlan k) (op
       record {
         journal = [];
         replays = tt;
-        slots = refl;
+        slots = (let z = laid.0 in let y = long_map some (Some (Entries j) ∷ map lodged ks) in let x = long_map lodged ks in
+            omega (arith, z, y, x));
         shares = let e : undrawn k (get_or ws 0 0) ≡ room_of k = ap (undrawn k) roll in omega (arith, e);
         place = inl (record {
           journal = j;
@@ -156,8 +207,12 @@ module _ (k : Plan) (ws : List ℕ) (j : Journal) (lawful : IsRunningPlan k) (op
           own = λ p e. refl;
           quiet = λ e. refl;
           past = tt;
+          values = λ l none. absurd none;
         });
         fresh = λ p h. refl;
+        values = guards.starts 1 (locks_of k) HoldsAlone outs_of (FitsUnder k) (Some (Entries j) ∷ map lodged ks)
+            (view (dealer k 0) no_calls no_ledger) (let z = laid.0 in let x = long_map lodged ks in omega (arith, z, x))
+            (λ l low. (lodged (get_or ks l None), laid_at j ks l (let z = laid.0 in omega (arith, low, z)), laid.1 l None low)) refl;
       }
 
   -- the rule holds of a new table
@@ -299,7 +354,7 @@ module _ (k plan : Plan) (slots id : ℕ) (m : Me Slot View) (n : ℕ) (t : Step
             ap (undrawn k) next,
             ap (λ (x : Plan). share_of x n) d.of_plan,
           );
-          place = place_kept k kp.journal s id m.0 u ws me (ap (λ (x : View). x.ledger.out) (sym is)) (other version_at (λ e. omega arith))
+          place = place_kept k kp.journal s id m.0 u ws s.homes refl me (ap (λ (x : View). x.ledger.out) (sym is)) (other version_at (λ e. omega arith))
               (λ a lt. other (balance_at k a) (λ e. omega arith)) kp.place;
           knows = λ j x at. ⊎_elim
               (λ a. subst (Knows k kp.journal) a.1 (record {
@@ -311,9 +366,12 @@ module _ (k plan : Plan) (slots id : ℕ) (m : Me Slot View) (n : ℕ) (t : Step
                 own = λ p e. sym (kp.fresh p (let z : n ≡ p = number_is e in omega arith));
                 quiet = λ e. absurd (none_some (sym e));
                 past = tt;
+                values = λ l none. absurd none;
               }))
               (λ a. kp.knows j x a.1) (at_set s.views id j u x at);
           fresh = λ q h. kp.fresh q (let z = rolled in omega arith);
+          values = step_keeps 1 (locks_of k) HoldsAlone outs_of (FitsUnder k) s.homes s.views id m.0 u kp.values me
+              (record { same = ap outs_of (sym is); rights = λ l among _. absurd (subst (λ (y : View). Among l (outs_of y)) is among) });
         }
 
   -- the first seat may draw the number that it deals next

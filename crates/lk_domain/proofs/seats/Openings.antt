@@ -1,6 +1,6 @@
 -- The words of a new table are written; and its processors are dealt, one after another.
 use Rattle.std.proofs.Common.{◌≡◌, ◌≢◌, inl, inr, ℕ, zero, suc, ◌+◌, ◌<◌, List, [], ◌∷◌, ◌++◌}
-use Rattle.std.proofs.Common.{length, take, get_or, slice_get, set, Some, sym, ap, ◌∙◌, subst, arith}
+use Rattle.std.proofs.Common.{length, map, take, get_or, slice_get, set, Option, Some, sym, ap, ◌∙◌, subst, arith}
 use Rattle.std.proofs.Common.{length-set, get_or-set_other, get_or-set_same}
 use Rattle.std.proofs.lemmas.Bool.{cases_eq}
 use Rattle.std.proofs.lemmas.List.Sums.{sum_by-cons}
@@ -10,6 +10,7 @@ use Rattle.lk_domain.specs.Calls.{no_calls}
 use Rattle.lk_domain.specs.Keeps.{Slot}
 use Rattle.lk_domain.specs.Ledgers.{no_ledger}
 use Rattle.lk_domain.specs.Plans.{IsRunningPlan, accounts_of, room_of}
+use Rattle.lk_domain.specs.Values.{Key, AreLaid, lodged}
 use Rattle.lk_domain.specs.Seats.{IsDealt, AreDealt}
 use Rattle.lk_domain.specs.Stand.{Stand}
 use Rattle.lk_domain.specs.Views.{view, dealer}
@@ -18,6 +19,7 @@ use Rattle.lk_domain.specs.declared.cpu.Cpu.{Cpu}
 use Rattle.lk_domain.specs.declared.domain.Domain.{Domain}
 use Rattle.lk_domain.specs.declared.journal.Journal.{Journal}
 use Rattle.lk_domain.specs.declared.plan.Plan.{Plan}
+use Rattle.lk_domain.specs.declared.slot.Stowed.TheVariants.{Entries}
 use Rattle.lk_domain.proofs.seats.Dealt.{starts}
 
 -- what is read at a place
@@ -61,12 +63,13 @@ opened_more k n at x ws lawful o lt here is =
 
 -- the rule holds of a new table whose parts are known by equations
 pub starts_at : (k : Plan) (ws vs : List ℕ) (xs : List Slot) (j : Journal) → IsRunningPlan k
-    → IsOpening k ws → j.entries ≡ record { items = []; room = room_of k } → vs ≡ ws → xs ≡ Some j ∷ []
+    → IsOpening k ws → j.entries ≡ record { items = []; room = room_of k } → vs ≡ ws
+    → (ks : List (Option Key)) → AreLaid k ks → xs ≡ Some (Entries j) ∷ map lodged ks
     → Stand k (opening vs xs (view (dealer k 0) no_calls no_ledger))
-starts_at k ws vs xs j lawful opens empty words slots =
+starts_at k ws vs xs j lawful opens empty words ks laid slots =
     subst (λ (z : List ℕ). Stand k (opening z xs (view (dealer k 0) no_calls no_ledger))) (sym words)
     (subst (λ (z : List Slot). Stand k (opening ws z (view (dealer k 0) no_calls no_ledger))) (sym slots)
-    (starts k ws j lawful opens (ap (λ z. z.items) empty) (ap (λ z. z.room) empty)))
+    (starts k ws j lawful opens (ap (λ z. z.items) empty) (ap (λ z. z.room) empty) ks laid))
 
 pub each_more : {A : Type 0} (P : ℕ → A → Type 0) (xs : List A) (x : A)
     → ((i : ℕ) (d : A) → i < length xs → P i (get_or xs i d)) → P (length xs) x

@@ -12,7 +12,10 @@ use Rattle.atomic_table.proofs.Lists.{at_set, at_longer, at_last, set_else}
 use Rattle.lk_domain.specs.Calls.{Calls, no_calls, Running, Hold, frame_in, held_in}
 use Rattle.lk_domain.specs.Keeps.{Slot, Keeps, Knows}
 use Rattle.lk_domain.specs.Ledgers.{Ledger, Past, Out, no_ledger, with_share}
-use Rattle.lk_domain.specs.Plans.{share_of}
+use Rattle.lk_domain.specs.Plans.{locks_of, share_of}
+use Rattle.lk_domain.specs.Values.{HoldsAlone, IsOutWith, outs_of, FitsUnder}
+use Rattle.lk_values.proofs.Guards.{step_keeps, new_seat_keeps}
+use Rattle.lk_values.specs.Guarded.{Among}
 use Rattle.lk_domain.specs.Seated.{HoldsNothing}
 use Rattle.lk_domain.specs.Runs.{Runs, SeatFits, Deals, Seeks}
 use Rattle.lk_domain.specs.Stand.{Stand}
@@ -126,7 +129,7 @@ splits k plan id n s both me =
             }))
             kp.place;
         knows = each (λ j y. Knows k kp.journal y)
-            (record { holder = λ q. absurd (q refl); shut = λ _. refl; looking = tt; looked = tt; seen = omega arith; own = λ p e. absurd (none_some e); quiet = λ e. refl; past = tt })
+            (record { holder = λ q. absurd (q refl); shut = λ _. refl; looking = tt; looked = tt; seen = omega arith; own = λ p e. absurd (none_some e); quiet = λ e. refl; past = tt; values = λ l out. absurd out })
             (λ y e j. subst (Knows k kp.journal) e (record {
               holder = λ q. absurd (q refl);
               shut = λ _. refl;
@@ -136,9 +139,13 @@ splits k plan id n s both me =
               own = (kp.knows id v me).own;
               quiet = λ e. absurd (none_some (sym e));
               past = tt;
+              values = λ l out. absurd out;
             }))
             kp.knows;
         fresh = kp.fresh;
+        values = new_seat_keeps 1 (locks_of k) HoldsAlone outs_of (FitsUnder k) s.homes vs u
+            (step_keeps 1 (locks_of k) HoldsAlone outs_of (FitsUnder k) s.homes s.views id v w kp.values me
+            (record { same = refl; rights = λ l out _. absurd out })) refl;
       };
     }
   where
@@ -166,6 +173,7 @@ joins k id other v u number rests s both me ne at_other =
     let z : View = view nobody no_calls no_ledger in
     let vs : List View = set s.views id w in
     let there : get_elem? s.views other ≡ some u = sym (set_else s.views id other w ne) ∙ at_other in
+    let quiet : u.who.outs ≡ [] = none_with u.calls.holds rests.holds u.who.outs (kp.knows other u there).values in
     let each : (P : ℕ → View → Type 0) → P id w → ((j : ℕ) → P j z)
     → ((j : ℕ) (y : View) → get_elem? s.views j ≡ some y → P j y) → (j : ℕ) (y : View)
     → get_elem? (set vs other z) j ≡ some y → P j y = λ P a b c j y at. ⊎_elim
@@ -269,15 +277,27 @@ joins k id other v u number rests s both me ne at_other =
               own = q.own;
               quiet = λ e. absurd (none_some (sym e ∙ number.1));
               past = past_more k kp.journal v.who.ended (all_past u) q.past (past_known k kp.journal u (kp.knows other u there));
+              values = q.values;
             })
-            (λ j. record { holder = λ q. absurd (q refl); shut = λ _. refl; looking = tt; looked = tt; seen = omega arith; own = λ p e. absurd (none_some e); quiet = λ e. refl; past = tt })
+            (λ j. record { holder = λ q. absurd (q refl); shut = λ _. refl; looking = tt; looked = tt; seen = omega arith; own = λ p e. absurd (none_some e); quiet = λ e. refl; past = tt; values = λ l out. absurd out })
             kp.knows;
         fresh = kp.fresh;
+        values = step_keeps 1 (locks_of k) HoldsAlone outs_of (FitsUnder k) s.homes vs other u z
+            (step_keeps 1 (locks_of k) HoldsAlone outs_of (FitsUnder k) s.homes s.views id v w kp.values me
+            (record { same = refl; rights = λ l out has. has })) at_other
+            (record { same = sym quiet; rights = λ l out _. absurd (subst (Among l) quiet out) });
       };
     }
   where
     out_none : (o : Out) → None ≡ Some o → ⊥
     out_none o e = cc
+
+    -- who holds nothing has no value out
+    none_with : (hs : List Hold) → hs ≡ [] → (xs : List ℕ) → ((l : ℕ) → Among l xs → IsOutWith l hs) → xs ≡ []
+    none_with hs none [] out = refl
+    none_with hs none (x ∷ xs) out =
+        let is = subst (IsOutWith x) none (out x (inl refl)) in
+        absurd (let no = is.held in let z : ⊥ = cc no in z)
 
     more : (p : ℕ) → times p (numbers (view (joined v.who u) v.calls (with_more v.ledger u.ledger.share)))
         ≡ times p (numbers v) + times p (numbers u)

@@ -1,13 +1,14 @@
 -- A row of a lock leaves a processor's number, and what it carries.
-use Rattle.std.proofs.Common.{◌≡◌, ℕ, Some, sym, ap, ◌∙◌}
+use Rattle.std.proofs.Common.{◌≡◌, ℕ, Some, ap, ◌∙◌}
 use Rattle.atomic_table.specs.Table.{Me}
 use Rattle.lk_machine.specs.declared.setup.Verb.{Verb}
 use Rattle.lk_law.specs.Leads.{Met, Word}
 use Rattle.lk_domain.specs.Calls.{acting}
 use Rattle.lk_domain.specs.Keeps.{Slot}
-use Rattle.lk_domain.specs.Plays.{Goes, MadeBy, carried_with}
+use Rattle.lk_domain.specs.Plays.{Goes, MadeBy, carried_of}
 use Rattle.lk_domain.specs.Views.{own_number}
 use Rattle.lk_domain.specs.declared.view.View.{View}
+use Rattle.lk_domain.proofs.seats.Places.{carried_same}
 use Rattle.lk_domain.proofs.rows.Fresh.{turned_purse}
 
 module _ (v : Verb) (l met : ℕ) (m n : Me Slot View) (made : MadeBy v l m met n) where
@@ -20,8 +21,10 @@ module _ (v : Verb) (l met : ℕ) (m n : Me Slot View) (made : MadeBy v l m met 
       ∙ (turned_purse m.0.who.plan (own_number m.0.who.number) (acting m.0.who.plan.mode m.0.calls v l)
       (Word made.found) m.0.ledger).out
 
-  pub carried : m.1 ≡ carried_with m.0.ledger.out → n.1 ≡ carried_with n.0.ledger.out
-  carried h = ap (λ (x : Me Slot View). x.1) made.seat ∙ (h ∙ ap carried_with (sym out_same))
+  pub carried : m.1 ≡ carried_of m.0 → n.1 ≡ carried_of n.0
+  carried h =
+      ap (λ (x : Me Slot View). x.1) made.seat
+      ∙ (h ∙ carried_same m.0 n.0 (ap (λ (x : Me Slot View). x.0.who) made.seat) out_same)
 
 -- a row of the newest call on the word of a node does so too
 module _ (x : Met) (m n : Me Slot View) (went : Goes x m n) where
@@ -33,5 +36,7 @@ module _ (x : Met) (m n : Me Slot View) (went : Goes x m n) where
       ap (λ (z : Me Slot View). z.0.ledger.out) went
       ∙ (turned_purse m.0.who.plan (own_number m.0.who.number) m.0.calls x m.0.ledger).out
 
-  pub node_carried : m.1 ≡ carried_with m.0.ledger.out → n.1 ≡ carried_with n.0.ledger.out
-  node_carried h = ap (λ (z : Me Slot View). z.1) went ∙ (h ∙ ap carried_with (sym node_out))
+  pub node_carried : m.1 ≡ carried_of m.0 → n.1 ≡ carried_of n.0
+  node_carried h =
+      ap (λ (z : Me Slot View). z.1) went
+      ∙ (h ∙ carried_same m.0 n.0 (ap (λ (z : Me Slot View). z.0.who) went) node_out)

@@ -1,6 +1,6 @@
 -- What the step calls on the words of locks ask.
 use Rattle.std.proofs.Common.{◌≡◌, ℕ, ◌<◌, get_or, set}
-use Rattle.std.proofs.Common.{None, Bool, true, IfSome, get_or-set_other, refl, sym, ap, ◌∙◌}
+use Rattle.std.proofs.Common.{Bool, true, IfSome, get_or-set_other, refl, sym, ap, ◌∙◌}
 use Rattle.std.proofs.Common.{subst, arith}
 use Rattle.std.specs.Prelude.{unwrap_or}
 use mathlib.Core.Option.{some}
@@ -21,8 +21,8 @@ use Rattle.lk_law.specs.Leads.{Word, course_in, held_lock}
 use Rattle.lk_law.specs.World.{World}
 use Rattle.lk_domain.specs.Calls.{terms_of, Calls, Frees, StandsOn, StandsAt, acting, begin, Begins, row_of}
 use Rattle.lk_domain.specs.Calls.{is_on, grip_of, lock_name}
-use Rattle.lk_domain.specs.Keeps.{Slot, Keeps, Knows, any_count, sole_count}
-use Rattle.lk_domain.specs.Ledgers.{is_first, turned}
+use Rattle.lk_domain.specs.Keeps.{Slot, Keeps, Knows, AllHome, any_count, sole_count}
+use Rattle.lk_domain.specs.Ledgers.{turned}
 use Rattle.lk_domain.specs.Plans.{locks_of, layout_in}
 use Rattle.lk_domain.specs.Plays.{Makes, MadeBy, Acts, made, turned_of}
 use Rattle.lk_domain.specs.Runs.{Runs, waiter}
@@ -40,6 +40,7 @@ use Rattle.lk_domain.proofs.rows.Sights.{IsSeen}
 use Rattle.lk_domain.proofs.words.Locks.{word_from, word_below}
 use Rattle.lk_domain.proofs.words.OnWords as on
 use Rattle.lk_domain.proofs.words.OnWords.{OnWord, word_stores, on_word, word_seen, KnownHere, off_links}
+use Rattle.lk_domain.proofs.Outs.{acting_holds}
 use Rattle.lk_domain.proofs.ledger.Purses.{alters, knows_after}
 
 -- what a step that writes f of the word has to do with the row
@@ -87,7 +88,7 @@ module _ (k : Plan) (slots id : ℕ) (m : Me Slot View) (number : IsNumbered m.0
     (l : LockName) (near : l.index < locks_of k) (pc : Pc)
     (acts : StandsOn (acting m.0.who.plan.mode m.0.calls verb l.index) verb l pc)
     (begins : Begins m.0.who.plan m.0.calls verb l.index) (word : (fr : Frame) → OnWord (target pc fr))
-    (home : MayFree pc → is_first l ≡ true → m.0.ledger.out ≡ None) where
+    (home : MayFree pc → AllHome l m.0) where
   module _ (s : State Slot View) (both : Stand k s) (me : get_elem? s.views id ≡ some m.0) where
     abbrev pub ok : Runs k s
     ok = both.runs
@@ -156,11 +157,12 @@ module _ (k : Plan) (slots id : ℕ) (m : Me Slot View) (number : IsNumbered m.0
         ∙ fresh.turns k s ok id m.0 me number.0 number.1 verb l pc asked acts' unseen (Word y) (sym met_is) (λ e. absurd (off_links pc acts'.frame on' e)) m.0.ledger in
         let holds = calls_are ∙ lands.rowed k s ok id m.0 me number.0 number.1 verb l pc asked acts' unseen (Word y) (sym met_is) (λ e. absurd (off_links pc acts'.frame on' e)) in
         knows_after k both.keeps.journal m.0 u number.0 number.1 (both.keeps.knows id m.0 me) c f.ctx (held_lock t f) trail
-        (acting_any k.mode m.0.calls verb l.index) (acting_sole k.mode m.0.calls verb l.index) refl (grip_of t o) ledger
+        (acting_any k.mode m.0.calls verb l.index) (acting_sole k.mode m.0.calls verb l.index)
+        (acting_holds k.mode m.0.calls verb l.index) refl (grip_of t o) ledger
         (ap (λ (z : Calls). z.holds) holds)
         (fresh.fresh k s ok id m.0 me number.0 number.1 verb l pc asked acts' unseen)
-        (λ e on_first. home (lands.m k s ok id m.0 me number.0 number.1 verb l pc asked acts' unseen, waiter number.0 f.ctx, f, e)
-        (ap is_first (sym lock) ∙ on_first))
+        (λ e. subst (λ (z : LockName). AllHome z m.0) (sym lock)
+        (home (lands.m k s ok id m.0 me number.0 number.1 verb l pc asked acts' unseen, waiter number.0 f.ctx, f, e)))
 
     pub keeps_on : (i : ℕ) → Keeps k (record { words = set s.words (word_at l) i; homes = s.homes; views = set s.views id u })
     keeps_on i =
@@ -170,7 +172,7 @@ module _ (k : Plan) (slots id : ℕ) (m : Me Slot View) (number : IsNumbered m.0
         alters k s both.keeps id m.0 u (set s.words (word_at l) i) me purse.share knows
         (get_or-set_other s.words (word_at l) 0 i 0 (λ e. omega arith))
         (get_or-set_other s.words (word_at l) version_at i 0 (λ e. omega arith))
-        (λ a lt. get_or-set_other s.words (word_at l) (balance_at k a) i 0 (λ e. omega arith)) purse.out
+        (λ a lt. get_or-set_other s.words (word_at l) (balance_at k a) i 0 (λ e. omega arith)) purse.out refl
 
     pub y_tail : IfSome y.tail (IsNode m.0.who.plan)
     y_tail =
@@ -217,7 +219,7 @@ module _ (k : Plan) (slots id : ℕ) (m : Me Slot View) (number : IsNumbered m.0
     (l : ℕ) (near : l < locks_of k) (pc : Pc)
     (acts : StandsAt (acting m.0.who.plan.mode m.0.calls verb l) verb l pc)
     (begins : Begins m.0.who.plan m.0.calls verb l) (word : (fr : Frame) → OnWord (target pc fr))
-    (home : MayFree pc → is_first (lock_name l) ≡ true → m.0.ledger.out ≡ None) where
+    (home : MayFree pc → AllHome (lock_name l) m.0) where
   pub plays_at : (st : Step Slot) (f : ℕ → ℕ) → st.word ≡ lock_at l → WritesAt (layout_in k) pc acts.frame f
       → Allows (Stand k) slots id m (lock_at l) f (Makes verb st m)
   plays_at st f at writes =
@@ -233,7 +235,7 @@ module _ (k plan : Plan) (slots id : ℕ) (m : Me Slot View) (number : IsNumbere
     (word : st.word ≡ i) where
   pub asks : (kind : Pc → Bool) → Acts kind m.0 verb l
       → ((pc : Pc) → kind pc ≡ true → (fr : Frame) → OnWord (target pc fr))
-      → ((pc : Pc) → kind pc ≡ true → MayFree pc → is_first (lock_name l) ≡ true → m.0.ledger.out ≡ None)
+      → ((pc : Pc) → kind pc ≡ true → MayFree pc → AllHome (lock_name l) m.0)
       → (f : ℕ → ℕ) → ((pc : Pc) → kind pc ≡ true → Writes (layout_in plan) pc f)
       → Allows (Stand k) slots id m i f (Makes verb st m)
   asks kind acts on_word home f writes =

@@ -12,7 +12,7 @@ use Rattle.lk_machine.specs.declared.setup.Verb.TheVariants.{Lock, Read, Write}
 use Rattle.lk_machine.specs.TopRow.{target}
 use Rattle.lk_law.specs.Leads.{Word}
 use Rattle.lk_domain.specs.Calls.{Calls}
-use Rattle.lk_domain.specs.Keeps.{Slot}
+use Rattle.lk_domain.specs.Keeps.{AllHome, Slot}
 use Rattle.lk_domain.specs.Ledgers.{is_first}
 use Rattle.lk_domain.specs.Plans.{locks_of, layout_in}
 use Rattle.lk_domain.specs.Plays.{ActsOn, MadeBy, WentBy, rowed}
@@ -103,7 +103,7 @@ module _ (k plan : Plan) (slots id : ℕ) (m : Me Slot View) (number : IsNumbere
     (n : LockName) (i : ℕ) (same : k ≡ plan) (near : n.index < locks_of plan) (at : i ≡ word_at n) where
   pub asks_on : (kind : Pc → Bool) (acts : ActsOn kind m.0 verb n)
       → ((pc : Pc) → kind pc ≡ true → (fr : Frame) → OnWord (target pc fr))
-      → (MayFree acts.row → is_first n ≡ true → m.0.ledger.out ≡ None)
+      → (MayFree acts.row → AllHome n m.0)
       → is_first_of acts.row verb ≡ false → (f : ℕ → ℕ) → WritesAt (layout_in plan) acts.row acts.stands.frame f
       → Allows (Stand k) slots id m i f (WentBy m)
   asks_on kind acts on home later f writes =

@@ -21,7 +21,7 @@ use Rattle.lk_law.specs.Agree.{halts}
 use Rattle.lk_law.specs.Leads.{Word, Named, Marked as MarkedMet}
 use Rattle.lk_law.proofs.common.Puts.{if_cases, if-true, if-false}
 use Rattle.lk_domain.specs.Calls.{Outlook, Terms, Mark, mark, lock_name, Frees, Unchanged, Takes, Hold, holds_in, free_of, moved_to}
-use Rattle.lk_domain.specs.Keeps.{Slot}
+use Rattle.lk_domain.specs.Keeps.{AllHome, Slot}
 use Rattle.lk_domain.specs.Ledgers.{Ledger, Look, is_first, closed, opened, turned, listed_look}
 use Rattle.lk_domain.specs.Paths.{Any}
 use Rattle.lk_domain.specs.Plans.{locks_of}
@@ -99,7 +99,7 @@ module _ {d : PvDomain} {l : ℕ} {own : NodeName} {s : Start} {ta tb : TableId}
 -- what a kick asks
 module _ {d : PvDomain} {l : ℕ} {own node : NodeName} {s : Start} {ta : TableId} {ia : ℕ} {a : Me Slot View}
     (w : AtOn d Unlock l own s U5 (Kicks node) ta ia a) where
-  pub kick_asks : (cpu : ℕ) → node.cpu ≡ cpu → (is_first (lock_name l) ≡ true → a.0.ledger.out ≡ None) → AtKick cpu a.0
+  pub kick_asks : (cpu : ℕ) → node.cpu ≡ cpu → AllHome (lock_name l) a.0 → AtKick cpu a.0
   kick_asks cpu e home =
       record { verb = Unlock; lock = lock_name l; stands = stands w; home = home; target = ap (λ o. (node_of o).cpu) w.has ∙ e }
 

@@ -2,6 +2,7 @@ use Rattle.std.proofs.Common.{◌≡◌, ◌<◌, length, List, ap, sym, ◌∙�
 use Rattle.lk_domain.specs.Ends.{HasFrom, Rests}
 use Rattle.lk_domain.specs.Seats.{view_of, ledger_of}
 use Rattle.lk_domain.specs.Views.{all_past}
+use Rattle.lk_domain.specs.Who.{Who}
 use Rattle.lk_domain.specs.declared.cpu.Cpu.{Cpu}
 use Rattle.lk_domain.specs.declared.view.View.{View}
 use Rattle.lk_domain.proofs.Seating.{table_of, seat_of}
@@ -22,6 +23,7 @@ loop-cpus-init c =
       few = few;
       seat = seat_of u d r.domain_is;
       home = r.home;
+      holds = r.holds;
       has = first_heir view_of d.plan all (length new.items) u (λ i x lt. (c.requires.rest i x lt).who) t.long t.item;
     }
 
@@ -40,6 +42,7 @@ join-requires c =
       seat = inv.seat;
       other = seat_of u d r.domain_is;
       rests = record { frames = r.frames; holds = r.holds; home = r.home };
+      none = ap (λ (w : Who). w.outs) r.who;
     }
 
 pub loop-cpus-preserved : goal.loop-cpus-preserved
@@ -56,6 +59,7 @@ loop-cpus-preserved c =
       few = few;
       seat = c.join.ensures.seat;
       home = ap (λ (v : View). v.ledger.out) c.join.ensures.view ∙ inv.home;
+      holds = ap (λ (v : View). v.calls.holds) c.join.ensures.view ∙ inv.holds;
       has = next_heir view_of d.plan all (length new.items) (ledger_of u).share c.loop-cpus.last.me.0 u c.join.new.seat.me.0
           (λ i x lt. (c.requires.rest i x lt).who) few t.item
           (subst (λ n. HasFrom n all (all_past c.loop-cpus.last.me.0)) (sym t.long) inv.has) c.join.ensures.view;

@@ -1,7 +1,7 @@
 use Rattle.std.proofs.Common.{sym, ap, ◌∙◌, arith}
 use Rattle.atomic_table.specs.Table.{Me}
 use Rattle.lk_domain.specs.Keeps.{Slot}
-use Rattle.lk_domain.specs.Plays.{carried_with}
+use Rattle.lk_domain.specs.Plays.{carried_with, carried_of}
 use Rattle.lk_domain.specs.declared.view.View.{View}
 use Rattle.lk_domain.proofs.seats.Parted.{joins}
 use Rattle.lk_domain.proofs.ledger_steps.join.Goals as goal
@@ -14,7 +14,7 @@ join_seat-requires c =
     let other = c.args.other in (
       at.table_is,
       c.requires.other.table_is,
-      c.requires.other.carried ∙ ap carried_with c.requires.rests.home,
+      c.requires.other.carried ∙ (λ i. carried_with (c.requires.none i) (c.requires.rests.home i)),
       (let w = c.requires.table.words in omega arith),
       joins table.key seat.id other.id seat.me.0 other.me.0 at.number c.requires.rests,
     )
@@ -28,5 +28,5 @@ returns-clause-seat c =
       table_is = c.join_seat.ensures.0 ∙ at.table_is;
       plan_is = ap (λ (x : View). x.who.plan) v ∙ at.plan_is;
       number = (at.number.0, ap (λ (x : View). x.who.number) v ∙ at.number.1);
-      carried = ap (λ (x : Me Slot View). x.1) e ∙ (at.carried ∙ ap carried_with (sym (ap (λ (x : View). x.ledger.out) v)));
+      carried = ap (λ (x : Me Slot View). x.1) e ∙ (at.carried ∙ ap carried_of (sym v));
     }

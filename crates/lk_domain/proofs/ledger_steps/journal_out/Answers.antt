@@ -2,6 +2,7 @@ use Rattle.std.proofs.Common.{sym, ap, ◌∙◌, ◌∷◌, List, ℕ, Some, ar
 use mathlib.Core.Option.{none}
 use Rattle.atomic_table.specs.Table.{step, Me, rest}
 use Rattle.lk_domain.specs.Keeps.{Slot}
+use Rattle.lk_domain.specs.declared.slot.Stowed.TheVariants.{Entries}
 use Rattle.lk_domain.specs.declared.view.View.{View}
 use Rattle.lk_domain.proofs.ledger.Loads.{takes_journal}
 use Rattle.lk_domain.proofs.ledger_steps.journal_out.Goals as goal
@@ -22,5 +23,5 @@ exchange-requires c =
     let t = c.load.ensures.2 in
     let at = ap (λ (x : Me Slot View). x.1) t.seat in (
       c.load.ensures.0 ∙ c.requires.seat.table_is,
-      (Some t.journal, at ∙ ap (λ (l : List (ℕ × Slot)). (0, Some t.journal) ∷ rest l) (sym at)),
+      (Some (Entries t.journal), at ∙ ap (λ (l : List (ℕ × Slot)). (0, Some (Entries t.journal)) ∷ rest l) (sym at)),
     )

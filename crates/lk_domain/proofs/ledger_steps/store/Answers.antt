@@ -50,7 +50,7 @@ returns-clause-seat c =
       table_is = (c.store.ensures.0) ∙ at.table_is;
       plan_is = ap (λ (w : Who). w.plan) who ∙ at.plan_is;
       number = (at.number.0, ap (λ (w : Who). w.number) who ∙ at.number.1);
-      carried = told.carried m n g e (ap carried_with (sym c.requires.out.1)) at.carried;
+      carried = told.carried m n g e (ap (carried_with m.0.who.outs) (sym c.requires.out.1)) at.carried;
     }
 
 pub returns-clause-stored : goal.returns-clause-stored

@@ -16,6 +16,6 @@ fetch_sub-met-requires c =
       (let few = d.lawful.locks in omega (arith, c.lock_word-word.ensures, d.words, c.requires.lock)),
       asks d.table.shared.key d.plan z.slots c.args.seat.now.id c.args.seat.now.me c.requires.number Unlock c.args.lock i
           (step z.slots i 1 0 none) d.key c.requires.lock c.lock_word-word.ensures refl is_free c.requires.row
-          (λ pc h fr. free_on pc fr h) (λ pc h may. c.requires.home)
+          (λ pc h fr. free_on pc fr h) (λ pc h may. record { journal = c.requires.home; value = λ plain. c.requires.value })
           (λ n. (n + (2 ^ 64 - 1)) % 2 ^ 64) (λ pc h mode fr y packs known. releases _ mode pc fr y h packs known),
     )

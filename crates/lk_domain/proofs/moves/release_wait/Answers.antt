@@ -1,4 +1,4 @@
-use Rattle.std.proofs.Common.{arith, ◌+◌, ◌-◌, ◌^◌, ◌%◌}
+use Rattle.std.proofs.Common.{◌≡◌, true, false, sym, ◌∙◌, arith, ◌+◌, ◌-◌, ◌^◌, ◌%◌}
 use Rattle.lk_domain.specs.Rows.{frees_by}
 use Rattle.lk_domain.proofs.turns.Courses.{free_kind}
 use Rattle.lk_domain.proofs.words.Locks.{word_below}
@@ -18,7 +18,10 @@ fetch_sub-met-requires c =
       asks_on d.table.shared.key d.plan z.slots c.args.seat.now.id c.args.seat.now.me c.requires.number v c.args.lock i
           d.key c.requires.lock c.word_of-word.ensures (frees_by v) acts
           (λ pc h fr. free_on pc fr (free_kind v pc h).0)
-          (λ may first. absurd (wait_last v c.args.lock c.requires.verb c.requires.row.inside first))
+          (λ may. record {
+            journal = λ first. absurd (wait_last v c.args.lock c.requires.verb c.requires.row.inside first);
+            value = λ plain. absurd (let no : true ≡ false = sym c.requires.verb ∙ (sym c.requires.row.inside ∙ plain) in let z : ⊥ = cc no in z);
+          })
           (free_later v acts.row c.requires.verb acts.is) (λ n. (n + (2 ^ 64 - 1)) % 2 ^ 64)
           (λ mode y packs known. releases _ mode acts.row acts.stands.frame y (free_kind v acts.row acts.is).0 packs known),
     )

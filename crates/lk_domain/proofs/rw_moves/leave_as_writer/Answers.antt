@@ -16,6 +16,6 @@ fetch_sub-met-requires c =
       (let few = d.lawful.locks in omega (arith, c.lock_word-word.ensures, d.words, c.requires.lock)),
       asks d.table.shared.key d.plan z.slots c.args.seat.now.id c.args.seat.now.me c.requires.number WUnlock c.args.lock i
           (step z.slots i 255 0 none) d.key c.requires.lock c.lock_word-word.ensures refl (leaves_by WUnlock) c.requires.row
-          (λ pc h. leave_row WUnlock pc h) (λ pc h z. c.requires.home)
+          (λ pc h. leave_row WUnlock pc h) (λ pc h z. record { journal = c.requires.home; value = λ plain. c.requires.value })
           (λ n. (n + (2 ^ 64 - 255)) % 2 ^ 64) (λ pc h mode fr y packs known. leaves mode WUnlock pc fr y h packs known),
     )

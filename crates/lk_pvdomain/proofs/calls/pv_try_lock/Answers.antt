@@ -1,5 +1,5 @@
-use Rattle.std.proofs.Common.{refl, sym, ap, ◌∙◌, arith}
-use Rattle.lk_domain.specs.Plays.{carried_with}
+use Rattle.std.proofs.Common.{refl, ap, ◌∙◌, arith}
+use Rattle.lk_domain.proofs.seats.Places.{carried_same}
 use Rattle.lk_domain.specs.Who.{Who}
 use Rattle.lk_pvdomain.specs.PvCalls.{own_node}
 use Rattle.lk_pvdomain.proofs.ways.Frees.{is_tried}
@@ -27,7 +27,7 @@ invariant_of-cpu c =
     let cpu = c.args.cpu.now in
     record {
       numbered = ap (λ (w : Who). w.number) t.who ∙ cpu.numbered;
-      carried = t.slots ∙ (cpu.carried ∙ ap carried_with (sym t.out));
+      carried = t.slots ∙ (cpu.carried ∙ carried_same cpu.seat.me.0 c.attempt.new.seat.me.0 t.who t.out);
     }
 
 pub returns-clause-same : goal.returns-clause-same

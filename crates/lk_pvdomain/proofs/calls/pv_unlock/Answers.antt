@@ -1,5 +1,8 @@
-use Rattle.std.proofs.Common.{refl, ap, ◌∙◌, arith}
+use Rattle.std.proofs.Common.{List, refl, ap, ◌∙◌, arith}
+use Rattle.lk_domain.specs.Calls.{Hold, lock_name}
 use Rattle.lk_domain.specs.Ledgers.{Ledger}
+use Rattle.lk_domain.specs.Values.{out_in}
+use Rattle.lk_domain.proofs.Outs.{moved_out}
 use Rattle.lk_machine.specs.declared.setup.Verb.TheVariants.{Unlock}
 use Rattle.lk_pvdomain.specs.PvCalls.{own_node}
 use Rattle.lk_pvdomain.specs.PvPaths.{first_of}
@@ -21,6 +24,7 @@ release-requires g c =
       lock = c.requires.lock;
       held = c.requires.held;
       home = c.requires.home;
+      value = c.requires.value;
     }
 
 pub wake_next-requires : goal.wake_next-requires
@@ -29,6 +33,8 @@ wake_next-requires g c =
     record {
       at = (first_of Unlock c.args.lock.index c.args.cpu.now.seat, w);
       home = λ e. ap (λ (y : Ledger). y.out) w.ledger ∙ c.requires.home e;
+      value = ap (λ (hs : List Hold). out_in hs c.args.lock.index) w.holds
+          ∙ (moved_out 0 (lock_name c.args.lock.index) c.args.cpu.now.seat.me.0.calls.holds c.args.lock.index ∙ c.requires.value);
     }
 
 pub returns-then-release-clause-freed : goal.returns-then-release-clause-freed

@@ -1,4 +1,4 @@
-use Rattle.std.proofs.Common.{◌≡◌, ◌<◌, take, length, None}
+use Rattle.std.proofs.Common.{◌≡◌, ◌<◌, take, length, [], None}
 use Rattle.lk_domain.specs.Ends.{HasPast}
 use Rattle.lk_domain.specs.Seated.{IsSeatOf}
 use Rattle.lk_domain.specs.Views.{all_past}
@@ -14,5 +14,6 @@ invariant-loop-cpus l = record {
   few : length l.cpus.items < length l.fn.cpus.items;
   seat : IsSeatOf l.domain.plan l.domain.table.shared.table_id l.last;
   home : l.last.me.0.ledger.out ≡ None;
+  holds : l.last.me.0.calls.holds ≡ [];
   has : HasPast ledger_of (length l.cpus.items) l.fn.cpus.items (all_past l.last.me.0);
 }

@@ -18,6 +18,9 @@ end-journal-requires-clause-all c p lt =
 pub end-journal-requires-clause-home : goal.end-journal-requires-clause-home
 end-journal-requires-clause-home c = c.join_all-last.ensures.home
 
+pub end-journal-requires-clause-holds : goal.end-journal-requires-clause-holds
+end-journal-requires-clause-holds c = c.join_all-last.ensures.holds
+
 pub returns-clause-ends : goal.returns-clause-ends
 returns-clause-ends c =
     final view_of c.args.domain.plan c.args.cpus.items c.join_all-last.result.me.0 c.end-journal.result.items c.join_all-last.ensures.all

@@ -1,4 +1,4 @@
-use Rattle.std.proofs.Common.{◌≡◌, ◌∙◌, inl, inr, refl, sym, ap, subst, arith, true, None}
+use Rattle.std.proofs.Common.{◌≡◌, ◌∙◌, inl, inr, refl, sym, ap, subst, arith, true, false, None}
 use Rattle.atomic_table.specs.Table.{Me}
 use Rattle.lk_machine.specs.declared.setup.Verb.TheVariants.{Unlock}
 use Rattle.lk_law.specs.Agree.{halts}
@@ -6,6 +6,7 @@ use Rattle.lk_domain.specs.Calls.{lock_name}
 use Rattle.lk_domain.specs.Keeps.{Slot}
 use Rattle.lk_domain.specs.Ledgers.{is_first}
 use Rattle.lk_domain.specs.Plays.{Acts, MadeBy}
+use Rattle.lk_domain.specs.Values.{out_in}
 use Rattle.lk_domain.specs.Views.{IsNumbered}
 use Rattle.lk_domain.specs.declared.plan.Plan.{Plan}
 use Rattle.lk_domain.specs.declared.view.View.{View}
@@ -29,6 +30,7 @@ try_release-met-requires g c =
           (first_tries c.args.seat.now.me.0.who.plan.mode (ap (λ (k : Plan). halts k.mode) r.of.plan ∙ c.args.domain.now.halting))
           c.requires.held (is_spin r Unlock c.args.lock c.args.seat.now.id low);
       home = c.requires.home;
+      value = c.requires.value;
     }
 
 pub returns-then-met-eq1 : goal.returns-then-met-eq1
@@ -69,6 +71,7 @@ release-requires g c =
           (first_tries c.args.seat.now.me.0.who.plan.mode (ap (λ (k : Plan). halts k.mode) r.of.plan ∙ c.args.domain.now.halting))
           c.requires.held (is_spin r Unlock c.args.lock c.args.seat.now.id low));
       home = subst (λ (m : Me Slot View). is_first (lock_name c.args.lock) ≡ true → m.0.ledger.out ≡ None) back c.requires.home;
+      value = subst (λ (m : Me Slot View). out_in m.0.calls.holds c.args.lock ≡ false) back c.requires.value;
     }
 
 pub returns-then-release-eq1 : goal.returns-then-release-eq1

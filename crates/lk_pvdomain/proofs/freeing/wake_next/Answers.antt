@@ -1,5 +1,8 @@
-use Rattle.std.proofs.Common.{refl, sym, subst, ap, ◌∙◌, ◌<◌, arith}
+use Rattle.std.proofs.Common.{List, refl, sym, subst, ap, ◌∙◌, ◌<◌, arith}
+use Rattle.lk_domain.specs.Calls.{Hold, lock_name}
 use Rattle.lk_domain.specs.Ledgers.{Ledger}
+use Rattle.lk_domain.specs.Values.{out_in}
+use Rattle.lk_domain.proofs.Outs.{freed_out}
 use Rattle.lk_domain.specs.Plans.{cpus_of}
 use Rattle.lk_domain.specs.Words.{IsNode}
 use Rattle.lk_domain.specs.declared.plan.Plan.{Plan}
@@ -24,6 +27,7 @@ drop_slow-requires c =
       lock = w.low;
       row = word_asks w drops refl;
       home = λ e. ap (λ (y : Ledger). y.out) (w.ledger ∙ sym v.ledger) ∙ c.requires.home e;
+      value = ap (λ (hs : List Hold). out_in hs c.args.lock) (w.holds ∙ sym v.holds) ∙ c.requires.value;
     }
 
 pub kick-requires : goal.kick-requires
@@ -40,8 +44,13 @@ kick-requires c =
       table = x.1.of.table_is;
       number = numbered x.1;
       target = subst (λ n. n < cpus_of c.args.domain.now.plan) (sym cpu) near.cpu;
-      row = kick_asks x.1 _ (sym cpu) (λ e. ap (λ (y : Ledger). y.out) x.1.ledger ∙ (out_freed c.requires.at.0.ledger c.args.lock x.0
-          ∙ (ap (λ (y : Ledger). y.out) (sym v.ledger) ∙ c.requires.home e)));
+      row = kick_asks x.1 _ (sym cpu) (record {
+        journal = λ e. ap (λ (y : Ledger). y.out) x.1.ledger ∙ (out_freed c.requires.at.0.ledger c.args.lock x.0
+            ∙ (ap (λ (y : Ledger). y.out) (sym v.ledger) ∙ c.requires.home e));
+        value = λ plain. ap (λ (hs : List Hold). out_in hs c.args.lock) x.1.holds
+            ∙ freed_out 0 (lock_name c.args.lock) c.requires.at.0.holds c.args.lock
+            (ap (λ (hs : List Hold). out_in hs c.args.lock) (sym v.holds) ∙ c.requires.value);
+      });
     }
 
 pub returns : goal.returns

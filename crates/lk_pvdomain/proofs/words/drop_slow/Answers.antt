@@ -10,5 +10,6 @@ fetch_sub-met-requires c =
       c.requires.table,
       (let few = d.lawful.locks in let low = c.requires.lock in omega (arith, c.lock_word-word.ensures, d.words, low)),
       drop_asks d.table.shared.key d.plan z.slots c.args.seat.now.id c.args.seat.now.me c.requires.number c.args._verb
-          (lock_name c.args.lock) c.lock_word-word.result d.key c.requires.lock c.lock_word-word.ensures c.requires.row c.requires.home,
+          (lock_name c.args.lock) c.lock_word-word.result d.key c.requires.lock c.lock_word-word.ensures c.requires.row
+          (record { journal = c.requires.home; value = λ plain. c.requires.value }),
     )

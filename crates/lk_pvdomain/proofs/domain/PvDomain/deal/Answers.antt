@@ -1,9 +1,9 @@
-use Rattle.std.proofs.Common.{sym, ap, arith, ◌∙◌, Some}
+use Rattle.std.proofs.Common.{sym, ap, arith, ◌∙◌, [], Some}
 use mathlib.Core.Option.{none}
 use Rattle.atomic_table.specs.Table.{step, Me}
 use Rattle.lk_domain.specs.Calls.{no_calls}
 use Rattle.lk_domain.specs.Keeps.{Slot}
-use Rattle.lk_domain.specs.Plays.{carried_with}
+use Rattle.lk_domain.specs.Plays.{carried_with, carried_of}
 use Rattle.lk_domain.specs.Views.{dealer, drawer, view}
 use Rattle.lk_domain.specs.declared.view.View.{View}
 use Rattle.lk_domain.proofs.seats.Dealt.{draws, drawn_by}
@@ -40,7 +40,7 @@ invariant_of-result c =
     let few = d.lawful.cpus in
     record {
       numbered = ap (λ (v : View). v.who.number) at ∙ (ap (λ (v : View). Some (Rattle.lk_domain.specs.Views.own_number v.who.number)) t.1 ∙ (let z = t.0 in let y = c.requires.low in ap Some (omega arith)));
-      carried = ap (λ (x : Me Slot View). x.1) c.split_seat-seat.ensures.4 ∙ ap carried_with (sym (ap (λ (v : View). v.ledger.out) at ∙ ap (λ (v : View). v.ledger.out) t.1));
+      carried = ap (λ (x : Me Slot View). x.1) c.split_seat-seat.ensures.4 ∙ sym (ap carried_of at ∙ ap (λ (v : View). carried_with [] v.ledger.out) t.1);
     }
 
 pub returns-clause-dealer : goal.returns-clause-dealer

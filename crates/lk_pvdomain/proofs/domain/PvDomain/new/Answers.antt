@@ -7,7 +7,7 @@ pub rest-requires : goal.rest-requires
 rest-requires c =
     let p = c.args.plan.now in
     let k = c.in_ok-whole.whole in
-    record { plan = runs_by p k c.requires c.in_ok-whole.ensures; halting = halts_by p k c.in_ok-whole.ensures }
+    record { plan = runs_by p k c.requires c.in_ok-whole.ensures; halting = halts_by p k c.in_ok-whole.ensures; cells = c.in_ok-whole.ensures.cells }
 
 pub loop-number-preserved : goal.loop-number-preserved
 loop-number-preserved c =

@@ -1,0 +1,64 @@
+-- Who holds a lock alone is one seat, of every lock.
+use Rattle.std.proofs.Common.{◌≡◌, ℕ, List, [], ◌∷◌, Option, Some, None, Bool, true, false, refl, sym, ap, ◌∙◌, get_or}
+use Rattle.std.specs.Prelude.{if◌then◌else◌}
+use mathlib.Core.Option.{some}
+use lib.ListN.{get_elem?}
+use Rattle.atomic_table.specs.Table.{State}
+use Rattle.lk_abs.specs.Names.{same_lock}
+use Rattle.lk_abs.specs.declared.names.Waiter.{Waiter}
+use Rattle.lk_abs.specs.declared.holder.Manner.{Manner}
+use Rattle.lk_values.specs.Guarded.{IsExclusive}
+use Rattle.lk_domain.specs.Calls.{Calls, Hold, lock_name, hold_in, way_in}
+use Rattle.lk_domain.specs.Keeps.{Slot}
+use Rattle.lk_domain.specs.Runs.{Runs, SeatFits, waiter}
+use Rattle.lk_domain.specs.Values.{HoldsAlone}
+use Rattle.lk_domain.specs.Views.{IsNumbered}
+use Rattle.lk_domain.specs.declared.plan.Plan.{Plan}
+use Rattle.lk_domain.specs.declared.view.View.{View}
+use Rattle.lk_domain.proofs.Manners.{held_spun, way_of}
+use Rattle.lk_domain.proofs.ledger.Alone.{one_holder}
+use Rattle.lk_domain.proofs.seats.Totals.{apart}
+
+-- the manner of a hold
+pub hold_way : (hs : List Hold) (l : ℕ) (m : Manner) (o : Bool) → hold_in hs l ≡ Some (m, o) → way_in hs l ≡ Some m
+hold_way [] l m o e = absurd (let z : ⊥ = cc e in z)
+hold_way (h ∷ hs) l m o e = by (same_lock h.lock (lock_name l)) e (hold_way hs l m o)
+  where
+    by : (y : Bool) → (if y then Some (h.manner, h.out) else hold_in hs l) ≡ Some (m, o)
+        → (hold_in hs l ≡ Some (m, o) → way_in hs l ≡ Some m)
+        → (if y then Some h.manner else way_in hs l) ≡ Some m
+    by true e r = ap manner_in e
+      where
+        manner_in : Option (Manner × Bool) → Option Manner
+        manner_in None = None
+        manner_in (Some x) = Some x.0
+    by false e r = r e
+
+-- a seat with a lock has a number
+pub has_way : (k : Plan) (s : State Slot View) (ok : Runs k s) (i l : ℕ) (v : View) (m : Manner)
+    → get_elem? s.views i ≡ some v → way_in v.calls.holds l ≡ Some m → IsNumbered v
+has_way k s ok i l v m at way = at_number v.who.number refl
+  where
+    at_number : (o : Option ℕ) → v.who.number ≡ o → IsNumbered v
+    at_number None e =
+        let no : None ≡ Some m = sym (ap (λ (c : Calls). way_in c.holds l) (ok.silent i v at e)) ∙ way in
+        absurd (let z : ⊥ = cc no in z)
+    at_number (Some q) e = (q, e)
+
+pub one_alone : (k : Plan) (s : State Slot View) → Runs k s → IsExclusive HoldsAlone s.views
+one_alone k s ok l i j v u a b hv hu =
+    let way_v = hold_way v.calls.holds l hv.manner hv.out hv.held in
+    let way_u = hold_way u.calls.holds l hu.manner hu.out hu.held in
+    let n = has_way k s ok i l v hv.manner a way_v in
+    let q = has_way k s ok j l u hu.manner b way_u in
+    let x : SeatFits ok.world n.0 v.calls = ok.seats i v n.0 a n.1 in
+    let y : SeatFits ok.world q.0 u.calls = ok.seats j u q.0 b q.1 in
+    let d = way_of v.calls.holds l hv.manner way_v in
+    let e = way_of u.calls.holds l hu.manner way_u in
+    let same = one_holder ok.world ok.histories ok.sound l (waiter n.0 d.0) (waiter q.0 e.0) hv.manner hu.manner hv.sole
+    (x.mirrors.holds d.0 (lock_name l) ∙ d.1) (y.mirrors.holds e.0 (lock_name l) ∙ e.1)
+    (λ off. (
+      x.mirrors.holds d.0 (lock_name l) ∙ held_spun ok.world.kind v.calls.holds d.0 (lock_name l) hv.manner x.held off d.1,
+      y.mirrors.holds e.0 (lock_name l) ∙ held_spun ok.world.kind u.calls.holds e.0 (lock_name l) hu.manner y.held off e.1,
+    )) in
+    sym (apart s.views (get_or s.words 0 0) ok.once i j v u n.0 a b n.1 (q.1 ∙ ap (λ (z : Waiter). Some z.cpu) (sym same)))

@@ -1,0 +1,36 @@
+use Rattle.std.proofs.Common.{refl, sym, ap, ◌∙◌, subst, false}
+use Rattle.lk_domain.specs.Calls.{Calls, are_calls}
+use Rattle.lk_domain.specs.Marked.{IsNoted}
+use Rattle.lk_domain.specs.declared.view.View.{View}
+use Rattle.lk_domain.proofs.Seating.{table_of, seat_of}
+use Rattle.lk_domain.proofs.seats.Marks.{mark_noted}
+use Rattle.lk_domain.proofs.values.bring_home.Goals as goal
+
+pub bring-requires : goal.bring-requires
+bring-requires c =
+    let d = c.args.domain.now in
+    record {
+      table = table_of d;
+      seat = seat_of c.args.cpu.now d c.requires.domain;
+      lock = c.requires.lock;
+      valued = c.requires.valued;
+      newest = c.requires.newest;
+      home = c.requires.home;
+      key = c.requires.key;
+    }
+
+pub invariant_of-cpu : goal.invariant_of-cpu
+invariant_of-cpu c =
+    let cpu = c.args.cpu.now in
+    let view = c.bring.ensures.view in
+    record {
+      numbered = ap (λ (v : View). v.who.number) view ∙ cpu.numbered;
+      noted = subst (λ (x : Calls). IsNoted cpu.notes x) (sym (ap (λ (v : View). v.calls) view))
+          (mark_noted cpu.notes cpu.seat.me.0.calls c.args.lock.index false cpu.noted);
+      apart = ap (λ (v : View). are_calls v.calls.frames) view ∙ cpu.apart;
+      carried = c.bring.ensures.carried;
+    }
+
+pub returns : goal.returns
+returns c =
+    record { brought = record { table = c.bring.ensures.same.0; id = c.bring.ensures.same.1; number = refl; view = c.bring.ensures.view } }

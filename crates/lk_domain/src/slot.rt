@@ -1,0 +1,16 @@
+// What lies in a slot of a domain's table.
+
+use crate::journal::Journal;
+use lk_cell::Key;
+
+/// What a slot has when it is not empty.
+#[derive(Drop)]
+pub enum Stowed {
+    /// The first slot has the journal.
+    Entries(Journal),
+    /// The slot of a lock has the key of the cell in which the value of the lock lies.
+    CellKey(Key),
+}
+
+/// A slot of a domain's table: the first is that of the journal, and each behind it that of a lock.
+pub type Slot = Option<Stowed>;
