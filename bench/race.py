@@ -1,5 +1,5 @@
 #!/usr/bin/env python3
-"""race.py [--runs N] [--kind spin|rw] [--crowd] PROGRAM [MODE..]
+"""race.py [--runs N] [--kind spin|rw] [--crowd | --alignments] PROGRAM [MODE..]
 
 Compares the running locks of these modes (`virt`, `native`, `cna` and `pv`, if none is said) with plain Rust. PROGRAM is a built
 `lk_race` (`rt run` in crates/lk_race leaves it in out/). Beside each mode stands the same lock in plain Rust, over atomic words with every
@@ -14,8 +14,9 @@ spin, work   it changes two numbers in between, each by a load and a store
 rw, bare     a turn takes the lock as a reader and frees it, and each hundredth as a writer; not in `pv`, which has no such lock
 rw, work     a reader compares the two numbers, and a writer changes them
 
-Where a jump crosses a line of 32 bytes, many processors of Intel take some 2 ns more for it, and a turn is short: so a figure of either
-program also goes by where the compiler happened to lay its loop.
+A turn without contention is short, and on many processors of Intel it takes up to 3 ns more or less by where its loop stands in the
+lines of the code: so a figure of either program also goes by where the compiler happened to lay its loop, and `--alignments` takes that
+out.
 On two and four threads each thread makes its share of the turns, and the program has as many processors as it has threads, always the
 same, since the time that a line of the cache takes goes by where it goes to. A race has so many turns that the start of its threads
 plays little part: in a short one they run one after another, as luck has it, and do not contend. Where the least is far below the
@@ -24,11 +25,17 @@ middle, such luck is left; where other work runs beside it, the times are those 
 --crowd      in place of these: `spin, work` on as many threads as there are processors, on twice and on eight times as many, with `pv`
              also for one turn of a spin. With more threads than processors the queues that spin get few turns, since each of theirs takes
              so long
+--alignments in place of these: one thread, and each program linked eight times, with 16, 32, .. 128 bytes of dead code in front, so that
+             its loops stand at every place in two lines of 64 bytes at which a function can begin. PROGRAM is not proved again: what
+             is linked is PROGRAM.o, which `rt run` leaves beside it. A race has 400,000 turns, and the figure of an alignment is the
+             least of the N runs. Printed are the least, the middle and the most of the eight, of PROGRAM and of plain Rust, and the
+             ratio of the middles
 """
 import argparse
 import os
 import re
 import resource
+import shutil
 import statistics
 import subprocess
 import sys
@@ -38,6 +45,8 @@ HERE = os.path.dirname(os.path.abspath(__file__))
 TURNS = {1: 4000000, 2: 4000000, 4: 2000000}
 CROWDS = {1: 2000000, 2: 800000, 8: 800000}
 FEW_TURNS = {1: 400000, 2: 80000, 8: 64000}
+ALIGNED_TURNS = 400000
+PADS = range(16, 144, 16)
 MODES = ["virt", "native", "cna", "pv"]
 QUEUES = ["native", "cna"]
 OF_STD = {"spin": "Mutex", "rw": "RwLock"}
@@ -100,30 +109,89 @@ def race_crowds(locks, runs):
         race("spin, work, %d threads" % threads, locks, threads, few, 1, runs)
 
 
+def padded(folder):
+    """For each amount of dead code an object file of it. Linkers put code of this name in front of other code, and the flag R keeps it."""
+    objects = []
+    for pad in PADS:
+        source = os.path.join(folder, "pad%d.s" % pad)
+        with open(source, "w") as text:
+            text.write('.section .text.unlikely.pad,"axR",@progbits\n.skip %d\n.section .note.GNU-stack\n' % pad)
+        objects.append(source[:-1] + "o")
+        subprocess.run(["cc", "-c", source, "-o", objects[-1]], check=True)
+    return objects
+
+
+def aligned_programs(program, folder):
+    """This program and the one in plain Rust, each linked with each amount of dead code in front."""
+    rt = shutil.which("rt")
+    if not rt or not os.path.exists(program + ".o"):
+        sys.exit("race.py: needs rt in PATH, and %s.o, which rt run leaves beside the program" % program)
+    libraries = os.path.join(os.path.dirname(os.path.dirname(os.path.realpath(rt))), "c")
+    ours, plains = [], []
+    for number, pad in enumerate(padded(folder)):
+        ours.append(os.path.join(folder, "ours%d" % number))
+        files = [pad, program + ".o", libraries + "/libos_c.a", libraries + "/liblibc_c.a"]
+        subprocess.run(["cc", "-fuse-ld=bfd", *files, "-lm", "-lpthread", "-o", ours[-1]], check=True)
+        plains.append(os.path.join(folder, "plain%d" % number))
+        compile_plain(plains[-1], "-C", "link-arg=-fuse-ld=bfd", "-C", "link-arg=" + pad)
+    return ours, plains
+
+
+def compile_plain(plain, *flags):
+    """The program in plain Rust."""
+    subprocess.run(["rustc", "-O", "--edition", "2024", *flags, "-o", plain, os.path.join(HERE, "race.rs")], check=True)
+
+
+def race_alignments(kind, modes, programs, runs):
+    """Races of one thread for each lock, at each alignment, all in turn; prints a line for each race."""
+    for mode in [mode for mode in modes if (mode, kind) != ("pv", "rw")]:
+        for name, work in (("bare", 0), ("work", 1)):
+            least = [[float("inf")] * len(PADS) for _ in programs]
+            for _ in range(runs):
+                for number in range(len(PADS)):
+                    for lock, builds in enumerate(programs):
+                        took, _used = turn([builds[number], mode, kind], 1, ALIGNED_TURNS, work)
+                        least[lock][number] = min(least[lock][number], took)
+            figures = [figure for took in least for figure in (min(took), statistics.median(took), max(took))]
+            print(("%-24s" + "%9.1f" * 6 + "%9.2f") % ("%s, %s, %s" % (kind, name, mode), *figures, figures[1] / figures[4]), flush=True)
+
+
 def main():
     said = argparse.ArgumentParser(usage=__doc__)
     said.add_argument("--runs", type=int, default=9)
     said.add_argument("--kind", choices=list(OF_STD))
     said.add_argument("--crowd", action="store_true")
+    said.add_argument("--alignments", action="store_true")
     said.add_argument("program")
     said.add_argument("modes", nargs="*")
     args = said.parse_args()
     modes = args.modes or MODES
     if not set(modes) <= set(MODES):
         said.error("a mode is one of " + ", ".join(MODES))
-    if args.crowd and args.kind == "rw":
-        said.error("a crowd races for spinlocks")
-    program = os.path.abspath(args.program)
+    if args.crowd and (args.alignments or args.kind == "rw"):
+        said.error("a crowd races for spinlocks, and not at each alignment")
     with tempfile.TemporaryDirectory() as scratch:
-        plain = os.path.join(scratch, "race")
-        subprocess.run(["rustc", "-O", "--edition", "2024", "-o", plain, os.path.join(HERE, "race.rs")], check=True)
-        heads = "race", "lock", "least ns", "middle ns", "least ratio", "middle ratio", "used ns"
-        print("%-24s %-16s %10s %10s %12s %12s %10s" % heads)
-        if args.crowd:
-            race_crowds(locks_of("spin", modes, program, plain), args.runs)
-            return
-        for kind in [args.kind] if args.kind else OF_STD:
-            race_all(kind, locks_of(kind, modes, program, plain), args.runs)
+        race_in(scratch, args, modes, [args.kind] if args.kind else list(OF_STD))
+
+
+def race_in(scratch, args, modes, kinds):
+    """The races that the words ask for, with what is compiled for them in this folder."""
+    program = os.path.abspath(args.program)
+    if args.alignments:
+        programs = aligned_programs(program, scratch)
+        print(("%-24s" + "%9s" * 7) % ("race of one thread", "least ns", "middle", "most", "plain", "middle", "most", "ratio"))
+        for kind in kinds:
+            race_alignments(kind, modes, programs, args.runs)
+        return
+    plain = os.path.join(scratch, "race")
+    compile_plain(plain)
+    heads = "race", "lock", "least ns", "middle ns", "least ratio", "middle ratio", "used ns"
+    print("%-24s %-16s %10s %10s %12s %12s %10s" % heads)
+    if args.crowd:
+        race_crowds(locks_of("spin", modes, program, plain), args.runs)
+        return
+    for kind in kinds:
+        race_all(kind, locks_of(kind, modes, program, plain), args.runs)
 
 
 main()
