@@ -5,4 +5,5 @@ pub mod Leads
 pub mod Hands
 pub mod Arrives
 pub mod Frees
+pub mod Kept
 pub mod Mets

@@ -1,14 +1,21 @@
 -- What a call of a processor has done that is over, where processors halt.
-use Rattle.std.specs.Prelude.{◌≡◌, ℕ, false, [], ◌∷◌, List, if◌then◌else◌}
+use Rattle.std.specs.Prelude.{◌≡◌, ◌<◌, ℕ, true, false, [], ◌∷◌, List, None, if◌then◌else◌}
+use Rattle.atomic_table.specs.declared.shared.Seat.{Seat}
 use Rattle.lk_abs.specs.Names.{same_lock}
 use Rattle.lk_abs.specs.declared.names.LockName.{LockName}
 use Rattle.lk_word.specs.declared.spin_word.NodeName.{NodeName}
 use Rattle.lk_machine.specs.declared.setup.Verb.{Verb}
 use Rattle.lk_machine.specs.declared.setup.Verb.TheVariants.{Lock, Try, Unlock}
-use Rattle.lk_domain.specs.Calls.{Calls, Hold, holds_in, Frees, Unchanged}
+use Rattle.lk_domain.specs.Calls.{Calls, Hold, holds_in, lock_name, Frees, Unchanged}
+use Rattle.lk_domain.specs.Keeps.{Slot}
+use Rattle.lk_domain.specs.Ledgers.{is_first}
+use Rattle.lk_domain.specs.Plans.{locks_of}
+use Rattle.lk_domain.specs.Values.{out_in}
+use Rattle.lk_domain.specs.declared.view.View.{View}
 use Rattle.lk_pvdomain.specs.declared.cpu.PvCpu.{PvCpu}
 use Rattle.lk_pvdomain.specs.declared.domain.PvDomain.{PvDomain}
-use Rattle.lk_pvdomain.specs.PvPaths.{Took, Ended, first_of}
+use Rattle.lk_pvdomain.specs.PvPaths.{Rests, Start, Took, Ended, first_of}
+use Rattle.lk_pvdomain.specs.PvPlays.{TriedBy, release_fails}
 
 -- the processor is in no call, and has not halted
 pub record IsResting (c : Calls) : Type 0 where
@@ -41,6 +48,19 @@ pub record HasFreed (d : PvDomain) (l : ℕ) (old new : PvCpu) : Type 0 where
   pub ended : Ended d Unlock l (own_node old) (first_of Unlock l old.seat) Frees new.seat
   pub none : holds_in new.seat.me.0.calls.holds l ≡ false
   pub rests : IsResting new.seat.me.0.calls
+
+-- A release that began so has tried once to exchange the word of a lock for which nobody waits, and met
+-- this word: it has made the row U2 where the byte is not held, and else nothing.
+pub record HasTried (d : PvDomain) (l : ℕ) (own : NodeName) (s : Start) (met : ℕ) (new : Seat Slot View) : Type 0 where
+  pub old : Seat Slot View
+  pub start : s ≡ first_of Unlock l old
+  pub rests : Rests d own old
+  pub low : l < locks_of d.plan
+  pub held : holds_in old.me.0.calls.holds l ≡ true
+  pub home : is_first (lock_name l) ≡ true → old.me.0.ledger.out ≡ None
+  pub value : out_in old.me.0.calls.holds l ≡ false
+  pub same : (new.table_id ≡ old.table_id) × (new.id ≡ old.id)
+  pub tried : TriedBy release_fails Unlock (lock_name l) 1 old.me met new.me
 
 -- the holds but those of this lock
 abbrev pub without : LockName → List Hold → List Hold

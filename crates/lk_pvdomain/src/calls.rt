@@ -14,21 +14,22 @@ ghost use Rattle.lk_pvdomain.specs.PvPaths.{At, Ended, Follows, Owns, Rests, Sta
 
 use crate::cpu::PvCpu;
 use crate::domain::PvDomain;
-use crate::{arriving, freeing, handing, leading, shared, waiting};
+use crate::{arriving, freeing, handing, leading, shared, tries, waiting};
 use lk_domain::{LockId, Right};
 use lk_word::NodeName;
 use std::sync::Wait;
 
 // The row F1. Returns whether it acquired the lock.
-fn fast(seat: &mut Right, domain: &PvDomain, lock: u32, own: NodeName) -> bool
-    requires rests { Rests domain.now own seat.old }
+#[inline]
+fn fast(seat: &mut Right, domain: &PvDomain, lock: u32) -> bool
+    requires rests { (own : NodeName) × Rests domain.now own seat.old }
     requires lock { lock < locks_of domain.now.plan }
     requires free { holds_in seat.old.me.0.calls.holds lock ≡ false }
-    ensures took { result ≡ true → Took domain.now Lock lock own (first_of Lock lock seat.old) seat.new }
-    ensures goes { result ≡ false
+    ensures took { result ≡ true → (own : NodeName) → Rests domain.now own seat.old
+        → Took domain.now Lock lock own (first_of Lock lock seat.old) seat.new }
+    ensures goes { result ≡ false → (own : NodeName) → Rests domain.now own seat.old
         → At domain.now Lock lock own (first_of Lock lock seat.old) G1 Any seat.new }
 {
-    let _ = own;
     if shared::take_free(seat, domain, lock) == 0 {
         return true;
     }
@@ -78,6 +79,7 @@ fn queue<R: Wait>(seat: &mut Right, rt: &R, domain: &PvDomain, lock: u32, own: N
 
 // From G1 on: it steals the lock, or joins the queue. It is a function of its own, to keep the code
 // of an uncontended call short.
+#[cold]
 #[inline(never)]
 fn contend<R: Wait>(seat: &mut Right, rt: &R, domain: &PvDomain, lock: u32, own: NodeName)
     requires at { (s : Start) × At domain.now Lock lock own s G1 Any seat.old }
@@ -105,13 +107,13 @@ pub fn pv_lock<R: Wait>(cpu: &mut PvCpu, rt: &R, domain: &PvDomain, lock: LockId
     ensures same { IsSame cpu.old cpu.new }
     ensures taken { HasTaken domain.now lock.index cpu.old cpu.new }
 {
+    if fast(&mut cpu.seat, domain, lock.index) {
+        return;
+    }
     let own = NodeName {
         cpu: cpu.number,
         index: 0,
     };
-    if fast(&mut cpu.seat, domain, lock.index, own) {
-        return;
-    }
     contend(&mut cpu.seat, rt, domain, lock.index, own);
 }
 
@@ -133,14 +135,11 @@ pub fn pv_unlock<R: Wait>(cpu: &mut PvCpu, rt: &R, domain: &PvDomain, lock: Lock
     ensures others { (calls_of cpu.new).holds
         ≡ without (lock_name lock.index) (calls_of cpu.old).holds }
 {
-    let own = NodeName {
-        cpu: cpu.number,
-        index: 0,
-    };
-    if freeing::release(&mut cpu.seat, rt, domain, lock.index, own) {
+    let met = tries::try_release(&mut cpu.seat, domain, lock.index, 1);
+    if met == 1 {
         return;
     }
-    freeing::wake_next(&mut cpu.seat, domain, lock.index, own);
+    freeing::release(&mut cpu.seat, rt, domain, lock.index, met);
 }
 
 // The rows T1 and T2. Returns whether it acquired the lock.

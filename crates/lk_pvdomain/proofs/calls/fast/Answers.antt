@@ -9,12 +9,12 @@ use Rattle.lk_pvdomain.proofs.calls.fast.Goals as goal
 
 pub take_free-requires : goal.take_free-requires
 take_free-requires c =
-    let r = c.requires.rests in
+    let r = c.requires.rests.1 in
     let low = c.requires.lock in
     record {
       table = r.of.table_is;
       lock = low;
-      number = (c.args.own.cpu, r.of.number);
+      number = (c.requires.rests.0.cpu, r.of.number);
       row = first_acts r Lock c.args.lock c.args.seat.now.id low is_take refl
           (c.requires.free, ap (λ (xs : List Running). waits_in xs c.args.lock) r.frames)
           (is_spin r Lock c.args.lock c.args.seat.now.id low);
@@ -23,7 +23,7 @@ take_free-requires c =
 pub returns-then-take_free-eq0 : goal.returns-then-take_free-eq0
 returns-then-take_free-eq0 c =
     record {
-      took = λ e. f1_takes c.take_free.ensures.same c.requires.rests c.requires.lock c.take_free.ensures.step c.if-take_free-eq0.true;
+      took = λ e own r. f1_takes c.take_free.ensures.same r c.requires.lock c.take_free.ensures.step c.if-take_free-eq0.true;
       goes = λ e. absurd (cc e);
     }
 
@@ -31,5 +31,5 @@ pub returns : goal.returns
 returns c =
     record {
       took = λ e. absurd (cc e);
-      goes = λ e. f1_goes c.take_free.ensures.same c.requires.rests c.requires.lock c.take_free.ensures.step c.if-take_free-eq0.false;
+      goes = λ e own r. f1_goes c.take_free.ensures.same r c.requires.lock c.take_free.ensures.step c.if-take_free-eq0.false;
     }

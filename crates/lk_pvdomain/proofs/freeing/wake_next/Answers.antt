@@ -14,12 +14,12 @@ use Rattle.lk_pvdomain.proofs.freeing.wake_next.Goals as goal
 
 pub take_out-pair-requires : goal.take_out-pair-requires
 take_out-pair-requires c =
-    let w = c.requires.at.1 in
+    let w = c.requires.at.2 in
     record { table = w.of.table_is; number = numbered w; lock = w.low; plan = w.of.plan; row = seek_asks w refl; fresh = w.fresh }
 
 pub drop_slow-requires : goal.drop_slow-requires
 drop_slow-requires c =
-    let v = c.requires.at.1 in
+    let v = c.requires.at.2 in
     let w = u3_finds c.take_out-pair.ensures.same v c.take_out-pair.ensures.step in
     record {
       table = w.of.table_is;
@@ -32,7 +32,7 @@ drop_slow-requires c =
 
 pub kick-requires : goal.kick-requires
 kick-requires c =
-    let v = c.requires.at.1 in
+    let v = c.requires.at.2 in
     let k = c.take_out-pair.ensures.step in
     let w = u3_finds c.take_out-pair.ensures.same v k in
     let x = u4_frees c.drop_slow.ensures.same w c.drop_slow.ensures.step in
@@ -45,10 +45,10 @@ kick-requires c =
       number = numbered x.1;
       target = subst (λ n. n < cpus_of c.args.domain.now.plan) (sym cpu) near.cpu;
       row = kick_asks x.1 _ (sym cpu) (record {
-        journal = λ e. ap (λ (y : Ledger). y.out) x.1.ledger ∙ (out_freed c.requires.at.0.ledger c.args.lock x.0
+        journal = λ e. ap (λ (y : Ledger). y.out) x.1.ledger ∙ (out_freed c.requires.at.1.ledger c.args.lock x.0
             ∙ (ap (λ (y : Ledger). y.out) (sym v.ledger) ∙ c.requires.home e));
         value = λ plain. ap (λ (hs : List Hold). out_in hs c.args.lock) x.1.holds
-            ∙ freed_out 0 (lock_name c.args.lock) c.requires.at.0.holds c.args.lock
+            ∙ freed_out 0 (lock_name c.args.lock) c.requires.at.1.holds c.args.lock
             (ap (λ (hs : List Hold). out_in hs c.args.lock) (sym v.holds) ∙ c.requires.value);
       });
     }
@@ -56,7 +56,7 @@ kick-requires c =
 pub returns : goal.returns
 returns c =
     record {
-      freed = λ s v.
+      freed = λ own s v.
           let w = u3_finds c.take_out-pair.ensures.same v c.take_out-pair.ensures.step in
           let x = u4_frees c.drop_slow.ensures.same w c.drop_slow.ensures.step in
           freed_once x.0 (u5_kicks c.kick.ensures.same c.kick.ensures.step.found x.1 c.kick.ensures.step.seat);
