@@ -18,7 +18,8 @@ use Rattle.lk_machine.specs.declared.setup.Setup.{Setup}
 use Rattle.lk_forms.specs.declared.limits.TheConstants.{MAX_CPUS, MAX_HANDLERS, MAX_OPS}
 use Rattle.lk_forms.specs.Grammar.{Reading, has_go, reading_of, list_of, default_setup, given_handlers, with_more, cpus_of, most_cpus}
 use Rattle.lk_forms.specs.Agrees.{IsRoomy}
-use Rattle.lk_forms.specs.Keywords.{rank_of, fault_of_place, fault_of_ranks}
+use Rattle.lk_forms.specs.Keywords.{rank_of, order, fault_of_place}
+use Rattle.lk_forms.specs.Ranks.{fault_of_ranks}
 use Rattle.lk_forms.specs.declared.keyword.Keyword.{Keyword}
 use Rattle.lk_forms.specs.declared.keyword.Keyword.TheVariants as keyword
 use Rattle.lk_forms.specs.declared.answers.Sched.TheVariants.{Blank, Run, End}
@@ -231,7 +232,7 @@ limited_cpus lines = (kept IsLimited limited-step lines (λ none. omega arith, o
 -- before `go` there are no acts
 
 -- lines come in the order of their ranks
-by_ranks : (last rank : ℕ) → fault_of_ranks last rank ≡ None → last ≤ rank
+by_ranks : (last rank : ℕ) → fault_of_ranks order last rank ≡ None → last ≤ rank
 by_ranks last rank fine = grind (arith, nat_tests, fine)
 
 in_order : (last : ℕ) (k : Keyword) → fault_of_place last k ≡ None → last ≤ rank_of k

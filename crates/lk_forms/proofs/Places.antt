@@ -8,7 +8,8 @@ use Rattle.lk_machine.specs.declared.setup.Setup.{Setup}
 use Rattle.lk_text.specs.Numbers.{number_of}
 use Rattle.lk_forms.specs.declared.limits.TheConstants.{MAX_ACTS}
 use Rattle.lk_forms.specs.Words.{words, is_text, is_comment}
-use Rattle.lk_forms.specs.Keywords.{keyword_of, rank_of, is_misplaced, fault_of_ranks, fault_of_place}
+use Rattle.lk_forms.specs.Keywords.{keyword_of, rank_of, order, fault_of_place}
+use Rattle.lk_forms.specs.Ranks.{is_misplaced}
 use Rattle.lk_forms.specs.Operations.{and_then, or_fault, unless}
 use Rattle.lk_forms.specs.Grammar.{Reading, format_said, read_format, read, read_words, read_ranked, read_known, read_placed, read_header, one_word, two_words, in_range, number_in, cpu_word, run_of, step_line, act_line, schedule_args, header_line, last_rank, has_go}
 use Rattle.lk_forms.specs.Schedule.{rank_behind, schedule_of, schedule_words, schedule_known}
@@ -30,7 +31,7 @@ Makes P (Ok r) = P r
 Makes P (Err why) = Unit {0}
 
 -- no line of the schedule may stand before `go`
-misplaced : (last rank : ℕ) → nat_lt last 9 ≡ true → nat_le 10 rank ≡ true → is_misplaced last rank ≡ true
+misplaced : (last rank : ℕ) → nat_lt last 9 ≡ true → nat_lt 9 rank ≡ true → is_misplaced order last rank ≡ true
 misplaced last rank early late = rw (early, late) (any_of ((last == 0) && not (rank == 1)) (nat_lt rank last) (((last == 9) && (rank == 9)) || (last == 11)))
   where
     any_of : (a b c : Bool) → (a || (b || (true || c))) ≡ true
@@ -57,9 +58,9 @@ module _ (r : Reading) (early : has_go r ≡ false) where
   unless_heads None x m = m
   unless_heads (Some fault) x m = tt
 
-  late_heads : (last : ℕ) (k : Keyword) (args : List (List ℕ)) → nat_lt last 9 ≡ true → nat_le 10 (rank_of k) ≡ true → fault_of_place last k ≡ fault_of_ranks last (rank_of k)
+  late_heads : (last : ℕ) (k : Keyword) (args : List (List ℕ)) → nat_lt last 9 ≡ true → nat_lt 9 (rank_of k) ≡ true → (rank_of k == 0) ≡ false
       → Makes (Heads r) (read_known r last (Some k) args)
-  late_heads last k args below late is = rw (is, misplaced last (rank_of k) below late) tt
+  late_heads last k args below late other = rw (other, misplaced last (rank_of k) below late) tt
 
   known_heads : (last : ℕ) (k : Keyword) (args : List (List ℕ)) → nat_lt last 9 ≡ true → Makes (Heads r) (read_known r last (Some k) args)
   known_heads last keyword.Step args below = late_heads last keyword.Step args below refl refl

@@ -1,5 +1,6 @@
 pub mod Words
 pub mod Fronts
+pub mod Ranks
 pub mod Keywords
 pub mod Operations
 pub mod Holds

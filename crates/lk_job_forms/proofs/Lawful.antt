@@ -29,7 +29,8 @@ use Rattle.lk_forms.proofs.Changes.{and_then-ok, if-ok, else-ok, number_in-ok, c
 use Rattle.lk_job_forms.specs.declared.keyword.Keyword.{Keyword}
 use Rattle.lk_job_forms.specs.declared.keyword.Keyword.TheVariants as keyword
 use Rattle.lk_job_forms.specs.Lines.{mode_named, mode_word, suited, balances_from, balances_of, opened, three_words, amount_word, move_of, add_of, get_of, job_of, worker_job, line_args}
-use Rattle.lk_job_forms.specs.Keywords.{keyword_of, rank_of, fault_of_place, fault_of_ranks}
+use Rattle.lk_forms.specs.Ranks.{fault_of_ranks}
+use Rattle.lk_job_forms.specs.Keywords.{keyword_of, rank_of, order, fault_of_place}
 use Rattle.lk_job_forms.specs.Grammar.{Reading, IsSound, nothing_read, format_said, read_format, read, read_words, read_ranked, read_known, read_placed}
 use Rattle.lk_job_forms.proofs.Drafts.{job_count-none}
 use Rattle.lk_job_forms.proofs.Kept.{then_keeps, if_keeps, unless_keeps}
@@ -236,10 +237,10 @@ module _ (w : Workload) (lawful : IsLawful w) where
 -- each line
 
 -- lines come in the order of their ranks
-by_ranks : (last rank : ℕ) → fault_of_ranks last rank ≡ None → last ≤ rank
+by_ranks : (last rank : ℕ) → fault_of_ranks order last rank ≡ None → last ≤ rank
 by_ranks last rank fine = grind (arith, nat_tests, fine)
 
-placed_by : (r : Reading) (last : ℕ) (k : Keyword) (args : List (List ℕ)) → r.rank ≡ Some last → fault_of_ranks last (rank_of k) ≡ None → IsSound r → IfOk (line_args k r.work args) (Keeps r.work)
+placed_by : (r : Reading) (last : ℕ) (k : Keyword) (args : List (List ℕ)) → r.rank ≡ Some last → fault_of_ranks order last (rank_of k) ≡ None → IsSound r → IfOk (line_args k r.work args) (Keeps r.work)
     → IfOk (read_placed r k args) IsSound
 placed_by r last k args behind fine sound kept = then_keeps _ (line_args k r.work args) _ (λ v is.
     let keeps = IfOk-at_ok (Keeps r.work) is kept in

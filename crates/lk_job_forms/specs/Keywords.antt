@@ -1,8 +1,9 @@
 -- The first words of the lines of a job file, and where such a line may stand.
-use Rattle.std.specs.Prelude.{ℕ, ◌==◌, ◌&&◌, ◌||◌, not, nat_le, nat_lt, Bool, List, Option, None, Some, codes, if◌then◌else◌}
+use Rattle.std.specs.Prelude.{ℕ, true, List, Option, None, Some, codes, if◌then◌else◌}
 use Rattle.std.specs.Str.{bytes_eq}
 use Rattle.lk_forms.specs.declared.answers.Fault.{Fault}
-use Rattle.lk_forms.specs.declared.answers.Fault.TheVariants.{Misplaced, Repeated}
+use Rattle.lk_forms.specs.declared.order.Order.{Order}
+use Rattle.lk_forms.specs.Ranks.{fault_of_ranks}
 use Rattle.lk_job_forms.specs.declared.keyword.Keyword.{Keyword}
 use Rattle.lk_job_forms.specs.declared.keyword.Keyword.TheVariants.{Format, Mode, Guard, Workers, Sockets, Threshold, Accounts, Job, End}
 
@@ -32,22 +33,10 @@ rank_of Accounts = 6
 rank_of Job = 7
 rank_of End = 8
 
--- Whether a line of a rank may not stand behind the lines up to one of rank `last`: another line
--- comes before `mode`, a line of a lower rank comes after, or a line comes after `end`.
-abbrev pub is_misplaced : ℕ → ℕ → Bool
-is_misplaced last rank = ((last == 0) && not (rank == 1)) || (nat_lt rank last || (last == 8))
-
--- whether a line of a rank that may stand once comes a second time
-abbrev pub is_repeated : ℕ → ℕ → Bool
-is_repeated last rank = (rank == last) && (nat_le 1 rank && nat_le rank 6)
-
-abbrev pub fault_of_ranks : ℕ → ℕ → Option Fault
-fault_of_ranks last rank =
-    if is_misplaced last rank then Some Misplaced
-    else if is_repeated last rank then Some Repeated
-    else None
+-- how the lines stand
+abbrev pub order : Order
+order = record { begins = true; once = 6; go = 8; end = 8 }
 
 -- what is wrong with the place of a line behind the lines up to one of rank `last`
 abbrev pub fault_of_place : ℕ → Keyword → Option Fault
-fault_of_place last Format = Some Repeated
-fault_of_place last k = fault_of_ranks last (rank_of k)
+fault_of_place last k = fault_of_ranks order last (rank_of k)

@@ -1,8 +1,8 @@
 // The first words of the lines, and where such a line may stand.
 ghost use Rattle.std.specs.Prelude.{◌≡◌};
-ghost use Rattle.lk_job_forms.specs.Keywords.{keyword_of, rank_of, is_misplaced, is_repeated, fault_of_place};
+ghost use Rattle.lk_job_forms.specs.Keywords.{keyword_of, rank_of, fault_of_place};
 
-use lk_forms::Fault;
+use lk_forms::{Fault, Order};
 
 /// The first word of a line.
 #[derive(Clone, Copy)]
@@ -27,14 +27,16 @@ pub(crate) enum Keyword {
     End,
 }
 
-/// The rank of the line `mode`.
-const MODE_RANK: u32 = 1;
-
-/// The rank of the line `accounts`, the last that may stand once.
-const ACCOUNTS_RANK: u32 = 6;
-
 /// The rank of the line `end`.
 pub(crate) const END_RANK: u32 = 8;
+
+// `mode` comes first, the lines up to `accounts` stand once, and none stands behind `end`.
+const ORDER: Order = Order {
+    begins: true,
+    once: 6,
+    go: END_RANK,
+    end: END_RANK,
+};
 
 impl Keyword {
     /// The keyword that a word is, if it is one.
@@ -85,32 +87,6 @@ impl Keyword {
     pub fn fault_of_place(self, last: u32) -> Option<Fault>
         ensures { result ≡ fault_of_place last self }
     {
-        if let Keyword::Format = self {
-            return Some(Fault::Repeated);
-        }
-        let rank = self.rank();
-        if is_misplaced(last, rank) {
-            Some(Fault::Misplaced)
-        } else if is_repeated(last, rank) {
-            Some(Fault::Repeated)
-        } else {
-            None
-        }
+        ORDER.fault(last, self.rank())
     }
-}
-
-// Whether a line of a rank may not stand behind the lines up to one of rank `last`.
-fn is_misplaced(last: u32, rank: u32) -> bool
-    ensures { result ≡ is_misplaced last rank }
-{
-    let before_mode = last == 0 && rank != MODE_RANK;
-    let too_late = rank < last;
-    before_mode || too_late || last == END_RANK
-}
-
-// Whether a line of a rank that may stand once comes a second time.
-fn is_repeated(last: u32, rank: u32) -> bool
-    ensures { result ≡ is_repeated last rank }
-{
-    rank == last && MODE_RANK <= rank && rank <= ACCOUNTS_RANK
 }

@@ -1,8 +1,8 @@
 // The first words of the lines, and where such a line may stand.
 ghost use Rattle.std.specs.Prelude.{◌≡◌};
-ghost use Rattle.lk_osq_forms.specs.Keywords.{keyword_of, rank_of, is_misplaced, is_repeated, fault_of_place};
+ghost use Rattle.lk_osq_forms.specs.Keywords.{keyword_of, rank_of, fault_of_place};
 
-use lk_forms::Fault;
+use lk_forms::{Fault, Order};
 
 /// The first word of a line.
 #[derive(Clone, Copy)]
@@ -28,6 +28,14 @@ pub(crate) const GO_RANK: u32 = 3;
 
 /// The rank of the line `end`.
 pub(crate) const END_RANK: u32 = 5;
+
+// `cpus` stands once, and only the schedule stands behind `go`.
+const ORDER: Order = Order {
+    begins: false,
+    once: 1,
+    go: GO_RANK,
+    end: END_RANK,
+};
 
 impl Keyword {
     /// The keyword that a word is, if it is one.
@@ -71,33 +79,6 @@ impl Keyword {
     pub fn fault_of_place(self, last: u32) -> Option<Fault>
         ensures { result ≡ fault_of_place last self }
     {
-        if let Keyword::Format = self {
-            return Some(Fault::Repeated);
-        }
-        let rank = self.rank();
-        if is_misplaced(last, rank) {
-            Some(Fault::Misplaced)
-        } else if is_repeated(last, rank) {
-            Some(Fault::Repeated)
-        } else {
-            None
-        }
+        ORDER.fault(last, self.rank())
     }
-}
-
-// Whether a line of a rank may not stand behind the lines up to one of rank `last`.
-fn is_misplaced(last: u32, rank: u32) -> bool
-    ensures { result ≡ is_misplaced last rank }
-{
-    let too_late = rank < last;
-    let too_early = last < GO_RANK && rank > GO_RANK;
-    let second_go = last == GO_RANK && rank == GO_RANK;
-    too_late || too_early || second_go || last == END_RANK
-}
-
-// Whether a line of a rank that may stand once comes a second time.
-fn is_repeated(last: u32, rank: u32) -> bool
-    ensures { result ≡ is_repeated last rank }
-{
-    rank == last && rank == 1
 }
