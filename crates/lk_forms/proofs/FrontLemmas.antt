@@ -8,11 +8,11 @@ use Rattle.std.specs.Char.{is_ascii_digit}
 use Rattle.std.specs.List.{list_all}
 use Rattle.std.specs.Str.{all_ascii_digits}
 use Rattle.std.specs.Str.Parse.{digits_value}
-use Rattle.lk_text.proofs.NumberLemmas.{and_split, value_of_digit, number_of-digits}
+use Rattle.lk_text.proofs.NumberLemmas.{and_split, value_of_digit, value_more, number_of-digits}
 use Rattle.lk_forms.specs.Words.{is_blank, is_text, is_filled, words}
 use Rattle.lk_text.specs.Numbers.{number_of}
-use Rattle.lk_forms.specs.Fronts.{HasDigits, HasNumber, EndsNumber}
-use Rattle.lk_forms.proofs.WordLemmas.{is_solid, ends_word, words-blank, text-blank, words-word, text-word}
+use Rattle.lk_forms.specs.Fronts.{ends_word, HasDigits, HasNumber, EndsNumber}
+use Rattle.lk_forms.proofs.WordLemmas.{is_solid, words-blank, text-blank, words-word, text-word}
 
 -- digits
 
@@ -107,3 +107,30 @@ number-before bytes n last (b ∷ rest) has some few fits more is =
       all = has.all;
       number = has-value bytes n (b ∷ rest) has some few fits;
     })
+
+-- one digit behind a space
+
+short-value : (b n : ℕ) → is_ascii_digit b ≡ true → n ≡ b - 48 → number_of (b ∷ []) ≡ Some n
+short-value b n digit is =
+    let range = digit_at b digit in
+    let first : 0 * 10 + (b - 48) ≡ digits_value 10 (take 1 (b ∷ [])) = value_more (b ∷ []) 0 0 (omega arith) range.0 range.1 refl in
+    let same : n ≡ 0 * 10 + (b - 48) = omega arith in
+    number_of-digits (b ∷ []) 1 n (omega arith) (omega arith) (omega arith) (rw digit refl) (same ∙ first) (omega arith)
+
+short-word : (a b n : ℕ) (rest : List ℕ) → a ≡ 32 → is_ascii_digit b ≡ true → n ≡ b - 48 → ends_word rest ≡ true → HasNumber (a ∷ b ∷ rest) n rest
+short-word a b n rest space digit is ends =
+    let solid = solid-digits (b ∷ []) (rw digit refl) in
+    let blank : is_blank a ≡ true = rw space refl in record {
+      word = b ∷ [];
+      first = words-blank a (b ∷ rest) blank ∙ words-word (b ∷ []) rest refl solid ends;
+      number = short-value b n digit is;
+      text = λ t. text-blank a (b ∷ rest) blank (text-word (b ∷ []) rest solid t);
+    }
+
+pub number-short : (bytes : List ℕ) (n : ℕ) → 2 ≤ length bytes → get_or bytes 0 0 ≡ 32 → is_ascii_digit (get_or bytes 1 0) ≡ true → n ≡ get_or bytes 1 0 - 48
+    → ends_word (take (length bytes - 2) (drop 2 bytes)) ≡ true → HasNumber bytes n (take (length bytes - 2) (drop 2 bytes))
+number-short [] n long space digit is ends = absurd (omega arith)
+number-short (a ∷ []) n long space digit is ends = absurd (omega arith)
+number-short (a ∷ b ∷ rest) n long space digit is ends =
+    let whole = take_all (length (a ∷ b ∷ rest) - 2) rest (omega arith) in
+    rw whole (short-word a b n rest space digit is (rw whole at ends))

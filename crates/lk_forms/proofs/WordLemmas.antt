@@ -4,6 +4,7 @@ use Rattle.std.proofs.lemmas.Bool.Decides.{nat_tests}
 use Rattle.std.proofs.lemmas.List.Sums.{prefix_len-le-length}
 use Rattle.std.specs.List.{list_all, position, position_or_len, slice_split, onto_first, prefix_len}
 use Rattle.lk_text.proofs.NumberLemmas.{and_split}
+use Rattle.lk_forms.specs.Fronts.{ends_word}
 use Rattle.lk_forms.specs.Words.{is_blank, is_allowed, is_filled, is_text, words}
 
 -- where the first word starts
@@ -115,11 +116,6 @@ text-blank b rest blank text = rw (allowed, text) refl
     allowed = grind (arith, nat_tests, blank)
 
 -- a word in front
-
--- its end: nothing is left, or a blank comes
-abbrev pub ends_word : List ℕ → Bool
-ends_word [] = true
-ends_word (b ∷ rest) = is_blank b
 
 -- neither a blank nor a byte that a line may not have
 abbrev pub is_solid : ℕ → Bool

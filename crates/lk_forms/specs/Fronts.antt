@@ -1,9 +1,14 @@
 -- What stands in front of the bytes of a line.
-use Rattle.std.specs.Prelude.{◌≡◌, ◌<◌, ℕ, true, List, [], ◌∷◌, ◌++◌, length, Some}
+use Rattle.std.specs.Prelude.{◌≡◌, ◌<◌, ℕ, Bool, true, List, [], ◌∷◌, ◌++◌, length, Some}
 use Rattle.std.specs.Str.{all_ascii_digits}
 use Rattle.std.specs.Str.Parse.{digits_value}
 use Rattle.lk_text.specs.Numbers.{number_of}
-use Rattle.lk_forms.specs.Words.{is_text, words}
+use Rattle.lk_forms.specs.Words.{is_blank, is_text, words}
+
+-- the end of a word that stands in front: nothing is left, or a blank comes
+abbrev pub ends_word : List ℕ → Bool
+ends_word [] = true
+ends_word (b ∷ rest) = is_blank b
 
 -- these bytes are digits, which write this number, and then those
 pub record HasDigits (bytes : List ℕ) (n : ℕ) (rest : List ℕ) : Type 0 where

@@ -1,25 +1,44 @@
 // Programs: operations, read from left to right.
-ghost use Rattle.std.specs.Prelude.{◌≡◌, ◌≤◌, ◌<◌, Ok, Err, ◌⊎◌, IfOk, IfErr, length};
+ghost use Rattle.std.specs.Prelude.{◌≡◌, ◌≤◌, ◌<◌, Ok, Err, ◌⊎◌, IfOk, IfErr, IfSome, length};
 ghost use Rattle.lk_forms.specs.Agrees.{IsAnswer};
 ghost use Rattle.lk_forms.specs.Words.{words, HasFirst};
+ghost use Rattle.lk_forms.specs.Fronts.{HasNumber};
 ghost use Rattle.lk_forms.specs.declared.limits.TheConstants.{MAX_LOCKS, MAX_OPS};
 ghost use Rattle.lk_forms.specs.Operations.{lock_word, op_of, closed, ops_of};
 
 use crate::answers::{Fault, LineRefusal, Which};
 use crate::limits::MAX_OPS;
 use crate::operations::{fault_of_hold, is_declared, is_nothing_held, verb_of};
-use crate::words::next_word;
+use crate::words::{is_word_end, next_word};
 use lk_abs::{Kind, List};
 use lk_machine::Op;
 use lk_text::read_number;
 use std::alloc::Global;
 
-// The lock's number, in the words behind the verb, and what stands behind it.
+// The lock's number behind a single space, and what stands behind it, if it is one digit.
+#[inline(always)]
+fn short_lock(args: &[u8]) -> Option<(u64, &[u8])>
+    ensures number { IfSome result (λ both. HasNumber args.now both.0 both.1.now) }
+    ensures shorter { IfSome result (λ both. length both.1.now < length args.now) }
+{
+    match args {
+        [b' ', b, rest @ ..] if b.is_ascii_digit() && is_word_end(rest) => {
+            Some((u64::from(*b - b'0'), rest))
+        }
+        _ => None,
+    }
+}
+
+// The lock's number, in the words behind the verb, and what stands behind it. Most are one digit,
+// and are read where they stand.
 fn lock_word(args: &[u8]) -> Result<(u64, &[u8]), LineRefusal>
     ensures number { IsAnswer (lock_word (words args.now)) (λ both. both.0) result }
     ensures rest { IfOk result (λ both. HasFirst (words args.now) (words both.1.now)) }
     ensures shorter { IfOk result (λ both. length both.1.now < length args.now) }
 {
+    if let Some(both) = short_lock(args) {
+        return Ok(both);
+    }
     let Some((word, rest)) = next_word(args) else {
         return Err(LineRefusal::Bad(Fault::WordCount));
     };

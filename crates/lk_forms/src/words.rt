@@ -2,6 +2,7 @@
 ghost use Rattle.std.specs.Prelude.{◌≡◌, not, ◌≤◌, ◌<◌, ◌∷◌, [], MatchOption, IfSome, length};
 ghost use Rattle.std.specs.List.{position, position_or_len};
 ghost use Rattle.lk_forms.specs.Words.{is_blank, is_allowed, is_text, is_comment, words};
+ghost use Rattle.lk_forms.specs.Fronts.{ends_word};
 
 /// Whether the byte is a space, a tab or a carriage return.
 #[inline]
@@ -36,6 +37,17 @@ pub fn is_comment(word: &[u8]) -> bool
     match word {
         [] => false,
         [b, ..] => *b == b'#',
+    }
+}
+
+/// Whether a word that stands in front of these bytes ends there: none is left, or a blank comes.
+#[inline]
+pub(crate) fn is_word_end(bytes: &[u8]) -> bool
+    ensures { result ≡ ends_word bytes.now }
+{
+    match bytes {
+        [] => true,
+        [b, ..] => is_blank(*b),
     }
 }
 
