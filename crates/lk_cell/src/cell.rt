@@ -37,7 +37,7 @@ impl<T: Drop, F: Fits<T>> KeyCell<T, F> {
 
 impl<T, F: Fits<T>> KeyCell<T, F> {
     // Opens the cell.
-    fn open(&self, key: Key) -> Seat<T, bool>
+    pub fn open(&self, key: Key) -> Seat<T, bool>
         requires { IsKey self.now.table.shared.table_id key }
         ensures { IsOpen F.fits self.now.table.shared.table_id result }
     {
@@ -47,7 +47,7 @@ impl<T, F: Fits<T>> KeyCell<T, F> {
     }
 
     // Shuts it, with a value that fits.
-    fn shut(&self, mut seat: Seat<T, bool>) -> Key
+    pub fn shut(&self, mut seat: Seat<T, bool>) -> Key
         requires { IsOpen F.fits self.now.table.shared.table_id seat }
         ensures { IsKey self.now.table.shared.table_id result }
     {

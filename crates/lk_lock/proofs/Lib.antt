@@ -1,0 +1,4 @@
+pub mod Marks
+pub mod Steps
+pub mod Mades
+pub mod Resting

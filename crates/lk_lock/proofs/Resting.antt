@@ -1,0 +1,41 @@
+-- A processor that rests is ready to take locks, and rests again once it has freed them.
+use Rattle.std.proofs.Common.{◌≡◌, ℕ, ◌∙◌, List, ◌∷◌, ap, Bool, false}
+use Rattle.atomic_table.specs.Seated.{TableId}
+use Rattle.atomic_table.specs.Table.{rest}
+use Rattle.atomic_table.specs.Lent.{seat_with}
+use Rattle.atomic_table.specs.declared.shared.Seat.{Seat}
+use Rattle.lk_domain.specs.Calls.{Hold, holds_in}
+use Rattle.lk_domain.specs.Ends.{Rests}
+use Rattle.lk_domain.specs.declared.cpu.Cpu.{Cpu}
+use Rattle.lk_domain.specs.declared.domain.Domain.{Domain}
+use Rattle.lk_lock.specs.Standing.{IsAsBefore, IsReady, HasOpened, holds_of}
+
+pub ready_of : (d : Domain) (i : ℕ) (cpu : Cpu) → Rests d i cpu → IsReady d cpu
+ready_of d i cpu rests = record { domain_is = rests.domain_is; frames = rests.frames; home = rests.home }
+
+pub rests_again : (d : Domain) (i : ℕ) (old new : Cpu) → Rests d i old → IsReady d new → IsAsBefore old new
+    → Rests d i new
+rests_again d i old new was ready kept =
+    record {
+      domain_is = ready.domain_is;
+      number = kept.same.number ∙ was.number;
+      who = kept.same.who ∙ was.who;
+      frames = ready.frames;
+      holds = kept.holds ∙ was.holds;
+      home = ready.home;
+    }
+
+-- it holds no lock
+pub holds_none : (d : Domain) (i : ℕ) (cpu : Cpu) (l : ℕ) → Rests d i cpu → holds_in (holds_of cpu) l ≡ false
+holds_none d i cpu l rests = ap (λ (hs : List Hold). holds_in hs l) rests.holds
+
+-- a cell that is open stays so, with another value
+pub still_open : {T : Type 0} (cell : TableId) (place : Seat T Bool) (value : T) → HasOpened cell place
+    → HasOpened cell (seat_with place 0 value)
+still_open {T} cell place value is =
+    record {
+      table = is.table;
+      view = is.view;
+      value = value;
+      slot = ap (λ (xs : List (ℕ × T)). (0, value) ∷ rest xs) is.slot;
+    }

@@ -1,0 +1,16 @@
+-- What a held lock ends as, where a `&mut` to its value is returned.
+use Rattle.std.specs.Prelude.{[]}
+use Rattle.std.specs.Borrow.{Lends, MutBor, Fml, RattleType}
+use mir.Syntax.{named}
+use Rattle.atomic_table.specs.Lent.{seat_with}
+use Rattle.lk_lock.specs.declared.held.Held.{Held}
+use Rattle.lk_lock.specs.contracts.held.Held.{the_row}
+
+-- it, with this value
+abbrev pub held_with : {T R : Type 0} → Held T R → T → Held T R
+held_with held value = record held { place = seat_with held.place 0 value }
+
+-- once the borrow r ends, the value is the last that was written through it
+abbrev pub LendsValue : (T R : RattleType) → MutBor (Held T.Denot R.Denot) → MutBor T.Denot → Fml
+LendsValue T R held r =
+    Lends (the_row (record { mir = named 1; lft = [] }) T R) T held r (held_with held.now)

@@ -1,0 +1,99 @@
+-- How a processor stands that takes locks with values.
+use Rattle.std.specs.Prelude.{◌≡◌, ℕ, ◌<◌, true, false, Bool, List, [], ◌∷◌, Some, None}
+use Rattle.atomic_table.specs.Seated.{TableId}
+use Rattle.atomic_table.specs.declared.shared.Seat.{Seat}
+use Rattle.lk_abs.specs.declared.holder.Manner.{Manner}
+use Rattle.lk_abs.specs.declared.holder.Manner.TheVariants.{Spins, Writes}
+use Rattle.lk_abs.specs.declared.names.Kind.{Kind}
+use Rattle.lk_machine.specs.declared.setup.Verb.{Verb}
+use Rattle.lk_machine.specs.declared.parts.Pc.TheVariants.{Z2}
+use Rattle.lk_values.specs.Guarded.{IsApart}
+use Rattle.lk_domain.specs.Calls.{Terms, Mark, Hold, Calls, holds_in, lock_name}
+use Rattle.lk_domain.specs.Paths.{HasTaken, HasFreed}
+use Rattle.lk_domain.specs.Plans.{locks_of, kind_at}
+use Rattle.lk_domain.specs.Seats.{IsOf, IsSame, calls_of, ledger_of, view_of}
+use Rattle.lk_domain.specs.Values.{cell_of, outs_of, marked_out}
+use Rattle.lk_domain.specs.declared.cpu.Cpu.{Cpu}
+use Rattle.lk_domain.specs.declared.domain.Domain.{Domain}
+use Rattle.lk_domain.specs.declared.plan.Plan.{Plan}
+use Rattle.lk_run.specs.Entering.{HasEntered, HasLeft}
+
+-- the locks that the processor holds
+abbrev pub holds_of : Cpu → List Hold
+holds_of cpu = (calls_of cpu).holds
+
+-- the processor is one of the domain, in no call, and the journal of the ledger is not out with it
+pub record IsReady (domain : Domain) (cpu : Cpu) : Type 0 where
+  pub domain_is : IsOf cpu domain
+  pub frames : (calls_of cpu).frames ≡ []
+  pub home : (ledger_of cpu).out ≡ None
+
+-- the lock of this number is of this kind, and its value lies in the cell of this name
+pub record IsUnder (k : Plan) (kind : Kind) (l : ℕ) (cell : TableId) : Type 0 where
+  pub low : l < locks_of k
+  pub kind_is : kind_at k l ≡ kind
+  pub cell_is : cell_of k l ≡ Some cell
+
+-- such a lock has some cell
+abbrev pub IsLock : Plan → Kind → ℕ → Type 0
+IsLock k kind l = (cell : TableId) × IsUnder k kind l cell
+
+-- The processor is the one that it was: it holds what it held, and has the values out that it had.
+pub record IsAsBefore (before now : Cpu) : Type 0 where
+  pub same : IsSame before now
+  pub holds : holds_of now ≡ holds_of before
+
+-- the hold of a lock by a task, whose value is out
+abbrev pub out_with : ℕ → Manner → ℕ → Hold
+out_with l m n = record { ctx = 0; lock = lock_name l; manner = m; nth = n; out = true }
+
+-- It holds one lock more than before, in this manner, and has its value out.
+pub record IsInside (l : ℕ) (m : Manner) (before now : Cpu) : Type 0 where
+  pub table : now.seat.table_id ≡ before.seat.table_id
+  pub id : now.seat.id ≡ before.seat.id
+  pub number : now.number ≡ before.number
+  pub who : (view_of now).who ≡ record (view_of before).who { outs = l ∷ outs_of (view_of before) }
+  pub nth : ℕ
+  pub holds : holds_of now ≡ out_with l m nth ∷ holds_of before
+  pub fresh : holds_in (holds_of before) l ≡ false
+  pub apart : IsApart l (outs_of (view_of before))
+
+-- the calls, once the value of a lock has gone out, or has come home
+abbrev pub valued : ℕ → Bool → Calls → Calls
+valued l b c = record c { holds = marked_out l b c.holds }
+
+-- The call v has taken the spinlock by a path of its rows, and then its value has gone out.
+pub record HasGot (t : Terms) (p : ℕ) (v : Verb) (l : ℕ) (old new : Calls) : Type 0 where
+  pub inside : Calls
+  pub taken : HasTaken t p v l Spins old inside
+  pub holds : inside.holds ≡ marked_out l false (marked_out l true inside.holds)
+  pub is : new ≡ valued l true inside
+
+-- The spinlock was taken by a path of its rows, and freed by the row U1.
+pub record HasTurned (t : Terms) (p : ℕ) (v : Verb) (l : ℕ) (old new : Calls) : Type 0 where
+  pub inside : Calls
+  pub taken : HasTaken t p v l Spins old inside
+  pub freed : HasFreed l inside new
+
+-- The same of a reader-writer lock and its writer, who had the wait lock too if the first trail is not
+-- all.
+pub record HasGotIn (t : Terms) (p : ℕ) (v : Verb) (l : ℕ) (old new : Calls) : Type 0 where
+  pub inside : Calls
+  pub upto : List Mark
+  pub entered : HasEntered t p v l Writes upto old inside
+  pub holds : inside.holds ≡ marked_out l false (marked_out l true inside.holds)
+  pub is : new ≡ valued l true inside
+
+-- It was taken by its writer by a path of its rows, and freed by the row Z2.
+pub record HasWritten (t : Terms) (p : ℕ) (v : Verb) (l : ℕ) (old new : Calls) : Type 0 where
+  pub inside : Calls
+  pub upto : List Mark
+  pub entered : HasEntered t p v l Writes upto old inside
+  pub left : HasLeft Z2 l inside new
+
+-- the seat has opened the cell of this name, and has its value
+pub record HasOpened {T : Type 0} (cell : TableId) (place : Seat T Bool) : Type 0 where
+  pub table : place.table_id ≡ cell
+  pub view : place.me.0 ≡ true
+  pub value : T
+  pub slot : place.me.1 ≡ (0, value) ∷ []

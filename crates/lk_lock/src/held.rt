@@ -1,0 +1,116 @@
+// A spinlock that is held until the end of a scope.
+ghost use Rattle.std.specs.Prelude.{◌≡◌, false};
+ghost use Rattle.std.specs.Borrow.{sem};
+ghost use Rattle.std.specs.Fn.{FnOnceReturnsAtMut};
+ghost use Rattle.lk_abs.specs.declared.holder.Manner.TheVariants.{Spins};
+ghost use Rattle.lk_abs.specs.declared.names.Kind.TheVariants.{Spin as spinning};
+ghost use Rattle.lk_domain.specs.Calls.{holds_in};
+ghost use Rattle.lk_domain.specs.declared.cpu.Cpu.{Cpu};
+ghost use Rattle.lk_lock.specs.Standing.{HasOpened, IsAsBefore, IsInside, IsReady, IsUnder, holds_of};
+
+use crate::holding::{acquire, release};
+use crate::locks::Spin;
+use atomic_table::Seat as Place;
+use lk_domain::{Cpu, Domain};
+use std::sync::Wait;
+
+/// A spinlock that is held, and the way to its value. When this is dropped the value is home, and the
+/// lock is free.
+pub struct Held<'a, T, R> {
+    pub(crate) cpu: &'a mut Cpu,
+    pub(crate) domain: &'a Domain,
+    pub(crate) rt: &'a R,
+    pub(crate) spin: &'a Spin<T>,
+    // The cell of the value, which is open.
+    pub(crate) place: Place<T, bool>,
+}
+
+impl<'a, T, R: Wait> Held<'a, T, R> {
+    /// Takes the lock, until what this gives is dropped. It waits for the lock, so the processor may
+    /// not hold it.
+    pub fn lock(
+        rt: &'a R,
+        domain: &'a Domain,
+        cpu: &'a mut Cpu,
+        spin: &'a Spin<T>,
+    ) -> Held<'a, T, R>
+        requires ready { IsReady domain.now cpu.old }
+        requires lock { IsUnder domain.now.plan spinning spin.now.id.index
+            spin.now.cell.table.shared.table_id }
+        requires free { holds_in (holds_of cpu.old) spin.now.id.index ≡ false }
+        ensures name { result.cpu.ghost_name ≡ cpu.entry.ghost_name }
+        ensures same { (result.domain.now ≡ domain.now) × (result.spin.now ≡ spin.now) }
+        ensures ready { IsReady domain.now result.cpu.now }
+        ensures inside { IsInside result.spin.now.id.index Spins cpu.old result.cpu.now }
+        ensures open { HasOpened result.spin.now.cell.table.shared.table_id result.place }
+    {
+        let key = acquire(cpu, rt, domain, spin.id);
+        Held {
+            place: spin.cell.open(key),
+            cpu,
+            domain,
+            rt,
+            spin,
+        }
+    }
+
+    /// Takes another lock inside this one, works on its value, and frees it.
+    pub fn with<S, U, W: FnOnce(&mut S) -> U>(&mut self, spin: &Spin<S>, work: W) -> U
+        requires ready { IsReady self.old.domain.now self.old.cpu.now }
+        requires lock { IsUnder self.old.domain.now.plan spinning spin.now.id.index
+            spin.now.cell.table.shared.table_id }
+        requires free { holds_in (holds_of self.old.cpu.now) spin.now.id.index ≡ false }
+        requires callable { W.IsAlwaysCallable work }
+        ensures name { self.new.cpu.ghost_name ≡ self.old.cpu.ghost_name }
+        ensures same { (self.new.domain.now ≡ self.old.domain.now)
+            × (self.new.spin.now ≡ self.old.spin.now) }
+        ensures open { HasOpened self.old.spin.now.cell.table.shared.table_id self.old.place
+            → HasOpened self.new.spin.now.cell.table.shared.table_id self.new.place }
+        ensures ready { IsReady self.new.domain.now self.new.cpu.now }
+        ensures inside { (before : Cpu) → IsInside self.old.spin.now.id.index Spins before
+            self.old.cpu.now → IsInside self.new.spin.now.id.index Spins before self.new.cpu.now }
+        ensures done { (x : S) × (y : S) × FnOnceReturnsAtMut W.FnOnce work x result y }
+    {
+        let key = acquire(self.cpu, self.rt, self.domain, spin.id);
+        let (done, key) = spin.cell.with(key, work);
+        release(self.cpu, self.domain, spin.id, key);
+        done
+    }
+}
+
+impl<'a, T, R> Held<'a, T, R> {
+    ghost use Rattle.lk_lock.specs.Lending.{LendsValue};
+
+    /// The value. Nobody else reaches it while the lock is held.
+    pub fn value(&mut self) -> &mut T
+        requires open { HasOpened self.old.spin.now.cell.table.shared.table_id self.old.place }
+        ensures* writes_back { sem 𝓛 (LendsValue T.row R.row self.entry result) }
+    {
+        let spin = self.spin;
+        self.place.slot_mut(&spin.cell.table.shared, 0)
+    }
+}
+
+impl<'a, T, R> Drop for Held<'a, T, R> {
+    fn drop(self)
+        requires ready { IsReady self.domain.now self.cpu.now }
+        requires lock { IsUnder self.domain.now.plan spinning self.spin.now.id.index
+            self.spin.now.cell.table.shared.table_id }
+        requires inside { (before : Cpu) × IsInside self.spin.now.id.index Spins before
+            self.cpu.now }
+        requires open { HasOpened self.spin.now.cell.table.shared.table_id self.place }
+        ensures ready { IsReady self.entry.domain.now self.exit.0.now }
+        ensures before { (before : Cpu) → IsInside self.entry.spin.now.id.index Spins before
+            self.entry.cpu.now → IsAsBefore before self.exit.0.now }
+    {
+        let Held {
+            cpu,
+            domain,
+            rt: _,
+            spin,
+            place,
+        } = self;
+        let key = spin.cell.shut(place);
+        release(cpu, domain, spin.id, key);
+    }
+}

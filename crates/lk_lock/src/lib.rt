@@ -1,0 +1,17 @@
+//! Values under locks, as `Mutex<T>` has them: who holds the lock works on the value, and nobody else
+//! reaches it.
+//!
+//! [`Locks`] makes the locks one by one, each with its value: a [`Spin`] is a value under a spinlock, an
+//! [`Rw`] one under a reader-writer lock. [`Locks::open`] gives the domain in which they are, and a
+//! processor for each thread. A thread makes a [`Seat`] of its processor and calls [`Seat::with`].
+#![tactic(auto)]
+
+mod held;
+mod holding;
+mod locks;
+mod seat;
+mod writing;
+
+pub use held::Held;
+pub use locks::{Locks, Open, Rw, Spin};
+pub use seat::Seat;

@@ -1,0 +1,156 @@
+// The locks of a program, each with its value.
+ghost use Rattle.std.specs.Prelude.{◌≡◌, ◌+◌, ◌<◌, ◌≤◌, [], ◌∷◌, ◌++◌, IfOk, Some, length, false};
+ghost use Rattle.lk_abs.specs.declared.names.Kind.TheVariants.{Rw as shared, Spin as spinning};
+ghost use Rattle.lk_domain.specs.Ends.{AllRest};
+ghost use Rattle.lk_domain.specs.Values.{AreShut};
+ghost use Rattle.lk_law.specs.Agree.{halts};
+
+use lk_abs::{Format, Kind, List, Memory, Mode, Topology};
+use lk_cell::{Any, Key, KeyCell};
+use lk_domain::{Cpu, Domain, LockId, Plan};
+use std::alloc::Global;
+
+/// A value under a spinlock.
+#[derive(Drop)]
+pub struct Spin<T> {
+    pub(crate) id: LockId,
+    pub(crate) cell: KeyCell<T, Any>,
+}
+
+/// A value under a reader-writer lock.
+#[derive(Drop)]
+pub struct Rw<T> {
+    pub(crate) id: LockId,
+    pub(crate) cell: KeyCell<T, Any>,
+}
+
+// The most locks of a domain.
+const MOST: usize = 32;
+
+// The most handoffs that may pass a moved waiter, in mode `cna`.
+const THRESHOLD: u32 = 16;
+
+/// Locks to be made, at most 32.
+#[derive(Drop)]
+pub struct Locks {
+    alloc: Global,
+    kinds: List<Kind>,
+    keys: List<Option<Key>>,
+    ghost many: { length keys.items ≡ length kinds.items },
+    ghost few: { length kinds.items ≤ 32 },
+    ghost rooms: { (kinds.room ≡ 32) × (keys.room ≡ 32) },
+    ghost shut: { AreShut keys.items },
+}
+
+/// Locks, in the domain where threads take them, and a processor for each thread.
+#[derive(Drop)]
+pub struct Open {
+    pub domain: Domain,
+    pub cpus: List<Cpu>,
+}
+
+impl Locks {
+    ghost use Rattle.lk_lock.specs.Made.{AreMade, IsAmong, Keeps};
+
+    /// None yet.
+    ///
+    /// # Errors
+    ///
+    /// There is not enough memory.
+    pub fn new(alloc: Global) -> Result<Locks, Memory>
+        ensures { IfOk result (λ locks. locks.kinds.items ≡ []) }
+    {
+        let kinds = List::new(alloc, MOST)?;
+        let keys = List::new(alloc, MOST)?;
+        Ok(Locks { alloc, kinds, keys })
+    }
+
+    /// How many there are.
+    pub fn count(&self) -> usize
+        ensures { result ≡ length self.now.kinds.items }
+    {
+        self.kinds.len()
+    }
+
+    // One more, whose value lies in the cell of this key.
+    fn add(&mut self, kind: Kind, key: Key) -> LockId
+        requires room { length self.old.kinds.items < 32 }
+        requires shut { key.views ≡ false ∷ [] }
+        ensures kinds { self.new.kinds.items ≡ self.old.kinds.items ++ kind ∷ [] }
+        ensures keys { self.new.keys.items ≡ self.old.keys.items ++ Some key ∷ [] }
+        ensures id { result.index ≡ length self.old.kinds.items }
+    {
+        let index = self.kinds.len() as u32;
+        self.kinds.push(kind);
+        self.keys.push(Some(key));
+        LockId { index }
+    }
+
+    /// One spinlock more, and what lies under it.
+    ///
+    /// # Errors
+    ///
+    /// There is not enough memory. The value is gone.
+    pub fn spin<T: Drop>(&mut self, value: T) -> Result<Spin<T>, Memory>
+        requires room { length self.old.kinds.items < 32 }
+        ensures kept { Keeps self.old self.new }
+        ensures made { IfOk result (λ spin. IsAmong self.new spinning spin.id.index
+            spin.cell.table.shared.table_id) }
+        ensures number { IfOk result (λ spin. spin.id.index ≡ length self.old.kinds.items) }
+        ensures count { IfOk result (λ _. length self.new.kinds.items
+            ≡ length self.old.kinds.items + 1) }
+    {
+        let (cell, key) = KeyCell::new(self.alloc, value)?;
+        let id = self.add(Kind::Spin, key);
+        Ok(Spin { id, cell })
+    }
+
+    /// One reader-writer lock more, and what lies under it.
+    ///
+    /// # Errors
+    ///
+    /// There is not enough memory. The value is gone.
+    pub fn rw<T: Drop>(&mut self, value: T) -> Result<Rw<T>, Memory>
+        requires room { length self.old.kinds.items < 32 }
+        ensures kept { Keeps self.old self.new }
+        ensures made { IfOk result (λ rw. IsAmong self.new shared rw.id.index
+            rw.cell.table.shared.table_id) }
+        ensures number { IfOk result (λ rw. rw.id.index ≡ length self.old.kinds.items) }
+        ensures count { IfOk result (λ _. length self.new.kinds.items
+            ≡ length self.old.kinds.items + 1) }
+    {
+        let (cell, key) = KeyCell::new(self.alloc, value)?;
+        let id = self.add(Kind::Rw, key);
+        Ok(Rw { id, cell })
+    }
+
+    /// The locks, all of one family, and so many processors. There is one lock at least.
+    ///
+    /// # Errors
+    ///
+    /// There is not enough memory. No value comes back.
+    pub fn open(self, mode: Mode, threads: u32) -> Result<Open, Memory>
+        requires some { 0 < length self.kinds.items }
+        requires threads { (0 < threads) × (threads ≤ 64) }
+        requires awake { halts mode ≡ false }
+        ensures made { IfOk result (λ all. AreMade self all.domain.plan) }
+        ensures many { IfOk result (λ all. length all.cpus.items ≡ threads) }
+        ensures rest { IfOk result (λ all. AllRest all.domain all.cpus.items) }
+    {
+        let Locks { alloc, kinds, keys } = self;
+        let plan = Plan {
+            format: Format::One,
+            mode,
+            topology: Topology {
+                sockets: List::filled(alloc, 0, threads as usize)?,
+            },
+            threshold: THRESHOLD,
+            locks: kinds,
+            balances: List::new(alloc, 0)?,
+            shares: List::filled(alloc, 0, threads as usize)?,
+            cells: None,
+        };
+        let (domain, cpus) = Domain::with_values(alloc, &plan, keys)?;
+        Ok(Open { domain, cpus })
+    }
+}

@@ -1,0 +1,92 @@
+// A processor of a domain, as a thread uses it.
+ghost use Rattle.std.specs.Prelude.{◌≡◌, false};
+ghost use Rattle.std.specs.Fn.{FnOnceReturnsAtMut};
+ghost use Rattle.lk_abs.specs.declared.holder.Manner.TheVariants.{Spins};
+ghost use Rattle.lk_abs.specs.declared.names.Kind.TheVariants.{Spin as spinning, Rw as shared};
+ghost use Rattle.lk_domain.specs.Calls.{holds_in, terms_of};
+ghost use Rattle.lk_domain.specs.Seats.{calls_of};
+ghost use Rattle.lk_lock.specs.Standing.{HasTurned, HasWritten, IsAsBefore, IsReady, IsUnder, holds_of};
+ghost use Rattle.lk_machine.specs.declared.setup.Verb.TheVariants.{Lock, Write};
+
+use crate::holding::{acquire, release};
+use crate::locks::{Rw, Spin};
+use crate::writing::{enter, leave};
+use lk_domain::{Cpu, Domain};
+use std::sync::Wait;
+
+/// The right of a thread to take the locks of a domain.
+#[derive(Drop)]
+pub struct Seat<'a, R> {
+    pub(crate) cpu: &'a mut Cpu,
+    pub(crate) domain: &'a Domain,
+    pub(crate) rt: &'a R,
+    ghost ready: { IsReady domain.now cpu.now },
+}
+
+impl<'a, R: Wait> Seat<'a, R> {
+    /// The seat of a processor, which is in no call.
+    pub fn new(rt: &'a R, domain: &'a Domain, cpu: &'a mut Cpu) -> Seat<'a, R>
+        requires ready { IsReady domain.now cpu.old }
+        ensures name { result.cpu.ghost_name ≡ cpu.entry.ghost_name }
+        ensures cpu { result.cpu.now ≡ cpu.old }
+        ensures domain { result.domain.now ≡ domain.now }
+    {
+        Seat { cpu, domain, rt }
+    }
+
+    /// Whether its processor holds the lock. Then it may not take it.
+    pub fn holds<T>(&self, spin: &Spin<T>) -> bool
+        ensures { result ≡ holds_in (holds_of self.now.cpu.now) spin.now.id.index }
+    {
+        self.cpu.holds(spin.id)
+    }
+
+    /// Whether its processor holds the reader-writer lock.
+    pub fn holds_rw<T>(&self, rw: &Rw<T>) -> bool
+        ensures { result ≡ holds_in (holds_of self.now.cpu.now) rw.now.id.index }
+    {
+        self.cpu.holds(rw.id)
+    }
+
+    /// Takes the lock, works on its value, and frees the lock. It waits for the lock, so the processor
+    /// may not hold it.
+    ///
+    /// When it returns, `work` was called once, on the value; the lock was taken by a path of the rows,
+    /// and is free; and the processor holds what it held.
+    pub fn with<T, U, W: FnOnce(&mut T) -> U>(&mut self, spin: &Spin<T>, work: W) -> U
+        requires lock { IsUnder self.old.domain.now.plan spinning spin.now.id.index
+            spin.now.cell.table.shared.table_id }
+        requires free { holds_in (holds_of self.old.cpu.now) spin.now.id.index ≡ false }
+        requires callable { W.IsAlwaysCallable work }
+        ensures name { self.new.cpu.ghost_name ≡ self.old.cpu.ghost_name }
+        ensures domain { self.new.domain.now ≡ self.old.domain.now }
+        ensures before { IsAsBefore self.old.cpu.now self.new.cpu.now }
+        ensures path { HasTurned (terms_of self.old.domain.now.plan) self.old.cpu.now.number Lock
+            spin.now.id.index (calls_of self.old.cpu.now) (calls_of self.new.cpu.now) }
+        ensures done { (x : T) × (y : T) × FnOnceReturnsAtMut W.FnOnce work x result y }
+    {
+        let key = acquire(self.cpu, self.rt, self.domain, spin.id);
+        let (done, key) = spin.cell.with(key, work);
+        release(self.cpu, self.domain, spin.id, key);
+        done
+    }
+
+    /// The same under a reader-writer lock, as its writer.
+    pub fn write<T, U, W: FnOnce(&mut T) -> U>(&mut self, rw: &Rw<T>, work: W) -> U
+        requires lock { IsUnder self.old.domain.now.plan shared rw.now.id.index
+            rw.now.cell.table.shared.table_id }
+        requires free { holds_in (holds_of self.old.cpu.now) rw.now.id.index ≡ false }
+        requires callable { W.IsAlwaysCallable work }
+        ensures name { self.new.cpu.ghost_name ≡ self.old.cpu.ghost_name }
+        ensures domain { self.new.domain.now ≡ self.old.domain.now }
+        ensures before { IsAsBefore self.old.cpu.now self.new.cpu.now }
+        ensures path { HasWritten (terms_of self.old.domain.now.plan) self.old.cpu.now.number Write
+            rw.now.id.index (calls_of self.old.cpu.now) (calls_of self.new.cpu.now) }
+        ensures done { (x : T) × (y : T) × FnOnceReturnsAtMut W.FnOnce work x result y }
+    {
+        let key = enter(self.cpu, self.rt, self.domain, rw.id);
+        let (done, key) = rw.cell.with(key, work);
+        leave(self.cpu, self.domain, rw.id, key);
+        done
+    }
+}
