@@ -3,6 +3,8 @@ from collections import defaultdict
 
 MOST_LINES = 500
 MOST_ENTRIES = 40
+# A folder in which a reader finds the way by a page: docs/ARCHITECTURE.md has the crates by layer.
+MOST_WITH_A_PAGE = {"crates": 48}
 # What has no lines.
 PICTURES = (".png",)
 
@@ -17,5 +19,6 @@ def failures(sources):
         for depth in range(len(parts)):
             entries["/".join(parts[:depth])].add(parts[depth])
     for folder, inside in sorted(entries.items()):
-        if len(inside) > MOST_ENTRIES:
-            yield f"{folder or '.'}: {len(inside)} entries, of {MOST_ENTRIES} at most"
+        most = MOST_WITH_A_PAGE.get(folder, MOST_ENTRIES)
+        if len(inside) > most:
+            yield f"{folder or '.'}: {len(inside)} entries, of {most} at most"
