@@ -1,8 +1,10 @@
 -- What an auditor keeps, and what a line comes to.
-use Rattle.std.specs.Prelude.{◌≡◌, ℕ, ◌*◌, ◌≤◌, true, List, Result, Ok, Err, length}
+use Rattle.std.specs.Prelude.{◌≡◌, ℕ, ◌*◌, ◌≤◌, true, List, OnOk, Option, Result, Ok, Err, length}
 use Rattle.lk_abs.specs.Judge.{taken_by, HasTaken}
 use Rattle.lk_abs.specs.declared.events.Breach.{Breach}
 use Rattle.lk_abs.specs.declared.events.Event.{Event}
+use Rattle.lk_text.specs.Reader.{GaveLine, lines_given}
+use Rattle.lk_text.specs.declared.reader.LineReader.{LineReader}
 use Rattle.lk_forms.specs.Grammar.{has_go}
 use Rattle.lk_forms.specs.declared.limits.TheConstants.{MAX_ACTS}
 use Rattle.lk_forms.specs.declared.answers.LineRefusal.TheVariants.{Bad}
@@ -62,3 +64,11 @@ LineMeans a said line number (Err (fault.BadInput n why)) =
 LineMeans a said line number (Err (fault.Breach n name)) =
     (n ≡ number) × ((breach : Breach) × (name ≡ name_of breach) × Breaks said line breach)
 LineMeans a said line number (Err why) = ⊥
+
+-- The auditor was old before the line that the reader gave, and is new behind it; and this came of it.
+pub record HasJudged {T : Type 0} (old new : Auditor) (reader reader' : LineReader)
+    (left left' : Option (List ℕ)) (done : Result T AuditFault) : Type 0 where
+  pub line : List ℕ
+  pub gave : GaveLine reader reader' left left' line
+  pub means : (said : Said) → Shows old said → LineMeans new said line (lines_given reader') done
+  pub goes_on : OnOk done (CanGoOn new)

@@ -7,7 +7,7 @@ mod answers;
 mod auditor;
 mod faults;
 mod header;
-mod reading;
+mod history;
 mod verdict;
 
 pub use answers::AuditFault;

@@ -14,7 +14,7 @@ ghost use Rattle.lk_audit.specs.Outcome.{Outcome, refused_fault};
 use crate::answers::AuditFault;
 use crate::auditor::Auditor;
 use crate::header::read_header;
-use crate::reading::read_on;
+use crate::history::read_on;
 use lk_audit_forms::{breach_line, lawful_line};
 use lk_forms::HeaderReader;
 use lk_text::{LineReader, Sink, Source, put};

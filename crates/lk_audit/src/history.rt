@@ -1,8 +1,7 @@
 // The lines behind the header, read and judged one by one.
 ghost use Rattle.std.specs.Prelude.{◌≡◌, ◌≤◌, ◌<◌, ℕ, List, Option, IfOk, IfErr, IfSome, OnOk, Ok, None, true, false};
-ghost use Rattle.lk_text.specs.Reader.{kept, looked_at, lines_given, is_ended, GaveLine, MetEnd, GaveFault};
-ghost use Rattle.lk_audit_forms.specs.Grammar.{Said};
-ghost use Rattle.lk_audit.specs.Auditor.{CanGoOn, Shows, LineMeans};
+ghost use Rattle.lk_text.specs.Reader.{looked_at, is_ended, MetEnd, GaveFault};
+ghost use Rattle.lk_audit.specs.Auditor.{CanGoOn, HasJudged};
 ghost use Rattle.lk_audit.specs.Stands.{StandsBefore, TurnsTo, StopsAt};
 
 use crate::answers::AuditFault;
@@ -17,11 +16,8 @@ fn next_line<S: Source>(
     source: &mut S,
 ) -> Result<Option<Result<(), AuditFault>>, LineFault>
     requires { CanGoOn auditor.old }
-    ensures given { IfOk result (λ given. IfSome given (λ done. (line : List ℕ)
-        × GaveLine reader.old reader.new (S.left source.old) (S.left source.new) line
-        × ((said : Said) → Shows auditor.old said
-        → LineMeans auditor.new said line (lines_given reader.new) done)
-        × OnOk done (CanGoOn auditor.new))) }
+    ensures given { IfOk result (λ given. IfSome given (HasJudged auditor.old auditor.new reader.old
+        reader.new (S.left source.old) (S.left source.new))) }
     ensures end { result ≡ Ok None
         → MetEnd reader.old reader.new (S.left source.old) (S.left source.new)
         × (auditor.new ≡ auditor.old) }

@@ -1,6 +1,6 @@
 use Rattle.std.proofs.Common.{arith}
 use Rattle.lk_audit.proofs.Turns.{stops_sooner}
-use Rattle.lk_audit.proofs.reading.read_on.Goals as goal
+use Rattle.lk_audit.proofs.history.read_on.Goals as goal
 
 pub lines-preserved : goal.lines-preserved
 lines-preserved g c =

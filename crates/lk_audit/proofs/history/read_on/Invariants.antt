@@ -2,7 +2,7 @@ use Rattle.std.proofs.Common.{◌≡◌, ◌≤◌, ◌-◌, ◌^◌, List, ℕ,
 use Rattle.lk_text.specs.Reader.{looked_at}
 use Rattle.lk_audit.specs.Auditor.{CanGoOn}
 use Rattle.lk_audit.specs.Stands.{StandsBefore}
-use Rattle.lk_audit.proofs.reading.read_on.Given as goal
+use Rattle.lk_audit.proofs.history.read_on.Given as goal
 
 abbrev pub invariant-lines : goal.invariant-lines
 invariant-lines g l = record {
