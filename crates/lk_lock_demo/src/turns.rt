@@ -1,0 +1,70 @@
+// What each thread does: it draws a number under one lock, and puts it into the queue under the other.
+ghost use Rattle.std.specs.Prelude.{◌≡◌, ◌≢◌, length};
+ghost use Rattle.lk_abs.specs.declared.names.Kind.TheVariants.{Spin as spinning};
+ghost use Rattle.lk_domain.specs.Ends.{AllRest, Rests};
+ghost use Rattle.lk_lock.specs.Standing.{IsUnder};
+
+use lk_abs::List;
+use lk_domain::{Cpu, Domain};
+use lk_lock::{Held, Spin};
+use std::sync::Wait;
+use std::thread;
+use std::thread::Threads;
+
+// How many numbers each thread draws.
+const TURNS: u32 = 1000;
+
+/// What the threads share: a counter and a queue, each under a lock of its own.
+#[derive(Drop)]
+pub struct Shop<'a> {
+    pub domain: &'a Domain,
+    pub count: &'a Spin<u64>,
+    pub queue: &'a Spin<Vec<u64>>,
+    ghost counts: { IsUnder domain.now.plan spinning count.now.id.index
+        count.now.cell.table.shared.table_id },
+    ghost queues: { IsUnder domain.now.plan spinning queue.now.id.index
+        queue.now.cell.table.shared.table_id },
+    ghost apart: { count.now.id.index ≢ queue.now.id.index },
+}
+
+// One number.
+fn take_turn<R: Wait>(rt: &R, cpu: &mut Cpu, shop: &Shop<'_>)
+    requires rests { Rests shop.now.domain.now cpu.old.number cpu.old }
+    ensures number { cpu.new.number ≡ cpu.old.number }
+    ensures rests { Rests shop.now.domain.now cpu.old.number cpu.new }
+{
+    let mut held = Held::lock(rt, shop.domain, cpu, shop.queue);
+    let number = held.with(shop.count, |count: &mut u64| -> u64 {
+        *count = count.wrapping_add(1);
+        *count
+    });
+    // The queue has room for all numbers, so this takes no memory.
+    let _ = held.value().push(number);
+}
+
+// All turns of a thread.
+fn take_turns<R: Wait>(rt: &R, cpu: &mut Cpu, shop: &Shop<'_>)
+    requires rests { Rests shop.now.domain.now cpu.old.number cpu.old }
+    ensures rests { Rests shop.now.domain.now cpu.old.number cpu.new }
+{
+    for _ in 0..TURNS {
+        take_turn(rt, cpu, shop);
+    }
+}
+
+/// All threads take their turns, each with a processor.
+pub fn take_all_turns<R: Threads + Wait + Sync>(rt: &R, cpus: &mut List<Cpu>, shop: &Shop<'_>)
+    requires rest { AllRest shop.now.domain.now cpus.old.items }
+    ensures all { length cpus.new.items ≡ length cpus.old.items }
+    ensures rest { AllRest shop.now.domain.now cpus.new.items }
+{
+    let threads = cpus.len();
+    if threads > 0 {
+        thread::for_each_mut(
+            rt,
+            cpus.as_mut_slice(),
+            threads,
+            &|_, cpu| { take_turns(rt, cpu, shop) },
+        );
+    }
+}
