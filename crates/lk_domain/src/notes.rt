@@ -84,6 +84,7 @@ impl Notes {
     }
 
     // The call for the lock, which waited or waits, has made a row.
+    #[cold]
     #[inline(never)]
     fn step_waiting(&mut self, lock: u32, waits: bool, slow: bool, taken: bool)
         requires lock { lock < 32 }

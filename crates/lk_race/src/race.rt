@@ -58,21 +58,9 @@ fn take_turns<R: Wait>(cpu: &mut Cpu, rt: &R, domain: &Domain, numbers: &Numbers
     }
 }
 
-// A turn as a reader, beside other readers.
-fn read_turn<R: Wait>(cpu: &mut Cpu, rt: &R, domain: &Domain, numbers: &Numbers, work: u16)
-    requires one { locks_of domain.now.plan ≡ 1 }
-    requires kind { kind_at domain.now.plan 0 ≡ Rw }
-    requires rests { Rests domain.now cpu.old.number cpu.old }
-    ensures number { cpu.new.number ≡ cpu.old.number }
-    ensures rests { Rests domain.now cpu.old.number cpu.new }
-{
-    read_lock(cpu, rt, domain, LOCK, &mut NoIrq);
-    numbers.compare(work);
-    read_unlock(cpu, domain, LOCK);
-}
-
 // A turn as the writer. It is one in a hundred, and has a function of its own, to keep the code of
 // the others short.
+#[cold]
 #[inline(never)]
 fn write_turn<R: Wait>(cpu: &mut Cpu, rt: &R, domain: &Domain, numbers: &Numbers, work: u16)
     requires one { locks_of domain.now.plan ≡ 1 }
@@ -96,8 +84,10 @@ fn share_turns<R: Wait>(cpu: &mut Cpu, rt: &R, domain: &Domain, numbers: &Number
 {
     let work = race.course.work;
     for turn in 0..race.course.turns {
-        if turn % HUNDRED < HUNDRED - 1 {
-            read_turn(cpu, rt, domain, numbers, work);
+        if turn % HUNDRED != HUNDRED - 1 {
+            read_lock(cpu, rt, domain, LOCK, &mut NoIrq);
+            numbers.compare(work);
+            read_unlock(cpu, domain, LOCK);
         } else {
             write_turn(cpu, rt, domain, numbers, work);
         }

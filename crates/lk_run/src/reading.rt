@@ -82,6 +82,7 @@ fn first(cpu: &mut Cpu, domain: &Domain, lock: LockName) -> bool
 
 // From the place to which the first row led that found no way in: one that has interrupted another
 // call does not queue behind a writer that may wait for the call below it.
+#[cold]
 #[inline(never)]
 fn read_slowpath<I: Irq, R: Wait>(cpu: &mut Cpu, rt: &R, domain: &Domain, lock: LockId, irq: &mut I)
     requires domain { IsOf cpu.old domain.now }

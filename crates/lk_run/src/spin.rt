@@ -49,6 +49,7 @@ struct Busy {
 
 // From the place to which the first row led. It is out of the way of a call that takes a free lock,
 // which builds no `Call`.
+#[cold]
 #[inline(never)]
 fn lock_slowpath<I: Irq, R: Wait>(cpu: &mut Cpu, rt: &R, domain: &Domain, busy: Busy, irq: &mut I)
     requires domain { IsOf cpu.old domain.now }

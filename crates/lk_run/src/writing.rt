@@ -89,6 +89,7 @@ fn first(cpu: &mut Cpu, domain: &Domain, lock: LockName) -> bool
 }
 
 // From F1: the first row met a word that was not (0, 0, 0).
+#[cold]
 #[inline(never)]
 fn write_slowpath<I: Irq, R: Wait>(
     cpu: &mut Cpu,
