@@ -1,7 +1,7 @@
 #!/usr/bin/env python3
 """ledger_check.py FILE OUTCOME
 ledger_check.py --examples FOLDER
-ledger_check.py --random N [--seed S] PROGRAM [WORD ...]
+ledger_check.py --random N [--seed S] [--mode MODE] PROGRAM [WORD ...]
 ledger_check.py --self-test [N] [--seed S]
 
 Judges the outcome of a job file by the two texts alone: every worker's writes stand in the journal in the order of its lines, each
@@ -9,7 +9,8 @@ once; each reply is that of one thread which does the journal's jobs in turn; ea
 entries as it says it saw, and it saw all that its worker wrote before it, nothing that it wrote after it, and no less than its
 worker's read before; and the closing balances and numbers are right. Any interleaving of the workers may come.
 
-With --examples it judges the outcome NAME.outcome of each job file NAME.qjobs of a folder. With --random it makes N job files, gives each to PROGRAM WORD ... on standard input, and judges what that writes. The self-test
+With --examples it judges the outcome NAME.outcome of each job file NAME.qjobs of a folder. With --random it makes N job files, gives each to PROGRAM WORD ... on standard input, and judges what that
+writes. They are of mode `virt`, `native` or `cna`, or with --mode of that mode alone; `pv` has spinlocks alone. The self-test
 judges the outcomes of a reference in Python, one thread that draws whose turn it is, and then those outcomes with one thing
 changed, which have to be refused.
 """
@@ -271,9 +272,11 @@ def self_test(draw, count):
     print(f"{count} outcomes accepted, {refused} spoiled ones refused")
 
 
-def run_random(draw, count, command):
+def run_random(draw, count, mode, command):
+    kinds = {"guards": ("spin",)} if mode == "pv" else {}
+    kinds |= {"modes": (mode,)} if mode else {}
     for done in range(count):
-        text = draw_file(draw)
+        text = draw_file(draw, **kinds)
         run = subprocess.run(command, input=text, capture_output=True, text=True)
         try:
             if run.returncode or run.stderr:
@@ -281,7 +284,7 @@ def run_random(draw, count, command):
             judge(JobFile.of(text), run.stdout)
         except Wrong as wrong:
             sys.exit(f"ledger_check: after {done} job files: {wrong}\n{text}")
-    print(f"{count} job files")
+    print(f"{count} job files, judged right")
 
 
 def judge_files(file, outcome):
@@ -292,7 +295,7 @@ def judge_files(file, outcome):
 
 
 def main(words):
-    seed, options = 1, {}
+    seed, mode, options = 1, None, {}
     if words[:1] in (["-h"], ["--help"]):
         return print(__doc__.strip())
     if words[:1] == ["--examples"] and len(words) == 2:
@@ -303,6 +306,8 @@ def main(words):
         option = words.pop(0)
         if option == "--seed" and words:
             seed = int(words.pop(0))
+        elif option == "--mode" and words:
+            mode = words.pop(0)
         elif option in ("--random", "--self-test"):
             options[option] = int(words.pop(0)) if words and words[0].isdigit() else 300
         else:
@@ -311,7 +316,7 @@ def main(words):
     if "--self-test" in options and not words:
         return self_test(draw, options["--self-test"])
     if "--random" in options and words:
-        return run_random(draw, options["--random"], words)
+        return run_random(draw, options["--random"], mode, words)
     if options or len(words) != 2:
         sys.exit(__doc__)
     judge_files(Path(words[0]), Path(words[1]))
