@@ -14,7 +14,7 @@ use crate::view::View;
 use atomic_table::Table;
 use lk_abs::{Format, Kind, LockName, Mode};
 use lk_machine::Flag;
-use lk_word::{Layout, NodeName};
+use lk_word::{Layout, MARK, NodeName};
 use std::alloc::Global;
 
 /// Locks that threads acquire, and a ledger that they guard.
@@ -138,10 +138,7 @@ impl Domain {
     pub(crate) fn tail_unit(&self) -> u64
         ensures { result ≡ index_unit (layout_in self.now.plan) }
     {
-        match self.plan.format {
-            Format::One => 65_536,
-            Format::Two => 512,
-        }
+        lk_word::tail_unit(self.layout())
     }
 
     // The number of the word of a free lock with this node as the tail.
@@ -149,12 +146,7 @@ impl Domain {
         requires { IsNode self.now.plan node }
         ensures { result ≡ tail_number (layout_in self.now.plan) (Some node) }
     {
-        prove!(self.plan.topology.sockets.len() <= 64);
-        let (index, cpu) = (node.index as u64, node.cpu as u64);
-        match self.plan.format {
-            Format::One => 65_536 * index + 262_144 * (cpu + 1),
-            Format::Two => 512 * index + 2_048 * (cpu + 1),
-        }
+        lk_word::tail_number(self.layout(), node)
     }
 
     // The number of a flag.
@@ -176,7 +168,7 @@ impl Domain {
     {
         prove!(self.plan.topology.sockets.len() <= 64);
         let name = self.name_of(node);
-        if mark { 4_294_967_296 + name } else { name }
+        if mark { MARK + name } else { name }
     }
 
     // The number of a node.
@@ -185,6 +177,6 @@ impl Domain {
         ensures { result ≡ name_number node }
     {
         prove!(self.plan.topology.sockets.len() <= 64);
-        2 + (4 * node.cpu as u64 + node.index as u64)
+        lk_word::node_number(node)
     }
 }

@@ -18,7 +18,7 @@ use crate::domain::Domain;
 use crate::rule::{Exchanges, Locks, Tries, Unlocks, WordSteps};
 use lk_abs::LockName;
 use lk_machine::Verb;
-use lk_word::NodeName;
+use lk_word::{HELD, NodeName, PENDING};
 
 // Reads the word, by a call that goes on until it has the lock.
 pub(crate) fn look(seat: &mut Right, domain: &Domain, _verb: Verb, lock: LockName) -> u64
@@ -62,7 +62,7 @@ pub(crate) fn take_free(seat: &mut Right, domain: &Domain, lock: u32) -> u64
     let met = domain
         .table
         .shared
-        .compare_exchange::<Locks>(seat, word, 0, 1);
+        .compare_exchange::<Locks>(seat, word, 0, HELD);
     met
 }
 
@@ -79,7 +79,7 @@ pub(crate) fn take_once(seat: &mut Right, domain: &Domain, lock: u32) -> u64
     let met = domain
         .table
         .shared
-        .compare_exchange::<Tries>(seat, word, 0, 1);
+        .compare_exchange::<Tries>(seat, word, 0, HELD);
     met
 }
 
@@ -97,7 +97,7 @@ pub(crate) fn take_wait(seat: &mut Right, domain: &Domain, _verb: Verb, lock: Lo
     let met = domain
         .table
         .shared
-        .compare_exchange::<WordSteps>(seat, word, 0, 1);
+        .compare_exchange::<WordSteps>(seat, word, 0, HELD);
     met
 }
 
@@ -113,7 +113,7 @@ pub(crate) fn release(seat: &mut Right, domain: &Domain, lock: u32) -> u64
     ensures step { MadeBy Unlock lock seat.old.me result seat.new.me }
 {
     let word = domain.lock_word(lock);
-    let met = domain.table.shared.fetch_sub::<Unlocks>(seat, word, 1);
+    let met = domain.table.shared.fetch_sub::<Unlocks>(seat, word, HELD);
     met
 }
 
@@ -128,7 +128,7 @@ pub(crate) fn release_wait(seat: &mut Right, domain: &Domain, _verb: Verb, lock:
     ensures step { MadeBy _verb lock.index seat.old.me result seat.new.me }
 {
     let word = domain.word_of(lock);
-    let met = domain.table.shared.fetch_sub::<WordSteps>(seat, word, 1);
+    let met = domain.table.shared.fetch_sub::<WordSteps>(seat, word, HELD);
     met
 }
 
@@ -143,11 +143,14 @@ pub(crate) fn set_pending(seat: &mut Right, domain: &Domain, _verb: Verb, lock: 
     ensures step { MadeBy _verb lock.index seat.old.me result seat.new.me }
 {
     let word = domain.word_of(lock);
-    let met = domain.table.shared.fetch_or::<WordSteps>(seat, word, 256);
+    let met = domain
+        .table
+        .shared
+        .fetch_or::<WordSteps>(seat, word, PENDING);
     met
 }
 
-// Takes 256 off: the call has set pending, so that this clears it and leaves the rest.
+// Takes pending off: the call has set pending, so that this clears it and leaves the rest.
 pub(crate) fn clear_pending(seat: &mut Right, domain: &Domain, _verb: Verb, lock: LockName) -> u64
     requires table { seat.old.table_id ≡ domain.now.table.shared.table_id }
     requires lock { lock.index < locks_of domain.now.plan }
@@ -157,12 +160,15 @@ pub(crate) fn clear_pending(seat: &mut Right, domain: &Domain, _verb: Verb, lock
     ensures step { MadeBy _verb lock.index seat.old.me result seat.new.me }
 {
     let word = domain.word_of(lock);
-    let met = domain.table.shared.fetch_sub::<WordSteps>(seat, word, 256);
+    let met = domain
+        .table
+        .shared
+        .fetch_sub::<WordSteps>(seat, word, PENDING);
     met
 }
 
-// Takes 256 off and adds 1, in one step: the call has set pending and has seen the byte free,
-// which nobody else may take, so that this clears pending and holds the lock.
+// Takes pending off and makes the byte held, in one step: the call has set pending and has seen the byte
+// free, which nobody else may take, so that this clears pending and holds the lock.
 pub(crate) fn pending_to_locked(
     seat: &mut Right,
     domain: &Domain,
@@ -177,7 +183,10 @@ pub(crate) fn pending_to_locked(
     ensures step { MadeBy _verb lock.index seat.old.me result seat.new.me }
 {
     let word = domain.word_of(lock);
-    let met = domain.table.shared.fetch_sub::<WordSteps>(seat, word, 255);
+    let met = domain
+        .table
+        .shared
+        .fetch_sub::<WordSteps>(seat, word, PENDING - HELD);
     met
 }
 
@@ -192,7 +201,7 @@ pub(crate) fn set_locked(seat: &mut Right, domain: &Domain, _verb: Verb, lock: L
     ensures step { MadeBy _verb lock.index seat.old.me result seat.new.me }
 {
     let word = domain.word_of(lock);
-    let met = domain.table.shared.fetch_add::<WordSteps>(seat, word, 1);
+    let met = domain.table.shared.fetch_add::<WordSteps>(seat, word, HELD);
     met
 }
 

@@ -16,6 +16,7 @@ use crate::domain::Domain;
 use crate::rule::{
     ReadCalls, ReadUnlockCalls, TryReadCalls, TryWriteCalls, WriteCalls, WriteUnlockCalls,
 };
+use lk_word::{READER, WAITING, WRITER};
 
 // Reads the word, by a call of `read_lock`.
 pub(crate) fn watch_as_reader(seat: &mut Right, domain: &Domain, lock: u32) -> u64
@@ -83,7 +84,10 @@ pub(crate) fn join(seat: &mut Right, domain: &Domain, lock: u32) -> u64
     ensures step { SharedBy Read lock seat.old.me result seat.new.me }
 {
     let word = domain.lock_word(lock);
-    let met = domain.table.shared.fetch_add::<ReadCalls>(seat, word, 512);
+    let met = domain
+        .table
+        .shared
+        .fetch_add::<ReadCalls>(seat, word, READER);
     met
 }
 
@@ -100,7 +104,7 @@ pub(crate) fn join_once(seat: &mut Right, domain: &Domain, lock: u32) -> u64
     let met = domain
         .table
         .shared
-        .fetch_add::<TryReadCalls>(seat, word, 512);
+        .fetch_add::<TryReadCalls>(seat, word, READER);
     met
 }
 
@@ -114,7 +118,10 @@ pub(crate) fn quit(seat: &mut Right, domain: &Domain, lock: u32) -> u64
     ensures step { SharedBy Read lock seat.old.me result seat.new.me }
 {
     let word = domain.lock_word(lock);
-    let met = domain.table.shared.fetch_sub::<ReadCalls>(seat, word, 512);
+    let met = domain
+        .table
+        .shared
+        .fetch_sub::<ReadCalls>(seat, word, READER);
     met
 }
 
@@ -131,7 +138,7 @@ pub(crate) fn quit_once(seat: &mut Right, domain: &Domain, lock: u32) -> u64
     let met = domain
         .table
         .shared
-        .fetch_sub::<TryReadCalls>(seat, word, 512);
+        .fetch_sub::<TryReadCalls>(seat, word, READER);
     met
 }
 
@@ -148,7 +155,7 @@ pub(crate) fn leave_as_reader(seat: &mut Right, domain: &Domain, lock: u32) -> u
     let met = domain
         .table
         .shared
-        .fetch_sub::<ReadUnlockCalls>(seat, word, 512);
+        .fetch_sub::<ReadUnlockCalls>(seat, word, READER);
     met
 }
 
@@ -165,7 +172,7 @@ pub(crate) fn seize(seat: &mut Right, domain: &Domain, lock: u32) -> u64
     let met = domain
         .table
         .shared
-        .compare_exchange::<WriteCalls>(seat, word, 0, 255);
+        .compare_exchange::<WriteCalls>(seat, word, 0, WRITER);
     met
 }
 
@@ -182,7 +189,7 @@ pub(crate) fn seize_once(seat: &mut Right, domain: &Domain, lock: u32) -> u64
     let met = domain
         .table
         .shared
-        .compare_exchange::<TryWriteCalls>(seat, word, 0, 255);
+        .compare_exchange::<TryWriteCalls>(seat, word, 0, WRITER);
     met
 }
 
@@ -196,7 +203,10 @@ pub(crate) fn set_waiting(seat: &mut Right, domain: &Domain, lock: u32) -> u64
     ensures step { SharedBy Write lock seat.old.me result seat.new.me }
 {
     let word = domain.lock_word(lock);
-    let met = domain.table.shared.fetch_or::<WriteCalls>(seat, word, 256);
+    let met = domain
+        .table
+        .shared
+        .fetch_or::<WriteCalls>(seat, word, WAITING);
     met
 }
 
@@ -213,7 +223,7 @@ pub(crate) fn follow(seat: &mut Right, domain: &Domain, lock: u32) -> u64
     let met = domain
         .table
         .shared
-        .compare_exchange::<WriteCalls>(seat, word, 256, 255);
+        .compare_exchange::<WriteCalls>(seat, word, WAITING, WRITER);
     met
 }
 
@@ -232,6 +242,6 @@ pub(crate) fn leave_as_writer(seat: &mut Right, domain: &Domain, lock: u32) -> u
     let met = domain
         .table
         .shared
-        .fetch_sub::<WriteUnlockCalls>(seat, word, 255);
+        .fetch_sub::<WriteUnlockCalls>(seat, word, WRITER);
     met
 }

@@ -19,6 +19,7 @@ use crate::domain::Domain;
 use crate::rw_moves;
 use lk_abs::LockName;
 use lk_machine::Verb;
+use lk_word::{has_no_writer, has_only_waiting, lets_readers_in};
 
 // A look by the seat.
 fn seat_watches(seat: &mut Right, domain: &Domain, verb: Verb, lock: u32) -> u64
@@ -75,9 +76,9 @@ fn waits_after_watch(verb: Verb, alone: bool, met: u64) -> bool
     ensures { result ≡ watches_on alone verb met }
 {
     match verb {
-        Verb::Read => alone | (met % 256 != 0),
+        Verb::Read => alone | !has_no_writer(met),
         Verb::Write => true,
-        Verb::TryRead => met % 512 == 0,
+        Verb::TryRead => lets_readers_in(met),
         Verb::TryWrite => met == 0,
         _ => false,
     }
@@ -88,7 +89,7 @@ fn has_after_watch(verb: Verb, met: u64) -> bool
     ensures { result ≡ watch_takes verb met }
 {
     match verb {
-        Verb::Read => met % 256 == 0,
+        Verb::Read => has_no_writer(met),
         _ => false,
     }
 }
@@ -98,8 +99,8 @@ fn waits_after_join(verb: Verb, waits: bool, met: u64) -> bool
     ensures { result ≡ joins_on waits verb met }
 {
     match verb {
-        Verb::Read => waits | (met % 512 != 0),
-        _ => met % 512 != 0,
+        Verb::Read => waits | !lets_readers_in(met),
+        _ => !lets_readers_in(met),
     }
 }
 
@@ -108,8 +109,8 @@ fn has_after_join(verb: Verb, waits: bool, met: u64) -> bool
     ensures { result ≡ join_takes waits verb met }
 {
     match verb {
-        Verb::Read => !waits & (met % 512 == 0),
-        _ => met % 512 == 0,
+        Verb::Read => !waits & lets_readers_in(met),
+        _ => lets_readers_in(met),
     }
 }
 
@@ -157,7 +158,7 @@ pub fn join_first(cpu: &mut Cpu, domain: &Domain, verb: Verb, lock: LockName) ->
 {
     prove!(domain.plan.locks.len() <= 32);
     let met = rw_moves::join(&mut cpu.seat, domain, lock.index);
-    cpu.notes.first_step(lock.index, met % 512 == 0);
+    cpu.notes.first_step(lock.index, lets_readers_in(met));
     met
 }
 
@@ -305,7 +306,8 @@ pub fn waiting_to_writer(cpu: &mut Cpu, domain: &Domain, verb: Verb, lock: LockN
 {
     prove!(domain.plan.locks.len() <= 32);
     let met = rw_moves::follow(&mut cpu.seat, domain, lock.index);
-    cpu.notes.step(lock.index, true, false, met == 256);
+    cpu.notes
+        .step(lock.index, true, false, has_only_waiting(met));
     met
 }
 

@@ -17,7 +17,7 @@ use crate::{nodes, shared, states, tries, words};
 use crossbeam_utils::Backoff;
 use lk_domain::{Part, Right};
 use lk_machine::{Verb, is_unlocked};
-use lk_word::{Fields, NodeName};
+use lk_word::{Fields, NodeName, low_byte, without_low_byte};
 use std::sync::Wait;
 
 // The row G1, with the private stores before it.
@@ -85,8 +85,8 @@ fn swap<R: Wait>(
         → At domain.now Lock lock own s G4 (Owns own) seat.new }
 {
     let _ = (own, tailed);
-    let seen = words::guess(domain, lock) / 256 * 256;
-    if tries::steal(seat, rt, domain, lock, seen) % 256 == 0 {
+    let seen = without_low_byte(words::guess(domain, lock));
+    if low_byte(tries::steal(seat, rt, domain, lock, seen)) == 0 {
         return true;
     }
     false

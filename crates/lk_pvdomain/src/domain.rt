@@ -10,7 +10,7 @@ use atomic_table::Table;
 use lk_abs::Format;
 use lk_domain::{Order, Part, Plan, Slot, View};
 use lk_machine::State;
-use lk_word::{Layout, NodeName};
+use lk_word::{HELD, Layout, NodeName};
 use std::alloc::Global;
 
 /// Paravirtual locks that threads acquire, and a ledger that lock 0 guards.
@@ -77,10 +77,7 @@ impl PvDomain {
     pub(crate) fn tail_unit(&self) -> u64
         ensures { result ≡ index_unit (layout_in self.now.plan) }
     {
-        match self.plan.format {
-            Format::One => 65_536,
-            Format::Two => 512,
-        }
+        lk_word::tail_unit(self.layout())
     }
 
     // The number of the word of a free lock with this node as the tail.
@@ -88,12 +85,7 @@ impl PvDomain {
         requires { IsNode self.now.plan node }
         ensures { result ≡ tail_number (layout_in self.now.plan) (Some node) }
     {
-        prove!(self.plan.topology.sockets.len() <= 64);
-        let (index, cpu) = (node.index as u64, node.cpu as u64);
-        match self.plan.format {
-            Format::One => 65_536 * index + 262_144 * (cpu + 1),
-            Format::Two => 512 * index + 2_048 * (cpu + 1),
-        }
+        lk_word::tail_number(self.layout(), node)
     }
 
     // The number of the word of a held lock with this node as the tail, and nobody pending.
@@ -101,12 +93,7 @@ impl PvDomain {
         requires { IsNode self.now.plan node }
         ensures { result ≡ tail_number (layout_in self.now.plan) (Some node) + 1 }
     {
-        prove!(self.plan.topology.sockets.len() <= 64);
-        let (index, cpu) = (node.index as u64, node.cpu as u64);
-        match self.plan.format {
-            Format::One => 65_536 * index + 262_144 * (cpu + 1) + 1,
-            Format::Two => 512 * index + 2_048 * (cpu + 1) + 1,
-        }
+        self.tail_of(node) + HELD
     }
 
     // The number of a node.
@@ -115,7 +102,7 @@ impl PvDomain {
         ensures { result ≡ name_number node }
     {
         prove!(self.plan.topology.sockets.len() <= 64);
-        2 + (4 * node.cpu as u64 + node.index as u64)
+        lk_word::node_number(node)
     }
 
     // Where the words begin that only this family needs.

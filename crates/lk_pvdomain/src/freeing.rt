@@ -14,6 +14,7 @@ use crate::domain::PvDomain;
 use crate::{hash, kicks, tries, words};
 use lk_domain::Right;
 use lk_machine::Verb;
+use lk_word::{HELD, low_byte};
 use std::sync::Wait;
 
 // The row U2 where a first try met another word than that of a lock for which nobody waits, and U3 to
@@ -27,11 +28,11 @@ pub(crate) fn release<R: Wait>(seat: &mut Right, rt: &R, domain: &PvDomain, lock
     ensures freed { (own : NodeName) (s : Start) → HasTried domain.now lock own s met seat.old
         → Ended domain.now Unlock lock own s Frees seat.new }
 {
-    if met % 256 != 1 {
+    if low_byte(met) != HELD {
         wake_next(seat, domain, lock);
         return;
     }
-    if tries::release(seat, rt, domain, lock, met) % 256 == 1 {
+    if low_byte(tries::release(seat, rt, domain, lock, met)) == HELD {
         return;
     }
     wake_next(seat, domain, lock);

@@ -10,7 +10,7 @@ use crate::{hash, kicks, pacing, states, tries, words};
 use crossbeam_utils::Backoff;
 use lk_domain::Right;
 use lk_machine::{State, Verb};
-use lk_word::NodeName;
+use lk_word::{NodeName, SLOW, is_free_for_pending, low_byte};
 use std::sync::Wait;
 
 // The row E4, for as many turns as the spin bound says. Returns whether it acquired the lock.
@@ -35,7 +35,7 @@ fn head<R: Wait>(
     let backoff = Backoff::new();
     let mut left = domain.turns();
     for _ in rt.forever() {
-        if tries::head(seat, rt, domain, lock) % 512 == 256 {
+        if is_free_for_pending(tries::head(seat, rt, domain, lock)) {
             return true;
         }
         if left <= 1 {
@@ -59,7 +59,7 @@ fn enter<R: Wait>(seat: &mut Right, rt: &R, domain: &PvDomain, lock: u32, own: N
         → At domain.now Lock lock own s E10 (Leads own true) seat.new }
 {
     hash::put_in(seat, rt, domain, lock, own);
-    if words::slow(seat, domain, Verb::Lock, lock) % 256 != 0 {
+    if low_byte(words::slow(seat, domain, Verb::Lock, lock)) != 0 {
         return false;
     }
     words::win(seat, domain, Verb::Lock, lock);
@@ -74,7 +74,7 @@ fn nap<R: Wait>(seat: &mut Right, rt: &R, domain: &PvDomain, lock: u32, own: Nod
         → At domain.now Lock lock own s E2 (Leads own true) seat.new }
 {
     states::store_state(seat, domain, own, State::Hashed);
-    if words::look_word(seat, domain, Verb::Lock, lock) % 256 != 3 {
+    if low_byte(words::look_word(seat, domain, Verb::Lock, lock)) != SLOW {
         return;
     }
     kicks::halt(seat, domain, own.cpu);

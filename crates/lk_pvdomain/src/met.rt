@@ -10,7 +10,7 @@ ghost use Rattle.lk_domain.specs.Words.{IsNode, link_number, marked};
 
 use crate::domain::PvDomain;
 use lk_machine::is_tail;
-use lk_word::{Fields, Locked, NodeName, unpack};
+use lk_word::{Fields, LOWEST_NODE, Locked, MARK, NodeName, node_numbered, unpack};
 
 // The fields of a word that a step met.
 pub(crate) fn word_met(domain: &PvDomain, met: u64) -> Fields
@@ -32,14 +32,11 @@ pub(crate) fn node_met(domain: &PvDomain, met: u64) -> Option<NodeName>
     ensures { (node : Option NodeName) (mark : Bool) → IfSome node (IsNode domain.now.plan)
         → met ≡ marked mark (link_number node) → result ≡ node }
 {
-    let name = met % 4294967296;
-    if name < 2 {
+    let name = met % MARK;
+    if name < LOWEST_NODE {
         return None;
     }
-    Some(NodeName {
-        cpu: ((name - 2) / 4) as u32,
-        index: ((name - 2) % 4) as u32,
-    })
+    Some(node_numbered(name))
 }
 
 // Whether the word is that of a held lock whose queue ends with this node: nobody pends.

@@ -12,7 +12,7 @@ ghost use Rattle.lk_machine.specs.declared.setup.Verb.TheVariants.{Lock, Try};
 use crate::domain::PvDomain;
 use crate::rule::{Exchanges, Locks, TryCalls};
 use lk_domain::Right;
-use lk_word::NodeName;
+use lk_word::{HELD, NodeName};
 
 // Swaps the free word to the held one: the row F1, with which a call of `pv_lock` begins.
 pub(crate) fn take_free(seat: &mut Right, domain: &PvDomain, lock: u32) -> u64
@@ -27,7 +27,7 @@ pub(crate) fn take_free(seat: &mut Right, domain: &PvDomain, lock: u32) -> u64
     let met = domain
         .table
         .shared
-        .compare_exchange::<Locks>(seat, word, 0, 1);
+        .compare_exchange::<Locks>(seat, word, 0, HELD);
     met
 }
 
@@ -58,7 +58,7 @@ pub(crate) fn take_once(seat: &mut Right, domain: &PvDomain, lock: u32) -> u64
     let met = domain
         .table
         .shared
-        .compare_exchange::<TryCalls>(seat, word, 0, 1);
+        .compare_exchange::<TryCalls>(seat, word, 0, HELD);
     met
 }
 

@@ -13,6 +13,7 @@ ghost use Rattle.lk_pvdomain.specs.PvRows.{tries_release, tries_head, tries_stea
 use crate::domain::PvDomain;
 use crate::rule::{HeadTries, ReleaseTries, StealTries};
 use lk_domain::Right;
+use lk_word::{HELD, PENDING, is_free_for_pending, low_byte};
 use std::sync::Wait;
 
 // Swaps a held word to a free one: the row U2, with which a release begins, or no row.
@@ -65,7 +66,7 @@ pub(crate) fn try_head(seat: &mut Right, domain: &PvDomain, lock: u32, expected:
     let met = domain
         .table
         .shared
-        .compare_exchange::<HeadTries>(seat, word, expected, expected - 255);
+        .compare_exchange::<HeadTries>(seat, word, expected, expected - (PENDING - HELD));
     met
 }
 
@@ -110,7 +111,7 @@ pub(crate) fn release<R: Wait>(
     let mut expected = seen;
     for _ in rt.forever() {
         let met = try_release(seat, domain, lock, expected);
-        if met == expected || met % 256 != 1 {
+        if met == expected || low_byte(met) != HELD {
             return met;
         }
         expected = met;
@@ -137,7 +138,7 @@ pub(crate) fn steal<R: Wait>(
     let mut expected = seen;
     for _ in rt.forever() {
         let met = try_steal(seat, domain, lock, expected);
-        if met == expected || met % 256 != 0 {
+        if met == expected || low_byte(met) != 0 {
             return met;
         }
         expected = met;
@@ -159,7 +160,7 @@ fn swap_head<R: Wait>(seat: &mut Right, rt: &R, domain: &PvDomain, lock: u32, se
     let mut expected = seen;
     for _ in rt.forever() {
         let met = try_head(seat, domain, lock, expected);
-        if met == expected || met % 512 != 256 {
+        if met == expected || !is_free_for_pending(met) {
             return met;
         }
         expected = met;
@@ -177,7 +178,7 @@ pub(crate) fn head<R: Wait>(seat: &mut Right, rt: &R, domain: &PvDomain, lock: u
     ensures step { MadeBy Lock lock seat.old.me result seat.new.me }
 {
     let met = look_head(seat, domain, lock);
-    if met % 512 != 256 {
+    if !is_free_for_pending(met) {
         return met;
     }
     swap_head(seat, rt, domain, lock, met)

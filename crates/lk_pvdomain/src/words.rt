@@ -14,7 +14,7 @@ use crate::domain::PvDomain;
 use crate::rule::WordSteps;
 use lk_domain::Right;
 use lk_machine::Verb;
-use lk_word::NodeName;
+use lk_word::{NodeName, PENDING};
 
 // The word as it is just now, of which contracts say nothing: what a swap may expect.
 pub(crate) fn guess(domain: &PvDomain, lock: u32) -> u64
@@ -48,7 +48,10 @@ pub(crate) fn press(seat: &mut Right, domain: &PvDomain, _verb: Verb, lock: u32)
     ensures step { WentBy seat.old.me result seat.new.me }
 {
     let word = domain.lock_word(lock);
-    let met = domain.table.shared.fetch_or::<WordSteps>(seat, word, 256);
+    let met = domain
+        .table
+        .shared
+        .fetch_or::<WordSteps>(seat, word, PENDING);
     met
 }
 
@@ -106,7 +109,10 @@ pub(crate) fn relent(seat: &mut Right, domain: &PvDomain, _verb: Verb, lock: u32
     ensures step { WentBy seat.old.me result seat.new.me }
 {
     let word = domain.lock_word(lock);
-    let met = domain.table.shared.fetch_sub::<WordSteps>(seat, word, 256);
+    let met = domain
+        .table
+        .shared
+        .fetch_sub::<WordSteps>(seat, word, PENDING);
     met
 }
 

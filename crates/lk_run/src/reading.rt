@@ -31,6 +31,7 @@ use crossbeam_utils::Backoff;
 use lk_abs::LockName;
 use lk_domain::{Cpu, Domain, LockId, steps};
 use lk_machine::Verb;
+use lk_word::{has_no_writer, lets_readers_in};
 use std::sync::Wait;
 
 /// Acquires a reader-writer lock as a reader, and returns when the processor holds it, maybe
@@ -77,7 +78,7 @@ fn first(cpu: &mut Cpu, domain: &Domain, lock: LockName) -> bool
         → Waits domain.now Read lock (biased (length (calls_of cpu.old).frames)) Any
         (starting cpu.old told) cpu.new told }
 {
-    steps::join_first(cpu, domain, Verb::Read, lock) % 512 == 0
+    lets_readers_in(steps::join_first(cpu, domain, Verb::Read, lock))
 }
 
 // From the place to which the first row led that found no way in: one that has interrupted another
@@ -178,7 +179,7 @@ impl<'a> Reader<'a> {
             → Gets (outside self.now) R2 (Entered self.now) cpu.old cpu.new }
         ensures held { result ≡ false → Looks (outside self.now) R2 cpu.old cpu.new }
     {
-        steps::look(cpu, self.domain, Verb::Read, self.lock) % 256 == 0
+        has_no_writer(steps::look(cpu, self.domain, Verb::Read, self.lock))
     }
 
     // The row R3: (r, w, x) -> (r - 1, w, x). It takes its bias back, so that a writer that waits
@@ -207,7 +208,7 @@ impl<'a> Reader<'a> {
             → Gets (inside self.now) R5 (Passed self.now) cpu.old cpu.new }
         ensures held { result ≡ false → Looks (inside self.now) R5 cpu.old cpu.new }
     {
-        steps::look(cpu, self.domain, Verb::Read, self.lock) % 256 == 0
+        has_no_writer(steps::look(cpu, self.domain, Verb::Read, self.lock))
     }
 }
 
@@ -267,7 +268,7 @@ fn try_look(cpu: &mut Cpu, domain: &Domain, lock: LockName) -> bool
     ensures missed { result ≡ false
         → Misses domain.now TryRead lock.index (calls_of cpu.old) cpu.old cpu.new }
 {
-    steps::look(cpu, domain, Verb::TryRead, lock) % 512 == 0
+    lets_readers_in(steps::look(cpu, domain, Verb::TryRead, lock))
 }
 
 // The row Y2: true where it has come in.
@@ -286,7 +287,7 @@ fn try_add(cpu: &mut Cpu, domain: &Domain, lock: LockName) -> bool
         → WaitsAt domain.now TryRead lock.index Y2 old cpu.old
         → Moves domain.now TryRead lock.index Y3 old cpu.old cpu.new }
 {
-    steps::add_bias(cpu, domain, Verb::TryRead, lock) % 512 == 0
+    lets_readers_in(steps::add_bias(cpu, domain, Verb::TryRead, lock))
 }
 
 // The row Y3: (r, w, x) -> (r - 1, w, x). It takes its bias back: the try has failed.

@@ -17,7 +17,7 @@ ghost use Rattle.lk_domain.specs.Words.{IsNode, link_number, flag_number, name_n
 use lk_abs::Mode;
 use lk_domain::Domain;
 use lk_machine::{Flag, Pc, is_tail, is_unlocked};
-use lk_word::{Fields, Locked, NodeName, unpack};
+use lk_word::{Fields, LOWEST_NODE, Locked, MARK, NodeName, node_numbered, unpack};
 
 // The fields of a word that a step met.
 #[inline]
@@ -41,14 +41,11 @@ pub(crate) fn node_met(domain: &Domain, met: u64) -> Option<NodeName>
     ensures { (node : Option NodeName) (mark : Bool) → IfSome node (IsNode domain.now.plan)
         → met ≡ marked mark (link_number node) → result ≡ node }
 {
-    let name = met % 4_294_967_296;
-    if name < 2 {
+    let name = met % MARK;
+    if name < LOWEST_NODE {
         return None;
     }
-    Some(NodeName {
-        cpu: ((name - 2) / 4) as u32,
-        index: ((name - 2) % 4) as u32,
-    })
+    Some(node_numbered(name))
 }
 
 // The mark of a link that names a node: whether the call that uses the node is in a context above
@@ -59,7 +56,7 @@ pub(crate) fn mark_met(domain: &Domain, met: u64) -> bool
         → met ≡ marked mark (name_number node) → result ≡ mark }
 {
     let _ = domain;
-    met >= 4_294_967_296
+    met >= MARK
 }
 
 // What a flag says: it may name the first of a second queue.
@@ -75,10 +72,7 @@ pub(crate) fn flag_met(domain: &Domain, met: u64) -> Flag
     if met == 1 {
         return Flag::Go;
     }
-    Flag::Second(NodeName {
-        cpu: ((met - 2) / 4) as u32,
-        index: ((met - 2) % 4) as u32,
-    })
+    Flag::Second(node_numbered(met))
 }
 
 // Whether the word is that of a free lock with one waiter in its queue, which has this node: nobody
@@ -133,10 +127,7 @@ pub(crate) fn tail_met(domain: &Domain, met: u64) -> NodeName
     requires tail { (node : Node) × IsNode domain.now.plan node × (met ≡ name_number node) }
     ensures { (node : Node) → IsNode domain.now.plan node → met ≡ name_number node → result ≡ node }
 {
-    NodeName {
-        cpu: ((met - 2) / 4) as u32,
-        index: ((met - 2) % 4) as u32,
-    }
+    node_numbered(met)
 }
 
 // Whether somebody stands aside.

@@ -34,6 +34,7 @@ use crossbeam_utils::Backoff;
 use lk_abs::LockName;
 use lk_domain::{Cpu, Domain, LockId, steps};
 use lk_machine::Verb;
+use lk_word::has_only_waiting;
 use std::sync::Wait;
 
 /// Acquires a reader-writer lock as its writer, and returns when the processor holds it, alone
@@ -210,7 +211,7 @@ impl<'a> Writer<'a> {
         ensures cleared { result ≡ true → Steps (inside self.now) Wr5 Wr6 cpu.old cpu.new }
         ensures held { result ≡ false → Looks (inside self.now) Wr5 cpu.old cpu.new }
     {
-        steps::look(cpu, self.domain, Verb::Write, self.lock) == 256
+        has_only_waiting(steps::look(cpu, self.domain, Verb::Write, self.lock))
     }
 
     // The row Wr6: true where it has the lock.
@@ -223,7 +224,7 @@ impl<'a> Writer<'a> {
             → Gets (inside self.now) Wr6 (Passed self.now) cpu.old cpu.new }
         ensures biased { result ≡ false → Steps (inside self.now) Wr6 Wr5 cpu.old cpu.new }
     {
-        steps::waiting_to_writer(cpu, self.domain, Verb::Write, self.lock) == 256
+        has_only_waiting(steps::waiting_to_writer(cpu, self.domain, Verb::Write, self.lock))
     }
 }
 

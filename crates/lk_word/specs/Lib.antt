@@ -1,2 +1,3 @@
 pub mod SpinWord
 pub mod RwWord
+pub mod NodeWord

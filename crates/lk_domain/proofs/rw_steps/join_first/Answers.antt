@@ -1,4 +1,5 @@
-use Rattle.std.proofs.Common.{◌≡◌, ℕ, Bool, false, arith, refl, sym, subst, ◌<◌, ◌∙◌}
+use Rattle.std.proofs.Common.{◌≡◌, ℕ, Bool, false, arith, sym, ap, subst, ◌<◌, ◌∙◌}
+use Rattle.std.specs.Prelude.{not}
 use Rattle.lk_machine.specs.declared.setup.Verb.TheVariants.{Read}
 use Rattle.lk_machine.specs.declared.setup.Verb.{Verb}
 use Rattle.lk_domain.specs.Calls.{waits_in}
@@ -37,7 +38,7 @@ first_step-requires-clause-steps c =
       n.0.calls,
       cpu.noted,
       stepped.join_noted Read l met m n made cpu.apart cpu.noted.few b false (sym c.requires.fresh)
-          (by_verb b c.args.verb m.0 l c.requires.verb c.requires.row) _ _ refl refl,
+          (by_verb b c.args.verb m.0 l c.requires.verb c.requires.row) _ _ (ap not c.lets_readers_in.ensures) c.lets_readers_in.ensures,
     )
 
 pub invariant_of-cpu : goal.invariant_of-cpu
@@ -53,7 +54,7 @@ invariant_of-cpu c =
     record {
       numbered = stepped.numbered Read l met m n made cpu.apart cpu.noted.few cpu.numbered;
       noted = c.first_step.ensures m.0.calls n.0.calls cpu.noted
-          (stepped.join_noted Read l met m n made cpu.apart cpu.noted.few b false (sym c.requires.fresh) row _ _ refl refl);
+          (stepped.join_noted Read l met m n made cpu.apart cpu.noted.few b false (sym c.requires.fresh) row _ _ (ap not c.lets_readers_in.ensures) c.lets_readers_in.ensures);
       apart = (stepped.join Read l met m n made cpu.apart cpu.noted.few b row).apart;
       carried = stepped.carried Read l met m n made cpu.apart cpu.noted.few cpu.carried;
     }

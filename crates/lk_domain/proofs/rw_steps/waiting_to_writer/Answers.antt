@@ -1,4 +1,6 @@
+use Rattle.std.proofs.Common.{Bool, true, false, sym, subst}
 use Rattle.lk_machine.specs.declared.setup.Verb.TheVariants.{Write}
+use Rattle.lk_domain.specs.Marked.{Steps}
 use Rattle.lk_domain.specs.RwRows.{follows_by}
 use Rattle.lk_domain.proofs.rw.Stepped as stepped
 use Rattle.lk_domain.proofs.rw_steps.waiting_to_writer.Goals as goal
@@ -16,7 +18,8 @@ step-requires-clause-steps c =
       m.0.calls,
       n.0.calls,
       cpu.noted,
-      (stepped.follow Write c.args.lock.index c.follow-met.result m n c.follow-met.ensures.step cpu.apart cpu.noted.few acts).steps,
+      subst (λ (b : Bool). Steps m.0.calls n.0.calls c.args.lock.index true false b) (sym c.has_only_waiting.ensures)
+          (stepped.follow Write c.args.lock.index c.follow-met.result m n c.follow-met.ensures.step cpu.apart cpu.noted.few acts).steps,
     )
 
 pub invariant_of-cpu : goal.invariant_of-cpu
@@ -31,7 +34,8 @@ invariant_of-cpu c =
     let t = stepped.follow Write l met m n made cpu.apart cpu.noted.few acts in
     record {
       numbered = stepped.numbered Write l met m n made cpu.apart cpu.noted.few cpu.numbered;
-      noted = c.step.ensures m.0.calls n.0.calls cpu.noted t.steps;
+      noted = c.step.ensures m.0.calls n.0.calls cpu.noted
+          (subst (λ (b : Bool). Steps m.0.calls n.0.calls l true false b) (sym c.has_only_waiting.ensures) t.steps);
       apart = t.apart;
       carried = stepped.carried Write l met m n made cpu.apart cpu.noted.few cpu.carried;
     }

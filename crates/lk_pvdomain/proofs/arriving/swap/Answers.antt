@@ -1,4 +1,4 @@
-use Rattle.std.proofs.Common.{arith, refl, subst}
+use Rattle.std.proofs.Common.{arith, refl, subst, sym, ◌∙◌}
 use Rattle.lk_machine.specs.declared.parts.Pc.TheVariants.{H2}
 use Rattle.lk_machine.specs.declared.setup.Verb.TheVariants.{Lock}
 use Rattle.lk_pvdomain.specs.PvPaths.{At, Steals}
@@ -16,10 +16,10 @@ steal-requires g c =
     let w = c.requires.at.1 in
     record { table = w.of.table_is; number = numbered w; lock = w.low; seen = omega arith; row = acts w tries_steal refl }
 
-pub returns-then-steal-eq0 : goal.returns-then-steal-eq0
-returns-then-steal-eq0 g c =
+pub returns-then-low_byte-eq0 : goal.returns-then-low_byte-eq0
+returns-then-low_byte-eq0 g c =
     record {
-      took = λ e s w. h2_takes c.steal.ensures.same w c.steal.ensures.step c.if-steal-eq0.true;
+      took = λ e s w. h2_takes c.steal.ensures.same w c.steal.ensures.step (sym c.low_byte.ensures ∙ c.if-low_byte-eq0.true);
       again = λ e. absurd (cc e);
       joins = λ e. absurd (cc e);
     }
@@ -29,7 +29,7 @@ returns g c =
     record {
       took = λ e. absurd (cc e);
       again = λ e t s w. h2_again c.steal.ensures.same
-          (subst (λ b. At c.args.domain.now Lock c.args.lock c.args.own s H2 (Steals c.args.own b) c.args.seat.now) t w) c.steal.ensures.step c.if-steal-eq0.false;
+          (subst (λ b. At c.args.domain.now Lock c.args.lock c.args.own s H2 (Steals c.args.own b) c.args.seat.now) t w) c.steal.ensures.step (λ e. c.if-low_byte-eq0.false (c.low_byte.ensures ∙ e));
       joins = λ e t s w. h2_joins c.steal.ensures.same
-          (subst (λ b. At c.args.domain.now Lock c.args.lock c.args.own s H2 (Steals c.args.own b) c.args.seat.now) t w) c.steal.ensures.step c.if-steal-eq0.false;
+          (subst (λ b. At c.args.domain.now Lock c.args.lock c.args.own s H2 (Steals c.args.own b) c.args.seat.now) t w) c.steal.ensures.step (λ e. c.if-low_byte-eq0.false (c.low_byte.ensures ∙ e));
     }

@@ -53,7 +53,7 @@ module _ {d : PvDomain} {l : ℕ} {own : NodeName} {s : Start} {met : ℕ} {b : 
 pub wake_next-requires : goal.wake_next-requires
 wake_next-requires g c =
     let h = c.requires.tried.2 in
-    let w = seeks h c.if-met-ne1.true in
+    let w = seeks h (λ e. c.if-low_byte-ne-HELD.true (c.low_byte.ensures ∙ e)) in
     record {
       at = (c.requires.tried.0, first_of Unlock c.args.lock h.old, w);
       home = λ e. ap (λ (y : Ledger). y.out) w.ledger ∙ h.home e;
@@ -61,21 +61,21 @@ wake_next-requires g c =
           ∙ (moved_out 0 (lock_name c.args.lock) h.old.me.0.calls.holds c.args.lock ∙ h.value);
     }
 
-pub returns-then-met-ne1 : goal.returns-then-met-ne1
-returns-then-met-ne1 g c =
-    record { freed = λ own s h. began h (c.wake_next.ensures.freed own (first_of Unlock c.args.lock h.old) (seeks h c.if-met-ne1.true)) }
+pub returns-then-low_byte-ne-HELD : goal.returns-then-low_byte-ne-HELD
+returns-then-low_byte-ne-HELD g c =
+    record { freed = λ own s h. began h (c.wake_next.ensures.freed own (first_of Unlock c.args.lock h.old) (seeks h (λ e. c.if-low_byte-ne-HELD.true (c.low_byte.ensures ∙ e)))) }
 
 pub release-requires : goal.release-requires
 release-requires g c =
     let h = c.requires.tried.2 in
     let r = h.rests in
     let old = h.old in
-    let back = sym (stays h c.requires.other c.if-met-ne1.false) in
+    let back = sym (stays h c.requires.other (sym c.low_byte.ensures ∙ c.if-low_byte-ne-HELD.false)) in
     record {
       table = h.same.0 ∙ r.of.table_is;
       number = subst (λ (m : Me Slot View). IsNumbered m.0) back (c.requires.tried.0.cpu, r.of.number);
       lock = h.low;
-      seen = c.if-met-ne1.false;
+      seen = (sym c.low_byte.ensures ∙ c.if-low_byte-ne-HELD.false);
       row = subst (λ (m : Me Slot View). Acts tries_release m.0 Unlock c.args.lock) back
           (first_acts r Unlock c.args.lock old.id h.low tries_release
           (first_tries old.me.0.who.plan.mode (ap (λ (k : Plan). halts k.mode) r.of.plan ∙ c.args.domain.now.halting)) h.held
@@ -84,16 +84,16 @@ release-requires g c =
       value = subst (λ (m : Me Slot View). out_in m.0.calls.holds c.args.lock ≡ false) back h.value;
     }
 
-pub returns-then-release-eq1 : goal.returns-then-release-eq1
-returns-then-release-eq1 g c =
+pub returns-then-low_byte-eq-HELD : goal.returns-then-low_byte-eq-HELD
+returns-then-low_byte-eq-HELD g c =
     record {
-      freed = λ own s h. began h (frees_then h c.requires.other c.if-met-ne1.false c.release.ensures.same c.release.ensures.step c.if-release-eq1.true);
+      freed = λ own s h. began h (frees_then h c.requires.other (sym c.low_byte.ensures ∙ c.if-low_byte-ne-HELD.false) c.release.ensures.same c.release.ensures.step (sym c.low_byte-2.ensures ∙ c.if-low_byte-eq-HELD.true));
     }
 
 pub wake_next-requires-2 : goal.wake_next-requires-2
 wake_next-requires-2 g c =
     let h = c.requires.tried.2 in
-    let w = seeks_then h c.requires.other c.if-met-ne1.false c.release.ensures.same c.release.ensures.step c.if-release-eq1.false in
+    let w = seeks_then h c.requires.other (sym c.low_byte.ensures ∙ c.if-low_byte-ne-HELD.false) c.release.ensures.same c.release.ensures.step (λ e. c.if-low_byte-eq-HELD.false (c.low_byte-2.ensures ∙ e)) in
     record {
       at = (c.requires.tried.0, first_of Unlock c.args.lock h.old, w);
       home = λ e. ap (λ (y : Ledger). y.out) w.ledger ∙ h.home e;
@@ -105,5 +105,5 @@ pub returns : goal.returns
 returns g c =
     record {
       freed = λ own s h. began h (c.wake_next-2.ensures.freed own (first_of Unlock c.args.lock h.old)
-          (seeks_then h c.requires.other c.if-met-ne1.false c.release.ensures.same c.release.ensures.step c.if-release-eq1.false));
+          (seeks_then h c.requires.other (sym c.low_byte.ensures ∙ c.if-low_byte-ne-HELD.false) c.release.ensures.same c.release.ensures.step (λ e. c.if-low_byte-eq-HELD.false (c.low_byte-2.ensures ∙ e))));
     }

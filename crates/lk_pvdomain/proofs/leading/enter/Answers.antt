@@ -1,4 +1,4 @@
-use Rattle.std.proofs.Common.{refl}
+use Rattle.std.proofs.Common.{refl, sym, ◌∙◌}
 use Rattle.lk_pvdomain.specs.PvRows.{slows, wins}
 use Rattle.lk_pvdomain.proofs.ways.Ways.{numbered}
 use Rattle.lk_pvdomain.proofs.ways.Leads.{word_asks, fill_asks, seek_asks, e6_enters, e7_takes, e7_else, e8_wins, e9_empties}
@@ -14,22 +14,22 @@ slow-requires g c =
     let w = e6_enters c.put_in.ensures.same c.requires.at.1 c.put_in.ensures.step in
     record { table = w.of.table_is; number = numbered w; lock = w.low; row = word_asks w slows refl }
 
-pub returns-then-slow-ne0 : goal.returns-then-slow-ne0
-returns-then-slow-ne0 g c =
+pub returns-then-low_byte-ne0 : goal.returns-then-low_byte-ne0
+returns-then-low_byte-ne0 g c =
     record {
       takes = λ e. absurd (cc e);
-      waits = λ e s w. e7_else c.slow.ensures.same (e6_enters c.put_in.ensures.same w c.put_in.ensures.step) c.slow.ensures.step c.if-slow-ne0.true;
+      waits = λ e s w. e7_else c.slow.ensures.same (e6_enters c.put_in.ensures.same w c.put_in.ensures.step) c.slow.ensures.step (λ e. c.if-low_byte-ne0.true (c.low_byte.ensures ∙ e));
     }
 
 pub win-requires : goal.win-requires
 win-requires g c =
-    let w = e7_takes c.slow.ensures.same (e6_enters c.put_in.ensures.same c.requires.at.1 c.put_in.ensures.step) c.slow.ensures.step c.if-slow-ne0.false in
+    let w = e7_takes c.slow.ensures.same (e6_enters c.put_in.ensures.same c.requires.at.1 c.put_in.ensures.step) c.slow.ensures.step (sym c.low_byte.ensures ∙ c.if-low_byte-ne0.false) in
     record { table = w.of.table_is; number = numbered w; lock = w.low; row = word_asks w wins refl }
 
 pub take_out-requires : goal.take_out-requires
 take_out-requires g c =
     let w = e8_wins c.win.ensures.same
-    (e7_takes c.slow.ensures.same (e6_enters c.put_in.ensures.same c.requires.at.1 c.put_in.ensures.step) c.slow.ensures.step c.if-slow-ne0.false)
+    (e7_takes c.slow.ensures.same (e6_enters c.put_in.ensures.same c.requires.at.1 c.put_in.ensures.step) c.slow.ensures.step (sym c.low_byte.ensures ∙ c.if-low_byte-ne0.false))
     c.win.ensures.step in
     record { table = w.of.table_is; number = numbered w; lock = w.low; plan = w.of.plan; row = seek_asks w refl; fresh = w.fresh }
 
@@ -38,7 +38,7 @@ returns g c =
     record {
       takes = λ e s w. e9_empties c.take_out.ensures.same
           (e8_wins c.win.ensures.same
-          (e7_takes c.slow.ensures.same (e6_enters c.put_in.ensures.same w c.put_in.ensures.step) c.slow.ensures.step c.if-slow-ne0.false)
+          (e7_takes c.slow.ensures.same (e6_enters c.put_in.ensures.same w c.put_in.ensures.step) c.slow.ensures.step (sym c.low_byte.ensures ∙ c.if-low_byte-ne0.false))
           c.win.ensures.step) c.take_out.ensures.step;
       waits = λ e. absurd (cc e);
     }

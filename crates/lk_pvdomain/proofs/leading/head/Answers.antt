@@ -1,4 +1,5 @@
-use Rattle.std.proofs.Common.{refl, arith}
+use Rattle.std.proofs.lemmas.Bool.{eqb-false}
+use Rattle.std.proofs.Common.{refl, arith, sym, eqb-true, ◌∙◌}
 use Rattle.lk_pvdomain.specs.PvRows.{tries_head}
 use Rattle.lk_pvdomain.proofs.ways.Ways.{numbered}
 use Rattle.lk_pvdomain.proofs.ways.Leads.{acts, e4_takes, e4_last, e4_again}
@@ -9,14 +10,14 @@ head-requires g c =
     let w = c.loop.invariant c.requires.at.0 c.requires.at.1 in
     record { table = w.of.table_is; number = numbered w; lock = w.low; row = acts w tries_head refl }
 
-pub returns-then-head-eq256-clause-takes : goal.returns-then-head-eq256-clause-takes
-returns-then-head-eq256-clause-takes g c e s w = e4_takes c.head.ensures.same (c.loop.invariant s w) c.head.ensures.step c.if-head-eq256.true
+pub returns-then-is_free_for_pending-clause-takes : goal.returns-then-is_free_for_pending-clause-takes
+returns-then-is_free_for_pending-clause-takes g c e s w = e4_takes c.head.ensures.same (c.loop.invariant s w) c.head.ensures.step (eqb-true _ _ (sym c.is_free_for_pending.ensures ∙ c.if-is_free_for_pending.true))
 
 pub returns-then-left-le1-clause-stops : goal.returns-then-left-le1-clause-stops
 returns-then-left-le1-clause-stops g c e s w =
-    e4_last c.head.ensures.same (c.loop.invariant s w) c.head.ensures.step c.if-head-eq256.false c.if-left-le1.true
+    e4_last c.head.ensures.same (c.loop.invariant s w) c.head.ensures.step (eqb-false _ _ (sym c.is_free_for_pending.ensures ∙ c.if-is_free_for_pending.false)) c.if-left-le1.true
 
 pub loop-preserved : goal.loop-preserved
 loop-preserved g c s w =
-    e4_again c.head.ensures.same (c.loop.invariant s w) c.head.ensures.step c.if-head-eq256.false
+    e4_again c.head.ensures.same (c.loop.invariant s w) c.head.ensures.step (eqb-false _ _ (sym c.is_free_for_pending.ensures ∙ c.if-is_free_for_pending.false))
     (λ e. let z = c.if-left-le1.false in omega (arith, e, z))

@@ -1,4 +1,4 @@
-use Rattle.std.proofs.Common.{refl, ap, ◌∙◌}
+use Rattle.std.proofs.Common.{refl, ap, ◌∙◌, sym}
 use Rattle.atomic_table.specs.Table.{Me}
 use Rattle.lk_domain.specs.Keeps.{Slot}
 use Rattle.lk_domain.specs.declared.view.View.{View}
@@ -18,23 +18,23 @@ look_word-requires g c =
     let w = e10_tells c.store_state.ensures.same c.requires.at.1 c.store_state.ensures.step in
     record { table = w.of.table_is; number = numbered w; lock = w.low; row = word_asks w looks_word refl }
 
-pub returns-then-look_word-ne3 : goal.returns-then-look_word-ne3
-returns-then-look_word-ne3 g c =
+pub returns-then-low_byte-ne-SLOW : goal.returns-then-low_byte-ne-SLOW
+returns-then-low_byte-ne-SLOW g c =
     record {
       goes = λ s w. e11_else c.look_word.ensures.same (e10_tells c.store_state.ensures.same w c.store_state.ensures.step)
-          c.look_word.ensures.step c.if-look_word-ne3.true;
+          c.look_word.ensures.step (λ e. c.if-low_byte-ne-SLOW.true (c.low_byte.ensures ∙ e));
     }
 
 pub halt-requires : goal.halt-requires
 halt-requires g c =
     let w = e11_slow c.look_word.ensures.same (e10_tells c.store_state.ensures.same c.requires.at.1 c.store_state.ensures.step)
-    c.look_word.ensures.step c.if-look_word-ne3.false in
+    c.look_word.ensures.step (sym c.low_byte.ensures ∙ c.if-low_byte-ne-SLOW.false) in
     record { table = w.of.table_is; number = w.of.number; cpu = w.of.near.cpu; row = halt_asks w refl; awake = w.awake }
 
 pub sleep-requires : goal.sleep-requires
 sleep-requires g c =
     let w = e11_slow c.look_word.ensures.same (e10_tells c.store_state.ensures.same c.requires.at.1 c.store_state.ensures.step)
-    c.look_word.ensures.step c.if-look_word-ne3.false in
+    c.look_word.ensures.step (sym c.low_byte.ensures ∙ c.if-low_byte-ne-SLOW.false) in
     record {
       table = c.halt.ensures.same.0 ∙ w.of.table_is;
       number = ap (λ (m : Me Slot View). m.0.who.number) c.halt.ensures.step ∙ w.of.number;
@@ -47,6 +47,6 @@ pub returns : goal.returns
 returns g c =
     record {
       goes = λ s w. e12_sleeps c.halt.ensures.same
-          (e11_slow c.look_word.ensures.same (e10_tells c.store_state.ensures.same w c.store_state.ensures.step) c.look_word.ensures.step c.if-look_word-ne3.false)
+          (e11_slow c.look_word.ensures.same (e10_tells c.store_state.ensures.same w c.store_state.ensures.step) c.look_word.ensures.step (sym c.low_byte.ensures ∙ c.if-low_byte-ne-SLOW.false))
           c.halt.ensures.step c.sleep.ensures.same c.sleep.ensures.woken;
     }

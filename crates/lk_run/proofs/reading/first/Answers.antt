@@ -1,4 +1,4 @@
-use Rattle.std.proofs.Common.{ap, sym, refl, length, subst}
+use Rattle.std.proofs.Common.{ap, sym, refl, length, subst, ◌∙◌}
 use Rattle.lk_abs.specs.declared.holder.Manner.TheVariants.{Reads}
 use Rattle.lk_abs.specs.declared.names.LockName.{LockName}
 use Rattle.lk_machine.specs.declared.parts.Pc.TheVariants.{R1}
@@ -29,7 +29,7 @@ returns-clause-entered c is told =
     let l = c.args.lock.index in
     let made = c.join_first.ensures.step.by in
     rw.first_enters d Read l a b c.join_first.ensures.rest c.requires.domain refl made c.requires.may.fresh told Reads
-    (λ f. row.reader_enters d.plan.mode b.number f made.found (is_open_by c.join_first.result made.found made.word is))
+    (λ f. row.reader_enters d.plan.mode b.number f made.found (is_open_by c.join_first.result made.found made.word (sym c.lets_readers_in.ensures ∙ is)))
 
 pub returns-clause-waits : goal.returns-clause-waits
 returns-clause-waits c is told =
@@ -41,4 +41,4 @@ returns-clause-waits c is told =
     subst (λ (n : LockName). Waits d Read n (biased (length (calls_of a).frames)) Any (starting a told) b told)
     (λ i. record { index = l; wait = sym c.requires.plain i })
     (rw.first_goes d Read l a b c.join_first.ensures.rest c.requires.domain refl made c.requires.may.fresh told biased (rw.biased_else (length (calls_of a).frames))
-    (λ f. row.reader_biases d.plan.mode b.number f made.found (is_shut_by c.join_first.result made.found made.word is)))
+    (λ f. row.reader_biases d.plan.mode b.number f made.found (is_shut_by c.join_first.result made.found made.word (sym c.lets_readers_in.ensures ∙ is))))

@@ -1,4 +1,4 @@
-use Rattle.std.proofs.Common.{refl}
+use Rattle.std.proofs.Common.{refl, sym, ◌∙◌}
 use Rattle.lk_abs.specs.declared.holder.Manner.TheVariants.{Reads}
 use Rattle.lk_machine.specs.declared.parts.Pc.TheVariants.{Y2, Y3}
 use Rattle.lk_machine.specs.declared.setup.Verb.TheVariants.{TryRead}
@@ -23,7 +23,7 @@ returns-clause-taken c is old at =
     let l = c.args.lock.index in
     let made = c.add_bias.ensures.step.by in
     try.on_gains d TryRead l a b c.add_bias.ensures.rest c.requires.domain refl refl made Y2 old at Reads
-    (λ f. row.add_enters d.plan.mode b.number f made.found (is_open_by c.add_bias.result made.found made.word is))
+    (λ f. row.add_enters d.plan.mode b.number f made.found (is_open_by c.add_bias.result made.found made.word (sym c.lets_readers_in.ensures ∙ is)))
 
 pub returns-clause-closed : goal.returns-clause-closed
 returns-clause-closed c is old at =
@@ -33,4 +33,4 @@ returns-clause-closed c is old at =
     let l = c.args.lock.index in
     let made = c.add_bias.ensures.step.by in
     try.on_moves d TryRead l a b c.add_bias.ensures.rest c.requires.domain refl refl made Y2 old at Y3
-    (λ f. row.add_misses d.plan.mode b.number f made.found (is_shut_by c.add_bias.result made.found made.word is))
+    (λ f. row.add_misses d.plan.mode b.number f made.found (is_shut_by c.add_bias.result made.found made.word (sym c.lets_readers_in.ensures ∙ is)))

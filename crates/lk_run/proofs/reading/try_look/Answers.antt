@@ -1,4 +1,4 @@
-use Rattle.std.proofs.Common.{refl, eqb, inr, length}
+use Rattle.std.proofs.Common.{refl, eqb, inr, length, sym, ◌∙◌}
 use Rattle.lk_machine.specs.declared.parts.Pc.TheVariants.{Y2}
 use Rattle.lk_machine.specs.declared.setup.Verb.TheVariants.{TryRead}
 use Rattle.lk_domain.specs.RwRows.{watches_at}
@@ -29,7 +29,7 @@ returns-clause-open c is =
           c.requires.domain c.requires.may refl c.requires.kind (rw.watches_Y1 (eqb (length (calls_of c.args.cpu.now).frames) 1));
     })).by in
     try.first_moves d TryRead l a b c.look.ensures.rest c.requires.domain refl refl made c.requires.may.fresh Y2
-    (λ f. row.try_sees d.plan.mode b.number f made.found (is_open_by c.look.result made.found made.word is))
+    (λ f. row.try_sees d.plan.mode b.number f made.found (is_open_by c.look.result made.found made.word (sym c.lets_readers_in.ensures ∙ is)))
 
 pub returns-clause-missed : goal.returns-clause-missed
 returns-clause-missed c is =
@@ -43,4 +43,4 @@ returns-clause-missed c is =
           c.requires.domain c.requires.may refl c.requires.kind (rw.watches_Y1 (eqb (length (calls_of c.args.cpu.now).frames) 1));
     })).by in
     try.first_misses d TryRead l a b c.look.ensures.rest c.requires.domain refl refl made c.requires.may.fresh
-    (λ f. row.try_fails d.plan.mode b.number f made.found (is_shut_by c.look.result made.found made.word is))
+    (λ f. row.try_fails d.plan.mode b.number f made.found (is_shut_by c.look.result made.found made.word (sym c.lets_readers_in.ensures ∙ is)))

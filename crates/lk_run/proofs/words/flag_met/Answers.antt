@@ -1,4 +1,7 @@
-use Rattle.std.proofs.Common.{sym, arith}
+use Rattle.std.proofs.Common.{sym, ap, ◌∙◌, arith}
+use Rattle.lk_word.specs.declared.spin_word.NodeName.{NodeName}
+use Rattle.lk_machine.specs.declared.parts.Flag.{Flag}
+use Rattle.lk_machine.specs.declared.parts.Flag.TheVariants.{Second}
 use Rattle.lk_run.proofs.Places.{unset_flag, go_flag, second_flag, small_flag}
 use Rattle.lk_run.proofs.words.flag_met.Goals as goal
 
@@ -8,11 +11,13 @@ returns-then-met-eq0 c flag node is = sym (unset_flag c.args.domain.now.plan c.a
 pub returns-then-met-eq1 : goal.returns-then-met-eq1
 returns-then-met-eq1 c flag node is = sym (go_flag c.args.domain.now.plan c.args.met flag node is c.if-met-eq1.true)
 
-pub overflow_cast-result : goal.overflow_cast-result
-overflow_cast-result c =
+pub node_numbered-requires-clause-unmarked : goal.node_numbered-requires-clause-unmarked
+node_numbered-requires-clause-unmarked c =
     let flag = c.requires.flag in
     let small = small_flag c.args.domain.now.plan c.args.met flag.0 flag.1 flag.2 c.args.domain.now.lawful.cpus in
     omega (arith, small)
 
 pub returns : goal.returns
-returns c flag node is = second_flag c.args.domain.now.plan c.args.met flag node is c.if-met-eq0.false c.if-met-eq1.false
+returns c flag node is =
+    ap (λ (n : NodeName). let f : Flag = Second n in f) c.node_numbered.ensures
+    ∙ second_flag c.args.domain.now.plan c.args.met flag node is c.if-met-eq0.false c.if-met-eq1.false

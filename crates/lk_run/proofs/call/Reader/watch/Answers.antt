@@ -1,4 +1,4 @@
-use Rattle.std.proofs.Common.{ap, refl, eqb, eq-eqb, inr, length}
+use Rattle.std.proofs.Common.{ap, refl, eqb, eq-eqb, inr, length, sym, ◌∙◌}
 use Rattle.lk_abs.specs.declared.holder.Manner.TheVariants.{Reads}
 use Rattle.lk_machine.specs.declared.parts.Pc.TheVariants.{R5}
 use Rattle.lk_machine.specs.declared.setup.Verb.TheVariants.{Read}
@@ -25,7 +25,7 @@ returns-clause-passed c is =
           (ap (λ b. watches_at b Read R5) (eq-eqb (length (calls_of c.args.cpu.now).frames) 1 c.requires.alone));
     })).by in
     on.passes c.requires.waits c.look.ensures.rest refl made Reads
-    (λ f. row.wait_enters _ _ f made.found c.requires.waits.domain.awake (no_writer_by c.look.result made.found made.word is)) (λ e. cc e)
+    (λ f. row.wait_enters _ _ f made.found c.requires.waits.domain.awake (no_writer_by c.look.result made.found made.word (sym c.has_no_writer.ensures ∙ is))) (λ e. cc e)
 
 pub returns-clause-held : goal.returns-clause-held
 returns-clause-held c is =
@@ -35,4 +35,4 @@ returns-clause-held c is =
           (ap (λ b. watches_at b Read R5) (eq-eqb (length (calls_of c.args.cpu.now).frames) 1 c.requires.alone));
     })).by in
     on.looks c.requires.waits c.look.ensures.rest refl made
-    (λ f. row.wait_stays _ _ f made.found (writer_by c.look.result made.found made.word is))
+    (λ f. row.wait_stays _ _ f made.found (writer_by c.look.result made.found made.word (sym c.has_no_writer.ensures ∙ is)))

@@ -1,4 +1,4 @@
-use Rattle.std.proofs.Common.{refl}
+use Rattle.std.proofs.Common.{refl, sym, ◌∙◌}
 use Rattle.lk_abs.specs.declared.holder.Manner.TheVariants.{Writes}
 use Rattle.lk_machine.specs.declared.parts.Pc.TheVariants.{Wr5}
 use Rattle.lk_machine.specs.declared.setup.Verb.TheVariants.{Write}
@@ -15,10 +15,10 @@ pub returns-clause-passed : goal.returns-clause-passed
 returns-clause-passed c is =
     let made = c.waiting_to_writer.ensures.step.by in
     on.passes c.requires c.waiting_to_writer.ensures.rest refl made Writes
-    (λ f. row.claim_enters _ _ f made.found c.requires.domain.awake (cleared_by c.waiting_to_writer.result made.found made.word is)) (λ e. cc e)
+    (λ f. row.claim_enters _ _ f made.found c.requires.domain.awake (cleared_by c.waiting_to_writer.result made.found made.word (sym c.has_only_waiting.ensures ∙ is))) (λ e. cc e)
 
 pub returns-clause-biased : goal.returns-clause-biased
 returns-clause-biased c is =
     let made = c.waiting_to_writer.ensures.step.by in
     on.steps c.requires c.waiting_to_writer.ensures.rest refl made Wr5 (λ e. cc e)
-    (λ f. row.claim_misses _ _ f made.found (uncleared_by c.waiting_to_writer.result made.found made.word is))
+    (λ f. row.claim_misses _ _ f made.found (uncleared_by c.waiting_to_writer.result made.found made.word (sym c.has_only_waiting.ensures ∙ is)))

@@ -1,4 +1,4 @@
-use Rattle.std.proofs.Common.{refl, eqb, inr, length}
+use Rattle.std.proofs.Common.{refl, eqb, inr, length, sym, ◌∙◌}
 use Rattle.lk_machine.specs.declared.parts.Pc.TheVariants.{Wr6}
 use Rattle.lk_machine.specs.declared.setup.Verb.TheVariants.{Write}
 use Rattle.lk_domain.specs.RwRows.{watches_at}
@@ -25,7 +25,7 @@ returns-clause-cleared c is =
           (rw.watches_Wr5 (eqb (length (calls_of c.args.cpu.now).frames) 1));
     })).by in
     on.steps c.requires c.look.ensures.rest refl made Wr6 (λ e. cc e)
-    (λ f. row.writer_sees _ _ f made.found (cleared_by c.look.result made.found made.word is))
+    (λ f. row.writer_sees _ _ f made.found (cleared_by c.look.result made.found made.word (sym c.has_only_waiting.ensures ∙ is)))
 
 pub returns-clause-held : goal.returns-clause-held
 returns-clause-held c is =
@@ -35,4 +35,4 @@ returns-clause-held c is =
           (rw.watches_Wr5 (eqb (length (calls_of c.args.cpu.now).frames) 1));
     })).by in
     on.looks c.requires c.look.ensures.rest refl made
-    (λ f. row.writer_stays _ _ f made.found (uncleared_by c.look.result made.found made.word is))
+    (λ f. row.writer_stays _ _ f made.found (uncleared_by c.look.result made.found made.word (sym c.has_only_waiting.ensures ∙ is)))
