@@ -22,3 +22,4 @@ pub mod RwSeats
 pub mod Ends
 pub mod Paths
 pub mod Waits
+pub mod Uses

@@ -6,9 +6,9 @@ ghost use Rattle.lk_domain.specs.Ledgers.{is_first};
 ghost use Rattle.lk_domain.specs.NodePlays.{AtPromotion};
 ghost use Rattle.lk_domain.specs.Plans.{locks_of};
 ghost use Rattle.lk_domain.specs.Plays.{Acts, ActsIn, ActsAs, MadeBy, SwappedBy};
-ghost use Rattle.lk_domain.specs.Rows.{is_look, is_take, is_free, queues_up};
-ghost use Rattle.lk_domain.specs.Rows.{looks_by, takes_by, frees_by, pends_by, clears_by, claims_by};
-ghost use Rattle.lk_domain.specs.Rows.{arrives_by, soles_by, stakes_by, is_patient};
+ghost use Rattle.lk_domain.specs.Rows.{is_look, is_take, is_free};
+ghost use Rattle.lk_domain.specs.Rows.{arrives_by, soles_by};
+ghost use Rattle.lk_domain.specs.Uses.{goes_on, uses_by};
 ghost use Rattle.lk_domain.specs.Values.{out_in};
 ghost use Rattle.lk_domain.specs.Views.{IsNumbered};
 ghost use Rattle.lk_domain.specs.Words.{IsNode};
@@ -20,22 +20,58 @@ use lk_abs::LockName;
 use lk_machine::Verb;
 use lk_word::{HELD, NodeName, PENDING};
 
-// Reads the word, by a call that goes on until it has the lock.
-pub(crate) fn look(seat: &mut Right, domain: &Domain, _verb: Verb, lock: LockName) -> u64
+// What a row of a call that goes on does with the word of a spinlock or a wait lock, in one operation.
+#[derive(Clone, Copy)]
+pub(crate) enum WordUse {
+    // reads it
+    Looks,
+    // exchanges the free word for the held one
+    Takes,
+    // takes held off: the lock is free
+    Frees,
+    // Sets pending, whatever else the word is: nobody loses what he has set, and the call knows by the
+    // old word whether it was the first.
+    Pends,
+    // takes pending off, which the call has set
+    Clears,
+    // Takes pending off, which the call has set, and makes the byte held, which it has seen free. Nobody
+    // else may take it meanwhile, so that this clears pending and holds the lock.
+    Claims,
+    // Makes the byte held, which the queue head has seen free. Nobody else may take it meanwhile, so that
+    // this holds the lock and leaves pending and the tail.
+    Stakes,
+}
+
+// A row on the word of a lock or a wait lock, by a call that goes on.
+pub(crate) fn go_on(
+    seat: &mut Right,
+    domain: &Domain,
+    _verb: Verb,
+    lock: LockName,
+    how: WordUse,
+) -> u64
     requires table { seat.old.table_id ≡ domain.now.table.shared.table_id }
     requires lock { lock.index < locks_of domain.now.plan }
     requires number { IsNumbered seat.old.me.0 }
-    requires verb { is_patient _verb ≡ true }
-    requires row { ActsIn (looks_by _verb) seat.old.me.0 _verb lock }
+    requires verb { goes_on how _verb ≡ true }
+    requires row { ActsIn (uses_by how _verb) seat.old.me.0 _verb lock }
     ensures same { (seat.new.table_id ≡ seat.old.table_id) × (seat.new.id ≡ seat.old.id) }
     ensures step { MadeBy _verb lock.index seat.old.me result seat.new.me }
 {
     let word = domain.word_of(lock);
-    let met = domain.table.shared.load::<WordSteps>(seat, word);
-    met
+    let shared = &domain.table.shared;
+    match how {
+        WordUse::Looks => shared.load::<WordSteps>(seat, word),
+        WordUse::Takes => shared.compare_exchange::<WordSteps>(seat, word, 0, HELD),
+        WordUse::Frees => shared.fetch_sub::<WordSteps>(seat, word, HELD),
+        WordUse::Pends => shared.fetch_or::<WordSteps>(seat, word, PENDING),
+        WordUse::Clears => shared.fetch_sub::<WordSteps>(seat, word, PENDING),
+        WordUse::Claims => shared.fetch_sub::<WordSteps>(seat, word, PENDING - HELD),
+        WordUse::Stakes => shared.fetch_add::<WordSteps>(seat, word, HELD),
+    }
 }
 
-// The same by a call of `try_lock`.
+// Reads the word, by a call of `try_lock`.
 pub(crate) fn look_once(seat: &mut Right, domain: &Domain, lock: u32) -> u64
     requires table { seat.old.table_id ≡ domain.now.table.shared.table_id }
     requires lock { lock < locks_of domain.now.plan }
@@ -83,24 +119,6 @@ pub(crate) fn take_once(seat: &mut Right, domain: &Domain, lock: u32) -> u64
     met
 }
 
-// The same on a wait lock, by a call of a reader or a writer.
-pub(crate) fn take_wait(seat: &mut Right, domain: &Domain, _verb: Verb, lock: LockName) -> u64
-    requires table { seat.old.table_id ≡ domain.now.table.shared.table_id }
-    requires lock { lock.index < locks_of domain.now.plan }
-    requires number { IsNumbered seat.old.me.0 }
-    requires verb { queues_up _verb ≡ true }
-    requires row { ActsIn (takes_by _verb) seat.old.me.0 _verb lock }
-    ensures same { (seat.new.table_id ≡ seat.old.table_id) × (seat.new.id ≡ seat.old.id) }
-    ensures step { MadeBy _verb lock.index seat.old.me result seat.new.me }
-{
-    let word = domain.word_of(lock);
-    let met = domain
-        .table
-        .shared
-        .compare_exchange::<WordSteps>(seat, word, 0, HELD);
-    met
-}
-
 // Takes one off a held word: the lock is free.
 pub(crate) fn release(seat: &mut Right, domain: &Domain, lock: u32) -> u64
     requires table { seat.old.table_id ≡ domain.now.table.shared.table_id }
@@ -114,94 +132,6 @@ pub(crate) fn release(seat: &mut Right, domain: &Domain, lock: u32) -> u64
 {
     let word = domain.lock_word(lock);
     let met = domain.table.shared.fetch_sub::<Unlocks>(seat, word, HELD);
-    met
-}
-
-// The same on a wait lock, by a call of a reader or a writer.
-pub(crate) fn release_wait(seat: &mut Right, domain: &Domain, _verb: Verb, lock: LockName) -> u64
-    requires table { seat.old.table_id ≡ domain.now.table.shared.table_id }
-    requires lock { lock.index < locks_of domain.now.plan }
-    requires number { IsNumbered seat.old.me.0 }
-    requires verb { queues_up _verb ≡ true }
-    requires row { ActsIn (frees_by _verb) seat.old.me.0 _verb lock }
-    ensures same { (seat.new.table_id ≡ seat.old.table_id) × (seat.new.id ≡ seat.old.id) }
-    ensures step { MadeBy _verb lock.index seat.old.me result seat.new.me }
-{
-    let word = domain.word_of(lock);
-    let met = domain.table.shared.fetch_sub::<WordSteps>(seat, word, HELD);
-    met
-}
-
-// Sets bit 8, pending, whatever else the word is: nobody loses what he has set, and the call knows
-// by the old word whether it was the first.
-pub(crate) fn set_pending(seat: &mut Right, domain: &Domain, _verb: Verb, lock: LockName) -> u64
-    requires table { seat.old.table_id ≡ domain.now.table.shared.table_id }
-    requires lock { lock.index < locks_of domain.now.plan }
-    requires number { IsNumbered seat.old.me.0 }
-    requires row { ActsIn (pends_by _verb) seat.old.me.0 _verb lock }
-    ensures same { (seat.new.table_id ≡ seat.old.table_id) × (seat.new.id ≡ seat.old.id) }
-    ensures step { MadeBy _verb lock.index seat.old.me result seat.new.me }
-{
-    let word = domain.word_of(lock);
-    let met = domain
-        .table
-        .shared
-        .fetch_or::<WordSteps>(seat, word, PENDING);
-    met
-}
-
-// Takes pending off: the call has set pending, so that this clears it and leaves the rest.
-pub(crate) fn clear_pending(seat: &mut Right, domain: &Domain, _verb: Verb, lock: LockName) -> u64
-    requires table { seat.old.table_id ≡ domain.now.table.shared.table_id }
-    requires lock { lock.index < locks_of domain.now.plan }
-    requires number { IsNumbered seat.old.me.0 }
-    requires row { ActsIn (clears_by _verb) seat.old.me.0 _verb lock }
-    ensures same { (seat.new.table_id ≡ seat.old.table_id) × (seat.new.id ≡ seat.old.id) }
-    ensures step { MadeBy _verb lock.index seat.old.me result seat.new.me }
-{
-    let word = domain.word_of(lock);
-    let met = domain
-        .table
-        .shared
-        .fetch_sub::<WordSteps>(seat, word, PENDING);
-    met
-}
-
-// Takes pending off and makes the byte held, in one step: the call has set pending and has seen the byte
-// free, which nobody else may take, so that this clears pending and holds the lock.
-pub(crate) fn pending_to_locked(
-    seat: &mut Right,
-    domain: &Domain,
-    _verb: Verb,
-    lock: LockName,
-) -> u64
-    requires table { seat.old.table_id ≡ domain.now.table.shared.table_id }
-    requires lock { lock.index < locks_of domain.now.plan }
-    requires number { IsNumbered seat.old.me.0 }
-    requires row { ActsIn (claims_by _verb) seat.old.me.0 _verb lock }
-    ensures same { (seat.new.table_id ≡ seat.old.table_id) × (seat.new.id ≡ seat.old.id) }
-    ensures step { MadeBy _verb lock.index seat.old.me result seat.new.me }
-{
-    let word = domain.word_of(lock);
-    let met = domain
-        .table
-        .shared
-        .fetch_sub::<WordSteps>(seat, word, PENDING - HELD);
-    met
-}
-
-// Adds 1: the first of the queue has seen the byte free, which nobody else may take, so that this
-// holds the lock and leaves pending and the tail.
-pub(crate) fn set_locked(seat: &mut Right, domain: &Domain, _verb: Verb, lock: LockName) -> u64
-    requires table { seat.old.table_id ≡ domain.now.table.shared.table_id }
-    requires lock { lock.index < locks_of domain.now.plan }
-    requires number { IsNumbered seat.old.me.0 }
-    requires row { ActsIn (stakes_by _verb) seat.old.me.0 _verb lock }
-    ensures same { (seat.new.table_id ≡ seat.old.table_id) × (seat.new.id ≡ seat.old.id) }
-    ensures step { MadeBy _verb lock.index seat.old.me result seat.new.me }
-{
-    let word = domain.word_of(lock);
-    let met = domain.table.shared.fetch_add::<WordSteps>(seat, word, HELD);
     met
 }
 
@@ -227,7 +157,7 @@ pub(crate) fn sole_claim(
     let met = domain
         .table
         .shared
-        .compare_exchange::<WordSteps>(seat, word, tail, 1);
+        .compare_exchange::<WordSteps>(seat, word, tail, HELD);
     met
 }
 
@@ -251,8 +181,8 @@ pub(crate) fn tail_to_second(
     ensures step { MadeBy _verb lock.index seat.old.me result seat.new.me }
 {
     let word = domain.word_of(lock);
-    let met_own = domain.tail_of(own) + 1;
-    let new = domain.tail_of(tail) + 1;
+    let met_own = domain.tail_of(own) + HELD;
+    let new = domain.tail_of(tail) + HELD;
     let met = domain
         .table
         .shared

@@ -16,6 +16,7 @@ ghost use Rattle.lk_domain.specs.declared.part.Part.TheVariants as part_is;
 
 use crate::cpu::Cpu;
 use crate::domain::Domain;
+use crate::moves::WordUse;
 use crate::part::Part;
 use crate::verbs::queues_up;
 use crate::{moves, node_moves};
@@ -210,5 +211,5 @@ pub fn set_locked(cpu: &mut Cpu, domain: &Domain, verb: Verb, lock: LockName) ->
     ensures rest { KeepsRest cpu.old cpu.new }
     ensures step { Made verb lock.index cpu.old result cpu.new }
 {
-    moves::set_locked(&mut cpu.seat, domain, verb, lock)
+    moves::go_on(&mut cpu.seat, domain, verb, lock, WordUse::Stakes)
 }

@@ -20,6 +20,7 @@ pub use crate::choice_steps::{
 };
 use crate::cpu::{Cpu, Right};
 use crate::domain::Domain;
+use crate::moves::WordUse;
 pub use crate::queue_steps::{
     enter_bare, exchange_tail, hand, link, look_own, private_store, set_locked, sole_claim,
 };
@@ -43,7 +44,7 @@ fn seat_looks(seat: &mut Right, domain: &Domain, verb: Verb, lock: LockName) -> 
 {
     match verb {
         Verb::Try => moves::look_once(seat, domain, lock.index),
-        _ => moves::look(seat, domain, verb, lock),
+        _ => moves::go_on(seat, domain, verb, lock, WordUse::Looks),
     }
 }
 
@@ -59,7 +60,7 @@ fn seat_takes(seat: &mut Right, domain: &Domain, verb: Verb, lock: LockName) -> 
     match verb {
         Verb::Lock => moves::take_free(seat, domain, lock.index),
         Verb::Try => moves::take_once(seat, domain, lock.index),
-        _ => moves::take_wait(seat, domain, verb, lock),
+        _ => moves::go_on(seat, domain, verb, lock, WordUse::Takes),
     }
 }
 
@@ -186,7 +187,7 @@ fn free_wait(cpu: &mut Cpu, domain: &Domain, verb: Verb, lock: LockName) -> u64
     ensures step { Made verb lock.index cpu.old result cpu.new }
 {
     prove!(domain.plan.locks.len() <= 32);
-    let met = moves::release_wait(&mut cpu.seat, domain, verb, lock);
+    let met = moves::go_on(&mut cpu.seat, domain, verb, lock, WordUse::Frees);
     cpu.notes.step(lock.index, false, false, false);
     met
 }
@@ -216,7 +217,7 @@ pub fn set_pending(cpu: &mut Cpu, domain: &Domain, verb: Verb, lock: LockName) -
     ensures rest { KeepsRest cpu.old cpu.new }
     ensures step { Made verb lock.index cpu.old result cpu.new }
 {
-    moves::set_pending(&mut cpu.seat, domain, verb, lock)
+    moves::go_on(&mut cpu.seat, domain, verb, lock, WordUse::Pends)
 }
 
 /// Clears the pending bit, which the call has set, and returns the word before the step. This is
@@ -228,7 +229,7 @@ pub fn clear_pending(cpu: &mut Cpu, domain: &Domain, verb: Verb, lock: LockName)
     ensures rest { KeepsRest cpu.old cpu.new }
     ensures step { Made verb lock.index cpu.old result cpu.new }
 {
-    moves::clear_pending(&mut cpu.seat, domain, verb, lock)
+    moves::go_on(&mut cpu.seat, domain, verb, lock, WordUse::Clears)
 }
 
 /// Acquires the free lock and clears the pending bit, which the call has set. Returns the word
@@ -241,7 +242,7 @@ pub fn pending_to_locked(cpu: &mut Cpu, domain: &Domain, verb: Verb, lock: LockN
     ensures step { Made verb lock.index cpu.old result cpu.new }
 {
     prove!(domain.plan.locks.len() <= 32);
-    let met = moves::pending_to_locked(&mut cpu.seat, domain, verb, lock);
+    let met = moves::go_on(&mut cpu.seat, domain, verb, lock, WordUse::Claims);
     let goes_on = queues_up(verb);
     cpu.notes.step(lock.index, goes_on, false, !goes_on);
     met

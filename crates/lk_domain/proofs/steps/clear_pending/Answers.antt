@@ -10,9 +10,9 @@ invariant_of-cpu c =
     let l = c.args.lock in
     let v = c.args.verb in
     let m = cpu.seat.me in
-    let n = c.clear_pending.new.seat.me in
-    let met = c.clear_pending.result in
-    let made = c.clear_pending.ensures.step in
+    let n = c.go_on.new.seat.me in
+    let met = c.go_on.result in
+    let made = c.go_on.ensures.step in
     let t = stepped.clears v l met m n made cpu.apart cpu.noted.few c.requires.row in
     record {
       numbered = row.numbered v l.index met m n made cpu.numbered;

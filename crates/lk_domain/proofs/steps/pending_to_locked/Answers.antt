@@ -8,12 +8,12 @@ step-requires-clause-steps c =
     let l = c.args.lock in
     let v = c.args.verb in
     let m = cpu.seat.me in
-    let n = c.pending_to_locked-met.new.seat.me in (
+    let n = c.go_on-met.new.seat.me in (
       m.0.calls,
       n.0.calls,
       cpu.noted,
       stepped.noted_as m.0.calls n.0.calls l.index v _ c.queues_up-goes_on.result c.queues_up-goes_on.ensures
-          (stepped.claims v l c.pending_to_locked-met.result m n c.pending_to_locked-met.ensures.step cpu.apart cpu.noted.few c.requires.row).steps,
+          (stepped.claims v l c.go_on-met.result m n c.go_on-met.ensures.step cpu.apart cpu.noted.few c.requires.row).steps,
     )
 
 pub invariant_of-cpu : goal.invariant_of-cpu
@@ -22,9 +22,9 @@ invariant_of-cpu c =
     let l = c.args.lock in
     let v = c.args.verb in
     let m = cpu.seat.me in
-    let n = c.pending_to_locked-met.new.seat.me in
-    let met = c.pending_to_locked-met.result in
-    let made = c.pending_to_locked-met.ensures.step in
+    let n = c.go_on-met.new.seat.me in
+    let met = c.go_on-met.result in
+    let made = c.go_on-met.ensures.step in
     let t = stepped.claims v l met m n made cpu.apart cpu.noted.few c.requires.row in
     record {
       numbered = row.numbered v l.index met m n made cpu.numbered;
