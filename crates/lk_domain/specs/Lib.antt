@@ -23,3 +23,4 @@ pub mod Ends
 pub mod Paths
 pub mod Waits
 pub mod Uses
+pub mod RwUses

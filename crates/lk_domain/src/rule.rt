@@ -10,6 +10,7 @@ ghost use Rattle.lk_domain.specs.RwPlays.{Shares};
 ghost use Rattle.lk_domain.specs.Stand.{Stand};
 ghost use Rattle.lk_domain.specs.Views.{view, dealer, newcomer, nobody, own_number, joined};
 ghost use Rattle.lk_domain.specs.Views.{with_more};
+ghost use Rattle.lk_machine.specs.declared.setup.Verb.{Verb};
 ghost use Rattle.lk_machine.specs.declared.setup.Verb.TheVariants.{Lock, Try, Unlock, Read, TryRead};
 ghost use Rattle.lk_machine.specs.declared.setup.Verb.TheVariants.{RUnlock, Write, TryWrite, WUnlock};
 
@@ -17,6 +18,7 @@ use crate::plan::Plan;
 use crate::slot::Slot;
 use crate::view::View;
 use atomic_table::{Join, Play, Split, TableRule};
+use std::marker::PhantomData;
 
 /// The rule of a domain's table: its invariant, and what its first seat knows.
 pub struct Order;
@@ -62,46 +64,61 @@ impl Play<Slot, View> for Exchanges {
     ghost then = { Swaps };
 }
 
-/// A step on the word of a reader-writer lock, by a call of `read_lock`.
+/// The calls on a reader-writer lock of one operation.
+pub trait RwCalls {
+    // The operation.
+    ghost verb: { Verb };
+}
+
+/// A step on the word of a reader-writer lock, by a call of these.
+pub struct RwSteps<C> {
+    marker: PhantomData<C>,
+}
+
+impl<C: RwCalls> Play<Slot, View> for RwSteps<C> {
+    ghost then = { Shares C.verb };
+}
+
+/// Calls of `read_lock`.
 pub struct ReadCalls;
 
-impl Play<Slot, View> for ReadCalls {
-    ghost then = { Shares Read };
+impl RwCalls for ReadCalls {
+    ghost verb = { Read };
 }
 
-/// A step on the word of a reader-writer lock, by a call of `try_read`.
+/// Calls of `try_read`.
 pub struct TryReadCalls;
 
-impl Play<Slot, View> for TryReadCalls {
-    ghost then = { Shares TryRead };
+impl RwCalls for TryReadCalls {
+    ghost verb = { TryRead };
 }
 
-/// A step on the word of a reader-writer lock, by a call of `read_unlock`.
+/// Calls of `read_unlock`.
 pub struct ReadUnlockCalls;
 
-impl Play<Slot, View> for ReadUnlockCalls {
-    ghost then = { Shares RUnlock };
+impl RwCalls for ReadUnlockCalls {
+    ghost verb = { RUnlock };
 }
 
-/// A step on the word of a reader-writer lock, by a call of `write_lock`.
+/// Calls of `write_lock`.
 pub struct WriteCalls;
 
-impl Play<Slot, View> for WriteCalls {
-    ghost then = { Shares Write };
+impl RwCalls for WriteCalls {
+    ghost verb = { Write };
 }
 
-/// A step on the word of a reader-writer lock, by a call of `try_write`.
+/// Calls of `try_write`.
 pub struct TryWriteCalls;
 
-impl Play<Slot, View> for TryWriteCalls {
-    ghost then = { Shares TryWrite };
+impl RwCalls for TryWriteCalls {
+    ghost verb = { TryWrite };
 }
 
-/// A step on the word of a reader-writer lock, by a call of `write_unlock`.
+/// Calls of `write_unlock`.
 pub struct WriteUnlockCalls;
 
-impl Play<Slot, View> for WriteUnlockCalls {
-    ghost then = { Shares WUnlock };
+impl RwCalls for WriteUnlockCalls {
+    ghost verb = { WUnlock };
 }
 
 /// A call resets a word of the node that it will use, before it enters the slow path.

@@ -14,62 +14,12 @@ ghost use Rattle.lk_domain.specs.Seats.{IsOf, KeepsRest, calls_of, ledger_of, vi
 ghost use Rattle.lk_domain.specs.Values.{out_in};
 ghost use Rattle.lk_domain.specs.Views.{IsNumbered};
 
-use crate::cpu::{Cpu, Right};
+use crate::cpu::Cpu;
 use crate::domain::Domain;
-use crate::rw_moves;
+use crate::rw_moves::{RwUse, act_by};
 use lk_abs::LockName;
 use lk_machine::Verb;
 use lk_word::{has_no_writer, has_only_waiting, lets_readers_in};
-
-// A look by the seat.
-fn seat_watches(seat: &mut Right, domain: &Domain, verb: Verb, lock: u32) -> u64
-    requires table { seat.old.table_id ≡ domain.now.table.shared.table_id }
-    requires lock { lock < locks_of domain.now.plan }
-    requires number { IsNumbered seat.old.me.0 }
-    requires row { ActsFor (watches_by verb) seat.old.me.0 verb lock }
-    ensures same { (seat.new.table_id ≡ seat.old.table_id) × (seat.new.id ≡ seat.old.id) }
-    ensures step { SharedBy verb lock seat.old.me result seat.new.me }
-{
-    match verb {
-        Verb::Read => rw_moves::watch_as_reader(seat, domain, lock),
-        Verb::Write => rw_moves::watch_as_writer(seat, domain, lock),
-        Verb::TryRead => rw_moves::watch_once_as_reader(seat, domain, lock),
-        Verb::TryWrite => rw_moves::watch_once_as_writer(seat, domain, lock),
-        _ => unreachable!(),
-    }
-}
-
-// A reader more by the seat.
-fn seat_joins(seat: &mut Right, domain: &Domain, verb: Verb, lock: u32) -> u64
-    requires table { seat.old.table_id ≡ domain.now.table.shared.table_id }
-    requires lock { lock < locks_of domain.now.plan }
-    requires number { IsNumbered seat.old.me.0 }
-    requires row { ActsFor (joins_by verb) seat.old.me.0 verb lock }
-    ensures same { (seat.new.table_id ≡ seat.old.table_id) × (seat.new.id ≡ seat.old.id) }
-    ensures step { SharedBy verb lock seat.old.me result seat.new.me }
-{
-    match verb {
-        Verb::Read => rw_moves::join(seat, domain, lock),
-        Verb::TryRead => rw_moves::join_once(seat, domain, lock),
-        _ => unreachable!(),
-    }
-}
-
-// An exchange of the empty word by the seat.
-fn seat_seizes(seat: &mut Right, domain: &Domain, verb: Verb, lock: u32) -> u64
-    requires table { seat.old.table_id ≡ domain.now.table.shared.table_id }
-    requires lock { lock < locks_of domain.now.plan }
-    requires number { IsNumbered seat.old.me.0 }
-    requires row { ActsFor (seizes_by verb) seat.old.me.0 verb lock }
-    ensures same { (seat.new.table_id ≡ seat.old.table_id) × (seat.new.id ≡ seat.old.id) }
-    ensures step { SharedBy verb lock seat.old.me result seat.new.me }
-{
-    match verb {
-        Verb::Write => rw_moves::seize(seat, domain, lock),
-        Verb::TryWrite => rw_moves::seize_once(seat, domain, lock),
-        _ => unreachable!(),
-    }
-}
 
 // Whether the call goes on after a look.
 fn waits_after_watch(verb: Verb, alone: bool, met: u64) -> bool
@@ -135,7 +85,7 @@ pub(crate) fn watch(cpu: &mut Cpu, domain: &Domain, verb: Verb, lock: u32) -> u6
 {
     prove!(domain.plan.locks.len() <= 32);
     let alone = cpu.notes.depth == 1;
-    let met = seat_watches(&mut cpu.seat, domain, verb, lock);
+    let met = act_by(&mut cpu.seat, domain, verb, lock, RwUse::Watches);
     let waits = waits_after_watch(verb, alone, met);
     let has = has_after_watch(verb, met);
     cpu.notes.step(lock, waits, false, has);
@@ -157,7 +107,7 @@ pub fn join_first(cpu: &mut Cpu, domain: &Domain, verb: Verb, lock: LockName) ->
     ensures step { MadeShared verb lock.index cpu.old result cpu.new }
 {
     prove!(domain.plan.locks.len() <= 32);
-    let met = rw_moves::join(&mut cpu.seat, domain, lock.index);
+    let met = act_by(&mut cpu.seat, domain, Verb::Read, lock.index, RwUse::Joins);
     cpu.notes.first_step(lock.index, lets_readers_in(met));
     met
 }
@@ -176,7 +126,7 @@ pub fn add_bias(cpu: &mut Cpu, domain: &Domain, verb: Verb, lock: LockName) -> u
 {
     prove!(domain.plan.locks.len() <= 32);
     let waited = cpu.notes.waiting[lock.index as usize];
-    let met = seat_joins(&mut cpu.seat, domain, verb, lock.index);
+    let met = act_by(&mut cpu.seat, domain, verb, lock.index, RwUse::Joins);
     let waits = waits_after_join(verb, waited, met);
     let has = has_after_join(verb, waited, met);
     cpu.notes.step(lock.index, waits, false, has);
@@ -198,7 +148,13 @@ pub fn seize_first(cpu: &mut Cpu, domain: &Domain, verb: Verb, lock: LockName) -
     ensures step { MadeShared verb lock.index cpu.old result cpu.new }
 {
     prove!(domain.plan.locks.len() <= 32);
-    let met = rw_moves::seize(&mut cpu.seat, domain, lock.index);
+    let met = act_by(
+        &mut cpu.seat,
+        domain,
+        Verb::Write,
+        lock.index,
+        RwUse::Seizes,
+    );
     cpu.notes.first_step(lock.index, met == 0);
     met
 }
@@ -217,7 +173,7 @@ pub fn empty_to_writer(cpu: &mut Cpu, domain: &Domain, verb: Verb, lock: LockNam
 {
     prove!(domain.plan.locks.len() <= 32);
     let waited = cpu.notes.waiting[lock.index as usize];
-    let met = seat_seizes(&mut cpu.seat, domain, verb, lock.index);
+    let met = act_by(&mut cpu.seat, domain, verb, lock.index, RwUse::Seizes);
     let waits = waits_after_seize(verb, waited, met);
     cpu.notes.step(lock.index, waits, false, met == 0);
     met
@@ -231,7 +187,7 @@ fn step_back(cpu: &mut Cpu, domain: &Domain, lock: u32) -> u64
     ensures rest { KeepsRest cpu.old cpu.new }
     ensures step { MadeShared Read lock cpu.old result cpu.new }
 {
-    rw_moves::quit(&mut cpu.seat, domain, lock)
+    act_by(&mut cpu.seat, domain, Verb::Read, lock, RwUse::Quits)
 }
 
 // The same, and the try has failed.
@@ -243,7 +199,7 @@ fn give_up(cpu: &mut Cpu, domain: &Domain, lock: u32) -> u64
     ensures step { MadeShared TryRead lock cpu.old result cpu.new }
 {
     prove!(domain.plan.locks.len() <= 32);
-    let met = rw_moves::quit_once(&mut cpu.seat, domain, lock);
+    let met = act_by(&mut cpu.seat, domain, Verb::TryRead, lock, RwUse::Quits);
     cpu.notes.step(lock, false, false, false);
     met
 }
@@ -257,7 +213,7 @@ fn release_as_reader(cpu: &mut Cpu, domain: &Domain, lock: u32) -> u64
     ensures step { MadeShared RUnlock lock cpu.old result cpu.new }
 {
     prove!(domain.plan.locks.len() <= 32);
-    let met = rw_moves::leave_as_reader(&mut cpu.seat, domain, lock);
+    let met = act_by(&mut cpu.seat, domain, Verb::RUnlock, lock, RwUse::Quits);
     cpu.notes.held[lock as usize] = false;
     met
 }
@@ -291,7 +247,13 @@ pub fn set_waiting(cpu: &mut Cpu, domain: &Domain, verb: Verb, lock: LockName) -
     ensures rest { KeepsRest cpu.old cpu.new }
     ensures step { MadeShared verb lock.index cpu.old result cpu.new }
 {
-    rw_moves::set_waiting(&mut cpu.seat, domain, lock.index)
+    act_by(
+        &mut cpu.seat,
+        domain,
+        Verb::Write,
+        lock.index,
+        RwUse::Awaits,
+    )
 }
 
 /// Swaps the word of a reader-writer lock from that in which only the waiting bit is set to held
@@ -305,7 +267,13 @@ pub fn waiting_to_writer(cpu: &mut Cpu, domain: &Domain, verb: Verb, lock: LockN
     ensures step { MadeShared verb lock.index cpu.old result cpu.new }
 {
     prove!(domain.plan.locks.len() <= 32);
-    let met = rw_moves::follow(&mut cpu.seat, domain, lock.index);
+    let met = act_by(
+        &mut cpu.seat,
+        domain,
+        Verb::Write,
+        lock.index,
+        RwUse::Follows,
+    );
     cpu.notes
         .step(lock.index, true, false, has_only_waiting(met));
     met
@@ -324,7 +292,13 @@ pub fn writer_release(cpu: &mut Cpu, domain: &Domain, verb: Verb, lock: LockName
     ensures step { MadeShared verb lock.index cpu.old result cpu.new }
 {
     prove!(domain.plan.locks.len() <= 32);
-    let met = rw_moves::leave_as_writer(&mut cpu.seat, domain, lock.index);
+    let met = act_by(
+        &mut cpu.seat,
+        domain,
+        Verb::WUnlock,
+        lock.index,
+        RwUse::Leaves,
+    );
     cpu.notes.held[lock.index as usize] = false;
     met
 }

@@ -4,8 +4,8 @@ use Rattle.lk_domain.specs.RwRows.{joins_at, joins_by}
 use Rattle.lk_domain.proofs.rw.Stepped as stepped
 use Rattle.lk_domain.proofs.rw_steps.add_bias.Goals as goal
 
-pub seat_joins-met-requires-clause-row : goal.seat_joins-met-requires-clause-row
-seat_joins-met-requires-clause-row c =
+pub act_by-met-requires-clause-row : goal.act_by-met-requires-clause-row
+act_by-met-requires-clause-row c =
     let m = c.args.cpu.now.seat.me in
     let v = c.args.verb in
     let l = c.args.lock.index in
@@ -16,11 +16,11 @@ pub step-requires-clause-steps : goal.step-requires-clause-steps
 step-requires-clause-steps c =
     let cpu = c.args.cpu.now in
     let m = cpu.seat.me in
-    let n = c.seat_joins-met.new.seat.me in
+    let n = c.act_by-met.new.seat.me in
     let v = c.args.verb in
     let l = c.args.lock.index in
-    let met = c.seat_joins-met.result in
-    let made = c.seat_joins-met.ensures.step in
+    let met = c.act_by-met.result in
+    let made = c.act_by-met.ensures.step in
     let b = waits_in m.0.calls.frames l in
     let lt : l < 32 = (let lock = c.requires.lock in let few = c.args.domain.now.lawful.locks in omega arith) in (
       m.0.calls,
@@ -33,11 +33,11 @@ pub invariant_of-cpu : goal.invariant_of-cpu
 invariant_of-cpu c =
     let cpu = c.args.cpu.now in
     let m = cpu.seat.me in
-    let n = c.seat_joins-met.new.seat.me in
+    let n = c.act_by-met.new.seat.me in
     let v = c.args.verb in
     let l = c.args.lock.index in
-    let met = c.seat_joins-met.result in
-    let made = c.seat_joins-met.ensures.step in
+    let met = c.act_by-met.result in
+    let made = c.act_by-met.ensures.step in
     let b = waits_in m.0.calls.frames l in
     let lt : l < 32 = (let lock = c.requires.lock in let few = c.args.domain.now.lawful.locks in omega arith) in
     record {

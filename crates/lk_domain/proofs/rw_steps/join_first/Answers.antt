@@ -12,8 +12,8 @@ use Rattle.lk_domain.proofs.rw_steps.join_first.Goals as goal
 by_verb : (b : Bool) (v : Verb) (w : View) (l : ℕ) → v ≡ Read → ActsFor (joins_at b v) w v l → ActsFor (joins_at b Read) w Read l
 by_verb b v w l is = subst (λ (z : Verb). ActsFor (joins_at b z) w z l) is
 
-pub join-met-requires-clause-row : goal.join-met-requires-clause-row
-join-met-requires-clause-row c =
+pub act_by-met-requires-clause-row : goal.act_by-met-requires-clause-row
+act_by-met-requires-clause-row c =
     let m = c.args.cpu.now.seat.me in
     let l = c.args.lock.index in
     let b = waits_in m.0.calls.frames l in
@@ -29,10 +29,10 @@ pub first_step-requires-clause-steps : goal.first_step-requires-clause-steps
 first_step-requires-clause-steps c =
     let cpu = c.args.cpu.now in
     let m = cpu.seat.me in
-    let n = c.join-met.new.seat.me in
+    let n = c.act_by-met.new.seat.me in
     let l = c.args.lock.index in
-    let met = c.join-met.result in
-    let made = c.join-met.ensures.step in
+    let met = c.act_by-met.result in
+    let made = c.act_by-met.ensures.step in
     let b = waits_in m.0.calls.frames l in (
       m.0.calls,
       n.0.calls,
@@ -45,10 +45,10 @@ pub invariant_of-cpu : goal.invariant_of-cpu
 invariant_of-cpu c =
     let cpu = c.args.cpu.now in
     let m = cpu.seat.me in
-    let n = c.join-met.new.seat.me in
+    let n = c.act_by-met.new.seat.me in
     let l = c.args.lock.index in
-    let met = c.join-met.result in
-    let made = c.join-met.ensures.step in
+    let met = c.act_by-met.result in
+    let made = c.act_by-met.ensures.step in
     let b = waits_in m.0.calls.frames l in
     let row = by_verb b c.args.verb m.0 l c.requires.verb c.requires.row in
     record {

@@ -12,9 +12,9 @@ invariant_of-cpu c =
     let cpu = c.args.cpu.now in
     let l = c.args.lock in
     let m = cpu.seat.me in
-    let n = c.leave_as_reader-met.new.seat.me in
-    let met = c.leave_as_reader-met.result in
-    let made = c.leave_as_reader-met.ensures.step in
+    let n = c.act_by-met.new.seat.me in
+    let met = c.act_by-met.result in
+    let made = c.act_by-met.ensures.step in
     let lt : l < 32 = (let lock = c.requires.lock in let few = c.args.domain.now.lawful.locks in omega arith) in
     let e = released.ended RUnlock reader l met m n made cpu.apart in
     record {

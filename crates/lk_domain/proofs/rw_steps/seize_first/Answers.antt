@@ -11,8 +11,8 @@ use Rattle.lk_domain.proofs.rw_steps.seize_first.Goals as goal
 by_verb : (b : Bool) (v : Verb) (w : View) (l : ℕ) → v ≡ Write → ActsFor (seizes_at b v) w v l → ActsFor (seizes_at b Write) w Write l
 by_verb b v w l is = subst (λ (z : Verb). ActsFor (seizes_at b z) w z l) is
 
-pub seize-met-requires-clause-row : goal.seize-met-requires-clause-row
-seize-met-requires-clause-row c =
+pub act_by-met-requires-clause-row : goal.act_by-met-requires-clause-row
+act_by-met-requires-clause-row c =
     let m = c.args.cpu.now.seat.me in
     let l = c.args.lock.index in
     let b = waits_in m.0.calls.frames l in
@@ -28,10 +28,10 @@ pub first_step-requires-clause-steps : goal.first_step-requires-clause-steps
 first_step-requires-clause-steps c =
     let cpu = c.args.cpu.now in
     let m = cpu.seat.me in
-    let n = c.seize-met.new.seat.me in
+    let n = c.act_by-met.new.seat.me in
     let l = c.args.lock.index in
-    let met = c.seize-met.result in
-    let made = c.seize-met.ensures.step in
+    let met = c.act_by-met.result in
+    let made = c.act_by-met.ensures.step in
     let b = waits_in m.0.calls.frames l in (
       m.0.calls,
       n.0.calls,
@@ -44,10 +44,10 @@ pub invariant_of-cpu : goal.invariant_of-cpu
 invariant_of-cpu c =
     let cpu = c.args.cpu.now in
     let m = cpu.seat.me in
-    let n = c.seize-met.new.seat.me in
+    let n = c.act_by-met.new.seat.me in
     let l = c.args.lock.index in
-    let met = c.seize-met.result in
-    let made = c.seize-met.ensures.step in
+    let met = c.act_by-met.result in
+    let made = c.act_by-met.ensures.step in
     let b = waits_in m.0.calls.frames l in
     let row = by_verb b c.args.verb m.0 l c.requires.verb c.requires.row in
     record {

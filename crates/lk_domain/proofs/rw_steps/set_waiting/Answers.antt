@@ -3,8 +3,8 @@ use Rattle.lk_domain.specs.RwRows.{awaits_by}
 use Rattle.lk_domain.proofs.rw.Stepped as stepped
 use Rattle.lk_domain.proofs.rw_steps.set_waiting.Goals as goal
 
-pub set_waiting-requires-clause-row : goal.set_waiting-requires-clause-row
-set_waiting-requires-clause-row c =
+pub act_by-requires-clause-row : goal.act_by-requires-clause-row
+act_by-requires-clause-row c =
     stepped.as_one awaits_by Write stepped.await_is c.args.cpu.now.seat.me.0 c.args.verb c.args.lock.index c.requires.row
 
 pub invariant_of-cpu : goal.invariant_of-cpu
@@ -12,9 +12,9 @@ invariant_of-cpu c =
     let cpu = c.args.cpu.now in
     let l = c.args.lock.index in
     let m = cpu.seat.me in
-    let n = c.set_waiting.new.seat.me in
-    let met = c.set_waiting.result in
-    let made = c.set_waiting.ensures.step in
+    let n = c.act_by.new.seat.me in
+    let met = c.act_by.result in
+    let made = c.act_by.ensures.step in
     let acts = stepped.as_one awaits_by Write stepped.await_is m.0 c.args.verb l c.requires.row in
     record {
       numbered = stepped.numbered Write l met m n made cpu.apart cpu.noted.few cpu.numbered;

@@ -7,9 +7,9 @@ pub invariant_of-cpu : goal.invariant_of-cpu
 invariant_of-cpu c =
     let cpu = c.args.cpu.now in
     let m = cpu.seat.me in
-    let n = c.quit.new.seat.me in
-    let met = c.quit.result in
-    let made = c.quit.ensures.step in
+    let n = c.act_by.new.seat.me in
+    let met = c.act_by.result in
+    let made = c.act_by.ensures.step in
     record {
       numbered = stepped.numbered Read c.args.lock met m n made cpu.apart cpu.noted.few cpu.numbered;
       noted = stepped.quit_noted c.args.lock met m n made cpu.apart cpu.noted.few cpu.notes cpu.noted c.requires.row;

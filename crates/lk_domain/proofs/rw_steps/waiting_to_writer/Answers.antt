@@ -5,21 +5,21 @@ use Rattle.lk_domain.specs.RwRows.{follows_by}
 use Rattle.lk_domain.proofs.rw.Stepped as stepped
 use Rattle.lk_domain.proofs.rw_steps.waiting_to_writer.Goals as goal
 
-pub follow-met-requires-clause-row : goal.follow-met-requires-clause-row
-follow-met-requires-clause-row c =
+pub act_by-met-requires-clause-row : goal.act_by-met-requires-clause-row
+act_by-met-requires-clause-row c =
     stepped.as_one follows_by Write stepped.follow_is c.args.cpu.now.seat.me.0 c.args.verb c.args.lock.index c.requires.row
 
 pub step-requires-clause-steps : goal.step-requires-clause-steps
 step-requires-clause-steps c =
     let cpu = c.args.cpu.now in
     let m = cpu.seat.me in
-    let n = c.follow-met.new.seat.me in
+    let n = c.act_by-met.new.seat.me in
     let acts = stepped.as_one follows_by Write stepped.follow_is m.0 c.args.verb c.args.lock.index c.requires.row in (
       m.0.calls,
       n.0.calls,
       cpu.noted,
       subst (λ (b : Bool). Steps m.0.calls n.0.calls c.args.lock.index true false b) (sym c.has_only_waiting.ensures)
-          (stepped.follow Write c.args.lock.index c.follow-met.result m n c.follow-met.ensures.step cpu.apart cpu.noted.few acts).steps,
+          (stepped.follow Write c.args.lock.index c.act_by-met.result m n c.act_by-met.ensures.step cpu.apart cpu.noted.few acts).steps,
     )
 
 pub invariant_of-cpu : goal.invariant_of-cpu
@@ -27,9 +27,9 @@ invariant_of-cpu c =
     let cpu = c.args.cpu.now in
     let l = c.args.lock.index in
     let m = cpu.seat.me in
-    let n = c.follow-met.new.seat.me in
-    let met = c.follow-met.result in
-    let made = c.follow-met.ensures.step in
+    let n = c.act_by-met.new.seat.me in
+    let met = c.act_by-met.result in
+    let made = c.act_by-met.ensures.step in
     let acts = stepped.as_one follows_by Write stepped.follow_is m.0 c.args.verb l c.requires.row in
     let t = stepped.follow Write l met m n made cpu.apart cpu.noted.few acts in
     record {

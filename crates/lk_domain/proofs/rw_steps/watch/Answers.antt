@@ -3,8 +3,8 @@ use Rattle.lk_domain.specs.RwRows.{watches_at, watches_by}
 use Rattle.lk_domain.proofs.rw.Stepped as stepped
 use Rattle.lk_domain.proofs.rw_steps.watch.Goals as goal
 
-pub seat_watches-met-requires-clause-row : goal.seat_watches-met-requires-clause-row
-seat_watches-met-requires-clause-row c =
+pub act_by-met-requires-clause-row : goal.act_by-met-requires-clause-row
+act_by-met-requires-clause-row c =
     let m = c.args.cpu.now.seat.me in
     let v = c.args.verb in
     let l = c.args.lock in
@@ -15,11 +15,11 @@ pub step-requires-clause-steps : goal.step-requires-clause-steps
 step-requires-clause-steps c =
     let cpu = c.args.cpu.now in
     let m = cpu.seat.me in
-    let n = c.seat_watches-met.new.seat.me in
+    let n = c.act_by-met.new.seat.me in
     let v = c.args.verb in
     let l = c.args.lock in
-    let met = c.seat_watches-met.result in
-    let made = c.seat_watches-met.ensures.step in
+    let met = c.act_by-met.result in
+    let made = c.act_by-met.ensures.step in
     let b = eqb (length m.0.calls.frames) 1 in
     let lt : l < 32 = (let lock = c.requires.lock in let few = c.args.domain.now.lawful.locks in omega arith) in (
       m.0.calls,
@@ -32,11 +32,11 @@ pub invariant_of-cpu : goal.invariant_of-cpu
 invariant_of-cpu c =
     let cpu = c.args.cpu.now in
     let m = cpu.seat.me in
-    let n = c.seat_watches-met.new.seat.me in
+    let n = c.act_by-met.new.seat.me in
     let v = c.args.verb in
     let l = c.args.lock in
-    let met = c.seat_watches-met.result in
-    let made = c.seat_watches-met.ensures.step in
+    let met = c.act_by-met.result in
+    let made = c.act_by-met.ensures.step in
     let b = eqb (length m.0.calls.frames) 1 in
     let lt : l < 32 = (let lock = c.requires.lock in let few = c.args.domain.now.lawful.locks in omega arith) in
     record {

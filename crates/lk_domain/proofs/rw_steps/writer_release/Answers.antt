@@ -8,8 +8,8 @@ use Rattle.lk_domain.proofs.rw.Released.{writer}
 use Rattle.lk_domain.proofs.rw.Stepped as stepped
 use Rattle.lk_domain.proofs.rw_steps.writer_release.Goals as goal
 
-pub leave_as_writer-met-requires-clause-row : goal.leave_as_writer-met-requires-clause-row
-leave_as_writer-met-requires-clause-row c =
+pub act_by-met-requires-clause-row : goal.act_by-met-requires-clause-row
+act_by-met-requires-clause-row c =
     stepped.as_one leaves_by WUnlock stepped.leave_is c.args.cpu.now.seat.me.0 c.args.verb c.args.lock.index c.requires.row
 
 pub invariant_of-cpu : goal.invariant_of-cpu
@@ -17,9 +17,9 @@ invariant_of-cpu c =
     let cpu = c.args.cpu.now in
     let l = c.args.lock.index in
     let m = cpu.seat.me in
-    let n = c.leave_as_writer-met.new.seat.me in
-    let met = c.leave_as_writer-met.result in
-    let made = c.leave_as_writer-met.ensures.step in
+    let n = c.act_by-met.new.seat.me in
+    let met = c.act_by-met.result in
+    let made = c.act_by-met.ensures.step in
     let lt : l < 32 = (let lock = c.requires.lock in let few = c.args.domain.now.lawful.locks in omega arith) in
     let e = released.ended WUnlock writer l met m n made cpu.apart in
     record {
