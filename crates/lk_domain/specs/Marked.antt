@@ -1,9 +1,10 @@
 -- What a processor notes of its calls and its locks in plain fields.
-use Rattle.std.specs.Prelude.{◌≡◌, ◌≢◌, ℕ, ◌<◌, ◌≤◌, ◌==◌, ◌||◌, Bool, true, false, List, [], ◌∷◌, length}
+use Rattle.std.specs.Prelude.{◌≡◌, ◌≢◌, ℕ, ◌<◌, ◌≤◌, ◌==◌, ◌||◌, Bool, true, false, not, List, [], ◌∷◌, length}
 use Rattle.std.specs.Prelude.{slice_index, slice_index_or, if◌then◌else◌}
 use Rattle.lk_law.specs.Families.{is_slow}
 use Rattle.lk_domain.specs.Calls.{Running, Calls, slows, waits_in, slow_in, holds_in}
 use Rattle.lk_domain.specs.declared.notes.Notes.{Notes}
+use Rattle.lk_domain.specs.declared.notes.Standing.{Standing}
 
 -- the marks are those of the numbers of which f holds: it holds of none above them
 pub record Marks (marks : List Bool) (f : ℕ → Bool) : Type 0 where
@@ -49,3 +50,19 @@ pub record Steps (old new : Calls) (l : ℕ) (waits slow taken : Bool) : Type 0 
   pub low : length others < 6
   pub held : holds_in new.holds l ≡ (holds_in old.holds l || taken)
   pub holds : (x : ℕ) → x ≢ l → holds_in new.holds x ≡ holds_in old.holds x
+
+-- the same, as a processor notes how the call stands after the row
+abbrev pub StepsTo : Calls → Calls → ℕ → Standing → Type 0
+StepsTo old new l after = Steps old new l after.waits after.slow after.taken
+
+-- the notes are of some calls, and the one for the lock has made a row after which it stands so
+abbrev pub CanStep : Notes → ℕ → Standing → Type 0
+CanStep notes l after = (c d : Calls) × IsNoted notes c × StepsTo c d l after
+
+-- if the notes were of calls, they are of these calls after the row
+abbrev pub HasStepped : Notes → Notes → ℕ → Standing → Type 0
+HasStepped old new l after = (c d : Calls) → IsNoted old c → StepsTo c d l after → IsNoted new d
+
+-- a new call has taken the lock by its first row, or it waits, and not yet in the slow path
+abbrev pub first_standing : Bool → Standing
+first_standing taken = record { waits = not taken; slow = false; taken = taken }

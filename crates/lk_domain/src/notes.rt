@@ -1,8 +1,8 @@
 // What a processor notes of its calls and its locks.
-ghost use Rattle.std.specs.Prelude.{◌≡◌, ◌<◌, ◌∷◌, not, List, length, false};
+ghost use Rattle.std.specs.Prelude.{◌≡◌, ◌<◌, ◌∷◌, List, length, false};
 ghost use Rattle.std.specs.Prelude.{slice_index_or, slice_set};
 ghost use Rattle.lk_domain.specs.Calls.{Calls, Running, no_calls, holds_in, waits_in, slow_in};
-ghost use Rattle.lk_domain.specs.Marked.{IsNoted, Steps};
+ghost use Rattle.lk_domain.specs.Marked.{IsNoted, CanStep, HasStepped, first_standing};
 
 // What a processor notes of its calls and its locks, where its steps read it.
 #[derive(Drop)]
@@ -17,6 +17,15 @@ pub(crate) struct Notes {
     pub(crate) held: [bool; 32],
     pub(crate) waiting: [bool; 32],
     pub(crate) slow: [bool; 32],
+}
+
+// How the call for a lock stands after a row: whether it waits, whether it does so in the slow
+// path, and whether the row took the lock.
+#[derive(Clone, Copy)]
+pub(crate) struct Standing {
+    pub(crate) waits: bool,
+    pub(crate) slow: bool,
+    pub(crate) taken: bool,
 }
 
 impl Notes {
@@ -47,18 +56,18 @@ impl Notes {
     // most rows of a call that queues; and one that neither waited nor waits only that it took the
     // lock.
     #[inline]
-    pub(crate) fn step(&mut self, lock: u32, waits: bool, slow: bool, taken: bool)
+    pub(crate) fn step(&mut self, lock: u32, after: Standing)
         requires lock { lock < 32 }
-        requires steps { (c : Calls) × (d : Calls) × IsNoted self.old c × Steps c d lock waits slow taken }
-        ensures { (c : Calls) (d : Calls) → IsNoted self.old c → Steps c d lock waits slow taken
-            → IsNoted self.new d }
+        requires steps { CanStep self.old lock after }
+        ensures { HasStepped self.old self.new lock after }
     {
+        let Standing { waits, slow, taken } = after;
         let index = lock as usize;
         if waits && self.waiting[index] && self.slow[index] == slow && !taken {
             return;
         }
         if waits | self.waiting[index] {
-            self.step_waiting(lock, waits, slow, taken);
+            self.step_waiting(lock, after);
         } else if taken {
             self.held[index] = true;
         }
@@ -71,27 +80,30 @@ impl Notes {
     pub(crate) fn first_step(&mut self, lock: u32, taken: bool)
         requires lock { lock < 32 }
         requires fresh { slice_index_or self.old.waiting lock false ≡ false }
-        requires steps { (c : Calls) × (d : Calls) × IsNoted self.old c
-            × Steps c d lock (not taken) false taken }
-        ensures { (c : Calls) (d : Calls) → IsNoted self.old c
-            → Steps c d lock (not taken) false taken → IsNoted self.new d }
+        requires steps { CanStep self.old lock (first_standing taken) }
+        ensures { HasStepped self.old self.new lock (first_standing taken) }
     {
         if taken {
             self.held[lock as usize] = true;
         } else {
-            self.step_waiting(lock, true, false, false);
+            let waits = Standing {
+                waits: true,
+                slow: false,
+                taken: false,
+            };
+            self.step_waiting(lock, waits);
         }
     }
 
     // The call for the lock, which waited or waits, has made a row.
     #[cold]
     #[inline(never)]
-    fn step_waiting(&mut self, lock: u32, waits: bool, slow: bool, taken: bool)
+    fn step_waiting(&mut self, lock: u32, after: Standing)
         requires lock { lock < 32 }
-        requires steps { (c : Calls) × (d : Calls) × IsNoted self.old c × Steps c d lock waits slow taken }
-        ensures { (c : Calls) (d : Calls) → IsNoted self.old c → Steps c d lock waits slow taken
-            → IsNoted self.new d }
+        requires steps { CanStep self.old lock after }
+        ensures { HasStepped self.old self.new lock after }
     {
+        let Standing { waits, slow, taken } = after;
         let index = lock as usize;
         let others = self.depth - u32::from(self.waiting[index]);
         self.queued = self.queued - u32::from(self.slow[index]) + u32::from(slow);

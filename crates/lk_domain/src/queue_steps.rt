@@ -17,6 +17,7 @@ ghost use Rattle.lk_domain.specs.declared.part.Part.TheVariants as part_is;
 use crate::cpu::Cpu;
 use crate::domain::Domain;
 use crate::moves::WordUse;
+use crate::notes::Standing;
 use crate::part::Part;
 use crate::verbs::queues_up;
 use crate::{moves, node_moves};
@@ -38,7 +39,12 @@ fn enter(cpu: &mut Cpu, domain: &Domain, verb: Verb, own: NodeName, part: Part, 
 {
     let lock = cpu.notes.newest();
     node_moves::enter(&mut cpu.seat, domain, verb, own, part, value);
-    cpu.notes.step(lock, true, true, false);
+    let after = Standing {
+        waits: true,
+        slow: true,
+        taken: false,
+    };
+    cpu.notes.step(lock, after);
 }
 
 // Resets another word of the node to come.
@@ -96,7 +102,12 @@ pub fn enter_bare(cpu: &mut Cpu, domain: &Domain, verb: Verb, lock: LockName)
 {
     prove!(domain.plan.locks.len() <= 32);
     node_moves::enter_bare(&mut cpu.seat, domain, verb, lock);
-    cpu.notes.step(lock.index, true, true, false);
+    let after = Standing {
+        waits: true,
+        slow: true,
+        taken: false,
+    };
+    cpu.notes.step(lock.index, after);
 }
 
 /// Links the own node of the newest call behind its predecessor, which is the row G5. `mark` says
@@ -155,7 +166,12 @@ pub fn hand(cpu: &mut Cpu, domain: &Domain, verb: Verb, to: NodeName, flag: Flag
     let lock = cpu.notes.newest();
     let met = node_moves::hand(&mut cpu.seat, domain, verb, to, flag);
     let goes_on = queues_up(verb);
-    cpu.notes.step(lock, goes_on, false, !goes_on);
+    let after = Standing {
+        waits: goes_on,
+        slow: false,
+        taken: !goes_on,
+    };
+    cpu.notes.step(lock, after);
     met
 }
 
@@ -197,8 +213,12 @@ pub fn sole_claim(cpu: &mut Cpu, domain: &Domain, verb: Verb, lock: LockName, ow
     let met = moves::sole_claim(&mut cpu.seat, domain, verb, lock, own);
     let goes_on = queues_up(verb);
     let takes = met == alone;
-    cpu.notes
-        .step(lock.index, goes_on | !takes, !takes, !goes_on & takes);
+    let after = Standing {
+        waits: goes_on | !takes,
+        slow: !takes,
+        taken: !goes_on & takes,
+    };
+    cpu.notes.step(lock.index, after);
     met
 }
 

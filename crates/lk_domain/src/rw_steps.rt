@@ -16,6 +16,7 @@ ghost use Rattle.lk_domain.specs.Views.{IsNumbered};
 
 use crate::cpu::Cpu;
 use crate::domain::Domain;
+use crate::notes::Standing;
 use crate::rw_moves::{RwUse, act_by};
 use lk_abs::LockName;
 use lk_machine::Verb;
@@ -88,7 +89,12 @@ pub(crate) fn watch(cpu: &mut Cpu, domain: &Domain, verb: Verb, lock: u32) -> u6
     let met = act_by(&mut cpu.seat, domain, verb, lock, RwUse::Watches);
     let waits = waits_after_watch(verb, alone, met);
     let has = has_after_watch(verb, met);
-    cpu.notes.step(lock, waits, false, has);
+    let after = Standing {
+        waits,
+        slow: false,
+        taken: has,
+    };
+    cpu.notes.step(lock, after);
     met
 }
 
@@ -129,7 +135,12 @@ pub fn add_bias(cpu: &mut Cpu, domain: &Domain, verb: Verb, lock: LockName) -> u
     let met = act_by(&mut cpu.seat, domain, verb, lock.index, RwUse::Joins);
     let waits = waits_after_join(verb, waited, met);
     let has = has_after_join(verb, waited, met);
-    cpu.notes.step(lock.index, waits, false, has);
+    let after = Standing {
+        waits,
+        slow: false,
+        taken: has,
+    };
+    cpu.notes.step(lock.index, after);
     met
 }
 
@@ -175,7 +186,12 @@ pub fn empty_to_writer(cpu: &mut Cpu, domain: &Domain, verb: Verb, lock: LockNam
     let waited = cpu.notes.waiting[lock.index as usize];
     let met = act_by(&mut cpu.seat, domain, verb, lock.index, RwUse::Seizes);
     let waits = waits_after_seize(verb, waited, met);
-    cpu.notes.step(lock.index, waits, false, met == 0);
+    let after = Standing {
+        waits,
+        slow: false,
+        taken: met == 0,
+    };
+    cpu.notes.step(lock.index, after);
     met
 }
 
@@ -200,7 +216,12 @@ fn give_up(cpu: &mut Cpu, domain: &Domain, lock: u32) -> u64
 {
     prove!(domain.plan.locks.len() <= 32);
     let met = act_by(&mut cpu.seat, domain, Verb::TryRead, lock, RwUse::Quits);
-    cpu.notes.step(lock, false, false, false);
+    let after = Standing {
+        waits: false,
+        slow: false,
+        taken: false,
+    };
+    cpu.notes.step(lock, after);
     met
 }
 
@@ -274,8 +295,12 @@ pub fn waiting_to_writer(cpu: &mut Cpu, domain: &Domain, verb: Verb, lock: LockN
         lock.index,
         RwUse::Follows,
     );
-    cpu.notes
-        .step(lock.index, true, false, has_only_waiting(met));
+    let after = Standing {
+        waits: true,
+        slow: false,
+        taken: has_only_waiting(met),
+    };
+    cpu.notes.step(lock.index, after);
     met
 }
 

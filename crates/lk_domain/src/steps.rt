@@ -21,6 +21,7 @@ pub use crate::choice_steps::{
 use crate::cpu::{Cpu, Right};
 use crate::domain::Domain;
 use crate::moves::WordUse;
+use crate::notes::Standing;
 pub use crate::queue_steps::{
     enter_bare, exchange_tail, hand, link, look_own, private_store, set_locked, sole_claim,
 };
@@ -97,7 +98,12 @@ fn look_word(cpu: &mut Cpu, domain: &Domain, verb: Verb, lock: LockName) -> u64
     let slow = cpu.notes.slow[lock.index as usize];
     let met = seat_looks(&mut cpu.seat, domain, verb, lock);
     let waits = waits_after_look(verb, met);
-    cpu.notes.step(lock.index, waits, slow, false);
+    let after = Standing {
+        waits,
+        slow,
+        taken: false,
+    };
+    cpu.notes.step(lock.index, after);
     met
 }
 
@@ -139,7 +145,12 @@ pub fn take_free(cpu: &mut Cpu, domain: &Domain, verb: Verb, lock: LockName) -> 
     let met = seat_takes(&mut cpu.seat, domain, verb, lock);
     let waits = waits_after_take(verb, met);
     let has = has_after_take(verb, met);
-    cpu.notes.step(lock.index, waits, slow & (met != 0), has);
+    let after = Standing {
+        waits,
+        slow: slow & (met != 0),
+        taken: has,
+    };
+    cpu.notes.step(lock.index, after);
     met
 }
 
@@ -188,7 +199,12 @@ fn free_wait(cpu: &mut Cpu, domain: &Domain, verb: Verb, lock: LockName) -> u64
 {
     prove!(domain.plan.locks.len() <= 32);
     let met = moves::go_on(&mut cpu.seat, domain, verb, lock, WordUse::Frees);
-    cpu.notes.step(lock.index, false, false, false);
+    let after = Standing {
+        waits: false,
+        slow: false,
+        taken: false,
+    };
+    cpu.notes.step(lock.index, after);
     met
 }
 
@@ -244,6 +260,11 @@ pub fn pending_to_locked(cpu: &mut Cpu, domain: &Domain, verb: Verb, lock: LockN
     prove!(domain.plan.locks.len() <= 32);
     let met = moves::go_on(&mut cpu.seat, domain, verb, lock, WordUse::Claims);
     let goes_on = queues_up(verb);
-    cpu.notes.step(lock.index, goes_on, false, !goes_on);
+    let after = Standing {
+        waits: goes_on,
+        slow: false,
+        taken: !goes_on,
+    };
+    cpu.notes.step(lock.index, after);
     met
 }
