@@ -20,8 +20,8 @@ use Rattle.lk_domain.specs.declared.cpu.Cpu.{Cpu}
 use Rattle.lk_domain.specs.declared.domain.Domain.{Domain}
 use Rattle.lk_run.specs.Entering.{HasEntered}
 use Rattle.lk_run.specs.Polls.{NeverFalls, RisesBy, HasStayed, Acquires}
-use Rattle.lk_run.specs.Phases.{Start, newest, Waits, WaitsAs, CameIn, HasPassed, Passed}
-use Rattle.lk_run.specs.Standing.{Outside, Inside, Entered, IsOn}
+use Rattle.lk_run.specs.Phases.{Start, newest, Waits, HasPolled, CameIn, HasPassed, Passed}
+use Rattle.lk_run.specs.Standing.{Outside, Inside, Entered, IsOn, waiter}
 use Rattle.lk_run.proofs.RwRows.{TakesBy, SetsOut, FreesIt}
 use Rattle.lk_run.proofs.Standing as path
 use Rattle.lk_run.proofs.Polls.{stays_before}
@@ -97,7 +97,7 @@ module _ (d : Domain) (v : Verb) (l : ℕ) (a b : Cpu) (rest : KeepsRest a b) (o
 -- a call that has the wait lock enters its lock
 module _ (d : Domain) (v : Verb) (l : ℕ) (a b : Cpu) (rest : KeepsRest a b) (of : IsOf a d) (x : Met)
     (step : view_of b ≡ rowed (view_of a) (calls_of a) x) (c : Pc) (s : Start) (told : Option ℕ)
-    (w : WaitsAs Inside d v (wait_name l) c Any s a told) where
+    (w : HasPolled (waiter Inside d v (wait_name l)) c Any s a told) where
   pub here : IsOn (terms_of d.plan) b.number v (wait_name l) c Any Inside s.calls (calls_of a)
   here = subst (λ (m : ℕ). IsOn (terms_of d.plan) m v (wait_name l) c Any Inside s.calls (calls_of a)) (sym rest.same.number) w.looked.at
 

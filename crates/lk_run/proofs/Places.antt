@@ -139,6 +139,9 @@ pub small_link : (k : Plan) (n : ℕ) (x : Option NodeName) → IfSome x (IsNode
 small_link k n None node e h = omega (arith, e)
 small_link k n (Some m) node e h = let a = node.cpu in let b = node.index in omega (arith, e, h, a, b)
 
+pub name_low : (k : Plan) (n : NodeName) → cpus_of k ≤ 64 → IsNode k n → name_number n < 4294967296
+name_low k n few node = let a = node.cpu in let b = node.index in omega (arith, few, a, b)
+
 pub name_is : (k : Plan) (met : ℕ) (mark : Bool) (x : Option NodeName) → IfSome x (IsNode k) → met ≡ marked mark (link_number x)
     → cpus_of k ≤ 64 → met % 4294967296 ≡ link_number x
 name_is k met mark x node is few =

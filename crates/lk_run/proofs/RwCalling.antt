@@ -18,8 +18,8 @@ use Rattle.lk_domain.specs.declared.domain.Domain.{Domain}
 use Rattle.lk_domain.proofs.Turned.{is_taking}
 use Rattle.lk_run.specs.Phases.{Start, StandsAs, CameIn, Passed}
 use Rattle.lk_run.specs.Polls.{Rises}
-use Rattle.lk_run.specs.Standing.{Outside, Inside}
-use Rattle.lk_run.specs.Waiters.{Waiter, Waits, Looked, At, Waiting, Steps, Looks, Gets, Goes, Earns}
+use Rattle.lk_run.specs.Standing.{Outside, Inside, Waiter, waiter}
+use Rattle.lk_run.specs.Waiters.{Waits, Looked, At, Waiting, Steps, Looks, Gets, Goes, Earns}
 use Rattle.lk_run.proofs.RwRows as row
 use Rattle.lk_run.proofs.RwSteps as rw
 use Rattle.lk_run.proofs.Steps.{still_of, rest_both, rest_same}
@@ -29,10 +29,10 @@ use Rattle.lk_run.proofs.Ways.{Leads, sees}
 -- without the wait lock, and with it
 
 abbrev pub out : Domain → Verb → ℕ → Waiter
-out d v l = record { stage = Outside; domain = d; verb = v; lock = lock_name l }
+out d v l = waiter Outside d v (lock_name l)
 
 abbrev pub within : Domain → Verb → ℕ → Waiter
-within d v l = record { stage = Inside; domain = d; verb = v; lock = wait_name l }
+within d v l = waiter Inside d v (wait_name l)
 
 -- a call that stands there
 module _ {w : Waiter} {c : Pc} {a : Cpu} (at : At w c a) where

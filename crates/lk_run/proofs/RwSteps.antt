@@ -28,8 +28,8 @@ use Rattle.lk_domain.specs.declared.domain.Domain.{Domain}
 use Rattle.lk_domain.proofs.Acting.{acts_on, begins_on}
 use Rattle.lk_domain.proofs.Turned.{is_taking}
 use Rattle.lk_domain.proofs.Ways.{acts_first}
-use Rattle.lk_run.specs.Phases.{Start, StandsAs, Waits, WaitsAs, CameIn, Passed, biased, starting}
-use Rattle.lk_run.specs.Standing.{Stage, Outside, Inside, IsOn}
+use Rattle.lk_run.specs.Phases.{Start, StandsAs, Waits, HasPolled, CameIn, Passed, biased, starting}
+use Rattle.lk_run.specs.Standing.{Stage, Outside, Inside, IsOn, waiter}
 use Rattle.lk_run.proofs.Entered as enter
 use Rattle.lk_run.proofs.Polls.{falls_none}
 use Rattle.lk_run.proofs.RwRows.{TakesBy, SetsOut, FreesIt}
@@ -131,7 +131,7 @@ module _ (d : Domain) (v : Verb) (l : ℕ) (a b : Cpu) (rest : KeepsRest a b) (o
 -- with it
 module _ (d : Domain) (v : Verb) (l : ℕ) (a b : Cpu) (rest : KeepsRest a b) (of : IsOf a d) (takes : is_taking v ≡ true)
     {met : ℕ} (made : SharedBy v l a.seat.me met b.seat.me) (c : Pc) (s : Start) (told : Option ℕ)
-    (w : WaitsAs Inside d v (wait_name l) c Any s a told) where
+    (w : HasPolled (waiter Inside d v (wait_name l)) c Any s a told) where
   pub on_passes : (m : Manner) → ((f : Frame) → TakesBy d.plan.mode b.number (way.sees d a b) c f (Shared made.found) m (Some U1)) → (U1 ≡ c → ⊥)
       → Passed d v l m s b told
   on_passes m leads other =

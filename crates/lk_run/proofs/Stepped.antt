@@ -30,8 +30,8 @@ use Rattle.lk_domain.proofs.Acting.{acts_on, begins_on}
 use Rattle.lk_domain.proofs.Paths as domain_path
 use Rattle.lk_domain.proofs.Turned.{is_taking, verb_self}
 use Rattle.lk_run.specs.Polls.{Rises, RisesBy, HasStayed, Acquires}
-use Rattle.lk_run.specs.Phases.{Start, newest, StandsAs, LookedAs, WaitsAs, Waits, Won, Queues, starting}
-use Rattle.lk_run.specs.Standing.{Stage, Outside, Inside, IsOn}
+use Rattle.lk_run.specs.Phases.{Start, newest, StandsAs, OwesPoll, HasPolled, Waits, Won, Queues, starting}
+use Rattle.lk_run.specs.Standing.{Stage, Outside, Inside, IsOn, waiter}
 use Rattle.lk_run.proofs.Polls.{falls_none}
 use Rattle.lk_run.proofs.Standing as path
 use Rattle.lk_run.proofs.Steps.{passes_none}
@@ -53,21 +53,21 @@ module _ (d : Domain) (v : Verb) (n : LockName) (a b : Cpu) (rest : KeepsRest a 
 
   -- the call goes on
   module _ (x : Met) (step : view_of b ≡ rowed (view_of a) (calls_of a) x) (c : Pc) (P : Frame → Type 0) (stage : Stage)
-      (s : Start) (told : Option ℕ) (w : WaitsAs stage d v n c P s a told) where
+      (s : Start) (told : Option ℕ) (w : HasPolled (waiter stage d v n) c P s a told) where
     pub here : IsOn (terms_of d.plan) b.number v n c P stage s.calls (calls_of a)
     here = subst (λ (m : ℕ). IsOn (terms_of d.plan) m v n c P stage s.calls (calls_of a)) (sym rest.same.number) w.looked.at
 
     pub on_looks_as : (Q : Frame → Type 0) → ((f : Frame) → P f → Leads d.plan.mode b.number (way.sees d a b) c f x c Q)
-        → LookedAs stage d v n c Q s b told
+        → OwesPoll (waiter stage d v n) c Q s b told
     on_looks_as Q leads =
         way.looks d v n a b rest of (calls_of a) x step c P stage s here told w.looked.passes w.looked.falls w.rises w.looked.once Q
         (leads here.frame here.has)
 
-    pub on_looks : ((f : Frame) → P f → Leads d.plan.mode b.number (way.sees d a b) c f x c P) → LookedAs stage d v n c P s b told
+    pub on_looks : ((f : Frame) → P f → Leads d.plan.mode b.number (way.sees d a b) c f x c P) → OwesPoll (waiter stage d v n) c P s b told
     on_looks leads = on_looks_as P leads
 
     pub on_goes : (e : Pc) (Q : Frame → Type 0) → (e ≡ c → ⊥) → ((f : Frame) → P f → Leads d.plan.mode b.number (way.sees d a b) c f x e Q)
-        → WaitsAs stage d v n e Q s b told
+        → HasPolled (waiter stage d v n) e Q s b told
     on_goes e Q other leads =
         way.goes d v n a b rest of (calls_of a) x step c P stage s here told w.looked.passes w.looked.falls w.rises w.looked.once e Q other
         (leads here.frame here.has)
@@ -264,15 +264,15 @@ module _ (d : Domain) (v : Verb) (n : LockName) (c : Pc) (P : Frame → Type 0) 
 
 -- nested calls leave a call where it is that has no lock yet, and it has polled
 pub polled : (d : Domain) (v : Verb) (n : LockName) (c : Pc) (P : Frame → Type 0) (s : Start) (a b : Cpu)
-    (before after : Option ℕ) → LookedAs Outside d v n c P s a before → KeepsRest a b → AreKept (calls_of a) (calls_of b)
+    (before after : Option ℕ) → OwesPoll (waiter Outside d v n) c P s a before → KeepsRest a b → AreKept (calls_of a) (calls_of b)
     → Passes (is_busy (calls_of a)) (ledger_of a) (ledger_of b) → Rises before after → Waits d v n c P s b after
 polled d v n c P s a b before after looked rest kept passes rose =
     way.polled_at d v n c P Outside s a b before after looked refl (ap (λ hs. holds_in hs 0) looked.at.holds) rest kept passes rose
 
 -- nor one that has the wait lock
 pub polled_in : (d : Domain) (v : Verb) (l : ℕ) (c : Pc) (P : Frame → Type 0) (s : Start) (a b : Cpu)
-    (before after : Option ℕ) → LookedAs Inside d v (wait_name l) c P s a before → KeepsRest a b → AreKept (calls_of a) (calls_of b)
-    → Passes (is_busy (calls_of a)) (ledger_of a) (ledger_of b) → Rises before after → WaitsAs Inside d v (wait_name l) c P s b after
+    (before after : Option ℕ) → OwesPoll (waiter Inside d v (wait_name l)) c P s a before → KeepsRest a b → AreKept (calls_of a) (calls_of b)
+    → Passes (is_busy (calls_of a)) (ledger_of a) (ledger_of b) → Rises before after → HasPolled (waiter Inside d v (wait_name l)) c P s b after
 polled_in d v l c P s a b before after looked rest kept passes rose =
     way.polled_at d v (wait_name l) c P Inside s a b before after looked refl
     (ap (λ hs. holds_in hs 0) looked.at.holds.1

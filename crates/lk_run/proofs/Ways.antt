@@ -35,8 +35,8 @@ use Rattle.lk_domain.specs.declared.cpu.Cpu.{Cpu}
 use Rattle.lk_domain.specs.declared.domain.Domain.{Domain}
 use Rattle.lk_domain.specs.declared.view.View.{View}
 use Rattle.lk_run.specs.Polls.{Rises, NeverFalls, RisesBy, HasStayed, Acquires}
-use Rattle.lk_run.specs.Phases.{Start, newest, LookedAs, WaitsAs, Holds, Won, Queues, resumes}
-use Rattle.lk_run.specs.Standing.{Stage, Outside, Inside, IsOn, locks_at}
+use Rattle.lk_run.specs.Phases.{Start, newest, OwesPoll, HasPolled, Holds, Won, Queues, resumes}
+use Rattle.lk_run.specs.Standing.{Stage, Outside, Inside, IsOn, locks_at, waiter}
 use Rattle.lk_run.proofs.Polls.{rises_after, falls_after, stays_before, more_after, polled_by}
 use Rattle.lk_run.proofs.Standing as path
 use Rattle.lk_run.proofs.Steps.{passes_none, passes_both, looked}
@@ -241,7 +241,7 @@ module _ (d : Domain) (v : Verb) (n : LockName) (a b : Cpu) (rest : KeepsRest a 
       (turns d v n a b rest of was x step c P stage s.calls at
       ∙ ap (λ y. turned (ledger_of a) (held_lock (target c f') f') y (at.trail ++ marked d b was c x ∷ [])) grip))
 
-  goes_to : (e : Pc) (Q : Frame → Type 0) → Leads mode' b.number z' c f' x e Q → LookedAs stage d v n e Q s b told
+  goes_to : (e : Pc) (Q : Frame → Type 0) → Leads mode' b.number z' c f' x e Q → OwesPoll (waiter stage d v n) e Q s b told
   goes_to e Q leads =
       record {
         at = subst (IsOn (terms_of d.plan) b.number v n e Q stage s.calls) (sym (calls d v n a b rest of was x step c P stage s.calls at))
@@ -254,11 +254,11 @@ module _ (d : Domain) (v : Verb) (n : LockName) (a b : Cpu) (rest : KeepsRest a 
       }
 
   -- the row leads back to itself
-  pub looks : (Q : Frame → Type 0) → Leads mode' b.number z' c f' x c Q → LookedAs stage d v n c Q s b told
+  pub looks : (Q : Frame → Type 0) → Leads mode' b.number z' c f' x c Q → OwesPoll (waiter stage d v n) c Q s b told
   looks Q leads = goes_to c Q leads
 
   -- it leads to another
-  pub goes : (e : Pc) (Q : Frame → Type 0) → (e ≡ c → ⊥) → Leads mode' b.number z' c f' x e Q → WaitsAs stage d v n e Q s b told
+  pub goes : (e : Pc) (Q : Frame → Type 0) → (e ≡ c → ⊥) → Leads mode' b.number z' c f' x e Q → HasPolled (waiter stage d v n) e Q s b told
   goes e Q other leads = record { looked = goes_to e Q leads; rises = polls e other leads.place }
 
 -- it takes the lock for which it queued
@@ -299,12 +299,12 @@ module _ (d : Domain) (v : Verb) (n : LockName) (a b : Cpu) (rest : KeepsRest a 
       }
 
   -- the wait lock
-  grants : Queues v n → is_rw_row c ≡ false → n.wait ≡ true → WaitsAs Inside d v (wait_name n.index) (resumes v) Any s b told
+  grants : Queues v n → is_rw_row c ≡ false → n.wait ≡ true → HasPolled (waiter Inside d v (wait_name n.index)) (resumes v) Any s b told
   grants queues spin wait =
       let name : n ≡ wait_name n.index = λ i. record { index = n.index; wait = wait i } in
       let place : (next_frame d.plan.mode b.number (sight_of (terms_of d.plan) b.number was.runs) c at.frame x).place ≡ Some (resumes v) =
       ends.place ∙ (if-true at.frame.lock.wait at.frame.then None (wait_is ∙ wait) ∙ (at.after wait ∙ next_is v n queues wait)) in
-      subst (λ (z : LockName). WaitsAs Inside d v z (resumes v) Any s b told) name (record {
+      subst (λ (z : LockName). HasPolled (waiter Inside d v z) (resumes v) Any s b told) name (record {
         looked = record {
           at = subst (IsOn (terms_of d.plan) b.number v n (resumes v) Any Inside s.calls)
               (sym (calls d v n a b rest of was x step c P Outside s.calls at))
@@ -329,9 +329,9 @@ module _ (d : Domain) (v : Verb) (n : LockName) (a b : Cpu) (rest : KeepsRest a 
 
 -- nested calls leave the call where it is, and it has polled
 pub polled_at : (d : Domain) (v : Verb) (n : LockName) (c : Pc) (P : Frame → Type 0) (stage : Stage) (s : Start) (a b : Cpu)
-    (before after : Option ℕ) → LookedAs stage d v n c P s a before → path.is_polled stage ≡ true
+    (before after : Option ℕ) → OwesPoll (waiter stage d v n) c P s a before → path.is_polled stage ≡ true
     → holds_in (calls_of a).holds 0 ≡ holds_in s.calls.holds 0 → KeepsRest a b → AreKept (calls_of a) (calls_of b)
-    → Passes (is_busy (calls_of a)) (ledger_of a) (ledger_of b) → Rises before after → WaitsAs stage d v n c P s b after
+    → Passes (is_busy (calls_of a)) (ledger_of a) (ledger_of b) → Rises before after → HasPolled (waiter stage d v n) c P s b after
 polled_at d v n c P stage s a b before after looked is same rest kept passes rose =
     let at = looked.at in
     let busy : is_busy (calls_of a) ≡ ((eqb n.index 0) || is_busy s.calls) =

@@ -24,7 +24,7 @@ use Rattle.lk_domain.specs.Seats.{calls_of, ledger_of}
 use Rattle.lk_domain.specs.declared.cpu.Cpu.{Cpu}
 use Rattle.lk_domain.specs.declared.domain.Domain.{Domain}
 use Rattle.lk_run.specs.Polls.{NeverFalls, RisesBy, HasStayed, IsPolled, Acquires}
-use Rattle.lk_run.specs.Standing.{Stage, Outside, Inside, Entered, IsOn, locks_at}
+use Rattle.lk_run.specs.Standing.{Stage, Outside, Inside, Entered, Waiter, waiter, IsOn, locks_at}
 use Rattle.lk_run.specs.Entering.{PathTo, HasEntered}
 
 -- what was there when the call began: the processor's calls, what it knew of the ledger, and what
@@ -68,20 +68,20 @@ StandsAs stage domain v n c P cpu =
     (old : Calls) × IsOn (terms_of domain.plan) cpu.number v n c P stage old (calls_of cpu)
 
 -- The call that began so stands there; since then nested calls alone have changed the ledger, and it
--- has taken the locks of its stage. The source was polled after each look after which the place was
--- the same, but for the last one.
-pub record LookedAs (stage : Stage) (domain : Domain) (v : Verb) (n : LockName) (c : Pc)
-    (P : Frame → Type 0) (s : Start) (cpu : Cpu) (told : Option ℕ) : Type 0 where
-  pub at : IsOn (terms_of domain.plan) cpu.number v n c P stage s.calls (calls_of cpu)
-  pub passes : Passes ((n.index == 0) || is_busy s.calls) s.ledger (ledger_of cpu)
+-- has taken the locks of its stage. It owes a poll: the source was polled after each look after which
+-- the place was the same, but for the last one.
+pub record OwesPoll (w : Waiter) (c : Pc) (P : Frame → Type 0) (s : Start) (cpu : Cpu)
+    (told : Option ℕ) : Type 0 where
+  pub at : IsOn (terms_of w.domain.plan) cpu.number w.verb w.lock c P w.stage s.calls (calls_of cpu)
+  pub passes : Passes ((w.lock.index == 0) || is_busy s.calls) s.ledger (ledger_of cpu)
   pub falls : NeverFalls s.told told
   pub stays : (k : ℕ) → HasStayed k (newest (calls_of cpu).frames) → RisesBy k s.told told
-  pub once : Acquires (locks_at stage) s.calls (calls_of cpu) s.told told
+  pub once : Acquires (locks_at w.stage) s.calls (calls_of cpu) s.told told
 
 -- and after the last one too
-pub record WaitsAs (stage : Stage) (domain : Domain) (v : Verb) (n : LockName) (c : Pc)
-    (P : Frame → Type 0) (s : Start) (cpu : Cpu) (told : Option ℕ) : Type 0 where
-  pub looked : LookedAs stage domain v n c P s cpu told
+pub record HasPolled (w : Waiter) (c : Pc) (P : Frame → Type 0) (s : Start) (cpu : Cpu)
+    (told : Option ℕ) : Type 0 where
+  pub looked : OwesPoll w c P s cpu told
   pub rises : (x : Met) (n k : ℕ)
       → HasStayed k (newest (calls_of cpu).frames ++ mark c x n ∷ [])
       → RisesBy k s.told told
@@ -89,7 +89,7 @@ pub record WaitsAs (stage : Stage) (domain : Domain) (v : Verb) (n : LockName) (
 -- the same of a call that has no lock yet
 abbrev pub Waits : Domain → Verb → LockName → Pc → (Frame → Type 0) → Start → Cpu → Option ℕ
     → Type 0
-Waits domain v n c P s cpu told = WaitsAs Outside domain v n c P s cpu told
+Waits domain v n c P s cpu told = HasPolled (waiter Outside domain v n) c P s cpu told
 
 -- the call that began so has taken the lock, by its last row
 pub record Holds (domain : Domain) (v : Verb) (l : ℕ) (manner : Manner) (s : Start) (cpu : Cpu)
@@ -134,7 +134,8 @@ starting cpu told = record { calls = calls_of cpu; ledger = ledger_of cpu; told 
 -- then it goes on.
 abbrev pub Won : Bool → Domain → Verb → ℕ → Start → Cpu → Option ℕ → Type 0
 Won false domain v l s cpu told = Holds domain v l Spins s cpu told
-Won true domain v l s cpu told = WaitsAs Inside domain v (wait_name l) (resumes v) Any s cpu told
+Won true domain v l s cpu told =
+    HasPolled (waiter Inside domain v (wait_name l)) (resumes v) Any s cpu told
 
 -- the call has met a word by the first row for its lock that was not free, and goes on by it
 pub record Arrives (domain : Domain) (v : Verb) (n : LockName) (met : ℕ) (s : Start) (cpu : Cpu)

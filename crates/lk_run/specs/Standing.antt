@@ -10,6 +10,7 @@ use Rattle.lk_machine.specs.Moves.{wait_name}
 use Rattle.lk_law.specs.Sound.{after_wait, takes_wait}
 use Rattle.lk_domain.specs.Calls.{Terms, Mark, running, hold, held_in, Hold, Calls, begun, lock_name}
 use Rattle.lk_domain.specs.Paths.{Walk}
+use Rattle.lk_domain.specs.declared.domain.Domain.{Domain}
 
 -- which locks a call has: none, the wait lock of its lock, or its lock in this manner besides
 pub data Stage : Type 0 where
@@ -17,7 +18,17 @@ pub data Stage : Type 0 where
   Inside : Stage
   Entered : Manner → Stage
 
--- how many these are
+-- which call waits: what of its lock it has, its domain, its operation, and the lock on which it acts
+pub record Waiter : Type 0 where
+  pub stage : Stage
+  pub domain : Domain
+  pub verb : Verb
+  pub lock : LockName
+
+abbrev pub waiter : Stage → Domain → Verb → LockName → Waiter
+waiter stage domain verb lock = record { stage = stage; domain = domain; verb = verb; lock = lock }
+
+-- how many locks a call has at a stage
 abbrev pub locks_at : Stage → ℕ
 locks_at Outside = 0
 locks_at Inside = 1

@@ -1,30 +1,20 @@
 -- What contracts say of a reader or a writer that waits: where it stands, and what a row, or a path of
 -- rows, does. `Words` says the same of a call that queues.
 use Rattle.std.specs.Prelude.{ℕ, Option}
-use Rattle.lk_abs.specs.declared.names.LockName.{LockName}
 use Rattle.lk_machine.specs.declared.parts.Pc.{Pc}
-use Rattle.lk_machine.specs.declared.setup.Verb.{Verb}
 use Rattle.lk_domain.specs.Paths.{Any}
 use Rattle.lk_domain.specs.Seats.{IsOf, KeepsRest}
 use Rattle.lk_domain.specs.declared.cpu.Cpu.{Cpu}
-use Rattle.lk_domain.specs.declared.domain.Domain.{Domain}
-use Rattle.lk_run.specs.Phases.{Start, LookedAs, WaitsAs}
-use Rattle.lk_run.specs.Standing.{Stage}
-
--- which call: its domain, its operation, the lock on which it acts, and what of its lock it has
-pub record Waiter : Type 0 where
-  pub stage : Stage
-  pub domain : Domain
-  pub verb : Verb
-  pub lock : LockName
+use Rattle.lk_run.specs.Phases.{Start, OwesPoll, HasPolled}
+use Rattle.lk_run.specs.Standing.{Waiter}
 
 -- how the call waits that began so: it was polled after each look after which it stood where it stood
 abbrev pub Waits : Waiter → Pc → Start → Cpu → Option ℕ → Type 0
-Waits w c s cpu told = WaitsAs w.stage w.domain w.verb w.lock c Any s cpu told
+Waits w c s cpu told = HasPolled w c Any s cpu told
 
 -- and but for the last look
 abbrev pub Looked : Waiter → Pc → Start → Cpu → Option ℕ → Type 0
-Looked w c s cpu told = LookedAs w.stage w.domain w.verb w.lock c Any s cpu told
+Looked w c s cpu told = OwesPoll w c Any s cpu told
 
 -- some call waits so at the row c
 pub record At (w : Waiter) (c : Pc) (cpu : Cpu) : Type 0 where

@@ -9,9 +9,9 @@ use Rattle.lk_domain.specs.Calls.{slows}
 use Rattle.lk_domain.specs.Paths.{Any}
 use Rattle.lk_domain.specs.Seats.{IsOf, KeepsRest, calls_of}
 use Rattle.lk_domain.specs.declared.cpu.Cpu.{Cpu}
-use Rattle.lk_run.specs.Phases.{Start, LookedAs, WaitsAs, Arrives}
+use Rattle.lk_run.specs.Phases.{Start, OwesPoll, HasPolled, Arrives}
 use Rattle.lk_run.specs.Phases as phase
-use Rattle.lk_run.specs.Standing.{Outside}
+use Rattle.lk_run.specs.Standing.{Outside, waiter}
 use Rattle.lk_run.specs.declared.call.Call.{Call}
 
 -- the node is that of the next call of the processor that queues
@@ -21,11 +21,11 @@ pub record IsNext (own : NodeName) (cpu : Cpu) : Type 0 where
 
 -- how the call waits that began so: it was polled after each look after which it stood where it stood
 abbrev pub Waits : Call → Pc → (Frame → Type 0) → Start → Cpu → Option ℕ → Type 0
-Waits w c P s cpu told = WaitsAs Outside w.domain.now w.verb w.lock c P s cpu told
+Waits w c P s cpu told = HasPolled (waiter Outside w.domain.now w.verb w.lock) c P s cpu told
 
 -- and but for the last look
 abbrev pub Looked : Call → Pc → (Frame → Type 0) → Start → Cpu → Option ℕ → Type 0
-Looked w c P s cpu told = LookedAs Outside w.domain.now w.verb w.lock c P s cpu told
+Looked w c P s cpu told = OwesPoll (waiter Outside w.domain.now w.verb w.lock) c P s cpu told
 
 -- the call that began so has the lock for which it queued
 abbrev pub Has : Call → Start → Cpu → Option ℕ → Type 0

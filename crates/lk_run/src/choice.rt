@@ -1,21 +1,19 @@
 // The rows of a front that has the lock and chooses whom to hand the lead, one step each. The main
 // queue is shown as (own, a .. b, y, ..), and the second one, of those that stand aside, as
 // [first .. t].
-ghost use Rattle.std.specs.Prelude.{◌≡◌, Bool, true, false, IfSome, None, Some};
+ghost use Rattle.std.specs.Prelude.{◌≡◌, true, false, IfSome, None, Some};
 ghost use Rattle.lk_word.specs.declared.spin_word.NodeName.{NodeName as Node};
 ghost use Rattle.lk_machine.specs.declared.parts.Pc.TheVariants.{C1, C2, C3, C4, C5, C6, C7, C8};
 ghost use Rattle.lk_machine.specs.declared.parts.Pc.TheVariants.{C9, C10};
-ghost use Rattle.lk_run.specs.Choices.{IsFirstNode, IsMoreNode};
-ghost use Rattle.lk_run.specs.Heads.{At, Steps, Looks, LooksOn, Takes, IsNodeOf, Fronts};
-ghost use Rattle.lk_run.specs.Heads.{FrontsWith};
-ghost use Rattle.lk_run.specs.Heads.{Precedes, Skips, Appends, Ties, Parts, Flushes, Returns};
-ghost use Rattle.lk_run.specs.Heads.{Promotes, Promoting};
+ghost use Rattle.lk_run.specs.Choosing.{HasLookedBehind, HasLookedBeyond, HasTailToAppend};
+ghost use Rattle.lk_run.specs.Choosing.{HasTailToFlush};
+ghost use Rattle.lk_run.specs.Heads.{At, Steps, Takes, IsNodeOf, Fronts, FrontsWith, Precedes};
+ghost use Rattle.lk_run.specs.Heads.{Skips, Appends, Ties, Parts, Flushes, Returns, Promotes};
+ghost use Rattle.lk_run.specs.Heads.{Promoting};
 ghost use Rattle.lk_run.specs.Phases.{Knows};
-ghost use Rattle.lk_run.specs.declared.seen.First.TheVariants as first_is;
-ghost use Rattle.lk_run.specs.declared.seen.More.TheVariants as more_is;
 
 use crate::call::Front;
-use crate::seen::{First, More, Site};
+use crate::seen::{Behind, More, Site};
 use crate::words::{flag_for, is_last, mark_met, node_met, tail_met, word_met};
 use lk_domain::{Cpu, Part, steps};
 use lk_word::NodeName;
@@ -27,34 +25,20 @@ impl<'a> Front<'a> {
     // chosen where nobody stands aside. Where nobody is behind, those aside are all of the rest.
     // The answer has the mark of the link besides: C4 and C9 store it again with the node that it
     // came with.
-    pub(crate) fn look_first(&self, cpu: &mut Cpu) -> (First, bool)
+    pub(crate) fn look_first(&self, cpu: &mut Cpu) -> Behind
         requires { At self.now C1 Fronts cpu.old }
-        ensures node { IsFirstNode self.now.call.domain.now.plan result.0 }
-        ensures waits { result.0 ≡ first_is.Waits → Looks self.now C1 Fronts cpu.old cpu.new }
-        ensures named { (first : Node)
-            → result.0 ≡ first_is.Promotes first → self.now.second ≡ Some first }
-        ensures promotes { (first : Node) → result.0 ≡ first_is.Promotes first
-            → Steps self.now C1 Fronts C3 (Promotes first) cpu.old cpu.new }
-        ensures chooses { (y : Node) → result.0 ≡ first_is.Chooses y
-            → Steps self.now C1 Fronts C7 (Precedes self.now.second y) cpu.old cpu.new }
-        ensures skips { (a : Node) → result.0 ≡ first_is.Skips a
-            → Steps self.now C1 Fronts C2 (Skips a a) cpu.old cpu.new }
-        ensures flushes { (first a : Node) → result.0 ≡ first_is.Flushes first a
-            → Steps self.now C1 Fronts C3 (Flushes first a) cpu.old cpu.new }
-        ensures skipped { (a : Node) → result.0 ≡ first_is.Skips a → Knows a result.1 cpu.new }
-        ensures flushed { (first a : Node)
-            → result.0 ≡ first_is.Flushes first a → Knows a result.1 cpu.new }
+        ensures { HasLookedBehind self.now result cpu.old cpu.new }
     {
         let domain = self.call.domain;
         let runs = steps::own_runs(cpu, domain, self.call.verb, self.own);
         let met = steps::look_own(cpu, domain, self.call.verb, self.own, Part::Next);
-        let mark = mark_met(domain, met);
+        let mark = mark_met(met);
         let site = Site {
             domain,
             cpu: cpu.number(),
         };
         let seen = site.first_seen(runs, self.second, node_met(domain, met), mark);
-        (seen, mark)
+        Behind { seen, mark }
     }
 
     // The row C2: what the link of b, the last that was passed over, says. A local waiter is
@@ -62,23 +46,11 @@ impl<'a> Front<'a> {
     pub(crate) fn look_more(&self, cpu: &mut Cpu, b: NodeName) -> More
         requires b { IsNodeOf self.now b }
         requires waits { (a : Node) × At self.now C2 (Skips a b) cpu.old }
-        ensures node { IsMoreNode self.now.call.domain.now.plan result }
-        ensures skips { (a next : Node) → result ≡ more_is.Skips next
-            → LooksOn self.now C2 (Skips a b) (Skips a next) cpu.old cpu.new }
-        ensures appends { (a first y : Node) → result ≡ more_is.Appends first y
-            → Steps self.now C2 (Skips a b) C3 (Appends first a b y) cpu.old cpu.new }
-        ensures begins { (a y : Node) → result ≡ more_is.Begins y
-            → Steps self.now C2 (Skips a b) C5 (Parts a b y) cpu.old cpu.new }
-        ensures flushes { (a first : Node) → result ≡ more_is.Flushes first
-            → Steps self.now C2 (Skips a b) C3 (Flushes first a) cpu.old cpu.new }
-        ensures chooses { (a : Node) → result ≡ more_is.Chooses
-            → Steps self.now C2 (Skips a b) C7 (Precedes self.now.second a) cpu.old cpu.new }
-        ensures knows { (first : Node) (mark : Bool)
-            → Knows first mark cpu.old → Knows first mark cpu.new }
+        ensures { HasLookedBeyond self.now b result cpu.old cpu.new }
     {
         let domain = self.call.domain;
         let met = steps::look_next(cpu, domain, self.call.verb, b);
-        let mark = mark_met(domain, met);
+        let mark = mark_met(met);
         let site = Site {
             domain,
             cpu: cpu.number(),
@@ -91,11 +63,7 @@ impl<'a> Front<'a> {
     pub(crate) fn tail_to_append(&self, cpu: &mut Cpu, first: NodeName) -> NodeName
         requires first { IsNodeOf self.now first }
         requires waits { (a b y : Node) × At self.now C3 (Appends first a b y) cpu.old }
-        ensures node { IsNodeOf self.now result }
-        ensures goes { (a b y : Node)
-            → Steps self.now C3 (Appends first a b y) C4 (Ties first a b y result) cpu.old
-            cpu.new }
-        ensures knows { (a : Node) (mark : Bool) → Knows a mark cpu.old → Knows a mark cpu.new }
+        ensures { HasTailToAppend self.now first result cpu.old cpu.new }
     {
         let met = steps::second_tail(cpu, self.call.domain, self.call.verb, first, None);
         tail_met(self.call.domain, met)
@@ -105,10 +73,7 @@ impl<'a> Front<'a> {
     pub(crate) fn tail_to_flush(&self, cpu: &mut Cpu, first: NodeName) -> NodeName
         requires first { IsNodeOf self.now first }
         requires waits { (a : Node) × At self.now C3 (Flushes first a) cpu.old }
-        ensures node { IsNodeOf self.now result }
-        ensures goes { (a : Node)
-            → Steps self.now C3 (Flushes first a) C9 (Returns first a result) cpu.old cpu.new }
-        ensures knows { (a : Node) (mark : Bool) → Knows a mark cpu.old → Knows a mark cpu.new }
+        ensures { HasTailToFlush self.now first result cpu.old cpu.new }
     {
         let met = steps::second_tail(cpu, self.call.domain, self.call.verb, first, None);
         tail_met(self.call.domain, met)

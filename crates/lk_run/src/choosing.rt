@@ -23,8 +23,8 @@ impl<'a> Front<'a> {
     {
         let backoff = Backoff::new();
         for _ in rt.forever() {
-            let (seen, mark) = self.look_first(cpu);
-            match seen {
+            let behind = self.look_first(cpu);
+            match behind.seen {
                 First::Waits => give_way(cpu, rt, self.call.domain, irq, &backoff),
                 First::Promotes(first) => {
                     if self.return_all(cpu, first) {
@@ -35,12 +35,12 @@ impl<'a> Front<'a> {
                 First::Skips(a) => {
                     let skipped = Skipped {
                         first: a,
-                        mark,
+                        mark: behind.mark,
                         last: a,
                     };
                     return self.pass_over(cpu, rt, irq, skipped);
                 }
-                First::Flushes(first, a) => return self.flush(cpu, first, a, mark),
+                First::Flushes(first, a) => return self.flush(cpu, first, a, behind.mark),
             }
         }
         unreachable!()

@@ -22,7 +22,7 @@ ghost use Rattle.lk_domain.specs.Seats.{IsOf, KeepsRest, calls_of};
 ghost use Rattle.lk_domain.specs.Waits.{MayTake, WaitsAt, Gains, Misses, Moves};
 ghost use Rattle.lk_run.specs.Entering.{Leaves};
 ghost use Rattle.lk_run.specs.Phases.{Start, Waits, CameIn, biased, starting};
-ghost use Rattle.lk_run.specs.Reading.{outside, inside, Passed, Entered, Queues};
+ghost use Rattle.lk_run.specs.Reading.{BeginsToRead, outside, inside, Passed, Entered, Queues};
 ghost use Rattle.lk_run.specs.Waiters.{Waiting, Earns, At, Steps, Looks, Gets};
 
 use crate::call::{Call, Reader};
@@ -72,11 +72,7 @@ fn first(cpu: &mut Cpu, domain: &Domain, lock: LockName) -> bool
     requires plain { lock.wait ≡ false }
     requires may { MayTake lock.index (calls_of cpu.old) }
     ensures rest { KeepsRest cpu.old cpu.new }
-    ensures entered { result ≡ true → (told : Option ℕ)
-        → CameIn domain.now Read lock.index Reads (starting cpu.old told) cpu.new told }
-    ensures waits { result ≡ false → (told : Option ℕ)
-        → Waits domain.now Read lock (biased (length (calls_of cpu.old).frames)) Any
-        (starting cpu.old told) cpu.new told }
+    ensures begins { BeginsToRead domain.now lock result cpu.old cpu.new }
 {
     lets_readers_in(steps::join_first(cpu, domain, Verb::Read, lock))
 }

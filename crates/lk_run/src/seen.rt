@@ -27,6 +27,13 @@ pub(crate) enum First {
     Flushes(NodeName, NodeName),
 }
 
+// What the front sees behind its own node, and the mark of the link in which it saw it.
+#[derive(Clone, Copy)]
+pub(crate) struct Behind {
+    pub(crate) seen: First,
+    pub(crate) mark: bool,
+}
+
 // Behind the last that was passed over.
 #[derive(Clone, Copy)]
 pub(crate) enum More {

@@ -1,5 +1,5 @@
 // What the number of a word says, and where the rows lead that meet it.
-ghost use Rattle.std.specs.Prelude.{◌≡◌, ◌&&◌, not, is_some, Bool, Option, IfSome, if◌then◌else◌};
+ghost use Rattle.std.specs.Prelude.{◌≡◌, ◌<◌, ◌&&◌, not, is_some, Bool, Option, IfSome, if◌then◌else◌};
 ghost use Rattle.lk_word.specs.declared.spin_word.Fields.{Fields};
 ghost use Rattle.lk_word.specs.declared.spin_word.NodeName.{NodeName, NodeName as Node};
 ghost use Rattle.lk_word.specs.SpinWord.{packed, IsPackable};
@@ -51,11 +51,10 @@ pub(crate) fn node_met(domain: &Domain, met: u64) -> Option<NodeName>
 // The mark of a link that names a node: whether the call that uses the node is in a context above
 // 0.
 #[inline]
-pub(crate) fn mark_met(domain: &Domain, met: u64) -> bool
-    ensures { (node : Node) (mark : Bool) → IsNode domain.now.plan node
+pub(crate) fn mark_met(met: u64) -> bool
+    ensures { (node : Node) (mark : Bool) → name_number node < 4294967296
         → met ≡ marked mark (name_number node) → result ≡ mark }
 {
-    let _ = domain;
     met >= MARK
 }
 

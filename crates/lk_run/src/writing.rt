@@ -26,7 +26,7 @@ ghost use Rattle.lk_domain.specs.Waits.{MayTake, Gains, Misses, WaitsAt, Moves};
 ghost use Rattle.lk_run.specs.Entering.{Leaves};
 ghost use Rattle.lk_run.specs.Phases.{Start, Waits, CameIn, starting};
 ghost use Rattle.lk_run.specs.Waiters.{At, Waiting, Steps, Gets, Earns, Looks};
-ghost use Rattle.lk_run.specs.Writing.{inside, Passed};
+ghost use Rattle.lk_run.specs.Writing.{BeginsToWrite, inside, Passed};
 
 use crate::call::{Call, Writer};
 use crate::irq::{Irq, give_way};
@@ -80,11 +80,7 @@ fn first(cpu: &mut Cpu, domain: &Domain, lock: LockName) -> bool
     requires plain { lock.wait ≡ false }
     requires may { MayTake lock.index (calls_of cpu.old) }
     ensures rest { KeepsRest cpu.old cpu.new }
-    ensures entered { result ≡ true → (told : Option ℕ)
-        → CameIn domain.now Write lock.index Writes (starting cpu.old told) cpu.new told }
-    ensures out { result ≡ false → (told : Option ℕ)
-        → Waits domain.now Write (wait_name lock.index) F1 Any (starting cpu.old told) cpu.new
-        told }
+    ensures begins { BeginsToWrite domain.now lock result cpu.old cpu.new }
 {
     steps::seize_first(cpu, domain, Verb::Write, lock) == 0
 }

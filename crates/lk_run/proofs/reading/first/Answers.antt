@@ -21,24 +21,20 @@ join_first-requires-clause-row c =
     rw.acts_begin (joins_at (waits_in (calls_of a).frames c.args.lock.index) Read) d Read c.args.lock.index a c.requires.domain may refl c.requires.kind
     (ap (λ b. joins_at b Read R1) may.fresh)
 
-pub returns-clause-entered : goal.returns-clause-entered
-returns-clause-entered c is told =
+pub returns-clause-begins : goal.returns-clause-begins
+returns-clause-begins c =
     let d = c.args.domain.now in
     let a = c.args.cpu.now in
     let b = c.join_first.new.cpu in
     let l = c.args.lock.index in
     let made = c.join_first.ensures.step.by in
-    rw.first_enters d Read l a b c.join_first.ensures.rest c.requires.domain refl made c.requires.may.fresh told Reads
-    (λ f. row.reader_enters d.plan.mode b.number f made.found (is_open_by c.join_first.result made.found made.word (sym c.lets_readers_in.ensures ∙ is)))
-
-pub returns-clause-waits : goal.returns-clause-waits
-returns-clause-waits c is told =
-    let d = c.args.domain.now in
-    let a = c.args.cpu.now in
-    let b = c.join_first.new.cpu in
-    let l = c.args.lock.index in
-    let made = c.join_first.ensures.step.by in
-    subst (λ (n : LockName). Waits d Read n (biased (length (calls_of a).frames)) Any (starting a told) b told)
-    (λ i. record { index = l; wait = sym c.requires.plain i })
-    (rw.first_goes d Read l a b c.join_first.ensures.rest c.requires.domain refl made c.requires.may.fresh told biased (rw.biased_else (length (calls_of a).frames))
-    (λ f. row.reader_biases d.plan.mode b.number f made.found (is_shut_by c.join_first.result made.found made.word (sym c.lets_readers_in.ensures ∙ is))))
+    record {
+      entered = λ is told.
+          rw.first_enters d Read l a b c.join_first.ensures.rest c.requires.domain refl made c.requires.may.fresh told Reads
+          (λ f. row.reader_enters d.plan.mode b.number f made.found (is_open_by c.join_first.result made.found made.word (sym c.lets_readers_in.ensures ∙ is)));
+      waits = λ is told.
+          subst (λ (n : LockName). Waits d Read n (biased (length (calls_of a).frames)) Any (starting a told) b told)
+          (λ i. record { index = l; wait = sym c.requires.plain i })
+          (rw.first_goes d Read l a b c.join_first.ensures.rest c.requires.domain refl made c.requires.may.fresh told biased (rw.biased_else (length (calls_of a).frames))
+          (λ f. row.reader_biases d.plan.mode b.number f made.found (is_shut_by c.join_first.result made.found made.word (sym c.lets_readers_in.ensures ∙ is))));
+    }

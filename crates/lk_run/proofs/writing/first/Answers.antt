@@ -18,22 +18,18 @@ seize_first-requires-clause-row c =
     rw.acts_begin (seizes_at (waits_in (calls_of a).frames c.args.lock.index) Write) d Write c.args.lock.index a c.requires.domain may refl c.requires.kind
     (ap (λ b. seizes_at b Write Wr1) may.fresh)
 
-pub returns-clause-entered : goal.returns-clause-entered
-returns-clause-entered c is told =
+pub returns-clause-begins : goal.returns-clause-begins
+returns-clause-begins c =
     let d = c.args.domain.now in
     let a = c.args.cpu.now in
     let b = c.seize_first.new.cpu in
     let l = c.args.lock.index in
     let made = c.seize_first.ensures.step.by in
-    rw.first_enters d Write l a b c.seize_first.ensures.rest c.requires.domain refl made c.requires.may.fresh told Writes
-    (λ f. row.writer_enters d.plan.mode b.number f made.found (empty_by c.seize_first.result made.found made.word is))
-
-pub returns-clause-out : goal.returns-clause-out
-returns-clause-out c is told =
-    let d = c.args.domain.now in
-    let a = c.args.cpu.now in
-    let b = c.seize_first.new.cpu in
-    let l = c.args.lock.index in
-    let made = c.seize_first.ensures.step.by in
-    rw.first_sets_out d Write l a b c.seize_first.ensures.rest c.requires.domain refl made c.requires.may.fresh told Wr2
-    (λ f. row.writer_queues d.plan.mode b.number f made.found (full_by c.seize_first.result made.found made.word is)) refl (λ e. cc e)
+    record {
+      entered = λ is told.
+          rw.first_enters d Write l a b c.seize_first.ensures.rest c.requires.domain refl made c.requires.may.fresh told Writes
+          (λ f. row.writer_enters d.plan.mode b.number f made.found (empty_by c.seize_first.result made.found made.word is));
+      out = λ is told.
+          rw.first_sets_out d Write l a b c.seize_first.ensures.rest c.requires.domain refl made c.requires.may.fresh told Wr2
+          (λ f. row.writer_queues d.plan.mode b.number f made.found (full_by c.seize_first.result made.found made.word is)) refl (λ e. cc e);
+    }

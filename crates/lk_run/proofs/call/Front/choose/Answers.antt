@@ -8,79 +8,79 @@ use Rattle.std.proofs.Common.{Option, subst, sym}
 use Rattle.lk_run.proofs.Calling as on
 use Rattle.lk_run.proofs.call.Front.choose.Goals as goal
 
-pub look_first-seen-requires : goal.look_first-seen-requires
-look_first-seen-requires g c = on.stands (on.reached c.loop.invariant.2 c.requires)
+pub look_first-behind-requires : goal.look_first-behind-requires
+look_first-behind-requires g c = on.stands (on.reached c.loop.invariant.2 c.requires)
 
 pub give_way-requires : goal.give_way-requires
 give_way-requires g c =
-    still_of c.args.self.now.call.domain.now c.loop.cpu c.look_first-seen.new.cpu (c.look_first-seen.ensures.waits c.in-Waits.is).rest (on.reached c.loop.invariant.2 c.requires).domain
+    still_of c.args.self.now.call.domain.now c.loop.cpu c.look_first-behind.new.cpu (c.look_first-behind.ensures.waits c.in-Waits.is).rest (on.reached c.loop.invariant.2 c.requires).domain
 
 pub loop-preserved-in-Waits : goal.loop-preserved-in-Waits
-loop-preserved-in-Waits g c = (tt, tt, on.path_polls c.loop.invariant.2 (c.look_first-seen.ensures.waits c.in-Waits.is) c.give_way.ensures.rest c.give_way.ensures.calls c.give_way.ensures.ledger c.give_way.ensures.polls)
+loop-preserved-in-Waits g c = (tt, tt, on.path_polls c.loop.invariant.2 (c.look_first-behind.ensures.waits c.in-Waits.is) c.give_way.ensures.rest c.give_way.ensures.calls c.give_way.ensures.ledger c.give_way.ensures.polls)
 
 pub return_all-requires-clause-first : goal.return_all-requires-clause-first
-return_all-requires-clause-first g c = subst (IsFirstNode c.args.self.now.call.domain.now.plan) c.in-Promotes.is c.look_first-seen.ensures.node
+return_all-requires-clause-first g c = subst (IsFirstNode c.args.self.now.call.domain.now.plan) c.in-Promotes.is c.look_first-behind.ensures.node
 
 pub return_all-requires-clause-waits : goal.return_all-requires-clause-waits
 return_all-requires-clause-waits g c =
-    on.stepped (c.look_first-seen.ensures.promotes c.in-Promotes.first c.in-Promotes.is) (on.stands (on.reached c.loop.invariant.2 c.requires))
+    on.stepped (c.look_first-behind.ensures.promotes c.in-Promotes.first c.in-Promotes.is) (on.stands (on.reached c.loop.invariant.2 c.requires))
 
 pub loop-preserved : goal.loop-preserved
 loop-preserved g c =
     let q = c.args.self.now in
-    let named = sym (c.look_first-seen.ensures.named c.in-Promotes.first c.in-Promotes.is) in
-    let back = subst (λ (o : Option NodeName). Steps q.call C3 (Promotes q.own c.in-Promotes.first) C1 (Fronts q.own o) c.look_first-seen.new.cpu c.return_all.new.cpu) named
+    let named = sym (c.look_first-behind.ensures.named c.in-Promotes.first c.in-Promotes.is) in
+    let back = subst (λ (o : Option NodeName). Steps q.call C3 (Promotes q.own c.in-Promotes.first) C1 (Fronts q.own o) c.look_first-behind.new.cpu c.return_all.new.cpu) named
     (c.return_all.ensures.others c.if-return_all.false) in
-    (tt, tt, on.path_steps (on.path_steps c.loop.invariant.2 (c.look_first-seen.ensures.promotes c.in-Promotes.first c.in-Promotes.is)) back)
+    (tt, tt, on.path_steps (on.path_steps c.loop.invariant.2 (c.look_first-behind.ensures.promotes c.in-Promotes.first c.in-Promotes.is)) back)
 
 pub give_alone-requires-clause-y : goal.give_alone-requires-clause-y
-give_alone-requires-clause-y g c = subst (IsFirstNode c.args.self.now.call.domain.now.plan) c.in-Promotes.is c.look_first-seen.ensures.node
+give_alone-requires-clause-y g c = subst (IsFirstNode c.args.self.now.call.domain.now.plan) c.in-Promotes.is c.look_first-behind.ensures.node
 
 pub give_alone-requires-clause-waits : goal.give_alone-requires-clause-waits
 give_alone-requires-clause-waits g c =
     on.stepped (c.return_all.ensures.promoted c.if-return_all.true)
-    (on.stepped (c.look_first-seen.ensures.promotes c.in-Promotes.first c.in-Promotes.is) (on.stands (on.reached c.loop.invariant.2 c.requires)))
+    (on.stepped (c.look_first-behind.ensures.promotes c.in-Promotes.first c.in-Promotes.is) (on.stands (on.reached c.loop.invariant.2 c.requires)))
 
 pub returns-then-return_all : goal.returns-then-return_all
 returns-then-return_all g c =
-    on.path_takes (on.path_steps (on.path_steps c.loop.invariant.2 (c.look_first-seen.ensures.promotes c.in-Promotes.first c.in-Promotes.is)) (c.return_all.ensures.promoted c.if-return_all.true))
+    on.path_takes (on.path_steps (on.path_steps c.loop.invariant.2 (c.look_first-behind.ensures.promotes c.in-Promotes.first c.in-Promotes.is)) (c.return_all.ensures.promoted c.if-return_all.true))
     c.give_alone.ensures
 
 pub give-requires-clause-y : goal.give-requires-clause-y
-give-requires-clause-y g c = subst (IsFirstNode c.args.self.now.call.domain.now.plan) c.in-Chooses.is c.look_first-seen.ensures.node
+give-requires-clause-y g c = subst (IsFirstNode c.args.self.now.call.domain.now.plan) c.in-Chooses.is c.look_first-behind.ensures.node
 
 pub give-requires-clause-waits : goal.give-requires-clause-waits
-give-requires-clause-waits g c = on.stepped (c.look_first-seen.ensures.chooses c.in-Chooses.y c.in-Chooses.is) (on.stands (on.reached c.loop.invariant.2 c.requires))
+give-requires-clause-waits g c = on.stepped (c.look_first-behind.ensures.chooses c.in-Chooses.y c.in-Chooses.is) (on.stands (on.reached c.loop.invariant.2 c.requires))
 
 pub returns-in-Chooses : goal.returns-in-Chooses
-returns-in-Chooses g c = on.path_takes (on.path_steps c.loop.invariant.2 (c.look_first-seen.ensures.chooses c.in-Chooses.y c.in-Chooses.is)) c.give.ensures
+returns-in-Chooses g c = on.path_takes (on.path_steps c.loop.invariant.2 (c.look_first-behind.ensures.chooses c.in-Chooses.y c.in-Chooses.is)) c.give.ensures
 
 pub pass_over-requires-clause-first : goal.pass_over-requires-clause-first
-pass_over-requires-clause-first g c = subst (IsFirstNode c.args.self.now.call.domain.now.plan) c.in-Skips.is c.look_first-seen.ensures.node
+pass_over-requires-clause-first g c = subst (IsFirstNode c.args.self.now.call.domain.now.plan) c.in-Skips.is c.look_first-behind.ensures.node
 
 pub pass_over-requires-clause-last : goal.pass_over-requires-clause-last
-pass_over-requires-clause-last g c = subst (IsFirstNode c.args.self.now.call.domain.now.plan) c.in-Skips.is c.look_first-seen.ensures.node
+pass_over-requires-clause-last g c = subst (IsFirstNode c.args.self.now.call.domain.now.plan) c.in-Skips.is c.look_first-behind.ensures.node
 
 pub pass_over-requires-clause-waits : goal.pass_over-requires-clause-waits
-pass_over-requires-clause-waits g c = on.step_on (c.look_first-seen.ensures.skips c.in-Skips.a c.in-Skips.is) (on.reached c.loop.invariant.2 c.requires)
+pass_over-requires-clause-waits g c = on.step_on (c.look_first-behind.ensures.skips c.in-Skips.a c.in-Skips.is) (on.reached c.loop.invariant.2 c.requires)
 
 pub pass_over-requires-clause-knows : goal.pass_over-requires-clause-knows
-pass_over-requires-clause-knows g c = c.look_first-seen.ensures.skipped c.in-Skips.a c.in-Skips.is
+pass_over-requires-clause-knows g c = c.look_first-behind.ensures.skipped c.in-Skips.a c.in-Skips.is
 
 pub returns-in-Skips : goal.returns-in-Skips
-returns-in-Skips g c = on.path_wins (on.path_steps c.loop.invariant.2 (c.look_first-seen.ensures.skips c.in-Skips.a c.in-Skips.is)) c.pass_over.ensures
+returns-in-Skips g c = on.path_wins (on.path_steps c.loop.invariant.2 (c.look_first-behind.ensures.skips c.in-Skips.a c.in-Skips.is)) c.pass_over.ensures
 
 pub flush-requires-clause-first : goal.flush-requires-clause-first
-flush-requires-clause-first g c = (subst (IsFirstNode c.args.self.now.call.domain.now.plan) c.in-Flushes.is c.look_first-seen.ensures.node).0
+flush-requires-clause-first g c = (subst (IsFirstNode c.args.self.now.call.domain.now.plan) c.in-Flushes.is c.look_first-behind.ensures.node).0
 
 pub flush-requires-clause-a : goal.flush-requires-clause-a
-flush-requires-clause-a g c = (subst (IsFirstNode c.args.self.now.call.domain.now.plan) c.in-Flushes.is c.look_first-seen.ensures.node).1
+flush-requires-clause-a g c = (subst (IsFirstNode c.args.self.now.call.domain.now.plan) c.in-Flushes.is c.look_first-behind.ensures.node).1
 
 pub flush-requires-clause-waits : goal.flush-requires-clause-waits
-flush-requires-clause-waits g c = on.stepped (c.look_first-seen.ensures.flushes c.in-Flushes.first c.in-Flushes.a c.in-Flushes.is) (on.stands (on.reached c.loop.invariant.2 c.requires))
+flush-requires-clause-waits g c = on.stepped (c.look_first-behind.ensures.flushes c.in-Flushes.first c.in-Flushes.a c.in-Flushes.is) (on.stands (on.reached c.loop.invariant.2 c.requires))
 
 pub flush-requires-clause-knows : goal.flush-requires-clause-knows
-flush-requires-clause-knows g c = c.look_first-seen.ensures.flushed c.in-Flushes.first c.in-Flushes.a c.in-Flushes.is
+flush-requires-clause-knows g c = c.look_first-behind.ensures.flushed c.in-Flushes.first c.in-Flushes.a c.in-Flushes.is
 
 pub returns-in-Flushes : goal.returns-in-Flushes
-returns-in-Flushes g c = on.path_takes (on.path_steps c.loop.invariant.2 (c.look_first-seen.ensures.flushes c.in-Flushes.first c.in-Flushes.a c.in-Flushes.is)) c.flush.ensures
+returns-in-Flushes g c = on.path_takes (on.path_steps c.loop.invariant.2 (c.look_first-behind.ensures.flushes c.in-Flushes.first c.in-Flushes.a c.in-Flushes.is)) c.flush.ensures

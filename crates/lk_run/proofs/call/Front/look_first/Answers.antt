@@ -1,17 +1,20 @@
-use Rattle.lk_domain.specs.Calls.{sight_by, sight_of, terms_of, told}
+use Rattle.lk_domain.specs.Calls.{sight_by, sight_of, terms_of, told, told_by}
 use Rattle.lk_domain.specs.NodePlays.{counting}
+use Rattle.lk_domain.specs.Plays.{rowed}
 use Rattle.lk_domain.specs.Seats.{IsOf, calls_of, view_of}
 use Rattle.lk_domain.specs.Words.{IsNode, link_number, marked}
 use Rattle.lk_domain.specs.declared.plan.Plan.{Plan}
 use Rattle.lk_domain.specs.declared.view.View.{View}
 use Rattle.lk_law.specs.Leads.{Linked}
 use Rattle.lk_machine.specs.declared.parts.Pc.TheVariants.{C1, C2, C3, C7}
+use Rattle.lk_run.proofs.Places.{name_low}
 use Rattle.lk_run.proofs.Steps.{still_of}
 use Rattle.lk_run.proofs.Ways.{sees}
 use Rattle.lk_run.specs.Choices.{IsFirstNode, first_by}
 use Rattle.lk_run.specs.Frames.{Flushes, Fronts, Precedes, Promotes, Skips}
 use Rattle.lk_run.specs.Phases.{newest}
 use Rattle.lk_run.specs.Standing.{Outside}
+use Rattle.lk_word.specs.declared.spin_word.NodeName.{NodeName}
 use Rattle.std.proofs.Common.{IfSome, Some, ap, refl, subst, sym, ◌∙◌, ◌≡◌}
 use Rattle.std.specs.Prelude.{is_some}
 use Rattle.lk_run.proofs.ChoiceRows as choice
@@ -69,201 +72,61 @@ first_seen-seen-requires c =
     let is = c.node_met.ensures seen.found seen.mark node seen.word in
     subst (λ o. IfSome o (IsNode d.plan)) (sym is) node
 
-pub returns-clause-node : goal.returns-clause-node
-returns-clause-node c =
+pub returns : goal.returns
+returns c =
     let q = c.args.self.now in
     let d = q.call.domain.now in
     let a = c.args.cpu.now in
     let m = c.own_runs-runs.new.cpu in
     let b = c.look_own-met.new.cpu in
     let r = c.own_runs-runs.result in
-    let of : IsOf m d = still_of d a m c.own_runs-runs.ensures.rest c.requires.domain in
+    let rest = c.own_runs-runs.ensures.rest in
+    let of : IsOf m d = still_of d a m rest c.requires.domain in
     let same : view_of m ≡ counting r (view_of a) = (λ i. (c.own_runs-runs.ensures.seen.by.seat i).0) in
     let seen = (c.look_own-met.ensures.next refl).by in
     let node = subst (λ (k : Plan). IfSome seen.found (IsNode k)) of.plan seen.node in
     let is = c.node_met.ensures seen.found seen.mark node seen.word in
+    let marked_so : (x : NodeName) → seen.found ≡ Some x → c.mark_met-mark.result ≡ seen.mark = (λ x met.
+    c.mark_met-mark.ensures x seen.mark (name_low d.plan x d.lawful.cpus (subst (λ o. IfSome o (IsNode d.plan)) met node)) (seen.word ∙ ap (λ o. marked seen.mark (link_number o)) met)) in
     let sees_it : first_by (sight_by (sees d m b) (Linked seen.found seen.mark)) q.second seen.found ≡ c.first_seen-seen.result =
     (λ i. first_by (sight_by (sight_of (terms_of d.plan) (sym c.number.ensures i) (ap (λ (v : View). v.calls.runs) same i)) (Linked (sym is i) seen.mark)) q.second (sym is i))
-    ∙ (choice.first_marks (sight_of (terms_of d.plan) c.number.result (Some r)) q.second c.node_met.result seen.mark c.mark_met-mark.result (λ x e.
-    let met : seen.found ≡ Some x = sym is ∙ e in
-    sym (c.mark_met-mark.ensures x seen.mark (subst (λ o. IfSome o (IsNode d.plan)) met node) (seen.word ∙ ap (λ o. marked seen.mark (link_number o)) met)))
+    ∙ (choice.first_marks (sight_of (terms_of d.plan) c.number.result (Some r)) q.second c.node_met.result seen.mark c.mark_met-mark.result
+    (λ x e. sym (marked_so x (sym is ∙ e)))
     ∙ sym c.first_seen-seen.ensures) in
-    subst (IsFirstNode d.plan) sees_it
-    (choice.first_node d.plan (sight_by (sees d m b) (Linked seen.found seen.mark)) q.second seen.found (on.if_some (IsNode d.plan) q.second q.aside) node)
-
-pub returns-clause-named : goal.returns-clause-named
-returns-clause-named c m e =
-    let q = c.args.self.now in
-    choice.promotes_named (sight_by (sight_of (terms_of q.call.domain.now.plan) c.number.result (Some c.own_runs-runs.result)) (Linked c.node_met.result c.mark_met-mark.result)) q.second c.node_met.result m
-    (sym c.first_seen-seen.ensures ∙ e)
-
-pub returns-clause-waits : goal.returns-clause-waits
-returns-clause-waits c e =
-    let q = c.args.self.now in
-    let d = q.call.domain.now in
-    let a = c.args.cpu.now in
-    let m = c.own_runs-runs.new.cpu in
-    let b = c.look_own-met.new.cpu in
-    let r = c.own_runs-runs.result in
-    let of : IsOf m d = still_of d a m c.own_runs-runs.ensures.rest c.requires.domain in
-    let same : view_of m ≡ counting r (view_of a) = (λ i. (c.own_runs-runs.ensures.seen.by.seat i).0) in
-    let seen = (c.look_own-met.ensures.next refl).by in
-    let node = subst (λ (k : Plan). IfSome seen.found (IsNode k)) of.plan seen.node in
-    let is = c.node_met.ensures seen.found seen.mark node seen.word in
-    let sees_it : first_by (sight_by (sees d m b) (Linked seen.found seen.mark)) q.second seen.found ≡ c.first_seen-seen.result =
-    (λ i. first_by (sight_by (sight_of (terms_of d.plan) (sym c.number.ensures i) (ap (λ (v : View). v.calls.runs) same i)) (Linked (sym is i) seen.mark)) q.second (sym is i))
-    ∙ (choice.first_marks (sight_of (terms_of d.plan) c.number.result (Some r)) q.second c.node_met.result seen.mark c.mark_met-mark.result (λ x e.
-    let met : seen.found ≡ Some x = sym is ∙ e in
-    sym (c.mark_met-mark.ensures x seen.mark (subst (λ o. IfSome o (IsNode d.plan)) met node) (seen.word ∙ ap (λ o. marked seen.mark (link_number o)) met)))
-    ∙ sym c.first_seen-seen.ensures) in
-    on.counted_looks c.own_runs-runs.ensures.rest r same
-    (on.looks_by of c.look_own-met.ensures.rest (Linked seen.found seen.mark) (λ i. (seen.seat i).0) (Fronts q.own q.second)
-    (λ f has. choice.first_waits _ _ f q.own q.second seen.found has (sees_it ∙ e)))
-
-pub returns-clause-promotes : goal.returns-clause-promotes
-returns-clause-promotes c first e =
-    let q = c.args.self.now in
-    let d = q.call.domain.now in
-    let a = c.args.cpu.now in
-    let m = c.own_runs-runs.new.cpu in
-    let b = c.look_own-met.new.cpu in
-    let r = c.own_runs-runs.result in
-    let of : IsOf m d = still_of d a m c.own_runs-runs.ensures.rest c.requires.domain in
-    let same : view_of m ≡ counting r (view_of a) = (λ i. (c.own_runs-runs.ensures.seen.by.seat i).0) in
-    let seen = (c.look_own-met.ensures.next refl).by in
-    let node = subst (λ (k : Plan). IfSome seen.found (IsNode k)) of.plan seen.node in
-    let is = c.node_met.ensures seen.found seen.mark node seen.word in
-    let sees_it : first_by (sight_by (sees d m b) (Linked seen.found seen.mark)) q.second seen.found ≡ c.first_seen-seen.result =
-    (λ i. first_by (sight_by (sight_of (terms_of d.plan) (sym c.number.ensures i) (ap (λ (v : View). v.calls.runs) same i)) (Linked (sym is i) seen.mark)) q.second (sym is i))
-    ∙ (choice.first_marks (sight_of (terms_of d.plan) c.number.result (Some r)) q.second c.node_met.result seen.mark c.mark_met-mark.result (λ x e.
-    let met : seen.found ≡ Some x = sym is ∙ e in
-    sym (c.mark_met-mark.ensures x seen.mark (subst (λ o. IfSome o (IsNode d.plan)) met node) (seen.word ∙ ap (λ o. marked seen.mark (link_number o)) met)))
-    ∙ sym c.first_seen-seen.ensures) in
-    on.counted_steps c.own_runs-runs.ensures.rest r same
-    (on.steps_by of c.look_own-met.ensures.rest (Linked seen.found seen.mark) (λ i. (seen.seat i).0) C3 (Promotes q.own first) (λ h. cc h)
-    (λ f has. choice.first_promotes _ _ f q.own q.second seen.found has first (sees_it ∙ e)))
-
-pub returns-clause-chooses : goal.returns-clause-chooses
-returns-clause-chooses c y e =
-    let q = c.args.self.now in
-    let d = q.call.domain.now in
-    let a = c.args.cpu.now in
-    let m = c.own_runs-runs.new.cpu in
-    let b = c.look_own-met.new.cpu in
-    let r = c.own_runs-runs.result in
-    let of : IsOf m d = still_of d a m c.own_runs-runs.ensures.rest c.requires.domain in
-    let same : view_of m ≡ counting r (view_of a) = (λ i. (c.own_runs-runs.ensures.seen.by.seat i).0) in
-    let seen = (c.look_own-met.ensures.next refl).by in
-    let node = subst (λ (k : Plan). IfSome seen.found (IsNode k)) of.plan seen.node in
-    let is = c.node_met.ensures seen.found seen.mark node seen.word in
-    let sees_it : first_by (sight_by (sees d m b) (Linked seen.found seen.mark)) q.second seen.found ≡ c.first_seen-seen.result =
-    (λ i. first_by (sight_by (sight_of (terms_of d.plan) (sym c.number.ensures i) (ap (λ (v : View). v.calls.runs) same i)) (Linked (sym is i) seen.mark)) q.second (sym is i))
-    ∙ (choice.first_marks (sight_of (terms_of d.plan) c.number.result (Some r)) q.second c.node_met.result seen.mark c.mark_met-mark.result (λ x e.
-    let met : seen.found ≡ Some x = sym is ∙ e in
-    sym (c.mark_met-mark.ensures x seen.mark (subst (λ o. IfSome o (IsNode d.plan)) met node) (seen.word ∙ ap (λ o. marked seen.mark (link_number o)) met)))
-    ∙ sym c.first_seen-seen.ensures) in
-    on.counted_steps c.own_runs-runs.ensures.rest r same
-    (on.steps_by of c.look_own-met.ensures.rest (Linked seen.found seen.mark) (λ i. (seen.seat i).0) C7 (Precedes q.own q.second y) (λ h. cc h)
-    (λ f has. choice.first_chooses _ _ f q.own q.second seen.found has y (sees_it ∙ e)))
-
-pub returns-clause-skips : goal.returns-clause-skips
-returns-clause-skips c x e =
-    let q = c.args.self.now in
-    let d = q.call.domain.now in
-    let a = c.args.cpu.now in
-    let m = c.own_runs-runs.new.cpu in
-    let b = c.look_own-met.new.cpu in
-    let r = c.own_runs-runs.result in
-    let of : IsOf m d = still_of d a m c.own_runs-runs.ensures.rest c.requires.domain in
-    let same : view_of m ≡ counting r (view_of a) = (λ i. (c.own_runs-runs.ensures.seen.by.seat i).0) in
-    let seen = (c.look_own-met.ensures.next refl).by in
-    let node = subst (λ (k : Plan). IfSome seen.found (IsNode k)) of.plan seen.node in
-    let is = c.node_met.ensures seen.found seen.mark node seen.word in
-    let sees_it : first_by (sight_by (sees d m b) (Linked seen.found seen.mark)) q.second seen.found ≡ c.first_seen-seen.result =
-    (λ i. first_by (sight_by (sight_of (terms_of d.plan) (sym c.number.ensures i) (ap (λ (v : View). v.calls.runs) same i)) (Linked (sym is i) seen.mark)) q.second (sym is i))
-    ∙ (choice.first_marks (sight_of (terms_of d.plan) c.number.result (Some r)) q.second c.node_met.result seen.mark c.mark_met-mark.result (λ x e.
-    let met : seen.found ≡ Some x = sym is ∙ e in
-    sym (c.mark_met-mark.ensures x seen.mark (subst (λ o. IfSome o (IsNode d.plan)) met node) (seen.word ∙ ap (λ o. marked seen.mark (link_number o)) met)))
-    ∙ sym c.first_seen-seen.ensures) in
-    on.counted_steps c.own_runs-runs.ensures.rest r same
-    (on.steps_by of c.look_own-met.ensures.rest (Linked seen.found seen.mark) (λ i. (seen.seat i).0) C2 (Skips q.own q.second x x) (λ h. cc h)
-    (λ f has. choice.first_skips _ _ f q.own q.second seen.found has x (sees_it ∙ e)))
-
-pub returns-clause-flushes : goal.returns-clause-flushes
-returns-clause-flushes c first x e =
-    let q = c.args.self.now in
-    let d = q.call.domain.now in
-    let a = c.args.cpu.now in
-    let m = c.own_runs-runs.new.cpu in
-    let b = c.look_own-met.new.cpu in
-    let r = c.own_runs-runs.result in
-    let of : IsOf m d = still_of d a m c.own_runs-runs.ensures.rest c.requires.domain in
-    let same : view_of m ≡ counting r (view_of a) = (λ i. (c.own_runs-runs.ensures.seen.by.seat i).0) in
-    let seen = (c.look_own-met.ensures.next refl).by in
-    let node = subst (λ (k : Plan). IfSome seen.found (IsNode k)) of.plan seen.node in
-    let is = c.node_met.ensures seen.found seen.mark node seen.word in
-    let sees_it : first_by (sight_by (sees d m b) (Linked seen.found seen.mark)) q.second seen.found ≡ c.first_seen-seen.result =
-    (λ i. first_by (sight_by (sight_of (terms_of d.plan) (sym c.number.ensures i) (ap (λ (v : View). v.calls.runs) same i)) (Linked (sym is i) seen.mark)) q.second (sym is i))
-    ∙ (choice.first_marks (sight_of (terms_of d.plan) c.number.result (Some r)) q.second c.node_met.result seen.mark c.mark_met-mark.result (λ x e.
-    let met : seen.found ≡ Some x = sym is ∙ e in
-    sym (c.mark_met-mark.ensures x seen.mark (subst (λ o. IfSome o (IsNode d.plan)) met node) (seen.word ∙ ap (λ o. marked seen.mark (link_number o)) met)))
-    ∙ sym c.first_seen-seen.ensures) in
-    on.counted_steps c.own_runs-runs.ensures.rest r same
-    (on.steps_by of c.look_own-met.ensures.rest (Linked seen.found seen.mark) (λ i. (seen.seat i).0) C3 (Flushes q.own first x) (λ h. cc h)
-    (λ f has. choice.first_flushes _ _ f q.own q.second seen.found has first x (sees_it ∙ e)))
-
-pub returns-clause-skipped : goal.returns-clause-skipped
-returns-clause-skipped c x e =
-    let q = c.args.self.now in
-    let d = q.call.domain.now in
-    let a = c.args.cpu.now in
-    let m = c.own_runs-runs.new.cpu in
-    let b = c.look_own-met.new.cpu in
-    let r = c.own_runs-runs.result in
-    let of : IsOf m d = still_of d a m c.own_runs-runs.ensures.rest c.requires.domain in
-    let same : view_of m ≡ counting r (view_of a) = (λ i. (c.own_runs-runs.ensures.seen.by.seat i).0) in
-    let seen = (c.look_own-met.ensures.next refl).by in
-    let node = subst (λ (k : Plan). IfSome seen.found (IsNode k)) of.plan seen.node in
-    let is = c.node_met.ensures seen.found seen.mark node seen.word in
-    let sees_it : first_by (sight_by (sees d m b) (Linked seen.found seen.mark)) q.second seen.found ≡ c.first_seen-seen.result =
-    (λ i. first_by (sight_by (sight_of (terms_of d.plan) (sym c.number.ensures i) (ap (λ (v : View). v.calls.runs) same i)) (Linked (sym is i) seen.mark)) q.second (sym is i))
-    ∙ (choice.first_marks (sight_of (terms_of d.plan) c.number.result (Some r)) q.second c.node_met.result seen.mark c.mark_met-mark.result (λ x e.
-    let met : seen.found ≡ Some x = sym is ∙ e in
-    sym (c.mark_met-mark.ensures x seen.mark (subst (λ o. IfSome o (IsNode d.plan)) met node) (seen.word ∙ ap (λ o. marked seen.mark (link_number o)) met)))
-    ∙ sym c.first_seen-seen.ensures) in
-    let met : seen.found ≡ Some x = choice.skips_met (sight_by (sees d m b) (Linked seen.found seen.mark)) q.second seen.found x (sees_it ∙ e) in
-    let stands = on.standing (on.counted c.own_runs-runs.ensures.rest r same c.requires) in
-    let mark : c.mark_met-mark.result ≡ seen.mark =
-    c.mark_met-mark.ensures x seen.mark (subst (λ o. IfSome o (IsNode d.plan)) met node) (seen.word ∙ ap (λ o. marked seen.mark (link_number o)) met) in
-    way.told_on_row d q.call.verb q.call.lock m b c.look_own-met.ensures.rest of (Linked seen.found seen.mark) (λ i. (seen.seat i).0) C1
-    (Fronts q.own q.second) Outside stands C2
-    (λ f has. (choice.first_skips d.plan.mode b.number {z = sees d m b} f q.own q.second seen.found {i = seen.mark} has x (sees_it ∙ e)).place)
-    ∙ (λ i. Rattle.lk_domain.specs.Calls.told_by (told (newest (calls_of m).frames)) C1 (Linked (met i) (sym mark i)))
-
-pub returns-clause-flushed : goal.returns-clause-flushed
-returns-clause-flushed c first x e =
-    let q = c.args.self.now in
-    let d = q.call.domain.now in
-    let a = c.args.cpu.now in
-    let m = c.own_runs-runs.new.cpu in
-    let b = c.look_own-met.new.cpu in
-    let r = c.own_runs-runs.result in
-    let of : IsOf m d = still_of d a m c.own_runs-runs.ensures.rest c.requires.domain in
-    let same : view_of m ≡ counting r (view_of a) = (λ i. (c.own_runs-runs.ensures.seen.by.seat i).0) in
-    let seen = (c.look_own-met.ensures.next refl).by in
-    let node = subst (λ (k : Plan). IfSome seen.found (IsNode k)) of.plan seen.node in
-    let is = c.node_met.ensures seen.found seen.mark node seen.word in
-    let sees_it : first_by (sight_by (sees d m b) (Linked seen.found seen.mark)) q.second seen.found ≡ c.first_seen-seen.result =
-    (λ i. first_by (sight_by (sight_of (terms_of d.plan) (sym c.number.ensures i) (ap (λ (v : View). v.calls.runs) same i)) (Linked (sym is i) seen.mark)) q.second (sym is i))
-    ∙ (choice.first_marks (sight_of (terms_of d.plan) c.number.result (Some r)) q.second c.node_met.result seen.mark c.mark_met-mark.result (λ x e.
-    let met : seen.found ≡ Some x = sym is ∙ e in
-    sym (c.mark_met-mark.ensures x seen.mark (subst (λ o. IfSome o (IsNode d.plan)) met node) (seen.word ∙ ap (λ o. marked seen.mark (link_number o)) met)))
-    ∙ sym c.first_seen-seen.ensures) in
-    let met : seen.found ≡ Some x = choice.flushes_met (sight_by (sees d m b) (Linked seen.found seen.mark)) q.second seen.found first x (sees_it ∙ e) in
-    let stands = on.standing (on.counted c.own_runs-runs.ensures.rest r same c.requires) in
-    let mark : c.mark_met-mark.result ≡ seen.mark =
-    c.mark_met-mark.ensures x seen.mark (subst (λ o. IfSome o (IsNode d.plan)) met node) (seen.word ∙ ap (λ o. marked seen.mark (link_number o)) met) in
-    way.told_on_row d q.call.verb q.call.lock m b c.look_own-met.ensures.rest of (Linked seen.found seen.mark) (λ i. (seen.seat i).0) C1
-    (Fronts q.own q.second) Outside stands C3
-    (λ f has. (choice.first_flushes d.plan.mode b.number {z = sees d m b} f q.own q.second seen.found {i = seen.mark} has first x (sees_it ∙ e)).place)
-    ∙ (λ i. Rattle.lk_domain.specs.Calls.told_by (told (newest (calls_of m).frames)) C1 (Linked (met i) (sym mark i)))
+    let stands = on.standing (on.counted rest r same c.requires) in
+    let seat : view_of b ≡ rowed (view_of m) (calls_of m) (Linked seen.found seen.mark) = (λ i. (seen.seat i).0) in
+    record {
+      node = subst (IsFirstNode d.plan) sees_it
+          (choice.first_node d.plan (sight_by (sees d m b) (Linked seen.found seen.mark)) q.second seen.found (on.if_some (IsNode d.plan) q.second q.aside) node);
+      waits = λ e. on.counted_looks rest r same
+          (on.looks_by of c.look_own-met.ensures.rest (Linked seen.found seen.mark) seat (Fronts q.own q.second)
+          (λ f has. choice.first_waits _ _ f q.own q.second seen.found has (sees_it ∙ e)));
+      named = λ first e. choice.promotes_named (sight_by (sight_of (terms_of d.plan) c.number.result (Some r)) (Linked c.node_met.result c.mark_met-mark.result))
+          q.second c.node_met.result first (sym c.first_seen-seen.ensures ∙ e);
+      promotes = λ first e. on.counted_steps rest r same
+          (on.steps_by of c.look_own-met.ensures.rest (Linked seen.found seen.mark) seat C3 (Promotes q.own first) (λ h. cc h)
+          (λ f has. choice.first_promotes _ _ f q.own q.second seen.found has first (sees_it ∙ e)));
+      chooses = λ y e. on.counted_steps rest r same
+          (on.steps_by of c.look_own-met.ensures.rest (Linked seen.found seen.mark) seat C7 (Precedes q.own q.second y) (λ h. cc h)
+          (λ f has. choice.first_chooses _ _ f q.own q.second seen.found has y (sees_it ∙ e)));
+      skips = λ x e. on.counted_steps rest r same
+          (on.steps_by of c.look_own-met.ensures.rest (Linked seen.found seen.mark) seat C2 (Skips q.own q.second x x) (λ h. cc h)
+          (λ f has. choice.first_skips _ _ f q.own q.second seen.found has x (sees_it ∙ e)));
+      flushes = λ first x e. on.counted_steps rest r same
+          (on.steps_by of c.look_own-met.ensures.rest (Linked seen.found seen.mark) seat C3 (Flushes q.own first x) (λ h. cc h)
+          (λ f has. choice.first_flushes _ _ f q.own q.second seen.found has first x (sees_it ∙ e)));
+      skipped = λ x e.
+          let met : seen.found ≡ Some x = choice.skips_met (sight_by (sees d m b) (Linked seen.found seen.mark)) q.second seen.found x (sees_it ∙ e) in
+          let mark = marked_so x met in
+          way.told_on_row d q.call.verb q.call.lock m b c.look_own-met.ensures.rest of (Linked seen.found seen.mark) seat C1
+          (Fronts q.own q.second) Outside stands C2
+          (λ f has. (choice.first_skips d.plan.mode b.number {z = sees d m b} f q.own q.second seen.found {i = seen.mark} has x (sees_it ∙ e)).place)
+          ∙ (λ i. told_by (told (newest (calls_of m).frames)) C1 (Linked (met i) (sym mark i)));
+      flushed = λ first x e.
+          let met : seen.found ≡ Some x = choice.flushes_met (sight_by (sees d m b) (Linked seen.found seen.mark)) q.second seen.found first x (sees_it ∙ e) in
+          let mark = marked_so x met in
+          way.told_on_row d q.call.verb q.call.lock m b c.look_own-met.ensures.rest of (Linked seen.found seen.mark) seat C1
+          (Fronts q.own q.second) Outside stands C3
+          (λ f has. (choice.first_flushes d.plan.mode b.number {z = sees d m b} f q.own q.second seen.found {i = seen.mark} has first x (sees_it ∙ e)).place)
+          ∙ (λ i. told_by (told (newest (calls_of m).frames)) C1 (Linked (met i) (sym mark i)));
+    }

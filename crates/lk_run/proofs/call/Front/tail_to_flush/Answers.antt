@@ -29,37 +29,24 @@ tail_met-requires c =
     let node = subst (λ (k : Plan). IsNode k seen.found) of.plan seen.node in
     record { tail = (seen.found, node, seen.word) }
 
-pub returns-clause-node : goal.returns-clause-node
-returns-clause-node c =
-    let q = c.args.self.now in
-    let d = q.call.domain.now in
-    let m = c.second_tail-met.new.cpu in
-    let of = c.requires.waits.1.domain in
-    let seen = (c.second_tail-met.ensures.seen refl).by in
-    let node = subst (λ (k : Plan). IsNode k seen.found) of.plan seen.node in
-    let is = c.tail_met.ensures seen.found node seen.word in
-    subst (IsNode d.plan) (sym is) node
-
-pub returns-clause-goes : goal.returns-clause-goes
-returns-clause-goes c a =
-    let q = c.args.self.now in
-    let d = q.call.domain.now in
-    let m = c.second_tail-met.new.cpu in
-    let of = c.requires.waits.1.domain in
-    let seen = (c.second_tail-met.ensures.seen refl).by in
-    let node = subst (λ (k : Plan). IsNode k seen.found) of.plan seen.node in
-    let is = c.tail_met.ensures seen.found node seen.word in
-    on.steps_by of c.second_tail-met.ensures.rest (Named (Some seen.found)) (λ i. (seen.seat i).0) C9 (Returns q.own c.args.first a c.tail_met.result) (λ e. cc e)
-    (λ f has. subst (λ (t : NodeName). Leads d.plan.mode m.number (sees d c.args.cpu.now m) C3 f (Named (Some seen.found)) C9 (Returns q.own c.args.first a t)) (sym is)
-    (choice.flushes_tail _ _ f q.own c.args.first a seen.found has))
-
-pub returns-clause-knows : goal.returns-clause-knows
-returns-clause-knows c node' mark was =
+pub returns : goal.returns
+returns c =
     let q = c.args.self.now in
     let d = q.call.domain.now in
     let m = c.second_tail-met.new.cpu in
     let stands = c.requires.waits in
+    let of = stands.1.domain in
+    let rest = c.second_tail-met.ensures.rest in
     let seen = (c.second_tail-met.ensures.seen refl).by in
-    way.told_on_row d q.call.verb q.call.lock c.args.cpu.now m c.second_tail-met.ensures.rest c.requires.waits.1.domain (Named (Some seen.found)) (λ i. (seen.seat i).0) C3
-    (Flushes q.own c.args.first stands.0) Outside (on.standing c.requires.waits.1) C9
-    (λ f has. (choice.flushes_tail d.plan.mode m.number {z = sees d c.args.cpu.now m} f q.own c.args.first stands.0 seen.found has).place) ∙ was
+    let node = subst (λ (k : Plan). IsNode k seen.found) of.plan seen.node in
+    let is = c.tail_met.ensures seen.found node seen.word in
+    record {
+      node = subst (IsNode d.plan) (sym is) node;
+      goes = λ a. on.steps_by of rest (Named (Some seen.found)) (λ i. (seen.seat i).0) C9 (Returns q.own c.args.first a c.tail_met.result) (λ e. cc e)
+          (λ f has. subst (λ (t : NodeName). Leads d.plan.mode m.number (sees d c.args.cpu.now m) C3 f (Named (Some seen.found)) C9 (Returns q.own c.args.first a t)) (sym is)
+          (choice.flushes_tail _ _ f q.own c.args.first a seen.found has));
+      knows = λ node' mark was.
+          way.told_on_row d q.call.verb q.call.lock c.args.cpu.now m rest of (Named (Some seen.found)) (λ i. (seen.seat i).0) C3
+          (Flushes q.own c.args.first stands.0) Outside (on.standing stands.1) C9
+          (λ f has. (choice.flushes_tail d.plan.mode m.number {z = sees d c.args.cpu.now m} f q.own c.args.first stands.0 seen.found has).place) ∙ was;
+    }
