@@ -1,11 +1,14 @@
 -- What one line comes to. `held` and `held_now` are what the sink held before it and holds after
 -- it; `waited` and `waits` is what was waiting for the sink before it and is after it.
-use Rattle.std.specs.Prelude.{◌≡◌, ℕ, List, [], ◌++◌, Option, Result, Ok, Err, ⊤}
+use Rattle.std.specs.Prelude.{◌≡◌, ℕ, List, [], ◌++◌, Option, Result, Ok, Err, IfErr, ⊤}
 use Rattle.lk_text.specs.Causes.{Rose}
 use Rattle.lk_text.specs.Bytes.{AppendsFront, Conveys}
+use Rattle.lk_text.specs.Reader.{GaveLine}
+use Rattle.lk_text.specs.declared.reader.LineReader.{LineReader}
 use Rattle.lk_forms.specs.declared.answers.LineRefusal.{LineRefusal}
 use Rattle.lk_forms.specs.declared.answers.LineRefusal.TheVariants.{Bad, Limit, Memory}
 use Rattle.lk_stream.specs.Grammar.{Grammar}
+use Rattle.lk_stream.specs.Outside.{Outside}
 use Rattle.lk_stream.specs.declared.answers.Stop.{Stop}
 use Rattle.lk_stream.specs.declared.answers.Stop.TheVariants.{Refused, WriteFault}
 
@@ -55,3 +58,14 @@ LineMeans g shows before line held held_now waited waits (Err WriteFault) =
 abbrev pub StopRose : ℕ → ℕ → Stop → Type 0
 StopRose writes writes_now (Refused why) = ⊤
 StopRose writes writes_now WriteFault = Rose writes writes_now
+
+-- The script has obeyed the line that the reader gave, and this came of it. `out` and `out_now` are
+-- the source and the sink before it and after it.
+pub record HasObeyed {T S : Type 0} (g : Grammar S) (shows shows_now : S → Type 0)
+    (reader reader_now : LineReader) (waited waits : List ℕ) (out out_now : Outside)
+    (done : Result T Stop) : Type 0 where
+  pub line : List ℕ
+  pub gave : GaveLine reader reader_now out.left out_now.left line
+  pub means : (said : S) → shows said
+      → LineMeans g shows_now said line out.held out_now.held waited waits done
+  pub rose : IfErr done (StopRose out.writes out_now.writes)

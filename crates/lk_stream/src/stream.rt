@@ -3,9 +3,9 @@ ghost use Rattle.std.specs.Prelude.{◌≡◌, ◌≤◌, ◌<◌, ◌++◌, ◌
 ghost use Rattle.lk_text.specs.Causes.{HasCause};
 ghost use Rattle.lk_text.specs.Bytes.{AppendsFront, Conveys};
 ghost use Rattle.lk_text.specs.Block.{waiting};
-ghost use Rattle.lk_text.specs.Reader.{kept, looked_at, is_at_hand, is_ended, GaveLine, MetEnd, GaveFault};
+ghost use Rattle.lk_text.specs.Reader.{kept, looked_at, is_at_hand, is_ended, MetEnd, GaveFault};
 ghost use Rattle.lk_forms.specs.declared.answers.LineRefusal.{LineRefusal};
-ghost use Rattle.lk_stream.specs.Line.{LineMeans, StopRose};
+ghost use Rattle.lk_stream.specs.Line.{HasObeyed};
 ghost use Rattle.lk_stream.specs.Outside.{outside};
 ghost use Rattle.lk_stream.specs.Outcome.{Done, FaultMeans};
 ghost use Rattle.lk_stream.specs.Stands.{Stands, StopsAtEnd, FaultStops, TurnsTo, StopsAt, FaultRose, HasCauses};
@@ -52,12 +52,10 @@ fn next_line<G: Script, S: Source, K: Sink>(
     source: &mut S,
     sink: &mut K,
 ) -> Result<Option<Result<(), Stop>>, LineFault>
-    ensures given { IfOk result (λ given. IfSome given (λ done. (line : List ℕ)
-        × GaveLine reader.old reader.new (S.left source.old) (S.left source.new) line
-        × ((said : G.Said) → G.shows script.old said
-        → LineMeans G.grammar (G.shows script.new) said line (K.held sink.old) (K.held sink.new)
-        (waiting block.old) (waiting block.new) done)
-        × IfErr done (StopRose (K.faults sink.old) (K.faults sink.new)))) }
+    ensures given { IfOk result (λ given. IfSome given (HasObeyed G.grammar (G.shows script.old)
+        (G.shows script.new) reader.old reader.new (waiting block.old) (waiting block.new)
+        (outside (S.left source.old) (S.faults source.old) (K.held sink.old) (K.faults sink.old))
+        (outside (S.left source.new) (S.faults source.new) (K.held sink.new) (K.faults sink.new)))) }
     ensures end { result ≡ Ok None
         → MetEnd reader.old reader.new (S.left source.old) (S.left source.new)
         × (script.new ≡ script.old) × (block.new ≡ block.old) × (sink.new ≡ sink.old) }

@@ -11,8 +11,8 @@ returns-in-Ok-Some-Ok-clause-turns g c = λ input held s.
     (waiting c.put_before_read.new.block) _ _ _ s c.in_ok-put_before_read.ensures.ok in
     let step = c.in-Ok-Some-Ok in
     let given = rw (step.field-0-is, step.field-0-0-is) at step.ensures.given in
-    turn_goes_on _ _ g.met.G.Script.grows input held _ _ _ _ _ _ here given.0 given.1 _ _ _
-    (given.2 here.place.said here.shown)
+    turn_goes_on _ _ g.met.G.Script.grows input held _ _ _ _ _ _ here given.line given.gave _ _ _
+    (given.means here.place.said here.shown)
 
 pub returns-in-Ok-Some-Err-Refused-clause-turns : goal.returns-in-Ok-Some-Err-Refused-clause-turns
 returns-in-Ok-Some-Err-Refused-clause-turns g c = λ input held s.
@@ -23,8 +23,8 @@ returns-in-Ok-Some-Err-Refused-clause-turns g c = λ input held s.
     let given =
     rw (stop.field-0-is, stop.field-0-0-is, stop.field-0-0-0-is) at stop.ensures.given in
     rw (c.refused.ensures, c.lines.ensures)
-    (turn_refused _ _ g.met.G.Script.grows input held _ _ _ _ _ _ here given.0 given.1 _ _ stop.why
-    (given.2 here.place.said here.shown))
+    (turn_refused _ _ g.met.G.Script.grows input held _ _ _ _ _ _ here given.line given.gave _ _ stop.why
+    (given.means here.place.said here.shown))
 
 pub returns-in-Ok-Some-Err-WriteFault-clause-turns : goal.returns-in-Ok-Some-Err-WriteFault-clause-turns
 returns-in-Ok-Some-Err-WriteFault-clause-turns g c = λ input held s.
@@ -34,8 +34,8 @@ returns-in-Ok-Some-Err-WriteFault-clause-turns g c = λ input held s.
     let stop = c.in-Ok-Some-Err-WriteFault in
     let given =
     rw (stop.field-0-is, stop.field-0-0-is, stop.field-0-0-0-is) at stop.ensures.given in
-    turn_fails _ _ g.met.G.Script.grows input held _ _ _ _ _ _ here given.0 given.1 _
-    (given.2 here.place.said here.shown)
+    turn_fails _ _ g.met.G.Script.grows input held _ _ _ _ _ _ here given.line given.gave _
+    (given.means here.place.said here.shown)
 
 pub returns-in-Ok-None-clause-turns : goal.returns-in-Ok-None-clause-turns
 returns-in-Ok-None-clause-turns g c = λ input held s.
