@@ -1,5 +1,5 @@
 -- The order in which the lines of a grammar stand, by their ranks.
-use Rattle.std.specs.Prelude.{ℕ, ◌==◌, ◌+◌, ◌&&◌, ◌||◌, not, nat_le, nat_lt, Bool, Option, None, Some, if◌then◌else◌}
+use Rattle.std.specs.Prelude.{ℕ, ◌==◌, ◌&&◌, ◌||◌, not, nat_le, nat_lt, Bool, Option, None, Some, if◌then◌else◌}
 use Rattle.lk_forms.specs.declared.answers.Fault.{Fault}
 use Rattle.lk_forms.specs.declared.answers.Fault.TheVariants.{Misplaced, Repeated}
 use Rattle.lk_forms.specs.declared.order.Order.{Order}

@@ -63,12 +63,10 @@ fn header_line(
 pub fn format_numbered(version: &[u8]) -> Option<Format>
     ensures { result ≡ format_numbered version.now }
 {
-    if version == b"1".as_slice() {
-        Some(Format::One)
-    } else if version == b"2".as_slice() {
-        Some(Format::Two)
-    } else {
-        None
+    match version {
+        b"1" => Some(Format::One),
+        b"2" => Some(Format::Two),
+        _ => None,
     }
 }
 

@@ -61,40 +61,24 @@ impl Keyword {
     pub fn of(word: &[u8]) -> Option<Keyword>
         ensures { result ≡ keyword_of word.now }
     {
-        if word == b"step".as_slice() {
-            Some(Keyword::Step)
-        } else if word == b"int".as_slice() {
-            Some(Keyword::Int)
-        } else if word == b"pre".as_slice() {
-            Some(Keyword::Pre)
-        } else if word == b"res".as_slice() {
-            Some(Keyword::Res)
-        } else if word == b"nudge".as_slice() {
-            Some(Keyword::Nudge)
-        } else if word == b"end".as_slice() {
-            Some(Keyword::End)
-        } else if word == b"prog".as_slice() {
-            Some(Keyword::Prog)
-        } else if word == b"irq".as_slice() {
-            Some(Keyword::Irq)
-        } else if word == b"lock".as_slice() {
-            Some(Keyword::Lock)
-        } else if word == b"go".as_slice() {
-            Some(Keyword::Go)
-        } else if word == b"qtrace".as_slice() {
-            Some(Keyword::Format)
-        } else if word == b"mode".as_slice() {
-            Some(Keyword::Mode)
-        } else if word == b"cpus".as_slice() {
-            Some(Keyword::Cpus)
-        } else if word == b"sockets".as_slice() {
-            Some(Keyword::Sockets)
-        } else if word == b"threshold".as_slice() {
-            Some(Keyword::Threshold)
-        } else if word == b"spins".as_slice() {
-            Some(Keyword::Spins)
-        } else {
-            None
+        match word {
+            b"step" => Some(Keyword::Step),
+            b"int" => Some(Keyword::Int),
+            b"pre" => Some(Keyword::Pre),
+            b"res" => Some(Keyword::Res),
+            b"nudge" => Some(Keyword::Nudge),
+            b"end" => Some(Keyword::End),
+            b"prog" => Some(Keyword::Prog),
+            b"irq" => Some(Keyword::Irq),
+            b"lock" => Some(Keyword::Lock),
+            b"go" => Some(Keyword::Go),
+            b"qtrace" => Some(Keyword::Format),
+            b"mode" => Some(Keyword::Mode),
+            b"cpus" => Some(Keyword::Cpus),
+            b"sockets" => Some(Keyword::Sockets),
+            b"threshold" => Some(Keyword::Threshold),
+            b"spins" => Some(Keyword::Spins),
+            _ => None,
         }
     }
 

@@ -24,16 +24,12 @@ use std::alloc::Global;
 fn mode_of(word: &[u8]) -> Option<Mode>
     ensures { result ≡ mode_of word.now }
 {
-    if word == b"virt".as_slice() {
-        Some(Mode::Virt)
-    } else if word == b"native".as_slice() {
-        Some(Mode::Native)
-    } else if word == b"cna".as_slice() {
-        Some(Mode::Cna)
-    } else if word == b"pv".as_slice() {
-        Some(Mode::Pv)
-    } else {
-        None
+    match word {
+        b"virt" => Some(Mode::Virt),
+        b"native" => Some(Mode::Native),
+        b"cna" => Some(Mode::Cna),
+        b"pv" => Some(Mode::Pv),
+        _ => None,
     }
 }
 
@@ -100,12 +96,10 @@ pub(crate) fn spins_line(setup: &mut Setup, args: &[u8]) -> Result<(), LineRefus
 fn kind_named(word: &[u8]) -> Option<Kind>
     ensures { result ≡ kind_named word.now }
 {
-    if word == b"spin".as_slice() {
-        Some(Kind::Spin)
-    } else if word == b"rw".as_slice() {
-        Some(Kind::Rw)
-    } else {
-        None
+    match word {
+        b"spin" => Some(Kind::Spin),
+        b"rw" => Some(Kind::Rw),
+        _ => None,
     }
 }
 

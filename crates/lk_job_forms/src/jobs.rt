@@ -65,17 +65,15 @@ fn get_of(accounts: u32, args: &[u8]) -> Result<Job, LineRefusal>
 fn job_of(accounts: u32, verb: &[u8], args: &[u8]) -> Result<Job, LineRefusal>
     ensures { result ≡ job_of accounts verb.now (words args.now) }
 {
-    if verb == b"move".as_slice() {
-        move_of(accounts, args)
-    } else if verb == b"add".as_slice() {
-        add_of(accounts, args)
-    } else if verb == b"sum".as_slice() {
-        no_words(args)?;
-        Ok(Job::Sum)
-    } else if verb == b"get".as_slice() {
-        get_of(accounts, args)
-    } else {
-        Err(LineRefusal::Bad(Fault::UnknownWord))
+    match verb {
+        b"move" => move_of(accounts, args),
+        b"add" => add_of(accounts, args),
+        b"sum" => {
+            no_words(args)?;
+            Ok(Job::Sum)
+        }
+        b"get" => get_of(accounts, args),
+        _ => Err(LineRefusal::Bad(Fault::UnknownWord)),
     }
 }
 

@@ -43,26 +43,17 @@ impl Keyword {
     pub fn of(word: &[u8]) -> Option<Keyword>
         ensures { result ≡ keyword_of word.now }
     {
-        if word == b"job".as_slice() {
-            Some(Keyword::Job)
-        } else if word == b"end".as_slice() {
-            Some(Keyword::End)
-        } else if word == b"qjobs".as_slice() {
-            Some(Keyword::Format)
-        } else if word == b"mode".as_slice() {
-            Some(Keyword::Mode)
-        } else if word == b"guard".as_slice() {
-            Some(Keyword::Guard)
-        } else if word == b"workers".as_slice() {
-            Some(Keyword::Workers)
-        } else if word == b"sockets".as_slice() {
-            Some(Keyword::Sockets)
-        } else if word == b"threshold".as_slice() {
-            Some(Keyword::Threshold)
-        } else if word == b"accounts".as_slice() {
-            Some(Keyword::Accounts)
-        } else {
-            None
+        match word {
+            b"job" => Some(Keyword::Job),
+            b"end" => Some(Keyword::End),
+            b"qjobs" => Some(Keyword::Format),
+            b"mode" => Some(Keyword::Mode),
+            b"guard" => Some(Keyword::Guard),
+            b"workers" => Some(Keyword::Workers),
+            b"sockets" => Some(Keyword::Sockets),
+            b"threshold" => Some(Keyword::Threshold),
+            b"accounts" => Some(Keyword::Accounts),
+            _ => None,
         }
     }
 

@@ -18,16 +18,12 @@ use std::alloc::Global;
 fn mode_named(word: &[u8]) -> Option<Mode>
     ensures { result ≡ mode_named word.now }
 {
-    if word == b"virt".as_slice() {
-        Some(Mode::Virt)
-    } else if word == b"native".as_slice() {
-        Some(Mode::Native)
-    } else if word == b"cna".as_slice() {
-        Some(Mode::Cna)
-    } else if word == b"pv".as_slice() {
-        Some(Mode::Pv)
-    } else {
-        None
+    match word {
+        b"virt" => Some(Mode::Virt),
+        b"native" => Some(Mode::Native),
+        b"cna" => Some(Mode::Cna),
+        b"pv" => Some(Mode::Pv),
+        _ => None,
     }
 }
 

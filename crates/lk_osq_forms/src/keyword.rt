@@ -42,22 +42,15 @@ impl Keyword {
     pub fn of(word: &[u8]) -> Option<Keyword>
         ensures { result ≡ keyword_of word.now }
     {
-        if word == b"step".as_slice() {
-            Some(Keyword::Step)
-        } else if word == b"give".as_slice() {
-            Some(Keyword::Give)
-        } else if word == b"end".as_slice() {
-            Some(Keyword::End)
-        } else if word == b"prog".as_slice() {
-            Some(Keyword::Prog)
-        } else if word == b"cpus".as_slice() {
-            Some(Keyword::Cpus)
-        } else if word == b"go".as_slice() {
-            Some(Keyword::Go)
-        } else if word == b"qosq".as_slice() {
-            Some(Keyword::Format)
-        } else {
-            None
+        match word {
+            b"step" => Some(Keyword::Step),
+            b"give" => Some(Keyword::Give),
+            b"end" => Some(Keyword::End),
+            b"prog" => Some(Keyword::Prog),
+            b"cpus" => Some(Keyword::Cpus),
+            b"go" => Some(Keyword::Go),
+            b"qosq" => Some(Keyword::Format),
+            _ => None,
         }
     }
 
