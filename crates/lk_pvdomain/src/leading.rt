@@ -1,5 +1,6 @@
 // A queue head, until it has acquired the lock: the rows E1 to E12.
-ghost use Rattle.std.specs.Prelude.{◌≡◌, true, false};
+ghost use Rattle.std.specs.Prelude.{◌≡◌, Bool, true, false};
+ghost use Rattle.lk_word.specs.declared.spin_word.NodeName.{NodeName as Node};
 ghost use Rattle.lk_machine.specs.declared.parts.Pc.TheVariants.{E1, E2, E4, E5, E6, E10, E13};
 ghost use Rattle.lk_machine.specs.declared.setup.Verb.TheVariants.{Lock};
 ghost use Rattle.lk_domain.specs.Plans.{turns_of};
@@ -14,24 +15,16 @@ use lk_word::{NodeName, SLOW, is_free_for_pending, low_byte};
 use std::sync::Wait;
 
 // The row E4, for as many turns as the spin bound says. Returns whether it acquired the lock.
-fn head<R: Wait>(
-    seat: &mut Right,
-    rt: &R,
-    domain: &PvDomain,
-    lock: u32,
-    own: NodeName,
-    hashed: bool,
-) -> bool
-    requires at { (s : Start)
+fn head<R: Wait>(seat: &mut Right, rt: &R, domain: &PvDomain, lock: u32) -> bool
+    requires at { (own : Node) × (hashed : Bool) × (s : Start)
         × At domain.now Lock lock own s E4 (Tries own hashed (turns_of domain.now.plan)) seat.old }
-    ensures takes { result ≡ true → (s : Start)
+    ensures takes { result ≡ true → (own : Node) (hashed : Bool) (s : Start)
         → At domain.now Lock lock own s E4 (Tries own hashed (turns_of domain.now.plan)) seat.old
         → At domain.now Lock lock own s E13 (Owns own) seat.new }
-    ensures stops { result ≡ false → (s : Start)
+    ensures stops { result ≡ false → (own : Node) (hashed : Bool) (s : Start)
         → At domain.now Lock lock own s E4 (Tries own hashed (turns_of domain.now.plan)) seat.old
         → At domain.now Lock lock own s E5 (Leads own hashed) seat.new }
 {
-    let _ = (own, hashed);
     let backoff = Backoff::new();
     let mut left = domain.turns();
     for _ in rt.forever() {
@@ -100,7 +93,7 @@ fn attempt<R: Wait>(
 {
     states::store_state(seat, domain, own, State::Running);
     words::press(seat, domain, Verb::Lock, lock);
-    if head(seat, rt, domain, lock, own, hashed) {
+    if head(seat, rt, domain, lock) {
         return true;
     }
     words::relent(seat, domain, Verb::Lock, lock);

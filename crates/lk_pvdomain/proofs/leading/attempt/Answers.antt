@@ -20,19 +20,19 @@ press-requires g c =
 
 pub head-requires : goal.head-requires
 head-requires g c =
-    record { at = (c.requires.at.0, e3_presses c.press.ensures.same (e2_runs c.store_state.ensures.same c.requires.at.1 c.store_state.ensures.step) c.press.ensures.step) }
+    record { at = (c.args.own, c.args.hashed, c.requires.at.0, e3_presses c.press.ensures.same (e2_runs c.store_state.ensures.same c.requires.at.1 c.store_state.ensures.step) c.press.ensures.step) }
 
 pub returns-then-head : goal.returns-then-head
 returns-then-head g c =
     record {
-      takes = λ e s w. c.head.ensures.takes c.if-head.true s
+      takes = λ e s w. c.head.ensures.takes c.if-head.true c.args.own c.args.hashed s
           (e3_presses c.press.ensures.same (e2_runs c.store_state.ensures.same w c.store_state.ensures.step) c.press.ensures.step);
       waits = λ e. absurd (cc e);
     }
 
 pub relent-requires : goal.relent-requires
 relent-requires g c =
-    let w = c.head.ensures.stops c.if-head.false c.requires.at.0
+    let w = c.head.ensures.stops c.if-head.false c.args.own c.args.hashed c.requires.at.0
     (e3_presses c.press.ensures.same (e2_runs c.store_state.ensures.same c.requires.at.1 c.store_state.ensures.step) c.press.ensures.step) in
     record { table = w.of.table_is; number = numbered w; lock = w.low; row = word_asks w relents refl }
 
@@ -42,7 +42,7 @@ returns-then-hashed g c =
       takes = λ e. absurd (cc e);
       waits = λ e s w. e5_hashed c.relent.ensures.same
           (subst (λ h. At c.args.domain.now Lock c.args.lock c.args.own s E5 (Leads c.args.own h) c.head.new.seat) c.if-hashed.true
-          (c.head.ensures.stops c.if-head.false s
+          (c.head.ensures.stops c.if-head.false c.args.own c.args.hashed s
           (e3_presses c.press.ensures.same (e2_runs c.store_state.ensures.same w c.store_state.ensures.step) c.press.ensures.step)))
           c.relent.ensures.step;
     }
@@ -54,7 +54,7 @@ enter-requires g c =
         c.requires.at.0,
         e5_else c.relent.ensures.same
             (subst (λ h. At c.args.domain.now Lock c.args.lock c.args.own c.requires.at.0 E5 (Leads c.args.own h) c.head.new.seat) c.if-hashed.false
-            (c.head.ensures.stops c.if-head.false c.requires.at.0
+            (c.head.ensures.stops c.if-head.false c.args.own c.args.hashed c.requires.at.0
             (e3_presses c.press.ensures.same (e2_runs c.store_state.ensures.same c.requires.at.1 c.store_state.ensures.step) c.press.ensures.step)))
             c.relent.ensures.step,
       );
@@ -65,7 +65,7 @@ returns-clause-takes g c e s w =
     c.enter.ensures.takes e s
     (e5_else c.relent.ensures.same
     (subst (λ h. At c.args.domain.now Lock c.args.lock c.args.own s E5 (Leads c.args.own h) c.head.new.seat) c.if-hashed.false
-    (c.head.ensures.stops c.if-head.false s
+    (c.head.ensures.stops c.if-head.false c.args.own c.args.hashed s
     (e3_presses c.press.ensures.same (e2_runs c.store_state.ensures.same w c.store_state.ensures.step) c.press.ensures.step)))
     c.relent.ensures.step)
 
@@ -74,6 +74,6 @@ returns-clause-waits g c e s w =
     c.enter.ensures.waits e s
     (e5_else c.relent.ensures.same
     (subst (λ h. At c.args.domain.now Lock c.args.lock c.args.own s E5 (Leads c.args.own h) c.head.new.seat) c.if-hashed.false
-    (c.head.ensures.stops c.if-head.false s
+    (c.head.ensures.stops c.if-head.false c.args.own c.args.hashed s
     (e3_presses c.press.ensures.same (e2_runs c.store_state.ensures.same w c.store_state.ensures.step) c.press.ensures.step)))
     c.relent.ensures.step)

@@ -7,17 +7,18 @@ use Rattle.lk_pvdomain.proofs.leading.head.Goals as goal
 
 pub head-requires : goal.head-requires
 head-requires g c =
-    let w = c.loop.invariant c.requires.at.0 c.requires.at.1 in
+    let at = c.requires.at in
+    let w = c.loop.invariant at.0 at.1 at.2 at.3 in
     record { table = w.of.table_is; number = numbered w; lock = w.low; row = acts w tries_head refl }
 
 pub returns-then-is_free_for_pending-clause-takes : goal.returns-then-is_free_for_pending-clause-takes
-returns-then-is_free_for_pending-clause-takes g c e s w = e4_takes c.head.ensures.same (c.loop.invariant s w) c.head.ensures.step (eqb-true _ _ (sym c.is_free_for_pending.ensures ∙ c.if-is_free_for_pending.true))
+returns-then-is_free_for_pending-clause-takes g c e own hashed s w = e4_takes c.head.ensures.same (c.loop.invariant own hashed s w) c.head.ensures.step (eqb-true _ _ (sym c.is_free_for_pending.ensures ∙ c.if-is_free_for_pending.true))
 
 pub returns-then-left-le1-clause-stops : goal.returns-then-left-le1-clause-stops
-returns-then-left-le1-clause-stops g c e s w =
-    e4_last c.head.ensures.same (c.loop.invariant s w) c.head.ensures.step (eqb-false _ _ (sym c.is_free_for_pending.ensures ∙ c.if-is_free_for_pending.false)) c.if-left-le1.true
+returns-then-left-le1-clause-stops g c e own hashed s w =
+    e4_last c.head.ensures.same (c.loop.invariant own hashed s w) c.head.ensures.step (eqb-false _ _ (sym c.is_free_for_pending.ensures ∙ c.if-is_free_for_pending.false)) c.if-left-le1.true
 
 pub loop-preserved : goal.loop-preserved
-loop-preserved g c s w =
-    e4_again c.head.ensures.same (c.loop.invariant s w) c.head.ensures.step (eqb-false _ _ (sym c.is_free_for_pending.ensures ∙ c.if-is_free_for_pending.false))
+loop-preserved g c own hashed s w =
+    e4_again c.head.ensures.same (c.loop.invariant own hashed s w) c.head.ensures.step (eqb-false _ _ (sym c.is_free_for_pending.ensures ∙ c.if-is_free_for_pending.false))
     (λ e. let z = c.if-left-le1.false in omega (arith, e, z))

@@ -1,3 +1,5 @@
+use Rattle.std.specs.Prelude.{Bool}
+use Rattle.lk_word.specs.declared.spin_word.NodeName.{NodeName}
 use Rattle.lk_machine.specs.declared.parts.Pc.TheVariants.{E4}
 use Rattle.lk_machine.specs.declared.setup.Verb.TheVariants.{Lock}
 use Rattle.lk_domain.specs.Plans.{turns_of}
@@ -6,5 +8,5 @@ use Rattle.lk_pvdomain.proofs.leading.head.Given as goal
 
 abbrev pub invariant-loop : goal.invariant-loop
 invariant-loop g l =
-    (s : Start) → At l.domain Lock l.lock l.fn.own s E4 (Tries l.fn.own l.fn.hashed (turns_of l.domain.plan)) l.fn.seat
-    → At l.domain Lock l.lock l.fn.own s E4 (Tries l.fn.own l.fn.hashed l.left) l.seat
+    (own : NodeName) (hashed : Bool) (s : Start) → At l.domain Lock l.lock own s E4 (Tries own hashed (turns_of l.domain.plan)) l.fn.seat
+    → At l.domain Lock l.lock own s E4 (Tries own hashed l.left) l.seat
