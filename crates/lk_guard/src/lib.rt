@@ -5,11 +5,11 @@
 mod books;
 mod gate;
 mod pv_region;
-mod reading;
+mod queries;
 mod region;
 mod settling;
+mod updates;
 mod working;
-mod writing;
 
 pub use gate::{Gate, OpenGate};
 pub use pv_region::PvRegion;

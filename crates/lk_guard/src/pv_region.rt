@@ -18,8 +18,8 @@ ghost use Rattle.lk_pvdomain.specs.PvSeats.{IsOf, IsSame, calls_of, ledger_of, v
 use crate::books::Books;
 use crate::gate::Gate;
 use crate::region::FIRST;
+use crate::updates::Task;
 use crate::working::writes;
-use crate::writing::Task;
 use lk_abs::{Job, List, Reply, Seen};
 use lk_pvdomain::{PvCpu, PvDomain, pv_lock, pv_unlock};
 use std::sync::Wait;
