@@ -120,12 +120,12 @@ fn tail(node: u64) -> u64 {
     (node + 4) << 16
 }
 
-// What a flag is: a number above GO names the first node of a second queue, as a link does, by its number raised by two.
+// What a flag is: a number above GO names the first node of a secondary queue, as a link does, by its number raised by two.
 const UNSET: u64 = 0;
 const GO: u64 = 1;
 
-// A node of a processor, which has four of them: whether it leads, and its successor; and what a front that chooses notes in it: the
-// last of the second queue whose first it is, and how many handovers were made since that queue is not empty.
+// A node of a processor, which has four of them: whether it leads, and its successor; and what a queue head that chooses notes in it:
+// the last of the secondary queue whose first it is, and how many handoffs were made since that queue is not empty.
 #[derive(Default)]
 #[repr(align(32))]
 struct Node {
@@ -246,14 +246,14 @@ impl<const CHOOSES: bool> Queue<CHOOSES> {
         }
     }
 
-    // Hands the lead to the next, and with it what it has to know of the second queue.
+    // Hands off to the successor, and with it what that has to know of the secondary queue.
     fn hand(&self, next: u64, second: Option<u64>, runs: u64) {
         let node = &self.nodes[next as usize];
         node.runs.store(if second.is_some() { runs + 1 } else { 0 }, SeqCst);
         node.flag.store(second.map_or(GO, |second| second + 2), SeqCst);
     }
 
-    // The second queue returns before the rest, which begins with this node.
+    // The secondary queue returns before the rest, which begins with this node.
     fn flush(&self, second: u64, rest: u64) {
         let last = self.nodes[second as usize].second_tail.load(SeqCst) - 2;
         self.link(last, Some(rest));
@@ -299,7 +299,7 @@ impl<const CHOOSES: bool> Queue<CHOOSES> {
         }
     }
 
-    // Those from the first to the last go to the end of the second queue.
+    // Those from the first to the last go to the end of the secondary queue.
     fn move_aside(&self, first: u64, last: u64, second: Option<u64>) {
         if let Some(second) = second {
             let behind = self.nodes[second as usize].second_tail.load(SeqCst) - 2;
