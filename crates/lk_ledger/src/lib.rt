@@ -2,11 +2,11 @@
 //! their outcome.
 #![tactic(auto)]
 
-mod reading;
+mod job_file;
+mod outcome_text;
 mod run;
 mod script;
-mod writing;
 
-pub use reading::read_jobs;
+pub use job_file::read_jobs;
+pub use outcome_text::write_outcome;
 pub use run::ledger;
-pub use writing::write_outcome;

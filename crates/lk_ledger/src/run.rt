@@ -9,8 +9,8 @@ ghost use Rattle.lk_stream.specs.declared.answers.ReplayFault.{ReplayFault};
 ghost use Rattle.lk_job_forms.specs.JobFile.{job_file};
 ghost use Rattle.lk_ledger.specs.Outcome.{HasRun, FaultMeans};
 
-use crate::reading::read_jobs;
-use crate::writing::write_outcome;
+use crate::job_file::read_jobs;
+use crate::outcome_text::write_outcome;
 use lk_guard::Gate;
 use lk_stream::ReplayFault;
 use lk_text::{Block, Sink, Source};

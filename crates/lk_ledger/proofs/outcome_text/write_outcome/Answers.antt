@@ -3,7 +3,7 @@ use Rattle.std.proofs.lemmas.Result.{err_from_is_err_and}
 use Rattle.lk_text.specs.Block.{waiting}
 use Rattle.lk_job_forms.specs.Texts.{entry_lines_from, seen_lines, balance_lines_from, total_text}
 use Rattle.lk_ledger.proofs.Parts.{cut_at_first, cut_at_second, cut_at_third, all_put, cut_at_last}
-use Rattle.lk_ledger.proofs.writing.write_outcome.Goals as goal
+use Rattle.lk_ledger.proofs.outcome_text.write_outcome.Goals as goal
 
 pub returns-in_err-write_entries-clause-err : goal.returns-in_err-write_entries-clause-err
 returns-in_err-write_entries-clause-err g c =

@@ -2,7 +2,7 @@ use Rattle.std.proofs.Common.{◌≤◌, take}
 use Rattle.lk_text.specs.Bytes.{Conveys}
 use Rattle.lk_text.specs.Block.{waiting}
 use Rattle.lk_job_forms.specs.Texts.{seen_lines}
-use Rattle.lk_ledger.proofs.writing.write_reads.Given as goal
+use Rattle.lk_ledger.proofs.outcome_text.write_reads.Given as goal
 
 abbrev pub invariant-loop-seen : goal.invariant-loop-seen
 invariant-loop-seen g l = record {

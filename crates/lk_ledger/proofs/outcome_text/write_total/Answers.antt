@@ -4,7 +4,7 @@ use Rattle.lk_text.proofs.Conveyed.{front_of_more}
 use Rattle.lk_text.specs.Block.{waiting}
 use Rattle.lk_job_forms.specs.Texts.{total_text}
 use Rattle.lk_ledger.proofs.LineTexts.{cut_behind}
-use Rattle.lk_ledger.proofs.writing.write_total.Goals as goal
+use Rattle.lk_ledger.proofs.outcome_text.write_total.Goals as goal
 
 pub returns-in_err-push-clause-err : goal.returns-in_err-push-clause-err
 returns-in_err-push-clause-err g c =

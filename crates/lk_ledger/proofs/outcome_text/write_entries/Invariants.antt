@@ -2,7 +2,7 @@ use Rattle.std.proofs.Common.{◌≤◌, take}
 use Rattle.lk_text.specs.Bytes.{Conveys}
 use Rattle.lk_text.specs.Block.{waiting}
 use Rattle.lk_job_forms.specs.Texts.{entry_lines_from}
-use Rattle.lk_ledger.proofs.writing.write_entries.Given as goal
+use Rattle.lk_ledger.proofs.outcome_text.write_entries.Given as goal
 
 abbrev pub invariant-loop-at : goal.invariant-loop-at
 invariant-loop-at g l = record {

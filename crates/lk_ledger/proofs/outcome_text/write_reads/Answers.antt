@@ -3,7 +3,7 @@ use Rattle.std.proofs.lemmas.Result.{err_from_is_err_and}
 use Rattle.lk_text.proofs.Conveyed.{Conveys-nothing}
 use Rattle.lk_text.specs.Block.{waiting}
 use Rattle.lk_ledger.proofs.LineTexts.{read_goes, reads_cut}
-use Rattle.lk_ledger.proofs.writing.write_reads.Goals as goal
+use Rattle.lk_ledger.proofs.outcome_text.write_reads.Goals as goal
 
 pub loop-seen-init : goal.loop-seen-init
 loop-seen-init g c = record { conveyed = Conveys-nothing _ _; later = omega arith }

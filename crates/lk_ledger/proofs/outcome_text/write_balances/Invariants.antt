@@ -2,7 +2,7 @@ use Rattle.std.proofs.Common.{◌≤◌, take}
 use Rattle.lk_text.specs.Bytes.{Conveys}
 use Rattle.lk_text.specs.Block.{waiting}
 use Rattle.lk_job_forms.specs.Texts.{balance_lines_from}
-use Rattle.lk_ledger.proofs.writing.write_balances.Given as goal
+use Rattle.lk_ledger.proofs.outcome_text.write_balances.Given as goal
 
 abbrev pub invariant-loop-account : goal.invariant-loop-account
 invariant-loop-account g l = record {

@@ -3,7 +3,7 @@ use Rattle.std.proofs.lemmas.Result.{err_from_is_err_and}
 use Rattle.lk_text.proofs.Conveyed.{Conveys-nothing}
 use Rattle.lk_text.specs.Block.{waiting}
 use Rattle.lk_ledger.proofs.LineTexts.{balance_goes, balances_cut}
-use Rattle.lk_ledger.proofs.writing.write_balances.Goals as goal
+use Rattle.lk_ledger.proofs.outcome_text.write_balances.Goals as goal
 
 pub loop-account-init : goal.loop-account-init
 loop-account-init g c = record { conveyed = Conveys-nothing _ _; later = omega arith }

@@ -3,7 +3,7 @@ use Rattle.std.proofs.lemmas.Result.{err_from_is_err_and}
 use Rattle.lk_text.proofs.Conveyed.{Conveys-nothing}
 use Rattle.lk_text.specs.Block.{waiting}
 use Rattle.lk_ledger.proofs.LineTexts.{entry_goes, entries_cut}
-use Rattle.lk_ledger.proofs.writing.write_entries.Goals as goal
+use Rattle.lk_ledger.proofs.outcome_text.write_entries.Goals as goal
 
 pub loop-at-init : goal.loop-at-init
 loop-at-init g c = record { conveyed = Conveys-nothing _ _; later = omega arith }

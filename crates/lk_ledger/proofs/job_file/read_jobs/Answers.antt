@@ -3,7 +3,7 @@ use Rattle.lk_job_forms.specs.Grammar.{Reading, ending}
 use Rattle.lk_job_forms.specs.Reader.{reading}
 use Rattle.lk_ledger.proofs.Obeyed.{has_ended}
 use Rattle.lk_ledger.proofs.Answered.{is_read, not_read, complete, exact}
-use Rattle.lk_ledger.proofs.reading.read_jobs.Goals as goal
+use Rattle.lk_ledger.proofs.job_file.read_jobs.Goals as goal
 
 pub finish-requires : goal.finish-requires
 finish-requires g c =
