@@ -29,6 +29,6 @@ pub use laws::{lines_say_lawful_setups, texts_tell_all};
 pub use limits::{MAX_ACTS, MAX_CPUS, MAX_HANDLERS, MAX_LOCKS, MAX_OPS, MAX_WIDE_CPUS};
 pub use order::Order;
 pub use schedule::schedule_line;
-pub use settings::{count_words, kind_word, read_sockets};
+pub use settings::{count_words, kind_word, mode_word, read_sockets};
 pub use texts::{count_line, end_line, event_line, write_event};
 pub use words::{is_comment, is_text, next_word};

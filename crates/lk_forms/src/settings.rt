@@ -33,7 +33,8 @@ fn mode_of(word: &[u8]) -> Option<Mode>
     }
 }
 
-fn mode_word(word: &[u8]) -> Result<Mode, LineRefusal>
+/// The mode that a word says: `virt`, `native`, `cna` or `pv`.
+pub fn mode_word(word: &[u8]) -> Result<Mode, LineRefusal>
     ensures { result ≡ mode_word word.now }
 {
     mode_of(word).ok_or(LineRefusal::Bad(Fault::UnknownWord))

@@ -20,7 +20,7 @@ use Rattle.lk_abs.specs.declared.limits.TheConstants.{MAX_SOCKET, MAX_TURNS, MAX
 use Rattle.lk_abs.specs.Workload.{Workload, workers_of, jobs_of, job_count, IsFair, IsLawful}
 use Rattle.lk_forms.specs.Words.{words, is_text, is_comment}
 use Rattle.lk_forms.specs.Operations.{and_then, or_fault}
-use Rattle.lk_forms.specs.Grammar.{one_word, two_words, no_words, number_in, numbers_from, cpu_word, kind_word}
+use Rattle.lk_forms.specs.Grammar.{one_word, two_words, no_words, number_in, numbers_from, cpu_word, kind_word, mode_of, mode_word}
 use Rattle.lk_forms.specs.declared.answers.Fault.TheVariants.{UnknownWord, OutOfRange}
 use Rattle.lk_forms.specs.declared.answers.Which.TheVariants.{Total}
 use Rattle.lk_forms.specs.declared.answers.LineRefusal.{LineRefusal}
@@ -28,7 +28,7 @@ use Rattle.lk_forms.specs.declared.answers.LineRefusal.TheVariants.{Bad, Limit}
 use Rattle.lk_forms.proofs.Changes.{and_then-ok, if-ok, else-ok, number_in-ok, cpu_word-ok}
 use Rattle.lk_job_forms.specs.declared.keyword.Keyword.{Keyword}
 use Rattle.lk_job_forms.specs.declared.keyword.Keyword.TheVariants as keyword
-use Rattle.lk_job_forms.specs.Lines.{mode_named, mode_word, suited, balances_from, balances_of, opened, three_words, amount_word, move_of, add_of, get_of, job_of, worker_job, line_args}
+use Rattle.lk_job_forms.specs.Lines.{suited, balances_from, balances_of, opened, three_words, amount_word, move_of, add_of, get_of, job_of, worker_job, line_args}
 use Rattle.lk_forms.specs.Ranks.{fault_of_ranks}
 use Rattle.lk_job_forms.specs.Keywords.{keyword_of, rank_of, order, fault_of_place}
 use Rattle.lk_job_forms.specs.Grammar.{Reading, IsSound, nothing_read, format_said, read_format, read, read_words, read_ranked, read_known, read_placed}
@@ -115,12 +115,12 @@ count_none n = length-replicate n []
 
 module _ (w : Workload) (lawful : IsLawful w) where
   mode_kept : (args : List (List ℕ)) → IfOk (line_args keyword.Mode w args) (Keeps w)
-  mode_kept args = then_keeps _ (one_word args) _ (λ word _. then_keeps _ (mode_word word) _ (λ m is. kept word m (mode_named word) refl is))
+  mode_kept args = then_keeps _ (one_word args) _ (λ word _. then_keeps _ (mode_word word) _ (λ m is. kept word m (mode_of word) refl is))
     where
-      kept : (word : List ℕ) (m : Mode) (found : Option Mode) → mode_named word ≡ found → or_fault UnknownWord found ≡ Ok m → Keeps w (record w { mode = m; guard = Spin })
+      kept : (word : List ℕ) (m : Mode) (found : Option Mode) → mode_of word ≡ found → or_fault UnknownWord found ≡ Ok m → Keeps w (record w { mode = m; guard = Spin })
       kept word m None named is = cc
       kept word m (Some n) named is =
-          let same : mode_named word ≡ Some m = cc in
+          let same : mode_of word ≡ Some m = cc in
           record {
             lawful = record { guarded = λ _. refl; some = lawful.some; few = lawful.few; each = lawful.each; near = lawful.near; threshold = lawful.threshold; accounts = lawful.accounts; total = lawful.total; jobs = lawful.jobs; fair = lawful.fair };
             none = λ none. none;

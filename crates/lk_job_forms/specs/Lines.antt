@@ -6,14 +6,14 @@ use Rattle.std.specs.Str.{bytes_eq}
 use Rattle.lk_abs.specs.declared.names.Mode.{Mode}
 use Rattle.lk_abs.specs.declared.names.Kind.{Kind}
 use Rattle.lk_abs.specs.declared.names.Kind.TheVariants.{Spin, Rw}
-use Rattle.lk_abs.specs.declared.names.Mode.TheVariants.{Virt, Native, Cna, Pv}
+use Rattle.lk_abs.specs.declared.names.Mode.TheVariants.{Pv}
 use Rattle.lk_abs.specs.declared.ledger.Job.{Job}
 use Rattle.lk_abs.specs.declared.ledger.Job.TheVariants.{Move, Add, Sum, Get}
 use Rattle.lk_abs.specs.Jobs.{full}
 use Rattle.lk_abs.specs.declared.limits.TheConstants.{MAX_SOCKET, MAX_TURNS, MAX_ACCOUNTS, MAX_AMOUNT, MAX_JOBS, MAX_WORKERS}
 use Rattle.lk_abs.specs.Workload.{Workload, workers_of, jobs_of, job_count}
 use Rattle.lk_forms.specs.Operations.{and_then, or_fault}
-use Rattle.lk_forms.specs.Grammar.{one_word, two_words, no_words, number_in, numbers_from, cpu_word, kind_word}
+use Rattle.lk_forms.specs.Grammar.{one_word, two_words, no_words, number_in, numbers_from, cpu_word, kind_word, mode_word}
 use Rattle.lk_forms.specs.declared.answers.Fault.TheVariants.{UnknownWord, WordCount, OutOfRange, Misplaced, WrongLock}
 use Rattle.lk_forms.specs.declared.answers.Which.TheVariants.{Jobs, Total}
 use Rattle.lk_forms.specs.declared.answers.LineRefusal.{LineRefusal}
@@ -22,17 +22,6 @@ use Rattle.lk_job_forms.specs.declared.keyword.Keyword.{Keyword}
 use Rattle.lk_job_forms.specs.declared.keyword.Keyword.TheVariants as keyword
 
 -- the lines that stand once
-
-abbrev pub mode_named : List ℕ → Option Mode
-mode_named word =
-    if bytes_eq word (codes "virt") then Some Virt
-    else if bytes_eq word (codes "native") then Some Native
-    else if bytes_eq word (codes "cna") then Some Cna
-    else if bytes_eq word (codes "pv") then Some Pv
-    else None
-
-abbrev pub mode_word : List ℕ → Result Mode LineRefusal
-mode_word word = or_fault UnknownWord (mode_named word)
 
 -- `mode m`: the guard is a spinlock until a line says another
 abbrev pub mode_line : Workload → List (List ℕ) → Result Workload LineRefusal

@@ -1,7 +1,7 @@
 // The lines that stand once, each by the words behind its keyword.
 ghost use Rattle.std.specs.Prelude.{◌≡◌};
 ghost use Rattle.lk_forms.specs.Words.{words};
-ghost use Rattle.lk_job_forms.specs.Lines.{mode_named, mode_word, mode_line, suited, guard_line, workers_line, sockets_line, threshold_line, line_args};
+ghost use Rattle.lk_job_forms.specs.Lines.{mode_line, suited, guard_line, workers_line, sockets_line, threshold_line, line_args};
 ghost use Rattle.lk_job_forms.specs.Draft.{work_of, Makes};
 
 use crate::accounts::accounts_line;
@@ -10,28 +10,10 @@ use crate::jobs::job_line;
 use crate::keyword::Keyword;
 use lk_abs::{Kind, List, MAX_TURNS, MAX_WORKERS, Mode};
 use lk_forms::{
-    Fault, LineRefusal, count_words, kind_word, no_words, number_in, one_word, read_sockets,
+    Fault, LineRefusal, count_words, kind_word, mode_word, no_words, number_in, one_word,
+    read_sockets,
 };
 use std::alloc::Global;
-
-// The mode that a word is, if it is one that workers can use.
-fn mode_named(word: &[u8]) -> Option<Mode>
-    ensures { result ≡ mode_named word.now }
-{
-    match word {
-        b"virt" => Some(Mode::Virt),
-        b"native" => Some(Mode::Native),
-        b"cna" => Some(Mode::Cna),
-        b"pv" => Some(Mode::Pv),
-        _ => None,
-    }
-}
-
-fn mode_word(word: &[u8]) -> Result<Mode, LineRefusal>
-    ensures { result ≡ mode_word word.now }
-{
-    mode_named(word).ok_or(LineRefusal::Bad(Fault::UnknownWord))
-}
 
 // `mode m`: the guard is a spinlock until a line says another.
 fn mode_line(draft: &mut Draft, args: &[u8]) -> Result<(), LineRefusal>
