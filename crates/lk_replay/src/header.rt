@@ -36,12 +36,13 @@ fn read_step<S: Source>(
     }
 }
 
-/// Reads the header up to the line `go`.
+/// Reads the header of a trace up to the line `go`, from the line behind those that `header` has
+/// read.
 ///
 /// # Errors
 ///
 /// The first line that is refused, a failed read, or not enough memory.
-pub(crate) fn read_header<S: Source>(
+pub fn read_header<S: Source>(
     header: &mut HeaderReader,
     reader: &mut LineReader,
     source: &mut S,

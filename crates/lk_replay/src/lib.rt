@@ -14,6 +14,7 @@ mod stream;
 
 pub use answers::{RunFault, Summary};
 pub use closing::write_closing;
+pub use header::read_header;
 pub use lk_stream::ReplayFault;
 pub use replayer::Replayer;
 pub use stream::replay;

@@ -1,7 +1,5 @@
--- What a machine on which acts are told has, and what lines of a header say.
-use Rattle.std.proofs.Common.{◌≡◌, ◌<◌, ◌+◌, ◌∷◌, ◌++◌, ℕ, zero, suc, List, [], Ok, sym, ap, refl, ◌∙◌, subst, arith, length, replicate}
-use Rattle.std.specs.Result.{result_unwrap_or}
-use Rattle.std.proofs.lemmas.Grind.{fold-append}
+-- What a machine on which acts are told has.
+use Rattle.std.proofs.Common.{◌≡◌, ◌<◌, ◌+◌, ℕ, zero, suc, List, [], sym, ap, refl, ◌∙◌, subst, arith, length, replicate}
 use Rattle.lk_machine.specs.Acts.{next}
 use Rattle.lk_machine.specs.Machine.{Machine}
 use Rattle.lk_machine.specs.Programs.{IsLawfulSetup}
@@ -11,8 +9,6 @@ use Rattle.lk_abs.specs.History.{history_of}
 use Rattle.lk_abs.specs.declared.events.Act.{Act}
 use Rattle.lk_law.specs.Sound.{IsSound}
 use Rattle.lk_law.specs.MachineLaws.{RestShows}
-use Rattle.lk_forms.specs.Grammar.{Reading, read, next_reading, nothing_read}
-use Rattle.lk_steps.specs.Header.{IsSaid}
 use Rattle.lk_steps.specs.Shown.{CanShow}
 use Rattle.lk_steps.specs.Told.{CanGoOn}
 
@@ -61,11 +57,3 @@ pub one_more : (m : Machine) (act : Act) (made : ℕ)
 one_more m act made =
     let more : made + 1 ≡ suc made = omega arith in
     ap (λ k. machine_after m (replicate k act)) more ∙ made_again m act made
-
--- one line more that is accepted
-pub said_more : (r n : Reading) (line : List ℕ) → IsSaid r → read r line ≡ Ok n → IsSaid n
-said_more r n line s is = record {
-  lines = s.lines ++ line ∷ [];
-  said = fold-append next_reading nothing_read s.lines (line ∷ [])
-      ∙ ap (λ x. result_unwrap_or (read x line) x) s.said ∙ ap (λ x. result_unwrap_or x r) is;
-}

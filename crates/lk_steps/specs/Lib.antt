@@ -1,3 +1,2 @@
 pub mod Shown
-pub mod Header
 pub mod Told

@@ -4,7 +4,6 @@
 #![tactic(auto)]
 
 mod asked;
-mod header;
 mod idle;
 mod lines;
 mod spot;

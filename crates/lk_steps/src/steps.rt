@@ -7,12 +7,12 @@ ghost use Rattle.lk_forms.specs.Schedule.{IsWithin};
 ghost use Rattle.lk_replay.specs.Schedule.{acts_said};
 ghost use Rattle.lk_steps.specs.Told.{CanGoOn};
 
-use crate::header::read_header;
 use crate::lines::Lines;
 use crate::step::Step;
 use crate::told::Told;
 use lk_abs::Act;
-use lk_forms::{Fault, HeaderReader, LineRefusal, Sched, lines_say_lawful_setups, schedule_line};
+use lk_forms::{Fault, HeaderReader, LineRefusal, Sched, schedule_line};
+use lk_replay::read_header;
 use lk_stream::{ReplayFault, cut, refused};
 use lk_text::{LineFault, LineReader, Sink, Source};
 use std::alloc::Global;
@@ -64,7 +64,6 @@ impl Steps {
         let lines = Lines::new(alloc)?;
         let mut header = HeaderReader::new(alloc)?;
         read_header(&mut header, &mut reader, source)?;
-        lines_say_lawful_setups();
         let told = Told::at_rest(alloc, header.finish())?;
         Ok(Steps {
             reader,

@@ -1,12 +1,10 @@
-use Rattle.std.proofs.Common.{[], sym, subst}
-use Rattle.lk_forms.specs.Grammar.{Reading}
-use Rattle.lk_machine.specs.Programs.{IsLawfulSetup}
+use Rattle.lk_forms.specs.Reader.{reading}
+use Rattle.lk_replay.proofs.HeaderSteps.{header_stands}
+use Rattle.lk_replay.proofs.Opened.{header_lawful}
 use Rattle.lk_steps.proofs.steps.Steps.open.Goals as goal
-
-pub read_header-requires-clause-said : goal.read_header-requires-clause-said
-read_header-requires-clause-said g c = record { lines = []; said = sym c.in_ok-header.ensures }
 
 pub at_rest-requires : goal.at_rest-requires
 at_rest-requires g c =
-    let said = c.in_ok-read_header.ensures.said in
-    rw c.finish.ensures (subst (λ (r : Reading). IsLawfulSetup r.setup) said.said (c.lines_say_lawful_setups.ensures.lawful said.lines))
+    let left = g.S.Source.left c.args.source.now in
+    let first = header_stands c.in_ok-reader.reader (reading c.in_ok-header.header) left c.in_ok-reader.ensures c.in_ok-header.ensures in
+    rw c.finish.ensures (header_lawful left _ (reading c.read_header.new.header) c.read_header.new.reader (c.in_ok-read_header.ensures.stands left first))
