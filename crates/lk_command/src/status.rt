@@ -3,7 +3,7 @@ ghost use Rattle.std.specs.Prelude.{◌≡◌};
 
 use lk_audit::AuditFault;
 use lk_forms::{Fault, Which};
-use lk_stream::ReplayFault;
+use lk_stream::{ReplayFault, exit};
 use lk_text::WriteFault;
 
 /// How a run of the program ended.
@@ -37,13 +37,13 @@ impl Status {
     {
         match self {
             Status::Done => 0,
-            Status::Usage => 2,
-            Status::BadInput { .. } => 3,
-            Status::ReadFault => 4,
-            Status::WriteFault => 5,
-            Status::Memory => 6,
-            Status::Limit { .. } => 7,
-            Status::Unlawful { .. } => 8,
+            Status::Usage => exit::USAGE,
+            Status::BadInput { .. } => exit::BAD_INPUT,
+            Status::ReadFault => exit::READ_FAULT,
+            Status::WriteFault => exit::WRITE_FAULT,
+            Status::Memory => exit::MEMORY,
+            Status::Limit { .. } => exit::LIMIT,
+            Status::Unlawful { .. } => exit::UNLAWFUL,
         }
     }
 

@@ -14,14 +14,11 @@ mod told;
 
 use asked::{Asked, asked_by};
 use lk_replay::replay;
-use lk_stream::ReplayFault;
+use lk_stream::{ReplayFault, exit};
 use lk_text::{StdSink, StdSource};
 use std::alloc::Global;
 use std::process::ExitCode;
 use steps::Steps;
-
-// The exit status for words that the program does not know.
-const USAGE: u8 = 2;
 
 // Reads the trace to its end, and tells what was asked of it.
 fn tell(alloc: Global, rt: &HostRuntime, asked: Asked) -> Result<(), ReplayFault> {
@@ -40,13 +37,17 @@ fn tell(alloc: Global, rt: &HostRuntime, asked: Asked) -> Result<(), ReplayFault
 // that of `qlock replay`.
 fn refuse(rt: &HostRuntime, fault: ReplayFault) -> ExitCode {
     let (told, status) = match fault {
-        ReplayFault::BadInput { line, fault } => {
-            (eprintln!(rt; "bad input line {line}: {fault:?}"), 3)
-        }
-        ReplayFault::Limit { line, which } => (eprintln!(rt; "limit line {line}: {which:?}"), 7),
-        ReplayFault::ReadFault => (eprintln!(rt; "read fault"), 4),
-        ReplayFault::WriteFault => (eprintln!(rt; "write fault"), 5),
-        ReplayFault::Memory => (eprintln!(rt; "out of memory"), 6),
+        ReplayFault::BadInput { line, fault } => (
+            eprintln!(rt; "bad input line {line}: {fault:?}"),
+            exit::BAD_INPUT,
+        ),
+        ReplayFault::Limit { line, which } => (
+            eprintln!(rt; "limit line {line}: {which:?}"),
+            exit::LIMIT,
+        ),
+        ReplayFault::ReadFault => (eprintln!(rt; "read fault"), exit::READ_FAULT),
+        ReplayFault::WriteFault => (eprintln!(rt; "write fault"), exit::WRITE_FAULT),
+        ReplayFault::Memory => (eprintln!(rt; "out of memory"), exit::MEMORY),
     };
     let _ = told;
     ExitCode::from(status)
@@ -55,7 +56,7 @@ fn refuse(rt: &HostRuntime, fault: ReplayFault) -> ExitCode {
 fn main(rt: HostRuntime) -> ExitCode {
     let Some(asked) = asked_by(&rt) else {
         let _ = eprintln!(rt; "usage: qlock-steps [replay] < TRACE");
-        return ExitCode::from(USAGE);
+        return ExitCode::from(exit::USAGE);
     };
     match tell(rt.alloc(), &rt, asked) {
         Ok(()) => ExitCode::SUCCESS,

@@ -3,6 +3,7 @@
 #![tactic(auto)]
 
 mod answers;
+pub mod exit;
 mod faults;
 mod header;
 mod script;
