@@ -20,7 +20,7 @@ mod rw_moves;
 mod rw_steps;
 mod slot;
 pub mod steps;
-mod values;
+pub mod values;
 mod verbs;
 mod view;
 

@@ -1,5 +1,5 @@
-// Values under locks: a processor that holds a lock alone takes its value out, which is the key of a cell,
-// and brings it home.
+//! Values under locks: a processor that holds a lock alone takes its value out, which is the key of a
+//! cell, and brings it home. The calls of all lock families are made of [`take`] and [`bring`].
 ghost use Rattle.std.specs.Prelude.{◌≡◌, ◌<◌, None};
 ghost use Rattle.lk_domain.specs.Plans.{IsRunningPlan, locks_of};
 ghost use Rattle.lk_domain.specs.Plays.{carried_of};
@@ -27,8 +27,9 @@ fn quiet_word(plan: &Plan, lock: u32) -> usize
     8 + 8 * plan.locks.len() + lock as usize
 }
 
-// Takes the value of a lock out, of which the seat's processor is the only holder.
-fn take(seat: &mut Right, table: &Words, plan: &Plan, lock: u32) -> Key
+/// Takes the value of a lock out: the key of its cell. The seat's processor must hold the lock alone,
+/// and its value must be home.
+pub fn take(seat: &mut Right, table: &Words, plan: &Plan, lock: u32) -> Key
     requires table { IsTableOf plan.now table.now.shared.table_id table.now.shared.key }
     requires seat { IsSeatOf plan.now table.now.shared.table_id seat.old }
     requires lock { lock < locks_of plan.now }
@@ -50,8 +51,8 @@ fn take(seat: &mut Right, table: &Words, plan: &Plan, lock: u32) -> Key
     }
 }
 
-// Brings the value of a lock home, the newest of those that are out with the seat.
-fn bring(seat: &mut Right, table: &Words, plan: &Plan, lock: u32, key: Key)
+/// Brings the value of a lock home: the one that the seat's processor took out last.
+pub fn bring(seat: &mut Right, table: &Words, plan: &Plan, lock: u32, key: Key)
     requires table { IsTableOf plan.now table.now.shared.table_id table.now.shared.key }
     requires seat { IsSeatOf plan.now table.now.shared.table_id seat.old }
     requires lock { lock < locks_of plan.now }
