@@ -1,5 +1,5 @@
 -- When a domain whose waiters halt may be made of a plan, and the plan that its table then has.
-use Rattle.std.specs.Prelude.{None, ◌≡◌, ◌<◌, ◌≤◌, ℕ, length, replicate}
+use Rattle.std.specs.Prelude.{◌≡◌, ◌<◌, ◌≤◌, ℕ, length, replicate}
 use Rattle.std.specs.List.{sum}
 use Rattle.lk_abs.specs.Jobs.{full}
 use Rattle.lk_abs.specs.declared.names.Kind.TheVariants.{Spin}
@@ -31,4 +31,3 @@ pub record IsPlanOf (p : PvPlan) (k : Plan) : Type 0 where
   pub kinds : (l : ℕ) → kind_at k l ≡ Spin
   pub balances : k.balances.items ≡ p.balances.items
   pub shares : k.shares.items ≡ p.shares.items
-  pub cells : k.cells ≡ None

@@ -4,12 +4,14 @@ ghost use Rattle.lk_abs.specs.Journal.{balances_after};
 ghost use Rattle.lk_domain.specs.Ends.{HasPast};
 ghost use Rattle.lk_domain.specs.Plans.{cpus_of};
 ghost use Rattle.lk_domain.specs.Seated.{IsSeatOf};
+ghost use Rattle.lk_domain.specs.Values.{AreLaid};
 ghost use Rattle.lk_domain.specs.Views.{all_past};
 ghost use Rattle.lk_pvdomain.specs.PvSeats.{AllRest, IsFinal, ledger_of};
 
 use crate::cpu::PvCpu;
 use crate::domain::PvDomain;
 use lk_abs::{Entry, List};
+use lk_cell::Key;
 use lk_domain::{Right, ledger_steps};
 use std::alloc::Global;
 use std::snapshot::Snapshot;
@@ -19,6 +21,7 @@ use std::snapshot::Snapshot;
 pub struct PvClosed {
     pub(crate) balances: List<u64>,
     pub(crate) journal: List<Entry>,
+    pub(crate) keys: List<Option<Key>>,
     // The processors as they were at the end. It has no bytes.
     pub(crate) cpus: Snapshot<List<PvCpu>>,
 }
@@ -47,6 +50,13 @@ impl PvClosed {
     {
         &self.journal
     }
+
+    /// The keys of the values: for each lock the key of the cell in which its value lies, or none.
+    pub fn into_keys(self) -> List<Option<Key>>
+        ensures { result ≡ self.keys }
+    {
+        self.keys
+    }
 }
 
 // One processor takes over the numbers of all others: it has them all at the end.
@@ -72,8 +82,8 @@ fn join_all(domain: &PvDomain, mut cpus: List<PvCpu>) -> Right
 ///
 /// # Errors
 ///
-/// There is not enough memory for the balances. [`PvBack`] gives the domain and the processors
-/// back.
+/// There is not enough memory for the balances or the keys. [`PvBack`] gives the domain and the
+/// processors back.
 pub fn pv_close(alloc: Global, domain: PvDomain, cpus: List<PvCpu>) -> Result<PvClosed, PvBack>
     requires all { length cpus.items ≡ cpus_of domain.plan }
     requires rest { AllRest domain cpus.items }
@@ -81,6 +91,7 @@ pub fn pv_close(alloc: Global, domain: PvDomain, cpus: List<PvCpu>) -> Result<Pv
     ensures cpus { IfOk result (λ closed. closed.cpus.value ≡ cpus) }
     ensures balances { IfOk result (λ closed. closed.balances.items
         ≡ balances_after domain.plan.balances.items closed.journal.items) }
+    ensures keys { IfOk result (λ closed. AreLaid domain.plan closed.keys.items) }
     ensures ends { IfOk result (λ closed. IsFinal domain.plan cpus.items closed.journal.items) }
 {
     let Ok(mut balances) = List::new(alloc, domain.accounts() as usize) else {
@@ -96,6 +107,7 @@ pub fn pv_close(alloc: Global, domain: PvDomain, cpus: List<PvCpu>) -> Result<Pv
     Ok(PvClosed {
         balances,
         journal,
+        keys,
         cpus: at_end,
     })
 }

@@ -4,7 +4,7 @@ use Rattle.lk_domain.specs.Ledgers.{no_ledger}
 use Rattle.lk_domain.specs.Plans.{cpus_of}
 use Rattle.lk_pvdomain.specs.PvSeats.{AreDealt}
 use Rattle.lk_domain.specs.Views.{view, dealer}
-use Rattle.lk_pvdomain.proofs.domain.PvDomain.new.Given as goal
+use Rattle.lk_pvdomain.proofs.domain.PvDomain.with_values.Given as goal
 
 abbrev pub invariant-loop-number : goal.invariant-loop-number
 invariant-loop-number l = record {
