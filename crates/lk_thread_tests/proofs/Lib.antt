@@ -2,3 +2,4 @@ mod Halted
 mod Homes
 mod TakenOff
 mod Written
+mod Counted

@@ -14,6 +14,8 @@ mod pv_calls;
 #[cfg(test)]
 mod pv_region;
 #[cfg(test)]
+mod pv_values;
+#[cfg(test)]
 mod region_calls;
 #[cfg(test)]
 mod rw_calls;

@@ -1,0 +1,10 @@
+use denote.Param.Send.{sendable}
+use Rattle.std.proofs.Crossing.{crosses}
+use Rattle.lk_cell.proofs.cell.KeyCell.TheSendSync as cell
+use Rattle.lk_pvdomain.proofs.PvSeating.{pv_domain_sync}
+use Rattle.lk_thread_tests.proofs.pv_values.take_all_turns.Goals as goal
+
+pub for_each_mut-requires-sync-F : goal.for_each_mut-requires-sync-F
+for_each_mut-requires-sync-F g c κs within =
+    let host = c.type_bounds.sync-R in
+    search (sendable, crosses, pv_domain_sync, cell.the_sync, cell.the_field_sync) depth 40
