@@ -3,6 +3,8 @@
 #![tactic(auto)]
 
 #[cfg(test)]
+mod failed_io;
+#[cfg(test)]
 mod faults;
 #[cfg(test)]
 mod generated;
@@ -16,8 +18,6 @@ mod job_files;
 mod lines;
 #[cfg(test)]
 mod printed;
-#[cfg(test)]
-mod reading;
 #[cfg(test)]
 mod readings;
 #[cfg(test)]
