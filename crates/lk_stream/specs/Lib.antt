@@ -4,3 +4,4 @@ pub mod Reads
 pub mod Outside
 pub mod Outcome
 pub mod Stands
+pub mod Headers

@@ -1,8 +1,9 @@
 // The header of a trace, read line by line.
-ghost use Rattle.std.specs.Prelude.{◌≡◌, ◌≤◌, ℕ, List, Option, IfOk, IfErr, IfSome, Ok, None, true, false};
-ghost use Rattle.lk_text.specs.Reader.{is_ended, GaveLine, MetEnd, GaveFault};
-ghost use Rattle.lk_forms.specs.Grammar.{read, has_go};
-ghost use Rattle.lk_forms.specs.Reader.{ReadsOn, reading};
+ghost use Rattle.std.specs.Prelude.{◌≡◌, ◌≤◌, IfOk, IfErr, IfSome, Ok, None, true, false};
+ghost use Rattle.lk_text.specs.Reader.{is_ended, MetEnd, GaveFault};
+ghost use Rattle.lk_forms.specs.Grammar.{has_go};
+ghost use Rattle.lk_forms.specs.Reader.{reading};
+ghost use Rattle.lk_stream.specs.Headers.{HasReadLine};
 
 use lk_forms::{HeaderReader, HeaderStep, LineRefusal};
 use lk_text::{LineFault, LineReader, Source};
@@ -19,10 +20,8 @@ pub fn next_header_step<S: Source>(
     source: &mut S,
 ) -> Result<Option<Result<HeaderStep, LineRefusal>>, LineFault>
     requires { has_go (reading header.old) ≡ false }
-    ensures given { IfOk result (λ given. IfSome given (λ said. (line : List ℕ)
-        × GaveLine reader.old reader.new (S.left source.old) (S.left source.new) line
-        × ReadsOn (read (reading header.old) line) (reading header.old)
-        (reading header.new) said)) }
+    ensures given { IfOk result (λ given. IfSome given (HasReadLine header.old header.new reader.old
+        reader.new (S.left source.old) (S.left source.new))) }
     ensures end { result ≡ Ok None
         → MetEnd reader.old reader.new (S.left source.old) (S.left source.new)
         × (reading header.new ≡ reading header.old) }

@@ -13,8 +13,8 @@ pub returns-in-Ok-Some-Ok-clause-turns : goal.returns-in-Ok-Some-Ok-clause-turns
 returns-in-Ok-Some-Ok-clause-turns g c = λ input s.
     let step = c.in-Ok-Some-Ok in
     let given = rw (step.field-0-is, step.field-0-0-is) at step.ensures.given in
-    goes_on input c.args.reader.now c.next_header_step.new.reader _ _ _ s given.0 (in_header (reading c.next_header_step.new.header)) given.1
-    (read_in_header (reading c.args.header.now) (reading c.next_header_step.new.header) given.0 c.requires given.2.0)
+    goes_on input c.args.reader.now c.next_header_step.new.reader _ _ _ s given.line (in_header (reading c.next_header_step.new.header)) given.gave
+    (read_in_header (reading c.args.header.now) (reading c.next_header_step.new.header) given.line c.requires given.reads.0)
 
 pub returns-in-Ok-Some-Err-clause-turns : goal.returns-in-Ok-Some-Err-clause-turns
 returns-in-Ok-Some-Err-clause-turns g c = λ input s.
@@ -23,7 +23,7 @@ returns-in-Ok-Some-Err-clause-turns g c = λ input s.
     let given = rw (stop.field-0-is, stop.field-0-0-is) at stop.ensures.given in
     rw (c.refused.ensures, c.lines.ensures)
     (header_stops input c.args.reader.now c.next_header_step.new.reader _ _ (reading c.args.header.now) (reading c.next_header_step.new.header) s c.requires
-    (faults c.args.source.now) (faults c.next_header_step.new.source) given.0 stop.why given.1 given.2)
+    (faults c.args.source.now) (faults c.next_header_step.new.source) given.line stop.why given.gave given.reads)
 
 pub returns-in-Ok-None-clause-turns : goal.returns-in-Ok-None-clause-turns
 returns-in-Ok-None-clause-turns g c = λ input s.
@@ -46,4 +46,4 @@ pub returns-in-Ok-Some-Ok-clause-said : goal.returns-in-Ok-Some-Ok-clause-said
 returns-in-Ok-Some-Ok-clause-said g c =
     let step = c.in-Ok-Some-Ok in
     let given = rw (step.field-0-is, step.field-0-0-is) at step.ensures.given in
-    said_more (reading c.args.header.now) (reading c.next_header_step.new.header) given.0 given.2.0
+    said_more (reading c.args.header.now) (reading c.next_header_step.new.header) given.line given.reads.0

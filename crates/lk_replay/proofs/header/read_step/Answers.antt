@@ -11,7 +11,7 @@ pub returns-in-Ok-Some-Ok-clause-turns : goal.returns-in-Ok-Some-Ok-clause-turns
 returns-in-Ok-Some-Ok-clause-turns g c = λ input s.
     let step = c.in-Ok-Some-Ok in
     let given = rw (step.field-0-is, step.field-0-0-is) at step.ensures.given in
-    header_goes_on input _ c.args.reader.now c.next_header_step.new.reader _ _ s (reading c.next_header_step.new.header) given.0 c.requires given.1 given.2.0
+    header_goes_on input _ c.args.reader.now c.next_header_step.new.reader _ _ s (reading c.next_header_step.new.header) given.line c.requires given.gave given.reads.0
 
 pub returns-in-Ok-Some-Err-clause-turns : goal.returns-in-Ok-Some-Err-clause-turns
 returns-in-Ok-Some-Err-clause-turns g c = λ input s.
@@ -19,7 +19,7 @@ returns-in-Ok-Some-Err-clause-turns g c = λ input s.
     let faults = g.S.Source.faults in
     let given = rw (stop.field-0-is, stop.field-0-0-is) at stop.ensures.given in
     rw (c.refused.ensures, c.lines.ensures)
-    (header_stops input _ c.args.reader.now c.next_header_step.new.reader _ _ s c.requires (faults c.args.source.now) (faults c.next_header_step.new.source) (reading c.next_header_step.new.header) given.0 stop.why given.1 given.2)
+    (header_stops input _ c.args.reader.now c.next_header_step.new.reader _ _ s c.requires (faults c.args.source.now) (faults c.next_header_step.new.source) (reading c.next_header_step.new.header) given.line stop.why given.gave given.reads)
 
 pub returns-in-Ok-None-clause-turns : goal.returns-in-Ok-None-clause-turns
 returns-in-Ok-None-clause-turns g c = λ input s.
