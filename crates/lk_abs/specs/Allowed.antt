@@ -6,7 +6,7 @@ use Rattle.lk_abs.specs.declared.names.Waiter.{Waiter}
 use Rattle.lk_abs.specs.declared.events.What.{What}
 
 -- The event leaves the lock to readers only or to one waiter, is by a waiter that may do so, keeps the order of the queue, and
--- leaves no waiter aside that has seen too many handovers.
+-- leaves no waiter aside that has seen too many handoffs.
 pub record IsAllowed (rules : Rules) (h : LockHistory) (w : Waiter) (what : What) : Type 0 where
   pub shared : IsShared (changed h w what).holders
   pub owned : OwnsUp h w what

@@ -44,7 +44,7 @@ abbrev pub is_waiter : Option Waiter → Waiter → Bool
 is_waiter None w = false
 is_waiter (Some u) w = same_waiter u w
 
--- whether a take by this way is one by the front of the queue
+-- whether a take by this way is one by the head of the queue
 abbrev pub is_by_front : How → Bool
 is_by_front Head = true
 is_by_front Sole = true
@@ -80,11 +80,11 @@ twice h w (Release l owing) = breach_if (is_queued h w) (Twice l w)
 twice h w (Take l how) = breach_if (not (is_by_front how) && is_queued h w) (Twice l w)
 twice h w _ = None
 
--- another than the front
+-- another than the head
 abbrev pub not_front : LockHistory → LockName → Waiter → Option Breach
 not_front h l w = breach_if (not (is_waiter (slice_get h.main 0) w)) (WrongHead l (slice_get h.main 0) w)
 
--- another than the front takes as the front, passes, flushes, promotes or leaves
+-- another than the head takes as the head, passes, flushes, promotes or leaves
 abbrev pub wrong_head : LockHistory → Waiter → What → Option Breach
 wrong_head h w (Take l how) = if is_by_front how then not_front h l w else None
 wrong_head h w (Pass l to k) = not_front h l w
@@ -93,27 +93,27 @@ wrong_head h w (Promote l) = not_front h l w
 wrong_head h w (Leave l) = not_front h l w
 wrong_head h w _ = None
 
--- a handover moves more waiters aside than is lawful
+-- a handoff moves more waiters aside than is lawful
 abbrev pub wrong_move : Rules → LockHistory → What → Option Breach
 wrong_move rules h (Pass l to k) = breach_if (nat_lt (lawful_moves rules h.main) k) (WrongMove l k (lawful_moves rules h.main))
 wrong_move rules h _ = None
 
--- a handover names another than the first of the main queue after it
+-- a handoff names another than the first of the main queue after it
 abbrev pub wrong_next : LockHistory → What → Option Breach
 wrong_next h (Pass l to k) = breach_if (not (is_waiter (slice_get h.main (suc k)) to)) (WrongNext l (slice_get h.main (suc k)) to)
 wrong_next h _ = None
 
--- the earliest of these waiters that has seen more handovers than the threshold
+-- the earliest of these waiters that has seen more handoffs than the threshold
 abbrev pub first_over : LockName → ℕ → List Waiter → List ℕ → Option Breach
 first_over l threshold (u ∷ us) (n ∷ ns) = if nat_lt threshold n then Some (OverThreshold l u n) else first_over l threshold us ns
 first_over l threshold _ _ = None
 
--- the first of the waiters that a handover moves aside, where one handover is too many
+-- the first of the waiters that a handoff moves aside, where one handoff is too many
 abbrev pub moved_over : LockName → ℕ → Option Waiter → ℕ → Option Breach
 moved_over l threshold None k = None
 moved_over l threshold (Some w) k = if nat_lt 0 k && nat_lt threshold 1 then Some (OverThreshold l w 1) else None
 
--- after the event a waiter that stands aside has seen more handovers than the threshold
+-- after the event a waiter that stands aside has seen more handoffs than the threshold
 abbrev pub over_threshold : Rules → LockHistory → Waiter → What → Option Breach
 over_threshold rules h w (Pass l to k) = first_over l rules.threshold (changed h w (Pass l to k)).second (changed h w (Pass l to k)).passes
 over_threshold rules h w _ = None

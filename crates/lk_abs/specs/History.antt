@@ -26,8 +26,8 @@ same_manner Reads Reads = true
 same_manner Writes Writes = true
 same_manner _ _ = false
 
--- the holders, the earliest first; the main queue, its front first; the second queue; and for each waiter of the second queue
--- the handovers since its move
+-- the holders, the earliest first; the main queue, its head first; the secondary queue; and for each waiter of the latter the
+-- handoffs since its move
 pub record LockHistory : Type 0 where
   pub holders : List Holder
   pub main : List Waiter
@@ -80,7 +80,7 @@ with_holder h w m = record h { holders = h.holders ++ record { waiter = w; manne
 abbrev pub without_holder : LockHistory → Waiter → Manner → LockHistory
 without_holder h w m = record h { holders = without w m h.holders }
 
--- the front leaves
+-- the head leaves
 abbrev pub without_front : LockHistory → LockHistory
 without_front h = record h { main = drop 1 h.main }
 
@@ -89,7 +89,7 @@ abbrev pub taken : LockHistory → Waiter → How → LockHistory
 taken h w Sole = without_front (with_holder h w Spins)
 taken h w _ = with_holder h w Spins
 
--- The front hands on: the k waiters behind it go aside, each waiter that stands aside has seen one handover more, and the front
+-- The head hands off: the k waiters behind it go aside, each waiter that stands aside has seen one handoff more, and the head
 -- leaves.
 abbrev pub passed : LockHistory → ℕ → LockHistory
 passed h k =
@@ -99,7 +99,7 @@ passed h k =
       passes = map (λ n. suc n) (h.passes ++ replicate k 0);
     }
 
--- the second queue returns, right behind the front
+-- the secondary queue returns, right behind the head
 abbrev pub rejoined : LockHistory → LockHistory
 rejoined h = record h { main = take 1 h.main ++ (h.second ++ drop 1 h.main); second = []; passes = [] }
 

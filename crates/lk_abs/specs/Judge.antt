@@ -65,7 +65,7 @@ breach_on j (Some l) e = first_breach j.rules (history_at j l) e.by e.what
 abbrev pub table_breach : JudgeState → Event → Option Breach
 table_breach j e = breach_on j (lock_of e.what) e
 
--- in `pv`, the first declared lock, by number, whose front the event leaves asleep
+-- in `pv`, the first declared lock, by number, whose head the event leaves asleep
 abbrev pub kick_breach : JudgeState → Event → Option Breach
 kick_breach j e = unkicked j.rules.mode (kicks_told (state_of j.kicks) e) (λ l. told l (history_at j l) e) (length j.locks)
 

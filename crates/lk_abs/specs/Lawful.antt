@@ -19,7 +19,7 @@ use Rattle.lk_abs.specs.declared.events.What.{What}
 use Rattle.lk_abs.specs.declared.events.What.TheVariants.{Take, Release, Arrive, Pass, Flush, Promote, Leave, RTake, RRelease, WTake, WRelease}
 
 -- what the laws read of a setup: the format, the lock family, the socket of each processor, and how
--- many handovers may pass a moved waiter by
+-- many handoffs may pass a moved waiter by
 pub record Rules : Type 0 where
   pub format : Format
   pub mode : Mode
@@ -70,7 +70,7 @@ pub record IsExclusive (es : List Event) : Type 0 where
 abbrev pub IsOutside : LockHistory → Waiter → Type 0
 IsOutside h w = (¬ Contains h.main w) × (¬ Contains h.second w)
 
--- the waiter is the front
+-- the waiter is the head
 abbrev pub IsFront : LockHistory → Waiter → Type 0
 IsFront h w = slice_get h.main 0 ≡ Some w
 
@@ -94,11 +94,11 @@ stays Two ctx = nat_lt 0 ctx
 abbrev pub is_local : Format → List ℕ → ℕ → Waiter → Bool
 is_local format sockets p u = stays format u.ctx || same_socket sockets p u.cpu
 
--- whether the waiter is not local to the front
+-- whether the waiter is not local to the head
 abbrev pub is_far : Rules → Waiter → Waiter → Bool
 is_far rules front u = not (is_local rules.format rules.sockets front.cpu u)
 
--- How many waiters a handover may move aside: in `cna` those right behind the front that are not
+-- How many waiters a handoff may move aside: in `cna` those right behind the head that are not
 -- local to it and have a waiter behind them, else none.
 abbrev pub lawful_moves : Rules → List Waiter → ℕ
 lawful_moves rules main = by_mode rules.mode
@@ -111,7 +111,7 @@ lawful_moves rules main = by_mode rules.mode
     by_mode Cna = behind main
     by_mode _ = 0
 
--- a take by the queue is by its front, and another by a waiter that stands in no queue
+-- a take by the queue is by its head, and another by a waiter that stands in no queue
 abbrev pub TakesInOrder : LockHistory → Waiter → How → Type 0
 TakesInOrder h w Head = IsFront h w
 TakesInOrder h w Sole = IsFront h w
@@ -128,24 +128,24 @@ InOrder rules h w (Promote l) = IsFront h w × Holds h w
 InOrder rules h w (Leave l) = IsFront h w × Holds h w
 InOrder rules h w _ = Unit {0}
 
--- Who arrives, releases or takes past the queue stands in no queue; who takes by the queue, hands on, flushes, promotes or leaves
--- is its front; and a handover names the next and moves no more than is lawful.
+-- Who arrives, releases or takes past the queue stands in no queue; who takes by the queue, hands off, flushes, promotes or
+-- leaves is its head; and a handoff names the next and moves no more than is lawful.
 abbrev pub IsOrdered : Rules → List Event → Type 0
 IsOrdered rules es = OfEachEvent (λ before e. (l : LockName) → lock_of e.what ≡ Some l → InOrder rules (history_of l before) e.by e.what) es
 
--- at each moment no waiter that stands aside has seen more handovers than the threshold
+-- at each moment no waiter that stands aside has seen more handoffs than the threshold
 abbrev pub IsBounded : ℕ → List Event → Type 0
 IsBounded threshold es = AtEachMoment (λ before. (l : LockName) → All (λ n. n ≤ threshold) (history_of l before).passes) es
 
--- a front that sleeps while nobody holds its lock is owed a kick
+-- a head that sleeps while nobody holds its lock is owed a kick
 abbrev pub FrontIsOwed : List Event → LockName → Type 0
 FrontIsOwed before l = (w : Waiter) → IsFront (history_of l before) w → (history_of l before).holders ≡ [] → sleeps w before ≡ true → IsOwed w.cpu before
 
--- at each moment every front that sleeps while nobody holds its lock is owed a kick
+-- at each moment every head that sleeps while nobody holds its lock is owed a kick
 abbrev pub IsKickedOn : List Event → Type 0
 IsKickedOn es = AtEachMoment (λ before. (l : LockName) → FrontIsOwed before l) es
 
--- exclusive, in order, bounded, and in `pv` no front is left asleep
+-- exclusive, in order, bounded, and in `pv` no head is left asleep
 pub record IsLawful (rules : Rules) (es : List Event) : Type 0 where
   pub exclusive : IsExclusive es
   pub ordered : IsOrdered rules es

@@ -26,7 +26,7 @@ abbrev pub standing : Waiter → Lists → ℕ
 standing w lists = count_by (λ u. same_waiter u w) lists.main.items + count_by (λ u. same_waiter u w) lists.second.items
 
 -- No waiter stands in the queues twice, each is one of as many as each list has room for, and each that stands aside has its
--- count of handovers.
+-- count of handoffs.
 pub record IsInOrder (lists : Lists) : Type 0 where
   pub once : (w : Waiter) → standing w lists ≤ 1
   pub in_room : (w : Waiter) → 0 < standing w lists → IsOneOf lists.main.room w
@@ -46,7 +46,7 @@ pub record IsHeld (room : ℕ) (holders : ListOf Holder) : Type 0 where
   pub in_room : All (IsOneOf room) (waiters_of holders.items)
   pub as_many : holders.room ≡ room
 
--- the queues after the front handed on, with so many waiters moved aside
+-- the queues after the head handed off, with so many waiters moved aside
 abbrev pub lists_passed : Lists → ℕ → Lists
 lists_passed lists k =
     record {

@@ -31,7 +31,7 @@ breach_on rules es None e = None
 breach_on rules es (Some l) e = first_breach rules (history_of l es) e.by e.what
 
 -- the first clause of the laws that an event breaks behind these ones: one of the table, and else,
--- in `pv`, that a front is left asleep
+-- in `pv`, that a head is left asleep
 abbrev pub breach_behind : Setup → List Event → Event → Option Breach
 breach_behind s es e =
     option_or (breach_on (rules_of s) es (lock_of e.what) e)

@@ -12,8 +12,8 @@ abbrev pub frame_after : Frame → Lead → Frame
 frame_after f (Goes c cs) = gone f c cs
 frame_after f _ = f
 
--- The machine can make the row; the front has a node; it may pass over one waiter more; and where waiters stand aside once it hands the
--- lead on, the run may be one handover longer.
+-- The machine can make the row; the head has a node; it may pass over one waiter more; and where waiters stand aside once it hands
+-- off, the run may be one handoff longer.
 pub record IsCnaReady (m : Machine) (p : ℕ) : Type 0 where
   pub ready : IsReady m p
   pub own : HasNode m (node_of (top_frame m p).me)

@@ -33,7 +33,7 @@ use Rattle.lk_law.specs.Steps.{led}
 use Rattle.lk_domain.specs.Plans.{kind_at, turns_by}
 use Rattle.lk_domain.specs.declared.plan.Plan.{Plan}
 
--- a row of a trail, what it met, and how many handovers the call had read for it in its own node
+-- a row of a trail, what it met, and how many handoffs the call had read for it in its own node
 pub record Mark : Type 0 where
   pub row : Pc
   pub met : Met
@@ -64,7 +64,7 @@ pub record Calls : Type 0 where
   pub taken : ℕ
   -- how many words of the node to come are reset
   pub ready : ℕ
-  -- how many handovers the newest call has read in its own node, for its next row
+  -- how many handoffs the newest call has read in its own node, for its next row
   pub runs : Option ℕ
   -- where processors halt: whether this one has; at how many places of the hash the newest call has
   -- looked for the entry of its lock, and not found it; and the node with which it found it at the next
@@ -110,7 +110,7 @@ held_in (h ∷ hs) c l = if (c == h.ctx) && same_lock l h.lock then Some h.manne
 abbrev pub is_inner : ℕ → Bool
 is_inner c = nat_lt 0 c
 
--- The node that a front has met first behind its own, while it may still link it, and what the mark
+-- The node that a head has met first behind its own, while it may still link it, and what the mark
 -- of the link said: whether the call that uses it is in a context above 0. C1 meets it, and C2 and
 -- C3 keep it.
 abbrev pub Told : Type 0
@@ -300,7 +300,7 @@ abbrev pub stays_by : Format → Bool → Bool
 stays_by One mark = false
 stays_by Two mark = mark
 
--- What a seat sees while its front chooses the next: the count of handovers that it has read in its
+-- What a seat sees while its head chooses the next: the count of handoffs that it has read in its
 -- own node, the threshold, and, by the mark of the link that names a node, whether the node is
 -- local.
 pub record Outlook : Type 0 where
@@ -325,7 +325,7 @@ abbrev pub setting : Mode → ℕ → Sight → Setting
 setting mode p z =
     record { mode = mode; turns = turns_by mode z.threshold; cpu = p; sight = z }
 
--- how many handovers a call has read for its row: a front does so before it chooses the next, and
+-- how many handoffs a call has read for its row: a head does so before it chooses the next, and
 -- before it tells the next how many they are
 abbrev pub read_at : Pc → Outlook → ℕ
 read_at C1 z = z.runs
@@ -342,7 +342,7 @@ abbrev pub mark_of : Met → Bool
 mark_of (Linked o b) = b
 mark_of x = false
 
--- what the front sees, by what it has met
+-- what the head sees, by what it has met
 abbrev pub sight_by : Outlook → Met → Sight
 sight_by z x = record { runs = z.runs; threshold = z.threshold; local = z.local (mark_of x) }
 

@@ -48,8 +48,8 @@ pub record AtPrev (before own : NodeName) (mark : Bool) (verb : Verb) (v : View)
   pub me : at.stands.frame.me ≡ Some own
   pub marks : mark ≡ is_inner at.stands.frame.ctx
 
--- it will hand the lead on to the one with this node, by this flag: where it has chosen the next, by
--- that which names the first of the second queue
+-- it will hand off to the one with this node, by this flag: where it has chosen the next, by
+-- that which names the first of the secondary queue
 abbrev pub hands : Pc → Bool
 hands G11 = true
 hands C8 = true
@@ -106,7 +106,7 @@ Enters m x n = Goes (Number (slows m.0.calls.frames)) m n
 abbrev pub Links : {S : Type 0} → Me S View → ℕ → Me S View → Type 0
 Links m x n = (x ≡ 0) × Goes (Named None) m n
 
--- the call has handed the lead on, to one that waited for it
+-- the call has handed off, to one that waited for it
 abbrev pub Hands : {S : Type 0} → Me S View → ℕ → Me S View → Type 0
 Hands m x n = (x ≡ 0) × Goes (Flagged Unset) m n
 
@@ -127,7 +127,7 @@ pub record SeesLink {S : Type 0} (m : Me S View) (met : ℕ) (n : Me S View) : T
   pub seat : Goes (Linked found mark) m n
 
 -- It looks for the one behind it, in its own node. Where it chooses the next it has read the count of
--- handovers there.
+-- handoffs there.
 abbrev pub looks_behind : Pc → Bool
 looks_behind G10 = true
 looks_behind C1 = true
@@ -160,21 +160,21 @@ pub record Relinks {S : Type 0} (m : Me S View) (met : ℕ) (n : Me S View) : Ty
   pub word : met ≡ marked mark (link_number found)
   pub seat : Goes (Linked found mark) m n
 
--- the call has stored the last of the second queue, and met this one
+-- the call has stored the last of the secondary queue, and met this one
 pub record Names {S : Type 0} (m : Me S View) (met : ℕ) (n : Me S View) : Type 0 where
   pub found : Option NodeName
   pub word : met ≡ link_number found
   pub seat : Goes (Named found) m n
 
--- the call has looked at the last of the second queue
+-- the call has looked at the last of the secondary queue
 pub record SeesTail {S : Type 0} (m : Me S View) (met : ℕ) (n : Me S View) : Type 0 where
   pub found : NodeName
   pub node : IsNode m.0.who.plan found
   pub word : met ≡ name_number found
   pub seat : Goes (Named (Some found)) m n
 
--- the call links those that it passed over, or the rest of the queue, behind the last of the second
--- queue
+-- the call links those that it passed over, or the rest of the queue, behind the last of the
+-- secondary queue
 abbrev pub appends : Pc → Bool
 appends C4 = true
 appends C9 = true
@@ -196,7 +196,7 @@ pub record AtCut (node : NodeName) (verb : Verb) (v : View) : Type 0 where
   pub at : AtRow C5 verb lock v
   pub b : at.stands.frame.b ≡ Some node
 
--- it looks at the last of the second queue, in the node of its first
+-- it looks at the last of the secondary queue, in the node of its first
 pub record AtTail (node : NodeName) (verb : Verb) (v : View) : Type 0 where
   pub lock : LockName
   pub at : AtRow C3 verb lock v
@@ -209,12 +209,12 @@ pub record AtNewTail (node tail : NodeName) (verb : Verb) (v : View) : Type 0 wh
   pub second : at.stands.frame.second ≡ Some node
   pub b : at.stands.frame.b ≡ Some tail
 
--- it looks at the last of the second queue, or stores it
+-- it looks at the last of the secondary queue, or stores it
 abbrev pub AtSecondTail : NodeName → Option NodeName → Verb → View → Type 0
 AtSecondTail node None verb v = AtTail node verb v
 AtSecondTail node (Some tail) verb v = AtNewTail node tail verb v
 
--- It chooses the next, and its row asks how many handovers its own node counts: when it looks at its
+-- It chooses the next, and its row asks how many handoffs its own node counts: when it looks at its
 -- link, and when it tells the next.
 abbrev pub counts : Pc → Bool
 counts C1 = true
@@ -232,7 +232,8 @@ pub record AtOwnRuns (own : NodeName) (verb : Verb) (v : View) : Type 0 where
 abbrev pub counting : ℕ → View → View
 counting n v = record v { calls = record v.calls { runs = Some n } }
 
--- the call has read the count; where it tells the next of a second queue there is room for one more
+-- the call has read the count; where it tells the next of a secondary queue there is room for one
+-- more
 pub record Counted {S : Type 0} (m : Me S View) (met : ℕ) (n : Me S View) : Type 0 where
   pub seat : n ≡ (counting met m.0, m.1)
   pub short : (verb : Verb) (lock : LockName) (at : StandsOn m.0.calls verb lock C7)
@@ -253,7 +254,7 @@ pub record AtRuns (to : NodeName) (n : ℕ) (verb : Verb) (v : View) : Type 0 wh
 abbrev pub Tells : {S : Type 0} → Me S View → ℕ → Me S View → Type 0
 Tells m x n = Goes (Number x) m n
 
--- it lets the second queue return, whose last has this node, as all of the rest of the queue
+-- it lets the secondary queue return, whose last has this node, as all of the rest of the queue
 pub record AtPromotion (verb : Verb) (lock : LockName) (own tail : NodeName) (v : View) : Type 0 where
   pub acts : ActsIn (promotes_by verb) v verb lock
   pub me : acts.acts.stands.frame.me ≡ Some own

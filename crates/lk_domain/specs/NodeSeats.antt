@@ -21,14 +21,14 @@ pub record LinkSeen (old : Cpu) (met : ℕ) (new : Cpu) : Type 0 where
 pub record LinkMet (old : Cpu) (met : ℕ) (new : Cpu) : Type 0 where
   pub by : Relinks old.seat.me met new.seat.me
 
--- the newest call has stored the last of the second queue
+-- the newest call has stored the last of the secondary queue
 pub record NameMet (old : Cpu) (met : ℕ) (new : Cpu) : Type 0 where
   pub by : Names old.seat.me met new.seat.me
 
--- the newest call has read the count of handovers in its node
+-- the newest call has read the count of handoffs in its node
 pub record RunsSeen (old : Cpu) (met : ℕ) (new : Cpu) : Type 0 where
   pub by : Counted old.seat.me met new.seat.me
 
--- it has looked at the last of the second queue
+-- it has looked at the last of the secondary queue
 pub record TailSeen (old : Cpu) (met : ℕ) (new : Cpu) : Type 0 where
   pub by : SeesTail old.seat.me met new.seat.me

@@ -25,8 +25,8 @@ next_frame mode p z c f x = led f (course mode p z c f x).leads
 abbrev pub row_grip : Mode → ℕ → Outlook → Pc → Frame → Met → Grip
 row_grip mode p z c f x = grip_of (target c f) (course mode p z c f x)
 
--- The rows of the list lead from the frame a to the frame at the end, a front that chooses the next
--- by the count of handovers that its mark has.
+-- The rows of the list lead from the frame a to the frame at the end, a head that chooses the next
+-- by the count of handoffs that its mark has.
 pub data Walk (t : Terms) (p : ℕ) (a : Frame) : List Mark → Frame → Type 0 where
   still : Walk t p a [] a
   onward : (ks : List Mark) (f : Frame) (c d : Pc) (x : Met) (r : Option ℕ)

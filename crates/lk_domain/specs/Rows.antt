@@ -114,7 +114,7 @@ abbrev pub stakes_by : Verb → Pc → Bool
 stakes_by v G9 = is_patient v
 stakes_by _ _ = false
 
--- exchanges the tail, which is the own node, for the last of the second queue
+-- exchanges the tail, which is the own node, for the last of the secondary queue
 abbrev pub promotes_by : Verb → Pc → Bool
 promotes_by v C10 = is_patient v
 promotes_by _ _ = false

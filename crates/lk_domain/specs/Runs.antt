@@ -57,7 +57,7 @@ pub record Mirrors (m : World) (p : ℕ) (c : Calls) : Type 0 where
 abbrev pub IsReset : ℕ → Node → Type 0
 IsReset n x = (q : Part) → part_index q < n → node_number q x ≡ 0
 
--- the newest call chooses the next, and this is the count of handovers in its own node
+-- the newest call chooses the next, and this is the count of handoffs in its own node
 pub record HasCounted (m : World) (x : Running) (n : ℕ) : Type 0 where
   pub row : Pc
   pub place : x.frame.place ≡ Some row
@@ -80,7 +80,7 @@ pub record AreMarked (m : World) (marks : NodeName → Bool) : Type 0 where
       → (w : Waiter) × Uses m w b × (marks a ≡ is_inner w.ctx)
   pub bare : halts m.mode ≡ true → (a : NodeName) → marks a ≡ false
 
--- what a mark told a front of the node that it will link behind the second queue is true of the
+-- what a mark told a head of the node that it will link behind the secondary queue is true of the
 -- call that uses that node
 abbrev pub AreTold : World → List Running → Type 0
 AreTold m rs = (d : ℕ) (f : Frame) (c : Pc) (a : NodeName) (b : Bool) (w : Waiter)
@@ -90,7 +90,7 @@ AreTold m rs = (d : ℕ) (f : Frame) (c : Pc) (a : NodeName) (b : Bool) (w : Wai
 -- The calls of a seat with the number p: the world's processor is theirs; their contexts are
 -- numbered from the oldest, and there are six at most; none waits at a release; each lock is held
 -- once, in a manner of its kind, and by nobody who waits for it; of the node to come as many words
--- are reset as the seat knows; a front's count of handovers is what the seat has read; and what a
+-- are reset as the seat knows; a head's count of handoffs is what the seat has read; and what a
 -- mark told it of the node that it will link is true.
 pub record SeatFits (m : World) (p : ℕ) (c : Calls) : Type 0 where
   pub mirrors : Mirrors m p c
@@ -160,7 +160,7 @@ pub record IsHalting (k : Plan) (m : World) (ws : List ℕ) : Type 0 where
   pub kicks : (p : ℕ) → p < cpus_of k → slice_index ws (kick_at k p) ≡ mark_number (m.kicked p)
   pub hash : IsHashed k m ws
 
--- the newest call seeks the entry of its lock: a release that finds whom to kick, or a front that took
+-- the newest call seeks the entry of its lock: a release that finds whom to kick, or a head that took
 -- the lock while it entered itself
 abbrev pub seeks_entry : Option Pc → Bool
 seeks_entry (Some U3) = true

@@ -39,7 +39,7 @@ Owed s p = (s.kicked p ≡ true)
     ⊎ ((l : LockName) × (u : Waiter) × (t : NodeName) × (s.post l u ≡ Kicks t) × (t.cpu ≡ p))
 
 -- One lock's posts agree with its byte, its entry in the hash, the states of the nodes and the
--- phases; and a front that sleeps while nobody holds the lock is owed a kick.
+-- phases; and a head that sleeps while nobody holds the lock is owed a kick.
 pub record ParaAgrees (s : Snapshot) (h : LockHistory) (l : LockName) : Type 0 where
   pub posts : PostsAgree (s.word l).locked (s.entry l) (slice_get h.main 0) (s.post l)
       (node_state s)
@@ -71,7 +71,7 @@ pub record SnapshotAgrees (s : Snapshot) (hs : LockName → LockHistory) : Type 
       → u ≡ z
 
 -- what a row of w on the lock l changes: its phase, the lock's word, and whether w holds it; and of
--- its choice of the next, what it knows. Who does not hold the lock as the front has not begun to
+-- its choice of the next, what it knows. Who does not hold the lock as the head has not begun to
 -- choose.
 pub record Step (s s' : Snapshot) (w : Waiter) (l : LockName) (r r' : Phase) (x : Fields)
     (h h' : Bool) : Type 0 where
@@ -116,7 +116,7 @@ pub record Stays (s s' : Snapshot) (w : Waiter) : Type 0 where
   pub slow : (u : Waiter) → s'.slow u ≡ s.slow u
   pub queued : (p : ℕ) → s'.queued p ≡ s.queued p
 
--- the waiter knows of the second queue what it knew, and has come no further with its choice
+-- the waiter knows of the secondary queue what it knew, and has come no further with its choice
 pub record Knows (s s' : Snapshot) (w : Waiter) (l : LockName) : Type 0 where
   pub stage : s'.stage l w ≡ s.stage l w
   pub kept : s'.kept w ≡ s.kept w

@@ -1,5 +1,5 @@
--- The lists of a lock, by its family. Where waiters are moved aside, the second queue is the
--- history's, and the front knows its first.
+-- The lists of a lock, by its family. Where waiters are moved aside, the secondary queue is the
+-- history's, and the head knows its first.
 use Rattle.std.specs.Prelude.{◌≡◌, ◌≢◌, ◌+◌, ◌<◌, ◌≤◌, ◌||◌, ◌⊎◌, ℕ, Option, if◌then◌else◌, Some}
 use Rattle.std.specs.Prelude.{None, Bool, true, false, List, [], ◌∷◌, slice_get, length}
 use Rattle.std.proofs.Common.{suc}
@@ -33,7 +33,7 @@ is_in (w ∷ ws) u = same_waiter w u || is_in ws u
 abbrev pub part : List Waiter → (Waiter → Phase) → Waiter → Phase
 part second phase u = if is_in second u then Aside else phase u
 
--- a link that the one that leads will make good when it hands the lead on
+-- a link that the one that leads will make good when it hands off
 abbrev pub shown : Option (NodeName × NodeName) → (NodeName → Node) → NodeName → Node
 shown None node n = node n
 shown (Some p) node n = if same_node n p.0 then record (node n) { next = Some p.1 } else node n
@@ -43,7 +43,7 @@ abbrev pub same_none : Option NodeName → Bool
 same_none None = true
 same_none (Some n) = false
 
--- the second queue
+-- the secondary queue
 pub record SecondAgrees (phase : Waiter → Phase) (own : Waiter → NodeName) (node : NodeName → Node)
     (second : List Waiter) (tip : Option NodeName) : Type 0 where
   pub waits : (i : ℕ) (u : Waiter)
@@ -155,12 +155,12 @@ abbrev pub front_cut : (Waiter → NodeName)
 front_cut own stage None = None
 front_cut own stage (Some w) = cut_of (own w) (stage w)
 
--- the node that the last of the second queue names, by the stage of the one that leads
+-- the node that the last of the secondary queue names, by the stage of the one that leads
 abbrev pub front_tip : (Waiter → Stage) → Option Waiter → Option NodeName
 front_tip stage None = None
 front_tip stage (Some w) = tip_of (stage w)
 
--- the node that a flag names: the first of the second queue
+-- the node that a flag names: the first of the secondary queue
 abbrev pub node_in : Flag → Option NodeName
 node_in Unset = None
 node_in Go = None
@@ -179,7 +179,7 @@ pub record CnaAgrees (tail : Option NodeName) (phase : Waiter → Phase) (own : 
   pub queue : QueueAgrees tail (part second phase) own
       (shown (front_cut own stage (slice_get main 0)) node) main
   pub second_ok : SecondAgrees phase own node second (front_tip stage (slice_get main 0))
-  -- each waiter that stands aside is not local to some waiter, as to the front that moved it
+  -- each waiter that stands aside is not local to some waiter, as to the head that moved it
   pub moved : (i : ℕ) (u : Waiter)
       → slice_get second i ≡ Some u
       → (w : Waiter) × (local w u ≡ false)

@@ -1,6 +1,6 @@
--- What running processors that halt rest on besides: that a front which has halted on a free lock
+-- What running processors that halt rest on besides: that a head which has halted on a free lock
 -- is owed a kick, said of the world alone, without a history of events; and that the node behind
--- that of a front is used.
+-- that of a head is used.
 use Rattle.std.specs.Prelude.{◌≡◌, ◌⊎◌, ℕ, Some, true, slice_get}
 use Rattle.lk_abs.specs.History.{LockHistory}
 use Rattle.lk_abs.specs.declared.names.Waiter.{Waiter}
@@ -32,7 +32,7 @@ SleepingFrontIsKicked = (m : World) (hs : LockName → LockHistory) (l : LockNam
     → slice_get (hs l).main 0 ≡ Some w → m.frame w ≡ Some f → at_halt (post_of f) ≡ true
     → IsKicked m w.cpu
 
--- Where processors halt and a front looks for the next, the node that its own link names is used.
+-- Where processors halt and a head looks for the next, the node that its own link names is used.
 abbrev pub HaltingLinkIsUsed : Type 0
 HaltingLinkIsUsed = (m : World) (hs : LockName → LockHistory) (w : Waiter) (f : Frame)
     (n : NodeName)

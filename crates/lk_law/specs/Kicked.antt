@@ -1,4 +1,4 @@
--- What the events so far say of halts and kicks is what a world shows; and then a front that sleeps
+-- What the events so far say of halts and kicks is what a world shows; and then a head that sleeps
 -- while nobody holds its lock is owed a kick.
 use Rattle.std.specs.Prelude.{◌≡◌, ◌<◌, ◌+◌, ℕ, Option, Some, None, true, false, List, [], ◌++◌}
 use Rattle.std.specs.Prelude.{◌∷◌}
@@ -97,7 +97,7 @@ abbrev pub IntAwakeShows : Type 0
 IntAwakeShows = (m : World) (u : Waiter) (es : List Event) → m.halted u.cpu ≡ false
     → ShowsKicks m es → ShowsKicks m (es ++ record { by = u; what = Int } ∷ [])
 
--- In every sound world that shows them, a front that sleeps while nobody holds its lock is owed a
+-- In every sound world that shows them, a head that sleeps while nobody holds its lock is owed a
 -- kick.
 abbrev pub SpinFrontsAreOwed : Type 0
 SpinFrontsAreOwed = (m : World) (es : List Event) → halts m.mode ≡ true

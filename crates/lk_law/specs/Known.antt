@@ -27,7 +27,7 @@ use Rattle.lk_law.specs.Agree.{halts}
 
 -- Who releases, or leads and has taken the lock, meets a held byte; who has set pending meets it
 -- set; who claims the lock or stakes it meets a free byte; and who stands in the queue meets a
--- tail. A front that stakes the lock may meet pending set, for a moment, by a waiter that will
+-- tail. A head that stakes the lock may meet pending set, for a moment, by a waiter that will
 -- clear it.
 abbrev pub Known : Pc → Fields → Type 0
 Known U1 x = x.locked ≡ Held
@@ -71,7 +71,7 @@ KnownHalting U4 f x entry = (x.locked ≡ Slow) × (entry ≡ None)
 KnownHalting c f x entry = Unit {0}
 
 -- Before the queue the own node is at rest; where it links, the node before it has no next; and
--- where it hands the lead on, the flag of the next is unset.
+-- where it hands off, the flag of the next is unset.
 abbrev pub KnownNodes : Pc → Frame → (NodeName → Node) → Type 0
 KnownNodes G2 f node = node (node_of f.me) ≡ rest_node
 KnownNodes G3 f node = node (node_of f.me) ≡ rest_node
@@ -99,7 +99,7 @@ TailIsUsed = (m : World) (hs : LockName → LockHistory) (l : LockName) (n : Nod
     → IsSoundSpinWorld m hs → (m.word l).tail ≡ Some n
     → (u : Waiter) × Uses m u n × IsOwnNode u n
 
--- In every sound world the node to which a frame hands the lead is used by the second of the queue.
+-- In every sound world the node to which a frame hands off is used by the second of the queue.
 abbrev pub NextIsUsed : Type 0
 NextIsUsed = (m : World) (hs : LockName → LockHistory) (w : Waiter) (f : Frame)
     → IsSoundSpinWorld m hs → m.frame w ≡ Some f → f.place ≡ Some G11
@@ -125,7 +125,7 @@ ChoiceIsUsed = (m : World) (hs : LockName → LockHistory) (w : Waiter) (f : Fra
     → IsSoundSpinWorld m hs → m.frame w ≡ Some f → f.place ≡ Some c → chooses c ≡ true
     → (u : Waiter) × Uses m u (node_of (choice_node c f)) × IsOwnNode u (node_of (choice_node c f))
 
--- In every sound world no waiter that stands aside has seen more handovers than the threshold.
+-- In every sound world no waiter that stands aside has seen more handoffs than the threshold.
 abbrev pub PassesAreBounded : Type 0
 PassesAreBounded = (m : World) (hs : LockName → LockHistory) (l : LockName) → IsSoundSpinWorld m hs
     → (i n : ℕ) → slice_get (hs l).passes i ≡ Some n → n ≤ m.threshold
@@ -135,14 +135,14 @@ abbrev pub NodeIsOnes : Type 0
 NodeIsOnes = (m : World) (hs : LockName → LockHistory) (u v : Waiter) (n : NodeName)
     → IsSoundSpinWorld m hs → Uses m u n → Uses m v n → (u ≡ v) × IsOwnNode u n
 
--- In every sound world a front that is about to tell the next of a second queue has made fewer
--- handovers than the threshold since that queue became non-empty.
+-- In every sound world a head that is about to tell the next of a secondary queue has made fewer
+-- handoffs than the threshold since that queue became non-empty.
 abbrev pub RunIsShort : Type 0
 RunIsShort = (m : World) (hs : LockName → LockHistory) (w : Waiter) (f : Frame)
     → IsSoundSpinWorld m hs → m.frame w ≡ Some f → f.place ≡ Some C7 → is_some f.second ≡ true
     → (m.node (node_of f.me)).runs < m.threshold
 
--- In every sound world the last that a front has passed over stands in the main queue, as far
+-- In every sound world the last that a head has passed over stands in the main queue, as far
 -- behind it as it has counted.
 abbrev pub SkippedIsQueued : Type 0
 SkippedIsQueued = (m : World) (hs : LockName → LockHistory) (w : Waiter) (f : Frame)
@@ -161,7 +161,7 @@ QueueIsDistinct = (m : World) (hs : LockName → LockHistory) (l : LockName) →
     × ((i j : ℕ) (u : Waiter) → slice_get (hs l).main i ≡ Some u → slice_get (hs l).main j ≡ Some u
     → i ≡ j)
 
--- Where processors halt: in every sound world the node to which a front is about to hand the lead
+-- Where processors halt: in every sound world the node to which a head is about to hand off
 -- is used by the second of the queue;
 abbrev pub HaltingNextIsUsed : Type 0
 HaltingNextIsUsed = (m : World) (hs : LockName → LockHistory) (w : Waiter) (f : Frame)
@@ -178,7 +178,7 @@ names_front K3 = true
 names_front U4 = true
 names_front _ = false
 
--- the node that such a row has for the front: a holder that looks after it, or a release that will
+-- the node that such a row has for the head: a holder that looks after it, or a release that will
 -- kick it
 abbrev pub front_named : Pc → Frame → Option NodeName
 front_named K1 f = f.y

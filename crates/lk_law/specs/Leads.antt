@@ -41,11 +41,11 @@ pub data Met : Type 0 where
   Word : Fields → Met
   -- the word of a reader-writer lock
   Shared : RwFields → Met
-  -- a number: of frames in the slow path, or of handovers
+  -- a number: of frames in the slow path, or of handoffs
   Number : ℕ → Met
   -- the flag of a node
   Flagged : Flag → Met
-  -- a node that is named, or none: by a link, as the last of a second queue, or in the hash
+  -- a node that is named, or none: by a link, as the last of a secondary queue, or in the hash
   Named : Option NodeName → Met
   -- a link with its mark, by which a running processor knows whether the call that uses the named
   -- node is in a context above 0
@@ -56,7 +56,7 @@ pub data Met : Type 0 where
   Marked : Bool → Met
 
 -- what a row reads besides: the family, the turns of a waiter that spins, its processor, and what a
--- front sees that chooses the next
+-- head sees that chooses the next
 pub record Setting : Type 0 where
   pub mode : Mode
   pub turns : ℕ

@@ -48,26 +48,26 @@ PrevIsUsed = (m : World) (hs : LockName → LockHistory) (w : Waiter) (f : Frame
     → IsSoundSpinWorld m hs → m.frame w ≡ Some f → f.place ≡ Some G5
     → (u : Waiter) × Uses m u (node_of f.prev) × IsOwnNode u (node_of f.prev)
 
--- The node to which the node of a front is linked that looks for the next is used.
+-- The node to which the node of a head is linked that looks for the next is used.
 abbrev pub LinkIsUsed : Type 0
 LinkIsUsed = (m : World) (hs : LockName → LockHistory) (w : Waiter) (f : Frame) (n : NodeName)
     → IsSoundSpinWorld m hs → m.frame w ≡ Some f → f.place ≡ Some G10
     → (m.node (node_of f.me)).next ≡ Some n → (u : Waiter) × Uses m u n × IsOwnNode u n
 
--- Where a row hands the lead on, some waiter uses the node that it names.
+-- Where a row hands off, some waiter uses the node that it names.
 abbrev pub LeadGoesOn : Type 0
 LeadGoesOn = (m : World) (hs : LockName → LockHistory) (w : Waiter) (f : Frame) (c : Pc)
     → IsSoundSpinWorld m hs → m.frame w ≡ Some f → f.place ≡ Some c
     → (to : Waiter) × GoesTo m to (row_in m w f c).1
 
--- A front finds the last of the second queue in the node of its first, and it is used.
+-- A head finds the last of the secondary queue in the node of its first, and it is used.
 abbrev pub SecondTailIsUsed : Type 0
 SecondTailIsUsed = (m : World) (hs : LockName → LockHistory) (w : Waiter) (f : Frame)
     → IsSoundSpinWorld m hs → m.frame w ≡ Some f → f.place ≡ Some C3
     → (n : NodeName) × ((m.node (node_of f.second)).second_tail ≡ Some n)
     × ((u : Waiter) × Uses m u n × IsOwnNode u n)
 
--- a front looks along the links of the queue
+-- a head looks along the links of the queue
 abbrev pub looks_along : Pc → Bool
 looks_along C1 = true
 looks_along C2 = true
@@ -81,13 +81,13 @@ BehindIsUsed = (m : World) (hs : LockName → LockHistory) (w : Waiter) (f : Fra
     → (m.node (node_of (choice_node c f))).next ≡ Some n
     → (u : Waiter) × Uses m u n × IsOwnNode u n
 
--- The first of the second queue, as a flag names it, is used.
+-- The first of the secondary queue, as a flag names it, is used.
 abbrev pub FirstIsUsed : Type 0
 FirstIsUsed = (m : World) (hs : LockName → LockHistory) (w : Waiter) (f : Frame) (n : NodeName)
     → IsSoundSpinWorld m hs → m.frame w ≡ Some f → f.place ≡ Some G6
     → (m.node (node_of f.me)).flag ≡ Second n → (u : Waiter) × Uses m u n × IsOwnNode u n
 
--- a front tells the chosen one how long the run is, or hands it the lead
+-- a head tells the chosen one how long the run is, or hands off to it
 abbrev pub tells_next : Pc → Bool
 tells_next C7 = true
 tells_next C8 = true
@@ -107,8 +107,8 @@ LinkedIsUsed = (m : World) (hs : LockName → LockHistory) (u : Waiter) (a n : N
     → IsSoundSpinWorld m hs → halts m.mode ≡ false → Uses m u a → (m.node a).next ≡ Some n
     → (w : Waiter) × Uses m w n × IsOwnNode w n
 
--- whether a front that stands at this place, for this reason, will link others behind the second
--- queue: those that it passed over, or the rest of the queue
+-- whether a head that stands at this place, for this reason, will link others behind the
+-- secondary queue: those that it passed over, or the rest of the queue
 abbrev pub will_link : Pc → Why → Bool
 will_link C2 y = true
 will_link C3 why.Append = true

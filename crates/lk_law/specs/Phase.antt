@@ -31,13 +31,13 @@ pub data Phase : Type 0 where
   Stakes : Phase
   -- it leads the queue, and holds the lock
   Holds : Phase
-  -- the same, and it knows the node to which it hands the lead
+  -- the same, and it knows the node to which it hands off
   Hands : NodeName → Phase
   -- it leads the queue, and has set pending so that nobody steals the lock
   Presses : Phase
-  -- it was moved to the second queue, and waits there
+  -- it was moved to the secondary queue, and waits there
   Aside : Phase
-  -- it has handed the lead on, holds the lock, and looks after the node that leads now
+  -- it has handed off, holds the lock, and looks after the node that leads now
   Tends : NodeName → Phase
 
 -- the phase holds the lock, without the program's knowing it yet
@@ -97,7 +97,7 @@ has_node Presses = true
 has_node (Tends n) = true
 has_node _ = false
 
--- the phase stands in the queue behind its front
+-- the phase stands in the queue behind its head
 abbrev pub follows : Phase → Bool
 follows (Links n) = true
 follows Waits = true

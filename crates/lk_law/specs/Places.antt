@@ -110,15 +110,15 @@ phase_if (Some c) b prev y = phase_at c b prev y
 abbrev pub phase_of : Frame → Phase
 phase_of f = phase_if f.place (is_some f.me) (node_of f.prev) (node_of f.y)
 
--- how far a front has come that stands at a row of the choice
+-- how far a head has come that stands at a row of the choice
 
--- where the last of the second queue is looked for, the stage by what it is looked for
+-- where the last of the secondary queue is looked for, the stage by what it is looked for
 abbrev pub stage_why : Frame → Why → Stage
 stage_why f why.Append = Meets (node_of f.a) (node_of f.b) f.k (node_of f.y)
 stage_why f why.Flush = Flushes (node_of f.a)
 stage_why f why.Promotion = Promotes
 
--- how far a front at a row has come with its choice
+-- how far a head at a row has come with its choice
 abbrev pub stage_at : Pc → Frame → Stage
 stage_at C2 f = Skips (node_of f.a) (node_of f.b) f.k
 stage_at C3 f = stage_why f f.why
@@ -211,7 +211,7 @@ abbrev pub slow_in : Option Frame → Bool
 slow_in None = false
 slow_in (Some f) = is_slow f.place
 
--- what a frame has for the first of the second queue
+-- what a frame has for the first of the secondary queue
 abbrev pub kept_in : Option Frame → Option NodeName
 kept_in None = None
 kept_in (Some f) = f.second

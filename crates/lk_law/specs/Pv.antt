@@ -40,7 +40,7 @@ pub data Post : Type 0 where
   Naps : Post
   -- leads and has the lock
   Has : Post
-  -- has handed the lead to y: looks whether it halted; tells the releaser; enters it
+  -- has handed off to y: looks whether it halted; tells the releaser; enters it
   Calls : (y : NodeName) → Post
   Slowing : (y : NodeName) → Post
   Signing : (y : NodeName) → Post

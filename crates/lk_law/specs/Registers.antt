@@ -18,13 +18,13 @@ use Rattle.lk_law.specs.Families.{is_slow, chooses, may_halt, stays_awake}
 use Rattle.lk_law.specs.Places.{phase_if, phase_of}
 use Rattle.lk_machine.specs.declared.parts.Why.TheVariants as why
 
--- the row hands the lead to the next as it stands
+-- the row hands off to the next as it stands
 abbrev pub hands_plainly : Pc → Bool
 hands_plainly G10 = true
 hands_plainly G11 = true
 hands_plainly _ = false
 
--- a front has not heard of a second queue, or has found that there is none
+-- a head has not heard of a secondary queue, or has found that there is none
 abbrev pub is_unaware : Pc → Bool
 is_unaware G2 = true
 is_unaware G3 = true
@@ -36,7 +36,7 @@ is_unaware H1 = true
 is_unaware H2 = true
 is_unaware _ = false
 
--- a front needs the first node of the second queue
+-- a head needs the first node of the secondary queue
 abbrev pub needs_second : Pc → Bool
 needs_second C3 = true
 needs_second C4 = true
@@ -46,7 +46,7 @@ needs_second C9 = true
 needs_second C10 = true
 needs_second _ = false
 
--- a front lets the second queue return, and moves nobody
+-- a head lets the secondary queue return, and moves nobody
 abbrev pub returns : Pc → Why → Bool
 returns C3 why.Flush = true
 returns C3 why.Promotion = true
@@ -54,10 +54,10 @@ returns C9 _ = true
 returns C10 _ = true
 returns _ _ = false
 
--- a front knows the first, and the last, of those that it has passed over; and the last of the
--- second queue
+-- a head knows the first, and the last, of those that it has passed over; and the last of the
+-- secondary queue
 
--- the front knows the first of those that it has passed over
+-- the head knows the first of those that it has passed over
 abbrev pub knows_first : Pc → Why → Bool
 knows_first C2 _ = true
 knows_first C3 why.Append = true
@@ -75,7 +75,7 @@ knows_last C5 _ = true
 knows_last C6 _ = true
 knows_last _ _ = false
 
--- it knows the last of the second queue
+-- it knows the last of the secondary queue
 abbrev pub knows_tail : Pc → Bool
 knows_tail C10 = true
 knows_tail _ = false
@@ -94,14 +94,14 @@ pub record IsQuiet (c : Option Pc) : Type 0 where
   pub unhanded : c ≢ Some G11
   pub row : (d : Pc) → c ≡ Some d → is_quiet_row d ≡ true
 
--- a front that sleeps, or is about to, is entered into the hash and knows it
+-- a head that sleeps, or is about to, is entered into the hash and knows it
 abbrev pub needs_hash : Pc → Bool
 needs_hash E10 = true
 needs_hash E11 = true
 needs_hash E12 = true
 needs_hash _ = false
 
--- a front, or a holder that was one, knows the node behind its own
+-- a head, or a holder that was one, knows the node behind its own
 abbrev pub names_next : Pc → Bool
 names_next E15 = true
 names_next K1 = true
@@ -127,9 +127,9 @@ counts_turns W2 = true
 counts_turns E4 = true
 counts_turns _ = false
 
--- The row is one of its family; and the frame knows of the second queue, and of the waiters that it
--- moves, what its row asks; and where processors halt, whether it is in the hash, and whom it hands
--- the lead to.
+-- The row is one of its family; and the frame knows of the secondary queue, and of the waiters that
+-- it moves, what its row asks; and where processors halt, whether it is in the hash, and to whom it
+-- hands off.
 pub record ChoiceFits (mode : Mode) (f : Frame) : Type 0 where
   pub choice : (c : Pc) → f.place ≡ Some c → chooses c ≡ true → moves_aside mode ≡ true
   pub plainly : (c : Pc) → f.place ≡ Some c → hands_plainly c ≡ true → moves_aside mode ≡ false
@@ -147,7 +147,7 @@ pub record ChoiceFits (mode : Mode) (f : Frame) : Type 0 where
   pub tail : (c : Pc) → f.place ≡ Some c → knows_tail c ≡ true → is_some f.t ≡ true
 
 -- what is true of the registers of a frame: it has a node of its own exactly in the phases that
--- have one, and else names none; where it links it knows the node before it, and where it hands on
+-- have one, and else names none; where it links it knows the node before it, and where it hands off
 -- the node behind it; and what it knows of its choice fits
 pub record RegistersFit (mode : Mode) (f : Frame) : Type 0 where
   pub me : has_node (phase_of f) ≡ true → is_some f.me ≡ true

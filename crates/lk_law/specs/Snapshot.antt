@@ -24,7 +24,7 @@ use Rattle.lk_law.specs.Phase.Phase.{Releases, Links, Waits, Hands, Prepared}
 -- what the laws read of all locks, waiters and nodes at one moment
 pub record Snapshot : Type 0 where
   pub mode : Mode
-  -- how many handovers may pass a moved waiter by; and which waiters are local to another, which
+  -- how many handoffs may pass a moved waiter by; and which waiters are local to another, which
   -- never moves them aside
   pub threshold : ℕ
   pub local : Waiter → Waiter → Bool
@@ -39,9 +39,9 @@ pub record Snapshot : Type 0 where
   pub slow : Waiter → Bool
   -- how many waiters of a processor are in the slow path
   pub queued : ℕ → ℕ
-  -- how far a front has come with its choice of the next
+  -- how far a head has come with its choice of the next
   pub stage : LockName → Waiter → Stage
-  -- the first node of the second queue, as the waiter knows it
+  -- the first node of the secondary queue, as the waiter knows it
   pub kept : Waiter → Option NodeName
   -- where processors halt: what a waiter does besides its phase, the lock's entry in the hash, and
   -- of which processors a kick is remembered
@@ -82,7 +82,7 @@ pub record HolderAgrees (locked : Locked) (phase : Waiter → Phase) (held : Wai
 
 -- The pending bit is set exactly where one waiter has set it; where a waiter may take the lock in
 -- its next step it is free; and a waiter that will take it by the pending bit does not stand beside
--- a front that may take it.
+-- a head that may take it.
 pub record PendingAgrees (locked : Locked) (pending : Bool) (phase : Waiter → Phase) : Type 0 where
   pub set : (u : Waiter) → pends (phase u) ≡ true → pending ≡ true
   pub one : (u v : Waiter) → pends (phase u) ≡ true → pends (phase v) ≡ true → u ≡ v
@@ -113,7 +113,7 @@ pub record EndsAgree (tail : Option NodeName) (phase : Waiter → Phase) (own : 
       → (follows (phase u) ≡ true) × ((node (own u)).flag ≡ Unset)
 
 -- Each node names the one behind it, but where that waiter will still link it, and then it names
--- none; the last names none; who hands on hands to the second; and a node that nobody can reach is
+-- none; the last names none; who hands off does so to the second; and a node that nobody can reach is
 -- at rest.
 pub record LinksAgree (phase : Waiter → Phase) (own : Waiter → NodeName) (node : NodeName → Node)
     (main : List Waiter) : Type 0 where

@@ -101,7 +101,7 @@ is_virt_row V1 = true
 is_virt_row V2 = true
 is_virt_row _ = false
 
--- the rows of `lock` in mode `cna`: a front chooses the next in place of handing on as the queue
+-- the rows of `lock` in mode `cna`: a head chooses the next in place of handing off as the queue
 -- stands
 abbrev pub is_choosing_row : Pc → Bool
 is_choosing_row c = chooses c || (is_queued_row c && not (hands_plainly c))

@@ -15,7 +15,7 @@ use Rattle.lk_law.specs.Places.{post_of, snapshot}
 use Rattle.lk_law.specs.Registers.{RegistersFit}
 
 -- What is never stored: where no processor halts, a byte that is slow; and, where nobody is moved
--- aside, a flag that names a second queue.
+-- aside, a flag that names a secondary queue.
 pub record IsPlain (m : World) : Type 0 where
   pub byte : halts m.mode ≡ false → (l : LockName) → (m.word l).locked ≢ Slow
   pub flag : moves_aside m.mode ≡ false → (n k : NodeName) → (m.node n).flag ≢ Second k

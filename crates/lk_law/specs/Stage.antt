@@ -1,4 +1,4 @@
--- How far a front has come with its choice of the next: what it knows at each row of the choice. It
+-- How far a head has come with its choice of the next: what it knows at each row of the choice. It
 -- has the branch that was taken, so that no clause reads a register that is stale.
 use Rattle.std.specs.Prelude.{ℕ, Option, Some, None, Bool, true, false}
 use Rattle.lk_word.specs.declared.spin_word.NodeName.{NodeName}
@@ -95,13 +95,13 @@ picks (Picks y) = true
 picks (Picked y) = true
 picks _ = false
 
--- the last of those that are moved, once the first of the second queue names it as the last
+-- the last of those that are moved, once the first of the secondary queue names it as the last
 abbrev pub hangs : Stage → Option NodeName
 hangs (Hangs a b k y) = Some b
 hangs (Counts a b k y) = Some b
 hangs _ = None
 
--- the last of the second queue, where the front has learnt it
+-- the last of the secondary queue, where the head has learnt it
 abbrev pub tail_seen : Stage → Option NodeName
 tail_seen (Tips a b k y t) = Some t
 tail_seen (Flushing a t) = Some t
@@ -114,7 +114,7 @@ before_of (Flushes a) = Some a
 before_of (Flushing a t) = Some a
 before_of _ = None
 
--- the next, once it was told how many handovers were made
+-- the next, once it was told how many handoffs were made
 abbrev pub told_runs : Stage → Option NodeName
 told_runs (Counts a b k y) = Some y
 told_runs (Picked y) = Some y

@@ -151,12 +151,12 @@ abbrev pub stores_next : World → NodeName → Option (Option NodeName) → Wor
 stores_next m n None = m
 stores_next m n (Some x) = put_node m n (record (m.node n) { next = x })
 
--- into what it has for the last of the second queue
+-- into what it has for the last of the secondary queue
 abbrev pub stores_second : World → NodeName → Option (Option NodeName) → World
 stores_second m n None = m
 stores_second m n (Some x) = put_node m n (record (m.node n) { second_tail = x })
 
--- into its count of handovers
+-- into its count of handoffs
 abbrev pub stores_runs : World → NodeName → Option ℕ → World
 stores_runs m n None = m
 stores_runs m n (Some x) = put_node m n (record (m.node n) { runs = x })
@@ -210,7 +210,7 @@ waiter_in m n =
       ctx = first_user (λ c. m.frame (record { cpu = n.cpu; ctx = c })) n 0 6;
     }
 
--- what a front reads besides the field of its row: a node is local where its waiter is
+-- what a head reads besides the field of its row: a node is local where its waiter is
 abbrev pub sight_in : World → Waiter → Frame → Sight
 sight_in m w f =
     record {

@@ -1,4 +1,4 @@
--- The queue as it stands in words and nodes: the walk from the front's node, each node to the one
+-- The queue as it stands in words and nodes: the walk from the head's node, each node to the one
 -- behind it.
 use Rattle.std.specs.Prelude.{◌≡◌, ◌≢◌, ◌≤◌, ℕ, Option, Some, None, true, false, List, [], ◌∷◌}
 use Rattle.std.specs.Prelude.{length, map, slice_get}
@@ -58,8 +58,8 @@ MainIsTheWalk = (s : Snapshot) (hs : LockName → LockHistory) (l : LockName) �
     → moves_aside s.mode ≡ false → IsTheWalk s (hs l) l
 
 -- Where waiters are moved aside the same is true of what is shown of the lock: those that stand
--- aside are not in the queue, and a link that the front has cut, or will make good when it hands
--- the lead on, is there.
+-- aside are not in the queue, and a link that the head has cut, or will make good when it hands
+-- off, is there.
 pub record IsTheShownWalk (s : Snapshot) (h : LockHistory) (l : LockName) : Type 0 where
   pub led : (behind : NodeName → Option NodeName)
       → IsBehind (part h.second (s.phase l)) s.own
@@ -76,8 +76,8 @@ abbrev pub MainIsTheShownWalk : Type 0
 MainIsTheShownWalk = (s : Snapshot) (hs : LockName → LockHistory) (l : LockName)
     → SnapshotAgrees s hs → moves_aside s.mode ≡ true → IsTheShownWalk s (hs l) l
 
--- The second queue is the walk from its first: each names the next one of it, as many as it has.
--- The last names none, but where the front has tied those that it passed over behind it: then it
+-- The secondary queue is the walk from its first: each names the next one of it, as many as it has.
+-- The last names none, but where the head has tied those that it passed over behind it: then it
 -- names the first of those. And who leads knows the first, by its register, or by its flag before
 -- it looked at it.
 pub record IsTheSecondWalk (s : Snapshot) (h : LockHistory) (l : LockName) : Type 0 where
@@ -92,7 +92,7 @@ pub record IsTheSecondWalk (s : Snapshot) (h : LockHistory) (l : LockName) : Typ
       → h.second ≢ []
       → named_by (s.phase l u) (s.node (s.own u)).flag (s.kept u) ≡ first_node s.own h.second
 
--- The second queue is the walk from its first, whom the front knows.
+-- The secondary queue is the walk from its first, whom the head knows.
 abbrev pub SecondIsTheWalk : Type 0
 SecondIsTheWalk = (s : Snapshot) (hs : LockName → LockHistory) (l : LockName) → SnapshotAgrees s hs
     → moves_aside s.mode ≡ true → IsTheSecondWalk s (hs l) l

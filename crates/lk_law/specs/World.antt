@@ -20,7 +20,7 @@ pub record World : Type 0 where
   pub mode : Mode
   -- how many turns a paravirtual waiter spins
   pub turns : ℕ
-  -- how many handovers may pass a moved waiter by, and the socket of each processor
+  -- how many handoffs may pass a moved waiter by, and the socket of each processor
   pub threshold : ℕ
   pub sockets : List ℕ
   pub word : LockName → Fields

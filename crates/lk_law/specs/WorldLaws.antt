@@ -83,7 +83,7 @@ InterruptKeeps =
     (told_on hs (Some (record { by = above w; what = Int })))
     × MayFollow rules hs (record { by = above w; what = Int })
 
--- In every sound world that shows its halts and kicks, a front that sleeps while nobody holds its
+-- In every sound world that shows its halts and kicks, a head that sleeps while nobody holds its
 -- lock is owed a kick.
 abbrev pub FrontsAreOwed : Type 0
 FrontsAreOwed = (m : World) (es : List Event) → halts m.mode ≡ true

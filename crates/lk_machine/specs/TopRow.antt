@@ -41,8 +41,8 @@ pub data Target : Type 0 where
   -- the flag and the link of a node
   FlagOf : NodeName → Target
   NextOf : NodeName → Target
-  -- by a row of a front that chooses whom to hand the lead: the word, the flag and the link of a
-  -- node, the last of the second queue and the count of handovers in it
+  -- by a row of a head that chooses to whom it hands off: the word, the flag and the link of a
+  -- node, the last of the secondary queue and the count of handoffs in it
   ChoiceWord : Target
   ChoiceFlag : NodeName → Target
   ChoiceNext : NodeName → Target
@@ -176,12 +176,12 @@ abbrev pub stored_next : Machine → NodeName → Option (Option NodeName) → M
 stored_next m n None = m
 stored_next m n (Some x) = set_node m n (record (node_at m n) { next = x })
 
--- into what it has for the last of the second queue
+-- into what it has for the last of the secondary queue
 abbrev pub stored_second : Machine → NodeName → Option (Option NodeName) → Machine
 stored_second m n None = m
 stored_second m n (Some x) = set_node m n (record (node_at m n) { second_tail = x })
 
--- into its count of handovers
+-- into its count of handoffs
 abbrev pub stored_runs : Machine → NodeName → Option ℕ → Machine
 stored_runs m n None = m
 stored_runs m n (Some x) = set_node m n (record (node_at m n) { runs = x })
@@ -227,11 +227,11 @@ on_flag m p f n o = applied m (stored_flag m n o.stores) p f o
 abbrev pub on_next : Machine → ℕ → Frame → NodeName → Effect (Option NodeName) → Answer
 on_next m p f n o = applied m (stored_next m n o.stores) p f o
 
--- on what a node has for the last of the second queue
+-- on what a node has for the last of the secondary queue
 abbrev pub on_second : Machine → ℕ → Frame → NodeName → Effect (Option NodeName) → Answer
 on_second m p f n o = applied m (stored_second m n o.stores) p f o
 
--- on a count of handovers
+-- on a count of handoffs
 abbrev pub on_runs : Machine → ℕ → Frame → NodeName → Effect ℕ → Answer
 on_runs m p f n o = applied m (stored_runs m n o.stores) p f o
 

@@ -1,4 +1,4 @@
--- The handovers of a history, event by event.
+-- The handoffs of a history, event by event.
 use Rattle.std.specs.Prelude.{◌≡◌, ◌≢◌, ◌⊎◌, ℕ, Some, List, [], ◌∷◌}
 use Rattle.lk_osq.specs.declared.events.OsqWhat.{OsqWhat}
 use Rattle.lk_osq.specs.declared.events.OsqWhat.TheVariants.{TakeFree, TakeHanded, Release}

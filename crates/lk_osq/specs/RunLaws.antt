@@ -12,7 +12,7 @@ abbrev pub ActKeeps : Type 0
 ActKeeps = (m : Machine) (t : Told) (give : Bool) (p : ℕ) → p < length m.cpus → Shows m t
     → Shows (next m give p).0 (told_on (next m give p).1 t) × IsLawfulIfAny (next m give p).1 t
 
--- The history of every list of acts from rest is lawful, each of its handovers is taken, and the
+-- The history of every list of acts from rest is lawful, each of its handoffs is taken, and the
 -- machine afterwards shows what it tells.
 abbrev pub RunKeeps : Type 0
 RunKeeps = (rounds : List ℕ) (acts : List Act) → AreInRange (length rounds) acts

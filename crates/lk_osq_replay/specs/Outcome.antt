@@ -20,7 +20,7 @@ events_of_run rounds acts = map (λ o. o.event) (history_of_run rounds acts)
 -- The input is good, with these rounds and these acts; it was read to its end, and its whole
 -- transcript was written. The history is lawful: after every prefix there is at most one holder,
 -- and each release is by it; the free lock is taken where nobody holds it or was handed it; and
--- each handover is to a waiter, which takes the lock by its next event, before any other takes.
+-- each handoff is to a waiter, which takes the lock by its next event, before any other takes.
 pub record OsqDone (old new : Outside) (made : ℕ) : Type 0 where
   pub rounds : List ℕ
   pub acts : List Act

@@ -21,7 +21,7 @@ leaves_hash _ = false
 -- The machine can make the row, and besides:
 pub record IsPvReady (m : Machine) (p : ℕ) : Type 0 where
   pub ready : IsReady m p
-  -- a front that enters itself has a node
+  -- a head that enters itself has a node
   pub own : (top_frame m p).place ≡ Some E6 → is_some (top_frame m p).me ≡ true
   -- a holder that enters the next knows its node
   pub next : (top_frame m p).place ≡ Some K3 → is_some (top_frame m p).y ≡ true

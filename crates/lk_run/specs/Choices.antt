@@ -1,4 +1,4 @@
--- Where a front goes that chooses the next, by what it sees.
+-- Where a head goes that chooses the next, by what it sees.
 use Rattle.std.specs.Prelude.{Option, Some, None, if◌then◌else◌}
 use Rattle.lk_word.specs.declared.spin_word.NodeName.{NodeName}
 use Rattle.lk_machine.specs.rows.Cna.{Sight, may_stay}

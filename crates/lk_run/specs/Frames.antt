@@ -4,12 +4,12 @@ use Rattle.lk_word.specs.declared.spin_word.NodeName.{NodeName}
 use Rattle.lk_machine.specs.declared.parts.Frame.{Frame}
 use Rattle.lk_machine.specs.declared.parts.Why.TheVariants as why
 
--- its own node, and the first of the second queue, if it knows one
+-- its own node, and the first of the secondary queue, if it knows one
 pub record Fronts (own : NodeName) (aside : Option NodeName) (f : Frame) : Type 0 where
   pub me : f.me ≡ Some own
   pub second : f.second ≡ aside
 
--- who does not lead yet has heard of no second queue
+-- who does not lead yet has heard of no secondary queue
 abbrev pub Owns : NodeName → Frame → Type 0
 Owns own f = Fronts own None f
 
@@ -30,13 +30,13 @@ pub record Skips (own : NodeName) (aside : Option NodeName) (a b : NodeName) (f 
   pub first : f.a ≡ Some a
   pub last : f.b ≡ Some b
 
--- the same, and whom the lead goes to: the others go behind the second queue
+-- the same, and whom the lead goes to: the others go behind the secondary queue
 pub record Appends (own first a b y : NodeName) (f : Frame) : Type 0 where
   pub skips : Skips own (Some first) a b f
   pub next : f.y ≡ Some y
   pub why_is : f.why ≡ why.Append
 
--- and the last of the second queue
+-- and the last of the secondary queue
 pub record Ties (own first a b y t : NodeName) (f : Frame) : Type 0 where
   pub fronts : Fronts own (Some first) f
   pub a_is : f.a ≡ Some a
@@ -50,7 +50,7 @@ pub record Parts (own first b y : NodeName) (f : Frame) : Type 0 where
   pub last : f.b ≡ Some b
   pub next : f.y ≡ Some y
 
--- the second queue is to return before the node a
+-- the secondary queue is to return before the node a
 pub record Flushes (own first a : NodeName) (f : Frame) : Type 0 where
   pub fronts : Fronts own (Some first) f
   pub a_is : f.a ≡ Some a
@@ -62,7 +62,7 @@ pub record Returns (own first a t : NodeName) (f : Frame) : Type 0 where
   pub a_is : f.a ≡ Some a
   pub tail : f.t ≡ Some t
 
--- the second queue is to be all of the rest
+-- the secondary queue is to be all of the rest
 pub record Promotes (own first : NodeName) (f : Frame) : Type 0 where
   pub fronts : Fronts own (Some first) f
   pub why_is : f.why ≡ why.Promotion

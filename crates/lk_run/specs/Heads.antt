@@ -1,4 +1,4 @@
--- The words of `Words` for a call at the front of the queue, and what its frame has at each place.
+-- The words of `Words` for a call at the head of the queue, and what its frame has at each place.
 use Rattle.std.specs.Prelude.{ℕ, Option}
 use Rattle.lk_word.specs.declared.spin_word.NodeName.{NodeName}
 use Rattle.lk_machine.specs.declared.parts.Frame.{Frame}
@@ -13,7 +13,7 @@ use Rattle.lk_run.specs.declared.call.Front.{Front}
 abbrev pub IsNodeOf : Front → NodeName → Type 0
 IsNodeOf h = IsNode h.call.domain.now.plan
 
--- the frame has its node, and the first of the second queue that it knows, or this one
+-- the frame has its node, and the first of the secondary queue that it knows, or this one
 
 abbrev pub Fronts : Front → Frame → Type 0
 Fronts h = frame.Fronts h.own h.second

@@ -56,7 +56,7 @@ abbrev pub newest : List Running → List Mark
 newest [] = []
 newest (r ∷ rs) = r.trail
 
--- the node that the newest call will link behind the second queue is a, and the link in which it
+-- the node that the newest call will link behind the secondary queue is a, and the link in which it
 -- met a had the mark b
 abbrev pub Knows : NodeName → Bool → Cpu → Type 0
 Knows a b cpu = told (newest (calls_of cpu).frames) ≡ Some (a, b)

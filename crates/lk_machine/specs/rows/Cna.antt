@@ -1,6 +1,6 @@
--- The rows in which a front of Dice and Kogan's lock chooses whom to hand the lead: it looks for a
--- local waiter behind it, moves those that it passes over to the second queue, and now
--- and then lets the second queue return.
+-- The rows in which a head of Dice and Kogan's lock chooses to whom it hands off: it looks for a
+-- local waiter behind it, moves those that it passes over to the secondary queue, and now
+-- and then lets the secondary queue return.
 use Rattle.std.specs.Prelude.{◌+◌, ◌&&◌, not, is_some, nat_lt, ℕ, Option, Some, None, Bool}
 use Rattle.std.specs.Prelude.{true, false, [], ◌∷◌, if◌then◌else◌}
 use Rattle.lk_abs.specs.declared.events.What.TheVariants as what
@@ -19,14 +19,14 @@ use Rattle.lk_machine.specs.Moves.{is_node, node_of}
 use Rattle.lk_machine.specs.Row.{Effect, Goes, Leaves, Nothing, Says, Passes, A, B, K, T, Reason, Y}
 use Rattle.lk_machine.specs.Row.{Second, looks, learns_all}
 
--- What a front reads besides the field of its row: the count of handovers in its own node, which no
+-- What a head reads besides the field of its row: the count of handoffs in its own node, which no
 -- other waiter reads or writes, the threshold, and of which nodes the waiters are local to it.
 pub record Sight : Type 0 where
   pub runs : ℕ
   pub threshold : ℕ
   pub local : NodeName → Bool
 
--- fewer handovers than the threshold were made since the second queue became non-empty
+-- fewer handoffs than the threshold were made since the secondary queue became non-empty
 abbrev pub may_stay : Sight → Bool
 may_stay s = nat_lt s.runs s.threshold
 
@@ -72,7 +72,7 @@ search_on s f None = after_last f
 search_on s f (Some n) = after_more s f n
 
 -- the rows on a link: of the own node (C1), of the last that was passed over (C2, C5), and of the
--- last of the second queue (C4, C9)
+-- last of the secondary queue (C4, C9)
 abbrev pub search_row : Sight → Pc → Frame → Option NodeName → Effect (Option NodeName)
 search_row s C1 f x = search_first s f.second x
 search_row s C2 f x = search_on s f x
@@ -91,20 +91,20 @@ search_row s C9 f x =
     }
 search_row s c f x = looks c
 
--- where a front goes that knows the last of the second queue
+-- where a head goes that knows the last of the secondary queue
 abbrev pub after_tail : Why → Pc
 after_tail why.Append = C4
 after_tail why.Flush = C9
 after_tail why.Promotion = C10
 
--- the rows on the last of the second queue, in the node of its first: C3 looks, C6 stores the last
--- that was passed over
+-- the rows on the last of the secondary queue, in the node of its first: C3 looks, C6 stores the
+-- last that was passed over
 abbrev pub second_row : Pc → Frame → Option NodeName → Effect (Option NodeName)
 second_row C3 f x = learns_all (after_tail f.why) (T x ∷ [])
 second_row C6 f x = record { stores = Some f.b; leads = Goes C7 []; tells = Nothing; counts = [] }
 second_row c f x = looks c
 
--- the row on the count in the chosen one's node: one handover more where waiters stand aside
+-- the row on the count in the chosen one's node: one handoff more where waiters stand aside
 abbrev pub runs_row : Sight → Pc → Frame → ℕ → Effect ℕ
 runs_row s C7 f x =
     record {
@@ -115,7 +115,7 @@ runs_row s C7 f x =
     }
 runs_row s c f x = looks c
 
--- the flag that tells the next of the second queue
+-- the flag that tells the next of the secondary queue
 abbrev pub flag_for : Option NodeName → Flag
 flag_for None = flag.Go
 flag_for (Some n) = flag.Second n
@@ -140,7 +140,7 @@ is_held _ = false
 abbrev pub is_last : Frame → Fields → Bool
 is_last f x = is_held x.locked && not x.pending && is_node x.tail (node_of f.me)
 
--- the row on the word: while the front is the only one of the main queue, those aside become the
+-- the row on the word: while the head is the only one of the main queue, those aside become the
 -- rest, me,0,1 -> t,0,1
 abbrev pub promotion_row : Pc → Frame → Fields → Effect Fields
 promotion_row C10 f x =

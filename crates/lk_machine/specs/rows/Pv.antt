@@ -1,5 +1,5 @@
--- The rows of the paravirtual lock: a waiter and a front that halt their processors after a while,
--- a front that enters its lock into the hash so that the releaser finds whom to kick, the holder
+-- The rows of the paravirtual lock: a waiter and a head that halt their processors after a while,
+-- a head that enters its lock into the hash so that the releaser finds whom to kick, the holder
 -- that does so for the next, and the release with its kick.
 use Rattle.std.specs.Prelude.{◌==◌, ◌-◌, ◌&&◌, not, is_some, ℕ, Option, Some, None, Bool, true}
 use Rattle.std.specs.Prelude.{false, [], ◌∷◌, if◌then◌else◌}
@@ -45,7 +45,7 @@ after_glance me x = if is_unlocked x.locked && not x.pending then H2
 abbrev pub with_byte : Fields → Locked → Fields
 with_byte x b = record x { locked = b }
 
--- the front's turns are over, or not yet
+-- the head's turns are over, or not yet
 abbrev pub try_again : Frame → Effect Fields
 try_again f = if f.left - 1 == 0 then learns E5 (Left 0) else learns E4 (Left (f.left - 1))
 

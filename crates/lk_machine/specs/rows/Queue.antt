@@ -51,25 +51,25 @@ abbrev pub entry_counts : Mode → ℕ → List Counter
 entry_counts Pv i = index_count i
 entry_counts _ i = LockSlowpath ∷ index_count i
 
--- Where an exchange of the tail leads: without a queue before it the frame is the front; else it
+-- Where an exchange of the tail leads: without a queue before it the frame is the head; else it
 -- will link its node behind the old tail.
 abbrev pub after_arrival : Mode → Option NodeName → Effect Fields
 after_arrival Pv None = looks E1
 after_arrival _ None = looks G7
 after_arrival _ (Some n) = learns G5 (Prev (Some n))
 
--- where the front goes that looked at the word
+-- where the head goes that looked at the word
 abbrev pub after_look : Frame → Fields → Pc
 after_look f x =
     if is_unlocked x.locked && not x.pending
     then (if is_node x.tail (node_of f.me) && not (is_some f.second) then G8 else G9)
     else G7
 
--- a front that is alone in the queue
+-- a head that is alone in the queue
 abbrev pub is_sole : Frame → Fields → Bool
 is_sole f x = is_unlocked x.locked && not x.pending && is_node x.tail (node_of f.me)
 
--- where a front goes on that has taken the lock and has others behind it
+-- where a head goes on that has taken the lock and has others behind it
 abbrev pub after_head : Mode → Pc
 after_head Cna = C1
 after_head _ = G10
@@ -119,7 +119,7 @@ flag_row G11 f x =
     record { stores = Some flag.Go; leads = Leaves; tells = Passes (node_of f.y) 0; counts = [] }
 flag_row c f x = looks c
 
--- what the front does that looked for the next
+-- what the head does that looked for the next
 abbrev pub after_next : Option NodeName → Effect (Option NodeName)
 after_next None = looks G10
 after_next (Some n) = learns G11 (Y (Some n))
