@@ -3,8 +3,10 @@
 use Rattle.std.proofs.Common.{◌≡◌, ℕ, ◌<◌, List, [], ◌∷◌, length, Bool, true, false, refl, sym, ap, ◌∙◌, subst}
 use Rattle.std.specs.Prelude.{if◌then◌else◌}
 use Rattle.lk_abs.specs.declared.holder.Manner.{Manner}
+use Rattle.lk_abs.specs.declared.holder.Manner.TheVariants.{Spins, Writes}
 use Rattle.lk_abs.specs.declared.names.LockName.{LockName}
 use Rattle.lk_machine.specs.declared.setup.Verb.{Verb}
+use Rattle.lk_machine.specs.declared.setup.Verb.TheVariants.{TryWrite}
 use Rattle.lk_values.specs.Guarded.{IsApart}
 use Rattle.lk_domain.specs.Calls.{Terms, Mark, Running, Hold, hold, Calls, Frees, holds_in, hold_in, lock_name, moved_to, free_of}
 use Rattle.lk_domain.specs.Ledgers.{Ledger, turned, closed, is_first}
@@ -12,13 +14,14 @@ use Rattle.lk_domain.specs.Paths.{HasLooked, HasFreed}
 use Rattle.lk_domain.specs.Plans.{cpus_of}
 use Rattle.lk_domain.specs.Seats.{IsSame, KeepsRest, TakesValueOf, BringsValueOf, calls_of, ledger_of, view_of}
 use Rattle.lk_domain.specs.Values.{IsHomeWith, IsNewestOut, is_sole, marked_out, older, outs_of}
+use Rattle.lk_domain.specs.Waits.{Gains, Misses}
 use Rattle.lk_domain.specs.Who.{Who}
 use Rattle.lk_domain.specs.declared.cpu.Cpu.{Cpu}
 use Rattle.lk_domain.specs.declared.domain.Domain.{Domain}
 use Rattle.lk_domain.specs.declared.view.View.{View}
 use Rattle.lk_run.specs.Entering.{HasLeft}
 use Rattle.lk_machine.specs.declared.parts.Pc.TheVariants.{Z2}
-use Rattle.lk_lock.specs.Standing.{IsAsBefore, IsInside, IsReady, HasGot, HasTurned, HasGotIn, HasWritten, holds_of, valued}
+use Rattle.lk_lock.specs.Standing.{IsAsBefore, IsInside, IsReady, HasGot, HasTurned, HasGotIn, HasWritten, HasWrittenOnce, holds_of, valued}
 use Rattle.lk_lock.proofs.Marks.{still_of, turned_out, found, marked, dropped}
 
 -- a look that ends leaves the journal where it is
@@ -40,6 +43,27 @@ module _ (d : Domain) (l : ℕ) where
         frames = frames ∙ was.frames;
         home = ap (λ (g : Ledger). g.out) look.now
             ∙ (turned_out look.between (lock_name l) m last ∙ (look.passes.out ∙ was.home));
+      }
+
+  -- the lock is taken at one try
+  pub gained : (v : Verb) (m : Manner) (old mid : Cpu) → IsReady d old → KeepsRest old mid
+      → Gains d v l m (calls_of old) old mid → IsReady d mid
+  gained v m old mid was rest gain =
+      record {
+        domain_is = still_of d old mid rest.same was.domain_is;
+        frames = gain.taken.frames ∙ was.frames;
+        home = ap (λ (g : Ledger). g.out) gain.ledger
+            ∙ (turned_out (ledger_of old) (lock_name l) m (calls_of mid).last ∙ was.home);
+      }
+
+  -- it is missed
+  pub passed_by : (v : Verb) (old mid : Cpu) → IsReady d old → KeepsRest old mid
+      → Misses d v l (calls_of old) old mid → IsReady d mid
+  passed_by v old mid was rest miss =
+      record {
+        domain_is = still_of d old mid rest.same was.domain_is;
+        frames = miss.missed.frames ∙ was.frames;
+        home = ap (λ (g : Ledger). g.out) miss.ledger ∙ was.home;
       }
 
   -- its value goes out
@@ -160,7 +184,7 @@ module _ (l : ℕ) (m : Manner) (before old : Cpu) (in_it : IsInside l m before 
       }
 
 -- what a call has done that took a spinlock and its value, and then gave both back
-pub turn : (t : Terms) (p : ℕ) (v : Verb) (l : ℕ) (old mid new : Calls) → HasGot t p v l old mid
+pub turn : (t : Terms) (p : ℕ) (v : Verb) (l : ℕ) (old mid new : Calls) → HasGot t p v l Spins old mid
     → HasFreed l (valued l false mid) new → HasTurned t p v l old new
 turn t p v l old mid new got free =
     record {
@@ -172,7 +196,20 @@ turn t p v l old mid new got free =
           free;
     }
 
--- and of one that took a reader-writer lock as its writer
+-- of one that took a reader-writer lock as its writer at one try
+pub written_once : (t : Terms) (p : ℕ) (l : ℕ) (old mid new : Calls) → HasGot t p TryWrite l Writes old mid
+    → HasLeft Z2 l (valued l false mid) new → HasWrittenOnce t p l old new
+written_once t p l old mid new got left =
+    record {
+      inside = got.inside;
+      taken = got.taken;
+      left = subst (λ (c : Calls). HasLeft Z2 l c new)
+          (ap (λ (c : Calls). valued l false c) got.is
+          ∙ ap (λ (hs : List Hold). let r : Calls = record got.inside { holds = hs } in r) (sym got.holds))
+          left;
+    }
+
+-- and of one that waited for it
 pub written : (t : Terms) (p : ℕ) (v : Verb) (l : ℕ) (old mid new : Calls) → HasGotIn t p v l old mid
     → HasLeft Z2 l (valued l false mid) new → HasWritten t p v l old new
 written t p v l old mid new got left =

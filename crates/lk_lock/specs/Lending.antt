@@ -1,8 +1,12 @@
 -- What a held lock ends as, where a `&mut` to its value is returned.
-use Rattle.std.specs.Prelude.{[]}
-use Rattle.std.specs.Borrow.{Lends, MutBor, Fml, RattleType}
+use Rattle.std.specs.Prelude.{[], Option}
+use Rattle.std.specs.Borrow.{Lends, MutBor, Fml, GName, RattleType, RestsIfNone}
 use mir.Syntax.{named}
 use Rattle.atomic_table.specs.Lent.{seat_with}
+use Rattle.lk_domain.specs.contracts.cpu.Cpu.{the_row as the_cpu}
+use Rattle.lk_domain.specs.declared.cpu.Cpu.{Cpu}
+use Rattle.lk_domain.specs.declared.domain.Domain.{Domain}
+use Rattle.lk_lock.specs.Standing.{IsAsBefore, IsReady}
 use Rattle.lk_lock.specs.declared.held.Held.{Held}
 use Rattle.lk_lock.specs.contracts.held.Held.{the_row}
 
@@ -14,3 +18,12 @@ held_with held value = record held { place = seat_with held.place 0 value }
 abbrev pub LendsValue : (T R : RattleType) → MutBor (Held T.Denot R.Denot) → MutBor T.Denot → Fml
 LendsValue T R held r =
     Lends (the_row (record { mir = named 1; lft = [] }) T R) T held r (held_with held.now)
+
+-- the processor under a guard
+abbrev pub lent_to : {T R : Type 0} → Held T R → GName
+lent_to held = held.cpu.ghost_name
+
+-- a try that took no lock leaves the processor as it was
+abbrev pub RestsWhenMissed : (T R : RattleType) → MutBor Cpu → Domain → Option (Held T.Denot R.Denot) → Fml
+RestsWhenMissed T R cpu domain result =
+    RestsIfNone the_cpu cpu lent_to result (λ now. IsReady domain now × IsAsBefore cpu.now now)

@@ -6,6 +6,7 @@ use Rattle.lk_abs.specs.declared.holder.Manner.{Manner}
 use Rattle.lk_abs.specs.declared.holder.Manner.TheVariants.{Spins, Writes}
 use Rattle.lk_abs.specs.declared.names.Kind.{Kind}
 use Rattle.lk_machine.specs.declared.setup.Verb.{Verb}
+use Rattle.lk_machine.specs.declared.setup.Verb.TheVariants.{TryWrite}
 use Rattle.lk_machine.specs.declared.parts.Pc.TheVariants.{Z2}
 use Rattle.lk_values.specs.Guarded.{IsApart}
 use Rattle.lk_domain.specs.Calls.{Terms, Mark, Hold, Calls, holds_in, lock_name}
@@ -62,10 +63,10 @@ pub record IsInside (l : ℕ) (m : Manner) (before now : Cpu) : Type 0 where
 abbrev pub valued : ℕ → Bool → Calls → Calls
 valued l b c = record c { holds = marked_out l b c.holds }
 
--- The call v has taken the spinlock by a path of its rows, and then its value has gone out.
-pub record HasGot (t : Terms) (p : ℕ) (v : Verb) (l : ℕ) (old new : Calls) : Type 0 where
+-- The call v has taken the lock in this manner by a path of its rows, and then its value has gone out.
+pub record HasGot (t : Terms) (p : ℕ) (v : Verb) (l : ℕ) (m : Manner) (old new : Calls) : Type 0 where
   pub inside : Calls
-  pub taken : HasTaken t p v l Spins old inside
+  pub taken : HasTaken t p v l m old inside
   pub holds : inside.holds ≡ marked_out l false (marked_out l true inside.holds)
   pub is : new ≡ valued l true inside
 
@@ -83,6 +84,12 @@ pub record HasGotIn (t : Terms) (p : ℕ) (v : Verb) (l : ℕ) (old new : Calls)
   pub entered : HasEntered t p v l Writes upto old inside
   pub holds : inside.holds ≡ marked_out l false (marked_out l true inside.holds)
   pub is : new ≡ valued l true inside
+
+-- It was taken by its writer at one try, and freed by the row Z2.
+pub record HasWrittenOnce (t : Terms) (p : ℕ) (l : ℕ) (old new : Calls) : Type 0 where
+  pub inside : Calls
+  pub taken : HasTaken t p TryWrite l Writes old inside
+  pub left : HasLeft Z2 l inside new
 
 -- It was taken by its writer by a path of its rows, and freed by the row Z2.
 pub record HasWritten (t : Terms) (p : ℕ) (v : Verb) (l : ℕ) (old new : Calls) : Type 0 where

@@ -1,5 +1,5 @@
 // A spinlock that is held until the end of a scope.
-ghost use Rattle.std.specs.Prelude.{◌≡◌, false};
+ghost use Rattle.std.specs.Prelude.{◌≡◌, IfSome, false};
 ghost use Rattle.std.specs.Borrow.{sem};
 ghost use Rattle.std.specs.Fn.{FnOnceReturnsAtMut};
 ghost use Rattle.lk_abs.specs.declared.holder.Manner.TheVariants.{Spins};
@@ -8,7 +8,7 @@ ghost use Rattle.lk_domain.specs.Calls.{holds_in};
 ghost use Rattle.lk_domain.specs.declared.cpu.Cpu.{Cpu};
 ghost use Rattle.lk_lock.specs.Standing.{HasOpened, IsAsBefore, IsInside, IsReady, IsUnder, holds_of};
 
-use crate::holding::{acquire, release};
+use crate::holding::{acquire, release, try_acquire};
 use crate::locks::Spin;
 use atomic_table::Seat as Place;
 use lk_domain::{Cpu, Domain};
@@ -26,12 +26,14 @@ pub struct Held<'a, T, R> {
 }
 
 impl<'a, T, R: Wait> Held<'a, T, R> {
+    ghost use Rattle.lk_lock.specs.Lending.{RestsWhenMissed};
+
     /// Takes the lock, until what this gives is dropped. It waits for the lock, so the processor may
     /// not hold it.
     pub fn lock(
+        cpu: &'a mut Cpu,
         rt: &'a R,
         domain: &'a Domain,
-        cpu: &'a mut Cpu,
         spin: &'a Spin<T>,
     ) -> Held<'a, T, R>
         requires ready { IsReady domain.now cpu.old }
@@ -52,6 +54,40 @@ impl<'a, T, R: Wait> Held<'a, T, R> {
             rt,
             spin,
         }
+    }
+
+    /// Takes the lock if nobody has it or waits for it, until what this gives is dropped. It never
+    /// waits. `None` says that the lock was not free, or that somebody was faster.
+    pub fn try_lock(
+        cpu: &'a mut Cpu,
+        rt: &'a R,
+        domain: &'a Domain,
+        spin: &'a Spin<T>,
+    ) -> Option<Held<'a, T, R>>
+        requires ready { IsReady domain.now cpu.old }
+        requires lock { IsUnder domain.now.plan spinning spin.now.id.index
+            spin.now.cell.table.shared.table_id }
+        requires free { holds_in (holds_of cpu.old) spin.now.id.index ≡ false }
+        ensures* missed { sem 𝓛 (RestsWhenMissed T.row R.row cpu.entry domain.now result) }
+        ensures name { IfSome result (λ held. held.cpu.ghost_name ≡ cpu.entry.ghost_name) }
+        ensures same { IfSome result (λ held. (held.domain.now ≡ domain.now)
+            × (held.spin.now ≡ spin.now)) }
+        ensures ready { IfSome result (λ held. IsReady domain.now held.cpu.now) }
+        ensures inside { IfSome result (λ held.
+            IsInside held.spin.now.id.index Spins cpu.old held.cpu.now) }
+        ensures open { IfSome result (λ held.
+            HasOpened held.spin.now.cell.table.shared.table_id held.place) }
+    {
+        let Some(key) = try_acquire(cpu, domain, spin.id) else {
+            return None;
+        };
+        Some(Held {
+            place: spin.cell.open(key),
+            cpu,
+            domain,
+            rt,
+            spin,
+        })
     }
 
     /// Takes another lock inside this one, works on its value, and frees it.

@@ -2,6 +2,7 @@
 ghost use Rattle.std.specs.Prelude.{◌≡◌, ◌+◌, ◌<◌, ◌≤◌, [], ◌∷◌, ◌++◌, IfOk, Some, length, false};
 ghost use Rattle.lk_abs.specs.declared.names.Kind.TheVariants.{Rw as shared, Spin as spinning};
 ghost use Rattle.lk_domain.specs.Ends.{AllRest};
+ghost use Rattle.lk_domain.specs.Plans.{cpus_of};
 ghost use Rattle.lk_domain.specs.Values.{AreShut};
 ghost use Rattle.lk_law.specs.Agree.{halts};
 
@@ -135,6 +136,7 @@ impl Locks {
         requires awake { halts mode ≡ false }
         ensures made { IfOk result (λ all. AreMade self all.domain.plan) }
         ensures many { IfOk result (λ all. length all.cpus.items ≡ threads) }
+        ensures each { IfOk result (λ all. length all.cpus.items ≡ cpus_of all.domain.plan) }
         ensures rest { IfOk result (λ all. AllRest all.domain all.cpus.items) }
     {
         let Locks { alloc, kinds, keys } = self;

@@ -1,16 +1,18 @@
 // A processor of a domain, as a thread uses it.
-ghost use Rattle.std.specs.Prelude.{◌≡◌, false};
+ghost use Rattle.std.specs.Prelude.{◌≡◌, IfSome, MatchOption, false};
 ghost use Rattle.std.specs.Fn.{FnOnceReturnsAtMut};
 ghost use Rattle.lk_abs.specs.declared.holder.Manner.TheVariants.{Spins};
 ghost use Rattle.lk_abs.specs.declared.names.Kind.TheVariants.{Spin as spinning, Rw as shared};
 ghost use Rattle.lk_domain.specs.Calls.{holds_in, terms_of};
+ghost use Rattle.lk_domain.specs.Paths.{HasMissed};
 ghost use Rattle.lk_domain.specs.Seats.{calls_of};
-ghost use Rattle.lk_lock.specs.Standing.{HasTurned, HasWritten, IsAsBefore, IsReady, IsUnder, holds_of};
-ghost use Rattle.lk_machine.specs.declared.setup.Verb.TheVariants.{Lock, Write};
+ghost use Rattle.lk_lock.specs.Standing.{HasTurned, HasWritten, HasWrittenOnce, IsAsBefore, IsReady};
+ghost use Rattle.lk_lock.specs.Standing.{IsUnder, holds_of};
+ghost use Rattle.lk_machine.specs.declared.setup.Verb.TheVariants.{Lock, Try, TryWrite, Write};
 
-use crate::holding::{acquire, release};
+use crate::holding::{acquire, release, try_acquire};
 use crate::locks::{Rw, Spin};
-use crate::writing::{enter, leave};
+use crate::writing::{enter, leave, try_enter};
 use lk_domain::{Cpu, Domain};
 use std::sync::Wait;
 
@@ -71,7 +73,32 @@ impl<'a, R: Wait> Seat<'a, R> {
         done
     }
 
-    /// The same under a reader-writer lock, as its writer.
+    /// Takes the lock if nobody has it or waits for it, works on its value, and frees the lock. It
+    /// never waits. `None` says that the lock was not free, or that somebody was faster; then the
+    /// lock was not taken, and `work` was not called.
+    pub fn try_with<T, U, W: FnOnce(&mut T) -> U>(&mut self, spin: &Spin<T>, work: W) -> Option<U>
+        requires lock { IsUnder self.old.domain.now.plan spinning spin.now.id.index
+            spin.now.cell.table.shared.table_id }
+        requires free { holds_in (holds_of self.old.cpu.now) spin.now.id.index ≡ false }
+        requires callable { W.IsAlwaysCallable work }
+        ensures name { self.new.cpu.ghost_name ≡ self.old.cpu.ghost_name }
+        ensures domain { self.new.domain.now ≡ self.old.domain.now }
+        ensures before { IsAsBefore self.old.cpu.now self.new.cpu.now }
+        ensures path { MatchOption result
+            (HasMissed (terms_of self.old.domain.now.plan) self.old.cpu.now.number Try
+            spin.now.id.index (calls_of self.old.cpu.now) (calls_of self.new.cpu.now))
+            (λ _. HasTurned (terms_of self.old.domain.now.plan) self.old.cpu.now.number Try
+            spin.now.id.index (calls_of self.old.cpu.now) (calls_of self.new.cpu.now)) }
+        ensures done { IfSome result (λ done. (x : T) × (y : T)
+            × FnOnceReturnsAtMut W.FnOnce work x done y) }
+    {
+        let key = try_acquire(self.cpu, self.domain, spin.id)?;
+        let (done, key) = spin.cell.with(key, work);
+        release(self.cpu, self.domain, spin.id, key);
+        Some(done)
+    }
+
+    /// The same as `with` under a reader-writer lock, as its writer.
     pub fn write<T, U, W: FnOnce(&mut T) -> U>(&mut self, rw: &Rw<T>, work: W) -> U
         requires lock { IsUnder self.old.domain.now.plan shared rw.now.id.index
             rw.now.cell.table.shared.table_id }
@@ -88,5 +115,27 @@ impl<'a, R: Wait> Seat<'a, R> {
         let (done, key) = rw.cell.with(key, work);
         leave(self.cpu, self.domain, rw.id, key);
         done
+    }
+    /// The same as `try_with` under a reader-writer lock, as its writer.
+    pub fn try_write<T, U, W: FnOnce(&mut T) -> U>(&mut self, rw: &Rw<T>, work: W) -> Option<U>
+        requires lock { IsUnder self.old.domain.now.plan shared rw.now.id.index
+            rw.now.cell.table.shared.table_id }
+        requires free { holds_in (holds_of self.old.cpu.now) rw.now.id.index ≡ false }
+        requires callable { W.IsAlwaysCallable work }
+        ensures name { self.new.cpu.ghost_name ≡ self.old.cpu.ghost_name }
+        ensures domain { self.new.domain.now ≡ self.old.domain.now }
+        ensures before { IsAsBefore self.old.cpu.now self.new.cpu.now }
+        ensures path { MatchOption result
+            (HasMissed (terms_of self.old.domain.now.plan) self.old.cpu.now.number TryWrite
+            rw.now.id.index (calls_of self.old.cpu.now) (calls_of self.new.cpu.now))
+            (λ _. HasWrittenOnce (terms_of self.old.domain.now.plan) self.old.cpu.now.number
+            rw.now.id.index (calls_of self.old.cpu.now) (calls_of self.new.cpu.now)) }
+        ensures done { IfSome result (λ done. (x : T) × (y : T)
+            × FnOnceReturnsAtMut W.FnOnce work x done y) }
+    {
+        let key = try_enter(self.cpu, self.domain, rw.id)?;
+        let (done, key) = rw.cell.with(key, work);
+        leave(self.cpu, self.domain, rw.id, key);
+        Some(done)
     }
 }

@@ -5,11 +5,8 @@
 
 mod turns;
 
-ghost use Rattle.lk_domain.specs.Ends.{Rests};
-
 use lk_abs::{Memory, Mode};
-use lk_domain::Cpu;
-use lk_lock::{Locks, Open, Seat};
+use lk_lock::Locks;
 use std::io;
 use std::sync::Wait;
 use std::thread::Threads;
@@ -27,28 +24,22 @@ fn is_in_order(queue: &[u64]) -> bool {
     ordered
 }
 
-// Whether the queue, as it lies under its lock, has all numbers in order.
-fn check<R: Wait>(rt: &R, cpu: &mut Cpu, shop: &Shop<'_>) -> bool
-    requires rests { Rests shop.now.domain.now 0 cpu.old }
-{
-    let mut seat = Seat::new(rt, shop.domain, cpu);
-    seat.with(shop.queue, |queue: &mut Vec<u64>| -> bool {
-        is_in_order(queue.as_slice())
-    })
-}
-
 fn run<R: Threads + Wait + Sync + AllocGlobal>(rt: &R) -> Result<bool, Memory> {
     let mut locks = Locks::new(rt.alloc())?;
     let count = locks.spin(0u64)?;
     let queue = locks.spin(Vec::with_capacity(rt.alloc(), ROOM)?)?;
-    let Open { domain, mut cpus } = locks.open(Mode::Native, 4)?;
+    let mut open = locks.open(Mode::Native, 4)?;
     let shop = Shop {
-        domain: &domain,
+        domain: &open.domain,
         count: &count,
         queue: &queue,
     };
-    take_all_turns(rt, &mut cpus, &shop);
-    Ok(check(rt, cpus.get_mut(0), &shop))
+    take_all_turns(rt, &mut open.cpus, &shop);
+    let Ok(mut keys) = open.close(rt.alloc()) else {
+        return Err(Memory);
+    };
+    let numbers = queue.into_value(&mut keys);
+    Ok(count.into_value(&mut keys) == ROOM as u64 && is_in_order(numbers.as_slice()))
 }
 
 fn main(rt: HostRuntime) -> io::Result<()> {

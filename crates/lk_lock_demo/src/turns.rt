@@ -33,7 +33,7 @@ fn take_turn<R: Wait>(rt: &R, cpu: &mut Cpu, shop: &Shop<'_>)
     ensures number { cpu.new.number ≡ cpu.old.number }
     ensures rests { Rests shop.now.domain.now cpu.old.number cpu.new }
 {
-    let mut held = Held::lock(rt, shop.domain, cpu, shop.queue);
+    let mut held = Held::lock(cpu, rt, shop.domain, shop.queue);
     let number = held.with(shop.count, |count: &mut u64| -> u64 {
         *count = count.wrapping_add(1);
         *count

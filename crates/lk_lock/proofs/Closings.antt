@@ -1,0 +1,55 @@
+-- The keys of a domain that is closed.
+use Rattle.std.proofs.Common.{◌≡◌, ℕ, zero, suc, ◌<◌, List, [], ◌∷◌, length, Option, Some, None, refl, sym, ap, ◌∙◌, subst, arith}
+use Rattle.std.specs.Prelude.{slice_get, slice_index_or, slice_set}
+use Rattle.atomic_table.specs.Seated.{TableId}
+use Rattle.lk_abs.proofs.Places.{slice_get-set_other}
+use Rattle.lk_cell.specs.Latched.{IsKey}
+use Rattle.lk_domain.specs.Values.{Key, Slot, Fits, AreLaid, lodged}
+use Rattle.lk_domain.specs.declared.plan.Plan.{Plan}
+use Rattle.lk_domain.specs.declared.slot.Stowed.TheVariants.{CellKey}
+use Rattle.lk_lock.specs.Ended.{HasAllKeys, KeepsOthers}
+use Rattle.lk_lock.specs.declared.keys.Keys.{Keys}
+
+-- what stands at a place of the list
+record StandsAt (xs : List (Option Key)) (l : ℕ) : Type 0 where
+  item : Option Key
+  is : slice_get xs l ≡ Some item
+  same : (d : Option Key) → slice_index_or xs l d ≡ item
+
+at : (xs : List (Option Key)) (l : ℕ) → l < length xs → StandsAt xs l
+at [] l low = absurd (omega (arith, low))
+at (x ∷ xs) zero low = record { item = x; is = refl; same = λ d. refl }
+at (x ∷ xs) (suc l) low =
+    let more = at xs l (omega (arith, low)) in
+    record { item = more.item; is = more.is; same = more.same }
+
+-- a slot that fits has a key
+key_in : (cell : TableId) (x : Option Key) → Fits (Some cell) (lodged x)
+    → (key : Key) × (x ≡ Some key) × IsKey cell key
+key_in cell None fits = absurd (let e : None ≡ Some (CellKey fits.0) = fits.1 in let z : ⊥ = cc e in z)
+key_in cell (Some key) fits = (key, refl, subst (λ (k : Key). IsKey cell k) (sym (ap got fits.1)) fits.2)
+  where
+    got : Slot → Key
+    got (Some (CellKey k)) = k
+    got _ = key
+
+-- each lock of the domain has its key among them
+pub all_keys : (k : Plan) (keys : Keys) → AreLaid k keys.by_lock.items → HasAllKeys k keys
+all_keys k keys laid kind l cell is =
+    let xs = keys.by_lock.items in
+    let here = at xs l (subst (λ (n : ℕ). l < n) (sym laid.0) is.low) in
+    let found = key_in cell here.item
+    (subst (λ (x : Option Key). Fits (Some cell) (lodged x)) (here.same None)
+    (subst (λ (o : Option TableId). Fits o (lodged (slice_index_or xs l None))) is.cell_is (laid.1 l None is.low))) in
+    record { key = found.0; key_is = here.is ∙ ap Some found.1; opens = found.2 }
+
+-- where the key of one lock is taken, those of the others stay
+pub others_stay : (l : ℕ) (old new : Keys)
+    → new.by_lock.items ≡ slice_set old.by_lock.items l None → KeepsOthers l old new
+others_stay l old new is other cell apart has =
+    record {
+      key = has.key;
+      key_is = ap (λ (xs : List (Option Key)). slice_get xs other) is
+          ∙ (slice_get-set_other None old.by_lock.items l other apart ∙ has.key_is);
+      opens = has.opens;
+    }
