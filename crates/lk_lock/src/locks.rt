@@ -125,7 +125,8 @@ impl Locks {
         Ok(Rw { id, cell })
     }
 
-    /// The locks, all of one family, and so many processors. There is one lock at least.
+    /// The locks, all of one family, and so many processors, all on one socket. There is at least
+    /// one lock.
     ///
     /// # Errors
     ///
@@ -139,17 +140,36 @@ impl Locks {
         ensures each { IfOk result (λ all. length all.cpus.items ≡ cpus_of all.domain.plan) }
         ensures rest { IfOk result (λ all. AllRest all.domain all.cpus.items) }
     {
+        let sockets = List::filled(self.alloc, 0, threads as usize)?;
+        self.open_on(mode, Topology { sockets })
+    }
+
+    /// The same, with a processor for each socket that the topology lists. In mode `cna` a lock is
+    /// handed to a waiter on the holder's socket first.
+    ///
+    /// # Errors
+    ///
+    /// There is not enough memory. No value comes back.
+    pub fn open_on(self, mode: Mode, topology: Topology) -> Result<Open, Memory>
+        requires some { 0 < length self.kinds.items }
+        requires threads { (0 < length topology.sockets.items)
+            × (length topology.sockets.items ≤ 64) }
+        requires awake { halts mode ≡ false }
+        ensures made { IfOk result (λ all. AreMade self all.domain.plan) }
+        ensures many { IfOk result (λ all. length all.cpus.items
+            ≡ length topology.sockets.items) }
+        ensures rest { IfOk result (λ all. AllRest all.domain all.cpus.items) }
+    {
         let Locks { alloc, kinds, keys } = self;
+        let threads = topology.sockets.len();
         let plan = Plan {
             format: Format::One,
             mode,
-            topology: Topology {
-                sockets: List::filled(alloc, 0, threads as usize)?,
-            },
+            topology,
             threshold: THRESHOLD,
             locks: kinds,
             balances: List::new(alloc, 0)?,
-            shares: List::filled(alloc, 0, threads as usize)?,
+            shares: List::filled(alloc, 0, threads)?,
             cells: None,
         };
         let (domain, cpus) = Domain::with_values(alloc, &plan, keys)?;
