@@ -1,5 +1,5 @@
 #!/usr/bin/env python3
-"""race.py [--runs N] [--kind spin|rw] [--crowd | --alignments] PROGRAM [MODE..]
+"""race.py [--runs N] [--kind spin|rw] [--crowd | --alignments | --values] PROGRAM [MODE..]
 
 Compares the running locks of these modes (`virt`, `native`, `cna` and `pv`, if none is said) with plain Rust. PROGRAM is a built
 `lk_race` (`rt run` in crates/lk_race leaves it in out/). Beside each mode stands the same lock in plain Rust, over atomic words with every
@@ -10,7 +10,7 @@ same machine; printed are the least and the middle nanoseconds a turn, each agai
 nanoseconds of processor time a turn, user and system, of all threads.
 
 spin, bare   a turn takes the lock and frees it
-spin, work   it changes two numbers in between, each by a load and a store
+spin, work   it changes two numbers in between: those of the value under the lock; in `pv` two atomics, each by a load and a store
 rw, bare     a turn takes the lock as a reader and frees it, and each hundredth as a writer; not in `pv`, which has no such lock
 rw, work     a reader compares the two numbers, and a writer changes them
 
@@ -30,6 +30,9 @@ middle, such luck is left; where other work runs beside it, the times are those 
              is linked is PROGRAM.o, which `rt run` leaves beside it. A race has 400,000 turns, and the figure of an alignment is the
              least of the N runs. Printed are the least, the middle and the most of the eight, of PROGRAM and of plain Rust, and the
              ratio of the middles
+--values     in place of these: a turn takes a spinlock, adds one to a number of its value, and frees it, with a value of 8 bytes and one
+             of 1 KiB, on one, two and four threads. Beside each mode stands the same lock in plain Rust with the value in an
+             UnsafeCell, and beside all std's Mutex and the Mutex of Rattle's library, which has std's as its peer. `pv` has no values
 """
 import argparse
 import os
@@ -48,6 +51,8 @@ FEW_TURNS = {1: 400000, 2: 80000, 8: 64000}
 ALIGNED_TURNS = 400000
 PADS = range(16, 144, 16)
 MODES = ["virt", "native", "cna", "pv"]
+SIZES = {"spin8": "8 bytes", "spin1024": "1 KiB"}
+VALUE_TURNS = {1: 400000, 2: 400000, 4: 400000}
 QUEUES = ["native", "cna"]
 OF_STD = {"spin": "Mutex", "rw": "RwLock"}
 
@@ -109,6 +114,18 @@ def race_crowds(locks, runs):
         race("spin, work, %d threads" % threads, locks, threads, few, 1, runs)
 
 
+def race_values(modes, program, plain, runs):
+    """The races for values of each size."""
+    for kind, size in SIZES.items():
+        locks = {"plain mutex": [plain, "std", kind], "mutex": [program, "mutex", kind]}
+        for mode in [mode for mode in modes if mode != "pv"]:
+            locks["plain " + mode] = [plain, mode, kind]
+            locks[mode] = [program, mode, kind]
+        for threads, turns in VALUE_TURNS.items():
+            title = "%s, %d thread%s" % (size, threads, "s" * (threads > 1))
+            race(title, locks, threads, {lock: turns for lock in locks}, 1, runs)
+
+
 def padded(folder):
     """For each amount of dead code an object file of it. Linkers put code of this name in front of other code, and the flag R keeps it."""
     objects = []
@@ -162,6 +179,7 @@ def main():
     said.add_argument("--kind", choices=list(OF_STD))
     said.add_argument("--crowd", action="store_true")
     said.add_argument("--alignments", action="store_true")
+    said.add_argument("--values", action="store_true")
     said.add_argument("program")
     said.add_argument("modes", nargs="*")
     args = said.parse_args()
@@ -170,6 +188,8 @@ def main():
         said.error("a mode is one of " + ", ".join(MODES))
     if args.crowd and (args.alignments or args.kind == "rw"):
         said.error("a crowd races for spinlocks, and not at each alignment")
+    if args.values and (args.crowd or args.alignments or args.kind):
+        said.error("values have a table of their own")
     with tempfile.TemporaryDirectory() as scratch:
         race_in(scratch, args, modes, [args.kind] if args.kind else list(OF_STD))
 
@@ -187,6 +207,9 @@ def race_in(scratch, args, modes, kinds):
     compile_plain(plain)
     heads = "race", "lock", "least ns", "middle ns", "least ratio", "middle ratio", "used ns"
     print("%-24s %-16s %10s %10s %12s %12s %10s" % heads)
+    if args.values:
+        race_values(modes, program, plain, args.runs)
+        return
     if args.crowd:
         race_crowds(locks_of("spin", modes, program, plain), args.runs)
         return

@@ -1,14 +1,15 @@
 // The locks of `lk_run` and `lk_pvdomain` in plain Rust, over atomic words and by the same steps, and the Mutex and the RwLock of std:
 // to compare the speed of `lk_race`, whose words and answers these are. `bench/race.py` compiles and runs it.
-// race virt|native|cna|std spin|rw THREADS TURNS WORK
+// race virt|native|cna|std spin8|spin|spin1024|rw THREADS TURNS WORK
 // race pv spin THREADS TURNS WORK [SPINS]
 mod race_pv;
+mod race_values;
 
 use race_pv::Paravirtual;
 use std::hint::spin_loop;
+use std::sync::RwLock;
 use std::sync::atomic::{AtomicU64, Ordering::SeqCst};
-use std::sync::{Mutex, RwLock};
-use std::time::Instant;
+use std::time::{Duration, Instant};
 
 #[derive(Default)]
 struct Numbers {
@@ -415,19 +416,6 @@ impl<L: Spin> Lock for Shared<L> {
     }
 }
 
-impl Lock for Mutex<()> {
-    #[inline]
-    fn read(&self, cpu: &mut Cpu, within: impl FnOnce()) {
-        Lock::write(self, cpu, within);
-    }
-
-    #[inline]
-    fn write(&self, _cpu: &mut Cpu, within: impl FnOnce()) {
-        let _held = self.lock().unwrap();
-        within();
-    }
-}
-
 impl Lock for RwLock<()> {
     #[inline]
     fn read(&self, _cpu: &mut Cpu, within: impl FnOnce()) {
@@ -466,8 +454,13 @@ fn run(lock: impl Lock, shared: bool, threads: u32, turns: u32, work: u16) {
     let writes = if shared { turns / 100 } else { turns };
     let wanted = u64::from(threads) * u64::from(writes) * u64::from(work);
     let right = (first, second) == (wanted, wanted) && numbers.torn.load(SeqCst) == 0;
-    println!("turns {}", u64::from(threads) * u64::from(turns));
-    println!("numbers {first} {second}");
+    tell(u64::from(threads) * u64::from(turns), &[first, second], right, time);
+}
+
+fn tell(turns: u64, numbers: &[u64], right: bool, time: Duration) {
+    let numbers: Vec<String> = numbers.iter().map(u64::to_string).collect();
+    println!("turns {turns}");
+    println!("numbers {}", numbers.join(" "));
     println!("{}", if right { "right" } else { "wrong" });
     eprintln!("{} microseconds", time.as_micros());
 }
@@ -481,11 +474,10 @@ fn main() {
     let work = work as u16;
     let word = Word::default();
     match (mode.as_str(), kind.as_str()) {
-        ("virt", "spin") => run(Alone(TestAndSet::default()), false, threads, turns, work),
-        ("native", "spin") => run(Alone(Queue::<false>::new(threads)), false, threads, turns, work),
-        ("cna", "spin") => run(Alone(Queue::<true>::new(threads)), false, threads, turns, work),
         ("pv", "spin") => run(Alone(Paravirtual::new(threads, spins)), false, threads, turns, work),
-        ("std", "spin") => run(Mutex::new(()), false, threads, turns, work),
+        (mode, "spin8") => race_values::race(mode, 0u64, threads, turns, work),
+        (mode, "spin") => race_values::race(mode, [0u64; 2], threads, turns, work),
+        (mode, "spin1024") => race_values::race(mode, [0u64; 128], threads, turns, work),
         ("virt", "rw") => run(Shared { word, wait: TestAndSet::default() }, true, threads, turns, work),
         ("native", "rw") => run(Shared { word, wait: Queue::<false>::new(threads) }, true, threads, turns, work),
         ("cna", "rw") => run(Shared { word, wait: Queue::<true>::new(threads) }, true, threads, turns, work),

@@ -1,38 +1,50 @@
-//! Threads acquire one lock in turn, and change two numbers while they hold it.
+//! Threads acquire one lock in turn, and change what lies under it while they hold it.
 //!
-//! `lk_race MODE KIND THREADS TURNS WORK` makes a domain with one lock of this mode and kind, and a
-//! processor for each thread. In each of its turns a thread acquires the lock, changes the numbers
-//! WORK times, and releases the lock. Under a reader-writer lock it compares the numbers as a
-//! reader in 99 of 100 turns. At the end the program writes the numbers to standard output, and to
-//! standard error the time that the turns took.
+//! `lk_race MODE spin THREADS TURNS WORK` makes a domain of this mode with one spinlock, under
+//! which lie two numbers, and a processor for each thread. In each of its turns a thread acquires
+//! the lock, raises the numbers WORK times, and releases the lock. At the end the program writes
+//! the numbers to standard output, and to standard error the time that the turns took. For `spin8`
+//! one number lies under the lock, and for `spin1024` one number at the head of 1 KiB. With `mutex`
+//! as MODE the lock is a mutex of the standard library.
 //!
-//! `lk_race pv spin THREADS TURNS WORK [SPINS]` does so with the paravirtual lock. A waiter spins
-//! for at most SPINS turns, or 32,768, and then sleeps until it is kicked.
+//! `lk_race MODE rw THREADS TURNS WORK` takes a reader-writer lock: in 99 of 100 turns a thread
+//! compares two numbers WORK times as a reader, and in the last one it changes them.
 //!
-//! This is a whole program with locks for threads: a plan, the domain that is made of it with its
-//! processors, the calls, and the end of the domain.
+//! `lk_race pv spin THREADS TURNS WORK [SPINS]` takes the paravirtual lock. A waiter spins for at
+//! most SPINS turns, or 32,768, and then sleeps until it is kicked.
+//!
+//! This is a whole program with locks for threads. Its spinlocks have values. For `rw` and `pv` it
+//! has a plan, the domain that is made of it with its processors, the calls, and the end of the
+//! domain.
 #![tactic(auto)]
 
 mod course;
+mod mutex_race;
 mod numbers;
 mod plan;
 mod pv_race;
-mod race;
+mod rw_race;
+mod spin_race;
+mod value;
 mod words;
 
 use lk_abs::Memory;
 use lk_domain::{Domain, close};
+use lk_lock::{Locks, Open};
 use lk_pvdomain::{PvDomain, pv_close};
+use mutex_race::{MutexRace, take_all_mutex_turns};
 use numbers::Numbers;
-use plan::{plan_of, pv_plan_of};
+use plan::{pv_plan_of, rw_plan_of, two_sockets};
 use pv_race::{PvRace, take_all_pv_turns};
-use race::{Race, take_all_turns};
+use rw_race::{RwRace, share_all_turns};
+use spin_race::{Size, SpinRace, Track, read, take_all_turns};
 use std::io;
 use std::process::ExitCode;
 use std::rt::Clock;
-use std::sync::Wait;
+use std::sync::{Mutex, Wait};
 use std::thread::Threads;
 use std::time::{Duration, Instant};
+use value::Value;
 use words::{Asked, race_of};
 
 // The exit status of a race whose numbers are wrong, or for which there was not enough memory.
@@ -41,12 +53,12 @@ const WRONG: u8 = 1;
 // The exit status for words that ask for no race.
 const USAGE: u8 = 2;
 
-// What a race came to, and what both numbers have to be.
+// What a race came to, and what each of the numbers has to be.
 #[derive(Drop)]
 struct Outcome {
     turns: u64,
     wanted: u64,
-    numbers: (u64, u64),
+    numbers: Vec<u64>,
     were_one: bool,
     time: io::Result<Duration>,
 }
@@ -59,22 +71,69 @@ fn time_since(rt: &impl Clock, start: io::Result<Instant>) -> io::Result<Duratio
     }
 }
 
-// A race whose waiters spin, from the plan of its domain to the domain's end.
-fn spin<R: Threads + Wait + Sync + AllocGlobal + Clock>(
+// A race for a spinlock with this value.
+fn spin<R: Threads + Wait + Sync + AllocGlobal + Clock, V: Value + Send + Drop>(
     rt: &R,
-    race: &Race,
+    race: &SpinRace,
+    value: V,
 ) -> Result<Outcome, Memory> {
-    let plan = plan_of(rt.alloc(), race)?;
+    let course = race.course;
+    let mut locks = Locks::new(rt.alloc())?;
+    let value = locks.spin(value)?;
+    let topology = two_sockets(rt.alloc(), course.threads)?;
+    let Open { domain, mut cpus } = locks.open_on(race.mode, topology)?;
+    let track = Track {
+        domain: &domain,
+        value: &value,
+    };
+    let start = Instant::now(rt);
+    take_all_turns(rt, &track, &course, &mut cpus);
+    let time = time_since(rt, start);
+    Ok(Outcome {
+        turns: course.all_turns(),
+        wanted: course.changes(course.turns),
+        numbers: read(rt, rt.alloc(), cpus.get_mut(0), &track)?,
+        were_one: true,
+        time,
+    })
+}
+
+// A race for a mutex of the standard library with this value.
+fn mutex<R: Threads + Wait + Sync + AllocGlobal + Clock, V: Value + Send + Drop>(
+    rt: &R,
+    race: &MutexRace,
+    value: V,
+) -> Result<Outcome, Memory> {
+    let course = race.course;
+    let value = Mutex::new(value);
+    let start = Instant::now(rt);
+    take_all_mutex_turns(rt, rt.alloc(), &value, &course)?;
+    let time = time_since(rt, start);
+    Ok(Outcome {
+        turns: course.all_turns(),
+        wanted: course.changes(course.turns),
+        numbers: value.into_inner().numbers().to_vec(rt.alloc())?,
+        were_one: true,
+        time,
+    })
+}
+
+// A race for a reader-writer lock, from the plan of its domain to the domain's end.
+fn rw<R: Threads + Wait + Sync + AllocGlobal + Clock>(
+    rt: &R,
+    race: &RwRace,
+) -> Result<Outcome, Memory> {
+    let plan = rw_plan_of(rt.alloc(), race)?;
     let (domain, mut cpus) = Domain::new(rt.alloc(), &plan)?;
     let numbers = Numbers::new();
     let start = Instant::now(rt);
-    take_all_turns(rt, &domain, &numbers, race, &mut cpus);
+    share_all_turns(rt, &domain, &numbers, race, &mut cpus);
     let time = time_since(rt, start);
     match close(rt.alloc(), domain, cpus) {
         Ok(_) => Ok(Outcome {
             turns: race.course.all_turns(),
             wanted: race.course.changes(race.writes()),
-            numbers: numbers.read(),
+            numbers: numbers.read(rt.alloc())?,
             were_one: numbers.were_one(),
             time,
         }),
@@ -82,8 +141,8 @@ fn spin<R: Threads + Wait + Sync + AllocGlobal + Clock>(
     }
 }
 
-// A race whose waiters halt.
-fn halt<R: Threads + Wait + Sync + AllocGlobal + Clock>(
+// A race for the paravirtual lock.
+fn pv<R: Threads + Wait + Sync + AllocGlobal + Clock>(
     rt: &R,
     race: &PvRace,
 ) -> Result<Outcome, Memory> {
@@ -97,7 +156,7 @@ fn halt<R: Threads + Wait + Sync + AllocGlobal + Clock>(
         Ok(_) => Ok(Outcome {
             turns: race.course.all_turns(),
             wanted: race.course.changes(race.course.turns),
-            numbers: numbers.read(),
+            numbers: numbers.read(rt.alloc())?,
             were_one: numbers.were_one(),
             time,
         }),
@@ -111,17 +170,31 @@ fn carry_out<R: Threads + Wait + Sync + AllocGlobal + Clock>(
     asked: &Asked,
 ) -> Result<Outcome, Memory> {
     match asked {
-        Asked::Spins(race) => spin(rt, race),
-        Asked::Halts(race) => halt(rt, race),
+        Asked::Spin(race) => match race.size {
+            Size::One => spin(rt, race, 0u64),
+            Size::Two => spin(rt, race, [0u64; 2]),
+            Size::Large => spin(rt, race, [0u64; 128]),
+        },
+        Asked::Mutex(race) => match race.size {
+            Size::One => mutex(rt, race, 0u64),
+            Size::Two => mutex(rt, race, [0u64; 2]),
+            Size::Large => mutex(rt, race, [0u64; 128]),
+        },
+        Asked::Rw(race) => rw(rt, race),
+        Asked::Pv(race) => pv(rt, race),
     }
 }
 
 // Writes what a race came to. Returns whether the numbers are what they have to be.
 fn tell(rt: &(impl Print + Eprint), outcome: Outcome) -> io::Result<bool> {
-    let (first, second) = outcome.numbers;
-    let right = outcome.were_one && first == outcome.wanted && second == outcome.wanted;
     println!(rt; "turns {}", outcome.turns)?;
-    println!(rt; "numbers {first} {second}")?;
+    print!(rt; "numbers")?;
+    let mut right = outcome.were_one;
+    for number in &outcome.numbers {
+        print!(rt; " {number}")?;
+        right = right && *number == outcome.wanted;
+    }
+    println!(rt)?;
     println!(rt; "{}", if right { "right" } else { "wrong" })?;
     eprintln!(rt; "{} microseconds", outcome.time?.as_micros())?;
     Ok(right)
@@ -129,7 +202,8 @@ fn tell(rt: &(impl Print + Eprint), outcome: Outcome) -> io::Result<bool> {
 
 // How the program is called.
 fn tell_usage(rt: &impl Eprint) -> io::Result<()> {
-    eprintln!(rt; "usage: lk_race virt|native|cna spin|rw THREADS TURNS WORK")?;
+    eprintln!(rt; "usage: lk_race virt|native|cna|mutex spin8|spin|spin1024 THREADS TURNS WORK")?;
+    eprintln!(rt; "       lk_race virt|native|cna rw THREADS TURNS WORK")?;
     eprintln!(rt; "       lk_race pv spin THREADS TURNS WORK [SPINS]")?;
     Ok(())
 }

@@ -1,5 +1,7 @@
-// What the lock guards: two numbers that are changed together.
+// What a reader-writer lock or a paravirtual lock guards: two numbers that are changed together.
 
+use lk_abs::Memory;
+use std::alloc::Global;
 use std::sync::atomic::{AtomicU64, Ordering};
 
 /// Two numbers that are always changed together. A change reads a number and then writes it, so two
@@ -48,11 +50,14 @@ impl Numbers {
     }
 
     /// Both numbers, once all threads have ended.
-    pub fn read(&self) -> (u64, u64) {
-        (
-            self.first.load(Ordering::SeqCst),
-            self.second.load(Ordering::SeqCst),
-        )
+    ///
+    /// # Errors
+    ///
+    /// There is not enough memory.
+    pub fn read(&self, alloc: Global) -> Result<Vec<u64>, Memory> {
+        let first = self.first.load(Ordering::SeqCst);
+        let second = self.second.load(Ordering::SeqCst);
+        Ok([first, second].to_vec(alloc)?)
     }
 
     /// Whether no comparison found them different.

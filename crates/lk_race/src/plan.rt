@@ -1,11 +1,12 @@
 // The plans of the domains.
 ghost use Rattle.std.specs.Prelude.{◌≡◌, ◌≤◌, IfOk, length};
+ghost use Rattle.lk_abs.specs.declared.names.Kind.TheVariants.{Rw};
 ghost use Rattle.lk_domain.specs.Plans.{IsLawfulPlan, cpus_of, kind_at, locks_of};
 ghost use Rattle.lk_pvdomain.specs.PvPlans.{IsLawful};
 
 use crate::pv_race::PvRace;
-use crate::race::Race;
-use lk_abs::{Format, List, Memory, Topology};
+use crate::rw_race::RwRace;
+use lk_abs::{Format, Kind, List, Memory, Topology};
 use lk_domain::Plan;
 use lk_pvdomain::PvPlan;
 use std::alloc::Global;
@@ -13,37 +14,39 @@ use std::alloc::Global;
 // The most handoffs that may pass a waiter that was moved aside.
 const THRESHOLD: u32 = 16;
 
-// Two sockets: processors with even numbers are on one, and those with odd numbers on the other.
-fn sockets(alloc: Global, threads: u32) -> Result<List<u32>, Memory>
-    ensures { IfOk result (λ sockets. length sockets.items ≡ threads) }
+/// Two sockets: processors with even numbers are on one, and those with odd numbers on the other.
+///
+/// # Errors
+///
+/// There is not enough memory.
+pub fn two_sockets(alloc: Global, threads: u32) -> Result<Topology, Memory>
+    ensures { IfOk result (λ topology. length topology.sockets.items ≡ threads) }
 {
     let mut sockets = List::new(alloc, threads as usize)?;
     for cpu in 0..threads {
         sockets.push(cpu % 2);
     }
-    Ok(sockets)
+    Ok(Topology { sockets })
 }
 
-/// A plan with one lock of the race's kind, and a processor for each thread, on two sockets. The
+/// A plan with one reader-writer lock, and a processor for each thread, on two sockets. The
 /// ledger has no accounts, and no processor may write an entry.
 ///
 /// # Errors
 ///
 /// There is not enough memory.
-pub fn plan_of(alloc: Global, race: &Race) -> Result<Plan, Memory>
+pub fn rw_plan_of(alloc: Global, race: &RwRace) -> Result<Plan, Memory>
     ensures lawful { IfOk result (λ plan. IsLawfulPlan plan) }
     ensures cpus { IfOk result (λ plan. cpus_of plan ≡ race.now.course.threads) }
     ensures locks { IfOk result (λ plan. locks_of plan ≡ 1) }
-    ensures kind { IfOk result (λ plan. kind_at plan 0 ≡ race.now.kind) }
+    ensures kind { IfOk result (λ plan. kind_at plan 0 ≡ Rw) }
 {
     Ok(Plan {
         format: Format::One,
         mode: race.mode,
-        topology: Topology {
-            sockets: sockets(alloc, race.course.threads)?,
-        },
+        topology: two_sockets(alloc, race.course.threads)?,
         threshold: THRESHOLD,
-        locks: List::filled(alloc, race.kind, 1)?,
+        locks: List::filled(alloc, Kind::Rw, 1)?,
         balances: List::new(alloc, 0)?,
         shares: List::filled(alloc, 0, race.course.threads as usize)?,
         cells: None,

@@ -3,9 +3,11 @@ ghost use Rattle.std.specs.Prelude.{◌≡◌, IfSome, false};
 ghost use Rattle.lk_law.specs.Agree.{halts};
 
 use crate::course::Course;
+use crate::mutex_race::MutexRace;
 use crate::pv_race::PvRace;
-use crate::race::Race;
-use lk_abs::{Kind, Mode};
+use crate::rw_race::RwRace;
+use crate::spin_race::{Size, SpinRace};
+use lk_abs::Mode;
 use std::env::{self, Env};
 
 // How many turns a waiter spins before it halts, if no argument says it.
@@ -14,10 +16,14 @@ const SPINS: u16 = 32_768;
 /// The race for which the program's arguments ask.
 #[derive(Clone, Copy)]
 pub enum Asked {
-    /// A race for a lock whose waiters spin.
-    Spins(Race),
+    /// A race for a spinlock with a value.
+    Spin(SpinRace),
+    /// A race for a mutex of the standard library.
+    Mutex(MutexRace),
+    /// A race for a reader-writer lock.
+    Rw(RwRace),
     /// A race for a lock whose waiters halt.
-    Halts(PvRace),
+    Pv(PvRace),
 }
 
 // The mode that a word names, if waiters of that mode spin.
@@ -32,34 +38,37 @@ fn mode_of(word: &str) -> Option<Mode>
     }
 }
 
-// The kind of lock that a word names.
-fn kind_of(word: &str) -> Option<Kind> {
-    match word {
-        "spin" => Some(Kind::Spin),
-        "rw" => Some(Kind::Rw),
+// The size of the value under a lock of the kind that a word names, if that lock has one.
+fn size_of(kind: &str) -> Option<Size> {
+    match kind {
+        "spin8" => Some(Size::One),
+        "spin" => Some(Size::Two),
+        "spin1024" => Some(Size::Large),
         _ => None,
     }
 }
 
 // A race for a lock whose waiters halt, which is a spinlock.
-fn halting(kind: Kind, spins: Option<u16>, course: Course) -> Option<Asked> {
+fn halting(kind: &str, spins: Option<u16>, course: Course) -> Option<Asked> {
     let spins = spins.unwrap_or(SPINS);
-    if spins < 1 {
+    if spins < 1 || kind != "spin" {
         return None;
     }
-    match kind {
-        Kind::Spin => Some(Asked::Halts(PvRace { spins, course })),
-        Kind::Rw => None,
-    }
+    Some(Asked::Pv(PvRace { spins, course }))
 }
 
-// A race for a lock of this mode, whose waiters never halt.
-fn spinning(mode: &str, kind: Kind, spins: Option<u16>, course: Course) -> Option<Asked> {
-    if spins.is_some() {
-        return None;
+// A race for a lock whose waiters never halt.
+fn spinning(mode: &str, kind: &str, course: Course) -> Option<Asked> {
+    if kind == "rw" {
+        let mode = mode_of(mode)?;
+        return Some(Asked::Rw(RwRace { mode, course }));
+    }
+    let size = size_of(kind)?;
+    if mode == "mutex" {
+        return Some(Asked::Mutex(MutexRace { size, course }));
     }
     let mode = mode_of(mode)?;
-    Some(Asked::Spins(Race { mode, kind, course }))
+    Some(Asked::Spin(SpinRace { mode, size, course }))
 }
 
 /// The race for which the program's arguments ask. Returns `None` for other arguments, and if they
@@ -67,7 +76,7 @@ fn spinning(mode: &str, kind: Kind, spins: Option<u16>, course: Course) -> Optio
 pub fn race_of<R: Env + Alloc>(rt: &R) -> Option<Asked> {
     let mut words = env::args(rt).ok()?.skip(1);
     let mode = words.next()?;
-    let kind = kind_of(words.next()?.as_str())?;
+    let kind = words.next()?;
     let threads = words.next()?.parse::<u32>().ok()?;
     let turns = words.next()?.parse::<u32>().ok()?;
     let work = words.next()?.parse::<u16>().ok()?;
@@ -83,8 +92,9 @@ pub fn race_of<R: Env + Alloc>(rt: &R) -> Option<Asked> {
         turns,
         work,
     };
-    match mode.as_str() {
-        "pv" => halting(kind, spins, course),
-        mode => spinning(mode, kind, spins, course),
+    match (mode.as_str(), spins) {
+        ("pv", spins) => halting(kind.as_str(), spins, course),
+        (mode, None) => spinning(mode, kind.as_str(), course),
+        (_, Some(_)) => None,
     }
 }

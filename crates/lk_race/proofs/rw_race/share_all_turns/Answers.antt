@@ -3,7 +3,7 @@ use Rattle.std.proofs.Crossing.{crosses}
 use Rattle.lk_domain.proofs.Crossing.{domain_sync, domain_field_sync}
 use Rattle.lk_abs.proofs.names.Mode.TheSendSync as mode
 use Rattle.lk_abs.proofs.names.Kind.TheSendSync as kind
-use Rattle.lk_race.proofs.race.take_all_turns.Goals as goal
+use Rattle.lk_race.proofs.rw_race.share_all_turns.Goals as goal
 
 pub for_each_mut-requires-sync-F : goal.for_each_mut-requires-sync-F
 for_each_mut-requires-sync-F g c κs within =

@@ -1,5 +1,5 @@
 use Rattle.std.proofs.Common.{◌≡◌, length}
-use Rattle.lk_race.proofs.plan.sockets.Given as goal
+use Rattle.lk_race.proofs.plan.two_sockets.Given as goal
 
 abbrev pub invariant-loop-cpu : goal.invariant-loop-cpu
 invariant-loop-cpu l = record {
