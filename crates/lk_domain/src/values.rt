@@ -44,7 +44,8 @@ pub fn take(seat: &mut Right, table: &Words, plan: &Plan, lock: u32) -> Key
 {
     let word = quiet_word(plan, lock);
     table.shared.load::<TakeValue>(seat, word);
-    match table.shared.exchange(seat, 1 + lock as usize, None) {
+    let place = seat.slot_mut(&table.shared, 1 + lock as usize);
+    match place.take() {
         Some(Stowed::CellKey(key)) => key,
         Some(Stowed::Entries(_)) => unreachable!(),
         None => unreachable!(),
@@ -65,11 +66,13 @@ pub fn bring(seat: &mut Right, table: &Words, plan: &Plan, lock: u32, key: Key)
     ensures carried { seat.new.me.1 ≡ carried_of seat.new.me.0 }
 {
     let word = quiet_word(plan, lock);
-    drop(
-        table
-            .shared
-            .exchange(seat, 1 + lock as usize, Some(Stowed::CellKey(key))),
-    );
+    match table
+        .shared
+        .exchange(seat, 1 + lock as usize, Some(Stowed::CellKey(key)))
+    {
+        None => {}
+        Some(_) => unreachable!(),
+    }
     table.shared.load::<BringValue>(seat, word);
 }
 

@@ -1,4 +1,4 @@
-use Rattle.std.proofs.Common.{refl, sym, ap, ◌∙◌, ◌≡◌, ◌+◌, ◌∷◌, List, ℕ, Some, None, arith}
+use Rattle.std.proofs.Common.{refl, sym, ap, ◌∙◌, ◌≡◌, ◌+◌, ◌∷◌, List, ℕ, Some, None, arith, get_or}
 use mathlib.Core.Option.{none}
 use Rattle.atomic_table.specs.Table.{step, Me, rest}
 use Rattle.lk_domain.specs.Keeps.{Slot}
@@ -20,6 +20,14 @@ exchange-requires c =
       c.requires.seat.table_is,
       (None, at ∙ ap (λ (l : List (ℕ × Slot)). (1 + c.args.lock, None) ∷ rest l) (sym at)),
     )
+
+pub unreachable-requires : goal.unreachable-requires
+unreachable-requires c =
+    let new = c.requires.newest in
+    let at = c.requires.seat.carried ∙ (λ i. carried_with (new.is i) (c.requires.home i)) in
+    let no : Some c.in-Some.field-0 ≡ None =
+    sym c.in-Some.is ∙ ap (λ (l : List (ℕ × Slot)). (get_or l 0 (0, None)).1) (sym c.exchange.ensures.2 ∙ at) in
+    cc
 
 pub load-requires : goal.load-requires
 load-requires c =

@@ -25,56 +25,60 @@ load-requires c =
           at.plan_is c.quiet_word-word.ensures refl c.requires.lock at.number c.requires.valued c.requires.held,
     )
 
-pub exchange-requires : goal.exchange-requires
-exchange-requires c =
+pub slot_mut-place-requires : goal.slot_mut-place-requires
+slot_mut-place-requires c =
     let t = c.load.ensures.2 c.args.lock (c.quiet_word-word.ensures ∙ ap (λ (k : Plan). quiet_at k c.args.lock) (sym c.requires.seat.plan_is)) in
     let at = ap (λ (x : Me Slot View). x.1) t.seat in (
       c.load.ensures.0 ∙ c.requires.seat.table_is,
       (Some (CellKey t.key), at ∙ ap (λ (l : List (ℕ × Slot)). (1 + c.args.lock, Some (CellKey t.key)) ∷ rest l) (sym at)),
     )
 
+-- one slot lies at the head of a list
+same_head : {x y : Slot} {xs ys zs : List (ℕ × Slot)} (n : ℕ) → xs ≡ (n, x) ∷ ys → xs ≡ (n, y) ∷ zs → x ≡ y
+same_head n a b = ap (λ (l : List (ℕ × Slot)). (get_or l 0 (0, None)).1) (sym a ∙ b)
+
 pub unreachable-requires : goal.unreachable-requires
 unreachable-requires c =
     let t = c.load.ensures.2 c.args.lock (c.quiet_word-word.ensures ∙ ap (λ (k : Plan). quiet_at k c.args.lock) (sym c.requires.seat.plan_is)) in
-    let at = ap (λ (x : Me Slot View). x.1) t.seat in
+    let lain : c.slot_mut-place.result.now ≡ Some (CellKey t.key) =
+    same_head (1 + c.args.lock) c.slot_mut-place.ensures.value (ap (λ (x : Me Slot View). x.1) t.seat) in
     let no : Some (Entries c.in-Some-Entries.field-0-0) ≡ Some (CellKey t.key) =
-    sym (c.in-Some-Entries.is ∙ ap Some c.in-Some-Entries.field-0-is)
-    ∙ ap (λ (l : List (ℕ × Slot)). (get_or l 0 (0, None)).1) (sym c.exchange.ensures.2 ∙ at) in
+    sym (c.in-Some-Entries.is ∙ ap Some c.in-Some-Entries.field-0-is) ∙ (c.take.ensures.value ∙ lain) in
     cc
 
 pub unreachable-requires-in-None : goal.unreachable-requires-in-None
 unreachable-requires-in-None c =
     let t = c.load.ensures.2 c.args.lock (c.quiet_word-word.ensures ∙ ap (λ (k : Plan). quiet_at k c.args.lock) (sym c.requires.seat.plan_is)) in
-    let at = ap (λ (x : Me Slot View). x.1) t.seat in
-    let no : None ≡ Some (CellKey t.key) =
-    sym c.in-None.is ∙ ap (λ (l : List (ℕ × Slot)). (get_or l 0 (0, None)).1) (sym c.exchange.ensures.2 ∙ at) in
+    let lain : c.slot_mut-place.result.now ≡ Some (CellKey t.key) =
+    same_head (1 + c.args.lock) c.slot_mut-place.ensures.value (ap (λ (x : Me Slot View). x.1) t.seat) in
+    let no : None ≡ Some (CellKey t.key) = sym c.in-None.is ∙ (c.take.ensures.value ∙ lain) in
     cc
 
 pub returns-clause-view : goal.returns-clause-view
 returns-clause-view c =
     let t = c.load.ensures.2 c.args.lock (c.quiet_word-word.ensures ∙ ap (λ (k : Plan). quiet_at k c.args.lock) (sym c.requires.seat.plan_is)) in
-    ap (λ (x : Me Slot View). x.0) c.exchange.ensures.3 ∙ ap (λ (x : Me Slot View). x.0) t.seat
+    ap (λ (x : Me Slot View). x.0) t.seat
 
 pub returns-clause-carried : goal.returns-clause-carried
 returns-clause-carried c =
     let t = c.load.ensures.2 c.args.lock (c.quiet_word-word.ensures ∙ ap (λ (k : Plan). quiet_at k c.args.lock) (sym c.requires.seat.plan_is)) in
     let seat = c.args.seat.now in
     let l = c.args.lock in
-    let view = ap (λ (x : Me Slot View). x.0) c.exchange.ensures.3 ∙ ap (λ (x : Me Slot View). x.0) t.seat in
     let under : rest c.load.new.seat.me.1 ≡ empty_places seat.me.0.who.outs =
     ap (λ (x : Me Slot View). rest x.1) t.seat
     ∙ (c.requires.seat.carried ∙ ap (carried_with seat.me.0.who.outs) c.requires.home) in
-    ap (λ (x : Me Slot View). x.1) c.exchange.ensures.3
+    ap (λ (v : Slot). (1 + l, v) ∷ rest c.load.new.seat.me.1) c.take.ensures.after
     ∙ (ap (λ (xs : List (ℕ × Slot)). (1 + l, None) ∷ xs) under
-    ∙ (ap (carried_with (l ∷ seat.me.0.who.outs)) (sym c.requires.home) ∙ ap carried_of (sym view)))
+    ∙ (ap (carried_with (l ∷ seat.me.0.who.outs)) (sym c.requires.home)
+    ∙ ap carried_of (sym (ap (λ (x : Me Slot View). x.0) t.seat))))
 
 pub returns-clause-key : goal.returns-clause-key
 returns-clause-key c =
     let t = c.load.ensures.2 c.args.lock (c.quiet_word-word.ensures ∙ ap (λ (k : Plan). quiet_at k c.args.lock) (sym c.requires.seat.plan_is)) in
-    let at = ap (λ (x : Me Slot View). x.1) t.seat in
+    let lain : c.slot_mut-place.result.now ≡ Some (CellKey t.key) =
+    same_head (1 + c.args.lock) c.slot_mut-place.ensures.value (ap (λ (x : Me Slot View). x.1) t.seat) in
     let same : Some (CellKey c.in-Some-CellKey.key) ≡ Some (CellKey t.key) =
-    sym (c.in-Some-CellKey.is ∙ ap Some c.in-Some-CellKey.field-0-is)
-    ∙ ap (λ (l : List (ℕ × Slot)). (get_or l 0 (0, None)).1) (sym c.exchange.ensures.2 ∙ at) in
+    sym (c.in-Some-CellKey.is ∙ ap Some c.in-Some-CellKey.field-0-is) ∙ (c.take.ensures.value ∙ lain) in
     let key : c.in-Some-CellKey.key ≡ t.key = cc in
     subst (λ (k : Plan). IsKeyOf k c.args.lock c.in-Some-CellKey.key) c.requires.seat.plan_is
     (subst (IsKeyOf c.args.seat.now.me.0.who.plan c.args.lock) (sym key) t.is)
