@@ -1,21 +1,19 @@
 -- A row leaves the values out that its processor has out, with holds that are still there.
-use Rattle.std.proofs.Common.{◌≡◌, inl, inr, ℕ, List, [], ◌∷◌, Option, Some, None, Bool, true, false, refl, sym, ap, ◌∙◌, arith}
+use Rattle.std.proofs.Common.{◌≡◌, inl, inr, ℕ, List, [], ◌∷◌, Option, Some, None, Bool, true, false, refl, sym, ap, ◌∙◌}
 use Rattle.std.proofs.lemmas.Bool.{cases_Bool}
 use Rattle.std.specs.Prelude.{if◌then◌else◌, ◌&&◌, ◌||◌, ◌==◌}
 use Rattle.lk_abs.specs.Names.{same_lock}
 use Rattle.lk_abs.specs.declared.holder.Manner.{Manner}
-use Rattle.lk_abs.specs.declared.holder.Manner.TheVariants.{Reads}
-use Rattle.lk_abs.specs.declared.names.Kind.{Kind}
 use Rattle.lk_abs.specs.declared.names.LockName.{LockName}
 use Rattle.lk_abs.specs.declared.names.Mode.{Mode}
 use Rattle.lk_machine.specs.declared.setup.Verb.{Verb}
 use Rattle.lk_machine.specs.declared.setup.Verb.TheVariants.{Unlock, RUnlock, WUnlock}
 use Rattle.lk_law.proofs.common.Puts.{if_cases, if-true, if-false}
 use Rattle.lk_law.proofs.common.Sames.{same_lock-true}
-use Rattle.lk_domain.specs.Calls.{Hold, Calls, Grip, Unchanged, Takes, Frees, holds_in, hold_in, held_in, AreHeld}
+use Rattle.lk_domain.specs.Calls.{Hold, Calls, Grip, Unchanged, Takes, Frees, holds_in, hold_in}
 use Rattle.lk_domain.specs.Calls.{free_of, moved_to, holds_after, acting, begin, is_on, lock_name}
-use Rattle.lk_domain.proofs.Stacks.{and_false, same_swap, unheld}
-use Rattle.lk_domain.specs.Values.{IsAlone, IsOutWith, is_sole, out_in}
+use Rattle.lk_domain.specs.Values.{IsOutWith, IsOutAt, IsReached, lock_of, out_in}
+use Rattle.lk_domain.specs.declared.plan.Plan.{Plan}
 
 -- a lock that is held in some way is held
 pub hold_held : (hs : List Hold) (l : ℕ) (x : Manner × Bool) → hold_in hs l ≡ Some x → holds_in hs l ≡ true
@@ -66,12 +64,12 @@ pub moved_out : (c : ℕ) (x : LockName) (hs : List Hold) (l : ℕ) → out_in (
 moved_out c x [] l = refl
 moved_out c x (h ∷ hs) l =
     by (same_lock h.lock x)
-    ∙ ap (λ (b : Bool). (same_lock h.lock (lock_name l) && (is_sole h.manner && h.out)) || b) (moved_out c x hs l)
+    ∙ ap (λ (b : Bool). (same_lock h.lock (lock_name l) && h.out) || b) (moved_out c x hs l)
   where
     by : (b : Bool)
         → ((same_lock (if b then record h { ctx = c } else h).lock (lock_name l)
-        && (is_sole (if b then record h { ctx = c } else h).manner && (if b then record h { ctx = c } else h).out)) || out_in (moved_to c x hs) l)
-        ≡ ((same_lock h.lock (lock_name l) && (is_sole h.manner && h.out)) || out_in (moved_to c x hs) l)
+        && (if b then record h { ctx = c } else h).out) || out_in (moved_to c x hs) l)
+        ≡ ((same_lock h.lock (lock_name l) && h.out) || out_in (moved_to c x hs) l)
     by true = refl
     by false = refl
 
@@ -79,7 +77,7 @@ moved_out c x (h ∷ hs) l =
 pub freed_out : (c : ℕ) (x : LockName) (hs : List Hold) (l : ℕ) → out_in hs l ≡ false → out_in (free_of c x hs) l ≡ false
 freed_out c x [] l home = refl
 freed_out c x (h ∷ hs) l home =
-    let both = by (same_lock h.lock (lock_name l) && (is_sole h.manner && h.out)) home in
+    let both = by (same_lock h.lock (lock_name l) && h.out) home in
     if_cases (λ (ys : List Hold). out_in ys l ≡ false) ((h.ctx == c) && same_lock h.lock x) (free_of c x hs) (h ∷ free_of c x hs)
     (λ _. freed_out c x hs l both.1)
     (λ _. ap (λ (b : Bool). b || out_in (free_of c x hs) l) both.0 ∙ freed_out c x hs l both.1)
@@ -94,7 +92,7 @@ unheld_out [] l e = refl
 unheld_out (h ∷ hs) l e = by (same_lock h.lock (lock_name l)) e (unheld_out hs l)
   where
     by : (b : Bool) → (if b then true else holds_in hs l) ≡ false → (holds_in hs l ≡ false → out_in hs l ≡ false)
-        → ((b && (is_sole h.manner && h.out)) || out_in hs l) ≡ false
+        → ((b && h.out) || out_in hs l) ≡ false
     by true e r = cc e
     by false e r = r e
 
@@ -116,12 +114,22 @@ acting_holds mode c v x l =
     by _ = record { hold = refl; out = refl }
 
 -- where the hold of a lock stays, a value that is out with it stays so
-pub stays_out : (hs gs : List Hold) (l : ℕ) → hold_in gs l ≡ hold_in hs l → IsOutWith l hs → IsOutWith l gs
-stays_out hs gs l same is = record { manner = is.manner; held = same ∙ is.held; sole = is.sole }
+pub stays_out : (hs gs : List Hold) (l : ℕ) (m : Manner) → hold_in gs l ≡ hold_in hs l → IsOutWith l m hs → IsOutWith l m gs
+stays_out hs gs l m same is = same ∙ is
 
--- who has a value out holds its lock alone
-pub out_alone : (hs : List Hold) (l : ℕ) → IsOutWith l hs → IsAlone l hs
-out_alone hs l is = record { manner = is.manner; out = true; held = is.held; sole = is.sole }
+-- holds with which each value stays out that was
+abbrev pub KeepsOuts : List Hold → List Hold → Type 0
+KeepsOuts hs gs = (l : ℕ) (m : Manner) → IsOutWith l m hs → IsOutWith l m gs
+
+-- so it stays out with a hold that reaches it
+pub outs_kept : (k : Plan) (q : ℕ) (number : Option ℕ) (hs gs : List Hold) → KeepsOuts hs gs
+    → IsOutAt k q number hs → IsOutAt k q number gs
+outs_kept k q number hs gs kept is =
+    record { manner = is.manner; held = kept (lock_of k q) is.manner is.held; may = is.may }
+
+-- who has a value out has the right to it
+pub out_reached : (k : Plan) (q : ℕ) (number : Option ℕ) (hs : List Hold) → IsOutAt k q number hs → IsReached k q number hs
+out_reached k q number hs is = record { manner = is.manner; out = true; held = is.held; may = is.may }
 
 -- what two pairs that are there have in common
 pair_is : (x y : Manner × Bool) → Some x ≡ Some y → x ≡ y
@@ -132,65 +140,37 @@ pair_is x y e = ap (λ (o : Option (Manner × Bool)). unwrap o) e
     unwrap (Some z) = z
 
 -- and the hold says so
-pub out_is : (hs : List Hold) (l : ℕ) → IsOutWith l hs → out_in hs l ≡ true
-out_is [] l is = absurd (let no = is.held in let z : ⊥ = cc no in z)
-out_is (h ∷ hs) l is =
-    by (same_lock h.lock (lock_name l)) is.held
-    (λ e. out_is hs l (record { manner = is.manner; held = e; sole = is.sole }))
+pub out_is : (hs : List Hold) (l : ℕ) (m : Manner) → IsOutWith l m hs → out_in hs l ≡ true
+out_is [] l m is = absurd (let no = is in let z : ⊥ = cc no in z)
+out_is (h ∷ hs) l m is = by (same_lock h.lock (lock_name l)) is (out_is hs l m)
   where
-    by : (b : Bool) → (if b then Some (h.manner, h.out) else hold_in hs l) ≡ Some (is.manner, true)
-        → (hold_in hs l ≡ Some (is.manner, true) → out_in hs l ≡ true)
-        → ((b && (is_sole h.manner && h.out)) || out_in hs l) ≡ true
-    by true e r =
-        let same = pair_is (h.manner, h.out) (is.manner, true) e in
-        ap (λ (x : Manner × Bool). (is_sole x.0 && x.1) || out_in hs l) same
-        ∙ ap (λ (b : Bool). (b && true) || out_in hs l) is.sole
+    by : (b : Bool) → (if b then Some (h.manner, h.out) else hold_in hs l) ≡ Some (m, true)
+        → (hold_in hs l ≡ Some (m, true) → out_in hs l ≡ true)
+        → ((b && h.out) || out_in hs l) ≡ true
+    by true e r = ap (λ (x : Manner × Bool). x.1 || out_in hs l) (pair_is (h.manner, h.out) (m, true) e)
     by false e r = r e
 
 -- A row takes what was not held, and frees a lock whose value is home: so the values that are out stay
 -- out.
-pub out_after : (g : Grip) (c n : ℕ) (x : LockName) (hs : List Hold) (l : ℕ)
+pub out_after : (g : Grip) (c n : ℕ) (x : LockName) (hs : List Hold) (l : ℕ) (m : Manner)
     → ((y : Manner) → g ≡ Takes y → holds_in hs x.index ≡ false)
     → (g ≡ Frees → x.wait ≡ false → out_in hs x.index ≡ false)
-    → IsOutWith l hs → IsOutWith l (holds_after g c x n hs)
-out_after Unchanged c n x hs l fresh home is = is
-out_after (Takes y) c n x hs l fresh home is =
+    → IsOutWith l m hs → IsOutWith l m (holds_after g c x n hs)
+out_after Unchanged c n x hs l m fresh home is = is
+out_after (Takes y) c n x hs l m fresh home is =
     elim (cases_Bool (same_lock x (lock_name l))) [
       | inl e ↦
           let free : holds_in hs l ≡ false = ap (λ (z : LockName). holds_in hs z.index) (sym (same_lock-true x (lock_name l) e)) ∙ fresh y refl in
-          absurd (let no : true ≡ false = sym (hold_held hs l (is.manner, true) is.held) ∙ free in let z : ⊥ = cc no in z)
-      | inr off ↦ stays_out hs (holds_after (Takes y) c x n hs) l
+          absurd (let no : true ≡ false = sym (hold_held hs l (m, true) is) ∙ free in let z : ⊥ = cc no in z)
+      | inr off ↦ stays_out hs (holds_after (Takes y) c x n hs) l m
           (if-false (same_lock x (lock_name l)) (Some (y, false)) (hold_in hs l) off) is
     ]
-out_after Frees c n x hs l fresh home is =
+out_after Frees c n x hs l m fresh home is =
     elim (cases_Bool (same_lock x (lock_name l))) [
       | inl e ↦
           let on = same_lock-true x (lock_name l) e in
           let shut : out_in hs l ≡ false =
           ap (λ (z : LockName). out_in hs z.index) (sym on) ∙ home refl (ap (λ (z : LockName). z.wait) on) in
-          absurd (let no : true ≡ false = sym (out_is hs l is) ∙ shut in let z : ⊥ = cc no in z)
-      | inr off ↦ stays_out hs (holds_after Frees c x n hs) l (freed_hold c x hs l off) is
+          absurd (let no : true ≡ false = sym (out_is hs l m is) ∙ shut in let z : ⊥ = cc no in z)
+      | inr off ↦ stays_out hs (holds_after Frees c x n hs) l m (freed_hold c x hs l off) is
     ]
-
--- with who holds a lock as a reader its value is not out
-pub reads_unout : (kind : ℕ → Kind) (hs : List Hold) (l d : ℕ) → AreHeld kind hs
-    → held_in hs d (lock_name l) ≡ Some Reads → out_in hs l ≡ false
-reads_unout kind [] l d are h = refl
-reads_unout kind (x ∷ hs) l d are h =
-    elim (cases_Bool (same_lock x.lock (lock_name l))) [
-      | inl e ↦
-          let on = same_lock-true x.lock (lock_name l) e in
-          let none : holds_in hs l ≡ false =
-          ap (λ (z : LockName). holds_in hs z.index) (sym on) ∙ are.2 (ap (λ (z : LockName). z.wait) on) in
-          let way : x.manner ≡ Reads = mine ((d == x.ctx) && same_lock (lock_name l) x.lock) (held_in hs d (lock_name l)) h (unheld hs d l none) in
-          (λ i. (e i && (is_sole (way i) && x.out)) || unheld_out hs l none i)
-      | inr e ↦
-          ap (λ (b : Bool). (b && (is_sole x.manner && x.out)) || out_in hs l) e
-          ∙ reads_unout kind hs l d are.3
-          (sym (if-false ((d == x.ctx) && same_lock (lock_name l) x.lock) (Some x.manner) (held_in hs d (lock_name l))
-          (and_false (d == x.ctx) (same_lock (lock_name l) x.lock) (same_swap x.lock (lock_name l) e))) ∙ h)
-    ]
-  where
-    mine : (b : Bool) (o : Option Manner) → (if b then Some x.manner else o) ≡ Some Reads → o ≡ None → x.manner ≡ Reads
-    mine true o h e = grind (arith, h)
-    mine false o h e = absurd (let z : None ≡ Some Reads = sym e ∙ h in cc z)

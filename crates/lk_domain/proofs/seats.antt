@@ -7,3 +7,4 @@ pub mod Marks
 pub mod Exclusive
 pub mod Takes
 pub mod Places
+pub mod Homes

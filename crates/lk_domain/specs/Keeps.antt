@@ -13,10 +13,10 @@ use Rattle.lk_abs.specs.Names.{same_lock}
 use Rattle.lk_domain.specs.Places.{places}
 use Rattle.lk_abs.specs.Journal.{balances_after, Replays}
 use Rattle.lk_domain.specs.Ledgers.{Look, Out, Past, no_ledger, is_first}
-use Rattle.lk_domain.specs.Plans.{accounts_of, locks_of, room_of}
+use Rattle.lk_domain.specs.Plans.{accounts_of, room_of}
 use Rattle.lk_domain.specs.Views.{total}
 use Rattle.lk_values.specs.Guarded.{Among, Guarded}
-use Rattle.lk_domain.specs.Values.{IsOutWith, HoldsAlone, outs_of, out_in, FitsUnder}
+use Rattle.lk_domain.specs.Values.{IsOutAt, Reaches, outs_of, out_in, homes_of, FitsUnder}
 pub use Rattle.lk_domain.specs.Values.{is_sole, Slot}
 use Rattle.lk_domain.specs.Words.{version_at, balance_at}
 use Rattle.lk_domain.specs.declared.journal.Journal.{Journal}
@@ -125,7 +125,7 @@ ArePast k js [] = Unit {0}
 ArePast k js (x ∷ xs) = IsPast k js x × ArePast k js xs
 
 -- what a seat knows of the journal: who has it out holds lock 0 alone, and has no look open. The values
--- that it has out are out with holds of its own.
+-- that it has out are out with holds of its own, which reach them.
 pub record Knows (k : Plan) (js : List Entry) (v : View) : Type 0 where
   pub holder : v.ledger.out ≢ None → alone_first v.calls
   pub shut : v.ledger.out ≢ None → v.ledger.look ≡ None
@@ -135,9 +135,9 @@ pub record Knows (k : Plan) (js : List Entry) (v : View) : Type 0 where
   pub own : (p : ℕ) → v.who.number ≡ Some p → v.ledger.own ≡ places p js
   pub quiet : v.who.number ≡ None → v.ledger ≡ no_ledger
   pub past : ArePast k js v.who.ended
-  pub values : (l : ℕ) → Among l (outs_of v) → IsOutWith l v.calls.holds
+  pub values : (q : ℕ) → Among q (outs_of v) → IsOutAt k q v.who.number v.calls.holds
 
--- What lies under the locks is at home: the journal under lock 0, and the value of the lock.
+-- What lies under the locks is at home: the journal under lock 0, and the values of the lock.
 pub record AllHome (l : LockName) (v : View) : Type 0 where
   pub journal : is_first l ≡ true → v.ledger.out ≡ None
   pub value : l.wait ≡ false → out_in v.calls.holds l.index ≡ false
@@ -147,11 +147,11 @@ pub record Keeps (k : Plan) (s : State Slot View) : Type 0 where
   -- the journal, which replays
   pub journal : List Entry
   pub replays : Replays k.balances.items journal
-  pub slots : length s.homes ≡ 1 + locks_of k
+  pub slots : length s.homes ≡ 1 + homes_of k
   -- its length and the shares that are left are the room
   pub shares : length journal + total (λ v. v.ledger.share) s.views
       + undrawn k (slice_index s.words 0) ≡ room_of k
   pub place : AtHome k journal s ⊎ Away k journal s
   pub knows : (id : ℕ) (v : View) → get_elem? s.views id ≡ some v → Knows k journal v
   pub fresh : (p : ℕ) → slice_index s.words 0 ≤ p → places p journal ≡ []
-  pub values : Guarded 1 (locks_of k) HoldsAlone outs_of (FitsUnder k) s.homes s.views
+  pub values : Guarded 1 (homes_of k) (Reaches k) outs_of (FitsUnder k) s.homes s.views

@@ -14,7 +14,6 @@ use Rattle.lk_domain.specs.Calls.{Outlook}
 use Rattle.lk_machine.specs.TopRow.{target}
 use Rattle.lk_law.specs.Leads.{Met, Word, held_lock}
 use Rattle.lk_law.specs.Premises.{IsThen}
-use Rattle.lk_values.specs.Guarded.{IsApart}
 use Rattle.lk_domain.specs.Calls.{Running, Calls, mark, read_at, grip_of, course, row_of, acting, StandsOn}
 use Rattle.lk_domain.specs.Calls.{Begins, lock_name, no_calls, Terms, terms_of, sight_of}
 use Rattle.lk_domain.specs.Places.{places}
@@ -25,7 +24,7 @@ use Rattle.lk_domain.specs.Ledgers.{brought, with_share}
 use Rattle.lk_domain.specs.Plans.{accounts_of, share_of, layout_in}
 use Rattle.lk_domain.specs.Rows.{queues_up}
 use Rattle.lk_domain.specs.Views.{view, drawer, own_number}
-use Rattle.lk_domain.specs.Values.{Key, taking, bringing, IsKeyOf, empty_places}
+use Rattle.lk_domain.specs.Values.{Key, taking, bringing, lock_of, IsClear, IsKeyOf, empty_places}
 use Rattle.lk_domain.specs.Words.{lock_at, balance_at, quiet_at, IsNode}
 use Rattle.lk_domain.specs.declared.journal.Journal.{Journal}
 use Rattle.lk_domain.specs.declared.plan.Plan.{Plan}
@@ -199,20 +198,21 @@ Brings st m x n = (o : Out) (j : Journal) (p : ℕ) (xs : List (ℕ × Slot)) �
       xs,
     )
 
--- the value of a lock was taken out: the key of its cell
-pub record ValueTakenBy (l : ℕ) (m n : Me Slot View) : Type 0 where
+-- a value of the lock l was taken out of its home q: the key of its cell
+pub record ValueTakenBy (l q : ℕ) (m n : Me Slot View) : Type 0 where
   pub key : Key
-  pub seat : n ≡ (taking l m.0, (1 + l, Some (CellKey key)) ∷ m.1)
-  pub is : IsKeyOf m.0.who.plan l key
-  pub apart : IsApart l m.0.who.outs
+  pub seat : n ≡ (taking l q m.0, (1 + q, Some (CellKey key)) ∷ m.1)
+  pub is : IsKeyOf m.0.who.plan q key
+  pub apart : IsClear m.0.who.plan l m.0.who.outs
 
 abbrev pub TakesValue : Step Slot → Me Slot View → ℕ → Me Slot View → Type 0
-TakesValue st m x n = (l : ℕ) → st.word ≡ quiet_at m.0.who.plan l → ValueTakenBy l m n
+TakesValue st m x n = (q : ℕ) → st.word ≡ quiet_at m.0.who.plan q
+    → ValueTakenBy (lock_of m.0.who.plan q) q m n
 
 -- it was brought home
 abbrev pub BringsValue : Step Slot → Me Slot View → ℕ → Me Slot View → Type 0
-BringsValue st m x n = (l : ℕ) (y : Slot) (xs : List (ℕ × Slot)) → st.word ≡ quiet_at m.0.who.plan l
-    → m.1 ≡ (1 + l, y) ∷ xs → n ≡ (bringing l m.0, xs)
+BringsValue st m x n = (q : ℕ) (y : Slot) (xs : List (ℕ × Slot)) → st.word ≡ quiet_at m.0.who.plan q
+    → m.1 ≡ (1 + q, y) ∷ xs → n ≡ (bringing (lock_of m.0.who.plan q) m.0, xs)
 
 -- the slots that go with a view, all of them empty: the place of the journal, where it is out, and those
 -- of the values that are out

@@ -4,8 +4,9 @@ use Rattle.atomic_table.specs.Seated.{TableId}
 use Rattle.atomic_table.specs.declared.shared.Seat.{Seat}
 use Rattle.lk_domain.specs.Keeps.{Slot}
 use Rattle.lk_domain.specs.Ledgers.{Out, loaded, sighted, stored}
-use Rattle.lk_domain.specs.Plans.{IsRunningPlan, locks_of}
+use Rattle.lk_domain.specs.Plans.{IsRunningPlan}
 use Rattle.lk_domain.specs.Plays.{OneState, carried_of}
+use Rattle.lk_domain.specs.Values.{homes_of}
 use Rattle.lk_domain.specs.Views.{IsNumbered}
 use Rattle.lk_domain.specs.Words.{words_of}
 use Rattle.lk_domain.specs.declared.plan.Plan.{Plan}
@@ -15,7 +16,7 @@ use Rattle.lk_domain.specs.declared.view.View.{View}
 pub record IsTableOf (k : Plan) (table : TableId) (key : Plan) : Type 0 where
   pub lawful : IsRunningPlan k
   pub words : table.words ≡ words_of k
-  pub slots : table.slots ≡ 1 + locks_of k
+  pub slots : table.slots ≡ 1 + homes_of k
   pub key_is : key ≡ k
 
 -- the seat is that of a processor of it, with the places of what it has out

@@ -13,9 +13,8 @@ use Rattle.lk_domain.specs.Ledgers.{brought}
 use Rattle.lk_domain.specs.Plans.{cpus_of, accounts_of, share_of}
 use Rattle.lk_domain.specs.Plays.{MadeBy}
 use Rattle.lk_domain.specs.Seated.{HasLoadedBy, HasSeenBy, HasStoredBy}
-use Rattle.lk_domain.specs.Values.{taking, bringing, outs_of}
+use Rattle.lk_domain.specs.Values.{taking, bringing, outs_of, IsClear}
 use Rattle.lk_domain.specs.Views.{newcomer}
-use Rattle.lk_values.specs.Guarded.{IsApart}
 use Rattle.lk_domain.specs.declared.cpu.Cpu.{Cpu}
 use Rattle.lk_domain.specs.declared.domain.Domain.{Domain}
 use Rattle.lk_domain.specs.declared.journal.Journal.{Journal}
@@ -75,15 +74,19 @@ pub record KeepsCalls (old new : Cpu) : Type 0 where
   pub same : IsSame old new
   pub calls : calls_of new ≡ calls_of old
 
--- the value of a lock is out with the processor, and was not before
-pub record TakesValueOf (l : ℕ) (old new : Cpu) : Type 0 where
+-- a value of the lock l, whose home is q, is out with the processor, and no value of the lock was before
+pub record TakesValueAt (l q : ℕ) (old new : Cpu) : Type 0 where
   pub table : new.seat.table_id ≡ old.seat.table_id
   pub id : new.seat.id ≡ old.seat.id
   pub number : new.number ≡ old.number
-  pub view : view_of new ≡ taking l (view_of old)
-  pub apart : IsApart l (outs_of (view_of old))
+  pub view : view_of new ≡ taking l q (view_of old)
+  pub apart : IsClear (view_of old).who.plan l (outs_of (view_of old))
 
--- it is home
+-- it is the lock's own
+abbrev pub TakesValueOf : ℕ → Cpu → Cpu → Type 0
+TakesValueOf l old new = TakesValueAt l l old new
+
+-- the value of the lock that the processor took out last is home
 pub record BringsValueOf (l : ℕ) (old new : Cpu) : Type 0 where
   pub table : new.seat.table_id ≡ old.seat.table_id
   pub id : new.seat.id ≡ old.seat.id

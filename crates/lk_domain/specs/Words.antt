@@ -48,10 +48,11 @@ part_index part.Next = 1
 part_index part.SecondTail = 2
 part_index part.Runs = 3
 
--- The word by whose load the value of a lock goes out and comes home: that of the balance of this number,
--- whether the ledger has it or not. No lock's word is on its line, and without a ledger nobody writes it.
+-- The word by whose load the value of a home goes out and comes home: for homes below 64 that of the
+-- balance of this number, whether the ledger has it or not, and from there on a word of a node. No lock's
+-- word is on its line. Without a ledger nobody writes the first 64.
 abbrev pub quiet_at : Plan → ℕ → ℕ
-quiet_at k l = balance_at k l
+quiet_at k q = balance_at k q
 
 -- Behind the balances, the words of the nodes. There is room for four words of each.
 abbrev pub node_at : Plan → NodeName → Part → ℕ

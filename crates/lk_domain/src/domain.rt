@@ -1,6 +1,7 @@
 // A domain: one table of words, and what it was made of.
 ghost use Rattle.std.specs.Prelude.{◌≡◌, ◌+◌, ◌*◌, ◌<◌, ◌≤◌, Some, length, slice_get};
 ghost use Rattle.lk_domain.specs.Plans.{cpus_of, locks_of, accounts_of, layout_in, IsRunningPlan};
+ghost use Rattle.lk_domain.specs.Values.{homes_of};
 ghost use Rattle.lk_domain.specs.Words.{words_of, lock_at, word_at, node_at, IsNode};
 ghost use Rattle.lk_domain.specs.NodePlays.{IsFlagNode};
 ghost use Rattle.lk_domain.specs.Words.{name_number, flag_number, marked};
@@ -26,7 +27,7 @@ pub struct Domain {
     pub plan: Plan,
     ghost lawful: { IsRunningPlan plan },
     ghost words: { table.shared.table_id.words ≡ words_of plan },
-    ghost slots: { table.shared.table_id.slots ≡ 1 + locks_of plan },
+    ghost slots: { table.shared.table_id.slots ≡ 1 + homes_of plan },
     ghost key: { table.shared.key ≡ plan },
 }
 
@@ -93,6 +94,13 @@ impl Domain {
     {
         prove!(self.plan.locks.len() <= 32);
         self.plan.locks.len() as u32
+    }
+
+    // How many homes of values there are.
+    pub(crate) fn homes(&self) -> usize
+        ensures { result ≡ homes_of self.now.plan }
+    {
+        self.table.slot_count() - 1
     }
 
     /// The number of accounts of its ledger, at most 64.

@@ -52,7 +52,8 @@ impl Closed {
         &self.journal
     }
 
-    /// The keys of the values: for each lock the key of the cell in which its value lies, or none.
+    /// The keys of the values, as the domain was made with them: each of the cell in which a value
+    /// lies, or none.
     pub fn into_keys(self) -> List<Option<Key>>
         ensures { result ≡ self.keys }
     {
@@ -122,7 +123,7 @@ pub fn close(alloc: Global, domain: Domain, cpus: List<Cpu>) -> Result<Closed, C
     let Ok(mut balances) = List::new(alloc, domain.accounts() as usize) else {
         return Err(CloseBack { domain, cpus });
     };
-    let Ok(mut keys) = List::new(alloc, domain.locks() as usize) else {
+    let Ok(mut keys) = List::new(alloc, domain.homes()) else {
         return Err(CloseBack { domain, cpus });
     };
     let mode = domain.mode();

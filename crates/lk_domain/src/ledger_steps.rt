@@ -6,11 +6,11 @@ ghost use Rattle.lk_abs.specs.Journal.{balances_after};
 ghost use Rattle.lk_domain.specs.Ends.{AreTaken, IsEnd};
 ghost use Rattle.lk_domain.specs.Keeps.{holds_first, alone_first};
 ghost use Rattle.lk_domain.specs.Ledgers.{Out};
-ghost use Rattle.lk_domain.specs.Plans.{IsRunningPlan, accounts_of, cpus_of, locks_of};
+ghost use Rattle.lk_domain.specs.Plans.{IsRunningPlan, accounts_of, cpus_of};
 ghost use Rattle.lk_domain.specs.Seated.{HasLoadedBy, HasSeenBy, HasStoredBy, HoldsNothing, IsKept};
 ghost use Rattle.lk_domain.specs.Seated.{IsSeatOf, IsTableOf};
 ghost use Rattle.lk_domain.specs.Seats.{IsOut, MayCome, CameHome};
-ghost use Rattle.lk_domain.specs.Values.{AreLaid, FitsUnder, Key, lodged};
+ghost use Rattle.lk_domain.specs.Values.{AreLaid, FitsUnder, Key, homes_of, lodged};
 ghost use Rattle.lk_domain.specs.Views.{view, joined, numbers, with_more, times};
 ghost use Rattle.lk_domain.specs.Words.{balance_at};
 ghost use Rattle.lk_values.specs.Guarded.{AreFit};
@@ -175,7 +175,7 @@ fn read(closed: &Left<Slot, Global>, first: usize, count: usize, balances: &mut 
     }
 }
 
-// The key that lies in the slot of a lock, if one does.
+// The key that lies in the slot of a home, if one does.
 fn key_in(slot: Slot) -> Option<Key>
     requires { (key : Option Key) × (slot ≡ lodged key) }
     ensures { slot ≡ lodged result }
@@ -187,19 +187,21 @@ fn key_in(slot: Slot) -> Option<Key>
     }
 }
 
-// Takes what lies in the slots of the locks, behind that of the journal.
+// Takes what lies in the slots of the homes, behind that of the journal.
 fn take_keys(closed: &mut Left<Slot, Global>, plan: &Plan, keys: &mut List<Option<Key>>)
-    requires slots { slots_len closed.old.slots ≡ 1 + locks_of plan.now }
+    requires slots { slots_len closed.old.slots ≡ 1 + homes_of plan.now }
     requires first { AreTaken 1 (slots_filled closed.old.slots) }
-    requires fit { AreFit 1 (locks_of plan.now) (FitsUnder plan.now)
+    requires fit { AreFit 1 (homes_of plan.now) (FitsUnder plan.now)
         (slots_items closed.old.slots) }
-    requires empty { keys.old ≡ record { items = []; room = locks_of plan.now } }
-    ensures slots { slots_len closed.new.slots ≡ 1 + locks_of plan.now }
-    ensures all { AreTaken (1 + locks_of plan.now) (slots_filled closed.new.slots) }
+    requires empty { keys.old ≡ record { items = []; room = homes_of plan.now } }
+    ensures slots { slots_len closed.new.slots ≡ 1 + homes_of plan.now }
+    ensures all { AreTaken (1 + homes_of plan.now) (slots_filled closed.new.slots) }
     ensures keys { AreLaid plan.now keys.new.items }
 {
-    for lock in 0..plan.locks.len() {
-        keys.push(key_in(closed.take(1 + lock)));
+    let _ = plan;
+    let homes = closed.slot_count() - 1;
+    for home in 0..homes {
+        keys.push(key_in(closed.take(1 + home)));
     }
 }
 
@@ -218,7 +220,7 @@ pub fn end(
     requires home { seat.me.0.ledger.out ≡ None }
     requires holds { seat.me.0.calls.holds ≡ [] }
     requires empty { balances.old ≡ record { items = []; room = accounts_of plan.now } }
-    requires none { keys.old ≡ record { items = []; room = locks_of plan.now } }
+    requires none { keys.old ≡ record { items = []; room = homes_of plan.now } }
     ensures end { IsEnd plan.now seat.me.0 result.items }
     ensures keys { AreLaid plan.now keys.new.items }
     ensures balances { balances.new.items ≡ balances_after plan.now.balances.items result.items }

@@ -2,10 +2,10 @@
 ghost use Rattle.std.specs.Prelude.{◌≡◌, ◌+◌, ◌<◌, [], ◌∷◌, Some, None, IfOk, false, length, map, slice_set};
 ghost use Rattle.lk_domain.specs.Calls.{no_calls};
 ghost use Rattle.lk_domain.specs.Ledgers.{no_ledger};
-ghost use Rattle.lk_domain.specs.Plans.{IsLawfulPlan, IsRunningPlan, IsSamePlan, cpus_of, locks_of, room_of};
+ghost use Rattle.lk_domain.specs.Plans.{IsLawfulPlan, IsRunningPlan, IsSamePlan, cpus_of, room_of};
 ghost use Rattle.lk_law.specs.Agree.{halts};
 ghost use Rattle.lk_domain.specs.Seats.{IsDealt, AreDealt};
-ghost use Rattle.lk_domain.specs.Values.{AreLaid, AreShut, keys_of, lodged, nothing};
+ghost use Rattle.lk_domain.specs.Values.{AreLaid, AreShut, keys_of, lodged};
 ghost use Rattle.lk_domain.specs.declared.slot.Stowed.TheVariants.{Entries};
 ghost use Rattle.lk_domain.specs.Views.{view, dealer};
 ghost use Rattle.lk_domain.specs.Words.{words_of, IsOpening};
@@ -89,22 +89,7 @@ pub fn opening_words(alloc: Global, plan: &Plan) -> Result<List<u64>, Memory>
     Ok(words)
 }
 
-/// No keys for so many locks.
-///
-/// # Errors
-///
-/// There is not enough memory.
-pub fn no_keys(alloc: Global, locks: usize) -> Result<List<Option<Key>>, Memory>
-    ensures { IfOk result (λ keys. keys.items ≡ nothing locks) }
-{
-    let mut keys = List::new(alloc, locks)?;
-    for _lock in 0..locks {
-        keys.push(None);
-    }
-    Ok(keys)
-}
-
-// A slot with the key of a lock, if it has one.
+// A slot with the key of a value, if there is one.
 fn slot_of(key: Option<Key>) -> Slot
     ensures { result ≡ lodged key }
 {
@@ -114,7 +99,7 @@ fn slot_of(key: Option<Key>) -> Slot
     }
 }
 
-/// The slots of a new table: that of the journal, and one for each lock, with its key.
+/// The slots of a new table: that of the journal, and behind it one for each key.
 pub fn opening_slots(
     alloc: Global,
     journal: Journal,
@@ -143,12 +128,13 @@ impl Domain {
         ensures many { IfOk result (λ made. length made.1.items ≡ cpus_of plan.now) }
         ensures cpus { IfOk result (λ made. AreDealt made.0 made.1.items) }
     {
-        let keys = no_keys(alloc, plan.locks.len())?;
+        let keys = List::new(alloc, 0)?;
         Domain::with_values(alloc, plan, keys)
     }
 
     /// The same, where locks have values. For each lock there is the key of the cell in which its
-    /// value lies, or none.
+    /// value lies, or none. Where locks have copies of their values, behind these come the keys of
+    /// the copies: for processor 0 one for each lock, or none, then for processor 1, and so on.
     ///
     /// # Errors
     ///
@@ -159,7 +145,6 @@ impl Domain {
         keys: List<Option<Key>>,
     ) -> Result<(Domain, List<Cpu>), Memory>
         requires lawful { IsLawfulPlan plan.now }
-        requires locks { length keys.items ≡ locks_of plan.now }
         requires shut { AreShut keys.items }
         ensures plan { IfOk result (λ made. IsSamePlan made.0.plan plan.now) }
         ensures many { IfOk result (λ made. length made.1.items ≡ cpus_of plan.now) }

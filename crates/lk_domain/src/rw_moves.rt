@@ -4,7 +4,7 @@ ghost use Rattle.lk_domain.specs.Calls.{lock_name};
 ghost use Rattle.lk_domain.specs.Ledgers.{is_first};
 ghost use Rattle.lk_domain.specs.Plans.{locks_of};
 ghost use Rattle.lk_domain.specs.RwPlays.{ActsFor, SharedBy};
-ghost use Rattle.lk_domain.specs.RwUses.{rw_uses_by};
+ghost use Rattle.lk_domain.specs.RwUses.{frees_by_use, rw_uses_by};
 ghost use Rattle.lk_domain.specs.Values.{out_in};
 ghost use Rattle.lk_domain.specs.Views.{IsNumbered};
 ghost use Rattle.lk_domain.specs.declared.rw_moves.RwUse.TheVariants.{Leaves};
@@ -45,7 +45,8 @@ fn act<C: RwCalls>(seat: &mut Right, domain: &Domain, lock: u32, how: RwUse) -> 
     requires row { ActsFor (rw_uses_by how C.verb) seat.old.me.0 C.verb lock }
     requires home { how ≡ Leaves → is_first (lock_name lock) ≡ true
         → seat.old.me.0.ledger.out ≡ None }
-    requires value { how ≡ Leaves → out_in seat.old.me.0.calls.holds lock ≡ false }
+    requires value { frees_by_use how C.verb ≡ true
+        → out_in seat.old.me.0.calls.holds lock ≡ false }
     ensures same { (seat.new.table_id ≡ seat.old.table_id) × (seat.new.id ≡ seat.old.id) }
     ensures step { SharedBy C.verb lock seat.old.me result seat.new.me }
 {
@@ -70,7 +71,8 @@ pub(crate) fn act_by(seat: &mut Right, domain: &Domain, verb: Verb, lock: u32, h
     requires row { ActsFor (rw_uses_by how verb) seat.old.me.0 verb lock }
     requires home { how ≡ Leaves → is_first (lock_name lock) ≡ true
         → seat.old.me.0.ledger.out ≡ None }
-    requires value { how ≡ Leaves → out_in seat.old.me.0.calls.holds lock ≡ false }
+    requires value { frees_by_use how verb ≡ true
+        → out_in seat.old.me.0.calls.holds lock ≡ false }
     ensures same { (seat.new.table_id ≡ seat.old.table_id) × (seat.new.id ≡ seat.old.id) }
     ensures step { SharedBy verb lock seat.old.me result seat.new.me }
 {

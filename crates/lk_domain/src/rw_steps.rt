@@ -230,6 +230,7 @@ fn release_as_reader(cpu: &mut Cpu, domain: &Domain, lock: u32) -> u64
     requires domain { IsOf cpu.old domain.now }
     requires lock { lock < locks_of domain.now.plan }
     requires row { ActsFor (quits_by RUnlock) (view_of cpu.old) RUnlock lock }
+    requires value { out_in (calls_of cpu.old).holds lock ≡ false }
     ensures rest { KeepsRest cpu.old cpu.new }
     ensures step { MadeShared RUnlock lock cpu.old result cpu.new }
 {
@@ -247,6 +248,7 @@ pub fn subtract_bias(cpu: &mut Cpu, domain: &Domain, verb: Verb, lock: LockName)
     requires lock { lock.index < locks_of domain.now.plan }
     requires plain { lock.wait ≡ false }
     requires row { ActsFor (quits_by verb) (view_of cpu.old) verb lock.index }
+    requires value { verb ≡ RUnlock → out_in (calls_of cpu.old).holds lock.index ≡ false }
     ensures rest { KeepsRest cpu.old cpu.new }
     ensures step { MadeShared verb lock.index cpu.old result cpu.new }
 {

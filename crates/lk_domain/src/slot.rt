@@ -8,9 +8,9 @@ use lk_cell::Key;
 pub enum Stowed {
     /// The first slot has the journal.
     Entries(Journal),
-    /// The slot of a lock has the key of the cell in which the value of the lock lies.
+    /// Each slot behind it has the key of the cell in which a value lies: a lock's, or a copy.
     CellKey(Key),
 }
 
-/// A slot of a domain's table: the first is that of the journal, and each behind it that of a lock.
+/// A slot of a domain's table: the first is that of the journal, and each behind it that of a value.
 pub type Slot = Option<Stowed>;

@@ -1,13 +1,15 @@
 //! Values under locks: a processor that holds a lock alone takes its value out, which is the key of a
-//! cell, and brings it home. The calls of all lock families are made of [`take`] and [`bring`].
-ghost use Rattle.std.specs.Prelude.{◌≡◌, ◌<◌, None};
-ghost use Rattle.lk_domain.specs.Plans.{IsRunningPlan, locks_of};
+//! cell, and brings it home. Where the lock has copies a reader does so with the one for its own
+//! processor. The calls of all lock families are made of [`take`] and [`bring`].
+ghost use Rattle.std.specs.Prelude.{◌≡◌, ◌+◌, ◌*◌, ◌<◌, None};
+ghost use Rattle.lk_domain.specs.Plans.{IsRunningPlan, cpus_of, locks_of};
 ghost use Rattle.lk_domain.specs.Plays.{carried_of};
 ghost use Rattle.lk_domain.specs.Seated.{IsSeatOf, IsTableOf};
-ghost use Rattle.lk_domain.specs.Seats.{IsOf, TakesValueOf, BringsValueOf, calls_of, ledger_of, view_of};
-ghost use Rattle.lk_domain.specs.Values.{HasCell, IsHomeWith, IsKeyOf, IsNewestOut, bringing, outs_of, taking};
+ghost use Rattle.lk_domain.specs.Seats.{BringsValueOf, IsOf, TakesValueAt, TakesValueOf, calls_of};
+ghost use Rattle.lk_domain.specs.Seats.{ledger_of, view_of};
+ghost use Rattle.lk_domain.specs.Values.{HasCell, IsClear, IsHomeAt, IsHomeWith, IsKeyOf, IsNewestAt};
+ghost use Rattle.lk_domain.specs.Values.{MayCopy, bringing, copy_at, lock_of, outs_of, taking};
 ghost use Rattle.lk_domain.specs.Words.{quiet_at};
-ghost use Rattle.lk_values.specs.Guarded.{IsApart};
 
 use crate::cpu::{Cpu, Right};
 use crate::domain::{Domain, LockId};
@@ -17,34 +19,49 @@ use crate::rule::{BringValue, TakeValue};
 use crate::slot::Stowed;
 use lk_cell::Key;
 
-// The word by whose load the value of a lock goes out and comes home.
-fn quiet_word(plan: &Plan, lock: u32) -> usize
+// The home of the copy of a lock for a processor.
+fn copy_home(plan: &Plan, lock: u32, number: u32) -> usize
     requires lawful { IsRunningPlan plan.now }
     requires lock { lock < locks_of plan.now }
-    ensures { result ≡ quiet_at plan.now lock }
+    requires number { number < cpus_of plan.now }
+    ensures home { result ≡ copy_at plan.now lock number }
+    ensures near { result < 64 + 32 * cpus_of plan.now }
 {
     prove!(plan.locks.len() <= 32);
-    8 + 8 * plan.locks.len() + lock as usize
+    prove!(plan.topology.sockets.len() <= 64);
+    let before = (1 + number as usize) * plan.locks.len();
+    before + lock as usize
 }
 
-/// Takes the value of a lock out: the key of its cell. The seat's processor must hold the lock alone,
-/// and its value must be home.
-pub fn take(seat: &mut Right, table: &Words, plan: &Plan, lock: u32) -> Key
+// The word by whose load the value of a home goes out and comes home.
+fn quiet_word(plan: &Plan, home: usize) -> usize
+    requires lawful { IsRunningPlan plan.now }
+    requires near { home < 64 + 32 * cpus_of plan.now }
+    ensures { result ≡ quiet_at plan.now home }
+{
+    prove!(plan.locks.len() <= 32);
+    prove!(plan.topology.sockets.len() <= 64);
+    8 + 8 * plan.locks.len() + home
+}
+
+/// Takes the value of a home out, which the seat's processor reaches: the key of its cell. No value of
+/// its lock may be out.
+pub fn take(seat: &mut Right, table: &Words, plan: &Plan, home: usize) -> Key
     requires table { IsTableOf plan.now table.now.shared.table_id table.now.shared.key }
     requires seat { IsSeatOf plan.now table.now.shared.table_id seat.old }
-    requires lock { lock < locks_of plan.now }
-    requires valued { HasCell plan.now lock }
-    requires held { IsHomeWith lock seat.old.me.0.calls.holds }
-    requires home { seat.old.me.0.ledger.out ≡ None }
+    requires near { home < 64 + 32 * cpus_of plan.now }
+    requires valued { HasCell plan.now home }
+    requires held { IsHomeAt plan.now home seat.old.me.0.who.number seat.old.me.0.calls.holds }
+    requires journal { seat.old.me.0.ledger.out ≡ None }
     ensures same { (seat.new.table_id ≡ seat.old.table_id) × (seat.new.id ≡ seat.old.id) }
-    ensures view { seat.new.me.0 ≡ taking lock seat.old.me.0 }
+    ensures view { seat.new.me.0 ≡ taking (lock_of plan.now home) home seat.old.me.0 }
     ensures carried { seat.new.me.1 ≡ carried_of seat.new.me.0 }
-    ensures key { IsKeyOf plan.now lock result }
-    ensures apart { IsApart lock seat.old.me.0.who.outs }
+    ensures key { IsKeyOf plan.now home result }
+    ensures apart { IsClear plan.now (lock_of plan.now home) seat.old.me.0.who.outs }
 {
-    let word = quiet_word(plan, lock);
+    let word = quiet_word(plan, home);
     table.shared.load::<TakeValue>(seat, word);
-    let place = seat.slot_mut(&table.shared, 1 + lock as usize);
+    let place = seat.slot_mut(&table.shared, 1 + home);
     match place.take() {
         Some(Stowed::CellKey(key)) => key,
         Some(Stowed::Entries(_)) => unreachable!(),
@@ -52,23 +69,23 @@ pub fn take(seat: &mut Right, table: &Words, plan: &Plan, lock: u32) -> Key
     }
 }
 
-/// Brings the value of a lock home: the one that the seat's processor took out last.
-pub fn bring(seat: &mut Right, table: &Words, plan: &Plan, lock: u32, key: Key)
+/// Brings the value of a home there, the newest of those that are out with the seat.
+pub fn bring(seat: &mut Right, table: &Words, plan: &Plan, home: usize, key: Key)
     requires table { IsTableOf plan.now table.now.shared.table_id table.now.shared.key }
     requires seat { IsSeatOf plan.now table.now.shared.table_id seat.old }
-    requires lock { lock < locks_of plan.now }
-    requires valued { HasCell plan.now lock }
-    requires newest { IsNewestOut lock seat.old.me.0.who.outs }
-    requires home { seat.old.me.0.ledger.out ≡ None }
-    requires key { IsKeyOf plan.now lock key }
+    requires near { home < 64 + 32 * cpus_of plan.now }
+    requires valued { HasCell plan.now home }
+    requires newest { IsNewestAt plan.now (lock_of plan.now home) home seat.old.me.0.who.outs }
+    requires journal { seat.old.me.0.ledger.out ≡ None }
+    requires key { IsKeyOf plan.now home key }
     ensures same { (seat.new.table_id ≡ seat.old.table_id) × (seat.new.id ≡ seat.old.id) }
-    ensures view { seat.new.me.0 ≡ bringing lock seat.old.me.0 }
+    ensures view { seat.new.me.0 ≡ bringing (lock_of plan.now home) seat.old.me.0 }
     ensures carried { seat.new.me.1 ≡ carried_of seat.new.me.0 }
 {
-    let word = quiet_word(plan, lock);
+    let word = quiet_word(plan, home);
     match table
         .shared
-        .exchange(seat, 1 + lock as usize, Some(Stowed::CellKey(key)))
+        .exchange(seat, 1 + home, Some(Stowed::CellKey(key)))
     {
         None => {}
         Some(_) => unreachable!(),
@@ -87,7 +104,8 @@ pub fn take_out(cpu: &mut Cpu, domain: &Domain, lock: LockId) -> Key
     ensures taken { TakesValueOf lock.index cpu.old cpu.new }
     ensures key { IsKeyOf domain.now.plan lock.index result }
 {
-    take(&mut cpu.seat, &domain.table, &domain.plan, lock.index)
+    let home = lock.index as usize;
+    take(&mut cpu.seat, &domain.table, &domain.plan, home)
 }
 
 /// Brings it home: the value that the processor took out last.
@@ -95,10 +113,45 @@ pub fn bring_home(cpu: &mut Cpu, domain: &Domain, lock: LockId, key: Key)
     requires domain { IsOf cpu.old domain.now }
     requires lock { lock.index < locks_of domain.now.plan }
     requires valued { HasCell domain.now.plan lock.index }
-    requires newest { IsNewestOut lock.index (outs_of (view_of cpu.old)) }
+    requires newest { IsNewestAt domain.now.plan lock.index lock.index (outs_of (view_of cpu.old)) }
     requires home { (ledger_of cpu.old).out ≡ None }
     requires key { IsKeyOf domain.now.plan lock.index key }
     ensures brought { BringsValueOf lock.index cpu.old cpu.new }
 {
-    bring(&mut cpu.seat, &domain.table, &domain.plan, lock.index, key);
+    let home = lock.index as usize;
+    bring(&mut cpu.seat, &domain.table, &domain.plan, home, key);
+}
+
+/// Takes the copy of a lock's value for the processor of this number out: the key of its cell. The
+/// processor must hold the lock alone, or hold it as a reader and have the number. No other value of
+/// the lock may be out with it, and it frees the lock again only after the copy is home.
+pub fn take_copy(cpu: &mut Cpu, domain: &Domain, lock: LockId, number: u32) -> Key
+    requires domain { IsOf cpu.old domain.now }
+    requires lock { lock.index < locks_of domain.now.plan }
+    requires number { number < cpus_of domain.now.plan }
+    requires valued { HasCell domain.now.plan (copy_at domain.now.plan lock.index number) }
+    requires held { MayCopy lock.index number (view_of cpu.old) }
+    requires home { (ledger_of cpu.old).out ≡ None }
+    ensures taken { TakesValueAt lock.index (copy_at domain.now.plan lock.index number)
+        cpu.old cpu.new }
+    ensures key { IsKeyOf domain.now.plan (copy_at domain.now.plan lock.index number) result }
+{
+    let copy = copy_home(&domain.plan, lock.index, number);
+    take(&mut cpu.seat, &domain.table, &domain.plan, copy)
+}
+
+/// Brings it home: the value that the processor took out last.
+pub fn bring_copy(cpu: &mut Cpu, domain: &Domain, lock: LockId, number: u32, key: Key)
+    requires domain { IsOf cpu.old domain.now }
+    requires lock { lock.index < locks_of domain.now.plan }
+    requires number { number < cpus_of domain.now.plan }
+    requires valued { HasCell domain.now.plan (copy_at domain.now.plan lock.index number) }
+    requires newest { IsNewestAt domain.now.plan lock.index
+        (copy_at domain.now.plan lock.index number) (outs_of (view_of cpu.old)) }
+    requires home { (ledger_of cpu.old).out ≡ None }
+    requires key { IsKeyOf domain.now.plan (copy_at domain.now.plan lock.index number) key }
+    ensures brought { BringsValueOf lock.index cpu.old cpu.new }
+{
+    let copy = copy_home(&domain.plan, lock.index, number);
+    bring(&mut cpu.seat, &domain.table, &domain.plan, copy, key);
 }

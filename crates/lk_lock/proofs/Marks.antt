@@ -11,7 +11,7 @@ use Rattle.lk_domain.specs.Calls.{Mark, Running, Hold, Calls, Takes, holds_in, w
 use Rattle.lk_domain.specs.Ledgers.{Ledger, turned, opened, is_first}
 use Rattle.lk_domain.specs.Plans.{cpus_of}
 use Rattle.lk_domain.specs.Seats.{IsOf, IsSame}
-use Rattle.lk_domain.specs.Values.{is_sole, marked_out, out_in}
+use Rattle.lk_domain.specs.Values.{marked_out, out_in}
 use Rattle.lk_domain.specs.Waits.{MayTake}
 use Rattle.lk_domain.specs.Who.{Who}
 use Rattle.lk_domain.specs.declared.cpu.Cpu.{Cpu}
@@ -75,26 +75,25 @@ or_off a b e f = ap (λ x. x || b) e ∙ f
 and_off : (a b : Bool) → a ≡ false → (a && b) ≡ false
 and_off a b e = ap (λ x. x && b) e
 
-last_off : (a b : Bool) → (a && (b && false)) ≡ false
-last_off true true = refl
-last_off true false = refl
-last_off false b = refl
+last_off : (a : Bool) → (a && false) ≡ false
+last_off true = refl
+last_off false = refl
 
 pub out_none : (l : ℕ) (hs : List Hold) → holds_in hs l ≡ false → out_in hs l ≡ false
 out_none l [] none = refl
 out_none l (h ∷ hs) none = elim (cases_Bool (same_lock h.lock (lock_name l))) [
   | inl e ↦ absurd (let z : true ≡ false = sym (if-true (same_lock h.lock (lock_name l)) true (holds_in hs l) e) ∙ none in let y : ⊥ = cc z in y)
   | inr e ↦
-      or_off (same_lock h.lock (lock_name l) && (is_sole h.manner && h.out)) (out_in hs l)
-      (and_off (same_lock h.lock (lock_name l)) (is_sole h.manner && h.out) e)
+      or_off (same_lock h.lock (lock_name l) && h.out) (out_in hs l)
+      (and_off (same_lock h.lock (lock_name l)) h.out e)
       (out_none l hs (sym (if-false (same_lock h.lock (lock_name l)) true (holds_in hs l) e) ∙ none))
 ]
 
 pub out_home : (l n : ℕ) (m : Manner) (hs : List Hold) → holds_in hs l ≡ false
     → out_in (record { ctx = 0; lock = lock_name l; manner = m; nth = n; out = false } ∷ hs) l ≡ false
 out_home l n m hs none =
-    or_off (same_lock (lock_name l) (lock_name l) && (is_sole m && false)) (out_in hs l)
-    (last_off (same_lock (lock_name l) (lock_name l)) (is_sole m)) (out_none l hs none)
+    or_off (same_lock (lock_name l) (lock_name l) && false) (out_in hs l)
+    (last_off (same_lock (lock_name l) (lock_name l))) (out_none l hs none)
 
 -- where the lock is freed, what else was held is held
 

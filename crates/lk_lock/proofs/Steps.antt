@@ -7,17 +7,17 @@ use Rattle.lk_abs.specs.declared.holder.Manner.TheVariants.{Spins, Writes}
 use Rattle.lk_abs.specs.declared.names.LockName.{LockName}
 use Rattle.lk_machine.specs.declared.setup.Verb.{Verb}
 use Rattle.lk_machine.specs.declared.setup.Verb.TheVariants.{TryWrite}
-use Rattle.lk_values.specs.Guarded.{IsApart}
 use Rattle.lk_domain.specs.Calls.{Terms, Mark, Running, Hold, hold, Calls, Frees, holds_in, hold_in, lock_name, moved_to, free_of}
 use Rattle.lk_domain.specs.Ledgers.{Ledger, turned, closed, is_first}
 use Rattle.lk_domain.specs.Paths.{HasLooked, HasFreed}
 use Rattle.lk_domain.specs.Plans.{cpus_of}
 use Rattle.lk_domain.specs.Seats.{IsSame, KeepsRest, TakesValueOf, BringsValueOf, calls_of, ledger_of, view_of}
-use Rattle.lk_domain.specs.Values.{IsHomeWith, IsNewestOut, is_sole, marked_out, older, outs_of}
+use Rattle.lk_domain.specs.Values.{IsClear, IsHomeWith, IsNewestAt, is_sole, marked_out, older, outs_of}
 use Rattle.lk_domain.specs.Waits.{Gains, Misses}
 use Rattle.lk_domain.specs.Who.{Who}
 use Rattle.lk_domain.specs.declared.cpu.Cpu.{Cpu}
 use Rattle.lk_domain.specs.declared.domain.Domain.{Domain}
+use Rattle.lk_domain.specs.declared.plan.Plan.{Plan}
 use Rattle.lk_domain.specs.declared.view.View.{View}
 use Rattle.lk_run.specs.Entering.{HasLeft}
 use Rattle.lk_machine.specs.declared.parts.Pc.TheVariants.{Z2}
@@ -144,17 +144,18 @@ inside l n m old mid new same is free out =
       holds = ap (λ (v : View). v.calls.holds) out.view
           ∙ (ap (λ (xs : List Hold). marked_out l true xs) is ∙ marked l n m false true (holds_of old));
       fresh = free;
-      apart = subst (λ (w : Who). IsApart l w.outs) same.who out.apart;
+      apart = subst (λ (w : Who). IsClear w.plan l w.outs) same.who out.apart;
     }
 
 module _ (l : ℕ) (m : Manner) (before old : Cpu) (in_it : IsInside l m before old) where
   -- its value is the newest that is out
-  pub newest_out : IsNewestOut l (outs_of (view_of old))
-  newest_out =
+  pub newest_out : (k : Plan) → (view_of old).who.plan ≡ k → IsNewestAt k l l (outs_of (view_of old))
+  newest_out k same =
       record {
         others = outs_of (view_of before);
         is = ap (λ (w : Who). w.outs) in_it.who;
-        apart = in_it.apart;
+        apart = subst (λ (j : Plan). IsClear j l (outs_of (view_of before)))
+            (sym (ap (λ (w : Who). w.plan) in_it.who) ∙ same) in_it.apart;
       }
 
   -- with its value home

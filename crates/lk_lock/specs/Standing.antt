@@ -8,12 +8,11 @@ use Rattle.lk_abs.specs.declared.names.Kind.{Kind}
 use Rattle.lk_machine.specs.declared.setup.Verb.{Verb}
 use Rattle.lk_machine.specs.declared.setup.Verb.TheVariants.{TryWrite}
 use Rattle.lk_machine.specs.declared.parts.Pc.TheVariants.{Z2}
-use Rattle.lk_values.specs.Guarded.{IsApart}
 use Rattle.lk_domain.specs.Calls.{Terms, Mark, Hold, Calls, holds_in, lock_name}
 use Rattle.lk_domain.specs.Paths.{HasTaken, HasFreed}
 use Rattle.lk_domain.specs.Plans.{locks_of, kind_at}
 use Rattle.lk_domain.specs.Seats.{IsOf, IsSame, calls_of, ledger_of, view_of}
-use Rattle.lk_domain.specs.Values.{cell_of, outs_of, marked_out}
+use Rattle.lk_domain.specs.Values.{IsClear, cell_of, outs_of, marked_out}
 use Rattle.lk_domain.specs.declared.cpu.Cpu.{Cpu}
 use Rattle.lk_domain.specs.declared.domain.Domain.{Domain}
 use Rattle.lk_domain.specs.declared.plan.Plan.{Plan}
@@ -57,7 +56,7 @@ pub record IsInside (l : ℕ) (m : Manner) (before now : Cpu) : Type 0 where
   pub nth : ℕ
   pub holds : holds_of now ≡ out_with l m nth ∷ holds_of before
   pub fresh : holds_in (holds_of before) l ≡ false
-  pub apart : IsApart l (outs_of (view_of before))
+  pub apart : IsClear (view_of before).who.plan l (outs_of (view_of before))
 
 -- the calls, once the value of a lock has gone out, or has come home
 abbrev pub valued : ℕ → Bool → Calls → Calls

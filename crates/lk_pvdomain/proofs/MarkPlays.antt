@@ -106,7 +106,7 @@ wake_plays k slots id m number x halting is_x asleep s both long me small =
       record {
         runs = on.wake_step k s st id m.0 me p number.1 halting x is_x asleep (woken m.0) refl refl s.homes;
         keeps = alters k s both.keeps id m.0 (woken m.0) (set s.words j 0) me refl
-            (knows_same k both.keeps.journal m.0 (woken m.0) (both.keeps.knows id m.0 me) refl refl refl refl (λ l is. is))
+            (knows_same k both.keeps.journal m.0 (woken m.0) (both.keeps.knows id m.0 me) refl refl refl refl (λ l m is. is))
             (get_or-set_other s.words j 0 0 0 (λ e. bare.roll (sym e)))
             (get_or-set_other s.words j version_at 0 0 (λ e. bare.version (sym e)))
             (λ a lt. get_or-set_other s.words j (balance_at k a) 0 0 (λ e. bare.balances a lt (sym e))) refl refl;

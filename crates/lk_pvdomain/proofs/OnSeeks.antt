@@ -408,7 +408,7 @@ look_plays k slots id m number v lock pc halting near acts has low s both long m
       runs = look_step k s st id m.0 me p number.1 j n a
           (λ x rs frames h. subst (λ (z : LockName). Sought k s.words z.index n a) (top_lock acts.is frames) sought) s.homes;
       keeps = alters k s both.keeps id m.0 (record m.0 { calls = record m.0.calls { looked = n; spot = a } }) (set s.words j (get_or s.words j 0)) me refl
-          (knows_same k both.keeps.journal m.0 (record m.0 { calls = record m.0.calls { looked = n; spot = a } }) (both.keeps.knows id m.0 me) refl refl refl refl (λ l is. is))
+          (knows_same k both.keeps.journal m.0 (record m.0 { calls = record m.0.calls { looked = n; spot = a } }) (both.keeps.knows id m.0 me) refl refl refl refl (λ l x is. is))
           (get_or-set_other s.words j 0 (get_or s.words j 0) 0 (λ e. bare.roll (sym e)))
           (get_or-set_other s.words j version_at (get_or s.words j 0) 0 (λ e. bare.version (sym e)))
           (λ a lt. get_or-set_other s.words j (balance_at k a) (get_or s.words j 0) 0 (λ e. bare.balances a lt (sym e))) refl refl;

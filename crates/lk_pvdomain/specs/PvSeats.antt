@@ -5,12 +5,11 @@ use Rattle.lk_domain.specs.Calls.{Calls, no_calls}
 use Rattle.lk_domain.specs.Ends.{IsFinalOf}
 use Rattle.lk_domain.specs.Ledgers.{Ledger, with_share}
 use Rattle.lk_domain.specs.Plans.{cpus_of, share_of}
-use Rattle.lk_domain.specs.Values.{bringing, outs_of, taking}
+use Rattle.lk_domain.specs.Values.{IsClear, bringing, outs_of, taking}
 use Rattle.lk_domain.specs.Views.{newcomer}
 use Rattle.lk_domain.specs.Seated.{HasLoadedBy, HasSeenBy, HasStoredBy}
 use Rattle.lk_domain.specs.declared.plan.Plan.{Plan}
 use Rattle.lk_domain.specs.declared.view.View.{View}
-use Rattle.lk_values.specs.Guarded.{IsApart}
 use Rattle.lk_pvdomain.specs.declared.cpu.PvCpu.{PvCpu}
 use Rattle.lk_pvdomain.specs.declared.domain.PvDomain.{PvDomain}
 
@@ -59,8 +58,8 @@ pub record TakesValueOf (l : ℕ) (old new : PvCpu) : Type 0 where
   pub table : new.seat.table_id ≡ old.seat.table_id
   pub id : new.seat.id ≡ old.seat.id
   pub number : new.number ≡ old.number
-  pub view : view_of new ≡ taking l (view_of old)
-  pub apart : IsApart l (outs_of (view_of old))
+  pub view : view_of new ≡ taking l l (view_of old)
+  pub apart : IsClear (view_of old).who.plan l (outs_of (view_of old))
 
 -- it is home
 pub record BringsValueOf (l : ℕ) (old new : PvCpu) : Type 0 where

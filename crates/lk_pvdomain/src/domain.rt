@@ -3,6 +3,7 @@ ghost use Rattle.std.specs.Prelude.{◌≡◌, ◌<◌, ◌+◌, Some, true};
 ghost use Rattle.lk_word.specs.SpinWord.{index_unit, tail_number};
 ghost use Rattle.lk_law.specs.Agree.{halts};
 ghost use Rattle.lk_domain.specs.Plans.{IsRunningPlan, cpus_of, layout_in, locks_of, accounts_of, turns_of};
+ghost use Rattle.lk_domain.specs.Values.{homes_of};
 ghost use Rattle.lk_domain.specs.Words.{words_of, lock_at, IsNode, state_at, kick_at, hash_at, places_of};
 ghost use Rattle.lk_domain.specs.Words.{state_number, far_of, node_at, name_number, part_index, pair_number};
 
@@ -23,7 +24,7 @@ pub struct PvDomain {
     ghost lawful: { IsRunningPlan plan },
     ghost halting: { halts plan.mode ≡ true },
     ghost words: { table.shared.table_id.words ≡ words_of plan },
-    ghost slots: { table.shared.table_id.slots ≡ 1 + locks_of plan },
+    ghost slots: { table.shared.table_id.slots ≡ 1 + homes_of plan },
     ghost key: { table.shared.key ≡ plan },
 }
 

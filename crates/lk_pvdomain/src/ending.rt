@@ -97,7 +97,7 @@ pub fn pv_close(alloc: Global, domain: PvDomain, cpus: List<PvCpu>) -> Result<Pv
     let Ok(mut balances) = List::new(alloc, domain.accounts() as usize) else {
         return Err(PvBack { domain, cpus });
     };
-    let Ok(mut keys) = List::new(alloc, domain.plan.locks.len()) else {
+    let Ok(mut keys) = List::new(alloc, domain.table.slot_count() - 1) else {
         return Err(PvBack { domain, cpus });
     };
     let at_end = Snapshot::of(&cpus);

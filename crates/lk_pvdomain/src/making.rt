@@ -15,7 +15,7 @@ use crate::plan::PvPlan;
 use atomic_table::{Refused, Table};
 use lk_abs::{List, Memory};
 use lk_cell::Key;
-use lk_domain::{Deal, Draw, Journal, Plan, Right, no_keys, opening_slots, opening_words};
+use lk_domain::{Deal, Draw, Journal, Plan, Right, opening_slots, opening_words};
 use std::alloc::Global;
 use std::snapshot::Snapshot;
 
@@ -32,7 +32,7 @@ impl PvDomain {
         ensures many { IfOk result (λ made. length made.1.items ≡ length plan.now.shares.items) }
         ensures cpus { IfOk result (λ made. AreDealt made.0 made.1.items) }
     {
-        let keys = no_keys(alloc, plan.locks as usize)?;
+        let keys = List::new(alloc, 0)?;
         PvDomain::with_values(alloc, plan, keys)
     }
 
@@ -48,7 +48,6 @@ impl PvDomain {
         keys: List<Option<Key>>,
     ) -> Result<(PvDomain, List<PvCpu>), Memory>
         requires lawful { IsLawful plan.now }
-        requires locks { length keys.items ≡ plan.now.locks }
         requires shut { AreShut keys.items }
         ensures plan { IfOk result (λ made. IsPlanOf plan.now made.0.plan) }
         ensures many { IfOk result (λ made. length made.1.items ≡ length plan.now.shares.items) }

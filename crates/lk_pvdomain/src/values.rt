@@ -2,7 +2,7 @@
 // cell, and brings it home.
 ghost use Rattle.std.specs.Prelude.{◌≡◌, ◌<◌, None};
 ghost use Rattle.lk_domain.specs.Plans.{locks_of};
-ghost use Rattle.lk_domain.specs.Values.{HasCell, IsHomeWith, IsKeyOf, IsNewestOut, outs_of};
+ghost use Rattle.lk_domain.specs.Values.{HasCell, IsHomeWith, IsKeyOf, IsNewestAt, outs_of};
 ghost use Rattle.lk_pvdomain.specs.PvSeats.{BringsValueOf, IsOf, TakesValueOf};
 ghost use Rattle.lk_pvdomain.specs.PvSeats.{calls_of, ledger_of, view_of};
 
@@ -22,7 +22,8 @@ pub fn pv_take_out(cpu: &mut PvCpu, domain: &PvDomain, lock: LockId) -> Key
     ensures taken { TakesValueOf lock.index cpu.old cpu.new }
     ensures key { IsKeyOf domain.now.plan lock.index result }
 {
-    values::take(&mut cpu.seat, &domain.table, &domain.plan, lock.index)
+    let home = lock.index as usize;
+    values::take(&mut cpu.seat, &domain.table, &domain.plan, home)
 }
 
 /// Brings it home: the value that the processor took out last.
@@ -30,10 +31,11 @@ pub fn pv_bring_home(cpu: &mut PvCpu, domain: &PvDomain, lock: LockId, key: Key)
     requires domain { IsOf cpu.old domain.now }
     requires lock { lock.index < locks_of domain.now.plan }
     requires valued { HasCell domain.now.plan lock.index }
-    requires newest { IsNewestOut lock.index (outs_of (view_of cpu.old)) }
+    requires newest { IsNewestAt domain.now.plan lock.index lock.index (outs_of (view_of cpu.old)) }
     requires home { (ledger_of cpu.old).out ≡ None }
     requires key { IsKeyOf domain.now.plan lock.index key }
     ensures brought { BringsValueOf lock.index cpu.old cpu.new }
 {
-    values::bring(&mut cpu.seat, &domain.table, &domain.plan, lock.index, key);
+    let home = lock.index as usize;
+    values::bring(&mut cpu.seat, &domain.table, &domain.plan, home, key);
 }

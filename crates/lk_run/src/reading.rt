@@ -19,6 +19,7 @@ ghost use Rattle.lk_domain.specs.Calls.{Calls, lock_name, way_in};
 ghost use Rattle.lk_domain.specs.Paths.{Any};
 ghost use Rattle.lk_domain.specs.Plans.{locks_of, kind_at};
 ghost use Rattle.lk_domain.specs.Seats.{IsOf, KeepsRest, calls_of};
+ghost use Rattle.lk_domain.specs.Values.{out_in};
 ghost use Rattle.lk_domain.specs.Waits.{MayTake, WaitsAt, Gains, Misses, Moves};
 ghost use Rattle.lk_run.specs.Entering.{Leaves};
 ghost use Rattle.lk_run.specs.Phases.{Start, Waits, CameIn, biased, starting};
@@ -307,6 +308,7 @@ pub fn read_unlock(cpu: &mut Cpu, domain: &Domain, lock: LockId)
     requires kind { kind_at domain.now.plan lock.index ≡ Rw }
     requires few { length (calls_of cpu.old).frames < 6 }
     requires held { way_in (calls_of cpu.old).holds lock.index ≡ Some Reads }
+    requires value { out_in (calls_of cpu.old).holds lock.index ≡ false }
     ensures rest { KeepsRest cpu.old cpu.new }
     ensures left { Leaves Z1 lock.index cpu.old cpu.new }
 {

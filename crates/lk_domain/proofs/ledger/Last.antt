@@ -14,9 +14,9 @@ use Rattle.lk_abs.specs.declared.ledger.Entry.{Entry}
 use Rattle.lk_domain.specs.Calls.{Calls, Hold, no_calls, way_in}
 use Rattle.lk_domain.specs.Ends.{IsEnd}
 use Rattle.lk_domain.specs.Keeps.{Slot, Keeps, AtHome, Away, balance, sole_count}
-use Rattle.lk_domain.specs.Plans.{cpus_of, accounts_of, locks_of}
+use Rattle.lk_domain.specs.Plans.{cpus_of, accounts_of}
 use Rattle.lk_domain.specs.Stand.{Stand}
-use Rattle.lk_domain.specs.Values.{HoldsAlone, FitsUnder, Fits, Key, cell_of, lodged, outs_of}
+use Rattle.lk_domain.specs.Values.{Reaches, FitsUnder, Fits, Key, cell_of, homes_of, lock_of, lodged, outs_of}
 use Rattle.lk_domain.specs.Views.{numbers, times}
 use Rattle.lk_domain.specs.Words.{balance_at}
 use Rattle.lk_domain.specs.declared.journal.Journal.{Journal}
@@ -96,8 +96,9 @@ ended_with k id v ws xs slot fin all home at =
 -- Where one seat has all numbers and holds nothing, nobody holds a lock: each value is at home.
 
 idle_end : (k : Plan) (s : State Slot View) (both : Stand k s) (id : ℕ) (v : View) → get_elem? s.views id ≡ some v
-    → ((q : ℕ) → q < cpus_of k → 1 ≤ times q (numbers v)) → v.calls.holds ≡ [] → AreIdle HoldsAlone s.views
-idle_end k s both id v me all none l i u here has =
+    → ((q : ℕ) → q < cpus_of k → 1 ≤ times q (numbers v)) → v.calls.holds ≡ [] → AreIdle (Reaches k) s.views
+idle_end k s both id v me all none q i u here has =
+    let l = lock_of k q in
     let way = hold_way u.calls.holds l has.manner has.out has.held in
     dite (ℕ_discrete i id)
     (λ is.
@@ -118,11 +119,11 @@ idle_end k s both id v me all none l i u here has =
     absurd (omega (arith, a, b, d, f, g)))
 
 pub values_end : (k : Plan) (id : ℕ) (v : View) (ws : List ℕ) (xs : List Slot) → Final (Seen (Stand k) id v) ws xs
-    → ((q : ℕ) → q < cpus_of k → 1 ≤ times q (numbers v)) → v.calls.holds ≡ [] → AreFit 1 (locks_of k) (FitsUnder k) xs
+    → ((q : ℕ) → q < cpus_of k → 1 ≤ times q (numbers v)) → v.calls.holds ≡ [] → AreFit 1 (homes_of k) (FitsUnder k) xs
 values_end k id v ws xs fin all none l low =
     let s = fin.0 in
     let both = fin.1.0 in
-    let h = idle_is_home 1 (locks_of k) HoldsAlone outs_of (FitsUnder k) s.homes s.views l both.keeps.values
+    let h = idle_is_home 1 (homes_of k) (Reaches k) outs_of (FitsUnder k) s.homes s.views l both.keeps.values
     (idle_end k s both id v fin.1.1 all none) low in
     (h.value, fin.4 (1 + l) h.value h.home, h.meets)
 

@@ -21,11 +21,11 @@ use Rattle.lk_domain.specs.Keeps.{Slot, AtHome, Away, AreWords, IsOpen, IsSight,
 use Rattle.lk_domain.specs.Keeps.{AreLoaded, IsVersion, IsPast, ArePast, Knows, Keeps, undrawn}
 use Rattle.lk_domain.specs.Keeps.{any_count, sole_count, AllHome}
 use Rattle.lk_domain.specs.Ledgers.{Ledger, Look, Past, turned, opened, closed, listed_look, is_first}
-use Rattle.lk_domain.specs.Plans.{accounts_of, locks_of}
-use Rattle.lk_domain.specs.Values.{HoldsAlone, IsOutWith, outs_of, FitsUnder}
+use Rattle.lk_domain.specs.Plans.{accounts_of}
+use Rattle.lk_domain.specs.Values.{IsOutAt, IsOutWith, Reaches, outs_of, homes_of, FitsUnder}
 use Rattle.lk_values.specs.Guarded.{Among, Guarded, KeepsRights}
 use Rattle.lk_values.proofs.Guards.{step_keeps, step_leaves}
-use Rattle.lk_domain.proofs.Outs.{SameHolds, out_after, stays_out, out_alone}
+use Rattle.lk_domain.proofs.Outs.{SameHolds, KeepsOuts, out_after, stays_out, outs_kept, out_reached}
 use Rattle.lk_domain.specs.Views.{past_of, all_past}
 use Rattle.lk_domain.specs.Who.{Who}
 use Rattle.lk_domain.specs.Words.{version_at, balance_at}
@@ -75,7 +75,7 @@ open_same k js c d (Some x) e h = (e ∙ h.0, h.1)
 pub knows_same : (k : Plan) (js : List Entry) (v w : View) → Knows k js v → w.who ≡ v.who
     → w.ledger ≡ v.ledger → any_count w.calls.holds ≡ any_count v.calls.holds
     → sole_count w.calls.holds ≡ sole_count v.calls.holds
-    → ((l : ℕ) → IsOutWith l v.calls.holds → IsOutWith l w.calls.holds) → Knows k js w
+    → KeepsOuts v.calls.holds w.calls.holds → Knows k js w
 knows_same k js v w h who same any sole outs =
     record {
       holder = λ ne. sole ∙ h.holder (λ e. ne (ap (λ (g : Ledger). g.out) same ∙ e));
@@ -86,7 +86,8 @@ knows_same k js v w h who same any sole outs =
       own = λ p e. ap (λ (g : Ledger). g.own) same ∙ h.own p (sym (ap (λ (x : Who). x.number) who) ∙ e);
       quiet = λ e. same ∙ h.quiet (sym (ap (λ (x : Who). x.number) who) ∙ e);
       past = subst (λ (x : Who). ArePast k js x.ended) (sym who) h.past;
-      values = λ l among. outs l (h.values l (subst (λ (x : Who). Among l x.outs) who among));
+      values = λ q among. subst (λ (x : Who). IsOutAt k q x.number w.calls.holds) (sym who)
+          (outs_kept k q v.who.number v.calls.holds w.calls.holds outs (h.values q (subst (λ (x : Who). Among q x.outs) who among)));
     }
 
 -- the name of lock 0
@@ -106,16 +107,19 @@ module _ (k : Plan) (js : List Entry) (v w : View) (p : ℕ) (is : v.who.number 
   -- a value that is out is out with a hold that the row leaves
   left_out : (y : Grip) → w.calls.holds ≡ holds_after y d j (c.taken + 1) c.holds
       → ((m : Manner) → y ≡ Takes m → holds_in c.holds j.index ≡ false)
-      → (y ≡ Frees → AllHome j v) → (l : ℕ) → IsOutWith l v.calls.holds → IsOutWith l w.calls.holds
-  left_out y h fresh home l is =
-      subst (IsOutWith l) (sym h)
-      (out_after y d (c.taken + 1) j c.holds l fresh
+      → (y ≡ Frees → AllHome j v) → KeepsOuts v.calls.holds w.calls.holds
+  left_out y h fresh home l m is =
+      subst (IsOutWith l m) (sym h)
+      (out_after y d (c.taken + 1) j c.holds l m fresh
       (λ e plain. (same j.index).out ∙ (home e).value plain)
-      (stays_out v.calls.holds c.holds l (same l).hold is))
+      (stays_out v.calls.holds c.holds l m (same l).hold is))
 
-  values_left : ((l : ℕ) → IsOutWith l v.calls.holds → IsOutWith l w.calls.holds) → (l : ℕ)
-      → Among l (outs_of w) → IsOutWith l w.calls.holds
-  values_left outs l among = outs l (knows.values l (subst (λ (x : Who). Among l x.outs) who among))
+  values_left : KeepsOuts v.calls.holds w.calls.holds → (q : ℕ)
+      → Among q (outs_of w) → IsOutAt k q w.who.number w.calls.holds
+  values_left outs q among =
+      subst (λ (x : Who). IsOutAt k q x.number w.calls.holds) (sym who)
+      (outs_kept k q v.who.number v.calls.holds w.calls.holds outs
+      (knows.values q (subst (λ (x : Who). Among q x.outs) who among)))
 
   no_number : w.who.number ≡ None → ⊥
   no_number e = let n : Some p ≡ None = sym is ∙ (sym (ap (λ (x : Who). x.number) who) ∙ e) in cc n
@@ -123,7 +127,7 @@ module _ (k : Plan) (js : List Entry) (v w : View) (p : ℕ) (is : v.who.number 
   -- the same of another lock
   other : (y : Grip) → is_first j ≡ false → w.ledger ≡ turned v.ledger j y t
       → w.calls.holds ≡ holds_after y d j (c.taken + 1) c.holds
-      → ((l : ℕ) → IsOutWith l v.calls.holds → IsOutWith l w.calls.holds) → Knows k js w
+      → KeepsOuts v.calls.holds w.calls.holds → Knows k js w
   other Unchanged off g h outs = knows_same k js v w knows who g (ap any_count h ∙ any) (ap sole_count h ∙ sole) outs
   other (Takes m) off g h outs =
       knows_same k js v w knows who (g ∙ if-false (is_first j) (opened v.ledger m t) v.ledger off)
@@ -138,7 +142,7 @@ module _ (k : Plan) (js : List Entry) (v w : View) (p : ℕ) (is : v.who.number 
       → w.calls.holds ≡ holds_after y d j (c.taken + 1) c.holds
       → ((m : Manner) → y ≡ Takes m → holds_in c.holds j.index ≡ false)
       → (y ≡ Frees → v.ledger.out ≡ None)
-      → ((l : ℕ) → IsOutWith l v.calls.holds → IsOutWith l w.calls.holds) → Knows k js w
+      → KeepsOuts v.calls.holds w.calls.holds → Knows k js w
   first Unchanged on g h fresh home outs = knows_same k js v w knows who g (ap any_count h ∙ any) (ap sole_count h ∙ sole) outs
   first (Takes m) on g h fresh home outs =
       let g' : w.ledger ≡ opened v.ledger m t = g ∙ if-true (is_first j) (opened v.ledger m t) v.ledger on in
@@ -190,25 +194,25 @@ module _ (k : Plan) (js : List Entry) (v w : View) (p : ℕ) (is : v.who.number 
 
 -- who knows so has the right to the values that it has out
 pub rights_of : (k : Plan) (js : List Entry) (v w : View) → Knows k js w → w.who.outs ≡ v.who.outs
-    → KeepsRights HoldsAlone outs_of v w
+    → KeepsRights (Reaches k) outs_of v w
 rights_of k js v w knows outs =
     record {
       same = outs;
-      rights = λ l among _. out_alone w.calls.holds l (knows.values l (subst (Among l) (sym outs) among));
+      rights = λ q among _. out_reached k q w.who.number w.calls.holds (knows.values q (subst (Among q) (sym outs) among));
     }
 
 -- The values after a step that leaves their slots: all slots, or all but the journal's.
 pub same_slots : (k : Plan) (s : State Slot View) (kp : Keeps k s) (id : ℕ) (v w : View) {js : List Entry}
     → get_elem? s.views id ≡ some v → Knows k js w → w.who.outs ≡ v.who.outs
-    → Guarded 1 (locks_of k) HoldsAlone outs_of (FitsUnder k) s.homes (set s.views id w)
+    → Guarded 1 (homes_of k) (Reaches k) outs_of (FitsUnder k) s.homes (set s.views id w)
 same_slots k s kp id v w {js} me knows outs =
-    step_keeps 1 (locks_of k) HoldsAlone outs_of (FitsUnder k) s.homes s.views id v w kp.values me (rights_of k js v w knows outs)
+    step_keeps 1 (homes_of k) (Reaches k) outs_of (FitsUnder k) s.homes s.views id v w kp.values me (rights_of k js v w knows outs)
 
 pub first_slot : (k : Plan) (s : State Slot View) (kp : Keeps k s) (id : ℕ) (v w : View) (x : Maybe Slot) {js : List Entry}
     → get_elem? s.views id ≡ some v → Knows k js w → w.who.outs ≡ v.who.outs
-    → Guarded 1 (locks_of k) HoldsAlone outs_of (FitsUnder k) (set s.homes 0 x) (set s.views id w)
+    → Guarded 1 (homes_of k) (Reaches k) outs_of (FitsUnder k) (set s.homes 0 x) (set s.views id w)
 first_slot k s kp id v w x {js} me knows outs =
-    step_leaves 1 (locks_of k) HoldsAlone outs_of (FitsUnder k) s.homes (set s.homes 0 x) s.views id v w kp.values
+    step_leaves 1 (homes_of k) (Reaches k) outs_of (FitsUnder k) s.homes (set s.homes 0 x) s.views id v w kp.values
     (length-set s.homes 0 x) (λ l low. set_else s.homes 0 (1 + l) x (λ e. omega arith)) me (rights_of k js v w knows outs)
 
 -- the journal stays where it is, where its slot is left

@@ -324,7 +324,7 @@ module _ (k : Plan) (slots id : ℕ) (m : Me Slot View) (number : IsNumbered m.0
             (seeks_same k s.words (set s.words j n) (λ i high. ap (λ (ws : List ℕ). get_or ws i 0) same_words)
             m.0.calls (st.seeks id m.0 me)) s.homes;
         keeps = alters k s both.keeps id m.0 u (set s.words j n) me refl
-            (knows_same k both.keeps.journal m.0 u (both.keeps.knows id m.0 me) refl refl refl refl (λ l is. is))
+            (knows_same k both.keeps.journal m.0 u (both.keeps.knows id m.0 me) refl refl refl refl (λ l m is. is))
             (ap (λ (ws : List ℕ). get_or ws 0 0) same_words) (ap (λ (ws : List ℕ). get_or ws version_at 0) same_words)
             (λ b lt. ap (λ (ws : List ℕ). get_or ws (balance_at k b) 0) same_words) refl refl;
       }

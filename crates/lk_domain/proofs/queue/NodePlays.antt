@@ -415,7 +415,7 @@ reset_on k slots id m number q low ready step at s both long me small =
       record {
         runs = on.resets k s both.runs id m.0 me number.0 number.1 q low ready u refl refl s.homes;
         keeps = alters k s both.keeps id m.0 u (set s.words j 0) me refl
-            (knows_same k both.keeps.journal m.0 u (both.keeps.knows id m.0 me) refl refl refl refl (λ l is. is))
+            (knows_same k both.keeps.journal m.0 u (both.keeps.knows id m.0 me) refl refl refl refl (λ l m is. is))
             (get_or-set_other s.words j 0 0 0 (λ e. bare.roll (sym e)))
             (get_or-set_other s.words j version_at 0 0 (λ e. bare.version (sym e)))
             (λ a lt. get_or-set_other s.words j (balance_at k a) 0 0 (λ e. bare.balances a lt (sym e))) refl refl;

@@ -1,5 +1,5 @@
 -- What the steps on the word of a reader-writer lock do to its number.
-use Rattle.std.proofs.Common.{◌≡◌, inl, inr, ℕ, ◌+◌, ◌-◌, ◌*◌, ◌%◌, ◌^◌, ◌<◌}
+use Rattle.std.proofs.Common.{◌≡◌, ◌≢◌, ◌⊎◌, inl, inr, ℕ, ◌+◌, ◌-◌, ◌*◌, ◌%◌, ◌^◌, ◌<◌}
 use Rattle.std.proofs.Common.{Bool, true, false, eqb, eq-eqb, ne_eqb, refl, sym, ap, ◌∙◌, arith}
 use Rattle.std.proofs.lemmas.Bool.{cases_Bool, cases_eq}
 use Rattle.std.proofs.lemmas.Nat.{or_block}
@@ -19,6 +19,8 @@ use Rattle.lk_machine.specs.declared.setup.Verb.TheVariants.{WUnlock}
 use Rattle.lk_machine.specs.rows.Rw.{rw_row, one_more, one_less, written_word, is_open, is_empty, is_cleared}
 use Rattle.lk_law.specs.Families.{is_rw_row}
 use Rattle.lk_law.specs.RwKnown.{RwKnown}
+use Rattle.lk_domain.specs.RwUses.{frees_by_use}
+use Rattle.lk_domain.specs.declared.rw_moves.RwUse.TheVariants.{Quits}
 use Rattle.lk_domain.specs.RwRows.{has_no_writer, lets_in, watches_by, joins_by, quits_by, seizes_by, awaits_by, follows_by, leaves_by}
 
 -- they are rows of readers and writers
@@ -278,22 +280,30 @@ leaves mode v c f y h fits known = by v c h known
     by WUnlock Z2 h on = unwritten y fits on
     by _ _ h on = cc h
 
--- but for the release of a writer none is one
+-- but for the releases none is one
 
-pub watch_last : (v : Verb) (c : Pc) → watches_by v c ≡ true → c ≡ Z2 → ⊥
-watch_last v c h e = grind (arith, h, e)
+pub watch_last : (v : Verb) (c : Pc) → watches_by v c ≡ true → (c ≡ Z1) ⊎ (c ≡ Z2) → ⊥
+watch_last v c h e = elim e [ inl a ↦ grind (arith, h, a) | inr b ↦ grind (arith, h, b) ]
 
-pub join_last : (v : Verb) (c : Pc) → joins_by v c ≡ true → c ≡ Z2 → ⊥
-join_last v c h e = grind (arith, h, e)
+pub join_last : (v : Verb) (c : Pc) → joins_by v c ≡ true → (c ≡ Z1) ⊎ (c ≡ Z2) → ⊥
+join_last v c h e = elim e [ inl a ↦ grind (arith, h, a) | inr b ↦ grind (arith, h, b) ]
 
-pub quit_last : (v : Verb) (c : Pc) → quits_by v c ≡ true → c ≡ Z2 → ⊥
-quit_last v c h e = grind (arith, h, e)
+pub seize_last : (v : Verb) (c : Pc) → seizes_by v c ≡ true → (c ≡ Z1) ⊎ (c ≡ Z2) → ⊥
+seize_last v c h e = elim e [ inl a ↦ grind (arith, h, a) | inr b ↦ grind (arith, h, b) ]
 
-pub seize_last : (v : Verb) (c : Pc) → seizes_by v c ≡ true → c ≡ Z2 → ⊥
-seize_last v c h e = grind (arith, h, e)
+pub await_last : (v : Verb) (c : Pc) → awaits_by v c ≡ true → (c ≡ Z1) ⊎ (c ≡ Z2) → ⊥
+await_last v c h e = elim e [ inl a ↦ grind (arith, h, a) | inr b ↦ grind (arith, h, b) ]
 
-pub await_last : (v : Verb) (c : Pc) → awaits_by v c ≡ true → c ≡ Z2 → ⊥
-await_last v c h e = grind (arith, h, e)
+pub follow_last : (v : Verb) (c : Pc) → follows_by v c ≡ true → (c ≡ Z1) ⊎ (c ≡ Z2) → ⊥
+follow_last v c h e = elim e [ inl a ↦ grind (arith, h, a) | inr b ↦ grind (arith, h, b) ]
 
-pub follow_last : (v : Verb) (c : Pc) → follows_by v c ≡ true → c ≡ Z2 → ⊥
-follow_last v c h e = grind (arith, h, e)
+-- and that of a reader is not that of a writer
+
+pub quit_frees : (v : Verb) (c : Pc) → quits_by v c ≡ true → c ≡ Z1 → frees_by_use Quits v ≡ true
+quit_frees v c h e = grind (arith, h, e)
+
+pub quit_reads : (v : Verb) (c : Pc) → quits_by v c ≡ true → c ≡ Z2 → ⊥
+quit_reads v c h e = grind (arith, h, e)
+
+pub leave_writes : (v : Verb) (c : Pc) → leaves_by v c ≡ true → c ≡ Z1 → ⊥
+leave_writes v c h e = grind (arith, h, e)

@@ -41,7 +41,6 @@ use Rattle.lk_domain.specs.Calls.{terms_of, Calls, StandsOn, row_of, acting, Beg
 use Rattle.lk_domain.specs.Keeps.{sole_count}
 use Rattle.lk_domain.specs.Plans.{cpus_of, locks_of}
 use Rattle.lk_domain.specs.Runs.{waiter, node_name, IsIdle, IsStored, Runs}
-use Rattle.lk_domain.specs.Values.{out_in}
 use Rattle.lk_domain.specs.Words.{lock_at, node_at, node_number, stored_number}
 use Rattle.lk_domain.specs.declared.plan.Plan.{Plan}
 use Rattle.lk_domain.specs.declared.view.View.{View}
@@ -55,7 +54,6 @@ use Rattle.lk_domain.proofs.words.Locks.{shared_stored}
 use Rattle.lk_domain.proofs.Manners.{held_above, held_cases}
 use Rattle.lk_domain.proofs.Stacks.{frame_in-above}
 use Rattle.lk_domain.proofs.seats.Totals.{drawn, nobodys}
-use Rattle.lk_domain.proofs.Outs.{reads_unout}
 use Rattle.lk_domain.proofs.ledger.Held.{reads_sole}
 use Rattle.lk_domain.proofs.rows.Users.{bare_me, kept_marks}
 use Rattle.lk_law.specs.Nodes.{looks_along}
@@ -221,10 +219,6 @@ module _ (k : Plan) {S : Type 0} (s : State S View) (st : Runs k s) (id : ℕ) (
     unalone reads first =
         reads_sole st.world.kind (acting k.mode v.calls verb l).holds f.ctx at.held
         (ap (λ (i : ℕ). held_in (acting k.mode v.calls verb l).holds f.ctx (lock_name i)) (sym first) ∙ holds_read reads)
-
-    -- nor is the value of the lock out
-    pub unout : pc ≡ Z1 → out_in (acting k.mode v.calls verb l).holds l ≡ false
-    unout reads = reads_unout st.world.kind (acting k.mode v.calls verb l).holds l f.ctx at.held (holds_read reads)
 
     pub met_is : met_in m w f (target pc f) ≡ Shared found
     met_is = ap (met_in m w f) (rw_target pc f row) ∙ ap (λ (i : ℕ). Shared (m.rw i)) index_is

@@ -1,5 +1,5 @@
 -- What the step calls on the words of reader-writer locks ask.
-use Rattle.std.proofs.Common.{◌≡◌, ℕ, ◌<◌, get_or, set}
+use Rattle.std.proofs.Common.{◌≡◌, ◌⊎◌, ℕ, ◌<◌, get_or, set}
 use Rattle.std.proofs.Common.{None, Bool, true, false, inl, inr, get_or-set_other, refl, sym, ap, ◌∙◌}
 use Rattle.std.proofs.Common.{subst, arith}
 use mathlib.Core.Option.{some}
@@ -50,6 +50,26 @@ first_index l e = grind (arith, e)
 abbrev pub Writes : Pc → (ℕ → ℕ) → Type 0
 Writes pc g = (mode : Mode) (fr : Frame) (y : RwFields) → IsPackableRw y → RwKnown pc y
     → g (packed_rw y) ≡ packed_rw (numbers.writes mode pc fr y)
+
+-- the rows by which a reader and a writer leave, and what is at home before them: the values of the lock
+-- before both, and the journal before that of a writer
+
+abbrev pub IsLeaving : Pc → Type 0
+IsLeaving pc = (pc ≡ Z1) ⊎ (pc ≡ Z2)
+
+abbrev pub IsShut : ℕ → View → {pc : Pc} → IsLeaving pc → Type 0
+IsShut l v (inl reads) = out_in v.calls.holds l ≡ false
+IsShut l v (inr writes) = AllHome (lock_name l) v
+
+pub reader_shut : (l : ℕ) (v : View) (pc : Pc) → (pc ≡ Z1 → out_in v.calls.holds l ≡ false) → (pc ≡ Z2 → ⊥)
+    → (z : IsLeaving pc) → IsShut l v z
+reader_shut l v pc value off (inl reads) = value reads
+reader_shut l v pc value off (inr writes) = absurd (off writes)
+
+pub writer_shut : (l : ℕ) (v : View) (pc : Pc) → AllHome (lock_name l) v → (pc ≡ Z1 → ⊥)
+    → (z : IsLeaving pc) → IsShut l v z
+writer_shut l v pc home off (inl reads) = absurd (off reads)
+writer_shut l v pc home off (inr writes) = home
 
 -- the parts of one step, and what it gives
 module _ (k : Plan) (slots id : ℕ) (m : Me Slot View) (number : IsNumbered m.0) (verb : Verb)
@@ -184,25 +204,18 @@ module _ (k : Plan) (slots id : ℕ) (m : Me Slot View) (number : IsNumbered m.0
             absurd (omega (arith, sole, none, acting_sole k.mode m.0.calls verb l))
       ]
 
-  unout : (s : State Slot View) (both : Stand k s) (me : get_elem? s.views id ≡ some m.0) → pc ≡ Z1
-      → out_in m.0.calls.holds l ≡ false
-  unout s both me reads =
-      sym (acting_holds k.mode m.0.calls verb l l).out
-      ∙ on.unout k s (ok s both me) id m.0 me number.0 number.1 verb n pc (asked s both me) (acts' s both me) near row reads
-
-  -- a row that frees a lock does so where all is at home: with a reader the journal and the value of
-  -- the lock never are out
-  pub home : (pc ≡ Z2 → AllHome (lock_name l) m.0)
+  -- a row that frees a lock does so where all is at home: with a reader the journal never is out
+  pub home : ((z : IsLeaving pc) → IsShut l m.0 z)
       → (s : State Slot View) (both : Stand k s) (me : get_elem? s.views id ≡ some m.0)
       → frees s both me → AllHome (lock_name l) m.0
-  home written s both me e =
+  home shut s both me e =
       elim (frees_at (lands.m k s (ok s both me) id m.0 me number.0 number.1 verb n pc (asked s both me) (acts' s both me) (unseen s both me)) (waiter number.0 acts.frame.ctx)
       acts.frame pc row e) [
         | inl reads ↦ record {
           journal = λ first. unread s both me reads (first_index l first);
-          value = λ plain. unout s both me reads;
+          value = λ plain. shut (inl reads);
         }
-        | inr writes ↦ written writes
+        | inr writes ↦ shut (inr writes)
       ]
 
 -- what the calls ask, in which the word is named by its place
@@ -211,14 +224,14 @@ module _ (k plan : Plan) (slots id : ℕ) (m : Me Slot View) (number : IsNumbere
     (word : st.word ≡ i) where
   pub asks : (kind : Pc → Bool) → ActsFor kind m.0 verb l
       → ((pc : Pc) → kind pc ≡ true → is_rw_row pc ≡ true)
-      → ((pc : Pc) → kind pc ≡ true → pc ≡ Z2 → AllHome (lock_name l) m.0)
+      → ((pc : Pc) → kind pc ≡ true → (z : IsLeaving pc) → IsShut l m.0 z)
       → (g : ℕ → ℕ) → ((pc : Pc) → kind pc ≡ true → Writes pc g)
       → Allows (Stand k) slots id m i g (Shares verb st m)
-  asks kind for rows written g writes =
+  asks kind for rows shut g writes =
       let n : LockName = record { index = l; wait = for.inside } in
       let a = for.acts in
       let low = subst (λ (x : Plan). l < locks_of x) (sym same) near in
       let row = rows a.row a.is in
       subst (λ (x : ℕ). Allows (Stand k) slots id m x g (Shares verb st m)) (sym at)
       (plays k slots id m number verb n low a.row a.stands a.begins row st g (word ∙ at)
-      (home k slots id m number verb n low a.row a.stands a.begins row (written a.row a.is)) (writes a.row a.is))
+      (home k slots id m number verb n low a.row a.stands a.begins row (shut a.row a.is)) (writes a.row a.is))

@@ -4,7 +4,6 @@ use Rattle.std.proofs.Common.{◌≤◌, List, [], ◌∷◌, drop, length, map,
 use Rattle.std.proofs.Common.{refl, sym, ap, ◌∙◌, subst, arith, length-set}
 use Rattle.std.proofs.Common.{get_or-set_other, get_or-set_same}
 use Rattle.std.specs.List.{sum}
-use Rattle.std.proofs.lemmas.List.{length-replicate, get_or-replicate}
 use Rattle.std.proofs.lemmas.Option.{slice_get-get_or}
 use Rattle.std.proofs.lemmas.List.Sums.{sum_by-cons}
 use mathlib.Core.Logic.{dite}
@@ -32,8 +31,8 @@ use Rattle.lk_domain.specs.Ledgers.{no_ledger, with_share}
 use Rattle.lk_values.proofs.Guards as guards
 use Rattle.lk_values.proofs.Guards.{step_keeps}
 use Rattle.lk_values.specs.Guarded.{Among}
-use Rattle.lk_domain.specs.Values.{HoldsAlone, outs_of, Fits, FitsUnder, nothing, Key, keys_of, id_of, lodged, AreLaid, AreShut}
-use Rattle.lk_domain.specs.Plans.{cpus_of, locks_of, kind_at, share_of, room_of, layout_in, IsRunningPlan, turns_of}
+use Rattle.lk_domain.specs.Values.{Reaches, outs_of, homes_of, Fits, FitsUnder, Key, keys_of, id_of, lodged, AreLaid, AreShut}
+use Rattle.lk_domain.specs.Plans.{cpus_of, kind_at, share_of, room_of, layout_in, IsRunningPlan, turns_of}
 use Rattle.lk_domain.specs.Plays.{Draws}
 use Rattle.lk_domain.specs.Runs.{Runs, SeatFits, Deals, Seeks, Mirrors, waiter}
 use Rattle.lk_domain.proofs.rows.Halts.{far_same, far_set, same_marks, seeks_same, IsFarSame}
@@ -79,21 +78,12 @@ laid_at j ks l low =
     read (y ∷ ys) zero h = refl
     read (y ∷ ys) (suc i) h = read ys i (omega (arith, h))
 
--- No lock has a key where the plan has none; and else the keys of the plan are laid, of cells that are shut.
-
-pub none_laid : (k : Plan) → keys_of k ≡ [] → AreLaid k (nothing (locks_of k))
-none_laid k none = (
-  length-replicate (locks_of k) None,
+-- the keys of the plan are laid, of cells that are shut
+pub keys_laid : (k : Plan) (ks : List (Option Key)) → keys_of k ≡ ks → AreShut ks → AreLaid k ks
+keys_laid k ks same shut = (
+  ap length (sym same),
   λ l d low.
-      let empty : get_or (nothing (locks_of k)) l d ≡ None = get_or-replicate (locks_of k) l None d low in
-      subst (λ (x : Option Key). FitsUnder k l (lodged x)) (sym empty)
-      (subst (λ (ks : List (Option Key)). Fits (id_of (slice_get ks l)) None) (sym none) refl),
-)
-
-pub keys_laid : (k : Plan) (ks : List (Option Key)) → keys_of k ≡ ks → length ks ≡ locks_of k → AreShut ks → AreLaid k ks
-keys_laid k ks same long shut = (
-  long,
-  λ l d low.
+      let long : homes_of k ≡ length ks = ap length same in
       let at : slice_get ks l ≡ Some (get_or ks l d) = slice_get-get_or ks l d (omega (arith, low, long)) in
       subst (λ (ys : List (Option Key)). Fits (id_of (slice_get ys l)) (lodged (get_or ks l d))) (sym same)
       (subst (λ (x : Option (Option Key)). Fits (id_of x) (lodged (get_or ks l d))) (sym at)
@@ -103,6 +93,10 @@ keys_laid k ks same long shut = (
     each : (x : Option Key) → ((key : Key) → x ≡ Some key → key.views ≡ false ∷ []) → Fits (id_of (Some x)) (lodged x)
     each None shut = refl
     each (Some key) shut = (key, refl, (refl, shut key refl))
+
+-- where the plan has no keys there are none
+pub none_laid : (k : Plan) → keys_of k ≡ [] → AreLaid k []
+none_laid k none = keys_laid k [] none (λ l key e. absurd (let z : ⊥ = cc e in z))
 
 -- a new table
 
@@ -210,7 +204,7 @@ module _ (k : Plan) (ws : List ℕ) (j : Journal) (lawful : IsRunningPlan k) (op
           values = λ l none. absurd none;
         });
         fresh = λ p h. refl;
-        values = guards.starts 1 (locks_of k) HoldsAlone outs_of (FitsUnder k) (Some (Entries j) ∷ map lodged ks)
+        values = guards.starts 1 (homes_of k) (Reaches k) outs_of (FitsUnder k) (Some (Entries j) ∷ map lodged ks)
             (view (dealer k 0) no_calls no_ledger) (let z = laid.0 in let x = long_map lodged ks in omega (arith, z, x))
             (λ l low. (lodged (get_or ks l None), laid_at j ks l (let z = laid.0 in omega (arith, low, z)), laid.1 l None low)) refl;
       }
@@ -370,7 +364,7 @@ module _ (k plan : Plan) (slots id : ℕ) (m : Me Slot View) (n : ℕ) (t : Step
               }))
               (λ a. kp.knows j x a.1) (at_set s.views id j u x at);
           fresh = λ q h. kp.fresh q (let z = rolled in omega arith);
-          values = step_keeps 1 (locks_of k) HoldsAlone outs_of (FitsUnder k) s.homes s.views id m.0 u kp.values me
+          values = step_keeps 1 (homes_of k) (Reaches k) outs_of (FitsUnder k) s.homes s.views id m.0 u kp.values me
               (record { same = ap outs_of (sym is); rights = λ l among _. absurd (subst (λ (y : View). Among l (outs_of y)) is among) });
         }
 

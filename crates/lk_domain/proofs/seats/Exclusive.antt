@@ -1,5 +1,5 @@
--- Who holds a lock alone is one seat, of every lock.
-use Rattle.std.proofs.Common.{◌≡◌, ℕ, List, [], ◌∷◌, Option, Some, None, Bool, true, false, refl, sym, ap, ◌∙◌, get_or}
+-- Each value under a lock is one seat's to take.
+use Rattle.std.proofs.Common.{◌≡◌, inl, inr, arith, ℕ, List, [], ◌∷◌, Option, Some, None, Bool, true, false, refl, sym, ap, ◌∙◌, get_or}
 use Rattle.std.specs.Prelude.{if◌then◌else◌}
 use mathlib.Core.Option.{some}
 use lib.ListN.{get_elem?}
@@ -11,7 +11,7 @@ use Rattle.lk_values.specs.Guarded.{IsExclusive}
 use Rattle.lk_domain.specs.Calls.{Calls, Hold, lock_name, hold_in, way_in}
 use Rattle.lk_domain.specs.Keeps.{Slot}
 use Rattle.lk_domain.specs.Runs.{Runs, SeatFits, waiter}
-use Rattle.lk_domain.specs.Values.{HoldsAlone}
+use Rattle.lk_domain.specs.Values.{Reaches, is_sole, lock_of}
 use Rattle.lk_domain.specs.Views.{IsNumbered}
 use Rattle.lk_domain.specs.declared.plan.Plan.{Plan}
 use Rattle.lk_domain.specs.declared.view.View.{View}
@@ -45,20 +45,38 @@ has_way k s ok i l v m at way = at_number v.who.number refl
         absurd (let z : ⊥ = cc no in z)
     at_number (Some q) e = (q, e)
 
-pub one_alone : (k : Plan) (s : State Slot View) → Runs k s → IsExclusive HoldsAlone s.views
-one_alone k s ok l i j v u a b hv hu =
-    let way_v = hold_way v.calls.holds l hv.manner hv.out hv.held in
-    let way_u = hold_way u.calls.holds l hu.manner hu.out hu.held in
-    let n = has_way k s ok i l v hv.manner a way_v in
-    let q = has_way k s ok j l u hu.manner b way_u in
+-- who holds it alone, and another that holds it, are one
+pub alone_other : (k : Plan) (s : State Slot View) → Runs k s → (l i j : ℕ) (v u : View) (m n : Manner)
+    → get_elem? s.views i ≡ some v → get_elem? s.views j ≡ some u → is_sole m ≡ true
+    → way_in v.calls.holds l ≡ Some m → way_in u.calls.holds l ≡ Some n → i ≡ j
+alone_other k s ok l i j v u m o a b sole way_v way_u =
+    let n = has_way k s ok i l v m a way_v in
+    let q = has_way k s ok j l u o b way_u in
     let x : SeatFits ok.world n.0 v.calls = ok.seats i v n.0 a n.1 in
     let y : SeatFits ok.world q.0 u.calls = ok.seats j u q.0 b q.1 in
-    let d = way_of v.calls.holds l hv.manner way_v in
-    let e = way_of u.calls.holds l hu.manner way_u in
-    let same = one_holder ok.world ok.histories ok.sound l (waiter n.0 d.0) (waiter q.0 e.0) hv.manner hu.manner hv.sole
+    let d = way_of v.calls.holds l m way_v in
+    let e = way_of u.calls.holds l o way_u in
+    let same = one_holder ok.world ok.histories ok.sound l (waiter n.0 d.0) (waiter q.0 e.0) m o sole
     (x.mirrors.holds d.0 (lock_name l) ∙ d.1) (y.mirrors.holds e.0 (lock_name l) ∙ e.1)
     (λ off. (
-      x.mirrors.holds d.0 (lock_name l) ∙ held_spun ok.world.kind v.calls.holds d.0 (lock_name l) hv.manner x.held off d.1,
-      y.mirrors.holds e.0 (lock_name l) ∙ held_spun ok.world.kind u.calls.holds e.0 (lock_name l) hu.manner y.held off e.1,
+      x.mirrors.holds d.0 (lock_name l) ∙ held_spun ok.world.kind v.calls.holds d.0 (lock_name l) m x.held off d.1,
+      y.mirrors.holds e.0 (lock_name l) ∙ held_spun ok.world.kind u.calls.holds e.0 (lock_name l) o y.held off e.1,
     )) in
     sym (apart s.views (get_or s.words 0 0) ok.once i j v u n.0 a b n.1 (q.1 ∙ ap (λ (z : Waiter). Some z.cpu) (sym same)))
+
+-- Each value is one seat's to take: who holds a lock alone reaches all its values and nobody else any,
+-- and each reader the copy for its own processor.
+pub one_reaches : (k : Plan) (s : State Slot View) → Runs k s → IsExclusive (Reaches k) s.views
+one_reaches k s ok q i j v u a b hv hu =
+    let l = lock_of k q in
+    let way_v = hold_way v.calls.holds l hv.manner hv.out hv.held in
+    let way_u = hold_way u.calls.holds l hu.manner hu.out hu.held in
+    elim hv.may [
+      | inl sole ↦ alone_other k s ok l i j v u hv.manner hu.manner a b sole way_v way_u
+      | inr own ↦ elim hu.may [
+        | inl sole ↦ sym (alone_other k s ok l j i u v hu.manner hv.manner b a sole way_u way_v)
+        | inr other ↦
+            let same : other.0 ≡ own.0 = (let x = own.2 in let y = other.2 in omega (arith, x, y)) in
+            sym (apart s.views (get_or s.words 0 0) ok.once i j v u own.0 a b own.1 (other.1 ∙ ap Some same))
+      ]
+    ]

@@ -13,8 +13,9 @@ use Rattle.lk_law.proofs.common.Sames.{same_lock-true}
 use Rattle.lk_domain.specs.Calls.{Hold, Calls, Running, holds_in, hold_in, held_in, way_in, AreHeld, AreFresh, lock_name}
 use Rattle.lk_domain.specs.Keeps.{any_count, sole_count}
 use Rattle.lk_domain.specs.Marked.{IsNoted}
-use Rattle.lk_domain.specs.Values.{IsAlone, IsOutWith, IsHomeWith, is_sole, marked_out}
+use Rattle.lk_domain.specs.Values.{IsReached, IsOutWith, is_sole, lock_of, marked_out}
 use Rattle.lk_domain.specs.declared.notes.Notes.{Notes}
+use Rattle.lk_domain.specs.declared.plan.Plan.{Plan}
 
 -- a hold with the mark, at the head or further on
 marked_by : Bool → Bool → Hold → List Hold → List Hold → List Hold
@@ -157,24 +158,25 @@ mark_back l m (h ∷ hs) e = by (same_lock h.lock (lock_name l)) refl e (mark_ba
         if-false (same_lock h.lock (lock_name l)) (record h { out = false } ∷ marked_out l true hs) (h ∷ marked_out l false (marked_out l true hs)) is
         ∙ ap (λ (ys : List Hold). h ∷ ys) (r e)
 
--- who holds a lock alone still does
-pub mark_alone : (l : ℕ) (b : Bool) (hs : List Hold) (x : ℕ) → (x ≡ l) ⊎ (x ≢ l) → IsAlone x hs → IsAlone x (marked_out l b hs)
-mark_alone l b hs x which is =
+-- who has the right to a value still has it
+pub mark_reached : (k : Plan) (l : ℕ) (b : Bool) (number : Option ℕ) (hs : List Hold) (q : ℕ)
+    → (lock_of k q ≡ l) ⊎ (lock_of k q ≢ l) → IsReached k q number hs → IsReached k q number (marked_out l b hs)
+mark_reached k l b number hs q which is =
     elim which [
       | inl e ↦ record {
         manner = is.manner;
         out = b;
         held = ap (hold_in (marked_out l b hs)) e
             ∙ mark_here l b is.out is.manner hs (ap (hold_in hs) (sym e) ∙ is.held);
-        sole = is.sole;
+        may = is.may;
       }
-      | inr ne ↦ record { manner = is.manner; out = is.out; held = mark_else l b hs x ne ∙ is.held; sole = is.sole }
+      | inr ne ↦ record { manner = is.manner; out = is.out; held = mark_else l b hs (lock_of k q) ne ∙ is.held; may = is.may }
     ]
 
--- a value that is out is not home
-pub out_apart : (hs : List Hold) (l x : ℕ) → IsOutWith x hs → IsHomeWith l hs → x ≢ l
-out_apart hs l x out home e =
-    let no : Some (let y : Manner × Bool = (out.manner, true) in y) ≡ Some (home.manner, false) = sym out.held ∙ (ap (hold_in hs) e ∙ home.held) in
+-- a lock with a value out is no lock whose values are home
+pub out_apart : (hs : List Hold) (l x : ℕ) (a b : Manner) → IsOutWith x a hs → hold_in hs l ≡ Some (b, false) → x ≢ l
+out_apart hs l x a b out home e =
+    let no : Some (let y : Manner × Bool = (a, true) in y) ≡ Some (b, false) = sym out ∙ (ap (hold_in hs) e ∙ home) in
     let z : true ≡ false = ap mark_in no in
     absurd (let y : ⊥ = cc z in y)
   where

@@ -12,8 +12,8 @@ use Rattle.atomic_table.proofs.Lists.{at_set, at_longer, at_last, set_else}
 use Rattle.lk_domain.specs.Calls.{Calls, no_calls, Running, Hold, frame_in, held_in}
 use Rattle.lk_domain.specs.Keeps.{Slot, Keeps, Knows}
 use Rattle.lk_domain.specs.Ledgers.{Ledger, Past, Out, no_ledger, with_share}
-use Rattle.lk_domain.specs.Plans.{locks_of, share_of}
-use Rattle.lk_domain.specs.Values.{HoldsAlone, IsOutWith, outs_of, FitsUnder}
+use Rattle.lk_domain.specs.Plans.{share_of}
+use Rattle.lk_domain.specs.Values.{Reaches, IsOutAt, outs_of, homes_of, FitsUnder}
 use Rattle.lk_values.proofs.Guards.{step_keeps, new_seat_keeps}
 use Rattle.lk_values.specs.Guarded.{Among}
 use Rattle.lk_domain.specs.Seated.{HoldsNothing}
@@ -143,8 +143,8 @@ splits k plan id n s both me =
             }))
             kp.knows;
         fresh = kp.fresh;
-        values = new_seat_keeps 1 (locks_of k) HoldsAlone outs_of (FitsUnder k) s.homes vs u
-            (step_keeps 1 (locks_of k) HoldsAlone outs_of (FitsUnder k) s.homes s.views id v w kp.values me
+        values = new_seat_keeps 1 (homes_of k) (Reaches k) outs_of (FitsUnder k) s.homes vs u
+            (step_keeps 1 (homes_of k) (Reaches k) outs_of (FitsUnder k) s.homes s.views id v w kp.values me
             (record { same = refl; rights = λ l out _. absurd out })) refl;
       };
     }
@@ -282,8 +282,8 @@ joins k id other v u number rests s both me ne at_other =
             (λ j. record { holder = λ q. absurd (q refl); shut = λ _. refl; looking = tt; looked = tt; seen = omega arith; own = λ p e. absurd (none_some e); quiet = λ e. refl; past = tt; values = λ l out. absurd out })
             kp.knows;
         fresh = kp.fresh;
-        values = step_keeps 1 (locks_of k) HoldsAlone outs_of (FitsUnder k) s.homes vs other u z
-            (step_keeps 1 (locks_of k) HoldsAlone outs_of (FitsUnder k) s.homes s.views id v w kp.values me
+        values = step_keeps 1 (homes_of k) (Reaches k) outs_of (FitsUnder k) s.homes vs other u z
+            (step_keeps 1 (homes_of k) (Reaches k) outs_of (FitsUnder k) s.homes s.views id v w kp.values me
             (record { same = refl; rights = λ l out has. has })) at_other
             (record { same = sym quiet; rights = λ l out _. absurd (subst (Among l) quiet out) });
       };
@@ -293,10 +293,10 @@ joins k id other v u number rests s both me ne at_other =
     out_none o e = cc
 
     -- who holds nothing has no value out
-    none_with : (hs : List Hold) → hs ≡ [] → (xs : List ℕ) → ((l : ℕ) → Among l xs → IsOutWith l hs) → xs ≡ []
+    none_with : (hs : List Hold) → hs ≡ [] → (xs : List ℕ) → ((q : ℕ) → Among q xs → IsOutAt k q u.who.number hs) → xs ≡ []
     none_with hs none [] out = refl
     none_with hs none (x ∷ xs) out =
-        let is = subst (IsOutWith x) none (out x (inl refl)) in
+        let is = subst (IsOutAt k x u.who.number) none (out x (inl refl)) in
         absurd (let no = is.held in let z : ⊥ = cc no in z)
 
     more : (p : ℕ) → times p (numbers (view (joined v.who u) v.calls (with_more v.ledger u.ledger.share)))

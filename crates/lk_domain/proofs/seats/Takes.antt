@@ -1,5 +1,6 @@
--- What the steps ask by which the value of a lock goes out and comes home.
-use Rattle.std.proofs.Common.{◌≡◌, ◌≢◌, inl, inr, ⊎_elim, ℕ, ◌+◌, ◌*◌, ◌<◌, ◌≤◌, List, [], ◌∷◌, set, get_or, Option, Some, None}
+-- What the steps ask by which a value under a lock goes out and comes home.
+use Rattle.std.proofs.Common.{◌≡◌, ◌≢◌, inl, inr, ⊎_elim, ℕ, zero, suc, ◌+◌, ◌*◌, ◌<◌, ◌≤◌, List, [], ◌∷◌, length, set, get_or, Option, Some, None}
+use Rattle.std.specs.Prelude.{slice_get}
 use Rattle.std.proofs.Common.{Bool, true, false, refl, sym, ap, ◌∙◌, subst, arith, length-set}
 use Rattle.std.proofs.lemmas.Bool.{cases_eq}
 use mathlib.Core.Option.{Option as Maybe, none, some}
@@ -9,39 +10,39 @@ use Rattle.atomic_table.specs.Table.{State, Me, Step, takes, gives, Allows}
 use Rattle.atomic_table.specs.Seated.{TableId}
 use Rattle.atomic_table.proofs.Lists.{at_set, set_else}
 use Rattle.lk_cell.specs.Latched.{IsKey}
-use Rattle.lk_values.specs.Guarded.{Among, IsApart, IsHome}
+use Rattle.lk_values.specs.Guarded.{Among, IsHome}
 use Rattle.lk_values.proofs.Guards.{holder_finds, taking_keeps, bringing_keeps}
-use Rattle.lk_domain.specs.Calls.{Hold, hold_in}
+use Rattle.lk_domain.specs.Calls.{Hold}
 use Rattle.lk_domain.specs.Keeps.{Slot, Keeps, Knows, undrawn}
-use Rattle.lk_domain.specs.Plans.{IsRunningPlan, locks_of}
+use Rattle.lk_domain.specs.Plans.{locks_of}
 use Rattle.lk_domain.specs.Plays.{ValueTakenBy, TakesValue, BringsValue}
 use Rattle.lk_domain.specs.Runs.{Runs, SeatFits}
 use Rattle.lk_domain.specs.Stand.{Stand}
-use Rattle.lk_domain.specs.Values.{HoldsAlone, IsOutWith, IsHomeWith, IsNewestOut, FitsUnder, Fits, HasCell, IsKeyOf}
-use Rattle.lk_domain.specs.Values.{Key, outs_of, taking, bringing, older, marked_out}
+use Rattle.lk_domain.specs.Values.{Reaches, IsOutAt, IsHomeAt, IsClear, IsNewestAt, FitsUnder, Fits, HasCell, IsKeyOf}
+use Rattle.lk_domain.specs.Values.{Key, id_of, keys_of, homes_of, lock_of, outs_of, taking, bringing, older, marked_out}
 use Rattle.lk_domain.specs.Views.{IsNumbered}
 use Rattle.lk_domain.specs.Words.{version_at, balance_at, quiet_at}
 use Rattle.lk_domain.specs.declared.plan.Plan.{Plan}
 use Rattle.lk_domain.specs.declared.slot.Stowed.TheVariants.{CellKey}
 use Rattle.lk_domain.specs.declared.view.View.{View}
 use Rattle.lk_domain.proofs.Outs.{stays_out}
-use Rattle.lk_domain.proofs.ledger.Alone.{IsPage, paged_as}
 use Rattle.lk_domain.proofs.ledger.Purses.{open_same, place_kept}
-use Rattle.lk_domain.proofs.rows.Halts.{far_set, seeks_same}
+use Rattle.lk_domain.proofs.rows.Halts.{same_marks}
+use Rattle.lk_domain.proofs.rows.Kept as rule
+use Rattle.lk_domain.proofs.rows.Kept.{halting_same}
 use Rattle.lk_domain.proofs.seats.Totals.{total-same}
-use Rattle.lk_domain.proofs.seats.Exclusive.{one_alone}
+use Rattle.lk_domain.proofs.seats.Exclusive.{one_reaches}
 use Rattle.lk_domain.proofs.seats.Marks as marks
-
-pub quiet_page : (k : Plan) → IsRunningPlan k → (l : ℕ) → l < locks_of k → IsPage k (quiet_at k l)
-quiet_page k law l low =
-    record { low = omega arith; below = let few = law.locks in omega (arith, few, low); apart = inr (omega arith) }
 
 -- the view of a seat with other values out
 abbrev with_outs : View → List ℕ → List Hold → View
 with_outs v ls hs = record v { who = record v.who { outs = ls }; calls = record v.calls { holds = hs } }
 
 module _ (k : Plan) (s : State Slot View) (both : Stand k s) (id : ℕ) (v : View)
-    (me : get_elem? s.views id ≡ some v) (n : IsNumbered v) (l : ℕ) (low : l < locks_of k) where
+    (me : get_elem? s.views id ≡ some v) (n : IsNumbered v) (q : ℕ) (low : q < homes_of k) where
+  abbrev l : ℕ
+  l = lock_of k q
+
   abbrev kp : Keeps k s
   kp = both.keeps
 
@@ -49,10 +50,7 @@ module _ (k : Plan) (s : State Slot View) (both : Stand k s) (id : ℕ) (v : Vie
   kv = kp.knows id v me
 
   abbrev i : ℕ
-  i = quiet_at k l
-
-  abbrev page : IsPage k i
-  page = quiet_page k both.runs.lawful l low
+  i = quiet_at k q
 
   abbrev ws : List ℕ
   ws = set s.words i (get_or s.words i 0)
@@ -65,7 +63,7 @@ module _ (k : Plan) (s : State Slot View) (both : Stand k s) (id : ℕ) (v : Vie
 
   -- a step that marks the hold of the lock
   module _ (b : Bool) (ls : List ℕ) (homes : List (Maybe Slot)) (x : Maybe Slot)
-      (is : homes ≡ set s.homes (1 + l) x) where
+      (is : homes ≡ set s.homes (1 + q) x) where
     abbrev hs : List Hold
     hs = marked_out l b v.calls.holds
 
@@ -91,12 +89,16 @@ module _ (k : Plan) (s : State Slot View) (both : Stand k s) (id : ℕ) (v : Vie
 
     runs : Runs k {S = Slot} (record { words = ws; homes = homes; views = set s.views id w })
     runs =
-        paged_as k s both.runs id v me n w (record { plan = refl; number = refl; ended = refl; dealt = refl }) fits
-        i (get_or s.words i 0) page
-        (seeks_same k s.words ws (far_set k s.words i (get_or s.words i 0) (let z = page.below in omega (arith, z))) v.calls
-        (both.runs.seeks id v me)) homes
+        let st = both.runs in
+        subst (λ (xs : List ℕ). Runs k {S = Slot} (record { words = xs; homes = homes; views = set s.views id w })) (sym (set-get_or s.words i 0))
+        (rule.keeps_as k s st id v me n.0 n.1 st.world st.histories st.marks w s.words st.sound st.of_plan st.stored
+        (rule.right k s st id v me n.0 n.1) refl
+        (λ u ne. (refl, λ m. refl)) (λ p ne. refl) (λ p d ne f. refl) (λ p d ne f. f.counted) (λ p d ne f. f.told)
+        (record { plan = refl; number = refl; ended = refl; dealt = refl }) fits
+        (halting_same k s st.world st.world s.words id n.0 (λ j far. refl) (same_marks st.world) (λ b. refl) st.halting)
+        (st.seeks id v me) homes)
 
-    knows : ((m : ℕ) → Among m ls → IsOutWith m hs) → Knows k kp.journal w
+    knows : ((m : ℕ) → Among m ls → IsOutAt k m v.who.number hs) → Knows k kp.journal w
     knows values =
         record {
           holder = λ ne. marks.mark_sole l b v.calls.holds ∙ kv.holder ne;
@@ -110,8 +112,8 @@ module _ (k : Plan) (s : State Slot View) (both : Stand k s) (id : ℕ) (v : Vie
           values = values;
         }
 
-    pub stands : ((m : ℕ) → Among m ls → IsOutWith m hs)
-        → Rattle.lk_values.specs.Guarded.Guarded 1 (locks_of k) HoldsAlone outs_of (FitsUnder k) homes (set s.views id w)
+    pub stands : ((m : ℕ) → Among m ls → IsOutAt k m v.who.number hs)
+        → Rattle.lk_values.specs.Guarded.Guarded 1 (homes_of k) (Reaches k) outs_of (FitsUnder k) homes (set s.views id w)
         → Stand k (record { words = ws; homes = homes; views = set s.views id w })
     stands values guarded =
         record {
@@ -119,87 +121,92 @@ module _ (k : Plan) (s : State Slot View) (both : Stand k s) (id : ℕ) (v : Vie
           keeps = record {
             journal = kp.journal;
             replays = kp.replays;
-            slots = ap Rattle.std.proofs.Common.length is ∙ (length-set s.homes (1 + l) x ∙ kp.slots);
+            slots = ap Rattle.std.proofs.Common.length is ∙ (length-set s.homes (1 + q) x ∙ kp.slots);
             shares = omega (arith, kp.shares, total-same (λ (y : View). y.ledger.share) s.views id v w me refl, ap (undrawn k) (same_word 0));
             place = place_kept k kp.journal s id v w ws homes
-                (ap (λ (xs : List (Maybe Slot)). get_elem? xs 0) is ∙ set_else s.homes (1 + l) 0 x (λ e. omega arith))
+                (ap (λ (xs : List (Maybe Slot)). get_elem? xs 0) is ∙ set_else s.homes (1 + q) 0 x (λ e. omega arith))
                 me refl (same_word version_at) (λ a lt. same_word (balance_at k a)) kp.place;
             knows = λ j y at. ⊎_elim (λ t. subst (Knows k kp.journal) t.1 (knows values)) (λ t. kp.knows j y t.1) (at_set s.views id j w y at);
-            fresh = λ q le. kp.fresh q (subst (λ (r : ℕ). r ≤ q) (same_word 0) le);
+            fresh = λ p le. kp.fresh p (subst (λ (r : ℕ). r ≤ p) (same_word 0) le);
             values = guarded;
           };
         }
 
-    -- who holds a lock alone still does
-    alone : (m : ℕ) → HoldsAlone m v → HoldsAlone m w
-    alone m has = marks.mark_alone l b v.calls.holds m (cases_eq m l) has
+    -- the right to each value stays
+    reaches : (m : ℕ) → Reaches k m v → Reaches k m w
+    reaches m has = marks.mark_reached k l b v.who.number v.calls.holds m (cases_eq (lock_of k m) l) has
+
+    -- and a value of another lock that is out stays out
+    out_else : (m : ℕ) → lock_of k m ≢ l → IsOutAt k m v.who.number v.calls.holds → IsOutAt k m v.who.number hs
+    out_else m ne out =
+        let at = lock_of k m in
+        record {
+          manner = out.manner;
+          held = stays_out v.calls.holds hs at out.manner (marks.mark_else l b v.calls.holds at ne) out.held;
+          may = out.may;
+        }
 
   -- the value is taken out
-  module _ (home : IsHomeWith l v.calls.holds) where
-    pub fresh : IsApart l v.who.outs
-    fresh among =
-        let out = kv.values l among in
-        let ne : l ≢ l = marks.out_apart v.calls.holds l l out home in
-        ne refl
+  module _ (home : IsHomeAt k q v.who.number v.calls.holds) where
+    pub clear : IsClear k l v.who.outs
+    clear m among =
+        let out = kv.values m among in
+        marks.out_apart v.calls.holds l (lock_of k m) out.manner home.manner out.held home.held
 
-    has_alone : HoldsAlone l v
-    has_alone = record { manner = home.manner; out = false; held = home.held; sole = home.sole }
+    has_right : Reaches k q v
+    has_right = record { manner = home.manner; out = false; held = home.held; may = home.may }
 
-    pub there : IsHome 1 (FitsUnder k) s.homes l
+    pub there : IsHome 1 (FitsUnder k) s.homes q
     there =
-        holder_finds 1 (locks_of k) HoldsAlone outs_of (FitsUnder k) s.homes s.views l id v kp.values
-        (one_alone k s both.runs) me low has_alone fresh
+        holder_finds 1 (homes_of k) (Reaches k) outs_of (FitsUnder k) s.homes s.views q id v kp.values
+        (one_reaches k s both.runs) me low has_right (λ among. clear q among refl)
 
-    taken_outs : (m : ℕ) → Among m (l ∷ v.who.outs) → IsOutWith m (marked_out l true v.calls.holds)
+    taken_outs : (m : ℕ) → Among m (q ∷ v.who.outs) → IsOutAt k m v.who.number (marked_out l true v.calls.holds)
     taken_outs m among =
         elim among [
-          | inl e ↦ record {
+          | inl e ↦ subst (λ (y : ℕ). IsOutAt k y v.who.number (marked_out l true v.calls.holds)) (sym e) (record {
             manner = home.manner;
-            held = ap (hold_in (marked_out l true v.calls.holds)) e ∙ marks.mark_here l true false home.manner v.calls.holds home.held;
-            sole = home.sole;
-          }
-          | inr old ↦
-              let out = kv.values m old in
-              stays_out v.calls.holds (marked_out l true v.calls.holds) m
-              (marks.mark_else l true v.calls.holds m (marks.out_apart v.calls.holds l m out home)) out
+            held = marks.mark_here l true false home.manner v.calls.holds home.held;
+            may = home.may;
+          })
+          | inr old ↦ out_else true (q ∷ v.who.outs) (set s.homes (1 + q) none) none refl m (clear m old) (kv.values m old)
         ]
 
-    pub takes_stand : Stand k (record { words = ws; homes = set s.homes (1 + l) none; views = set s.views id (taking l v) })
+    pub takes_stand : Stand k (record { words = ws; homes = set s.homes (1 + q) none; views = set s.views id (taking l q v) })
     takes_stand =
-        stands true (l ∷ v.who.outs) (set s.homes (1 + l) none) none refl taken_outs
-        (taking_keeps 1 (locks_of k) HoldsAlone outs_of (FitsUnder k) s.homes s.views l id v (taking l v) kp.values me low has_alone refl
-        (alone true (l ∷ v.who.outs) (set s.homes (1 + l) none) none refl))
+        stands true (q ∷ v.who.outs) (set s.homes (1 + q) none) none refl taken_outs
+        (taking_keeps 1 (homes_of k) (Reaches k) outs_of (FitsUnder k) s.homes s.views q id v (taking l q v) kp.values me low has_right refl
+        (reaches true (q ∷ v.who.outs) (set s.homes (1 + q) none) none refl))
 
   -- it is brought home
-  module _ (new : IsNewestOut l v.who.outs) (x : Slot) (meets : FitsUnder k l x) where
+  module _ (new : IsNewestAt k l q v.who.outs) (x : Slot) (meets : FitsUnder k q x) where
     older_is : older v.who.outs ≡ new.others
     older_is = ap older new.is
 
-    outs_are : v.who.outs ≡ l ∷ older v.who.outs
-    outs_are = new.is ∙ ap (λ (ls : List ℕ). l ∷ ls) (sym older_is)
+    outs_are : v.who.outs ≡ q ∷ older v.who.outs
+    outs_are = new.is ∙ ap (λ (ls : List ℕ). q ∷ ls) (sym older_is)
 
-    brought_outs : (m : ℕ) → Among m (older v.who.outs) → IsOutWith m (marked_out l false v.calls.holds)
+    brought_outs : (m : ℕ) → Among m (older v.who.outs) → IsOutAt k m v.who.number (marked_out l false v.calls.holds)
     brought_outs m among =
-        let ne : m ≢ l = λ e. new.apart (subst (λ (y : ℕ). Among y new.others) e (subst (Among m) older_is among)) in
-        stays_out v.calls.holds (marked_out l false v.calls.holds) m (marks.mark_else l false v.calls.holds m ne)
-        (kv.values m (subst (Among m) (sym outs_are) (inr among)))
+        out_else false (older v.who.outs) (set s.homes (1 + q) (some x)) (some x) refl m
+        (new.apart m (subst (Among m) older_is among)) (kv.values m (subst (Among m) (sym outs_are) (inr among)))
 
-    pub brings_stand : Stand k (record { words = ws; homes = set s.homes (1 + l) (some x); views = set s.views id (bringing l v) })
+    pub brings_stand : Stand k (record { words = ws; homes = set s.homes (1 + q) (some x); views = set s.views id (bringing l v) })
     brings_stand =
-        stands false (older v.who.outs) (set s.homes (1 + l) (some x)) (some x) refl brought_outs
-        (bringing_keeps 1 (locks_of k) HoldsAlone outs_of (FitsUnder k) s.homes s.views l id v (bringing l v) x kp.values me low meets outs_are
-        (alone false (older v.who.outs) (set s.homes (1 + l) (some x)) (some x) refl))
+        stands false (older v.who.outs) (set s.homes (1 + q) (some x)) (some x) refl brought_outs
+        (bringing_keeps 1 (homes_of k) (Reaches k) outs_of (FitsUnder k) s.homes s.views q id v (bringing l v) x kp.values me low meets outs_are
+        (reaches false (older v.who.outs) (set s.homes (1 + q) (some x)) (some x) refl))
 
--- the key that lies in the slot of a lock with a cell
+-- the key that lies in the slot of a home with a cell
 abbrev KeyAt : Plan → ℕ → Slot → Type 0
-KeyAt k l x = (key : Key) × (x ≡ Some (CellKey key)) × IsKeyOf k l key
+KeyAt k q x = (key : Key) × (x ≡ Some (CellKey key)) × IsKeyOf k q key
 
 abbrev IsNamed : Option TableId → Key → Type 0
 IsNamed None key = Unit {0}
 IsNamed (Some id) key = IsKey id key
 
-key_at : (k : Plan) (l : ℕ) (x : Slot) → HasCell k l → FitsUnder k l x → KeyAt k l x
-key_at k l x has fits =
+key_at : (k : Plan) (q : ℕ) (x : Slot) → HasCell k q → FitsUnder k q x → KeyAt k q x
+key_at k q x has fits =
     let t : Fits (Some has.0) x = subst (λ (o : Option TableId). Fits o x) has.1 fits in (
       t.0,
       t.1,
@@ -207,68 +214,80 @@ key_at k l x has fits =
           subst (λ (o : Option TableId). IsNamed o t.0) same t.2,
     )
 
-key_fits : (k : Plan) (l : ℕ) (key : Key) → HasCell k l → IsKeyOf k l key → FitsUnder k l (Some (CellKey key))
-key_fits k l key has is =
+key_fits : (k : Plan) (q : ℕ) (key : Key) → HasCell k q → IsKeyOf k q key → FitsUnder k q (Some (CellKey key))
+key_fits k q key has is =
     subst (λ (o : Option TableId). Fits o (Some (CellKey key))) (sym has.1) (key, refl, is has.0 has.1)
+
+-- a home with a cell is one of the plan's
+pub cell_below : (k : Plan) (q : ℕ) → HasCell k q → q < homes_of k
+cell_below k q has = by (keys_of k) q has.1
+  where
+    by : (ks : List (Option Key)) (i : ℕ) → id_of (slice_get ks i) ≡ Some has.0 → i < length ks
+    by [] i e = absurd (let z : ⊥ = cc e in z)
+    by (x ∷ ks) zero e = omega arith
+    by (x ∷ ks) (suc i) e = let z = by ks i e in omega (arith, z)
 
 -- what the step calls ask
 
-pub takes_value : (k plan : Plan) (slots id : ℕ) (m : Me Slot View) (l i : ℕ) (st : Step Slot) → k ≡ plan
-    → m.0.who.plan ≡ plan → i ≡ quiet_at plan l → st.word ≡ i → l < locks_of plan → IsNumbered m.0
-    → HasCell plan l → IsHomeWith l m.0.calls.holds → Allows (Stand k) slots id m i (λ y. y) (TakesValue st m)
-takes_value k plan slots id m l i st same mine at word low n has home =
+pub takes_value : (k plan : Plan) (slots id : ℕ) (m : Me Slot View) (q i : ℕ) (st : Step Slot) → k ≡ plan
+    → m.0.who.plan ≡ plan → i ≡ quiet_at plan q → st.word ≡ i → IsNumbered m.0
+    → HasCell plan q → IsHomeAt plan q m.0.who.number m.0.calls.holds → Allows (Stand k) slots id m i (λ y. y) (TakesValue st m)
+takes_value k plan slots id m q i st same mine at word n has home =
     subst (λ (j : ℕ). Allows (Stand k) slots id m j (λ y. y) (TakesValue st m)) (sym at')
     (λ s both wide me _.
-    let found = there k s both id m.0 me n l low' home in
-    let key = key_at k l found.value has' found.meets in (
-      taking l m.0,
-      takes (1 + l) found.value,
+    let low = cell_below k q has' in
+    let found = there k s both id m.0 me n q low home' in
+    let key = key_at k q found.value has' found.meets in (
+      taking (lock_of k q) q m.0,
+      takes (1 + q) found.value,
       found.home,
-      takes_stand k s both id m.0 me n l low' home,
-      λ a e. let same_l : l ≡ a = (let z = ap locks_of (mine ∙ sym same) in omega (arith, e, z, word, at')) in
-          subst (λ (c : ℕ). ValueTakenBy c m (taking l m.0, (1 + l, found.value) ∷ m.1)) same_l (record {
+      takes_stand k s both id m.0 me n q low home',
+      λ a e. let same_q : q ≡ a = (let z = ap locks_of (mine ∙ sym same) in omega (arith, e, z, word, at')) in
+          subst (λ (c : ℕ). ValueTakenBy (lock_of m.0.who.plan c) c m (taking (lock_of k q) q m.0, (1 + q, found.value) ∷ m.1)) same_q
+          (subst (λ (j : Plan). ValueTakenBy (lock_of j q) q m (taking (lock_of k q) q m.0, (1 + q, found.value) ∷ m.1)) (same ∙ sym mine)
+          (record {
             key = key.0;
-            seat = ap (λ (y : Slot). let z : Me Slot View = (taking l m.0, (1 + l, y) ∷ m.1) in z) key.1;
-            is = subst (λ (j : Plan). IsKeyOf j l key.0) (same ∙ sym mine) key.2;
-            apart = fresh k s both id m.0 me n l low' home;
-          }),
+            seat = ap (λ (y : Slot). let z : Me Slot View = (taking (lock_of k q) q m.0, (1 + q, y) ∷ m.1) in z) key.1;
+            is = subst (λ (j : Plan). IsKeyOf j q key.0) (same ∙ sym mine) key.2;
+            apart = subst (λ (j : Plan). IsClear j (lock_of k q) m.0.who.outs) (same ∙ sym mine) (clear k s both id m.0 me n q low home');
+          })),
     ))
   where
-    at' : i ≡ quiet_at k l
-    at' = at ∙ ap (λ (j : Plan). quiet_at j l) (sym same)
+    at' : i ≡ quiet_at k q
+    at' = at ∙ ap (λ (j : Plan). quiet_at j q) (sym same)
 
-    low' : l < locks_of k
-    low' = subst (λ (j : Plan). l < locks_of j) (sym same) low
+    has' : HasCell k q
+    has' = subst (λ (j : Plan). HasCell j q) (sym same) has
 
-    has' : HasCell k l
-    has' = subst (λ (j : Plan). HasCell j l) (sym same) has
+    home' : IsHomeAt k q m.0.who.number m.0.calls.holds
+    home' = subst (λ (j : Plan). IsHomeAt j q m.0.who.number m.0.calls.holds) (sym same) home
 
-pub brings_value : (k plan : Plan) (slots id : ℕ) (m : Me Slot View) (v : View) (xs : List (ℕ × Slot)) (l i : ℕ) (key : Key)
-    (st : Step Slot) → k ≡ plan → m ≡ (v, (1 + l, Some (CellKey key)) ∷ xs) → v.who.plan ≡ plan → i ≡ quiet_at plan l
-    → st.word ≡ i → l < locks_of plan → IsNumbered v → HasCell plan l → IsKeyOf plan l key → IsNewestOut l v.who.outs
+pub brings_value : (k plan : Plan) (slots id : ℕ) (m : Me Slot View) (v : View) (xs : List (ℕ × Slot)) (q i : ℕ) (key : Key)
+    (st : Step Slot) → k ≡ plan → m ≡ (v, (1 + q, Some (CellKey key)) ∷ xs) → v.who.plan ≡ plan → i ≡ quiet_at plan q
+    → st.word ≡ i → IsNumbered v → HasCell plan q → IsKeyOf plan q key → IsNewestAt plan (lock_of plan q) q v.who.outs
     → Allows (Stand k) slots id m i (λ y. y) (BringsValue st m)
-brings_value k plan slots id m v xs l i key st same is mine at word low n has fits new =
+brings_value k plan slots id m v xs q i key st same is mine at word n has fits new =
     subst (λ (z : Me Slot View). Allows (Stand k) slots id z i (λ y. y) (BringsValue st z)) (sym is)
-    (subst (λ (j : ℕ). Allows (Stand k) slots id (v, (1 + l, Some (CellKey key)) ∷ xs) j (λ y. y) (BringsValue st (v, (1 + l, Some (CellKey key)) ∷ xs))) (sym at')
+    (subst (λ (j : ℕ). Allows (Stand k) slots id (v, (1 + q, Some (CellKey key)) ∷ xs) j (λ y. y) (BringsValue st (v, (1 + q, Some (CellKey key)) ∷ xs))) (sym at')
     (λ s both wide me _. (
-      bringing l v,
+      bringing (lock_of k q) v,
       gives,
       tt,
-      brings_stand k s both id v me n l low' new (Some (CellKey key)) (key_fits k l key has' fits'),
+      brings_stand k s both id v me n q (cell_below k q has') new' (Some (CellKey key)) (key_fits k q key has' fits'),
       λ a y ys e top.
-          let same_l : l ≡ a = (let z = ap locks_of (mine ∙ sym same) in omega (arith, e, z, word, at')) in
+          let same_q : q ≡ a = (let z = ap locks_of (mine ∙ sym same) in omega (arith, e, z, word, at')) in
           let rest_is : xs ≡ ys = ap Rattle.atomic_table.specs.Table.rest top in
-          λ j. (bringing (same_l j) v, rest_is j),
+          λ j. (bringing (lock_of ((same ∙ sym mine) j) (same_q j)) v, rest_is j),
     )))
   where
-    at' : i ≡ quiet_at k l
-    at' = at ∙ ap (λ (j : Plan). quiet_at j l) (sym same)
+    at' : i ≡ quiet_at k q
+    at' = at ∙ ap (λ (j : Plan). quiet_at j q) (sym same)
 
-    low' : l < locks_of k
-    low' = subst (λ (j : Plan). l < locks_of j) (sym same) low
+    has' : HasCell k q
+    has' = subst (λ (j : Plan). HasCell j q) (sym same) has
 
-    has' : HasCell k l
-    has' = subst (λ (j : Plan). HasCell j l) (sym same) has
+    fits' : IsKeyOf k q key
+    fits' = subst (λ (j : Plan). IsKeyOf j q key) (sym same) fits
 
-    fits' : IsKeyOf k l key
-    fits' = subst (λ (j : Plan). IsKeyOf j l key) (sym same) fits
+    new' : IsNewestAt k (lock_of k q) q v.who.outs
+    new' = subst (λ (j : Plan). IsNewestAt j (lock_of j q) q v.who.outs) (sym same) new

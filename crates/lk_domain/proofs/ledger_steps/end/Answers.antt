@@ -3,8 +3,8 @@ use Rattle.std.specs.Slots.{slots_items}
 use Rattle.lk_abs.specs.declared.ledger.Entry.{Entry}
 use Rattle.lk_domain.specs.Ends.{IsEnd}
 use Rattle.lk_abs.specs.Journal.{balances_after}
-use Rattle.lk_domain.specs.Plans.{cpus_of, accounts_of, locks_of}
-use Rattle.lk_domain.specs.Values.{FitsUnder}
+use Rattle.lk_domain.specs.Plans.{cpus_of, accounts_of}
+use Rattle.lk_domain.specs.Values.{FitsUnder, homes_of}
 use Rattle.lk_domain.specs.Words.{balance_at}
 use Rattle.lk_values.specs.Guarded.{AreFit}
 use Rattle.lk_domain.specs.declared.journal.Journal.{Journal}
@@ -39,8 +39,8 @@ pub take_keys-requires-clause-fit : goal.take_keys-requires-clause-fit
 take_keys-requires-clause-fit c =
     let seat = c.args.seat in
     let key_is = c.requires.table.key_is in
-    subst (λ (k : Plan). AreFit 1 (locks_of k) (FitsUnder k) (slots_items c.take-slot.new.self.slots)) key_is
-    (subst (AreFit 1 (locks_of c.args.table.shared.key) (FitsUnder c.args.table.shared.key)) (sym c.take-slot.ensures.others.0)
+    subst (λ (k : Plan). AreFit 1 (homes_of k) (FitsUnder k) (slots_items c.take-slot.new.self.slots)) key_is
+    (subst (AreFit 1 (homes_of c.args.table.shared.key) (FitsUnder c.args.table.shared.key)) (sym c.take-slot.ensures.others.0)
     (values_end c.args.table.shared.key seat.id seat.me.0 (slots_items c.close_with-closed.result.words) (slots_items c.close_with-closed.result.slots)
     c.close_with-closed.ensures.values.2 (λ q lt. c.requires.all q (subst (λ (k : Plan). q < cpus_of k) key_is lt)) c.requires.holds))
 

@@ -6,8 +6,7 @@ use mathlib.Core.Option.{some, some-injective}
 use lib.ListN.{get_elem?}
 use Rattle.lk_domain.specs.Ends.{AreTaken}
 use Rattle.lk_domain.specs.Keeps.{Slot}
-use Rattle.lk_domain.specs.Plans.{locks_of}
-use Rattle.lk_domain.specs.Values.{Key, FitsUnder, lodged}
+use Rattle.lk_domain.specs.Values.{Key, FitsUnder, homes_of, lodged}
 use Rattle.lk_domain.proofs.ledger.Last.{is_lodged}
 use Rattle.lk_domain.proofs.seats.Openings.{each_more}
 use Rattle.lk_domain.proofs.ledger_steps.take_keys.Goals as goal
@@ -32,21 +31,21 @@ taken_more n f g is was =
 
 pub key_in-requires : goal.key_in-requires
 key_in-requires c =
-    let inv = c.loop-lock.invariant in
-    let l = c.loop-lock.lock in
+    let inv = c.loop-home.invariant in
+    let l = c.loop-home.home in
     let k = c.args.plan.now in
-    let fit = c.requires.fit l (let a = c.loop-lock-test.true in let b = c.len-lock-end.ensures in omega (arith, a, b)) in
+    let fit = c.requires.fit l (let a = c.loop-home-test.true in let b = c.slot_count-homes.ensures in omega (arith, a, b)) in
     let at : get_elem? (slots_items c.args.closed.now.slots) (1 + l) ≡ some c.take.result =
     ap (λ (xs : List Slot). get_elem? xs (1 + l)) (sym inv.same) ∙ c.take.ensures.value in
     let same : fit.0 ≡ c.take.result = some-injective fit.0 c.take.result (sym fit.1 ∙ at) in
     is_lodged k l c.take.result (subst (FitsUnder k l) same fit.2)
 
-pub loop-lock-preserved : goal.loop-lock-preserved
-loop-lock-preserved c =
-    let inv = c.loop-lock.invariant in
-    let l = c.loop-lock.lock in
+pub loop-home-preserved : goal.loop-home-preserved
+loop-home-preserved c =
+    let inv = c.loop-home.invariant in
+    let l = c.loop-home.home in
     let items = ap (λ xs. xs.items) c.push.ensures in
-    let old = c.loop-lock.keys.items in
+    let old = c.loop-home.keys.items in
     let at : get_elem? (slots_items c.args.closed.now.slots) (1 + length old) ≡ some (lodged c.key_in.result) =
     ap (λ (n : ℕ). get_elem? (slots_items c.args.closed.now.slots) (1 + n)) inv.many
     ∙ (ap (λ (xs : List Slot). get_elem? xs (1 + l)) (sym inv.same) ∙ (c.take.ensures.value ∙ ap some c.key_in.ensures)) in
@@ -54,7 +53,7 @@ loop-lock-preserved c =
       slots = c.take.ensures.others.2 ∙ inv.slots;
       same = c.take.ensures.others.0 ∙ inv.same;
       taken = subst (λ (n : ℕ). AreTaken n (slots_filled c.take.new.self.slots)) (let z : (1 + l) + 1 ≡ 1 + (l + 1) = omega arith in z)
-          (taken_more (1 + l) (slots_filled c.loop-lock.closed.slots) (slots_filled c.take.new.self.slots) c.take.ensures.others.1 inv.taken);
+          (taken_more (1 + l) (slots_filled c.loop-home.closed.slots) (slots_filled c.take.new.self.slots) c.take.ensures.others.1 inv.taken);
       room = ap (λ xs. xs.room) c.push.ensures ∙ inv.room;
       many = ap length items ∙ (length-append old (c.key_in.result ∷ []) ∙ ap (λ (n : ℕ). n + 1) inv.many);
       each = λ i d lt. subst (λ (ys : List (Option Key)). get_elem? (slots_items c.args.closed.now.slots) (1 + i) ≡ some (lodged (get_or ys i d))) (sym items)
@@ -65,13 +64,13 @@ loop-lock-preserved c =
 
 pub returns-clause-keys : goal.returns-clause-keys
 returns-clause-keys c =
-    let inv = c.loop-lock.invariant in
+    let inv = c.loop-home.invariant in
     let k = c.args.plan.now in
-    let end : c.loop-lock.lock ≡ locks_of k =
-    (let a = c.loop-lock-test.false in let b = c.len-lock-end.ensures in let d = c.loop-lock.auto in omega (arith, a, b, d)) in (
+    let end : c.loop-home.home ≡ homes_of k =
+    (let a = c.loop-home-test.false in let b = c.slot_count-homes.ensures in let d = c.loop-home.auto in omega (arith, a, b, d)) in (
       inv.many ∙ end,
       λ l d low.
           let fit = c.requires.fit l low in
           let at = inv.each l d (omega (arith, low, end)) in
-          subst (FitsUnder k l) (some-injective fit.0 (lodged (get_or c.loop-lock.keys.items l d)) (sym fit.1 ∙ at)) fit.2,
+          subst (FitsUnder k l) (some-injective fit.0 (lodged (get_or c.loop-home.keys.items l d)) (sym fit.1 ∙ at)) fit.2,
     )

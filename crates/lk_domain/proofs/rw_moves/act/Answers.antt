@@ -1,14 +1,14 @@
 use Rattle.atomic_table.specs.Table.{step}
-use Rattle.lk_domain.proofs.rw.Numbers.{watches, watch_row, watch_last, seizes, seize_row, seize_last, joins, join_row, join_last, quits, quit_row, quit_last, follows, follow_row, follow_last, leaves, leave_row, awaits, await_row, await_last}
-use Rattle.lk_domain.proofs.rw.Plays.{asks}
+use Rattle.lk_domain.proofs.rw.Numbers.{watches, watch_row, watch_last, seizes, seize_row, seize_last, joins, join_row, join_last, quits, quit_row, quit_frees, quit_reads, follows, follow_row, follow_last, leaves, leave_row, leave_writes, awaits, await_row, await_last}
+use Rattle.lk_domain.proofs.rw.Plays.{asks, reader_shut, writer_shut}
 use Rattle.lk_domain.specs.RwPlays.{ActsFor}
 use Rattle.lk_domain.specs.RwRows.{watches_by, seizes_by, joins_by, quits_by, follows_by, leaves_by, awaits_by}
-use Rattle.lk_domain.specs.RwUses.{rw_uses_by}
+use Rattle.lk_domain.specs.RwUses.{frees_by_use, rw_uses_by}
 use Rattle.lk_domain.specs.declared.rw_moves.RwUse.{RwUse}
 use Rattle.lk_domain.specs.declared.rw_moves.RwUse.TheVariants.{Watches, Joins, Quits, Seizes, Awaits, Follows, Leaves}
 use Rattle.lk_domain.specs.declared.view.View.{View}
 use Rattle.lk_machine.specs.declared.setup.Verb.{Verb}
-use Rattle.std.proofs.Common.{refl, arith, eqb, ◌+◌, ◌%◌, ◌^◌, ◌-◌, subst, ◌≡◌}
+use Rattle.std.proofs.Common.{refl, arith, eqb, ◌+◌, ◌%◌, ◌^◌, ◌-◌, subst, ◌≡◌, true, ap, sym}
 use Rattle.std.specs.Int.Bits.{bit_or}
 use Rattle.std.specs.Prelude.{ℕ}
 use mathlib.Core.Option.{none}
@@ -62,7 +62,8 @@ fetch_sub-requires g c =
       (let few = d.lawful.locks in omega (arith, c.lock_word-word.ensures, d.words, c.requires.lock)),
       asks d.table.shared.key d.plan z.slots c.args.seat.now.id m c.requires.number v c.args.lock i
           (step z.slots i 512 0 none) d.key c.requires.lock c.lock_word-word.ensures refl (quits_by v) row
-          (λ pc h. quit_row v pc h) (λ pc h z. absurd (quit_last v pc h z))
+          (λ pc h. quit_row v pc h) (λ pc h z. reader_shut c.args.lock m.0 pc
+          (λ e. c.requires.value (subst (λ (x : RwUse). frees_by_use x v ≡ true) (sym c.in-Quits.is) (quit_frees v pc h e))) (quit_reads v pc h) z)
           (λ n. (n + (2 ^ 64 - 512)) % 2 ^ 64) (λ pc h mode fr y packs known. quits mode v pc fr y h packs known),
     )
 
@@ -126,6 +127,9 @@ fetch_sub-requires-in-Leaves g c =
       (let few = d.lawful.locks in omega (arith, c.lock_word-word.ensures, d.words, c.requires.lock)),
       asks d.table.shared.key d.plan z.slots c.args.seat.now.id m c.requires.number v c.args.lock i
           (step z.slots i 255 0 none) d.key c.requires.lock c.lock_word-word.ensures refl (leaves_by v) row
-          (λ pc h. leave_row v pc h) (λ pc h z. record { journal = c.requires.home c.in-Leaves.is; value = λ plain. c.requires.value c.in-Leaves.is })
+          (λ pc h. leave_row v pc h) (λ pc h z. writer_shut c.args.lock m.0 pc (record {
+          journal = c.requires.home c.in-Leaves.is;
+          value = λ plain. c.requires.value (ap (λ (x : RwUse). frees_by_use x v) c.in-Leaves.is);
+          }) (leave_writes v pc h) z)
           (λ n. (n + (2 ^ 64 - 255)) % 2 ^ 64) (λ pc h mode fr y packs known. leaves mode v pc fr y h packs known),
     )

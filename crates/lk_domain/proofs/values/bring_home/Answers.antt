@@ -1,8 +1,10 @@
-use Rattle.std.proofs.Common.{refl, sym, ap, ◌∙◌, subst, false}
+use Rattle.std.proofs.Common.{ℕ, refl, sym, ap, ◌∙◌, subst, false, arith}
 use Rattle.lk_domain.specs.Calls.{Calls, are_calls}
 use Rattle.lk_domain.specs.Marked.{IsNoted}
+use Rattle.lk_domain.specs.Values.{IsNewestAt, bringing, lock_of}
 use Rattle.lk_domain.specs.declared.view.View.{View}
 use Rattle.lk_domain.proofs.Seating.{table_of, seat_of}
+use Rattle.lk_domain.proofs.seats.Homes.{own_lock}
 use Rattle.lk_domain.proofs.seats.Marks.{mark_noted}
 use Rattle.lk_domain.proofs.values.bring_home.Goals as goal
 
@@ -12,10 +14,11 @@ bring-requires c =
     record {
       table = table_of d;
       seat = seat_of c.args.cpu.now d c.requires.domain;
-      lock = c.requires.lock;
+      near = (let a = c.requires.lock in let few = d.lawful.locks in omega (arith, a, few));
       valued = c.requires.valued;
-      newest = c.requires.newest;
-      home = c.requires.home;
+      newest = subst (λ (x : ℕ). IsNewestAt d.plan x c.args.lock.index c.args.cpu.now.seat.me.0.who.outs)
+          (sym (own_lock d.plan c.args.lock.index c.requires.lock)) c.requires.newest;
+      journal = c.requires.home;
       key = c.requires.key;
     }
 
@@ -23,14 +26,23 @@ pub invariant_of-cpu : goal.invariant_of-cpu
 invariant_of-cpu c =
     let cpu = c.args.cpu.now in
     let view = c.bring.ensures.view in
+    let l = lock_of c.args.domain.now.plan c.args.lock.index in
     record {
       numbered = ap (λ (v : View). v.who.number) view ∙ cpu.numbered;
       noted = subst (λ (x : Calls). IsNoted cpu.notes x) (sym (ap (λ (v : View). v.calls) view))
-          (mark_noted cpu.notes cpu.seat.me.0.calls c.args.lock.index false cpu.noted);
+          (mark_noted cpu.notes cpu.seat.me.0.calls l false cpu.noted);
       apart = ap (λ (v : View). are_calls v.calls.frames) view ∙ cpu.apart;
       carried = c.bring.ensures.carried;
     }
 
 pub returns : goal.returns
 returns c =
-    record { brought = record { table = c.bring.ensures.same.0; id = c.bring.ensures.same.1; number = refl; view = c.bring.ensures.view } }
+    let d = c.args.domain.now in
+    record {
+      brought = record {
+        table = c.bring.ensures.same.0;
+        id = c.bring.ensures.same.1;
+        number = refl;
+        view = c.bring.ensures.view ∙ ap (λ (x : ℕ). bringing x c.args.cpu.now.seat.me.0) (own_lock d.plan c.args.lock.index c.requires.lock);
+      };
+    }

@@ -3,7 +3,7 @@ use mathlib.Core.Option.{none}
 use Rattle.atomic_table.specs.Table.{step, Me, rest}
 use Rattle.lk_domain.specs.Keeps.{Slot}
 use Rattle.lk_domain.specs.Plays.{carried_with, carried_of}
-use Rattle.lk_domain.specs.Values.{IsKeyOf, empty_places}
+use Rattle.lk_domain.specs.Values.{IsClear, IsKeyOf, empty_places, lock_of, taking}
 use Rattle.lk_domain.specs.Words.{quiet_at}
 use Rattle.lk_domain.specs.declared.plan.Plan.{Plan}
 use Rattle.lk_domain.specs.declared.slot.Stowed.TheVariants.{Entries, CellKey}
@@ -20,17 +20,17 @@ load-requires c =
     let seat = c.args.seat.now in
     let i = c.quiet_word-word.result in (
       at.table_is,
-      (let few = of.lawful.locks in let w = of.words in let a = c.requires.lock in let e = c.quiet_word-word.ensures in omega arith),
-      takes_value table.key c.args.plan.now z.slots seat.id seat.me c.args.lock i (step z.slots i 0 0 none) of.key_is
-          at.plan_is c.quiet_word-word.ensures refl c.requires.lock at.number c.requires.valued c.requires.held,
+      (let w = of.words in let a = c.requires.near in let e = c.quiet_word-word.ensures in omega (arith, w, a, e)),
+      takes_value table.key c.args.plan.now z.slots seat.id seat.me c.args.home i (step z.slots i 0 0 none) of.key_is
+          at.plan_is c.quiet_word-word.ensures refl at.number c.requires.valued c.requires.held,
     )
 
 pub slot_mut-place-requires : goal.slot_mut-place-requires
 slot_mut-place-requires c =
-    let t = c.load.ensures.2 c.args.lock (c.quiet_word-word.ensures ∙ ap (λ (k : Plan). quiet_at k c.args.lock) (sym c.requires.seat.plan_is)) in
+    let t = c.load.ensures.2 c.args.home (c.quiet_word-word.ensures ∙ ap (λ (k : Plan). quiet_at k c.args.home) (sym c.requires.seat.plan_is)) in
     let at = ap (λ (x : Me Slot View). x.1) t.seat in (
       c.load.ensures.0 ∙ c.requires.seat.table_is,
-      (Some (CellKey t.key), at ∙ ap (λ (l : List (ℕ × Slot)). (1 + c.args.lock, Some (CellKey t.key)) ∷ rest l) (sym at)),
+      (Some (CellKey t.key), at ∙ ap (λ (l : List (ℕ × Slot)). (1 + c.args.home, Some (CellKey t.key)) ∷ rest l) (sym at)),
     )
 
 -- one slot lies at the head of a list
@@ -39,51 +39,52 @@ same_head n a b = ap (λ (l : List (ℕ × Slot)). (get_or l 0 (0, None)).1) (sy
 
 pub unreachable-requires : goal.unreachable-requires
 unreachable-requires c =
-    let t = c.load.ensures.2 c.args.lock (c.quiet_word-word.ensures ∙ ap (λ (k : Plan). quiet_at k c.args.lock) (sym c.requires.seat.plan_is)) in
+    let t = c.load.ensures.2 c.args.home (c.quiet_word-word.ensures ∙ ap (λ (k : Plan). quiet_at k c.args.home) (sym c.requires.seat.plan_is)) in
     let lain : c.slot_mut-place.result.now ≡ Some (CellKey t.key) =
-    same_head (1 + c.args.lock) c.slot_mut-place.ensures.value (ap (λ (x : Me Slot View). x.1) t.seat) in
+    same_head (1 + c.args.home) c.slot_mut-place.ensures.value (ap (λ (x : Me Slot View). x.1) t.seat) in
     let no : Some (Entries c.in-Some-Entries.field-0-0) ≡ Some (CellKey t.key) =
     sym (c.in-Some-Entries.is ∙ ap Some c.in-Some-Entries.field-0-is) ∙ (c.take.ensures.value ∙ lain) in
     cc
 
 pub unreachable-requires-in-None : goal.unreachable-requires-in-None
 unreachable-requires-in-None c =
-    let t = c.load.ensures.2 c.args.lock (c.quiet_word-word.ensures ∙ ap (λ (k : Plan). quiet_at k c.args.lock) (sym c.requires.seat.plan_is)) in
+    let t = c.load.ensures.2 c.args.home (c.quiet_word-word.ensures ∙ ap (λ (k : Plan). quiet_at k c.args.home) (sym c.requires.seat.plan_is)) in
     let lain : c.slot_mut-place.result.now ≡ Some (CellKey t.key) =
-    same_head (1 + c.args.lock) c.slot_mut-place.ensures.value (ap (λ (x : Me Slot View). x.1) t.seat) in
+    same_head (1 + c.args.home) c.slot_mut-place.ensures.value (ap (λ (x : Me Slot View). x.1) t.seat) in
     let no : None ≡ Some (CellKey t.key) = sym c.in-None.is ∙ (c.take.ensures.value ∙ lain) in
     cc
 
 pub returns-clause-view : goal.returns-clause-view
 returns-clause-view c =
-    let t = c.load.ensures.2 c.args.lock (c.quiet_word-word.ensures ∙ ap (λ (k : Plan). quiet_at k c.args.lock) (sym c.requires.seat.plan_is)) in
+    let t = c.load.ensures.2 c.args.home (c.quiet_word-word.ensures ∙ ap (λ (k : Plan). quiet_at k c.args.home) (sym c.requires.seat.plan_is)) in
     ap (λ (x : Me Slot View). x.0) t.seat
+    ∙ ap (λ (k : Plan). taking (lock_of k c.args.home) c.args.home c.args.seat.now.me.0) c.requires.seat.plan_is
 
 pub returns-clause-carried : goal.returns-clause-carried
 returns-clause-carried c =
-    let t = c.load.ensures.2 c.args.lock (c.quiet_word-word.ensures ∙ ap (λ (k : Plan). quiet_at k c.args.lock) (sym c.requires.seat.plan_is)) in
+    let t = c.load.ensures.2 c.args.home (c.quiet_word-word.ensures ∙ ap (λ (k : Plan). quiet_at k c.args.home) (sym c.requires.seat.plan_is)) in
     let seat = c.args.seat.now in
-    let l = c.args.lock in
+    let l = c.args.home in
     let under : rest c.load.new.seat.me.1 ≡ empty_places seat.me.0.who.outs =
     ap (λ (x : Me Slot View). rest x.1) t.seat
-    ∙ (c.requires.seat.carried ∙ ap (carried_with seat.me.0.who.outs) c.requires.home) in
+    ∙ (c.requires.seat.carried ∙ ap (carried_with seat.me.0.who.outs) c.requires.journal) in
     ap (λ (v : Slot). (1 + l, v) ∷ rest c.load.new.seat.me.1) c.take.ensures.after
     ∙ (ap (λ (xs : List (ℕ × Slot)). (1 + l, None) ∷ xs) under
-    ∙ (ap (carried_with (l ∷ seat.me.0.who.outs)) (sym c.requires.home)
+    ∙ (ap (carried_with (l ∷ seat.me.0.who.outs)) (sym c.requires.journal)
     ∙ ap carried_of (sym (ap (λ (x : Me Slot View). x.0) t.seat))))
 
 pub returns-clause-key : goal.returns-clause-key
 returns-clause-key c =
-    let t = c.load.ensures.2 c.args.lock (c.quiet_word-word.ensures ∙ ap (λ (k : Plan). quiet_at k c.args.lock) (sym c.requires.seat.plan_is)) in
+    let t = c.load.ensures.2 c.args.home (c.quiet_word-word.ensures ∙ ap (λ (k : Plan). quiet_at k c.args.home) (sym c.requires.seat.plan_is)) in
     let lain : c.slot_mut-place.result.now ≡ Some (CellKey t.key) =
-    same_head (1 + c.args.lock) c.slot_mut-place.ensures.value (ap (λ (x : Me Slot View). x.1) t.seat) in
+    same_head (1 + c.args.home) c.slot_mut-place.ensures.value (ap (λ (x : Me Slot View). x.1) t.seat) in
     let same : Some (CellKey c.in-Some-CellKey.key) ≡ Some (CellKey t.key) =
     sym (c.in-Some-CellKey.is ∙ ap Some c.in-Some-CellKey.field-0-is) ∙ (c.take.ensures.value ∙ lain) in
     let key : c.in-Some-CellKey.key ≡ t.key = cc in
-    subst (λ (k : Plan). IsKeyOf k c.args.lock c.in-Some-CellKey.key) c.requires.seat.plan_is
-    (subst (IsKeyOf c.args.seat.now.me.0.who.plan c.args.lock) (sym key) t.is)
+    subst (λ (k : Plan). IsKeyOf k c.args.home c.in-Some-CellKey.key) c.requires.seat.plan_is
+    (subst (IsKeyOf c.args.seat.now.me.0.who.plan c.args.home) (sym key) t.is)
 
 pub returns-clause-apart : goal.returns-clause-apart
 returns-clause-apart c =
-    let t = c.load.ensures.2 c.args.lock (c.quiet_word-word.ensures ∙ ap (λ (k : Plan). quiet_at k c.args.lock) (sym c.requires.seat.plan_is)) in
-    t.apart
+    let t = c.load.ensures.2 c.args.home (c.quiet_word-word.ensures ∙ ap (λ (k : Plan). quiet_at k c.args.home) (sym c.requires.seat.plan_is)) in
+    subst (λ (k : Plan). IsClear k (lock_of k c.args.home) c.args.seat.now.me.0.who.outs) c.requires.seat.plan_is t.apart

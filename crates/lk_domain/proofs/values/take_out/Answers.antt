@@ -1,35 +1,51 @@
-use Rattle.std.proofs.Common.{refl, sym, ap, ◌∙◌, subst, true}
+use Rattle.std.proofs.Common.{◌≡◌, ℕ, refl, sym, ap, ◌∙◌, subst, true, arith}
 use Rattle.lk_domain.specs.Calls.{Calls, are_calls}
 use Rattle.lk_domain.specs.Marked.{IsNoted}
+use Rattle.lk_domain.specs.Values.{IsClear, lock_of, taking}
+use Rattle.lk_domain.specs.declared.plan.Plan.{Plan}
 use Rattle.lk_domain.specs.declared.view.View.{View}
 use Rattle.lk_domain.proofs.Seating.{table_of, seat_of}
+use Rattle.lk_domain.proofs.seats.Homes.{alone_at, own_lock}
 use Rattle.lk_domain.proofs.seats.Marks.{mark_noted}
 use Rattle.lk_domain.proofs.values.take_out.Goals as goal
 
 pub take-requires : goal.take-requires
 take-requires c =
     let d = c.args.domain.now in
+    let cpu = c.args.cpu.now in
     record {
       table = table_of d;
-      seat = seat_of c.args.cpu.now d c.requires.domain;
-      lock = c.requires.lock;
+      seat = seat_of cpu d c.requires.domain;
+      near = (let a = c.requires.lock in let few = d.lawful.locks in omega (arith, a, few));
       valued = c.requires.valued;
-      held = c.requires.held;
-      home = c.requires.home;
+      held = alone_at d.plan c.args.lock.index cpu.seat.me.0 c.requires.lock c.requires.held;
+      journal = c.requires.home;
     }
 
 pub invariant_of-cpu : goal.invariant_of-cpu
 invariant_of-cpu c =
     let cpu = c.args.cpu.now in
     let view = c.take.ensures.view in
+    let l = lock_of c.args.domain.now.plan c.args.lock.index in
     record {
       numbered = ap (λ (v : View). v.who.number) view ∙ cpu.numbered;
       noted = subst (λ (x : Calls). IsNoted cpu.notes x) (sym (ap (λ (v : View). v.calls) view))
-          (mark_noted cpu.notes cpu.seat.me.0.calls c.args.lock.index true cpu.noted);
+          (mark_noted cpu.notes cpu.seat.me.0.calls l true cpu.noted);
       apart = ap (λ (v : View). are_calls v.calls.frames) view ∙ cpu.apart;
       carried = c.take.ensures.carried;
     }
 
 pub returns-clause-taken : goal.returns-clause-taken
 returns-clause-taken c =
-    record { table = c.take.ensures.same.0; id = c.take.ensures.same.1; number = refl; view = c.take.ensures.view; apart = c.take.ensures.apart }
+    let d = c.args.domain.now in
+    let q = c.args.lock.index in
+    let cpu = c.args.cpu.now in
+    let l : lock_of d.plan q ≡ q = own_lock d.plan q c.requires.lock in
+    record {
+      table = c.take.ensures.same.0;
+      id = c.take.ensures.same.1;
+      number = refl;
+      view = c.take.ensures.view ∙ ap (λ (x : ℕ). taking x q cpu.seat.me.0) l;
+      apart = subst (λ (k : Plan). IsClear k q cpu.seat.me.0.who.outs) (sym c.requires.domain.plan)
+          (subst (λ (x : ℕ). IsClear d.plan x cpu.seat.me.0.who.outs) l c.take.ensures.apart);
+    }

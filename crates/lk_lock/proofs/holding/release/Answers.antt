@@ -5,8 +5,13 @@ use Rattle.lk_domain.specs.Seats.{calls_of}
 use Rattle.lk_domain.specs.Values.{out_in}
 use Rattle.lk_lock.specs.Standing.{holds_of}
 use Rattle.lk_lock.proofs.Marks.{out_home}
-use Rattle.lk_lock.proofs.Steps.{home_holds, as_before}
+use Rattle.lk_lock.proofs.Steps.{home_holds, as_before, newest_out}
 use Rattle.lk_lock.proofs.holding.release.Goals as goal
+
+pub bring_home-requires-clause-newest : goal.bring_home-requires-clause-newest
+bring_home-requires-clause-newest c =
+    newest_out c.args.id.index Spins c.requires.inside.0 c.args.cpu.now c.requires.inside.1 c.args.domain.now.plan
+    c.requires.ready.domain_is.plan
 
 pub unlock-requires-clause-value : goal.unlock-requires-clause-value
 unlock-requires-clause-value c =

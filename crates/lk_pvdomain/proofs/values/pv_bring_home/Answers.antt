@@ -1,18 +1,22 @@
-use Rattle.std.proofs.Common.{refl, ap, ◌∙◌}
+use Rattle.std.proofs.Common.{ℕ, refl, sym, ap, ◌∙◌, subst, arith}
+use Rattle.lk_domain.specs.Values.{IsNewestAt, bringing}
 use Rattle.lk_domain.specs.declared.view.View.{View}
+use Rattle.lk_domain.proofs.seats.Homes.{own_lock}
 use Rattle.lk_pvdomain.proofs.PvSeating.{table_of, seat_of}
 use Rattle.lk_pvdomain.proofs.values.pv_bring_home.Goals as goal
 
 pub bring-requires : goal.bring-requires
 bring-requires c =
     let d = c.args.domain.now in
+    let cpu = c.args.cpu.now in
     record {
       table = table_of d;
-      seat = seat_of c.args.cpu.now d c.requires.domain;
-      lock = c.requires.lock;
+      seat = seat_of cpu d c.requires.domain;
+      near = (let a = c.requires.lock in let few = d.lawful.locks in omega (arith, a, few));
       valued = c.requires.valued;
-      newest = c.requires.newest;
-      home = c.requires.home;
+      newest = subst (λ (x : ℕ). IsNewestAt d.plan x c.args.lock.index cpu.seat.me.0.who.outs)
+          (sym (own_lock d.plan c.args.lock.index c.requires.lock)) c.requires.newest;
+      journal = c.requires.home;
       key = c.requires.key;
     }
 
@@ -25,4 +29,12 @@ invariant_of-cpu c =
 
 pub returns : goal.returns
 returns c =
-    record { brought = record { table = c.bring.ensures.same.0; id = c.bring.ensures.same.1; number = refl; view = c.bring.ensures.view } }
+    let d = c.args.domain.now in
+    record {
+      brought = record {
+        table = c.bring.ensures.same.0;
+        id = c.bring.ensures.same.1;
+        number = refl;
+        view = c.bring.ensures.view ∙ ap (λ (x : ℕ). bringing x c.args.cpu.now.seat.me.0) (own_lock d.plan c.args.lock.index c.requires.lock);
+      };
+    }

@@ -1,18 +1,22 @@
-use Rattle.std.proofs.Common.{refl, ap, ◌∙◌}
+use Rattle.std.proofs.Common.{◌≡◌, ℕ, refl, sym, ap, ◌∙◌, subst, arith}
+use Rattle.lk_domain.specs.Values.{IsClear, lock_of, taking}
+use Rattle.lk_domain.specs.declared.plan.Plan.{Plan}
 use Rattle.lk_domain.specs.declared.view.View.{View}
+use Rattle.lk_domain.proofs.seats.Homes.{alone_at, own_lock}
 use Rattle.lk_pvdomain.proofs.PvSeating.{table_of, seat_of}
 use Rattle.lk_pvdomain.proofs.values.pv_take_out.Goals as goal
 
 pub take-requires : goal.take-requires
 take-requires c =
     let d = c.args.domain.now in
+    let cpu = c.args.cpu.now in
     record {
       table = table_of d;
-      seat = seat_of c.args.cpu.now d c.requires.domain;
-      lock = c.requires.lock;
+      seat = seat_of cpu d c.requires.domain;
+      near = (let a = c.requires.lock in let few = d.lawful.locks in omega (arith, a, few));
       valued = c.requires.valued;
-      held = c.requires.held;
-      home = c.requires.home;
+      held = alone_at d.plan c.args.lock.index cpu.seat.me.0 c.requires.lock c.requires.held;
+      journal = c.requires.home;
     }
 
 pub invariant_of-cpu : goal.invariant_of-cpu
@@ -24,4 +28,15 @@ invariant_of-cpu c =
 
 pub returns-clause-taken : goal.returns-clause-taken
 returns-clause-taken c =
-    record { table = c.take.ensures.same.0; id = c.take.ensures.same.1; number = refl; view = c.take.ensures.view; apart = c.take.ensures.apart }
+    let d = c.args.domain.now in
+    let q = c.args.lock.index in
+    let cpu = c.args.cpu.now in
+    let l : lock_of d.plan q ≡ q = own_lock d.plan q c.requires.lock in
+    record {
+      table = c.take.ensures.same.0;
+      id = c.take.ensures.same.1;
+      number = refl;
+      view = c.take.ensures.view ∙ ap (λ (x : ℕ). taking x q cpu.seat.me.0) l;
+      apart = subst (λ (k : Plan). IsClear k q cpu.seat.me.0.who.outs) (sym c.requires.domain.plan)
+          (subst (λ (x : ℕ). IsClear d.plan x cpu.seat.me.0.who.outs) l c.take.ensures.apart);
+    }

@@ -17,8 +17,7 @@ rest-requires c =
     record {
       lawful = runs_by p (record k { cells = cells }) c.requires.lawful whole;
       halting = halts_by p k c.in_ok-whole.ensures;
-      laid = keys_laid (record k { cells = cells }) keys.items (ap (λ (l : ListOf (Option Key)). l.items) c.of.ensures)
-          (c.requires.locks ∙ sym whole.locks) c.requires.shut;
+      laid = keys_laid (record k { cells = cells }) keys.items (ap (λ (l : ListOf (Option Key)). l.items) c.of.ensures) c.requires.shut;
     }
 
 pub loop-number-preserved : goal.loop-number-preserved
