@@ -1,6 +1,6 @@
 // Histories as text, audited over sources and sinks in memory.
 
-use crate::traces::{CNA, PV, QUEUE, RW, VIRT};
+use crate::traces::{TEXTS, whole};
 use lk_audit::{AuditFault, audit};
 use lk_text::{MemSink, MemSource};
 use std::alloc::{AllocError, Global};
@@ -176,10 +176,10 @@ fn audit_all(rt: &(impl Abort + AllocGlobal), text: &str) -> Result<(), Fail> {
     let alloc = rt.alloc();
     let mut parts = text.split("---\n");
     while let Some(trace) = parts.next() {
-        let transcript = parts.next().ok_or("a trace without a transcript")?;
+        let transcript = whole(alloc, parts.next().ok_or("a trace without a transcript")?)?;
         let (header, _) = trace.split_once("go\n").ok_or("no schedule")?;
         let input = format!(in alloc; "{header}go\n{transcript}")?;
-        let wanted = format!(in alloc; "lawful {}", events_in(transcript)?)?;
+        let wanted = format!(in alloc; "lawful {}", events_in(transcript.as_str())?)?;
         answers(rt, input.as_str(), wanted.as_str())?;
     }
     Ok(())
@@ -187,7 +187,7 @@ fn audit_all(rt: &(impl Abort + AllocGlobal), text: &str) -> Result<(), Fail> {
 
 #[test]
 fn worked_transcripts(rt: HostRuntime) -> Result<(), Fail> {
-    for text in [QUEUE, CNA, RW, PV, VIRT] {
+    for text in TEXTS {
         audit_all(&rt, text)?;
     }
     Ok(())

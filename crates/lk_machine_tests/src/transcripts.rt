@@ -2,7 +2,7 @@
 
 use crate::runs::{EVERY_OUTCOME, RUNS};
 use crate::slowed::{has_only_steps, is_slow, slowed};
-use crate::traces::{CNA, PV, QUEUE, RW, VIRT};
+use crate::traces::{QUEUE, TEXTS, whole};
 use lk_osq_replay::osq;
 use lk_replay::{ReplayFault, Summary, replay};
 use lk_text::{MemSink, SureSource};
@@ -31,48 +31,56 @@ fn obeyed(alloc: Global, run: &str) -> Result<(Result<u64, ReplayFault>, MemSink
     Ok((answer, sink))
 }
 
-// What is written for a trace, or for a run, that is done.
-fn written(rt: &(impl Abort + AllocGlobal), input: &str, chunk: usize) -> Result<MemSink, Fail> {
-    let (is_done, sink) = if input.contains("qosq 1\n") {
-        let (answer, sink) = obeyed(rt.alloc(), input)?;
-        (answer.is_ok(), sink)
-    } else {
-        let (answer, sink) = replayed(rt.alloc(), input, chunk)?;
-        (answer.is_ok(), sink)
-    };
-    assert!(rt; is_done, "at {input}");
+// What is written for a trace that is done.
+fn written(rt: &(impl Abort + AllocGlobal), trace: &str, chunk: usize) -> Result<MemSink, Fail> {
+    let (answer, sink) = replayed(rt.alloc(), trace, chunk)?;
+    assert!(rt; answer.is_ok(), "at {trace}");
     Ok(sink)
 }
 
-// Replays a text as it stands, and a trace that has only steps also with a preemption before each.
-fn replay_one(rt: &(impl Abort + AllocGlobal), input: &str, transcript: &str) -> Result<(), Fail> {
-    let sink = written(rt, input, 5)?;
-    assert_eq!(rt; sink.bytes(), transcript.as_bytes(), "at {input}");
-    if has_only_steps(input) {
-        let slow = slowed(rt.alloc(), input)?;
+// Replays a trace as it stands, and one that has only steps also with a preemption before each.
+fn replay_one(rt: &(impl Abort + AllocGlobal), trace: &str, transcript: &str) -> Result<(), Fail> {
+    let sink = written(rt, trace, 5)?;
+    assert_eq!(rt; sink.bytes(), transcript.as_bytes(), "at {trace}");
+    if has_only_steps(trace) {
+        let slow = slowed(rt.alloc(), trace)?;
         let sink = written(rt, slow.as_str(), 1_000)?;
         assert!(rt;
             is_slow(str::from_utf8(sink.bytes())?, transcript),
-            "at {input}"
+            "at {trace}"
         );
     }
     Ok(())
 }
 
-// Replays each trace or run of a text.
+// Replays each trace of a text.
 fn replay_all(rt: &(impl Abort + AllocGlobal), text: &str) -> Result<(), Fail> {
     let mut parts = text.split("---\n");
-    while let Some(input) = parts.next() {
-        let transcript = parts.next().ok_or("no transcript")?;
-        replay_one(rt, input, transcript)?;
+    while let Some(trace) = parts.next() {
+        let transcript = whole(rt.alloc(), parts.next().ok_or("no transcript")?)?;
+        replay_one(rt, trace, transcript.as_str())?;
     }
     Ok(())
 }
 
 #[test]
 fn worked_traces(rt: HostRuntime) -> Result<(), Fail> {
-    for text in [QUEUE, CNA, RW, PV, VIRT, RUNS, EVERY_OUTCOME] {
+    for text in TEXTS {
         replay_all(&rt, text)?;
+    }
+    Ok(())
+}
+
+#[test]
+fn worked_runs(rt: HostRuntime) -> Result<(), Fail> {
+    for text in [RUNS, EVERY_OUTCOME] {
+        let mut parts = text.split("---\n");
+        while let Some(run) = parts.next() {
+            let transcript = parts.next().ok_or("no transcript")?;
+            let (answer, sink) = obeyed(rt.alloc(), run)?;
+            assert!(&rt; answer.is_ok(), "at {run}");
+            assert_eq!(&rt; sink.bytes(), transcript.as_bytes(), "at {run}");
+        }
     }
     Ok(())
 }

@@ -53,14 +53,6 @@ end
 end 55
 lock_pending 1
 lock_slowpath 4
-lock_use_node2 0
-lock_use_node3 0
-lock_use_node4 0
-lock_no_node 0
-pv_lock_stealing 0
-pv_wait_node 0
-pv_wait_head 0
-pv_kick_unlock 0
 ---
 # All stand on one socket: nobody is passed by.
 qtrace 1
@@ -112,14 +104,6 @@ end
 end 50
 lock_pending 1
 lock_slowpath 4
-lock_use_node2 0
-lock_use_node3 0
-lock_use_node4 0
-lock_no_node 0
-pv_lock_stealing 0
-pv_wait_node 0
-pv_wait_head 0
-pv_kick_unlock 0
 ---
 # With threshold 0 nobody is passed by.
 qtrace 1
@@ -171,14 +155,6 @@ end
 end 50
 lock_pending 1
 lock_slowpath 4
-lock_use_node2 0
-lock_use_node3 0
-lock_use_node4 0
-lock_no_node 0
-pv_lock_stealing 0
-pv_wait_node 0
-pv_wait_head 0
-pv_kick_unlock 0
 ---
 # Nobody waits behind the front: the second queue becomes the rest of the main one.
 qtrace 1
@@ -223,14 +199,6 @@ end
 end 43
 lock_pending 1
 lock_slowpath 3
-lock_use_node2 0
-lock_use_node3 0
-lock_use_node4 0
-lock_no_node 0
-pv_lock_stealing 0
-pv_wait_node 0
-pv_wait_head 0
-pv_kick_unlock 0
 ---
 # One more of the other socket arrives while the front looks for the next: the second queue returns before it.
 qtrace 1
@@ -283,14 +251,6 @@ end
 end 59
 lock_pending 1
 lock_slowpath 4
-lock_use_node2 0
-lock_use_node3 0
-lock_use_node4 0
-lock_no_node 0
-pv_lock_stealing 0
-pv_wait_node 0
-pv_wait_head 0
-pv_kick_unlock 0
 ---
 # Format 2: a waiter of an interrupt on the other socket is local, and gets the lead.
 qtrace 2
@@ -336,14 +296,6 @@ end
 end 40
 lock_pending 1
 lock_slowpath 3
-lock_use_node2 0
-lock_use_node3 0
-lock_use_node4 0
-lock_no_node 0
-pv_lock_stealing 0
-pv_wait_node 0
-pv_wait_head 0
-pv_kick_unlock 0
 ---
 # Format 1: the same waiter is moved aside, and comes back by a promotion.
 qtrace 1
@@ -390,12 +342,4 @@ end
 end 44
 lock_pending 1
 lock_slowpath 3
-lock_use_node2 0
-lock_use_node3 0
-lock_use_node4 0
-lock_no_node 0
-pv_lock_stealing 0
-pv_wait_node 0
-pv_wait_head 0
-pv_kick_unlock 0
 ";

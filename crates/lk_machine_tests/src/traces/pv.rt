@@ -33,15 +33,8 @@ end
 39 2.0 leave 0
 40 2.0 release 0
 end 40
-lock_pending 0
 lock_slowpath 2
-lock_use_node2 0
-lock_use_node3 0
-lock_use_node4 0
-lock_no_node 0
-pv_lock_stealing 0
 pv_wait_node 1
-pv_wait_head 0
 pv_kick_unlock 1
 ---
 # A front halts; the lock is released with a kick owed, stolen before the kick, and taken by the front in the end.
@@ -76,14 +69,8 @@ end
 35 1.0 leave 0
 36 1.0 release 0
 end 36
-lock_pending 0
 lock_slowpath 1
-lock_use_node2 0
-lock_use_node3 0
-lock_use_node4 0
-lock_no_node 0
 pv_lock_stealing 1
-pv_wait_node 0
 pv_wait_head 2
 pv_kick_unlock 1
 ---
@@ -116,14 +103,7 @@ end
 32 1.0 leave 0
 33 1.0 release 0
 end 33
-lock_pending 0
 lock_slowpath 1
-lock_use_node2 0
-lock_use_node3 0
-lock_use_node4 0
-lock_no_node 0
-pv_lock_stealing 0
-pv_wait_node 0
 pv_wait_head 2
 pv_kick_unlock 1
 ";

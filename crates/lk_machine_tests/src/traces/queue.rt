@@ -21,15 +21,6 @@ end
 9 1.0 release 0
 end 9
 lock_pending 1
-lock_slowpath 0
-lock_use_node2 0
-lock_use_node3 0
-lock_use_node4 0
-lock_no_node 0
-pv_lock_stealing 0
-pv_wait_node 0
-pv_wait_head 0
-pv_kick_unlock 0
 ---
 # A locker meets the pending bit alone.
 qtrace 1
@@ -58,14 +49,6 @@ end
 end 15
 lock_pending 1
 lock_slowpath 1
-lock_use_node2 0
-lock_use_node3 0
-lock_use_node4 0
-lock_no_node 0
-pv_lock_stealing 0
-pv_wait_node 0
-pv_wait_head 0
-pv_kick_unlock 0
 ---
 # A pending bit is set on a queue, and taken back.
 qtrace 1
@@ -105,14 +88,6 @@ end
 end 28
 lock_pending 1
 lock_slowpath 2
-lock_use_node2 0
-lock_use_node3 0
-lock_use_node4 0
-lock_no_node 0
-pv_lock_stealing 0
-pv_wait_node 0
-pv_wait_head 0
-pv_kick_unlock 0
 ---
 # Links are stored in reverse order.
 qtrace 1
@@ -165,14 +140,6 @@ end
 end 47
 lock_pending 1
 lock_slowpath 4
-lock_use_node2 0
-lock_use_node3 0
-lock_use_node4 0
-lock_no_node 0
-pv_lock_stealing 0
-pv_wait_node 0
-pv_wait_head 0
-pv_kick_unlock 0
 ---
 # Five nested contexts, the last without a node.
 qtrace 1
@@ -272,10 +239,6 @@ lock_use_node2 1
 lock_use_node3 1
 lock_use_node4 1
 lock_no_node 1
-pv_lock_stealing 0
-pv_wait_node 0
-pv_wait_head 0
-pv_kick_unlock 0
 ---
 # A try fails, and is skipped whole.
 qtrace 1
@@ -297,16 +260,6 @@ end
 4 1.0 release 1
 5 0.0 release 0
 end 5
-lock_pending 0
-lock_slowpath 0
-lock_use_node2 0
-lock_use_node3 0
-lock_use_node4 0
-lock_no_node 0
-pv_lock_stealing 0
-pv_wait_node 0
-pv_wait_head 0
-pv_kick_unlock 0
 ---
 # The last of 1,024 processors takes the lock and releases it, in format 2.
 qtrace 2
@@ -321,16 +274,6 @@ end
 1 1023.0 take 0 fast
 2 1023.0 release 0
 end 2
-lock_pending 0
-lock_slowpath 0
-lock_use_node2 0
-lock_use_node3 0
-lock_use_node4 0
-lock_no_node 0
-pv_lock_stealing 0
-pv_wait_node 0
-pv_wait_head 0
-pv_kick_unlock 0
 ---
 # Waiters whose processors have no place in a narrow trace, by the pending bit and by the queue.
 qtrace 2
@@ -359,12 +302,4 @@ end
 end 19
 lock_pending 1
 lock_slowpath 1
-lock_use_node2 0
-lock_use_node3 0
-lock_use_node4 0
-lock_no_node 0
-pv_lock_stealing 0
-pv_wait_node 0
-pv_wait_head 0
-pv_kick_unlock 0
 ";

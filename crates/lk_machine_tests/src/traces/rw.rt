@@ -38,15 +38,6 @@ end
 26 2.0 rrelease 0
 end 26
 lock_pending 1
-lock_slowpath 0
-lock_use_node2 0
-lock_use_node3 0
-lock_use_node4 0
-lock_no_node 0
-pv_lock_stealing 0
-pv_wait_node 0
-pv_wait_head 0
-pv_kick_unlock 0
 ---
 # A reader's try fails beside the writer, and after it a writer's try succeeds.
 qtrace 1
@@ -68,16 +59,6 @@ end
 5 1.0 wtake 0 try
 6 1.0 wrelease 0
 end 6
-lock_pending 0
-lock_slowpath 0
-lock_use_node2 0
-lock_use_node3 0
-lock_use_node4 0
-lock_no_node 0
-pv_lock_stealing 0
-pv_wait_node 0
-pv_wait_head 0
-pv_kick_unlock 0
 ---
 # Two readers hold together; a writer waits for both with the wait lock; a reader in an interrupt passes it.
 qtrace 1
@@ -114,14 +95,4 @@ end
 17 1.0 release 0w
 18 1.0 wrelease 0
 end 21
-lock_pending 0
-lock_slowpath 0
-lock_use_node2 0
-lock_use_node3 0
-lock_use_node4 0
-lock_no_node 0
-pv_lock_stealing 0
-pv_wait_node 0
-pv_wait_head 0
-pv_kick_unlock 0
 ";

@@ -8,16 +8,6 @@ go
 end
 ---
 end 0
-lock_pending 0
-lock_slowpath 0
-lock_use_node2 0
-lock_use_node3 0
-lock_use_node4 0
-lock_no_node 0
-pv_lock_stealing 0
-pv_wait_node 0
-pv_wait_head 0
-pv_kick_unlock 0
 ---
 # Acts that change nothing.
 qtrace 1
@@ -38,16 +28,6 @@ end
 9 0.0 take 0 fast
 10 0.0 release 0
 end 13
-lock_pending 0
-lock_slowpath 0
-lock_use_node2 0
-lock_use_node3 0
-lock_use_node4 0
-lock_no_node 0
-pv_lock_stealing 0
-pv_wait_node 0
-pv_wait_head 0
-pv_kick_unlock 0
 ---
 # A try fails beside a holder, which an interrupt meets; a preempted processor stands still; what is idle tells nothing.
 qtrace 1
@@ -85,14 +65,4 @@ end
 15 0.1 release 1
 16 0.0 release 0
 end 18
-lock_pending 0
-lock_slowpath 0
-lock_use_node2 0
-lock_use_node3 0
-lock_use_node4 0
-lock_no_node 0
-pv_lock_stealing 0
-pv_wait_node 0
-pv_wait_head 0
-pv_kick_unlock 0
 ";
