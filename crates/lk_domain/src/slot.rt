@@ -12,5 +12,5 @@ pub enum Stowed {
     CellKey(Key),
 }
 
-/// A slot of a domain's table: the first is that of the journal, and each behind it that of a value.
+/// A slot of a domain's table: the first is that of the journal, each behind it that of a value.
 pub type Slot = Option<Stowed>;

@@ -8,7 +8,7 @@ use Rattle.lk_abs.specs.declared.holder.Manner.TheVariants.{Spins}
 use Rattle.lk_domain.specs.Calls.{Calls, Hold, hold, hold_in, holds_in, lock_name}
 use Rattle.lk_domain.specs.Ledgers.{Ledger}
 use Rattle.lk_domain.specs.Plans.{cpus_of}
-use Rattle.lk_domain.specs.Values.{AreLaid, Fits, FitsUnder, IsHomeWith, IsNewestOut, Key, lodged, marked_out, older, out_in, outs_of}
+use Rattle.lk_domain.specs.Values.{AreLaid, Fits, FitsUnder, IsHomeWith, IsNewestAt, Key, lodged, marked_out, older, out_in, outs_of}
 use Rattle.lk_domain.specs.Views.{newcomer}
 use Rattle.lk_domain.specs.Who.{Who}
 use Rattle.lk_domain.specs.declared.slot.Stowed.TheVariants.{CellKey}
@@ -139,9 +139,9 @@ pub may_go : (d : PvDomain) (i : ℕ) (cpu : PvCpu) → HasLock d i cpu → IsHo
 may_go d i cpu has =
     record { manner = Spins; held = ap (λ (hs : List Hold). hold_in hs 1) has.holds; sole = refl }
 
-pub may_come : (d : PvDomain) (i : ℕ) (cpu : PvCpu) → HasValue d i cpu → IsNewestOut 1 (outs_of (view_of cpu))
+pub may_come : (d : PvDomain) (i : ℕ) (cpu : PvCpu) → HasValue d i cpu → IsNewestAt d.plan 1 1 (outs_of (view_of cpu))
 may_come d i cpu has =
-    record { others = []; is = ap (λ (w : Who). w.outs) has.who; apart = λ none. none }
+    record { others = []; is = ap (λ (w : Who). w.outs) has.who; apart = λ q none. absurd none }
 
 -- and then the lock may be freed
 pub is_held : (d : PvDomain) (i : ℕ) (cpu : PvCpu) → HasLock d i cpu → holds_in (calls_of cpu).holds 1 ≡ true
@@ -156,12 +156,12 @@ pub last_fits : (d : PvDomain) (cell : TableId) (keys front : List (Option Key))
     → AreLaid d.plan keys → keys ≡ front ++ x ∷ [] → Fits (Some cell) (lodged x)
 last_fits d cell keys front x valued laid is =
     let long : length keys ≡ length front + 1 = ap (λ (ys : List (Option Key)). length ys) is ∙ length-append front (x ∷ []) in
-    let one : length front ≡ 1 = omega (arith, long, laid.0, valued.two) in
+    let one : length front ≡ 1 = let many = laid.0 ∙ valued.homes in omega (arith, long, many) in
     let at : get_or keys 1 x ≡ x =
     ap (λ (n : ℕ). get_or keys n x) (sym one)
     ∙ (ap (λ (ys : List (Option Key)). get_or ys (length front) x) is ∙ get_or_push front x x (length front) refl) in
     subst (λ (id : Option TableId). Fits id (lodged x)) valued.cell_is
-    (subst (λ (o : Option Key). FitsUnder d.plan 1 (lodged o)) at (laid.1 1 x (omega (arith, valued.two))))
+    (subst (λ (o : Option Key). FitsUnder d.plan 1 (lodged o)) at (laid.1 1 x (omega (arith, valued.homes))))
 
 pub not_none : (cell : TableId) (x : Option Key) → Fits (Some cell) (lodged x) → x ≡ None → ⊥
 not_none cell x fits none =

@@ -128,8 +128,8 @@ fetch_sub-requires-in-Leaves g c =
       asks d.table.shared.key d.plan z.slots c.args.seat.now.id m c.requires.number v c.args.lock i
           (step z.slots i 255 0 none) d.key c.requires.lock c.lock_word-word.ensures refl (leaves_by v) row
           (λ pc h. leave_row v pc h) (λ pc h z. writer_shut c.args.lock m.0 pc (record {
-          journal = c.requires.home c.in-Leaves.is;
-          value = λ plain. c.requires.value (ap (λ (x : RwUse). frees_by_use x v) c.in-Leaves.is);
+            journal = c.requires.home c.in-Leaves.is;
+            value = λ plain. c.requires.value (ap (λ (x : RwUse). frees_by_use x v) c.in-Leaves.is);
           }) (leave_writes v pc h) z)
           (λ n. (n + (2 ^ 64 - 255)) % 2 ^ 64) (λ pc h mode fr y packs known. leaves mode v pc fr y h packs known),
     )
