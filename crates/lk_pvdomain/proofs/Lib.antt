@@ -1,10 +1,8 @@
 -- What the steps of a paravirtual domain rest on.
 pub mod Unmarked
 pub mod OnStates
-pub mod StatePlays
 pub mod OnMarks
-pub mod MarkPlays
-pub mod WordPlays
+pub mod plays
 pub mod PvSwaps
 pub mod Fails
 pub mod PvNodes

@@ -43,7 +43,7 @@ use Rattle.lk_domain.proofs.rows.Lands as lands
 use Rattle.lk_domain.proofs.words.Locks.{locks_else}
 use Rattle.lk_domain.proofs.words.NodeWords.{rest_number}
 use Rattle.lk_pvdomain.proofs.OnStates.{node_state, state_place, seeks_hash, hash_words}
-use Rattle.lk_pvdomain.proofs.StatePlays.{state_bare}
+use Rattle.lk_pvdomain.proofs.plays.StatePlays.{state_bare}
 use Rattle.lk_pvdomain.proofs.Unmarked.{marks_stay}
 use Rattle.lk_law.specs.Nodes.{IsFree}
 

@@ -35,7 +35,7 @@ use Rattle.lk_domain.proofs.words.OnWords.{OnWord, word_stores}
 use Rattle.lk_domain.proofs.queue.Pending.{last_word, last_is, last_test}
 use Rattle.lk_pvdomain.specs.PvPlays.{AtLast}
 use Rattle.lk_pvdomain.specs.PvRows.{quits}
-use Rattle.lk_pvdomain.proofs.WordPlays.{acts_at, either_frees}
+use Rattle.lk_pvdomain.proofs.plays.WordPlays.{acts_at, either_frees}
 
 quit_on : (c : Pc) (f : Frame) → quits c ≡ true → OnWord (target c f)
 quit_on E13 f h = tt

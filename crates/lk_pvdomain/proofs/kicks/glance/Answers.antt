@@ -1,5 +1,5 @@
 use Rattle.std.proofs.Common.{arith}
-use Rattle.lk_pvdomain.proofs.MarkPlays.{glance_asks}
+use Rattle.lk_pvdomain.proofs.plays.MarkPlays.{glance_asks}
 use Rattle.lk_pvdomain.proofs.kicks.glance.Goals as goal
 
 pub load-met-requires : goal.load-met-requires

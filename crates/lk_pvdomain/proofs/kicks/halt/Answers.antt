@@ -1,5 +1,5 @@
 use Rattle.std.proofs.Common.{arith}
-use Rattle.lk_pvdomain.proofs.MarkPlays.{halt_asks}
+use Rattle.lk_pvdomain.proofs.plays.MarkPlays.{halt_asks}
 use Rattle.lk_pvdomain.proofs.kicks.halt.Goals as goal
 
 pub load-met-requires : goal.load-met-requires

@@ -1,5 +1,5 @@
 use Rattle.std.proofs.Common.{arith}
-use Rattle.lk_pvdomain.proofs.MarkPlays.{kick_asks}
+use Rattle.lk_pvdomain.proofs.plays.MarkPlays.{kick_asks}
 use Rattle.lk_pvdomain.proofs.kicks.kick.Goals as goal
 
 pub swap-met-requires : goal.swap-met-requires

@@ -1,5 +1,5 @@
 use Rattle.std.proofs.Common.{arith}
-use Rattle.lk_pvdomain.proofs.StatePlays.{look_on}
+use Rattle.lk_pvdomain.proofs.plays.StatePlays.{look_on}
 use Rattle.lk_pvdomain.proofs.states.look_state.Goals as goal
 
 pub load-met-requires : goal.load-met-requires

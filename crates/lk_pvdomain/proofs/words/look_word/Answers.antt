@@ -1,6 +1,6 @@
 use Rattle.std.proofs.Common.{arith}
 use Rattle.lk_domain.specs.Calls.{lock_name}
-use Rattle.lk_pvdomain.proofs.WordPlays.{look_asks}
+use Rattle.lk_pvdomain.proofs.plays.WordPlays.{look_asks}
 use Rattle.lk_pvdomain.proofs.words.look_word.Goals as goal
 
 pub load-met-requires : goal.load-met-requires

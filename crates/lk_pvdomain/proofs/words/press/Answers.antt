@@ -1,6 +1,6 @@
 use Rattle.std.proofs.Common.{arith}
 use Rattle.lk_domain.specs.Calls.{lock_name}
-use Rattle.lk_pvdomain.proofs.WordPlays.{press_asks}
+use Rattle.lk_pvdomain.proofs.plays.WordPlays.{press_asks}
 use Rattle.lk_pvdomain.proofs.words.press.Goals as goal
 
 pub fetch_or-met-requires : goal.fetch_or-met-requires

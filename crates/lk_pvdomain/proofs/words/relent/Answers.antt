@@ -1,6 +1,6 @@
 use Rattle.std.proofs.Common.{arith}
 use Rattle.lk_domain.specs.Calls.{lock_name}
-use Rattle.lk_pvdomain.proofs.WordPlays.{relent_asks}
+use Rattle.lk_pvdomain.proofs.plays.WordPlays.{relent_asks}
 use Rattle.lk_pvdomain.proofs.words.relent.Goals as goal
 
 pub fetch_sub-met-requires : goal.fetch_sub-met-requires

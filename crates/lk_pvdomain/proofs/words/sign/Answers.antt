@@ -1,6 +1,6 @@
 use Rattle.std.proofs.Common.{arith}
 use Rattle.lk_domain.specs.Calls.{lock_name}
-use Rattle.lk_pvdomain.proofs.WordPlays.{sign_asks}
+use Rattle.lk_pvdomain.proofs.plays.WordPlays.{sign_asks}
 use Rattle.lk_pvdomain.proofs.words.sign.Goals as goal
 
 pub fetch_add-met-requires : goal.fetch_add-met-requires

@@ -1,0 +1,3 @@
+pub mod WordPlays
+pub mod StatePlays
+pub mod MarkPlays
