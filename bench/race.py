@@ -9,7 +9,7 @@ in `race.rs`, which is compiled here by `rustc -O`. Each race is run N times (ni
 same machine; printed are the least and the middle nanoseconds a turn, each against that of the same lock in plain Rust, and the middle
 nanoseconds of processor time a turn, user and system, of all threads.
 
-spin, bare   a turn takes the lock and frees it
+spin, bare   a turn takes the lock and frees it; nothing lies under it
 spin, work   it changes two numbers in between: those of the value under the lock; in `pv` two atomics, each by a load and a store
 rw, bare     a turn takes the lock as a reader and frees it, and each hundredth as a writer; not in `pv`, which has no such lock
 rw, work     a reader compares the two numbers, and a writer changes them
@@ -60,6 +60,8 @@ OF_STD = {"spin": "Mutex", "rw": "RwLock"}
 def turn(command, threads, turns, work):
     """The nanoseconds a turn of one race, and those of processor time."""
     mode, kind, *spins = command[1:]
+    if kind == "spin" and not work and mode != "pv":
+        kind = "bare"
     words = [command[0], mode, kind, str(threads), str(turns // threads), str(work), *spins]
     processors = sorted(os.sched_getaffinity(0))[:threads]
     before = resource.getrusage(resource.RUSAGE_CHILDREN)

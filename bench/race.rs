@@ -476,7 +476,7 @@ fn main() {
     match (mode.as_str(), kind.as_str()) {
         ("pv", "spin") => run(Alone(Paravirtual::new(threads, spins)), false, threads, turns, work),
         (mode, "spin8") => race_values::race(mode, 0u64, threads, turns, work),
-        (mode, "spin") => race_values::race(mode, [0u64; 2], threads, turns, work),
+        (mode, "bare" | "spin") => race_values::race(mode, [0u64; 2], threads, turns, work),
         (mode, "spin1024") => race_values::race(mode, [0u64; 128], threads, turns, work),
         ("virt", "rw") => run(Shared { word, wait: TestAndSet::default() }, true, threads, turns, work),
         ("native", "rw") => run(Shared { word, wait: Queue::<false>::new(threads) }, true, threads, turns, work),

@@ -7,6 +7,8 @@
 //! one number lies under the lock, and for `spin1024` one number at the head of 1 KiB. With `mutex`
 //! as MODE the lock is a mutex of the standard library.
 //!
+//! `lk_race MODE bare THREADS TURNS 0` takes a spinlock with nothing under it.
+//!
 //! `lk_race MODE rw THREADS TURNS WORK` takes a reader-writer lock: in 99 of 100 turns a thread
 //! compares two numbers WORK times as a reader, and in the last one it changes them.
 //!
@@ -18,6 +20,7 @@
 //! domain.
 #![tactic(auto)]
 
+mod bare_race;
 mod course;
 mod mutex_race;
 mod numbers;
@@ -28,13 +31,14 @@ mod spin_race;
 mod value;
 mod words;
 
-use lk_abs::Memory;
+use bare_race::{BareRace, take_all_bare_turns};
+use lk_abs::{Kind, Memory};
 use lk_domain::{Domain, close};
 use lk_lock::{Locks, Open};
 use lk_pvdomain::{PvDomain, pv_close};
 use mutex_race::{MutexRace, take_all_mutex_turns};
 use numbers::Numbers;
-use plan::{pv_plan_of, rw_plan_of, two_sockets};
+use plan::{plan_of, pv_plan_of, two_sockets};
 use pv_race::{PvRace, take_all_pv_turns};
 use rw_race::{RwRace, share_all_turns};
 use spin_race::{Size, SpinRace, Track, read, take_all_turns};
@@ -68,6 +72,29 @@ fn time_since(rt: &impl Clock, start: io::Result<Instant>) -> io::Result<Duratio
     match start {
         Ok(start) => start.elapsed(rt),
         Err(why) => Err(why),
+    }
+}
+
+// A race for a spinlock with nothing under it.
+fn bare<R: Threads + Wait + Sync + AllocGlobal + Clock>(
+    rt: &R,
+    race: &BareRace,
+) -> Result<Outcome, Memory> {
+    let course = race.course;
+    let plan = plan_of(rt.alloc(), race.mode, Kind::Spin, &course)?;
+    let (domain, mut cpus) = Domain::new(rt.alloc(), &plan)?;
+    let start = Instant::now(rt);
+    take_all_bare_turns(rt, &domain, course.turns, &mut cpus);
+    let time = time_since(rt, start);
+    match close(rt.alloc(), domain, cpus) {
+        Ok(_) => Ok(Outcome {
+            turns: course.all_turns(),
+            wanted: 0,
+            numbers: Vec::new(rt.alloc()),
+            were_one: true,
+            time,
+        }),
+        Err(_) => Err(Memory),
     }
 }
 
@@ -123,7 +150,7 @@ fn rw<R: Threads + Wait + Sync + AllocGlobal + Clock>(
     rt: &R,
     race: &RwRace,
 ) -> Result<Outcome, Memory> {
-    let plan = rw_plan_of(rt.alloc(), race)?;
+    let plan = plan_of(rt.alloc(), race.mode, Kind::Rw, &race.course)?;
     let (domain, mut cpus) = Domain::new(rt.alloc(), &plan)?;
     let numbers = Numbers::new();
     let start = Instant::now(rt);
@@ -170,6 +197,7 @@ fn carry_out<R: Threads + Wait + Sync + AllocGlobal + Clock>(
     asked: &Asked,
 ) -> Result<Outcome, Memory> {
     match asked {
+        Asked::Bare(race) => bare(rt, race),
         Asked::Spin(race) => match race.size {
             Size::One => spin(rt, race, 0u64),
             Size::Two => spin(rt, race, [0u64; 2]),
@@ -203,6 +231,7 @@ fn tell(rt: &(impl Print + Eprint), outcome: Outcome) -> io::Result<bool> {
 // How the program is called.
 fn tell_usage(rt: &impl Eprint) -> io::Result<()> {
     eprintln!(rt; "usage: lk_race virt|native|cna|mutex spin8|spin|spin1024 THREADS TURNS WORK")?;
+    eprintln!(rt; "       lk_race virt|native|cna bare THREADS TURNS 0")?;
     eprintln!(rt; "       lk_race virt|native|cna rw THREADS TURNS WORK")?;
     eprintln!(rt; "       lk_race pv spin THREADS TURNS WORK [SPINS]")?;
     Ok(())

@@ -1,12 +1,12 @@
 // The plans of the domains.
-ghost use Rattle.std.specs.Prelude.{◌≡◌, ◌≤◌, IfOk, length};
-ghost use Rattle.lk_abs.specs.declared.names.Kind.TheVariants.{Rw};
+ghost use Rattle.std.specs.Prelude.{◌≡◌, ◌≤◌, IfOk, false, length};
+ghost use Rattle.lk_law.specs.Agree.{halts};
 ghost use Rattle.lk_domain.specs.Plans.{IsLawfulPlan, cpus_of, kind_at, locks_of};
 ghost use Rattle.lk_pvdomain.specs.PvPlans.{IsLawful};
 
+use crate::course::Course;
 use crate::pv_race::PvRace;
-use crate::rw_race::RwRace;
-use lk_abs::{Format, Kind, List, Memory, Topology};
+use lk_abs::{Format, Kind, List, Memory, Mode, Topology};
 use lk_domain::Plan;
 use lk_pvdomain::PvPlan;
 use std::alloc::Global;
@@ -29,26 +29,32 @@ pub fn two_sockets(alloc: Global, threads: u32) -> Result<Topology, Memory>
     Ok(Topology { sockets })
 }
 
-/// A plan with one reader-writer lock, and a processor for each thread, on two sockets. The
+/// A plan with one lock of this kind, and a processor for each thread, on two sockets. The
 /// ledger has no accounts, and no processor may write an entry.
 ///
 /// # Errors
 ///
 /// There is not enough memory.
-pub fn rw_plan_of(alloc: Global, race: &RwRace) -> Result<Plan, Memory>
+pub fn plan_of(
+    alloc: Global,
+    mode: Mode,
+    kind: Kind,
+    course: &Course,
+) -> Result<Plan, Memory>
+    requires awake { halts mode ≡ false }
     ensures lawful { IfOk result (λ plan. IsLawfulPlan plan) }
-    ensures cpus { IfOk result (λ plan. cpus_of plan ≡ race.now.course.threads) }
+    ensures cpus { IfOk result (λ plan. cpus_of plan ≡ course.now.threads) }
     ensures locks { IfOk result (λ plan. locks_of plan ≡ 1) }
-    ensures kind { IfOk result (λ plan. kind_at plan 0 ≡ Rw) }
+    ensures kind { IfOk result (λ plan. kind_at plan 0 ≡ kind) }
 {
     Ok(Plan {
         format: Format::One,
-        mode: race.mode,
-        topology: two_sockets(alloc, race.course.threads)?,
+        mode,
+        topology: two_sockets(alloc, course.threads)?,
         threshold: THRESHOLD,
-        locks: List::filled(alloc, Kind::Rw, 1)?,
+        locks: List::filled(alloc, kind, 1)?,
         balances: List::new(alloc, 0)?,
-        shares: List::filled(alloc, 0, race.course.threads as usize)?,
+        shares: List::filled(alloc, 0, course.threads as usize)?,
         cells: None,
     })
 }

@@ -2,6 +2,7 @@
 ghost use Rattle.std.specs.Prelude.{◌≡◌, IfSome, false};
 ghost use Rattle.lk_law.specs.Agree.{halts};
 
+use crate::bare_race::BareRace;
 use crate::course::Course;
 use crate::mutex_race::MutexRace;
 use crate::pv_race::PvRace;
@@ -16,6 +17,8 @@ const SPINS: u16 = 32_768;
 /// The race for which the program's arguments ask.
 #[derive(Clone, Copy)]
 pub enum Asked {
+    /// A race for a spinlock with nothing under it.
+    Bare(BareRace),
     /// A race for a spinlock with a value.
     Spin(SpinRace),
     /// A race for a mutex of the standard library.
@@ -62,6 +65,10 @@ fn spinning(mode: &str, kind: &str, course: Course) -> Option<Asked> {
     if kind == "rw" {
         let mode = mode_of(mode)?;
         return Some(Asked::Rw(RwRace { mode, course }));
+    }
+    if kind == "bare" {
+        let mode = mode_of(mode)?;
+        return Some(Asked::Bare(BareRace { mode, course }));
     }
     let size = size_of(kind)?;
     if mode == "mutex" {
