@@ -4,7 +4,7 @@ use Rattle.std.specs.Prelude.{slice_get, slice_index_or, slice_set}
 use Rattle.atomic_table.specs.Seated.{TableId}
 use Rattle.lk_abs.proofs.Places.{slice_get-set_other}
 use Rattle.lk_cell.specs.Latched.{IsKey}
-use Rattle.lk_domain.specs.Values.{Key, Slot, Fits, AreLaid, lodged}
+use Rattle.lk_domain.specs.Values.{Key, Slot, Fits, AreLaid, id_of, keys_of, lodged}
 use Rattle.lk_domain.specs.declared.plan.Plan.{Plan}
 use Rattle.lk_domain.specs.declared.slot.Stowed.TheVariants.{CellKey}
 use Rattle.lk_lock.specs.Ended.{HasAllKeys, KeepsOthers}
@@ -23,6 +23,12 @@ at (x ∷ xs) (suc l) low =
     let more = at xs l (omega (arith, low)) in
     record { item = more.item; is = more.is; same = more.same }
 
+-- a home that has a cell is one of those for which the domain was made with keys
+within : (xs : List (Option Key)) (l : ℕ) (cell : TableId) → id_of (slice_get xs l) ≡ Some cell → l < length xs
+within [] l cell e = absurd (let z : ⊥ = cc e in z)
+within (x ∷ xs) zero cell e = omega arith
+within (x ∷ xs) (suc l) cell e = let more = within xs l cell e in omega (arith, more)
+
 -- a slot that fits has a key
 key_in : (cell : TableId) (x : Option Key) → Fits (Some cell) (lodged x)
     → (key : Key) × (x ≡ Some key) × IsKey cell key
@@ -37,10 +43,11 @@ key_in cell (Some key) fits = (key, refl, subst (λ (k : Key). IsKey cell k) (sy
 pub all_keys : (k : Plan) (keys : Keys) → AreLaid k keys.by_lock.items → HasAllKeys k keys
 all_keys k keys laid kind l cell is =
     let xs = keys.by_lock.items in
-    let here = at xs l (subst (λ (n : ℕ). l < n) (sym laid.0) is.low) in
+    let low = within (keys_of k) l cell is.cell_is in
+    let here = at xs l (subst (λ (n : ℕ). l < n) (sym laid.0) low) in
     let found = key_in cell here.item
     (subst (λ (x : Option Key). Fits (Some cell) (lodged x)) (here.same None)
-    (subst (λ (o : Option TableId). Fits o (lodged (slice_index_or xs l None))) is.cell_is (laid.1 l None is.low))) in
+    (subst (λ (o : Option TableId). Fits o (lodged (slice_index_or xs l None))) is.cell_is (laid.1 l None low))) in
     record { key = found.0; key_is = here.is ∙ ap Some found.1; opens = found.2 }
 
 -- where the key of one lock is taken, those of the others stay

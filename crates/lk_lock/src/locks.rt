@@ -158,6 +158,7 @@ impl Locks {
         ensures made { IfOk result (λ all. AreMade self all.domain.plan) }
         ensures many { IfOk result (λ all. length all.cpus.items
             ≡ length topology.sockets.items) }
+        ensures each { IfOk result (λ all. length all.cpus.items ≡ cpus_of all.domain.plan) }
         ensures rest { IfOk result (λ all. AllRest all.domain all.cpus.items) }
     {
         let Locks { alloc, kinds, keys } = self;
