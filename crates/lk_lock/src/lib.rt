@@ -14,6 +14,8 @@ mod keys;
 mod locks;
 mod seat;
 mod showing;
+#[cfg(test)]
+mod tests;
 mod writing;
 
 pub use held::Held;

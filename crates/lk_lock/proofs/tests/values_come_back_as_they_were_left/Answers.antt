@@ -1,0 +1,22 @@
+use Rattle.std.proofs.Common.{arith}
+use Rattle.lk_abs.specs.declared.names.Kind.TheVariants.{Rw as shared, Spin as spinning}
+use Rattle.lk_lock.proofs.tests.values_come_back_as_they_were_left.Goals as goal
+
+pub into_value-requires : goal.into_value-requires
+into_value-requires g c =
+    record {
+      key =
+          c.in-Ok.ensures.keys shared _ _
+          (c.in_ok-open.ensures.made shared _ _ c.in_ok-other.ensures.made);
+    }
+
+pub into_value-requires-2 : goal.into_value-requires-2
+into_value-requires-2 g c =
+    record {
+      key =
+          c.into_value.ensures.others _ _
+          (λ e. let n = c.in_ok-number.ensures.number in let m = c.in_ok-number.ensures.count in let o = c.in_ok-other.ensures.number in omega (arith, e, n, m, o))
+          (c.in-Ok.ensures.keys spinning _ _
+          (c.in_ok-open.ensures.made spinning _ _
+          (c.rw.ensures.kept spinning _ _ c.in_ok-number.ensures.made)));
+    }
