@@ -1,13 +1,16 @@
 -- The keys of a domain that is closed.
-use Rattle.std.proofs.Common.{◌≡◌, ℕ, zero, suc, ◌<◌, List, [], ◌∷◌, length, Option, Some, None, refl, sym, ap, ◌∙◌, subst, arith}
+use Rattle.std.proofs.Common.{◌≡◌, ℕ, zero, suc, ◌+◌, ◌*◌, ◌<◌, List, [], ◌∷◌, length, Option, Some, None, refl, sym, ap, ◌∙◌, subst, arith}
 use Rattle.std.specs.Prelude.{slice_get, slice_index_or, slice_set}
 use Rattle.atomic_table.specs.Seated.{TableId}
 use Rattle.lk_abs.proofs.Places.{slice_get-set_other}
 use Rattle.lk_cell.specs.Latched.{IsKey}
-use Rattle.lk_domain.specs.Values.{Key, Slot, Fits, AreLaid, id_of, keys_of, lodged}
+use Rattle.lk_domain.specs.Values.{Key, Slot, Fits, AreLaid, cell_of, id_of, keys_of, lodged}
+use Rattle.lk_domain.specs.Plans.{locks_of}
 use Rattle.lk_domain.specs.declared.plan.Plan.{Plan}
 use Rattle.lk_domain.specs.declared.slot.Stowed.TheVariants.{CellKey}
-use Rattle.lk_lock.specs.Ended.{HasAllKeys, KeepsOthers}
+use Rattle.lk_abs.specs.declared.names.Kind.TheVariants.{Rw}
+use Rattle.lk_lock.specs.Ended.{HasAllKeys, HasKeyOf, KeepsOthers}
+use Rattle.lk_lock.specs.Standing.{IsSharedUnder}
 use Rattle.lk_lock.specs.declared.keys.Keys.{Keys}
 
 -- what stands at a place of the list
@@ -60,3 +63,11 @@ others_stay l old new is other cell apart has =
           ∙ (slice_get-set_other None old.by_lock.items l other apart ∙ has.key_is);
       opens = has.opens;
     }
+
+-- and a lock whose value readers share has that of its own value
+pub shared_key : (k : Plan) (keys : Keys) (l : ℕ) (cells : List TableId) → HasAllKeys k keys → IsSharedUnder k l cells
+    → (cell : TableId) × (slice_get cells 0 ≡ Some cell) × HasKeyOf keys l cell
+shared_key k keys l [] all is = let many = is.many in absurd (omega (arith, many))
+shared_key k keys l (c ∷ cs) all is =
+    let own : l ≡ 0 * locks_of k + l = omega arith in
+    (c, refl, all Rw l c (record { low = is.low; kind_is = is.kind_is; cell_is = ap (cell_of k) own ∙ is.cells_are 0 c refl }))

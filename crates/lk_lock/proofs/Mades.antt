@@ -1,71 +1,91 @@
 -- A lock more among those to be made, and all of them in a domain.
-use Rattle.std.proofs.Common.{◌≡◌, ℕ, zero, suc, ◌<◌, List, [], ◌∷◌, ◌++◌, length, Option, Some, false, refl, sym, ap, ◌∙◌, subst}
+use Rattle.std.proofs.Common.{◌≡◌, ℕ, ◌+◌, ◌*◌, ◌<◌, List, [], ◌∷◌, ◌++◌, length, Option, Some, true, refl, sym, ap, ◌∙◌, subst}
 use Rattle.std.specs.Prelude.{slice_get}
 use Rattle.std.proofs.lemmas.Option.{slice_get_within, get_or_from_slice_get}
 use Rattle.atomic_table.specs.Seated.{TableId}
+use Rattle.lk_abs.proofs.ByIndex.{get-append_new, get-append_old}
+use Rattle.lk_abs.specs.ListOf.{ListOf}
 use Rattle.lk_abs.specs.declared.names.Kind.{Kind}
-use Rattle.lk_abs.specs.declared.names.Kind.TheVariants.{Spin}
-use Rattle.lk_domain.specs.Values.{Key, id_of, keys_of}
+use Rattle.lk_abs.specs.declared.names.Kind.TheVariants.{Rw, Spin}
+use Rattle.lk_domain.specs.Plans.{cpus_of, locks_of, kind_at}
+use Rattle.lk_domain.specs.Values.{Key, cell_of, id_of, keys_of}
 use Rattle.lk_domain.specs.declared.plan.Plan.{Plan}
-use Rattle.lk_lock.specs.Made.{IsAmong, Keeps, AreMade}
+use Rattle.lk_lock.specs.Cells.{AreKeysOf, laid}
+use Rattle.lk_lock.specs.Made.{AreAmong, AreMade, AreSharedMade, Keeps, KeepsShared}
 use Rattle.lk_lock.specs.declared.locks.Locks.{Locks}
+use Rattle.lk_lock.proofs.Laid.{key_at, laid_at, none_before}
 
--- what stands in a list stands in a longer one
-older : {A : Type 0} (xs ys : List A) (n : ℕ) (x : A) → slice_get xs n ≡ Some x → slice_get (xs ++ ys) n ≡ Some x
-older [] ys n x e = absurd (let z : ⊥ = cc e in z)
-older (a ∷ xs) ys zero x e = e
-older (a ∷ xs) ys (suc n) x e = older xs ys n x e
-
--- and the last stands at the end
-last : {A : Type 0} (xs : List A) (y : A) → slice_get (xs ++ y ∷ []) (length xs) ≡ Some y
-last [] y = refl
-last (x ∷ xs) y = last xs y
-
-module _ (old new : Locks) (kind : Kind) (key : Key) (kinds : new.kinds.items ≡ old.kinds.items ++ kind ∷ [])
-    (keys : new.keys.items ≡ old.keys.items ++ Some key ∷ []) where
-  pub keeps : Keeps old new
-  keeps k l cell is =
+module _ (old new : Locks) (kind : Kind) (keys : ListOf Key) (kinds : new.kinds.items ≡ old.kinds.items ++ kind ∷ [])
+    (more : new.keys.items ≡ old.keys.items ++ keys ∷ []) where
+  stays : (k : Kind) (l : ℕ) (cells : List TableId) → AreAmong old k l cells → AreAmong new k l cells
+  stays k l cells is =
       record {
-        key = is.key;
-        kind_is = ap (λ (xs : List Kind). slice_get xs l) kinds ∙ older old.kinds.items (kind ∷ []) l k is.kind_is;
-        key_is = ap (λ (xs : List (Option Key)). slice_get xs l) keys
-            ∙ older old.keys.items (Some key ∷ []) l (Some is.key) is.key_is;
-        cell_is = is.cell_is;
+        keys = is.keys;
+        kind_is = ap (λ (xs : List Kind). slice_get xs l) kinds ∙ get-append_old old.kinds.items kind l k is.kind_is;
+        keys_are = ap (λ (xs : List (ListOf Key)). slice_get xs l) more
+            ∙ get-append_old old.keys.items keys l is.keys is.keys_are;
+        fit = is.fit;
       }
 
-  pub among : (l : ℕ) (cell : TableId) → l ≡ length old.kinds.items → length old.keys.items ≡ length old.kinds.items
-      → key.table_id ≡ cell → IsAmong new kind l cell
-  among l cell at same is =
+  pub keeps : Keeps old new
+  keeps k l cell is = stays k l (cell ∷ []) is
+
+  pub keeps_shared : new.threads ≡ old.threads → (old.copied ≡ true → new.copied ≡ true) → KeepsShared old new
+  keeps_shared threads copied l cells is =
       record {
-        key = key;
+        among = stays Rw l cells is.among;
+        many = is.many ∙ ap (λ (n : ℕ). 1 + n) (sym threads);
+        copied = copied is.copied;
+      }
+
+  pub among : (l : ℕ) (cells : List TableId) → l ≡ length old.kinds.items → length old.keys.items ≡ length old.kinds.items
+      → AreKeysOf cells keys.items → AreAmong new kind l cells
+  among l cells at same fit =
+      record {
+        keys = keys;
         kind_is = ap (λ (xs : List Kind). slice_get xs l) kinds
-            ∙ (ap (λ (n : ℕ). slice_get (old.kinds.items ++ kind ∷ []) n) at ∙ last old.kinds.items kind);
-        key_is = ap (λ (xs : List (Option Key)). slice_get xs l) keys
-            ∙ (ap (λ (n : ℕ). slice_get (old.keys.items ++ Some key ∷ []) n) (at ∙ sym same) ∙ last old.keys.items (Some key));
-        cell_is = is;
+            ∙ (ap (λ (n : ℕ). slice_get (old.kinds.items ++ kind ∷ []) n) at ∙ get-append_new old.kinds.items kind);
+        keys_are = ap (λ (xs : List (ListOf Key)). slice_get xs l) more
+            ∙ (ap (λ (n : ℕ). slice_get (old.keys.items ++ keys ∷ []) n) (at ∙ sym same) ∙ get-append_new old.keys.items keys);
+        fit = fit;
       }
 
 -- a domain of these locks has them
-pub made : (locks : Locks) (k : Plan) → k.locks.items ≡ locks.kinds.items → keys_of k ≡ locks.keys.items
-    → AreMade locks k
-made locks k kinds keys kind l cell is =
-    record {
-      low = subst (λ (xs : List Kind). l < length xs) (sym kinds) (slice_get_within locks.kinds.items l kind is.kind_is);
-      kind_is = get_or_from_slice_get k.locks.items l kind Spin
-          (ap (λ (xs : List Kind). slice_get xs l) kinds ∙ is.kind_is);
-      cell_is = ap (λ (xs : List (Option Key)). id_of (slice_get xs l)) keys
-          ∙ (ap id_of is.key_is ∙ ap Some is.cell_is);
-    }
+module _ (locks : Locks) (k : Plan) (n : ℕ) (kinds : k.locks.items ≡ locks.kinds.items)
+    (keys : keys_of k ≡ laid n locks.keys.items) (same : length locks.keys.items ≡ length locks.kinds.items) where
+  low : (kind : Kind) (l : ℕ) (cells : List TableId) → AreAmong locks kind l cells → l < locks_of k
+  low kind l cells is =
+      subst (λ (xs : List Kind). l < length xs) (sym kinds) (slice_get_within locks.kinds.items l kind is.kind_is)
 
--- each key is one of a cell that is shut, with one more such key
-pub still_shut : (xs : List (Option Key)) (key : Key) → ((l : ℕ) (k : Key) → slice_get xs l ≡ Some (Some k) → k.views ≡ false ∷ [])
-    → key.views ≡ false ∷ [] → (l : ℕ) (k : Key) → slice_get (xs ++ Some key ∷ []) l ≡ Some (Some k)
-    → k.views ≡ false ∷ []
-still_shut [] key all one zero k e = subst (λ (x : Key). x.views ≡ false ∷ []) (ap (λ (o : Option (Option Key)). taken o) e) one
-  where
-    taken : Option (Option Key) → Key
-    taken (Some (Some x)) = x
-    taken _ = k
-still_shut [] key all one (suc l) k e = absurd (let z : ⊥ = cc e in z)
-still_shut (x ∷ xs) key all one zero k e = all zero k e
-still_shut (x ∷ xs) key all one (suc l) k e = still_shut xs key (λ n. all (suc n)) one l k e
+  kind_of : (kind : Kind) (l : ℕ) (cells : List TableId) → AreAmong locks kind l cells → kind_at k l ≡ kind
+  kind_of kind l cells is =
+      get_or_from_slice_get k.locks.items l kind Spin (ap (λ (xs : List Kind). slice_get xs l) kinds ∙ is.kind_is)
+
+  many : length locks.keys.items ≡ locks_of k
+  many = same ∙ ap (λ (xs : List Kind). length xs) (sym kinds)
+
+  cell_at : (kind : Kind) (l h : ℕ) (cells : List TableId) (cell : TableId) → AreAmong locks kind l cells → h < n
+      → slice_get cells h ≡ Some cell → cell_of k (h * locks_of k + l) ≡ Some cell
+  cell_at kind l h cells cell is less here =
+      let key = key_at cells is.keys.items h cell is.fit here in
+      ap (λ (xs : List (Option Key)). id_of (slice_get xs (h * locks_of k + l))) keys
+      ∙ (ap (λ (m : ℕ). id_of (slice_get (laid n locks.keys.items) (h * m + l))) (sym many)
+      ∙ (ap id_of (laid_at n h l locks.keys.items is.keys key.0 less is.keys_are key.1) ∙ ap Some key.2.0))
+
+  pub made : 0 < n → AreMade locks k
+  made some kind l cell is =
+      record {
+        low = low kind l (cell ∷ []) is;
+        kind_is = kind_of kind l (cell ∷ []) is;
+        cell_is = ap (λ (q : ℕ). cell_of k q) (sym (none_before (locks_of k) l)) ∙ cell_at kind l 0 (cell ∷ []) cell is some refl;
+      }
+
+  pub shared_made : (locks.copied ≡ true → n ≡ 1 + locks.threads) → cpus_of k ≡ locks.threads → AreSharedMade locks k
+  shared_made copied cpus l cells is =
+      record {
+        low = low Rw l cells is.among;
+        kind_is = kind_of Rw l cells is.among;
+        many = is.many ∙ ap (λ (m : ℕ). 1 + m) (sym cpus);
+        cells_are = λ h cell here. cell_at Rw l h cells cell is.among
+            (subst (λ (m : ℕ). h < m) (is.many ∙ sym (copied is.copied)) (slice_get_within cells h cell here)) here;
+      }

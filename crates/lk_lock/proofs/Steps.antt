@@ -11,7 +11,7 @@ use Rattle.lk_domain.specs.Calls.{Terms, Mark, Running, Hold, hold, Calls, Frees
 use Rattle.lk_domain.specs.Ledgers.{Ledger, turned, closed, is_first}
 use Rattle.lk_domain.specs.Paths.{HasLooked, HasFreed}
 use Rattle.lk_domain.specs.Plans.{cpus_of}
-use Rattle.lk_domain.specs.Seats.{IsSame, KeepsRest, TakesValueOf, BringsValueOf, calls_of, ledger_of, view_of}
+use Rattle.lk_domain.specs.Seats.{IsSame, KeepsRest, TakesValueAt, BringsValueOf, calls_of, ledger_of, view_of}
 use Rattle.lk_domain.specs.Values.{IsClear, IsHomeWith, IsNewestAt, is_sole, marked_out, older, outs_of}
 use Rattle.lk_domain.specs.Waits.{Gains, Misses}
 use Rattle.lk_domain.specs.Who.{Who}
@@ -20,8 +20,9 @@ use Rattle.lk_domain.specs.declared.domain.Domain.{Domain}
 use Rattle.lk_domain.specs.declared.plan.Plan.{Plan}
 use Rattle.lk_domain.specs.declared.view.View.{View}
 use Rattle.lk_run.specs.Entering.{HasLeft}
+use Rattle.lk_machine.specs.declared.parts.Pc.{Pc}
 use Rattle.lk_machine.specs.declared.parts.Pc.TheVariants.{Z2}
-use Rattle.lk_lock.specs.Standing.{IsAsBefore, IsInside, IsReady, HasGot, HasTurned, HasGotIn, HasWritten, HasWrittenOnce, holds_of, valued}
+use Rattle.lk_lock.specs.Standing.{IsAsBefore, IsInside, IsInsideAt, IsReady, HasGot, HasTurned, HasGotIn, HasBeenIn, HasWrittenOnce, holds_of, valued}
 use Rattle.lk_lock.proofs.Marks.{still_of, turned_out, found, marked, dropped}
 
 -- a look that ends leaves the journal where it is
@@ -67,7 +68,7 @@ module _ (d : Domain) (l : ℕ) where
       }
 
   -- its value goes out
-  pub gone_out : (mid new : Cpu) → IsReady d mid → TakesValueOf l mid new → IsReady d new
+  pub gone_out : {q : ℕ} (mid new : Cpu) → IsReady d mid → TakesValueAt l q mid new → IsReady d new
   gone_out mid new was out =
       record {
         domain_is = record {
@@ -130,16 +131,16 @@ module _ (l n : ℕ) (m : Manner) (hs : List Hold) (rest : List Hold)
       ∙ marked l n m true false rest))
 
 -- the lock and its value are with the processor
-pub inside : (l n : ℕ) (m : Manner) (old mid new : Cpu) → IsSame old mid
+pub inside : {q : ℕ} (l n : ℕ) (m : Manner) (old mid new : Cpu) → IsSame old mid
     → holds_of mid ≡ hold 0 (lock_name l) m n ∷ holds_of old → holds_in (holds_of old) l ≡ false
-    → TakesValueOf l mid new → IsInside l m old new
-inside l n m old mid new same is free out =
+    → TakesValueAt l q mid new → IsInsideAt l q m old new
+inside {q} l n m old mid new same is free out =
     record {
       table = out.table ∙ same.table;
       id = out.id ∙ same.id;
       number = out.number ∙ same.number;
       who = ap (λ (v : View). v.who) out.view
-          ∙ ap (λ (w : Who). let r : Who = record w { outs = l ∷ w.outs } in r) same.who;
+          ∙ ap (λ (w : Who). let r : Who = record w { outs = q ∷ w.outs } in r) same.who;
       nth = n;
       holds = ap (λ (v : View). v.calls.holds) out.view
           ∙ (ap (λ (xs : List Hold). marked_out l true xs) is ∙ marked l n m false true (holds_of old));
@@ -147,9 +148,9 @@ inside l n m old mid new same is free out =
       apart = subst (λ (w : Who). IsClear w.plan l w.outs) same.who out.apart;
     }
 
-module _ (l : ℕ) (m : Manner) (before old : Cpu) (in_it : IsInside l m before old) where
+module _ {q : ℕ} (l : ℕ) (m : Manner) (before old : Cpu) (in_it : IsInsideAt l q m before old) where
   -- its value is the newest that is out
-  pub newest_out : (k : Plan) → (view_of old).who.plan ≡ k → IsNewestAt k l l (outs_of (view_of old))
+  pub newest_out : (k : Plan) → (view_of old).who.plan ≡ k → IsNewestAt k l q (outs_of (view_of old))
   newest_out k same =
       record {
         others = outs_of (view_of before);
@@ -210,15 +211,15 @@ written_once t p l old mid new got left =
           left;
     }
 
--- and of one that waited for it
-pub written : (t : Terms) (p : ℕ) (v : Verb) (l : ℕ) (old mid new : Calls) → HasGotIn t p v l old mid
-    → HasLeft Z2 l (valued l false mid) new → HasWritten t p v l old new
-written t p v l old mid new got left =
+-- and of one that waited for it, as a reader or a writer
+pub been_in : (t : Terms) (p : ℕ) (v : Verb) (l : ℕ) (m : Manner) (a : Pc) (old mid new : Calls)
+    → HasGotIn t p v l m old mid → HasLeft a l (valued l false mid) new → HasBeenIn t p v l m a old new
+been_in t p v l m a old mid new got left =
     record {
       inside = got.inside;
       upto = got.upto;
       entered = got.entered;
-      left = subst (λ (c : Calls). HasLeft Z2 l c new)
+      left = subst (λ (c : Calls). HasLeft a l c new)
           (ap (λ (c : Calls). valued l false c) got.is
           ∙ ap (λ (hs : List Hold). let r : Calls = record got.inside { holds = hs } in r) (sym got.holds))
           left;

@@ -1,4 +1,5 @@
 pub mod Standing
+pub mod Cells
 pub mod Made
 pub mod Lending
 pub mod Ended

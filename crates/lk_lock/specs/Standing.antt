@@ -1,16 +1,19 @@
 -- How a processor stands that takes locks with values.
-use Rattle.std.specs.Prelude.{◌≡◌, ℕ, ◌<◌, true, false, Bool, List, [], ◌∷◌, Some, None}
+use Rattle.std.specs.Prelude.{◌≡◌, ℕ, ◌+◌, ◌*◌, ◌<◌, true, false, Bool, List, [], ◌∷◌, Some, None}
+use Rattle.std.specs.Prelude.{length, slice_get}
 use Rattle.atomic_table.specs.Seated.{TableId}
 use Rattle.atomic_table.specs.declared.shared.Seat.{Seat}
 use Rattle.lk_abs.specs.declared.holder.Manner.{Manner}
-use Rattle.lk_abs.specs.declared.holder.Manner.TheVariants.{Spins, Writes}
+use Rattle.lk_abs.specs.declared.holder.Manner.TheVariants.{Spins, Reads, Writes}
 use Rattle.lk_abs.specs.declared.names.Kind.{Kind}
+use Rattle.lk_abs.specs.declared.names.Kind.TheVariants.{Rw}
 use Rattle.lk_machine.specs.declared.setup.Verb.{Verb}
 use Rattle.lk_machine.specs.declared.setup.Verb.TheVariants.{TryWrite}
-use Rattle.lk_machine.specs.declared.parts.Pc.TheVariants.{Z2}
-use Rattle.lk_domain.specs.Calls.{Terms, Mark, Hold, Calls, holds_in, lock_name}
+use Rattle.lk_machine.specs.declared.parts.Pc.{Pc}
+use Rattle.lk_machine.specs.declared.parts.Pc.TheVariants.{Z1, Z2}
+use Rattle.lk_domain.specs.Calls.{Terms, Mark, Hold, hold, Calls, holds_in, lock_name}
 use Rattle.lk_domain.specs.Paths.{HasTaken, HasFreed}
-use Rattle.lk_domain.specs.Plans.{locks_of, kind_at}
+use Rattle.lk_domain.specs.Plans.{cpus_of, locks_of, kind_at}
 use Rattle.lk_domain.specs.Seats.{IsOf, IsSame, calls_of, ledger_of, view_of}
 use Rattle.lk_domain.specs.Values.{IsClear, cell_of, outs_of, marked_out}
 use Rattle.lk_domain.specs.declared.cpu.Cpu.{Cpu}
@@ -38,6 +41,18 @@ pub record IsUnder (k : Plan) (kind : Kind) (l : ℕ) (cell : TableId) : Type 0 
 abbrev pub IsLock : Plan → Kind → ℕ → Type 0
 IsLock k kind l = (cell : TableId) × IsUnder k kind l cell
 
+-- The reader-writer lock of this number has a copy of its value for each processor, and its values lie in
+-- the cells of these names.
+pub record IsSharedUnder (k : Plan) (l : ℕ) (cells : List TableId) : Type 0 where
+  pub low : l < locks_of k
+  pub kind_is : kind_at k l ≡ Rw
+  pub many : length cells ≡ 1 + cpus_of k
+  pub cells_are : (h : ℕ) (cell : TableId) → slice_get cells h ≡ Some cell
+      → cell_of k (h * locks_of k + l) ≡ Some cell
+
+abbrev pub IsSharedLock : Plan → ℕ → Type 0
+IsSharedLock k l = (cells : List TableId) × IsSharedUnder k l cells
+
 -- The processor is the one that it was: it holds what it held, and has the values out that it had.
 pub record IsAsBefore (before now : Cpu) : Type 0 where
   pub same : IsSame before now
@@ -47,16 +62,33 @@ pub record IsAsBefore (before now : Cpu) : Type 0 where
 abbrev pub out_with : ℕ → Manner → ℕ → Hold
 out_with l m n = record { ctx = 0; lock = lock_name l; manner = m; nth = n; out = true }
 
--- It holds one lock more than before, in this manner, and has its value out.
-pub record IsInside (l : ℕ) (m : Manner) (before now : Cpu) : Type 0 where
+-- it has taken the lock last, in this manner, and no value of it is out
+pub record IsNewest (l : ℕ) (m : Manner) (cpu : Cpu) : Type 0 where
+  pub nth : ℕ
+  pub others : List Hold
+  pub holds : holds_of cpu ≡ hold 0 (lock_name l) m nth ∷ others
+
+-- the processor stands as it did, in all that it knows
+pub record IsStill (old new : Cpu) : Type 0 where
+  pub table : new.seat.table_id ≡ old.seat.table_id
+  pub id : new.seat.id ≡ old.seat.id
+  pub number : new.number ≡ old.number
+  pub view : view_of new ≡ view_of old
+
+-- It holds one lock more than before, in this manner, and has the value out whose home is q.
+pub record IsInsideAt (l q : ℕ) (m : Manner) (before now : Cpu) : Type 0 where
   pub table : now.seat.table_id ≡ before.seat.table_id
   pub id : now.seat.id ≡ before.seat.id
   pub number : now.number ≡ before.number
-  pub who : (view_of now).who ≡ record (view_of before).who { outs = l ∷ outs_of (view_of before) }
+  pub who : (view_of now).who ≡ record (view_of before).who { outs = q ∷ outs_of (view_of before) }
   pub nth : ℕ
   pub holds : holds_of now ≡ out_with l m nth ∷ holds_of before
   pub fresh : holds_in (holds_of before) l ≡ false
   pub apart : IsClear (view_of before).who.plan l (outs_of (view_of before))
+
+-- it has the lock's own value out
+abbrev pub IsInside : ℕ → Manner → Cpu → Cpu → Type 0
+IsInside l m before now = IsInsideAt l l m before now
 
 -- the calls, once the value of a lock has gone out, or has come home
 abbrev pub valued : ℕ → Bool → Calls → Calls
@@ -75,12 +107,12 @@ pub record HasTurned (t : Terms) (p : ℕ) (v : Verb) (l : ℕ) (old new : Calls
   pub taken : HasTaken t p v l Spins old inside
   pub freed : HasFreed l inside new
 
--- The same of a reader-writer lock and its writer, who had the wait lock too if the first trail is not
--- all.
-pub record HasGotIn (t : Terms) (p : ℕ) (v : Verb) (l : ℕ) (old new : Calls) : Type 0 where
+-- The same of a reader-writer lock, in this manner. The call had the wait lock too if the first trail is
+-- not all.
+pub record HasGotIn (t : Terms) (p : ℕ) (v : Verb) (l : ℕ) (m : Manner) (old new : Calls) : Type 0 where
   pub inside : Calls
   pub upto : List Mark
-  pub entered : HasEntered t p v l Writes upto old inside
+  pub entered : HasEntered t p v l m upto old inside
   pub holds : inside.holds ≡ marked_out l false (marked_out l true inside.holds)
   pub is : new ≡ valued l true inside
 
@@ -90,12 +122,20 @@ pub record HasWrittenOnce (t : Terms) (p : ℕ) (l : ℕ) (old new : Calls) : Ty
   pub taken : HasTaken t p TryWrite l Writes old inside
   pub left : HasLeft Z2 l inside new
 
--- It was taken by its writer by a path of its rows, and freed by the row Z2.
-pub record HasWritten (t : Terms) (p : ℕ) (v : Verb) (l : ℕ) (old new : Calls) : Type 0 where
+-- It was taken in this manner by a path of its rows, and freed by this row.
+pub record HasBeenIn (t : Terms) (p : ℕ) (v : Verb) (l : ℕ) (m : Manner) (c : Pc) (old new : Calls) : Type 0 where
   pub inside : Calls
   pub upto : List Mark
-  pub entered : HasEntered t p v l Writes upto old inside
-  pub left : HasLeft Z2 l inside new
+  pub entered : HasEntered t p v l m upto old inside
+  pub left : HasLeft c l inside new
+
+-- its writer did so, who frees it by the row Z2
+abbrev pub HasWritten : Terms → ℕ → Verb → ℕ → Calls → Calls → Type 0
+HasWritten t p v l old new = HasBeenIn t p v l Writes Z2 old new
+
+-- a reader, who frees it by the row Z1
+abbrev pub HasRead : Terms → ℕ → Verb → ℕ → Calls → Calls → Type 0
+HasRead t p v l old new = HasBeenIn t p v l Reads Z1 old new
 
 -- the seat has opened the cell of this name, and has its value
 pub record HasOpened {T : Type 0} (cell : TableId) (place : Seat T Bool) : Type 0 where

@@ -1,11 +1,13 @@
 // The values of locks, once their domain is closed.
-ghost use Rattle.std.specs.Prelude.{◌≡◌, Err, IfOk, length};
+ghost use Rattle.std.specs.Prelude.{◌≡◌, Err, IfOk, Some, length, slice_get};
 ghost use Rattle.atomic_table.specs.Seated.{TableId};
 ghost use Rattle.lk_cell.specs.Latched.{IsKey};
 ghost use Rattle.lk_domain.specs.Ends.{AllRest};
 ghost use Rattle.lk_domain.specs.Plans.{cpus_of};
+ghost use Rattle.lk_lock.specs.Cells.{names_of};
 
 use crate::locks::{Open, Rw, Spin};
+use crate::shared::Shared;
 use lk_abs::List;
 use lk_cell::Key;
 use lk_domain::{CloseBack, LockId, close};
@@ -80,6 +82,21 @@ impl<T> Rw<T> {
         ensures others { KeepsOthers self.id.index keys.old keys.new }
     {
         let Rw { id, cell } = self;
+        cell.into_value(keys.take(id))
+    }
+}
+
+impl<T: Drop> Shared<T> {
+    ghost use Rattle.lk_lock.specs.Ended.{HasKeyOf, KeepsOthers};
+
+    /// The value under the lock, as its last writer left it. Its copies go.
+    pub fn into_value(self, keys: &mut Keys) -> T
+        requires key { (cell : TableId) × (slice_get (names_of self.cells.items) 0 ≡ Some cell)
+            × HasKeyOf keys.old self.id.index cell }
+        ensures others { KeepsOthers self.id.index keys.old keys.new }
+    {
+        let Shared { id, mut cells } = self;
+        let cell = cells.pop_front();
         cell.into_value(keys.take(id))
     }
 }

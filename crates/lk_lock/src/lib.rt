@@ -2,23 +2,30 @@
 //! reaches it.
 //!
 //! [`Locks`] makes the locks one by one, each with its value: a [`Spin`] is a value under a spinlock, an
-//! [`Rw`] one under a reader-writer lock. [`Locks::open`] gives the domain in which they are, and a
-//! processor for each thread. A thread makes a [`Seat`] of its processor and calls [`Seat::with`], or
-//! takes a lock by [`Held::lock`] until the guard is dropped. [`Open::close`] ends the domain, and then
-//! [`Spin::into_value`] and [`Rw::into_value`] give the values back.
+//! [`Rw`] one under a reader-writer lock, a [`Shared`] one that readers share. [`Locks::open`] gives the
+//! domain in which they are, and a processor for each thread. A thread makes a [`Seat`] of its processor
+//! and calls [`Seat::with`], or takes a lock by [`Held::lock`] until the guard is dropped.
+//! [`Open::close`] ends the domain, and then [`Spin::into_value`] and its kin give the values back.
 #![tactic(auto)]
 
 mod held;
 mod holding;
 mod keys;
+mod laying;
 mod locks;
+mod reading;
 mod seat;
+mod shared;
+#[cfg(test)]
+mod shared_tests;
 mod showing;
 #[cfg(test)]
 mod tests;
+mod updating;
 mod writing;
 
 pub use held::Held;
 pub use keys::Keys;
 pub use locks::{Locks, Open, Rw, Spin};
 pub use seat::Seat;
+pub use shared::Shared;

@@ -1,11 +1,12 @@
 // The locks of a program, each with its value.
-ghost use Rattle.std.specs.Prelude.{◌≡◌, ◌+◌, ◌<◌, ◌≤◌, [], ◌∷◌, ◌++◌, IfOk, Some, length, false};
+ghost use Rattle.std.specs.Prelude.{◌≡◌, ◌+◌, ◌<◌, ◌≤◌, [], ◌∷◌, ◌++◌, IfOk, length, false, true};
 ghost use Rattle.lk_abs.specs.declared.names.Kind.TheVariants.{Rw as shared, Spin as spinning};
 ghost use Rattle.lk_domain.specs.Ends.{AllRest};
 ghost use Rattle.lk_domain.specs.Plans.{cpus_of};
-ghost use Rattle.lk_domain.specs.Values.{AreShut};
 ghost use Rattle.lk_law.specs.Agree.{halts};
+ghost use Rattle.lk_lock.specs.Cells.{AllShut, EachShut};
 
+use crate::laying::laid_out;
 use lk_abs::{Format, Kind, List, Memory, Mode, Topology};
 use lk_cell::{Any, Key, KeyCell};
 use lk_domain::{Cpu, Domain, LockId, Plan};
@@ -31,16 +32,21 @@ const MOST: usize = 32;
 // The most handoffs that may pass a moved waiter, in mode `cna`.
 const THRESHOLD: u32 = 16;
 
-/// Locks to be made, at most 32.
+/// Locks to be made, at most 32, and how many threads will take them.
 #[derive(Drop)]
 pub struct Locks {
-    alloc: Global,
+    pub(crate) alloc: Global,
+    pub(crate) threads: u32,
     kinds: List<Kind>,
-    keys: List<Option<Key>>,
+    // The keys of each lock's cells: its own first, and behind it those of the copies, if it has any.
+    keys: List<List<Key>>,
+    // Whether a lock has copies.
+    pub(crate) copied: bool,
+    ghost some: { (0 < threads) × (threads ≤ 64) },
     ghost many: { length keys.items ≡ length kinds.items },
     ghost few: { length kinds.items ≤ 32 },
     ghost rooms: { (kinds.room ≡ 32) × (keys.room ≡ 32) },
-    ghost shut: { AreShut keys.items },
+    ghost shut: { AllShut keys.items },
 }
 
 /// Locks, in the domain where threads take them, and a processor for each thread.
@@ -51,19 +57,27 @@ pub struct Open {
 }
 
 impl Locks {
-    ghost use Rattle.lk_lock.specs.Made.{AreMade, IsAmong, Keeps};
+    ghost use Rattle.lk_lock.specs.Made.{AreMade, AreSharedMade, IsAmong, Keeps, KeepsShared};
 
-    /// None yet.
+    /// None yet, for so many threads: 1 to 64.
     ///
     /// # Errors
     ///
     /// There is not enough memory.
-    pub fn new(alloc: Global) -> Result<Locks, Memory>
-        ensures { IfOk result (λ locks. locks.kinds.items ≡ []) }
+    pub fn new(alloc: Global, threads: u32) -> Result<Locks, Memory>
+        requires threads { (0 < threads) × (threads ≤ 64) }
+        ensures none { IfOk result (λ locks. locks.kinds.items ≡ []) }
+        ensures threads { IfOk result (λ locks. locks.threads ≡ threads) }
     {
         let kinds = List::new(alloc, MOST)?;
         let keys = List::new(alloc, MOST)?;
-        Ok(Locks { alloc, kinds, keys })
+        Ok(Locks {
+            alloc,
+            threads,
+            kinds,
+            keys,
+            copied: false,
+        })
     }
 
     /// How many there are.
@@ -73,18 +87,27 @@ impl Locks {
         self.kinds.len()
     }
 
-    // One more, whose value lies in the cell of this key.
-    fn add(&mut self, kind: Kind, key: Key) -> LockId
+    // One more, whose values lie in the cells of these keys.
+    pub(crate) fn add(&mut self, kind: Kind, keys: List<Key>) -> LockId
         requires room { length self.old.kinds.items < 32 }
-        requires shut { key.views ≡ false ∷ [] }
+        requires shut { EachShut keys.items }
         ensures kinds { self.new.kinds.items ≡ self.old.kinds.items ++ kind ∷ [] }
-        ensures keys { self.new.keys.items ≡ self.old.keys.items ++ Some key ∷ [] }
+        ensures keys { self.new.keys.items ≡ self.old.keys.items ++ keys ∷ [] }
+        ensures same { (self.new.threads ≡ self.old.threads) × (self.new.copied ≡ self.old.copied) }
         ensures id { result.index ≡ length self.old.kinds.items }
     {
         let index = self.kinds.len() as u32;
         self.kinds.push(kind);
-        self.keys.push(Some(key));
+        self.keys.push(keys);
         LockId { index }
+    }
+
+    // How many values a lock has at most.
+    fn values(&self) -> u32
+        ensures own { (0 < result) × (result ≤ 65) }
+        ensures copies { self.now.copied ≡ true → result ≡ 1 + self.now.threads }
+    {
+        if self.copied { 1 + self.threads } else { 1 }
     }
 
     /// One spinlock more, and what lies under it.
@@ -95,14 +118,18 @@ impl Locks {
     pub fn spin<T: Drop>(&mut self, value: T) -> Result<Spin<T>, Memory>
         requires room { length self.old.kinds.items < 32 }
         ensures kept { Keeps self.old self.new }
+        ensures shared { KeepsShared self.old self.new }
+        ensures threads { self.new.threads ≡ self.old.threads }
         ensures made { IfOk result (λ spin. IsAmong self.new spinning spin.id.index
             spin.cell.table.shared.table_id) }
         ensures number { IfOk result (λ spin. spin.id.index ≡ length self.old.kinds.items) }
         ensures count { IfOk result (λ _. length self.new.kinds.items
             ≡ length self.old.kinds.items + 1) }
     {
+        let mut keys = List::new(self.alloc, 1)?;
         let (cell, key) = KeyCell::new(self.alloc, value)?;
-        let id = self.add(Kind::Spin, key);
+        keys.push(key);
+        let id = self.add(Kind::Spin, keys);
         Ok(Spin { id, cell })
     }
 
@@ -114,55 +141,65 @@ impl Locks {
     pub fn rw<T: Drop>(&mut self, value: T) -> Result<Rw<T>, Memory>
         requires room { length self.old.kinds.items < 32 }
         ensures kept { Keeps self.old self.new }
+        ensures shared { KeepsShared self.old self.new }
+        ensures threads { self.new.threads ≡ self.old.threads }
         ensures made { IfOk result (λ rw. IsAmong self.new shared rw.id.index
             rw.cell.table.shared.table_id) }
         ensures number { IfOk result (λ rw. rw.id.index ≡ length self.old.kinds.items) }
         ensures count { IfOk result (λ _. length self.new.kinds.items
             ≡ length self.old.kinds.items + 1) }
     {
+        let mut keys = List::new(self.alloc, 1)?;
         let (cell, key) = KeyCell::new(self.alloc, value)?;
-        let id = self.add(Kind::Rw, key);
+        keys.push(key);
+        let id = self.add(Kind::Rw, keys);
         Ok(Rw { id, cell })
     }
 
-    /// The locks, all of one family, and so many processors, all on one socket. There is at least
-    /// one lock.
+    /// The locks, all of one family, and a processor for each thread, all on one socket. There is at
+    /// least one lock.
     ///
     /// # Errors
     ///
     /// There is not enough memory. No value comes back.
-    pub fn open(self, mode: Mode, threads: u32) -> Result<Open, Memory>
+    pub fn open(self, mode: Mode) -> Result<Open, Memory>
         requires some { 0 < length self.kinds.items }
-        requires threads { (0 < threads) × (threads ≤ 64) }
         requires awake { halts mode ≡ false }
         ensures made { IfOk result (λ all. AreMade self all.domain.plan) }
-        ensures many { IfOk result (λ all. length all.cpus.items ≡ threads) }
+        ensures shared { IfOk result (λ all. AreSharedMade self all.domain.plan) }
+        ensures many { IfOk result (λ all. length all.cpus.items ≡ self.threads) }
         ensures each { IfOk result (λ all. length all.cpus.items ≡ cpus_of all.domain.plan) }
         ensures rest { IfOk result (λ all. AllRest all.domain all.cpus.items) }
     {
-        let sockets = List::filled(self.alloc, 0, threads as usize)?;
+        let sockets = List::filled(self.alloc, 0, self.threads as usize)?;
         self.open_on(mode, Topology { sockets })
     }
 
-    /// The same, with a processor for each socket that the topology lists. In mode `cna` a lock is
-    /// handed to a waiter on the holder's socket first.
+    /// The same, with each processor on the socket that the topology lists for it. In mode `cna` a
+    /// lock is handed to a waiter on the holder's socket first.
     ///
     /// # Errors
     ///
     /// There is not enough memory. No value comes back.
     pub fn open_on(self, mode: Mode, topology: Topology) -> Result<Open, Memory>
         requires some { 0 < length self.kinds.items }
-        requires threads { (0 < length topology.sockets.items)
-            × (length topology.sockets.items ≤ 64) }
+        requires threads { length topology.sockets.items ≡ self.threads }
         requires awake { halts mode ≡ false }
         ensures made { IfOk result (λ all. AreMade self all.domain.plan) }
-        ensures many { IfOk result (λ all. length all.cpus.items
-            ≡ length topology.sockets.items) }
+        ensures shared { IfOk result (λ all. AreSharedMade self all.domain.plan) }
+        ensures many { IfOk result (λ all. length all.cpus.items ≡ self.threads) }
         ensures each { IfOk result (λ all. length all.cpus.items ≡ cpus_of all.domain.plan) }
         ensures rest { IfOk result (λ all. AllRest all.domain all.cpus.items) }
     {
-        let Locks { alloc, kinds, keys } = self;
-        let threads = topology.sockets.len();
+        let values = self.values();
+        let Locks {
+            alloc,
+            threads,
+            kinds,
+            keys,
+            copied: _,
+        } = self;
+        let keys = laid_out(alloc, keys, values)?;
         let plan = Plan {
             format: Format::One,
             mode,
@@ -170,7 +207,7 @@ impl Locks {
             threshold: THRESHOLD,
             locks: kinds,
             balances: List::new(alloc, 0)?,
-            shares: List::filled(alloc, 0, threads)?,
+            shares: List::filled(alloc, 0, threads as usize)?,
             cells: None,
         };
         let (domain, cpus) = Domain::with_values(alloc, &plan, keys)?;

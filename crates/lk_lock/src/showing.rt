@@ -4,6 +4,7 @@ use crate::held::Held;
 use crate::keys::Keys;
 use crate::locks::{Locks, Open, Rw, Spin};
 use crate::seat::Seat;
+use crate::shared::Shared;
 use std::fmt::{Debug, Formatter, Result, Write};
 
 impl<T> Debug for Spin<T> {
@@ -17,6 +18,14 @@ impl<T> Debug for Spin<T> {
 impl<T> Debug for Rw<T> {
     fn fmt<W: Write>(&self, f: &mut Formatter<W>) -> Result {
         f.debug_struct("Rw")
+            .field("id", &self.id)
+            .finish_non_exhaustive()
+    }
+}
+
+impl<T> Debug for Shared<T> {
+    fn fmt<W: Write>(&self, f: &mut Formatter<W>) -> Result {
+        f.debug_struct("Shared")
             .field("id", &self.id)
             .finish_non_exhaustive()
     }

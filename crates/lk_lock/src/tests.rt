@@ -24,9 +24,9 @@ fn last(domain: &Domain, cpus: &mut List<Cpu>) -> Cpu
 
 #[test]
 fn writer_works_on_the_value(rt: HostRuntime) -> Result<(), Memory> {
-    let mut locks = Locks::new(rt.alloc())?;
+    let mut locks = Locks::new(rt.alloc(), 1)?;
     let number = locks.rw(7u64)?;
-    let Open { domain, mut cpus } = locks.open(Mode::Cna, 1)?;
+    let Open { domain, mut cpus } = locks.open(Mode::Cna)?;
     let mut cpu = last(&domain, &mut cpus);
     let mut seat = Seat::new(&rt, &domain, &mut cpu);
     seat.write(&number, |number: &mut u64| {
@@ -39,10 +39,10 @@ fn writer_works_on_the_value(rt: HostRuntime) -> Result<(), Memory> {
 
 #[test]
 fn guard_gives_the_value_back(rt: HostRuntime) -> Result<(), Memory> {
-    let mut locks = Locks::new(rt.alloc())?;
+    let mut locks = Locks::new(rt.alloc(), 2)?;
     let first = locks.spin(1u64)?;
     let second = locks.spin(2u64)?;
-    let Open { domain, mut cpus } = locks.open(Mode::Native, 2)?;
+    let Open { domain, mut cpus } = locks.open(Mode::Native)?;
     let mut next = last(&domain, &mut cpus);
     let mut cpu = last(&domain, &mut cpus);
     {
@@ -60,9 +60,9 @@ fn guard_gives_the_value_back(rt: HostRuntime) -> Result<(), Memory> {
 
 #[test]
 fn try_fails_while_another_holds(rt: HostRuntime) -> Result<(), Memory> {
-    let mut locks = Locks::new(rt.alloc())?;
+    let mut locks = Locks::new(rt.alloc(), 2)?;
     let number = locks.spin(7u64)?;
-    let Open { domain, mut cpus } = locks.open(Mode::Native, 2)?;
+    let Open { domain, mut cpus } = locks.open(Mode::Native)?;
     let mut second = last(&domain, &mut cpus);
     let mut first = last(&domain, &mut cpus);
     let mut calls = 0u64;
@@ -81,9 +81,9 @@ fn try_fails_while_another_holds(rt: HostRuntime) -> Result<(), Memory> {
 
 #[test]
 fn guard_is_refused_while_another_holds(rt: HostRuntime) -> Result<(), Memory> {
-    let mut locks = Locks::new(rt.alloc())?;
+    let mut locks = Locks::new(rt.alloc(), 2)?;
     let number = locks.spin(7u64)?;
-    let Open { domain, mut cpus } = locks.open(Mode::Native, 2)?;
+    let Open { domain, mut cpus } = locks.open(Mode::Native)?;
     let mut second = last(&domain, &mut cpus);
     let mut first = last(&domain, &mut cpus);
     {
@@ -119,10 +119,10 @@ fn leave<R: Wait>(rt: &R, domain: &Domain, cpu: &mut Cpu, number: &Spin<u64>, ot
 
 #[test]
 fn values_come_back_as_they_were_left(rt: HostRuntime) -> Result<(), Memory> {
-    let mut locks = Locks::new(rt.alloc())?;
+    let mut locks = Locks::new(rt.alloc(), 1)?;
     let number = locks.spin(1u64)?;
     let other = locks.rw(2u32)?;
-    let mut open = locks.open(Mode::Virt, 1)?;
+    let mut open = locks.open(Mode::Virt)?;
     leave(&rt, &open.domain, open.cpus.get_mut(0), &number, &other);
     let Ok(mut keys) = open.close(rt.alloc()) else {
         return Err(Memory);
@@ -134,7 +134,7 @@ fn values_come_back_as_they_were_left(rt: HostRuntime) -> Result<(), Memory> {
 
 #[test]
 fn locks_are_shown_without_their_values(rt: HostRuntime) -> Result<(), AllocError> {
-    let mut locks = Locks::new(rt.alloc()).map_err(|_| AllocError)?;
+    let mut locks = Locks::new(rt.alloc(), 1).map_err(|_| AllocError)?;
     let number = locks.spin(7u64).map_err(|_| AllocError)?;
     let shown = format!(in rt.alloc(); "{number:?} {locks:?}")?;
     assert_eq!(rt;

@@ -26,8 +26,8 @@ pub(crate) fn enter<R: Wait>(cpu: &mut Cpu, rt: &R, domain: &Domain, id: LockId)
     requires free { holds_in (holds_of cpu.old) id.index ≡ false }
     ensures ready { IsReady domain.now cpu.new }
     ensures inside { IsInside id.index Writes cpu.old cpu.new }
-    ensures path { HasGotIn (terms_of domain.now.plan) cpu.old.number Write id.index (calls_of cpu.old)
-        (calls_of cpu.new) }
+    ensures path { HasGotIn (terms_of domain.now.plan) cpu.old.number Write id.index Writes
+        (calls_of cpu.old) (calls_of cpu.new) }
     ensures key { (cell : TableId) → IsUnder domain.now.plan Rw id.index cell
         → IsKey cell result }
 {

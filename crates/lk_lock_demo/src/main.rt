@@ -25,10 +25,10 @@ fn is_in_order(queue: &[u64]) -> bool {
 }
 
 fn run<R: Threads + Wait + Sync + AllocGlobal>(rt: &R) -> Result<bool, Memory> {
-    let mut locks = Locks::new(rt.alloc())?;
+    let mut locks = Locks::new(rt.alloc(), 4)?;
     let count = locks.spin(0u64)?;
     let queue = locks.spin(Vec::with_capacity(rt.alloc(), ROOM)?)?;
-    let mut open = locks.open(Mode::Native, 4)?;
+    let mut open = locks.open(Mode::Native)?;
     let shop = Shop {
         domain: &open.domain,
         count: &count,

@@ -105,7 +105,7 @@ fn spin<R: Threads + Wait + Sync + AllocGlobal + Clock, V: Value + Send + Drop>(
     value: V,
 ) -> Result<Outcome, Memory> {
     let course = race.course;
-    let mut locks = Locks::new(rt.alloc())?;
+    let mut locks = Locks::new(rt.alloc(), course.threads)?;
     let value = locks.spin(value)?;
     let topology = two_sockets(rt.alloc(), course.threads)?;
     let Open { domain, mut cpus } = locks.open_on(race.mode, topology)?;

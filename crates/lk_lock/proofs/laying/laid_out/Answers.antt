@@ -1,0 +1,34 @@
+use Rattle.std.proofs.Common.{◌≡◌, ℕ, suc, ◌+◌, ◌++◌, Option, length, sym, ap, ◌∙◌, arith, length-append}
+use Rattle.std.proofs.lemmas.List.{append-nil, append_assoc}
+use Rattle.lk_abs.specs.ListOf.{ListOf}
+use Rattle.lk_domain.specs.Values.{Key}
+use Rattle.lk_lock.specs.Cells.{all_behind, firsts, laid}
+use Rattle.lk_lock.proofs.Laid.{many_behind, many_firsts}
+use Rattle.lk_lock.proofs.laying.laid_out.Goals as goal
+
+pub loop-preserved : goal.loop-preserved
+loop-preserved c =
+    let inv = c.loop.invariant in
+    let all = c.loop.all.items in
+    let keys = c.loop.keys.items in
+    let few = c.requires.few.0 in
+    let was = inv.long in
+    let same = inv.many in
+    let longer : length c.take_firsts.new.all.items ≡ length all + length keys =
+    ap (λ (z : ListOf (Option Key)). length z.items) c.take_firsts.ensures.all
+    ∙ (length-append all (firsts keys) ∙ ap (λ (n : ℕ). length all + n) (many_firsts keys)) in
+    record {
+      keys = λ n e.
+          ap (λ (z : ListOf (Option Key)). z.items ++ laid n c.take_firsts.new.keys.items) c.take_firsts.ensures.all
+          ∙ (ap (λ (z : ListOf (ListOf Key)). (all ++ firsts keys) ++ laid n z.items) c.take_firsts.ensures.keys
+          ∙ (append_assoc all (firsts keys) (laid n (all_behind keys)) ∙ inv.keys (suc n) (omega (arith, e))));
+      many = ap (λ (z : ListOf (ListOf Key)). length z.items) c.take_firsts.ensures.keys ∙ (many_behind keys ∙ same);
+      room = ap (λ (z : ListOf (Option Key)). z.room) c.take_firsts.ensures.all ∙ inv.room;
+      long = omega (arith, was, longer, same, few);
+    }
+
+pub returns : goal.returns
+returns c =
+    let a = c.loop-test.false in
+    let d = c.loop.auto in
+    sym (append-nil c.loop.all.items) ∙ c.loop.invariant.keys 0 (omega (arith, a, d))

@@ -1,0 +1,130 @@
+// A value under a reader-writer lock that its readers share.
+ghost use Rattle.std.specs.Prelude.{◌≡◌, ◌+◌, ◌<◌, ◌≤◌, IfOk, length, false};
+ghost use Rattle.std.specs.Fn.{FnOnceReturnsAt, FnOnceReturnsAtMut};
+ghost use Rattle.lk_domain.specs.Calls.{holds_in, terms_of};
+ghost use Rattle.lk_domain.specs.Seats.{calls_of};
+ghost use Rattle.lk_lock.specs.Cells.{AreKeysOf, names_of};
+ghost use Rattle.lk_lock.specs.Made.{IsSharedAmong, Keeps, KeepsShared};
+ghost use Rattle.lk_lock.specs.Standing.{HasRead, HasWritten, IsAsBefore, IsSharedUnder, holds_of};
+ghost use Rattle.lk_machine.specs.declared.setup.Verb.TheVariants.{Read, Write};
+
+use crate::locks::Locks;
+use crate::reading::{come_in, go_out, look_at};
+use crate::seat::Seat;
+use crate::updating::{leave_all, work_on};
+use crate::writing::enter;
+use lk_abs::{Kind, List, Memory};
+use lk_cell::{Any, Key, KeyCell};
+use lk_domain::LockId;
+use std::alloc::Global;
+use std::sync::Wait;
+
+/// A value under a reader-writer lock, with a copy of it for each processor, so that readers share
+/// it: each works on its own.
+#[derive(Drop)]
+pub struct Shared<T> {
+    pub(crate) id: LockId,
+    // The cells: the lock's own, and behind it that of each processor's copy.
+    pub(crate) cells: List<KeyCell<T, Any>>,
+}
+
+// So many cells with this value, and their keys.
+fn cells_with<T: Copy + Drop>(
+    alloc: Global,
+    value: T,
+    count: usize,
+) -> Result<(List<KeyCell<T, Any>>, List<Key>), Memory>
+    ensures many { IfOk result (λ made. length made.0.items ≡ count) }
+    ensures keys { IfOk result (λ made. AreKeysOf (names_of made.0.items) made.1.items) }
+{
+    let mut cells = List::new(alloc, count)?;
+    let mut keys = List::new(alloc, count)?;
+    for _ in 0..count {
+        let (cell, key) = KeyCell::new(alloc, value)?;
+        cells.push(cell);
+        keys.push(key);
+    }
+    Ok((cells, keys))
+}
+
+impl Locks {
+    /// One reader-writer lock more, and a value under it that its readers share. Each processor has
+    /// a copy of the value.
+    ///
+    /// # Errors
+    ///
+    /// There is not enough memory.
+    pub fn shared<T: Copy + Drop>(&mut self, value: T) -> Result<Shared<T>, Memory>
+        requires room { length self.old.kinds.items < 32 }
+        ensures kept { Keeps self.old self.new }
+        ensures shared { KeepsShared self.old self.new }
+        ensures threads { self.new.threads ≡ self.old.threads }
+        ensures made { IfOk result (λ shared. IsSharedAmong self.new shared.id.index
+            (names_of shared.cells.items)) }
+        ensures number { IfOk result (λ shared. shared.id.index
+            ≡ length self.old.kinds.items) }
+        ensures count { IfOk result (λ _. length self.new.kinds.items
+            ≡ length self.old.kinds.items + 1) }
+    {
+        let (cells, keys) = cells_with(self.alloc, value, 1 + self.threads as usize)?;
+        let id = self.add(Kind::Rw, keys);
+        self.copied = true;
+        Ok(Shared { id, cells })
+    }
+}
+
+impl<'a, R: Wait> Seat<'a, R> {
+    /// Takes the lock as a reader, maybe beside other readers, works on the value, and frees the
+    /// lock. It waits for writers, so the processor may not hold the lock.
+    ///
+    /// When it returns, `work` was called once, on the copy of the value for its processor; the lock
+    /// was taken as a reader by a path of the rows, and is free; and the processor holds what it held.
+    pub fn read<T, U, W: FnOnce(&T) -> U>(&mut self, shared: &Shared<T>, work: W) -> U
+        requires lock { IsSharedUnder self.old.domain.now.plan shared.now.id.index
+            (names_of shared.now.cells.items) }
+        requires free { holds_in (holds_of self.old.cpu.now) shared.now.id.index ≡ false }
+        requires callable { W.IsAlwaysCallable work }
+        ensures name { self.new.cpu.ghost_name ≡ self.old.cpu.ghost_name }
+        ensures domain { self.new.domain.now ≡ self.old.domain.now }
+        ensures before { IsAsBefore self.old.cpu.now self.new.cpu.now }
+        ensures path { HasRead (terms_of self.old.domain.now.plan) self.old.cpu.now.number Read
+            shared.now.id.index (calls_of self.old.cpu.now) (calls_of self.new.cpu.now) }
+        ensures done { (x : T) × FnOnceReturnsAt W.FnOnce work x result }
+    {
+        let cell = shared.cells.get(1 + self.cpu.number() as usize);
+        let key = come_in(self.cpu, self.rt, self.domain, shared.id);
+        let (done, key) = look_at(cell, key, work);
+        go_out(self.cpu, self.domain, shared.id, key);
+        done
+    }
+
+    /// Takes the lock as its writer, works on the value, sets the copy of each processor to what the
+    /// work left, and frees the lock. It waits for the lock, so the processor may not hold it. It
+    /// copies the value once for each processor of the domain.
+    ///
+    /// When it returns, `work` was called once, on the value; the lock was taken as a writer by a
+    /// path of the rows, and is free; and the processor holds what it held. No clause says that all
+    /// copies are then one value: a test shows it.
+    pub fn update<T: Copy + Drop, U, W: FnOnce(&mut T) -> U>(
+        &mut self,
+        shared: &Shared<T>,
+        work: W,
+    ) -> U
+        requires lock { IsSharedUnder self.old.domain.now.plan shared.now.id.index
+            (names_of shared.now.cells.items) }
+        requires free { holds_in (holds_of self.old.cpu.now) shared.now.id.index ≡ false }
+        requires callable { W.IsAlwaysCallable work }
+        ensures name { self.new.cpu.ghost_name ≡ self.old.cpu.ghost_name }
+        ensures domain { self.new.domain.now ≡ self.old.domain.now }
+        ensures before { IsAsBefore self.old.cpu.now self.new.cpu.now }
+        ensures path { HasWritten (terms_of self.old.domain.now.plan) self.old.cpu.now.number
+            Write shared.now.id.index (calls_of self.old.cpu.now) (calls_of self.new.cpu.now) }
+        ensures done { (x : T) × (y : T) × FnOnceReturnsAtMut W.FnOnce work x result y }
+    {
+        let cell = shared.cells.get(0);
+        let key = enter(self.cpu, self.rt, self.domain, shared.id);
+        let (done, left, key) = work_on(cell, key, work);
+        leave_all(self.cpu, self.domain, shared, key, left);
+        done
+    }
+}

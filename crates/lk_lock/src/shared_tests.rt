@@ -1,0 +1,59 @@
+// What no clause says: that readers are in at once, and that all copies of a value are one after an update.
+ghost use Rattle.std.specs.Prelude.{◌≡◌, ◌+◌, ◌<◌, length, false};
+ghost use Rattle.lk_domain.specs.Calls.{holds_in};
+ghost use Rattle.lk_domain.specs.Ends.{AllRest, Rests};
+ghost use Rattle.lk_lock.specs.Standing.{holds_of};
+
+use crate::{Locks, Open, Seat};
+use lk_abs::{List, Memory, Mode};
+use lk_domain::{Cpu, Domain};
+
+// The last processor of a domain.
+fn last(domain: &Domain, cpus: &mut List<Cpu>) -> Cpu
+    requires some { 0 < length cpus.old.items }
+    requires rest { AllRest domain.now cpus.old.items }
+    ensures rests { Rests domain.now (length cpus.new.items) result }
+    ensures rest { AllRest domain.now cpus.new.items }
+    ensures less { length cpus.old.items ≡ length cpus.new.items + 1 }
+{
+    cpus.pop()
+}
+
+#[test]
+fn two_readers_are_in_at_once(rt: HostRuntime) -> Result<(), Memory> {
+    let mut locks = Locks::new(rt.alloc(), 2)?;
+    let limit = locks.shared(7u64)?;
+    let Open { domain, mut cpus } = locks.open(Mode::Native)?;
+    let mut second = last(&domain, &mut cpus);
+    let mut first = last(&domain, &mut cpus);
+    let mut inner = Seat::new(&rt, &domain, &mut second);
+    let mut outer = Seat::new(&rt, &domain, &mut first);
+    let both = outer.read(&limit, |mine: &u64| -> (u64, u64) {
+        let other = inner.read(&limit, |limit: &u64| -> u64 { *limit });
+        (*mine, other)
+    });
+    assert_eq!(rt; both, (7, 7));
+    Ok(())
+}
+
+#[test]
+fn all_read_what_a_writer_left(rt: HostRuntime) -> Result<(), Memory> {
+    let mut locks = Locks::new(rt.alloc(), 2)?;
+    let count = locks.spin(1u64)?;
+    let limit = locks.shared(7u64)?;
+    let Open { domain, mut cpus } = locks.open(Mode::Cna)?;
+    let mut second = last(&domain, &mut cpus);
+    let mut first = last(&domain, &mut cpus);
+    let mut writer = Seat::new(&rt, &domain, &mut first);
+    writer.update(&limit, |limit: &mut u64| {
+        *limit = 9;
+    });
+    let mut reader = Seat::new(&rt, &domain, &mut second);
+    let other = reader.read(&limit, |limit: &u64| -> u64 { *limit });
+    let own = writer.read(&limit, |limit: &u64| -> u64 { *limit });
+    let left = reader.update(&limit, |limit: &mut u64| -> u64 { *limit });
+    assert_eq!(rt; (other, own, left), (9, 9, 9));
+    let count = reader.with(&count, |count: &mut u64| -> u64 { *count });
+    assert_eq!(rt; count, 1);
+    Ok(())
+}
