@@ -57,3 +57,15 @@ fn all_read_what_a_writer_left(rt: HostRuntime) -> Result<(), Memory> {
     assert_eq!(rt; count, 1);
     Ok(())
 }
+
+#[test]
+fn shared_value_comes_back(rt: HostRuntime) -> Result<(), Memory> {
+    let mut locks = Locks::new(rt.alloc(), 1)?;
+    let limit = locks.shared(7u64)?;
+    let open = locks.open(Mode::Virt)?;
+    let Ok(mut keys) = open.close(rt.alloc()) else {
+        return Err(Memory);
+    };
+    assert_eq!(rt; limit.into_value(&mut keys), 7);
+    Ok(())
+}
