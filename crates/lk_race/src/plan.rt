@@ -35,12 +35,7 @@ pub fn two_sockets(alloc: Global, threads: u32) -> Result<Topology, Memory>
 /// # Errors
 ///
 /// There is not enough memory.
-pub fn plan_of(
-    alloc: Global,
-    mode: Mode,
-    kind: Kind,
-    course: &Course,
-) -> Result<Plan, Memory>
+pub fn plan_of(alloc: Global, mode: Mode, kind: Kind, course: &Course) -> Result<Plan, Memory>
     requires awake { halts mode ≡ false }
     ensures lawful { IfOk result (λ plan. IsLawfulPlan plan) }
     ensures cpus { IfOk result (λ plan. cpus_of plan ≡ course.now.threads) }
