@@ -3,9 +3,9 @@ use Rattle.std.specs.Prelude.{ℕ, ◌+◌, ◌-◌, ◌*◌, ◌/◌, ◌%◌}
 use Rattle.lk_word.specs.declared.spin_word.NodeName.{NodeName}
 
 -- the number of a node: 0 names none, and 0 and 1 are the flags that name none
-abbrev pub node_number : NodeName → ℕ
-node_number n = 2 + (4 * n.cpu + n.index)
+abbrev pub name_number : NodeName → ℕ
+name_number n = 2 + (4 * n.cpu + n.index)
 
 -- the node of a number
-abbrev pub node_numbered : ℕ → NodeName
-node_numbered i = record { cpu = (i - 2) / 4; index = (i - 2) % 4 }
+abbrev pub node_of_name : ℕ → NodeName
+node_of_name i = record { cpu = (i - 2) / 4; index = (i - 2) % 4 }

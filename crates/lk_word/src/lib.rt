@@ -13,7 +13,7 @@ mod spin_word;
 mod steps;
 
 pub use exact::packing_is_exact;
-pub use node_word::{LOWEST_NODE, MARK, node_number, node_numbered};
+pub use node_word::{LOWEST_NODE, MARK, name_number, node_of_name};
 pub use rw_word::{RwFields, pack_rw, unpack_rw};
 pub use spin_word::{Fields, Layout, Locked, NodeName, pack, unpack};
 pub use steps::{

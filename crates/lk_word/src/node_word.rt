@@ -4,7 +4,7 @@
 //! flag can be 0 or 1 beside it, and a word of 0 names no node.
 
 ghost use Rattle.std.specs.Prelude.{◌≡◌, ◌^◌, ◌<◌, ◌≤◌};
-ghost use Rattle.lk_word.specs.NodeWord.{node_number as number_of, node_numbered as numbered};
+ghost use Rattle.lk_word.specs.NodeWord.{name_number as number_of, node_of_name as numbered};
 
 use crate::spin_word::NodeName;
 
@@ -19,7 +19,7 @@ pub const MARK: u64 = 0x1_0000_0000;
 
 /// The number of a node.
 #[inline]
-pub fn node_number(node: NodeName) -> u64
+pub fn name_number(node: NodeName) -> u64
     ensures { result ≡ number_of node }
 {
     LOWEST_NODE + (NODES * node.cpu as u64 + node.index as u64)
@@ -27,7 +27,7 @@ pub fn node_number(node: NodeName) -> u64
 
 /// The node that a number names. A link's mark has to be taken off before.
 #[inline]
-pub fn node_numbered(number: u64) -> NodeName
+pub fn node_of_name(number: u64) -> NodeName
     requires names { 2 ≤ number }
     requires unmarked { number < 2 ^ 32 }
     ensures { result ≡ numbered number }
