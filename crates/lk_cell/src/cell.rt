@@ -1,12 +1,13 @@
 // A value in place, and its key.
 ghost use Rattle.std.specs.Prelude.{◌≡◌, IfOk};
-ghost use Rattle.std.specs.Fn.{FnOnceReturnsAtMut, FnOnceTakesAtMut};
 ghost use Rattle.lk_cell.specs.Latched.{IsKey, IsOpen};
+ghost use Rattle.lk_cell.specs.Work.{HasWorked, KeepsFit};
 
 use crate::fits::Fits;
 use crate::rule::{OneKey, Open, Shut};
 use atomic_table::{Badge, Refused, Seat, Table};
 use std::alloc::{AllocError, Global};
+use std::mem;
 
 /// What opens a cell. It has no bytes, and names no type of value.
 pub type Key = Badge<bool>;
@@ -37,6 +38,7 @@ impl<T: Drop, F: Fits<T>> KeyCell<T, F> {
 
 impl<T, F: Fits<T>> KeyCell<T, F> {
     // Opens the cell.
+    #[inline]
     pub fn open(&self, key: Key) -> Seat<T, bool>
         requires { IsKey self.now.table.shared.table_id key }
         ensures { IsOpen F.fits self.now.table.shared.table_id result }
@@ -47,6 +49,7 @@ impl<T, F: Fits<T>> KeyCell<T, F> {
     }
 
     // Shuts it, with a value that fits.
+    #[inline]
     pub fn shut(&self, mut seat: Seat<T, bool>) -> Key
         requires { IsOpen F.fits self.now.table.shared.table_id seat }
         ensures { IsKey self.now.table.shared.table_id result }
@@ -55,21 +58,20 @@ impl<T, F: Fits<T>> KeyCell<T, F> {
         seat.into_badge()
     }
 
-    /// Works on the value in place, once, and gives back what the work answers, and the key. The work
-    /// takes a value that fits, and has to leave one that fits.
-    pub fn with<U, W: FnOnce(&mut T) -> U>(&self, key: Key, work: W) -> (U, Key)
-        requires key { IsKey self.now.table.shared.table_id key }
-        requires callable { (x : T) → F.fits x → FnOnceTakesAtMut W.FnOnce work x }
-        requires keeps { (x : T) (u : U) (y : T) → F.fits x
-            → FnOnceReturnsAtMut W.FnOnce work x u y → F.fits y }
-        ensures key { IsKey self.now.table.shared.table_id result.1 }
-        ensures done { (x : T) × (y : T) × F.fits x
-            × FnOnceReturnsAtMut W.FnOnce work x result.0 y }
+    /// Works on the value in place, once, and gives back what the work answers. The key stays in its
+    /// place. The work takes a value that fits, and has to leave one that fits.
+    #[inline]
+    pub fn with<U, W: FnOnce(&mut T) -> U>(&self, key: &mut Key, work: W) -> U
+        requires key { IsKey self.now.table.shared.table_id key.old }
+        requires work { KeepsFit W.FnOnce F.fits work }
+        ensures key { IsKey self.now.table.shared.table_id key.new }
+        ensures done { HasWorked W.FnOnce F.fits work result }
     {
-        let mut seat = self.open(key);
+        let mut seat = self.open(mem::replace(key, Key::blank()));
         let value = seat.slot_mut(&self.table.shared, 0);
         let done = work(value);
-        (done, self.shut(seat))
+        *key = self.shut(seat);
+        done
     }
 
     /// The value, which fits: the end of the cell.

@@ -13,13 +13,13 @@ impl Fits<u64> for Even {
 
 #[test]
 fn value_is_worked_on_in_place(rt: HostRuntime) -> Result<(), AllocError> {
-    let (cell, key) = KeyCell::<u32, Any>::new(rt.alloc(), 7)?;
-    let (first, key) = cell.with(key, |value: &mut u32| -> u32 {
+    let (cell, mut key) = KeyCell::<u32, Any>::new(rt.alloc(), 7)?;
+    let first = cell.with(&mut key, |value: &mut u32| -> u32 {
         let old = *value;
         *value = 9;
         old
     });
-    let (second, key) = cell.with(key, |value: &mut u32| -> u32 { *value });
+    let second = cell.with(&mut key, |value: &mut u32| -> u32 { *value });
     assert_eq!(rt; first, 7);
     assert_eq!(rt; second, 9);
     assert_eq!(rt; cell.into_value(key), 9);
@@ -28,9 +28,9 @@ fn value_is_worked_on_in_place(rt: HostRuntime) -> Result<(), AllocError> {
 
 #[test]
 fn value_fits_while_the_cell_is_shut(rt: HostRuntime) -> Result<(), AllocError> {
-    let (cell, key) = KeyCell::<u64, Even>::new(rt.alloc(), 6)?;
-    let (_, key) = cell.with(
-        key,
+    let (cell, mut key) = KeyCell::<u64, Even>::new(rt.alloc(), 6)?;
+    cell.with(
+        &mut key,
         |number: &mut u64|
             requires { number.old % 2 ≡ 0 }
             ensures { number.new % 2 ≡ 0 }
