@@ -10,7 +10,7 @@ pub mod Outs
 pub mod Freed
 pub mod Paths
 pub mod Ways
-pub mod ledger
+pub mod journals
 pub mod Seating
 pub mod Crossing
 pub mod queue

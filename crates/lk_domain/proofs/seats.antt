@@ -6,5 +6,6 @@ pub mod Openings
 pub mod Marks
 pub mod Exclusive
 pub mod Takes
+pub mod Worked
 pub mod Places
 pub mod Homes

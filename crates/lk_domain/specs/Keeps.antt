@@ -19,7 +19,7 @@ use Rattle.lk_values.specs.Guarded.{Among, Guarded}
 use Rattle.lk_domain.specs.Values.{IsOutAt, Reaches, outs_of, out_in, homes_of, FitsUnder}
 pub use Rattle.lk_domain.specs.Values.{is_sole, Slot}
 use Rattle.lk_domain.specs.Words.{version_at, balance_at}
-use Rattle.lk_domain.specs.declared.journal.Journal.{Journal}
+use Rattle.lk_domain.specs.declared.ledger.journal.Journal.{Journal}
 use Rattle.lk_domain.specs.declared.plan.Plan.{Plan}
 use Rattle.lk_domain.specs.declared.slot.Stowed.TheVariants.{Entries}
 use Rattle.lk_domain.specs.declared.view.View.{View}

@@ -26,7 +26,7 @@ use Rattle.lk_domain.specs.Rows.{queues_up}
 use Rattle.lk_domain.specs.Views.{view, drawer, own_number}
 use Rattle.lk_domain.specs.Values.{Key, taking, bringing, lock_of, IsClear, IsKeyOf, empty_places}
 use Rattle.lk_domain.specs.Words.{lock_at, balance_at, quiet_at, IsNode}
-use Rattle.lk_domain.specs.declared.journal.Journal.{Journal}
+use Rattle.lk_domain.specs.declared.ledger.journal.Journal.{Journal}
 use Rattle.lk_domain.specs.declared.plan.Plan.{Plan}
 use Rattle.lk_domain.specs.declared.slot.Stowed.TheVariants.{Entries, CellKey}
 use Rattle.lk_domain.specs.declared.view.View.{View}

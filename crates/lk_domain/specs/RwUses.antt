@@ -4,8 +4,8 @@ use Rattle.lk_machine.specs.declared.parts.Pc.{Pc}
 use Rattle.lk_machine.specs.declared.setup.Verb.{Verb}
 use Rattle.lk_machine.specs.declared.setup.Verb.TheVariants.{RUnlock}
 use Rattle.lk_domain.specs.RwRows.{watches_by, joins_by, quits_by, seizes_by, awaits_by, follows_by, leaves_by}
-use Rattle.lk_domain.specs.declared.rw_moves.RwUse.{RwUse}
-use Rattle.lk_domain.specs.declared.rw_moves.RwUse.TheVariants.{Watches, Joins, Quits, Seizes, Awaits, Follows, Leaves}
+use Rattle.lk_domain.specs.declared.locks.rw_moves.RwUse.{RwUse}
+use Rattle.lk_domain.specs.declared.locks.rw_moves.RwUse.TheVariants.{Watches, Joins, Quits, Seizes, Awaits, Follows, Leaves}
 
 abbrev pub rw_uses_by : RwUse → Verb → Pc → Bool
 rw_uses_by Watches = watches_by

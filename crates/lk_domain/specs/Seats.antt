@@ -17,7 +17,7 @@ use Rattle.lk_domain.specs.Values.{taking, bringing, outs_of, IsClear}
 use Rattle.lk_domain.specs.Views.{newcomer}
 use Rattle.lk_domain.specs.declared.cpu.Cpu.{Cpu}
 use Rattle.lk_domain.specs.declared.domain.Domain.{Domain}
-use Rattle.lk_domain.specs.declared.journal.Journal.{Journal}
+use Rattle.lk_domain.specs.declared.ledger.journal.Journal.{Journal}
 use Rattle.lk_domain.specs.declared.plan.Plan.{Plan}
 use Rattle.lk_domain.specs.declared.view.View.{View}
 
@@ -73,6 +73,13 @@ AreDealt domain cpus = (i : ℕ) (d : Cpu) → i < length cpus
 pub record KeepsCalls (old new : Cpu) : Type 0 where
   pub same : IsSame old new
   pub calls : calls_of new ≡ calls_of old
+
+-- the processor is as it was, in all that it knows
+pub record IsStill (old new : Cpu) : Type 0 where
+  pub table : new.seat.table_id ≡ old.seat.table_id
+  pub id : new.seat.id ≡ old.seat.id
+  pub number : new.number ≡ old.number
+  pub view : view_of new ≡ view_of old
 
 -- a value of the lock l, whose home is q, is out with the processor, and no value of the lock was before
 pub record TakesValueAt (l q : ℕ) (old new : Cpu) : Type 0 where

@@ -4,8 +4,8 @@ use Rattle.lk_machine.specs.declared.parts.Pc.{Pc}
 use Rattle.lk_machine.specs.declared.setup.Verb.{Verb}
 use Rattle.lk_domain.specs.Rows.{is_patient, queues_up}
 use Rattle.lk_domain.specs.Rows.{looks_by, takes_by, frees_by, pends_by, clears_by, claims_by, stakes_by}
-use Rattle.lk_domain.specs.declared.moves.WordUse.{WordUse}
-use Rattle.lk_domain.specs.declared.moves.WordUse.TheVariants.{Looks, Takes, Frees, Pends, Clears, Claims, Stakes}
+use Rattle.lk_domain.specs.declared.locks.moves.WordUse.{WordUse}
+use Rattle.lk_domain.specs.declared.locks.moves.WordUse.TheVariants.{Looks, Takes, Frees, Pends, Clears, Claims, Stakes}
 
 abbrev pub uses_by : WordUse → Verb → Pc → Bool
 uses_by Looks = looks_by

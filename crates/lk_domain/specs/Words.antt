@@ -4,6 +4,7 @@ use Rattle.std.specs.Prelude.{◌≡◌, ◌≢◌, ℕ, ◌+◌, ◌*◌, ◌<�
 use Rattle.std.specs.Prelude.{slice_index, Bool, true, false, if◌then◌else◌, ◌==◌, ◌&&◌}
 use Rattle.lk_abs.specs.declared.names.LockName.{LockName}
 use Rattle.lk_abs.specs.declared.names.Mode.{Mode}
+pub use Rattle.lk_word.specs.NodeWord.{name_number}
 use Rattle.lk_word.specs.declared.spin_word.NodeName.{NodeName}
 use Rattle.lk_machine.specs.declared.parts.Flag.{Flag}
 use Rattle.lk_machine.specs.declared.parts.Flag.TheVariants.{Unset, Go, Second}
@@ -115,10 +116,6 @@ mark_number true = 1
 pub record IsNode (k : Plan) (n : NodeName) : Type 0 where
   pub cpu : n.cpu < cpus_of k
   pub index : n.index < 4
-
--- the number of a node
-abbrev pub name_number : NodeName → ℕ
-name_number n = 2 + (4 * n.cpu + n.index)
 
 -- the number of a flag
 abbrev pub flag_number : Flag → ℕ

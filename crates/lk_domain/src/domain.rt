@@ -185,6 +185,6 @@ impl Domain {
         ensures { result ≡ name_number node }
     {
         prove!(self.plan.topology.sockets.len() <= 64);
-        lk_word::node_number(node)
+        lk_word::name_number(node)
     }
 }

@@ -9,7 +9,7 @@ ghost use Rattle.lk_domain.specs.Views.{all_past};
 
 use crate::cpu::{Cpu, Right};
 use crate::domain::{Domain, LockId};
-use crate::ledger_steps;
+use crate::ledger::steps;
 use lk_abs::{Entry, Kind, List, Mode};
 use lk_cell::Key;
 use std::alloc::Global;
@@ -96,7 +96,7 @@ fn join_all(domain: &Domain, mut cpus: List<Cpu>) -> Right
             notes: _,
             seat,
         } = cpus.pop();
-        ledger_steps::join(&mut last, &domain.table, &domain.plan, seat);
+        steps::join(&mut last, &domain.table, &domain.plan, seat);
     }
     last
 }
@@ -131,7 +131,7 @@ pub fn close(alloc: Global, domain: Domain, cpus: List<Cpu>) -> Result<Closed, C
     let at_end = Snapshot::of(&cpus);
     let last = join_all(&domain, cpus);
     let Domain { table, plan } = domain;
-    let journal = ledger_steps::end(table, &plan, last, &mut balances, &mut keys);
+    let journal = steps::end(table, &plan, last, &mut balances, &mut keys);
     Ok(Closed {
         balances,
         journal,

@@ -1,38 +1,35 @@
-//! Locks for threads over one table of atomic words, and a ledger that they guard.
+//! Locks for threads over one table of atomic words, values under them, and a ledger that they guard.
+//!
+//! A domain has three parts over its table: its locks, its ledger, and the values under its locks. Each
+//! part has the steps on its own words, and knows nothing of the other two. What all three stand on is
+//! beside them: the plan, the rule of the table, processors, how a domain is made and how it ends.
 #![tactic(auto)]
 
-mod choice_steps;
 mod cpu;
 mod domain;
 mod ending;
-mod journal;
-pub mod ledger_steps;
+mod ledger;
+mod locks;
+mod looking;
 mod making;
-mod moves;
-mod node_moves;
 mod notes;
-mod pages;
 mod part;
 mod plan;
-mod queue_steps;
 mod rule;
-mod rw_moves;
-mod rw_steps;
+mod showing;
 mod slot;
-pub mod steps;
 pub mod values;
-mod verbs;
 mod view;
 
 pub use cpu::{Cpu, Right};
 pub use domain::{Domain, LockId};
 pub use ending::{CloseBack, Closed, close};
-pub use journal::Journal;
+pub use ledger::{Journal, journal_home, journal_out, load, steps as ledger_steps, store, version};
+pub use locks::steps;
 pub use making::{opening_slots, opening_words};
-pub use pages::{journal_home, journal_out, load, store, version};
 pub use part::Part;
 pub use plan::Plan;
 pub use rule::{Deal, Draw, Order};
 pub use slot::{Slot, Stowed};
-pub use values::{bring_copy, bring_home, take_copy, take_out};
+pub use values::{bring_copy, bring_home, take_copy, take_out, with_copy, with_key};
 pub use view::View;

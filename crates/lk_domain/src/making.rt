@@ -12,7 +12,7 @@ ghost use Rattle.lk_domain.specs.Words.{words_of, IsOpening};
 
 use crate::cpu::{Cpu, Right};
 use crate::domain::Domain;
-use crate::journal::Journal;
+use crate::ledger::Journal;
 use crate::notes::Notes;
 use crate::plan::Plan;
 use crate::rule::{Deal, Draw};

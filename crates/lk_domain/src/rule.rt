@@ -70,7 +70,7 @@ pub trait RwCalls {
     ghost verb: { Verb };
 }
 
-/// A step on the word of a reader-writer lock, by a call of these.
+/// A step on the word of a reader-writer lock, by a call of the operation of `C`.
 pub struct RwSteps<C> {
     marker: PhantomData<C>,
 }

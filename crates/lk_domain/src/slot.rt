@@ -1,6 +1,6 @@
 // What lies in a slot of a domain's table.
 
-use crate::journal::Journal;
+use crate::ledger::Journal;
 use lk_cell::Key;
 
 /// What a slot has when it is not empty.

@@ -1,22 +1,27 @@
-//! Values under locks: a processor that holds a lock alone takes its value out, which is the key of a
-//! cell, and brings it home. Where the lock has copies a reader does so with the one for its own
-//! processor. The calls of all lock families are made of [`take`] and [`bring`].
-ghost use Rattle.std.specs.Prelude.{◌≡◌, ◌+◌, ◌*◌, ◌<◌, None};
+//! Values under locks: a processor that holds a lock alone works on its value, which is the key of a
+//! cell, where it lies; or it takes the value out, and brings it home. Where the lock has copies a reader
+//! does so with the one for its own processor. The calls of all lock families are made of [`work_at`],
+//! [`take`] and [`bring`].
+ghost use Rattle.std.specs.Prelude.{◌≡◌, ◌+◌, ◌*◌, ◌<◌, Some, None};
+ghost use Rattle.std.specs.Fn.{FnOnceReturnsAtMut, FnOnceTakesAtMut};
+ghost use Rattle.lk_cell.specs.Work.{HasWorked, KeepsFit};
 ghost use Rattle.lk_domain.specs.Plans.{IsRunningPlan, cpus_of, locks_of};
 ghost use Rattle.lk_domain.specs.Plays.{carried_of};
 ghost use Rattle.lk_domain.specs.Seated.{IsSeatOf, IsTableOf};
-ghost use Rattle.lk_domain.specs.Seats.{BringsValueOf, IsOf, TakesValueAt, TakesValueOf, calls_of};
-ghost use Rattle.lk_domain.specs.Seats.{ledger_of, view_of};
+ghost use Rattle.lk_domain.specs.Seats.{BringsValueOf, IsOf, IsStill, TakesValueAt, TakesValueOf};
+ghost use Rattle.lk_domain.specs.Seats.{calls_of, ledger_of, view_of};
+ghost use Rattle.lk_domain.specs.declared.slot.Stowed.TheVariants.{CellKey};
 ghost use Rattle.lk_domain.specs.Values.{HasCell, IsClear, IsHomeAt, IsHomeWith, IsKeyOf, IsNewestAt};
+ghost use Rattle.lk_domain.specs.Values.{Key};
 ghost use Rattle.lk_domain.specs.Values.{MayCopy, bringing, copy_at, lock_of, outs_of, taking};
 ghost use Rattle.lk_domain.specs.Words.{quiet_at};
 
 use crate::cpu::{Cpu, Right};
 use crate::domain::{Domain, LockId};
-use crate::ledger_steps::Words;
+use crate::ledger::steps::Words;
 use crate::plan::Plan;
 use crate::rule::{BringValue, TakeValue};
-use crate::slot::Stowed;
+use crate::slot::{Slot, Stowed};
 use lk_cell::Key;
 
 // The home of the copy of a lock for a processor.
@@ -34,6 +39,7 @@ fn copy_home(plan: &Plan, lock: u32, number: u32) -> usize
 }
 
 // The word by whose load the value of a home goes out and comes home.
+#[inline]
 fn quiet_word(plan: &Plan, home: usize) -> usize
     requires lawful { IsRunningPlan plan.now }
     requires near { home < 64 + 32 * cpus_of plan.now }
@@ -91,6 +97,101 @@ pub fn bring(seat: &mut Right, table: &Words, plan: &Plan, home: usize, key: Key
         Some(_) => unreachable!(),
     }
     table.shared.load::<BringValue>(seat, word);
+}
+
+// Works on the key that lies in a slot.
+#[inline]
+fn work_in<U, W: FnOnce(&mut Key) -> U>(place: &mut Slot, work: W) -> U
+    requires full { (key : Key) × (place.old ≡ Some (CellKey key)) }
+    requires callable { (key : Key) → place.old ≡ Some (CellKey key)
+        → FnOnceTakesAtMut W.FnOnce work key }
+    ensures { (key : Key) × (left : Key) × (place.old ≡ Some (CellKey key))
+        × (place.new ≡ Some (CellKey left)) × FnOnceReturnsAtMut W.FnOnce work key result left }
+{
+    match place {
+        Some(Stowed::CellKey(key)) => work(key),
+        Some(Stowed::Entries(_)) => unreachable!(),
+        None => unreachable!(),
+    }
+}
+
+/// Works once on the value of a home, which the seat's processor reaches: the key of its cell, which
+/// stays where it lies. It goes out with the seat for that, and comes home. No value of its lock may be
+/// out.
+#[inline]
+pub fn work_at<U, W: FnOnce(&mut Key) -> U>(
+    seat: &mut Right,
+    table: &Words,
+    plan: &Plan,
+    home: usize,
+    work: W,
+) -> U
+    requires table { IsTableOf plan.now table.now.shared.table_id table.now.shared.key }
+    requires seat { IsSeatOf plan.now table.now.shared.table_id seat.old }
+    requires near { home < 64 + 32 * cpus_of plan.now }
+    requires valued { HasCell plan.now home }
+    requires held { IsHomeAt plan.now home seat.old.me.0.who.number seat.old.me.0.calls.holds }
+    requires journal { seat.old.me.0.ledger.out ≡ None }
+    requires work { KeepsFit W.FnOnce (IsKeyOf plan.now home) work }
+    ensures same { (seat.new.table_id ≡ seat.old.table_id) × (seat.new.id ≡ seat.old.id) }
+    ensures view { seat.new.me.0 ≡ seat.old.me.0 }
+    ensures carried { seat.new.me.1 ≡ carried_of seat.new.me.0 }
+    ensures done { HasWorked W.FnOnce (IsKeyOf plan.now home) work result }
+{
+    let word = quiet_word(plan, home);
+    table.shared.load::<TakeValue>(seat, word);
+    let done = work_in(seat.slot_mut(&table.shared, 1 + home), work);
+    table.shared.load::<BringValue>(seat, word);
+    done
+}
+
+/// Works once on the value of a lock: the key of its cell, which stays where it lies. The processor must
+/// hold the lock alone, as a spinlock or as the writer, and no value of the lock may be out. It knows
+/// afterwards what it knew before.
+#[inline]
+pub fn with_key<U, W: FnOnce(&mut Key) -> U>(
+    cpu: &mut Cpu,
+    domain: &Domain,
+    lock: LockId,
+    work: W,
+) -> U
+    requires domain { IsOf cpu.old domain.now }
+    requires lock { lock.index < locks_of domain.now.plan }
+    requires valued { HasCell domain.now.plan lock.index }
+    requires held { IsHomeWith lock.index (calls_of cpu.old).holds }
+    requires home { (ledger_of cpu.old).out ≡ None }
+    requires work { KeepsFit W.FnOnce (IsKeyOf domain.now.plan lock.index) work }
+    ensures still { IsStill cpu.old cpu.new }
+    ensures done { HasWorked W.FnOnce (IsKeyOf domain.now.plan lock.index) work result }
+{
+    let home = lock.index as usize;
+    work_at(&mut cpu.seat, &domain.table, &domain.plan, home, work)
+}
+
+/// The same with the copy of the lock's value for the processor of this number. The processor must hold
+/// the lock alone, or hold it as a reader and have the number.
+#[inline]
+pub fn with_copy<U, W: FnOnce(&mut Key) -> U>(
+    cpu: &mut Cpu,
+    domain: &Domain,
+    lock: LockId,
+    number: u32,
+    work: W,
+) -> U
+    requires domain { IsOf cpu.old domain.now }
+    requires lock { lock.index < locks_of domain.now.plan }
+    requires number { number < cpus_of domain.now.plan }
+    requires valued { HasCell domain.now.plan (copy_at domain.now.plan lock.index number) }
+    requires held { MayCopy lock.index number (view_of cpu.old) }
+    requires home { (ledger_of cpu.old).out ≡ None }
+    requires work { KeepsFit W.FnOnce
+        (IsKeyOf domain.now.plan (copy_at domain.now.plan lock.index number)) work }
+    ensures still { IsStill cpu.old cpu.new }
+    ensures done { HasWorked W.FnOnce
+        (IsKeyOf domain.now.plan (copy_at domain.now.plan lock.index number)) work result }
+{
+    let copy = copy_home(&domain.plan, lock.index, number);
+    work_at(&mut cpu.seat, &domain.table, &domain.plan, copy, work)
 }
 
 /// Takes the value of a lock out: the key of its cell. The processor must hold the lock alone, as a

@@ -48,7 +48,7 @@ use Rattle.lk_domain.proofs.rows.Kept.{halting_same}
 use Rattle.lk_domain.proofs.rows.Halts.{seeks_same}
 use Rattle.lk_domain.proofs.rows.Sights.{Sees}
 use Rattle.lk_domain.proofs.words.LockPlays.{MayFree}
-use Rattle.lk_domain.proofs.ledger.Purses.{alters, knows_same}
+use Rattle.lk_domain.proofs.journals.Purses.{alters, knows_same}
 use Rattle.lk_domain.proofs.queue.ChoicePlays.{aside}
 use Rattle.lk_domain.proofs.queue.LockSwaps.{set_self}
 use Rattle.lk_domain.proofs.queue.NodePlays as play

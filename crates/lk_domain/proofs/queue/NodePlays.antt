@@ -52,7 +52,7 @@ use Rattle.lk_domain.proofs.words.NodeWords.{place_is, stored_plain, stored_zero
 use Rattle.lk_domain.proofs.words.LockPlays.{MayFree, acting_any, acting_sole}
 use Rattle.lk_domain.proofs.words.OnWords.{seated}
 use Rattle.lk_domain.proofs.Outs.{acting_holds}
-use Rattle.lk_domain.proofs.ledger.Purses.{alters, knows_after, knows_same}
+use Rattle.lk_domain.proofs.journals.Purses.{alters, knows_after, knows_same}
 use Rattle.lk_domain.proofs.queue.Entries as entry
 use Rattle.lk_domain.proofs.queue.OnNodes as on
 use Rattle.lk_domain.proofs.queue.NodeStores.{OnNode, met_of, met_there, flag_here, next_here}

@@ -1,5 +1,5 @@
 -- What the steps on the word of a reader-writer lock do to its number.
-use Rattle.std.proofs.Common.{◌≡◌, ◌≢◌, ◌⊎◌, inl, inr, ℕ, ◌+◌, ◌-◌, ◌*◌, ◌%◌, ◌^◌, ◌<◌}
+use Rattle.std.proofs.Common.{◌≡◌, ◌⊎◌, inl, inr, ℕ, ◌+◌, ◌-◌, ◌*◌, ◌%◌, ◌^◌, ◌<◌}
 use Rattle.std.proofs.Common.{Bool, true, false, eqb, eq-eqb, ne_eqb, refl, sym, ap, ◌∙◌, arith}
 use Rattle.std.proofs.lemmas.Bool.{cases_Bool, cases_eq}
 use Rattle.std.proofs.lemmas.Nat.{or_block}
@@ -20,7 +20,7 @@ use Rattle.lk_machine.specs.rows.Rw.{rw_row, one_more, one_less, written_word, i
 use Rattle.lk_law.specs.Families.{is_rw_row}
 use Rattle.lk_law.specs.RwKnown.{RwKnown}
 use Rattle.lk_domain.specs.RwUses.{frees_by_use}
-use Rattle.lk_domain.specs.declared.rw_moves.RwUse.TheVariants.{Quits}
+use Rattle.lk_domain.specs.declared.locks.rw_moves.RwUse.TheVariants.{Quits}
 use Rattle.lk_domain.specs.RwRows.{has_no_writer, lets_in, watches_by, joins_by, quits_by, seizes_by, awaits_by, follows_by, leaves_by}
 
 -- they are rows of readers and writers

@@ -54,7 +54,7 @@ use Rattle.lk_domain.proofs.words.Locks.{shared_stored}
 use Rattle.lk_domain.proofs.Manners.{held_above, held_cases}
 use Rattle.lk_domain.proofs.Stacks.{frame_in-above}
 use Rattle.lk_domain.proofs.seats.Totals.{drawn, nobodys}
-use Rattle.lk_domain.proofs.ledger.Held.{reads_sole}
+use Rattle.lk_domain.proofs.journals.Held.{reads_sole}
 use Rattle.lk_domain.proofs.rows.Users.{bare_me, kept_marks}
 use Rattle.lk_law.specs.Nodes.{looks_along}
 

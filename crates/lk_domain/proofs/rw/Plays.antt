@@ -36,9 +36,9 @@ use Rattle.lk_domain.proofs.rows.Grips.{rw_target, frees_at}
 use Rattle.lk_domain.proofs.rows.Lands as lands
 use Rattle.lk_domain.proofs.rows.Sights.{IsSeen}
 use Rattle.lk_domain.proofs.words.LockPlays.{acting_any, acting_sole}
-use Rattle.lk_domain.proofs.ledger.Alone.{some_out, out_is}
+use Rattle.lk_domain.proofs.journals.Alone.{some_out, out_is}
 use Rattle.lk_domain.proofs.Outs.{acting_holds}
-use Rattle.lk_domain.proofs.ledger.Purses.{alters, knows_after}
+use Rattle.lk_domain.proofs.journals.Purses.{alters, knows_after}
 use Rattle.lk_domain.proofs.rw.Numbers as numbers
 use Rattle.lk_domain.proofs.rw.OnShared as on
 use Rattle.lk_domain.proofs.rw.OnShared.{off_links}

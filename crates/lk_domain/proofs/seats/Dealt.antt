@@ -40,12 +40,12 @@ use Rattle.lk_domain.specs.Stand.{Stand}
 use Rattle.lk_domain.specs.Views.{view, dealer, drawer, total, times, numbers}
 use Rattle.lk_domain.specs.Views.{once_below}
 use Rattle.lk_domain.specs.Words.{version_at, lock_at, word_at, balance_at, node_at, stored_number, IsOpening, state_at, kick_at, hash_at}
-use Rattle.lk_domain.specs.declared.journal.Journal.{Journal}
+use Rattle.lk_domain.specs.declared.ledger.journal.Journal.{Journal}
 use Rattle.lk_domain.specs.declared.plan.Plan.{Plan}
 use Rattle.lk_domain.specs.declared.slot.Stowed.TheVariants.{Entries}
 use Rattle.lk_domain.specs.declared.view.View.{View}
 use Rattle.lk_domain.proofs.words.NodeWords.{none_reset, rest_number, stored_zero}
-use Rattle.lk_domain.proofs.ledger.Purses.{place_kept}
+use Rattle.lk_domain.proofs.journals.Purses.{place_kept}
 use Rattle.lk_domain.proofs.words.Locks.{word_below, locks_else, same_locks}
 use Rattle.lk_domain.proofs.seats.Totals.{total-set, once_no, once_more, drawn}
 

@@ -16,7 +16,7 @@ use Rattle.lk_domain.specs.Views.{IsNumbered}
 use Rattle.lk_domain.specs.declared.plan.Plan.{Plan}
 use Rattle.lk_domain.specs.declared.view.View.{View}
 use Rattle.lk_domain.proofs.Manners.{held_spun, way_of}
-use Rattle.lk_domain.proofs.ledger.Alone.{one_holder}
+use Rattle.lk_domain.proofs.journals.Alone.{one_holder}
 use Rattle.lk_domain.proofs.seats.Totals.{apart}
 
 -- the manner of a hold

@@ -17,7 +17,7 @@ use Rattle.lk_domain.specs.Views.{view, dealer}
 use Rattle.lk_domain.specs.Words.{words_of, balance_at, IsOpening}
 use Rattle.lk_domain.specs.declared.cpu.Cpu.{Cpu}
 use Rattle.lk_domain.specs.declared.domain.Domain.{Domain}
-use Rattle.lk_domain.specs.declared.journal.Journal.{Journal}
+use Rattle.lk_domain.specs.declared.ledger.journal.Journal.{Journal}
 use Rattle.lk_domain.specs.declared.plan.Plan.{Plan}
 use Rattle.lk_domain.specs.declared.slot.Stowed.TheVariants.{Entries}
 use Rattle.lk_domain.proofs.seats.Dealt.{starts}

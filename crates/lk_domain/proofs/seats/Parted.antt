@@ -26,7 +26,7 @@ use Rattle.lk_domain.specs.declared.plan.Plan.{Plan}
 use Rattle.lk_domain.specs.declared.view.View.{View}
 use Rattle.lk_domain.proofs.rows.Kept.{set_at}
 use Rattle.lk_domain.proofs.seats.Owners.{number_cases}
-use Rattle.lk_domain.proofs.ledger.Purses.{past_more, past_known}
+use Rattle.lk_domain.proofs.journals.Purses.{past_more, past_known}
 use Rattle.lk_domain.proofs.seats.Totals.{total-set, total-append, times-append}
 
 none_some : {a : ℕ} → None ≡ Some a → ⊥

@@ -26,7 +26,7 @@ use Rattle.lk_domain.specs.declared.plan.Plan.{Plan}
 use Rattle.lk_domain.specs.declared.slot.Stowed.TheVariants.{CellKey}
 use Rattle.lk_domain.specs.declared.view.View.{View}
 use Rattle.lk_domain.proofs.Outs.{stays_out}
-use Rattle.lk_domain.proofs.ledger.Purses.{open_same, place_kept}
+use Rattle.lk_domain.proofs.journals.Purses.{open_same, place_kept}
 use Rattle.lk_domain.proofs.rows.Halts.{same_marks}
 use Rattle.lk_domain.proofs.rows.Kept as rule
 use Rattle.lk_domain.proofs.rows.Kept.{halting_same}

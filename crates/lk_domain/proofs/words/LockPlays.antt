@@ -33,7 +33,7 @@ use Rattle.lk_domain.specs.declared.plan.Plan.{Plan}
 use Rattle.lk_domain.specs.declared.view.View.{View}
 use Rattle.lk_law.proofs.common.Puts.{if_cases}
 use Rattle.lk_domain.proofs.rows.Fresh as fresh
-use Rattle.lk_domain.proofs.ledger.Held.{moved_any, moved_sole}
+use Rattle.lk_domain.proofs.journals.Held.{moved_any, moved_sole}
 use Rattle.lk_domain.proofs.rows.Grips.{own_lock}
 use Rattle.lk_domain.proofs.rows.Lands as lands
 use Rattle.lk_domain.proofs.rows.Sights.{IsSeen}
@@ -41,7 +41,7 @@ use Rattle.lk_domain.proofs.words.Locks.{word_from, word_below}
 use Rattle.lk_domain.proofs.words.OnWords as on
 use Rattle.lk_domain.proofs.words.OnWords.{OnWord, word_stores, on_word, word_seen, KnownHere, off_links}
 use Rattle.lk_domain.proofs.Outs.{acting_holds}
-use Rattle.lk_domain.proofs.ledger.Purses.{alters, knows_after}
+use Rattle.lk_domain.proofs.journals.Purses.{alters, knows_after}
 
 -- what a step that writes f of the word has to do with the row
 abbrev pub Writes : Layout → Pc → (ℕ → ℕ) → Type 0

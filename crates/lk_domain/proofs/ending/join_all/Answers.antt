@@ -6,7 +6,7 @@ use Rattle.lk_domain.specs.Who.{Who}
 use Rattle.lk_domain.specs.declared.cpu.Cpu.{Cpu}
 use Rattle.lk_domain.specs.declared.view.View.{View}
 use Rattle.lk_domain.proofs.Seating.{table_of, seat_of}
-use Rattle.lk_domain.proofs.ledger.Heirs.{first_heir, next_heir, popped, last_popped, popped_is}
+use Rattle.lk_domain.proofs.journals.Heirs.{first_heir, next_heir, popped, last_popped, popped_is}
 use Rattle.lk_domain.proofs.ending.join_all.Goals as goal
 
 pub loop-cpus-init : goal.loop-cpus-init

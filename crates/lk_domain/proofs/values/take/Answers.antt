@@ -1,4 +1,4 @@
-use Rattle.std.proofs.Common.{refl, sym, ap, subst, ◌∙◌, ◌≡◌, ◌+◌, ◌∷◌, List, ℕ, Some, None, arith, get_or}
+use Rattle.std.proofs.Common.{refl, sym, ap, subst, ◌∙◌, ◌≡◌, ◌+◌, ◌∷◌, List, ℕ, Some, None, arith}
 use mathlib.Core.Option.{none}
 use Rattle.atomic_table.specs.Table.{step, Me, rest}
 use Rattle.lk_domain.specs.Keeps.{Slot}
@@ -9,6 +9,7 @@ use Rattle.lk_domain.specs.declared.plan.Plan.{Plan}
 use Rattle.lk_domain.specs.declared.slot.Stowed.TheVariants.{Entries, CellKey}
 use Rattle.lk_domain.specs.declared.view.View.{View}
 use Rattle.lk_domain.proofs.seats.Takes.{takes_value}
+use Rattle.lk_domain.proofs.seats.Worked.{head_is, same_head, same_key}
 use Rattle.lk_domain.proofs.values.take.Goals as goal
 
 pub load-requires : goal.load-requires
@@ -30,12 +31,8 @@ slot_mut-place-requires c =
     let t = c.load.ensures.2 c.args.home (c.quiet_word-word.ensures ∙ ap (λ (k : Plan). quiet_at k c.args.home) (sym c.requires.seat.plan_is)) in
     let at = ap (λ (x : Me Slot View). x.1) t.seat in (
       c.load.ensures.0 ∙ c.requires.seat.table_is,
-      (Some (CellKey t.key), at ∙ ap (λ (l : List (ℕ × Slot)). (1 + c.args.home, Some (CellKey t.key)) ∷ rest l) (sym at)),
+      (Some (CellKey t.key), head_is at),
     )
-
--- one slot lies at the head of a list
-same_head : {x y : Slot} {xs ys zs : List (ℕ × Slot)} (n : ℕ) → xs ≡ (n, x) ∷ ys → xs ≡ (n, y) ∷ zs → x ≡ y
-same_head n a b = ap (λ (l : List (ℕ × Slot)). (get_or l 0 (0, None)).1) (sym a ∙ b)
 
 pub unreachable-requires : goal.unreachable-requires
 unreachable-requires c =
@@ -78,9 +75,8 @@ returns-clause-key c =
     let t = c.load.ensures.2 c.args.home (c.quiet_word-word.ensures ∙ ap (λ (k : Plan). quiet_at k c.args.home) (sym c.requires.seat.plan_is)) in
     let lain : c.slot_mut-place.result.now ≡ Some (CellKey t.key) =
     same_head (1 + c.args.home) c.slot_mut-place.ensures.value (ap (λ (x : Me Slot View). x.1) t.seat) in
-    let same : Some (CellKey c.in-Some-CellKey.key) ≡ Some (CellKey t.key) =
-    sym (c.in-Some-CellKey.is ∙ ap Some c.in-Some-CellKey.field-0-is) ∙ (c.take.ensures.value ∙ lain) in
-    let key : c.in-Some-CellKey.key ≡ t.key = cc in
+    let key : c.in-Some-CellKey.key ≡ t.key =
+    same_key (sym (c.in-Some-CellKey.is ∙ ap Some c.in-Some-CellKey.field-0-is) ∙ (c.take.ensures.value ∙ lain)) in
     subst (λ (k : Plan). IsKeyOf k c.args.home c.in-Some-CellKey.key) c.requires.seat.plan_is
     (subst (IsKeyOf c.args.seat.now.me.0.who.plan c.args.home) (sym key) t.is)
 

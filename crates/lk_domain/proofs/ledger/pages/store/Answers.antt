@@ -1,0 +1,34 @@
+use Rattle.std.proofs.Common.{refl, ap, ◌∙◌}
+use Rattle.lk_domain.specs.Who.{Who}
+use Rattle.lk_domain.proofs.Seating.{table_of, seat_of}
+use Rattle.lk_domain.proofs.journals.Told as told
+use Rattle.lk_domain.proofs.ledger.pages.store.Goals as goal
+
+pub store-requires : goal.store-requires
+store-requires c =
+    let d = c.args.domain.now in
+    record {
+      table = table_of d;
+      seat = seat_of c.args.cpu.now d c.requires.domain;
+      account = c.requires.account;
+      held = c.requires.held;
+      out = c.requires.out;
+    }
+
+pub invariant_of-cpu : goal.invariant_of-cpu
+invariant_of-cpu c =
+    let cpu = c.args.cpu.now in
+    let old = cpu.seat.me.0.calls in
+    let new = c.store.new.seat.me.0.calls in
+    let kept = c.store.ensures.rest in
+    record {
+      numbered = ap (λ (w : Who). w.number) kept.who ∙ cpu.numbered;
+      noted = told.noted old new kept.calls cpu.noted;
+      apart = told.apart old new kept.calls cpu.apart;
+      carried = c.store.ensures.seat.carried;
+    }
+
+pub returns-clause-rest : goal.returns-clause-rest
+returns-clause-rest c =
+    let kept = c.store.ensures.rest in
+    record { same = record { table = kept.table; id = kept.id; number = refl; who = kept.who }; calls = kept.calls }

@@ -1,0 +1,34 @@
+use Rattle.std.proofs.Common.{refl, arith, sym, ap, ◌∙◌, ◌+◌, ◌%◌, ℕ}
+use mathlib.Core.Option.{none}
+use Rattle.atomic_table.specs.Table.{step}
+use Rattle.lk_domain.specs.Plans.{layout_in}
+use Rattle.lk_word.specs.SpinWord.{packed}
+use Rattle.lk_domain.specs.Rows.{arrives_by}
+use Rattle.lk_domain.proofs.turns.Courses.{arrive_kind}
+use Rattle.lk_domain.proofs.words.Locks.{word_below}
+use Rattle.lk_domain.proofs.words.Onward.{arrive_later}
+use Rattle.lk_domain.proofs.queue.LockSwaps.{asks_swap}
+use Rattle.lk_domain.proofs.queue.Pending.{arrives, arrive_on, arrive_frees}
+use Rattle.lk_domain.proofs.locks.moves.exchange_tail.Goals as goal
+
+pub compare_exchange-met-requires : goal.compare_exchange-met-requires
+compare_exchange-met-requires c =
+    let d = c.args.domain.now in
+    let z = d.table.shared.table_id in
+    let i = c.word_of-word.result in
+    let old = c.args.expected in
+    let tail = c.tail_of-tail.result in
+    let unit = c.tail_unit.result in
+    let v = c.args._verb in
+    let acts = c.requires.row.acts.acts in (
+      c.requires.table,
+      (let few = d.lawful.locks in let below = word_below d.plan c.args.lock c.requires.lock in omega (arith, c.word_of-word.ensures, d.words, below)),
+      asks_swap d.table.shared.key d.plan z.slots c.args.seat.now.id c.args.seat.now.me c.requires.number v c.args.lock i
+          (step z.slots i old (old % unit + tail) none) d.key c.requires.lock c.word_of-word.ensures (arrives_by v) acts
+          (λ pc h fr. arrive_on pc fr (arrive_kind v pc h).0)
+          (λ may. absurd (arrive_frees may.0 may.1 may.2 acts.row (arrive_kind v acts.row acts.is).0 may.3))
+          (arrive_later v acts.row acts.is) old (old % unit + tail) refl
+          (λ mode y packs known is. ap (λ (n : ℕ). n % unit + tail) (sym is)
+          ∙ ((λ j. packed (layout_in d.plan) y % c.tail_unit.ensures j + c.tail_of-tail.ensures j)
+          ∙ arrives (layout_in d.plan) mode acts.row acts.stands.frame y c.args.own (arrive_kind v acts.row acts.is).0 c.requires.row.me)),
+    )

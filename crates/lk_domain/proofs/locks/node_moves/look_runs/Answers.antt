@@ -1,0 +1,14 @@
+use Rattle.std.proofs.Common.{arith}
+use Rattle.lk_domain.proofs.queue.FrontPlays.{looks_runs}
+use Rattle.lk_domain.proofs.locks.node_moves.look_runs.Goals as goal
+
+pub load-met-requires : goal.load-met-requires
+load-met-requires c =
+    let d = c.args.domain.now in
+    let z = d.table.shared.table_id in
+    let i = c.node_of-word.result in (
+      c.requires.table,
+      (let a = c.requires.own.cpu in let b = c.requires.own.index in omega (arith, c.node_of-word.ensures, d.words, a, b)),
+      looks_runs d.table.shared.key d.plan z.slots c.args.seat.now.id c.args.seat.now.me c.requires.number c.args._verb i d.key
+          c.args.own c.requires.own c.node_of-word.ensures c.requires.row,
+    )

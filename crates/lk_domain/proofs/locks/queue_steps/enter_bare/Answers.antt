@@ -1,0 +1,30 @@
+use Rattle.lk_law.specs.Leads.{Number}
+use Rattle.lk_domain.specs.Calls.{slows}
+use Rattle.lk_domain.proofs.turns.Carried as row
+use Rattle.lk_domain.proofs.turns.Stepped as stepped
+use Rattle.lk_domain.proofs.locks.queue_steps.enter_bare.Goals as goal
+
+pub step-requires-clause-steps : goal.step-requires-clause-steps
+step-requires-clause-steps c =
+    let cpu = c.args.cpu.now in
+    let m = cpu.seat.me in
+    let n = c.enter_bare.new.seat.me in (
+      m.0.calls,
+      n.0.calls,
+      cpu.noted,
+      (stepped.enters c.args.verb c.args.lock m n cpu.apart cpu.noted.few 0 c.requires.row.at c.enter_bare.ensures.step).steps,
+    )
+
+pub invariant_of-cpu : goal.invariant_of-cpu
+invariant_of-cpu c =
+    let cpu = c.args.cpu.now in
+    let m = cpu.seat.me in
+    let n = c.enter_bare.new.seat.me in
+    let told = c.enter_bare.ensures.step in
+    let t = stepped.enters c.args.verb c.args.lock m n cpu.apart cpu.noted.few 0 c.requires.row.at told in
+    record {
+      numbered = row.node_numbered (Number (slows m.0.calls.frames)) m n told cpu.numbered;
+      noted = c.step.ensures m.0.calls n.0.calls cpu.noted t.steps;
+      apart = t.apart;
+      carried = row.node_carried (Number (slows m.0.calls.frames)) m n told cpu.carried;
+    }

@@ -1,0 +1,30 @@
+use Rattle.std.proofs.Common.{refl}
+use Rattle.lk_machine.specs.declared.setup.Verb.TheVariants.{TryRead}
+use Rattle.lk_domain.proofs.rw.Stepped as stepped
+use Rattle.lk_domain.proofs.locks.rw_steps.give_up.Goals as goal
+
+pub step-requires-clause-steps : goal.step-requires-clause-steps
+step-requires-clause-steps c =
+    let cpu = c.args.cpu.now in
+    let m = cpu.seat.me in
+    let n = c.act_by-met.new.seat.me in (
+      m.0.calls,
+      n.0.calls,
+      cpu.noted,
+      (stepped.quit TryRead c.args.lock c.act_by-met.result m n c.act_by-met.ensures.step cpu.apart cpu.noted.few c.requires.row refl).steps,
+    )
+
+pub invariant_of-cpu : goal.invariant_of-cpu
+invariant_of-cpu c =
+    let cpu = c.args.cpu.now in
+    let m = cpu.seat.me in
+    let n = c.act_by-met.new.seat.me in
+    let met = c.act_by-met.result in
+    let made = c.act_by-met.ensures.step in
+    let t = stepped.quit TryRead c.args.lock met m n made cpu.apart cpu.noted.few c.requires.row refl in
+    record {
+      numbered = stepped.numbered TryRead c.args.lock met m n made cpu.apart cpu.noted.few cpu.numbered;
+      noted = c.step.ensures m.0.calls n.0.calls cpu.noted t.steps;
+      apart = t.apart;
+      carried = stepped.carried TryRead c.args.lock met m n made cpu.apart cpu.noted.few cpu.carried;
+    }

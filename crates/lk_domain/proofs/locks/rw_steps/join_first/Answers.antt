@@ -1,0 +1,60 @@
+use Rattle.std.proofs.Common.{◌≡◌, ℕ, Bool, false, arith, sym, ap, subst, ◌<◌, ◌∙◌}
+use Rattle.std.specs.Prelude.{not}
+use Rattle.lk_machine.specs.declared.setup.Verb.TheVariants.{Read}
+use Rattle.lk_machine.specs.declared.setup.Verb.{Verb}
+use Rattle.lk_domain.specs.Calls.{waits_in}
+use Rattle.lk_domain.specs.RwPlays.{ActsFor}
+use Rattle.lk_domain.specs.RwRows.{joins_at, joins_by}
+use Rattle.lk_domain.specs.declared.view.View.{View}
+use Rattle.lk_domain.proofs.rw.Stepped as stepped
+use Rattle.lk_domain.proofs.locks.rw_steps.join_first.Goals as goal
+
+by_verb : (b : Bool) (v : Verb) (w : View) (l : ℕ) → v ≡ Read → ActsFor (joins_at b v) w v l → ActsFor (joins_at b Read) w Read l
+by_verb b v w l is = subst (λ (z : Verb). ActsFor (joins_at b z) w z l) is
+
+pub act_by-met-requires-clause-row : goal.act_by-met-requires-clause-row
+act_by-met-requires-clause-row c =
+    let m = c.args.cpu.now.seat.me in
+    let l = c.args.lock.index in
+    let b = waits_in m.0.calls.frames l in
+    stepped.acts_as (joins_at b Read) (joins_by Read) (stepped.join_kind b Read) m.0 Read l
+    (by_verb b c.args.verb m.0 l c.requires.verb c.requires.row)
+
+pub first_step-requires-clause-fresh : goal.first_step-requires-clause-fresh
+first_step-requires-clause-fresh c =
+    let lt : c.args.lock.index < 32 = (let lock = c.requires.lock in let few = c.args.domain.now.lawful.locks in omega arith) in
+    c.args.cpu.now.noted.noted.each c.args.lock.index ∙ c.requires.fresh
+
+pub first_step-requires-clause-steps : goal.first_step-requires-clause-steps
+first_step-requires-clause-steps c =
+    let cpu = c.args.cpu.now in
+    let m = cpu.seat.me in
+    let n = c.act_by-met.new.seat.me in
+    let l = c.args.lock.index in
+    let met = c.act_by-met.result in
+    let made = c.act_by-met.ensures.step in
+    let b = waits_in m.0.calls.frames l in (
+      m.0.calls,
+      n.0.calls,
+      cpu.noted,
+      stepped.join_noted Read l met m n made cpu.apart cpu.noted.few b false (sym c.requires.fresh)
+          (by_verb b c.args.verb m.0 l c.requires.verb c.requires.row) _ _ (ap not c.lets_readers_in.ensures) c.lets_readers_in.ensures,
+    )
+
+pub invariant_of-cpu : goal.invariant_of-cpu
+invariant_of-cpu c =
+    let cpu = c.args.cpu.now in
+    let m = cpu.seat.me in
+    let n = c.act_by-met.new.seat.me in
+    let l = c.args.lock.index in
+    let met = c.act_by-met.result in
+    let made = c.act_by-met.ensures.step in
+    let b = waits_in m.0.calls.frames l in
+    let row = by_verb b c.args.verb m.0 l c.requires.verb c.requires.row in
+    record {
+      numbered = stepped.numbered Read l met m n made cpu.apart cpu.noted.few cpu.numbered;
+      noted = c.first_step.ensures m.0.calls n.0.calls cpu.noted
+          (stepped.join_noted Read l met m n made cpu.apart cpu.noted.few b false (sym c.requires.fresh) row _ _ (ap not c.lets_readers_in.ensures) c.lets_readers_in.ensures);
+      apart = (stepped.join Read l met m n made cpu.apart cpu.noted.few b row).apart;
+      carried = stepped.carried Read l met m n made cpu.apart cpu.noted.few cpu.carried;
+    }

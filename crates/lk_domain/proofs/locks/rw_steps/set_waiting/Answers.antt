@@ -1,0 +1,24 @@
+use Rattle.lk_machine.specs.declared.setup.Verb.TheVariants.{Write}
+use Rattle.lk_domain.specs.RwRows.{awaits_by}
+use Rattle.lk_domain.proofs.rw.Stepped as stepped
+use Rattle.lk_domain.proofs.locks.rw_steps.set_waiting.Goals as goal
+
+pub act_by-requires-clause-row : goal.act_by-requires-clause-row
+act_by-requires-clause-row c =
+    stepped.as_one awaits_by Write stepped.await_is c.args.cpu.now.seat.me.0 c.args.verb c.args.lock.index c.requires.row
+
+pub invariant_of-cpu : goal.invariant_of-cpu
+invariant_of-cpu c =
+    let cpu = c.args.cpu.now in
+    let l = c.args.lock.index in
+    let m = cpu.seat.me in
+    let n = c.act_by.new.seat.me in
+    let met = c.act_by.result in
+    let made = c.act_by.ensures.step in
+    let acts = stepped.as_one awaits_by Write stepped.await_is m.0 c.args.verb l c.requires.row in
+    record {
+      numbered = stepped.numbered Write l met m n made cpu.apart cpu.noted.few cpu.numbered;
+      noted = stepped.await_noted Write l met m n made cpu.apart cpu.noted.few cpu.notes cpu.noted acts;
+      apart = (stepped.await Write l met m n made cpu.apart cpu.noted.few acts).apart;
+      carried = stepped.carried Write l met m n made cpu.apart cpu.noted.few cpu.carried;
+    }

@@ -1,0 +1,18 @@
+use Rattle.std.proofs.Common.{refl}
+use Rattle.lk_machine.specs.declared.setup.Verb.TheVariants.{Read}
+use Rattle.lk_domain.proofs.rw.Stepped as stepped
+use Rattle.lk_domain.proofs.locks.rw_steps.step_back.Goals as goal
+
+pub invariant_of-cpu : goal.invariant_of-cpu
+invariant_of-cpu c =
+    let cpu = c.args.cpu.now in
+    let m = cpu.seat.me in
+    let n = c.act_by.new.seat.me in
+    let met = c.act_by.result in
+    let made = c.act_by.ensures.step in
+    record {
+      numbered = stepped.numbered Read c.args.lock met m n made cpu.apart cpu.noted.few cpu.numbered;
+      noted = stepped.quit_noted c.args.lock met m n made cpu.apart cpu.noted.few cpu.notes cpu.noted c.requires.row;
+      apart = (stepped.quit Read c.args.lock met m n made cpu.apart cpu.noted.few c.requires.row refl).apart;
+      carried = stepped.carried Read c.args.lock met m n made cpu.apart cpu.noted.few cpu.carried;
+    }

@@ -1,0 +1,41 @@
+use Rattle.std.proofs.Common.{Bool, true, false, sym, subst}
+use Rattle.lk_machine.specs.declared.setup.Verb.TheVariants.{Write}
+use Rattle.lk_domain.specs.Marked.{Steps}
+use Rattle.lk_domain.specs.RwRows.{follows_by}
+use Rattle.lk_domain.proofs.rw.Stepped as stepped
+use Rattle.lk_domain.proofs.locks.rw_steps.waiting_to_writer.Goals as goal
+
+pub act_by-met-requires-clause-row : goal.act_by-met-requires-clause-row
+act_by-met-requires-clause-row c =
+    stepped.as_one follows_by Write stepped.follow_is c.args.cpu.now.seat.me.0 c.args.verb c.args.lock.index c.requires.row
+
+pub step-requires-clause-steps : goal.step-requires-clause-steps
+step-requires-clause-steps c =
+    let cpu = c.args.cpu.now in
+    let m = cpu.seat.me in
+    let n = c.act_by-met.new.seat.me in
+    let acts = stepped.as_one follows_by Write stepped.follow_is m.0 c.args.verb c.args.lock.index c.requires.row in (
+      m.0.calls,
+      n.0.calls,
+      cpu.noted,
+      subst (λ (b : Bool). Steps m.0.calls n.0.calls c.args.lock.index true false b) (sym c.has_only_waiting.ensures)
+          (stepped.follow Write c.args.lock.index c.act_by-met.result m n c.act_by-met.ensures.step cpu.apart cpu.noted.few acts).steps,
+    )
+
+pub invariant_of-cpu : goal.invariant_of-cpu
+invariant_of-cpu c =
+    let cpu = c.args.cpu.now in
+    let l = c.args.lock.index in
+    let m = cpu.seat.me in
+    let n = c.act_by-met.new.seat.me in
+    let met = c.act_by-met.result in
+    let made = c.act_by-met.ensures.step in
+    let acts = stepped.as_one follows_by Write stepped.follow_is m.0 c.args.verb l c.requires.row in
+    let t = stepped.follow Write l met m n made cpu.apart cpu.noted.few acts in
+    record {
+      numbered = stepped.numbered Write l met m n made cpu.apart cpu.noted.few cpu.numbered;
+      noted = c.step.ensures m.0.calls n.0.calls cpu.noted
+          (subst (λ (b : Bool). Steps m.0.calls n.0.calls l true false b) (sym c.has_only_waiting.ensures) t.steps);
+      apart = t.apart;
+      carried = stepped.carried Write l met m n made cpu.apart cpu.noted.few cpu.carried;
+    }

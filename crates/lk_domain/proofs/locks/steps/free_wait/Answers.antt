@@ -1,0 +1,31 @@
+use Rattle.lk_domain.proofs.turns.Carried as row
+use Rattle.lk_domain.proofs.turns.Stepped as stepped
+use Rattle.lk_domain.proofs.locks.steps.free_wait.Goals as goal
+
+pub step-requires-clause-steps : goal.step-requires-clause-steps
+step-requires-clause-steps c =
+    let cpu = c.args.cpu.now in
+    let m = cpu.seat.me in
+    let n = c.go_on-met.new.seat.me in (
+      m.0.calls,
+      n.0.calls,
+      cpu.noted,
+      (stepped.frees c.args.verb c.args.lock c.go_on-met.result m n c.go_on-met.ensures.step cpu.apart cpu.noted.few c.requires.verb c.requires.row).steps,
+    )
+
+pub invariant_of-cpu : goal.invariant_of-cpu
+invariant_of-cpu c =
+    let cpu = c.args.cpu.now in
+    let l = c.args.lock in
+    let v = c.args.verb in
+    let m = cpu.seat.me in
+    let n = c.go_on-met.new.seat.me in
+    let met = c.go_on-met.result in
+    let made = c.go_on-met.ensures.step in
+    let t = stepped.frees v l met m n made cpu.apart cpu.noted.few c.requires.verb c.requires.row in
+    record {
+      numbered = row.numbered v l.index met m n made cpu.numbered;
+      noted = c.step.ensures m.0.calls n.0.calls cpu.noted t.steps;
+      apart = t.apart;
+      carried = row.carried v l.index met m n made cpu.carried;
+    }
