@@ -8,11 +8,11 @@ use Rattle.lk_abs.specs.Journal.{balances_after, IsRight, is_write}
 use Rattle.lk_abs.specs.declared.ledger.Entry.{Entry}
 use Rattle.lk_abs.specs.declared.ledger.Job.{Job}
 use Rattle.lk_abs.specs.declared.ledger.Reply.{Reply}
-use Rattle.lk_domain.proofs.ledger.Loads.{entries_long}
+use Rattle.lk_domain.proofs.journals.Loads.{entries_long}
 use Rattle.lk_domain.specs.Ledgers.{Ledger, Out, brought, manner_of, trail_of}
 use Rattle.lk_domain.specs.Plans.{IsRunningPlan, accounts_of}
 use Rattle.lk_domain.specs.Seats.{IsOut, MayCome, CameHome}
-use Rattle.lk_domain.specs.declared.journal.Journal.{Journal}
+use Rattle.lk_domain.specs.declared.ledger.journal.Journal.{Journal}
 use Rattle.lk_domain.specs.declared.plan.Plan.{Plan}
 use Rattle.lk_guard.specs.Settling.{words_of, out_with, with_words, Stands}
 use Rattle.lk_guard.specs.Writes.{entry, after_append, HasAppended}

@@ -13,7 +13,7 @@ use Rattle.lk_abs.specs.declared.ledger.Job.{Job}
 use Rattle.lk_abs.specs.declared.ledger.Job.TheVariants.{Move, Add, Sum, Get}
 use Rattle.lk_abs.specs.declared.ledger.Reply.{Reply}
 use Rattle.lk_abs.specs.declared.ledger.Reply.TheVariants.{Amount}
-use Rattle.lk_domain.proofs.ledger.Loads.{entries_long}
+use Rattle.lk_domain.proofs.journals.Loads.{entries_long}
 use Rattle.lk_domain.specs.Keeps.{balance, AreLoaded}
 use Rattle.lk_domain.specs.Plans.{accounts_of}
 use Rattle.lk_domain.specs.Views.{total}

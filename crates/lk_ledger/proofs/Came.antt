@@ -4,7 +4,7 @@ use Rattle.lk_abs.specs.declared.ledger.Entry.{Entry}
 use Rattle.lk_abs.specs.declared.ledger.Seen.{Seen}
 use Rattle.lk_abs.specs.Workload.{Workload, IsLawful}
 use Rattle.lk_abs.specs.Outcome.{IsOutcome}
-use Rattle.lk_domain.proofs.ledger.Loads.{entries_long}
+use Rattle.lk_domain.proofs.journals.Loads.{entries_long}
 
 -- there are few closing balances
 pub few_balances : (work : Workload) (journal : List Entry) (reads : List Seen)
