@@ -40,7 +40,7 @@ use Rattle.lk_domain.specs.Words.{version_at, balance_at, places_of, node_at, no
 use Rattle.lk_domain.specs.Words.{state_number, mark_number, pair_number, IsNode}
 use Rattle.lk_domain.specs.declared.plan.Plan.{Plan}
 use Rattle.lk_domain.specs.declared.view.View.{View}
-use Rattle.lk_domain.proofs.ledger.Purses.{alters, knows_same}
+use Rattle.lk_domain.proofs.journals.Purses.{alters, knows_same}
 use Rattle.lk_domain.proofs.queue.LockSwaps.{set_self}
 use Rattle.lk_domain.proofs.queue.NodePlays.{acts', asks, calls_are, kept, planned}
 use Rattle.lk_domain.proofs.queue.OnNodes.{top_live}

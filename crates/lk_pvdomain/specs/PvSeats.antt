@@ -5,7 +5,6 @@ use Rattle.lk_domain.specs.Calls.{Calls, no_calls}
 use Rattle.lk_domain.specs.Ends.{IsFinalOf}
 use Rattle.lk_domain.specs.Ledgers.{Ledger, with_share}
 use Rattle.lk_domain.specs.Plans.{cpus_of, share_of}
-use Rattle.lk_domain.specs.Values.{IsClear, bringing, outs_of, taking}
 use Rattle.lk_domain.specs.Views.{newcomer}
 use Rattle.lk_domain.specs.Seated.{HasLoadedBy, HasSeenBy, HasStoredBy}
 use Rattle.lk_domain.specs.declared.plan.Plan.{Plan}
@@ -53,20 +52,12 @@ pub record KeepsCalls (old new : PvCpu) : Type 0 where
   pub same : IsSame old new
   pub calls : calls_of new ≡ calls_of old
 
--- the value of the lock is out with the processor, and was not before
-pub record TakesValueOf (l : ℕ) (old new : PvCpu) : Type 0 where
+-- the processor is as it was, in all that it knows
+pub record IsStill (old new : PvCpu) : Type 0 where
   pub table : new.seat.table_id ≡ old.seat.table_id
   pub id : new.seat.id ≡ old.seat.id
   pub number : new.number ≡ old.number
-  pub view : view_of new ≡ taking l l (view_of old)
-  pub apart : IsClear (view_of old).who.plan l (outs_of (view_of old))
-
--- it is home
-pub record BringsValueOf (l : ℕ) (old new : PvCpu) : Type 0 where
-  pub table : new.seat.table_id ≡ old.seat.table_id
-  pub id : new.seat.id ≡ old.seat.id
-  pub number : new.number ≡ old.number
-  pub view : view_of new ≡ bringing l (view_of old)
+  pub view : view_of new ≡ view_of old
 
 -- a balance was loaded, the version was, a balance was stored
 

@@ -26,7 +26,6 @@ pub(crate) fn enter(seat: &mut Right, domain: &PvDomain, lock: u32, own: NodeNam
     ensures goes { (s : Start) → At domain.now Lock lock own s G1 Any seat.old
         → At domain.now Lock lock own s H1 (Owns own) seat.new }
 {
-    let _ = lock;
     nodes::reset(seat, domain, Verb::Lock, own, Part::Flag);
     nodes::reset(seat, domain, Verb::Lock, own, Part::Next);
     states::enter(seat, domain, Verb::Lock, own);
@@ -59,7 +58,6 @@ fn glance(seat: &mut Right, domain: &PvDomain, lock: u32, own: NodeName) -> Fiel
         → At domain.now Lock lock own s (after_glance (Some own) result)
         (Steals own (is_some result.tail)) seat.new }
 {
-    let _ = own;
     let met = words::look_word(seat, domain, Verb::Lock, lock);
     word_met(domain, met)
 }
@@ -84,7 +82,6 @@ fn swap<R: Wait>(
         → At domain.now Lock lock own s H2 (Steals own tailed) seat.old
         → At domain.now Lock lock own s G4 (Owns own) seat.new }
 {
-    let _ = (own, tailed);
     let seen = without_low_byte(words::guess(domain, lock));
     if low_byte(tries::steal(seat, rt, domain, lock, seen)) == 0 {
         return true;
@@ -190,6 +187,5 @@ pub(crate) fn link(seat: &mut Right, domain: &PvDomain, lock: u32, own: NodeName
     ensures goes { (s : Start) → At domain.now Lock lock own s G5 (Follows own prev) seat.old
         → At domain.now Lock lock own s W1 (Spares own prev (turns_of domain.now.plan)) seat.new }
 {
-    let _ = lock;
     nodes::link(seat, domain, Verb::Lock, prev, own);
 }

@@ -151,7 +151,6 @@ fn attempt(seat: &mut Right, domain: &PvDomain, lock: u32, own: NodeName) -> boo
     ensures missed { result ≡ false
         → Ended domain.now Try lock own (first_of Try lock seat.old) Unchanged seat.new }
 {
-    let _ = own;
     if shared::look_once(seat, domain, lock) != 0 {
         return false;
     }

@@ -103,7 +103,7 @@ impl PvDomain {
         ensures { result ≡ name_number node }
     {
         prove!(self.plan.topology.sockets.len() <= 64);
-        lk_word::node_number(node)
+        lk_word::name_number(node)
     }
 
     // Where the words begin that only this family needs.

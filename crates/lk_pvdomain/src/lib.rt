@@ -34,4 +34,4 @@ pub use ending::{PvBack, PvClosed, pv_close};
 pub use laws::{entries_are_found, fronts_are_kicked};
 pub use pages::{pv_journal_home, pv_journal_out, pv_load, pv_store, pv_version};
 pub use plan::PvPlan;
-pub use values::{pv_bring_home, pv_take_out};
+pub use values::pv_with_key;

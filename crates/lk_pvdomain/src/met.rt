@@ -10,7 +10,7 @@ ghost use Rattle.lk_domain.specs.Words.{IsNode, link_number, marked};
 
 use crate::domain::PvDomain;
 use lk_machine::is_tail;
-use lk_word::{Fields, LOWEST_NODE, Locked, MARK, NodeName, node_numbered, unpack};
+use lk_word::{Fields, LOWEST_NODE, Locked, MARK, NodeName, node_of_name, unpack};
 
 // The fields of a word that a step met.
 pub(crate) fn word_met(domain: &PvDomain, met: u64) -> Fields
@@ -36,7 +36,7 @@ pub(crate) fn node_met(domain: &PvDomain, met: u64) -> Option<NodeName>
     if name < LOWEST_NODE {
         return None;
     }
-    Some(node_numbered(name))
+    Some(node_of_name(name))
 }
 
 // Whether the word is that of a held lock whose queue ends with this node: nobody pends.

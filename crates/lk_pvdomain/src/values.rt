@@ -1,41 +1,34 @@
-// Values under paravirtual locks: a processor that holds a lock takes its value out, which is the key of a
-// cell, and brings it home.
+// Values under paravirtual locks: a processor that holds a lock works on its value, which is the
+// key of a cell, where it lies.
 ghost use Rattle.std.specs.Prelude.{◌≡◌, ◌<◌, None};
+ghost use Rattle.lk_cell.specs.Work.{HasWorked, KeepsFit};
 ghost use Rattle.lk_domain.specs.Plans.{locks_of};
-ghost use Rattle.lk_domain.specs.Values.{HasCell, IsHomeWith, IsKeyOf, IsNewestAt, outs_of};
-ghost use Rattle.lk_pvdomain.specs.PvSeats.{BringsValueOf, IsOf, TakesValueOf};
-ghost use Rattle.lk_pvdomain.specs.PvSeats.{calls_of, ledger_of, view_of};
+ghost use Rattle.lk_domain.specs.Values.{HasCell, IsHomeWith, IsKeyOf};
+ghost use Rattle.lk_pvdomain.specs.PvSeats.{IsOf, IsStill, calls_of, ledger_of};
 
 use crate::cpu::PvCpu;
 use crate::domain::PvDomain;
 use lk_cell::Key;
 use lk_domain::{LockId, values};
 
-/// Takes the value of a lock out: the key of its cell. The processor must hold the lock, and releases
-/// it only after the value is home again.
-pub fn pv_take_out(cpu: &mut PvCpu, domain: &PvDomain, lock: LockId) -> Key
+/// Works once on the value of a lock: the key of its cell, which stays where it lies. The
+/// processor must hold the lock, and no value of the lock may be out. It knows afterwards what it
+/// knew before.
+pub fn pv_with_key<U, W: FnOnce(&mut Key) -> U>(
+    cpu: &mut PvCpu,
+    domain: &PvDomain,
+    lock: LockId,
+    work: W,
+) -> U
     requires domain { IsOf cpu.old domain.now }
     requires lock { lock.index < locks_of domain.now.plan }
     requires valued { HasCell domain.now.plan lock.index }
     requires held { IsHomeWith lock.index (calls_of cpu.old).holds }
     requires home { (ledger_of cpu.old).out ≡ None }
-    ensures taken { TakesValueOf lock.index cpu.old cpu.new }
-    ensures key { IsKeyOf domain.now.plan lock.index result }
+    requires work { KeepsFit W.FnOnce (IsKeyOf domain.now.plan lock.index) work }
+    ensures still { IsStill cpu.old cpu.new }
+    ensures done { HasWorked W.FnOnce (IsKeyOf domain.now.plan lock.index) work result }
 {
     let home = lock.index as usize;
-    values::take(&mut cpu.seat, &domain.table, &domain.plan, home)
-}
-
-/// Brings it home: the value that the processor took out last.
-pub fn pv_bring_home(cpu: &mut PvCpu, domain: &PvDomain, lock: LockId, key: Key)
-    requires domain { IsOf cpu.old domain.now }
-    requires lock { lock.index < locks_of domain.now.plan }
-    requires valued { HasCell domain.now.plan lock.index }
-    requires newest { IsNewestAt domain.now.plan lock.index lock.index (outs_of (view_of cpu.old)) }
-    requires home { (ledger_of cpu.old).out ≡ None }
-    requires key { IsKeyOf domain.now.plan lock.index key }
-    ensures brought { BringsValueOf lock.index cpu.old cpu.new }
-{
-    let home = lock.index as usize;
-    values::bring(&mut cpu.seat, &domain.table, &domain.plan, home, key);
+    values::work_at(&mut cpu.seat, &domain.table, &domain.plan, home, work)
 }

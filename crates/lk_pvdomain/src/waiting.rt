@@ -34,7 +34,6 @@ fn turns<R: Wait>(
         → At domain.now Lock lock own s W1 (Spares own prev (turns_of domain.now.plan)) seat.old
         → At domain.now Lock lock own s W3 (Follows own prev) seat.new }
 {
-    let _ = lock;
     let backoff = Backoff::new();
     let mut left = domain.turns();
     for _ in rt.forever() {
@@ -66,7 +65,6 @@ fn doze<R: Wait>(
     ensures goes { (s : Start) → At domain.now Lock lock own s W4 (Follows own prev) seat.old
         → At domain.now Lock lock own s W7 (Follows own prev) seat.new }
 {
-    let _ = (lock, prev);
     if nodes::look_flag(seat, domain, own) != 0 {
         return;
     }

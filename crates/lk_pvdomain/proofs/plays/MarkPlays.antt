@@ -27,7 +27,7 @@ use Rattle.lk_domain.specs.declared.plan.Plan.{Plan}
 use Rattle.lk_domain.specs.declared.view.View.{View}
 use Rattle.lk_domain.proofs.Acting.{acting_is}
 use Rattle.lk_domain.proofs.Outs.{acting_holds}
-use Rattle.lk_domain.proofs.ledger.Purses.{alters, knows_after, knows_same}
+use Rattle.lk_domain.proofs.journals.Purses.{alters, knows_after, knows_same}
 use Rattle.lk_domain.proofs.queue.LockSwaps.{stands}
 use Rattle.lk_domain.proofs.queue.NodePlays.{acts', asks, calls_are, kept, planned}
 use Rattle.lk_domain.proofs.queue.Relinks.{IsBare}

@@ -3,7 +3,7 @@ use Rattle.lk_domain.specs.Ends.{HasPast}
 use Rattle.lk_domain.specs.Views.{all_past}
 use Rattle.lk_domain.specs.Who.{Who}
 use Rattle.lk_domain.specs.declared.view.View.{View}
-use Rattle.lk_domain.proofs.ledger.Heirs.{first_heir, next_heir, popped, last_popped, popped_is}
+use Rattle.lk_domain.proofs.journals.Heirs.{first_heir, next_heir, popped, last_popped, popped_is}
 use Rattle.lk_pvdomain.specs.PvSeats.{view_of, ledger_of, Rests}
 use Rattle.lk_pvdomain.specs.declared.cpu.PvCpu.{PvCpu}
 use Rattle.lk_pvdomain.proofs.PvSeating.{table_of, seat_of}

@@ -1,5 +1,5 @@
 use Rattle.std.proofs.Common.{sym, arith}
-use Rattle.lk_domain.proofs.ledger.Heirs.{has_all, final}
+use Rattle.lk_domain.proofs.journals.Heirs.{has_all, final}
 use Rattle.lk_pvdomain.specs.PvSeats.{view_of}
 use Rattle.lk_pvdomain.proofs.PvSeating.{table_of}
 use Rattle.lk_pvdomain.proofs.ending.pv_close.Goals as goal

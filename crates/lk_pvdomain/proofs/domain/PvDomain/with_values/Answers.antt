@@ -1,4 +1,4 @@
-use Rattle.std.proofs.Common.{ap, sym, ◌∙◌, ◌+◌, ◌∷◌, [], Option, Some, length, length-append}
+use Rattle.std.proofs.Common.{ap, ◌∙◌, ◌+◌, ◌∷◌, [], Option, Some, length, length-append}
 use Rattle.lk_abs.specs.ListOf.{ListOf}
 use Rattle.lk_domain.specs.Values.{Key}
 use Rattle.lk_domain.proofs.seats.Dealt.{keys_laid}
