@@ -1,11 +1,15 @@
--- Where the rows of a queue head lead that looks for the next: what each answer means.
-use Rattle.std.specs.Prelude.{◌≡◌, Bool, Some}
+-- The rows of a queue head that chooses its successor. `May` and `Needs` say where the head stands
+-- before a row, and `Has` says what the row has done, by what it met.
+--
+-- Those that the head has passed over are from a, or `skipped`, to b, or `last`. The secondary
+-- queue has m, or `second`, for its first node and t for its last. The successor is y, or `next`.
+use Rattle.std.specs.Prelude.{◌≡◌, Bool, true, false, Some, None}
 use Rattle.lk_word.specs.declared.spin_word.NodeName.{NodeName}
-use Rattle.lk_machine.specs.declared.parts.Pc.TheVariants.{C1, C2, C3, C4, C5, C7, C9}
+use Rattle.lk_machine.specs.declared.parts.Pc.TheVariants.{C1, C2, C3, C4, C5, C6, C7, C8, C9, C10}
 use Rattle.lk_domain.specs.declared.cpu.Cpu.{Cpu}
 use Rattle.lk_run.specs.Choices.{IsFirstNode, IsMoreNode}
-use Rattle.lk_run.specs.Heads.{Steps, Looks, LooksOn, IsNodeOf, Fronts, Precedes, Skips, Appends, Ties, Parts}
-use Rattle.lk_run.specs.Heads.{Flushes, Returns, Promotes}
+use Rattle.lk_run.specs.Heads.{At, Steps, Looks, LooksOn, IsNodeOf, Fronts, FrontsWith, Precedes}
+use Rattle.lk_run.specs.Heads.{Skips, Appends, Ties, Parts, Flushes, Returns, Promotes, Promoting}
 use Rattle.lk_run.specs.Phases.{Knows}
 use Rattle.lk_run.specs.declared.call.Front.{Front}
 use Rattle.lk_run.specs.declared.seen.Behind.{Behind}
@@ -33,8 +37,14 @@ pub record HasLookedBehind (head : Front) (behind : Behind) (old new : Cpu) : Ty
   pub skipped : (a : NodeName) → behind.seen ≡ first.Skips a → Knows a behind.mark new
   pub flushed : (m a : NodeName) → behind.seen ≡ first.Flushes m a → Knows a behind.mark new
 
--- the head has made the row C2, and goes on by what it saw behind b, the last that it has passed over
-pub record HasLookedBeyond (head : Front) (b : NodeName) (seen : More) (old new : Cpu) : Type 0 where
+-- the head stands at C2, and b is the last that it has passed over
+pub record MayLookBeyond (head : Front) (b : NodeName) (cpu : Cpu) : Type 0 where
+  pub skipped : NodeName
+  pub at : At head C2 (Skips skipped b) cpu
+
+-- the head has made the row C2, and goes on by what it saw behind b
+pub record HasLookedBeyond (head : Front) (b : NodeName) (seen : More) (old new : Cpu)
+    : Type 0 where
   pub node : IsMoreNode head.call.domain.now.plan seen
   pub skips : (a next : NodeName) → seen ≡ more.Skips next
       → LooksOn head C2 (Skips a b) (Skips a next) old new
@@ -48,16 +58,90 @@ pub record HasLookedBeyond (head : Front) (b : NodeName) (seen : More) (old new 
       → Steps head C2 (Skips a b) C7 (Precedes head.second a) old new
   pub knows : StillKnows old new
 
--- The head has made the row C3: it has read the last node of the secondary queue, from the first.
+-- the head stands at C3, and is to append those that it has passed over to the secondary queue
+pub record NeedsTailToAppend (head : Front) (m : NodeName) (cpu : Cpu) : Type 0 where
+  pub skipped : NodeName
+  pub last : NodeName
+  pub next : NodeName
+  pub at : At head C3 (Appends m skipped last next) cpu
 
--- It is to append those that it has passed over.
+-- the head has made the row C3: it has read the last node of the secondary queue, in the first
 pub record HasTailToAppend (head : Front) (m tail : NodeName) (old new : Cpu) : Type 0 where
   pub node : IsNodeOf head tail
   pub goes : (a b y : NodeName) → Steps head C3 (Appends m a b y) C4 (Ties m a b y tail) old new
   pub knows : StillKnows old new
 
--- The secondary queue is to return before a waiter.
+-- the head stands at C3, and the secondary queue is to return before a waiter
+pub record NeedsTailToFlush (head : Front) (m : NodeName) (cpu : Cpu) : Type 0 where
+  pub waiter : NodeName
+  pub at : At head C3 (Flushes m waiter) cpu
+
+-- the head has made the row C3: it has read the last node of the secondary queue, in the first
 pub record HasTailToFlush (head : Front) (m tail : NodeName) (old new : Cpu) : Type 0 where
   pub node : IsNodeOf head tail
   pub goes : (a : NodeName) → Steps head C3 (Flushes m a) C9 (Returns m a tail) old new
   pub knows : StillKnows old new
+
+-- the head stands at C4, has passed over waiters from a on, and has read t
+pub record MayAppendMoved (head : Front) (a t : NodeName) (cpu : Cpu) : Type 0 where
+  pub second : NodeName
+  pub last : NodeName
+  pub next : NodeName
+  pub at : At head C4 (Ties second a last next t) cpu
+
+-- the head has made the row C4, and is to cut off those that it has passed over
+pub record HasAppendedMoved (head : Front) (a t : NodeName) (old new : Cpu) : Type 0 where
+  pub goes : (m b y : NodeName) → Steps head C4 (Ties m a b y t) C5 (Parts m b y) old new
+
+-- the head stands at C5, and b is the last that it has passed over
+pub record MayCut (head : Front) (b : NodeName) (cpu : Cpu) : Type 0 where
+  pub second : NodeName
+  pub next : NodeName
+  pub at : At head C5 (Parts second b next) cpu
+
+-- the head has made the row C5, and is to store b as the last node of the secondary queue
+pub record HasCut (head : Front) (b : NodeName) (old new : Cpu) : Type 0 where
+  pub goes : (m y : NodeName) → Steps head C5 (Parts m b y) C6 (Parts m b y) old new
+
+-- the head stands at C6, and the secondary queue is to be from m to b
+pub record MaySetTail (head : Front) (m b : NodeName) (cpu : Cpu) : Type 0 where
+  pub next : NodeName
+  pub at : At head C6 (Parts m b next) cpu
+
+-- the head has made the row C6, and is to count the handoff
+pub record HasSetTail (head : Front) (m b : NodeName) (old new : Cpu) : Type 0 where
+  pub goes : (y : NodeName) → Steps head C6 (Parts m b y) C7 (Precedes (Some m) y) old new
+
+-- the head stands at C7, has a secondary queue, and has chosen y
+pub record MayTellMore (head : Front) (y : NodeName) (cpu : Cpu) : Type 0 where
+  pub second : NodeName
+  pub at : At head C7 (Precedes (Some second) y) cpu
+
+-- the head has made the row C7, and is to hand off to y, with the secondary queue
+pub record HasToldMore (head : Front) (y : NodeName) (old new : Cpu) : Type 0 where
+  pub goes : (m : NodeName)
+      → Steps head C7 (Precedes (Some m) y) C8 (Precedes (Some m) y) old new
+
+-- the head stands at C9, has read t, and the secondary queue is to return before a
+pub record MayAppendRest (head : Front) (a t : NodeName) (cpu : Cpu) : Type 0 where
+  pub second : NodeName
+  pub at : At head C9 (Returns second a t) cpu
+
+-- The head has made the row C9: its successor is the first of the secondary queue, and nobody is
+-- aside.
+pub record HasAppendedRest (head : Front) (a t : NodeName) (old new : Cpu) : Type 0 where
+  pub goes : (m : NodeName) → Steps head C9 (Returns m a t) C7 (Precedes None m) old new
+
+-- the head stands at C10, has read t, and the secondary queue is to be the rest of the main queue
+pub record MayPromote (head : Front) (t : NodeName) (cpu : Cpu) : Type 0 where
+  pub second : NodeName
+  pub at : At head C10 (Promoting second t) cpu
+
+-- The head has made the row C10. If it swapped the tail, the first of the secondary queue is its
+-- successor, and nobody is aside. Else it looks for a link again.
+pub record HasTriedToPromote (head : Front) (t : NodeName) (swapped : Bool) (old new : Cpu)
+    : Type 0 where
+  pub promoted : swapped ≡ true → (m : NodeName)
+      → Steps head C10 (Promoting m t) C7 (Precedes None m) old new
+  pub others : swapped ≡ false → (m : NodeName)
+      → Steps head C10 (Promoting m t) C1 (FrontsWith (Some m)) old new

@@ -1,5 +1,5 @@
-// A front that has the lock, from each place of its choice until the lead is handed on. It polls
-// after each look after which it stands where it stood.
+// A queue head that has the lock, from each place of its choice until it has handed off. It polls
+// the interrupt source after each read that leaves it at the same row.
 ghost use Rattle.std.specs.Prelude.{◌≡◌, IfSome, None, Some, true, false};
 ghost use Rattle.lk_machine.specs.declared.parts.Pc.TheVariants.{C1, C2, C3, C5, C7};
 ghost use Rattle.lk_run.specs.Heads.{At, Steps, Takes, Waiting, Wins, IsNodeOf, Fronts};
@@ -16,7 +16,7 @@ use lk_word::NodeName;
 use std::sync::Wait;
 
 impl<'a> Front<'a> {
-    // From C1, until it has chosen.
+    // From C1, until it has chosen its successor and handed off.
     pub(crate) fn choose<I: Irq, R: Wait>(&self, cpu: &mut Cpu, rt: &R, irq: &mut I)
         requires { Waiting self.now C1 Fronts cpu.old (I.polls irq.old) }
         ensures { Wins self.now C1 Fronts cpu.old (I.polls irq.old) cpu.new (I.polls irq.new) }
@@ -46,7 +46,7 @@ impl<'a> Front<'a> {
         unreachable!()
     }
 
-    // From C2: some are passed over, and the front looks for a local waiter behind them.
+    // From C2: it has passed over some waiters, and looks for a local waiter behind them.
     fn pass_over<I: Irq, R: Wait>(&self, cpu: &mut Cpu, rt: &R, irq: &mut I, skipped: Skipped)
         requires first { IsNodeOf self.now skipped.first }
         requires last { IsNodeOf self.now skipped.last }
@@ -87,7 +87,8 @@ impl<'a> Front<'a> {
         unreachable!()
     }
 
-    // From C3: those passed over go behind those that stand aside, and the lead goes to y.
+    // From C3: it moves the waiters that it has passed over behind the secondary queue, and hands
+    // off to y.
     fn append(&self, cpu: &mut Cpu, first: NodeName, skipped: Skipped, y: NodeName)
         requires first { IsNodeOf self.now first }
         requires a { IsNodeOf self.now skipped.first }
@@ -102,7 +103,8 @@ impl<'a> Front<'a> {
         self.part(cpu, first, skipped.last, y);
     }
 
-    // From C5: those passed over, which end with b, stand aside, and the lead goes to y.
+    // From C5: it cuts off the waiters that it has passed over, the last of which is b, makes b the
+    // last of the secondary queue, and hands off to y.
     fn part(&self, cpu: &mut Cpu, first: NodeName, b: NodeName, y: NodeName)
         requires first { IsNodeOf self.now first }
         requires b { IsNodeOf self.now b }
@@ -115,7 +117,7 @@ impl<'a> Front<'a> {
         self.give_aside(cpu, first, y);
     }
 
-    // From C3: those that stand aside return before a, and the lead goes to the first of them.
+    // From C3: the secondary queue returns before a, and the head hands off to the first of it.
     fn flush(&self, cpu: &mut Cpu, first: NodeName, a: NodeName, mark: bool)
         requires first { IsNodeOf self.now first }
         requires a { IsNodeOf self.now a }
@@ -128,8 +130,8 @@ impl<'a> Front<'a> {
         self.give_alone(cpu, first);
     }
 
-    // From C3: those that stand aside are all of the rest, unless somebody has come behind. True
-    // where the lead goes to the first of them.
+    // From C3: the secondary queue returns as all of the rest, unless another waiter has come.
+    // Returns true if it did: the first of it is the successor then.
     fn return_all(&self, cpu: &mut Cpu, first: NodeName) -> bool
         requires first { IsNodeOf self.now first }
         requires waits { At self.now C3 (Promotes first) cpu.old }
@@ -142,7 +144,7 @@ impl<'a> Front<'a> {
         self.promote(cpu, t)
     }
 
-    // From C7: the lead goes to y.
+    // From C7: it hands off to y.
     fn give(&self, cpu: &mut Cpu, y: NodeName)
         requires y { IsNodeOf self.now y }
         requires waits { At self.now C7 (Precedes self.now.second y) cpu.old }
@@ -154,7 +156,7 @@ impl<'a> Front<'a> {
         }
     }
 
-    // From C7 where nobody stands aside.
+    // From C7 without a secondary queue.
     fn give_alone(&self, cpu: &mut Cpu, y: NodeName)
         requires y { IsNodeOf self.now y }
         requires waits { At self.now C7 (Precedes None y) cpu.old }
@@ -164,7 +166,7 @@ impl<'a> Front<'a> {
         self.hand_chosen(cpu, None, y);
     }
 
-    // From C7 where somebody stands aside.
+    // From C7 with a secondary queue.
     fn give_aside(&self, cpu: &mut Cpu, first: NodeName, y: NodeName)
         requires first { IsNodeOf self.now first }
         requires y { IsNodeOf self.now y }

@@ -1,4 +1,4 @@
-// The rows of the front of a queue, one step each, up to the handover. The comments show a word as
+// The rows of a queue head, one step each, up to the handoff. The comments show a word as
 // (queue tail, pending, locked).
 ghost use Rattle.std.specs.Prelude.{◌≡◌, ◌≢◌, ◌⊎◌, true, false, IfSome, None};
 ghost use Rattle.lk_machine.specs.declared.parts.Pc.TheVariants.{G7, G8, G9, G10, G11, C1};
@@ -12,10 +12,10 @@ use lk_machine::{Flag, Pc};
 use lk_word::NodeName;
 
 impl<'a> Front<'a> {
-    // The row G7, and where it leads: back to G7 while the word is (*, 1, *) or (*, *, 1), to G8 by
-    // (own, 0, 0) with nobody aside, and else to G9 by (n, 0, 0). From (n, 0, 0) on nobody but the
-    // front may take the lock: a first row meets the tail, and a pending bit that is set on a word
-    // with a tail goes back.
+    // The row G7 polls the word. Returns where it leads: back to G7 by (*, 1, *) or (*, *, 1), to
+    // G8 by (own, 0, 0) without a secondary queue, and else to G9 by (n, 0, 0). From (n, 0, 0) on
+    // nobody but the head may acquire the lock: a first row meets the tail, and a pending bit that
+    // is set on a word with a tail is cleared again.
     pub(crate) fn wait_as_front(&self, cpu: &mut Cpu) -> Pc
         requires { At self.now G7 Fronts cpu.old }
         ensures place { (result ≡ G7) ⊎ (result ≡ G8) ⊎ (result ≡ G9) }
@@ -27,10 +27,10 @@ impl<'a> Front<'a> {
         after_look(word, self.own, stands_aside(self.second))
     }
 
-    // The row G8: true where it took the lock.
-    //   (own, 0, 0) -> (0, 0, 1): the front is the last of its queue too, so the queue ends, and
-    //   its node is free again.
-    //   any other word stays: somebody came behind, or a pending bit is about to go back.
+    // The row G8. Returns true if it acquired the lock.
+    //   (own, 0, 0) -> (0, 0, 1): the head is the last of its queue too, so the queue ends, and its
+    //   node is free again.
+    //   any other word stays: another waiter came, or a pending bit is about to be cleared.
     pub(crate) fn take_sole(&self, cpu: &mut Cpu) -> bool
         requires { At self.now G8 Fronts cpu.old }
         ensures taken { result ≡ true → Takes self.now G8 Fronts cpu.old cpu.new }
@@ -42,7 +42,7 @@ impl<'a> Front<'a> {
     }
 
     // The row G9: (n, *, 0) -> (n, *, 1). Nobody else stores into the locked byte of a free lock
-    // with a queue, so a plain store takes it; pending and the tail stay as the others set them.
+    // with a queue, so a plain store acquires it. Pending and the tail stay as the others set them.
     pub(crate) fn take_head(&self, cpu: &mut Cpu)
         requires { At self.now G9 Fronts cpu.old }
         ensures goes { moves_aside self.now.call.domain.now.plan.mode ≡ false
@@ -53,8 +53,9 @@ impl<'a> Front<'a> {
         steps::set_locked(cpu, self.call.domain, self.call.verb, self.call.lock);
     }
 
-    // The row G10: the node behind, once it has linked itself. One has come, since the tail is not
-    // this call's node, and it will.
+    // The row G10: polls the link of the own node. Returns the successor once that has linked
+    // itself. No clause says that one will: after a row G8 that failed for a pending bit alone
+    // there may be none, and then the head polls for ever.
     pub(crate) fn wait_for_next(&self, cpu: &mut Cpu) -> Option<NodeName>
         requires { At self.now G10 Fronts cpu.old }
         ensures node { IfSome result (IsNodeOf self.now) }
@@ -66,8 +67,8 @@ impl<'a> Front<'a> {
         node_met(self.call.domain, met)
     }
 
-    // The row G11: the flag of the next, unset -> go. The next is the front from here on, and the
-    // own node, which nobody looks at any more, is free again.
+    // The row G11, which hands off: the flag of the successor, unset -> go. The successor is the
+    // head from here on, and the own node, which nobody reads any more, is free again.
     pub(crate) fn hand_on(&self, cpu: &mut Cpu, next: NodeName)
         requires next { IsNodeOf self.now next }
         requires waits { At self.now G11 (Precedes self.now.second next) cpu.old }

@@ -1,4 +1,4 @@
-// What a front sees behind it that chooses whom to hand the lead.
+// What a queue head sees behind itself that chooses its successor.
 ghost use Rattle.std.specs.Prelude.{◌≡◌, ◌<◌, ◌||◌, ℕ, Option, Some, None, IfSome};
 ghost use Rattle.lk_abs.specs.Lawful.{same_socket};
 ghost use Rattle.lk_machine.specs.rows.Cna.{Sight};
@@ -12,22 +12,22 @@ use lk_abs::Format;
 use lk_domain::Domain;
 use lk_word::NodeName;
 
-// Behind the front.
+// Behind the head.
 #[derive(Clone, Copy)]
 pub(crate) enum First {
-    // Nobody is there, and nobody stands aside.
+    // Nobody is linked, and there is no secondary queue.
     Waits,
-    // Nobody is there, and this is the first of those that stand aside.
+    // Nobody is linked, and this is the first of the secondary queue.
     Promotes(NodeName),
-    // The next is this one.
+    // The successor is this one.
     Chooses(NodeName),
     // This one is passed over.
     Skips(NodeName),
-    // Those aside return, from the first of them, before the other.
+    // The secondary queue, of which this is the first, returns before the other.
     Flushes(NodeName, NodeName),
 }
 
-// What the front sees behind its own node, and the mark of the link in which it saw it.
+// What the head sees behind its own node, and the mark of the link in which it saw it.
 #[derive(Clone, Copy)]
 pub(crate) struct Behind {
     pub(crate) seen: First,
@@ -39,18 +39,19 @@ pub(crate) struct Behind {
 pub(crate) enum More {
     // This one is passed over too.
     Skips(NodeName),
-    // The next is the other, and those passed over go behind those aside, of whom this is the
-    // first.
+    // The successor is the other, and those that were passed over go behind the secondary queue, of
+    // which this is the first.
     Appends(NodeName, NodeName),
-    // The next is this one, and those passed over are the first to stand aside.
+    // The successor is this one, and those that were passed over begin a secondary queue.
     Begins(NodeName),
-    // Nobody is there, and this is the first of those that stand aside, who return.
+    // Nobody is linked, and this is the first of the secondary queue, which returns.
     Flushes(NodeName),
-    // Nobody is there, and nobody stands aside: the next is the first that was passed over.
+    // Nobody is linked, and there is no secondary queue: the successor is the first that was passed
+    // over.
     Chooses,
 }
 
-// Where a front stands: its processor, in its domain.
+// Where a head stands: its processor, in its domain.
 #[derive(Clone, Copy)]
 pub(crate) struct Site<'a> {
     pub(crate) domain: &'a Domain,
@@ -59,8 +60,8 @@ pub(crate) struct Site<'a> {
 }
 
 impl<'a> Site<'a> {
-    // What the front meets in the link of its own node, with its mark. It has counted so many
-    // handovers.
+    // What the head meets in the link of its own node, with its mark. It has counted so many
+    // handoffs.
     pub(crate) fn first_seen(
         &self,
         runs: u64,
@@ -96,7 +97,7 @@ impl<'a> Site<'a> {
         }
     }
 
-    // A waiter stands behind the front.
+    // A waiter is linked behind the head.
     fn somebody_behind(
         &self,
         runs: u64,
@@ -117,7 +118,7 @@ impl<'a> Site<'a> {
         }
     }
 
-    // A waiter stands behind those that were passed over.
+    // A waiter is linked behind those that were passed over.
     fn somebody_more(&self, second: Option<NodeName>, next: NodeName, mark: bool) -> More
         requires { IsNode self.now.domain.now.plan next }
         ensures { (r : Option ℕ)
@@ -153,7 +154,7 @@ fn stays(domain: &Domain, mark: bool) -> bool
     }
 }
 
-// Nobody is behind the front.
+// Nobody is linked behind the head.
 fn nobody_behind(second: Option<NodeName>) -> First
     ensures { (z : Sight) → result ≡ first_by z second None }
 {
@@ -163,7 +164,7 @@ fn nobody_behind(second: Option<NodeName>) -> First
     }
 }
 
-// The run is over.
+// The threshold is reached.
 fn run_over(second: Option<NodeName>, next: NodeName) -> First
     ensures { result ≡ over_by second next }
 {
@@ -173,7 +174,7 @@ fn run_over(second: Option<NodeName>, next: NodeName) -> First
     }
 }
 
-// Nobody is behind those that were passed over.
+// Nobody is linked behind those that were passed over.
 fn nobody_more(second: Option<NodeName>) -> More
     ensures { (z : Sight) → result ≡ more_by z second None }
 {
@@ -183,7 +184,7 @@ fn nobody_more(second: Option<NodeName>) -> More
     }
 }
 
-// A waiter that is local to the front was met.
+// A waiter that is local to the head was met.
 fn local_met(second: Option<NodeName>, next: NodeName) -> More
     ensures { result ≡ met_by second next }
 {

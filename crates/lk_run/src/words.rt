@@ -17,7 +17,7 @@ ghost use Rattle.lk_domain.specs.Words.{IsNode, link_number, flag_number, name_n
 use lk_abs::Mode;
 use lk_domain::Domain;
 use lk_machine::{Flag, Pc, is_tail, is_unlocked};
-use lk_word::{Fields, LOWEST_NODE, Locked, MARK, NodeName, node_numbered, unpack};
+use lk_word::{Fields, LOWEST_NODE, Locked, MARK, NodeName, node_of_name, unpack};
 
 // The fields of a word that a step met.
 #[inline]
@@ -45,7 +45,7 @@ pub(crate) fn node_met(domain: &Domain, met: u64) -> Option<NodeName>
     if name < LOWEST_NODE {
         return None;
     }
-    Some(node_numbered(name))
+    Some(node_of_name(name))
 }
 
 // The mark of a link that names a node: whether the call that uses the node is in a context above
@@ -71,7 +71,7 @@ pub(crate) fn flag_met(domain: &Domain, met: u64) -> Flag
     if met == 1 {
         return Flag::Go;
     }
-    Flag::Second(node_numbered(met))
+    Flag::Second(node_of_name(met))
 }
 
 // Whether the word is that of a free lock with one waiter in its queue, which has this node: nobody
@@ -126,7 +126,7 @@ pub(crate) fn tail_met(domain: &Domain, met: u64) -> NodeName
     requires tail { (node : Node) × IsNode domain.now.plan node × (met ≡ name_number node) }
     ensures { (node : Node) → IsNode domain.now.plan node → met ≡ name_number node → result ≡ node }
 {
-    node_numbered(met)
+    node_of_name(met)
 }
 
 // Whether somebody stands aside.

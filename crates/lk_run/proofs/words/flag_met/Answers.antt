@@ -11,13 +11,13 @@ returns-then-met-eq0 c flag node is = sym (unset_flag c.args.domain.now.plan c.a
 pub returns-then-met-eq1 : goal.returns-then-met-eq1
 returns-then-met-eq1 c flag node is = sym (go_flag c.args.domain.now.plan c.args.met flag node is c.if-met-eq1.true)
 
-pub node_numbered-requires-clause-unmarked : goal.node_numbered-requires-clause-unmarked
-node_numbered-requires-clause-unmarked c =
+pub node_of_name-requires-clause-unmarked : goal.node_of_name-requires-clause-unmarked
+node_of_name-requires-clause-unmarked c =
     let flag = c.requires.flag in
     let small = small_flag c.args.domain.now.plan c.args.met flag.0 flag.1 flag.2 c.args.domain.now.lawful.cpus in
     omega (arith, small)
 
 pub returns : goal.returns
 returns c flag node is =
-    ap (λ (n : NodeName). let f : Flag = Second n in f) c.node_numbered.ensures
+    ap (λ (n : NodeName). let f : Flag = Second n in f) c.node_of_name.ensures
     ∙ second_flag c.args.domain.now.plan c.args.met flag node is c.if-met-eq0.false c.if-met-eq1.false

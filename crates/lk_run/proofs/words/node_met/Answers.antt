@@ -8,8 +8,8 @@ returns-then-name-lt-LOWEST_NODE c node mark has is =
     let k = c.args.domain.now.plan in
     sym (no_link (c.args.met % 4294967296) node (name_is k c.args.met mark node has is c.args.domain.now.lawful.cpus) c.if-name-lt-LOWEST_NODE.true)
 
-pub node_numbered-requires-clause-unmarked : goal.node_numbered-requires-clause-unmarked
-node_numbered-requires-clause-unmarked c =
+pub node_of_name-requires-clause-unmarked : goal.node_of_name-requires-clause-unmarked
+node_of_name-requires-clause-unmarked c =
     let link = c.requires.link in
     let k = c.args.domain.now.plan in
     let cpus = c.args.domain.now.lawful.cpus in
@@ -19,6 +19,6 @@ node_numbered-requires-clause-unmarked c =
 pub returns : goal.returns
 returns c node mark has is =
     let k = c.args.domain.now.plan in
-    ap (λ (n : NodeName). Some n) c.node_numbered.ensures
+    ap (λ (n : NodeName). Some n) c.node_of_name.ensures
     ∙ some_link k (c.args.met % 4294967296) node has (name_is k c.args.met mark node has is c.args.domain.now.lawful.cpus)
     (let low = c.if-name-lt-LOWEST_NODE.false in omega (arith, low))

@@ -9,24 +9,26 @@ use Rattle.lk_run.proofs.Calling as on
 use Rattle.lk_run.proofs.call.Front.append_moved.Goals as goal
 
 pub append-requires-clause-domain : goal.append-requires-clause-domain
-append-requires-clause-domain c = c.requires.waits.3.domain
+append-requires-clause-domain c = c.requires.waits.at.domain
 
 pub append-requires-clause-row : goal.append-requires-clause-row
 append-requires-clause-row c =
-    let at = c.requires.waits.3.waits.looked.at in
+    let at = c.requires.waits.at.waits.looked.at in
     record {
       lock = c.args.self.now.call.lock;
       row = C4;
       is = refl;
-      at = on.at_row c.requires.waits.3;
+      at = on.at_row c.requires.waits.at;
       t = at.has.tail;
       a = at.has.a_is;
       marks = ap (λ (rs : List Running). told (newest rs)) (sym at.frames) ∙ c.requires.knows;
     }
 
 pub returns : goal.returns
-returns c first b y =
+returns c =
     let q = c.args.self.now in
     let met = c.append.ensures.met.by in
-    on.steps_by c.requires.waits.3.domain c.append.ensures.rest (Linked met.found met.mark) (λ i. (met.seat i).0) C5 (Parts q.own first b y) (λ e. cc e)
-    (λ f has. choice.ties _ _ f q.own first c.args.a b y c.args.t met.found has)
+    record {
+      goes = λ first b y. on.steps_by c.requires.waits.at.domain c.append.ensures.rest (Linked met.found met.mark) (λ i. (met.seat i).0) C5 (Parts q.own first b y) (λ e. cc e)
+          (λ f has. choice.ties _ _ f q.own first c.args.a b y c.args.t met.found has);
+    }

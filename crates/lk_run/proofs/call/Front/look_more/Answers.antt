@@ -16,11 +16,11 @@ use Rattle.lk_run.proofs.Stepped as way
 use Rattle.lk_run.proofs.call.Front.look_more.Goals as goal
 
 pub look_next-met-requires-clause-domain : goal.look_next-met-requires-clause-domain
-look_next-met-requires-clause-domain c = c.requires.waits.1.domain
+look_next-met-requires-clause-domain c = c.requires.waits.at.domain
 
 pub look_next-met-requires-clause-row : goal.look_next-met-requires-clause-row
 look_next-met-requires-clause-row c =
-    record { lock = c.args.self.now.call.lock; at = on.at_row c.requires.waits.1; b = c.requires.waits.1.waits.looked.at.has.last }
+    record { lock = c.args.self.now.call.lock; at = on.at_row c.requires.waits.at; b = c.requires.waits.at.waits.looked.at.has.last }
 
 pub node_met-requires : goal.node_met-requires
 node_met-requires c =
@@ -28,7 +28,7 @@ node_met-requires c =
     let d = q.call.domain.now in
     let a = c.args.cpu.now in
     let m = c.look_next-met.new.cpu in
-    let of = c.requires.waits.1.domain in
+    let of = c.requires.waits.at.domain in
     let seen = c.look_next-met.ensures.seen.by in
     let node = subst (λ (k : Plan). IfSome seen.found (IsNode k)) of.plan seen.node in
     record { link = (seen.found, seen.mark, node, seen.word) }
@@ -39,7 +39,7 @@ more_seen-requires c =
     let d = q.call.domain.now in
     let a = c.args.cpu.now in
     let m = c.look_next-met.new.cpu in
-    let of = c.requires.waits.1.domain in
+    let of = c.requires.waits.at.domain in
     let seen = c.look_next-met.ensures.seen.by in
     let node = subst (λ (k : Plan). IfSome seen.found (IsNode k)) of.plan seen.node in
     let is = c.node_met.ensures seen.found seen.mark node seen.word in
@@ -51,7 +51,7 @@ returns c =
     let d = q.call.domain.now in
     let a = c.args.cpu.now in
     let m = c.look_next-met.new.cpu in
-    let of = c.requires.waits.1.domain in
+    let of = c.requires.waits.at.domain in
     let rest = c.look_next-met.ensures.rest in
     let seen = c.look_next-met.ensures.seen.by in
     let node = subst (λ (k : Plan). IfSome seen.found (IsNode k)) of.plan seen.node in
@@ -77,6 +77,6 @@ returns c =
           (λ f has. choice.more_chooses _ _ f q.own q.second seen.found a' c.args.b has (sees_it ∙ e));
       knows = λ first mark was.
           way.told_on_row d q.call.verb q.call.lock a m rest of (Linked seen.found seen.mark) (λ i. (seen.seat i).0) C2
-          (Skips q.own q.second c.requires.waits.0 c.args.b) Outside (on.standing c.requires.waits.1) (choice.more_pc c.more_seen.result)
+          (Skips q.own q.second c.requires.waits.skipped c.args.b) Outside (on.standing c.requires.waits.at) (choice.more_pc c.more_seen.result)
           (λ f has. choice.more_goes d.plan.mode m.number (sees d a m) f q.second seen.found seen.mark has.fronts.second c.more_seen.result sees_it) ∙ was;
     }

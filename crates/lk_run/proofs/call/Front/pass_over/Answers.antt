@@ -10,7 +10,7 @@ pub look_more-requires-clause-b : goal.look_more-requires-clause-b
 look_more-requires-clause-b g c = c.loop.invariant.2
 
 pub look_more-requires-clause-waits : goal.look_more-requires-clause-waits
-look_more-requires-clause-waits g c = (c.args.skipped.first, on.stands (on.reached c.loop.invariant.3 c.requires.waits))
+look_more-requires-clause-waits g c = record { skipped = c.args.skipped.first; at = on.stands (on.reached c.loop.invariant.3 c.requires.waits) }
 
 pub give_way-requires : goal.give_way-requires
 give_way-requires g c =

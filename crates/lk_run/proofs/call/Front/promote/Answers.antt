@@ -13,11 +13,11 @@ use Rattle.lk_run.proofs.Calling as on
 use Rattle.lk_run.proofs.call.Front.promote.Goals as goal
 
 pub tail_to_second-met-requires-clause-domain : goal.tail_to_second-met-requires-clause-domain
-tail_to_second-met-requires-clause-domain c = c.requires.waits.1.domain
+tail_to_second-met-requires-clause-domain c = c.requires.waits.at.domain
 
 pub tail_to_second-met-requires-clause-row : goal.tail_to_second-met-requires-clause-row
 tail_to_second-met-requires-clause-row c =
-    let at = c.requires.waits.1 in
+    let at = c.requires.waits.at in
     record {
       acts = on.acts_in at (promotes_by c.args.self.now.call.verb) (on.patient at);
       me = at.waits.looked.at.has.fronts.me;
@@ -29,27 +29,20 @@ word_met-requires c =
     let q = c.args.self.now in
     let step = c.tail_to_second-met.ensures.step in
     let made = step.by in
-    let met = met_by q.call.domain.now c.args.cpu.now c.tail_to_second-met.new.cpu c.requires.waits.1.domain step in
+    let met = met_by q.call.domain.now c.args.cpu.now c.tail_to_second-met.new.cpu c.requires.waits.at.domain step in
     record { word = (made.found, met.packs, met.word) }
 
-pub returns-clause-promoted : goal.returns-clause-promoted
-returns-clause-promoted c is first =
+pub returns : goal.returns
+returns c =
     let q = c.args.self.now in
     let step = c.tail_to_second-met.ensures.step in
     let made = step.by in
-    let met = met_by q.call.domain.now c.args.cpu.now c.tail_to_second-met.new.cpu c.requires.waits.1.domain step in
-    on.steps_by c.requires.waits.1.domain c.tail_to_second-met.ensures.rest (Word made.found) (on.word c.requires.waits.1 c.tail_to_second-met.ensures.rest made)
-    C7 (Precedes q.own None first) (λ e. cc e)
-    (λ f has. choice.promoted _ _ f made.found q.own first c.args.t has
-    (sym (c.is_last.ensures ∙ ap (λ (y : Fields). is_held y.locked && not y.pending && is_node y.tail q.own) (c.word_met.ensures made.found met.packs met.word)) ∙ is))
-
-pub returns-clause-others : goal.returns-clause-others
-returns-clause-others c is first =
-    let q = c.args.self.now in
-    let step = c.tail_to_second-met.ensures.step in
-    let made = step.by in
-    let met = met_by q.call.domain.now c.args.cpu.now c.tail_to_second-met.new.cpu c.requires.waits.1.domain step in
-    on.steps_by c.requires.waits.1.domain c.tail_to_second-met.ensures.rest (Word made.found) (on.word c.requires.waits.1 c.tail_to_second-met.ensures.rest made)
-    C1 (Fronts q.own (Some first)) (λ e. cc e)
-    (λ f has. choice.not_promoted _ _ f made.found q.own first c.args.t has
-    (sym (c.is_last.ensures ∙ ap (λ (y : Fields). is_held y.locked && not y.pending && is_node y.tail q.own) (c.word_met.ensures made.found met.packs met.word)) ∙ is))
+    let met = met_by q.call.domain.now c.args.cpu.now c.tail_to_second-met.new.cpu c.requires.waits.at.domain step in
+    let seat = on.word c.requires.waits.at c.tail_to_second-met.ensures.rest made in
+    let last = c.is_last.ensures ∙ ap (λ (y : Fields). is_held y.locked && not y.pending && is_node y.tail q.own) (c.word_met.ensures made.found met.packs met.word) in
+    record {
+      promoted = λ is first. on.steps_by c.requires.waits.at.domain c.tail_to_second-met.ensures.rest (Word made.found) seat C7 (Precedes q.own None first) (λ e. cc e)
+          (λ f has. choice.promoted _ _ f made.found q.own first c.args.t has (sym last ∙ is));
+      others = λ is first. on.steps_by c.requires.waits.at.domain c.tail_to_second-met.ensures.rest (Word made.found) seat C1 (Fronts q.own (Some first)) (λ e. cc e)
+          (λ f has. choice.not_promoted _ _ f made.found q.own first c.args.t has (sym last ∙ is));
+    }

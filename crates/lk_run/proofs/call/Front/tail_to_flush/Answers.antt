@@ -13,18 +13,18 @@ use Rattle.lk_run.proofs.Stepped as way
 use Rattle.lk_run.proofs.call.Front.tail_to_flush.Goals as goal
 
 pub second_tail-met-requires-clause-domain : goal.second_tail-met-requires-clause-domain
-second_tail-met-requires-clause-domain c = c.requires.waits.1.domain
+second_tail-met-requires-clause-domain c = c.requires.waits.at.domain
 
 pub second_tail-met-requires-clause-row : goal.second_tail-met-requires-clause-row
 second_tail-met-requires-clause-row c =
-    record { lock = c.args.self.now.call.lock; at = on.at_row c.requires.waits.1; second = c.requires.waits.1.waits.looked.at.has.fronts.second }
+    record { lock = c.args.self.now.call.lock; at = on.at_row c.requires.waits.at; second = c.requires.waits.at.waits.looked.at.has.fronts.second }
 
 pub tail_met-requires : goal.tail_met-requires
 tail_met-requires c =
     let q = c.args.self.now in
     let d = q.call.domain.now in
     let m = c.second_tail-met.new.cpu in
-    let of = c.requires.waits.1.domain in
+    let of = c.requires.waits.at.domain in
     let seen = (c.second_tail-met.ensures.seen refl).by in
     let node = subst (λ (k : Plan). IsNode k seen.found) of.plan seen.node in
     record { tail = (seen.found, node, seen.word) }
@@ -34,8 +34,8 @@ returns c =
     let q = c.args.self.now in
     let d = q.call.domain.now in
     let m = c.second_tail-met.new.cpu in
-    let stands = c.requires.waits in
-    let of = stands.1.domain in
+    let needs = c.requires.waits in
+    let of = needs.at.domain in
     let rest = c.second_tail-met.ensures.rest in
     let seen = (c.second_tail-met.ensures.seen refl).by in
     let node = subst (λ (k : Plan). IsNode k seen.found) of.plan seen.node in
@@ -47,6 +47,6 @@ returns c =
           (choice.flushes_tail _ _ f q.own c.args.first a seen.found has));
       knows = λ node' mark was.
           way.told_on_row d q.call.verb q.call.lock c.args.cpu.now m rest of (Named (Some seen.found)) (λ i. (seen.seat i).0) C3
-          (Flushes q.own c.args.first stands.0) Outside (on.standing stands.1) C9
-          (λ f has. (choice.flushes_tail d.plan.mode m.number {z = sees d c.args.cpu.now m} f q.own c.args.first stands.0 seen.found has).place) ∙ was;
+          (Flushes q.own c.args.first needs.waiter) Outside (on.standing needs.at) C9
+          (λ f has. (choice.flushes_tail d.plan.mode m.number {z = sees d c.args.cpu.now m} f q.own c.args.first needs.waiter seen.found has).place) ∙ was;
     }

@@ -14,7 +14,7 @@ use Rattle.lk_run.proofs.Calling as on
 use Rattle.lk_run.proofs.call.Front.tell_more.Goals as goal
 
 pub own_runs-runs-requires-clause-domain : goal.own_runs-runs-requires-clause-domain
-own_runs-runs-requires-clause-domain c = c.requires.waits.1.domain
+own_runs-runs-requires-clause-domain c = c.requires.waits.at.domain
 
 pub own_runs-runs-requires-clause-row : goal.own_runs-runs-requires-clause-row
 own_runs-runs-requires-clause-row c =
@@ -22,27 +22,27 @@ own_runs-runs-requires-clause-row c =
       lock = c.args.self.now.call.lock;
       row = C7;
       is = refl;
-      at = on.at_row c.requires.waits.1;
-      me = c.requires.waits.1.waits.looked.at.has.fronts.me;
+      at = on.at_row c.requires.waits.at;
+      me = c.requires.waits.at.waits.looked.at.has.fronts.me;
     }
 
 pub prove-unreachable-requires : goal.prove-unreachable-requires
 prove-unreachable-requires c =
-    let short = c.own_runs-runs.ensures.seen.by.short c.args.self.now.call.verb c.args.self.now.call.lock (on.at_row c.requires.waits.1).stands
-    (ap is_some c.requires.waits.1.waits.looked.at.has.fronts.second) in
+    let short = c.own_runs-runs.ensures.seen.by.short c.args.self.now.call.verb c.args.self.now.call.lock (on.at_row c.requires.waits.at).stands
+    (ap is_some c.requires.waits.at.waits.looked.at.has.fronts.second) in
     let is = c.threshold-threshold.ensures in
-    let plan = ap (λ (k : Plan). k.threshold) c.requires.waits.1.domain.plan in
+    let plan = ap (λ (k : Plan). k.threshold) c.requires.waits.at.domain.plan in
     let no = c.if-prove.true in omega (arith, short, is, plan, no)
 
 pub store_runs-requires-clause-domain : goal.store_runs-requires-clause-domain
 store_runs-requires-clause-domain c =
-    still_of c.args.self.now.call.domain.now c.args.cpu.now c.own_runs-runs.new.cpu c.own_runs-runs.ensures.rest c.requires.waits.1.domain
+    still_of c.args.self.now.call.domain.now c.args.cpu.now c.own_runs-runs.new.cpu c.own_runs-runs.ensures.rest c.requires.waits.at.domain
 
 pub store_runs-requires-clause-row : goal.store_runs-requires-clause-row
 store_runs-requires-clause-row c =
     let r = c.own_runs-runs.result in
     let same : view_of c.own_runs-runs.new.cpu ≡ counting r (view_of c.args.cpu.now) = (λ i. (c.own_runs-runs.ensures.seen.by.seat i).0) in
-    let now = on.counted c.own_runs-runs.ensures.rest r same c.requires.waits.1 in
+    let now = on.counted c.own_runs-runs.ensures.rest r same c.requires.waits.at in
     let at = now.waits.looked.at in
     record {
       lock = c.args.self.now.call.lock;
@@ -56,11 +56,13 @@ store_runs-requires-clause-row c =
     some_none e = cc e
 
 pub returns : goal.returns
-returns c first =
+returns c =
     let r = c.own_runs-runs.result in
     let same : view_of c.own_runs-runs.new.cpu ≡ counting r (view_of c.args.cpu.now) = (λ i. (c.own_runs-runs.ensures.seen.by.seat i).0) in
     let q = c.args.self.now in
-    on.counted_steps c.own_runs-runs.ensures.rest r same
-    (on.steps_by (still_of q.call.domain.now c.args.cpu.now c.own_runs-runs.new.cpu c.own_runs-runs.ensures.rest c.requires.waits.1.domain) c.store_runs.ensures.rest
-    (Number c.store_runs.result) (λ i. (c.store_runs.ensures.row.by i).0) C8 (Precedes q.own (Some first) c.args.y) (λ e. cc e)
-    (λ f has. choice.counts _ _ f q.own (Some first) c.args.y c.store_runs.result has))
+    record {
+      goes = λ first. on.counted_steps c.own_runs-runs.ensures.rest r same
+          (on.steps_by (still_of q.call.domain.now c.args.cpu.now c.own_runs-runs.new.cpu c.own_runs-runs.ensures.rest c.requires.waits.at.domain) c.store_runs.ensures.rest
+          (Number c.store_runs.result) (λ i. (c.store_runs.ensures.row.by i).0) C8 (Precedes q.own (Some first) c.args.y) (λ e. cc e)
+          (λ f has. choice.counts _ _ f q.own (Some first) c.args.y c.store_runs.result has));
+    }
