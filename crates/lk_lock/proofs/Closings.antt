@@ -1,17 +1,17 @@
 -- The keys of a domain that is closed.
-use Rattle.std.proofs.Common.{◌≡◌, ℕ, zero, suc, ◌+◌, ◌*◌, ◌<◌, List, [], ◌∷◌, length, Option, Some, None, refl, sym, ap, ◌∙◌, subst, arith}
+use Rattle.std.proofs.Common.{◌≡◌, ℕ, zero, suc, ◌<◌, List, [], ◌∷◌, length, Option, Some, None, refl, sym, ap, ◌∙◌, subst, arith}
 use Rattle.std.specs.Prelude.{slice_get, slice_index_or, slice_set}
 use Rattle.atomic_table.specs.Seated.{TableId}
 use Rattle.lk_abs.proofs.Places.{slice_get-set_other}
 use Rattle.lk_cell.specs.Latched.{IsKey}
-use Rattle.lk_domain.specs.Values.{Key, Slot, Fits, AreLaid, cell_of, id_of, keys_of, lodged}
-use Rattle.lk_domain.specs.Plans.{locks_of}
+use Rattle.lk_domain.specs.Values.{Key, Slot, Fits, AreLaid, id_of, keys_of, lodged}
 use Rattle.lk_domain.specs.declared.plan.Plan.{Plan}
 use Rattle.lk_domain.specs.declared.slot.Stowed.TheVariants.{CellKey}
 use Rattle.lk_abs.specs.declared.names.Kind.TheVariants.{Rw}
 use Rattle.lk_lock.specs.Ended.{HasAllKeys, HasKeyOf, KeepsOthers}
 use Rattle.lk_lock.specs.Standing.{IsSharedUnder}
 use Rattle.lk_lock.specs.declared.keys.Keys.{Keys}
+use Rattle.lk_lock.proofs.Laid.{own_under}
 
 -- what stands at a place of the list
 record StandsAt (xs : List (Option Key)) (l : ℕ) : Type 0 where
@@ -69,5 +69,4 @@ pub shared_key : (k : Plan) (keys : Keys) (l : ℕ) (cells : List TableId) → H
     → (cell : TableId) × (slice_get cells 0 ≡ Some cell) × HasKeyOf keys l cell
 shared_key k keys l [] all is = let many = is.many in absurd (omega (arith, many))
 shared_key k keys l (c ∷ cs) all is =
-    let own : l ≡ 0 * locks_of k + l = omega arith in
-    (c, refl, all Rw l c (record { low = is.low; kind_is = is.kind_is; cell_is = ap (cell_of k) own ∙ is.cells_are 0 c refl }))
+    (c, refl, all Rw l c (own_under k l (c ∷ cs) c is refl))

@@ -157,11 +157,6 @@ pub firsts_more : (done : List (ListOf Key)) (x : ListOf Key) → firsts done ++
 firsts_more [] x = refl
 firsts_more (y ∷ done) x = ap (λ (xs : List (Option Key)). slice_get y.items 0 ∷ xs) (firsts_more done x)
 
-pub none_left : (done left : List (ListOf Key)) → length done ≡ length (done ++ left) → left ≡ []
-none_left [] [] e = refl
-none_left [] (x ∷ left) e = absurd (omega (arith, e))
-none_left (y ∷ done) left e = none_left done left (omega (arith, e))
-
 -- the names of cells
 
 pub many_names : {T F : Type 0} (cells : List (KeyCell T F)) → length (names_of cells) ≡ length cells

@@ -1,7 +1,8 @@
 pub mod Marks
 pub mod Steps
 pub mod Laid
-pub mod Copies
 pub mod Mades
 pub mod Resting
 pub mod Closings
+pub mod PvSteps
+pub mod PvResting

@@ -1,6 +1,7 @@
 -- A lock more among those to be made, and all of them in a domain.
-use Rattle.std.proofs.Common.{◌≡◌, ℕ, ◌+◌, ◌*◌, ◌<◌, List, [], ◌∷◌, ◌++◌, length, Option, Some, true, refl, sym, ap, ◌∙◌, subst}
+use Rattle.std.proofs.Common.{◌≡◌, ℕ, zero, suc, ◌+◌, ◌*◌, ◌<◌, All, List, [], ◌∷◌, ◌++◌, length, get_or, Option, Some, true, refl, sym, ap, ◌∙◌, subst, arith}
 use Rattle.std.specs.Prelude.{slice_get}
+use Rattle.std.proofs.lemmas.List.Elements.{All-append}
 use Rattle.std.proofs.lemmas.Option.{slice_get_within, get_or_from_slice_get}
 use Rattle.atomic_table.specs.Seated.{TableId}
 use Rattle.lk_abs.proofs.ByIndex.{get-append_new, get-append_old}
@@ -11,7 +12,7 @@ use Rattle.lk_domain.specs.Plans.{cpus_of, locks_of, kind_at}
 use Rattle.lk_domain.specs.Values.{Key, cell_of, id_of, keys_of}
 use Rattle.lk_domain.specs.declared.plan.Plan.{Plan}
 use Rattle.lk_lock.specs.Cells.{AreKeysOf, laid}
-use Rattle.lk_lock.specs.Made.{AreAmong, AreMade, AreSharedMade, Keeps, KeepsShared}
+use Rattle.lk_lock.specs.Made.{AreAmong, AreMade, AreSharedMade, AreSpins, Keeps, KeepsShared}
 use Rattle.lk_lock.specs.declared.locks.Locks.{Locks}
 use Rattle.lk_lock.proofs.Laid.{key_at, laid_at, none_before}
 
@@ -50,19 +51,52 @@ module _ (old new : Locks) (kind : Kind) (keys : ListOf Key) (kinds : new.kinds.
         fit = fit;
       }
 
+-- the kinds of a plan's locks are those of the locks to be made
+pub record HasKinds (locks : Locks) (k : Plan) : Type 0 where
+  pub many : locks_of k ≡ length locks.kinds.items
+  pub each : (l : ℕ) (kind : Kind) → slice_get locks.kinds.items l ≡ Some kind → kind_at k l ≡ kind
+
+-- where they are the same list
+pub same_kinds : (locks : Locks) (k : Plan) → k.locks.items ≡ locks.kinds.items → HasKinds locks k
+same_kinds locks k same =
+    record {
+      many = ap (λ (xs : List Kind). length xs) same;
+      each = λ l kind is.
+          get_or_from_slice_get k.locks.items l kind Spin (ap (λ (xs : List Kind). slice_get xs l) same ∙ is);
+    }
+
+-- and where all are spinlocks
+
+is_spin : (kinds : List Kind) (l : ℕ) (kind : Kind) → All (λ (x : Kind). x ≡ Spin) kinds → slice_get kinds l ≡ Some kind
+    → Spin ≡ kind
+is_spin kinds l kind all is =
+    sym (all l Spin (slice_get_within kinds l kind is)) ∙ get_or_from_slice_get kinds l kind Spin is
+
+pub spin_kinds : (locks : Locks) (k : Plan) → AreSpins locks → locks_of k ≡ length locks.kinds.items
+    → ((l : ℕ) → kind_at k l ≡ Spin) → HasKinds locks k
+spin_kinds locks k spins many each =
+    record { many = many; each = λ l kind is. each l ∙ is_spin locks.kinds.items l kind spins is }
+
+-- one spinlock more
+
+one_spin : (l : ℕ) (d : Kind) → l < 1 → get_or (Spin ∷ []) l d ≡ Spin
+one_spin zero d low = refl
+one_spin (suc l) d low = absurd (omega (arith, low))
+
+pub more_spins : (old new : Locks) → new.kinds.items ≡ old.kinds.items ++ Spin ∷ [] → AreSpins old → AreSpins new
+more_spins old new is spins =
+    subst (All (λ (kind : Kind). kind ≡ Spin)) (sym is)
+    (All-append (λ (kind : Kind). kind ≡ Spin) old.kinds.items (Spin ∷ []) spins one_spin)
+
 -- a domain of these locks has them
-module _ (locks : Locks) (k : Plan) (n : ℕ) (kinds : k.locks.items ≡ locks.kinds.items)
+module _ (locks : Locks) (k : Plan) (n : ℕ) (kinds : HasKinds locks k)
     (keys : keys_of k ≡ laid n locks.keys.items) (same : length locks.keys.items ≡ length locks.kinds.items) where
   low : (kind : Kind) (l : ℕ) (cells : List TableId) → AreAmong locks kind l cells → l < locks_of k
   low kind l cells is =
-      subst (λ (xs : List Kind). l < length xs) (sym kinds) (slice_get_within locks.kinds.items l kind is.kind_is)
-
-  kind_of : (kind : Kind) (l : ℕ) (cells : List TableId) → AreAmong locks kind l cells → kind_at k l ≡ kind
-  kind_of kind l cells is =
-      get_or_from_slice_get k.locks.items l kind Spin (ap (λ (xs : List Kind). slice_get xs l) kinds ∙ is.kind_is)
+      subst (λ (m : ℕ). l < m) (sym kinds.many) (slice_get_within locks.kinds.items l kind is.kind_is)
 
   many : length locks.keys.items ≡ locks_of k
-  many = same ∙ ap (λ (xs : List Kind). length xs) (sym kinds)
+  many = same ∙ sym kinds.many
 
   cell_at : (kind : Kind) (l h : ℕ) (cells : List TableId) (cell : TableId) → AreAmong locks kind l cells → h < n
       → slice_get cells h ≡ Some cell → cell_of k (h * locks_of k + l) ≡ Some cell
@@ -76,7 +110,7 @@ module _ (locks : Locks) (k : Plan) (n : ℕ) (kinds : k.locks.items ≡ locks.k
   made some kind l cell is =
       record {
         low = low kind l (cell ∷ []) is;
-        kind_is = kind_of kind l (cell ∷ []) is;
+        kind_is = kinds.each l kind is.kind_is;
         cell_is = ap (λ (q : ℕ). cell_of k q) (sym (none_before (locks_of k) l)) ∙ cell_at kind l 0 (cell ∷ []) cell is some refl;
       }
 
@@ -84,7 +118,7 @@ module _ (locks : Locks) (k : Plan) (n : ℕ) (kinds : k.locks.items ≡ locks.k
   shared_made copied cpus l cells is =
       record {
         low = low Rw l cells is.among;
-        kind_is = kind_of Rw l cells is.among;
+        kind_is = kinds.each l Rw is.among.kind_is;
         many = is.many ∙ ap (λ (m : ℕ). 1 + m) (sym cpus);
         cells_are = λ h cell here. cell_at Rw l h cells cell is.among
             (subst (λ (m : ℕ). h < m) (is.many ∙ sym (copied is.copied)) (slice_get_within cells h cell here)) here;

@@ -1,18 +1,18 @@
--- How a processor stands after each of the four steps: the lock, its value out, its value home, and the
--- lock freed.
-use Rattle.std.proofs.Common.{◌≡◌, ℕ, ◌<◌, List, [], ◌∷◌, length, Bool, true, false, refl, sym, ap, ◌∙◌, subst}
+-- How a processor stands once it has taken a lock, and once it has freed it; and in between, with the
+-- value of the lock out, and home again.
+use Rattle.std.proofs.Common.{◌≡◌, ℕ, ◌<◌, List, [], ◌∷◌, length, Bool, true, false, refl, sym, ap, ◌∙◌, subst, Some}
 use Rattle.std.specs.Prelude.{if◌then◌else◌}
 use Rattle.lk_abs.specs.declared.holder.Manner.{Manner}
 use Rattle.lk_abs.specs.declared.holder.Manner.TheVariants.{Spins, Writes}
 use Rattle.lk_abs.specs.declared.names.LockName.{LockName}
 use Rattle.lk_machine.specs.declared.setup.Verb.{Verb}
 use Rattle.lk_machine.specs.declared.setup.Verb.TheVariants.{TryWrite}
-use Rattle.lk_domain.specs.Calls.{Terms, Mark, Running, Hold, hold, Calls, Frees, holds_in, hold_in, lock_name, moved_to, free_of}
+use Rattle.lk_domain.specs.Calls.{Terms, Mark, Running, Hold, hold, Calls, Frees, holds_in, hold_in, way_in, lock_name, moved_to, free_of}
 use Rattle.lk_domain.specs.Ledgers.{Ledger, turned, closed, is_first}
-use Rattle.lk_domain.specs.Paths.{HasLooked, HasFreed}
+use Rattle.lk_domain.specs.Paths.{HasLooked, HasFreed, HasTaken}
 use Rattle.lk_domain.specs.Plans.{cpus_of}
-use Rattle.lk_domain.specs.Seats.{IsSame, KeepsRest, TakesValueAt, BringsValueOf, calls_of, ledger_of, view_of}
-use Rattle.lk_domain.specs.Values.{IsClear, IsHomeWith, IsNewestAt, is_sole, marked_out, older, outs_of}
+use Rattle.lk_domain.specs.Seats.{IsSame, IsStill, KeepsRest, TakesValueAt, BringsValueOf, calls_of, ledger_of, view_of}
+use Rattle.lk_domain.specs.Values.{IsClear, IsHomeWith, IsNewestAt, is_sole, marked_out, older, out_in, outs_of}
 use Rattle.lk_domain.specs.Waits.{Gains, Misses}
 use Rattle.lk_domain.specs.Who.{Who}
 use Rattle.lk_domain.specs.declared.cpu.Cpu.{Cpu}
@@ -22,8 +22,11 @@ use Rattle.lk_domain.specs.declared.view.View.{View}
 use Rattle.lk_run.specs.Entering.{HasLeft}
 use Rattle.lk_machine.specs.declared.parts.Pc.{Pc}
 use Rattle.lk_machine.specs.declared.parts.Pc.TheVariants.{Z2}
-use Rattle.lk_lock.specs.Standing.{IsAsBefore, IsInside, IsInsideAt, IsReady, HasGot, HasTurned, HasGotIn, HasBeenIn, HasWrittenOnce, holds_of, valued}
-use Rattle.lk_lock.proofs.Marks.{still_of, turned_out, found, marked, dropped}
+use Rattle.lk_lock.specs.Standing.{HasBeenIn, HasComeIn, HasTurned, HasWrittenOnce, IsAsBefore, IsHolding, IsInside, IsInsideAt, IsReady, holds_of}
+use Rattle.lk_abs.specs.Names.{same_lock}
+use Rattle.lk_law.proofs.common.Puts.{if-true}
+use Rattle.lk_law.proofs.common.Sames.{same_lock-self}
+use Rattle.lk_lock.proofs.Marks.{still_of, turned_out, found, held, marked, dropped, out_home}
 
 -- a look that ends leaves the journal where it is
 closed_out : (g : Ledger) (n : LockName) (t : List Mark) → (turned g n Frees t).out ≡ g.out
@@ -112,41 +115,78 @@ pub newest : (l n : ℕ) (m : Manner) (old : Calls) (hs : List Hold) → old.fra
 newest l n m old hs none is =
     is ∙ ap (λ (rs : List Running). hold (length rs) (lock_name l) m n ∷ old.holds) none
 
-module _ (l n : ℕ) (m : Manner) (hs : List Hold) (rest : List Hold)
-    (is : hs ≡ hold 0 (lock_name l) m n ∷ rest) where
-  -- its value is home, and the lock is held alone
-  pub at_home : is_sole m ≡ true → IsHomeWith l hs
-  at_home sole =
+-- it has taken the lock last
+pub holding : (l n : ℕ) (m : Manner) (old mid : Cpu) → IsSame old mid
+    → holds_of mid ≡ hold 0 (lock_name l) m n ∷ holds_of old → holds_in (holds_of old) l ≡ false
+    → IsHolding l m old mid
+holding l n m old mid same is free = record { same = same; nth = n; holds = is; fresh = free }
+
+module _ (l : ℕ) (m : Manner) (before now : Cpu) (has : IsHolding l m before now) where
+  -- its value is home
+  pub found_home : hold_in (holds_of now) l ≡ Some (m, false)
+  found_home = ap (λ (xs : List Hold). hold_in xs l) has.holds ∙ found l has.nth m false (holds_of before)
+
+  pub at_home : is_sole m ≡ true → IsHomeWith l (holds_of now)
+  at_home sole = record { manner = m; held = found_home; sole = sole }
+
+  pub none_out : out_in (holds_of now) l ≡ false
+  none_out = ap (λ (xs : List Hold). out_in xs l) has.holds ∙ out_home l has.nth m (holds_of before) has.fresh
+
+  -- it is held
+  pub is_held : holds_in (holds_of now) l ≡ true
+  is_held = ap (λ (xs : List Hold). holds_in xs l) has.holds ∙ held l has.nth m false (holds_of before)
+
+  pub way_held : way_in (holds_of now) l ≡ Some m
+  way_held =
+      ap (λ (xs : List Hold). way_in xs l) has.holds
+      ∙ if-true (same_lock (lock_name l) (lock_name l)) (Some m) (way_in (holds_of before) l) (same_lock-self (lock_name l))
+
+  -- and stays so while the processor works on a value
+  pub still_holding : (new : Cpu) → IsStill now new → IsHolding l m before new
+  still_holding new is =
       record {
-        manner = m;
-        held = ap (λ (xs : List Hold). hold_in xs l) is ∙ found l n m false rest;
-        sole = sole;
+        same = record {
+          table = is.table ∙ has.same.table;
+          id = is.id ∙ has.same.id;
+          number = is.number ∙ has.same.number;
+          who = ap (λ (v : View). v.who) is.view ∙ has.same.who;
+        };
+        nth = has.nth;
+        holds = ap (λ (v : View). v.calls.holds) is.view ∙ has.holds;
+        fresh = has.fresh;
       }
 
-  -- that goes out and comes home, and nothing else
-  pub round : hs ≡ marked_out l false (marked_out l true hs)
-  round =
-      subst (λ (xs : List Hold). xs ≡ marked_out l false (marked_out l true xs)) (sym is)
-      (sym (ap (λ (xs : List Hold). marked_out l false xs) (marked l n m false true rest)
-      ∙ marked l n m true false rest))
+  -- once it is freed the processor is as it was
+  pub as_before : (new : Cpu) (k : ℕ) → IsSame now new
+      → holds_of new ≡ free_of k (lock_name l) (moved_to k (lock_name l) (holds_of now)) → IsAsBefore before new
+  as_before new k same is =
+      record {
+        same = record {
+          table = same.table ∙ has.same.table;
+          id = same.id ∙ has.same.id;
+          number = same.number ∙ has.same.number;
+          who = same.who ∙ has.same.who;
+        };
+        holds = is
+            ∙ (ap (λ (xs : List Hold). free_of k (lock_name l) (moved_to k (lock_name l) xs)) has.holds
+            ∙ dropped k l has.nth m (holds_of before) has.fresh);
+      }
 
--- the lock and its value are with the processor
-pub inside : {q : ℕ} (l n : ℕ) (m : Manner) (old mid new : Cpu) → IsSame old mid
-    → holds_of mid ≡ hold 0 (lock_name l) m n ∷ holds_of old → holds_in (holds_of old) l ≡ false
-    → TakesValueAt l q mid new → IsInsideAt l q m old new
-inside {q} l n m old mid new same is free out =
-    record {
-      table = out.table ∙ same.table;
-      id = out.id ∙ same.id;
-      number = out.number ∙ same.number;
-      who = ap (λ (v : View). v.who) out.view
-          ∙ ap (λ (w : Who). let r : Who = record w { outs = q ∷ w.outs } in r) same.who;
-      nth = n;
-      holds = ap (λ (v : View). v.calls.holds) out.view
-          ∙ (ap (λ (xs : List Hold). marked_out l true xs) is ∙ marked l n m false true (holds_of old));
-      fresh = free;
-      apart = subst (λ (w : Who). IsClear w.plan l w.outs) same.who out.apart;
-    }
+  -- its value goes out
+  pub inside : {q : ℕ} (new : Cpu) → TakesValueAt l q now new → IsInsideAt l q m before new
+  inside {q} new out =
+      record {
+        table = out.table ∙ has.same.table;
+        id = out.id ∙ has.same.id;
+        number = out.number ∙ has.same.number;
+        who = ap (λ (v : View). v.who) out.view
+            ∙ ap (λ (w : Who). let r : Who = record w { outs = q ∷ w.outs } in r) has.same.who;
+        nth = has.nth;
+        holds = ap (λ (v : View). v.calls.holds) out.view
+            ∙ (ap (λ (xs : List Hold). marked_out l true xs) has.holds ∙ marked l has.nth m false true (holds_of before));
+        fresh = has.fresh;
+        apart = subst (λ (w : Who). IsClear w.plan l w.outs) has.same.who out.apart;
+      }
 
 module _ {q : ℕ} (l : ℕ) (m : Manner) (before old : Cpu) (in_it : IsInsideAt l q m before old) where
   -- its value is the newest that is out
@@ -159,71 +199,23 @@ module _ {q : ℕ} (l : ℕ) (m : Manner) (before old : Cpu) (in_it : IsInsideAt
             (sym (ap (λ (w : Who). w.plan) in_it.who) ∙ same) in_it.apart;
       }
 
-  -- with its value home
-  pub home_holds : (mid : Cpu) → BringsValueOf l old mid
-      → holds_of mid ≡ hold 0 (lock_name l) m in_it.nth ∷ holds_of before
-  home_holds mid home =
-      ap (λ (v : View). v.calls.holds) home.view
-      ∙ (ap (λ (xs : List Hold). marked_out l false xs) in_it.holds
-      ∙ marked l in_it.nth m true false (holds_of before))
-
-  -- and freed
-  pub as_before : (mid new : Cpu) (k : ℕ) → BringsValueOf l old mid → IsSame mid new
-      → holds_of new ≡ free_of k (lock_name l) (moved_to k (lock_name l) (holds_of mid))
-      → IsAsBefore before new
-  as_before mid new k home same is =
+  -- and once it is home the lock is held as before
+  pub came_home : (mid : Cpu) → BringsValueOf l old mid → IsHolding l m before mid
+  came_home mid home =
       record {
         same = record {
-          table = same.table ∙ (home.table ∙ in_it.table);
-          id = same.id ∙ (home.id ∙ in_it.id);
-          number = same.number ∙ (home.number ∙ in_it.number);
-          who = same.who ∙ (ap (λ (v : View). v.who) home.view
-              ∙ ap (λ (w : Who). let r : Who = record w { outs = older w.outs } in r) in_it.who);
+          table = home.table ∙ in_it.table;
+          id = home.id ∙ in_it.id;
+          number = home.number ∙ in_it.number;
+          who = ap (λ (v : View). v.who) home.view
+              ∙ ap (λ (w : Who). let r : Who = record w { outs = older w.outs } in r) in_it.who;
         };
-        holds = is
-            ∙ (ap (λ (xs : List Hold). free_of k (lock_name l) (moved_to k (lock_name l) xs)) (home_holds mid home)
-            ∙ dropped k l in_it.nth m (holds_of before) in_it.fresh);
+        nth = in_it.nth;
+        holds = ap (λ (v : View). v.calls.holds) home.view
+            ∙ (ap (λ (xs : List Hold). marked_out l false xs) in_it.holds
+            ∙ marked l in_it.nth m true false (holds_of before));
+        fresh = in_it.fresh;
       }
-
--- what a call has done that took a spinlock and its value, and then gave both back
-pub turn : (t : Terms) (p : ℕ) (v : Verb) (l : ℕ) (old mid new : Calls) → HasGot t p v l Spins old mid
-    → HasFreed l (valued l false mid) new → HasTurned t p v l old new
-turn t p v l old mid new got free =
-    record {
-      inside = got.inside;
-      taken = got.taken;
-      freed = subst (λ (c : Calls). HasFreed l c new)
-          (ap (λ (c : Calls). valued l false c) got.is
-          ∙ ap (λ (hs : List Hold). let r : Calls = record got.inside { holds = hs } in r) (sym got.holds))
-          free;
-    }
-
--- of one that took a reader-writer lock as its writer at one try
-pub written_once : (t : Terms) (p : ℕ) (l : ℕ) (old mid new : Calls) → HasGot t p TryWrite l Writes old mid
-    → HasLeft Z2 l (valued l false mid) new → HasWrittenOnce t p l old new
-written_once t p l old mid new got left =
-    record {
-      inside = got.inside;
-      taken = got.taken;
-      left = subst (λ (c : Calls). HasLeft Z2 l c new)
-          (ap (λ (c : Calls). valued l false c) got.is
-          ∙ ap (λ (hs : List Hold). let r : Calls = record got.inside { holds = hs } in r) (sym got.holds))
-          left;
-    }
-
--- and of one that waited for it, as a reader or a writer
-pub been_in : (t : Terms) (p : ℕ) (v : Verb) (l : ℕ) (m : Manner) (a : Pc) (old mid new : Calls)
-    → HasGotIn t p v l m old mid → HasLeft a l (valued l false mid) new → HasBeenIn t p v l m a old new
-been_in t p v l m a old mid new got left =
-    record {
-      inside = got.inside;
-      upto = got.upto;
-      entered = got.entered;
-      left = subst (λ (c : Calls). HasLeft a l c new)
-          (ap (λ (c : Calls). valued l false c) got.is
-          ∙ ap (λ (hs : List Hold). let r : Calls = record got.inside { holds = hs } in r) (sym got.holds))
-          left;
-    }
 
 -- what is inside stays so, while other locks are taken and freed
 pub still_inside : (l : ℕ) (m : Manner) (before old new : Cpu) → IsInside l m before old → IsAsBefore old new
@@ -238,4 +230,58 @@ still_inside l m before old new in_it kept =
       holds = kept.holds ∙ in_it.holds;
       fresh = in_it.fresh;
       apart = in_it.apart;
+    }
+
+-- A processor that works on a value stands as it did.
+
+pub still_ready : (d : Domain) (old new : Cpu) → IsReady d old → IsStill old new → IsReady d new
+still_ready d old new was is =
+    record {
+      domain_is = record {
+        table = is.table ∙ was.domain_is.table;
+        plan = ap (λ (v : View). v.who.plan) is.view ∙ was.domain_is.plan;
+        low = subst (λ (n : ℕ). n < cpus_of d.plan) (sym is.number) was.domain_is.low;
+        awake = was.domain_is.awake;
+      };
+      frames = ap (λ (v : View). v.calls.frames) is.view ∙ was.frames;
+      home = ap (λ (v : View). v.ledger.out) is.view ∙ was.home;
+    }
+
+pub still_once_more : (first old new : Cpu) → IsStill first old → IsStill old new → IsStill first new
+still_once_more first old new was is =
+    record {
+      table = is.table ∙ was.table;
+      id = is.id ∙ was.id;
+      number = is.number ∙ was.number;
+      view = is.view ∙ was.view;
+    }
+
+-- What was done by who took a lock by a path of its rows, worked on its value, and freed it.
+
+pub has_turned : (t : Terms) (p : ℕ) (v : Verb) (l : ℕ) (old : Calls) (mid now : Cpu) (new : Calls) → IsStill mid now
+    → HasTaken t p v l Spins old (calls_of mid) → HasFreed l (calls_of now) new → HasTurned t p v l old new
+has_turned t p v l old mid now new is taken free =
+    record {
+      inside = calls_of mid;
+      taken = taken;
+      freed = subst (λ (w : View). HasFreed l w.calls new) is.view free;
+    }
+
+pub written_once : (t : Terms) (p l : ℕ) (old : Calls) (mid now : Cpu) (new : Calls) → IsStill mid now
+    → HasTaken t p TryWrite l Writes old (calls_of mid) → HasLeft Z2 l (calls_of now) new → HasWrittenOnce t p l old new
+written_once t p l old mid now new is taken left =
+    record {
+      inside = calls_of mid;
+      taken = taken;
+      left = subst (λ (w : View). HasLeft Z2 l w.calls new) is.view left;
+    }
+
+pub been_in : (t : Terms) (p : ℕ) (v : Verb) (l : ℕ) (m : Manner) (a : Pc) (old : Calls) (mid now : Cpu) (new : Calls)
+    → IsStill mid now → HasComeIn t p v l m old (calls_of mid) → HasLeft a l (calls_of now) new
+    → HasBeenIn t p v l m a old new
+been_in t p v l m a old mid now new is entered left =
+    record {
+      inside = calls_of mid;
+      entered = entered;
+      left = subst (λ (w : View). HasLeft a l w.calls new) is.view left;
     }

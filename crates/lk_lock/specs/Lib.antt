@@ -3,3 +3,4 @@ pub mod Cells
 pub mod Made
 pub mod Lending
 pub mod Ended
+pub mod PvStanding

@@ -1,9 +1,9 @@
 -- The locks that are to be made, and those of a domain.
-use Rattle.std.specs.Prelude.{◌≡◌, ℕ, ◌+◌, Some, List, [], ◌∷◌, length, slice_get, true}
+use Rattle.std.specs.Prelude.{◌≡◌, ℕ, ◌+◌, All, Some, List, [], ◌∷◌, length, slice_get, true}
 use Rattle.atomic_table.specs.Seated.{TableId}
 use Rattle.lk_abs.specs.ListOf.{ListOf}
 use Rattle.lk_abs.specs.declared.names.Kind.{Kind}
-use Rattle.lk_abs.specs.declared.names.Kind.TheVariants.{Rw}
+use Rattle.lk_abs.specs.declared.names.Kind.TheVariants.{Rw, Spin}
 use Rattle.lk_domain.specs.Values.{Key}
 use Rattle.lk_domain.specs.declared.plan.Plan.{Plan}
 use Rattle.lk_lock.specs.Cells.{AreKeysOf}
@@ -34,6 +34,10 @@ Keeps old new = (kind : Kind) (l : ℕ) (cell : TableId) → IsAmong old kind l 
 
 abbrev pub KeepsShared : Locks → Locks → Type 0
 KeepsShared old new = (l : ℕ) (cells : List TableId) → IsSharedAmong old l cells → IsSharedAmong new l cells
+
+-- all of them are spinlocks
+abbrev pub AreSpins : Locks → Type 0
+AreSpins locks = All (λ (kind : Kind). kind ≡ Spin) locks.kinds.items
 
 -- each is one of the plan
 

@@ -1,5 +1,5 @@
 -- How a processor stands that takes locks with values.
-use Rattle.std.specs.Prelude.{◌≡◌, ℕ, ◌+◌, ◌*◌, ◌<◌, true, false, Bool, List, [], ◌∷◌, Some, None}
+use Rattle.std.specs.Prelude.{◌≡◌, ℕ, ◌+◌, ◌*◌, ◌<◌, Bool, true, false, List, [], ◌∷◌, Some, None}
 use Rattle.std.specs.Prelude.{length, slice_get}
 use Rattle.atomic_table.specs.Seated.{TableId}
 use Rattle.atomic_table.specs.declared.shared.Seat.{Seat}
@@ -15,7 +15,7 @@ use Rattle.lk_domain.specs.Calls.{Terms, Mark, Hold, hold, Calls, holds_in, lock
 use Rattle.lk_domain.specs.Paths.{HasTaken, HasFreed}
 use Rattle.lk_domain.specs.Plans.{cpus_of, locks_of, kind_at}
 use Rattle.lk_domain.specs.Seats.{IsOf, IsSame, calls_of, ledger_of, view_of}
-use Rattle.lk_domain.specs.Values.{IsClear, cell_of, outs_of, marked_out}
+use Rattle.lk_domain.specs.Values.{IsClear, cell_of, outs_of}
 use Rattle.lk_domain.specs.declared.cpu.Cpu.{Cpu}
 use Rattle.lk_domain.specs.declared.domain.Domain.{Domain}
 use Rattle.lk_domain.specs.declared.plan.Plan.{Plan}
@@ -41,6 +41,11 @@ pub record IsUnder (k : Plan) (kind : Kind) (l : ℕ) (cell : TableId) : Type 0 
 abbrev pub IsLock : Plan → Kind → ℕ → Type 0
 IsLock k kind l = (cell : TableId) × IsUnder k kind l cell
 
+-- the lock of this number is of this kind
+pub record IsOfKind (k : Plan) (kind : Kind) (l : ℕ) : Type 0 where
+  pub low : l < locks_of k
+  pub kind_is : kind_at k l ≡ kind
+
 -- The reader-writer lock of this number has a copy of its value for each processor, and its values lie in
 -- the cells of these names.
 pub record IsSharedUnder (k : Plan) (l : ℕ) (cells : List TableId) : Type 0 where
@@ -62,18 +67,12 @@ pub record IsAsBefore (before now : Cpu) : Type 0 where
 abbrev pub out_with : ℕ → Manner → ℕ → Hold
 out_with l m n = record { ctx = 0; lock = lock_name l; manner = m; nth = n; out = true }
 
--- it has taken the lock last, in this manner, and no value of it is out
-pub record IsNewest (l : ℕ) (m : Manner) (cpu : Cpu) : Type 0 where
+-- It holds one lock more than before, in this manner, and no value of that lock is out.
+pub record IsHolding (l : ℕ) (m : Manner) (before now : Cpu) : Type 0 where
+  pub same : IsSame before now
   pub nth : ℕ
-  pub others : List Hold
-  pub holds : holds_of cpu ≡ hold 0 (lock_name l) m nth ∷ others
-
--- the processor stands as it did, in all that it knows
-pub record IsStill (old new : Cpu) : Type 0 where
-  pub table : new.seat.table_id ≡ old.seat.table_id
-  pub id : new.seat.id ≡ old.seat.id
-  pub number : new.number ≡ old.number
-  pub view : view_of new ≡ view_of old
+  pub holds : holds_of now ≡ hold 0 (lock_name l) m nth ∷ holds_of before
+  pub fresh : holds_in (holds_of before) l ≡ false
 
 -- It holds one lock more than before, in this manner, and has the value out whose home is q.
 pub record IsInsideAt (l q : ℕ) (m : Manner) (before now : Cpu) : Type 0 where
@@ -90,16 +89,10 @@ pub record IsInsideAt (l q : ℕ) (m : Manner) (before now : Cpu) : Type 0 where
 abbrev pub IsInside : ℕ → Manner → Cpu → Cpu → Type 0
 IsInside l m before now = IsInsideAt l l m before now
 
--- the calls, once the value of a lock has gone out, or has come home
-abbrev pub valued : ℕ → Bool → Calls → Calls
-valued l b c = record c { holds = marked_out l b c.holds }
-
--- The call v has taken the lock in this manner by a path of its rows, and then its value has gone out.
-pub record HasGot (t : Terms) (p : ℕ) (v : Verb) (l : ℕ) (m : Manner) (old new : Calls) : Type 0 where
-  pub inside : Calls
-  pub taken : HasTaken t p v l m old inside
-  pub holds : inside.holds ≡ marked_out l false (marked_out l true inside.holds)
-  pub is : new ≡ valued l true inside
+-- The call v has taken a reader-writer lock in this manner by a path of its rows. The call had the wait lock
+-- too if the first trail is not all.
+abbrev pub HasComeIn : Terms → ℕ → Verb → ℕ → Manner → Calls → Calls → Type 0
+HasComeIn t p v l m old new = (upto : List Mark) × HasEntered t p v l m upto old new
 
 -- The spinlock was taken by a path of its rows, and freed by the row U1.
 pub record HasTurned (t : Terms) (p : ℕ) (v : Verb) (l : ℕ) (old new : Calls) : Type 0 where
@@ -107,16 +100,7 @@ pub record HasTurned (t : Terms) (p : ℕ) (v : Verb) (l : ℕ) (old new : Calls
   pub taken : HasTaken t p v l Spins old inside
   pub freed : HasFreed l inside new
 
--- The same of a reader-writer lock, in this manner. The call had the wait lock too if the first trail is
--- not all.
-pub record HasGotIn (t : Terms) (p : ℕ) (v : Verb) (l : ℕ) (m : Manner) (old new : Calls) : Type 0 where
-  pub inside : Calls
-  pub upto : List Mark
-  pub entered : HasEntered t p v l m upto old inside
-  pub holds : inside.holds ≡ marked_out l false (marked_out l true inside.holds)
-  pub is : new ≡ valued l true inside
-
--- It was taken by its writer at one try, and freed by the row Z2.
+-- A reader-writer lock was taken by its writer at one try, and freed by the row Z2.
 pub record HasWrittenOnce (t : Terms) (p : ℕ) (l : ℕ) (old new : Calls) : Type 0 where
   pub inside : Calls
   pub taken : HasTaken t p TryWrite l Writes old inside
@@ -125,8 +109,7 @@ pub record HasWrittenOnce (t : Terms) (p : ℕ) (l : ℕ) (old new : Calls) : Ty
 -- It was taken in this manner by a path of its rows, and freed by this row.
 pub record HasBeenIn (t : Terms) (p : ℕ) (v : Verb) (l : ℕ) (m : Manner) (c : Pc) (old new : Calls) : Type 0 where
   pub inside : Calls
-  pub upto : List Mark
-  pub entered : HasEntered t p v l m upto old inside
+  pub entered : HasComeIn t p v l m old inside
   pub left : HasLeft c l inside new
 
 -- its writer did so, who frees it by the row Z2

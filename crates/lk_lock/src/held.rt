@@ -8,8 +8,9 @@ ghost use Rattle.lk_domain.specs.Calls.{holds_in};
 ghost use Rattle.lk_domain.specs.declared.cpu.Cpu.{Cpu};
 ghost use Rattle.lk_lock.specs.Standing.{HasOpened, IsAsBefore, IsInside, IsReady, IsUnder, holds_of};
 
-use crate::holding::{acquire, release, try_acquire};
+use crate::holding::{free, key_of, release, take, try_take};
 use crate::locks::Spin;
+use crate::working::work_under;
 use atomic_table::Seat as Place;
 use lk_domain::{Cpu, Domain};
 use std::sync::Wait;
@@ -26,8 +27,6 @@ pub struct Held<'a, T, R> {
 }
 
 impl<'a, T, R: Wait> Held<'a, T, R> {
-    ghost use Rattle.lk_lock.specs.Lending.{RestsWhenMissed};
-
     /// Takes the lock, until what this gives is dropped. It waits for the lock, so the processor may
     /// not hold it.
     pub fn lock(
@@ -46,7 +45,8 @@ impl<'a, T, R: Wait> Held<'a, T, R> {
         ensures inside { IsInside result.spin.now.id.index Spins cpu.old result.cpu.now }
         ensures open { HasOpened result.spin.now.cell.table.shared.table_id result.place }
     {
-        let key = acquire(cpu, rt, domain, spin.id);
+        take(cpu, rt, domain, spin.id);
+        let key = key_of(cpu, domain, spin.id);
         Held {
             place: spin.cell.open(key),
             cpu,
@@ -56,8 +56,35 @@ impl<'a, T, R: Wait> Held<'a, T, R> {
         }
     }
 
-    /// Takes the lock if nobody has it or waits for it, until what this gives is dropped. It never
-    /// waits. `None` says that the lock was not free, or that somebody was faster.
+    /// Takes another lock inside this one, works on its value, and frees it.
+    pub fn with<S, U, W: FnOnce(&mut S) -> U>(&mut self, spin: &Spin<S>, work: W) -> U
+        requires ready { IsReady self.old.domain.now self.old.cpu.now }
+        requires lock { IsUnder self.old.domain.now.plan spinning spin.now.id.index
+            spin.now.cell.table.shared.table_id }
+        requires free { holds_in (holds_of self.old.cpu.now) spin.now.id.index ≡ false }
+        requires callable { W.IsAlwaysCallable work }
+        ensures name { self.new.cpu.ghost_name ≡ self.old.cpu.ghost_name }
+        ensures same { (self.new.domain.now ≡ self.old.domain.now)
+            × (self.new.spin.now ≡ self.old.spin.now) }
+        ensures open { HasOpened self.old.spin.now.cell.table.shared.table_id self.old.place
+            → HasOpened self.new.spin.now.cell.table.shared.table_id self.new.place }
+        ensures ready { IsReady self.new.domain.now self.new.cpu.now }
+        ensures inside { (before : Cpu) → IsInside self.old.spin.now.id.index Spins before
+            self.old.cpu.now → IsInside self.new.spin.now.id.index Spins before self.new.cpu.now }
+        ensures done { (x : S) × (y : S) × FnOnceReturnsAtMut W.FnOnce work x result y }
+    {
+        take(self.cpu, self.rt, self.domain, spin.id);
+        let done = work_under(self.cpu, self.domain, spin.id, &spin.cell, work);
+        free(self.cpu, self.domain, spin.id);
+        done
+    }
+}
+
+impl<'a, T, R> Held<'a, T, R> {
+    ghost use Rattle.lk_lock.specs.Lending.{LendsValue, RestsWhenMissed};
+
+    /// Takes the lock if nobody has it or waits for it, until what this gives is dropped. It has no
+    /// leave to wait. `None` says that the lock was not free, or that somebody was faster.
     pub fn try_lock(
         cpu: &'a mut Cpu,
         rt: &'a R,
@@ -78,44 +105,19 @@ impl<'a, T, R: Wait> Held<'a, T, R> {
         ensures open { IfSome result (λ held.
             HasOpened held.spin.now.cell.table.shared.table_id held.place) }
     {
-        let Some(key) = try_acquire(cpu, domain, spin.id) else {
-            return None;
-        };
-        Some(Held {
-            place: spin.cell.open(key),
-            cpu,
-            domain,
-            rt,
-            spin,
-        })
+        if try_take(cpu, domain, spin.id) {
+            let key = key_of(cpu, domain, spin.id);
+            Some(Held {
+                place: spin.cell.open(key),
+                cpu,
+                domain,
+                rt,
+                spin,
+            })
+        } else {
+            None
+        }
     }
-
-    /// Takes another lock inside this one, works on its value, and frees it.
-    pub fn with<S, U, W: FnOnce(&mut S) -> U>(&mut self, spin: &Spin<S>, work: W) -> U
-        requires ready { IsReady self.old.domain.now self.old.cpu.now }
-        requires lock { IsUnder self.old.domain.now.plan spinning spin.now.id.index
-            spin.now.cell.table.shared.table_id }
-        requires free { holds_in (holds_of self.old.cpu.now) spin.now.id.index ≡ false }
-        requires callable { W.IsAlwaysCallable work }
-        ensures name { self.new.cpu.ghost_name ≡ self.old.cpu.ghost_name }
-        ensures same { (self.new.domain.now ≡ self.old.domain.now)
-            × (self.new.spin.now ≡ self.old.spin.now) }
-        ensures open { HasOpened self.old.spin.now.cell.table.shared.table_id self.old.place
-            → HasOpened self.new.spin.now.cell.table.shared.table_id self.new.place }
-        ensures ready { IsReady self.new.domain.now self.new.cpu.now }
-        ensures inside { (before : Cpu) → IsInside self.old.spin.now.id.index Spins before
-            self.old.cpu.now → IsInside self.new.spin.now.id.index Spins before self.new.cpu.now }
-        ensures done { (x : S) × (y : S) × FnOnceReturnsAtMut W.FnOnce work x result y }
-    {
-        let key = acquire(self.cpu, self.rt, self.domain, spin.id);
-        let (done, key) = spin.cell.with(key, work);
-        release(self.cpu, self.domain, spin.id, key);
-        done
-    }
-}
-
-impl<'a, T, R> Held<'a, T, R> {
-    ghost use Rattle.lk_lock.specs.Lending.{LendsValue};
 
     /// The value. Nobody else reaches it while the lock is held.
     pub fn value(&mut self) -> &mut T

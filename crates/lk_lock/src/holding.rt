@@ -1,16 +1,15 @@
-// The calls on a spinlock with a value: the lock is taken and then the value, and the value comes home
-// before the lock is freed.
-ghost use Rattle.std.specs.Prelude.{◌≡◌, ◌<◌, IfSome, MatchOption, false};
+// The calls on a spinlock, by a processor that is in no call.
+ghost use Rattle.std.specs.Prelude.{◌≡◌, ◌<◌, true, false};
 ghost use Rattle.atomic_table.specs.Seated.{TableId};
 ghost use Rattle.lk_abs.specs.declared.holder.Manner.TheVariants.{Spins};
 ghost use Rattle.lk_abs.specs.declared.names.Kind.TheVariants.{Spin};
 ghost use Rattle.lk_cell.specs.Latched.{IsKey};
 ghost use Rattle.lk_domain.specs.Calls.{holds_in, terms_of};
-ghost use Rattle.lk_domain.specs.Paths.{HasFreed, HasMissed};
+ghost use Rattle.lk_domain.specs.Paths.{HasFreed, HasMissed, HasTaken};
 ghost use Rattle.lk_domain.specs.Seats.{calls_of};
 ghost use Rattle.lk_domain.specs.declared.cpu.Cpu.{Cpu};
-ghost use Rattle.lk_lock.specs.Standing.{HasGot, IsAsBefore, IsInside, IsLock, IsReady, IsUnder};
-ghost use Rattle.lk_lock.specs.Standing.{holds_of, valued};
+ghost use Rattle.lk_lock.specs.Standing.{IsAsBefore, IsHolding, IsInside, IsLock, IsReady, IsUnder};
+ghost use Rattle.lk_lock.specs.Standing.{holds_of};
 ghost use Rattle.lk_machine.specs.declared.setup.Verb.TheVariants.{Lock, Try};
 
 use lk_cell::Key;
@@ -18,43 +17,62 @@ use lk_domain::{Cpu, Domain, LockId, bring_home, take_out};
 use lk_run::{NoIrq, lock, try_lock, unlock};
 use std::sync::Wait;
 
-// Takes the lock, and then the key of its value out.
-pub(crate) fn acquire<R: Wait>(cpu: &mut Cpu, rt: &R, domain: &Domain, id: LockId) -> Key
+// Takes the lock.
+#[inline(always)]
+pub(crate) fn take<R: Wait>(cpu: &mut Cpu, rt: &R, domain: &Domain, id: LockId)
     requires ready { IsReady domain.now cpu.old }
     requires lock { IsLock domain.now.plan Spin id.index }
     requires free { holds_in (holds_of cpu.old) id.index ≡ false }
     ensures ready { IsReady domain.now cpu.new }
-    ensures inside { IsInside id.index Spins cpu.old cpu.new }
-    ensures path { HasGot (terms_of domain.now.plan) cpu.old.number Lock id.index Spins
+    ensures holding { IsHolding id.index Spins cpu.old cpu.new }
+    ensures path { HasTaken (terms_of domain.now.plan) cpu.old.number Lock id.index Spins
         (calls_of cpu.old) (calls_of cpu.new) }
+{
+    lock(cpu, rt, domain, id, &mut NoIrq);
+}
+
+// Takes the lock if it is free.
+pub(crate) fn try_take(cpu: &mut Cpu, domain: &Domain, id: LockId) -> bool
+    requires ready { IsReady domain.now cpu.old }
+    requires lock { IsLock domain.now.plan Spin id.index }
+    requires free { holds_in (holds_of cpu.old) id.index ≡ false }
+    ensures ready { IsReady domain.now cpu.new }
+    ensures holding { result ≡ true → IsHolding id.index Spins cpu.old cpu.new }
+    ensures path { result ≡ true → HasTaken (terms_of domain.now.plan) cpu.old.number Try
+        id.index Spins (calls_of cpu.old) (calls_of cpu.new) }
+    ensures before { result ≡ false → IsAsBefore cpu.old cpu.new }
+    ensures missed { result ≡ false → HasMissed (terms_of domain.now.plan) cpu.old.number Try
+        id.index (calls_of cpu.old) (calls_of cpu.new) }
+{
+    try_lock(cpu, domain, id)
+}
+
+// Frees the lock, which was taken last.
+#[inline(always)]
+pub(crate) fn free(cpu: &mut Cpu, domain: &Domain, id: LockId)
+    requires ready { IsReady domain.now cpu.old }
+    requires lock { IsLock domain.now.plan Spin id.index }
+    requires holding { (before : Cpu) × IsHolding id.index Spins before cpu.old }
+    ensures ready { IsReady domain.now cpu.new }
+    ensures before { (before : Cpu) → IsHolding id.index Spins before cpu.old
+        → IsAsBefore before cpu.new }
+    ensures freed { HasFreed id.index (calls_of cpu.old) (calls_of cpu.new) }
+{
+    unlock(cpu, domain, id);
+}
+
+// Takes the key of its value out, once the lock is taken.
+pub(crate) fn key_of(cpu: &mut Cpu, domain: &Domain, id: LockId) -> Key
+    requires ready { IsReady domain.now cpu.old }
+    requires lock { IsLock domain.now.plan Spin id.index }
+    requires holding { (before : Cpu) × IsHolding id.index Spins before cpu.old }
+    ensures ready { IsReady domain.now cpu.new }
+    ensures inside { (before : Cpu) → IsHolding id.index Spins before cpu.old
+        → IsInside id.index Spins before cpu.new }
     ensures key { (cell : TableId) → IsUnder domain.now.plan Spin id.index cell
         → IsKey cell result }
 {
-    lock(cpu, rt, domain, id, &mut NoIrq);
     take_out(cpu, domain, id)
-}
-
-// Takes the lock if it is free, and then the key of its value out.
-pub(crate) fn try_acquire(cpu: &mut Cpu, domain: &Domain, id: LockId) -> Option<Key>
-    requires ready { IsReady domain.now cpu.old }
-    requires lock { IsLock domain.now.plan Spin id.index }
-    requires free { holds_in (holds_of cpu.old) id.index ≡ false }
-    ensures ready { IsReady domain.now cpu.new }
-    ensures inside { MatchOption result (IsAsBefore cpu.old cpu.new)
-        (λ _. IsInside id.index Spins cpu.old cpu.new) }
-    ensures path { MatchOption result
-        (HasMissed (terms_of domain.now.plan) cpu.old.number Try id.index (calls_of cpu.old)
-        (calls_of cpu.new))
-        (λ _. HasGot (terms_of domain.now.plan) cpu.old.number Try id.index Spins
-        (calls_of cpu.old) (calls_of cpu.new)) }
-    ensures key { IfSome result (λ key. (cell : TableId)
-        → IsUnder domain.now.plan Spin id.index cell → IsKey cell key) }
-{
-    if try_lock(cpu, domain, id) {
-        Some(take_out(cpu, domain, id))
-    } else {
-        None
-    }
 }
 
 // Brings the key home, and then frees the lock.
@@ -65,9 +83,7 @@ pub(crate) fn release(cpu: &mut Cpu, domain: &Domain, id: LockId, key: Key)
     ensures ready { IsReady domain.now cpu.new }
     ensures before { (before : Cpu) → IsInside id.index Spins before cpu.old
         → IsAsBefore before cpu.new }
-    ensures freed { HasFreed id.index (valued id.index false (calls_of cpu.old))
-        (calls_of cpu.new) }
 {
     bring_home(cpu, domain, id, key);
-    unlock(cpu, domain, id);
+    free(cpu, domain, id);
 }

@@ -7,10 +7,12 @@ ghost use Rattle.lk_domain.specs.Plans.{cpus_of};
 ghost use Rattle.lk_lock.specs.Cells.{names_of};
 
 use crate::locks::{Open, Rw, Spin};
+use crate::pv_locks::PvOpen;
 use crate::shared::Shared;
 use lk_abs::List;
 use lk_cell::Key;
 use lk_domain::{CloseBack, LockId, close};
+use lk_pvdomain::{PvBack, pv_close};
 use std::alloc::Global;
 
 /// What opens the locks of a closed domain: each lock gives its value for it.
@@ -40,6 +42,31 @@ impl Open {
                 by_lock: closed.into_keys(),
             }),
             Err(CloseBack { domain, cpus }) => Err(Open { domain, cpus }),
+        }
+    }
+}
+
+impl PvOpen {
+    ghost use Rattle.lk_lock.specs.Ended.{HasAllKeys};
+    ghost use Rattle.lk_lock.specs.PvStanding.{AreIdle};
+
+    /// Closes the domain. All its processors must be there, and none may hold a lock.
+    ///
+    /// # Errors
+    ///
+    /// There is not enough memory. The domain and its processors come back as they were.
+    pub fn close(self, alloc: Global) -> Result<Keys, PvOpen>
+        requires all { length self.cpus.items ≡ cpus_of self.domain.plan }
+        requires idle { AreIdle self.domain self.cpus.items }
+        ensures back { (b : PvOpen) → result ≡ Err b → b ≡ self }
+        ensures keys { IfOk result (λ keys. HasAllKeys self.domain.plan keys) }
+    {
+        let PvOpen { domain, cpus } = self;
+        match pv_close(alloc, domain, cpus) {
+            Ok(closed) => Ok(Keys {
+                by_lock: closed.into_keys(),
+            }),
+            Err(PvBack { domain, cpus }) => Err(PvOpen { domain, cpus }),
         }
     }
 }

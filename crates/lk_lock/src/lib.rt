@@ -6,6 +6,9 @@
 //! domain in which they are, and a processor for each thread. A thread makes a [`Seat`] of its processor
 //! and calls [`Seat::with`], or takes a lock by [`Held::lock`] until the guard is dropped.
 //! [`Open::close`] ends the domain, and then [`Spin::into_value`] and its kin give the values back.
+//!
+//! Where all are spinlocks, [`Locks::open_pv`] makes paravirtual ones of them: then a thread makes a
+//! [`PvSeat`] of its processor, and calls [`PvSeat::with`].
 #![tactic(auto)]
 
 mod held;
@@ -13,6 +16,14 @@ mod holding;
 mod keys;
 mod laying;
 mod locks;
+#[cfg(test)]
+mod look_tests;
+mod looking;
+mod pv_holding;
+mod pv_locks;
+mod pv_seat;
+#[cfg(test)]
+mod pv_tests;
 mod reading;
 mod seat;
 mod shared;
@@ -21,11 +32,15 @@ mod shared_tests;
 mod showing;
 #[cfg(test)]
 mod tests;
-mod updating;
+#[cfg(test)]
+mod try_tests;
+mod working;
 mod writing;
 
 pub use held::Held;
 pub use keys::Keys;
 pub use locks::{Locks, Open, Rw, Spin};
+pub use pv_locks::PvOpen;
+pub use pv_seat::PvSeat;
 pub use seat::Seat;
 pub use shared::Shared;

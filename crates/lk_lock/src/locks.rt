@@ -37,9 +37,9 @@ const THRESHOLD: u32 = 16;
 pub struct Locks {
     pub(crate) alloc: Global,
     pub(crate) threads: u32,
-    kinds: List<Kind>,
+    pub(crate) kinds: List<Kind>,
     // The keys of each lock's cells: its own first, and behind it those of the copies, if it has any.
-    keys: List<List<Key>>,
+    pub(crate) keys: List<List<Key>>,
     // Whether a lock has copies.
     pub(crate) copied: bool,
     ghost some: { (0 < threads) × (threads ≤ 64) },
@@ -57,7 +57,7 @@ pub struct Open {
 }
 
 impl Locks {
-    ghost use Rattle.lk_lock.specs.Made.{AreMade, AreSharedMade, IsAmong, Keeps, KeepsShared};
+    ghost use Rattle.lk_lock.specs.Made.{AreMade, AreSharedMade, AreSpins, IsAmong, Keeps, KeepsShared};
 
     /// None yet, for so many threads: 1 to 64.
     ///
@@ -67,6 +67,7 @@ impl Locks {
     pub fn new(alloc: Global, threads: u32) -> Result<Locks, Memory>
         requires threads { (0 < threads) × (threads ≤ 64) }
         ensures none { IfOk result (λ locks. locks.kinds.items ≡ []) }
+        ensures spins { IfOk result AreSpins }
         ensures threads { IfOk result (λ locks. locks.threads ≡ threads) }
     {
         let kinds = List::new(alloc, MOST)?;
@@ -119,6 +120,7 @@ impl Locks {
         requires room { length self.old.kinds.items < 32 }
         ensures kept { Keeps self.old self.new }
         ensures shared { KeepsShared self.old self.new }
+        ensures spins { AreSpins self.old → AreSpins self.new }
         ensures threads { self.new.threads ≡ self.old.threads }
         ensures made { IfOk result (λ spin. IsAmong self.new spinning spin.id.index
             spin.cell.table.shared.table_id) }

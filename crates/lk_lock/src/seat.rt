@@ -10,8 +10,9 @@ ghost use Rattle.lk_lock.specs.Standing.{HasTurned, HasWritten, HasWrittenOnce, 
 ghost use Rattle.lk_lock.specs.Standing.{IsUnder, holds_of};
 ghost use Rattle.lk_machine.specs.declared.setup.Verb.TheVariants.{Lock, Try, TryWrite, Write};
 
-use crate::holding::{acquire, release, try_acquire};
+use crate::holding::{free, take, try_take};
 use crate::locks::{Rw, Spin};
+use crate::working::work_under;
 use crate::writing::{enter, leave, try_enter};
 use lk_domain::{Cpu, Domain};
 use std::sync::Wait;
@@ -25,7 +26,7 @@ pub struct Seat<'a, R> {
     ghost ready: { IsReady domain.now cpu.now },
 }
 
-impl<'a, R: Wait> Seat<'a, R> {
+impl<'a, R> Seat<'a, R> {
     /// The seat of a processor, which is in no call.
     pub fn new(rt: &'a R, domain: &'a Domain, cpu: &'a mut Cpu) -> Seat<'a, R>
         requires ready { IsReady domain.now cpu.old }
@@ -50,32 +51,9 @@ impl<'a, R: Wait> Seat<'a, R> {
         self.cpu.holds(rw.id)
     }
 
-    /// Takes the lock, works on its value, and frees the lock. It waits for the lock, so the processor
-    /// may not hold it.
-    ///
-    /// When it returns, `work` was called once, on the value; the lock was taken by a path of the rows,
-    /// and is free; and the processor holds what it held.
-    pub fn with<T, U, W: FnOnce(&mut T) -> U>(&mut self, spin: &Spin<T>, work: W) -> U
-        requires lock { IsUnder self.old.domain.now.plan spinning spin.now.id.index
-            spin.now.cell.table.shared.table_id }
-        requires free { holds_in (holds_of self.old.cpu.now) spin.now.id.index ≡ false }
-        requires callable { W.IsAlwaysCallable work }
-        ensures name { self.new.cpu.ghost_name ≡ self.old.cpu.ghost_name }
-        ensures domain { self.new.domain.now ≡ self.old.domain.now }
-        ensures before { IsAsBefore self.old.cpu.now self.new.cpu.now }
-        ensures path { HasTurned (terms_of self.old.domain.now.plan) self.old.cpu.now.number Lock
-            spin.now.id.index (calls_of self.old.cpu.now) (calls_of self.new.cpu.now) }
-        ensures done { (x : T) × (y : T) × FnOnceReturnsAtMut W.FnOnce work x result y }
-    {
-        let key = acquire(self.cpu, self.rt, self.domain, spin.id);
-        let (done, key) = spin.cell.with(key, work);
-        release(self.cpu, self.domain, spin.id, key);
-        done
-    }
-
     /// Takes the lock if nobody has it or waits for it, works on its value, and frees the lock. It
-    /// never waits. `None` says that the lock was not free, or that somebody was faster; then the
-    /// lock was not taken, and `work` was not called.
+    /// has no leave to wait. `None` says that the lock was not free, or that somebody was faster, and that
+    /// the lock was not taken. No clause says that `work` was not called then: a test shows it.
     pub fn try_with<T, U, W: FnOnce(&mut T) -> U>(&mut self, spin: &Spin<T>, work: W) -> Option<U>
         requires lock { IsUnder self.old.domain.now.plan spinning spin.now.id.index
             spin.now.cell.table.shared.table_id }
@@ -92,30 +70,14 @@ impl<'a, R: Wait> Seat<'a, R> {
         ensures done { IfSome result (λ done. (x : T) × (y : T)
             × FnOnceReturnsAtMut W.FnOnce work x done y) }
     {
-        let key = try_acquire(self.cpu, self.domain, spin.id)?;
-        let (done, key) = spin.cell.with(key, work);
-        release(self.cpu, self.domain, spin.id, key);
+        if !try_take(self.cpu, self.domain, spin.id) {
+            return None;
+        }
+        let done = work_under(self.cpu, self.domain, spin.id, &spin.cell, work);
+        free(self.cpu, self.domain, spin.id);
         Some(done)
     }
 
-    /// The same as `with` under a reader-writer lock, as its writer.
-    pub fn write<T, U, W: FnOnce(&mut T) -> U>(&mut self, rw: &Rw<T>, work: W) -> U
-        requires lock { IsUnder self.old.domain.now.plan shared rw.now.id.index
-            rw.now.cell.table.shared.table_id }
-        requires free { holds_in (holds_of self.old.cpu.now) rw.now.id.index ≡ false }
-        requires callable { W.IsAlwaysCallable work }
-        ensures name { self.new.cpu.ghost_name ≡ self.old.cpu.ghost_name }
-        ensures domain { self.new.domain.now ≡ self.old.domain.now }
-        ensures before { IsAsBefore self.old.cpu.now self.new.cpu.now }
-        ensures path { HasWritten (terms_of self.old.domain.now.plan) self.old.cpu.now.number Write
-            rw.now.id.index (calls_of self.old.cpu.now) (calls_of self.new.cpu.now) }
-        ensures done { (x : T) × (y : T) × FnOnceReturnsAtMut W.FnOnce work x result y }
-    {
-        let key = enter(self.cpu, self.rt, self.domain, rw.id);
-        let (done, key) = rw.cell.with(key, work);
-        leave(self.cpu, self.domain, rw.id, key);
-        done
-    }
     /// The same as `try_with` under a reader-writer lock, as its writer.
     pub fn try_write<T, U, W: FnOnce(&mut T) -> U>(&mut self, rw: &Rw<T>, work: W) -> Option<U>
         requires lock { IsUnder self.old.domain.now.plan shared rw.now.id.index
@@ -133,9 +95,56 @@ impl<'a, R: Wait> Seat<'a, R> {
         ensures done { IfSome result (λ done. (x : T) × (y : T)
             × FnOnceReturnsAtMut W.FnOnce work x done y) }
     {
-        let key = try_enter(self.cpu, self.domain, rw.id)?;
-        let (done, key) = rw.cell.with(key, work);
-        leave(self.cpu, self.domain, rw.id, key);
+        if !try_enter(self.cpu, self.domain, rw.id) {
+            return None;
+        }
+        let done = work_under(self.cpu, self.domain, rw.id, &rw.cell, work);
+        leave(self.cpu, self.domain, rw.id);
         Some(done)
+    }
+}
+
+impl<'a, R: Wait> Seat<'a, R> {
+    /// Takes the lock, works on its value, and frees the lock. It waits for the lock, so the processor
+    /// may not hold it.
+    ///
+    /// When it returns, `work` was called once, on the value; the lock was taken by a path of the rows,
+    /// and is free; and the processor holds what it held.
+    pub fn with<T, U, W: FnOnce(&mut T) -> U>(&mut self, spin: &Spin<T>, work: W) -> U
+        requires lock { IsUnder self.old.domain.now.plan spinning spin.now.id.index
+            spin.now.cell.table.shared.table_id }
+        requires free { holds_in (holds_of self.old.cpu.now) spin.now.id.index ≡ false }
+        requires callable { W.IsAlwaysCallable work }
+        ensures name { self.new.cpu.ghost_name ≡ self.old.cpu.ghost_name }
+        ensures domain { self.new.domain.now ≡ self.old.domain.now }
+        ensures before { IsAsBefore self.old.cpu.now self.new.cpu.now }
+        ensures path { HasTurned (terms_of self.old.domain.now.plan) self.old.cpu.now.number Lock
+            spin.now.id.index (calls_of self.old.cpu.now) (calls_of self.new.cpu.now) }
+        ensures done { (x : T) × (y : T) × FnOnceReturnsAtMut W.FnOnce work x result y }
+    {
+        let id = spin.id;
+        take(self.cpu, self.rt, self.domain, id);
+        let done = work_under(self.cpu, self.domain, id, &spin.cell, work);
+        free(self.cpu, self.domain, id);
+        done
+    }
+
+    /// The same as `with` under a reader-writer lock, as its writer.
+    pub fn write<T, U, W: FnOnce(&mut T) -> U>(&mut self, rw: &Rw<T>, work: W) -> U
+        requires lock { IsUnder self.old.domain.now.plan shared rw.now.id.index
+            rw.now.cell.table.shared.table_id }
+        requires free { holds_in (holds_of self.old.cpu.now) rw.now.id.index ≡ false }
+        requires callable { W.IsAlwaysCallable work }
+        ensures name { self.new.cpu.ghost_name ≡ self.old.cpu.ghost_name }
+        ensures domain { self.new.domain.now ≡ self.old.domain.now }
+        ensures before { IsAsBefore self.old.cpu.now self.new.cpu.now }
+        ensures path { HasWritten (terms_of self.old.domain.now.plan) self.old.cpu.now.number Write
+            rw.now.id.index (calls_of self.old.cpu.now) (calls_of self.new.cpu.now) }
+        ensures done { (x : T) × (y : T) × FnOnceReturnsAtMut W.FnOnce work x result y }
+    {
+        enter(self.cpu, self.rt, self.domain, rw.id);
+        let done = work_under(self.cpu, self.domain, rw.id, &rw.cell, work);
+        leave(self.cpu, self.domain, rw.id);
+        done
     }
 }

@@ -9,10 +9,10 @@ ghost use Rattle.lk_lock.specs.Standing.{HasRead, HasWritten, IsAsBefore, IsShar
 ghost use Rattle.lk_machine.specs.declared.setup.Verb.TheVariants.{Read, Write};
 
 use crate::locks::Locks;
-use crate::reading::{come_in, go_out, look_at};
+use crate::reading::{come_in, go_out};
 use crate::seat::Seat;
-use crate::updating::{leave_all, work_on};
-use crate::writing::enter;
+use crate::working::{set_copies, work_on_copy, work_on_own};
+use crate::writing::{enter, leave};
 use lk_abs::{Kind, List, Memory};
 use lk_cell::{Any, Key, KeyCell};
 use lk_domain::LockId;
@@ -73,6 +73,15 @@ impl Locks {
     }
 }
 
+impl<'a, R> Seat<'a, R> {
+    /// Whether its processor holds the lock, as a reader or as the writer. Then it may not take it.
+    pub fn holds_shared<T>(&self, shared: &Shared<T>) -> bool
+        ensures { result ≡ holds_in (holds_of self.now.cpu.now) shared.now.id.index }
+    {
+        self.cpu.holds(shared.id)
+    }
+}
+
 impl<'a, R: Wait> Seat<'a, R> {
     /// Takes the lock as a reader, maybe beside other readers, works on the value, and frees the
     /// lock. It waits for writers, so the processor may not hold the lock.
@@ -91,10 +100,19 @@ impl<'a, R: Wait> Seat<'a, R> {
             shared.now.id.index (calls_of self.old.cpu.now) (calls_of self.new.cpu.now) }
         ensures done { (x : T) × FnOnceReturnsAt W.FnOnce work x result }
     {
-        let cell = shared.cells.get(1 + self.cpu.number() as usize);
-        let key = come_in(self.cpu, self.rt, self.domain, shared.id);
-        let (done, key) = look_at(cell, key, work);
-        go_out(self.cpu, self.domain, shared.id, key);
+        let number = self.cpu.number();
+        come_in(self.cpu, self.rt, self.domain, shared.id);
+        let done = work_on_copy(
+            self.cpu,
+            self.domain,
+            shared,
+            number,
+            |value: &mut T| -> U
+                requires callable { W.IsAlwaysCallable work }
+                ensures read { FnOnceReturnsAt W.FnOnce work value.old result }
+            { work(value) },
+        );
+        go_out(self.cpu, self.domain, shared.id);
         done
     }
 
@@ -121,10 +139,10 @@ impl<'a, R: Wait> Seat<'a, R> {
             Write shared.now.id.index (calls_of self.old.cpu.now) (calls_of self.new.cpu.now) }
         ensures done { (x : T) × (y : T) × FnOnceReturnsAtMut W.FnOnce work x result y }
     {
-        let cell = shared.cells.get(0);
-        let key = enter(self.cpu, self.rt, self.domain, shared.id);
-        let (done, left, key) = work_on(cell, key, work);
-        leave_all(self.cpu, self.domain, shared, key, left);
+        enter(self.cpu, self.rt, self.domain, shared.id);
+        let (done, left) = work_on_own(self.cpu, self.domain, shared, work);
+        set_copies(self.cpu, self.domain, shared, left);
+        leave(self.cpu, self.domain, shared.id);
         done
     }
 }

@@ -1,23 +1,7 @@
 // What no clause says: that readers are in at once, and that all copies of a value are one after an update.
-ghost use Rattle.std.specs.Prelude.{◌≡◌, ◌+◌, ◌<◌, length, false};
-ghost use Rattle.lk_domain.specs.Calls.{holds_in};
-ghost use Rattle.lk_domain.specs.Ends.{AllRest, Rests};
-ghost use Rattle.lk_lock.specs.Standing.{holds_of};
-
+use crate::tests::last;
 use crate::{Locks, Open, Seat};
-use lk_abs::{List, Memory, Mode};
-use lk_domain::{Cpu, Domain};
-
-// The last processor of a domain.
-fn last(domain: &Domain, cpus: &mut List<Cpu>) -> Cpu
-    requires some { 0 < length cpus.old.items }
-    requires rest { AllRest domain.now cpus.old.items }
-    ensures rests { Rests domain.now (length cpus.new.items) result }
-    ensures rest { AllRest domain.now cpus.new.items }
-    ensures less { length cpus.old.items ≡ length cpus.new.items + 1 }
-{
-    cpus.pop()
-}
+use lk_abs::{Memory, Mode};
 
 #[test]
 fn two_readers_are_in_at_once(rt: HostRuntime) -> Result<(), Memory> {

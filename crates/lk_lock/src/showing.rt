@@ -3,6 +3,8 @@
 use crate::held::Held;
 use crate::keys::Keys;
 use crate::locks::{Locks, Open, Rw, Spin};
+use crate::pv_locks::PvOpen;
+use crate::pv_seat::PvSeat;
 use crate::seat::Seat;
 use crate::shared::Shared;
 use std::fmt::{Debug, Formatter, Result, Write};
@@ -49,6 +51,14 @@ impl Debug for Open {
     }
 }
 
+impl Debug for PvOpen {
+    fn fmt<W: Write>(&self, f: &mut Formatter<W>) -> Result {
+        f.debug_struct("PvOpen")
+            .field("cpus", &self.cpus.len())
+            .finish_non_exhaustive()
+    }
+}
+
 impl Debug for Keys {
     fn fmt<W: Write>(&self, f: &mut Formatter<W>) -> Result {
         f.debug_struct("Keys").finish_non_exhaustive()
@@ -58,6 +68,14 @@ impl Debug for Keys {
 impl<R> Debug for Seat<'_, R> {
     fn fmt<W: Write>(&self, f: &mut Formatter<W>) -> Result {
         f.debug_struct("Seat")
+            .field("cpu", &self.cpu.number())
+            .finish_non_exhaustive()
+    }
+}
+
+impl<R> Debug for PvSeat<'_, R> {
+    fn fmt<W: Write>(&self, f: &mut Formatter<W>) -> Result {
+        f.debug_struct("PvSeat")
             .field("cpu", &self.cpu.number())
             .finish_non_exhaustive()
     }

@@ -12,7 +12,7 @@ use std::alloc::AllocError;
 use std::sync::Wait;
 
 // The last processor of a domain.
-fn last(domain: &Domain, cpus: &mut List<Cpu>) -> Cpu
+pub(crate) fn last(domain: &Domain, cpus: &mut List<Cpu>) -> Cpu
     requires some { 0 < length cpus.old.items }
     requires rest { AllRest domain.now cpus.old.items }
     ensures rests { Rests domain.now (length cpus.new.items) result }

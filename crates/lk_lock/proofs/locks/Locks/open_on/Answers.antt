@@ -1,8 +1,7 @@
 use Rattle.std.proofs.Common.{◌≡◌, rules, ℕ, List, Option, length, sym, ap, ◌∙◌, subst}
-use Rattle.std.proofs.lemmas.List.{length-replicate}
 use Rattle.lk_domain.specs.Values.{AreShut, Key}
 use Rattle.lk_lock.proofs.Laid.{laid_shut}
-use Rattle.lk_lock.proofs.Mades.{made, shared_made}
+use Rattle.lk_lock.proofs.Mades.{made, same_kinds, shared_made}
 use Rattle.lk_lock.proofs.locks.Locks.open_on.Goals as goal
 
 pub with_values-requires-clause-shut : goal.with_values-requires-clause-shut
@@ -13,12 +12,12 @@ with_values-requires-clause-shut c =
 pub returns-clause-made : goal.returns-clause-made
 returns-clause-made c =
     let kinds : c.in_ok-domain.domain.plan.locks.items ≡ c.args.self.kinds.items = search rules in
-    made c.args.self c.in_ok-domain.domain.plan c.values-values.result kinds
+    made c.args.self c.in_ok-domain.domain.plan c.values-values.result (same_kinds c.args.self c.in_ok-domain.domain.plan kinds)
     (c.in_ok-domain.ensures.cells ∙ c.in_ok-keys.ensures) c.args.self.many c.values-values.ensures.own.0
 
 pub returns-clause-shared : goal.returns-clause-shared
 returns-clause-shared c =
     let kinds : c.in_ok-domain.domain.plan.locks.items ≡ c.args.self.kinds.items = search rules in
-    shared_made c.args.self c.in_ok-domain.domain.plan c.values-values.result kinds
+    shared_made c.args.self c.in_ok-domain.domain.plan c.values-values.result (same_kinds c.args.self c.in_ok-domain.domain.plan kinds)
     (c.in_ok-domain.ensures.cells ∙ c.in_ok-keys.ensures) c.args.self.many c.values-values.ensures.copies
     (ap (λ (xs : List ℕ). length xs) c.in_ok-domain.ensures.plan.sockets ∙ c.requires.threads)

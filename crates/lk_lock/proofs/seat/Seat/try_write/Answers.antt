@@ -1,4 +1,26 @@
+use Rattle.std.proofs.Common.{refl}
+use Rattle.lk_abs.specs.declared.holder.Manner.TheVariants.{Writes}
+use Rattle.lk_lock.proofs.Steps.{at_home, still_holding}
 use Rattle.lk_lock.proofs.seat.Seat.try_write.Goals as goal
 
-pub with-done-requires-clause-key : goal.with-done-requires-clause-key
-with-done-requires-clause-key g c = c.in_ok-key.ensures.key c.args.rw.now.cell.table.shared.table_id c.requires.lock
+pub work_under-done-requires-clause-held : goal.work_under-done-requires-clause-held
+work_under-done-requires-clause-held g c =
+    at_home c.args.rw.now.id.index Writes c.args.self.now.cpu.now c.try_enter.new.cpu
+    (c.try_enter.ensures.holding c.if-not-try_enter.false) refl
+
+pub leave-requires-clause-holding : goal.leave-requires-clause-holding
+leave-requires-clause-holding g c =
+    let old = c.args.self.now.cpu.now in (
+      old,
+      still_holding c.args.rw.now.id.index Writes old c.try_enter.new.cpu
+          (c.try_enter.ensures.holding c.if-not-try_enter.false) c.work_under-done.new.cpu
+          c.work_under-done.ensures.still,
+    )
+
+pub returns-clause-before : goal.returns-clause-before
+returns-clause-before g c =
+    let old = c.args.self.now.cpu.now in
+    c.leave.ensures.before old
+    (still_holding c.args.rw.now.id.index Writes old c.try_enter.new.cpu
+    (c.try_enter.ensures.holding c.if-not-try_enter.false) c.work_under-done.new.cpu
+    c.work_under-done.ensures.still)

@@ -1,7 +1,34 @@
+use Rattle.std.proofs.Common.{refl}
+use Rattle.lk_abs.specs.declared.holder.Manner.TheVariants.{Writes}
+use Rattle.lk_domain.specs.Calls.{terms_of}
+use Rattle.lk_domain.specs.Seats.{calls_of}
+use Rattle.lk_machine.specs.declared.parts.Pc.TheVariants.{Z2}
+use Rattle.lk_machine.specs.declared.setup.Verb.TheVariants.{Write}
+use Rattle.lk_lock.proofs.Steps.{at_home, been_in, still_holding}
 use Rattle.lk_lock.proofs.seat.Seat.write.Goals as goal
 
-pub returns-clause-before : goal.returns-clause-before
-returns-clause-before g c = c.leave.ensures.before c.args.self.now.cpu.now c.enter-key.ensures.inside
+pub work_under-done-requires-clause-held : goal.work_under-done-requires-clause-held
+work_under-done-requires-clause-held g c =
+    at_home c.args.rw.now.id.index Writes c.args.self.now.cpu.now c.enter.new.cpu c.enter.ensures.holding refl
 
-pub with-done-requires-clause-key : goal.with-done-requires-clause-key
-with-done-requires-clause-key g c = c.enter-key.ensures.key c.args.rw.now.cell.table.shared.table_id c.requires.lock
+pub leave-requires-clause-holding : goal.leave-requires-clause-holding
+leave-requires-clause-holding g c =
+    let old = c.args.self.now.cpu.now in (
+      old,
+      still_holding c.args.rw.now.id.index Writes old c.enter.new.cpu c.enter.ensures.holding c.work_under-done.new.cpu
+          c.work_under-done.ensures.still,
+    )
+
+pub returns-clause-before : goal.returns-clause-before
+returns-clause-before g c =
+    let old = c.args.self.now.cpu.now in
+    c.leave.ensures.before old
+    (still_holding c.args.rw.now.id.index Writes old c.enter.new.cpu c.enter.ensures.holding c.work_under-done.new.cpu
+    c.work_under-done.ensures.still)
+
+pub returns-clause-path : goal.returns-clause-path
+returns-clause-path g c =
+    let old = c.args.self.now.cpu.now in
+    been_in (terms_of c.args.self.now.domain.now.plan) old.number Write c.args.rw.now.id.index Writes Z2 (calls_of old)
+    c.enter.new.cpu c.work_under-done.new.cpu (calls_of c.leave.new.cpu) c.work_under-done.ensures.still c.enter.ensures.path
+    c.leave.ensures.left

@@ -1,6 +1,0 @@
-use Rattle.lk_lock.specs.Standing.{IsStill}
-use Rattle.lk_lock.proofs.updating.set_copies.Given as goal
-
--- between two copies the processor stands as it did
-abbrev pub invariant-loop-number : goal.invariant-loop-number
-invariant-loop-number g l = IsStill l.fn.cpu l.cpu
