@@ -1,18 +1,20 @@
 #!/usr/bin/env python3
-"""race.py [--runs N] [--kind spin|rw] [--crowd | --alignments | --values] PROGRAM [MODE..]
+"""race.py [--runs N] [--kind spin|rw] [--crowd | --alignments] [--values] PROGRAM [MODE..]
 
-Compares the running locks of these modes (`virt`, `native`, `cna` and `pv`, if none is said) with plain Rust. PROGRAM is a built
-`lk_race` (`rt run` in crates/lk_race leaves it in out/). Beside each mode stands the same lock in plain Rust, over atomic words with every
-step SeqCst: the test-and-set lock, the queued lock, that of Dice and Kogan on two sockets whose processors take turns, with a threshold
-of 16, and the paravirtual lock, whose waiters spin for 32,768 turns and then park; and beside all stand std's Mutex and RwLock. These are
-in `race.rs`, which is compiled here by `rustc -O`. Each race is run N times (nine, if not said), all locks in turn, so that they have the
-same machine; printed are the least and the middle nanoseconds a turn, each against that of the same lock in plain Rust, and the middle
-nanoseconds of processor time a turn, user and system, of all threads.
+Compares the running locks of these modes (`virt`, `native`, `cna` and `pv`, if none is said) with plain Rust. PROGRAM is a built `lk_race`
+(`rt run` in crates/lk_race leaves it in out/). Beside each mode stands the same lock in plain Rust, over atomic words with every step
+SeqCst: the test-and-set lock, the queued lock, that of Dice and Kogan on two sockets whose processors take turns, with a threshold of 16,
+and the paravirtual lock, whose waiters spin for 32,768 turns and then park; and beside all stand std's Mutex and RwLock. What lies under a
+lock is in an UnsafeCell there. These are in `race.rs`, which is compiled here by `rustc -O`. Each race is run N times (nine, if not said),
+all locks in turn, so that they have the same machine; printed are the least and the middle nanoseconds a turn, each against that of the
+same lock in plain Rust, and the middle nanoseconds of processor time a turn, user and system, of all threads.
 
 spin, bare   a turn takes the lock and frees it; nothing lies under it
-spin, work   it changes two numbers in between: those of the value under the lock; in `pv` two atomics, each by a load and a store
+spin, work   it changes the two numbers of the value under the lock in between
 rw, bare     a turn takes the lock as a reader and frees it, and each hundredth as a writer; not in `pv`, which has no such lock
-rw, work     a reader compares the two numbers, and a writer changes them
+rw, work     a reader compares the two numbers of the value, and a writer changes them. In PROGRAM the value is a `Shared`: a reader has
+             a copy of it for its own processor, and the writer changes the value and then sets the copy of each processor. In plain
+             Rust, and under std's RwLock, there is one value, which readers compare in place
 
 A turn without contention is short, and on many processors of Intel it takes up to 3 ns more or less by where its loop stands in the
 lines of the code: so a figure of either program also goes by where the compiler happened to lay its loop, and `--alignments` takes that
@@ -32,7 +34,8 @@ middle, such luck is left; where other work runs beside it, the times are those 
              ratio of the middles
 --values     in place of these: a turn takes a spinlock, adds one to a number of its value, and frees it, with a value of 8 bytes and one
              of 1 KiB, on one, two and four threads. Beside each mode stands the same lock in plain Rust with the value in an
-             UnsafeCell, and beside all std's Mutex and the Mutex of Rattle's library, which has std's as its peer. `pv` has no values
+             UnsafeCell, and beside all std's Mutex and the Mutex of Rattle's library, which has std's as its peer. With --alignments too
+             one thread does so at each alignment
 """
 import argparse
 import os
@@ -53,16 +56,17 @@ PADS = range(16, 144, 16)
 MODES = ["virt", "native", "cna", "pv"]
 SIZES = {"spin8": "8 bytes", "spin1024": "1 KiB"}
 VALUE_TURNS = {1: 400000, 2: 400000, 4: 400000}
+BARE = {"spin": "bare", "rw": "rwbare"}
 QUEUES = ["native", "cna"]
 OF_STD = {"spin": "Mutex", "rw": "RwLock"}
+WORKS = (("bare", 0), ("work", 1))
 
 
 def turn(command, threads, turns, work):
     """The nanoseconds a turn of one race, and those of processor time."""
     mode, kind, *spins = command[1:]
-    if kind == "spin" and not work and mode != "pv":
-        kind = "bare"
-    words = [command[0], mode, kind, str(threads), str(turns // threads), str(work), *spins]
+    kind = kind if work else BARE[kind]
+    words = [command[0], mode, kind, str(threads), str(turns // threads), *spins]
     processors = sorted(os.sched_getaffinity(0))[:threads]
     before = resource.getrusage(resource.RUSAGE_CHILDREN)
     told = subprocess.run(words, capture_output=True, text=True, check=True, preexec_fn=lambda: os.sched_setaffinity(0, processors))
@@ -101,7 +105,7 @@ def locks_of(kind, modes, program, plain):
 def race_all(kind, locks, runs):
     """The races of a kind of lock, with at most as many threads as there are processors."""
     for threads, turns in TURNS.items():
-        for name, work in (("bare", 0), ("work", 1)):
+        for name, work in WORKS:
             title = "%s, %s, %d thread%s" % (kind, name, threads, "s" * (threads > 1))
             race(title, locks, threads, {lock: turns for lock in locks}, work, runs)
 
@@ -120,7 +124,7 @@ def race_values(modes, program, plain, runs):
     """The races for values of each size."""
     for kind, size in SIZES.items():
         locks = {"plain mutex": [plain, "std", kind], "mutex": [program, "mutex", kind]}
-        for mode in [mode for mode in modes if mode != "pv"]:
+        for mode in modes:
             locks["plain " + mode] = [plain, mode, kind]
             locks[mode] = [program, mode, kind]
         for threads, turns in VALUE_TURNS.items():
@@ -161,10 +165,10 @@ def compile_plain(plain, *flags):
     subprocess.run(["rustc", "-O", "--edition", "2024", *flags, "-o", plain, os.path.join(HERE, "race.rs")], check=True)
 
 
-def race_alignments(kind, modes, programs, runs):
+def race_alignments(kind, modes, programs, runs, works=WORKS):
     """Races of one thread for each lock, at each alignment, all in turn; prints a line for each race."""
     for mode in [mode for mode in modes if (mode, kind) != ("pv", "rw")]:
-        for name, work in (("bare", 0), ("work", 1)):
+        for name, work in works:
             least = [[float("inf")] * len(PADS) for _ in programs]
             for _ in range(runs):
                 for number in range(len(PADS)):
@@ -190,7 +194,7 @@ def main():
         said.error("a mode is one of " + ", ".join(MODES))
     if args.crowd and (args.alignments or args.kind == "rw"):
         said.error("a crowd races for spinlocks, and not at each alignment")
-    if args.values and (args.crowd or args.alignments or args.kind):
+    if args.values and (args.crowd or args.kind):
         said.error("values have a table of their own")
     with tempfile.TemporaryDirectory() as scratch:
         race_in(scratch, args, modes, [args.kind] if args.kind else list(OF_STD))
@@ -202,8 +206,8 @@ def race_in(scratch, args, modes, kinds):
     if args.alignments:
         programs = aligned_programs(program, scratch)
         print(("%-24s" + "%9s" * 7) % ("race of one thread", "least ns", "middle", "most", "plain", "middle", "most", "ratio"))
-        for kind in kinds:
-            race_alignments(kind, modes, programs, args.runs)
+        for kind in SIZES if args.values else kinds:
+            race_alignments(kind, modes, programs, args.runs, [("work", 1)] if args.values else WORKS)
         return
     plain = os.path.join(scratch, "race")
     compile_plain(plain)

@@ -1,46 +1,15 @@
 // The locks of `lk_run` and `lk_pvdomain` in plain Rust, over atomic words and by the same steps, and the Mutex and the RwLock of std:
 // to compare the speed of `lk_race`, whose words and answers these are. `bench/race.py` compiles and runs it.
+// race virt|native|cna|std bare|rwbare THREADS TURNS 0
 // race virt|native|cna|std spin8|spin|spin1024|rw THREADS TURNS WORK
-// race pv spin THREADS TURNS WORK [SPINS]
+// race pv bare|spin8|spin|spin1024 THREADS TURNS WORK [SPINS]
 mod race_pv;
+mod race_rw;
 mod race_values;
 
-use race_pv::Paravirtual;
 use std::hint::spin_loop;
-use std::sync::RwLock;
 use std::sync::atomic::{AtomicU64, Ordering::SeqCst};
-use std::time::{Duration, Instant};
-
-#[derive(Default)]
-struct Numbers {
-    first: AtomicU64,
-    second: AtomicU64,
-    torn: AtomicU64,
-}
-
-fn raise(number: &AtomicU64) {
-    let met = number.load(SeqCst);
-    number.store(met.wrapping_add(1), SeqCst);
-}
-
-impl Numbers {
-    #[inline]
-    fn change(&self, times: u16) {
-        for _ in 0..times {
-            raise(&self.first);
-            raise(&self.second);
-        }
-    }
-
-    #[inline]
-    fn compare(&self, times: u16) {
-        for _ in 0..times {
-            if self.first.load(SeqCst) != self.second.load(SeqCst) {
-                self.torn.store(1, SeqCst);
-            }
-        }
-    }
-}
+use std::time::Duration;
 
 // As the words of a domain, which stand in lines of the cache of their own.
 #[derive(Default)]
@@ -344,6 +313,11 @@ impl<L: Spin> Shared<L> {
         }
     }
 
+    #[inline]
+    fn read_unlock(&self) {
+        self.word.0.fetch_sub(READER, SeqCst);
+    }
+
     #[inline(never)]
     fn wait_as_reader(&self, cpu: &mut Cpu) {
         self.word.0.fetch_sub(READER, SeqCst);
@@ -363,6 +337,11 @@ impl<L: Spin> Shared<L> {
         }
     }
 
+    #[inline]
+    fn write_unlock(&self) {
+        self.word.0.fetch_sub(WRITER, SeqCst);
+    }
+
     #[inline(never)]
     fn wait_as_writer(&self, cpu: &mut Cpu) {
         let word = &self.word.0;
@@ -378,85 +357,6 @@ impl<L: Spin> Shared<L> {
     }
 }
 
-// What a race is over.
-trait Lock: Sync {
-    fn read(&self, cpu: &mut Cpu, within: impl FnOnce());
-    fn write(&self, cpu: &mut Cpu, within: impl FnOnce());
-}
-
-struct Alone<L>(L);
-
-impl<L: Spin> Lock for Alone<L> {
-    #[inline]
-    fn read(&self, cpu: &mut Cpu, within: impl FnOnce()) {
-        self.write(cpu, within);
-    }
-
-    #[inline]
-    fn write(&self, cpu: &mut Cpu, within: impl FnOnce()) {
-        self.0.lock(cpu);
-        within();
-        self.0.unlock();
-    }
-}
-
-impl<L: Spin> Lock for Shared<L> {
-    #[inline]
-    fn read(&self, cpu: &mut Cpu, within: impl FnOnce()) {
-        Shared::read(self, cpu);
-        within();
-        self.word.0.fetch_sub(READER, SeqCst);
-    }
-
-    #[inline]
-    fn write(&self, cpu: &mut Cpu, within: impl FnOnce()) {
-        Shared::write(self, cpu);
-        within();
-        self.word.0.fetch_sub(WRITER, SeqCst);
-    }
-}
-
-impl Lock for RwLock<()> {
-    #[inline]
-    fn read(&self, _cpu: &mut Cpu, within: impl FnOnce()) {
-        let _held = self.read().unwrap();
-        within();
-    }
-
-    #[inline]
-    fn write(&self, _cpu: &mut Cpu, within: impl FnOnce()) {
-        let _held = self.write().unwrap();
-        within();
-    }
-}
-
-// Each thread takes its turns. Under a reader-writer lock the last of a hundred writes, and the others read.
-fn run(lock: impl Lock, shared: bool, threads: u32, turns: u32, work: u16) {
-    let numbers = Numbers::default();
-    let start = Instant::now();
-    std::thread::scope(|scope| {
-        for number in 0..u64::from(threads) {
-            let (lock, numbers) = (&lock, &numbers);
-            scope.spawn(move || {
-                let mut cpu = Cpu { number, queued: 0 };
-                for turn in 0..turns {
-                    if shared && turn % 100 != 99 {
-                        lock.read(&mut cpu, || numbers.compare(work));
-                    } else {
-                        lock.write(&mut cpu, || numbers.change(work));
-                    }
-                }
-            });
-        }
-    });
-    let time = start.elapsed();
-    let (first, second) = (numbers.first.load(SeqCst), numbers.second.load(SeqCst));
-    let writes = if shared { turns / 100 } else { turns };
-    let wanted = u64::from(threads) * u64::from(writes) * u64::from(work);
-    let right = (first, second) == (wanted, wanted) && numbers.torn.load(SeqCst) == 0;
-    tell(u64::from(threads) * u64::from(turns), &[first, second], right, time);
-}
-
 fn tell(turns: u64, numbers: &[u64], right: bool, time: Duration) {
     let numbers: Vec<String> = numbers.iter().map(u64::to_string).collect();
     println!("turns {turns}");
@@ -469,19 +369,14 @@ fn main() {
     let words: Vec<String> = std::env::args().collect();
     let [_, mode, kind, rest @ ..] = &words[..] else { panic!("no mode and kind") };
     let numbers: Vec<u32> = rest.iter().map(|word| word.parse().unwrap()).collect();
-    let [threads, turns, work, ref spins @ ..] = numbers[..] else { panic!("three numbers") };
+    let [threads, turns, ref spins @ ..] = numbers[..] else { panic!("two numbers") };
     let spins = spins.first().copied().unwrap_or(32768);
-    let work = work as u16;
-    let word = Word::default();
-    match (mode.as_str(), kind.as_str()) {
-        ("pv", "spin") => run(Alone(Paravirtual::new(threads, spins)), false, threads, turns, work),
-        (mode, "spin8") => race_values::race(mode, 0u64, threads, turns, work),
-        (mode, "bare" | "spin") => race_values::race(mode, [0u64; 2], threads, turns, work),
-        (mode, "spin1024") => race_values::race(mode, [0u64; 128], threads, turns, work),
-        ("virt", "rw") => run(Shared { word, wait: TestAndSet::default() }, true, threads, turns, work),
-        ("native", "rw") => run(Shared { word, wait: Queue::<false>::new(threads) }, true, threads, turns, work),
-        ("cna", "rw") => run(Shared { word, wait: Queue::<true>::new(threads) }, true, threads, turns, work),
-        ("std", "rw") => run(RwLock::new(()), true, threads, turns, work),
-        _ => panic!("another mode or kind"),
+    let work = u16::from(!kind.ends_with("bare"));
+    match kind.as_str() {
+        "spin8" => race_values::race(mode, 0u64, threads, turns, work, spins),
+        "bare" | "spin" => race_values::race(mode, [0u64; 2], threads, turns, work, spins),
+        "spin1024" => race_values::race(mode, [0u64; 128], threads, turns, work, spins),
+        "rw" | "rwbare" => race_rw::race(mode, threads, turns, work),
+        _ => panic!("another kind"),
     }
 }

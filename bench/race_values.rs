@@ -1,4 +1,5 @@
 // Values under the spinlocks of race.rs, each in an UnsafeCell which the holder alone reaches, and under std's Mutex.
+use super::race_pv::Paravirtual;
 use super::{Cpu, Queue, Spin, TestAndSet, tell};
 use std::cell::UnsafeCell;
 use std::sync::Mutex;
@@ -106,12 +107,13 @@ fn run<V: Value>(guarded: impl Guarded<V>, threads: u32, turns: u32, work: u16) 
     tell(u64::from(threads) * u64::from(turns), value.numbers(), right, time);
 }
 
-pub fn race(mode: &str, value: impl Value, threads: u32, turns: u32, work: u16) {
+pub fn race(mode: &str, value: impl Value, threads: u32, turns: u32, work: u16, spins: u32) {
     let cell = UnsafeCell::new(value);
     match mode {
         "virt" => run(Under { lock: TestAndSet::default(), value: cell }, threads, turns, work),
         "native" => run(Under { lock: Queue::<false>::new(threads), value: cell }, threads, turns, work),
         "cna" => run(Under { lock: Queue::<true>::new(threads), value: cell }, threads, turns, work),
+        "pv" => run(Under { lock: Paravirtual::new(threads, spins), value: cell }, threads, turns, work),
         "std" => run(Mutex::new(cell.into_inner()), threads, turns, work),
         _ => panic!("another mode"),
     }

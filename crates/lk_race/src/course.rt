@@ -1,6 +1,9 @@
 // What each thread of a race does, whichever lock it acquires.
 ghost use Rattle.std.specs.Prelude.{◌≡◌, ◌≤◌, ◌*◌};
 
+// Under a reader-writer lock the last of so many turns is a writer's, and the others are readers'.
+const HUNDRED: u32 = 100;
+
 /// What is done in a race.
 #[derive(Clone, Copy)]
 pub struct Course {
@@ -8,10 +11,13 @@ pub struct Course {
     pub threads: u32,
     /// How often each thread acquires the lock.
     pub turns: u32,
-    /// How often a thread changes or compares the numbers in a turn.
-    pub work: u16,
     ghost some: { 1 ≤ threads },
     ghost few: { threads ≤ 64 },
+}
+
+/// Whether this turn under a reader-writer lock is a writer's.
+pub fn is_write(turn: u32) -> bool {
+    turn % HUNDRED == HUNDRED - 1
 }
 
 impl Course {
@@ -22,9 +28,14 @@ impl Course {
         u64::from(self.threads) * u64::from(self.turns)
     }
 
-    /// What both numbers are at the end if each thread changed them in `writes` turns, and no
-    /// change was lost.
+    /// In how many turns under a reader-writer lock each thread is the writer.
+    pub fn writes(&self) -> u32 {
+        self.turns / HUNDRED
+    }
+
+    /// What the numbers are at the end if each thread changed them in `writes` turns, and no change was
+    /// lost.
     pub fn changes(&self, writes: u32) -> u64 {
-        u64::from(self.threads) * u64::from(writes) * u64::from(self.work)
+        u64::from(self.threads) * u64::from(writes)
     }
 }

@@ -1,46 +1,49 @@
 //! Threads acquire one lock in turn, and change what lies under it while they hold it.
 //!
-//! `lk_race MODE spin THREADS TURNS WORK` makes a domain of this mode with one spinlock, under
+//! `lk_race MODE spin THREADS TURNS` makes a domain of this mode with one spinlock, under
 //! which lie two numbers, and a processor for each thread. In each of its turns a thread acquires
-//! the lock, raises the numbers WORK times, and releases the lock. At the end the program writes
-//! the numbers to standard output, and to standard error the time that the turns took. For `spin8`
-//! one number lies under the lock, and for `spin1024` one number at the head of 1 KiB. With `mutex`
-//! as MODE the lock is a mutex of the standard library.
+//! the lock, raises the numbers by one, and releases the lock. At the end the program writes the
+//! numbers to standard output, and to standard error the time that the turns took. For `spin8`
+//! one number lies under the lock, and for `spin1024` one number at the head of 1 KiB. With
+//! `mutex` as MODE the lock is a mutex of the standard library.
 //!
-//! `lk_race MODE bare THREADS TURNS 0` takes a spinlock with nothing under it.
+//! `lk_race MODE rw THREADS TURNS` takes a reader-writer lock whose value readers share: in 99 of
+//! 100 turns a thread compares its two numbers as a reader, and in the last one it changes them, and
+//! so the copy of each processor.
 //!
-//! `lk_race MODE rw THREADS TURNS WORK` takes a reader-writer lock: in 99 of 100 turns a thread
-//! compares two numbers WORK times as a reader, and in the last one it changes them.
+//! `lk_race pv spin THREADS TURNS [SPINS]` takes the paravirtual lock, also with `spin8` and
+//! `spin1024`. A waiter spins for at most SPINS turns, or 32,768, and then sleeps until it is
+//! kicked.
 //!
-//! `lk_race pv spin THREADS TURNS WORK [SPINS]` takes the paravirtual lock. A waiter spins for at
-//! most SPINS turns, or 32,768, and then sleeps until it is kicked.
+//! With `bare` as the kind the spinlock has nothing under it, also with `pv` as MODE, and with
+//! `rwbare` the reader-writer lock has nothing.
 //!
-//! This is a whole program with locks for threads. Its spinlocks have values. For `rw` and `pv` it
-//! has a plan, the domain that is made of it with its processors, the calls, and the end of the
-//! domain.
+//! This is a whole program with locks for threads. Its locks have values. The bare ones have a
+//! plan, the domain that is made of it with its processors, the calls, and the end of the domain.
 #![tactic(auto)]
 
 mod bare_race;
 mod course;
 mod mutex_race;
-mod numbers;
 mod plan;
+mod pv_bare_race;
 mod pv_race;
 mod rw_race;
 mod spin_race;
 mod value;
 mod words;
 
-use bare_race::{BareRace, take_all_bare_turns};
+use bare_race::{BareRace, share_all_bare_turns, take_all_bare_turns};
+use course::Course;
 use lk_abs::{Kind, Memory};
 use lk_domain::{Domain, close};
-use lk_lock::{Locks, Open};
+use lk_lock::{Locks, Open, PvOpen};
 use lk_pvdomain::{PvDomain, pv_close};
 use mutex_race::{MutexRace, take_all_mutex_turns};
-use numbers::Numbers;
 use plan::{plan_of, pv_plan_of, two_sockets};
-use pv_race::{PvRace, take_all_pv_turns};
-use rw_race::{RwRace, share_all_turns};
+use pv_bare_race::{PvBareRace, take_all_bare_pv_turns};
+use pv_race::{PvRace, PvTrack, read_pv, take_all_pv_turns};
+use rw_race::{RwRace, RwTrack, read_shared, share_all_turns};
 use spin_race::{Size, SpinRace, Track, read, take_all_turns};
 use std::io;
 use std::process::ExitCode;
@@ -75,25 +78,50 @@ fn time_since(rt: &impl Clock, start: io::Result<Instant>) -> io::Result<Duratio
     }
 }
 
-// A race for a spinlock with nothing under it.
+// What a race with nothing under its lock comes to.
+fn of_nothing(rt: &impl AllocGlobal, course: &Course, time: io::Result<Duration>) -> Outcome {
+    Outcome {
+        turns: course.all_turns(),
+        wanted: 0,
+        numbers: Vec::new(rt.alloc()),
+        were_one: true,
+        time,
+    }
+}
+
+// A race for a lock with nothing under it, from the plan of its domain to the domain's end.
 fn bare<R: Threads + Wait + Sync + AllocGlobal + Clock>(
     rt: &R,
     race: &BareRace,
 ) -> Result<Outcome, Memory> {
     let course = race.course;
-    let plan = plan_of(rt.alloc(), race.mode, Kind::Spin, &course)?;
+    let plan = plan_of(rt.alloc(), race.mode, race.kind, &course)?;
     let (domain, mut cpus) = Domain::new(rt.alloc(), &plan)?;
     let start = Instant::now(rt);
-    take_all_bare_turns(rt, &domain, course.turns, &mut cpus);
+    match race.kind {
+        Kind::Spin => take_all_bare_turns(rt, &domain, course.turns, &mut cpus),
+        Kind::Rw => share_all_bare_turns(rt, &domain, course.turns, &mut cpus),
+    }
     let time = time_since(rt, start);
     match close(rt.alloc(), domain, cpus) {
-        Ok(_) => Ok(Outcome {
-            turns: course.all_turns(),
-            wanted: 0,
-            numbers: Vec::new(rt.alloc()),
-            were_one: true,
-            time,
-        }),
+        Ok(_) => Ok(of_nothing(rt, &course, time)),
+        Err(_) => Err(Memory),
+    }
+}
+
+// A race for a paravirtual lock with nothing under it.
+fn pv_bare<R: Threads + Wait + Sync + AllocGlobal + Clock>(
+    rt: &R,
+    race: &PvBareRace,
+) -> Result<Outcome, Memory> {
+    let course = race.course;
+    let plan = pv_plan_of(rt.alloc(), race)?;
+    let (domain, mut cpus) = PvDomain::new(rt.alloc(), &plan)?;
+    let start = Instant::now(rt);
+    take_all_bare_pv_turns(rt, &domain, course.turns, &mut cpus);
+    let time = time_since(rt, start);
+    match pv_close(rt.alloc(), domain, cpus) {
+        Ok(_) => Ok(of_nothing(rt, &course, time)),
         Err(_) => Err(Memory),
     }
 }
@@ -145,50 +173,59 @@ fn mutex<R: Threads + Wait + Sync + AllocGlobal + Clock, V: Value + Send + Drop>
     })
 }
 
-// A race for a reader-writer lock, from the plan of its domain to the domain's end.
+// A race for a reader-writer lock whose value readers share.
 fn rw<R: Threads + Wait + Sync + AllocGlobal + Clock>(
     rt: &R,
     race: &RwRace,
 ) -> Result<Outcome, Memory> {
-    let plan = plan_of(rt.alloc(), race.mode, Kind::Rw, &race.course)?;
-    let (domain, mut cpus) = Domain::new(rt.alloc(), &plan)?;
-    let numbers = Numbers::new();
+    let course = race.course;
+    let mut locks = Locks::new(rt.alloc(), course.threads)?;
+    let numbers = locks.shared([0u64; 2])?;
+    let were_one = locks.spin(true)?;
+    let topology = two_sockets(rt.alloc(), course.threads)?;
+    let Open { domain, mut cpus } = locks.open_on(race.mode, topology)?;
+    let track = RwTrack {
+        domain: &domain,
+        numbers: &numbers,
+        were_one: &were_one,
+    };
     let start = Instant::now(rt);
-    share_all_turns(rt, &domain, &numbers, race, &mut cpus);
+    share_all_turns(rt, &track, &course, &mut cpus);
     let time = time_since(rt, start);
-    match close(rt.alloc(), domain, cpus) {
-        Ok(_) => Ok(Outcome {
-            turns: race.course.all_turns(),
-            wanted: race.course.changes(race.writes()),
-            numbers: numbers.read(rt.alloc())?,
-            were_one: numbers.were_one(),
-            time,
-        }),
-        Err(_) => Err(Memory),
-    }
+    let (numbers, were_one) = read_shared(rt, rt.alloc(), cpus.get_mut(0), &track)?;
+    Ok(Outcome {
+        turns: course.all_turns(),
+        wanted: course.changes(course.writes()),
+        numbers,
+        were_one,
+        time,
+    })
 }
 
-// A race for the paravirtual lock.
-fn pv<R: Threads + Wait + Sync + AllocGlobal + Clock>(
+// A race for the paravirtual lock with this value.
+fn pv<R: Threads + Wait + Sync + AllocGlobal + Clock, V: Value + Send + Drop>(
     rt: &R,
     race: &PvRace,
+    value: V,
 ) -> Result<Outcome, Memory> {
-    let plan = pv_plan_of(rt.alloc(), race)?;
-    let (domain, mut cpus) = PvDomain::new(rt.alloc(), &plan)?;
-    let numbers = Numbers::new();
+    let course = race.course;
+    let mut locks = Locks::new(rt.alloc(), course.threads)?;
+    let value = locks.spin(value)?;
+    let PvOpen { domain, mut cpus } = locks.open_pv(race.spins)?;
+    let track = PvTrack {
+        domain: &domain,
+        value: &value,
+    };
     let start = Instant::now(rt);
-    take_all_pv_turns(rt, &domain, &numbers, race, &mut cpus);
+    take_all_pv_turns(rt, &track, &course, &mut cpus);
     let time = time_since(rt, start);
-    match pv_close(rt.alloc(), domain, cpus) {
-        Ok(_) => Ok(Outcome {
-            turns: race.course.all_turns(),
-            wanted: race.course.changes(race.course.turns),
-            numbers: numbers.read(rt.alloc())?,
-            were_one: numbers.were_one(),
-            time,
-        }),
-        Err(_) => Err(Memory),
-    }
+    Ok(Outcome {
+        turns: course.all_turns(),
+        wanted: course.changes(course.turns),
+        numbers: read_pv(rt, rt.alloc(), cpus.get_mut(0), &track)?,
+        were_one: true,
+        time,
+    })
 }
 
 // The race for which the words ask.
@@ -209,7 +246,12 @@ fn carry_out<R: Threads + Wait + Sync + AllocGlobal + Clock>(
             Size::Large => mutex(rt, race, [0u64; 128]),
         },
         Asked::Rw(race) => rw(rt, race),
-        Asked::Pv(race) => pv(rt, race),
+        Asked::PvBare(race) => pv_bare(rt, race),
+        Asked::Pv(race) => match race.size {
+            Size::One => pv(rt, race, 0u64),
+            Size::Two => pv(rt, race, [0u64; 2]),
+            Size::Large => pv(rt, race, [0u64; 128]),
+        },
     }
 }
 
@@ -230,10 +272,10 @@ fn tell(rt: &(impl Print + Eprint), outcome: Outcome) -> io::Result<bool> {
 
 // How the program is called.
 fn tell_usage(rt: &impl Eprint) -> io::Result<()> {
-    eprintln!(rt; "usage: lk_race virt|native|cna|mutex spin8|spin|spin1024 THREADS TURNS WORK")?;
-    eprintln!(rt; "       lk_race virt|native|cna bare THREADS TURNS 0")?;
-    eprintln!(rt; "       lk_race virt|native|cna rw THREADS TURNS WORK")?;
-    eprintln!(rt; "       lk_race pv spin THREADS TURNS WORK [SPINS]")?;
+    eprintln!(rt; "usage: lk_race virt|native|cna|mutex spin8|spin|spin1024 THREADS TURNS")?;
+    eprintln!(rt; "       lk_race virt|native|cna bare|rwbare THREADS TURNS")?;
+    eprintln!(rt; "       lk_race virt|native|cna rw THREADS TURNS")?;
+    eprintln!(rt; "       lk_race pv bare|spin8|spin|spin1024 THREADS TURNS [SPINS]")?;
     Ok(())
 }
 

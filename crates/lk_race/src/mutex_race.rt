@@ -20,9 +20,8 @@ pub struct MutexRace {
 
 // All turns of a thread.
 fn take_turns<V: Value, R: Wait>(rt: &R, value: &Mutex<V>, course: &Course) {
-    let work = course.work;
     for _ in 0..course.turns {
-        value.lock(rt).change(work);
+        value.lock(rt).change();
     }
 }
 

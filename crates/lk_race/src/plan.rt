@@ -5,7 +5,7 @@ ghost use Rattle.lk_domain.specs.Plans.{IsLawfulPlan, cpus_of, kind_at, locks_of
 ghost use Rattle.lk_pvdomain.specs.PvPlans.{IsLawful};
 
 use crate::course::Course;
-use crate::pv_race::PvRace;
+use crate::pv_bare_race::PvBareRace;
 use lk_abs::{Format, Kind, List, Memory, Mode, Topology};
 use lk_domain::Plan;
 use lk_pvdomain::PvPlan;
@@ -60,7 +60,7 @@ pub fn plan_of(alloc: Global, mode: Mode, kind: Kind, course: &Course) -> Result
 /// # Errors
 ///
 /// There is not enough memory.
-pub fn pv_plan_of(alloc: Global, race: &PvRace) -> Result<PvPlan, Memory>
+pub fn pv_plan_of(alloc: Global, race: &PvBareRace) -> Result<PvPlan, Memory>
     ensures lawful { IfOk result (λ plan. IsLawful plan) }
     ensures cpus { IfOk result (λ plan. length plan.shares.items ≡ race.now.course.threads) }
     ensures locks { IfOk result (λ plan. plan.locks ≡ 1) }

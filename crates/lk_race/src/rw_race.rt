@@ -1,24 +1,20 @@
-// A race for a reader-writer lock.
+// A race for a reader-writer lock whose value readers share.
 ghost use Rattle.std.specs.Prelude.{◌≡◌, false, length};
-ghost use Rattle.lk_abs.specs.declared.names.Kind.TheVariants.{Rw};
-ghost use Rattle.lk_law.specs.Agree.{halts};
+ghost use Rattle.lk_abs.specs.declared.names.Kind.TheVariants.{Spin as spinning};
 ghost use Rattle.lk_domain.specs.Ends.{AllRest, Rests};
-ghost use Rattle.lk_domain.specs.Plans.{kind_at, locks_of};
+ghost use Rattle.lk_law.specs.Agree.{halts};
+ghost use Rattle.lk_lock.specs.Cells.{names_of};
+ghost use Rattle.lk_lock.specs.Standing.{IsSharedUnder, IsUnder};
 
-use crate::course::Course;
-use crate::numbers::Numbers;
-use lk_abs::{List, Mode};
-use lk_domain::{Cpu, Domain, LockId};
-use lk_run::{NoIrq, read_lock, read_unlock, write_lock, write_unlock};
+use crate::course::{Course, is_write};
+use crate::value::Value;
+use lk_abs::{List, Memory, Mode};
+use lk_domain::{Cpu, Domain};
+use lk_lock::{Seat, Shared, Spin};
+use std::alloc::Global;
 use std::sync::Wait;
 use std::thread;
 use std::thread::Threads;
-
-// The one lock of the domain.
-const LOCK: LockId = LockId { index: 0 };
-
-// The last of so many turns is a writer's, and the others are readers'.
-const HUNDRED: u32 = 100;
 
 /// A race for a reader-writer lock.
 #[derive(Clone, Copy)]
@@ -30,63 +26,60 @@ pub struct RwRace {
     ghost awake: { halts mode ≡ false },
 }
 
-impl RwRace {
-    /// The number of turns in which each thread changes the numbers.
-    pub fn writes(&self) -> u32 {
-        self.course.turns / HUNDRED
-    }
+/// What the threads share: two numbers under a reader-writer lock, whether readers ever found them
+/// different, and the domain of the two locks.
+#[derive(Drop)]
+pub struct RwTrack<'a> {
+    pub domain: &'a Domain,
+    pub numbers: &'a Shared<[u64; 2]>,
+    pub were_one: &'a Spin<bool>,
+    ghost shared: { IsSharedUnder domain.now.plan numbers.now.id.index
+        (names_of numbers.now.cells.items) },
+    ghost under: { IsUnder domain.now.plan spinning were_one.now.id.index
+        were_one.now.cell.table.shared.table_id },
 }
 
-// A turn as the writer. It is one in a hundred, and has a function of its own, to keep the code of
-// the others short.
-#[cold]
-#[inline(never)]
-fn write_turn<R: Wait>(cpu: &mut Cpu, rt: &R, domain: &Domain, numbers: &Numbers, work: u16)
-    requires one { locks_of domain.now.plan ≡ 1 }
-    requires kind { kind_at domain.now.plan 0 ≡ Rw }
-    requires rests { Rests domain.now cpu.old.number cpu.old }
+// A turn: the last of a hundred is a writer's. Returns whether its numbers were one.
+fn take_turn<R: Wait>(rt: &R, cpu: &mut Cpu, track: &RwTrack<'_>, turn: u32) -> bool
+    requires rests { Rests track.now.domain.now cpu.old.number cpu.old }
     ensures number { cpu.new.number ≡ cpu.old.number }
-    ensures rests { Rests domain.now cpu.old.number cpu.new }
+    ensures rests { Rests track.now.domain.now cpu.old.number cpu.new }
 {
-    write_lock(cpu, rt, domain, LOCK, &mut NoIrq);
-    numbers.change(work);
-    write_unlock(cpu, domain, LOCK);
-}
-
-// All turns of a processor.
-#[inline(never)]
-fn share_turns<R: Wait>(cpu: &mut Cpu, rt: &R, domain: &Domain, numbers: &Numbers, race: &RwRace)
-    requires one { locks_of domain.now.plan ≡ 1 }
-    requires kind { kind_at domain.now.plan 0 ≡ Rw }
-    requires rests { Rests domain.now cpu.old.number cpu.old }
-    ensures rests { Rests domain.now cpu.old.number cpu.new }
-{
-    let work = race.course.work;
-    for turn in 0..race.course.turns {
-        if turn % HUNDRED != HUNDRED - 1 {
-            read_lock(cpu, rt, domain, LOCK, &mut NoIrq);
-            numbers.compare(work);
-            read_unlock(cpu, domain, LOCK);
-        } else {
-            write_turn(cpu, rt, domain, numbers, work);
-        }
+    let mut seat = Seat::new(rt, track.domain, cpu);
+    if is_write(turn) {
+        seat.update(track.numbers, |numbers: &mut [u64; 2]| numbers.change());
+        true
+    } else {
+        seat.read(track.numbers, |numbers: &[u64; 2]| -> bool {
+            numbers[0] == numbers[1]
+        })
     }
 }
 
-/// Lets all processors take their turns at the same time, each on a thread of its own. Returns when
-/// all threads have ended.
+// All turns of a processor. Then it tells whether its numbers were always one.
+fn take_turns<R: Wait>(rt: &R, cpu: &mut Cpu, track: &RwTrack<'_>, course: &Course)
+    requires rests { Rests track.now.domain.now cpu.old.number cpu.old }
+    ensures rests { Rests track.now.domain.now cpu.old.number cpu.new }
+{
+    let mut one = true;
+    for turn in 0..course.turns {
+        one = take_turn(rt, cpu, track, turn) && one;
+    }
+    let mut seat = Seat::new(rt, track.domain, cpu);
+    seat.with(track.were_one, |all: &mut bool| *all = *all && one);
+}
+
+/// Lets all processors take their turns at the same time, each on a thread of its own. Returns
+/// when all threads have ended.
 pub fn share_all_turns<R: Threads + Wait + Sync>(
     rt: &R,
-    domain: &Domain,
-    numbers: &Numbers,
-    race: &RwRace,
+    track: &RwTrack<'_>,
+    course: &Course,
     cpus: &mut List<Cpu>,
 )
-    requires one { locks_of domain.now.plan ≡ 1 }
-    requires kind { kind_at domain.now.plan 0 ≡ Rw }
-    requires rest { AllRest domain.now cpus.old.items }
+    requires rest { AllRest track.now.domain.now cpus.old.items }
     ensures all { length cpus.new.items ≡ length cpus.old.items }
-    ensures rest { AllRest domain.now cpus.new.items }
+    ensures rest { AllRest track.now.domain.now cpus.new.items }
 {
     let count = cpus.len();
     if count > 0 {
@@ -94,7 +87,26 @@ pub fn share_all_turns<R: Threads + Wait + Sync>(
             rt,
             cpus.as_mut_slice(),
             count,
-            &|_, cpu| { share_turns(cpu, rt, domain, numbers, race) },
+            &|_, cpu| { take_turns(rt, cpu, track, course) },
         );
     }
+}
+
+/// The numbers at the end, and whether readers always found them to be one.
+///
+/// # Errors
+///
+/// There is not enough memory.
+pub fn read_shared<R: Wait>(
+    rt: &R,
+    alloc: Global,
+    cpu: &mut Cpu,
+    track: &RwTrack<'_>,
+) -> Result<(Vec<u64>, bool), Memory>
+    requires rests { Rests track.now.domain.now 0 cpu.old }
+{
+    let mut seat = Seat::new(rt, track.domain, cpu);
+    let were_one = seat.with(track.were_one, |all: &mut bool| -> bool { *all });
+    let numbers = seat.read(track.numbers, |numbers: &[u64; 2]| numbers.to_vec(alloc));
+    Ok((numbers?, were_one))
 }

@@ -52,15 +52,15 @@ fn take_turns<V: Value, R: Wait>(rt: &R, cpu: &mut Cpu, track: &Track<'_, V>, co
     requires rests { Rests track.now.domain.now cpu.old.number cpu.old }
     ensures rests { Rests track.now.domain.now cpu.old.number cpu.new }
 {
-    let work = course.work;
+    let (domain, value) = (track.domain, track.value);
     for _ in 0..course.turns {
-        let mut seat = Seat::new(rt, track.domain, cpu);
-        seat.with(track.value, |value: &mut V| value.change(work));
+        let mut seat = Seat::new(rt, domain, cpu);
+        seat.with(value, |value: &mut V| value.change());
     }
 }
 
-/// Lets all processors take their turns at the same time, each on a thread of its own. Returns when
-/// all threads have ended.
+/// Lets all processors take their turns at the same time, each on a thread of its own. Returns
+/// when all threads have ended.
 pub fn take_all_turns<V: Value + Send, R: Threads + Wait + Sync>(
     rt: &R,
     track: &Track<'_, V>,

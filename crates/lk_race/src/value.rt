@@ -1,11 +1,11 @@
-// What lies under a spinlock or a mutex.
+// What lies under a lock.
 
 use std::slice;
 
 /// A value with numbers that are changed together, and nothing else of which is changed.
 pub trait Value {
-    /// Raises its numbers by one, `times` times.
-    fn change(&mut self, times: u16);
+    /// Raises its numbers by one.
+    fn change(&mut self);
 
     /// Its numbers.
     fn numbers(&self) -> &[u64];
@@ -13,10 +13,8 @@ pub trait Value {
 
 /// One number.
 impl Value for u64 {
-    fn change(&mut self, times: u16) {
-        for _ in 0..times {
-            *self = self.wrapping_add(1);
-        }
+    fn change(&mut self) {
+        *self = self.wrapping_add(1);
     }
 
     fn numbers(&self) -> &[u64] {
@@ -26,11 +24,9 @@ impl Value for u64 {
 
 /// Two numbers.
 impl Value for [u64; 2] {
-    fn change(&mut self, times: u16) {
-        for _ in 0..times {
-            self[0] = self[0].wrapping_add(1);
-            self[1] = self[1].wrapping_add(1);
-        }
+    fn change(&mut self) {
+        self[0].change();
+        self[1].change();
     }
 
     fn numbers(&self) -> &[u64] {
@@ -40,8 +36,8 @@ impl Value for [u64; 2] {
 
 /// One number at the head of 1 KiB.
 impl Value for [u64; 128] {
-    fn change(&mut self, times: u16) {
-        self[0].change(times);
+    fn change(&mut self) {
+        self[0].change();
     }
 
     fn numbers(&self) -> &[u64] {

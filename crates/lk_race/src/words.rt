@@ -5,10 +5,11 @@ ghost use Rattle.lk_law.specs.Agree.{halts};
 use crate::bare_race::BareRace;
 use crate::course::Course;
 use crate::mutex_race::MutexRace;
+use crate::pv_bare_race::PvBareRace;
 use crate::pv_race::PvRace;
 use crate::rw_race::RwRace;
 use crate::spin_race::{Size, SpinRace};
-use lk_abs::Mode;
+use lk_abs::{Kind, Mode};
 use std::env::{self, Env};
 
 // How many turns a waiter spins before it halts, if no argument says it.
@@ -17,15 +18,17 @@ const SPINS: u16 = 32_768;
 /// The race for which the program's arguments ask.
 #[derive(Clone, Copy)]
 pub enum Asked {
-    /// A race for a spinlock with nothing under it.
+    /// A race for a lock with nothing under it.
     Bare(BareRace),
     /// A race for a spinlock with a value.
     Spin(SpinRace),
     /// A race for a mutex of the standard library.
     Mutex(MutexRace),
-    /// A race for a reader-writer lock.
+    /// A race for a reader-writer lock with a value.
     Rw(RwRace),
-    /// A race for a lock whose waiters halt.
+    /// A race for a lock whose waiters halt, with nothing under it.
+    PvBare(PvBareRace),
+    /// A race for a lock whose waiters halt, with a value.
     Pv(PvRace),
 }
 
@@ -37,6 +40,15 @@ fn mode_of(word: &str) -> Option<Mode>
         "virt" => Some(Mode::Virt),
         "native" => Some(Mode::Native),
         "cna" => Some(Mode::Cna),
+        _ => None,
+    }
+}
+
+// The kind of lock in a race with nothing under it that a word names.
+fn bare_kind_of(kind: &str) -> Option<Kind> {
+    match kind {
+        "bare" => Some(Kind::Spin),
+        "rwbare" => Some(Kind::Rw),
         _ => None,
     }
 }
@@ -54,10 +66,18 @@ fn size_of(kind: &str) -> Option<Size> {
 // A race for a lock whose waiters halt, which is a spinlock.
 fn halting(kind: &str, spins: Option<u16>, course: Course) -> Option<Asked> {
     let spins = spins.unwrap_or(SPINS);
-    if spins < 1 || kind != "spin" {
+    if spins < 1 {
         return None;
     }
-    Some(Asked::Pv(PvRace { spins, course }))
+    if kind == "bare" {
+        return Some(Asked::PvBare(PvBareRace { spins, course }));
+    }
+    let size = size_of(kind)?;
+    Some(Asked::Pv(PvRace {
+        spins,
+        size,
+        course,
+    }))
 }
 
 // A race for a lock whose waiters never halt.
@@ -66,9 +86,9 @@ fn spinning(mode: &str, kind: &str, course: Course) -> Option<Asked> {
         let mode = mode_of(mode)?;
         return Some(Asked::Rw(RwRace { mode, course }));
     }
-    if kind == "bare" {
+    if let Some(kind) = bare_kind_of(kind) {
         let mode = mode_of(mode)?;
-        return Some(Asked::Bare(BareRace { mode, course }));
+        return Some(Asked::Bare(BareRace { mode, kind, course }));
     }
     let size = size_of(kind)?;
     if mode == "mutex" {
@@ -86,7 +106,6 @@ pub fn race_of<R: Env + Alloc>(rt: &R) -> Option<Asked> {
     let kind = words.next()?;
     let threads = words.next()?.parse::<u32>().ok()?;
     let turns = words.next()?.parse::<u32>().ok()?;
-    let work = words.next()?.parse::<u16>().ok()?;
     let spins = match words.next() {
         Some(word) => Some(word.parse::<u16>().ok()?),
         None => None,
@@ -94,11 +113,7 @@ pub fn race_of<R: Env + Alloc>(rt: &R) -> Option<Asked> {
     if words.next().is_some() || threads < 1 || threads > 64 {
         return None;
     }
-    let course = Course {
-        threads,
-        turns,
-        work,
-    };
+    let course = Course { threads, turns };
     match (mode.as_str(), spins) {
         ("pv", spins) => halting(kind.as_str(), spins, course),
         (mode, None) => spinning(mode, kind.as_str(), course),

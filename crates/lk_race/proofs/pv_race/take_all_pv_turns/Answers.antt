@@ -1,11 +1,11 @@
 use denote.Param.Send.{sendable}
 use Rattle.std.proofs.Crossing.{crosses}
-use Rattle.lk_pvdomain.proofs.PvSeating.{pv_domain_sync, pv_domain_field_sync}
-use Rattle.lk_abs.proofs.names.Mode.TheSendSync as mode
-use Rattle.lk_abs.proofs.names.Kind.TheSendSync as kind
+use Rattle.lk_lock.proofs.locks.Spin.TheSendSync as spin
+use Rattle.lk_pvdomain.proofs.PvSeating.{pv_domain_sync}
 use Rattle.lk_race.proofs.pv_race.take_all_pv_turns.Goals as goal
 
 pub for_each_mut-requires-sync-F : goal.for_each_mut-requires-sync-F
 for_each_mut-requires-sync-F g c κs within =
     let host = c.type_bounds.sync-R in
-    search (sendable, crosses, pv_domain_sync, pv_domain_field_sync, mode.the_sync, kind.the_sync) depth 40
+    let value = c.type_bounds.send-V in
+    search (sendable, crosses, pv_domain_sync, spin.the_sync, spin.the_field_sync) depth 40

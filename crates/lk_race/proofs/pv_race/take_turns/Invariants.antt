@@ -1,10 +1,10 @@
 use Rattle.std.proofs.Common.{◌≡◌}
-use Rattle.lk_race.specs.Halting.{IsReady}
+use Rattle.lk_lock.specs.PvStanding.{IsIdle}
 use Rattle.lk_race.proofs.pv_race.take_turns.Given as goal
 
--- between two turns the processor is ready
+-- between two turns the processor is idle
 abbrev pub invariant-loop : goal.invariant-loop
 invariant-loop g l = record {
   number : l.cpu.number ≡ l.initial.cpu.number;
-  ready : IsReady l.domain l.initial.cpu.number l.cpu;
+  idle : IsIdle l.track.domain.now l.initial.cpu.number l.cpu;
 }
