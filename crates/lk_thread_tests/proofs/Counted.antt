@@ -1,5 +1,5 @@
--- A turn of a processor that counts in the value of lock 1: the lock is taken, the value goes out and comes
--- home, and the lock is freed. At the end the key comes back.
+-- A turn of a processor that counts in the value of lock 1: it takes the lock, works on the value, and frees
+-- the lock. At the end the key comes back.
 use Rattle.std.proofs.Common.{◌≡◌, ℕ, ◌+◌, ◌<◌, List, [], ◌∷◌, ◌++◌, length, get_or, true, false, Option, Some, None, refl, sym, ap, ◌∙◌, subst, arith}
 use Rattle.std.proofs.lemmas.List.{get_or_push, length-append}
 use Rattle.atomic_table.specs.Seated.{TableId}
@@ -8,13 +8,12 @@ use Rattle.lk_abs.specs.declared.holder.Manner.TheVariants.{Spins}
 use Rattle.lk_domain.specs.Calls.{Calls, Hold, hold, hold_in, holds_in, lock_name}
 use Rattle.lk_domain.specs.Ledgers.{Ledger}
 use Rattle.lk_domain.specs.Plans.{cpus_of}
-use Rattle.lk_domain.specs.Values.{AreLaid, Fits, FitsUnder, IsHomeWith, IsNewestAt, Key, lodged, marked_out, older, out_in, outs_of}
+use Rattle.lk_domain.specs.Values.{AreLaid, Fits, FitsUnder, IsHomeWith, Key, lodged, out_in}
 use Rattle.lk_domain.specs.Views.{newcomer}
-use Rattle.lk_domain.specs.Who.{Who}
 use Rattle.lk_domain.specs.declared.slot.Stowed.TheVariants.{CellKey}
 use Rattle.lk_domain.specs.declared.view.View.{View}
 use Rattle.lk_pvdomain.specs.PvCalls.{HasFreed, HasTaken, IsResting, without}
-use Rattle.lk_pvdomain.specs.PvSeats.{BringsValueOf, IsDealt, IsOf, IsSame, TakesValueOf, calls_of, ledger_of, view_of}
+use Rattle.lk_pvdomain.specs.PvSeats.{IsDealt, IsOf, IsSame, IsStill, calls_of, ledger_of, view_of}
 use Rattle.lk_pvdomain.specs.declared.cpu.PvCpu.{PvCpu}
 use Rattle.lk_pvdomain.specs.declared.domain.PvDomain.{PvDomain}
 use Rattle.lk_pvdomain.proofs.PvSeating.{same_of}
@@ -50,16 +49,6 @@ pub record HasLock (d : PvDomain) (i : ℕ) (cpu : PvCpu) : Type 0 where
   pub nth : ℕ
   pub holds : (calls_of cpu).holds ≡ hold 0 (lock_name 1) Spins nth ∷ []
 
--- and has its value out
-pub record HasValue (d : PvDomain) (i : ℕ) (cpu : PvCpu) : Type 0 where
-  pub domain_is : IsOf cpu d
-  pub number : cpu.number ≡ i
-  pub who : (view_of cpu).who ≡ record (newcomer d.plan i) { outs = 1 ∷ [] }
-  pub calls : IsResting (calls_of cpu)
-  pub home : (ledger_of cpu).out ≡ None
-  pub nth : ℕ
-  pub holds : (calls_of cpu).holds ≡ record (hold 0 (lock_name 1) Spins nth) { out = true } ∷ []
-
 module _ (d : PvDomain) (i : ℕ) (old new : PvCpu) where
   pub taken : IsSame old new → MayCount d i old → HasTaken d 1 old new → HasLock d i new
   taken same was took =
@@ -74,48 +63,20 @@ module _ (d : PvDomain) (i : ℕ) (old new : PvCpu) where
             ∙ ap (λ (hs : List Hold). hold 0 (lock_name 1) Spins (calls_of new).taken ∷ hs) was.rests.holds;
       }
 
-  pub goes_out : HasLock d i old → TakesValueOf 1 old new → HasValue d i new
-  goes_out was out =
+  pub worked : HasLock d i old → IsStill old new → HasLock d i new
+  worked was still =
       record {
         domain_is = record {
-          table = out.table ∙ was.domain_is.table;
-          plan = ap (λ (v : View). v.who.plan) out.view ∙ was.domain_is.plan;
-          low = subst (λ (n : ℕ). n < cpus_of d.plan) (sym out.number) was.domain_is.low;
+          table = still.table ∙ was.domain_is.table;
+          plan = ap (λ (v : View). v.who.plan) still.view ∙ was.domain_is.plan;
+          low = subst (λ (n : ℕ). n < cpus_of d.plan) (sym still.number) was.domain_is.low;
         };
-        number = out.number ∙ was.number;
-        who = ap (λ (v : View). v.who) out.view
-            ∙ ap (λ (w : Who). let r : Who = record w { outs = 1 ∷ w.outs } in r) was.who;
-        calls = record {
-          frames = ap (λ (v : View). v.calls.frames) out.view ∙ was.calls.frames;
-          awake = ap (λ (v : View). v.calls.halted) out.view ∙ was.calls.awake;
-          fresh = ap (λ (v : View). v.calls.looked) out.view ∙ was.calls.fresh;
-        };
-        home = ap (λ (v : View). v.ledger.out) out.view ∙ was.home;
+        number = still.number ∙ was.number;
+        who = ap (λ (v : View). v.who) still.view ∙ was.who;
+        calls = subst (λ (v : View). IsResting v.calls) (sym still.view) was.calls;
+        home = ap (λ (v : View). v.ledger.out) still.view ∙ was.home;
         nth = was.nth;
-        holds = ap (λ (v : View). v.calls.holds) out.view
-            ∙ ap (λ (hs : List Hold). marked_out 1 true hs) was.holds;
-      }
-
-  pub comes_home : HasValue d i old → BringsValueOf 1 old new → HasLock d i new
-  comes_home was home =
-      record {
-        domain_is = record {
-          table = home.table ∙ was.domain_is.table;
-          plan = ap (λ (v : View). v.who.plan) home.view ∙ was.domain_is.plan;
-          low = subst (λ (n : ℕ). n < cpus_of d.plan) (sym home.number) was.domain_is.low;
-        };
-        number = home.number ∙ was.number;
-        who = ap (λ (v : View). v.who) home.view
-            ∙ ap (λ (w : Who). let r : Who = record w { outs = older w.outs } in r) was.who;
-        calls = record {
-          frames = ap (λ (v : View). v.calls.frames) home.view ∙ was.calls.frames;
-          awake = ap (λ (v : View). v.calls.halted) home.view ∙ was.calls.awake;
-          fresh = ap (λ (v : View). v.calls.looked) home.view ∙ was.calls.fresh;
-        };
-        home = ap (λ (v : View). v.ledger.out) home.view ∙ was.home;
-        nth = was.nth;
-        holds = ap (λ (v : View). v.calls.holds) home.view
-            ∙ ap (λ (hs : List Hold). marked_out 1 false hs) was.holds;
+        holds = ap (λ (v : View). v.calls.holds) still.view ∙ was.holds;
       }
 
   pub freed : IsSame old new → HasLock d i old → HasFreed d 1 old new
@@ -133,17 +94,12 @@ module _ (d : PvDomain) (i : ℕ) (old new : PvCpu) where
         calls = free.rests;
       }
 
--- the value of a lock that is held may go out, and the one that is out may come home
-
-pub may_go : (d : PvDomain) (i : ℕ) (cpu : PvCpu) → HasLock d i cpu → IsHomeWith 1 (calls_of cpu).holds
-may_go d i cpu has =
+-- the processor may work on the value of a lock that it holds
+pub may_work : (d : PvDomain) (i : ℕ) (cpu : PvCpu) → HasLock d i cpu → IsHomeWith 1 (calls_of cpu).holds
+may_work d i cpu has =
     record { manner = Spins; held = ap (λ (hs : List Hold). hold_in hs 1) has.holds; sole = refl }
 
-pub may_come : (d : PvDomain) (i : ℕ) (cpu : PvCpu) → HasValue d i cpu → IsNewestAt d.plan 1 1 (outs_of (view_of cpu))
-may_come d i cpu has =
-    record { others = []; is = ap (λ (w : Who). w.outs) has.who; apart = λ q none. absurd none }
-
--- and then the lock may be freed
+-- and the lock may be freed
 pub is_held : (d : PvDomain) (i : ℕ) (cpu : PvCpu) → HasLock d i cpu → holds_in (calls_of cpu).holds 1 ≡ true
 is_held d i cpu has = ap (λ (hs : List Hold). holds_in hs 1) has.holds
 

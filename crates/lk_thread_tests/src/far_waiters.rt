@@ -1,22 +1,17 @@
 // A waiter of another socket, in `cna`: it is moved aside, unless it is of an interrupt in the second
 // format.
-ghost use Rattle.std.specs.Prelude.{◌≡◌, ◌≢◌, ◌<◌, Some, true, length};
-ghost use Rattle.lk_abs.specs.declared.names.Kind.TheVariants.{Spin};
-ghost use Rattle.lk_domain.specs.Ends.{AllRest, Rests};
+ghost use Rattle.std.specs.Prelude.{Some};
 ghost use Rattle.lk_domain.specs.Paths.{AreKept, Passes, is_busy};
-ghost use Rattle.lk_domain.specs.Plans.{kind_at, locks_of};
 ghost use Rattle.lk_domain.specs.Seats.{IsOf, KeepsRest, calls_of, ledger_of};
-ghost use Rattle.lk_domain.specs.Waits.{MayTake};
-ghost use Rattle.lk_thread_tests.specs.Stages.{AreAll};
+ghost use Rattle.lk_thread_tests.specs.Stages.{MayVisit, PlaysIn, RestsAgain};
 
-use crate::stage::{LOCKS, Sign, open_two};
-use lk_abs::{Format, Kind, List};
+use crate::stage::{Scene, Sign, Stay, hold, may_visit, open_two, play_all};
+use lk_abs::Format;
 use lk_domain::{Cpu, Domain, LockId};
-use lk_run::{Irq, NoIrq, lock, unlock};
+use lk_run::{Irq, lock, unlock};
 use std::process::Abort;
 use std::sync::Wait;
 use std::test::Fail;
-use std::thread;
 use std::thread::Threads;
 
 /// The lock for which five processors come.
@@ -31,8 +26,9 @@ struct Board {
     // the two locks are held
     held: Sign,
     other_held: Sign,
-    // one waits with the pending bit
+    // one waits with the pending bit, and it or the next has had the lock
     pends: Sign,
+    had: Sign,
     // one leads the queue, another of the far socket stands behind it, and one of the near behind that
     leads: Sign,
     far: Sign,
@@ -42,36 +38,64 @@ struct Board {
     // the far one had it, and had it after the near one
     far_had: Sign,
     moved: Sign,
+    // the far one is a handler
+    interrupts: bool,
     // something was not as it has to be
     wrong: Sign,
 }
 
 impl Board {
-    fn new() -> Board {
+    fn new(interrupts: bool) -> Board {
         Board {
             held: Sign::new(),
             other_held: Sign::new(),
             pends: Sign::new(),
+            had: Sign::new(),
             leads: Sign::new(),
             far: Sign::new(),
             near: Sign::new(),
             near_has: Sign::new(),
             far_had: Sign::new(),
             moved: Sign::new(),
+            interrupts,
             wrong: Sign::new(),
         }
     }
 
-    // Notes it where something is not as it has to be.
-    fn expect(&self, right: bool) {
-        if !right {
-            self.wrong.raise();
+    // A lock is held from one sign to another.
+    fn stay<'a>(&'a self, held: &'a Sign, until: &'a Sign) -> Stay<'a> {
+        Stay {
+            held,
+            until,
+            times: 1,
+            wrong: &self.wrong,
         }
     }
 }
 
-/// A handler that takes no lock: it says once that its processor waits for the lock, with so many calls
-/// in the slow path.
+/// A turn with the lock: it comes after a sign, waits with so many calls in the slow path, and says
+/// that it waits and that it has the lock.
+#[derive(Drop)]
+struct Turn<'a> {
+    after: &'a Sign,
+    queued: u32,
+    waits: &'a Sign,
+    has: &'a Sign,
+}
+
+impl<'a> Turn<'a> {
+    fn new(after: &'a Sign, queued: u32, waits: &'a Sign, has: &'a Sign) -> Turn<'a> {
+        Turn {
+            after,
+            queued,
+            waits,
+            has,
+        }
+    }
+}
+
+/// A handler that takes no lock: it says once that its processor waits for the lock, with so many
+/// calls in the slow path.
 #[derive(Drop)]
 struct Herald<'a> {
     polls: u64,
@@ -123,28 +147,10 @@ impl<'a> Irq for Visitor<'a> {
     }
 }
 
-// Whether a handler may take the lock on the processor that it is lent.
-fn may_visit(cpu: &Cpu, domain: &Domain, id: LockId) -> bool
-    ensures other { result ≡ true → id.index ≢ 0 }
-    ensures lock { result ≡ true → id.index < locks_of domain.now.plan }
-    ensures kind { result ≡ true → kind_at domain.now.plan id.index ≡ Spin }
-    ensures may { result ≡ true → MayTake id.index (calls_of cpu.now) }
-{
-    id.index != 0
-        && id.index < domain.locks()
-        && domain.kind(id) == Kind::Spin
-        && cpu.depth() < 6
-        && !cpu.holds(id)
-        && !cpu.waits(id)
-}
-
 // Takes the lock and frees it, in a handler, and notes whether the near one was before it.
 fn visit<R: Wait>(cpu: &mut Cpu, rt: &R, domain: &Domain, board: &Board, id: LockId)
     requires domain { IsOf cpu.old domain.now }
-    requires other { id.index ≢ 0 }
-    requires lock { id.index < locks_of domain.now.plan }
-    requires kind { kind_at domain.now.plan id.index ≡ Spin }
-    requires may { MayTake id.index (calls_of cpu.old) }
+    requires may { MayVisit domain.now id.index cpu.old }
     ensures rest { KeepsRest cpu.old cpu.new }
     ensures calls { AreKept (calls_of cpu.old) (calls_of cpu.new) }
     ensures ledger { Passes (is_busy (calls_of cpu.old)) (ledger_of cpu.old) (ledger_of cpu.new) }
@@ -162,60 +168,29 @@ fn note_far(board: &Board) {
     board.far_had.raise();
 }
 
-// Holds a lock until a sign comes.
-fn hold<R: Wait>(
-    cpu: &mut Cpu,
-    rt: &R,
-    domain: &Domain,
-    board: &Board,
-    id: LockId,
-    held: &Sign,
-    until: &Sign,
-)
-    requires spins { AreAll Spin domain.now.plan }
-    requires lock { id.index < locks_of domain.now.plan }
-    requires rests { Rests domain.now cpu.old.number cpu.old }
-    ensures number { cpu.new.number ≡ cpu.old.number }
-    ensures rests { Rests domain.now cpu.old.number cpu.new }
-{
-    lock(cpu, rt, domain, id, &mut NoIrq);
-    held.raise();
-    board.expect(until.comes(1));
-    unlock(cpu, domain, id);
-}
-
 // Takes the lock after a sign, says that it waits, and frees it.
-fn wait<R: Wait>(
-    cpu: &mut Cpu,
-    rt: &R,
-    domain: &Domain,
-    board: &Board,
-    after: &Sign,
-    queued: u32,
-    sign: &Sign,
-    has: &Sign,
-)
-    requires spins { AreAll Spin domain.now.plan }
-    requires locks { locks_of domain.now.plan ≡ LOCKS }
-    requires rests { Rests domain.now cpu.old.number cpu.old }
-    ensures number { cpu.new.number ≡ cpu.old.number }
-    ensures rests { Rests domain.now cpu.old.number cpu.new }
+fn wait<R: Wait>(cpu: &mut Cpu, rt: &R, domain: &Domain, board: &Board, turn: &Turn)
+    requires { PlaysIn domain.now cpu.old }
+    ensures { RestsAgain domain.now cpu.old cpu.new }
 {
-    board.expect(after.comes(1));
-    lock(cpu, rt, domain, SHARED, &mut Herald::new(queued, sign));
-    has.raise();
+    board.wrong.raise_unless(turn.after.comes(1));
+    lock(
+        cpu,
+        rt,
+        domain,
+        SHARED,
+        &mut Herald::new(turn.queued, turn.waits),
+    );
+    turn.has.raise();
     unlock(cpu, domain, SHARED);
 }
 
 // The far processor waits with its task.
 fn wait_far<R: Wait>(cpu: &mut Cpu, rt: &R, domain: &Domain, board: &Board)
-    requires spins { AreAll Spin domain.now.plan }
-    requires locks { locks_of domain.now.plan ≡ LOCKS }
-    requires rests { Rests domain.now cpu.old.number cpu.old }
-    ensures number { cpu.new.number ≡ cpu.old.number }
-    ensures rests { Rests domain.now cpu.old.number cpu.new }
+    requires { PlaysIn domain.now cpu.old }
+    ensures { RestsAgain domain.now cpu.old cpu.new }
 {
-    board.expect(board.leads.comes(1));
+    board.wrong.raise_unless(board.leads.comes(1));
     lock(cpu, rt, domain, SHARED, &mut Herald::new(1, &board.far));
     note_far(board);
     unlock(cpu, domain, SHARED);
@@ -223,13 +198,10 @@ fn wait_far<R: Wait>(cpu: &mut Cpu, rt: &R, domain: &Domain, board: &Board)
 
 // It waits with a handler, while its task waits for another lock.
 fn wait_interrupted<R: Wait>(cpu: &mut Cpu, rt: &R, domain: &Domain, board: &Board)
-    requires spins { AreAll Spin domain.now.plan }
-    requires locks { locks_of domain.now.plan ≡ LOCKS }
-    requires rests { Rests domain.now cpu.old.number cpu.old }
-    ensures number { cpu.new.number ≡ cpu.old.number }
-    ensures rests { Rests domain.now cpu.old.number cpu.new }
+    requires { PlaysIn domain.now cpu.old }
+    ensures { RestsAgain domain.now cpu.old cpu.new }
 {
-    board.expect(board.other_held.comes(1));
+    board.wrong.raise_unless(board.other_held.comes(1));
     let mut visitor = Visitor {
         polls: 0,
         came: false,
@@ -239,83 +211,23 @@ fn wait_interrupted<R: Wait>(cpu: &mut Cpu, rt: &R, domain: &Domain, board: &Boa
     unlock(cpu, domain, OTHER);
 }
 
-// What each of six processors does.
-fn play<R: Wait>(cpu: &mut Cpu, rt: &R, domain: &Domain, board: &Board, interrupts: bool)
-    requires spins { AreAll Spin domain.now.plan }
-    requires locks { locks_of domain.now.plan ≡ LOCKS }
-    requires rests { Rests domain.now cpu.old.number cpu.old }
-    ensures number { cpu.new.number ≡ cpu.old.number }
-    ensures rests { Rests domain.now cpu.old.number cpu.new }
-{
-    match cpu.number() {
-        0 => hold(cpu, rt, domain, board, SHARED, &board.held, &board.near),
-        1 => wait(
-            cpu,
-            rt,
-            domain,
-            board,
-            &board.held,
-            0,
-            &board.pends,
-            &Sign::new(),
-        ),
-        2 => wait(
-            cpu,
-            rt,
-            domain,
-            board,
-            &board.pends,
-            1,
-            &board.leads,
-            &Sign::new(),
-        ),
-        3 => {
-            if interrupts {
-                wait_interrupted(cpu, rt, domain, board);
-            } else {
-                wait_far(cpu, rt, domain, board);
-            }
+impl Scene for Board {
+    fn play<R: Wait>(&self, cpu: &mut Cpu, rt: &R, domain: &Domain) {
+        let first = Turn::new(&self.held, 0, &self.pends, &self.had);
+        let second = Turn::new(&self.pends, 1, &self.leads, &self.had);
+        let near = Turn::new(&self.far, 1, &self.near, &self.near_has);
+        let shared = self.stay(&self.held, &self.near);
+        let other = self.stay(&self.other_held, &self.far_had);
+        match cpu.number() {
+            0 => hold(cpu, rt, domain, SHARED, &shared),
+            1 => wait(cpu, rt, domain, self, &first),
+            2 => wait(cpu, rt, domain, self, &second),
+            3 if self.interrupts => wait_interrupted(cpu, rt, domain, self),
+            3 => wait_far(cpu, rt, domain, self),
+            4 => wait(cpu, rt, domain, self, &near),
+            _ => hold(cpu, rt, domain, OTHER, &other),
         }
-        4 => wait(
-            cpu,
-            rt,
-            domain,
-            board,
-            &board.far,
-            1,
-            &board.near,
-            &board.near_has,
-        ),
-        _ => hold(
-            cpu,
-            rt,
-            domain,
-            board,
-            OTHER,
-            &board.other_held,
-            &board.far_had,
-        ),
     }
-}
-
-// All six at once, each on a thread of its own.
-fn play_all<R: Threads + Wait + Sync>(
-    rt: &R,
-    domain: &Domain,
-    board: &Board,
-    cpus: &mut List<Cpu>,
-    interrupts: bool,
-)
-    requires spins { AreAll Spin domain.now.plan }
-    requires locks { locks_of domain.now.plan ≡ LOCKS }
-    requires rest { AllRest domain.now cpus.old.items }
-{
-    thread::for_each_mut(
-        rt,
-        cpus.as_mut_slice(),
-        6,
-        &|_, cpu| { play(cpu, rt, domain, board, interrupts) },
-    );
 }
 
 // One domain, in which the far waiter is moved aside so often.
@@ -328,8 +240,8 @@ fn test_far(
     let Ok((domain, mut cpus)) = open_two(rt.alloc(), format) else {
         return Err("no memory".into());
     };
-    let board = Board::new();
-    play_all(rt, &domain, &board, &mut cpus, interrupts);
+    let board = Board::new(interrupts);
+    play_all(rt, &domain, &board, &mut cpus);
     assert_eq!(rt; board.wrong.times(), 0);
     assert_eq!(rt; board.far_had.times(), 1);
     assert_eq!(rt; board.near_has.times(), 1);

@@ -1,6 +1,6 @@
-// Processors that halt take one lock in turn, each on a thread of its own, and count in the value under it.
-// The value lies in a cell, whose key is in the slot of the lock while nobody has it out. No addition is
-// lost, and the end of the domain gives the key back.
+// Processors that halt take one lock in turn, each on a thread of its own, and count in the value
+// under it. The value lies in a cell, whose key is in the slot of the lock. No addition is lost,
+// and the end of the domain gives the key back.
 ghost use Rattle.std.specs.Prelude.{◌≡◌, IfOk, length};
 ghost use Rattle.atomic_table.specs.Seated.{TableId};
 ghost use Rattle.lk_cell.specs.Latched.{IsKey};
@@ -11,9 +11,7 @@ ghost use Rattle.lk_thread_tests.specs.Counting.{IsValued, MayCount};
 use lk_abs::{Format, List, Memory};
 use lk_cell::{Any, Key, KeyCell};
 use lk_domain::LockId;
-use lk_pvdomain::{
-    PvCpu, PvDomain, PvPlan, pv_bring_home, pv_close, pv_lock, pv_take_out, pv_unlock,
-};
+use lk_pvdomain::{PvCpu, PvDomain, PvPlan, pv_close, pv_lock, pv_unlock, pv_with_key};
 use std::alloc::Global;
 use std::sync::Wait;
 use std::test::Fail;
@@ -29,7 +27,8 @@ const TURNS: u32 = 10_000;
 /// A number that threads count in.
 type Counter = KeyCell<u64, Any>;
 
-// A domain of two locks with four processors, whose waiters halt at once, and the counter under lock 1.
+// A domain of two locks with four processors, whose waiters halt at once, and the counter under
+// lock 1.
 fn open(alloc: Global) -> Result<(PvDomain, List<PvCpu>, Counter), Memory>
     ensures valued { IfOk result (λ made. IsValued made.0 made.2.table.shared.table_id) }
     ensures many { IfOk result (λ made. length made.1.items ≡ cpus_of made.0.plan) }
@@ -57,11 +56,9 @@ fn add_one<R: Wait>(cpu: &mut PvCpu, rt: &R, domain: &PvDomain, counter: &Counte
     ensures may { MayCount domain.now cpu.old.number cpu.new }
 {
     pv_lock(cpu, rt, domain, LOCK);
-    let key = pv_take_out(cpu, domain, LOCK);
-    let (_, key) = counter.with(key, |number: &mut u64| {
-        *number = number.wrapping_add(1);
+    pv_with_key(cpu, domain, LOCK, |key: &mut Key| {
+        counter.with(key, |number: &mut u64| *number = number.wrapping_add(1));
     });
-    pv_bring_home(cpu, domain, LOCK, key);
     pv_unlock(cpu, rt, domain, LOCK);
 }
 

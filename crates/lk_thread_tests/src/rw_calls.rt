@@ -1,14 +1,10 @@
 // The calls on a reader-writer lock, by three processors of one thread.
 ghost use Rattle.std.specs.Prelude.{◌≡◌, true, false};
 ghost use Rattle.lk_abs.specs.declared.holder.Manner.TheVariants.{Reads, Writes};
-ghost use Rattle.lk_abs.specs.declared.names.Kind.TheVariants.{Rw};
 ghost use Rattle.lk_law.specs.Agree.{halts};
-ghost use Rattle.lk_domain.specs.Plans.{locks_of};
-ghost use Rattle.lk_domain.specs.Seats.{IsOf};
-ghost use Rattle.lk_guard.specs.Idle.{IsIdle};
-ghost use Rattle.lk_thread_tests.specs.Stages.{AreAll, HasFirst};
+ghost use Rattle.lk_thread_tests.specs.Stages.{HasEntered, MayEnter};
 
-use crate::stage::{LOCKS, open, take_last};
+use crate::stage::{open, take_last};
 use lk_abs::{Kind, Mode};
 use lk_domain::{Cpu, Domain, LockId};
 use lk_run::{NoIrq, read_lock, read_unlock, try_read, try_write, write_lock, write_unlock};
@@ -21,87 +17,61 @@ const LOCK: LockId = LockId { index: 0 };
 
 // Tries to read, and says whether it holds the lock.
 fn tries_to_read(cpu: &mut Cpu, domain: &Domain) -> bool
-    requires kinds { AreAll Rw domain.now.plan }
-    requires locks { locks_of domain.now.plan ≡ LOCKS }
-    requires domain { IsOf cpu.old domain.now }
-    requires idle { IsIdle cpu.old }
-    ensures domain { IsOf cpu.new domain.now }
-    ensures has { result ≡ true → HasFirst Reads cpu.new }
-    ensures idle { result ≡ false → IsIdle cpu.new }
+    requires { MayEnter domain.now cpu.old }
+    ensures entered { result ≡ true → HasEntered Reads domain.now cpu.new }
+    ensures missed { result ≡ false → MayEnter domain.now cpu.new }
 {
     try_read(cpu, domain, LOCK)
 }
 
 // Tries to write.
 fn tries_to_write(cpu: &mut Cpu, domain: &Domain) -> bool
-    requires kinds { AreAll Rw domain.now.plan }
-    requires locks { locks_of domain.now.plan ≡ LOCKS }
-    requires domain { IsOf cpu.old domain.now }
-    requires idle { IsIdle cpu.old }
-    ensures domain { IsOf cpu.new domain.now }
-    ensures has { result ≡ true → HasFirst Writes cpu.new }
-    ensures idle { result ≡ false → IsIdle cpu.new }
+    requires { MayEnter domain.now cpu.old }
+    ensures entered { result ≡ true → HasEntered Writes domain.now cpu.new }
+    ensures missed { result ≡ false → MayEnter domain.now cpu.new }
 {
     try_write(cpu, domain, LOCK)
 }
 
 // Takes the lock to read.
 fn reads<R: Wait>(cpu: &mut Cpu, rt: &R, domain: &Domain)
-    requires kinds { AreAll Rw domain.now.plan }
-    requires locks { locks_of domain.now.plan ≡ LOCKS }
-    requires domain { IsOf cpu.old domain.now }
-    requires idle { IsIdle cpu.old }
-    ensures domain { IsOf cpu.new domain.now }
-    ensures has { HasFirst Reads cpu.new }
+    requires { MayEnter domain.now cpu.old }
+    ensures { HasEntered Reads domain.now cpu.new }
 {
     read_lock(cpu, rt, domain, LOCK, &mut NoIrq);
 }
 
 // Takes the lock to write.
 fn writes<R: Wait>(cpu: &mut Cpu, rt: &R, domain: &Domain)
-    requires kinds { AreAll Rw domain.now.plan }
-    requires locks { locks_of domain.now.plan ≡ LOCKS }
-    requires domain { IsOf cpu.old domain.now }
-    requires idle { IsIdle cpu.old }
-    ensures domain { IsOf cpu.new domain.now }
-    ensures has { HasFirst Writes cpu.new }
+    requires { MayEnter domain.now cpu.old }
+    ensures { HasEntered Writes domain.now cpu.new }
 {
     write_lock(cpu, rt, domain, LOCK, &mut NoIrq);
 }
 
 // Frees the lock after it has read.
 fn ends_reading(cpu: &mut Cpu, domain: &Domain)
-    requires kinds { AreAll Rw domain.now.plan }
-    requires locks { locks_of domain.now.plan ≡ LOCKS }
-    requires domain { IsOf cpu.old domain.now }
-    requires has { HasFirst Reads cpu.old }
-    ensures domain { IsOf cpu.new domain.now }
-    ensures idle { IsIdle cpu.new }
+    requires { HasEntered Reads domain.now cpu.old }
+    ensures { MayEnter domain.now cpu.new }
 {
     read_unlock(cpu, domain, LOCK);
 }
 
 // Frees the lock after it has written.
 fn ends_writing(cpu: &mut Cpu, domain: &Domain)
-    requires kinds { AreAll Rw domain.now.plan }
-    requires locks { locks_of domain.now.plan ≡ LOCKS }
-    requires domain { IsOf cpu.old domain.now }
-    requires has { HasFirst Writes cpu.old }
-    ensures domain { IsOf cpu.new domain.now }
-    ensures idle { IsIdle cpu.new }
+    requires { HasEntered Writes domain.now cpu.old }
+    ensures { MayEnter domain.now cpu.new }
 {
     write_unlock(cpu, domain, LOCK);
 }
 
 // Two read at once, and a third may write when both are through, and then alone.
 fn play_tries(rt: &impl Abort, domain: &Domain, first: &mut Cpu, second: &mut Cpu, third: &mut Cpu)
-    requires kinds { AreAll Rw domain.now.plan }
-    requires locks { locks_of domain.now.plan ≡ LOCKS }
-    requires domains { IsOf first.old domain.now × IsOf second.old domain.now
-        × IsOf third.old domain.now }
-    requires idle { IsIdle first.old × IsIdle second.old × IsIdle third.old }
-    ensures domains { IsOf first.new domain.now × IsOf second.new domain.now }
-    ensures idle { IsIdle first.new × IsIdle second.new }
+    requires first { MayEnter domain.now first.old }
+    requires second { MayEnter domain.now second.old }
+    requires third { MayEnter domain.now third.old }
+    ensures first { MayEnter domain.now first.new }
+    ensures second { MayEnter domain.now second.new }
 {
     assert!(rt; tries_to_read(first, domain));
     assert!(rt; tries_to_read(second, domain));
@@ -117,10 +87,8 @@ fn play_tries(rt: &impl Abort, domain: &Domain, first: &mut Cpu, second: &mut Cp
 
 // The calls that may wait, where none of them has to.
 fn play_locks(rt: &(impl Abort + Wait), domain: &Domain, first: &mut Cpu, second: &mut Cpu)
-    requires kinds { AreAll Rw domain.now.plan }
-    requires locks { locks_of domain.now.plan ≡ LOCKS }
-    requires domains { IsOf first.old domain.now × IsOf second.old domain.now }
-    requires idle { IsIdle first.old × IsIdle second.old }
+    requires first { MayEnter domain.now first.old }
+    requires second { MayEnter domain.now second.old }
 {
     writes(first, rt, domain);
     assert!(rt; !tries_to_read(second, domain));

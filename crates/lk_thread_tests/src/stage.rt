@@ -1,18 +1,21 @@
 // A domain for tests of running locks, and signs by which its threads meet.
-ghost use Rattle.std.specs.Prelude.{◌≡◌, ◌+◌, ◌<◌, ◌≤◌, false, IfOk, length};
+ghost use Rattle.std.specs.Prelude.{◌≡◌, ◌+◌, ◌<◌, ◌≤◌, true, false, IfOk, length};
 ghost use Rattle.lk_abs.specs.declared.names.Kind.TheVariants.{Spin};
 ghost use Rattle.lk_law.specs.Agree.{halts};
 ghost use Rattle.lk_domain.specs.Ends.{AllRest};
 ghost use Rattle.lk_domain.specs.Plans.{IsLawfulPlan, cpus_of, locks_of};
 ghost use Rattle.lk_domain.specs.Seats.{IsOf};
 ghost use Rattle.lk_guard.specs.Idle.{IsIdle};
-ghost use Rattle.lk_thread_tests.specs.Stages.{AreAll};
+ghost use Rattle.lk_thread_tests.specs.Stages.{AreAll, MayVisit, PlaysIn, RestsAgain};
 
 use lk_abs::{Format, Kind, List, Memory, Mode, Topology};
-use lk_domain::{Cpu, Domain, Plan};
+use lk_domain::{Cpu, Domain, LockId, Plan};
+use lk_run::{NoIrq, lock, unlock};
 use std::alloc::Global;
+use std::sync::Wait;
 use std::sync::atomic::{AtomicU64, Ordering};
 use std::thread;
+use std::thread::Threads;
 
 /// How many locks a domain of a test has.
 pub const LOCKS: u32 = 6;
@@ -39,6 +42,13 @@ impl Sign {
         self.times.fetch_add(1, Ordering::SeqCst);
     }
 
+    /// Raises it if something is not as it has to be.
+    pub fn raise_unless(&self, right: bool) {
+        if !right {
+            self.raise();
+        }
+    }
+
     /// How often it was raised.
     pub fn times(&self) -> u64 {
         self.times.load(Ordering::SeqCst)
@@ -54,6 +64,55 @@ impl Sign {
         }
         false
     }
+}
+
+/// For how long a lock is held: the sign that it is, the one by which that ends, how often this one
+/// has to come, and what is raised if it does not.
+#[derive(Drop)]
+pub struct Stay<'a> {
+    pub held: &'a Sign,
+    pub until: &'a Sign,
+    pub times: u64,
+    pub wrong: &'a Sign,
+}
+
+/// Holds a lock for so long.
+pub fn hold<R: Wait>(cpu: &mut Cpu, rt: &R, domain: &Domain, id: LockId, stay: &Stay)
+    requires plays { PlaysIn domain.now cpu.old }
+    requires lock { id.index < LOCKS }
+    ensures { RestsAgain domain.now cpu.old cpu.new }
+{
+    lock(cpu, rt, domain, id, &mut NoIrq);
+    stay.held.raise();
+    stay.wrong.raise_unless(stay.until.comes(stay.times));
+    unlock(cpu, domain, id);
+}
+
+/// What the processors of a test do.
+pub trait Scene {
+    /// What one of them does.
+    fn play<R: Wait>(&self, cpu: &mut Cpu, rt: &R, domain: &Domain)
+        requires { PlaysIn domain.now cpu.old }
+        ensures { RestsAgain domain.now cpu.old cpu.new };
+}
+
+/// All of them at once, each on a thread of its own: there are at most nine.
+pub fn play_all<R: Threads + Wait + Sync, S: Scene + Sync>(
+    rt: &R,
+    domain: &Domain,
+    scene: &S,
+    cpus: &mut List<Cpu>,
+)
+    requires spins { AreAll Spin domain.now.plan }
+    requires locks { locks_of domain.now.plan ≡ LOCKS }
+    requires rest { AllRest domain.now cpus.old.items }
+{
+    thread::for_each_mut(
+        rt,
+        cpus.as_mut_slice(),
+        9,
+        &|_, cpu| { scene.play(cpu, rt, domain) },
+    );
 }
 
 // The plan of such a domain.
@@ -135,7 +194,19 @@ pub fn open_two(alloc: Global, format: Format) -> Result<(Domain, List<Cpu>), Me
     Ok(made)
 }
 
-/// Takes the last processor off.
+/// Whether a handler may take the lock on the processor that it is lent.
+pub fn may_visit(cpu: &Cpu, domain: &Domain, id: LockId) -> bool
+    ensures { result ≡ true → MayVisit domain.now id.index cpu.now }
+{
+    id.index != 0
+        && id.index < domain.locks()
+        && domain.kind(id) == Kind::Spin
+        && cpu.depth() < 6
+        && !cpu.holds(id)
+        && !cpu.waits(id)
+}
+
+/// Takes the last processor of this domain off.
 pub fn take_last(cpus: &mut List<Cpu>, domain: &Domain) -> Cpu
     requires some { 0 < length cpus.old.items }
     requires rest { AllRest domain.now cpus.old.items }
@@ -144,6 +215,5 @@ pub fn take_last(cpus: &mut List<Cpu>, domain: &Domain) -> Cpu
     ensures long { length cpus.new.items + 1 ≡ length cpus.old.items }
     ensures rest { AllRest domain.now cpus.new.items }
 {
-    let _ = domain;
     cpus.pop()
 }
