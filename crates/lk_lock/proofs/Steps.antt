@@ -121,6 +121,13 @@ pub holding : (l n : ℕ) (m : Manner) (old mid : Cpu) → IsSame old mid
     → IsHolding l m old mid
 holding l n m old mid same is free = record { same = same; nth = n; holds = is; fresh = free }
 
+-- by the call of a spinlock
+pub by_lock : (d : Domain) (t : Terms) (p : ℕ) (v : Verb) (l : ℕ) (old mid : Cpu) → IsReady d old → KeepsRest old mid
+    → HasTaken t p v l Spins (calls_of old) (calls_of mid) → holds_in (holds_of old) l ≡ false → IsHolding l Spins old mid
+by_lock d t p v l old mid was rest taken free =
+    let n = (calls_of mid).taken in
+    holding l n Spins old mid rest.same (newest l n Spins (calls_of old) (holds_of mid) was.frames taken.holds) free
+
 module _ (l : ℕ) (m : Manner) (before now : Cpu) (has : IsHolding l m before now) where
   -- its value is home
   pub found_home : hold_in (holds_of now) l ≡ Some (m, false)

@@ -8,11 +8,12 @@ ghost use Rattle.lk_domain.specs.Calls.{holds_in};
 ghost use Rattle.lk_domain.specs.declared.cpu.Cpu.{Cpu};
 ghost use Rattle.lk_lock.specs.Standing.{HasOpened, IsAsBefore, IsInside, IsReady, IsUnder, holds_of};
 
-use crate::holding::{free, key_of, release, take, try_take};
+use crate::holding::{free, key_of, release, try_take};
 use crate::locks::Spin;
 use crate::working::work_under;
 use atomic_table::Seat as Place;
 use lk_domain::{Cpu, Domain};
+use lk_run::{NoIrq, lock};
 use std::sync::Wait;
 
 /// A spinlock that is held, and the way to its value. When this is dropped the value is home, and the
@@ -45,7 +46,7 @@ impl<'a, T, R: Wait> Held<'a, T, R> {
         ensures inside { IsInside result.spin.now.id.index Spins cpu.old result.cpu.now }
         ensures open { HasOpened result.spin.now.cell.table.shared.table_id result.place }
     {
-        take(cpu, rt, domain, spin.id);
+        lock(cpu, rt, domain, spin.id, &mut NoIrq);
         let key = key_of(cpu, domain, spin.id);
         Held {
             place: spin.cell.open(key),
@@ -73,7 +74,7 @@ impl<'a, T, R: Wait> Held<'a, T, R> {
             self.old.cpu.now → IsInside self.new.spin.now.id.index Spins before self.new.cpu.now }
         ensures done { (x : S) × (y : S) × FnOnceReturnsAtMut W.FnOnce work x result y }
     {
-        take(self.cpu, self.rt, self.domain, spin.id);
+        lock(self.cpu, self.rt, self.domain, spin.id, &mut NoIrq);
         let done = work_under(self.cpu, self.domain, spin.id, &spin.cell, work);
         free(self.cpu, self.domain, spin.id);
         done

@@ -10,26 +10,11 @@ ghost use Rattle.lk_domain.specs.Seats.{calls_of};
 ghost use Rattle.lk_domain.specs.declared.cpu.Cpu.{Cpu};
 ghost use Rattle.lk_lock.specs.Standing.{IsAsBefore, IsHolding, IsInside, IsLock, IsReady, IsUnder};
 ghost use Rattle.lk_lock.specs.Standing.{holds_of};
-ghost use Rattle.lk_machine.specs.declared.setup.Verb.TheVariants.{Lock, Try};
+ghost use Rattle.lk_machine.specs.declared.setup.Verb.TheVariants.{Try};
 
 use lk_cell::Key;
 use lk_domain::{Cpu, Domain, LockId, bring_home, take_out};
-use lk_run::{NoIrq, lock, try_lock, unlock};
-use std::sync::Wait;
-
-// Takes the lock.
-#[inline(always)]
-pub(crate) fn take<R: Wait>(cpu: &mut Cpu, rt: &R, domain: &Domain, id: LockId)
-    requires ready { IsReady domain.now cpu.old }
-    requires lock { IsLock domain.now.plan Spin id.index }
-    requires free { holds_in (holds_of cpu.old) id.index ≡ false }
-    ensures ready { IsReady domain.now cpu.new }
-    ensures holding { IsHolding id.index Spins cpu.old cpu.new }
-    ensures path { HasTaken (terms_of domain.now.plan) cpu.old.number Lock id.index Spins
-        (calls_of cpu.old) (calls_of cpu.new) }
-{
-    lock(cpu, rt, domain, id, &mut NoIrq);
-}
+use lk_run::{try_lock, unlock};
 
 // Takes the lock if it is free.
 pub(crate) fn try_take(cpu: &mut Cpu, domain: &Domain, id: LockId) -> bool

@@ -10,11 +10,12 @@ ghost use Rattle.lk_lock.specs.Standing.{HasTurned, HasWritten, HasWrittenOnce, 
 ghost use Rattle.lk_lock.specs.Standing.{IsUnder, holds_of};
 ghost use Rattle.lk_machine.specs.declared.setup.Verb.TheVariants.{Lock, Try, TryWrite, Write};
 
-use crate::holding::{free, take, try_take};
+use crate::holding::{free, try_take};
 use crate::locks::{Rw, Spin};
 use crate::working::work_under;
 use crate::writing::{enter, leave, try_enter};
 use lk_domain::{Cpu, Domain};
+use lk_run::{NoIrq, lock};
 use std::sync::Wait;
 
 /// The right of a thread to take the locks of a domain.
@@ -123,7 +124,7 @@ impl<'a, R: Wait> Seat<'a, R> {
         ensures done { (x : T) × (y : T) × FnOnceReturnsAtMut W.FnOnce work x result y }
     {
         let id = spin.id;
-        take(self.cpu, self.rt, self.domain, id);
+        lock(self.cpu, self.rt, self.domain, id, &mut NoIrq);
         let done = work_under(self.cpu, self.domain, id, &spin.cell, work);
         free(self.cpu, self.domain, id);
         done
