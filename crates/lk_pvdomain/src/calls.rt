@@ -1,20 +1,19 @@
 // The calls of a processor whose family halts.
 ghost use Rattle.std.specs.Prelude.{◌≡◌, ◌<◌, true, false, None};
-ghost use Rattle.lk_machine.specs.declared.parts.Pc.TheVariants.{E1, G1, G4, G5};
+ghost use Rattle.lk_machine.specs.declared.parts.Pc.TheVariants.{G1};
 ghost use Rattle.lk_machine.specs.declared.setup.Verb.TheVariants.{Lock, Try, Unlock};
 ghost use Rattle.lk_domain.specs.Calls.{Frees, Unchanged, holds_in, lock_name};
 ghost use Rattle.lk_domain.specs.Ledgers.{is_first};
 ghost use Rattle.lk_domain.specs.Paths.{Any};
 ghost use Rattle.lk_domain.specs.Plans.{locks_of};
-ghost use Rattle.lk_domain.specs.Words.{IsNode};
 ghost use Rattle.lk_domain.specs.Values.{out_in};
 ghost use Rattle.lk_pvdomain.specs.PvSeats.{IsOf, IsSame, calls_of, ledger_of};
 ghost use Rattle.lk_pvdomain.specs.PvCalls.{HasFreed, HasMissed, HasTaken, HasTakenBy, IsResting, without};
-ghost use Rattle.lk_pvdomain.specs.PvPaths.{At, Ended, Follows, Owns, Rests, Start, Took, first_of};
+ghost use Rattle.lk_pvdomain.specs.PvPaths.{At, Ended, Rests, Took, first_of};
 
 use crate::cpu::PvCpu;
 use crate::domain::PvDomain;
-use crate::{arriving, freeing, handing, leading, shared, tries, waiting};
+use crate::{freeing, shared, slowpath, tries};
 use lk_domain::{LockId, Right};
 use lk_word::NodeName;
 use std::sync::Wait;
@@ -34,63 +33,6 @@ fn fast(seat: &mut Right, domain: &PvDomain, lock: u32) -> bool
         return true;
     }
     false
-}
-
-// From E1 on: it is the queue head.
-fn head<R: Wait>(seat: &mut Right, rt: &R, domain: &PvDomain, lock: u32, own: NodeName)
-    requires at { (s : Start) × At domain.now Lock lock own s E1 (Owns own) seat.old }
-    ensures took { (s : Start) → At domain.now Lock lock own s E1 (Owns own) seat.old
-        → Took domain.now Lock lock own s seat.new }
-{
-    leading::lead(seat, rt, domain, lock, own);
-    handing::hand(seat, rt, domain, lock, own);
-}
-
-// From G5 on: it has a predecessor.
-fn follow<R: Wait>(
-    seat: &mut Right,
-    rt: &R,
-    domain: &PvDomain,
-    lock: u32,
-    own: NodeName,
-    prev: NodeName,
-)
-    requires prev { IsNode domain.now.plan prev }
-    requires at { (s : Start) × At domain.now Lock lock own s G5 (Follows own prev) seat.old }
-    ensures took { (s : Start) → At domain.now Lock lock own s G5 (Follows own prev) seat.old
-        → Took domain.now Lock lock own s seat.new }
-{
-    arriving::link(seat, domain, lock, own, prev);
-    waiting::wait(seat, rt, domain, lock, own, prev);
-    head(seat, rt, domain, lock, own);
-}
-
-// From G4 on: it joins the queue.
-fn queue<R: Wait>(seat: &mut Right, rt: &R, domain: &PvDomain, lock: u32, own: NodeName)
-    requires at { (s : Start) × At domain.now Lock lock own s G4 (Owns own) seat.old }
-    ensures took { (s : Start) → At domain.now Lock lock own s G4 (Owns own) seat.old
-        → Took domain.now Lock lock own s seat.new }
-{
-    match arriving::arrive(seat, rt, domain, lock, own) {
-        Some(prev) => follow(seat, rt, domain, lock, own, prev),
-        None => head(seat, rt, domain, lock, own),
-    }
-}
-
-// From G1 on: it steals the lock, or joins the queue. It is a function of its own, to keep the code
-// of an uncontended call short.
-#[cold]
-#[inline(never)]
-fn contend<R: Wait>(seat: &mut Right, rt: &R, domain: &PvDomain, lock: u32, own: NodeName)
-    requires at { (s : Start) × At domain.now Lock lock own s G1 Any seat.old }
-    ensures took { (s : Start) → At domain.now Lock lock own s G1 Any seat.old
-        → Took domain.now Lock lock own s seat.new }
-{
-    arriving::enter(seat, domain, lock, own);
-    if arriving::steal(seat, rt, domain, lock, own) {
-        return;
-    }
-    queue(seat, rt, domain, lock, own);
 }
 
 /// Acquires the lock, and returns once the processor holds it. A waiter spins for at most as many
@@ -114,7 +56,7 @@ pub fn pv_lock<R: Wait>(cpu: &mut PvCpu, rt: &R, domain: &PvDomain, lock: LockId
         cpu: cpu.number,
         index: 0,
     };
-    contend(&mut cpu.seat, rt, domain, lock.index, own);
+    slowpath::contend(&mut cpu.seat, rt, domain, lock.index, own);
 }
 
 /// Releases a lock that the processor holds. If the locked byte is slow (Linux's `_Q_SLOW_VAL`), it

@@ -3,6 +3,7 @@
 #![tactic(auto)]
 
 mod arriving;
+mod call;
 mod calls;
 mod cpu;
 mod domain;
@@ -21,6 +22,7 @@ mod pages;
 mod plan;
 mod rule;
 mod shared;
+mod slowpath;
 mod states;
 mod tries;
 mod values;

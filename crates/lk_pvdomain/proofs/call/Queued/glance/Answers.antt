@@ -1,0 +1,39 @@
+use Rattle.std.proofs.Common.{refl, sym, subst, ap, ◌∙◌, Some}
+use Rattle.std.specs.Prelude.{is_some}
+use Rattle.lk_word.specs.SpinWord.{packed, IsPackable}
+use Rattle.lk_word.specs.declared.spin_word.Fields.{Fields}
+use Rattle.lk_machine.specs.rows.Pv.{after_glance}
+use Rattle.lk_domain.specs.Plans.{layout_in}
+use Rattle.lk_domain.specs.declared.plan.Plan.{Plan}
+use Rattle.lk_pvdomain.specs.PvRows.{looks_word}
+use Rattle.lk_pvdomain.specs.PvWords.{At, Steals}
+use Rattle.lk_pvdomain.proofs.ways.Ways.{numbered}
+use Rattle.lk_pvdomain.proofs.ways.Leads.{word_asks}
+use Rattle.lk_pvdomain.proofs.ways.Arrives.{h1_looks}
+use Rattle.lk_pvdomain.proofs.call.Queued.glance.Goals as goal
+
+pub look_word-met-requires : goal.look_word-met-requires
+look_word-met-requires c =
+    let w = c.requires.1 in
+    record { table = w.of.table_is; number = numbered w; lock = w.low; row = word_asks w looks_word refl }
+
+pub word_met-requires : goal.word_met-requires
+word_met-requires c =
+    let w = c.requires.1 in
+    let k = c.look_word-met.ensures.step in
+    record {
+      word = (
+        k.found,
+        subst (λ (p : Plan). IsPackable (layout_in p) k.found) w.of.plan k.packs,
+        k.word ∙ ap (λ (p : Plan). packed (layout_in p) k.found) w.of.plan,
+      );
+    }
+
+pub returns : goal.returns
+returns c s w =
+    let q = c.args.self.now in
+    let k = c.look_word-met.ensures.step in
+    let is = c.word_met.ensures k.found (subst (λ (p : Plan). IsPackable (layout_in p) k.found) w.of.plan k.packs)
+    (k.word ∙ ap (λ (p : Plan). packed (layout_in p) k.found) w.of.plan) in
+    subst (λ (x : Fields). At q s (after_glance (Some q.own) x) (Steals (is_some x.tail)) c.look_word-met.new.seat)
+    (sym is) (h1_looks c.look_word-met.ensures.same w k)

@@ -1,0 +1,6 @@
+use Rattle.lk_machine.specs.declared.parts.Pc.TheVariants.{W1}
+use Rattle.lk_pvdomain.specs.PvWords.{Spins, Steps}
+use Rattle.lk_pvdomain.proofs.call.Queued.wait.Given as goal
+
+abbrev pub invariant-loop : goal.invariant-loop
+invariant-loop g l = Steps l.self W1 (Spins l.prev) W1 (Spins l.prev) l.fn.seat l.seat
