@@ -1,20 +1,17 @@
 // A race for a lock with nothing under it.
-ghost use Rattle.std.specs.Prelude.{◌≡◌, false, length};
+ghost use Rattle.std.specs.Prelude.{◌≡◌, false};
 ghost use Rattle.lk_abs.specs.declared.names.Kind.TheVariants.{Rw, Spin};
 ghost use Rattle.lk_law.specs.Agree.{halts};
-ghost use Rattle.lk_domain.specs.Ends.{AllRest, Rests};
+ghost use Rattle.lk_domain.specs.Ends.{Rests};
 ghost use Rattle.lk_domain.specs.Plans.{kind_at, locks_of};
 
 use crate::course::{Course, is_write};
-use lk_abs::{Kind, List, Mode};
-use lk_domain::{Cpu, Domain, LockId};
+use crate::plan::LOCK;
+use crate::track::Track;
+use lk_abs::{Kind, Mode};
+use lk_domain::{Cpu, Domain};
 use lk_run::{NoIrq, lock, read_lock, read_unlock, unlock, write_lock, write_unlock};
 use std::sync::Wait;
-use std::thread;
-use std::thread::Threads;
-
-// The one lock of the domain.
-const LOCK: LockId = LockId { index: 0 };
 
 /// A race for a lock with nothing under it: a turn takes the lock and frees it.
 #[derive(Clone, Copy)]
@@ -28,42 +25,39 @@ pub struct BareRace {
     ghost awake: { halts mode ≡ false },
 }
 
-// All turns of a processor.
-fn take_turns<R: Wait>(cpu: &mut Cpu, rt: &R, domain: &Domain, turns: u32)
-    requires one { locks_of domain.now.plan ≡ 1 }
-    requires kind { kind_at domain.now.plan 0 ≡ Spin }
-    requires rests { Rests domain.now cpu.old.number cpu.old }
-    ensures rests { Rests domain.now cpu.old.number cpu.new }
-{
-    for _ in 0..turns {
-        lock(cpu, rt, domain, LOCK, &mut NoIrq);
-        unlock(cpu, domain, LOCK);
-    }
+/// What the threads share: a domain with one spinlock.
+#[derive(Drop)]
+pub struct BareTrack<'a> {
+    pub domain: &'a Domain,
+    ghost one: { locks_of domain.now.plan ≡ 1 },
+    ghost kind: { kind_at domain.now.plan 0 ≡ Spin },
 }
 
-/// Lets all processors take a spinlock in turn, each on a thread of its own. Returns when all
-/// threads have ended.
-pub fn take_all_bare_turns<R: Threads + Wait + Sync>(
-    rt: &R,
-    domain: &Domain,
-    turns: u32,
-    cpus: &mut List<Cpu>,
-)
-    requires one { locks_of domain.now.plan ≡ 1 }
-    requires kind { kind_at domain.now.plan 0 ≡ Spin }
-    requires rest { AllRest domain.now cpus.old.items }
-    ensures all { length cpus.new.items ≡ length cpus.old.items }
-    ensures rest { AllRest domain.now cpus.new.items }
-{
-    let count = cpus.len();
-    if count > 0 {
-        thread::for_each_mut(
-            rt,
-            cpus.as_mut_slice(),
-            count,
-            &|_, cpu| { take_turns(cpu, rt, domain, turns) },
-        );
+impl Track for BareTrack<'_> {
+    type Cpu = Cpu;
+
+    ghost rests = { λ track. Rests track.domain.now };
+
+    ghost number = { λ cpu. cpu.number };
+
+    fn take_turns<R: Wait>(&self, rt: &R, cpu: &mut Cpu, turns: u32) {
+        let domain = self.domain;
+        for _ in 0..turns {
+            lock(cpu, rt, domain, LOCK, &mut NoIrq);
+            unlock(cpu, domain, LOCK);
+        }
     }
+
+    ghost own = { λ track i cpu rests. rests.number };
+}
+
+/// What the threads share: a domain with one reader-writer lock. In 99 of 100 turns a processor
+/// takes it as a reader.
+#[derive(Drop)]
+pub struct BareRwTrack<'a> {
+    pub domain: &'a Domain,
+    ghost one: { locks_of domain.now.plan ≡ 1 },
+    ghost kind: { kind_at domain.now.plan 0 ≡ Rw },
 }
 
 // A turn as the writer. It is one in a hundred, and has a function of its own, to keep the code of
@@ -81,45 +75,25 @@ fn write_turn<R: Wait>(cpu: &mut Cpu, rt: &R, domain: &Domain)
     write_unlock(cpu, domain, LOCK);
 }
 
-// All turns of a processor under a reader-writer lock.
-#[inline(never)]
-fn share_turns<R: Wait>(cpu: &mut Cpu, rt: &R, domain: &Domain, turns: u32)
-    requires one { locks_of domain.now.plan ≡ 1 }
-    requires kind { kind_at domain.now.plan 0 ≡ Rw }
-    requires rests { Rests domain.now cpu.old.number cpu.old }
-    ensures rests { Rests domain.now cpu.old.number cpu.new }
-{
-    for turn in 0..turns {
-        if is_write(turn) {
-            write_turn(cpu, rt, domain);
-        } else {
-            read_lock(cpu, rt, domain, LOCK, &mut NoIrq);
-            read_unlock(cpu, domain, LOCK);
+impl Track for BareRwTrack<'_> {
+    type Cpu = Cpu;
+
+    ghost rests = { λ track. Rests track.domain.now };
+
+    ghost number = { λ cpu. cpu.number };
+
+    #[inline(never)]
+    fn take_turns<R: Wait>(&self, rt: &R, cpu: &mut Cpu, turns: u32) {
+        let domain = self.domain;
+        for turn in 0..turns {
+            if is_write(turn) {
+                write_turn(cpu, rt, domain);
+            } else {
+                read_lock(cpu, rt, domain, LOCK, &mut NoIrq);
+                read_unlock(cpu, domain, LOCK);
+            }
         }
     }
-}
 
-/// Lets all processors take a reader-writer lock in turn, each on a thread of its own: in 99 of
-/// 100 turns as a reader. Returns when all threads have ended.
-pub fn share_all_bare_turns<R: Threads + Wait + Sync>(
-    rt: &R,
-    domain: &Domain,
-    turns: u32,
-    cpus: &mut List<Cpu>,
-)
-    requires one { locks_of domain.now.plan ≡ 1 }
-    requires kind { kind_at domain.now.plan 0 ≡ Rw }
-    requires rest { AllRest domain.now cpus.old.items }
-    ensures all { length cpus.new.items ≡ length cpus.old.items }
-    ensures rest { AllRest domain.now cpus.new.items }
-{
-    let count = cpus.len();
-    if count > 0 {
-        thread::for_each_mut(
-            rt,
-            cpus.as_mut_slice(),
-            count,
-            &|_, cpu| { share_turns(cpu, rt, domain, turns) },
-        );
-    }
+    ghost own = { λ track i cpu rests. rests.number };
 }

@@ -22,6 +22,9 @@
 //! plan, the domain that is made of it with its processors, the calls, and the end of the domain.
 #![tactic(auto)]
 
+ghost use Rattle.std.specs.Prelude.{◌<◌, length};
+ghost use Rattle.lk_race.specs.Tracks.{AllRest};
+
 mod bare_race;
 mod course;
 mod mutex_race;
@@ -30,28 +33,30 @@ mod pv_bare_race;
 mod pv_race;
 mod rw_race;
 mod spin_race;
+mod track;
 mod value;
 mod words;
 
-use bare_race::{BareRace, share_all_bare_turns, take_all_bare_turns};
+use bare_race::{BareRace, BareRwTrack, BareTrack};
 use course::Course;
-use lk_abs::{Kind, Memory};
+use lk_abs::{Kind, List, Memory};
 use lk_domain::{Domain, close};
 use lk_lock::{Locks, Open, PvOpen};
 use lk_pvdomain::{PvDomain, pv_close};
 use mutex_race::{MutexRace, take_all_mutex_turns};
 use plan::{plan_of, pv_plan_of, two_sockets};
-use pv_bare_race::{PvBareRace, take_all_bare_pv_turns};
-use pv_race::{PvRace, PvTrack, read_pv, take_all_pv_turns};
-use rw_race::{RwRace, RwTrack, read_shared, share_all_turns};
-use spin_race::{Size, SpinRace, Track, read, take_all_turns};
+use pv_bare_race::{PvBareRace, PvBareTrack};
+use pv_race::{PvRace, PvTrack};
+use rw_race::{RwRace, RwTrack};
+use spin_race::{Size, SpinRace, SpinTrack};
 use std::io;
 use std::process::ExitCode;
 use std::rt::Clock;
 use std::sync::{Mutex, Wait};
 use std::thread::Threads;
 use std::time::{Duration, Instant};
-use value::Value;
+use track::{ValueTrack, take_all_turns, time_since};
+use value::{Numbers, Value};
 use words::{Asked, race_of};
 
 // The exit status of a race whose numbers are wrong, or for which there was not enough memory.
@@ -65,17 +70,8 @@ const USAGE: u8 = 2;
 struct Outcome {
     turns: u64,
     wanted: u64,
-    numbers: Vec<u64>,
-    were_one: bool,
+    numbers: Numbers,
     time: io::Result<Duration>,
-}
-
-// The time since the start, if there is a clock.
-fn time_since(rt: &impl Clock, start: io::Result<Instant>) -> io::Result<Duration> {
-    match start {
-        Ok(start) => start.elapsed(rt),
-        Err(why) => Err(why),
-    }
 }
 
 // What a race with nothing under its lock comes to.
@@ -83,8 +79,10 @@ fn of_nothing(rt: &impl AllocGlobal, course: &Course, time: io::Result<Duration>
     Outcome {
         turns: course.all_turns(),
         wanted: 0,
-        numbers: Vec::new(rt.alloc()),
-        were_one: true,
+        numbers: Numbers {
+            each: Vec::new(rt.alloc()),
+            were_one: true,
+        },
         time,
     }
 }
@@ -97,12 +95,11 @@ fn bare<R: Threads + Wait + Sync + AllocGlobal + Clock>(
     let course = race.course;
     let plan = plan_of(rt.alloc(), race.mode, race.kind, &course)?;
     let (domain, mut cpus) = Domain::new(rt.alloc(), &plan)?;
-    let start = Instant::now(rt);
-    match race.kind {
-        Kind::Spin => take_all_bare_turns(rt, &domain, course.turns, &mut cpus),
-        Kind::Rw => share_all_bare_turns(rt, &domain, course.turns, &mut cpus),
-    }
-    let time = time_since(rt, start);
+    let turns = course.turns;
+    let time = match race.kind {
+        Kind::Spin => take_all_turns(rt, &BareTrack { domain: &domain }, turns, &mut cpus),
+        Kind::Rw => take_all_turns(rt, &BareRwTrack { domain: &domain }, turns, &mut cpus),
+    };
     match close(rt.alloc(), domain, cpus) {
         Ok(_) => Ok(of_nothing(rt, &course, time)),
         Err(_) => Err(Memory),
@@ -117,13 +114,33 @@ fn pv_bare<R: Threads + Wait + Sync + AllocGlobal + Clock>(
     let course = race.course;
     let plan = pv_plan_of(rt.alloc(), race)?;
     let (domain, mut cpus) = PvDomain::new(rt.alloc(), &plan)?;
-    let start = Instant::now(rt);
-    take_all_bare_pv_turns(rt, &domain, course.turns, &mut cpus);
-    let time = time_since(rt, start);
+    let track = PvBareTrack { domain: &domain };
+    let time = take_all_turns(rt, &track, course.turns, &mut cpus);
     match pv_close(rt.alloc(), domain, cpus) {
         Ok(_) => Ok(of_nothing(rt, &course, time)),
         Err(_) => Err(Memory),
     }
+}
+
+// What a race comes to in which each thread changes the value of the track in so many turns.
+fn on_track<T: ValueTrack + Sync, R: Threads + Wait + Sync + AllocGlobal + Clock>(
+    rt: &R,
+    track: &T,
+    course: &Course,
+    writes: u32,
+    cpus: &mut List<T::Cpu>,
+) -> Result<Outcome, Memory>
+    requires some { 0 < length cpus.old.items }
+    requires rest { AllRest (T.rests track.now) cpus.old.items }
+{
+    let time = take_all_turns(rt, track, course.turns, cpus);
+    let numbers = track.read(rt, rt.alloc(), cpus.get_mut(0))?;
+    Ok(Outcome {
+        turns: course.all_turns(),
+        wanted: course.changes(writes),
+        numbers,
+        time,
+    })
 }
 
 // A race for a spinlock with this value.
@@ -137,20 +154,11 @@ fn spin<R: Threads + Wait + Sync + AllocGlobal + Clock, V: Value + Send + Drop>(
     let value = locks.spin(value)?;
     let topology = two_sockets(rt.alloc(), course.threads)?;
     let Open { domain, mut cpus } = locks.open_on(race.mode, topology)?;
-    let track = Track {
+    let track = SpinTrack {
         domain: &domain,
         value: &value,
     };
-    let start = Instant::now(rt);
-    take_all_turns(rt, &track, &course, &mut cpus);
-    let time = time_since(rt, start);
-    Ok(Outcome {
-        turns: course.all_turns(),
-        wanted: course.changes(course.turns),
-        numbers: read(rt, rt.alloc(), cpus.get_mut(0), &track)?,
-        were_one: true,
-        time,
-    })
+    on_track(rt, &track, &course, course.turns, &mut cpus)
 }
 
 // A race for a mutex of the standard library with this value.
@@ -167,8 +175,7 @@ fn mutex<R: Threads + Wait + Sync + AllocGlobal + Clock, V: Value + Send + Drop>
     Ok(Outcome {
         turns: course.all_turns(),
         wanted: course.changes(course.turns),
-        numbers: value.into_inner().numbers().to_vec(rt.alloc())?,
-        were_one: true,
+        numbers: Numbers::of(&value.into_inner(), rt.alloc())?,
         time,
     })
 }
@@ -189,17 +196,7 @@ fn rw<R: Threads + Wait + Sync + AllocGlobal + Clock>(
         numbers: &numbers,
         were_one: &were_one,
     };
-    let start = Instant::now(rt);
-    share_all_turns(rt, &track, &course, &mut cpus);
-    let time = time_since(rt, start);
-    let (numbers, were_one) = read_shared(rt, rt.alloc(), cpus.get_mut(0), &track)?;
-    Ok(Outcome {
-        turns: course.all_turns(),
-        wanted: course.changes(course.writes()),
-        numbers,
-        were_one,
-        time,
-    })
+    on_track(rt, &track, &course, course.writes(), &mut cpus)
 }
 
 // A race for the paravirtual lock with this value.
@@ -216,16 +213,7 @@ fn pv<R: Threads + Wait + Sync + AllocGlobal + Clock, V: Value + Send + Drop>(
         domain: &domain,
         value: &value,
     };
-    let start = Instant::now(rt);
-    take_all_pv_turns(rt, &track, &course, &mut cpus);
-    let time = time_since(rt, start);
-    Ok(Outcome {
-        turns: course.all_turns(),
-        wanted: course.changes(course.turns),
-        numbers: read_pv(rt, rt.alloc(), cpus.get_mut(0), &track)?,
-        were_one: true,
-        time,
-    })
+    on_track(rt, &track, &course, course.turns, &mut cpus)
 }
 
 // The race for which the words ask.
@@ -259,8 +247,8 @@ fn carry_out<R: Threads + Wait + Sync + AllocGlobal + Clock>(
 fn tell(rt: &(impl Print + Eprint), outcome: Outcome) -> io::Result<bool> {
     println!(rt; "turns {}", outcome.turns)?;
     print!(rt; "numbers")?;
-    let mut right = outcome.were_one;
-    for number in &outcome.numbers {
+    let mut right = outcome.numbers.were_one;
+    for number in &outcome.numbers.each {
         print!(rt; " {number}")?;
         right = right && *number == outcome.wanted;
     }

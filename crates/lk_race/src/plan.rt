@@ -7,9 +7,12 @@ ghost use Rattle.lk_pvdomain.specs.PvPlans.{IsLawful};
 use crate::course::Course;
 use crate::pv_bare_race::PvBareRace;
 use lk_abs::{Format, Kind, List, Memory, Mode, Topology};
-use lk_domain::Plan;
+use lk_domain::{LockId, Plan};
 use lk_pvdomain::PvPlan;
 use std::alloc::Global;
+
+/// The one lock of each plan.
+pub const LOCK: LockId = LockId { index: 0 };
 
 // The most handoffs that may pass a waiter that was moved aside.
 const THRESHOLD: u32 = 16;

@@ -1,19 +1,18 @@
 // A race for a paravirtual lock with a value.
-ghost use Rattle.std.specs.Prelude.{◌≡◌, ◌≤◌, length};
+ghost use Rattle.std.specs.Prelude.{◌≤◌};
 ghost use Rattle.lk_abs.specs.declared.names.Kind.TheVariants.{Spin as spinning};
-ghost use Rattle.lk_lock.specs.PvStanding.{AreIdle, IsIdle};
+ghost use Rattle.lk_lock.specs.PvStanding.{IsIdle};
 ghost use Rattle.lk_lock.specs.Standing.{IsUnder};
 
 use crate::course::Course;
 use crate::spin_race::Size;
-use crate::value::Value;
-use lk_abs::{List, Memory};
+use crate::track::{Track, ValueTrack};
+use crate::value::{Numbers, Value};
+use lk_abs::Memory;
 use lk_lock::{PvSeat, Spin};
 use lk_pvdomain::{PvCpu, PvDomain};
 use std::alloc::Global;
 use std::sync::Wait;
-use std::thread;
-use std::thread::Threads;
 
 /// A race for a lock whose waiters halt.
 #[derive(Clone, Copy)]
@@ -36,55 +35,27 @@ pub struct PvTrack<'a, V> {
         value.now.cell.table.shared.table_id },
 }
 
-// All turns of a processor.
-fn take_turns<V: Value, R: Wait>(rt: &R, cpu: &mut PvCpu, track: &PvTrack<'_, V>, course: &Course)
-    requires idle { IsIdle track.now.domain.now cpu.old.number cpu.old }
-    ensures idle { IsIdle track.now.domain.now cpu.old.number cpu.new }
-{
-    let (domain, value) = (track.domain, track.value);
-    for _ in 0..course.turns {
-        let mut seat = PvSeat::new(rt, domain, cpu);
-        seat.with(value, |value: &mut V| value.change());
+impl<V: Value> Track for PvTrack<'_, V> {
+    type Cpu = PvCpu;
+
+    ghost rests = { λ track. IsIdle track.domain.now };
+
+    ghost number = { λ cpu. cpu.number };
+
+    fn take_turns<R: Wait>(&self, rt: &R, cpu: &mut PvCpu, turns: u32) {
+        let (domain, value) = (self.domain, self.value);
+        for _ in 0..turns {
+            let mut seat = PvSeat::new(rt, domain, cpu);
+            seat.with(value, |value: &mut V| value.change());
+        }
     }
+
+    ghost own = { λ track i cpu idle. idle.rests.number };
 }
 
-/// Lets all processors take their turns at the same time, each on a thread of its own. Returns
-/// when all threads have ended.
-pub fn take_all_pv_turns<V: Value + Send, R: Threads + Wait + Sync>(
-    rt: &R,
-    track: &PvTrack<'_, V>,
-    course: &Course,
-    cpus: &mut List<PvCpu>,
-)
-    requires idle { AreIdle track.now.domain.now cpus.old.items }
-    ensures all { length cpus.new.items ≡ length cpus.old.items }
-    ensures idle { AreIdle track.now.domain.now cpus.new.items }
-{
-    let count = cpus.len();
-    if count > 0 {
-        thread::for_each_mut(
-            rt,
-            cpus.as_mut_slice(),
-            count,
-            &|_, cpu| { take_turns(rt, cpu, track, course) },
-        );
+impl<V: Value> ValueTrack for PvTrack<'_, V> {
+    fn read<R: Wait>(&self, rt: &R, alloc: Global, cpu: &mut PvCpu) -> Result<Numbers, Memory> {
+        let mut seat = PvSeat::new(rt, self.domain, cpu);
+        seat.with(self.value, |value: &mut V| Numbers::of(value, alloc))
     }
-}
-
-/// The numbers of the value, as it lies under its lock.
-///
-/// # Errors
-///
-/// There is not enough memory.
-pub fn read_pv<V: Value, R: Wait>(
-    rt: &R,
-    alloc: Global,
-    cpu: &mut PvCpu,
-    track: &PvTrack<'_, V>,
-) -> Result<Vec<u64>, Memory>
-    requires idle { IsIdle track.now.domain.now 0 cpu.old }
-{
-    let mut seat = PvSeat::new(rt, track.domain, cpu);
-    let numbers = seat.with(track.value, |value: &mut V| value.numbers().to_vec(alloc));
-    Ok(numbers?)
 }

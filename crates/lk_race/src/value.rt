@@ -1,5 +1,7 @@
 // What lies under a lock.
 
+use lk_abs::Memory;
+use std::alloc::Global;
 use std::slice;
 
 /// A value with numbers that are changed together, and nothing else of which is changed.
@@ -9,6 +11,29 @@ pub trait Value {
 
     /// Its numbers.
     fn numbers(&self) -> &[u64];
+}
+
+/// What is read of a value at the end of a race.
+#[derive(Drop)]
+pub struct Numbers {
+    /// Its numbers.
+    pub each: Vec<u64>,
+    /// Whether its readers always found them to be one.
+    pub were_one: bool,
+}
+
+impl Numbers {
+    /// The numbers of a value that has no readers.
+    ///
+    /// # Errors
+    ///
+    /// There is not enough memory.
+    pub fn of<V: Value>(value: &V, alloc: Global) -> Result<Numbers, Memory> {
+        Ok(Numbers {
+            each: value.numbers().to_vec(alloc)?,
+            were_one: true,
+        })
+    }
 }
 
 /// One number.

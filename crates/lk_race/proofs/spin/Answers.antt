@@ -1,16 +1,10 @@
-use Rattle.std.proofs.Common.{subst}
-use Rattle.std.proofs.lemmas.Option.{slice_get_within, get_or_from_slice_get}
-use Rattle.lk_domain.specs.Ends.{Rests}
-use Rattle.lk_domain.specs.declared.cpu.Cpu.{Cpu}
+use denote.Param.Send.{sendable}
+use Rattle.std.proofs.Crossing.{crosses}
+use Rattle.lk_lock.proofs.locks.Spin.TheSendSync as spin
+use Rattle.lk_domain.proofs.Crossing.{domain_sync}
 use Rattle.lk_race.proofs.spin.Goals as goal
 
--- the first of the processors rests, as all do
-pub read-requires : goal.read-requires
-read-requires g c =
-    let cpus = c.take_all_turns.new.cpus.items in
-    let first = c.get_mut.result.now in
-    let met = c.get_mut.ensures.value in
-    record {
-      rests = subst (λ (cpu : Cpu). Rests c.in_ok-domain.field-0.domain 0 cpu) (get_or_from_slice_get cpus 0 first first met)
-          (c.take_all_turns.ensures.rest 0 first (slice_get_within cpus 0 first met));
-    }
+pub on_track-requires-sync-T : goal.on_track-requires-sync-T
+on_track-requires-sync-T g c κs within =
+    let value = c.type_bounds.send-V in
+    search (sendable, crosses, domain_sync, spin.the_sync) depth 40

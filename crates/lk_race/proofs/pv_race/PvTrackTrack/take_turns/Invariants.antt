@@ -1,10 +1,10 @@
 use Rattle.std.proofs.Common.{◌≡◌}
 use Rattle.lk_lock.specs.PvStanding.{IsIdle}
-use Rattle.lk_race.proofs.pv_race.take_turns.Given as goal
+use Rattle.lk_race.proofs.pv_race.PvTrackTrack.take_turns.Given as goal
 
 -- between two turns the processor is idle
 abbrev pub invariant-loop : goal.invariant-loop
 invariant-loop g l = record {
   number : l.cpu.number ≡ l.initial.cpu.number;
-  idle : IsIdle l.track.domain.now l.initial.cpu.number l.cpu;
+  idle : IsIdle l.domain l.initial.cpu.number l.cpu;
 }

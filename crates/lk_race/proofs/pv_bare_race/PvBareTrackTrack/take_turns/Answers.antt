@@ -3,11 +3,11 @@ use Rattle.lk_machine.specs.declared.setup.Verb.TheVariants.{Lock}
 use Rattle.lk_lock.specs.PvStanding.{IsHolding, IsReady}
 use Rattle.lk_lock.proofs.PvSteps.{as_before, freed, holding, is_held, locked, none_out}
 use Rattle.lk_lock.proofs.PvResting.{idle_again, pv_holds_none, pv_ready_of}
-use Rattle.lk_race.proofs.pv_bare_race.take_turns.Goals as goal
+use Rattle.lk_race.proofs.pv_bare_race.PvBareTrackTrack.take_turns.Goals as goal
 
 pub pv_unlock-requires-clause-held : goal.pv_unlock-requires-clause-held
 pv_unlock-requires-clause-held g c =
-    let d = c.args.domain.now in
+    let d = c.args.self.now.domain.now in
     let i = c.args.cpu.now.number in
     let old = c.loop.cpu in
     let mid = c.pv_lock.new.cpu in
@@ -16,7 +16,7 @@ pv_unlock-requires-clause-held g c =
 
 pub pv_unlock-requires-clause-value : goal.pv_unlock-requires-clause-value
 pv_unlock-requires-clause-value g c =
-    let d = c.args.domain.now in
+    let d = c.args.self.now.domain.now in
     let i = c.args.cpu.now.number in
     let old = c.loop.cpu in
     let mid = c.pv_lock.new.cpu in
@@ -25,7 +25,7 @@ pv_unlock-requires-clause-value g c =
 
 pub loop-preserved : goal.loop-preserved
 loop-preserved g c =
-    let d = c.args.domain.now in
+    let d = c.args.self.now.domain.now in
     let i = c.args.cpu.now.number in
     let old = c.loop.cpu in
     let mid = c.pv_lock.new.cpu in

@@ -1,6 +1,6 @@
 use Rattle.std.proofs.Common.{◌≡◌}
 use Rattle.lk_domain.specs.Ends.{Rests}
-use Rattle.lk_race.proofs.bare_race.take_turns.Given as goal
+use Rattle.lk_race.proofs.bare_race.BareTrackTrack.take_turns.Given as goal
 
 -- between two turns the processor rests
 abbrev pub invariant-loop : goal.invariant-loop

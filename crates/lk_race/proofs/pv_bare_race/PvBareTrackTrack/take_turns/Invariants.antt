@@ -1,6 +1,6 @@
 use Rattle.std.proofs.Common.{◌≡◌}
 use Rattle.lk_lock.specs.PvStanding.{IsIdle}
-use Rattle.lk_race.proofs.pv_bare_race.take_turns.Given as goal
+use Rattle.lk_race.proofs.pv_bare_race.PvBareTrackTrack.take_turns.Given as goal
 
 -- between two turns the processor is idle
 abbrev pub invariant-loop : goal.invariant-loop

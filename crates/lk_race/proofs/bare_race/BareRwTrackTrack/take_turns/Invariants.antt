@@ -1,0 +1,10 @@
+use Rattle.std.proofs.Common.{◌≡◌}
+use Rattle.lk_domain.specs.Ends.{Rests}
+use Rattle.lk_race.proofs.bare_race.BareRwTrackTrack.take_turns.Given as goal
+
+-- between two turns the processor rests
+abbrev pub invariant-loop-turn : goal.invariant-loop-turn
+invariant-loop-turn g l = record {
+  number : l.cpu.number ≡ l.initial.cpu.number;
+  rests : Rests l.domain l.initial.cpu.number l.cpu;
+}
