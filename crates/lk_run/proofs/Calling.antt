@@ -190,7 +190,7 @@ module _ {w : Call} {c : Pc} {P : Frame → Type 0} {a m : Cpu} where
         goes = λ s t h. step.goes s t (way.same_waits w.domain.now w.verb w.lock a m rest same c P s t h);
       }
 
--- the count of handovers was read
+-- the count of handoffs was read
 module _ {w : Call} {c : Pc} {P : Frame → Type 0} {a m : Cpu} (rest : KeepsRest a m) (r : ℕ) (same : view_of m ≡ counting r (view_of a)) where
   pub counted : At w c P a → At w c P m
   counted at =

@@ -1,4 +1,4 @@
--- Where the rows of a front that chooses the next lead, by what they meet.
+-- Where the rows of a head that chooses its successor lead, by what they meet.
 use Rattle.std.proofs.Common.{◌≡◌, ℕ, ◌+◌, IfSome, Option, Some, None, Bool, true, false, inl, inr, refl, sym, ap, ◌∙◌, subst, [], ◌∷◌}
 use Rattle.std.proofs.lemmas.Bool.{cases_Bool}
 use Rattle.std.specs.Prelude.{if◌then◌else◌, ◌&&◌, not}
@@ -29,7 +29,7 @@ use Rattle.lk_run.specs.declared.seen.More.{More}
 use Rattle.lk_run.specs.declared.seen.More.TheVariants as more
 use Rattle.lk_run.proofs.Ways.{Leads, Ends}
 
--- the course by what is seen behind the front
+-- the course by what is seen behind the head
 abbrev told_first : First → Course
 told_first first.Waits = course_of {A = Option NodeName} (learns_all C1 (K 0 ∷ []))
 told_first (first.Promotes m) = course_of {A = Option NodeName} (learns_all C3 (K 0 ∷ Reason why.Promotion ∷ []))
@@ -52,7 +52,7 @@ first_course s (Some m) (Some n) =
       | inr a ↦ rw a refl
     ]
 
--- who is named as the first of the second queue is that
+-- who is named as the first of the secondary queue is that
 over_named : (a b : Bool) (second : Option NodeName) (n m k : NodeName)
     → (if a then (if b then first.Chooses n else first.Skips n) else over_by second n) ≡ first.Flushes m k → second ≡ Some m
 over_named true true second n m k e = absurd (cc e)
@@ -152,7 +152,7 @@ pub more_goes : (mode : Mode) (p : ℕ) (z : Outlook) (f : Frame) (second x : Op
 more_goes mode p z f second x i is v e =
     ap (λ (y : Course). (led f y.leads).place) (more_is (sight_by z (Linked x i)) f second x is v e) ∙ more_place f v
 
--- who is passed over, or before whom those aside return, is named by the link
+-- who is passed over, or before whom the secondary queue returns, is named by the link
 skips_if : (a b : Bool) (second : Option NodeName) (n k : NodeName)
     → (if a then (if b then first.Chooses n else first.Skips n) else over_by second n) ≡ first.Skips k → n ≡ k
 skips_if true true second n k e = absurd (cc e)
@@ -179,12 +179,12 @@ flushes_met s (Some j) None m k e = absurd (cc e)
 flushes_met s None (Some n) m k e = ap (λ z. Some z) (flushes_if (may_stay s) (s.local n) None n m k e)
 flushes_met s (Some j) (Some n) m k e = ap (λ z. Some z) (flushes_if (may_stay s) (s.local n) (Some j) n m k e)
 
--- whether the front is the last of the main queue
+-- whether the head is the last of the main queue
 last_by : (f : Frame) (y : Fields) (own : NodeName) → f.me ≡ Some own → (b : Bool)
     → (is_held y.locked && not y.pending && is_node y.tail own) ≡ b → is_last f y ≡ b
 last_by f y own me b e = (λ i. is_held y.locked && not y.pending && is_node y.tail (node_of (me i))) ∙ e
 
--- where the last of the second queue was looked for
+-- where the last of the secondary queue was looked for
 tail_is : (f : Frame) (t : NodeName) (w : Why) → f.why ≡ w
     → course_of {A = Option NodeName} (learns_all (after_tail f.why) (T (Some t) ∷ []))
     ≡ course_of {A = Option NodeName} (learns_all (after_tail w) (T (Some t) ∷ []))

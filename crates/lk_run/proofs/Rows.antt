@@ -23,7 +23,7 @@ use Rattle.lk_domain.specs.Paths.{Any}
 use Rattle.lk_run.specs.Frames.{Owns, Follows, Precedes, Fronts}
 use Rattle.lk_run.proofs.Ways.{Leads, Ends}
 
--- whether the front is alone
+-- whether the head is alone
 sole_by : (f : Frame) (y : Fields) (own : NodeName) → f.me ≡ Some own → (b : Bool)
     → (is_unlocked y.locked && not y.pending && is_node y.tail own) ≡ b
     → (is_unlocked y.locked && not y.pending && is_node y.tail (node_of f.me)) ≡ b

@@ -9,7 +9,7 @@ use Rattle.lk_run.specs.declared.seen.First.TheVariants as first
 use Rattle.lk_run.specs.declared.seen.More.{More}
 use Rattle.lk_run.specs.declared.seen.More.TheVariants as more
 
--- the run is over: those aside return before the next, if there are any
+-- the run is over: the secondary queue returns before the successor, if there is one
 abbrev pub over_by : Option NodeName → NodeName → First
 over_by None n = first.Chooses n
 over_by (Some m) n = first.Flushes m n

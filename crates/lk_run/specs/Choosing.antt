@@ -127,8 +127,8 @@ pub record MayAppendRest (head : Front) (a t : NodeName) (cpu : Cpu) : Type 0 wh
   pub second : NodeName
   pub at : At head C9 (Returns second a t) cpu
 
--- The head has made the row C9: its successor is the first of the secondary queue, and nobody is
--- aside.
+-- The head has made the row C9: its successor is the first of what was the secondary queue, which
+-- is empty now.
 pub record HasAppendedRest (head : Front) (a t : NodeName) (old new : Cpu) : Type 0 where
   pub goes : (m : NodeName) → Steps head C9 (Returns m a t) C7 (Precedes None m) old new
 
@@ -137,8 +137,8 @@ pub record MayPromote (head : Front) (t : NodeName) (cpu : Cpu) : Type 0 where
   pub second : NodeName
   pub at : At head C10 (Promoting second t) cpu
 
--- The head has made the row C10. If it swapped the tail, the first of the secondary queue is its
--- successor, and nobody is aside. Else it looks for a link again.
+-- The head has made the row C10. If it swapped the tail, the first of what was the secondary queue
+-- is its successor. Else it polls its link again.
 pub record HasTriedToPromote (head : Front) (t : NodeName) (swapped : Bool) (old new : Cpu)
     : Type 0 where
   pub promoted : swapped ≡ true → (m : NodeName)

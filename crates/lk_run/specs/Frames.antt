@@ -9,7 +9,7 @@ pub record Fronts (own : NodeName) (aside : Option NodeName) (f : Frame) : Type 
   pub me : f.me ≡ Some own
   pub second : f.second ≡ aside
 
--- who does not lead yet has heard of no secondary queue
+-- a waiter that is not the head yet has heard of no secondary queue
 abbrev pub Owns : NodeName → Frame → Type 0
 Owns own f = Fronts own None f
 
@@ -18,7 +18,7 @@ pub record Follows (own before : NodeName) (f : Frame) : Type 0 where
   pub owns : Owns own f
   pub prev : f.prev ≡ Some before
 
--- and the node behind it, to which the lead goes
+-- and its successor
 pub record Precedes (own : NodeName) (aside : Option NodeName) (behind : NodeName) (f : Frame)
     : Type 0 where
   pub fronts : Fronts own aside f
@@ -30,7 +30,7 @@ pub record Skips (own : NodeName) (aside : Option NodeName) (a b : NodeName) (f 
   pub first : f.a ≡ Some a
   pub last : f.b ≡ Some b
 
--- the same, and whom the lead goes to: the others go behind the secondary queue
+-- the same, and its successor: those passed over go behind the secondary queue
 pub record Appends (own first a b y : NodeName) (f : Frame) : Type 0 where
   pub skips : Skips own (Some first) a b f
   pub next : f.y ≡ Some y
@@ -44,7 +44,7 @@ pub record Ties (own first a b y t : NodeName) (f : Frame) : Type 0 where
   pub next : f.y ≡ Some y
   pub tail : f.t ≡ Some t
 
--- those that it has passed over end with b, and the lead goes to y
+-- those that it has passed over end with b, and y is its successor
 pub record Parts (own first b y : NodeName) (f : Frame) : Type 0 where
   pub fronts : Fronts own (Some first) f
   pub last : f.b ≡ Some b

@@ -35,8 +35,8 @@ impl<'a> Queued<'a> {
         steps::private_store(cpu, call.domain, call.verb, self.own, Part::Next, 0);
     }
 
-    // The row G1 where waiters are moved aside: the node names no last of a second queue either,
-    // and counts no handover.
+    // The row G1 where waiters are moved aside: the node names no last of a secondary queue either,
+    // and counts no handoff.
     pub(crate) fn enter_whole(&self, cpu: &mut Cpu)
         requires mode { moves_aside self.now.call.domain.now.plan.mode ≡ true }
         requires node { IsNext self.now.own cpu.old }
@@ -73,9 +73,9 @@ impl<'a> Queued<'a> {
     }
 
     // The row G4: gives the old tail.
-    //   (0, *, *) -> (own, *, *): there was no queue, and the call is the front of its own.
-    //   (prev, *, *) -> (own, *, *): it comes behind prev, and nobody else does, since the next one
-    //   to come finds this call's node.
+    //   (0, *, *) -> (own, *, *): there was no queue, and the call is its head.
+    //   (prev, *, *) -> (own, *, *): prev is its predecessor, and that of nobody else, since the
+    //   next call to come finds this one's node.
     // The whole word is exchanged, so it is tried until it met the expected one; where it met
     // another, nothing has changed.
     pub(crate) fn exchange_tail<R: Wait>(
@@ -116,9 +116,9 @@ impl<'a> Queued<'a> {
         steps::link(cpu, self.call.domain, self.call.verb, prev, self.own, inner);
     }
 
-    // The row G6: gives the own flag. Where it is set the one before has the lock, and this call is
-    // the front; it may name the first of a second queue. The call looks at its own node, so that
-    // who waits does not disturb the others.
+    // The row G6: polls the own flag. Once that is set, the predecessor has the lock, and this call
+    // is the queue head. The flag may name the first of a secondary queue. The call polls its own
+    // node, so a waiter does not disturb the others.
     pub(crate) fn wait(&self, cpu: &mut Cpu) -> Flag
         requires { At self.now G6 Owns cpu.old }
         ensures node { IsFlagNode self.now.call.domain.now.plan result }

@@ -23,7 +23,7 @@ pub(crate) struct Call<'a> {
     ghost queues: { Queues verb lock },
 }
 
-// The call with its node, on its way to the front of the queue.
+// The call with its node, on its way to the head of the queue.
 #[derive(Clone, Copy)]
 pub(crate) struct Queued<'a> {
     pub(crate) call: Call<'a>,
@@ -31,7 +31,7 @@ pub(crate) struct Queued<'a> {
     ghost node: { IsNode call.domain.now.plan own },
 }
 
-// The call as the front of the queue, and the first of the second queue, if there is one.
+// The call as the queue head, and the first of the secondary queue, if there is one.
 #[derive(Clone, Copy)]
 pub(crate) struct Front<'a> {
     pub(crate) call: Call<'a>,
@@ -41,8 +41,8 @@ pub(crate) struct Front<'a> {
     ghost aside: { ForSome second (IsNode call.domain.now.plan) },
 }
 
-// Those that a front has passed over, from the first to the last. The mark is that of the link in
-// which the front met the first.
+// Those that a head has passed over, from the first to the last. The mark is that of the link in
+// which the head met the first.
 #[derive(Clone, Copy)]
 pub(crate) struct Skipped {
     pub(crate) first: NodeName,

@@ -38,7 +38,7 @@ impl<'a> Call<'a> {
     }
 
     // The row P2: (n, 1, *) -> (n, 0, *). The bit is this call's own, since it met none when it set
-    // it; the front of the queue waits until it is clear.
+    // it; the queue head waits until it is clear.
     pub(crate) fn clear_pending(&self, cpu: &mut Cpu)
         requires { At self.now P2 Any cpu.old }
         ensures { Steps self.now P2 Any G1 Any cpu.old cpu.new }
@@ -47,7 +47,7 @@ impl<'a> Call<'a> {
     }
 
     // The row P3: true where the word was (*, 1, 0). From then on nobody else may take the lock,
-    // since the front of a queue waits for the pending bit. A look changes no word.
+    // since a queue head waits for the pending bit. A look changes no word.
     pub(crate) fn watch(&self, cpu: &mut Cpu) -> bool
         requires { At self.now P3 Any cpu.old }
         ensures free { result ≡ true → Steps self.now P3 Any P4 Any cpu.old cpu.new }

@@ -13,11 +13,11 @@
 //   queue   G1 takes a node, G2 looks, met (0, 0, 0) ---------- G3 takes it
 //             G4 becomes the tail
 //               behind another G5 links, G6 waits for its flag
-//             G7, the front, waits until neither held nor pending
+//             G7, the head, waits until neither held nor pending
 //               the last of the queue ------------------------- G8 takes it
 //               others are behind ----------------------------- G9 takes it
-//                 G10 waits for the next, G11 hands on the lead
-//                 in `cna` C1 to C10 choose whom to hand it
+//                 G10 waits for its successor, G11 hands off
+//                 in `cna` C1 to C10 choose the successor
 //
 //   no node N1 looks until free ------------------------------- N2 takes it
 //
@@ -214,7 +214,7 @@ impl<'a> Queued<'a> {
         }
     }
 
-    // From G5: it comes behind another.
+    // From G5: it has a predecessor.
     fn follow<I: Irq, R: Wait>(&self, cpu: &mut Cpu, rt: &R, irq: &mut I, prev: NodeName)
         requires prev { node.IsNodeOf self.now prev }
         requires waits { node.Waiting self.now G5 (node.Follows prev) cpu.old (I.polls irq.old) }
@@ -225,7 +225,7 @@ impl<'a> Queued<'a> {
         self.wait_turn(cpu, rt, irq);
     }
 
-    // From G6, until the one before has handed the lead on.
+    // From G6, until its predecessor has handed off.
     fn wait_turn<I: Irq, R: Wait>(&self, cpu: &mut Cpu, rt: &R, irq: &mut I)
         requires { node.Waiting self.now G6 node.Owns cpu.old (I.polls irq.old) }
         ensures { node.Wins self.now G6 node.Owns cpu.old (I.polls irq.old) cpu.new
@@ -242,7 +242,7 @@ impl<'a> Queued<'a> {
         unreachable!()
     }
 
-    // From G7: it is the front, and this is the first of the second queue, if there is one.
+    // From G7: it is the queue head, and this is the first of the secondary queue, if there is one.
     fn lead<I: Irq, R: Wait>(&self, cpu: &mut Cpu, rt: &R, irq: &mut I, second: Option<NodeName>)
         requires second { IfSome second (node.IsNodeOf self.now) }
         requires waits { node.Waiting self.now G7 (node.Fronts second) cpu.old (I.polls irq.old) }
@@ -288,7 +288,7 @@ impl<'a> Front<'a> {
         self.stake(cpu, rt, irq);
     }
 
-    // From G9: it has others behind it, takes the lock, and hands the lead on.
+    // From G9: it has others behind it, takes the lock, and hands off.
     fn stake<I: Irq, R: Wait>(&self, cpu: &mut Cpu, rt: &R, irq: &mut I)
         requires { head.Waiting self.now G9 head.Fronts cpu.old (I.polls irq.old) }
         ensures { head.Wins self.now G9 head.Fronts cpu.old (I.polls irq.old) cpu.new (I.polls
@@ -302,7 +302,7 @@ impl<'a> Front<'a> {
         }
     }
 
-    // From G10, until the one behind has linked itself, to whom it hands the lead.
+    // From G10, until its successor has linked itself, to which it hands off.
     fn pass_on<I: Irq, R: Wait>(&self, cpu: &mut Cpu, rt: &R, irq: &mut I)
         requires { head.Waiting self.now G10 head.Fronts cpu.old (I.polls irq.old) }
         ensures { head.Wins self.now G10 head.Fronts cpu.old (I.polls irq.old) cpu.new (I.polls

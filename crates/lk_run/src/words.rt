@@ -58,7 +58,7 @@ pub(crate) fn mark_met(met: u64) -> bool
     met >= MARK
 }
 
-// What a flag says: it may name the first of a second queue.
+// What a flag says: it may name the first of a secondary queue.
 #[inline]
 pub(crate) fn flag_met(domain: &Domain, met: u64) -> Flag
     requires flag { (flag : FlagOf) × IsFlagNode domain.now.plan flag × (met ≡ flag_number flag) }
@@ -82,7 +82,7 @@ pub(crate) fn is_sole(word: Fields, own: NodeName) -> bool
     is_unlocked(word) && !word.pending && is_tail(word, own)
 }
 
-// Where the front goes that looked at the word, by whether somebody stands aside.
+// Where a head goes that polled the word, by whether there is a secondary queue.
 pub(crate) fn after_look(word: Fields, own: NodeName, aside: bool) -> Pc
     ensures { result ≡ (if is_unlocked word.locked && not word.pending
         then (if is_node word.tail own && not aside then G8 else G9) else G7) }
@@ -110,7 +110,7 @@ pub(crate) fn is_last(word: Fields, own: NodeName) -> bool
     matches!(word.locked, Locked::Held) && !word.pending && is_tail(word, own)
 }
 
-// The flag by which the next learns of those that stand aside.
+// The flag by which the successor learns of the secondary queue.
 pub(crate) fn flag_for(second: Option<NodeName>) -> Flag
     ensures { result ≡ choice_rows.flag_for second }
 {
@@ -129,7 +129,7 @@ pub(crate) fn tail_met(domain: &Domain, met: u64) -> NodeName
     node_of_name(met)
 }
 
-// Whether somebody stands aside.
+// Whether there is a secondary queue.
 pub(crate) fn stands_aside(second: Option<NodeName>) -> bool
     ensures { result ≡ is_some second }
 {
