@@ -16,24 +16,14 @@ mod holding;
 mod keys;
 mod laying;
 mod locks;
-#[cfg(test)]
-mod look_tests;
 mod looking;
 mod pv_holding;
 mod pv_locks;
 mod pv_seat;
-#[cfg(test)]
-mod pv_tests;
 mod reading;
 mod seat;
 mod shared;
-#[cfg(test)]
-mod shared_tests;
 mod showing;
-#[cfg(test)]
-mod tests;
-#[cfg(test)]
-mod try_tests;
 mod working;
 mod writing;
 

@@ -58,7 +58,7 @@ impl<'a, R: Wait> PvSeat<'a, R> {
 
     /// Tries once to take the lock, and if it did works on its value, and frees the lock. `None`
     /// says that the lock was not free, or that somebody was faster, and that the lock was not
-    /// taken. No clause says that `work` was not called then.
+    /// taken. No clause says that `work` was not called then: a test shows it.
     pub fn try_with<T, U, W: FnOnce(&mut T) -> U>(&mut self, spin: &Spin<T>, work: W) -> Option<U>
         requires lock { IsUnder self.old.domain.now.plan spinning spin.now.id.index
             spin.now.cell.table.shared.table_id }

@@ -1,7 +1,7 @@
 // What no clause says: that readers are in at once, and that all copies of a value are one after an update.
-use crate::tests::last;
-use crate::{Locks, Open, Seat};
+use crate::processors::last;
 use lk_abs::{Memory, Mode};
+use lk_lock::{Locks, Open, Seat};
 
 #[test]
 fn two_readers_are_in_at_once(rt: HostRuntime) -> Result<(), Memory> {

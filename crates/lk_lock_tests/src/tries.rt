@@ -1,7 +1,7 @@
 // What no clause says: that a try to write which fails leaves the value alone.
-use crate::tests::last;
-use crate::{Locks, Open, Seat};
+use crate::processors::last;
 use lk_abs::{Memory, Mode};
+use lk_lock::{Locks, Open, Seat};
 
 #[test]
 fn try_to_write_fails_while_another_writes(rt: HostRuntime) -> Result<(), Memory> {

@@ -1,5 +1,5 @@
 use Rattle.lk_abs.specs.declared.names.Kind.TheVariants.{Spin as spinning}
-use Rattle.lk_lock.proofs.pv_tests.four_threads_count_under_a_paravirtual_lock.Goals as goal
+use Rattle.lk_lock_tests.proofs.pv_values.four_threads_count_under_a_paravirtual_lock.Goals as goal
 
 pub into_value-requires : goal.into_value-requires
 into_value-requires g c =

@@ -1,6 +1,6 @@
 use Rattle.std.proofs.Common.{arith}
 use Rattle.lk_abs.specs.declared.names.Kind.TheVariants.{Rw as shared, Spin as spinning}
-use Rattle.lk_lock.proofs.tests.values_come_back_as_they_were_left.Goals as goal
+use Rattle.lk_lock_tests.proofs.values.values_come_back_as_they_were_left.Goals as goal
 
 pub into_value-requires : goal.into_value-requires
 into_value-requires g c =

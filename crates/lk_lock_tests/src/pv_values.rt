@@ -1,12 +1,13 @@
-// What no clause says: that no addition to a value under a paravirtual lock is lost, and that the
-// value comes back as it was left.
+// What no clause says: that no addition to a value under a paravirtual lock is lost, that the value
+// comes back as it was left, and that a try which fails leaves it alone.
 ghost use Rattle.std.specs.Prelude.{◌≡◌, length};
 ghost use Rattle.lk_abs.specs.declared.names.Kind.TheVariants.{Spin as spinning};
 ghost use Rattle.lk_lock.specs.PvStanding.{AreIdle, IsIdle};
 ghost use Rattle.lk_lock.specs.Standing.{IsUnder};
 
-use crate::{Locks, PvSeat, Spin};
+use crate::processors::last_pv;
 use lk_abs::{List, Memory};
+use lk_lock::{Locks, PvOpen, PvSeat, Spin};
 use lk_pvdomain::{PvCpu, PvDomain};
 use std::sync::Wait;
 use std::thread;
@@ -62,5 +63,27 @@ fn four_threads_count_under_a_paravirtual_lock(rt: HostRuntime) -> Result<(), Me
         return Err(Memory);
     };
     assert_eq!(rt; count.into_value(&mut keys), 4 * u64::from(TURNS));
+    Ok(())
+}
+
+#[test]
+fn paravirtual_try_fails_while_another_holds(rt: HostRuntime) -> Result<(), Memory> {
+    let mut locks = Locks::new(rt.alloc(), 2)?;
+    let number = locks.spin(7u64)?;
+    let PvOpen { domain, mut cpus } = locks.open_pv(1)?;
+    let mut second = last_pv(&domain, &mut cpus);
+    let mut first = last_pv(&domain, &mut cpus);
+    let mut inner = PvSeat::new(&rt, &domain, &mut second);
+    let mut outer = PvSeat::new(&rt, &domain, &mut first);
+    let missed = outer.with(&number, |mine: &mut u64| -> bool {
+        *mine = 8;
+        let tried = inner.try_with(&number, |other: &mut u64| {
+            *other = 9;
+        });
+        tried.is_none()
+    });
+    assert!(rt; missed);
+    let left = outer.try_with(&number, |number: &mut u64| -> u64 { *number });
+    assert_eq!(rt; left, Some(8));
     Ok(())
 }

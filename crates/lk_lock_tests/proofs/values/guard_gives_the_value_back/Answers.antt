@@ -1,4 +1,4 @@
-use Rattle.lk_lock.proofs.tests.guard_gives_the_value_back.Goals as goal
+use Rattle.lk_lock_tests.proofs.values.guard_gives_the_value_back.Goals as goal
 
 pub drop-held-requires-clause-inside : goal.drop-held-requires-clause-inside
 drop-held-requires-clause-inside g c =

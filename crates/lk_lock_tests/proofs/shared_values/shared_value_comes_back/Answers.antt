@@ -1,5 +1,5 @@
 use Rattle.lk_lock.proofs.Closings.{shared_key}
-use Rattle.lk_lock.proofs.shared_tests.shared_value_comes_back.Goals as goal
+use Rattle.lk_lock_tests.proofs.shared_values.shared_value_comes_back.Goals as goal
 
 pub into_value-requires : goal.into_value-requires
 into_value-requires g c =

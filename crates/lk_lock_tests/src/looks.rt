@@ -5,10 +5,10 @@ ghost use Rattle.lk_domain.specs.Ends.{AllRest, Rests};
 ghost use Rattle.lk_domain.specs.Plans.{locks_of};
 ghost use Rattle.lk_lock.specs.Standing.{IsUnder};
 
-use crate::tests::last;
-use crate::{Locks, Open, Seat, Spin};
+use crate::processors::last;
 use lk_abs::{List, Memory, Mode};
 use lk_domain::{Cpu, Domain};
+use lk_lock::{Locks, Open, Seat, Spin};
 use std::sync::Wait;
 use std::thread;
 use std::thread::Threads;

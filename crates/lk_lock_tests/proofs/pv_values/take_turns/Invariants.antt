@@ -1,6 +1,6 @@
 use Rattle.std.proofs.Common.{◌≡◌}
 use Rattle.lk_lock.specs.PvStanding.{IsIdle}
-use Rattle.lk_lock.proofs.pv_tests.take_turns.Given as goal
+use Rattle.lk_lock_tests.proofs.pv_values.take_turns.Given as goal
 
 -- between two turns the processor is idle
 abbrev pub invariant-loop : goal.invariant-loop

@@ -1,26 +1,16 @@
 // What no clause says: that a value is the one that was left, that a try which fails calls nothing,
 // and what is shown of a lock.
-ghost use Rattle.std.specs.Prelude.{◌≡◌, ◌+◌, ◌<◌, length};
+ghost use Rattle.std.specs.Prelude.{◌≡◌};
 ghost use Rattle.lk_abs.specs.declared.names.Kind.TheVariants.{Rw as shared, Spin as spinning};
-ghost use Rattle.lk_domain.specs.Ends.{AllRest, Rests};
+ghost use Rattle.lk_domain.specs.Ends.{Rests};
 ghost use Rattle.lk_lock.specs.Standing.{IsUnder};
 
-use crate::{Held, Locks, Open, Rw, Seat, Spin};
-use lk_abs::{List, Memory, Mode};
+use crate::processors::last;
+use lk_abs::{Memory, Mode};
 use lk_domain::{Cpu, Domain};
+use lk_lock::{Held, Locks, Open, Rw, Seat, Spin};
 use std::alloc::AllocError;
 use std::sync::Wait;
-
-// The last processor of a domain.
-pub(crate) fn last(domain: &Domain, cpus: &mut List<Cpu>) -> Cpu
-    requires some { 0 < length cpus.old.items }
-    requires rest { AllRest domain.now cpus.old.items }
-    ensures rests { Rests domain.now (length cpus.new.items) result }
-    ensures rest { AllRest domain.now cpus.new.items }
-    ensures less { length cpus.old.items ≡ length cpus.new.items + 1 }
-{
-    cpus.pop()
-}
 
 #[test]
 fn writer_works_on_the_value(rt: HostRuntime) -> Result<(), Memory> {

@@ -1,0 +1,16 @@
+//! The tests of values under locks: what no clause says of them. They stand beside the edits of
+//! `lk_lock`, so that neither waits for the other.
+#![tactic(auto)]
+
+#[cfg(test)]
+mod looks;
+#[cfg(test)]
+mod processors;
+#[cfg(test)]
+mod pv_values;
+#[cfg(test)]
+mod shared_values;
+#[cfg(test)]
+mod tries;
+#[cfg(test)]
+mod values;
