@@ -28,7 +28,7 @@ class Sources:
         for path, text in self.text.items():
             for owner, clauses in clauses_in(path, text):
                 self.clauses[owner] |= set(clauses)
-        self.rows = ROW.findall(ROWS.search(self.text["crates/lk_machine/src/parts.rt"])[1])
+        self.rows = ROW.findall(ROWS.search(self.text["crates/lk_rows/src/parts.rt"])[1])
 
     def documents(self):
         return [path for path in self.files if path.endswith(".md")]

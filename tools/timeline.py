@@ -22,7 +22,7 @@ ROW, TOP = 17, 66
 SIZE, BAR, GAP = 11, 7, 4
 LETTER = SIZE * SLIM
 MARK = "#fff3bf"
-PARTS = Path(__file__).resolve().parent.parent / "crates" / "lk_machine" / "src" / "parts.rt"
+PARTS = Path(__file__).resolve().parent.parent / "crates" / "lk_rows" / "src" / "parts.rt"
 COLOURS = {"runs": "#e4e4e4", "seeks": "#f0c94a", "pending": "#ee7f2d", "queued": "#9cc5ea", "leads": "#2f6db5", "holds": "#3c9a5f",
            "halted": "#5b4a63"}
 ARROWS = {"link": "#2f6db5", "handoff": "#3c9a5f", "kick": "#b3261e"}

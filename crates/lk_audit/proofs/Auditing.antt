@@ -5,8 +5,8 @@ use Rattle.lk_abs.specs.Lawful.{Rules, IsLawful}
 use Rattle.lk_abs.specs.Judge.{JudgeState, breach_of, HasTaken}
 use Rattle.lk_abs.specs.declared.events.Event.{Event}
 use Rattle.lk_abs.specs.declared.events.Breach.{Breach}
-use Rattle.lk_machine.specs.Run.{Occurrence}
-use Rattle.lk_machine.specs.declared.setup.Setup.{Setup}
+use Rattle.lk_rows.specs.Run.{Occurrence}
+use Rattle.lk_rows.specs.declared.setup.Setup.{Setup}
 use Rattle.lk_text.specs.Reader.{lines_given, is_ended, GaveLine, MetEnd}
 use Rattle.lk_text.specs.declared.reader.LineReader.{LineReader}
 use Rattle.lk_forms.specs.declared.answers.Fault.{Fault}
@@ -17,7 +17,7 @@ use Rattle.lk_audit_forms.specs.Texts.{name_of}
 use Rattle.lk_audit_forms.specs.declared.answers.Told.{Told}
 use Rattle.lk_audit_forms.specs.declared.answers.Told.TheVariants as told
 use Rattle.lk_audit.specs.Lawful.{events_said, IsLawfulSo, IsBroken}
-use Rattle.lk_machine.specs.Rules.{rules_of}
+use Rattle.lk_rows.specs.Rules.{rules_of}
 use Rattle.lk_audit.specs.Auditor.{CanGoOn, Shows, GoesOn, EventMeans, LineMeans}
 use Rattle.lk_audit.specs.Stands.{Stands, StopsRefused, FaultStops, TurnsTo, end_at}
 use Rattle.lk_audit.specs.declared.auditor.Auditor.{Auditor}

@@ -5,7 +5,7 @@ use Rattle.std.specs.Result.{result_unwrap_or}
 use Rattle.lk_abs.specs.Lawful.{Rules, IsLawful}
 use Rattle.lk_abs.specs.declared.events.Event.{Event}
 use Rattle.lk_abs.proofs.OneMore.{lawful-front}
-use Rattle.lk_machine.specs.Run.{Occurrence, events_of}
+use Rattle.lk_rows.specs.Run.{Occurrence, events_of}
 use Rattle.lk_text.specs.Feeds.{line_of}
 use Rattle.lk_forms.specs.Grammar.{Reading, has_go}
 use Rattle.lk_text.specs.declared.reader.TheConstants.{MAX_INPUT, MAX_LINE}
@@ -19,7 +19,7 @@ use Rattle.lk_audit_forms.specs.Grammar.{Said, last_act, with_told, said_on, rea
 use Rattle.lk_audit_forms.specs.declared.answers.Told.{Told}
 use Rattle.lk_audit_forms.specs.declared.answers.Told.TheVariants as told
 use Rattle.lk_audit.specs.Lawful.{events_said, IsLawfulSo}
-use Rattle.lk_machine.specs.Rules.{rules_of}
+use Rattle.lk_rows.specs.Rules.{rules_of}
 
 -- the header stays, and the history is added to
 pub record GrowsTo (s t : Said) : Type 0 where

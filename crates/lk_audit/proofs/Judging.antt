@@ -18,12 +18,12 @@ use Rattle.lk_abs.specs.declared.events.Event.{Event}
 use Rattle.lk_abs.specs.declared.events.Breach.{Breach}
 use Rattle.lk_abs.specs.declared.events.What.{What}
 use Rattle.lk_abs.specs.declared.events.What.TheVariants as what
-use Rattle.lk_machine.specs.declared.setup.Setup.{Setup}
+use Rattle.lk_rows.specs.declared.setup.Setup.{Setup}
 use Rattle.lk_text.proofs.NumberLemmas.{and_split}
 use Rattle.lk_forms.specs.Grammar.{cpus_of}
 use Rattle.lk_audit_forms.specs.Ranges.{is_waiter_of, names_of, is_lock_of, is_in_setup}
 use Rattle.lk_audit.specs.Lawful.{breach_on, breach_behind}
-use Rattle.lk_machine.specs.Rules.{rules_of}
+use Rattle.lk_rows.specs.Rules.{rules_of}
 
 -- the same histories leave the same front asleep
 no_kick_same : (s : KickState) (f g : LockName → LockHistory) (ls : List LockName)

@@ -4,8 +4,8 @@ use Rattle.std.proofs.lemmas.Bool.Decides.{nat_tests}
 use Rattle.std.proofs.lemmas.List.{map-append}
 use Rattle.std.specs.Str.{bytes_eq}
 use Rattle.lk_abs.specs.declared.events.Event.{Event}
-use Rattle.lk_machine.specs.Run.{Occurrence, events_of}
-use Rattle.lk_machine.specs.declared.setup.Setup.{Setup}
+use Rattle.lk_rows.specs.Run.{Occurrence, events_of}
+use Rattle.lk_rows.specs.declared.setup.Setup.{Setup}
 use Rattle.lk_text.proofs.NumberLemmas.{and_split}
 use Rattle.lk_forms.specs.Texts.{count_name}
 use Rattle.lk_forms.specs.declared.limits.TheConstants.{MAX_ACTS}

@@ -23,7 +23,7 @@ use Rattle.lk_abs.proofs.OneMore.{lawful-nil}
 use Rattle.lk_audit_forms.specs.Grammar.{Said, in_header, header_on, read, ending, audit_grammar}
 use Rattle.lk_audit_forms.specs.Texts.{name_of}
 use Rattle.lk_audit.specs.Lawful.{IsLawfulSo, IsBroken, BreaksAt, Breaks}
-use Rattle.lk_machine.specs.Rules.{rules_of}
+use Rattle.lk_rows.specs.Rules.{rules_of}
 use Rattle.lk_audit.specs.Outcome.{refused_fault}
 use Rattle.lk_audit.specs.Stands.{Stands, StopsRefused, FaultStops, cut_at, end_at}
 use Rattle.lk_audit.specs.declared.answers.AuditFault.{AuditFault}

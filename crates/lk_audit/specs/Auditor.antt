@@ -13,7 +13,7 @@ use Rattle.lk_audit_forms.specs.Grammar.{Said, read, last_act, with_told}
 use Rattle.lk_audit_forms.specs.Texts.{name_of}
 use Rattle.lk_audit_forms.specs.declared.answers.Told.TheVariants as told
 use Rattle.lk_audit.specs.Lawful.{events_said, IsBroken}
-use Rattle.lk_machine.specs.Rules.{rules_of}
+use Rattle.lk_rows.specs.Rules.{rules_of}
 use Rattle.lk_audit.specs.declared.answers.AuditFault.{AuditFault}
 use Rattle.lk_audit.specs.declared.answers.AuditFault.TheVariants as fault
 use Rattle.lk_audit.specs.declared.auditor.Auditor.{Auditor}

@@ -9,9 +9,9 @@ use Rattle.lk_abs.specs.NoKick.{unkicked}
 use Rattle.lk_abs.specs.declared.names.LockName.{LockName}
 use Rattle.lk_abs.specs.declared.events.Event.{Event}
 use Rattle.lk_abs.specs.declared.events.Breach.{Breach}
-use Rattle.lk_machine.specs.Rules.{rules_of}
-use Rattle.lk_machine.specs.Run.{events_of}
-use Rattle.lk_machine.specs.declared.setup.Setup.{Setup}
+use Rattle.lk_rows.specs.Rules.{rules_of}
+use Rattle.lk_rows.specs.Run.{events_of}
+use Rattle.lk_rows.specs.declared.setup.Setup.{Setup}
 use Rattle.lk_text.specs.Feeds.{pieces}
 use Rattle.lk_forms.specs.Grammar.{has_go}
 use Rattle.lk_stream.specs.Grammar.{Place, next_place}

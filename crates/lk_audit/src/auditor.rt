@@ -1,14 +1,14 @@
 // An auditor: it is told the lines behind `go`, and judges their events.
 ghost use Rattle.std.specs.Prelude.{◌≡◌, IfOk, OnOk, true};
 ghost use Rattle.lk_forms.specs.Grammar.{Reading, has_go};
-ghost use Rattle.lk_machine.specs.Programs.{IsLawfulSetup};
+ghost use Rattle.lk_rows.specs.Programs.{IsLawfulSetup};
 ghost use Rattle.lk_audit_forms.specs.Grammar.{Said, in_header, ending};
 
 use crate::answers::AuditFault;
 use lk_abs::{Event, Judge, Memory};
 use lk_audit_forms::{BreachName, CLOSING_LINES, Told, line_told};
 use lk_forms::Fault;
-use lk_machine::Setup;
+use lk_rows::Setup;
 use std::alloc::Global;
 
 /// A setup, a judge, and where the text is behind `go`.

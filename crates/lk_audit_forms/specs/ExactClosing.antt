@@ -1,6 +1,6 @@
 -- The closing lines are read exactly as they are printed.
 use Rattle.std.specs.Prelude.{◌≡◌, ◌≤◌, ◌<◌, ◌^◌, ℕ, suc, List, ◌++◌, Ok, codes, decimal}
-use Rattle.lk_machine.specs.declared.setup.Setup.{Setup}
+use Rattle.lk_rows.specs.declared.setup.Setup.{Setup}
 use Rattle.lk_forms.specs.declared.limits.TheConstants.{MAX_ACTS}
 use Rattle.lk_forms.specs.Texts.{end_text, count_name}
 use Rattle.lk_audit_forms.specs.Closing.{line_told}

@@ -1,7 +1,7 @@
 -- What the lines of an audited text say: the header of a trace, then a history, then its closing
 -- lines.
 use Rattle.std.specs.Prelude.{ℕ, ◌==◌, ◌+◌, List, [], ◌∷◌, ◌++◌, Option, None, Some, Result, Ok, Err, length, codes, decimal, if◌then◌else◌}
-use Rattle.lk_machine.specs.Run.{Occurrence}
+use Rattle.lk_rows.specs.Run.{Occurrence}
 use Rattle.lk_forms.specs.Grammar.{Reading, nothing_read, has_go}
 use Rattle.lk_forms.specs.declared.answers.Fault.{Fault}
 use Rattle.lk_forms.specs.declared.answers.LineRefusal.{LineRefusal}

@@ -8,7 +8,7 @@ use Rattle.lk_abs.specs.declared.names.LockName.{LockName}
 use Rattle.lk_abs.specs.declared.events.Event.{Event}
 use Rattle.lk_abs.specs.declared.events.What.{What}
 use Rattle.lk_abs.specs.declared.events.What.TheVariants as what
-use Rattle.lk_machine.specs.declared.setup.Setup.{Setup}
+use Rattle.lk_rows.specs.declared.setup.Setup.{Setup}
 use Rattle.lk_forms.specs.Grammar.{cpus_of}
 use Rattle.lk_forms.specs.declared.limits.TheConstants.{MAX_ACTS}
 use Rattle.lk_forms.specs.declared.answers.Fault.{Fault}

@@ -8,7 +8,7 @@ use crate::answers::Told;
 use crate::parts::{next_word, one_word, plain_number, two_words};
 use crate::ranges::read_event;
 use lk_forms::{Fault, MAX_ACTS};
-use lk_machine::Setup;
+use lk_rows::Setup;
 
 /// The number of closing lines: `end`, and ten counts.
 pub const CLOSING_LINES: u32 = 11;

@@ -7,7 +7,7 @@ ghost use Rattle.lk_audit_forms.specs.Ranges.{is_next_act, is_waiter_of, is_lock
 use crate::event::event_told;
 use lk_abs::{Event, Kind, LockName, Waiter, What};
 use lk_forms::{Fault, MAX_ACTS};
-use lk_machine::Setup;
+use lk_rows::Setup;
 
 // The number of contexts of a processor.
 const CONTEXTS: u32 = 6;

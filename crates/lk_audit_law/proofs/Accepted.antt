@@ -4,14 +4,14 @@ use Rattle.std.proofs.lemmas.List.{length-append}
 use Rattle.lk_abs.specs.Lawful.{IsLawful}
 use Rattle.lk_abs.specs.declared.events.Act.{Act}
 use Rattle.lk_abs.specs.declared.events.Event.{Event}
-use Rattle.lk_machine.specs.Machine.{Machine}
-use Rattle.lk_machine.specs.Programs.{IsLawfulSetup}
-use Rattle.lk_machine.specs.Acts.{next}
+use Rattle.lk_rows.specs.Machine.{Machine}
+use Rattle.lk_rows.specs.Programs.{IsLawfulSetup}
+use Rattle.lk_rows.specs.Acts.{next}
 use Rattle.lk_machine.specs.Ready.{CountsWithin}
-use Rattle.lk_machine.specs.Run.{Occurrence, at_rest, occurs, history_from, machine_after, events_of}
-use Rattle.lk_machine.specs.declared.setup.Setup.{Setup}
-use Rattle.lk_machine.specs.declared.parts.Counts.{Counts}
-use Rattle.lk_machine.specs.Rules.{rules_of}
+use Rattle.lk_rows.specs.Run.{Occurrence, at_rest, occurs, history_from, machine_after, events_of}
+use Rattle.lk_rows.specs.declared.setup.Setup.{Setup}
+use Rattle.lk_rows.specs.declared.parts.Counts.{Counts}
+use Rattle.lk_rows.specs.Rules.{rules_of}
 use Rattle.lk_law.specs.MachineLaws.{ActKeeps, RestShows, RunKeeps, AreInRange}
 use Rattle.lk_text.specs.Feeds.{pieces, line_of}
 use Rattle.lk_forms.specs.Grammar.{Reading, has_go, last_rank, cpus_of}

@@ -13,15 +13,15 @@ use Rattle.lk_abs.specs.declared.events.Act.TheVariants as act
 use Rattle.lk_abs.specs.declared.events.Event.{Event}
 use Rattle.lk_abs.specs.declared.events.What.{What}
 use Rattle.lk_abs.specs.declared.events.What.TheVariants as what
-use Rattle.lk_machine.specs.declared.setup.Setup.{Setup}
-use Rattle.lk_machine.specs.declared.parts.Frame.{Frame}
-use Rattle.lk_machine.specs.declared.parts.Pc.{Pc}
-use Rattle.lk_machine.specs.Machine.{Machine, cpu_at, set_preempted, frame_at, depth_at, preempted_at, halted_at, kicked_at, top_of, top_frame, handlers_at}
-use Rattle.lk_machine.specs.Moves.{rw_name, program_of}
-use Rattle.lk_machine.specs.Programs.{kind_of, handlers_of}
-use Rattle.lk_machine.specs.Row.{Tell, Nothing, Says, Passes, event_of, Answer}
-use Rattle.lk_machine.specs.TopRow.{Target, RwWord, target, row, row_at, row_on}
-use Rattle.lk_machine.specs.Acts.{next, step, step_halted, idle, kicked_awake, nudged, interrupted, is_shut, stands_halting, processor_of}
+use Rattle.lk_rows.specs.declared.setup.Setup.{Setup}
+use Rattle.lk_rows.specs.declared.parts.Frame.{Frame}
+use Rattle.lk_rows.specs.declared.parts.Pc.{Pc}
+use Rattle.lk_rows.specs.Machine.{Machine, cpu_at, set_preempted, frame_at, depth_at, preempted_at, halted_at, kicked_at, top_of, top_frame, handlers_at}
+use Rattle.lk_rows.specs.Moves.{rw_name, program_of}
+use Rattle.lk_rows.specs.Programs.{kind_of, handlers_of}
+use Rattle.lk_rows.specs.Row.{Tell, Nothing, Says, Passes, event_of, Answer}
+use Rattle.lk_rows.specs.TopRow.{Target, RwWord, target, row, row_at, row_on}
+use Rattle.lk_rows.specs.Acts.{next, step, step_halted, idle, kicked_awake, nudged, interrupted, is_shut, stands_halting, processor_of}
 use Rattle.lk_law.specs.Families.{is_rw_row}
 use Rattle.lk_law.specs.Places.{post_of}
 use Rattle.lk_law.specs.Pv.{at_halt}

@@ -7,9 +7,9 @@ use Rattle.std.specs.Prelude.{⊤}
 use Rattle.std.specs.Str.{bytes_eq}
 use Rattle.std.specs.List.{flat_map}
 use Rattle.lk_abs.specs.declared.events.Event.{Event}
-use Rattle.lk_machine.specs.Run.{Occurrence}
-use Rattle.lk_machine.specs.declared.setup.Setup.{Setup}
-use Rattle.lk_machine.specs.declared.parts.Counts.{Counts}
+use Rattle.lk_rows.specs.Run.{Occurrence}
+use Rattle.lk_rows.specs.declared.setup.Setup.{Setup}
+use Rattle.lk_rows.specs.declared.parts.Counts.{Counts}
 use Rattle.lk_text.specs.Feeds.{HasNoFeed, pieces, line_of}
 use Rattle.lk_text.specs.declared.reader.TheConstants.{MAX_INPUT, MAX_LINE}
 use Rattle.lk_forms.specs.Grammar.{Reading, has_go}

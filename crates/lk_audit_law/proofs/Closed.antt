@@ -5,10 +5,10 @@ use Rattle.std.proofs.lemmas.List.{length-append}
 use Rattle.std.specs.Prelude.{⊤}
 use Rattle.std.specs.Str.{bytes_eq}
 use Rattle.std.specs.List.{flat_map}
-use Rattle.lk_machine.specs.Run.{Occurrence}
+use Rattle.lk_rows.specs.Run.{Occurrence}
 use Rattle.lk_machine.specs.Ready.{CountsWithin}
-use Rattle.lk_machine.specs.declared.setup.Setup.{Setup}
-use Rattle.lk_machine.specs.declared.parts.Counts.{Counts}
+use Rattle.lk_rows.specs.declared.setup.Setup.{Setup}
+use Rattle.lk_rows.specs.declared.parts.Counts.{Counts}
 use Rattle.lk_text.specs.declared.reader.TheConstants.{MAX_INPUT}
 use Rattle.lk_forms.specs.Grammar.{Reading, has_go}
 use Rattle.lk_forms.specs.Texts.{end_text, count_name, count_at, count_text, closing}

@@ -6,7 +6,7 @@ use Rattle.std.proofs.lemmas.List.{map-append, length-append}
 use Rattle.std.proofs.lemmas.List.Sums.{fold-append}
 use Rattle.std.specs.Result.{result_unwrap_or, result_err}
 use Rattle.lk_abs.specs.declared.events.Act.{Act}
-use Rattle.lk_machine.specs.declared.setup.Setup.{Setup}
+use Rattle.lk_rows.specs.declared.setup.Setup.{Setup}
 use Rattle.lk_text.specs.Feeds.{line_of}
 use Rattle.lk_forms.specs.Grammar.{cpus_of, Reading, reading_of, next_reading, nothing_read, scheduled, last_rank, has_go, has_end, ending, refusal_of_line}
 use Rattle.lk_forms.specs.Grammar.{read as read_trace}

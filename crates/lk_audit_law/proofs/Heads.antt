@@ -5,7 +5,7 @@ use Rattle.std.proofs.lemmas.Bool.Decides.{nat_tests}
 use Rattle.std.specs.Prelude.{⊤}
 use Rattle.std.specs.List.{onto_first}
 use Rattle.lk_abs.specs.declared.events.Act.{Act}
-use Rattle.lk_machine.specs.declared.setup.Setup.{Setup}
+use Rattle.lk_rows.specs.declared.setup.Setup.{Setup}
 use Rattle.lk_text.specs.Feeds.{HasNoFeed, pieces}
 use Rattle.lk_forms.specs.Grammar.{Reading, last_rank, has_end, ending}
 use Rattle.lk_forms.specs.Trace.{Good, Refused, reading_after, setup_of, acts_of, trace_from}

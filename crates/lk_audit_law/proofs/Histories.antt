@@ -12,12 +12,12 @@ use Rattle.lk_abs.specs.declared.events.Event.{Event}
 use Rattle.lk_abs.specs.declared.events.What.{What}
 use Rattle.lk_abs.specs.declared.events.What.TheVariants as what
 use Rattle.lk_abs.proofs.OneMore.{lawful-front, allowed_from_lawful}
-use Rattle.lk_machine.specs.declared.setup.Setup.{Setup}
-use Rattle.lk_machine.specs.Programs.{IsLawfulSetup}
-use Rattle.lk_machine.specs.Machine.{Machine}
-use Rattle.lk_machine.specs.Acts.{next, processor_of}
-use Rattle.lk_machine.specs.Run.{Occurrence, occurs, history_from, events_of}
-use Rattle.lk_machine.specs.Rules.{rules_of}
+use Rattle.lk_rows.specs.declared.setup.Setup.{Setup}
+use Rattle.lk_rows.specs.Programs.{IsLawfulSetup}
+use Rattle.lk_rows.specs.Machine.{Machine}
+use Rattle.lk_rows.specs.Acts.{next, processor_of}
+use Rattle.lk_rows.specs.Run.{Occurrence, occurs, history_from, events_of}
+use Rattle.lk_rows.specs.Rules.{rules_of}
 use Rattle.lk_law.specs.Kicked.{with_event}
 use Rattle.lk_law.specs.MachineLaws.{ShowsLawful, ActKeeps, AreInRange}
 use Rattle.lk_forms.specs.Grammar.{cpus_of}

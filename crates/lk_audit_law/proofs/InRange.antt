@@ -3,8 +3,8 @@ use Rattle.std.proofs.Common.{Bool, true, false, ◌≡◌, ◌≤◌, ◌<◌, 
 use Rattle.std.proofs.lemmas.Bool.Decides.{nat_tests}
 use Rattle.std.proofs.lemmas.List.{length-append, length-replicate}
 use Rattle.lk_abs.specs.declared.events.Act.{Act}
-use Rattle.lk_machine.specs.Acts.{processor_of}
-use Rattle.lk_machine.specs.declared.setup.Setup.{Setup}
+use Rattle.lk_rows.specs.Acts.{processor_of}
+use Rattle.lk_rows.specs.declared.setup.Setup.{Setup}
 use Rattle.lk_law.specs.MachineLaws.{AreInRange}
 use Rattle.lk_forms.specs.Grammar.{Reading, cpus_of, reading_of, scheduled, has_go, has_end, ending}
 use Rattle.lk_forms.specs.Grammar.{read as read_trace}

@@ -1,16 +1,16 @@
 -- A run from rest is read.
 use Rattle.std.proofs.Common.{◌≡◌, ◌≤◌, ◌+◌, ℕ, List, [], ◌∷◌, length, refl, ◌∙◌, subst, arith}
 use Rattle.lk_abs.specs.declared.events.Act.{Act}
-use Rattle.lk_machine.specs.Machine.{Machine}
-use Rattle.lk_machine.specs.Acts.{next}
-use Rattle.lk_machine.specs.Run.{at_rest, machine_after, events_of}
+use Rattle.lk_rows.specs.Machine.{Machine}
+use Rattle.lk_rows.specs.Acts.{next}
+use Rattle.lk_rows.specs.Run.{at_rest, machine_after, events_of}
 use Rattle.lk_abs.specs.Lawful.{IsLawful}
-use Rattle.lk_machine.specs.Rules.{rules_of}
+use Rattle.lk_rows.specs.Rules.{rules_of}
 use Rattle.lk_law.specs.MachineLaws.{ActKeeps, RestShows, RunKeeps, AreInRange}
 use Rattle.lk_replay.specs.Transcript.{history_of_run}
 use Rattle.lk_audit_law.specs.Laws.{RunsAreRead}
-use Rattle.lk_machine.specs.declared.setup.Setup.{Setup}
-use Rattle.lk_machine.specs.Programs.{IsLawfulSetup}
+use Rattle.lk_rows.specs.declared.setup.Setup.{Setup}
+use Rattle.lk_rows.specs.Programs.{IsLawfulSetup}
 use Rattle.lk_forms.specs.Grammar.{cpus_of}
 use Rattle.lk_forms.specs.declared.limits.TheConstants.{MAX_ACTS}
 use Rattle.lk_audit_law.proofs.Histories.{AreTold, run_follows, are_told, are_read}

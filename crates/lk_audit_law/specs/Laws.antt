@@ -1,9 +1,9 @@
 -- The laws on what a replay writes.
 use Rattle.std.specs.Prelude.{true, ◌≡◌, ◌≤◌, ◌++◌, ℕ, List, length}
 use Rattle.lk_abs.specs.declared.events.Act.{Act}
-use Rattle.lk_machine.specs.Run.{Occurrence}
-use Rattle.lk_machine.specs.declared.setup.Setup.{Setup}
-use Rattle.lk_machine.specs.Programs.{IsLawfulSetup}
+use Rattle.lk_rows.specs.Run.{Occurrence}
+use Rattle.lk_rows.specs.declared.setup.Setup.{Setup}
+use Rattle.lk_rows.specs.Programs.{IsLawfulSetup}
 use Rattle.lk_law.specs.MachineLaws.{AreInRange}
 use Rattle.lk_text.specs.Feeds.{pieces}
 use Rattle.lk_forms.specs.Grammar.{cpus_of, has_go}

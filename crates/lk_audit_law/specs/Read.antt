@@ -1,7 +1,7 @@
 -- When the lines of a history tell an auditor its events.
 use Rattle.std.specs.Prelude.{◌≡◌, ℕ, List, [], ◌∷◌, ◌++◌, Ok, codes, ⊤}
-use Rattle.lk_machine.specs.Run.{Occurrence}
-use Rattle.lk_machine.specs.declared.setup.Setup.{Setup}
+use Rattle.lk_rows.specs.Run.{Occurrence}
+use Rattle.lk_rows.specs.declared.setup.Setup.{Setup}
 use Rattle.lk_forms.specs.Texts.{event_text}
 use Rattle.lk_audit_forms.specs.Ranges.{read_event}
 

@@ -2,15 +2,15 @@
 use Rattle.std.proofs.Common.{◌≡◌, ℕ, Option, Some, None, Bool, true, false, List, refl, subst, sym}
 use Rattle.std.specs.Prelude.{is_some, if◌then◌else◌}
 use Rattle.lk_word.specs.declared.spin_word.NodeName.{NodeName}
-use Rattle.lk_machine.specs.declared.parts.Frame.{Frame}
-use Rattle.lk_machine.specs.declared.parts.Node.{Node}
-use Rattle.lk_machine.specs.declared.parts.Pc.{Pc}
-use Rattle.lk_machine.specs.declared.parts.Pc.TheVariants.{C1, C2}
-use Rattle.lk_machine.specs.Machine.{Machine, node_at, set_top, top_frame}
-use Rattle.lk_machine.specs.Moves.{node_of}
-use Rattle.lk_machine.specs.Row.{Answer, Change, Effect, learns_all}
-use Rattle.lk_machine.specs.TopRow.{on_next, row, sight_at}
-use Rattle.lk_machine.specs.rows.Cna.{Sight, may_stay, search_first, search_on}
+use Rattle.lk_rows.specs.declared.parts.Frame.{Frame}
+use Rattle.lk_rows.specs.declared.parts.Node.{Node}
+use Rattle.lk_rows.specs.declared.parts.Pc.{Pc}
+use Rattle.lk_rows.specs.declared.parts.Pc.TheVariants.{C1, C2}
+use Rattle.lk_rows.specs.Machine.{Machine, node_at, set_top, top_frame}
+use Rattle.lk_rows.specs.Moves.{node_of}
+use Rattle.lk_rows.specs.Row.{Answer, Change, Effect, learns_all}
+use Rattle.lk_rows.specs.TopRow.{on_next, row, sight_at}
+use Rattle.lk_rows.specs.rows.Cna.{Sight, may_stay, search_first, search_on}
 use Rattle.lk_cna.specs.Row.{frame_after}
 
 -- the outcome is a look that leads to a place with some registers changed

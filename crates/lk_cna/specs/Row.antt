@@ -1,11 +1,11 @@
 -- What the code of this crate's rows needs of the machine; all of it holds of a sound one.
 use Rattle.std.specs.Prelude.{◌≡◌, ◌<◌, ◌+◌, ◌^◌, ℕ, Some, true, is_some}
-use Rattle.lk_machine.specs.declared.parts.Frame.{Frame}
-use Rattle.lk_machine.specs.declared.parts.Pc.TheVariants.{C2, C7}
-use Rattle.lk_machine.specs.Machine.{Machine, HasNode, node_at, top_frame}
-use Rattle.lk_machine.specs.Moves.{node_of}
+use Rattle.lk_rows.specs.declared.parts.Frame.{Frame}
+use Rattle.lk_rows.specs.declared.parts.Pc.TheVariants.{C2, C7}
+use Rattle.lk_rows.specs.Machine.{Machine, HasNode, node_at, top_frame}
+use Rattle.lk_rows.specs.Moves.{node_of}
 use Rattle.lk_machine.specs.Ready.{IsReady}
-use Rattle.lk_machine.specs.Row.{Lead, Goes, gone}
+use Rattle.lk_rows.specs.Row.{Lead, Goes, gone}
 
 -- the frame after a lead that stays in its operation
 abbrev pub frame_after : Frame → Lead → Frame

@@ -1,12 +1,13 @@
 // The queue head hands off.
 ghost use Rattle.std.specs.Prelude.{◌≡◌, Some};
-ghost use Rattle.lk_machine.specs.Machine.{top_frame};
-ghost use Rattle.lk_machine.specs.TopRow.{row};
-ghost use Rattle.lk_machine.specs.rows.Cna.{flag_for};
+ghost use Rattle.lk_rows.specs.Machine.{top_frame};
+ghost use Rattle.lk_rows.specs.TopRow.{row};
+ghost use Rattle.lk_rows.specs.rows.Cna.{flag_for};
 ghost use Rattle.lk_cna.specs.Row.{IsCnaReady};
 
 use lk_abs::{Event, What};
-use lk_machine::{Flag, Machine, Pc, named};
+use lk_machine::Machine;
+use lk_rows::{Flag, Pc, named};
 use lk_word::NodeName;
 
 /// C7: stores into `runs` of the successor y how many handoffs were made since the secondary queue

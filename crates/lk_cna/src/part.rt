@@ -1,12 +1,13 @@
 // The queue head moves waiters to the secondary queue, or lets that queue return.
 ghost use Rattle.std.specs.Prelude.{◌≡◌, Some, None, [], ◌∷◌};
-ghost use Rattle.lk_machine.specs.Machine.{top_frame};
-ghost use Rattle.lk_machine.specs.Row.{Second, Y, gone};
-ghost use Rattle.lk_machine.specs.TopRow.{row};
+ghost use Rattle.lk_rows.specs.Machine.{top_frame};
+ghost use Rattle.lk_rows.specs.Row.{Second, Y, gone};
+ghost use Rattle.lk_rows.specs.TopRow.{row};
 ghost use Rattle.lk_cna.specs.Row.{IsCnaReady};
 
 use lk_abs::{Event, What};
-use lk_machine::{Frame, Machine, Pc, is_last, named};
+use lk_machine::Machine;
+use lk_rows::{Frame, Pc, is_last, named};
 
 /// C4: links the waiters that it passed over behind the secondary queue: `next` of the last node t
 /// of that queue, `none -> a`. Only the head knows the secondary queue, and all waiters in it wait

@@ -1,14 +1,15 @@
 // Which row is made.
 ghost use Rattle.std.specs.Prelude.{◌≡◌, Some};
-ghost use Rattle.lk_machine.specs.declared.family.Family.TheVariants.{Cna};
-ghost use Rattle.lk_machine.specs.Family.{family_of};
-ghost use Rattle.lk_machine.specs.Machine.{top_frame};
-ghost use Rattle.lk_machine.specs.TopRow.{row};
+ghost use Rattle.lk_rows.specs.declared.family.Family.TheVariants.{Cna};
+ghost use Rattle.lk_rows.specs.Family.{family_of};
+ghost use Rattle.lk_rows.specs.Machine.{top_frame};
+ghost use Rattle.lk_rows.specs.TopRow.{row};
 ghost use Rattle.lk_cna.specs.Row.{IsCnaReady};
 
 use crate::{hand, part, scan};
 use lk_abs::Event;
-use lk_machine::{Machine, Pc};
+use lk_machine::Machine;
+use lk_rows::Pc;
 
 /// Makes the row at which the newest frame of a processor stands, one of C1 to C10. Returns the
 /// event, if there is one. It takes no memory.

@@ -1,13 +1,14 @@
 // The queue head looks for a waiter that is local to it.
 ghost use Rattle.std.specs.Prelude.{◌≡◌, ◌<◌, ◌+◌, ◌^◌, Some};
-ghost use Rattle.lk_machine.specs.Machine.{node_at, top_frame};
-ghost use Rattle.lk_machine.specs.Moves.{node_of};
-ghost use Rattle.lk_machine.specs.TopRow.{row, sight_at};
-ghost use Rattle.lk_machine.specs.rows.Cna.{Sight, may_stay, search_first, search_on, after_none, after_first, after_last, after_more, after_tail};
+ghost use Rattle.lk_rows.specs.Machine.{node_at, top_frame};
+ghost use Rattle.lk_rows.specs.Moves.{node_of};
+ghost use Rattle.lk_rows.specs.TopRow.{row, sight_at};
+ghost use Rattle.lk_rows.specs.rows.Cna.{Sight, may_stay, search_first, search_on, after_none, after_first, after_last, after_more, after_tail};
 ghost use Rattle.lk_cna.specs.Row.{IsCnaReady, frame_after};
 
 use lk_abs::Event;
-use lk_machine::{Frame, Machine, Node, Pc, Why, named};
+use lk_machine::Machine;
+use lk_rows::{Frame, Node, Pc, Why, named};
 use lk_word::NodeName;
 
 // Nobody is linked behind the head. If there is a secondary queue, it may return as the rest.

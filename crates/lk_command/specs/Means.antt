@@ -2,7 +2,7 @@
 use Rattle.std.specs.Prelude.{◌≡◌, ◌↔◌, ◌⊎◌, ℕ, List, Option, None, Some, Err}
 use Rattle.std.specs.Io.KnownBytes.{Appends}
 use Rattle.lk_abs.specs.declared.events.Act.{Act}
-use Rattle.lk_machine.specs.declared.setup.Setup.{Setup}
+use Rattle.lk_rows.specs.declared.setup.Setup.{Setup}
 use Rattle.lk_text.specs.Causes.{Rose}
 use Rattle.lk_text.specs.Bytes.{AppendsFront}
 use Rattle.lk_forms.specs.Trace.{Good, Refused, trace}

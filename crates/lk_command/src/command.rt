@@ -4,7 +4,7 @@ ghost use Rattle.std.specs.Vec.Iter.{into_iter_items};
 ghost use Rattle.std.specs.IoError.{error_kind};
 ghost use Rattle.std.specs.declared.io.ErrorKind.TheVariants.{OutOfMemory};
 ghost use Rattle.lk_abs.specs.declared.events.Act.{Act};
-ghost use Rattle.lk_machine.specs.declared.setup.Setup.{Setup};
+ghost use Rattle.lk_rows.specs.declared.setup.Setup.{Setup};
 ghost use Rattle.lk_text.specs.Causes.{Rose};
 ghost use Rattle.lk_forms.specs.Trace.{Good, Refused, trace};
 ghost use Rattle.lk_forms.specs.declared.answers.LineRefusal.{LineRefusal};

@@ -9,10 +9,10 @@ use Rattle.lk_abs.specs.Names.{same_lock, same_waiter}
 use Rattle.lk_abs.specs.declared.names.Waiter.{Waiter}
 use Rattle.lk_abs.specs.declared.names.LockName.{LockName}
 use Rattle.lk_word.specs.declared.spin_word.Fields.{Fields}
-use Rattle.lk_machine.specs.declared.parts.Frame.{Frame}
-use Rattle.lk_machine.specs.Machine.{Machine, CpuState, LockState, cpu_at, lock_at, word_at}
-use Rattle.lk_machine.specs.Machine.{frame_at, depth_at, top_of, top_frame, set_cpu, set_lock}
-use Rattle.lk_machine.specs.Machine.{set_word, no_cpu, rest_lock, rest_frame}
+use Rattle.lk_rows.specs.declared.parts.Frame.{Frame}
+use Rattle.lk_rows.specs.Machine.{Machine, CpuState, LockState, cpu_at, lock_at, word_at}
+use Rattle.lk_rows.specs.Machine.{frame_at, depth_at, top_of, top_frame, set_cpu, set_lock}
+use Rattle.lk_rows.specs.Machine.{set_word, no_cpu, rest_lock, rest_frame}
 use Rattle.lk_law.proofs.common.Cases.{waiter_cases, lock_cases}
 use Rattle.lk_law.proofs.common.Sames.{same_waiter-self, same_lock-self}
 use Rattle.lk_law.proofs.common.Puts.{same_waiter-else, same_lock-else}

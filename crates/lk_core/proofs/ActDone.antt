@@ -10,20 +10,20 @@ use Rattle.lk_abs.specs.declared.events.Act.{Act}
 use Rattle.lk_abs.specs.declared.events.Act.TheVariants as act
 use Rattle.lk_abs.specs.declared.events.Event.{Event}
 use Rattle.lk_abs.specs.declared.events.What.TheVariants.{Int}
-use Rattle.lk_machine.specs.declared.family.Family.TheVariants as family
-use Rattle.lk_machine.specs.Family.{family_of}
-use Rattle.lk_machine.specs.declared.parts.Pc.{Pc}
-use Rattle.lk_machine.specs.Machine.{Machine, CpuState, no_cpu, cpu_at, set_cpu, set_preempted}
-use Rattle.lk_machine.specs.Machine.{depth_at, preempted_at, halted_at, handlers_at}
-use Rattle.lk_machine.specs.Machine.{top_frame, rest_frame, push, HasTop}
-use Rattle.lk_machine.specs.declared.setup.Setup.{Setup}
-use Rattle.lk_machine.specs.declared.parts.Frame.{Frame}
-use Rattle.lk_machine.specs.Programs.{HasPrograms, handlers_of}
-use Rattle.lk_machine.specs.Moves.{settled}
-use Rattle.lk_machine.specs.Row.{Answer}
-use Rattle.lk_machine.specs.TopRow.{row}
-use Rattle.lk_machine.specs.Acts.{idle, stands_halting, nudged, step, step_halted, is_shut}
-use Rattle.lk_machine.specs.Acts.{handler_frame, awake, interrupted, next as done, processor_of}
+use Rattle.lk_rows.specs.declared.family.Family.TheVariants as family
+use Rattle.lk_rows.specs.Family.{family_of}
+use Rattle.lk_rows.specs.declared.parts.Pc.{Pc}
+use Rattle.lk_rows.specs.Machine.{Machine, CpuState, no_cpu, cpu_at, set_cpu, set_preempted}
+use Rattle.lk_rows.specs.Machine.{depth_at, preempted_at, halted_at, handlers_at}
+use Rattle.lk_rows.specs.Machine.{top_frame, rest_frame, push, HasTop}
+use Rattle.lk_rows.specs.declared.setup.Setup.{Setup}
+use Rattle.lk_rows.specs.declared.parts.Frame.{Frame}
+use Rattle.lk_rows.specs.Programs.{HasPrograms, handlers_of}
+use Rattle.lk_rows.specs.Moves.{settled}
+use Rattle.lk_rows.specs.Row.{Answer}
+use Rattle.lk_rows.specs.TopRow.{row}
+use Rattle.lk_rows.specs.Acts.{idle, stands_halting, nudged, step, step_halted, is_shut}
+use Rattle.lk_rows.specs.Acts.{handler_frame, awake, interrupted, next as done, processor_of}
 use Rattle.lk_machine.specs.Ready.{CountsWithin, IsReady}
 use Rattle.lk_law.specs.Steps.{told_on}
 use Rattle.lk_cna.specs.Row.{IsCnaReady}
@@ -40,8 +40,8 @@ use Rattle.lk_core.proofs.Same.{has_top_same}
 use Rattle.lk_core.proofs.ReadyRows.{ready_at, cna_ready_at, rw_ready_at, pv_ready_at, has_programs}
 use Rattle.lk_core.proofs.Runs.{acts_keep}
 use Rattle.lk_core.proofs.Setups.{setup_kept}
-use Rattle.lk_machine.specs.declared.family.Family.{Family}
-use Rattle.lk_machine.specs.declared.family.Family.TheVariants.{Spin, Queue, Cna, Pv, Rw}
+use Rattle.lk_rows.specs.declared.family.Family.{Family}
+use Rattle.lk_rows.specs.declared.family.Family.TheVariants.{Spin, Queue, Cna, Pv, Rw}
 use Rattle.lk_core.specs.Ready.{IsReadyFor, MakesARow, RowsAreReady}
 
 -- n is the machine after the act, and e its event

@@ -14,21 +14,21 @@ use Rattle.lk_abs.specs.declared.events.What.TheVariants.{Int, Wake, Nudge}
 use Rattle.lk_abs.specs.declared.names.Mode.{Mode}
 use Rattle.lk_abs.specs.declared.names.Mode.TheVariants.{Virt, Native, Cna, Pv}
 use Rattle.lk_abs.specs.declared.events.Act.{Act}
-use Rattle.lk_machine.specs.declared.setup.Setup.{Setup}
-use Rattle.lk_machine.specs.declared.setup.Verb.{Verb}
-use Rattle.lk_machine.specs.declared.setup.Verb.TheVariants.{Lock, Try, Unlock}
-use Rattle.lk_machine.specs.declared.parts.Pc.TheVariants.{W6, W7, E2, E12}
-use Rattle.lk_machine.specs.declared.parts.Frame.{Frame}
-use Rattle.lk_machine.specs.Machine.{Machine, frame_at, depth_at, preempted_at, halted_at}
-use Rattle.lk_machine.specs.Machine.{kicked_at, handlers_at, top_of, top_frame, rest_frame, set_top}
-use Rattle.lk_machine.specs.Machine.{set_kicked, set_preempted, push}
-use Rattle.lk_machine.specs.Programs.{handlers_of}
-use Rattle.lk_machine.specs.Moves.{program_of, settled}
-use Rattle.lk_machine.specs.TopRow.{row}
-use Rattle.lk_machine.specs.Acts.{idle, stands_halting, woken, step, step_halted, kicked_awake}
-use Rattle.lk_machine.specs.Acts.{after_halt, is_shut, handler_frame, awake, interrupted, nudged}
-use Rattle.lk_machine.specs.Acts.{next, processor_of}
-use Rattle.lk_machine.specs.declared.parts.Pc.{Pc}
+use Rattle.lk_rows.specs.declared.setup.Setup.{Setup}
+use Rattle.lk_rows.specs.declared.setup.Verb.{Verb}
+use Rattle.lk_rows.specs.declared.setup.Verb.TheVariants.{Lock, Try, Unlock}
+use Rattle.lk_rows.specs.declared.parts.Pc.TheVariants.{W6, W7, E2, E12}
+use Rattle.lk_rows.specs.declared.parts.Frame.{Frame}
+use Rattle.lk_rows.specs.Machine.{Machine, frame_at, depth_at, preempted_at, halted_at}
+use Rattle.lk_rows.specs.Machine.{kicked_at, handlers_at, top_of, top_frame, rest_frame, set_top}
+use Rattle.lk_rows.specs.Machine.{set_kicked, set_preempted, push}
+use Rattle.lk_rows.specs.Programs.{handlers_of}
+use Rattle.lk_rows.specs.Moves.{program_of, settled}
+use Rattle.lk_rows.specs.TopRow.{row}
+use Rattle.lk_rows.specs.Acts.{idle, stands_halting, woken, step, step_halted, kicked_awake}
+use Rattle.lk_rows.specs.Acts.{after_halt, is_shut, handler_frame, awake, interrupted, nudged}
+use Rattle.lk_rows.specs.Acts.{next, processor_of}
+use Rattle.lk_rows.specs.declared.parts.Pc.{Pc}
 use Rattle.lk_law.specs.World.{World}
 use Rattle.lk_law.specs.Steps.{put_halted, put_kicked, told_on}
 use Rattle.lk_law.specs.Allowed.{MayFollow}
@@ -39,7 +39,7 @@ use Rattle.lk_law.proofs.pv.HaltsShown.{wake_shows, nudge_shows, int_shows, int_
 use Rattle.lk_law.proofs.pv.HaltLayers.{wake_keeps, nudge_keeps, int_keeps}
 use Rattle.lk_law.proofs.common.HeldAfter.{held_goes}
 use Rattle.lk_law.specs.Sound.{world, held_at, held_of, BelongsTo, Footing, Works, Fits}
-use Rattle.lk_machine.specs.Rules.{rules_of}
+use Rattle.lk_rows.specs.Rules.{rules_of}
 use Rattle.lk_law.specs.Sound.{ShowsAll, owes_kick, is_over}
 use Rattle.lk_law.specs.SoundWorld.{IsSoundWorld, spin_part, rw_phase_of}
 use Rattle.lk_law.specs.Families.{is_rw_row}

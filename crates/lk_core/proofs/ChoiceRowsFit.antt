@@ -7,22 +7,22 @@ use Rattle.lk_abs.specs.declared.names.Mode.{Mode}
 use Rattle.lk_abs.specs.declared.names.Mode.TheVariants.{Virt, Native, Cna, Pv}
 use Rattle.lk_word.specs.declared.spin_word.NodeName.{NodeName}
 use Rattle.lk_word.specs.declared.spin_word.Fields.{Fields}
-use Rattle.lk_machine.specs.declared.setup.Verb.{Verb}
-use Rattle.lk_machine.specs.declared.setup.Verb.TheVariants.{Lock, Try, Unlock}
-use Rattle.lk_machine.specs.declared.parts.Flag.{Flag}
-use Rattle.lk_machine.specs.declared.parts.Frame.{Frame}
-use Rattle.lk_machine.specs.declared.parts.Pc.{Pc}
-use Rattle.lk_machine.specs.declared.parts.Pc.TheVariants.{C1, C2, C3, C5, C7, C8, C10}
-use Rattle.lk_machine.specs.Row.{Effect, Lead, Goes, A, B, K, Reason, Y, Second, learns_all}
-use Rattle.lk_machine.specs.rows.Cna.{Sight, may_stay, after_none, after_tail, is_last, search_row}
-use Rattle.lk_machine.specs.rows.Cna.{second_row, runs_row, handover_row, promotion_row}
-use Rattle.lk_machine.specs.declared.parts.Why.{Why}
+use Rattle.lk_rows.specs.declared.setup.Verb.{Verb}
+use Rattle.lk_rows.specs.declared.setup.Verb.TheVariants.{Lock, Try, Unlock}
+use Rattle.lk_rows.specs.declared.parts.Flag.{Flag}
+use Rattle.lk_rows.specs.declared.parts.Frame.{Frame}
+use Rattle.lk_rows.specs.declared.parts.Pc.{Pc}
+use Rattle.lk_rows.specs.declared.parts.Pc.TheVariants.{C1, C2, C3, C5, C7, C8, C10}
+use Rattle.lk_rows.specs.Row.{Effect, Lead, Goes, A, B, K, Reason, Y, Second, learns_all}
+use Rattle.lk_rows.specs.rows.Cna.{Sight, may_stay, after_none, after_tail, is_last, search_row}
+use Rattle.lk_rows.specs.rows.Cna.{second_row, runs_row, handover_row, promotion_row}
+use Rattle.lk_rows.specs.declared.parts.Why.{Why}
 use Rattle.lk_law.specs.Families.{chooses}
 use Rattle.lk_law.specs.Sound.{BelongsTo, is_virt_row, is_choosing_row}
 use Rattle.lk_law.specs.Families.{is_queued_row}
 use Rattle.lk_law.specs.Families.{is_halting_row}
 use Rattle.lk_core.proofs.Walks.{LeadFits}
-use Rattle.lk_machine.specs.declared.parts.Why.TheVariants as why
+use Rattle.lk_rows.specs.declared.parts.Why.TheVariants as why
 
 -- the rows of the choice are rows of `lock` in mode `cna`
 

@@ -5,7 +5,7 @@ use Rattle.std.specs.Prelude.{if◌then◌else◌, nat_lt}
 use Rattle.lk_abs.specs.Names.{same_lock}
 use Rattle.lk_abs.specs.declared.names.LockName.{LockName}
 use Rattle.lk_word.specs.declared.spin_word.NodeName.{NodeName}
-use Rattle.lk_machine.specs.Machine.{entry_in, lock_number, with_entry, without_entry}
+use Rattle.lk_rows.specs.Machine.{entry_in, lock_number, with_entry, without_entry}
 use Rattle.lk_law.specs.Sound.{IsEnteredOnce}
 use Rattle.lk_law.proofs.common.Cases.{lock_cases}
 use Rattle.lk_law.proofs.common.Puts.{if-true, if-false, same_lock-else}

@@ -9,12 +9,12 @@ use Rattle.lk_abs.specs.History.{LockHistory}
 use Rattle.lk_abs.specs.declared.names.Waiter.{Waiter}
 use Rattle.lk_abs.specs.declared.names.LockName.{LockName}
 use Rattle.lk_abs.specs.declared.events.Event.{Event}
-use Rattle.lk_machine.specs.declared.parts.Frame.{Frame}
-use Rattle.lk_machine.specs.Machine.{Machine, frame_at, depth_at, handlers_at, top_of, push, HasTop}
-use Rattle.lk_machine.specs.Programs.{handlers_of, way_at}
-use Rattle.lk_machine.specs.Moves.{program_of, settled}
-use Rattle.lk_machine.specs.Acts.{idle, handler_frame}
-use Rattle.lk_machine.specs.declared.parts.Pc.{Pc}
+use Rattle.lk_rows.specs.declared.parts.Frame.{Frame}
+use Rattle.lk_rows.specs.Machine.{Machine, frame_at, depth_at, handlers_at, top_of, push, HasTop}
+use Rattle.lk_rows.specs.Programs.{handlers_of, way_at}
+use Rattle.lk_rows.specs.Moves.{program_of, settled}
+use Rattle.lk_rows.specs.Acts.{idle, handler_frame}
+use Rattle.lk_rows.specs.declared.parts.Pc.{Pc}
 use Rattle.lk_law.specs.World.{World}
 use Rattle.lk_law.specs.Steps.{put_frame}
 use Rattle.lk_law.specs.Premises.{HasNoSleeper}

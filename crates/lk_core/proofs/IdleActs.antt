@@ -9,19 +9,19 @@ use Rattle.lk_abs.specs.History.{LockHistory}
 use Rattle.lk_abs.specs.declared.names.LockName.{LockName}
 use Rattle.lk_abs.specs.declared.events.Act.{Act}
 use Rattle.lk_abs.specs.declared.events.Act.TheVariants as act
-use Rattle.lk_machine.specs.declared.setup.Op.{Op}
-use Rattle.lk_machine.specs.declared.parts.Frame.{Frame}
-use Rattle.lk_machine.specs.declared.parts.Pc.{Pc}
-use Rattle.lk_machine.specs.Machine.{Machine, CpuState, cpu_at, depth_at, preempted_at, halted_at}
-use Rattle.lk_machine.specs.Machine.{kicked_at, handlers_at, top_frame, set_preempted, set_top}
-use Rattle.lk_machine.specs.Machine.{push, pop}
-use Rattle.lk_machine.specs.Programs.{handlers_of}
-use Rattle.lk_machine.specs.Moves.{settled, settled_at, program_of, started}
-use Rattle.lk_machine.specs.Row.{Answer}
-use Rattle.lk_machine.specs.TopRow.{row, row_at}
-use Rattle.lk_machine.specs.Acts.{idle, stands_halting, after_halt, woken, kicked_awake}
-use Rattle.lk_machine.specs.Acts.{step_halted, is_shut, handler_frame, awake, interrupted, next}
-use Rattle.lk_machine.specs.Acts.{processor_of, nudged}
+use Rattle.lk_rows.specs.declared.setup.Op.{Op}
+use Rattle.lk_rows.specs.declared.parts.Frame.{Frame}
+use Rattle.lk_rows.specs.declared.parts.Pc.{Pc}
+use Rattle.lk_rows.specs.Machine.{Machine, CpuState, cpu_at, depth_at, preempted_at, halted_at}
+use Rattle.lk_rows.specs.Machine.{kicked_at, handlers_at, top_frame, set_preempted, set_top}
+use Rattle.lk_rows.specs.Machine.{push, pop}
+use Rattle.lk_rows.specs.Programs.{handlers_of}
+use Rattle.lk_rows.specs.Moves.{settled, settled_at, program_of, started}
+use Rattle.lk_rows.specs.Row.{Answer}
+use Rattle.lk_rows.specs.TopRow.{row, row_at}
+use Rattle.lk_rows.specs.Acts.{idle, stands_halting, after_halt, woken, kicked_awake}
+use Rattle.lk_rows.specs.Acts.{step_halted, is_shut, handler_frame, awake, interrupted, next}
+use Rattle.lk_rows.specs.Acts.{processor_of, nudged}
 use Rattle.lk_law.specs.Sound.{ShowsAll}
 use Rattle.lk_core.proofs.Access.{cpu_same}
 use Rattle.lk_core.proofs.Same.{KeepsFrames, same_then, same_self, same_set_top, same_set_halted}

@@ -12,19 +12,19 @@ use Rattle.lk_abs.specs.declared.names.Mode.TheVariants.{Virt, Native, Cna, Pv}
 use Rattle.lk_abs.specs.declared.names.Waiter.{Waiter}
 use Rattle.lk_abs.specs.declared.names.LockName.{LockName}
 use Rattle.lk_abs.specs.declared.events.Event.{Event}
-use Rattle.lk_machine.specs.declared.setup.Op.{Op}
-use Rattle.lk_machine.specs.declared.setup.Verb.{Verb}
-use Rattle.lk_machine.specs.declared.setup.Verb.TheVariants.{Lock, Try, Unlock, Read, TryRead}
-use Rattle.lk_machine.specs.declared.setup.Verb.TheVariants.{RUnlock, Write, TryWrite, WUnlock}
-use Rattle.lk_machine.specs.declared.parts.Frame.{Frame}
-use Rattle.lk_machine.specs.declared.parts.Pc.{Pc}
-use Rattle.lk_machine.specs.declared.parts.Pc.TheVariants.{U5}
-use Rattle.lk_machine.specs.Machine.{Machine, frame_at, queued_at, top_of, set_top, set_node}
-use Rattle.lk_machine.specs.Machine.{rest_node, HasTop}
-use Rattle.lk_machine.specs.Moves.{node_of, first_place, started, settled, settled_at, program_of}
-use Rattle.lk_machine.specs.Moves.{granted, waiting, skipped}
-use Rattle.lk_machine.specs.Row.{Lead, Goes, Enters, Granted, Freed, Missed, Done, TakesWait}
-use Rattle.lk_machine.specs.Row.{Leaves, Yields, gone, entered, moved}
+use Rattle.lk_rows.specs.declared.setup.Op.{Op}
+use Rattle.lk_rows.specs.declared.setup.Verb.{Verb}
+use Rattle.lk_rows.specs.declared.setup.Verb.TheVariants.{Lock, Try, Unlock, Read, TryRead}
+use Rattle.lk_rows.specs.declared.setup.Verb.TheVariants.{RUnlock, Write, TryWrite, WUnlock}
+use Rattle.lk_rows.specs.declared.parts.Frame.{Frame}
+use Rattle.lk_rows.specs.declared.parts.Pc.{Pc}
+use Rattle.lk_rows.specs.declared.parts.Pc.TheVariants.{U5}
+use Rattle.lk_rows.specs.Machine.{Machine, frame_at, queued_at, top_of, set_top, set_node}
+use Rattle.lk_rows.specs.Machine.{rest_node, HasTop}
+use Rattle.lk_rows.specs.Moves.{node_of, first_place, started, settled, settled_at, program_of}
+use Rattle.lk_rows.specs.Moves.{granted, waiting, skipped}
+use Rattle.lk_rows.specs.Row.{Lead, Goes, Enters, Granted, Freed, Missed, Done, TakesWait}
+use Rattle.lk_rows.specs.Row.{Leaves, Yields, gone, entered, moved}
 use Rattle.lk_law.specs.Pv.{at_halt}
 use Rattle.lk_law.specs.World.{World}
 use Rattle.lk_law.specs.Places.{post_of, post_if}

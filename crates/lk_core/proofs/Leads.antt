@@ -12,20 +12,20 @@ use Rattle.lk_abs.specs.declared.names.Mode.TheVariants.{Pv}
 use Rattle.lk_abs.specs.declared.names.Waiter.{Waiter}
 use Rattle.lk_abs.specs.declared.names.LockName.{LockName}
 use Rattle.lk_word.specs.declared.spin_word.NodeName.{NodeName}
-use Rattle.lk_machine.specs.declared.parts.Frame.{Frame}
-use Rattle.lk_machine.specs.declared.parts.Pc.{Pc}
-use Rattle.lk_machine.specs.Machine.{Machine, frame_at, queued_at, top_of, set_top, set_node}
-use Rattle.lk_machine.specs.Machine.{rest_node, HasNode}
-use Rattle.lk_machine.specs.declared.setup.Setup.{Setup}
-use Rattle.lk_machine.specs.Programs.{way_after, program_at, is_try}
-use Rattle.lk_machine.specs.Moves.{settled, granted, leave, skipped, rw_name, wait_name, program_of}
-use Rattle.lk_machine.specs.Row.{Change, changed_all, Lead, Goes, Enters, Granted, Freed, Missed}
-use Rattle.lk_machine.specs.Row.{Done, TakesWait, Leaves, Yields, gone, entered, moved}
-use Rattle.lk_machine.specs.declared.setup.Op.{Op}
-use Rattle.lk_machine.specs.declared.setup.Verb.{Verb}
-use Rattle.lk_machine.specs.declared.setup.Verb.TheVariants.{Lock, Try, Unlock, Read, TryRead}
-use Rattle.lk_machine.specs.declared.setup.Verb.TheVariants.{RUnlock, Write, TryWrite, WUnlock}
-use Rattle.lk_machine.specs.declared.parts.Pc.TheVariants.{R4, Wr2, U5}
+use Rattle.lk_rows.specs.declared.parts.Frame.{Frame}
+use Rattle.lk_rows.specs.declared.parts.Pc.{Pc}
+use Rattle.lk_rows.specs.Machine.{Machine, frame_at, queued_at, top_of, set_top, set_node}
+use Rattle.lk_rows.specs.Machine.{rest_node, HasNode}
+use Rattle.lk_rows.specs.declared.setup.Setup.{Setup}
+use Rattle.lk_rows.specs.Programs.{way_after, program_at, is_try}
+use Rattle.lk_rows.specs.Moves.{settled, granted, leave, skipped, rw_name, wait_name, program_of}
+use Rattle.lk_rows.specs.Row.{Change, changed_all, Lead, Goes, Enters, Granted, Freed, Missed}
+use Rattle.lk_rows.specs.Row.{Done, TakesWait, Leaves, Yields, gone, entered, moved}
+use Rattle.lk_rows.specs.declared.setup.Op.{Op}
+use Rattle.lk_rows.specs.declared.setup.Verb.{Verb}
+use Rattle.lk_rows.specs.declared.setup.Verb.TheVariants.{Lock, Try, Unlock, Read, TryRead}
+use Rattle.lk_rows.specs.declared.setup.Verb.TheVariants.{RUnlock, Write, TryWrite, WUnlock}
+use Rattle.lk_rows.specs.declared.parts.Pc.TheVariants.{R4, Wr2, U5}
 use Rattle.lk_law.specs.World.{World}
 use Rattle.lk_law.specs.Steps.{put_frame, put_held, put_queued, led, lead_on}
 use Rattle.lk_law.specs.Sound.{world, held_at, held_in, held_of, frees, owes_kick, is_over}

@@ -7,12 +7,12 @@ use Rattle.lk_abs.specs.Names.{same_waiter}
 use Rattle.lk_abs.specs.declared.names.Mode.{Mode}
 use Rattle.lk_abs.specs.declared.names.Waiter.{Waiter}
 use Rattle.lk_abs.specs.declared.names.LockName.{LockName}
-use Rattle.lk_machine.specs.declared.parts.Frame.{Frame}
-use Rattle.lk_machine.specs.declared.parts.Pc.{Pc}
-use Rattle.lk_machine.specs.Machine.{Machine, frame_at, queued_at, top_of, set_top, set_queued}
-use Rattle.lk_machine.specs.Machine.{HasTop}
-use Rattle.lk_machine.specs.Moves.{settled, done, missed, leave, skipped}
-use Rattle.lk_machine.specs.declared.setup.Verb.{Verb}
+use Rattle.lk_rows.specs.declared.parts.Frame.{Frame}
+use Rattle.lk_rows.specs.declared.parts.Pc.{Pc}
+use Rattle.lk_rows.specs.Machine.{Machine, frame_at, queued_at, top_of, set_top, set_queued}
+use Rattle.lk_rows.specs.Machine.{HasTop}
+use Rattle.lk_rows.specs.Moves.{settled, done, missed, leave, skipped}
+use Rattle.lk_rows.specs.declared.setup.Verb.{Verb}
 use Rattle.lk_law.specs.World.{World}
 use Rattle.lk_law.specs.Steps.{put_frame, put_queued}
 use Rattle.lk_law.specs.Sound.{world, held_at, RwBelongs, Footing, Spinning, Sharing, Waiting}

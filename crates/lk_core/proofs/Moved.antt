@@ -10,21 +10,21 @@ use Rattle.lk_abs.specs.History.{LockHistory}
 use Rattle.lk_abs.specs.declared.holder.Manner.{Manner}
 use Rattle.lk_abs.specs.declared.names.Waiter.{Waiter}
 use Rattle.lk_abs.specs.declared.names.LockName.{LockName}
-use Rattle.lk_machine.specs.declared.parts.Frame.{Frame}
-use Rattle.lk_machine.specs.declared.parts.Pc.{Pc}
-use Rattle.lk_machine.specs.Machine.{Machine, frame_at, handlers_at, top_of, set_top, HasTop}
-use Rattle.lk_machine.specs.Machine.{HasNode}
-use Rattle.lk_machine.specs.declared.setup.Setup.{Setup}
-use Rattle.lk_machine.specs.Programs.{is_try, program_at}
-use Rattle.lk_machine.specs.Moves.{program_of, settled, skipped}
-use Rattle.lk_machine.specs.Row.{Change, Prev, Second, Y, Left, A, B, K, T, Reason, Tailed}
-use Rattle.lk_machine.specs.Row.{HashedIs, TargetIs, with_change, changed_all}
+use Rattle.lk_rows.specs.declared.parts.Frame.{Frame}
+use Rattle.lk_rows.specs.declared.parts.Pc.{Pc}
+use Rattle.lk_rows.specs.Machine.{Machine, frame_at, handlers_at, top_of, set_top, HasTop}
+use Rattle.lk_rows.specs.Machine.{HasNode}
+use Rattle.lk_rows.specs.declared.setup.Setup.{Setup}
+use Rattle.lk_rows.specs.Programs.{is_try, program_at}
+use Rattle.lk_rows.specs.Moves.{program_of, settled, skipped}
+use Rattle.lk_rows.specs.Row.{Change, Prev, Second, Y, Left, A, B, K, T, Reason, Tailed}
+use Rattle.lk_rows.specs.Row.{HashedIs, TargetIs, with_change, changed_all}
 use Rattle.lk_law.specs.World.{World}
 use Rattle.lk_law.specs.Steps.{put_frame, put_held}
 use Rattle.lk_law.specs.Sound.{world, held_in, held_at, held_of, Works, Fits, IsWhole, ShowsAll}
 use Rattle.lk_law.specs.Sound.{held_idle, Footing, after_wait}
 use Rattle.lk_law.specs.SoundWorld.{IsSoundWorld}
-use Rattle.lk_machine.specs.Moves.{rw_name}
+use Rattle.lk_rows.specs.Moves.{rw_name}
 use Rattle.lk_law.proofs.common.Cases.{waiter_cases}
 use Rattle.lk_law.proofs.common.Sames.{same_waiter-self}
 use Rattle.lk_law.proofs.common.Puts.{same_waiter-else}

@@ -7,25 +7,25 @@ use Rattle.lk_abs.specs.declared.names.LockName.{LockName}
 use Rattle.lk_abs.specs.declared.events.Act.TheVariants as act
 use Rattle.lk_word.specs.declared.spin_word.NodeName.{NodeName}
 use Rattle.lk_word.specs.declared.spin_word.Fields.{Fields}
-use Rattle.lk_machine.specs.declared.setup.Op.{Op}
-use Rattle.lk_machine.specs.declared.parts.Flag.{Flag}
-use Rattle.lk_machine.specs.declared.parts.State.{State}
-use Rattle.lk_machine.specs.declared.parts.Frame.{Frame}
-use Rattle.lk_machine.specs.declared.parts.Node.{Node}
-use Rattle.lk_machine.specs.Machine.{Machine, CpuState, LockState, cpu_at, lock_at, node_at}
-use Rattle.lk_machine.specs.Machine.{queued_at, depth_at, preempted_at, halted_at, kicked_at}
-use Rattle.lk_machine.specs.Machine.{top_frame, set_cpu, set_lock, set_word, set_node, set_top}
-use Rattle.lk_machine.specs.Machine.{set_queued, set_preempted, set_halted, set_kicked, set_entry}
-use Rattle.lk_machine.specs.Machine.{pop, push, rest_node, set_rw}
-use Rattle.lk_machine.specs.Moves.{settled, settled_at, program_of, started, done, granted, missed}
-use Rattle.lk_machine.specs.Moves.{skipped, leave, waiting}
-use Rattle.lk_machine.specs.Row.{Lead, Goes, Enters, Granted, Freed, Missed, Leaves, Yields, gone}
-use Rattle.lk_machine.specs.Row.{entered, moved, with_rest, Done, TakesWait}
-use Rattle.lk_machine.specs.TopRow.{stored_word, stored_rw, stored_flag, stored_next, stored_second}
-use Rattle.lk_machine.specs.TopRow.{stored_runs, stored_state, stored_entry, stored_halted}
-use Rattle.lk_machine.specs.TopRow.{stored_kicked, stored_queued}
-use Rattle.lk_machine.specs.Acts.{idle, woken, kicked_awake, step_halted, is_shut, handler_frame}
-use Rattle.lk_machine.specs.Acts.{awake, interrupted, nudged, next, after_halt}
+use Rattle.lk_rows.specs.declared.setup.Op.{Op}
+use Rattle.lk_rows.specs.declared.parts.Flag.{Flag}
+use Rattle.lk_rows.specs.declared.parts.State.{State}
+use Rattle.lk_rows.specs.declared.parts.Frame.{Frame}
+use Rattle.lk_rows.specs.declared.parts.Node.{Node}
+use Rattle.lk_rows.specs.Machine.{Machine, CpuState, LockState, cpu_at, lock_at, node_at}
+use Rattle.lk_rows.specs.Machine.{queued_at, depth_at, preempted_at, halted_at, kicked_at}
+use Rattle.lk_rows.specs.Machine.{top_frame, set_cpu, set_lock, set_word, set_node, set_top}
+use Rattle.lk_rows.specs.Machine.{set_queued, set_preempted, set_halted, set_kicked, set_entry}
+use Rattle.lk_rows.specs.Machine.{pop, push, rest_node, set_rw}
+use Rattle.lk_rows.specs.Moves.{settled, settled_at, program_of, started, done, granted, missed}
+use Rattle.lk_rows.specs.Moves.{skipped, leave, waiting}
+use Rattle.lk_rows.specs.Row.{Lead, Goes, Enters, Granted, Freed, Missed, Leaves, Yields, gone}
+use Rattle.lk_rows.specs.Row.{entered, moved, with_rest, Done, TakesWait}
+use Rattle.lk_rows.specs.TopRow.{stored_word, stored_rw, stored_flag, stored_next, stored_second}
+use Rattle.lk_rows.specs.TopRow.{stored_runs, stored_state, stored_entry, stored_halted}
+use Rattle.lk_rows.specs.TopRow.{stored_kicked, stored_queued}
+use Rattle.lk_rows.specs.Acts.{idle, woken, kicked_awake, step_halted, is_shut, handler_frame}
+use Rattle.lk_rows.specs.Acts.{awake, interrupted, nudged, next, after_halt}
 use Rattle.lk_word.specs.declared.rw_word.RwFields.{RwFields}
 
 -- one of two machines

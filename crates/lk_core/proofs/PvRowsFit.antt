@@ -7,22 +7,22 @@ use Rattle.lk_abs.specs.declared.names.Mode.{Mode}
 use Rattle.lk_abs.specs.declared.names.Mode.TheVariants.{Virt, Native, Cna, Pv}
 use Rattle.lk_word.specs.declared.spin_word.NodeName.{NodeName}
 use Rattle.lk_word.specs.declared.spin_word.Fields.{Fields}
-use Rattle.lk_machine.specs.declared.setup.Verb.{Verb}
-use Rattle.lk_machine.specs.declared.setup.Verb.TheVariants.{Lock, Try, Unlock}
-use Rattle.lk_machine.specs.declared.parts.Flag.{Flag}
-use Rattle.lk_machine.specs.declared.parts.Frame.{Frame}
-use Rattle.lk_machine.specs.declared.parts.Pc.{Pc}
-use Rattle.lk_machine.specs.declared.parts.Pc.TheVariants.{H1, H2, W1, W2, W3, W4, W5, W6, W7, E1}
-use Rattle.lk_machine.specs.declared.parts.Pc.TheVariants.{E2, E3, E4, E5, E6, E7, E8, E9, E10, E11}
-use Rattle.lk_machine.specs.declared.parts.Pc.TheVariants.{E12, E13, E14, E15, K1, K2, K3, U2, U3}
-use Rattle.lk_machine.specs.declared.parts.Pc.TheVariants.{U4}
-use Rattle.lk_machine.specs.Row.{Lead, Goes}
-use Rattle.lk_machine.specs.rows.Pv.{after_given_up, is_slow_byte, is_set, is_running, is_halted}
-use Rattle.lk_machine.specs.rows.Pv.{pv_after_next, pv_row, pv_flag_row, pv_next_row, state_row}
-use Rattle.lk_machine.specs.rows.Pv.{hash_row, halt_row}
-use Rattle.lk_machine.specs.declared.parts.State.{State}
-use Rattle.lk_machine.specs.rows.Cna.{is_held, is_last}
-use Rattle.lk_machine.specs.rows.Spin.{is_unlocked}
+use Rattle.lk_rows.specs.declared.setup.Verb.{Verb}
+use Rattle.lk_rows.specs.declared.setup.Verb.TheVariants.{Lock, Try, Unlock}
+use Rattle.lk_rows.specs.declared.parts.Flag.{Flag}
+use Rattle.lk_rows.specs.declared.parts.Frame.{Frame}
+use Rattle.lk_rows.specs.declared.parts.Pc.{Pc}
+use Rattle.lk_rows.specs.declared.parts.Pc.TheVariants.{H1, H2, W1, W2, W3, W4, W5, W6, W7, E1}
+use Rattle.lk_rows.specs.declared.parts.Pc.TheVariants.{E2, E3, E4, E5, E6, E7, E8, E9, E10, E11}
+use Rattle.lk_rows.specs.declared.parts.Pc.TheVariants.{E12, E13, E14, E15, K1, K2, K3, U2, U3}
+use Rattle.lk_rows.specs.declared.parts.Pc.TheVariants.{U4}
+use Rattle.lk_rows.specs.Row.{Lead, Goes}
+use Rattle.lk_rows.specs.rows.Pv.{after_given_up, is_slow_byte, is_set, is_running, is_halted}
+use Rattle.lk_rows.specs.rows.Pv.{pv_after_next, pv_row, pv_flag_row, pv_next_row, state_row}
+use Rattle.lk_rows.specs.rows.Pv.{hash_row, halt_row}
+use Rattle.lk_rows.specs.declared.parts.State.{State}
+use Rattle.lk_rows.specs.rows.Cna.{is_held, is_last}
+use Rattle.lk_rows.specs.rows.Spin.{is_unlocked}
 use Rattle.lk_law.specs.Families.{may_halt}
 use Rattle.lk_law.specs.Sound.{BelongsTo, is_virt_row, is_choosing_row}
 use Rattle.lk_law.specs.Families.{is_queued_row}

@@ -11,31 +11,31 @@ use Rattle.lk_abs.specs.declared.names.LockName.{LockName}
 use Rattle.lk_word.specs.declared.spin_word.NodeName.{NodeName}
 use Rattle.lk_word.specs.declared.spin_word.Fields.{Fields}
 use Rattle.lk_word.specs.declared.rw_word.RwFields.{RwFields}
-use Rattle.lk_machine.specs.declared.parts.Flag.{Flag}
-use Rattle.lk_machine.specs.declared.parts.Frame.{Frame}
-use Rattle.lk_machine.specs.declared.parts.Pc.{Pc}
-use Rattle.lk_machine.specs.declared.parts.Pc.TheVariants.{F1, T1, T2, V2, G3, G5, G6, G8, G10, G11}
-use Rattle.lk_machine.specs.declared.parts.Pc.TheVariants.{N2, C1, C2, C3, C4, C5, C6, C7, C8, C9}
-use Rattle.lk_machine.specs.declared.parts.Pc.TheVariants.{C10, H2, W1, W2, W3, W4, W5, W6, W7, E1}
-use Rattle.lk_machine.specs.declared.parts.Pc.TheVariants.{E2, E4, E6, E7, E10, E13, E14, E15, K1}
-use Rattle.lk_machine.specs.declared.parts.Pc.TheVariants.{U2, U3, U5, R1, R2, R5, Wr1, Wr3, Wr6}
-use Rattle.lk_machine.specs.declared.parts.Pc.TheVariants.{Y1, Y2, Y4, Y5}
-use Rattle.lk_machine.specs.Machine.{Machine, cpu_at, frame_at, node_at, word_at, entry_at}
-use Rattle.lk_machine.specs.Machine.{halted_at, kicked_at, HasNode, rw_at}
+use Rattle.lk_rows.specs.declared.parts.Flag.{Flag}
+use Rattle.lk_rows.specs.declared.parts.Frame.{Frame}
+use Rattle.lk_rows.specs.declared.parts.Pc.{Pc}
+use Rattle.lk_rows.specs.declared.parts.Pc.TheVariants.{F1, T1, T2, V2, G3, G5, G6, G8, G10, G11}
+use Rattle.lk_rows.specs.declared.parts.Pc.TheVariants.{N2, C1, C2, C3, C4, C5, C6, C7, C8, C9}
+use Rattle.lk_rows.specs.declared.parts.Pc.TheVariants.{C10, H2, W1, W2, W3, W4, W5, W6, W7, E1}
+use Rattle.lk_rows.specs.declared.parts.Pc.TheVariants.{E2, E4, E6, E7, E10, E13, E14, E15, K1}
+use Rattle.lk_rows.specs.declared.parts.Pc.TheVariants.{U2, U3, U5, R1, R2, R5, Wr1, Wr3, Wr6}
+use Rattle.lk_rows.specs.declared.parts.Pc.TheVariants.{Y1, Y2, Y4, Y5}
+use Rattle.lk_rows.specs.Machine.{Machine, cpu_at, frame_at, node_at, word_at, entry_at}
+use Rattle.lk_rows.specs.Machine.{halted_at, kicked_at, HasNode, rw_at}
 use Rattle.lk_machine.specs.Ready.{HasTarget}
-use Rattle.lk_machine.specs.Moves.{is_node, node_of, waiter_of}
-use Rattle.lk_machine.specs.Row.{Effect, Tell, Nothing, Says, Passes}
-use Rattle.lk_machine.specs.rows.Spin.{spin_row, is_free, is_unlocked}
-use Rattle.lk_machine.specs.rows.Queue.{queue_row, flag_row, next_row, is_sole}
-use Rattle.lk_machine.specs.TopRow.{Target, SpinWord, QueueWord, Queued, FlagOf, NextOf, ChoiceWord}
-use Rattle.lk_machine.specs.TopRow.{ChoiceFlag, ChoiceNext, SecondTailOf, RunsOf, PvWord, PvFlag}
-use Rattle.lk_machine.specs.TopRow.{PvNext, StateOf, HashEntry, Halted, KickOf, RwWord, target}
-use Rattle.lk_machine.specs.rows.Cna.{Sight, may_stay, after_none, is_last, is_held, search_row}
-use Rattle.lk_machine.specs.rows.Cna.{second_row, runs_row, handover_row, promotion_row}
-use Rattle.lk_machine.specs.rows.Pv.{is_set, is_running, is_halted, pv_row, pv_flag_row}
-use Rattle.lk_machine.specs.rows.Pv.{pv_next_row, state_row, hash_row, halt_row, kick_row}
-use Rattle.lk_machine.specs.declared.parts.State.{State}
-use Rattle.lk_machine.specs.rows.Rw.{rw_row, is_empty, is_open, is_cleared}
+use Rattle.lk_rows.specs.Moves.{is_node, node_of, waiter_of}
+use Rattle.lk_rows.specs.Row.{Effect, Tell, Nothing, Says, Passes}
+use Rattle.lk_rows.specs.rows.Spin.{spin_row, is_free, is_unlocked}
+use Rattle.lk_rows.specs.rows.Queue.{queue_row, flag_row, next_row, is_sole}
+use Rattle.lk_rows.specs.TopRow.{Target, SpinWord, QueueWord, Queued, FlagOf, NextOf, ChoiceWord}
+use Rattle.lk_rows.specs.TopRow.{ChoiceFlag, ChoiceNext, SecondTailOf, RunsOf, PvWord, PvFlag}
+use Rattle.lk_rows.specs.TopRow.{PvNext, StateOf, HashEntry, Halted, KickOf, RwWord, target}
+use Rattle.lk_rows.specs.rows.Cna.{Sight, may_stay, after_none, is_last, is_held, search_row}
+use Rattle.lk_rows.specs.rows.Cna.{second_row, runs_row, handover_row, promotion_row}
+use Rattle.lk_rows.specs.rows.Pv.{is_set, is_running, is_halted, pv_row, pv_flag_row}
+use Rattle.lk_rows.specs.rows.Pv.{pv_next_row, state_row, hash_row, halt_row, kick_row}
+use Rattle.lk_rows.specs.declared.parts.State.{State}
+use Rattle.lk_rows.specs.rows.Rw.{rw_row, is_empty, is_open, is_cleared}
 use Rattle.lk_law.specs.Known.{choice_node, IsOwnNode}
 use Rattle.lk_law.proofs.cna.Knows.{choice_is_used}
 use Rattle.lk_law.proofs.common.Families.{lists_met}
@@ -52,7 +52,7 @@ use Rattle.lk_law.proofs.common.Sames.{same_lock-self}
 use Rattle.lk_law.proofs.common.Users.{some_is, is_node-own}
 use Rattle.lk_core.proofs.Lists.{first_found}
 use Rattle.lk_core.proofs.Access.{frame_within}
-use Rattle.lk_machine.specs.declared.parts.Flag.TheVariants as flag
+use Rattle.lk_rows.specs.declared.parts.Flag.TheVariants as flag
 
 -- the waiter of a phase that has a node has a frame
 phase_frame : (l : LockName) (o : Option Frame) → has_node (phase_on l o) ≡ true

@@ -9,15 +9,15 @@ use Rattle.lk_abs.specs.History.{LockHistory}
 use Rattle.lk_abs.specs.declared.names.Waiter.{Waiter}
 use Rattle.lk_abs.specs.declared.names.LockName.{LockName}
 use Rattle.lk_word.specs.declared.spin_word.NodeName.{NodeName}
-use Rattle.lk_machine.specs.declared.parts.Frame.{Frame}
-use Rattle.lk_machine.specs.declared.parts.Pc.{Pc}
-use Rattle.lk_machine.specs.Machine.{Machine, cpu_at, depth_at, frame_at, word_at, entry_at}
-use Rattle.lk_machine.specs.Machine.{queued_at, top_of, top_frame}
-use Rattle.lk_machine.specs.Programs.{HasPrograms, handlers_of, kind_of}
-use Rattle.lk_machine.specs.Moves.{CanMove, node_of}
+use Rattle.lk_rows.specs.declared.parts.Frame.{Frame}
+use Rattle.lk_rows.specs.declared.parts.Pc.{Pc}
+use Rattle.lk_rows.specs.Machine.{Machine, cpu_at, depth_at, frame_at, word_at, entry_at}
+use Rattle.lk_rows.specs.Machine.{queued_at, top_of, top_frame}
+use Rattle.lk_rows.specs.Programs.{HasPrograms, handlers_of, kind_of}
+use Rattle.lk_rows.specs.Moves.{CanMove, node_of}
 use Rattle.lk_machine.specs.Ready.{CountsWithin, IsReady}
-use Rattle.lk_machine.specs.Family.{family_of}
-use Rattle.lk_machine.specs.declared.parts.Pc.TheVariants.{E6, E9, K3, U3, U5}
+use Rattle.lk_rows.specs.Family.{family_of}
+use Rattle.lk_rows.specs.declared.parts.Pc.TheVariants.{E6, E9, K3, U3, U5}
 use Rattle.lk_law.specs.Snapshot.{before}
 use Rattle.lk_law.specs.Places.{slow_in, own_in, phase_if}
 use Rattle.lk_law.specs.Families.{chooses, may_halt, is_rw_row}
@@ -38,7 +38,7 @@ use Rattle.lk_core.proofs.Access.{frame_within}
 use Rattle.lk_core.proofs.Reach.{target_within, own_here, phase_there, kick_within}
 use Rattle.lk_core.proofs.HashRoom.{hash_room, front_acts}
 use Rattle.lk_core.proofs.Stored.{stored_within}
-use Rattle.lk_machine.specs.declared.family.Family.TheVariants as family
+use Rattle.lk_rows.specs.declared.family.Family.TheVariants as family
 
 before_le : (slow : Waiter → Bool) (p n : ℕ) → before slow p n ≤ n
 before_le slow p zero = omega arith

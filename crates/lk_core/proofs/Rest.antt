@@ -16,18 +16,18 @@ use Rattle.lk_abs.specs.declared.holder.Manner.TheVariants.{Spins, Writes}
 use Rattle.lk_word.specs.declared.spin_word.NodeName.{NodeName}
 use Rattle.lk_word.specs.declared.spin_word.Locked.TheVariants.{Free}
 use Rattle.lk_word.specs.declared.rw_word.RwFields.{RwFields}
-use Rattle.lk_machine.specs.declared.setup.Op.{Op}
-use Rattle.lk_machine.specs.declared.setup.Setup.{Setup}
-use Rattle.lk_machine.specs.declared.parts.Frame.{Frame}
-use Rattle.lk_machine.specs.declared.parts.Pc.{Pc}
-use Rattle.lk_machine.specs.declared.parts.Pc.TheVariants.{G5, G11}
-use Rattle.lk_machine.specs.Machine.{Machine, CpuState, LockState, cpu_at, lock_at, rw_at}
-use Rattle.lk_machine.specs.Machine.{rest_frame, word_at, node_at, frame_at, queued_at, depth_at}
-use Rattle.lk_machine.specs.Machine.{halted_at, kicked_at, entry_at, handlers_at, no_cpu, rest_lock}
-use Rattle.lk_machine.specs.Machine.{rest_node, rest_word, HasTop}
-use Rattle.lk_machine.specs.Programs.{IsLawfulSetup, program_at, way_at, way_before, kind_of}
-use Rattle.lk_machine.specs.Moves.{first_place, program_of, node_of, rw_name, wait_name}
-use Rattle.lk_machine.specs.Run.{first_frame, rest_cpu, rest_cpus, at_rest}
+use Rattle.lk_rows.specs.declared.setup.Op.{Op}
+use Rattle.lk_rows.specs.declared.setup.Setup.{Setup}
+use Rattle.lk_rows.specs.declared.parts.Frame.{Frame}
+use Rattle.lk_rows.specs.declared.parts.Pc.{Pc}
+use Rattle.lk_rows.specs.declared.parts.Pc.TheVariants.{G5, G11}
+use Rattle.lk_rows.specs.Machine.{Machine, CpuState, LockState, cpu_at, lock_at, rw_at}
+use Rattle.lk_rows.specs.Machine.{rest_frame, word_at, node_at, frame_at, queued_at, depth_at}
+use Rattle.lk_rows.specs.Machine.{halted_at, kicked_at, entry_at, handlers_at, no_cpu, rest_lock}
+use Rattle.lk_rows.specs.Machine.{rest_node, rest_word, HasTop}
+use Rattle.lk_rows.specs.Programs.{IsLawfulSetup, program_at, way_at, way_before, kind_of}
+use Rattle.lk_rows.specs.Moves.{first_place, program_of, node_of, rw_name, wait_name}
+use Rattle.lk_rows.specs.Run.{first_frame, rest_cpu, rest_cpus, at_rest}
 use Rattle.lk_law.specs.Phase.{has_lock, queues, pends, watches, has_node}
 use Rattle.lk_law.specs.Phase.Phase.{Idle}
 use Rattle.lk_law.specs.Stage.Stage.{Rests}

@@ -5,15 +5,15 @@ use Rattle.lk_abs.specs.declared.names.Mode.{Mode}
 use Rattle.lk_abs.specs.declared.names.Waiter.{Waiter}
 use Rattle.lk_word.specs.declared.spin_word.NodeName.{NodeName}
 use Rattle.lk_word.specs.declared.spin_word.Locked.TheVariants.{Free}
-use Rattle.lk_machine.specs.declared.setup.Verb.{Verb}
-use Rattle.lk_machine.specs.declared.setup.Verb.TheVariants.{Unlock, RUnlock, WUnlock}
-use Rattle.lk_machine.specs.declared.setup.Setup.{Setup}
-use Rattle.lk_machine.specs.declared.parts.Frame.{Frame}
-use Rattle.lk_machine.specs.Machine.{no_cpu}
-use Rattle.lk_machine.specs.Programs.{way_before}
-use Rattle.lk_machine.specs.Moves.{first_place}
-use Rattle.lk_machine.specs.Run.{rest_cpu, rest_cpus}
-use Rattle.lk_machine.specs.declared.parts.State.{State}
+use Rattle.lk_rows.specs.declared.setup.Verb.{Verb}
+use Rattle.lk_rows.specs.declared.setup.Verb.TheVariants.{Unlock, RUnlock, WUnlock}
+use Rattle.lk_rows.specs.declared.setup.Setup.{Setup}
+use Rattle.lk_rows.specs.declared.parts.Frame.{Frame}
+use Rattle.lk_rows.specs.Machine.{no_cpu}
+use Rattle.lk_rows.specs.Programs.{way_before}
+use Rattle.lk_rows.specs.Moves.{first_place}
+use Rattle.lk_rows.specs.Run.{rest_cpu, rest_cpus}
+use Rattle.lk_rows.specs.declared.parts.State.{State}
 use Rattle.lk_law.specs.Phase.{Phase, has_lock, queues, pends, claims, watches, has_node}
 use Rattle.lk_law.specs.Phase.Phase.{Idle, Seeks}
 use Rattle.lk_law.specs.Pv.{PostsAgree, agrees as suits}

@@ -9,32 +9,32 @@ use Rattle.lk_abs.specs.declared.names.LockName.{LockName}
 use Rattle.lk_abs.specs.declared.events.Event.{Event}
 use Rattle.lk_abs.specs.declared.events.What.TheVariants.{Pass}
 use Rattle.lk_word.specs.declared.rw_word.RwFields.{RwFields}
-use Rattle.lk_machine.specs.declared.setup.Setup.{Setup}
-use Rattle.lk_machine.specs.declared.parts.Frame.{Frame}
-use Rattle.lk_machine.specs.declared.parts.Pc.{Pc}
-use Rattle.lk_machine.specs.declared.parts.Pc.TheVariants.{U5}
-use Rattle.lk_machine.specs.Machine.{Machine, cpu_at, frame_at, depth_at, node_at, word_at}
-use Rattle.lk_machine.specs.Machine.{queued_at, entry_at, halted_at, kicked_at, top_of, top_frame}
-use Rattle.lk_machine.specs.Machine.{HasNode, rw_at}
-use Rattle.lk_machine.specs.declared.setup.Verb.{Verb}
-use Rattle.lk_machine.specs.Programs.{kind_of}
-use Rattle.lk_machine.specs.Moves.{program_of, waiter_of, rw_name}
-use Rattle.lk_machine.specs.Row.{Lead, Freed, Tell, Nothing, Says, Passes, moved, event_of, counted}
-use Rattle.lk_machine.specs.Row.{Effect}
-use Rattle.lk_machine.specs.rows.Spin.{spin_row}
-use Rattle.lk_machine.specs.rows.Cna.{Sight, search_row, second_row, runs_row, handover_row, promotion_row}
-use Rattle.lk_machine.specs.rows.Queue.{queue_row, entry_row, flag_row, next_row}
-use Rattle.lk_machine.specs.rows.Pv.{pv_row, pv_flag_row, pv_next_row, state_row, hash_row}
-use Rattle.lk_machine.specs.rows.Pv.{halt_row, kick_row}
+use Rattle.lk_rows.specs.declared.setup.Setup.{Setup}
+use Rattle.lk_rows.specs.declared.parts.Frame.{Frame}
+use Rattle.lk_rows.specs.declared.parts.Pc.{Pc}
+use Rattle.lk_rows.specs.declared.parts.Pc.TheVariants.{U5}
+use Rattle.lk_rows.specs.Machine.{Machine, cpu_at, frame_at, depth_at, node_at, word_at}
+use Rattle.lk_rows.specs.Machine.{queued_at, entry_at, halted_at, kicked_at, top_of, top_frame}
+use Rattle.lk_rows.specs.Machine.{HasNode, rw_at}
+use Rattle.lk_rows.specs.declared.setup.Verb.{Verb}
+use Rattle.lk_rows.specs.Programs.{kind_of}
+use Rattle.lk_rows.specs.Moves.{program_of, waiter_of, rw_name}
+use Rattle.lk_rows.specs.Row.{Lead, Freed, Tell, Nothing, Says, Passes, moved, event_of, counted}
+use Rattle.lk_rows.specs.Row.{Effect}
+use Rattle.lk_rows.specs.rows.Spin.{spin_row}
+use Rattle.lk_rows.specs.rows.Cna.{Sight, search_row, second_row, runs_row, handover_row, promotion_row}
+use Rattle.lk_rows.specs.rows.Queue.{queue_row, entry_row, flag_row, next_row}
+use Rattle.lk_rows.specs.rows.Pv.{pv_row, pv_flag_row, pv_next_row, state_row, hash_row}
+use Rattle.lk_rows.specs.rows.Pv.{halt_row, kick_row}
 use Rattle.lk_machine.specs.Ready.{HasTarget}
-use Rattle.lk_machine.specs.TopRow.{Target, SpinWord, QueueWord, Queued, FlagOf, NextOf, ChoiceWord}
-use Rattle.lk_machine.specs.TopRow.{ChoiceFlag, ChoiceNext, SecondTailOf, RunsOf, PvWord, PvFlag}
-use Rattle.lk_machine.specs.TopRow.{PvNext, StateOf, HashEntry, Halted, KickOf, RwWord, target}
-use Rattle.lk_machine.specs.TopRow.{sight_at, stored_second, stored_runs, stored_state}
-use Rattle.lk_machine.specs.TopRow.{stored_entry, stored_halted, stored_kicked, stored_word}
-use Rattle.lk_machine.specs.TopRow.{stored_flag, stored_next, stored_queued, row_on, row_at, row}
-use Rattle.lk_machine.specs.TopRow.{stored_rw}
-use Rattle.lk_machine.specs.rows.Rw.{rw_row}
+use Rattle.lk_rows.specs.TopRow.{Target, SpinWord, QueueWord, Queued, FlagOf, NextOf, ChoiceWord}
+use Rattle.lk_rows.specs.TopRow.{ChoiceFlag, ChoiceNext, SecondTailOf, RunsOf, PvWord, PvFlag}
+use Rattle.lk_rows.specs.TopRow.{PvNext, StateOf, HashEntry, Halted, KickOf, RwWord, target}
+use Rattle.lk_rows.specs.TopRow.{sight_at, stored_second, stored_runs, stored_state}
+use Rattle.lk_rows.specs.TopRow.{stored_entry, stored_halted, stored_kicked, stored_word}
+use Rattle.lk_rows.specs.TopRow.{stored_flag, stored_next, stored_queued, row_on, row_at, row}
+use Rattle.lk_rows.specs.TopRow.{stored_rw}
+use Rattle.lk_rows.specs.rows.Rw.{rw_row}
 use Rattle.lk_law.specs.Families.{is_rw_row}
 use Rattle.lk_law.specs.SoundWorld.{IsSoundWorld, spin_part}
 use Rattle.lk_law.specs.World.{World}
@@ -45,7 +45,7 @@ use Rattle.lk_law.specs.Steps.{put_held, put_frame, led, stores_rw, way_told}
 use Rattle.lk_law.specs.Allowed.{MayFollowIfAny}
 use Rattle.lk_law.specs.Premises.{IsNewest}
 use Rattle.lk_law.specs.Sound.{world, owes_kick, BelongsTo, Works, Fits, ShowsAll}
-use Rattle.lk_machine.specs.Rules.{rules_of}
+use Rattle.lk_rows.specs.Rules.{rules_of}
 use Rattle.lk_law.specs.Sound.{held_of}
 use Rattle.lk_law.proofs.common.EveryRow.{every_row_keeps}
 use Rattle.lk_law.proofs.pv.KicksShown.{every_row_shows}

@@ -10,18 +10,18 @@ use Rattle.lk_abs.specs.declared.names.LockName.{LockName}
 use Rattle.lk_abs.specs.declared.events.Event.{Event}
 use Rattle.lk_abs.specs.declared.names.Mode.TheVariants.{Virt, Native, Cna, Pv}
 use Rattle.lk_word.specs.declared.rw_word.RwFields.{RwFields}
-use Rattle.lk_machine.specs.declared.setup.Setup.{Setup}
-use Rattle.lk_machine.specs.declared.parts.Frame.{Frame}
-use Rattle.lk_machine.specs.declared.parts.Pc.{Pc}
-use Rattle.lk_machine.specs.declared.parts.Pc.TheVariants.{U1, U2, U3, U4, U5, G1, R1, R2, R3, R4}
-use Rattle.lk_machine.specs.declared.parts.Pc.TheVariants.{R5, Wr1, Wr2, Wr3, Wr4, Wr5, Wr6, Y1, Y2}
-use Rattle.lk_machine.specs.declared.parts.Pc.TheVariants.{Y3, Y4, Y5, Z1, Z2}
-use Rattle.lk_machine.specs.Machine.{Machine, frame_at, top_of, HasNode}
-use Rattle.lk_machine.specs.declared.setup.Verb.{Verb}
-use Rattle.lk_machine.specs.declared.setup.Verb.TheVariants.{Lock, Try, Unlock}
-use Rattle.lk_machine.specs.Row.{Change, Prev, TargetIs, Lead, Goes, Enters, Granted, Freed, Missed}
-use Rattle.lk_machine.specs.Row.{Done, TakesWait, Leaves, Yields, Answer}
-use Rattle.lk_machine.specs.TopRow.{Target, Queued, KickOf, RwWord, target, row}
+use Rattle.lk_rows.specs.declared.setup.Setup.{Setup}
+use Rattle.lk_rows.specs.declared.parts.Frame.{Frame}
+use Rattle.lk_rows.specs.declared.parts.Pc.{Pc}
+use Rattle.lk_rows.specs.declared.parts.Pc.TheVariants.{U1, U2, U3, U4, U5, G1, R1, R2, R3, R4}
+use Rattle.lk_rows.specs.declared.parts.Pc.TheVariants.{R5, Wr1, Wr2, Wr3, Wr4, Wr5, Wr6, Y1, Y2}
+use Rattle.lk_rows.specs.declared.parts.Pc.TheVariants.{Y3, Y4, Y5, Z1, Z2}
+use Rattle.lk_rows.specs.Machine.{Machine, frame_at, top_of, HasNode}
+use Rattle.lk_rows.specs.declared.setup.Verb.{Verb}
+use Rattle.lk_rows.specs.declared.setup.Verb.TheVariants.{Lock, Try, Unlock}
+use Rattle.lk_rows.specs.Row.{Change, Prev, TargetIs, Lead, Goes, Enters, Granted, Freed, Missed}
+use Rattle.lk_rows.specs.Row.{Done, TakesWait, Leaves, Yields, Answer}
+use Rattle.lk_rows.specs.TopRow.{Target, Queued, KickOf, RwWord, target, row}
 use Rattle.lk_law.specs.RwPhase.{RwPhase, is_inner}
 use Rattle.lk_law.specs.RwPhase.RwPhase.{Away, Asks, Frees}
 use Rattle.lk_law.proofs.common.Puts.{if-false}
@@ -34,7 +34,7 @@ use Rattle.lk_law.specs.Steps.{told_on, stores_rw}
 use Rattle.lk_law.specs.Families.{chooses}
 use Rattle.lk_law.specs.Allowed.{MayFollowIfAny}
 use Rattle.lk_law.specs.Sound.{world, is_virt_row}
-use Rattle.lk_machine.specs.Rules.{rules_of}
+use Rattle.lk_rows.specs.Rules.{rules_of}
 use Rattle.lk_law.specs.Families.{is_queued_row, is_halting_row}
 use Rattle.lk_law.specs.Sound.{owes_kick, is_over, BelongsTo, ShowsAll, is_lock_row, frees}
 use Rattle.lk_law.specs.Kicked.{ShowsKicks, with_event}

@@ -7,24 +7,24 @@ use Rattle.lk_abs.specs.declared.names.Mode.{Mode}
 use Rattle.lk_abs.specs.declared.names.Mode.TheVariants.{Virt, Native, Cna, Pv}
 use Rattle.lk_word.specs.declared.spin_word.NodeName.{NodeName}
 use Rattle.lk_word.specs.declared.spin_word.Fields.{Fields}
-use Rattle.lk_machine.specs.declared.setup.Verb.{Verb}
-use Rattle.lk_machine.specs.declared.setup.Verb.TheVariants.{Lock, Try, Unlock}
-use Rattle.lk_machine.specs.declared.parts.Flag.{Flag}
-use Rattle.lk_machine.specs.declared.parts.Frame.{Frame}
-use Rattle.lk_machine.specs.declared.parts.Pc.{Pc}
-use Rattle.lk_machine.specs.declared.parts.Pc.TheVariants.{F1, T1, T2, V1, V2, P0, P1, P2, P3, P4}
-use Rattle.lk_machine.specs.declared.parts.Pc.TheVariants.{G1, G2, G3, G4, G6, G7, G8, G9, G10, N1}
-use Rattle.lk_machine.specs.declared.parts.Pc.TheVariants.{N2, G5, G11, U1, U2, U3, U4}
-use Rattle.lk_machine.specs.Moves.{is_node, node_of}
-use Rattle.lk_machine.specs.Row.{Enters}
-use Rattle.lk_machine.specs.rows.Spin.{spin_row, is_free, is_unlocked, to_queue, after_fast}
-use Rattle.lk_machine.specs.rows.Spin.{after_pending}
-use Rattle.lk_machine.specs.rows.Queue.{queue_row, entry_row, flag_row, next_row, after_entry}
-use Rattle.lk_machine.specs.rows.Queue.{after_look, is_sole}
+use Rattle.lk_rows.specs.declared.setup.Verb.{Verb}
+use Rattle.lk_rows.specs.declared.setup.Verb.TheVariants.{Lock, Try, Unlock}
+use Rattle.lk_rows.specs.declared.parts.Flag.{Flag}
+use Rattle.lk_rows.specs.declared.parts.Frame.{Frame}
+use Rattle.lk_rows.specs.declared.parts.Pc.{Pc}
+use Rattle.lk_rows.specs.declared.parts.Pc.TheVariants.{F1, T1, T2, V1, V2, P0, P1, P2, P3, P4}
+use Rattle.lk_rows.specs.declared.parts.Pc.TheVariants.{G1, G2, G3, G4, G6, G7, G8, G9, G10, N1}
+use Rattle.lk_rows.specs.declared.parts.Pc.TheVariants.{N2, G5, G11, U1, U2, U3, U4}
+use Rattle.lk_rows.specs.Moves.{is_node, node_of}
+use Rattle.lk_rows.specs.Row.{Enters}
+use Rattle.lk_rows.specs.rows.Spin.{spin_row, is_free, is_unlocked, to_queue, after_fast}
+use Rattle.lk_rows.specs.rows.Spin.{after_pending}
+use Rattle.lk_rows.specs.rows.Queue.{queue_row, entry_row, flag_row, next_row, after_entry}
+use Rattle.lk_rows.specs.rows.Queue.{after_look, is_sole}
 use Rattle.lk_law.specs.Sound.{BelongsTo, is_choosing_row, is_lock_row}
 use Rattle.lk_law.specs.Families.{is_queued_row}
 use Rattle.lk_core.proofs.Walks.{LeadFits}
-use Rattle.lk_machine.specs.declared.parts.Flag.TheVariants as flag
+use Rattle.lk_rows.specs.declared.parts.Flag.TheVariants as flag
 
 -- one of two places, both of which are rows of the operation
 pub either : (P : Pc → Type 0) (t : Bool) (a b : Pc) → P a → P b → P (if t then a else b)

@@ -10,14 +10,14 @@ use Rattle.lk_abs.specs.declared.events.Act.{Act}
 use Rattle.lk_abs.specs.declared.events.Event.{Event}
 use Rattle.lk_abs.proofs.Moments.{history_of-push}
 use Rattle.lk_abs.proofs.OneMore.{lawful-nil}
-use Rattle.lk_machine.specs.declared.setup.Setup.{Setup}
-use Rattle.lk_machine.specs.Machine.{Machine}
-use Rattle.lk_machine.specs.Acts.{next}
-use Rattle.lk_machine.specs.Run.{at_rest, history_from, occurs, machine_after, events_of}
-use Rattle.lk_machine.specs.Run.{Occurrence}
+use Rattle.lk_rows.specs.declared.setup.Setup.{Setup}
+use Rattle.lk_rows.specs.Machine.{Machine}
+use Rattle.lk_rows.specs.Acts.{next}
+use Rattle.lk_rows.specs.Run.{at_rest, history_from, occurs, machine_after, events_of}
+use Rattle.lk_rows.specs.Run.{Occurrence}
 use Rattle.lk_law.specs.Steps.{told_on}
 use Rattle.lk_law.specs.Sound.{world, ShowsAll, Shows}
-use Rattle.lk_machine.specs.Rules.{rules_of}
+use Rattle.lk_rows.specs.Rules.{rules_of}
 use Rattle.lk_law.specs.MachineLaws.{ShowsLawful, ActKeeps, AreInRange, RestShows, RunKeeps}
 use Rattle.lk_law.proofs.cna.Knows.{passes_are_bounded}
 use Rattle.lk_core.proofs.ActKept.{act_kept}
@@ -30,7 +30,7 @@ use Rattle.lk_law.proofs.pv.HaltLayers.{fronts_are_owed}
 use Rattle.lk_law.specs.World.{World}
 use Rattle.lk_law.specs.SoundWorld.{IsSoundWorld, spin_part, is_rw, is_rw_name}
 use Rattle.lk_law.proofs.common.Puts.{if-false}
-use Rattle.lk_machine.specs.Moves.{rw_name}
+use Rattle.lk_rows.specs.Moves.{rw_name}
 use Rattle.lk_abs.specs.declared.names.Kind.{Kind}
 use Rattle.lk_abs.specs.declared.names.Kind.TheVariants.{Spin, Rw}
 use Rattle.std.proofs.lemmas.Bool.{cases_Bool}

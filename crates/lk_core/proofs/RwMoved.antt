@@ -14,26 +14,26 @@ use Rattle.lk_abs.specs.declared.names.LockName.{LockName}
 use Rattle.lk_abs.specs.declared.events.What.TheVariants.{Miss}
 use Rattle.lk_word.specs.declared.spin_word.NodeName.{NodeName}
 use Rattle.lk_word.specs.declared.rw_word.RwFields.{RwFields}
-use Rattle.lk_machine.specs.declared.setup.Setup.{Setup}
-use Rattle.lk_machine.specs.declared.setup.Op.{Op}
-use Rattle.lk_machine.specs.declared.setup.Verb.{Verb}
-use Rattle.lk_machine.specs.declared.setup.Verb.TheVariants.{Lock, Try, Unlock, Read, TryRead}
-use Rattle.lk_machine.specs.declared.setup.Verb.TheVariants.{RUnlock, Write, TryWrite, WUnlock}
-use Rattle.lk_machine.specs.declared.parts.Frame.{Frame}
-use Rattle.lk_machine.specs.declared.parts.Pc.{Pc}
-use Rattle.lk_machine.specs.declared.parts.Pc.TheVariants.{F1, U5, R1, R2, R3, R4, R5, Wr1, Wr2}
-use Rattle.lk_machine.specs.declared.parts.Pc.TheVariants.{Wr3, Wr4, Wr5, Wr6, Y1, Y2, Y3, Y4, Y5}
-use Rattle.lk_machine.specs.declared.parts.Pc.TheVariants.{Z1, Z2}
-use Rattle.lk_machine.specs.Machine.{Machine, LockState, cpu_at, lock_at, word_at, rw_at, node_at}
-use Rattle.lk_machine.specs.Machine.{frame_at, queued_at, entry_at, kicked_at, halted_at}
-use Rattle.lk_machine.specs.Machine.{handlers_at, depth_at, top_of, set_lock, set_rw, HasNode}
-use Rattle.lk_machine.specs.Programs.{way_after, is_try}
-use Rattle.lk_machine.specs.Moves.{first_place, rw_name, program_of, waiting}
-use Rattle.lk_machine.specs.Row.{Effect, Lead, Goes, Missed, Done, TakesWait, moved, looks, writes}
-use Rattle.lk_machine.specs.Row.{misses}
-use Rattle.lk_machine.specs.rows.Rw.{rw_row, is_empty, is_open, is_cleared, one_more, rw_lock}
-use Rattle.lk_machine.specs.rows.Rw.{admits, takes_written, queues_up, frees_wait, after_bias}
-use Rattle.lk_machine.specs.TopRow.{stored_rw}
+use Rattle.lk_rows.specs.declared.setup.Setup.{Setup}
+use Rattle.lk_rows.specs.declared.setup.Op.{Op}
+use Rattle.lk_rows.specs.declared.setup.Verb.{Verb}
+use Rattle.lk_rows.specs.declared.setup.Verb.TheVariants.{Lock, Try, Unlock, Read, TryRead}
+use Rattle.lk_rows.specs.declared.setup.Verb.TheVariants.{RUnlock, Write, TryWrite, WUnlock}
+use Rattle.lk_rows.specs.declared.parts.Frame.{Frame}
+use Rattle.lk_rows.specs.declared.parts.Pc.{Pc}
+use Rattle.lk_rows.specs.declared.parts.Pc.TheVariants.{F1, U5, R1, R2, R3, R4, R5, Wr1, Wr2}
+use Rattle.lk_rows.specs.declared.parts.Pc.TheVariants.{Wr3, Wr4, Wr5, Wr6, Y1, Y2, Y3, Y4, Y5}
+use Rattle.lk_rows.specs.declared.parts.Pc.TheVariants.{Z1, Z2}
+use Rattle.lk_rows.specs.Machine.{Machine, LockState, cpu_at, lock_at, word_at, rw_at, node_at}
+use Rattle.lk_rows.specs.Machine.{frame_at, queued_at, entry_at, kicked_at, halted_at}
+use Rattle.lk_rows.specs.Machine.{handlers_at, depth_at, top_of, set_lock, set_rw, HasNode}
+use Rattle.lk_rows.specs.Programs.{way_after, is_try}
+use Rattle.lk_rows.specs.Moves.{first_place, rw_name, program_of, waiting}
+use Rattle.lk_rows.specs.Row.{Effect, Lead, Goes, Missed, Done, TakesWait, moved, looks, writes}
+use Rattle.lk_rows.specs.Row.{misses}
+use Rattle.lk_rows.specs.rows.Rw.{rw_row, is_empty, is_open, is_cleared, one_more, rw_lock}
+use Rattle.lk_rows.specs.rows.Rw.{admits, takes_written, queues_up, frees_wait, after_bias}
+use Rattle.lk_rows.specs.TopRow.{stored_rw}
 use Rattle.lk_law.specs.RwPhase.{RwPhase, is_inner}
 use Rattle.lk_law.specs.RwPhase.RwPhase.{Asks, Frees}
 use Rattle.lk_law.specs.Steps.{put_rw, put_frame, put_held, stores_rw, way_told, led}

@@ -10,15 +10,15 @@ use Rattle.lk_abs.specs.declared.names.Waiter.{Waiter}
 use Rattle.lk_abs.specs.declared.names.LockName.{LockName}
 use Rattle.lk_word.specs.declared.spin_word.NodeName.{NodeName}
 use Rattle.lk_word.specs.declared.spin_word.Fields.{Fields}
-use Rattle.lk_machine.specs.declared.setup.Setup.{Setup}
-use Rattle.lk_machine.specs.declared.parts.Frame.{Frame}
-use Rattle.lk_machine.specs.declared.parts.Node.{Node}
-use Rattle.lk_machine.specs.declared.parts.Counts.{Counts}
-use Rattle.lk_machine.specs.Machine.{Machine, CpuState, cpu_at, lock_at, depth_at, handlers_at}
-use Rattle.lk_machine.specs.Machine.{HasNode, with_entry, without_entry, set_halted, set_kicked, set_entry}
-use Rattle.lk_machine.specs.Machine.{top_of, set_cpu, set_lock, set_counts, set_word, set_node}
-use Rattle.lk_machine.specs.Machine.{set_top, set_queued, set_preempted, pop, push, HasTop}
-use Rattle.lk_machine.specs.Programs.{IsLawfulSetup, handlers_of, program_at}
+use Rattle.lk_rows.specs.declared.setup.Setup.{Setup}
+use Rattle.lk_rows.specs.declared.parts.Frame.{Frame}
+use Rattle.lk_rows.specs.declared.parts.Node.{Node}
+use Rattle.lk_rows.specs.declared.parts.Counts.{Counts}
+use Rattle.lk_rows.specs.Machine.{Machine, CpuState, cpu_at, lock_at, depth_at, handlers_at}
+use Rattle.lk_rows.specs.Machine.{HasNode, with_entry, without_entry, set_halted, set_kicked, set_entry}
+use Rattle.lk_rows.specs.Machine.{top_of, set_cpu, set_lock, set_counts, set_word, set_node}
+use Rattle.lk_rows.specs.Machine.{set_top, set_queued, set_preempted, pop, push, HasTop}
+use Rattle.lk_rows.specs.Programs.{IsLawfulSetup, handlers_of, program_at}
 use Rattle.lk_law.specs.Sound.{IsWhole, Fits, Works, IsEnteredOnce}
 use Rattle.lk_core.proofs.Entries.{Entry, once_without, once_with}
 use Rattle.lk_core.proofs.Worlds.{hashing}

@@ -10,13 +10,13 @@ use Rattle.lk_abs.specs.declared.names.Waiter.{Waiter}
 use Rattle.lk_abs.specs.declared.names.LockName.{LockName}
 use Rattle.lk_word.specs.declared.spin_word.NodeName.{NodeName}
 use Rattle.lk_word.specs.declared.spin_word.Fields.{Fields}
-use Rattle.lk_machine.specs.declared.parts.Frame.{Frame}
-use Rattle.lk_machine.specs.declared.parts.Node.{Node}
-use Rattle.lk_machine.specs.declared.parts.Counts.{Counts}
-use Rattle.lk_machine.specs.Machine.{Machine, CpuState, cpu_at, lock_at, word_at, rw_at, node_at}
-use Rattle.lk_machine.specs.Machine.{frame_at, queued_at, entry_at, halted_at, kicked_at, depth_at}
-use Rattle.lk_machine.specs.Machine.{top_of, set_cpu, set_lock, set_counts, set_word, set_top}
-use Rattle.lk_machine.specs.Machine.{set_preempted, pop, push, rest_node, HasTop}
+use Rattle.lk_rows.specs.declared.parts.Frame.{Frame}
+use Rattle.lk_rows.specs.declared.parts.Node.{Node}
+use Rattle.lk_rows.specs.declared.parts.Counts.{Counts}
+use Rattle.lk_rows.specs.Machine.{Machine, CpuState, cpu_at, lock_at, word_at, rw_at, node_at}
+use Rattle.lk_rows.specs.Machine.{frame_at, queued_at, entry_at, halted_at, kicked_at, depth_at}
+use Rattle.lk_rows.specs.Machine.{top_of, set_cpu, set_lock, set_counts, set_word, set_top}
+use Rattle.lk_rows.specs.Machine.{set_preempted, pop, push, rest_node, HasTop}
 use Rattle.lk_law.specs.World.{World}
 use Rattle.lk_law.specs.Steps.{put_frame}
 use Rattle.lk_law.specs.Sound.{world, held_at, held_of}

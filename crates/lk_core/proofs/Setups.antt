@@ -6,31 +6,31 @@ use Rattle.lk_abs.specs.declared.names.LockName.{LockName}
 use Rattle.lk_word.specs.declared.spin_word.NodeName.{NodeName}
 use Rattle.lk_abs.specs.declared.events.Act.{Act}
 use Rattle.lk_abs.specs.declared.events.Act.TheVariants as act
-use Rattle.lk_machine.specs.declared.setup.Setup.{Setup}
-use Rattle.lk_machine.specs.declared.parts.Frame.{Frame}
-use Rattle.lk_machine.specs.declared.parts.Pc.{Pc}
-use Rattle.lk_machine.specs.Machine.{Machine, CpuState, LockState, word_at, node_at, queued_at}
-use Rattle.lk_machine.specs.Machine.{preempted_at, halted_at, top_frame, set_cpu, set_lock}
-use Rattle.lk_machine.specs.Machine.{set_entry, entry_at, kicked_at, set_counts, rw_at}
-use Rattle.lk_machine.specs.Row.{Lead, Counter, moved, counted}
-use Rattle.lk_machine.specs.rows.Spin.{spin_row}
-use Rattle.lk_machine.specs.rows.Queue.{queue_row, entry_row, flag_row, next_row}
-use Rattle.lk_machine.specs.TopRow.{Target, SpinWord, QueueWord, Queued, FlagOf, NextOf, ChoiceWord}
-use Rattle.lk_machine.specs.TopRow.{ChoiceFlag, ChoiceNext, SecondTailOf, RunsOf, PvWord, PvFlag}
-use Rattle.lk_machine.specs.TopRow.{PvNext, StateOf, HashEntry, Halted, KickOf, target, sight_at}
-use Rattle.lk_machine.specs.TopRow.{stored_second, stored_runs, stored_state, stored_entry}
-use Rattle.lk_machine.specs.TopRow.{stored_halted, stored_kicked, stored_word, stored_flag}
-use Rattle.lk_machine.specs.TopRow.{stored_next, stored_queued, row_on, row_at, row, RwWord}
-use Rattle.lk_machine.specs.TopRow.{stored_rw}
-use Rattle.lk_machine.specs.rows.Cna.{search_row, second_row, runs_row, handover_row, promotion_row}
-use Rattle.lk_machine.specs.rows.Pv.{pv_row, pv_flag_row, pv_next_row, state_row, hash_row}
-use Rattle.lk_machine.specs.rows.Pv.{halt_row, kick_row}
-use Rattle.lk_machine.specs.Acts.{idle, step_halted, step, next}
+use Rattle.lk_rows.specs.declared.setup.Setup.{Setup}
+use Rattle.lk_rows.specs.declared.parts.Frame.{Frame}
+use Rattle.lk_rows.specs.declared.parts.Pc.{Pc}
+use Rattle.lk_rows.specs.Machine.{Machine, CpuState, LockState, word_at, node_at, queued_at}
+use Rattle.lk_rows.specs.Machine.{preempted_at, halted_at, top_frame, set_cpu, set_lock}
+use Rattle.lk_rows.specs.Machine.{set_entry, entry_at, kicked_at, set_counts, rw_at}
+use Rattle.lk_rows.specs.Row.{Lead, Counter, moved, counted}
+use Rattle.lk_rows.specs.rows.Spin.{spin_row}
+use Rattle.lk_rows.specs.rows.Queue.{queue_row, entry_row, flag_row, next_row}
+use Rattle.lk_rows.specs.TopRow.{Target, SpinWord, QueueWord, Queued, FlagOf, NextOf, ChoiceWord}
+use Rattle.lk_rows.specs.TopRow.{ChoiceFlag, ChoiceNext, SecondTailOf, RunsOf, PvWord, PvFlag}
+use Rattle.lk_rows.specs.TopRow.{PvNext, StateOf, HashEntry, Halted, KickOf, target, sight_at}
+use Rattle.lk_rows.specs.TopRow.{stored_second, stored_runs, stored_state, stored_entry}
+use Rattle.lk_rows.specs.TopRow.{stored_halted, stored_kicked, stored_word, stored_flag}
+use Rattle.lk_rows.specs.TopRow.{stored_next, stored_queued, row_on, row_at, row, RwWord}
+use Rattle.lk_rows.specs.TopRow.{stored_rw}
+use Rattle.lk_rows.specs.rows.Cna.{search_row, second_row, runs_row, handover_row, promotion_row}
+use Rattle.lk_rows.specs.rows.Pv.{pv_row, pv_flag_row, pv_next_row, state_row, hash_row}
+use Rattle.lk_rows.specs.rows.Pv.{halt_row, kick_row}
+use Rattle.lk_rows.specs.Acts.{idle, step_halted, step, next}
 use Rattle.lk_core.proofs.Parts.{part-moved, part-stored_word, part-stored_flag, part-stored_next}
 use Rattle.lk_core.proofs.Parts.{part-stored_second, part-stored_runs, part-stored_state}
 use Rattle.lk_core.proofs.Parts.{part-stored_entry, part-stored_halted, part-stored_kicked}
 use Rattle.lk_core.proofs.Parts.{part-stored_queued, part-step_halted, part-rest, part-stored_rw}
-use Rattle.lk_machine.specs.rows.Rw.{rw_row}
+use Rattle.lk_rows.specs.rows.Rw.{rw_row}
 
 abbrev of : Machine → Setup
 of m = m.setup

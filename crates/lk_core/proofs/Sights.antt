@@ -9,10 +9,10 @@ use Rattle.lk_abs.specs.Lawful.{is_local}
 use Rattle.lk_abs.specs.declared.names.Waiter.{Waiter}
 use Rattle.lk_abs.specs.declared.names.LockName.{LockName}
 use Rattle.lk_word.specs.declared.spin_word.NodeName.{NodeName}
-use Rattle.lk_machine.specs.declared.parts.Frame.{Frame}
-use Rattle.lk_machine.specs.Machine.{Machine, cpu_at, frame_at, node_at}
-use Rattle.lk_machine.specs.Moves.{is_node, node_of, context_of, waiter_of}
-use Rattle.lk_machine.specs.TopRow.{sight_at}
+use Rattle.lk_rows.specs.declared.parts.Frame.{Frame}
+use Rattle.lk_rows.specs.Machine.{Machine, cpu_at, frame_at, node_at}
+use Rattle.lk_rows.specs.Moves.{is_node, node_of, context_of, waiter_of}
+use Rattle.lk_rows.specs.TopRow.{sight_at}
 use Rattle.lk_law.specs.Sound.{ShowsAll, world}
 use Rattle.lk_law.specs.Steps.{has_own, first_user, waiter_in, sight_in}
 use Rattle.lk_core.proofs.Stands.{few_frames}

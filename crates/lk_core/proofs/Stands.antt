@@ -7,13 +7,13 @@ use Rattle.std.proofs.lemmas.Option.{slice_get_past}
 use Rattle.lk_abs.specs.History.{LockHistory}
 use Rattle.lk_abs.specs.declared.names.Mode.{Mode}
 use Rattle.lk_abs.specs.declared.names.LockName.{LockName}
-use Rattle.lk_machine.specs.declared.parts.Frame.{Frame}
-use Rattle.lk_machine.specs.declared.parts.Pc.{Pc}
-use Rattle.lk_machine.specs.declared.parts.Pc.TheVariants.{U5}
-use Rattle.lk_machine.specs.Machine.{Machine, cpu_at, depth_at, frame_at, no_cpu, top_of}
-use Rattle.lk_machine.specs.declared.setup.Verb.{Verb}
-use Rattle.lk_machine.specs.declared.setup.Verb.TheVariants.{Lock, Unlock}
-use Rattle.lk_machine.specs.TopRow.{row}
+use Rattle.lk_rows.specs.declared.parts.Frame.{Frame}
+use Rattle.lk_rows.specs.declared.parts.Pc.{Pc}
+use Rattle.lk_rows.specs.declared.parts.Pc.TheVariants.{U5}
+use Rattle.lk_rows.specs.Machine.{Machine, cpu_at, depth_at, frame_at, no_cpu, top_of}
+use Rattle.lk_rows.specs.declared.setup.Verb.{Verb}
+use Rattle.lk_rows.specs.declared.setup.Verb.TheVariants.{Lock, Unlock}
+use Rattle.lk_rows.specs.TopRow.{row}
 use Rattle.lk_law.specs.RwPhase.{is_inner}
 use Rattle.lk_law.specs.RwPhase.RwPhase.{Away}
 use Rattle.lk_law.specs.Families.{is_rw_row}

@@ -9,12 +9,12 @@ use Rattle.lk_word.specs.declared.spin_word.Layout.{Layout}
 use Rattle.lk_word.specs.declared.spin_word.Layout.TheVariants.{Narrow}
 use Rattle.lk_word.specs.SpinWord.{IsTailInRange}
 use Rattle.lk_word.proofs.SpinWordLemmas.{from_narrow}
-use Rattle.lk_machine.specs.declared.parts.Frame.{Frame}
-use Rattle.lk_machine.specs.declared.parts.Pc.{Pc}
-use Rattle.lk_machine.specs.declared.parts.Pc.TheVariants.{G4, C10, E6, K3}
-use Rattle.lk_machine.specs.Machine.{Machine, frame_at, HasNode}
-use Rattle.lk_machine.specs.Moves.{node_of}
-use Rattle.lk_machine.specs.Packed.{layout_of}
+use Rattle.lk_rows.specs.declared.parts.Frame.{Frame}
+use Rattle.lk_rows.specs.declared.parts.Pc.{Pc}
+use Rattle.lk_rows.specs.declared.parts.Pc.TheVariants.{G4, C10, E6, K3}
+use Rattle.lk_rows.specs.Machine.{Machine, frame_at, HasNode}
+use Rattle.lk_rows.specs.Moves.{node_of}
+use Rattle.lk_rows.specs.Layouts.{layout_of}
 use Rattle.lk_machine.specs.Ready.{stored_name}
 use Rattle.lk_law.specs.Phase.{has_node}
 use Rattle.lk_law.specs.Places.{snapshot}

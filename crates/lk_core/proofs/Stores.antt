@@ -4,15 +4,15 @@ use Rattle.std.proofs.Common.{length}
 use Rattle.lk_abs.specs.declared.names.Waiter.{Waiter}
 use Rattle.lk_word.specs.declared.spin_word.NodeName.{NodeName}
 use Rattle.lk_word.specs.declared.spin_word.Fields.{Fields}
-use Rattle.lk_machine.specs.declared.parts.Flag.{Flag}
-use Rattle.lk_machine.specs.declared.parts.State.{State}
+use Rattle.lk_rows.specs.declared.parts.Flag.{Flag}
+use Rattle.lk_rows.specs.declared.parts.State.{State}
 use Rattle.lk_abs.specs.declared.names.LockName.{LockName}
-use Rattle.lk_machine.specs.declared.parts.Frame.{Frame}
-use Rattle.lk_machine.specs.Machine.{Machine, cpu_at, frame_at, node_at, set_counts, HasNode}
-use Rattle.lk_machine.specs.Row.{Counter, counted, count_all}
-use Rattle.lk_machine.specs.TopRow.{stored_word, stored_flag, stored_next, stored_second}
-use Rattle.lk_machine.specs.TopRow.{stored_runs, stored_state, stored_entry, stored_halted}
-use Rattle.lk_machine.specs.TopRow.{stored_kicked, stored_queued}
+use Rattle.lk_rows.specs.declared.parts.Frame.{Frame}
+use Rattle.lk_rows.specs.Machine.{Machine, cpu_at, frame_at, node_at, set_counts, HasNode}
+use Rattle.lk_rows.specs.Row.{Counter, counted, count_all}
+use Rattle.lk_rows.specs.TopRow.{stored_word, stored_flag, stored_next, stored_second}
+use Rattle.lk_rows.specs.TopRow.{stored_runs, stored_state, stored_entry, stored_halted}
+use Rattle.lk_rows.specs.TopRow.{stored_kicked, stored_queued}
 use Rattle.lk_law.specs.World.{World}
 use Rattle.lk_law.specs.Steps.{stores_word, stores_flag, stores_next, stores_second, stores_runs}
 use Rattle.lk_law.specs.Steps.{stores_state, stores_entry, stores_halted, stores_kicked}

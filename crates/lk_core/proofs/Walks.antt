@@ -15,17 +15,17 @@ use Rattle.lk_abs.specs.declared.names.Mode.{Mode}
 use Rattle.lk_abs.specs.declared.names.Mode.TheVariants.{Pv}
 use Rattle.lk_abs.specs.declared.names.LockName.{LockName}
 use Rattle.lk_word.specs.declared.spin_word.NodeName.{NodeName}
-use Rattle.lk_machine.specs.declared.setup.Op.{Op}
-use Rattle.lk_machine.specs.declared.setup.Verb.{Verb}
-use Rattle.lk_machine.specs.declared.setup.Verb.TheVariants.{Unlock}
-use Rattle.lk_machine.specs.declared.parts.Pc.TheVariants.{U5}
-use Rattle.lk_machine.specs.declared.parts.Frame.{Frame}
-use Rattle.lk_machine.specs.Programs.{IsLawfulProgram, way_at, op_way, way_after, is_try}
-use Rattle.lk_machine.specs.Programs.{is_release, to_release}
-use Rattle.lk_machine.specs.Row.{Change, Prev, TargetIs, with_change, changed_all, Lead, Goes}
-use Rattle.lk_machine.specs.Row.{Enters}
-use Rattle.lk_machine.specs.Row.{Granted, Freed, Missed, Done, TakesWait, Leaves, Yields}
-use Rattle.lk_machine.specs.Moves.{rw_name, wait_name}
+use Rattle.lk_rows.specs.declared.setup.Op.{Op}
+use Rattle.lk_rows.specs.declared.setup.Verb.{Verb}
+use Rattle.lk_rows.specs.declared.setup.Verb.TheVariants.{Unlock}
+use Rattle.lk_rows.specs.declared.parts.Pc.TheVariants.{U5}
+use Rattle.lk_rows.specs.declared.parts.Frame.{Frame}
+use Rattle.lk_rows.specs.Programs.{IsLawfulProgram, way_at, op_way, way_after, is_try}
+use Rattle.lk_rows.specs.Programs.{is_release, to_release}
+use Rattle.lk_rows.specs.Row.{Change, Prev, TargetIs, with_change, changed_all, Lead, Goes}
+use Rattle.lk_rows.specs.Row.{Enters}
+use Rattle.lk_rows.specs.Row.{Granted, Freed, Missed, Done, TakesWait, Leaves, Yields}
+use Rattle.lk_rows.specs.Moves.{rw_name, wait_name}
 use Rattle.lk_law.specs.Sound.{held_in, BelongsTo, held_idle, is_over}
 use Rattle.lk_law.specs.RwPhase.{is_inner}
 use Rattle.lk_law.specs.SoundWorld.{rw_phase_of}

@@ -11,15 +11,15 @@ use Rattle.lk_abs.specs.declared.names.Waiter.{Waiter}
 use Rattle.lk_abs.specs.declared.names.LockName.{LockName}
 use Rattle.lk_word.specs.declared.spin_word.NodeName.{NodeName}
 use Rattle.lk_word.specs.declared.spin_word.Fields.{Fields}
-use Rattle.lk_machine.specs.declared.setup.Setup.{Setup}
-use Rattle.lk_machine.specs.declared.parts.Frame.{Frame}
-use Rattle.lk_machine.specs.declared.parts.Node.{Node}
-use Rattle.lk_machine.specs.declared.parts.Counts.{Counts}
-use Rattle.lk_machine.specs.Machine.{Machine, CpuState, LockState, rest_lock, cpu_at, lock_at}
-use Rattle.lk_machine.specs.Machine.{word_at, rw_at, node_at, frame_at, queued_at, entry_at}
-use Rattle.lk_machine.specs.Machine.{halted_at, kicked_at, set_cpu, set_lock, set_counts, set_word}
-use Rattle.lk_machine.specs.Machine.{set_node, set_queued, set_halted, set_kicked, set_entry}
-use Rattle.lk_machine.specs.Machine.{with_entry, without_entry, rest_node, HasNode}
+use Rattle.lk_rows.specs.declared.setup.Setup.{Setup}
+use Rattle.lk_rows.specs.declared.parts.Frame.{Frame}
+use Rattle.lk_rows.specs.declared.parts.Node.{Node}
+use Rattle.lk_rows.specs.declared.parts.Counts.{Counts}
+use Rattle.lk_rows.specs.Machine.{Machine, CpuState, LockState, rest_lock, cpu_at, lock_at}
+use Rattle.lk_rows.specs.Machine.{word_at, rw_at, node_at, frame_at, queued_at, entry_at}
+use Rattle.lk_rows.specs.Machine.{halted_at, kicked_at, set_cpu, set_lock, set_counts, set_word}
+use Rattle.lk_rows.specs.Machine.{set_node, set_queued, set_halted, set_kicked, set_entry}
+use Rattle.lk_rows.specs.Machine.{with_entry, without_entry, rest_node, HasNode}
 use Rattle.lk_law.specs.Steps.{put_word, put_node, put_queued, put_entry, put_halted, put_kicked}
 use Rattle.lk_law.specs.Snapshot.{same_node}
 use Rattle.lk_law.specs.Sound.{world, held_at}

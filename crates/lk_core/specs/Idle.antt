@@ -4,11 +4,11 @@ use Rattle.lk_abs.specs.declared.events.Act.{Act}
 use Rattle.lk_abs.specs.declared.events.Act.TheVariants.{Step, Interrupt, Preempt, Resume, Nudge}
 use Rattle.lk_abs.specs.declared.events.Event.{Event}
 use Rattle.lk_abs.specs.declared.events.What.TheVariants as what
-use Rattle.lk_machine.specs.Machine.{Machine, top_frame, depth_at, preempted_at, halted_at}
-use Rattle.lk_machine.specs.Machine.{kicked_at, handlers_at}
-use Rattle.lk_machine.specs.Programs.{handlers_of}
-use Rattle.lk_machine.specs.TopRow.{row}
-use Rattle.lk_machine.specs.Acts.{stands_halting, kicked_awake}
+use Rattle.lk_rows.specs.Machine.{Machine, top_frame, depth_at, preempted_at, halted_at}
+use Rattle.lk_rows.specs.Machine.{kicked_at, handlers_at}
+use Rattle.lk_rows.specs.Programs.{handlers_of}
+use Rattle.lk_rows.specs.TopRow.{row}
+use Rattle.lk_rows.specs.Acts.{stands_halting, kicked_awake}
 
 -- A step of a processor that is preempted, has halted without a kick, or has finished; an interrupt
 -- of one that is preempted, has six frames or no handler left, or is about to halt; a preemption of

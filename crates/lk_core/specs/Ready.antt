@@ -2,11 +2,11 @@
 -- row.
 use Rattle.std.specs.Prelude.{◌≡◌, ◌<◌, ◌-◌, ◌^◌, ℕ, Some, false, length}
 use Rattle.lk_abs.specs.declared.events.Act.TheVariants.{Step}
-use Rattle.lk_machine.specs.declared.family.Family.{Family}
-use Rattle.lk_machine.specs.declared.family.Family.TheVariants.{Spin, Queue, Cna, Pv, Rw}
-use Rattle.lk_machine.specs.declared.parts.Pc.{Pc}
-use Rattle.lk_machine.specs.Family.{family_of}
-use Rattle.lk_machine.specs.Machine.{Machine, halted_at, top_frame}
+use Rattle.lk_rows.specs.declared.family.Family.{Family}
+use Rattle.lk_rows.specs.declared.family.Family.TheVariants.{Spin, Queue, Cna, Pv, Rw}
+use Rattle.lk_rows.specs.declared.parts.Pc.{Pc}
+use Rattle.lk_rows.specs.Family.{family_of}
+use Rattle.lk_rows.specs.Machine.{Machine, halted_at, top_frame}
 use Rattle.lk_machine.specs.Ready.{CountsWithin, IsReady}
 use Rattle.lk_law.specs.Sound.{IsSound}
 use Rattle.lk_cna.specs.Row.{IsCnaReady}

@@ -2,8 +2,8 @@
 
 ghost use Rattle.std.specs.Prelude.{◌≡◌, ◌+◌, ℕ};
 ghost use Rattle.lk_abs.specs.declared.events.Act.{Act as ActValue};
-ghost use Rattle.lk_machine.specs.Machine.{Machine as MachineValue};
-ghost use Rattle.lk_machine.specs.Acts.{next};
+ghost use Rattle.lk_rows.specs.Machine.{Machine as MachineValue};
+ghost use Rattle.lk_rows.specs.Acts.{next};
 ghost use Rattle.lk_machine.specs.Ready.{CountsWithin};
 ghost use Rattle.lk_law.specs.MachineLaws.{ActKeeps, RestShows, RunKeeps};
 ghost use Rattle.lk_core.specs.Ready.{RowsAreReady};

@@ -1,5 +1,5 @@
 //! Acts: what each line of a schedule does to a machine. Each act is proved to be the act that
-//! `lk_machine` defines. It leaves the machine sound and its history lawful.
+//! `lk_rows` defines. It leaves the machine sound and its history lawful.
 #![tactic(auto)]
 
 mod acts;

@@ -5,12 +5,12 @@ use Rattle.std.specs.Prelude.{if◌then◌else◌, ◌&&◌}
 use Rattle.lk_abs.specs.declared.names.Mode.{Mode}
 use Rattle.lk_abs.specs.declared.names.Mode.TheVariants.{Virt, Native, Cna, Pv}
 use Rattle.lk_abs.specs.declared.names.LockName.{LockName}
-use Rattle.lk_machine.specs.declared.parts.Pc.{Pc}
-use Rattle.lk_machine.specs.declared.parts.Pc.TheVariants.{F1, T1, U1, U2, R1, Wr1, Y1, Y4, Z1, Z2}
-use Rattle.lk_machine.specs.declared.setup.Verb.{Verb}
-use Rattle.lk_machine.specs.declared.setup.Verb.TheVariants.{Lock, Try, Unlock, Read, TryRead}
-use Rattle.lk_machine.specs.declared.setup.Verb.TheVariants.{RUnlock, Write, TryWrite, WUnlock}
-use Rattle.lk_machine.specs.Moves.{first_place}
+use Rattle.lk_rows.specs.declared.parts.Pc.{Pc}
+use Rattle.lk_rows.specs.declared.parts.Pc.TheVariants.{F1, T1, U1, U2, R1, Wr1, Y1, Y4, Z1, Z2}
+use Rattle.lk_rows.specs.declared.setup.Verb.{Verb}
+use Rattle.lk_rows.specs.declared.setup.Verb.TheVariants.{Lock, Try, Unlock, Read, TryRead}
+use Rattle.lk_rows.specs.declared.setup.Verb.TheVariants.{RUnlock, Write, TryWrite, WUnlock}
+use Rattle.lk_rows.specs.Moves.{first_place}
 use Rattle.lk_law.proofs.common.Puts.{if-true, if-false}
 use Rattle.lk_domain.specs.Calls.{Calls, Running, StandsOn, acting, begin, is_on, is_verb, Begins}
 use Rattle.lk_domain.specs.declared.plan.Plan.{Plan}

@@ -9,10 +9,10 @@ use Rattle.lk_abs.specs.declared.names.Mode.{Mode}
 use Rattle.lk_abs.specs.declared.names.Mode.TheVariants.{Virt, Native, Cna, Pv}
 use Rattle.lk_abs.specs.declared.names.LockName.{LockName}
 use Rattle.lk_word.specs.declared.spin_word.Fields.{Fields}
-use Rattle.lk_machine.specs.declared.parts.Pc.TheVariants.{U1}
-use Rattle.lk_machine.specs.declared.setup.Verb.{Verb}
-use Rattle.lk_machine.specs.declared.setup.Verb.TheVariants.{Unlock}
-use Rattle.lk_machine.specs.Programs.{is_release as is_unlocking}
+use Rattle.lk_rows.specs.declared.parts.Pc.TheVariants.{U1}
+use Rattle.lk_rows.specs.declared.setup.Verb.{Verb}
+use Rattle.lk_rows.specs.declared.setup.Verb.TheVariants.{Unlock}
+use Rattle.lk_rows.specs.Programs.{is_release as is_unlocking}
 use Rattle.lk_law.specs.Agree.{halts}
 use Rattle.lk_law.specs.Leads.{Word}
 use Rattle.lk_law.proofs.common.Puts.{if_cases, if-true, if-false, not-true}

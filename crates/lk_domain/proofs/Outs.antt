@@ -6,8 +6,8 @@ use Rattle.lk_abs.specs.Names.{same_lock}
 use Rattle.lk_abs.specs.declared.holder.Manner.{Manner}
 use Rattle.lk_abs.specs.declared.names.LockName.{LockName}
 use Rattle.lk_abs.specs.declared.names.Mode.{Mode}
-use Rattle.lk_machine.specs.declared.setup.Verb.{Verb}
-use Rattle.lk_machine.specs.declared.setup.Verb.TheVariants.{Unlock, RUnlock, WUnlock}
+use Rattle.lk_rows.specs.declared.setup.Verb.{Verb}
+use Rattle.lk_rows.specs.declared.setup.Verb.TheVariants.{Unlock, RUnlock, WUnlock}
 use Rattle.lk_law.proofs.common.Puts.{if_cases, if-true, if-false}
 use Rattle.lk_law.proofs.common.Sames.{same_lock-true}
 use Rattle.lk_domain.specs.Calls.{Hold, Calls, Grip, Unchanged, Takes, Frees, holds_in, hold_in}

@@ -5,13 +5,13 @@ use Rattle.std.specs.Prelude.{if◌then◌else◌, ◌&&◌}
 use Rattle.lk_abs.specs.declared.holder.Manner.{Manner}
 use Rattle.lk_abs.specs.declared.names.LockName.{LockName}
 use Rattle.lk_abs.specs.declared.names.Mode.{Mode}
-use Rattle.lk_machine.specs.declared.parts.Frame.{Frame}
-use Rattle.lk_machine.specs.declared.parts.Pc.{Pc}
-use Rattle.lk_machine.specs.declared.setup.Verb.{Verb}
-use Rattle.lk_machine.specs.declared.setup.Verb.TheVariants.{Lock, Try, Read, TryRead, Write, TryWrite}
-use Rattle.lk_machine.specs.Moves.{first_place}
+use Rattle.lk_rows.specs.declared.parts.Frame.{Frame}
+use Rattle.lk_rows.specs.declared.parts.Pc.{Pc}
+use Rattle.lk_rows.specs.declared.setup.Verb.{Verb}
+use Rattle.lk_rows.specs.declared.setup.Verb.TheVariants.{Lock, Try, Read, TryRead, Write, TryWrite}
+use Rattle.lk_rows.specs.Moves.{first_place}
 use Rattle.lk_domain.specs.Calls.{Outlook}
-use Rattle.lk_machine.specs.TopRow.{target}
+use Rattle.lk_rows.specs.TopRow.{target}
 use Rattle.lk_law.specs.Leads.{Met, held_lock}
 use Rattle.lk_domain.specs.Calls.{mark, read_at, Running, running, hold, Calls, StandsAt, acting, begin, begun, is_on}
 use Rattle.lk_domain.specs.Calls.{is_verb, Begins, MayBegin, holds_in, waits_in, lock_name, row_of, row_on, row_at}

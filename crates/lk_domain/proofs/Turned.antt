@@ -9,14 +9,14 @@ use Rattle.lk_abs.specs.declared.holder.Manner.{Manner}
 use Rattle.lk_abs.specs.declared.holder.Manner.TheVariants.{Spins}
 use Rattle.lk_abs.specs.declared.names.Mode.{Mode}
 use Rattle.lk_abs.specs.declared.names.LockName.{LockName}
-use Rattle.lk_machine.specs.declared.parts.Frame.{Frame}
-use Rattle.lk_machine.specs.declared.parts.Pc.{Pc}
-use Rattle.lk_machine.specs.declared.parts.Pc.TheVariants.{F1, T1, R1, Y1, Wr1, Y4}
-use Rattle.lk_machine.specs.declared.setup.Verb.{Verb}
-use Rattle.lk_machine.specs.declared.setup.Verb.TheVariants.{Lock, Try, Read, TryRead}
-use Rattle.lk_machine.specs.declared.setup.Verb.TheVariants.{Write, TryWrite}
-use Rattle.lk_machine.specs.Programs.{is_release as is_unlocking}
-use Rattle.lk_machine.specs.TopRow.{target}
+use Rattle.lk_rows.specs.declared.parts.Frame.{Frame}
+use Rattle.lk_rows.specs.declared.parts.Pc.{Pc}
+use Rattle.lk_rows.specs.declared.parts.Pc.TheVariants.{F1, T1, R1, Y1, Wr1, Y4}
+use Rattle.lk_rows.specs.declared.setup.Verb.{Verb}
+use Rattle.lk_rows.specs.declared.setup.Verb.TheVariants.{Lock, Try, Read, TryRead}
+use Rattle.lk_rows.specs.declared.setup.Verb.TheVariants.{Write, TryWrite}
+use Rattle.lk_rows.specs.Programs.{is_release as is_unlocking}
+use Rattle.lk_rows.specs.TopRow.{target}
 use Rattle.lk_law.specs.Families.{is_slow}
 use Rattle.lk_law.specs.Leads.{Met, Course, held_lock}
 use Rattle.lk_law.specs.Steps.{led}

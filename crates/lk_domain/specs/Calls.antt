@@ -12,20 +12,20 @@ use Rattle.lk_abs.specs.declared.names.Mode.{Mode}
 use Rattle.lk_abs.specs.declared.names.LockName.{LockName}
 use Rattle.lk_abs.specs.declared.events.What.TheVariants.{RTake, RRelease, WTake, WRelease}
 use Rattle.lk_word.specs.declared.spin_word.NodeName.{NodeName}
-use Rattle.lk_machine.specs.declared.parts.Frame.{Frame}
-use Rattle.lk_machine.specs.declared.parts.Pc.{Pc}
-use Rattle.lk_machine.specs.declared.parts.Pc.TheVariants.{C1, C2, C3, C7, Z1, Z2, U1, U2}
-use Rattle.lk_machine.specs.declared.setup.Verb.{Verb}
+use Rattle.lk_rows.specs.declared.parts.Frame.{Frame}
+use Rattle.lk_rows.specs.declared.parts.Pc.{Pc}
+use Rattle.lk_rows.specs.declared.parts.Pc.TheVariants.{C1, C2, C3, C7, Z1, Z2, U1, U2}
+use Rattle.lk_rows.specs.declared.setup.Verb.{Verb}
 use Rattle.lk_law.specs.Agree.{halts}
-use Rattle.lk_machine.specs.declared.setup.Verb.TheVariants.{Lock, Try, Unlock, Read, TryRead}
-use Rattle.lk_machine.specs.declared.setup.Verb.TheVariants.{RUnlock, Write, TryWrite, WUnlock}
-use Rattle.lk_machine.specs.Machine.{rest_frame}
-use Rattle.lk_machine.specs.Moves.{started}
-use Rattle.lk_machine.specs.Programs.{kind_of, is_release as is_unlocking}
+use Rattle.lk_rows.specs.declared.setup.Verb.TheVariants.{Lock, Try, Unlock, Read, TryRead}
+use Rattle.lk_rows.specs.declared.setup.Verb.TheVariants.{RUnlock, Write, TryWrite, WUnlock}
+use Rattle.lk_rows.specs.Machine.{rest_frame}
+use Rattle.lk_rows.specs.Moves.{started}
+use Rattle.lk_rows.specs.Programs.{kind_of, is_release as is_unlocking}
 use Rattle.lk_abs.specs.Lawful.{same_socket}
-use Rattle.lk_machine.specs.rows.Cna.{Sight}
-use Rattle.lk_machine.specs.Row.{Lead, Granted, Freed, Leaves, Yields, Tell, Says}
-use Rattle.lk_machine.specs.TopRow.{Target, RwWord, Halted, target}
+use Rattle.lk_rows.specs.rows.Cna.{Sight}
+use Rattle.lk_rows.specs.Row.{Lead, Granted, Freed, Leaves, Yields, Tell, Says}
+use Rattle.lk_rows.specs.TopRow.{Target, RwWord, Halted, target}
 use Rattle.lk_law.specs.Families.{is_slow}
 use Rattle.lk_law.specs.Leads.{Met, Named, Linked, Setting, Course, course_at, held_lock, is_release}
 use Rattle.lk_law.specs.SoundWorld.{is_rw_name}

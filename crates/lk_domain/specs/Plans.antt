@@ -7,7 +7,7 @@ use Rattle.lk_abs.specs.Jobs.{full}
 use Rattle.lk_abs.specs.declared.names.Kind.{Kind}
 use Rattle.lk_abs.specs.declared.names.Kind.TheVariants.{Spin}
 use Rattle.lk_word.specs.declared.spin_word.Layout.{Layout}
-use Rattle.lk_machine.specs.Packed.{layout_of}
+use Rattle.lk_rows.specs.Layouts.{layout_of}
 use Rattle.lk_law.specs.Agree.{halts}
 use Rattle.lk_domain.specs.declared.plan.Plan.{Plan}
 

@@ -1,10 +1,10 @@
 -- Which rows a kind of step makes; and which of them a step call makes by its operation.
 use Rattle.std.specs.Prelude.{◌&&◌, ◌||◌, not, Bool, true, false}
-use Rattle.lk_machine.specs.declared.parts.Pc.{Pc}
-use Rattle.lk_machine.specs.declared.parts.Pc.TheVariants.{F1, T1, T2, U1, V1, V2, P0, P3, G2, G3}
-use Rattle.lk_machine.specs.declared.parts.Pc.TheVariants.{G7, N1, N2, P1, P2, P4, G4, G8, G9, C10}
-use Rattle.lk_machine.specs.declared.setup.Verb.{Verb}
-use Rattle.lk_machine.specs.declared.setup.Verb.TheVariants.{Lock, Try, Unlock, Read, Write}
+use Rattle.lk_rows.specs.declared.parts.Pc.{Pc}
+use Rattle.lk_rows.specs.declared.parts.Pc.TheVariants.{F1, T1, T2, U1, V1, V2, P0, P3, G2, G3}
+use Rattle.lk_rows.specs.declared.parts.Pc.TheVariants.{G7, N1, N2, P1, P2, P4, G4, G8, G9, C10}
+use Rattle.lk_rows.specs.declared.setup.Verb.{Verb}
+use Rattle.lk_rows.specs.declared.setup.Verb.TheVariants.{Lock, Try, Unlock, Read, Write}
 
 -- a look at the word of a lock
 abbrev pub is_look : Pc → Bool

@@ -12,11 +12,11 @@ use Rattle.lk_abs.specs.declared.names.Waiter.{Waiter}
 use Rattle.lk_word.specs.declared.spin_word.NodeName.{NodeName}
 use Rattle.lk_word.specs.RwWord.{packed_rw}
 use Rattle.lk_word.specs.SpinWord.{packed}
-use Rattle.lk_machine.specs.declared.parts.Frame.{Frame}
-use Rattle.lk_machine.specs.declared.parts.Node.{Node}
-use Rattle.lk_machine.specs.declared.parts.Pc.{Pc}
-use Rattle.lk_machine.specs.declared.parts.Pc.TheVariants.{U3, E9}
-use Rattle.lk_machine.specs.Moves.{node_of}
+use Rattle.lk_rows.specs.declared.parts.Frame.{Frame}
+use Rattle.lk_rows.specs.declared.parts.Node.{Node}
+use Rattle.lk_rows.specs.declared.parts.Pc.{Pc}
+use Rattle.lk_rows.specs.declared.parts.Pc.TheVariants.{U3, E9}
+use Rattle.lk_rows.specs.Moves.{node_of}
 use Rattle.lk_law.specs.Agree.{halts}
 use Rattle.lk_law.specs.Families.{chooses}
 use Rattle.lk_law.specs.Nodes.{will_link}

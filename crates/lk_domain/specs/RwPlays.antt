@@ -4,9 +4,9 @@ use Rattle.atomic_table.specs.Table.{Me, Step}
 use Rattle.lk_abs.specs.declared.names.LockName.{LockName}
 use Rattle.lk_word.specs.declared.rw_word.RwFields.{RwFields}
 use Rattle.lk_word.specs.RwWord.{packed_rw, IsPackableRw}
-use Rattle.lk_machine.specs.declared.parts.Pc.{Pc}
-use Rattle.lk_machine.specs.declared.setup.Verb.{Verb}
-use Rattle.lk_machine.specs.Moves.{wait_name}
+use Rattle.lk_rows.specs.declared.parts.Pc.{Pc}
+use Rattle.lk_rows.specs.declared.setup.Verb.{Verb}
+use Rattle.lk_rows.specs.Moves.{wait_name}
 use Rattle.lk_law.specs.Leads.{Shared}
 use Rattle.lk_domain.specs.Calls.{held_in}
 use Rattle.lk_domain.specs.Plays.{ActsOn, made}

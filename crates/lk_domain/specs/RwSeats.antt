@@ -1,6 +1,6 @@
 -- What the step calls on the words of reader-writer locks say of their processor.
 use Rattle.std.specs.Prelude.{ℕ}
-use Rattle.lk_machine.specs.declared.setup.Verb.{Verb}
+use Rattle.lk_rows.specs.declared.setup.Verb.{Verb}
 use Rattle.lk_domain.specs.RwPlays.{SharedBy}
 use Rattle.lk_domain.specs.declared.cpu.Cpu.{Cpu}
 

@@ -1,8 +1,8 @@
 -- Which rows use the word of a reader-writer lock in which way.
 use Rattle.std.specs.Prelude.{Bool, true, false}
-use Rattle.lk_machine.specs.declared.parts.Pc.{Pc}
-use Rattle.lk_machine.specs.declared.setup.Verb.{Verb}
-use Rattle.lk_machine.specs.declared.setup.Verb.TheVariants.{RUnlock}
+use Rattle.lk_rows.specs.declared.parts.Pc.{Pc}
+use Rattle.lk_rows.specs.declared.setup.Verb.{Verb}
+use Rattle.lk_rows.specs.declared.setup.Verb.TheVariants.{RUnlock}
 use Rattle.lk_domain.specs.RwRows.{watches_by, joins_by, quits_by, seizes_by, awaits_by, follows_by, leaves_by}
 use Rattle.lk_domain.specs.declared.locks.rw_moves.RwUse.{RwUse}
 use Rattle.lk_domain.specs.declared.locks.rw_moves.RwUse.TheVariants.{Watches, Joins, Quits, Seizes, Awaits, Follows, Leaves}

@@ -3,7 +3,7 @@ use Rattle.std.specs.Prelude.{◌≡◌, ℕ, ◌+◌, ◌<◌, ◌≤◌, List,
 use Rattle.std.specs.Prelude.{slice_index_or, false}
 use Rattle.lk_law.specs.Agree.{halts}
 use Rattle.lk_abs.specs.declared.ledger.Entry.{Entry}
-use Rattle.lk_machine.specs.declared.setup.Verb.{Verb}
+use Rattle.lk_rows.specs.declared.setup.Verb.{Verb}
 use Rattle.lk_domain.specs.Calls.{Calls, no_calls}
 use Rattle.lk_domain.specs.Places.{AllOf}
 use Rattle.lk_abs.specs.Journal.{Replays}

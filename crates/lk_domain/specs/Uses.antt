@@ -1,7 +1,7 @@
 -- Which rows use the word of a spinlock or a wait lock in which way, by a call that goes on.
 use Rattle.std.specs.Prelude.{Bool, true}
-use Rattle.lk_machine.specs.declared.parts.Pc.{Pc}
-use Rattle.lk_machine.specs.declared.setup.Verb.{Verb}
+use Rattle.lk_rows.specs.declared.parts.Pc.{Pc}
+use Rattle.lk_rows.specs.declared.setup.Verb.{Verb}
 use Rattle.lk_domain.specs.Rows.{is_patient, queues_up}
 use Rattle.lk_domain.specs.Rows.{looks_by, takes_by, frees_by, pends_by, clears_by, claims_by, stakes_by}
 use Rattle.lk_domain.specs.declared.locks.moves.WordUse.{WordUse}

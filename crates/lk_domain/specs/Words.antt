@@ -6,11 +6,11 @@ use Rattle.lk_abs.specs.declared.names.LockName.{LockName}
 use Rattle.lk_abs.specs.declared.names.Mode.{Mode}
 pub use Rattle.lk_word.specs.NodeWord.{name_number}
 use Rattle.lk_word.specs.declared.spin_word.NodeName.{NodeName}
-use Rattle.lk_machine.specs.declared.parts.Flag.{Flag}
-use Rattle.lk_machine.specs.declared.parts.Flag.TheVariants.{Unset, Go, Second}
-use Rattle.lk_machine.specs.declared.parts.Node.{Node}
-use Rattle.lk_machine.specs.declared.parts.State.{State}
-use Rattle.lk_machine.specs.declared.parts.State.TheVariants.{Running, Halted, Hashed}
+use Rattle.lk_rows.specs.declared.parts.Flag.{Flag}
+use Rattle.lk_rows.specs.declared.parts.Flag.TheVariants.{Unset, Go, Second}
+use Rattle.lk_rows.specs.declared.parts.Node.{Node}
+use Rattle.lk_rows.specs.declared.parts.State.{State}
+use Rattle.lk_rows.specs.declared.parts.State.TheVariants.{Running, Halted, Hashed}
 use Rattle.lk_law.specs.Agree.{halts}
 use Rattle.lk_law.specs.Cna.{moves_aside}
 use Rattle.lk_domain.specs.Plans.{locks_of, cpus_of, accounts_of}

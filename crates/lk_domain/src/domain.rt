@@ -14,7 +14,7 @@ use crate::slot::Slot;
 use crate::view::View;
 use atomic_table::Table;
 use lk_abs::{Format, Kind, LockName, Mode};
-use lk_machine::Flag;
+use lk_rows::Flag;
 use lk_word::{Layout, MARK, NodeName};
 use std::alloc::Global;
 

@@ -10,9 +10,9 @@ ghost use Rattle.lk_domain.specs.RwPlays.{Shares};
 ghost use Rattle.lk_domain.specs.Stand.{Stand};
 ghost use Rattle.lk_domain.specs.Views.{view, dealer, newcomer, nobody, own_number, joined};
 ghost use Rattle.lk_domain.specs.Views.{with_more};
-ghost use Rattle.lk_machine.specs.declared.setup.Verb.{Verb};
-ghost use Rattle.lk_machine.specs.declared.setup.Verb.TheVariants.{Lock, Try, Unlock, Read, TryRead};
-ghost use Rattle.lk_machine.specs.declared.setup.Verb.TheVariants.{RUnlock, Write, TryWrite, WUnlock};
+ghost use Rattle.lk_rows.specs.declared.setup.Verb.{Verb};
+ghost use Rattle.lk_rows.specs.declared.setup.Verb.TheVariants.{Lock, Try, Unlock, Read, TryRead};
+ghost use Rattle.lk_rows.specs.declared.setup.Verb.TheVariants.{RUnlock, Write, TryWrite, WUnlock};
 
 use crate::plan::Plan;
 use crate::slot::Slot;

@@ -4,8 +4,8 @@ use Rattle.std.proofs.lemmas.Bool.Decides.{nat_tests}
 use Rattle.lk_abs.specs.declared.names.Kind.{Kind}
 use Rattle.lk_abs.specs.declared.names.Mode.{Mode}
 use Rattle.lk_abs.specs.declared.limits.TheConstants.{MAX_SOCKET, MAX_TURNS}
-use Rattle.lk_machine.specs.declared.setup.Op.{Op}
-use Rattle.lk_machine.specs.declared.setup.Setup.{Setup}
+use Rattle.lk_rows.specs.declared.setup.Op.{Op}
+use Rattle.lk_rows.specs.declared.setup.Setup.{Setup}
 use Rattle.lk_text.specs.Numbers.{number_of}
 use Rattle.lk_forms.specs.declared.limits.TheConstants.{MAX_HANDLERS, MAX_LOCKS}
 use Rattle.lk_forms.specs.Operations.{and_then, or_fault, ops_of}

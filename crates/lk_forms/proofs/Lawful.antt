@@ -12,9 +12,9 @@ use Rattle.lk_abs.specs.declared.names.Format.{Format}
 use Rattle.lk_abs.specs.declared.names.Format.TheVariants.{One, Two}
 use Rattle.lk_abs.specs.declared.names.Kind.{Kind}
 use Rattle.lk_abs.specs.declared.limits.TheConstants.{MAX_TURNS}
-use Rattle.lk_machine.specs.Programs.{program_at, handlers_of, IsLawfulProgram, IsLawfulSetup}
-use Rattle.lk_machine.specs.declared.setup.Op.{Op}
-use Rattle.lk_machine.specs.declared.setup.Setup.{Setup}
+use Rattle.lk_rows.specs.Programs.{program_at, handlers_of, IsLawfulProgram, IsLawfulSetup}
+use Rattle.lk_rows.specs.declared.setup.Op.{Op}
+use Rattle.lk_rows.specs.declared.setup.Setup.{Setup}
 use Rattle.lk_forms.specs.declared.limits.TheConstants.{MAX_CPUS, MAX_HANDLERS, MAX_OPS}
 use Rattle.lk_forms.specs.Grammar.{Reading, has_go, reading_of, list_of, default_setup, given_handlers, with_more, cpus_of, most_cpus}
 use Rattle.lk_forms.specs.Agrees.{IsRoomy}

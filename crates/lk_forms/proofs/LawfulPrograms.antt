@@ -13,10 +13,10 @@ use Rattle.lk_abs.specs.declared.holder.Manner.{Manner}
 use Rattle.lk_abs.specs.declared.holder.Manner.TheVariants.{Spins, Reads, Writes}
 use Rattle.lk_abs.specs.declared.names.Kind.{Kind}
 use Rattle.lk_abs.specs.declared.names.Kind.TheVariants.{Spin, Rw}
-use Rattle.lk_machine.specs.Programs.{kind_of, is_try, is_release, way_from, way_at, way_after, way_before, op_way, to_release, IsLawfulProgram}
-use Rattle.lk_machine.specs.declared.setup.Verb.{Verb}
-use Rattle.lk_machine.specs.declared.setup.Verb.TheVariants.{Lock, Try, Unlock, Read, TryRead, RUnlock, Write, TryWrite, WUnlock}
-use Rattle.lk_machine.specs.declared.setup.Op.{Op}
+use Rattle.lk_rows.specs.Programs.{kind_of, is_try, is_release, way_from, way_at, way_after, way_before, op_way, to_release, IsLawfulProgram}
+use Rattle.lk_rows.specs.declared.setup.Verb.{Verb}
+use Rattle.lk_rows.specs.declared.setup.Verb.TheVariants.{Lock, Try, Unlock, Read, TryRead, RUnlock, Write, TryWrite, WUnlock}
+use Rattle.lk_rows.specs.declared.setup.Op.{Op}
 use Rattle.lk_forms.specs.Operations.{way_after_all, same_way, same_kind, same_holds, try_at, is_declared, is_crossed, fault_of_hold, fault_of_op, checked_op, op_of, ops_from, ops_of, and_then, or_fault, verb_of, lock_word}
 use Rattle.lk_forms.specs.declared.answers.Fault.{Fault}
 use Rattle.lk_forms.specs.declared.answers.Fault.TheVariants.{UnknownWord, WrongLock, Reheld, NotHeld, Crossed, StillHeld}

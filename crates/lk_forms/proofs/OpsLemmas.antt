@@ -1,7 +1,7 @@
 -- The operations of a program, read one by one.
 use Rattle.std.proofs.Common.{◌≡◌, ℕ, List, [], ◌∷◌, ◌++◌, Ok, refl}
 use Rattle.lk_abs.specs.declared.names.Kind.{Kind}
-use Rattle.lk_machine.specs.declared.setup.Op.{Op}
+use Rattle.lk_rows.specs.declared.setup.Op.{Op}
 use Rattle.lk_forms.specs.Words.{HasFirst}
 use Rattle.lk_forms.specs.Operations.{op_of, ops_from}
 

@@ -6,7 +6,7 @@ use Rattle.lk_forms.specs.declared.limits.TheConstants.{MAX_ACTS}
 use Rattle.lk_forms.specs.Words.{words, is_text, is_comment}
 use Rattle.lk_abs.specs.declared.events.Act.{Act}
 use Rattle.lk_abs.specs.declared.events.Act.TheVariants as act
-use Rattle.lk_machine.specs.Acts.{processor_of}
+use Rattle.lk_rows.specs.Acts.{processor_of}
 use Rattle.lk_forms.specs.Keywords.{keyword_of, fault_of_place}
 use Rattle.lk_forms.specs.Operations.{and_then}
 use Rattle.lk_forms.specs.Grammar.{Reading, read, read_words, read_ranked, read_known, scheduled, one_word, two_words, number_in, cpu_word, run_of, act_line, step_line, schedule_args, cpus_of, has_go, has_end, last_rank, reading_of}

@@ -5,7 +5,7 @@ use Rattle.std.specs.Str.{bytes_eq}
 use Rattle.lk_abs.specs.declared.names.Waiter.{Waiter}
 use Rattle.lk_abs.specs.declared.events.Event.{Event}
 use Rattle.lk_abs.specs.declared.events.What.{What}
-use Rattle.lk_machine.specs.declared.parts.Counts.{Counts}
+use Rattle.lk_rows.specs.declared.parts.Counts.{Counts}
 use Rattle.lk_forms.specs.Texts.{IsSmall, waiter_text, what_text, event_text, end_text, count_name, count_at, count_text}
 use Rattle.lk_forms.proofs.TextParts.{is_letter, number_same, words_same, space_apart, waiter_same}
 use Rattle.lk_forms.proofs.WhatLemmas.{what_same}

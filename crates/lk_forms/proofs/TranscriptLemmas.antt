@@ -8,8 +8,8 @@ use Rattle.std.specs.List.{flat_map, list_all}
 use Rattle.lk_text.proofs.NumberLemmas.{and_split}
 use Rattle.std.specs.Str.Parse.{AllDigits}
 use Rattle.lk_abs.specs.declared.events.Event.{Event}
-use Rattle.lk_machine.specs.declared.parts.Counts.{Counts}
-use Rattle.lk_machine.specs.Run.{Occurrence}
+use Rattle.lk_rows.specs.declared.parts.Counts.{Counts}
+use Rattle.lk_rows.specs.Run.{Occurrence}
 use Rattle.lk_forms.specs.Texts.{event_text, count_at, count_text, lines, closing}
 use Rattle.lk_forms.specs.TextLaws.{EventsAreTold, EndsAreTold, CountsAreTold, AreSmallCounts, TranscriptsAreTold}
 use Rattle.lk_forms.proofs.TextLemmas.{event_same, end_same, count_same}

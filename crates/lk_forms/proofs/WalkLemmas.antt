@@ -5,8 +5,8 @@ use Rattle.std.proofs.lemmas.Bool.Decides.{nat_tests}
 use Rattle.lk_text.proofs.NumberLemmas.{and_false}
 use Rattle.std.proofs.lemmas.List.{take_more, length-take-le}
 use Rattle.lk_abs.specs.declared.holder.Manner.{Manner}
-use Rattle.lk_machine.specs.Programs.{way_from, way_after, op_way, is_try}
-use Rattle.lk_machine.specs.declared.setup.Op.{Op}
+use Rattle.lk_rows.specs.Programs.{way_from, way_after, op_way, is_try}
+use Rattle.lk_rows.specs.declared.setup.Op.{Op}
 use Rattle.lk_forms.specs.Operations.{way_after_all, same_way, same_holds, try_from, try_at}
 
 way_from-push : (ops : List Op) (o : Op) (lock : ℕ) (way : Option Manner) → way_from (ops ++ o ∷ []) (length (ops ++ o ∷ [])) lock way ≡ op_way o lock (way_from ops (length ops) lock way)

@@ -1,6 +1,6 @@
 -- What calls that read words answer, and what they do to a setup.
 use Rattle.std.specs.Prelude.{◌≡◌, ◌⊎◌, ◌≤◌, Result, Ok, Err, All, length}
-use Rattle.lk_machine.specs.declared.setup.Setup.{Setup}
+use Rattle.lk_rows.specs.declared.setup.Setup.{Setup}
 use Rattle.lk_forms.specs.declared.limits.TheConstants.{MAX_HANDLERS, MAX_LOCKS, MAX_WIDE_CPUS}
 use Rattle.lk_forms.specs.Grammar.{cpus_of}
 use Rattle.lk_forms.specs.declared.answers.LineRefusal.{LineRefusal}

@@ -13,8 +13,8 @@ use Rattle.lk_abs.specs.declared.names.Mode.TheVariants.{Virt, Native, Cna, Pv}
 use Rattle.lk_abs.specs.declared.events.Act.{Act}
 use Rattle.lk_abs.specs.declared.events.Act.TheVariants as act
 use Rattle.lk_abs.specs.declared.limits.TheConstants.{MAX_SOCKET, MAX_TURNS}
-use Rattle.lk_machine.specs.declared.setup.Op.{Op}
-use Rattle.lk_machine.specs.declared.setup.Setup.{Setup}
+use Rattle.lk_rows.specs.declared.setup.Op.{Op}
+use Rattle.lk_rows.specs.declared.setup.Setup.{Setup}
 use Rattle.lk_text.specs.Numbers.{number_of}
 use Rattle.lk_forms.specs.declared.limits.TheConstants.{MAX_ACTS, MAX_CPUS, MAX_HANDLERS, MAX_LOCKS, MAX_OPS, MAX_WIDE_CPUS, USUAL_SPINS}
 use Rattle.lk_forms.specs.Words.{words, is_text, is_comment}

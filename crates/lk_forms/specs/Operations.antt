@@ -6,10 +6,10 @@ use Rattle.lk_abs.specs.History.{same_manner}
 use Rattle.lk_abs.specs.declared.holder.Manner.{Manner}
 use Rattle.lk_abs.specs.declared.names.Kind.{Kind}
 use Rattle.lk_abs.specs.declared.names.Kind.TheVariants.{Spin, Rw}
-use Rattle.lk_machine.specs.Programs.{kind_of, is_try, is_release, way_at, way_before}
-use Rattle.lk_machine.specs.declared.setup.Verb.{Verb}
-use Rattle.lk_machine.specs.declared.setup.Verb.TheVariants.{Lock, Try, Unlock, Read, TryRead, RUnlock, Write, TryWrite, WUnlock}
-use Rattle.lk_machine.specs.declared.setup.Op.{Op}
+use Rattle.lk_rows.specs.Programs.{kind_of, is_try, is_release, way_at, way_before}
+use Rattle.lk_rows.specs.declared.setup.Verb.{Verb}
+use Rattle.lk_rows.specs.declared.setup.Verb.TheVariants.{Lock, Try, Unlock, Read, TryRead, RUnlock, Write, TryWrite, WUnlock}
+use Rattle.lk_rows.specs.declared.setup.Op.{Op}
 use Rattle.lk_text.specs.Numbers.{number_of}
 use Rattle.lk_forms.specs.declared.limits.TheConstants.{MAX_OPS}
 use Rattle.lk_forms.specs.declared.answers.Fault.{Fault}

@@ -5,7 +5,7 @@ use Rattle.lk_forms.specs.declared.limits.TheConstants.{MAX_ACTS}
 use Rattle.lk_forms.specs.Words.{words, is_text, is_comment}
 use Rattle.lk_forms.specs.Keywords.{keyword_of, fault_of_place}
 use Rattle.lk_forms.specs.Operations.{unless}
-use Rattle.lk_machine.specs.Acts.{processor_of}
+use Rattle.lk_rows.specs.Acts.{processor_of}
 use Rattle.lk_forms.specs.Grammar.{Reading, read, scheduled, schedule_args, cpus_of, has_go, has_end}
 use Rattle.lk_forms.specs.declared.answers.Fault.TheVariants.{NotText, UnknownWord}
 use Rattle.lk_forms.specs.declared.answers.LineRefusal.{LineRefusal}

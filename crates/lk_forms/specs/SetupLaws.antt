@@ -1,6 +1,6 @@
 -- What holds of everything that lines say, whatever lines they are.
 use Rattle.std.specs.Prelude.{◌≡◌, ◌≤◌, ℕ, false, List, []}
-use Rattle.lk_machine.specs.Programs.{IsLawfulSetup}
+use Rattle.lk_rows.specs.Programs.{IsLawfulSetup}
 use Rattle.lk_forms.specs.Grammar.{reading_of, has_go, cpus_of, most_cpus}
 
 -- the setup is lawful

@@ -1,8 +1,8 @@
 -- Each text of a transcript determines what it tells.
 use Rattle.std.specs.Prelude.{◌≡◌, ◌<◌, ◌^◌, ℕ, List, [], ◌∷◌, ◌++◌, ⊤}
 use Rattle.lk_abs.specs.declared.events.Event.{Event}
-use Rattle.lk_machine.specs.declared.parts.Counts.{Counts}
-use Rattle.lk_machine.specs.Run.{Occurrence}
+use Rattle.lk_rows.specs.declared.parts.Counts.{Counts}
+use Rattle.lk_rows.specs.Run.{Occurrence}
 use Rattle.lk_forms.specs.Texts.{IsSmall, event_text, end_text, count_at, count_text, lines, closing}
 
 -- the line of an event tells the act's number and the event

@@ -10,8 +10,8 @@ use Rattle.lk_abs.specs.declared.events.RwHow.{RwHow}
 use Rattle.lk_abs.specs.declared.events.RwHow.TheVariants as rw
 use Rattle.lk_abs.specs.declared.events.What.{What}
 use Rattle.lk_abs.specs.declared.events.What.TheVariants.{Take, Miss, Release, Kick, Arrive, Pass, Flush, Promote, Leave, Halt, Wake, Int, Nudge, RTake, RRelease, WTake, WRelease}
-use Rattle.lk_machine.specs.declared.parts.Counts.{Counts}
-use Rattle.lk_machine.specs.Run.{Occurrence}
+use Rattle.lk_rows.specs.declared.parts.Counts.{Counts}
+use Rattle.lk_rows.specs.Run.{Occurrence}
 
 -- how a spinlock was taken
 abbrev pub how_text : How → List ℕ

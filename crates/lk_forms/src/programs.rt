@@ -11,7 +11,7 @@ use crate::limits::MAX_OPS;
 use crate::operations::{fault_of_hold, is_declared, is_nothing_held, verb_of};
 use crate::words::{is_word_end, next_word};
 use lk_abs::{Kind, List};
-use lk_machine::Op;
+use lk_rows::Op;
 use lk_text::read_number;
 use std::alloc::Global;
 

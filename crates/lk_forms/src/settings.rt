@@ -16,7 +16,7 @@ use crate::programs::read_ops;
 use crate::tables::{no_handlers, no_programs, zero_sockets};
 use crate::words::next_word;
 use lk_abs::{Format, Kind, List, MAX_SOCKET, MAX_TURNS, Mode};
-use lk_machine::Setup;
+use lk_rows::Setup;
 use lk_text::read_number;
 use std::alloc::Global;
 

@@ -4,7 +4,7 @@ ghost use Rattle.lk_forms.specs.Grammar.{list_of, no_programs, no_handlers};
 
 use crate::limits::MAX_HANDLERS;
 use lk_abs::{List, Memory};
-use lk_machine::Op;
+use lk_rows::Op;
 use std::alloc::Global;
 
 /// Socket 0 for each of `cpus` processors.

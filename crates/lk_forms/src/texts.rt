@@ -6,7 +6,7 @@ ghost use Rattle.lk_text.specs.Block.{waiting};
 
 use crate::page::Page;
 use lk_abs::{Event, How, LockName, RwHow, Waiter, What};
-use lk_machine::Counts;
+use lk_rows::Counts;
 use lk_text::{Block, LineBuf};
 
 #[inline(always)]

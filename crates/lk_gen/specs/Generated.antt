@@ -5,9 +5,9 @@ use Rattle.lk_abs.specs.declared.events.Act.{Act}
 use Rattle.lk_abs.specs.declared.events.Act.TheVariants as act
 use Rattle.lk_abs.specs.declared.names.Kind.TheVariants.{Spin}
 use Rattle.lk_abs.specs.declared.names.Mode.TheVariants.{Cna}
-use Rattle.lk_machine.specs.declared.setup.Verb.TheVariants.{Lock, Unlock}
-use Rattle.lk_machine.specs.declared.setup.Op.{Op}
-use Rattle.lk_machine.specs.declared.setup.Setup.{Setup}
+use Rattle.lk_rows.specs.declared.setup.Verb.TheVariants.{Lock, Unlock}
+use Rattle.lk_rows.specs.declared.setup.Op.{Op}
+use Rattle.lk_rows.specs.declared.setup.Setup.{Setup}
 use Rattle.lk_forms.specs.Grammar.{with_program, no_programs, no_handlers, list_of}
 use Rattle.lk_gen.specs.Spaced.{text_of}
 

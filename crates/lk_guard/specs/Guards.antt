@@ -4,8 +4,8 @@ use Rattle.lk_abs.specs.declared.holder.Manner.{Manner}
 use Rattle.lk_abs.specs.declared.holder.Manner.TheVariants.{Spins, Reads, Writes}
 use Rattle.lk_abs.specs.declared.names.Kind.{Kind}
 use Rattle.lk_abs.specs.declared.names.Kind.TheVariants.{Spin, Rw}
-use Rattle.lk_machine.specs.declared.setup.Verb.{Verb}
-use Rattle.lk_machine.specs.declared.setup.Verb.TheVariants.{Lock, Read, Write}
+use Rattle.lk_rows.specs.declared.setup.Verb.{Verb}
+use Rattle.lk_rows.specs.declared.setup.Verb.TheVariants.{Lock, Read, Write}
 use Rattle.lk_law.specs.Agree.{halts}
 use Rattle.lk_domain.specs.Calls.{Terms, Takes, begun, terms_of}
 use Rattle.lk_domain.specs.Ledgers.{Look}

@@ -3,7 +3,7 @@ ghost use Rattle.std.specs.Prelude.{◌≡◌, ◌<◌, ◌≤◌, ◌+◌, ◌^
 ghost use Rattle.lk_abs.specs.Jobs.{IsAmong};
 ghost use Rattle.lk_abs.specs.Journal.{is_write};
 ghost use Rattle.lk_abs.specs.declared.holder.Manner.TheVariants.{Spins};
-ghost use Rattle.lk_machine.specs.declared.setup.Verb.TheVariants.{Lock};
+ghost use Rattle.lk_rows.specs.declared.setup.Verb.TheVariants.{Lock};
 ghost use Rattle.lk_domain.specs.Ledgers.{closed};
 ghost use Rattle.lk_domain.specs.Plans.{accounts_of, locks_of};
 ghost use Rattle.lk_guard.specs.Deeds.{HasDone, Worked, writes_in, reads_in};

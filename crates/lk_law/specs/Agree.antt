@@ -15,7 +15,7 @@ use Rattle.lk_law.specs.Pv.Post.{Off, Kicks}
 use Rattle.lk_abs.specs.declared.names.Mode.{Mode}
 use Rattle.lk_abs.specs.declared.names.Mode.TheVariants.{Pv}
 use Rattle.lk_word.specs.declared.spin_word.NodeName.{NodeName}
-use Rattle.lk_machine.specs.declared.parts.State.{State}
+use Rattle.lk_rows.specs.declared.parts.State.{State}
 use Rattle.lk_law.specs.Cna.{ListsAgree, moves_aside}
 use Rattle.lk_law.specs.Snapshot.{Snapshot, Moves, HolderAgrees, PendingAgrees, NodesAgree, spins}
 

@@ -8,9 +8,9 @@ use Rattle.lk_abs.specs.declared.names.Mode.{Mode}
 use Rattle.lk_abs.specs.declared.names.Mode.TheVariants.{Cna}
 use Rattle.lk_abs.specs.declared.names.Waiter.{Waiter}
 use Rattle.lk_word.specs.declared.spin_word.NodeName.{NodeName}
-use Rattle.lk_machine.specs.declared.parts.Flag.{Flag}
-use Rattle.lk_machine.specs.declared.parts.Flag.TheVariants.{Unset, Go, Second}
-use Rattle.lk_machine.specs.declared.parts.Node.{Node}
+use Rattle.lk_rows.specs.declared.parts.Flag.{Flag}
+use Rattle.lk_rows.specs.declared.parts.Flag.TheVariants.{Unset, Go, Second}
+use Rattle.lk_rows.specs.declared.parts.Node.{Node}
 use Rattle.lk_law.specs.Phase.{Phase}
 use Rattle.lk_law.specs.Phase.Phase.{Waits, Aside, Holds}
 use Rattle.lk_law.specs.Stage.{Stage, cut_of, tip_of, passed_over, parted, chosen, told_runs, tied}

@@ -1,11 +1,11 @@
 -- Lists of rows that the laws need, said by the family of each row.
 use Rattle.std.specs.Prelude.{◌&&◌, ◌||◌, not, Option, Some, None, Bool, true, false}
-use Rattle.lk_machine.specs.declared.family.Family.{Family}
-use Rattle.lk_machine.specs.declared.family.Family.TheVariants.{Spin, Queue, Cna, Pv, Rw}
-use Rattle.lk_machine.specs.Family.{family_of}
-use Rattle.lk_machine.specs.declared.parts.Pc.{Pc}
-use Rattle.lk_machine.specs.declared.parts.Pc.TheVariants.{F1, T1, T2, U1, P0, P1, P2, P3, P4, G1}
-use Rattle.lk_machine.specs.declared.parts.Pc.TheVariants.{G4, G5, U2, U3, U4, U5, Z1, Z2}
+use Rattle.lk_rows.specs.declared.family.Family.{Family}
+use Rattle.lk_rows.specs.declared.family.Family.TheVariants.{Spin, Queue, Cna, Pv, Rw}
+use Rattle.lk_rows.specs.Family.{family_of}
+use Rattle.lk_rows.specs.declared.parts.Pc.{Pc}
+use Rattle.lk_rows.specs.declared.parts.Pc.TheVariants.{F1, T1, T2, U1, P0, P1, P2, P3, P4, G1}
+use Rattle.lk_rows.specs.declared.parts.Pc.TheVariants.{G4, G5, U2, U3, U4, U5, Z1, Z2}
 
 -- the family of the queue, of the choice, of the paravirtual lock, of readers and writers
 

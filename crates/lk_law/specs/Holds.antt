@@ -8,7 +8,7 @@ use Rattle.lk_abs.specs.declared.holder.Manner.TheVariants.{Spins}
 use Rattle.lk_abs.specs.declared.names.Kind.TheVariants.{Spin, Rw}
 use Rattle.lk_abs.specs.declared.names.Waiter.{Waiter}
 use Rattle.lk_abs.specs.declared.names.LockName.{LockName}
-use Rattle.lk_machine.specs.Moves.{rw_name}
+use Rattle.lk_rows.specs.Moves.{rw_name}
 use Rattle.lk_law.specs.Agree.{sole}
 use Rattle.lk_law.specs.Phase.Phase.{Idle}
 use Rattle.lk_law.specs.Places.{phase_on}

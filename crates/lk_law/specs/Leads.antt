@@ -10,23 +10,23 @@ use Rattle.lk_abs.specs.declared.names.LockName.{LockName}
 use Rattle.lk_word.specs.declared.spin_word.NodeName.{NodeName}
 use Rattle.lk_word.specs.declared.spin_word.Fields.{Fields}
 use Rattle.lk_word.specs.declared.rw_word.RwFields.{RwFields}
-use Rattle.lk_machine.specs.declared.parts.Flag.{Flag}
-use Rattle.lk_machine.specs.declared.parts.State.{State}
-use Rattle.lk_machine.specs.declared.parts.Frame.{Frame}
-use Rattle.lk_machine.specs.declared.parts.Pc.{Pc}
-use Rattle.lk_machine.specs.declared.parts.Pc.TheVariants.{G1}
-use Rattle.lk_machine.specs.Moves.{rw_name}
-use Rattle.lk_machine.specs.Row.{Lead, Goes, Enters, Tell, Nothing, Effect}
-use Rattle.lk_machine.specs.rows.Spin.{spin_row}
-use Rattle.lk_machine.specs.rows.Queue.{queue_row, entry_row, flag_row, next_row}
-use Rattle.lk_machine.specs.rows.Cna.{Sight, search_row, second_row, runs_row, handover_row}
-use Rattle.lk_machine.specs.rows.Cna.{promotion_row}
-use Rattle.lk_machine.specs.rows.Pv.{pv_row, pv_flag_row, pv_next_row, state_row, hash_row}
-use Rattle.lk_machine.specs.rows.Pv.{halt_row, kick_row}
-use Rattle.lk_machine.specs.rows.Rw.{rw_row}
-use Rattle.lk_machine.specs.TopRow.{Target, SpinWord, QueueWord, Queued, FlagOf, NextOf, ChoiceWord}
-use Rattle.lk_machine.specs.TopRow.{ChoiceFlag, ChoiceNext, SecondTailOf, RunsOf, PvWord, PvFlag}
-use Rattle.lk_machine.specs.TopRow.{PvNext, StateOf, HashEntry, Halted, KickOf, RwWord, target}
+use Rattle.lk_rows.specs.declared.parts.Flag.{Flag}
+use Rattle.lk_rows.specs.declared.parts.State.{State}
+use Rattle.lk_rows.specs.declared.parts.Frame.{Frame}
+use Rattle.lk_rows.specs.declared.parts.Pc.{Pc}
+use Rattle.lk_rows.specs.declared.parts.Pc.TheVariants.{G1}
+use Rattle.lk_rows.specs.Moves.{rw_name}
+use Rattle.lk_rows.specs.Row.{Lead, Goes, Enters, Tell, Nothing, Effect}
+use Rattle.lk_rows.specs.rows.Spin.{spin_row}
+use Rattle.lk_rows.specs.rows.Queue.{queue_row, entry_row, flag_row, next_row}
+use Rattle.lk_rows.specs.rows.Cna.{Sight, search_row, second_row, runs_row, handover_row}
+use Rattle.lk_rows.specs.rows.Cna.{promotion_row}
+use Rattle.lk_rows.specs.rows.Pv.{pv_row, pv_flag_row, pv_next_row, state_row, hash_row}
+use Rattle.lk_rows.specs.rows.Pv.{halt_row, kick_row}
+use Rattle.lk_rows.specs.rows.Rw.{rw_row}
+use Rattle.lk_rows.specs.TopRow.{Target, SpinWord, QueueWord, Queued, FlagOf, NextOf, ChoiceWord}
+use Rattle.lk_rows.specs.TopRow.{ChoiceFlag, ChoiceNext, SecondTailOf, RunsOf, PvWord, PvFlag}
+use Rattle.lk_rows.specs.TopRow.{PvNext, StateOf, HashEntry, Halted, KickOf, RwWord, target}
 use Rattle.lk_law.specs.Families.{may_halt, is_rw_row, is_ending_row}
 use Rattle.lk_law.specs.Premises.{IsThen}
 use Rattle.lk_law.specs.World.{World}

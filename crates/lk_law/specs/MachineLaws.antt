@@ -3,13 +3,13 @@ use Rattle.std.specs.Prelude.{◌<◌, ℕ, List, [], ◌∷◌, length}
 use Rattle.lk_abs.specs.Lawful.{IsLawful}
 use Rattle.lk_abs.specs.declared.events.Act.{Act}
 use Rattle.lk_abs.specs.declared.events.Event.{Event}
-use Rattle.lk_machine.specs.declared.setup.Setup.{Setup}
-use Rattle.lk_machine.specs.Machine.{Machine}
-use Rattle.lk_machine.specs.Programs.{IsLawfulSetup}
-use Rattle.lk_machine.specs.Acts.{next, processor_of}
-use Rattle.lk_machine.specs.Run.{at_rest, history, machine_after, events_of}
+use Rattle.lk_rows.specs.declared.setup.Setup.{Setup}
+use Rattle.lk_rows.specs.Machine.{Machine}
+use Rattle.lk_rows.specs.Programs.{IsLawfulSetup}
+use Rattle.lk_rows.specs.Acts.{next, processor_of}
+use Rattle.lk_rows.specs.Run.{at_rest, history, machine_after, events_of}
 use Rattle.lk_law.specs.Sound.{Shows, world}
-use Rattle.lk_machine.specs.Rules.{rules_of}
+use Rattle.lk_rows.specs.Rules.{rules_of}
 use Rattle.lk_law.specs.Kicked.{ShowsKicks, with_event}
 
 -- the machine shows the history, in its locks and in its halts and kicks, and the history is lawful

@@ -2,8 +2,8 @@
 -- places of all rows.
 use Rattle.std.specs.Prelude.{Bool, true, false}
 use Rattle.lk_word.specs.declared.spin_word.NodeName.{NodeName}
-use Rattle.lk_machine.specs.declared.parts.Flag.{Flag}
-use Rattle.lk_machine.specs.declared.parts.Flag.TheVariants.{Go, Second}
+use Rattle.lk_rows.specs.declared.parts.Flag.{Flag}
+use Rattle.lk_rows.specs.declared.parts.Flag.TheVariants.{Go, Second}
 
 -- what a waiter does for one lock, as far as the laws read it
 pub data Phase : Type 0 where

@@ -4,12 +4,12 @@ use Rattle.std.specs.Prelude.{◌≡◌, ◌⊎◌, ◌<◌, ◌≤◌, ℕ, Opt
 use Rattle.lk_abs.specs.Lawful.{Rules}
 use Rattle.lk_abs.specs.declared.names.Waiter.{Waiter}
 use Rattle.lk_word.specs.declared.spin_word.NodeName.{NodeName}
-use Rattle.lk_machine.specs.declared.parts.Frame.{Frame}
-use Rattle.lk_machine.specs.declared.parts.Pc.{Pc}
-use Rattle.lk_machine.specs.declared.parts.Pc.TheVariants.{R4, Wr2}
-use Rattle.lk_machine.specs.Moves.{is_node}
-use Rattle.lk_machine.specs.Row.{Tell, Passes}
-use Rattle.lk_machine.specs.Acts.{after_halt}
+use Rattle.lk_rows.specs.declared.parts.Frame.{Frame}
+use Rattle.lk_rows.specs.declared.parts.Pc.{Pc}
+use Rattle.lk_rows.specs.declared.parts.Pc.TheVariants.{R4, Wr2}
+use Rattle.lk_rows.specs.Moves.{is_node}
+use Rattle.lk_rows.specs.Row.{Tell, Passes}
+use Rattle.lk_rows.specs.Acts.{after_halt}
 use Rattle.lk_law.specs.Pv.{at_halt}
 use Rattle.lk_law.specs.Agree.{halts}
 use Rattle.lk_law.specs.World.{World}

@@ -3,20 +3,20 @@ use Rattle.std.specs.Prelude.{◌≡◌, ◌≢◌, ◌&&◌, not, Option, Some,
 use Rattle.std.specs.Prelude.{is_some, ◌<◌}
 use Rattle.lk_abs.specs.declared.names.Mode.{Mode}
 use Rattle.lk_word.specs.declared.spin_word.NodeName.{NodeName}
-use Rattle.lk_machine.specs.declared.parts.Frame.{Frame}
-use Rattle.lk_machine.specs.declared.parts.Pc.{Pc}
-use Rattle.lk_machine.specs.declared.parts.Pc.TheVariants.{G2, G3, G4, G5, G6, G8, G10, G11, C2, C3}
-use Rattle.lk_machine.specs.declared.parts.Pc.TheVariants.{C4, C5, C6, C9, C10, H1, H2, W1, W2, W3}
-use Rattle.lk_machine.specs.declared.parts.Pc.TheVariants.{W4, W5, W6, W7, E4, E10, E11, E12, E15}
-use Rattle.lk_machine.specs.declared.parts.Pc.TheVariants.{K1, K2, K3}
-use Rattle.lk_machine.specs.declared.parts.Why.{Why}
+use Rattle.lk_rows.specs.declared.parts.Frame.{Frame}
+use Rattle.lk_rows.specs.declared.parts.Pc.{Pc}
+use Rattle.lk_rows.specs.declared.parts.Pc.TheVariants.{G2, G3, G4, G5, G6, G8, G10, G11, C2, C3}
+use Rattle.lk_rows.specs.declared.parts.Pc.TheVariants.{C4, C5, C6, C9, C10, H1, H2, W1, W2, W3}
+use Rattle.lk_rows.specs.declared.parts.Pc.TheVariants.{W4, W5, W6, W7, E4, E10, E11, E12, E15}
+use Rattle.lk_rows.specs.declared.parts.Pc.TheVariants.{K1, K2, K3}
+use Rattle.lk_rows.specs.declared.parts.Why.{Why}
 use Rattle.lk_law.specs.Phase.{has_node}
 use Rattle.lk_law.specs.Phase.Phase.{Idle}
 use Rattle.lk_law.specs.Cna.{moves_aside}
 use Rattle.lk_law.specs.Agree.{halts}
 use Rattle.lk_law.specs.Families.{is_slow, chooses, may_halt, stays_awake}
 use Rattle.lk_law.specs.Places.{phase_if, phase_of}
-use Rattle.lk_machine.specs.declared.parts.Why.TheVariants as why
+use Rattle.lk_rows.specs.declared.parts.Why.TheVariants as why
 
 -- the row hands off to the next as it stands
 abbrev pub hands_plainly : Pc → Bool

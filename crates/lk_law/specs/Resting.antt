@@ -4,7 +4,7 @@ use Rattle.lk_abs.specs.History.{LockHistory, no_history}
 use Rattle.lk_abs.specs.declared.names.Format.{Format}
 use Rattle.lk_abs.specs.declared.names.Kind.{Kind}
 use Rattle.lk_abs.specs.declared.names.Mode.{Mode}
-use Rattle.lk_machine.specs.Machine.{rest_node, rest_word, rest_lock}
+use Rattle.lk_rows.specs.Machine.{rest_node, rest_word, rest_lock}
 use Rattle.lk_law.specs.SoundWorld.{IsSoundWorld}
 use Rattle.lk_law.specs.World.{World}
 

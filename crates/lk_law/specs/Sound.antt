@@ -12,20 +12,20 @@ use Rattle.lk_abs.specs.declared.names.Waiter.{Waiter}
 use Rattle.lk_abs.specs.declared.names.LockName.{LockName}
 use Rattle.lk_abs.specs.declared.events.Event.{Event}
 use Rattle.lk_word.specs.declared.spin_word.NodeName.{NodeName}
-use Rattle.lk_machine.specs.declared.setup.Op.{Op}
-use Rattle.lk_machine.specs.declared.setup.Verb.{Verb}
-use Rattle.lk_machine.specs.declared.setup.Verb.TheVariants.{Lock, Try, Unlock, Read, TryRead}
-use Rattle.lk_machine.specs.declared.setup.Verb.TheVariants.{RUnlock, Write, TryWrite, WUnlock}
-use Rattle.lk_machine.specs.declared.parts.Frame.{Frame}
-use Rattle.lk_machine.specs.declared.parts.Pc.{Pc}
-use Rattle.lk_machine.specs.declared.parts.Pc.TheVariants.{F1, T1, T2, U1, V1, V2, U2, U3, U4, U5}
-use Rattle.lk_machine.specs.declared.parts.Pc.TheVariants.{R1, R2, R3, R4, R5, Wr1, Wr2, Wr3, Wr4}
-use Rattle.lk_machine.specs.declared.parts.Pc.TheVariants.{Wr5, Wr6, Y1, Y2, Y3, Y4, Y5, Z1, Z2}
-use Rattle.lk_machine.specs.Machine.{Machine, cpu_at, word_at, node_at, frame_at, queued_at}
-use Rattle.lk_machine.specs.Machine.{entry_at, kicked_at, halted_at, handlers_at, HasTop, HasNode}
-use Rattle.lk_machine.specs.Machine.{rw_at, entry_in}
-use Rattle.lk_machine.specs.Programs.{IsLawfulSetup, way_at, handlers_of}
-use Rattle.lk_machine.specs.Moves.{program_of}
+use Rattle.lk_rows.specs.declared.setup.Op.{Op}
+use Rattle.lk_rows.specs.declared.setup.Verb.{Verb}
+use Rattle.lk_rows.specs.declared.setup.Verb.TheVariants.{Lock, Try, Unlock, Read, TryRead}
+use Rattle.lk_rows.specs.declared.setup.Verb.TheVariants.{RUnlock, Write, TryWrite, WUnlock}
+use Rattle.lk_rows.specs.declared.parts.Frame.{Frame}
+use Rattle.lk_rows.specs.declared.parts.Pc.{Pc}
+use Rattle.lk_rows.specs.declared.parts.Pc.TheVariants.{F1, T1, T2, U1, V1, V2, U2, U3, U4, U5}
+use Rattle.lk_rows.specs.declared.parts.Pc.TheVariants.{R1, R2, R3, R4, R5, Wr1, Wr2, Wr3, Wr4}
+use Rattle.lk_rows.specs.declared.parts.Pc.TheVariants.{Wr5, Wr6, Y1, Y2, Y3, Y4, Y5, Z1, Z2}
+use Rattle.lk_rows.specs.Machine.{Machine, cpu_at, word_at, node_at, frame_at, queued_at}
+use Rattle.lk_rows.specs.Machine.{entry_at, kicked_at, halted_at, handlers_at, HasTop, HasNode}
+use Rattle.lk_rows.specs.Machine.{rw_at, entry_in}
+use Rattle.lk_rows.specs.Programs.{IsLawfulSetup, way_at, handlers_of}
+use Rattle.lk_rows.specs.Moves.{program_of}
 use Rattle.lk_law.specs.World.{World}
 use Rattle.lk_law.specs.Families.{chooses, is_rw_row, is_release_row, is_queued_row, is_halting_row}
 use Rattle.lk_law.specs.Registers.{hands_plainly}

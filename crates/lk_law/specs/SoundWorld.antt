@@ -8,12 +8,12 @@ use Rattle.lk_abs.specs.declared.names.Kind.{Kind}
 use Rattle.lk_abs.specs.declared.names.Kind.TheVariants.{Spin, Rw}
 use Rattle.lk_abs.specs.declared.names.Waiter.{Waiter}
 use Rattle.lk_abs.specs.declared.names.LockName.{LockName}
-use Rattle.lk_machine.specs.declared.parts.Frame.{Frame}
-use Rattle.lk_machine.specs.declared.parts.Pc.{Pc}
-use Rattle.lk_machine.specs.declared.parts.Pc.TheVariants.{U1, U2, U3, U4, U5, R1, R2, R3, R4, R5}
-use Rattle.lk_machine.specs.declared.parts.Pc.TheVariants.{Wr1, Wr2, Wr3, Wr4, Wr5, Wr6, Y1, Y2, Y3}
-use Rattle.lk_machine.specs.declared.parts.Pc.TheVariants.{Y4, Y5, Z1, Z2}
-use Rattle.lk_machine.specs.Moves.{rw_name, wait_name}
+use Rattle.lk_rows.specs.declared.parts.Frame.{Frame}
+use Rattle.lk_rows.specs.declared.parts.Pc.{Pc}
+use Rattle.lk_rows.specs.declared.parts.Pc.TheVariants.{U1, U2, U3, U4, U5, R1, R2, R3, R4, R5}
+use Rattle.lk_rows.specs.declared.parts.Pc.TheVariants.{Wr1, Wr2, Wr3, Wr4, Wr5, Wr6, Y1, Y2, Y3}
+use Rattle.lk_rows.specs.declared.parts.Pc.TheVariants.{Y4, Y5, Z1, Z2}
+use Rattle.lk_rows.specs.Moves.{rw_name, wait_name}
 use Rattle.lk_law.specs.Snapshot.{spins}
 use Rattle.lk_law.specs.RwPhase.{RwPhase, is_inner}
 use Rattle.lk_law.specs.RwPhase.RwPhase.{Away, Asks, Biases, Inside, Joins, Announces, Frees}

@@ -5,8 +5,8 @@ use Rattle.lk_abs.specs.declared.names.Waiter.{Waiter}
 use Rattle.lk_abs.specs.declared.names.LockName.{LockName}
 use Rattle.lk_word.specs.declared.spin_word.NodeName.{NodeName}
 use Rattle.lk_word.specs.declared.spin_word.Locked.TheVariants.{Slow}
-use Rattle.lk_machine.specs.declared.parts.Flag.TheVariants.{Second}
-use Rattle.lk_machine.specs.declared.parts.Frame.{Frame}
+use Rattle.lk_rows.specs.declared.parts.Flag.TheVariants.{Second}
+use Rattle.lk_rows.specs.declared.parts.Frame.{Frame}
 use Rattle.lk_law.specs.Pv.{at_halt}
 use Rattle.lk_law.specs.Cna.{moves_aside}
 use Rattle.lk_law.specs.Agree.{SnapshotAgrees, halts}

@@ -14,25 +14,25 @@ use Rattle.lk_abs.specs.declared.events.What.TheVariants.{Pass, RTake, RRelease,
 use Rattle.lk_word.specs.declared.spin_word.NodeName.{NodeName}
 use Rattle.lk_word.specs.declared.spin_word.Fields.{Fields}
 use Rattle.lk_word.specs.declared.rw_word.RwFields.{RwFields}
-use Rattle.lk_machine.specs.declared.parts.Flag.{Flag}
-use Rattle.lk_machine.specs.declared.parts.State.{State}
-use Rattle.lk_machine.specs.declared.parts.Node.{Node}
-use Rattle.lk_machine.specs.declared.parts.Frame.{Frame}
-use Rattle.lk_machine.specs.declared.parts.Pc.{Pc}
-use Rattle.lk_machine.specs.Machine.{rest_node}
-use Rattle.lk_machine.specs.Moves.{is_node, node_of, rw_name, waiting}
-use Rattle.lk_machine.specs.Row.{Lead, Goes, Enters, Granted, Freed, Missed, Leaves, Yields, Tell}
-use Rattle.lk_machine.specs.Row.{Nothing, Says, Passes, gone, entered, Effect, Done, TakesWait}
-use Rattle.lk_machine.specs.rows.Spin.{spin_row}
-use Rattle.lk_machine.specs.rows.Queue.{queue_row, entry_row, flag_row, next_row}
-use Rattle.lk_machine.specs.rows.Cna.{Sight, search_row, second_row, runs_row}
-use Rattle.lk_machine.specs.rows.Cna.{handover_row, promotion_row}
-use Rattle.lk_machine.specs.TopRow.{Target, SpinWord, QueueWord, Queued, FlagOf, NextOf, ChoiceWord}
-use Rattle.lk_machine.specs.TopRow.{ChoiceFlag, ChoiceNext, SecondTailOf, RunsOf, PvWord, PvFlag}
-use Rattle.lk_machine.specs.TopRow.{PvNext, StateOf, HashEntry, Halted, KickOf, target, RwWord}
-use Rattle.lk_machine.specs.rows.Pv.{pv_row, pv_flag_row, pv_next_row, state_row, hash_row}
-use Rattle.lk_machine.specs.rows.Pv.{halt_row, kick_row}
-use Rattle.lk_machine.specs.rows.Rw.{rw_row}
+use Rattle.lk_rows.specs.declared.parts.Flag.{Flag}
+use Rattle.lk_rows.specs.declared.parts.State.{State}
+use Rattle.lk_rows.specs.declared.parts.Node.{Node}
+use Rattle.lk_rows.specs.declared.parts.Frame.{Frame}
+use Rattle.lk_rows.specs.declared.parts.Pc.{Pc}
+use Rattle.lk_rows.specs.Machine.{rest_node}
+use Rattle.lk_rows.specs.Moves.{is_node, node_of, rw_name, waiting}
+use Rattle.lk_rows.specs.Row.{Lead, Goes, Enters, Granted, Freed, Missed, Leaves, Yields, Tell}
+use Rattle.lk_rows.specs.Row.{Nothing, Says, Passes, gone, entered, Effect, Done, TakesWait}
+use Rattle.lk_rows.specs.rows.Spin.{spin_row}
+use Rattle.lk_rows.specs.rows.Queue.{queue_row, entry_row, flag_row, next_row}
+use Rattle.lk_rows.specs.rows.Cna.{Sight, search_row, second_row, runs_row}
+use Rattle.lk_rows.specs.rows.Cna.{handover_row, promotion_row}
+use Rattle.lk_rows.specs.TopRow.{Target, SpinWord, QueueWord, Queued, FlagOf, NextOf, ChoiceWord}
+use Rattle.lk_rows.specs.TopRow.{ChoiceFlag, ChoiceNext, SecondTailOf, RunsOf, PvWord, PvFlag}
+use Rattle.lk_rows.specs.TopRow.{PvNext, StateOf, HashEntry, Halted, KickOf, target, RwWord}
+use Rattle.lk_rows.specs.rows.Pv.{pv_row, pv_flag_row, pv_next_row, state_row, hash_row}
+use Rattle.lk_rows.specs.rows.Pv.{halt_row, kick_row}
+use Rattle.lk_rows.specs.rows.Rw.{rw_row}
 use Rattle.lk_law.specs.Pv.Post.{Spins}
 use Rattle.lk_law.specs.Snapshot.{same_node}
 use Rattle.lk_law.specs.World.{World}

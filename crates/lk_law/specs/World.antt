@@ -11,8 +11,8 @@ use Rattle.lk_abs.specs.declared.names.LockName.{LockName}
 use Rattle.lk_word.specs.declared.spin_word.NodeName.{NodeName}
 use Rattle.lk_word.specs.declared.spin_word.Fields.{Fields}
 use Rattle.lk_word.specs.declared.rw_word.RwFields.{RwFields}
-use Rattle.lk_machine.specs.declared.parts.Node.{Node}
-use Rattle.lk_machine.specs.declared.parts.Frame.{Frame}
+use Rattle.lk_rows.specs.declared.parts.Node.{Node}
+use Rattle.lk_rows.specs.declared.parts.Frame.{Frame}
 
 -- all that a machine has, as functions of names
 pub record World : Type 0 where

@@ -1,11 +1,11 @@
 // The laws of the rows. The functions do nothing: their contracts are the laws.
 
-ghost use Rattle.lk_machine.specs.declared.parts.Pc.{Pc};
-ghost use Rattle.lk_machine.specs.declared.parts.Pc.TheVariants.{F1, T1, T2, U1, V1, V2, P0, P1};
-ghost use Rattle.lk_machine.specs.declared.parts.Pc.TheVariants.{P2, P3, P4, G1, G2, G3, G4, G5};
-ghost use Rattle.lk_machine.specs.declared.parts.Pc.TheVariants.{G6, G7, G8, G9, G10, G11, N1, N2};
-ghost use Rattle.lk_machine.specs.declared.parts.Pc.TheVariants.{C1, C2, C3, C4, C5, C6, C7, C8};
-ghost use Rattle.lk_machine.specs.declared.parts.Pc.TheVariants.{C9, C10, R1, R5, Wr1, Wr6, Z1, Z2};
+ghost use Rattle.lk_rows.specs.declared.parts.Pc.{Pc};
+ghost use Rattle.lk_rows.specs.declared.parts.Pc.TheVariants.{F1, T1, T2, U1, V1, V2, P0, P1};
+ghost use Rattle.lk_rows.specs.declared.parts.Pc.TheVariants.{P2, P3, P4, G1, G2, G3, G4, G5};
+ghost use Rattle.lk_rows.specs.declared.parts.Pc.TheVariants.{G6, G7, G8, G9, G10, G11, N1, N2};
+ghost use Rattle.lk_rows.specs.declared.parts.Pc.TheVariants.{C1, C2, C3, C4, C5, C6, C7, C8};
+ghost use Rattle.lk_rows.specs.declared.parts.Pc.TheVariants.{C9, C10, R1, R5, Wr1, Wr6, Z1, Z2};
 ghost use Rattle.lk_law.specs.Known.{RowKnows, TailIsUsed, NextIsUsed, NodeIsOnes, ChoiceIsUsed};
 ghost use Rattle.lk_law.specs.Known.{PassesAreBounded, RunIsShort, SkippedIsQueued, AsideAreTasks};
 ghost use Rattle.lk_law.specs.Known.{QueueIsDistinct, HaltingNextIsUsed, NamedFrontIsUsed};

@@ -5,8 +5,8 @@ use Rattle.std.specs.Prelude.{if◌then◌else◌}
 use Rattle.lk_abs.specs.declared.holder.Manner.{Manner}
 use Rattle.lk_abs.specs.declared.holder.Manner.TheVariants.{Spins, Writes}
 use Rattle.lk_abs.specs.declared.names.LockName.{LockName}
-use Rattle.lk_machine.specs.declared.setup.Verb.{Verb}
-use Rattle.lk_machine.specs.declared.setup.Verb.TheVariants.{TryWrite}
+use Rattle.lk_rows.specs.declared.setup.Verb.{Verb}
+use Rattle.lk_rows.specs.declared.setup.Verb.TheVariants.{TryWrite}
 use Rattle.lk_domain.specs.Calls.{Terms, Mark, Running, Hold, hold, Calls, Frees, holds_in, hold_in, way_in, lock_name, moved_to, free_of}
 use Rattle.lk_domain.specs.Ledgers.{Ledger, turned, closed, is_first}
 use Rattle.lk_domain.specs.Paths.{HasLooked, HasFreed, HasTaken}
@@ -20,8 +20,8 @@ use Rattle.lk_domain.specs.declared.domain.Domain.{Domain}
 use Rattle.lk_domain.specs.declared.plan.Plan.{Plan}
 use Rattle.lk_domain.specs.declared.view.View.{View}
 use Rattle.lk_run.specs.Entering.{HasLeft}
-use Rattle.lk_machine.specs.declared.parts.Pc.{Pc}
-use Rattle.lk_machine.specs.declared.parts.Pc.TheVariants.{Z2}
+use Rattle.lk_rows.specs.declared.parts.Pc.{Pc}
+use Rattle.lk_rows.specs.declared.parts.Pc.TheVariants.{Z2}
 use Rattle.lk_lock.specs.Standing.{HasBeenIn, HasComeIn, HasTurned, HasWrittenOnce, IsAsBefore, IsHolding, IsInside, IsInsideAt, IsReady, holds_of}
 use Rattle.lk_abs.specs.Names.{same_lock}
 use Rattle.lk_law.proofs.common.Puts.{if-true}

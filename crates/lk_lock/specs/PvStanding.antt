@@ -2,7 +2,7 @@
 use Rattle.std.specs.Prelude.{◌≡◌, ◌<◌, ℕ, false, None, List, ◌∷◌, length, slice_index_or}
 use Rattle.lk_abs.specs.declared.holder.Manner.TheVariants.{Spins}
 use Rattle.lk_domain.specs.Calls.{Hold, hold, holds_in, lock_name}
-use Rattle.lk_machine.specs.declared.setup.Verb.{Verb}
+use Rattle.lk_rows.specs.declared.setup.Verb.{Verb}
 use Rattle.lk_pvdomain.specs.PvCalls.{HasFreed, HasTakenBy, IsResting}
 use Rattle.lk_pvdomain.specs.PvSeats.{IsOf, IsSame, IsStill, Rests, calls_of, ledger_of}
 use Rattle.lk_pvdomain.specs.declared.cpu.PvCpu.{PvCpu}

@@ -10,7 +10,7 @@ ghost use Rattle.lk_domain.specs.Seats.{calls_of};
 ghost use Rattle.lk_domain.specs.declared.cpu.Cpu.{Cpu};
 ghost use Rattle.lk_lock.specs.Standing.{IsAsBefore, IsHolding, IsInside, IsLock, IsReady, IsUnder};
 ghost use Rattle.lk_lock.specs.Standing.{holds_of};
-ghost use Rattle.lk_machine.specs.declared.setup.Verb.TheVariants.{Try};
+ghost use Rattle.lk_rows.specs.declared.setup.Verb.TheVariants.{Try};
 
 use lk_cell::Key;
 use lk_domain::{Cpu, Domain, LockId, bring_home, take_out};

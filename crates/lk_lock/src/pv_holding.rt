@@ -8,7 +8,7 @@ ghost use Rattle.lk_domain.specs.Calls.{holds_in};
 ghost use Rattle.lk_domain.specs.Plans.{locks_of};
 ghost use Rattle.lk_lock.specs.PvStanding.{IsAsBefore, IsHolding, IsReady, holds_of};
 ghost use Rattle.lk_lock.specs.Standing.{IsUnder};
-ghost use Rattle.lk_machine.specs.declared.setup.Verb.TheVariants.{Try};
+ghost use Rattle.lk_rows.specs.declared.setup.Verb.TheVariants.{Try};
 ghost use Rattle.lk_pvdomain.specs.PvCalls.{HasFreed, HasMissed, HasTaken, HasTakenBy};
 ghost use Rattle.lk_pvdomain.specs.PvSeats.{IsStill};
 ghost use Rattle.lk_pvdomain.specs.declared.cpu.PvCpu.{PvCpu};

@@ -5,7 +5,7 @@ ghost use Rattle.lk_abs.specs.declared.names.Kind.TheVariants.{Spin as spinning}
 ghost use Rattle.lk_domain.specs.Calls.{holds_in};
 ghost use Rattle.lk_lock.specs.PvStanding.{HasTurned, IsAsBefore, IsReady, holds_of};
 ghost use Rattle.lk_lock.specs.Standing.{IsUnder};
-ghost use Rattle.lk_machine.specs.declared.setup.Verb.TheVariants.{Lock, Try};
+ghost use Rattle.lk_rows.specs.declared.setup.Verb.TheVariants.{Lock, Try};
 ghost use Rattle.lk_pvdomain.specs.PvCalls.{HasMissed};
 
 use crate::locks::Spin;

@@ -8,7 +8,7 @@ ghost use Rattle.lk_domain.specs.Paths.{HasMissed};
 ghost use Rattle.lk_domain.specs.Seats.{calls_of};
 ghost use Rattle.lk_lock.specs.Standing.{HasTurned, HasWritten, HasWrittenOnce, IsAsBefore, IsReady};
 ghost use Rattle.lk_lock.specs.Standing.{IsUnder, holds_of};
-ghost use Rattle.lk_machine.specs.declared.setup.Verb.TheVariants.{Lock, Try, TryWrite, Write};
+ghost use Rattle.lk_rows.specs.declared.setup.Verb.TheVariants.{Lock, Try, TryWrite, Write};
 
 use crate::holding::{free, try_take};
 use crate::locks::{Rw, Spin};

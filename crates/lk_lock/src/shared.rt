@@ -6,7 +6,7 @@ ghost use Rattle.lk_domain.specs.Seats.{calls_of};
 ghost use Rattle.lk_lock.specs.Cells.{AreKeysOf, names_of};
 ghost use Rattle.lk_lock.specs.Made.{IsSharedAmong, Keeps, KeepsShared};
 ghost use Rattle.lk_lock.specs.Standing.{HasRead, HasWritten, IsAsBefore, IsSharedUnder, holds_of};
-ghost use Rattle.lk_machine.specs.declared.setup.Verb.TheVariants.{Read, Write};
+ghost use Rattle.lk_rows.specs.declared.setup.Verb.TheVariants.{Read, Write};
 
 use crate::locks::Locks;
 use crate::reading::{come_in, go_out};

@@ -8,8 +8,8 @@ ghost use Rattle.lk_domain.specs.Seats.{calls_of};
 ghost use Rattle.lk_domain.specs.declared.cpu.Cpu.{Cpu};
 ghost use Rattle.lk_lock.specs.Standing.{HasComeIn, IsAsBefore, IsHolding, IsOfKind, IsReady};
 ghost use Rattle.lk_lock.specs.Standing.{holds_of};
-ghost use Rattle.lk_machine.specs.declared.parts.Pc.TheVariants.{Z2};
-ghost use Rattle.lk_machine.specs.declared.setup.Verb.TheVariants.{TryWrite, Write};
+ghost use Rattle.lk_rows.specs.declared.parts.Pc.TheVariants.{Z2};
+ghost use Rattle.lk_rows.specs.declared.setup.Verb.TheVariants.{TryWrite, Write};
 ghost use Rattle.lk_run.specs.Entering.{HasLeft};
 
 use lk_domain::{Cpu, Domain, LockId};

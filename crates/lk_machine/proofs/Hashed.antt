@@ -9,7 +9,7 @@ use Rattle.lk_word.specs.declared.spin_word.NodeName.{NodeName}
 use Rattle.lk_word.specs.declared.spin_word.Layout.TheVariants.{Wide}
 use Rattle.lk_word.specs.SpinWord.{IsTailInRange}
 use Rattle.lk_hash.specs.Entries as numbers
-use Rattle.lk_machine.specs.Machine.{entry_in, with_entry, without_entry, lock_number}
+use Rattle.lk_rows.specs.Machine.{entry_in, with_entry, without_entry, lock_number}
 use Rattle.lk_machine.specs.Hashed.{lock_named, node_number, node_named, named, entries_named}
 
 -- a number is that of the lock, and of the node, that it names

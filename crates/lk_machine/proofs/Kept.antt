@@ -8,13 +8,13 @@ use Rattle.lk_abs.specs.declared.names.LockName.{LockName}
 use Rattle.lk_word.specs.declared.spin_word.NodeName.{NodeName}
 use Rattle.lk_word.specs.declared.spin_word.Fields.{Fields}
 use Rattle.lk_word.specs.declared.rw_word.RwFields.{RwFields}
-use Rattle.lk_machine.specs.declared.parts.Counts.{Counts}
-use Rattle.lk_machine.specs.declared.parts.Frame.{Frame}
-use Rattle.lk_machine.specs.declared.parts.Node.{Node}
-use Rattle.lk_machine.specs.declared.setup.Setup.{Setup}
-use Rattle.lk_machine.specs.Machine.{Machine, CpuState, HasTop, HasNode, no_cpu, rest_frame, cpu_at, frame_at, depth_at, top_frame, set_cpu, set_lock, set_word, set_rw, set_node, set_top, set_queued, set_preempted, set_halted, set_kicked, set_entry, set_counts, push}
-use Rattle.lk_machine.specs.Programs.{HasPrograms, handlers_of}
-use Rattle.lk_machine.specs.Moves.{CanMove, leave}
+use Rattle.lk_rows.specs.declared.parts.Counts.{Counts}
+use Rattle.lk_rows.specs.declared.parts.Frame.{Frame}
+use Rattle.lk_rows.specs.declared.parts.Node.{Node}
+use Rattle.lk_rows.specs.declared.setup.Setup.{Setup}
+use Rattle.lk_rows.specs.Machine.{Machine, CpuState, HasTop, HasNode, no_cpu, rest_frame, cpu_at, frame_at, depth_at, top_frame, set_cpu, set_lock, set_word, set_rw, set_node, set_top, set_queued, set_preempted, set_halted, set_kicked, set_entry, set_counts, push}
+use Rattle.lk_rows.specs.Programs.{HasPrograms, handlers_of}
+use Rattle.lk_rows.specs.Moves.{CanMove, leave}
 
 -- What a write leaves in the processor's record is as it was in each.
 cpu_part : {A : Type 0} (F : CpuState → A) (m : Machine) (p : ℕ) (c : CpuState) → F c ≡ F (cpu_at m p) → (q : ℕ) → F (cpu_at (set_cpu m p c) q) ≡ F (cpu_at m q)

@@ -8,7 +8,7 @@ use Rattle.lk_word.specs.SpinWord.{IsPackable, packed, unpacked}
 use Rattle.lk_word.specs.RwWord.{packed_rw, unpacked_rw}
 use Rattle.lk_word.proofs.SpinWordLemmas.{unpacked-packed}
 use Rattle.lk_word.proofs.RwWordLemmas.{unpacked_rw-packed_rw}
-use Rattle.lk_machine.specs.Machine.{rest_word, rest_rw}
+use Rattle.lk_rows.specs.Machine.{rest_word, rest_rw}
 use Rattle.lk_machine.specs.Packed.{IsPacked, IsPackedRw, fields_in, rw_fields_in}
 
 module _ (layout : Layout) where

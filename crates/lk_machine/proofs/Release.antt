@@ -4,8 +4,8 @@ use Rattle.std.specs.Prelude.{◌&&◌, if◌then◌else◌}
 use Rattle.std.proofs.Common.{suc}
 use Rattle.std.proofs.Math.Seq.{drop-cons}
 use Rattle.std.proofs.lemmas.Option.{slice_get_within, get_or_from_slice_get}
-use Rattle.lk_machine.specs.declared.setup.Op.{Op}
-use Rattle.lk_machine.specs.Programs.{is_release, to_release}
+use Rattle.lk_rows.specs.declared.setup.Op.{Op}
+use Rattle.lk_rows.specs.Programs.{is_release, to_release}
 
 -- the operations from a position on, by the first of them
 drop-first : (ops : List Op) (i : ℕ) (o : Op) → slice_get ops i ≡ Some o → drop i ops ≡ o ∷ drop (i + 1) ops

@@ -1,9 +1,9 @@
 -- The processors at rest, one after another.
 use Rattle.std.proofs.Common.{◌≡◌, ℕ, zero, suc, ◌+◌, ◌<◌, [], ◌∷◌, ◌++◌, length, get_or, slice_get, ap, ◌∙◌, refl, arith}
-use Rattle.lk_machine.specs.declared.setup.Setup.{Setup}
-use Rattle.lk_machine.specs.Machine.{HasTop, no_cpu, cpu_at, depth_at, frame_at, top_frame}
-use Rattle.lk_machine.specs.Programs.{HasPrograms, IsLawfulSetup, program_at}
-use Rattle.lk_machine.specs.Run.{first_frame, rest_cpu, rest_cpus, at_rest}
+use Rattle.lk_rows.specs.declared.setup.Setup.{Setup}
+use Rattle.lk_rows.specs.Machine.{HasTop, no_cpu, cpu_at, depth_at, frame_at, top_frame}
+use Rattle.lk_rows.specs.Programs.{HasPrograms, IsLawfulSetup, program_at}
+use Rattle.lk_rows.specs.Run.{first_frame, rest_cpu, rest_cpus, at_rest}
 
 rest_cpus-suc : (setup : Setup) (p n : ℕ) → rest_cpus setup p (suc n) ≡ rest_cpus setup p n ++ rest_cpu setup (p + n) ∷ []
 rest_cpus-suc setup p zero = ap (λ q. rest_cpu setup q ∷ []) (omega arith)

@@ -5,7 +5,7 @@ use Rattle.lk_word.specs.declared.spin_word.Layout.{Layout}
 use Rattle.lk_word.specs.declared.spin_word.Fields.{Fields}
 use Rattle.lk_word.specs.declared.rw_word.RwFields.{RwFields}
 use Rattle.lk_machine.specs.declared.machine.words.LockWords.{LockWords}
-use Rattle.lk_machine.specs.Machine.{LockState, rest_lock}
+use Rattle.lk_rows.specs.Machine.{LockState, rest_lock}
 use Rattle.lk_machine.specs.Packed.{Words, fields_in, rw_fields_in, lock_in, lock_of, with_lock, with_word, with_rw}
 
 module _ (layout : Layout) (ws : List LockWords) where

@@ -1,13 +1,3 @@
-pub mod Machine
 pub mod Packed
 pub mod Hashed
-pub mod Family
-pub mod Programs
-pub mod Moves
-pub mod Row
-pub mod rows
-pub mod TopRow
-pub mod Acts
-pub mod Run
 pub mod Ready
-pub mod Rules

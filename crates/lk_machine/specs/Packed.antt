@@ -1,21 +1,13 @@
 -- What stands in the packed words of the machine.
 use Rattle.std.specs.Prelude.{◌≡◌, ℕ, true, List, is_some, unwrap_or, slice_index_or, slice_set, if◌then◌else◌}
 use Rattle.lk_abs.specs.declared.names.LockName.{LockName}
-use Rattle.lk_abs.specs.declared.names.Format.{Format}
-use Rattle.lk_abs.specs.declared.names.Format.TheVariants.{One, Two}
 use Rattle.lk_word.specs.declared.spin_word.Layout.{Layout}
-use Rattle.lk_word.specs.declared.spin_word.Layout.TheVariants.{Narrow, Wide}
 use Rattle.lk_word.specs.declared.spin_word.Fields.{Fields}
 use Rattle.lk_word.specs.declared.rw_word.RwFields.{RwFields}
 use Rattle.lk_word.specs.SpinWord.{unpacked}
 use Rattle.lk_word.specs.RwWord.{unpacked_rw}
 use Rattle.lk_machine.specs.declared.machine.words.LockWords.{LockWords}
-use Rattle.lk_machine.specs.Machine.{LockState, rest_word, rest_rw, rest_lock}
-
--- the layout of the words of a format
-abbrev pub layout_of : Format → Layout
-layout_of One = Narrow
-layout_of Two = Wide
+use Rattle.lk_rows.specs.Machine.{LockState, rest_word, rest_rw, rest_lock}
 
 -- the word of a spinlock or a wait lock is that of some fields
 abbrev pub IsPacked : Layout → ℕ → Type 0

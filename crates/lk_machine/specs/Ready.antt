@@ -2,15 +2,15 @@
 use Rattle.std.specs.Prelude.{◌≡◌, ◌<◌, ◌≤◌, ◌-◌, ◌^◌, ℕ, Option, Some, None, length}
 use Rattle.lk_word.specs.declared.spin_word.NodeName.{NodeName}
 use Rattle.lk_word.specs.SpinWord.{IsTailInRange}
-use Rattle.lk_machine.specs.declared.parts.Frame.{Frame}
-use Rattle.lk_machine.specs.declared.parts.Counts.{Counts}
-use Rattle.lk_machine.specs.declared.parts.Pc.{Pc}
-use Rattle.lk_machine.specs.declared.parts.Pc.TheVariants.{G4, C10, E6, K3}
-use Rattle.lk_machine.specs.Machine.{Machine, HasNode, top_frame, queued_at}
-use Rattle.lk_machine.specs.Packed.{layout_of}
-use Rattle.lk_machine.specs.Moves.{CanMove}
-use Rattle.lk_machine.specs.TopRow.{Target, FlagOf, NextOf, ChoiceFlag, ChoiceNext, SecondTailOf}
-use Rattle.lk_machine.specs.TopRow.{RunsOf, PvFlag, PvNext, StateOf, target}
+use Rattle.lk_rows.specs.declared.parts.Frame.{Frame}
+use Rattle.lk_rows.specs.declared.parts.Counts.{Counts}
+use Rattle.lk_rows.specs.declared.parts.Pc.{Pc}
+use Rattle.lk_rows.specs.declared.parts.Pc.TheVariants.{G4, C10, E6, K3}
+use Rattle.lk_rows.specs.Machine.{Machine, HasNode, top_frame, queued_at}
+use Rattle.lk_rows.specs.Layouts.{layout_of}
+use Rattle.lk_rows.specs.Moves.{CanMove}
+use Rattle.lk_rows.specs.TopRow.{Target, FlagOf, NextOf, ChoiceFlag, ChoiceNext, SecondTailOf}
+use Rattle.lk_rows.specs.TopRow.{RunsOf, PvFlag, PvNext, StateOf, target}
 
 -- none of the ten counts is above this number
 pub record CountsWithin (n : ℕ) (c : Counts) : Type 0 where

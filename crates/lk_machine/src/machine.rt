@@ -1,13 +1,13 @@
 // The machine's data, its readers and its writers.
 
 ghost use Rattle.std.specs.Prelude.{slice_index_or, ◌≡◌, ◌<◌, ◌≤◌, ◌-◌, ◌*◌, Some, length, slice_get, position, IfSome, vec_capacity};
-ghost use Rattle.lk_machine.specs.Machine.{Machine as MachineValue, CpuState as CpuValue, HasTop, HasNode, top_frame, frame_at, depth_at, queued_at, preempted_at, halted_at, kicked_at, handlers_at, word_at, rw_at, node_at, set_word, set_rw, set_node, set_top, set_queued, set_preempted, set_halted, set_kicked, set_counts};
+ghost use Rattle.lk_rows.specs.Machine.{Machine as MachineValue, CpuState as CpuValue, HasTop, HasNode, top_frame, frame_at, depth_at, queued_at, preempted_at, halted_at, kicked_at, handlers_at, word_at, rw_at, node_at, set_word, set_rw, set_node, set_top, set_queued, set_preempted, set_halted, set_kicked, set_counts};
 ghost use Rattle.lk_word.specs.SpinWord.{IsPackable};
 ghost use Rattle.lk_word.specs.RwWord.{IsPackableRw};
-ghost use Rattle.lk_machine.specs.Packed.{layout_of};
+ghost use Rattle.lk_rows.specs.Layouts.{layout_of};
 ghost use Rattle.lk_machine.specs.Hashed.{entries_named};
-ghost use Rattle.lk_machine.specs.Programs.{HasPrograms, handlers_of};
-ghost use Rattle.lk_machine.specs.Moves.{is_node, context_of, waiter_of};
+ghost use Rattle.lk_rows.specs.Programs.{HasPrograms, handlers_of};
+ghost use Rattle.lk_rows.specs.Moves.{is_node, context_of, waiter_of};
 ghost use Rattle.lk_abs.specs.Lawful.{is_local, same_socket, stays};
 
 mod fields;
@@ -18,10 +18,9 @@ mod rest;
 mod top;
 mod words;
 
-use crate::parts::{Counts, Frame, Node, Pc};
-use crate::setup::Setup;
 use lk_abs::{Format, LockName, Mode, Waiter};
 use lk_hash::LockHash;
+use lk_rows::{Counts, Frame, Node, Pc, Setup};
 use lk_word::{Fields, NodeName, RwFields};
 use std::marker::Model;
 use words::Words;
@@ -112,7 +111,7 @@ fn context_in(frames: &[Frame], name: NodeName) -> Option<usize>
 impl Machine {
     /// The fields of the word of a spinlock or a wait lock.
     #[inline]
-    #[tactic(auto, unfolding(crate::specs::Machine::word_at, crate::specs::Machine::lock_at))]
+    #[tactic(auto, unfolding(lk_rows::specs::Machine::word_at, lk_rows::specs::Machine::lock_at))]
     pub fn word(&self, lock: LockName) -> Fields
         requires { lock.index < length self.now.locks }
         ensures fields { result ≡ word_at self.now lock }
@@ -123,7 +122,7 @@ impl Machine {
 
     /// Stores the word of a spinlock or a wait lock. A tail must fit the layout of the format.
     #[inline]
-    #[tactic(auto, unfolding(crate::specs::Machine::lock_at, crate::specs::Machine::set_word, crate::specs::Machine::set_lock))]
+    #[tactic(auto, unfolding(lk_rows::specs::Machine::lock_at, lk_rows::specs::Machine::set_word, lk_rows::specs::Machine::set_lock))]
     pub fn set_word(&mut self, lock: LockName, fields: Fields)
         requires lock { lock.index < length self.old.locks }
         requires packable { IsPackable (layout_of self.old.setup.format) fields }
@@ -134,7 +133,7 @@ impl Machine {
 
     /// The fields of the word of a reader-writer lock, by the number of the lock.
     #[inline]
-    #[tactic(auto, unfolding(crate::specs::Machine::rw_at, crate::specs::Machine::lock_at))]
+    #[tactic(auto, unfolding(lk_rows::specs::Machine::rw_at, lk_rows::specs::Machine::lock_at))]
     pub fn rw(&self, index: u32) -> RwFields
         requires { index < length self.now.locks }
         ensures fields { result ≡ rw_at self.now index }
@@ -146,7 +145,7 @@ impl Machine {
     /// Stores the word of a reader-writer lock, by the number of the lock. There must be fewer
     /// than 2^23 readers.
     #[inline]
-    #[tactic(auto, unfolding(crate::specs::Machine::lock_at, crate::specs::Machine::set_rw, crate::specs::Machine::set_lock))]
+    #[tactic(auto, unfolding(lk_rows::specs::Machine::lock_at, lk_rows::specs::Machine::set_rw, lk_rows::specs::Machine::set_lock))]
     pub fn set_rw(&mut self, index: u32, fields: RwFields)
         requires index { index < length self.old.locks }
         requires packable { IsPackableRw fields }
@@ -157,7 +156,7 @@ impl Machine {
 
     /// A copy of a queue node.
     #[inline]
-    #[tactic(auto, unfolding(crate::specs::Machine::node_at, crate::specs::Machine::cpu_at))]
+    #[tactic(auto, unfolding(lk_rows::specs::Machine::node_at, lk_rows::specs::Machine::cpu_at))]
     pub fn node(&self, name: NodeName) -> Node
         requires { HasNode self.now name }
         ensures { result ≡ node_at self.now name }
@@ -168,7 +167,7 @@ impl Machine {
 
     /// Stores a queue node.
     #[inline]
-    #[tactic(auto, unfolding(crate::specs::Machine::set_node, crate::specs::Machine::set_cpu, crate::specs::Machine::cpu_at))]
+    #[tactic(auto, unfolding(lk_rows::specs::Machine::set_node, lk_rows::specs::Machine::set_cpu, lk_rows::specs::Machine::cpu_at))]
     pub fn set_node(&mut self, name: NodeName, node: Node)
         requires { HasNode self.old name }
         ensures { self.new ≡ set_node self.old name node }
@@ -179,7 +178,7 @@ impl Machine {
 
     /// The context (interrupt nesting level) of the frame that has the node as its own, or `None`
     /// if no frame has it.
-    #[tactic(auto, unfolding(crate::specs::Moves::context_of, crate::specs::Machine::cpu_at))]
+    #[tactic(auto, unfolding(lk_rows::specs::Moves::context_of, lk_rows::specs::Machine::cpu_at))]
     pub fn context_of(&self, name: NodeName) -> Option<u32>
         ensures { result ≡ context_of self.now name }
     {
@@ -190,7 +189,7 @@ impl Machine {
 
     /// The waiter whose frame has the node as its own. If no frame has it, this is the task of the
     /// node's processor.
-    #[tactic(auto, unfolding(crate::specs::Moves::waiter_of))]
+    #[tactic(auto, unfolding(lk_rows::specs::Moves::waiter_of))]
     pub fn waiter_of(&self, name: NodeName) -> Waiter
         ensures { result ≡ waiter_of self.now name }
     {
@@ -203,7 +202,7 @@ impl Machine {
     /// The number of frames of a processor that are in the slow path. A frame without a node
     /// counts too.
     #[inline]
-    #[tactic(auto, unfolding(crate::specs::Machine::queued_at, crate::specs::Machine::cpu_at))]
+    #[tactic(auto, unfolding(lk_rows::specs::Machine::queued_at, lk_rows::specs::Machine::cpu_at))]
     pub fn queued(&self, cpu: u32) -> u32
         requires { cpu < length self.now.cpus }
         ensures { result ≡ queued_at self.now cpu }
@@ -214,7 +213,7 @@ impl Machine {
 
     /// Stores the number of frames of a processor that are in the slow path.
     #[inline]
-    #[tactic(auto, unfolding(crate::specs::Machine::set_queued, crate::specs::Machine::set_cpu, crate::specs::Machine::cpu_at))]
+    #[tactic(auto, unfolding(lk_rows::specs::Machine::set_queued, lk_rows::specs::Machine::set_cpu, lk_rows::specs::Machine::cpu_at))]
     pub fn set_queued(&mut self, cpu: u32, count: u32)
         requires { cpu < length self.old.cpus }
         ensures { self.new ≡ set_queued self.old cpu count }
@@ -225,7 +224,7 @@ impl Machine {
 
     /// Whether the hypervisor has preempted a processor.
     #[inline]
-    #[tactic(auto, unfolding(crate::specs::Machine::preempted_at, crate::specs::Machine::cpu_at))]
+    #[tactic(auto, unfolding(lk_rows::specs::Machine::preempted_at, lk_rows::specs::Machine::cpu_at))]
     pub fn preempted(&self, cpu: u32) -> bool
         requires { cpu < length self.now.cpus }
         ensures { result ≡ preempted_at self.now cpu }
@@ -236,7 +235,7 @@ impl Machine {
 
     /// Stores whether the hypervisor has preempted a processor.
     #[inline]
-    #[tactic(auto, unfolding(crate::specs::Machine::set_preempted, crate::specs::Machine::set_cpu, crate::specs::Machine::cpu_at))]
+    #[tactic(auto, unfolding(lk_rows::specs::Machine::set_preempted, lk_rows::specs::Machine::set_cpu, lk_rows::specs::Machine::cpu_at))]
     pub fn set_preempted(&mut self, cpu: u32, yes: bool)
         requires { cpu < length self.old.cpus }
         ensures { self.new ≡ set_preempted self.old cpu yes }
@@ -247,7 +246,7 @@ impl Machine {
 
     /// Whether a processor has halted.
     #[inline]
-    #[tactic(auto, unfolding(crate::specs::Machine::halted_at, crate::specs::Machine::cpu_at))]
+    #[tactic(auto, unfolding(lk_rows::specs::Machine::halted_at, lk_rows::specs::Machine::cpu_at))]
     pub fn halted(&self, cpu: u32) -> bool
         requires { cpu < length self.now.cpus }
         ensures { result ≡ halted_at self.now cpu }
@@ -258,7 +257,7 @@ impl Machine {
 
     /// Stores whether a processor has halted.
     #[inline]
-    #[tactic(auto, unfolding(crate::specs::Machine::set_halted, crate::specs::Machine::set_cpu, crate::specs::Machine::cpu_at))]
+    #[tactic(auto, unfolding(lk_rows::specs::Machine::set_halted, lk_rows::specs::Machine::set_cpu, lk_rows::specs::Machine::cpu_at))]
     pub fn set_halted(&mut self, cpu: u32, yes: bool)
         requires { cpu < length self.old.cpus }
         ensures { self.new ≡ set_halted self.old cpu yes }
@@ -269,7 +268,7 @@ impl Machine {
 
     /// Whether a processor remembers a kick: one was made, and has ended no halt yet.
     #[inline]
-    #[tactic(auto, unfolding(crate::specs::Machine::kicked_at, crate::specs::Machine::cpu_at))]
+    #[tactic(auto, unfolding(lk_rows::specs::Machine::kicked_at, lk_rows::specs::Machine::cpu_at))]
     pub fn kicked(&self, cpu: u32) -> bool
         requires { cpu < length self.now.cpus }
         ensures { result ≡ kicked_at self.now cpu }
@@ -280,7 +279,7 @@ impl Machine {
 
     /// Stores whether a processor remembers a kick.
     #[inline]
-    #[tactic(auto, unfolding(crate::specs::Machine::set_kicked, crate::specs::Machine::set_cpu, crate::specs::Machine::cpu_at))]
+    #[tactic(auto, unfolding(lk_rows::specs::Machine::set_kicked, lk_rows::specs::Machine::set_cpu, lk_rows::specs::Machine::cpu_at))]
     pub fn set_kicked(&mut self, cpu: u32, yes: bool)
         requires { cpu < length self.old.cpus }
         ensures { self.new ≡ set_kicked self.old cpu yes }
@@ -291,7 +290,7 @@ impl Machine {
 
     /// How many interrupt handlers of a processor have not begun yet.
     #[inline]
-    #[tactic(auto, unfolding(crate::specs::Machine::handlers_at, crate::specs::Machine::cpu_at, crate::specs::Programs::handlers_of))]
+    #[tactic(auto, unfolding(lk_rows::specs::Machine::handlers_at, lk_rows::specs::Machine::cpu_at, lk_rows::specs::Programs::handlers_of))]
     pub fn handlers_left(&self, cpu: u32) -> u32
         requires cpu { cpu < length self.now.cpus }
         requires programs { HasPrograms self.now.setup cpu }
@@ -312,7 +311,7 @@ impl Machine {
 
     /// Stores the ten counts.
     #[inline]
-    #[tactic(auto, unfolding(crate::specs::Machine::set_counts))]
+    #[tactic(auto, unfolding(lk_rows::specs::Machine::set_counts))]
     pub fn set_counts(&mut self, counts: Counts)
         ensures { self.new ≡ set_counts self.old counts }
     {
@@ -404,7 +403,7 @@ impl Machine {
     /// Whether the waiter of the node `name` is local to processor `cpu`: it runs on the same
     /// socket or, in format 2, it is in an interrupt. A CNA queue head never moves a local waiter
     /// aside.
-    #[tactic(auto, unfolding(crate::specs::Moves::waiter_of))]
+    #[tactic(auto, unfolding(lk_rows::specs::Moves::waiter_of))]
     pub fn is_local(&self, cpu: u32, name: NodeName) -> bool
         ensures { let setup = self.now.setup in
             result ≡ is_local setup.format setup.topology.sockets.items cpu

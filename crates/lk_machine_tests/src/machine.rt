@@ -1,11 +1,12 @@
 // A machine at rest, as it is read and written.
 
 ghost use Rattle.std.specs.Prelude.{◌≡◌, [], ◌∷◌, IfOk, length};
-ghost use Rattle.lk_machine.specs.Machine.{HasTop};
-ghost use Rattle.lk_machine.specs.Programs.{HasPrograms, handlers_of};
+ghost use Rattle.lk_rows.specs.Machine.{HasTop};
+ghost use Rattle.lk_rows.specs.Programs.{HasPrograms, handlers_of};
 
 use lk_abs::{Format, Kind, List, LockName, Memory, Mode, Topology};
-use lk_machine::{Counts, Machine, Op, Pc, Setup, Verb};
+use lk_machine::Machine;
+use lk_rows::{Counts, Op, Pc, Setup, Verb};
 use lk_word::{Fields, Locked, NodeName, RwFields};
 use std::alloc::Global;
 use std::test::Fail;
@@ -29,7 +30,7 @@ fn pair(alloc: Global, first: Op, second: Op) -> Result<List<Op>, Memory>
 
 // One processor, on socket 5, which takes and releases the one lock, and has one handler without
 // operations.
-#[tactic(auto, unfolding(lk_machine::specs::Programs::handlers_of))]
+#[tactic(auto, unfolding(lk_rows::specs::Programs::handlers_of))]
 fn smallest(alloc: Global) -> Result<Setup, Memory>
     ensures sockets { IfOk result (λ setup. length setup.topology.sockets.items ≡ 1) }
     ensures locks { IfOk result (λ setup. length setup.locks.items ≡ 1) }
@@ -204,7 +205,7 @@ fn shows_what_is_written(rt: HostRuntime) -> Result<(), Fail> {
 
 // A lock that is entered into the hash is found there, and removed.
 #[test]
-#[tactic(auto, using(lk_machine::proofs::Rested::rested), unfolding(lk_machine::specs::Machine::entry_at, lk_machine::specs::Machine::set_entry))]
+#[tactic(auto, using(lk_machine::proofs::Rested::rested), unfolding(lk_rows::specs::Machine::entry_at, lk_rows::specs::Machine::set_entry))]
 fn finds_what_is_entered(rt: HostRuntime) -> Result<(), Fail> {
     let mut machine = Machine::new(rt.alloc(), smallest(rt.alloc())?)?;
     machine.hash_enter(LOCK, NODE);

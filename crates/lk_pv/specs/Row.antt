@@ -1,9 +1,9 @@
 -- What the code of this crate's rows needs of the machine; all of it holds of a sound one.
 use Rattle.std.specs.Prelude.{◌≡◌, ◌<◌, ◌*◌, ℕ, Option, Some, None, Bool, true, false, is_some, length}
-use Rattle.lk_machine.specs.declared.parts.Pc.{Pc}
-use Rattle.lk_machine.specs.declared.parts.Pc.TheVariants.{E6, E9, K3, U3, U5}
-use Rattle.lk_machine.specs.Machine.{Machine, entry_at, top_frame}
-use Rattle.lk_machine.specs.Moves.{node_of}
+use Rattle.lk_rows.specs.declared.parts.Pc.{Pc}
+use Rattle.lk_rows.specs.declared.parts.Pc.TheVariants.{E6, E9, K3, U3, U5}
+use Rattle.lk_rows.specs.Machine.{Machine, entry_at, top_frame}
+use Rattle.lk_rows.specs.Moves.{node_of}
 use Rattle.lk_machine.specs.Ready.{IsReady}
 
 -- whether a place is a row that enters a node into the hash

@@ -1,13 +1,14 @@
 // The queue head, up to where it has the lock.
 ghost use Rattle.std.specs.Prelude.{◌≡◌, Some};
-ghost use Rattle.lk_machine.specs.Machine.{top_frame};
-ghost use Rattle.lk_machine.specs.TopRow.{row};
-ghost use Rattle.lk_machine.specs.rows.Pv.{is_hashed, is_slow_byte};
+ghost use Rattle.lk_rows.specs.Machine.{top_frame};
+ghost use Rattle.lk_rows.specs.TopRow.{row};
+ghost use Rattle.lk_rows.specs.rows.Pv.{is_hashed, is_slow_byte};
 ghost use Rattle.lk_pv.specs.Row.{IsPvReady};
 
 use crate::word::{after_turn, known};
 use lk_abs::{Event, How, What};
-use lk_machine::{Frame, Machine, Pc, State, is_unlocked, named};
+use lk_machine::Machine;
+use lk_rows::{Frame, Pc, State, is_unlocked, named};
 use lk_word::{Fields, Locked};
 
 // Whether a state is hashed.
@@ -219,7 +220,7 @@ pub(crate) fn leave_hash(machine: &mut Machine, cpu: u32) -> Option<Event>
 
 /// E10: stores hashed into its own state, `-> hashed` (`pv_wait_head_or_lock`). By this the waiter
 /// behind it learns that it does not run (W2).
-#[tactic(auto, using(lk_machine::proofs::Kept::kept), unfolding(lk_machine::specs::Machine::set_node, lk_machine::specs::Machine::set_cpu))]
+#[tactic(auto, using(lk_machine::proofs::Kept::kept), unfolding(lk_rows::specs::Machine::set_node, lk_rows::specs::Machine::set_cpu))]
 pub(crate) fn say_hashed(machine: &mut Machine, cpu: u32) -> Option<Event>
     requires ready { IsPvReady machine.old cpu }
     requires here { (top_frame machine.old cpu).place ≡ Some Pc.E10 }

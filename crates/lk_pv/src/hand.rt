@@ -1,13 +1,14 @@
 // The holder that came through the queue hands off, and sees to it that a new head that has halted
 // will be kicked.
 ghost use Rattle.std.specs.Prelude.{◌≡◌, Some};
-ghost use Rattle.lk_machine.specs.Machine.{top_frame};
-ghost use Rattle.lk_machine.specs.TopRow.{row};
+ghost use Rattle.lk_rows.specs.Machine.{top_frame};
+ghost use Rattle.lk_rows.specs.TopRow.{row};
 ghost use Rattle.lk_pv.specs.Row.{IsPvReady};
 
 use crate::word::{is_halted, known};
 use lk_abs::{Event, What};
-use lk_machine::{Flag, Frame, Machine, Pc, State, is_last, named};
+use lk_machine::Machine;
+use lk_rows::{Flag, Frame, Pc, State, is_last, named};
 use lk_word::Locked;
 
 /// E13: swaps the tail from its own node to none, `n,0,1 -> 0,0,1`, and so leaves an empty queue

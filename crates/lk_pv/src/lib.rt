@@ -1,4 +1,4 @@
-//! The rows of the paravirtual lock. Each row is proved to be the row that `lk_machine` defines.
+//! The rows of the paravirtual lock. Each row is proved to be the row that `lk_rows` defines.
 //!
 //! A word is written as its tail, its pending bit and its locked byte, as in `t,0,1`. No tail is
 //! 0, and the byte is 0, 1 or S for slow. The row's own node is n, and y is the successor's. Each

@@ -1,11 +1,12 @@
 // The release, and the kick after it.
 ghost use Rattle.std.specs.Prelude.{◌≡◌, Some};
-ghost use Rattle.lk_machine.specs.Machine.{top_frame};
-ghost use Rattle.lk_machine.specs.TopRow.{row};
+ghost use Rattle.lk_rows.specs.Machine.{top_frame};
+ghost use Rattle.lk_rows.specs.TopRow.{row};
 ghost use Rattle.lk_pv.specs.Row.{IsPvReady};
 
 use lk_abs::{Event, What};
-use lk_machine::{Frame, Machine, Pc, is_held, named};
+use lk_machine::Machine;
+use lk_rows::{Frame, Pc, is_held, named};
 use lk_word::Locked;
 
 /// U2: swaps the byte from held to free, `t,p,1 -> t,p,0`, and so releases the lock
@@ -74,7 +75,7 @@ pub(crate) fn store_free(machine: &mut Machine, cpu: u32) -> Option<Event>
 
 /// U5: kicks the target's processor, which remembers the kick, `-> remembered` (`pv_kick`). The
 /// kick ends its halt. If it has not halted, the kick ends its next halt.
-#[tactic(auto, using(lk_machine::proofs::Kept::kept), unfolding(lk_machine::specs::Machine::set_kicked, lk_machine::specs::Machine::set_cpu))]
+#[tactic(auto, using(lk_machine::proofs::Kept::kept), unfolding(lk_rows::specs::Machine::set_kicked, lk_rows::specs::Machine::set_cpu))]
 pub(crate) fn kick(machine: &mut Machine, cpu: u32) -> Option<Event>
     requires ready { IsPvReady machine.old cpu }
     requires here { (top_frame machine.old cpu).place ≡ Some Pc.U5 }

@@ -1,14 +1,15 @@
 // Which row is made.
 ghost use Rattle.std.specs.Prelude.{◌≡◌, Some};
-ghost use Rattle.lk_machine.specs.declared.family.Family.TheVariants.{Pv};
-ghost use Rattle.lk_machine.specs.Family.{family_of};
-ghost use Rattle.lk_machine.specs.Machine.{top_frame};
-ghost use Rattle.lk_machine.specs.TopRow.{row};
+ghost use Rattle.lk_rows.specs.declared.family.Family.TheVariants.{Pv};
+ghost use Rattle.lk_rows.specs.Family.{family_of};
+ghost use Rattle.lk_rows.specs.Machine.{top_frame};
+ghost use Rattle.lk_rows.specs.TopRow.{row};
 ghost use Rattle.lk_pv.specs.Row.{IsPvReady};
 
 use crate::{front, hand, release, steal, wait};
 use lk_abs::Event;
-use lk_machine::{Machine, Pc};
+use lk_machine::Machine;
+use lk_rows::Pc;
 
 /// Makes the row at which the newest frame of a processor stands, one of H1, H2, W1 to W7, E1 to
 /// E15, K1 to K3 and U2 to U5. Returns the event, if there is one. It takes no memory.

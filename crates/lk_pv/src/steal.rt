@@ -1,12 +1,13 @@
 // A waiter that may steal the lock, past the queue.
 ghost use Rattle.std.specs.Prelude.{◌≡◌, Some};
-ghost use Rattle.lk_machine.specs.Machine.{HasTop, set_top, top_frame};
-ghost use Rattle.lk_machine.specs.TopRow.{row};
-ghost use Rattle.lk_machine.specs.rows.Pv.{after_given_up, after_glance};
+ghost use Rattle.lk_rows.specs.Machine.{HasTop, set_top, top_frame};
+ghost use Rattle.lk_rows.specs.TopRow.{row};
+ghost use Rattle.lk_rows.specs.rows.Pv.{after_given_up, after_glance};
 ghost use Rattle.lk_pv.specs.Row.{IsPvReady};
 
 use lk_abs::{Event, How, What};
-use lk_machine::{Frame, Machine, Pc, is_unlocked};
+use lk_machine::Machine;
+use lk_rows::{Frame, Pc, is_unlocked};
 use lk_word::{Fields, Locked, NodeName};
 
 // The row after a waiter gave up stealing: with a node it queues, and without one it polls again.
@@ -76,7 +77,7 @@ pub(crate) fn glance(machine: &mut Machine, cpu: u32) -> Option<Event>
 /// (`pv_hybrid_queued_unfair_trylock`). The byte was free, so nobody held the lock. The pending
 /// bit and the tail stay. If the byte is not free, it stays. Then this waiter polls again (H1) if
 /// the word at H1 had a tail, and else gives up as at H1.
-#[tactic(auto, using(lk_machine::proofs::Kept::kept), unfolding(lk_machine::specs::Machine::set_word, lk_machine::specs::Machine::set_lock))]
+#[tactic(auto, using(lk_machine::proofs::Kept::kept), unfolding(lk_rows::specs::Machine::set_word, lk_rows::specs::Machine::set_lock))]
 pub(crate) fn steal(machine: &mut Machine, cpu: u32) -> Option<Event>
     requires ready { IsPvReady machine.old cpu }
     requires here { (top_frame machine.old cpu).place ≡ Some Pc.H2 }

@@ -1,13 +1,14 @@
 // A waiter behind another, which halts its processor after a while.
 ghost use Rattle.std.specs.Prelude.{◌≡◌, Some};
-ghost use Rattle.lk_machine.specs.Machine.{top_frame};
-ghost use Rattle.lk_machine.specs.TopRow.{row};
-ghost use Rattle.lk_machine.specs.rows.Pv.{is_running, is_set};
+ghost use Rattle.lk_rows.specs.Machine.{top_frame};
+ghost use Rattle.lk_rows.specs.TopRow.{row};
+ghost use Rattle.lk_rows.specs.rows.Pv.{is_running, is_set};
 ghost use Rattle.lk_pv.specs.Row.{IsPvReady};
 
 use crate::word::{after_turn, is_halted};
 use lk_abs::{Event, What};
-use lk_machine::{Flag, Frame, Machine, Pc, State, named};
+use lk_machine::Machine;
+use lk_rows::{Flag, Frame, Pc, State, named};
 
 // Whether a flag is set.
 fn is_set(flag: Flag) -> bool

@@ -1,9 +1,9 @@
 // What the rows read of a state and of a register.
 ghost use Rattle.std.specs.Prelude.{◌≡◌, ◌-◌, ◌==◌, [], ◌∷◌, true, is_some, Some, if◌then◌else◌};
-ghost use Rattle.lk_machine.specs.rows.Pv.{is_halted};
-ghost use Rattle.lk_machine.specs.Row.{Left, gone};
+ghost use Rattle.lk_rows.specs.rows.Pv.{is_halted};
+ghost use Rattle.lk_rows.specs.Row.{Left, gone};
 
-use lk_machine::{Frame, Pc, State};
+use lk_rows::{Frame, Pc, State};
 use lk_word::NodeName;
 
 // Whether a state is halted.

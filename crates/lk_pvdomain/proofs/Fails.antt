@@ -8,7 +8,7 @@ use Rattle.lk_word.specs.declared.spin_word.Locked.TheVariants.{Free, Held, Slow
 use Rattle.lk_word.specs.declared.spin_word.Layout.{Layout}
 use Rattle.lk_word.specs.declared.spin_word.Layout.TheVariants.{Narrow, Wide}
 use Rattle.lk_word.specs.SpinWord.{packed, locked_number, tail_number}
-use Rattle.lk_machine.specs.declared.setup.Verb.{Verb}
+use Rattle.lk_rows.specs.declared.setup.Verb.{Verb}
 use Rattle.atomic_table.specs.Table.{Me}
 use Rattle.lk_domain.specs.Calls.{lock_name}
 use Rattle.lk_domain.specs.Plays.{MadeBy}

@@ -8,9 +8,9 @@ use Rattle.atomic_table.specs.Table.{State}
 use Rattle.lk_abs.specs.History.{no_history}
 use Rattle.lk_abs.specs.declared.names.Waiter.{Waiter}
 use Rattle.lk_word.specs.declared.spin_word.NodeName.{NodeName}
-use Rattle.lk_machine.specs.declared.parts.Frame.{Frame}
-use Rattle.lk_machine.specs.declared.parts.Pc.TheVariants.{U3}
-use Rattle.lk_machine.specs.Moves.{node_of}
+use Rattle.lk_rows.specs.declared.parts.Frame.{Frame}
+use Rattle.lk_rows.specs.declared.parts.Pc.TheVariants.{U3}
+use Rattle.lk_rows.specs.Moves.{node_of}
 use Rattle.lk_law.specs.Agree.{halts}
 use Rattle.lk_law.specs.Kicked.{Owes}
 use Rattle.lk_law.specs.SoundWorld.{spin_part}

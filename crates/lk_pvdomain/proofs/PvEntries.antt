@@ -9,11 +9,11 @@ use Rattle.lk_abs.specs.declared.names.LockName.{LockName}
 use Rattle.lk_abs.specs.declared.names.Mode.{Mode}
 use Rattle.lk_abs.specs.declared.names.Mode.TheVariants.{Virt, Native, Cna, Pv}
 use Rattle.lk_word.specs.declared.spin_word.NodeName.{NodeName}
-use Rattle.lk_machine.specs.declared.parts.Node.{Node}
-use Rattle.lk_machine.specs.declared.parts.Pc.TheVariants.{G1}
-use Rattle.lk_machine.specs.declared.setup.Verb.{Verb}
-use Rattle.lk_machine.specs.Machine.{rest_node}
-use Rattle.lk_machine.specs.rows.Queue.{own_node}
+use Rattle.lk_rows.specs.declared.parts.Node.{Node}
+use Rattle.lk_rows.specs.declared.parts.Pc.TheVariants.{G1}
+use Rattle.lk_rows.specs.declared.setup.Verb.{Verb}
+use Rattle.lk_rows.specs.Machine.{rest_node}
+use Rattle.lk_rows.specs.rows.Queue.{own_node}
 use Rattle.lk_law.specs.Agree.{halts}
 use Rattle.lk_law.specs.Leads.{Met, Number}
 use Rattle.lk_law.specs.Premises.{Uses}

@@ -15,14 +15,14 @@ use Rattle.lk_word.specs.declared.spin_word.Locked.{Locked}
 use Rattle.lk_word.specs.declared.spin_word.Locked.TheVariants.{Free, Held, Slow}
 use Rattle.lk_word.specs.declared.spin_word.Layout.{Layout}
 use Rattle.lk_word.specs.SpinWord.{packed}
-use Rattle.lk_machine.specs.declared.parts.Frame.{Frame}
-use Rattle.lk_machine.specs.declared.parts.Pc.{Pc}
-use Rattle.lk_machine.specs.declared.parts.Pc.TheVariants.{E4, H2, U2}
-use Rattle.lk_machine.specs.declared.setup.Verb.{Verb}
-use Rattle.lk_machine.specs.declared.setup.Verb.TheVariants.{Lock, Unlock}
-use Rattle.lk_machine.specs.Row.{Effect}
-use Rattle.lk_machine.specs.rows.Pv.{pv_row}
-use Rattle.lk_machine.specs.TopRow.{target}
+use Rattle.lk_rows.specs.declared.parts.Frame.{Frame}
+use Rattle.lk_rows.specs.declared.parts.Pc.{Pc}
+use Rattle.lk_rows.specs.declared.parts.Pc.TheVariants.{E4, H2, U2}
+use Rattle.lk_rows.specs.declared.setup.Verb.{Verb}
+use Rattle.lk_rows.specs.declared.setup.Verb.TheVariants.{Lock, Unlock}
+use Rattle.lk_rows.specs.Row.{Effect}
+use Rattle.lk_rows.specs.rows.Pv.{pv_row}
+use Rattle.lk_rows.specs.TopRow.{target}
 use Rattle.lk_law.specs.Leads.{Word}
 use Rattle.lk_domain.specs.Calls.{StandsOn, acting, Begins, grip_led, Frees, lock_name}
 use Rattle.lk_domain.specs.Keeps.{AllHome, Slot}
@@ -178,12 +178,12 @@ either_frees false x y h k = k
 
 head_frees : MayFree E4 → ⊥
 head_frees t =
-    either_frees (Rattle.lk_machine.specs.rows.Spin.is_unlocked (t.0.word t.2.lock).locked && (t.0.word t.2.lock).pending) _ _
+    either_frees (Rattle.lk_rows.specs.rows.Spin.is_unlocked (t.0.word t.2.lock).locked && (t.0.word t.2.lock).pending) _ _
     (λ e. cc e) (either_frees ((t.2.left - 1) == 0) _ _ (λ e. cc e) (λ e. cc e)) t.3
 
 steal_frees : MayFree H2 → ⊥
 steal_frees t =
-    either_frees (Rattle.lk_machine.specs.rows.Spin.is_unlocked (t.0.word t.2.lock).locked) _ _ (λ e. cc e) (λ e. cc e) t.3
+    either_frees (Rattle.lk_rows.specs.rows.Spin.is_unlocked (t.0.word t.2.lock).locked) _ _ (λ e. cc e) (λ e. cc e) t.3
 
 -- an exchange of 0 for 0 stores what is there
 as_it_is : (n : ℕ) → either (eqb n 0) 0 n ≡ n

@@ -6,15 +6,15 @@ use Rattle.lk_abs.specs.declared.names.LockName.{LockName}
 use Rattle.lk_word.specs.declared.spin_word.NodeName.{NodeName}
 use Rattle.lk_word.specs.declared.spin_word.Fields.{Fields}
 use Rattle.lk_word.specs.SpinWord.{packed, IsPackable}
-use Rattle.lk_machine.specs.declared.parts.State.{State}
-use Rattle.lk_machine.specs.declared.parts.Pc.{Pc}
-use Rattle.lk_machine.specs.declared.parts.Pc.TheVariants.{U5, E13, E14, E15}
-use Rattle.lk_machine.specs.declared.setup.Verb.{Verb}
-use Rattle.lk_machine.specs.Acts.{after_halt}
-use Rattle.lk_machine.specs.Moves.{node_of}
+use Rattle.lk_rows.specs.declared.parts.State.{State}
+use Rattle.lk_rows.specs.declared.parts.Pc.{Pc}
+use Rattle.lk_rows.specs.declared.parts.Pc.TheVariants.{U5, E13, E14, E15}
+use Rattle.lk_rows.specs.declared.setup.Verb.{Verb}
+use Rattle.lk_rows.specs.Acts.{after_halt}
+use Rattle.lk_rows.specs.Moves.{node_of}
 use Rattle.lk_law.specs.Leads.{Stated, Named, Marked, Word}
-use Rattle.lk_machine.specs.rows.Spin.{is_unlocked}
-use Rattle.lk_machine.specs.rows.Cna.{is_held}
+use Rattle.lk_rows.specs.rows.Spin.{is_unlocked}
+use Rattle.lk_rows.specs.rows.Cna.{is_held}
 use Rattle.lk_domain.specs.Calls.{Running, StandsOn, lock_name}
 use Rattle.lk_domain.specs.Plans.{layout_in}
 use Rattle.lk_domain.specs.Keeps.{AllHome}

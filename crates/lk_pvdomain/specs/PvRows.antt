@@ -1,13 +1,13 @@
 -- Which rows a kind of step makes, where processors halt.
 use Rattle.std.specs.Prelude.{Bool, true, false, Option}
 use Rattle.lk_word.specs.declared.spin_word.NodeName.{NodeName}
-use Rattle.lk_machine.specs.declared.parts.State.{State}
-use Rattle.lk_machine.specs.declared.parts.State.TheVariants.{Running, Halted, Hashed}
-use Rattle.lk_machine.specs.declared.parts.Frame.{Frame}
-use Rattle.lk_machine.specs.declared.parts.Pc.{Pc}
-use Rattle.lk_machine.specs.declared.parts.Pc.TheVariants.{W2, W3, W5, W6, W7, E1, E2, E3, E7, E8, E10, E11}
-use Rattle.lk_machine.specs.declared.parts.Pc.TheVariants.{E4, E5, E6, E9, K3, U3, E12, E13, H1, H2, K1, K2, U2, U4, W1, W4}
-use Rattle.lk_machine.specs.Moves.{node_of}
+use Rattle.lk_rows.specs.declared.parts.State.{State}
+use Rattle.lk_rows.specs.declared.parts.State.TheVariants.{Running, Halted, Hashed}
+use Rattle.lk_rows.specs.declared.parts.Frame.{Frame}
+use Rattle.lk_rows.specs.declared.parts.Pc.{Pc}
+use Rattle.lk_rows.specs.declared.parts.Pc.TheVariants.{W2, W3, W5, W6, W7, E1, E2, E3, E7, E8, E10, E11}
+use Rattle.lk_rows.specs.declared.parts.Pc.TheVariants.{E4, E5, E6, E9, K3, U3, E12, E13, H1, H2, K1, K2, U2, U4, W1, W4}
+use Rattle.lk_rows.specs.Moves.{node_of}
 
 -- a look at a state: of the node before, and of the own
 abbrev pub looks_state : Pc → Bool

@@ -1,9 +1,9 @@
 // A call that has found its lock held: it may steal the lock, and else joins the queue. The rows
 // G1, H1, H2, G4 and G5.
 ghost use Rattle.std.specs.Prelude.{◌≡◌, ◌&&◌, not, is_some, true, false, None, Some, IfSome};
-ghost use Rattle.lk_machine.specs.declared.parts.Pc.TheVariants.{E1, G1, G4, G5, H1, H2, W1};
-ghost use Rattle.lk_machine.specs.rows.Pv.{after_glance};
-ghost use Rattle.lk_machine.specs.rows.Spin.{is_unlocked as unlocked};
+ghost use Rattle.lk_rows.specs.declared.parts.Pc.TheVariants.{E1, G1, G4, G5, H1, H2, W1};
+ghost use Rattle.lk_rows.specs.rows.Pv.{after_glance};
+ghost use Rattle.lk_rows.specs.rows.Spin.{is_unlocked as unlocked};
 ghost use Rattle.lk_pvdomain.specs.PvWords.{Any, Follows, IsNodeOf, Owns, Spins, Steals};
 ghost use Rattle.lk_pvdomain.specs.PvWords.{Steps, Takes, Waits};
 ghost use Rattle.lk_word.specs.declared.spin_word.NodeName.{NodeName as Node};
@@ -13,7 +13,7 @@ use crate::met::word_met;
 use crate::{nodes, shared, states, tries, words};
 use crossbeam_utils::Backoff;
 use lk_domain::{Part, Right};
-use lk_machine::{Verb, is_unlocked};
+use lk_rows::{Verb, is_unlocked};
 use lk_word::{Fields, NodeName, low_byte, without_low_byte};
 use std::sync::Wait;
 

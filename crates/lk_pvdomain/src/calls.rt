@@ -1,7 +1,7 @@
 // The calls of a processor whose family halts.
 ghost use Rattle.std.specs.Prelude.{◌≡◌, ◌<◌, true, false, None};
-ghost use Rattle.lk_machine.specs.declared.parts.Pc.TheVariants.{G1};
-ghost use Rattle.lk_machine.specs.declared.setup.Verb.TheVariants.{Lock, Try, Unlock};
+ghost use Rattle.lk_rows.specs.declared.parts.Pc.TheVariants.{G1};
+ghost use Rattle.lk_rows.specs.declared.setup.Verb.TheVariants.{Lock, Try, Unlock};
 ghost use Rattle.lk_domain.specs.Calls.{Frees, Unchanged, holds_in, lock_name};
 ghost use Rattle.lk_domain.specs.Ledgers.{is_first};
 ghost use Rattle.lk_domain.specs.Paths.{Any};

@@ -10,7 +10,7 @@ ghost use Rattle.lk_domain.specs.Words.{state_number, far_of, node_at, name_numb
 use atomic_table::Table;
 use lk_abs::Format;
 use lk_domain::{Order, Part, Plan, Slot, View};
-use lk_machine::State;
+use lk_rows::State;
 use lk_word::{HELD, Layout, NodeName};
 use std::alloc::Global;
 

@@ -1,8 +1,8 @@
 // A release: the rows U2 to U5.
 ghost use Rattle.std.specs.Prelude.{◌≡◌, ◌≢◌, true, false, None};
 ghost use Rattle.lk_word.specs.declared.spin_word.NodeName.{NodeName};
-ghost use Rattle.lk_machine.specs.declared.parts.Pc.TheVariants.{U3};
-ghost use Rattle.lk_machine.specs.declared.setup.Verb.TheVariants.{Unlock};
+ghost use Rattle.lk_rows.specs.declared.parts.Pc.TheVariants.{U3};
+ghost use Rattle.lk_rows.specs.declared.setup.Verb.TheVariants.{Unlock};
 ghost use Rattle.lk_domain.specs.Calls.{Frees, lock_name};
 ghost use Rattle.lk_domain.specs.Ledgers.{is_first};
 ghost use Rattle.lk_domain.specs.Paths.{Any};
@@ -13,7 +13,7 @@ ghost use Rattle.lk_pvdomain.specs.PvPaths.{At, Ended, Start};
 use crate::domain::PvDomain;
 use crate::{hash, kicks, tries, words};
 use lk_domain::Right;
-use lk_machine::Verb;
+use lk_rows::Verb;
 use lk_word::{HELD, low_byte};
 use std::sync::Wait;
 

@@ -1,5 +1,5 @@
 // A queue head that has acquired the lock, until it has left the queue: the rows E13 to K3.
-ghost use Rattle.lk_machine.specs.declared.parts.Pc.TheVariants.{E13, E14, E15};
+ghost use Rattle.lk_rows.specs.declared.parts.Pc.TheVariants.{E13, E14, E15};
 ghost use Rattle.lk_pvdomain.specs.PvWords.{IsNodeOf, Owns, Precedes, Steps, Takes, Waits};
 
 use crate::call::Queued;
@@ -7,7 +7,7 @@ use crate::met::{is_last, node_met, word_met};
 use crate::{hash, nodes, states, words};
 use crossbeam_utils::Backoff;
 use lk_domain::Right;
-use lk_machine::{State, Verb};
+use lk_rows::{State, Verb};
 use lk_word::NodeName;
 use std::sync::Wait;
 

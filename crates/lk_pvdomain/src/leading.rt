@@ -1,13 +1,13 @@
 // A queue head, until it has acquired the lock: the rows E1 to E12.
 ghost use Rattle.std.specs.Prelude.{◌≡◌, Bool, true, false};
-ghost use Rattle.lk_machine.specs.declared.parts.Pc.TheVariants.{E1, E2, E4, E5, E6, E10, E13};
+ghost use Rattle.lk_rows.specs.declared.parts.Pc.TheVariants.{E1, E2, E4, E5, E6, E10, E13};
 ghost use Rattle.lk_pvdomain.specs.PvWords.{Leads, Owns, Pends, Steps, Waits};
 
 use crate::call::Queued;
 use crate::{hash, kicks, pacing, states, tries, words};
 use crossbeam_utils::Backoff;
 use lk_domain::Right;
-use lk_machine::{State, Verb};
+use lk_rows::{State, Verb};
 use lk_word::{SLOW, is_free_for_pending, low_byte};
 use std::sync::Wait;
 

@@ -3,13 +3,13 @@ ghost use Rattle.std.specs.Prelude.{◌≡◌, ◌&&◌, not, Bool, Option, IfSo
 ghost use Rattle.lk_word.specs.declared.spin_word.Fields.{Fields};
 ghost use Rattle.lk_word.specs.declared.spin_word.NodeName.{NodeName};
 ghost use Rattle.lk_word.specs.SpinWord.{packed, IsPackable};
-ghost use Rattle.lk_machine.specs.Moves.{is_node};
-ghost use Rattle.lk_machine.specs.rows.Cna.{is_held};
+ghost use Rattle.lk_rows.specs.Moves.{is_node};
+ghost use Rattle.lk_rows.specs.rows.Cna.{is_held};
 ghost use Rattle.lk_domain.specs.Plans.{layout_in};
 ghost use Rattle.lk_domain.specs.Words.{IsNode, link_number, marked};
 
 use crate::domain::PvDomain;
-use lk_machine::is_tail;
+use lk_rows::is_tail;
 use lk_word::{Fields, LOWEST_NODE, Locked, MARK, NodeName, node_of_name, unpack};
 
 // The fields of a word that a step met.

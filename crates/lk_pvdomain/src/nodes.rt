@@ -9,7 +9,7 @@ ghost use Rattle.lk_pvdomain.specs.PvPlays.{AtFlag, AtBehind, AtHand};
 use crate::domain::PvDomain;
 use crate::rule::{FlagLooks, Handovers, LinkLooks, Linkings, ResetLooks, Resets};
 use lk_domain::{Part, Right};
-use lk_machine::Verb;
+use lk_rows::Verb;
 use lk_word::NodeName;
 
 // A waiter reads its own flag: the rows W1 and W4.

@@ -3,7 +3,7 @@ ghost use Rattle.lk_domain.specs.NodePlays.{Enters, Hands, Links, Readies, SeesF
 ghost use Rattle.lk_domain.specs.Plays.{Makes, Swaps, WentBy};
 ghost use Rattle.lk_pvdomain.specs.PvPlays.{SeesState, Halts, Wakes, Stays, Kicks, Fills, SeesHash, Empties, Tries};
 ghost use Rattle.lk_pvdomain.specs.PvPlays.{SparedBy, release_fails, head_fails, steal_fails};
-ghost use Rattle.lk_machine.specs.declared.setup.Verb.TheVariants.{Lock, Try, Unlock};
+ghost use Rattle.lk_rows.specs.declared.setup.Verb.TheVariants.{Lock, Try, Unlock};
 
 use atomic_table::Play;
 use lk_domain::{Slot, View};

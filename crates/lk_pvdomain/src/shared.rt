@@ -7,7 +7,7 @@ ghost use Rattle.lk_domain.specs.Plays.{Acts, ActsAs, MadeBy, SwappedBy};
 ghost use Rattle.lk_domain.specs.Rows.{is_look, is_take, arrives_by};
 ghost use Rattle.lk_domain.specs.Views.{IsNumbered};
 ghost use Rattle.lk_domain.specs.Words.{IsNode};
-ghost use Rattle.lk_machine.specs.declared.setup.Verb.TheVariants.{Lock, Try};
+ghost use Rattle.lk_rows.specs.declared.setup.Verb.TheVariants.{Lock, Try};
 
 use crate::domain::PvDomain;
 use crate::rule::{Exchanges, Locks, TryCalls};

@@ -18,8 +18,8 @@
 //             E13 leaves the queue as the last in it
 //               others are behind: E14 waits for the successor, E15 hands off
 //                 K1 finds that it has halted: K2 and K3 leave its kick to the release
-ghost use Rattle.lk_machine.specs.declared.parts.Pc.TheVariants.{E1, G1, G4, G5};
-ghost use Rattle.lk_machine.specs.declared.setup.Verb.TheVariants.{Lock};
+ghost use Rattle.lk_rows.specs.declared.parts.Pc.TheVariants.{E1, G1, G4, G5};
+ghost use Rattle.lk_rows.specs.declared.setup.Verb.TheVariants.{Lock};
 ghost use Rattle.lk_domain.specs.Paths.{Any};
 ghost use Rattle.lk_pvdomain.specs.PvPaths.{At, Start, Took};
 ghost use Rattle.lk_pvdomain.specs.PvWords.{Follows, IsNodeOf, Owns, Takes, Waits};

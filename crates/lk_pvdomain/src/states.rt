@@ -9,7 +9,7 @@ ghost use Rattle.lk_pvdomain.specs.PvRows.{looks_state, stores_own, state_told, 
 use crate::domain::{PvDomain, number_of};
 use crate::rule::{Entries, EntryLooks, StateSteps};
 use lk_domain::Right;
-use lk_machine::{State, Verb};
+use lk_rows::{State, Verb};
 use lk_word::NodeName;
 
 // Reads a state: the row W2, of the predecessor's node, or W5 or E1, of the own.

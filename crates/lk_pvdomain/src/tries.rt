@@ -6,7 +6,7 @@ ghost use Rattle.lk_domain.specs.Plans.{locks_of};
 ghost use Rattle.lk_domain.specs.Plays.{Acts, MadeBy};
 ghost use Rattle.lk_domain.specs.Views.{IsNumbered};
 ghost use Rattle.lk_domain.specs.Values.{out_in};
-ghost use Rattle.lk_machine.specs.declared.setup.Verb.TheVariants.{Lock, Unlock};
+ghost use Rattle.lk_rows.specs.declared.setup.Verb.TheVariants.{Lock, Unlock};
 ghost use Rattle.lk_pvdomain.specs.PvPlays.{TriedBy, release_fails, head_fails, steal_fails};
 ghost use Rattle.lk_pvdomain.specs.PvRows.{tries_release, tries_head, tries_steal};
 

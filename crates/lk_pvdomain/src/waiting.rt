@@ -1,13 +1,13 @@
 // A call that waits in the queue, until its predecessor hands off to it: the rows W1 to W7.
 ghost use Rattle.std.specs.Prelude.{◌≡◌, true, false};
-ghost use Rattle.lk_machine.specs.declared.parts.Pc.TheVariants.{E1, W1, W3, W4, W7};
+ghost use Rattle.lk_rows.specs.declared.parts.Pc.TheVariants.{E1, W1, W3, W4, W7};
 ghost use Rattle.lk_pvdomain.specs.PvWords.{Follows, IsNodeOf, Owns, Spins, Steps, Waits};
 
 use crate::call::Queued;
 use crate::{kicks, nodes, pacing, states};
 use crossbeam_utils::Backoff;
 use lk_domain::Right;
-use lk_machine::State;
+use lk_rows::State;
 use lk_word::NodeName;
 use std::sync::Wait;
 

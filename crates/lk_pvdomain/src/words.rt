@@ -13,7 +13,7 @@ ghost use Rattle.lk_pvdomain.specs.PvRows.{looks_word, presses, relents, slows, 
 use crate::domain::PvDomain;
 use crate::rule::WordSteps;
 use lk_domain::Right;
-use lk_machine::Verb;
+use lk_rows::Verb;
 use lk_word::{NodeName, PENDING};
 
 // The word as it is just now, of which contracts say nothing: what a swap may expect.

@@ -3,10 +3,10 @@ use Rattle.std.proofs.Common.{◌≡◌, ℕ, Option, Some, None, refl}
 use Rattle.lk_abs.specs.declared.names.Mode.{Mode}
 use Rattle.lk_abs.specs.declared.names.Mode.TheVariants.{Pv}
 use Rattle.lk_word.specs.declared.spin_word.NodeName.{NodeName}
-use Rattle.lk_machine.specs.declared.parts.Frame.{Frame}
-use Rattle.lk_machine.specs.Machine.{Machine, set_top}
-use Rattle.lk_machine.specs.Row.{moved, counted}
-use Rattle.lk_machine.specs.rows.Queue.{after_arrival, after_link}
+use Rattle.lk_rows.specs.declared.parts.Frame.{Frame}
+use Rattle.lk_rows.specs.Machine.{Machine, set_top}
+use Rattle.lk_rows.specs.Row.{moved, counted}
+use Rattle.lk_rows.specs.rows.Queue.{after_arrival, after_link}
 use Rattle.lk_queue.specs.Row.{frame_after}
 
 pub moved-after_link : (m : Machine) (p : ℕ) (f : Frame) (mode : Mode) (spins : ℕ) → moved m p f (after_link mode spins) ≡ set_top m p (frame_after f (after_link mode spins))

@@ -1,9 +1,9 @@
 -- What the proofs of this crate's rows say.
 use Rattle.std.specs.Prelude.{Option, Some, None}
 use Rattle.lk_word.specs.declared.spin_word.NodeName.{NodeName}
-use Rattle.lk_machine.specs.declared.parts.Frame.{Frame}
-use Rattle.lk_machine.specs.Machine.{Machine, HasNode}
-use Rattle.lk_machine.specs.Row.{Lead, Goes, gone}
+use Rattle.lk_rows.specs.declared.parts.Frame.{Frame}
+use Rattle.lk_rows.specs.Machine.{Machine, HasNode}
+use Rattle.lk_rows.specs.Row.{Lead, Goes, gone}
 
 -- the frame after a lead that stays in its operation
 abbrev pub frame_after : Frame → Lead → Frame

@@ -1,15 +1,16 @@
 // A waiter on its way into the queue, up to where it is the head; and a waiter without a node.
 ghost use Rattle.std.specs.Prelude.{◌≡◌, ◌≤◌, ◌^◌, ◌-◌, Some, None};
-ghost use Rattle.lk_machine.specs.Machine.{top_frame};
-ghost use Rattle.lk_machine.specs.Moves.{node_of};
+ghost use Rattle.lk_rows.specs.Machine.{top_frame};
+ghost use Rattle.lk_rows.specs.Moves.{node_of};
 ghost use Rattle.lk_machine.specs.Ready.{IsReady, CountsWithin};
-ghost use Rattle.lk_machine.specs.Row.{count_all, with_rest};
-ghost use Rattle.lk_machine.specs.TopRow.{row, on_word};
-ghost use Rattle.lk_machine.specs.rows.Queue.{own_node, after_entry, entry_counts, takes_out, after_arrival, after_link};
+ghost use Rattle.lk_rows.specs.Row.{count_all, with_rest};
+ghost use Rattle.lk_rows.specs.TopRow.{row, on_word};
+ghost use Rattle.lk_rows.specs.rows.Queue.{own_node, after_entry, entry_counts, takes_out, after_arrival, after_link};
 ghost use Rattle.lk_queue.specs.Row.{HasOwn, frame_after};
 
 use lk_abs::{Event, How, Mode, What};
-use lk_machine::{Counts, Flag, Frame, HELD, Machine, Pc, is_free, named};
+use lk_machine::Machine;
+use lk_rows::{Counts, Flag, Frame, HELD, Pc, is_free, named};
 use lk_word::NodeName;
 
 // The node that a frame gets where so many frames of its processor are in the slow path.
@@ -65,7 +66,7 @@ fn reset(machine: &mut Machine, me: Option<NodeName>)
 /// G1: counts itself into the slow path of its processor, `i -> i + 1`, and takes node i of the
 /// processor's four, reset. Interrupts nest, so the frames below use nodes below i, and no frame
 /// uses node i. From i = 4 on no node is left, and this waiter goes on without one.
-#[tactic(auto, using(lk_machine::proofs::Kept::kept, crate::proofs::Own::own_is_there), unfolding(lk_machine::specs::Machine::set_queued, lk_machine::specs::Machine::set_cpu))]
+#[tactic(auto, using(lk_machine::proofs::Kept::kept, crate::proofs::Own::own_is_there), unfolding(lk_rows::specs::Machine::set_queued, lk_rows::specs::Machine::set_cpu))]
 pub(crate) fn enter(machine: &mut Machine, cpu: u32) -> Option<Event>
     requires ready { IsReady machine.old cpu }
     requires here { (top_frame machine.old cpu).place ≡ Some Pc.G1 }

@@ -1,13 +1,14 @@
 // The queue head, up to the handoff.
 ghost use Rattle.std.specs.Prelude.{◌≡◌, Some};
-ghost use Rattle.lk_machine.specs.Machine.{top_frame};
+ghost use Rattle.lk_rows.specs.Machine.{top_frame};
 ghost use Rattle.lk_machine.specs.Ready.{IsReady};
-ghost use Rattle.lk_machine.specs.TopRow.{row};
-ghost use Rattle.lk_machine.specs.rows.Queue.{after_look, is_sole, after_head};
+ghost use Rattle.lk_rows.specs.TopRow.{row};
+ghost use Rattle.lk_rows.specs.rows.Queue.{after_look, is_sole, after_head};
 
 use crate::arrive::take_out;
 use lk_abs::{Event, How, Mode, What};
-use lk_machine::{Flag, Frame, Machine, Pc, is_tail, is_unlocked, named};
+use lk_machine::Machine;
+use lk_rows::{Flag, Frame, Pc, is_tail, is_unlocked, named};
 use lk_word::{Fields, Locked};
 
 // The row after G7 read this word.

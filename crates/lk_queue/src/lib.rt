@@ -1,5 +1,5 @@
 //! The rows of the queue, and of a waiter without a node. Each row is proved to be the row that
-//! `lk_machine` defines.
+//! `lk_rows` defines.
 //!
 //! The rows are steps of Linux's `queued_spin_lock_slowpath` from its label `queue` on. A word is
 //! written as its tail, its pending bit and its locked byte, as in `n,0,0`. No tail is 0, and `*`

@@ -7,8 +7,8 @@ use Rattle.lk_text.specs.Causes.{Rose}
 use Rattle.lk_text.specs.Bytes.{AppendsFront}
 use Rattle.lk_text.specs.Block.{waiting}
 use Rattle.lk_text.proofs.Conveyed.{all_conveyed, conveyed_all, front_of_conveyed, front_of_rest}
-use Rattle.lk_machine.specs.Run.{events_of}
-use Rattle.lk_machine.specs.Rules.{rules_of}
+use Rattle.lk_rows.specs.Run.{events_of}
+use Rattle.lk_rows.specs.Rules.{rules_of}
 use Rattle.lk_forms.specs.Texts.{closing}
 use Rattle.lk_forms.specs.Trace.{Good, Refused}
 use Rattle.lk_forms.specs.declared.answers.LineRefusal.TheVariants.{Bad, Limit}

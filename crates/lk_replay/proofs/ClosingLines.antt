@@ -7,7 +7,7 @@ use Rattle.std.specs.Io.KnownBytes.{Appends}
 use Rattle.lk_text.specs.Bytes.{AppendsFront, Conveys}
 use Rattle.lk_text.proofs.Conveyed.{all_conveyed, front_of_more, front_of_conveyed}
 use Rattle.lk_forms.specs.Texts.{end_text, count_text, closing}
-use Rattle.lk_machine.specs.declared.parts.Counts.{Counts}
+use Rattle.lk_rows.specs.declared.parts.Counts.{Counts}
 
 abbrev tens : List ℕ
 tens = 0 ∷ 1 ∷ 2 ∷ 3 ∷ 4 ∷ 5 ∷ 6 ∷ 7 ∷ 8 ∷ 9 ∷ []

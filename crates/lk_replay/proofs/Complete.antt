@@ -2,7 +2,7 @@
 use Rattle.std.proofs.Common.{◌≡◌, ◌≢◌, IsOk, ◌⊎◌, ◌≤◌, ℕ, List, Option, Some, Result, Ok, Err, IsOkUnless, IsErrAnd, refl, sym, ap, ◌∙◌, subst, inl, inr, arith}
 use Rattle.lk_abs.specs.declared.events.Act.{Act}
 use Rattle.lk_text.specs.Causes.{Rose}
-use Rattle.lk_machine.specs.declared.setup.Setup.{Setup}
+use Rattle.lk_rows.specs.declared.setup.Setup.{Setup}
 use Rattle.lk_forms.specs.Trace.{Trace, Good, Refused, Says, trace}
 use Rattle.lk_forms.specs.declared.answers.LineRefusal.{LineRefusal}
 use Rattle.lk_forms.specs.declared.answers.LineRefusal.TheVariants.{Bad, Limit}

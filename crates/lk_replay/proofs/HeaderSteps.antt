@@ -7,7 +7,7 @@ use Rattle.lk_text.specs.Reader.{pending, lines_given, is_ended, IsFresh, GaveLi
 use Rattle.lk_text.specs.declared.reader.LineReader.{LineReader}
 use Rattle.lk_text.specs.declared.reader.LineFault.{LineFault}
 use Rattle.lk_text.specs.declared.reader.LineFault.TheVariants.{ReadFault, TooLong, TooMuch}
-use Rattle.lk_machine.specs.declared.setup.Setup.{Setup}
+use Rattle.lk_rows.specs.declared.setup.Setup.{Setup}
 use Rattle.lk_forms.specs.Grammar.{Reading, read, has_go, has_end, last_rank, ending, nothing_read}
 use Rattle.lk_forms.specs.Reader.{ReadsOn}
 use Rattle.lk_forms.specs.Trace.{Good, Refused, Says, trace_end, reading_after, setup_of, acts_of, bytes_of}

@@ -4,7 +4,7 @@ use Rattle.lk_text.specs.Bytes.{Conveys}
 use Rattle.lk_text.specs.Block.{waiting}
 use Rattle.lk_text.specs.Feeds.{line_of}
 use Rattle.lk_text.proofs.Conveyed.{Conveys-nothing}
-use Rattle.lk_machine.specs.Programs.{IsLawfulSetup}
+use Rattle.lk_rows.specs.Programs.{IsLawfulSetup}
 use Rattle.lk_forms.specs.Grammar.{Reading, has_go}
 use Rattle.lk_forms.specs.Trace.{reading_after, setup_of}
 use Rattle.lk_forms.proofs.Lawful.{lawful_setup}

@@ -8,10 +8,10 @@ use Rattle.lk_abs.specs.declared.events.Event.{Event}
 use Rattle.lk_text.specs.Bytes.{AppendsFront, Conveys}
 use Rattle.lk_text.proofs.Conveyed.{Conveys-trans, front_of_conveyed, front_of_more}
 use Rattle.lk_forms.specs.Texts.{lines}
-use Rattle.lk_machine.specs.Machine.{Machine}
-use Rattle.lk_machine.specs.Acts.{next}
-use Rattle.lk_machine.specs.Run.{Occurrence, occurs, history_from, machine_after, events_of}
-use Rattle.lk_machine.specs.declared.parts.Counts.{Counts}
+use Rattle.lk_rows.specs.Machine.{Machine}
+use Rattle.lk_rows.specs.Acts.{next}
+use Rattle.lk_rows.specs.Run.{Occurrence, occurs, history_from, machine_after, events_of}
+use Rattle.lk_rows.specs.declared.parts.Counts.{Counts}
 use Rattle.lk_law.specs.Sound.{IsSound}
 use Rattle.lk_law.specs.MachineLaws.{ShowsLawful}
 use Rattle.lk_law.specs.Kicked.{with_event}

@@ -12,8 +12,8 @@ use Rattle.lk_text.specs.declared.reader.LineReader.{LineReader}
 use Rattle.lk_text.specs.declared.reader.LineFault.{LineFault}
 use Rattle.lk_text.specs.declared.reader.LineFault.TheVariants.{ReadFault, TooLong, TooMuch}
 use Rattle.lk_text.proofs.Conveyed.{Conveys-trans, front_of_more, front_of_conveyed, front_of_rest}
-use Rattle.lk_machine.specs.declared.setup.Setup.{Setup}
-use Rattle.lk_machine.specs.Run.{at_rest, history_from, machine_after, events_of}
+use Rattle.lk_rows.specs.declared.setup.Setup.{Setup}
+use Rattle.lk_rows.specs.Run.{at_rest, history_from, machine_after, events_of}
 use Rattle.lk_law.specs.Sound.{IsSound}
 use Rattle.lk_law.specs.MachineLaws.{ShowsLawful}
 use Rattle.lk_forms.specs.Grammar.{Reading, read, scheduled, cpus_of, has_go, has_end, ending}

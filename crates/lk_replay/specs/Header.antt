@@ -5,7 +5,7 @@ use Rattle.std.specs.Io.KnownBytes.{Consumes}
 use Rattle.lk_text.specs.Causes.{Rose}
 use Rattle.lk_text.specs.Feeds.{pieces}
 use Rattle.lk_text.specs.declared.reader.LineReader.{LineReader}
-use Rattle.lk_machine.specs.declared.setup.Setup.{Setup}
+use Rattle.lk_rows.specs.declared.setup.Setup.{Setup}
 use Rattle.lk_forms.specs.Grammar.{Reading, last_rank, has_go}
 use Rattle.lk_forms.specs.Headers.{EndsAtGo}
 use Rattle.lk_forms.specs.Trace.{Refused, Says, reading_after, acts_of, whole_lines}

@@ -5,9 +5,9 @@ use Rattle.lk_abs.specs.declared.events.Act.{Act}
 use Rattle.lk_abs.specs.Lawful.{IsLawful}
 use Rattle.lk_text.specs.Causes.{Rose}
 use Rattle.lk_text.specs.Bytes.{AppendsFront}
-use Rattle.lk_machine.specs.declared.setup.Setup.{Setup}
-use Rattle.lk_machine.specs.Run.{events_of}
-use Rattle.lk_machine.specs.Rules.{rules_of}
+use Rattle.lk_rows.specs.declared.setup.Setup.{Setup}
+use Rattle.lk_rows.specs.Run.{events_of}
+use Rattle.lk_rows.specs.Rules.{rules_of}
 use Rattle.lk_forms.specs.Trace.{Trace, Good, Refused, Says, setup_of, acts_of, whole_lines}
 use Rattle.lk_forms.specs.declared.answers.LineRefusal.{LineRefusal}
 use Rattle.lk_forms.specs.declared.answers.LineRefusal.TheVariants.{Bad, Limit}

@@ -2,11 +2,11 @@
 use Rattle.std.specs.Prelude.{◌≡◌, ◌≤◌, ◌+◌, List, ◌++◌, length}
 use Rattle.lk_abs.specs.declared.events.Act.{Act}
 use Rattle.lk_abs.specs.declared.events.Event.{Event}
-use Rattle.lk_machine.specs.Run.{Occurrence, at_rest, history_from, machine_after, events_of}
+use Rattle.lk_rows.specs.Run.{Occurrence, at_rest, history_from, machine_after, events_of}
 use Rattle.lk_law.specs.Sound.{IsSound}
 use Rattle.lk_law.specs.MachineLaws.{ShowsLawful}
 use Rattle.lk_machine.specs.Ready.{CountsWithin}
-use Rattle.lk_machine.specs.declared.setup.Setup.{Setup}
+use Rattle.lk_rows.specs.declared.setup.Setup.{Setup}
 use Rattle.lk_replay.specs.Transcript.{history_of_run}
 use Rattle.lk_replay.specs.declared.run.Run.{Run}
 

@@ -7,7 +7,7 @@ use Rattle.lk_text.specs.Causes.{Rose}
 use Rattle.lk_text.specs.Bytes.{AppendsFront, Conveys}
 use Rattle.lk_text.specs.Block.{waiting}
 use Rattle.lk_text.specs.Reader.{kept, lines_given}
-use Rattle.lk_machine.specs.declared.setup.Setup.{Setup}
+use Rattle.lk_rows.specs.declared.setup.Setup.{Setup}
 use Rattle.lk_forms.specs.Grammar.{has_go, has_end}
 use Rattle.lk_forms.specs.Trace.{Trace, Good, Refused, Says, reading_after, setup_of, acts_of, setup_in, acts_in, whole_lines}
 use Rattle.lk_forms.specs.declared.answers.LineRefusal.{LineRefusal}

@@ -1,9 +1,9 @@
 -- What is written for a run.
 use Rattle.std.specs.Prelude.{ℕ, List, ◌++◌, length}
 use Rattle.lk_abs.specs.declared.events.Act.{Act}
-use Rattle.lk_machine.specs.declared.setup.Setup.{Setup}
-use Rattle.lk_machine.specs.declared.parts.Counts.{Counts}
-use Rattle.lk_machine.specs.Run.{Occurrence, at_rest, history, machine_after}
+use Rattle.lk_rows.specs.declared.setup.Setup.{Setup}
+use Rattle.lk_rows.specs.declared.parts.Counts.{Counts}
+use Rattle.lk_rows.specs.Run.{Occurrence, at_rest, history, machine_after}
 use Rattle.lk_forms.specs.Texts.{lines, closing}
 
 -- what happens in these acts, made on the setup's machine from rest

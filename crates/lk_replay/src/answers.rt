@@ -2,7 +2,7 @@
 ghost use Rattle.std.specs.Prelude.{◌≡◌};
 
 use lk_forms::{Fault, Which};
-use lk_machine::Counts;
+use lk_rows::Counts;
 use lk_stream::ReplayFault;
 use lk_text::WriteFault;
 

@@ -7,7 +7,7 @@ ghost use Rattle.lk_text.specs.Block.{waiting};
 ghost use Rattle.lk_forms.specs.Texts.{closing};
 
 use lk_forms::{count_line, end_line};
-use lk_machine::Counts;
+use lk_rows::Counts;
 use lk_text::{Block, Sink, WriteFault};
 
 // How many counts a transcript tells.

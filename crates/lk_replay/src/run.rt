@@ -3,15 +3,16 @@ ghost use Rattle.std.specs.Prelude.{◌≡◌, ◌≤◌, ◌<◌, ◌+◌, [], 
 ghost use Rattle.lk_text.specs.Causes.{HasCause};
 ghost use Rattle.lk_text.specs.Bytes.{AppendsFront, Conveys};
 ghost use Rattle.lk_text.specs.Block.{waiting};
-ghost use Rattle.lk_machine.specs.Programs.{IsLawfulSetup};
-ghost use Rattle.lk_machine.specs.Acts.{next, processor_of};
-ghost use Rattle.lk_machine.specs.Run.{occurs};
+ghost use Rattle.lk_rows.specs.Programs.{IsLawfulSetup};
+ghost use Rattle.lk_rows.specs.Acts.{next, processor_of};
+ghost use Rattle.lk_rows.specs.Run.{occurs};
 ghost use Rattle.lk_forms.specs.Texts.{lines};
 
 use lk_abs::{Act, Event, Memory};
 use lk_core::rest_shows;
 use lk_forms::write_event;
-use lk_machine::{Machine, Setup};
+use lk_machine::Machine;
+use lk_rows::Setup;
 use lk_text::{Block, Sink, WriteFault};
 use std::alloc::Global;
 

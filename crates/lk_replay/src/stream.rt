@@ -1,7 +1,7 @@
 // A replay, from bytes to bytes.
 ghost use Rattle.std.specs.Prelude.{◌≡◌, ◌⊎◌, ℕ, List, Some, Err, IsOkUnless, IsErrAnd};
 ghost use Rattle.lk_abs.specs.declared.events.Act.{Act};
-ghost use Rattle.lk_machine.specs.declared.setup.Setup.{Setup};
+ghost use Rattle.lk_rows.specs.declared.setup.Setup.{Setup};
 ghost use Rattle.lk_text.specs.Causes.{Rose};
 ghost use Rattle.lk_forms.specs.Trace.{Good, Refused, trace};
 ghost use Rattle.lk_forms.specs.declared.answers.LineRefusal.{LineRefusal};

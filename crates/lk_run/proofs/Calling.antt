@@ -1,8 +1,8 @@
 -- What a row does to a call that queues, and rows that follow each other.
 use Rattle.std.proofs.Common.{◌≡◌, ℕ, Option, Some, None, Bool, true, false, refl, sym, ap, ◌∙◌, IfSome, subst}
 use Rattle.std.specs.Option.{ForSome}
-use Rattle.lk_machine.specs.declared.parts.Frame.{Frame}
-use Rattle.lk_machine.specs.declared.parts.Pc.{Pc}
+use Rattle.lk_rows.specs.declared.parts.Frame.{Frame}
+use Rattle.lk_rows.specs.declared.parts.Pc.{Pc}
 use Rattle.lk_law.specs.Families.{is_rw_row}
 use Rattle.lk_law.specs.Leads.{Met, Word, Number}
 use Rattle.lk_domain.specs.NodePlays.{AtRow, AtEntry, counting, readies}
@@ -10,7 +10,7 @@ use Rattle.lk_domain.specs.Words.{IsNode}
 use Rattle.lk_domain.specs.Calls.{slows}
 use Rattle.lk_domain.specs.declared.view.View.{View}
 use Rattle.lk_word.specs.declared.spin_word.NodeName.{NodeName}
-use Rattle.lk_machine.specs.declared.parts.Pc.TheVariants.{F1, G1, G2}
+use Rattle.lk_rows.specs.declared.parts.Pc.TheVariants.{F1, G1, G2}
 use Rattle.lk_run.specs.Frames.{Owns}
 use Rattle.lk_run.proofs.Rows as rows
 use Rattle.lk_domain.specs.Paths.{Any, AreKept, Passes, is_busy}
@@ -22,7 +22,7 @@ use Rattle.lk_domain.specs.declared.cpu.Cpu.{Cpu}
 use Rattle.lk_domain.specs.Plans.{layout_in}
 use Rattle.lk_word.specs.declared.spin_word.Fields.{Fields}
 use Rattle.lk_word.specs.SpinWord.{packed, IsPackable}
-use Rattle.lk_machine.specs.rows.Spin.{after_fast}
+use Rattle.lk_rows.specs.rows.Spin.{after_fast}
 use Rattle.lk_run.specs.Phases.{StandsAs}
 use Rattle.lk_run.specs.Polls.{Rises}
 use Rattle.lk_run.specs.Standing.{Outside}

@@ -5,16 +5,16 @@ use Rattle.std.specs.Prelude.{if◌then◌else◌, ◌&&◌, not}
 use Rattle.lk_abs.specs.declared.names.Mode.{Mode}
 use Rattle.lk_word.specs.declared.spin_word.NodeName.{NodeName}
 use Rattle.lk_word.specs.declared.spin_word.Fields.{Fields}
-use Rattle.lk_machine.specs.declared.parts.Flag.{Flag}
-use Rattle.lk_machine.specs.declared.parts.Frame.{Frame}
-use Rattle.lk_machine.specs.declared.parts.Pc.{Pc}
-use Rattle.lk_machine.specs.declared.parts.Pc.TheVariants.{C1, C2, C3, C4, C5, C6, C7, C8, C9, C10}
-use Rattle.lk_machine.specs.declared.parts.Why.{Why}
-use Rattle.lk_machine.specs.declared.parts.Why.TheVariants as why
-use Rattle.lk_machine.specs.Moves.{is_node, node_of}
-use Rattle.lk_machine.specs.Row.{learns_all, A, B, K, T, Reason, Y, Second}
-use Rattle.lk_machine.specs.rows.Cna.{Sight, may_stay, search_first, search_on, after_tail, is_held, is_last, flag_for}
-use Rattle.lk_machine.specs.TopRow.{target}
+use Rattle.lk_rows.specs.declared.parts.Flag.{Flag}
+use Rattle.lk_rows.specs.declared.parts.Frame.{Frame}
+use Rattle.lk_rows.specs.declared.parts.Pc.{Pc}
+use Rattle.lk_rows.specs.declared.parts.Pc.TheVariants.{C1, C2, C3, C4, C5, C6, C7, C8, C9, C10}
+use Rattle.lk_rows.specs.declared.parts.Why.{Why}
+use Rattle.lk_rows.specs.declared.parts.Why.TheVariants as why
+use Rattle.lk_rows.specs.Moves.{is_node, node_of}
+use Rattle.lk_rows.specs.Row.{learns_all, A, B, K, T, Reason, Y, Second}
+use Rattle.lk_rows.specs.rows.Cna.{Sight, may_stay, search_first, search_on, after_tail, is_held, is_last, flag_for}
+use Rattle.lk_rows.specs.TopRow.{target}
 use Rattle.lk_law.specs.Leads.{Met, Word, Number, Flagged, Named, Linked, Course, course_of}
 use Rattle.lk_law.specs.Steps.{led}
 use Rattle.lk_domain.specs.Calls.{course, grip_of, Unchanged, Outlook, sight_by}

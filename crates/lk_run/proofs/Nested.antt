@@ -4,7 +4,7 @@ use Rattle.std.proofs.lemmas.Bool.{cases_Bool}
 use Rattle.std.specs.Prelude.{if◌then◌else◌, ◌&&◌, ◌||◌}
 use Rattle.lk_abs.specs.Names.{same_lock}
 use Rattle.lk_abs.specs.declared.holder.Manner.{Manner}
-use Rattle.lk_machine.specs.declared.setup.Verb.{Verb}
+use Rattle.lk_rows.specs.declared.setup.Verb.{Verb}
 use Rattle.lk_law.proofs.common.Puts.{if-true, if-false}
 use Rattle.lk_law.proofs.common.Sames.{same_lock-self}
 use Rattle.lk_domain.specs.Calls.{Terms, Mark, Hold, hold, Calls, holds_in, lock_name, moved_to, free_of}

@@ -7,12 +7,12 @@ use Rattle.lk_word.specs.declared.spin_word.NodeName.{NodeName}
 use Rattle.lk_word.specs.declared.spin_word.Fields.{Fields}
 use Rattle.lk_word.specs.declared.spin_word.Layout.{Layout}
 use Rattle.lk_word.specs.SpinWord.{packed, IsPackable}
-use Rattle.lk_machine.specs.declared.parts.Flag.{Flag}
-use Rattle.lk_machine.specs.declared.parts.Flag.TheVariants.{Unset, Go, Second}
-use Rattle.lk_machine.specs.declared.parts.Pc.{Pc}
-use Rattle.lk_machine.specs.declared.parts.Pc.TheVariants.{F1, V1, P0, P1, P2, P3, P4, G1, G7, G8, G9}
-use Rattle.lk_machine.specs.declared.setup.Verb.{Verb}
-use Rattle.lk_machine.specs.rows.Spin.{is_free, is_unlocked, after_fast, after_pending, to_queue}
+use Rattle.lk_rows.specs.declared.parts.Flag.{Flag}
+use Rattle.lk_rows.specs.declared.parts.Flag.TheVariants.{Unset, Go, Second}
+use Rattle.lk_rows.specs.declared.parts.Pc.{Pc}
+use Rattle.lk_rows.specs.declared.parts.Pc.TheVariants.{F1, V1, P0, P1, P2, P3, P4, G1, G7, G8, G9}
+use Rattle.lk_rows.specs.declared.setup.Verb.{Verb}
+use Rattle.lk_rows.specs.rows.Spin.{is_free, is_unlocked, after_fast, after_pending, to_queue}
 use Rattle.lk_domain.specs.Plans.{cpus_of, layout_in}
 use Rattle.lk_domain.specs.Seats.{IsOf, Made}
 use Rattle.lk_domain.specs.declared.cpu.Cpu.{Cpu}

@@ -6,15 +6,15 @@ use Rattle.lk_abs.specs.declared.names.Mode.{Mode}
 use Rattle.lk_abs.specs.declared.names.Mode.TheVariants.{Virt, Native, Cna, Pv}
 use Rattle.lk_word.specs.declared.spin_word.NodeName.{NodeName}
 use Rattle.lk_word.specs.declared.spin_word.Fields.{Fields}
-use Rattle.lk_machine.specs.declared.parts.Flag.{Flag}
-use Rattle.lk_machine.specs.declared.parts.Flag.TheVariants.{Unset, Go, Second}
-use Rattle.lk_machine.specs.declared.parts.Frame.{Frame}
-use Rattle.lk_machine.specs.declared.parts.Pc.TheVariants.{F1, V1, V2, P0, P1, P2, P3, P4, G1, G2, G3, G4, G5}
-use Rattle.lk_machine.specs.declared.parts.Pc.TheVariants.{G6, G7, G8, G9, G10, G11, N1, N2, C1}
-use Rattle.lk_machine.specs.Moves.{is_node, node_of}
-use Rattle.lk_machine.specs.rows.Spin.{is_free, is_unlocked, after_fast, after_pending, to_queue}
+use Rattle.lk_rows.specs.declared.parts.Flag.{Flag}
+use Rattle.lk_rows.specs.declared.parts.Flag.TheVariants.{Unset, Go, Second}
+use Rattle.lk_rows.specs.declared.parts.Frame.{Frame}
+use Rattle.lk_rows.specs.declared.parts.Pc.TheVariants.{F1, V1, V2, P0, P1, P2, P3, P4, G1, G2, G3, G4, G5}
+use Rattle.lk_rows.specs.declared.parts.Pc.TheVariants.{G6, G7, G8, G9, G10, G11, N1, N2, C1}
+use Rattle.lk_rows.specs.Moves.{is_node, node_of}
+use Rattle.lk_rows.specs.rows.Spin.{is_free, is_unlocked, after_fast, after_pending, to_queue}
 use Rattle.lk_domain.specs.Calls.{Outlook}
-use Rattle.lk_machine.specs.rows.Queue.{own_node}
+use Rattle.lk_rows.specs.rows.Queue.{own_node}
 use Rattle.lk_law.specs.Agree.{halts}
 use Rattle.lk_law.specs.Cna.{moves_aside, node_in}
 use Rattle.lk_law.specs.Leads.{Word, Number, Flagged, Named, Linked}

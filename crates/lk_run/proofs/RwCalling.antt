@@ -1,11 +1,11 @@
 -- What a row does to a reader or a writer that waits, and rows that follow each other.
 use Rattle.std.proofs.Common.{◌≡◌, ℕ, List, length, Option, Some, None, Bool, true, ap, arith}
 use Rattle.lk_abs.specs.declared.holder.Manner.{Manner}
-use Rattle.lk_machine.specs.Moves.{wait_name}
-use Rattle.lk_machine.specs.declared.parts.Frame.{Frame}
-use Rattle.lk_machine.specs.declared.parts.Pc.{Pc}
-use Rattle.lk_machine.specs.declared.parts.Pc.TheVariants.{F1, U1}
-use Rattle.lk_machine.specs.declared.setup.Verb.{Verb}
+use Rattle.lk_rows.specs.Moves.{wait_name}
+use Rattle.lk_rows.specs.declared.parts.Frame.{Frame}
+use Rattle.lk_rows.specs.declared.parts.Pc.{Pc}
+use Rattle.lk_rows.specs.declared.parts.Pc.TheVariants.{F1, U1}
+use Rattle.lk_rows.specs.declared.setup.Verb.{Verb}
 use Rattle.lk_law.specs.Leads.{Shared}
 use Rattle.lk_law.specs.Sound.{after_wait}
 use Rattle.lk_domain.specs.Calls.{Running, lock_name, waits_in}

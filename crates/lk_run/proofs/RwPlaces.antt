@@ -3,7 +3,7 @@ use Rattle.std.proofs.Common.{◌≡◌, ℕ, ◌%◌, Bool, true, false, eqb, s
 use Rattle.std.specs.Prelude.{not}
 use Rattle.lk_word.specs.declared.rw_word.RwFields.{RwFields}
 use Rattle.lk_word.specs.RwWord.{packed_rw}
-use Rattle.lk_machine.specs.rows.Rw.{is_empty, is_open, is_cleared}
+use Rattle.lk_rows.specs.rows.Rw.{is_empty, is_open, is_cleared}
 use Rattle.lk_domain.proofs.rw.Numbers.{empty_test, cleared_test, writer_test, open_test}
 
 module _ (n : ℕ) (y : RwFields) (word : n ≡ packed_rw y) where

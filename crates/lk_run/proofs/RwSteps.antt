@@ -3,13 +3,13 @@ use Rattle.std.proofs.Common.{◌≡◌, inl, inr, ℕ, ◌≢◌, List, length,
 use Rattle.std.specs.Prelude.{if◌then◌else◌}
 use Rattle.lk_abs.specs.declared.holder.Manner.{Manner}
 use Rattle.lk_abs.specs.declared.names.LockName.{LockName}
-use Rattle.lk_machine.specs.Moves.{first_place, wait_name}
-use Rattle.lk_machine.specs.Programs.{kind_of}
-use Rattle.lk_machine.specs.declared.parts.Frame.{Frame}
-use Rattle.lk_machine.specs.declared.parts.Pc.{Pc}
-use Rattle.lk_machine.specs.declared.parts.Pc.TheVariants.{F1, U1, R1, R2, R3, Wr2, Wr5, Y1, Y4}
-use Rattle.lk_machine.specs.declared.setup.Verb.{Verb}
-use Rattle.lk_machine.specs.declared.setup.Verb.TheVariants.{Read, TryRead, TryWrite, Write}
+use Rattle.lk_rows.specs.Moves.{first_place, wait_name}
+use Rattle.lk_rows.specs.Programs.{kind_of}
+use Rattle.lk_rows.specs.declared.parts.Frame.{Frame}
+use Rattle.lk_rows.specs.declared.parts.Pc.{Pc}
+use Rattle.lk_rows.specs.declared.parts.Pc.TheVariants.{F1, U1, R1, R2, R3, Wr2, Wr5, Y1, Y4}
+use Rattle.lk_rows.specs.declared.setup.Verb.{Verb}
+use Rattle.lk_rows.specs.declared.setup.Verb.TheVariants.{Read, TryRead, TryWrite, Write}
 use Rattle.lk_law.specs.Leads.{Met, Word, Shared}
 use Rattle.lk_law.specs.Sound.{after_wait, takes_wait}
 use Rattle.lk_law.proofs.common.Puts.{if-true}

@@ -6,13 +6,13 @@ use Rattle.lk_abs.specs.declared.holder.Manner.TheVariants.{Reads, Writes}
 use Rattle.lk_abs.specs.declared.names.Kind.TheVariants.{Rw}
 use Rattle.lk_abs.specs.declared.names.LockName.{LockName}
 use Rattle.lk_word.specs.declared.rw_word.RwFields.{RwFields}
-use Rattle.lk_machine.specs.Moves.{first_place}
-use Rattle.lk_machine.specs.declared.parts.Frame.{Frame}
-use Rattle.lk_machine.specs.declared.parts.Pc.{Pc}
-use Rattle.lk_machine.specs.declared.parts.Pc.TheVariants.{Y2, Y5, Z1, Z2}
-use Rattle.lk_machine.specs.declared.setup.Verb.{Verb}
-use Rattle.lk_machine.specs.declared.setup.Verb.TheVariants.{RUnlock, WUnlock, TryRead, TryWrite}
-use Rattle.lk_machine.specs.TopRow.{target}
+use Rattle.lk_rows.specs.Moves.{first_place}
+use Rattle.lk_rows.specs.declared.parts.Frame.{Frame}
+use Rattle.lk_rows.specs.declared.parts.Pc.{Pc}
+use Rattle.lk_rows.specs.declared.parts.Pc.TheVariants.{Y2, Y5, Z1, Z2}
+use Rattle.lk_rows.specs.declared.setup.Verb.{Verb}
+use Rattle.lk_rows.specs.declared.setup.Verb.TheVariants.{RUnlock, WUnlock, TryRead, TryWrite}
+use Rattle.lk_rows.specs.TopRow.{target}
 use Rattle.lk_law.specs.Leads.{Met, Shared, held_lock}
 use Rattle.lk_law.specs.Agree.{halts}
 use Rattle.lk_law.specs.Sound.{takes_wait}

@@ -7,13 +7,13 @@ use Rattle.lk_abs.specs.Names.{same_lock}
 use Rattle.lk_abs.specs.declared.holder.Manner.{Manner}
 use Rattle.lk_abs.specs.declared.holder.Manner.TheVariants.{Spins}
 use Rattle.lk_abs.specs.declared.names.LockName.{LockName}
-use Rattle.lk_machine.specs.Moves.{first_place, wait_name, waiting}
-use Rattle.lk_machine.specs.declared.parts.Frame.{Frame}
-use Rattle.lk_machine.specs.declared.parts.Pc.{Pc}
-use Rattle.lk_machine.specs.declared.parts.Pc.TheVariants.{F1, U1}
-use Rattle.lk_machine.specs.declared.setup.Verb.{Verb}
-use Rattle.lk_machine.specs.declared.setup.Verb.TheVariants.{Lock, Try, Read, TryRead, Write, TryWrite}
-use Rattle.lk_machine.specs.TopRow.{target}
+use Rattle.lk_rows.specs.Moves.{first_place, wait_name, waiting}
+use Rattle.lk_rows.specs.declared.parts.Frame.{Frame}
+use Rattle.lk_rows.specs.declared.parts.Pc.{Pc}
+use Rattle.lk_rows.specs.declared.parts.Pc.TheVariants.{F1, U1}
+use Rattle.lk_rows.specs.declared.setup.Verb.{Verb}
+use Rattle.lk_rows.specs.declared.setup.Verb.TheVariants.{Lock, Try, Read, TryRead, Write, TryWrite}
+use Rattle.lk_rows.specs.TopRow.{target}
 use Rattle.lk_law.specs.Leads.{Met, held_lock}
 use Rattle.lk_law.specs.Sound.{after_wait, takes_wait}
 use Rattle.lk_law.proofs.common.Puts.{if-true, if-false, not-true}

@@ -6,17 +6,17 @@ use Rattle.std.specs.Prelude.{if◌then◌else◌, ◌&&◌, not}
 use Rattle.lk_abs.specs.declared.holder.Manner.TheVariants.{Spins}
 use Rattle.lk_abs.specs.declared.names.LockName.{LockName}
 use Rattle.lk_abs.specs.declared.names.Mode.{Mode}
-use Rattle.lk_machine.specs.Moves.{wait_name}
-use Rattle.lk_machine.specs.declared.parts.Frame.{Frame}
-use Rattle.lk_machine.specs.declared.parts.Pc.{Pc}
-use Rattle.lk_machine.specs.declared.parts.Pc.TheVariants.{G1}
-use Rattle.lk_machine.specs.declared.setup.Verb.{Verb}
-use Rattle.lk_machine.specs.declared.setup.Verb.TheVariants.{Lock, Read, Write}
-use Rattle.lk_machine.specs.TopRow.{target}
+use Rattle.lk_rows.specs.Moves.{wait_name}
+use Rattle.lk_rows.specs.declared.parts.Frame.{Frame}
+use Rattle.lk_rows.specs.declared.parts.Pc.{Pc}
+use Rattle.lk_rows.specs.declared.parts.Pc.TheVariants.{G1}
+use Rattle.lk_rows.specs.declared.setup.Verb.{Verb}
+use Rattle.lk_rows.specs.declared.setup.Verb.TheVariants.{Lock, Read, Write}
+use Rattle.lk_rows.specs.TopRow.{target}
 use Rattle.lk_domain.specs.Calls.{Outlook}
 use Rattle.lk_law.specs.Families.{is_rw_row}
 use Rattle.lk_law.specs.Leads.{Met, Number, held_lock}
-use Rattle.lk_machine.specs.rows.Queue.{entry_row}
+use Rattle.lk_rows.specs.rows.Queue.{entry_row}
 use Rattle.lk_law.specs.Leads.{course_of}
 use Rattle.lk_law.specs.Sound.{after_wait}
 use Rattle.lk_law.proofs.common.Puts.{if-true, if-false}

@@ -1,7 +1,7 @@
 -- Where a head goes that chooses the next, by what it sees.
 use Rattle.std.specs.Prelude.{Option, Some, None, if◌then◌else◌}
 use Rattle.lk_word.specs.declared.spin_word.NodeName.{NodeName}
-use Rattle.lk_machine.specs.rows.Cna.{Sight, may_stay}
+use Rattle.lk_rows.specs.rows.Cna.{Sight, may_stay}
 use Rattle.lk_domain.specs.Words.{IsNode}
 use Rattle.lk_domain.specs.declared.plan.Plan.{Plan}
 use Rattle.lk_run.specs.declared.seen.First.{First}

@@ -5,7 +5,7 @@
 -- queue has m, or `second`, for its first node and t for its last. The successor is y, or `next`.
 use Rattle.std.specs.Prelude.{◌≡◌, Bool, true, false, Some, None}
 use Rattle.lk_word.specs.declared.spin_word.NodeName.{NodeName}
-use Rattle.lk_machine.specs.declared.parts.Pc.TheVariants.{C1, C2, C3, C4, C5, C6, C7, C8, C9, C10}
+use Rattle.lk_rows.specs.declared.parts.Pc.TheVariants.{C1, C2, C3, C4, C5, C6, C7, C8, C9, C10}
 use Rattle.lk_domain.specs.declared.cpu.Cpu.{Cpu}
 use Rattle.lk_run.specs.Choices.{IsFirstNode, IsMoreNode}
 use Rattle.lk_run.specs.Heads.{At, Steps, Looks, LooksOn, IsNodeOf, Fronts, FrontsWith, Precedes}

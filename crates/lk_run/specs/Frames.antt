@@ -1,8 +1,8 @@
 -- What the frame of a call has that waits in a queue, or leads it.
 use Rattle.std.specs.Prelude.{◌≡◌, Option, Some, None}
 use Rattle.lk_word.specs.declared.spin_word.NodeName.{NodeName}
-use Rattle.lk_machine.specs.declared.parts.Frame.{Frame}
-use Rattle.lk_machine.specs.declared.parts.Why.TheVariants as why
+use Rattle.lk_rows.specs.declared.parts.Frame.{Frame}
+use Rattle.lk_rows.specs.declared.parts.Why.TheVariants as why
 
 -- its own node, and the first of the secondary queue, if it knows one
 pub record Fronts (own : NodeName) (aside : Option NodeName) (f : Frame) : Type 0 where

@@ -1,8 +1,8 @@
 -- The words of `Words` for a call with its node, and what its frame has at each place.
 use Rattle.std.specs.Prelude.{ℕ, Option}
 use Rattle.lk_word.specs.declared.spin_word.NodeName.{NodeName}
-use Rattle.lk_machine.specs.declared.parts.Frame.{Frame}
-use Rattle.lk_machine.specs.declared.parts.Pc.{Pc}
+use Rattle.lk_rows.specs.declared.parts.Frame.{Frame}
+use Rattle.lk_rows.specs.declared.parts.Pc.{Pc}
 use Rattle.lk_domain.specs.Words.{IsNode}
 use Rattle.lk_domain.specs.declared.cpu.Cpu.{Cpu}
 use Rattle.lk_run.specs.Frames as frame

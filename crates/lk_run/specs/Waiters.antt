@@ -1,7 +1,7 @@
 -- What contracts say of a reader or a writer that waits: where it stands, and what a row, or a path of
 -- rows, does. `Words` says the same of a call that queues.
 use Rattle.std.specs.Prelude.{ℕ, Option}
-use Rattle.lk_machine.specs.declared.parts.Pc.{Pc}
+use Rattle.lk_rows.specs.declared.parts.Pc.{Pc}
 use Rattle.lk_domain.specs.Paths.{Any}
 use Rattle.lk_domain.specs.Seats.{IsOf, KeepsRest}
 use Rattle.lk_domain.specs.declared.cpu.Cpu.{Cpu}

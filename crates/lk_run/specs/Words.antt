@@ -2,9 +2,9 @@
 -- A path lasts until the call has the lock for which it queued.
 use Rattle.std.specs.Prelude.{◌≡◌, ℕ, Option}
 use Rattle.lk_word.specs.declared.spin_word.NodeName.{NodeName}
-use Rattle.lk_machine.specs.declared.parts.Frame.{Frame}
-use Rattle.lk_machine.specs.declared.parts.Pc.{Pc}
-use Rattle.lk_machine.specs.declared.parts.Pc.TheVariants.{F1}
+use Rattle.lk_rows.specs.declared.parts.Frame.{Frame}
+use Rattle.lk_rows.specs.declared.parts.Pc.{Pc}
+use Rattle.lk_rows.specs.declared.parts.Pc.TheVariants.{F1}
 use Rattle.lk_domain.specs.Calls.{slows}
 use Rattle.lk_domain.specs.Paths.{Any}
 use Rattle.lk_domain.specs.Seats.{IsOf, KeepsRest, calls_of}

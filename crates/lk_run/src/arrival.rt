@@ -1,9 +1,9 @@
 // The rows of a call on its way into the queue, one step each, and those of one without a node. The
 // comments show a word as (queue tail, pending, locked).
 ghost use Rattle.std.specs.Prelude.{◌≡◌, ◌≢◌, ◌≤◌, true, false, IfSome, None};
-ghost use Rattle.lk_machine.specs.declared.parts.Pc.TheVariants.{G1, G2, G3, G4, G5, G6, G7, N1};
-ghost use Rattle.lk_machine.specs.declared.parts.Pc.TheVariants.{N2};
-ghost use Rattle.lk_machine.specs.declared.parts.Flag.TheVariants.{Unset};
+ghost use Rattle.lk_rows.specs.declared.parts.Pc.TheVariants.{G1, G2, G3, G4, G5, G6, G7, N1};
+ghost use Rattle.lk_rows.specs.declared.parts.Pc.TheVariants.{N2};
+ghost use Rattle.lk_rows.specs.declared.parts.Flag.TheVariants.{Unset};
 ghost use Rattle.lk_law.specs.Cna.{moves_aside, node_in};
 ghost use Rattle.lk_domain.specs.Calls.{slows};
 ghost use Rattle.lk_domain.specs.NodePlays.{IsFlagNode};
@@ -16,7 +16,7 @@ ghost use Rattle.lk_run.specs.Words.{IsNext};
 use crate::call::{Call, Queued};
 use crate::words::{flag_met, word_met};
 use lk_domain::{Cpu, Part, steps};
-use lk_machine::Flag;
+use lk_rows::Flag;
 use lk_word::NodeName;
 use std::sync::Wait;
 

@@ -9,7 +9,7 @@ ghost use Rattle.lk_run.specs.Phases.{Queues};
 
 use lk_abs::LockName;
 use lk_domain::Domain;
-use lk_machine::Verb;
+use lk_rows::Verb;
 use lk_word::NodeName;
 
 // A call that queues for a lock: `lock` for its lock, and a reader or a writer for the wait lock of

@@ -2,7 +2,7 @@
 // each. The comments show the main queue as (own, a .. b, y, ..), the secondary queue as
 // [first .. t], and a word as (queue tail, pending, locked).
 ghost use Rattle.std.specs.Prelude.{IfSome, None};
-ghost use Rattle.lk_machine.specs.declared.parts.Pc.TheVariants.{C1, C3, C7, C8, C10};
+ghost use Rattle.lk_rows.specs.declared.parts.Pc.TheVariants.{C1, C3, C7, C8, C10};
 ghost use Rattle.lk_run.specs.Choosing.{HasAppendedMoved, HasAppendedRest, HasCut, HasSetTail};
 ghost use Rattle.lk_run.specs.Choosing.{HasLookedBehind, HasLookedBeyond, HasTailToAppend};
 ghost use Rattle.lk_run.specs.Choosing.{HasTailToFlush, HasToldMore, HasTriedToPromote};

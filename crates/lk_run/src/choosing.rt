@@ -1,7 +1,7 @@
 // A queue head that has the lock, from each place of its choice until it has handed off. It polls
 // the interrupt source after each read that leaves it at the same row.
 ghost use Rattle.std.specs.Prelude.{◌≡◌, IfSome, None, Some, true, false};
-ghost use Rattle.lk_machine.specs.declared.parts.Pc.TheVariants.{C1, C2, C3, C5, C7};
+ghost use Rattle.lk_rows.specs.declared.parts.Pc.TheVariants.{C1, C2, C3, C5, C7};
 ghost use Rattle.lk_run.specs.Heads.{At, Steps, Takes, Waiting, Wins, IsNodeOf, Fronts};
 ghost use Rattle.lk_run.specs.Heads.{FrontsWith, Precedes, Skips, Appends, Parts, Flushes};
 ghost use Rattle.lk_run.specs.Heads.{Promotes};

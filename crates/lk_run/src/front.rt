@@ -1,14 +1,14 @@
 // The rows of a queue head, one step each, up to the handoff. The comments show a word as
 // (queue tail, pending, locked).
 ghost use Rattle.std.specs.Prelude.{◌≡◌, ◌≢◌, ◌⊎◌, true, false, IfSome, None};
-ghost use Rattle.lk_machine.specs.declared.parts.Pc.TheVariants.{G7, G8, G9, G10, G11, C1};
+ghost use Rattle.lk_rows.specs.declared.parts.Pc.TheVariants.{G7, G8, G9, G10, G11, C1};
 ghost use Rattle.lk_law.specs.Cna.{moves_aside};
 ghost use Rattle.lk_run.specs.Heads.{At, Steps, Looks, Takes, IsNodeOf, Fronts, Precedes};
 
 use crate::call::Front;
 use crate::words::{after_look, is_sole, node_met, stands_aside, word_met};
 use lk_domain::{Cpu, Part, steps};
-use lk_machine::{Flag, Pc};
+use lk_rows::{Flag, Pc};
 use lk_word::NodeName;
 
 impl<'a> Front<'a> {

@@ -1,14 +1,14 @@
 // The rows of the pending path, one step each. The comments show a word as (queue tail, pending,
 // locked).
 ghost use Rattle.std.specs.Prelude.{◌≡◌, ◌⊎◌, true, false};
-ghost use Rattle.lk_machine.specs.declared.parts.Pc.TheVariants.{P0, P1, P2, P3, P4, G1};
+ghost use Rattle.lk_rows.specs.declared.parts.Pc.TheVariants.{P0, P1, P2, P3, P4, G1};
 ghost use Rattle.lk_domain.specs.Paths.{Any};
 ghost use Rattle.lk_run.specs.Words.{At, Steps, Looks, Takes};
 
 use crate::call::Call;
 use crate::words::word_met;
 use lk_domain::{Cpu, steps};
-use lk_machine::{Pc, after_pending, is_unlocked, to_queue};
+use lk_rows::{Pc, after_pending, is_unlocked, to_queue};
 
 impl<'a> Call<'a> {
     // The row P0, of a call that met (0, 1, 0): the one that pends is about to take the lock, so the

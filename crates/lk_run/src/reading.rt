@@ -13,8 +13,8 @@
 ghost use Rattle.std.specs.Prelude.{◌≡◌, ◌≢◌, ◌<◌, true, false, Some, length, Option, ℕ};
 ghost use Rattle.lk_abs.specs.declared.holder.Manner.TheVariants.{Reads};
 ghost use Rattle.lk_abs.specs.declared.names.Kind.TheVariants.{Rw};
-ghost use Rattle.lk_machine.specs.declared.parts.Pc.TheVariants.{R2, R3, R4, R5, Y2, Y3, Z1};
-ghost use Rattle.lk_machine.specs.declared.setup.Verb.TheVariants.{Read, TryRead};
+ghost use Rattle.lk_rows.specs.declared.parts.Pc.TheVariants.{R2, R3, R4, R5, Y2, Y3, Z1};
+ghost use Rattle.lk_rows.specs.declared.setup.Verb.TheVariants.{Read, TryRead};
 ghost use Rattle.lk_domain.specs.Calls.{Calls, lock_name, way_in};
 ghost use Rattle.lk_domain.specs.Paths.{Any};
 ghost use Rattle.lk_domain.specs.Plans.{locks_of, kind_at};
@@ -31,7 +31,7 @@ use crate::irq::{Irq, give_way};
 use crossbeam_utils::Backoff;
 use lk_abs::LockName;
 use lk_domain::{Cpu, Domain, LockId, steps};
-use lk_machine::Verb;
+use lk_rows::Verb;
 use lk_word::{has_no_writer, lets_readers_in};
 use std::sync::Wait;
 

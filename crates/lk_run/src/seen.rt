@@ -1,7 +1,7 @@
 // What a queue head sees behind itself that chooses its successor.
 ghost use Rattle.std.specs.Prelude.{◌≡◌, ◌<◌, ◌||◌, ℕ, Option, Some, None, IfSome};
 ghost use Rattle.lk_abs.specs.Lawful.{same_socket};
-ghost use Rattle.lk_machine.specs.rows.Cna.{Sight};
+ghost use Rattle.lk_rows.specs.rows.Cna.{Sight};
 ghost use Rattle.lk_domain.specs.Calls.{sight_by, sight_of, stays_by, terms_of};
 ghost use Rattle.lk_law.specs.Leads.{Linked};
 ghost use Rattle.lk_domain.specs.Plans.{cpus_of};

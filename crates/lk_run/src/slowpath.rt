@@ -23,9 +23,9 @@
 //
 // It polls after each look after which it stands where it stood.
 ghost use Rattle.std.specs.Prelude.{IfSome};
-ghost use Rattle.lk_machine.specs.declared.parts.Pc.TheVariants.{V1, P0, P1, P2, P3, G1, N1};
-ghost use Rattle.lk_machine.specs.declared.parts.Pc.TheVariants.{G2, G3, G4, G5, G6, G7, G8, G9};
-ghost use Rattle.lk_machine.specs.declared.parts.Pc.TheVariants.{G10};
+ghost use Rattle.lk_rows.specs.declared.parts.Pc.TheVariants.{V1, P0, P1, P2, P3, G1, N1};
+ghost use Rattle.lk_rows.specs.declared.parts.Pc.TheVariants.{G2, G3, G4, G5, G6, G7, G8, G9};
+ghost use Rattle.lk_rows.specs.declared.parts.Pc.TheVariants.{G10};
 ghost use Rattle.lk_domain.specs.Paths.{Any};
 ghost use Rattle.lk_run.specs.Heads as head;
 ghost use Rattle.lk_run.specs.Nodes as node;
@@ -36,7 +36,7 @@ use crate::irq::{Irq, give_way};
 use crate::words::{moves_waiters, word_met};
 use crossbeam_utils::Backoff;
 use lk_domain::Cpu;
-use lk_machine::{Flag, Pc, after_fast};
+use lk_rows::{Flag, Pc, after_fast};
 use lk_word::NodeName;
 use std::sync::Wait;
 

@@ -2,8 +2,8 @@
 ghost use Rattle.std.specs.Prelude.{◌≡◌, ◌≢◌, ◌<◌, Option, ℕ, true, false, None, length};
 ghost use Rattle.lk_abs.specs.declared.holder.Manner.TheVariants.{Spins};
 ghost use Rattle.lk_abs.specs.declared.names.Kind.TheVariants.{Spin};
-ghost use Rattle.lk_machine.specs.declared.parts.Pc.TheVariants.{T2};
-ghost use Rattle.lk_machine.specs.declared.setup.Verb.TheVariants.{Lock, Try};
+ghost use Rattle.lk_rows.specs.declared.parts.Pc.TheVariants.{T2};
+ghost use Rattle.lk_rows.specs.declared.setup.Verb.TheVariants.{Lock, Try};
 ghost use Rattle.lk_domain.specs.Calls.{terms_of, Calls, holds_in, lock_name};
 ghost use Rattle.lk_domain.specs.Ledgers.{is_first};
 ghost use Rattle.lk_domain.specs.Paths.{HasTaken, HasLooked};
@@ -18,7 +18,7 @@ use crate::call::Call;
 use crate::irq::Irq;
 use lk_abs::LockName;
 use lk_domain::{Cpu, Domain, LockId, steps};
-use lk_machine::Verb;
+use lk_rows::Verb;
 use std::sync::Wait;
 
 // The row F1: gives the word that it met, 0 where it took the lock.

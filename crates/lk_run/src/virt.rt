@@ -1,7 +1,7 @@
 // The rows of a call that waits in `virt`, one step each: a lock is taken by an exchange of its free
 // word, after a look that found it free. The comments show a word as (queue tail, pending, locked).
 ghost use Rattle.std.specs.Prelude.{◌≡◌, true, false};
-ghost use Rattle.lk_machine.specs.declared.parts.Pc.TheVariants.{V1, V2};
+ghost use Rattle.lk_rows.specs.declared.parts.Pc.TheVariants.{V1, V2};
 ghost use Rattle.lk_domain.specs.Paths.{Any};
 ghost use Rattle.lk_run.specs.Words.{At, Steps, Looks, Takes};
 

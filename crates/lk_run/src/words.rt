@@ -4,19 +4,19 @@ ghost use Rattle.lk_word.specs.declared.spin_word.Fields.{Fields};
 ghost use Rattle.lk_word.specs.declared.spin_word.NodeName.{NodeName, NodeName as Node};
 ghost use Rattle.lk_word.specs.SpinWord.{packed, IsPackable};
 ghost use Rattle.lk_law.specs.Cna.{moves_aside};
-ghost use Rattle.lk_machine.specs.Moves.{is_node};
-ghost use Rattle.lk_machine.specs.declared.parts.Pc.TheVariants.{G7, G8, G9};
-ghost use Rattle.lk_machine.specs.rows.Cna as choice_rows;
-ghost use Rattle.lk_machine.specs.rows.Cna.{is_held};
-ghost use Rattle.lk_machine.specs.rows.Spin.{is_unlocked};
-ghost use Rattle.lk_machine.specs.declared.parts.Flag.{Flag as FlagOf};
+ghost use Rattle.lk_rows.specs.Moves.{is_node};
+ghost use Rattle.lk_rows.specs.declared.parts.Pc.TheVariants.{G7, G8, G9};
+ghost use Rattle.lk_rows.specs.rows.Cna as choice_rows;
+ghost use Rattle.lk_rows.specs.rows.Cna.{is_held};
+ghost use Rattle.lk_rows.specs.rows.Spin.{is_unlocked};
+ghost use Rattle.lk_rows.specs.declared.parts.Flag.{Flag as FlagOf};
 ghost use Rattle.lk_domain.specs.NodePlays.{IsFlagNode};
 ghost use Rattle.lk_domain.specs.Plans.{layout_in};
 ghost use Rattle.lk_domain.specs.Words.{IsNode, link_number, flag_number, name_number, marked};
 
 use lk_abs::Mode;
 use lk_domain::Domain;
-use lk_machine::{Flag, Pc, is_tail, is_unlocked};
+use lk_rows::{Flag, Pc, is_tail, is_unlocked};
 use lk_word::{Fields, LOWEST_NODE, Locked, MARK, NodeName, node_of_name, unpack};
 
 // The fields of a word that a step met.

@@ -13,9 +13,9 @@
 ghost use Rattle.std.specs.Prelude.{◌≡◌, ◌<◌, true, false, None, Some, length, Option, ℕ};
 ghost use Rattle.lk_abs.specs.declared.holder.Manner.TheVariants.{Writes};
 ghost use Rattle.lk_abs.specs.declared.names.Kind.TheVariants.{Rw};
-ghost use Rattle.lk_machine.specs.Moves.{wait_name};
-ghost use Rattle.lk_machine.specs.declared.parts.Pc.TheVariants.{F1, Wr2, Wr3, Wr4, Wr5, Wr6, Y5, Z2};
-ghost use Rattle.lk_machine.specs.declared.setup.Verb.TheVariants.{Write, TryWrite};
+ghost use Rattle.lk_rows.specs.Moves.{wait_name};
+ghost use Rattle.lk_rows.specs.declared.parts.Pc.TheVariants.{F1, Wr2, Wr3, Wr4, Wr5, Wr6, Y5, Z2};
+ghost use Rattle.lk_rows.specs.declared.setup.Verb.TheVariants.{Write, TryWrite};
 ghost use Rattle.lk_domain.specs.Calls.{lock_name, way_in, Calls};
 ghost use Rattle.lk_domain.specs.Ledgers.{is_first};
 ghost use Rattle.lk_domain.specs.Paths.{Any};
@@ -33,7 +33,7 @@ use crate::irq::{Irq, give_way};
 use crossbeam_utils::Backoff;
 use lk_abs::LockName;
 use lk_domain::{Cpu, Domain, LockId, steps};
-use lk_machine::Verb;
+use lk_rows::Verb;
 use lk_word::has_only_waiting;
 use std::sync::Wait;
 

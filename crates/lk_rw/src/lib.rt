@@ -1,5 +1,5 @@
 //! The rows of Linux's queued reader-writer lock (`kernel/locking/qrwlock.c`). Each row is proved
-//! to be the row that `lk_machine` defines.
+//! to be the row that `lk_rows` defines.
 #![tactic(auto, using(lk_machine::proofs::Kept::kept))]
 
 mod reader;

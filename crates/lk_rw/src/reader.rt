@@ -1,15 +1,16 @@
 // The rows of readers.
 ghost use Rattle.std.specs.Prelude.{◌≡◌, None, Some};
-ghost use Rattle.lk_machine.specs.Machine.{HasTop, top_frame, rw_at};
-ghost use Rattle.lk_machine.specs.TopRow.{row, on_rw};
-ghost use Rattle.lk_machine.specs.Row.{Done, event_of};
+ghost use Rattle.lk_rows.specs.Machine.{HasTop, top_frame, rw_at};
+ghost use Rattle.lk_rows.specs.TopRow.{row, on_rw};
+ghost use Rattle.lk_rows.specs.Row.{Done, event_of};
 ghost use Rattle.lk_machine.specs.Ready.{IsReady};
-ghost use Rattle.lk_machine.specs.rows.Rw.{admits, one_more};
+ghost use Rattle.lk_rows.specs.rows.Rw.{admits, one_more};
 ghost use Rattle.lk_rw.specs.Row.{IsRwReady};
 
 use crate::word::{is_open, lock_of, miss, one_less, one_more};
 use lk_abs::{Event, RwHow, What};
-use lk_machine::{Machine, Pc};
+use lk_machine::Machine;
+use lk_rows::Pc;
 use lk_word::RwFields;
 
 // The event of a reader that has acquired in this way.

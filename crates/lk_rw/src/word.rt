@@ -1,8 +1,8 @@
 // What the rows do with the word of a reader-writer lock.
 ghost use Rattle.std.specs.Prelude.{◌≡◌, ◌+◌, ◌<◌, ◌^◌};
-ghost use Rattle.lk_machine.specs.Machine.{HasTop, top_frame};
-ghost use Rattle.lk_machine.specs.Moves.{missed};
-ghost use Rattle.lk_machine.specs.rows.Rw.{is_empty, is_open, is_cleared, one_more, one_less, written_word, rw_lock};
+ghost use Rattle.lk_rows.specs.Machine.{HasTop, top_frame};
+ghost use Rattle.lk_rows.specs.Moves.{missed};
+ghost use Rattle.lk_rows.specs.rows.Rw.{is_empty, is_open, is_cleared, one_more, one_less, written_word, rw_lock};
 ghost use Rattle.lk_machine.specs.Ready.{IsReady};
 
 use lk_abs::{Event, LockName, What};

@@ -1,15 +1,16 @@
 // The rows of writers.
 ghost use Rattle.std.specs.Prelude.{◌≡◌, None, Some};
-ghost use Rattle.lk_machine.specs.Machine.{top_frame};
-ghost use Rattle.lk_machine.specs.TopRow.{row, stored_rw};
-ghost use Rattle.lk_machine.specs.Row.{Done, event_of};
+ghost use Rattle.lk_rows.specs.Machine.{top_frame};
+ghost use Rattle.lk_rows.specs.TopRow.{row, stored_rw};
+ghost use Rattle.lk_rows.specs.Row.{Done, event_of};
 ghost use Rattle.lk_machine.specs.Ready.{IsReady};
-ghost use Rattle.lk_machine.specs.rows.Rw.{takes_written, written_word};
+ghost use Rattle.lk_rows.specs.rows.Rw.{takes_written, written_word};
 ghost use Rattle.lk_rw.specs.Row.{IsRwReady};
 
 use crate::word::{is_cleared, is_empty, lock_of, miss, written_word};
 use lk_abs::{Event, RwHow, What};
-use lk_machine::{Machine, Pc};
+use lk_machine::Machine;
+use lk_rows::Pc;
 use lk_word::RwFields;
 
 // Stores the writer's word: the writer has acquired, in this way.

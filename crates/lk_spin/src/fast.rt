@@ -1,13 +1,14 @@
 // The fast path, the try, the test-and-set loop, and the release.
 ghost use Rattle.std.specs.Prelude.{◌≡◌, None, Some};
-ghost use Rattle.lk_machine.specs.Machine.{top_frame};
+ghost use Rattle.lk_rows.specs.Machine.{top_frame};
 ghost use Rattle.lk_machine.specs.Ready.{IsReady};
-ghost use Rattle.lk_machine.specs.Moves.{missed};
-ghost use Rattle.lk_machine.specs.TopRow.{row, on_word};
-ghost use Rattle.lk_machine.specs.rows.Spin.{takes};
+ghost use Rattle.lk_rows.specs.Moves.{missed};
+ghost use Rattle.lk_rows.specs.TopRow.{row, on_word};
+ghost use Rattle.lk_rows.specs.rows.Spin.{takes};
 
 use lk_abs::{Event, How, What};
-use lk_machine::{HELD, Machine, Pc, after_fast, is_free};
+use lk_machine::Machine;
+use lk_rows::{HELD, Pc, after_fast, is_free};
 use lk_word::Locked;
 
 // Swaps the free word to held. The free word has no tail and no pending bit, so the swap leaves

@@ -1,5 +1,5 @@
 //! The rows on the word of a spinlock that need no queue: the fast path, the try, the test-and-set
-//! loop, the pending path, and the release. Each row is proved to be the row that `lk_machine`
+//! loop, the pending path, and the release. Each row is proved to be the row that `lk_rows`
 //! defines.
 //!
 //! The rows are steps of Linux's `queued_spin_lock`, `queued_spin_trylock` and

@@ -1,11 +1,12 @@
 // The pending path: the first waiter behind a holder sets the pending bit and polls the word.
 ghost use Rattle.std.specs.Prelude.{◌≡◌, Some};
-ghost use Rattle.lk_machine.specs.Machine.{top_frame};
+ghost use Rattle.lk_rows.specs.Machine.{top_frame};
 ghost use Rattle.lk_machine.specs.Ready.{IsReady};
-ghost use Rattle.lk_machine.specs.TopRow.{row};
+ghost use Rattle.lk_rows.specs.TopRow.{row};
 
 use lk_abs::{Event, How, What};
-use lk_machine::{Machine, Pc, after_pending, is_unlocked, to_queue};
+use lk_machine::Machine;
+use lk_rows::{Pc, after_pending, is_unlocked, to_queue};
 use lk_word::{Fields, Locked};
 
 /// P0: reads once more a word that had only the pending bit set, `0,1,0`. The waiter that has set
@@ -74,7 +75,7 @@ pub(crate) fn watch(machine: &mut Machine, cpu: u32) -> Option<Event>
 /// P4: acquires the lock and clears the pending bit in one store, `t,1,0 -> t,0,1`. The byte is
 /// free since P3, or since P1. With the bit set nobody else may acquire the lock, so this needs no
 /// swap. A tail that came meanwhile stays: the store leaves that part of the word.
-#[tactic(auto, using(lk_machine::proofs::Kept::kept), unfolding(lk_machine::specs::Machine::set_word, lk_machine::specs::Machine::set_lock))]
+#[tactic(auto, using(lk_machine::proofs::Kept::kept), unfolding(lk_rows::specs::Machine::set_word, lk_rows::specs::Machine::set_lock))]
 pub(crate) fn take_pending(machine: &mut Machine, cpu: u32) -> Option<Event>
     requires ready { IsReady machine.old cpu }
     requires here { (top_frame machine.old cpu).place ≡ Some Pc.P4 }

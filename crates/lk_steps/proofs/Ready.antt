@@ -1,10 +1,10 @@
 -- What a machine on which acts are told has.
 use Rattle.std.proofs.Common.{◌≡◌, ◌<◌, ◌+◌, ℕ, zero, suc, List, [], sym, ap, refl, ◌∙◌, subst, arith, length, replicate}
-use Rattle.lk_machine.specs.Acts.{next}
-use Rattle.lk_machine.specs.Machine.{Machine}
-use Rattle.lk_machine.specs.Programs.{IsLawfulSetup}
-use Rattle.lk_machine.specs.Run.{at_rest, machine_after}
-use Rattle.lk_machine.specs.declared.setup.Setup.{Setup}
+use Rattle.lk_rows.specs.Acts.{next}
+use Rattle.lk_rows.specs.Machine.{Machine}
+use Rattle.lk_rows.specs.Programs.{IsLawfulSetup}
+use Rattle.lk_rows.specs.Run.{at_rest, machine_after}
+use Rattle.lk_rows.specs.declared.setup.Setup.{Setup}
 use Rattle.lk_abs.specs.History.{history_of}
 use Rattle.lk_abs.specs.declared.events.Act.{Act}
 use Rattle.lk_law.specs.Sound.{IsSound}

@@ -1,12 +1,13 @@
 // Why an act is idle.
 
 ghost use Rattle.std.specs.Prelude.{◌≡◌};
-ghost use Rattle.lk_machine.specs.Acts.{processor_of};
-ghost use Rattle.lk_machine.specs.Machine.{HasTop};
-ghost use Rattle.lk_machine.specs.Programs.{HasPrograms};
+ghost use Rattle.lk_rows.specs.Acts.{processor_of};
+ghost use Rattle.lk_rows.specs.Machine.{HasTop};
+ghost use Rattle.lk_rows.specs.Programs.{HasPrograms};
 
 use lk_abs::Act;
-use lk_machine::{MAX_FRAMES, Machine, Pc};
+use lk_machine::{MAX_FRAMES, Machine};
+use lk_rows::Pc;
 
 /// The processor that an act names.
 pub(crate) fn cpu_of(act: Act) -> u32

@@ -4,7 +4,8 @@ ghost use Rattle.std.specs.Prelude.{◌≤◌, length};
 
 use crate::text::Text;
 use lk_abs::LockName;
-use lk_machine::{Family, Frame, MAX_NODES, Machine, Pc, State, named};
+use lk_machine::{MAX_NODES, Machine};
+use lk_rows::{Family, Frame, Pc, State, named};
 use lk_word::NodeName;
 
 /// A part of the machine on which a row operates.

@@ -1,13 +1,14 @@
 // What an act does.
 ghost use Rattle.std.specs.Prelude.{◌≡◌, ◌≤◌, length};
-ghost use Rattle.lk_machine.specs.Acts.{processor_of};
+ghost use Rattle.lk_rows.specs.Acts.{processor_of};
 ghost use Rattle.lk_steps.specs.Shown.{CanShow};
 
 use crate::idle::{cpu_of, idle_of};
 use crate::spot::{Spot, spot_of};
 use crate::text::Text;
 use lk_abs::{Act, Memory, Waiter};
-use lk_machine::{Frame, Machine, Pc};
+use lk_machine::Machine;
+use lk_rows::{Frame, Pc};
 use std::alloc::Global;
 
 // The bytes of room for the text of an act, and for the value of a part of the machine.

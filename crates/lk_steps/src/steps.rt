@@ -1,8 +1,8 @@
 // The acts of a trace, told one by one as its lines are read.
 ghost use Rattle.std.specs.Prelude.{◌≡◌, ◌≤◌, ◌<◌, ◌+◌, true, Ok, IfOk, OnOk, IfSome, length, replicate};
 ghost use Rattle.lk_text.specs.Reader.{looked_at};
-ghost use Rattle.lk_machine.specs.Acts.{processor_of};
-ghost use Rattle.lk_machine.specs.Run.{machine_after};
+ghost use Rattle.lk_rows.specs.Acts.{processor_of};
+ghost use Rattle.lk_rows.specs.Run.{machine_after};
 ghost use Rattle.lk_forms.specs.Schedule.{IsWithin};
 ghost use Rattle.lk_replay.specs.Schedule.{acts_said};
 ghost use Rattle.lk_steps.specs.Told.{CanGoOn};

@@ -1,13 +1,14 @@
 // A machine whose acts are told.
 ghost use Rattle.std.specs.Prelude.{◌≡◌, ◌≤◌, ◌<◌, ◌+◌, IfOk, length};
-ghost use Rattle.lk_machine.specs.Acts.{next, processor_of};
-ghost use Rattle.lk_machine.specs.Programs.{IsLawfulSetup};
+ghost use Rattle.lk_rows.specs.Acts.{next, processor_of};
+ghost use Rattle.lk_rows.specs.Programs.{IsLawfulSetup};
 
 use crate::idle::cpu_of;
 use crate::step::{Step, deed_of};
 use lk_abs::{Act, Event, Memory, Waiter};
 use lk_core::rest_shows;
-use lk_machine::{Machine, Setup};
+use lk_machine::Machine;
+use lk_rows::Setup;
 use std::alloc::Global;
 
 /// A machine whose acts are told.
@@ -45,7 +46,7 @@ impl Told {
     }
 
     /// Makes the act, puts what it did into `step`, and returns its event. The machine and the
-    /// event are what `lk_machine` defines.
+    /// event are what `lk_rows` defines.
     pub(crate) fn act(&mut self, act: Act, step: &mut Step) -> Option<Event>
         requires ready { CanGoOn self.old }
         requires few { self.old.acts < 100000000 }

@@ -3,7 +3,7 @@ use Rattle.std.proofs.Common.{if◌then◌else◌, ◌≡◌, ℕ, List, [], ◌
 use Rattle.std.proofs.Common.{refl, ap, ◌∙◌, sym, subst}
 use Rattle.std.proofs.lemmas.List.Sums.{fold-append}
 use Rattle.std.specs.Result.{result_unwrap_or}
-use Rattle.lk_machine.specs.Programs.{IsLawfulSetup}
+use Rattle.lk_rows.specs.Programs.{IsLawfulSetup}
 use Rattle.lk_forms.specs.Grammar.{Reading, nothing_read, read, next_reading, reading_of, has_go}
 use Rattle.lk_forms.specs.Reader.{step_of}
 use Rattle.lk_forms.specs.declared.answers.HeaderStep.TheVariants.{More, Go}

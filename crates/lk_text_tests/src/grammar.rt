@@ -4,7 +4,7 @@
 use crate::headers::setup_of;
 use lk_abs::{Kind, List, Mode};
 use lk_forms::{LineRefusal, schedule_line};
-use lk_machine::{Op, Setup};
+use lk_rows::{Op, Setup};
 use lk_text::read_number;
 use std::alloc::{AllocError, Global};
 use std::process::Abort;

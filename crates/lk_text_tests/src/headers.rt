@@ -1,10 +1,10 @@
 // Setups by the lines that say them.
 
 ghost use Rattle.std.specs.Prelude.{◌≡◌, false, IfOk, IfSome};
-ghost use Rattle.lk_machine.specs.Programs.{IsLawfulSetup};
+ghost use Rattle.lk_rows.specs.Programs.{IsLawfulSetup};
 
 use lk_forms::{HeaderReader, HeaderStep, LineRefusal, lines_say_lawful_setups};
-use lk_machine::Setup;
+use lk_rows::Setup;
 use std::alloc::Global;
 
 /// The setup of these lines up to `go`, if they come so far, or the refusal of the last of them.

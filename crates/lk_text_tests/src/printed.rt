@@ -2,7 +2,7 @@
 
 use lk_abs::{Event, How, LockName, RwHow, Waiter, What};
 use lk_forms::{count_line, end_line, event_line};
-use lk_machine::Counts;
+use lk_rows::Counts;
 use std::str;
 use std::test::Fail;
 

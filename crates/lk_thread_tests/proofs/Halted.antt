@@ -1,6 +1,6 @@
 -- What the calls of a processor that may halt leave of lock 1.
 use Rattle.std.proofs.Common.{◌≡◌, List, ap, ◌∙◌}
-use Rattle.lk_machine.specs.declared.setup.Verb.{Verb}
+use Rattle.lk_rows.specs.declared.setup.Verb.{Verb}
 use Rattle.lk_domain.specs.Calls.{Hold, holds_begun, holds_in}
 use Rattle.lk_domain.specs.Values.{out_in}
 use Rattle.lk_domain.proofs.Outs.{unheld_out}

@@ -8,11 +8,11 @@ use Rattle.atomic_table.specs.Table.{State, Me, keeps, Allows}
 use Rattle.lk_abs.specs.declared.names.LockName.{LockName}
 use Rattle.lk_abs.specs.declared.names.Waiter.{Waiter}
 use Rattle.lk_word.specs.declared.spin_word.NodeName.{NodeName}
-use Rattle.lk_machine.specs.declared.parts.Pc.{Pc}
-use Rattle.lk_machine.specs.declared.parts.Pc.TheVariants.{G1, C3, C4, C5, C6, C9}
-use Rattle.lk_machine.specs.declared.setup.Verb.{Verb}
-use Rattle.lk_machine.specs.Moves.{node_of}
-use Rattle.lk_machine.specs.TopRow.{target}
+use Rattle.lk_rows.specs.declared.parts.Pc.{Pc}
+use Rattle.lk_rows.specs.declared.parts.Pc.TheVariants.{G1, C3, C4, C5, C6, C9}
+use Rattle.lk_rows.specs.declared.setup.Verb.{Verb}
+use Rattle.lk_rows.specs.Moves.{node_of}
+use Rattle.lk_rows.specs.TopRow.{target}
 use Rattle.lk_law.specs.Cna.{moves_aside}
 use Rattle.lk_law.specs.Families.{chooses}
 use Rattle.lk_law.specs.Known.{choice_node}
@@ -50,7 +50,7 @@ use Rattle.lk_law.proofs.common.Puts.{if-true}
 use Rattle.lk_law.proofs.running.Links.{passed_is_used}
 use Rattle.lk_law.specs.Nodes.{will_link, looks_along}
 use Rattle.lk_law.specs.Premises.{Uses}
-use Rattle.lk_machine.specs.declared.parts.Node.{Node}
+use Rattle.lk_rows.specs.declared.parts.Node.{Node}
 
 -- the rows free nothing
 

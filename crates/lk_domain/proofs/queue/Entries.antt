@@ -10,12 +10,12 @@ use Rattle.lk_abs.specs.declared.names.LockName.{LockName}
 use Rattle.lk_word.specs.declared.spin_word.NodeName.{NodeName}
 use Rattle.lk_word.specs.declared.spin_word.Fields.{Fields}
 use Rattle.lk_word.specs.SpinWord.{packed}
-use Rattle.lk_machine.specs.declared.parts.Node.{Node}
-use Rattle.lk_machine.specs.declared.parts.Frame.{Frame}
-use Rattle.lk_machine.specs.declared.parts.Pc.TheVariants.{G1}
-use Rattle.lk_machine.specs.declared.setup.Verb.{Verb}
-use Rattle.lk_machine.specs.Machine.{rest_node}
-use Rattle.lk_machine.specs.rows.Queue.{own_node}
+use Rattle.lk_rows.specs.declared.parts.Node.{Node}
+use Rattle.lk_rows.specs.declared.parts.Frame.{Frame}
+use Rattle.lk_rows.specs.declared.parts.Pc.TheVariants.{G1}
+use Rattle.lk_rows.specs.declared.setup.Verb.{Verb}
+use Rattle.lk_rows.specs.Machine.{rest_node}
+use Rattle.lk_rows.specs.rows.Queue.{own_node}
 use Rattle.lk_law.specs.Leads.{Number}
 use Rattle.lk_law.specs.Premises.{Uses}
 use Rattle.lk_law.specs.Snapshot.{same_node}
@@ -42,14 +42,14 @@ use Rattle.lk_domain.specs.declared.part.Part.TheVariants as part
 use Rattle.lk_abs.specs.declared.names.Mode.{Mode}
 use Rattle.lk_abs.specs.declared.names.Mode.TheVariants.{Virt, Native, Cna, Pv}
 use Rattle.lk_law.specs.Agree.{halts}
-use Rattle.lk_machine.specs.TopRow.{target}
+use Rattle.lk_rows.specs.TopRow.{target}
 use Rattle.lk_domain.proofs.words.NodeWords.{low as low_part}
 use Rattle.lk_domain.proofs.words.OnWords.{lock_stored}
 use Rattle.lk_domain.proofs.words.NodeWords.{rest_number, below_last, stored_zero}
 use Rattle.lk_domain.proofs.queue.NodeStores.{node_stored}
 use Rattle.lk_domain.proofs.queue.OnNodes.{index_is, in_plan, to_come, to_come_free, counts_beside}
 use Rattle.lk_law.specs.Nodes.{IsFree}
-use Rattle.lk_machine.specs.Moves.{is_node}
+use Rattle.lk_rows.specs.Moves.{is_node}
 use Rattle.lk_domain.proofs.rows.Users.{kept_marks}
 use Rattle.lk_law.proofs.common.Users.{is_node-true}
 use Rattle.std.proofs.Common.{Option}

@@ -9,17 +9,17 @@ use Rattle.atomic_table.specs.Table.{State, Me, keeps, Allows}
 use Rattle.lk_abs.specs.declared.names.LockName.{LockName}
 use Rattle.lk_abs.specs.declared.names.Waiter.{Waiter}
 use Rattle.lk_word.specs.declared.spin_word.NodeName.{NodeName}
-use Rattle.lk_machine.specs.declared.parts.Flag.{Flag}
-use Rattle.lk_machine.specs.declared.parts.Flag.TheVariants.{Unset}
-use Rattle.lk_machine.specs.declared.parts.Frame.{Frame}
-use Rattle.lk_machine.specs.declared.parts.Node.{Node}
-use Rattle.lk_machine.specs.declared.parts.Pc.{Pc}
-use Rattle.lk_machine.specs.declared.parts.Pc.TheVariants.{G1, G10, G11, C1, C2, C7, C8}
-use Rattle.lk_machine.specs.declared.setup.Verb.{Verb}
-use Rattle.lk_machine.specs.Moves.{node_of}
-use Rattle.lk_machine.specs.Row.{Effect}
-use Rattle.lk_machine.specs.rows.Cna.{Sight, may_stay, search_first, search_on, flag_for}
-use Rattle.lk_machine.specs.TopRow.{target}
+use Rattle.lk_rows.specs.declared.parts.Flag.{Flag}
+use Rattle.lk_rows.specs.declared.parts.Flag.TheVariants.{Unset}
+use Rattle.lk_rows.specs.declared.parts.Frame.{Frame}
+use Rattle.lk_rows.specs.declared.parts.Node.{Node}
+use Rattle.lk_rows.specs.declared.parts.Pc.{Pc}
+use Rattle.lk_rows.specs.declared.parts.Pc.TheVariants.{G1, G10, G11, C1, C2, C7, C8}
+use Rattle.lk_rows.specs.declared.setup.Verb.{Verb}
+use Rattle.lk_rows.specs.Moves.{node_of}
+use Rattle.lk_rows.specs.Row.{Effect}
+use Rattle.lk_rows.specs.rows.Cna.{Sight, may_stay, search_first, search_on, flag_for}
+use Rattle.lk_rows.specs.TopRow.{target}
 use Rattle.lk_law.specs.Cna.{moves_aside}
 use Rattle.lk_law.specs.Families.{chooses}
 use Rattle.lk_law.specs.Known.{choice_node}

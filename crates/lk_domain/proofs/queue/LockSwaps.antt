@@ -13,10 +13,10 @@ use Rattle.lk_abs.specs.declared.names.LockName.{LockName}
 use Rattle.lk_abs.specs.declared.names.Mode.{Mode}
 use Rattle.lk_word.specs.declared.spin_word.Fields.{Fields}
 use Rattle.lk_word.specs.SpinWord.{packed, IsPackable}
-use Rattle.lk_machine.specs.declared.parts.Frame.{Frame}
-use Rattle.lk_machine.specs.declared.parts.Pc.{Pc}
-use Rattle.lk_machine.specs.declared.setup.Verb.{Verb}
-use Rattle.lk_machine.specs.TopRow.{target}
+use Rattle.lk_rows.specs.declared.parts.Frame.{Frame}
+use Rattle.lk_rows.specs.declared.parts.Pc.{Pc}
+use Rattle.lk_rows.specs.declared.setup.Verb.{Verb}
+use Rattle.lk_rows.specs.TopRow.{target}
 use Rattle.lk_law.specs.Leads.{Word}
 use Rattle.lk_domain.specs.Calls.{Calls, StandsOn, acting, Begins}
 use Rattle.lk_domain.specs.Keeps.{AllHome, Slot}

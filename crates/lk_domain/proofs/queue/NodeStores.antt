@@ -5,15 +5,15 @@ use Rattle.std.proofs.Common.{length-set, get_or-set_other, get_or-set_same}
 use Rattle.std.specs.Prelude.{unwrap_or}
 use Rattle.lk_abs.specs.declared.names.Waiter.{Waiter}
 use Rattle.lk_word.specs.declared.spin_word.NodeName.{NodeName}
-use Rattle.lk_machine.specs.declared.parts.Flag.{Flag}
-use Rattle.lk_machine.specs.declared.parts.Node.{Node}
-use Rattle.lk_machine.specs.declared.parts.Frame.{Frame}
-use Rattle.lk_machine.specs.declared.parts.Pc.{Pc}
-use Rattle.lk_machine.specs.rows.Queue.{flag_row, next_row}
-use Rattle.lk_machine.specs.rows.Cna.{search_row, second_row, runs_row, handover_row}
-use Rattle.lk_machine.specs.TopRow.{HashEntry, Halted, KickOf, PvFlag, PvNext}
-use Rattle.lk_machine.specs.rows.Pv.{pv_flag_row, pv_next_row}
-use Rattle.lk_machine.specs.TopRow.{Target, FlagOf, NextOf, ChoiceFlag, ChoiceNext, SecondTailOf, RunsOf}
+use Rattle.lk_rows.specs.declared.parts.Flag.{Flag}
+use Rattle.lk_rows.specs.declared.parts.Node.{Node}
+use Rattle.lk_rows.specs.declared.parts.Frame.{Frame}
+use Rattle.lk_rows.specs.declared.parts.Pc.{Pc}
+use Rattle.lk_rows.specs.rows.Queue.{flag_row, next_row}
+use Rattle.lk_rows.specs.rows.Cna.{search_row, second_row, runs_row, handover_row}
+use Rattle.lk_rows.specs.TopRow.{HashEntry, Halted, KickOf, PvFlag, PvNext}
+use Rattle.lk_rows.specs.rows.Pv.{pv_flag_row, pv_next_row}
+use Rattle.lk_rows.specs.TopRow.{Target, FlagOf, NextOf, ChoiceFlag, ChoiceNext, SecondTailOf, RunsOf}
 use Rattle.lk_law.specs.Leads.{Met, Flagged, Named, Number, met_in, stored_in}
 use Rattle.lk_law.specs.Snapshot.{same_node}
 use Rattle.lk_law.specs.Steps.{stores_flag, stores_next, stores_second, stores_runs, put_node, sight_in}

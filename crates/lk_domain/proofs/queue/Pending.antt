@@ -17,15 +17,15 @@ use Rattle.lk_word.specs.declared.spin_word.Layout.{Layout}
 use Rattle.lk_word.specs.declared.spin_word.Layout.TheVariants.{Narrow, Wide}
 use Rattle.lk_word.specs.SpinWord.{packed, IsPackable, locked_number, tail_number, index_unit}
 use Rattle.lk_word.proofs.SpinWordLemmas.{packed_small, packed_injective, from_narrow}
-use Rattle.lk_machine.specs.declared.parts.Frame.{Frame}
-use Rattle.lk_machine.specs.declared.parts.Pc.{Pc}
-use Rattle.lk_machine.specs.declared.parts.Pc.TheVariants.{P1, P2, P4, G4, G8, G9, C10}
-use Rattle.lk_machine.specs.declared.setup.Verb.TheVariants.{Lock}
-use Rattle.lk_machine.specs.Moves.{is_node, node_of}
-use Rattle.lk_machine.specs.rows.Spin.{is_unlocked}
-use Rattle.lk_machine.specs.rows.Cna.{is_held, is_last}
-use Rattle.lk_machine.specs.rows.Queue.{is_sole, after_arrival}
-use Rattle.lk_machine.specs.TopRow.{target}
+use Rattle.lk_rows.specs.declared.parts.Frame.{Frame}
+use Rattle.lk_rows.specs.declared.parts.Pc.{Pc}
+use Rattle.lk_rows.specs.declared.parts.Pc.TheVariants.{P1, P2, P4, G4, G8, G9, C10}
+use Rattle.lk_rows.specs.declared.setup.Verb.TheVariants.{Lock}
+use Rattle.lk_rows.specs.Moves.{is_node, node_of}
+use Rattle.lk_rows.specs.rows.Spin.{is_unlocked}
+use Rattle.lk_rows.specs.rows.Cna.{is_held, is_last}
+use Rattle.lk_rows.specs.rows.Queue.{is_sole, after_arrival}
+use Rattle.lk_rows.specs.TopRow.{target}
 use Rattle.lk_law.specs.Leads.{course_in}
 use Rattle.lk_law.specs.World.{World}
 use Rattle.lk_law.proofs.common.Puts.{same_node-self}

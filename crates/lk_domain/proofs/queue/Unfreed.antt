@@ -3,11 +3,11 @@ use Rattle.std.proofs.Common.{◌≡◌, ℕ, Option, Some, None}
 use Rattle.lk_abs.specs.declared.names.Mode.{Mode}
 use Rattle.lk_abs.specs.declared.names.Mode.TheVariants.{Virt, Native, Cna, Pv}
 use Rattle.lk_word.specs.declared.spin_word.NodeName.{NodeName}
-use Rattle.lk_machine.specs.declared.parts.Flag.{Flag}
-use Rattle.lk_machine.specs.declared.parts.Flag.TheVariants.{Unset, Go, Second}
-use Rattle.lk_machine.specs.declared.parts.Pc.TheVariants.{G1, G5, G6, G10, G11}
-use Rattle.lk_machine.specs.Moves.{node_of}
-use Rattle.lk_machine.specs.rows.Queue.{after_flag, after_next, after_link}
+use Rattle.lk_rows.specs.declared.parts.Flag.{Flag}
+use Rattle.lk_rows.specs.declared.parts.Flag.TheVariants.{Unset, Go, Second}
+use Rattle.lk_rows.specs.declared.parts.Pc.TheVariants.{G1, G5, G6, G10, G11}
+use Rattle.lk_rows.specs.Moves.{node_of}
+use Rattle.lk_rows.specs.rows.Queue.{after_flag, after_next, after_link}
 use Rattle.lk_domain.specs.Calls.{grip_led, Frees}
 use Rattle.lk_domain.proofs.words.LockPlays.{MayFree}
 

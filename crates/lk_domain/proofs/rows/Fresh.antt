@@ -7,11 +7,11 @@ use Rattle.atomic_table.specs.Table.{State}
 use Rattle.lk_abs.specs.declared.holder.Manner.{Manner}
 use Rattle.lk_abs.specs.declared.names.Mode.{Mode}
 use Rattle.lk_abs.specs.declared.names.LockName.{LockName}
-use Rattle.lk_machine.specs.declared.parts.Frame.{Frame}
-use Rattle.lk_machine.specs.declared.parts.Pc.{Pc}
-use Rattle.lk_machine.specs.declared.setup.Verb.{Verb}
+use Rattle.lk_rows.specs.declared.parts.Frame.{Frame}
+use Rattle.lk_rows.specs.declared.parts.Pc.{Pc}
+use Rattle.lk_rows.specs.declared.setup.Verb.{Verb}
 use Rattle.lk_domain.specs.Calls.{Outlook}
-use Rattle.lk_machine.specs.TopRow.{Target, target}
+use Rattle.lk_rows.specs.TopRow.{Target, target}
 use Rattle.lk_law.specs.Leads.{Met, Course, held_lock}
 use Rattle.lk_law.proofs.common.Puts.{if_cases}
 use Rattle.lk_domain.specs.Calls.{terms_of, Mark, mark, Running, running, Calls, StandsOn, Grip}

@@ -13,17 +13,17 @@ use Rattle.lk_abs.specs.declared.names.Mode.TheVariants.{Virt, Native, Cna, Pv}
 use Rattle.lk_abs.specs.declared.names.Waiter.{Waiter}
 use Rattle.lk_word.specs.declared.rw_word.RwFields.{RwFields}
 use Rattle.lk_word.specs.declared.spin_word.Fields.{Fields}
-use Rattle.lk_machine.specs.declared.parts.Frame.{Frame}
-use Rattle.lk_machine.specs.declared.parts.Pc.{Pc}
-use Rattle.lk_machine.specs.declared.parts.Pc.TheVariants.{U2, U3, U4, U5}
-use Rattle.lk_machine.specs.declared.parts.Pc.TheVariants.{U1, R1, R2, R3, R4, R5, Wr1, Wr2, Wr3, Wr4}
-use Rattle.lk_machine.specs.declared.parts.Pc.TheVariants.{Wr5, Wr6, Y1, Y2, Y3, Y4, Y5, Z1, Z2}
-use Rattle.lk_machine.specs.declared.setup.Verb.TheVariants.{Unlock}
-use Rattle.lk_machine.specs.Moves.{first_place}
-use Rattle.lk_machine.specs.Row.{Effect, Lead, Granted, Freed, Leaves, Yields, Tell, Says}
-use Rattle.lk_machine.specs.rows.Rw.{rw_row, is_open, is_empty, is_cleared}
-use Rattle.lk_machine.specs.rows.Cna.{is_held}
-use Rattle.lk_machine.specs.TopRow.{Target, RwWord, target}
+use Rattle.lk_rows.specs.declared.parts.Frame.{Frame}
+use Rattle.lk_rows.specs.declared.parts.Pc.{Pc}
+use Rattle.lk_rows.specs.declared.parts.Pc.TheVariants.{U2, U3, U4, U5}
+use Rattle.lk_rows.specs.declared.parts.Pc.TheVariants.{U1, R1, R2, R3, R4, R5, Wr1, Wr2, Wr3, Wr4}
+use Rattle.lk_rows.specs.declared.parts.Pc.TheVariants.{Wr5, Wr6, Y1, Y2, Y3, Y4, Y5, Z1, Z2}
+use Rattle.lk_rows.specs.declared.setup.Verb.TheVariants.{Unlock}
+use Rattle.lk_rows.specs.Moves.{first_place}
+use Rattle.lk_rows.specs.Row.{Effect, Lead, Granted, Freed, Leaves, Yields, Tell, Says}
+use Rattle.lk_rows.specs.rows.Rw.{rw_row, is_open, is_empty, is_cleared}
+use Rattle.lk_rows.specs.rows.Cna.{is_held}
+use Rattle.lk_rows.specs.TopRow.{Target, RwWord, target}
 use Rattle.lk_law.specs.Families.{is_rw_row}
 use Rattle.lk_law.specs.Leads.{Course, course_in, held_lock, enters}
 use Rattle.lk_law.specs.RwPhase.{is_inner}

@@ -9,22 +9,22 @@ use Rattle.lk_abs.specs.declared.names.LockName.{LockName}
 use Rattle.lk_word.specs.declared.spin_word.NodeName.{NodeName}
 use Rattle.lk_word.specs.declared.spin_word.Fields.{Fields}
 use Rattle.lk_word.specs.declared.rw_word.RwFields.{RwFields}
-use Rattle.lk_machine.specs.declared.parts.Flag.{Flag}
-use Rattle.lk_machine.specs.declared.parts.State.{State}
-use Rattle.lk_machine.specs.declared.parts.Frame.{Frame}
-use Rattle.lk_machine.specs.declared.parts.Pc.{Pc}
-use Rattle.lk_machine.specs.declared.parts.Pc.TheVariants.{H1, H2, W1, W2, W3, W4, W5, W6, W7, E1, E2}
-use Rattle.lk_machine.specs.declared.parts.Pc.TheVariants.{E3, E4, E5, E6, E7, E8, E9, E10, E11, E12}
-use Rattle.lk_machine.specs.declared.parts.Pc.TheVariants.{E13, E14, E15, K1, K2, K3, U2, U3, U4, U5}
-use Rattle.lk_machine.specs.Moves.{node_of}
-use Rattle.lk_machine.specs.Row.{Effect}
-use Rattle.lk_machine.specs.rows.Spin.{is_unlocked}
-use Rattle.lk_machine.specs.rows.Queue.{entry_row}
-use Rattle.lk_machine.specs.rows.Cna.{is_held, is_last}
-use Rattle.lk_machine.specs.rows.Pv.{pv_after_next, is_set, is_running, is_halted, is_slow_byte, after_given_up}
-use Rattle.lk_machine.specs.TopRow.{Target, SpinWord, QueueWord, Queued, FlagOf, NextOf, ChoiceWord}
-use Rattle.lk_machine.specs.TopRow.{ChoiceFlag, ChoiceNext, SecondTailOf, RunsOf, PvWord, PvFlag}
-use Rattle.lk_machine.specs.TopRow.{PvNext, StateOf, HashEntry, Halted, KickOf, RwWord, target}
+use Rattle.lk_rows.specs.declared.parts.Flag.{Flag}
+use Rattle.lk_rows.specs.declared.parts.State.{State}
+use Rattle.lk_rows.specs.declared.parts.Frame.{Frame}
+use Rattle.lk_rows.specs.declared.parts.Pc.{Pc}
+use Rattle.lk_rows.specs.declared.parts.Pc.TheVariants.{H1, H2, W1, W2, W3, W4, W5, W6, W7, E1, E2}
+use Rattle.lk_rows.specs.declared.parts.Pc.TheVariants.{E3, E4, E5, E6, E7, E8, E9, E10, E11, E12}
+use Rattle.lk_rows.specs.declared.parts.Pc.TheVariants.{E13, E14, E15, K1, K2, K3, U2, U3, U4, U5}
+use Rattle.lk_rows.specs.Moves.{node_of}
+use Rattle.lk_rows.specs.Row.{Effect}
+use Rattle.lk_rows.specs.rows.Spin.{is_unlocked}
+use Rattle.lk_rows.specs.rows.Queue.{entry_row}
+use Rattle.lk_rows.specs.rows.Cna.{is_held, is_last}
+use Rattle.lk_rows.specs.rows.Pv.{pv_after_next, is_set, is_running, is_halted, is_slow_byte, after_given_up}
+use Rattle.lk_rows.specs.TopRow.{Target, SpinWord, QueueWord, Queued, FlagOf, NextOf, ChoiceWord}
+use Rattle.lk_rows.specs.TopRow.{ChoiceFlag, ChoiceNext, SecondTailOf, RunsOf, PvWord, PvFlag}
+use Rattle.lk_rows.specs.TopRow.{PvNext, StateOf, HashEntry, Halted, KickOf, RwWord, target}
 use Rattle.lk_law.specs.Families.{may_halt, is_rw_row}
 use Rattle.lk_law.specs.Leads.{course_in, is_release, stored_in}
 use Rattle.lk_law.specs.Premises.{IsThen}

@@ -13,20 +13,20 @@ use Rattle.lk_abs.specs.declared.names.Kind.{Kind}
 use Rattle.lk_abs.specs.declared.names.Waiter.{Waiter}
 use Rattle.lk_abs.specs.declared.names.LockName.{LockName}
 use Rattle.lk_word.specs.declared.spin_word.NodeName.{NodeName}
-use Rattle.lk_machine.specs.declared.parts.Node.{Node}
-use Rattle.lk_machine.specs.declared.parts.Frame.{Frame}
-use Rattle.lk_machine.specs.declared.parts.Pc.{Pc}
-use Rattle.lk_machine.specs.declared.parts.Pc.TheVariants.{C1, C2}
-use Rattle.lk_machine.specs.declared.setup.Verb.{Verb}
+use Rattle.lk_rows.specs.declared.parts.Node.{Node}
+use Rattle.lk_rows.specs.declared.parts.Frame.{Frame}
+use Rattle.lk_rows.specs.declared.parts.Pc.{Pc}
+use Rattle.lk_rows.specs.declared.parts.Pc.TheVariants.{C1, C2}
+use Rattle.lk_rows.specs.declared.setup.Verb.{Verb}
 use Rattle.lk_abs.specs.Lawful.{is_local, same_socket, stays}
 use Rattle.lk_abs.specs.declared.names.Format.{Format}
 use Rattle.lk_abs.specs.declared.names.Format.TheVariants.{One, Two}
 use Rattle.lk_law.specs.Premises.{IsShallow}
 use Rattle.lk_law.specs.Steps.{waiter_in}
 use Rattle.lk_domain.specs.Calls.{Outlook, is_inner, mark_of, sight_by, stays_by}
-use Rattle.lk_machine.specs.Moves.{node_of, is_node}
-use Rattle.lk_machine.specs.TopRow.{Target}
-use Rattle.lk_machine.specs.TopRow.{target}
+use Rattle.lk_rows.specs.Moves.{node_of, is_node}
+use Rattle.lk_rows.specs.TopRow.{Target}
+use Rattle.lk_rows.specs.TopRow.{target}
 use Rattle.lk_law.specs.Agree.{halts}
 use Rattle.lk_law.specs.Families.{is_rw_row}
 use Rattle.lk_law.specs.Leads.{Met, Named, Course, course_at}

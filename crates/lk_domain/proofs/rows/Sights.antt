@@ -5,17 +5,17 @@ use Rattle.std.proofs.Common.{arith}
 use Rattle.std.proofs.lemmas.Bool.{cases_Bool}
 use Rattle.std.specs.Prelude.{is_some}
 use Rattle.lk_word.specs.declared.spin_word.NodeName.{NodeName}
-use Rattle.lk_machine.specs.declared.parts.Frame.{Frame}
-use Rattle.lk_machine.specs.declared.parts.Pc.{Pc}
-use Rattle.lk_machine.specs.declared.parts.Pc.TheVariants.{C1, C2, C4, C5, C7, C9}
-use Rattle.lk_machine.specs.rows.Spin.{spin_row}
-use Rattle.lk_machine.specs.rows.Queue.{queue_row, entry_row, next_row}
-use Rattle.lk_machine.specs.rows.Rw.{rw_row}
-use Rattle.lk_machine.specs.rows.Cna.{Sight, search_row, runs_row, after_first, after_more}
-use Rattle.lk_machine.specs.TopRow.{Target, SpinWord, QueueWord, Queued, FlagOf, NextOf, RwWord}
-use Rattle.lk_machine.specs.TopRow.{ChoiceWord, ChoiceFlag, ChoiceNext, SecondTailOf, RunsOf, target}
-use Rattle.lk_machine.specs.TopRow.{PvWord, PvFlag, PvNext, StateOf, HashEntry, Halted, KickOf}
-use Rattle.lk_machine.specs.rows.Pv.{pv_row, state_row}
+use Rattle.lk_rows.specs.declared.parts.Frame.{Frame}
+use Rattle.lk_rows.specs.declared.parts.Pc.{Pc}
+use Rattle.lk_rows.specs.declared.parts.Pc.TheVariants.{C1, C2, C4, C5, C7, C9}
+use Rattle.lk_rows.specs.rows.Spin.{spin_row}
+use Rattle.lk_rows.specs.rows.Queue.{queue_row, entry_row, next_row}
+use Rattle.lk_rows.specs.rows.Rw.{rw_row}
+use Rattle.lk_rows.specs.rows.Cna.{Sight, search_row, runs_row, after_first, after_more}
+use Rattle.lk_rows.specs.TopRow.{Target, SpinWord, QueueWord, Queued, FlagOf, NextOf, RwWord}
+use Rattle.lk_rows.specs.TopRow.{ChoiceWord, ChoiceFlag, ChoiceNext, SecondTailOf, RunsOf, target}
+use Rattle.lk_rows.specs.TopRow.{PvWord, PvFlag, PvNext, StateOf, HashEntry, Halted, KickOf}
+use Rattle.lk_rows.specs.rows.Pv.{pv_row, state_row}
 use Rattle.lk_law.specs.Families.{is_rw_row}
 use Rattle.lk_law.specs.Leads.{Met, Word, Shared, Number, Flagged, Named, Stated, Marked, Setting, course_of}
 use Rattle.lk_law.specs.Leads.{course_at}

@@ -8,17 +8,17 @@ use Rattle.lk_abs.specs.declared.names.LockName.{LockName}
 use Rattle.lk_abs.specs.declared.names.Mode.{Mode}
 use Rattle.lk_abs.specs.declared.names.Waiter.{Waiter}
 use Rattle.lk_word.specs.declared.spin_word.NodeName.{NodeName}
-use Rattle.lk_machine.specs.declared.parts.Frame.{Frame}
-use Rattle.lk_machine.specs.declared.parts.Pc.{Pc}
-use Rattle.lk_machine.specs.declared.parts.Pc.TheVariants.{C1, C2, C3, C7}
-use Rattle.lk_machine.specs.declared.parts.Why.{Why}
-use Rattle.lk_machine.specs.declared.parts.Why.TheVariants as why
-use Rattle.lk_machine.specs.declared.setup.Verb.{Verb}
-use Rattle.lk_machine.specs.Moves.{is_node, node_of}
-use Rattle.lk_machine.specs.Row.{Lead, Goes, Enters, Leaves, Yields, Change, with_change, changed_all, Prev, Second}
-use Rattle.lk_machine.specs.Row.{Y, Left, A, B, K, T, Reason, Tailed, HashedIs, TargetIs}
-use Rattle.lk_machine.specs.rows.Cna.{Sight, search_on}
-use Rattle.lk_machine.specs.TopRow.{target}
+use Rattle.lk_rows.specs.declared.parts.Frame.{Frame}
+use Rattle.lk_rows.specs.declared.parts.Pc.{Pc}
+use Rattle.lk_rows.specs.declared.parts.Pc.TheVariants.{C1, C2, C3, C7}
+use Rattle.lk_rows.specs.declared.parts.Why.{Why}
+use Rattle.lk_rows.specs.declared.parts.Why.TheVariants as why
+use Rattle.lk_rows.specs.declared.setup.Verb.{Verb}
+use Rattle.lk_rows.specs.Moves.{is_node, node_of}
+use Rattle.lk_rows.specs.Row.{Lead, Goes, Enters, Leaves, Yields, Change, with_change, changed_all, Prev, Second}
+use Rattle.lk_rows.specs.Row.{Y, Left, A, B, K, T, Reason, Tailed, HashedIs, TargetIs}
+use Rattle.lk_rows.specs.rows.Cna.{Sight, search_on}
+use Rattle.lk_rows.specs.TopRow.{target}
 use Rattle.lk_law.specs.Agree.{halts}
 use Rattle.lk_law.specs.Leads.{Met, Linked, Named, course_in, enters}
 use Rattle.lk_law.specs.Nodes.{IsFree, looks_along, will_link}
@@ -240,8 +240,8 @@ told_after m n hs ok grows p rs live old d f c a b w at place on first knows use
 keeps_first : (s : Sight) (f : Frame) (x : Option NodeName) → (led f (search_on s f x).leads).a ≡ f.a
 keeps_first s f None = by (is_some f.second)
   where
-    by : (b : Bool) → (led f (if b then Rattle.lk_machine.specs.Row.learns_all {A = Option NodeName} C3 (K 0 ∷ Reason why.Flush ∷ [])
-        else Rattle.lk_machine.specs.Row.learns_all C7 (K 0 ∷ Y f.a ∷ [])).leads).a ≡ f.a
+    by : (b : Bool) → (led f (if b then Rattle.lk_rows.specs.Row.learns_all {A = Option NodeName} C3 (K 0 ∷ Reason why.Flush ∷ [])
+        else Rattle.lk_rows.specs.Row.learns_all C7 (K 0 ∷ Y f.a ∷ [])).leads).a ≡ f.a
     by true = refl
     by false = refl
 keeps_first s f (Some n) =
@@ -251,7 +251,7 @@ keeps_first s f (Some n) =
     ]
 
 -- where the last of the second queue is known it will be linked to the first that was met
-links_on : (y : Why) → will_link (Rattle.lk_machine.specs.rows.Cna.after_tail y) y ≡ true → will_link C3 y ≡ true
+links_on : (y : Why) → will_link (Rattle.lk_rows.specs.rows.Cna.after_tail y) y ≡ true → will_link C3 y ≡ true
 links_on why.Append h = refl
 links_on why.Flush h = refl
 links_on why.Promotion h = cc h

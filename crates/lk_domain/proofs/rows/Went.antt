@@ -12,14 +12,14 @@ use Rattle.lk_abs.specs.declared.events.What.{What}
 use Rattle.lk_abs.specs.declared.events.What.TheVariants.{RTake, RRelease, WTake, WRelease}
 use Rattle.lk_abs.specs.declared.names.Waiter.{Waiter}
 use Rattle.lk_abs.specs.declared.names.LockName.{LockName}
-use Rattle.lk_machine.specs.declared.parts.Frame.{Frame}
-use Rattle.lk_machine.specs.declared.parts.Pc.{Pc}
-use Rattle.lk_machine.specs.declared.setup.Verb.{Verb}
-use Rattle.lk_machine.specs.Moves.{node_of}
-use Rattle.lk_machine.specs.Row.{Lead, Goes, Granted, Freed, Leaves}
-use Rattle.lk_machine.specs.Row.{Yields, Tell, Says, Change, with_change, changed_all, Prev, Second, Y}
-use Rattle.lk_machine.specs.Row.{Left, A, B, K, T, Reason, Tailed, HashedIs, TargetIs}
-use Rattle.lk_machine.specs.TopRow.{Target, RwWord, target}
+use Rattle.lk_rows.specs.declared.parts.Frame.{Frame}
+use Rattle.lk_rows.specs.declared.parts.Pc.{Pc}
+use Rattle.lk_rows.specs.declared.setup.Verb.{Verb}
+use Rattle.lk_rows.specs.Moves.{node_of}
+use Rattle.lk_rows.specs.Row.{Lead, Goes, Granted, Freed, Leaves}
+use Rattle.lk_rows.specs.Row.{Yields, Tell, Says, Change, with_change, changed_all, Prev, Second, Y}
+use Rattle.lk_rows.specs.Row.{Left, A, B, K, T, Reason, Tailed, HashedIs, TargetIs}
+use Rattle.lk_rows.specs.TopRow.{Target, RwWord, target}
 use Rattle.lk_law.specs.Leads.{Course, course_in, held_lock, way_after, RowDone}
 use Rattle.lk_law.specs.Phase.{has_node}
 use Rattle.lk_law.specs.Phase.Phase.{Idle}

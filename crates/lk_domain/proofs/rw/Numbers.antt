@@ -9,14 +9,14 @@ use prog.Atomic.{either}
 use Rattle.lk_abs.specs.declared.names.Mode.{Mode}
 use Rattle.lk_word.specs.declared.rw_word.RwFields.{RwFields}
 use Rattle.lk_word.specs.RwWord.{packed_rw, IsPackableRw}
-use Rattle.lk_machine.specs.declared.parts.Frame.{Frame}
-use Rattle.lk_machine.specs.declared.parts.Pc.{Pc}
-use Rattle.lk_machine.specs.declared.parts.Pc.TheVariants.{R1, R2, R3, R4, R5, Wr1, Wr2, Wr3, Wr4}
-use Rattle.lk_machine.specs.declared.parts.Pc.TheVariants.{Wr5, Wr6, Y1, Y2, Y3, Y4, Y5, Z1, Z2}
-use Rattle.lk_machine.specs.declared.setup.Verb.{Verb}
-use Rattle.lk_machine.specs.declared.setup.Verb.TheVariants.{Read, TryRead, RUnlock, Write, TryWrite}
-use Rattle.lk_machine.specs.declared.setup.Verb.TheVariants.{WUnlock}
-use Rattle.lk_machine.specs.rows.Rw.{rw_row, one_more, one_less, written_word, is_open, is_empty, is_cleared}
+use Rattle.lk_rows.specs.declared.parts.Frame.{Frame}
+use Rattle.lk_rows.specs.declared.parts.Pc.{Pc}
+use Rattle.lk_rows.specs.declared.parts.Pc.TheVariants.{R1, R2, R3, R4, R5, Wr1, Wr2, Wr3, Wr4}
+use Rattle.lk_rows.specs.declared.parts.Pc.TheVariants.{Wr5, Wr6, Y1, Y2, Y3, Y4, Y5, Z1, Z2}
+use Rattle.lk_rows.specs.declared.setup.Verb.{Verb}
+use Rattle.lk_rows.specs.declared.setup.Verb.TheVariants.{Read, TryRead, RUnlock, Write, TryWrite}
+use Rattle.lk_rows.specs.declared.setup.Verb.TheVariants.{WUnlock}
+use Rattle.lk_rows.specs.rows.Rw.{rw_row, one_more, one_less, written_word, is_open, is_empty, is_cleared}
 use Rattle.lk_law.specs.Families.{is_rw_row}
 use Rattle.lk_law.specs.RwKnown.{RwKnown}
 use Rattle.lk_domain.specs.RwUses.{frees_by_use}

@@ -16,14 +16,14 @@ use Rattle.lk_abs.specs.declared.names.LockName.{LockName}
 use Rattle.lk_word.specs.declared.spin_word.NodeName.{NodeName}
 use Rattle.lk_word.specs.declared.rw_word.RwFields.{RwFields}
 use Rattle.lk_word.specs.RwWord.{packed_rw, IsPackableRw}
-use Rattle.lk_machine.specs.Moves.{rw_name, wait_name}
-use Rattle.lk_machine.specs.declared.parts.Node.{Node}
-use Rattle.lk_machine.specs.declared.parts.Frame.{Frame}
-use Rattle.lk_machine.specs.declared.parts.Pc.{Pc}
-use Rattle.lk_machine.specs.declared.parts.Pc.TheVariants.{C1, Z1, C2}
-use Rattle.lk_machine.specs.declared.setup.Verb.{Verb}
-use Rattle.lk_machine.specs.rows.Rw.{rw_row}
-use Rattle.lk_machine.specs.TopRow.{target}
+use Rattle.lk_rows.specs.Moves.{rw_name, wait_name}
+use Rattle.lk_rows.specs.declared.parts.Node.{Node}
+use Rattle.lk_rows.specs.declared.parts.Frame.{Frame}
+use Rattle.lk_rows.specs.declared.parts.Pc.{Pc}
+use Rattle.lk_rows.specs.declared.parts.Pc.TheVariants.{C1, Z1, C2}
+use Rattle.lk_rows.specs.declared.setup.Verb.{Verb}
+use Rattle.lk_rows.specs.rows.Rw.{rw_row}
+use Rattle.lk_rows.specs.TopRow.{target}
 use Rattle.lk_law.specs.Families.{is_rw_row}
 use Rattle.lk_law.specs.Leads.{Shared, met_in, stored_in, enters}
 use Rattle.lk_law.specs.RwKnown.{RwKnown}

@@ -3,9 +3,9 @@ use Rattle.std.proofs.Common.{◌≡◌, ◌≢◌, ℕ, ◌<◌, List, length, 
 use Rattle.std.specs.Prelude.{if◌then◌else◌}
 use Rattle.atomic_table.specs.Table.{Me}
 use Rattle.lk_word.specs.declared.rw_word.RwFields.{RwFields}
-use Rattle.lk_machine.specs.declared.setup.Verb.{Verb}
-use Rattle.lk_machine.specs.declared.setup.Verb.TheVariants.{RUnlock, WUnlock}
-use Rattle.lk_machine.specs.Programs.{is_release as is_unlocking}
+use Rattle.lk_rows.specs.declared.setup.Verb.{Verb}
+use Rattle.lk_rows.specs.declared.setup.Verb.TheVariants.{RUnlock, WUnlock}
+use Rattle.lk_rows.specs.Programs.{is_release as is_unlocking}
 use Rattle.lk_law.specs.Leads.{Shared}
 use Rattle.lk_domain.specs.Calls.{terms_of, Hold, Calls, are_calls, begin, row_of}
 use Rattle.lk_domain.specs.declared.plan.Plan.{Plan}

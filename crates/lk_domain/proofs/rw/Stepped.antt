@@ -9,20 +9,20 @@ use Rattle.lk_abs.specs.declared.names.Mode.{Mode}
 use Rattle.lk_abs.specs.declared.names.Mode.TheVariants.{Virt, Native, Cna, Pv}
 use Rattle.lk_word.specs.declared.rw_word.RwFields.{RwFields}
 use Rattle.lk_word.specs.RwWord.{packed_rw}
-use Rattle.lk_machine.specs.declared.parts.Frame.{Frame}
-use Rattle.lk_machine.specs.declared.parts.Pc.{Pc}
-use Rattle.lk_machine.specs.declared.parts.Pc.TheVariants.{F1, R1, R2, R3, R4, R5, Wr1, Wr2, Wr3, Wr4}
-use Rattle.lk_machine.specs.declared.parts.Pc.TheVariants.{Wr5, Wr6, Y1, Y2, Y3, Y4, Y5}
-use Rattle.lk_machine.specs.declared.setup.Verb.{Verb}
-use Rattle.lk_machine.specs.declared.setup.Verb.TheVariants.{Lock, Try, Unlock, Read, TryRead, RUnlock, Write}
-use Rattle.lk_machine.specs.declared.setup.Verb.TheVariants.{TryWrite, WUnlock}
-use Rattle.lk_machine.specs.Moves.{first_place, rw_name}
+use Rattle.lk_rows.specs.declared.parts.Frame.{Frame}
+use Rattle.lk_rows.specs.declared.parts.Pc.{Pc}
+use Rattle.lk_rows.specs.declared.parts.Pc.TheVariants.{F1, R1, R2, R3, R4, R5, Wr1, Wr2, Wr3, Wr4}
+use Rattle.lk_rows.specs.declared.parts.Pc.TheVariants.{Wr5, Wr6, Y1, Y2, Y3, Y4, Y5}
+use Rattle.lk_rows.specs.declared.setup.Verb.{Verb}
+use Rattle.lk_rows.specs.declared.setup.Verb.TheVariants.{Lock, Try, Unlock, Read, TryRead, RUnlock, Write}
+use Rattle.lk_rows.specs.declared.setup.Verb.TheVariants.{TryWrite, WUnlock}
+use Rattle.lk_rows.specs.Moves.{first_place, rw_name}
 use Rattle.lk_abs.specs.declared.events.RwHow.TheVariants as how
 use Rattle.lk_abs.specs.declared.events.What.TheVariants.{Miss}
-use Rattle.lk_machine.specs.Row.{Effect, Done, looks, misses}
-use Rattle.lk_machine.specs.rows.Rw.{rw_row, is_open, is_empty, is_cleared, takes_written, queues_up}
-use Rattle.lk_machine.specs.rows.Rw.{frees_wait, rw_lock}
-use Rattle.lk_machine.specs.TopRow.{Target, target}
+use Rattle.lk_rows.specs.Row.{Effect, Done, looks, misses}
+use Rattle.lk_rows.specs.rows.Rw.{rw_row, is_open, is_empty, is_cleared, takes_written, queues_up}
+use Rattle.lk_rows.specs.rows.Rw.{frees_wait, rw_lock}
+use Rattle.lk_rows.specs.TopRow.{Target, target}
 use Rattle.lk_law.specs.Families.{is_slow, is_rw_row}
 use Rattle.lk_law.specs.Leads.{Met, Shared, Course, course_of, course_at, held_lock}
 use Rattle.lk_law.specs.Steps.{led}

@@ -16,12 +16,12 @@ use Rattle.lk_abs.specs.History.{no_history, LockHistory}
 use Rattle.lk_word.specs.declared.spin_word.Layout.{Layout}
 use Rattle.lk_abs.specs.declared.names.LockName.{LockName}
 use Rattle.lk_word.specs.declared.spin_word.NodeName.{NodeName}
-use Rattle.lk_machine.specs.declared.parts.Frame.{Frame}
+use Rattle.lk_rows.specs.declared.parts.Frame.{Frame}
 use Rattle.lk_law.specs.SoundWorld.{IsSoundWorld}
 use Rattle.lk_law.proofs.common.Puts.{not-true}
 use Rattle.lk_word.specs.SpinWord.{packed}
 use Rattle.lk_word.specs.RwWord.{packed_rw}
-use Rattle.lk_machine.specs.Machine.{rest_word, rest_rw}
+use Rattle.lk_rows.specs.Machine.{rest_word, rest_rw}
 use Rattle.lk_law.specs.Resting.{world_at_rest}
 use Rattle.lk_law.specs.World.{World}
 use Rattle.lk_law.proofs.common.RestWorld.{rest_is_sound}

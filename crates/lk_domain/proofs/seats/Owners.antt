@@ -7,7 +7,7 @@ use native.Mathlib.Decide.{ℕ_discrete}
 use lib.ListN.{get_elem?}
 use Rattle.atomic_table.specs.Table.{State}
 use Rattle.lk_abs.specs.declared.names.Waiter.{Waiter}
-use Rattle.lk_machine.specs.declared.parts.Frame.{Frame}
+use Rattle.lk_rows.specs.declared.parts.Frame.{Frame}
 use Rattle.lk_domain.specs.Calls.{frame_in}
 use Rattle.lk_domain.specs.Runs.{Runs, IsNobodys}
 use Rattle.lk_domain.specs.declared.plan.Plan.{Plan}

@@ -1,7 +1,7 @@
 -- A row of a lock leaves a processor's number, and what it carries.
 use Rattle.std.proofs.Common.{◌≡◌, ℕ, Some, ap, ◌∙◌}
 use Rattle.atomic_table.specs.Table.{Me}
-use Rattle.lk_machine.specs.declared.setup.Verb.{Verb}
+use Rattle.lk_rows.specs.declared.setup.Verb.{Verb}
 use Rattle.lk_law.specs.Leads.{Met, Word}
 use Rattle.lk_domain.specs.Calls.{acting}
 use Rattle.lk_domain.specs.Keeps.{Slot}

@@ -10,23 +10,23 @@ use Rattle.lk_word.specs.declared.spin_word.NodeName.{NodeName}
 use Rattle.lk_word.specs.declared.spin_word.Fields.{Fields}
 use Rattle.lk_word.specs.declared.spin_word.Layout.{Layout}
 use Rattle.lk_word.specs.SpinWord.{packed}
-use Rattle.lk_machine.specs.declared.parts.Frame.{Frame}
-use Rattle.lk_machine.specs.declared.parts.Pc.{Pc}
-use Rattle.lk_machine.specs.declared.parts.Flag.{Flag}
-use Rattle.lk_machine.specs.declared.parts.Pc.TheVariants.{F1, T1, T2, U1, V1, V2, P0, P1, P2, P3, P4}
-use Rattle.lk_machine.specs.declared.parts.Pc.TheVariants.{G1, G2, G3, G4, G5, G6, G7, G8, G9, G10, G11}
-use Rattle.lk_machine.specs.declared.parts.Pc.TheVariants.{N1, N2, E1, W1, R4, Wr2, C1, C2, C3, C5, C7, C8, C10}
-use Rattle.lk_machine.specs.declared.setup.Verb.{Verb}
-use Rattle.lk_machine.specs.declared.setup.Verb.TheVariants.{Lock, Try, Unlock, Read, Write}
-use Rattle.lk_machine.specs.Moves.{is_node, node_of}
-use Rattle.lk_machine.specs.Row.{Effect, Lead}
-use Rattle.lk_machine.specs.rows.Cna.{Sight, is_last, may_stay, search_first, search_on}
+use Rattle.lk_rows.specs.declared.parts.Frame.{Frame}
+use Rattle.lk_rows.specs.declared.parts.Pc.{Pc}
+use Rattle.lk_rows.specs.declared.parts.Flag.{Flag}
+use Rattle.lk_rows.specs.declared.parts.Pc.TheVariants.{F1, T1, T2, U1, V1, V2, P0, P1, P2, P3, P4}
+use Rattle.lk_rows.specs.declared.parts.Pc.TheVariants.{G1, G2, G3, G4, G5, G6, G7, G8, G9, G10, G11}
+use Rattle.lk_rows.specs.declared.parts.Pc.TheVariants.{N1, N2, E1, W1, R4, Wr2, C1, C2, C3, C5, C7, C8, C10}
+use Rattle.lk_rows.specs.declared.setup.Verb.{Verb}
+use Rattle.lk_rows.specs.declared.setup.Verb.TheVariants.{Lock, Try, Unlock, Read, Write}
+use Rattle.lk_rows.specs.Moves.{is_node, node_of}
+use Rattle.lk_rows.specs.Row.{Effect, Lead}
+use Rattle.lk_rows.specs.rows.Cna.{Sight, is_last, may_stay, search_first, search_on}
 use Rattle.lk_domain.specs.Calls.{Outlook, sight_by}
 use Rattle.lk_domain.specs.NodePlays.{looks_behind}
-use Rattle.lk_machine.specs.rows.Spin.{is_free, is_unlocked, after_fast, after_pending, to_queue}
-use Rattle.lk_machine.specs.rows.Queue.{own_node, after_entry, after_arrival, after_look, after_head}
-use Rattle.lk_machine.specs.rows.Queue.{after_link, is_sole}
-use Rattle.lk_machine.specs.TopRow.{target}
+use Rattle.lk_rows.specs.rows.Spin.{is_free, is_unlocked, after_fast, after_pending, to_queue}
+use Rattle.lk_rows.specs.rows.Queue.{own_node, after_entry, after_arrival, after_look, after_head}
+use Rattle.lk_rows.specs.rows.Queue.{after_link, is_sole}
+use Rattle.lk_rows.specs.TopRow.{target}
 use Rattle.lk_law.specs.Families.{is_slow}
 use Rattle.lk_law.specs.Leads.{Met, Word, Number, Flagged, Linked, Named}
 use Rattle.lk_law.specs.Premises.{IsThen}

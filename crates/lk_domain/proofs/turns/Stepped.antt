@@ -6,14 +6,14 @@ use Rattle.std.specs.Prelude.{◌&&◌, not}
 use Rattle.atomic_table.specs.Table.{Me}
 use Rattle.lk_abs.specs.declared.names.LockName.{LockName}
 use Rattle.lk_abs.specs.declared.names.Mode.{Mode}
-use Rattle.lk_machine.specs.declared.parts.Frame.{Frame}
-use Rattle.lk_machine.specs.declared.parts.Flag.TheVariants.{Unset}
-use Rattle.lk_machine.specs.declared.parts.Pc.{Pc}
-use Rattle.lk_machine.specs.declared.parts.Pc.TheVariants.{U1, P1, P2, P4, G1, G4, G8, G9, G10, G11, C1, C2, C8, C10}
-use Rattle.lk_machine.specs.declared.setup.Verb.{Verb}
-use Rattle.lk_machine.specs.declared.setup.Verb.TheVariants.{Lock, Try, Read, Write}
-use Rattle.lk_machine.specs.rows.Queue.{is_sole}
-use Rattle.lk_machine.specs.TopRow.{target}
+use Rattle.lk_rows.specs.declared.parts.Frame.{Frame}
+use Rattle.lk_rows.specs.declared.parts.Flag.TheVariants.{Unset}
+use Rattle.lk_rows.specs.declared.parts.Pc.{Pc}
+use Rattle.lk_rows.specs.declared.parts.Pc.TheVariants.{U1, P1, P2, P4, G1, G4, G8, G9, G10, G11, C1, C2, C8, C10}
+use Rattle.lk_rows.specs.declared.setup.Verb.{Verb}
+use Rattle.lk_rows.specs.declared.setup.Verb.TheVariants.{Lock, Try, Read, Write}
+use Rattle.lk_rows.specs.rows.Queue.{is_sole}
+use Rattle.lk_rows.specs.TopRow.{target}
 use Rattle.lk_law.specs.Families.{is_slow}
 use Rattle.lk_law.specs.Leads.{Met, Word, Number, Flagged, Linked}
 use Rattle.lk_law.specs.Premises.{IsThen}

@@ -2,8 +2,8 @@
 use Rattle.std.proofs.Common.{◌≡◌, ◌≢◌, ◌⊎◌, inl, inr, ℕ, ◌+◌, ◌*◌, ◌<◌, Bool, true, false, not, refl, sym, ap, ◌∙◌, arith}
 use Rattle.lk_abs.specs.declared.names.Mode.{Mode}
 use Rattle.lk_word.specs.declared.spin_word.NodeName.{NodeName}
-use Rattle.lk_machine.specs.declared.parts.Node.{Node}
-use Rattle.lk_machine.specs.Machine.{rest_node}
+use Rattle.lk_rows.specs.declared.parts.Node.{Node}
+use Rattle.lk_rows.specs.Machine.{rest_node}
 use Rattle.lk_domain.specs.Runs.{IsReset}
 use Rattle.lk_domain.specs.Words.{part_index, node_at, node_number, stored_number, has_part, is_last}
 use Rattle.lk_domain.specs.declared.part.Part.{Part}
@@ -106,7 +106,7 @@ name_is k a b q r ia ib e =
 
 -- what a private store makes of a node
 abbrev pub reset_part : Part → Node → Node
-reset_part part.Flag x = record x { flag = Rattle.lk_machine.specs.declared.parts.Flag.TheVariants.Unset }
+reset_part part.Flag x = record x { flag = Rattle.lk_rows.specs.declared.parts.Flag.TheVariants.Unset }
 reset_part part.Next x = record x { next = Rattle.std.proofs.Common.None }
 reset_part part.SecondTail x = record x { second_tail = Rattle.std.proofs.Common.None }
 reset_part part.Runs x = record x { runs = 0 }

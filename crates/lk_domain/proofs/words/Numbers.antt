@@ -13,12 +13,12 @@ use Rattle.lk_word.specs.declared.spin_word.Layout.{Layout}
 use Rattle.lk_word.specs.declared.spin_word.Layout.TheVariants.{Narrow, Wide}
 use Rattle.lk_word.specs.SpinWord.{packed, IsPackable, locked_number, tail_number}
 use Rattle.lk_word.proofs.SpinWordLemmas.{packed_small}
-use Rattle.lk_machine.specs.declared.parts.Frame.{Frame}
-use Rattle.lk_machine.specs.declared.parts.Pc.{Pc}
-use Rattle.lk_machine.specs.declared.parts.Pc.TheVariants.{F1, T1, T2, U1, V1, V2, P0, P3, G2, G3}
-use Rattle.lk_machine.specs.declared.parts.Pc.TheVariants.{G7, N1, N2}
-use Rattle.lk_machine.specs.rows.Spin.{is_free, is_unlocked, held_word}
-use Rattle.lk_machine.specs.TopRow.{target}
+use Rattle.lk_rows.specs.declared.parts.Frame.{Frame}
+use Rattle.lk_rows.specs.declared.parts.Pc.{Pc}
+use Rattle.lk_rows.specs.declared.parts.Pc.TheVariants.{F1, T1, T2, U1, V1, V2, P0, P3, G2, G3}
+use Rattle.lk_rows.specs.declared.parts.Pc.TheVariants.{G7, N1, N2}
+use Rattle.lk_rows.specs.rows.Spin.{is_free, is_unlocked, held_word}
+use Rattle.lk_rows.specs.TopRow.{target}
 use Rattle.lk_law.specs.Leads.{course_in}
 use Rattle.lk_law.specs.World.{World}
 use Rattle.lk_abs.specs.declared.names.Waiter.{Waiter}

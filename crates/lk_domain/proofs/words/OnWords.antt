@@ -17,19 +17,19 @@ use Rattle.lk_word.specs.declared.spin_word.NodeName.{NodeName}
 use Rattle.lk_word.specs.declared.spin_word.Fields.{Fields}
 use Rattle.lk_word.proofs.SpinWordLemmas.{from_narrow}
 use Rattle.lk_word.specs.SpinWord.{packed, IsPackable, IsTailInRange}
-use Rattle.lk_machine.specs.declared.parts.Node.{Node}
-use Rattle.lk_machine.specs.declared.parts.Frame.{Frame}
-use Rattle.lk_machine.specs.declared.parts.Pc.{Pc}
-use Rattle.lk_machine.specs.declared.parts.Pc.TheVariants.{G1, C1, C2, H1}
-use Rattle.lk_machine.specs.declared.setup.Verb.{Verb}
-use Rattle.lk_machine.specs.rows.Spin.{spin_row}
-use Rattle.lk_machine.specs.rows.Queue.{queue_row}
-use Rattle.lk_machine.specs.rows.Cna.{promotion_row}
-use Rattle.lk_machine.specs.TopRow.{Target, SpinWord, QueueWord, ChoiceWord, target, PvWord}
+use Rattle.lk_rows.specs.declared.parts.Node.{Node}
+use Rattle.lk_rows.specs.declared.parts.Frame.{Frame}
+use Rattle.lk_rows.specs.declared.parts.Pc.{Pc}
+use Rattle.lk_rows.specs.declared.parts.Pc.TheVariants.{G1, C1, C2, H1}
+use Rattle.lk_rows.specs.declared.setup.Verb.{Verb}
+use Rattle.lk_rows.specs.rows.Spin.{spin_row}
+use Rattle.lk_rows.specs.rows.Queue.{queue_row}
+use Rattle.lk_rows.specs.rows.Cna.{promotion_row}
+use Rattle.lk_rows.specs.TopRow.{Target, SpinWord, QueueWord, ChoiceWord, target, PvWord}
 use Rattle.lk_law.specs.Families.{is_rw_row, stays_awake, may_halt}
 use Rattle.lk_law.specs.Known.{Known, KnownHalting}
 use Rattle.lk_law.specs.Leads.{Word, met_in, stored_in, enters}
-use Rattle.lk_machine.specs.rows.Pv.{pv_row}
+use Rattle.lk_rows.specs.rows.Pv.{pv_row}
 use Rattle.lk_law.specs.SoundWorld.{IsSoundWorld, is_rw_name}
 use Rattle.lk_law.specs.Steps.{stores_word}
 use Rattle.lk_law.specs.World.{World}

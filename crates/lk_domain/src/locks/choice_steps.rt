@@ -13,7 +13,7 @@ use super::{moves, node_moves};
 use crate::cpu::Cpu;
 use crate::domain::Domain;
 use lk_abs::LockName;
-use lk_machine::Verb;
+use lk_rows::Verb;
 use lk_word::NodeName;
 
 /// Cuts the link of the last node that the newest call has passed over, which is the row C5.

@@ -1,6 +1,6 @@
 // The steps of a seat on the word of a spinlock or a wait lock, each one operation.
 ghost use Rattle.std.specs.Prelude.{◌≡◌, ◌<◌, true, false, None};
-ghost use Rattle.lk_machine.specs.declared.setup.Verb.TheVariants.{Lock, Try, Unlock};
+ghost use Rattle.lk_rows.specs.declared.setup.Verb.TheVariants.{Lock, Try, Unlock};
 ghost use Rattle.lk_domain.specs.Calls.{lock_name};
 ghost use Rattle.lk_domain.specs.Ledgers.{is_first};
 ghost use Rattle.lk_domain.specs.NodePlays.{AtPromotion};
@@ -17,7 +17,7 @@ use crate::cpu::Right;
 use crate::domain::Domain;
 use crate::rule::{Exchanges, Locks, Tries, Unlocks, WordSteps};
 use lk_abs::LockName;
-use lk_machine::Verb;
+use lk_rows::Verb;
 use lk_word::{HELD, NodeName, PENDING};
 
 // What a row of a call that goes on does with the word of a spinlock or a wait lock, in one operation.

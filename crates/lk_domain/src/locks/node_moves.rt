@@ -1,6 +1,6 @@
 // The steps of a seat on the words of nodes, each one operation.
 ghost use Rattle.std.specs.Prelude.{◌≡◌, ◌≢◌, ◌<◌, true};
-ghost use Rattle.lk_machine.specs.declared.parts.Pc.TheVariants.{G6};
+ghost use Rattle.lk_rows.specs.declared.parts.Pc.TheVariants.{G6};
 ghost use Rattle.lk_domain.specs.NodePlays.{AtOwn, AtPrev, AtNext, AtEntry, AtBare};
 ghost use Rattle.lk_domain.specs.NodePlays.{AtAppend, AtCut, AtTail, AtNewTail, Relinks, Names, AtLink};
 ghost use Rattle.lk_domain.specs.NodePlays.{AtSkipped, AtOwnRuns, AtRuns, IsFlagNode, Counted, Tells, SeesTail};
@@ -18,7 +18,7 @@ use crate::rule::{
     RunsLooks, TailLooks,
 };
 use lk_abs::LockName;
-use lk_machine::{Flag, Verb};
+use lk_rows::{Flag, Verb};
 use lk_word::NodeName;
 
 // Resets a word of the node to come. Nobody uses the node: no tail, no link and no other call of

@@ -1,7 +1,7 @@
 // The steps of a processor in the queue of a lock: on the word of the lock, and on the words of
 // nodes, by its newest call.
 ghost use Rattle.std.specs.Prelude.{◌≡◌, ◌≢◌, ◌<◌, false, true, None};
-ghost use Rattle.lk_machine.specs.declared.parts.Flag.TheVariants.{Unset};
+ghost use Rattle.lk_rows.specs.declared.parts.Flag.TheVariants.{Unset};
 ghost use Rattle.lk_law.specs.Leads.{Number, Flagged, Named};
 ghost use Rattle.lk_domain.specs.Calls.{slows};
 ghost use Rattle.lk_domain.specs.NodePlays.{AtPrev, AtNext, AtEntry, AtBare, LooksAt, readied_by};
@@ -22,7 +22,7 @@ use crate::domain::Domain;
 use crate::notes::Standing;
 use crate::part::Part;
 use lk_abs::LockName;
-use lk_machine::{Flag, Verb};
+use lk_rows::{Flag, Verb};
 use lk_word::NodeName;
 
 // Resets the last word of the node to come: the call enters the slow path with it.

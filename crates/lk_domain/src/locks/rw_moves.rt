@@ -15,7 +15,7 @@ use crate::rule::{
     ReadCalls, ReadUnlockCalls, RwCalls, RwSteps, TryReadCalls, TryWriteCalls, WriteCalls,
     WriteUnlockCalls,
 };
-use lk_machine::Verb;
+use lk_rows::Verb;
 use lk_word::{READER, WAITING, WRITER};
 
 // What a row does with the word of a reader-writer lock, in one operation.

@@ -1,6 +1,6 @@
 // The steps of a processor on the word of a reader-writer lock, and what it then notes of its calls.
 ghost use Rattle.std.specs.Prelude.{◌≡◌, ◌<◌, ◌==◌, ◌%◌, true, false, None, length};
-ghost use Rattle.lk_machine.specs.declared.setup.Verb.TheVariants.{Read, TryRead, RUnlock, Write};
+ghost use Rattle.lk_rows.specs.declared.setup.Verb.TheVariants.{Read, TryRead, RUnlock, Write};
 ghost use Rattle.lk_domain.specs.Calls.{lock_name, waits_in};
 ghost use Rattle.lk_domain.specs.Ledgers.{is_first};
 ghost use Rattle.lk_domain.specs.Plans.{locks_of};
@@ -19,7 +19,7 @@ use crate::cpu::Cpu;
 use crate::domain::Domain;
 use crate::notes::Standing;
 use lk_abs::LockName;
-use lk_machine::Verb;
+use lk_rows::Verb;
 use lk_word::{has_no_writer, has_only_waiting, lets_readers_in};
 
 // Whether the call goes on after a look.

@@ -1,7 +1,7 @@
 // One step of a processor, and what it then notes of its calls. Here are the steps that need no
 // queue. Each is one on a spinlock, or inside a call of a reader or a writer on its wait lock.
 ghost use Rattle.std.specs.Prelude.{◌≡◌, ◌⊎◌, ◌<◌, ◌==◌, true, false, None};
-ghost use Rattle.lk_machine.specs.declared.setup.Verb.TheVariants.{Lock, Unlock};
+ghost use Rattle.lk_rows.specs.declared.setup.Verb.TheVariants.{Lock, Unlock};
 ghost use Rattle.lk_domain.specs.Calls.{lock_name, waits_in};
 ghost use Rattle.lk_domain.specs.Ledgers.{is_first};
 ghost use Rattle.lk_domain.specs.Plans.{locks_of};
@@ -32,7 +32,7 @@ use crate::cpu::{Cpu, Right};
 use crate::domain::Domain;
 use crate::notes::Standing;
 use lk_abs::LockName;
-use lk_machine::Verb;
+use lk_rows::Verb;
 
 // A look by the seat.
 fn seat_looks(seat: &mut Right, domain: &Domain, verb: Verb, lock: LockName) -> u64

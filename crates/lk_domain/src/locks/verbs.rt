@@ -3,7 +3,7 @@ ghost use Rattle.std.specs.Prelude.{◌≡◌};
 ghost use Rattle.lk_domain.specs.Rows.{queues_up as queues};
 ghost use Rattle.lk_domain.specs.RwRows.{on_shared as shared};
 
-use lk_machine::Verb;
+use lk_rows::Verb;
 
 // Whether it takes the wait lock where it finds no other way in.
 pub(crate) fn queues_up(verb: Verb) -> bool

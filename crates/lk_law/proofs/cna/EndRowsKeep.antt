@@ -7,14 +7,14 @@ use Rattle.lk_abs.specs.declared.holder.Manner.TheVariants.{Spins}
 use Rattle.lk_abs.specs.declared.events.What.TheVariants.{Flush, Promote}
 use Rattle.lk_word.specs.declared.spin_word.NodeName.{NodeName}
 use Rattle.lk_word.specs.declared.spin_word.Fields.{Fields}
-use Rattle.lk_machine.specs.declared.parts.Node.{Node}
-use Rattle.lk_machine.specs.declared.parts.Frame.{Frame}
-use Rattle.lk_machine.specs.declared.parts.Pc.TheVariants.{C1, C7, C8, C9, C10}
-use Rattle.lk_machine.specs.Moves.{is_node, node_of}
-use Rattle.lk_machine.specs.Row.{Tell, Says, Passes, Goes, Y, Second, looks}
-use Rattle.lk_machine.specs.Row.{Leaves}
+use Rattle.lk_rows.specs.declared.parts.Node.{Node}
+use Rattle.lk_rows.specs.declared.parts.Frame.{Frame}
+use Rattle.lk_rows.specs.declared.parts.Pc.TheVariants.{C1, C7, C8, C9, C10}
+use Rattle.lk_rows.specs.Moves.{is_node, node_of}
+use Rattle.lk_rows.specs.Row.{Tell, Says, Passes, Goes, Y, Second, looks}
+use Rattle.lk_rows.specs.Row.{Leaves}
 use Rattle.lk_abs.specs.Lawful.{is_local}
-use Rattle.lk_machine.specs.rows.Cna.{flag_for, is_held, is_last}
+use Rattle.lk_rows.specs.rows.Cna.{flag_for, is_held, is_last}
 use Rattle.lk_law.specs.Phase.{seeks}
 use Rattle.lk_law.specs.Phase.Phase.{Holds}
 use Rattle.lk_law.specs.Stage.Stage.{Hangs, Counts, Picks, Picked}

@@ -3,7 +3,7 @@ use Rattle.std.proofs.Common.{length, ◌⊎◌, inl, inr, arith, ap, refl, sym,
 use Rattle.std.proofs.Common.{drop, take}
 use Rattle.lk_abs.specs.declared.names.Waiter.{Waiter}
 use Rattle.lk_word.specs.declared.spin_word.NodeName.{NodeName}
-use Rattle.lk_machine.specs.declared.parts.Node.{Node}
+use Rattle.lk_rows.specs.declared.parts.Node.{Node}
 use Rattle.lk_law.specs.Phase.{Phase, queues, leads, has_node}
 use Rattle.lk_law.specs.Snapshot.{Moves, Rewrites, QueueAgrees}
 use Rattle.lk_law.specs.Phase.Phase.{Prepared, Leads, Idle}

@@ -3,7 +3,7 @@ use Rattle.std.proofs.Common.{◌≡◌, ℕ, Option, Some, None, Bool, true, fa
 use Rattle.std.proofs.Common.{inr, arith, ap, refl, sym, ◌∙◌, subst, slice_get}
 use Rattle.lk_abs.specs.declared.names.Waiter.{Waiter}
 use Rattle.lk_word.specs.declared.spin_word.NodeName.{NodeName}
-use Rattle.lk_machine.specs.declared.parts.Node.{Node}
+use Rattle.lk_rows.specs.declared.parts.Node.{Node}
 use Rattle.lk_law.specs.Phase.{Phase, has_node}
 use Rattle.lk_law.specs.Phase.Phase.{Waits, Holds}
 use Rattle.lk_law.specs.Snapshot.{QueueAgrees}

@@ -6,14 +6,14 @@ use Rattle.std.proofs.lemmas.Bool.{cases_eq}
 use Rattle.std.proofs.lemmas.List.{length-replicate}
 use Rattle.lk_abs.specs.declared.names.Waiter.{Waiter}
 use Rattle.lk_word.specs.declared.spin_word.NodeName.{NodeName}
-use Rattle.lk_machine.specs.declared.parts.Node.{Node}
+use Rattle.lk_rows.specs.declared.parts.Node.{Node}
 use Rattle.lk_law.specs.Phase.{Phase}
 use Rattle.lk_law.specs.Snapshot.{QueueAgrees}
 use Rattle.lk_law.specs.Phase.Phase.{Waits, Holds}
 use Rattle.lk_law.specs.Stage.{Stage}
 use Rattle.lk_law.specs.Cna.{CnaAgrees, FrontAgrees, SecondAgrees, part, shown, front_cut}
 use Rattle.lk_law.specs.Cna.{front_tip, node_in, named_by, same_none, first_node}
-use Rattle.lk_machine.specs.rows.Cna.{flag_for}
+use Rattle.lk_rows.specs.rows.Cna.{flag_for}
 use Rattle.lk_law.specs.Stage.Stage.{Rests}
 use Rattle.lk_law.proofs.common.Cases.{waiter_cases}
 use Rattle.lk_abs.proofs.ByIndex.{get_cases, get-drop_one, get_within, get_past}

@@ -3,10 +3,10 @@ use Rattle.std.proofs.Common.{◌∷◌, ◌++◌, inl, inr, arith, ap, refl, sy
 use Rattle.std.proofs.Common.{drop, take, length, ◌+◌}
 use Rattle.lk_abs.specs.declared.names.Waiter.{Waiter}
 use Rattle.lk_word.specs.declared.spin_word.NodeName.{NodeName}
-use Rattle.lk_machine.specs.declared.parts.Node.{Node}
+use Rattle.lk_rows.specs.declared.parts.Node.{Node}
 use Rattle.lk_law.specs.Phase.{Phase, queues, has_node}
 use Rattle.lk_law.specs.Snapshot.{QueueAgrees}
-use Rattle.lk_machine.specs.Machine.{rest_node}
+use Rattle.lk_rows.specs.Machine.{rest_node}
 use Rattle.lk_law.specs.Phase.Phase.{Prepared, Waits, Holds}
 use Rattle.lk_law.specs.Stage.{Stage, cut_of}
 use Rattle.lk_law.specs.Cna.{CnaAgrees, FrontAgrees, SecondAgrees, part, shown, front_cut}

@@ -3,7 +3,7 @@ use Rattle.std.proofs.Common.{◌∷◌, ◌⊎◌, inl, inr, arith, ap, refl, s
 use Rattle.std.specs.Prelude.{if◌then◌else◌}
 use Rattle.lk_abs.specs.declared.names.Waiter.{Waiter}
 use Rattle.lk_word.specs.declared.spin_word.NodeName.{NodeName}
-use Rattle.lk_machine.specs.declared.parts.Node.{Node}
+use Rattle.lk_rows.specs.declared.parts.Node.{Node}
 use Rattle.lk_law.specs.Phase.{Phase}
 use Rattle.lk_law.specs.Phase.Phase.{Waits}
 use Rattle.lk_law.specs.Stage.{Stage, passed_over, parted, chosen, told_runs, tied}

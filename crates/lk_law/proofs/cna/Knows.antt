@@ -11,12 +11,12 @@ use Rattle.lk_abs.specs.declared.names.Format.TheVariants.{One, Two}
 use Rattle.lk_abs.specs.declared.names.Waiter.{Waiter}
 use Rattle.lk_abs.specs.declared.names.LockName.{LockName}
 use Rattle.lk_word.specs.declared.spin_word.NodeName.{NodeName}
-use Rattle.lk_machine.specs.declared.parts.Frame.{Frame}
-use Rattle.lk_machine.specs.declared.parts.Pc.{Pc}
-use Rattle.lk_machine.specs.declared.parts.Pc.TheVariants.{C1, C2, C3, C4, C5, C6, C7, C8, C9, C10}
-use Rattle.lk_machine.specs.declared.parts.Why.{Why}
-use Rattle.lk_machine.specs.declared.parts.Why.TheVariants as why
-use Rattle.lk_machine.specs.Moves.{node_of}
+use Rattle.lk_rows.specs.declared.parts.Frame.{Frame}
+use Rattle.lk_rows.specs.declared.parts.Pc.{Pc}
+use Rattle.lk_rows.specs.declared.parts.Pc.TheVariants.{C1, C2, C3, C4, C5, C6, C7, C8, C9, C10}
+use Rattle.lk_rows.specs.declared.parts.Why.{Why}
+use Rattle.lk_rows.specs.declared.parts.Why.TheVariants as why
+use Rattle.lk_rows.specs.Moves.{node_of}
 use Rattle.lk_law.specs.Phase.{Phase, has_node, queues}
 use Rattle.lk_law.specs.Phase.Phase.{Holds}
 use Rattle.lk_law.specs.Stage.{Stage, tied}

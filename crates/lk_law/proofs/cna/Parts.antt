@@ -4,7 +4,7 @@ use Rattle.std.proofs.lemmas.Bool.{cases_Bool}
 use Rattle.lk_abs.specs.declared.names.Waiter.{Waiter}
 use Rattle.lk_abs.specs.Names.{same_waiter}
 use Rattle.lk_word.specs.declared.spin_word.NodeName.{NodeName}
-use Rattle.lk_machine.specs.declared.parts.Node.{Node}
+use Rattle.lk_rows.specs.declared.parts.Node.{Node}
 use Rattle.lk_law.specs.Phase.{Phase, queues}
 use Rattle.lk_law.specs.Phase.Phase.{Aside}
 use Rattle.lk_law.specs.Cna.{is_in, part, shown, first_node}

@@ -4,10 +4,10 @@ use Rattle.std.proofs.Common.{◌∷◌, ◌++◌, ◌⊎◌, inl, inr, arith, a
 use Rattle.std.proofs.Common.{◌+◌, slice_get, drop, take}
 use Rattle.lk_abs.specs.declared.names.Waiter.{Waiter}
 use Rattle.lk_word.specs.declared.spin_word.NodeName.{NodeName}
-use Rattle.lk_machine.specs.declared.parts.Node.{Node}
+use Rattle.lk_rows.specs.declared.parts.Node.{Node}
 use Rattle.lk_law.specs.Phase.{Phase, queues, leads, has_node}
 use Rattle.lk_law.specs.Snapshot.{QueueAgrees}
-use Rattle.lk_machine.specs.Machine.{rest_node}
+use Rattle.lk_rows.specs.Machine.{rest_node}
 use Rattle.lk_law.specs.Phase.Phase.{Prepared, Waits, Aside}
 use Rattle.lk_law.specs.Stage.{Stage}
 use Rattle.lk_law.specs.Cna.{is_in, part, shown}
@@ -18,7 +18,7 @@ use Rattle.lk_law.proofs.cna.Parts.{part_cases, part_in, part_out, not_in, is_in
 use Rattle.lk_law.proofs.cna.Parts.{shown_else, shown_flag}
 use Rattle.lk_law.proofs.queue.Move.{queue_move, GoesAside}
 use Rattle.lk_law.proofs.cna.Steps.{HandsOver, IsHandedTo}
-use Rattle.lk_machine.specs.rows.Cna.{flag_for}
+use Rattle.lk_rows.specs.rows.Cna.{flag_for}
 
 pub get-skip : (k : ℕ) (main : List Waiter) (i : ℕ) (u : Waiter)
     → slice_get (take k (drop 1 main)) i ≡ Some u → (i < k) × (slice_get main (suc i) ≡ Some u)

@@ -7,15 +7,15 @@ use Rattle.std.proofs.lemmas.Bool.{ltb-true}
 use Rattle.lk_abs.specs.declared.names.Waiter.{Waiter}
 use Rattle.lk_word.specs.declared.spin_word.NodeName.{NodeName}
 use Rattle.lk_word.specs.declared.spin_word.Fields.{Fields}
-use Rattle.lk_machine.specs.declared.parts.Frame.{Frame}
-use Rattle.lk_machine.specs.declared.parts.Pc.{Pc}
-use Rattle.lk_machine.specs.declared.parts.Pc.TheVariants.{G5, G11, C1, C2, C3, C4, C5, C6, C7, C8}
-use Rattle.lk_machine.specs.declared.parts.Pc.TheVariants.{C9, C10}
-use Rattle.lk_machine.specs.declared.parts.Why.{Why}
-use Rattle.lk_machine.specs.declared.parts.Why.TheVariants as why
-use Rattle.lk_machine.specs.Moves.{node_of}
-use Rattle.lk_machine.specs.Row.{Effect, Nothing, A, B, K, T, Reason, Y, Second, learns_all}
-use Rattle.lk_machine.specs.rows.Cna.{may_stay, after_none, search_first, search_on, after_tail}
+use Rattle.lk_rows.specs.declared.parts.Frame.{Frame}
+use Rattle.lk_rows.specs.declared.parts.Pc.{Pc}
+use Rattle.lk_rows.specs.declared.parts.Pc.TheVariants.{G5, G11, C1, C2, C3, C4, C5, C6, C7, C8}
+use Rattle.lk_rows.specs.declared.parts.Pc.TheVariants.{C9, C10}
+use Rattle.lk_rows.specs.declared.parts.Why.{Why}
+use Rattle.lk_rows.specs.declared.parts.Why.TheVariants as why
+use Rattle.lk_rows.specs.Moves.{node_of}
+use Rattle.lk_rows.specs.Row.{Effect, Nothing, A, B, K, T, Reason, Y, Second, learns_all}
+use Rattle.lk_rows.specs.rows.Cna.{may_stay, after_none, search_first, search_on, after_tail}
 use Rattle.lk_law.specs.Phase.Phase.{Holds}
 use Rattle.lk_law.specs.Stage.{Stage, tied, hangs}
 use Rattle.lk_law.specs.Stage.Stage.{Skips}

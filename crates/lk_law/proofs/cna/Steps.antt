@@ -5,8 +5,8 @@ use Rattle.std.proofs.Common.{◌++◌, ◌+◌, ◌<◌, slice_get, drop, take}
 use Rattle.std.specs.Prelude.{if◌then◌else◌}
 use Rattle.lk_abs.specs.declared.names.Waiter.{Waiter}
 use Rattle.lk_word.specs.declared.spin_word.NodeName.{NodeName}
-use Rattle.lk_machine.specs.declared.parts.Node.{Node}
-use Rattle.lk_machine.specs.rows.Cna.{flag_for}
+use Rattle.lk_rows.specs.declared.parts.Node.{Node}
+use Rattle.lk_rows.specs.rows.Cna.{flag_for}
 use Rattle.lk_law.specs.Phase.{Phase, leads, queues}
 use Rattle.lk_law.specs.Phase.Phase.{Waits, Hands, Idle, Holds}
 use Rattle.lk_law.specs.Snapshot.{Moves, Rewrites}

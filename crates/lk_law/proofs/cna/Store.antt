@@ -3,7 +3,7 @@ use Rattle.std.proofs.Common.{◌∷◌, inl, inr, arith, ap, refl, sym, ◌∙�
 use Rattle.std.specs.Prelude.{if◌then◌else◌}
 use Rattle.lk_abs.specs.declared.names.Waiter.{Waiter}
 use Rattle.lk_word.specs.declared.spin_word.NodeName.{NodeName}
-use Rattle.lk_machine.specs.declared.parts.Node.{Node}
+use Rattle.lk_rows.specs.declared.parts.Node.{Node}
 use Rattle.lk_law.specs.Phase.{Phase, queues, has_node}
 use Rattle.lk_law.specs.Snapshot.{Rewrites, QueueAgrees}
 use Rattle.lk_law.specs.Phase.Phase.{Prepared, Waits, Holds}

@@ -11,14 +11,14 @@ use Rattle.lk_abs.specs.declared.names.Mode.{Mode}
 use Rattle.lk_word.specs.declared.spin_word.NodeName.{NodeName}
 use Rattle.lk_word.specs.declared.spin_word.Locked.TheVariants.{Slow}
 use Rattle.lk_word.specs.declared.spin_word.Fields.{Fields}
-use Rattle.lk_machine.specs.declared.parts.Flag.TheVariants.{Second}
-use Rattle.lk_machine.specs.declared.parts.Node.{Node}
-use Rattle.lk_machine.specs.declared.parts.Frame.{Frame}
-use Rattle.lk_machine.specs.declared.parts.Pc.{Pc}
-use Rattle.lk_machine.specs.declared.parts.Pc.TheVariants.{G5, G11, C2, C3, C4, C5, C6, C7, C8, C9}
-use Rattle.lk_machine.specs.declared.parts.Pc.TheVariants.{C10}
-use Rattle.lk_machine.specs.Moves.{node_of}
-use Rattle.lk_machine.specs.Row.{Tell, Nothing, Goes, Granted, Leaves}
+use Rattle.lk_rows.specs.declared.parts.Flag.TheVariants.{Second}
+use Rattle.lk_rows.specs.declared.parts.Node.{Node}
+use Rattle.lk_rows.specs.declared.parts.Frame.{Frame}
+use Rattle.lk_rows.specs.declared.parts.Pc.{Pc}
+use Rattle.lk_rows.specs.declared.parts.Pc.TheVariants.{G5, G11, C2, C3, C4, C5, C6, C7, C8, C9}
+use Rattle.lk_rows.specs.declared.parts.Pc.TheVariants.{C10}
+use Rattle.lk_rows.specs.Moves.{node_of}
+use Rattle.lk_rows.specs.Row.{Tell, Nothing, Goes, Granted, Leaves}
 use Rattle.lk_law.specs.Phase.{Phase, has_node, seeks}
 use Rattle.lk_law.specs.Phase.Phase.{Idle, Releases}
 use Rattle.lk_law.specs.Stage.Stage.{Rests}

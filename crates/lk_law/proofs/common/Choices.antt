@@ -5,12 +5,12 @@ use Rattle.std.specs.Prelude.{is_some}
 use Rattle.lk_abs.specs.declared.names.Mode.{Mode}
 use Rattle.lk_abs.specs.declared.names.Mode.TheVariants.{Virt, Native, Cna, Pv}
 use Rattle.lk_word.specs.declared.spin_word.NodeName.{NodeName}
-use Rattle.lk_machine.specs.declared.parts.Frame.{Frame}
-use Rattle.lk_machine.specs.declared.parts.Pc.{Pc}
-use Rattle.lk_machine.specs.declared.parts.Pc.TheVariants.{R4, Wr2, G5, G11, C1, C2, C3, C4, C5, C6}
-use Rattle.lk_machine.specs.declared.parts.Pc.TheVariants.{C9, C10, E10, E11, E12, E15, K1, K2, K3}
-use Rattle.lk_machine.specs.declared.parts.Why.{Why}
-use Rattle.lk_machine.specs.Moves.{node_of}
+use Rattle.lk_rows.specs.declared.parts.Frame.{Frame}
+use Rattle.lk_rows.specs.declared.parts.Pc.{Pc}
+use Rattle.lk_rows.specs.declared.parts.Pc.TheVariants.{R4, Wr2, G5, G11, C1, C2, C3, C4, C5, C6}
+use Rattle.lk_rows.specs.declared.parts.Pc.TheVariants.{C9, C10, E10, E11, E12, E15, K1, K2, K3}
+use Rattle.lk_rows.specs.declared.parts.Why.{Why}
+use Rattle.lk_rows.specs.Moves.{node_of}
 use Rattle.lk_law.specs.Phase.{has_node}
 use Rattle.lk_law.specs.Phase.Phase.{Idle}
 use Rattle.lk_law.specs.Cna.{moves_aside}

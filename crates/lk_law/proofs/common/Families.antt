@@ -6,8 +6,8 @@ use Rattle.std.proofs.Common.{◌++◌, inl, inr, arith, ap, sym, ◌∙◌, sub
 use Rattle.std.proofs.lemmas.Bool.{cases_Bool}
 use Rattle.lk_abs.specs.declared.names.Waiter.{Waiter}
 use Rattle.lk_word.specs.declared.spin_word.NodeName.{NodeName}
-use Rattle.lk_machine.specs.declared.parts.Node.{Node}
-use Rattle.lk_machine.specs.Machine.{rest_node}
+use Rattle.lk_rows.specs.declared.parts.Node.{Node}
+use Rattle.lk_rows.specs.Machine.{rest_node}
 use Rattle.lk_law.specs.Phase.{Phase, has_node, queues, leads}
 use Rattle.lk_law.specs.Phase.Phase.{Idle, Prepared, Links, Waits, Leads, Holds, Hands}
 use Rattle.lk_law.specs.Stage.{Stage}

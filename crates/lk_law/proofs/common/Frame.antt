@@ -1,7 +1,7 @@
 -- What a step on one lock leaves alone: the other locks, the nodes of their waiters, and that a
 -- waiter acts on one lock at a time.
 use Rattle.lk_word.specs.declared.spin_word.NodeName.{NodeName}
-use Rattle.lk_machine.specs.declared.parts.Node.{Node}
+use Rattle.lk_rows.specs.declared.parts.Node.{Node}
 use Rattle.lk_law.specs.Pv.{at_halt}
 use Rattle.lk_law.proofs.pv.Keep.{pv_keep, agrees-noded}
 use Rattle.std.proofs.Common.{◌≡◌, ◌≢◌, ℕ, Option, Bool, true, false, inl, inr, arith, ap, ◌<◌}

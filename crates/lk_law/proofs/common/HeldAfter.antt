@@ -9,10 +9,10 @@ use Rattle.lk_abs.specs.Names.{same_lock}
 use Rattle.lk_abs.specs.declared.holder.Manner.{Manner}
 use Rattle.lk_abs.specs.declared.holder.Manner.TheVariants.{Spins}
 use Rattle.lk_abs.specs.declared.names.LockName.{LockName}
-use Rattle.lk_machine.specs.declared.setup.Op.{Op}
-use Rattle.lk_machine.specs.declared.parts.Frame.{Frame}
-use Rattle.lk_machine.specs.Programs.{way_at, way_from, op_way, way_after}
-use Rattle.lk_machine.specs.Moves.{rw_name, wait_name}
+use Rattle.lk_rows.specs.declared.setup.Op.{Op}
+use Rattle.lk_rows.specs.declared.parts.Frame.{Frame}
+use Rattle.lk_rows.specs.Programs.{way_at, way_from, op_way, way_after}
+use Rattle.lk_rows.specs.Moves.{rw_name, wait_name}
 use Rattle.lk_law.specs.RwPhase.{RwPhase, is_inner}
 use Rattle.lk_law.specs.SoundWorld.{rw_phase_of}
 use Rattle.lk_law.specs.Sound.{is_over, held_in}

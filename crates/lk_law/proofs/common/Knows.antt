@@ -8,15 +8,15 @@ use Rattle.lk_abs.specs.declared.names.LockName.{LockName}
 use Rattle.lk_word.specs.declared.spin_word.NodeName.{NodeName}
 use Rattle.lk_word.specs.declared.spin_word.Locked.{Locked}
 use Rattle.lk_word.specs.declared.spin_word.Locked.TheVariants.{Free, Held, Slow}
-use Rattle.lk_machine.specs.declared.parts.Flag.TheVariants.{Unset}
-use Rattle.lk_machine.specs.declared.parts.Frame.{Frame}
-use Rattle.lk_machine.specs.declared.parts.Pc.{Pc}
-use Rattle.lk_machine.specs.declared.parts.Pc.TheVariants.{U1, P2, P3, P4, G2, G3, G4, G5, G6, G7}
-use Rattle.lk_machine.specs.declared.parts.Pc.TheVariants.{G8, G9, G10, G11, C1, C2, C3, C4, C5, C6}
-use Rattle.lk_machine.specs.declared.parts.Pc.TheVariants.{C7, C8, C9, C10, E6, E8, E9, E13, E14}
-use Rattle.lk_machine.specs.declared.parts.Pc.TheVariants.{E15, K1, K2, K3, U2, U3, U4}
-use Rattle.lk_machine.specs.Moves.{node_of}
-use Rattle.lk_machine.specs.Machine.{rest_node}
+use Rattle.lk_rows.specs.declared.parts.Flag.TheVariants.{Unset}
+use Rattle.lk_rows.specs.declared.parts.Frame.{Frame}
+use Rattle.lk_rows.specs.declared.parts.Pc.{Pc}
+use Rattle.lk_rows.specs.declared.parts.Pc.TheVariants.{U1, P2, P3, P4, G2, G3, G4, G5, G6, G7}
+use Rattle.lk_rows.specs.declared.parts.Pc.TheVariants.{G8, G9, G10, G11, C1, C2, C3, C4, C5, C6}
+use Rattle.lk_rows.specs.declared.parts.Pc.TheVariants.{C7, C8, C9, C10, E6, E8, E9, E13, E14}
+use Rattle.lk_rows.specs.declared.parts.Pc.TheVariants.{E15, K1, K2, K3, U2, U3, U4}
+use Rattle.lk_rows.specs.Moves.{node_of}
+use Rattle.lk_rows.specs.Machine.{rest_node}
 use Rattle.lk_law.specs.Phase.{Phase, has_lock, has_node, pends, claims, queues}
 use Rattle.lk_law.specs.Phase.Phase.{Releases, Prepared, Links, Hands}
 use Rattle.lk_law.specs.Snapshot.{Snapshot, spins}

@@ -6,7 +6,7 @@ use Rattle.lk_abs.specs.Names.{same_lock, same_waiter}
 use Rattle.lk_abs.specs.declared.names.Waiter.{Waiter}
 use Rattle.lk_abs.specs.declared.names.LockName.{LockName}
 use Rattle.lk_word.specs.declared.spin_word.NodeName.{NodeName}
-use Rattle.lk_machine.specs.declared.parts.Node.{Node}
+use Rattle.lk_rows.specs.declared.parts.Node.{Node}
 use Rattle.lk_law.specs.Snapshot.{same_node, Moves, Rewrites}
 use Rattle.lk_law.proofs.common.Sames.{same_lock-self, same_lock-true, same_waiter-self}
 use Rattle.lk_law.proofs.common.Sames.{same_waiter-true}

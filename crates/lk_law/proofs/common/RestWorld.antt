@@ -8,8 +8,8 @@ use Rattle.lk_abs.specs.declared.names.LockName.{LockName}
 use Rattle.lk_abs.specs.declared.names.Mode.{Mode}
 use Rattle.lk_abs.specs.declared.names.Waiter.{Waiter}
 use Rattle.lk_word.specs.declared.spin_word.NodeName.{NodeName}
-use Rattle.lk_machine.specs.Machine.{rest_node, rest_word}
-use Rattle.lk_machine.specs.declared.parts.Node.{Node}
+use Rattle.lk_rows.specs.Machine.{rest_node, rest_word}
+use Rattle.lk_rows.specs.declared.parts.Node.{Node}
 use Rattle.lk_law.specs.Phase.Phase.{Idle}
 use Rattle.lk_law.specs.Snapshot.{QueueAgrees}
 use Rattle.lk_law.specs.Resting.{RestIsSound}

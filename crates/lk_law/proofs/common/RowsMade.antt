@@ -8,20 +8,20 @@ use Rattle.lk_abs.specs.declared.names.LockName.{LockName}
 use Rattle.lk_abs.specs.declared.events.What.TheVariants.{Miss}
 use Rattle.lk_word.specs.declared.spin_word.NodeName.{NodeName}
 use Rattle.lk_word.specs.declared.spin_word.Fields.{Fields}
-use Rattle.lk_machine.specs.declared.parts.State.{State}
-use Rattle.lk_machine.specs.declared.parts.Flag.{Flag}
-use Rattle.lk_machine.specs.declared.parts.Frame.{Frame}
-use Rattle.lk_machine.specs.declared.parts.Pc.{Pc}
-use Rattle.lk_machine.specs.declared.parts.Pc.TheVariants.{F1, T1, T2, U1, V1, V2, P0, P1, P2, P3}
-use Rattle.lk_machine.specs.declared.parts.Pc.TheVariants.{P4, G1, G2, G3, G4, G5, G6, G7, G8, G9}
-use Rattle.lk_machine.specs.declared.parts.Pc.TheVariants.{G10, G11, N1, N2, E1, C1, W1, H1}
-use Rattle.lk_machine.specs.Moves.{node_of, is_node}
-use Rattle.lk_machine.specs.Row.{Effect, looks, misses}
-use Rattle.lk_machine.specs.rows.Spin.{spin_row, is_unlocked, is_free, takes, to_queue, after_fast}
-use Rattle.lk_machine.specs.rows.Spin.{after_pending}
-use Rattle.lk_machine.specs.rows.Queue.{queue_row, entry_row, flag_row, next_row, takes_out}
-use Rattle.lk_machine.specs.rows.Queue.{own_node, after_entry, after_arrival, after_look, is_sole}
-use Rattle.lk_machine.specs.rows.Queue.{after_head, after_flag, after_next, after_link}
+use Rattle.lk_rows.specs.declared.parts.State.{State}
+use Rattle.lk_rows.specs.declared.parts.Flag.{Flag}
+use Rattle.lk_rows.specs.declared.parts.Frame.{Frame}
+use Rattle.lk_rows.specs.declared.parts.Pc.{Pc}
+use Rattle.lk_rows.specs.declared.parts.Pc.TheVariants.{F1, T1, T2, U1, V1, V2, P0, P1, P2, P3}
+use Rattle.lk_rows.specs.declared.parts.Pc.TheVariants.{P4, G1, G2, G3, G4, G5, G6, G7, G8, G9}
+use Rattle.lk_rows.specs.declared.parts.Pc.TheVariants.{G10, G11, N1, N2, E1, C1, W1, H1}
+use Rattle.lk_rows.specs.Moves.{node_of, is_node}
+use Rattle.lk_rows.specs.Row.{Effect, looks, misses}
+use Rattle.lk_rows.specs.rows.Spin.{spin_row, is_unlocked, is_free, takes, to_queue, after_fast}
+use Rattle.lk_rows.specs.rows.Spin.{after_pending}
+use Rattle.lk_rows.specs.rows.Queue.{queue_row, entry_row, flag_row, next_row, takes_out}
+use Rattle.lk_rows.specs.rows.Queue.{own_node, after_entry, after_arrival, after_look, is_sole}
+use Rattle.lk_rows.specs.rows.Queue.{after_head, after_flag, after_next, after_link}
 use Rattle.lk_law.specs.World.{World}
 use Rattle.lk_law.specs.Steps.{lead_on, stores_word, stores_flag, stores_next, stores_queued}
 use Rattle.lk_law.specs.Steps.{stores_second, stores_runs, row_in, stores_state, stores_entry}
@@ -34,7 +34,7 @@ use Rattle.lk_law.proofs.rw.Else.{beside_second, beside_runs, beside_state, besi
 use Rattle.lk_law.proofs.rw.Else.{beside_halted, beside_kicked, IsIn, SpinLead, TellsOf, SpinMade}
 use Rattle.lk_law.specs.SoundWorld.Part.{Taking}
 use Rattle.lk_abs.specs.declared.events.How.TheVariants as how
-use Rattle.lk_machine.specs.declared.parts.Flag.TheVariants as flag
+use Rattle.lk_rows.specs.declared.parts.Flag.TheVariants as flag
 
 -- what the rows make
 

@@ -9,8 +9,8 @@ use Rattle.lk_abs.specs.History.{LockHistory}
 use Rattle.lk_abs.specs.declared.names.Waiter.{Waiter}
 use Rattle.lk_abs.specs.declared.names.LockName.{LockName}
 use Rattle.lk_word.specs.declared.spin_word.NodeName.{NodeName}
-use Rattle.lk_machine.specs.declared.parts.Frame.{Frame}
-use Rattle.lk_machine.specs.Moves.{is_node, node_of}
+use Rattle.lk_rows.specs.declared.parts.Frame.{Frame}
+use Rattle.lk_rows.specs.Moves.{is_node, node_of}
 use Rattle.lk_law.specs.Phase.{Phase, has_node}
 use Rattle.lk_law.specs.Phase.Phase.{Idle}
 use Rattle.lk_law.specs.World.{World}

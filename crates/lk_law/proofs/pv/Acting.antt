@@ -8,16 +8,16 @@ use Rattle.lk_abs.specs.declared.names.Waiter.{Waiter}
 use Rattle.lk_abs.specs.declared.names.LockName.{LockName}
 use Rattle.lk_word.specs.declared.spin_word.NodeName.{NodeName}
 use Rattle.lk_word.specs.declared.spin_word.Fields.{Fields}
-use Rattle.lk_machine.specs.declared.parts.Flag.TheVariants.{Second}
-use Rattle.lk_machine.specs.declared.parts.Frame.{Frame}
-use Rattle.lk_machine.specs.declared.parts.Node.{Node}
-use Rattle.lk_machine.specs.declared.parts.Pc.{Pc}
-use Rattle.lk_machine.specs.declared.parts.Pc.TheVariants.{G5, G11}
-use Rattle.lk_machine.specs.Moves.{node_of}
-use Rattle.lk_machine.specs.Row.{Tell}
-use Rattle.lk_machine.specs.declared.parts.Flag.{Flag}
-use Rattle.lk_machine.specs.declared.parts.State.{State}
-use Rattle.lk_machine.specs.rows.Pv.{is_set}
+use Rattle.lk_rows.specs.declared.parts.Flag.TheVariants.{Second}
+use Rattle.lk_rows.specs.declared.parts.Frame.{Frame}
+use Rattle.lk_rows.specs.declared.parts.Node.{Node}
+use Rattle.lk_rows.specs.declared.parts.Pc.{Pc}
+use Rattle.lk_rows.specs.declared.parts.Pc.TheVariants.{G5, G11}
+use Rattle.lk_rows.specs.Moves.{node_of}
+use Rattle.lk_rows.specs.Row.{Tell}
+use Rattle.lk_rows.specs.declared.parts.Flag.{Flag}
+use Rattle.lk_rows.specs.declared.parts.State.{State}
+use Rattle.lk_rows.specs.rows.Pv.{is_set}
 use Rattle.lk_law.specs.Phase.Phase.{Waits}
 use Rattle.lk_law.specs.Phase.{Phase, has_node, leads}
 use Rattle.lk_law.specs.Pv.{Post, at_halt}

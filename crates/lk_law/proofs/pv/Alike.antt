@@ -9,9 +9,9 @@ use Rattle.lk_abs.specs.declared.names.Waiter.{Waiter}
 use Rattle.lk_abs.specs.declared.names.LockName.{LockName}
 use Rattle.lk_abs.specs.declared.events.Event.{Event}
 use Rattle.lk_abs.specs.declared.events.What.{What}
-use Rattle.lk_machine.specs.declared.parts.Frame.{Frame}
-use Rattle.lk_machine.specs.declared.parts.Pc.TheVariants.{U5}
-use Rattle.lk_machine.specs.Row.{Tell, Nothing, Says, Passes}
+use Rattle.lk_rows.specs.declared.parts.Frame.{Frame}
+use Rattle.lk_rows.specs.declared.parts.Pc.TheVariants.{U5}
+use Rattle.lk_rows.specs.Row.{Tell, Nothing, Says, Passes}
 use Rattle.lk_law.specs.Pv.{at_halt}
 use Rattle.lk_law.specs.Snapshot.{Moves}
 use Rattle.lk_law.specs.World.{World}

@@ -11,9 +11,9 @@ use Rattle.lk_abs.specs.declared.events.What.TheVariants.{Take, Release, Pass, L
 use Rattle.lk_word.specs.declared.spin_word.NodeName.{NodeName}
 use Rattle.lk_word.specs.declared.spin_word.Locked.{Locked}
 use Rattle.lk_word.specs.declared.spin_word.Locked.TheVariants.{Free, Held, Slow}
-use Rattle.lk_machine.specs.declared.parts.State.TheVariants.{Halted, Hashed}
-use Rattle.lk_machine.specs.declared.parts.Flag.TheVariants.{Go}
-use Rattle.lk_machine.specs.declared.parts.Node.{Node}
+use Rattle.lk_rows.specs.declared.parts.State.TheVariants.{Halted, Hashed}
+use Rattle.lk_rows.specs.declared.parts.Flag.TheVariants.{Go}
+use Rattle.lk_rows.specs.declared.parts.Node.{Node}
 use Rattle.lk_law.proofs.pv.Outside.{Posted, para_outside}
 use Rattle.lk_law.proofs.common.Frame.{nodes_leave, agrees_after}
 use Rattle.lk_law.proofs.common.Told.{told_lock, told_others, sole_taken}

@@ -13,7 +13,7 @@ use Rattle.lk_abs.specs.declared.events.What.TheVariants.{Halt, Wake}
 use Rattle.lk_word.specs.declared.spin_word.NodeName.{NodeName}
 use Rattle.lk_word.specs.declared.spin_word.Locked.{Locked}
 use Rattle.lk_word.specs.declared.spin_word.Locked.TheVariants.{Free, Held, Slow}
-use Rattle.lk_machine.specs.declared.parts.State.{State}
+use Rattle.lk_rows.specs.declared.parts.State.{State}
 use Rattle.lk_law.specs.Phase.Phase.{Releases}
 use Rattle.lk_law.specs.Pv.{Post, PostsAgree, bare, post_full, slow_at, one_at, calls, dozes, names}
 use Rattle.lk_law.specs.Pv.{post_holds, raw}

@@ -2,14 +2,14 @@
 -- sound world: E6 to E12.
 use Rattle.std.proofs.Common.{◌≡◌, ℕ, Some, None, true, false, [], ◌∷◌, arith, ap, refl, ◌∙◌}
 use Rattle.lk_word.specs.declared.spin_word.Locked.TheVariants.{Held, Slow}
-use Rattle.lk_machine.specs.declared.parts.State.TheVariants.{Hashed}
-use Rattle.lk_machine.specs.declared.parts.Frame.{Frame}
-use Rattle.lk_machine.specs.declared.parts.Pc.{Pc}
-use Rattle.lk_machine.specs.declared.parts.Pc.TheVariants.{E2, E6, E7, E8, E9, E10, E11, E12, E13}
-use Rattle.lk_machine.specs.Moves.{node_of}
-use Rattle.lk_machine.specs.Row.{Nothing, Says, Goes, HashedIs, looks}
-use Rattle.lk_machine.specs.rows.Spin.{is_unlocked}
-use Rattle.lk_machine.specs.rows.Pv.{with_byte, is_slow_byte}
+use Rattle.lk_rows.specs.declared.parts.State.TheVariants.{Hashed}
+use Rattle.lk_rows.specs.declared.parts.Frame.{Frame}
+use Rattle.lk_rows.specs.declared.parts.Pc.{Pc}
+use Rattle.lk_rows.specs.declared.parts.Pc.TheVariants.{E2, E6, E7, E8, E9, E10, E11, E12, E13}
+use Rattle.lk_rows.specs.Moves.{node_of}
+use Rattle.lk_rows.specs.Row.{Nothing, Says, Goes, HashedIs, looks}
+use Rattle.lk_rows.specs.rows.Spin.{is_unlocked}
+use Rattle.lk_rows.specs.rows.Pv.{with_byte, is_slow_byte}
 use Rattle.lk_law.specs.Phase.{has_node, seeks}
 use Rattle.lk_law.specs.Pv.Post.{Clears}
 use Rattle.lk_law.specs.Agree.{Owed}

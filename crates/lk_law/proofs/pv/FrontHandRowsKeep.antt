@@ -7,12 +7,12 @@ use Rattle.lk_abs.specs.declared.holder.Manner.TheVariants.{Spins}
 use Rattle.lk_abs.specs.declared.names.Waiter.{Waiter}
 use Rattle.lk_word.specs.declared.spin_word.NodeName.{NodeName}
 use Rattle.lk_word.specs.declared.spin_word.Fields.{Fields}
-use Rattle.lk_machine.specs.declared.parts.Frame.{Frame}
-use Rattle.lk_machine.specs.declared.parts.Pc.TheVariants.{E13, E14, E15, K1}
-use Rattle.lk_machine.specs.Moves.{is_node, node_of}
-use Rattle.lk_machine.specs.Row.{Nothing, Says, Passes, Goes, Y, looks, Leaves}
-use Rattle.lk_machine.specs.rows.Cna.{is_held, is_last}
-use Rattle.lk_machine.specs.rows.Pv.{pv_after_next}
+use Rattle.lk_rows.specs.declared.parts.Frame.{Frame}
+use Rattle.lk_rows.specs.declared.parts.Pc.TheVariants.{E13, E14, E15, K1}
+use Rattle.lk_rows.specs.Moves.{is_node, node_of}
+use Rattle.lk_rows.specs.Row.{Nothing, Says, Passes, Goes, Y, looks, Leaves}
+use Rattle.lk_rows.specs.rows.Cna.{is_held, is_last}
+use Rattle.lk_rows.specs.rows.Pv.{pv_after_next}
 use Rattle.lk_law.specs.Phase.{seeks}
 use Rattle.lk_law.specs.Phase.Phase.{Idle, Holds, Hands}
 use Rattle.lk_law.specs.Agree.{Owed}
@@ -40,7 +40,7 @@ use Rattle.lk_law.proofs.common.Allowed.{allow_pass, next_is}
 use Rattle.lk_law.proofs.queue.Sole.{sole_second}
 use Rattle.lk_law.proofs.queue.Laws.{apart_on}
 use Rattle.lk_abs.specs.declared.events.What.TheVariants as what
-use Rattle.lk_machine.specs.declared.parts.Flag.TheVariants as flag
+use Rattle.lk_rows.specs.declared.parts.Flag.TheVariants as flag
 
 -- E13
 

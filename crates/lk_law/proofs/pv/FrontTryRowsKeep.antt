@@ -4,15 +4,15 @@ use Rattle.std.proofs.Common.{◌≡◌, ℕ, Some, true, false, [], ◌∷◌, 
 use Rattle.std.specs.Prelude.{is_some, ◌&&◌, ◌==◌, not}
 use Rattle.lk_word.specs.declared.spin_word.Locked.{Locked}
 use Rattle.lk_word.specs.declared.spin_word.Locked.TheVariants.{Free, Held, Slow}
-use Rattle.lk_machine.specs.declared.parts.State.{State}
-use Rattle.lk_machine.specs.declared.parts.State.TheVariants.{Running, Halted, Hashed}
-use Rattle.lk_machine.specs.declared.parts.Frame.{Frame}
-use Rattle.lk_machine.specs.declared.parts.Pc.{Pc}
-use Rattle.lk_machine.specs.declared.parts.Pc.TheVariants.{E1, E2, E3, E4, E5, E6, E10, E13}
-use Rattle.lk_machine.specs.Moves.{node_of}
-use Rattle.lk_machine.specs.Row.{Nothing, Says, Goes, Left, HashedIs, learns, writes}
-use Rattle.lk_machine.specs.rows.Spin.{is_unlocked}
-use Rattle.lk_machine.specs.rows.Pv.{is_slow_byte, try_again, is_hashed}
+use Rattle.lk_rows.specs.declared.parts.State.{State}
+use Rattle.lk_rows.specs.declared.parts.State.TheVariants.{Running, Halted, Hashed}
+use Rattle.lk_rows.specs.declared.parts.Frame.{Frame}
+use Rattle.lk_rows.specs.declared.parts.Pc.{Pc}
+use Rattle.lk_rows.specs.declared.parts.Pc.TheVariants.{E1, E2, E3, E4, E5, E6, E10, E13}
+use Rattle.lk_rows.specs.Moves.{node_of}
+use Rattle.lk_rows.specs.Row.{Nothing, Says, Goes, Left, HashedIs, learns, writes}
+use Rattle.lk_rows.specs.rows.Spin.{is_unlocked}
+use Rattle.lk_rows.specs.rows.Pv.{is_slow_byte, try_again, is_hashed}
 use Rattle.lk_law.specs.Phase.{Phase, seeks, leads}
 use Rattle.lk_law.specs.Pv.{not_hashed}
 use Rattle.lk_law.specs.Pv.Post.{Tries}

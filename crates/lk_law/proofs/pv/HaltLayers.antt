@@ -10,12 +10,12 @@ use Rattle.lk_abs.specs.declared.names.Waiter.{Waiter}
 use Rattle.lk_abs.specs.declared.names.LockName.{LockName}
 use Rattle.lk_abs.specs.declared.events.Event.{Event}
 use Rattle.lk_abs.specs.declared.events.What.TheVariants.{Int}
-use Rattle.lk_machine.specs.Acts.{stands_halting, after_halt}
-use Rattle.lk_machine.specs.declared.parts.Frame.{Frame}
-use Rattle.lk_machine.specs.declared.parts.Pc.{Pc}
-use Rattle.lk_machine.specs.declared.parts.Pc.TheVariants.{W6, W7, E12, E2}
-use Rattle.lk_machine.specs.Moves.{rw_name}
-use Rattle.lk_machine.specs.Row.{Goes}
+use Rattle.lk_rows.specs.Acts.{stands_halting, after_halt}
+use Rattle.lk_rows.specs.declared.parts.Frame.{Frame}
+use Rattle.lk_rows.specs.declared.parts.Pc.{Pc}
+use Rattle.lk_rows.specs.declared.parts.Pc.TheVariants.{W6, W7, E12, E2}
+use Rattle.lk_rows.specs.Moves.{rw_name}
+use Rattle.lk_rows.specs.Row.{Goes}
 use Rattle.lk_law.specs.World.{World}
 use Rattle.lk_law.specs.Steps.{put_frame, told_on}
 use Rattle.lk_law.specs.SpinLaws.{SpinEndsHalt}

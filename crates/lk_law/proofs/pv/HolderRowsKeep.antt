@@ -10,15 +10,15 @@ use Rattle.lk_abs.specs.declared.holder.Manner.TheVariants.{Spins}
 use Rattle.lk_word.specs.declared.spin_word.NodeName.{NodeName}
 use Rattle.lk_word.specs.declared.spin_word.Locked.{Locked}
 use Rattle.lk_word.specs.declared.spin_word.Locked.TheVariants.{Free, Held, Slow}
-use Rattle.lk_machine.specs.declared.parts.Flag.{Flag}
-use Rattle.lk_machine.specs.declared.parts.State.{State}
-use Rattle.lk_machine.specs.declared.parts.State.TheVariants.{Hashed}
-use Rattle.lk_machine.specs.declared.parts.Frame.{Frame}
-use Rattle.lk_machine.specs.declared.parts.Pc.TheVariants.{K1, K2, K3}
-use Rattle.lk_machine.specs.Moves.{node_of}
-use Rattle.lk_machine.specs.Row.{Effect, Nothing, Goes, writes, Leaves}
-use Rattle.lk_machine.specs.rows.Cna.{is_held}
-use Rattle.lk_machine.specs.rows.Pv.{with_byte, is_halted}
+use Rattle.lk_rows.specs.declared.parts.Flag.{Flag}
+use Rattle.lk_rows.specs.declared.parts.State.{State}
+use Rattle.lk_rows.specs.declared.parts.State.TheVariants.{Hashed}
+use Rattle.lk_rows.specs.declared.parts.Frame.{Frame}
+use Rattle.lk_rows.specs.declared.parts.Pc.TheVariants.{K1, K2, K3}
+use Rattle.lk_rows.specs.Moves.{node_of}
+use Rattle.lk_rows.specs.Row.{Effect, Nothing, Goes, writes, Leaves}
+use Rattle.lk_rows.specs.rows.Cna.{is_held}
+use Rattle.lk_rows.specs.rows.Pv.{with_byte, is_halted}
 use Rattle.lk_law.specs.Phase.{Phase, seeks, leads, queues}
 use Rattle.lk_law.specs.Phase.Phase.{Seeks, Prepared}
 use Rattle.lk_law.specs.Pv.{Post, agrees, fronts, names}

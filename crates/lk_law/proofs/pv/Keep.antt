@@ -5,8 +5,8 @@ use Rattle.std.proofs.lemmas.Bool.{cases_Bool}
 use Rattle.lk_abs.specs.declared.names.Waiter.{Waiter}
 use Rattle.lk_word.specs.declared.spin_word.NodeName.{NodeName}
 use Rattle.lk_word.specs.declared.spin_word.Locked.{Locked}
-use Rattle.lk_machine.specs.declared.parts.State.{State}
-use Rattle.lk_machine.specs.declared.parts.Flag.{Flag}
+use Rattle.lk_rows.specs.declared.parts.State.{State}
+use Rattle.lk_rows.specs.declared.parts.Flag.{Flag}
 use Rattle.lk_law.specs.Phase.{Phase, has_node, has_lock, leads}
 use Rattle.lk_law.specs.Phase.Phase.{Links, Waits, Leads, Presses, Holds, Hands, Releases}
 use Rattle.lk_law.specs.Pv.{Post, PostsAgree, agrees, at_halt, post_full, raw, fits, post_holds}

@@ -12,13 +12,13 @@ use Rattle.lk_abs.specs.declared.names.Waiter.{Waiter}
 use Rattle.lk_abs.specs.declared.names.LockName.{LockName}
 use Rattle.lk_abs.specs.declared.events.Event.{Event}
 use Rattle.lk_abs.specs.declared.events.What.TheVariants.{Release, Kick, Halt}
-use Rattle.lk_machine.specs.declared.parts.Frame.{Frame}
-use Rattle.lk_machine.specs.declared.parts.Pc.{Pc}
-use Rattle.lk_machine.specs.declared.parts.Pc.TheVariants.{W6, E12, U4, U5}
-use Rattle.lk_machine.specs.Moves.{node_of}
-use Rattle.lk_machine.specs.Row.{Lead, Goes, Enters, Granted, Freed, Missed, Leaves, Yields, Done}
-use Rattle.lk_machine.specs.Row.{TakesWait}
-use Rattle.lk_machine.specs.TopRow.{target}
+use Rattle.lk_rows.specs.declared.parts.Frame.{Frame}
+use Rattle.lk_rows.specs.declared.parts.Pc.{Pc}
+use Rattle.lk_rows.specs.declared.parts.Pc.TheVariants.{W6, E12, U4, U5}
+use Rattle.lk_rows.specs.Moves.{node_of}
+use Rattle.lk_rows.specs.Row.{Lead, Goes, Enters, Granted, Freed, Missed, Leaves, Yields, Done}
+use Rattle.lk_rows.specs.Row.{TakesWait}
+use Rattle.lk_rows.specs.TopRow.{target}
 use Rattle.lk_law.specs.Pv.{at_halt}
 use Rattle.lk_law.specs.Snapshot.{Moves}
 use Rattle.lk_law.specs.World.{World}

@@ -15,9 +15,9 @@ use Rattle.lk_abs.specs.Names.{same_waiter}
 use Rattle.lk_word.specs.declared.spin_word.NodeName.{NodeName}
 use Rattle.lk_word.specs.declared.spin_word.Fields.{Fields}
 use Rattle.lk_word.specs.declared.spin_word.Locked.TheVariants.{Free, Held, Slow}
-use Rattle.lk_machine.specs.declared.parts.Node.{Node}
-use Rattle.lk_machine.specs.Machine.{rest_node}
-use Rattle.lk_machine.specs.declared.parts.Flag.TheVariants.{Go}
+use Rattle.lk_rows.specs.declared.parts.Node.{Node}
+use Rattle.lk_rows.specs.Machine.{rest_node}
+use Rattle.lk_rows.specs.declared.parts.Flag.TheVariants.{Go}
 use Rattle.lk_law.specs.Phase.{Phase, has_lock, has_node, seeks, pends, claims, watches, stakes}
 use Rattle.lk_law.specs.Phase.{queues, leads}
 use Rattle.lk_law.specs.Phase.Phase.{Idle, Seeks, Releases, Prepared, Waits, Leads, Presses, Holds}

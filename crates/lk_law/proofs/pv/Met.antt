@@ -4,7 +4,7 @@ use Rattle.lk_abs.specs.declared.names.Waiter.{Waiter}
 use Rattle.lk_word.specs.declared.spin_word.NodeName.{NodeName}
 use Rattle.lk_word.specs.declared.spin_word.Locked.{Locked}
 use Rattle.lk_word.specs.declared.spin_word.Locked.TheVariants.{Free}
-use Rattle.lk_machine.specs.declared.parts.State.{State}
+use Rattle.lk_rows.specs.declared.parts.State.{State}
 use Rattle.lk_law.specs.Pv.{Post, PostsAgree, post_holds, fronts}
 
 -- The posts of a lock as a row meets them: they agree, one holder stands among them at most, a

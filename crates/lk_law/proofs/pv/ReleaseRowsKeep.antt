@@ -5,12 +5,12 @@ use Rattle.std.specs.Prelude.{if◌then◌else◌, ◌==◌}
 use Rattle.lk_abs.specs.declared.names.Waiter.{Waiter}
 use Rattle.lk_word.specs.declared.spin_word.NodeName.{NodeName}
 use Rattle.lk_word.specs.declared.spin_word.Locked.TheVariants.{Free}
-use Rattle.lk_machine.specs.declared.parts.Frame.{Frame}
-use Rattle.lk_machine.specs.declared.parts.Pc.TheVariants.{U2, U3, U4, U5}
-use Rattle.lk_machine.specs.Moves.{node_of}
-use Rattle.lk_machine.specs.Row.{Nothing, Says, Goes, Freed, Yields, TargetIs, looks}
-use Rattle.lk_machine.specs.rows.Cna.{is_held}
-use Rattle.lk_machine.specs.rows.Pv.{with_byte}
+use Rattle.lk_rows.specs.declared.parts.Frame.{Frame}
+use Rattle.lk_rows.specs.declared.parts.Pc.TheVariants.{U2, U3, U4, U5}
+use Rattle.lk_rows.specs.Moves.{node_of}
+use Rattle.lk_rows.specs.Row.{Nothing, Says, Goes, Freed, Yields, TargetIs, looks}
+use Rattle.lk_rows.specs.rows.Cna.{is_held}
+use Rattle.lk_rows.specs.rows.Pv.{with_byte}
 use Rattle.lk_law.specs.Phase.{has_node, seeks}
 use Rattle.lk_law.specs.Pv.Post.{Kicks}
 use Rattle.lk_law.specs.Snapshot.{Moves}

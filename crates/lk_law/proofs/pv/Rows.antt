@@ -5,8 +5,8 @@ use Rattle.lk_abs.specs.declared.names.Waiter.{Waiter}
 use Rattle.lk_word.specs.declared.spin_word.NodeName.{NodeName}
 use Rattle.lk_word.specs.declared.spin_word.Locked.{Locked}
 use Rattle.lk_word.specs.declared.spin_word.Locked.TheVariants.{Slow}
-use Rattle.lk_machine.specs.declared.parts.State.{State}
-use Rattle.lk_machine.specs.declared.parts.State.TheVariants.{Running, Halted, Hashed}
+use Rattle.lk_rows.specs.declared.parts.State.{State}
+use Rattle.lk_rows.specs.declared.parts.State.TheVariants.{Running, Halted, Hashed}
 use Rattle.lk_law.specs.Snapshot.{Moves}
 use Rattle.lk_law.specs.Pv.{Post, PostsAgree, fronts, raw, fits, not_hashed}
 use Rattle.lk_law.specs.Pv.Post.{Spins, Peers, Stops, Stopped, Dozes, Sleeps, Stirs, Rises, Clears}

@@ -14,16 +14,16 @@ use Rattle.lk_abs.specs.declared.events.How.TheVariants as how
 use Rattle.lk_abs.specs.declared.events.What.TheVariants.{Take, Miss, Arrive}
 use Rattle.lk_word.specs.declared.spin_word.NodeName.{NodeName}
 use Rattle.lk_word.specs.declared.spin_word.Fields.{Fields}
-use Rattle.lk_machine.specs.declared.parts.Node.{Node}
-use Rattle.lk_machine.specs.declared.parts.Frame.{Frame}
-use Rattle.lk_machine.specs.declared.parts.Pc.{Pc}
-use Rattle.lk_machine.specs.declared.parts.Pc.TheVariants.{F1, T1, T2, G1, G4, G5, H1, W1, E1}
-use Rattle.lk_machine.specs.Machine.{rest_node}
-use Rattle.lk_machine.specs.Moves.{node_of}
-use Rattle.lk_machine.specs.Row.{Lead, Nothing, Says, Goes, Enters, Granted, Missed, Prev, Left}
-use Rattle.lk_machine.specs.Row.{looks, misses}
-use Rattle.lk_machine.specs.rows.Spin.{is_free, held_word, takes, after_fast}
-use Rattle.lk_machine.specs.rows.Queue.{after_entry, after_arrival, after_link}
+use Rattle.lk_rows.specs.declared.parts.Node.{Node}
+use Rattle.lk_rows.specs.declared.parts.Frame.{Frame}
+use Rattle.lk_rows.specs.declared.parts.Pc.{Pc}
+use Rattle.lk_rows.specs.declared.parts.Pc.TheVariants.{F1, T1, T2, G1, G4, G5, H1, W1, E1}
+use Rattle.lk_rows.specs.Machine.{rest_node}
+use Rattle.lk_rows.specs.Moves.{node_of}
+use Rattle.lk_rows.specs.Row.{Lead, Nothing, Says, Goes, Enters, Granted, Missed, Prev, Left}
+use Rattle.lk_rows.specs.Row.{looks, misses}
+use Rattle.lk_rows.specs.rows.Spin.{is_free, held_word, takes, after_fast}
+use Rattle.lk_rows.specs.rows.Queue.{after_entry, after_arrival, after_link}
 use Rattle.lk_law.specs.Phase.{has_node, seeks, queues}
 use Rattle.lk_law.specs.Phase.Phase.{Seeks}
 use Rattle.lk_law.specs.Pv.Post.{Off, Kicks}

@@ -4,7 +4,7 @@ use Rattle.lk_abs.specs.declared.names.Waiter.{Waiter}
 use Rattle.lk_word.specs.declared.spin_word.NodeName.{NodeName}
 use Rattle.lk_word.specs.declared.spin_word.Locked.{Locked}
 use Rattle.lk_word.specs.declared.spin_word.Locked.TheVariants.{Free, Held, Slow}
-use Rattle.lk_machine.specs.declared.parts.State.{State}
+use Rattle.lk_rows.specs.declared.parts.State.{State}
 use Rattle.lk_law.specs.Snapshot.{Moves}
 use Rattle.lk_law.specs.Pv.{Post, PostsAgree, bare, post_full, touches, slow_at, one_at, calls}
 use Rattle.lk_law.specs.Pv.{slowing}

@@ -4,12 +4,12 @@ use Rattle.std.specs.Prelude.{if◌then◌else◌, is_some, ◌&&◌, not}
 use Rattle.lk_abs.specs.declared.holder.Manner.TheVariants.{Spins}
 use Rattle.lk_word.specs.declared.spin_word.NodeName.{NodeName}
 use Rattle.lk_word.specs.declared.spin_word.Locked.TheVariants.{Held}
-use Rattle.lk_machine.specs.declared.parts.Frame.{Frame}
-use Rattle.lk_machine.specs.declared.parts.Pc.{Pc}
-use Rattle.lk_machine.specs.declared.parts.Pc.TheVariants.{G4, H1, H2}
-use Rattle.lk_machine.specs.Row.{Nothing, Says, Goes, Tailed, PvLockStealing, looks, Leaves}
-use Rattle.lk_machine.specs.rows.Spin.{is_unlocked}
-use Rattle.lk_machine.specs.rows.Pv.{with_byte, after_given_up}
+use Rattle.lk_rows.specs.declared.parts.Frame.{Frame}
+use Rattle.lk_rows.specs.declared.parts.Pc.{Pc}
+use Rattle.lk_rows.specs.declared.parts.Pc.TheVariants.{G4, H1, H2}
+use Rattle.lk_rows.specs.Row.{Nothing, Says, Goes, Tailed, PvLockStealing, looks, Leaves}
+use Rattle.lk_rows.specs.rows.Spin.{is_unlocked}
+use Rattle.lk_rows.specs.rows.Pv.{with_byte, after_given_up}
 use Rattle.lk_law.specs.Phase.{has_node, seeks, queues}
 use Rattle.lk_law.specs.Phase.Phase.{Seeks, Prepared}
 use Rattle.lk_law.specs.Agree.{Owed}

@@ -5,15 +5,15 @@ use Rattle.std.proofs.Common.{arith, ap, ◌-◌, ◌<◌, refl, sym, ◌∙◌}
 use Rattle.std.specs.Prelude.{if◌then◌else◌, ◌==◌}
 use Rattle.std.proofs.lemmas.Bool.{cases_Bool, eqb-true}
 use Rattle.lk_abs.specs.declared.events.What.TheVariants as what
-use Rattle.lk_machine.specs.declared.parts.Flag.{Flag}
-use Rattle.lk_machine.specs.declared.parts.State.{State}
-use Rattle.lk_machine.specs.declared.parts.State.TheVariants.{Running, Halted, Hashed}
-use Rattle.lk_machine.specs.declared.parts.Frame.{Frame}
-use Rattle.lk_machine.specs.declared.parts.Pc.{Pc}
-use Rattle.lk_machine.specs.declared.parts.Pc.TheVariants.{W1, W2, W3, W4, W5, W6, W7, E1}
-use Rattle.lk_machine.specs.Moves.{node_of}
-use Rattle.lk_machine.specs.Row.{Effect, Nothing, Says, Goes, Left, PvWaitNode, looks, learns}
-use Rattle.lk_machine.specs.rows.Pv.{is_set, is_running, is_halted, peer_again}
+use Rattle.lk_rows.specs.declared.parts.Flag.{Flag}
+use Rattle.lk_rows.specs.declared.parts.State.{State}
+use Rattle.lk_rows.specs.declared.parts.State.TheVariants.{Running, Halted, Hashed}
+use Rattle.lk_rows.specs.declared.parts.Frame.{Frame}
+use Rattle.lk_rows.specs.declared.parts.Pc.{Pc}
+use Rattle.lk_rows.specs.declared.parts.Pc.TheVariants.{W1, W2, W3, W4, W5, W6, W7, E1}
+use Rattle.lk_rows.specs.Moves.{node_of}
+use Rattle.lk_rows.specs.Row.{Effect, Nothing, Says, Goes, Left, PvWaitNode, looks, learns}
+use Rattle.lk_rows.specs.rows.Pv.{is_set, is_running, is_halted, peer_again}
 use Rattle.lk_law.specs.Phase.{Phase, seeks, leads}
 use Rattle.lk_law.specs.Agree.{Owed}
 use Rattle.lk_law.specs.Places.{snapshot}

@@ -3,11 +3,11 @@ use Rattle.std.proofs.Common.{◌≡◌, ℕ, suc, Option, Some, None, true, Lis
 use Rattle.std.proofs.Common.{inl, inr, arith, ap, slice_get, refl, zero, subst, sym}
 use Rattle.lk_abs.specs.declared.names.Waiter.{Waiter}
 use Rattle.lk_word.specs.declared.spin_word.NodeName.{NodeName}
-use Rattle.lk_machine.specs.declared.parts.Node.{Node}
-use Rattle.lk_machine.specs.declared.parts.Flag.TheVariants.{Unset}
+use Rattle.lk_rows.specs.declared.parts.Node.{Node}
+use Rattle.lk_rows.specs.declared.parts.Flag.TheVariants.{Unset}
 use Rattle.lk_law.specs.Phase.{Phase, queues, leads, follows}
 use Rattle.lk_law.specs.Snapshot.{Moves, QueueAgrees}
-use Rattle.lk_machine.specs.Machine.{rest_node}
+use Rattle.lk_rows.specs.Machine.{rest_node}
 use Rattle.lk_law.specs.Phase.Phase.{Prepared, Links, Leads, Waits, Hands}
 use Rattle.lk_law.proofs.common.Cases.{waiter_cases}
 use Rattle.lk_abs.proofs.ByIndex.{get-append, get-append_old, get-append_new, get-append_none}

@@ -7,14 +7,14 @@ use Rattle.lk_abs.specs.declared.names.Mode.TheVariants.{Virt, Native, Cna, Pv}
 use Rattle.lk_abs.specs.declared.events.What.TheVariants.{Arrive}
 use Rattle.lk_word.specs.declared.spin_word.NodeName.{NodeName}
 use Rattle.lk_word.specs.declared.spin_word.Fields.{Fields}
-use Rattle.lk_machine.specs.declared.parts.Flag.{Flag}
-use Rattle.lk_machine.specs.declared.parts.Node.{Node}
-use Rattle.lk_machine.specs.declared.parts.Frame.{Frame}
-use Rattle.lk_machine.specs.declared.parts.Pc.{Pc}
-use Rattle.lk_machine.specs.declared.parts.Pc.TheVariants.{G4, G5, G6, G7, G11}
-use Rattle.lk_machine.specs.Moves.{node_of}
-use Rattle.lk_machine.specs.Row.{Effect, Lead, Nothing, Says, Goes, Prev}
-use Rattle.lk_machine.specs.rows.Queue.{after_arrival, after_flag, after_link}
+use Rattle.lk_rows.specs.declared.parts.Flag.{Flag}
+use Rattle.lk_rows.specs.declared.parts.Node.{Node}
+use Rattle.lk_rows.specs.declared.parts.Frame.{Frame}
+use Rattle.lk_rows.specs.declared.parts.Pc.{Pc}
+use Rattle.lk_rows.specs.declared.parts.Pc.TheVariants.{G4, G5, G6, G7, G11}
+use Rattle.lk_rows.specs.Moves.{node_of}
+use Rattle.lk_rows.specs.Row.{Effect, Lead, Nothing, Says, Goes, Prev}
+use Rattle.lk_rows.specs.rows.Queue.{after_arrival, after_flag, after_link}
 use Rattle.lk_law.specs.Phase.{has_node, leads}
 use Rattle.lk_law.specs.Phase.Phase.{Prepared, Links, Waits, Leads}
 use Rattle.lk_law.specs.Cna.{node_in}
@@ -37,7 +37,7 @@ use Rattle.lk_law.proofs.common.Acting.{fit_here, phase_here, phase_shown, own_h
 use Rattle.lk_law.proofs.common.Acting.{ReadAlike, looks_kept, Going, going_step, going_stays}
 use Rattle.lk_law.proofs.common.Acting.{goes_kept, LeadsTo, gone_on, word_going, look_going}
 use Rattle.lk_law.proofs.common.Acting.{node_going, going_word, awake_here}
-use Rattle.lk_machine.specs.declared.parts.Flag.TheVariants as flag
+use Rattle.lk_rows.specs.declared.parts.Flag.TheVariants as flag
 
 pub both-true : (a b : Bool) → (a && b) ≡ true → (a ≡ true) × (b ≡ true)
 both-true true true h = (refl, refl)

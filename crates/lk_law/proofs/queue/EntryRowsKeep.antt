@@ -16,15 +16,15 @@ use Rattle.lk_abs.specs.declared.events.How.TheVariants as how
 use Rattle.lk_abs.specs.declared.events.What.TheVariants.{Take}
 use Rattle.lk_word.specs.declared.spin_word.NodeName.{NodeName}
 use Rattle.lk_word.specs.declared.spin_word.Fields.{Fields}
-use Rattle.lk_machine.specs.declared.parts.Frame.{Frame}
-use Rattle.lk_machine.specs.declared.parts.Pc.{Pc}
-use Rattle.lk_machine.specs.declared.parts.Pc.TheVariants.{G1, G2, G3, G4, G5, G11, N1, N2}
-use Rattle.lk_machine.specs.Machine.{rest_node}
-use Rattle.lk_machine.specs.Moves.{node_of}
-use Rattle.lk_machine.specs.Row.{Nothing, Says, Enters, looks}
-use Rattle.lk_machine.specs.Row.{Leaves}
-use Rattle.lk_machine.specs.rows.Spin.{is_free, held_word}
-use Rattle.lk_machine.specs.rows.Queue.{takes_out, after_entry}
+use Rattle.lk_rows.specs.declared.parts.Frame.{Frame}
+use Rattle.lk_rows.specs.declared.parts.Pc.{Pc}
+use Rattle.lk_rows.specs.declared.parts.Pc.TheVariants.{G1, G2, G3, G4, G5, G11, N1, N2}
+use Rattle.lk_rows.specs.Machine.{rest_node}
+use Rattle.lk_rows.specs.Moves.{node_of}
+use Rattle.lk_rows.specs.Row.{Nothing, Says, Enters, looks}
+use Rattle.lk_rows.specs.Row.{Leaves}
+use Rattle.lk_rows.specs.rows.Spin.{is_free, held_word}
+use Rattle.lk_rows.specs.rows.Queue.{takes_out, after_entry}
 use Rattle.lk_law.specs.Phase.{has_node, Phase, seeks, queues, pends}
 use Rattle.lk_law.specs.Phase.Phase.{Seeks, Prepared}
 use Rattle.lk_law.specs.Families.{chooses}

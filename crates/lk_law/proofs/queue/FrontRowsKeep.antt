@@ -11,14 +11,14 @@ use Rattle.lk_word.specs.declared.spin_word.NodeName.{NodeName}
 use Rattle.lk_word.specs.declared.spin_word.Locked.{Locked}
 use Rattle.lk_word.specs.declared.spin_word.Locked.TheVariants.{Free, Held, Slow}
 use Rattle.lk_word.specs.declared.spin_word.Fields.{Fields}
-use Rattle.lk_machine.specs.declared.parts.Node.{Node}
-use Rattle.lk_machine.specs.declared.parts.Frame.{Frame}
-use Rattle.lk_machine.specs.declared.parts.Pc.{Pc}
-use Rattle.lk_machine.specs.declared.parts.Pc.TheVariants.{G5, G7, G8, G9, G10, G11, C1}
-use Rattle.lk_machine.specs.Moves.{is_node, node_of}
-use Rattle.lk_machine.specs.Row.{Effect, Nothing, Says, Passes, looks, Leaves}
-use Rattle.lk_machine.specs.rows.Spin.{is_unlocked, held_word}
-use Rattle.lk_machine.specs.rows.Queue.{takes_out, after_look, is_sole, after_head, after_next}
+use Rattle.lk_rows.specs.declared.parts.Node.{Node}
+use Rattle.lk_rows.specs.declared.parts.Frame.{Frame}
+use Rattle.lk_rows.specs.declared.parts.Pc.{Pc}
+use Rattle.lk_rows.specs.declared.parts.Pc.TheVariants.{G5, G7, G8, G9, G10, G11, C1}
+use Rattle.lk_rows.specs.Moves.{is_node, node_of}
+use Rattle.lk_rows.specs.Row.{Effect, Nothing, Says, Passes, looks, Leaves}
+use Rattle.lk_rows.specs.rows.Spin.{is_unlocked, held_word}
+use Rattle.lk_rows.specs.rows.Queue.{takes_out, after_look, is_sole, after_head, after_next}
 use Rattle.lk_law.specs.Phase.{seeks}
 use Rattle.lk_law.specs.Phase.Phase.{Leads, Stakes, Holds, Hands}
 use Rattle.lk_law.specs.Cna.{moves_aside}
@@ -47,7 +47,7 @@ use Rattle.lk_law.proofs.common.Acting.{LeadsTo, placed_kept, look_going, awake_
 use Rattle.lk_law.proofs.spin.RowsKeep.{WordKept, unlocked_free}
 use Rattle.lk_law.proofs.queue.ArriveRowsKeep.{alike_self, both-true, none_second, not_true}
 use Rattle.lk_abs.specs.declared.events.How.TheVariants as how
-use Rattle.lk_machine.specs.declared.parts.Flag.TheVariants as flag
+use Rattle.lk_rows.specs.declared.parts.Flag.TheVariants as flag
 
 -- G7
 

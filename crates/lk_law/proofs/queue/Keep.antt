@@ -2,10 +2,10 @@
 use Rattle.std.proofs.Common.{◌≡◌, suc, Option, true, List, arith}
 use Rattle.lk_abs.specs.declared.names.Waiter.{Waiter}
 use Rattle.lk_word.specs.declared.spin_word.NodeName.{NodeName}
-use Rattle.lk_machine.specs.declared.parts.Node.{Node}
+use Rattle.lk_rows.specs.declared.parts.Node.{Node}
 use Rattle.lk_law.specs.Phase.{Phase, queues}
 use Rattle.lk_law.specs.Snapshot.{QueueAgrees}
-use Rattle.lk_machine.specs.Machine.{rest_node}
+use Rattle.lk_rows.specs.Machine.{rest_node}
 use Rattle.lk_law.specs.Phase.Phase.{Prepared}
 
 -- nothing changes that the queue reads

@@ -3,11 +3,11 @@ use Rattle.std.proofs.Common.{◌≡◌, ◌≢◌, ℕ, zero, suc, Option, Some
 use Rattle.std.proofs.Common.{arith, slice_get, drop}
 use Rattle.lk_abs.specs.declared.names.Waiter.{Waiter}
 use Rattle.lk_word.specs.declared.spin_word.NodeName.{NodeName}
-use Rattle.lk_machine.specs.declared.parts.Node.{Node}
-use Rattle.lk_machine.specs.declared.parts.Flag.TheVariants.{Unset, Go}
+use Rattle.lk_rows.specs.declared.parts.Node.{Node}
+use Rattle.lk_rows.specs.declared.parts.Flag.TheVariants.{Unset, Go}
 use Rattle.lk_law.specs.Phase.{Phase, queues, leads, follows, has_node}
 use Rattle.lk_law.specs.Snapshot.{Moves, Rewrites, QueueAgrees}
-use Rattle.lk_machine.specs.Machine.{rest_node}
+use Rattle.lk_rows.specs.Machine.{rest_node}
 use Rattle.lk_law.specs.Phase.Phase.{Prepared, Links, Waits, Hands, Idle}
 use Rattle.lk_law.proofs.common.Cases.{Apart, waiter_cases, node_cases}
 use Rattle.lk_law.proofs.queue.Lead.{lead_first}

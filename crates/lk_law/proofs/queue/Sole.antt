@@ -3,7 +3,7 @@ use Rattle.std.proofs.Common.{◌≡◌, ◌≢◌, ℕ, zero, suc, Option, Some
 use Rattle.std.proofs.Common.{◌⊎◌, inl, inr, arith, slice_get, drop, refl}
 use Rattle.lk_abs.specs.declared.names.Waiter.{Waiter}
 use Rattle.lk_word.specs.declared.spin_word.NodeName.{NodeName}
-use Rattle.lk_machine.specs.declared.parts.Node.{Node}
+use Rattle.lk_rows.specs.declared.parts.Node.{Node}
 use Rattle.lk_law.specs.Phase.{Phase, queues, leads}
 use Rattle.lk_law.specs.Snapshot.{Moves, QueueAgrees}
 use Rattle.lk_law.specs.Phase.Phase.{Idle}

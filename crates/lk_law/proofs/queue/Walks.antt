@@ -1,5 +1,5 @@
 -- The main queue is the walk.
-use Rattle.lk_machine.specs.declared.parts.Flag.{Flag}
+use Rattle.lk_rows.specs.declared.parts.Flag.{Flag}
 use Rattle.lk_law.specs.Cna.{part, front_cut, first_node}
 use Rattle.lk_law.specs.Phase.Phase.{Waits}
 use Rattle.lk_law.proofs.common.Cases.{Apart}
@@ -9,7 +9,7 @@ use Rattle.std.proofs.Common.{◌≡◌, ℕ, zero, suc, Option, Some, None, tru
 use Rattle.std.proofs.Common.{inl, inr, arith, ap, slice_get, refl, sym, ◌∙◌, ◌≤◌, map}
 use Rattle.lk_abs.specs.declared.names.Waiter.{Waiter}
 use Rattle.lk_word.specs.declared.spin_word.NodeName.{NodeName}
-use Rattle.lk_machine.specs.declared.parts.Node.{Node}
+use Rattle.lk_rows.specs.declared.parts.Node.{Node}
 use Rattle.lk_law.specs.Phase.{Phase, has_node, queues, leads}
 use Rattle.lk_law.specs.Phase.Phase.{Links}
 use Rattle.lk_law.specs.Snapshot.{QueueAgrees}

@@ -7,30 +7,30 @@ use Rattle.lk_abs.specs.declared.names.Mode.{Mode}
 use Rattle.lk_abs.specs.declared.names.Mode.TheVariants.{Virt, Native, Cna, Pv}
 use Rattle.lk_word.specs.declared.spin_word.NodeName.{NodeName}
 use Rattle.lk_word.specs.declared.spin_word.Fields.{Fields}
-use Rattle.lk_machine.specs.declared.parts.Flag.{Flag}
-use Rattle.lk_machine.specs.declared.parts.Flag.TheVariants as flag
-use Rattle.lk_machine.specs.declared.parts.Frame.{Frame}
-use Rattle.lk_machine.specs.declared.parts.Why.{Why}
-use Rattle.lk_machine.specs.declared.parts.Why.TheVariants as why
-use Rattle.lk_machine.specs.declared.parts.Pc.{Pc}
-use Rattle.lk_machine.specs.declared.parts.Pc.TheVariants.{F1, T1, T2, U1, V1, V2, P0, P1, P2, P3}
-use Rattle.lk_machine.specs.declared.parts.Pc.TheVariants.{P4, G1, G2, G3, G4, G5, G6, G7, G8, G9}
-use Rattle.lk_machine.specs.declared.parts.Pc.TheVariants.{G10, G11, N1, N2, C1, C2, C3, C4, C5, C6}
-use Rattle.lk_machine.specs.declared.parts.Pc.TheVariants.{C7, C8, C9, C10, H1, H2, W1, W2, W3, W4}
-use Rattle.lk_machine.specs.declared.parts.Pc.TheVariants.{W5, W6, W7, E1, E2, E3, E4, E5, E6, E7}
-use Rattle.lk_machine.specs.declared.parts.Pc.TheVariants.{E8, E9, E10, E11, E12, E13, E14, E15, K1}
-use Rattle.lk_machine.specs.declared.parts.Pc.TheVariants.{K2, K3, U2, U3, U4, U5}
-use Rattle.lk_machine.specs.Moves.{is_node, node_of}
-use Rattle.lk_machine.specs.Row.{Effect, Lead, Goes, Granted, Missed, Leaves, Change}
-use Rattle.lk_machine.specs.rows.Spin.{is_free, is_unlocked, to_queue, after_fast}
-use Rattle.lk_machine.specs.rows.Spin.{after_pending}
-use Rattle.lk_machine.specs.rows.Queue.{is_sole, own_node}
-use Rattle.lk_machine.specs.rows.Queue.{after_entry, after_look, after_arrival, after_head}
-use Rattle.lk_machine.specs.rows.Queue.{after_flag, after_next, after_link}
-use Rattle.lk_machine.specs.rows.Cna.{Sight, is_last, may_stay, after_none, after_tail}
-use Rattle.lk_machine.specs.rows.Cna.{search_first, search_on, is_held}
-use Rattle.lk_machine.specs.rows.Pv.{pv_after_next, is_set, is_running, is_halted}
-use Rattle.lk_machine.specs.TopRow.{target}
+use Rattle.lk_rows.specs.declared.parts.Flag.{Flag}
+use Rattle.lk_rows.specs.declared.parts.Flag.TheVariants as flag
+use Rattle.lk_rows.specs.declared.parts.Frame.{Frame}
+use Rattle.lk_rows.specs.declared.parts.Why.{Why}
+use Rattle.lk_rows.specs.declared.parts.Why.TheVariants as why
+use Rattle.lk_rows.specs.declared.parts.Pc.{Pc}
+use Rattle.lk_rows.specs.declared.parts.Pc.TheVariants.{F1, T1, T2, U1, V1, V2, P0, P1, P2, P3}
+use Rattle.lk_rows.specs.declared.parts.Pc.TheVariants.{P4, G1, G2, G3, G4, G5, G6, G7, G8, G9}
+use Rattle.lk_rows.specs.declared.parts.Pc.TheVariants.{G10, G11, N1, N2, C1, C2, C3, C4, C5, C6}
+use Rattle.lk_rows.specs.declared.parts.Pc.TheVariants.{C7, C8, C9, C10, H1, H2, W1, W2, W3, W4}
+use Rattle.lk_rows.specs.declared.parts.Pc.TheVariants.{W5, W6, W7, E1, E2, E3, E4, E5, E6, E7}
+use Rattle.lk_rows.specs.declared.parts.Pc.TheVariants.{E8, E9, E10, E11, E12, E13, E14, E15, K1}
+use Rattle.lk_rows.specs.declared.parts.Pc.TheVariants.{K2, K3, U2, U3, U4, U5}
+use Rattle.lk_rows.specs.Moves.{is_node, node_of}
+use Rattle.lk_rows.specs.Row.{Effect, Lead, Goes, Granted, Missed, Leaves, Change}
+use Rattle.lk_rows.specs.rows.Spin.{is_free, is_unlocked, to_queue, after_fast}
+use Rattle.lk_rows.specs.rows.Spin.{after_pending}
+use Rattle.lk_rows.specs.rows.Queue.{is_sole, own_node}
+use Rattle.lk_rows.specs.rows.Queue.{after_entry, after_look, after_arrival, after_head}
+use Rattle.lk_rows.specs.rows.Queue.{after_flag, after_next, after_link}
+use Rattle.lk_rows.specs.rows.Cna.{Sight, is_last, may_stay, after_none, after_tail}
+use Rattle.lk_rows.specs.rows.Cna.{search_first, search_on, is_held}
+use Rattle.lk_rows.specs.rows.Pv.{pv_after_next, is_set, is_running, is_halted}
+use Rattle.lk_rows.specs.TopRow.{target}
 use Rattle.lk_law.specs.Families.{is_ending_row, may_halt, is_rw_row}
 use Rattle.lk_law.specs.Leads.{course_in, is_release, enters, RowIsCalm, NodeComesAtEntry}
 use Rattle.lk_law.specs.Premises.{IsThen}
@@ -253,7 +253,7 @@ module _ (m : World) (w : Waiter) (f : Frame) where
   bare_halting E10 h = refl
   bare_halting E11 h = refl
   bare_halting E12 h = refl
-  bare_halting E13 h = bare_either (Rattle.lk_machine.specs.rows.Cna.is_last f (m.word f.lock)) _ _ refl refl
+  bare_halting E13 h = bare_either (Rattle.lk_rows.specs.rows.Cna.is_last f (m.word f.lock)) _ _ refl refl
   bare_halting E14 h = bare_next (m.node (node_of f.me)).next
   bare_halting E15 h = refl
   bare_halting K1 h = bare_either (is_halted (m.node (node_of f.y)).state) _ _ refl refl

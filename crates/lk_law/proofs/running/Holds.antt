@@ -10,7 +10,7 @@ use Rattle.lk_abs.specs.declared.names.Kind.{Kind}
 use Rattle.lk_abs.specs.declared.names.Kind.TheVariants.{Spin, Rw}
 use Rattle.lk_abs.specs.declared.names.Waiter.{Waiter}
 use Rattle.lk_abs.specs.declared.names.LockName.{LockName}
-use Rattle.lk_machine.specs.Moves.{rw_name, wait_name}
+use Rattle.lk_rows.specs.Moves.{rw_name, wait_name}
 use Rattle.lk_law.specs.Agree.{LockAgrees, sole}
 use Rattle.lk_law.specs.Holds.{HolderIsOne, HoldMoves, hands_hold, held_by}
 use Rattle.lk_law.specs.Phase.{Phase, has_lock, seeks}

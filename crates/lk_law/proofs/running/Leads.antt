@@ -9,18 +9,18 @@ use Rattle.lk_abs.specs.declared.names.LockName.{LockName}
 use Rattle.lk_word.specs.declared.spin_word.NodeName.{NodeName}
 use Rattle.lk_word.specs.declared.spin_word.Fields.{Fields}
 use Rattle.lk_word.specs.declared.rw_word.RwFields.{RwFields}
-use Rattle.lk_machine.specs.declared.parts.Flag.{Flag}
-use Rattle.lk_machine.specs.declared.parts.State.{State}
-use Rattle.lk_machine.specs.declared.parts.Frame.{Frame}
-use Rattle.lk_machine.specs.declared.parts.Pc.{Pc}
-use Rattle.lk_machine.specs.Moves.{rw_name}
-use Rattle.lk_machine.specs.Row.{Lead, Goes, Enters, Granted, Freed, Missed, Done, TakesWait, Leaves}
-use Rattle.lk_machine.specs.Row.{Yields}
-use Rattle.lk_machine.specs.rows.Queue.{entry_row}
-use Rattle.lk_machine.specs.rows.Rw.{rw_row}
-use Rattle.lk_machine.specs.TopRow.{Target, SpinWord, QueueWord, Queued, FlagOf, NextOf, ChoiceWord}
-use Rattle.lk_machine.specs.TopRow.{ChoiceFlag, ChoiceNext, SecondTailOf, RunsOf, PvWord, PvFlag}
-use Rattle.lk_machine.specs.TopRow.{PvNext, StateOf, HashEntry, Halted, KickOf, RwWord}
+use Rattle.lk_rows.specs.declared.parts.Flag.{Flag}
+use Rattle.lk_rows.specs.declared.parts.State.{State}
+use Rattle.lk_rows.specs.declared.parts.Frame.{Frame}
+use Rattle.lk_rows.specs.declared.parts.Pc.{Pc}
+use Rattle.lk_rows.specs.Moves.{rw_name}
+use Rattle.lk_rows.specs.Row.{Lead, Goes, Enters, Granted, Freed, Missed, Done, TakesWait, Leaves}
+use Rattle.lk_rows.specs.Row.{Yields}
+use Rattle.lk_rows.specs.rows.Queue.{entry_row}
+use Rattle.lk_rows.specs.rows.Rw.{rw_row}
+use Rattle.lk_rows.specs.TopRow.{Target, SpinWord, QueueWord, Queued, FlagOf, NextOf, ChoiceWord}
+use Rattle.lk_rows.specs.TopRow.{ChoiceFlag, ChoiceNext, SecondTailOf, RunsOf, PvWord, PvFlag}
+use Rattle.lk_rows.specs.TopRow.{PvNext, StateOf, HashEntry, Halted, KickOf, RwWord}
 use Rattle.lk_law.specs.Leads.{Course, course_in, course_on, stored_in, enters, held_lock, way_after}
 use Rattle.lk_law.specs.Leads.{RowIsLed, RowIsDone, RowDone}
 use Rattle.lk_law.specs.Steps.{Made, put_frame, put_held, led, led_rest, lead_on, way_led, way_told}

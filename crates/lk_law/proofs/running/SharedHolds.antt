@@ -12,7 +12,7 @@ use Rattle.lk_abs.specs.declared.names.Kind.{Kind}
 use Rattle.lk_abs.specs.declared.names.Kind.TheVariants.{Rw}
 use Rattle.lk_abs.specs.declared.names.Waiter.{Waiter}
 use Rattle.lk_abs.specs.declared.names.LockName.{LockName}
-use Rattle.lk_machine.specs.Moves.{rw_name, wait_name}
+use Rattle.lk_rows.specs.Moves.{rw_name, wait_name}
 use Rattle.lk_law.specs.Agree.{LockAgrees}
 use Rattle.lk_law.specs.Holds.{ShareMoves, hands_share, shared_by}
 use Rattle.lk_law.specs.Places.{snapshot}

@@ -8,25 +8,25 @@ use Rattle.lk_abs.specs.declared.names.Mode.TheVariants.{Virt, Native, Cna, Pv}
 use Rattle.lk_abs.specs.declared.names.Waiter.{Waiter}
 use Rattle.lk_abs.specs.declared.names.LockName.{LockName}
 use Rattle.lk_word.specs.declared.spin_word.NodeName.{NodeName}
-use Rattle.lk_machine.specs.declared.parts.Flag.{Flag}
-use Rattle.lk_machine.specs.declared.parts.Flag.TheVariants as flag
-use Rattle.lk_machine.specs.declared.parts.Frame.{Frame}
-use Rattle.lk_machine.specs.declared.parts.Pc.{Pc}
-use Rattle.lk_machine.specs.declared.parts.Pc.TheVariants.{F1, T1, T2, V2, G3, G6, G8, G10, G11, N2}
-use Rattle.lk_machine.specs.declared.parts.Pc.TheVariants.{C1, C2, C8, C10, R1, R2, R5, Wr1, Wr3}
-use Rattle.lk_machine.specs.declared.parts.Pc.TheVariants.{Wr6, Y1, Y2, Y4, Y5, H1, H2, W1, W2}
-use Rattle.lk_machine.specs.declared.parts.Pc.TheVariants.{W3, W4, W5, W6, W7, E1, E2, E3, E4, E5}
-use Rattle.lk_machine.specs.declared.parts.Pc.TheVariants.{E6, E7, E8, E9, E10, E11, E12, E13, E14}
-use Rattle.lk_machine.specs.declared.parts.Pc.TheVariants.{E15, K1, K2, K3, U2, U3, U4, U5}
-use Rattle.lk_machine.specs.Row.{Effect, Tell, Nothing, Says, Passes}
-use Rattle.lk_machine.specs.rows.Spin.{is_free, is_unlocked}
-use Rattle.lk_machine.specs.rows.Queue.{after_flag, after_next, is_sole}
-use Rattle.lk_machine.specs.rows.Cna.{Sight, after_none, is_last, may_stay, search_first, search_on}
-use Rattle.lk_machine.specs.rows.Cna.{is_held}
-use Rattle.lk_machine.specs.rows.Pv.{pv_after_next, is_set, is_running, is_halted}
-use Rattle.lk_machine.specs.rows.Rw.{is_open, is_empty, is_cleared}
-use Rattle.lk_machine.specs.Moves.{node_of}
-use Rattle.lk_machine.specs.TopRow.{target}
+use Rattle.lk_rows.specs.declared.parts.Flag.{Flag}
+use Rattle.lk_rows.specs.declared.parts.Flag.TheVariants as flag
+use Rattle.lk_rows.specs.declared.parts.Frame.{Frame}
+use Rattle.lk_rows.specs.declared.parts.Pc.{Pc}
+use Rattle.lk_rows.specs.declared.parts.Pc.TheVariants.{F1, T1, T2, V2, G3, G6, G8, G10, G11, N2}
+use Rattle.lk_rows.specs.declared.parts.Pc.TheVariants.{C1, C2, C8, C10, R1, R2, R5, Wr1, Wr3}
+use Rattle.lk_rows.specs.declared.parts.Pc.TheVariants.{Wr6, Y1, Y2, Y4, Y5, H1, H2, W1, W2}
+use Rattle.lk_rows.specs.declared.parts.Pc.TheVariants.{W3, W4, W5, W6, W7, E1, E2, E3, E4, E5}
+use Rattle.lk_rows.specs.declared.parts.Pc.TheVariants.{E6, E7, E8, E9, E10, E11, E12, E13, E14}
+use Rattle.lk_rows.specs.declared.parts.Pc.TheVariants.{E15, K1, K2, K3, U2, U3, U4, U5}
+use Rattle.lk_rows.specs.Row.{Effect, Tell, Nothing, Says, Passes}
+use Rattle.lk_rows.specs.rows.Spin.{is_free, is_unlocked}
+use Rattle.lk_rows.specs.rows.Queue.{after_flag, after_next, is_sole}
+use Rattle.lk_rows.specs.rows.Cna.{Sight, after_none, is_last, may_stay, search_first, search_on}
+use Rattle.lk_rows.specs.rows.Cna.{is_held}
+use Rattle.lk_rows.specs.rows.Pv.{pv_after_next, is_set, is_running, is_halted}
+use Rattle.lk_rows.specs.rows.Rw.{is_open, is_empty, is_cleared}
+use Rattle.lk_rows.specs.Moves.{node_of}
+use Rattle.lk_rows.specs.TopRow.{target}
 use Rattle.lk_law.specs.Leads.{course_in}
 use Rattle.lk_law.specs.Nodes.{LeadGoesOn}
 use Rattle.lk_law.specs.Premises.{Uses, GoesTo}

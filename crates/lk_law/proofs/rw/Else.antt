@@ -10,14 +10,14 @@ use Rattle.lk_abs.specs.declared.names.Waiter.{Waiter}
 use Rattle.lk_abs.specs.declared.names.LockName.{LockName}
 use Rattle.lk_word.specs.declared.spin_word.NodeName.{NodeName}
 use Rattle.lk_word.specs.declared.spin_word.Fields.{Fields}
-use Rattle.lk_machine.specs.declared.parts.State.{State}
-use Rattle.lk_machine.specs.declared.parts.Flag.{Flag}
-use Rattle.lk_machine.specs.declared.parts.Frame.{Frame}
-use Rattle.lk_machine.specs.declared.parts.Pc.{Pc}
-use Rattle.lk_machine.specs.Row.{Lead, Goes, Enters, Granted, Freed, Missed, Done, TakesWait}
-use Rattle.lk_machine.specs.Row.{Leaves, Yields, Tell, Nothing, Says, Passes, Change, with_change}
-use Rattle.lk_machine.specs.Row.{changed_all, Prev, Second, Y, Left, A, B, K, T, Reason, Tailed}
-use Rattle.lk_machine.specs.Row.{HashedIs, TargetIs}
+use Rattle.lk_rows.specs.declared.parts.State.{State}
+use Rattle.lk_rows.specs.declared.parts.Flag.{Flag}
+use Rattle.lk_rows.specs.declared.parts.Frame.{Frame}
+use Rattle.lk_rows.specs.declared.parts.Pc.{Pc}
+use Rattle.lk_rows.specs.Row.{Lead, Goes, Enters, Granted, Freed, Missed, Done, TakesWait}
+use Rattle.lk_rows.specs.Row.{Leaves, Yields, Tell, Nothing, Says, Passes, Change, with_change}
+use Rattle.lk_rows.specs.Row.{changed_all, Prev, Second, Y, Left, A, B, K, T, Reason, Tailed}
+use Rattle.lk_rows.specs.Row.{HashedIs, TargetIs}
 use Rattle.lk_law.specs.Snapshot.{Moves}
 use Rattle.lk_law.specs.World.{World}
 use Rattle.lk_law.specs.Steps.{Made, led, way_led, led_rest, lead_on, stores_word, stores_flag}

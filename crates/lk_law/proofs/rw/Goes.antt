@@ -10,14 +10,14 @@ use Rattle.lk_abs.specs.declared.names.LockName.{LockName}
 use Rattle.lk_abs.specs.declared.events.Event.{Event}
 use Rattle.lk_abs.specs.declared.events.What.{What}
 use Rattle.lk_word.specs.declared.rw_word.RwFields.{RwFields}
-use Rattle.lk_machine.specs.declared.setup.Verb.TheVariants.{Unlock}
-use Rattle.lk_machine.specs.declared.parts.Frame.{Frame}
-use Rattle.lk_machine.specs.declared.parts.Pc.{Pc}
-use Rattle.lk_machine.specs.declared.parts.Pc.TheVariants.{R1, R2, R3, R4, R5, Wr1, Wr2, Wr3, Wr4}
-use Rattle.lk_machine.specs.declared.parts.Pc.TheVariants.{Wr5, Wr6, Y1, Y2, Y3, Y4, Y5, Z1, Z2}
-use Rattle.lk_machine.specs.Moves.{first_place, rw_name, wait_name, waiting}
-use Rattle.lk_machine.specs.Row.{Effect, Tell, Nothing, Says}
-use Rattle.lk_machine.specs.rows.Rw.{frees_wait}
+use Rattle.lk_rows.specs.declared.setup.Verb.TheVariants.{Unlock}
+use Rattle.lk_rows.specs.declared.parts.Frame.{Frame}
+use Rattle.lk_rows.specs.declared.parts.Pc.{Pc}
+use Rattle.lk_rows.specs.declared.parts.Pc.TheVariants.{R1, R2, R3, R4, R5, Wr1, Wr2, Wr3, Wr4}
+use Rattle.lk_rows.specs.declared.parts.Pc.TheVariants.{Wr5, Wr6, Y1, Y2, Y3, Y4, Y5, Z1, Z2}
+use Rattle.lk_rows.specs.Moves.{first_place, rw_name, wait_name, waiting}
+use Rattle.lk_rows.specs.Row.{Effect, Tell, Nothing, Says}
+use Rattle.lk_rows.specs.rows.Rw.{frees_wait}
 use Rattle.lk_law.proofs.rw.Else.{IsOfLock}
 use Rattle.lk_law.specs.SoundWorld.Part.{Freeing}
 use Rattle.lk_law.specs.RwPhase.{RwPhase, is_inner}

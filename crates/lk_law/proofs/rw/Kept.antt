@@ -1,6 +1,6 @@
 -- The frame of a row of a reader or a writer: a world after its store, and then the frame moves and
 -- its waiter's hold of the lock changes.
-use Rattle.lk_machine.specs.declared.setup.Verb.TheVariants.{Unlock}
+use Rattle.lk_rows.specs.declared.setup.Verb.TheVariants.{Unlock}
 use Rattle.lk_law.specs.SoundWorld.Part.{Freeing}
 use Rattle.lk_abs.specs.declared.names.Mode.TheVariants.{Virt, Native, Cna, Pv}
 use Rattle.lk_abs.specs.declared.names.Mode.{Mode}
@@ -23,11 +23,11 @@ use Rattle.lk_abs.specs.declared.events.Event.{Event}
 use Rattle.lk_word.specs.declared.spin_word.NodeName.{NodeName}
 use Rattle.lk_word.specs.declared.spin_word.Fields.{Fields}
 use Rattle.lk_word.specs.declared.rw_word.RwFields.{RwFields}
-use Rattle.lk_machine.specs.declared.parts.Node.{Node}
-use Rattle.lk_machine.specs.declared.parts.Frame.{Frame}
-use Rattle.lk_machine.specs.declared.parts.Pc.{Pc}
-use Rattle.lk_machine.specs.declared.parts.Pc.TheVariants.{F1, U1, G5, G11, U2}
-use Rattle.lk_machine.specs.Moves.{rw_name, wait_name, node_of, waiting, first_place}
+use Rattle.lk_rows.specs.declared.parts.Node.{Node}
+use Rattle.lk_rows.specs.declared.parts.Frame.{Frame}
+use Rattle.lk_rows.specs.declared.parts.Pc.{Pc}
+use Rattle.lk_rows.specs.declared.parts.Pc.TheVariants.{F1, U1, G5, G11, U2}
+use Rattle.lk_rows.specs.Moves.{rw_name, wait_name, node_of, waiting, first_place}
 use Rattle.lk_law.specs.Phase.{Phase, has_node}
 use Rattle.lk_law.specs.Phase.Phase.{Idle, Seeks, Releases}
 use Rattle.lk_law.specs.Snapshot.{spins}

@@ -4,9 +4,9 @@ use Rattle.std.proofs.Common.{arith, ap, refl, ◌∙◌}
 use Rattle.lk_abs.specs.History.{LockHistory}
 use Rattle.lk_abs.specs.declared.names.Waiter.{Waiter}
 use Rattle.lk_abs.specs.declared.names.LockName.{LockName}
-use Rattle.lk_machine.specs.declared.parts.Frame.{Frame}
-use Rattle.lk_machine.specs.declared.parts.Pc.{Pc}
-use Rattle.lk_machine.specs.declared.parts.Pc.TheVariants.{R2, R3, R5, Wr5, Wr6, Y3, Z1, Z2}
+use Rattle.lk_rows.specs.declared.parts.Frame.{Frame}
+use Rattle.lk_rows.specs.declared.parts.Pc.{Pc}
+use Rattle.lk_rows.specs.declared.parts.Pc.TheVariants.{R2, R3, R5, Wr5, Wr6, Y3, Z1, Z2}
 use Rattle.lk_law.specs.RwPhase.{is_counted}
 use Rattle.lk_law.specs.World.{World}
 use Rattle.lk_law.specs.SoundWorld.{rw_own_phase}

@@ -8,10 +8,10 @@ use Rattle.lk_abs.specs.declared.holder.Manner.{Manner}
 use Rattle.lk_abs.specs.declared.names.Kind.TheVariants.{Rw}
 use Rattle.lk_abs.specs.declared.names.Waiter.{Waiter}
 use Rattle.lk_abs.specs.declared.names.LockName.{LockName}
-use Rattle.lk_machine.specs.declared.parts.Frame.{Frame}
-use Rattle.lk_machine.specs.declared.parts.Pc.{Pc}
-use Rattle.lk_machine.specs.Moves.{rw_name, wait_name}
-use Rattle.lk_machine.specs.Row.{Lead}
+use Rattle.lk_rows.specs.declared.parts.Frame.{Frame}
+use Rattle.lk_rows.specs.declared.parts.Pc.{Pc}
+use Rattle.lk_rows.specs.Moves.{rw_name, wait_name}
+use Rattle.lk_rows.specs.Row.{Lead}
 use Rattle.lk_law.specs.Snapshot.{spins}
 use Rattle.lk_law.specs.RwPhase.{RwPhase, biased, asks, is_inner, announces, is_counted}
 use Rattle.lk_law.specs.RwPhase.RwPhase.{Away, Asks, Inside, Frees, Unreads, Unwrites}

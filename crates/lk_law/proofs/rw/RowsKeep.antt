@@ -11,15 +11,15 @@ use Rattle.lk_abs.specs.declared.names.LockName.{LockName}
 use Rattle.lk_abs.specs.declared.events.RwHow.{RwHow}
 use Rattle.lk_abs.specs.declared.events.What.TheVariants.{Miss, RTake, RRelease, WTake, WRelease}
 use Rattle.lk_word.specs.declared.rw_word.RwFields.{RwFields}
-use Rattle.lk_machine.specs.declared.parts.Frame.{Frame}
-use Rattle.lk_machine.specs.declared.parts.Pc.{Pc}
-use Rattle.lk_machine.specs.declared.parts.Pc.TheVariants.{R1, R2, R3, R4, R5, Wr1, Wr2, Wr3, Wr4}
-use Rattle.lk_machine.specs.declared.parts.Pc.TheVariants.{Wr5, Wr6, Y1, Y2, Y3, Y4, Y5, Z1, Z2}
-use Rattle.lk_machine.specs.Moves.{rw_name, wait_name}
-use Rattle.lk_machine.specs.Row.{Effect, Missed, Done, Says, looks, writes, misses}
-use Rattle.lk_machine.specs.rows.Rw.{is_empty, is_open, is_cleared, one_more, one_less}
-use Rattle.lk_machine.specs.rows.Rw.{written_word, rw_lock, admits, takes_written, queues_up}
-use Rattle.lk_machine.specs.rows.Rw.{frees_wait, after_bias}
+use Rattle.lk_rows.specs.declared.parts.Frame.{Frame}
+use Rattle.lk_rows.specs.declared.parts.Pc.{Pc}
+use Rattle.lk_rows.specs.declared.parts.Pc.TheVariants.{R1, R2, R3, R4, R5, Wr1, Wr2, Wr3, Wr4}
+use Rattle.lk_rows.specs.declared.parts.Pc.TheVariants.{Wr5, Wr6, Y1, Y2, Y3, Y4, Y5, Z1, Z2}
+use Rattle.lk_rows.specs.Moves.{rw_name, wait_name}
+use Rattle.lk_rows.specs.Row.{Effect, Missed, Done, Says, looks, writes, misses}
+use Rattle.lk_rows.specs.rows.Rw.{is_empty, is_open, is_cleared, one_more, one_less}
+use Rattle.lk_rows.specs.rows.Rw.{written_word, rw_lock, admits, takes_written, queues_up}
+use Rattle.lk_rows.specs.rows.Rw.{frees_wait, after_bias}
 use Rattle.lk_law.specs.Phase.{Phase, has_lock}
 use Rattle.lk_law.specs.RwPhase.{RwPhase, asks, is_inner, announces, is_counted}
 use Rattle.lk_law.specs.RwPhase.RwPhase.{Asks, Biases, Inside, Joins, Announces, Unreads, Unwrites}

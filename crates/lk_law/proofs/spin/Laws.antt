@@ -11,8 +11,8 @@ use Rattle.lk_abs.specs.declared.events.What.TheVariants.{Take, Release}
 use Rattle.lk_word.specs.declared.spin_word.NodeName.{NodeName}
 use Rattle.lk_word.specs.declared.spin_word.Fields.{Fields}
 use Rattle.lk_word.specs.declared.spin_word.Locked.TheVariants.{Free, Held}
-use Rattle.lk_machine.specs.declared.parts.Node.{Node}
-use Rattle.lk_machine.specs.Machine.{rest_node}
+use Rattle.lk_rows.specs.declared.parts.Node.{Node}
+use Rattle.lk_rows.specs.Machine.{rest_node}
 use Rattle.lk_law.specs.Pv.{at_halt}
 use Rattle.lk_law.proofs.pv.Keep.{pv_keep}
 use Rattle.lk_law.specs.Phase.{Phase, has_node, has_lock, seeks, pends, claims, watches, stakes}

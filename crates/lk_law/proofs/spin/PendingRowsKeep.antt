@@ -7,11 +7,11 @@ use Rattle.lk_abs.specs.declared.events.How.TheVariants as how
 use Rattle.lk_abs.specs.declared.events.What.TheVariants.{Take}
 use Rattle.lk_word.specs.declared.spin_word.Locked.TheVariants.{Free, Held}
 use Rattle.lk_word.specs.declared.spin_word.Fields.{Fields}
-use Rattle.lk_machine.specs.declared.parts.Frame.{Frame}
-use Rattle.lk_machine.specs.declared.parts.Pc.{Pc}
-use Rattle.lk_machine.specs.declared.parts.Pc.TheVariants.{P1, P2, P3, P4, G1}
-use Rattle.lk_machine.specs.Row.{Nothing, Says, Goes, Granted}
-use Rattle.lk_machine.specs.rows.Spin.{is_unlocked}
+use Rattle.lk_rows.specs.declared.parts.Frame.{Frame}
+use Rattle.lk_rows.specs.declared.parts.Pc.{Pc}
+use Rattle.lk_rows.specs.declared.parts.Pc.TheVariants.{P1, P2, P3, P4, G1}
+use Rattle.lk_rows.specs.Row.{Nothing, Says, Goes, Granted}
+use Rattle.lk_rows.specs.rows.Spin.{is_unlocked}
 use Rattle.lk_law.specs.Phase.{has_node, seeks}
 use Rattle.lk_law.specs.Phase.Phase.{Seeks, Undoes, Watches, Claims}
 use Rattle.lk_law.specs.Steps.{put_word, led, lead_on}

@@ -15,13 +15,13 @@ use Rattle.lk_word.specs.declared.spin_word.NodeName.{NodeName}
 use Rattle.lk_word.specs.declared.spin_word.Locked.{Locked}
 use Rattle.lk_word.specs.declared.spin_word.Locked.TheVariants.{Free, Held, Slow}
 use Rattle.lk_word.specs.declared.spin_word.Fields.{Fields}
-use Rattle.lk_machine.specs.declared.parts.Frame.{Frame}
-use Rattle.lk_machine.specs.declared.parts.Pc.{Pc}
-use Rattle.lk_machine.specs.declared.parts.Pc.TheVariants.{F1, T1, T2, U1, V1, V2, P0, P1, G1, G5}
-use Rattle.lk_machine.specs.declared.parts.Pc.TheVariants.{G11}
-use Rattle.lk_machine.specs.Moves.{node_of}
-use Rattle.lk_machine.specs.Row.{Effect, Says, Granted, Freed, Missed, looks, misses}
-use Rattle.lk_machine.specs.rows.Spin.{is_unlocked, is_free, held_word, takes, to_queue, after_fast}
+use Rattle.lk_rows.specs.declared.parts.Frame.{Frame}
+use Rattle.lk_rows.specs.declared.parts.Pc.{Pc}
+use Rattle.lk_rows.specs.declared.parts.Pc.TheVariants.{F1, T1, T2, U1, V1, V2, P0, P1, G1, G5}
+use Rattle.lk_rows.specs.declared.parts.Pc.TheVariants.{G11}
+use Rattle.lk_rows.specs.Moves.{node_of}
+use Rattle.lk_rows.specs.Row.{Effect, Says, Granted, Freed, Missed, looks, misses}
+use Rattle.lk_rows.specs.rows.Spin.{is_unlocked, is_free, held_word, takes, to_queue, after_fast}
 use Rattle.lk_law.specs.Phase.{has_node, seeks, queues}
 use Rattle.lk_law.specs.Phase.Phase.{Seeks, Releases}
 use Rattle.lk_law.specs.Families.{chooses}

@@ -2,13 +2,13 @@
 
 ghost use Rattle.std.specs.Prelude.{◌≡◌, ◌<◌, length};
 ghost use Rattle.lk_word.specs.SpinWord.{IsTailInRange};
-ghost use Rattle.lk_machine.specs.Packed.{layout_of};
-ghost use Rattle.lk_machine.specs.Machine.{HasNode, node_at, rest_node, set_node, set_word, word_at};
+ghost use Rattle.lk_rows.specs.Layouts.{layout_of};
+ghost use Rattle.lk_rows.specs.Machine.{HasNode, node_at, rest_node, set_node, set_word, word_at};
 
 use crate::machine::Machine;
 use crate::machine::rest::rest_node;
-use crate::parts::{Flag, Node, State};
 use lk_abs::LockName;
+use lk_rows::{Flag, Node, State};
 use lk_word::{Fields, Locked, NodeName};
 
 impl Machine {

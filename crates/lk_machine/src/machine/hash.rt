@@ -4,9 +4,9 @@
 ghost use Rattle.std.specs.Prelude.{◌≡◌, ◌<◌, ◌*◌, ◌^◌, true, is_some, length, Some, None};
 ghost use Rattle.lk_word.specs.declared.spin_word.Layout.TheVariants.{Wide};
 ghost use Rattle.lk_word.specs.SpinWord.{IsTailInRange};
-ghost use Rattle.lk_machine.specs.Machine.{entry_at, set_entry, lock_number};
+ghost use Rattle.lk_rows.specs.Machine.{entry_at, set_entry, lock_number};
 ghost use Rattle.lk_machine.specs.Hashed.{node_number, node_named};
-ghost use Rattle.lk_machine.specs.Packed.{layout_of};
+ghost use Rattle.lk_rows.specs.Layouts.{layout_of};
 
 use crate::machine::Machine;
 use lk_abs::LockName;
@@ -40,7 +40,7 @@ fn node_named(number: u32) -> NodeName
 
 impl Machine {
     /// The entry of a lock in the hash: a node, or `None` if the lock is not entered.
-    #[tactic(auto, using(crate::proofs::Hashed::hashed), unfolding(crate::specs::Machine::entry_at))]
+    #[tactic(auto, using(crate::proofs::Hashed::hashed), unfolding(lk_rows::specs::Machine::entry_at))]
     pub fn hashed(&self, lock: LockName) -> Option<NodeName>
         requires { lock.index < length self.now.locks }
         ensures { result ≡ entry_at self.now lock }
@@ -53,7 +53,7 @@ impl Machine {
 
     /// Enters a lock into the hash, with this node (Linux's `pv_hash`). The lock must not be
     /// entered, and the hash must have fewer than four entries for each processor.
-    #[tactic(auto, using(crate::proofs::Hashed::hashed, lk_word::proofs::SpinWordLemmas::in_wide), unfolding(crate::specs::Machine::entry_at, crate::specs::Machine::set_entry))]
+    #[tactic(auto, using(crate::proofs::Hashed::hashed, lk_word::proofs::SpinWordLemmas::in_wide), unfolding(lk_rows::specs::Machine::entry_at, lk_rows::specs::Machine::set_entry))]
     pub fn hash_enter(&mut self, lock: LockName, node: NodeName)
         requires lock { lock.index < length self.old.locks }
         requires node { IsTailInRange (layout_of self.old.setup.format) (Some node) }
@@ -66,7 +66,7 @@ impl Machine {
 
     /// Removes a lock from the hash, and returns its node (Linux's `pv_unhash`). The lock must be
     /// entered.
-    #[tactic(auto, using(crate::proofs::Hashed::hashed), unfolding(crate::specs::Machine::entry_at, crate::specs::Machine::set_entry))]
+    #[tactic(auto, using(crate::proofs::Hashed::hashed), unfolding(lk_rows::specs::Machine::entry_at, lk_rows::specs::Machine::set_entry))]
     pub fn hash_remove(&mut self, lock: LockName) -> NodeName
         requires lock { lock.index < length self.old.locks }
         requires present { is_some (entry_at self.old lock) ≡ true }

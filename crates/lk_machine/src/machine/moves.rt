@@ -1,16 +1,15 @@
 // How the newest frame of a processor moves.
 
 ghost use Rattle.std.specs.Prelude.{◌≡◌, Some, ◌≤◌, ◌<◌, ◌+◌, length, drop, slice_get};
-ghost use Rattle.lk_machine.specs.Machine.{HasTop, depth_at, handlers_at, push, pop, set_top, top_frame};
-ghost use Rattle.lk_machine.specs.Programs.{HasPrograms, handlers_of, program_at, is_release, to_release};
-ghost use Rattle.lk_machine.specs.Moves.{CanMove, first_place, program_of, started, settled, skipped, done, granted, freed, missed, leave, take_wait};
-ghost use Rattle.lk_machine.specs.Acts.{handler_frame};
+ghost use Rattle.lk_rows.specs.Machine.{HasTop, depth_at, handlers_at, push, pop, set_top, top_frame};
+ghost use Rattle.lk_rows.specs.Programs.{HasPrograms, handlers_of, program_at, is_release, to_release};
+ghost use Rattle.lk_rows.specs.Moves.{CanMove, first_place, program_of, started, settled, skipped, done, granted, freed, missed, leave, take_wait};
+ghost use Rattle.lk_rows.specs.Acts.{handler_frame};
 
 use crate::machine::Machine;
 use crate::machine::rest::rest_frame;
-use crate::parts::{Frame, Pc};
-use crate::setup::{Op, Verb};
 use lk_abs::{List, LockName, Mode};
+use lk_rows::{Frame, Op, Pc, Verb};
 
 // The row at which an operation begins.
 fn first_place(mode: Mode, verb: Verb) -> Pc
@@ -266,7 +265,7 @@ impl Machine {
     }
 
     // The frame of the next handler.
-    #[tactic(auto, unfolding(crate::specs::Machine::handlers_at, crate::specs::Machine::cpu_at))]
+    #[tactic(auto, unfolding(lk_rows::specs::Machine::handlers_at, lk_rows::specs::Machine::cpu_at))]
     fn handler_frame(&self, cpu: u32) -> Frame
         requires in_range { cpu < length self.now.cpus }
         requires programs { HasPrograms self.now.setup cpu }
@@ -282,7 +281,7 @@ impl Machine {
     }
 
     // Adds a frame, the newest now, and uses up a handler.
-    #[tactic(auto, unfolding(crate::specs::Machine::push, crate::specs::Machine::set_cpu, crate::specs::Machine::depth_at, crate::specs::Machine::handlers_at, crate::specs::Machine::cpu_at))]
+    #[tactic(auto, unfolding(lk_rows::specs::Machine::push, lk_rows::specs::Machine::set_cpu, lk_rows::specs::Machine::depth_at, lk_rows::specs::Machine::handlers_at, lk_rows::specs::Machine::cpu_at))]
     fn push(&mut self, cpu: u32, frame: Frame)
         requires in_range { cpu < length self.old.cpus }
         requires room { depth_at self.old cpu < 6 }
@@ -298,7 +297,7 @@ impl Machine {
     }
 
     // Removes the newest frame.
-    #[tactic(auto, unfolding(crate::specs::Machine::pop, crate::specs::Machine::set_cpu, crate::specs::Machine::depth_at, crate::specs::Machine::cpu_at))]
+    #[tactic(auto, unfolding(lk_rows::specs::Machine::pop, lk_rows::specs::Machine::set_cpu, lk_rows::specs::Machine::depth_at, lk_rows::specs::Machine::cpu_at))]
     fn pop(&mut self, cpu: u32)
         requires { HasTop self.old cpu }
         ensures { self.new ≡ pop self.old cpu }

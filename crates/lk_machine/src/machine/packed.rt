@@ -3,7 +3,8 @@
 ghost use Rattle.std.specs.Prelude.{◌≡◌};
 ghost use Rattle.lk_word.specs.SpinWord.{IsPackable};
 ghost use Rattle.lk_word.specs.RwWord.{IsPackableRw};
-ghost use Rattle.lk_machine.specs.Packed.{fields_in, layout_of, rw_fields_in, IsPacked, IsPackedRw};
+ghost use Rattle.lk_machine.specs.Packed.{fields_in, rw_fields_in, IsPacked, IsPackedRw};
+ghost use Rattle.lk_rows.specs.Layouts.{layout_of};
 
 use lk_abs::Format;
 use lk_word::{Fields, Layout, RwFields, pack, pack_rw, unpack, unpack_rw};

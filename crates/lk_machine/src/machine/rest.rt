@@ -1,17 +1,16 @@
 // The machine at rest.
 
 ghost use Rattle.std.specs.Prelude.{◌≡◌, ◌<◌, ◌≤◌, ◌*◌, [], ◌∷◌, IfOk, length, replicate, slice_get, vec_capacity};
-ghost use Rattle.lk_machine.specs.Machine.{rest_node, rest_frame, rest_counts};
-ghost use Rattle.lk_machine.specs.Run.{first_frame, rest_cpu, rest_cpus, at_rest};
+ghost use Rattle.lk_rows.specs.Machine.{rest_node, rest_frame, rest_counts};
+ghost use Rattle.lk_rows.specs.Run.{first_frame, rest_cpu, rest_cpus, at_rest};
 
 use crate::machine::moves::started;
 use crate::machine::packed::layout_of;
 use crate::machine::words::Words;
 use crate::machine::{CpuState, MAX_FRAMES, MAX_NODES, Machine};
-use crate::parts::{Counts, Flag, Frame, Node, State, Why};
-use crate::setup::{Op, Setup};
 use lk_abs::{List, LockName, Memory, Mode};
 use lk_hash::LockHash;
+use lk_rows::{Counts, Flag, Frame, Node, Op, Setup, State, Why};
 use std::alloc::Global;
 
 impl Machine {
@@ -73,7 +72,7 @@ fn rest_cpus(alloc: Global, setup: &Setup) -> Result<Vec<CpuState>, Memory>
 }
 
 // A processor whose task stands at the first row of its program, or is finished where it has none.
-#[tactic(auto, unfolding(crate::specs::Programs::program_at))]
+#[tactic(auto, unfolding(lk_rows::specs::Programs::program_at))]
 fn rest_cpu(alloc: Global, setup: &Setup, cpu: usize) -> Result<CpuState, Memory>
     requires { cpu < length setup.now.progs.items }
     ensures { IfOk result (λ state. state ≡ rest_cpu setup.now cpu) }

@@ -1,19 +1,19 @@
 // The frames of a processor, and what its newest one meets and tells.
 
 ghost use Rattle.std.specs.Prelude.{◌≡◌, ◌<◌, ◌-◌, Some, length};
-ghost use Rattle.lk_machine.specs.Machine.{HasTop, top_frame, frame_at, depth_at, word_at, rw_at, set_top};
+ghost use Rattle.lk_rows.specs.Machine.{HasTop, top_frame, frame_at, depth_at, word_at, rw_at, set_top};
 ghost use Rattle.lk_machine.specs.Ready.{IsReady};
 ghost use Rattle.lk_word.specs.RwWord.{IsPackableRw};
 
 use crate::machine::Machine;
-use crate::parts::{Frame, Pc};
 use lk_abs::{Event, LockName, Waiter, What};
+use lk_rows::{Frame, Pc};
 use lk_word::{Fields, RwFields};
 
 impl Machine {
     /// A copy of the newest frame of a processor.
     #[inline]
-    #[tactic(auto, unfolding(crate::specs::Machine::frame_at, crate::specs::Machine::depth_at, crate::specs::Machine::cpu_at))]
+    #[tactic(auto, unfolding(lk_rows::specs::Machine::frame_at, lk_rows::specs::Machine::depth_at, lk_rows::specs::Machine::cpu_at))]
     pub fn frame(&self, cpu: u32) -> Frame
         requires { HasTop self.now cpu }
         ensures { result ≡ top_frame self.now cpu }
@@ -24,7 +24,7 @@ impl Machine {
 
     /// Stores the newest frame of a processor.
     #[inline]
-    #[tactic(auto, unfolding(crate::specs::Machine::set_top, crate::specs::Machine::set_cpu, crate::specs::Machine::depth_at, crate::specs::Machine::cpu_at))]
+    #[tactic(auto, unfolding(lk_rows::specs::Machine::set_top, lk_rows::specs::Machine::set_cpu, lk_rows::specs::Machine::depth_at, lk_rows::specs::Machine::cpu_at))]
     pub fn set_frame(&mut self, cpu: u32, frame: Frame)
         requires { HasTop self.old cpu }
         ensures { self.new ≡ set_top self.old cpu frame }
@@ -36,7 +36,7 @@ impl Machine {
 
     /// Stores the row at which the newest frame of a processor stands.
     #[inline]
-    #[tactic(auto, unfolding(crate::specs::Machine::set_top, crate::specs::Machine::set_cpu, crate::specs::Machine::frame_at, crate::specs::Machine::depth_at, crate::specs::Machine::cpu_at))]
+    #[tactic(auto, unfolding(lk_rows::specs::Machine::set_top, lk_rows::specs::Machine::set_cpu, lk_rows::specs::Machine::frame_at, lk_rows::specs::Machine::depth_at, lk_rows::specs::Machine::cpu_at))]
     pub fn set_place(&mut self, cpu: u32, place: Pc)
         requires { HasTop self.old cpu }
         ensures { self.new
@@ -49,7 +49,7 @@ impl Machine {
 
     /// A copy of the frame of a processor in this context (interrupt nesting level).
     #[inline]
-    #[tactic(auto, unfolding(crate::specs::Machine::frame_at, crate::specs::Machine::depth_at, crate::specs::Machine::cpu_at))]
+    #[tactic(auto, unfolding(lk_rows::specs::Machine::frame_at, lk_rows::specs::Machine::depth_at, lk_rows::specs::Machine::cpu_at))]
     pub fn frame_at(&self, cpu: u32, ctx: u32) -> Frame
         requires cpu { cpu < length self.now.cpus }
         requires ctx { ctx < depth_at self.now cpu }
@@ -61,7 +61,7 @@ impl Machine {
 
     /// The number of frames of a processor, which is 1 with no interrupt.
     #[inline]
-    #[tactic(auto, unfolding(crate::specs::Machine::depth_at, crate::specs::Machine::cpu_at))]
+    #[tactic(auto, unfolding(lk_rows::specs::Machine::depth_at, lk_rows::specs::Machine::cpu_at))]
     pub fn depth(&self, cpu: u32) -> u32
         requires { cpu < length self.now.cpus }
         ensures { result ≡ depth_at self.now cpu }
@@ -73,7 +73,7 @@ impl Machine {
     /// The row at which the newest frame of a processor stands, or `None` if its program has
     /// ended.
     #[inline]
-    #[tactic(auto, unfolding(crate::specs::Machine::frame_at, crate::specs::Machine::depth_at, crate::specs::Machine::cpu_at))]
+    #[tactic(auto, unfolding(lk_rows::specs::Machine::frame_at, lk_rows::specs::Machine::depth_at, lk_rows::specs::Machine::cpu_at))]
     pub fn place(&self, cpu: u32) -> Option<Pc>
         requires { HasTop self.now cpu }
         ensures { result ≡ (top_frame self.now cpu).place }

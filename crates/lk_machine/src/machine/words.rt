@@ -3,7 +3,7 @@
 ghost use Rattle.std.specs.Prelude.{◌≡◌, ◌<◌, All, IfOk, length, map, replicate};
 ghost use Rattle.lk_word.specs.SpinWord.{IsPackable};
 ghost use Rattle.lk_word.specs.RwWord.{IsPackableRw};
-ghost use Rattle.lk_machine.specs.Machine.{rest_lock};
+ghost use Rattle.lk_rows.specs.Machine.{rest_lock};
 ghost use Rattle.lk_machine.specs.Packed.{Words as WordsValue, ArePacked, lock_in, lock_of, word_of, with_word, with_rw};
 
 use crate::machine::packed::{fields_in, rw_fields_in, rw_word_of, word_of};

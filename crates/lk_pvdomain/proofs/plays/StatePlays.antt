@@ -8,16 +8,16 @@ use Rattle.lk_abs.specs.History.{LockHistory}
 use Rattle.lk_abs.specs.declared.names.Waiter.{Waiter}
 use Rattle.lk_abs.specs.declared.names.LockName.{LockName}
 use Rattle.lk_word.specs.declared.spin_word.NodeName.{NodeName}
-use Rattle.lk_machine.specs.declared.parts.State.{State}
-use Rattle.lk_machine.specs.declared.parts.State.TheVariants.{Running, Halted, Hashed}
-use Rattle.lk_machine.specs.declared.parts.Frame.{Frame}
-use Rattle.lk_machine.specs.declared.parts.Pc.{Pc}
-use Rattle.lk_machine.specs.declared.parts.Pc.TheVariants.{W2, W3, W5, W7, E1, E2, E10, K1}
-use Rattle.lk_machine.specs.declared.setup.Verb.{Verb}
-use Rattle.lk_machine.specs.Moves.{node_of}
-use Rattle.lk_machine.specs.Row.{Effect}
-use Rattle.lk_machine.specs.rows.Pv.{is_running, is_halted}
-use Rattle.lk_machine.specs.TopRow.{target}
+use Rattle.lk_rows.specs.declared.parts.State.{State}
+use Rattle.lk_rows.specs.declared.parts.State.TheVariants.{Running, Halted, Hashed}
+use Rattle.lk_rows.specs.declared.parts.Frame.{Frame}
+use Rattle.lk_rows.specs.declared.parts.Pc.{Pc}
+use Rattle.lk_rows.specs.declared.parts.Pc.TheVariants.{W2, W3, W5, W7, E1, E2, E10, K1}
+use Rattle.lk_rows.specs.declared.setup.Verb.{Verb}
+use Rattle.lk_rows.specs.Moves.{node_of}
+use Rattle.lk_rows.specs.Row.{Effect}
+use Rattle.lk_rows.specs.rows.Pv.{is_running, is_halted}
+use Rattle.lk_rows.specs.TopRow.{target}
 use Rattle.lk_law.specs.Agree.{halts}
 use Rattle.lk_law.specs.Leads.{Stated}
 use Rattle.lk_law.specs.Phase.{has_node}

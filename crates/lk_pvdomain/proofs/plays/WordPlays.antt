@@ -13,10 +13,10 @@ use Rattle.lk_word.specs.declared.spin_word.Locked.TheVariants.{Free, Held, Slow
 use Rattle.lk_word.specs.declared.spin_word.Layout.{Layout}
 use Rattle.lk_word.specs.declared.spin_word.Layout.TheVariants.{Narrow, Wide}
 use Rattle.lk_word.specs.SpinWord.{packed, IsPackable, locked_number, tail_number}
-use Rattle.lk_machine.specs.declared.parts.Frame.{Frame}
-use Rattle.lk_machine.specs.declared.parts.Pc.{Pc}
-use Rattle.lk_machine.specs.declared.parts.Pc.TheVariants.{P1, H1, E3, E5, E7, E8, E11, K2, U4}
-use Rattle.lk_machine.specs.declared.setup.Verb.{Verb}
+use Rattle.lk_rows.specs.declared.parts.Frame.{Frame}
+use Rattle.lk_rows.specs.declared.parts.Pc.{Pc}
+use Rattle.lk_rows.specs.declared.parts.Pc.TheVariants.{P1, H1, E3, E5, E7, E8, E11, K2, U4}
+use Rattle.lk_rows.specs.declared.setup.Verb.{Verb}
 use Rattle.atomic_table.specs.Table.{Me, Allows}
 use Rattle.lk_abs.specs.declared.names.LockName.{LockName}
 use Rattle.lk_domain.specs.Keeps.{AllHome, Slot}
@@ -30,10 +30,10 @@ use Rattle.lk_domain.specs.declared.view.View.{View}
 use Rattle.lk_domain.proofs.Acting.{is_first_of, acts_on, begins_on}
 use Rattle.lk_domain.proofs.words.Onward.{asks_on}
 use Rattle.lk_pvdomain.specs.PvPlays.{AtWord}
-use Rattle.lk_machine.specs.Row.{Effect}
-use Rattle.lk_machine.specs.rows.Spin.{is_unlocked}
-use Rattle.lk_machine.specs.rows.Pv.{pv_row}
-use Rattle.lk_machine.specs.TopRow.{target}
+use Rattle.lk_rows.specs.Row.{Effect}
+use Rattle.lk_rows.specs.rows.Spin.{is_unlocked}
+use Rattle.lk_rows.specs.rows.Pv.{pv_row}
+use Rattle.lk_rows.specs.TopRow.{target}
 use Rattle.lk_domain.specs.Calls.{grip_led, Frees}
 use Rattle.lk_domain.proofs.queue.Pending.{pends}
 use Rattle.lk_domain.proofs.words.LockPlays.{MayFree}

@@ -8,15 +8,15 @@ use Rattle.lk_abs.specs.declared.names.Mode.TheVariants.{Virt, Native, Cna, Pv}
 use Rattle.lk_abs.specs.declared.names.Kind.TheVariants.{Spin}
 use Rattle.lk_word.specs.declared.spin_word.NodeName.{NodeName}
 use Rattle.lk_word.specs.declared.spin_word.Fields.{Fields}
-use Rattle.lk_machine.specs.declared.parts.Frame.{Frame}
-use Rattle.lk_machine.specs.declared.parts.Pc.{Pc}
-use Rattle.lk_machine.specs.declared.parts.Pc.TheVariants.{F1, T1, T2, G1, G4, G5, H1, H2, W1, E1}
-use Rattle.lk_machine.specs.declared.setup.Verb.{Verb}
-use Rattle.lk_machine.specs.declared.setup.Verb.TheVariants.{Lock, Try}
-use Rattle.lk_machine.specs.Moves.{first_place}
-use Rattle.lk_machine.specs.Programs.{kind_of}
-use Rattle.lk_machine.specs.rows.Pv.{after_glance}
-use Rattle.lk_machine.specs.rows.Spin.{is_free, is_unlocked}
+use Rattle.lk_rows.specs.declared.parts.Frame.{Frame}
+use Rattle.lk_rows.specs.declared.parts.Pc.{Pc}
+use Rattle.lk_rows.specs.declared.parts.Pc.TheVariants.{F1, T1, T2, G1, G4, G5, H1, H2, W1, E1}
+use Rattle.lk_rows.specs.declared.setup.Verb.{Verb}
+use Rattle.lk_rows.specs.declared.setup.Verb.TheVariants.{Lock, Try}
+use Rattle.lk_rows.specs.Moves.{first_place}
+use Rattle.lk_rows.specs.Programs.{kind_of}
+use Rattle.lk_rows.specs.rows.Pv.{after_glance}
+use Rattle.lk_rows.specs.rows.Spin.{is_free, is_unlocked}
 use Rattle.lk_law.specs.Agree.{halts}
 use Rattle.lk_law.specs.Families.{is_slow}
 use Rattle.lk_law.specs.Leads.{Met, Word, Number, Named}

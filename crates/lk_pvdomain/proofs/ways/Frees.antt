@@ -12,11 +12,11 @@ use Rattle.lk_abs.specs.declared.names.Mode.TheVariants.{Virt, Native, Cna, Pv}
 use Rattle.lk_abs.specs.declared.holder.Manner.TheVariants.{Spins}
 use Rattle.lk_word.specs.declared.spin_word.NodeName.{NodeName}
 use Rattle.lk_word.specs.declared.spin_word.Fields.{Fields}
-use Rattle.lk_machine.specs.declared.parts.Frame.{Frame}
-use Rattle.lk_machine.specs.declared.parts.Pc.TheVariants.{U2, U3, U4, U5}
-use Rattle.lk_machine.specs.declared.setup.Verb.TheVariants.{Try, Unlock}
-use Rattle.lk_machine.specs.Moves.{first_place, node_of}
-use Rattle.lk_machine.specs.rows.Cna.{is_held}
+use Rattle.lk_rows.specs.declared.parts.Frame.{Frame}
+use Rattle.lk_rows.specs.declared.parts.Pc.TheVariants.{U2, U3, U4, U5}
+use Rattle.lk_rows.specs.declared.setup.Verb.TheVariants.{Try, Unlock}
+use Rattle.lk_rows.specs.Moves.{first_place, node_of}
+use Rattle.lk_rows.specs.rows.Cna.{is_held}
 use Rattle.lk_law.specs.Agree.{halts}
 use Rattle.lk_law.specs.Leads.{Word, Named, Marked as MarkedMet}
 use Rattle.lk_law.proofs.common.Puts.{if_cases, if-true, if-false}

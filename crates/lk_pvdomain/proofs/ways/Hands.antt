@@ -6,15 +6,15 @@ use Rattle.std.specs.Prelude.{◌&&◌, not}
 use Rattle.lk_abs.specs.declared.names.LockName.{LockName}
 use Rattle.lk_word.specs.declared.spin_word.NodeName.{NodeName}
 use Rattle.lk_word.specs.declared.spin_word.Fields.{Fields}
-use Rattle.lk_machine.specs.declared.parts.Flag.{Flag}
-use Rattle.lk_machine.specs.declared.parts.Flag.TheVariants.{Unset}
-use Rattle.lk_machine.specs.declared.parts.State.{State}
-use Rattle.lk_machine.specs.declared.parts.State.TheVariants as state
-use Rattle.lk_machine.specs.declared.parts.Frame.{Frame}
-use Rattle.lk_machine.specs.declared.parts.Pc.TheVariants.{E13, E14, E15, K1, K2, K3}
-use Rattle.lk_machine.specs.declared.setup.Verb.{Verb}
-use Rattle.lk_machine.specs.Moves.{is_node, node_of}
-use Rattle.lk_machine.specs.rows.Cna.{is_held, is_last}
+use Rattle.lk_rows.specs.declared.parts.Flag.{Flag}
+use Rattle.lk_rows.specs.declared.parts.Flag.TheVariants.{Unset}
+use Rattle.lk_rows.specs.declared.parts.State.{State}
+use Rattle.lk_rows.specs.declared.parts.State.TheVariants as state
+use Rattle.lk_rows.specs.declared.parts.Frame.{Frame}
+use Rattle.lk_rows.specs.declared.parts.Pc.TheVariants.{E13, E14, E15, K1, K2, K3}
+use Rattle.lk_rows.specs.declared.setup.Verb.{Verb}
+use Rattle.lk_rows.specs.Moves.{is_node, node_of}
+use Rattle.lk_rows.specs.rows.Cna.{is_held, is_last}
 use Rattle.lk_law.specs.Leads.{Word, Stated, Flagged, Named, Linked}
 use Rattle.lk_domain.specs.Calls.{Outlook, Terms, lock_name}
 use Rattle.lk_domain.specs.Keeps.{Slot}

@@ -10,14 +10,14 @@ use Rattle.lk_word.specs.declared.spin_word.Locked.{Locked}
 use Rattle.lk_word.specs.declared.spin_word.Locked.TheVariants.{Free, Held, Slow}
 use Rattle.lk_word.specs.declared.spin_word.Layout.{Layout}
 use Rattle.lk_word.specs.SpinWord.{packed, locked_number}
-use Rattle.lk_machine.specs.declared.parts.State.{State}
-use Rattle.lk_machine.specs.declared.parts.State.TheVariants as state
-use Rattle.lk_machine.specs.declared.parts.Frame.{Frame}
-use Rattle.lk_machine.specs.declared.parts.Pc.{Pc}
-use Rattle.lk_machine.specs.declared.parts.Pc.TheVariants.{E1, E2, E3, E4, E5, E6, E7, E8, E9, E10, E11, E12, E13}
-use Rattle.lk_machine.specs.declared.setup.Verb.{Verb}
-use Rattle.lk_machine.specs.rows.Pv.{is_slow_byte}
-use Rattle.lk_machine.specs.rows.Spin.{is_unlocked}
+use Rattle.lk_rows.specs.declared.parts.State.{State}
+use Rattle.lk_rows.specs.declared.parts.State.TheVariants as state
+use Rattle.lk_rows.specs.declared.parts.Frame.{Frame}
+use Rattle.lk_rows.specs.declared.parts.Pc.{Pc}
+use Rattle.lk_rows.specs.declared.parts.Pc.TheVariants.{E1, E2, E3, E4, E5, E6, E7, E8, E9, E10, E11, E12, E13}
+use Rattle.lk_rows.specs.declared.setup.Verb.{Verb}
+use Rattle.lk_rows.specs.rows.Pv.{is_slow_byte}
+use Rattle.lk_rows.specs.rows.Spin.{is_unlocked}
 use Rattle.lk_law.specs.Leads.{Met, Word, Stated, Marked, Named}
 use Rattle.lk_domain.specs.Calls.{Outlook, Terms, Running as Call, lock_name, Calls}
 use Rattle.lk_domain.specs.Keeps.{Slot}

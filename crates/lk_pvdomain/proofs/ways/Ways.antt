@@ -4,11 +4,11 @@ use Rattle.atomic_table.specs.Table.{Me}
 use Rattle.atomic_table.specs.Seated.{TableId}
 use Rattle.lk_abs.specs.declared.holder.Manner.TheVariants.{Spins}
 use Rattle.lk_word.specs.declared.spin_word.NodeName.{NodeName}
-use Rattle.lk_machine.specs.Acts.{stands_halting, after_halt}
-use Rattle.lk_machine.specs.declared.parts.Frame.{Frame}
-use Rattle.lk_machine.specs.declared.parts.Pc.{Pc}
-use Rattle.lk_machine.specs.declared.setup.Verb.{Verb}
-use Rattle.lk_machine.specs.TopRow.{Halted, target}
+use Rattle.lk_rows.specs.Acts.{stands_halting, after_halt}
+use Rattle.lk_rows.specs.declared.parts.Frame.{Frame}
+use Rattle.lk_rows.specs.declared.parts.Pc.{Pc}
+use Rattle.lk_rows.specs.declared.setup.Verb.{Verb}
+use Rattle.lk_rows.specs.TopRow.{Halted, target}
 use Rattle.lk_law.specs.Leads.{Met, Marked, held_lock}
 use Rattle.lk_domain.specs.Calls.{Outlook, Terms, terms_of, Mark, mark, Running, running, hold, Calls, StandsOn, read_at, sight_of}
 use Rattle.lk_domain.specs.Calls.{row_of, row_on, row_at, after, frames_after, last_after, holds_after, taken_after, halted_after, course}

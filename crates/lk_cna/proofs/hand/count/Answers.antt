@@ -1,4 +1,4 @@
-use Rattle.lk_machine.specs.declared.parts.Pc.TheVariants.{C7}
+use Rattle.lk_rows.specs.declared.parts.Pc.TheVariants.{C7}
 use Rattle.lk_cna.proofs.hand.count.Goals as goal
 
 pub set_runs-requires : goal.set_runs-requires

@@ -1,4 +1,4 @@
-use Rattle.lk_machine.specs.declared.parts.Pc.TheVariants.{C5}
+use Rattle.lk_rows.specs.declared.parts.Pc.TheVariants.{C5}
 use Rattle.lk_cna.proofs.part.cut.Goals as goal
 
 pub set_next-requires : goal.set_next-requires

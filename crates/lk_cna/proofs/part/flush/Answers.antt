@@ -1,4 +1,4 @@
-use Rattle.lk_machine.specs.declared.parts.Pc.TheVariants.{C9}
+use Rattle.lk_rows.specs.declared.parts.Pc.TheVariants.{C9}
 use Rattle.lk_cna.proofs.part.flush.Goals as goal
 
 pub set_next-requires : goal.set_next-requires

@@ -1,9 +1,9 @@
 use Rattle.std.proofs.Common.{ap, sym, subst, Option}
 use Rattle.lk_word.specs.SpinWord.{IsTailInRange}
 use Rattle.lk_word.specs.declared.spin_word.NodeName.{NodeName}
-use Rattle.lk_machine.specs.Packed.{layout_of}
-use Rattle.lk_machine.specs.declared.parts.Frame.{Frame}
-use Rattle.lk_machine.specs.declared.parts.Pc.TheVariants.{C10}
+use Rattle.lk_rows.specs.Layouts.{layout_of}
+use Rattle.lk_rows.specs.declared.parts.Frame.{Frame}
+use Rattle.lk_rows.specs.declared.parts.Pc.TheVariants.{C10}
 use Rattle.lk_cna.proofs.part.promote.Goals as goal
 
 pub set_tail-requires-clause-tail : goal.set_tail-requires-clause-tail

@@ -1,4 +1,4 @@
-use Rattle.lk_machine.specs.declared.parts.Pc.TheVariants.{C6}
+use Rattle.lk_rows.specs.declared.parts.Pc.TheVariants.{C6}
 use Rattle.lk_cna.proofs.part.set_tail.Goals as goal
 
 pub set_second_tail-requires : goal.set_second_tail-requires

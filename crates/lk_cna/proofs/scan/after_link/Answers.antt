@@ -1,5 +1,5 @@
 use Rattle.std.proofs.Common.{sym}
-use Rattle.lk_machine.specs.TopRow.{sight_at}
+use Rattle.lk_rows.specs.TopRow.{sight_at}
 use Rattle.lk_cna.proofs.scan.after_link.Goals as goal
 
 pub returns-in-Some : goal.returns-in-Some

@@ -1,4 +1,4 @@
-use Rattle.lk_machine.specs.declared.parts.Pc.TheVariants.{C3}
+use Rattle.lk_rows.specs.declared.parts.Pc.TheVariants.{C3}
 use Rattle.lk_cna.proofs.scan.find_tail.Goals as goal
 
 pub node-tail-requires : goal.node-tail-requires

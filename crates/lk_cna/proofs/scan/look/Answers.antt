@@ -1,7 +1,7 @@
 use Rattle.std.proofs.Common.{◌≡◌, ap, sym, ◌∙◌}
-use Rattle.lk_machine.specs.Row.{Answer}
-use Rattle.lk_machine.specs.Moves.{node_of}
-use Rattle.lk_machine.specs.Machine.{node_at}
+use Rattle.lk_rows.specs.Row.{Answer}
+use Rattle.lk_rows.specs.Moves.{node_of}
+use Rattle.lk_rows.specs.Machine.{node_at}
 use Rattle.lk_cna.proofs.Looks.{row_C1}
 use Rattle.lk_cna.proofs.scan.look.Goals as goal
 

@@ -1,8 +1,8 @@
 use Rattle.std.proofs.Common.{◌≡◌, ap, sym, ◌∙◌}
-use Rattle.lk_machine.specs.declared.parts.Pc.TheVariants.{C2}
-use Rattle.lk_machine.specs.Row.{Answer}
-use Rattle.lk_machine.specs.Moves.{node_of}
-use Rattle.lk_machine.specs.Machine.{node_at}
+use Rattle.lk_rows.specs.declared.parts.Pc.TheVariants.{C2}
+use Rattle.lk_rows.specs.Row.{Answer}
+use Rattle.lk_rows.specs.Moves.{node_of}
+use Rattle.lk_rows.specs.Machine.{node_at}
 use Rattle.lk_cna.proofs.Looks.{row_C2}
 use Rattle.lk_cna.proofs.scan.pass_over.Goals as goal
 

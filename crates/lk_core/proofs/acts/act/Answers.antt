@@ -1,6 +1,6 @@
 use Rattle.std.proofs.Common.{ap, sym, ◌∙◌}
 use Rattle.lk_abs.specs.declared.events.Act.TheVariants as act
-use Rattle.lk_machine.specs.Row.{Answer}
+use Rattle.lk_rows.specs.Row.{Answer}
 use Rattle.lk_core.proofs.ActDone.{act_done, preempt_is, resume_is}
 use Rattle.lk_core.proofs.acts.act.Goals as goal
 

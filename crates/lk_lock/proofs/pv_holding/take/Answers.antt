@@ -1,5 +1,5 @@
 use Rattle.std.proofs.Common.{refl}
-use Rattle.lk_machine.specs.declared.setup.Verb.TheVariants.{Lock}
+use Rattle.lk_rows.specs.declared.setup.Verb.TheVariants.{Lock}
 use Rattle.lk_lock.proofs.PvSteps.{holding, locked}
 use Rattle.lk_lock.proofs.pv_holding.take.Goals as goal
 

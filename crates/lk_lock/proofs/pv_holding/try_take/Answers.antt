@@ -1,6 +1,6 @@
 use Rattle.std.proofs.Common.{refl, inl, inr}
 use Rattle.std.proofs.lemmas.Bool.{cases_Bool}
-use Rattle.lk_machine.specs.declared.setup.Verb.TheVariants.{Try}
+use Rattle.lk_rows.specs.declared.setup.Verb.TheVariants.{Try}
 use Rattle.lk_lock.proofs.PvSteps.{holding, locked, missed_before, passed_by}
 use Rattle.lk_lock.proofs.pv_holding.try_take.Goals as goal
 

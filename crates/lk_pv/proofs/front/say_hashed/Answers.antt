@@ -1,4 +1,4 @@
-use Rattle.lk_machine.specs.declared.parts.Pc.TheVariants.{E10}
+use Rattle.lk_rows.specs.declared.parts.Pc.TheVariants.{E10}
 use Rattle.lk_pv.proofs.front.say_hashed.Goals as goal
 
 pub set_state-requires : goal.set_state-requires

@@ -1,4 +1,4 @@
-use Rattle.lk_machine.specs.declared.parts.Pc.TheVariants.{E2}
+use Rattle.lk_rows.specs.declared.parts.Pc.TheVariants.{E2}
 use Rattle.lk_pv.proofs.front.say_running.Goals as goal
 
 pub set_state-requires : goal.set_state-requires

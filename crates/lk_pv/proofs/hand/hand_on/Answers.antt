@@ -1,4 +1,4 @@
-use Rattle.lk_machine.specs.declared.parts.Pc.TheVariants.{E15}
+use Rattle.lk_rows.specs.declared.parts.Pc.TheVariants.{E15}
 use Rattle.lk_pv.proofs.hand.hand_on.Goals as goal
 
 pub set_flag-requires : goal.set_flag-requires

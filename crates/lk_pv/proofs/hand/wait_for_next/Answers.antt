@@ -1,4 +1,4 @@
-use Rattle.lk_machine.specs.declared.parts.Pc.TheVariants.{E14}
+use Rattle.lk_rows.specs.declared.parts.Pc.TheVariants.{E14}
 use Rattle.lk_pv.proofs.hand.wait_for_next.Goals as goal
 
 pub node-requires : goal.node-requires

@@ -1,4 +1,4 @@
-use Rattle.lk_machine.specs.declared.parts.Pc.TheVariants.{W4}
+use Rattle.lk_rows.specs.declared.parts.Pc.TheVariants.{W4}
 use Rattle.lk_pv.proofs.wait.look_once_more.Goals as goal
 
 pub node-requires : goal.node-requires

@@ -1,4 +1,4 @@
-use Rattle.lk_machine.specs.declared.parts.Pc.TheVariants.{W3}
+use Rattle.lk_rows.specs.declared.parts.Pc.TheVariants.{W3}
 use Rattle.lk_pv.proofs.wait.say_halted.Goals as goal
 
 pub set_state-requires : goal.set_state-requires

@@ -1,4 +1,4 @@
-use Rattle.lk_machine.specs.declared.parts.Pc.TheVariants.{W7}
+use Rattle.lk_rows.specs.declared.parts.Pc.TheVariants.{W7}
 use Rattle.lk_pv.proofs.wait.say_running.Goals as goal
 
 pub node-requires : goal.node-requires

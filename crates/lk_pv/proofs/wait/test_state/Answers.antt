@@ -1,4 +1,4 @@
-use Rattle.lk_machine.specs.declared.parts.Pc.TheVariants.{W5}
+use Rattle.lk_rows.specs.declared.parts.Pc.TheVariants.{W5}
 use Rattle.lk_pv.proofs.wait.test_state.Goals as goal
 
 pub node-state-requires : goal.node-state-requires

@@ -1,4 +1,4 @@
-use Rattle.lk_machine.specs.declared.parts.Pc.TheVariants.{W2}
+use Rattle.lk_rows.specs.declared.parts.Pc.TheVariants.{W2}
 use Rattle.lk_pv.proofs.wait.watch.Goals as goal
 
 pub node-requires : goal.node-requires

@@ -1,7 +1,7 @@
 use Rattle.std.proofs.Common.{refl, ap, List}
 use Rattle.lk_domain.specs.Calls.{Running, waits_in}
 use Rattle.lk_domain.specs.Rows.{is_look, is_take}
-use Rattle.lk_machine.specs.declared.setup.Verb.TheVariants.{Try}
+use Rattle.lk_rows.specs.declared.setup.Verb.TheVariants.{Try}
 use Rattle.lk_pvdomain.proofs.ways.Ways.{numbered}
 use Rattle.lk_pvdomain.proofs.ways.Leads.{acts}
 use Rattle.lk_pvdomain.proofs.ways.Arrives.{first_acts, is_spin, t1_sees, t1_misses, t2_takes, t2_misses}

@@ -1,5 +1,5 @@
 use Rattle.std.proofs.Common.{refl}
-use Rattle.lk_machine.specs.declared.setup.Verb.TheVariants.{Lock}
+use Rattle.lk_rows.specs.declared.setup.Verb.TheVariants.{Lock}
 use Rattle.lk_pvdomain.specs.PvCalls.{own_node}
 use Rattle.lk_pvdomain.specs.PvPaths.{first_of}
 use Rattle.lk_pvdomain.proofs.ways.Kept.{rests_of, kept_cpu, kept_first, kept_taken}

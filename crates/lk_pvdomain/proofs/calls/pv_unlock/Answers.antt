@@ -1,6 +1,6 @@
 use Rattle.std.proofs.Common.{◌≡◌, ◌<◌, ◌∙◌, ℕ, inl, true, false, None, refl, ap, arith}
 use Rattle.atomic_table.specs.declared.shared.Seat.{Seat}
-use Rattle.lk_machine.specs.declared.setup.Verb.TheVariants.{Unlock}
+use Rattle.lk_rows.specs.declared.setup.Verb.TheVariants.{Unlock}
 use Rattle.lk_law.specs.Agree.{halts}
 use Rattle.lk_domain.specs.Calls.{Frees, holds_in, lock_name}
 use Rattle.lk_domain.specs.Keeps.{Slot}

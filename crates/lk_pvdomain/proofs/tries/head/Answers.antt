@@ -1,7 +1,7 @@
 use Rattle.std.proofs.lemmas.Bool.{eqb-false}
 use Rattle.std.proofs.Common.{inr, ◌∙◌, sym, subst, arith, eqb-true}
 use Rattle.atomic_table.specs.Table.{Me}
-use Rattle.lk_machine.specs.declared.setup.Verb.TheVariants.{Lock}
+use Rattle.lk_rows.specs.declared.setup.Verb.TheVariants.{Lock}
 use Rattle.lk_domain.specs.Keeps.{Slot}
 use Rattle.lk_domain.specs.Plays.{Acts, MadeBy}
 use Rattle.lk_domain.specs.Views.{IsNumbered}

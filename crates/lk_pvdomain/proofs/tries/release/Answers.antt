@@ -1,5 +1,5 @@
 use Rattle.std.proofs.Common.{◌≡◌, ◌⊎◌, inl, inr, ◌∙◌, true, subst, sym}
-use Rattle.lk_machine.specs.declared.setup.Verb.TheVariants.{Unlock}
+use Rattle.lk_rows.specs.declared.setup.Verb.TheVariants.{Unlock}
 use Rattle.lk_domain.specs.Plays.{MadeBy}
 use Rattle.lk_pvdomain.specs.PvPlays.{release_fails}
 use Rattle.lk_pvdomain.proofs.Fails.{tried, release_failed, release_again}

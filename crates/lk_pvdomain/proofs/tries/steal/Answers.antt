@@ -1,5 +1,5 @@
 use Rattle.std.proofs.Common.{◌≡◌, ◌⊎◌, inl, inr, ◌∙◌, true, subst, sym}
-use Rattle.lk_machine.specs.declared.setup.Verb.TheVariants.{Lock}
+use Rattle.lk_rows.specs.declared.setup.Verb.TheVariants.{Lock}
 use Rattle.lk_domain.specs.Plays.{MadeBy}
 use Rattle.lk_pvdomain.specs.PvPlays.{steal_fails}
 use Rattle.lk_pvdomain.proofs.Fails.{tried, steal_failed, steal_again}

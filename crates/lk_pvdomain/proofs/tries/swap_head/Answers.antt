@@ -1,6 +1,6 @@
 use Rattle.std.proofs.lemmas.Bool.{eqb-false}
 use Rattle.std.proofs.Common.{◌≡◌, ◌⊎◌, inl, inr, ◌∙◌, true, subst, sym, eqb-true}
-use Rattle.lk_machine.specs.declared.setup.Verb.TheVariants.{Lock}
+use Rattle.lk_rows.specs.declared.setup.Verb.TheVariants.{Lock}
 use Rattle.lk_domain.specs.Plays.{MadeBy}
 use Rattle.lk_pvdomain.specs.PvPlays.{head_fails}
 use Rattle.lk_pvdomain.proofs.Fails.{tried, head_failed, head_again}

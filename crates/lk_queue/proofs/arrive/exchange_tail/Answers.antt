@@ -1,10 +1,10 @@
 use Rattle.std.proofs.Common.{ap, sym, subst, Option}
 use Rattle.lk_word.specs.SpinWord.{IsTailInRange}
 use Rattle.lk_word.specs.declared.spin_word.NodeName.{NodeName}
-use Rattle.lk_machine.specs.Packed.{layout_of}
-use Rattle.lk_machine.specs.declared.parts.Frame.{Frame}
-use Rattle.lk_machine.specs.declared.parts.Pc.TheVariants.{G4}
-use Rattle.lk_machine.specs.Machine.{top_frame, word_at, set_word}
+use Rattle.lk_rows.specs.Layouts.{layout_of}
+use Rattle.lk_rows.specs.declared.parts.Frame.{Frame}
+use Rattle.lk_rows.specs.declared.parts.Pc.TheVariants.{G4}
+use Rattle.lk_rows.specs.Machine.{top_frame, word_at, set_word}
 use Rattle.lk_queue.proofs.Leads.{arrived-is}
 use Rattle.lk_queue.proofs.arrive.exchange_tail.Goals as goal
 

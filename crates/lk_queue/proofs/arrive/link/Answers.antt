@@ -1,4 +1,4 @@
-use Rattle.lk_machine.specs.declared.parts.Pc.TheVariants.{G5}
+use Rattle.lk_rows.specs.declared.parts.Pc.TheVariants.{G5}
 use Rattle.lk_queue.proofs.arrive.link.Goals as goal
 
 pub set_next-requires : goal.set_next-requires

@@ -1,4 +1,4 @@
-use Rattle.lk_machine.specs.declared.parts.Pc.TheVariants.{G6}
+use Rattle.lk_rows.specs.declared.parts.Pc.TheVariants.{G6}
 use Rattle.lk_queue.proofs.arrive.wait.Goals as goal
 
 pub node-requires : goal.node-requires

@@ -1,4 +1,4 @@
-use Rattle.lk_machine.specs.declared.parts.Pc.TheVariants.{G11}
+use Rattle.lk_rows.specs.declared.parts.Pc.TheVariants.{G11}
 use Rattle.lk_queue.proofs.front.hand_on.Goals as goal
 
 pub set_flag-requires : goal.set_flag-requires

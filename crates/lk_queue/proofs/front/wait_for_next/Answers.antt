@@ -1,4 +1,4 @@
-use Rattle.lk_machine.specs.declared.parts.Pc.TheVariants.{G10}
+use Rattle.lk_rows.specs.declared.parts.Pc.TheVariants.{G10}
 use Rattle.lk_queue.proofs.front.wait_for_next.Goals as goal
 
 pub node-requires : goal.node-requires

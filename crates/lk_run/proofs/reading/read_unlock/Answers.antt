@@ -1,5 +1,5 @@
 use Rattle.std.proofs.Common.{refl}
-use Rattle.lk_machine.specs.declared.setup.Verb.TheVariants.{RUnlock}
+use Rattle.lk_rows.specs.declared.setup.Verb.TheVariants.{RUnlock}
 use Rattle.lk_domain.specs.RwRows.{quits_by}
 use Rattle.lk_run.proofs.RwTries as try
 use Rattle.lk_run.proofs.reading.read_unlock.Goals as goal

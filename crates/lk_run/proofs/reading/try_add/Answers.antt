@@ -1,7 +1,7 @@
 use Rattle.std.proofs.Common.{refl, sym, ◌∙◌}
 use Rattle.lk_abs.specs.declared.holder.Manner.TheVariants.{Reads}
-use Rattle.lk_machine.specs.declared.parts.Pc.TheVariants.{Y2, Y3}
-use Rattle.lk_machine.specs.declared.setup.Verb.TheVariants.{TryRead}
+use Rattle.lk_rows.specs.declared.parts.Pc.TheVariants.{Y2, Y3}
+use Rattle.lk_rows.specs.declared.setup.Verb.TheVariants.{TryRead}
 use Rattle.lk_domain.specs.Calls.{waits_in}
 use Rattle.lk_domain.specs.RwRows.{joins_at}
 use Rattle.lk_domain.specs.Seats.{calls_of}

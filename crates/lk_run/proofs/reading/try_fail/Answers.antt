@@ -1,6 +1,6 @@
 use Rattle.std.proofs.Common.{refl}
-use Rattle.lk_machine.specs.declared.parts.Pc.TheVariants.{Y3}
-use Rattle.lk_machine.specs.declared.setup.Verb.TheVariants.{TryRead}
+use Rattle.lk_rows.specs.declared.parts.Pc.TheVariants.{Y3}
+use Rattle.lk_rows.specs.declared.setup.Verb.TheVariants.{TryRead}
 use Rattle.lk_domain.specs.RwRows.{quits_by}
 use Rattle.lk_run.proofs.RwRows as row
 use Rattle.lk_run.proofs.RwTries as try

@@ -1,9 +1,9 @@
 use Rattle.std.proofs.Common.{refl, sym, subst}
 use Rattle.lk_domain.specs.Paths.{Any}
 use Rattle.lk_run.specs.Phases.{Waits, starting}
-use Rattle.lk_machine.specs.declared.setup.Verb.TheVariants.{Lock}
+use Rattle.lk_rows.specs.declared.setup.Verb.TheVariants.{Lock}
 use Rattle.lk_law.specs.Leads.{Word}
-use Rattle.lk_machine.specs.rows.Spin.{after_fast}
+use Rattle.lk_rows.specs.rows.Spin.{after_fast}
 use Rattle.lk_domain.specs.Rows.{takes_by}
 use Rattle.lk_domain.specs.Seats.{view_of}
 use Rattle.lk_domain.proofs.Ways as seat

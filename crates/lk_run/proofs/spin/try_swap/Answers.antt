@@ -1,7 +1,7 @@
 use Rattle.std.specs.Prelude.{false}
 use Rattle.std.proofs.Common.{refl}
-use Rattle.lk_machine.specs.declared.parts.Pc.TheVariants.{T2}
-use Rattle.lk_machine.specs.declared.setup.Verb.TheVariants.{Try}
+use Rattle.lk_rows.specs.declared.parts.Pc.TheVariants.{T2}
+use Rattle.lk_rows.specs.declared.setup.Verb.TheVariants.{Try}
 use Rattle.lk_domain.specs.Rows.{takes_by}
 use Rattle.lk_domain.specs.Seats.{view_of}
 use Rattle.lk_domain.proofs.Ways as way

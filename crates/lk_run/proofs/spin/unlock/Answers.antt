@@ -1,6 +1,6 @@
 use Rattle.std.proofs.Common.{refl}
 use Rattle.lk_domain.specs.Rows.{frees_by}
-use Rattle.lk_machine.specs.declared.setup.Verb.TheVariants.{Unlock}
+use Rattle.lk_rows.specs.declared.setup.Verb.TheVariants.{Unlock}
 use Rattle.std.specs.Prelude.{false}
 use Rattle.lk_domain.specs.Seats.{view_of}
 use Rattle.lk_domain.proofs.Ways as way

@@ -1,7 +1,7 @@
 use Rattle.std.proofs.Common.{ap, refl}
 use Rattle.lk_abs.specs.declared.holder.Manner.TheVariants.{Writes}
-use Rattle.lk_machine.specs.declared.parts.Pc.TheVariants.{Wr1, Wr2}
-use Rattle.lk_machine.specs.declared.setup.Verb.TheVariants.{Write}
+use Rattle.lk_rows.specs.declared.parts.Pc.TheVariants.{Wr1, Wr2}
+use Rattle.lk_rows.specs.declared.setup.Verb.TheVariants.{Write}
 use Rattle.lk_domain.specs.Calls.{waits_in}
 use Rattle.lk_domain.specs.RwRows.{seizes_at}
 use Rattle.lk_domain.specs.Seats.{calls_of}

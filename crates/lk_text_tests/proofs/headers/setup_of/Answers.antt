@@ -1,5 +1,5 @@
 use Rattle.std.proofs.Common.{sym, subst, ◌∙◌}
-use Rattle.lk_machine.specs.Programs.{IsLawfulSetup}
+use Rattle.lk_rows.specs.Programs.{IsLawfulSetup}
 use Rattle.lk_forms.specs.Reader.{reading}
 use Rattle.lk_text_tests.proofs.SaidLines.{more_said, goes_on, said_lawful}
 use Rattle.lk_text_tests.proofs.headers.setup_of.Goals as goal

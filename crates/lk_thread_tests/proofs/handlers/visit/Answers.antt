@@ -1,5 +1,5 @@
 use Rattle.lk_run.proofs.Nested.{kept, passed}
-use Rattle.lk_machine.specs.declared.setup.Verb.TheVariants.{Lock}
+use Rattle.lk_rows.specs.declared.setup.Verb.TheVariants.{Lock}
 use Rattle.lk_domain.specs.Calls.{terms_of}
 use Rattle.lk_domain.specs.Seats.{calls_of}
 use Rattle.lk_thread_tests.proofs.Homes.{fresh_home}

@@ -1,5 +1,5 @@
 use Rattle.std.proofs.Common.{refl}
-use Rattle.lk_machine.specs.declared.setup.Verb.TheVariants.{Lock}
+use Rattle.lk_rows.specs.declared.setup.Verb.TheVariants.{Lock}
 use Rattle.lk_thread_tests.proofs.Halted.{has}
 use Rattle.lk_thread_tests.proofs.pv_calls.take.Goals as goal
 

@@ -10,7 +10,7 @@ use Rattle.lk_domain.specs.Uses.{uses_by, goes_on}
 use Rattle.lk_domain.specs.declared.locks.moves.WordUse.{WordUse}
 use Rattle.lk_domain.specs.declared.locks.moves.WordUse.TheVariants.{Looks, Takes, Frees, Pends, Clears, Claims, Stakes}
 use Rattle.lk_domain.specs.declared.view.View.{View}
-use Rattle.lk_machine.specs.declared.setup.Verb.{Verb}
+use Rattle.lk_rows.specs.declared.setup.Verb.{Verb}
 use Rattle.std.proofs.Common.{arith, eqb, ◌≡◌, true, false, sym, ◌∙◌, ◌+◌, ◌-◌, ◌^◌, ◌%◌, subst}
 use Rattle.std.specs.Int.Bits.{bit_or}
 use prog.Atomic.{either}

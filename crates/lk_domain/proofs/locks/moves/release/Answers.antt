@@ -1,7 +1,7 @@
 use Rattle.std.proofs.Common.{refl, arith, ◌+◌, ◌-◌, ◌%◌, ◌^◌}
 use mathlib.Core.Option.{none}
 use Rattle.atomic_table.specs.Table.{step}
-use Rattle.lk_machine.specs.declared.setup.Verb.TheVariants.{Unlock}
+use Rattle.lk_rows.specs.declared.setup.Verb.TheVariants.{Unlock}
 use Rattle.lk_domain.specs.Rows.{is_free}
 use Rattle.lk_domain.proofs.words.LockPlays.{asks}
 use Rattle.lk_domain.proofs.words.Numbers.{releases, free_on}

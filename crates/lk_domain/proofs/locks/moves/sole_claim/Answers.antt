@@ -2,7 +2,7 @@ use Rattle.std.proofs.Common.{arith, ap, ◌∙◌, eqb, ℕ}
 use prog.Atomic.{either}
 use Rattle.lk_domain.specs.Plans.{layout_in}
 use Rattle.lk_word.specs.SpinWord.{packed}
-use Rattle.lk_machine.specs.Moves.{node_of}
+use Rattle.lk_rows.specs.Moves.{node_of}
 use Rattle.lk_domain.specs.Rows.{soles_by}
 use Rattle.lk_domain.proofs.turns.Courses.{sole_kind}
 use Rattle.lk_domain.proofs.words.Locks.{word_below}

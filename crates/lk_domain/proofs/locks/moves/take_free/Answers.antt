@@ -2,7 +2,7 @@ use Rattle.std.proofs.Common.{refl, arith, eqb}
 use mathlib.Core.Option.{none}
 use prog.Atomic.{either}
 use Rattle.atomic_table.specs.Table.{step}
-use Rattle.lk_machine.specs.declared.setup.Verb.TheVariants.{Lock}
+use Rattle.lk_rows.specs.declared.setup.Verb.TheVariants.{Lock}
 use Rattle.lk_domain.specs.Rows.{is_take}
 use Rattle.lk_domain.proofs.words.LockPlays.{asks}
 use Rattle.lk_domain.proofs.words.Numbers.{takes, take_on, take_frees}

@@ -1,5 +1,5 @@
 use Rattle.std.proofs.Common.{subst, arith, ℕ}
-use Rattle.lk_machine.specs.declared.parts.Pc.TheVariants.{G1}
+use Rattle.lk_rows.specs.declared.parts.Pc.TheVariants.{G1}
 use Rattle.lk_law.specs.Leads.{Number}
 use Rattle.lk_domain.specs.Calls.{running, slows}
 use Rattle.lk_domain.specs.Marked.{Steps}

@@ -1,6 +1,6 @@
 use Rattle.std.proofs.Common.{subst, ℕ, false}
 use Rattle.std.specs.Prelude.{not}
-use Rattle.lk_machine.specs.declared.parts.Flag.TheVariants.{Unset}
+use Rattle.lk_rows.specs.declared.parts.Flag.TheVariants.{Unset}
 use Rattle.lk_law.specs.Leads.{Flagged}
 use Rattle.lk_domain.specs.Marked.{Steps}
 use Rattle.lk_domain.proofs.turns.Carried as row

@@ -2,7 +2,7 @@ use Rattle.std.proofs.Common.{arith, sym, ap, ◌∙◌, Some}
 use Rattle.lk_word.specs.SpinWord.{tail_number}
 use Rattle.lk_domain.specs.Plans.{layout_in}
 use Rattle.lk_domain.specs.declared.plan.Plan.{Plan}
-use Rattle.lk_machine.specs.Moves.{node_of}
+use Rattle.lk_rows.specs.Moves.{node_of}
 use Rattle.lk_domain.proofs.turns.Carried as row
 use Rattle.lk_domain.proofs.queue.Pending.{sole_met}
 use Rattle.lk_domain.proofs.turns.Stepped as stepped

@@ -7,7 +7,7 @@ use Rattle.lk_domain.specs.RwUses.{frees_by_use, rw_uses_by}
 use Rattle.lk_domain.specs.declared.locks.rw_moves.RwUse.{RwUse}
 use Rattle.lk_domain.specs.declared.locks.rw_moves.RwUse.TheVariants.{Watches, Joins, Quits, Seizes, Awaits, Follows, Leaves}
 use Rattle.lk_domain.specs.declared.view.View.{View}
-use Rattle.lk_machine.specs.declared.setup.Verb.{Verb}
+use Rattle.lk_rows.specs.declared.setup.Verb.{Verb}
 use Rattle.std.proofs.Common.{refl, arith, eqb, ◌+◌, ◌%◌, ◌^◌, ◌-◌, subst, ◌≡◌, true, ap, sym}
 use Rattle.std.specs.Int.Bits.{bit_or}
 use Rattle.std.specs.Prelude.{ℕ}

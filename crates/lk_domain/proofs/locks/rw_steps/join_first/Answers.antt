@@ -1,7 +1,7 @@
 use Rattle.std.proofs.Common.{◌≡◌, ℕ, Bool, false, arith, sym, ap, subst, ◌<◌, ◌∙◌}
 use Rattle.std.specs.Prelude.{not}
-use Rattle.lk_machine.specs.declared.setup.Verb.TheVariants.{Read}
-use Rattle.lk_machine.specs.declared.setup.Verb.{Verb}
+use Rattle.lk_rows.specs.declared.setup.Verb.TheVariants.{Read}
+use Rattle.lk_rows.specs.declared.setup.Verb.{Verb}
 use Rattle.lk_domain.specs.Calls.{waits_in}
 use Rattle.lk_domain.specs.RwPlays.{ActsFor}
 use Rattle.lk_domain.specs.RwRows.{joins_at, joins_by}

@@ -1,6 +1,6 @@
 use Rattle.std.proofs.Common.{◌≡◌, ℕ, Bool, false, arith, refl, sym, subst, ◌<◌, ◌∙◌}
-use Rattle.lk_machine.specs.declared.setup.Verb.TheVariants.{Write}
-use Rattle.lk_machine.specs.declared.setup.Verb.{Verb}
+use Rattle.lk_rows.specs.declared.setup.Verb.TheVariants.{Write}
+use Rattle.lk_rows.specs.declared.setup.Verb.{Verb}
 use Rattle.lk_domain.specs.Calls.{waits_in}
 use Rattle.lk_domain.specs.RwPlays.{ActsFor}
 use Rattle.lk_domain.specs.RwRows.{seizes_at, seizes_by}

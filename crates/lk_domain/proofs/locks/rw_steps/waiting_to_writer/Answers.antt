@@ -1,5 +1,5 @@
 use Rattle.std.proofs.Common.{Bool, true, false, sym, subst}
-use Rattle.lk_machine.specs.declared.setup.Verb.TheVariants.{Write}
+use Rattle.lk_rows.specs.declared.setup.Verb.TheVariants.{Write}
 use Rattle.lk_domain.specs.Marked.{Steps}
 use Rattle.lk_domain.specs.RwRows.{follows_by}
 use Rattle.lk_domain.proofs.rw.Stepped as stepped

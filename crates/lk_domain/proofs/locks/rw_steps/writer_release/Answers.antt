@@ -1,5 +1,5 @@
 use Rattle.std.proofs.Common.{ap, arith, ◌<◌, ◌∙◌}
-use Rattle.lk_machine.specs.declared.setup.Verb.TheVariants.{WUnlock}
+use Rattle.lk_rows.specs.declared.setup.Verb.TheVariants.{WUnlock}
 use Rattle.lk_domain.specs.Calls.{are_calls}
 use Rattle.lk_domain.specs.RwRows.{leaves_by}
 use Rattle.lk_domain.proofs.turns.Noted.{freed_noted}

@@ -1,5 +1,5 @@
 use Rattle.std.proofs.Common.{ap, arith, ◌<◌, ◌∙◌}
-use Rattle.lk_machine.specs.declared.setup.Verb.TheVariants.{Unlock}
+use Rattle.lk_rows.specs.declared.setup.Verb.TheVariants.{Unlock}
 use Rattle.lk_law.specs.Agree.{halts}
 use Rattle.lk_domain.specs.Calls.{are_calls}
 use Rattle.lk_domain.specs.declared.plan.Plan.{Plan}

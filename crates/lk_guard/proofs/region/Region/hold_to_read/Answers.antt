@@ -1,7 +1,7 @@
 use Rattle.std.proofs.Common.{sym, ◌∙◌, subst}
 use Rattle.lk_abs.specs.declared.holder.Manner.TheVariants.{Reads}
 use Rattle.lk_abs.specs.declared.names.Kind.{Kind}
-use Rattle.lk_machine.specs.declared.setup.Verb.TheVariants.{Read}
+use Rattle.lk_rows.specs.declared.setup.Verb.TheVariants.{Read}
 use Rattle.lk_guard.specs.Guards.{guard_in, reads_as, reads_by}
 use Rattle.lk_guard.specs.Holding.{HasBegun}
 use Rattle.lk_guard.proofs.Begins.{lock_begins, entry_begins}

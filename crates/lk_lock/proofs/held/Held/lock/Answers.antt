@@ -1,5 +1,5 @@
 use Rattle.lk_domain.specs.Calls.{terms_of}
-use Rattle.lk_machine.specs.declared.setup.Verb.TheVariants.{Lock}
+use Rattle.lk_rows.specs.declared.setup.Verb.TheVariants.{Lock}
 use Rattle.lk_lock.proofs.Steps.{by_lock}
 use Rattle.lk_lock.proofs.held.Held.lock.Goals as goal
 

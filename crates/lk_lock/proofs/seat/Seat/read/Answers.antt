@@ -3,8 +3,8 @@ use Rattle.lk_abs.specs.declared.holder.Manner.TheVariants.{Reads}
 use Rattle.lk_domain.specs.Calls.{terms_of}
 use Rattle.lk_domain.specs.Seats.{calls_of}
 use Rattle.lk_domain.specs.Who.{Who}
-use Rattle.lk_machine.specs.declared.parts.Pc.TheVariants.{Z1}
-use Rattle.lk_machine.specs.declared.setup.Verb.TheVariants.{Read}
+use Rattle.lk_rows.specs.declared.parts.Pc.TheVariants.{Z1}
+use Rattle.lk_rows.specs.declared.setup.Verb.TheVariants.{Read}
 use Rattle.lk_lock.proofs.Steps.{been_in, found_home, still_holding}
 use Rattle.lk_lock.proofs.seat.Seat.read.Goals as goal
 

@@ -3,7 +3,7 @@ use Rattle.lk_abs.specs.declared.holder.Manner.TheVariants.{Spins}
 use Rattle.lk_domain.specs.Calls.{terms_of}
 use Rattle.lk_domain.specs.Paths.{HasTaken}
 use Rattle.lk_domain.specs.Seats.{calls_of}
-use Rattle.lk_machine.specs.declared.setup.Verb.TheVariants.{Lock}
+use Rattle.lk_rows.specs.declared.setup.Verb.TheVariants.{Lock}
 use Rattle.lk_lock.proofs.Steps.{at_home, by_lock, has_turned, still_holding}
 use Rattle.lk_lock.proofs.seat.Seat.with.Goals as goal
 

@@ -2,8 +2,8 @@ use Rattle.std.proofs.Common.{refl}
 use Rattle.lk_abs.specs.declared.holder.Manner.TheVariants.{Writes}
 use Rattle.lk_domain.specs.Calls.{terms_of}
 use Rattle.lk_domain.specs.Seats.{calls_of}
-use Rattle.lk_machine.specs.declared.parts.Pc.TheVariants.{Z2}
-use Rattle.lk_machine.specs.declared.setup.Verb.TheVariants.{Write}
+use Rattle.lk_rows.specs.declared.parts.Pc.TheVariants.{Z2}
+use Rattle.lk_rows.specs.declared.setup.Verb.TheVariants.{Write}
 use Rattle.lk_lock.proofs.Steps.{at_home, been_in, still_holding}
 use Rattle.lk_lock.proofs.seat.Seat.write.Goals as goal
 

@@ -1,6 +1,6 @@
 use Rattle.std.proofs.Common.{arith, length, ap, ◌∙◌}
 use Rattle.std.proofs.lemmas.List.{length-replicate}
-use Rattle.lk_machine.specs.Machine.{rest_lock}
+use Rattle.lk_rows.specs.Machine.{rest_lock}
 use Rattle.lk_machine.specs.Packed.{Words}
 use Rattle.lk_machine.proofs.Rested.{length-rest_cpus}
 use Rattle.lk_machine.proofs.machine.Machine.new.Goals as goal

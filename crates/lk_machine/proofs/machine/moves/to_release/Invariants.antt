@@ -1,5 +1,5 @@
 use Rattle.std.proofs.Common.{◌≡◌, ◌+◌, drop}
-use Rattle.lk_machine.specs.Programs.{to_release}
+use Rattle.lk_rows.specs.Programs.{to_release}
 use Rattle.lk_machine.proofs.machine.moves.to_release.Given as goal
 
 -- the operations passed so far do not release the lock

@@ -1,5 +1,5 @@
 use Rattle.std.proofs.Common.{◌≡◌}
-use Rattle.lk_machine.specs.Run.{rest_cpus}
+use Rattle.lk_rows.specs.Run.{rest_cpus}
 use Rattle.lk_machine.proofs.machine.rest.rest_cpus.Given as goal
 
 -- the processors made so far

@@ -5,7 +5,7 @@ use Rattle.lk_domain.specs.Plans.{layout_in}
 use Rattle.lk_domain.specs.Rows.{arrives_by}
 use Rattle.lk_domain.specs.Words.{IsNode}
 use Rattle.lk_domain.specs.declared.plan.Plan.{Plan}
-use Rattle.lk_machine.specs.declared.setup.Verb.TheVariants.{Lock}
+use Rattle.lk_rows.specs.declared.setup.Verb.TheVariants.{Lock}
 use Rattle.lk_pvdomain.proofs.ways.Ways.{numbered}
 use Rattle.lk_pvdomain.proofs.ways.Arrives.{kept, tail_asks, g4_first, g4_behind}
 use Rattle.lk_pvdomain.proofs.call.Queued.arrive.Goals as goal

@@ -1,5 +1,5 @@
 use Rattle.std.proofs.Common.{refl, subst}
-use Rattle.lk_machine.specs.declared.parts.Pc.TheVariants.{E5}
+use Rattle.lk_rows.specs.declared.parts.Pc.TheVariants.{E5}
 use Rattle.lk_pvdomain.specs.PvRows.{presses, relents}
 use Rattle.lk_pvdomain.specs.PvWords.{At, Leads}
 use Rattle.lk_pvdomain.proofs.ways.Ways.{numbered}

@@ -2,7 +2,7 @@ use Rattle.std.proofs.Common.{refl, sym, subst, ap, ◌∙◌, Some}
 use Rattle.std.specs.Prelude.{is_some}
 use Rattle.lk_word.specs.SpinWord.{packed, IsPackable}
 use Rattle.lk_word.specs.declared.spin_word.Fields.{Fields}
-use Rattle.lk_machine.specs.rows.Pv.{after_glance}
+use Rattle.lk_rows.specs.rows.Pv.{after_glance}
 use Rattle.lk_domain.specs.Plans.{layout_in}
 use Rattle.lk_domain.specs.declared.plan.Plan.{Plan}
 use Rattle.lk_pvdomain.specs.PvRows.{looks_word}

@@ -2,8 +2,8 @@ use Rattle.std.proofs.Common.{sym, subst, ap, ◌∙◌}
 use Rattle.std.specs.Prelude.{◌&&◌, not}
 use Rattle.lk_word.specs.SpinWord.{packed, IsPackable}
 use Rattle.lk_word.specs.declared.spin_word.Fields.{Fields}
-use Rattle.lk_machine.specs.Moves.{is_node}
-use Rattle.lk_machine.specs.rows.Cna.{is_held}
+use Rattle.lk_rows.specs.Moves.{is_node}
+use Rattle.lk_rows.specs.rows.Cna.{is_held}
 use Rattle.lk_domain.specs.Plans.{layout_in}
 use Rattle.lk_domain.specs.declared.plan.Plan.{Plan}
 use Rattle.lk_pvdomain.proofs.ways.Ways.{numbered}

@@ -1,5 +1,5 @@
 use Rattle.std.specs.Prelude.{Bool}
-use Rattle.lk_machine.specs.declared.parts.Pc.TheVariants.{E4}
+use Rattle.lk_rows.specs.declared.parts.Pc.TheVariants.{E4}
 use Rattle.lk_pvdomain.specs.PvWords.{Pends, Steps, Tries}
 use Rattle.lk_pvdomain.proofs.call.Queued.spend_turns.Given as goal
 

@@ -1,4 +1,4 @@
-use Rattle.lk_machine.specs.declared.parts.Pc.TheVariants.{H1}
+use Rattle.lk_rows.specs.declared.parts.Pc.TheVariants.{H1}
 use Rattle.lk_pvdomain.specs.PvWords.{Owns, Steps}
 use Rattle.lk_pvdomain.proofs.call.Queued.steal.Given as goal
 

@@ -1,5 +1,5 @@
 use Rattle.std.proofs.Common.{true}
-use Rattle.lk_machine.specs.declared.parts.Pc.TheVariants.{E2, E10}
+use Rattle.lk_rows.specs.declared.parts.Pc.TheVariants.{E2, E10}
 use Rattle.lk_pvdomain.specs.PvWords.{Leads, Steps}
 use Rattle.lk_pvdomain.proofs.call.Queued.strive.Given as goal
 

@@ -1,5 +1,5 @@
 use Rattle.std.proofs.Common.{arith, refl, subst, sym, ◌∙◌}
-use Rattle.lk_machine.specs.declared.parts.Pc.TheVariants.{H2}
+use Rattle.lk_rows.specs.declared.parts.Pc.TheVariants.{H2}
 use Rattle.lk_pvdomain.specs.PvRows.{tries_steal}
 use Rattle.lk_pvdomain.specs.PvWords.{At, Steals}
 use Rattle.lk_pvdomain.proofs.ways.Ways.{numbered}

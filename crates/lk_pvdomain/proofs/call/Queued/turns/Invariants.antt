@@ -1,4 +1,4 @@
-use Rattle.lk_machine.specs.declared.parts.Pc.TheVariants.{W1}
+use Rattle.lk_rows.specs.declared.parts.Pc.TheVariants.{W1}
 use Rattle.lk_pvdomain.specs.PvWords.{Spares, Spins, Steps}
 use Rattle.lk_pvdomain.proofs.call.Queued.turns.Given as goal
 

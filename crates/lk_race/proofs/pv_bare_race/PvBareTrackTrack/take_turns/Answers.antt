@@ -1,5 +1,5 @@
 use Rattle.std.proofs.Common.{refl}
-use Rattle.lk_machine.specs.declared.setup.Verb.TheVariants.{Lock}
+use Rattle.lk_rows.specs.declared.setup.Verb.TheVariants.{Lock}
 use Rattle.lk_lock.specs.PvStanding.{IsHolding, IsReady}
 use Rattle.lk_lock.proofs.PvSteps.{as_before, freed, holding, is_held, locked, none_out}
 use Rattle.lk_lock.proofs.PvResting.{idle_again, pv_holds_none, pv_ready_of}

@@ -1,6 +1,6 @@
 use Rattle.std.proofs.Common.{◌≡◌, ◌<◌, subst, sym, arith, replicate}
 use Rattle.std.proofs.lemmas.Result.{err_from_is_err_and}
-use Rattle.lk_machine.specs.Acts.{processor_of}
+use Rattle.lk_rows.specs.Acts.{processor_of}
 use Rattle.lk_replay.specs.Run.{Makes}
 use Rattle.lk_replay.proofs.RunLemmas.{cpus_kept, made_on, conveyed_on, front_of_acts}
 use Rattle.lk_replay.proofs.run.Run.repeat.Goals as goal

@@ -1,7 +1,7 @@
 use Rattle.std.proofs.Common.{◌<◌, ◌≤◌, ◌-◌, length, replicate}
 use Rattle.lk_text.specs.Bytes.{Conveys}
 use Rattle.lk_text.specs.Block.{waiting}
-use Rattle.lk_machine.specs.Acts.{processor_of}
+use Rattle.lk_rows.specs.Acts.{processor_of}
 use Rattle.lk_forms.specs.Texts.{lines}
 use Rattle.lk_replay.specs.Run.{CanGoOn, Makes, occurrences_in}
 use Rattle.lk_replay.proofs.run.Run.repeat.Given as goal

@@ -1,6 +1,6 @@
 use Rattle.std.proofs.Common.{◌≡◌, ◌<◌, ◌≤◌, ◌+◌, ◌∙◌, ℕ, None, Some, ap, subst, sym, refl, arith, replicate}
-use Rattle.lk_machine.specs.Acts.{processor_of}
-use Rattle.lk_machine.specs.Run.{occurs}
+use Rattle.lk_rows.specs.Acts.{processor_of}
+use Rattle.lk_rows.specs.Run.{occurs}
 use Rattle.lk_replay.specs.Run.{Makes}
 use Rattle.lk_replay.proofs.RunLemmas.{CountsWithin-more, cpus_kept, made_on, ready_after, gone_on, made_nothing, ready_still, ready_counted, made_counted, made_quietly, made_telling, occurrences_more}
 use Rattle.lk_replay.proofs.run.Run.until_event.Goals as goal

@@ -1,5 +1,5 @@
 use Rattle.std.proofs.Common.{◌<◌, ◌≡◌, [], length, replicate}
-use Rattle.lk_machine.specs.Acts.{processor_of}
+use Rattle.lk_rows.specs.Acts.{processor_of}
 use Rattle.lk_replay.specs.Run.{CanGoOn, Makes, occurrences_in}
 use Rattle.lk_replay.proofs.RunLemmas.{gone_on}
 use Rattle.lk_replay.proofs.run.Run.until_event.Given as goal

@@ -1,5 +1,5 @@
-use Rattle.lk_machine.specs.declared.parts.Pc.TheVariants.{G1, P0, P1, V1}
-use Rattle.lk_machine.specs.rows.Spin.{after_fast}
+use Rattle.lk_rows.specs.declared.parts.Pc.TheVariants.{G1, P0, P1, V1}
+use Rattle.lk_rows.specs.rows.Spin.{after_fast}
 use Rattle.lk_run.proofs.Places.{fast_place, last_of_four}
 use Rattle.std.proofs.Common.{subst, sym, ◌∙◌, ◌≡◌, ◌⊎◌}
 use Rattle.lk_run.proofs.Calling as on

@@ -1,5 +1,5 @@
 use Rattle.lk_domain.specs.Paths.{Any}
-use Rattle.lk_machine.specs.rows.Spin.{after_fast}
+use Rattle.lk_rows.specs.rows.Spin.{after_fast}
 use Rattle.lk_run.proofs.Places.{free_by, held_by, met_by, not_fast}
 use Rattle.std.proofs.Common.{refl}
 use Rattle.lk_run.proofs.Rows as row

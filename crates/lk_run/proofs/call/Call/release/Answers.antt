@@ -3,7 +3,7 @@ use Rattle.lk_domain.specs.Calls.{told}
 use Rattle.lk_domain.specs.Plays.{ActsIn}
 use Rattle.lk_domain.specs.Rows.{frees_by}
 use Rattle.lk_domain.specs.Seats.{view_of}
-use Rattle.lk_machine.specs.Moves.{wait_name}
+use Rattle.lk_rows.specs.Moves.{wait_name}
 use Rattle.std.proofs.Common.{subst, sym, ◌≡◌}
 use Rattle.lk_run.proofs.RwSteps as rw
 use Rattle.lk_run.proofs.RwRows as rwrow

@@ -1,7 +1,7 @@
 use Rattle.lk_domain.specs.Paths.{Any}
 use Rattle.lk_domain.specs.Rows.{pends_by}
-use Rattle.lk_machine.specs.declared.parts.Pc.TheVariants.{G1, P1, P2, P3, P4}
-use Rattle.lk_machine.specs.rows.Spin.{after_pending}
+use Rattle.lk_rows.specs.declared.parts.Pc.TheVariants.{G1, P1, P2, P3, P4}
+use Rattle.lk_rows.specs.rows.Spin.{after_pending}
 use Rattle.lk_run.proofs.Places.{met_by, pend_else, pend_place}
 use Rattle.lk_run.specs.Words.{Steps}
 use Rattle.std.proofs.Common.{ap, subst, sym, ◌∙◌, ◌≡◌, ◌⊎◌}

@@ -1,5 +1,5 @@
 use Rattle.lk_domain.specs.Paths.{Any}
-use Rattle.lk_machine.specs.declared.parts.Pc.TheVariants.{V1}
+use Rattle.lk_rows.specs.declared.parts.Pc.TheVariants.{V1}
 use Rattle.lk_run.specs.Words.{Goes}
 use Rattle.lk_run.proofs.call.Call.spin.Given as goal
 

@@ -1,5 +1,5 @@
 use Rattle.lk_domain.specs.Paths.{Any}
-use Rattle.lk_machine.specs.declared.parts.Pc.TheVariants.{P3}
+use Rattle.lk_rows.specs.declared.parts.Pc.TheVariants.{P3}
 use Rattle.lk_run.specs.Words.{Goes}
 use Rattle.lk_run.proofs.call.Call.wait_as_next.Given as goal
 

@@ -1,6 +1,6 @@
 use Rattle.lk_domain.specs.Paths.{Any}
-use Rattle.lk_machine.specs.declared.parts.Pc.TheVariants.{P4}
-use Rattle.lk_machine.specs.rows.Spin.{is_unlocked}
+use Rattle.lk_rows.specs.declared.parts.Pc.TheVariants.{P4}
+use Rattle.lk_rows.specs.rows.Spin.{is_unlocked}
 use Rattle.lk_run.proofs.Places.{met_by}
 use Rattle.lk_word.specs.declared.spin_word.Fields.{Fields}
 use Rattle.std.proofs.Common.{ap, inl, refl, sym, ◌∙◌}

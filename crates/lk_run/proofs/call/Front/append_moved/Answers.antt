@@ -1,6 +1,6 @@
 use Rattle.lk_domain.specs.Calls.{Running, told}
 use Rattle.lk_law.specs.Leads.{Linked}
-use Rattle.lk_machine.specs.declared.parts.Pc.TheVariants.{C4, C5}
+use Rattle.lk_rows.specs.declared.parts.Pc.TheVariants.{C4, C5}
 use Rattle.lk_run.specs.Frames.{Parts}
 use Rattle.lk_run.specs.Phases.{newest}
 use Rattle.std.proofs.Common.{List, ap, refl, sym, ◌∙◌}

@@ -1,6 +1,6 @@
 use Rattle.lk_domain.specs.Calls.{Running, told}
 use Rattle.lk_law.specs.Leads.{Linked}
-use Rattle.lk_machine.specs.declared.parts.Pc.TheVariants.{C7, C9}
+use Rattle.lk_rows.specs.declared.parts.Pc.TheVariants.{C7, C9}
 use Rattle.lk_run.specs.Frames.{Precedes}
 use Rattle.lk_run.specs.Phases.{newest}
 use Rattle.std.proofs.Common.{List, None, ap, refl, sym, ◌∙◌}

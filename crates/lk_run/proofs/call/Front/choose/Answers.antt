@@ -1,4 +1,4 @@
-use Rattle.lk_machine.specs.declared.parts.Pc.TheVariants.{C1, C3}
+use Rattle.lk_rows.specs.declared.parts.Pc.TheVariants.{C1, C3}
 use Rattle.lk_run.proofs.Steps.{still_of}
 use Rattle.lk_run.specs.Choices.{IsFirstNode}
 use Rattle.lk_run.specs.Frames.{Fronts, Promotes}

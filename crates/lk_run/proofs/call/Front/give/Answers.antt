@@ -1,4 +1,4 @@
-use Rattle.lk_machine.specs.declared.parts.Pc.TheVariants.{C7}
+use Rattle.lk_rows.specs.declared.parts.Pc.TheVariants.{C7}
 use Rattle.lk_run.specs.Frames.{Precedes}
 use Rattle.lk_run.specs.Words.{At, Takes}
 use Rattle.lk_word.specs.declared.spin_word.NodeName.{NodeName}

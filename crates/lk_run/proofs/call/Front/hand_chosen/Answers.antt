@@ -1,8 +1,8 @@
 use Rattle.lk_domain.specs.NodePlays.{IsFlagNode}
 use Rattle.lk_law.specs.Leads.{Flagged}
-use Rattle.lk_machine.specs.declared.parts.Flag.TheVariants.{Unset}
-use Rattle.lk_machine.specs.declared.parts.Pc.TheVariants.{C8}
-use Rattle.lk_machine.specs.rows.Cna.{flag_for}
+use Rattle.lk_rows.specs.declared.parts.Flag.TheVariants.{Unset}
+use Rattle.lk_rows.specs.declared.parts.Pc.TheVariants.{C8}
+use Rattle.lk_rows.specs.rows.Cna.{flag_for}
 use Rattle.std.proofs.Common.{ap, refl, subst, sym, ◌∙◌}
 use Rattle.lk_run.proofs.ChoiceRows as choice
 use Rattle.lk_run.proofs.Calling as on

@@ -1,6 +1,6 @@
 use Rattle.lk_law.specs.Leads.{Flagged}
-use Rattle.lk_machine.specs.declared.parts.Flag.TheVariants.{Unset}
-use Rattle.lk_machine.specs.declared.parts.Pc.TheVariants.{G11}
+use Rattle.lk_rows.specs.declared.parts.Flag.TheVariants.{Unset}
+use Rattle.lk_rows.specs.declared.parts.Pc.TheVariants.{G11}
 use Rattle.std.proofs.Common.{refl}
 use Rattle.lk_run.proofs.Rows as row
 use Rattle.lk_run.proofs.Calling as on

@@ -6,7 +6,7 @@ use Rattle.lk_domain.specs.Words.{IsNode, link_number, marked}
 use Rattle.lk_domain.specs.declared.plan.Plan.{Plan}
 use Rattle.lk_domain.specs.declared.view.View.{View}
 use Rattle.lk_law.specs.Leads.{Linked}
-use Rattle.lk_machine.specs.declared.parts.Pc.TheVariants.{C1, C2, C3, C7}
+use Rattle.lk_rows.specs.declared.parts.Pc.TheVariants.{C1, C2, C3, C7}
 use Rattle.lk_run.proofs.Places.{name_low}
 use Rattle.lk_run.proofs.Steps.{still_of}
 use Rattle.lk_run.proofs.Ways.{sees}

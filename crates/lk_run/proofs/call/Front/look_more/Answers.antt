@@ -3,7 +3,7 @@ use Rattle.lk_domain.specs.Seats.{calls_of}
 use Rattle.lk_domain.specs.Words.{IsNode, link_number, marked}
 use Rattle.lk_domain.specs.declared.plan.Plan.{Plan}
 use Rattle.lk_law.specs.Leads.{Linked}
-use Rattle.lk_machine.specs.declared.parts.Pc.TheVariants.{C2, C3, C5, C7}
+use Rattle.lk_rows.specs.declared.parts.Pc.TheVariants.{C2, C3, C5, C7}
 use Rattle.lk_run.proofs.Places.{name_low}
 use Rattle.lk_run.proofs.Ways.{sees}
 use Rattle.lk_run.specs.Choices.{IsMoreNode, more_by}

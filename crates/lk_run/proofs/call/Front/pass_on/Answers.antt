@@ -1,5 +1,5 @@
 use Rattle.lk_domain.specs.Words.{IsNode}
-use Rattle.lk_machine.specs.declared.parts.Pc.TheVariants.{G10, G11}
+use Rattle.lk_rows.specs.declared.parts.Pc.TheVariants.{G10, G11}
 use Rattle.lk_run.proofs.Steps.{still_of}
 use Rattle.lk_run.specs.Frames.{Fronts, Precedes}
 use Rattle.lk_run.specs.Words.{Steps}

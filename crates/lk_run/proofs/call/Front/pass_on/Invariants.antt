@@ -1,4 +1,4 @@
-use Rattle.lk_machine.specs.declared.parts.Pc.TheVariants.{G10}
+use Rattle.lk_rows.specs.declared.parts.Pc.TheVariants.{G10}
 use Rattle.lk_run.specs.Frames.{Fronts}
 use Rattle.lk_run.specs.Words.{Goes}
 use Rattle.lk_run.proofs.call.Front.pass_on.Given as goal

@@ -1,5 +1,5 @@
 use Rattle.lk_domain.specs.Words.{IsNode}
-use Rattle.lk_machine.specs.declared.parts.Pc.TheVariants.{C2}
+use Rattle.lk_rows.specs.declared.parts.Pc.TheVariants.{C2}
 use Rattle.lk_run.specs.Frames.{Skips}
 use Rattle.lk_run.specs.Phases.{Knows}
 use Rattle.lk_run.specs.Words.{Goes}

@@ -1,8 +1,8 @@
 use Rattle.lk_domain.specs.Rows.{promotes_by}
 use Rattle.lk_law.specs.Leads.{Word}
-use Rattle.lk_machine.specs.Moves.{is_node}
-use Rattle.lk_machine.specs.declared.parts.Pc.TheVariants.{C1, C7}
-use Rattle.lk_machine.specs.rows.Cna.{is_held}
+use Rattle.lk_rows.specs.Moves.{is_node}
+use Rattle.lk_rows.specs.declared.parts.Pc.TheVariants.{C1, C7}
+use Rattle.lk_rows.specs.rows.Cna.{is_held}
 use Rattle.lk_run.proofs.Places.{met_by}
 use Rattle.lk_run.specs.Frames.{Fronts, Precedes}
 use Rattle.lk_word.specs.declared.spin_word.Fields.{Fields}

@@ -1,5 +1,5 @@
 use Rattle.lk_law.specs.Leads.{Named}
-use Rattle.lk_machine.specs.declared.parts.Pc.TheVariants.{C7}
+use Rattle.lk_rows.specs.declared.parts.Pc.TheVariants.{C7}
 use Rattle.lk_run.specs.Frames.{Precedes}
 use Rattle.std.proofs.Common.{Some}
 use Rattle.lk_run.proofs.ChoiceRows as choice

@@ -1,7 +1,7 @@
 use Rattle.lk_domain.specs.Words.{IsNode}
 use Rattle.lk_domain.specs.declared.plan.Plan.{Plan}
 use Rattle.lk_law.specs.Leads.{Named}
-use Rattle.lk_machine.specs.declared.parts.Pc.TheVariants.{C3, C9}
+use Rattle.lk_rows.specs.declared.parts.Pc.TheVariants.{C3, C9}
 use Rattle.lk_run.proofs.Ways.{Leads, sees}
 use Rattle.lk_run.specs.Frames.{Flushes, Returns}
 use Rattle.lk_run.specs.Standing.{Outside}

@@ -1,7 +1,7 @@
 use Rattle.lk_domain.specs.Words.{IsNode}
 use Rattle.lk_domain.specs.declared.plan.Plan.{Plan}
 use Rattle.lk_law.specs.Leads.{Named}
-use Rattle.lk_machine.specs.declared.parts.Pc.TheVariants.{C10, C3}
+use Rattle.lk_rows.specs.declared.parts.Pc.TheVariants.{C10, C3}
 use Rattle.lk_run.proofs.Ways.{Leads, sees}
 use Rattle.lk_run.specs.Frames.{Promoting}
 use Rattle.lk_word.specs.declared.spin_word.NodeName.{NodeName}

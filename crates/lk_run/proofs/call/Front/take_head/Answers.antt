@@ -1,5 +1,5 @@
 use Rattle.lk_domain.specs.Rows.{stakes_by}
-use Rattle.lk_machine.specs.declared.parts.Pc.TheVariants.{C1, G10}
+use Rattle.lk_rows.specs.declared.parts.Pc.TheVariants.{C1, G10}
 use Rattle.lk_run.specs.Frames.{Fronts}
 use Rattle.lk_run.proofs.Rows as row
 use Rattle.lk_run.proofs.Calling as on

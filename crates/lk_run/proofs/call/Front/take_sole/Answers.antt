@@ -1,7 +1,7 @@
 use Rattle.lk_domain.specs.Rows.{soles_by}
-use Rattle.lk_machine.specs.Moves.{is_node}
-use Rattle.lk_machine.specs.declared.parts.Pc.TheVariants.{G9}
-use Rattle.lk_machine.specs.rows.Spin.{is_unlocked}
+use Rattle.lk_rows.specs.Moves.{is_node}
+use Rattle.lk_rows.specs.declared.parts.Pc.TheVariants.{G9}
+use Rattle.lk_rows.specs.rows.Spin.{is_unlocked}
 use Rattle.lk_run.proofs.Places.{met_by}
 use Rattle.lk_run.specs.Frames.{Fronts}
 use Rattle.lk_word.specs.declared.spin_word.Fields.{Fields}

@@ -3,7 +3,7 @@ use Rattle.lk_domain.specs.Seats.{view_of}
 use Rattle.lk_domain.specs.declared.plan.Plan.{Plan}
 use Rattle.lk_domain.specs.declared.view.View.{View}
 use Rattle.lk_law.specs.Leads.{Number}
-use Rattle.lk_machine.specs.declared.parts.Pc.TheVariants.{C7, C8}
+use Rattle.lk_rows.specs.declared.parts.Pc.TheVariants.{C7, C8}
 use Rattle.lk_run.proofs.Steps.{still_of}
 use Rattle.lk_run.specs.Frames.{Precedes}
 use Rattle.lk_word.specs.declared.spin_word.NodeName.{NodeName}

@@ -1,5 +1,5 @@
 use Rattle.lk_law.specs.Leads.{Number}
-use Rattle.lk_machine.specs.declared.parts.Pc.TheVariants.{C8}
+use Rattle.lk_rows.specs.declared.parts.Pc.TheVariants.{C8}
 use Rattle.lk_run.specs.Frames.{Precedes}
 use Rattle.std.proofs.Common.{None, ap, false, refl, sym, true, ◌∙◌, ◌≡◌}
 use Rattle.std.specs.Prelude.{is_some}

@@ -1,7 +1,7 @@
 use Rattle.lk_law.specs.Leads.{Word}
-use Rattle.lk_machine.specs.Moves.{is_node}
-use Rattle.lk_machine.specs.declared.parts.Pc.TheVariants.{G7, G8, G9}
-use Rattle.lk_machine.specs.rows.Spin.{is_unlocked}
+use Rattle.lk_rows.specs.Moves.{is_node}
+use Rattle.lk_rows.specs.declared.parts.Pc.TheVariants.{G7, G8, G9}
+use Rattle.lk_rows.specs.rows.Spin.{is_unlocked}
 use Rattle.lk_run.proofs.Places.{front_place, met_by}
 use Rattle.lk_run.proofs.Ways.{Leads, sees}
 use Rattle.lk_run.specs.Frames.{Fronts}

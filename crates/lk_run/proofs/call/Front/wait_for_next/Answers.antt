@@ -1,7 +1,7 @@
 use Rattle.lk_domain.specs.Words.{IsNode}
 use Rattle.lk_domain.specs.declared.plan.Plan.{Plan}
 use Rattle.lk_law.specs.Leads.{Linked}
-use Rattle.lk_machine.specs.declared.parts.Pc.TheVariants.{G10, G11}
+use Rattle.lk_rows.specs.declared.parts.Pc.TheVariants.{G10, G11}
 use Rattle.lk_run.proofs.Places.{each_some}
 use Rattle.lk_run.specs.Frames.{Fronts, Precedes}
 use Rattle.lk_run.specs.Words.{Steps}

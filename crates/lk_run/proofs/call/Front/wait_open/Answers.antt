@@ -1,4 +1,4 @@
-use Rattle.lk_machine.specs.declared.parts.Pc.TheVariants.{G7, G8, G9}
+use Rattle.lk_rows.specs.declared.parts.Pc.TheVariants.{G7, G8, G9}
 use Rattle.lk_run.proofs.Places.{first_of_three}
 use Rattle.lk_run.proofs.Steps.{still_of}
 use Rattle.std.proofs.Common.{sym, ◌∙◌, ◌≡◌}

@@ -1,6 +1,6 @@
 use Rattle.lk_domain.specs.Rows.{arrives_by}
 use Rattle.lk_domain.specs.Words.{IsNode}
-use Rattle.lk_machine.specs.declared.parts.Pc.TheVariants.{G4, G5, G7}
+use Rattle.lk_rows.specs.declared.parts.Pc.TheVariants.{G4, G5, G7}
 use Rattle.lk_run.proofs.Places.{each_some, met_by}
 use Rattle.lk_run.specs.Frames.{Follows, Owns}
 use Rattle.lk_run.specs.Words.{Steps}

@@ -1,7 +1,7 @@
 use Rattle.lk_domain.specs.Calls.{Running, is_inner}
 use Rattle.lk_domain.specs.Seats.{calls_of}
 use Rattle.lk_law.specs.Leads.{Named}
-use Rattle.lk_machine.specs.declared.parts.Pc.TheVariants.{G6}
+use Rattle.lk_rows.specs.declared.parts.Pc.TheVariants.{G6}
 use Rattle.lk_run.specs.Frames.{Owns}
 use Rattle.std.proofs.Common.{List, None, ap, arith, inl, inr, le-ltb, length, lt-ltb, ltb, suc, sym, ℕ, ◌+◌, ◌∙◌, ◌≡◌}
 use Rattle.std.proofs.lemmas.Bool.{cases_lt}

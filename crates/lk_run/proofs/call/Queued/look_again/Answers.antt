@@ -1,4 +1,4 @@
-use Rattle.lk_machine.specs.declared.parts.Pc.TheVariants.{G3, G4}
+use Rattle.lk_rows.specs.declared.parts.Pc.TheVariants.{G3, G4}
 use Rattle.lk_run.proofs.Places.{free_by, held_by}
 use Rattle.lk_run.specs.Frames.{Owns}
 use Rattle.std.proofs.Common.{inl, refl}

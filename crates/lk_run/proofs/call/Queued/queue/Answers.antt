@@ -1,5 +1,5 @@
 use Rattle.lk_domain.specs.Words.{IsNode}
-use Rattle.lk_machine.specs.declared.parts.Pc.TheVariants.{G4, G5}
+use Rattle.lk_rows.specs.declared.parts.Pc.TheVariants.{G4, G5}
 use Rattle.lk_run.specs.Frames.{Follows, Owns}
 use Rattle.lk_run.specs.Words.{Steps}
 use Rattle.std.proofs.Common.{IfSome, subst}

@@ -1,7 +1,7 @@
 use Rattle.lk_domain.specs.NodePlays.{IsFlagNode}
 use Rattle.lk_law.specs.Cna.{node_in}
-use Rattle.lk_machine.specs.declared.parts.Flag.TheVariants.{Go, Second, Unset}
-use Rattle.lk_machine.specs.declared.parts.Pc.TheVariants.{G6, G7}
+use Rattle.lk_rows.specs.declared.parts.Flag.TheVariants.{Go, Second, Unset}
+use Rattle.lk_rows.specs.declared.parts.Pc.TheVariants.{G6, G7}
 use Rattle.lk_run.proofs.Steps.{still_of}
 use Rattle.lk_run.specs.Frames.{Fronts, Owns}
 use Rattle.lk_run.specs.Words.{Steps}

@@ -1,4 +1,4 @@
-use Rattle.lk_machine.specs.declared.parts.Pc.TheVariants.{G6}
+use Rattle.lk_rows.specs.declared.parts.Pc.TheVariants.{G6}
 use Rattle.lk_run.specs.Frames.{Owns}
 use Rattle.lk_run.specs.Words.{Goes}
 use Rattle.lk_run.proofs.call.Queued.wait_turn.Given as goal

@@ -1,6 +1,6 @@
 use Rattle.std.proofs.Common.{ap, refl}
-use Rattle.lk_machine.specs.declared.parts.Pc.TheVariants.{R4, R5}
-use Rattle.lk_machine.specs.declared.setup.Verb.TheVariants.{Read}
+use Rattle.lk_rows.specs.declared.parts.Pc.TheVariants.{R4, R5}
+use Rattle.lk_rows.specs.declared.setup.Verb.TheVariants.{Read}
 use Rattle.lk_domain.specs.Calls.{waits_in}
 use Rattle.lk_domain.specs.RwRows.{joins_at}
 use Rattle.lk_domain.specs.Seats.{calls_of}

@@ -1,4 +1,4 @@
-use Rattle.lk_machine.specs.declared.parts.Pc.TheVariants.{R2}
+use Rattle.lk_rows.specs.declared.parts.Pc.TheVariants.{R2}
 use Rattle.lk_run.specs.Reading.{outside}
 use Rattle.lk_run.specs.Waiters.{Goes}
 use Rattle.lk_run.proofs.call.Reader.spin.Given as goal

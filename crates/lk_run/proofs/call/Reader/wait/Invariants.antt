@@ -1,4 +1,4 @@
-use Rattle.lk_machine.specs.declared.parts.Pc.TheVariants.{R5}
+use Rattle.lk_rows.specs.declared.parts.Pc.TheVariants.{R5}
 use Rattle.lk_run.specs.Reading.{inside}
 use Rattle.lk_run.specs.Waiters.{Goes}
 use Rattle.lk_run.proofs.call.Reader.wait.Given as goal

@@ -1,4 +1,4 @@
-use Rattle.lk_machine.specs.declared.parts.Pc.TheVariants.{Wr5}
+use Rattle.lk_rows.specs.declared.parts.Pc.TheVariants.{Wr5}
 use Rattle.lk_run.specs.Writing.{inside}
 use Rattle.lk_run.specs.Waiters.{Goes}
 use Rattle.lk_run.proofs.call.Writer.wait.Given as goal

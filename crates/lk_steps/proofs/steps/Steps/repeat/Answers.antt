@@ -1,6 +1,6 @@
 use Rattle.std.proofs.Common.{◌<◌, ◌∙◌, ap, sym, subst, arith}
-use Rattle.lk_machine.specs.Acts.{next, processor_of}
-use Rattle.lk_machine.specs.Machine.{Machine}
+use Rattle.lk_rows.specs.Acts.{next, processor_of}
+use Rattle.lk_rows.specs.Machine.{Machine}
 use Rattle.lk_steps.proofs.Ready.{one_more}
 use Rattle.lk_steps.proofs.steps.Steps.repeat.Goals as goal
 

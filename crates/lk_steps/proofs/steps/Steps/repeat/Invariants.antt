@@ -1,6 +1,6 @@
 use Rattle.std.proofs.Common.{◌≡◌, ◌+◌, ◌<◌, length, replicate}
-use Rattle.lk_machine.specs.Acts.{processor_of}
-use Rattle.lk_machine.specs.Run.{machine_after}
+use Rattle.lk_rows.specs.Acts.{processor_of}
+use Rattle.lk_rows.specs.Run.{machine_after}
 use Rattle.lk_steps.specs.Told.{CanGoOn}
 use Rattle.lk_steps.proofs.steps.Steps.repeat.Given as goal
 

@@ -1,5 +1,5 @@
 use Rattle.std.proofs.Common.{◌≡◌, All, map, replicate}
-use Rattle.lk_machine.specs.Machine.{rest_lock}
+use Rattle.lk_rows.specs.Machine.{rest_lock}
 use Rattle.lk_machine.specs.Packed.{ArePacked, lock_in}
 use Rattle.lk_machine.proofs.machine.words.Words.new.Given as goal
 

@@ -5,31 +5,31 @@ use Rattle.lk_abs.specs.declared.names.LockName.{LockName}
 use Rattle.lk_word.specs.declared.spin_word.NodeName.{NodeName}
 use Rattle.lk_word.specs.declared.spin_word.Fields.{Fields}
 use Rattle.lk_word.specs.declared.rw_word.RwFields.{RwFields}
-use Rattle.lk_machine.specs.declared.parts.Flag.{Flag}
-use Rattle.lk_machine.specs.declared.parts.State.{State}
-use Rattle.lk_machine.specs.declared.parts.Frame.{Frame}
-use Rattle.lk_machine.specs.declared.parts.Pc.{Pc}
-use Rattle.lk_machine.specs.declared.parts.Pc.TheVariants.{F1, T1, T2, U1, V1, V2, P0, P1, P2, P3}
-use Rattle.lk_machine.specs.declared.parts.Pc.TheVariants.{P4, G1, G2, G3, G4, G5, G6, G7, G8, G9}
-use Rattle.lk_machine.specs.declared.parts.Pc.TheVariants.{G10, G11, N1, N2, C1, C2, C3, C4, C5, C6}
-use Rattle.lk_machine.specs.declared.parts.Pc.TheVariants.{C7, C8, C9, C10, H1, H2, W1, W2, W3, W4}
-use Rattle.lk_machine.specs.declared.parts.Pc.TheVariants.{W5, W6, W7, E1, E2, E3, E4, E5, E6, E7}
-use Rattle.lk_machine.specs.declared.parts.Pc.TheVariants.{E8, E9, E10, E11, E12, E13, E14, E15, K1}
-use Rattle.lk_machine.specs.declared.parts.Pc.TheVariants.{K2, K3, U2, U3, U4, U5, R1, R2, R3, R4}
-use Rattle.lk_machine.specs.declared.parts.Pc.TheVariants.{R5, Wr1, Wr2, Wr3, Wr4, Wr5, Wr6, Y1, Y2}
-use Rattle.lk_machine.specs.declared.parts.Pc.TheVariants.{Y3, Y4, Y5, Z1, Z2}
-use Rattle.lk_machine.specs.Machine.{Machine, word_at, node_at, queued_at, entry_at, halted_at}
-use Rattle.lk_machine.specs.Machine.{kicked_at, set_word, set_node, set_queued, set_entry}
-use Rattle.lk_machine.specs.Machine.{set_halted, set_kicked, top_frame, rw_at, set_rw}
-use Rattle.lk_machine.specs.Moves.{node_of, waiter_of}
-use Rattle.lk_machine.specs.Row.{Answer, Effect, applied}
-use Rattle.lk_machine.specs.rows.Spin.{spin_row}
-use Rattle.lk_machine.specs.rows.Queue.{queue_row, entry_row, flag_row, next_row}
-use Rattle.lk_machine.specs.rows.Pv.{pv_row, pv_flag_row, pv_next_row, state_row, hash_row}
-use Rattle.lk_machine.specs.rows.Pv.{halt_row, kick_row}
-use Rattle.lk_machine.specs.rows.Cna.{Sight, search_row, second_row, runs_row}
-use Rattle.lk_machine.specs.rows.Cna.{handover_row, promotion_row}
-use Rattle.lk_machine.specs.rows.Rw.{rw_row}
+use Rattle.lk_rows.specs.declared.parts.Flag.{Flag}
+use Rattle.lk_rows.specs.declared.parts.State.{State}
+use Rattle.lk_rows.specs.declared.parts.Frame.{Frame}
+use Rattle.lk_rows.specs.declared.parts.Pc.{Pc}
+use Rattle.lk_rows.specs.declared.parts.Pc.TheVariants.{F1, T1, T2, U1, V1, V2, P0, P1, P2, P3}
+use Rattle.lk_rows.specs.declared.parts.Pc.TheVariants.{P4, G1, G2, G3, G4, G5, G6, G7, G8, G9}
+use Rattle.lk_rows.specs.declared.parts.Pc.TheVariants.{G10, G11, N1, N2, C1, C2, C3, C4, C5, C6}
+use Rattle.lk_rows.specs.declared.parts.Pc.TheVariants.{C7, C8, C9, C10, H1, H2, W1, W2, W3, W4}
+use Rattle.lk_rows.specs.declared.parts.Pc.TheVariants.{W5, W6, W7, E1, E2, E3, E4, E5, E6, E7}
+use Rattle.lk_rows.specs.declared.parts.Pc.TheVariants.{E8, E9, E10, E11, E12, E13, E14, E15, K1}
+use Rattle.lk_rows.specs.declared.parts.Pc.TheVariants.{K2, K3, U2, U3, U4, U5, R1, R2, R3, R4}
+use Rattle.lk_rows.specs.declared.parts.Pc.TheVariants.{R5, Wr1, Wr2, Wr3, Wr4, Wr5, Wr6, Y1, Y2}
+use Rattle.lk_rows.specs.declared.parts.Pc.TheVariants.{Y3, Y4, Y5, Z1, Z2}
+use Rattle.lk_rows.specs.Machine.{Machine, word_at, node_at, queued_at, entry_at, halted_at}
+use Rattle.lk_rows.specs.Machine.{kicked_at, set_word, set_node, set_queued, set_entry}
+use Rattle.lk_rows.specs.Machine.{set_halted, set_kicked, top_frame, rw_at, set_rw}
+use Rattle.lk_rows.specs.Moves.{node_of, waiter_of}
+use Rattle.lk_rows.specs.Row.{Answer, Effect, applied}
+use Rattle.lk_rows.specs.rows.Spin.{spin_row}
+use Rattle.lk_rows.specs.rows.Queue.{queue_row, entry_row, flag_row, next_row}
+use Rattle.lk_rows.specs.rows.Pv.{pv_row, pv_flag_row, pv_next_row, state_row, hash_row}
+use Rattle.lk_rows.specs.rows.Pv.{halt_row, kick_row}
+use Rattle.lk_rows.specs.rows.Cna.{Sight, search_row, second_row, runs_row}
+use Rattle.lk_rows.specs.rows.Cna.{handover_row, promotion_row}
+use Rattle.lk_rows.specs.rows.Rw.{rw_row}
 
 -- on what a row operates
 pub data Target : Type 0 where

@@ -2,10 +2,10 @@
 // written as its tail, its pending bit and its locked byte; 0 is no tail, and `*` is any value.
 
 ghost use Rattle.std.specs.Prelude.{◌≡◌};
-ghost use Rattle.lk_machine.specs.rows.Cna.{is_held, is_last};
-ghost use Rattle.lk_machine.specs.Moves.{is_node, node_of};
-ghost use Rattle.lk_machine.specs.rows.Spin.{after_fast, after_pending, to_queue};
-ghost use Rattle.lk_machine.specs.rows.Spin.{is_free, is_unlocked};
+ghost use Rattle.lk_rows.specs.rows.Cna.{is_held, is_last};
+ghost use Rattle.lk_rows.specs.Moves.{is_node, node_of};
+ghost use Rattle.lk_rows.specs.rows.Spin.{after_fast, after_pending, to_queue};
+ghost use Rattle.lk_rows.specs.rows.Spin.{is_free, is_unlocked};
 
 use crate::parts::{Frame, Pc};
 use lk_abs::Mode;

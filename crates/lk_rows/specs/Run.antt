@@ -6,14 +6,14 @@ use Rattle.std.proofs.Common.{zero, suc}
 use Rattle.lk_abs.specs.declared.names.Mode.{Mode}
 use Rattle.lk_abs.specs.declared.events.Act.{Act}
 use Rattle.lk_abs.specs.declared.events.Event.{Event}
-use Rattle.lk_machine.specs.declared.setup.Op.{Op}
-use Rattle.lk_machine.specs.declared.setup.Setup.{Setup}
-use Rattle.lk_machine.specs.declared.parts.Frame.{Frame}
-use Rattle.lk_machine.specs.Machine.{Machine, CpuState, rest_lock, rest_node, rest_frame}
-use Rattle.lk_machine.specs.Machine.{rest_counts}
-use Rattle.lk_machine.specs.Programs.{program_at}
-use Rattle.lk_machine.specs.Moves.{started}
-use Rattle.lk_machine.specs.Acts.{next}
+use Rattle.lk_rows.specs.declared.setup.Op.{Op}
+use Rattle.lk_rows.specs.declared.setup.Setup.{Setup}
+use Rattle.lk_rows.specs.declared.parts.Frame.{Frame}
+use Rattle.lk_rows.specs.Machine.{Machine, CpuState, rest_lock, rest_node, rest_frame}
+use Rattle.lk_rows.specs.Machine.{rest_counts}
+use Rattle.lk_rows.specs.Programs.{program_at}
+use Rattle.lk_rows.specs.Moves.{started}
+use Rattle.lk_rows.specs.Acts.{next}
 
 -- a task's frame before its first operation, or finished where there is none
 abbrev pub first_frame : Mode → Option Op → Frame

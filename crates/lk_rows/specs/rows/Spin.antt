@@ -11,11 +11,11 @@ use Rattle.lk_abs.specs.declared.events.What.TheVariants.{Take, Miss, Release}
 use Rattle.lk_word.specs.declared.spin_word.Locked.{Locked}
 use Rattle.lk_word.specs.declared.spin_word.Locked.TheVariants.{Free, Held}
 use Rattle.lk_word.specs.declared.spin_word.Fields.{Fields}
-use Rattle.lk_machine.specs.declared.parts.Frame.{Frame}
-use Rattle.lk_machine.specs.declared.parts.Pc.{Pc}
-use Rattle.lk_machine.specs.declared.parts.Pc.TheVariants.{F1, T1, T2, U1, V1, V2, P0, P1, P2, P3}
-use Rattle.lk_machine.specs.declared.parts.Pc.TheVariants.{P4, G1}
-use Rattle.lk_machine.specs.Row.{Effect, Granted, Freed, Says, LockPending, looks, writes, misses}
+use Rattle.lk_rows.specs.declared.parts.Frame.{Frame}
+use Rattle.lk_rows.specs.declared.parts.Pc.{Pc}
+use Rattle.lk_rows.specs.declared.parts.Pc.TheVariants.{F1, T1, T2, U1, V1, V2, P0, P1, P2, P3}
+use Rattle.lk_rows.specs.declared.parts.Pc.TheVariants.{P4, G1}
+use Rattle.lk_rows.specs.Row.{Effect, Granted, Freed, Says, LockPending, looks, writes, misses}
 
 -- the byte is free
 abbrev pub is_unlocked : Locked → Bool

@@ -8,14 +8,14 @@ use Rattle.lk_abs.specs.declared.events.RwHow.{RwHow}
 use Rattle.lk_abs.specs.declared.events.RwHow.TheVariants as how
 use Rattle.lk_abs.specs.declared.events.What.TheVariants.{Miss, RTake, RRelease, WTake, WRelease}
 use Rattle.lk_word.specs.declared.rw_word.RwFields.{RwFields}
-use Rattle.lk_machine.specs.declared.setup.Verb.TheVariants.{Unlock}
-use Rattle.lk_machine.specs.declared.parts.Frame.{Frame}
-use Rattle.lk_machine.specs.declared.parts.Pc.{Pc}
-use Rattle.lk_machine.specs.declared.parts.Pc.TheVariants.{R1, R2, R3, R4, R5, Wr1, Wr2, Wr3, Wr4}
-use Rattle.lk_machine.specs.declared.parts.Pc.TheVariants.{Wr5, Wr6, Y1, Y2, Y3, Y4, Y5, Z1, Z2}
-use Rattle.lk_machine.specs.Moves.{first_place, rw_name}
-use Rattle.lk_machine.specs.Row.{Effect, Lead, Goes, Missed, Done, TakesWait, Nothing, Says, looks}
-use Rattle.lk_machine.specs.Row.{writes, misses}
+use Rattle.lk_rows.specs.declared.setup.Verb.TheVariants.{Unlock}
+use Rattle.lk_rows.specs.declared.parts.Frame.{Frame}
+use Rattle.lk_rows.specs.declared.parts.Pc.{Pc}
+use Rattle.lk_rows.specs.declared.parts.Pc.TheVariants.{R1, R2, R3, R4, R5, Wr1, Wr2, Wr3, Wr4}
+use Rattle.lk_rows.specs.declared.parts.Pc.TheVariants.{Wr5, Wr6, Y1, Y2, Y3, Y4, Y5, Z1, Z2}
+use Rattle.lk_rows.specs.Moves.{first_place, rw_name}
+use Rattle.lk_rows.specs.Row.{Effect, Lead, Goes, Missed, Done, TakesWait, Nothing, Says, looks}
+use Rattle.lk_rows.specs.Row.{writes, misses}
 
 -- no reader, not waiting, and no writer
 abbrev pub is_empty : RwFields → Bool

@@ -7,16 +7,16 @@ use Rattle.lk_abs.specs.declared.names.Mode.TheVariants.{Pv}
 use Rattle.lk_abs.specs.declared.names.Waiter.{Waiter}
 use Rattle.lk_abs.specs.declared.names.LockName.{LockName}
 use Rattle.lk_word.specs.declared.spin_word.NodeName.{NodeName}
-use Rattle.lk_machine.specs.declared.setup.Verb.{Verb}
-use Rattle.lk_machine.specs.declared.setup.Verb.TheVariants.{Lock, Try, Unlock, Read, TryRead}
-use Rattle.lk_machine.specs.declared.setup.Verb.TheVariants.{RUnlock, Write, TryWrite, WUnlock}
-use Rattle.lk_machine.specs.declared.setup.Op.{Op}
-use Rattle.lk_machine.specs.declared.parts.Frame.{Frame}
-use Rattle.lk_machine.specs.declared.parts.Pc.{Pc}
-use Rattle.lk_machine.specs.declared.parts.Pc.TheVariants.{F1, T1, U1, U2, R1, Wr1, Y1, Y4, Z1, Z2}
-use Rattle.lk_machine.specs.Machine.{Machine, HasTop, cpu_at, set_top, set_queued, queued_at, pop}
-use Rattle.lk_machine.specs.Machine.{top_frame}
-use Rattle.lk_machine.specs.Programs.{HasPrograms, program_at, handlers_of, to_release}
+use Rattle.lk_rows.specs.declared.setup.Verb.{Verb}
+use Rattle.lk_rows.specs.declared.setup.Verb.TheVariants.{Lock, Try, Unlock, Read, TryRead}
+use Rattle.lk_rows.specs.declared.setup.Verb.TheVariants.{RUnlock, Write, TryWrite, WUnlock}
+use Rattle.lk_rows.specs.declared.setup.Op.{Op}
+use Rattle.lk_rows.specs.declared.parts.Frame.{Frame}
+use Rattle.lk_rows.specs.declared.parts.Pc.{Pc}
+use Rattle.lk_rows.specs.declared.parts.Pc.TheVariants.{F1, T1, U1, U2, R1, Wr1, Y1, Y4, Z1, Z2}
+use Rattle.lk_rows.specs.Machine.{Machine, HasTop, cpu_at, set_top, set_queued, queued_at, pop}
+use Rattle.lk_rows.specs.Machine.{top_frame}
+use Rattle.lk_rows.specs.Programs.{HasPrograms, program_at, handlers_of, to_release}
 
 -- the row at which an operation begins
 abbrev pub first_place : Mode → Verb → Pc

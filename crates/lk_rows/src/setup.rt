@@ -62,11 +62,11 @@ pub struct Setup {
 
 impl Setup {
     ghost use Rattle.std.specs.Prelude.{◌≡◌, ◌≤◌};
-    ghost use Rattle.lk_machine.specs.Programs.{HasPrograms, program_at, handlers_of};
+    ghost use Rattle.lk_rows.specs.Programs.{HasPrograms, program_at, handlers_of};
 
     /// A program of a processor: 0 is its task's, h is that of its h-th handler.
     #[tactic(auto, unfolding(crate::specs::Programs::program_at, crate::specs::Programs::handlers_of))]
-    pub(crate) fn program(&self, cpu: u32, number: u32) -> &List<Op>
+    pub fn program(&self, cpu: u32, number: u32) -> &List<Op>
         requires programs { HasPrograms self.now cpu }
         requires number { number ≤ handlers_of self.now cpu }
         ensures { result.now.items ≡ program_at self.now cpu number }

@@ -10,17 +10,17 @@ use Rattle.lk_abs.specs.declared.events.What.TheVariants.{Take, Arrive}
 use Rattle.lk_word.specs.declared.spin_word.NodeName.{NodeName}
 use Rattle.lk_word.specs.declared.spin_word.Locked.TheVariants.{Held}
 use Rattle.lk_word.specs.declared.spin_word.Fields.{Fields}
-use Rattle.lk_machine.specs.declared.parts.Flag.{Flag}
-use Rattle.lk_machine.specs.declared.parts.Flag.TheVariants as flag
-use Rattle.lk_machine.specs.declared.parts.Frame.{Frame}
-use Rattle.lk_machine.specs.declared.parts.Pc.{Pc}
-use Rattle.lk_machine.specs.declared.parts.Pc.TheVariants.{G2, G3, G4, G5, G6, G7, G8, G9, G10, G11}
-use Rattle.lk_machine.specs.declared.parts.Pc.TheVariants.{N1, N2, H1, E1, C1, W1}
-use Rattle.lk_machine.specs.Moves.{is_node, node_of}
-use Rattle.lk_machine.specs.Row.{Effect, Counter, LockSlowpath, LockUseNode2, LockUseNode3}
-use Rattle.lk_machine.specs.Row.{LockUseNode4, LockNoNode, Goes, Enters, Leaves, Nothing, Says}
-use Rattle.lk_machine.specs.Row.{Passes, Prev, Second, Y, Left, Lead, looks, learns}
-use Rattle.lk_machine.specs.rows.Spin.{is_unlocked, is_free, held_word}
+use Rattle.lk_rows.specs.declared.parts.Flag.{Flag}
+use Rattle.lk_rows.specs.declared.parts.Flag.TheVariants as flag
+use Rattle.lk_rows.specs.declared.parts.Frame.{Frame}
+use Rattle.lk_rows.specs.declared.parts.Pc.{Pc}
+use Rattle.lk_rows.specs.declared.parts.Pc.TheVariants.{G2, G3, G4, G5, G6, G7, G8, G9, G10, G11}
+use Rattle.lk_rows.specs.declared.parts.Pc.TheVariants.{N1, N2, H1, E1, C1, W1}
+use Rattle.lk_rows.specs.Moves.{is_node, node_of}
+use Rattle.lk_rows.specs.Row.{Effect, Counter, LockSlowpath, LockUseNode2, LockUseNode3}
+use Rattle.lk_rows.specs.Row.{LockUseNode4, LockNoNode, Goes, Enters, Leaves, Nothing, Says}
+use Rattle.lk_rows.specs.Row.{Passes, Prev, Second, Y, Left, Lead, looks, learns}
+use Rattle.lk_rows.specs.rows.Spin.{is_unlocked, is_free, held_word}
 
 -- the free word is swapped to locked, and the frame leaves the slow path with the lock
 abbrev pub takes_out : Frame → How → Effect Fields

@@ -9,13 +9,13 @@ use Rattle.lk_word.specs.declared.spin_word.NodeName.{NodeName}
 use Rattle.lk_word.specs.declared.spin_word.Locked.TheVariants.{Free}
 use Rattle.lk_word.specs.declared.spin_word.Fields.{Fields}
 use Rattle.lk_word.specs.declared.rw_word.RwFields.{RwFields}
-use Rattle.lk_machine.specs.declared.parts.Flag.TheVariants.{Unset}
-use Rattle.lk_machine.specs.declared.parts.State.TheVariants.{Running}
-use Rattle.lk_machine.specs.declared.parts.Node.{Node}
-use Rattle.lk_machine.specs.declared.parts.Frame.{Frame}
-use Rattle.lk_machine.specs.declared.parts.Counts.{Counts}
-use Rattle.lk_machine.specs.declared.parts.Why.TheVariants.{Append}
-use Rattle.lk_machine.specs.declared.setup.Setup.{Setup}
+use Rattle.lk_rows.specs.declared.parts.Flag.TheVariants.{Unset}
+use Rattle.lk_rows.specs.declared.parts.State.TheVariants.{Running}
+use Rattle.lk_rows.specs.declared.parts.Node.{Node}
+use Rattle.lk_rows.specs.declared.parts.Frame.{Frame}
+use Rattle.lk_rows.specs.declared.parts.Counts.{Counts}
+use Rattle.lk_rows.specs.declared.parts.Why.TheVariants.{Append}
+use Rattle.lk_rows.specs.declared.setup.Setup.{Setup}
 
 -- one processor: its frames by their context, the top one last; its four nodes; how many of its
 -- frames are in the slow path; and how many of its handlers were used

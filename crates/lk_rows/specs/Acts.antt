@@ -4,16 +4,16 @@ use Rattle.std.specs.Prelude.{false, if◌then◌else◌}
 use Rattle.lk_abs.specs.declared.events.Act.{Act}
 use Rattle.lk_abs.specs.declared.events.Act.TheVariants as act
 use Rattle.lk_abs.specs.declared.events.What.TheVariants as what
-use Rattle.lk_machine.specs.declared.parts.Frame.{Frame}
-use Rattle.lk_machine.specs.declared.parts.Pc.{Pc}
-use Rattle.lk_machine.specs.declared.parts.Pc.TheVariants.{W6, W7, E2, E12}
-use Rattle.lk_machine.specs.Machine.{Machine, top_frame, depth_at, preempted_at, halted_at}
-use Rattle.lk_machine.specs.Machine.{kicked_at, handlers_at, set_top, set_halted, set_kicked}
-use Rattle.lk_machine.specs.Machine.{set_preempted, push, rest_frame}
-use Rattle.lk_machine.specs.Programs.{handlers_of}
-use Rattle.lk_machine.specs.Moves.{settled}
-use Rattle.lk_machine.specs.Row.{Answer}
-use Rattle.lk_machine.specs.TopRow.{row}
+use Rattle.lk_rows.specs.declared.parts.Frame.{Frame}
+use Rattle.lk_rows.specs.declared.parts.Pc.{Pc}
+use Rattle.lk_rows.specs.declared.parts.Pc.TheVariants.{W6, W7, E2, E12}
+use Rattle.lk_rows.specs.Machine.{Machine, top_frame, depth_at, preempted_at, halted_at}
+use Rattle.lk_rows.specs.Machine.{kicked_at, handlers_at, set_top, set_halted, set_kicked}
+use Rattle.lk_rows.specs.Machine.{set_preempted, push, rest_frame}
+use Rattle.lk_rows.specs.Programs.{handlers_of}
+use Rattle.lk_rows.specs.Moves.{settled}
+use Rattle.lk_rows.specs.Row.{Answer}
+use Rattle.lk_rows.specs.TopRow.{row}
 
 -- nothing is changed or told
 abbrev pub idle : Machine → Answer

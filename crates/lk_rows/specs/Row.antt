@@ -6,12 +6,12 @@ use Rattle.lk_abs.specs.declared.events.Event.{Event}
 use Rattle.lk_abs.specs.declared.events.What.{What}
 use Rattle.lk_abs.specs.declared.events.What.TheVariants.{Pass}
 use Rattle.lk_word.specs.declared.spin_word.NodeName.{NodeName}
-use Rattle.lk_machine.specs.declared.parts.Counts.{Counts}
-use Rattle.lk_machine.specs.declared.parts.Frame.{Frame}
-use Rattle.lk_machine.specs.declared.parts.Pc.{Pc}
-use Rattle.lk_machine.specs.declared.parts.Why.{Why}
-use Rattle.lk_machine.specs.Machine.{Machine, set_counts, set_node, set_top, rest_node}
-use Rattle.lk_machine.specs.Moves.{granted, freed, done, missed, leave, waiting, waiter_of}
+use Rattle.lk_rows.specs.declared.parts.Counts.{Counts}
+use Rattle.lk_rows.specs.declared.parts.Frame.{Frame}
+use Rattle.lk_rows.specs.declared.parts.Pc.{Pc}
+use Rattle.lk_rows.specs.declared.parts.Why.{Why}
+use Rattle.lk_rows.specs.Machine.{Machine, set_counts, set_node, set_top, rest_node}
+use Rattle.lk_rows.specs.Moves.{granted, freed, done, missed, leave, waiting, waiter_of}
 
 -- one of the ten counts
 pub data Counter : Type 0 where

@@ -1,6 +1,6 @@
 -- What the laws of histories read of a setup.
 use Rattle.lk_abs.specs.Lawful.{Rules}
-use Rattle.lk_machine.specs.declared.setup.Setup.{Setup}
+use Rattle.lk_rows.specs.declared.setup.Setup.{Setup}
 
 abbrev pub rules_of : Setup → Rules
 rules_of setup =

@@ -1,7 +1,7 @@
 // The families of rows.
 
 ghost use Rattle.std.specs.Prelude.{◌≡◌};
-ghost use Rattle.lk_machine.specs.Family.{family_of};
+ghost use Rattle.lk_rows.specs.Family.{family_of};
 
 use crate::parts::Pc;
 

@@ -9,22 +9,22 @@ use Rattle.lk_word.specs.declared.spin_word.NodeName.{NodeName}
 use Rattle.lk_word.specs.declared.spin_word.Locked.{Locked}
 use Rattle.lk_word.specs.declared.spin_word.Locked.TheVariants.{Free, Held, Slow}
 use Rattle.lk_word.specs.declared.spin_word.Fields.{Fields}
-use Rattle.lk_machine.specs.declared.parts.Flag.{Flag}
-use Rattle.lk_machine.specs.declared.parts.Flag.TheVariants as flag
-use Rattle.lk_machine.specs.declared.parts.State.{State}
-use Rattle.lk_machine.specs.declared.parts.State.TheVariants.{Running, Halted, Hashed}
-use Rattle.lk_machine.specs.declared.parts.Frame.{Frame}
-use Rattle.lk_machine.specs.declared.parts.Pc.{Pc}
-use Rattle.lk_machine.specs.declared.parts.Pc.TheVariants.{G4, H1, H2, W1, W2, W3, W4, W5, W6, W7}
-use Rattle.lk_machine.specs.declared.parts.Pc.TheVariants.{E1, E2, E3, E4, E5, E6, E7, E8, E9, E10}
-use Rattle.lk_machine.specs.declared.parts.Pc.TheVariants.{E11, E12, E13, E14, E15, K1, K2, K3, U2}
-use Rattle.lk_machine.specs.declared.parts.Pc.TheVariants.{U3, U4, U5}
-use Rattle.lk_machine.specs.Moves.{node_of}
-use Rattle.lk_machine.specs.Row.{Effect, Goes, Leaves, Freed, Yields, Nothing, Says, Passes}
-use Rattle.lk_machine.specs.Row.{PvLockStealing, PvWaitNode, PvWaitHead, PvKickUnlock, LockSlowpath}
-use Rattle.lk_machine.specs.Row.{Left, Y, Tailed, HashedIs, TargetIs, looks, learns, writes}
-use Rattle.lk_machine.specs.rows.Spin.{is_unlocked}
-use Rattle.lk_machine.specs.rows.Cna.{is_held, is_last}
+use Rattle.lk_rows.specs.declared.parts.Flag.{Flag}
+use Rattle.lk_rows.specs.declared.parts.Flag.TheVariants as flag
+use Rattle.lk_rows.specs.declared.parts.State.{State}
+use Rattle.lk_rows.specs.declared.parts.State.TheVariants.{Running, Halted, Hashed}
+use Rattle.lk_rows.specs.declared.parts.Frame.{Frame}
+use Rattle.lk_rows.specs.declared.parts.Pc.{Pc}
+use Rattle.lk_rows.specs.declared.parts.Pc.TheVariants.{G4, H1, H2, W1, W2, W3, W4, W5, W6, W7}
+use Rattle.lk_rows.specs.declared.parts.Pc.TheVariants.{E1, E2, E3, E4, E5, E6, E7, E8, E9, E10}
+use Rattle.lk_rows.specs.declared.parts.Pc.TheVariants.{E11, E12, E13, E14, E15, K1, K2, K3, U2}
+use Rattle.lk_rows.specs.declared.parts.Pc.TheVariants.{U3, U4, U5}
+use Rattle.lk_rows.specs.Moves.{node_of}
+use Rattle.lk_rows.specs.Row.{Effect, Goes, Leaves, Freed, Yields, Nothing, Says, Passes}
+use Rattle.lk_rows.specs.Row.{PvLockStealing, PvWaitNode, PvWaitHead, PvKickUnlock, LockSlowpath}
+use Rattle.lk_rows.specs.Row.{Left, Y, Tailed, HashedIs, TargetIs, looks, learns, writes}
+use Rattle.lk_rows.specs.rows.Spin.{is_unlocked}
+use Rattle.lk_rows.specs.rows.Cna.{is_held, is_last}
 
 -- a waiter that may not steal joins the queue, or without a node looks again
 abbrev pub after_given_up : Option NodeName → Pc

@@ -1,0 +1,11 @@
+pub mod Layouts
+pub mod Machine
+pub mod Family
+pub mod Programs
+pub mod Moves
+pub mod Row
+pub mod rows
+pub mod TopRow
+pub mod Acts
+pub mod Run
+pub mod Rules
