@@ -5,6 +5,7 @@ pub mod Programs
 pub mod Moves
 pub mod Row
 pub mod rows
+pub mod Searching
 pub mod TopRow
 pub mod Acts
 pub mod Run

@@ -66,7 +66,7 @@ pub data Lead : Type 0 where
 pub data Tell : Type 0 where
   Nothing : Tell
   Says : What → Tell
-  -- the lead of the frame's lock goes to the waiter of this node, after so many were moved aside
+  -- the head of the frame's lock hands off to this node's waiter, after so many were moved aside
   Passes : NodeName → ℕ → Tell
 
 -- What a row does where it meets a value of this type: `stores` is none where it only looks, or

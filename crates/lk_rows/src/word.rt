@@ -1,7 +1,8 @@
 // What rows ask of a word, where they lead by it, and the node that a register names. A word is
 // written as its tail, its pending bit and its locked byte; 0 is no tail, and `*` is any value.
 
-ghost use Rattle.std.specs.Prelude.{◌≡◌};
+ghost use Rattle.std.specs.Prelude.{◌≡◌, ◌&&◌, not, if◌then◌else◌};
+ghost use Rattle.lk_rows.specs.declared.parts.Pc.TheVariants.{G7, G8, G9};
 ghost use Rattle.lk_rows.specs.rows.Cna.{is_held, is_last};
 ghost use Rattle.lk_rows.specs.Moves.{is_node, node_of};
 ghost use Rattle.lk_rows.specs.rows.Spin.{after_fast, after_pending, to_queue};
@@ -63,6 +64,15 @@ pub fn is_last(frame: Frame, word: Fields) -> bool
     is_held(word) && !word.pending && is_tail(word, named(frame.me))
 }
 
+/// Whether the word is `n,0,0`, n being this node: the lock is free, nobody pends, and nobody queues
+/// behind the node's waiter.
+#[inline]
+pub fn is_sole(word: Fields, own: NodeName) -> bool
+    ensures { result ≡ (is_unlocked word.locked && not word.pending && is_node word.tail own) }
+{
+    is_unlocked(word) && !word.pending && is_tail(word, own)
+}
+
 /// The node that a register names. A register that names none stands for node 0 of processor 0, as
 /// in the definitions of the rows.
 #[inline]
@@ -115,5 +125,22 @@ pub fn after_pending(word: Fields) -> Pc
         Pc::P4
     } else {
         Pc::P3
+    }
+}
+
+/// The row after G7, in which the queue head with this node met this word. It polls again (G7) while
+/// the lock is not free or a waiter pends. Then a head that is alone swaps the word, and so leaves an
+/// empty queue (G8), unless there is a secondary queue. Another stores into the byte (G9).
+#[inline]
+pub fn after_look(word: Fields, own: NodeName, has_second: bool) -> Pc
+    ensures { result ≡ (if is_unlocked word.locked && not word.pending
+        then (if is_node word.tail own && not has_second then G8 else G9) else G7) }
+{
+    if !is_unlocked(word) || word.pending {
+        Pc::G7
+    } else if is_tail(word, own) && !has_second {
+        Pc::G8
+    } else {
+        Pc::G9
     }
 }

@@ -31,8 +31,8 @@ abbrev pub may_stay : Sight → Bool
 may_stay s = nat_lt s.runs s.threshold
 
 -- C1 meets a waiter n. While the run may go on: a local one is chosen, another is the first and the
--- last that is passed over. When the run is over: those aside return before n, or n is chosen where
--- nobody stands aside.
+-- last that is passed over. When the run is over: the secondary queue returns before n, or n is
+-- chosen if there is none.
 abbrev pub after_first : Sight → Option NodeName → NodeName → Effect (Option NodeName)
 after_first s second n =
     if may_stay s
@@ -41,7 +41,7 @@ after_first s second n =
     else (if is_some second then learns_all C3 (K 0 ∷ A (Some n) ∷ Reason why.Flush ∷ [])
     else learns_all C7 (K 0 ∷ Y (Some n) ∷ []))
 
--- C1 meets nobody: it looks again, or those aside return as the rest.
+-- C1 meets nobody: it looks again, or the secondary queue returns as the rest.
 abbrev pub after_none : Option NodeName → Effect (Option NodeName)
 after_none None = learns_all C1 (K 0 ∷ [])
 after_none (Some m) = learns_all C3 (K 0 ∷ Reason why.Promotion ∷ [])
@@ -51,8 +51,8 @@ abbrev pub search_first : Sight → Option NodeName → Option NodeName → Effe
 search_first s second None = after_none second
 search_first s second (Some n) = after_first s second n
 
--- C2 meets a waiter n: a local one is chosen, and those passed over go behind those aside, or are
--- the first to stand aside; another is passed over too.
+-- C2 meets a waiter n: a local one is chosen, and those passed over go behind the secondary queue,
+-- or begin one; another is passed over too.
 abbrev pub after_more : Sight → Frame → NodeName → Effect (Option NodeName)
 after_more s f n =
     if s.local n
@@ -60,8 +60,8 @@ after_more s f n =
     else learns_all C5 (Y (Some n) ∷ Second f.a ∷ []))
     else learns_all C2 (B (Some n) ∷ K (f.k + 1) ∷ [])
 
--- C2 meets nobody: nobody is moved; those aside return, or the first that was passed over is
--- chosen.
+-- C2 meets nobody: nobody is moved; the secondary queue returns, or the first that was passed over
+-- is chosen if there is none.
 abbrev pub after_last : Frame → Effect (Option NodeName)
 after_last f = if is_some f.second then learns_all C3 (K 0 ∷ Reason why.Flush ∷ [])
     else learns_all C7 (K 0 ∷ Y f.a ∷ [])
@@ -76,12 +76,12 @@ search_on s f (Some n) = after_more s f n
 abbrev pub search_row : Sight → Pc → Frame → Option NodeName → Effect (Option NodeName)
 search_row s C1 f x = search_first s f.second x
 search_row s C2 f x = search_on s f x
--- those passed over, from a to b, are linked behind t, the last of those aside
+-- those passed over, from a to b, are linked behind t, the last of the secondary queue
 search_row s C4 f x = record { stores = Some f.a; leads = Goes C5 []; tells = Nothing; counts = [] }
 -- and cut off from y
 search_row s C5 f x =
     record { stores = Some None; leads = Goes C6 []; tells = Nothing; counts = [] }
--- the rest, from a on, is linked behind t; those aside return before it
+-- the rest, from a on, is linked behind t; the secondary queue returns before it
 search_row s C9 f x =
     record {
       stores = Some f.a;
@@ -104,7 +104,7 @@ second_row C3 f x = learns_all (after_tail f.why) (T x ∷ [])
 second_row C6 f x = record { stores = Some f.b; leads = Goes C7 []; tells = Nothing; counts = [] }
 second_row c f x = looks c
 
--- the row on the count in the chosen one's node: one handoff more where waiters stand aside
+-- the row on the count in the successor's node: one handoff more if there is a secondary queue
 abbrev pub runs_row : Sight → Pc → Frame → ℕ → Effect ℕ
 runs_row s C7 f x =
     record {
@@ -115,12 +115,12 @@ runs_row s C7 f x =
     }
 runs_row s c f x = looks c
 
--- the flag that tells the next of the secondary queue
+-- the flag that tells the successor of the secondary queue
 abbrev pub flag_for : Option NodeName → Flag
 flag_for None = flag.Go
 flag_for (Some n) = flag.Second n
 
--- the row on the chosen one's flag: the lead goes to it, and k waiters were moved
+-- the row on the successor's flag: the head hands off to it, and k waiters were moved
 abbrev pub handover_row : Pc → Frame → Flag → Effect Flag
 handover_row C8 f x =
     record {
@@ -140,8 +140,8 @@ is_held _ = false
 abbrev pub is_last : Frame → Fields → Bool
 is_last f x = is_held x.locked && not x.pending && is_node x.tail (node_of f.me)
 
--- the row on the word: while the head is the only one of the main queue, those aside become the
--- rest, me,0,1 -> t,0,1
+-- the row on the word: while the head is the only one of the main queue, the secondary queue
+-- becomes the rest, me,0,1 -> t,0,1
 abbrev pub promotion_row : Pc → Frame → Fields → Effect Fields
 promotion_row C10 f x =
     if is_last f x
