@@ -16,8 +16,8 @@ use Rattle.lk_law.specs.Cna.{moves_aside}
 use Rattle.lk_law.specs.Leads.{Number, Flagged, Named, Linked}
 use Rattle.lk_law.specs.Premises.{IsThen}
 use Rattle.lk_domain.specs.Calls.{StandsOn, slows, told, is_inner}
-use Rattle.lk_domain.specs.Plays.{ActsIn, Goes}
-use Rattle.lk_domain.specs.Rows.{is_patient, queues_up, promotes_by}
+use Rattle.lk_domain.specs.Plays.{ActsAs, ActsIn, Goes, MadeBy}
+use Rattle.lk_domain.specs.Rows.{arrives_by, is_patient, queues_up, promotes_by}
 use Rattle.lk_domain.specs.declared.plan.Plan.{Plan}
 use Rattle.lk_domain.specs.Words.{IsNode, name_number, flag_number, link_number, node_at, part_index}
 use Rattle.lk_domain.specs.Words.{marked}
@@ -255,7 +255,21 @@ abbrev pub Tells : {S : Type 0} → Me S View → ℕ → Me S View → Type 0
 Tells m x n = Goes (Number x) m n
 
 -- it lets the secondary queue return, whose last has this node, as all of the rest of the queue
-pub record AtPromotion (verb : Verb) (lock : LockName) (own tail : NodeName) (v : View) : Type 0 where
+pub record AtPromotion (lock : LockName) (own tail : NodeName) (verb : Verb) (v : View)
+    : Type 0 where
   pub acts : ActsIn (promotes_by verb) v verb lock
   pub me : acts.acts.stands.frame.me ≡ Some own
   pub t : acts.acts.stands.frame.t ≡ Some tail
+
+-- it makes its own node the tail of the lock
+abbrev pub Arrives : LockName → NodeName → Verb → View → Type 0
+Arrives lock own verb v = ActsAs (arrives_by verb) v verb lock own
+
+-- the newest call is some operation, and stands so
+abbrev pub InCall : (Verb → View → Type 0) → View → Type 0
+InCall At v = (verb : Verb) × At verb v
+
+-- whatever operation the call is that stood so: the seat has made its row, and met this word
+abbrev pub RowMade : {S : Type 0} → (Verb → View → Type 0) → ℕ → Me S View → ℕ → Me S View
+    → Type 0
+RowMade At l m met n = (verb : Verb) → At verb m.0 → MadeBy verb l m met n

@@ -55,6 +55,10 @@ pub record KeepsRest (old new : Cpu) : Type 0 where
 pub record Made (verb : Verb) (l : ℕ) (old : Cpu) (met : ℕ) (new : Cpu) : Type 0 where
   pub by : MadeBy verb l old.seat.me met new.seat.me
 
+-- whatever operation the call is that stood so
+abbrev pub MadeFrom : (Verb → View → Type 0) → ℕ → Cpu → ℕ → Cpu → Type 0
+MadeFrom At l old met new = (verb : Verb) → At verb (view_of old) → Made verb l old met new
+
 -- the processor of this number, of a new domain
 pub record IsDealt (domain : Domain) (i : ℕ) (cpu : Cpu) : Type 0 where
   pub domain_is : IsOf cpu domain

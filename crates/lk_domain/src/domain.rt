@@ -7,7 +7,7 @@ ghost use Rattle.lk_domain.specs.NodePlays.{IsFlagNode};
 ghost use Rattle.lk_domain.specs.Words.{name_number, flag_number, marked};
 ghost use Rattle.lk_word.specs.SpinWord.{index_unit, tail_number};
 
-use crate::part::Part;
+use crate::part::{Link, Part};
 use crate::plan::Plan;
 use crate::rule::Order;
 use crate::slot::Slot;
@@ -170,13 +170,13 @@ impl Domain {
     }
 
     // The number of a link to a node, with its mark.
-    pub(crate) fn link_of(&self, node: NodeName, mark: bool) -> u64
-        requires { IsNode self.now.plan node }
-        ensures { result ≡ marked mark (name_number node) }
+    pub(crate) fn link_of(&self, link: Link) -> u64
+        requires { IsNode self.now.plan link.node }
+        ensures { result ≡ marked link.mark (name_number link.node) }
     {
         prove!(self.plan.topology.sockets.len() <= 64);
-        let name = self.name_of(node);
-        if mark { MARK + name } else { name }
+        let name = self.name_of(link.node);
+        if link.mark { MARK + name } else { name }
     }
 
     // The number of a node.

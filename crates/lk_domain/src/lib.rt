@@ -27,7 +27,7 @@ pub use ending::{CloseBack, Closed, close};
 pub use ledger::{Journal, journal_home, journal_out, load, steps as ledger_steps, store, version};
 pub use locks::steps;
 pub use making::{opening_slots, opening_words};
-pub use part::Part;
+pub use part::{Link, Part};
 pub use plan::Plan;
 pub use rule::{Deal, Draw, Order};
 pub use slot::{Slot, Stowed};

@@ -1,8 +1,9 @@
-// The words of a node.
+// The words of a node, and what the link among them says.
 ghost use Rattle.std.specs.Prelude.{◌≡◌, ◌<◌};
 ghost use Rattle.lk_domain.specs.Words.{part_index, is_last};
 
 use lk_abs::Mode;
+use lk_word::NodeName;
 
 /// A word of a queue node. A call resets the words of its node in this order.
 #[derive(Clone, Copy, Debug, PartialEq, Eq)]
@@ -16,6 +17,15 @@ pub enum Part {
     /// The number of handoffs since the secondary queue became non-empty. It stands in the node of
     /// the queue head.
     Runs,
+}
+
+/// What a link says that names a node.
+#[derive(Clone, Copy, Debug, PartialEq, Eq)]
+pub struct Link {
+    /// The node.
+    pub node: NodeName,
+    /// Whether its waiter is in an interrupt.
+    pub mark: bool,
 }
 
 impl Part {

@@ -70,6 +70,41 @@ module _ {w : Call} {a b : Cpu} (of : IsOf a w.domain.now) (rest : KeepsRest a b
         has = λ s told y. way.on_takes w.domain.now w.verb w.lock a b rest of x step c P s told y w.queues spin ends;
       }
 
+-- a call that stands there has a frame that meets another condition too
+pub weaker : {w : Call} {c : Pc} {P Q : Frame → Type 0} {a : Cpu} (at : At w c P a)
+    → Q at.waits.looked.at.frame → At w c Q a
+weaker at has =
+    let looked = at.waits.looked in
+    let on = looked.at in
+    record {
+      domain = at.domain;
+      start = at.start;
+      told = at.told;
+      waits = record {
+        looked = record {
+          at = record {
+            frame = on.frame;
+            trail = on.trail;
+            walk = on.walk;
+            frames = on.frames;
+            holds = on.holds;
+            taken = on.taken;
+            place = on.place;
+            lock = on.lock;
+            ctx = on.ctx;
+            after = on.after;
+            free = on.free;
+            has = has;
+          };
+          passes = looked.passes;
+          falls = looked.falls;
+          stays = looked.stays;
+          once = looked.once;
+        };
+        rises = at.waits.rises;
+      };
+    }
+
 -- a call that stands there
 module _ {w : Call} {c : Pc} {P : Frame → Type 0} {a : Cpu} (at : At w c P a) where
   abbrev pub standing : StandsAs Outside w.domain.now w.verb w.lock c P a

@@ -1,6 +1,5 @@
 -- Where the rows of a head that chooses its successor lead, by what they meet.
-use Rattle.std.proofs.Common.{◌≡◌, ℕ, ◌+◌, IfSome, Option, Some, None, Bool, true, false, inl, inr, refl, sym, ap, ◌∙◌, subst, [], ◌∷◌}
-use Rattle.std.proofs.lemmas.Bool.{cases_Bool}
+use Rattle.std.proofs.Common.{◌≡◌, ℕ, IfSome, Option, Some, None, Bool, true, false, refl, sym, ap, ◌∙◌, subst, [], ◌∷◌}
 use Rattle.std.specs.Prelude.{if◌then◌else◌, ◌&&◌, not}
 use Rattle.lk_abs.specs.declared.names.Mode.{Mode}
 use Rattle.lk_word.specs.declared.spin_word.NodeName.{NodeName}
@@ -11,46 +10,29 @@ use Rattle.lk_rows.specs.declared.parts.Pc.{Pc}
 use Rattle.lk_rows.specs.declared.parts.Pc.TheVariants.{C1, C2, C3, C4, C5, C6, C7, C8, C9, C10}
 use Rattle.lk_rows.specs.declared.parts.Why.{Why}
 use Rattle.lk_rows.specs.declared.parts.Why.TheVariants as why
+use Rattle.lk_rows.specs.declared.search.First.{First}
+use Rattle.lk_rows.specs.declared.search.First.TheVariants as first
+use Rattle.lk_rows.specs.declared.search.More.{More}
+use Rattle.lk_rows.specs.declared.search.More.TheVariants as more
 use Rattle.lk_rows.specs.Moves.{is_node, node_of}
-use Rattle.lk_rows.specs.Row.{learns_all, A, B, K, T, Reason, Y, Second}
+use Rattle.lk_rows.specs.Row.{learns_all, T}
 use Rattle.lk_rows.specs.rows.Cna.{Sight, may_stay, search_first, search_on, after_tail, is_held, is_last, flag_for}
+use Rattle.lk_rows.specs.Searching.{first_by, first_effect, over_by, more_by, more_effect, met_by}
 use Rattle.lk_rows.specs.TopRow.{target}
+use Rattle.lk_rows.proofs.Searching.{search_first-by, search_on-by}
 use Rattle.lk_law.specs.Leads.{Met, Word, Number, Flagged, Named, Linked, Course, course_of}
 use Rattle.lk_law.specs.Steps.{led}
 use Rattle.lk_domain.specs.Calls.{course, grip_of, Unchanged, Outlook, sight_by}
 use Rattle.lk_domain.specs.NodePlays.{IsFlagNode}
 use Rattle.lk_domain.specs.Words.{IsNode}
 use Rattle.lk_domain.specs.declared.plan.Plan.{Plan}
-use Rattle.lk_run.specs.Choices.{first_by, over_by, more_by, met_by, IsFirstNode, IsMoreNode}
+use Rattle.lk_run.specs.Choices.{IsFirstNode, IsMoreNode}
 use Rattle.lk_run.specs.Frames.{Fronts, Precedes, Skips, Appends, Ties, Parts, Flushes, Returns, Promotes, Promoting}
-use Rattle.lk_run.specs.declared.seen.First.{First}
-use Rattle.lk_run.specs.declared.seen.First.TheVariants as first
-use Rattle.lk_run.specs.declared.seen.More.{More}
-use Rattle.lk_run.specs.declared.seen.More.TheVariants as more
 use Rattle.lk_run.proofs.Ways.{Leads, Ends}
 
 -- the course by what is seen behind the head
 abbrev told_first : First → Course
-told_first first.Waits = course_of {A = Option NodeName} (learns_all C1 (K 0 ∷ []))
-told_first (first.Promotes m) = course_of {A = Option NodeName} (learns_all C3 (K 0 ∷ Reason why.Promotion ∷ []))
-told_first (first.Chooses n) = course_of {A = Option NodeName} (learns_all C7 (K 0 ∷ Y (Some n) ∷ []))
-told_first (first.Skips n) = course_of {A = Option NodeName} (learns_all C2 (K 1 ∷ A (Some n) ∷ B (Some n) ∷ []))
-told_first (first.Flushes m n) = course_of {A = Option NodeName} (learns_all C3 (K 0 ∷ A (Some n) ∷ Reason why.Flush ∷ []))
-
-first_course : (s : Sight) (second x : Option NodeName)
-    → course_of (search_first s second x) ≡ told_first (first_by s second x)
-first_course s None None = refl
-first_course s (Some m) None = refl
-first_course s None (Some n) =
-    elim (cases_Bool (may_stay s)) [
-      | inl a ↦ elim (cases_Bool (s.local n)) [ inl b ↦ rw (a, b) refl | inr b ↦ rw (a, b) refl ]
-      | inr a ↦ rw a refl
-    ]
-first_course s (Some m) (Some n) =
-    elim (cases_Bool (may_stay s)) [
-      | inl a ↦ elim (cases_Bool (s.local n)) [ inl b ↦ rw (a, b) refl | inr b ↦ rw (a, b) refl ]
-      | inr a ↦ rw a refl
-    ]
+told_first v = course_of {A = Option NodeName} (first_effect v)
 
 -- who is named as the first of the secondary queue is that
 over_named : (a b : Bool) (second : Option NodeName) (n m k : NodeName)
@@ -83,20 +65,7 @@ flushes_named s (Some j) (Some n) m k e = over_named (may_stay s) (s.local n) (S
 
 -- the course by what is seen behind those that were passed over
 abbrev told_more : Frame → More → Course
-told_more f (more.Skips n) = course_of {A = Option NodeName} (learns_all C2 (B (Some n) ∷ K (f.k + 1) ∷ []))
-told_more f (more.Appends m n) = course_of {A = Option NodeName} (learns_all C3 (Y (Some n) ∷ Reason why.Append ∷ []))
-told_more f (more.Begins n) = course_of {A = Option NodeName} (learns_all C5 (Y (Some n) ∷ Second f.a ∷ []))
-told_more f (more.Flushes m) = course_of {A = Option NodeName} (learns_all C3 (K 0 ∷ Reason why.Flush ∷ []))
-told_more f more.Chooses = course_of {A = Option NodeName} (learns_all C7 (K 0 ∷ Y f.a ∷ []))
-
-more_course : (s : Sight) (f : Frame) (second x : Option NodeName) → f.second ≡ second
-    → course_of (search_on s f x) ≡ told_more f (more_by s second x)
-more_course s f None None e = rw e refl
-more_course s f (Some m) None e = rw e refl
-more_course s f None (Some n) e =
-    elim (cases_Bool (s.local n)) [ inl b ↦ rw (b, e) refl | inr b ↦ rw b refl ]
-more_course s f (Some m) (Some n) e =
-    elim (cases_Bool (s.local n)) [ inl b ↦ rw (b, e) refl | inr b ↦ rw b refl ]
+told_more f v = course_of {A = Option NodeName} (more_effect f v)
 
 met_named : (b : Bool) (second : Option NodeName) (n m y : NodeName)
     → (if b then met_by second n else more.Skips n) ≡ more.Appends m y → second ≡ Some m
@@ -125,11 +94,13 @@ more_flushes_named s (Some j) (Some n) m e = absurd (met_flushes (s.local n) (So
 first_is : (z : Sight) (f : Frame) (second x : Option NodeName) → f.second ≡ second → (v : First)
     → first_by z second x ≡ v → course_of (search_first z f.second x) ≡ told_first v
 first_is z f second x is v e =
-    ap (λ (o : Option NodeName). course_of (search_first z o x)) is ∙ (first_course z second x ∙ ap told_first e)
+    ap (λ (o : Option NodeName). course_of (search_first z o x)) is
+    ∙ (ap (course_of {A = Option NodeName}) (search_first-by z second x) ∙ ap told_first e)
 
 more_is : (z : Sight) (f : Frame) (second x : Option NodeName) → f.second ≡ second → (v : More)
     → more_by z second x ≡ v → course_of (search_on z f x) ≡ told_more f v
-more_is z f second x is v e = more_course z f second x is ∙ ap (told_more f) e
+more_is z f second x is v e =
+    ap (course_of {A = Option NodeName}) (search_on-by z f second x is) ∙ ap (told_more f) e
 
 -- where it goes by that
 abbrev pub more_pc : More → Pc
@@ -189,6 +160,10 @@ tail_is : (f : Frame) (t : NodeName) (w : Why) → f.why ≡ w
     → course_of {A = Option NodeName} (learns_all (after_tail f.why) (T (Some t) ∷ []))
     ≡ course_of {A = Option NodeName} (learns_all (after_tail w) (T (Some t) ∷ []))
 tail_is f t w e = ap (λ (y : Why). course_of {A = Option NodeName} (learns_all (after_tail y) (T (Some t) ∷ []))) e
+
+pub tail_place : (mode : Mode) (p : ℕ) (z : Outlook) (f : Frame) (t : NodeName) (w : Why) → f.why ≡ w
+    → (led f (course mode p z C3 f (Named (Some t))).leads).place ≡ Some (after_tail w)
+tail_place mode p z f t w e = ap (λ (y : Why). Some (after_tail y)) e
 
 -- the mark counts where somebody is named alone
 

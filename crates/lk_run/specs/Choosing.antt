@@ -1,11 +1,14 @@
--- The rows of a queue head that chooses its successor. `May` and `Needs` say where the head stands
--- before a row, and `Has` says what the row has done, by what it met.
+-- The rows of a queue head that chooses its successor. `May` says where the head stands before a
+-- row, and `Has` says what the row has done, by what it met.
 --
 -- Those that the head has passed over are from a, or `skipped`, to b, or `last`. The secondary
 -- queue has m, or `second`, for its first node and t for its last. The successor is y, or `next`.
 use Rattle.std.specs.Prelude.{◌≡◌, Bool, true, false, Some, None}
 use Rattle.lk_word.specs.declared.spin_word.NodeName.{NodeName}
-use Rattle.lk_rows.specs.declared.parts.Pc.TheVariants.{C1, C2, C3, C4, C5, C6, C7, C8, C9, C10}
+use Rattle.lk_rows.specs.declared.parts.Pc.TheVariants.{C1, C2, C3, C4, C5, C6, C7, C9, C10}
+use Rattle.lk_rows.specs.declared.search.First.TheVariants as first
+use Rattle.lk_rows.specs.declared.search.More.{More}
+use Rattle.lk_rows.specs.declared.search.More.TheVariants as more
 use Rattle.lk_domain.specs.declared.cpu.Cpu.{Cpu}
 use Rattle.lk_run.specs.Choices.{IsFirstNode, IsMoreNode}
 use Rattle.lk_run.specs.Heads.{At, Steps, Looks, LooksOn, IsNodeOf, Fronts, FrontsWith, Precedes}
@@ -13,9 +16,6 @@ use Rattle.lk_run.specs.Heads.{Skips, Appends, Ties, Parts, Flushes, Returns, Pr
 use Rattle.lk_run.specs.Phases.{Knows}
 use Rattle.lk_run.specs.declared.call.Front.{Front}
 use Rattle.lk_run.specs.declared.seen.Behind.{Behind}
-use Rattle.lk_run.specs.declared.seen.First.TheVariants as first
-use Rattle.lk_run.specs.declared.seen.More.{More}
-use Rattle.lk_run.specs.declared.seen.More.TheVariants as more
 
 -- what the head knows of the first node that it has passed over stays
 abbrev pub StillKnows : Cpu → Cpu → Type 0
@@ -58,28 +58,14 @@ pub record HasLookedBeyond (head : Front) (b : NodeName) (seen : More) (old new 
       → Steps head C2 (Skips a b) C7 (Precedes head.second a) old new
   pub knows : StillKnows old new
 
--- the head stands at C3, and is to append those that it has passed over to the secondary queue
-pub record NeedsTailToAppend (head : Front) (m : NodeName) (cpu : Cpu) : Type 0 where
-  pub skipped : NodeName
-  pub last : NodeName
-  pub next : NodeName
-  pub at : At head C3 (Appends m skipped last next) cpu
-
--- the head has made the row C3: it has read the last node of the secondary queue, in the first
-pub record HasTailToAppend (head : Front) (m tail : NodeName) (old new : Cpu) : Type 0 where
+-- The head has made the row C3: it has read the last node of the secondary queue, in the first. It
+-- goes on by what it is to do with that queue.
+pub record HasTail (head : Front) (m tail : NodeName) (old new : Cpu) : Type 0 where
   pub node : IsNodeOf head tail
-  pub goes : (a b y : NodeName) → Steps head C3 (Appends m a b y) C4 (Ties m a b y tail) old new
-  pub knows : StillKnows old new
-
--- the head stands at C3, and the secondary queue is to return before a waiter
-pub record NeedsTailToFlush (head : Front) (m : NodeName) (cpu : Cpu) : Type 0 where
-  pub waiter : NodeName
-  pub at : At head C3 (Flushes m waiter) cpu
-
--- the head has made the row C3: it has read the last node of the secondary queue, in the first
-pub record HasTailToFlush (head : Front) (m tail : NodeName) (old new : Cpu) : Type 0 where
-  pub node : IsNodeOf head tail
-  pub goes : (a : NodeName) → Steps head C3 (Flushes m a) C9 (Returns m a tail) old new
+  pub appends : (a b y : NodeName)
+      → Steps head C3 (Appends m a b y) C4 (Ties m a b y tail) old new
+  pub flushes : (a : NodeName) → Steps head C3 (Flushes m a) C9 (Returns m a tail) old new
+  pub promotes : Steps head C3 (Promotes m) C10 (Promoting m tail) old new
   pub knows : StillKnows old new
 
 -- the head stands at C4, has passed over waiters from a on, and has read t
@@ -111,16 +97,6 @@ pub record MaySetTail (head : Front) (m b : NodeName) (cpu : Cpu) : Type 0 where
 -- the head has made the row C6, and is to count the handoff
 pub record HasSetTail (head : Front) (m b : NodeName) (old new : Cpu) : Type 0 where
   pub goes : (y : NodeName) → Steps head C6 (Parts m b y) C7 (Precedes (Some m) y) old new
-
--- the head stands at C7, has a secondary queue, and has chosen y
-pub record MayTellMore (head : Front) (y : NodeName) (cpu : Cpu) : Type 0 where
-  pub second : NodeName
-  pub at : At head C7 (Precedes (Some second) y) cpu
-
--- the head has made the row C7, and is to hand off to y, with the secondary queue
-pub record HasToldMore (head : Front) (y : NodeName) (old new : Cpu) : Type 0 where
-  pub goes : (m : NodeName)
-      → Steps head C7 (Precedes (Some m) y) C8 (Precedes (Some m) y) old new
 
 -- the head stands at C9, has read t, and the secondary queue is to return before a
 pub record MayAppendRest (head : Front) (a t : NodeName) (cpu : Cpu) : Type 0 where

@@ -4,7 +4,7 @@ ghost use Rattle.std.specs.Prelude.{◌≡◌, ◌≢◌, ◌≤◌, true, false
 ghost use Rattle.lk_rows.specs.declared.parts.Pc.TheVariants.{G1, G2, G3, G4, G5, G6, G7, N1};
 ghost use Rattle.lk_rows.specs.declared.parts.Pc.TheVariants.{N2};
 ghost use Rattle.lk_rows.specs.declared.parts.Flag.TheVariants.{Unset};
-ghost use Rattle.lk_law.specs.Cna.{moves_aside, node_in};
+ghost use Rattle.lk_law.specs.Cna.{node_in};
 ghost use Rattle.lk_domain.specs.Calls.{slows};
 ghost use Rattle.lk_domain.specs.NodePlays.{IsFlagNode};
 ghost use Rattle.lk_domain.specs.Paths.{Any};
@@ -14,40 +14,28 @@ ghost use Rattle.lk_run.specs.Words as call;
 ghost use Rattle.lk_run.specs.Words.{IsNext};
 
 use crate::call::{Call, Queued};
-use crate::words::{flag_met, word_met};
-use lk_domain::{Cpu, Part, steps};
+use crate::words::{flag_met, moves_waiters, word_met};
+use lk_domain::{Cpu, Link, Part, steps};
 use lk_rows::Flag;
 use lk_word::NodeName;
 use std::sync::Wait;
 
 impl<'a> Queued<'a> {
-    // The row G1 with a node, where nobody is moved aside: its flag is unset and its link is none.
-    // The stores are private: no other call can reach the node before this one has exchanged the
-    // tail.
+    // The row G1 with a node: its flag is unset and its link is none. Where waiters are moved aside,
+    // it names no last of a secondary queue either, and counts no handoff. The stores are private: no
+    // other call can reach the node before this one has exchanged the tail.
     pub(crate) fn enter(&self, cpu: &mut Cpu)
-        requires mode { moves_aside self.now.call.domain.now.plan.mode ≡ false }
         requires node { IsNext self.now.own cpu.old }
         requires waits { call.At self.now.call G1 Any cpu.old }
         ensures { call.Steps self.now.call G1 Any G2 (Owns self.now) cpu.old cpu.new }
     {
         let call = self.call;
-        steps::private_store(cpu, call.domain, call.verb, self.own, Part::Flag, 0);
-        steps::private_store(cpu, call.domain, call.verb, self.own, Part::Next, 0);
-    }
-
-    // The row G1 where waiters are moved aside: the node names no last of a secondary queue either,
-    // and counts no handoff.
-    pub(crate) fn enter_whole(&self, cpu: &mut Cpu)
-        requires mode { moves_aside self.now.call.domain.now.plan.mode ≡ true }
-        requires node { IsNext self.now.own cpu.old }
-        requires waits { call.At self.now.call G1 Any cpu.old }
-        ensures { call.Steps self.now.call G1 Any G2 (Owns self.now) cpu.old cpu.new }
-    {
-        let call = self.call;
-        steps::private_store(cpu, call.domain, call.verb, self.own, Part::Flag, 0);
-        steps::private_store(cpu, call.domain, call.verb, self.own, Part::Next, 0);
-        steps::private_store(cpu, call.domain, call.verb, self.own, Part::SecondTail, 0);
-        steps::private_store(cpu, call.domain, call.verb, self.own, Part::Runs, 0);
+        steps::reset(cpu, call.domain, call.verb, self.own, Part::Flag);
+        steps::reset(cpu, call.domain, call.verb, self.own, Part::Next);
+        if moves_waiters(call.domain.mode()) {
+            steps::reset(cpu, call.domain, call.verb, self.own, Part::SecondTail);
+            steps::reset(cpu, call.domain, call.verb, self.own, Part::Runs);
+        }
     }
 
     // The row G2: gives the word. The reset of the node took a while, and the lock may be free by
@@ -95,7 +83,7 @@ impl<'a> Queued<'a> {
         let own = self.own;
         let mut expected = expected;
         for _ in rt.forever() {
-            let met = steps::exchange_tail(cpu, call.domain, call.verb, call.lock, expected, own);
+            let met = steps::exchange_tail(cpu, call.domain, call.lock, expected, own);
             if met == expected {
                 return word_met(call.domain, met).tail;
             }
@@ -113,7 +101,11 @@ impl<'a> Queued<'a> {
         ensures { Steps self.now G5 (Follows prev) G6 Owns cpu.old cpu.new }
     {
         let inner = cpu.depth() > 1;
-        steps::link(cpu, self.call.domain, self.call.verb, prev, self.own, inner);
+        let own = Link {
+            node: self.own,
+            mark: inner,
+        };
+        steps::link(cpu, self.call.domain, self.call.verb, prev, own);
     }
 
     // The row G6: polls the own flag. Once that is set, the predecessor has the lock, and this call

@@ -1,22 +1,20 @@
 // The rows in which a queue head that has the lock chooses its successor and hands off, one step
 // each. The comments show the main queue as (own, a .. b, y, ..), the secondary queue as
 // [first .. t], and a word as (queue tail, pending, locked).
-ghost use Rattle.std.specs.Prelude.{IfSome, None};
-ghost use Rattle.lk_rows.specs.declared.parts.Pc.TheVariants.{C1, C3, C7, C8, C10};
+ghost use Rattle.std.specs.Prelude.{IfSome, Some};
+ghost use Rattle.lk_rows.specs.declared.parts.Pc.TheVariants.{C1, C3, C7, C8};
 ghost use Rattle.lk_run.specs.Choosing.{HasAppendedMoved, HasAppendedRest, HasCut, HasSetTail};
-ghost use Rattle.lk_run.specs.Choosing.{HasLookedBehind, HasLookedBeyond, HasTailToAppend};
-ghost use Rattle.lk_run.specs.Choosing.{HasTailToFlush, HasToldMore, HasTriedToPromote};
-ghost use Rattle.lk_run.specs.Choosing.{MayAppendMoved, MayAppendRest, MayCut, MayLookBeyond};
-ghost use Rattle.lk_run.specs.Choosing.{MayPromote, MaySetTail, MayTellMore, NeedsTailToAppend};
-ghost use Rattle.lk_run.specs.Choosing.{NeedsTailToFlush};
-ghost use Rattle.lk_run.specs.Heads.{At, Steps, Takes, IsNodeOf, Fronts, Precedes, Promotes};
-ghost use Rattle.lk_run.specs.Heads.{Promoting};
+ghost use Rattle.lk_run.specs.Choosing.{HasLookedBehind, HasLookedBeyond, HasTail};
+ghost use Rattle.lk_run.specs.Choosing.{HasTriedToPromote, MayAppendMoved, MayAppendRest, MayCut};
+ghost use Rattle.lk_run.specs.Choosing.{MayLookBeyond, MayPromote, MaySetTail};
+ghost use Rattle.lk_run.specs.Heads.{At, Steps, Takes, IsNodeOf, Fronts, FrontsWith, Precedes};
 ghost use Rattle.lk_run.specs.Phases.{Knows};
 
 use crate::call::Front;
-use crate::seen::{Behind, More, Site};
-use crate::words::{flag_for, is_last, mark_met, node_met, tail_met, word_met};
-use lk_domain::{Cpu, Part, steps};
+use crate::seen::{Behind, Site};
+use crate::words::{is_last, mark_met, node_met, tail_met, word_met};
+use lk_domain::{Cpu, Link, Part, steps};
+use lk_rows::{More, flag_for};
 use lk_word::NodeName;
 
 impl<'a> Front<'a> {
@@ -60,35 +58,12 @@ impl<'a> Front<'a> {
         site.more_seen(self.second, node_met(domain, met), mark)
     }
 
-    // The row C3 before the waiters that the head has passed over, from a to b, move to the
-    // secondary queue: reads t, the last of [first .. t], in the node of the first.
-    pub(crate) fn tail_to_append(&self, cpu: &mut Cpu, first: NodeName) -> NodeName
+    // The row C3: reads t, the last of [first .. t], in the node of the first. The waiters that the
+    // head has passed over are to move behind t, or those from the first to t are to return.
+    pub(crate) fn find_tail(&self, cpu: &mut Cpu, first: NodeName) -> NodeName
         requires first { IsNodeOf self.now first }
-        requires waits { NeedsTailToAppend self.now first cpu.old }
-        ensures { HasTailToAppend self.now first result cpu.old cpu.new }
-    {
-        let met = steps::second_tail(cpu, self.call.domain, self.call.verb, first, None);
-        tail_met(self.call.domain, met)
-    }
-
-    // The row C3 before the secondary queue returns before a waiter: reads t, the last of
-    // [first .. t].
-    pub(crate) fn tail_to_flush(&self, cpu: &mut Cpu, first: NodeName) -> NodeName
-        requires first { IsNodeOf self.now first }
-        requires waits { NeedsTailToFlush self.now first cpu.old }
-        ensures { HasTailToFlush self.now first result cpu.old cpu.new }
-    {
-        let met = steps::second_tail(cpu, self.call.domain, self.call.verb, first, None);
-        tail_met(self.call.domain, met)
-    }
-
-    // The row C3 before the secondary queue is all of the rest: reads t, the last of [first .. t].
-    pub(crate) fn tail_to_promote(&self, cpu: &mut Cpu, first: NodeName) -> NodeName
-        requires first { IsNodeOf self.now first }
-        requires waits { At self.now C3 (Promotes first) cpu.old }
-        ensures node { IsNodeOf self.now result }
-        ensures goes { Steps self.now C3 (Promotes first) C10 (Promoting first result) cpu.old
-            cpu.new }
+        requires waits { At self.now C3 (FrontsWith (Some first)) cpu.old }
+        ensures { HasTail self.now first result cpu.old cpu.new }
     {
         let met = steps::second_tail(cpu, self.call.domain, self.call.verb, first, None);
         tail_met(self.call.domain, met)
@@ -103,7 +78,8 @@ impl<'a> Front<'a> {
         requires knows { Knows a mark cpu.old }
         ensures { HasAppendedMoved self.now a t cpu.old cpu.new }
     {
-        steps::append(cpu, self.call.domain, self.call.verb, t, a, mark);
+        let moved = Link { node: a, mark };
+        steps::append(cpu, self.call.domain, self.call.verb, t, moved);
     }
 
     // The row C5: the link of b, y -> none. The secondary queue ends with b, and the head alone
@@ -127,26 +103,23 @@ impl<'a> Front<'a> {
         steps::second_tail(cpu, self.call.domain, self.call.verb, first, Some(b));
     }
 
-    // The row C7 without a secondary queue: the count of the successor is 0.
-    pub(crate) fn tell_none(&self, cpu: &mut Cpu, y: NodeName)
+    // The row C7: the count of the successor. Without a secondary queue it is 0. With one it is one
+    // more than the own count, at which the head looks before that, as the row asks; the threshold
+    // allows one more.
+    pub(crate) fn count(&self, cpu: &mut Cpu, second: Option<NodeName>, y: NodeName)
         requires y { IsNodeOf self.now y }
-        requires waits { At self.now C7 (Precedes None y) cpu.old }
-        ensures { Steps self.now C7 (Precedes None y) C8 (Precedes None y) cpu.old cpu.new }
+        requires waits { At self.now C7 (Precedes second y) cpu.old }
+        ensures { Steps self.now C7 (Precedes second y) C8 (Precedes second y) cpu.old cpu.new }
     {
-        steps::store_runs(cpu, self.call.domain, self.call.verb, y, 0);
-    }
-
-    // The row C7 with a secondary queue. Before that it looks at the own count of handoffs, as the
-    // row asks: the successor counts one more, which the threshold allows.
-    pub(crate) fn tell_more(&self, cpu: &mut Cpu, y: NodeName)
-        requires y { IsNodeOf self.now y }
-        requires waits { MayTellMore self.now y cpu.old }
-        ensures { HasToldMore self.now y cpu.old cpu.new }
-    {
-        let runs = steps::own_runs(cpu, self.call.domain, self.call.verb, self.own);
-        let threshold = self.call.domain.threshold();
+        let call = self.call;
+        if second.is_none() {
+            steps::store_runs(cpu, call.domain, call.verb, y, 0);
+            return;
+        }
+        let runs = steps::own_runs(cpu, call.domain, call.verb, self.own);
+        let threshold = call.domain.threshold();
         prove!(runs < threshold as u64);
-        steps::store_runs(cpu, self.call.domain, self.call.verb, y, runs as u32 + 1);
+        steps::store_runs(cpu, call.domain, call.verb, y, runs as u32 + 1);
     }
 
     // The row C8, which hands off: the flag of y, unset -> go, or -> first with a secondary queue.
@@ -169,7 +142,8 @@ impl<'a> Front<'a> {
         requires knows { Knows a mark cpu.old }
         ensures { HasAppendedRest self.now a t cpu.old cpu.new }
     {
-        steps::append(cpu, self.call.domain, self.call.verb, t, a, mark);
+        let rest = Link { node: a, mark };
+        steps::append(cpu, self.call.domain, self.call.verb, t, rest);
     }
 
     // The row C10. Returns true if the secondary queue is the rest of the main queue now.
@@ -182,7 +156,7 @@ impl<'a> Front<'a> {
         ensures { HasTriedToPromote self.now t result cpu.old cpu.new }
     {
         let call = self.call;
-        let met = steps::tail_to_second(cpu, call.domain, call.verb, call.lock, self.own, t);
+        let met = steps::tail_to_second(cpu, call.domain, call.lock, self.own, t);
         is_last(word_met(call.domain, met), self.own)
     }
 }

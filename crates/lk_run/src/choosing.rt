@@ -9,9 +9,9 @@ ghost use Rattle.lk_run.specs.Phases.{Knows};
 
 use crate::call::{Front, Skipped};
 use crate::irq::{Irq, give_way};
-use crate::seen::{First, More};
 use crossbeam_utils::Backoff;
 use lk_domain::Cpu;
+use lk_rows::{First, More};
 use lk_word::NodeName;
 use std::sync::Wait;
 
@@ -27,11 +27,12 @@ impl<'a> Front<'a> {
             match behind.seen {
                 First::Waits => give_way(cpu, rt, self.call.domain, irq, &backoff),
                 First::Promotes(first) => {
-                    if self.return_all(cpu, first) {
-                        return self.give_alone(cpu, first);
+                    let t = self.find_tail(cpu, first);
+                    if self.promote(cpu, t) {
+                        return self.give(cpu, None, first);
                     }
                 }
-                First::Chooses(y) => return self.give(cpu, y),
+                First::Chooses(y) => return self.give(cpu, self.second, y),
                 First::Skips(a) => {
                     let skipped = Skipped {
                         first: a,
@@ -56,13 +57,8 @@ impl<'a> Front<'a> {
         ensures { Wins self.now C2 (Skips skipped.first skipped.last) cpu.old (I.polls irq.old)
             cpu.new (I.polls irq.new) }
     {
-        let Skipped {
-            first: a,
-            mark,
-            last,
-        } = skipped;
         let backoff = Backoff::new();
-        let mut b = last;
+        let mut b = skipped.last;
         for _ in rt.forever() {
             match self.look_more(cpu, b) {
                 More::Skips(next) => {
@@ -70,18 +66,14 @@ impl<'a> Front<'a> {
                     give_way(cpu, rt, self.call.domain, irq, &backoff);
                 }
                 More::Appends(first, y) => {
-                    let all = Skipped {
-                        first: skipped.first,
-                        mark: skipped.mark,
-                        last: b,
-                    };
+                    let all = Skipped { last: b, ..skipped };
                     return self.append(cpu, first, all, y);
                 }
                 More::Begins(y) => return self.part(cpu, skipped.first, b, y),
                 More::Flushes(first) => {
                     return self.flush(cpu, first, skipped.first, skipped.mark);
                 }
-                More::Chooses => return self.give(cpu, skipped.first),
+                More::Chooses => return self.give(cpu, self.second, skipped.first),
             }
         }
         unreachable!()
@@ -98,7 +90,7 @@ impl<'a> Front<'a> {
         requires knows { Knows skipped.first skipped.mark cpu.old }
         ensures { Takes self.now C3 (Appends first skipped.first skipped.last y) cpu.old cpu.new }
     {
-        let t = self.tail_to_append(cpu, first);
+        let t = self.find_tail(cpu, first);
         self.append_moved(cpu, skipped.first, skipped.mark, t);
         self.part(cpu, first, skipped.last, y);
     }
@@ -114,7 +106,7 @@ impl<'a> Front<'a> {
     {
         self.cut(cpu, b);
         self.set_tail(cpu, first, b);
-        self.give_aside(cpu, first, y);
+        self.give(cpu, Some(first), y);
     }
 
     // From C3: the secondary queue returns before a, and the head hands off to the first of it.
@@ -125,55 +117,19 @@ impl<'a> Front<'a> {
         requires knows { Knows a mark cpu.old }
         ensures { Takes self.now C3 (Flushes first a) cpu.old cpu.new }
     {
-        let t = self.tail_to_flush(cpu, first);
+        let t = self.find_tail(cpu, first);
         self.append_rest(cpu, a, mark, t);
-        self.give_alone(cpu, first);
+        self.give(cpu, None, first);
     }
 
-    // From C3: the secondary queue returns as all of the rest, unless another waiter has come.
-    // Returns true if it did: the first of it is the successor then.
-    fn return_all(&self, cpu: &mut Cpu, first: NodeName) -> bool
-        requires first { IsNodeOf self.now first }
-        requires waits { At self.now C3 (Promotes first) cpu.old }
-        ensures promoted { result ≡ true
-            → Steps self.now C3 (Promotes first) C7 (Precedes None first) cpu.old cpu.new }
-        ensures others { result ≡ false
-            → Steps self.now C3 (Promotes first) C1 (FrontsWith (Some first)) cpu.old cpu.new }
-    {
-        let t = self.tail_to_promote(cpu, first);
-        self.promote(cpu, t)
-    }
-
-    // From C7: it hands off to y.
-    fn give(&self, cpu: &mut Cpu, y: NodeName)
+    // From C7: it hands off to y, with the first of the secondary queue, if there is one.
+    fn give(&self, cpu: &mut Cpu, second: Option<NodeName>, y: NodeName)
+        requires second { IfSome second (IsNodeOf self.now) }
         requires y { IsNodeOf self.now y }
-        requires waits { At self.now C7 (Precedes self.now.second y) cpu.old }
-        ensures { Takes self.now C7 (Precedes self.now.second y) cpu.old cpu.new }
+        requires waits { At self.now C7 (Precedes second y) cpu.old }
+        ensures { Takes self.now C7 (Precedes second y) cpu.old cpu.new }
     {
-        match self.second {
-            None => self.give_alone(cpu, y),
-            Some(first) => self.give_aside(cpu, first, y),
-        }
-    }
-
-    // From C7 without a secondary queue.
-    fn give_alone(&self, cpu: &mut Cpu, y: NodeName)
-        requires y { IsNodeOf self.now y }
-        requires waits { At self.now C7 (Precedes None y) cpu.old }
-        ensures { Takes self.now C7 (Precedes None y) cpu.old cpu.new }
-    {
-        self.tell_none(cpu, y);
-        self.hand_chosen(cpu, None, y);
-    }
-
-    // From C7 with a secondary queue.
-    fn give_aside(&self, cpu: &mut Cpu, first: NodeName, y: NodeName)
-        requires first { IsNodeOf self.now first }
-        requires y { IsNodeOf self.now y }
-        requires waits { At self.now C7 (Precedes (Some first) y) cpu.old }
-        ensures { Takes self.now C7 (Precedes (Some first) y) cpu.old cpu.new }
-    {
-        self.tell_more(cpu, y);
-        self.hand_chosen(cpu, Some(first), y);
+        self.count(cpu, second, y);
+        self.hand_chosen(cpu, second, y);
     }
 }

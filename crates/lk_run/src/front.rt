@@ -6,9 +6,9 @@ ghost use Rattle.lk_law.specs.Cna.{moves_aside};
 ghost use Rattle.lk_run.specs.Heads.{At, Steps, Looks, Takes, IsNodeOf, Fronts, Precedes};
 
 use crate::call::Front;
-use crate::words::{after_look, is_sole, node_met, stands_aside, word_met};
+use crate::words::{node_met, word_met};
 use lk_domain::{Cpu, Part, steps};
-use lk_rows::{Flag, Pc};
+use lk_rows::{Flag, Pc, after_look, is_sole};
 use lk_word::NodeName;
 
 impl<'a> Front<'a> {
@@ -24,7 +24,7 @@ impl<'a> Front<'a> {
     {
         let met = steps::look(cpu, self.call.domain, self.call.verb, self.call.lock);
         let word = word_met(self.call.domain, met);
-        after_look(word, self.own, stands_aside(self.second))
+        after_look(word, self.own, self.second.is_some())
     }
 
     // The row G8. Returns true if it acquired the lock.

@@ -90,7 +90,10 @@ impl<'a> Call<'a> {
         ensures { Wins self.now P1 Any cpu.old (I.polls irq.old) cpu.new (I.polls irq.new) }
     {
         match self.set_pending(cpu) {
-            Pc::P2 => self.withdraw(cpu, rt, irq),
+            Pc::P2 => {
+                self.clear_pending(cpu);
+                self.slow(cpu, rt, irq);
+            }
             Pc::P3 => self.wait_as_next(cpu, rt, irq),
             Pc::P4 => self.take_pending(cpu),
             _ => self.slow(cpu, rt, irq),
@@ -110,15 +113,6 @@ impl<'a> Call<'a> {
             give_way(cpu, rt, self.domain, irq, &backoff);
         }
         unreachable!()
-    }
-
-    // From P2: it set pending, and a queue came first.
-    fn withdraw<I: Irq, R: Wait>(&self, cpu: &mut Cpu, rt: &R, irq: &mut I)
-        requires { Waiting self.now P2 Any cpu.old (I.polls irq.old) }
-        ensures { Wins self.now P2 Any cpu.old (I.polls irq.old) cpu.new (I.polls irq.new) }
-    {
-        self.clear_pending(cpu);
-        self.slow(cpu, rt, irq);
     }
 
     // From G1. A processor has four nodes, one for each of its calls in the queue; a fifth waits
@@ -167,37 +161,14 @@ impl<'a> Queued<'a> {
         requires waits { Waiting self.now.call G1 Any cpu.old (I.polls irq.old) }
         ensures { Wins self.now.call G1 Any cpu.old (I.polls irq.old) cpu.new (I.polls irq.new) }
     {
-        self.prepare(cpu);
+        self.enter(cpu);
         let met = self.look_again(cpu);
         if met == 0 {
-            self.retry(cpu, rt, irq);
-        } else {
-            self.queue(cpu, rt, irq, met);
-        }
-    }
-
-    // The row G1 with a node, in each family.
-    fn prepare(&self, cpu: &mut Cpu)
-        requires node { IsNext self.now.own cpu.old }
-        requires waits { At self.now.call G1 Any cpu.old }
-        ensures { Steps self.now.call G1 Any G2 (node.Owns self.now) cpu.old cpu.new }
-    {
-        if moves_waiters(self.call.domain.mode()) {
-            self.enter_whole(cpu);
-        } else {
-            self.enter(cpu);
-        }
-    }
-
-    // From G3: it saw the word free.
-    fn retry<I: Irq, R: Wait>(&self, cpu: &mut Cpu, rt: &R, irq: &mut I)
-        requires { node.Waiting self.now G3 node.Owns cpu.old (I.polls irq.old) }
-        ensures { node.Wins self.now G3 node.Owns cpu.old (I.polls irq.old) cpu.new
-            (I.polls irq.new) }
-    {
-        let met = self.swap_again(cpu);
-        if met == 0 {
-            return;
+            let met = self.swap_again(cpu);
+            if met == 0 {
+                return;
+            }
+            return self.queue(cpu, rt, irq, met);
         }
         self.queue(cpu, rt, irq, met);
     }
@@ -209,20 +180,12 @@ impl<'a> Queued<'a> {
             (I.polls irq.new) }
     {
         match self.exchange_tail(cpu, rt, met) {
-            Some(prev) => self.follow(cpu, rt, irq, prev),
+            Some(prev) => {
+                self.link(cpu, prev);
+                self.wait_turn(cpu, rt, irq);
+            }
             None => self.lead(cpu, rt, irq, None),
         }
-    }
-
-    // From G5: it has a predecessor.
-    fn follow<I: Irq, R: Wait>(&self, cpu: &mut Cpu, rt: &R, irq: &mut I, prev: NodeName)
-        requires prev { node.IsNodeOf self.now prev }
-        requires waits { node.Waiting self.now G5 (node.Follows prev) cpu.old (I.polls irq.old) }
-        ensures { node.Wins self.now G5 (node.Follows prev) cpu.old (I.polls irq.old)
-            cpu.new (I.polls irq.new) }
-    {
-        self.link(cpu, prev);
-        self.wait_turn(cpu, rt, irq);
     }
 
     // From G6, until its predecessor has handed off.
@@ -259,7 +222,8 @@ impl<'a> Queued<'a> {
 }
 
 impl<'a> Front<'a> {
-    // From G7, until the lock is free and nobody pends.
+    // From G7: it waits until the lock is free and nobody pends. Alone in the queue it swaps the word
+    // (G8); if it has others behind it by then, it goes on to G9.
     fn wait_open<I: Irq, R: Wait>(&self, cpu: &mut Cpu, rt: &R, irq: &mut I)
         requires { head.Waiting self.now G7 head.Fronts cpu.old (I.polls irq.old) }
         ensures { head.Wins self.now G7 head.Fronts cpu.old (I.polls irq.old) cpu.new (I.polls
@@ -268,24 +232,17 @@ impl<'a> Front<'a> {
         let backoff = Backoff::new();
         for _ in rt.forever() {
             match self.wait_as_front(cpu) {
-                Pc::G8 => return self.alone(cpu, rt, irq),
+                Pc::G8 => {
+                    if self.take_sole(cpu) {
+                        return;
+                    }
+                    return self.stake(cpu, rt, irq);
+                }
                 Pc::G9 => return self.stake(cpu, rt, irq),
                 _ => give_way(cpu, rt, self.call.domain, irq, &backoff),
             }
         }
         unreachable!()
-    }
-
-    // From G8: it saw itself alone in the queue.
-    fn alone<I: Irq, R: Wait>(&self, cpu: &mut Cpu, rt: &R, irq: &mut I)
-        requires { head.Waiting self.now G8 head.Fronts cpu.old (I.polls irq.old) }
-        ensures { head.Wins self.now G8 head.Fronts cpu.old (I.polls irq.old) cpu.new (I.polls
-            irq.new) }
-    {
-        if self.take_sole(cpu) {
-            return;
-        }
-        self.stake(cpu, rt, irq);
     }
 
     // From G9: it has others behind it, takes the lock, and hands off.

@@ -1,14 +1,11 @@
 // What the number of a word says, and where the rows lead that meet it.
-ghost use Rattle.std.specs.Prelude.{◌≡◌, ◌<◌, ◌&&◌, not, is_some, Bool, Option, IfSome, if◌then◌else◌};
+ghost use Rattle.std.specs.Prelude.{◌≡◌, ◌<◌, ◌&&◌, not, Bool, Option, IfSome};
 ghost use Rattle.lk_word.specs.declared.spin_word.Fields.{Fields};
 ghost use Rattle.lk_word.specs.declared.spin_word.NodeName.{NodeName, NodeName as Node};
 ghost use Rattle.lk_word.specs.SpinWord.{packed, IsPackable};
 ghost use Rattle.lk_law.specs.Cna.{moves_aside};
 ghost use Rattle.lk_rows.specs.Moves.{is_node};
-ghost use Rattle.lk_rows.specs.declared.parts.Pc.TheVariants.{G7, G8, G9};
-ghost use Rattle.lk_rows.specs.rows.Cna as choice_rows;
 ghost use Rattle.lk_rows.specs.rows.Cna.{is_held};
-ghost use Rattle.lk_rows.specs.rows.Spin.{is_unlocked};
 ghost use Rattle.lk_rows.specs.declared.parts.Flag.{Flag as FlagOf};
 ghost use Rattle.lk_domain.specs.NodePlays.{IsFlagNode};
 ghost use Rattle.lk_domain.specs.Plans.{layout_in};
@@ -16,8 +13,8 @@ ghost use Rattle.lk_domain.specs.Words.{IsNode, link_number, flag_number, name_n
 
 use lk_abs::Mode;
 use lk_domain::Domain;
-use lk_rows::{Flag, Pc, is_tail, is_unlocked};
-use lk_word::{Fields, LOWEST_NODE, Locked, MARK, NodeName, node_of_name, unpack};
+use lk_rows::{Flag, is_held, is_tail};
+use lk_word::{Fields, LOWEST_NODE, MARK, NodeName, node_of_name, unpack};
 
 // The fields of a word that a step met.
 #[inline]
@@ -74,28 +71,6 @@ pub(crate) fn flag_met(domain: &Domain, met: u64) -> Flag
     Flag::Second(node_of_name(met))
 }
 
-// Whether the word is that of a free lock with one waiter in its queue, which has this node: nobody
-// pends.
-pub(crate) fn is_sole(word: Fields, own: NodeName) -> bool
-    ensures { result ≡ (is_unlocked word.locked && not word.pending && is_node word.tail own) }
-{
-    is_unlocked(word) && !word.pending && is_tail(word, own)
-}
-
-// Where a head goes that polled the word, by whether there is a secondary queue.
-pub(crate) fn after_look(word: Fields, own: NodeName, aside: bool) -> Pc
-    ensures { result ≡ (if is_unlocked word.locked && not word.pending
-        then (if is_node word.tail own && not aside then G8 else G9) else G7) }
-{
-    if !is_unlocked(word) || word.pending {
-        Pc::G7
-    } else if is_tail(word, own) && !aside {
-        Pc::G8
-    } else {
-        Pc::G9
-    }
-}
-
 // Whether the family moves waiters aside.
 pub(crate) fn moves_waiters(mode: Mode) -> bool
     ensures { result ≡ moves_aside mode }
@@ -107,17 +82,7 @@ pub(crate) fn moves_waiters(mode: Mode) -> bool
 pub(crate) fn is_last(word: Fields, own: NodeName) -> bool
     ensures { result ≡ (is_held word.locked && not word.pending && is_node word.tail own) }
 {
-    matches!(word.locked, Locked::Held) && !word.pending && is_tail(word, own)
-}
-
-// The flag by which the successor learns of the secondary queue.
-pub(crate) fn flag_for(second: Option<NodeName>) -> Flag
-    ensures { result ≡ choice_rows.flag_for second }
-{
-    match second {
-        None => Flag::Go,
-        Some(first) => Flag::Second(first),
-    }
+    is_held(word) && !word.pending && is_tail(word, own)
 }
 
 // The node that a word names.
@@ -127,11 +92,4 @@ pub(crate) fn tail_met(domain: &Domain, met: u64) -> NodeName
     ensures { (node : Node) → IsNode domain.now.plan node → met ≡ name_number node → result ≡ node }
 {
     node_of_name(met)
-}
-
-// Whether there is a secondary queue.
-pub(crate) fn stands_aside(second: Option<NodeName>) -> bool
-    ensures { result ≡ is_some second }
-{
-    second.is_some()
 }

@@ -3,15 +3,16 @@
 ghost use Rattle.std.specs.Prelude.{◌≡◌, ◌<◌, None, IfSome};
 ghost use Rattle.lk_law.specs.Leads.{Number};
 ghost use Rattle.lk_domain.specs.NodePlays.{AtAppend, AtCut, AtSecondTail, AtSkipped, AtOwnRuns};
-ghost use Rattle.lk_domain.specs.NodePlays.{AtRuns, AtPromotion};
+ghost use Rattle.lk_domain.specs.NodePlays.{AtRuns, AtPromotion, InCall};
 ghost use Rattle.lk_domain.specs.NodeSeats.{LinkMet, NameMet, LinkSeen, TailSeen, RunsSeen, Went};
 ghost use Rattle.lk_domain.specs.Plans.{locks_of};
-ghost use Rattle.lk_domain.specs.Seats.{IsOf, KeepsRest, Made, view_of};
+ghost use Rattle.lk_domain.specs.Seats.{IsOf, KeepsRest, MadeFrom, view_of};
 ghost use Rattle.lk_domain.specs.Words.{IsNode};
 
 use super::{moves, node_moves};
 use crate::cpu::Cpu;
 use crate::domain::Domain;
+use crate::part::Link;
 use lk_abs::LockName;
 use lk_rows::Verb;
 use lk_word::NodeName;
@@ -30,24 +31,17 @@ pub fn cut(cpu: &mut Cpu, domain: &Domain, verb: Verb, node: NodeName) -> u64
 
 /// Links the node `next` behind the last node of the secondary queue, which is the row C4 or C9.
 /// `next` is the first node that the newest call has passed over (C4), or the first of the rest of
-/// the queue (C9). `mark` is the mark of the link in which the call met `next`: whether the waiter
-/// of `next` is in an interrupt. Returns the number of the link before the step.
-pub fn append(
-    cpu: &mut Cpu,
-    domain: &Domain,
-    verb: Verb,
-    node: NodeName,
-    next: NodeName,
-    mark: bool,
-) -> u64
+/// the queue (C9), with the mark of the link in which the call met it. Returns the number of the
+/// link before the step.
+pub fn append(cpu: &mut Cpu, domain: &Domain, verb: Verb, node: NodeName, next: Link) -> u64
     requires domain { IsOf cpu.old domain.now }
     requires node { IsNode domain.now.plan node }
-    requires next { IsNode domain.now.plan next }
-    requires row { AtAppend node next mark verb (view_of cpu.old) }
+    requires next { IsNode domain.now.plan next.node }
+    requires row { AtAppend node next.node next.mark verb (view_of cpu.old) }
     ensures rest { KeepsRest cpu.old cpu.new }
     ensures met { LinkMet cpu.old result cpu.new }
 {
-    node_moves::append(&mut cpu.seat, domain, verb, node, next, mark)
+    node_moves::append(&mut cpu.seat, domain, verb, node, next)
 }
 
 /// Reads or stores the last node of the secondary queue, which stands in the first. If `store` is
@@ -117,7 +111,6 @@ pub fn store_runs(cpu: &mut Cpu, domain: &Domain, verb: Verb, node: NodeName, ru
 pub fn tail_to_second(
     cpu: &mut Cpu,
     domain: &Domain,
-    verb: Verb,
     lock: LockName,
     own: NodeName,
     tail: NodeName,
@@ -126,9 +119,9 @@ pub fn tail_to_second(
     requires lock { lock.index < locks_of domain.now.plan }
     requires own { IsNode domain.now.plan own }
     requires tail { IsNode domain.now.plan tail }
-    requires row { AtPromotion verb lock own tail (view_of cpu.old) }
+    requires row { InCall (AtPromotion lock own tail) (view_of cpu.old) }
     ensures rest { KeepsRest cpu.old cpu.new }
-    ensures step { Made verb lock.index cpu.old result cpu.new }
+    ensures step { MadeFrom (AtPromotion lock own tail) lock.index cpu.old result cpu.new }
 {
-    moves::tail_to_second(&mut cpu.seat, domain, verb, lock, own, tail)
+    moves::tail_to_second(&mut cpu.seat, domain, lock, own, tail)
 }

@@ -3,11 +3,11 @@ ghost use Rattle.std.specs.Prelude.{◌≡◌, ◌<◌, true, false, None};
 ghost use Rattle.lk_rows.specs.declared.setup.Verb.TheVariants.{Lock, Try, Unlock};
 ghost use Rattle.lk_domain.specs.Calls.{lock_name};
 ghost use Rattle.lk_domain.specs.Ledgers.{is_first};
-ghost use Rattle.lk_domain.specs.NodePlays.{AtPromotion};
+ghost use Rattle.lk_domain.specs.NodePlays.{Arrives, AtPromotion, InCall, RowMade};
 ghost use Rattle.lk_domain.specs.Plans.{locks_of};
 ghost use Rattle.lk_domain.specs.Plays.{Acts, ActsIn, ActsAs, MadeBy, SwappedBy};
 ghost use Rattle.lk_domain.specs.Rows.{is_look, is_take, is_free};
-ghost use Rattle.lk_domain.specs.Rows.{arrives_by, soles_by};
+ghost use Rattle.lk_domain.specs.Rows.{soles_by};
 ghost use Rattle.lk_domain.specs.Uses.{goes_on, uses_by};
 ghost use Rattle.lk_domain.specs.Values.{out_in};
 ghost use Rattle.lk_domain.specs.Views.{IsNumbered};
@@ -166,7 +166,6 @@ pub(crate) fn sole_claim(
 pub(crate) fn tail_to_second(
     seat: &mut Right,
     domain: &Domain,
-    _verb: Verb,
     lock: LockName,
     own: NodeName,
     tail: NodeName,
@@ -176,9 +175,9 @@ pub(crate) fn tail_to_second(
     requires number { IsNumbered seat.old.me.0 }
     requires own { IsNode domain.now.plan own }
     requires tail { IsNode domain.now.plan tail }
-    requires row { AtPromotion _verb lock own tail seat.old.me.0 }
+    requires row { InCall (AtPromotion lock own tail) seat.old.me.0 }
     ensures same { (seat.new.table_id ≡ seat.old.table_id) × (seat.new.id ≡ seat.old.id) }
-    ensures step { MadeBy _verb lock.index seat.old.me result seat.new.me }
+    ensures step { RowMade (AtPromotion lock own tail) lock.index seat.old.me result seat.new.me }
 {
     let word = domain.word_of(lock);
     let met_own = domain.tail_of(own) + HELD;
@@ -195,7 +194,6 @@ pub(crate) fn tail_to_second(
 pub(crate) fn exchange_tail(
     seat: &mut Right,
     domain: &Domain,
-    _verb: Verb,
     lock: LockName,
     expected: u64,
     own: NodeName,
@@ -204,7 +202,7 @@ pub(crate) fn exchange_tail(
     requires lock { lock.index < locks_of domain.now.plan }
     requires number { IsNumbered seat.old.me.0 }
     requires own { IsNode domain.now.plan own }
-    requires row { ActsAs (arrives_by _verb) seat.old.me.0 _verb lock own }
+    requires row { InCall (Arrives lock own) seat.old.me.0 }
     ensures same { (seat.new.table_id ≡ seat.old.table_id) × (seat.new.id ≡ seat.old.id) }
     ensures step { SwappedBy expected seat.old.me result seat.new.me }
 {

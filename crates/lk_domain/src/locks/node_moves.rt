@@ -12,7 +12,7 @@ ghost use Rattle.lk_domain.specs.declared.part.Part.TheVariants as part_is;
 
 use crate::cpu::Right;
 use crate::domain::Domain;
-use crate::part::Part;
+use crate::part::{Link, Part};
 use crate::rule::{
     Counts, Entries, FlagLooks, Handovers, LinkLooks, Linkings, Namings, Relinkings, Resets,
     RunsLooks, TailLooks,
@@ -23,18 +23,10 @@ use lk_word::NodeName;
 
 // Resets a word of the node to come. Nobody uses the node: no tail, no link and no other call of
 // the processor names it.
-pub(crate) fn reset(
-    seat: &mut Right,
-    domain: &Domain,
-    _verb: Verb,
-    own: NodeName,
-    part: Part,
-    value: u64,
-)
+pub(crate) fn reset(seat: &mut Right, domain: &Domain, _verb: Verb, own: NodeName, part: Part)
     requires table { seat.old.table_id ≡ domain.now.table.shared.table_id }
     requires number { IsNumbered seat.old.me.0 }
     requires own { IsNode domain.now.plan own }
-    requires value { value ≡ 0 }
     requires row { AtEntry own _verb seat.old.me.0 }
     requires ready { part ≢ part_is.Flag → seat.old.me.0.calls.ready ≡ part_index part }
     requires plan { seat.old.me.0.who.plan ≡ domain.now.plan }
@@ -42,22 +34,14 @@ pub(crate) fn reset(
     ensures step { seat.new.me ≡ (readied_by part seat.old.me.0, seat.old.me.1) }
 {
     let word = domain.node_of(own, part);
-    domain.table.shared.swap::<Resets>(seat, word, value);
+    domain.table.shared.swap::<Resets>(seat, word, 0);
 }
 
 // Resets the last word of the node to come, whose other words are reset, and takes the node.
-pub(crate) fn enter(
-    seat: &mut Right,
-    domain: &Domain,
-    _verb: Verb,
-    own: NodeName,
-    part: Part,
-    value: u64,
-)
+pub(crate) fn enter(seat: &mut Right, domain: &Domain, _verb: Verb, own: NodeName, part: Part)
     requires table { seat.old.table_id ≡ domain.now.table.shared.table_id }
     requires number { IsNumbered seat.old.me.0 }
     requires own { IsNode domain.now.plan own }
-    requires value { value ≡ 0 }
     requires row { AtEntry own _verb seat.old.me.0 }
     requires last { is_last domain.now.plan.mode part ≡ true }
     requires part { has_part domain.now.plan.mode part ≡ true }
@@ -66,7 +50,7 @@ pub(crate) fn enter(
     ensures step { Enters seat.old.me 0 seat.new.me }
 {
     let word = domain.node_of(own, part);
-    domain.table.shared.swap::<Entries>(seat, word, value);
+    domain.table.shared.swap::<Entries>(seat, word, 0);
 }
 
 // Enters without a node, where four calls of the processor have theirs, by a look at the word of
@@ -85,24 +69,17 @@ pub(crate) fn enter_bare(seat: &mut Right, domain: &Domain, _verb: Verb, lock: L
 
 // Links the own node behind the predecessor's, whose link is none: only the call that met that
 // node as the tail stores there. The mark is that of the call's context.
-pub(crate) fn link(
-    seat: &mut Right,
-    domain: &Domain,
-    _verb: Verb,
-    prev: NodeName,
-    own: NodeName,
-    mark: bool,
-) -> u64
+pub(crate) fn link(seat: &mut Right, domain: &Domain, _verb: Verb, prev: NodeName, own: Link) -> u64
     requires table { seat.old.table_id ≡ domain.now.table.shared.table_id }
     requires number { IsNumbered seat.old.me.0 }
     requires prev { IsNode domain.now.plan prev }
-    requires own { IsNode domain.now.plan own }
-    requires row { AtPrev prev own mark _verb seat.old.me.0 }
+    requires own { IsNode domain.now.plan own.node }
+    requires row { AtPrev prev own.node own.mark _verb seat.old.me.0 }
     ensures same { (seat.new.table_id ≡ seat.old.table_id) × (seat.new.id ≡ seat.old.id) }
     ensures step { Links seat.old.me result seat.new.me }
 {
     let word = domain.node_of(prev, Part::Next);
-    let name = domain.link_of(own, mark);
+    let name = domain.link_of(own);
     let met = domain.table.shared.swap::<Linkings>(seat, word, name);
     met
 }
@@ -172,19 +149,18 @@ pub(crate) fn append(
     domain: &Domain,
     _verb: Verb,
     node: NodeName,
-    next: NodeName,
-    mark: bool,
+    next: Link,
 ) -> u64
     requires table { seat.old.table_id ≡ domain.now.table.shared.table_id }
     requires number { IsNumbered seat.old.me.0 }
     requires node { IsNode domain.now.plan node }
-    requires next { IsNode domain.now.plan next }
-    requires row { AtAppend node next mark _verb seat.old.me.0 }
+    requires next { IsNode domain.now.plan next.node }
+    requires row { AtAppend node next.node next.mark _verb seat.old.me.0 }
     ensures same { (seat.new.table_id ≡ seat.old.table_id) × (seat.new.id ≡ seat.old.id) }
     ensures step { Relinks seat.old.me result seat.new.me }
 {
     let word = domain.node_of(node, Part::Next);
-    let name = domain.link_of(next, mark);
+    let name = domain.link_of(next);
     let met = domain.table.shared.swap::<Relinkings>(seat, word, name);
     met
 }

@@ -5,12 +5,12 @@ ghost use Rattle.lk_rows.specs.declared.parts.Flag.TheVariants.{Unset};
 ghost use Rattle.lk_law.specs.Leads.{Number, Flagged, Named};
 ghost use Rattle.lk_domain.specs.Calls.{slows};
 ghost use Rattle.lk_domain.specs.NodePlays.{AtPrev, AtNext, AtEntry, AtBare, LooksAt, readied_by};
-ghost use Rattle.lk_domain.specs.NodePlays.{IsFlagNode};
+ghost use Rattle.lk_domain.specs.NodePlays.{Arrives, InCall, IsFlagNode};
 ghost use Rattle.lk_domain.specs.NodeSeats.{Went, FlagSeen, LinkSeen};
 ghost use Rattle.lk_domain.specs.Plans.{locks_of};
 ghost use Rattle.lk_domain.specs.Plays.{ActsIn, ActsAs, IsWord};
-ghost use Rattle.lk_domain.specs.Rows.{arrives_by, soles_by, stakes_by};
-ghost use Rattle.lk_domain.specs.Seats.{IsOf, KeepsRest, Made, calls_of, view_of};
+ghost use Rattle.lk_domain.specs.Rows.{soles_by, stakes_by};
+ghost use Rattle.lk_domain.specs.Seats.{IsOf, KeepsRest, Made, MadeFrom, calls_of, view_of};
 ghost use Rattle.lk_domain.specs.Words.{IsNode, part_index, has_part, is_last};
 ghost use Rattle.lk_domain.specs.declared.part.Part.TheVariants as part_is;
 
@@ -20,16 +20,15 @@ use super::{moves, node_moves};
 use crate::cpu::Cpu;
 use crate::domain::Domain;
 use crate::notes::Standing;
-use crate::part::Part;
+use crate::part::{Link, Part};
 use lk_abs::LockName;
 use lk_rows::{Flag, Verb};
 use lk_word::NodeName;
 
 // Resets the last word of the node to come: the call enters the slow path with it.
-fn enter(cpu: &mut Cpu, domain: &Domain, verb: Verb, own: NodeName, part: Part, value: u64)
+fn enter(cpu: &mut Cpu, domain: &Domain, verb: Verb, own: NodeName, part: Part)
     requires domain { IsOf cpu.old domain.now }
     requires own { IsNode domain.now.plan own }
-    requires value { value ≡ 0 }
     requires row { AtEntry own verb (view_of cpu.old) }
     requires last { is_last domain.now.plan.mode part ≡ true }
     requires part { has_part domain.now.plan.mode part ≡ true }
@@ -38,7 +37,7 @@ fn enter(cpu: &mut Cpu, domain: &Domain, verb: Verb, own: NodeName, part: Part, 
     ensures row { Went (Number (slows (calls_of cpu.old).frames)) cpu.old cpu.new }
 {
     let lock = cpu.notes.newest();
-    node_moves::enter(&mut cpu.seat, domain, verb, own, part, value);
+    node_moves::enter(&mut cpu.seat, domain, verb, own, part);
     let after = Standing {
         waits: true,
         slow: true,
@@ -48,33 +47,24 @@ fn enter(cpu: &mut Cpu, domain: &Domain, verb: Verb, own: NodeName, part: Part, 
 }
 
 // Resets another word of the node to come.
-fn reset(cpu: &mut Cpu, domain: &Domain, verb: Verb, own: NodeName, part: Part, value: u64)
+fn reset_other(cpu: &mut Cpu, domain: &Domain, verb: Verb, own: NodeName, part: Part)
     requires domain { IsOf cpu.old domain.now }
     requires own { IsNode domain.now.plan own }
-    requires value { value ≡ 0 }
     requires row { AtEntry own verb (view_of cpu.old) }
     requires ready { part ≢ part_is.Flag → (calls_of cpu.old).ready ≡ part_index part }
     ensures rest { KeepsRest cpu.old cpu.new }
     ensures reset { view_of cpu.new ≡ readied_by part (view_of cpu.old) }
 {
-    node_moves::reset(&mut cpu.seat, domain, verb, own, part, value);
+    node_moves::reset(&mut cpu.seat, domain, verb, own, part);
 }
 
 /// Resets a word of the node that the newest call gets next. Nobody uses what the word held. A
 /// call resets the words in the order of `Part`: all four in a domain whose queue heads move
 /// waiters aside, and else the flag and the link. The reset of the last word is the row G1: from
 /// then on the call has the node.
-pub fn private_store(
-    cpu: &mut Cpu,
-    domain: &Domain,
-    verb: Verb,
-    own: NodeName,
-    part: Part,
-    value: u64,
-)
+pub fn reset(cpu: &mut Cpu, domain: &Domain, verb: Verb, own: NodeName, part: Part)
     requires domain { IsOf cpu.old domain.now }
     requires own { IsNode domain.now.plan own }
-    requires value { value ≡ 0 }
     requires row { AtEntry own verb (view_of cpu.old) }
     requires part { has_part domain.now.plan.mode part ≡ true }
     requires ready { part ≢ part_is.Flag → (calls_of cpu.old).ready ≡ part_index part }
@@ -85,9 +75,9 @@ pub fn private_store(
         → Went (Number (slows (calls_of cpu.old).frames)) cpu.old cpu.new }
 {
     if part.is_last(domain.mode()) {
-        enter(cpu, domain, verb, own, part, value);
+        enter(cpu, domain, verb, own, part);
     } else {
-        reset(cpu, domain, verb, own, part, value);
+        reset_other(cpu, domain, verb, own, part);
     }
 }
 
@@ -110,26 +100,19 @@ pub fn enter_bare(cpu: &mut Cpu, domain: &Domain, verb: Verb, lock: LockName)
     cpu.notes.step(lock.index, after);
 }
 
-/// Links the own node of the newest call behind its predecessor, which is the row G5. `mark` says
-/// whether the call is in an interrupt. Returns the number of the link before the step, which is
-/// that of no node.
-pub fn link(
-    cpu: &mut Cpu,
-    domain: &Domain,
-    verb: Verb,
-    prev: NodeName,
-    own: NodeName,
-    mark: bool,
-) -> u64
+/// Links the own node of the newest call behind its predecessor, which is the row G5. The mark of
+/// the link says whether the call is in an interrupt. Returns the number of the link before the
+/// step, which is that of no node.
+pub fn link(cpu: &mut Cpu, domain: &Domain, verb: Verb, prev: NodeName, own: Link) -> u64
     requires domain { IsOf cpu.old domain.now }
     requires prev { IsNode domain.now.plan prev }
-    requires own { IsNode domain.now.plan own }
-    requires row { AtPrev prev own mark verb (view_of cpu.old) }
+    requires own { IsNode domain.now.plan own.node }
+    requires row { AtPrev prev own.node own.mark verb (view_of cpu.old) }
     ensures rest { KeepsRest cpu.old cpu.new }
     ensures met { result ≡ 0 }
     ensures row { Went (Named None) cpu.old cpu.new }
 {
-    node_moves::link(&mut cpu.seat, domain, verb, prev, own, mark)
+    node_moves::link(&mut cpu.seat, domain, verb, prev, own)
 }
 
 /// Reads the flag or the link of the own node of the newest call, which is the row G6, G10 or C1.
@@ -178,24 +161,17 @@ pub fn hand(cpu: &mut Cpu, domain: &Domain, verb: Verb, to: NodeName, flag: Flag
 /// Swaps the word of a lock from `met` to the same word with the own node as its tail. Returns the
 /// word before the step. If that is `met`, this is the row G4. Else nothing has changed, and the
 /// call tries again.
-pub fn exchange_tail(
-    cpu: &mut Cpu,
-    domain: &Domain,
-    verb: Verb,
-    lock: LockName,
-    met: u64,
-    own: NodeName,
-) -> u64
+pub fn exchange_tail(cpu: &mut Cpu, domain: &Domain, lock: LockName, met: u64, own: NodeName) -> u64
     requires domain { IsOf cpu.old domain.now }
     requires lock { lock.index < locks_of domain.now.plan }
     requires own { IsNode domain.now.plan own }
-    requires row { ActsAs (arrives_by verb) (view_of cpu.old) verb lock own }
+    requires row { InCall (Arrives lock own) (view_of cpu.old) }
     ensures rest { KeepsRest cpu.old cpu.new }
-    ensures step { result ≡ met → Made verb lock.index cpu.old result cpu.new }
+    ensures step { result ≡ met → MadeFrom (Arrives lock own) lock.index cpu.old result cpu.new }
     ensures stands { result ≢ met → view_of cpu.new ≡ view_of cpu.old }
     ensures word { IsWord domain.now.plan result }
 {
-    moves::exchange_tail(&mut cpu.seat, domain, verb, lock, met, own)
+    moves::exchange_tail(&mut cpu.seat, domain, lock, met, own)
 }
 
 /// Swaps the word of a lock from free, with the own node alone in its queue, to held without a

@@ -20,7 +20,7 @@ pub use super::choice_steps::{
 };
 use super::moves::WordUse;
 pub use super::queue_steps::{
-    enter_bare, exchange_tail, hand, link, look_own, private_store, set_locked, sole_claim,
+    enter_bare, exchange_tail, hand, link, look_own, reset, set_locked, sole_claim,
 };
 pub use super::rw_steps::{
     add_bias, empty_to_writer, join_first, seize_first, set_waiting, subtract_bias,

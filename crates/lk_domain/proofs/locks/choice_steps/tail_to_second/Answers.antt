@@ -4,16 +4,33 @@ use Rattle.lk_domain.proofs.turns.Noted.{stays}
 use Rattle.lk_domain.proofs.turns.Stepped as stepped
 use Rattle.lk_domain.proofs.locks.choice_steps.tail_to_second.Goals as goal
 
+pub returns-clause-rest : goal.returns-clause-rest
+returns-clause-rest c =
+    let made = c.tail_to_second.ensures.step c.requires.row.0 c.requires.row.1 in
+    record {
+      same = record {
+        table = c.tail_to_second.ensures.same.0;
+        id = c.tail_to_second.ensures.same.1;
+        number = refl;
+        who = λ i. (made.seat i).0.who;
+      };
+      slots = λ i. (made.seat i).1;
+    }
+
+pub returns-clause-step : goal.returns-clause-step
+returns-clause-step c verb at = record { by = c.tail_to_second.ensures.step verb at }
+
 pub invariant_of-cpu : goal.invariant_of-cpu
 invariant_of-cpu c =
     let cpu = c.args.cpu.now in
     let l = c.args.lock in
-    let v = c.args.verb in
+    let v = c.requires.row.0 in
+    let at = c.requires.row.1 in
     let m = cpu.seat.me in
     let n = c.tail_to_second.new.seat.me in
     let met = c.tail_to_second.result in
-    let made = c.tail_to_second.ensures.step in
-    let t = stepped.promotes v l met m n made cpu.apart cpu.noted.few c.requires.row.acts in
+    let made = c.tail_to_second.ensures.step v at in
+    let t = stepped.promotes v l met m n made cpu.apart cpu.noted.few at.acts in
     record {
       numbered = row.numbered v l.index met m n made cpu.numbered;
       noted = stays cpu.notes m.0.calls n.0.calls l.index _ cpu.noted t.steps (t.on refl) t.was;

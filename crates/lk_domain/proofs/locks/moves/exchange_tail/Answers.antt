@@ -19,8 +19,9 @@ compare_exchange-met-requires c =
     let old = c.args.expected in
     let tail = c.tail_of-tail.result in
     let unit = c.tail_unit.result in
-    let v = c.args._verb in
-    let acts = c.requires.row.acts.acts in (
+    let v = c.requires.row.0 in
+    let at = c.requires.row.1 in
+    let acts = at.acts.acts in (
       c.requires.table,
       (let few = d.lawful.locks in let below = word_below d.plan c.args.lock c.requires.lock in omega (arith, c.word_of-word.ensures, d.words, below)),
       asks_swap d.table.shared.key d.plan z.slots c.args.seat.now.id c.args.seat.now.me c.requires.number v c.args.lock i
@@ -30,5 +31,5 @@ compare_exchange-met-requires c =
           (arrive_later v acts.row acts.is) old (old % unit + tail) refl
           (λ mode y packs known is. ap (λ (n : ℕ). n % unit + tail) (sym is)
           ∙ ((λ j. packed (layout_in d.plan) y % c.tail_unit.ensures j + c.tail_of-tail.ensures j)
-          ∙ arrives (layout_in d.plan) mode acts.row acts.stands.frame y c.args.own (arrive_kind v acts.row acts.is).0 c.requires.row.me)),
+          ∙ arrives (layout_in d.plan) mode acts.row acts.stands.frame y c.args.own (arrive_kind v acts.row acts.is).0 at.me)),
     )

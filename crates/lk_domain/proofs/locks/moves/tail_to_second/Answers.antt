@@ -18,8 +18,9 @@ compare_exchange-met-requires c =
     let old : ℕ = c.tail_of-met_own.result + 1 in
     let new : ℕ = c.tail_of-new.result + 1 in
     let near = c.requires.own in
-    let v = c.args._verb in
-    let acts = c.requires.row.acts.acts in (
+    let v = c.requires.row.0 in
+    let at = c.requires.row.1 in
+    let acts = at.acts.acts in (
       c.requires.table,
       (let few = d.lawful.locks in let below = word_below d.plan c.args.lock c.requires.lock in omega (arith, c.word_of-word.ensures, d.words, below)),
       asks_on d.table.shared.key d.plan z.slots c.args.seat.now.id c.args.seat.now.me c.requires.number v c.args.lock i
@@ -29,11 +30,10 @@ compare_exchange-met-requires c =
           (promote_later v acts.row acts.is) (λ n. either (eqb n old) new n)
           (λ mode y packs known. (λ j. either (eqb (packed (layout_in d.plan) y) (c.tail_of-met_own.ensures j + 1)) (c.tail_of-new.ensures j + 1) (packed (layout_in d.plan) y))
           ∙ promotes (layout_in d.plan) mode acts.row acts.stands.frame y c.args.own c.args.tail (promote_kind v acts.row acts.is).0 packs
-          (let a = near.cpu in let b = near.index in let few = d.lawful.cpus in (omega arith, omega arith)) (ap node_of c.requires.row.me) c.requires.row.t),
+          (let a = near.cpu in let b = near.index in let few = d.lawful.cpus in (omega arith, omega arith)) (ap node_of at.me) at.t),
     )
 
 pub returns-clause-step : goal.returns-clause-step
-returns-clause-step c =
-    let v = c.args._verb in
-    let acts = c.requires.row.acts.acts in
+returns-clause-step c v at =
+    let acts = at.acts.acts in
     made_on v c.args.lock c.compare_exchange-met.result c.args.seat.now.me c.compare_exchange-met.new.seat.me (promotes_by v) acts (promote_later v acts.row acts.is) c.compare_exchange-met.ensures.2

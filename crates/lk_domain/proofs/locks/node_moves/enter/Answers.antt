@@ -1,7 +1,4 @@
-use Rattle.std.proofs.Common.{ℕ, sym, subst, arith}
-use Rattle.atomic_table.specs.Table.{Allows}
-use Rattle.lk_domain.specs.NodePlays.{Enters}
-use Rattle.lk_domain.specs.Stand.{Stand}
+use Rattle.std.proofs.Common.{arith}
 use Rattle.lk_domain.proofs.words.NodeWords.{low}
 use Rattle.lk_domain.proofs.queue.NodeAsks.{reset_last}
 use Rattle.lk_domain.proofs.locks.node_moves.enter.Goals as goal
@@ -15,6 +12,5 @@ swap-requires c =
     let seat = c.args.seat.now in (
       c.requires.table,
       (let a = c.requires.own.cpu in let b = c.requires.own.index in let e = low c.args.part in omega (arith, c.node_of-word.ensures, d.words, a, b, e)),
-      subst (λ (x : ℕ). Allows (Stand k) z.slots seat.id seat.me i (λ _. x) (Enters seat.me)) (sym c.requires.value)
-          (reset_last k d.plan z.slots seat.id seat.me c.requires.number c.args._verb i d.key c.args.own c.args.part c.node_of-word.ensures c.requires.row c.requires.last c.requires.part c.requires.ready),
+      reset_last k d.plan z.slots seat.id seat.me c.requires.number c.args._verb i d.key c.args.own c.args.part c.node_of-word.ensures c.requires.row c.requires.last c.requires.part c.requires.ready,
     )

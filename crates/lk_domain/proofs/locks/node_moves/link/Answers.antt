@@ -10,5 +10,5 @@ swap-met-requires c =
       c.requires.table,
       (let a = c.requires.prev.cpu in let b = c.requires.prev.index in omega (arith, c.node_of-word.ensures, d.words, a, b)),
       link_up d.table.shared.key d.plan z.slots c.args.seat.now.id c.args.seat.now.me c.requires.number c.args._verb i d.key
-          c.args.prev c.args.own c.args.mark c.requires.prev c.node_of-word.ensures c.requires.row c.link_of-name.result c.link_of-name.ensures,
+          c.args.prev c.args.own.node c.args.own.mark c.requires.prev c.node_of-word.ensures c.requires.row c.link_of-name.result c.link_of-name.ensures,
     )

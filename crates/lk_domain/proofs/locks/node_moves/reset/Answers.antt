@@ -1,9 +1,7 @@
-use Rattle.std.proofs.Common.{ℕ, sym, subst, refl, ◌∙◌, arith}
+use Rattle.std.proofs.Common.{sym, refl, ◌∙◌, arith}
 use mathlib.Core.Option.{none}
-use Rattle.atomic_table.specs.Table.{Allows, step}
-use Rattle.lk_domain.specs.NodePlays.{Readies}
+use Rattle.atomic_table.specs.Table.{step}
 use Rattle.lk_domain.specs.Words.{node_at}
-use Rattle.lk_domain.specs.Stand.{Stand}
 use Rattle.lk_domain.proofs.words.NodeWords.{low}
 use Rattle.lk_domain.proofs.queue.NodeAsks.{reset_one}
 use Rattle.lk_domain.proofs.locks.node_moves.reset.Goals as goal
@@ -17,8 +15,8 @@ swap-requires c =
     let seat = c.args.seat.now in (
       c.requires.table,
       (let a = c.requires.own.cpu in let b = c.requires.own.index in let e = low c.args.part in omega (arith, c.node_of-word.ensures, d.words, a, b, e)),
-      subst (λ (x : ℕ). Allows (Stand k) z.slots seat.id seat.me i (λ _. x) (Readies (step z.slots i c.args.value 0 none) seat.me)) (sym c.requires.value)
-          (reset_one k d.plan z.slots seat.id seat.me c.requires.number c.args._verb i d.key c.args.own c.args.part c.node_of-word.ensures c.requires.row c.requires.ready c.requires.plan (step z.slots i c.args.value 0 none) refl),
+      reset_one k d.plan z.slots seat.id seat.me c.requires.number c.args._verb i d.key c.args.own c.args.part c.node_of-word.ensures c.requires.row c.requires.ready c.requires.plan
+          (step z.slots i 0 0 none) refl,
     )
 
 pub returns-clause-step : goal.returns-clause-step

@@ -5,11 +5,14 @@ use Rattle.lk_run.proofs.call.Call.pend.Goals as goal
 pub set_pending-requires : goal.set_pending-requires
 set_pending-requires g c = on.stands c.requires
 
-pub withdraw-requires : goal.withdraw-requires
-withdraw-requires g c = on.step_at c.in-P2.is c.set_pending.ensures.goes c.requires
+pub clear_pending-requires : goal.clear_pending-requires
+clear_pending-requires g c = on.stands (on.step_at c.in-P2.is c.set_pending.ensures.goes c.requires)
+
+pub slow-requires : goal.slow-requires
+slow-requires g c = on.step_on c.clear_pending.ensures (on.step_at c.in-P2.is c.set_pending.ensures.goes c.requires)
 
 pub returns-in-P2 : goal.returns-in-P2
-returns-in-P2 g c = on.step_by c.in-P2.is c.set_pending.ensures.goes c.withdraw.ensures
+returns-in-P2 g c = on.step_by c.in-P2.is c.set_pending.ensures.goes (on.step_wins c.clear_pending.ensures c.slow.ensures)
 
 pub wait_as_next-requires : goal.wait_as_next-requires
 wait_as_next-requires g c = on.step_at c.in-P3.is c.set_pending.ensures.goes c.requires
@@ -23,8 +26,8 @@ take_pending-requires g c = on.stands (on.step_at c.in-P4.is c.set_pending.ensur
 pub returns-in-P4 : goal.returns-in-P4
 returns-in-P4 g c = on.step_by c.in-P4.is c.set_pending.ensures.goes (on.takes_wins c.take_pending.ensures)
 
-pub slow-requires : goal.slow-requires
-slow-requires g c = on.step_at (last_of_four c.set_pending.result c.set_pending.ensures.place c.in_default.not-P2 c.in_default.not-P3 c.in_default.not-P4) c.set_pending.ensures.goes c.requires
+pub slow-requires-in_default : goal.slow-requires-in_default
+slow-requires-in_default g c = on.step_at (last_of_four c.set_pending.result c.set_pending.ensures.place c.in_default.not-P2 c.in_default.not-P3 c.in_default.not-P4) c.set_pending.ensures.goes c.requires
 
 pub returns-in_default : goal.returns-in_default
-returns-in_default g c = on.step_by (last_of_four c.set_pending.result c.set_pending.ensures.place c.in_default.not-P2 c.in_default.not-P3 c.in_default.not-P4) c.set_pending.ensures.goes c.slow.ensures
+returns-in_default g c = on.step_by (last_of_four c.set_pending.result c.set_pending.ensures.place c.in_default.not-P2 c.in_default.not-P3 c.in_default.not-P4) c.set_pending.ensures.goes c.slow-in_default.ensures

@@ -1,3 +1,4 @@
+use Rattle.lk_domain.specs.Words.{IsNode}
 use Rattle.lk_rows.specs.declared.parts.Pc.TheVariants.{C1, C3}
 use Rattle.lk_run.proofs.Steps.{still_of}
 use Rattle.lk_run.specs.Choices.{IsFirstNode}
@@ -18,42 +19,54 @@ give_way-requires g c =
 pub loop-preserved-in-Waits : goal.loop-preserved-in-Waits
 loop-preserved-in-Waits g c = (tt, tt, on.path_polls c.loop.invariant.2 (c.look_first-behind.ensures.waits c.in-Waits.is) c.give_way.ensures.rest c.give_way.ensures.calls c.give_way.ensures.ledger c.give_way.ensures.polls)
 
-pub return_all-requires-clause-first : goal.return_all-requires-clause-first
-return_all-requires-clause-first g c = subst (IsFirstNode c.args.self.now.call.domain.now.plan) c.in-Promotes.is c.look_first-behind.ensures.node
+pub find_tail-t-requires-clause-first : goal.find_tail-t-requires-clause-first
+find_tail-t-requires-clause-first g c = subst (IsFirstNode c.args.self.now.call.domain.now.plan) c.in-Promotes.is c.look_first-behind.ensures.node
 
-pub return_all-requires-clause-waits : goal.return_all-requires-clause-waits
-return_all-requires-clause-waits g c =
-    on.stepped (c.look_first-behind.ensures.promotes c.in-Promotes.first c.in-Promotes.is) (on.stands (on.reached c.loop.invariant.2 c.requires))
+pub find_tail-t-requires-clause-waits : goal.find_tail-t-requires-clause-waits
+find_tail-t-requires-clause-waits g c =
+    let at = on.stepped (c.look_first-behind.ensures.promotes c.in-Promotes.first c.in-Promotes.is) (on.stands (on.reached c.loop.invariant.2 c.requires)) in
+    on.weaker at at.waits.looked.at.has.fronts
+
+pub promote-requires-clause-t : goal.promote-requires-clause-t
+promote-requires-clause-t g c = c.find_tail-t.ensures.node
+
+pub promote-requires-clause-waits : goal.promote-requires-clause-waits
+promote-requires-clause-waits g c =
+    let at = on.stepped (c.look_first-behind.ensures.promotes c.in-Promotes.first c.in-Promotes.is) (on.stands (on.reached c.loop.invariant.2 c.requires)) in
+    record { second = c.in-Promotes.first; at = on.stepped c.find_tail-t.ensures.promotes at }
 
 pub loop-preserved : goal.loop-preserved
 loop-preserved g c =
     let q = c.args.self.now in
     let named = sym (c.look_first-behind.ensures.named c.in-Promotes.first c.in-Promotes.is) in
-    let back = subst (λ (o : Option NodeName). Steps q.call C3 (Promotes q.own c.in-Promotes.first) C1 (Fronts q.own o) c.look_first-behind.new.cpu c.return_all.new.cpu) named
-    (c.return_all.ensures.others c.if-return_all.false) in
+    let tried = on.step_both c.find_tail-t.ensures.promotes (c.promote.ensures.others c.if-promote.false c.in-Promotes.first) in
+    let back = subst (λ (o : Option NodeName). Steps q.call C3 (Promotes q.own c.in-Promotes.first) C1 (Fronts q.own o) c.look_first-behind.new.cpu c.promote.new.cpu) named tried in
     (tt, tt, on.path_steps (on.path_steps c.loop.invariant.2 (c.look_first-behind.ensures.promotes c.in-Promotes.first c.in-Promotes.is)) back)
 
-pub give_alone-requires-clause-y : goal.give_alone-requires-clause-y
-give_alone-requires-clause-y g c = subst (IsFirstNode c.args.self.now.call.domain.now.plan) c.in-Promotes.is c.look_first-behind.ensures.node
-
-pub give_alone-requires-clause-waits : goal.give_alone-requires-clause-waits
-give_alone-requires-clause-waits g c =
-    on.stepped (c.return_all.ensures.promoted c.if-return_all.true)
-    (on.stepped (c.look_first-behind.ensures.promotes c.in-Promotes.first c.in-Promotes.is) (on.stands (on.reached c.loop.invariant.2 c.requires)))
-
-pub returns-then-return_all : goal.returns-then-return_all
-returns-then-return_all g c =
-    on.path_takes (on.path_steps (on.path_steps c.loop.invariant.2 (c.look_first-behind.ensures.promotes c.in-Promotes.first c.in-Promotes.is)) (c.return_all.ensures.promoted c.if-return_all.true))
-    c.give_alone.ensures
-
 pub give-requires-clause-y : goal.give-requires-clause-y
-give-requires-clause-y g c = subst (IsFirstNode c.args.self.now.call.domain.now.plan) c.in-Chooses.is c.look_first-behind.ensures.node
+give-requires-clause-y g c = subst (IsFirstNode c.args.self.now.call.domain.now.plan) c.in-Promotes.is c.look_first-behind.ensures.node
 
 pub give-requires-clause-waits : goal.give-requires-clause-waits
-give-requires-clause-waits g c = on.stepped (c.look_first-behind.ensures.chooses c.in-Chooses.y c.in-Chooses.is) (on.stands (on.reached c.loop.invariant.2 c.requires))
+give-requires-clause-waits g c =
+    on.stepped (c.promote.ensures.promoted c.if-promote.true c.in-Promotes.first)
+    (on.stepped c.find_tail-t.ensures.promotes (on.stepped (c.look_first-behind.ensures.promotes c.in-Promotes.first c.in-Promotes.is) (on.stands (on.reached c.loop.invariant.2 c.requires))))
+
+pub returns-then-promote : goal.returns-then-promote
+returns-then-promote g c =
+    let taken = on.step_takes c.find_tail-t.ensures.promotes (on.step_takes (c.promote.ensures.promoted c.if-promote.true c.in-Promotes.first) c.give.ensures) in
+    on.path_takes (on.path_steps c.loop.invariant.2 (c.look_first-behind.ensures.promotes c.in-Promotes.first c.in-Promotes.is)) taken
+
+pub give-requires-in-Chooses-clause-second : goal.give-requires-in-Chooses-clause-second
+give-requires-in-Chooses-clause-second g c = let q = c.args.self.now in on.if_some (IsNode q.call.domain.now.plan) q.second q.aside
+
+pub give-requires-in-Chooses-clause-y : goal.give-requires-in-Chooses-clause-y
+give-requires-in-Chooses-clause-y g c = subst (IsFirstNode c.args.self.now.call.domain.now.plan) c.in-Chooses.is c.look_first-behind.ensures.node
+
+pub give-requires-in-Chooses-clause-waits : goal.give-requires-in-Chooses-clause-waits
+give-requires-in-Chooses-clause-waits g c = on.stepped (c.look_first-behind.ensures.chooses c.in-Chooses.y c.in-Chooses.is) (on.stands (on.reached c.loop.invariant.2 c.requires))
 
 pub returns-in-Chooses : goal.returns-in-Chooses
-returns-in-Chooses g c = on.path_takes (on.path_steps c.loop.invariant.2 (c.look_first-behind.ensures.chooses c.in-Chooses.y c.in-Chooses.is)) c.give.ensures
+returns-in-Chooses g c = on.path_takes (on.path_steps c.loop.invariant.2 (c.look_first-behind.ensures.chooses c.in-Chooses.y c.in-Chooses.is)) c.give-in-Chooses.ensures
 
 pub pass_over-requires-clause-first : goal.pass_over-requires-clause-first
 pass_over-requires-clause-first g c = subst (IsFirstNode c.args.self.now.call.domain.now.plan) c.in-Skips.is c.look_first-behind.ensures.node

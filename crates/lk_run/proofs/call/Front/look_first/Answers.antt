@@ -10,7 +10,8 @@ use Rattle.lk_rows.specs.declared.parts.Pc.TheVariants.{C1, C2, C3, C7}
 use Rattle.lk_run.proofs.Places.{name_low}
 use Rattle.lk_run.proofs.Steps.{still_of}
 use Rattle.lk_run.proofs.Ways.{sees}
-use Rattle.lk_run.specs.Choices.{IsFirstNode, first_by}
+use Rattle.lk_rows.specs.Searching.{first_by}
+use Rattle.lk_run.specs.Choices.{IsFirstNode}
 use Rattle.lk_run.specs.Frames.{Flushes, Fronts, Precedes, Promotes, Skips}
 use Rattle.lk_run.specs.Phases.{newest}
 use Rattle.lk_run.specs.Standing.{Outside}

@@ -6,7 +6,8 @@ use Rattle.lk_law.specs.Leads.{Linked}
 use Rattle.lk_rows.specs.declared.parts.Pc.TheVariants.{C2, C3, C5, C7}
 use Rattle.lk_run.proofs.Places.{name_low}
 use Rattle.lk_run.proofs.Ways.{sees}
-use Rattle.lk_run.specs.Choices.{IsMoreNode, more_by}
+use Rattle.lk_rows.specs.Searching.{more_by}
+use Rattle.lk_run.specs.Choices.{IsMoreNode}
 use Rattle.lk_run.specs.Frames.{Appends, Flushes, Parts, Precedes, Skips}
 use Rattle.lk_run.specs.Standing.{Outside}
 use Rattle.std.proofs.Common.{IfSome, Some, ap, subst, sym, ◌∙◌, ◌≡◌}

@@ -1,3 +1,4 @@
+use Rattle.lk_domain.specs.Words.{IsNode}
 use Rattle.lk_domain.specs.Calls.{Running, told}
 use Rattle.lk_run.proofs.Steps.{still_of}
 use Rattle.lk_run.specs.Choices.{IsMoreNode}
@@ -68,6 +69,9 @@ flush-requires-clause-knows g c = c.look_more.ensures.knows c.args.skipped.first
 
 pub returns-in-Flushes : goal.returns-in-Flushes
 returns-in-Flushes g c = on.path_takes (on.path_steps c.loop.invariant.3 (c.look_more.ensures.flushes c.args.skipped.first c.in-Flushes.first c.in-Flushes.is)) c.flush.ensures
+
+pub give-requires-clause-second : goal.give-requires-clause-second
+give-requires-clause-second g c = let q = c.args.self.now in on.if_some (IsNode q.call.domain.now.plan) q.second q.aside
 
 pub give-requires-clause-waits : goal.give-requires-clause-waits
 give-requires-clause-waits g c = on.stepped (c.look_more.ensures.chooses c.args.skipped.first c.in-Chooses.is) (on.stands (on.reached c.loop.invariant.3 c.requires.waits))

@@ -1,33 +1,44 @@
+use Rattle.lk_domain.specs.NodePlays.{AtPromotion}
 use Rattle.lk_domain.specs.Rows.{promotes_by}
+use Rattle.lk_domain.specs.Seats.{view_of}
+use Rattle.lk_domain.specs.declared.cpu.Cpu.{Cpu}
 use Rattle.lk_law.specs.Leads.{Word}
 use Rattle.lk_rows.specs.Moves.{is_node}
 use Rattle.lk_rows.specs.declared.parts.Pc.TheVariants.{C1, C7}
 use Rattle.lk_rows.specs.rows.Cna.{is_held}
 use Rattle.lk_run.proofs.Places.{met_by}
+use Rattle.lk_run.specs.Choosing.{MayPromote}
 use Rattle.lk_run.specs.Frames.{Fronts, Precedes}
+use Rattle.lk_run.specs.declared.call.Front.{Front}
 use Rattle.lk_word.specs.declared.spin_word.Fields.{Fields}
+use Rattle.lk_word.specs.declared.spin_word.NodeName.{NodeName}
 use Rattle.std.proofs.Common.{None, Some, ap, sym, ◌∙◌}
 use Rattle.std.specs.Prelude.{not, ◌&&◌}
 use Rattle.lk_run.proofs.ChoiceRows as choice
 use Rattle.lk_run.proofs.Calling as on
 use Rattle.lk_run.proofs.call.Front.promote.Goals as goal
 
+-- the head may swap the tail
+promotion : (head : Front) (t : NodeName) (cpu : Cpu) → MayPromote head t cpu
+    → AtPromotion head.call.lock head.own t head.call.verb (view_of cpu)
+promotion head t cpu may =
+    record {
+      acts = on.acts_in may.at (promotes_by head.call.verb) (on.patient may.at);
+      me = may.at.waits.looked.at.has.fronts.me;
+      t = may.at.waits.looked.at.has.tail;
+    }
+
 pub tail_to_second-met-requires-clause-domain : goal.tail_to_second-met-requires-clause-domain
 tail_to_second-met-requires-clause-domain c = c.requires.waits.at.domain
 
 pub tail_to_second-met-requires-clause-row : goal.tail_to_second-met-requires-clause-row
 tail_to_second-met-requires-clause-row c =
-    let at = c.requires.waits.at in
-    record {
-      acts = on.acts_in at (promotes_by c.args.self.now.call.verb) (on.patient at);
-      me = at.waits.looked.at.has.fronts.me;
-      t = at.waits.looked.at.has.tail;
-    }
+    (c.args.self.now.call.verb, promotion c.args.self.now c.args.t c.args.cpu.now c.requires.waits)
 
 pub word_met-requires : goal.word_met-requires
 word_met-requires c =
     let q = c.args.self.now in
-    let step = c.tail_to_second-met.ensures.step in
+    let step = c.tail_to_second-met.ensures.step c.args.self.now.call.verb (promotion c.args.self.now c.args.t c.args.cpu.now c.requires.waits) in
     let made = step.by in
     let met = met_by q.call.domain.now c.args.cpu.now c.tail_to_second-met.new.cpu c.requires.waits.at.domain step in
     record { word = (made.found, met.packs, met.word) }
@@ -35,7 +46,7 @@ word_met-requires c =
 pub returns : goal.returns
 returns c =
     let q = c.args.self.now in
-    let step = c.tail_to_second-met.ensures.step in
+    let step = c.tail_to_second-met.ensures.step c.args.self.now.call.verb (promotion c.args.self.now c.args.t c.args.cpu.now c.requires.waits) in
     let made = step.by in
     let met = met_by q.call.domain.now c.args.cpu.now c.tail_to_second-met.new.cpu c.requires.waits.at.domain step in
     let seat = on.word c.requires.waits.at c.tail_to_second-met.ensures.rest made in

@@ -28,8 +28,8 @@ returns-clause-place c =
     let made = step.by in
     let met = met_by c.args.self.now.call.domain.now c.args.cpu.now c.look-met.new.cpu c.requires.domain step in
     let q = c.args.self.now in
-    let is = c.after_look.ensures ∙ ap (λ (y : Fields). if is_unlocked y.locked && not y.pending then (if is_node y.tail q.own && not c.stands_aside.result then G8 else G9) else G7) (c.word_met-word.ensures made.found met.packs met.word) in
-    subst (λ p. (p ≡ G7) ⊎ (p ≡ G8) ⊎ (p ≡ G9)) (sym is) (front_place (is_unlocked made.found.locked && not made.found.pending) (is_node made.found.tail q.own && not c.stands_aside.result))
+    let is = c.after_look.ensures ∙ ap (λ (y : Fields). if is_unlocked y.locked && not y.pending then (if is_node y.tail q.own && not c.is_some.result then G8 else G9) else G7) (c.word_met-word.ensures made.found met.packs met.word) in
+    subst (λ p. (p ≡ G7) ⊎ (p ≡ G8) ⊎ (p ≡ G9)) (sym is) (front_place (is_unlocked made.found.locked && not made.found.pending) (is_node made.found.tail q.own && not c.is_some.result))
 
 pub returns-clause-goes : goal.returns-clause-goes
 returns-clause-goes c other =
@@ -37,11 +37,11 @@ returns-clause-goes c other =
     let made = step.by in
     let met = met_by c.args.self.now.call.domain.now c.args.cpu.now c.look-met.new.cpu c.requires.domain step in
     let q = c.args.self.now in
-    let is = c.after_look.ensures ∙ ap (λ (y : Fields). if is_unlocked y.locked && not y.pending then (if is_node y.tail q.own && not c.stands_aside.result then G8 else G9) else G7) (c.word_met-word.ensures made.found met.packs met.word) in
+    let is = c.after_look.ensures ∙ ap (λ (y : Fields). if is_unlocked y.locked && not y.pending then (if is_node y.tail q.own && not c.is_some.result then G8 else G9) else G7) (c.word_met-word.ensures made.found met.packs met.word) in
     on.word_steps c.requires c.look-met.ensures.rest made c.after_look.result (Fronts q.own q.second) other
     (λ f has. subst (λ p. Leads q.call.domain.now.plan.mode c.look-met.new.cpu.number (sees q.call.domain.now c.args.cpu.now c.look-met.new.cpu) G7 f (Word made.found) p (Fronts q.own q.second)) (sym is)
-    (row.front_looks _ _ f made.found q.own q.second has (is_unlocked made.found.locked && not made.found.pending) (is_node made.found.tail q.own && not c.stands_aside.result) refl
-    (ap (λ b. is_node made.found.tail q.own && not b) (sym c.stands_aside.ensures))))
+    (row.front_looks _ _ f made.found q.own q.second has (is_unlocked made.found.locked && not made.found.pending) (is_node made.found.tail q.own && not c.is_some.result) refl
+    (ap (λ b. is_node made.found.tail q.own && not b) (sym c.is_some.ensures))))
 
 pub returns-clause-stays : goal.returns-clause-stays
 returns-clause-stays c same =
@@ -49,8 +49,8 @@ returns-clause-stays c same =
     let made = step.by in
     let met = met_by c.args.self.now.call.domain.now c.args.cpu.now c.look-met.new.cpu c.requires.domain step in
     let q = c.args.self.now in
-    let is = c.after_look.ensures ∙ ap (λ (y : Fields). if is_unlocked y.locked && not y.pending then (if is_node y.tail q.own && not c.stands_aside.result then G8 else G9) else G7) (c.word_met-word.ensures made.found met.packs met.word) in
+    let is = c.after_look.ensures ∙ ap (λ (y : Fields). if is_unlocked y.locked && not y.pending then (if is_node y.tail q.own && not c.is_some.result then G8 else G9) else G7) (c.word_met-word.ensures made.found met.packs met.word) in
     on.word_looks c.requires c.look-met.ensures.rest made
     (λ f has. subst (λ p. Leads q.call.domain.now.plan.mode c.look-met.new.cpu.number (sees q.call.domain.now c.args.cpu.now c.look-met.new.cpu) G7 f (Word made.found) p (Fronts q.own q.second)) (sym is ∙ same)
-    (row.front_looks _ _ f made.found q.own q.second has (is_unlocked made.found.locked && not made.found.pending) (is_node made.found.tail q.own && not c.stands_aside.result) refl
-    (ap (λ b. is_node made.found.tail q.own && not b) (sym c.stands_aside.ensures))))
+    (row.front_looks _ _ f made.found q.own q.second has (is_unlocked made.found.locked && not made.found.pending) (is_node made.found.tail q.own && not c.is_some.result) refl
+    (ap (λ b. is_node made.found.tail q.own && not b) (sym c.is_some.ensures))))

@@ -8,21 +8,32 @@ use Rattle.lk_run.proofs.call.Front.wait_open.Goals as goal
 pub wait_as_front-requires : goal.wait_as_front-requires
 wait_as_front-requires g c = on.stands (on.reached c.loop.invariant.2 c.requires)
 
-pub alone-requires : goal.alone-requires
-alone-requires g c =
-    on.step_at c.in-G8.is (c.wait_as_front.ensures.goes (λ e. let z : G8 ≡ G7 = sym c.in-G8.is ∙ e in cc z)) (on.reached c.loop.invariant.2 c.requires)
+pub take_sole-requires : goal.take_sole-requires
+take_sole-requires g c =
+    on.stands (on.step_at c.in-G8.is (c.wait_as_front.ensures.goes (λ e. let z : G8 ≡ G7 = sym c.in-G8.is ∙ e in cc z)) (on.reached c.loop.invariant.2 c.requires))
 
-pub returns-in-G8 : goal.returns-in-G8
-returns-in-G8 g c =
-    on.path_wins c.loop.invariant.2 (on.step_by c.in-G8.is (c.wait_as_front.ensures.goes (λ e. let z : G8 ≡ G7 = sym c.in-G8.is ∙ e in cc z)) c.alone.ensures)
+pub returns-then-take_sole : goal.returns-then-take_sole
+returns-then-take_sole g c =
+    on.path_wins c.loop.invariant.2 (on.step_by c.in-G8.is (c.wait_as_front.ensures.goes (λ e. let z : G8 ≡ G7 = sym c.in-G8.is ∙ e in cc z)) (on.takes_wins (c.take_sole.ensures.taken c.if-take_sole.true)))
 
 pub stake-requires : goal.stake-requires
 stake-requires g c =
+    on.step_on (c.take_sole.ensures.others c.if-take_sole.false)
+    (on.step_at c.in-G8.is (c.wait_as_front.ensures.goes (λ e. let z : G8 ≡ G7 = sym c.in-G8.is ∙ e in cc z)) (on.reached c.loop.invariant.2 c.requires))
+
+pub returns-in-G8 : goal.returns-in-G8
+returns-in-G8 g c =
+    on.path_wins c.loop.invariant.2
+    (on.step_by c.in-G8.is (c.wait_as_front.ensures.goes (λ e. let z : G8 ≡ G7 = sym c.in-G8.is ∙ e in cc z))
+    (on.step_wins (c.take_sole.ensures.others c.if-take_sole.false) c.stake.ensures))
+
+pub stake-requires-in-G9 : goal.stake-requires-in-G9
+stake-requires-in-G9 g c =
     on.step_at c.in-G9.is (c.wait_as_front.ensures.goes (λ e. let z : G9 ≡ G7 = sym c.in-G9.is ∙ e in cc z)) (on.reached c.loop.invariant.2 c.requires)
 
 pub returns-in-G9 : goal.returns-in-G9
 returns-in-G9 g c =
-    on.path_wins c.loop.invariant.2 (on.step_by c.in-G9.is (c.wait_as_front.ensures.goes (λ e. let z : G9 ≡ G7 = sym c.in-G9.is ∙ e in cc z)) c.stake.ensures)
+    on.path_wins c.loop.invariant.2 (on.step_by c.in-G9.is (c.wait_as_front.ensures.goes (λ e. let z : G9 ≡ G7 = sym c.in-G9.is ∙ e in cc z)) c.stake-in-G9.ensures)
 
 pub give_way-requires : goal.give_way-requires
 give_way-requires g c =

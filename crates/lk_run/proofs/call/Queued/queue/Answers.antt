@@ -9,26 +9,28 @@ use Rattle.lk_run.proofs.call.Queued.queue.Goals as goal
 pub exchange_tail-requires : goal.exchange_tail-requires
 exchange_tail-requires g c = on.stands c.requires
 
-pub follow-requires-clause-prev : goal.follow-requires-clause-prev
-follow-requires-clause-prev g c =
+pub link-requires-clause-prev : goal.link-requires-clause-prev
+link-requires-clause-prev g c =
     let n = c.args.self.now in
-    let node = subst (λ o. IfSome o (IsNode n.call.domain.now.plan)) c.in-Some.is c.exchange_tail.ensures.node in
-    let step = subst (λ o. IfSome o (λ prev. Steps n.call G4 (Owns n.own) G5 (Follows n.own prev) c.args.cpu.now c.exchange_tail.new.cpu)) c.in-Some.is c.exchange_tail.ensures.behind in
-    node
+    subst (λ o. IfSome o (IsNode n.call.domain.now.plan)) c.in-Some.is c.exchange_tail.ensures.node
 
-pub follow-requires-clause-waits : goal.follow-requires-clause-waits
-follow-requires-clause-waits g c =
+pub link-requires-clause-waits : goal.link-requires-clause-waits
+link-requires-clause-waits g c =
     let n = c.args.self.now in
-    let node = subst (λ o. IfSome o (IsNode n.call.domain.now.plan)) c.in-Some.is c.exchange_tail.ensures.node in
     let step = subst (λ o. IfSome o (λ prev. Steps n.call G4 (Owns n.own) G5 (Follows n.own prev) c.args.cpu.now c.exchange_tail.new.cpu)) c.in-Some.is c.exchange_tail.ensures.behind in
-    on.step_on step c.requires
+    on.stepped step (on.stands c.requires)
+
+pub wait_turn-requires : goal.wait_turn-requires
+wait_turn-requires g c =
+    let n = c.args.self.now in
+    let step = subst (λ o. IfSome o (λ prev. Steps n.call G4 (Owns n.own) G5 (Follows n.own prev) c.args.cpu.now c.exchange_tail.new.cpu)) c.in-Some.is c.exchange_tail.ensures.behind in
+    on.step_on c.link.ensures (on.step_on step c.requires)
 
 pub returns-in-Some : goal.returns-in-Some
 returns-in-Some g c =
     let n = c.args.self.now in
-    let node = subst (λ o. IfSome o (IsNode n.call.domain.now.plan)) c.in-Some.is c.exchange_tail.ensures.node in
     let step = subst (λ o. IfSome o (λ prev. Steps n.call G4 (Owns n.own) G5 (Follows n.own prev) c.args.cpu.now c.exchange_tail.new.cpu)) c.in-Some.is c.exchange_tail.ensures.behind in
-    on.step_wins step c.follow.ensures
+    on.step_wins step (on.step_wins c.link.ensures c.wait_turn.ensures)
 
 pub lead-requires-clause-second : goal.lead-requires-clause-second
 lead-requires-clause-second g c = tt

@@ -1,6 +1,6 @@
 use Rattle.lk_domain.specs.Calls.{sight_by, sight_of, terms_of}
 use Rattle.lk_law.specs.Leads.{Linked}
-use Rattle.lk_run.specs.Choices.{more_by}
+use Rattle.lk_rows.specs.Searching.{more_by}
 use Rattle.std.proofs.Common.{ap, sym, ◌∙◌}
 use Rattle.lk_run.proofs.seen.Site.more_seen.Goals as goal
 
@@ -8,7 +8,7 @@ pub returns-in-None : goal.returns-in-None
 returns-in-None c r =
     let x = c.args.self.now in
     let z = sight_by (sight_of (terms_of x.domain.now.plan) x.cpu r) (Linked c.args.next c.args.mark) in
-    c.nobody_more.ensures z ∙ ap (more_by z c.args.second) (sym c.in-None.is)
+    c.nobody.ensures z ∙ ap (more_by z c.args.second) (sym c.in-None.is)
 
 pub returns-in-Some : goal.returns-in-Some
 returns-in-Some c r =
