@@ -12,23 +12,26 @@ use std::sync::Wait;
 use std::thread;
 use std::thread::Threads;
 
-// The jobs of one worker.
-fn run_one<G: Gate, R: Wait>(
-    rt: &R,
-    region: &PvRegion,
-    file: &JobFile,
-    gate: &G,
-    index: usize,
-    worker: &mut Worker<PvCpu>,
-)
-    requires suits { IsPvFor (workload_of file.now) region.now.domain }
-    requires index { index < workers_of (workload_of file.now) }
-    requires ready { IsReady region.now.domain (jobs_of (workload_of file.now) index) index
-        worker.old }
-    ensures { IsThrough region.now.domain (jobs_of (workload_of file.now) index) index worker.new }
-{
-    let jobs = file.jobs.get(index);
-    region.work(&mut worker.cpu, rt, jobs, &mut worker.reads, gate);
+impl Worker<PvCpu> {
+    // Does the jobs of the worker of this number.
+    fn work_pv<G: Gate, R: Wait>(
+        &mut self,
+        rt: &R,
+        region: &PvRegion,
+        file: &JobFile,
+        gate: &G,
+        index: usize,
+    )
+        requires suits { IsPvFor (workload_of file.now) region.now.domain }
+        requires index { index < workers_of (workload_of file.now) }
+        requires ready { IsReady region.now.domain (jobs_of (workload_of file.now) index) index
+            self.old }
+        ensures { IsThrough region.now.domain (jobs_of (workload_of file.now) index) index
+            self.new }
+    {
+        let jobs = file.jobs.get(index);
+        region.work(&mut self.cpu, rt, jobs, &mut self.reads, gate);
+    }
 }
 
 // The jobs of all workers, each in a thread of its own.
@@ -55,7 +58,7 @@ fn run_each<G: Gate, R: Threads + Wait + Sync>(
                 × IsReady region.now.domain (jobs_of (workload_of file.now) index) index worker.now }
             ensures { IsThrough region.entry.now.domain (jobs_of (workload_of file.entry.now) index)
                 index worker.exit.now }
-        { run_one(rt, region, file, gate, index, worker) },
+        { worker.work_pv(rt, region, file, gate, index) },
     );
 }
 

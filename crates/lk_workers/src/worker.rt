@@ -18,23 +18,26 @@ pub(crate) struct Worker<C> {
     pub(crate) reads: List<Seen>,
 }
 
-// The jobs of one worker.
-fn run_one<G: Gate, R: Wait>(
-    rt: &R,
-    region: &Region,
-    file: &JobFile,
-    gate: &G,
-    index: usize,
-    worker: &mut Worker<Cpu>,
-)
-    requires suits { IsFor (workload_of file.now) region.now.domain }
-    requires index { index < workers_of (workload_of file.now) }
-    requires ready { IsReady region.now.domain (jobs_of (workload_of file.now) index) index
-        worker.old }
-    ensures { IsThrough region.now.domain (jobs_of (workload_of file.now) index) index worker.new }
-{
-    let jobs = file.jobs.get(index);
-    region.work(&mut worker.cpu, rt, jobs, &mut worker.reads, gate);
+impl Worker<Cpu> {
+    // Does the jobs of the worker of this number.
+    fn work<G: Gate, R: Wait>(
+        &mut self,
+        rt: &R,
+        region: &Region,
+        file: &JobFile,
+        gate: &G,
+        index: usize,
+    )
+        requires suits { IsFor (workload_of file.now) region.now.domain }
+        requires index { index < workers_of (workload_of file.now) }
+        requires ready { IsReady region.now.domain (jobs_of (workload_of file.now) index) index
+            self.old }
+        ensures { IsThrough region.now.domain (jobs_of (workload_of file.now) index) index
+            self.new }
+    {
+        let jobs = file.jobs.get(index);
+        region.work(&mut self.cpu, rt, jobs, &mut self.reads, gate);
+    }
 }
 
 // The jobs of all workers, each in a thread of its own.
@@ -61,7 +64,7 @@ fn run_each<G: Gate, R: Threads + Wait + Sync>(
                 × IsReady region.now.domain (jobs_of (workload_of file.now) index) index worker.now }
             ensures { IsThrough region.entry.now.domain (jobs_of (workload_of file.entry.now) index)
                 index worker.exit.now }
-        { run_one(rt, region, file, gate, index, worker) },
+        { worker.work(rt, region, file, gate, index) },
     );
 }
 

@@ -2,8 +2,9 @@ use Rattle.std.proofs.Common.{length, ap, sym, arith}
 use Rattle.lk_abs.specs.Workload.{jobs_of, workload_of}
 use Rattle.lk_guard.specs.Deeds.{reads_in, writes_in}
 use Rattle.lk_workers.proofs.JobCounts.{each_few}
-use Rattle.lk_workers.proofs.Starts.{is_through, jobs_shown}
-use Rattle.lk_workers.proofs.worker.run_one.Goals as goal
+use Rattle.lk_workers.proofs.PvStarts.{is_through}
+use Rattle.lk_workers.proofs.Starts.{jobs_shown}
+use Rattle.lk_workers.proofs.pv_worker.Worker+PvCpu.work_pv.Goals as goal
 
 pub work-requires-clause-few : goal.work-requires-clause-few
 work-requires-clause-few g c κs outlives =
@@ -24,5 +25,5 @@ pub returns : goal.returns
 returns g c =
     let shown = jobs_shown c.args.file.now c.args.index c.get-jobs.result.now c.get-jobs.ensures in
     let d = c.args.region.now.domain in
-    is_through d (jobs_of (workload_of c.args.file.now) c.args.index) c.get-jobs.result.now.items c.args.index c.args.worker.now (record { cpu = c.work.new.cpu; reads = c.work.new.reads }) (sym shown) c.requires.ready
-    c.work.ensures.same c.work.ensures.idle c.work.ensures.worked
+    is_through d (jobs_of (workload_of c.args.file.now) c.args.index) c.get-jobs.result.now.items c.args.index c.args.self.now (record { cpu = c.work.new.cpu; reads = c.work.new.reads }) (sym shown) c.requires.ready
+    c.work.ensures.same c.work.ensures.free c.work.ensures.worked
