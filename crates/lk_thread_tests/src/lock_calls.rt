@@ -82,30 +82,6 @@ fn held(alloc: Global, cpu: &Cpu) -> Result<String, AllocError> {
     Ok(text)
 }
 
-// Makes the call by one of two processors.
-fn make_call_by<R: Wait>(
-    place: &str,
-    first: &mut Cpu,
-    second: &mut Cpu,
-    rt: &R,
-    domain: &Domain,
-    verb: &str,
-    id: LockId,
-) -> Option<bool>
-    requires domain { IsOf first.old domain.now × IsOf second.old domain.now }
-    requires home { ((ledger_of first.old).out ≡ None) × ((ledger_of second.old).out ≡ None) }
-    requires values { NoneOut first.old × NoneOut second.old }
-    ensures domain { IsOf first.new domain.now × IsOf second.new domain.now }
-    ensures home { ((ledger_of first.new).out ≡ None) × ((ledger_of second.new).out ≡ None) }
-    ensures values { NoneOut first.new × NoneOut second.new }
-{
-    if place == "0" {
-        make_call(first, rt, domain, verb, id)
-    } else {
-        make_call(second, rt, domain, verb, id)
-    }
-}
-
 // Makes the call of a row, and compares the answer and what both hold then.
 fn play<R: Abort + AllocGlobal + Wait>(
     rt: &R,
@@ -127,7 +103,12 @@ fn play<R: Abort + AllocGlobal + Wait>(
     let place = words.next().ok_or("no processor")?;
     let verb = words.next().ok_or("no verb")?;
     let index = words.next().ok_or("no lock")?.parse::<u32>()?;
-    let answer = make_call_by(place, first, second, rt, domain, verb, LockId { index });
+    let lock = LockId { index };
+    let answer = if place == "0" {
+        make_call(first, rt, domain, verb, lock)
+    } else {
+        make_call(second, rt, domain, verb, lock)
+    };
     let answer = answer.ok_or("no such call")?;
     let first_holds = held(alloc, first)?;
     let second_holds = held(alloc, second)?;
