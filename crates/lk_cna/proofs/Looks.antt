@@ -1,6 +1,5 @@
 -- A row that only looks stores, tells and counts nothing: it leads its frame on, whatever it met.
-use Rattle.std.proofs.Common.{◌≡◌, ℕ, Option, Some, None, Bool, true, false, List, refl, subst, sym}
-use Rattle.std.specs.Prelude.{is_some, if◌then◌else◌}
+use Rattle.std.proofs.Common.{◌≡◌, ℕ, Option, Some, None, List, refl, subst, sym}
 use Rattle.lk_word.specs.declared.spin_word.NodeName.{NodeName}
 use Rattle.lk_rows.specs.declared.parts.Frame.{Frame}
 use Rattle.lk_rows.specs.declared.parts.Node.{Node}
@@ -10,7 +9,12 @@ use Rattle.lk_rows.specs.Machine.{Machine, node_at, set_top, top_frame}
 use Rattle.lk_rows.specs.Moves.{node_of}
 use Rattle.lk_rows.specs.Row.{Answer, Change, Effect, learns_all}
 use Rattle.lk_rows.specs.TopRow.{on_next, row, sight_at}
-use Rattle.lk_rows.specs.rows.Cna.{Sight, may_stay, search_first, search_on}
+use Rattle.lk_rows.specs.declared.search.First.{First}
+use Rattle.lk_rows.specs.declared.search.First.TheVariants as first
+use Rattle.lk_rows.specs.declared.search.More.{More}
+use Rattle.lk_rows.specs.declared.search.More.TheVariants as more
+use Rattle.lk_rows.specs.Searching.{first_by, first_effect, more_by, more_effect}
+use Rattle.lk_rows.proofs.Searching.{search_first-by, search_on-by}
 use Rattle.lk_cna.specs.Row.{frame_after}
 
 -- the outcome is a look that leads to a place with some registers changed
@@ -24,40 +28,34 @@ Looked m p f n o = ◌≡◌ {A = Answer} (on_next m p f n o) (set_top m p (fram
 looked : (m : Machine) (p : ℕ) (f : Frame) (n : NodeName) (o : Effect (Option NodeName)) → IsLook o → Looked m p f n o
 looked m p f n o (c, (cs, e)) = subst (Looked m p f n) (sym e) refl
 
-either : (b : Bool) (o q : Effect (Option NodeName)) → IsLook o → IsLook q → IsLook (if b then o else q)
-either true o q is_o is_q = is_o
-either false o q is_o is_q = is_q
-
 -- C1 only looks
-first_is_look : (s : Sight) (second x : Option NodeName) → IsLook (search_first s second x)
-first_is_look s None None = (_, (_, refl))
-first_is_look s (Some m) None = (_, (_, refl))
-first_is_look s second (Some n) =
-    either (may_stay s) _ _ (either (s.local n) _ _ (_, (_, refl)) (_, (_, refl))) (either (is_some second) _ _ (_, (_, refl)) (_, (_, refl)))
-
-pub looked_first : (m : Machine) (p : ℕ) (f : Frame) (n : NodeName) (s : Sight) (x : Option NodeName) → Looked m p f n (search_first s f.second x)
-looked_first m p f n s x = looked m p f n (search_first s f.second x) (first_is_look s f.second x)
+first_is_look : (met : First) → IsLook (first_effect met)
+first_is_look first.Waits = (_, (_, refl))
+first_is_look (first.Promotes m) = (_, (_, refl))
+first_is_look (first.Chooses n) = (_, (_, refl))
+first_is_look (first.Skips n) = (_, (_, refl))
+first_is_look (first.Flushes m n) = (_, (_, refl))
 
 -- C2 only looks
-on_is_look : (s : Sight) (f : Frame) (x : Option NodeName) → IsLook (search_on s f x)
-on_is_look s f None = either (is_some f.second) _ _ (_, (_, refl)) (_, (_, refl))
-on_is_look s f (Some n) = either (s.local n) _ _ (either (is_some f.second) _ _ (_, (_, refl)) (_, (_, refl))) (_, (_, refl))
+more_is_look : (f : Frame) (met : More) → IsLook (more_effect f met)
+more_is_look f (more.Skips n) = (_, (_, refl))
+more_is_look f (more.Appends m n) = (_, (_, refl))
+more_is_look f (more.Begins n) = (_, (_, refl))
+more_is_look f (more.Flushes m) = (_, (_, refl))
+more_is_look f more.Chooses = (_, (_, refl))
 
-pub looked_on : (m : Machine) (p : ℕ) (f : Frame) (n : NodeName) (s : Sight) (x : Option NodeName) → Looked m p f n (search_on s f x)
-looked_on m p f n s x = looked m p f n (search_on s f x) (on_is_look s f x)
+-- C1, by what the head met, and the frame that it leaves
+pub row_C1 : (m m' : Machine) (p : ℕ) (f after : Frame) (node : Node) (met : First) → (top_frame m p).place ≡ Some C1
+    → f ≡ top_frame m p → node ≡ node_at m (node_of f.me) → met ≡ first_by (sight_at m p f) f.second node.next
+    → after ≡ frame_after f (first_effect met).leads → m' ≡ set_top m p after → ◌≡◌ {A = Answer} (row m p) (m', None)
+row_C1 m m' p f after node met here f_is node_is met_is after_is m'_is =
+    rw (m'_is, after_is, met_is, node_is, f_is, here, search_first-by (sight_at m p (top_frame m p)) (top_frame m p).second (node_at m (node_of (top_frame m p).me)).next)
+    (looked m p (top_frame m p) (node_of (top_frame m p).me) _ (first_is_look _))
 
--- C1, and the frame that it leaves
-pub row_C1 : (m m' : Machine) (p : ℕ) (f after : Frame) (node : Node) → (top_frame m p).place ≡ Some C1 → f ≡ top_frame m p
-    → node ≡ node_at m (node_of f.me) → after ≡ frame_after f (search_first (sight_at m p f) f.second node.next).leads
-    → m' ≡ set_top m p after → ◌≡◌ {A = Answer} (row m p) (m', None)
-row_C1 m m' p f after node here f_is node_is after_is m'_is =
-    rw (m'_is, after_is, node_is, f_is, here)
-    (looked_first m p (top_frame m p) (node_of (top_frame m p).me) (sight_at m p (top_frame m p)) (node_at m (node_of (top_frame m p).me)).next)
-
--- C2, and the frame that it leaves
-pub row_C2 : (m m' : Machine) (p : ℕ) (f after : Frame) (node : Node) → (top_frame m p).place ≡ Some C2 → f ≡ top_frame m p
-    → node ≡ node_at m (node_of f.b) → after ≡ frame_after f (search_on (sight_at m p f) f node.next).leads
-    → m' ≡ set_top m p after → ◌≡◌ {A = Answer} (row m p) (m', None)
-row_C2 m m' p f after node here f_is node_is after_is m'_is =
-    rw (m'_is, after_is, node_is, f_is, here)
-    (looked_on m p (top_frame m p) (node_of (top_frame m p).b) (sight_at m p (top_frame m p)) (node_at m (node_of (top_frame m p).b)).next)
+-- C2, by what the head met, and the frame that it leaves
+pub row_C2 : (m m' : Machine) (p : ℕ) (f after : Frame) (node : Node) (met : More) → (top_frame m p).place ≡ Some C2
+    → f ≡ top_frame m p → node ≡ node_at m (node_of f.b) → met ≡ more_by (sight_at m p f) f.second node.next
+    → after ≡ frame_after f (more_effect f met).leads → m' ≡ set_top m p after → ◌≡◌ {A = Answer} (row m p) (m', None)
+row_C2 m m' p f after node met here f_is node_is met_is after_is m'_is =
+    rw (m'_is, after_is, met_is, node_is, f_is, here, search_on-by (sight_at m p (top_frame m p)) (top_frame m p) (top_frame m p).second (node_at m (node_of (top_frame m p).b)).next refl)
+    (looked m p (top_frame m p) (node_of (top_frame m p).b) _ (more_is_look (top_frame m p) _))

@@ -2,13 +2,11 @@
 ghost use Rattle.std.specs.Prelude.{◌≡◌, Some};
 ghost use Rattle.lk_rows.specs.Machine.{top_frame};
 ghost use Rattle.lk_rows.specs.TopRow.{row};
-ghost use Rattle.lk_rows.specs.rows.Cna.{flag_for};
 ghost use Rattle.lk_cna.specs.Row.{IsCnaReady};
 
 use lk_abs::{Event, What};
 use lk_machine::Machine;
-use lk_rows::{Flag, Pc, named};
-use lk_word::NodeName;
+use lk_rows::{Pc, flag_for, named};
 
 /// C7: stores into `runs` of the successor y how many handoffs were made since the secondary queue
 /// became non-empty: `-> r + 1`, or `-> 0` if that queue is empty. Until C8 y is not the head, and
@@ -29,16 +27,6 @@ pub(crate) fn count(machine: &mut Machine, cpu: u32) -> Option<Event>
     machine.set_runs(next, runs);
     machine.set_place(cpu, Pc::C8);
     None
-}
-
-// The flag by which the successor learns of the secondary queue.
-fn flag_for(second: Option<NodeName>) -> Flag
-    ensures { result ≡ flag_for second }
-{
-    match second {
-        None => Flag::Go,
-        Some(node) => Flag::Second(node),
-    }
 }
 
 /// C8: stores into the flag of the successor y the first node of the secondary queue, or go if

@@ -3,78 +3,66 @@ ghost use Rattle.std.specs.Prelude.{◌≡◌, ◌<◌, ◌+◌, ◌^◌, Some};
 ghost use Rattle.lk_rows.specs.Machine.{node_at, top_frame};
 ghost use Rattle.lk_rows.specs.Moves.{node_of};
 ghost use Rattle.lk_rows.specs.TopRow.{row, sight_at};
-ghost use Rattle.lk_rows.specs.rows.Cna.{Sight, may_stay, search_first, search_on, after_none, after_first, after_last, after_more, after_tail};
+ghost use Rattle.lk_rows.specs.rows.Cna.{after_tail};
+ghost use Rattle.lk_rows.specs.Searching.{first_by, first_effect, more_by, more_effect};
 ghost use Rattle.lk_cna.specs.Row.{IsCnaReady, frame_after};
 
 use lk_abs::Event;
 use lk_machine::Machine;
-use lk_rows::{Frame, Node, Pc, Why, named};
+use lk_rows::{First, Frame, More, Node, Pc, Why, named};
 use lk_word::NodeName;
 
-// Nobody is linked behind the head. If there is a secondary queue, it may return as the rest.
-fn after_none(frame: Frame) -> Frame
-    ensures { result ≡ frame_after frame (after_none frame.second).leads }
+// The frame after C1. It is not inlined: all acts are made in one loop, and there it would take
+// registers from the rows that poll.
+#[inline(never)]
+fn after_first(frame: Frame, met: First) -> Frame
+    ensures { result ≡ frame_after frame (first_effect met).leads }
 {
-    match frame.second {
-        None => Frame {
+    match met {
+        First::Waits => Frame {
             k: 0,
             place: Some(Pc::C1),
             ..frame
         },
-        Some(_) => Frame {
+        First::Promotes(_) => Frame {
             k: 0,
             why: Why::Promotion,
             place: Some(Pc::C3),
             ..frame
         },
-    }
-}
-
-// A waiter is linked behind the head. While handoffs are left, it is chosen if it is local, and
-// else passed over. After that the secondary queue returns in front of it, or, if there is none,
-// it is chosen.
-fn after_first(frame: Frame, met: NodeName, goes_on: bool, is_local: bool) -> Frame
-    ensures { (s : Sight) → may_stay s ≡ goes_on → s.local met ≡ is_local
-        → result ≡ frame_after frame (after_first s frame.second met).leads }
-{
-    if goes_on && !is_local {
-        return Frame {
+        First::Chooses(next) => Frame {
+            k: 0,
+            y: Some(next),
+            place: Some(Pc::C7),
+            ..frame
+        },
+        First::Skips(next) => Frame {
             k: 1,
-            a: Some(met),
-            b: Some(met),
+            a: Some(next),
+            b: Some(next),
             place: Some(Pc::C2),
             ..frame
-        };
-    }
-    if !goes_on && frame.second.is_some() {
-        return Frame {
+        },
+        First::Flushes(_, next) => Frame {
             k: 0,
-            a: Some(met),
+            a: Some(next),
             why: Why::Flush,
             place: Some(Pc::C3),
             ..frame
-        };
-    }
-    Frame {
-        k: 0,
-        y: Some(met),
-        place: Some(Pc::C7),
-        ..frame
+        },
     }
 }
 
-// The frame after C1, by its own node.
-fn after_look(machine: &Machine, cpu: u32, frame: Frame, node: Node) -> Frame
+// What the head meets in its own node.
+fn first_seen(machine: &Machine, cpu: u32, frame: Frame, node: Node) -> First
     requires { node ≡ node_at machine.now (node_of frame.me) }
-    ensures { result
-        ≡ frame_after frame
-        (search_first (sight_at machine.now cpu frame) frame.second node.next).leads }
+    ensures { result ≡ first_by (sight_at machine.now cpu frame) frame.second node.next }
 {
     match node.next {
-        None => after_none(frame),
-        Some(met) => {
+        None => First::nobody(frame.second),
+        Some(next) => {
             let goes_on = node.runs < machine.threshold();
-            after_first(frame, met, goes_on, machine.is_local(cpu, met))
+            First::somebody(frame.second, next, goes_on, machine.is_local(cpu, next))
         }
     }
 }
@@ -91,71 +79,58 @@ pub(crate) fn look(machine: &mut Machine, cpu: u32) -> Option<Event>
 {
     let frame = machine.frame(cpu);
     let node = machine.node(named(frame.me));
-    let after = after_look(machine, cpu, frame, node);
+    let met = first_seen(machine, cpu, frame, node);
+    let after = after_first(frame, met);
     machine.set_frame(cpu, after);
     None
 }
 
-// Nobody is linked behind the last waiter that was passed over, so nobody is moved. The secondary
-// queue returns, or, if there is none, the first waiter that was passed over is chosen.
-fn after_last(frame: Frame) -> Frame
-    ensures { result ≡ frame_after frame (after_last frame).leads }
+// The frame after C2.
+fn after_more(frame: Frame, met: More) -> Frame
+    requires { frame.k + 1 < 2 ^ 32 }
+    ensures { result ≡ frame_after frame (more_effect frame met).leads }
 {
-    match frame.second {
-        None => Frame {
-            k: 0,
-            y: frame.a,
-            place: Some(Pc::C7),
+    match met {
+        More::Skips(next) => Frame {
+            b: Some(next),
+            k: frame.k + 1,
+            place: Some(Pc::C2),
             ..frame
         },
-        Some(_) => Frame {
+        More::Appends(_, next) => Frame {
+            y: Some(next),
+            why: Why::Append,
+            place: Some(Pc::C3),
+            ..frame
+        },
+        More::Begins(next) => Frame {
+            y: Some(next),
+            second: frame.a,
+            place: Some(Pc::C5),
+            ..frame
+        },
+        More::Flushes(_) => Frame {
             k: 0,
             why: Why::Flush,
             place: Some(Pc::C3),
             ..frame
         },
-    }
-}
-
-// The next waiter is chosen if it is local, and else passed over too.
-fn after_more(frame: Frame, met: NodeName, is_local: bool) -> Frame
-    requires { frame.k + 1 < 2 ^ 32 }
-    ensures { (s : Sight) → s.local met ≡ is_local
-        → result ≡ frame_after frame (after_more s frame met).leads }
-{
-    if !is_local {
-        return Frame {
-            b: Some(met),
-            k: frame.k + 1,
-            place: Some(Pc::C2),
-            ..frame
-        };
-    }
-    match frame.second {
-        None => Frame {
-            y: Some(met),
-            second: frame.a,
-            place: Some(Pc::C5),
-            ..frame
-        },
-        Some(_) => Frame {
-            y: Some(met),
-            why: Why::Append,
-            place: Some(Pc::C3),
+        More::Chooses => Frame {
+            k: 0,
+            y: frame.a,
+            place: Some(Pc::C7),
             ..frame
         },
     }
 }
 
-// The frame after C2, by the link that it met.
-fn after_link(machine: &Machine, cpu: u32, frame: Frame, next: Option<NodeName>) -> Frame
-    requires { frame.k + 1 < 2 ^ 32 }
-    ensures { result
-        ≡ frame_after frame (search_on (sight_at machine.now cpu frame) frame next).leads }
+// What the head meets in the link of the last that it has passed over.
+fn more_seen(machine: &Machine, cpu: u32, frame: Frame, next: Option<NodeName>) -> More
+    ensures { result ≡ more_by (sight_at machine.now cpu frame) frame.second next }
 {
     match next {
-        None => after_last(frame),
-        Some(met) => after_more(frame, met, machine.is_local(cpu, met)),
+        None => More::nobody(frame.second),
+        Some(next) => More::somebody(frame.second, next, machine.is_local(cpu, next)),
     }
 }
 
@@ -171,7 +146,8 @@ pub(crate) fn pass_over(machine: &mut Machine, cpu: u32) -> Option<Event>
 {
     let frame = machine.frame(cpu);
     let node = machine.node(named(frame.b));
-    let after = after_link(machine, cpu, frame, node.next);
+    let met = more_seen(machine, cpu, frame, node.next);
+    let after = after_more(frame, met);
     machine.set_frame(cpu, after);
     None
 }

@@ -1,9 +1,9 @@
 -- The node that a frame gets.
-use Rattle.std.proofs.Common.{◌≡◌, ◌<◌, ◌+◌, ℕ, Bool, true, false, Some, None, List, [], ◌∷◌, length, arith, inl, inr, refl, ap, sym, ◌∙◌}
+use Rattle.std.proofs.Common.{◌≡◌, ◌<◌, ◌+◌, ℕ, List, [], ◌∷◌, length, arith, inl, inr, refl, ap, sym, ◌∙◌}
 use Rattle.std.proofs.lemmas.Bool.{cases_Bool}
-use Rattle.std.specs.Prelude.{nat_lt, if◌then◌else◌}
+use Rattle.std.specs.Prelude.{nat_lt}
 use Rattle.lk_rows.specs.declared.parts.Pc.TheVariants.{G1}
-use Rattle.lk_rows.specs.Machine.{Machine, HasNode, set_counts, set_queued, set_cpu, set_top, queued_at, top_frame}
+use Rattle.lk_rows.specs.Machine.{Machine, set_counts, set_queued, set_cpu, set_top, queued_at, top_frame}
 use Rattle.lk_rows.specs.Row.{Counter, counted, count_all, with_rest, entered}
 use Rattle.lk_rows.specs.TopRow.{row_on, Queued}
 use Rattle.lk_rows.specs.rows.Queue.{own_node, after_entry, entry_counts}

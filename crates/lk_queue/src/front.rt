@@ -3,27 +3,13 @@ ghost use Rattle.std.specs.Prelude.{◌≡◌, Some};
 ghost use Rattle.lk_rows.specs.Machine.{top_frame};
 ghost use Rattle.lk_machine.specs.Ready.{IsReady};
 ghost use Rattle.lk_rows.specs.TopRow.{row};
-ghost use Rattle.lk_rows.specs.rows.Queue.{after_look, is_sole, after_head};
+ghost use Rattle.lk_rows.specs.rows.Queue.{after_head};
 
 use crate::arrive::take_out;
 use lk_abs::{Event, How, Mode, What};
 use lk_machine::Machine;
-use lk_rows::{Flag, Frame, Pc, is_tail, is_unlocked, named};
-use lk_word::{Fields, Locked};
-
-// The row after G7 read this word.
-fn after_look(frame: Frame, word: Fields) -> Pc
-    ensures { result ≡ after_look frame word }
-{
-    if !is_unlocked(word) || word.pending {
-        return Pc::G7;
-    }
-    if is_tail(word, named(frame.me)) && frame.second.is_none() {
-        Pc::G8
-    } else {
-        Pc::G9
-    }
-}
+use lk_rows::{Flag, Frame, Pc, after_look, is_sole, named};
+use lk_word::Locked;
 
 /// G7: polls as the queue head until the word is `*,0,0`: the lock is free, and no pending waiter
 /// is about to acquire it. From then on nobody else can acquire it: a fast path fails on the tail,
@@ -36,16 +22,9 @@ pub(crate) fn wait_as_front(machine: &mut Machine, cpu: u32) -> Option<Event>
 {
     let frame = machine.frame(cpu);
     let word = machine.word(frame.lock);
-    machine.set_place(cpu, after_look(frame, word));
+    let place = after_look(word, named(frame.me), frame.second.is_some());
+    machine.set_place(cpu, place);
     None
-}
-
-// Whether the word is `n,0,0`, n being the frame's own node: the lock is free, and nobody queues
-// behind the frame's waiter.
-fn is_sole(frame: Frame, word: Fields) -> bool
-    ensures { result ≡ is_sole frame word }
-{
-    is_unlocked(word) && !word.pending && is_tail(word, named(frame.me))
 }
 
 /// G8: swaps the word of a head that is alone in the queue, `n,0,0 -> 0,0,1`. So it acquires the
@@ -59,7 +38,7 @@ pub(crate) fn take_sole(machine: &mut Machine, cpu: u32) -> Option<Event>
     ensures event { result ≡ (row machine.old cpu).1 }
 {
     let frame = machine.frame(cpu);
-    if is_sole(frame, machine.word(frame.lock)) {
+    if is_sole(machine.word(frame.lock), named(frame.me)) {
         return Some(take_out(machine, cpu, How::Sole));
     }
     machine.set_place(cpu, Pc::G9);

@@ -12,9 +12,9 @@ node-node-requires c = rw (c.named.ensures, c.frame-frame.ensures) (c.requires.r
 pub returns-clause-next : goal.returns-clause-next
 returns-clause-next c =
     let node_is : c.node-node.result ≡ node_at c.args.machine.now (node_of c.frame-frame.result.b) = c.node-node.ensures ∙ ap (node_at c.args.machine.now) c.named.ensures in
-    sym (ap (λ (r : Answer). r.0) (row_C2 _ _ _ _ _ _ c.requires.here c.frame-frame.ensures node_is c.after_link-after.ensures c.set_frame.ensures))
+    sym (ap (λ (r : Answer). r.0) (row_C2 _ _ _ _ _ _ _ c.requires.here c.frame-frame.ensures node_is c.more_seen-met.ensures c.after_more-after.ensures c.set_frame.ensures))
 
 pub returns-clause-event : goal.returns-clause-event
 returns-clause-event c =
     let node_is : c.node-node.result ≡ node_at c.args.machine.now (node_of c.frame-frame.result.b) = c.node-node.ensures ∙ ap (node_at c.args.machine.now) c.named.ensures in
-    sym (ap (λ (r : Answer). r.1) (row_C2 _ _ _ _ _ _ c.requires.here c.frame-frame.ensures node_is c.after_link-after.ensures c.set_frame.ensures))
+    sym (ap (λ (r : Answer). r.1) (row_C2 _ _ _ _ _ _ _ c.requires.here c.frame-frame.ensures node_is c.more_seen-met.ensures c.after_more-after.ensures c.set_frame.ensures))

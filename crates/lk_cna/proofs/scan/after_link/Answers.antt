@@ -1,6 +1,0 @@
-use Rattle.std.proofs.Common.{sym}
-use Rattle.lk_rows.specs.TopRow.{sight_at}
-use Rattle.lk_cna.proofs.scan.after_link.Goals as goal
-
-pub returns-in-Some : goal.returns-in-Some
-returns-in-Some c = rw c.in-Some.is (c.after_more.ensures (sight_at c.args.machine.now c.args.cpu c.args.frame) (sym c.is_local.ensures))
