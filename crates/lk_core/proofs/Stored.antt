@@ -1,6 +1,6 @@
 -- A node that a row takes from a register and stores, in a word or in the hash, is the machine's.
-use Rattle.std.proofs.Common.{◌≡◌, ◌<◌, ◌≤◌, ℕ, Option, Some, None, Bool, true, arith, ap, sym}
-use Rattle.std.proofs.Common.{◌∙◌, refl, subst, length}
+use Rattle.std.proofs.Common.{◌≡◌, ◌<◌, ◌≤◌, ℕ, Option, Some, None, arith, sym}
+use Rattle.std.proofs.Common.{refl, subst, length}
 use Rattle.lk_abs.specs.History.{LockHistory}
 use Rattle.lk_abs.specs.declared.names.Waiter.{Waiter}
 use Rattle.lk_abs.specs.declared.names.LockName.{LockName}
@@ -16,13 +16,10 @@ use Rattle.lk_rows.specs.Machine.{Machine, frame_at, HasNode}
 use Rattle.lk_rows.specs.Moves.{node_of}
 use Rattle.lk_rows.specs.Layouts.{layout_of}
 use Rattle.lk_machine.specs.Ready.{stored_name}
-use Rattle.lk_law.specs.Phase.{has_node}
-use Rattle.lk_law.specs.Places.{snapshot}
 use Rattle.lk_law.specs.Premises.{Uses}
 use Rattle.lk_law.specs.Known.{IsOwnNode}
 use Rattle.lk_law.specs.SoundWorld.{spin_part}
 use Rattle.lk_law.specs.Sound.{ShowsAll, world}
-use Rattle.lk_law.proofs.common.Families.{Last}
 use Rattle.lk_law.proofs.common.Knows.{named_front_is_used}
 use Rattle.lk_law.proofs.common.Users.{user_of, own_node}
 use Rattle.lk_law.proofs.cna.Front.{owner_tail}

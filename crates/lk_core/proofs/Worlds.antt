@@ -1,5 +1,5 @@
 -- A machine as a world after each write.
-use Rattle.std.proofs.Common.{◌≡◌, ◌≢◌, ℕ, Option, Some, None, Bool, true, false, List, ◌∷◌}
+use Rattle.std.proofs.Common.{◌≡◌, ◌≢◌, ℕ, Option, Some, None, Bool, true, false, List}
 use Rattle.std.proofs.Common.{inl, inr, arith, ap, ◌<◌, refl, sym, ◌∙◌, subst, length, get_or}
 use Rattle.std.proofs.Common.{set}
 use Rattle.std.specs.Prelude.{if◌then◌else◌, ◌==◌, slice_index_or}

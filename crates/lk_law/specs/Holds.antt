@@ -1,6 +1,6 @@
 -- How a lock is held by a running processor: a spinlock by one waiter at most, and each from one of
 -- its contexts to another.
-use Rattle.std.specs.Prelude.{◌≡◌, ◌≢◌, ℕ, Some, None, true, false, [], ◌∷◌, ◌++◌, if◌then◌else◌}
+use Rattle.std.specs.Prelude.{◌≡◌, ℕ, Some, None, true, false, [], ◌∷◌, ◌++◌, if◌then◌else◌}
 use Rattle.lk_abs.specs.Names.{same_lock}
 use Rattle.lk_abs.specs.History.{LockHistory, without}
 use Rattle.lk_abs.specs.declared.holder.Manner.{Manner}

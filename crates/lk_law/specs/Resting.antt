@@ -1,6 +1,6 @@
 -- A world in which nobody is there.
-use Rattle.std.specs.Prelude.{ℕ, ◌<◌, None, false, List, []}
-use Rattle.lk_abs.specs.History.{LockHistory, no_history}
+use Rattle.std.specs.Prelude.{ℕ, ◌<◌, None, false, List}
+use Rattle.lk_abs.specs.History.{no_history}
 use Rattle.lk_abs.specs.declared.names.Format.{Format}
 use Rattle.lk_abs.specs.declared.names.Kind.{Kind}
 use Rattle.lk_abs.specs.declared.names.Mode.{Mode}

@@ -8,7 +8,7 @@ ghost use Rattle.lk_pv.specs.Row.{IsPvReady};
 use crate::word::{is_halted, known};
 use lk_abs::{Event, What};
 use lk_machine::Machine;
-use lk_rows::{Flag, Frame, Pc, State, is_last, named};
+use lk_rows::{Flag, Pc, State, is_last, named};
 use lk_word::Locked;
 
 /// E13: swaps the tail from its own node to none, `n,0,1 -> 0,0,1`, and so leaves an empty queue
@@ -42,18 +42,7 @@ pub(crate) fn wait_for_next(machine: &mut Machine, cpu: u32) -> Option<Event>
     ensures next { machine.new ≡ (row machine.old cpu).0 }
     ensures event { result ≡ (row machine.old cpu).1 }
 {
-    let frame = machine.frame(cpu);
-    match machine.node(named(frame.me)).next {
-        None => machine.set_place(cpu, Pc::E14),
-        Some(node) => machine.set_frame(
-            cpu,
-            Frame {
-                y: Some(node),
-                place: Some(Pc::E15),
-                ..frame
-            },
-        ),
-    }
+    machine.find_next(cpu, Pc::E14, Pc::E15);
     None
 }
 

@@ -8,7 +8,7 @@ ghost use Rattle.lk_rows.specs.rows.Queue.{after_head};
 use crate::arrive::take_out;
 use lk_abs::{Event, How, Mode, What};
 use lk_machine::Machine;
-use lk_rows::{Flag, Frame, Pc, after_look, is_sole, named};
+use lk_rows::{Flag, Pc, after_look, is_sole, named};
 use lk_word::Locked;
 
 /// G7: polls as the queue head until the word is `*,0,0`: the lock is free, and no pending waiter
@@ -87,18 +87,7 @@ pub(crate) fn wait_for_next(machine: &mut Machine, cpu: u32) -> Option<Event>
     ensures next { machine.new ≡ (row machine.old cpu).0 }
     ensures event { result ≡ (row machine.old cpu).1 }
 {
-    let frame = machine.frame(cpu);
-    match machine.node(named(frame.me)).next {
-        None => machine.set_place(cpu, Pc::G10),
-        Some(node) => machine.set_frame(
-            cpu,
-            Frame {
-                y: Some(node),
-                place: Some(Pc::G11),
-                ..frame
-            },
-        ),
-    }
+    machine.find_next(cpu, Pc::G10, Pc::G11);
     None
 }
 

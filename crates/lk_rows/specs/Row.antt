@@ -91,6 +91,16 @@ abbrev pub learns_all : {A : Type 0} → Pc → List Change → Effect A
 learns_all c changes =
     record { stores = None; leads = Goes c changes; tells = Nothing; counts = [] }
 
+-- where a head goes that looks for its successor: back until there is one, and then on with it
+abbrev pub next_lead : Pc → Pc → Option NodeName → Lead
+next_lead back on None = Goes back []
+next_lead back on (Some n) = Goes on (Y (Some n) ∷ [])
+
+-- the row only looks, in the link of the own node, for the successor
+abbrev pub looks_for_next : Pc → Pc → Option NodeName → Effect (Option NodeName)
+looks_for_next back on x =
+    record { stores = None; leads = next_lead back on x; tells = Nothing; counts = [] }
+
 -- the row stores a value, and the frame goes to this place
 abbrev pub writes : {A : Type 0} → A → Pc → Effect A
 writes x c = record { stores = Some x; leads = Goes c []; tells = Nothing; counts = [] }
@@ -98,8 +108,6 @@ writes x c = record { stores = Some x; leads = Goes c []; tells = Nothing; count
 -- the try has failed
 abbrev pub misses : {A : Type 0} → What → Effect A
 misses what = record { stores = None; leads = Missed; tells = Says what; counts = [] }
-
--- a frame with a register changed
 
 -- the frame with one register changed
 abbrev pub with_change : Frame → Change → Frame

@@ -10,7 +10,6 @@ use Rattle.lk_law.specs.Phase.Phase.{Waits}
 use Rattle.lk_law.specs.Premises.{Uses}
 use Rattle.lk_law.specs.Places.{snapshot}
 use Rattle.lk_law.specs.Steps.{sight_in}
-use Rattle.lk_law.proofs.cna.Laws.{front}
 use Rattle.lk_law.proofs.common.Users.{user_of, user_found}
 use Rattle.lk_law.proofs.common.Acting.{Acting, StandsAwake}
 

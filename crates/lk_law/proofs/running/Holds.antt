@@ -1,5 +1,5 @@
 -- How a spinlock is held: by one waiter at most, and from one context to another.
-use Rattle.std.proofs.Common.{◌≡◌, ◌≢◌, ◌⊎◌, inl, inr, ℕ, Option, Some, None, Bool, true, false}
+use Rattle.std.proofs.Common.{◌≡◌, ◌≢◌, inl, inr, ℕ, Option, Some, None, Bool, true, false}
 use Rattle.std.proofs.Common.{arith, ap, refl, sym, ◌∙◌, subst}
 use Rattle.std.specs.Prelude.{if◌then◌else◌, ◌&&◌}
 use Rattle.lk_abs.specs.Names.{same_lock, same_waiter}
@@ -13,17 +13,17 @@ use Rattle.lk_abs.specs.declared.names.LockName.{LockName}
 use Rattle.lk_rows.specs.Moves.{rw_name, wait_name}
 use Rattle.lk_law.specs.Agree.{LockAgrees, sole}
 use Rattle.lk_law.specs.Holds.{HolderIsOne, HoldMoves, hands_hold, held_by}
-use Rattle.lk_law.specs.Phase.{Phase, has_lock, seeks}
-use Rattle.lk_law.specs.Phase.Phase.{Idle, Releases}
-use Rattle.lk_law.specs.Places.{snapshot, phase_on}
+use Rattle.lk_law.specs.Phase.{Phase, has_lock}
+use Rattle.lk_law.specs.Phase.Phase.{Idle}
+use Rattle.lk_law.specs.Places.{snapshot}
 use Rattle.lk_law.specs.RwAgree.{RwAgrees}
 use Rattle.lk_law.specs.Snapshot.{Snapshot, HolderAgrees, spins}
 use Rattle.lk_law.specs.SpinWorld.{IsSoundSpinWorld}
-use Rattle.lk_law.specs.SoundWorld.{IsSoundWorld, spin_part, is_rw, is_rw_name, rw_phases, rw_helds}
+use Rattle.lk_law.specs.SoundWorld.{spin_part, is_rw, is_rw_name, rw_phases, rw_helds}
 use Rattle.lk_law.specs.SoundWorld.{rw_waits}
 use Rattle.lk_law.specs.World.{World}
 use Rattle.lk_law.proofs.common.Cases.{waiter_cases, lock_cases}
-use Rattle.lk_law.proofs.common.Puts.{if-true, if-false, if_cases, same_lock-else, same_waiter-else}
+use Rattle.lk_law.proofs.common.Puts.{if-true, if-false, same_lock-else, same_waiter-else}
 use Rattle.lk_law.proofs.common.Sames.{same_lock-self, same_waiter-self}
 
 holding : (r : Phase) (h : Bool) → h ≡ true → has_lock r h ≡ true

@@ -34,13 +34,12 @@ use Rattle.lk_law.specs.World.{World}
 use Rattle.lk_law.proofs.cna.Knows.{lists, at_front, stage_here}
 use Rattle.lk_law.proofs.cna.Look.{next_at}
 use Rattle.lk_law.proofs.cna.Parts.{part_cases, part_out, shown_else}
-use Rattle.lk_law.proofs.common.Before.{nodes_apart}
 use Rattle.lk_law.proofs.common.Cases.{node_cases}
-use Rattle.lk_law.proofs.common.Families.{Last, lists_rest, queue_noded}
+use Rattle.lk_law.proofs.common.Families.{Last, lists_rest}
 use Rattle.lk_abs.proofs.ByIndex.{get_cases}
 use Rattle.lk_law.proofs.common.Puts.{not-true}
 use Rattle.lk_law.proofs.common.Users.{user_of, own_node, used_noded, used_own}
-use Rattle.lk_law.proofs.common.Worlds.{phase_on-here, stage_on-here}
+use Rattle.lk_law.proofs.common.Worlds.{phase_on-here}
 
 -- the link that the queue has in place of that in a node: of the last of those that are cut off, or
 -- of a front that has chosen the next

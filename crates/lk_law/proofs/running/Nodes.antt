@@ -1,7 +1,7 @@
 -- What is stored into a node that nobody uses; and which nodes are used.
-use Rattle.std.proofs.Common.{◌≡◌, ◌≢◌, ◌<◌, ◌≤◌, inl, inr, ℕ, Option, Some, None, Bool, true, false}
+use Rattle.std.proofs.Common.{◌≡◌, ◌≢◌, inl, inr, Option, Some, true, false}
 use Rattle.std.proofs.Common.{arith, ap, refl, sym, ◌∙◌, subst, slice_get}
-use Rattle.std.specs.Prelude.{if◌then◌else◌, is_some}
+use Rattle.std.specs.Prelude.{is_some}
 use Rattle.std.proofs.lemmas.Bool.{cases_lt}
 use Rattle.lk_abs.specs.History.{LockHistory}
 use Rattle.lk_abs.specs.declared.names.Waiter.{Waiter}
@@ -11,7 +11,7 @@ use Rattle.lk_rows.specs.declared.parts.Flag.TheVariants.{Second}
 use Rattle.lk_rows.specs.declared.parts.Node.{Node}
 use Rattle.lk_rows.specs.declared.parts.Frame.{Frame}
 use Rattle.lk_rows.specs.declared.parts.Pc.{Pc}
-use Rattle.lk_rows.specs.declared.parts.Pc.TheVariants.{G5, G10, E14}
+use Rattle.lk_rows.specs.declared.parts.Pc.TheVariants.{G10, E14}
 use Rattle.lk_rows.specs.Moves.{node_of}
 use Rattle.lk_law.specs.Agree.{LockAgrees, Owed, node_state}
 use Rattle.lk_law.specs.Known.{IsOwnNode}
@@ -19,16 +19,16 @@ use Rattle.lk_law.specs.Nodes.{IsFree, IsPlainNode, FreeNodeKeeps, FreshIsFree}
 use Rattle.lk_law.specs.Nodes.{PrevIsUsed, LinkIsUsed}
 use Rattle.lk_law.specs.Halting.{HaltingLinkIsUsed}
 use Rattle.lk_law.specs.Phase.{Phase, has_node, queues}
-use Rattle.lk_law.specs.Phase.Phase.{Prepared, Links, Holds}
+use Rattle.lk_law.specs.Phase.Phase.{Prepared}
 use Rattle.lk_law.specs.Places.{snapshot, phase_if, phase_on, slow_in, own_in}
 use Rattle.lk_law.specs.Premises.{Uses}
 use Rattle.lk_law.specs.Snapshot.{Snapshot, before, same_node}
 use Rattle.lk_law.specs.SpinWorld.{IsSoundSpinWorld}
-use Rattle.lk_law.specs.SoundWorld.{IsSoundWorld, spin_part}
+use Rattle.lk_law.specs.SoundWorld.{spin_part}
 use Rattle.lk_law.specs.Steps.{put_node}
 use Rattle.lk_law.specs.World.{World}
 use Rattle.lk_law.proofs.common.Before.{before_lt, nodes_apart}
-use Rattle.lk_law.proofs.common.Families.{Last, lists_keep, lists_rest, lists_met, lists_front, lists_main}
+use Rattle.lk_law.proofs.common.Families.{lists_keep, lists_rest, lists_met, lists_front, lists_main}
 use Rattle.lk_law.proofs.pv.Keep.{pv_keep, agrees-noded}
 use Rattle.lk_law.proofs.pv.Laws.{halts_flat}
 use Rattle.lk_law.proofs.common.Frame.{queue_node}

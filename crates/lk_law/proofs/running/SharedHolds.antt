@@ -8,19 +8,16 @@ use Rattle.lk_abs.specs.History.{LockHistory, no_history, without}
 use Rattle.lk_abs.specs.declared.holder.Holder.{Holder}
 use Rattle.lk_abs.specs.declared.holder.Manner.{Manner}
 use Rattle.lk_abs.specs.declared.holder.Manner.TheVariants.{Spins, Reads, Writes}
-use Rattle.lk_abs.specs.declared.names.Kind.{Kind}
 use Rattle.lk_abs.specs.declared.names.Kind.TheVariants.{Rw}
 use Rattle.lk_abs.specs.declared.names.Waiter.{Waiter}
 use Rattle.lk_abs.specs.declared.names.LockName.{LockName}
 use Rattle.lk_rows.specs.Moves.{rw_name, wait_name}
-use Rattle.lk_law.specs.Agree.{LockAgrees}
 use Rattle.lk_law.specs.Holds.{ShareMoves, hands_share, shared_by}
-use Rattle.lk_law.specs.Places.{snapshot}
 use Rattle.lk_law.specs.RwAgree.{RwAgrees, RwStep, ReadersAgree, HoldsAgree}
 use Rattle.lk_law.specs.RwPhase.{RwPhase, rests, is_inner, is_counted}
 use Rattle.lk_law.specs.RwPhase.RwPhase.{Away, Asks, Biases, Inside, Joins, Announces, Frees}
 use Rattle.lk_law.specs.RwPhase.RwPhase.{Unreads, Unwrites}
-use Rattle.lk_law.specs.Snapshot.{Snapshot, spins}
+use Rattle.lk_law.specs.Snapshot.{spins}
 use Rattle.lk_law.specs.SpinWorld.{IsSoundSpinWorld}
 use Rattle.lk_law.specs.SoundWorld.{IsSoundWorld, spin_part, is_rw, is_rw_name, rw_phases, rw_helds, rw_waits}
 use Rattle.lk_law.specs.Steps.{put_held}

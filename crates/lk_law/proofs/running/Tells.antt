@@ -1,10 +1,8 @@
 -- Where a row hands the lead on, some waiter uses the node that it names.
-use Rattle.std.proofs.Common.{◌≡◌, ◌≢◌, ℕ, Option, Some, None, Bool, true, false, refl, sym, ap, ◌∙◌}
+use Rattle.std.proofs.Common.{◌≡◌, Option, Some, None, Bool, true, false, refl, sym, ap}
 use Rattle.std.proofs.Common.{subst}
 use Rattle.std.specs.Prelude.{if◌then◌else◌, is_some, ◌-◌, ◌==◌, ◌&&◌}
 use Rattle.lk_abs.specs.History.{LockHistory}
-use Rattle.lk_abs.specs.declared.names.Mode.{Mode}
-use Rattle.lk_abs.specs.declared.names.Mode.TheVariants.{Virt, Native, Cna, Pv}
 use Rattle.lk_abs.specs.declared.names.Waiter.{Waiter}
 use Rattle.lk_abs.specs.declared.names.LockName.{LockName}
 use Rattle.lk_word.specs.declared.spin_word.NodeName.{NodeName}
@@ -12,26 +10,24 @@ use Rattle.lk_rows.specs.declared.parts.Flag.{Flag}
 use Rattle.lk_rows.specs.declared.parts.Flag.TheVariants as flag
 use Rattle.lk_rows.specs.declared.parts.Frame.{Frame}
 use Rattle.lk_rows.specs.declared.parts.Pc.{Pc}
-use Rattle.lk_rows.specs.declared.parts.Pc.TheVariants.{F1, T1, T2, V2, G3, G6, G8, G10, G11, N2}
+use Rattle.lk_rows.specs.declared.parts.Pc.TheVariants.{F1, T1, T2, V2, G3, G6, G8, G11, N2}
 use Rattle.lk_rows.specs.declared.parts.Pc.TheVariants.{C1, C2, C8, C10, R1, R2, R5, Wr1, Wr3}
-use Rattle.lk_rows.specs.declared.parts.Pc.TheVariants.{Wr6, Y1, Y2, Y4, Y5, H1, H2, W1, W2}
-use Rattle.lk_rows.specs.declared.parts.Pc.TheVariants.{W3, W4, W5, W6, W7, E1, E2, E3, E4, E5}
-use Rattle.lk_rows.specs.declared.parts.Pc.TheVariants.{E6, E7, E8, E9, E10, E11, E12, E13, E14}
-use Rattle.lk_rows.specs.declared.parts.Pc.TheVariants.{E15, K1, K2, K3, U2, U3, U4, U5}
+use Rattle.lk_rows.specs.declared.parts.Pc.TheVariants.{Wr6, Y1, Y2, Y4, Y5, H2, W2, W4, W7}
+use Rattle.lk_rows.specs.declared.parts.Pc.TheVariants.{E4, E7, E13, E15, K1, U2}
 use Rattle.lk_rows.specs.Row.{Effect, Tell, Nothing, Says, Passes}
 use Rattle.lk_rows.specs.rows.Spin.{is_free, is_unlocked}
-use Rattle.lk_rows.specs.rows.Queue.{after_flag, after_next, is_sole}
+use Rattle.lk_rows.specs.rows.Queue.{after_flag, is_sole}
 use Rattle.lk_rows.specs.rows.Cna.{Sight, after_none, is_last, may_stay, search_first, search_on}
 use Rattle.lk_rows.specs.rows.Cna.{is_held}
-use Rattle.lk_rows.specs.rows.Pv.{pv_after_next, is_set, is_running, is_halted}
+use Rattle.lk_rows.specs.rows.Pv.{is_set, is_running, is_halted}
 use Rattle.lk_rows.specs.rows.Rw.{is_open, is_empty, is_cleared}
 use Rattle.lk_rows.specs.Moves.{node_of}
 use Rattle.lk_rows.specs.TopRow.{target}
 use Rattle.lk_law.specs.Leads.{course_in}
 use Rattle.lk_law.specs.Nodes.{LeadGoesOn}
-use Rattle.lk_law.specs.Premises.{Uses, GoesTo}
+use Rattle.lk_law.specs.Premises.{GoesTo}
 use Rattle.lk_law.specs.SpinWorld.{IsSoundSpinWorld}
-use Rattle.lk_law.specs.Steps.{Made, row_in, sight_in}
+use Rattle.lk_law.specs.Steps.{Made, sight_in}
 use Rattle.lk_law.specs.World.{World}
 use Rattle.lk_law.proofs.common.Knows.{next_is_used, halting_next_is_used}
 use Rattle.lk_law.proofs.cna.Knows.{choice_is_used}
@@ -66,17 +62,9 @@ module _ (m : World) (hs : LockName → LockHistory) (w : Waiter) (f : Frame)
   flagged flag.Go = refl
   flagged (flag.Second n) = refl
 
-  next : (x : Option NodeName) → passes (after_next x).tells ≡ false
-  next None = refl
-  next (Some n) = refl
-
   nobody : (o : Option NodeName) → passes (after_none o).tells ≡ false
   nobody None = refl
   nobody (Some n) = refl
-
-  behind : (x : Option NodeName) → passes (pv_after_next x).tells ≡ false
-  behind None = refl
-  behind (Some n) = refl
 
   first : (x : Option NodeName) → passes (search_first s f.second x).tells ≡ false
   first None = nobody f.second
@@ -100,7 +88,6 @@ module _ (m : World) (hs : LockName → LockHistory) (w : Waiter) (f : Frame)
   to G3 at = quiet _ (either (is_free (m.word f.lock)) _ _ refl refl)
   to G6 at = quiet _ (flagged (m.node (node_of f.me)).flag)
   to G8 at = quiet _ (either (is_sole f (m.word f.lock)) _ _ refl refl)
-  to G10 at = quiet _ (next (m.node (node_of f.me)).next)
   to N2 at = quiet _ (either (is_free (m.word f.lock)) _ _ refl refl)
   to C1 at = quiet _ (first (m.node (node_of f.me)).next)
   to C2 at = quiet _ (further (m.node (node_of f.b)).next)
@@ -127,7 +114,6 @@ module _ (m : World) (hs : LockName → LockHistory) (w : Waiter) (f : Frame)
       (either (f.left - 1 == 0) _ _ refl refl))
   to E7 at = quiet _ (either (is_unlocked (m.word f.lock).locked) _ _ refl refl)
   to E13 at = quiet _ (either (is_last f (m.word f.lock)) _ _ refl refl)
-  to E14 at = quiet _ (behind (m.node (node_of f.me)).next)
   to K1 at = quiet _ (either (is_halted (m.node (node_of f.y)).state) _ _ refl refl)
   to U2 at = quiet _ (either (is_held (m.word f.lock).locked) _ _ refl refl)
   to _ at = (anybody, tt)

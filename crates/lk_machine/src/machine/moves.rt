@@ -1,15 +1,17 @@
 // How the newest frame of a processor moves.
 
 ghost use Rattle.std.specs.Prelude.{◌≡◌, Some, ◌≤◌, ◌<◌, ◌+◌, length, drop, slice_get};
-ghost use Rattle.lk_rows.specs.Machine.{HasTop, depth_at, handlers_at, push, pop, set_top, top_frame};
+ghost use Rattle.lk_rows.specs.Machine.{HasTop, HasNode, depth_at, handlers_at, node_at, push, pop};
+ghost use Rattle.lk_rows.specs.Machine.{set_top, top_frame};
 ghost use Rattle.lk_rows.specs.Programs.{HasPrograms, handlers_of, program_at, is_release, to_release};
-ghost use Rattle.lk_rows.specs.Moves.{CanMove, first_place, program_of, started, settled, skipped, done, granted, freed, missed, leave, take_wait};
+ghost use Rattle.lk_rows.specs.Moves.{CanMove, first_place, program_of, started, settled, skipped, done, granted, freed, missed, leave, take_wait, node_of};
+ghost use Rattle.lk_rows.specs.Row.{moved, next_lead};
 ghost use Rattle.lk_rows.specs.Acts.{handler_frame};
 
 use crate::machine::Machine;
 use crate::machine::rest::rest_frame;
 use lk_abs::{List, LockName, Mode};
-use lk_rows::{Frame, Op, Pc, Verb};
+use lk_rows::{Frame, Op, Pc, Verb, named};
 
 // The row at which an operation begins.
 fn first_place(mode: Mode, verb: Verb) -> Pc
@@ -243,6 +245,29 @@ impl Machine {
     {
         self.leave(cpu);
         self.granted(cpu);
+    }
+
+    /// The newest frame reads the link of its own node. It goes to `back` while that names nobody, and
+    /// then to `on`, with the successor as its `y` (G10, E14).
+    #[inline]
+    pub fn find_next(&mut self, cpu: u32, back: Pc, on: Pc)
+        requires top { HasTop self.old cpu }
+        requires own { HasNode self.old (node_of (top_frame self.old cpu).me) }
+        ensures { self.new ≡ moved self.old cpu (top_frame self.old cpu) (next_lead back on
+            (node_at self.old (node_of (top_frame self.old cpu).me)).next) }
+    {
+        let frame = self.frame(cpu);
+        match self.node(named(frame.me)).next {
+            None => self.set_place(cpu, back),
+            Some(next) => self.set_frame(
+                cpu,
+                Frame {
+                    y: Some(next),
+                    place: Some(on),
+                    ..frame
+                },
+            ),
+        }
     }
 
     /// Begins the next interrupt handler of a processor, in a new frame one context above the

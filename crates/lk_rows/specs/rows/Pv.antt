@@ -22,7 +22,8 @@ use Rattle.lk_rows.specs.declared.parts.Pc.TheVariants.{U3, U4, U5}
 use Rattle.lk_rows.specs.Moves.{node_of}
 use Rattle.lk_rows.specs.Row.{Effect, Goes, Leaves, Freed, Yields, Nothing, Says, Passes}
 use Rattle.lk_rows.specs.Row.{PvLockStealing, PvWaitNode, PvWaitHead, PvKickUnlock, LockSlowpath}
-use Rattle.lk_rows.specs.Row.{Left, Y, Tailed, HashedIs, TargetIs, looks, learns, writes}
+use Rattle.lk_rows.specs.Row.{Left, Tailed, HashedIs, TargetIs, looks, learns, looks_for_next}
+use Rattle.lk_rows.specs.Row.{writes}
 use Rattle.lk_rows.specs.rows.Spin.{is_unlocked}
 use Rattle.lk_rows.specs.rows.Cna.{is_held, is_last}
 
@@ -143,8 +144,7 @@ pv_flag_row c f x = looks c
 
 -- where a look at the own link leads: the next is there, or not yet
 abbrev pub pv_after_next : Option NodeName → Effect (Option NodeName)
-pv_after_next None = looks E14
-pv_after_next (Some n) = learns E15 (Y (Some n))
+pv_after_next x = looks_for_next E14 E15 x
 
 -- the row on the own link
 abbrev pub pv_next_row : Pc → Frame → Option NodeName → Effect (Option NodeName)

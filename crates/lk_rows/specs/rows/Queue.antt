@@ -19,7 +19,7 @@ use Rattle.lk_rows.specs.declared.parts.Pc.TheVariants.{N1, N2, H1, E1, C1, W1}
 use Rattle.lk_rows.specs.Moves.{is_node, node_of}
 use Rattle.lk_rows.specs.Row.{Effect, Counter, LockSlowpath, LockUseNode2, LockUseNode3}
 use Rattle.lk_rows.specs.Row.{LockUseNode4, LockNoNode, Goes, Enters, Leaves, Nothing, Says}
-use Rattle.lk_rows.specs.Row.{Passes, Prev, Second, Y, Left, Lead, looks, learns}
+use Rattle.lk_rows.specs.Row.{Passes, Prev, Second, Left, Lead, looks, learns, looks_for_next}
 use Rattle.lk_rows.specs.rows.Spin.{is_unlocked, is_free, held_word}
 
 -- the free word is swapped to locked, and the frame leaves the slow path with the lock
@@ -121,8 +121,7 @@ flag_row c f x = looks c
 
 -- what the head does that looked for the next
 abbrev pub after_next : Option NodeName → Effect (Option NodeName)
-after_next None = looks G10
-after_next (Some n) = learns G11 (Y (Some n))
+after_next x = looks_for_next G10 G11 x
 
 -- where a waiter goes that has linked its node: a paravirtual one spins for so many turns
 abbrev pub after_link : Mode → ℕ → Lead
