@@ -4,7 +4,7 @@ ghost use Rattle.lk_rows.specs.Machine.{top_frame};
 ghost use Rattle.lk_rows.specs.TopRow.{row};
 ghost use Rattle.lk_cna.specs.Row.{IsCnaReady};
 
-use lk_abs::{Event, What};
+use lk_abs::Event;
 use lk_machine::Machine;
 use lk_rows::{Pc, flag_for, named};
 
@@ -39,16 +39,7 @@ pub(crate) fn hand_on(machine: &mut Machine, cpu: u32) -> Option<Event>
     ensures event { result ≡ (row machine.old cpu).1 }
 {
     let frame = machine.frame(cpu);
-    let next = named(frame.y);
-    let event = machine.event(
-        cpu,
-        What::Pass {
-            lock: frame.lock,
-            to: machine.waiter_of(next),
-            moved: frame.k,
-        },
-    );
-    machine.set_flag(next, flag_for(frame.second));
+    let event = machine.hand(cpu, named(frame.y), flag_for(frame.second), frame.k);
     machine.leave_granted(cpu);
     Some(event)
 }

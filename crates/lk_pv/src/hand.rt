@@ -56,16 +56,7 @@ pub(crate) fn hand_on(machine: &mut Machine, cpu: u32) -> Option<Event>
     ensures event { result ≡ (row machine.old cpu).1 }
 {
     let frame = machine.frame(cpu);
-    let next = named(frame.y);
-    let event = machine.event(
-        cpu,
-        What::Pass {
-            lock: frame.lock,
-            to: machine.waiter_of(next),
-            moved: 0,
-        },
-    );
-    machine.set_flag(next, Flag::Go);
+    let event = machine.hand(cpu, named(frame.y), Flag::Go, 0);
     machine.set_place(cpu, Pc::K1);
     Some(event)
 }

@@ -2,16 +2,17 @@
 
 ghost use Rattle.std.specs.Prelude.{◌≡◌, Some, ◌≤◌, ◌<◌, ◌+◌, length, drop, slice_get};
 ghost use Rattle.lk_rows.specs.Machine.{HasTop, HasNode, depth_at, handlers_at, node_at, push, pop};
-ghost use Rattle.lk_rows.specs.Machine.{set_top, top_frame};
+ghost use Rattle.lk_rows.specs.Machine.{set_node, set_top, top_frame};
 ghost use Rattle.lk_rows.specs.Programs.{HasPrograms, handlers_of, program_at, is_release, to_release};
 ghost use Rattle.lk_rows.specs.Moves.{CanMove, first_place, program_of, started, settled, skipped, done, granted, freed, missed, leave, take_wait, node_of};
-ghost use Rattle.lk_rows.specs.Row.{moved, next_lead};
+ghost use Rattle.lk_rows.specs.Row.{moved, next_lead, event_of, Passes};
 ghost use Rattle.lk_rows.specs.Acts.{handler_frame};
 
 use crate::machine::Machine;
 use crate::machine::rest::rest_frame;
-use lk_abs::{List, LockName, Mode};
-use lk_rows::{Frame, Op, Pc, Verb, named};
+use lk_abs::{Event, List, LockName, Mode, What};
+use lk_rows::{Flag, Frame, Op, Pc, Verb, named};
+use lk_word::NodeName;
 
 // The row at which an operation begins.
 fn first_place(mode: Mode, verb: Verb) -> Pc
@@ -268,6 +269,27 @@ impl Machine {
                 },
             ),
         }
+    }
+
+    /// The newest frame hands off to the waiter of this node, by this flag, after so many waiters were
+    /// moved aside. Returns the event (G11, E15, C8).
+    #[inline]
+    pub fn hand(&mut self, cpu: u32, next: NodeName, flag: Flag, moved: u32) -> Event
+        requires top { HasTop self.old cpu }
+        requires next { HasNode self.old next }
+        ensures told { self.new
+            ≡ set_node self.old next (record (node_at self.old next) { flag = flag }) }
+        ensures event { Some result
+            ≡ event_of self.old cpu (top_frame self.old cpu) (Passes next moved) }
+    {
+        let what = What::Pass {
+            lock: self.lock(cpu),
+            to: self.waiter_of(next),
+            moved,
+        };
+        let event = self.event(cpu, what);
+        self.set_flag(next, flag);
+        event
     }
 
     /// Begins the next interrupt handler of a processor, in a new frame one context above the
