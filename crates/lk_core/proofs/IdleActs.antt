@@ -44,7 +44,7 @@ handlers_settled : (n : Machine) (p : ℕ) (h : Frame) (q : ℕ)
     → handlers_at (settled n p h) q ≡ handlers_at n q
 handlers_settled n p h q = handlers_settled_at n p h (slice_get (program_of n p h) h.«at») q
 
-preempted_now : (m : Machine) (p : ℕ) (b : Bool) → p < length m.cpus
+pub preempted_now : (m : Machine) (p : ℕ) (b : Bool) → p < length m.cpus
     → preempted_at (set_preempted m p b) p ≡ b
 unfolding preempted_at set_preempted
 preempted_now m p b range =

@@ -1,37 +1,37 @@
 mod Lists
-mod Access
+pub mod Access
 mod Entries
-mod Worlds
-mod Seated
-mod Same
+pub mod Worlds
+pub mod Seated
+pub mod Same
 mod Walks
 mod Settle
 mod RowsFit
 mod PvRowsFit
 mod ChoiceRowsFit
 mod NodesFit
-mod Moved
-mod Leads
-mod LeadsOut
+pub mod Moved
+pub mod Leads
+pub mod LeadsOut
 mod Kicks
-mod Stores
+pub mod Stores
 mod Reach
-mod RwMoved
-mod RowKept
+pub mod RwMoved
+pub mod RowKept
 mod Stands
 mod RowParts
-mod ActKept
+pub mod ActKept
 mod FrameComes
 mod Parts
-mod Setups
+pub mod Setups
 mod LawfulKept
-mod Rest
+pub mod Rest
 mod RestPhases
-mod Runs
+pub mod Runs
 mod CountsKept
-mod IdleActs
+pub mod IdleActs
 mod HashRoom
 mod Stored
 mod ReadyRows
 mod ActDone
-mod Sights
+pub mod Sights

@@ -141,7 +141,7 @@ module _ (setup : Setup) (ok : IsLawfulSetup setup) where
   abbrev task : ℕ → Frame
   task p = first_frame setup.mode (slice_get (program_at setup p 0) 0)
 
-  frames : (u : Waiter) (f : Frame) → frame_at m u ≡ Some f → (u.ctx ≡ 0) × (task u.cpu ≡ f)
+  pub frames : (u : Waiter) (f : Frame) → frame_at m u ≡ Some f → (u.ctx ≡ 0) × (task u.cpu ≡ f)
   unfolding frame_at
   frames u f = each (λ c. slice_get c.frames u.ctx ≡ Some f → (u.ctx ≡ 0) × (task u.cpu ≡ f)) u.cpu (sole u.ctx) (λ e. absurd (none-some f e))
     where
@@ -350,7 +350,7 @@ module _ (setup : Setup) (ok : IsLawfulSetup setup) where
   spins_sound : IsSoundSpinWorld (world m) (λ l. no_history)
   spins_sound =
       record {
-        plain = record { byte = λ off l. rw (words l) (λ e. cc); flag = λ flat n k. rw (nodes n) (λ e. cc) };
+        plain = record { byte = λ off l. rw (words l) (λ e. cc); flag = λ flat n k. rw (nodes n) (λ e. cc); runs = λ n. rw (nodes n) (omega arith) };
         turning = ok.spins.0;
         agrees = record {
           locks = lock_agrees;

@@ -135,6 +135,11 @@ abbrev pub NodeIsOnes : Type 0
 NodeIsOnes = (m : World) (hs : LockName → LockHistory) (u v : Waiter) (n : NodeName)
     → IsSoundSpinWorld m hs → Uses m u n → Uses m v n → (u ≡ v) × IsOwnNode u n
 
+-- In every sound world no node's count of handoffs is above the threshold.
+abbrev pub RunsAreBounded : Type 0
+RunsAreBounded = (m : World) (hs : LockName → LockHistory) (n : NodeName) → IsSoundSpinWorld m hs
+    → (m.node n).runs ≤ m.threshold
+
 -- In every sound world a head that is about to tell the next of a secondary queue has made fewer
 -- handoffs than the threshold since that queue became non-empty.
 abbrev pub RunIsShort : Type 0

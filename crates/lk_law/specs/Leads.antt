@@ -98,10 +98,6 @@ course_at s c f (KickOf q) (Marked b) = course_of (kick_row c f b)
 course_at s c f RwWord (Shared x) = course_of (rw_row s.mode c f x)
 course_at s c f t x = stays_at c
 
--- where it leads
-abbrev pub lead_at : Setting → Pc → Frame → Target → Met → Lead
-lead_at s c f t x = (course_at s c f t x).leads
-
 -- in a world
 
 -- what the frame f of w reads besides

@@ -1,6 +1,6 @@
 -- What a running processor may store into nodes, and which nodes its rows name, in every sound
 -- world.
-use Rattle.std.specs.Prelude.{◌≡◌, ◌≢◌, ℕ, Bool, Some, true, false}
+use Rattle.std.specs.Prelude.{◌≡◌, ◌≢◌, ℕ, Bool, Some, true, false, ◌≤◌}
 use Rattle.lk_abs.specs.History.{LockHistory}
 use Rattle.lk_abs.specs.declared.names.Waiter.{Waiter}
 use Rattle.lk_abs.specs.declared.names.LockName.{LockName}
@@ -27,9 +27,11 @@ use Rattle.lk_law.specs.World.{World}
 abbrev pub IsFree : World → NodeName → Type 0
 IsFree m n = (u : Waiter) → Uses m u n → ⊥
 
--- what may be stored into a node where nobody is moved aside
+-- what may be stored into a node: a count of handoffs up to the threshold, and, where nobody is
+-- moved aside, no flag that names a secondary queue
 abbrev pub IsPlainNode : World → Node → Type 0
-IsPlainNode m x = moves_aside m.mode ≡ false → (k : NodeName) → x.flag ≢ Second k
+IsPlainNode m x = (x.runs ≤ m.threshold)
+    × (moves_aside m.mode ≡ false → (k : NodeName) → x.flag ≢ Second k)
 
 -- What is stored into a node that nobody uses keeps every sound world.
 abbrev pub FreeNodeKeeps : Type 0

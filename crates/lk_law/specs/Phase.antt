@@ -40,13 +40,6 @@ pub data Phase : Type 0 where
   -- it has handed off, holds the lock, and looks after the node that leads now
   Tends : NodeName → Phase
 
--- the phase holds the lock, without the program's knowing it yet
-abbrev pub owns : Phase → Bool
-owns Holds = true
-owns (Hands n) = true
-owns (Tends n) = true
-owns _ = false
-
 -- the phase has set the pending bit
 abbrev pub pends : Phase → Bool
 pends Undoes = true

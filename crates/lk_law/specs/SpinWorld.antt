@@ -1,5 +1,5 @@
 -- When a world is sound in its spinlocks and wait locks.
-use Rattle.std.specs.Prelude.{◌≡◌, ◌≢◌, ℕ, Some, None, true, false, ◌<◌}
+use Rattle.std.specs.Prelude.{◌≡◌, ◌≢◌, ℕ, Some, None, true, false, ◌<◌, ◌≤◌}
 use Rattle.lk_abs.specs.History.{LockHistory}
 use Rattle.lk_abs.specs.declared.names.Waiter.{Waiter}
 use Rattle.lk_abs.specs.declared.names.LockName.{LockName}
@@ -14,11 +14,12 @@ use Rattle.lk_law.specs.World.{World}
 use Rattle.lk_law.specs.Places.{post_of, snapshot}
 use Rattle.lk_law.specs.Registers.{RegistersFit}
 
--- What is never stored: where no processor halts, a byte that is slow; and, where nobody is moved
--- aside, a flag that names a secondary queue.
+-- What is never stored: where no processor halts, a byte that is slow; where nobody is moved aside,
+-- a flag that names a secondary queue; and a count of handoffs above the threshold.
 pub record IsPlain (m : World) : Type 0 where
   pub byte : halts m.mode ≡ false → (l : LockName) → (m.word l).locked ≢ Slow
   pub flag : moves_aside m.mode ≡ false → (n k : NodeName) → (m.node n).flag ≢ Second k
+  pub runs : (n : NodeName) → (m.node n).runs ≤ m.threshold
 
 -- no frame of the processor has come on top of the waiter's
 abbrev pub HasNoneAbove : World → Waiter → Type 0

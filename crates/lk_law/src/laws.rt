@@ -7,12 +7,14 @@ ghost use Rattle.lk_rows.specs.declared.parts.Pc.TheVariants.{G6, G7, G8, G9, G1
 ghost use Rattle.lk_rows.specs.declared.parts.Pc.TheVariants.{C1, C2, C3, C4, C5, C6, C7, C8};
 ghost use Rattle.lk_rows.specs.declared.parts.Pc.TheVariants.{C9, C10, R1, R5, Wr1, Wr6, Z1, Z2};
 ghost use Rattle.lk_law.specs.Known.{RowKnows, TailIsUsed, NextIsUsed, NodeIsOnes, ChoiceIsUsed};
-ghost use Rattle.lk_law.specs.Known.{PassesAreBounded, RunIsShort, SkippedIsQueued, AsideAreTasks};
+ghost use Rattle.lk_law.specs.Known.{PassesAreBounded, RunsAreBounded, RunIsShort};
+ghost use Rattle.lk_law.specs.Known.{SkippedIsQueued, AsideAreTasks};
 ghost use Rattle.lk_law.specs.Known.{QueueIsDistinct, HaltingNextIsUsed, NamedFrontIsUsed};
 ghost use Rattle.lk_law.specs.Known.{EntryIsUsed, NobodyHalts};
 ghost use Rattle.lk_law.specs.Walk.{MainIsTheWalk, MainIsTheShownWalk, SecondIsTheWalk};
 ghost use Rattle.lk_law.specs.SpinLaws.{SpinRowKeeps, SpinWakeKeeps, SpinNudgeKeeps, SpinIntKeeps};
-ghost use Rattle.lk_law.specs.SpinLaws.{RousedIsAwake, TopIsAwake, SpinInterruptKeeps};
+ghost use Rattle.lk_law.specs.SpinLaws.{SpinBeginKeeps, SpinEndKeeps, RousedIsAwake, TopIsAwake};
+ghost use Rattle.lk_law.specs.SpinLaws.{SpinInterruptKeeps};
 ghost use Rattle.lk_law.specs.RwKnown.{RwRowKnows, ReadersAreFew};
 ghost use Rattle.lk_law.specs.WorldLaws.{RowKeeps, BeginKeeps, EndKeeps, WakeKeeps, NudgeKeeps};
 ghost use Rattle.lk_law.specs.WorldLaws.{IntKeeps, InterruptKeeps, FrontsAreOwed};
@@ -97,10 +99,11 @@ pub fn choice_rows_keep()
 {}
 
 /// In every sound world no waiter of a secondary queue was passed by more handoffs than the
-/// threshold. A queue head that is about to store the count of handoffs, with a secondary queue,
-/// has counted fewer than the threshold.
+/// threshold, and no node's count of handoffs is above it. A queue head that is about to store the
+/// count of handoffs, with a secondary queue, has counted fewer than the threshold.
 pub fn passes_are_bounded()
     ensures bounded { PassesAreBounded }
+    ensures runs { RunsAreBounded }
     ensures short { RunIsShort }
 {}
 
@@ -130,8 +133,11 @@ pub fn every_row_keeps()
 /// What happens to a frame between its operations keeps every sound world, and the histories stay.
 /// A frame begins an operation, if its waiter holds the lock as the verb asks. Or a frame at no
 /// row comes, goes or changes. It comes only if no frame of its processor has halted the
-/// processor, or is about to.
+/// processor, or is about to. `spin_begin` and `spin_end` say so of spinlocks and wait locks
+/// alone, and `begin` and `end` of all locks.
 pub fn frames_keep()
+    ensures spin_begin { SpinBeginKeeps }
+    ensures spin_end { SpinEndKeeps }
     ensures begin { BeginKeeps }
     ensures end { EndKeeps }
 {}

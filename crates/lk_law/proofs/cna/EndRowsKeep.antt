@@ -70,7 +70,7 @@ module _ {a : Acting} (at : StandsAwake a C8) where
         turn = queued_turn a.by.cpu _ (node_turn at.live refl next flagged);
         word = refl;
         plain = queued_plain n a.by.cpu _
-            (node_plain a.world next flagged at.sound.plain
+            (node_plain a.world next flagged at.sound.plain (at.sound.plain.runs next)
             (λ flat. absurd (let e = aside_here at refl in grind (arith, e, flat))));
         was = phase_here at;
         place = left_place at;
@@ -132,7 +132,7 @@ choice_flush_keeps =
     let fits : ChoiceFits a.world.mode g =
     choosing g C7 refl refl (aside_here at refl) (λ q. cc) (λ q. cc) (λ q. cc) (λ q. cc)
     (λ q. cc) in
-    let on = store_on at refl g C7 refl refl refl refl fits t y in
+    let on = store_on at refl g C7 refl refl refl refl fits t y (at.sound.plain.runs t) in
     let nobody : (f.k == 0) ≡ true =
     ap (λ (k : ℕ). k == 0) ((fit_here at).choice.nobody C9 at.place refl) in
     goes_kept at on (Says (Flush f.lock))
@@ -141,7 +141,7 @@ choice_flush_keeps =
     (ap (λ (o : Option NodeName). record (a.world.node t) { next = o })
     (some_is f.a ((fit_here at).choice.first C9 at.place refl)))
     (stage_shown at refl)
-    (store_now at refl g C7 refl refl refl refl fits t y
+    (store_now at refl g C7 refl refl refl refl fits t y (at.sound.plain.runs t)
     ∙ if-true (f.k == 0) (Picks (node_of f.second))
     (Hangs (node_of f.a) (node_of f.b) f.k (node_of f.second)) nobody)
     (kept_shown at refl ∙ some_is f.second ((fit_here at).choice.second C9 at.place refl))

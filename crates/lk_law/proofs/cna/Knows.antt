@@ -28,7 +28,7 @@ use Rattle.lk_law.specs.Places.{snapshot, phase_at, phase_if, phase_on}
 use Rattle.lk_law.specs.Places.{stage_at, stage_why, stage_if, stage_on, kept_in, own_in}
 use Rattle.lk_law.specs.Families.{chooses}
 use Rattle.lk_law.specs.Premises.{Uses}
-use Rattle.lk_law.specs.Known.{IsOwnNode, ChoiceIsUsed, PassesAreBounded, RunIsShort}
+use Rattle.lk_law.specs.Known.{IsOwnNode, ChoiceIsUsed, PassesAreBounded, RunsAreBounded, RunIsShort}
 use Rattle.lk_law.specs.Known.{SkippedIsQueued, QueueIsDistinct, AsideAreTasks}
 use Rattle.lk_law.proofs.common.Puts.{if-true, if-false}
 use Rattle.lk_law.proofs.common.Worlds.{phase_on-here, stage_on-here}
@@ -181,6 +181,9 @@ module _ {m : World} {hs : LockName → LockHistory} {w : Waiter} {f : Frame} {c
 
   own_is : (snapshot m).own w ≡ node_of f.me
   own_is = ap own_in live
+
+pub runs_are_bounded : RunsAreBounded
+runs_are_bounded m hs n ok = ok.plain.runs n
 
 -- In every sound world a front that tells the next of a second queue has made fewer handovers than
 -- the threshold.

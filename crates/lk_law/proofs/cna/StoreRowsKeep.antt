@@ -1,7 +1,7 @@
 -- The rows of the choice that store into a node keep every sound world.
 use Rattle.std.proofs.Common.{◌≡◌, ◌≢◌, inl, inr, ℕ, suc, Option, Some, None, true, false, arith}
 use Rattle.std.proofs.Common.{ap, refl, sym, ◌∙◌}
-use Rattle.std.specs.Prelude.{if◌then◌else◌, is_some, ◌==◌, ◌+◌}
+use Rattle.std.specs.Prelude.{if◌then◌else◌, is_some, ◌==◌, ◌+◌, ◌<◌, ◌≤◌}
 use Rattle.std.proofs.lemmas.Bool.{cases_Bool}
 use Rattle.lk_abs.specs.declared.names.Waiter.{Waiter}
 use Rattle.lk_word.specs.declared.spin_word.NodeName.{NodeName}
@@ -24,6 +24,7 @@ use Rattle.lk_law.specs.SpinLaws.{SpinRowKeeps}
 use Rattle.lk_law.proofs.queue.Laws.{apart_on}
 use Rattle.lk_law.proofs.cna.Laws.{away, law_search}
 use Rattle.lk_law.proofs.common.Families.{Last}
+use Rattle.lk_law.proofs.cna.Knows.{run_is_short}
 use Rattle.lk_law.proofs.cna.Front.{front_lead, owner_next, owner_last, owner_tail, owner_moved}
 use Rattle.lk_law.proofs.cna.Store.{c4_tie, c5_cut, c6_hang, c7_count, c7_plain}
 use Rattle.lk_law.proofs.common.Puts.{if-true, if-false, put_rewrites}
@@ -41,7 +42,8 @@ use Rattle.lk_law.proofs.cna.RowsKeep.{kept_shown, lists_here, front_here}
 -- the front stores y into the node n, and goes on
 module _ {a : Acting} {c : Pc} (at : StandsAwake a c) (on : chooses c ≡ true) (g : Frame) (d : Pc)
     (place : g.place ≡ Some d) (goes : chooses d ≡ true) (lock : g.lock ≡ a.frame.lock)
-    (me : g.me ≡ a.frame.me) (fits : ChoiceFits a.world.mode g) (n : NodeName) (y : Node) where
+    (me : g.me ≡ a.frame.me) (fits : ChoiceFits a.world.mode g) (n : NodeName) (y : Node)
+    (few : y.runs ≤ a.world.threshold) where
   abbrev s : Snapshot
   s = snapshot a.world
 
@@ -51,7 +53,7 @@ module _ {a : Acting} {c : Pc} (at : StandsAwake a c) (on : chooses c ≡ true) 
   pub store_on : Going a (put_node a.world n y) g Holds Holds (a.world.word a.frame.lock)
   store_on =
       choice_going at on g d (node_turn at.live lock n y) refl
-      (node_plain a.world n y at.sound.plain
+      (node_plain a.world n y at.sound.plain few
       (λ flat. absurd (let e = aside_here at on in grind (arith, e, flat)))) (λ p. refl) place
       goes me fits
 
@@ -86,14 +88,14 @@ choice_append_keeps =
     (λ q. (fit_here at).choice.second C4 at.place refl) (λ q. cc) (λ q. cc)
     (λ q. (fit_here at).choice.last C4 at.place refl) (λ q. cc) in
     let is = stage_shown at refl in
-    store_kept at refl g C5 refl refl refl refl fits t y
+    store_kept at refl g C5 refl refl refl refl fits t y (at.sound.plain.runs t)
     (owner_tail (lists_here at refl) (front_here at refl) (holds_shown at refl) is t refl)
     (c4_tie {m = t} {x = y} _ (lists_here at refl) (front_here at refl) (holds_shown at refl)
-    (store_others at refl g C5 refl refl refl refl fits t y)
-    (store_same at refl g C5 refl refl refl refl fits t y refl) (put_rewrites a.world.node t y)
+    (store_others at refl g C5 refl refl refl refl fits t y (at.sound.plain.runs t))
+    (store_same at refl g C5 refl refl refl refl fits t y (at.sound.plain.runs t) refl) (put_rewrites a.world.node t y)
     (apart_on at.sound.agrees.nodes f.lock)
     (node_of f.a) (node_of f.b) f.k (node_of f.y) is
-    (store_now at refl g C5 refl refl refl refl fits t y)
+    (store_now at refl g C5 refl refl refl refl fits t y (at.sound.plain.runs t))
     (ap (λ (o : Option NodeName). record (a.world.node t) { next = o })
     (some_is f.a ((fit_here at).choice.first C4 at.place refl)))))
 
@@ -111,15 +113,15 @@ choice_cut_keeps =
     (λ q. (fit_here at).choice.second C5 at.place refl) (λ q. cc) (λ q. cc)
     (λ q. (fit_here at).choice.last C5 at.place refl) (λ q. cc) in
     let is = stage_shown at refl in
-    store_kept at refl g C6 refl refl refl refl fits b y
+    store_kept at refl g C6 refl refl refl refl fits b y (at.sound.plain.runs b)
     (owner_last (lists_here at refl) (front_here at refl) (holds_shown at refl) is (node_of f.a)
     b f.k refl)
     (c5_cut {m = b} {x = y} _ (lists_here at refl) (front_here at refl) (holds_shown at refl)
-    (store_others at refl g C6 refl refl refl refl fits b y)
-    (store_same at refl g C6 refl refl refl refl fits b y refl) (put_rewrites a.world.node b y)
+    (store_others at refl g C6 refl refl refl refl fits b y (at.sound.plain.runs b))
+    (store_same at refl g C6 refl refl refl refl fits b y (at.sound.plain.runs b) refl) (put_rewrites a.world.node b y)
     (apart_on at.sound.agrees.nodes f.lock)
     (node_of f.a) b f.k (node_of f.y) is
-    (store_now at refl g C6 refl refl refl refl fits b y) refl refl))
+    (store_now at refl g C6 refl refl refl refl fits b y (at.sound.plain.runs b)) refl refl))
 
 -- C6
 
@@ -150,15 +152,15 @@ choice_set_tail_keeps =
     let named : (snapshot a.world).kept a.by ≡ Some m = kept_shown at refl
     ∙ some_is f.second ((fit_here at).choice.second C6 at.place refl) in
     let some = some_passed at refl (node_of f.a) (node_of f.b) f.k refl in
-    store_kept at refl g C7 refl refl refl refl fits m y
+    store_kept at refl g C7 refl refl refl refl fits m y (at.sound.plain.runs m)
     (owner_moved (lists_here at refl) (front_here at refl) (holds_shown at refl) is
     (node_of f.a) (node_of f.b) f.k m refl refl named)
     (c6_hang {m = m} {x = y} _ (lists_here at refl) (front_here at refl) (holds_shown at refl)
-    (store_others at refl g C7 refl refl refl refl fits m y)
-    (store_same at refl g C7 refl refl refl refl fits m y refl) (put_rewrites a.world.node m y)
+    (store_others at refl g C7 refl refl refl refl fits m y (at.sound.plain.runs m))
+    (store_same at refl g C7 refl refl refl refl fits m y (at.sound.plain.runs m) refl) (put_rewrites a.world.node m y)
     (apart_on at.sound.agrees.nodes f.lock)
     (node_of f.a) (node_of f.b) f.k (node_of f.y) is
-    (store_now at refl g C7 refl refl refl refl fits m y
+    (store_now at refl g C7 refl refl refl refl fits m y (at.sound.plain.runs m)
     ∙ if-false (f.k == 0) (Picks (node_of f.y))
     (Hangs (node_of f.a) (node_of f.b) f.k (node_of f.y)) some) named
     (ap (λ (o : Option NodeName). record (a.world.node m) { second_tail = o })
@@ -189,6 +191,17 @@ module _ {a : Acting} (at : StandsAwake a C7) where
   count_as None r = refl
   count_as (Some n) r = refl
 
+  -- a head with a secondary queue has counted fewer than the threshold
+  few_told : told.runs ≤ a.world.threshold
+  few_told = few a.frame.second (run_is_short a.world a.histories a.by a.frame at.sound at.live at.place)
+    where
+      few : (o : Option NodeName)
+          → (is_some o ≡ true → (a.world.node (node_of a.frame.me)).runs < a.world.threshold)
+          → (if is_some o then (a.world.node (node_of a.frame.me)).runs + 1 else 0)
+          ≤ a.world.threshold
+      few None short = omega arith
+      few (Some n) short = let z = short refl in omega (arith, z)
+
   -- what it stores, as the laws say it
   count_is : told
       ≡ record (a.world.node next) {
@@ -210,14 +223,14 @@ module _ {a : Acting} (at : StandsAwake a C7) where
       let is : (snapshot a.world).stage a.frame.lock a.by ≡ Picks next = stage_shown at refl
       ∙ if-true (a.frame.k == 0) (Picks next)
       (Hangs (node_of a.frame.a) (node_of a.frame.b) a.frame.k next) zero in
-      store_kept at refl gone C8 refl refl refl refl fits_C8 next told
+      store_kept at refl gone C8 refl refl refl refl fits_C8 next told few_told
       (owner_next (lists_here at refl) (front_here at refl) (holds_shown at refl) is 0 next
       refl)
       (c7_plain {m = next} {x = told} _ (lists_here at refl) (front_here at refl)
-      (holds_shown at refl) (store_others at refl gone C8 refl refl refl refl fits_C8 next told)
-      (store_same at refl gone C8 refl refl refl refl fits_C8 next told refl)
+      (holds_shown at refl) (store_others at refl gone C8 refl refl refl refl fits_C8 next told few_told)
+      (store_same at refl gone C8 refl refl refl refl fits_C8 next told few_told refl)
       (put_rewrites a.world.node next told) (apart_on at.sound.agrees.nodes a.frame.lock)
-      next is (store_now at refl gone C8 refl refl refl refl fits_C8 next told
+      next is (store_now at refl gone C8 refl refl refl refl fits_C8 next told few_told
       ∙ if-true (a.frame.k == 0) (Picked next)
       (Counts (node_of a.frame.a) (node_of a.frame.b) a.frame.k next) zero) refl count_is)
 
@@ -228,15 +241,15 @@ module _ {a : Acting} (at : StandsAwake a C7) where
       stage_shown at refl
       ∙ if-false (a.frame.k == 0) (Picks next)
       (Hangs (node_of a.frame.a) (node_of a.frame.b) a.frame.k next) some in
-      store_kept at refl gone C8 refl refl refl refl fits_C8 next told
+      store_kept at refl gone C8 refl refl refl refl fits_C8 next told few_told
       (owner_next (lists_here at refl) (front_here at refl) (holds_shown at refl) is a.frame.k
       next refl)
       (c7_count {m = next} {x = told} _ (lists_here at refl) (front_here at refl)
-      (holds_shown at refl) (store_others at refl gone C8 refl refl refl refl fits_C8 next told)
-      (store_same at refl gone C8 refl refl refl refl fits_C8 next told refl)
+      (holds_shown at refl) (store_others at refl gone C8 refl refl refl refl fits_C8 next told few_told)
+      (store_same at refl gone C8 refl refl refl refl fits_C8 next told few_told refl)
       (put_rewrites a.world.node next told) (apart_on at.sound.agrees.nodes a.frame.lock)
       (node_of a.frame.a) (node_of a.frame.b) a.frame.k next is
-      (store_now at refl gone C8 refl refl refl refl fits_C8 next told
+      (store_now at refl gone C8 refl refl refl refl fits_C8 next told few_told
       ∙ if-false (a.frame.k == 0) (Picked next)
       (Counts (node_of a.frame.a) (node_of a.frame.b) a.frame.k next) some) refl count_is)
 

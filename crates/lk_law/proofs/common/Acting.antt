@@ -1,7 +1,7 @@
 -- A frame at a row of a sound world, and what becomes of the world after the row.
 use Rattle.std.proofs.Common.{◌≡◌, ◌≢◌, ◌⊎◌, inl, inr, ℕ, Option, Some, None, Bool, true, false, []}
 use Rattle.std.proofs.Common.{arith, ap, ◌-◌, ◌<◌, refl, sym, ◌∙◌, subst}
-use Rattle.std.specs.Prelude.{if◌then◌else◌, is_some}
+use Rattle.std.specs.Prelude.{if◌then◌else◌, is_some, ◌≤◌}
 use Rattle.lk_abs.specs.History.{LockHistory}
 use Rattle.lk_abs.specs.declared.holder.Manner.{Manner}
 use Rattle.lk_abs.specs.Lawful.{Rules}
@@ -422,14 +422,14 @@ module _ {a : Acting} {c d : Pc} {r r' : Phase} (at : StandsAwake a c)
       }
 
   -- a row that stores a node
-  pub node_going : (n : NodeName) (y : Node)
+  pub node_going : (n : NodeName) (y : Node) → y.runs ≤ a.world.threshold
       → (moves_aside a.world.mode ≡ false → (k : NodeName) → y.flag ≢ Second k)
       → Going a (put_node a.world n y) placed r r' (a.world.word a.frame.lock)
-  node_going n y sole =
+  node_going n y few sole =
       record {
         turn = node_turn at.live refl n y;
         word = refl;
-        plain = node_plain a.world n y at.sound.plain sole;
+        plain = node_plain a.world n y at.sound.plain few sole;
         was = phase_here at ∙ leads.was;
         now = leads.now;
         on_way = leads.on_way;

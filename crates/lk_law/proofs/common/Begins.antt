@@ -312,7 +312,7 @@ spin_begin_keeps m hs w f g o ok live place held me =
       still = λ e h. absurd (let z = place_off f place in grind (arith, z, e));
       halted = λ p h. inl h;
     })
-    (record { byte = ok.plain.byte; flag = ok.plain.flag }) (begin_fit g o ok live place me)
+    (record { byte = ok.plain.byte; flag = ok.plain.flag; runs = ok.plain.runs }) (begin_fit g o ok live place me)
     (elim (cases_Bool (halts m.mode)) [
       | inl on ↦ law_turn_pv ok.agrees on (begin_step g o ok live place held)
           (begin_stays g o ok live place me) (λ n. refl) (begin_turn g o ok live place)
@@ -415,7 +415,7 @@ pub spin_end_keeps : SpinEndKeeps
 spin_end_keeps m hs w f g ok live none none' room =
     let moves = end_moves m w f g live none none' in
     record {
-      plain = record { byte = ok.plain.byte; flag = ok.plain.flag };
+      plain = record { byte = ok.plain.byte; flag = ok.plain.flag; runs = ok.plain.runs };
       turning = ok.turning;
       agrees = law_same ok.agrees (end_same m w f g live none none');
       registers = λ u d e. elim (waiter_cases u w) [

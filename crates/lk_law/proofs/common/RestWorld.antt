@@ -66,7 +66,7 @@ pub empty_sound : (format : Format) (mode : Mode) (t : ℕ) (sockets : List ℕ)
     → IsSoundSpinWorld (empty_world format mode t sockets kind) (λ l. no_history)
 empty_sound format mode t sockets kind =
     record {
-      plain = record { byte = λ a l e. cc e; flag = λ e n k h. cc h };
+      plain = record { byte = λ a l e. cc e; flag = λ e n k h. cc h; runs = λ n. omega arith };
       turning = omega arith;
       agrees = record {
         locks = λ l. record {
@@ -188,7 +188,7 @@ rest_is_sound format mode turns t sockets kind some =
     let e = empty_is_sound format mode t sockets kind in
     record {
       spins = record {
-        plain = record { byte = e.spins.plain.byte; flag = e.spins.plain.flag };
+        plain = record { byte = e.spins.plain.byte; flag = e.spins.plain.flag; runs = e.spins.plain.runs };
         turning = some;
         agrees = e.spins.agrees;
         registers = e.spins.registers;

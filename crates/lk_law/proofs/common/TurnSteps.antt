@@ -1,7 +1,7 @@
 -- The step of the snapshot that a turn makes.
 use Rattle.std.proofs.Common.{◌≡◌, ◌≢◌, inl, ℕ, Option, Some, Bool, true, false, arith, ap, ◌+◌}
 use Rattle.std.proofs.Common.{refl, ◌∙◌}
-use Rattle.std.specs.Prelude.{◌&&◌}
+use Rattle.std.specs.Prelude.{◌&&◌, ◌≤◌}
 use Rattle.lk_abs.specs.Names.{same_lock, same_waiter}
 use Rattle.lk_abs.specs.History.{LockHistory}
 use Rattle.lk_abs.specs.declared.holder.Manner.{Manner}
@@ -47,20 +47,23 @@ word_plain m l x ok quick =
           if_cases (λ (y : Fields). y.locked ≢ Slow) (same_lock k l) x (m.word k) (λ e. quick)
           (λ e. ok.byte wakes k);
       flag = ok.flag;
+      runs = ok.runs;
     }
 
-pub node_plain : (m : World) (n : NodeName) (x : Node) → IsPlain m
+pub node_plain : (m : World) (n : NodeName) (x : Node) → IsPlain m → x.runs ≤ m.threshold
     → (moves_aside m.mode ≡ false → (k : NodeName) → x.flag ≢ Second k) → IsPlain (put_node m n x)
-node_plain m n x ok sole =
+node_plain m n x ok few sole =
     record {
       byte = ok.byte;
       flag = λ flat a k.
           if_cases (λ (y : Node). y.flag ≢ Second k) (same_node a n) x (m.node a) (λ e. sole flat k)
           (λ e. ok.flag flat a k);
+      runs = λ a. if_cases (λ (y : Node). y.runs ≤ m.threshold) (same_node a n) x (m.node a)
+          (λ e. few) (λ e. ok.runs a);
     }
 
 pub queued_plain : (m : World) (p i : ℕ) → IsPlain m → IsPlain (put_queued m p i)
-queued_plain m p i ok = record { byte = ok.byte; flag = ok.flag }
+queued_plain m p i ok = record { byte = ok.byte; flag = ok.flag; runs = ok.runs }
 
 module _ {m n : World} {w : Waiter} {f g : Frame} {way : Option Manner}
     (t : Turn m n w f g way) where
@@ -180,4 +183,4 @@ module _ {m n : World} {w : Waiter} {f g : Frame} {way : Option Manner}
   turn_sound ok newest still plain fit agrees =
       world_sound m (turned n w g f.lock way) w f g turn_moves ok t.mode t.turns (λ e. newest)
       (record { still = λ e h. still e; halted = t.halted })
-      (record { byte = plain.byte; flag = plain.flag }) fit agrees
+      (record { byte = plain.byte; flag = plain.flag; runs = plain.runs }) fit agrees

@@ -2,7 +2,7 @@
 -- posts, the kicks that are owed, and what its frame knows.
 use Rattle.std.proofs.Common.{◌≡◌, ◌≢◌, ◌<◌, inl, ℕ, Option, Some, None, Bool, true, false, arith}
 use Rattle.std.proofs.Common.{ap, ◌-◌, refl, sym, ◌∙◌, subst, slice_get}
-use Rattle.std.specs.Prelude.{is_some}
+use Rattle.std.specs.Prelude.{is_some, ◌≤◌}
 use Rattle.lk_abs.specs.declared.holder.Manner.{Manner}
 use Rattle.lk_abs.specs.declared.names.Waiter.{Waiter}
 use Rattle.lk_abs.specs.declared.names.LockName.{LockName}
@@ -86,9 +86,14 @@ fit_halting at on g d place halting me noded hashed named peer turns unaware =
 
 -- where processors halt any byte may be stored
 pub halting_plain : (n : World) → halts n.mode ≡ true
-    → ((k j : NodeName) → (n.node k).flag ≢ Second j) → IsPlain n
-halting_plain n on flags =
-    record { byte = λ off. absurd (grind (arith, on, off)); flag = λ flat k j. flags k j }
+    → ((k j : NodeName) → (n.node k).flag ≢ Second j)
+    → ((k : NodeName) → (n.node k).runs ≤ n.threshold) → IsPlain n
+halting_plain n on flags runs =
+    record {
+      byte = λ off. absurd (grind (arith, on, off));
+      flag = λ flat k j. flags k j;
+      runs = runs;
+    }
 
 module _ {a : Acting} {c : Pc} (at : StandsIn true a c) where
   abbrev m : World

@@ -50,7 +50,7 @@ module _ {a : Acting} (at : StandsIn true a E6) where
       (snapshot (turned (put_entry m l (a.frame.me)) a.by g l (m.held a.by l))) p =
       hm_owed at t (λ k e. cc e) (λ p. refl) in
       let held = held_not at (ap seeks (phase_here at)) in
-      hm_kept at t (λ e. cc e) (halting_plain _ at.kind (flags_here at))
+      hm_kept at t (λ e. cc e) (halting_plain _ at.kind (flags_here at) at.sound.plain.runs)
       (fit_halting at at.kind g E7 refl refl refl refl (λ e. cc) (λ e. cc) (λ e. cc) (λ e. cc)
       (λ e. cc)) Nothing
       ((law_E6 at.sound.agrees at.kind (λ u. owed u.cpu) (hm_step at t refl held held owed)
@@ -77,7 +77,7 @@ module _ {a : Acting} (at : StandsIn true a E7) where
       (snapshot (turned (put_word m l (with_byte (m.word l) Slow)) a.by g l (m.held a.by l)))
       p = hm_owed at t (λ k e. cc e) (λ p. refl) in
       let held = held_not at (ap seeks (phase_here at)) in
-      hm_kept at t (λ e. cc e) (halting_plain _ at.kind (flags_here at))
+      hm_kept at t (λ e. cc e) (halting_plain _ at.kind (flags_here at) at.sound.plain.runs)
       (fit_halting at at.kind g E8 refl refl refl refl (λ e. cc) (λ e. cc) (λ e. cc) (λ e. cc)
       (λ e. cc)) (Says (what.Take l how.Head))
       (law_E7_take at.sound.agrees at.kind (λ u. owed u.cpu)
@@ -100,7 +100,7 @@ module _ {a : Acting} (at : StandsIn true a E7) where
       (snapshot (turned (put_word m l (with_byte (m.word l) Slow)) a.by g l (m.held a.by l)))
       p = hm_owed at t (λ k e. cc e) (λ p. refl) in
       let held = held_not at (ap seeks (phase_here at)) in
-      hm_kept at t (λ e. cc e) (halting_plain _ at.kind (flags_here at))
+      hm_kept at t (λ e. cc e) (halting_plain _ at.kind (flags_here at) at.sound.plain.runs)
       (fit_halting at at.kind g E10 refl refl refl refl (λ q. refl) (λ e. cc) (λ e. cc)
       (λ e. cc) (λ e. cc)) Nothing
       (law_E7_mark at.sound.agrees at.kind (λ u. owed u.cpu)
@@ -143,7 +143,7 @@ module _ {a : Acting} (at : StandsIn true a E8) where
       (snapshot (turned (put_word m l (with_byte (m.word l) Held)) a.by g l (m.held a.by l)))
       p = hm_owed at t (λ k e. cc e) (λ p. refl) in
       let held = held_not at (ap seeks (phase_here at)) in
-      hm_kept at t (λ e. cc e) (halting_plain _ at.kind (flags_here at))
+      hm_kept at t (λ e. cc e) (halting_plain _ at.kind (flags_here at) at.sound.plain.runs)
       (fit_halting at at.kind g E9 refl refl refl refl (λ e. cc) (λ e. cc) (λ e. cc) (λ e. cc)
       (λ e. cc)) Nothing
       (law_E8 at.sound.agrees at.kind (λ u. owed u.cpu)
@@ -169,7 +169,7 @@ module _ {a : Acting} (at : StandsIn true a E9) where
       (snapshot (turned (put_entry m l (None)) a.by g l (m.held a.by l))) p =
       hm_owed at t (λ k e. cc e) (λ p. refl) in
       let held = held_not at (ap seeks (phase_here at)) in
-      hm_kept at t (λ e. cc e) (halting_plain _ at.kind (flags_here at))
+      hm_kept at t (λ e. cc e) (halting_plain _ at.kind (flags_here at) at.sound.plain.runs)
       (fit_halting at at.kind g E13 refl refl refl refl (λ e. cc) (λ e. cc) (λ e. cc) (λ e. cc)
       (λ e. cc)) Nothing
       ((law_E9 at.sound.agrees at.kind (λ u. owed u.cpu) (hm_step at t refl held held owed)
@@ -204,7 +204,7 @@ module _ {a : Acting} (at : StandsIn true a E10) where
       hm_kept at t (λ e. cc e)
       (node_plain m (node_of a.frame.me)
       (record (m.node (node_of a.frame.me)) { state = Hashed }) at.sound.plain
-      (λ flat. at.sound.plain.flag flat (node_of a.frame.me)))
+      (at.sound.plain.runs (node_of a.frame.me)) (λ flat. at.sound.plain.flag flat (node_of a.frame.me)))
       (fit_halting at at.kind g E11 refl refl refl refl
       (λ q. (fit_here at).choice.hashed E10 at.place refl) (λ e. cc) (λ e. cc) (λ e. cc)
       (λ e. cc)) Nothing
@@ -296,7 +296,7 @@ module _ {a : Acting} (at : StandsIn true a E12) where
       let owed : (p : ℕ) → Owed (snapshot m) p → Owed
       (snapshot (turned (put_halted m a.by.cpu true) a.by g l (m.held a.by l))) p =
       hm_owed at t (λ k e. cc e) (λ p. refl) in
-      hm_kept at t (λ e. e) (halting_plain _ at.kind (flags_here at))
+      hm_kept at t (λ e. e) (halting_plain _ at.kind (flags_here at) at.sound.plain.runs)
       (fit_halting at at.kind g E12 refl refl refl refl
       (λ q. (fit_here at).choice.hashed E12 at.place refl) (λ e. cc) (λ e. cc) (λ e. cc)
       (λ e. cc)) (Says (what.Halt l))

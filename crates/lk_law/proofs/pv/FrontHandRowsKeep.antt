@@ -83,7 +83,7 @@ module _ {a : Acting} (at : StandsIn true a E13) where
       (m.queued a.by.cpu - 1)) a.by g l (Some Spins))) p =
       hm_owed at o (λ k e. cc e) (λ p. refl) in
       let held = held_not at (ap seeks (phase_here at)) in
-      hm_kept at o (λ e. cc e) (halting_plain _ at.kind (flags_here at))
+      hm_kept at o (λ e. cc e) (halting_plain _ at.kind (flags_here at) at.sound.plain.runs)
       (fit_quiet g (left_place at) refl) (Says (what.Leave l))
       (law_E13 at.sound.agrees at.kind (λ u. owed u.cpu)
       (hm_step_as at o (phase_here at) (quiet_phase g (left_place at))
@@ -212,7 +212,7 @@ module _ {a : Acting} (at : StandsIn true a E15) where
       let held = held_not at (ap seeks (phase_here at)) in
       hm_kept at t (λ e. cc e)
       (node_plain m (node_of a.frame.y) (record (m.node (node_of a.frame.y)) { flag = flag.Go })
-      at.sound.plain (λ flat k q. cc q))
+      at.sound.plain (at.sound.plain.runs (node_of a.frame.y)) (λ flat k q. cc q))
       (fit_halting at at.kind g K1 refl refl refl refl (λ e. cc)
       (λ q. (fit_here at).choice.named E15 at.place refl) (λ e. cc) (λ e. cc) (λ e. cc))
       (Passes (node_of a.frame.y) 0)

@@ -110,7 +110,7 @@ module _ {a : Acting} (at : StandsIn true a E2) where
       hm_kept at t (λ e. cc e)
       (node_plain m (node_of a.frame.me)
       (record (m.node (node_of a.frame.me)) { state = Running }) at.sound.plain
-      (λ flat. at.sound.plain.flag flat (node_of a.frame.me)))
+      (at.sound.plain.runs (node_of a.frame.me)) (λ flat. at.sound.plain.flag flat (node_of a.frame.me)))
       (fit_halting at at.kind g E3 refl refl refl refl (λ e. cc) (λ e. cc) (λ e. cc) (λ e. cc)
       (λ e. cc)) Nothing
       (law_E2 at.sound.agrees at.kind (hm_stays at t refl refl (λ p. refl)) (λ u. owed u.cpu)
@@ -138,7 +138,7 @@ module _ {a : Acting} (at : StandsIn true a E3) where
       (snapshot (turned (put_word m l (record (m.word l) { pending = true })) a.by g l
       (m.held a.by l))) p = hm_owed at t (λ k e. cc e) (λ p. refl) in
       let held = held_not at (ap seeks (phase_here at)) in
-      hm_kept at t (λ e. cc e) (halting_plain _ at.kind (flags_here at))
+      hm_kept at t (λ e. cc e) (halting_plain _ at.kind (flags_here at) at.sound.plain.runs)
       (fit_halting at at.kind g E4 refl refl refl refl (λ e. cc) (λ e. cc) (λ e. cc)
       (λ q. at.sound.turning) (λ e. cc)) Nothing
       (law_E3 at.sound.agrees at.kind (λ u. owed u.cpu) a.frame.hashed
@@ -168,7 +168,7 @@ module _ {a : Acting} (at : StandsIn true a E4) where
       (snapshot (turned (put_word m l (record (m.word l) { locked = Held; pending = false }))
       a.by g l (m.held a.by l))) p = hm_owed at t (λ k e. cc e) (λ p. refl) in
       let held = held_not at (ap seeks (phase_here at)) in
-      hm_kept at t (λ e. cc e) (halting_plain _ at.kind (flags_here at))
+      hm_kept at t (λ e. cc e) (halting_plain _ at.kind (flags_here at) at.sound.plain.runs)
       (fit_halting at at.kind g E13 refl refl refl refl (λ e. cc) (λ e. cc) (λ e. cc) (λ e. cc)
       (λ e. cc)) (Says (what.Take l how.Head))
       (law_E4_take at.sound.agrees at.kind (λ u. owed u.cpu) a.frame.hashed
@@ -244,7 +244,7 @@ module _ {a : Acting} (at : StandsIn true a E5) where
       (snapshot (turned (put_word m l (record (m.word l) { pending = false })) a.by g l
       (m.held a.by l))) p = hm_owed at t (λ k e. cc e) (λ p. refl) in
       let held = held_not at (ap seeks (phase_here at)) in
-      hm_kept at t (λ e. cc e) (halting_plain _ at.kind (flags_here at))
+      hm_kept at t (λ e. cc e) (halting_plain _ at.kind (flags_here at) at.sound.plain.runs)
       (fit_halting at at.kind g E10 refl refl refl refl (λ q. e) (λ e. cc) (λ e. cc) (λ e. cc)
       (λ e. cc)) Nothing
       (law_E5_mark at.sound.agrees at.kind (λ u. owed u.cpu)
@@ -271,7 +271,7 @@ module _ {a : Acting} (at : StandsIn true a E5) where
       (snapshot (turned (put_word m l (record (m.word l) { pending = false })) a.by g l
       (m.held a.by l))) p = hm_owed at t (λ k e. cc e) (λ p. refl) in
       let held = held_not at (ap seeks (phase_here at)) in
-      hm_kept at t (λ e. cc e) (halting_plain _ at.kind (flags_here at))
+      hm_kept at t (λ e. cc e) (halting_plain _ at.kind (flags_here at) at.sound.plain.runs)
       (fit_halting at at.kind g E6 refl refl refl refl (λ e. cc) (λ e. cc) (λ e. cc) (λ e. cc)
       (λ e. cc)) Nothing
       (law_E5_sign at.sound.agrees at.kind (λ u. owed u.cpu)

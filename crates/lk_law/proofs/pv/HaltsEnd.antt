@@ -161,7 +161,7 @@ module _ {m : World} {hs : LockName → LockHistory} {w : Waiter} {f : Frame} (g
           | inr e ↦ inl (sym (if-false (p == w.cpu) false (m.halted p) e) ∙ h)
         ];
       })
-      (record { byte = ok.plain.byte; flag = ok.plain.flag }) fit agrees
+      (record { byte = ok.plain.byte; flag = ok.plain.flag; runs = ok.plain.runs }) fit agrees
 
 -- at either row at which a frame halts
 module _ {m : World} {hs : LockName → LockHistory} {w : Waiter} {f : Frame} (kick : ℕ → Bool)
@@ -234,7 +234,7 @@ spin_wake_keeps m hs rules w f ok newest live h =
     (not-true (p == w.cpu) (λ e. ne (eqb-true p w.cpu e)))) (halted_sleeps ok newest live h) in (
       stands_so ok newest live h,
       record {
-        plain = record { byte = s.plain.byte; flag = s.plain.flag };
+        plain = record { byte = s.plain.byte; flag = s.plain.flag; runs = s.plain.runs };
         turning = s.turning;
         agrees = law_wake w f.lock s.agrees;
         registers = s.registers;

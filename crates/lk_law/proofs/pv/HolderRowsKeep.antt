@@ -119,7 +119,7 @@ module _ {a : Acting} (at : StandsIn true a K1) where
       let held = held_not at (ap seeks (phase_here at)) in
       hm_kept at t (λ e. cc e)
       (node_plain m (node_of a.frame.y) (record (m.node (node_of a.frame.y)) { state = Hashed })
-      at.sound.plain (λ flat. at.sound.plain.flag flat (node_of a.frame.y)))
+      at.sound.plain (at.sound.plain.runs (node_of a.frame.y)) (λ flat. at.sound.plain.flag flat (node_of a.frame.y)))
       (fit_halting at at.kind g K2 refl refl refl refl (λ e. cc)
       (λ q. (fit_here at).choice.named K1 at.place refl) (λ e. cc) (λ e. cc) (λ e. cc)) Nothing
       (law_K1_hash at.sound.agrees at.kind (λ u. owed u.cpu) (next_is).0
@@ -148,7 +148,7 @@ module _ {a : Acting} (at : StandsIn true a K1) where
       (snapshot (turned (put_queued m a.by.cpu (m.queued a.by.cpu - 1)) a.by g l (Some Spins)))
       p = hm_owed at o (λ k e. cc e) (λ p. refl) in
       let held = held_not at (ap seeks (phase_here at)) in
-      hm_kept at o (λ e. cc e) (halting_plain _ at.kind (flags_here at))
+      hm_kept at o (λ e. cc e) (halting_plain _ at.kind (flags_here at) at.sound.plain.runs)
       (fit_quiet g (left_place at) refl) Nothing
       (law_K1_done at.sound.agrees at.kind (λ u. owed u.cpu)
       (hm_step_as at o (phase_here at) (quiet_phase g (left_place at)) refl held refl owed)
@@ -193,7 +193,7 @@ module _ {a : Acting} (at : StandsIn true a K2) where
       (snapshot (turned (put_word m l (with_byte (m.word l) Slow)) a.by g l (m.held a.by l)))
       p = hm_owed at t (λ k e. cc e) (λ p. refl) in
       let held = held_not at (ap seeks (phase_here at)) in
-      hm_kept at t (λ e. cc e) (halting_plain _ at.kind (flags_here at))
+      hm_kept at t (λ e. cc e) (halting_plain _ at.kind (flags_here at) at.sound.plain.runs)
       (fit_halting at at.kind g K3 refl refl refl refl (λ e. cc)
       (λ q. (fit_here at).choice.named K2 at.place refl) (λ e. cc) (λ e. cc) (λ e. cc)) Nothing
       (law_K2 at.sound.agrees at.kind (λ u. owed u.cpu)
@@ -219,7 +219,7 @@ module _ {a : Acting} (at : StandsIn true a K3) where
       (snapshot (turned (put_queued (put_entry m l a.frame.y) a.by.cpu (m.queued a.by.cpu - 1))
       a.by g l (Some Spins))) p = hm_owed at o (λ k e. cc e) (λ p. refl) in
       let held = held_not at (ap seeks (phase_here at)) in
-      hm_kept at o (λ e. cc e) (halting_plain _ at.kind (flags_here at))
+      hm_kept at o (λ e. cc e) (halting_plain _ at.kind (flags_here at) at.sound.plain.runs)
       (fit_quiet g (left_place at) refl) Nothing
       ((law_K3 at.sound.agrees at.kind (λ u. owed u.cpu)
       (hm_step_as at o (phase_here at) (quiet_phase g (left_place at)) refl held refl owed)

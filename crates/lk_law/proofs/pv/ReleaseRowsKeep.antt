@@ -55,7 +55,7 @@ module _ {a : Acting} (at : StandsIn true a U2) where
       (snapshot (turned (put_word m l (with_byte (m.word l) Free)) a.by g l None)) p =
       hm_owed at t (λ k e. cc e) (λ p. refl) in
       let held = held_so at (phase_here at) in
-      hm_kept at t (λ e. cc e) (halting_plain _ at.kind (flags_here at))
+      hm_kept at t (λ e. cc e) (halting_plain _ at.kind (flags_here at) at.sound.plain.runs)
       (fit_placeless g refl ((fit_here at).bare (ap has_node (phase_here at))))
       (Says (what.Release l None))
       (law_U2 at.sound.agrees at.kind (λ u. owed u.cpu)
@@ -114,7 +114,7 @@ module _ {a : Acting} (at : StandsIn true a U3) where
       (snapshot (turned (put_entry m l (None)) a.by g l (m.held a.by l))) p =
       hm_owed at t (λ k e. cc e) (λ p. refl) in
       let held = held_so at (phase_here at) in
-      hm_kept at t (λ e. cc e) (halting_plain _ at.kind (flags_here at))
+      hm_kept at t (λ e. cc e) (halting_plain _ at.kind (flags_here at) at.sound.plain.runs)
       (fit_halting at at.kind g U4 refl refl refl refl (λ e. cc) (λ e. cc) (λ e. cc) (λ e. cc)
       (λ e. cc)) Nothing
       (law_U3 at.sound.agrees at.kind (λ u. owed u.cpu) (hm_step at t refl held held owed)
@@ -142,7 +142,7 @@ module _ {a : Acting} (at : StandsIn true a U4) where
       (snapshot (turned (put_word m l (with_byte (m.word l) Free)) a.by g l None)) p =
       hm_owed at t (λ k e. cc e) (λ p. refl) in
       let held = held_so at (phase_here at) in
-      hm_kept at t (λ e. cc e) (halting_plain _ at.kind (flags_here at))
+      hm_kept at t (λ e. cc e) (halting_plain _ at.kind (flags_here at) at.sound.plain.runs)
       (fit_halting at at.kind g U5 refl refl refl refl (λ e. cc) (λ e. cc) (λ e. cc) (λ e. cc)
       (λ e. cc)) (Says (what.Release l (Some (node_of a.frame.target).cpu)))
       (law_U4 at.sound.agrees at.kind (λ u. owed u.cpu)
@@ -205,7 +205,7 @@ module _ {a : Acting} (at : StandsIn true a U5) where
       (λ p o. owes_on (turned (put_kicked m (node_of a.frame.target).cpu true) a.by g l None)
       (turn_moves t) p o refl) in
       let held = held_not at (ap seeks (phase_here at)) in
-      hm_kept at t (λ e. cc e) (halting_plain _ at.kind (flags_here at))
+      hm_kept at t (λ e. cc e) (halting_plain _ at.kind (flags_here at) at.sound.plain.runs)
       (fit_placeless g refl ((fit_here at).bare (ap has_node (phase_here at))))
       (Says (what.Kick (node_of a.frame.target).cpu))
       (law_kicks a.by (node_of a.frame.target).cpu

@@ -100,7 +100,7 @@ module _ {a : Acting} {c : Pc} (at : StandsIn true a c) (early : IsOpen c) where
       word_turn at.live refl held_word in
       let low = free_word (m.word l) free in
       hm_kept at t (λ e. absurd (let z = early.post a.frame in grind (arith, z, e)))
-      (halting_plain (put_word m l held_word) at.kind (flags_here at))
+      (halting_plain (put_word m l held_word) at.kind (flags_here at) at.sound.plain.runs)
       (fit_quiet g (granted_place at) bare_here) (Says (Take l h))
       (law_take_pv at.sound.agrees at.kind h
       (hm_step_as at t seeks_here (quiet_phase g (granted_place at))
@@ -261,7 +261,7 @@ module _ {a : Acting} (at : StandsIn true a G1) where
             (λ e. cc) (λ e. refl) (λ e. cc);
       } in
       let plain = node_plain counted_on mine rest_node
-      (queued_plain m a.by.cpu (number + 1) at.sound.plain) (λ flat k e. grind arith) in
+      (queued_plain m a.by.cpu (number + 1) at.sound.plain) (omega arith) (λ flat k e. grind arith) in
       hm_kept at t (λ e. cc e) plain fit Nothing
       (law_enter_pv at.sound.agrees at.kind
       (hm_step at t refl held held (hm_owed at t (λ k e. cc e) (λ p. refl))) enters
@@ -369,7 +369,7 @@ module _ {a : Acting} (at : StandsIn true a G4) where
       let t : Turn m (put_word m l joined) a.by a.frame g (m.held a.by l) =
       word_turn at.live refl joined in
       let held = held_not at (ap seeks (phase_here at)) in
-      hm_kept at t (λ e. cc e) (halting_plain (put_word m l joined) at.kind (flags_here at))
+      hm_kept at t (λ e. cc e) (halting_plain (put_word m l joined) at.kind (flags_here at) at.sound.plain.runs)
       (fit_halting at at.kind g E1 refl refl refl refl (λ e. cc) (λ e. cc) (λ e. cc) (λ e. cc)
       (λ e. cc)) (Says (Arrive l))
       (law_arrive_first_pv at.sound.agrees at.kind
@@ -388,7 +388,7 @@ module _ {a : Acting} (at : StandsIn true a G4) where
       let t : Turn m (put_word m l joined) a.by a.frame g (m.held a.by l) =
       word_turn at.live refl joined in
       let held = held_not at (ap seeks (phase_here at)) in
-      hm_kept at t (λ e. cc e) (halting_plain (put_word m l joined) at.kind (flags_here at))
+      hm_kept at t (λ e. cc e) (halting_plain (put_word m l joined) at.kind (flags_here at) at.sound.plain.runs)
       (fit_goes a.frame g (fit_here at) refl (sym (ap has_node (phase_here at))) (λ e. refl)
       (λ e. cc e) (unchosen g G5 refl refl (λ e. cc) (λ e. cc) (λ e. cc) (λ e. cc) (λ e. cc)
       (λ e. cc) (λ e. unheard) (λ e. cc))) (Says (Arrive l))
@@ -432,7 +432,7 @@ link_keeps =
     let held = held_not at (ap seeks (phase_here at)) in
     subst (λ (lead : Lead). Kept a (lead_on (put_node m p y) a.by a.frame lead) Nothing)
     (sym (linked_is m.mode m.turns at.kind))
-    (hm_kept at t (λ e. cc e) (node_plain m p y at.sound.plain (λ flat. at.sound.plain.flag flat p))
+    (hm_kept at t (λ e. cc e) (node_plain m p y at.sound.plain (at.sound.plain.runs p) (λ flat. at.sound.plain.flag flat p))
     (fit_halting at at.kind g W1 refl refl refl refl (λ e. cc) (λ e. cc)
     (λ e. (fit_here at).met at.place) (λ e. at.sound.turning) (λ e. cc)) Nothing
     (law_link_pv at.sound.agrees at.kind

@@ -168,7 +168,7 @@ module _ {a : Acting} (at : StandsIn true a H2) where
       (put_queued (put_word m l (with_byte (m.word l) Held)) a.by.cpu (m.queued a.by.cpu - 1))
       a.by g l (Some Spins))) p = hm_owed at o (λ k e. cc e) (λ p. refl) in
       let held = held_not at (ap seeks (phase_here at) ∙ seeks_if (is_some a.frame.me)) in
-      hm_kept at o (λ e. cc e) (halting_plain _ at.kind (flags_here at))
+      hm_kept at o (λ e. cc e) (halting_plain _ at.kind (flags_here at) at.sound.plain.runs)
       (fit_quiet g (left_place at) refl) (Says (what.Take l how.Steal))
       (law_H2 at.sound.agrees at.kind
       (hm_step_as at o (phase_here at) (quiet_phase g (left_place at))

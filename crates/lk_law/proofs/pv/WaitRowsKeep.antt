@@ -199,7 +199,7 @@ module _ {a : Acting} (at : StandsIn true a W3) where
       hm_kept at t (λ e. cc e)
       (node_plain m (node_of a.frame.me)
       (record (m.node (node_of a.frame.me)) { state = Halted }) at.sound.plain
-      (λ flat. at.sound.plain.flag flat (node_of a.frame.me)))
+      (at.sound.plain.runs (node_of a.frame.me)) (λ flat. at.sound.plain.flag flat (node_of a.frame.me)))
       (fit_halting at at.kind g W4 refl refl refl refl (λ e. cc) (λ e. cc)
       (λ q. (fit_here at).choice.peer W3 at.place refl) (λ e. cc) (λ e. cc)) Nothing
       (law_W3 at.sound.agrees at.kind (hm_stays at t refl refl (λ p. refl)) (λ u. owed u.cpu)
@@ -333,7 +333,7 @@ module _ {a : Acting} (at : StandsIn true a W6) where
       let owed : (p : ℕ) → Owed (snapshot m) p → Owed
       (snapshot (turned (put_halted m a.by.cpu true) a.by g l (m.held a.by l))) p =
       hm_owed at t (λ k e. cc e) (λ p. refl) in
-      hm_kept at t (λ e. e) (halting_plain _ at.kind (flags_here at))
+      hm_kept at t (λ e. e) (halting_plain _ at.kind (flags_here at) at.sound.plain.runs)
       (fit_halting at at.kind g W6 refl refl refl refl (λ e. cc) (λ e. cc)
       (λ q. (fit_here at).choice.peer W6 at.place refl) (λ e. cc) (λ e. cc))
       (Says (what.Halt l))
@@ -374,7 +374,7 @@ module _ {a : Acting} (at : StandsIn true a W7) where
       hm_kept at t (λ e. cc e)
       (node_plain m (node_of a.frame.me)
       (record (m.node (node_of a.frame.me)) { state = Running }) at.sound.plain
-      (λ flat. at.sound.plain.flag flat (node_of a.frame.me)))
+      (at.sound.plain.runs (node_of a.frame.me)) (λ flat. at.sound.plain.flag flat (node_of a.frame.me)))
       (fit_halting at at.kind g W1 refl refl refl refl (λ e. cc) (λ e. cc)
       (λ q. (fit_here at).choice.peer W7 at.place refl) (λ q. at.sound.turning) (λ e. cc))
       Nothing

@@ -192,7 +192,8 @@ link_awake =
     let m = a.world in
     let p = node_of a.frame.prev in
     let y : Node = record (m.node p) { next = a.frame.me } in
-    let on = node_going at (to_wait a.frame) p y (λ flat. at.sound.plain.flag flat p) in
+    let on = node_going at (to_wait a.frame) p y (at.sound.plain.runs p)
+    (λ flat. at.sound.plain.flag flat p) in
     subst (λ (lead : Lead). Kept a (lead_on (put_node m p y) a.by a.frame lead) Nothing)
     (sym (linked_is m.mode m.turns at.kind))
     (goes_kept at on Nothing

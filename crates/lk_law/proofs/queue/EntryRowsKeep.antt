@@ -125,7 +125,8 @@ module _ {a : Acting} (at : StandsAwake a G1) where
       } in (
         turn_sound t at.sound at.newest (awake_post at)
             (node_plain counted_on mine rest_node
-            (queued_plain m a.by.cpu (number + 1) at.sound.plain) (λ flat k e. grind arith)) fit
+            (queued_plain m a.by.cpu (number + 1) at.sound.plain) (omega arith)
+            (λ flat k e. grind arith)) fit
             (law_enter at.sound.agrees (awake_here at) step enters (ltb-true number 4 room)
             (turn_own t) (put_rewrites m.node mine rest_node)),
         tt,

@@ -325,7 +325,7 @@ module _ {a : Acting} (at : StandsAwake a G11) where
         word = refl;
         plain =
             queued_plain n a.by.cpu _ (node_plain m next y at.sound.plain
-            (λ flat k q. grind arith));
+            (at.sound.plain.runs next) (λ flat k q. grind arith));
         was = phase_here at;
         place = left_place at;
         me = refl;

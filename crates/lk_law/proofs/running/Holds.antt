@@ -115,7 +115,7 @@ module _ (m : World) (l : LockName) (u v : Waiter) where
       → IsSoundSpinWorld (hands_hold m l u v) (held_by hs l v)
   spin_hold_moves hs ok has idle_u idle_v =
       record {
-        plain = record { byte = ok.plain.byte; flag = ok.plain.flag };
+        plain = record { byte = ok.plain.byte; flag = ok.plain.flag; runs = ok.plain.runs };
         turning = ok.turning;
         agrees = record {
           locks = λ k. elim (lock_cases k l) [ inl e ↦ subst (λ (z : LockName). LockAgrees s' (held_by hs l v z) z) (sym e) here | inr ne ↦ there k ne ];

@@ -1,7 +1,7 @@
 -- What is stored into a node that nobody uses; and which nodes are used.
 use Rattle.std.proofs.Common.{◌≡◌, ◌≢◌, inl, inr, Option, Some, true, false}
 use Rattle.std.proofs.Common.{arith, ap, refl, sym, ◌∙◌, subst, slice_get}
-use Rattle.std.specs.Prelude.{is_some}
+use Rattle.std.specs.Prelude.{is_some, ◌≤◌}
 use Rattle.std.proofs.lemmas.Bool.{cases_lt}
 use Rattle.lk_abs.specs.History.{LockHistory}
 use Rattle.lk_abs.specs.declared.names.Waiter.{Waiter}
@@ -105,7 +105,9 @@ module _ (m : World) (hs : LockName → LockHistory) (n : NodeName) (x : Node)
         plain = record {
           byte = ok.plain.byte;
           flag = λ flat a k. if_cases (λ (y : Node). y.flag ≢ Second k) (same_node a n) x (m.node a)
-              (λ _. plain flat k) (λ _. ok.plain.flag flat a k);
+              (λ _. plain.1 flat k) (λ _. ok.plain.flag flat a k);
+          runs = λ a. if_cases (λ (y : Node). y.runs ≤ m.threshold) (same_node a n) x (m.node a)
+              (λ _. plain.0) (λ _. ok.plain.runs a);
         };
         turning = ok.turning;
         agrees = record {

@@ -253,7 +253,7 @@ module _ (m : World) (hs : LockName → LockHistory) (ok : IsSoundWorld m hs) (i
   spin_sound =
       let s = ok.spins in
       record {
-        plain = record { byte = s.plain.byte; flag = s.plain.flag };
+        plain = record { byte = s.plain.byte; flag = s.plain.flag; runs = s.plain.runs };
         turning = s.turning;
         agrees = record {
           locks = λ k.

@@ -10,7 +10,7 @@ use Rattle.lk_law.specs.Pv.Post.{Off}
 use Rattle.lk_law.specs.Pv.{agrees}
 use Rattle.std.proofs.Common.{◌≡◌, ◌≢◌, inl, inr, ℕ, Option, Some, None, Bool, true, false, arith}
 use Rattle.std.proofs.Common.{ap, refl, sym, ◌∙◌, subst}
-use Rattle.std.specs.Prelude.{◌==◌, is_some}
+use Rattle.std.specs.Prelude.{◌==◌, is_some, ◌≤◌}
 use Rattle.std.proofs.lemmas.Bool.{cases_eq, eqb-true, cases_Bool}
 use Rattle.lk_abs.specs.History.{LockHistory, no_history}
 use Rattle.lk_abs.specs.declared.holder.Manner.{Manner}
@@ -398,6 +398,8 @@ module _ {m n : World} {hs : LockName → LockHistory} {w : Waiter} {f g : Frame
         flag = λ flat a b e.
             ok.plain.flag (ap moves_aside (sym go.stored.modes) ∙ flat) a b
             (ap (λ (h : NodeName → Node). (h a).flag) (sym node) ∙ e);
+        runs = λ a. subst (λ (h : NodeName → Node). (h a).runs ≤ m'.threshold) (sym node)
+            (subst (λ (h : ℕ). (m.node a).runs ≤ h) (sym go.stored.thresholds) (ok.plain.runs a));
       })
       (record {
         me = λ e.
