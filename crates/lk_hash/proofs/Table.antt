@@ -1,11 +1,11 @@
 -- What stands in the table after an entry came or went.
-use Rattle.std.proofs.Common.{◌≡◌, ◌≢◌, ◌⊎◌, ℕ, zero, suc, ◌+◌, ◌<◌, ◌≤◌, List, [], ◌∷◌, ◌^◌, length, length-set, replicate, get_or, set, Option, Some, None, Bool, true, false, arith, ap, refl, sym, ◌∙◌, inl, inr, subst}
+use Rattle.std.proofs.Common.{◌≡◌, ◌≢◌, ◌⊎◌, ℕ, zero, suc, ◌<◌, ◌≤◌, List, [], ◌∷◌, ◌^◌, length, length-set, replicate, set, Some, None, Bool, true, false, arith, ap, refl, sym, ◌∙◌, inl, inr, subst}
 use Rattle.std.proofs.lemmas.Bool.{both_ways, cases_eq, cases_lt, eq-eqb}
 use Rattle.std.proofs.lemmas.List.{get_or-set_same, get_or-set_other, length-replicate}
 use Rattle.std.proofs.lemmas.Option.{none-some}
 use Rattle.lk_hash.specs.declared.place.Place.{Place}
 use Rattle.lk_hash.specs.declared.place.Place.TheVariants.{Free, Removed, Taken}
-use Rattle.lk_hash.specs.Entries.{Entry, node_in, with_entry, without_entry}
+use Rattle.lk_hash.specs.Entries.{node_in, with_entry, without_entry}
 use Rattle.lk_hash.specs.Table.{place_at, ends, is_vacant, with_place, entries_of, home, Passes, IsSound, IsAbsent, EndsAt, entered_in}
 use Rattle.lk_hash.proofs.Entries.{node-with_same, node-with_other, with-swap, without-with, length-with}
 

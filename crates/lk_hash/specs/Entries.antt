@@ -1,5 +1,5 @@
 -- A lock hash as callers see it: a finite map, told by its entries in the order of their locks.
-use Rattle.std.specs.Prelude.{ℕ, ◌==◌, Option, Some, None, List, [], ◌∷◌, if◌then◌else◌, nat_lt}
+use Rattle.std.specs.Prelude.{◌≡◌, ℕ, ◌==◌, Option, Some, None, List, [], ◌∷◌, if◌then◌else◌, nat_lt}
 
 -- a lock with its node
 abbrev pub Entry : Type 0
@@ -26,3 +26,7 @@ abbrev pub without_entry : ℕ → List Entry → List Entry
 without_entry lock [] = []
 without_entry lock (e ∷ es) =
     if e.0 == lock then without_entry lock es else e ∷ without_entry lock es
+
+-- every entry of the second list is one of the first
+abbrev pub HasAll : List Entry → List Entry → Type 0
+HasAll xs ys = (lock node : ℕ) → node_in lock ys ≡ Some node → node_in lock xs ≡ Some node

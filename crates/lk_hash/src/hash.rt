@@ -20,7 +20,7 @@ const PLACES_PER_CPU: usize = 4;
 /// (`kernel/locking/qspinlock_paravirt.h`).
 #[derive(Drop)]
 pub struct LockHash {
-    places: Vec<Place>,
+    pub(crate) places: Vec<Place>,
 }
 
 impl Model for LockHash {

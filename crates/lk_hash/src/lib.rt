@@ -6,6 +6,7 @@
 #![tactic(auto)]
 
 mod hash;
+mod kept;
 mod memory;
 mod place;
 mod probe;

@@ -1,4 +1,4 @@
-use Rattle.std.proofs.Common.{rules, ◌≡◌, ◌^◌, ◌*◌, ◌<◌, ◌≤◌, ℕ, arith, length, replicate, ap, sym, subst, ◌∙◌, List, []}
+use Rattle.std.proofs.Common.{◌*◌, ℕ, arith, length, ap, sym, subst, ◌∙◌, List}
 use Rattle.std.proofs.lemmas.List.{length-replicate}
 use Rattle.lk_hash.specs.declared.place.Place.{Place}
 use Rattle.lk_hash.specs.declared.place.Place.TheVariants.{Free}
