@@ -1,6 +1,7 @@
 pub mod Hashed
 pub mod Kept
 pub mod Packed
+pub mod Powers
 pub mod Release
 pub mod Rested
 pub mod Words

@@ -1,3 +1,4 @@
 pub mod Packed
 pub mod Hashed
 pub mod Ready
+pub mod Parts

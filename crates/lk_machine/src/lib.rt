@@ -5,4 +5,4 @@
 
 mod machine;
 
-pub use machine::{MAX_FRAMES, MAX_NODES, Machine};
+pub use machine::{CpuState, MAX_FRAMES, MAX_NODES, Machine, Shared};

@@ -1,6 +1,7 @@
 // The machine's data, its readers and its writers.
 
 ghost use Rattle.std.specs.Prelude.{slice_index_or, ◌≡◌, ◌<◌, ◌≤◌, ◌-◌, ◌*◌, Some, length, slice_get, position, IfSome, vec_capacity};
+ghost use Rattle.std.specs.Int.{IsNextPowerOfTwo};
 ghost use Rattle.lk_rows.specs.Machine.{Machine as MachineValue, CpuState as CpuValue, HasTop, HasNode, top_frame, frame_at, depth_at, queued_at, preempted_at, halted_at, kicked_at, handlers_at, word_at, rw_at, node_at, set_word, set_rw, set_node, set_top, set_queued, set_preempted, set_halted, set_kicked, set_counts};
 ghost use Rattle.lk_word.specs.SpinWord.{IsPackable};
 ghost use Rattle.lk_word.specs.RwWord.{IsPackableRw};
@@ -13,8 +14,12 @@ ghost use Rattle.lk_abs.specs.Lawful.{is_local, same_socket, stays};
 mod fields;
 mod hash;
 mod moves;
+mod number;
 mod packed;
+mod parts;
 mod rest;
+mod same;
+mod shared;
 mod top;
 mod words;
 
@@ -22,6 +27,7 @@ use lk_abs::{Format, LockName, Mode, Waiter};
 use lk_hash::LockHash;
 use lk_rows::{Counts, Frame, Node, Pc, Setup};
 use lk_word::{Fields, NodeName, RwFields};
+pub use shared::Shared;
 use std::marker::Model;
 use words::Words;
 
@@ -31,9 +37,10 @@ pub const MAX_FRAMES: usize = 6;
 /// The number of queue nodes of a processor (`MAX_NODES` in `kernel/locking/qspinlock.c`).
 pub const MAX_NODES: usize = 4;
 
-/// One processor. The memory for its frames is taken when it is made.
+/// One processor: its frames, its nodes and its marks. The memory for its frames is taken when it is
+/// made.
 #[derive(Drop)]
-struct CpuState {
+pub struct CpuState {
     /// By context, the newest last.
     frames: Vec<Frame>,
     nodes: [Node; MAX_NODES],
@@ -87,7 +94,8 @@ impl Model for Machine {
 
     ghost invariant = { λ m. (length m.cpus.items ≤ 1024) × (length m.words.locks ≤ 32)
         × (4 * length m.cpus.items ≤ m.hash.places)
-        × (m.words.layout ≡ layout_of m.setup.format) };
+        × (m.words.layout ≡ layout_of m.setup.format)
+        × (IsNextPowerOfTwo (4 * length m.cpus.items) m.hash.places) };
 }
 
 // Whether a frame's own node has this name.

@@ -1,6 +1,7 @@
 // The machine at rest.
 
 ghost use Rattle.std.specs.Prelude.{◌≡◌, ◌<◌, ◌≤◌, ◌*◌, [], ◌∷◌, IfOk, length, replicate, slice_get, vec_capacity};
+ghost use Rattle.std.specs.Int.{IsNextPowerOfTwo};
 ghost use Rattle.lk_rows.specs.Machine.{rest_node, rest_frame, rest_counts};
 ghost use Rattle.lk_rows.specs.Run.{first_frame, rest_cpu, rest_cpus, at_rest};
 
@@ -46,7 +47,7 @@ impl Machine {
 fn empty_hash(alloc: Global, cpus: u32) -> Result<LockHash, Memory>
     requires some { 1 ≤ cpus }
     requires few { cpus ≤ 1024 }
-    ensures places { IfOk result (λ hash. 4 * cpus ≤ hash.places) }
+    ensures places { IfOk result (λ hash. IsNextPowerOfTwo (4 * cpus) hash.places) }
     ensures empty { IfOk result (λ hash. hash.entries ≡ []) }
 {
     match LockHash::new(alloc, cpus) {

@@ -1,6 +1,6 @@
 // The words of the locks, as they are packed.
 
-ghost use Rattle.std.specs.Prelude.{◌≡◌, ◌<◌, All, IfOk, length, map, replicate};
+ghost use Rattle.std.specs.Prelude.{◌≡◌, ◌<◌, ◌≤◌, All, IfOk, length, map, replicate, true};
 ghost use Rattle.lk_word.specs.SpinWord.{IsPackable};
 ghost use Rattle.lk_word.specs.RwWord.{IsPackableRw};
 ghost use Rattle.lk_rows.specs.Machine.{rest_lock};
@@ -10,6 +10,7 @@ use crate::machine::packed::{fields_in, rw_fields_in, rw_word_of, word_of};
 use lk_abs::{LockName, Memory};
 use lk_word::{Fields, Layout, Locked, RwFields};
 use std::alloc::Global;
+use std::hash::Hasher;
 use std::marker::Model;
 
 // The word of a spinlock that nobody holds, and for which nobody waits.
@@ -27,7 +28,7 @@ const REST_RW: RwFields = RwFields {
 };
 
 /// The words of one declared lock.
-#[derive(Drop)]
+#[derive(Clone, Copy)]
 pub(crate) struct LockWords {
     /// The word of a spinlock.
     pub spin: u32,
@@ -145,4 +146,83 @@ impl Words {
         let state = &mut self.locks[index as usize];
         state.rw = word;
     }
+
+    /// A copy of the words.
+    ///
+    /// # Errors
+    ///
+    /// There is not enough memory.
+    pub fn copy(&self, alloc: Global) -> Result<Words, Memory>
+        requires { length self.now.locks ≤ 32 }
+        ensures { IfOk result (λ words. words ≡ self.now) }
+    {
+        let locks = copied(alloc, &self.locks)?;
+        Ok(Words {
+            layout: self.layout,
+            locks,
+        })
+    }
+
+    /// Whether the words are the same as others, in the same layout.
+    pub fn same(&self, other: &Words) -> bool
+        ensures { result ≡ true → self.now ≡ other.now }
+    {
+        if !same_layout(self.layout, other.layout) {
+            return false;
+        }
+        same_words(&self.locks, &other.locks)
+    }
+
+    /// The words become the same as others, of as many locks and in the same layout.
+    pub fn put(&mut self, other: &Words)
+        requires layout { self.old.layout ≡ other.now.layout }
+        requires locks { length self.old.locks ≡ length other.now.locks }
+        ensures { self.new ≡ other.now }
+    {
+        self.locks.copy_from_slice(&other.locks);
+    }
+
+    /// Feeds them to a hasher.
+    pub fn feed<H: Hasher>(&self, hasher: &mut H) {
+        for words in &self.locks {
+            hasher.write_u32(words.spin);
+            hasher.write_u32(words.rw);
+            hasher.write_u32(words.wait);
+        }
+    }
+}
+
+// Whether two layouts are the same.
+fn same_layout(a: Layout, b: Layout) -> bool
+    ensures { result ≡ true → a ≡ b }
+{
+    matches!(
+        (a, b),
+        (Layout::Narrow, Layout::Narrow) | (Layout::Wide, Layout::Wide)
+    )
+}
+
+// Whether the words of locks are the same.
+fn same_words(a: &[LockWords], b: &[LockWords]) -> bool
+    ensures { result ≡ true → a.now ≡ b.now }
+{
+    if a.len() != b.len() {
+        return false;
+    }
+    for i in 0..a.len() {
+        if a[i].spin != b[i].spin || a[i].rw != b[i].rw || a[i].wait != b[i].wait {
+            return false;
+        }
+    }
+    true
+}
+
+// A copy of the words of locks.
+fn copied(alloc: Global, words: &[LockWords]) -> Result<Vec<LockWords>, Memory>
+    requires { length words.now ≤ 32 }
+    ensures { IfOk result (λ copy. copy.items ≡ words.now) }
+{
+    let mut copy = Vec::with_capacity(alloc, words.len())?;
+    copy.extend_from_slice(words).map_err(|_| Memory)?;
+    Ok(copy)
 }
