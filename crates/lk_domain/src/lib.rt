@@ -31,5 +31,5 @@ pub use part::{Link, Part};
 pub use plan::Plan;
 pub use rule::{Deal, Draw, Order};
 pub use slot::{Slot, Stowed};
-pub use values::{bring_copy, bring_home, take_copy, take_out, with_copy, with_key};
+pub use values::{bring_home, take_out, with_copy, with_key};
 pub use view::View;

@@ -1,14 +1,14 @@
 //! Values under locks: a processor that holds a lock alone works on its value, which is the key of a
 //! cell, where it lies; or it takes the value out, and brings it home. Where the lock has copies a reader
-//! does so with the one for its own processor. The calls of all lock families are made of [`work_at`],
-//! [`take`] and [`bring`].
+//! works on the one for its own processor, where it lies. The calls of all lock families are made of
+//! [`work_at`], [`take`] and [`bring`].
 ghost use Rattle.std.specs.Prelude.{◌≡◌, ◌+◌, ◌*◌, ◌<◌, Some, None};
 ghost use Rattle.std.specs.Fn.{FnOnceReturnsAtMut, FnOnceTakesAtMut};
 ghost use Rattle.lk_cell.specs.Work.{HasWorked, KeepsFit};
 ghost use Rattle.lk_domain.specs.Plans.{IsRunningPlan, cpus_of, locks_of};
 ghost use Rattle.lk_domain.specs.Plays.{carried_of};
 ghost use Rattle.lk_domain.specs.Seated.{IsSeatOf, IsTableOf};
-ghost use Rattle.lk_domain.specs.Seats.{BringsValueOf, IsOf, IsStill, TakesValueAt, TakesValueOf};
+ghost use Rattle.lk_domain.specs.Seats.{BringsValueOf, IsOf, IsStill, TakesValueOf};
 ghost use Rattle.lk_domain.specs.Seats.{calls_of, ledger_of, view_of};
 ghost use Rattle.lk_domain.specs.declared.slot.Stowed.TheVariants.{CellKey};
 ghost use Rattle.lk_domain.specs.Values.{HasCell, IsClear, IsHomeAt, IsHomeWith, IsKeyOf, IsNewestAt};
@@ -221,38 +221,4 @@ pub fn bring_home(cpu: &mut Cpu, domain: &Domain, lock: LockId, key: Key)
 {
     let home = lock.index as usize;
     bring(&mut cpu.seat, &domain.table, &domain.plan, home, key);
-}
-
-/// Takes the copy of a lock's value for the processor of this number out: the key of its cell. The
-/// processor must hold the lock alone, or hold it as a reader and have the number. No other value of
-/// the lock may be out with it, and it frees the lock again only after the copy is home.
-pub fn take_copy(cpu: &mut Cpu, domain: &Domain, lock: LockId, number: u32) -> Key
-    requires domain { IsOf cpu.old domain.now }
-    requires lock { lock.index < locks_of domain.now.plan }
-    requires number { number < cpus_of domain.now.plan }
-    requires valued { HasCell domain.now.plan (copy_at domain.now.plan lock.index number) }
-    requires held { MayCopy lock.index number (view_of cpu.old) }
-    requires home { (ledger_of cpu.old).out ≡ None }
-    ensures taken { TakesValueAt lock.index (copy_at domain.now.plan lock.index number)
-        cpu.old cpu.new }
-    ensures key { IsKeyOf domain.now.plan (copy_at domain.now.plan lock.index number) result }
-{
-    let copy = copy_home(&domain.plan, lock.index, number);
-    take(&mut cpu.seat, &domain.table, &domain.plan, copy)
-}
-
-/// Brings it home: the value that the processor took out last.
-pub fn bring_copy(cpu: &mut Cpu, domain: &Domain, lock: LockId, number: u32, key: Key)
-    requires domain { IsOf cpu.old domain.now }
-    requires lock { lock.index < locks_of domain.now.plan }
-    requires number { number < cpus_of domain.now.plan }
-    requires valued { HasCell domain.now.plan (copy_at domain.now.plan lock.index number) }
-    requires newest { IsNewestAt domain.now.plan lock.index
-        (copy_at domain.now.plan lock.index number) (outs_of (view_of cpu.old)) }
-    requires home { (ledger_of cpu.old).out ≡ None }
-    requires key { IsKeyOf domain.now.plan (copy_at domain.now.plan lock.index number) key }
-    ensures brought { BringsValueOf lock.index cpu.old cpu.new }
-{
-    let copy = copy_home(&domain.plan, lock.index, number);
-    bring(&mut cpu.seat, &domain.table, &domain.plan, copy, key);
 }

@@ -1,5 +1,5 @@
 -- A hold that a call took begins a look.
-use Rattle.std.proofs.Common.{◌≡◌, ℕ, ◌∷◌, length, Option, true, false, refl, sym, ap, ◌∙◌, subst}
+use Rattle.std.proofs.Common.{◌≡◌, ℕ, ◌∷◌, length, Option, Bool, true, false, refl, sym, ap, ◌∙◌, subst}
 use Rattle.lk_abs.specs.declared.holder.Manner.{Manner}
 use Rattle.lk_abs.specs.declared.holder.Manner.TheVariants.{Spins}
 use Rattle.lk_rows.specs.declared.setup.Verb.{Verb}
@@ -59,7 +59,7 @@ module _ (d : Domain) (a b : Cpu) (before after : Option ℕ) (idle : IsIdle a) 
       }
 
   -- of a reader-writer lock: its trail is the rows up to the one that took it
-  pub entry_begins : (v : Verb) (m : Manner) → CameIn d v 0 m (starting a before) b after
+  pub entry_begins : {nests : Bool} (v : Verb) (m : Manner) → CameIn d v 0 m (starting a nests before) b after
       → HasBegun (guard_in d.plan) v m a b before after
   entry_begins v m came =
       let entered = came.entered in

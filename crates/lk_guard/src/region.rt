@@ -36,13 +36,6 @@ impl Region {
         Region { domain, guard }
     }
 
-    /// The kind of the lock that guards the ledger.
-    pub fn guard(&self) -> Kind
-        ensures { result ≡ kind_at self.now.domain.plan 0 }
-    {
-        self.guard
-    }
-
     /// Returns the domain.
     pub fn into_domain(self) -> Domain
         ensures { result ≡ self.domain }

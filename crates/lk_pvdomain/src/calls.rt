@@ -36,8 +36,11 @@ fn fast(seat: &mut Right, domain: &PvDomain, lock: u32) -> bool
 }
 
 /// Acquires the lock, and returns once the processor holds it. A waiter spins for at most as many
-/// turns as the plan says. Then it halts until it is kicked: its thread parks. The processor must
-/// be in no call, and must not hold this lock.
+/// turns as the plan says. Then it halts until it is kicked. The processor must be in no call, and
+/// must not hold this lock.
+///
+/// While it halts its thread parks, and while it spins it gives way now and then. No clause says
+/// either, and a test shows the first.
 ///
 /// This is Linux's `queued_spin_lock`, with `__pv_queued_spin_lock_slowpath` behind it.
 #[inline]

@@ -28,6 +28,7 @@ pub(crate) fn halt(seat: &mut Right, domain: &PvDomain, cpu: u32) -> u64
 // A halted processor reads its kick word.
 pub(crate) fn glance(seat: &mut Right, domain: &PvDomain, cpu: u32) -> u64
     requires table { seat.old.table_id ≡ domain.now.table.shared.table_id }
+    requires number { seat.old.me.0.who.number ≡ Some cpu }
     requires cpu { cpu < cpus_of domain.now.plan }
     ensures same { (seat.new.table_id ≡ seat.old.table_id) × (seat.new.id ≡ seat.old.id) }
     ensures step { Stays seat.old.me result seat.new.me }
@@ -52,7 +53,8 @@ pub(crate) fn wake(seat: &mut Right, domain: &PvDomain, cpu: u32) -> u64
     met
 }
 
-// Sleeps until a kick ends the halt: the thread parks on the kick word while that is 0.
+// Sleeps until a kick ends the halt: the thread parks on the kick word while that is 0. No clause
+// says that it parks, or on which word.
 pub(crate) fn sleep<R: Wait>(seat: &mut Right, rt: &R, domain: &PvDomain, cpu: u32)
     requires table { seat.old.table_id ≡ domain.now.table.shared.table_id }
     requires number { seat.old.me.0.who.number ≡ Some cpu }
@@ -74,7 +76,7 @@ pub(crate) fn sleep<R: Wait>(seat: &mut Right, rt: &R, domain: &PvDomain, cpu: u
 }
 
 // Kicks this processor, which is the row U5, and then wakes a thread that is parked on its kick
-// word.
+// word. No clause says that it wakes one.
 pub(crate) fn kick(seat: &mut Right, domain: &PvDomain, target: u32) -> u64
     requires table { seat.old.table_id ≡ domain.now.table.shared.table_id }
     requires number { IsNumbered seat.old.me.0 }

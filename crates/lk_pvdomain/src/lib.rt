@@ -14,6 +14,7 @@ mod hash;
 mod kicks;
 mod laws;
 mod leading;
+mod looking;
 mod making;
 mod met;
 mod nodes;

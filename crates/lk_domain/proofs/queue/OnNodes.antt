@@ -2,7 +2,7 @@
 use Rattle.std.proofs.Common.{◌≡◌, ◌≢◌, ◌⊎◌, inl, inr, ℕ, ◌+◌, ◌<◌, List, set, get_or, Bool}
 use Rattle.std.proofs.Common.{Option, Some, None, true, refl, sym, ap, ◌∙◌, subst, arith, false}
 use Rattle.std.proofs.Common.{◌∷◌, eqb, eq-eqb, get_or-set_other}
-use Rattle.std.specs.Prelude.{is_some}
+use Rattle.std.specs.Prelude.{is_some, ◌≤◌}
 use mathlib.Core.Option.{Option as Maybe, some}
 use lib.ListN.{get_elem?}
 use Rattle.atomic_table.specs.Table.{State}
@@ -291,7 +291,8 @@ module _ (k : Plan) {S : Type 0} (s : State S View) (st : Runs k s) (id : ℕ) (
       let n : World = put_node st.world a y in
       let sound =
       free_node_keeps st.world st.histories a y st.sound
-      (subst (IsFree st.world) is_a (to_come_free p v.calls fits)) (λ off b. plain q (st.world.node a) b (st.sound.spins.plain.flag off a b)) in
+      (subst (IsFree st.world) is_a (to_come_free p v.calls fits))
+      (counts q (st.world.node a) st.world.threshold (st.sound.spins.plain.runs a), λ off b. plain q (st.world.node a) b (st.sound.spins.plain.flag off a b)) in
       let here : n.node a ≡ y = node_here st.world a y in
       let away : (b : NodeName) → b ≢ a → n.node b ≡ st.world.node b = λ b ne. node_else st.world a b y ne in
       keeps k s st id v me p is n st.histories st.marks u (set s.words (node_at k a q) 0) sound
@@ -369,6 +370,12 @@ module _ (k : Plan) {S : Type 0} (s : State S View) (st : Runs k s) (id : ℕ) (
       plain part.Next x b ne e = ne e
       plain part.SecondTail x b ne e = ne e
       plain part.Runs x b ne e = ne e
+
+      counts : (q : Part) (x : Node) (t : ℕ) → x.runs ≤ t → (reset_part q x).runs ≤ t
+      counts part.Flag x t low = low
+      counts part.Next x t low = low
+      counts part.SecondTail x t low = low
+      counts part.Runs x t low = omega arith
 
       before_it : (r : Part) → part_index r < part_index q + 1 → r ≢ q
           → node_number r (st.world.node (node_name p (slows v.calls.frames))) ≡ 0
