@@ -10,25 +10,26 @@ use Rattle.lk_domain.specs.Words.{IsNode}
 use Rattle.lk_domain.specs.Calls.{slows}
 use Rattle.lk_domain.specs.declared.view.View.{View}
 use Rattle.lk_word.specs.declared.spin_word.NodeName.{NodeName}
-use Rattle.lk_rows.specs.declared.parts.Pc.TheVariants.{F1, G1, G2}
+use Rattle.lk_rows.specs.declared.parts.Pc.TheVariants.{G1, G2}
 use Rattle.lk_run.specs.Frames.{Owns}
 use Rattle.lk_run.proofs.Rows as rows
-use Rattle.lk_domain.specs.Paths.{Any, AreKept, Passes, is_busy}
+use Rattle.lk_domain.specs.Paths.{Any}
 use Rattle.lk_domain.specs.Plays.{ActsIn, MadeBy, rowed}
 use Rattle.lk_domain.specs.Rows as row
 use Rattle.lk_domain.specs.Rows.{is_watch, is_swap, is_patient}
-use Rattle.lk_domain.specs.Seats.{IsOf, KeepsRest, calls_of, ledger_of, view_of}
+use Rattle.lk_domain.specs.Seats.{IsOf, KeepsRest, calls_of, view_of}
 use Rattle.lk_domain.specs.declared.cpu.Cpu.{Cpu}
 use Rattle.lk_domain.specs.Plans.{layout_in}
 use Rattle.lk_word.specs.declared.spin_word.Fields.{Fields}
 use Rattle.lk_word.specs.SpinWord.{packed, IsPackable}
 use Rattle.lk_rows.specs.rows.Spin.{after_fast}
 use Rattle.lk_run.specs.Phases.{StandsAs}
-use Rattle.lk_run.specs.Polls.{Rises}
 use Rattle.lk_run.specs.Standing.{Outside}
-use Rattle.lk_run.specs.Words.{Waits, At, Waiting, Steps, Looks, LooksOn, Takes, Goes, Wins, Arriving, Won, IsNext, Meets}
+use Rattle.lk_run.specs.Words.{Waits, At, Steps, Looks, LooksOn, Takes, IsNext}
+use Rattle.lk_run.specs.Resting.{Came, Turns, Turned}
 use Rattle.lk_run.specs.declared.call.Call.{Call}
-use Rattle.lk_run.proofs.Steps.{still_of, rest_both, rest_same}
+use Rattle.lk_run.specs.declared.rest.Rest.{Rest}
+use Rattle.lk_run.proofs.Steps.{still_of, rest_both}
 use Rattle.lk_run.proofs.Stepped as way
 use Rattle.lk_run.proofs.Ways.{Leads, Ends, sees, ready_row, queues_taking, queues_patient, queues_inside, then_is}
 
@@ -148,13 +149,6 @@ module _ {w : Call} {c : Pc} {P : Frame → Type 0} {a : Cpu} (at : At w c P a) 
 -- rows that follow each other
 
 module _ {w : Call} {a : Pc} {P : Frame → Type 0} where
-  -- a call that waits stands there
-  pub stands : {x : Cpu} {t : Option ℕ} → Waiting w a P x t → At w a P x
-  stands {t} y = record { domain = y.domain; start = y.start; told = t; waits = y.waits }
-
-  pub stay : {x : Cpu} (t : Option ℕ) → Goes w a P a P x t x t
-  stay {x} t = record { rest = rest_same x; goes = λ s y. y }
-
   module _ {b : Pc} {Q : Frame → Type 0} {x y : Cpu} where
     -- after a row
     pub stepped : Steps w a P b Q x y → At w a P x → At w b Q y
@@ -166,64 +160,11 @@ module _ {w : Call} {a : Pc} {P : Frame → Type 0} where
           waits = step.goes at.start at.told at.waits;
         }
 
-    pub step_on : {t : Option ℕ} → Steps w a P b Q x y → Waiting w a P x t → Waiting w b Q y t
-    step_on {t} step at =
-        record { domain = still_of w.domain.now x y step.rest at.domain; start = at.start; waits = step.goes at.start t at.waits }
-
     pub step_takes : {z : Cpu} → Steps w a P b Q x y → Takes w b Q y z → Takes w a P x z
     step_takes {z} step won = record { rest = rest_both x y z step.rest won.rest; has = λ s t h. won.has s t (step.goes s t h) }
 
-    pub step_wins : {z : Cpu} {t u : Option ℕ} → Steps w a P b Q x y → Wins w b Q y t z u → Wins w a P x t z u
-    step_wins {z} {t} step won = record { rest = rest_both x y z step.rest won.rest; has = λ s h. won.has s (step.goes s t h) }
-
     pub step_both : {e : Pc} {R : Frame → Type 0} {z : Cpu} → Steps w a P b Q x y → Steps w b Q e R y z → Steps w a P e R x z
     step_both {z} one two = record { rest = rest_both x y z one.rest two.rest; goes = λ s t h. two.goes s t (one.goes s t h) }
-
-    -- after a path
-    module _ {t u : Option ℕ} (path : Goes w a P b Q x t y u) where
-      pub reached : Waiting w a P x t → Waiting w b Q y u
-      reached at = record { domain = still_of w.domain.now x y path.rest at.domain; start = at.start; waits = path.goes at.start at.waits }
-
-      pub path_wins : {z : Cpu} {v : Option ℕ} → Wins w b Q y u z v → Wins w a P x t z v
-      path_wins {z} won = record { rest = rest_both x y z path.rest won.rest; has = λ s h. won.has s (path.goes s h) }
-
-      pub path_takes : {z : Cpu} → Takes w b Q y z → Wins w a P x t z u
-      path_takes {z} won = record { rest = rest_both x y z path.rest won.rest; has = λ s h. won.has s u (path.goes s h) }
-
-      pub path_steps : {e : Pc} {R : Frame → Type 0} {z : Cpu} → Steps w b Q e R y z → Goes w a P e R x t z u
-      path_steps {z} step = record { rest = rest_both x y z path.rest step.rest; goes = λ s h. step.goes s u (path.goes s h) }
-
-      -- a look, and a poll after it
-      pub path_polls : {R : Frame → Type 0} {z o : Cpu} {v : Option ℕ} → LooksOn w b Q R y z → KeepsRest z o
-          → AreKept (calls_of z) (calls_of o) → Passes (is_busy (calls_of z)) (ledger_of z) (ledger_of o) → Rises u v
-          → Goes w a P b R x t o v
-      path_polls {R} {z} {o} {v} look rest kept passes rose =
-          record {
-            rest = rest_both x z o (rest_both x y z path.rest look.rest) rest;
-            goes = λ s h. way.polled w.domain.now w.verb w.lock b R s z o u v (look.stays s u (path.goes s h)) rest kept passes rose;
-          }
-
-  pub takes_wins : {x y : Cpu} {t : Option ℕ} → Takes w a P x y → Wins w a P x t y t
-  takes_wins {t} won = record { rest = won.rest; has = λ s h. won.has s t h }
-
--- a step of the table that changed nothing of the call
-module _ {w : Call} {c : Pc} {P : Frame → Type 0} {a m : Cpu} where
-  pub still : At w c P a → KeepsRest a m → view_of m ≡ view_of a → At w c P m
-  still at rest same =
-      record {
-        domain = still_of w.domain.now a m rest at.domain;
-        start = at.start;
-        told = at.told;
-        waits = way.same_waits w.domain.now w.verb w.lock a m rest same c P at.start at.told at.waits;
-      }
-
-  pub same_steps : {e : Pc} {Q : Frame → Type 0} {b : Cpu} → KeepsRest a m → view_of m ≡ view_of a → Steps w c P e Q m b
-      → Steps w c P e Q a b
-  same_steps {b} rest same step =
-      record {
-        rest = rest_both a m b rest step.rest;
-        goes = λ s t h. step.goes s t (way.same_waits w.domain.now w.verb w.lock a m rest same c P s t h);
-      }
 
 -- the count of handoffs was read
 module _ {w : Call} {c : Pc} {P : Frame → Type 0} {a m : Cpu} (rest : KeepsRest a m) (r : ℕ) (same : view_of m ≡ counting r (view_of a)) where
@@ -257,18 +198,25 @@ module _ (w : Call) {met : ℕ} {word : Fields} (is : (found : Fields) → IsPac
       → after_fast w.domain.now.plan.mode found ≡ q
   here found packs meets = sym (leads ∙ ap (after_fast w.domain.now.plan.mode) (is found packs meets))
 
-  pub arriving_at : {a : Cpu} {t : Option ℕ} → Arriving w met a t → Waiting w q Any a t
-  arriving_at {a} {t} h =
+  pub came_at : {a : Cpu} → Came w met a → At w q Any a
+  came_at {a} h =
       let s = h.start in
       let x = h.arrives in
       record {
         domain = h.domain;
         start = s;
-        waits = subst (λ p. Waits w p Any s a t) (here x.found x.packs x.word) x.waits;
+        told = h.told;
+        waits = subst (λ p. Waits w p Any s a h.told) (here x.found x.packs x.word) x.waits;
       }
 
-  pub won_by : {a b : Cpu} {t u : Option ℕ} → Wins w q Any a t b u → Won w met a t b u
-  won_by {a} {t} won = record { rest = won.rest; has = λ s h. won.has s (subst (λ p. Waits w p Any s a t) (here h.found h.packs h.word) h.waits) }
+  pub turned_by : {a b : Cpu} {n : Option Rest} → Turns w q Any n a b → Turned w met n a b
+  turned_by {a} turn =
+      record {
+        rest = turn.rest;
+        has = λ e s t h. turn.has e s t (subst (λ p. Waits w p Any s a t) (here h.found h.packs h.word) h.waits);
+        fits = turn.fits;
+        owes = λ r e s t h. turn.owes r e s t (subst (λ p. Waits w p Any s a t) (here h.found h.packs h.word) h.waits);
+      }
 
 -- the row G1 with a node, after so many private stores
 module _ {w : Call} {a : Cpu} (at : At w G1 Any a) {own : NodeName} (next : IsNext own a) (node : IsNode w.domain.now.plan own) where
@@ -301,20 +249,3 @@ module _ {w : Call} {a : Cpu} (at : At w G1 Any a) {own : NodeName} (next : IsNe
       ∙ ready_row k (view_of a) w.verb on.frame on.trail at.start.calls.frames n on.frames on.place in
       steps_by at.domain rest (Number n) (last ∙ same) G2 (Owns own) (λ e. cc e)
       (λ f has. rows.enters _ _ f at.domain.awake own n (next.cpu_is ∙ sym rest.same.number) next.index node.index)
-
--- a row to a place that is known by now
-module _ {w : Call} {a : Pc} {P : Frame → Type 0} {b q : Pc} {Q : Frame → Type 0} {x y : Cpu} (is : b ≡ q) (step : Steps w a P b Q x y) where
-  pub step_at : {t : Option ℕ} → Waiting w a P x t → Waiting w q Q y t
-  step_at at = step_on (subst (λ p. Steps w a P p Q x y) is step) at
-
-  pub step_by : {z : Cpu} {t u : Option ℕ} → Wins w q Q y t z u → Wins w a P x t z u
-  step_by won = step_wins (subst (λ p. Steps w a P p Q x y) is step) won
-
--- the first row met a word that was not free
-module _ {w : Call} {met : ℕ} {x y : Cpu} (meets : Meets w met x y) where
-  pub meets_on : {t : Option ℕ} → Waiting w F1 Any x t → Arriving w met y t
-  meets_on {t} at =
-      record { domain = still_of w.domain.now x y meets.rest at.domain; start = at.start; arrives = meets.arrives at.start t at.waits }
-
-  pub meets_wins : {z : Cpu} {t u : Option ℕ} → Won w met y t z u → Wins w F1 Any x t z u
-  meets_wins {z} {t} won = record { rest = rest_both x y z meets.rest won.rest; has = λ s h. won.has s (meets.arrives s t h) }

@@ -1,5 +1,5 @@
 -- What a step of a processor does to a call of a reader or a writer.
-use Rattle.std.proofs.Common.{◌≡◌, inl, inr, ℕ, ◌+◌, ◌-◌, [], ◌∷◌, ◌++◌, length, Option, Some, None, true, eqb, refl, sym, ap, ◌∙◌, subst, arith, length-append}
+use Rattle.std.proofs.Common.{◌≡◌, ◌≤◌, ℕ, ◌+◌, ◌-◌, [], ◌∷◌, ◌++◌, length, Option, Some, None, true, eqb, refl, sym, ap, ◌∙◌, subst, arith, length-append}
 use Rattle.std.proofs.Common.{◌||◌}
 use Rattle.lk_abs.specs.declared.holder.Manner.{Manner}
 use Rattle.lk_abs.specs.declared.names.LockName.{LockName}
@@ -24,7 +24,7 @@ use Rattle.lk_run.specs.Phases.{Start, newest, Waits, HasPolled, CameIn, HasPass
 use Rattle.lk_run.specs.Standing.{Outside, Inside, Entered, IsOn, waiter}
 use Rattle.lk_run.proofs.RwRows.{TakesBy, SetsOut, FreesIt}
 use Rattle.lk_run.proofs.Standing as path
-use Rattle.lk_run.proofs.Polls.{stays_before}
+use Rattle.lk_run.proofs.Polls.{stays_before, recount}
 use Rattle.lk_run.proofs.Steps.{looked}
 use Rattle.lk_run.proofs.Ways as way
 
@@ -38,7 +38,7 @@ module _ (d : Domain) (v : Verb) (n : LockName) (a b : Cpu) (rest : KeepsRest a 
     (at : IsOn (terms_of d.plan) b.number v n c P Outside s.calls was) (told : Option ℕ)
     (passes : Passes ((eqb n.index 0) || is_busy s.calls) s.ledger (ledger_of a)) (falls : NeverFalls s.told told)
     (rises : (y : Met) (r k : ℕ) → HasStayed k (newest was.frames ++ mark c y r ∷ []) → RisesBy k s.told told)
-    (once : Acquires 0 s.calls was s.told told) where
+    (once : Acquires s.nests 0 s.calls was s.told told) where
   abbrev mode : Mode
   mode = d.plan.mode
 
@@ -61,7 +61,7 @@ module _ (d : Domain) (v : Verb) (n : LockName) (a b : Cpu) (rest : KeepsRest a 
           falls = falls;
           rises = way.polls_over d v n a b rest of was x step c P Outside s at told passes falls rises once last;
         };
-        once = subst (λ k. Acquires k s.calls (calls_of b) s.told told) (alone (length (calls_of b).last))
+        once = subst (λ k. Acquires s.nests k s.calls (calls_of b) s.told told) (alone (length (calls_of b).last))
             (way.counts d v n a b rest of was x step c P Outside s at told passes falls rises once (Takes m) 1 takes.grip refl);
       }
     where
@@ -74,7 +74,7 @@ module _ (d : Domain) (v : Verb) (l : ℕ) (a b : Cpu) (rest : KeepsRest a b) (o
     (at : IsOn (terms_of d.plan) b.number v (lock_name l) c P Outside s.calls was) (told : Option ℕ)
     (passes : Passes ((eqb l 0) || is_busy s.calls) s.ledger (ledger_of a)) (falls : NeverFalls s.told told)
     (rises : (y : Met) (r k : ℕ) → HasStayed k (newest was.frames ++ mark c y r ∷ []) → RisesBy k s.told told)
-    (once : Acquires 0 s.calls was s.told told) where
+    (once : Acquires s.nests 0 s.calls was s.told told) where
   pub sets_out : (e : Pc) → SetsOut d.plan.mode b.number (sight_of (terms_of d.plan) b.number was.runs) c at.frame x e → Some e ≡ after_wait v → (F1 ≡ c → ⊥)
       → Waits d v (wait_name l) F1 Any s b told
   sets_out e out next other =
@@ -110,7 +110,7 @@ module _ (d : Domain) (v : Verb) (l : ℕ) (a b : Cpu) (rest : KeepsRest a b) (o
       way.turns d v (wait_name l) a b rest of (calls_of a) x step c Any Inside s.calls at
       ∙ (λ i. turned (ledger_of a) (own i) (takes.grip i) (at.trail ++ way.marked d b (calls_of a) c x ∷ [])) in
       let count = path.count_is at x m takes.grip in
-      let least = at.taken in
+      let least : s.calls.taken + 1 ≤ (calls_of a).taken = at.taken in
       let before = way.before d v (wait_name l) a b rest of (calls_of a) x step c Any Inside s.calls at in
       subst (λ (z : Calls). HasPassed (terms_of d.plan) b.number v l m s z (ledger_of b) told)
       (sym (way.calls d v (wait_name l) a b rest of (calls_of a) x step c Any Inside s.calls at)) (record {
@@ -121,12 +121,8 @@ module _ (d : Domain) (v : Verb) (l : ℕ) (a b : Cpu) (rest : KeepsRest a b) (o
         falls = w.looked.falls;
         rises = λ y r k h. w.rises x (read_at c (way.sees d a b)) k (subst (λ t. HasStayed k (t ++ way.marked d b (calls_of a) c x ∷ [])) (sym before)
             (stays_before k at.trail (way.marked d b (calls_of a) c x) (mark U1 y r) other h));
-        once = both out w.looked.once count;
+        once = recount s.nests 1 2 s.calls (calls_of a) out s.told told w.looked.once (λ e. omega (arith, count, e));
       })
-    where
-      both : (z : Calls) → Acquires 1 s.calls (calls_of a) s.told told → z.taken ≡ (calls_of a).taken + 1 → Acquires 2 s.calls z s.told told
-      both z (inl h) e = inl h
-      both z (inr g) e = inr (omega (arith, g, e))
 
 -- and frees the wait lock
 module _ (d : Domain) (v : Verb) (l : ℕ) (m : Manner) (a b : Cpu) (rest : KeepsRest a b) (of : IsOf a d) (x : Met)
@@ -143,6 +139,10 @@ module _ (d : Domain) (v : Verb) (l : ℕ) (m : Manner) (a b : Cpu) (rest : Keep
       ∙ ((λ i. turned (ledger_of a) ((free.own ∙ at.lock) i) (free.grip i) (at.trail ++ mark U1 x 0 ∷ []))
       ∙ way.wait_turned (ledger_of a) (wait_name l) Frees (at.trail ++ mark U1 x 0 ∷ []) refl) in
       let last = way.last_is d v (wait_name l) a b rest of (calls_of a) x step U1 Any (Entered m) s.calls at free.place in
+      let long : length (calls_of b).last ≡ length at.trail + 1 = ap length last ∙ length-append at.trail (mark U1 x 0 ∷ []) in
+      let count : (calls_of b).taken ≡ (calls_of a).taken =
+      ap (λ (z : Calls). z.taken) (way.calls d v (wait_name l) a b rest of (calls_of a) x step U1 Any (Entered m) s.calls at)
+      ∙ path.count_after at x Frees free.grip in
       record {
         upto = at.trail;
         entered = subst (λ (z : Calls). HasEntered (terms_of d.plan) b.number v l m at.trail s.calls z)
@@ -150,13 +150,5 @@ module _ (d : Domain) (v : Verb) (l : ℕ) (m : Manner) (a b : Cpu) (rest : Keep
             (path.leaves at x refl free.place free.grip free.own waits gone.takes gone.taken);
         look = subst (λ g. HasLooked l m s.calls at.trail s.ledger g) (sym same) gone.look;
         polled = record { falls = gone.falls; rises = λ k h. gone.rises x 0 k (subst (HasStayed k) last h) };
-        once = both (length at.trail) gone.once (ap length last ∙ length-append at.trail (mark U1 x 0 ∷ []))
-            (ap (λ (z : Calls). z.taken) (way.calls d v (wait_name l) a b rest of (calls_of a) x step U1 Any (Entered m) s.calls at)
-            ∙ path.count_after at x Frees free.grip);
+        once = recount s.nests 2 (1 + (length (calls_of b).last - length at.trail)) s.calls (calls_of a) (calls_of b) s.told told gone.once (λ e. omega (arith, e, long, count));
       }
-    where
-      both : (i : ℕ) → Acquires 2 s.calls (calls_of a) s.told told → length (calls_of b).last ≡ i + 1
-          → (calls_of b).taken ≡ (calls_of a).taken
-          → Acquires (1 + (length (calls_of b).last - i)) s.calls (calls_of b) s.told told
-      both i (inl h) long same = inl h
-      both i (inr e) long same = inr (omega (arith, e, long, same))

@@ -208,6 +208,3 @@ node_named k n m h e =
 
 pub small_name : (k : Plan) (n : ℕ) (m : NodeName) → IsNode k m → n ≡ name_number m → cpus_of k ≤ 64 → n < 260
 small_name k n m h e few = let a = h.cpu in let b = h.index in omega (arith, e, few, a, b)
-
-pub least_name : (n : ℕ) (m : NodeName) → n ≡ name_number m → 2 ≤ n
-least_name n m e = omega (arith, e)

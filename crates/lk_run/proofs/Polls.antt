@@ -1,8 +1,8 @@
 -- Polls add up, and a row that leads to another asks for none.
-use Rattle.std.proofs.Common.{◌≡◌, ℕ, zero, suc, inl, inr, List, [], ◌∷◌, ◌++◌, Option, Some, None, refl, arith}
+use Rattle.std.proofs.Common.{◌≡◌, ◌+◌, ℕ, zero, suc, inl, inr, Bool, true, false, List, [], ◌∷◌, ◌++◌, Option, Some, None, refl, arith}
 use Rattle.std.proofs.lemmas.Bool.{cases_lt}
-use Rattle.lk_domain.specs.Calls.{Mark}
-use Rattle.lk_run.specs.Polls.{Rises, NeverFalls, RisesBy, HasStayed}
+use Rattle.lk_domain.specs.Calls.{Mark, Calls}
+use Rattle.lk_run.specs.Polls.{Rises, NeverFalls, RisesBy, HasStayed, Acquires}
 
 pub falls_none : (a : Option ℕ) → NeverFalls a a
 falls_none None = refl
@@ -76,3 +76,15 @@ stays_more (suc k) [] js h = absurd h
 stays_more (suc k) (a ∷ []) js h = absurd h
 stays_more (suc k) (a ∷ b ∷ ks) js (inl e) = inl (e.0, stays_more k (b ∷ ks) js e.1)
 stays_more (suc k) (a ∷ b ∷ ks) js (inr h) = inr (stays_more (suc k) (b ∷ ks) js h)
+
+-- how many locks were taken, where nothing else ran
+pub acquired : (nests : Bool) (n : ℕ) (old new : Calls) (t u : Option ℕ) → new.taken ≡ old.taken + n → Acquires nests n old new t u
+acquired false n old new t u e = e
+acquired true n old new t u e = inr e
+
+-- and where the count is known from one that came before
+pub recount : (nests : Bool) (m n : ℕ) (old was new : Calls) (t u : Option ℕ) → Acquires nests m old was t u
+    → (was.taken ≡ old.taken + m → new.taken ≡ old.taken + n) → Acquires nests n old new t u
+recount false m n old was new t u e by = by e
+recount true m n old was new t u (inl rose) by = inl rose
+recount true m n old was new t u (inr e) by = inr (by e)

@@ -1,5 +1,5 @@
 -- What a row does to a reader or a writer that waits, and rows that follow each other.
-use Rattle.std.proofs.Common.{◌≡◌, ℕ, List, length, Option, Some, None, Bool, true, ap, arith}
+use Rattle.std.proofs.Common.{◌≡◌, ℕ, Option, Some, None, Bool, true}
 use Rattle.lk_abs.specs.declared.holder.Manner.{Manner}
 use Rattle.lk_rows.specs.Moves.{wait_name}
 use Rattle.lk_rows.specs.declared.parts.Frame.{Frame}
@@ -8,21 +8,20 @@ use Rattle.lk_rows.specs.declared.parts.Pc.TheVariants.{F1, U1}
 use Rattle.lk_rows.specs.declared.setup.Verb.{Verb}
 use Rattle.lk_law.specs.Leads.{Shared}
 use Rattle.lk_law.specs.Sound.{after_wait}
-use Rattle.lk_domain.specs.Calls.{Running, lock_name, waits_in}
-use Rattle.lk_domain.specs.Paths.{Any, AreKept, Passes, is_busy}
+use Rattle.lk_domain.specs.Calls.{lock_name, waits_in}
+use Rattle.lk_domain.specs.Paths.{Any}
 use Rattle.lk_domain.specs.Plays.{rowed}
 use Rattle.lk_domain.specs.RwPlays.{ActsFor, SharedBy}
-use Rattle.lk_domain.specs.Seats.{KeepsRest, calls_of, ledger_of, view_of}
+use Rattle.lk_domain.specs.Seats.{KeepsRest, calls_of, view_of}
 use Rattle.lk_domain.specs.declared.cpu.Cpu.{Cpu}
 use Rattle.lk_domain.specs.declared.domain.Domain.{Domain}
 use Rattle.lk_domain.proofs.Turned.{is_taking}
 use Rattle.lk_run.specs.Phases.{Start, StandsAs, CameIn, Passed}
-use Rattle.lk_run.specs.Polls.{Rises}
 use Rattle.lk_run.specs.Standing.{Outside, Inside, Waiter, waiter}
-use Rattle.lk_run.specs.Waiters.{Waits, Looked, At, Waiting, Steps, Looks, Gets, Goes, Earns}
+use Rattle.lk_run.specs.Waiters.{Waits, At, Steps, Looks, Gets}
 use Rattle.lk_run.proofs.RwRows as row
 use Rattle.lk_run.proofs.RwSteps as rw
-use Rattle.lk_run.proofs.Steps.{still_of, rest_both, rest_same}
+use Rattle.lk_run.proofs.Steps.{still_of, rest_both}
 use Rattle.lk_run.proofs.Stepped as way
 use Rattle.lk_run.proofs.Ways.{Leads, sees}
 
@@ -89,13 +88,6 @@ module _ {d : Domain} {v : Verb} {l : ℕ} {c : Pc} {a b : Cpu} (at : At (within
 -- rows that follow each other
 
 module _ {w : Waiter} {a : Pc} where
-  -- a call that waits stands there
-  pub stands : {x : Cpu} {t : Option ℕ} → Waiting w a x t → At w a x
-  stands {t} y = record { domain = y.domain; start = y.start; told = t; waits = y.waits }
-
-  pub stay : {x : Cpu} (t : Option ℕ) → Goes w a a x t x t
-  stay {x} t = record { rest = rest_same x; goes = λ s y. y }
-
   module _ {b : Pc} {x y : Cpu} where
     -- after a row
     pub stepped : Steps w a b x y → At w a x → At w b y
@@ -107,54 +99,8 @@ module _ {w : Waiter} {a : Pc} where
           waits = step.goes at.start at.told at.waits;
         }
 
-    pub step_on : {t : Option ℕ} → Steps w a b x y → Waiting w a x t → Waiting w b y t
-    step_on {t} step at = record { domain = still_of w.domain x y step.rest at.domain; start = at.start; waits = step.goes at.start t at.waits }
-
     pub step_both : {e : Pc} {z : Cpu} → Steps w a b x y → Steps w b e y z → Steps w a e x z
     step_both {z} one two = record { rest = rest_both x y z one.rest two.rest; goes = λ s t h. two.goes s t (one.goes s t h) }
 
     pub step_gets : {E : Start → Cpu → Option ℕ → Type 0} {z : Cpu} → Steps w a b x y → Gets w b E y z → Gets w a E x z
     step_gets {z} step got = record { rest = rest_both x y z step.rest got.rest; has = λ s t h. got.has s t (step.goes s t h) }
-
-    pub step_earns : {E : Start → Cpu → Option ℕ → Type 0} {z : Cpu} {t u : Option ℕ} → Steps w a b x y → Earns w b E y t z u → Earns w a E x t z u
-    step_earns {z} {t} step got = record { rest = rest_both x y z step.rest got.rest; has = λ s h. got.has s (step.goes s t h) }
-
-    -- after a path
-    module _ {t u : Option ℕ} (path : Goes w a b x t y u) where
-      pub reached : Waiting w a x t → Waiting w b y u
-      reached at = record { domain = still_of w.domain x y path.rest at.domain; start = at.start; waits = path.goes at.start at.waits }
-
-      -- the processor has as many calls as before
-      pub as_many : Waiting w a x t → length (calls_of y).frames ≡ length (calls_of x).frames
-      as_many at =
-          let before = ap (λ (rs : List Running). length rs) at.waits.looked.at.frames in
-          let after = ap (λ (rs : List Running). length rs) (path.goes at.start at.waits).looked.at.frames in
-          omega (arith, before, after)
-
-      pub path_gets : {E : Start → Cpu → Option ℕ → Type 0} {z : Cpu} → Gets w b E y z → Earns w a E x t z u
-      path_gets {z} got = record { rest = rest_both x y z path.rest got.rest; has = λ s h. got.has s u (path.goes s h) }
-
-      pub path_steps : {e : Pc} {z : Cpu} → Steps w b e y z → Goes w a e x t z u
-      path_steps {z} step = record { rest = rest_both x y z path.rest step.rest; goes = λ s h. step.goes s u (path.goes s h) }
-
-      -- a look, and a poll after it
-      pub path_polls : {z o : Cpu} {v : Option ℕ} → Looks w b y z → KeepsRest z o → ((s : Start) → Looked w b s z u → Waits w b s o v)
-          → Goes w a b x t o v
-      path_polls {z} {o} look rest polled =
-          record {
-            rest = rest_both x z o (rest_both x y z path.rest look.rest) rest;
-            goes = λ s h. polled s (look.stays s u (path.goes s h));
-          }
-
-  pub gets_earns : {E : Start → Cpu → Option ℕ → Type 0} {x y : Cpu} {t : Option ℕ} → Gets w a E x y → Earns w a E x t y t
-  gets_earns {t} got = record { rest = got.rest; has = λ s h. got.has s t h }
-
--- the poll after a look
-
-module _ {d : Domain} {v : Verb} {l : ℕ} {c : Pc} {z o : Cpu} {t u : Option ℕ} (rest : KeepsRest z o) (kept : AreKept (calls_of z) (calls_of o))
-    (passed : Passes (is_busy (calls_of z)) (ledger_of z) (ledger_of o)) (rose : Rises t u) where
-  pub polled : (s : Start) → Looked (out d v l) c s z t → Waits (out d v l) c s o u
-  polled s h = way.polled d v (lock_name l) c Any s z o t u h rest kept passed rose
-
-  pub polled_in : (s : Start) → Looked (within d v l) c s z t → Waits (within d v l) c s o u
-  polled_in s h = way.polled_in d v l c Any s z o t u h rest kept passed rose

@@ -29,6 +29,7 @@ use Rattle.lk_domain.proofs.Acting.{acts_on, begins_on}
 use Rattle.lk_domain.proofs.Turned.{is_taking}
 use Rattle.lk_domain.proofs.Ways.{acts_first}
 use Rattle.lk_run.specs.Phases.{Start, StandsAs, Waits, HasPolled, CameIn, Passed, biased, starting}
+use Rattle.lk_run.specs.PolledRead.{Alone, Nested, Began}
 use Rattle.lk_run.specs.Standing.{Stage, Outside, Inside, IsOn, waiter}
 use Rattle.lk_run.proofs.Entered as enter
 use Rattle.lk_run.proofs.Polls.{falls_none}
@@ -71,7 +72,7 @@ module _ (d : Domain) (v : Verb) (n : LockName) (c : Pc) (P : Frame → Type 0) 
 
 -- a call that begins
 module _ (d : Domain) (v : Verb) (l : ℕ) (a b : Cpu) (rest : KeepsRest a b) (of : IsOf a d) (takes : is_taking v ≡ true)
-    {met : ℕ} (made : SharedBy v l a.seat.me met b.seat.me) (none : waits_in (calls_of a).frames l ≡ false) (told : Option ℕ) where
+    {met : ℕ} (made : SharedBy v l a.seat.me met b.seat.me) (none : waits_in (calls_of a).frames l ≡ false) (nests : Bool) (told : Option ℕ) where
   abbrev row : Pc
   row = first_place d.plan.mode v
 
@@ -87,26 +88,26 @@ module _ (d : Domain) (v : Verb) (l : ℕ) (a b : Cpu) (rest : KeepsRest a b) (o
   at : IsOn (terms_of d.plan) b.number v (lock_name l) row Any Outside (calls_of a) (begin d.plan.mode (calls_of a) v l)
   at = path.starts (terms_of d.plan) b.number v l (calls_of a) takes free
 
-  pub first_enters : (m : Manner) → ((f : Frame) → TakesBy d.plan.mode b.number (sight_of (terms_of d.plan) b.number None) row f x m None) → CameIn d v l m (starting a told) b told
+  pub first_enters : (m : Manner) → ((f : Frame) → TakesBy d.plan.mode b.number (sight_of (terms_of d.plan) b.number None) row f x m None) → CameIn d v l m (starting a nests told) b told
   first_enters m leads =
-      enter.enters d v (lock_name l) a b rest of (begin d.plan.mode (calls_of a) v l) x is row Any (starting a told) at told
+      enter.enters d v (lock_name l) a b rest of (begin d.plan.mode (calls_of a) v l) x is row Any (starting a nests told) at told
       (passes_none _ (ledger_of a) (ledger_of a) refl) (falls_none told)
-      (step.none_yet d v l a b rest of takes free x is told) (step.none_taken d v l a b rest of takes free x is told) m (leads at.frame)
+      (step.none_yet d v l a b rest of takes free x is nests told) (step.none_taken d v l a b rest of takes free x is nests told) m (leads at.frame)
 
   pub first_sets_out : (e : Pc) → ((f : Frame) → SetsOut d.plan.mode b.number (sight_of (terms_of d.plan) b.number None) row f x e) → Some e ≡ after_wait v → (F1 ≡ row → ⊥)
-      → Waits d v (wait_name l) F1 Any (starting a told) b told
+      → Waits d v (wait_name l) F1 Any (starting a nests told) b told
   first_sets_out e leads next other =
-      enter.sets_out d v l a b rest of (begin d.plan.mode (calls_of a) v l) x is row Any (starting a told) at told
+      enter.sets_out d v l a b rest of (begin d.plan.mode (calls_of a) v l) x is row Any (starting a nests told) at told
       (passes_none _ (ledger_of a) (ledger_of a) refl) (falls_none told)
-      (step.none_yet d v l a b rest of takes free x is told) (step.none_taken d v l a b rest of takes free x is told) e (leads at.frame) next other
+      (step.none_yet d v l a b rest of takes free x is nests told) (step.none_taken d v l a b rest of takes free x is nests told) e (leads at.frame) next other
 
   pub first_goes : (e : ℕ → Pc) → (e (length (calls_of a).frames) ≡ row → ⊥)
       → ((f : Frame) → Leads d.plan.mode b.number (sight_of (terms_of d.plan) b.number None) row f x (e f.ctx) Any)
-      → Waits d v (lock_name l) (e (length (calls_of a).frames)) Any (starting a told) b told
+      → Waits d v (lock_name l) (e (length (calls_of a).frames)) Any (starting a nests told) b told
   first_goes e other leads =
-      way.goes d v (lock_name l) a b rest of (begin d.plan.mode (calls_of a) v l) x is row Any Outside (starting a told) at told
+      way.goes d v (lock_name l) a b rest of (begin d.plan.mode (calls_of a) v l) x is row Any Outside (starting a nests told) at told
       (passes_none _ (ledger_of a) (ledger_of a) refl) (falls_none told)
-      (step.none_yet d v l a b rest of takes free x is told) (step.none_taken d v l a b rest of takes free x is told) (e (length (calls_of a).frames)) Any other
+      (step.none_yet d v l a b rest of takes free x is nests told) (step.none_taken d v l a b rest of takes free x is nests told) (e (length (calls_of a).frames)) Any other
       (subst (λ k. Leads d.plan.mode b.number (sight_of (terms_of d.plan) b.number None) row at.frame x (e k) Any) at.ctx (leads at.frame))
 
 -- a call that goes on, without the wait lock
@@ -214,16 +215,16 @@ watches_Y4 false = refl
 
 -- a reader below which no call waits, and one that has interrupted another
 
-pub biased_alone : (d : Domain) (n : LockName) (s : Start) (a : Cpu) (told : Option ℕ)
-    → Waits d Read n (biased (length s.calls.frames)) Any s a told → length (calls_of a).frames ≡ 1 → Waits d Read n R3 Any s a told
-biased_alone d n s a told w one =
+pub biased_alone : (d : Domain) (l : ℕ) (s : Start) (a : Cpu) (told : Option ℕ)
+    → Began d l s a told → length (calls_of a).frames ≡ 1 → Alone (Waits d Read (lock_name l) R3 Any) s a told
+biased_alone d l s a told w one =
     let deep = ap (λ (rs : List Running). length rs) w.looked.at.frames in
     let none : length s.calls.frames ≡ 0 = omega (arith, deep, one) in
-    subst (λ k. Waits d Read n (biased k) Any s a told) none w
+    (none, subst (λ k. Waits d Read (lock_name l) (biased k) Any s a told) none w)
 
-pub biased_nested : (d : Domain) (n : LockName) (s : Start) (a : Cpu) (told : Option ℕ)
-    → Waits d Read n (biased (length s.calls.frames)) Any s a told → length (calls_of a).frames ≢ 1 → Waits d Read n R2 Any s a told
-biased_nested d n s a told w more =
+pub biased_nested : (d : Domain) (l : ℕ) (s : Start) (a : Cpu) (told : Option ℕ)
+    → Began d l s a told → length (calls_of a).frames ≢ 1 → Nested (Waits d Read (lock_name l) R2 Any) s a told
+biased_nested d l s a told w more =
     let deep = ap (λ (rs : List Running). length rs) w.looked.at.frames in
     let some : length s.calls.frames ≢ 0 = λ e. more (omega (arith, deep, e)) in
-    subst (λ b. Waits d Read n (if b then R3 else R2) Any s a told) (ne_eqb (length s.calls.frames) 0 some) w
+    (some, subst (λ b. Waits d Read (lock_name l) (if b then R3 else R2) Any s a told) (ne_eqb (length s.calls.frames) 0 some) w)

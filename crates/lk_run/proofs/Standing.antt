@@ -1,5 +1,5 @@
 -- A call from row to row, and from stage to stage.
-use Rattle.std.proofs.Common.{◌≡◌, inl, inr, ℕ, ◌+◌, ◌<◌, List, [], ◌∷◌, ◌++◌, length, Some, None, Bool}
+use Rattle.std.proofs.Common.{◌≡◌, ◌≤◌, inl, inr, ℕ, ◌+◌, ◌<◌, List, [], ◌∷◌, ◌++◌, length, Some, None, Bool}
 use Rattle.std.proofs.lemmas.Bool.{cases_Bool}
 use Rattle.std.proofs.Common.{true, false, eqb, eqb-true, eq-eqb, refl, sym, ap, ◌∙◌, subst, arith}
 use Rattle.std.specs.Prelude.{◌&&◌}
@@ -164,7 +164,7 @@ module _ {terms : Terms} {p : ℕ} {v : Verb} {n : LockName} {pl : Pc} {P : Fram
   place' = (next_frame terms.mode p (sight_of terms p c.runs) pl at.frame x).place ≡ None
 
   counted : old.taken < out.taken
-  counted = let a = count_is at x m grip in let b = at.taken in omega (arith, a, b)
+  counted = let a = count_is at x m grip in let b : old.taken + 0 ≤ c.taken = at.taken in omega (arith, a, b)
 
   -- it takes its lock, and is over
   pub takes : place' → held_lock (target pl at.frame) at.frame ≡ lock_name n.index → HasTaken terms p v n.index m old out
@@ -217,7 +217,7 @@ module _ {terms : Terms} {p : ℕ} {v : Verb} {n : LockName} {pl : Pc} {P : Fram
           out.taken,
           holds_is at x m n grip own ∙ (λ i. hold (length old.frames) n (spins i) out.taken ∷ at.holds i),
         );
-        taken = (let a = counted in omega (arith, a));
+        taken = (let a = counted in let b : old.taken + 1 ≤ out.taken = omega (arith, a) in b);
         place = place;
         lock = lock ∙ at.lock;
         ctx = led_ctx at.frame (course terms.mode p (sight_of terms p c.runs) pl at.frame x).leads ∙ at.ctx;
@@ -272,7 +272,7 @@ module _ {terms : Terms} {p : ℕ} {v : Verb} {n : LockName} {pl : Pc} {P : Fram
           holds_is at x m (lock_name n.index) grip own
               ∙ ap (λ hs. hold (length old.frames) (lock_name n.index) m out.taken ∷ hs) at.holds.1,
         );
-        taken = (let a = count_is at x m grip in let b = at.taken in omega (arith, a, b));
+        taken = (let a = count_is at x m grip in let b : old.taken + 1 ≤ c.taken = at.taken in let e : old.taken + 2 ≤ out.taken = omega (arith, a, b) in e);
         place = place;
         lock = lock ∙ at.lock;
         ctx = led_ctx at.frame (course terms.mode p (sight_of terms p c.runs) pl at.frame x).leads ∙ at.ctx;
@@ -359,7 +359,7 @@ starts terms p v l c t free =
       walk = still;
       frames = refl;
       holds = keeps v t;
-      taken = omega arith;
+      taken = (let e : c.taken + 0 ≤ c.taken = omega arith in e);
       place = refl;
       lock = refl;
       ctx = refl;
@@ -381,14 +381,14 @@ starts terms p v l c t free =
 
 pub on_of : {terms : Terms} {p : ℕ} {v : Verb} {l : ℕ} {c : Pc} {old new : Calls} → IsAt terms p v l c Any old new
     → takes_wait v ≡ false → IsOn terms p v (lock_name l) c Any Outside old new
-on_of at none =
+on_of {old} {new} at none =
     record {
       frame = at.frame;
       trail = at.trail;
       walk = at.walk;
       frames = at.frames;
       holds = at.holds;
-      taken = let e = at.taken in omega (arith, e);
+      taken = (let e = at.taken in let b : old.taken + 0 ≤ new.taken = omega (arith, e) in b);
       place = at.place;
       lock = at.lock;
       ctx = at.ctx;

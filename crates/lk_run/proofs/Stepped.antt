@@ -1,5 +1,5 @@
 -- What a step call of a processor does to its call that waits.
-use Rattle.std.proofs.Common.{◌≡◌, inr, ℕ, zero, suc, List, [], ◌∷◌, ◌++◌, length, Option, Bool, true, false, eqb, eq-eqb, refl, sym, ap, ◌∙◌, subst, arith}
+use Rattle.std.proofs.Common.{◌≡◌, ℕ, zero, suc, List, [], ◌∷◌, ◌++◌, length, Option, Bool, true, false, eqb, eq-eqb, refl, sym, ap, ◌∙◌, subst, arith}
 use Rattle.std.proofs.Common.{◌||◌}
 use Rattle.std.specs.Prelude.{if◌then◌else◌, ◌&&◌, None, Some}
 use Rattle.lk_abs.specs.declared.names.LockName.{LockName}
@@ -15,8 +15,8 @@ use Rattle.lk_law.specs.Leads.{Met, Word, Shared}
 use Rattle.lk_law.specs.Sound.{takes_wait}
 use Rattle.lk_domain.specs.Calls.{told, told_by}
 use Rattle.lk_domain.proofs.rows.Users.{told_on}
-use Rattle.lk_domain.specs.Calls.{terms_of, sight_of, Terms, begun, mark, Running, Calls, acting, begin, is_on, waits_in, holds_in, lock_name, held_in, StandsOn}
-use Rattle.lk_domain.specs.Paths.{Walk, Passes, AreKept, is_busy, Any, next_frame}
+use Rattle.lk_domain.specs.Calls.{terms_of, sight_of, Terms, mark, Running, Calls, acting, begin, is_on, waits_in, holds_in, lock_name, held_in, StandsOn}
+use Rattle.lk_domain.specs.Paths.{Passes, is_busy, Any, next_frame}
 use Rattle.lk_domain.specs.Plays.{ActsIn, MadeBy, made, rowed}
 use Rattle.lk_domain.specs.RwPlays.{SharedBy}
 use Rattle.lk_domain.specs.NodePlays.{AtRow, counting}
@@ -29,10 +29,10 @@ use Rattle.lk_domain.specs.declared.view.View.{View}
 use Rattle.lk_domain.proofs.Acting.{acts_on, begins_on}
 use Rattle.lk_domain.proofs.Paths as domain_path
 use Rattle.lk_domain.proofs.Turned.{is_taking, verb_self}
-use Rattle.lk_run.specs.Polls.{Rises, RisesBy, HasStayed, Acquires}
+use Rattle.lk_run.specs.Polls.{RisesBy, HasStayed, Acquires, GivesWay}
 use Rattle.lk_run.specs.Phases.{Start, newest, StandsAs, OwesPoll, HasPolled, Waits, Won, Queues, starting}
 use Rattle.lk_run.specs.Standing.{Stage, Outside, Inside, IsOn, waiter}
-use Rattle.lk_run.proofs.Polls.{falls_none}
+use Rattle.lk_run.proofs.Polls.{falls_none, acquired, recount}
 use Rattle.lk_run.proofs.Standing as path
 use Rattle.lk_run.proofs.Steps.{passes_none}
 use Rattle.lk_run.proofs.Ways as way
@@ -131,7 +131,7 @@ module _ (d : Domain) (v : Verb) (n : LockName) (a b : Cpu) (rest : KeepsRest a 
 -- the call begins
 module _ (d : Domain) (v : Verb) (l : ℕ) (a b : Cpu) (rest : KeepsRest a b) (of : IsOf a d) (takes : is_taking v ≡ true)
     (free : takes_wait v ≡ true → held_in (calls_of a).holds (length (calls_of a).frames) (wait_name l) ≡ None)
-    (x : Met) (step : view_of b ≡ rowed (view_of a) (begin d.plan.mode (calls_of a) v l) x) (told : Option ℕ) where
+    (x : Met) (step : view_of b ≡ rowed (view_of a) (begin d.plan.mode (calls_of a) v l) x) (nests : Bool) (told : Option ℕ) where
   abbrev row : Pc
   row = first_place d.plan.mode v
 
@@ -142,19 +142,19 @@ module _ (d : Domain) (v : Verb) (l : ℕ) (a b : Cpu) (rest : KeepsRest a b) (o
   none_yet y r zero h = falls_none told
   none_yet y r (suc k) h = absurd h
 
-  pub none_taken : Acquires 0 (calls_of a) (begin d.plan.mode (calls_of a) v l) told told
-  none_taken = inr (way.none_more (calls_of a).taken)
+  pub none_taken : Acquires nests 0 (calls_of a) (begin d.plan.mode (calls_of a) v l) told told
+  none_taken = acquired nests 0 (calls_of a) (begin d.plan.mode (calls_of a) v l) told told (way.none_more (calls_of a).taken)
 
   pub first_goes : (e : Pc) → (e ≡ row → ⊥)
-      → ((f : Frame) → Leads d.plan.mode b.number (sight_of (terms_of d.plan) b.number None) row f x e Any) → Waits d v (lock_name l) e Any (starting a told) b told
+      → ((f : Frame) → Leads d.plan.mode b.number (sight_of (terms_of d.plan) b.number None) row f x e Any) → Waits d v (lock_name l) e Any (starting a nests told) b told
   first_goes e other leads =
-      way.goes d v (lock_name l) a b rest of (begin d.plan.mode (calls_of a) v l) x step row Any Outside (starting a told) first told
+      way.goes d v (lock_name l) a b rest of (begin d.plan.mode (calls_of a) v l) x step row Any Outside (starting a nests told) first told
       (passes_none _ (ledger_of a) (ledger_of a) refl) (falls_none told) none_yet none_taken e Any other (leads first.frame)
 
   pub first_takes : Queues v (lock_name l) → is_rw_row row ≡ false → ((f : Frame) → Ends d.plan.mode b.number (sight_of (terms_of d.plan) b.number None) row f x)
-      → Won false d v l (starting a told) b told
+      → Won false d v l (starting a nests told) b told
   first_takes queues spin ends =
-      way.wins d v (lock_name l) a b rest of (begin d.plan.mode (calls_of a) v l) x step row Any (starting a told) first told
+      way.wins d v (lock_name l) a b rest of (begin d.plan.mode (calls_of a) v l) x step row Any (starting a nests told) first told
       (passes_none _ (ledger_of a) (ledger_of a) refl) (falls_none told) none_yet none_taken (ends first.frame) queues spin
 
 -- a step that changed nothing
@@ -166,9 +166,6 @@ module _ (d : Domain) (v : Verb) (n : LockName) (a b : Cpu) (rest : KeepsRest a 
       subst (λ (w : View). IsOn (terms_of d.plan) b.number v n c P stage old w.calls) (sym same)
       (subst (λ (m : ℕ). IsOn (terms_of d.plan) m v n c P stage old (calls_of a)) (sym rest.same.number) at)
 
-  pub same_stands : StandsAs Outside d v n c P a → StandsAs Outside d v n c P b
-  same_stands w = (w.0, same_at Outside w.0 w.1)
-
   pub same_waits : (s : Start) (told : Option ℕ) → Waits d v n c P s a told → Waits d v n c P s b told
   same_waits s told w =
       record {
@@ -177,7 +174,7 @@ module _ (d : Domain) (v : Verb) (n : LockName) (a b : Cpu) (rest : KeepsRest a 
           passes = subst (Passes ((eqb n.index 0) || is_busy s.calls) s.ledger) (ap (λ (v : View). v.ledger) (sym same)) w.looked.passes;
           falls = w.looked.falls;
           stays = λ i h. w.looked.stays i (subst (λ (v : View). HasStayed i (newest v.calls.frames)) same h);
-          once = subst (λ (v : View). Acquires 0 s.calls v.calls s.told told) (sym same) w.looked.once;
+          once = subst (λ (v : View). Acquires s.nests 0 s.calls v.calls s.told told) (sym same) w.looked.once;
         };
         rises = λ x r i h. w.rises x r i (subst (λ (v : View). HasStayed i (newest v.calls.frames ++ mark c x r ∷ [])) same h);
       }
@@ -203,30 +200,10 @@ module _ (d : Domain) (v : Verb) (n : LockName) (a b : Cpu) (rest : KeepsRest a 
           passes = subst (Passes ((eqb n.index 0) || is_busy s.calls) s.ledger) (ap (λ (v : View). v.ledger) (sym same)) w.looked.passes;
           falls = w.looked.falls;
           stays = λ i h. w.looked.stays i (subst (λ (v : View). HasStayed i (newest v.calls.frames)) same h);
-          once = subst (λ (v : View). Acquires 0 s.calls v.calls s.told told) (sym same) w.looked.once;
+          once = recount s.nests 0 0 s.calls (calls_of a) (calls_of b) s.told told w.looked.once (λ e. ap (λ (v : View). v.calls.taken) same ∙ e);
         };
         rises = λ x r i h. w.rises x r i (subst (λ (v : View). HasStayed i (newest v.calls.frames ++ mark c x r ∷ [])) same h);
       }
-
-  abbrev pub counted_stands : StandsAs Outside d v n c P a → StandsAs Outside d v n c P b
-  counted_stands w = (
-    w.0,
-    record {
-      frame = w.1.frame;
-      trail = w.1.trail;
-      walk = subst (λ (p : ℕ). Walk (terms_of d.plan) p (begun d.plan.mode (length w.0.frames) v n.index) w.1.trail w.1.frame)
-          (sym rest.same.number) w.1.walk;
-      frames = ap (λ (v : View). v.calls.frames) same ∙ w.1.frames;
-      holds = ap (λ (v : View). v.calls.holds) same ∙ w.1.holds;
-      taken = let e = ap (λ (v : View). v.calls.taken) same in let t = w.1.taken in omega (arith, e, t);
-      place = w.1.place;
-      lock = w.1.lock;
-      ctx = w.1.ctx;
-      after = w.1.after;
-      free = w.1.free;
-      has = w.1.has;
-    },
-  )
 
 -- what the step calls ask of a call that goes on
 module _ (d : Domain) (v : Verb) (n : LockName) (c : Pc) (P : Frame → Type 0) (a : Cpu) (queues : Queues v n)
@@ -263,20 +240,20 @@ module _ (d : Domain) (v : Verb) (n : LockName) (c : Pc) (P : Frame → Type 0) 
   takes_in is = acts_in (takes_by v) (queues_swaps v n queues c is)
 
 -- nested calls leave a call where it is that has no lock yet, and it has polled
-pub polled : (d : Domain) (v : Verb) (n : LockName) (c : Pc) (P : Frame → Type 0) (s : Start) (a b : Cpu)
-    (before after : Option ℕ) → OwesPoll (waiter Outside d v n) c P s a before → KeepsRest a b → AreKept (calls_of a) (calls_of b)
-    → Passes (is_busy (calls_of a)) (ledger_of a) (ledger_of b) → Rises before after → Waits d v n c P s b after
-polled d v n c P s a b before after looked rest kept passes rose =
-    way.polled_at d v n c P Outside s a b before after looked refl (ap (λ hs. holds_in hs 0) looked.at.holds) rest kept passes rose
+pub polled : (d : Domain) (v : Verb) (n : LockName) (c : Pc) (P : Frame → Type 0) (s : Start) (a b : Cpu) (nests : Bool)
+    (before after : Option ℕ) → OwesPoll (waiter Outside d v n) c P s a before → GivesWay nests a before b after → s.nests ≡ nests
+    → Waits d v n c P s b after
+polled d v n c P s a b nests before after looked gave is =
+    way.polled_at d v n c P Outside s a b nests before after looked refl (ap (λ hs. holds_in hs 0) looked.at.holds) gave is
 
 -- nor one that has the wait lock
-pub polled_in : (d : Domain) (v : Verb) (l : ℕ) (c : Pc) (P : Frame → Type 0) (s : Start) (a b : Cpu)
-    (before after : Option ℕ) → OwesPoll (waiter Inside d v (wait_name l)) c P s a before → KeepsRest a b → AreKept (calls_of a) (calls_of b)
-    → Passes (is_busy (calls_of a)) (ledger_of a) (ledger_of b) → Rises before after → HasPolled (waiter Inside d v (wait_name l)) c P s b after
-polled_in d v l c P s a b before after looked rest kept passes rose =
-    way.polled_at d v (wait_name l) c P Inside s a b before after looked refl
+pub polled_in : (d : Domain) (v : Verb) (l : ℕ) (c : Pc) (P : Frame → Type 0) (s : Start) (a b : Cpu) (nests : Bool)
+    (before after : Option ℕ) → OwesPoll (waiter Inside d v (wait_name l)) c P s a before → GivesWay nests a before b after → s.nests ≡ nests
+    → HasPolled (waiter Inside d v (wait_name l)) c P s b after
+polled_in d v l c P s a b nests before after looked gave is =
+    way.polled_at d v (wait_name l) c P Inside s a b nests before after looked refl
     (ap (λ hs. holds_in hs 0) looked.at.holds.1
-    ∙ if-false (same_lock (wait_name l) (lock_name 0)) true (holds_in s.calls.holds 0) (other (eqb l 0))) rest kept passes rose
+    ∙ if-false (same_lock (wait_name l) (lock_name 0)) true (holds_in s.calls.holds 0) (other (eqb l 0))) gave is
   where
     other : (b : Bool) → (b && false) ≡ false
     other true = refl

@@ -24,7 +24,7 @@ use Rattle.lk_domain.specs.Calls.{terms_of, sight_of, read_at, grip_of, Mark, ma
 use Rattle.lk_domain.specs.Calls.{row_of, row_on, row_at, after, frames_after, taken_after, Grip, Unchanged, Takes}
 use Rattle.lk_domain.specs.Ledgers.{Ledger, turned}
 use Rattle.lk_domain.specs.NodePlays.{readies}
-use Rattle.lk_domain.specs.Paths.{next_frame, row_grip, HasTaken, AreKept, Any, Passes, is_busy}
+use Rattle.lk_domain.specs.Paths.{next_frame, row_grip, HasTaken, Any, Passes, is_busy}
 use Rattle.lk_domain.specs.Plays.{rowed, turned_of, turned_on, turned_at}
 use Rattle.lk_domain.specs.Rows.{queues_up, is_patient, looks_by, takes_by, is_watch, is_swap}
 use Rattle.lk_law.specs.Premises.{IsThen}
@@ -34,10 +34,10 @@ use Rattle.lk_domain.specs.Views.{own_number}
 use Rattle.lk_domain.specs.declared.cpu.Cpu.{Cpu}
 use Rattle.lk_domain.specs.declared.domain.Domain.{Domain}
 use Rattle.lk_domain.specs.declared.view.View.{View}
-use Rattle.lk_run.specs.Polls.{Rises, NeverFalls, RisesBy, HasStayed, Acquires}
+use Rattle.lk_run.specs.Polls.{NeverFalls, RisesBy, HasStayed, Acquires, GivesWay}
 use Rattle.lk_run.specs.Phases.{Start, newest, OwesPoll, HasPolled, Holds, Won, Queues, resumes}
 use Rattle.lk_run.specs.Standing.{Stage, Outside, Inside, IsOn, locks_at, waiter}
-use Rattle.lk_run.proofs.Polls.{rises_after, falls_after, stays_before, more_after, polled_by}
+use Rattle.lk_run.proofs.Polls.{rises_after, falls_after, stays_before, more_after, polled_by, recount}
 use Rattle.lk_run.proofs.Standing as path
 use Rattle.lk_run.proofs.Steps.{passes_none, passes_both, looked}
 
@@ -195,7 +195,7 @@ module _ (d : Domain) (v : Verb) (n : LockName) (a b : Cpu) (rest : KeepsRest a 
     (at : IsOn (terms_of d.plan) b.number v n c P stage s.calls was) (told : Option ℕ)
     (passes : Passes ((eqb n.index 0) || is_busy s.calls) s.ledger (ledger_of a)) (falls : NeverFalls s.told told)
     (rises : (y : Met) (r k : ℕ) → HasStayed k (newest was.frames ++ mark c y r ∷ []) → RisesBy k s.told told)
-    (once : Acquires (locks_at stage) s.calls was s.told told) where
+    (once : Acquires s.nests (locks_at stage) s.calls was s.told told) where
   abbrev mode' : Mode
   mode' = d.plan.mode
 
@@ -221,17 +221,11 @@ module _ (d : Domain) (v : Verb) (n : LockName) (a b : Cpu) (rest : KeepsRest a 
 
   -- how many locks it has taken after this row
   pub counts : (y : Grip) (m : ℕ) → row_grip mode' b.number z' c f' x ≡ y
-      → taken_after y was.taken ≡ was.taken + m → Acquires (locks_at stage + m) s.calls (calls_of b) s.told told
-  counts y m grip more = by once
-    where
-      now : (calls_of b).taken ≡ was.taken + m
-      now =
-          ap (λ (z : Calls). z.taken) (calls d v n a b rest of was x step c P stage s.calls at)
-          ∙ (path.count_after at x y grip ∙ more)
-
-      by : Acquires (locks_at stage) s.calls was s.told told → Acquires (locks_at stage + m) s.calls (calls_of b) s.told told
-      by (inl h) = inl h
-      by (inr e) = inr (omega (arith, now, e))
+      → taken_after y was.taken ≡ was.taken + m → Acquires s.nests (locks_at stage + m) s.calls (calls_of b) s.told told
+  counts y m grip more =
+      let now : (calls_of b).taken ≡ was.taken + m =
+      ap (λ (z : Calls). z.taken) (calls d v n a b rest of was x step c P stage s.calls at) ∙ (path.count_after at x y grip ∙ more) in
+      recount s.nests (locks_at stage) (locks_at stage + m) s.calls was (calls_of b) s.told told once (λ e. omega (arith, now, e))
 
   -- the ledger of a row that begins and ends no look
   pub passed : row_grip mode' b.number z' c f' x ≡ Unchanged → Passes ((eqb n.index 0) || is_busy s.calls) s.ledger (ledger_of b)
@@ -249,7 +243,7 @@ module _ (d : Domain) (v : Verb) (n : LockName) (a b : Cpu) (rest : KeepsRest a 
         passes = passed leads.grip;
         falls = falls;
         stays = polls_over (grows d v n a b rest of was x step c P stage s.calls at e leads.place);
-        once = subst (λ m. Acquires m s.calls (calls_of b) s.told told) (sym (none_more (locks_at stage)))
+        once = subst (λ m. Acquires s.nests m s.calls (calls_of b) s.told told) (sym (none_more (locks_at stage)))
             (counts Unchanged 0 leads.grip (none_more was.taken));
       }
 
@@ -267,7 +261,7 @@ module _ (d : Domain) (v : Verb) (n : LockName) (a b : Cpu) (rest : KeepsRest a 
     (at : IsOn (terms_of d.plan) b.number v n c P Outside s.calls was) (told : Option ℕ)
     (passes : Passes ((eqb n.index 0) || is_busy s.calls) s.ledger (ledger_of a)) (falls : NeverFalls s.told told)
     (rises : (y : Met) (r k : ℕ) → HasStayed k (newest was.frames ++ mark c y r ∷ []) → RisesBy k s.told told)
-    (once : Acquires 0 s.calls was s.told told)
+    (once : Acquires s.nests 0 s.calls was s.told told)
     (ends : Ends d.plan.mode b.number (sight_of (terms_of d.plan) b.number was.runs) c at.frame x) where
   wait_is : at.frame.lock.wait ≡ n.wait
   wait_is = ap (λ (z : LockName). z.wait) at.lock
@@ -328,11 +322,11 @@ module _ (d : Domain) (v : Verb) (n : LockName) (a b : Cpu) (rest : KeepsRest a 
       by true e = grants queues spin e
 
 -- nested calls leave the call where it is, and it has polled
-pub polled_at : (d : Domain) (v : Verb) (n : LockName) (c : Pc) (P : Frame → Type 0) (stage : Stage) (s : Start) (a b : Cpu)
+pub polled_at : (d : Domain) (v : Verb) (n : LockName) (c : Pc) (P : Frame → Type 0) (stage : Stage) (s : Start) (a b : Cpu) (nests : Bool)
     (before after : Option ℕ) → OwesPoll (waiter stage d v n) c P s a before → path.is_polled stage ≡ true
-    → holds_in (calls_of a).holds 0 ≡ holds_in s.calls.holds 0 → KeepsRest a b → AreKept (calls_of a) (calls_of b)
-    → Passes (is_busy (calls_of a)) (ledger_of a) (ledger_of b) → Rises before after → HasPolled (waiter stage d v n) c P s b after
-polled_at d v n c P stage s a b before after looked is same rest kept passes rose =
+    → holds_in (calls_of a).holds 0 ≡ holds_in s.calls.holds 0 → GivesWay nests a before b after → s.nests ≡ nests
+    → HasPolled (waiter stage d v n) c P s b after
+polled_at d v n c P stage s a b nests before after looked is same gave nests_is =
     let at = looked.at in
     let busy : is_busy (calls_of a) ≡ ((eqb n.index 0) || is_busy s.calls) =
     (λ i. same i || waits_in (at.frames i) 0)
@@ -340,15 +334,15 @@ polled_at d v n c P stage s a b before after looked is same rest kept passes ros
     ∙ by (holds_in s.calls.holds 0) (eqb n.index 0) (waits_in s.calls.frames 0)) in
     record {
       looked = record {
-        at = subst (λ (m : ℕ). IsOn (terms_of d.plan) m v n c P stage s.calls (calls_of b)) (sym rest.same.number) (path.kept at is kept);
+        at = subst (λ (m : ℕ). IsOn (terms_of d.plan) m v n c P stage s.calls (calls_of b)) (sym gave.rest.same.number) (path.kept at is gave.calls);
         passes = passes_both ((eqb n.index 0) || is_busy s.calls) s.ledger (ledger_of a) (ledger_of b) looked.passes
-            (subst (λ z. Passes z (ledger_of a) (ledger_of b)) busy passes);
-        falls = falls_after s.told before after looked.falls rose;
-        stays = λ k h. more_after k s.told before after (looked.stays k (subst (λ xs. HasStayed k (newest xs)) kept.frames h)) rose;
-        once = inl (rises_after s.told before after looked.falls rose);
+            (subst (λ z. Passes z (ledger_of a) (ledger_of b)) busy gave.ledger);
+        falls = falls_after s.told before after looked.falls gave.polls;
+        stays = λ k h. more_after k s.told before after (looked.stays k (subst (λ xs. HasStayed k (newest xs)) gave.calls.frames h)) gave.polls;
+        once = counted_by s.nests nests_is looked.once;
       };
-      rises = λ y r k h. polled_by k (newest (calls_of a).frames) (mark c y r) s.told before after looked.stays rose
-          (subst (λ xs. HasStayed k (newest xs ++ mark c y r ∷ [])) kept.frames h);
+      rises = λ y r k h. polled_by k (newest (calls_of a).frames) (mark c y r) s.told before after looked.stays gave.polls
+          (subst (λ xs. HasStayed k (newest xs ++ mark c y r ∷ [])) gave.calls.frames h);
     }
   where
     by : (x y z : Bool) → (x || (if y then true else z)) ≡ (y || (x || z))
@@ -356,6 +350,11 @@ polled_at d v n c P stage s a b before after looked is same rest kept passes ros
     by true false z = refl
     by false true z = refl
     by false false z = refl
+
+    counted_by : (q : Bool) → q ≡ nests → Acquires q (locks_at stage) s.calls (calls_of a) s.told before
+        → Acquires q (locks_at stage) s.calls (calls_of b) s.told after
+    counted_by true e once = inl (rises_after s.told before after looked.falls gave.polls)
+    counted_by false e once = ap (λ (z : Calls). z.taken) (gave.quiet (sym e)) ∙ once
 
 -- private stores before the row that takes a node change nothing of what the row does
 pub ready_row : (n : ℕ) (m : View) (v : Verb) (f : Frame) (t : List Mark) (rs : List Running) (x : ℕ)

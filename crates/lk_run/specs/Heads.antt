@@ -1,13 +1,15 @@
 -- The words of `Words` for a call at the head of the queue, and what its frame has at each place.
-use Rattle.std.specs.Prelude.{ℕ, Option}
+use Rattle.std.specs.Prelude.{Option}
 use Rattle.lk_word.specs.declared.spin_word.NodeName.{NodeName}
 use Rattle.lk_rows.specs.declared.parts.Frame.{Frame}
 use Rattle.lk_rows.specs.declared.parts.Pc.{Pc}
 use Rattle.lk_domain.specs.Words.{IsNode}
 use Rattle.lk_domain.specs.declared.cpu.Cpu.{Cpu}
 use Rattle.lk_run.specs.Frames as frame
+use Rattle.lk_run.specs.Resting as rest
 use Rattle.lk_run.specs.Words as call
 use Rattle.lk_run.specs.declared.call.Front.{Front}
+use Rattle.lk_run.specs.declared.rest.Rest.{Rest}
 
 -- the node is one of the domain
 abbrev pub IsNodeOf : Front → NodeName → Type 0
@@ -55,9 +57,6 @@ Promoting first t h = frame.Promoting h.own first t
 abbrev pub At : Front → Pc → (Front → Frame → Type 0) → Cpu → Type 0
 At h c P cpu = call.At h.call c (P h) cpu
 
-abbrev pub Waiting : Front → Pc → (Front → Frame → Type 0) → Cpu → Option ℕ → Type 0
-Waiting h c P cpu told = call.Waiting h.call c (P h) cpu told
-
 abbrev pub Steps : Front → Pc → (Front → Frame → Type 0) → Pc → (Front → Frame → Type 0) → Cpu
     → Cpu → Type 0
 Steps h a P b Q old new = call.Steps h.call a (P h) b (Q h) old new
@@ -72,5 +71,5 @@ Looks h a P old new = call.LooksOn h.call a (P h) (P h) old new
 abbrev pub Takes : Front → Pc → (Front → Frame → Type 0) → Cpu → Cpu → Type 0
 Takes h a P old new = call.Takes h.call a (P h) old new
 
-abbrev pub Wins : Front → Pc → (Front → Frame → Type 0) → Cpu → Option ℕ → Cpu → Option ℕ → Type 0
-Wins h a P old before new after = call.Wins h.call a (P h) old before new after
+abbrev pub Turns : Front → Pc → (Front → Frame → Type 0) → Option Rest → Cpu → Cpu → Type 0
+Turns h a P next old new = rest.Turns h.call a (P h) next old new

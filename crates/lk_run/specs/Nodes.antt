@@ -1,13 +1,15 @@
 -- The words of `Words` for a call with its node, and what its frame has at each place.
-use Rattle.std.specs.Prelude.{ℕ, Option}
+use Rattle.std.specs.Prelude.{Option}
 use Rattle.lk_word.specs.declared.spin_word.NodeName.{NodeName}
 use Rattle.lk_rows.specs.declared.parts.Frame.{Frame}
 use Rattle.lk_rows.specs.declared.parts.Pc.{Pc}
 use Rattle.lk_domain.specs.Words.{IsNode}
 use Rattle.lk_domain.specs.declared.cpu.Cpu.{Cpu}
 use Rattle.lk_run.specs.Frames as frame
+use Rattle.lk_run.specs.Resting as rest
 use Rattle.lk_run.specs.Words as call
 use Rattle.lk_run.specs.declared.call.Queued.{Queued}
+use Rattle.lk_run.specs.declared.rest.Rest.{Rest}
 
 -- the node is one of the domain
 abbrev pub IsNodeOf : Queued → NodeName → Type 0
@@ -29,9 +31,6 @@ Fronts second q = frame.Fronts q.own second
 abbrev pub At : Queued → Pc → (Queued → Frame → Type 0) → Cpu → Type 0
 At q c P cpu = call.At q.call c (P q) cpu
 
-abbrev pub Waiting : Queued → Pc → (Queued → Frame → Type 0) → Cpu → Option ℕ → Type 0
-Waiting q c P cpu told = call.Waiting q.call c (P q) cpu told
-
 abbrev pub Steps : Queued → Pc → (Queued → Frame → Type 0) → Pc → (Queued → Frame → Type 0) → Cpu
     → Cpu → Type 0
 Steps q a P b Q old new = call.Steps q.call a (P q) b (Q q) old new
@@ -42,6 +41,5 @@ Looks q a P old new = call.Looks q.call a (P q) old new
 abbrev pub Takes : Queued → Pc → (Queued → Frame → Type 0) → Cpu → Cpu → Type 0
 Takes q a P old new = call.Takes q.call a (P q) old new
 
-abbrev pub Wins : Queued → Pc → (Queued → Frame → Type 0) → Cpu → Option ℕ → Cpu → Option ℕ
-    → Type 0
-Wins q a P old before new after = call.Wins q.call a (P q) old before new after
+abbrev pub Turns : Queued → Pc → (Queued → Frame → Type 0) → Option Rest → Cpu → Cpu → Type 0
+Turns q a P next old new = rest.Turns q.call a (P q) next old new

@@ -27,11 +27,12 @@ use Rattle.lk_run.specs.Polls.{NeverFalls, RisesBy, HasStayed, IsPolled, Acquire
 use Rattle.lk_run.specs.Standing.{Stage, Outside, Inside, Entered, Waiter, waiter, IsOn, locks_at}
 use Rattle.lk_run.specs.Entering.{PathTo, HasEntered}
 
--- what was there when the call began: the processor's calls, what it knew of the ledger, and what
--- the interrupt source told
+-- what was there when the call began: the processor's calls, what it knew of the ledger, whether what
+-- interrupts the call may make calls itself, and what the interrupt source told of its polls
 pub record Start : Type 0 where
   pub calls : Calls
   pub ledger : Ledger
+  pub nests : Bool
   pub told : Option ℕ
 
 -- The operation may queue for the lock of this name: `lock` for the lock itself, and a reader or a
@@ -76,7 +77,7 @@ pub record OwesPoll (w : Waiter) (c : Pc) (P : Frame → Type 0) (s : Start) (cp
   pub passes : Passes ((w.lock.index == 0) || is_busy s.calls) s.ledger (ledger_of cpu)
   pub falls : NeverFalls s.told told
   pub stays : (k : ℕ) → HasStayed k (newest (calls_of cpu).frames) → RisesBy k s.told told
-  pub once : Acquires (locks_at w.stage) s.calls (calls_of cpu) s.told told
+  pub once : Acquires s.nests (locks_at w.stage) s.calls (calls_of cpu) s.told told
 
 -- and after the last one too
 pub record HasPolled (w : Waiter) (c : Pc) (P : Frame → Type 0) (s : Start) (cpu : Cpu)
@@ -97,7 +98,7 @@ pub record Holds (domain : Domain) (v : Verb) (l : ℕ) (manner : Manner) (s : S
   pub taken : HasTaken (terms_of domain.plan) cpu.number v l manner s.calls (calls_of cpu)
   pub look : HasLooked l manner s.calls (calls_of cpu).last s.ledger (ledger_of cpu)
   pub polled : IsPolled (calls_of cpu).last s.told told
-  pub once : Acquires 1 s.calls (calls_of cpu) s.told told
+  pub once : Acquires s.nests 1 s.calls (calls_of cpu) s.told told
 
 -- it has entered its reader-writer lock, by a row after which it may have freed the wait lock; it
 -- has taken that too, then
@@ -107,8 +108,8 @@ pub record CameIn (domain : Domain) (v : Verb) (l : ℕ) (manner : Manner) (s : 
   pub entered : HasEntered (terms_of domain.plan) cpu.number v l manner upto s.calls (calls_of cpu)
   pub look : HasLooked l manner s.calls upto s.ledger (ledger_of cpu)
   pub polled : IsPolled (calls_of cpu).last s.told told
-  pub once : Acquires (1 + (length (calls_of cpu).last - length upto)) s.calls (calls_of cpu) s.told
-      told
+  pub once : Acquires s.nests (1 + (length (calls_of cpu).last - length upto)) s.calls
+      (calls_of cpu) s.told told
 
 -- it has entered it, and is about to free the wait lock
 pub record HasPassed (t : Terms) (p : ℕ) (v : Verb) (l : ℕ) (manner : Manner) (s : Start)
@@ -120,15 +121,16 @@ pub record HasPassed (t : Terms) (p : ℕ) (v : Verb) (l : ℕ) (manner : Manner
   pub falls : NeverFalls s.told told
   pub rises : (x : Met) (n k : ℕ) → HasStayed k (at.trail ++ mark U1 x n ∷ [])
       → RisesBy k s.told told
-  pub once : Acquires 2 s.calls calls s.told told
+  pub once : Acquires s.nests 2 s.calls calls s.told told
 
 abbrev pub Passed : Domain → Verb → ℕ → Manner → Start → Cpu → Option ℕ → Type 0
 Passed domain v l manner s cpu told =
     HasPassed (terms_of domain.plan) cpu.number v l manner s (calls_of cpu) (ledger_of cpu) told
 
 -- a call that begins now
-abbrev pub starting : Cpu → Option ℕ → Start
-starting cpu told = record { calls = calls_of cpu; ledger = ledger_of cpu; told = told }
+abbrev pub starting : Cpu → Bool → Option ℕ → Start
+starting cpu nests told =
+    record { calls = calls_of cpu; ledger = ledger_of cpu; nests = nests; told = told }
 
 -- The call has the lock for which it queued: its lock, and then it is over, or the wait lock, and
 -- then it goes on.

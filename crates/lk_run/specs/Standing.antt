@@ -1,5 +1,5 @@
 -- Where a call stands that waits, and what of its lock it has already.
-use Rattle.std.specs.Prelude.{◌≡◌, ℕ, ◌≤◌, true, List, ◌∷◌, length, Some, None}
+use Rattle.std.specs.Prelude.{◌≡◌, ℕ, ◌+◌, ◌≤◌, true, List, ◌∷◌, length, Some, None}
 use Rattle.lk_abs.specs.declared.holder.Manner.{Manner}
 use Rattle.lk_abs.specs.declared.holder.Manner.TheVariants.{Spins}
 use Rattle.lk_abs.specs.declared.names.LockName.{LockName}
@@ -44,8 +44,8 @@ HoldsAt (Entered m) c n old new =
 
 -- The call v of the processor p, which began where its calls were the old ones, stands at the row c
 -- and at this stage. Its frame acts on the lock of the name n, and meets the condition; where that is
--- a wait lock it knows where it goes on when it has that. And a call that may take the wait lock did
--- not hold it when it began.
+-- a wait lock it knows where it goes on when it has that. It has taken the locks of its stage since it
+-- began, and a call that may take the wait lock did not hold that then.
 pub record IsOn (t : Terms) (p : ℕ) (v : Verb) (n : LockName) (c : Pc)
     (condition : Frame → Type 0) (stage : Stage) (old new : Calls) : Type 0 where
   pub frame : Frame
@@ -53,7 +53,7 @@ pub record IsOn (t : Terms) (p : ℕ) (v : Verb) (n : LockName) (c : Pc)
   pub walk : Walk t p (begun t.mode (length old.frames) v n.index) trail frame
   pub frames : new.frames ≡ running v frame trail ∷ old.frames
   pub holds : HoldsAt stage (length old.frames) n old.holds new
-  pub taken : old.taken ≤ new.taken
+  pub taken : old.taken + locks_at stage ≤ new.taken
   pub place : frame.place ≡ Some c
   pub lock : frame.lock ≡ n
   pub ctx : frame.ctx ≡ length old.frames

@@ -1,5 +1,5 @@
--- What contracts say of a reader or a writer that waits: where it stands, and what a row, or a path of
--- rows, does. `Words` says the same of a call that queues.
+-- What contracts say of a reader or a writer that waits: where it stands, and what a row does. `Words`
+-- says the same of a call that queues.
 use Rattle.std.specs.Prelude.{ℕ, Option}
 use Rattle.lk_rows.specs.declared.parts.Pc.{Pc}
 use Rattle.lk_domain.specs.Paths.{Any}
@@ -23,12 +23,6 @@ pub record At (w : Waiter) (c : Pc) (cpu : Cpu) : Type 0 where
   pub told : Option ℕ
   pub waits : Waits w c start cpu told
 
--- and this is what the source tells
-pub record Waiting (w : Waiter) (c : Pc) (cpu : Cpu) (told : Option ℕ) : Type 0 where
-  pub domain : IsOf cpu w.domain
-  pub start : Start
-  pub waits : Waits w c start cpu told
-
 -- a row leads from a to b
 pub record Steps (w : Waiter) (a b : Pc) (old new : Cpu) : Type 0 where
   pub rest : KeepsRest old new
@@ -44,16 +38,3 @@ pub record Gets (w : Waiter) (a : Pc) (Wanted : Start → Cpu → Option ℕ →
     : Type 0 where
   pub rest : KeepsRest old new
   pub has : (s : Start) (told : Option ℕ) → Waits w a s old told → Wanted s new told
-
--- A path, while what the source tells goes from `before` to `after`: from a to b, and from a to what
--- is wanted.
-
-pub record Goes (w : Waiter) (a b : Pc) (old : Cpu) (before : Option ℕ) (new : Cpu)
-    (after : Option ℕ) : Type 0 where
-  pub rest : KeepsRest old new
-  pub goes : (s : Start) → Waits w a s old before → Waits w b s new after
-
-pub record Earns (w : Waiter) (a : Pc) (Wanted : Start → Cpu → Option ℕ → Type 0) (old : Cpu)
-    (before : Option ℕ) (new : Cpu) (after : Option ℕ) : Type 0 where
-  pub rest : KeepsRest old new
-  pub has : (s : Start) → Waits w a s old before → Wanted s new after

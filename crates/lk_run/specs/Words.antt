@@ -1,5 +1,4 @@
--- What contracts say of a call that queues: where it stands, and what a row, or a path of rows, does.
--- A path lasts until the call has the lock for which it queued.
+-- What contracts say of a call that queues: where it stands, and what a row does.
 use Rattle.std.specs.Prelude.{◌≡◌, ℕ, Option}
 use Rattle.lk_word.specs.declared.spin_word.NodeName.{NodeName}
 use Rattle.lk_rows.specs.declared.parts.Frame.{Frame}
@@ -38,12 +37,6 @@ pub record At (w : Call) (c : Pc) (P : Frame → Type 0) (cpu : Cpu) : Type 0 wh
   pub told : Option ℕ
   pub waits : Waits w c P start cpu told
 
--- and this is what the source tells
-pub record Waiting (w : Call) (c : Pc) (P : Frame → Type 0) (cpu : Cpu) (told : Option ℕ) : Type 0 where
-  pub domain : IsOf cpu w.domain.now
-  pub start : Start
-  pub waits : Waits w c P start cpu told
-
 -- a row leads from a to b
 pub record Steps (w : Call) (a : Pc) (P : Frame → Type 0) (b : Pc) (Q : Frame → Type 0)
     (old new : Cpu) : Type 0 where
@@ -63,33 +56,8 @@ pub record Takes (w : Call) (a : Pc) (P : Frame → Type 0) (old new : Cpu) : Ty
   pub rest : KeepsRest old new
   pub has : (s : Start) (told : Option ℕ) → Waits w a P s old told → Has w s new told
 
--- A path, while what the source tells goes from `before` to `after`: from a to b, and from a until the
--- call has the lock.
-
-pub record Goes (w : Call) (a : Pc) (P : Frame → Type 0) (b : Pc) (Q : Frame → Type 0)
-    (old : Cpu) (before : Option ℕ) (new : Cpu) (after : Option ℕ) : Type 0 where
-  pub rest : KeepsRest old new
-  pub goes : (s : Start) → Waits w a P s old before → Waits w b Q s new after
-
-pub record Wins (w : Call) (a : Pc) (P : Frame → Type 0) (old : Cpu) (before : Option ℕ)
-    (new : Cpu) (after : Option ℕ) : Type 0 where
-  pub rest : KeepsRest old new
-  pub has : (s : Start) → Waits w a P s old before → Has w s new after
-
 -- the call has met a word by its first row that was not free, and goes on by it
-
 pub record Meets (w : Call) (met : ℕ) (old new : Cpu) : Type 0 where
   pub rest : KeepsRest old new
   pub arrives : (s : Start) (told : Option ℕ) → Waits w F1 Any s old told
       → Arrives w.domain.now w.verb w.lock met s new told
-
-pub record Arriving (w : Call) (met : ℕ) (cpu : Cpu) (told : Option ℕ) : Type 0 where
-  pub domain : IsOf cpu w.domain.now
-  pub start : Start
-  pub arrives : Arrives w.domain.now w.verb w.lock met start cpu told
-
--- and from there until it has the lock
-pub record Won (w : Call) (met : ℕ) (old : Cpu) (before : Option ℕ) (new : Cpu)
-    (after : Option ℕ) : Type 0 where
-  pub rest : KeepsRest old new
-  pub has : (s : Start) → Arrives w.domain.now w.verb w.lock met s old before → Has w s new after

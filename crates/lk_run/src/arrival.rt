@@ -1,6 +1,6 @@
 // The rows of a call on its way into the queue, one step each, and those of one without a node. The
 // comments show a word as (queue tail, pending, locked).
-ghost use Rattle.std.specs.Prelude.{◌≡◌, ◌≢◌, ◌≤◌, true, false, IfSome, None};
+ghost use Rattle.std.specs.Prelude.{◌≡◌, ◌≢◌, ◌≤◌, ℕ, true, false, None};
 ghost use Rattle.lk_rows.specs.declared.parts.Pc.TheVariants.{G1, G2, G3, G4, G5, G6, G7, N1};
 ghost use Rattle.lk_rows.specs.declared.parts.Pc.TheVariants.{N2};
 ghost use Rattle.lk_rows.specs.declared.parts.Flag.TheVariants.{Unset};
@@ -8,17 +8,19 @@ ghost use Rattle.lk_law.specs.Cna.{node_in};
 ghost use Rattle.lk_domain.specs.Calls.{slows};
 ghost use Rattle.lk_domain.specs.NodePlays.{IsFlagNode};
 ghost use Rattle.lk_domain.specs.Paths.{Any};
-ghost use Rattle.lk_domain.specs.Seats.{calls_of};
+ghost use Rattle.lk_domain.specs.Seats.{KeepsRest, calls_of, view_of};
 ghost use Rattle.lk_run.specs.Nodes.{At, Steps, Looks, Takes, IsNodeOf, Owns, Follows, Fronts};
 ghost use Rattle.lk_run.specs.Words as call;
 ghost use Rattle.lk_run.specs.Words.{IsNext};
+ghost use Rattle.lk_run.specs.declared.tail.Tail.TheVariants.{First, Behind, Other};
+ghost use Rattle.lk_word.specs.declared.spin_word.NodeName.{NodeName};
 
 use crate::call::{Call, Queued};
+use crate::tail::Tail;
 use crate::words::{flag_met, moves_waiters, word_met};
 use lk_domain::{Cpu, Link, Part, steps};
 use lk_rows::Flag;
 use lk_word::NodeName;
-use std::sync::Wait;
 
 impl<'a> Queued<'a> {
     // The row G1 with a node: its flag is unset and its link is none. Where waiters are moved aside,
@@ -60,36 +62,29 @@ impl<'a> Queued<'a> {
         steps::take_free(cpu, self.call.domain, self.call.verb, self.call.lock)
     }
 
-    // The row G4: gives the old tail.
+    // The row G4, where the word is the expected one.
     //   (0, *, *) -> (own, *, *): there was no queue, and the call is its head.
     //   (prev, *, *) -> (own, *, *): prev is its predecessor, and that of nobody else, since the
     //   next call to come finds this one's node.
-    // The whole word is exchanged, so it is tried until it met the expected one; where it met
-    // another, nothing has changed.
-    pub(crate) fn exchange_tail<R: Wait>(
-        &self,
-        cpu: &mut Cpu,
-        rt: &R,
-        expected: u64,
-    ) -> Option<NodeName>
+    // The whole word is exchanged; where it met another word, nothing has changed.
+    pub(crate) fn exchange_tail(&self, cpu: &mut Cpu, expected: u64) -> Tail
         requires { At self.now G4 Owns cpu.old }
-        ensures node { IfSome result (IsNodeOf self.now) }
-        ensures first { result ≡ None → Steps self.now G4 Owns G7 (Fronts None) cpu.old cpu.new }
-        ensures behind { IfSome result (λ prev.
-            Steps self.now G4 Owns G5 (Follows prev) cpu.old
-            cpu.new) }
+        ensures rest { KeepsRest cpu.old cpu.new }
+        ensures first { result ≡ First → Steps self.now G4 Owns G7 (Fronts None) cpu.old cpu.new }
+        ensures node { (prev : NodeName) → result ≡ Behind prev → IsNodeOf self.now prev }
+        ensures behind { (prev : NodeName) → result ≡ Behind prev
+            → Steps self.now G4 Owns G5 (Follows prev) cpu.old cpu.new }
+        ensures stays { (met : ℕ) → result ≡ Other met → view_of cpu.new ≡ view_of cpu.old }
     {
         let call = self.call;
-        let own = self.own;
-        let mut expected = expected;
-        for _ in rt.forever() {
-            let met = steps::exchange_tail(cpu, call.domain, call.lock, expected, own);
-            if met == expected {
-                return word_met(call.domain, met).tail;
-            }
-            expected = met;
+        let met = steps::exchange_tail(cpu, call.domain, call.lock, expected, self.own);
+        if met != expected {
+            return Tail::Other(met);
         }
-        unreachable!()
+        match word_met(call.domain, met).tail {
+            Some(prev) => Tail::Behind(prev),
+            None => Tail::First,
+        }
     }
 
     // The row G5: the link of prev, none -> own, with a mark where the call is in a context above

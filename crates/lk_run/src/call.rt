@@ -41,15 +41,6 @@ pub(crate) struct Front<'a> {
     ghost aside: { ForSome second (IsNode call.domain.now.plan) },
 }
 
-// Those that a head has passed over, from the first to the last. The mark is that of the link in
-// which the head met the first.
-#[derive(Clone, Copy)]
-pub(crate) struct Skipped {
-    pub(crate) first: NodeName,
-    pub(crate) mark: bool,
-    pub(crate) last: NodeName,
-}
-
 // A reader whose first row found no way in. The name is that of its lock.
 #[derive(Clone, Copy)]
 pub(crate) struct Reader<'a> {

@@ -1,82 +1,96 @@
-// A queue head that has the lock, from each place of its choice until it has handed off. It polls
-// the interrupt source after each read that leaves it at the same row.
-ghost use Rattle.std.specs.Prelude.{◌≡◌, IfSome, None, Some, true, false};
+// A queue head that has the lock, from each place of its choice until it has handed off, or up to
+// the next look that leaves it at the same row.
+ghost use Rattle.std.specs.Prelude.{IfSome, None, Some};
 ghost use Rattle.lk_rows.specs.declared.parts.Pc.TheVariants.{C1, C2, C3, C5, C7};
-ghost use Rattle.lk_run.specs.Heads.{At, Steps, Takes, Waiting, Wins, IsNodeOf, Fronts};
-ghost use Rattle.lk_run.specs.Heads.{FrontsWith, Precedes, Skips, Appends, Parts, Flushes};
-ghost use Rattle.lk_run.specs.Heads.{Promotes};
+ghost use Rattle.lk_run.specs.Heads.{At, Takes, IsNodeOf, Fronts, Turns};
+ghost use Rattle.lk_run.specs.Heads.{Precedes, Skips, Appends, Parts, Flushes};
 ghost use Rattle.lk_run.specs.Phases.{Knows};
 
-use crate::call::{Front, Skipped};
-use crate::irq::{Irq, give_way};
-use crossbeam_utils::Backoff;
+use crate::call::Front;
+use crate::rest::{Head, Passing, Rest, Skipped};
 use lk_domain::Cpu;
 use lk_rows::{First, More};
 use lk_word::NodeName;
-use std::sync::Wait;
 
 impl<'a> Front<'a> {
-    // From C1, until it has chosen its successor and handed off.
-    pub(crate) fn choose<I: Irq, R: Wait>(&self, cpu: &mut Cpu, rt: &R, irq: &mut I)
-        requires { Waiting self.now C1 Fronts cpu.old (I.polls irq.old) }
-        ensures { Wins self.now C1 Fronts cpu.old (I.polls irq.old) cpu.new (I.polls irq.new) }
+    // From C1: it looks behind itself.
+    pub(crate) fn choose(&self, cpu: &mut Cpu) -> Option<Rest>
+        requires { At self.now C1 Fronts cpu.old }
+        ensures { Turns self.now C1 Fronts result cpu.old cpu.new }
     {
-        let backoff = Backoff::new();
-        for _ in rt.forever() {
-            let behind = self.look_first(cpu);
-            match behind.seen {
-                First::Waits => give_way(cpu, rt, self.call.domain, irq, &backoff),
-                First::Promotes(first) => {
-                    let t = self.find_tail(cpu, first);
-                    if self.promote(cpu, t) {
-                        return self.give(cpu, None, first);
-                    }
+        let behind = self.look_first(cpu);
+        match behind.seen {
+            First::Waits => Some(Rest::Chooses(Head {
+                own: self.own,
+                second: self.second,
+            })),
+            First::Promotes(first) => {
+                let t = self.find_tail(cpu, first);
+                if self.promote(cpu, t) {
+                    self.give(cpu, None, first);
+                    return None;
                 }
-                First::Chooses(y) => return self.give(cpu, self.second, y),
-                First::Skips(a) => {
-                    let skipped = Skipped {
-                        first: a,
-                        mark: behind.mark,
-                        last: a,
-                    };
-                    return self.pass_over(cpu, rt, irq, skipped);
-                }
-                First::Flushes(first, a) => return self.flush(cpu, first, a, behind.mark),
+                Some(Rest::Chooses(Head {
+                    own: self.own,
+                    second: self.second,
+                }))
+            }
+            First::Chooses(y) => {
+                self.give(cpu, self.second, y);
+                None
+            }
+            First::Skips(a) => {
+                let skipped = Skipped {
+                    first: a,
+                    mark: behind.mark,
+                    last: a,
+                };
+                self.pass_over(cpu, skipped)
+            }
+            First::Flushes(first, a) => {
+                self.flush(cpu, first, a, behind.mark);
+                None
             }
         }
-        unreachable!()
     }
 
     // From C2: it has passed over some waiters, and looks for a local waiter behind them.
-    fn pass_over<I: Irq, R: Wait>(&self, cpu: &mut Cpu, rt: &R, irq: &mut I, skipped: Skipped)
+    pub(crate) fn pass_over(&self, cpu: &mut Cpu, skipped: Skipped) -> Option<Rest>
         requires first { IsNodeOf self.now skipped.first }
         requires last { IsNodeOf self.now skipped.last }
-        requires waits { Waiting self.now C2 (Skips skipped.first skipped.last) cpu.old (I.polls
-            irq.old) }
+        requires waits { At self.now C2 (Skips skipped.first skipped.last) cpu.old }
         requires knows { Knows skipped.first skipped.mark cpu.old }
-        ensures { Wins self.now C2 (Skips skipped.first skipped.last) cpu.old (I.polls irq.old)
-            cpu.new (I.polls irq.new) }
+        ensures { Turns self.now C2 (Skips skipped.first skipped.last) result cpu.old cpu.new }
     {
-        let backoff = Backoff::new();
-        let mut b = skipped.last;
-        for _ in rt.forever() {
-            match self.look_more(cpu, b) {
-                More::Skips(next) => {
-                    b = next;
-                    give_way(cpu, rt, self.call.domain, irq, &backoff);
-                }
-                More::Appends(first, y) => {
-                    let all = Skipped { last: b, ..skipped };
-                    return self.append(cpu, first, all, y);
-                }
-                More::Begins(y) => return self.part(cpu, skipped.first, b, y),
-                More::Flushes(first) => {
-                    return self.flush(cpu, first, skipped.first, skipped.mark);
-                }
-                More::Chooses => return self.give(cpu, self.second, skipped.first),
+        match self.look_more(cpu, skipped.last) {
+            More::Skips(next) => {
+                let head = Head {
+                    own: self.own,
+                    second: self.second,
+                };
+                let skipped = Skipped {
+                    last: next,
+                    ..skipped
+                };
+                Some(Rest::Passes(Passing { head, skipped }))
+            }
+            More::Appends(first, y) => {
+                self.append(cpu, first, skipped, y);
+                None
+            }
+            More::Begins(y) => {
+                self.part(cpu, skipped.first, skipped.last, y);
+                None
+            }
+            More::Flushes(first) => {
+                self.flush(cpu, first, skipped.first, skipped.mark);
+                None
+            }
+            More::Chooses => {
+                self.give(cpu, self.second, skipped.first);
+                None
             }
         }
-        unreachable!()
     }
 
     // From C3: it moves the waiters that it has passed over behind the secondary queue, and hands

@@ -7,12 +7,12 @@ ghost use Rattle.lk_law.specs.Sound.{takes_wait};
 ghost use Rattle.lk_domain.specs.Paths.{Any};
 ghost use Rattle.lk_domain.specs.Seats.{IsOf, KeepsRest};
 ghost use Rattle.lk_run.specs.Phases.{Start, Passed, CameIn};
-ghost use Rattle.lk_run.specs.Words.{At, Waiting, Takes, Wins, Meets};
+ghost use Rattle.lk_run.specs.Resting.{Turns};
+ghost use Rattle.lk_run.specs.Words.{At, Takes, Meets};
 
 use crate::call::Call;
-use crate::irq::Irq;
+use crate::rest::Rest;
 use lk_domain::{Cpu, steps};
-use std::sync::Wait;
 
 impl<'a> Call<'a> {
     // The row F1: gives the word that it met, 0 where it took the wait lock.
@@ -26,16 +26,16 @@ impl<'a> Call<'a> {
         steps::take_free(cpu, self.domain, self.verb, self.lock)
     }
 
-    // From F1 until it has the wait lock.
-    pub(crate) fn acquire<I: Irq, R: Wait>(&self, cpu: &mut Cpu, rt: &R, irq: &mut I)
-        requires { Waiting self.now F1 Any cpu.old (I.polls irq.old) }
-        ensures { Wins self.now F1 Any cpu.old (I.polls irq.old) cpu.new (I.polls irq.new) }
+    // From F1: `None` says that it has the wait lock.
+    pub(crate) fn begin(&self, cpu: &mut Cpu) -> Option<Rest>
+        requires { At self.now F1 Any cpu.old }
+        ensures { Turns self.now F1 Any result cpu.old cpu.new }
     {
         let met = self.fast(cpu);
         if met == 0 {
-            return;
+            return None;
         }
-        self.contend(cpu, rt, irq, met);
+        self.contend(cpu, met)
     }
 
     // The row U1: (n, p, 1) -> (n, p, 0), on the wait lock. The call has its lock, and the next one

@@ -1,16 +1,20 @@
 // What may interrupt a call that waits.
-ghost use Rattle.std.specs.Prelude.{ℕ, Option, None};
+ghost use Rattle.std.specs.Prelude.{◌≡◌, ℕ, Bool, false, Option, None};
 ghost use Rattle.lk_domain.specs.Paths.{AreKept, Passes, is_busy};
 ghost use Rattle.lk_domain.specs.Seats.{IsOf, KeepsRest, calls_of, ledger_of};
-ghost use Rattle.lk_run.specs.Polls.{Rises};
+ghost use Rattle.lk_run.specs.Polls.{Rises, GivesWay};
 
 use crossbeam_utils::Backoff;
 use lk_domain::{Cpu, Domain};
+use lk_rows::Pc;
 use std::sync::Wait;
 
 /// An interrupt source: what may run on a processor while a call waits there. Its handler may
 /// acquire other locks on that processor, and must release each of them before it returns.
 pub trait Irq {
+    // Whether its handler may make calls on locks. `lock` then says that it took one lock, unless a
+    // handler ran; where this is false, it says so without condition.
+    ghost nests: { Bool };
     // How often it was polled, up to the last value of a `u64`, where it tells it. It tells it
     // always, or never.
     ghost polls: { Self → Option ℕ };
@@ -24,7 +28,8 @@ pub trait Irq {
         ensures calls { AreKept (calls_of cpu.old) (calls_of cpu.new) }
         ensures ledger { Passes (is_busy (calls_of cpu.old)) (ledger_of cpu.old)
             (ledger_of cpu.new) }
-        ensures polls { Rises (polls self.old) (polls self.new) };
+        ensures polls { Rises (polls self.old) (polls self.new) }
+        ensures quiet { nests ≡ false → calls_of cpu.new ≡ calls_of cpu.old };
 }
 
 /// An interrupt source that never interrupts.
@@ -32,12 +37,14 @@ pub trait Irq {
 pub struct NoIrq;
 
 impl Irq for NoIrq {
+    ghost nests = { false };
+
     ghost polls = { λ _. None };
 
     fn poll<R: Wait>(&mut self, _cpu: &mut Cpu, _rt: &R, _domain: &Domain) {}
 }
 
-// Between two looks: it polls, and then gives way, so that the one for which it waits may run.
+// Between two turns: it polls, and then gives way, so that the one for which the call waits may run.
 pub(crate) fn give_way<I: Irq, R: Wait>(
     cpu: &mut Cpu,
     rt: &R,
@@ -46,11 +53,17 @@ pub(crate) fn give_way<I: Irq, R: Wait>(
     backoff: &Backoff,
 )
     requires { IsOf cpu.old domain.now }
-    ensures rest { KeepsRest cpu.old cpu.new }
-    ensures calls { AreKept (calls_of cpu.old) (calls_of cpu.new) }
-    ensures ledger { Passes (is_busy (calls_of cpu.old)) (ledger_of cpu.old) (ledger_of cpu.new) }
-    ensures polls { Rises (I.polls irq.old) (I.polls irq.new) }
+    ensures { GivesWay I.nests cpu.old (I.polls irq.old) cpu.new (I.polls irq.new) }
 {
     irq.poll(cpu, rt, domain);
     backoff.snooze();
+}
+
+// A call that has gone on to another row waits for something else, so its pauses begin short again.
+// So they do where the exchange of the tail met another word (G4): another call came, and the next
+// exchange is not to wait for it.
+pub(crate) fn renew(backoff: &Backoff, old: Pc, new: Pc) {
+    if old != new || new == Pc::G4 {
+        backoff.reset();
+    }
 }

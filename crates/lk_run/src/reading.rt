@@ -10,24 +10,26 @@
 //
 //   interrupted  R2 looks until (r, w, 0) --- it has come in
 //
-ghost use Rattle.std.specs.Prelude.{◌≡◌, ◌≢◌, ◌<◌, true, false, Some, length, Option, ℕ};
+ghost use Rattle.std.specs.Prelude.{◌≡◌, ◌≢◌, ◌<◌, true, false, Some, length};
 ghost use Rattle.lk_abs.specs.declared.holder.Manner.TheVariants.{Reads};
 ghost use Rattle.lk_abs.specs.declared.names.Kind.TheVariants.{Rw};
 ghost use Rattle.lk_rows.specs.declared.parts.Pc.TheVariants.{R2, R3, R4, R5, Y2, Y3, Z1};
 ghost use Rattle.lk_rows.specs.declared.setup.Verb.TheVariants.{Read, TryRead};
 ghost use Rattle.lk_domain.specs.Calls.{Calls, lock_name, way_in};
-ghost use Rattle.lk_domain.specs.Paths.{Any};
 ghost use Rattle.lk_domain.specs.Plans.{locks_of, kind_at};
 ghost use Rattle.lk_domain.specs.Seats.{IsOf, KeepsRest, calls_of};
 ghost use Rattle.lk_domain.specs.Values.{out_in};
 ghost use Rattle.lk_domain.specs.Waits.{MayTake, WaitsAt, Gains, Misses, Moves};
 ghost use Rattle.lk_run.specs.Entering.{Leaves};
-ghost use Rattle.lk_run.specs.Phases.{Start, Waits, CameIn, biased, starting};
-ghost use Rattle.lk_run.specs.Reading.{BeginsToRead, outside, inside, Passed, Entered, Queues};
-ghost use Rattle.lk_run.specs.Waiters.{Waiting, Earns, At, Steps, Looks, Gets};
+ghost use Rattle.lk_run.specs.Phases.{CameIn, starting};
+ghost use Rattle.lk_run.specs.PolledRead.{Began, Entered};
+ghost use Rattle.lk_run.specs.Reading as reader;
+ghost use Rattle.lk_run.specs.Reading.{BeginsToRead, outside, inside};
+ghost use Rattle.lk_run.specs.Turns.{Begun, Earns};
+ghost use Rattle.lk_run.specs.Waiters.{At, Steps, Looks, Gets};
 
-use crate::call::{Call, Reader};
-use crate::irq::{Irq, give_way};
+use crate::call::Reader;
+use crate::irq::{Irq, give_way, renew};
 use crossbeam_utils::Backoff;
 use lk_abs::LockName;
 use lk_domain::{Cpu, Domain, LockId, steps};
@@ -49,8 +51,8 @@ pub fn read_lock<I: Irq, R: Wait>(cpu: &mut Cpu, rt: &R, domain: &Domain, lock: 
     requires kind { kind_at domain.now.plan lock.index ≡ Rw }
     requires may { MayTake lock.index (calls_of cpu.old) }
     ensures rest { KeepsRest cpu.old cpu.new }
-    ensures entered { CameIn domain.now Read lock.index Reads (starting cpu.old (I.polls irq.old))
-        cpu.new (I.polls irq.new) }
+    ensures entered { CameIn domain.now Read lock.index Reads
+        (starting cpu.old I.nests (I.polls irq.old)) cpu.new (I.polls irq.new) }
 {
     let name = LockName {
         index: lock.index,
@@ -66,7 +68,7 @@ pub fn read_lock<I: Irq, R: Wait>(cpu: &mut Cpu, rt: &R, domain: &Domain, lock: 
 //   (r, 0, 0) -> (r + 1, 0, 0): nobody waits and no writer is in, so it has come in.
 //   (r, w, x) -> (r + 1, w, x) else: its bias is in the word, and no writer comes in past it.
 #[inline]
-fn first(cpu: &mut Cpu, domain: &Domain, lock: LockName) -> bool
+pub(crate) fn first(cpu: &mut Cpu, domain: &Domain, lock: LockName) -> bool
     requires domain { IsOf cpu.old domain.now }
     requires lock { lock.index < locks_of domain.now.plan }
     requires kind { kind_at domain.now.plan lock.index ≡ Rw }
@@ -78,21 +80,15 @@ fn first(cpu: &mut Cpu, domain: &Domain, lock: LockName) -> bool
     lets_readers_in(steps::join_first(cpu, domain, Verb::Read, lock))
 }
 
-// From the place to which the first row led that found no way in: one that has interrupted another
-// call does not queue behind a writer that may wait for the call below it.
+// From the place to which the first row led that found no way in: turns, and a poll after each.
 #[cold]
 #[inline(never)]
 fn read_slowpath<I: Irq, R: Wait>(cpu: &mut Cpu, rt: &R, domain: &Domain, lock: LockId, irq: &mut I)
     requires domain { IsOf cpu.old domain.now }
     requires lock { lock.index < locks_of domain.now.plan }
-    requires waits { (s : Start)
-        × Waits domain.now Read (lock_name lock.index) (biased (length s.calls.frames)) Any s
-        cpu.old (I.polls irq.old) }
-    ensures rest { KeepsRest cpu.old cpu.new }
-    ensures entered { (s : Start)
-        → Waits domain.now Read (lock_name lock.index) (biased (length s.calls.frames)) Any s
-        cpu.old (I.polls irq.old)
-        → CameIn domain.now Read lock.index Reads s cpu.new (I.polls irq.new) }
+    requires begun { Begun (Began domain.now lock.index) I.nests cpu.old (I.polls irq.old) }
+    ensures { Earns (Began domain.now lock.index) (Entered domain.now lock.index) I.nests cpu.old
+        (I.polls irq.old) cpu.new (I.polls irq.new) }
 {
     let reader = Reader {
         domain,
@@ -101,79 +97,32 @@ fn read_slowpath<I: Irq, R: Wait>(cpu: &mut Cpu, rt: &R, domain: &Domain, lock: 
             wait: false,
         },
     };
-    let alone = cpu.depth() == 1;
-    if alone {
-        reader.queue(cpu, rt, irq);
-    } else {
-        reader.spin(cpu, rt, irq);
+    let Some(mut place) = reader.contend(cpu) else {
+        return;
+    };
+    let backoff = Backoff::new();
+    for _ in rt.forever() {
+        give_way(cpu, rt, domain, irq, &backoff);
+        match reader.turn(cpu, place) {
+            None => return,
+            Some(next) => {
+                renew(&backoff, place.row(), next.row());
+                place = next;
+            }
+        }
     }
+    unreachable!()
 }
 
 impl<'a> Reader<'a> {
-    // From R3: it takes its bias back and queues.
-    fn queue<I: Irq, R: Wait>(&self, cpu: &mut Cpu, rt: &R, irq: &mut I)
-        requires alone { length (calls_of cpu.old).frames ≡ 1 }
-        requires waits { Waiting (outside self.now) R3 cpu.old (I.polls irq.old) }
-        ensures { Earns (outside self.now) R3 (Entered self.now) cpu.old (I.polls irq.old) cpu.new
-            (I.polls irq.new) }
-    {
-        let queue = Call {
-            domain: self.domain,
-            verb: Verb::Read,
-            lock: LockName {
-                index: self.lock.index,
-                wait: true,
-            },
-        };
-        self.retreat(cpu);
-        queue.acquire(cpu, rt, irq);
-        self.join(cpu);
-        self.wait(cpu, rt, irq);
-        queue.release(cpu);
-    }
-
-    // From R5, with the wait lock, until it has come in.
-    fn wait<I: Irq, R: Wait>(&self, cpu: &mut Cpu, rt: &R, irq: &mut I)
-        requires alone { length (calls_of cpu.old).frames ≡ 1 }
-        requires waits { Waiting (inside self.now) R5 cpu.old (I.polls irq.old) }
-        ensures { Earns (inside self.now) R5 (Passed self.now) cpu.old (I.polls irq.old) cpu.new
-            (I.polls irq.new) }
-    {
-        let backoff = Backoff::new();
-        for _ in rt.forever() {
-            if self.watch(cpu) {
-                return;
-            }
-            give_way(cpu, rt, self.domain, irq, &backoff);
-        }
-        unreachable!()
-    }
-
-    // From R2 until it has come in.
-    fn spin<I: Irq, R: Wait>(&self, cpu: &mut Cpu, rt: &R, irq: &mut I)
-        requires nested { length (calls_of cpu.old).frames ≢ 1 }
-        requires waits { Waiting (outside self.now) R2 cpu.old (I.polls irq.old) }
-        ensures { Earns (outside self.now) R2 (Entered self.now) cpu.old (I.polls irq.old) cpu.new
-            (I.polls irq.new) }
-    {
-        let backoff = Backoff::new();
-        for _ in rt.forever() {
-            if self.look_past(cpu) {
-                return;
-            }
-            give_way(cpu, rt, self.domain, irq, &backoff);
-        }
-        unreachable!()
-    }
-
     // The row R2, of a reader that has interrupted another call: true where no writer was in,
     // (r, w, 0), so that it has come in, past those that wait: one of them may wait for the call
     // below it. A look changes no word.
-    fn look_past(&self, cpu: &mut Cpu) -> bool
+    pub(crate) fn look_past(&self, cpu: &mut Cpu) -> bool
         requires nested { length (calls_of cpu.old).frames ≢ 1 }
         requires waits { At (outside self.now) R2 cpu.old }
         ensures entered { result ≡ true
-            → Gets (outside self.now) R2 (Entered self.now) cpu.old cpu.new }
+            → Gets (outside self.now) R2 (reader.Entered self.now) cpu.old cpu.new }
         ensures held { result ≡ false → Looks (outside self.now) R2 cpu.old cpu.new }
     {
         has_no_writer(steps::look(cpu, self.domain, Verb::Read, self.lock))
@@ -181,15 +130,15 @@ impl<'a> Reader<'a> {
 
     // The row R3: (r, w, x) -> (r - 1, w, x). It takes its bias back, so that a writer that waits
     // may come in, and goes to take the wait lock.
-    fn retreat(&self, cpu: &mut Cpu)
+    pub(crate) fn retreat(&self, cpu: &mut Cpu)
         requires { At (outside self.now) R3 cpu.old }
-        ensures { Gets (outside self.now) R3 (Queues self.now) cpu.old cpu.new }
+        ensures { Gets (outside self.now) R3 (reader.Queues self.now) cpu.old cpu.new }
     {
         steps::subtract_bias(cpu, self.domain, Verb::Read, self.lock);
     }
 
     // The row R4: (r, w, x) -> (r + 1, w, x), now as the one that has the wait lock.
-    fn join(&self, cpu: &mut Cpu)
+    pub(crate) fn join(&self, cpu: &mut Cpu)
         requires { At (inside self.now) R4 cpu.old }
         ensures { Steps (inside self.now) R4 R5 cpu.old cpu.new }
     {
@@ -198,11 +147,11 @@ impl<'a> Reader<'a> {
 
     // The row R5: true where no writer was in, (r, w, 0), so that it has come in. No other writer
     // comes in past its bias. A look changes no word.
-    fn watch(&self, cpu: &mut Cpu) -> bool
+    pub(crate) fn watch(&self, cpu: &mut Cpu) -> bool
         requires alone { length (calls_of cpu.old).frames ≡ 1 }
         requires waits { At (inside self.now) R5 cpu.old }
         ensures passed { result ≡ true
-            → Gets (inside self.now) R5 (Passed self.now) cpu.old cpu.new }
+            → Gets (inside self.now) R5 (reader.Passed self.now) cpu.old cpu.new }
         ensures held { result ≡ false → Looks (inside self.now) R5 cpu.old cpu.new }
     {
         has_no_writer(steps::look(cpu, self.domain, Verb::Read, self.lock))

@@ -21,105 +21,155 @@
 //
 //   no node N1 looks until free ------------------------------- N2 takes it
 //
-// It polls after each look after which it stands where it stood.
-ghost use Rattle.std.specs.Prelude.{IfSome};
-ghost use Rattle.lk_rows.specs.declared.parts.Pc.TheVariants.{V1, P0, P1, P2, P3, G1, N1};
-ghost use Rattle.lk_rows.specs.declared.parts.Pc.TheVariants.{G2, G3, G4, G5, G6, G7, G8, G9};
-ghost use Rattle.lk_rows.specs.declared.parts.Pc.TheVariants.{G10};
+// A turn makes rows up to the next look after which the call stands where it stood. There it rests.
+ghost use Rattle.std.specs.Prelude.{IfSome, None};
+ghost use Rattle.lk_rows.specs.declared.parts.Pc.TheVariants.{V1, P0, P1, P3, G1, N1};
+ghost use Rattle.lk_rows.specs.declared.parts.Pc.TheVariants.{G4, G6, G7, G9, G10};
 ghost use Rattle.lk_domain.specs.Paths.{Any};
 ghost use Rattle.lk_run.specs.Heads as head;
 ghost use Rattle.lk_run.specs.Nodes as node;
-ghost use Rattle.lk_run.specs.Words.{At, Steps, Waiting, Wins, Arriving, Won, IsNext};
+ghost use Rattle.lk_run.specs.Resting.{Came, RestsAt, Turns, Turned, row_at, frame_at};
+ghost use Rattle.lk_run.specs.Words.{At, IsNext};
 
 use crate::call::{Call, Front, Queued};
-use crate::irq::{Irq, give_way};
+use crate::rest::{Head, Joining, Rest};
+use crate::tail::Tail;
 use crate::words::{moves_waiters, word_met};
-use crossbeam_utils::Backoff;
 use lk_domain::Cpu;
 use lk_rows::{Flag, Pc, after_fast};
 use lk_word::NodeName;
-use std::sync::Wait;
 
 impl<'a> Call<'a> {
     // From the place to which the first row led that met this word, which was not free.
     #[inline(never)]
-    pub(crate) fn contend<I: Irq, R: Wait>(&self, cpu: &mut Cpu, rt: &R, irq: &mut I, met: u64)
-        requires { Arriving self.now met cpu.old (I.polls irq.old) }
-        ensures { Won self.now met cpu.old (I.polls irq.old) cpu.new (I.polls irq.new) }
+    pub(crate) fn contend(&self, cpu: &mut Cpu, met: u64) -> Option<Rest>
+        requires { Came self.now met cpu.old }
+        ensures { Turned self.now met result cpu.old cpu.new }
     {
         match after_fast(self.domain.mode(), word_met(self.domain, met)) {
-            Pc::V1 => self.spin(cpu, rt, irq),
-            Pc::P0 => self.look_on(cpu, rt, irq),
-            Pc::P1 => self.pend(cpu, rt, irq),
-            _ => self.slow(cpu, rt, irq),
+            Pc::V1 => self.spin(cpu),
+            Pc::P0 => self.look_on(cpu),
+            Pc::P1 => self.pend(cpu),
+            _ => self.slow(cpu),
         }
     }
 
-    // From V1 until it has the lock.
-    fn spin<I: Irq, R: Wait>(&self, cpu: &mut Cpu, rt: &R, irq: &mut I)
-        requires { Waiting self.now V1 Any cpu.old (I.polls irq.old) }
-        ensures { Wins self.now V1 Any cpu.old (I.polls irq.old) cpu.new (I.polls irq.new) }
+    // From where it rests.
+    pub(crate) fn turn(&self, cpu: &mut Cpu, rest: Rest) -> Option<Rest>
+        requires { RestsAt self.now rest cpu.old }
+        ensures { Turns self.now (row_at rest) (frame_at rest) result cpu.old cpu.new }
     {
-        let backoff = Backoff::new();
-        for _ in rt.forever() {
-            if self.loop_look(cpu) {
-                if self.loop_swap(cpu) {
-                    return;
-                }
-            } else {
-                give_way(cpu, rt, self.domain, irq, &backoff);
+        match rest {
+            Rest::Spins => self.spin(cpu),
+            Rest::Pends => self.wait_as_next(cpu),
+            Rest::Bare => self.wait_bare(cpu),
+            Rest::Joins(joining) => {
+                let queued = Queued {
+                    call: *self,
+                    own: joining.own,
+                };
+                queued.queue(cpu, joining.met)
+            }
+            Rest::Queues(own) => {
+                let queued = Queued { call: *self, own };
+                queued.wait_turn(cpu)
+            }
+            Rest::Leads(head) => {
+                let front = Front {
+                    call: *self,
+                    own: head.own,
+                    second: head.second,
+                };
+                front.wait_open(cpu)
+            }
+            Rest::Hands(head) => {
+                let front = Front {
+                    call: *self,
+                    own: head.own,
+                    second: head.second,
+                };
+                front.pass_on(cpu)
+            }
+            Rest::Chooses(head) => {
+                let front = Front {
+                    call: *self,
+                    own: head.own,
+                    second: head.second,
+                };
+                front.choose(cpu)
+            }
+            Rest::Passes(passing) => {
+                let front = Front {
+                    call: *self,
+                    own: passing.head.own,
+                    second: passing.head.second,
+                };
+                front.pass_over(cpu, passing.skipped)
             }
         }
-        unreachable!()
+    }
+
+    // From V1.
+    fn spin(&self, cpu: &mut Cpu) -> Option<Rest>
+        requires { At self.now V1 Any cpu.old }
+        ensures { Turns self.now V1 Any result cpu.old cpu.new }
+    {
+        if self.loop_look(cpu) {
+            if self.loop_swap(cpu) {
+                return None;
+            }
+            return Some(Rest::Spins);
+        }
+        Some(Rest::Spins)
     }
 
     // From P0: another pends, alone.
-    fn look_on<I: Irq, R: Wait>(&self, cpu: &mut Cpu, rt: &R, irq: &mut I)
-        requires { Waiting self.now P0 Any cpu.old (I.polls irq.old) }
-        ensures { Wins self.now P0 Any cpu.old (I.polls irq.old) cpu.new (I.polls irq.new) }
+    fn look_on(&self, cpu: &mut Cpu) -> Option<Rest>
+        requires { At self.now P0 Any cpu.old }
+        ensures { Turns self.now P0 Any result cpu.old cpu.new }
     {
         match self.look_again(cpu) {
-            Pc::P1 => self.pend(cpu, rt, irq),
-            _ => self.slow(cpu, rt, irq),
+            Pc::P1 => self.pend(cpu),
+            _ => self.slow(cpu),
         }
     }
 
     // From P1: nobody pends, and there is no queue.
-    fn pend<I: Irq, R: Wait>(&self, cpu: &mut Cpu, rt: &R, irq: &mut I)
-        requires { Waiting self.now P1 Any cpu.old (I.polls irq.old) }
-        ensures { Wins self.now P1 Any cpu.old (I.polls irq.old) cpu.new (I.polls irq.new) }
+    fn pend(&self, cpu: &mut Cpu) -> Option<Rest>
+        requires { At self.now P1 Any cpu.old }
+        ensures { Turns self.now P1 Any result cpu.old cpu.new }
     {
         match self.set_pending(cpu) {
             Pc::P2 => {
                 self.clear_pending(cpu);
-                self.slow(cpu, rt, irq);
+                self.slow(cpu)
             }
-            Pc::P3 => self.wait_as_next(cpu, rt, irq),
-            Pc::P4 => self.take_pending(cpu),
-            _ => self.slow(cpu, rt, irq),
+            Pc::P3 => self.wait_as_next(cpu),
+            Pc::P4 => {
+                self.take_pending(cpu);
+                None
+            }
+            _ => self.slow(cpu),
         }
     }
 
-    // From P3: it pends, and waits until the holder has gone.
-    fn wait_as_next<I: Irq, R: Wait>(&self, cpu: &mut Cpu, rt: &R, irq: &mut I)
-        requires { Waiting self.now P3 Any cpu.old (I.polls irq.old) }
-        ensures { Wins self.now P3 Any cpu.old (I.polls irq.old) cpu.new (I.polls irq.new) }
+    // From P3: it pends, and watches the holder go.
+    fn wait_as_next(&self, cpu: &mut Cpu) -> Option<Rest>
+        requires { At self.now P3 Any cpu.old }
+        ensures { Turns self.now P3 Any result cpu.old cpu.new }
     {
-        let backoff = Backoff::new();
-        for _ in rt.forever() {
-            if self.watch(cpu) {
-                return self.take_pending(cpu);
-            }
-            give_way(cpu, rt, self.domain, irq, &backoff);
+        if self.watch(cpu) {
+            self.take_pending(cpu);
+            return None;
         }
-        unreachable!()
+        Some(Rest::Pends)
     }
 
     // From G1. A processor has four nodes, one for each of its calls in the queue; a fifth waits
     // without one.
-    fn slow<I: Irq, R: Wait>(&self, cpu: &mut Cpu, rt: &R, irq: &mut I)
-        requires { Waiting self.now G1 Any cpu.old (I.polls irq.old) }
-        ensures { Wins self.now G1 Any cpu.old (I.polls irq.old) cpu.new (I.polls irq.new) }
+    fn slow(&self, cpu: &mut Cpu) -> Option<Rest>
+        requires { At self.now G1 Any cpu.old }
+        ensures { Turns self.now G1 Any result cpu.old cpu.new }
     {
         let own = NodeName {
             cpu: cpu.number(),
@@ -128,150 +178,135 @@ impl<'a> Call<'a> {
         let has_node = own.index < 4;
         if has_node {
             let queued = Queued { call: *self, own };
-            queued.arrive(cpu, rt, irq);
-        } else {
-            self.enter_bare(cpu);
-            self.wait_bare(cpu, rt, irq);
+            return queued.arrive(cpu);
         }
+        self.enter_bare(cpu);
+        self.wait_bare(cpu)
     }
 
-    // From N1 until it has the lock.
-    fn wait_bare<I: Irq, R: Wait>(&self, cpu: &mut Cpu, rt: &R, irq: &mut I)
-        requires { Waiting self.now N1 Any cpu.old (I.polls irq.old) }
-        ensures { Wins self.now N1 Any cpu.old (I.polls irq.old) cpu.new (I.polls irq.new) }
+    // From N1.
+    fn wait_bare(&self, cpu: &mut Cpu) -> Option<Rest>
+        requires { At self.now N1 Any cpu.old }
+        ensures { Turns self.now N1 Any result cpu.old cpu.new }
     {
-        let backoff = Backoff::new();
-        for _ in rt.forever() {
-            if self.look_bare(cpu) {
-                if self.swap_bare(cpu) {
-                    return;
-                }
-            } else {
-                give_way(cpu, rt, self.domain, irq, &backoff);
+        if self.look_bare(cpu) {
+            if self.swap_bare(cpu) {
+                return None;
             }
+            return Some(Rest::Bare);
         }
-        unreachable!()
+        Some(Rest::Bare)
     }
 }
 
 impl<'a> Queued<'a> {
     // From G1 with a node.
-    fn arrive<I: Irq, R: Wait>(&self, cpu: &mut Cpu, rt: &R, irq: &mut I)
+    fn arrive(&self, cpu: &mut Cpu) -> Option<Rest>
         requires node { IsNext self.now.own cpu.old }
-        requires waits { Waiting self.now.call G1 Any cpu.old (I.polls irq.old) }
-        ensures { Wins self.now.call G1 Any cpu.old (I.polls irq.old) cpu.new (I.polls irq.new) }
+        requires waits { At self.now.call G1 Any cpu.old }
+        ensures { Turns self.now.call G1 Any result cpu.old cpu.new }
     {
         self.enter(cpu);
         let met = self.look_again(cpu);
         if met == 0 {
             let met = self.swap_again(cpu);
             if met == 0 {
-                return;
+                return None;
             }
-            return self.queue(cpu, rt, irq, met);
+            return self.queue(cpu, met);
         }
-        self.queue(cpu, rt, irq, met);
+        self.queue(cpu, met)
     }
 
-    // From G4: it joins the queue. The word is the one that it met last.
-    fn queue<I: Irq, R: Wait>(&self, cpu: &mut Cpu, rt: &R, irq: &mut I, met: u64)
-        requires { node.Waiting self.now G4 node.Owns cpu.old (I.polls irq.old) }
-        ensures { node.Wins self.now G4 node.Owns cpu.old (I.polls irq.old) cpu.new
-            (I.polls irq.new) }
+    // From G4: it joins the queue, if the word is still the one that it met last.
+    fn queue(&self, cpu: &mut Cpu, met: u64) -> Option<Rest>
+        requires { node.At self.now G4 node.Owns cpu.old }
+        ensures { node.Turns self.now G4 node.Owns result cpu.old cpu.new }
     {
-        match self.exchange_tail(cpu, rt, met) {
-            Some(prev) => {
+        match self.exchange_tail(cpu, met) {
+            Tail::First => self.lead(cpu, None),
+            Tail::Behind(prev) => {
                 self.link(cpu, prev);
-                self.wait_turn(cpu, rt, irq);
+                self.wait_turn(cpu)
             }
-            None => self.lead(cpu, rt, irq, None),
+            Tail::Other(met) => Some(Rest::Joins(Joining { own: self.own, met })),
         }
     }
 
     // From G6, until its predecessor has handed off.
-    fn wait_turn<I: Irq, R: Wait>(&self, cpu: &mut Cpu, rt: &R, irq: &mut I)
-        requires { node.Waiting self.now G6 node.Owns cpu.old (I.polls irq.old) }
-        ensures { node.Wins self.now G6 node.Owns cpu.old (I.polls irq.old) cpu.new
-            (I.polls irq.new) }
+    fn wait_turn(&self, cpu: &mut Cpu) -> Option<Rest>
+        requires { node.At self.now G6 node.Owns cpu.old }
+        ensures { node.Turns self.now G6 node.Owns result cpu.old cpu.new }
     {
-        let backoff = Backoff::new();
-        for _ in rt.forever() {
-            match self.wait(cpu) {
-                Flag::Go => return self.lead(cpu, rt, irq, None),
-                Flag::Second(first) => return self.lead(cpu, rt, irq, Some(first)),
-                Flag::Unset => give_way(cpu, rt, self.call.domain, irq, &backoff),
-            }
+        match self.wait(cpu) {
+            Flag::Go => self.lead(cpu, None),
+            Flag::Second(first) => self.lead(cpu, Some(first)),
+            Flag::Unset => Some(Rest::Queues(self.own)),
         }
-        unreachable!()
     }
 
     // From G7: it is the queue head, and this is the first of the secondary queue, if there is one.
-    fn lead<I: Irq, R: Wait>(&self, cpu: &mut Cpu, rt: &R, irq: &mut I, second: Option<NodeName>)
+    fn lead(&self, cpu: &mut Cpu, second: Option<NodeName>) -> Option<Rest>
         requires second { IfSome second (node.IsNodeOf self.now) }
-        requires waits { node.Waiting self.now G7 (node.Fronts second) cpu.old (I.polls irq.old) }
-        ensures { node.Wins self.now G7 (node.Fronts second) cpu.old (I.polls irq.old)
-            cpu.new (I.polls irq.new) }
+        requires waits { node.At self.now G7 (node.Fronts second) cpu.old }
+        ensures { node.Turns self.now G7 (node.Fronts second) result cpu.old cpu.new }
     {
         let front = Front {
             call: self.call,
             own: self.own,
             second,
         };
-        front.wait_open(cpu, rt, irq);
+        front.wait_open(cpu)
     }
 }
 
 impl<'a> Front<'a> {
     // From G7: it waits until the lock is free and nobody pends. Alone in the queue it swaps the word
     // (G8); if it has others behind it by then, it goes on to G9.
-    fn wait_open<I: Irq, R: Wait>(&self, cpu: &mut Cpu, rt: &R, irq: &mut I)
-        requires { head.Waiting self.now G7 head.Fronts cpu.old (I.polls irq.old) }
-        ensures { head.Wins self.now G7 head.Fronts cpu.old (I.polls irq.old) cpu.new (I.polls
-            irq.new) }
+    fn wait_open(&self, cpu: &mut Cpu) -> Option<Rest>
+        requires { head.At self.now G7 head.Fronts cpu.old }
+        ensures { head.Turns self.now G7 head.Fronts result cpu.old cpu.new }
     {
-        let backoff = Backoff::new();
-        for _ in rt.forever() {
-            match self.wait_as_front(cpu) {
-                Pc::G8 => {
-                    if self.take_sole(cpu) {
-                        return;
-                    }
-                    return self.stake(cpu, rt, irq);
+        match self.wait_as_front(cpu) {
+            Pc::G8 => {
+                if self.take_sole(cpu) {
+                    return None;
                 }
-                Pc::G9 => return self.stake(cpu, rt, irq),
-                _ => give_way(cpu, rt, self.call.domain, irq, &backoff),
+                self.stake(cpu)
             }
+            Pc::G9 => self.stake(cpu),
+            _ => Some(Rest::Leads(Head {
+                own: self.own,
+                second: self.second,
+            })),
         }
-        unreachable!()
     }
 
     // From G9: it has others behind it, takes the lock, and hands off.
-    fn stake<I: Irq, R: Wait>(&self, cpu: &mut Cpu, rt: &R, irq: &mut I)
-        requires { head.Waiting self.now G9 head.Fronts cpu.old (I.polls irq.old) }
-        ensures { head.Wins self.now G9 head.Fronts cpu.old (I.polls irq.old) cpu.new (I.polls
-            irq.new) }
+    fn stake(&self, cpu: &mut Cpu) -> Option<Rest>
+        requires { head.At self.now G9 head.Fronts cpu.old }
+        ensures { head.Turns self.now G9 head.Fronts result cpu.old cpu.new }
     {
         self.take_head(cpu);
         if moves_waiters(self.call.domain.mode()) {
-            self.choose(cpu, rt, irq);
+            self.choose(cpu)
         } else {
-            self.pass_on(cpu, rt, irq);
+            self.pass_on(cpu)
         }
     }
 
     // From G10, until its successor has linked itself, to which it hands off.
-    fn pass_on<I: Irq, R: Wait>(&self, cpu: &mut Cpu, rt: &R, irq: &mut I)
-        requires { head.Waiting self.now G10 head.Fronts cpu.old (I.polls irq.old) }
-        ensures { head.Wins self.now G10 head.Fronts cpu.old (I.polls irq.old) cpu.new (I.polls
-            irq.new) }
+    fn pass_on(&self, cpu: &mut Cpu) -> Option<Rest>
+        requires { head.At self.now G10 head.Fronts cpu.old }
+        ensures { head.Turns self.now G10 head.Fronts result cpu.old cpu.new }
     {
-        let backoff = Backoff::new();
-        for _ in rt.forever() {
-            if let Some(next) = self.wait_for_next(cpu) {
-                return self.hand_on(cpu, next);
-            }
-            give_way(cpu, rt, self.call.domain, irq, &backoff);
+        if let Some(next) = self.wait_for_next(cpu) {
+            self.hand_on(cpu, next);
+            return None;
         }
-        unreachable!()
+        Some(Rest::Hands(Head {
+            own: self.own,
+            second: self.second,
+        }))
     }
 }

@@ -1,5 +1,5 @@
 // The calls on a spinlock. The comments show a word as (queue tail, pending, locked).
-ghost use Rattle.std.specs.Prelude.{◌≡◌, ◌≢◌, ◌<◌, Option, ℕ, true, false, None, length};
+ghost use Rattle.std.specs.Prelude.{◌≡◌, ◌≢◌, ◌<◌, Bool, Option, ℕ, true, false, None, length};
 ghost use Rattle.lk_abs.specs.declared.holder.Manner.TheVariants.{Spins};
 ghost use Rattle.lk_abs.specs.declared.names.Kind.TheVariants.{Spin};
 ghost use Rattle.lk_rows.specs.declared.parts.Pc.TheVariants.{T2};
@@ -11,8 +11,9 @@ ghost use Rattle.lk_domain.specs.Plans.{locks_of, kind_at};
 ghost use Rattle.lk_domain.specs.Seats.{IsOf, KeepsRest, calls_of, ledger_of};
 ghost use Rattle.lk_domain.specs.Waits.{MayTake, WaitsAt, Moves, Gains, Misses, Drops};
 ghost use Rattle.lk_domain.specs.Values.{out_in};
-ghost use Rattle.lk_run.specs.Phases.{Start, Arrives, Holds, starting};
+ghost use Rattle.lk_run.specs.Phases.{Arrives, Holds, starting};
 ghost use Rattle.lk_run.specs.Polls.{Acquires, IsPolled};
+ghost use Rattle.lk_run.specs.Turns.{Begun, Earns};
 
 use crate::call::Call;
 use crate::irq::Irq;
@@ -25,17 +26,17 @@ use std::sync::Wait;
 //   (0, 0, 0) -> (0, 0, 1): nobody holds the lock, pends or queues, so it is this call's.
 //   any other word stays.
 #[inline]
-fn fast(cpu: &mut Cpu, domain: &Domain, lock: LockName) -> u64
+pub(crate) fn fast(cpu: &mut Cpu, domain: &Domain, lock: LockName) -> u64
     requires domain { IsOf cpu.old domain.now }
     requires lock { lock.index < locks_of domain.now.plan }
     requires kind { kind_at domain.now.plan lock.index ≡ Spin }
     requires plain { lock.wait ≡ false }
     requires may { MayTake lock.index (calls_of cpu.old) }
     ensures rest { KeepsRest cpu.old cpu.new }
-    ensures taken { result ≡ 0 → (told : Option ℕ)
-        → Holds domain.now Lock lock.index Spins (starting cpu.old told) cpu.new told }
-    ensures waits { result ≢ 0 → (told : Option ℕ)
-        → Arrives domain.now Lock lock result (starting cpu.old told) cpu.new told }
+    ensures taken { result ≡ 0 → (nests : Bool) (told : Option ℕ)
+        → Holds domain.now Lock lock.index Spins (starting cpu.old nests told) cpu.new told }
+    ensures waits { result ≢ 0 → (nests : Bool) (told : Option ℕ)
+        → Arrives domain.now Lock lock result (starting cpu.old nests told) cpu.new told }
 {
     steps::take_first(cpu, domain, Verb::Lock, lock)
 }
@@ -54,12 +55,11 @@ struct Busy {
 fn lock_slowpath<I: Irq, R: Wait>(cpu: &mut Cpu, rt: &R, domain: &Domain, busy: Busy, irq: &mut I)
     requires domain { IsOf cpu.old domain.now }
     requires lock { busy.lock.index < locks_of domain.now.plan }
-    requires waits { (s : Start) × Arrives domain.now Lock (lock_name busy.lock.index) busy.met s
+    requires begun { Begun (Arrives domain.now Lock (lock_name busy.lock.index) busy.met) I.nests
         cpu.old (I.polls irq.old) }
-    ensures rest { KeepsRest cpu.old cpu.new }
-    ensures has { (s : Start) → Arrives domain.now Lock (lock_name busy.lock.index) busy.met s
-        cpu.old (I.polls irq.old)
-        → Holds domain.now Lock busy.lock.index Spins s cpu.new (I.polls irq.new) }
+    ensures { Earns (Arrives domain.now Lock (lock_name busy.lock.index) busy.met)
+        (Holds domain.now Lock busy.lock.index Spins) I.nests cpu.old (I.polls irq.old) cpu.new
+        (I.polls irq.new) }
 {
     let call = Call {
         domain,
@@ -69,7 +69,7 @@ fn lock_slowpath<I: Irq, R: Wait>(cpu: &mut Cpu, rt: &R, domain: &Domain, busy: 
             wait: false,
         },
     };
-    call.contend(cpu, rt, irq, busy.met);
+    call.wait_on(cpu, rt, irq, busy.met);
 }
 
 /// Acquires a spinlock, and returns when the processor holds it (`queued_spin_lock`).
@@ -93,7 +93,7 @@ pub fn lock<I: Irq, R: Wait>(cpu: &mut Cpu, rt: &R, domain: &Domain, lock: LockI
     ensures look { HasLooked lock.index Spins (calls_of cpu.old) (calls_of cpu.new).last
         (ledger_of cpu.old) (ledger_of cpu.new) }
     ensures polls { IsPolled (calls_of cpu.new).last (I.polls irq.old) (I.polls irq.new) }
-    ensures once { Acquires 1 (calls_of cpu.old) (calls_of cpu.new) (I.polls irq.old)
+    ensures once { Acquires I.nests 1 (calls_of cpu.old) (calls_of cpu.new) (I.polls irq.old)
         (I.polls irq.new) }
 {
     let name = LockName {

@@ -10,26 +10,26 @@
 //                    Wr5 looks until (0, 1, 0)
 //                    Wr6 takes it ----------- it has the lock, U1 frees the wait lock
 //
-ghost use Rattle.std.specs.Prelude.{◌≡◌, ◌<◌, true, false, None, Some, length, Option, ℕ};
+ghost use Rattle.std.specs.Prelude.{◌≡◌, ◌<◌, true, false, None, Some, length};
 ghost use Rattle.lk_abs.specs.declared.holder.Manner.TheVariants.{Writes};
 ghost use Rattle.lk_abs.specs.declared.names.Kind.TheVariants.{Rw};
-ghost use Rattle.lk_rows.specs.Moves.{wait_name};
-ghost use Rattle.lk_rows.specs.declared.parts.Pc.TheVariants.{F1, Wr2, Wr3, Wr4, Wr5, Wr6, Y5, Z2};
+ghost use Rattle.lk_rows.specs.declared.parts.Pc.TheVariants.{Wr2, Wr3, Wr4, Wr5, Wr6, Y5, Z2};
 ghost use Rattle.lk_rows.specs.declared.setup.Verb.TheVariants.{Write, TryWrite};
 ghost use Rattle.lk_domain.specs.Calls.{lock_name, way_in, Calls};
 ghost use Rattle.lk_domain.specs.Ledgers.{is_first};
-ghost use Rattle.lk_domain.specs.Paths.{Any};
 ghost use Rattle.lk_domain.specs.Plans.{locks_of, kind_at};
 ghost use Rattle.lk_domain.specs.Seats.{IsOf, KeepsRest, calls_of, ledger_of};
 ghost use Rattle.lk_domain.specs.Values.{out_in};
 ghost use Rattle.lk_domain.specs.Waits.{MayTake, Gains, Misses, WaitsAt, Moves};
 ghost use Rattle.lk_run.specs.Entering.{Leaves};
-ghost use Rattle.lk_run.specs.Phases.{Start, Waits, CameIn, starting};
-ghost use Rattle.lk_run.specs.Waiters.{At, Waiting, Steps, Gets, Earns, Looks};
+ghost use Rattle.lk_run.specs.Phases.{CameIn, starting};
+ghost use Rattle.lk_run.specs.PolledWrite.{Began, Entered};
+ghost use Rattle.lk_run.specs.Turns.{Begun, Earns};
+ghost use Rattle.lk_run.specs.Waiters.{At, Steps, Gets, Looks};
 ghost use Rattle.lk_run.specs.Writing.{BeginsToWrite, inside, Passed};
 
-use crate::call::{Call, Writer};
-use crate::irq::{Irq, give_way};
+use crate::call::Writer;
+use crate::irq::{Irq, give_way, renew};
 use crossbeam_utils::Backoff;
 use lk_abs::LockName;
 use lk_domain::{Cpu, Domain, LockId, steps};
@@ -57,7 +57,7 @@ pub fn write_lock<I: Irq, R: Wait>(
     requires may { MayTake lock.index (calls_of cpu.old) }
     ensures rest { KeepsRest cpu.old cpu.new }
     ensures entered { CameIn domain.now Write lock.index Writes
-        (starting cpu.old (I.polls irq.old)) cpu.new (I.polls irq.new) }
+        (starting cpu.old I.nests (I.polls irq.old)) cpu.new (I.polls irq.new) }
 {
     let name = LockName {
         index: lock.index,
@@ -73,7 +73,7 @@ pub fn write_lock<I: Irq, R: Wait>(
 //   (0, 0, 0) -> (0, 0, 1): no reader's bias is in the word, nobody waits and no writer is in.
 //   any other word stays, and it goes to take the wait lock.
 #[inline]
-fn first(cpu: &mut Cpu, domain: &Domain, lock: LockName) -> bool
+pub(crate) fn first(cpu: &mut Cpu, domain: &Domain, lock: LockName) -> bool
     requires domain { IsOf cpu.old domain.now }
     requires lock { lock.index < locks_of domain.now.plan }
     requires kind { kind_at domain.now.plan lock.index ≡ Rw }
@@ -85,7 +85,7 @@ fn first(cpu: &mut Cpu, domain: &Domain, lock: LockName) -> bool
     steps::seize_first(cpu, domain, Verb::Write, lock) == 0
 }
 
-// From F1: the first row met a word that was not (0, 0, 0).
+// From F1: the first row met a word that was not (0, 0, 0). Turns, and a poll after each.
 #[cold]
 #[inline(never)]
 fn write_slowpath<I: Irq, R: Wait>(
@@ -97,21 +97,10 @@ fn write_slowpath<I: Irq, R: Wait>(
 )
     requires domain { IsOf cpu.old domain.now }
     requires lock { lock.index < locks_of domain.now.plan }
-    requires waits { (s : Start)
-        × Waits domain.now Write (wait_name lock.index) F1 Any s cpu.old (I.polls irq.old) }
-    ensures rest { KeepsRest cpu.old cpu.new }
-    ensures entered { (s : Start)
-        → Waits domain.now Write (wait_name lock.index) F1 Any s cpu.old (I.polls irq.old)
-        → CameIn domain.now Write lock.index Writes s cpu.new (I.polls irq.new) }
+    requires begun { Begun (Began domain.now lock.index) I.nests cpu.old (I.polls irq.old) }
+    ensures { Earns (Began domain.now lock.index) (Entered domain.now lock.index) I.nests cpu.old
+        (I.polls irq.old) cpu.new (I.polls irq.new) }
 {
-    let queue = Call {
-        domain,
-        verb: Verb::Write,
-        lock: LockName {
-            index: lock.index,
-            wait: true,
-        },
-    };
     let writer = Writer {
         domain,
         lock: LockName {
@@ -119,27 +108,26 @@ fn write_slowpath<I: Irq, R: Wait>(
             wait: false,
         },
     };
-    queue.acquire(cpu, rt, irq);
-    writer.enter(cpu, rt, irq);
-    queue.release(cpu);
+    let Some(mut place) = writer.contend(cpu) else {
+        return;
+    };
+    let backoff = Backoff::new();
+    for _ in rt.forever() {
+        give_way(cpu, rt, domain, irq, &backoff);
+        match writer.turn(cpu, place) {
+            None => return,
+            Some(next) => {
+                renew(&backoff, place.row(), next.row());
+                place = next;
+            }
+        }
+    }
+    unreachable!()
 }
 
 impl<'a> Writer<'a> {
-    // From Wr2: it has the wait lock.
-    fn enter<I: Irq, R: Wait>(&self, cpu: &mut Cpu, rt: &R, irq: &mut I)
-        requires { Waiting (inside self.now) Wr2 cpu.old (I.polls irq.old) }
-        ensures { Earns (inside self.now) Wr2 (Passed self.now) cpu.old (I.polls irq.old) cpu.new
-            (I.polls irq.new) }
-    {
-        if self.seize(cpu) {
-            return;
-        }
-        self.announce(cpu);
-        self.wait(cpu, rt, irq);
-    }
-
     // From Wr2: true where it has the lock, since nobody was there.
-    fn seize(&self, cpu: &mut Cpu) -> bool
+    pub(crate) fn seize(&self, cpu: &mut Cpu) -> bool
         requires { At (inside self.now) Wr2 cpu.old }
         ensures passed { result ≡ true
             → Gets (inside self.now) Wr2 (Passed self.now) cpu.old cpu.new }
@@ -149,25 +137,6 @@ impl<'a> Writer<'a> {
             return self.swap(cpu);
         }
         false
-    }
-
-    // From Wr5, with the wait lock, until it has the lock.
-    fn wait<I: Irq, R: Wait>(&self, cpu: &mut Cpu, rt: &R, irq: &mut I)
-        requires { Waiting (inside self.now) Wr5 cpu.old (I.polls irq.old) }
-        ensures { Earns (inside self.now) Wr5 (Passed self.now) cpu.old (I.polls irq.old) cpu.new
-            (I.polls irq.new) }
-    {
-        let backoff = Backoff::new();
-        for _ in rt.forever() {
-            if self.watch(cpu) {
-                if self.claim(cpu) {
-                    return;
-                }
-            } else {
-                give_way(cpu, rt, self.domain, irq, &backoff);
-            }
-        }
-        unreachable!()
     }
 
     // The row Wr2, with the wait lock: true where the word was (0, 0, 0). A look changes no word.
@@ -193,7 +162,7 @@ impl<'a> Writer<'a> {
 
     // The row Wr4: (r, 0, x) -> (r, 1, x). From here on no new reader comes in but those that have
     // interrupted another call.
-    fn announce(&self, cpu: &mut Cpu)
+    pub(crate) fn announce(&self, cpu: &mut Cpu)
         requires { At (inside self.now) Wr4 cpu.old }
         ensures { Steps (inside self.now) Wr4 Wr5 cpu.old cpu.new }
     {
@@ -202,7 +171,7 @@ impl<'a> Writer<'a> {
 
     // The row Wr5: true where the word was (0, 1, 0): no reader's bias is in it, of those that hold
     // the lock or of those that wait, and no writer. A look changes no word.
-    fn watch(&self, cpu: &mut Cpu) -> bool
+    pub(crate) fn watch(&self, cpu: &mut Cpu) -> bool
         requires { At (inside self.now) Wr5 cpu.old }
         ensures cleared { result ≡ true → Steps (inside self.now) Wr5 Wr6 cpu.old cpu.new }
         ensures held { result ≡ false → Looks (inside self.now) Wr5 cpu.old cpu.new }
@@ -214,7 +183,7 @@ impl<'a> Writer<'a> {
     //   (0, 1, 0) -> (0, 0, 1): still no bias is in the word, and the waiting bit is its own, since
     //   it has the wait lock.
     //   any other word stays: a reader's bias has come meanwhile.
-    fn claim(&self, cpu: &mut Cpu) -> bool
+    pub(crate) fn claim(&self, cpu: &mut Cpu) -> bool
         requires { At (inside self.now) Wr6 cpu.old }
         ensures passed { result ≡ true
             → Gets (inside self.now) Wr6 (Passed self.now) cpu.old cpu.new }

@@ -29,12 +29,12 @@ returns-clause-begins c =
     let l = c.args.lock.index in
     let made = c.join_first.ensures.step.by in
     record {
-      entered = λ is told.
-          rw.first_enters d Read l a b c.join_first.ensures.rest c.requires.domain refl made c.requires.may.fresh told Reads
+      entered = λ is nests told.
+          rw.first_enters d Read l a b c.join_first.ensures.rest c.requires.domain refl made c.requires.may.fresh nests told Reads
           (λ f. row.reader_enters d.plan.mode b.number f made.found (is_open_by c.join_first.result made.found made.word (sym c.lets_readers_in.ensures ∙ is)));
-      waits = λ is told.
-          subst (λ (n : LockName). Waits d Read n (biased (length (calls_of a).frames)) Any (starting a told) b told)
+      waits = λ is nests told.
+          subst (λ (n : LockName). Waits d Read n (biased (length (calls_of a).frames)) Any (starting a nests told) b told)
           (λ i. record { index = l; wait = sym c.requires.plain i })
-          (rw.first_goes d Read l a b c.join_first.ensures.rest c.requires.domain refl made c.requires.may.fresh told biased (rw.biased_else (length (calls_of a).frames))
+          (rw.first_goes d Read l a b c.join_first.ensures.rest c.requires.domain refl made c.requires.may.fresh nests told biased (rw.biased_else (length (calls_of a).frames))
           (λ f. row.reader_biases d.plan.mode b.number f made.found (is_shut_by c.join_first.result made.found made.word (sym c.lets_readers_in.ensures ∙ is))));
     }

@@ -1,34 +1,42 @@
-use Rattle.std.proofs.Common.{sym, ◌∙◌}
-use Rattle.lk_domain.specs.Calls.{lock_name}
-use Rattle.lk_run.proofs.RwSteps.{biased_alone, biased_nested}
+use Rattle.lk_run.proofs.Turning as turn
+use Rattle.lk_run.proofs.Steps.{still_of}
+use Rattle.lk_run.proofs.RwTurning.{read_polled, read_fits}
 use Rattle.lk_run.proofs.reading.read_slowpath.Goals as goal
 
-pub queue-requires-clause-waits : goal.queue-requires-clause-waits
-queue-requires-clause-waits g c =
-    let s = c.requires.waits.0 in
+pub contend-requires : goal.contend-requires
+contend-requires g c =
+    let h = c.requires.begun in
+    record { domain = c.requires.domain; start = h.start; told = g.I.Irq.polls c.args.irq.now; at = h.at }
+
+pub give_way-requires : goal.give_way-requires
+give_way-requires g c = still_of c.args.domain.now c.args.cpu.now c.loop.cpu c.loop.invariant.2.rest c.requires.domain
+
+pub turn-requires-clause-fits : goal.turn-requires-clause-fits
+turn-requires-clause-fits g c = read_fits c.args.domain.now.plan c.loop.place c.loop.cpu c.give_way.new.cpu c.give_way.ensures.calls c.loop.invariant.2.fits
+
+pub turn-requires-clause-waits : goal.turn-requires-clause-waits
+turn-requires-clause-waits g c =
+    let h = c.requires.begun in
+    let path = c.loop.invariant.2 in
     record {
-      domain = c.requires.domain;
-      start = s;
-      waits = biased_alone c.args.domain.now (lock_name c.args.lock.index) s c.args.cpu.now (g.I.Irq.polls c.args.irq.now) c.requires.waits.1
-          (sym c.depth-alone.ensures ∙ c.if-alone.true);
+      domain = turn.still_gave path.rest c.give_way.ensures c.requires.domain;
+      start = h.start;
+      told = g.I.Irq.polls c.give_way.new.irq;
+      at = read_polled c.give_way.ensures c.args.domain.now c.args.lock.index c.loop.place h.start h.nests_is (path.owes h.start h.nests_is h.at);
     }
 
-pub returns-then-alone-clause-entered : goal.returns-then-alone-clause-entered
-returns-then-alone-clause-entered g c s w =
-    c.queue.ensures.has s
-    (biased_alone c.args.domain.now (lock_name c.args.lock.index) s c.args.cpu.now (g.I.Irq.polls c.args.irq.now) w (sym c.depth-alone.ensures ∙ c.if-alone.true))
+pub returns-in-None-turn : goal.returns-in-None-turn
+returns-in-None-turn g c =
+    turn.path_earns c.loop.invariant.2 c.give_way.ensures c.turn.ensures
+    (read_polled c.give_way.ensures c.args.domain.now c.args.lock.index c.loop.place) c.in-None-turn.is
 
-pub spin-requires-clause-waits : goal.spin-requires-clause-waits
-spin-requires-clause-waits g c =
-    let s = c.requires.waits.0 in
-    record {
-      domain = c.requires.domain;
-      start = s;
-      waits = biased_nested c.args.domain.now (lock_name c.args.lock.index) s c.args.cpu.now (g.I.Irq.polls c.args.irq.now) c.requires.waits.1
-          (λ e. c.if-alone.false (c.depth-alone.ensures ∙ e));
-    }
+pub loop-preserved : goal.loop-preserved
+loop-preserved g c = (
+  tt,
+  tt,
+  turn.path_turns c.loop.invariant.2 c.give_way.ensures c.turn.ensures
+      (read_polled c.give_way.ensures c.args.domain.now c.args.lock.index c.loop.place) c.in-Some-turn.is,
+)
 
-pub returns-else-alone-clause-entered : goal.returns-else-alone-clause-entered
-returns-else-alone-clause-entered g c s w =
-    c.spin.ensures.has s
-    (biased_nested c.args.domain.now (lock_name c.args.lock.index) s c.args.cpu.now (g.I.Irq.polls c.args.irq.now) w (λ e. c.if-alone.false (c.depth-alone.ensures ∙ e)))
+pub loop-init : goal.loop-init
+loop-init g c = (tt, tt, turn.path_begins c.in-Some.is c.contend.ensures)

@@ -22,18 +22,18 @@ take_first-requires-clause-row c =
     (seat.acts_first (takes_by Lock) d.plan a.number Lock c.args.lock.index (view_of a) (seat_of d a c.requires.domain) refl may.fresh may.free may.few c.requires.kind refl)
 
 pub returns-clause-taken : goal.returns-clause-taken
-returns-clause-taken c is told =
+returns-clause-taken c is nests told =
     let d = c.args.domain.now in
     let a = c.args.cpu.now in
     let b = c.take_first.new.cpu in
     let l = c.args.lock.index in
     let made = c.take_first.ensures.step.by in
     way.first_takes d Lock c.args.lock.index a b c.take_first.ensures.rest c.requires.domain refl (λ e. cc e) (Word made.found)
-    (way.first_word d Lock c.args.lock a b c.take_first.ensures.rest c.requires.domain made c.requires.may.fresh) told refl refl
+    (way.first_word d Lock c.args.lock a b c.take_first.ensures.rest c.requires.domain made c.requires.may.fresh) nests told refl refl
     (λ f. row.fast_takes d.plan.mode b.number f made.found (free_by _ c.take_first.result made.found made.word is))
 
 pub returns-clause-waits : goal.returns-clause-waits
-returns-clause-waits c is told =
+returns-clause-waits c is nests told =
     let d = c.args.domain.now in
     let a = c.args.cpu.now in
     let b = c.take_first.new.cpu in
@@ -44,9 +44,9 @@ returns-clause-waits c is told =
       found = made.found;
       packs = met.packs;
       word = met.word;
-      waits = subst (λ z. Waits d Lock z (after_fast d.plan.mode made.found) Any (starting a told) b told) (λ i. record { index = c.args.lock.index; wait = sym c.requires.plain i })
+      waits = subst (λ z. Waits d Lock z (after_fast d.plan.mode made.found) Any (starting a nests told) b told) (λ i. record { index = c.args.lock.index; wait = sym c.requires.plain i })
           (way.first_goes d Lock c.args.lock.index a b c.take_first.ensures.rest c.requires.domain refl (λ e. cc e) (Word made.found)
-          (way.first_word d Lock c.args.lock a b c.take_first.ensures.rest c.requires.domain made c.requires.may.fresh) told
+          (way.first_word d Lock c.args.lock a b c.take_first.ensures.rest c.requires.domain made c.requires.may.fresh) nests told
           (after_fast d.plan.mode made.found) (not_fast d.plan.mode made.found)
           (λ f. row.fast_goes d.plan.mode b.number f made.found (held_by _ c.take_first.result made.found made.word is)));
     }

@@ -1,4 +1,7 @@
 use Rattle.lk_run.proofs.spin.lock_slowpath.Goals as goal
 
-pub contend-requires : goal.contend-requires
-contend-requires g c = record { domain = c.requires.domain; start = c.requires.waits.0; arrives = c.requires.waits.1 }
+pub wait_on-requires-clause-begun : goal.wait_on-requires-clause-begun
+wait_on-requires-clause-begun g c = c.requires.begun
+
+pub returns : goal.returns
+returns g c = c.wait_on.ensures

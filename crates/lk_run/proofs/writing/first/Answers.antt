@@ -26,10 +26,10 @@ returns-clause-begins c =
     let l = c.args.lock.index in
     let made = c.seize_first.ensures.step.by in
     record {
-      entered = λ is told.
-          rw.first_enters d Write l a b c.seize_first.ensures.rest c.requires.domain refl made c.requires.may.fresh told Writes
+      entered = λ is nests told.
+          rw.first_enters d Write l a b c.seize_first.ensures.rest c.requires.domain refl made c.requires.may.fresh nests told Writes
           (λ f. row.writer_enters d.plan.mode b.number f made.found (empty_by c.seize_first.result made.found made.word is));
-      out = λ is told.
-          rw.first_sets_out d Write l a b c.seize_first.ensures.rest c.requires.domain refl made c.requires.may.fresh told Wr2
+      out = λ is nests told.
+          rw.first_sets_out d Write l a b c.seize_first.ensures.rest c.requires.domain refl made c.requires.may.fresh nests told Wr2
           (λ f. row.writer_queues d.plan.mode b.number f made.found (full_by c.seize_first.result made.found made.word is)) refl (λ e. cc e);
     }

@@ -1,36 +1,42 @@
-use Rattle.lk_abs.specs.declared.holder.Manner.TheVariants.{Writes}
-use Rattle.lk_run.proofs.Steps.{still_of, rest_both}
+use Rattle.lk_run.proofs.Turning as turn
+use Rattle.lk_run.proofs.Steps.{still_of}
+use Rattle.lk_run.proofs.RwTurning.{write_polled, write_fits}
 use Rattle.lk_run.proofs.writing.write_slowpath.Goals as goal
 
-pub acquire-requires : goal.acquire-requires
-acquire-requires g c = record { domain = c.requires.domain; start = c.requires.waits.0; waits = c.requires.waits.1 }
+pub contend-requires : goal.contend-requires
+contend-requires g c =
+    let h = c.requires.begun in
+    record { domain = c.requires.domain; start = h.start; told = g.I.Irq.polls c.args.irq.now; at = h.at }
 
-pub enter-requires : goal.enter-requires
-enter-requires g c =
+pub give_way-requires : goal.give_way-requires
+give_way-requires g c = still_of c.args.domain.now c.args.cpu.now c.loop.cpu c.loop.invariant.2.rest c.requires.domain
+
+pub turn-requires-clause-fits : goal.turn-requires-clause-fits
+turn-requires-clause-fits g c = write_fits c.args.domain.now.plan c.loop.place c.loop.cpu c.give_way.new.cpu c.give_way.ensures.calls c.loop.invariant.2.fits
+
+pub turn-requires-clause-waits : goal.turn-requires-clause-waits
+turn-requires-clause-waits g c =
+    let h = c.requires.begun in
+    let path = c.loop.invariant.2 in
     record {
-      domain = still_of c.args.domain.now c.args.cpu.now c.acquire.new.cpu c.acquire.ensures.rest c.requires.domain;
-      start = c.requires.waits.0;
-      waits = c.acquire.ensures.has c.requires.waits.0 c.requires.waits.1;
+      domain = turn.still_gave path.rest c.give_way.ensures c.requires.domain;
+      start = h.start;
+      told = g.I.Irq.polls c.give_way.new.irq;
+      at = write_polled c.give_way.ensures c.args.domain.now c.args.lock.index c.loop.place h.start h.nests_is (path.owes h.start h.nests_is h.at);
     }
 
-pub release-requires-clause-domain : goal.release-requires-clause-domain
-release-requires-clause-domain g c =
-    let d = c.args.domain.now in
-    let q = c.acquire.new.cpu in
-    still_of d q c.enter.new.cpu c.enter.ensures.rest (still_of d c.args.cpu.now q c.acquire.ensures.rest c.requires.domain)
+pub returns-in-None-turn : goal.returns-in-None-turn
+returns-in-None-turn g c =
+    turn.path_earns c.loop.invariant.2 c.give_way.ensures c.turn.ensures
+    (write_polled c.give_way.ensures c.args.domain.now c.args.lock.index c.loop.place) c.in-None-turn.is
 
-pub release-requires-clause-passed : goal.release-requires-clause-passed
-release-requires-clause-passed g c =
-    let s = c.requires.waits.0 in
-    (Writes, s, g.I.Irq.polls c.enter.new.irq, c.enter.ensures.has s (c.acquire.ensures.has s c.requires.waits.1))
+pub loop-preserved : goal.loop-preserved
+loop-preserved g c = (
+  tt,
+  tt,
+  turn.path_turns c.loop.invariant.2 c.give_way.ensures c.turn.ensures
+      (write_polled c.give_way.ensures c.args.domain.now c.args.lock.index c.loop.place) c.in-Some-turn.is,
+)
 
-pub returns-clause-rest : goal.returns-clause-rest
-returns-clause-rest g c =
-    let a = c.args.cpu.now in
-    let q = c.acquire.new.cpu in
-    let l = c.enter.new.cpu in
-    rest_both a l c.release.new.cpu (rest_both a q l c.acquire.ensures.rest c.enter.ensures.rest) c.release.ensures.rest
-
-pub returns-clause-entered : goal.returns-clause-entered
-returns-clause-entered g c s w =
-    c.release.ensures.came Writes s (g.I.Irq.polls c.enter.new.irq) (c.enter.ensures.has s (c.acquire.ensures.has s w))
+pub loop-init : goal.loop-init
+loop-init g c = (tt, tt, turn.path_begins c.in-Some.is c.contend.ensures)

@@ -1,20 +1,19 @@
-use Rattle.lk_run.proofs.Steps.{still_of}
+use Rattle.lk_run.specs.declared.rest.Rest.TheVariants as rest
 use Rattle.lk_run.proofs.Calling as on
+use Rattle.lk_run.proofs.Turning as turn
 use Rattle.lk_run.proofs.call.Call.spin.Goals as goal
 
 pub loop_look-requires : goal.loop_look-requires
-loop_look-requires g c = on.stands (on.reached c.loop.invariant.2 c.requires)
+loop_look-requires c = c.requires
 
 pub loop_swap-requires : goal.loop_swap-requires
-loop_swap-requires g c = on.stepped (c.loop_look.ensures.free c.if-loop_look.true) (on.stands (on.reached c.loop.invariant.2 c.requires))
+loop_swap-requires c = on.stepped (c.loop_look.ensures.free c.if-loop_look.true) c.requires
 
 pub returns-then-loop_swap : goal.returns-then-loop_swap
-returns-then-loop_swap g c = on.path_takes (on.path_steps c.loop.invariant.2 (c.loop_look.ensures.free c.if-loop_look.true)) (c.loop_swap.ensures.taken c.if-loop_swap.true)
+returns-then-loop_swap c = turn.step_turns (c.loop_look.ensures.free c.if-loop_look.true) (turn.takes_turns (c.loop_swap.ensures.taken c.if-loop_swap.true))
 
-pub give_way-requires : goal.give_way-requires
-give_way-requires g c =
-    still_of c.args.self.now.domain.now c.loop.cpu c.loop_look.new.cpu (c.loop_look.ensures.held c.if-loop_look.false).rest (on.reached c.loop.invariant.2 c.requires).domain
+pub returns-then-loop_look : goal.returns-then-loop_look
+returns-then-loop_look c = turn.goes_turns rest.Spins (on.step_both (c.loop_look.ensures.free c.if-loop_look.true) (c.loop_swap.ensures.held c.if-loop_swap.false)) (record { nodes = tt; knows = tt })
 
-pub loop-preserved : goal.loop-preserved
-loop-preserved g c =
-    (tt, tt, on.path_polls c.loop.invariant.2 (c.loop_look.ensures.held c.if-loop_look.false) c.give_way.ensures.rest c.give_way.ensures.calls c.give_way.ensures.ledger c.give_way.ensures.polls)
+pub returns : goal.returns
+returns c = turn.look_turns rest.Spins (c.loop_look.ensures.held c.if-loop_look.false) (record { nodes = tt; knows = tt })

@@ -1,19 +1,16 @@
-use Rattle.lk_run.proofs.Steps.{still_of}
+use Rattle.lk_run.specs.declared.rest.Rest.TheVariants as rest
 use Rattle.lk_run.proofs.Calling as on
+use Rattle.lk_run.proofs.Turning as turn
 use Rattle.lk_run.proofs.call.Call.wait_as_next.Goals as goal
 
 pub watch-requires : goal.watch-requires
-watch-requires g c = on.stands (on.reached c.loop.invariant.2 c.requires)
+watch-requires c = c.requires
 
 pub take_pending-requires : goal.take_pending-requires
-take_pending-requires g c = on.stepped (c.watch.ensures.free c.if-watch.true) (on.stands (on.reached c.loop.invariant.2 c.requires))
+take_pending-requires c = on.stepped (c.watch.ensures.free c.if-watch.true) c.requires
 
 pub returns-then-watch : goal.returns-then-watch
-returns-then-watch g c = on.path_takes (on.path_steps c.loop.invariant.2 (c.watch.ensures.free c.if-watch.true)) c.take_pending.ensures
+returns-then-watch c = turn.step_turns (c.watch.ensures.free c.if-watch.true) (turn.takes_turns c.take_pending.ensures)
 
-pub give_way-requires : goal.give_way-requires
-give_way-requires g c =
-    still_of c.args.self.now.domain.now c.loop.cpu c.watch.new.cpu (c.watch.ensures.held c.if-watch.false).rest (on.reached c.loop.invariant.2 c.requires).domain
-
-pub loop-preserved : goal.loop-preserved
-loop-preserved g c = (tt, tt, on.path_polls c.loop.invariant.2 (c.watch.ensures.held c.if-watch.false) c.give_way.ensures.rest c.give_way.ensures.calls c.give_way.ensures.ledger c.give_way.ensures.polls)
+pub returns : goal.returns
+returns c = turn.look_turns rest.Pends (c.watch.ensures.held c.if-watch.false) (record { nodes = tt; knows = tt })

@@ -1,99 +1,94 @@
 use Rattle.lk_domain.specs.Words.{IsNode}
 use Rattle.lk_rows.specs.declared.parts.Pc.TheVariants.{C1, C3}
-use Rattle.lk_run.proofs.Steps.{still_of}
 use Rattle.lk_run.specs.Choices.{IsFirstNode}
 use Rattle.lk_run.specs.Frames.{Fronts, Promotes}
 use Rattle.lk_run.specs.Words.{Steps}
 use Rattle.lk_word.specs.declared.spin_word.NodeName.{NodeName}
 use Rattle.std.proofs.Common.{Option, subst, sym}
+use Rattle.lk_run.specs.declared.rest.Rest.TheVariants as rest
 use Rattle.lk_run.proofs.Calling as on
+use Rattle.lk_run.proofs.Turning as turn
 use Rattle.lk_run.proofs.call.Front.choose.Goals as goal
 
 pub look_first-behind-requires : goal.look_first-behind-requires
-look_first-behind-requires g c = on.stands (on.reached c.loop.invariant.2 c.requires)
+look_first-behind-requires c = c.requires
 
-pub give_way-requires : goal.give_way-requires
-give_way-requires g c =
-    still_of c.args.self.now.call.domain.now c.loop.cpu c.look_first-behind.new.cpu (c.look_first-behind.ensures.waits c.in-Waits.is).rest (on.reached c.loop.invariant.2 c.requires).domain
-
-pub loop-preserved-in-Waits : goal.loop-preserved-in-Waits
-loop-preserved-in-Waits g c = (tt, tt, on.path_polls c.loop.invariant.2 (c.look_first-behind.ensures.waits c.in-Waits.is) c.give_way.ensures.rest c.give_way.ensures.calls c.give_way.ensures.ledger c.give_way.ensures.polls)
+pub returns-in-Waits : goal.returns-in-Waits
+returns-in-Waits c = turn.look_turns (rest.Chooses (record { own = c.args.self.now.own; second = c.args.self.now.second })) (c.look_first-behind.ensures.waits c.in-Waits.is) (record { nodes = record { own = c.args.self.now.node; second = c.args.self.now.aside }; knows = tt })
 
 pub find_tail-t-requires-clause-first : goal.find_tail-t-requires-clause-first
-find_tail-t-requires-clause-first g c = subst (IsFirstNode c.args.self.now.call.domain.now.plan) c.in-Promotes.is c.look_first-behind.ensures.node
+find_tail-t-requires-clause-first c = subst (IsFirstNode c.args.self.now.call.domain.now.plan) c.in-Promotes.is c.look_first-behind.ensures.node
 
 pub find_tail-t-requires-clause-waits : goal.find_tail-t-requires-clause-waits
-find_tail-t-requires-clause-waits g c =
-    let at = on.stepped (c.look_first-behind.ensures.promotes c.in-Promotes.first c.in-Promotes.is) (on.stands (on.reached c.loop.invariant.2 c.requires)) in
+find_tail-t-requires-clause-waits c =
+    let at = on.stepped (c.look_first-behind.ensures.promotes c.in-Promotes.first c.in-Promotes.is) c.requires in
     on.weaker at at.waits.looked.at.has.fronts
 
 pub promote-requires-clause-t : goal.promote-requires-clause-t
-promote-requires-clause-t g c = c.find_tail-t.ensures.node
+promote-requires-clause-t c = c.find_tail-t.ensures.node
 
 pub promote-requires-clause-waits : goal.promote-requires-clause-waits
-promote-requires-clause-waits g c =
-    let at = on.stepped (c.look_first-behind.ensures.promotes c.in-Promotes.first c.in-Promotes.is) (on.stands (on.reached c.loop.invariant.2 c.requires)) in
-    record { second = c.in-Promotes.first; at = on.stepped c.find_tail-t.ensures.promotes at }
+promote-requires-clause-waits c = record { second = c.in-Promotes.first; at = on.stepped c.find_tail-t.ensures.promotes (on.stepped (c.look_first-behind.ensures.promotes c.in-Promotes.first c.in-Promotes.is) c.requires) }
 
-pub loop-preserved : goal.loop-preserved
-loop-preserved g c =
+pub give-requires-clause-y : goal.give-requires-clause-y
+give-requires-clause-y c = subst (IsFirstNode c.args.self.now.call.domain.now.plan) c.in-Promotes.is c.look_first-behind.ensures.node
+
+pub give-requires-clause-waits : goal.give-requires-clause-waits
+give-requires-clause-waits c =
+    on.stepped (c.promote.ensures.promoted c.if-promote.true c.in-Promotes.first)
+    (on.stepped c.find_tail-t.ensures.promotes (on.stepped (c.look_first-behind.ensures.promotes c.in-Promotes.first c.in-Promotes.is) c.requires))
+
+pub returns-then-promote : goal.returns-then-promote
+returns-then-promote c =
+    let taken = on.step_takes c.find_tail-t.ensures.promotes (on.step_takes (c.promote.ensures.promoted c.if-promote.true c.in-Promotes.first) c.give.ensures) in
+    turn.step_turns (c.look_first-behind.ensures.promotes c.in-Promotes.first c.in-Promotes.is) (turn.takes_turns taken)
+
+pub returns-else-promote : goal.returns-else-promote
+returns-else-promote c =
     let q = c.args.self.now in
     let named = sym (c.look_first-behind.ensures.named c.in-Promotes.first c.in-Promotes.is) in
     let tried = on.step_both c.find_tail-t.ensures.promotes (c.promote.ensures.others c.if-promote.false c.in-Promotes.first) in
     let back = subst (λ (o : Option NodeName). Steps q.call C3 (Promotes q.own c.in-Promotes.first) C1 (Fronts q.own o) c.look_first-behind.new.cpu c.promote.new.cpu) named tried in
-    (tt, tt, on.path_steps (on.path_steps c.loop.invariant.2 (c.look_first-behind.ensures.promotes c.in-Promotes.first c.in-Promotes.is)) back)
-
-pub give-requires-clause-y : goal.give-requires-clause-y
-give-requires-clause-y g c = subst (IsFirstNode c.args.self.now.call.domain.now.plan) c.in-Promotes.is c.look_first-behind.ensures.node
-
-pub give-requires-clause-waits : goal.give-requires-clause-waits
-give-requires-clause-waits g c =
-    on.stepped (c.promote.ensures.promoted c.if-promote.true c.in-Promotes.first)
-    (on.stepped c.find_tail-t.ensures.promotes (on.stepped (c.look_first-behind.ensures.promotes c.in-Promotes.first c.in-Promotes.is) (on.stands (on.reached c.loop.invariant.2 c.requires))))
-
-pub returns-then-promote : goal.returns-then-promote
-returns-then-promote g c =
-    let taken = on.step_takes c.find_tail-t.ensures.promotes (on.step_takes (c.promote.ensures.promoted c.if-promote.true c.in-Promotes.first) c.give.ensures) in
-    on.path_takes (on.path_steps c.loop.invariant.2 (c.look_first-behind.ensures.promotes c.in-Promotes.first c.in-Promotes.is)) taken
+    turn.goes_turns (rest.Chooses (record { own = c.args.self.now.own; second = c.args.self.now.second })) (on.step_both (c.look_first-behind.ensures.promotes c.in-Promotes.first c.in-Promotes.is) back) (record { nodes = record { own = c.args.self.now.node; second = c.args.self.now.aside }; knows = tt })
 
 pub give-requires-in-Chooses-clause-second : goal.give-requires-in-Chooses-clause-second
-give-requires-in-Chooses-clause-second g c = let q = c.args.self.now in on.if_some (IsNode q.call.domain.now.plan) q.second q.aside
+give-requires-in-Chooses-clause-second c = let q = c.args.self.now in on.if_some (IsNode q.call.domain.now.plan) q.second q.aside
 
 pub give-requires-in-Chooses-clause-y : goal.give-requires-in-Chooses-clause-y
-give-requires-in-Chooses-clause-y g c = subst (IsFirstNode c.args.self.now.call.domain.now.plan) c.in-Chooses.is c.look_first-behind.ensures.node
+give-requires-in-Chooses-clause-y c = subst (IsFirstNode c.args.self.now.call.domain.now.plan) c.in-Chooses.is c.look_first-behind.ensures.node
 
 pub give-requires-in-Chooses-clause-waits : goal.give-requires-in-Chooses-clause-waits
-give-requires-in-Chooses-clause-waits g c = on.stepped (c.look_first-behind.ensures.chooses c.in-Chooses.y c.in-Chooses.is) (on.stands (on.reached c.loop.invariant.2 c.requires))
+give-requires-in-Chooses-clause-waits c = on.stepped (c.look_first-behind.ensures.chooses c.in-Chooses.y c.in-Chooses.is) c.requires
 
 pub returns-in-Chooses : goal.returns-in-Chooses
-returns-in-Chooses g c = on.path_takes (on.path_steps c.loop.invariant.2 (c.look_first-behind.ensures.chooses c.in-Chooses.y c.in-Chooses.is)) c.give-in-Chooses.ensures
+returns-in-Chooses c = turn.step_turns (c.look_first-behind.ensures.chooses c.in-Chooses.y c.in-Chooses.is) (turn.takes_turns c.give-in-Chooses.ensures)
 
 pub pass_over-requires-clause-first : goal.pass_over-requires-clause-first
-pass_over-requires-clause-first g c = subst (IsFirstNode c.args.self.now.call.domain.now.plan) c.in-Skips.is c.look_first-behind.ensures.node
+pass_over-requires-clause-first c = subst (IsFirstNode c.args.self.now.call.domain.now.plan) c.in-Skips.is c.look_first-behind.ensures.node
 
 pub pass_over-requires-clause-last : goal.pass_over-requires-clause-last
-pass_over-requires-clause-last g c = subst (IsFirstNode c.args.self.now.call.domain.now.plan) c.in-Skips.is c.look_first-behind.ensures.node
+pass_over-requires-clause-last c = subst (IsFirstNode c.args.self.now.call.domain.now.plan) c.in-Skips.is c.look_first-behind.ensures.node
 
 pub pass_over-requires-clause-waits : goal.pass_over-requires-clause-waits
-pass_over-requires-clause-waits g c = on.step_on (c.look_first-behind.ensures.skips c.in-Skips.a c.in-Skips.is) (on.reached c.loop.invariant.2 c.requires)
+pass_over-requires-clause-waits c = on.stepped (c.look_first-behind.ensures.skips c.in-Skips.a c.in-Skips.is) c.requires
 
 pub pass_over-requires-clause-knows : goal.pass_over-requires-clause-knows
-pass_over-requires-clause-knows g c = c.look_first-behind.ensures.skipped c.in-Skips.a c.in-Skips.is
+pass_over-requires-clause-knows c = c.look_first-behind.ensures.skipped c.in-Skips.a c.in-Skips.is
 
 pub returns-in-Skips : goal.returns-in-Skips
-returns-in-Skips g c = on.path_wins (on.path_steps c.loop.invariant.2 (c.look_first-behind.ensures.skips c.in-Skips.a c.in-Skips.is)) c.pass_over.ensures
+returns-in-Skips c = turn.step_turns (c.look_first-behind.ensures.skips c.in-Skips.a c.in-Skips.is) c.pass_over.ensures
 
 pub flush-requires-clause-first : goal.flush-requires-clause-first
-flush-requires-clause-first g c = (subst (IsFirstNode c.args.self.now.call.domain.now.plan) c.in-Flushes.is c.look_first-behind.ensures.node).0
+flush-requires-clause-first c = (subst (IsFirstNode c.args.self.now.call.domain.now.plan) c.in-Flushes.is c.look_first-behind.ensures.node).0
 
 pub flush-requires-clause-a : goal.flush-requires-clause-a
-flush-requires-clause-a g c = (subst (IsFirstNode c.args.self.now.call.domain.now.plan) c.in-Flushes.is c.look_first-behind.ensures.node).1
+flush-requires-clause-a c = (subst (IsFirstNode c.args.self.now.call.domain.now.plan) c.in-Flushes.is c.look_first-behind.ensures.node).1
 
 pub flush-requires-clause-waits : goal.flush-requires-clause-waits
-flush-requires-clause-waits g c = on.stepped (c.look_first-behind.ensures.flushes c.in-Flushes.first c.in-Flushes.a c.in-Flushes.is) (on.stands (on.reached c.loop.invariant.2 c.requires))
+flush-requires-clause-waits c = on.stepped (c.look_first-behind.ensures.flushes c.in-Flushes.first c.in-Flushes.a c.in-Flushes.is) c.requires
 
 pub flush-requires-clause-knows : goal.flush-requires-clause-knows
-flush-requires-clause-knows g c = c.look_first-behind.ensures.flushed c.in-Flushes.first c.in-Flushes.a c.in-Flushes.is
+flush-requires-clause-knows c = c.look_first-behind.ensures.flushed c.in-Flushes.first c.in-Flushes.a c.in-Flushes.is
 
 pub returns-in-Flushes : goal.returns-in-Flushes
-returns-in-Flushes g c = on.path_takes (on.path_steps c.loop.invariant.2 (c.look_first-behind.ensures.flushes c.in-Flushes.first c.in-Flushes.a c.in-Flushes.is)) c.flush.ensures
+returns-in-Flushes c = turn.step_turns (c.look_first-behind.ensures.flushes c.in-Flushes.first c.in-Flushes.a c.in-Flushes.is) (turn.takes_turns c.flush.ensures)

@@ -1,9 +1,0 @@
-use Rattle.lk_rows.specs.declared.parts.Pc.TheVariants.{G10}
-use Rattle.lk_run.specs.Frames.{Fronts}
-use Rattle.lk_run.specs.Words.{Goes}
-use Rattle.lk_run.proofs.call.Front.pass_on.Given as goal
-
-abbrev pub invariant-loop : goal.invariant-loop
-invariant-loop g l =
-    (goal.iterator-loop g).can_next l.iterator' × (goal.iterator-loop g).is_finite l.iterator'
-    × Goes l.self.call G10 (Fronts l.self.own l.self.second) G10 (Fronts l.self.own l.self.second) l.fn.cpu (g.I.Irq.polls l.fn.irq) l.cpu (g.I.Irq.polls l.irq)

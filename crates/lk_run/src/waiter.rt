@@ -1,0 +1,12 @@
+// A call that waits, as a value.
+
+use crate::rest::Rest;
+use lk_domain::LockId;
+
+/// A call of `lock` that waits, and where it rests.
+#[derive(Clone, Copy)]
+pub struct Waiter {
+    /// The lock for which it waits.
+    pub lock: LockId,
+    pub(crate) rest: Rest,
+}
