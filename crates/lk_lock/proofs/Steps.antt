@@ -1,6 +1,6 @@
 -- How a processor stands once it has taken a lock, and once it has freed it; and in between, with the
 -- value of the lock out, and home again.
-use Rattle.std.proofs.Common.{◌≡◌, ℕ, ◌<◌, List, [], ◌∷◌, length, Bool, true, false, refl, sym, ap, ◌∙◌, subst, Some}
+use Rattle.std.proofs.Common.{◌≡◌, ℕ, ◌+◌, ◌-◌, ◌<◌, List, [], ◌∷◌, ◌++◌, length, Bool, true, false, refl, sym, ap, ◌∙◌, subst, Some, arith, length-append}
 use Rattle.std.specs.Prelude.{if◌then◌else◌}
 use Rattle.lk_abs.specs.declared.holder.Manner.{Manner}
 use Rattle.lk_abs.specs.declared.holder.Manner.TheVariants.{Spins, Writes}
@@ -12,17 +12,17 @@ use Rattle.lk_domain.specs.Ledgers.{Ledger, turned, closed, is_first}
 use Rattle.lk_domain.specs.Paths.{HasLooked, HasFreed, HasTaken}
 use Rattle.lk_domain.specs.Plans.{cpus_of}
 use Rattle.lk_domain.specs.Seats.{IsSame, IsStill, KeepsRest, TakesValueAt, BringsValueOf, calls_of, ledger_of, view_of}
-use Rattle.lk_domain.specs.Values.{IsClear, IsHomeWith, IsNewestAt, is_sole, marked_out, older, out_in, outs_of}
+use Rattle.lk_domain.specs.Values.{IsClear, IsHomeWith, IsNewestAt, bringing, is_sole, marked_out, older, out_in, outs_of}
 use Rattle.lk_domain.specs.Waits.{Gains, Misses}
 use Rattle.lk_domain.specs.Who.{Who}
 use Rattle.lk_domain.specs.declared.cpu.Cpu.{Cpu}
 use Rattle.lk_domain.specs.declared.domain.Domain.{Domain}
 use Rattle.lk_domain.specs.declared.plan.Plan.{Plan}
 use Rattle.lk_domain.specs.declared.view.View.{View}
-use Rattle.lk_run.specs.Entering.{HasLeft}
+use Rattle.lk_run.specs.Entering.{HasEntered, HasLeft}
 use Rattle.lk_rows.specs.declared.parts.Pc.{Pc}
 use Rattle.lk_rows.specs.declared.parts.Pc.TheVariants.{Z2}
-use Rattle.lk_lock.specs.Standing.{HasBeenIn, HasComeIn, HasTurned, HasWrittenOnce, IsAsBefore, IsHolding, IsInside, IsInsideAt, IsReady, holds_of}
+use Rattle.lk_lock.specs.Standing.{HasBeenIn, HasComeIn, HasGoneIn, HasTurned, HasWrittenOnce, IsAsBefore, IsHolding, IsInside, IsInsideAt, IsReady, holds_of, home_calls}
 use Rattle.lk_abs.specs.Names.{same_lock}
 use Rattle.lk_law.proofs.common.Puts.{if-true}
 use Rattle.lk_law.proofs.common.Sames.{same_lock-self}
@@ -195,6 +195,15 @@ module _ (l : ℕ) (m : Manner) (before now : Cpu) (has : IsHolding l m before n
         apart = subst (λ (w : Who). IsClear w.plan l w.outs) has.same.who out.apart;
       }
 
+  -- and the calls are what they were as soon as it is home again
+  pub home_again : {q : ℕ} (new : Cpu) → TakesValueAt l q now new → home_calls l new ≡ calls_of now
+  home_again new out =
+      ap (λ (v : View). (bringing l v).calls) out.view
+      ∙ ap (λ (xs : List Hold). let c : Calls = record (calls_of now) { holds = xs } in c)
+      (ap (λ (xs : List Hold). marked_out l false (marked_out l true xs)) has.holds
+      ∙ (ap (λ (xs : List Hold). marked_out l false xs) (marked l has.nth m false true (holds_of before))
+      ∙ (marked l has.nth m true false (holds_of before) ∙ sym has.holds)))
+
 module _ {q : ℕ} (l : ℕ) (m : Manner) (before old : Cpu) (in_it : IsInsideAt l q m before old) where
   -- its value is the newest that is out
   pub newest_out : (k : Plan) → (view_of old).who.plan ≡ k → IsNewestAt k l q (outs_of (view_of old))
@@ -263,25 +272,55 @@ still_once_more first old new was is =
       view = is.view ∙ was.view;
     }
 
+-- How many rows are behind the first of a trail.
+pub rows_behind : (upto behind last : List Mark) → last ≡ upto ++ behind → length last - length upto ≡ length behind
+rows_behind upto behind last is =
+    let long : length last ≡ length upto + length behind = ap (λ (ks : List Mark). length ks) is ∙ length-append upto behind in
+    omega (arith, long)
+
 -- What was done by who took a lock by a path of its rows, worked on its value, and freed it.
 
+pub gone_in : (t : Terms) (p q : ℕ) (v : Verb) (l : ℕ) (old mid : Calls) (new : Cpu) → q ≡ p → home_calls l new ≡ mid
+    → HasTaken t q v l Spins old mid → mid.taken ≡ old.taken + 1 → HasGoneIn t p v l old new
+gone_in t p q v l old mid new same is taken once =
+    record {
+      taken = subst (λ (n : ℕ). HasTaken t n v l Spins old (home_calls l new)) same
+          (subst (λ (x : Calls). HasTaken t q v l Spins old x) (sym is) taken);
+      once = ap (λ (x : Calls). x.taken) is ∙ once;
+    }
+
 pub has_turned : (t : Terms) (p : ℕ) (v : Verb) (l : ℕ) (old : Calls) (mid now : Cpu) (new : Calls) → IsStill mid now
-    → HasTaken t p v l Spins old (calls_of mid) → HasFreed l (calls_of now) new → HasTurned t p v l old new
-has_turned t p v l old mid now new is taken free =
+    → HasTaken t p v l Spins old (calls_of mid) → (calls_of mid).taken ≡ old.taken + 1 → HasFreed l (calls_of now) new
+    → HasTurned t p v l old new
+has_turned t p v l old mid now new is taken once free =
     record {
       inside = calls_of mid;
       taken = taken;
+      once = once;
       freed = subst (λ (w : View). HasFreed l w.calls new) is.view free;
     }
 
 pub written_once : (t : Terms) (p l : ℕ) (old : Calls) (mid now : Cpu) (new : Calls) → IsStill mid now
-    → HasTaken t p TryWrite l Writes old (calls_of mid) → HasLeft Z2 l (calls_of now) new → HasWrittenOnce t p l old new
-written_once t p l old mid now new is taken left =
+    → HasTaken t p TryWrite l Writes old (calls_of mid) → (calls_of mid).taken ≡ old.taken + 1
+    → HasLeft Z2 l (calls_of now) new → HasWrittenOnce t p l old new
+written_once t p l old mid now new is taken once left =
     record {
       inside = calls_of mid;
       taken = taken;
+      once = once;
       left = subst (λ (w : View). HasLeft Z2 l w.calls new) is.view left;
     }
+
+pub come_in : (t : Terms) (p q : ℕ) (v : Verb) (l : ℕ) (m : Manner) (upto : List Mark) (old new : Calls) → q ≡ p
+    → HasEntered t q v l m upto old new → new.taken ≡ old.taken + (1 + (length new.last - length upto))
+    → HasComeIn t p v l m old new
+come_in t p q v l m upto old new same has once =
+    subst (λ (n : ℕ). HasComeIn t n v l m old new) same
+    (record {
+      upto = upto;
+      entered = has;
+      once = once ∙ ap (λ (n : ℕ). old.taken + (1 + n)) (rows_behind upto has.behind new.last has.last);
+    })
 
 pub been_in : (t : Terms) (p : ℕ) (v : Verb) (l : ℕ) (m : Manner) (a : Pc) (old : Calls) (mid now : Cpu) (new : Calls)
     → IsStill mid now → HasComeIn t p v l m old (calls_of mid) → HasLeft a l (calls_of now) new

@@ -2,8 +2,11 @@
 use Rattle.std.specs.Prelude.{◌≡◌, ℕ, ◌+◌, All, Some, List, [], ◌∷◌, length, slice_get, true}
 use Rattle.atomic_table.specs.Seated.{TableId}
 use Rattle.lk_abs.specs.ListOf.{ListOf}
+use Rattle.lk_abs.specs.declared.names.Format.TheVariants.{One}
 use Rattle.lk_abs.specs.declared.names.Kind.{Kind}
 use Rattle.lk_abs.specs.declared.names.Kind.TheVariants.{Rw, Spin}
+use Rattle.lk_abs.specs.declared.names.Mode.{Mode}
+use Rattle.lk_domain.specs.Plans.{accounts_of, locks_of}
 use Rattle.lk_domain.specs.Values.{Key}
 use Rattle.lk_domain.specs.declared.plan.Plan.{Plan}
 use Rattle.lk_lock.specs.Cells.{AreKeysOf}
@@ -46,3 +49,14 @@ AreMade locks k = (kind : Kind) (l : ℕ) (cell : TableId) → IsAmong locks kin
 
 abbrev pub AreSharedMade : Locks → Plan → Type 0
 AreSharedMade locks k = (l : ℕ) (cells : List TableId) → IsSharedAmong locks l cells → IsSharedUnder k l cells
+
+-- The plan is what was asked for: it has these locks and no others, of this family and in format one, and
+-- each processor is on the socket that is listed for it. The bound is that on handoffs past a moved waiter,
+-- and where waiters halt that on the turns for which one spins. There is no ledger.
+pub record IsPlanFor (locks : Locks) (family : Mode) (places : List ℕ) (bound : ℕ) (k : Plan) : Type 0 where
+  pub format : k.format ≡ One
+  pub mode : k.mode ≡ family
+  pub sockets : k.topology.sockets.items ≡ places
+  pub threshold : k.threshold ≡ bound
+  pub many : locks_of k ≡ length locks.kinds.items
+  pub accounts : accounts_of k ≡ 0

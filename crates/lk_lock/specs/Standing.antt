@@ -15,7 +15,7 @@ use Rattle.lk_domain.specs.Calls.{Terms, Mark, Hold, hold, Calls, holds_in, lock
 use Rattle.lk_domain.specs.Paths.{HasTaken, HasFreed}
 use Rattle.lk_domain.specs.Plans.{cpus_of, locks_of, kind_at}
 use Rattle.lk_domain.specs.Seats.{IsOf, IsSame, calls_of, ledger_of, view_of}
-use Rattle.lk_domain.specs.Values.{IsClear, cell_of, outs_of}
+use Rattle.lk_domain.specs.Values.{IsClear, bringing, cell_of, outs_of}
 use Rattle.lk_domain.specs.declared.cpu.Cpu.{Cpu}
 use Rattle.lk_domain.specs.declared.domain.Domain.{Domain}
 use Rattle.lk_domain.specs.declared.plan.Plan.{Plan}
@@ -55,9 +55,6 @@ pub record IsSharedUnder (k : Plan) (l : ℕ) (cells : List TableId) : Type 0 wh
   pub cells_are : (h : ℕ) (cell : TableId) → slice_get cells h ≡ Some cell
       → cell_of k (h * locks_of k + l) ≡ Some cell
 
-abbrev pub IsSharedLock : Plan → ℕ → Type 0
-IsSharedLock k l = (cells : List TableId) × IsSharedUnder k l cells
-
 -- The processor is the one that it was: it holds what it held, and has the values out that it had.
 pub record IsAsBefore (before now : Cpu) : Type 0 where
   pub same : IsSame before now
@@ -89,24 +86,40 @@ pub record IsInsideAt (l q : ℕ) (m : Manner) (before now : Cpu) : Type 0 where
 abbrev pub IsInside : ℕ → Manner → Cpu → Cpu → Type 0
 IsInside l m before now = IsInsideAt l l m before now
 
--- The call v has taken a reader-writer lock in this manner by a path of its rows. The call had the wait lock
--- too if the first trail is not all.
-abbrev pub HasComeIn : Terms → ℕ → Verb → ℕ → Manner → Calls → Calls → Type 0
-HasComeIn t p v l m old new = (upto : List Mark) × HasEntered t p v l m upto old new
+-- what the calls of the processor are as soon as the value of the lock, which is out, is home
+abbrev pub home_calls : ℕ → Cpu → Calls
+home_calls l cpu = (bringing l (view_of cpu)).calls
 
--- The spinlock was taken by a path of its rows, and freed by the row U1.
+-- The call v has taken the spinlock by a path of its rows, and no other lock; and then the value went out.
+pub record HasGoneIn (t : Terms) (p : ℕ) (v : Verb) (l : ℕ) (old : Calls) (new : Cpu) : Type 0 where
+  pub taken : HasTaken t p v l Spins old (home_calls l new)
+  pub once : (calls_of new).taken ≡ old.taken + 1
+
+-- The call v has taken a reader-writer lock in this manner by a path of its rows, and no other lock but its
+-- wait lock: that too, where it freed it behind the path.
+pub record HasComeIn (t : Terms) (p : ℕ) (v : Verb) (l : ℕ) (m : Manner) (old new : Calls) : Type 0 where
+  pub upto : List Mark
+  pub entered : HasEntered t p v l m upto old new
+  pub once : new.taken ≡ old.taken + (1 + length entered.behind)
+
+-- The spinlock was taken by a path of its rows, and freed by the row U1. That was one acquisition, and there
+-- was no other meanwhile.
 pub record HasTurned (t : Terms) (p : ℕ) (v : Verb) (l : ℕ) (old new : Calls) : Type 0 where
   pub inside : Calls
   pub taken : HasTaken t p v l Spins old inside
+  pub once : inside.taken ≡ old.taken + 1
   pub freed : HasFreed l inside new
 
--- A reader-writer lock was taken by its writer at one try, and freed by the row Z2.
+-- A reader-writer lock was taken by its writer at one try, and freed by the row Z2. There was no other
+-- acquisition meanwhile.
 pub record HasWrittenOnce (t : Terms) (p : ℕ) (l : ℕ) (old new : Calls) : Type 0 where
   pub inside : Calls
   pub taken : HasTaken t p TryWrite l Writes old inside
+  pub once : inside.taken ≡ old.taken + 1
   pub left : HasLeft Z2 l inside new
 
--- It was taken in this manner by a path of its rows, and freed by this row.
+-- It was taken in this manner by a path of its rows, and freed by this row. There was no other acquisition
+-- meanwhile but that of its wait lock, where the path has it.
 pub record HasBeenIn (t : Terms) (p : ℕ) (v : Verb) (l : ℕ) (m : Manner) (c : Pc) (old new : Calls) : Type 0 where
   pub inside : Calls
   pub entered : HasComeIn t p v l m old inside

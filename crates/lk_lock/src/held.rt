@@ -4,9 +4,13 @@ ghost use Rattle.std.specs.Borrow.{sem};
 ghost use Rattle.std.specs.Fn.{FnOnceReturnsAtMut};
 ghost use Rattle.lk_abs.specs.declared.holder.Manner.TheVariants.{Spins};
 ghost use Rattle.lk_abs.specs.declared.names.Kind.TheVariants.{Spin as spinning};
-ghost use Rattle.lk_domain.specs.Calls.{holds_in};
+ghost use Rattle.lk_domain.specs.Calls.{holds_in, terms_of};
+ghost use Rattle.lk_domain.specs.Paths.{HasFreed};
+ghost use Rattle.lk_domain.specs.Seats.{calls_of};
 ghost use Rattle.lk_domain.specs.declared.cpu.Cpu.{Cpu};
-ghost use Rattle.lk_lock.specs.Standing.{HasOpened, IsAsBefore, IsInside, IsReady, IsUnder, holds_of};
+ghost use Rattle.lk_lock.specs.Standing.{HasGoneIn, HasOpened, HasTurned, IsAsBefore, IsInside};
+ghost use Rattle.lk_lock.specs.Standing.{IsReady, IsUnder, holds_of, home_calls};
+ghost use Rattle.lk_rows.specs.declared.setup.Verb.TheVariants.{Lock, Try};
 
 use crate::holding::{free, key_of, release, try_take};
 use crate::locks::Spin;
@@ -30,6 +34,9 @@ pub struct Held<'a, T, R> {
 impl<'a, T, R: Wait> Held<'a, T, R> {
     /// Takes the lock, until what this gives is dropped. It waits for the lock, so the processor may
     /// not hold it.
+    ///
+    /// When it returns, the processor holds the lock, which was taken once, by a path of the rows;
+    /// no other lock was taken.
     pub fn lock(
         cpu: &'a mut Cpu,
         rt: &'a R,
@@ -44,6 +51,8 @@ impl<'a, T, R: Wait> Held<'a, T, R> {
         ensures same { (result.domain.now ≡ domain.now) × (result.spin.now ≡ spin.now) }
         ensures ready { IsReady domain.now result.cpu.now }
         ensures inside { IsInside result.spin.now.id.index Spins cpu.old result.cpu.now }
+        ensures path { HasGoneIn (terms_of domain.now.plan) cpu.old.number Lock spin.now.id.index
+            (calls_of cpu.old) result.cpu.now }
         ensures open { HasOpened result.spin.now.cell.table.shared.table_id result.place }
     {
         lock(cpu, rt, domain, spin.id, &mut NoIrq);
@@ -57,7 +66,8 @@ impl<'a, T, R: Wait> Held<'a, T, R> {
         }
     }
 
-    /// Takes another lock inside this one, works on its value, and frees it.
+    /// Takes another lock inside this one, works on its value, and frees it: one critical section,
+    /// as that of [`Seat::with`](crate::Seat::with).
     pub fn with<S, U, W: FnOnce(&mut S) -> U>(&mut self, spin: &Spin<S>, work: W) -> U
         requires ready { IsReady self.old.domain.now self.old.cpu.now }
         requires lock { IsUnder self.old.domain.now.plan spinning spin.now.id.index
@@ -72,6 +82,8 @@ impl<'a, T, R: Wait> Held<'a, T, R> {
         ensures ready { IsReady self.new.domain.now self.new.cpu.now }
         ensures inside { (before : Cpu) → IsInside self.old.spin.now.id.index Spins before
             self.old.cpu.now → IsInside self.new.spin.now.id.index Spins before self.new.cpu.now }
+        ensures path { HasTurned (terms_of self.old.domain.now.plan) self.old.cpu.now.number Lock
+            spin.now.id.index (calls_of self.old.cpu.now) (calls_of self.new.cpu.now) }
         ensures done { (x : S) × (y : S) × FnOnceReturnsAtMut W.FnOnce work x result y }
     {
         lock(self.cpu, self.rt, self.domain, spin.id, &mut NoIrq);
@@ -85,7 +97,8 @@ impl<'a, T, R> Held<'a, T, R> {
     ghost use Rattle.lk_lock.specs.Lending.{LendsValue, RestsWhenMissed};
 
     /// Takes the lock if nobody has it or waits for it, until what this gives is dropped. It has no
-    /// leave to wait. `None` says that the lock was not free, or that somebody was faster.
+    /// leave to wait. `None` says that the lock was not free, or that somebody was faster, and that
+    /// no lock was taken.
     pub fn try_lock(
         cpu: &'a mut Cpu,
         rt: &'a R,
@@ -96,13 +109,16 @@ impl<'a, T, R> Held<'a, T, R> {
         requires lock { IsUnder domain.now.plan spinning spin.now.id.index
             spin.now.cell.table.shared.table_id }
         requires free { holds_in (holds_of cpu.old) spin.now.id.index ≡ false }
-        ensures* missed { sem 𝓛 (RestsWhenMissed T.row R.row cpu.entry domain.now result) }
+        ensures* missed { sem 𝓛 (RestsWhenMissed T.row R.row cpu.entry domain.now
+            spin.now.id.index result) }
         ensures name { IfSome result (λ held. held.cpu.ghost_name ≡ cpu.entry.ghost_name) }
         ensures same { IfSome result (λ held. (held.domain.now ≡ domain.now)
             × (held.spin.now ≡ spin.now)) }
         ensures ready { IfSome result (λ held. IsReady domain.now held.cpu.now) }
         ensures inside { IfSome result (λ held.
             IsInside held.spin.now.id.index Spins cpu.old held.cpu.now) }
+        ensures path { IfSome result (λ held. HasGoneIn (terms_of domain.now.plan) cpu.old.number
+            Try spin.now.id.index (calls_of cpu.old) held.cpu.now) }
         ensures open { IfSome result (λ held.
             HasOpened held.spin.now.cell.table.shared.table_id held.place) }
     {
@@ -141,6 +157,9 @@ impl<'a, T, R> Drop for Held<'a, T, R> {
         ensures ready { IsReady self.entry.domain.now self.exit.0.now }
         ensures before { (before : Cpu) → IsInside self.entry.spin.now.id.index Spins before
             self.entry.cpu.now → IsAsBefore before self.exit.0.now }
+        ensures freed { HasFreed self.entry.spin.now.id.index
+            (home_calls self.entry.spin.now.id.index self.entry.cpu.now)
+            (calls_of self.exit.0.now) }
     {
         let Held {
             cpu,

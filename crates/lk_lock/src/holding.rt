@@ -1,5 +1,5 @@
 // The calls on a spinlock, by a processor that is in no call.
-ghost use Rattle.std.specs.Prelude.{◌≡◌, ◌<◌, true, false};
+ghost use Rattle.std.specs.Prelude.{◌≡◌, ◌+◌, ◌<◌, true, false};
 ghost use Rattle.atomic_table.specs.Seated.{TableId};
 ghost use Rattle.lk_abs.specs.declared.holder.Manner.TheVariants.{Spins};
 ghost use Rattle.lk_abs.specs.declared.names.Kind.TheVariants.{Spin};
@@ -9,7 +9,7 @@ ghost use Rattle.lk_domain.specs.Paths.{HasFreed, HasMissed, HasTaken};
 ghost use Rattle.lk_domain.specs.Seats.{calls_of};
 ghost use Rattle.lk_domain.specs.declared.cpu.Cpu.{Cpu};
 ghost use Rattle.lk_lock.specs.Standing.{IsAsBefore, IsHolding, IsInside, IsLock, IsReady, IsUnder};
-ghost use Rattle.lk_lock.specs.Standing.{holds_of};
+ghost use Rattle.lk_lock.specs.Standing.{holds_of, home_calls};
 ghost use Rattle.lk_rows.specs.declared.setup.Verb.TheVariants.{Try};
 
 use lk_cell::Key;
@@ -25,6 +25,7 @@ pub(crate) fn try_take(cpu: &mut Cpu, domain: &Domain, id: LockId) -> bool
     ensures holding { result ≡ true → IsHolding id.index Spins cpu.old cpu.new }
     ensures path { result ≡ true → HasTaken (terms_of domain.now.plan) cpu.old.number Try
         id.index Spins (calls_of cpu.old) (calls_of cpu.new) }
+    ensures once { result ≡ true → (calls_of cpu.new).taken ≡ (calls_of cpu.old).taken + 1 }
     ensures before { result ≡ false → IsAsBefore cpu.old cpu.new }
     ensures missed { result ≡ false → HasMissed (terms_of domain.now.plan) cpu.old.number Try
         id.index (calls_of cpu.old) (calls_of cpu.new) }
@@ -54,6 +55,7 @@ pub(crate) fn key_of(cpu: &mut Cpu, domain: &Domain, id: LockId) -> Key
     ensures ready { IsReady domain.now cpu.new }
     ensures inside { (before : Cpu) → IsHolding id.index Spins before cpu.old
         → IsInside id.index Spins before cpu.new }
+    ensures calls { home_calls id.index cpu.new ≡ calls_of cpu.old }
     ensures key { (cell : TableId) → IsUnder domain.now.plan Spin id.index cell
         → IsKey cell result }
 {
@@ -68,6 +70,7 @@ pub(crate) fn release(cpu: &mut Cpu, domain: &Domain, id: LockId, key: Key)
     ensures ready { IsReady domain.now cpu.new }
     ensures before { (before : Cpu) → IsInside id.index Spins before cpu.old
         → IsAsBefore before cpu.new }
+    ensures freed { HasFreed id.index (home_calls id.index cpu.old) (calls_of cpu.new) }
 {
     bring_home(cpu, domain, id, key);
     free(cpu, domain, id);

@@ -1,5 +1,6 @@
 // The locks of a program, each with its value.
 ghost use Rattle.std.specs.Prelude.{◌≡◌, ◌+◌, ◌<◌, ◌≤◌, [], ◌∷◌, ◌++◌, IfOk, length, false, true};
+ghost use Rattle.std.specs.Prelude.{replicate};
 ghost use Rattle.lk_abs.specs.declared.names.Kind.TheVariants.{Rw as shared, Spin as spinning};
 ghost use Rattle.lk_domain.specs.Ends.{AllRest};
 ghost use Rattle.lk_domain.specs.Plans.{cpus_of};
@@ -57,7 +58,8 @@ pub struct Open {
 }
 
 impl Locks {
-    ghost use Rattle.lk_lock.specs.Made.{AreMade, AreSharedMade, AreSpins, IsAmong, Keeps, KeepsShared};
+    ghost use Rattle.lk_lock.specs.Made.{AreMade, AreSharedMade, AreSpins, IsAmong, IsPlanFor};
+    ghost use Rattle.lk_lock.specs.Made.{Keeps, KeepsShared};
 
     /// None yet, for so many threads: 1 to 64.
     ///
@@ -158,8 +160,8 @@ impl Locks {
         Ok(Rw { id, cell })
     }
 
-    /// The locks, all of one family, and a processor for each thread, all on one socket. There is at
-    /// least one lock.
+    /// The locks, all of this family, and a processor for each thread, all on socket 0. There is at
+    /// least one lock. In mode `cna` a moved waiter is passed by 16 handoffs at most.
     ///
     /// # Errors
     ///
@@ -167,6 +169,8 @@ impl Locks {
     pub fn open(self, mode: Mode) -> Result<Open, Memory>
         requires some { 0 < length self.kinds.items }
         requires awake { halts mode ≡ false }
+        ensures plan { IfOk result (λ all. IsPlanFor self mode (replicate self.threads 0) 16
+            all.domain.plan) }
         ensures made { IfOk result (λ all. AreMade self all.domain.plan) }
         ensures shared { IfOk result (λ all. AreSharedMade self all.domain.plan) }
         ensures many { IfOk result (λ all. length all.cpus.items ≡ self.threads) }
@@ -187,6 +191,8 @@ impl Locks {
         requires some { 0 < length self.kinds.items }
         requires threads { length topology.sockets.items ≡ self.threads }
         requires awake { halts mode ≡ false }
+        ensures plan { IfOk result (λ all. IsPlanFor self mode topology.sockets.items 16
+            all.domain.plan) }
         ensures made { IfOk result (λ all. AreMade self all.domain.plan) }
         ensures shared { IfOk result (λ all. AreSharedMade self all.domain.plan) }
         ensures many { IfOk result (λ all. length all.cpus.items ≡ self.threads) }

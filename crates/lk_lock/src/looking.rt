@@ -33,7 +33,8 @@ impl<T> Rw<T> {
         domain.is_locked(self.id)
     }
 
-    /// Whether somebody waits for the lock, in each family. It may have changed when this returns.
+    /// Whether somebody waits for the lock, in each family. It may have changed when this returns. No
+    /// clause says what this tells: a test does.
     pub fn is_contended(&self, domain: &Domain) -> bool
         requires lock { self.now.id.index < locks_of domain.now.plan }
     {
@@ -43,14 +44,15 @@ impl<T> Rw<T> {
 
 impl<T> Shared<T> {
     /// Whether somebody holds the lock, as a reader or as the writer. It may have changed when this
-    /// returns.
+    /// returns. No clause says what this tells: a test does.
     pub fn is_locked(&self, domain: &Domain) -> bool
         requires lock { self.now.id.index < locks_of domain.now.plan }
     {
         domain.is_locked(self.id)
     }
 
-    /// Whether somebody waits for the lock, in each family. It may have changed when this returns.
+    /// Whether somebody waits for the lock, in each family. It may have changed when this returns. No
+    /// clause says what this tells: a test does.
     pub fn is_contended(&self, domain: &Domain) -> bool
         requires lock { self.now.id.index < locks_of domain.now.plan }
     {

@@ -1,5 +1,6 @@
 // The locks of a program as paravirtual ones, each with its value.
-ghost use Rattle.std.specs.Prelude.{◌≡◌, ◌<◌, IfOk, length};
+ghost use Rattle.std.specs.Prelude.{◌≡◌, ◌<◌, IfOk, length, replicate};
+ghost use Rattle.lk_abs.specs.declared.names.Mode.TheVariants.{Pv};
 ghost use Rattle.lk_domain.specs.Plans.{cpus_of};
 
 use crate::laying::laid_out;
@@ -15,7 +16,7 @@ pub struct PvOpen {
 }
 
 impl Locks {
-    ghost use Rattle.lk_lock.specs.Made.{AreMade, AreSpins};
+    ghost use Rattle.lk_lock.specs.Made.{AreMade, AreSpins, IsPlanFor};
     ghost use Rattle.lk_lock.specs.PvStanding.{AreIdle};
 
     /// The locks, as paravirtual ones, and a processor for each thread. There is at least one
@@ -29,6 +30,8 @@ impl Locks {
         requires some { 0 < length self.kinds.items }
         requires kinds { AreSpins self }
         requires spins { 0 < spins }
+        ensures plan { IfOk result (λ all. IsPlanFor self Pv (replicate self.threads 0) spins
+            all.domain.plan) }
         ensures made { IfOk result (λ all. AreMade self all.domain.plan) }
         ensures many { IfOk result (λ all. length all.cpus.items ≡ self.threads) }
         ensures each { IfOk result (λ all. length all.cpus.items ≡ cpus_of all.domain.plan) }

@@ -109,8 +109,9 @@ impl<'a, R: Wait> Seat<'a, R> {
     /// Takes the lock, works on its value, and frees the lock. It waits for the lock, so the processor
     /// may not hold it.
     ///
-    /// When it returns, `work` was called once, on the value; the lock was taken by a path of the rows,
-    /// and is free; and the processor holds what it held.
+    /// When it returns, `work` was called once, on the value, in one critical section: the lock was
+    /// taken once, by a path of the rows, and is free, and no other lock was taken meanwhile. The
+    /// processor holds what it held.
     pub fn with<T, U, W: FnOnce(&mut T) -> U>(&mut self, spin: &Spin<T>, work: W) -> U
         requires lock { IsUnder self.old.domain.now.plan spinning spin.now.id.index
             spin.now.cell.table.shared.table_id }
@@ -130,7 +131,8 @@ impl<'a, R: Wait> Seat<'a, R> {
         done
     }
 
-    /// The same as `with` under a reader-writer lock, as its writer.
+    /// The same as `with` under a reader-writer lock, as its writer. A call that has to queue takes
+    /// the wait lock of that lock too, once.
     pub fn write<T, U, W: FnOnce(&mut T) -> U>(&mut self, rw: &Rw<T>, work: W) -> U
         requires lock { IsUnder self.old.domain.now.plan shared rw.now.id.index
             rw.now.cell.table.shared.table_id }

@@ -86,8 +86,10 @@ impl<'a, R: Wait> Seat<'a, R> {
     /// Takes the lock as a reader, maybe beside other readers, works on the value, and frees the
     /// lock. It waits for writers, so the processor may not hold the lock.
     ///
-    /// When it returns, `work` was called once, on the copy of the value for its processor; the lock
-    /// was taken as a reader by a path of the rows, and is free; and the processor holds what it held.
+    /// When it returns, `work` was called once, on the copy of the value for its processor, in one
+    /// critical section: the lock was taken once, as a reader, by a path of the rows, and is free. No
+    /// other lock was taken meanwhile but its wait lock, once, by a call that has to queue. The
+    /// processor holds what it held.
     pub fn read<T, U, W: FnOnce(&T) -> U>(&mut self, shared: &Shared<T>, work: W) -> U
         requires lock { IsSharedUnder self.old.domain.now.plan shared.now.id.index
             (names_of shared.now.cells.items) }
@@ -120,9 +122,10 @@ impl<'a, R: Wait> Seat<'a, R> {
     /// work left, and frees the lock. It waits for the lock, so the processor may not hold it. It
     /// copies the value once for each processor of the domain.
     ///
-    /// When it returns, `work` was called once, on the value; the lock was taken as a writer by a
-    /// path of the rows, and is free; and the processor holds what it held. No clause says that all
-    /// copies are then one value: a test shows it.
+    /// When it returns, `work` was called once, on the value; the lock was taken once, as a writer, by
+    /// a path of the rows, and is free; so the work and the copies are one critical section, as that
+    /// of [`Seat::write`]. The processor holds what it held. No clause says that all copies are then
+    /// what the work left: tests show it.
     pub fn update<T: Copy + Drop, U, W: FnOnce(&mut T) -> U>(
         &mut self,
         shared: &Shared<T>,

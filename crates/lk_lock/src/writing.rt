@@ -1,5 +1,5 @@
 // The calls of a writer on a reader-writer lock, by a processor that is in no call.
-ghost use Rattle.std.specs.Prelude.{◌≡◌, ◌<◌, true, false};
+ghost use Rattle.std.specs.Prelude.{◌≡◌, ◌+◌, ◌<◌, true, false};
 ghost use Rattle.lk_abs.specs.declared.holder.Manner.TheVariants.{Writes};
 ghost use Rattle.lk_abs.specs.declared.names.Kind.TheVariants.{Rw};
 ghost use Rattle.lk_domain.specs.Calls.{holds_in, terms_of};
@@ -38,6 +38,7 @@ pub(crate) fn try_enter(cpu: &mut Cpu, domain: &Domain, id: LockId) -> bool
     ensures holding { result ≡ true → IsHolding id.index Writes cpu.old cpu.new }
     ensures path { result ≡ true → HasTaken (terms_of domain.now.plan) cpu.old.number TryWrite
         id.index Writes (calls_of cpu.old) (calls_of cpu.new) }
+    ensures once { result ≡ true → (calls_of cpu.new).taken ≡ (calls_of cpu.old).taken + 1 }
     ensures before { result ≡ false → IsAsBefore cpu.old cpu.new }
     ensures missed { result ≡ false → HasMissed (terms_of domain.now.plan) cpu.old.number
         TryWrite id.index (calls_of cpu.old) (calls_of cpu.new) }

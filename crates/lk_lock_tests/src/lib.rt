@@ -3,6 +3,8 @@
 #![tactic(auto)]
 
 #[cfg(test)]
+mod families;
+#[cfg(test)]
 mod looks;
 #[cfg(test)]
 mod processors;
@@ -12,5 +14,7 @@ mod pv_values;
 mod shared_values;
 #[cfg(test)]
 mod tries;
+#[cfg(test)]
+mod updates;
 #[cfg(test)]
 mod values;

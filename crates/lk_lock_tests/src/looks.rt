@@ -1,14 +1,15 @@
-// What no clause says: what a look at a lock tells.
+// What no clause says: what a look at a lock tells, of each kind, while it is held and while it is free.
 ghost use Rattle.std.specs.Prelude.{◌≡◌, ◌<◌, length};
-ghost use Rattle.lk_abs.specs.declared.names.Kind.TheVariants.{Spin as spinning};
+ghost use Rattle.lk_abs.specs.declared.names.Kind.TheVariants.{Rw as sharing, Spin as spinning};
 ghost use Rattle.lk_domain.specs.Ends.{AllRest, Rests};
 ghost use Rattle.lk_domain.specs.Plans.{locks_of};
-ghost use Rattle.lk_lock.specs.Standing.{IsUnder};
+ghost use Rattle.lk_lock.specs.Cells.{names_of};
+ghost use Rattle.lk_lock.specs.Standing.{IsSharedUnder, IsUnder};
 
 use crate::processors::last;
 use lk_abs::{List, Memory, Mode};
 use lk_domain::{Cpu, Domain};
-use lk_lock::{Locks, Open, Seat, Spin};
+use lk_lock::{Locks, Open, Rw, Seat, Shared, Spin};
 use std::sync::Wait;
 use std::thread;
 use std::thread::Threads;
@@ -21,6 +22,7 @@ fn lock_is_seen_held(rt: HostRuntime) -> Result<(), Memory> {
     let Open { domain, mut cpus } = locks.open(Mode::Native)?;
     let mut cpu = last(&domain, &mut cpus);
     let mut seat = Seat::new(&rt, &domain, &mut cpu);
+    assert!(rt; !seat.holds(&spin) && !seat.holds_rw(&rw));
     let seen = seat.with(&spin, |_: &mut u64| -> bool {
         spin.is_locked(&domain) && !spin.is_contended(&domain) && !rw.is_locked(&domain)
     });
@@ -33,51 +35,106 @@ fn lock_is_seen_held(rt: HostRuntime) -> Result<(), Memory> {
     Ok(())
 }
 
-// Waits until somebody waits for the lock.
-fn wait_for_company(spin: &Spin<u32>, domain: &Domain)
-    requires lock { spin.now.id.index < locks_of domain.now.plan }
-{
-    for _ in 0..u64::MAX {
-        if spin.is_contended(domain) {
-            return;
+#[test]
+fn readers_and_writers_are_seen(rt: HostRuntime) -> Result<(), Memory> {
+    let mut locks = Locks::new(rt.alloc(), 1)?;
+    let shared = locks.shared(7u64)?;
+    let Open { domain, mut cpus } = locks.open(Mode::Virt)?;
+    let mut cpu = last(&domain, &mut cpus);
+    let mut seat = Seat::new(&rt, &domain, &mut cpu);
+    assert!(rt; !seat.holds_shared(&shared));
+    let seen = seat.read(&shared, |_: &u64| -> bool {
+        shared.is_locked(&domain) && !shared.is_contended(&domain)
+    });
+    assert!(rt; seen);
+    let seen = seat.update(&shared, |_: &mut u64| -> bool {
+        shared.is_locked(&domain) && !shared.is_contended(&domain)
+    });
+    assert!(rt; seen);
+    assert!(rt; !shared.is_locked(&domain) && !shared.is_contended(&domain));
+    Ok(())
+}
+
+// A lock of each kind. The value is how many threads have come.
+#[derive(Drop)]
+struct Doors<'a> {
+    domain: &'a Domain,
+    spin: &'a Spin<u32>,
+    rw: &'a Rw<u32>,
+    shared: &'a Shared<u32>,
+    ghost spins: { IsUnder domain.now.plan spinning spin.now.id.index
+        spin.now.cell.table.shared.table_id },
+    ghost writes: { IsUnder domain.now.plan sharing rw.now.id.index
+        rw.now.cell.table.shared.table_id },
+    ghost shares: { IsSharedUnder domain.now.plan shared.now.id.index
+        (names_of shared.now.cells.items) },
+}
+
+// One of them.
+#[derive(Clone, Copy)]
+enum Door {
+    Spin,
+    Rw,
+    Shared,
+}
+
+impl<'a> Doors<'a> {
+    // Whether somebody waits for the lock.
+    fn is_contended(&self, door: Door) -> bool {
+        match door {
+            Door::Spin => self.spin.is_contended(self.domain),
+            Door::Rw => self.rw.is_contended(self.domain),
+            Door::Shared => self.shared.is_contended(self.domain),
+        }
+    }
+
+    // Returns when somebody does.
+    fn wait_for_company(&self, door: Door) {
+        for _ in 0..u64::MAX {
+            if self.is_contended(door) {
+                return;
+            }
         }
     }
 }
 
-// Two threads come: the first holds the lock until the second waits for it.
-fn come<R: Wait>(rt: &R, domain: &Domain, cpu: &mut Cpu, spin: &Spin<u32>)
-    requires rests { Rests domain.now cpu.old.number cpu.old }
-    requires lock { IsUnder domain.now.plan spinning spin.now.id.index
-        spin.now.cell.table.shared.table_id }
-    ensures rests { Rests domain.now cpu.old.number cpu.new }
+// A thread comes to each lock. The first to come holds it until the second waits for it.
+fn come<R: Wait>(rt: &R, cpu: &mut Cpu, doors: &Doors<'_>)
+    requires rests { Rests doors.now.domain.now cpu.old.number cpu.old }
+    ensures rests { Rests doors.now.domain.now cpu.old.number cpu.new }
 {
-    let mut seat = Seat::new(rt, domain, cpu);
-    seat.with(spin, |came: &mut u32| {
+    let mut seat = Seat::new(rt, doors.domain, cpu);
+    seat.with(doors.spin, |came: &mut u32| {
         if *came == 0 {
-            wait_for_company(spin, domain);
+            doors.wait_for_company(Door::Spin);
+        }
+        *came = came.wrapping_add(1);
+    });
+    seat.write(doors.rw, |came: &mut u32| {
+        if *came == 0 {
+            doors.wait_for_company(Door::Rw);
+        }
+        *came = came.wrapping_add(1);
+    });
+    seat.update(doors.shared, |came: &mut u32| {
+        if *came == 0 {
+            doors.wait_for_company(Door::Shared);
         }
         *came = came.wrapping_add(1);
     });
 }
 
-// Both come, each on a thread of its own.
-fn come_together<R: Threads + Wait + Sync>(
-    rt: &R,
-    domain: &Domain,
-    cpus: &mut List<Cpu>,
-    spin: &Spin<u32>,
-)
-    requires rest { AllRest domain.now cpus.old.items }
-    requires lock { IsUnder domain.now.plan spinning spin.now.id.index
-        spin.now.cell.table.shared.table_id }
+// Two threads come, each with a processor.
+fn come_together<R: Threads + Wait + Sync>(rt: &R, cpus: &mut List<Cpu>, doors: &Doors<'_>)
+    requires rest { AllRest doors.now.domain.now cpus.old.items }
     ensures many { length cpus.new.items ≡ length cpus.old.items }
-    ensures rest { AllRest domain.now cpus.new.items }
+    ensures rest { AllRest doors.now.domain.now cpus.new.items }
 {
     thread::for_each_mut(
         rt,
         cpus.as_mut_slice(),
         2,
-        &|_, cpu| { come(rt, domain, cpu, spin) },
+        &|_, cpu| { come(rt, cpu, doors) },
     );
 }
 
@@ -85,11 +142,21 @@ fn come_together<R: Threads + Wait + Sync>(
 fn waiter_is_seen(rt: HostRuntime) -> Result<(), Memory> {
     let mut locks = Locks::new(rt.alloc(), 2)?;
     let spin = locks.spin(0u32)?;
+    let rw = locks.rw(0u32)?;
+    let shared = locks.shared(0u32)?;
     let Open { domain, mut cpus } = locks.open(Mode::Native)?;
-    come_together(&rt, &domain, &mut cpus, &spin);
+    let doors = Doors {
+        domain: &domain,
+        spin: &spin,
+        rw: &rw,
+        shared: &shared,
+    };
+    come_together(&rt, &mut cpus, &doors);
     let mut cpu = last(&domain, &mut cpus);
     let mut seat = Seat::new(&rt, &domain, &mut cpu);
-    let came = seat.with(&spin, |came: &mut u32| -> u32 { *came });
-    assert_eq!(rt; came, 2);
+    let by_spin = seat.with(&spin, |came: &mut u32| -> u32 { *came });
+    let by_rw = seat.write(&rw, |came: &mut u32| -> u32 { *came });
+    let by_shared = seat.read(&shared, |came: &u32| -> u32 { *came });
+    assert_eq!(rt; (by_spin, by_rw, by_shared), (2, 2, 2));
     Ok(())
 }

@@ -47,4 +47,4 @@ returns-clause-path g c =
     c.work_under-done.ensures.still
     (subst (λ (n : ℕ). HasTaken (terms_of d.plan) n Lock l Spins (calls_of old) (calls_of mid)) c.lock.ensures.rest.same.number
     c.lock.ensures.taken)
-    c.free.ensures.freed
+    c.lock.ensures.once c.free.ensures.freed
