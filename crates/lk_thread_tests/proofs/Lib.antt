@@ -3,3 +3,4 @@ mod Homes
 mod TakenOff
 mod Written
 mod Counted
+mod Pages

@@ -1,6 +1,6 @@
 // A waiter of another socket, in `cna`: it is moved aside, unless it is of an interrupt in the second
 // format.
-ghost use Rattle.std.specs.Prelude.{Some};
+ghost use Rattle.std.specs.Prelude.{Some, true};
 ghost use Rattle.lk_domain.specs.Paths.{AreKept, Passes, is_busy};
 ghost use Rattle.lk_domain.specs.Seats.{IsOf, KeepsRest, calls_of, ledger_of};
 ghost use Rattle.lk_thread_tests.specs.Stages.{MayVisit, PlaysIn, RestsAgain};
@@ -116,6 +116,8 @@ impl<'a> Herald<'a> {
 }
 
 impl<'a> Irq for Herald<'a> {
+    ghost nests = { true };
+
     ghost polls = { λ herald. Some herald.polls };
 
     fn poll<R: Wait>(&mut self, cpu: &mut Cpu, _rt: &R, _domain: &Domain) {
@@ -136,6 +138,8 @@ struct Visitor<'a> {
 }
 
 impl<'a> Irq for Visitor<'a> {
+    ghost nests = { true };
+
     ghost polls = { λ visitor. Some visitor.polls };
 
     fn poll<R: Wait>(&mut self, cpu: &mut Cpu, rt: &R, domain: &Domain) {

@@ -1,5 +1,5 @@
 // Handlers that come while a call waits.
-ghost use Rattle.std.specs.Prelude.{◌≡◌, ◌<◌, Some, false};
+ghost use Rattle.std.specs.Prelude.{◌≡◌, ◌<◌, Some, true, false};
 ghost use Rattle.lk_law.specs.Agree.{halts};
 ghost use Rattle.lk_domain.specs.Paths.{AreKept, Passes, is_busy};
 ghost use Rattle.lk_domain.specs.Seats.{IsOf, KeepsRest, calls_of, ledger_of};
@@ -85,6 +85,8 @@ impl<'a, I: Irq> Visitor<'a, I> {
 }
 
 impl<'a, I: Irq> Irq for Visitor<'a, I> {
+    ghost nests = { true };
+
     ghost polls = { λ visitor. Some visitor.polls };
 
     fn poll<R: Wait>(&mut self, cpu: &mut Cpu, rt: &R, domain: &Domain) {
@@ -107,6 +109,8 @@ struct Herald<'a> {
 }
 
 impl<'a> Irq for Herald<'a> {
+    ghost nests = { true };
+
     ghost polls = { λ herald. Some herald.polls };
 
     fn poll<R: Wait>(&mut self, cpu: &mut Cpu, _rt: &R, _domain: &Domain) {

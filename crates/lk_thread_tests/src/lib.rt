@@ -8,9 +8,15 @@ mod far_waiters;
 #[cfg(test)]
 mod handlers;
 #[cfg(test)]
+mod ledger_calls;
+#[cfg(test)]
 mod lock_calls;
 #[cfg(test)]
 mod pv_calls;
+#[cfg(test)]
+mod pv_halts;
+#[cfg(test)]
+mod pv_ledger_calls;
 #[cfg(test)]
 mod pv_region;
 #[cfg(test)]

@@ -2,7 +2,7 @@
 // Where a kick is lost, or a front halts that nobody will kick, a thread sleeps for ever, and so does the
 // test.
 ghost use Rattle.std.specs.Prelude.{◌≡◌, ◌<◌, IfOk, true, false};
-ghost use Rattle.lk_domain.specs.Plans.{locks_of};
+ghost use Rattle.lk_domain.specs.Plans.{cpus_of, locks_of};
 ghost use Rattle.lk_pvdomain.specs.PvSeats.{AreDealt};
 ghost use Rattle.lk_thread_tests.specs.Halting.{HasOne, IsReady};
 
@@ -23,11 +23,12 @@ const LOCK: LockId = LockId { index: 1 };
 /// How often each of them takes it.
 const TURNS: u32 = 20_000;
 
-// A domain of two locks with four processors, whose waiters spin for so many turns.
-fn open(alloc: Global, spins: u32) -> Result<(PvDomain, List<PvCpu>), Memory>
+/// A domain of two locks with four processors, whose waiters spin for so many turns.
+pub fn open(alloc: Global, spins: u32) -> Result<(PvDomain, List<PvCpu>), Memory>
     requires some { 0 < spins }
     requires few { spins < 65536 }
     ensures locks { IfOk result (λ made. locks_of made.0.plan ≡ 2) }
+    ensures cpus { IfOk result (λ made. cpus_of made.0.plan ≡ 4) }
     ensures dealt { IfOk result (λ made. AreDealt made.0 made.1.items) }
 {
     let plan = PvPlan {
@@ -54,8 +55,8 @@ fn try_first(cpu: &mut PvCpu, domain: &PvDomain, turn: u32) -> bool
     pv_try_lock(cpu, domain, LOCK)
 }
 
-// Takes the lock.
-fn take<R: Wait>(cpu: &mut PvCpu, rt: &R, domain: &PvDomain, turn: u32)
+/// Takes the lock. In one turn of four it tries it first.
+pub fn take<R: Wait>(cpu: &mut PvCpu, rt: &R, domain: &PvDomain, turn: u32)
     requires locks { locks_of domain.now.plan ≡ 2 }
     requires ready { IsReady domain.now cpu.old }
     ensures has { HasOne domain.now cpu.new }
@@ -66,8 +67,8 @@ fn take<R: Wait>(cpu: &mut PvCpu, rt: &R, domain: &PvDomain, turn: u32)
     pv_lock(cpu, rt, domain, LOCK);
 }
 
-// Frees it.
-fn give_back<R: Wait>(cpu: &mut PvCpu, rt: &R, domain: &PvDomain)
+/// Frees it.
+pub fn give_back<R: Wait>(cpu: &mut PvCpu, rt: &R, domain: &PvDomain)
     requires locks { locks_of domain.now.plan ≡ 2 }
     requires has { HasOne domain.now cpu.old }
     ensures ready { IsReady domain.now cpu.new }

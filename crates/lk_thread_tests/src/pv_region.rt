@@ -14,8 +14,8 @@ use std::test::Fail;
 use std::thread;
 use std::thread::Threads;
 
-// One empty account, and four processors that may write 1,000 entries each.
-fn open(alloc: Global) -> Result<(PvRegion, List<PvCpu>), Memory>
+/// One empty account, and four processors that may write 1,000 entries each.
+pub fn open(alloc: Global) -> Result<(PvRegion, List<PvCpu>), Memory>
     ensures accounts { IfOk result (λ made. accounts_of made.0.domain.plan ≡ 1) }
     ensures many { IfOk result (λ made. length made.1.items ≡ 4) }
     ensures ready { IfOk result (λ made. AllMayWrite made.0.domain 1000 made.1.items) }

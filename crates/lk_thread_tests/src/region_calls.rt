@@ -40,10 +40,12 @@ fn plan_of(alloc: Global, mode: Mode, kind: Kind) -> Result<Plan, Memory>
     })
 }
 
-// Such a ledger, and its two processors.
-fn open(alloc: Global, mode: Mode, kind: Kind) -> Result<(Region, Cpu, Cpu), Memory>
+/// Such a ledger, and its two processors.
+pub fn open(alloc: Global, mode: Mode, kind: Kind) -> Result<(Region, Cpu, Cpu), Memory>
     requires awake { halts mode ≡ false }
     ensures mode { IfOk result (λ made. made.0.domain.plan.mode ≡ mode) }
+    ensures locks { IfOk result (λ made. (locks_of made.0.domain.plan ≡ 1)
+        × (kind_at made.0.domain.plan 0 ≡ kind)) }
     ensures accounts { IfOk result (λ made. accounts_of made.0.domain.plan ≡ 2) }
     ensures first { IfOk result (λ made. IsOf made.1 made.0.domain × IsIdle made.1
         × ((ledger_of made.1).share ≡ 2)) }

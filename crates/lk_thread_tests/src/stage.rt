@@ -154,6 +154,7 @@ pub fn open(
     ensures locks { IfOk result (λ made. locks_of made.0.plan ≡ LOCKS) }
     ensures kinds { IfOk result (λ made. AreAll kind made.0.plan) }
     ensures many { IfOk result (λ made. length made.1.items ≡ cpus) }
+    ensures cpus { IfOk result (λ made. cpus_of made.0.plan ≡ cpus) }
     ensures rest { IfOk result (λ made. AllRest made.0 made.1.items) }
 {
     let plan = plan_of(alloc, mode, kind, cpus)?;
