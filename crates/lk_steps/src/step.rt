@@ -52,6 +52,18 @@ fn act_word(act: Act) -> &'static str {
     }
 }
 
+// Whether the row is a compare-exchange. It changes its part wherever it meets what it compares with,
+// so it failed where its part stays.
+fn is_compare_exchange(place: Pc) -> bool {
+    match place {
+        Pc::F1 | Pc::T2 | Pc::V2 | Pc::U2 => true,
+        Pc::G3 | Pc::G8 | Pc::N2 | Pc::C10 => true,
+        Pc::H2 | Pc::W7 | Pc::E4 | Pc::E13 | Pc::K1 => true,
+        Pc::Wr1 | Pc::Wr3 | Pc::Wr6 | Pc::Y5 => true,
+        _ => false,
+    }
+}
+
 /// The text of an act that was made.
 #[derive(Drop)]
 pub(crate) struct Step {
@@ -100,7 +112,8 @@ impl Step {
         }
     }
 
-    // Tells a row, its part, and the value of that part before and after.
+    // Tells a row, its part, the value of that part before and after, and whether a compare-exchange
+    // failed.
     fn tell_row(&mut self, place: Pc, spot: Spot, stays: bool) {
         self.text.row(place);
         self.text.word(" ");
@@ -110,6 +123,8 @@ impl Step {
         if !stays {
             self.text.word(" -> ");
             self.text.append(&self.left);
+        } else if is_compare_exchange(place) {
+            self.text.word(", fails");
         }
     }
 
