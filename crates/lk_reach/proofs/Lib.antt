@@ -1,0 +1,5 @@
+pub mod Counts
+pub mod Closed
+pub mod Kept
+pub mod Left
+pub mod Moves

@@ -1,0 +1,69 @@
+-- The acts that are explored, put together one by one.
+use Rattle.std.proofs.Common.{◌≡◌, ℕ, zero, suc, ◌<◌, ◌≤◌, ◌+◌, Bool, true, false, List, [], ◌∷◌, ◌++◌, refl, sym, ◌∙◌, ap, subst, length, Option, Some, None, arith, inl, inr, ◌⊎◌}
+use Rattle.std.proofs.lemmas.Bool.{cases_eq}
+use Rattle.std.specs.Prelude.{slice_get}
+use Rattle.lk_abs.specs.declared.events.Act.{Act}
+use Rattle.lk_abs.specs.declared.events.Act.TheVariants as act
+use Rattle.lk_rows.specs.declared.setup.Setup.{Setup}
+use Rattle.lk_rows.specs.Programs.{handlers_of}
+use Rattle.lk_reach.specs.Reach.{IsMove, cpus_of}
+use Rattle.lk_reach.specs.Space.{IsFront}
+use Rattle.lk_reach.specs.Explored.{Among, OnlyMoves, AreAllMoves}
+use Rattle.lk_reach.proofs.Kept.{front_get, front_at, front_then}
+
+pub among_front : (xs ys : List Act) → IsFront xs ys → (a : Act) → Among xs a → Among ys a
+among_front xs ys f a at = (at.0, front_at xs ys f at.0 a at.1)
+
+pub front_push : (xs ys : List Act) (a : Act) → IsFront xs ys → IsFront xs (ys ++ a ∷ [])
+front_push xs ys a f = front_then xs ys (ys ++ a ∷ []) f (a ∷ [], refl)
+
+among_new : (xs : List Act) (a : Act) → slice_get (xs ++ a ∷ []) (length xs) ≡ Some a
+among_new [] a = refl
+among_new (x ∷ xs) a = among_new xs a
+
+last_or_before : (xs : List Act) (a : Act) (i : ℕ) (b : Act) → slice_get (xs ++ a ∷ []) i ≡ Some b
+    → (slice_get xs i ≡ Some b) ⊎ (a ≡ b)
+last_or_before [] a zero b e = inr cc
+last_or_before [] a (suc i) b e = cc
+last_or_before (x ∷ xs) a zero b e = inl e
+last_or_before (x ∷ xs) a (suc i) b e = last_or_before xs a i b e
+
+-- one more
+pub only_push : (nudges : Bool) (setup : Setup) (xs : List Act) (a : Act) → OnlyMoves nudges setup xs
+    → IsMove nudges setup a → OnlyMoves nudges setup (xs ++ a ∷ [])
+only_push nudges setup xs a only move i b e =
+    elim (last_or_before xs a i b e) [
+      | inl old ↦ only i b old
+      | inr new ↦ subst (IsMove nudges setup) new move
+    ]
+
+pub all_push : (Q : ℕ → Type 0) (f : ℕ → Act) (xs : List Act) (n : ℕ)
+    → ((p : ℕ) → p < n → Q p → Among xs (f p)) → (p : ℕ) → p < n + 1 → Q p
+    → Among (xs ++ f n ∷ []) (f p)
+all_push Q f xs n before p low q =
+    elim (cases_eq p n) [
+      | inl e ↦ subst (λ (k : ℕ). Among (xs ++ f n ∷ []) (f k)) (sym e) (length xs, among_new xs (f n))
+      | inr ne ↦ let b = before p (omega (arith, low, ne)) q in (b.0, front_get xs (f n ∷ []) b.0 (f p) b.1)
+    ]
+
+pub all_skip : (Q : ℕ → Type 0) (f : ℕ → Act) (xs : List Act) (n : ℕ) → (Q n → ⊥)
+    → ((p : ℕ) → p < n → Q p → Among xs (f p)) → (p : ℕ) → p < n + 1 → Q p → Among xs (f p)
+all_skip Q f xs n not before p low q =
+    elim (cases_eq p n) [
+      | inl e ↦ absurd (not (subst Q e q))
+      | inr ne ↦ before p (omega (arith, low, ne)) q
+    ]
+
+pub are_all : (nudges : Bool) (setup : Setup) (acts : List Act) → OnlyMoves nudges setup acts
+    → ((p : ℕ) → p < cpus_of setup → Among acts (act.Step p))
+    → ((p : ℕ) → p < cpus_of setup → 0 < handlers_of setup p → Among acts (act.Interrupt p))
+    → ((p : ℕ) → nudges ≡ true → p < cpus_of setup → Among acts (act.Nudge p))
+    → AreAllMoves nudges setup acts
+are_all nudges setup acts only steps ints nudged = record { all = all; only = only }
+  where
+    all : (a : Act) → IsMove nudges setup a → Among acts a
+    all (act.Step p) move = steps p move
+    all (act.Interrupt p) move = ints p move.0 move.1
+    all (act.Nudge p) move = nudged p move.0 move.1
+    all (act.Preempt p) move = absurd move
+    all (act.Resume p) move = absurd move

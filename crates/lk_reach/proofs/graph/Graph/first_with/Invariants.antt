@@ -1,0 +1,10 @@
+use Rattle.std.proofs.Common.{◌≡◌, ◌<◌, ℕ, length}
+use Rattle.lk_rows.specs.Machine.{Machine}
+use Rattle.lk_reach.specs.Reach.{MakesRow}
+use Rattle.lk_reach.specs.Space.{Keeps}
+use Rattle.lk_reach.proofs.graph.Graph.first_with.Given as goal
+
+-- no state so far makes the row
+abbrev pub invariant-loop-state : goal.invariant-loop-state
+invariant-loop-state l = (j : ℕ) → j < l.state → (s : Machine) → Keeps l.self.space j s
+    → length s.cpus ≡ l.self.cpus → ¬ MakesRow s l.row

@@ -1,0 +1,34 @@
+use Rattle.std.proofs.Common.{arith, ◌≡◌, ◌<◌, ◌∙◌, ap, get_or, length, Some, true, false}
+use Rattle.std.specs.Prelude.{slice_get}
+use Rattle.std.proofs.lemmas.Bool.{lt-ltb}
+use Rattle.std.proofs.lemmas.Option.{slice_get_within}
+use Rattle.lk_rows.specs.Machine.{CpuState, cpu_at}
+use Rattle.lk_machine.specs.Parts.{is_over}
+use Rattle.lk_reach.specs.Space.{SpaceValue}
+use Rattle.lk_reach.proofs.Kept.{got, key_there, one_value, part_there}
+use Rattle.lk_reach.proofs.space.Space.is_over_at.Goals as goal
+
+pub returns-in-Some : goal.returns-in-Some
+returns-in-Some c = λ s has low.
+    let v = c.args.self.now in
+    let key = c.index-key.result.now in
+    let same = key_there v c.args.state s key has
+    (c.index-key.ensures ∙ ap (λ (u : SpaceValue). get_or u.keys c.args.state key) c.self.view_is) in
+    let there = part_there v c.args.state s key has same c.args.cpu c.part.result low c.part.ensures in
+    let here = got c.deref.result.now v.parts c.part.result c.in-Some.part.now
+    (c.deref.ensures.value ∙ ap (λ (u : SpaceValue). u.parts) c.self.view_is) c.in-Some.ensures.lookup.3 in
+    c.is_over.ensures
+    ∙ ap (λ (x : CpuState). is_over x)
+    (one_value (slice_get v.parts c.part.result) c.in-Some.part.now (cpu_at s c.args.cpu) here there)
+
+pub returns-in-None : goal.returns-in-None
+returns-in-None c = λ s has low.
+    let v = c.args.self.now in
+    let key = c.index-key.result.now in
+    let same = key_there v c.args.state s key has
+    (c.index-key.ensures ∙ ap (λ (u : SpaceValue). get_or u.keys c.args.state key) c.self.view_is) in
+    let there = part_there v c.args.state s key has same c.args.cpu c.part.result low c.part.ensures in
+    let within = slice_get_within v.parts c.part.result (cpu_at s c.args.cpu) there in
+    let count = ap length (c.deref.ensures.value ∙ ap (λ (u : SpaceValue). u.parts) c.self.view_is) in
+    let no = c.in-None.ensures.lookup.0 ∙ lt-ltb c.part.result (length c.deref.result.now) (omega (arith, within, count)) in
+    absurd cc

@@ -1,0 +1,16 @@
+use Rattle.std.proofs.Common.{◌≡◌, ◌<◌, ℕ, Some, length}
+use Rattle.std.specs.Prelude.{slice_get}
+use Rattle.lk_reach.proofs.Kept.{Numbered}
+use Rattle.lk_reach.specs.Space.{IsFront, HasShared}
+use Rattle.lk_reach.proofs.space.Space.key_of.Given as goal
+
+-- the parts so far have numbers, and what was met is not forgotten
+abbrev pub invariant-loop-cpu : goal.invariant-loop-cpu
+invariant-loop-cpu l = record {
+  shared : HasShared l.self-inside.shareds.items.items l.shared l.machine;
+  each : Numbered l.cpus l.self-inside.parts.items.items l.machine l.cpu;
+  parts : IsFront l.fn.self.parts l.self-inside.parts.items.items;
+  shareds : IsFront l.fn.self.shareds l.self-inside.shareds.items.items;
+  keys : l.self-inside.keys.items ≡ l.fn.self.keys;
+  room : length l.cpus ≡ 8;
+}

@@ -1,0 +1,10 @@
+use Rattle.std.proofs.Common.{◌≡◌, ◌≢◌, ◌<◌, ℕ, Some}
+use Rattle.std.specs.Prelude.{slice_get}
+use Rattle.lk_rows.specs.Machine.{CpuState}
+use Rattle.lk_machine.specs.Parts.{row_of}
+use Rattle.lk_reach.proofs.space.has_row.Given as goal
+
+-- no part so far makes the row
+abbrev pub invariant-loop-at : goal.invariant-loop-at
+invariant-loop-at l =
+    (i : ℕ) (x : CpuState) → i < l.«at» → slice_get l.parts i ≡ Some x → row_of x ≢ Some l.row

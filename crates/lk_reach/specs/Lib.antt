@@ -1,0 +1,3 @@
+pub mod Reach
+pub mod Space
+pub mod Explored

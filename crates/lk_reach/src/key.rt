@@ -1,0 +1,77 @@
+// The key of a state: the numbers of its parts.
+
+ghost use Rattle.std.specs.Prelude.{◌≡◌, ◌<◌, ◌≤◌, true, length, slice_get, Some};
+
+use std::hash::{FoldHasher, Hasher};
+
+/// The most processors of a setup that is explored.
+pub const MAX_CPUS: usize = 8;
+
+/// The numbers of the parts of a state.
+#[derive(Clone, Copy)]
+pub(crate) struct Key {
+    /// The number of what is no single processor's.
+    pub shared: u32,
+    /// The numbers of the processors' parts, and 0 for processors that are not there.
+    pub cpus: [u32; MAX_CPUS],
+}
+
+impl Key {
+    /// The key of no state.
+    pub(crate) fn none() -> Key {
+        Key {
+            shared: 0,
+            cpus: [0; MAX_CPUS],
+        }
+    }
+
+    /// The number of what is no single processor's.
+    pub(crate) fn shared(&self) -> usize
+        ensures { result ≡ self.now.shared }
+    {
+        self.shared as usize
+    }
+
+    /// The number of the part of a processor.
+    pub(crate) fn part(&self, cpu: u32) -> usize
+        requires { cpu < 8 }
+        ensures { slice_get self.now.cpus cpu ≡ Some result }
+    {
+        self.cpus[cpu as usize] as usize
+    }
+
+    /// A number for a table of keys.
+    pub(crate) fn number(&self) -> u64 {
+        let mut hasher = FoldHasher::default();
+        hasher.write_u32(self.shared);
+        for part in &self.cpus {
+            hasher.write_u32(*part);
+        }
+        hasher.finish()
+    }
+
+    /// Whether the key is the same as another.
+    pub(crate) fn same(&self, other: &Key) -> bool
+        ensures { result ≡ true → self.now ≡ other.now }
+    {
+        if self.shared != other.shared {
+            return false;
+        }
+        same_numbers(&self.cpus, &other.cpus)
+    }
+}
+
+// Whether numbers are the same.
+fn same_numbers(a: &[u32], b: &[u32]) -> bool
+    ensures { result ≡ true → a.now ≡ b.now }
+{
+    if a.len() != b.len() {
+        return false;
+    }
+    for i in 0..a.len() {
+        if a[i] != b[i] {
+            return false;
+        }
+    }
+    true
+}

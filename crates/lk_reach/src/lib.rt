@@ -1,0 +1,25 @@
+//! All schedules of a small setup. An exploration meets every state that some schedule of a machine at
+//! rest reaches, and no other: `explore` claims both. A state is a machine without its counts.
+//!
+//! A state is kept as the numbers of its parts, which stand in tables. A part that is found in a
+//! table was compared with the part that was sought. So what the theorem rests on is that
+//! comparison, and not how the tables work.
+#![tactic(auto)]
+
+mod book;
+mod exploring;
+mod graph;
+mod key;
+mod kinds;
+mod laws;
+mod plan;
+mod slots;
+mod space;
+mod table;
+
+pub use book::Seen;
+pub use exploring::{Watch, explore};
+pub use graph::{Graph, is_never};
+pub use key::MAX_CPUS;
+pub use kinds::{KIND_NAMES, KINDS};
+pub use laws::counts_are_idle;
