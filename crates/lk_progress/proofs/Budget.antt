@@ -1,0 +1,344 @@
+-- Every act lowers the budget that changes something, is no pause, and is no swap that fails.
+use Rattle.std.proofs.Common.{◌≡◌, ◌≢◌, ◌⊎◌, inl, inr, ℕ, zero, suc, ◌<◌, ◌≤◌, ◌+◌, ◌-◌, ◌*◌, Option, Some, None, Bool}
+use Rattle.std.proofs.Common.{true, false, refl, sym, ap, ◌∙◌, subst, arith, [], ◌∷◌, length}
+use Rattle.std.proofs.lemmas.Bool.{cases_Bool, cases_lt, cases_eq, or_parts, leb-false}
+use Rattle.std.specs.Prelude.{if◌then◌else◌, ◌||◌, ◌&&◌, not, nat_le, nat_lt}
+use Rattle.lk_abs.specs.Names.{same_waiter}
+use Rattle.lk_abs.specs.History.{LockHistory, history_of}
+use Rattle.lk_abs.specs.declared.names.Mode.{Mode}
+use Rattle.lk_abs.specs.declared.names.Waiter.{Waiter}
+use Rattle.lk_abs.specs.declared.names.LockName.{LockName}
+use Rattle.lk_abs.specs.declared.events.Act.{Act}
+use Rattle.lk_abs.specs.declared.events.Act.TheVariants as act
+use Rattle.lk_rows.specs.declared.setup.Setup.{Setup}
+use Rattle.lk_rows.specs.declared.parts.Frame.{Frame}
+use Rattle.lk_rows.specs.Machine.{Machine, frame_at, top_of, top_frame, preempted_at, halted_at, handlers_at, depth_at, HasTop}
+use Rattle.lk_rows.specs.Machine.{set_preempted, push}
+use Rattle.lk_rows.specs.Moves.{started, settled}
+use Rattle.lk_rows.specs.Programs.{handlers_of, program_at}
+use Rattle.lk_rows.specs.TopRow.{row}
+use Rattle.lk_rows.specs.Acts.{next, idle, step_halted, processor_of, is_shut, handler_frame, stands_halting, woken}
+use Rattle.lk_law.specs.Agree.{halts}
+use Rattle.lk_law.specs.Cna.{moves_aside}
+use Rattle.lk_law.specs.Kicked.{with_event}
+use Rattle.lk_law.specs.Sound.{ShowsAll, world}
+use Rattle.lk_law.specs.SoundWorld.{spin_part}
+use Rattle.lk_law.specs.World.{World}
+use Rattle.lk_law.proofs.common.Knows.{nobody_halts}
+use Rattle.lk_law.proofs.common.Puts.{same_waiter-else}
+use Rattle.lk_law.proofs.common.Sames.{same_waiter-self}
+use Rattle.lk_core.proofs.Access.{above_top}
+use Rattle.lk_core.proofs.ActKept.{act_kept}
+use Rattle.lk_core.proofs.Runs.{acts_keep}
+use Rattle.lk_core.proofs.Same.{tops_push, depth_push, handlers_push, handlers_push_other, same_set_preempted}
+use Rattle.lk_core.proofs.Seated.{next_of, world-push, world-set_preempted}
+use Rattle.lk_core.proofs.Setups.{setup_kept}
+use Rattle.lk_progress.specs.Measure.{left_of}
+use Rattle.lk_progress.specs.Potential.{weight_of, sum_below, cpu_weight, pending_weight, budget, is_pause}
+use Rattle.lk_progress.specs.Potential.{IsSpoilt, ActsLower, HasMoves, RunsAreShort}
+use Rattle.lk_progress.proofs.Measure.{begin_is_short}
+use Rattle.lk_progress.proofs.Moves.{Settles, Settled, settled_is}
+use Rattle.lk_progress.proofs.Potential.{sum_same, steps_lower, row_handlers, step_is_row}
+
+-- one of them changes
+sum_more : (n : ℕ) (F G : ℕ → ℕ) (k : ℕ) → k < n → ((i : ℕ) → i ≢ k → G i ≡ F i)
+    → sum_below n G + F k ≡ sum_below n F + G k
+sum_more zero F G k lt same = absurd (omega (arith, lt))
+sum_more (suc n) F G k lt same =
+    elim (cases_eq k n) [
+      | inl e ↦
+          let h = sum_same n F G (λ i low. same i (λ q. (let z = q in omega (arith, z, e, low)))) in
+          let a = ap F e in
+          let b = ap G e in
+          omega (arith, h, a, b)
+      | inr ne ↦
+          let h = sum_more n F G k (let z = ne in grind (arith, z, lt)) same in
+          let e = same n (λ q. ne (sym q)) in
+          omega (arith, h, e)
+    ]
+
+module _ (m : Machine) (hs : LockName → LockHistory) (shows : ShowsAll m hs) (awake : halts m.setup.mode ≡ false)
+    (plain : moves_aside m.setup.mode ≡ false) where
+  unhalted : (p : ℕ) → halted_at m p ≡ false
+  unhalted p = nobody_halts (world m) (spin_part (world m).kind hs) shows.world.spins awake p
+
+  cpus_is : (a : Act) → processor_of a < length m.cpus → length (next m a).0.cpus ≡ length m.cpus
+  cpus_is a range =
+      let after = (act_kept m hs shows a range).shows.whole in
+      after.cpus ∙ ap (λ (s : Setup). length s.topology.sockets.items) (setup_kept m a) ∙ sym shows.whole.cpus
+
+  -- the handlers to come, where none was used up
+  pending_same : (k : Machine) → k.setup ≡ m.setup → length k.cpus ≡ length m.cpus
+      → ((q : ℕ) → handlers_at k q ≡ handlers_at m q)
+      → sum_below (length k.cpus) (λ q. pending_weight k q) ≡ sum_below (length m.cpus) (λ q. pending_weight m q)
+  pending_same k setup cpus handlers =
+      sum_same (length k.cpus) (λ q. pending_weight m q) (λ q. pending_weight k q) (λ q lt. same q)
+      ∙ ap (λ (n : ℕ). sum_below n (λ q. pending_weight m q)) cpus
+    where
+      same : (q : ℕ) → pending_weight k q ≡ pending_weight m q
+      same q =
+          ap (λ (s : Setup). sum_below (handlers_of s q)
+          (λ i. if nat_lt i (handlers_at k q) then 0 else length (program_at s q (i + 1)) * 23 + 23)) setup
+          ∙ ap (λ (h : ℕ). sum_below (handlers_of m.setup q)
+          (λ i. if nat_lt i h then 0 else length (program_at m.setup q (i + 1)) * 23 + 23)) (handlers q)
+
+  weight_same : (k : Machine) → k.setup ≡ m.setup → (q : ℕ) (o : Option Frame) → weight_of k q o ≡ weight_of m q o
+  weight_same k setup q None = refl
+  weight_same k setup q (Some g) =
+      ap (λ (s : Setup). (length (program_at s q g.program) - g.«at») * 23 + left_of g) setup
+
+  -- a step
+  step_acts : (p : ℕ) → p < length m.cpus
+      → ((next m (act.Step p)).0 ≡ m) ⊎ (budget (next m (act.Step p)).0 < budget m) ⊎ IsSpoilt m p
+  step_acts p range = by (preempted_at m p) refl
+    where
+      by : (b : Bool) → preempted_at m p ≡ b
+          → ((next m (act.Step p)).0 ≡ m) ⊎ (budget (next m (act.Step p)).0 < budget m) ⊎ IsSpoilt m p
+      by true e = inl (ap (λ (b : Bool). (if b then idle m else (if halted_at m p then step_halted m p else row m p)).0) e)
+      by false e = elim (steps_lower m hs p shows awake plain range e) [
+        | inl same ↦ inl same
+        | inr r ↦ elim r [
+          | inr z ↦ inr (inr z)
+          | inl lt ↦
+              let h = pending_same (next m (act.Step p)).0 (setup_kept m (act.Step p)) (cpus_is (act.Step p) range)
+              (λ q. ap (λ (k : Machine). handlers_at k q) (step_is_row m hs p shows awake plain range e)
+              ∙ row_handlers m hs p shows awake plain range e q) in
+              inr (inl (omega (arith, lt, h)))
+        ]
+      ]
+
+  -- an interrupt that comes
+  module _ (p : ℕ) (range : p < length m.cpus) (low : depth_at m p < 6) (left : handlers_at m p < handlers_of m.setup p) where
+    abbrev g : Frame
+    g = handler_frame m p
+
+    abbrev n : Machine
+    n = push m p g
+
+    abbrev k : Machine
+    k = settled n p g
+
+    abbrev v : Waiter
+    v = next_of m p
+
+    top : HasTop m p
+    top = shows.whole.tops p range
+
+    s : Settled n p g (settled n p g)
+    s = settled_is n p g (tops_push m p g range low p top)
+
+    frames : (u : Waiter) → frame_at n u ≡ (if same_waiter u v then Some g else frame_at m u)
+    frames u = ap (λ (y : World). y.frame u) (world-push m p g range)
+
+    top_is : top_of n p ≡ v
+    top_is = let e : depth_at n p - 1 ≡ depth_at m p = (let z = depth_push m p g range in omega (arith, z)) in
+        (λ i. record { cpu = p; ctx = e i })
+
+    absent : frame_at m v ≡ None
+    absent = above_top m p (depth_at m p) (let z = top.some in omega (arith, z))
+
+    here : frame_at k v ≡ s.now
+    here = s.follows.frame v
+        ∙ ap (λ (b : Bool). if b then s.now else frame_at n v) (ap (same_waiter v) top_is ∙ same_waiter-self v)
+
+    there : (u : Waiter) → u ≢ v → frame_at k u ≡ frame_at m u
+    there u ne = s.follows.frame u
+        ∙ ap (λ (b : Bool). if b then s.now else frame_at n u) (ap (same_waiter u) top_is ∙ same_waiter-else u v ne)
+        ∙ frames u ∙ ap (λ (b : Bool). if b then Some g else frame_at m u) (same_waiter-else u v ne)
+
+    handlers_here : handlers_at k p ≡ handlers_at m p + 1
+    handlers_here = s.follows.handlers p ∙ handlers_push m p g range
+
+    handlers_there : (q : ℕ) → q ≢ p → handlers_at k q ≡ handlers_at m q
+    handlers_there q ne = s.follows.handlers q ∙ handlers_push_other m p q g ne
+
+    -- the operations of the handler
+    abbrev size : ℕ
+    size = length (program_at m.setup p (handlers_at m p + 1))
+
+    light : weight_of m p s.now < size * 23 + 23
+    light = by s.settles
+      where
+        by : Settles n.setup.mode g s.now → weight_of m p s.now < size * 23 + 23
+        by (inl e) = let z : weight_of m p s.now ≡ 0 = ap (weight_of m p) e in omega (arith, z)
+        by (inr (inl e)) =
+            let z : weight_of m p s.now ≡ (size - 0) * 23 + 0 = ap (weight_of m p) e.0 in omega (arith, z)
+        by (inr (inr o)) =
+            let z : weight_of m p s.now ≡ (size - 0) * 23 + left_of (started n.setup.mode g o.0) = ap (weight_of m p) o.1 in
+            let mode : n.setup.mode ≡ m.setup.mode = ap (λ (y : World). y.mode) (world-push m p g range) in
+            let short : left_of (started n.setup.mode g o.0) < 23 =
+            subst (λ (x : Mode). left_of (started x g o.0) < 23) (sym mode) (begin_is_short (world m) g o.0 awake) in
+            omega (arith, z, short)
+
+    pub comes : k.setup ≡ m.setup → length k.cpus ≡ length m.cpus → budget k < budget m
+    comes setup cpus =
+        let one = sum_more 6 (λ i. weight_of m p (frame_at m (record { cpu = p; ctx = i })))
+        (λ i. weight_of k p (frame_at k (record { cpu = p; ctx = i }))) v.ctx low
+        (λ i ne. weight_same k setup p (frame_at k (record { cpu = p; ctx = i }))
+        ∙ ap (weight_of m p) (there (record { cpu = p; ctx = i }) (λ e. ne (ap (λ (u : Waiter). u.ctx) e)))) in
+        let nothing : weight_of m p (frame_at m v) ≡ 0 = ap (weight_of m p) absent in
+        let new : weight_of k p (frame_at k v) ≡ weight_of m p s.now =
+        weight_same k setup p (frame_at k v) ∙ ap (weight_of m p) here in
+        let all : sum_below (length m.cpus) (λ q. cpu_weight k q) + cpu_weight m p
+        ≡ sum_below (length m.cpus) (λ q. cpu_weight m q) + cpu_weight k p =
+        sum_more (length m.cpus) (λ q. cpu_weight m q) (λ q. cpu_weight k q) p range
+        (λ q ne. sum_same 6 (λ i. weight_of m q (frame_at m (record { cpu = q; ctx = i })))
+        (λ i. weight_of k q (frame_at k (record { cpu = q; ctx = i })))
+        (λ i lt. weight_same k setup q (frame_at k (record { cpu = q; ctx = i }))
+        ∙ ap (weight_of m q) (there (record { cpu = q; ctx = i }) (λ e. ne (ap (λ (u : Waiter). u.cpu) e))))) in
+        let rest : sum_below (length m.cpus) (λ q. pending_weight k q) + pending_weight m p
+        ≡ sum_below (length m.cpus) (λ q. pending_weight m q) + pending_weight k p =
+        sum_more (length m.cpus) (λ q. pending_weight m q) (λ q. pending_weight k q) p range (λ q ne. other q ne) in
+        let used = fewer in
+        let l = light in
+        let count = ap (λ (i : ℕ). sum_below i (λ q. cpu_weight k q)) cpus in
+        let count2 = ap (λ (i : ℕ). sum_below i (λ q. pending_weight k q)) cpus in
+        omega (arith, one, nothing, new, all, rest, used, l, count, count2)
+      where
+        pending_by : (q h : ℕ) → handlers_at k q ≡ h
+            → pending_weight k q
+            ≡ sum_below (handlers_of m.setup q) (λ i. if nat_lt i h then 0 else length (program_at m.setup q (i + 1)) * 23 + 23)
+        pending_by q h e =
+            ap (λ (s : Setup). sum_below (handlers_of s q)
+            (λ i. if nat_lt i (handlers_at k q) then 0 else length (program_at s q (i + 1)) * 23 + 23)) setup
+            ∙ ap (λ (h : ℕ). sum_below (handlers_of m.setup q)
+            (λ i. if nat_lt i h then 0 else length (program_at m.setup q (i + 1)) * 23 + 23)) e
+
+        other : (q : ℕ) → q ≢ p → pending_weight k q ≡ pending_weight m q
+        other q ne = pending_by q (handlers_at m q) (handlers_there q ne)
+
+        fewer : pending_weight k p + (size * 23 + 23) ≡ pending_weight m p
+        fewer =
+            let h : ℕ = handlers_at m p in
+            let a = pending_by p (handlers_at m p + 1) handlers_here in
+            let z : sum_below (handlers_of m.setup p) (λ i. if nat_lt i (handlers_at m p + 1) then 0 else length (program_at m.setup p (i + 1)) * 23 + 23)
+            + (if nat_lt (handlers_at m p) (handlers_at m p) then 0 else size * 23 + 23)
+            ≡ sum_below (handlers_of m.setup p) (λ i. if nat_lt i (handlers_at m p) then 0 else length (program_at m.setup p (i + 1)) * 23 + 23)
+            + (if nat_lt (handlers_at m p) (handlers_at m p + 1) then 0 else size * 23 + 23) =
+            sum_more (handlers_of m.setup p)
+            (λ i. if nat_lt i (handlers_at m p) then 0 else length (program_at m.setup p (i + 1)) * 23 + 23)
+            (λ i. if nat_lt i (handlers_at m p + 1) then 0 else length (program_at m.setup p (i + 1)) * 23 + 23)
+            (handlers_at m p) left
+            (λ i ne. ap (λ (b : Bool). if b then 0 else length (program_at m.setup p (i + 1)) * 23 + 23) (step_up i (handlers_at m p) ne)) in
+            let f : (if nat_lt (handlers_at m p) (handlers_at m p) then 0 else size * 23 + 23) ≡ size * 23 + 23 =
+            ap (λ (b : Bool). if b then 0 else size * 23 + 23) (lt_false (handlers_at m p) (handlers_at m p) (omega arith)) in
+            let t : (if nat_lt (handlers_at m p) (handlers_at m p + 1) then 0 else size * 23 + 23) ≡ 0 =
+            ap (λ (b : Bool). if b then 0 else size * 23 + 23) (lt_true (handlers_at m p) (handlers_at m p + 1) (omega arith)) in
+            omega (arith, a, z, f, t)
+          where
+            lt_true : (i j : ℕ) → i < j → nat_lt i j ≡ true
+            lt_true i j lt = grind (arith, lt)
+
+            lt_false : (i j : ℕ) → j ≤ i → nat_lt i j ≡ false
+            lt_false i j le = grind (arith, le)
+
+            step_up : (i j : ℕ) → i ≢ j → nat_lt i (j + 1) ≡ nat_lt i j
+            step_up i j ne = elim (cases_lt i j) [
+              | inl lt ↦ lt_true i (j + 1) (omega (arith, lt)) ∙ sym (lt_true i j lt)
+              | inr ge ↦ lt_false i (j + 1) (let z = ne in grind (arith, z, ge)) ∙ sym (lt_false i j ge)
+            ]
+
+  -- a pause
+  paused : (p : ℕ) (b : Bool) → budget (set_preempted m p b) ≡ budget m
+  paused p b =
+      let w = world-set_preempted m p b in
+      let same = same_set_preempted m p b in
+      let k : Machine = set_preempted m p b in
+      let a : sum_below (length k.cpus) (λ q. cpu_weight k q) ≡ sum_below (length k.cpus) (λ q. cpu_weight m q) =
+      sum_same (length k.cpus) (λ q. cpu_weight m q) (λ q. cpu_weight k q)
+      (λ q lt. sum_same 6 (λ i. weight_of m q (frame_at m (record { cpu = q; ctx = i })))
+      (λ i. weight_of k q (frame_at k (record { cpu = q; ctx = i })))
+      (λ i lt. weight_same k same.keeps.setup q (frame_at k (record { cpu = q; ctx = i }))
+      ∙ ap (λ (y : World). weight_of m q (y.frame (record { cpu = q; ctx = i }))) w)) in
+      let c = ap (λ (i : ℕ). sum_below i (λ q. cpu_weight m q)) same.keeps.cpus in
+      let d = pending_same k same.keeps.setup same.keeps.cpus same.handlers in
+      omega (arith, a, c, d)
+
+  abbrev Lowered : Act → Type 0
+  Lowered a = ((next m a).0 ≡ m) ⊎ (budget (next m a).0 < budget m)
+      ⊎ ((is_pause a ≡ true) × (budget (next m a).0 ≡ budget m)) ⊎ ((p : ℕ) × (a ≡ act.Step p) × IsSpoilt m p)
+
+  pub act_lowers : (a : Act) → processor_of a < length m.cpus → Lowered a
+  act_lowers (act.Step p) range = elim (step_acts p range) [
+    | inl same ↦ inl same
+    | inr r ↦ elim r [ inl lt ↦ inr (inl lt) | inr z ↦ inr (inr (inr (p, refl, z))) ]
+  ]
+  act_lowers (act.Interrupt p) range =
+      elim (cases_Bool (is_shut m p)) [
+        | inl e ↦ inl (rw e refl)
+        | inr e ↦
+            let a = or_parts
+            (preempted_at m p || nat_le 6 (depth_at m p)
+            || nat_le (handlers_of m.setup p) (handlers_at m p))
+            (stands_halting (top_frame m p).place && not (halted_at m p)) e in
+            let b =
+            or_parts (preempted_at m p || nat_le 6 (depth_at m p))
+            (nat_le (handlers_of m.setup p) (handlers_at m p)) a.0 in
+            let c = or_parts (preempted_at m p) (nat_le 6 (depth_at m p)) b.0 in
+            let awake_is : Rattle.lk_rows.specs.Acts.awake m p ≡ m = ap (λ (t : Bool). if t then woken m p else m) (unhalted p) in
+            let is : (next m (act.Interrupt p)).0 ≡ settled (push m p (handler_frame m p)) p (handler_frame m p) =
+            ap (λ (t : Bool). (if t then idle m else Rattle.lk_rows.specs.Acts.interrupted m p).0) e
+            ∙ ap (λ (y : Machine). settled (push y p (handler_frame m p)) p (handler_frame m p)) awake_is in
+            let setup = ap (λ (y : Machine). y.setup) (sym is) ∙ setup_kept m (act.Interrupt p) in
+            let cpus = ap (λ (y : Machine). length y.cpus) (sym is) ∙ cpus_is (act.Interrupt p) range in
+            let lt = comes p range (leb-false 6 (depth_at m p) c.1)
+            (leb-false (handlers_of m.setup p) (handlers_at m p) b.1) setup cpus in
+            inr (inl (subst (λ (y : Machine). budget y < budget m) (sym is) lt))
+      ]
+  act_lowers (act.Preempt p) range = by (preempted_at m p) refl
+    where
+      by : (b : Bool) → preempted_at m p ≡ b → Lowered (act.Preempt p)
+      by true e = inl (ap (λ (t : Bool). (if t then idle m else (set_preempted m p true, None)).0) e)
+      by false e = inr (inr (inl (
+        refl,
+        ap (λ (t : Bool). budget (if t then idle m else (set_preempted m p true, None)).0) e ∙ paused p true,
+      )))
+  act_lowers (act.Resume p) range = by (preempted_at m p) refl
+    where
+      by : (b : Bool) → preempted_at m p ≡ b → Lowered (act.Resume p)
+      by false e = inl (ap (λ (t : Bool). (if t then (set_preempted m p false, None) else idle m).0) e)
+      by true e = inr (inr (inl (
+        refl,
+        ap (λ (t : Bool). budget (if t then (set_preempted m p false, None) else idle m).0) e ∙ paused p false,
+      )))
+  act_lowers (act.Nudge p) range = inl (by (preempted_at m p))
+    where
+      by : (b : Bool) → (if b || not (halted_at m p) then idle m else Rattle.lk_rows.specs.Acts.nudged m p).0 ≡ m
+      by true = refl
+      by false = rw (unhalted p) refl
+
+pub acts_lower : ActsLower
+acts_lower m hs a shows awake plain range = act_lowers m hs shows awake plain a range
+
+pub runs_are_short : RunsAreShort
+runs_are_short m es [] k shows awake plain z = let e : k ≡ 0 = z in omega (arith, e)
+runs_are_short m es (a ∷ acts) k shows awake plain z =
+    go (acts_lower m (λ l. history_of l es) a shows.shows awake plain z.0)
+    (λ j h. runs_are_short (next m a).0 (with_event es (next m a).1) acts j (acts_keep m es a z.0 shows)
+    (ap (λ (s : Setup). halts s.mode) (setup_kept m a) ∙ awake) (ap (λ (s : Setup). moves_aside s.mode) (setup_kept m a) ∙ plain) h)
+  where
+    go : (((next m a).0 ≡ m) ⊎ (budget (next m a).0 < budget m)
+        ⊎ ((is_pause a ≡ true) × (budget (next m a).0 ≡ budget m)) ⊎ ((p : ℕ) × (a ≡ act.Step p) × IsSpoilt m p))
+        → ((j : ℕ) → HasMoves (next m a).0 acts j → j ≤ budget (next m a).0) → k ≤ budget m
+    go low rest = elim z.2 [
+      | inl y ↦ (let r = rest k y.1 in elim low [
+        | inl same ↦ (let e = ap budget same in omega (arith, r, e))
+        | inr x ↦ elim x [
+          | inl lt ↦ omega (arith, r, lt)
+          | inr x ↦ elim x [
+            | inl e ↦ (let q = e.1 in omega (arith, r, q))
+            | inr s ↦ absurd (z.1 s.0 s.1 s.2)
+          ]
+        ]
+      ])
+      | inr y ↦ (let r = rest y.0 y.4 in let i = y.1 in elim low [
+        | inl same ↦ absurd (y.2 same)
+        | inr x ↦ elim x [
+          | inl lt ↦ omega (arith, r, lt, i)
+          | inr x ↦ elim x [
+            | inl e ↦ absurd (let q = e.0 in let n = y.3 in cc (q, n))
+            | inr s ↦ absurd (z.1 s.0 s.1 s.2)
+          ]
+        ]
+      ])
+    ]

@@ -1,0 +1,268 @@
+-- Each row leaves its frame where it was, or leaves it fewer rows.
+use Rattle.std.proofs.Common.{◌≡◌, ◌⊎◌, ◌<◌, ◌+◌, ℕ, arith, inl, inr, Option, Some, None, Bool, true, false}
+use Rattle.std.proofs.Common.{refl, ap, []}
+use Rattle.std.proofs.lemmas.Bool.{cases_Bool}
+use Rattle.std.specs.Prelude.{if◌then◌else◌, is_some, ◌&&◌, not, ◌==◌}
+use Rattle.lk_abs.specs.declared.names.Mode.{Mode}
+use Rattle.lk_abs.specs.declared.names.Mode.TheVariants.{Virt, Native, Cna, Pv}
+use Rattle.lk_abs.specs.declared.names.Waiter.{Waiter}
+use Rattle.lk_word.specs.declared.spin_word.NodeName.{NodeName}
+use Rattle.lk_word.specs.declared.spin_word.Fields.{Fields}
+use Rattle.lk_word.specs.declared.rw_word.RwFields.{RwFields}
+use Rattle.lk_rows.specs.declared.parts.Flag.{Flag}
+use Rattle.lk_rows.specs.declared.parts.Flag.TheVariants as flag
+use Rattle.lk_rows.specs.declared.parts.Frame.{Frame}
+use Rattle.lk_rows.specs.declared.parts.Pc.{Pc}
+use Rattle.lk_rows.specs.declared.parts.Pc.TheVariants.{F1, T1, T2, U1, V1, V2, P0, P1, P2, P3}
+use Rattle.lk_rows.specs.declared.parts.Pc.TheVariants.{P4, G1, G2, G3, G4, G5, G6, G7, G8, G9}
+use Rattle.lk_rows.specs.declared.parts.Pc.TheVariants.{G10, G11, N1, N2}
+use Rattle.lk_rows.specs.declared.parts.Pc.TheVariants.{R1, R2, R3, R4, R5, Wr1, Wr2, Wr3, Wr4}
+use Rattle.lk_rows.specs.declared.parts.Pc.TheVariants.{Wr5, Wr6, Y1, Y2, Y3, Y4, Y5, Z1, Z2, U2}
+use Rattle.lk_rows.specs.declared.setup.Verb.TheVariants.{Unlock}
+use Rattle.lk_rows.specs.Moves.{is_node, node_of, first_place}
+use Rattle.lk_rows.specs.Row.{Effect, Lead, Goes, Granted, Missed, Leaves, Change, gone}
+use Rattle.lk_rows.specs.rows.Spin.{is_free, is_unlocked, to_queue, after_fast, after_pending}
+use Rattle.lk_rows.specs.rows.Queue.{is_sole, own_node, after_entry, after_look, after_arrival}
+use Rattle.lk_rows.specs.rows.Queue.{after_head, after_flag, after_next, after_link}
+use Rattle.lk_rows.specs.rows.Rw.{is_empty, is_open, is_cleared, after_bias, frees_wait}
+use Rattle.lk_rows.specs.TopRow.{target}
+use Rattle.lk_law.specs.Families.{may_halt, chooses}
+use Rattle.lk_law.specs.Leads.{course_in}
+use Rattle.lk_law.specs.Premises.{IsThen}
+use Rattle.lk_law.specs.Steps.{led}
+use Rattle.lk_law.specs.World.{World}
+use Rattle.lk_law.specs.Agree.{halts}
+use Rattle.lk_law.proofs.common.Puts.{not-true}
+use Rattle.lk_rows.specs.declared.setup.Verb.{Verb}
+use Rattle.lk_rows.specs.declared.setup.Verb.TheVariants.{Lock, Try, Read, TryRead, RUnlock, Write, TryWrite, WUnlock}
+use Rattle.lk_rows.specs.Moves.{started}
+use Rattle.lk_progress.specs.Measure.{rows_left, rows_left_if, is_taking, left_at, left_of, retries, IsBelied, RowDescends, BeginIsShort}
+
+-- what is behind a wait lock on the way to it
+abbrev behind : Frame → ℕ
+behind f = if f.lock.wait then rows_left_if f.then else 0
+
+-- the row leaves its frame where it was, or fewer rows than this
+abbrev Less : Pc → ℕ → Frame → Type 0
+Less c n g = (g.place ≡ Some c) ⊎ (left_of g < n)
+
+either_less : {A : Type 0} (c : Pc) (n : ℕ) (f : Frame) (b : Bool) (x y : Effect A) → Less c n (led f x.leads)
+    → Less c n (led f y.leads) → Less c n (led f (if b then x else y).leads)
+either_less c n f true x y h k = h
+either_less c n f false x y h k = k
+
+-- among rows on the way to the lock
+to_row : (c : Pc) (f : Frame) (n : ℕ) (b : Bool) (d e : Pc) → Less c n (gone f d []) → Less c n (gone f e [])
+    → Less c n (gone f (if b then d else e) [])
+to_row c f n true d e h k = h
+to_row c f n false d e h k = k
+
+none_left : (b : Bool) → ◌≡◌ {A = ℕ} (if b then 0 else 0) 0
+none_left true = refl
+none_left false = refl
+
+-- the lock is had
+had_lt : (f : Frame) (n : ℕ) (me : Option NodeName) → (f.lock.wait ≡ true → IsThen f.then) → 0 < n
+    → left_of (record f { place = if f.lock.wait then f.then else None; me = me }) < n + behind f
+had_lt f n me inner some = by f.lock.wait refl
+  where
+    by : (b : Bool) → f.lock.wait ≡ b
+        → left_at (if b then f.then else None) (record f { place = if f.lock.wait then f.then else None; me = me })
+        < n + (if b then rows_left_if f.then else 0)
+    by false e = omega (arith, some)
+    by true e = elim (inner e) [
+      | inl q ↦ rw q (let z = none_left f.lock.wait in omega (arith, some, z))
+      | inr q ↦ rw q (let z = none_left f.lock.wait in omega (arith, some, z))
+    ]
+
+had : (c : Pc) (f : Frame) (n : ℕ) (me : Option NodeName) → (f.lock.wait ≡ true → IsThen f.then) → 0 < n
+    → Less c (n + behind f) (record f { place = if f.lock.wait then f.then else None; me = me })
+had c f n me inner some = inr (had_lt f n me inner some)
+
+done_less : (c : Pc) (n : ℕ) (g : Frame) → g.place ≡ None → 0 < n → Less c n g
+done_less c n g e some = inr (let z : left_of g ≡ 0 = ap (λ (o : Option Pc). left_at o g) e in omega (arith, z, some))
+
+module _ (m : World) (w : Waiter) (f : Frame) (inner : f.lock.wait ≡ true → IsThen f.then) where
+  abbrev x : Fields
+  x = m.word f.lock
+
+  abbrev y : RwFields
+  y = m.rw f.lock.index
+
+  abbrev g : Pc → Frame
+  g c = led f (course_in m w f c (target c f)).leads
+
+  -- to a row on the way
+  on : (c d : Pc) (n k : ℕ) → left_of (gone f d []) ≡ k + behind f → k < n → Less c (n + behind f) (gone f d [])
+  on c d n k e lt = inr (omega (arith, e, lt))
+
+  -- a row of a reader or a writer, or of a release
+  flat : (d : Pc) (k : ℕ) → rows_left d ≡ k → is_taking d ≡ false → left_of (gone f d []) ≡ k
+  flat d k e t =
+      let z : left_of (gone f d []) ≡ rows_left d + (if f.lock.wait then 0 else 0) =
+      ap (λ (b : Bool). rows_left d + (if f.lock.wait then (if b then rows_left_if f.then else 0) else 0)) t in
+      let q = none_left f.lock.wait in
+      omega (arith, z, q, e)
+
+  rw_on : (c d : Pc) (n k : ℕ) → rows_left d ≡ k → is_taking d ≡ false → k < n → Less c n (gone f d [])
+  rw_on c d n k e t lt = inr (let z = flat d k e t in omega (arith, z, lt))
+
+  unlock_lt : (n : ℕ) (mode : Mode) → 1 < n → left_of (led f (frees_wait mode)) < n
+  unlock_lt n Virt lt = let z = flat U1 1 refl refl in omega (arith, z, lt)
+  unlock_lt n Native lt = let z = flat U1 1 refl refl in omega (arith, z, lt)
+  unlock_lt n Cna lt = let z = flat U1 1 refl refl in omega (arith, z, lt)
+  unlock_lt n Pv lt = let z = flat U2 0 refl refl in omega (arith, z, lt)
+
+  unlock_on : (c : Pc) (n : ℕ) (mode : Mode) → 1 < n → Less c n (led f (frees_wait mode))
+  unlock_on c n mode lt = inr (unlock_lt n mode lt)
+
+  queue_on : (c : Pc) (n : ℕ) → 13 < n → Less c (n + behind f) (gone f (to_queue x) [])
+  queue_on c n lt = to_row c f (n + behind f) x.pending G1 _ (on c G1 n 11 refl (omega (arith, lt)))
+      (to_row c f (n + behind f) (is_some x.tail) G1 P1 (on c G1 n 11 refl (omega (arith, lt))) (on c P1 n 13 refl lt))
+
+  fast_on : (mode : Mode) → halts mode ≡ false → Less F1 (15 + behind f) (gone f (after_fast mode x) [])
+  fast_on Virt a = on F1 V1 15 2 refl (omega arith)
+  fast_on Pv a = cc a
+  fast_on Native a = to_row F1 f (15 + behind f) (is_unlocked x.locked && x.pending && not (is_some x.tail)) P0 _ (on F1 P0 15 14 refl (omega arith)) (queue_on F1 15 (omega arith))
+  fast_on Cna a = to_row F1 f (15 + behind f) (is_unlocked x.locked && x.pending && not (is_some x.tail)) P0 _ (on F1 P0 15 14 refl (omega arith)) (queue_on F1 15 (omega arith))
+
+  entry_on : (mode : Mode) (me : Option NodeName) → halts mode ≡ false
+      → Less G1 (11 + behind f) (Rattle.lk_rows.specs.Row.entered f me (after_entry mode me))
+  entry_on Virt None a = inr (omega arith)
+  entry_on Native None a = inr (omega arith)
+  entry_on Cna None a = inr (omega arith)
+  entry_on Virt (Some n) a = inr (omega arith)
+  entry_on Native (Some n) a = inr (omega arith)
+  entry_on Cna (Some n) a = inr (omega arith)
+  entry_on Pv me a = cc a
+
+  arrival_on : (mode : Mode) (t : Option NodeName) → halts mode ≡ false → Less G4 (8 + behind f) (led f (after_arrival mode t).leads)
+  arrival_on Virt None a = inr (omega arith)
+  arrival_on Native None a = inr (omega arith)
+  arrival_on Cna None a = inr (omega arith)
+  arrival_on Virt (Some n) a = inr (omega arith)
+  arrival_on Native (Some n) a = inr (omega arith)
+  arrival_on Cna (Some n) a = inr (omega arith)
+  arrival_on Pv t a = cc a
+
+  link_on : (mode : Mode) (k : ℕ) → halts mode ≡ false → Less G5 (7 + behind f) (led f (after_link mode k))
+  link_on Virt k a = inr (omega arith)
+  link_on Native k a = inr (omega arith)
+  link_on Cna k a = inr (omega arith)
+  link_on Pv k a = cc a
+
+  flag_on : (z : Flag) → Less G6 (6 + behind f) (led f (after_flag z).leads)
+  flag_on flag.Unset = inl refl
+  flag_on flag.Go = inr (omega arith)
+  flag_on (flag.Second n) = inr (omega arith)
+
+  head_on : (mode : Mode) → halts mode ≡ false → Less G9 (3 + behind f) (gone f (after_head mode) [])
+  head_on Virt a = inr (omega arith)
+  head_on Native a = inr (omega arith)
+  head_on Cna a = inr (let z = none_left f.lock.wait in omega (arith, z))
+  head_on Pv a = cc a
+
+  next_on : (z : Option NodeName) → Less G10 (2 + behind f) (led f (after_next z).leads)
+  next_on None = inl refl
+  next_on (Some n) = inr (omega arith)
+
+  -- each row but those that may poll anew
+  less : (c : Pc) → may_halt c ≡ false → chooses c ≡ false → halts m.mode ≡ false → retries c ≡ false
+      → Less c (left_at (Some c) f) (g c)
+  less F1 a b h r = either_less F1 (15 + behind f) f (is_free x) _ _ (had F1 f 15 f.me inner (omega arith)) (fast_on m.mode h)
+  less T1 a b h r = either_less T1 (2 + behind f) f (is_free x) _ _ (on T1 T2 2 1 refl (omega arith)) (done_less T1 (2 + behind f) (record f { place = None }) refl (omega arith))
+  less T2 a b h r = either_less T2 (1 + behind f) f (is_free x) _ _ (had T2 f 1 f.me inner (omega arith)) (done_less T2 (1 + behind f) (record f { place = None }) refl (omega arith))
+  less U1 a b h r = done_less U1 (left_at (Some U1) f) (record f { place = None }) refl (omega arith)
+  less V1 a b h r = to_row V1 f (2 + behind f) (is_free x) V2 V1 (on V1 V2 2 1 refl (omega arith)) (inl refl)
+  less P0 a b h r = queue_on P0 14 (omega arith)
+  less P1 a b h r =
+      to_row P1 f (13 + behind f) x.pending G1 _ (on P1 G1 13 11 refl (omega arith))
+      (to_row P1 f (13 + behind f) (is_some x.tail) P2 _ (on P1 P2 13 12 refl (omega arith))
+      (to_row P1 f (13 + behind f) (is_unlocked x.locked) P4 P3 (on P1 P4 13 1 refl (omega arith)) (on P1 P3 13 2 refl (omega arith))))
+  less P2 a b h r = on P2 G1 12 11 refl (omega arith)
+  less P3 a b h r = to_row P3 f (2 + behind f) (is_unlocked x.locked) P4 P3 (on P3 P4 2 1 refl (omega arith)) (inl refl)
+  less P4 a b h r = had P4 f 1 f.me inner (omega arith)
+  less G1 a b h r = entry_on m.mode (own_node w.cpu (m.queued w.cpu)) h
+  less G2 a b h r = to_row G2 f (10 + behind f) (is_free x) G3 G4 (on G2 G3 10 9 refl (omega arith)) (on G2 G4 10 8 refl (omega arith))
+  less G3 a b h r = either_less G3 (9 + behind f) f (is_free x) _ _ (had G3 f 9 None inner (omega arith)) (on G3 G4 9 8 refl (omega arith))
+  less G4 a b h r = arrival_on m.mode x.tail h
+  less G5 a b h r = link_on m.mode m.turns h
+  less G6 a b h r = flag_on (m.node (node_of f.me)).flag
+  less G7 a b h r = to_row G7 f (5 + behind f) (is_unlocked x.locked && not x.pending) _ G7
+      (to_row G7 f (5 + behind f) (is_node x.tail (node_of f.me) && not (is_some f.second)) G8 G9 (on G7 G8 5 4 refl (omega arith)) (on G7 G9 5 3 refl (omega arith))) (inl refl)
+  less G8 a b h r = either_less G8 (4 + behind f) f (is_sole f x) _ _ (had G8 f 4 None inner (omega arith)) (on G8 G9 4 3 refl (omega arith))
+  less G9 a b h r = head_on m.mode h
+  less G10 a b h r = next_on (m.node (node_of f.me)).next
+  less G11 a b h r = had G11 f 1 None inner (omega arith)
+  less N1 a b h r = to_row N1 f (2 + behind f) (is_free x) N2 N1 (on N1 N2 2 1 refl (omega arith)) (inl refl)
+  less R1 a b h r = either_less R1 (left_at (Some R1) f) f (is_open y) _ _ (done_less R1 (left_at (Some R1) f) (record f { place = None }) refl (omega arith))
+      (to_row R1 f (left_at (Some R1) f) (f.ctx == 0) R3 R2 (rw_on R1 R3 (left_at (Some R1) f) 19 refl refl (omega arith)) (rw_on R1 R2 (left_at (Some R1) f) 1 refl refl (omega arith)))
+  less R2 a b h r = either_less R2 (left_at (Some R2) f) f y.writer _ _ (inl refl) (done_less R2 (left_at (Some R2) f) (record f { place = None }) refl (omega arith))
+  less R3 a b h r = inr (omega arith)
+  less R4 a b h r = rw_on R4 R5 (left_at (Some R4) f) 2 refl refl (omega arith)
+  less R5 a b h r = either_less R5 (left_at (Some R5) f) f y.writer _ _ (inl refl) (unlock_on R5 (left_at (Some R5) f) m.mode (omega arith))
+  less Wr1 a b h r = either_less Wr1 (left_at (Some Wr1) f) f (is_empty y) _ _ (done_less Wr1 (left_at (Some Wr1) f) (record f { place = None }) refl (omega arith)) (inr (omega arith))
+  less Wr2 a b h r = to_row Wr2 f (left_at (Some Wr2) f) (is_empty y) Wr3 Wr4 (rw_on Wr2 Wr3 (left_at (Some Wr2) f) 5 refl refl (omega arith)) (rw_on Wr2 Wr4 (left_at (Some Wr2) f) 4 refl refl (omega arith))
+  less Wr3 a b h r = either_less Wr3 (left_at (Some Wr3) f) f (is_empty y) _ _ (unlock_on Wr3 (left_at (Some Wr3) f) m.mode (omega arith)) (rw_on Wr3 Wr4 (left_at (Some Wr3) f) 4 refl refl (omega arith))
+  less Wr4 a b h r = rw_on Wr4 Wr5 (left_at (Some Wr4) f) 3 refl refl (omega arith)
+  less Wr5 a b h r = to_row Wr5 f (left_at (Some Wr5) f) (is_cleared y) Wr6 Wr5 (rw_on Wr5 Wr6 (left_at (Some Wr5) f) 2 refl refl (omega arith)) (inl refl)
+  less Y1 a b h r = either_less Y1 (left_at (Some Y1) f) f (is_open y) _ _ (rw_on Y1 Y2 (left_at (Some Y1) f) 2 refl refl (omega arith)) (done_less Y1 (left_at (Some Y1) f) (record f { place = None }) refl (omega arith))
+  less Y2 a b h r = either_less Y2 (left_at (Some Y2) f) f (is_open y) _ _ (done_less Y2 (left_at (Some Y2) f) (record f { place = None }) refl (omega arith)) (rw_on Y2 Y3 (left_at (Some Y2) f) 1 refl refl (omega arith))
+  less Y3 a b h r = done_less Y3 (left_at (Some Y3) f) (record f { place = None }) refl (omega arith)
+  less Y4 a b h r = either_less Y4 (left_at (Some Y4) f) f (is_empty y) _ _ (rw_on Y4 Y5 (left_at (Some Y4) f) 1 refl refl (omega arith)) (done_less Y4 (left_at (Some Y4) f) (record f { place = None }) refl (omega arith))
+  less Y5 a b h r = either_less Y5 (left_at (Some Y5) f) f (is_empty y) _ _ (done_less Y5 (left_at (Some Y5) f) (record f { place = None }) refl (omega arith)) (done_less Y5 (left_at (Some Y5) f) (record f { place = None }) refl (omega arith))
+  less Z1 a b h r = done_less Z1 (left_at (Some Z1) f) (record f { place = None }) refl (omega arith)
+  less Z2 a b h r = done_less Z2 (left_at (Some Z2) f) (record f { place = None }) refl (omega arith)
+  less _ a b h r = cc (a, b, r)
+
+  -- and those: they have fewer rows, or another came in between
+  again : (c : Pc) → retries c ≡ true → (left_of (g c) < left_at (Some c) f) ⊎ IsBelied m f c
+  again V2 r = by (is_free x) refl
+    where
+      by : (b : Bool) → is_free x ≡ b → (left_of (led f (if b then Rattle.lk_rows.specs.rows.Spin.takes f Rattle.lk_abs.specs.declared.events.How.TheVariants.Virt else Rattle.lk_rows.specs.Row.looks V1).leads) < 1 + behind f) ⊎ (is_free x ≡ false)
+      by true e = inl (had_lt f 1 f.me inner (omega arith))
+      by false e = inr e
+  again N2 r = by (is_free x) refl
+    where
+      by : (b : Bool) → is_free x ≡ b → (left_of (led f (if b then Rattle.lk_rows.specs.rows.Queue.takes_out f Rattle.lk_abs.specs.declared.events.How.TheVariants.NoNode else Rattle.lk_rows.specs.Row.looks N1).leads) < 1 + behind f) ⊎ (is_free x ≡ false)
+      by true e = inl (had_lt f 1 None inner (omega arith))
+      by false e = inr e
+  again Wr6 r = by (is_cleared y) refl
+    where
+      by : (b : Bool) → is_cleared y ≡ b → (left_of (led f (if b then Rattle.lk_rows.specs.rows.Rw.takes_written f Rattle.lk_abs.specs.declared.events.RwHow.TheVariants.Queued (frees_wait m.mode) else Rattle.lk_rows.specs.Row.looks Wr5).leads) < left_at (Some Wr6) f) ⊎ (is_cleared y ≡ false)
+      by true e = inl (unlock_lt (left_at (Some Wr6) f) m.mode (omega arith))
+      by false e = inr e
+  again _ r = cc r
+
+pub row_descends : (c : Pc) → RowDescends c
+row_descends c m hs w f ok awake plain live at inner =
+    let a = not-true (may_halt c) (λ e. let z = (ok.registers w f live).choice.halting c at e in cc (z, awake)) in
+    let b = not-true (chooses c) (λ e. let z = (ok.registers w f live).choice.choice c at e in cc (z, plain)) in
+    let now : left_of f ≡ left_at (Some c) f = ap (λ (o : Option Pc). left_at o f) at in
+    elim (cases_Bool (retries c)) [
+      | inl r ↦ elim (again m w f inner c r) [
+        | inl lt ↦ inr (inl (omega (arith, lt, now)))
+        | inr z ↦ inr (inr (r, z))
+      ]
+      | inr r ↦ elim (less m w f inner c a b awake r) [
+        | inl e ↦ inl e
+        | inr lt ↦ inr (inl (omega (arith, lt, now)))
+      ]
+    ]
+
+pub begin_is_short : BeginIsShort
+begin_is_short m f o awake = by m.mode o.verb awake
+  where
+    by : (mode : Mode) (v : Verb) → halts mode ≡ false → left_at (Some (first_place mode v)) (started mode f (record { verb = v; lock = o.lock })) < 23
+    by mode Lock a = omega arith
+    by mode Try a = omega arith
+    by Virt Unlock a = omega arith
+    by Native Unlock a = omega arith
+    by Cna Unlock a = omega arith
+    by Pv Unlock a = cc a
+    by mode Read a = omega arith
+    by mode Write a = omega arith
+    by mode TryRead a = omega arith
+    by mode TryWrite a = omega arith
+    by mode RUnlock a = omega arith
+    by mode WUnlock a = omega arith

@@ -1,0 +1,6 @@
+use Rattle.lk_progress.proofs.Turns.{takes_in_turn}
+use Rattle.lk_progress.proofs.Watching.{nobody_watches_anew}
+use Rattle.lk_progress.proofs.laws.takes_are_in_turn.Goals as goal
+
+pub returns : goal.returns
+returns c = record { turn = takes_in_turn; anew = nobody_watches_anew }

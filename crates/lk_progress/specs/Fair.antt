@@ -1,0 +1,46 @@
+-- Schedules that are fair, and the theorem that everybody finishes under them.
+use Rattle.std.specs.Prelude.{◌≡◌, ◌<◌, ◌≤◌, ◌+◌, ℕ, false, length, slice_index_or}
+use Rattle.std.proofs.Common.{zero, suc}
+use Rattle.lk_abs.specs.declared.names.Kind.TheVariants.{Spin}
+use Rattle.lk_abs.specs.declared.names.Mode.TheVariants.{Native}
+use Rattle.lk_abs.specs.declared.events.Act.{Act}
+use Rattle.lk_abs.specs.declared.events.Act.TheVariants.{Step}
+use Rattle.lk_rows.specs.declared.setup.Setup.{Setup}
+use Rattle.lk_rows.specs.Machine.{Machine, preempted_at}
+use Rattle.lk_rows.specs.Programs.{IsLawfulSetup}
+use Rattle.lk_rows.specs.Acts.{next, processor_of}
+use Rattle.lk_rows.specs.Run.{at_rest}
+use Rattle.lk_progress.specs.Ordered.{IsOrdered}
+use Rattle.lk_progress.specs.Runs.{HasRoom, IsFinished}
+
+-- how many processors there are
+abbrev pub processors : Setup → ℕ
+processors setup = length setup.topology.sockets.items
+
+-- the machine after the first so many acts of a schedule that never ends
+abbrev pub after_first : Setup → (ℕ → Act) → ℕ → Machine
+after_first setup schedule zero = at_rest setup
+after_first setup schedule (suc n) = (next (after_first setup schedule n) (schedule n)).0
+
+-- For so many acts from this one on nobody is preempted, and each processor makes a step.
+pub record IsRound (setup : Setup) (schedule : ℕ → Act) (first size : ℕ) : Type 0 where
+  pub runs : (i p : ℕ)
+      → i ≤ size
+      → p < processors setup
+      → preempted_at (after_first setup schedule (first + i)) p ≡ false
+  pub steps : (p : ℕ) → p < processors setup → (i : ℕ) × (i < size) × (schedule (first + i) ≡ Step p)
+
+-- A schedule is fair if there is such a round again and again. Between rounds there may be any acts, and
+-- interrupts may come at any time.
+pub record IsFair (setup : Setup) (schedule : ℕ → Act) : Type 0 where
+  pub inside : (n : ℕ) → processor_of (schedule n) < processors setup
+  pub rounds : (n : ℕ) → (first : ℕ) × (size : ℕ) × (n ≤ first) × IsRound setup schedule first size
+
+-- In an ordered setup of `native` with spinlocks, where no processor has more than three handlers, every
+-- fair schedule comes to a moment at which every processor has finished.
+abbrev pub FairRunsFinish : Type 0
+FairRunsFinish = (rank : ℕ → ℕ) (size : ℕ) (setup : Setup) (schedule : ℕ → Act)
+    → IsLawfulSetup setup → IsOrdered rank size setup
+    → setup.mode ≡ Native → ((i : ℕ) → slice_index_or setup.locks.items i Spin ≡ Spin) → HasRoom setup
+    → IsFair setup schedule
+    → (n : ℕ) × ((p : ℕ) → p < processors setup → IsFinished (after_first setup schedule n) p)

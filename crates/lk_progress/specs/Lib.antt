@@ -1,0 +1,10 @@
+pub mod Waits
+pub mod Order
+pub mod Followed
+pub mod Ordered
+pub mod Runs
+pub mod Fair
+pub mod Measure
+pub mod Potential
+pub mod Turns
+pub mod Aside

@@ -1,0 +1,106 @@
+-- The theorem over schedules: no run of an ordered setup comes to a deadlock.
+use Rattle.std.specs.Prelude.{slice_index_or, ◌≡◌, ◌≢◌, ◌⊎◌, [], ◌∷◌, ◌<◌, ◌≤◌, ℕ, Some, None, true, false, List, length}
+use Rattle.std.proofs.Common.{suc}
+use Rattle.lk_abs.specs.declared.names.Kind.TheVariants.{Spin}
+use Rattle.lk_abs.specs.declared.names.Mode.TheVariants.{Virt, Native}
+use Rattle.lk_abs.specs.declared.events.Act.{Act}
+use Rattle.lk_abs.specs.declared.events.Act.TheVariants.{Step}
+use Rattle.lk_rows.specs.declared.setup.Setup.{Setup}
+use Rattle.lk_rows.specs.Machine.{Machine, top_frame, depth_at, preempted_at}
+use Rattle.lk_rows.specs.Programs.{IsLawfulSetup, handlers_of}
+use Rattle.lk_rows.specs.Acts.{next, processor_of}
+use Rattle.lk_rows.specs.Run.{at_rest, machine_after}
+use Rattle.lk_law.specs.Agree.{halts}
+use Rattle.lk_law.specs.Cna.{moves_aside}
+use Rattle.lk_law.specs.MachineLaws.{AreInRange}
+use Rattle.lk_rows.specs.declared.parts.Pc.{Pc}
+use Rattle.lk_law.specs.Sound.{world}
+use Rattle.lk_progress.specs.Waits.{IsBarred}
+use Rattle.lk_progress.specs.Ordered.{IsOrdered}
+use Rattle.lk_progress.specs.Potential.{budget, is_pause}
+
+-- the processor has finished: its task has, and no handler runs
+pub record IsFinished (m : Machine) (p : ℕ) : Type 0 where
+  pub place : (top_frame m p).place ≡ None
+  pub alone : depth_at m p ≡ 1
+
+-- No context finds that all nodes of its processor are used: nobody queues, or a processor has at
+-- most three handlers, and so four contexts.
+abbrev pub HasRoom : Setup → Type 0
+HasRoom setup = (setup.mode ≡ Virt) ⊎ ((p : ℕ) → handlers_of setup p ≤ 3)
+
+-- no step of any processor changes anything
+abbrev pub StandsStill : Machine → Type 0
+StandsStill m = (p : ℕ) → p < length m.cpus → (next m (Step p)).0 ≡ m
+
+-- In an ordered setup of `virt` or `native`, after every schedule: where no processor is preempted,
+-- and no step of any changes anything, every processor has finished.
+abbrev pub OrderedRunsGoOn : Type 0
+OrderedRunsGoOn = (rank : ℕ → ℕ) (size : ℕ) (setup : Setup) (acts : List Act)
+    → IsLawfulSetup setup → IsOrdered rank size setup
+    → halts setup.mode ≡ false → moves_aside setup.mode ≡ false → HasRoom setup
+    → AreInRange (length setup.topology.sockets.items) acts
+    → ((p : ℕ) → p < length (machine_after (at_rest setup) acts).cpus
+    → preempted_at (machine_after (at_rest setup) acts) p ≡ false)
+    → StandsStill (machine_after (at_rest setup) acts)
+    → (p : ℕ) → p < length (machine_after (at_rest setup) acts).cpus
+    → IsFinished (machine_after (at_rest setup) acts) p
+
+-- the next step of some processor changes the machine
+pub record SomebodyMoves (m : Machine) : Type 0 where
+  pub processor : ℕ
+  pub inside : processor < length m.cpus
+  pub moves : (next m (Step processor)).0 ≢ m
+
+-- The same said outright: after every schedule of an ordered setup of `virt` or `native`, where no
+-- processor is preempted, every processor has finished, or the next step of some processor changes the
+-- machine.
+abbrev pub SomebodyMovesOn : Type 0
+SomebodyMovesOn = (rank : ℕ → ℕ) (size : ℕ) (setup : Setup) (acts : List Act)
+    → IsLawfulSetup setup → IsOrdered rank size setup
+    → halts setup.mode ≡ false → moves_aside setup.mode ≡ false → HasRoom setup
+    → AreInRange (length setup.topology.sockets.items) acts
+    → ((p : ℕ) → p < length (machine_after (at_rest setup) acts).cpus
+    → preempted_at (machine_after (at_rest setup) acts) p ≡ false)
+    → ((p : ℕ) → p < length (machine_after (at_rest setup) acts).cpus
+    → IsFinished (machine_after (at_rest setup) acts) p)
+    ⊎ SomebodyMoves (machine_after (at_rest setup) acts)
+
+-- a run in which so many acts change the machine that are no pauses
+abbrev pub HasChanges : Machine → List Act → ℕ → Type 0
+HasChanges m [] k = k ≡ 0
+HasChanges m (a ∷ acts) k =
+    (processor_of a < length m.cpus)
+    × (((((next m a).0 ≡ m) ⊎ (is_pause a ≡ true)) × HasChanges (next m a).0 acts k)
+    ⊎ ((j : ℕ) × (k ≡ suc j) × ((next m a).0 ≢ m) × (is_pause a ≡ false) × HasChanges (next m a).0 acts j))
+
+-- In `native`, with spinlocks alone and at most three handlers a processor, no run has more changing
+-- acts, besides preemptions and resumptions, than the budget of the machine at rest. So with
+-- `SomebodyMovesOn` every fair schedule of an ordered setup finishes.
+abbrev pub NativeRunsEnd : Type 0
+NativeRunsEnd = (setup : Setup) (acts : List Act) (k : ℕ)
+    → IsLawfulSetup setup → setup.mode ≡ Native
+    → ((i : ℕ) → slice_index_or setup.locks.items i Spin ≡ Spin) → HasRoom setup
+    → HasChanges (at_rest setup) acts k → k ≤ budget (at_rest setup)
+
+-- The newest frame of the processor is that of a head of `cna` which turns on the spot: nobody is linked
+-- behind it, and its secondary queue, if there is one, cannot return.
+pub record TurnsOnTheSpot (m : Machine) (p : ℕ) : Type 0 where
+  pub place : Pc
+  pub here : (top_frame m p).place ≡ Some place
+  pub barred : IsBarred (world m) (top_frame m p) place
+
+-- In an ordered setup of `cna`, after every schedule: where no processor is preempted, and each step
+-- changes nothing or is that of a head which turns on the spot, every processor has finished.
+abbrev pub OrderedRunsGoOnAside : Type 0
+OrderedRunsGoOnAside = (rank : ℕ → ℕ) (size : ℕ) (setup : Setup) (acts : List Act)
+    → IsLawfulSetup setup → IsOrdered rank size setup
+    → halts setup.mode ≡ false → moves_aside setup.mode ≡ true → HasRoom setup
+    → AreInRange (length setup.topology.sockets.items) acts
+    → ((p : ℕ) → p < length (machine_after (at_rest setup) acts).cpus
+    → preempted_at (machine_after (at_rest setup) acts) p ≡ false)
+    → ((p : ℕ) → p < length (machine_after (at_rest setup) acts).cpus
+    → ((next (machine_after (at_rest setup) acts) (Step p)).0 ≡ machine_after (at_rest setup) acts)
+    ⊎ TurnsOnTheSpot (machine_after (at_rest setup) acts) p)
+    → (p : ℕ) → p < length (machine_after (at_rest setup) acts).cpus
+    → IsFinished (machine_after (at_rest setup) acts) p

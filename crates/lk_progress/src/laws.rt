@@ -1,0 +1,80 @@
+// The laws of progress. The functions do nothing: their contracts are the laws.
+
+ghost use Rattle.lk_rows.specs.declared.parts.Pc.{Pc};
+ghost use Rattle.lk_progress.specs.Aside.{AtBayWaitForOutside, RowKeepsAside};
+ghost use Rattle.lk_progress.specs.Order.{NoDeadlock, StuckWaitForOutside};
+ghost use Rattle.lk_progress.specs.Followed.{RowKeepsFollowed};
+ghost use Rattle.lk_progress.specs.Measure.{RowDescends, BeginIsShort};
+ghost use Rattle.lk_progress.specs.Potential.{StepsLower, MovesAreFew, ActsLower, RunsAreShort};
+ghost use Rattle.lk_progress.specs.Fair.{FairRunsFinish};
+ghost use Rattle.lk_progress.specs.Turns.{TakesInTurn, NobodyWatchesAnew};
+ghost use Rattle.lk_progress.specs.Runs.{OrderedRunsGoOn, OrderedRunsGoOnAside, SomebodyMovesOn, NativeRunsEnd};
+
+/// In `virt` and `native`, in a sound world in which every processor polls for locks of a higher
+/// level than all that its contexts hold or are at work on, and in which each queue head that waits
+/// for its successor has one or one is coming: if no step leads any newest frame on, no newest frame
+/// stands at a row. The holders of reader-writer locks, their wait locks and nested readers in
+/// interrupts are among them. If a newest frame does, some context holds a lock while its processor is
+/// at no row.
+///
+/// In `cna` the same is true where a queue head that turns on the spot counts as standing: nobody is
+/// linked behind it, and its secondary queue, if there is one, cannot return.
+pub fn no_deadlock()
+    ensures none { NoDeadlock }
+    ensures outside { StuckWaitForOutside }
+    ensures aside { AtBayWaitForOutside }
+{}
+
+/// In `virt` and `native` every row keeps it that each queue head which waits for its successor has
+/// one, or one is coming, if its processor has a node left where it enters the slow path. So the
+/// lost successor needs a fifth context. In `cna` every row keeps it that such a head has one, or a
+/// secondary queue that may return, or one is coming.
+pub fn successors_come()
+    ensures rows { (c : Pc) → RowKeepsFollowed c }
+    ensures aside { (c : Pc) → RowKeepsAside c }
+{}
+
+/// No schedule of an ordered setup of `virt` or `native` comes to a deadlock. In the machine after
+/// any schedule, if no processor is preempted and no step of any processor changes anything, every
+/// processor has finished. In `native` each processor must have at most three handlers. Or, said
+/// outright: all have finished, or the next step of some processor changes the machine.
+///
+/// In `cna` the same is true where a queue head that turns on the spot counts as standing.
+pub fn ordered_runs_go_on()
+    ensures stuck { OrderedRunsGoOn }
+    ensures moves { SomebodyMovesOn }
+    ensures aside { OrderedRunsGoOnAside }
+{}
+
+/// In `virt` and `native` an operation has at most 22 rows, but for swaps that fail since another
+/// came in between (V2, N2, Wr6). A step changes nothing, or lowers the potential of the machine, or
+/// is such a swap. An interrupt that comes lowers the budget, which also counts the handlers that are
+/// still to come. So in every run the acts that change something, besides preemptions, resumptions and
+/// such swaps, are no more than the budget says at its beginning. In `native`, with spinlocks alone and
+/// at most three handlers a processor, no swap fails: there every run from rest has at most so many
+/// changing acts.
+pub fn operations_are_short()
+    ensures rows { (c : Pc) → RowDescends c }
+    ensures begin { BeginIsShort }
+    ensures steps { StepsLower }
+    ensures few { MovesAreFew }
+    ensures acts { ActsLower }
+    ensures runs { RunsAreShort }
+    ensures native { NativeRunsEnd }
+{}
+
+/// Everybody finishes under a fair schedule. In an ordered setup of `native` with spinlocks alone, where no
+/// processor has more than three handlers: if again and again a round comes in which nobody is preempted
+/// and each processor makes a step, there is a moment at which every processor has finished. What
+/// happens between two rounds does not matter, and interrupts may come at any time.
+pub fn fair_runs_finish()
+    ensures { FairRunsFinish }
+{}
+
+/// In `virt` and `native`, while a waiter stands in the queue of a lock, only two may acquire it: the
+/// queue head, and the one waiter that has set the pending bit before there was a queue. For nobody
+/// comes to wait by the pending bit while there is a queue.
+pub fn takes_are_in_turn()
+    ensures turn { (c : Pc) → TakesInTurn c }
+    ensures anew { (c : Pc) → NobodyWatchesAnew c }
+{}

@@ -1,0 +1,9 @@
+//! Progress: no schedule of an ordered setup comes to a deadlock.
+#![tactic(auto)]
+
+mod laws;
+
+pub use laws::{
+    fair_runs_finish, no_deadlock, operations_are_short, ordered_runs_go_on, successors_come,
+    takes_are_in_turn,
+};
