@@ -1,5 +1,5 @@
-"""The tables of docs/rows against the code: each row of the machine stands once, with the function that makes it, and the functions
-and step calls that make it on threads."""
+"""The tables of docs/rows against the code: each row of the machine stands once, with a verb, the function that makes it, and the
+functions and step calls that make it on threads."""
 import re
 from collections import Counter
 from pathlib import PurePosixPath
@@ -10,6 +10,7 @@ CODE = re.compile(r"\[`(\w+)::(\w+)`\]\(([^)]+)\)")
 # A function, or a method, with the comment above it and its body; what a comment says of rows; the step calls that a cell or a
 # body names.
 FUNCTION = re.compile(r"^((?: *//.*\n)+)(?: *#\[.*\n)*( *)(?:pub(?:\(crate\))? )?fn (\w+)", re.M)
+VERB = re.compile(r"[a-z]{3,8}")
 SAID = re.compile(r"\b[Rr]ows? ([^.]*)")
 STEPS = re.compile(r"\bsteps::(\w+)")
 DISPATCH = re.compile(r"\b(?:Pc::)?([A-Z]\w*)\)?\s*=>\s*(\w+)::(\w+)\(")
@@ -27,6 +28,8 @@ def failures(sources):
             for _, row in rows_of(unfenced((sources.top / path).read_text())):
                 if row and "Row" in row and "Code" in row:
                     told[row["Row"]] += 1
+                    if not VERB.fullmatch(row.get("Verb", "")):
+                        yield f"{path}: {row['Row']}: its verb is no word of three to eight letters: {row.get('Verb')!r}"
                     yield from (f"{path}: {row['Row']}: {failure}" for failure in code(sources, row, made))
                     yield from (f"{path}: {row['Row']}: {failure}" for failure in threads(sources, row))
     for label in sources.rows:
