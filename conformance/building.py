@@ -4,6 +4,8 @@ import os
 import re
 import subprocess
 
+import setting
+
 HERE = os.path.dirname(os.path.abspath(__file__))
 # Headers that the kernel's files include, and for which shims/kernel.h stands.
 SHIMMED = """linux/smp.h linux/bug.h linux/cpumask.h linux/percpu.h linux/hardirq.h linux/mutex.h linux/prefetch.h linux/memblock.h
@@ -16,6 +18,8 @@ VARIANTS = {
     "generic-16k": (False, ["-D_Q_PENDING_LOOPS=0", "-DCONFIG_NR_CPUS=16384"]),
     "x86": (True, []),
     "x86-stride": (True, ["-DCONFORMANCE_STRIDE"]),
+    "x86-hyperv": (True, ["-DCONFORMANCE_HYPERV"]),
+    "x86-xen": (True, ["-DCONFORMANCE_XEN"]),
 }
 # The harness of the optimistic spin queue, which is no spinlock and has no variants.
 QUEUE = "osq"
@@ -86,6 +90,7 @@ class Compilation:
         self.links.append(["g++"] + flags + objects + ["-o", self.programs[name]])
 
     def run(self):
+        setting.say("compiling %d files" % len(self.commands))
         with concurrent.futures.ThreadPoolExecutor(2) as pool:
             list(pool.map(text_of, self.commands))
             list(pool.map(text_of, self.links))

@@ -13,8 +13,8 @@ class Family(NamedTuple):
 PLAIN = [
     Family("native", "generic"), Family("native", "generic-loops"), Family("native", "generic-16k"), Family("native", "x86"),
     Family("virt", "x86"), Family("pv", "generic"), Family("pv", "generic-16k"), Family("pv", "x86"),
-    Family("native-rw", "generic"), Family("virt-rw", "x86"), Family("pv-rw", "x86"), Family("cna", "generic"), Family("cna-rw", "generic"),
-    Family("pv", "x86-stride"),
+    Family("native-rw", "generic"), Family("native-rw", "x86"), Family("virt-rw", "x86"), Family("pv-rw", "x86"),
+    Family("cna", "generic"), Family("cna-rw", "generic"), Family("pv", "x86-stride"), Family("pv", "x86-hyperv"), Family("pv", "x86-xen"),
 ]
 LEAVING = [Family("native", "generic", ("--leave",)), Family("pv", "x86", ("--leave",)), Family("native-rw", "generic", ("--leave",))]
 # Linux's code for 16,384 processors beside format 2, which has its word.

@@ -5,6 +5,7 @@ import re
 import shutil
 import sys
 import tempfile
+import typing
 
 HERE = os.path.dirname(os.path.abspath(__file__))
 EXAMPLES = os.path.join(HERE, "../examples")
@@ -28,6 +29,22 @@ def table(version):
     return os.path.join(HERE, "operations", version + ".txt")
 
 
+def whole_table(build, version):
+    """The path of the table that the harness reads: that of operations, and behind it the places of the waits that are run beside
+    KVM's."""
+    path = os.path.join(build, "table.txt")
+    with open(path, "w") as whole:
+        for part in (table(version), os.path.join(HERE, "operations/waits", version + ".txt")):
+            with open(part) as lines:
+                whole.write(lines.read() + "\n")
+    return path
+
+
+def say(text):
+    """How far a script is, for who waits for it."""
+    print("conformance: " + text, file=sys.stderr, flush=True)
+
+
 def build_folder(version):
     """That of the version in the environment's CONFORMANCE_BUILD, which is kept, or in a temporary one."""
     named = os.environ.get("CONFORMANCE_BUILD")
@@ -49,14 +66,32 @@ def program():
     return os.path.abspath(found)
 
 
+class Place(typing.NamedTuple):
+    """A line of the table. What operation, word, order and conditions may be, the table's head says."""
+
+    row: str
+    file: str
+    function: str
+    line: int
+    operation: str
+    word: str
+    order: str
+    conditions: list
+
+
 def places(version):
-    """The places of the table: (row, file, function, line, operation, word, conditions), in its order."""
+    """The lines of the table, in its order: the operations, and with them the fences and dependencies."""
     found, file = [], None
     with open(table(version)) as lines:
         for line in lines:
             if line.startswith("file "):
                 file = line.split()[1]
             elif re.match(r" *\d", line):
-                number, function, operation, word, row, *conditions = line.split()
-                found.append((row, file, function, int(number), operation, word, conditions))
+                number, function, operation, word, order, row, *conditions = line.split()
+                found.append(Place(row, file, function, int(number), operation, word, order, conditions))
     return found
+
+
+def is_operation(place):
+    """Whether Linux makes an operation on a shared word there."""
+    return place.operation not in ("none", "fence", "depends")

@@ -5,6 +5,8 @@ import re
 import subprocess
 import tarfile
 
+import setting
+
 FILES = [
     "Makefile",
     "kernel/locking/qspinlock.c", "kernel/locking/qspinlock_paravirt.h", "kernel/locking/qrwlock.c", "kernel/locking/osq_lock.c",
@@ -12,8 +14,10 @@ FILES = [
     "include/asm-generic/qspinlock.h", "include/asm-generic/qspinlock_types.h",
     "include/asm-generic/qrwlock.h", "include/asm-generic/qrwlock_types.h",
     "include/asm-generic/mcs_spinlock.h", "include/linux/hash.h", "include/linux/osq_lock.h",
-    "arch/x86/include/asm/qspinlock.h", "arch/x86/kernel/kvm.c",
+    "arch/x86/include/asm/qspinlock.h", "arch/x86/kernel/kvm.c", "arch/x86/hyperv/hv_spinlock.c", "arch/x86/xen/spinlock.c",
 ]
+# The functions by which a guest's waiter halts: of their files they alone are compiled.
+WAITS = {"kvm_wait": "arch/x86/kernel/kvm.c", "hv_qlock_wait": "arch/x86/hyperv/hv_spinlock.c", "xen_qlock_wait": "arch/x86/xen/spinlock.c"}
 
 
 def fetch(build, package):
@@ -23,6 +27,7 @@ def fetch(build, package):
         return archive
     found = glob.glob(os.path.join(build, package + "_*.deb"))
     if not found:
+        setting.say("fetching %s, some 150 MB" % package)
         subprocess.run(["apt-get", "-qq", "-o", "APT::Sandbox::User=root", "download", package], cwd=build, check=True)
         found = glob.glob(os.path.join(build, package + "_*.deb"))
     subprocess.run(["dpkg-deb", "-x", found[0], os.path.join(build, "package")], check=True)
@@ -61,13 +66,21 @@ def extract(archive, top, source):
     raise SystemExit("conformance: the package has no " + ", ".join(sorted(wanted)))
 
 
+def write_function(source, name, file):
+    """Writes one function of a file, as it is, into a file of its own."""
+    line, text = function_of(os.path.join(source, file), name)
+    with open(os.path.join(source, name + ".inc"), "w") as part:
+        part.write('#line %d "%s/%s"\n%s\n' % (line, source, file, text))
+
+
 def unpack(build, linux):
-    """The folder with the files of this version that are compiled, as they are; of kvm.c only one function."""
+    """The folder with the files of this version that are compiled, as they are; of a hypervisor's files only one function."""
     source, package = os.path.join(build, "source"), "linux-source-" + linux
-    if os.path.exists(os.path.join(source, "kvm_wait.inc")):
+    if all(os.path.exists(os.path.join(source, name + ".inc")) for name in WAITS):
         return source
-    extract(fetch(build, package), package + "/", source)
-    line, text = function_of(os.path.join(source, "arch/x86/kernel/kvm.c"), "kvm_wait")
-    with open(os.path.join(source, "kvm_wait.inc"), "w") as part:
-        part.write('#line %d "%s/arch/x86/kernel/kvm.c"\n%s\n' % (line, source, text))
+    archive = fetch(build, package)
+    setting.say("unpacking " + package)
+    extract(archive, package + "/", source)
+    for name, file in WAITS.items():
+        write_function(source, name, file)
     return source

@@ -131,6 +131,7 @@ static void tell_of(Context &context, Row row, const Made &made) {
         context.phase = Phase::queued;
         tell(context, "arrive " + context.lock_name());
         break;
+    case Row::G5: context.before = made.spot; break;
     case Row::G8: if (made.has_swapped) take(context, "sole"); break;
     case Row::G9: take(context, "head"); break;
     case Row::G10:

@@ -39,11 +39,12 @@ void make_none(const shim_place *at, bool ends_loop) {
     make_without_word(&place, ends_loop);
 }
 
-// Linux's stride: it waits on at its node, and has not looked at the state of the node before.
+// Linux's stride: it waits on at its node, and has not looked at the state of the node before. The rows look, and go on as
+// Linux does where the processor before runs.
 void make_left_out_look(const shim_place *at) {
     if (machine.current->last != Row::W1 || strcmp(at->function, "pv_wait_node") != 0) return;
-    machine.causes.stride = true;
     make_none(at, false);
+    if (!is_running(machine.current->before)) machine.causes.stride = true;
 }
 
 uint64_t operate(const shim_place *at, volatile void *address, int size, const Maker &effect) {
@@ -188,6 +189,22 @@ void shim_halt(const shim_place *at) {
     give_way(&context.own_place);
 }
 
+int shim_has_event(void) { return machine.processors[machine.current->processor].has_event; }
+
+// The wait ends without a look at the byte, and has used the kick up.
+void shim_clear_event(void) {
+    Processor &own = machine.processors[machine.current->processor];
+    own.has_event = own.is_kicked = false;
+    machine.causes.event = true;
+}
+
+// An event that an earlier wait has left ends the poll at once. Where it comes of a kick since then, the halt ends by that.
+void shim_poll(const shim_place *at) {
+    const Processor &own = machine.processors[machine.current->processor];
+    if (own.is_kicked || !own.has_event) return shim_halt(at);
+    machine.causes.event = true;
+}
+
 void shim_kick(const shim_place *at, int number) {
     ChangeKind kind = change_of(at, nullptr, 0);
     if (kind == ChangeKind::skip) return;
@@ -195,7 +212,7 @@ void shim_kick(const shim_place *at, int number) {
     Context &context = *machine.current;
     int processor = machine.setup.processor_numbered(number);
     make_without_word(at, false);
-    machine.processors[processor].is_kicked = true;
+    machine.processors[processor].is_kicked = machine.processors[processor].has_event = true;
     tell(context, "kick " + std::to_string(number));
     if (processor != context.target) fail("Linux: a kick of another processor than that of the node in the hash");
 }

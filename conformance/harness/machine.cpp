@@ -32,7 +32,7 @@ void Machine::start() {
     pending_operations = 0;
     split_pending.clear();
     for (int p = 0; p < setup.processors; p++) {
-        processors[p] = {{}, false, false, false, 0};
+        processors[p] = {{}, false, false, false, false, 0};
         spawn(p, setup.programs[p]);
     }
 }

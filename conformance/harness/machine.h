@@ -46,6 +46,7 @@ struct Context {
     Row last = Row::none; // its last row
     bool knows_next = false;
     int target = -1; // the processor that it is to kick
+    Spot before;     // the node behind which it has linked its own
     bool has_taken = false, has_taken_rw = false, has_missed = false; // in this operation
     std::vector<int> kept_counts; // which Linux has made and the rows make at the next act
     PendingInTwo pending;
@@ -59,6 +60,7 @@ struct Context {
 struct Processor {
     std::vector<Context *> stack;
     bool is_preempted, is_halted, is_kicked;
+    bool has_event; // of Xen: a kick has come, and no wait has cleared it since
     size_t next_handler;
 
     Context &top() const { return *stack.back(); }
@@ -77,8 +79,9 @@ struct Holders {
 // Places where Linux and the rows differ, met in this run.
 struct Causes {
     bool split = false;  // x86: a tail came in between the halves of setting pending
-    bool stride = false; // a look at the state of the node before was left out
+    bool stride = false; // a look at the state of the node before was left out, and that did not run
     bool late = false;   // an interrupt before the count fell
+    bool event = false;  // Xen: a pending event ended a wait before its look, or before its halt
 };
 
 constexpr int count_kinds = 10;

@@ -28,6 +28,7 @@ static std::string causes_text() {
     if (!machine.late_pending.empty() || machine.causes.split) text += " split";
     if (machine.causes.stride) text += " stride";
     if (machine.causes.late) text += " leave";
+    if (machine.causes.event) text += " event";
     return text;
 }
 

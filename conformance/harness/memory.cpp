@@ -113,6 +113,8 @@ int nodes_taken(int processor) { return *(const int *)(node_at(processor, 0) + a
 
 int flag_of_node(int processor, int index) { return *(const int *)(node_at(processor, index) + at_flag); }
 
+bool is_running(const Spot &node) { return node_at(node.processor, node.index)[at_state] == 0; }
+
 void *new_hash(unsigned long buckets, unsigned int *bits) {
     *bits = 0;
     while ((1ul << *bits) < buckets) ++*bits;

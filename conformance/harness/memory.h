@@ -30,6 +30,8 @@ void *copy_of(const void *variable, int processor);
 // How many nodes of the processor are taken, and the flag of one.
 int nodes_taken(int processor);
 int flag_of_node(int processor, int index);
+// Whether the processor of a node runs, by the node's state.
+bool is_running(const Spot &node);
 // A new, empty hash of the paravirtual lock, with the number of bits of its size.
 void *new_hash(unsigned long buckets, unsigned int *bits);
 bool hash_is_empty();

@@ -53,16 +53,17 @@ static void add_condition(Entry &entry, const std::string &word) {
 }
 
 static Entry entry_of(const std::string &file, const std::vector<std::string> &words) {
-    if (words.size() < 5) fail("the table has a line of %zu words", words.size());
+    if (words.size() < 6) fail("the table has a line of %zu words", words.size());
     Entry entry;
     entry.file = file;
     entry.line = std::stoi(words[0]);
     entry.function = words[1];
     entry.operation = operation_named(words[2]);
     entry.word = word_named(words[3]);
-    entry.row = row_named(words[4]);
+    // words[4] is the order, and every operation here is sequentially consistent.
+    entry.row = row_named(words[5]);
     if (entry.row == Row::none) entry.when = When::never;
-    for (size_t i = 5; i < words.size(); i++) add_condition(entry, words[i]);
+    for (size_t i = 6; i < words.size(); i++) add_condition(entry, words[i]);
     return entry;
 }
 
@@ -74,7 +75,7 @@ void Table::read(const std::string &path) {
         auto words = words_of(line);
         if (words.empty() || words[0] == "#" || words[0] == "|") continue;
         if (words[0] == "file") file = words.at(1);
-        else entries.push_back(entry_of(file, words));
+        else if (words.at(2) != "fence" && words.at(2) != "depends") entries.push_back(entry_of(file, words));
     }
 }
 

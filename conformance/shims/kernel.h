@@ -88,6 +88,10 @@ extern void shim_count(unsigned long event);
 extern void shim_bug(const char *function, int line);
 extern void shim_halt(const struct shim_place *at);
 extern void shim_kick(const struct shim_place *at, int processor);
+/* Of Xen: whether an event of this processor is pending, its end, and a halt until there is one. */
+extern int shim_has_event(void);
+extern void shim_clear_event(void);
+extern void shim_poll(const struct shim_place *at);
 extern void shim_wait(u8 *word, u8 value);
 extern void *shim_hash(unsigned long bucket, unsigned long buckets, unsigned int *bits);
 extern int shim_is_pv;
