@@ -5,6 +5,7 @@ import subprocess
 
 import manpage
 import refusal
+from script import table
 
 USAGE = re.compile(r'"(usage: qlock [^"\\]*)')
 SCRIPTS = ("tools/", "bench/")
@@ -21,10 +22,9 @@ def failures(sources):
 
 def usage(sources):
     """The script's usage line is the program's."""
-    told = USAGE.search((sources.top / "qlock").read_text())
     wanted = USAGE.search(sources.text["crates/lk_command/src/notes.rt"])
-    if not told or told[1] != wanted[1]:
-        yield f"qlock: its usage line is not the program's: {wanted[1]}"
+    if table.USAGE != wanted[1]:
+        yield f"tools/script/table.py: its usage line is not the program's: {wanted[1]}"
 
 
 def helps(top, path):

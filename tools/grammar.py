@@ -1,12 +1,21 @@
 """The grammars of docs/FORMATS.md, to say where an input breaks them and how: `read(word, data)` raises Refused at the first line that
 is refused, with the program's name of the fault and a sentence that says what was found and what was expected."""
+import difflib
 import re
 from typing import NamedTuple
+
+import history
 
 MOST_LINE, MOST_INPUT = 4096, 1 << 30
 MOST_NUMBER = (1 << 64) - 1
 MOST_BALANCE = (1 << 63) - 1
 MOST = {"Acts": 10**8, "Words": 64, "Handlers": 16, "Jobs": 100_000}
+# How people begin a comment; and what they write for the first word of a line.
+COMMENTS = ("#", "//", ";", "--", "/*")
+MEANT = {"interrupt": "int", "preempt": "pre", "resume": "res", "run": "step", "steps": "step", "program": "prog", "handler": "irq", "cpu": "cpus",
+         "processors": "cpus", "socket": "sockets", "locks": "lock", "start": "go", "wake": "nudge", "format": "qtrace", "account": "accounts", "jobs": "job"}
+OTHERS = {"qtrace": ("a trace", "qlock replay"), "qosq": ("a run of the optimistic spin queue", "qlock osq"), "qjobs": ("a job file", "qlock ledger")}
+MARK = b"\xef\xbb\xbf"
 FORBIDDEN = re.compile(rb"[^\x20-\x7e\t\r]")
 MODES = ("virt", "native", "cna", "pv")
 KINDS = {"spin": "a spinlock", "rw": "a reader-writer lock"}
@@ -22,6 +31,7 @@ VERBS = {
     "trywrite": ("rw", "as the writer", True, True),
     "wunlock": ("rw", "as the writer", False, False),
 }
+RELEASES = {manner: verb for verb, (_, manner, takes, _) in VERBS.items() if not takes}
 
 
 class Refused(Exception):
@@ -36,6 +46,14 @@ class Line(NamedTuple):
     shape: str
     count: int | None
     is_single: bool = False
+
+
+def looks_like(words):
+    if words[0] in OTHERS:
+        return f"; this is {OTHERS[words[0]][0]}, for {OTHERS[words[0]][1]}"
+    if len(words) > 2 and words[0].isdigit() and re.fullmatch(r"\d+\.\d+", words[1]):
+        return "; this looks like a transcript, and qlock audit reads one behind the header of a trace"
+    return ""
 
 
 def listed(words, last="or"):
@@ -62,6 +80,8 @@ class Reader:
         if len(raw) > MOST_LINE:
             self.refuse("Line", f"{len(raw)} bytes, of {MOST_LINE} at most")
         byte = FORBIDDEN.search(raw)
+        if self.number == 1 and raw.startswith((MARK, b"\xff\xfe", b"\xfe\xff")):
+            self.refuse("NotText", f"byte 0x{raw[0]:02x} at column 1 is not allowed: the file begins with a byte order mark; write it in ASCII, or UTF-8 without the mark")
         if byte:
             self.refuse("NotText", f"byte 0x{byte[0][0]:02x} at column {byte.start() + 1} is not allowed (0x20 to 0x7e, tab and carriage return)")
         words = raw.decode("ascii").split()
@@ -69,11 +89,19 @@ class Reader:
             self.take_words(words)
 
     def take_words(self, words):
+        try:
+            self.take_line(words)
+        except Refused as refused:
+            if any(word.startswith(COMMENTS) for word in words[1:]):
+                refused.said += "; a comment stands on a line of its own"
+            raise
+
+    def take_line(self, words):
         if self.format is None:
             self.begin(words)
             return
         if words[0] not in self.lines:
-            self.refuse("UnknownWord", f'"{words[0]}" begins no line of {self.what} ({listed(self.lines)})')
+            self.refuse("UnknownWord", f'"{words[0]}" begins no line of {self.what}{self.meant(words[0])} ({listed(self.lines)})')
         line = self.lines[words[0]]
         self.place(words[0], line)
         if line.count is not None and len(words) != line.count + 1:
@@ -82,9 +110,21 @@ class Reader:
         self.rank = line.rank
         self.seen[words[0]] = self.number
 
+    def opening(self):
+        return f"{self.what} begins with"
+
+    def meant(self, word):
+        """What a word at the beginning of a line was perhaps meant to be."""
+        if word.startswith(COMMENTS):
+            return "; a comment begins with #"
+        if word in VERBS and "prog" in self.lines:
+            return f"; {word} stands in a program, and a program stands on one line (prog p ops)"
+        near = [MEANT[word]] if MEANT.get(word) in self.lines else difflib.get_close_matches(word.lower(), self.lines, 1, 0.75)
+        return f"; did you mean {self.lines[near[0]].shape}?" if near else ""
+
     def begin(self, words):
         if " ".join(words) not in self.formats:
-            self.refuse("NoFormat", f'"{" ".join(words)[:60]}" is not the format: {self.what} begins with {listed(self.formats)}')
+            self.refuse("NoFormat", f'"{" ".join(words)[:60]}" is not the format: {self.opening()} {listed(self.formats)}{looks_like(words)}')
         self.format, self.rank = int(words[1]), 0
         self.seen[words[0]] = self.number
 
@@ -97,7 +137,8 @@ class Reader:
             self.refuse("Misplaced", f'"{word}" stands before the line "mode", which comes first')
         if line.rank < self.rank or word == "go" and "go" in self.seen:
             before = max((number, name) for name, number in self.seen.items())[1]
-            self.refuse("Misplaced", f'"{word}" stands behind "{before}" of line {self.seen[before]}, and belongs before it')
+            program = "; a program stands on one line" if word in VERBS and before in ("prog", "irq") else ""
+            self.refuse("Misplaced", f'"{word}" stands behind "{before}" of line {self.seen[before]}, and belongs before it{program}')
         if self.schedule_rank is not None and line.rank >= self.schedule_rank and "go" not in self.seen:
             self.refuse("Misplaced", f'"{word}" stands before the line "go", with which the header ends')
         if line.is_single and word in self.seen:
@@ -106,7 +147,8 @@ class Reader:
     def value(self, word, name, least, most):
         """A number, and whether it is in its range."""
         if not re.fullmatch(r"[0-9]{1,20}", word) or int(word) > MOST_NUMBER:
-            self.refuse("BadNumber", f'"{word}" is not a number (0 to {MOST_NUMBER})')
+            only = f"{name} is {least} here, numbered from 0 in the order of the lines" if least == most else f"0 to {MOST_NUMBER}"
+            self.refuse("BadNumber", f'"{word}" is not a number ({only})')
         if not least <= int(word) <= most:
             wanted = f"has to be {least}" if least == most else f"may be {least} to {most}" if least < most else "there may be none"
             self.refuse("OutOfRange", f"{name} is {int(word)}, and {wanted}")
@@ -273,7 +315,8 @@ class Program:
                 self.trace.refuse("Words", f"operation {number}, of {MOST['Words']} at most")
             self.operation(words[at], words[at + 1 : at + 2])
         if self.held:
-            self.trace.refuse("StillHeld", f"the program ends and still holds {locks(self.held)}")
+            releases = " ".join(f"{RELEASES[manner]} {lock}" for lock, manner in reversed(self.held.items()))
+            self.trace.refuse("StillHeld", f"the program ends and still holds {locks(self.held)}; a program stands on one line, and here {releases} is missing")
 
     def operation(self, verb, rest):
         trace = self.trace
@@ -285,7 +328,8 @@ class Program:
         if lock >= len(trace.locks):
             trace.refuse("WrongLock", f"{said}: no line declares lock {lock}")
         if trace.locks[lock] != kind:
-            trace.refuse("WrongLock", f"{said}: lock {lock} is {KINDS[trace.locks[lock]]}, and {verb} is for {KINDS[kind]}")
+            others = listed([other for other, of in VERBS.items() if of[0] == trace.locks[lock] and of[2:] == (takes, tries)])
+            trace.refuse("WrongLock", f"{said}: lock {lock} is {KINDS[trace.locks[lock]]}, and {verb} is for {KINDS[kind]}; here it is {others}")
         if takes:
             self.take(lock, manner, tries, said)
         else:
@@ -379,18 +423,78 @@ class JobFile(Reader):
             self.refuse("Jobs", f"job {self.count}, of {MOST['Jobs']} at most")
 
 
-READERS = {"replay": Trace, "steps": Trace, "picture": Trace, "audit": Trace, "osq": Run, "ledger": JobFile}
+def lines_of(data):
+    """The lines of an input, without line feeds."""
+    return data.split(b"\n")[: -1 if data.endswith(b"\n") or not data else None]
 
 
 def read(word, data):
-    """Reads an input to its end, or an audited history to its `go`."""
+    """Reads an input to its end; of an audited history also what stands behind `go`, but for the laws."""
     reader = READERS[word]()
+    for raw in within(data, reader):
+        reader.take(raw)
+    reader.close()
+
+
+def within(data, reader):
+    """The lines of an input, up to its limit."""
     taken = 0
-    for raw in data.split(b"\n")[: -1 if data.endswith(b"\n") or not data else None]:
+    for raw in lines_of(data):
         taken += len(raw) + 1
         if taken > MOST_INPUT + 1:
             raise Refused(reader.number + 1, "Input", f"the input is longer than {MOST_INPUT} bytes")
-        reader.take(raw)
-        if word == "audit" and "go" in reader.seen:
+        yield raw
+
+
+def read_history(data):
+    """Of an audited history the lines of its header, the events, each with the number of its line, and the refusal, if there is one."""
+    reader, refused = History(), None
+    try:
+        for raw in within(data, reader):
+            reader.take(raw)
+        reader.close()
+    except Refused as found:
+        refused = found
+    return [line.decode("latin-1") for line in lines_of(data)[: reader.header.number]], reader.told, refused
+
+
+class Header(Trace):
+    """The header of a trace, with which a history begins."""
+
+    def opening(self):
+        return "a history begins with the header of a trace, and that with"
+
+
+class History:
+    """The header of a trace up to its `go`, and behind it the lines of a transcript."""
+
+    def __init__(self):
+        self.header, self.events, self.told = Header(), None, []
+        self.number = 0
+
+    def take(self, raw):
+        self.number += 1
+        if self.events:
+            line = self.ask(self.events.take, raw)
+            if line:
+                self.told.append((self.number, line))
             return
-    reader.close()
+        self.header.take(raw)
+        if "go" in self.header.seen:
+            self.events = history.History(self.header.cpus, self.header.locks)
+
+    def close(self):
+        self.number += 1
+        if self.events:
+            self.ask(self.events.close)
+        else:
+            self.header.close()
+
+    def ask(self, check, *given):
+        try:
+            return check(*given)
+        except history.Refused as refused:
+            raise Refused(self.number, refused.fault, refused.said) from None
+
+
+READERS = {"replay": Trace, "steps": Trace, "picture": Trace, "audit": History, "osq": Run, "ledger": JobFile}

@@ -1,12 +1,16 @@
 #!/usr/bin/env python3
 """manpage.py
 
-Writes the man page of qlock to standard output. It is made of docs/help.txt, which `./qlock --help` prints. docs/qlock.1 is what this
-writes, and `tools/check` compares the two.
+Writes docs/help.txt and docs/qlock.1 anew: the help page, which `./qlock --help` prints, and the man page that is made of it. Both are
+made of the commands in tools/script/table.py. `tools/check` compares the two files with what this writes.
 """
 import re
 import sys
 from pathlib import Path
+
+sys.dont_write_bytecode = True
+
+from script import helping
 
 DOCS = Path(__file__).resolve().parent.parent / "docs"
 
@@ -60,18 +64,25 @@ def page(text):
     return "\n".join(said) + "\n"
 
 
+def pages():
+    """Each file, and its text."""
+    text = helping.text()
+    return {DOCS / "help.txt": text, DOCS / "qlock.1": page(text)}
+
+
 def failures():
     """What tools/check asks."""
-    made = DOCS / "qlock.1"
-    if not made.exists() or made.read_text() != page((DOCS / "help.txt").read_text()):
-        yield "docs/qlock.1 is not what tools/manpage.py makes of docs/help.txt"
+    for path, text in pages().items():
+        if not path.exists() or path.read_text() != text:
+            yield f"docs/{path.name} is not what tools/manpage.py writes"
 
 
 def main(words):
     if words:
         print(__doc__.strip(), file=sys.stdout if words[0] in ("-h", "--help") else sys.stderr)
         return 0 if words[0] in ("-h", "--help") else 2
-    sys.stdout.write(page((DOCS / "help.txt").read_text()))
+    for path, text in pages().items():
+        path.write_text(text)
     return 0
 
 
