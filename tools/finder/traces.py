@@ -84,7 +84,7 @@ class Maker:
 
     def __init__(self, options, seed):
         self.options, self.random = options, random.Random(seed)
-        self.given = read(options.header.read()) if options.header else None
+        self.given = read(options.header) if options.header else None
 
     def program(self, kinds, most):
         """Operations on locks in rising order, some of them nested, so that programs alone cannot deadlock."""

@@ -24,11 +24,14 @@ def program(variable, crate):
 class Programs:
     def __init__(self):
         self.main, self.steps_program, self.runs = None, None, 0
+        # What is told at each run.
+        self.on_run = lambda: None
         # What a trace is asked for its acts more than once in turn.
         self.steps = functools.lru_cache(KEPT)(self.steps)
 
     def ran(self, command, text):
         self.runs += 1
+        self.on_run()
         return subprocess.run(command, input=text, capture_output=True, text=True)
 
     def steps(self, text):

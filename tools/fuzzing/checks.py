@@ -6,7 +6,6 @@ import zlib
 from typing import NamedTuple
 
 import drawing
-import events
 import grammar
 import judge
 import laws
@@ -171,28 +170,16 @@ def check_read(program, word, text):
 # Audits.
 
 def verdict_of(text):
-    """The answer that an audited history is to get, by the grammar and by the laws."""
-    try:
-        grammar.read("audit", text)
-    except grammar.Refused as refused:
+    """The answer that an audited history is to get, by the grammar and by the laws: of a breach, or of a line that is refused, the first."""
+    header, events, refused = grammar.read_history(text)
+    laws_of = judge.Judge(judge.rules_of(header))
+    for number, event in events:
+        breach = laws_of.take(judge.event_of(event))
+        if breach:
+            return Answer(8, f"unlawful line {number}\n".encode(), f"breach {number} {breach}\n".encode())
+    if refused:
         return Answer(refusal_status(refused.fault), refusal_note(refused.line, refused.fault), b"")
-    said, lines = schedules.Said(drawing.header_of(text)), lines_of(text)
-    start = next(at for at, line in enumerate(lines) if line.split()[:1] == [b"go"]) + 1
-    history = events.History(said.cpus, said.kinds)
-    laws_of = judge.Judge(judge.rules_of(line.decode() for line in lines[:start - 1]))
-    count, number = 0, start
-    try:
-        for number, raw in enumerate(lines[start:], start + 1):
-            event = history.take(raw)
-            breach = laws_of.take(judge.event_of(event)) if event else None
-            if breach:
-                return Answer(8, f"unlawful line {number}\n".encode(), f"breach {number} {breach}\n".encode())
-            count += bool(event)
-        number = len(lines) + 1
-        history.close()
-    except events.Refused as refused:
-        return Answer(refusal_status(refused.fault), refusal_note(number, refused.fault), b"")
-    return Answer(0, b"", f"lawful {count}\n".encode())
+    return Answer(0, b"", f"lawful {len(events)}\n".encode())
 
 
 def check_audit(program, text):

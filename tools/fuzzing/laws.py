@@ -1,9 +1,9 @@
 """What holds of each transcript, read from docs/FORMATS.md, docs/ROWS.md and docs/OSQ.md alone."""
 import re
 
-import events
+import history
 
-RUN_EVENT = re.compile(rf"({events.NUMBER}) ({events.NUMBER}) (take free|arrive|take handed|quit|release(?: to ({events.NUMBER}))?)")
+RUN_EVENT = re.compile(rf"({history.NUMBER}) ({history.NUMBER}) (take free|arrive|take handed|quit|release(?: to ({history.NUMBER}))?)")
 
 
 class Broken(Exception):
@@ -52,13 +52,13 @@ def check_counts(mode, told, counts):
 
 def check_trace(said, transcript):
     lines, closing = parts_of(transcript)
-    shapes = [events.EVENT.fullmatch(line) for line in lines]
+    shapes = [history.EVENT.fullmatch(line) for line in lines]
     for line, shape in zip(lines, shapes):
         hold(shape, f"an event is spelled so: {line}")
     check_acts(said, [(int(shape[1]), int(shape[2].split(".")[0])) for shape in shapes])
     hold(closing[0] == f"end {said.acts}", f"there are {said.acts} acts")
-    counts = [re.fullmatch(rf"(\w+) ({events.NUMBER})", line) for line in closing[1:]]
-    hold([count and count[1] for count in counts] == list(events.COUNTS), "the ten counts close it")
+    counts = [re.fullmatch(rf"(\w+) ({history.NUMBER})", line) for line in closing[1:]]
+    hold([count and count[1] for count in counts] == list(history.COUNTS), "the ten counts close it")
     check_counts(said.mode, [shape[3].split(" ") for shape in shapes], {count[1]: int(count[2]) for count in counts})
 
 
