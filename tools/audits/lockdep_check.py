@@ -1,0 +1,131 @@
+#!/usr/bin/env python3
+"""lockdep_check.py
+
+Gives tools/audits/lockdep small traces, lawful ones, one with each fault, and each that it has to refuse, and compares status and words. The
+judge of tools/judge.py audits. Prints failures only, and ends with 1 if there are any.
+"""
+import contextlib
+import importlib.machinery
+import importlib.util
+import io
+import sys
+import tempfile
+from pathlib import Path
+
+sys.dont_write_bytecode = True
+HERE = Path(__file__).resolve().parent
+sys.path[:0] = [str(HERE), str(HERE.parent)]
+
+import auditor
+import judge
+
+WHOLE = "overrun: 0\ncommit overrun: 0\ndropped events: 0\nread events: 0\n"
+# A spinlock that an interrupt waits for, and a reader beside another.
+LAWFUL = """\
+0 101 d..2. 1 acquire aa &rq->__lock
+0 101 d..2. 2 acquired aa &rq->__lock
+1 0 d.h2. 3 acquire aa &rq->__lock
+0 101 d..2. 4 release aa &rq->__lock
+1 0 d.h2. 5 acquired aa &rq->__lock
+1 0 d.h2. 6 release aa &rq->__lock
+2 102 ...1. 7 acquire bb read tasklist_lock
+2 102 ...1. 8 acquired bb tasklist_lock
+3 103 ...1. 9 acquire bb try read tasklist_lock
+2 102 ...1. 10 release bb tasklist_lock
+3 103 ...1. 11 release bb tasklist_lock
+"""
+TWO = """\
+0 101 d..2. 1 acquire aa &rq->__lock
+0 101 d..2. 2 acquired aa &rq->__lock
+1 102 d..2. {} acquire aa try &rq->__lock
+0 101 d..2. 4 release aa &rq->__lock
+1 102 d..2. 5 release aa &rq->__lock
+"""
+RELEASED = LAWFUL + "0 101 d..2. 20 acquire cc console\n0 101 d..2. 21 acquired cc console\n1 102 d..2. 22 release cc console\n2 103 d..2. 23 acquire cc console\n2 103 d..2. 24 acquired cc console\n"
+OVERRIDE = LAWFUL + "".join(f"{cpu} {pid} d..2. {at} acquire dd try sched_map-wait-type-override\n" for cpu, pid, at in ((0, 101, 20), (1, 102, 21)))
+FOLDED = LAWFUL + "".join(f"0 101 d..2. {20 + at} {verb}\n" for at, verb in enumerate(["acquire bb try read tasklist_lock"] * 2 + ["release bb tasklist_lock"] * 2))
+MANY = LAWFUL + "".join(f"0 101 d..2. {20 + 2 * lock} acquire {lock + 256:x} try many\n0 101 d..2. {21 + 2 * lock} release {lock + 256:x} many\n" for lock in range(40))
+FULL = WHOLE.replace("dropped events: 0", "dropped events: 7")
+# Its name, the events, what the statistics say of processor 0, the status, and what is said.
+CASES = (
+    ("lawful", LAWFUL, WHOLE, 0, "lawful: 8 events told of 11, of 2 locks (1 reader-writer), in 1 history"),
+    ("two holders", TWO.format(3), WHOLE, 8, "breach 8 Beside: the lock at aa, &rq->__lock; its last events:\n  2 task 101 takes\n  3 task 102 takes\n  none of"),
+    ("two of one number", TWO.format(2), WHOLE, 8, "  drawn twice: 2; the order"),
+    ("released by another", RELEASED, WHOLE, 0, "released by another task: console"),
+    ("a wait override", OVERRIDE, WHOLE, 0, "left out: 2 overrides of wait types"),
+    ("folded", FOLDED, WHOLE, 0, "left out: 1 takes by a reader that reads already, folded"),
+    ("many locks", MANY, WHOLE, 0, "of 42 locks (1 reader-writer), in 2 histories"),
+    ("a full buffer", LAWFUL, FULL, 0, "left out: 7 events behind the end of a full buffer"),
+    ("seconds", LAWFUL.replace(" 5 ", " 0.5 "), WHOLE, 3, "the time 0.5 is no counter"),
+    ("a time stamp counter", LAWFUL.replace(" 11 ", " 987654321 "), WHOLE, 3, "this is a clock of time"),
+    ("an overrun", LAWFUL, WHOLE.replace("overrun: 0\nc", "overrun: 3\nc"), 3, "processor 0 has lost 3 events (overrun)"),
+    ("a commit overrun", LAWFUL, WHOLE.replace("commit overrun: 0", "commit overrun: 2"), 3, "processor 0 has lost 2 events (commit overrun)"),
+    ("read in part", LAWFUL, WHOLE.replace("read events: 0", "read events: 1"), 3, "processor 0 has 4 events by its statistics, and 3 were read"),
+    ("no statistics", LAWFUL, None, 3, "there are no statistics"),
+    ("lost events", LAWFUL + "CPU:1 [LOST 12 EVENTS]\n", WHOLE, 3, "events were lost: CPU:1 [LOST 12 EVENTS]"),
+    ("no lock statistics", LAWFUL.replace("acquired", "contended"), WHOLE, 3, "there is no lock_acquired"),
+)
+
+
+def in_ftrace(line):
+    cpu, pid, flags, at, verb, rest = line.split(" ", 5)
+    return f"            name-{pid}     [00{cpu}] {flags}  {at}: lock_{verb}: {rest}\n"
+
+
+def in_trace_cmd(line):
+    cpu, pid, flags, at, verb, rest = line.split(" ", 5)
+    return f"    name-{pid}    {cpu}{flags}     {at}: lock_{verb}:         0x{rest}\n"
+
+
+def shaped(events, shape):
+    return "# tracer: nop\n" + "".join(shape(line) if line[0].isdigit() else line + "\n" for line in events.splitlines())
+
+
+def stats_of(events, first):
+    """The statistics: a processor has as many entries as it has lines."""
+    if first is None:
+        return "cpus=4\n"
+    lines = [line for line in events.splitlines() if line[0].isdigit()]
+    return "".join(f"CPU: {cpu}\nentries: {sum(line.startswith(f'{cpu} ') for line in lines)}\n{WHOLE if cpu else first}" for cpu in range(4))
+
+
+def by_judge(text):
+    line = judge.verdict(text.decode())
+    return auditor.Answer(8 if line.startswith("breach") else 0, line, f"unlawful line {line.split()[1]}" if line.startswith("breach") else "")
+
+
+def asked(tool, folder, events, first, shape):
+    trace, stat = folder / "trace", folder / "stat"
+    trace.write_text(shaped(events, shape))
+    stat.write_text(stats_of(events, first))
+    said = io.StringIO()
+    with contextlib.redirect_stdout(said), contextlib.redirect_stderr(said):
+        status = tool.main([str(trace), "--stat", str(stat)])
+    return status, said.getvalue()
+
+
+def failures(tool):
+    with tempfile.TemporaryDirectory() as room:
+        for name, events, first, status, words in CASES:
+            for shape in (in_ftrace, in_trace_cmd):
+                found = asked(tool, Path(room), events, first, shape)
+                if found[0] != status or words not in found[1]:
+                    yield f"lockdep, {name}, {shape.__name__}: wanted {status} and {words!r}, found {found}"
+
+
+def main(words):
+    if words:
+        print(__doc__.strip())
+        return 0 if words[0] in ("-h", "--help") else 2
+    loader = importlib.machinery.SourceFileLoader("lockdep", str(HERE / "lockdep"))
+    tool = importlib.util.module_from_spec(importlib.util.spec_from_loader("lockdep", loader))
+    loader.exec_module(tool)
+    auditor.audit = by_judge
+    found = list(failures(tool))
+    for failure in found:
+        print(failure)
+    return 1 if found else 0
+
+
+if __name__ == "__main__":
+    sys.exit(main(sys.argv[1:]))
