@@ -2,10 +2,11 @@
 """timeline.py [--mark ACT] [TITLE] < STEPS > PICTURE
 
 Draws what `./qlock steps` says of a trace as one SVG. Time goes down, a row for each line. Each processor has a lane, and in it a bar
-for each context, a nested one right of the one that it interrupts, in the colour of what the context does. Beside the bars stand the
-row and the event of the act, and at the right what the act met and left. Where lanes with events would be wider than a page, the
-events stand at the right too. Arrows show links, handoffs and kicks. ACT is the number of the act that matters: its line is marked.
-Over a label a browser shows what the row does.
+for each context, a nested one right of the one that it interrupts, in the colour of what the context does. Beside the bars stands the
+row of the act with its event or, where it tells none, with the verb that docs/rows has for it; behind a compare-exchange that failed
+stands `fails`. At the right stands what the act met and left. Where that would be wider than a page, the events stand at the right too,
+and where it still were, the verbs. Arrows show links, handoffs and kicks. ACT is the number of the act that matters: its line is
+marked. Over a label a browser shows what the row does.
 
 A lane is as wide as its labels ask, so that one in which little happens is narrow; a processor that never acts has none. Letters have at least 10 pixels where the picture
 is as wide as a page, unless there are too many lanes for that.
@@ -13,20 +14,30 @@ is as wide as a page, unless there are too many lanes for that.
 import argparse
 import re
 import sys
-from pathlib import Path
 from xml.sax.saxutils import escape
+
+sys.dont_write_bytecode = True
+
+import labels
 
 # The width of a page, and the letters' least size on it. A letter is so wide for each pixel of its size.
 PAGE, LEAST, SLIM = 830, 10, 0.603
-ROW, TOP = 17, 66
+ROW, TOP = 17, 82
+# A picture of more lines says what shows them better.
+MOST = 2000
 SIZE, BAR, GAP = 11, 7, 4
 LETTER = SIZE * SLIM
 MARK = "#fff3bf"
-PARTS = Path(__file__).resolve().parent.parent / "crates" / "lk_rows" / "src" / "parts.rt"
+# The rows of a reader-writer lock, and the fields of a value that is not one word alone.
+READER_WRITER = re.compile(r"R\d|Wr|Y|Z")
+FIELDS = {"lock": "(tail,pending,locked)", "reader-writer lock": "(readers,waiting,writer)", "node": "(flag,next)"}
+# What stands at the right of the lanes, besides what the act met and left: nothing, the events, or the events and else the verbs.
+NOTHING, EVENTS, WORDS = range(3)
+FAILS = '<tspan fill="#b3261e" font-weight="bold">fails</tspan>'
 COLOURS = {"runs": "#e4e4e4", "seeks": "#f0c94a", "pending": "#ee7f2d", "queued": "#9cc5ea", "leads": "#2f6db5", "holds": "#3c9a5f",
            "halted": "#5b4a63"}
 ARROWS = {"link": "#2f6db5", "handoff": "#3c9a5f", "kick": "#b3261e"}
-LINE = re.compile(r"(\d+)(?:-(\d+))? (\d+)\.(\d+) (.*?)(?:: (.*))?$")
+LINE = re.compile(r"(\d+)(?:-(\d+))? (\d+)\.(\d+) (.*?)(, fails)?(?:, (\d+) times)?(?:: (.*))?$")
 
 
 class Act:
@@ -36,9 +47,8 @@ class Act:
         found = LINE.match(text)
         if not found:
             sys.exit("timeline: no line of qlock-steps: " + text)
-        self.first, self.last, cpu, context, deed, self.event = found.groups()
-        self.cpu, self.context = int(cpu), int(context)
-        self.deed, self.times = (re.split(r", (?=\d+ times$)", deed) + [""])[:2]
+        self.first, self.last, cpu, context, self.deed, fails, self.times, self.event = found.groups()
+        self.cpu, self.context, self.fails = int(cpu), int(context), bool(fails)
         self.words = self.deed.split()
         self.row = self.words[0]
         self.is_idle = "idle," in self.words
@@ -49,19 +59,30 @@ class Act:
     def is_row(self):
         return re.match(r"[A-Z]", self.row)
 
-    def label(self, has_event):
-        """The row, or the word of the act, and with it the event, if one is told there."""
-        if self.is_idle:
-            return self.deed.replace("step idle", "idle") + self.suffix()
-        if self.event in (self.row, None) or not has_event:
-            return self.row + self.suffix()
-        return self.row + " " + self.event if self.is_row() else self.event
+    def name(self):
+        """The row, or the word of the act and why it is idle."""
+        return self.deed.replace("step idle", "idle") if self.is_idle else self.row
+
+    def gloss(self, verbs):
+        """What the row does in a word, and whether it fails."""
+        return " ".join(filter(None, [verbs.get(self.row), "fails" if self.fails else ""]))
+
+    def news(self):
+        """The event, where it says more than the label."""
+        return self.event if self.event != self.row else None
+
+    def told(self, verbs):
+        """The event; else the gloss."""
+        return ("fails: " if self.fails else "") + self.news() if self.news() else self.gloss(verbs)
 
     def has_number(self, number):
         return int(self.first) <= number <= int(self.last or self.first)
 
-    def suffix(self):
-        return " x" + self.times.split()[0] if self.times else ""
+    def part(self):
+        """The kind of the part on which a row operated."""
+        if not self.is_row():
+            return None
+        return "reader-writer lock" if READER_WRITER.match(self.row) else self.words[1]
 
     def values(self):
         """On what the act operated, what it met there, and what it left."""
@@ -174,50 +195,59 @@ def width(texts):
     return LETTER * max(map(len, texts), default=0)
 
 
-def meanings():
-    """What each row does: the comment of its label in the sources."""
-    text = PARTS.read_text() if PARTS.exists() else ""
-    return {label: said for said, label in re.findall(r"^    /// (.*)\n    (\w+),$", text, re.M)}
-
-
 class Picture:
     def __init__(self, story, title, mark):
         self.story, self.title, self.mark = story, title, mark
+        self.verbs, self.meanings = labels.verbs(), labels.meanings()
         self.cpus = 1 + max(context.cpu for context in story.contexts)
         self.depths = [1 + max([c.depth for c in story.contexts if c.cpu == cpu] or [0]) for cpu in range(self.cpus)]
         self.margin = 14 + width(["act"] + [act.numbers() for act in story.acts])
-        self.place(True)
-        if self.width * LEAST > PAGE * SIZE:
-            self.place(False)
+        for self.is_aside in (NOTHING, EVENTS, WORDS):
+            self.place()
+            if self.width * LEAST <= PAGE * SIZE:
+                break
         self.height = TOP + ROW * len(story.acts) + 8
-        self.meanings = meanings()
         self.parts = []
+
+    def fields(self):
+        """What the fields of the values are."""
+        seen = {act.part() for act in self.story.acts}
+        return "; ".join(f"{part} {fields}" for part, fields in FIELDS.items() if part in seen)
 
     def bars_room(self, cpu):
         return 4 + (BAR + 1) * self.depths[cpu] + GAP
 
-    def place(self, has_events):
-        """Where each lane begins, where the last one ends, and how wide all is; with the events in the lanes, or at the right."""
-        self.has_events = has_events
+    def place(self):
+        """Where each lane begins, where the last one ends, and how wide all is."""
         self.lanes_at = [self.margin]
         for cpu in range(self.cpus):
-            labels = [act.label(has_events) for act in self.story.acts if act.cpu == cpu]
-            room = self.bars_room(cpu) + width([f"cpu {cpu}", *labels]) + 7 if labels else 0
+            shown = [self.label(act) for act in self.story.acts if act.cpu == cpu]
+            room = self.bars_room(cpu) + width([f"cpu {cpu}", *shown]) + 7 if shown else 0
             self.lanes_at.append(self.lanes_at[-1] + room)
-        events = [] if has_events else [self.event_aside(act) for act in self.story.acts]
-        self.events_room = 8 + width(events) if any(events) else 0
+        asides = [self.aside(act) for act in self.story.acts]
+        self.aside_room = 8 + width(asides) if any(asides) else 0
         values = 14 + width(["met -> left"] + [act.values() for act in self.story.acts])
-        self.width = max(self.lanes_at[-1] + self.events_room + values, 8 + width([self.title]) * 1.2, self.legend_width())
+        self.width = max(self.lanes_at[-1] + self.aside_room + values, 8 + width([self.title]) * 1.2, 8 + width([self.fields()]), self.legend_width())
 
-    def event_aside(self, act):
-        return act.event if act.event and act.event != act.row else ""
+    def label(self, act):
+        """What stands in the lane."""
+        if self.is_aside == NOTHING and act.news():
+            return f"{act.name()} {act.told(self.verbs)}" if act.is_row() else act.event
+        gloss = act.gloss(self.verbs) if self.is_aside != WORDS else ""
+        return " ".join(filter(None, [act.name(), gloss, f"x{act.times}" if act.times else ""]))
+
+    def aside(self, act):
+        """What stands at the right of the lanes."""
+        return {NOTHING: "", EVENTS: act.news() or "", WORDS: act.told(self.verbs)}[self.is_aside]
 
     def add(self, text, *values):
         self.parts.append(text % values)
 
     def text(self, x, y, words, style="", meaning=""):
+        """Words; `fails` among them is marked."""
         hover = f"<title>{escape(meaning)}</title>" if meaning else ""
-        self.add('<text x="%.1f" y="%.1f"%s>%s%s</text>', x, y, style, hover, escape(words))
+        marked = re.sub(r"\bfails\b", FAILS, escape(words))
+        self.add('<text x="%.1f" y="%.1f"%s>%s%s</text>', x, y, style, hover, marked)
 
     def bar_x(self, context):
         return self.lanes_at[context.cpu] + 4 + (BAR + 1) * context.depth
@@ -239,6 +269,7 @@ class Picture:
             self.add('<path d="M%.1f 33 h20" stroke="%s" stroke-width="1.4" marker-end="url(#%s)"/>', x, colour, arrow)
             self.text(x + 26, 37, arrow)
             x += 44 + LETTER * len(arrow)
+        self.text(8, 53, self.fields(), ' fill="#555555"')
 
     def lanes(self):
         self.text(6, TOP - 6, "act")
@@ -250,9 +281,9 @@ class Picture:
                      "#f4f4f1" if cpu % 2 else "#ffffff")
             self.text(left + 4, TOP - 6, f"cpu {cpu}", ' font-weight="bold"', f"processor {cpu}")
         right = self.lanes_at[-1] + 6
-        if self.events_room:
+        if self.aside_room:
             self.text(right, TOP - 6, "event", ' font-weight="bold"')
-        self.text(right + self.events_room, TOP - 6, "met -> left")
+        self.text(right + self.aside_room, TOP - 6, "met -> left")
 
     def marks(self):
         """A line at each fifth act, and the band of the act that matters."""
@@ -280,16 +311,16 @@ class Picture:
         if bottom > top:
             self.add('<rect x="%.1f" y="%.1f" width="%d" height="%.1f" fill="%s"/>', self.bar_x(context), top, BAR, bottom - top, COLOURS[phase])
 
-    def labels(self):
+    def words(self):
+        right = self.lanes_at[-1] + 6
         for at, act in enumerate(self.story.acts):
             baseline = self.y(at) + 12
             style = ' fill="#777777"' if act.is_idle or act.times else ' font-weight="bold"' if act.event else ""
-            right = self.lanes_at[-1] + 6
             self.text(8, baseline, act.numbers())
-            self.text(self.lanes_at[act.cpu] + self.bars_room(act.cpu), baseline, act.label(self.has_events), style, self.meaning(act))
-            if self.events_room:
-                self.text(right, baseline, self.event_aside(act), ' font-weight="bold"')
-            self.text(right + self.events_room, baseline, act.values(), ' fill="#555555"')
+            self.text(self.lanes_at[act.cpu] + self.bars_room(act.cpu), baseline, self.label(act), style, self.meaning(act))
+            if self.aside(act):
+                self.text(right, baseline, self.aside(act), style)
+            self.text(right + self.aside_room, baseline, act.values(), ' fill="#555555"')
 
     def meaning(self, act):
         said = self.meanings.get(act.row)
@@ -310,7 +341,7 @@ class Picture:
         self.legend()
         self.marks()
         self.bars()
-        self.labels()
+        self.words()
         self.draw_arrows()
         head = ('<svg xmlns="http://www.w3.org/2000/svg" width="%.0f" height="%d" viewBox="0 0 %.0f %d" font-family="DejaVu Sans Mono, monospace"'
                 ' font-size="%d">\n<rect width="100%%" height="100%%" fill="#ffffff"/>\n')
@@ -325,6 +356,8 @@ def main():
     acts = [Act(line.rstrip("\n")) for line in sys.stdin]
     if not acts:
         sys.exit("timeline: no acts")
+    if len(acts) > MOST:
+        print(f"timeline: a picture of {len(acts)} lines; `./qlock view` makes a page that draws those in sight", file=sys.stderr)
     sys.stdout.write(Picture(Story(acts), args.title, args.mark).draw())
 
 

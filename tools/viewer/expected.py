@@ -1,16 +1,19 @@
 """What a page has to show behind each line of its acts, computed without the page's scripts: holders and queues by the transcript's
-events (tools/judge.py), words, nodes, entries and processors by what the lines met and left, and who is in the slow path by the rows
-that are to come."""
+events (tools/judge.py), words, nodes, entries and processors by what the lines met and left, who is in the slow path by the rows that
+are to come, who has set the pending bit by the rows that set and clear it, and what fails by the tables of docs/rows."""
 import re
 
 import judge
+import labels
 
-LINE = re.compile(r"(\d+)(?:-(\d+))? (\d+\.\d+) (.*?)(?:, \d+ times)?(?:: (.*))?$")
+LINE = re.compile(r"(\d+)(?:-(\d+))? (\d+\.\d+) (.*?)(?:, fails)?(?:, \d+ times)?(?:: (.*))?$")
 VALUE = re.compile(r"(\w+) (\w+) (\S+) (\S+)(?: -> (\S+))?$")
 REST = {"lock": "(0,0,0)", "node": "(0,0)", "second": "0", "runs": "0", "state": "running", "hash": "0"}
 FLAGS = {"0": "unset", "1": "go"}
 # How the rows of the slow path begin.
 SLOW = tuple("GNCHWEK")
+# The rows that clear the pending bit; E4 does where it stores.
+CLEARING = ("P2", "P4", "E5")
 
 
 def spelled(waiter):
@@ -27,7 +30,8 @@ class Expected:
         self.judge = judge.Judge(self.rules)
         self.lines = [LINE.match(line).groups() for line in lines]
         self.events = [(int(line.split(" ", 1)[0]), judge.event_of(line)) for line in transcript.splitlines() if line[0].isdigit()]
-        self.values, self.node, self.preempted, self.slow = {}, {}, set(), {}
+        self.values, self.node, self.preempted, self.slow, self.pends = {}, {}, set(), {}, {}
+        self.told = labels.told()
         self.spinlocks = {words[1] for words in map(str.split, trace.splitlines()) if words[:1] == ["lock"] and words[2] == "spin"}
 
     def value(self, key):
@@ -55,6 +59,20 @@ class Expected:
             for part in ("node", "second", "runs", "state"):
                 self.values.pop(f"{part} {self.node[who]}", None)
         self.values[f"{kind} {name}"] = left or met
+        if row == "E3" or row == "P1" and fields(met)[1] == "0":
+            self.pends[name] = who
+        elif row in CLEARING or row == "E4" and left:
+            del self.pends[name]
+
+    def spoken(self, at):
+        """What a screen reader is told of a line of the list."""
+        first, last, who, deed, event = self.lines[at]
+        row = deed.split(" ")[0]
+        said = "idle: " + deed.split(", ")[1] if "idle, " in deed else row
+        if row in self.told:
+            fails = "cmpxchg" in self.told[row]["Before and after"] and "->" not in deed
+            said = f"{row} {self.told[row]['Verb']}{' fails' if fails else ''}"
+        return f"act {first}{'-' + last if last else ''}, waiter {who}, {said}{', ' + event if event else ''}"
 
     def go_slow(self, at, who, deed):
         """Keeps of each context that makes a row whether it is in the slow path behind it: it is from G1 on, as long as its next row is
@@ -67,6 +85,8 @@ class Expected:
     def state(self, at):
         names = [key.split(" ")[1] for key in self.values if key.startswith("lock ")]
         return {
+            "spoken": self.spoken(at),
+            "pends": {name: self.pends.get(name, "") for name in names if self.rules.mode != "virt" and self.is_spin(name)},
             "locks": {name: self.queues(name) for name in names},
             "words": {name: self.word(name) for name in names},
             "nodes": {spelled(who): self.facts(spelled(who)) for lock in self.judge.locks.values() for who in lock.main + lock.second},

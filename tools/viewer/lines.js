@@ -1,20 +1,21 @@
 // Reads lines of `./qlock steps` (docs/STEPS.md).
 
-const LINE = /^(\d+)(?:-(\d+))? (\d+)\.(\d+) (.*?)(?:: (.*))?$/;
+const LINE = /^(\d+)(?:-(\d+))? (\d+)\.(\d+) (.*?)(, fails)?(?:, (\d+) times)?(?:: (.*))?$/;
 const VALUE = /^(\w+) (\S+) (\S+)(?: -> (\S+))?$/;
 
 // What a part of the machine has before anything was stored into it.
 const AT_REST = { lock: "(0,0,0)", node: "(0,0)", second: "0", runs: "0", state: "running", nodes: "0", hash: "0", halted: "0", kicked: "0" };
 
-// One line: the acts `first` to `last`, the waiter `who`, its row or word, on what it operated, what it met and left, the event.
+// One line: the acts `first` to `last`, the waiter `who`, its row or word, on what it operated, what it met and left, whether a
+// compare-exchange failed, the event.
 function readLine(text) {
   const found = LINE.exec(text);
   if (!found) return { text, first: 0, last: 0, cpu: 0, context: 0, who: "0.0", row: "?", isBroken: true };
-  const [, first, last, cpu, context, rest, event] = found;
-  const [deed, times] = rest.split(/, (?=\d+ times$)/);
+  const [, first, last, cpu, context, deed, fails, times, event] = found;
   const line = { text, first: +first, last: +(last || first), cpu: +cpu, context: +context, who: cpu + "." + context, deed };
   line.event = event || null;
-  line.times = times ? parseInt(times, 10) : 1;
+  line.times = +(times || 1);
+  line.fails = Boolean(fails);
   [line.row] = deed.split(" ");
   line.isRow = /^[A-Z]/.test(line.row);
   const idle = /^(\w+) idle, (.*)$/.exec(deed);

@@ -11,11 +11,11 @@ function isHeldBy(lock, who, manner) {
   return lock.holders.some((holder) => holder.who === who && (!manner || holder.manner === manner));
 }
 
-function takes(lock, who, manner, how) {
+function takes(lock, { who, first }, manner, how) {
   const errors = [];
   const blocked = lock.holders.filter((holder) => manner !== "reader" || holder.manner !== "reader");
   for (const holder of blocked) errors.push(who + " takes the lock beside " + holder.who + ", who holds it");
-  lock.holders.push({ who, manner });
+  lock.holders.push({ who, manner, since: first });
   if (how !== "head" && how !== "sole") return errors;
   if (lock.main[0] !== who) errors.push(who + " takes the lock as the queue head, and is not the head");
   if (how === "sole") lock.main.shift();
@@ -59,9 +59,10 @@ function leaves(lock, who) {
   return errors;
 }
 
-// Tells a lock an event about it.
-function tellLock(lock, who, verb, words) {
-  if (TAKES[verb]) return takes(lock, who, TAKES[verb], words[1]);
+// Tells a lock an event about it, of this line.
+function tellLock(lock, line, verb, words) {
+  const { who } = line;
+  if (TAKES[verb]) return takes(lock, line, TAKES[verb], words[1]);
   if (RELEASES[verb]) return releases(lock, who, RELEASES[verb]);
   if (verb === "arrive") return arrives(lock, who);
   if (verb === "pass") return passes(lock, who, words[1], +(words[3] || 0));

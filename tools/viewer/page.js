@@ -1,6 +1,8 @@
-// The cursor: buttons, slider, number, keys, and play.
+// The cursor: buttons, slider, number, keys, and play. docs/VIEW.md has a table of the keys.
 
 const STEPS = { ArrowRight: 1, ArrowDown: 1, ArrowLeft: -1, ArrowUp: -1, PageDown: 10, PageUp: -10 };
+// Keys that seek, and what they seek: the next event, act of the processor, act on the lock.
+const SEEKS = { e: "event", p: "cpu", l: "lock" };
 
 class Page {
   constructor(header, texts) {
@@ -11,6 +13,7 @@ class Page {
     this.at = -1;
     this.wire();
     this.summary();
+    document.getElementById("values").innerHTML = valuesSaid(header);
     const asked = /^#act=(\d+)$/.exec(location.hash);
     this.go(asked ? this.story.lineOf(+asked[1]) : -1);
   }
@@ -24,23 +27,69 @@ class Page {
     on("play", () => this.play(!this.timer));
     on("slider", (event) => this.go(+event.target.value), "input");
     on("number", (event) => this.go(this.story.lineOf(+event.target.value)), "change");
+    for (const what of Object.values(SEEKS)) on("next-" + what, () => this.seek(what, 1));
     on("speed", () => this.timer && this.play(true), "change");
     document.addEventListener("keydown", (event) => this.key(event));
-    const slider = document.getElementById("slider");
-    slider.max = this.last;
+    const controls = document.getElementById("controls");
+    new ResizeObserver(() => this.fit(controls)).observe(document.body);
+    document.getElementById("slider").max = this.last;
     document.getElementById("number").max = this.story.lines[this.last].last;
   }
 
-  // Keys go by the cursor, but where the element in focus has a use for them.
+  // Tells the style how high the controls are, and where the lanes begin.
+  fit(controls) {
+    const { style } = document.documentElement;
+    style.setProperty("--controls", controls.offsetHeight + "px");
+    style.setProperty("--top", document.querySelector("main").offsetTop + "px");
+  }
+
+  // Keys go by the cursor, but where the element in focus has a use for them. The field of the act gives them back after Enter.
   key(event) {
-    if (event.altKey || event.ctrlKey || event.metaKey || /^(SELECT|INPUT)$/.test(event.target.tagName)) return;
-    if (event.key === " " && event.target.tagName === "BUTTON") return;
-    if (event.key in STEPS) this.go(this.at + STEPS[event.key]);
+    const { target } = event;
+    if (event.altKey || event.ctrlKey || event.metaKey || target.tagName === "SELECT") return;
+    if (target.id === "number") return void (/^(Enter|Escape)$/.test(event.key) && this.leaveNumber(event.key === "Enter"));
+    if (event.key === " " && target.tagName === "BUTTON" || target.id === "slider" && (event.key in STEPS || /^(Home|End)$/.test(event.key))) return;
+    const sought = SEEKS[event.key.toLowerCase()];
+    if (sought) this.seek(sought, event.shiftKey ? -1 : 1);
+    else if (event.key in STEPS) this.go(this.at + STEPS[event.key]);
     else if (event.key === "Home") this.go(-1);
     else if (event.key === "End") this.go(this.last);
     else if (event.key === " ") this.play(!this.timer);
     else return;
     event.preventDefault();
+  }
+
+  leaveNumber(isMeant) {
+    if (isMeant) this.go(this.story.lineOf(+document.getElementById("number").value));
+    document.getElementById("acts").focus({ preventScroll: true });
+  }
+
+  // The next line with an event, of the processor or on the lock of the line at the cursor, in this direction; -1 where there is none.
+  // Where that line has no lock, it is the next line that has one.
+  found(what, direction) {
+    const here = this.story.lines[this.at] || {};
+    const isOne = {
+      event: (line) => line.event, cpu: (line) => here.cpu === undefined || line.cpu === here.cpu, lock: (line) => line.lock && (!here.lock || line.lock === here.lock),
+    }[what];
+    let at = this.at + direction;
+    while (at >= 0 && at <= this.last && !isOne(this.story.lines[at])) at += direction;
+    return at > this.last ? -1 : at;
+  }
+
+  seek(what, direction) {
+    const at = this.found(what, direction);
+    if (at >= 0) this.go(at);
+  }
+
+  // What the buttons that seek say, and whether there is what they seek.
+  nameSeeks() {
+    const line = this.story.lines[this.at];
+    const names = { event: "event", cpu: line ? "cpu " + line.cpu : "cpu", lock: line && line.lock ? "lock " + line.lock : "lock" };
+    for (const [what, name] of Object.entries(names)) {
+      const button = document.getElementById("next-" + what);
+      button.textContent = name;
+      button.disabled = this.found(what, 1) < 0;
+    }
   }
 
   go(at) {
@@ -56,6 +105,7 @@ class Page {
     document.getElementById("of").textContent = "of " + this.story.lines[this.last].last;
     for (const id of ["first", "back"]) document.getElementById(id).disabled = this.at < 0;
     for (const id of ["forward", "last"]) document.getElementById(id).disabled = this.at === this.last;
+    this.nameSeeks();
   }
 
   play(isOn) {

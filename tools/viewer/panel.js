@@ -13,7 +13,7 @@ class Panel {
   show(at) {
     this.state = this.story.state(at);
     this.line = this.story.lines[at];
-    fill("happened", this.line ? this.happened(at) : `<p>Before the first act: each lock is free, and each program is at its beginning.</p>`);
+    fill("happened", this.line ? this.happened(at) : this.beginning());
     fill("locks", this.locks());
     fill("processors", this.processors());
     fill("counts", this.counts());
@@ -24,19 +24,37 @@ class Panel {
     return keys.some((key) => this.state.changed.has(key)) ? " changed" : "";
   }
 
+  beginning() {
+    const about = this.header.intro.map((text) => `<p>${escaped(text)}</p>`).join("");
+    return `<p class="what">Before the first act: each lock is free, and each program is at its beginning.</p>${about}${document.getElementById("keys").outerHTML.replace(' id="keys"', "")}`;
+  }
+
   // The act: who, which row, what the row is, and the event.
   happened(at) {
     const { line } = this;
     const errors = (this.story.errors.get(at) || []).map((error) => `<p class="error"><strong>This line does not fit the state:</strong> ${escaped(error)}.</p>`);
-    const facts = [["Waiter", `${line.who}: processor ${line.cpu}, ${line.context ? "interrupt " + line.context : "its task"}`]];
-    if (line.isRow && !line.isBroken) facts.push([`Met${line.stores ? " and left" : ""}`, `<code>${escaped(line.key)}</code> <code>${escaped(line.met)}</code>${line.stores ? ` → <code>${escaped(line.left)}</code>` : ", and left it"}`]);
+    const facts = [["Who", `${line.who}: processor ${line.cpu}, ${line.context ? "interrupt " + line.context : "its task"}`]];
+    if (line.isRow && !line.isBroken) facts.push(this.metAndLeft(line));
     if (line.times > 1) facts.push(["How often", line.times + " times, as nothing changed"]);
     if (line.event) facts.push(["Event", `<code>${escaped(line.event)}</code>: ${escaped(inWords(line.event))}`]);
     facts.push(...this.rowFacts(line));
     const note = this.noteAt(line.first);
     if (note) facts.push(["In the trace", escaped(note)]);
     const list = facts.map(([name, text]) => `<dt>${name}</dt><dd>${text}</dd>`).join("");
-    return `<p class="what">Act ${numbersOf(line)}: <b>${escaped(line.who)}</b> ${escaped(deedOf(line, this.rows))}</p>${errors.join("")}<dl>${list}</dl>`;
+    const end = at === this.story.lines.length - 1 ? this.ending() : "";
+    return `<p class="what">Act ${numbersOf(line)}: <b>${escaped(line.who)}</b> ${escaped(deedOf(line, this.rows))}</p>${errors.join("")}<dl>${list}</dl>${end}`;
+  }
+
+  // How the trace ends, where not all are done: lines, of which those that begin with spaces belong to the one before them.
+  ending() {
+    const lines = this.header.ending.map((line) => `<p${/^ /.test(line) ? ' class="inner"' : ""}>${escaped(line.trim())}</p>`);
+    return lines.length ? `<div id="ending">${lines.join("")}</div>` : "";
+  }
+
+  metAndLeft(line) {
+    const met = `<code>${escaped(line.key)}</code> <code>${escaped(line.met)}</code>`;
+    if (line.stores) return ["Met and left", `${met} → <code>${escaped(line.left)}</code>`];
+    return ["Met", met + (line.fails ? ': the <code>cmpxchg</code> <em class="fails">fails</em>, and stores nothing' : ", and left it")];
   }
 
   rowFacts(line) {
@@ -44,6 +62,7 @@ class Panel {
     if (!row) return [];
     const facts = [["Before, after", escaped(row.before)], ["Then", escaped(row.next)]];
     if (row.linux) facts.push(["Linux 6.1", `<code>${escaped(row.linux)}</code>`]);
+    if (row.order) facts.push(["Order there", escaped(row.order)]);
     if (row.paper) facts.push(["In the article", escaped(row.paper)]);
     facts.push(["Code", `<code>${escaped(row.code)}</code>`]);
     return facts;
@@ -70,16 +89,17 @@ class Panel {
   readerWriter(name) {
     const lock = this.state.lock(name);
     const waits = "lock " + name + "w" in this.state.data.values ? this.spin(name + "w") : "";
-    return `<article data-lock="${name}"><h3>Lock ${name}, reader-writer</h3>${this.fields(name, FIELDS.rw)}${this.holders(name, lock)}</article>${waits}`;
+    return `<article data-lock="${name}"><h3>Lock ${name}, reader-writer</h3>${this.fields(name, FIELDS.rw)}${this.holders(name, lock)}${this.seekers(name, lock)}</article>${waits}`;
   }
 
   spin(name) {
     const lock = this.state.lock(name);
     const title = name.endsWith("w") ? `Wait lock of lock ${name.slice(0, -1)}` : `Lock ${name}, spinlock`;
     const parts = [this.fields(name, FIELDS.spin), this.holders(name, lock)];
-    if (this.header.mode !== "virt") parts.push(this.queue("Queue", "main", name, lock.main));
+    if (this.header.mode !== "virt") parts.push(this.pender(name), this.queue("Queue", "main", name, lock.main));
     if (this.header.mode === "cna") parts.push(this.second(name, lock));
     if (this.header.mode === "pv") parts.push(this.entry(name));
+    parts.push(this.seekers(name, lock));
     return `<article data-lock="${name}"><h3>${title}</h3>${parts.join("")}</article>`;
   }
 
@@ -106,15 +126,41 @@ class Panel {
   }
 
   holders(name, lock) {
-    const shown = lock.holders.map(({ who, manner }) => `<span class="holder" data-waiter="${who}" data-manner="${manner}">${who}${manner === "spin" ? "" : " as " + (manner === "reader" ? "a reader" : "the writer")}</span>`);
+    const manners = { spin: "", reader: " as a reader", writer: " as the writer" };
+    const shown = lock.holders.map(({ who, manner, since }) => `<span class="holder" data-waiter="${who}" data-manner="${manner}">${who}${manners[manner]}</span> since act ${since}`);
     return `<p class="holders${this.mark("holders " + name)}">Held by: ${shown.join(", ") || "nobody"}</p>`;
+  }
+
+  // Who has set the pending bit.
+  pender(name) {
+    const who = this.state.data.pends[name];
+    return `<p class="pends${this.mark("pends " + name)}">Pending: <span data-pends="${who || ""}">${who || "nobody"}</span></p>`;
+  }
+
+  // Who wants the lock, and neither holds it, nor pends, nor queues.
+  seekers(name, lock) {
+    const placed = [...lock.holders.map(({ who }) => who), ...lock.main, ...lock.second, this.state.data.pends[name]];
+    const found = this.story.cpus.filter((cpu) => cpu in this.state.data.cpus).flatMap((cpu) => this.state.cpu(cpu).frames).filter((frame) => this.seeks(frame, name) && !placed.includes(frame.who));
+    const shown = found.map((frame) => `<span data-seeks="${frame.who}">${frame.who}</span>, last at ${this.rowName(frame.row)}`);
+    return found.length ? `<p class="seeks">Seeks it: ${shown.join("; ")}</p>` : "";
+  }
+
+  seeks(frame, name) {
+    const op = frame.ops[frame.at];
+    return op && !frame.isFresh && TAKING.includes(op.verb) && [frame.lock, String(op.lock)].includes(name);
+  }
+
+  // A row with its verb.
+  rowName(row) {
+    return this.rows[row] ? `${row} ${this.rows[row].verb}` : row;
   }
 
   queue(title, kind, name, waiters) {
     const boxes = waiters.map((who, at) => `<li>${this.box(who, waiters[at + 1])}</li>`).join("");
     const tail = fieldsOf(this.state.value("lock " + name))[0];
     const end = kind === "main" && waiters.length ? `<li class="tail">tail: ${escaped(tail)}</li>` : "";
-    const list = waiters.length ? `<ol class="queue" data-queue="${kind}">${boxes}${end}</ol>` : ` <span class="nobody">empty</span>`;
+    const pender = kind === "main" && this.state.data.pends[name];
+    const list = waiters.length ? `<ol class="queue" data-queue="${kind}">${boxes}${end}</ol>` : ` <span class="nobody">${pender ? `nobody behind ${pender}, who has the pending bit` : "empty"}</span>`;
     return `<div class="queue-line${this.mark("queue " + name)}"><span class="title">${title}</span>${list}</div>`;
   }
 
@@ -177,7 +223,7 @@ class Panel {
 
   frame(frame, context) {
     const op = frame.ops[frame.at];
-    const doing = op ? `${op.verb} ${op.lock}, ${frame.isFresh ? "not begun" : "behind " + frame.row}` : "finished";
+    const doing = op ? `${op.verb} ${op.lock}, ${frame.isFresh ? "not begun" : "last at " + this.rowName(frame.row)}` : "finished";
     const held = frame.held.length ? `; holds ${frame.held.join(", ")}` : "";
     const phase = phaseOf(frame, false);
     return `<li class="${phase || "done"}">${context ? "interrupt " + context : "task"}: ${escaped(doing)}${held}${phase ? ` <small>${phase}</small>` : ""}</li>`;

@@ -11,7 +11,7 @@ const NODE_PARTS = ["node", "second", "runs", "state"];
 class State {
   constructor(header, data) {
     this.header = header;
-    this.data = data || { act: 0, values: {}, locks: {}, cpus: {}, owners: {}, counts: {} };
+    this.data = data || { act: 0, values: {}, locks: {}, cpus: {}, owners: {}, pends: {}, counts: {} };
   }
 
   copy() {
@@ -97,6 +97,7 @@ class State {
     if (!this.isHalted(line.cpu)) this.errors.push("a halt ends, and processor " + line.cpu + " has not halted");
     this.set("halted " + line.cpu, "0");
     this.top(line.cpu).row = line.row;
+    line.lock = this.top(line.cpu).lock;
   }
 
   interrupt(line, cpu) {
@@ -113,9 +114,11 @@ class State {
     this.checkTop(line);
     this.checkRuns(line, frame);
     if (this.value(line.key) !== line.met) this.errors.push(line.key + " has " + this.value(line.key) + ", and the line met " + line.met);
+    if (line.fails && line.stores) this.errors.push("a compare-exchange failed, and stored");
     if (line.row === "G1") this.takeNode(line, frame);
     this.set(line.key, line.left);
-    if (line.kind === "lock" && this.isSpin(line.name)) frame.lock = line.name;
+    if (line.kind === "lock" && this.isSpin(line.name)) this.meetWord(line, frame);
+    line.lock = line.kind === "lock" ? line.name : frame.lock;
     frame.row = line.row;
     frame.isFresh = false;
     this.count(line, frame);
@@ -123,6 +126,15 @@ class State {
     if (line.event) this.tell(line, frame);
     this.advance(line, frame);
     if (line.kind === "lock") this.checkWord(line.name);
+  }
+
+  // Keeps on which lock the waiter acts, and who has set the pending bit.
+  meetWord(line, frame) {
+    frame.lock = line.name;
+    const [was, is] = [line.met, line.left].map((value) => fieldsOf(value)[1]);
+    if (was !== is) this.changed.add("pends " + line.name);
+    if (was === "0" && is === "1") this.data.pends[line.name] = line.who;
+    if (is === "0") delete this.data.pends[line.name];
   }
 
   isSpin(name) {
@@ -177,7 +189,7 @@ class State {
     const [verb, ...words] = line.event.split(" ");
     if (verb === "kick" || verb === "halt" || verb === "wake") return;
     const name = words[0];
-    this.errors.push(...tellLock(this.lock(name), line.who, verb, words));
+    this.errors.push(...tellLock(this.lock(name), line, verb, words));
     if (TAKES[verb] || RELEASES[verb]) this.changed.add("holders " + name);
     if (QUEUEING.includes(verb) || words[1] === "sole") this.changed.add("queue " + name);
     if (verb === "pass") this.lead(words[1]);

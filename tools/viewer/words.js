@@ -25,6 +25,14 @@ const EVENTS = {
 };
 const ACTS = { step: "goes on, since a kick ends its halt", int: "is a handler that begins", pre: "is preempted", res: "goes on after a preemption", nudge: "has its halt ended by a nudge" };
 
+// What the values in the lines are, of the parts that a trace of this header has.
+function valuesSaid({ kinds, mode }) {
+  const said = [["lock L", "(tail,pending,locked)", "the queue's last node or 0, the pending bit, the byte: 0 free, 1 held" + (mode === "pv" ? ", 3 slow" : "")]];
+  if (kinds.includes("rw")) said.push(["a reader-writer lock", "(readers,waiting,writer)", "its wait lock, as <code>0w</code>, is a spinlock"]);
+  if (mode !== "virt") said.push(["node p.i", "(flag,next)", "a node of processor p: handed off to or not, and the link"]);
+  return said.map(([part, fields, meaning]) => `<span><code>${part}</code> <code>${fields}</code>: ${meaning}</span>`).join(" ") + ' <span><em class="fails">fails</em>, <em class="fails">✗</em>: a <code>cmpxchg</code> that met another value and stored nothing</span>';
+}
+
 function inWords(event) {
   const [verb, ...words] = event.split(" ");
   return EVENTS[verb] ? EVENTS[verb](words) : event;
@@ -36,7 +44,8 @@ function deedOf(line, rows) {
   if (line.idle) return `does nothing (${line.row}): ${line.idle}`;
   if (!line.isRow) return ACTS[line.row] || line.row;
   const row = rows[line.row];
-  return row ? `makes row ${line.row}. ${row.meaning}` : `makes row ${line.row}`;
+  const made = row ? `makes row ${line.row}, ${row.verb}. ${row.meaning}` : `makes row ${line.row}.`;
+  return line.fails ? `${made} This fails, since it meets another value.` : made;
 }
 
 function sentence(line, rows) {

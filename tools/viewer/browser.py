@@ -6,7 +6,8 @@ import shutil
 import subprocess
 import tempfile
 
-KEYS = {"ArrowRight": 39, "ArrowLeft": 37, "Home": 36, "End": 35, "PageDown": 34, "PageUp": 33, " ": 32}
+KEYS = {"ArrowRight": 39, "ArrowLeft": 37, "Home": 36, "End": 35, "PageDown": 34, "PageUp": 33, "Enter": 13, "Escape": 27, " ": 32}
+SHIFT = 8
 
 
 def program():
@@ -64,8 +65,11 @@ class Browser:
                     raise RuntimeError(f"{method}: {got['error']['message']}")
                 return got["result"]
 
-    def open(self, path):
-        self.call("Page.navigate", url=f"file://{os.path.abspath(path)}")
+    def open(self, path, place=""):
+        """Opens a file, at a place in it."""
+        # A page that differs in its place alone would not be loaded again.
+        self.call("Page.navigate", url="about:blank")
+        self.call("Page.navigate", url=f"file://{os.path.abspath(path)}{place}")
         while self.evaluate("document.readyState") != "complete":
             pass
 
@@ -76,9 +80,16 @@ class Browser:
         return got["result"].get("value")
 
     def press(self, key, times=1):
+        """Presses a key: one of those with a name, or a letter; for a capital with Shift."""
+        said = {"key": key, "code": key, "windowsVirtualKeyCode": KEYS.get(key) or ord(key.upper()), "modifiers": SHIFT if key.isupper() and len(key) == 1 else 0}
+        text = {"Enter": "\r"}.get(key) or (key if len(key) == 1 else None)
         for _ in range(times):
-            for kind in ("keyDown", "keyUp"):
-                self.call("Input.dispatchKeyEvent", type=kind, key=key, code=key, windowsVirtualKeyCode=KEYS[key])
+            self.call("Input.dispatchKeyEvent", type="keyDown", **said, **({"text": text} if text else {}))
+            self.call("Input.dispatchKeyEvent", type="keyUp", **said)
+
+    def type(self, text):
+        """Puts a text into the element in focus, in place of what is chosen there."""
+        self.call("Input.insertText", text=text)
 
     def size(self, width, height, is_dark=False):
         self.call("Emulation.setDeviceMetricsOverride", width=width, height=height, deviceScaleFactor=1, mobile=width < 600)
