@@ -15,7 +15,8 @@ FOLDERS = ("crates/", "docs/", "examples/", "tools/", "bench/")
 LABEL = re.compile(r"(?<![\w.`/-])(?:[FTUVPGNCHWEKRYZ]|Wr)\d{1,2}(?![\w/])")
 # What a column names outside of this repository; and names of Linux that no column has.
 OUTSIDE = ("Linux", "Paper")
-LINUX = {"_Q_PENDING_LOOPS", "osq_lock", "osq_unlock", "osq_wait_next"}
+LINUX = {"_Q_PENDING_LOOPS", "hv_qlock_wait", "osq_lock", "osq_unlock", "osq_wait_next", "smp_mb", "smp_rmb", "smp_wmb", "xen_qlock_wait",
+         "lock_acquire", "lock_acquired", "lock_release", "percpu_rwsem", "rt_mutex", "downgrade_write", "contention_begin", "contention_end"}
 
 
 def failures(sources):
