@@ -7,17 +7,18 @@ use lk_abs::{Format, List, Memory, Mode, Topology};
 use lk_lock::{Locks, Open, PvOpen, PvSeat, Seat};
 use std::sync::Wait;
 
-// Two processors on two sockets: whether the domain is of this family, and its lock serves.
+// Two processors, the first on socket 1 and the second on socket 0: whether the domain is of this
+// family and has them there, and its lock serves.
 fn serves<R: Wait + AllocGlobal>(rt: &R, mode: Mode) -> Result<bool, Memory>
     requires awake { halts mode ≡ false }
 {
     let mut locks = Locks::new(rt.alloc(), 2)?;
     let count = locks.spin(7u64)?;
     let mut sockets = List::new(rt.alloc(), 2)?;
-    sockets.push(0);
     sockets.push(1);
+    sockets.push(0);
     let Open { domain, mut cpus } = locks.open_on(mode, Topology { sockets })?;
-    let apart = domain.socket(0) == 0 && domain.socket(1) == 1;
+    let apart = domain.socket(0) == 1 && domain.socket(1) == 0;
     let mut cpu = last(&domain, &mut cpus);
     let mut seat = Seat::new(rt, &domain, &mut cpu);
     let found = seat.with(&count, |count: &mut u64| -> u64 { *count });
