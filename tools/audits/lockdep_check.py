@@ -63,6 +63,7 @@ CASES = (
     ("read in part", LAWFUL, WHOLE.replace("read events: 0", "read events: 1"), 3, "processor 0 has 4 events by its statistics, and 3 were read"),
     ("no statistics", LAWFUL, None, 3, "there are no statistics"),
     ("lost events", LAWFUL + "CPU:1 [LOST 12 EVENTS]\n", WHOLE, 3, "events were lost: CPU:1 [LOST 12 EVENTS]"),
+    ("annotations alone", "0 101 d..2. 1 acquire aa map\n0 101 d..2. 2 acquired bb x\n0 101 d..2. 3 release aa map\n", WHOLE, 3, "no take and no release is told"),
     ("no lock statistics", LAWFUL.replace("acquired", "contended"), WHOLE, 3, "there is no lock_acquired"),
 )
 
