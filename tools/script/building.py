@@ -104,7 +104,10 @@ class Lane:
     def fill(self, build):
         """Copies the sources, unless the build is over; whether they are all there."""
         if self.is_copy:
-            self.top.mkdir()
+            with build.changed:
+                if build.is_over:
+                    return False
+                self.top.mkdir()
             for file in ("crates.txt", "HANDLES"):
                 shutil.copy(TOP / file, self.top)
             # The toolchain wants the folder of each crate that the file names.
@@ -285,7 +288,9 @@ class Build:
                 run.wait(max(0.1, until - time.monotonic()))
             end(run, signal.SIGKILL)
         for hand in self.hands:
-            hand.join(GRACE)
+            # An interrupt may come before a thread is begun; it then finds that the build is over.
+            with contextlib.suppress(RuntimeError):
+                hand.join(GRACE)
 
 
 def end(run, number):
