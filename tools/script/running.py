@@ -70,8 +70,12 @@ def open_file(path):
     if stat.S_ISDIR(os.fstat(file).st_mode):
         os.close(file)
         raise IsADirectoryError(21, "it is a folder", path)
-    os.dup2(file, 0)
-    os.close(file)
+    if file:
+        os.dup2(file, 0)
+        os.close(file)
+    else:
+        # Standard input was closed, and so its number was free.
+        os.set_inheritable(file, True)
 
 
 def ran(words, given, environment=None, output=None):
