@@ -1,10 +1,29 @@
-"""The tables of docs/rows against the code: each row of the machine stands once, with a verb, the function that makes it, and the
-functions and step calls that make it on threads."""
-import re
-from collections import Counter
-from pathlib import PurePosixPath
+#!/usr/bin/env python3
+"""rows.py [--index]
 
+The tables of docs/rows against the code: each row of the machine stands once, with a verb, the function that makes it, and the
+functions and step calls that make it on threads. `tools/check` asks it. --index writes docs/rows/index.md anew: each row in a line, with
+its verb and its page from the tables, and what it does from the sources.
+"""
+import re
+import sys
+from collections import Counter
+from pathlib import Path, PurePosixPath
+
+sys.dont_write_bytecode = True
+
+import labels
 from tables import rows_of, unfenced
+
+INDEX = labels.TOP / "docs" / "rows" / "index.md"
+HEAD = """# Index of the rows
+
+Each row in a line. `tools/rows.py --index` writes this page: the verbs are those of the tables, and what a row does is the comment of its
+variant of `Pc`.
+
+| Label | Verb | What it does | Page |
+|---|---|---|---|
+"""
 
 CODE = re.compile(r"\[`(\w+)::(\w+)`\]\(([^)]+)\)")
 # A function, or a method, with the comment above it and its body; what a comment says of rows; the step calls that a cell or a
@@ -37,6 +56,15 @@ def failures(sources):
             yield f"docs/rows: the row {label} stands {told[label]} times"
     for label in told.keys() - set(sources.rows):
         yield f"docs/rows: there is no row {label}"
+    if not INDEX.exists() or INDEX.read_text() != index():
+        yield "docs/rows/index.md is not what tools/rows.py --index writes"
+
+
+def index():
+    """The page that has each row in a line, in the order of the sources."""
+    told = labels.told()
+    lines = [f"| {label} | {told[label]['Verb']} | {said} | [{told[label]['page']}]({told[label]['page']}.md) |\n" for label, said in labels.meanings().items() if label in told]
+    return HEAD + "".join(lines)
 
 
 def code(sources, row, made):
@@ -82,3 +110,16 @@ def threads(sources, row):
         made |= {step for body in bodies for step in STEPS.findall(body)}
     if made != set(STEPS.findall(row["On threads"])):
         yield f"on threads it is made by the step calls {', '.join(sorted(made)) or 'none'}"
+
+
+def main(words):
+    if words != ["--index"]:
+        is_help = words[:1] in (["-h"], ["--help"])
+        print(__doc__.strip(), file=sys.stdout if is_help else sys.stderr)
+        return 0 if is_help else 2
+    INDEX.write_text(index())
+    return 0
+
+
+if __name__ == "__main__":
+    sys.exit(main(sys.argv[1:]))
