@@ -52,9 +52,9 @@ def version(source):
     return ".".join(named[part] for part in ("VERSION", "PATCHLEVEL", "SUBLEVEL"))
 
 
-def extract(archive, top, source):
-    """Unpacks the files that are compiled out of the archive, in which they stand below the folder `top`."""
-    wanted = {top + name for name in FILES}
+def extract(archive, top, source, files):
+    """Unpacks the files out of the archive, in which they stand below the folder `top`."""
+    wanted = {top + name for name in files}
     with tarfile.open(archive) as members:
         for member in members:
             if member.name in wanted:
@@ -80,7 +80,7 @@ def unpack(build, linux):
         return source
     archive = fetch(build, package)
     setting.say("unpacking " + package)
-    extract(archive, package + "/", source)
+    extract(archive, package + "/", source, FILES)
     for name, file in WAITS.items():
         write_function(source, name, file)
     return source
