@@ -3,3 +3,4 @@ pub mod Closed
 pub mod Kept
 pub mod Left
 pub mod Moves
+pub mod Marks

@@ -1,3 +1,4 @@
 pub mod Reach
 pub mod Space
 pub mod Explored
+pub mod Rows

@@ -1,11 +1,12 @@
 // What a graph tells.
 
-ghost use Rattle.std.specs.Prelude.{◌≡◌, ◌<◌, ◌≤◌, ℕ, List, IfNone, IfOk, IfSome, length, true, false};
+ghost use Rattle.std.specs.Prelude.{◌≡◌, ◌<◌, ◌≤◌, ◌++◌, ◌∷◌, [], ℕ, List, IfNone, IfOk, OnOk, IfSome, length, true, false};
 ghost use Rattle.lk_abs.specs.declared.events.Act.{Act as ActValue};
 ghost use Rattle.lk_rows.specs.Machine.{Machine as MachineValue};
 ghost use Rattle.lk_rows.specs.Run.{at_rest};
 ghost use Rattle.lk_rows.specs.Programs.{IsLawfulSetup};
 ghost use Rattle.lk_reach.specs.Reach.{AreMoves, AreOver, MakesRow, state_after};
+ghost use Rattle.lk_reach.specs.Rows.{AreMarked, IsMade, IsUnmade};
 ghost use Rattle.lk_reach.specs.Space.{Keeps};
 
 use crate::book::Book;
@@ -105,6 +106,37 @@ impl Graph {
             }
         }
         None
+    }
+
+    /// Whether a step of some processor makes this row at a state that was met.
+    pub fn is_made(&self, row: Pc) -> bool
+        requires few { self.now.cpus ≤ 8 }
+        ensures yes { result ≡ true → IsMade self.now.space self.now.cpus row }
+        ensures no { result ≡ false → IsUnmade self.now.space self.now.cpus row }
+    {
+        match self.first_with(row) {
+            Some(_) => true,
+            None => false,
+        }
+    }
+
+    /// For each of these rows whether a step of some processor makes it at a state that was met.
+    ///
+    /// # Errors
+    ///
+    /// There is not enough memory.
+    pub fn rows_made(&self, alloc: Global, rows: &[Pc]) -> Result<Vec<bool>, Memory>
+        requires few { self.now.cpus ≤ 8 }
+        ensures count { IfOk result (λ marks. length marks.items ≡ length rows.now) }
+        ensures marks { IfOk result (λ marks. AreMarked self.now.space self.now.cpus
+            rows.now marks.items) }
+    {
+        let mut marks = Vec::with_capacity(alloc, rows.len())?;
+        for number in 0..rows.len() {
+            let is_made = self.is_made(rows[number]);
+            add_mark(&mut marks, is_made)?;
+        }
+        Ok(marks)
     }
 
     /// Whether every processor is done at a state.
@@ -234,6 +266,13 @@ impl Graph {
         }
         Ok(Some(acts))
     }
+}
+
+// Adds a mark.
+fn add_mark(marks: &mut Vec<bool>, mark: bool) -> Result<(), Memory>
+    ensures { OnOk result (marks.new.items ≡ marks.old.items ++ mark ∷ []) }
+{
+    marks.push(mark).map_err(|_| Memory)
 }
 
 // The marks, each turned round.
