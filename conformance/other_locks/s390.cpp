@@ -9,11 +9,13 @@ struct lowcore {
 };
 static lowcore lowcores[most_processors];
 static uint64_t arrivals, steals[4];
+static int in_a_row[most_locks]; // takes past the head of a queue
 
 extern "C" const shim_nodes shim_nodes;
 extern "C" void enter_setup(int cpu);
 
 void reset_architecture() {
+    memset(in_a_row, 0, sizeof in_a_row);
     for (int processor = 0; processor < most_processors; processor++) {
         lowcores[processor] = {processor + 1, 0};
         enter_setup(processor);
@@ -70,9 +72,11 @@ int shim_compare_exchange(int *word, int old, int value, const char *function) {
         machine.node_of[context.processor][(now >> index_shift) & 3] = {context.processor, context.depth};
         tell("arrive " + std::to_string(context.lock));
     } else if (context.has_arrived) {
+        in_a_row[context.lock] = 0;
         take(now & tail_mask ? "head" : "sole");
     } else {
         steals[(now >> steal_shift) & 3]++;
+        if (old && ++in_a_row[context.lock] > 3) fail("a fourth take in a row goes past the head");
         take(context.is_trying ? "try" : old ? "steal" : "fast");
     }
     return 1;

@@ -1,15 +1,18 @@
 #!/usr/bin/env python3
-"""lockdep_check.py
+"""lockdep_check.py [--events NUMBER]
 
 Gives tools/audits/lockdep small traces, lawful ones, one with each fault, and each that it has to refuse, and compares status and words. The
-judge of tools/judge.py audits. Prints failures only, and ends with 1 if there are any.
+judge of tools/judge.py audits. Prints failures only, and ends with 1 if there are any. With --events it makes a trace of so many events
+instead, has the tool audit it by the program, and prints the answer and the time.
 """
 import contextlib
 import importlib.machinery
 import importlib.util
 import io
+import random
 import sys
 import tempfile
+import time
 from pathlib import Path
 
 sys.dont_write_bytecode = True
@@ -114,13 +117,59 @@ def failures(tool):
                     yield f"lockdep, {name}, {shape.__name__}: wanted {status} and {words!r}, found {found}"
 
 
+# Of a large trace: tasks, locks, of which each fourth is a reader-writer lock, and how many of a hundred acquires are annotations.
+TASKS, LARGE_LOCKS, ANNOTATIONS = 200, 1200, 40
+
+
+def large(number):
+    """So many events of tasks on four processors, of which some hold a lock each: lawful ones."""
+    chance, held, readers, at = random.Random(1), {}, {}, 0
+    while at < number:
+        pid = chance.randrange(TASKS)
+        cpu, lock = pid % 4, chance.randrange(LARGE_LOCKS)
+        reads, name = lock % 4 == 0 and chance.random() < 0.7, f"{lock:x} {{}}class{lock % 97}"
+        if pid in held:
+            old, name, reads = held.pop(pid)
+            readers[old] = readers[old] - 1 if reads else 0
+            verbs = [f"release {name.format('')}"]
+        elif chance.randrange(100) < ANNOTATIONS:
+            verbs = [f"acquire {lock + 99999:x} map", f"release {lock + 99999:x} map"]
+        elif readers.get(lock, 0) == 0 or reads and readers[lock] > 0:
+            readers[lock] = readers.get(lock, 0) + 1 if reads else -1
+            held[pid] = lock, name, reads
+            verbs = [f"acquire {name.format('read ' if reads else '')}", f"acquired {name.format('')}"]
+        else:
+            continue
+        for verb in verbs[: number - at]:
+            at += 1
+            yield f"{cpu} {pid + 100} d..2. {at} {verb}\n"
+
+
+def measured(tool, number):
+    """What the tool says of a large trace, and how long it takes."""
+    with tempfile.TemporaryDirectory() as room:
+        trace, stat, entries = Path(room) / "trace", Path(room) / "stat", [0] * 4
+        with open(trace, "w") as out:
+            for line in large(number):
+                entries[int(line[0])] += 1
+                out.write(in_trace_cmd(line.rstrip()))
+        stat.write_text("".join(f"CPU: {cpu}\nentries: {entries[cpu]}\n{WHOLE}" for cpu in range(4)))
+        begun, used = time.monotonic(), time.process_time()
+        status = tool.main([str(trace), "--stat", str(stat)])
+        seconds = time.monotonic() - begun
+    print(f"{seconds:.1f} s, of which {time.process_time() - used:.1f} s of this processor's time: {number / seconds * 60 / 1e6:.1f} million events a minute")
+    return status
+
+
 def main(words):
-    if words:
+    if words and (len(words) != 2 or words[0] != "--events" or not words[1].isdigit()):
         print(__doc__.strip())
         return 0 if words[0] in ("-h", "--help") else 2
     loader = importlib.machinery.SourceFileLoader("lockdep", str(HERE / "lockdep"))
     tool = importlib.util.module_from_spec(importlib.util.spec_from_loader("lockdep", loader))
     loader.exec_module(tool)
+    if words:
+        return measured(tool, int(words[1]))
     auditor.audit = by_judge
     found = list(failures(tool))
     for failure in found:
