@@ -18,7 +18,7 @@ use Rattle.lk_rows.specs.rows.Spin.{is_free, is_unlocked}
 use Rattle.lk_law.specs.Agree.{LockAgrees, halts}
 use Rattle.lk_law.specs.Cna.{moves_aside, FlatAgrees}
 use Rattle.lk_law.specs.Families.{may_halt, chooses, is_rw_row}
-use Rattle.lk_law.specs.Phase.{Phase, owns, pends, queues, leads}
+use Rattle.lk_law.specs.Phase.{Phase, pends, queues, leads}
 use Rattle.lk_law.specs.Phase.Phase.{Idle, Holds}
 use Rattle.lk_law.specs.Places.{snapshot, phase_at, phase_if, phase_on, own_in}
 use Rattle.lk_law.proofs.common.Worlds.{phase_on-here}
@@ -33,6 +33,7 @@ use Rattle.lk_law.proofs.common.Puts.{not-true}
 use Rattle.lk_law.proofs.common.Users.{is_node-own}
 use Rattle.lk_law.proofs.queue.Lead.{follows_cases, lead_first}
 use Rattle.lk_abs.proofs.ByIndex.{get_cases}
+use Rattle.lk_progress.proofs.Owning.{owns}
 use Rattle.lk_progress.specs.Waits.{polls, lock_at, IsTop, IsStuck}
 use Rattle.lk_progress.specs.Order.{IsTidy, IsRanked, IsFollowed, NoDeadlock, HoldsOutside, StuckWaitForOutside}
 use Rattle.lk_progress.proofs.Stands.{still_polls, still_V1, still_N1, still_P3, still_G6, still_G7, still_G10}

@@ -18,7 +18,7 @@ use Rattle.lk_rows.specs.rows.Spin.{is_free, is_unlocked}
 use Rattle.lk_law.specs.Agree.{LockAgrees, halts}
 use Rattle.lk_law.specs.Cna.{moves_aside, CnaAgrees, part, shown, front_cut}
 use Rattle.lk_law.specs.Families.{may_halt, chooses, is_rw_row}
-use Rattle.lk_law.specs.Phase.{Phase, owns, pends, queues, leads}
+use Rattle.lk_law.specs.Phase.{Phase, pends, queues, leads}
 use Rattle.lk_law.specs.Phase.Phase.{Idle, Links, Holds}
 use Rattle.lk_law.specs.Places.{snapshot, phase_at, phase_if, phase_on, own_in, stage_on, stage_if}
 use Rattle.lk_law.proofs.common.Worlds.{phase_on-here, stage_on-here}
@@ -33,6 +33,7 @@ use Rattle.lk_law.proofs.common.Puts.{not-true}
 use Rattle.lk_law.proofs.common.Users.{is_node-own}
 use Rattle.lk_law.proofs.queue.Lead.{follows_cases}
 use Rattle.lk_abs.proofs.ByIndex.{get_cases}
+use Rattle.lk_progress.proofs.Owning.{owns}
 use Rattle.lk_progress.specs.Waits.{polls, lock_at, IsTop, IsAtBay}
 use Rattle.lk_progress.specs.Order.{IsTidy, IsRanked, HoldsOutside}
 use Rattle.lk_progress.proofs.Stands.{still_polls, still_V1, still_N1, still_P3, still_G6, still_G7, still_R2, still_R5}

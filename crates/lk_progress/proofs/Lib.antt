@@ -1,5 +1,6 @@
 pub mod Stands
 pub mod Tops
+pub mod Owning
 pub mod Polling
 pub mod Climb
 pub mod TurnRows

@@ -18,12 +18,13 @@ use Rattle.lk_rows.specs.declared.parts.Pc.TheVariants.{P3, G6, G7, G10, R2, R5}
 use Rattle.lk_rows.specs.rows.Spin.{is_free, is_unlocked}
 use Rattle.lk_rows.specs.rows.Rw.{is_cleared}
 use Rattle.lk_law.specs.Families.{may_halt, chooses, is_rw_row}
-use Rattle.lk_law.specs.Phase.{Phase, has_lock, owns, pends, leads}
+use Rattle.lk_law.specs.Phase.{Phase, has_lock, pends, leads}
 use Rattle.lk_law.specs.Phase.Phase.{Idle, Links}
 use Rattle.lk_law.specs.Places.{phase_at}
 use Rattle.lk_law.specs.RwPhase.{biased, reads}
 use Rattle.lk_law.specs.SoundWorld.{rw_own_phase}
 use Rattle.lk_law.specs.Snapshot.{spins}
+use Rattle.lk_progress.proofs.Owning.{owns}
 use Rattle.lk_progress.specs.Waits.{polls, lock_at}
 use Rattle.lk_progress.specs.Order.{is_coming}
 

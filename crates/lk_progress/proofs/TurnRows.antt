@@ -13,10 +13,11 @@ use Rattle.lk_rows.specs.declared.parts.Pc.{Pc}
 use Rattle.lk_rows.specs.declared.parts.Pc.TheVariants.{G6, G7, C1, C2, C3, C4, C5, C6, C7, C8, C9, C10}
 use Rattle.lk_rows.specs.Moves.{is_node, node_of}
 use Rattle.lk_law.specs.Families.{may_halt, chooses}
-use Rattle.lk_law.specs.Phase.{owns, leads}
+use Rattle.lk_law.specs.Phase.{leads}
 use Rattle.lk_law.specs.Phase.Phase.{Holds}
 use Rattle.lk_law.specs.Places.{snapshot, phase_at, stage_of}
 use Rattle.lk_law.specs.Stage.{cut_of}
+use Rattle.lk_progress.proofs.Owning.{owns}
 use Rattle.lk_progress.specs.Aside.{is_alone_row}
 use Rattle.lk_law.specs.World.{World}
 use Rattle.lk_law.proofs.common.Puts.{if-true}
