@@ -22,6 +22,8 @@ sys.path[:0] = [str(HERE), str(HERE.parent)]
 import auditor
 import judge
 
+HEAD = "cpus=4\n\nKernel buffer statistics:\n  Note: \"entries\" are the entries left in the kernel ring buffer and are not\n        recorded in the trace data. They should all be zero.\n\n"
+TIMES = "bytes: 3192\noldest event ts: 3\nnow ts: 136\n"
 WHOLE = "overrun: 0\ncommit overrun: 0\ndropped events: 0\nread events: 0\n"
 # A spinlock that an interrupt waits for, and a reader beside another.
 LAWFUL = """\
@@ -66,6 +68,7 @@ CASES = (
     ("read in part", LAWFUL, WHOLE.replace("read events: 0", "read events: 1"), 3, "processor 0 has 4 events by its statistics, and 3 were read"),
     ("no statistics", LAWFUL, None, 3, "there are no statistics"),
     ("lost events", LAWFUL + "CPU:1 [LOST 12 EVENTS]\n", WHOLE, 3, "events were lost: CPU:1 [LOST 12 EVENTS]"),
+    ("dropped events", "CPU:0 [157 EVENTS DROPPED]\n" + LAWFUL, WHOLE, 3, "events were lost: CPU:0 [157 EVENTS DROPPED]"),
     ("annotations alone", "0 101 d..2. 1 acquire aa map\n0 101 d..2. 2 acquired bb x\n0 101 d..2. 3 release aa map\n", WHOLE, 3, "no take and no release is told"),
     ("no lock statistics", LAWFUL.replace("acquired", "contended"), WHOLE, 3, "there is no lock_acquired"),
 )
@@ -86,11 +89,13 @@ def shaped(events, shape):
 
 
 def stats_of(events, first):
-    """The statistics: a processor has as many entries as it has lines."""
+    """The statistics, as trace-cmd 3.1.6 prints them: a processor has as many entries as it has lines."""
     if first is None:
         return "cpus=4\n"
     lines = [line for line in events.splitlines() if line[0].isdigit()]
-    return "".join(f"CPU: {cpu}\nentries: {sum(line.startswith(f'{cpu} ') for line in lines)}\n{WHOLE if cpu else first}" for cpu in range(4))
+    entries = [sum(line.startswith(f"{cpu} ") for line in lines) for cpu in range(4)]
+    parts = [f"CPU: {cpu}\nentries: {entries[cpu]}\n{TIMES}{WHOLE if cpu else first}\n" for cpu in range(4)]
+    return HEAD + "".join(parts) + "".join(f"\nCPU{cpu} data recorded at offset=0x{cpu + 1}000\n    4096 bytes in size" for cpu in range(4)) + "\n"
 
 
 def by_judge(text):
