@@ -32,6 +32,8 @@ class Command(NamedTuple):
     reads: str | None = None
     # What may stand behind it: "N" a start number, "[TITLE]" a title, "OPTIONS" options of the script's own.
     takes: str = ""
+    # Its options that take no value: a file may stand behind them.
+    flags: tuple = ()
     # Whether the line behind it tells how the trace ended.
     tells_ending: bool = False
 
@@ -52,6 +54,7 @@ class Command(NamedTuple):
 
 
 STEPS = ("QLOCK_STEPS", "lk_steps")
+EXPLORE = ("QLOCK_EXPLORE", "lk_explore")
 MAIN = ("QLOCK", "lk_cli")
 
 COMMANDS = (
@@ -139,6 +142,14 @@ COMMANDS = (
         "orders table native",
         tool="../conformance/orders/run", takes="OPTIONS",
     ),
+    Command(
+        "explore",
+        "Explores every schedule of a small trace's header: which rows and events they reach and which none does, whether all can "
+        "always finish, and a shortest trace to a row, an event or a state that is stuck. docs/EXPLORE.md has examples.",
+        "explore --row P2 examples/transient_pending.qtrace",
+        tool="exploring/explore", needs=(EXPLORE,), checks=True, reads="a trace", takes="OPTIONS",
+        flags=("--finished", "--stuck", "--doomed", "--nudges", "--quiet"),
+    ),
 )
 # The commands that the proved program has by itself.
 OWN = ("replay", "audit", "ledger", "osq", "gen", "load")
@@ -178,19 +189,19 @@ The first call compiles the program as it stands, *not proved*, in about a
 minute, and keeps it until a source changes. Each run of such a program
 says so in a line on standard error. ./qlock build proves it, in some 45
 minutes of one processor; from then on every command runs the proved
-program, with no word more. Of steps, the lines are tested; picture,
-view, find, import and orders are tested too, and so is what audit --strict
-asks. docs/CLAIMS.md says what is proved."""
+program, with no word more. Of steps and explore, the lines are tested;
+picture, view, find, import and orders are tested too, and so is what
+audit --strict asks. docs/CLAIMS.md says what is proved."""
 
 STATUSES = (
     ("0", "Done. An audit: the history is lawful."),
-    ("1", "From the script: the program could not be built, find found nothing, or orders found a failure."),
+    ("1", "From the script: the program could not be built, find found nothing, orders found a failure, or explore found that there is none."),
     ("2", "The words ask for no command. The usage line is written, and nothing is read."),
     ("3", "A line is refused by the grammar: bad input line 7: BadNumber."),
     ("4", "A read failed: read fault. From the script: there is no such file."),
     ("5", "A write failed: write fault."),
     ("6", "There was no memory: out of memory. Nothing was written."),
-    ("7", "A line passes a limit: limit line 7: Acts."),
+    ("7", "A line passes a limit: limit line 7: Acts. Or explore ended at its limit."),
     ("8", "An audited history is not lawful: unlawful line 9."),
     ("127", "From the script: rt is needed and is not in PATH."),
 )

@@ -100,7 +100,8 @@ def titled(name, command, rest):
 
 def optioned(_name, command, rest):
     """A command with options of its own. Where it reads, the file is its last word, if that is not the value of an option."""
-    is_file = command.reads and rest and not rest[-1].startswith("-") and not (len(rest) > 1 and re.fullmatch(r"--[a-z-]+", rest[-2]))
+    is_value = len(rest) > 1 and re.fullmatch(r"--[a-z-]+", rest[-2]) and rest[-2] not in command.flags
+    is_file = command.reads and rest and not rest[-1].startswith("-") and not is_value
     first = command.reads and len(rest) > 1 and not rest[0].startswith("-")
     if first:
         return Asked(command, rest[1:], rest[0])

@@ -1,0 +1,112 @@
+// What the program's arguments ask for.
+
+use crate::kinds::kind_named;
+use crate::rows::row_named;
+use lk_rows::Pc;
+use lk_text::read_number;
+use std::alloc::Global;
+use std::env;
+
+/// What is sought.
+#[derive(Clone, Copy)]
+pub(crate) enum Goal {
+    /// Nothing: the states are told.
+    Overview,
+    /// A state at which a step makes this row.
+    Row(Pc),
+    /// An act that tells an event of this kind.
+    Event(usize),
+    /// A state at which every processor is done.
+    Finished,
+    /// A state that no act leads on from, and at which not every processor is done.
+    Stuck,
+    /// A state from which no schedule leads to one at which every processor is done.
+    Doomed,
+}
+
+/// What the arguments ask for.
+#[derive(Drop)]
+pub(crate) struct Asked {
+    /// The most states that are met.
+    pub states: usize,
+    /// The most memory, in million bytes.
+    pub memory: usize,
+    /// Whether halts end without a kick, too.
+    pub nudges: bool,
+    /// Whether nothing is said of how far it is.
+    pub quiet: bool,
+    /// What is sought.
+    pub goal: Goal,
+}
+
+// A number behind an option.
+fn number_of(word: &str) -> Option<usize> {
+    let number = read_number(word.as_bytes())?;
+    usize::try_from(number).ok()
+}
+
+impl Asked {
+    // What no arguments ask for.
+    fn new() -> Asked {
+        Asked {
+            states: 20_000_000,
+            memory: 4_000,
+            nudges: false,
+            quiet: false,
+            goal: Goal::Overview,
+        }
+    }
+
+    // Takes an option without a value. Returns whether it is one.
+    fn take_flag(&mut self, word: &str) -> bool {
+        match word {
+            "--nudges" => self.nudges = true,
+            "--quiet" => self.quiet = true,
+            "--finished" => self.goal = Goal::Finished,
+            "--stuck" => self.goal = Goal::Stuck,
+            "--doomed" => self.goal = Goal::Doomed,
+            _ => return false,
+        }
+        true
+    }
+
+    // Takes an option that says how much is explored. Returns `None` if it is none.
+    fn take_limit(&mut self, word: &str, value: &str) -> Option<()> {
+        let number = number_of(value)?;
+        match word {
+            "--states" => self.states = number,
+            "--memory" => self.memory = number,
+            _ => return None,
+        }
+        Some(())
+    }
+
+    // Takes an option with its value. Returns `None` if it is none, if the value is wrong, or if
+    // there is not enough memory.
+    fn take_option(&mut self, alloc: Global, word: &str, value: &str) -> Option<()> {
+        match word {
+            "--row" => self.goal = Goal::Row(row_named(alloc, value).ok()??),
+            "--event" => self.goal = Goal::Event(kind_named(value)?),
+            _ => return self.take_limit(word, value),
+        }
+        Some(())
+    }
+}
+
+/// What the program's arguments ask for, or `None` for other arguments, and if they cannot be
+/// read, as where there is not enough memory.
+pub(crate) fn asked_by(rt: &HostRuntime) -> Option<Asked> {
+    let mut asked = Asked::new();
+    let mut words = env::args(rt).ok()?;
+    let _name = words.next();
+    for _ in 0..16 {
+        let Some(word) = words.next() else {
+            return Some(asked);
+        };
+        if !asked.take_flag(word.as_str()) {
+            let value = words.next()?;
+            asked.take_option(rt.alloc(), word.as_str(), value.as_str())?;
+        }
+    }
+    None
+}

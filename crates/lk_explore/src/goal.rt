@@ -1,0 +1,140 @@
+// A shortest schedule to what is sought.
+
+ghost use Rattle.std.specs.Prelude.{◌≤◌};
+
+use crate::Answer;
+use crate::asked::Goal;
+use crate::lines::Lines;
+use lk_abs::{Act, Memory};
+use lk_reach::Graph;
+use std::alloc::Global;
+
+// Steps of one processor in a row, which are one line.
+#[derive(Clone, Copy)]
+struct Run {
+    cpu: u32,
+    count: u64,
+}
+
+// No steps.
+const NO_STEPS: Run = Run { cpu: 0, count: 0 };
+
+// The first of these marks that is set.
+fn first(marks: &[bool]) -> Option<usize> {
+    for at in 0..marks.len() {
+        if marks[at] {
+            return Some(at);
+        }
+    }
+    None
+}
+
+// The first state that is stuck or doomed. If the exploration did not meet all states, none is:
+// what leads on from a state may not be known yet.
+fn first_lost(alloc: Global, goal: Goal, graph: &Graph) -> Result<Option<usize>, Memory>
+    requires few { graph.now.cpus ≤ 8 }
+{
+    if !graph.is_whole() {
+        return Ok(None);
+    }
+    let marks = match goal {
+        Goal::Stuck => graph.stuck(alloc)?,
+        _ => graph.doomed(alloc)?,
+    };
+    Ok(first(&marks))
+}
+
+// The first state that is sought, if one is known.
+fn state_of(alloc: Global, goal: Goal, graph: &Graph) -> Result<Option<usize>, Memory>
+    requires few { graph.now.cpus ≤ 8 }
+{
+    match goal {
+        Goal::Row(row) => Ok(graph.first_with(row)),
+        Goal::Finished => Ok(first(&graph.finished(alloc)?)),
+        Goal::Stuck | Goal::Doomed => first_lost(alloc, goal, graph),
+        Goal::Overview | Goal::Event(_) => Ok(None),
+    }
+}
+
+// The acts of a shortest schedule to what is sought, if there is one.
+fn schedule(alloc: Global, goal: Goal, graph: &Graph) -> Result<Option<Vec<Act>>, Memory>
+    requires few { graph.now.cpus ≤ 8 }
+{
+    if let Goal::Event(kind) = goal {
+        return graph.acts_to_event(alloc, kind);
+    }
+    match state_of(alloc, goal, graph)? {
+        Some(state) => Ok(Some(graph.acts_to(alloc, state)?)),
+        None => Ok(None),
+    }
+}
+
+// Appends the line of steps, if there are any.
+fn add_steps(lines: &mut Lines, run: Run) {
+    if run.count > 0 {
+        lines.word("step ");
+        lines.number(u64::from(run.cpu));
+        lines.line("", run.count);
+    }
+}
+
+// The word of an act, and its processor.
+fn word_of(doing: Act) -> (&'static str, u32) {
+    match doing {
+        Act::Step(cpu) => ("step", cpu),
+        Act::Interrupt(cpu) => ("int", cpu),
+        Act::Preempt(cpu) => ("pre", cpu),
+        Act::Resume(cpu) => ("res", cpu),
+        Act::Nudge(cpu) => ("nudge", cpu),
+    }
+}
+
+// Appends the steps before an act, and the act, unless it is one more of these steps. Returns the
+// steps that have no line yet.
+fn add_act(lines: &mut Lines, run: Run, doing: Act) -> Run {
+    let (word, cpu) = word_of(doing);
+    let is_step = matches!(doing, Act::Step(_));
+    if is_step && cpu == run.cpu {
+        let count = run.count.saturating_add(1);
+        return Run { cpu, count };
+    }
+    add_steps(lines, run);
+    if is_step {
+        return Run { cpu, count: 1 };
+    }
+    lines.line(word, u64::from(cpu));
+    NO_STEPS
+}
+
+// Appends acts as a schedule.
+fn add_schedule(lines: &mut Lines, acts: &[Act]) {
+    let mut run = NO_STEPS;
+    for at in 0..acts.len() {
+        run = add_act(lines, run, acts[at]);
+    }
+    add_steps(lines, run);
+    lines.word("end\n");
+}
+
+/// Appends a shortest schedule to what is sought.
+///
+/// # Errors
+///
+/// There is not enough memory.
+pub(crate) fn add_goal(
+    alloc: Global,
+    lines: &mut Lines,
+    goal: Goal,
+    graph: &Graph,
+) -> Result<Answer, Memory>
+    requires few { graph.now.cpus ≤ 8 }
+{
+    match schedule(alloc, goal, graph)? {
+        Some(acts) => {
+            add_schedule(lines, &acts);
+            Ok(Answer::Done)
+        }
+        None if graph.is_whole() => Ok(Answer::None),
+        None => Ok(Answer::Limit),
+    }
+}

@@ -1,0 +1,112 @@
+// What the states of a graph tell.
+
+ghost use Rattle.std.specs.Prelude.{◌≤◌};
+
+use crate::Answer;
+use crate::asked::Asked;
+use crate::kinds::kind_name;
+use crate::lines::Lines;
+use crate::reading::Header;
+use crate::rows::{all_rows, is_of};
+use lk_abs::Memory;
+use lk_reach::{Graph, KINDS};
+use lk_rows::Pc;
+use std::alloc::Global;
+
+// Whether the row of this number is marked so.
+fn is_marked(marks: &[bool], number: usize, made: bool) -> bool {
+    match marks.get(number) {
+        Some(mark) => *mark == made,
+        None => false,
+    }
+}
+
+// The rows that some schedule makes, or those of the declared locks that none makes.
+fn add_rows(lines: &mut Lines, header: &Header, rows: &[Pc], marks: &[bool], made: bool) {
+    lines.word(if made { "rows" } else { "never" });
+    for number in 0..rows.len() {
+        let row = rows[number];
+        if is_marked(marks, number, made) && (made || is_of(header, row)) {
+            lines.word(" ");
+            lines.row(row);
+        }
+    }
+    lines.word("\n");
+}
+
+// The kinds of events that were met.
+fn add_events(lines: &mut Lines, graph: &Graph) {
+    let events = graph.events();
+    for kind in 0..KINDS {
+        if events[kind] > 0 {
+            lines.word("event ");
+            lines.line(kind_name(kind), events[kind]);
+        }
+    }
+}
+
+// How many marks are set.
+fn count(marks: &[bool]) -> u64 {
+    let mut count = 0u64;
+    for at in 0..marks.len() {
+        if marks[at] {
+            count = count.saturating_add(1);
+        }
+    }
+    count
+}
+
+// How the states end.
+fn add_ends(alloc: Global, lines: &mut Lines, graph: &Graph) -> Result<(), Memory>
+    requires few { graph.now.cpus ≤ 8 }
+{
+    lines.line("finished", count(&graph.finished(alloc)?));
+    lines.line("stuck", count(&graph.stuck(alloc)?));
+    lines.line("doomed", count(&graph.doomed(alloc)?));
+    Ok(())
+}
+
+// The first lines.
+fn add_sizes(lines: &mut Lines, graph: &Graph) {
+    lines.line("states", graph.states() as u64);
+    lines.line("edges", graph.edges() as u64);
+    lines.line("deepest", u64::from(graph.deepest()));
+}
+
+// The limit at which an exploration ended.
+fn add_limit(lines: &mut Lines, asked: &Asked, graph: &Graph) {
+    if graph.states() > asked.states {
+        lines.line("limit states", asked.states as u64);
+    } else {
+        lines.line("limit memory", asked.memory as u64);
+    }
+}
+
+/// Appends the overview of a graph.
+///
+/// # Errors
+///
+/// There is not enough memory.
+pub(crate) fn add_overview(
+    alloc: Global,
+    lines: &mut Lines,
+    asked: &Asked,
+    header: &Header,
+    graph: &Graph,
+) -> Result<Answer, Memory>
+    requires few { graph.now.cpus ≤ 8 }
+{
+    let rows = all_rows(alloc)?;
+    let marks = graph.rows_made(alloc, &rows)?;
+    add_sizes(lines, graph);
+    add_rows(lines, header, &rows, &marks, true);
+    if !graph.is_whole() {
+        add_events(lines, graph);
+        add_limit(lines, asked, graph);
+        return Ok(Answer::Limit);
+    }
+    add_rows(lines, header, &rows, &marks, false);
+    add_events(lines, graph);
+    add_ends(alloc, lines, graph)?;
+    Ok(Answer::Done)
+}
