@@ -112,6 +112,9 @@ def interrupts_raise():
     """A signal ends what was begun inside, which catches Interrupted, and then this script."""
 
     def interrupt(number, _frame):
+        # Others do not keep it from removing what it has begun.
+        for each in before:
+            signal.signal(each, lambda *_: None)
         raise Interrupted(number)
 
     before = {number: signal.signal(number, interrupt) for number in (signal.SIGINT, signal.SIGTERM, signal.SIGHUP)}
