@@ -46,7 +46,8 @@ def obey(name, asked, is_to_be_proved):
         except OSError as error:
             say(f"{asked.file}: {error.strerror}")
             return 4
-    if command.checks and not all(map(ready, command.crates)):
+    # Wrong options are refused before a program is made, and before it is said that one is not proved.
+    if command.checks and not all(map(is_proved, command.crates)):
         status = subprocess.run([*helping.words_for(TOOLS / command.tool), *asked.words], env={**os.environ, "QLOCK_DRY": "1", "QLOCK_NAME": f"{name} {command.word}"}).returncode
         if status:
             return status
@@ -112,7 +113,7 @@ def dispatch(name, line):
         manner, *line = line
     if line[:1] and line[0] in ("--help", "-h", "help"):
         return helping.page(name, " ".join(line[1:]))
-    if line[-1:] and line[-1] in ("--help", "-h") and " ".join(line[:-1]) in table.BY_WORD:
+    if line[-1:] and line[-1] in ("--help", "-h") and " ".join(line[:-1]) in (*table.BY_WORD, "--install"):
         return helping.page(name, " ".join(line[:-1]))
     if line == ["--version"]:
         return helping.version()
@@ -128,7 +129,7 @@ def make(name, line):
     from script import building, installing
 
     if line[0] == "--install":
-        if len(line) != 2:
+        if len(line) != 2 or line[1].startswith("-"):
             raise Unknown(f"--install takes a folder: {name} --install ~/.local")
         return installing.install(line[1])
     return building.command(name, line[1:])
