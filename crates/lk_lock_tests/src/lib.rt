@@ -5,6 +5,8 @@
 #[cfg(test)]
 mod families;
 #[cfg(test)]
+mod holds;
+#[cfg(test)]
 mod looks;
 #[cfg(test)]
 mod processors;
