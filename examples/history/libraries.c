@@ -295,7 +295,7 @@ int main(int count, char **words)
 	for (int lock = 0; lock < LOCKS; lock++)
 		make(lock);
 	for (int number = 0; number < threads; number++)
-		if (pthread_create(&thread, NULL, work, (void *)(intptr_t)number))
+		if (pthread_create(&thread, NULL, work, (void *)(intptr_t)number) || pthread_detach(thread))
 			return 1;
 	is_done = are_done(threads);
 	history_write(words[1]);
