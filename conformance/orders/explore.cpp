@@ -1,6 +1,7 @@
 #include "explore.h"
 #include <chrono>
 #include <cstdio>
+#include <new>
 
 size_t Prints::slot_of(Print print) const {
     size_t at = print.high & (slots.size() - 1);
@@ -60,17 +61,23 @@ class Explorer {
     Layer layer, following;
     Result result;
     std::string packed;
-    Clock::time_point begun = Clock::now(), told = begun;
-    size_t length = 0;
+    // The choices from the start to where the setup begins.
+    std::vector<int> beginning;
+    Clock::time_point begun = Clock::now();
+    size_t length = 0, expanded = 0;
 
     void add(const State &s, uint32_t parent, int choice);
     void expand(const State &s, uint32_t number);
     void meet_end(const State &s, uint32_t number);
     void fail(Failure failure, uint32_t number, int choice);
     bool is_over();
+    void tell_progress();
+    void visit_all();
     double elapsed() const { return std::chrono::duration<double>(Clock::now() - begun).count(); }
     std::vector<Step> way_to(uint32_t number, int last) const;
-    size_t bytes() const { return seen.bytes() + bares.bytes() + parents.capacity() * sizeof parents[0] + layer.size() + following.size(); }
+    size_t listed() const { return parents.capacity() * sizeof parents[0] + layer.size() + following.size(); }
+    size_t bytes() const { return seen.bytes() + bares.bytes() + listed(); }
+    size_t soon() const { return seen.soon() + bares.soon() + listed(); }
 };
 }  // namespace
 
@@ -120,24 +127,47 @@ void Explorer::expand(const State &s, uint32_t number) {
     if (wanted.leaf && parents.size() == before) wanted.leaf(way_to(number, -1));
 }
 
+// Several explorations of one command tell their progress as one.
+void Explorer::tell_progress() {
+    static Clock::time_point told = begun;
+    auto now = Clock::now();
+    if (limits.progress <= 0 || std::chrono::duration<double>(now - told).count() <= limits.progress) return;
+    told = now;
+    fprintf(stderr, "orders: %s%s: %zu states, %zu steps deep, %zu MB, %.0f s\n", limits.name.c_str(), limits.purpose.c_str(), parents.size(), length, bytes() >> 20, elapsed());
+}
+
 bool Explorer::is_over() {
     if (wanted.first_failure && !result.failures.empty()) result.stopped = "at the first failure";
-    if (bytes() > limits.megabytes << 20) result.stopped = "the states take more than " + std::to_string(limits.megabytes) + " MB";
-    if ((parents.size() & 255) == 0 || bytes() > 1 << 28) {
-        auto now = Clock::now();
+    if (soon() > limits.megabytes << 20) result.stopped = "the states take more than " + std::to_string(limits.megabytes) + " MB";
+    if ((++expanded & 255) == 0) {
         if (elapsed() > limits.seconds) result.stopped = "after " + std::to_string((int)limits.seconds) + " seconds";
-        if (limits.progress > 0 && std::chrono::duration<double>(now - told).count() > limits.progress) {
-            fprintf(stderr, "orders: %s: %zu states, %zu steps deep, %zu MB, %.0f s\n", limits.name.c_str(), parents.size(), length, bytes() >> 20, elapsed());
-            told = now;
-        }
+        tell_progress();
     }
     return !result.stopped.empty();
 }
 
-Result Explorer::run() {
-    result.rows.resize(lock.table.rows.size());
+// Makes t go on, as under sequential consistency, until the setup begins for it.
+static void begin(const Lock &lock, State &s, int t, std::vector<int> &choices) {
+    constexpr int most = 30;
+    for (int made = 0; !lock.has_begun(s, t); made++) {
+        State reached = s;
+        int chosen = -1;
+        Steps steps;
+        steps.use = [&](State &next, const Deed &deed, Failure failure, int choice) {
+            if (chosen < 0 && deed.thread == t && !deed.newer && !deed.before && failure == Failure::none) chosen = choice, reached = next;
+        };
+        each_step(lock, s, steps);
+        if (chosen < 0 || made == most) throw std::string("the setup cannot begin so: one h stands first, then one p, then the q");
+        choices.push_back(chosen);
+        s = reached;
+        lock.memory.shorten(s, lock.ended(s));
+    }
+}
+
+void Explorer::visit_all() {
     State first = lock.start();
     lock.memory.shorten(first, 0);
+    for (int t = 0; t < first.threads; t++) begin(lock, first, t, beginning);
     add(first, 0, 0);
     State s;
     while (!following.states.empty() && !is_over()) {
@@ -151,7 +181,16 @@ Result Explorer::run() {
         length++;
     }
     if (wanted.first_failure && !result.failures.empty() && following.states.empty()) result.stopped.clear();
-    result.states = parents.size(), result.bare_states = bares.size(), result.bytes = bytes(), result.seconds = elapsed();
+}
+
+Result Explorer::run() {
+    result.rows.resize(lock.table.rows.size());
+    try {
+        visit_all();
+    } catch (const std::bad_alloc &) {
+        result.stopped = "there is no more memory";
+    }
+    result.states = parents.size(), result.bytes = bytes(), result.seconds = elapsed();
     return std::move(result);
 }
 
@@ -177,6 +216,7 @@ std::vector<Step> Explorer::way_to(uint32_t number, int last) const {
     std::vector<int> choices;
     if (last >= 0) choices.push_back(last);
     for (uint32_t i = number; i != 0; i = parents[i].first) choices.push_back(parents[i].second);
+    choices.insert(choices.end(), beginning.rbegin(), beginning.rend());
     return follow(lock, {choices.rbegin(), choices.rend()});
 }
 

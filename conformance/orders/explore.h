@@ -14,6 +14,8 @@ class Prints {
     bool contains(Print print) const;
     size_t size() const { return count; }
     size_t bytes() const { return slots.size() * sizeof(Print); }
+    // The bytes that are there at once when the set grows, if it soon does; else those that are there.
+    size_t soon() const { return (count + 1024) * 3 > slots.size() * 2 ? bytes() * 3 : bytes(); }
 
   private:
     std::vector<Print> slots;
@@ -27,8 +29,8 @@ struct Limits {
     double seconds = 600;
     // Progress on standard error every so many seconds; 0 for none.
     double progress = 5;
-    // What is explored, for the line of progress.
-    std::string name;
+    // What is explored, and for what, for the line of progress.
+    std::string name, purpose;
 };
 
 // One step of an execution: what was done, and the state behind it.
@@ -43,7 +45,7 @@ struct Found {
 };
 
 struct Result {
-    size_t states = 0, bare_states = 0, ends = 0, bytes = 0;
+    size_t states = 0, ends = 0, bytes = 0;
     double seconds = 0;
     // Empty where all states were visited; else why not.
     std::string stopped;

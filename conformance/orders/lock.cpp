@@ -11,7 +11,7 @@ static int family_named(const std::string &name) {
     std::string spin = name == "rw" ? "native" : name;
     for (int i = 0; i < 4; i++)
         if (spin == families[i]) return i;
-    throw "no family " + name + "; there are native, rw, virt, pv and cna";
+    throw "there is no family " + name + "; there are native, rw, virt, pv and cna";
 }
 
 Lock::Lock(const Table &table, const Setup &setup, const Memory &memory) : table(table), setup(setup), memory(memory) {
@@ -41,10 +41,10 @@ void Lock::add_node_places() {
 }
 
 void Lock::lay_out() {
-    bool has_readers = setup.family == "rw";
+    bool has_readers = setup.family == "rw", has_pending = setup.family == "native" || setup.family == "cna";
+    std::string kinds = has_readers ? "wrixy" : has_pending ? "lthpq" : "lt";
     for (auto &worker : setup.workers)
-        if ((std::string("wrixy").find(worker.kind) != std::string::npos) != has_readers)
-            throw std::string("a processor of ") + setup.family + " cannot be " + worker.kind;
+        if (kinds.find(worker.kind) == std::string::npos) throw std::string("a processor of ") + setup.family + " is one of " + kinds + ", not " + worker.kind;
     if (setup.split && has_readers) throw std::string("the word of a reader-writer lock is one place here");
     if (setup.split)
         for (const char *name : {"tail", "pending", "locked"}) add_place(name);
@@ -100,6 +100,16 @@ int Lock::ended(const State &s) const {
     int ended = 0;
     for (int t = 0; t < s.threads; t++) ended |= (s.thread[t].row == done) << t;
     return ended;
+}
+
+bool Lock::has_begun(const State &s, int t) const {
+    const std::string row = s.thread[t].row < section ? table[s.thread[t].row].label : "";
+    switch (setup.workers[t].kind) {
+    case 'h': return row == "U1";
+    case 'p': return row == "P3";
+    case 'q': return row == "G6" || row == "G7";
+    default: return true;
+    }
 }
 
 bool Lock::is_done(const State &s) const { return ended(s) == (1 << s.threads) - 1; }
@@ -205,18 +215,21 @@ uint32_t Lock::sets(const Row &row) const {
     return row.cases.empty() ? 0 : set;
 }
 
+// Whether an acquisition, or a try, can end at the row; then the next one may begin.
+static bool ends_an_acquisition(const Row &row) {
+    return std::any_of(row.cases.begin(), row.cases.end(), [](const Case &c) { return c.where == Case::freed || c.where == Case::done || c.where == Case::missed; });
+}
+
 std::vector<uint32_t> Lock::liveness(bool goes_on) const {
     std::vector<uint32_t> live(section + 1);
     for (bool changed = true; changed;) {
         changed = false;
-        uint32_t behind = 0;
-        for (size_t t = 0; t < setup.workers.size(); t++) {
-            behind |= live[last_row(t)];
-            if (goes_on) behind |= live[first_row(t)];
-        }
+        uint32_t release = 0, again = 0;
+        for (size_t t = 0; t < setup.workers.size(); t++) release |= live[last_row(t)], again |= live[first_row(t)];
         for (int row = section; row >= 0; row--) {
-            uint32_t next = row == section ? behind : 0;
+            uint32_t next = row == section ? release : 0;
             if (row < section) {
+                if (goes_on && ends_an_acquisition(table[row])) next |= again;
                 for (int target : targets(row)) next |= live[target];
                 next = uses(table[row]) | (next & ~sets(table[row]));
             }

@@ -9,7 +9,7 @@ enum class Failure { none, two_holders, out_of_order, stale, stuck, not_free, no
 const char *words_of(Failure failure);
 
 // A processor of a setup: what it does, and how often; l locks, t tries, w writes, r reads, i reads in an interrupt, x tries to
-// write, y tries to read.
+// write, y tries to read. h, p and q lock, and the setup begins where h holds, p has set pending, and q is queued.
 struct Worker {
     char kind = 'l';
     int times = 1;
@@ -60,6 +60,8 @@ class Lock {
     void step(const State &s, int t, Sink &sink) const;
     bool is_done(const State &s) const;
     int ended(const State &s) const;
+    // Whether t has come as far as the setup begins.
+    bool has_begun(const State &s, int t) const;
     // Nobody has the lock, by its word.
     bool is_free(const State &s) const;
 

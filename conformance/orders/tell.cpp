@@ -155,7 +155,8 @@ void tell_acts(std::ostream &out, const Lock &lock, const std::vector<Step> &ste
 
 static std::string program_of(const Worker &worker) {
     static const std::pair<char, std::pair<const char *, const char *>> verbs[] = {
-        {'l', {"lock", "unlock"}}, {'t', {"try", "unlock"}},      {'w', {"write", "wunlock"}},    {'x', {"trywrite", "wunlock"}},
+        {'l', {"lock", "unlock"}}, {'h', {"lock", "unlock"}},     {'p', {"lock", "unlock"}},      {'q', {"lock", "unlock"}},
+        {'t', {"try", "unlock"}},      {'w', {"write", "wunlock"}},    {'x', {"trywrite", "wunlock"}},
         {'r', {"read", "runlock"}}, {'y', {"tryread", "runlock"}}, {'i', {"read", "runlock"}}};
     for (auto &[kind, verb] : verbs)
         if (kind == worker.kind) return std::string(" ") + verb.first + " 0 " + verb.second + " 0";
