@@ -1,7 +1,9 @@
 // The commands. `run` in this folder compiles and starts it, and has the help.
+#include <cerrno>
 #include <cstring>
 #include <fstream>
 #include <iostream>
+#include <unistd.h>
 #include "litmus.h"
 #include "tables.h"
 #include "tell.h"
@@ -18,62 +20,97 @@ struct Words {
     exit(2);
 }
 
-static double number(const std::string &option, const std::string &text) {
-    char *end;
-    double value = strtod(text.c_str(), &end);
-    if (text.empty() || *end || value < 0) refuse(option + " takes a number, not \"" + text + "\"");
-    return value;
+static int number(const std::string &option, const std::string &text, int least, int most) {
+    bool is_number = !text.empty() && text.size() < 8 && std::all_of(text.begin(), text.end(), isdigit);
+    if (!is_number || stoi(text) < least || stoi(text) > most)
+        refuse(option + " takes a number from " + std::to_string(least) + " to " + std::to_string(most) + ", not \"" + text + "\"");
+    return stoi(text);
 }
 
-static void set_flag(Words &words, const std::string &option) {
-    Asked &asked = words.asked;
-    if (option == "--split") asked.setup.split = true;
-    else if (option == "--rows") asked.setup.extras = false;
-    else if (option == "--controls") asked.memory.controls = true;
-    else if (option == "--writes") asked.setup.writes_only = asked.memory.controls = true;
-    else if (option == "--large") asked.is_large = true;
-    else if (option == "--markdown") asked.is_markdown = true;
-    else if (option == "--quiet") asked.limits.progress = 0;
-    else if (option == "--steps") asked.tells_steps = true;
-    else refuse("there is no option " + option + "; run --help has them");
-}
-
-static bool set_value(Words &words, const std::string &option, const std::string &value) {
-    Asked &asked = words.asked;
+static void set_model(Words &words, const std::string &, const std::string &value) {
     static const std::pair<const char *, Model> models[] = {{"linux", Model::linux_model}, {"c11", Model::c11}, {"sc", Model::sc}};
-    if (option == "--linux") asked.version = value;
-    else if (option == "--weaken") asked.weakened.push_back(value);
-    else if (option == "--order") asked.changed.push_back(value);
-    else if (option == "--page") words.page = value;
-    else if (option == "--spins") asked.setup.spins = number(option, value);
-    else if (option == "--rounds") asked.setup.rounds = number(option, value);
-    else if (option == "--threshold") asked.setup.threshold = number(option, value);
-    else if (option == "--memory") asked.limits.megabytes = number(option, value);
-    else if (option == "--seconds") asked.limits.seconds = number(option, value);
-    else if (option == "--model") {
-        for (auto &[name, model] : models)
-            if (value == name) return asked.memory.model = model, true;
-        refuse("there is no model " + value + "; there are linux, c11 and sc");
-    } else return false;
-    return true;
+    for (auto &[name, model] : models)
+        if (value == name) return (void)(words.asked.memory.model = model);
+    refuse("there is no model " + value + "; there are linux, c11 and sc");
+}
+
+static void set_page(Words &words, const std::string &, const std::string &value) {
+    size_t slash = value.rfind('/');
+    std::string folder = slash == std::string::npos ? "." : value.substr(0, slash + 1);
+    if (value.empty() || access(folder.c_str(), W_OK) || (!access(value.c_str(), F_OK) && access(value.c_str(), W_OK)))
+        refuse("cannot write the page \"" + value + "\": " + (value.empty() ? "no file is named" : strerror(errno)));
+    words.page = value;
+}
+
+// An option, the commands that take it, and the families that have what it sets; empty for all.
+struct Option {
+    const char *name;
+    bool takes_value;
+    const char *commands, *families;
+    void (*set)(Words &words, const std::string &option, const std::string &value);
+};
+
+static const Option options[] = {
+    {"--large", false, "table beyond c11", "", [](Words &w, auto &, auto &) { w.asked.is_large = true; }},
+    {"--linux", true, "table run beyond c11 rows acts", "", [](Words &w, auto &, auto &value) { w.asked.version = value; }},
+    {"--model", true, "table run beyond", "", set_model},
+    {"--weaken", true, "table run beyond c11 rows acts", "", [](Words &w, auto &, auto &value) { w.asked.weakened.push_back(value); }},
+    {"--order", true, "table run beyond c11 rows acts", "", [](Words &w, auto &, auto &value) { w.asked.changed.push_back(value); }},
+    {"--split", false, "table run c11", "native virt pv cna", [](Words &w, auto &, auto &) { w.asked.setup.split = true; }},
+    {"--rows", false, "table run c11", "", [](Words &w, auto &, auto &) { w.asked.setup.extras = false; }},
+    {"--controls", false, "table run beyond c11", "", [](Words &w, auto &, auto &) { w.asked.memory.controls = true; }},
+    {"--writes", false, "table run beyond c11", "", [](Words &w, auto &, auto &) { w.asked.setup.writes_only = w.asked.memory.controls = true; }},
+    {"--page", true, "run", "", set_page},
+    {"--steps", false, "beyond", "", [](Words &w, auto &, auto &) { w.asked.tells_steps = true; }},
+    {"--markdown", false, "table", "", [](Words &w, auto &, auto &) { w.asked.is_markdown = true; }},
+    {"--spins", true, "table run beyond c11 acts", "pv", [](Words &w, auto &name, auto &value) { w.asked.setup.spins = number(name, value, 1, 99); }},
+    {"--rounds", true, "table run beyond c11 acts", "pv", [](Words &w, auto &name, auto &value) { w.asked.setup.rounds = number(name, value, 0, 99); }},
+    {"--threshold", true, "table run beyond c11 acts", "cna", [](Words &w, auto &name, auto &value) { w.asked.threshold = number(name, value, 0, 65535); }},
+    {"--memory", true, "table run beyond c11 acts", "", [](Words &w, auto &name, auto &value) { w.asked.limits.megabytes = number(name, value, 1, 1000000); }},
+    {"--seconds", true, "table run beyond c11 acts", "", [](Words &w, auto &name, auto &value) { w.asked.limits.seconds = number(name, value, 1, 1000000); }},
+    {"--quiet", false, "", "", [](Words &w, auto &, auto &) { w.asked.limits.progress = 0; }},
+};
+
+static bool is_among(const std::string &word, const std::string &words) { return words.empty() || (" " + words + " ").find(" " + word + " ") != std::string::npos; }
+
+static const Option &option_named(const std::string &name) {
+    std::string names;
+    for (const Option &option : options) {
+        if (name == option.name) return option;
+        names += std::string(" ") + option.name;
+    }
+    refuse("there is no option " + name + "; there are" + names);
 }
 
 static Words words_of(int count, char **arguments) {
-    static const char *const valued[] = {"--linux", "--weaken", "--order", "--page", "--spins", "--rounds", "--threshold", "--memory", "--seconds", "--model"};
     Words words;
     words.asked.folder = arguments[1];
+    std::vector<const Option *> given;
     for (int i = 2; i < count; i++) {
         std::string word = arguments[i];
         if (word.rfind("--", 0) != 0) {
             words.plain.push_back(word);
             continue;
         }
-        bool takes_value = std::any_of(std::begin(valued), std::end(valued), [&](const char *name) { return word == name; });
-        if (takes_value && i + 1 == count) refuse(word + " takes a value");
-        if (takes_value) set_value(words, word, arguments[++i]);
-        else set_flag(words, word);
+        const Option &option = option_named(word);
+        if (option.takes_value && i + 1 == count) refuse(word + " takes a value behind it");
+        option.set(words, word, option.takes_value ? arguments[++i] : "");
+        given.push_back(&option);
+    }
+    for (const Option *option : given) {
+        if (words.plain.size() > 0 && !is_among(words.plain[0], option->commands)) refuse(words.plain[0] + " takes no " + option->name + "; those that do: " + option->commands);
+        if (words.plain.size() > 1 && !is_among(words.plain[1], option->families)) refuse(words.plain[1] + " has no " + option->name + "; those that have: " + option->families);
     }
     return words;
+}
+
+static std::string title_of(const Asked &asked, const Found &found) {
+    std::string text = asked.setup.family + " " + asked.text, sign = ", ";
+    for (const std::string &name : asked.weakened) text += sign + name + " weakened", sign = " and ";
+    for (const std::string &change : asked.changed) text += sign + change, sign = " and ";
+    std::string title = text + (asked.setup.split ? ", the word split" : "") + ": " + words_of(found.failure) + " after " + std::to_string(found.steps.size()) + " steps";
+    for (size_t at = title.find('>'); at != std::string::npos; at = title.find('>', at + 1)) title.replace(at, 1, "&gt;");
+    return title;
 }
 
 static int run_one(Words &words) {
@@ -91,8 +128,8 @@ static int run_one(Words &words) {
     if (!words.page.empty() && !result.failures.empty()) {
         std::ofstream page(words.page);
         const Found &found = result.failures[0];
-        tell_page(page, lock, found.steps, asked.setup.family + " " + asked.text + ": " + words_of(found.failure) + " after " + std::to_string(found.steps.size()) + " steps");
-        if (!page.flush()) refuse("cannot write " + words.page);
+        tell_page(page, lock, found.steps, title_of(asked, found));
+        if (!page.flush()) refuse("cannot write the page \"" + words.page + "\": " + strerror(errno));
     }
     if (!words.page.empty() && result.failures.empty()) std::cerr << "orders: there is no failure, so " << words.page << " is not written\n";
     return !result.failures.empty() ? 1 : result.stopped.empty() ? 0 : 3;
@@ -122,12 +159,12 @@ static int write_acts(Words &words) {
         std::cout << written << " executions, of " << result.states << " states\n";
         return result.failures.empty() && result.stopped.empty() ? 0 : 1;
     }
-    uint64_t seed = number("acts", words.plain[5]) * 2 + 1;
+    uint64_t seed = number("the seed", words.plain[5], 0, 999999) * 2 + 1;
     auto choose = [&](int count) {
         seed = seed * 6364136223846793005u + 1442695040888963407u;
         return (int)((seed >> 33) % count);
     };
-    for (int i = 0, runs = number("acts", words.plain[4]); i < runs; i++) {
+    for (int i = 0, runs = number("acts", words.plain[4], 1, 999999); i < runs; i++) {
         Failure failure;
         write(walk(lock, choose, failure));
         if (failure != Failure::none) return std::cout << "run " << i << ": " << words_of(failure) << "\n", 1;
@@ -152,6 +189,8 @@ int main(int count, char **arguments) {
         refuse("there is no command " + command + "; there are table, run, beyond, c11, litmus and rows");
     } catch (const std::string &text) {
         refuse(text);
+    } catch (const std::out_of_range &) {
+        refuse("a table of rows has a line that ends too early");
     } catch (const Overflow &) {
         refuse("a state has more messages than there is room for: take a smaller setup");
     } catch (const std::bad_alloc &) {

@@ -17,7 +17,7 @@ static Order order_named(std::string name) {
     order.mb_behind = full || name == "mb-after";
     order.wmb = name == "wmb";
     if (!full && !order.acquire && !order.release && !order.mb_behind && !order.wmb && name != "relaxed" && name != "plain" && name != "-")
-        throw "no order " + name;
+        throw "there is no order " + name + "; there are relaxed, acquire, release, acq_rel, full, mb-after and wmb";
     return order;
 }
 

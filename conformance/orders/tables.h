@@ -14,12 +14,16 @@ struct Asked {
     Limits limits;
     std::vector<std::string> weakened, changed;
     bool is_large = false, is_markdown = false, tells_steps = false;
+    // Of the CNA lock, where the setup does not say.
+    int threshold = 65535;
+    // The setups that are explored where the others show no failure.
+    std::vector<std::string> larger;
     // The setup as it was written.
     std::string text;
 
-    // Reads a family and a setup, as native 221, rw w1i2, or cna 2111:0010, where the sockets stand behind the colon.
+    // Reads a family and a setup, as native 221, rw w1i2, or cna 211:010:1, where the sockets and the threshold stand behind colons.
     void set(const std::string &family, const std::string &text);
-    // The rows with the orders of the version, as they were weakened and changed.
+    // The rows with the orders of the version, as they were weakened and changed. A setup is set.
     Table table() const;
 };
 
