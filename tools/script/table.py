@@ -56,6 +56,7 @@ class Command(NamedTuple):
 STEPS = ("QLOCK_STEPS", "lk_steps")
 EXPLORE = ("QLOCK_EXPLORE", "lk_explore")
 MAIN = ("QLOCK", "lk_cli")
+ORDER = ("QLOCK_ORDER", "lk_order")
 
 COMMANDS = (
     Command(
@@ -121,6 +122,13 @@ COMMANDS = (
         "Searches by chance for a trace with an event, a row or a count, and makes it small. docs/VIEW.md has examples.",
         "find --mode cna --cpus 6 --row C8",
         tool="find", needs=(STEPS, MAIN), checks=True, takes="OPTIONS",
+    ),
+    Command(
+        "order",
+        "Reads the header of a trace, and says whether its locks have ranks; if so, no schedule deadlocks. If not, names a cycle of them, "
+        "operation by operation, and searches for a deadlock. --trace FILE writes it as a trace. docs/PROGRESS.md says what is proved.",
+        "order examples/order/opposite.qtrace",
+        tool="finder/order", needs=(ORDER, STEPS), checks=True, reads="a trace", takes="OPTIONS",
     ),
     Command(
         "audit --strict",
@@ -189,9 +197,10 @@ The first call compiles the program as it stands, *not proved*, in about a
 minute, and keeps it until a source changes. Each run of such a program
 says so in a line on standard error. ./qlock build proves it, in some 45
 minutes of one processor; from then on every command runs the proved
-program, with no word more. Of steps and explore, the lines are tested;
-picture, view, find, import and orders are tested too, and so is what
-audit --strict asks. docs/CLAIMS.md says what is proved."""
+program, with no word more. Of steps and explore, the lines are tested,
+and of order all answers but ordered; picture, view, find, import and
+orders are tested too, and so is what audit --strict asks. docs/CLAIMS.md
+says what is proved."""
 
 STATUSES = (
     ("0", "Done. An audit: the history is lawful."),
@@ -203,6 +212,8 @@ STATUSES = (
     ("6", "There was no memory: out of memory. Nothing was written."),
     ("7", "A line passes a limit: limit line 7: Acts. Or explore ended at its limit."),
     ("8", "An audited history is not lawful: unlawful line 9."),
+    ("9", "Of order: the locks have no ranks, or no theorem covers the setup."),
+    ("10", "Of order, from the script: a deadlock was found."),
     ("127", "From the script: rt is needed and is not in PATH."),
 )
 

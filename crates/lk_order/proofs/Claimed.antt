@@ -1,0 +1,25 @@
+-- The theorems, of one setup.
+use Rattle.std.proofs.Common.{◌≡◌, ℕ, false}
+use Rattle.std.specs.Prelude.{slice_index_or}
+use Rattle.lk_abs.specs.declared.names.Kind.TheVariants.{Spin}
+use Rattle.lk_abs.specs.declared.names.Mode.TheVariants.{Native}
+use Rattle.lk_rows.specs.declared.setup.Setup.{Setup}
+use Rattle.lk_rows.specs.Programs.{IsLawfulSetup}
+use Rattle.lk_law.specs.Agree.{halts}
+use Rattle.lk_progress.specs.Ordered.{IsOrdered}
+use Rattle.lk_progress.specs.Runs.{HasRoom, OrderedRunsGoOnAside, SomebodyMovesOn}
+use Rattle.lk_progress.specs.Fair.{FairRunsFinish}
+use Rattle.lk_order.specs.Claims.{NeverDeadlocks, FairSchedulesFinish}
+
+-- no schedule of an ordered setup with room deadlocks
+pub never_deadlocks : (setup : Setup) → SomebodyMovesOn → OrderedRunsGoOnAside → IsLawfulSetup setup
+    → (rank : ℕ → ℕ) × IsOrdered rank 32 setup → HasRoom setup → halts setup.mode ≡ false → NeverDeadlocks setup
+never_deadlocks setup moves aside lawful ordered room awake = record {
+  moves = λ plain acts range free. moves ordered.0 32 setup acts lawful ordered.1 awake plain room range free;
+  aside = λ off acts range free still. aside ordered.0 32 setup acts lawful ordered.1 awake off room range free still;
+}
+
+-- every fair schedule of one in `native` with spinlocks finishes
+pub finishes : (setup : Setup) → FairRunsFinish → IsLawfulSetup setup → (rank : ℕ → ℕ) × IsOrdered rank 32 setup → HasRoom setup
+    → setup.mode ≡ Native → ((i : ℕ) → slice_index_or setup.locks.items i Spin ≡ Spin) → FairSchedulesFinish setup
+finishes setup fair lawful ordered room native spins schedule is_fair = fair ordered.0 32 setup schedule lawful ordered.1 native spins room is_fair

@@ -1,0 +1,3 @@
+mod Nesting
+mod Inside
+mod Claimed

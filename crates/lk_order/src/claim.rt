@@ -1,0 +1,105 @@
+// What the theorems say of a setup whose locks have ranks.
+ghost use Rattle.std.specs.Prelude.{◌≡◌, ◌≢◌, ◌⊎◌, ℕ, true, slice_index_or};
+ghost use Rattle.lk_abs.specs.declared.names.Kind.TheVariants.{Spin};
+ghost use Rattle.lk_rows.specs.Programs.{IsLawfulSetup};
+ghost use Rattle.lk_law.specs.Agree.{halts};
+ghost use Rattle.lk_progress.specs.Ordered.{IsOrdered};
+ghost use Rattle.lk_progress.specs.Runs.{HasRoom};
+ghost use Rattle.lk_order.specs.Checked.{rank_in};
+ghost use Rattle.lk_order.specs.Claims.{NeverDeadlocks, FairSchedulesFinish};
+
+use crate::check::{check_ranks, crowded};
+use lk_abs::{Kind, Mode};
+use lk_progress::{fair_runs_finish, ordered_runs_go_on};
+use lk_rows::Setup;
+
+/// What is known of a setup.
+#[derive(Clone, Copy)]
+pub(crate) enum Claim {
+    /// No schedule deadlocks, and every fair schedule ends with everybody finished.
+    Finishes,
+    /// No schedule deadlocks.
+    GoesOn,
+    /// The ranks are in order, and no theorem covers `pv`.
+    Halts,
+    /// The ranks are in order, and the processor has more than three handlers, so it may run out of
+    /// queue nodes.
+    Crowded(u32),
+    /// The ranks are not in order.
+    Unordered,
+}
+
+// Whether all locks are spinlocks.
+fn are_spin(setup: &Setup) -> bool
+    ensures { result ≡ true → (i : ℕ) → slice_index_or setup.now.locks.items i Spin ≡ Spin }
+{
+    for at in 0..setup.locks.len() {
+        let kind = setup.locks.get(at);
+        if !is_spin(*kind) {
+            return false;
+        }
+    }
+    true
+}
+
+fn is_spin(kind: Kind) -> bool
+    ensures { result ≡ true → kind ≡ Spin }
+{
+    matches!(kind, Kind::Spin)
+}
+
+// Whether the setup is of `native`, with spinlocks alone.
+fn is_bounded(setup: &Setup) -> bool
+    ensures mode { result ≡ true → setup.now.mode ≡ Mode.Native }
+    ensures spins { result ≡ true
+        → (i : ℕ) → slice_index_or setup.now.locks.items i Spin ≡ Spin }
+{
+    match setup.mode {
+        Mode::Native => are_spin(setup),
+        _ => false,
+    }
+}
+
+// Whether processors may halt.
+fn halts(mode: Mode) -> bool
+    ensures { result ≡ halts mode }
+{
+    matches!(mode, Mode::Pv)
+}
+
+// What is known of an ordered setup with room.
+fn claim_in_order(setup: &Setup) -> Claim
+    requires lawful { IsLawfulSetup setup.now }
+    requires ordered { (rank : ℕ → ℕ) × IsOrdered rank 32 setup.now }
+    requires room { HasRoom setup.now }
+    ensures goes_on { (result ≡ Claim.GoesOn) ⊎ (result ≡ Claim.Finishes)
+        → NeverDeadlocks setup.now }
+    ensures finishes { result ≡ Claim.Finishes → FairSchedulesFinish setup.now }
+{
+    ordered_runs_go_on();
+    fair_runs_finish();
+    if halts(setup.mode) {
+        Claim::Halts
+    } else if is_bounded(setup) {
+        Claim::Finishes
+    } else {
+        Claim::GoesOn
+    }
+}
+
+/// What is known of a setup, if its locks have these ranks.
+pub(crate) fn claim_of(setup: &Setup, ranks: &[u32]) -> Claim
+    requires { IsLawfulSetup setup.now }
+    ensures ordered { result ≢ Claim.Unordered → IsOrdered (rank_in ranks.now) 32 setup.now }
+    ensures goes_on { (result ≡ Claim.GoesOn) ⊎ (result ≡ Claim.Finishes)
+        → NeverDeadlocks setup.now }
+    ensures finishes { result ≡ Claim.Finishes → FairSchedulesFinish setup.now }
+{
+    if !check_ranks(setup, ranks) {
+        return Claim::Unordered;
+    }
+    match crowded(setup) {
+        Some(cpu) => Claim::Crowded(cpu),
+        None => claim_in_order(setup),
+    }
+}
