@@ -36,8 +36,7 @@ use Rattle.lk_abs.proofs.ByIndex.{get_cases}
 use Rattle.lk_progress.proofs.Owning.{owns}
 use Rattle.lk_progress.specs.Waits.{polls, lock_at, IsTop, IsAtBay}
 use Rattle.lk_progress.specs.Order.{IsTidy, IsRanked, HoldsOutside}
-use Rattle.lk_progress.proofs.Stands.{still_polls, still_V1, still_N1, still_P3, still_G6, still_G7, still_R2, still_R5}
-use Rattle.lk_progress.proofs.Stands.{still_Wr5}
+use Rattle.lk_progress.proofs.Stands.{still_polls, still_V1, still_N1, still_P3, still_G6, still_G7, still_R2, still_R5, still_Wr5}
 use Rattle.lk_progress.proofs.Tops.{newest_of, any_newest, IsAt, busy_at, busy_lock, biased_at}
 use Rattle.lk_progress.proofs.Polling.{has_cases, owns_busy, pends_busy, leads_busy, links_busy, pends_polls}
 use Rattle.lk_progress.proofs.Polling.{links_polls, comes_polls, comes_spin, plain_lock, biased_polls, spins_is}
