@@ -171,7 +171,7 @@ static void read_line(std::vector<Litmus> &tests, const std::string &line) {
         for (std::string word; words >> word;) (word == "linux" ? words >> tests.back().on_linux : words >> tests.back().on_c11);
         return;
     }
-    if (tests.empty()) throw "before the first test: " + line;
+    if (tests.empty()) throw "no test begins before \"" + line.substr(0, 60) + "\"";
     std::string rest;
     std::getline(words, rest);
     if (first == "exists") return read_outcome(tests.back(), rest);
@@ -185,7 +185,14 @@ std::vector<Litmus> read_litmus(const std::string &path) {
     std::ifstream input(path);
     if (!input) throw "there is no file " + path;
     std::vector<Litmus> tests;
-    for (std::string line; std::getline(input, line);) read_line(tests, line);
+    int number = 0;
+    for (std::string line; std::getline(input, line);) try {
+            number++;
+            read_line(tests, line);
+        } catch (const std::string &text) {
+            throw path + ", line " + std::to_string(number) + ": " + text;
+        }
+    if (tests.empty()) throw "there is no test in " + path;
     return tests;
 }
 

@@ -180,6 +180,7 @@ int main(int count, char **arguments) {
         std::string command = words.plain.empty() ? "" : words.plain[0];
         if (command == "run") return run_one(words);
         if (command == "acts") return write_acts(words);
+        if (command == "litmus" && words.plain.size() > 2) refuse("litmus takes one file at most, not " + words.plain[2]);
         if (command == "litmus") return print_litmus(read_litmus(words.plain.size() > 1 ? words.plain[1] : words.asked.folder + "/orders/litmus.txt")) ? 1 : 0;
         std::vector<std::string> rest(words.plain.begin() + 1, words.plain.end());
         if (command == "table") return print_table(words.asked, rest);
