@@ -19,6 +19,7 @@ enum { LOCKS = 40, MOST_THREADS = 64, QUIET = 300 };
 
 static int numbers[LOCKS], rounds;
 static atomic_int done;
+static pthread_barrier_t start; /* all begin at once */
 static _Thread_local int lock_now, round_now, self;
 
 /* Whether this take of this thread is one with a bug. */
@@ -260,6 +261,7 @@ static void *work(void *number)
 {
 	self = (int)(intptr_t)number;
 	begin();
+	pthread_barrier_wait(&start);
 	for (round_now = 0; round_now < rounds; round_now++) {
 		lock_now = round_now % 8 ? round_now / 8 % 2 : round_now / 8 % LOCKS; /* two of them are busy */
 		enter();
@@ -294,6 +296,7 @@ int main(int count, char **words)
 	}
 	for (int lock = 0; lock < LOCKS; lock++)
 		make(lock);
+	pthread_barrier_init(&start, NULL, (unsigned int)threads);
 	for (int number = 0; number < threads; number++)
 		if (pthread_create(&thread, NULL, work, (void *)(intptr_t)number) || pthread_detach(thread))
 			return 1;

@@ -32,9 +32,11 @@ static void unlock(void)
 
 /* The history. */
 static int number;
+static pthread_barrier_t start; /* all begin at once */
 
 static void *work(void *unused)
 {
+	pthread_barrier_wait(&start);
 	for (int round = 0; round < ROUNDS; round++) {
 		lock();
 		history_note(number, "take", "virt");
@@ -51,6 +53,7 @@ int main(void)
 	pthread_t threads[THREADS];
 
 	number = history_lock("spin");
+	pthread_barrier_init(&start, NULL, THREADS);
 	for (int thread = 0; thread < THREADS; thread++)
 		if (pthread_create(&threads[thread], NULL, work, NULL))
 			return 1;
