@@ -173,9 +173,4 @@ def alone(checker):
         yield f"the page loads {loaded}"
 
 
-def failures(checker):
-    for check in (keys, sideways, order, legends, failing, waiting, ends, alone):
-        try:
-            yield from check(checker)
-        except (RuntimeError, TypeError) as error:
-            yield f"{check.__name__}: {error}"
+CHECKS = (keys, sideways, order, legends, failing, waiting, ends, alone)

@@ -14,6 +14,8 @@ class Page {
     this.wire();
     this.summary();
     document.getElementById("values").innerHTML = valuesSaid(header);
+    // The lanes have their height before an act is brought into sight.
+    this.fit(document.getElementById("controls"));
     const asked = /^#act=(\d+)$/.exec(location.hash);
     this.go(asked ? this.story.lineOf(+asked[1]) : -1);
   }
