@@ -2,24 +2,25 @@
 """rows.py [--index]
 
 The tables of docs/rows against the code: each row of the machine stands once, with a verb, the function that makes it, and the
-functions and step calls that make it on threads. `tools/check` asks it. --index writes docs/rows/index.md anew: each row in a line, with
+functions and step calls that make it on threads. The lists of all rows, of lk_explore and of tools/finder, have each row too. `tools/check`
+asks it. --index writes docs/rows/index.md anew: each row in a line, with
 its verb and its page from the tables, and what it does from the sources.
 """
 import re
 import sys
 from collections import Counter
-from pathlib import Path, PurePosixPath
+from pathlib import PurePosixPath
 
 sys.dont_write_bytecode = True
 
 import labels
+from finder import asked
 from tables import rows_of, unfenced
 
 INDEX = labels.TOP / "docs" / "rows" / "index.md"
 HEAD = """# Index of the rows
 
-Each row in a line. `tools/rows.py --index` writes this page: the verbs are those of the tables, and what a row does is the comment of its
-variant of `Pc`.
+Each row in a line. `tools/rows.py --index` writes this page: the verbs are those of the tables, and what a row does is the comment of its variant of `Pc`.
 
 | Label | Verb | What it does | Page |
 |---|---|---|---|
@@ -33,6 +34,8 @@ VERB = re.compile(r"[a-z]{3,8}")
 SAID = re.compile(r"\b[Rr]ows? ([^.]*)")
 STEPS = re.compile(r"\bsteps::(\w+)")
 DISPATCH = re.compile(r"\b(?:Pc::)?([A-Z]\w*)\)?\s*=>\s*(\w+)::(\w+)\(")
+# The functions of lk_explore that list the rows in their order, and a label there.
+LISTS, LABEL = "crates/lk_explore/src/rows.rt", re.compile(r"\b(?:Wr|[A-Z])\d+\b")
 
 
 def failures(sources):
@@ -56,6 +59,10 @@ def failures(sources):
             yield f"docs/rows: the row {label} stands {told[label]} times"
     for label in told.keys() - set(sources.rows):
         yield f"docs/rows: there is no row {label}"
+    if LABEL.findall(sources.text[LISTS].partition("fn all_rows")[0]) != sources.rows:
+        yield f"{LISTS}: its rows are not those of the sources, in their order"
+    for label in sorted(set(sources.rows) ^ set(asked.ROWS)):
+        yield f"tools/finder/asked.py: {label} is not both a row and in its lists"
     if not INDEX.exists() or INDEX.read_text() != index():
         yield "docs/rows/index.md is not what tools/rows.py --index writes"
 
