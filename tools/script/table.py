@@ -195,9 +195,9 @@ OPTIONS = (
 WHAT_IS_PROVED = """\
 The first call compiles the program as it stands, *not proved*, in about a
 minute, and keeps it until a source changes. Each run of such a program
-says so in a line on standard error. ./qlock build proves it, in some 45
-minutes of one processor; from then on every command runs the proved
-program, with no word more. Of steps and explore, the lines are tested,
+says so in a line on standard error. ./qlock build proves it, in about an
+hour of one processor; from then on every command runs the proved program,
+with no word more. Of steps and explore, the lines are tested,
 and of order all answers but ordered; picture, view, find, import and
 orders are tested too, and so is what audit --strict asks. docs/CLAIMS.md
 says what is proved."""
@@ -206,7 +206,7 @@ STATUSES = (
     ("0", "Done. An audit: the history is lawful."),
     ("1", "From the script: the program could not be built, find found nothing, orders found a failure, or explore found that there is none."),
     ("2", "The words ask for no command. The usage line is written, and nothing is read."),
-    ("3", "A line is refused by the grammar: bad input line 7: BadNumber."),
+    ("3", "A line is refused by the grammar: bad input line 7: BadNumber. Of import: the trace is refused. Of orders: a limit stopped it."),
     ("4", "A read failed: read fault. From the script: there is no such file."),
     ("5", "A write failed: write fault."),
     ("6", "There was no memory: out of memory. Nothing was written."),
