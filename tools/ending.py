@@ -10,6 +10,7 @@ one that it makes next. A run is stuck if many more steps of each processor stor
 are, each context polls in a circle, and no other order of steps would change that.
 """
 import copy
+import os
 import re
 import subprocess
 import sys
@@ -355,7 +356,12 @@ def main(words):
         is_help = words[:1] in (["-h"], ["--help"])
         print(__doc__.strip(), file=sys.stdout if is_help else sys.stderr)
         return 0 if is_help else 2
-    for line in told(sys.stdin.read(), steps_by(words[0])):
+    if not os.access(words[0], os.X_OK):
+        sys.exit(f"ending: there is no program {words[0]}")
+    text, steps = sys.stdin.buffer.read().decode(errors="replace"), steps_by(words[0])
+    if steps(text) is None:
+        sys.exit("ending: the program refuses this trace")
+    for line in told(text, steps):
         print(line)
     return 0
 

@@ -8,7 +8,7 @@ import refusal
 from script import table
 
 USAGE = re.compile(r'"(usage: qlock [^"\\]*)')
-SCRIPTS = ("tools/", "bench/")
+SCRIPTS = ("tools/", "bench/", "examples/", "conformance/")
 
 
 def failures(sources):
