@@ -5,7 +5,6 @@ import subprocess
 import zlib
 from typing import NamedTuple
 
-import drawing
 import grammar
 import judge
 import laws

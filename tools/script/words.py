@@ -4,7 +4,7 @@ import os
 import re
 from typing import NamedTuple
 
-from script.table import BY_WORD, COMMANDS
+from script.table import BY_WORD
 
 MOST_START = 2147483646
 OPTIONS = ("--quick", "--proved", "--help", "--version", "--install")
