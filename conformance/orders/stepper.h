@@ -32,7 +32,6 @@ class Stepper {
 
     void access_word();
     void access_node();
-    void access_place(int place, const Row &row, bool is_word);
     void look_at_word(const Row &row, bool stays);
     void swap_word(const Row &row);
     void change_word(const Row &row);
