@@ -1,12 +1,10 @@
 """The program that audits, and how it is asked."""
-import os
 import re
 import subprocess
-import sys
-from pathlib import Path
 from typing import NamedTuple
 
-OUT = Path(__file__).resolve().parent.parent.parent / "crates" / "lk_cli" / "out"
+from script.programs import named
+
 AT = re.compile(r"line (\d+)")
 
 
@@ -23,11 +21,8 @@ class Answer(NamedTuple):
 
 
 def program():
-    """QLOCK, or what `./qlock` has made."""
-    for path in [os.environ["QLOCK"]] if os.environ.get("QLOCK") else [OUT / "lk_cli", OUT / "unproved"]:
-        if os.access(path, os.X_OK):
-            return str(path)
-    sys.exit("there is no program that audits: set QLOCK, or let ./qlock make one (./qlock --help)")
+    """The program that audits."""
+    return named("QLOCK", "lk_cli")
 
 
 def audit(text):

@@ -17,10 +17,10 @@ from pathlib import Path
 
 sys.dont_write_bytecode = True
 HERE = Path(__file__).resolve().parent
-sys.path[:0] = [str(HERE), str(HERE.parent)]
+sys.path.insert(0, str(HERE.parent))
 
-import auditor
 import judge
+from audits import auditor
 
 HEAD = "cpus=4\n\nKernel buffer statistics:\n  Note: \"entries\" are the entries left in the kernel ring buffer and are not\n        recorded in the trace data. They should all be zero.\n\n"
 TIMES = "bytes: 3192\noldest event ts: 3\nnow ts: 136\n"

@@ -20,9 +20,6 @@ CONTEXTS, STATES = 6, 100_000
 FAR = 99
 # The most acts that an operation takes where nobody is in its way.
 WHOLE = 64
-ENDS = ("take", "rtake", "wtake", "release", "rrelease", "wrelease", "miss")
-
-
 CAUSE = re.compile(r"on processor (\d+) (.+?) waits for lock \d+ at operation (\d+) .*?(?:may interrupt (.+?),.*)?operation (\d+) \(\w+ \d+\)$", re.M)
 
 
@@ -157,7 +154,7 @@ def steps_of(trace, cpu, steps):
     lines = steps(trace.text([f"step {cpu} {WHOLE}"])) or []
     for line in lines:
         found = ending.LINE.match(line)
-        if int(found[1]) > len(trace.acts) and found[7] and found[7].split()[0] in ENDS and not found[7].split()[1].endswith("w"):
+        if int(found[1]) > len(trace.acts) and found[7] and found[7].split()[0] in ending.ENDS and not found[7].split()[1].endswith("w"):
             return int(found[1]) - len(trace.acts)
     return None
 

@@ -1,8 +1,8 @@
 """Histories with a breach: transcripts of random traces that are changed at random until an audit names the breach, and shrunk."""
 import re
 
-CLOSING = """lock_pending lock_slowpath lock_use_node2 lock_use_node3 lock_use_node4 lock_no_node
-pv_lock_stealing pv_wait_node pv_wait_head pv_kick_unlock""".split()
+from history import COUNTS
+
 CHANGES = 60
 
 
@@ -14,7 +14,7 @@ class History:
 
     def text(self):
         events = [f"{act} {event}" for act, event in enumerate(self.events, 1)]
-        counts = [f"end {len(events)}", *(f"{name} 0" for name in CLOSING)]
+        counts = [f"end {len(events)}", *(f"{name} 0" for name in COUNTS)]
         return "\n".join([*self.trace.header(), *events, *counts, ""])
 
     def with_events(self, events):

@@ -1,24 +1,15 @@
 """What is searched for, and the programs that say whether a trace has it."""
 import functools
-import os
 import re
 import subprocess
-import sys
+
+from script.programs import named
 
 LINE = re.compile(r"(\d+)(?:-(\d+))? (\d+\.\d+) (.*?)(?:: (.*))?$")
 LINK_ROWS = ("G10", "C1", "E14")
 ROUNDS, TURNS = 3, 100
 # How many traces' lines are kept.
 KEPT = 64
-
-
-def program(variable, crate):
-    named = os.environ.get(variable)
-    out = os.path.join(os.path.dirname(__file__), "../../crates", crate, "out")
-    for path in [named] if named else [os.path.join(out, crate), os.path.join(out, "unproved")]:
-        if os.access(path, os.X_OK):
-            return path
-    sys.exit(f"find: there is no program of {crate}; `./qlock find` builds it")
 
 
 class Programs:
@@ -36,12 +27,12 @@ class Programs:
 
     def steps(self, text):
         """The lines of a trace's acts, or None where it is refused."""
-        self.steps_program = self.steps_program or program("QLOCK_STEPS", "lk_steps")
+        self.steps_program = self.steps_program or named("QLOCK_STEPS", "lk_steps")
         run = self.ran([self.steps_program], text)
         return run.stdout.splitlines() if run.returncode == 0 else None
 
     def told(self, word, text):
-        self.main = self.main or program("QLOCK", "lk_cli")
+        self.main = self.main or named("QLOCK", "lk_cli")
         return self.ran([self.main, word], text)
 
 

@@ -20,7 +20,7 @@ def usage(said):
 
 def say_unproved(name, crate):
     """Says on each run that the program is not proved."""
-    why = "a source has changed since the program was proved" if mark_of(proved_path(crate)).exists() else "the program was compiled as it stands"
+    why = "a source has changed since the program was proved" if mark_of(proved_path(crate)).exists() else "the program was compiled without proofs"
     say(f"not proved: {why}; {name} build proves it")
 
 
@@ -72,7 +72,11 @@ def by_tool(name, command, asked, programs):
     line = [*helping.words_for(TOOLS / command.tool), *asked.words]
     if not command.reads:
         become(line, environment)
-    return ended(command, *running.ran(line, given := running.Input(), environment), given)
+    given = running.Input()
+    if given.is_closed:
+        say(f"{command.reads} cannot be read: standard input is closed, or a folder")
+        return 4
+    return ended(command, *running.ran(line, given, environment), given)
 
 
 def by_program(command, asked, line):

@@ -1,7 +1,7 @@
 """The programs: which are there and fit the sources, and how one is compiled where none is.
 
 A program is built of the crates that stand below it. Beside it stands the checksum of their sources. The proved one is `out/NAME` of
-its crate, and one that was compiled as it stands, without proofs, is `out/unproved`. Where the script is installed the proved programs
+its crate, and one that was compiled without proofs is `out/unproved`. Where the script is installed the proved programs
 stand in `programs`, and there are no sources.
 """
 import contextlib
@@ -128,11 +128,11 @@ def ended(words):
 
 
 def compile_unproved(crate):
-    """Compiles a program as it stands, and keeps it."""
+    """Compiles a program without proofs, and keeps it."""
     if IS_INSTALLED:
         raise Failed(f"{proved_path(crate)} is not there; ./qlock --install puts it there")
     need_rt("a program has to be compiled")
-    say(f"compiling {crate} as it stands, not proved: half a minute to two minutes, and longer on a busy machine; it is kept")
+    say(f"compiling {crate} without proofs: half a minute to two minutes, and longer on a busy machine; it is kept")
     path = unproved_path(crate)
     path.parent.mkdir(exist_ok=True)
     mark_of(path).unlink(missing_ok=True)
@@ -151,17 +151,20 @@ def ready(crate):
     return proved_path(crate) if is_proved(crate) else unproved_path(crate) if is_compiled(crate) else None
 
 
-def path_of(crate, quick=None, is_to_be_proved=False):
-    """The program to run, and whether it is proved: the proved one where it fits, else one that is compiled as it stands. `quick` does
-    the same, and is compiled sooner."""
-    if is_proved(crate):
-        return proved_path(crate), True
-    if is_to_be_proved:
-        from script import building
+def named(variable, crate):
+    """The program that a script of `tools` runs: the one that the variable of its environment names, as `./qlock` sets it; or one that is
+    there and fits the sources."""
+    path = os.environ.get(variable) or ready(crate)
+    if path and os.access(path, os.X_OK):
+        return str(path)
+    script = os.path.basename(sys.argv[0])
+    sys.exit(f"{script}: {variable} names no program: {path}" if path else f"{script}: there is no program of {crate}: ./qlock makes it, or {variable} names one")
 
-        building.build([crate])
-        return proved_path(crate), True
-    for name in (quick, crate):
+
+def path_of(crate, quick=None):
+    """The program to run, and whether it is proved: the proved one where it fits, else one that is compiled without proofs. `quick` does
+    the same, and is compiled sooner."""
+    for name in (crate, quick):
         if name and is_proved(name):
             return proved_path(name), True
     for name in (crate, quick):

@@ -28,6 +28,7 @@ class Input:
             kind = os.fstat(0).st_mode
         except OSError:
             kind = 0
+        self.is_closed = not kind
         self.is_file = stat.S_ISREG(kind)
         self.is_stream = stat.S_ISFIFO(kind) or stat.S_ISSOCK(kind) or os.isatty(0)
         if self.is_file:
@@ -97,6 +98,18 @@ def die_of(number):
     """Ends as a program does that is ended by this signal."""
     signal.signal(number, signal.SIG_DFL)
     os.kill(os.getpid(), number)
+
+
+def as_program(main):
+    """Runs the main function of a script of `tools`. Where its output is closed, or it is interrupted, it ends as a program does."""
+    try:
+        status = main()
+        sys.stdout.flush()
+    except BrokenPipeError:
+        die_of(signal.SIGPIPE)
+    except KeyboardInterrupt:
+        die_of(signal.SIGINT)
+    sys.exit(status)
 
 
 class Interrupted(BaseException):

@@ -193,7 +193,7 @@ OPTIONS = (
 )
 
 WHAT_IS_PROVED = """\
-The first call compiles the program as it stands, *not proved*, in about a
+The first call compiles the program without proving it, in about a
 minute, and keeps it until a source changes. Each run of such a program
 says so in a line on standard error. ./qlock build proves it, in about an
 hour of one processor; from then on every command runs the proved program,
