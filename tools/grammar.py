@@ -101,7 +101,7 @@ class Reader:
             self.begin(words)
             return
         if words[0] not in self.lines:
-            self.refuse("UnknownWord", f'"{words[0]}" begins no line of {self.what}{self.meant(words[0])} ({listed(self.lines)})')
+            self.refuse("UnknownWord", f'"{words[0]}" begins no line of {self.what}{self.meant(words[0])} ({listed(self.lines)}){looks_like(words)}')
         line = self.lines[words[0]]
         self.place(words[0], line)
         if line.count is not None and len(words) != line.count + 1:

@@ -8,8 +8,8 @@ stands `fails`. At the right stands what the act met and left. Where that would 
 and where it still were, the verbs. Arrows show links, handoffs and kicks. ACT is the number of the act that matters: its line is
 marked. Over a label a browser shows what the row does.
 
-A lane is as wide as its labels ask, so that one in which little happens is narrow; a processor that never acts has none. Letters have at least 10 pixels where the picture
-is as wide as a page, unless there are too many lanes for that.
+A lane is as wide as its labels ask, so that one in which little happens is narrow; a processor that never acts has none. Letters have at
+least 10 pixels where the picture is as wide as a page, unless there are too many lanes for that.
 """
 import argparse
 import re
@@ -19,6 +19,7 @@ from xml.sax.saxutils import escape
 sys.dont_write_bytecode = True
 
 import labels
+from script.running import as_program
 
 # The width of a page, and the letters' least size on it. A letter is so wide for each pixel of its size.
 PAGE, LEAST, SLIM = 830, 10, 0.603
@@ -359,7 +360,8 @@ def main():
     if len(acts) > MOST:
         print(f"timeline: a picture of {len(acts)} lines; `./qlock view` makes a page that draws those in sight", file=sys.stderr)
     sys.stdout.write(Picture(Story(acts), args.title, args.mark).draw())
+    return 0
 
 
 if __name__ == "__main__":
-    main()
+    as_program(main)

@@ -87,7 +87,7 @@ def setting_of(given):
 def header_of(given):
     """The header that is given; its text is kept for those that make traces of it."""
     reader = grammar.Trace()
-    data = given.header.encode(errors="replace")
+    data = given.header.encode(errors="surrogateescape")
     try:
         for raw in grammar.lines_of(data):
             reader.take(raw)

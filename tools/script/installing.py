@@ -21,10 +21,12 @@ def copy(source, goal):
 
 
 def install(folder):
-    build(PROGRAMS)
     goal = Path(os.path.expanduser(folder)).absolute()
     inside, man, link = goal / "lib" / "qlock", goal / "share" / "man" / "man1" / "qlock.1", goal / "bin" / "qlock"
     try:
+        # A folder that cannot be made is told before a build.
+        link.parent.mkdir(parents=True, exist_ok=True)
+        build(PROGRAMS)
         if inside.exists():
             shutil.rmtree(inside)
         for name in FILES:
@@ -33,7 +35,6 @@ def install(folder):
             copy(proved_path(crate), inside / INSTALLED.relative_to(TOP) / crate)
         man.parent.mkdir(parents=True, exist_ok=True)
         man.write_text(re.sub(r"\./qlock\b", "qlock", (TOP / "docs" / "qlock.1").read_text()))
-        link.parent.mkdir(parents=True, exist_ok=True)
         link.unlink(missing_ok=True)
         link.symlink_to(os.path.relpath(inside / "qlock", link.parent))
     except OSError as error:

@@ -3,6 +3,7 @@ import os
 import signal
 import subprocess
 import sys
+import tempfile
 
 from script import helping, running, table, words
 from script.programs import IS_INSTALLED, TOP, Failed, is_proved, mark_of, path_of, proved_path, ready, say
@@ -85,14 +86,14 @@ def by_program(command, asked, line):
     given = running.Input()
     if not command.behind:
         return ended(command, *running.ran(line, given), given)
-    with subprocess.Popen([sys.executable, TOOLS / command.behind, *asked.words], stdin=subprocess.PIPE, stdout=subprocess.PIPE) as drawer:
-        status, note = running.ran(line, given, output=drawer.stdin)
-        drawer.stdin.close()
-        drawn = drawer.stdout.read()
-    if status == 0 and drawer.returncode == 0:
-        sys.stdout.buffer.write(drawn)
-        sys.stdout.flush()
-    return ended(command, status or drawer.returncode, note, given)
+    with tempfile.TemporaryFile() as acts:
+        status, note = running.ran(line, given, output=acts)
+        if status == 0:
+            acts.seek(0)
+            status = subprocess.run([sys.executable, TOOLS / command.behind, *asked.words], stdin=acts).returncode
+    if status < 0:
+        running.die_of(-status)
+    return ended(command, status, note, given)
 
 
 def ended(command, status, note, given):
@@ -117,8 +118,10 @@ def dispatch(name, line):
         manner, *line = line
     if line[:1] and line[0] in ("--help", "-h", "help"):
         return helping.page(name, " ".join(line[1:]))
-    if line[-1:] and line[-1] in ("--help", "-h") and " ".join(line[:-1]) in (*table.BY_WORD, "--install"):
-        return helping.page(name, " ".join(line[:-1]))
+    if {"--help", "-h"} & set(line[1:]):
+        asked = next((word for word in (" ".join(line[:2]), line[0]) if word in (*table.BY_WORD, "--install")), None)
+        if asked:
+            return helping.page(name, asked)
     if line == ["--version"]:
         return helping.version()
     if line[:1] == ["--install"] or line[:1] == ["build"]:

@@ -17,6 +17,7 @@ import threading
 MOST_KEPT = 64 << 20
 CHUNK = 1 << 16
 REFUSED = (3, 7, 8)
+WRITE_FAULT = 5
 
 
 class Input:
@@ -101,14 +102,24 @@ def die_of(number):
 
 
 def as_program(main):
-    """Runs the main function of a script of `tools`. Where its output is closed, or it is interrupted, it ends as a program does."""
+    """Runs the main function of a script of `tools`. Where nobody reads its output, or it is interrupted, it ends as a program does; and
+    as `qlock` does where a write fails."""
     try:
+        if not sys.stdout:
+            raise OSError("standard output is closed")
         status = main()
         sys.stdout.flush()
     except BrokenPipeError:
         die_of(signal.SIGPIPE)
     except KeyboardInterrupt:
         die_of(signal.SIGINT)
+    except OSError as error:
+        if error.filename:
+            raise
+        with contextlib.suppress(OSError):
+            os.write(2, b"write fault\n")
+        # What could not be written is not tried again.
+        os._exit(WRITE_FAULT)
     sys.exit(status)
 
 

@@ -56,11 +56,11 @@ def read(name, words):
 
 def no_command(name, word, rest):
     every = [*BY_WORD, *OPTIONS, *OTHERS]
-    near = difflib.get_close_matches(word.lower(), every, 1, 0.6) or [each for each in every if len(word) > 1 and each.lstrip("-").startswith(word.lower().lstrip("-"))]
+    near = difflib.get_close_matches(word.lower(), every, 1, 0.6) or [each for each in every if len(word.strip("-")) > 1 and each.lstrip("-").startswith(word.lower().lstrip("-"))]
     short = {"-V": "--version", "-v": "--version", "-q": "--quick", "version": "--version", "install": "--install", "prove": "build", "test": "replay"}
     near = [short[word]] if word in short else near
     if near:
-        return f'"{word}" is no command; did you mean {name} {quoted([near[0], *rest])}?'
+        return f'"{word}" is no command; did you mean {name} {quoted([*near[0].split(" "), *rest])}?'
     if is_file_name(word):
         return f'"{word}" is no command; a trace is replayed by {name} replay {quoted([word])}'
     return f'"{word}" is no command ({", ".join(BY_WORD)}); {name} --help has each'
@@ -91,7 +91,7 @@ def titled(name, command, rest):
     """A command with a file or a title behind it, or both."""
     files = [word for word in rest if is_file_name(word)][:1]
     titles = [word for word in rest if word not in files]
-    if len(titles) > 1 or len(rest) > 2:
+    if len(titles) > 1 or len(rest) > 2 or titles and os.path.exists(titles[0]):
         raise Unknown(f"{command.word} takes a file and a title: {name} {command.word} FILE 'A TITLE'")
     if titles and titles[0].startswith("-"):
         raise Unknown(f"{command.word} has no option {titles[0]}: {name} {command.word} --help")
