@@ -1,15 +1,15 @@
 -- One operation more is looked at, and all are.
-use Rattle.std.proofs.Common.{◌≡◌, ◌≢◌, ◌<◌, ◌≤◌, ◌+◌, ◌⊎◌, inl, inr, ℕ, zero, suc, Some, None, Option, Bool, true, false, List, [], ◌∷◌, length, refl, sym, ap, ◌∙◌, subst, arith}
-use Rattle.std.specs.Prelude.{slice_get, is_some, ◌==◌, if◌then◌else◌}
+use Rattle.std.proofs.Common.{◌≡◌, ◌≢◌, ◌<◌, ◌≤◌, ◌+◌, ◌⊎◌, inl, inr, ℕ, zero, suc, Some, None, Bool, true, List, [], ◌∷◌, length, refl, sym, ap, ◌∙◌, subst, arith}
+use Rattle.std.specs.Prelude.{slice_get, is_some}
 use Rattle.std.proofs.lemmas.Bool.{cases_lt, ne_eqb}
 use Rattle.std.proofs.lemmas.Option.{none-some, same_Some, slice_get_within}
 use Rattle.lk_abs.specs.declared.holder.Manner.{Manner}
 use Rattle.lk_abs.specs.declared.names.Kind.{Kind}
 use Rattle.lk_rows.specs.declared.setup.Op.{Op}
 use Rattle.lk_rows.specs.declared.setup.Verb.TheVariants.{Read}
-use Rattle.lk_rows.specs.Programs.{IsLawfulProgram, way_at, way_from, way_after, op_way}
-use Rattle.lk_progress.specs.Ordered.{waits_for, only_reads}
-use Rattle.lk_order.specs.Checked.{NestsSoFar, Nests, ReadsSoFar, ReadsOnly, RanksAbove, IsAbove, IsAboveSoFar, AllAbove}
+use Rattle.lk_rows.specs.Programs.{IsLawfulProgram, way_at, way_from}
+use Rattle.lk_progress.specs.Ordered.{waits_for}
+use Rattle.lk_order.specs.Checked.{NestsSoFar, Nests, ReadsSoFar, ReadsOnly, RanksAbove, IsAboveSoFar}
 
 -- what is true of all operations before one, and of that one, is true of all up to it
 pub one_more : (P : ℕ → Op → Type 0) (ops : List Op) (n : ℕ) (o : Op) → slice_get ops n ≡ Some o

@@ -1,4 +1,4 @@
-use Rattle.std.proofs.Common.{ℕ, refl}
+use Rattle.std.proofs.Common.{ℕ}
 use Rattle.lk_rows.specs.declared.setup.Op.{Op}
 use Rattle.lk_order.specs.Checked.{rank_in, IsAbove}
 use Rattle.lk_order.proofs.Nesting.{one_more}

@@ -1,4 +1,4 @@
-use Rattle.std.proofs.Common.{ℕ, ◌≤◌, refl, arith, below_more}
+use Rattle.std.proofs.Common.{ℕ, ◌≤◌, arith, below_more}
 use Rattle.lk_rows.specs.Programs.{handlers_of}
 use Rattle.lk_order.specs.Checked.{rank_in, IsInOrder}
 use Rattle.lk_order.proofs.Inside.{has_programs, ordered}

@@ -1,4 +1,4 @@
-use Rattle.std.proofs.Common.{ap, refl, sym, ◌∙◌}
+use Rattle.std.proofs.Common.{ap, sym, ◌∙◌}
 use Rattle.std.specs.Prelude.{is_some}
 use Rattle.lk_rows.specs.Programs.{way_at}
 use Rattle.lk_law.proofs.common.HeldAfter.{way_next}

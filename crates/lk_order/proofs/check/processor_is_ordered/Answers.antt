@@ -1,4 +1,4 @@
-use Rattle.std.proofs.Common.{refl, arith, below_more}
+use Rattle.std.proofs.Common.{arith, below_more}
 use Rattle.lk_order.specs.Checked.{rank_in, IsInOrder}
 use Rattle.lk_order.proofs.check.processor_is_ordered.Goals as goal
 

@@ -1,4 +1,4 @@
-use Rattle.std.proofs.Common.{List, refl, subst, arith, below_more}
+use Rattle.std.proofs.Common.{List, subst, arith, below_more}
 use Rattle.lk_rows.specs.declared.setup.Op.{Op}
 use Rattle.lk_rows.specs.Programs.{program_at}
 use Rattle.lk_order.specs.Checked.{rank_in, AllAbove}

@@ -1,4 +1,4 @@
-use Rattle.std.proofs.Common.{ℕ, List, refl, sym, subst, arith, below_more}
+use Rattle.std.proofs.Common.{ℕ, List, sym, subst, arith, below_more}
 use Rattle.lk_rows.specs.declared.setup.Op.{Op}
 use Rattle.lk_rows.specs.Programs.{IsLawfulProgram}
 use Rattle.lk_order.specs.Checked.{rank_in, Nests}

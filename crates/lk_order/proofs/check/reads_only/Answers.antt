@@ -1,4 +1,4 @@
-use Rattle.std.proofs.Common.{◌≡◌, ℕ, refl, true}
+use Rattle.std.proofs.Common.{◌≡◌, ℕ, true}
 use Rattle.lk_rows.specs.declared.setup.Op.{Op}
 use Rattle.lk_progress.specs.Ordered.{only_reads}
 use Rattle.lk_order.proofs.Nesting.{one_more}
