@@ -15,13 +15,14 @@ use Rattle.lk_rows.specs.Run.{at_rest}
 use Rattle.lk_law.specs.Agree.{halts}
 use Rattle.lk_law.specs.Cna.{moves_aside}
 use Rattle.lk_core.proofs.IdleActs.{preempted_now}
-use Rattle.lk_core.proofs.Runs.{rest_shows}
 use Rattle.lk_progress.specs.Fair.{after_first, processors, IsRound, IsFair, FairRunsFinish}
 use Rattle.lk_progress.specs.Ordered.{IsOrdered}
 use Rattle.lk_progress.specs.Potential.{budget, is_pause}
 use Rattle.lk_progress.specs.Runs.{HasRoom, IsFinished, SomebodyMoves}
 use Rattle.lk_progress.proofs.Budget.{acts_lower}
-use Rattle.lk_progress.proofs.Runs.{Reached, reached, rest_good, unspoilt, goes_on}
+use Rattle.lk_progress.specs.Followed.{IsHeadFollowed}
+use Rattle.lk_progress.proofs.Reached.{Reached, start, reached}
+use Rattle.lk_progress.proofs.Runs.{kept_followed, unspoilt, goes_on}
 
 module _ (rank : ℕ → ℕ) (ranks : ℕ) (setup : Setup) (schedule : ℕ → Act) (ok : IsLawfulSetup setup)
     (ordered : IsOrdered rank ranks setup) (native : setup.mode ≡ Native)
@@ -36,17 +37,16 @@ module _ (rank : ℕ → ℕ) (ranks : ℕ) (setup : Setup) (schedule : ℕ → 
   plain : moves_aside setup.mode ≡ false
   plain = ap moves_aside native
 
-  cpus : (m : Machine) → Reached setup m → length m.cpus ≡ processors setup
+  cpus : (m : Machine) → Reached IsHeadFollowed setup m → length m.cpus ≡ processors setup
   cpus m r = r.shows.shows.whole.cpus ∙ ap processors r.setup_is
 
-  come_to : (n : ℕ) → Reached setup (after n)
-  come_to zero =
-      record { events = []; shows = rest_shows setup ok; good = rest_good setup ok; setup_is = refl }
+  come_to : (n : ℕ) → Reached IsHeadFollowed setup (after n)
+  come_to zero = start false IsHeadFollowed kept_followed setup ok
   come_to (suc n) =
       let r = come_to n in
       let lt : processor_of (schedule n) < length (after n).cpus =
       subst (λ (i : ℕ). processor_of (schedule n) < i) (sym (cpus (after n) r)) (fair.inside n) in
-      reached setup awake plain has_room (schedule n ∷ []) (after n) (lt, tt) r
+      reached false IsHeadFollowed kept_followed setup awake plain has_room (schedule n ∷ []) (after n) (lt, tt) r
 
   -- what an act does to the budget, if no swap fails
   abbrev Lowers : ℕ → Type 0
@@ -68,7 +68,7 @@ module _ (rank : ℕ → ℕ) (ranks : ℕ) (setup : Setup) (schedule : ℕ → 
         ]
       ]
     where
-      r : Reached setup (after n)
+      r : Reached IsHeadFollowed setup (after n)
       r = come_to n
 
       within : processor_of (schedule n) < length (after n).cpus

@@ -1,5 +1,5 @@
--- Every act keeps a machine steady, and each head that waits for a successor followed.
-use Rattle.std.proofs.Common.{◌≡◌, ◌≢◌, ◌⊎◌, inl, inr, ℕ, zero, suc, ◌<◌, ◌≤◌, ◌+◌, ◌-◌, Option, Some, None, Bool}
+-- Every act keeps a machine steady, and what is true of its heads that wait for a successor.
+use Rattle.std.proofs.Common.{◌≡◌, ◌≢◌, inl, inr, ℕ, zero, suc, ◌<◌, ◌≤◌, ◌+◌, ◌-◌, Option, Some, None, Bool}
 use Rattle.std.proofs.Common.{true, false, refl, sym, ap, ◌∙◌, subst, arith, length}
 use Rattle.std.proofs.lemmas.Bool.{cases_Bool, or_parts, leb-false, eqb-true}
 use Rattle.std.specs.Prelude.{if◌then◌else◌, ◌||◌, ◌&&◌, not, nat_le}
@@ -11,26 +11,27 @@ use Rattle.lk_abs.specs.declared.names.Waiter.{Waiter}
 use Rattle.lk_abs.specs.declared.names.LockName.{LockName}
 use Rattle.lk_abs.specs.declared.events.Act.{Act}
 use Rattle.lk_abs.specs.declared.events.Act.TheVariants as act
-use Rattle.lk_word.specs.declared.spin_word.Fields.{Fields}
 use Rattle.lk_rows.specs.declared.setup.Verb.{Verb}
 use Rattle.lk_rows.specs.declared.setup.Verb.TheVariants.{Lock, Try, Unlock, Read, TryRead}
 use Rattle.lk_rows.specs.declared.setup.Verb.TheVariants.{RUnlock, Write, TryWrite, WUnlock}
 use Rattle.lk_rows.specs.declared.parts.Frame.{Frame}
 use Rattle.lk_rows.specs.declared.parts.Pc.{Pc}
-use Rattle.lk_rows.specs.declared.parts.Pc.TheVariants.{G1, G7, N1, N2, R3}
+use Rattle.lk_rows.specs.declared.parts.Pc.TheVariants.{G1, R3}
 use Rattle.lk_rows.specs.Machine.{Machine, frame_at, top_of, HasTop, top_frame, depth_at, handlers_at, queued_at}
 use Rattle.lk_rows.specs.Machine.{preempted_at, halted_at, set_preempted, push}
-use Rattle.lk_rows.specs.Moves.{is_node, node_of, started, first_place, settled}
+use Rattle.lk_rows.specs.Moves.{started, first_place, settled}
 use Rattle.lk_rows.specs.Programs.{handlers_of}
 use Rattle.lk_rows.specs.TopRow.{row, row_at, target}
-use Rattle.lk_rows.specs.Acts.{next, is_shut, stands_halting, handler_frame, interrupted, awake, woken, processor_of, idle, step}
+use Rattle.lk_rows.specs.Acts.{next, is_shut, stands_halting, handler_frame, awake, woken, processor_of, idle}
 use Rattle.lk_rows.specs.Acts.{step_halted}
 use Rattle.lk_law.specs.Agree.{halts}
 use Rattle.lk_law.specs.Cna.{moves_aside}
-use Rattle.lk_law.specs.Families.{may_halt, chooses}
+use Rattle.lk_law.specs.Families.{may_halt}
 use Rattle.lk_law.specs.Leads.{course_in}
 use Rattle.lk_law.specs.Sound.{world, ShowsAll, RunsOne}
+use Rattle.lk_law.specs.Premises.{IsThen}
 use Rattle.lk_law.specs.SoundWorld.{spin_part}
+use Rattle.lk_law.specs.SpinWorld.{IsSoundSpinWorld}
 use Rattle.lk_law.specs.Steps.{led, row_in}
 use Rattle.lk_law.specs.World.{World}
 use Rattle.lk_law.proofs.common.Cases.{waiter_cases}
@@ -42,33 +43,34 @@ use Rattle.lk_core.proofs.Access.{above_top}
 use Rattle.lk_core.proofs.RowKept.{top_live}
 use Rattle.lk_core.proofs.Same.{tops_push, depth_push}
 use Rattle.lk_core.proofs.Seated.{next_of, world-push, world-set_preempted}
-use Rattle.lk_progress.specs.Order.{SomebodyComes, is_led_on, is_coming}
-use Rattle.lk_progress.specs.Followed.{IsHeadFollowed}
 use Rattle.lk_progress.specs.Ordered.{IsSteady, ReadsAlone}
 use Rattle.lk_progress.proofs.Reading.{row_reads_alone}
-use Rattle.lk_progress.proofs.Followed.{row_keeps_followed}
+use Rattle.lk_progress.proofs.Quiet.{IsQuietRow, IsQuietFrame, ChangesQuietly, first_quiet, placeless_quiet}
 use Rattle.lk_progress.proofs.Moves.{Moves, Settles, Settled, settled_is}
 use Rattle.lk_progress.proofs.Rows.{Put, row_moves}
 
-pub record IsGood (m : Machine) : Type 0 where
+-- A machine is steady, and its world is so.
+pub record IsGood (F : World → Type 0) (m : Machine) : Type 0 where
   pub steady : IsSteady (world m)
-  pub followed : IsHeadFollowed (world m)
+  pub followed : F (world m)
 
--- an operation begins at no row of a head, nor of one that comes
-pub first_not : (mode : Mode) (v : Verb) → (is_led_on (first_place mode v) ≡ false) × (is_coming (first_place mode v) ≡ false)
-    × (first_place mode v ≢ G7) × (first_place mode v ≢ N1) × (first_place mode v ≢ N2)
-first_not Virt Unlock = (refl, refl, λ e. cc e, λ e. cc e, λ e. cc e)
-first_not Native Unlock = (refl, refl, λ e. cc e, λ e. cc e, λ e. cc e)
-first_not Cna Unlock = (refl, refl, λ e. cc e, λ e. cc e, λ e. cc e)
-first_not Pv Unlock = (refl, refl, λ e. cc e, λ e. cc e, λ e. cc e)
-first_not mode Lock = (refl, refl, λ e. cc e, λ e. cc e, λ e. cc e)
-first_not mode Try = (refl, refl, λ e. cc e, λ e. cc e, λ e. cc e)
-first_not mode Read = (refl, refl, λ e. cc e, λ e. cc e, λ e. cc e)
-first_not mode Write = (refl, refl, λ e. cc e, λ e. cc e, λ e. cc e)
-first_not mode TryRead = (refl, refl, λ e. cc e, λ e. cc e, λ e. cc e)
-first_not mode TryWrite = (refl, refl, λ e. cc e, λ e. cc e, λ e. cc e)
-first_not mode RUnlock = (refl, refl, λ e. cc e, λ e. cc e, λ e. cc e)
-first_not mode WUnlock = (refl, refl, λ e. cc e, λ e. cc e, λ e. cc e)
+-- What is true of heads is kept by every row of these families, if its frame finds a node left, and where a
+-- frame comes to a place that shows nothing, or goes from one.
+pub record IsKept (aside : Bool) (F : World → Type 0) : Type 0 where
+  pub rest : (m : World)
+      → ((u : Waiter) (f : Frame) → m.frame u ≡ Some f → IsQuietFrame f)
+      → F m
+  pub stays : (a b : World) (w : Waiter) → ChangesQuietly a b w → F a → F b
+  pub rows : (c : Pc) (m : World) (hs : LockName → LockHistory) (w : Waiter) (f : Frame)
+      → IsSoundSpinWorld m hs
+      → halts m.mode ≡ false
+      → moves_aside m.mode ≡ aside
+      → m.frame w ≡ Some f
+      → f.place ≡ Some c
+      → (f.lock.wait ≡ true → IsThen f.then)
+      → (c ≡ G1 → m.queued w.cpu < 4)
+      → F m
+      → F (row_in m w f c).0
 
 first_not_R3 : (mode : Mode) (v : Verb) → Some (first_place mode v) ≢ Some R3
 first_not_R3 Virt Unlock e = cc e
@@ -84,10 +86,6 @@ first_not_R3 mode TryWrite e = cc e
 first_not_R3 mode RUnlock e = cc e
 first_not_R3 mode WUnlock e = cc e
 
--- a place that shows nothing: none, or that of an operation which begins
-abbrev pub IsQuietFrame : Frame → Type 0
-IsQuietFrame g = (c : Pc) → g.place ≡ Some c → (is_led_on c ≡ false) × (is_coming c ≡ false) × (c ≢ G7) × (c ≢ N1) × (c ≢ N2)
-
 settled_quiet : (mode : Mode) (h : Frame) (o : Option Frame) → Settles mode h o → (g : Frame) → o ≡ Some g → IsQuietFrame g
 settled_quiet mode h o (inl e) g q = λ c p. absurd (let z : None ≡ Some g = sym e ∙ q in cc z)
 settled_quiet mode h o (inr (inl e)) g q = λ c p.
@@ -99,7 +97,7 @@ settled_quiet mode h o (inr (inr v)) g q = λ c p.
     let y : started mode h v.0 ≡ g = cc z in
     let x : Some (first_place mode v.0.verb) ≡ Some c = ap (λ (f : Frame). f.place) y ∙ p in
     let i : first_place mode v.0.verb ≡ c = cc x in
-    subst (λ (d : Pc). (is_led_on d ≡ false) × (is_coming d ≡ false) × (d ≢ G7) × (d ≢ N1) × (d ≢ N2)) i (first_not mode v.0.verb))
+    subst IsQuietRow i (first_quiet mode v.0.verb))
 
 -- the program and the context of a frame that goes on, and its place where it is that of a handler
 settled_same : (mode : Mode) (h : Frame) (o : Option Frame) → Settles mode h o → (g : Frame) → o ≡ Some g
@@ -125,64 +123,8 @@ settled_reads mode h o (inr (inr v)) g q up =
     let y : started mode h v.0 ≡ g = cc z in
     subst ReadsAlone y (first_not_R3 mode v.0.verb, λ w. cc w)
 
--- One frame changes from a, which shows something or does not, to what shows no more: what is true
--- of the heads stays.
-module _ (a b : World) (w : Waiter) (o : Option Frame) (words : (l : LockName) → b.word l ≡ a.word l)
-    (here : b.frame w ≡ o) (others : (u : Waiter) → u ≢ w → b.frame u ≡ a.frame u)
-    (either : (b.frame w ≡ a.frame w) ⊎ (((g : Frame) → o ≡ Some g → IsQuietFrame g) × ((g : Frame) → a.frame w ≡ Some g → IsQuietFrame g))) where
-  comes_still : (l : LockName) → SomebodyComes a l → SomebodyComes b l
-  comes_still l s =
-      let on : b.frame s.by ≡ a.frame s.by =
-      elim (waiter_cases s.by w) [
-        | inl e ↦ elim either [
-          | inl same ↦ ap b.frame e ∙ same ∙ ap a.frame (sym e)
-          | inr q ↦ absurd (let z = (q.1 s.frame (ap a.frame (sym e) ∙ s.live) s.place s.at).1 in let y = s.comes in cc (z, y))
-        ]
-        | inr ne ↦ others s.by ne
-      ] in
-      record { by = s.by; frame = s.frame; place = s.place; live = on ∙ s.live; at = s.at; lock = s.lock; comes = s.comes }
-
-  pub heads_stay : IsHeadFollowed a → IsHeadFollowed b
-  heads_stay inv =
-      record {
-        followed = λ u d k lu pk lk last.
-            let was : a.frame u ≡ Some d =
-            elim (waiter_cases u w) [
-              | inl e ↦ elim either [
-                | inl same ↦ ap a.frame e ∙ sym same ∙ ap b.frame (sym e) ∙ lu
-                | inr q ↦ absurd (let z = (q.0 d (sym here ∙ ap b.frame (sym e) ∙ lu) k pk).0 in cc (z, lk))
-              ]
-              | inr ne ↦ sym (others u ne) ∙ lu
-            ] in
-            comes_still d.lock (inv.followed u d k was pk lk
-            (ap (λ (x : Fields). is_node x.tail (node_of d.me)) (sym (words d.lock)) ∙ last));
-        unaware = λ u d lu pk.
-            let was : a.frame u ≡ Some d =
-            elim (waiter_cases u w) [
-              | inl e ↦ elim either [
-                | inl same ↦ ap a.frame e ∙ sym same ∙ ap b.frame (sym e) ∙ lu
-                | inr q ↦ absurd ((q.0 d (sym here ∙ ap b.frame (sym e) ∙ lu) G7 pk).2 refl)
-              ]
-              | inr ne ↦ sym (others u ne) ∙ lu
-            ] in
-            inv.unaware u d was pk;
-        noded = λ u d lu. elim (waiter_cases u w) [
-          | inl e ↦ elim either [
-            | inl same ↦ inv.noded u d (ap a.frame e ∙ sym same ∙ ap b.frame (sym e) ∙ lu)
-            | inr q ↦ (
-              λ pk. (q.0 d (sym here ∙ ap b.frame (sym e) ∙ lu) N1 pk).3 refl,
-              λ pk. (q.0 d (sym here ∙ ap b.frame (sym e) ∙ lu) N2 pk).4 refl,
-            )
-          ]
-          | inr ne ↦ inv.noded u d (sym (others u ne) ∙ lu)
-        ];
-      }
-
-placeless_quiet : (g : Frame) → g.place ≡ None → IsQuietFrame g
-placeless_quiet g e c p = absurd (let z : None ≡ Some c = sym e ∙ p in cc z)
-
 module _ (m : Machine) (hs : LockName → LockHistory) (shows : ShowsAll m hs) (awake : halts m.setup.mode ≡ false)
-    (plain : moves_aside m.setup.mode ≡ false) (good : IsGood m) where
+    (aside : Bool) (family : moves_aside m.setup.mode ≡ aside) (F : World → Type 0) (kept : IsKept aside F) (good : IsGood F m) where
   -- a row
   module _ (p : ℕ) (range : p < length m.cpus)
       (room : (top_frame m p).place ≡ Some G1 → queued_at m p < 4) where
@@ -203,10 +145,6 @@ module _ (m : Machine) (hs : LockName → LockHistory) (shows : ShowsAll m hs) (
       unhalting = not-true (may_halt c)
           (λ e. let z = (shows.world.spins.registers w f live).choice.halting c place e in cc (z, awake))
 
-      unchoosing : chooses c ≡ false
-      unchoosing = not-true (chooses c)
-          (λ e. let z = (shows.world.spins.registers w f live).choice.choice c place e in cc (z, plain))
-
       abbrev x : World
       x = (row_in (world m) w f c).0
 
@@ -221,27 +159,27 @@ module _ (m : Machine) (hs : LockName → LockHistory) (shows : ShowsAll m hs) (
       x_there u ne = (row_is_done (world m) w f c (target c f)).frame u
           ∙ if-false (same_waiter u w) (Some d) (frame_at m u) (same_waiter-else u w ne)
 
-      x_good : IsHeadFollowed x
+      x_good : F x
       x_good =
-          row_keeps_followed c (world m) (spin_part (world m).kind hs) w f shows.world.spins awake plain live place
+          kept.rows c (world m) (spin_part (world m).kind hs) w f shows.world.spins awake family live place
           (shows.world.fits w f live).after (λ e. room (place ∙ ap Some e)) good.followed
 
-      by_moves : (n : Machine) → Put m n x.word → Moves n w f d k → IsGood k
+      by_moves : (n : Machine) → Put m n x.word → Moves n w f d k → IsGood F k
       by_moves n put moves =
           record {
             steady = record { stacked = stacked; placed = placed; alone = alone };
-            followed = heads_stay x (world k) w moves.now
-                (λ l. moves.follows.word l ∙ put.words l) here
-                (λ u ne. there u ne ∙ sym (x_there u ne))
-                (elim moves.turned [
-                  | inl t ↦ inl (here ∙ t.0 ∙ sym x_here)
-                  | inr t ↦ inr (
-                    settled_quiet n.setup.mode t.1.0 moves.now t.1.4,
-                    λ g e. (let q : Some d ≡ Some g = sym x_here ∙ e in let y : d ≡ g = cc q in
-                        placeless_quiet g (ap (λ (h : Frame). h.place) (sym y) ∙ t.0)),
-                  )
-                ])
-                x_good;
+            followed = kept.stays x (world k) w (record {
+              words = λ l. moves.follows.word l ∙ put.words l;
+              others = λ u ne. there u ne ∙ sym (x_there u ne);
+              either = elim moves.turned [
+                | inl t ↦ inl (here ∙ t.0 ∙ sym x_here)
+                | inr t ↦ inr (
+                  λ g e. settled_quiet n.setup.mode t.1.0 moves.now t.1.4 g (sym here ∙ e),
+                  λ g e. (let q : Some d ≡ Some g = sym x_here ∙ e in let y : d ≡ g = cc q in
+                      placeless_quiet g (ap (λ (h : Frame). h.place) (sym y) ∙ t.0)),
+                )
+              ];
+            }) x_good;
           }
         where
           here : frame_at k w ≡ moves.now
@@ -307,16 +245,16 @@ module _ (m : Machine) (hs : LockName → LockHistory) (shows : ShowsAll m hs) (
                 ]
           ]
 
-      row_good_at : IsGood k
+      row_good_at : IsGood F k
       row_good_at =
           let r = row_moves m p hs shows range f c live place unhalting (shows.world.fits w f live).after in
           by_moves r.0 r.1 r.2
 
-    pub row_good : IsGood k
+    pub row_good : IsGood F k
     row_good = by f.place refl
       where
-        by : (o : Option Pc) → f.place ≡ o → IsGood k
-        by None e = subst (λ (y : Machine). IsGood y) (sym (ap (λ (o : Option Pc). (row_at m p f o).0) e)) good
+        by : (o : Option Pc) → f.place ≡ o → IsGood F k
+        by None e = subst (λ (y : Machine). IsGood F y) (sym (ap (λ (o : Option Pc). (row_at m p f o).0) e)) good
         by (Some c) e = row_good_at c e
 
   -- an interrupt
@@ -343,17 +281,18 @@ module _ (m : Machine) (hs : LockName → LockHistory) (shows : ShowsAll m hs) (
     absent : frame_at m v ≡ None
     absent = above_top m p (depth_at m p) (let z = top.some in omega (arith, z))
 
-    pub interrupt_good : IsGood (settled n p g)
+    pub interrupt_good : IsGood F (settled n p g)
     interrupt_good =
         record {
           steady = record { stacked = stacked; placed = placed; alone = alone };
-          followed = heads_stay (world m) (world (settled n p g)) v s.now
-              (λ l. s.follows.word l ∙ ap (λ (y : World). y.word l) (world-push m p g range)) here there
-              (inr (
-                settled_quiet n.setup.mode g s.now s.settles,
-                λ h e. absurd (let z : None ≡ Some h = sym absent ∙ e in cc z),
-              ))
-              good.followed;
+          followed = kept.stays (world m) (world (settled n p g)) v (record {
+            words = λ l. s.follows.word l ∙ ap (λ (y : World). y.word l) (world-push m p g range);
+            others = there;
+            either = inr (
+              λ h e. settled_quiet n.setup.mode g s.now s.settles h (sym here ∙ e),
+              λ h e. absurd (let z : None ≡ Some h = sym absent ∙ e in cc z),
+            );
+          }) good.followed;
         }
       where
         s : Settled n p g (settled n p g)
@@ -420,11 +359,11 @@ module _ (m : Machine) (hs : LockName → LockHistory) (shows : ShowsAll m hs) (
           | inr ne ↦ good.steady.alone u h lt (sym (there u ne) ∙ e)
         ]
 
-  preempted_good : (p : ℕ) (b : Bool) → IsGood (set_preempted m p b)
+  preempted_good : (p : ℕ) (b : Bool) → IsGood F (set_preempted m p b)
   preempted_good p b =
       record {
         steady = subst IsSteady (sym (world-set_preempted m p b)) good.steady;
-        followed = subst IsHeadFollowed (sym (world-set_preempted m p b)) good.followed;
+        followed = subst F (sym (world-set_preempted m p b)) good.followed;
       }
 
   unhalted : (p : ℕ) → halted_at m p ≡ false
@@ -432,10 +371,10 @@ module _ (m : Machine) (hs : LockName → LockHistory) (shows : ShowsAll m hs) (
 
   -- every act
   pub act_good : (a : Act) → processor_of a < length m.cpus
-      → ((p : ℕ) → p < length m.cpus → (top_frame m p).place ≡ Some G1 → queued_at m p < 4) → IsGood (next m a).0
+      → ((p : ℕ) → p < length m.cpus → (top_frame m p).place ≡ Some G1 → queued_at m p < 4) → IsGood F (next m a).0
   act_good (act.Step p) range room = by (preempted_at m p)
     where
-      by : (b : Bool) → IsGood (if b then idle m else (if halted_at m p then step_halted m p else row m p)).0
+      by : (b : Bool) → IsGood F (if b then idle m else (if halted_at m p then step_halted m p else row m p)).0
       by true = good
       by false = rw (unhalted p) (row_good p range (room p range))
   act_good (act.Interrupt p) range room =
@@ -451,21 +390,21 @@ module _ (m : Machine) (hs : LockName → LockHistory) (shows : ShowsAll m hs) (
             (nat_le (handlers_of m.setup p) (handlers_at m p)) a.0 in
             let c = or_parts (preempted_at m p) (nat_le 6 (depth_at m p)) b.0 in
             let is : Rattle.lk_rows.specs.Acts.awake m p ≡ m = ap (λ (t : Bool). if t then woken m p else m) (unhalted p) in
-            rw e (subst (λ (y : Machine). IsGood (settled (push y p (handler_frame m p)) p (handler_frame m p))) (sym is)
+            rw e (subst (λ (y : Machine). IsGood F (settled (push y p (handler_frame m p)) p (handler_frame m p))) (sym is)
             (interrupt_good p range (leb-false 6 (depth_at m p) c.1)))
       ]
   act_good (act.Preempt p) range room = by (preempted_at m p)
     where
-      by : (b : Bool) → IsGood (if b then idle m else (set_preempted m p true, None)).0
+      by : (b : Bool) → IsGood F (if b then idle m else (set_preempted m p true, None)).0
       by true = good
       by false = preempted_good p true
   act_good (act.Resume p) range room = by (preempted_at m p)
     where
-      by : (b : Bool) → IsGood (if b then (set_preempted m p false, None) else idle m).0
+      by : (b : Bool) → IsGood F (if b then (set_preempted m p false, None) else idle m).0
       by true = preempted_good p false
       by false = good
   act_good (act.Nudge p) range room = by (preempted_at m p)
     where
-      by : (b : Bool) → IsGood (if b || not (halted_at m p) then idle m else Rattle.lk_rows.specs.Acts.nudged m p).0
+      by : (b : Bool) → IsGood F (if b || not (halted_at m p) then idle m else Rattle.lk_rows.specs.Acts.nudged m p).0
       by true = good
       by false = rw (unhalted p) good

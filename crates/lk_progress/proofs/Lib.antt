@@ -17,12 +17,13 @@ pub mod AsideFollowed
 pub mod Ranked
 pub mod Moves
 pub mod Rows
+pub mod Quiet
 pub mod Good
-pub mod GoodAside
 pub mod Measure
 pub mod Still
 pub mod Potential
 pub mod Budget
+pub mod Reached
 pub mod Runs
 pub mod Fair
 pub mod Turns
