@@ -26,6 +26,13 @@ pub mod Budget
 pub mod Reached
 pub mod Runs
 pub mod Fair
-pub mod Turns
+pub mod Acted
+pub mod Told
 pub mod Watching
+pub mod Watched
+pub mod Ahead
+pub mod InTurn
+pub mod AheadAside
+pub mod Fresh
+pub mod InTurnAside
 pub mod RunsAside

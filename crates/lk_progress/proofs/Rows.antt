@@ -2,7 +2,6 @@
 use Rattle.std.proofs.Common.{◌≡◌, ℕ, ◌<◌, Option, Some, None, Bool}
 use Rattle.std.proofs.Common.{true, false, refl, sym, ap, ◌∙◌, subst, arith, List, [], ◌∷◌, length}
 use Rattle.std.proofs.lemmas.Option.{slice_get_within}
-use Rattle.std.specs.Prelude.{if◌then◌else◌, ◌==◌}
 use Rattle.lk_abs.specs.History.{LockHistory}
 use Rattle.lk_abs.specs.declared.names.Waiter.{Waiter}
 use Rattle.lk_abs.specs.declared.names.LockName.{LockName}
@@ -12,9 +11,9 @@ use Rattle.lk_rows.specs.declared.parts.Flag.{Flag}
 use Rattle.lk_rows.specs.declared.parts.Frame.{Frame}
 use Rattle.lk_rows.specs.declared.parts.Node.{Node}
 use Rattle.lk_rows.specs.declared.parts.Pc.{Pc}
-use Rattle.lk_rows.specs.Machine.{Machine, frame_at, word_at, set_node, top_of, HasTop, cpu_at, node_at, queued_at, top_frame, rw_at}
+use Rattle.lk_rows.specs.Machine.{Machine, frame_at, word_at, set_node, top_of, cpu_at, node_at, queued_at, top_frame, rw_at}
 use Rattle.lk_rows.specs.Programs.{kind_of}
-use Rattle.lk_rows.specs.Row.{Lead, moved, counted, Effect}
+use Rattle.lk_rows.specs.Row.{Lead, moved, counted, event_of}
 use Rattle.lk_rows.specs.rows.Spin.{spin_row}
 use Rattle.lk_rows.specs.rows.Queue.{queue_row, entry_row, flag_row, next_row}
 use Rattle.lk_rows.specs.rows.Rw.{rw_row}
@@ -233,8 +232,29 @@ module _ (m : Machine) (p : ℕ) (hs : LockName → LockHistory) (shows : ShowsA
   by_target a t e =
       absurd (let q : is_plain t ≡ false = refl in let z = ap is_plain e in let y = plainly c f a in cc (z, y, q))
 
+  -- what the row tells is what its course does
+  tells_by : (t : Target) → (row_on m p f c t).1 ≡ event_of m p f (course_in (world m) w f c t).tells
+  tells_by SpinWord = refl
+  tells_by QueueWord = refl
+  tells_by Queued = refl
+  tells_by (FlagOf k) = refl
+  tells_by (NextOf k) = refl
+  tells_by ChoiceWord = refl
+  tells_by (ChoiceFlag k) = refl
+  tells_by (ChoiceNext k) =
+      ap (λ (s : Sight). event_of m p f (search_row s c f (node_at m k).next).tells) (sym (sight_same m hs shows w f))
+  tells_by (SecondTailOf k) = refl
+  tells_by (RunsOf k) =
+      ap (λ (s : Sight). event_of m p f (runs_row s c f (node_at m k).runs).tells) (sym (sight_same m hs shows w f))
+  tells_by t = refl
+
   top_is : top_frame m p ≡ f
   top_is = Rattle.lk_core.proofs.Access.top_frame-is m p f live
+
+  pub row_tells : (row m p).1 ≡ event_of m p f (course_in (world m) w f c (target c f)).tells
+  row_tells =
+      ap (λ (g : Frame). (row_at m p g g.place).1) top_is ∙ ap (λ (o : Option Pc). (row_at m p f o).1) place
+      ∙ tells_by (target c f)
 
   pub row_made : may_halt c ≡ false → RowMade m p f c (row m p).0
   row_made a =

@@ -7,4 +7,5 @@ pub mod Fair
 pub mod Measure
 pub mod Potential
 pub mod Turns
+pub mod InTurn
 pub mod Aside

@@ -8,6 +8,8 @@ ghost use Rattle.lk_progress.specs.Measure.{RowDescends, BeginIsShort};
 ghost use Rattle.lk_progress.specs.Potential.{StepsLower, MovesAreFew, ActsLower, RunsAreShort};
 ghost use Rattle.lk_progress.specs.Fair.{FairRunsFinish};
 ghost use Rattle.lk_progress.specs.Turns.{TakesInTurn, NobodyWatchesAnew};
+ghost use Rattle.lk_progress.specs.InTurn.{FewTakesBefore, FewerUnwatched, FewTakesFromArrival};
+ghost use Rattle.lk_progress.specs.InTurn.{FewTakesAside, FewTakesAsideFromArrival};
 ghost use Rattle.lk_progress.specs.Runs.{OrderedRunsGoOn, OrderedRunsGoOnAside, SomebodyMovesOn, NativeRunsEnd};
 
 /// In `virt` and `native`, in a sound world in which every processor polls for locks of a higher
@@ -68,13 +70,28 @@ pub fn operations_are_short()
 /// and each processor makes a step, there is a moment at which every processor has finished. What
 /// happens between two rounds does not matter, and interrupts may come at any time.
 pub fn fair_runs_finish()
-    ensures { FairRunsFinish }
+    ensures finish { FairRunsFinish }
 {}
 
-/// In `virt` and `native`, while a waiter stands in the queue of a lock, only two may acquire it: the
+/// Where no processor halts, while a waiter stands in the queue of a lock, only two may acquire it: the
 /// queue head, and the one waiter that has set the pending bit before there was a queue. For nobody
 /// comes to wait by the pending bit while there is a queue.
 pub fn takes_are_in_turn()
     ensures turn { (c : Pc) → TakesInTurn c }
     ensures anew { (c : Pc) → NobodyWatchesAnew c }
+{}
+
+/// A queued waiter sees few takes before its own. In `virt` and `native`, over every history: from its
+/// arrival in the queue it sees at most as many takes of the lock before its own as there were waiters
+/// in the queue, and one. The one is that of a waiter which had set the pending bit: where nobody waits
+/// by it, the takes are no more than the waiters before it. The same is true from any later moment on.
+///
+/// In `cna` each waiter before it may let as many others pass as the threshold says. So the takes are at
+/// most the waiters of both queues, times the threshold and one; and one.
+pub fn takes_before_are_few()
+    ensures waiting { FewTakesBefore }
+    ensures unwatched { FewerUnwatched }
+    ensures arrival { FewTakesFromArrival }
+    ensures aside { FewTakesAside }
+    ensures aside_arrival { FewTakesAsideFromArrival }
 {}

@@ -5,5 +5,5 @@ mod laws;
 
 pub use laws::{
     fair_runs_finish, no_deadlock, operations_are_short, ordered_runs_go_on, successors_come,
-    takes_are_in_turn,
+    takes_are_in_turn, takes_before_are_few,
 };

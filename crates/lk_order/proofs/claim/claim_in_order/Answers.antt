@@ -7,7 +7,7 @@ returns-then-is_bounded c =
     let set = c.args.setup.now in record {
       goes_on = λ made. never_deadlocks set c.ordered_runs_go_on.ensures.moves c.ordered_runs_go_on.ensures.aside c.requires.lawful c.requires.ordered c.requires.room
           (sym c.if-halts.ensures);
-      finishes = λ made. finishes set c.fair_runs_finish.ensures c.requires.lawful c.requires.ordered c.requires.room (c.if-is_bounded.ensures.mode refl)
+      finishes = λ made. finishes set c.fair_runs_finish.ensures.finish c.requires.lawful c.requires.ordered c.requires.room (c.if-is_bounded.ensures.mode refl)
           (c.if-is_bounded.ensures.spins refl);
     }
 
