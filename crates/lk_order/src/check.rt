@@ -1,4 +1,5 @@
 // Whether ranks are in order, which is all that the theorems ask of the programs.
+
 ghost use Rattle.std.specs.Prelude.{◌≡◌, ◌⊎◌, ◌+◌, ◌<◌, ◌≤◌, ℕ, Option, None, is_some, true, length, slice_get};
 ghost use Rattle.lk_abs.specs.declared.holder.Manner.{Manner};
 ghost use Rattle.lk_rows.specs.declared.setup.Verb.TheVariants.{Read};

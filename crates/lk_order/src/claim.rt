@@ -1,4 +1,5 @@
 // What the theorems say of a setup whose locks have ranks.
+
 ghost use Rattle.std.specs.Prelude.{◌≡◌, ◌≢◌, ◌⊎◌, ℕ, true, slice_index_or};
 ghost use Rattle.lk_abs.specs.declared.names.Kind.TheVariants.{Spin};
 ghost use Rattle.lk_rows.specs.Programs.{IsLawfulSetup};
@@ -42,6 +43,7 @@ fn are_spin(setup: &Setup) -> bool
     true
 }
 
+// Whether the lock is a spinlock.
 fn is_spin(kind: Kind) -> bool
     ensures { result ≡ true → kind ≡ Spin }
 {

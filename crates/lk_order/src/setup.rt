@@ -1,4 +1,5 @@
 // The header of a trace.
+
 ghost use Rattle.std.specs.Prelude.{IfOk};
 ghost use Rattle.lk_rows.specs.Programs.{IsLawfulSetup};
 
