@@ -1,0 +1,28 @@
+use Rattle.std.specs.Arc.{arc_value}
+use Rattle.lk_rows.specs.declared.parts.Pc.TheVariants.{Z1}
+use Rattle.lk_domain.specs.Seats.{calls_of}
+use Rattle.lk_run.proofs.Steps.{still_of}
+use Rattle.lk_port.proofs.Ports as port
+use Rattle.lk_port.proofs.port.Port.ends_reading.Goals as goal
+
+pub read_unlock-requires-clause-value : goal.read_unlock-requires-clause-value
+read_unlock-requires-clause-value c =
+    let me = c.args.self.now in
+    let d = arc_value me.domain in
+    let may = c.requires.may in
+    let l = c.args.lock.index in
+    let idle = port.rests d me.writes me.pending me.cpu may.free c.stands.ensures in
+    port.none_out (calls_of me.cpu).holds l idle.home
+
+pub invariant_of-self : goal.invariant_of-self
+invariant_of-self c =
+    let me = c.args.self.now in
+    let d = arc_value me.domain in
+    let may = c.requires.may in
+    let l = c.args.lock.index in
+    let idle = port.rests d me.writes me.pending me.cpu may.free c.stands.ensures in
+    let new = c.read_unlock.new.cpu in
+    record {
+      of = still_of d me.cpu new c.read_unlock.ensures.rest me.of;
+      stands = ∣ port.stands d me.writes me.pending new may.free (port.left d l me.cpu new Z1 me.writes idle c.read_unlock.ensures.left) ∣₁;
+    }

@@ -1,0 +1,23 @@
+use Rattle.std.proofs.Common.{true, false}
+use Rattle.std.specs.Arc.{arc_value}
+use Rattle.lk_domain.specs.Seats.{calls_of, ledger_of}
+use Rattle.lk_port.proofs.Ports as port
+use Rattle.lk_port.proofs.port.Port.is_writing.Goals as goal
+
+pub returns-clause-writes : goal.returns-clause-writes
+returns-clause-writes c is =
+    let me = c.args.self.now in
+    let d = arc_value me.domain in
+    let may = c.requires.may in
+    let l = c.args.lock.index in
+    let idle = port.rests d me.writes me.pending me.cpu may.free c.stands.ensures in
+    port.way d.plan me.writes (calls_of me.cpu) (ledger_of me.cpu) l true idle may.kind may.holds is
+
+pub returns-clause-reads : goal.returns-clause-reads
+returns-clause-reads c is =
+    let me = c.args.self.now in
+    let d = arc_value me.domain in
+    let may = c.requires.may in
+    let l = c.args.lock.index in
+    let idle = port.rests d me.writes me.pending me.cpu may.free c.stands.ensures in
+    port.way d.plan me.writes (calls_of me.cpu) (ledger_of me.cpu) l false idle may.kind may.holds is

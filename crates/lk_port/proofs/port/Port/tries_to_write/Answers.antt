@@ -1,0 +1,27 @@
+use Rattle.std.proofs.Common.{set, true, subst}
+use Rattle.std.specs.Arc.{arc_value}
+use Rattle.lk_abs.specs.declared.holder.Manner.TheVariants as manner
+use Rattle.lk_rows.specs.declared.setup.Verb.TheVariants.{TryWrite}
+use Rattle.lk_domain.specs.Seats.{calls_of}
+use Rattle.lk_domain.specs.Waits.{Gains}
+use Rattle.lk_domain.specs.declared.domain.Domain.{Domain}
+use Rattle.lk_run.proofs.Steps.{still_of}
+use Rattle.lk_port.proofs.Ports as port
+use Rattle.lk_port.proofs.port.Port.tries_to_write.Goals as goal
+
+pub invariant_of-self : goal.invariant_of-self
+invariant_of-self c =
+    let me = c.args.self.now in
+    let d = arc_value me.domain in
+    let may = c.requires.may in
+    let l = c.args.lock.index in
+    let idle = port.rests d me.writes me.pending me.cpu may.free c.stands.ensures in
+    let new = c.try_write-has.new.cpu in
+    let gains : Gains d TryWrite l manner.Writes (calls_of me.cpu) me.cpu new =
+    subst (λ (e : Domain). Gains e TryWrite l manner.Writes (calls_of me.cpu) me.cpu new) c.deref-domain.ensures (c.try_write-has.ensures.taken c.if-has.true) in
+    record {
+      of = still_of d me.cpu new c.try_write-has.ensures.rest me.of;
+      stands = ∣ port.stands d (set me.writes l true) me.pending new may.free
+          (port.gained d l me.cpu new TryWrite manner.Writes me.writes (set me.writes l true) idle gains
+          (port.notes_rw d.plan l true me.writes idle.noted.long (port.low d l may.lock) may.kind)) ∣₁;
+    }

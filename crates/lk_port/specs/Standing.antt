@@ -1,0 +1,53 @@
+-- How a processor stands between two calls of its port.
+use Rattle.std.specs.Prelude.{◌≡◌, ℕ, ◌&&◌, not, Bool, true, false, List, [], ◌∷◌, length, Some, None, slice_index_or}
+use Rattle.lk_abs.specs.declared.holder.Manner.{Manner}
+use Rattle.lk_abs.specs.declared.holder.Manner.TheVariants as manner
+use Rattle.lk_abs.specs.declared.names.Kind.{Kind}
+use Rattle.lk_abs.specs.declared.names.Kind.TheVariants.{Spin, Rw}
+use Rattle.lk_domain.specs.Calls.{Hold, Calls, hold_in}
+use Rattle.lk_domain.specs.Ledgers.{Ledger}
+use Rattle.lk_domain.specs.Plans.{kind_at}
+use Rattle.lk_domain.specs.Seats.{calls_of, ledger_of}
+use Rattle.lk_domain.specs.declared.cpu.Cpu.{Cpu}
+use Rattle.lk_domain.specs.declared.domain.Domain.{Domain}
+use Rattle.lk_domain.specs.declared.plan.Plan.{Plan}
+use Rattle.lk_run.specs.Phases.{Start}
+use Rattle.lk_run.specs.Polled as locker
+use Rattle.lk_run.specs.PolledRead as reader
+use Rattle.lk_run.specs.PolledWrite as writer
+use Rattle.lk_port.specs.declared.pending.Pending.{Pending}
+use Rattle.lk_port.specs.declared.pending.Pending.TheVariants.{Free, Spins, Reads, Writes}
+
+-- no value is out with a hold
+abbrev pub are_home : List Hold → Bool
+are_home [] = true
+are_home (h ∷ hs) = not h.out && are_home hs
+
+-- how a lock of this kind is held, by whether it is held as a writer
+abbrev pub way_of : Kind → Bool → Manner
+way_of Spin b = manner.Spins
+way_of Rw false = manner.Reads
+way_of Rw true = manner.Writes
+
+-- each lock that is held, is held as the port has noted it
+pub record AreNoted (plan : Plan) (ws : List Bool) (hs : List Hold) : Type 0 where
+  pub long : length ws ≡ 32
+  pub each : (l : ℕ) (x : Manner × Bool) → hold_in hs l ≡ Some x
+      → x.0 ≡ way_of (kind_at plan l) (slice_index_or ws l false)
+
+-- it is in no call, neither the journal nor a value is out with it, and its holds are noted
+pub record IsIdle (plan : Plan) (ws : List Bool) (calls : Calls) (ledger : Ledger) : Type 0 where
+  pub frames : calls.frames ≡ []
+  pub out : ledger.out ≡ None
+  pub home : are_home calls.holds ≡ true
+  pub noted : AreNoted plan ws calls.holds
+
+-- it rests, or the call waits that began when it was idle
+abbrev pub Stands : Domain → List Bool → Pending → Cpu → Type 0
+Stands d ws Free cpu = IsIdle d.plan ws (calls_of cpu) (ledger_of cpu)
+Stands d ws (Spins w) cpu = (s : Start) × IsIdle d.plan ws s.calls s.ledger
+    × (kind_at d.plan w.lock.index ≡ Spin) × locker.Waits d w s cpu
+Stands d ws (Reads w) cpu = (s : Start) × IsIdle d.plan ws s.calls s.ledger
+    × (kind_at d.plan w.lock.index ≡ Rw) × reader.Waits d w s cpu
+Stands d ws (Writes w) cpu = (s : Start) × IsIdle d.plan ws s.calls s.ledger
+    × (kind_at d.plan w.lock.index ≡ Rw) × writer.Waits d w s cpu

@@ -1,0 +1,26 @@
+// What a port answers.
+
+/// What a port answers.
+#[derive(Clone, Copy, Debug, PartialEq, Eq)]
+pub enum Answer {
+    /// The processor holds the lock, or has freed it.
+    Done,
+    /// A call for the lock waits.
+    Waits,
+    /// The lock was not taken: somebody has it, or was faster.
+    Busy,
+    /// The domain has no such lock.
+    NoLock,
+    /// The lock is of the other kind.
+    WrongKind,
+    /// The processor holds the lock already.
+    Held,
+    /// The processor does not hold the lock.
+    NotHeld,
+    /// The processor holds the lock in the other manner: as its writer, or as a reader.
+    WrongManner,
+    /// A call of the processor waits. It has to end first.
+    Pending,
+    /// No call of the processor waits.
+    Idle,
+}

@@ -1,0 +1,130 @@
+// New ports.
+ghost use Rattle.std.specs.Prelude.{◌≡◌, ◌<◌, ◌≤◌, false, ℕ, length, IfOk};
+ghost use Rattle.std.specs.Arc.{arc_value};
+ghost use Rattle.lk_law.specs.Agree.{halts};
+ghost use Rattle.lk_domain.specs.Plans.{IsLawfulPlan};
+ghost use Rattle.lk_domain.specs.Seats.{IsDealt};
+
+use crate::pending::Pending;
+use crate::port::Port;
+use lk_abs::{Format, Kind, List, Memory, Mode, Topology};
+use lk_domain::{Cpu, Domain, Plan};
+use std::alloc::Global;
+use std::sync::Arc;
+
+/// The families whose waiters do not halt.
+#[derive(Clone, Copy, Debug, PartialEq, Eq)]
+pub enum Family {
+    /// Test and set.
+    Virt,
+    /// Queued.
+    Native,
+    /// Queued, and handed to a waiter on the same socket first.
+    Cna,
+}
+
+/// Why no ports were opened.
+#[derive(Clone, Copy, Debug, PartialEq, Eq)]
+pub enum Fault {
+    /// There are to be 1 to 64 processors and 1 to 32 locks.
+    Range,
+    /// There is not enough memory.
+    Memory,
+}
+
+impl Family {
+    // The mode of its domains.
+    fn mode(self) -> Mode
+        ensures { halts result ≡ false }
+    {
+        match self {
+            Family::Virt => Mode::Virt,
+            Family::Native => Mode::Native,
+            Family::Cna => Mode::Cna,
+        }
+    }
+}
+
+// The port of a new processor.
+fn port(domain: &Arc<Domain, Global>, cpu: Cpu) -> Result<Port, Fault>
+    requires { (i : ℕ) × IsDealt (arc_value domain.now) i cpu }
+{
+    let Ok(domain) = Arc::try_clone(domain) else {
+        return Err(Fault::Memory);
+    };
+    Ok(Port {
+        domain,
+        cpu,
+        pending: Pending::Free,
+        writes: [false; 32],
+    })
+}
+
+// The ports of a domain of this plan.
+fn open_plan(alloc: Global, plan: &Plan) -> Result<Vec<Port>, Fault>
+    requires { IsLawfulPlan plan.now }
+{
+    let Ok((domain, mut cpus)) = Domain::new(alloc, plan) else {
+        return Err(Fault::Memory);
+    };
+    let Ok(domain) = Arc::new(alloc, domain) else {
+        return Err(Fault::Memory);
+    };
+    let mut ports = Vec::new(alloc);
+    while cpus.len() > 0 {
+        let port = port(&domain, cpus.pop())?;
+        if ports.push(port).is_err() {
+            return Err(Fault::Memory);
+        }
+    }
+    Ok(ports)
+}
+
+// A plan without a ledger.
+fn plan_of(
+    alloc: Global,
+    mode: Mode,
+    locks: List<Kind>,
+    sockets: List<u32>,
+    threshold: u32,
+) -> Result<Plan, Memory>
+    requires awake { halts mode ≡ false }
+    requires cpus { (0 < length sockets.items) × (length sockets.items ≤ 64) }
+    requires locks { (0 < length locks.items) × (length locks.items ≤ 32) }
+    ensures { IfOk result IsLawfulPlan }
+{
+    let count = sockets.len();
+    Ok(Plan {
+        format: Format::One,
+        mode,
+        topology: Topology { sockets },
+        threshold,
+        locks,
+        balances: List::new(alloc, 0)?,
+        shares: List::filled(alloc, 0, count)?,
+        cells: None,
+    })
+}
+
+/// The ports of a new domain, the last one first: one for each socket of the list.
+///
+/// # Errors
+///
+/// Too many locks or processors or none, or not enough memory.
+pub fn open(
+    alloc: Global,
+    family: Family,
+    locks: List<Kind>,
+    sockets: List<u32>,
+    threshold: u32,
+) -> Result<Vec<Port>, Fault> {
+    let cpus = sockets.len();
+    let count = locks.len();
+    if cpus < 1 || 64 < cpus || count < 1 || 32 < count {
+        return Err(Fault::Range);
+    }
+    let Ok(plan) = plan_of(alloc, family.mode(), locks, sockets, threshold) else {
+        return Err(Fault::Memory);
+    };
+    open_plan(alloc, &plan)
+}

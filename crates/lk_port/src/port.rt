@@ -1,0 +1,36 @@
+// A processor with its domain.
+ghost use Rattle.std.specs.Prelude.{◌≡◌};
+ghost use Rattle.std.specs.Arc.{arc_value};
+ghost use Rattle.lk_domain.specs.Seats.{IsOf};
+ghost use Rattle.lk_port.specs.Standing.{Stands};
+
+use crate::pending::Pending;
+use lk_domain::{Cpu, Domain};
+use std::alloc::Global;
+use std::sync::Arc;
+
+/// The right to step of a processor, and a share of its domain.
+#[derive(Drop)]
+pub struct Port {
+    pub(crate) domain: Arc<Domain, Global>,
+    pub(crate) cpu: Cpu,
+    pub(crate) pending: Pending,
+    // of each lock that it holds, whether it holds it as a writer
+    pub(crate) writes: [bool; 32],
+    ghost of: { IsOf cpu (arc_value domain) },
+    ghost stands: { ∥ Stands (arc_value domain) writes pending cpu ∥₁ },
+}
+
+impl Port {
+    // How it stands. A field keeps that as a fact alone, and this takes it out again.
+    pub(crate) fn stands(&self)
+        ensures { Stands (arc_value self.now.domain) self.now.writes self.now.pending self.now.cpu }
+    {}
+
+    /// Its number, counted from 0.
+    pub fn number(&self) -> u32
+        ensures { result ≡ self.now.cpu.number }
+    {
+        self.cpu.number()
+    }
+}

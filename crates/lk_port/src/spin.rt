@@ -1,0 +1,111 @@
+// The calls on a spinlock.
+ghost use Rattle.std.specs.Prelude.{◌≡◌, ◌≢◌, None, Some, true, false};
+ghost use Rattle.lk_abs.specs.declared.holder.Manner.TheVariants.{Spins};
+ghost use Rattle.lk_abs.specs.declared.names.Kind.TheVariants.{Spin};
+ghost use Rattle.lk_rows.specs.declared.setup.Verb.TheVariants.{Try};
+ghost use Rattle.lk_port.specs.Asking.{MayCall, Refuses};
+ghost use Rattle.lk_port.specs.Ports.{HasTried, HasMissed, HasLocked, HasUnlocked};
+ghost use Rattle.lk_port.specs.declared.answer.Answer.TheVariants.{Done, Busy, Waits};
+
+use crate::answer::Answer;
+use crate::pending::Pending;
+use crate::port::Port;
+use lk_abs::Kind;
+use lk_domain::{Domain, LockId};
+
+impl Port {
+    /// Takes a spinlock if it is free and nobody waits for it. It never waits.
+    pub fn try_lock(&mut self, lock: LockId) -> Answer
+        ensures domain { self.new.domain ≡ self.old.domain }
+        ensures taken { result ≡ Done → HasTried Try Spins lock.index self.old self.new }
+        ensures missed { result ≡ Busy → HasMissed Try lock.index self.old self.new }
+        ensures same { result ≢ Done → result ≢ Busy → self.new ≡ self.old }
+        ensures why { result ≢ Done → result ≢ Busy → Refuses self.old Spin lock.index result }
+    {
+        match self.refuses(lock, Kind::Spin, false) {
+            Some(answer) => answer,
+            None => {
+                if self.tries(lock) {
+                    Answer::Done
+                } else {
+                    Answer::Busy
+                }
+            }
+        }
+    }
+
+    // True: it has it.
+    fn tries(&mut self, lock: LockId) -> bool
+        requires may { MayCall self.old Spin lock.index false }
+        ensures domain { self.new.domain ≡ self.old.domain }
+        ensures taken { result ≡ true → HasTried Try Spins lock.index self.old self.new }
+        ensures missed { result ≡ false → HasMissed Try lock.index self.old self.new }
+    {
+        self.stands();
+        let domain: &Domain = &self.domain;
+        lk_run::try_lock(&mut self.cpu, domain, lock)
+    }
+
+    /// Begins to acquire a spinlock. `Done` says that the processor holds it, `Waits` that the caller
+    /// is to poll until it does. It never waits.
+    pub fn begin(&mut self, lock: LockId) -> Answer
+        ensures domain { self.new.domain ≡ self.old.domain }
+        ensures taken { result ≡ Done → HasLocked lock.index self.old self.new }
+        ensures same { result ≢ Done → result ≢ Waits → self.new ≡ self.old }
+        ensures why { result ≢ Done → result ≢ Waits → Refuses self.old Spin lock.index result }
+    {
+        match self.refuses(lock, Kind::Spin, false) {
+            Some(answer) => answer,
+            None => {
+                if self.begins(lock) {
+                    Answer::Done
+                } else {
+                    Answer::Waits
+                }
+            }
+        }
+    }
+
+    // True: it has it. False: the call waits.
+    fn begins(&mut self, lock: LockId) -> bool
+        requires may { MayCall self.old Spin lock.index false }
+        ensures domain { self.new.domain ≡ self.old.domain }
+        ensures taken { result ≡ true → HasLocked lock.index self.old self.new }
+    {
+        self.stands();
+        let domain: &Domain = &self.domain;
+        match lk_run::begin(&mut self.cpu, domain, lock) {
+            None => true,
+            Some(waiter) => {
+                self.pending = Pending::Spins(waiter);
+                false
+            }
+        }
+    }
+
+    /// Frees a spinlock that the processor holds.
+    pub fn unlock(&mut self, lock: LockId) -> Answer
+        ensures domain { self.new.domain ≡ self.old.domain }
+        ensures freed { result ≡ Done → HasUnlocked lock.index self.old self.new }
+        ensures same { result ≢ Done → self.new ≡ self.old }
+        ensures why { result ≢ Done → Refuses self.old Spin lock.index result }
+    {
+        match self.refuses(lock, Kind::Spin, true) {
+            Some(answer) => answer,
+            None => {
+                self.frees(lock);
+                Answer::Done
+            }
+        }
+    }
+
+    fn frees(&mut self, lock: LockId)
+        requires may { MayCall self.old Spin lock.index true }
+        ensures domain { self.new.domain ≡ self.old.domain }
+        ensures freed { HasUnlocked lock.index self.old self.new }
+    {
+        self.stands();
+        let domain: &Domain = &self.domain;
+        lk_run::unlock(&mut self.cpu, domain, lock);
+    }
+}
