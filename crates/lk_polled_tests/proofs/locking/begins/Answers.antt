@@ -1,0 +1,10 @@
+use Rattle.std.proofs.Common.{None, false}
+use Rattle.lk_run.proofs.Steps.{still_of}
+use Rattle.lk_run.specs.Phases.{starting}
+use Rattle.lk_polled_tests.proofs.locking.begins.Goals as goal
+
+-- it stands in the call that began where the processor was
+pub returns : goal.returns
+returns c w is =
+    let still = still_of c.args.domain.now c.args.cpu.now c.begin.new.cpu c.begin.ensures.rest c.requires.domain_is in
+    (still, starting c.args.cpu.now false None, c.begin.ensures.waits w is false)

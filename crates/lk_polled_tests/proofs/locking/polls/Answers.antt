@@ -1,0 +1,9 @@
+use Rattle.lk_run.proofs.Steps.{still_of}
+use Rattle.lk_polled_tests.proofs.locking.polls.Goals as goal
+
+-- and in the same call after a turn
+pub returns : goal.returns
+returns c w is =
+    let had = c.requires in
+    let still = still_of c.args.domain.now c.args.cpu.now c.poll.new.cpu c.poll.ensures.rest had.0 in
+    (still, had.1, c.poll.ensures.waits w is had.1 had.2)
