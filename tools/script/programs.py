@@ -127,18 +127,18 @@ def ended(words):
             raise
 
 
-def compile_unproved(crate):
+def compile_unproved(crate, path=None, *how):
     """Compiles a program without proofs, and keeps it."""
     if IS_INSTALLED:
         raise Failed(f"{proved_path(crate)} is not there; ./qlock --install puts it there")
     need_rt("a program has to be compiled")
     say(f"compiling {crate} without proofs: half a minute to two minutes, and longer on a busy machine; it is kept")
-    path = unproved_path(crate)
+    path = path or unproved_path(crate)
     path.parent.mkdir(exist_ok=True)
     mark_of(path).unlink(missing_ok=True)
-    made, told = path.with_name(f"unproved.{os.getpid()}"), checksum(crate, CODE)
+    made, told = path.with_name(f"{path.name}.{os.getpid()}"), checksum(crate, CODE)
     try:
-        if ended([TOP / "tools" / "unproved", "--of", crate, made]):
+        if ended([TOP / "tools" / "unproved", "--of", crate, *how, made]):
             raise Failed(f"{crate} could not be compiled")
         made.rename(path)
         mark_of(path).write_text(told + "\n")
