@@ -55,7 +55,7 @@ def labels(sources, text):
 def shown(sources, path):
     """A block of code that names its file stands there, line by line; `..` stands for lines that are left out."""
     for file, block in SHOWN.findall((sources.top / path).read_text()):
-        lines = [line.strip() for line in sources.text.get(file, "").splitlines()]
+        lines = [line.strip() for line in sources.lines_of(file)]
         for piece in re.split(r"^\s*\.\.\n", block, flags=re.M):
             wanted = [line.strip() for line in piece.splitlines()]
             if not any(lines[at : at + len(wanted)] == wanted for at in range(len(lines))):

@@ -13,6 +13,8 @@ FUNCTION = re.compile(r"\bfn\s+(\w+)")
 RECORD = re.compile(r"^(?:pub )?record (\w+)", re.M)
 ROWS = re.compile(r"pub enum Pc \{(.*?)^\}", re.M | re.S)
 ROW = re.compile(r"^\s+(\w+),", re.M)
+HEADERS = "library/include/"
+COMMENT = re.compile(r"/\*.*?\*/", re.S)
 
 
 class Sources:
@@ -23,7 +25,7 @@ class Sources:
         self.crates = re.findall(r"^(\w+)[^:#]*:", (top / "crates.txt").read_text(), re.M)
         self.text = {path: (top / path).read_text() for path in self.files if path.endswith((".rt", ".antt"))}
         self.names = {path: set(names_in(path, text)) for path, text in self.text.items()}
-        self.declared = {name for names in self.names.values() for name in names}
+        self.declared = {name for names in self.names.values() for name in names} | self.of_headers()
         self.clauses = defaultdict(set)
         for path, text in self.text.items():
             for owner, clauses in clauses_in(path, text):
@@ -32,6 +34,15 @@ class Sources:
 
     def documents(self):
         return [path for path in self.files if path.endswith(".md")]
+
+    def of_headers(self):
+        """The words of the library's headers."""
+        headers = [(self.top / path).read_text() for path in self.files if path.startswith(HEADERS)]
+        return {word for text in headers for word in re.findall(r"\w+", COMMENT.sub("", text))}
+
+    def lines_of(self, file):
+        """Those of a file of the repository, or none."""
+        return (self.top / file).read_text().splitlines() if file in self.files else []
 
     def declared_in(self, crate):
         inside = f"crates/{crate}/"
