@@ -243,7 +243,8 @@ class Build:
 
     def keep_program(self, lane, crate):
         """The program of a lane becomes that of the sources, if these are still the same."""
-        made, path = lane.top / "crates" / crate / "out" / crate, proved_path(crate)
+        path = proved_path(crate)
+        made = lane.top / "crates" / crate / "out" / path.name
         if self.is_same(crate):
             path.parent.mkdir(exist_ok=True)
             if made != path:

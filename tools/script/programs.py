@@ -14,6 +14,7 @@ import sys
 from pathlib import Path
 
 from script import running
+from script.table import LIBRARY
 
 TOP = Path(__file__).resolve().parent.parent.parent
 CRATES = TOP / "crates"
@@ -87,7 +88,8 @@ def checksum(crate, endings):
 
 
 def proved_path(crate):
-    return INSTALLED / crate if IS_INSTALLED else CRATES / crate / "out" / crate
+    name = f"lib{crate}.a" if crate == LIBRARY else crate
+    return INSTALLED / name if IS_INSTALLED else CRATES / crate / "out" / name
 
 
 def unproved_path(crate):
@@ -101,7 +103,7 @@ def mark_of(path):
 def fits(path, crate, endings):
     """Whether a program is there, and is built of the sources as they are."""
     try:
-        return os.access(path, os.X_OK) and mark_of(path).read_text().strip() == checksum(crate, endings)
+        return os.access(path, os.R_OK if path.suffix == ".a" else os.X_OK) and mark_of(path).read_text().strip() == checksum(crate, endings)
     except OSError:
         return False
 

@@ -164,6 +164,8 @@ OWN = ("replay", "audit", "ledger", "osq", "gen", "load")
 BY_WORD = {command.word: command for command in COMMANDS}
 # The crates whose programs are built and installed.
 PROGRAMS = tuple(dict.fromkeys(crate for command in COMMANDS for crate in command.proved))
+# The crate that is the library for C, which is installed beside them.
+LIBRARY = "qlock_c"
 
 OPTIONS = (
     (
@@ -184,8 +186,8 @@ OPTIONS = (
     ),
     (
         "--install DIR",
-        "Copies the proved programs, this script and what it reads below DIR: DIR/bin/qlock has all commands but build. Builds "
-        "first where it has to.",
+        "Copies the proved programs, this script and what it reads below DIR: DIR/bin/qlock has all commands but build. Beside them "
+        "comes the library for C, with its header, for pkg-config and man. Builds first where it has to.",
         "--install ~/.local",
     ),
     ("--help, help [COMMAND]", "Writes this page, or that of a command; so does COMMAND --help.", "help find"),

@@ -1,0 +1,48 @@
+//! The locks of `lk_run` for C. `include/qlock.h` of the library declares these functions, and says
+//! what a caller owes.
+#![tactic(auto)]
+
+mod codes;
+mod handle;
+mod looks;
+mod opening;
+mod processor;
+mod read;
+mod spin;
+mod write;
+
+use codes::CLOSED;
+use opening::open_all;
+use processor::{Processor, put, take};
+use std::alloc::Global;
+
+/// Makes a domain with a lock for each kind and a processor for each socket, and puts the processors
+/// into the handles, which must be empty. The family is 0 for `virt`, 1 for `native`, 2 for `cna`; 3,
+/// `pv`, is refused by a code of its own. A kind is 0 for a spinlock and 1 for a reader-writer lock.
+#[unsafe(no_mangle)]
+pub extern "C" fn qlock_open(
+    alloc: Global,
+    family: u32,
+    kinds: &[u8],
+    sockets: &[u32],
+    threshold: u32,
+    cpus: &mut [Processor],
+) -> u32 {
+    open_all(alloc, family, kinds, sockets, threshold, cpus)
+}
+
+/// Gives a processor up. The domain ends with its last processor.
+#[unsafe(no_mangle)]
+pub extern "C" fn qlock_close(alloc: Global, cpu: &mut Processor) -> u32 {
+    match take(alloc, cpu) {
+        None => CLOSED,
+        Some(port) => {
+            if port.is_idle() {
+                drop(port);
+                return 0;
+            }
+            put(cpu, port);
+            codes::IN_USE
+        }
+    }
+}

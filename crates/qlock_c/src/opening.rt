@@ -1,0 +1,111 @@
+// New processors.
+use crate::codes::{IN_USE, MEMORY, NO_FAMILY, RANGE, fault_code};
+use crate::processor::{Processor, put, take};
+use lk_abs::{Kind, List, Memory};
+use lk_port::{Family, Port, open};
+use std::alloc::Global;
+
+// The paravirtual family.
+const PV: u32 = 3;
+
+// The family of a number.
+fn family_of(family: u32) -> Option<Family> {
+    match family {
+        0 => Some(Family::Virt),
+        1 => Some(Family::Native),
+        2 => Some(Family::Cna),
+        _ => None,
+    }
+}
+
+// The kinds of the locks.
+fn kinds_of(alloc: Global, kinds: &[u8]) -> Result<List<Kind>, Memory> {
+    let mut all = List::filled(alloc, Kind::Spin, kinds.len())?;
+    for i in 0..kinds.len() {
+        if kinds[i] == 1 && i < all.len() {
+            *all.get_mut(i) = Kind::Rw;
+        }
+    }
+    Ok(all)
+}
+
+// Whether all numbers are those of kinds.
+fn are_kinds(kinds: &[u8]) -> bool {
+    for i in 0..kinds.len() {
+        if kinds[i] > 1 {
+            return false;
+        }
+    }
+    true
+}
+
+// Whether no handle is in use.
+fn are_empty(cpus: &[Processor]) -> bool {
+    for i in 0..cpus.len() {
+        if cpus[i].used {
+            return false;
+        }
+    }
+    true
+}
+
+// Empties the handles again.
+fn empty_all(alloc: Global, cpus: &mut [Processor]) {
+    for i in 0..cpus.len() {
+        if let Some(port) = take(alloc, &mut cpus[i]) {
+            drop(port);
+        }
+    }
+}
+
+// Puts the ports into the handles, the last one first. False: there is not enough memory.
+fn put_all(alloc: Global, mut ports: Vec<Port>, cpus: &mut [Processor]) -> bool {
+    for i in 0..cpus.len() {
+        let Some(port) = ports.pop() else {
+            return false;
+        };
+        let Ok(port) = Box::new(alloc, port) else {
+            return false;
+        };
+        put(&mut cpus[i], port);
+    }
+    true
+}
+
+// A new domain, whose processors are put into the handles.
+pub(crate) fn open_all(
+    alloc: Global,
+    family: u32,
+    kinds: &[u8],
+    sockets: &[u32],
+    threshold: u32,
+    cpus: &mut [Processor],
+) -> u32 {
+    if family == PV {
+        return NO_FAMILY;
+    }
+    let Some(family) = family_of(family) else {
+        return RANGE;
+    };
+    if sockets.len() > 64 || kinds.len() > 32 || cpus.len() != sockets.len() || !are_kinds(kinds) {
+        return RANGE;
+    }
+    if !are_empty(cpus) {
+        return IN_USE;
+    }
+    let Ok(locks) = kinds_of(alloc, kinds) else {
+        return MEMORY;
+    };
+    let Ok(sockets) = List::from_slice(alloc, sockets) else {
+        return MEMORY;
+    };
+    let ports = match open(alloc, family, locks, sockets, threshold) {
+        Ok(ports) => ports,
+        Err(fault) => return fault_code(fault),
+    };
+    if put_all(alloc, ports, cpus) {
+        return 0;
+    }
+    empty_all(alloc, cpus);
+    MEMORY
+}
