@@ -1,0 +1,120 @@
+"""The sources of the running locks as they are running_locks: a copy, in which each row says its name and each operation goes through a gate.
+
+`lk_run` gets one line a row, and nothing else: the first line of the function whose comment says `the row R`. In `lk_domain` the
+operations of locks and nodes go through `gate.rt`, and a processor keeps what the gate needs. The driver is a crate of its own."""
+import re
+import shutil
+import subprocess
+import sys
+from pathlib import Path
+
+HERE = Path(__file__).resolve().parent
+TOP = HERE.parent.parent
+BELOW = "lk_abs lk_word lk_text lk_rows lk_law lk_values lk_cell lk_forms lk_domain lk_run"
+
+# A comment of a function that is a row, up to the function's body, and the one row whose function has no such comment.
+COMMENT = re.compile(r"((?:^ *//.*\n)+)((?: *#\[.*\]\n)*)((?: *(?:pub(?:\(crate\))? )?fn (\w+)(?s:.*?)\n)( *)\{\n)", re.M)
+NAMED = re.compile(r"\b[Tt]he\s+(?://+\s+)?row\s+(?://+\s+)?([A-Z][a-z]?\d+)\b")
+UNNAMED = {("spin.rt", "unlock"): "U1"}
+
+# What an operation is to its row, by the rule under which it is made.
+HOW = {"Resets": "Before", "RunsLooks": "Before", "Exchanges": "Joins", "Entries": "Enters", "TailLooks": "Names"}
+OPERATION = re.compile(r"(\bdomain\s*\.table\s*\.shared|\btable\s*\.shared|\bshared)\s*\.(\w+)::<(\w+)(?:<\w+>)?>\(\s*seat,")
+SHARED = re.compile(r"let shared = &((?:domain\.)?table)\.shared;")
+IN_DOMAIN = (
+    ("cpu.rt", "    pub(crate) notes: Notes,\n", "    pub(crate) notes: Notes,\n    pub(crate) row: &'static str,\n    pub(crate) made: &'static str,\n"
+     "    pub(crate) shot: Option<Notes>,\n    pub(crate) below: u32,\n    pub(crate) wrong: u32,\n"),
+    ("cpu.rt", "        self.notes.depth\n", "        self.notes.depth + self.below\n"),
+    ("notes.rt", "#[derive(Drop)]\npub(crate) struct Notes", "#[derive(Clone, Copy)]\npub(crate) struct Notes"),
+    ("making.rt", "            notes: Notes::new(),\n", "            notes: Notes::new(),\n            row: \"\",\n            made: \"\",\n            shot: None,\n            below: 0,\n            wrong: 0,\n"),
+    ("making.rt", "first + 64 + 32 * plan.topology.sockets.len()", "first + 64 + 32 * plan.topology.sockets.len() + crate::gate::GATE"),
+    ("lib.rt", "mod domain;\n", "mod domain;\npub mod gate;\n"),
+)
+
+
+def changed(path, old, new):
+    text = path.read_text()
+    if text.count(old) != 1:
+        sys.exit(f"running_locks: {path.name} has {text.count(old)} times what is to be changed, and not once:\n{old}")
+    path.write_text(text.replace(old, new))
+
+
+def name_rows(folder):
+    """Each row says its name. The names, by the file and the function."""
+    names = {}
+
+    def named(found):
+        comment, marks, function, name, indent = found.groups()
+        row = UNNAMED.get((path.name, name)) or (NAMED.search(comment) or [None, None])[1]
+        if row is None:
+            return found[0]
+        names[path.name, name, row] = row
+        return f'{comment}{marks}{function}{indent}    cpu.at("{row}");\n'
+
+    for path in sorted(folder.glob("*.rt")):
+        path.write_text(COMMENT.sub(named, path.read_text()))
+    return names
+
+
+def gate_operations(folder):
+    """Each operation on a word goes through the gate. How many there are."""
+    count = 0
+
+    def gated(found):
+        words = "shared" if found[1] == "shared" else "&domain.table" if found[1].startswith("domain") else "table"
+        return f"crate::gate::at({words}, crate::gate::How::{HOW.get(found[3], 'Row')}).{found[2]}(seat,"
+
+    for name in ("moves.rt", "node_moves.rt", "rw_moves.rt"):
+        path = folder / "locks" / name
+        text, times = OPERATION.subn(gated, path.read_text())
+        path.write_text(SHARED.sub(r"let shared = &\1;", text))
+        count += times
+    for path in (folder / "locks").glob("*.rt"):
+        path.write_text(path.read_text().replace("&mut cpu.seat", "cpu.at_row(domain)"))
+    return count
+
+
+def forget_gate(path):
+    """A pattern of a processor names no field of the gate."""
+    path.write_text(re.sub(r"(let Cpu \{(?:\s*\w+: _,)*\s*seat,)(\s*\})", r"\1 ..\2", path.read_text()))
+
+
+def make_tree(tree, mistakes=()):
+    """The copy, in a folder, with these mistakes, of which the driver makes the one whose number it is given."""
+    (tree / "crates").mkdir(parents=True)
+    for crate in BELOW.split():
+        shutil.copytree(TOP / "crates" / crate, tree / "crates" / crate, ignore=shutil.ignore_patterns("out", "edits", "must-fail"))
+    shutil.copytree(TOP / "tools", tree / "tools", ignore=shutil.ignore_patterns("__pycache__"))
+    for name in ("HANDLES",):
+        shutil.copy(TOP / name, tree / name)
+    lines = [line for line in (TOP / "crates.txt").read_text().splitlines() if line.split(":")[0] in BELOW.split()]
+    (tree / "crates.txt").write_text("\n".join([*lines, f"lk_driver: {BELOW}"]) + "\n")
+    driver = tree / "crates/lk_driver"
+    for folder in ("specs", "proofs"):
+        (driver / folder).mkdir(parents=True)
+        (driver / folder / "Lib.antt").write_text("")
+    shutil.copytree(HERE / "driver", driver / "src")
+    shutil.copy(TOP / "crates/lk_steps/src/text.rt", driver / "src/text.rt")
+    domain = tree / "crates/lk_domain/src"
+    shutil.copy(HERE / "gate.rt", domain / "gate.rt")
+    for name, old, new in IN_DOMAIN:
+        changed(domain / name, old, new)
+    forget_gate(domain / "ending.rt")
+    for mistake in mistakes:
+        changed(tree / "crates/lk_run/src" / mistake.file, mistake.right, mistake.wrong)
+    return name_rows(tree / "crates/lk_run/src"), gate_operations(domain)
+
+
+def compile_tree(tree, file):
+    """Compiles the driver, not proved, and keeps it as the file."""
+    run = subprocess.run([tree / "tools/unproved", "--of", "lk_driver", file], stdin=subprocess.DEVNULL)
+    if run.returncode:
+        sys.exit(f"running_locks: the driver was not made; its sources are in {tree}")
+
+
+def compile_steps(file):
+    """Compiles the program behind `./qlock steps`, as it stands, and gives its file."""
+    run = subprocess.run([TOP / "tools/unproved", "--steps", file], stdin=subprocess.DEVNULL)
+    if run.returncode:
+        sys.exit("running_locks: the program behind ./qlock steps was not made")
+    return file
