@@ -1,7 +1,7 @@
-"""The sources of the running locks as they are running_locks: a copy, in which each row says its name and each operation goes through a gate.
+"""The sources of the running locks as they are driven: a copy, in which each row says its name and each operation goes through a gate.
 
 `lk_run` gets one line a row, and nothing else: the first line of the function whose comment says `the row R`. In `lk_domain` the
-operations of locks and nodes go through `gate.rt`, and a processor keeps what the gate needs. The driver is a crate of its own."""
+operations of locks and nodes go through `gate.rt.in`, and a processor keeps what the gate needs. The driver is a crate of its own."""
 import re
 import shutil
 import subprocess
@@ -93,10 +93,12 @@ def make_tree(tree, mistakes=()):
     for folder in ("specs", "proofs"):
         (driver / folder).mkdir(parents=True)
         (driver / folder / "Lib.antt").write_text("")
-    shutil.copytree(HERE / "driver", driver / "src")
+    (driver / "src").mkdir()
+    for source in (HERE / "driver").glob("*.rt.in"):
+        shutil.copy(source, driver / "src" / source.stem)
     shutil.copy(TOP / "crates/lk_steps/src/text.rt", driver / "src/text.rt")
     domain = tree / "crates/lk_domain/src"
-    shutil.copy(HERE / "gate.rt", domain / "gate.rt")
+    shutil.copy(HERE / "gate.rt.in", domain / "gate.rt")
     for name, old, new in IN_DOMAIN:
         changed(domain / name, old, new)
     forget_gate(domain / "ending.rt")
