@@ -100,7 +100,7 @@ static const struct { const char *name; void *(*runs)(void *); int family; } loc
 static int opens(int family, long threads) {
     static qlock_cpu made[MOST];
     const uint8_t kinds[1] = {QLOCK_SPIN};
-    uint32_t sockets[MOST];
+    uint32_t sockets[MOST] = {0};
     for (long i = 0; i < threads; i++) {
         sockets[i] = i % 2;
     }
