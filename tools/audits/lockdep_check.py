@@ -10,6 +10,7 @@ import importlib.machinery
 import importlib.util
 import io
 import random
+import re
 import sys
 import tempfile
 import time
@@ -50,6 +51,8 @@ RELEASED = LAWFUL + "0 101 d..2. 20 acquire cc console\n0 101 d..2. 21 acquired 
 OVERRIDE = LAWFUL + "".join(f"{cpu} {pid} d..2. {at} acquire dd try sched_map-wait-type-override\n" for cpu, pid, at in ((0, 101, 20), (1, 102, 21)))
 FOLDED = LAWFUL + "".join(f"0 101 d..2. {20 + at} {verb}\n" for at, verb in enumerate(["acquire bb try read tasklist_lock"] * 2 + ["release bb tasklist_lock"] * 2))
 MANY = LAWFUL + "".join(f"0 101 d..2. {20 + 2 * lock} acquire {lock + 256:x} try many\n0 101 d..2. {21 + 2 * lock} release {lock + 256:x} many\n" for lock in range(40))
+# The same with other numbers: those of a processor's time stamps, half a microsecond apart, and ticks.
+STAMPS, TICKS = (re.sub(r"(?m)^(\S+ \S+ \S+ )(\d+)", lambda found: found[1] + str(number(int(found[2]))), LAWFUL) for number in (lambda at: at * 1500, lambda at: at // 4))
 FULL = WHOLE.replace("dropped events: 0", "dropped events: 7")
 # Its name, the events, what the statistics say of processor 0, the status, and what is said.
 CASES = (
@@ -63,6 +66,8 @@ CASES = (
     ("a full buffer", LAWFUL, FULL, 0, "left out: 7 events behind the end of a full buffer"),
     ("seconds", LAWFUL.replace(" 5 ", " 0.5 "), WHOLE, 3, "the time 0.5 is no counter"),
     ("a time stamp counter", LAWFUL.replace(" 11 ", " 987654321 "), WHOLE, 3, "this is a clock of time"),
+    ("time stamps of a busy machine", STAMPS, WHOLE, 3, "the numbers of 11 events span 15000: this is a clock of time, and no counter"),
+    ("ticks", TICKS, WHOLE, 3, "8 of 11 events have the number of another: this is a clock of time, and no counter"),
     ("an overrun", LAWFUL, WHOLE.replace("overrun: 0\nc", "overrun: 3\nc"), 3, "processor 0 has lost 3 events (overrun)"),
     ("a commit overrun", LAWFUL, WHOLE.replace("commit overrun: 0", "commit overrun: 2"), 3, "processor 0 has lost 2 events (commit overrun)"),
     ("read in part", LAWFUL, WHOLE.replace("read events: 0", "read events: 1"), 3, "processor 0 has 4 events by its statistics, and 3 were read"),
