@@ -1,3 +1,4 @@
 pub mod Standing
 pub mod Asking
 pub mod Ports
+pub mod Opened

@@ -2,8 +2,10 @@
 ghost use Rattle.std.specs.Prelude.{◌≡◌, ◌<◌, ◌≤◌, false, ℕ, length, IfOk};
 ghost use Rattle.std.specs.Arc.{arc_value};
 ghost use Rattle.lk_law.specs.Agree.{halts};
-ghost use Rattle.lk_domain.specs.Plans.{IsLawfulPlan};
+ghost use Rattle.lk_domain.specs.Plans.{IsLawfulPlan, cpus_of};
 ghost use Rattle.lk_domain.specs.Seats.{IsDealt};
+ghost use Rattle.lk_port.specs.Asking.{cpu_in, domain_in};
+ghost use Rattle.lk_port.specs.Opened.{mode_of, AreOpened, ArePortsOf, HasPlan, IsPlanFor};
 
 use crate::pending::Pending;
 use crate::port::Port;
@@ -35,7 +37,8 @@ pub enum Fault {
 impl Family {
     // The mode of its domains.
     fn mode(self) -> Mode
-        ensures { halts result ≡ false }
+        ensures mode { result ≡ mode_of self }
+        ensures awake { halts result ≡ false }
     {
         match self {
             Family::Virt => Mode::Virt,
@@ -48,6 +51,8 @@ impl Family {
 // The port of a new processor.
 fn port(domain: &Arc<Domain, Global>, cpu: Cpu) -> Result<Port, Fault>
     requires { (i : ℕ) × IsDealt (arc_value domain.now) i cpu }
+    ensures domain { IfOk result (λ port. domain_in port ≡ arc_value domain.now) }
+    ensures cpu { IfOk result (λ port. (cpu_in port).number ≡ cpu.number) }
 {
     let Ok(domain) = Arc::try_clone(domain) else {
         return Err(Fault::Memory);
@@ -63,6 +68,8 @@ fn port(domain: &Arc<Domain, Global>, cpu: Cpu) -> Result<Port, Fault>
 // The ports of a domain of this plan.
 fn open_plan(alloc: Global, plan: &Plan) -> Result<Vec<Port>, Fault>
     requires { IsLawfulPlan plan.now }
+    ensures many { IfOk result (λ ports. length ports.items ≡ cpus_of plan.now) }
+    ensures each { IfOk result (λ ports. HasPlan plan.now (cpus_of plan.now) ports.items) }
 {
     let Ok((domain, mut cpus)) = Domain::new(alloc, plan) else {
         return Err(Fault::Memory);
@@ -73,9 +80,9 @@ fn open_plan(alloc: Global, plan: &Plan) -> Result<Vec<Port>, Fault>
     let mut ports = Vec::new(alloc);
     while cpus.len() > 0 {
         let port = port(&domain, cpus.pop())?;
-        if ports.push(port).is_err() {
+        let Ok(()) = ports.push(port) else {
             return Err(Fault::Memory);
-        }
+        };
     }
     Ok(ports)
 }
@@ -91,7 +98,8 @@ fn plan_of(
     requires awake { halts mode ≡ false }
     requires cpus { (0 < length sockets.items) × (length sockets.items ≤ 64) }
     requires locks { (0 < length locks.items) × (length locks.items ≤ 32) }
-    ensures { IfOk result IsLawfulPlan }
+    ensures lawful { IfOk result IsLawfulPlan }
+    ensures plan { IfOk result (IsPlanFor mode locks.items sockets.items threshold) }
 {
     let count = sockets.len();
     Ok(Plan {
@@ -117,7 +125,10 @@ pub fn open(
     locks: List<Kind>,
     sockets: List<u32>,
     threshold: u32,
-) -> Result<Vec<Port>, Fault> {
+) -> Result<Vec<Port>, Fault>
+    ensures { IfOk result (λ ports. AreOpened (mode_of family) locks.items sockets.items threshold
+        ports.items) }
+{
     let cpus = sockets.len();
     let count = locks.len();
     if cpus < 1 || 64 < cpus || count < 1 || 32 < count {
