@@ -13,8 +13,8 @@ FUNCTION = re.compile(r"\bfn\s+(\w+)")
 RECORD = re.compile(r"^(?:pub )?record (\w+)", re.M)
 ROWS = re.compile(r"pub enum Pc \{(.*?)^\}", re.M | re.S)
 ROW = re.compile(r"^\s+(\w+),", re.M)
-HEADERS = "library/include/"
-COMMENT = re.compile(r"/\*.*?\*/", re.S)
+LIBRARY = ("library/include/", "library/rust/src/")
+COMMENT = re.compile(r"/\*.*?\*/|//[^\n]*", re.S)
 
 
 class Sources:
@@ -25,7 +25,7 @@ class Sources:
         self.crates = re.findall(r"^(\w+)[^:#]*:", (top / "crates.txt").read_text(), re.M)
         self.text = {path: (top / path).read_text() for path in self.files if path.endswith((".rt", ".antt"))}
         self.names = {path: set(names_in(path, text)) for path, text in self.text.items()}
-        self.declared = {name for names in self.names.values() for name in names} | self.of_headers()
+        self.declared = {name for names in self.names.values() for name in names} | self.of_library()
         self.clauses = defaultdict(set)
         for path, text in self.text.items():
             for owner, clauses in clauses_in(path, text):
@@ -35,10 +35,10 @@ class Sources:
     def documents(self):
         return [path for path in self.files if path.endswith(".md")]
 
-    def of_headers(self):
-        """The words of the library's headers."""
-        headers = [(self.top / path).read_text() for path in self.files if path.startswith(HEADERS)]
-        return {word for text in headers for word in re.findall(r"\w+", COMMENT.sub("", text))}
+    def of_library(self):
+        """The words of the library's headers and of its crate for Rust."""
+        texts = [(self.top / path).read_text() for path in self.files if path.startswith(LIBRARY)]
+        return {word for text in texts for word in re.findall(r"\w+", COMMENT.sub("", text))}
 
     def lines_of(self, file):
         """Those of a file of the repository, or none."""
@@ -83,7 +83,7 @@ def listed(top):
         if run.returncode == 0:
             return {path for path in run.stdout.splitlines() if (top / path).is_file()}
     paths = (path.relative_to(top) for path in top.rglob("*") if path.is_file())
-    return {str(path) for path in paths if not {"out", ".git", "__pycache__"} & set(path.parts)}
+    return {str(path) for path in paths if not {"out", ".git", "__pycache__", "target"} & set(path.parts)}
 
 
 def names_in(path, text):
