@@ -2,6 +2,7 @@
 
 use crate::kinds::kind_named;
 use crate::rows::row_named;
+use lk_reach::Extras;
 use lk_rows::Pc;
 use lk_text::read_number;
 use std::alloc::Global;
@@ -31,8 +32,8 @@ pub(crate) struct Asked {
     pub states: usize,
     /// The most memory, in million bytes.
     pub memory: usize,
-    /// Whether halts end without a kick, too.
-    pub nudges: bool,
+    /// What is tried beside steps and interrupts.
+    pub extras: Extras,
     /// Whether nothing is said of how far it is.
     pub quiet: bool,
     /// What is sought.
@@ -51,7 +52,10 @@ impl Asked {
         Asked {
             states: 20_000_000,
             memory: 4_000,
-            nudges: false,
+            extras: Extras {
+                nudges: false,
+                preempts: false,
+            },
             quiet: false,
             goal: Goal::Overview,
         }
@@ -60,7 +64,8 @@ impl Asked {
     // Takes an option without a value. Returns whether it is one.
     fn take_flag(&mut self, word: &str) -> bool {
         match word {
-            "--nudges" => self.nudges = true,
+            "--nudges" => self.extras.nudges = true,
+            "--preempt" => self.extras.preempts = true,
             "--quiet" => self.quiet = true,
             "--finished" => self.goal = Goal::Finished,
             "--stuck" => self.goal = Goal::Stuck,

@@ -1,6 +1,6 @@
 // A shortest schedule to what is sought.
 
-ghost use Rattle.std.specs.Prelude.{◌≤◌};
+ghost use Rattle.lk_reach.specs.Told.{IsGraph};
 
 use crate::Answer;
 use crate::asked::Goal;
@@ -19,53 +19,30 @@ struct Run {
 // No steps.
 const NO_STEPS: Run = Run { cpu: 0, count: 0 };
 
-// The first of these marks that is set.
-fn first(marks: &[bool]) -> Option<usize> {
-    for at in 0..marks.len() {
-        if marks[at] {
-            return Some(at);
-        }
-    }
-    None
-}
-
-// The first state that is stuck or doomed. If the exploration did not meet all states, none is:
-// what leads on from a state may not be known yet.
-fn first_lost(alloc: Global, goal: Goal, graph: &Graph) -> Result<Option<usize>, Memory>
-    requires few { graph.now.cpus ≤ 8 }
+// The acts of a shortest schedule to a state that is lost, if there is one. If the exploration did
+// not meet all states, none is: what leads on from a state may not be known yet.
+fn lost(alloc: Global, goal: Goal, graph: &Graph) -> Result<Option<Vec<Act>>, Memory>
+    requires graph { IsGraph graph.now }
 {
     if !graph.is_whole() {
         return Ok(None);
     }
-    let marks = match goal {
-        Goal::Stuck => graph.stuck(alloc)?,
-        _ => graph.doomed(alloc)?,
-    };
-    Ok(first(&marks))
-}
-
-// The first state that is sought, if one is known.
-fn state_of(alloc: Global, goal: Goal, graph: &Graph) -> Result<Option<usize>, Memory>
-    requires few { graph.now.cpus ≤ 8 }
-{
     match goal {
-        Goal::Row(row) => Ok(graph.first_with(row)),
-        Goal::Finished => Ok(first(&graph.finished(alloc)?)),
-        Goal::Stuck | Goal::Doomed => first_lost(alloc, goal, graph),
-        Goal::Overview | Goal::Event(_) => Ok(None),
+        Goal::Stuck => graph.acts_to_stuck(alloc),
+        _ => graph.acts_to_doom(alloc),
     }
 }
 
 // The acts of a shortest schedule to what is sought, if there is one.
 fn schedule(alloc: Global, goal: Goal, graph: &Graph) -> Result<Option<Vec<Act>>, Memory>
-    requires few { graph.now.cpus ≤ 8 }
+    requires graph { IsGraph graph.now }
 {
-    if let Goal::Event(kind) = goal {
-        return graph.acts_to_event(alloc, kind);
-    }
-    match state_of(alloc, goal, graph)? {
-        Some(state) => Ok(Some(graph.acts_to(alloc, state)?)),
-        None => Ok(None),
+    match goal {
+        Goal::Row(row) => graph.acts_to_row(alloc, row),
+        Goal::Event(kind) => graph.acts_to_event(alloc, kind),
+        Goal::Finished => graph.acts_to_end(alloc),
+        Goal::Stuck | Goal::Doomed => lost(alloc, goal, graph),
+        Goal::Overview => Ok(None),
     }
 }
 
@@ -127,7 +104,7 @@ pub(crate) fn add_goal(
     goal: Goal,
     graph: &Graph,
 ) -> Result<Answer, Memory>
-    requires few { graph.now.cpus ≤ 8 }
+    requires graph { IsGraph graph.now }
 {
     match schedule(alloc, goal, graph)? {
         Some(acts) => {

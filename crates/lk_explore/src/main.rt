@@ -1,16 +1,15 @@
-//! The program behind `./qlock explore`. It reads the header of a trace from standard input, up to
-//! the line `go`, explores every schedule of it, and writes to standard output what they reach, or
-//! a shortest schedule to something. Nothing is claimed of the text: the theorem is
-//! `lk_reach::explore`, which this program calls.
+//! The program behind `./qlock explore`. It reads a trace from standard input, explores every
+//! schedule that goes on behind that of the trace, and writes to standard output what they reach,
+//! or a shortest schedule to something. Nothing is claimed of the text: the theorems are those of
+//! `lk_reach`, which this program calls.
 #![tactic(auto)]
 
-ghost use Rattle.std.specs.Prelude.{◌≡◌, ◌<◌, ◌≤◌, ℕ, List, IfOk, length, true};
+ghost use Rattle.std.specs.Prelude.{◌≡◌, ◌<◌, ◌≤◌, ℕ, List, IfOk, length};
 ghost use Rattle.lk_abs.specs.declared.events.Act.{Act as ActValue};
-ghost use Rattle.lk_rows.specs.Run.{at_rest};
-ghost use Rattle.lk_rows.specs.Programs.{IsLawfulSetup};
 ghost use Rattle.lk_reach.specs.Reach.{AreMoves, state_after};
 ghost use Rattle.lk_reach.specs.Space.{Knows};
-ghost use Rattle.lk_reach.specs.Explored.{IsGood};
+ghost use Rattle.lk_reach.specs.Explored.{IsGood, IsStart};
+ghost use Rattle.lk_reach.specs.Told.{IsGraph, IsWhole};
 
 mod asked;
 mod goal;
@@ -28,8 +27,8 @@ use lk_abs::Memory;
 use lk_reach::{Graph, MAX_CPUS, explore};
 use lk_stream::{ReplayFault, exit};
 use lk_text::{StdSink, StdSource};
-use overview::add_overview;
-use reading::{Header, header_in};
+use overview::{Locks, add_overview};
+use reading::{Start, start_in};
 use std::alloc::Global;
 use std::process::ExitCode;
 use watcher::Watcher;
@@ -64,29 +63,24 @@ fn refuse(rt: &HostRuntime, fault: ReplayFault) -> ExitCode {
     ExitCode::from(status)
 }
 
-// Explores what the header says.
-fn explored(
-    alloc: Global,
-    rt: &HostRuntime,
-    asked: &Asked,
-    header: &mut Header,
-) -> Result<Graph, Memory>
-    requires few { length header.old.machine.cpus ≤ 8 }
-    requires rest { header.old.machine ≡ at_rest header.old.machine.setup }
-    requires lawful { IsLawfulSetup header.old.machine.setup }
+// Explores every schedule from a start on.
+fn explored(alloc: Global, rt: &HostRuntime, asked: &Asked, start: Start) -> Result<Graph, Memory>
+    requires few { length start.machine.cpus ≤ 8 }
+    requires start { IsStart start.plan start.machine }
+    requires extras { start.plan.extras ≡ asked.now.extras }
 
-    // If the graph is whole, it knows every state that a schedule of the header reaches.
-    ensures all { IfOk result (λ graph. graph.is_whole ≡ true → (acts : List ActValue)
-        → AreMoves asked.now.nudges header.old.machine.setup acts
-        → Knows graph.space (state_after header.old.machine.setup acts)) }
+    // If the graph is whole, it knows every state that a schedule reaches from there.
+    ensures all { IfOk result (λ graph. IsWhole graph → (acts : List ActValue)
+        → AreMoves asked.now.extras start.machine.setup acts
+        → Knows graph.space (state_after start.plan start.machine.setup acts)) }
 
-    // Every state that it knows is one that a schedule of the header reaches.
+    // Every state that it knows is one that a schedule reaches from there.
     ensures only { IfOk result (λ graph. (k : ℕ) → k < length graph.space.keys
-        → IsGood asked.now.nudges header.old.machine.setup graph.space k) }
-    ensures few { IfOk result (λ graph. graph.cpus ≤ 8) }
+        → IsGood start.plan start.machine.setup graph.space k) }
+    ensures graph { IfOk result (λ graph. IsGraph graph) }
 {
     let mut watcher = Watcher::new(rt, asked);
-    explore(alloc, &mut header.machine, asked.nudges, &mut watcher)
+    explore(alloc, start.machine, start.plan, &mut watcher)
 }
 
 // Appends what was asked for.
@@ -94,31 +88,31 @@ fn add_answer(
     alloc: Global,
     lines: &mut Lines,
     asked: &Asked,
-    header: &Header,
+    locks: &Locks,
     graph: &Graph,
 ) -> Result<Answer, Memory>
-    requires few { graph.now.cpus ≤ 8 }
+    requires graph { IsGraph graph.now }
 {
     match asked.goal {
-        Goal::Overview => add_overview(alloc, lines, asked, header, graph),
+        Goal::Overview => add_overview(alloc, lines, asked, locks, graph),
         _ => add_goal(alloc, lines, asked.goal, graph),
     }
 }
 
-// Explores what a header says, and writes what was asked for.
-fn tell(
-    alloc: Global,
-    rt: &HostRuntime,
-    asked: &Asked,
-    header: &mut Header,
-) -> Result<Answer, ReplayFault>
-    requires few { length header.old.machine.cpus ≤ 8 }
-    requires rest { header.old.machine ≡ at_rest header.old.machine.setup }
-    requires lawful { IsLawfulSetup header.old.machine.setup }
+// Explores every schedule from a start on, and writes what was asked for.
+fn tell(alloc: Global, rt: &HostRuntime, asked: &Asked, start: Start) -> Result<Answer, ReplayFault>
+    requires few { length start.machine.cpus ≤ 8 }
+    requires start { IsStart start.plan start.machine }
+    requires extras { start.plan.extras ≡ asked.now.extras }
 {
-    let graph = explored(alloc, rt, asked, header)?;
+    let locks = Locks {
+        mode: start.machine.mode(),
+        has_spin: start.has_spin,
+        has_rw: start.has_rw,
+    };
+    let graph = explored(alloc, rt, asked, start)?;
     let mut lines = Lines::new(alloc)?;
-    let answer = add_answer(alloc, &mut lines, asked, header, &graph)?;
+    let answer = add_answer(alloc, &mut lines, asked, &locks, &graph)?;
     lines.put(&mut StdSink::new(rt.stdout()))?;
     Ok(answer)
 }
@@ -132,7 +126,7 @@ fn end(answer: Answer) -> ExitCode {
     }
 }
 
-// Refuses a header of too many processors. Returns the exit status.
+// Refuses a trace of too many processors. Returns the exit status.
 fn refuse_processors(rt: &HostRuntime, cpus: u32) -> ExitCode {
     let _ = eprintln!(rt; "limit processors: {cpus}, and at most {MAX_CPUS} are explored");
     ExitCode::from(exit::LIMIT)
@@ -145,15 +139,15 @@ fn main(rt: HostRuntime) -> ExitCode {
         return ExitCode::from(exit::USAGE);
     };
     let mut source = StdSource::new(rt.stdin());
-    let mut header = match header_in(alloc, &mut source) {
-        Ok(header) => header,
+    let start = match start_in(alloc, &mut source, asked.extras) {
+        Ok(start) => start,
         Err(fault) => return refuse(&rt, fault),
     };
-    let cpus = header.machine.cpus();
+    let cpus = start.machine.cpus();
     if cpus as usize > MAX_CPUS {
         return refuse_processors(&rt, cpus);
     }
-    match tell(alloc, &rt, &asked, &mut header) {
+    match tell(alloc, &rt, &asked, start) {
         Ok(answer) => end(answer),
         Err(fault) => refuse(&rt, fault),
     }

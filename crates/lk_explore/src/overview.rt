@@ -1,17 +1,24 @@
 // What the states of a graph tell.
 
-ghost use Rattle.std.specs.Prelude.{◌≤◌};
+ghost use Rattle.lk_reach.specs.Told.{IsGraph, IsWhole};
 
 use crate::Answer;
 use crate::asked::Asked;
 use crate::kinds::kind_name;
 use crate::lines::Lines;
-use crate::reading::Header;
 use crate::rows::{all_rows, is_of};
-use lk_abs::Memory;
+use lk_abs::{Memory, Mode};
 use lk_reach::{Graph, KINDS};
 use lk_rows::Pc;
 use std::alloc::Global;
+
+/// The family and the kinds of the locks.
+#[derive(Clone, Copy)]
+pub(crate) struct Locks {
+    pub mode: Mode,
+    pub has_spin: bool,
+    pub has_rw: bool,
+}
 
 // Whether the row of this number is marked so.
 fn is_marked(marks: &[bool], number: usize, made: bool) -> bool {
@@ -22,11 +29,11 @@ fn is_marked(marks: &[bool], number: usize, made: bool) -> bool {
 }
 
 // The rows that some schedule makes, or those of the declared locks that none makes.
-fn add_rows(lines: &mut Lines, header: &Header, rows: &[Pc], marks: &[bool], made: bool) {
+fn add_rows(lines: &mut Lines, locks: &Locks, rows: &[Pc], marks: &[bool], made: bool) {
     lines.word(if made { "rows" } else { "never" });
     for number in 0..rows.len() {
         let row = rows[number];
-        if is_marked(marks, number, made) && (made || is_of(header, row)) {
+        if is_marked(marks, number, made) && (made || is_of(locks, row)) {
             lines.word(" ");
             lines.row(row);
         }
@@ -58,7 +65,8 @@ fn count(marks: &[bool]) -> u64 {
 
 // How the states end.
 fn add_ends(alloc: Global, lines: &mut Lines, graph: &Graph) -> Result<(), Memory>
-    requires few { graph.now.cpus ≤ 8 }
+    requires graph { IsGraph graph.now }
+    requires whole { IsWhole graph.now }
 {
     lines.line("finished", count(&graph.finished(alloc)?));
     lines.line("stuck", count(&graph.stuck(alloc)?));
@@ -91,21 +99,21 @@ pub(crate) fn add_overview(
     alloc: Global,
     lines: &mut Lines,
     asked: &Asked,
-    header: &Header,
+    locks: &Locks,
     graph: &Graph,
 ) -> Result<Answer, Memory>
-    requires few { graph.now.cpus ≤ 8 }
+    requires graph { IsGraph graph.now }
 {
     let rows = all_rows(alloc)?;
     let marks = graph.rows_made(alloc, &rows)?;
     add_sizes(lines, graph);
-    add_rows(lines, header, &rows, &marks, true);
+    add_rows(lines, locks, &rows, &marks, true);
     if !graph.is_whole() {
         add_events(lines, graph);
         add_limit(lines, asked, graph);
         return Ok(Answer::Limit);
     }
-    add_rows(lines, header, &rows, &marks, false);
+    add_rows(lines, locks, &rows, &marks, false);
     add_events(lines, graph);
     add_ends(alloc, lines, graph)?;
     Ok(Answer::Done)

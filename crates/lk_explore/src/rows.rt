@@ -1,7 +1,7 @@
 // The rows, in their order, and which of them a trace could make.
 
 use crate::lines::Lines;
-use crate::reading::Header;
+use crate::overview::Locks;
 use lk_abs::{Memory, Mode};
 use lk_rows::{Family, Pc};
 use std::alloc::Global;
@@ -128,15 +128,15 @@ fn is_of_word(mode: Mode, row: Pc) -> bool {
     }
 }
 
-/// Whether the row is one of the locks that a header declares. A reader-writer lock has a wait
+/// Whether the row is one of these locks. A reader-writer lock has a wait
 /// lock, which is never tried.
-pub(crate) fn is_of(header: &Header, row: Pc) -> bool {
+pub(crate) fn is_of(locks: &Locks, row: Pc) -> bool {
     if is_among(row, &[Pc::T1, Pc::T2]) {
-        return header.has_spin;
+        return locks.has_spin;
     }
-    let mode = header.machine.mode();
+    let mode = locks.mode;
     match row.family() {
-        Family::Rw => header.has_rw,
+        Family::Rw => locks.has_rw,
         Family::Cna => mode == Mode::Cna,
         Family::Pv => mode == Mode::Pv,
         Family::Queue => is_of_queue(mode, row),

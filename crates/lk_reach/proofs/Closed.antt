@@ -1,16 +1,15 @@
 -- What schedules reach is sound, and of its setup; and states that are closed under acts are all.
-use Rattle.std.proofs.Common.{◌≡◌, ℕ, ◌<◌, ◌≤◌, Bool, true, List, [], ◌∷◌, ◌++◌, refl, sym, ◌∙◌, ap, subst, length, Option, Some, None, arith}
-use Rattle.lk_abs.specs.History.{LockHistory, history_of}
+use Rattle.std.proofs.Common.{◌≡◌, ℕ, ◌<◌, ◌≤◌, List, [], ◌∷◌, ◌++◌, refl, sym, ◌∙◌, ap, subst, length, Option, Some, None, arith}
+use Rattle.lk_abs.specs.History.{LockHistory}
 use Rattle.lk_abs.specs.declared.names.LockName.{LockName}
 use Rattle.lk_abs.specs.declared.names.Waiter.{Waiter}
 use Rattle.lk_abs.specs.declared.events.Act.{Act}
 use Rattle.lk_abs.specs.declared.events.Act.TheVariants as act
 use Rattle.lk_rows.specs.declared.setup.Setup.{Setup}
 use Rattle.lk_rows.specs.declared.parts.Frame.{Frame}
-use Rattle.lk_rows.specs.Machine.{Machine, HasTop, HasNode, cpu_at, lock_at, word_at, rw_at, node_at}
+use Rattle.lk_rows.specs.Machine.{Machine, HasNode, cpu_at, lock_at, word_at, rw_at, node_at}
 use Rattle.lk_rows.specs.Machine.{frame_at, depth_at, queued_at, halted_at, kicked_at, handlers_at}
-use Rattle.lk_rows.specs.Machine.{entry_at, rest_counts}
-use Rattle.lk_rows.specs.Programs.{IsLawfulSetup}
+use Rattle.lk_rows.specs.Machine.{entry_at}
 use Rattle.lk_rows.specs.Acts.{next, processor_of}
 use Rattle.lk_rows.specs.Run.{at_rest, machine_after, rest_cpus}
 use Rattle.lk_rows.specs.Machine.{no_cpu}
@@ -19,12 +18,20 @@ use Rattle.lk_law.specs.World.{World}
 use Rattle.lk_law.specs.Sound.{IsSound, ShowsAll, IsWhole, Fits, world, held_at}
 use Rattle.lk_law.specs.MachineLaws.{AreInRange, RunKeeps}
 use Rattle.lk_law.specs.SoundWorld.{IsSoundWorld}
-use Rattle.lk_reach.specs.Reach.{bare, after, IsMove, AreMoves, cpus_of, state_after, IsReached}
-use Rattle.lk_reach.specs.Explored.{IsSuch, IsGood, IsLeft}
-use Rattle.lk_reach.specs.Space.{SpaceValue, Keeps, Knows}
+use Rattle.lk_reach.specs.declared.book.Book.{Book}
+use Rattle.lk_reach.specs.declared.book.Origin.{Origin}
+use Rattle.lk_reach.specs.declared.plan.Extras.{Extras}
+use Rattle.lk_reach.specs.declared.plan.Plan.{Plan}
+use Rattle.lk_reach.specs.Reach.{bare, after, IsMove, AreMoves, IsBegun, IsReached, cpus_of, start_of, state_after}
+use Rattle.lk_reach.specs.Explored.{IsExplored, IsLeft, IsMet, IsSuch}
+use Rattle.lk_reach.specs.Space.{SpaceValue, Keeps}
 use Rattle.lk_reach.proofs.Counts.{counts_are_idle}
-use Rattle.lk_reach.proofs.Kept.{keeps_one}
-use Rattle.std.proofs.lemmas.Option.{slice_get_within}
+use Rattle.lk_reach.proofs.Kept.{keeps_one, one_value}
+use Rattle.std.specs.Prelude.{slice_get}
+use Rattle.std.proofs.Common.{◌+◌, inl, inr}
+use Rattle.std.proofs.lemmas.Bool.{cases_eq, cases_lt}
+use Rattle.std.proofs.lemmas.Option.{slice_get-get_or, slice_get_within}
+use Rattle.lk_abs.proofs.ByIndex.{get_cases}
 use Rattle.lk_word.specs.declared.spin_word.NodeName.{NodeName}
 
 -- how a waiter holds a lock has nothing to do with counts
@@ -73,22 +80,29 @@ bare_sound m hs s = record {
 }
 
 -- the acts that are explored name processors
-in_range : (nudges : Bool) (setup : Setup) (acts : List Act) → AreMoves nudges setup acts
-    → AreInRange (cpus_of setup) acts
-in_range nudges setup [] moves = tt
-in_range nudges setup (act.Step p ∷ acts) moves = (moves.0, in_range nudges setup acts moves.1)
-in_range nudges setup (act.Interrupt p ∷ acts) moves = (moves.0.0, in_range nudges setup acts moves.1)
-in_range nudges setup (act.Nudge p ∷ acts) moves = (moves.0.1, in_range nudges setup acts moves.1)
-in_range nudges setup (act.Preempt p ∷ acts) moves = absurd moves.0
-in_range nudges setup (act.Resume p ∷ acts) moves = absurd moves.0
-
-pub move_in_range : (nudges : Bool) (setup : Setup) (a : Act) → IsMove nudges setup a
+pub move_in_range : (extras : Extras) (setup : Setup) (a : Act) → IsMove extras setup a
     → processor_of a < cpus_of setup
-move_in_range nudges setup (act.Step p) move = move
-move_in_range nudges setup (act.Interrupt p) move = move.0
-move_in_range nudges setup (act.Nudge p) move = move.1
-move_in_range nudges setup (act.Preempt p) move = absurd move
-move_in_range nudges setup (act.Resume p) move = absurd move
+move_in_range extras setup (act.Step p) move = move
+move_in_range extras setup (act.Interrupt p) move = move.0
+move_in_range extras setup (act.Nudge p) move = move.1
+move_in_range extras setup (act.Preempt p) move = move.1
+move_in_range extras setup (act.Resume p) move = move.1
+
+in_range : (extras : Extras) (setup : Setup) (acts : List Act) → AreMoves extras setup acts
+    → AreInRange (cpus_of setup) acts
+in_range extras setup [] moves = tt
+in_range extras setup (a ∷ acts) moves =
+    (move_in_range extras setup a moves.0, in_range extras setup acts moves.1)
+
+range_append : (n : ℕ) (xs ys : List Act) → AreInRange n xs → AreInRange n ys → AreInRange n (xs ++ ys)
+range_append n [] ys a b = b
+range_append n (x ∷ xs) ys a b = (a.0, range_append n xs ys a.1 b)
+
+-- acts behind acts
+pub after_append : (xs ys : List Act) (m : Machine)
+    → machine_after m (xs ++ ys) ≡ machine_after (machine_after m xs) ys
+after_append [] ys m = refl
+after_append (x ∷ xs) ys m = after_append xs ys (next m x).0
 
 -- what is known of all acts and runs
 pub record Laws : Type 0 where
@@ -96,24 +110,50 @@ pub record Laws : Type 0 where
   pub setup : (m : Machine) (a : Act) → (next m a).0.setup ≡ m.setup
 
 -- no run changes the setup
-setup_after : Laws → (acts : List Act) (m : Machine) → (machine_after m acts).setup ≡ m.setup
+pub setup_after : Laws → (acts : List Act) (m : Machine) → (machine_after m acts).setup ≡ m.setup
 setup_after laws [] m = refl
 setup_after laws (a ∷ acts) m = setup_after laws acts (next m a).0 ∙ laws.setup m a
 
-module _ (laws : Laws) (nudges : Bool) (setup : Setup) (lawful : IsLawfulSetup setup) where
-  shown : (acts : List Act) → AreMoves nudges setup acts
-      → (hs : LockName → LockHistory) × ShowsAll (state_after setup acts) hs
-  shown acts moves =
-      let run = laws.runs setup acts lawful (in_range nudges setup acts moves) in
-      (_, bare_sound (machine_after (at_rest setup) acts) _ run.shows)
+-- one act more
+after_push : (acts : List Act) (m : Machine) (a : Act)
+    → machine_after m (acts ++ a ∷ []) ≡ (next (machine_after m acts) a).0
+after_push [] m a = refl
+after_push (b ∷ acts) m a = after_push acts (next m b).0 a
 
-  pub reached_sound : (s : Machine) → IsReached nudges setup s → IsSound s
+pub moves_push : (extras : Extras) (setup : Setup) (acts : List Act) (a : Act) → AreMoves extras setup acts
+    → IsMove extras setup a → AreMoves extras setup (acts ++ a ∷ [])
+moves_push extras setup [] a moves move = (move, tt)
+moves_push extras setup (b ∷ acts) a moves move = (moves.0, moves_push extras setup acts a moves.1 move)
+
+-- the acts before an exploration, and one more
+pub begun_then : (plan : Plan) (setup : Setup) (a : Act)
+    → bare (machine_after (at_rest setup) (plan.before.items ++ a ∷ [])) ≡ after (bare (start_of plan setup)) a
+begun_then plan setup a =
+    ap bare (after_push plan.before.items (at_rest setup) a)
+    ∙ sym (counts_are_idle (start_of plan setup) a).0
+
+pub range_push : (n : ℕ) (xs : List Act) (a : Act) → AreInRange n xs → processor_of a < n
+    → AreInRange n (xs ++ a ∷ [])
+range_push n xs a all one = range_append n xs (a ∷ []) all (one, tt)
+
+module _ (laws : Laws) (plan : Plan) (setup : Setup) (begun : IsBegun plan setup) where
+  shown : (acts : List Act) → AreMoves plan.extras setup acts
+      → (hs : LockName → LockHistory) × ShowsAll (state_after plan setup acts) hs
+  shown acts moves =
+      let all = plan.before.items ++ acts in
+      let run = laws.runs setup all begun.lawful
+      (range_append (cpus_of setup) plan.before.items acts begun.range (in_range plan.extras setup acts moves)) in
+      subst (λ (m : Machine). (hs : LockName → LockHistory) × ShowsAll (bare m) hs)
+      (after_append plan.before.items acts (at_rest setup))
+      (_, bare_sound (machine_after (at_rest setup) all) _ run.shows)
+
+  pub reached_sound : (s : Machine) → IsReached plan setup s → IsSound s
   reached_sound s r = subst IsSound (sym r.there) (shown r.acts r.moves)
 
-  pub reached_such : (s : Machine) → IsReached nudges setup s → IsSuch setup s
+  pub reached_such : (s : Machine) → IsReached plan setup s → IsSuch setup s
   reached_such s r =
       let all = (shown r.acts r.moves).1 in
-      let kept = setup_after laws r.acts (at_rest setup) in
+      let kept = setup_after laws r.acts (start_of plan setup) ∙ setup_after laws plan.before.items (at_rest setup) in
       subst (IsSuch setup) (sym r.there) (record {
         setup = kept;
         counts = refl;
@@ -121,59 +161,144 @@ module _ (laws : Laws) (nudges : Bool) (setup : Setup) (lawful : IsLawfulSetup s
         locks = all.whole.locks ∙ ap (λ (z : Setup). length z.locks.items) kept;
       })
 
-  -- one act more
-  after_push : (acts : List Act) (m : Machine) (a : Act)
-      → machine_after m (acts ++ a ∷ []) ≡ (next (machine_after m acts) a).0
-  after_push [] m a = refl
-  after_push (b ∷ acts) m a = after_push acts (next m b).0 a
-
-  moves_push : (acts : List Act) (a : Act) → AreMoves nudges setup acts → IsMove nudges setup a
-      → AreMoves nudges setup (acts ++ a ∷ [])
-  moves_push [] a moves move = (move, tt)
-  moves_push (b ∷ acts) a moves move = (moves.0, moves_push acts a moves.1 move)
-
-  pub reached_then : (s : Machine) (a : Act) → IsReached nudges setup s → IsMove nudges setup a
-      → IsReached nudges setup (after s a)
+  pub reached_then : (s : Machine) (a : Act) → IsReached plan setup s → IsMove plan.extras setup a
+      → IsReached plan setup (after s a)
   reached_then s a r move = record {
     acts = r.acts ++ a ∷ [];
-    moves = moves_push r.acts a r.moves move;
+    moves = moves_push plan.extras setup r.acts a r.moves move;
     there =
-        ap (λ k. after k a) r.there ∙ (counts_are_idle (machine_after (at_rest setup) r.acts) a).0
-        ∙ ap bare (sym (after_push r.acts (at_rest setup) a));
+        ap (λ k. after k a) r.there ∙ (counts_are_idle (machine_after (start_of plan setup) r.acts) a).0
+        ∙ ap bare (sym (after_push r.acts (start_of plan setup) a));
   }
 
-  pub reached_rest : IsReached nudges setup (bare (at_rest setup))
-  reached_rest = record { acts = []; moves = tt; there = refl }
+  pub reached_start : IsReached plan setup (bare (start_of plan setup))
+  reached_start = record { acts = []; moves = tt; there = refl }
 
-  -- what holds of the first state, and after each act, holds of all that are reached
-  module _ (P : Machine → Type 0)
-      (closed : (s : Machine) (a : Act) → IsReached nudges setup s → IsMove nudges setup a → P s
-      → P (after s a)) where
-    from : (acts : List Act) (m : Machine) → AreMoves nudges setup acts
-        → IsReached nudges setup (bare m) → P (bare m) → P (bare (machine_after m acts))
-    from [] m moves reached here = here
-    from (a ∷ acts) m moves reached here =
-        from acts (next m a).0 moves.1
-        (subst (IsReached nudges setup) (counts_are_idle m a).0
-        (reached_then (bare m) a reached moves.0))
-        (subst P (counts_are_idle m a).0 (closed (bare m) a reached moves.0 here))
+  -- a number keeps one of the states that are reached
+  pub same_state : (v : SpaceValue) (k : ℕ) (s t : Machine) → Keeps v k s → Keeps v k t
+      → IsReached plan setup s → IsReached plan setup t → s ≡ t
+  same_state v k s t a b r q =
+      let one = reached_such s r in
+      let other = reached_such t q in
+      keeps_one v k s t a b (one.setup ∙ sym other.setup) (one.counts ∙ sym other.counts)
+      (one.cpus ∙ sym other.cpus)
 
-  -- every state is known
-  pub all_known : (v : SpaceValue) → Knows v (bare (at_rest setup))
-      → ((k : ℕ) → k < length v.keys → IsLeft nudges setup v k)
-      → (acts : List Act) → AreMoves nudges setup acts → Knows v (state_after setup acts)
-  all_known v first left acts moves = from (Knows v) closed acts (at_rest setup) moves reached_rest first
+  -- who was met by so many acts was met by at most more
+  pub met_sooner : (v : SpaceValue) (b : Book) (n most : ℕ) (s : Machine) → n ≤ most → IsMet v b n s → IsMet v b most s
+  met_sooner v b n most s low met = record {
+    number = met.number;
+    keeps = met.keeps;
+    origin = met.origin;
+    is = met.is;
+    soon = let soon = met.soon in omega (arith, soon, low);
+  }
+
+  -- Each schedule leads to a state that was met by as few acts, if each state that takes fewer was left.
+  module _ (v : SpaceValue) (b : Book) (left most : ℕ)
+      (all : (k : ℕ) → k < left → IsLeft plan setup v b k)
+      (low : (i : ℕ) (o : Origin) → slice_get b.origins.items i ≡ Some o → o.level < most → i < left) where
+    one_more : (n : ℕ) (s : Machine) (a : Act) → n < most → IsReached plan setup s → IsMove plan.extras setup a
+        → IsMet v b n s → IsMet v b (n + 1) (after s a)
+    one_more n s a room reached move met =
+        let soon = met.soon in
+        let x = all met.number (low met.number met.origin met.is (omega (arith, soon, room))) in
+        let same : x.state ≡ s = same_state v met.number x.state s x.keeps met.keeps x.reached reached in
+        let origin : x.origin ≡ met.origin = one_value (slice_get b.origins.items met.number) x.origin met.origin x.is met.is in
+        let level = ap (λ (o : Origin). o.level) origin in
+        met_sooner v b (x.origin.level + 1) (n + 1) (after s a) (omega (arith, level, soon))
+        (subst (λ z. IsMet v b (x.origin.level + 1) (after z a)) same (x.next a move).met)
+
+    walk : (acts : List Act) (n : ℕ) (m : Machine) → n + length acts ≤ most → AreMoves plan.extras setup acts
+        → IsReached plan setup (bare m) → IsMet v b n (bare m)
+        → IsMet v b (n + length acts) (bare (machine_after m acts))
+    walk [] n m room moves reached here = met_sooner v b n (n + 0) (bare m) (omega arith) here
+    walk (a ∷ acts) n m room moves reached here =
+        let e = (counts_are_idle m a).0 in
+        let met = one_more n (bare m) a (omega (arith, room)) reached moves.0 here in
+        let rest = walk acts (n + 1) (next m a).0 (omega (arith, room)) moves.1
+        (subst (IsReached plan setup) e (reached_then (bare m) a reached moves.0))
+        (subst (λ z. IsMet v b (n + 1) z) e met) in
+        met_sooner v b (n + 1 + length acts) (n + length (a ∷ acts)) (bare (machine_after (next m a).0 acts))
+        (omega arith) rest
+
+  pub all_met : (v : SpaceValue) (b : Book) (left : ℕ) → IsExplored plan setup v b left → (acts : List Act)
+      → AreMoves plan.extras setup acts
+      → ((i : ℕ) (o : Origin) → slice_get b.origins.items i ≡ Some o → o.level < length acts → i < left)
+      → IsMet v b (length acts) (state_after plan setup acts)
+  all_met v b left x acts moves low =
+      let level = x.first.level in
+      met_sooner v b (0 + length acts) (length acts) (state_after plan setup acts) (omega arith)
+      (walk v b left (length acts) x.left low acts 0 (start_of plan setup) (omega arith) moves reached_start (record {
+        number = 0;
+        keeps = x.first.keeps;
+        origin = x.first.origin;
+        is = x.first.is;
+        soon = omega (arith, level);
+      }))
+
+  -- where every state was left
+  pub whole_met : (v : SpaceValue) (b : Book) (left : ℕ) → IsExplored plan setup v b left
+      → left ≡ length v.keys → (acts : List Act) → AreMoves plan.extras setup acts
+      → IsMet v b (length acts) (state_after plan setup acts)
+  whole_met v b left x whole acts moves =
+      let count = x.count in
+      all_met v b left x acts moves
+      (λ i o at soon. let within = slice_get_within b.origins.items i o at in omega (arith, within, count, whole))
+
+  -- who takes fewer acts than the state that is left next was left
+  pub soon_left : (v : SpaceValue) (b : Book) (left most : ℕ) → IsExplored plan setup v b left → left ≤ length v.keys
+      → ((p : Origin) → slice_get b.origins.items left ≡ Some p → most ≤ p.level)
+      → (i : ℕ) (o : Origin) → slice_get b.origins.items i ≡ Some o → o.level < most → i < left
+  soon_left v b left most x within high i o is few =
+      elim (cases_lt i left) [
+        | inl low ↦ low
+        | inr not_so ↦ elim (get_cases b.origins.items left) [
+          | inl none ↦ absurd (past left not_so none)
+          | inr some ↦
+              let up = high some.0 some.1 in
+              elim (cases_eq left i) [
+                | inl e ↦
+                    let same : some.0 ≡ o = one_value (slice_get b.origins.items i) some.0 o
+                    (subst (λ (h : ℕ). slice_get b.origins.items h ≡ Some some.0) e some.1) is in
+                    let level = ap (λ (q : Origin). q.level) same in
+                    absurd (omega (arith, level, up, few))
+                | inr ne ↦
+                    let more = x.sorted left i some.0 o some.1 is (omega (arith, not_so, ne)) in
+                    absurd (omega (arith, more, up, few))
+              ]
+        ]
+      ]
     where
-      closed : (s : Machine) (a : Act) → IsReached nudges setup s → IsMove nudges setup a
-          → Knows v s → Knows v (after s a)
-      closed s a reached move known =
-          let k = known.0 in
-          let x = left k (slice_get_within v.keys k known.1.key known.1.is) in
-          let one = reached_such s reached in
-          let other = reached_such x.state x.reached in
-          let same : x.state ≡ s = keeps_one v k x.state s x.keeps known.1
-          (other.setup ∙ sym one.setup) (other.counts ∙ sym one.counts) (other.cpus ∙ sym one.cpus) in
-          subst (λ z. Knows v (after z a)) same (x.next a move)
+      past : (n : ℕ) → n ≤ i → slice_get b.origins.items n ≡ None → ⊥
+      past n high none =
+          let inside = slice_get_within b.origins.items i o is in
+          let e = slice_get-get_or b.origins.items n o (omega (arith, inside, high)) in
+          cc
+
+  -- A schedule that is shorter than the level of a number leads to a state with a lower number.
+  pub no_sooner : (v : SpaceValue) (b : Book) (left : ℕ) → IsExplored plan setup v b left → left ≤ length v.keys
+      → (k : ℕ) (o : Origin) → slice_get b.origins.items k ≡ Some o → (acts : List Act)
+      → AreMoves plan.extras setup acts → length acts < o.level
+      → (j : ℕ) × (j < k) × Keeps v j (state_after plan setup acts)
+  no_sooner v b left x within k o at acts moves short =
+      let met = all_met v b left x acts moves (soon_left v b left (length acts) x within
+      (λ p here. let near = x.near k o p at here in omega (arith, near, short))) in
+      let soon = met.soon in
+      (met.number, before met.number met.origin met.is (omega (arith, soon, short)), met.keeps)
+    where
+      before : (j : ℕ) (p : Origin) → slice_get b.origins.items j ≡ Some p → p.level < o.level → j < k
+      before j p is less =
+          elim (cases_lt j k) [
+            | inl low ↦ low
+            | inr not_so ↦ elim (cases_eq j k) [
+              | inl e ↦
+                  let same : p ≡ o = one_value (slice_get b.origins.items k) p o
+                  (subst (λ (h : ℕ). slice_get b.origins.items h ≡ Some p) e is) at in
+                  let level = ap (λ (q : Origin). q.level) same in
+                  absurd (omega (arith, level, less))
+              | inr ne ↦ let more = x.sorted k j o p at is (omega (arith, not_so, ne)) in absurd (omega (arith, more, less))
+            ]
+          ]
 
 -- a machine at rest has used no handler
 none_used : (setup : Setup) (q n i : ℕ) → (get_or (rest_cpus setup q n) i no_cpu).handlers ≡ 0
@@ -184,3 +309,10 @@ none_used setup q (suc n) (suc i) = none_used setup (suc q) n i
 pub rest_unused : (setup : Setup) (p : ℕ) → handlers_at (at_rest setup) p ≡ 0
 unfolding handlers_at cpu_at
 rest_unused setup p = none_used setup 0 (length setup.topology.sockets.items) p
+
+rest_count : (setup : Setup) (q n : ℕ) → length (rest_cpus setup q n) ≡ n
+rest_count setup q zero = refl
+rest_count setup q (suc n) = ap suc (rest_count setup (suc q) n)
+
+pub rest_cpus_of : (setup : Setup) → length (at_rest setup).cpus ≡ cpus_of setup
+rest_cpus_of setup = rest_count setup 0 (cpus_of setup)

@@ -1,5 +1,5 @@
 -- The counts change nothing else.
-use Rattle.std.proofs.Common.{◌≡◌, ℕ, Option, Some, None, Bool, true, false, List, [], ◌∷◌, ap, refl, sym, ◌∙◌, ◌+◌, ◌-◌}
+use Rattle.std.proofs.Common.{◌≡◌, ℕ, Option, Some, None, Bool, true, false, List, [], ◌∷◌, ap, refl, sym, ◌∙◌, ◌+◌}
 use Rattle.std.specs.Prelude.{if◌then◌else◌, ◌==◌, ◌||◌, not, slice_get}
 use Rattle.lk_abs.specs.declared.names.LockName.{LockName}
 use Rattle.lk_abs.specs.declared.events.Act.{Act}
@@ -18,8 +18,8 @@ use Rattle.lk_rows.specs.Machine.{depth_at, queued_at, preempted_at, halted_at, 
 use Rattle.lk_rows.specs.Machine.{handlers_at, entry_at, top_frame, set_cpu, set_lock, set_counts}
 use Rattle.lk_rows.specs.Machine.{set_word, set_rw, set_node, set_top, set_queued, set_preempted}
 use Rattle.lk_rows.specs.Machine.{set_halted, set_kicked, set_entry, pop, push, rest_counts}
-use Rattle.lk_rows.specs.Moves.{settled, settled_at, program_of, started, done, granted, missed}
-use Rattle.lk_rows.specs.Moves.{leave, waiting, context_of, waiter_of, skipped, node_of}
+use Rattle.lk_rows.specs.Moves.{settled, settled_at, program_of, done, granted, missed}
+use Rattle.lk_rows.specs.Moves.{leave, context_of, waiter_of, skipped}
 use Rattle.lk_rows.specs.Row.{Answer, Counter, Effect, Lead, Goes, Enters, Granted, Freed, Missed}
 use Rattle.lk_rows.specs.Row.{Leaves, Yields, Done, TakesWait, Tell, Nothing, Says, Passes, moved}
 use Rattle.lk_rows.specs.Row.{with_rest, event_of, applied, counted, entered}
@@ -34,11 +34,10 @@ use Rattle.lk_rows.specs.TopRow.{ChoiceFlag, ChoiceNext, SecondTailOf, RunsOf, P
 use Rattle.lk_rows.specs.TopRow.{PvNext, StateOf, HashEntry, Halted, KickOf, RwWord, target}
 use Rattle.lk_rows.specs.TopRow.{sight_at, stored_word, stored_rw, stored_flag, stored_next}
 use Rattle.lk_rows.specs.TopRow.{stored_second, stored_runs, stored_state, stored_entry}
-use Rattle.lk_rows.specs.TopRow.{stored_halted, stored_kicked, stored_queued, on_word, on_rw}
-use Rattle.lk_rows.specs.TopRow.{on_flag, on_next, on_second, on_runs, on_state, on_entry}
-use Rattle.lk_rows.specs.TopRow.{on_halted, on_kicked, on_queued, row_on, row_at, row}
+use Rattle.lk_rows.specs.TopRow.{stored_halted, stored_kicked, stored_queued}
+use Rattle.lk_rows.specs.TopRow.{row_on, row_at, row}
 use Rattle.lk_rows.specs.Acts.{idle, woken, kicked_awake, step_halted, step, is_shut, handler_frame}
-use Rattle.lk_rows.specs.Acts.{awake, interrupted, nudged, next, after_halt}
+use Rattle.lk_rows.specs.Acts.{awake, interrupted, nudged, next}
 use Rattle.lk_reach.specs.Reach.{bare, CountsAreIdle}
 
 -- the machine with these counts

@@ -1,16 +1,13 @@
 -- What is kept of states.
-use Rattle.std.proofs.Common.{◌≡◌, ℕ, ◌<◌, ◌≤◌, ◌+◌, ◌*◌, List, [], ◌∷◌, ◌++◌, length, Option, Some, None, arith, ap, refl, sym, ◌∙◌, subst, zero, suc, append-nil, append_assoc, inl, inr}
+use Rattle.std.proofs.Common.{◌≡◌, ℕ, ◌<◌, ◌≤◌, ◌+◌, ◌*◌, List, [], ◌∷◌, ◌++◌, length, Option, Some, arith, ap, refl, sym, ◌∙◌, subst, zero, suc, append-nil, append_assoc, inl, inr}
 use Rattle.std.proofs.Common.{set}
 use Rattle.std.proofs.lemmas.Bool.{cases_eq}
 use Rattle.std.proofs.lemmas.List.{ext_get_or, get_or-set_same, get_or-set_other}
-use Rattle.std.proofs.lemmas.Option.{get_or_from_slice_get, slice_get_within, slice_get-get_or}
+use Rattle.std.proofs.lemmas.Option.{slice_get_within, slice_get-get_or}
 use Rattle.std.specs.Prelude.{slice_get, slice_index_or}
-use Rattle.lk_rows.specs.Machine.{Machine, CpuState, LockState, cpu_at, no_cpu, set_cpu}
+use Rattle.lk_rows.specs.Machine.{Machine, CpuState, cpu_at, no_cpu, set_cpu}
 use Rattle.std.proofs.Common.{get_or, length-set}
 use Rattle.lk_rows.specs.declared.setup.Setup.{Setup}
-use Rattle.lk_rows.specs.declared.parts.Counts.{Counts}
-use Rattle.lk_abs.specs.declared.names.LockName.{LockName}
-use Rattle.lk_word.specs.declared.spin_word.NodeName.{NodeName}
 use Rattle.std.specs.Int.{IsNextPowerOfTwo}
 use Rattle.lk_rows.specs.Layouts.{layout_of}
 use Rattle.lk_machine.specs.Parts.{Fits, Holds, SharedValue}
@@ -96,12 +93,12 @@ pub front_then : {A : Type 0} → (xs ys zs : List A) → IsFront xs ys → IsFr
 front_then xs ys zs a b = (a.0 ++ b.0, b.1 ∙ ap (λ us. us ++ b.0) a.1 ∙ append_assoc xs a.0 b.0)
 
 -- one item is set
-set_same : {A : Type 0} → (xs : List A) (i : ℕ) (x : A) → i < length xs → slice_get (set xs i x) i ≡ Some x
+pub set_same : {A : Type 0} → (xs : List A) (i : ℕ) (x : A) → i < length xs → slice_get (set xs i x) i ≡ Some x
 set_same [] i x low = absurd (omega (arith, low))
 set_same (y ∷ xs) zero x low = refl
 set_same (y ∷ xs) (suc i) x low = set_same xs i x (omega (arith, low))
 
-set_other : {A : Type 0} → (xs : List A) (i j : ℕ) (x : A) → (j ≡ i → ⊥) → slice_get (set xs i x) j ≡ slice_get xs j
+pub set_other : {A : Type 0} → (xs : List A) (i j : ℕ) (x : A) → (j ≡ i → ⊥) → slice_get (set xs i x) j ≡ slice_get xs j
 set_other [] i j x ne = refl
 set_other (y ∷ xs) zero zero x ne = absurd (ne refl)
 set_other (y ∷ xs) zero (suc j) x ne = refl

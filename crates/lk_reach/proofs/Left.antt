@@ -1,5 +1,5 @@
 -- What an exploration knows grows.
-use Rattle.std.proofs.Common.{◌≡◌, ℕ, ◌<◌, ◌≤◌, ◌+◌, Bool, List, [], ◌∷◌, ◌++◌, refl, sym, ◌∙◌, ap, subst, length, Option, Some, None, arith, inl, inr, length-append}
+use Rattle.std.proofs.Common.{◌≡◌, ℕ, zero, suc, ◌<◌, ◌≤◌, ◌+◌, List, [], ◌∷◌, sym, ◌∙◌, ap, subst, length, Option, Some, None, arith, inl, inr, length-append}
 use Rattle.std.proofs.lemmas.Bool.{cases_lt, cases_eq}
 use Rattle.std.proofs.lemmas.Option.{slice_get_within}
 use Rattle.std.specs.Prelude.{slice_get}
@@ -8,12 +8,23 @@ use Rattle.lk_rows.specs.declared.setup.Setup.{Setup}
 use Rattle.lk_rows.specs.Machine.{Machine, set_counts, rest_counts}
 use Rattle.lk_rows.specs.declared.parts.Counts.{Counts}
 use Rattle.lk_law.specs.Sound.{IsSound}
-use Rattle.lk_rows.specs.Programs.{IsLawfulSetup}
-use Rattle.lk_reach.specs.Reach.{after, IsMove, IsReached}
-use Rattle.lk_reach.specs.Space.{SpaceValue, Keeps, Knows, Grows, IsLoadable}
-use Rattle.lk_reach.specs.Explored.{IsSuch, IsStepped, IsGood, IsHalfLeft, IsLeft, Among, AreAllMoves}
-use Rattle.lk_reach.proofs.Kept.{front_self, front_then, keeps_grown, keeps_one}
-use Rattle.lk_reach.proofs.Closed.{Laws, reached_sound, reached_such, reached_then}
+use Rattle.lk_abs.specs.declared.events.Event.{Event}
+use Rattle.lk_abs.proofs.ByIndex.{get_cases}
+use Rattle.lk_rows.specs.Acts.{next}
+use Rattle.lk_reach.specs.declared.book.Book.{Book}
+use Rattle.lk_reach.specs.declared.book.Edge.{Edge}
+use Rattle.lk_reach.specs.declared.book.Origin.{Origin}
+use Rattle.lk_reach.specs.declared.plan.Plan.{Plan}
+use Rattle.lk_reach.specs.Kinds.{kind_value}
+use Rattle.lk_reach.specs.Reach.{IsBegun, IsMove, after, bare, start_of}
+use Rattle.lk_reach.specs.Space.{SpaceValue, Keeps, Grows, IsLoadable}
+use Rattle.lk_reach.specs.Explored.{AreAllMoves, Continues}
+use Rattle.lk_reach.specs.Explored.{IsAct, IsEdge, IsExplored, IsGood, IsHalfLeft, IsLeft}
+use Rattle.lk_reach.specs.Explored.{IsNew, IsOrigin, IsStepped, IsSuch, IsTelling, IsTried}
+use Rattle.lk_reach.specs.Explored.{Writes}
+use Rattle.lk_reach.proofs.Kept.{front_at, front_self, front_then, keeps_grown, keeps_one, one_value}
+use Rattle.lk_reach.proofs.Grown.{continues, edge_cases, edge_grown, edge_there, good_grown, left_grown, origin_cases, origin_grown, telling_grown, tried_grown}
+use Rattle.lk_reach.proofs.Closed.{Laws, reached_sound, reached_start, reached_such, reached_then}
 
 pub grows_self : (v : SpaceValue) → Grows v v
 grows_self v = record { parts = front_self v.parts; shareds = front_self v.shareds; keys = front_self v.keys }
@@ -28,8 +39,11 @@ grows_then u v w a b = record {
 pub grows_keys : (v w : SpaceValue) → Grows v w → length v.keys ≤ length w.keys
 grows_keys v w g = let e = ap length g.keys.1 ∙ length-append v.keys g.keys.0 in omega (arith, e)
 
-pub knows_grown : (v w : SpaceValue) → Grows v w → (s : Machine) → Knows v s → Knows w s
-knows_grown v w g s known = (known.0, keeps_grown v w g known.0 s known.1)
+-- where a list is long enough, something stands
+pub none_there : {A : Type 0} → (xs : List A) (i : ℕ) → i < length xs → slice_get xs i ≡ None → ⊥
+none_there [] i low none = omega (arith, low)
+none_there (x ∷ xs) zero low none = cc
+none_there (x ∷ xs) (suc i) low none = none_there xs i (omega (arith, low)) none
 
 -- a machine that has counted nothing
 pub counted_such : (z : Setup) (m n : Machine) (x : Counts) → n ≡ set_counts m x → x ≡ rest_counts
@@ -68,99 +82,348 @@ pub loaded_is : (z : Setup) (v : SpaceValue) (k : ℕ) (s t : Machine) → Keeps
 loaded_is z v k s t a x b y =
     keeps_one v k s t a b (x.setup ∙ sym y.setup) (x.counts ∙ sym y.counts) (x.cpus ∙ sym y.cpus)
 
-module _ (nudges : Bool) (setup : Setup) where
-  pub good_grown : (v w : SpaceValue) → Grows v w → (k : ℕ) → IsGood nudges setup v k → IsGood nudges setup w k
-  good_grown v w g k x = record {
-    state = x.state;
-    keeps = keeps_grown v w g k x.state x.keeps;
-    reached = x.reached;
-  }
+-- an act was made on a state, noted and written down
+pub record IsMade (plan : Plan) (setup : Setup) (v w : SpaceValue) (b c : Book) (k number : ℕ) (a : Act) : Type 0 where
+  pub grows : Grows v w
+  pub then : ℕ
+  pub event : Option Event
+  pub move : IsMove plan.extras setup a
+  pub doing : slice_get plan.acts.items number ≡ Some a
+  pub kept : (s : Machine) → Keeps v k s → IsSuch setup s → Keeps w then (after s a)
+  pub told : (s : Machine) → Keeps v k s → IsSuch setup s → event ≡ (next s a).1
+  pub one : (i : ℕ) → length v.keys ≤ i → i < length w.keys → i ≡ then
+  pub writes : Writes b c k number then event
 
-  pub left_grown : (v w : SpaceValue) → Grows v w → (k : ℕ) → IsLeft nudges setup v k → IsLeft nudges setup w k
-  left_grown v w g k x = record {
-    state = x.state;
-    keeps = keeps_grown v w g k x.state x.keeps;
-    reached = x.reached;
-    next = λ a move. knows_grown v w g (after x.state a) (x.next a move);
-  }
-
-  -- one more is left
-  pub left_then : (v w : SpaceValue) → Grows v w → (n : ℕ)
-      → ((k : ℕ) → k < n → IsLeft nudges setup v k) → IsLeft nudges setup w n
-      → (k : ℕ) → k < n + 1 → IsLeft nudges setup w k
-  left_then v w g n before now k low =
-      elim (cases_eq k n) [
-        | inl e ↦ subst (λ (h : ℕ). IsLeft nudges setup w h) (sym e) now
-        | inr ne ↦ left_grown v w g k (before k (omega (arith, low, ne)))
+module _ (plan : Plan) (setup : Setup) where
+  -- what is met has an origin
+  has_origin : (v : SpaceValue) (b : Book) (left k : ℕ) → IsExplored plan setup v b left → k < length v.keys
+      → (o : Origin) × (slice_get b.origins.items k ≡ Some o)
+  has_origin v b left k x low =
+      elim (get_cases b.origins.items k) [
+        | inl none ↦
+            let count = x.count in
+            absurd (none_there b.origins.items k (omega (arith, low, count)) none)
+        | inr some ↦ some
       ]
 
-  pub half_start : (v : SpaceValue) (k : ℕ) (acts : List Act) → IsGood nudges setup v k
-      → IsHalfLeft nudges setup v k acts 0
-  half_start v k acts x = record {
+  pub half_start : (v : SpaceValue) (b : Book) (k : ℕ) (acts : List Act) → IsExplored plan setup v b k
+      → k < length v.keys → IsHalfLeft plan setup v b k acts 0
+  half_start v b k acts x low =
+      let good = x.good k low in
+      let o = has_origin v b k k x low in
+      record {
+        state = good.state;
+        keeps = good.keeps;
+        reached = good.reached;
+        origin = o.0;
+        is = o.1;
+        next = λ i a none. absurd (omega (arith, none));
+      }
+
+  pub left_now : (v : SpaceValue) (b : Book) (k n : ℕ) (acts : List Act) → AreAllMoves plan.extras setup acts
+      → length acts ≤ n → IsHalfLeft plan setup v b k acts n → IsLeft plan setup v b k
+  left_now v b k n acts all most x = record {
     state = x.state;
     keeps = x.keeps;
     reached = x.reached;
-    next = λ i a low. absurd (omega (arith, low));
-  }
-
-  module _ (laws : Laws) (lawful : IsLawfulSetup setup) where
-    pub stepped : (v : SpaceValue) (k n : ℕ) (acts : List Act) → IsHalfLeft nudges setup v k acts n
-        → IsStepped setup v k
-    stepped v k n acts x = record {
-      state = x.state;
-      keeps = x.keeps;
-      such = reached_such laws nudges setup lawful x.state x.reached;
-      sound = reached_sound laws nudges setup lawful x.state x.reached;
-    }
-
-    pub half_then : (v w : SpaceValue) (k n j : ℕ) (acts : List Act) (a : Act) → Grows v w
-        → IsHalfLeft nudges setup v k acts n → slice_get acts n ≡ Some a
-        → ((s : Machine) → Keeps v k s → IsSuch setup s → Keeps w j (after s a))
-        → IsHalfLeft nudges setup w k acts (n + 1)
-    half_then v w k n j acts a g x at made = record {
-      state = x.state;
-      keeps = keeps_grown v w g k x.state x.keeps;
-      reached = x.reached;
-      next = next;
-    }
-      where
-        next : (i : ℕ) (b : Act) → i < n + 1 → slice_get acts i ≡ Some b → Knows w (after x.state b)
-        next i b low here =
-            elim (cases_eq i n) [
-              | inl e ↦
-                  let same : a ≡ b = let z = ap (slice_get acts) e in one_act (slice_get acts n) a b at (sym z ∙ here) in
-                  subst (λ c. Knows w (after x.state c)) same
-                  (j, made x.state x.keeps (reached_such laws nudges setup lawful x.state x.reached))
-              | inr ne ↦ knows_grown v w g (after x.state b) (x.next i b (omega (arith, low, ne)) here)
-            ]
-          where
-            one_act : (o : Option Act) (c d : Act) → o ≡ Some c → o ≡ Some d → c ≡ d
-            one_act o c d e f = cc
-
-    -- each state that is known is good, with the new one
-    pub good_then : (v w : SpaceValue) (k n j : ℕ) (acts : List Act) (a : Act) → Grows v w
-        → IsHalfLeft nudges setup v k acts n → IsMove nudges setup a
-        → ((s : Machine) → Keeps v k s → IsSuch setup s → Keeps w j (after s a))
-        → ((i : ℕ) → length v.keys ≤ i → i < length w.keys → i ≡ j)
-        → ((i : ℕ) → i < length v.keys → IsGood nudges setup v i)
-        → (i : ℕ) → i < length w.keys → IsGood nudges setup w i
-    good_then v w k n j acts a g x move made one good i low =
-        elim (cases_lt i (length v.keys)) [
-          | inl old ↦ good_grown v w g i (good i old)
-          | inr new ↦ subst (λ (h : ℕ). IsGood nudges setup w h) (sym (one i new low)) (record {
-            state = after x.state a;
-            keeps = made x.state x.keeps (reached_such laws nudges setup lawful x.state x.reached);
-            reached = reached_then laws nudges setup lawful x.state a x.reached move;
-          })
-        ]
-
-  pub left_now : (v : SpaceValue) (k n : ℕ) (acts : List Act) → AreAllMoves nudges setup acts
-      → length acts ≤ n → IsHalfLeft nudges setup v k acts n → IsLeft nudges setup v k
-  left_now v k n acts all most x = record {
-    state = x.state;
-    keeps = x.keeps;
-    reached = x.reached;
+    origin = x.origin;
+    is = x.is;
     next = λ a move. let at = all.all a move in
         let low = slice_get_within acts at.0 a at.1 in
         x.next at.0 a (omega (arith, low, most)) at.1;
   }
+
+  -- one more is left
+  pub explored_next : (v : SpaceValue) (b : Book) (n : ℕ) → IsExplored plan setup v b n → IsLeft plan setup v b n
+      → IsExplored plan setup v b (n + 1)
+  explored_next v b n x now = record {
+    count = x.count;
+    first = x.first;
+    good = x.good;
+    origins = x.origins;
+    sorted = x.sorted;
+    near = λ i o p here there.
+        let before = x.near i o now.origin here now.is in
+        let up = x.sorted n (n + 1) now.origin p now.is there (omega arith) in
+        omega (arith, before, up);
+    edges = x.edges;
+    tellings = x.tellings;
+    told_near = λ kind o p here there.
+        let before = x.told_near kind o now.origin here now.is in
+        let up = x.sorted n (n + 1) now.origin p now.is there (omega arith) in
+        omega (arith, before, up);
+    left = λ k low.
+        elim (cases_eq k n) [
+          | inl e ↦ subst (λ (h : ℕ). IsLeft plan setup v b h) (sym e) now
+          | inr ne ↦ x.left k (omega (arith, low, ne))
+        ];
+  }
+
+  pub stepped : (laws : Laws) → IsBegun plan setup → (v : SpaceValue) (b : Book) (k n : ℕ) (acts : List Act)
+      → IsHalfLeft plan setup v b k acts n → IsStepped setup v k
+  stepped laws begun v b k n acts x = record {
+    state = x.state;
+    keeps = x.keeps;
+    such = reached_such laws plan setup begun x.state x.reached;
+    sound = reached_sound laws plan setup begun x.state x.reached;
+  }
+
+  module _ (laws : Laws) (begun : IsBegun plan setup) (v w : SpaceValue) (b c : Book) (k number : ℕ) (a : Act)
+      (made : IsMade plan setup v w b c k number a) (half : IsHalfLeft plan setup v b k plan.acts.items number)
+      (x : IsExplored plan setup v b k) where
+    such : IsSuch setup half.state
+    such = reached_such laws plan setup begun half.state half.reached
+
+    more : Continues b c
+    more = continues b c k number made.then made.event made.writes
+
+    abbrev origin : Origin
+    origin = made.writes.origin
+
+    leads : Keeps w made.then (after half.state a)
+    leads = made.kept half.state half.keeps such
+
+    -- the new number is the next one
+    then_low : made.then < length w.keys
+    then_low = slice_get_within w.keys made.then leads.key leads.is
+
+    count : length c.origins.items ≡ length w.keys
+    count =
+        let grown = grows_keys v w made.grows in
+        let before = x.count in
+        elim made.writes.origins [
+          | inl same ↦
+              let not_next = same.0 in
+              let size = ap length same.1 in
+              elim (cases_lt (length v.keys) (length w.keys)) [
+                | inl wider ↦ let e = made.one (length v.keys) (omega arith) wider in absurd (not_next (sym e ∙ sym before))
+                | inr not_so ↦ omega (arith, grown, before, size, not_so)
+              ]
+          | inr new ↦
+              let is_next = new.0 in
+              let size = ap length new.1 ∙ length-append b.origins.items (origin ∷ []) in
+              let low = then_low in
+              elim (cases_lt (length v.keys + 1) (length w.keys)) [
+                | inl wider ↦
+                    let e = made.one (length v.keys + 1) (omega arith) wider in
+                    absurd (omega (arith, e, is_next, before))
+                | inr not_so ↦ omega (arith, low, is_next, before, size, not_so)
+              ]
+        ]
+
+    abbrev made_act : IsAct plan setup w c origin
+    made_act = record {
+      state = half.state;
+      keeps = subst (λ (h : ℕ). Keeps w h half.state) (sym made.writes.next.from)
+          (keeps_grown v w made.grows k half.state half.keeps);
+      reached = half.reached;
+      before = made.writes.next.before;
+      was = subst (λ (h : ℕ). slice_get c.origins.items h ≡ Some made.writes.next.before) (sym made.writes.next.from)
+          (front_at b.origins.items c.origins.items more.origins k made.writes.next.before made.writes.next.was);
+      level = made.writes.next.level;
+      act = a;
+      doing = subst (λ (h : ℕ). slice_get plan.acts.items h ≡ Some a) (sym made.writes.next.by) made.doing;
+    }
+
+    -- its level is one more than that of the state that is left
+    level : origin.level ≡ half.origin.level + 1
+    level = made.writes.next.level ∙ ap (λ (o : Origin). o.level + 1)
+        (one_value (slice_get b.origins.items k) made.writes.next.before half.origin made.writes.next.was half.is)
+
+    old_low : k < length b.origins.items
+    old_low = slice_get_within b.origins.items k half.origin half.is
+
+    low_level : (i : ℕ) (o : Origin) → slice_get c.origins.items i ≡ Some o → o.level ≤ half.origin.level + 1
+    low_level i o here =
+        elim (origin_cases b.origins.items c.origins.items made.then origin made.writes.origins i o here) [
+          | inl old ↦ x.near i o half.origin old half.is
+          | inr new ↦ let e = ap (λ (p : Origin). p.level) new.2 in let up = level in omega (arith, e, up)
+        ]
+
+    told_level : (kind : ℕ) (o : Origin) → slice_get c.firsts kind ≡ Some (Some o) → o.level ≤ half.origin.level + 1
+    told_level kind o here =
+        elim (made.writes.firsts.only kind o here) [
+          | inl old ↦ x.told_near kind o half.origin old half.is
+          | inr new ↦ let e = ap (λ (p : Origin). p.level) new.same in let up = level in omega (arith, e, up)
+        ]
+
+    here_is : slice_get c.origins.items k ≡ Some half.origin
+    here_is = front_at b.origins.items c.origins.items more.origins k half.origin half.is
+
+    pub explored_then : IsExplored plan setup w c k
+    explored_then = record {
+      count = count;
+      first = record {
+        keeps = keeps_grown v w made.grows 0 (bare (start_of plan setup)) x.first.keeps;
+        origin = x.first.origin;
+        is = front_at b.origins.items c.origins.items more.origins 0 x.first.origin x.first.is;
+        level = x.first.level;
+      };
+      good = λ i low.
+          elim (cases_lt i (length v.keys)) [
+            | inl old ↦ good_grown plan setup v w made.grows i (x.good i old)
+            | inr new ↦ subst (λ (h : ℕ). IsGood plan setup w h) (sym (made.one i new low)) (record {
+              state = after half.state a;
+              keeps = leads;
+              reached = reached_then laws plan setup begun half.state a half.reached made.move;
+            })
+          ];
+      origins = λ i o here up.
+          elim (origin_cases b.origins.items c.origins.items made.then origin made.writes.origins i o here) [
+            | inl old ↦ origin_grown plan setup v w made.grows b c more o i (x.origins i o old up)
+            | inr new ↦
+                let from = made.writes.next.from in
+                let low = old_low in
+                let at = new.0 in
+                subst (λ (p : Origin). IsOrigin plan setup w c p i) (sym new.2)
+                (subst (λ (h : ℕ). IsOrigin plan setup w c origin h) (new.1 ∙ sym new.0) (record {
+                  made = made_act;
+                  low = omega (arith, from, low, new.1);
+                  leads = leads;
+                }))
+          ];
+      sorted = λ i j o p here there before.
+          elim (origin_cases b.origins.items c.origins.items made.then origin made.writes.origins j p there) [
+            | inl old ↦
+                elim (origin_cases b.origins.items c.origins.items made.then origin made.writes.origins i o here) [
+                  | inl first ↦ x.sorted i j o p first old before
+                  | inr last ↦
+                      let low = slice_get_within b.origins.items j p old in
+                      let at = last.0 in
+                      absurd (omega (arith, low, at, before))
+                ]
+            | inr new ↦
+                let most = low_level i o here in
+                let e = ap (λ (q : Origin). q.level) new.2 in
+                let up = level in
+                omega (arith, most, e, up)
+          ];
+      near = λ i o p here now.
+          let e = ap (λ (q : Origin). q.level) (one_value (slice_get c.origins.items k) p half.origin now here_is) in
+          let most = low_level i o here in
+          omega (arith, most, e);
+      edges = λ i e here.
+          elim (edge_cases b.edges.items c.edges.items k made.then made.writes.edges i e here) [
+            | inl old ↦ edge_grown plan setup v w made.grows e.state e.then (x.edges i e old)
+            | inr new ↦
+                subst (λ (h : ℕ). IsEdge plan setup w h e.then) (sym new.0)
+                (subst (λ (h : ℕ). IsEdge plan setup w k h) (sym new.1) (record {
+                  state = half.state;
+                  keeps = keeps_grown v w made.grows k half.state half.keeps;
+                  reached = half.reached;
+                  act = a;
+                  move = made.move;
+                  leads = leads;
+                }))
+          ];
+      tellings = λ kind o here.
+          elim (made.writes.firsts.only kind o here) [
+            | inl old ↦ telling_grown plan setup v w made.grows b c more o kind (x.tellings kind o old)
+            | inr new ↦
+                subst (λ (p : Origin). IsTelling plan setup w c p kind) (sym new.same) (record {
+                  made = made_act;
+                  event = new.told;
+                  tells = sym (made.told half.state half.keeps such) ∙ new.is;
+                  is = new.right;
+                })
+          ];
+      told_near = λ kind o p here now.
+          let e = ap (λ (q : Origin). q.level) (one_value (slice_get c.origins.items k) p half.origin now here_is) in
+          let most = told_level kind o here in
+          omega (arith, most, e);
+      left = λ i low. left_grown plan setup v w made.grows b c more i (x.left i low);
+    }
+
+    tried : IsTried w c k (half.origin.level + 1) half.state a
+    tried =
+        let o = has_origin w c k made.then explored_then then_low in
+        record {
+          met = record {
+            number = made.then;
+            keeps = leads;
+            origin = o.0;
+            is = o.1;
+            soon = low_level made.then o.0 o.1;
+          };
+          edge = edge_there b c k made.then made.writes.edges;
+          told = λ e tells.
+              let t = made.writes.firsts.told e (made.told half.state half.keeps such ∙ tells) in
+              record { origin = t.0; is = t.1; soon = told_level (kind_value e.what) t.0 t.1 };
+        }
+
+    pub half_then : IsHalfLeft plan setup w c k plan.acts.items (number + 1)
+    half_then = record {
+      state = half.state;
+      keeps = keeps_grown v w made.grows k half.state half.keeps;
+      reached = half.reached;
+      origin = half.origin;
+      is = here_is;
+      next = λ i d low here.
+          elim (cases_eq i number) [
+            | inl e ↦
+                let same : a ≡ d = one_value (slice_get plan.acts.items number) a d made.doing
+                (subst (λ (h : ℕ). slice_get plan.acts.items h ≡ Some d) e here) in
+                subst (λ z. IsTried w c k (half.origin.level + 1) half.state z) same tried
+            | inr ne ↦
+                tried_grown plan setup v w made.grows b c more k (half.origin.level + 1) half.state d
+                (half.next i d (omega (arith, low, ne)) here)
+          ];
+    }
+
+  -- nothing is left yet
+  pub explored_start : (laws : Laws) → IsBegun plan setup → (v : SpaceValue) (b : Book) (n : ℕ) → IsNew b
+      → Keeps v n (bare (start_of plan setup)) → ((k : ℕ) → k < length v.keys → k ≡ n)
+      → IsExplored plan setup v b 0
+  explored_start laws begun v b n new keeps one =
+      let low = slice_get_within v.keys n keeps.key keeps.is in
+      let zero_is : 0 ≡ n = one 0 (omega (arith, low)) in
+      let keeps_first : Keeps v 0 (bare (start_of plan setup)) =
+      subst (λ (h : ℕ). Keeps v h (bare (start_of plan setup))) (sym zero_is) keeps in
+      record {
+        count = size low zero_is;
+        first = record {
+          keeps = keeps_first;
+          origin = new.origin;
+          is = ap (λ (os : List Origin). slice_get os 0) new.origins;
+          level = new.level;
+        };
+        good = λ k within.
+            subst (λ (h : ℕ). IsGood plan setup v h) (sym (one k within))
+            (record { state = bare (start_of plan setup); keeps = keeps; reached = reached_start laws plan setup begun });
+        origins = λ k o here up. absurd (alone k o here up);
+        sorted = λ i j o p here there before. absurd (alone j p there (omega (arith, before)));
+        near = λ i o p here there.
+            let e = level_zero i o here in omega (arith, e);
+        edges = λ i e here. absurd (no_edge i e (ap (λ (es : List Edge). slice_get es i) (sym new.edges) ∙ here));
+        tellings = λ kind o here. absurd (new.firsts kind o here);
+        told_near = λ kind o p here there. absurd (new.firsts kind o here);
+        left = λ k none. absurd (omega (arith, none));
+      }
+    where
+      size : n < length v.keys → 0 ≡ n → length b.origins.items ≡ length v.keys
+      size low zero_is =
+          let single = ap length new.origins in
+          elim (cases_lt 1 (length v.keys)) [
+            | inl wide ↦ let e = one 1 wide in absurd (omega (arith, e, zero_is))
+            | inr not_so ↦ omega (arith, single, low, not_so)
+          ]
+
+      alone : (k : ℕ) (o : Origin) → slice_get b.origins.items k ≡ Some o → 0 < k → ⊥
+      alone k o here up =
+          let low = slice_get_within b.origins.items k o here in
+          let single = ap length new.origins in
+          omega (arith, low, single, up)
+
+      level_zero : (i : ℕ) (o : Origin) → slice_get b.origins.items i ≡ Some o → o.level ≡ 0
+      level_zero i o here = elim (cases_lt 0 i) [
+        | inl up ↦ absurd (alone i o here up)
+        | inr not_so ↦
+            let is : i ≡ 0 = omega (arith, not_so) in
+            let same = one_value (slice_get b.origins.items 0) o new.origin
+            (subst (λ (h : ℕ). slice_get b.origins.items h ≡ Some o) is here)
+            (ap (λ (os : List Origin). slice_get os 0) new.origins) in
+            ap (λ (p : Origin). p.level) same ∙ new.level
+      ]
+
+      no_edge : (i : ℕ) (e : Edge) → slice_get [] i ≡ Some e → ⊥
+      no_edge i e here = cc

@@ -1,6 +1,10 @@
 pub mod Counts
 pub mod Closed
 pub mod Kept
+pub mod Grown
 pub mod Left
 pub mod Moves
+pub mod Leading
 pub mod Marks
+pub mod Ending
+pub mod Firsts

@@ -1,15 +1,21 @@
 -- The acts that are explored, put together one by one.
-use Rattle.std.proofs.Common.{◌≡◌, ℕ, zero, suc, ◌<◌, ◌≤◌, ◌+◌, Bool, true, false, List, [], ◌∷◌, ◌++◌, refl, sym, ◌∙◌, ap, subst, length, Option, Some, None, arith, inl, inr, ◌⊎◌}
+use Rattle.std.proofs.Common.{◌≡◌, ℕ, zero, suc, ◌<◌, ◌+◌, Bool, true, false, List, [], ◌∷◌, ◌++◌, refl, sym, subst, length, Some, arith, inl, inr, ◌⊎◌}
 use Rattle.std.proofs.lemmas.Bool.{cases_eq}
-use Rattle.std.specs.Prelude.{slice_get}
+use Rattle.std.specs.Prelude.{not, slice_get}
 use Rattle.lk_abs.specs.declared.events.Act.{Act}
 use Rattle.lk_abs.specs.declared.events.Act.TheVariants as act
 use Rattle.lk_rows.specs.declared.setup.Setup.{Setup}
 use Rattle.lk_rows.specs.Programs.{handlers_of}
+use Rattle.lk_reach.specs.declared.plan.Extras.{Extras}
 use Rattle.lk_reach.specs.Reach.{IsMove, cpus_of}
 use Rattle.lk_reach.specs.Space.{IsFront}
 use Rattle.lk_reach.specs.Explored.{Among, OnlyMoves, AreAllMoves}
 use Rattle.lk_reach.proofs.Kept.{front_get, front_at, front_then}
+
+-- what is not left out is asked for
+pub is_asked : (b : Bool) → not b ≡ false → b ≡ true
+is_asked true e = refl
+is_asked false e = cc
 
 pub among_front : (xs ys : List Act) → IsFront xs ys → (a : Act) → Among xs a → Among ys a
 among_front xs ys f a at = (at.0, front_at xs ys f at.0 a at.1)
@@ -29,12 +35,12 @@ last_or_before (x ∷ xs) a zero b e = inl e
 last_or_before (x ∷ xs) a (suc i) b e = last_or_before xs a i b e
 
 -- one more
-pub only_push : (nudges : Bool) (setup : Setup) (xs : List Act) (a : Act) → OnlyMoves nudges setup xs
-    → IsMove nudges setup a → OnlyMoves nudges setup (xs ++ a ∷ [])
-only_push nudges setup xs a only move i b e =
+pub only_push : (extras : Extras) (setup : Setup) (xs : List Act) (a : Act) → OnlyMoves extras setup xs
+    → IsMove extras setup a → OnlyMoves extras setup (xs ++ a ∷ [])
+only_push extras setup xs a only move i b e =
     elim (last_or_before xs a i b e) [
       | inl old ↦ only i b old
-      | inr new ↦ subst (IsMove nudges setup) new move
+      | inr new ↦ subst (IsMove extras setup) new move
     ]
 
 pub all_push : (Q : ℕ → Type 0) (f : ℕ → Act) (xs : List Act) (n : ℕ)
@@ -54,16 +60,18 @@ all_skip Q f xs n not before p low q =
       | inr ne ↦ before p (omega (arith, low, ne)) q
     ]
 
-pub are_all : (nudges : Bool) (setup : Setup) (acts : List Act) → OnlyMoves nudges setup acts
+pub are_all : (extras : Extras) (setup : Setup) (acts : List Act) → OnlyMoves extras setup acts
     → ((p : ℕ) → p < cpus_of setup → Among acts (act.Step p))
     → ((p : ℕ) → p < cpus_of setup → 0 < handlers_of setup p → Among acts (act.Interrupt p))
-    → ((p : ℕ) → nudges ≡ true → p < cpus_of setup → Among acts (act.Nudge p))
-    → AreAllMoves nudges setup acts
-are_all nudges setup acts only steps ints nudged = record { all = all; only = only }
+    → ((p : ℕ) → extras.nudges ≡ true → p < cpus_of setup → Among acts (act.Nudge p))
+    → ((p : ℕ) → extras.preempts ≡ true → p < cpus_of setup → Among acts (act.Preempt p))
+    → ((p : ℕ) → extras.preempts ≡ true → p < cpus_of setup → Among acts (act.Resume p))
+    → AreAllMoves extras setup acts
+are_all extras setup acts only steps ints nudged preempted resumed = record { all = all; only = only }
   where
-    all : (a : Act) → IsMove nudges setup a → Among acts a
+    all : (a : Act) → IsMove extras setup a → Among acts a
     all (act.Step p) move = steps p move
     all (act.Interrupt p) move = ints p move.0 move.1
     all (act.Nudge p) move = nudged p move.0 move.1
-    all (act.Preempt p) move = absurd move
-    all (act.Resume p) move = absurd move
+    all (act.Preempt p) move = preempted p move.0 move.1
+    all (act.Resume p) move = resumed p move.0 move.1

@@ -1,11 +1,20 @@
--- What an exploration knows: which states it has met, and which of them it has left by every act.
-use Rattle.std.specs.Prelude.{◌≡◌, ◌<◌, ℕ, Bool, List, length, slice_get, Some}
+-- What an exploration knows: which states it has met, by how many acts, and which of them it has left
+-- by every act.
+use Rattle.std.specs.Prelude.{◌≡◌, ◌≢◌, ◌<◌, ◌≤◌, ◌+◌, ◌++◌, ◌∷◌, [], ◌⊎◌, ℕ, List, length, slice_get, Option, Some}
 use Rattle.lk_abs.specs.declared.events.Act.{Act}
+use Rattle.lk_abs.specs.declared.events.Event.{Event}
 use Rattle.lk_rows.specs.declared.setup.Setup.{Setup}
 use Rattle.lk_rows.specs.Machine.{Machine, rest_counts}
+use Rattle.lk_rows.specs.Acts.{next}
 use Rattle.lk_law.specs.Sound.{IsSound}
-use Rattle.lk_reach.specs.Reach.{IsMove, IsReached, after, cpus_of}
-use Rattle.lk_reach.specs.Space.{SpaceValue, Keeps, Knows}
+use Rattle.lk_reach.specs.declared.book.Book.{Book}
+use Rattle.lk_reach.specs.declared.book.Edge.{Edge}
+use Rattle.lk_reach.specs.declared.book.Origin.{Origin}
+use Rattle.lk_reach.specs.declared.plan.Extras.{Extras}
+use Rattle.lk_reach.specs.declared.plan.Plan.{Plan}
+use Rattle.lk_reach.specs.Kinds.{kind_value}
+use Rattle.lk_reach.specs.Reach.{IsBegun, IsMove, IsReached, after, bare, cpus_of, start_of}
+use Rattle.lk_reach.specs.Space.{IsFront, SpaceValue, Keeps}
 
 -- the machine is one of this setup, and has counted nothing
 pub record IsSuch (z : Setup) (m : Machine) : Type 0 where
@@ -22,34 +31,180 @@ pub record IsStepped (setup : Setup) (v : SpaceValue) (k : ℕ) : Type 0 where
   pub sound : IsSound state
 
 -- the number is that of a state that a schedule reaches
-pub record IsGood (nudges : Bool) (setup : Setup) (v : SpaceValue) (k : ℕ) : Type 0 where
+pub record IsGood (plan : Plan) (setup : Setup) (v : SpaceValue) (k : ℕ) : Type 0 where
   pub state : Machine
   pub keeps : Keeps v k state
-  pub reached : IsReached nudges setup state
+  pub reached : IsReached plan setup state
 
--- and the states after the first acts of these are known
-pub record IsHalfLeft (nudges : Bool) (setup : Setup) (v : SpaceValue) (k : ℕ) (acts : List Act) (n : ℕ) : Type 0 where
+-- an act leads from the state of the one number to that of the other
+pub record IsEdge (plan : Plan) (setup : Setup) (v : SpaceValue) (k j : ℕ) : Type 0 where
   pub state : Machine
   pub keeps : Keeps v k state
-  pub reached : IsReached nudges setup state
-  pub next : (i : ℕ) (a : Act) → i < n → slice_get acts i ≡ Some a → Knows v (after state a)
+  pub reached : IsReached plan setup state
+  pub act : Act
+  pub move : IsMove plan.extras setup act
+  pub leads : Keeps v j (after state act)
 
--- and the states after all acts that are explored are known
-pub record IsLeft (nudges : Bool) (setup : Setup) (v : SpaceValue) (k : ℕ) : Type 0 where
+-- the act of an origin, made on its state
+pub record IsAct (plan : Plan) (setup : Setup) (v : SpaceValue) (b : Book) (o : Origin) : Type 0 where
+  pub state : Machine
+  pub keeps : Keeps v o.state state
+  pub reached : IsReached plan setup state
+  pub before : Origin
+  pub was : slice_get b.origins.items o.state ≡ Some before
+  pub level : o.level ≡ before.level + 1
+  pub act : Act
+  pub doing : slice_get plan.acts.items o.act ≡ Some act
+
+-- the origin says how the state of this number was met: by an act on a state with a lower number
+pub record IsOrigin (plan : Plan) (setup : Setup) (v : SpaceValue) (b : Book) (o : Origin) (k : ℕ) : Type 0 where
+  pub made : IsAct plan setup v b o
+  pub low : o.state < k
+  pub leads : Keeps v k (after made.state made.act)
+
+-- the origin says how an event of this kind was first met
+pub record IsTelling (plan : Plan) (setup : Setup) (v : SpaceValue) (b : Book) (o : Origin) (kind : ℕ) : Type 0 where
+  pub made : IsAct plan setup v b o
+  pub event : Event
+  pub tells : (next made.state made.act).1 ≡ Some event
+  pub is : kind_value event.what ≡ kind
+
+-- some event of this kind was met, by at most so many acts
+pub record IsTold (b : Book) (kind most : ℕ) : Type 0 where
+  pub origin : Origin
+  pub is : slice_get b.firsts kind ≡ Some (Some origin)
+  pub soon : origin.level ≤ most
+
+-- the state is known, and met by at most so many acts
+pub record IsMet (v : SpaceValue) (b : Book) (most : ℕ) (s : Machine) : Type 0 where
+  pub number : ℕ
+  pub keeps : Keeps v number s
+  pub origin : Origin
+  pub is : slice_get b.origins.items number ≡ Some origin
+  pub soon : origin.level ≤ most
+
+-- the edge stands in the book
+abbrev pub HasEdge : Book → ℕ → ℕ → Type 0
+HasEdge b k j = (i : ℕ) × (e : Edge) × (slice_get b.edges.items i ≡ Some e) × (e.state ≡ k) × (e.then ≡ j)
+
+-- what an act on the state of this number leads to is known: the state itself, or that of an edge
+pub record IsTried (v : SpaceValue) (b : Book) (k most : ℕ) (s : Machine) (a : Act) : Type 0 where
+  pub met : IsMet v b most (after s a)
+  pub edge : (met.number ≡ k) ⊎ HasEdge b k met.number
+  pub told : (e : Event) → (next s a).1 ≡ Some e → IsTold b (kind_value e.what) most
+
+-- the first acts of these were tried on the state
+pub record IsHalfLeft (plan : Plan) (setup : Setup) (v : SpaceValue) (b : Book) (k : ℕ) (acts : List Act) (n : ℕ) : Type 0 where
   pub state : Machine
   pub keeps : Keeps v k state
-  pub reached : IsReached nudges setup state
-  pub next : (a : Act) → IsMove nudges setup a → Knows v (after state a)
+  pub reached : IsReached plan setup state
+  pub origin : Origin
+  pub is : slice_get b.origins.items k ≡ Some origin
+  pub next : (i : ℕ) (a : Act) → i < n → slice_get acts i ≡ Some a
+      → IsTried v b k (origin.level + 1) state a
+
+-- and all acts that are explored
+pub record IsLeft (plan : Plan) (setup : Setup) (v : SpaceValue) (b : Book) (k : ℕ) : Type 0 where
+  pub state : Machine
+  pub keeps : Keeps v k state
+  pub reached : IsReached plan setup state
+  pub origin : Origin
+  pub is : slice_get b.origins.items k ≡ Some origin
+  pub next : (a : Act) → IsMove plan.extras setup a → IsTried v b k (origin.level + 1) state a
 
 -- the act is one of these
 abbrev pub Among : List Act → Act → Type 0
 Among acts a = (i : ℕ) × (slice_get acts i ≡ Some a)
 
 -- each of these acts is explored
-abbrev pub OnlyMoves : Bool → Setup → List Act → Type 0
-OnlyMoves nudges setup acts = (i : ℕ) (a : Act) → slice_get acts i ≡ Some a → IsMove nudges setup a
+abbrev pub OnlyMoves : Extras → Setup → List Act → Type 0
+OnlyMoves extras setup acts = (i : ℕ) (a : Act) → slice_get acts i ≡ Some a → IsMove extras setup a
 
 -- these acts are those that are explored
-pub record AreAllMoves (nudges : Bool) (setup : Setup) (acts : List Act) : Type 0 where
-  pub all : (a : Act) → IsMove nudges setup a → Among acts a
-  pub only : (i : ℕ) (a : Act) → slice_get acts i ≡ Some a → IsMove nudges setup a
+pub record AreAllMoves (extras : Extras) (setup : Setup) (acts : List Act) : Type 0 where
+  pub all : (a : Act) → IsMove extras setup a → Among acts a
+  pub only : (i : ℕ) (a : Act) → slice_get acts i ≡ Some a → IsMove extras setup a
+
+-- the plan begins at this machine
+pub record IsStart (plan : Plan) (m : Machine) : Type 0 where
+  pub begun : IsBegun plan m.setup
+  pub acts : AreAllMoves plan.extras m.setup plan.acts.items
+  pub there : m ≡ bare (start_of plan m.setup)
+
+-- the first state is where the exploration begins
+pub record HasFirst (plan : Plan) (setup : Setup) (v : SpaceValue) (b : Book) : Type 0 where
+  pub keeps : Keeps v 0 (bare (start_of plan setup))
+  pub origin : Origin
+  pub is : slice_get b.origins.items 0 ≡ Some origin
+  pub level : origin.level ≡ 0
+
+-- The exploration has met these states, written this down of them, and left so many of them.
+pub record IsExplored (plan : Plan) (setup : Setup) (v : SpaceValue) (b : Book) (n : ℕ) : Type 0 where
+  pub count : length b.origins.items ≡ length v.keys
+  pub first : HasFirst plan setup v b
+  pub good : (k : ℕ) → k < length v.keys → IsGood plan setup v k
+  pub origins : (k : ℕ) (o : Origin) → slice_get b.origins.items k ≡ Some o → 0 < k → IsOrigin plan setup v b o k
+  -- who needs fewer acts has a lower number, and who was met last needs one more than who is left next
+  pub sorted : (i j : ℕ) (o p : Origin) → slice_get b.origins.items i ≡ Some o → slice_get b.origins.items j ≡ Some p
+      → i < j → o.level ≤ p.level
+  pub near : (i : ℕ) (o p : Origin) → slice_get b.origins.items i ≡ Some o → slice_get b.origins.items n ≡ Some p
+      → o.level ≤ p.level + 1
+  pub edges : (i : ℕ) (e : Edge) → slice_get b.edges.items i ≡ Some e → IsEdge plan setup v e.state e.then
+  pub tellings : (kind : ℕ) (o : Origin) → slice_get b.firsts kind ≡ Some (Some o) → IsTelling plan setup v b o kind
+  pub told_near : (kind : ℕ) (o p : Origin) → slice_get b.firsts kind ≡ Some (Some o) → slice_get b.origins.items n ≡ Some p
+      → o.level ≤ p.level + 1
+  pub left : (k : ℕ) → k < n → IsLeft plan setup v b k
+
+-- nothing that was written down is forgotten
+pub record Continues (old new : Book) : Type 0 where
+  pub edges : IsFront old.edges.items new.edges.items
+  pub origins : IsFront old.origins.items new.origins.items
+  pub firsts : (kind : ℕ) (o : Origin) → slice_get old.firsts kind ≡ Some (Some o)
+      → slice_get new.firsts kind ≡ Some (Some o)
+
+-- it stands there for this event, which is of the kind
+pub record IsOf (o origin : Origin) (event : Option Event) (kind : ℕ) : Type 0 where
+  pub same : o ≡ origin
+  pub told : Event
+  pub is : event ≡ Some told
+  pub right : kind_value told.what ≡ kind
+
+-- what one act adds to the firsts
+pub record AddsFirst (old new : List (Option Origin)) (origin : Origin) (event : Option Event) : Type 0 where
+  pub kept : (kind : ℕ) (o : Origin) → slice_get old kind ≡ Some (Some o) → slice_get new kind ≡ Some (Some o)
+  pub only : (kind : ℕ) (o : Origin) → slice_get new kind ≡ Some (Some o)
+      → (slice_get old kind ≡ Some (Some o)) ⊎ IsOf o origin event kind
+  pub told : (e : Event) → event ≡ Some e → (o : Origin) × (slice_get new (kind_value e.what) ≡ Some (Some o))
+
+-- how what an act on a state leads to was met
+pub record IsNext (origins : List Origin) (state act : ℕ) (o : Origin) : Type 0 where
+  pub before : Origin
+  pub was : slice_get origins state ≡ Some before
+  pub from : o.state ≡ state
+  pub by : o.act ≡ act
+  pub level : o.level ≡ before.level + 1
+
+-- an act that leads to another state is written down
+abbrev pub AddsEdge : List Edge → List Edge → ℕ → ℕ → Type 0
+AddsEdge old new state then = ((then ≡ state) × (new ≡ old))
+    ⊎ ((e : Edge) × (e.state ≡ state) × (e.then ≡ then) × (new ≡ old ++ e ∷ []))
+
+-- and how the state was met, if it is new
+abbrev pub AddsOrigin : List Origin → List Origin → ℕ → Origin → Type 0
+AddsOrigin old new then o = ((then ≢ length old) × (new ≡ old)) ⊎ ((then ≡ length old) × (new ≡ old ++ o ∷ []))
+
+-- what is written down of an act that led from one state to another
+pub record Writes (old new : Book) (state act then : ℕ) (event : Option Event) : Type 0 where
+  pub origin : Origin
+  pub next : IsNext old.origins.items state act origin
+  pub edges : AddsEdge old.edges.items new.edges.items state then
+  pub origins : AddsOrigin old.origins.items new.origins.items then origin
+  pub firsts : AddsFirst old.firsts new.firsts origin event
+
+-- nothing is written down but the first state
+pub record IsNew (b : Book) : Type 0 where
+  pub edges : b.edges.items ≡ []
+  pub origin : Origin
+  pub origins : b.origins.items ≡ origin ∷ []
+  pub level : origin.level ≡ 0
+  pub firsts : (kind : ℕ) (o : Origin) → slice_get b.firsts kind ≡ Some (Some o) → ⊥

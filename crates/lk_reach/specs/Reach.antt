@@ -1,5 +1,5 @@
 -- What schedules reach: the states of a setup. A state is a machine without its counts.
-use Rattle.std.specs.Prelude.{◌≡◌, ◌<◌, ℕ, Bool, true, List, [], ◌∷◌, length, Some}
+use Rattle.std.specs.Prelude.{◌≡◌, ◌<◌, ℕ, true, List, [], ◌∷◌, length, Some}
 use Rattle.lk_abs.specs.declared.events.Act.{Act}
 use Rattle.lk_abs.specs.declared.events.Act.TheVariants as act
 use Rattle.lk_rows.specs.declared.setup.Setup.{Setup}
@@ -7,8 +7,11 @@ use Rattle.lk_rows.specs.declared.parts.Pc.{Pc}
 use Rattle.lk_rows.specs.Machine.{Machine, cpu_at, rest_counts}
 use Rattle.lk_machine.specs.Parts.{is_over, row_of}
 use Rattle.lk_rows.specs.Acts.{next}
-use Rattle.lk_rows.specs.Programs.{handlers_of}
+use Rattle.lk_rows.specs.Programs.{IsLawfulSetup, handlers_of}
 use Rattle.lk_rows.specs.Run.{at_rest, machine_after}
+use Rattle.lk_law.specs.MachineLaws.{AreInRange}
+use Rattle.lk_reach.specs.declared.plan.Extras.{Extras}
+use Rattle.lk_reach.specs.declared.plan.Plan.{Plan}
 
 -- the machine without its counts
 abbrev pub bare : Machine → Machine
@@ -19,31 +22,47 @@ abbrev pub after : Machine → Act → Machine
 after m a = bare (next m a).0
 
 -- The acts that are explored: a step of each processor, its next handler, if it has handlers, and,
--- where they are asked for, ends of halts without a kick. No processor is preempted or resumed.
-abbrev pub IsMove : Bool → Setup → Act → Type 0
-IsMove nudges setup (act.Step p) = p < length setup.topology.sockets.items
-IsMove nudges setup (act.Interrupt p) =
+-- where they are asked for, ends of halts without a kick, and the preemption of each processor and
+-- its end.
+abbrev pub IsMove : Extras → Setup → Act → Type 0
+IsMove extras setup (act.Step p) = p < length setup.topology.sockets.items
+IsMove extras setup (act.Interrupt p) =
     (p < length setup.topology.sockets.items) × (0 < handlers_of setup p)
-IsMove nudges setup (act.Nudge p) = (nudges ≡ true) × (p < length setup.topology.sockets.items)
-IsMove nudges setup _ = ⊥
+IsMove extras setup (act.Nudge p) = (extras.nudges ≡ true) × (p < length setup.topology.sockets.items)
+IsMove extras setup (act.Preempt p) = (extras.preempts ≡ true) × (p < length setup.topology.sockets.items)
+IsMove extras setup (act.Resume p) = (extras.preempts ≡ true) × (p < length setup.topology.sockets.items)
 
-abbrev pub AreMoves : Bool → Setup → List Act → Type 0
-AreMoves nudges setup [] = Unit {0}
-AreMoves nudges setup (a ∷ acts) = IsMove nudges setup a × AreMoves nudges setup acts
+abbrev pub AreMoves : Extras → Setup → List Act → Type 0
+AreMoves extras setup [] = Unit {0}
+AreMoves extras setup (a ∷ acts) = IsMove extras setup a × AreMoves extras setup acts
 
 -- how many processors a setup has
 abbrev pub cpus_of : Setup → ℕ
 cpus_of setup = length setup.topology.sockets.items
 
--- the state that a schedule reaches
-abbrev pub state_after : Setup → List Act → Machine
-state_after setup acts = bare (machine_after (at_rest setup) acts)
+-- the setup is lawful, and the acts that come before the exploration name its processors
+pub record IsBegun (plan : Plan) (setup : Setup) : Type 0 where
+  pub lawful : IsLawfulSetup setup
+  pub range : AreInRange (cpus_of setup) plan.before.items
+
+-- where the exploration begins: behind these acts, from rest
+abbrev pub start_of : Plan → Setup → Machine
+start_of plan setup = machine_after (at_rest setup) plan.before.items
+
+-- the state that a schedule reaches from there
+abbrev pub state_after : Plan → Setup → List Act → Machine
+state_after plan setup acts = bare (machine_after (start_of plan setup) acts)
+
+-- the state after acts on a state
+abbrev pub run : Machine → List Act → Machine
+run s [] = s
+run s (a ∷ acts) = run (after s a) acts
 
 -- some schedule reaches it
-pub record IsReached (nudges : Bool) (setup : Setup) (s : Machine) : Type 0 where
+pub record IsReached (plan : Plan) (setup : Setup) (s : Machine) : Type 0 where
   pub acts : List Act
-  pub moves : AreMoves nudges setup acts
-  pub there : s ≡ state_after setup acts
+  pub moves : AreMoves plan.extras setup acts
+  pub there : s ≡ state_after plan setup acts
 
 -- The counts change nothing else: an act on the machine without them tells the same, and leaves the
 -- same state.

@@ -1,21 +1,17 @@
 // What a graph tells.
 
-ghost use Rattle.std.specs.Prelude.{◌≡◌, ◌<◌, ◌≤◌, ◌++◌, ◌∷◌, [], ℕ, List, IfNone, IfOk, OnOk, IfSome, length, true, false};
-ghost use Rattle.lk_abs.specs.declared.events.Act.{Act as ActValue};
+ghost use Rattle.std.specs.Prelude.{◌≡◌, ◌<◌, ◌≤◌, ◌++◌, ◌∷◌, [], ℕ, IfNone, IfOk, OnOk, IfSome, length, true, false};
 ghost use Rattle.lk_rows.specs.Machine.{Machine as MachineValue};
-ghost use Rattle.lk_rows.specs.Run.{at_rest};
-ghost use Rattle.lk_rows.specs.Programs.{IsLawfulSetup};
-ghost use Rattle.lk_reach.specs.Reach.{AreMoves, AreOver, MakesRow, state_after};
+ghost use Rattle.lk_reach.specs.Reach.{AreOver, MakesRow};
 ghost use Rattle.lk_reach.specs.Rows.{AreMarked, IsMade, IsUnmade};
 ghost use Rattle.lk_reach.specs.Space.{Keeps};
+ghost use Rattle.lk_reach.specs.Told.{IsWhole};
 
 use crate::book::Book;
-use crate::exploring::{Watch, explore};
 use crate::kinds::KINDS;
 use crate::plan::Plan;
 use crate::space::{Space, is_row};
-use lk_abs::{Act, Memory};
-use lk_core::{acts_change_little, runs_keep};
+use lk_abs::Memory;
 use lk_machine::Machine;
 use lk_rows::Pc;
 use std::alloc::Global;
@@ -27,18 +23,20 @@ pub struct Graph {
     pub(crate) space: Space,
     pub(crate) plan: Plan,
     pub(crate) book: Book,
+    /// A machine of the setup, in any state.
+    pub(crate) machine: Machine,
     /// How many processors there are.
     pub(crate) cpus: u32,
-    /// Whether every state was left by every act.
-    pub(crate) is_whole: bool,
+    /// How many states were left by every act.
+    pub(crate) left: usize,
 }
 
 impl Graph {
-    /// Whether every state that a schedule reaches was met.
+    /// Whether every state that was met was left by every act, so that a schedule reaches no other.
     pub fn is_whole(&self) -> bool
-        ensures { result ≡ self.now.is_whole }
+        ensures { result ≡ true → IsWhole self.now }
     {
-        self.is_whole
+        self.left == self.space.len()
     }
 
     /// How many states were met.
@@ -53,14 +51,9 @@ impl Graph {
         self.book.edges.len()
     }
 
-    /// The deepest level: how many acts lead to the state that is reached last.
+    /// The deepest level: how many acts lead to the state that takes most.
     pub fn deepest(&self) -> u32 {
-        self.book.level
-    }
-
-    /// How many parts of processors were met, and how many shared parts.
-    pub fn parts(&self) -> (usize, usize) {
-        self.space.parts()
+        self.book.level(self.states().saturating_sub(1))
     }
 
     /// How often each kind of event was met, on all acts that were tried.
@@ -155,162 +148,11 @@ impl Graph {
         }
         true
     }
-
-    /// For each state whether every processor is done there.
-    ///
-    /// # Errors
-    ///
-    /// There is not enough memory.
-    pub fn finished(&self, alloc: Global) -> Result<Vec<bool>, Memory>
-        requires few { self.now.cpus ≤ 8 }
-    {
-        let mut marks = Vec::with_capacity(alloc, self.states())?;
-        for state in 0..self.states() {
-            let is_over = self.is_over(state);
-            marks.push(is_over).map_err(|_| Memory)?;
-        }
-        Ok(marks)
-    }
-
-    /// For each state whether no act leads on from it, and not every processor is done there.
-    ///
-    /// # Errors
-    ///
-    /// There is not enough memory.
-    pub fn stuck(&self, alloc: Global) -> Result<Vec<bool>, Memory>
-        requires few { self.now.cpus ≤ 8 }
-    {
-        let mut marks = self.finished(alloc)?;
-        for edge in &self.book.edges {
-            if let Some(mark) = marks.get_mut(edge.from as usize) {
-                *mark = true;
-            }
-        }
-        Ok(turned(marks))
-    }
-
-    // Marks each state from which an act leads to a marked one, the higher ones first. Returns
-    // whether it marked one.
-    fn spread(&self, marks: &mut [bool]) -> bool {
-        let mut spreads = false;
-        for edge in self.book.edges.iter().rev() {
-            let is_marked = marks.get(edge.to as usize).copied().unwrap_or(false);
-            if let Some(mark) = marks.get_mut(edge.from as usize) {
-                if is_marked && !*mark {
-                    *mark = true;
-                    spreads = true;
-                }
-            }
-        }
-        spreads
-    }
-
-    /// For each state whether no schedule leads from it to one at which every processor is done.
-    ///
-    /// # Errors
-    ///
-    /// There is not enough memory.
-    pub fn doomed(&self, alloc: Global) -> Result<Vec<bool>, Memory>
-        requires few { self.now.cpus ≤ 8 }
-    {
-        let mut marks = self.finished(alloc)?;
-        for _ in 0..self.states() {
-            if !self.spread(&mut marks) {
-                return Ok(turned(marks));
-            }
-        }
-        Ok(turned(marks))
-    }
-
-    // The acts of a shortest schedule to a state, the last one first.
-    fn back(&self, alloc: Global, state: usize) -> Result<Vec<Act>, Memory> {
-        let mut acts = Vec::new(alloc);
-        let mut at = state;
-        for _ in 0..self.states() {
-            if at == 0 {
-                return Ok(acts);
-            }
-            if let Some(origin) = self.book.origins.get(at) {
-                if let Some(doing) = self.plan.acts.get(origin.act as usize) {
-                    acts.push(*doing).map_err(|_| Memory)?;
-                }
-                at = origin.state as usize;
-            }
-        }
-        Ok(acts)
-    }
-
-    /// The acts of a shortest schedule to a state.
-    ///
-    /// # Errors
-    ///
-    /// There is not enough memory.
-    pub fn acts_to(&self, alloc: Global, state: usize) -> Result<Vec<Act>, Memory> {
-        let mut acts = self.back(alloc, state)?;
-        acts.reverse();
-        Ok(acts)
-    }
-
-    /// The acts of a shortest schedule to an event of this kind, or `None` if none was met.
-    ///
-    /// # Errors
-    ///
-    /// There is not enough memory.
-    pub fn acts_to_event(&self, alloc: Global, kind: usize) -> Result<Option<Vec<Act>>, Memory> {
-        let Some(Some(origin)) = self.book.firsts.get(kind) else {
-            return Ok(None);
-        };
-        let mut acts = self.acts_to(alloc, origin.state as usize)?;
-        if let Some(doing) = self.plan.acts.get(origin.act as usize) {
-            acts.push(*doing).map_err(|_| Memory)?;
-        }
-        Ok(Some(acts))
-    }
 }
 
-// Adds a mark.
-fn add_mark(marks: &mut Vec<bool>, mark: bool) -> Result<(), Memory>
+/// Adds a mark.
+pub(crate) fn add_mark(marks: &mut Vec<bool>, mark: bool) -> Result<(), Memory>
     ensures { OnOk result (marks.new.items ≡ marks.old.items ++ mark ∷ []) }
 {
     marks.push(mark).map_err(|_| Memory)
-}
-
-// The marks, each turned round.
-fn turned(mut marks: Vec<bool>) -> Vec<bool> {
-    for mark in marks.iter_mut() {
-        *mark = !*mark;
-    }
-    marks
-}
-
-/// Whether no schedule of a machine at rest makes this row. It is false, too, if the watcher ended
-/// the exploration before it had met all states.
-///
-/// # Errors
-///
-/// There is not enough memory.
-pub fn is_never<W: Watch>(
-    alloc: Global,
-    machine: &mut Machine,
-    nudges: bool,
-    row: Pc,
-    watch: &mut W,
-) -> Result<bool, Memory>
-    requires few { length machine.old.cpus ≤ 8 }
-    requires rest { machine.old ≡ at_rest machine.old.setup }
-    requires lawful { IsLawfulSetup machine.old.setup }
-    ensures never { IfOk result (λ never. never ≡ true → (acts : List ActValue)
-        → AreMoves nudges machine.old.setup acts → ¬ MakesRow (state_after machine.old.setup acts) row) }
-{
-    runs_keep();
-    acts_change_little();
-    let graph = explore(alloc, machine, nudges, watch)?;
-    if graph.is_whole() {
-        match graph.first_with(row) {
-            Some(_) => Ok(false),
-            None => Ok(true),
-        }
-    } else {
-        Ok(false)
-    }
 }

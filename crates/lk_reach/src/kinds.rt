@@ -1,6 +1,7 @@
 // The kinds of events.
 
-ghost use Rattle.std.specs.Prelude.{◌<◌};
+ghost use Rattle.std.specs.Prelude.{◌≡◌, ◌<◌};
+ghost use Rattle.lk_reach.specs.Kinds.{kind_value};
 
 use lk_abs::{How, RwHow, What};
 
@@ -9,7 +10,8 @@ pub const KINDS: usize = 33;
 
 /// The number of the kind of an event.
 pub(crate) fn kind_of(what: What) -> usize
-    ensures { result < 33 }
+    ensures is { result ≡ kind_value what }
+    ensures few { result < 33 }
 {
     match what {
         What::Take { how, .. } => match how {
@@ -53,40 +55,3 @@ pub(crate) fn kind_of(what: What) -> usize
         What::WRelease { .. } => 32,
     }
 }
-
-/// The names of the kinds of events, by their numbers.
-pub const KIND_NAMES: [&str; KINDS] = [
-    "take fast",
-    "take try",
-    "take pending",
-    "take virt",
-    "take retry",
-    "take nonode",
-    "take steal",
-    "take head",
-    "take sole",
-    "miss",
-    "release",
-    "release owing",
-    "kick",
-    "arrive",
-    "pass",
-    "pass moved",
-    "flush",
-    "promote",
-    "leave",
-    "halt",
-    "wake",
-    "int",
-    "nudge",
-    "rtake fast",
-    "rtake irq",
-    "rtake queued",
-    "rtake try",
-    "rrelease",
-    "wtake fast",
-    "wtake irq",
-    "wtake queued",
-    "wtake try",
-    "wrelease",
-];

@@ -7,19 +7,24 @@
 #![tactic(auto)]
 
 mod book;
+mod ends;
 mod exploring;
 mod graph;
 mod key;
 mod kinds;
 mod laws;
+mod lost;
+mod making;
 mod plan;
 mod slots;
 mod space;
 mod table;
+mod ways;
 
 pub use book::Seen;
 pub use exploring::{Watch, explore};
-pub use graph::{Graph, is_never};
+pub use graph::Graph;
 pub use key::MAX_CPUS;
-pub use kinds::{KIND_NAMES, KINDS};
+pub use kinds::KINDS;
 pub use laws::counts_are_idle;
+pub use plan::{Extras, Plan};

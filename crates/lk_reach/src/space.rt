@@ -221,11 +221,6 @@ impl Space {
         keys.saturating_add(slots)
             .saturating_add(parts.saturating_mul(PART_BYTES))
     }
-
-    /// How many parts of processors there are, and how many shared parts.
-    pub(crate) fn parts(&self) -> (usize, usize) {
-        (self.parts.items.len(), self.shareds.items.len())
-    }
 }
 
 // Whether one of these parts of processors makes this row.

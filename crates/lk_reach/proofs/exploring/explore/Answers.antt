@@ -1,134 +1,60 @@
-use Rattle.std.proofs.Common.{rules, Bool, arith, ◌≡◌, ◌<◌, ◌≤◌, ℕ, List, ◌∷◌, [], ◌++◌, ◌∙◌, ap, refl, length, sym, subst, ◌+◌, true}
-use Rattle.lk_abs.specs.declared.events.Act.{Act}
-use Rattle.lk_abs.specs.declared.events.Act.TheVariants as act
+use Rattle.std.proofs.Common.{arith, ◌≡◌, ◌∙◌, refl, sym, subst}
 use Rattle.lk_rows.specs.declared.setup.Setup.{Setup}
-use Rattle.lk_rows.specs.Machine.{Machine, handlers_at}
-use Rattle.lk_rows.specs.Programs.{handlers_of}
-use Rattle.lk_law.specs.Sound.{IsSound}
-use Rattle.lk_reach.specs.Reach.{after, IsMove, cpus_of}
-use Rattle.lk_reach.specs.Space.{Keeps, Knows, Grows, IsFront}
-use Rattle.lk_reach.specs.Explored.{IsSuch, IsStepped, IsGood, IsLeft, Among, OnlyMoves, AreAllMoves}
+use Rattle.lk_rows.specs.Machine.{Machine}
+use Rattle.lk_reach.specs.Explored.{AreAllMoves, IsExplored, IsSuch}
+use Rattle.lk_reach.specs.Reach.{IsBegun, IsReached, bare, cpus_of, start_of}
+use Rattle.lk_reach.specs.Space.{Keeps}
 use Rattle.lk_reach.proofs.Left as left
 use Rattle.lk_reach.proofs.Closed as closed
-use Rattle.std.proofs.Common.{get_or, Some}
-use Rattle.std.specs.Prelude.{slice_get}
-use Rattle.std.proofs.lemmas.Option.{slice_get-get_or}
-use Rattle.lk_rows.specs.Acts.{processor_of}
-use Rattle.lk_rows.specs.Run.{at_rest}
-use Rattle.lk_rows.specs.Programs.{IsLawfulSetup}
-use Rattle.lk_reach.specs.Reach.{bare}
-use Rattle.lk_reach.proofs.Moves.{front_push, only_push, all_push, all_skip, are_all, among_front}
 use Rattle.lk_reach.proofs.exploring.explore.Goals as goal
 
-pub loop-state-init : goal.loop-state-init
-loop-state-init g c =
-    let z = c.args.machine.now.setup in
+pub leave_all-requires : goal.leave_all-requires
+leave_all-requires g c =
+    let p = c.args.plan in
+    let z = c.args.machine.setup in
     let laws : closed.Laws = record { runs = c.runs_keep.ensures.run; setup = c.acts_change_little.ensures.setup } in
-    let rest = c.requires.rest in
-    let there = closed.reached_rest laws c.args.nudges z c.requires.lawful in
-    let such = closed.reached_such laws c.args.nudges z c.requires.lawful (bare (at_rest z)) there in
+    let there = c.requires.start.there in
     let v = c.note.new.self in
     let n = c.in_ok-note.field-0 in
-    let kept : Keeps v n (bare (at_rest z)) = subst (λ (q : Machine). Keeps v n q) rest c.in_ok-note.ensures.kept in
     let none = c.in_ok-space.ensures in
     record {
-      such = subst (λ (q : Machine). IsSuch z q) (sym rest) such;
-      same = refl;
-      first = (n, kept);
-      good = λ k low.
-          let e = c.in_ok-note.ensures.one k (omega (arith, none)) low in
-          subst (λ (h : ℕ). IsGood c.args.nudges z v h) (sym e) (record {
-            state = bare (at_rest z);
-            keeps = kept;
-            reached = there;
-          });
-      left = λ k low. absurd (omega (arith, low));
-      within = omega arith;
+      few = c.requires.few;
+      begun = c.requires.start.begun;
+      acts = c.requires.start.acts;
+      such = subst (λ (q : Machine). IsSuch z q) (sym there)
+          (closed.reached_such laws p z c.requires.start.begun (bare (start_of p z)) (closed.reached_start laws p z c.requires.start.begun));
+      explored = left.explored_start p z laws c.requires.start.begun v c.in_ok-book.book n c.in_ok-book.ensures
+          (subst (λ (q : Machine). Keeps v n q) there c.in_ok-note.ensures.kept)
+          (λ k low. c.in_ok-note.ensures.one k (omega (arith, none)) low);
     }
 
-pub leave-requires : goal.leave-requires
-leave-requires g c =
-    let inv = c.loop-state.invariant in
-    let z = c.args.machine.now.setup in
-    let v = c.loop-state.space in
-    let cpus = inv.such.cpus in
+pub returns : goal.returns
+returns g c =
+    let p = c.args.plan in
+    let m = c.args.machine in
+    let z = m.setup in
+    let laws : closed.Laws = record { runs = c.runs_keep.ensures.run; setup = c.acts_change_little.ensures.setup } in
+    let e = c.in_ok-left.ensures in
+    let begun = c.requires.start.begun in
+    let start : IsReached p z m = subst (λ (q : Machine). IsReached p z q) (sym c.requires.start.there)
+    (closed.reached_start laws p z begun) in
     let few = c.requires.few in
-    let rest = ap (λ (q : Machine). length q.cpus) c.requires.rest in
-    let laws : closed.Laws = record { runs = c.runs_keep.ensures.run; setup = c.acts_change_little.ensures.setup } in
-    let first = (closed.reached_such laws c.args.nudges z c.requires.lawful (bare (at_rest z))
-    (closed.reached_rest laws c.args.nudges z c.requires.lawful)).cpus in
-    let within = inv.within in
-    let other = c.if-state-len.false in
-    let len = c.len.ensures in
+    let count = c.cpus-cpus.ensures in
+    let back = sym e.setup in
     record {
-      few = omega (arith, cpus, few, rest, first);
-      lawful = subst IsLawfulSetup (sym inv.same) c.requires.lawful;
-      such = subst (λ (q : Setup). IsSuch q c.loop-state.machine) (sym inv.same) inv.such;
-      acts = subst (λ (q : Setup). AreAllMoves c.in_ok-plan.plan.nudges q c.in_ok-plan.plan.acts.items) (sym inv.same)
-          (subst (λ (yes : Bool). AreAllMoves yes z c.in_ok-plan.plan.acts.items) (sym c.in_ok-plan.ensures.nudges) c.in_ok-plan.ensures.all);
-      there = omega (arith, within, other, len);
-      good = subst (λ (yes : Bool). (k : ℕ) → k < length v.keys → IsGood yes c.loop-state.machine.setup v k) (sym c.in_ok-plan.ensures.nudges)
-          (subst (λ (q : Setup). (k : ℕ) → k < length v.keys → IsGood c.args.nudges q v k) (sym inv.same) inv.good);
+      all = λ whole acts moves.
+          let met = closed.whole_met laws p z begun c.leave_all.new.space c.leave_all.new.book c.in_ok-left.left e.explored whole acts moves in
+          (met.number, met.keeps);
+      only = e.explored.good;
+      graph = record {
+        begun = subst (λ (q : Setup). IsBegun p q) back begun;
+        acts = subst (λ (q : Setup). AreAllMoves p.extras q p.acts.items) back c.requires.start.acts;
+        explored = subst (λ (q : Setup). IsExplored p q c.leave_all.new.space c.leave_all.new.book c.in_ok-left.left) back e.explored;
+        within = e.within;
+        cpus = subst (λ (q : Setup). c.cpus-cpus.result ≡ cpus_of q) back
+            (count ∙ (closed.reached_such laws p z begun m start).cpus);
+        few = omega (arith, few, count);
+      };
+      plan = refl;
+      setup = e.setup;
     }
-
-pub loop-state-preserved : goal.loop-state-preserved
-loop-state-preserved g c =
-    let inv = c.loop-state.invariant in
-    let z = c.args.machine.now.setup in
-    let v = c.loop-state.space in
-    let w = c.leave.new.space in
-    let e = c.in_ok-leave.ensures in
-    let n = c.loop-state.state in
-    let within = inv.within in
-    let other = c.if-state-len.false in
-    let len = c.len.ensures in
-    let more = left.grows_keys v w e.grows in
-    record {
-      such = subst (λ (q : Setup). IsSuch q c.leave.new.machine) inv.same e.such;
-      same = e.setup ∙ inv.same;
-      first = left.knows_grown v w e.grows (bare (at_rest z)) inv.first;
-      good = subst (λ (q : Setup). (k : ℕ) → k < length w.keys → IsGood c.args.nudges q w k) inv.same
-          (subst (λ (yes : Bool). (k : ℕ) → k < length w.keys → IsGood yes c.loop-state.machine.setup w k) c.in_ok-plan.ensures.nudges e.good);
-      left = left.left_then c.args.nudges z v w e.grows n inv.left
-          (subst (λ (q : Setup). IsLeft c.args.nudges q w n) inv.same
-          (subst (λ (yes : Bool). IsLeft yes c.loop-state.machine.setup w n) c.in_ok-plan.ensures.nudges e.left));
-      within = omega (arith, within, other, len, more);
-    }
-
-pub returns-then-state-len : goal.returns-then-state-len
-returns-then-state-len g c =
-    let inv = c.loop-state.invariant in
-    let z = c.args.machine.now.setup in
-    let laws : closed.Laws = record { runs = c.runs_keep.ensures.run; setup = c.acts_change_little.ensures.setup } in
-    let is = c.if-state-len.true in
-    let len = c.len.ensures in
-    record {
-      all = λ _. closed.all_known laws c.args.nudges z c.requires.lawful c.loop-state.space inv.first
-          (λ k low. inv.left k (omega (arith, is, len, low)));
-      only = inv.good;
-      cpus = c.cpus-cpus.ensures ∙ ap (λ (q : Machine). length q.cpus) c.requires.rest
-          ∙ (closed.reached_such laws c.args.nudges z c.requires.lawful (bare (at_rest z))
-          (closed.reached_rest laws c.args.nudges z c.requires.lawful)).cpus;
-      few = let few = c.requires.few in let count = c.cpus-cpus.ensures in omega (arith, few, count);
-    }
-
-pub new-requires-clause-unused : goal.new-requires-clause-unused
-new-requires-clause-unused g c =
-    subst (λ (q : Machine). (p : ℕ) → handlers_at q p ≡ 0) (sym c.requires.rest)
-    (closed.rest_unused c.args.machine.now.setup)
-
-pub returns-then-not-goes_on-clause-cpus : goal.returns-then-not-goes_on-clause-cpus
-returns-then-not-goes_on-clause-cpus g c =
-    let z = c.args.machine.now.setup in
-    let laws : closed.Laws = record { runs = c.runs_keep.ensures.run; setup = c.acts_change_little.ensures.setup } in
-    c.cpus-cpus.ensures ∙ ap (λ (q : Machine). length q.cpus) c.requires.rest
-    ∙ (closed.reached_such laws c.args.nudges z c.requires.lawful (bare (at_rest z))
-    (closed.reached_rest laws c.args.nudges z c.requires.lawful)).cpus
-
-pub returns-clause-cpus : goal.returns-clause-cpus
-returns-clause-cpus g c =
-    let z = c.args.machine.now.setup in
-    let laws : closed.Laws = record { runs = c.runs_keep.ensures.run; setup = c.acts_change_little.ensures.setup } in
-    c.cpus-cpus.ensures ∙ ap (λ (q : Machine). length q.cpus) c.requires.rest
-    ∙ (closed.reached_such laws c.args.nudges z c.requires.lawful (bare (at_rest z))
-    (closed.reached_rest laws c.args.nudges z c.requires.lawful)).cpus

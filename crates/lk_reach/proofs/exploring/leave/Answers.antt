@@ -1,47 +1,35 @@
-use Rattle.std.proofs.Common.{rules, arith, ◌≡◌, ◌<◌, ◌≤◌, ℕ, List, ◌∷◌, [], ◌++◌, ◌∙◌, ap, refl, length, sym, subst, ◌+◌, true}
+use Rattle.std.proofs.Common.{arith, ◌≡◌, ◌∙◌, List, get_or, Some, length, ap, refl, sym, subst}
+use Rattle.std.specs.Prelude.{slice_get}
+use Rattle.std.proofs.lemmas.Option.{slice_get-get_or}
 use Rattle.lk_abs.specs.declared.events.Act.{Act}
 use Rattle.lk_abs.specs.declared.events.Act.TheVariants as act
 use Rattle.lk_rows.specs.declared.setup.Setup.{Setup}
-use Rattle.lk_rows.specs.Machine.{Machine}
-use Rattle.lk_rows.specs.Programs.{handlers_of}
-use Rattle.lk_law.specs.Sound.{IsSound}
-use Rattle.lk_reach.specs.Reach.{after, IsMove, cpus_of}
-use Rattle.lk_reach.specs.Space.{Keeps, Knows, Grows, IsFront}
-use Rattle.lk_reach.specs.Explored.{IsSuch, IsStepped, IsGood, IsLeft, Among, OnlyMoves, AreAllMoves}
+use Rattle.lk_reach.specs.Explored.{IsSuch, IsStepped}
 use Rattle.lk_reach.proofs.Left as left
 use Rattle.lk_reach.proofs.Closed as closed
-use Rattle.std.proofs.Common.{get_or, Some}
-use Rattle.std.specs.Prelude.{slice_get}
-use Rattle.std.proofs.lemmas.Option.{slice_get-get_or}
-use Rattle.lk_rows.specs.Acts.{processor_of}
-use Rattle.lk_rows.specs.Run.{at_rest}
-use Rattle.lk_rows.specs.Programs.{IsLawfulSetup}
-use Rattle.lk_reach.specs.Reach.{bare}
-use Rattle.lk_reach.proofs.Moves.{front_push, only_push, all_push, all_skip, are_all, among_front}
 use Rattle.lk_reach.proofs.exploring.leave.Goals as goal
 
 pub loop-number-init : goal.loop-number-init
 loop-number-init c = record {
   such = c.requires.such;
   same = refl;
-  grows = left.grows_self c.args.space.now;
-  half = left.half_start c.args.plan.now.nudges c.args.machine.now.setup c.args.space.now c.args.state c.acts-acts.result.now
-      (c.requires.good c.args.state c.requires.there);
-  good = c.requires.good;
+  explored = c.requires.explored;
+  half = left.half_start c.args.plan.now c.args.machine.now.setup c.args.space.now c.args.book.now c.args.state
+      c.args.plan.now.acts.items c.requires.explored c.requires.there;
 }
 
 pub visit-requires : goal.visit-requires
 visit-requires c =
     let inv = c.loop-number.invariant in
     let z = c.args.machine.now.setup in
-    let acts = c.acts-acts.result.now in
+    let acts = c.args.plan.now.acts.items in
     let n = c.loop-number.number in
     let laws : closed.Laws = record { runs = c.runs_keep.ensures.run; setup = c.acts_change_little.ensures.setup } in
-    let a = get_or acts n (act.Step 0) in
-    let at : slice_get acts n ≡ Some a = slice_get-get_or acts n (act.Step 0) c.loop-number-test.true in
-    let all = subst (λ (xs : List Act). AreAllMoves c.args.plan.now.nudges z xs) (sym c.acts-acts.ensures) c.requires.acts in
-    let move = all.only n a at in
-    let low = closed.move_in_range c.args.plan.now.nudges z a move in
+    let a = get_or c.acts-acts.result.now n (act.Step 0) in
+    let at : slice_get acts n ≡ Some a = subst (λ (xs : List Act). slice_get xs n ≡ Some a) c.acts-acts.ensures
+    (slice_get-get_or c.acts-acts.result.now n (act.Step 0) c.loop-number-test.true) in
+    let move = c.requires.acts.only n a at in
+    let low = closed.move_in_range c.args.plan.now.extras z a move in
     let cpus = inv.such.cpus in
     let before = c.requires.such.cpus in
     let few = c.requires.few in
@@ -49,7 +37,7 @@ visit-requires c =
       few = omega (arith, cpus, before, few);
       such = subst (λ (q : Setup). IsSuch q c.loop-number.machine) (sym inv.same) inv.such;
       stepped = subst (λ (q : Setup). IsStepped q c.loop-number.space c.args.state) (sym inv.same)
-          (left.stepped c.args.plan.now.nudges z laws c.requires.lawful c.loop-number.space c.args.state n acts inv.half);
+          (left.stepped c.args.plan.now z laws c.requires.begun c.loop-number.space c.loop-number.book c.args.state n acts inv.half);
       range = omega (arith, low, cpus);
     }
 
@@ -57,38 +45,50 @@ pub loop-number-preserved : goal.loop-number-preserved
 loop-number-preserved c =
     let inv = c.loop-number.invariant in
     let z = c.args.machine.now.setup in
-    let acts = c.acts-acts.result.now in
+    let p = c.args.plan.now in
+    let acts = c.args.plan.now.acts.items in
     let n = c.loop-number.number in
     let v = c.loop-number.space in
     let w = c.visit.new.space in
+    let b = c.loop-number.book in
+    let d = c.write.new.self in
     let k = c.args.state in
-    let j = c.in_ok-then.then in
     let e = c.in_ok-then.ensures in
     let laws : closed.Laws = record { runs = c.runs_keep.ensures.run; setup = c.acts_change_little.ensures.setup } in
-    let a = get_or acts n (act.Step 0) in
-    let at : slice_get acts n ≡ Some a = slice_get-get_or acts n (act.Step 0) c.loop-number-test.true in
-    let all = subst (λ (xs : List Act). AreAllMoves c.args.plan.now.nudges z xs) (sym c.acts-acts.ensures) c.requires.acts in
-    let move = all.only n a at in
-    let made : (s : Machine) → Keeps v k s → IsSuch z s → Keeps w j (after s a) =
-    λ s has such. e.kept s has (subst (λ (q : Setup). IsSuch q s) (sym inv.same) such) in
+    let a = get_or c.acts-acts.result.now n (act.Step 0) in
+    let at : slice_get acts n ≡ Some a = subst (λ (xs : List Act). slice_get xs n ≡ Some a) c.acts-acts.ensures
+    (slice_get-get_or c.acts-acts.result.now n (act.Step 0) c.loop-number-test.true) in
+    let made : left.IsMade p z v w b d k n a = record {
+      grows = e.grows;
+      then = c.in_ok-then.then;
+      event = c.in_ok-then.event;
+      move = c.requires.acts.only n a at;
+      doing = at;
+      kept = λ s has such. e.kept s has (subst (λ (q : Setup). IsSuch q s) (sym inv.same) such);
+      told = λ s has such. e.told s has (subst (λ (q : Setup). IsSuch q s) (sym inv.same) such);
+      one = e.one;
+      writes = c.in_ok-write.ensures;
+    } in
     record {
       such = subst (λ (q : Setup). IsSuch q c.visit.new.machine) inv.same e.such;
       same = e.setup ∙ inv.same;
-      grows = left.grows_then c.args.space.now v w inv.grows e.grows;
-      half = left.half_then c.args.plan.now.nudges z laws c.requires.lawful v w k n j acts a e.grows inv.half at made;
-      good = left.good_then c.args.plan.now.nudges z laws c.requires.lawful v w k n j acts a e.grows inv.half move made e.one inv.good;
+      explored = left.explored_then p z laws c.requires.begun v w b d k n a made inv.half inv.explored;
+      half = left.half_then p z laws c.requires.begun v w b d k n a made inv.half inv.explored;
     }
 
 pub returns : goal.returns
 returns c =
     let inv = c.loop-number.invariant in
+    let p = c.args.plan.now in
+    let z = c.args.machine.now.setup in
+    let v = c.loop-number.space in
+    let b = c.loop-number.book in
+    let k = c.args.state in
+    let size = ap length c.acts-acts.ensures in
+    let end = c.loop-number-test.false in
     record {
-      left = left.left_now c.args.plan.now.nudges c.args.machine.now.setup c.loop-number.space c.args.state
-          c.loop-number.number c.acts-acts.result.now
-          (subst (λ (xs : List Act). AreAllMoves c.args.plan.now.nudges c.args.machine.now.setup xs) (sym c.acts-acts.ensures) c.requires.acts)
-          c.loop-number-test.false inv.half;
-      grows = inv.grows;
-      good = inv.good;
+      explored = left.explored_next p z v b k inv.explored
+          (left.left_now p z v b k c.loop-number.number p.acts.items c.requires.acts (omega (arith, size, end)) inv.half);
       such = inv.such;
       setup = inv.same;
     }

@@ -1,15 +1,12 @@
-use Rattle.std.proofs.Common.{rules, arith, ◌≡◌, ◌<◌, ◌≤◌, ℕ, List, ◌∷◌, [], ◌++◌, ◌∙◌, ap, refl, length, sym, subst, ◌+◌, true}
-use Rattle.lk_abs.specs.declared.events.Act.{Act}
-use Rattle.lk_abs.specs.declared.events.Act.TheVariants as act
+use Rattle.std.proofs.Common.{arith, ◌≡◌, ◌∙◌, ap, sym, subst}
 use Rattle.lk_rows.specs.declared.setup.Setup.{Setup}
+use Rattle.lk_rows.specs.Acts.{next}
 use Rattle.lk_rows.specs.Machine.{Machine}
-use Rattle.lk_rows.specs.Programs.{handlers_of}
 use Rattle.lk_law.specs.Sound.{IsSound}
-use Rattle.lk_reach.specs.Reach.{after, IsMove, cpus_of}
-use Rattle.lk_reach.specs.Space.{Keeps, Knows, Grows, IsFront}
-use Rattle.lk_reach.specs.Explored.{IsSuch, IsStepped, IsGood, IsLeft, Among, OnlyMoves, AreAllMoves}
+use Rattle.lk_reach.specs.Reach.{after}
+use Rattle.lk_reach.specs.Space.{Keeps}
+use Rattle.lk_reach.specs.Explored.{IsSuch}
 use Rattle.lk_reach.proofs.Left as left
-use Rattle.lk_reach.proofs.Moves.{front_push, only_push, all_push, all_skip, are_all, among_front}
 use Rattle.lk_reach.proofs.exploring.visit.Goals as goal
 
 pub load-requires-clause-there : goal.load-requires-clause-there
@@ -58,6 +55,9 @@ returns c =
           subst (λ (q : Machine). Keeps c.note.new.self c.in_ok-number.number (after q c.args.doing)) same
           (subst (λ (q : Machine). Keeps c.note.new.self c.in_ok-number.number q) c.make-event.ensures.after
           c.in_ok-number.ensures.kept);
+      told = λ s has such_s.
+          let same : n ≡ s = left.loaded_is z c.args.space.now c.args.state n s ld.keeps such has such_s in
+          c.make-event.ensures.event ∙ ap (λ (q : Machine). (next q c.args.doing).1) same;
       grows = c.in_ok-number.ensures.grows;
       one = c.in_ok-number.ensures.one;
       such = made;

@@ -1,16 +1,12 @@
-use Rattle.std.proofs.Common.{rules, arith, ◌≡◌, ◌<◌, ◌≤◌, ℕ, List, ◌∷◌, [], ◌++◌, ◌∙◌, ap, refl, length, sym, subst, ◌+◌, true, inl, inr}
+use Rattle.std.proofs.Common.{arith, ◌<◌, ℕ, List, sym, subst, ◌+◌, inl, inr}
 use Rattle.std.proofs.lemmas.Bool.{cases_lt}
 use Rattle.lk_abs.specs.declared.events.Act.{Act}
 use Rattle.lk_abs.specs.declared.events.Act.TheVariants as act
-use Rattle.lk_rows.specs.declared.setup.Setup.{Setup}
-use Rattle.lk_rows.specs.Machine.{Machine}
 use Rattle.lk_rows.specs.Programs.{handlers_of}
-use Rattle.lk_law.specs.Sound.{IsSound}
-use Rattle.lk_reach.specs.Reach.{after, IsMove, cpus_of}
-use Rattle.lk_reach.specs.Space.{Keeps, Knows, Grows, IsFront}
-use Rattle.lk_reach.specs.Explored.{IsSuch, IsStepped, IsGood, IsLeft, Among, OnlyMoves, AreAllMoves}
-use Rattle.lk_reach.proofs.Left as left
-use Rattle.lk_reach.proofs.Moves.{front_push, only_push, all_push, all_skip, are_all, among_front}
+use Rattle.lk_reach.specs.Reach.{cpus_of}
+use Rattle.lk_reach.specs.Space.{IsFront}
+use Rattle.lk_reach.specs.Explored.{Among, OnlyMoves}
+use Rattle.lk_reach.proofs.Moves.{front_push, only_push, all_push, all_skip}
 use Rattle.lk_reach.proofs.plan.add_handlers.Goals as goal
 
 pub loop-cpu-preserved : goal.loop-cpu-preserved
@@ -28,8 +24,8 @@ loop-cpu-preserved c =
       | inl some ↦
           let pushed = c.in_ok-add_handler.ensures.some some in
           record {
-            only = subst (OnlyMoves c.args.nudges z) (sym pushed)
-                (only_push c.args.nudges z xs (act.Interrupt n) inv.only (within, some));
+            only = subst (OnlyMoves c.args.extras z) (sym pushed)
+                (only_push c.args.extras z xs (act.Interrupt n) inv.only (within, some));
             front = subst (IsFront c.args.acts.now.items) (sym pushed)
                 (front_push c.args.acts.now.items xs (act.Interrupt n) inv.front);
             all = subst (λ (us : List Act). (p : ℕ) → p < n + 1 → 0 < handlers_of z p → Among us (act.Interrupt p)) (sym pushed)
@@ -38,7 +34,7 @@ loop-cpu-preserved c =
       | inr none ↦
           let same = c.in_ok-add_handler.ensures.none (omega (arith, none)) in
           record {
-            only = subst (OnlyMoves c.args.nudges z) (sym same) inv.only;
+            only = subst (OnlyMoves c.args.extras z) (sym same) inv.only;
             front = subst (IsFront c.args.acts.now.items) (sym same) inv.front;
             all = subst (λ (us : List Act). (p : ℕ) → p < n + 1 → 0 < handlers_of z p → Among us (act.Interrupt p)) (sym same)
                 (λ p lt q. all_skip (λ k. 0 < handlers_of z k) (λ k. act.Interrupt k) xs n (λ high. omega (arith, none, high)) inv.all p lt q);

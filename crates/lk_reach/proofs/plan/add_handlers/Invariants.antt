@@ -1,4 +1,4 @@
-use Rattle.std.proofs.Common.{◌≡◌, ◌<◌, ℕ, true}
+use Rattle.std.proofs.Common.{◌<◌, ℕ}
 use Rattle.lk_abs.specs.declared.events.Act.TheVariants as act
 use Rattle.lk_rows.specs.Programs.{handlers_of}
 use Rattle.lk_reach.specs.Space.{IsFront}
@@ -8,7 +8,7 @@ use Rattle.lk_reach.proofs.plan.add_handlers.Given as goal
 -- the acts of the processors so far are there
 abbrev pub invariant-loop-cpu : goal.invariant-loop-cpu
 invariant-loop-cpu l = record {
-  only : OnlyMoves l.nudges l.machine.setup l.acts.items;
+  only : OnlyMoves l.fn.extras l.machine.setup l.acts.items;
   front : IsFront l.fn.acts.items l.acts.items;
   all : (p : ℕ) → p < l.cpu → 0 < handlers_of l.machine.setup p → Among l.acts.items (act.Interrupt p);
 }

@@ -1,15 +1,10 @@
-use Rattle.std.proofs.Common.{rules, arith, ◌≡◌, ◌<◌, ◌≤◌, ℕ, List, ◌∷◌, [], ◌++◌, ◌∙◌, ap, refl, length, sym, subst, ◌+◌, true}
+use Rattle.std.proofs.Common.{arith, ◌≡◌, ◌<◌, ℕ, List, sym, subst, ◌+◌, true}
 use Rattle.lk_abs.specs.declared.events.Act.{Act}
 use Rattle.lk_abs.specs.declared.events.Act.TheVariants as act
-use Rattle.lk_rows.specs.declared.setup.Setup.{Setup}
-use Rattle.lk_rows.specs.Machine.{Machine}
-use Rattle.lk_rows.specs.Programs.{handlers_of}
-use Rattle.lk_law.specs.Sound.{IsSound}
-use Rattle.lk_reach.specs.Reach.{after, IsMove, cpus_of}
-use Rattle.lk_reach.specs.Space.{Keeps, Knows, Grows, IsFront}
-use Rattle.lk_reach.specs.Explored.{IsSuch, IsStepped, IsGood, IsLeft, Among, OnlyMoves, AreAllMoves}
-use Rattle.lk_reach.proofs.Left as left
-use Rattle.lk_reach.proofs.Moves.{front_push, only_push, all_push, all_skip, are_all, among_front}
+use Rattle.lk_reach.specs.Reach.{cpus_of}
+use Rattle.lk_reach.specs.Space.{IsFront}
+use Rattle.lk_reach.specs.Explored.{Among, OnlyMoves}
+use Rattle.lk_reach.proofs.Moves.{front_push, is_asked, only_push, all_push}
 use Rattle.lk_reach.proofs.plan.add_nudges.Goals as goal
 
 pub loop-cpu-preserved : goal.loop-cpu-preserved
@@ -24,10 +19,10 @@ loop-cpu-preserved c =
     let within : n < cpus_of z = omega (arith, low, end, cpus) in
     let pushed = c.in_ok-add.ensures in
     record {
-      only = subst (OnlyMoves c.args.nudges z) (sym pushed)
-          (only_push c.args.nudges z xs (act.Nudge n) inv.only (c.if-not-nudges.false, within));
+      only = subst (OnlyMoves c.args.extras z) (sym pushed)
+          (only_push c.args.extras z xs (act.Nudge n) inv.only (is_asked c.args.extras.nudges c.if-not-extras.false, within));
       front = subst (IsFront c.args.acts.now.items) (sym pushed)
           (front_push c.args.acts.now.items xs (act.Nudge n) inv.front);
-      all = subst (λ (ys : List Act). (p : ℕ) → p < n + 1 → c.args.nudges ≡ true → Among ys (act.Nudge p)) (sym pushed)
-          (λ p lt yes. all_push (λ _. c.args.nudges ≡ true) (λ k. act.Nudge k) xs n (λ q l y. inv.all q l y) p lt yes);
+      all = subst (λ (ys : List Act). (p : ℕ) → p < n + 1 → c.args.extras.nudges ≡ true → Among ys (act.Nudge p)) (sym pushed)
+          (λ p lt yes. all_push (λ _. c.args.extras.nudges ≡ true) (λ k. act.Nudge k) xs n (λ q l y. inv.all q l y) p lt yes);
     }

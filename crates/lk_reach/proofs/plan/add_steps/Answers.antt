@@ -1,15 +1,10 @@
-use Rattle.std.proofs.Common.{rules, arith, ◌≡◌, ◌<◌, ◌≤◌, ℕ, List, ◌∷◌, [], ◌++◌, ◌∙◌, ap, refl, length, sym, subst, ◌+◌, true}
+use Rattle.std.proofs.Common.{arith, ◌<◌, ℕ, List, sym, subst, ◌+◌}
 use Rattle.lk_abs.specs.declared.events.Act.{Act}
 use Rattle.lk_abs.specs.declared.events.Act.TheVariants as act
-use Rattle.lk_rows.specs.declared.setup.Setup.{Setup}
-use Rattle.lk_rows.specs.Machine.{Machine}
-use Rattle.lk_rows.specs.Programs.{handlers_of}
-use Rattle.lk_law.specs.Sound.{IsSound}
-use Rattle.lk_reach.specs.Reach.{after, IsMove, cpus_of}
-use Rattle.lk_reach.specs.Space.{Keeps, Knows, Grows, IsFront}
-use Rattle.lk_reach.specs.Explored.{IsSuch, IsStepped, IsGood, IsLeft, Among, OnlyMoves, AreAllMoves}
-use Rattle.lk_reach.proofs.Left as left
-use Rattle.lk_reach.proofs.Moves.{front_push, only_push, all_push, all_skip, are_all, among_front}
+use Rattle.lk_reach.specs.Reach.{cpus_of}
+use Rattle.lk_reach.specs.Space.{IsFront}
+use Rattle.lk_reach.specs.Explored.{Among, OnlyMoves}
+use Rattle.lk_reach.proofs.Moves.{front_push, only_push, all_push}
 use Rattle.lk_reach.proofs.plan.add_steps.Goals as goal
 
 pub loop-cpu-preserved : goal.loop-cpu-preserved
@@ -24,8 +19,8 @@ loop-cpu-preserved c =
     let within : n < cpus_of z = omega (arith, low, end, cpus) in
     let pushed = c.in_ok-add.ensures in
     record {
-      only = subst (OnlyMoves c.args.nudges z) (sym pushed)
-          (only_push c.args.nudges z xs (act.Step n) inv.only within);
+      only = subst (OnlyMoves c.args.extras z) (sym pushed)
+          (only_push c.args.extras z xs (act.Step n) inv.only within);
       front = subst (IsFront c.args.acts.now.items) (sym pushed)
           (front_push c.args.acts.now.items xs (act.Step n) inv.front);
       all = subst (λ (ys : List Act). (p : ℕ) → p < n + 1 → Among ys (act.Step p)) (sym pushed)

@@ -1,6 +1,5 @@
-use Rattle.std.proofs.Common.{◌≡◌, ◌<◌, ℕ, true}
+use Rattle.std.proofs.Common.{◌<◌, ℕ}
 use Rattle.lk_abs.specs.declared.events.Act.TheVariants as act
-use Rattle.lk_rows.specs.Programs.{handlers_of}
 use Rattle.lk_reach.specs.Space.{IsFront}
 use Rattle.lk_reach.specs.Explored.{Among, OnlyMoves}
 use Rattle.lk_reach.proofs.plan.add_steps.Given as goal
@@ -8,7 +7,7 @@ use Rattle.lk_reach.proofs.plan.add_steps.Given as goal
 -- the acts of the processors so far are there
 abbrev pub invariant-loop-cpu : goal.invariant-loop-cpu
 invariant-loop-cpu l = record {
-  only : OnlyMoves l.nudges l.machine.setup l.acts.items;
+  only : OnlyMoves l.fn.extras l.machine.setup l.acts.items;
   front : IsFront l.fn.acts.items l.acts.items;
   all : (p : ℕ) → p < l.cpu → Among l.acts.items (act.Step p);
 }

@@ -1,4 +1,3 @@
-use Rattle.lk_reach.specs.Rows.{IsMade}
 use Rattle.lk_reach.proofs.graph.Graph.is_made.Goals as goal
 
 pub returns-in-Some-clause-yes : goal.returns-in-Some-clause-yes

@@ -1,4 +1,4 @@
-use Rattle.std.proofs.Common.{rules, arith, ◌≡◌, ◌<◌, ◌∙◌, ap, Some, length, length-set}
+use Rattle.std.proofs.Common.{arith, ◌∙◌, ap, Some, length-set}
 use Rattle.lk_reach.proofs.Kept.{numbered_then, front_then}
 use Rattle.lk_reach.proofs.space.Space.key_of.Goals as goal
 

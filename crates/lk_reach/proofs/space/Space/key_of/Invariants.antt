@@ -1,5 +1,4 @@
-use Rattle.std.proofs.Common.{◌≡◌, ◌<◌, ℕ, Some, length}
-use Rattle.std.specs.Prelude.{slice_get}
+use Rattle.std.proofs.Common.{◌≡◌, length}
 use Rattle.lk_reach.proofs.Kept.{Numbered}
 use Rattle.lk_reach.specs.Space.{IsFront, HasShared}
 use Rattle.lk_reach.proofs.space.Space.key_of.Given as goal

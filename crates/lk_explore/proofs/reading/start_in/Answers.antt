@@ -1,7 +1,7 @@
 use Rattle.lk_forms.specs.Reader.{reading}
 use Rattle.lk_replay.proofs.HeaderSteps.{header_stands}
 use Rattle.lk_replay.proofs.Opened.{header_lawful}
-use Rattle.lk_explore.proofs.reading.header_in.Goals as goal
+use Rattle.lk_explore.proofs.reading.start_in.Goals as goal
 
 pub resting-requires : goal.resting-requires
 resting-requires g c =

@@ -1,0 +1,271 @@
+-- How the states of a graph end.
+use Rattle.std.proofs.Common.{◌≡◌, ◌≢◌, ◌⊎◌, ℕ, ◌<◌, ◌≤◌, Bool, true, false, ◌||◌, List, [], ◌∷◌, ◌++◌, refl, sym, ◌∙◌, ap, subst, length, Some, arith, inl, inr}
+use Rattle.std.proofs.lemmas.Option.{slice_get-get_or, slice_get_within}
+use Rattle.std.proofs.Common.{get_or}
+use Rattle.std.proofs.lemmas.Bool.{cases_eq, cases_lt}
+use Rattle.std.specs.Prelude.{slice_get}
+use Rattle.lk_abs.proofs.ByIndex.{get-append}
+use Rattle.lk_abs.specs.declared.events.Act.{Act}
+use Rattle.lk_rows.specs.Machine.{Machine}
+use Rattle.lk_reach.specs.declared.book.Edge.{Edge}
+use Rattle.lk_reach.specs.declared.graph.Graph.{Graph}
+use Rattle.lk_reach.specs.Ends.{AreDoomed, AreEnds, AreFinishing, AreStuck, AreTurned, CanFinish, IsClosed, IsFirst, IsMarkedOnly, IsPassed}
+use Rattle.lk_reach.specs.Ends.{IsShortestToDoom, IsShortestToEnd, IsState, IsStuck, IsWayToStuck, NobodyIsDoomed}
+use Rattle.lk_reach.specs.Explored.{HasEdge}
+use Rattle.lk_reach.specs.Reach.{AreMoves, AreOver, IsMove, after, run, state_after}
+use Rattle.lk_reach.specs.Space.{Keeps}
+use Rattle.lk_reach.specs.Told.{IsGraph, IsWay, IsWhole}
+use Rattle.lk_reach.proofs.Kept.{one_value}
+use Rattle.lk_reach.proofs.Closed.{Laws, no_sooner, reached_such, reached_then, same_state, whole_met}
+
+-- the marks so far say whether everybody is done
+pub record EndsSo (g : Graph) (marks : List Bool) : Type 0 where
+  pub yes : (k : ℕ) → slice_get marks k ≡ Some true → (s : Machine) → IsState g k s → AreOver s
+  pub no : (k : ℕ) → slice_get marks k ≡ Some false → (s : Machine) → IsState g k s → ¬ AreOver s
+
+pub ends_none : (g : Graph) → EndsSo g []
+ends_none g = record { yes = λ k here. absurd (none_at k true here); no = λ k here. absurd (none_at k false here) }
+  where
+    none_at : (k : ℕ) (b : Bool) → slice_get [] k ≡ Some b → ⊥
+    none_at k b here = cc
+
+pub neither : (a b : Bool) → (a || b) ≡ false → (a ≡ false) × (b ≡ false)
+neither false b e = (refl, e)
+neither true b e = cc
+
+-- a mark stands where the list is long enough
+pub some_mark : (marks : List Bool) (k : ℕ) → k < length marks
+    → (slice_get marks k ≡ Some true) ⊎ (slice_get marks k ≡ Some false)
+some_mark marks k low = elim (bool_cases (get_or marks k true)) [
+  | inl is_so ↦ inl (slice_get-get_or marks k true low ∙ ap Some is_so)
+  | inr not_so ↦ inr (slice_get-get_or marks k true low ∙ ap Some not_so)
+]
+  where
+    bool_cases : (b : Bool) → (b ≡ true) ⊎ (b ≡ false)
+    bool_cases true = inl refl
+    bool_cases false = inr refl
+
+module _ (laws : Laws) (g : Graph) (is : IsGraph g) where
+  as_many : (k : ℕ) (s : Machine) → IsState g k s → length s.cpus ≡ g.cpus
+  as_many k s x = (reached_such laws g.plan g.machine.setup is.begun s x.reached).cpus ∙ sym is.cpus
+
+  pub ends_more : (marks more : List Bool) (mark : Bool) → more ≡ marks ++ mark ∷ [] → EndsSo g marks
+      → (mark ≡ true → (s : Machine) → Keeps g.space (length marks) s → length s.cpus ≡ g.cpus → AreOver s)
+      → (mark ≡ false → (s : Machine) → Keeps g.space (length marks) s → length s.cpus ≡ g.cpus → ¬ AreOver s)
+      → EndsSo g more
+  ends_more marks more mark pushed before done waits = record {
+    yes = λ k here s x. elim (get-append marks mark k true (subst (λ (ms : List Bool). slice_get ms k ≡ Some true) pushed here)) [
+      | inl old ↦ before.yes k old s x
+      | inr new ↦ done (sym new.1) s (subst (λ (h : ℕ). Keeps g.space h s) new.0 x.keeps) (as_many k s x)
+    ];
+    no = λ k here s x. elim (get-append marks mark k false (subst (λ (ms : List Bool). slice_get ms k ≡ Some false) pushed here)) [
+      | inl old ↦ before.no k old s x
+      | inr new ↦ waits (sym new.1) s (subst (λ (h : ℕ). Keeps g.space h s) new.0 x.keeps) (as_many k s x)
+    ];
+  }
+
+  -- a state that no edge leaves, and at which not everybody is done
+  pub stuck_at : (k : ℕ) → k < g.left → ((i : ℕ) (e : Edge) → slice_get g.book.edges.items i ≡ Some e → e.state ≢ k)
+      → (s : Machine) → IsState g k s → ¬ AreOver s → IsStuck g s
+  stuck_at k low none s x waits = record { still = still; waits = waits }
+    where
+      still : (a : Act) → IsMove g.plan.extras g.machine.setup a → after s a ≡ s
+      still a move =
+          let l = is.explored.left k low in
+          let same : l.state ≡ s = same_state laws g.plan g.machine.setup is.begun g.space k l.state s l.keeps x.keeps l.reached x.reached in
+          let tried = l.next a move in
+          elim tried.edge [
+            | inl e ↦ same_state laws g.plan g.machine.setup is.begun g.space k (after s a) s
+                (subst (λ z. Keeps g.space k (after z a)) same
+                (subst (λ (h : ℕ). Keeps g.space h (after l.state a)) e tried.met.keeps))
+                x.keeps (reached_then laws g.plan g.machine.setup is.begun s a x.reached move) x.reached
+            | inr e ↦ absurd (none e.0 e.1 e.2 e.3)
+          ]
+
+  -- an edge to a state from which some schedule finishes
+  pub finish_more : (i : ℕ) (e : Edge) → slice_get g.book.edges.items i ≡ Some e
+      → ((s : Machine) → IsState g e.then s → CanFinish g s) → (s : Machine) → IsState g e.state s → CanFinish g s
+  finish_more i e here can s x =
+      let edge = is.explored.edges i e here in
+      let same : edge.state ≡ s = same_state laws g.plan g.machine.setup is.begun g.space e.state edge.state s edge.keeps x.keeps edge.reached x.reached in
+      let rest = can (after s edge.act) (record {
+        keeps = subst (λ z. Keeps g.space e.then (after z edge.act)) same edge.leads;
+        reached = reached_then laws g.plan g.machine.setup is.begun s edge.act x.reached edge.move;
+      }) in
+      record { acts = edge.act ∷ rest.acts; moves = (edge.move, rest.moves); over = rest.over }
+
+  -- one edge more is passed
+  pub finishing_more : (i : ℕ) (e : Edge) → slice_get g.book.edges.items i ≡ Some e → (old new : List Bool)
+      → slice_get old e.then ≡ Some true → IsMarkedOnly old new e.state → AreFinishing g old → AreFinishing g new
+  finishing_more i e here old new to only good = record {
+    count = only.count ∙ good.count;
+    yes = λ k marked s x. elim (only.on k marked) [
+      | inl before ↦ good.yes k before s x
+      | inr now ↦ finish_more i e here (good.yes e.then to) s (subst (λ (h : ℕ). IsState g h s) now x)
+    ];
+    no = λ k off s x. good.no k (only.off k off).0 s x;
+  }
+
+  -- and where its state was marked before, the edges from it on are closed, if those behind it are
+  pub closed_more : (n : ℕ) (e : Edge) → slice_get g.book.edges.items n ≡ Some e → (old new : List Bool) (passes : Bool)
+      → passes ≡ false → IsPassed old new e passes
+      → ((i : ℕ) (d : Edge) → n < i → slice_get g.book.edges.items i ≡ Some d → slice_get old d.then ≡ Some true
+      → slice_get old d.state ≡ Some true)
+      → (i : ℕ) (d : Edge) → n ≤ i → slice_get g.book.edges.items i ≡ Some d → slice_get new d.then ≡ Some true
+      → slice_get new d.state ≡ Some true
+  closed_more n e here old new passes still p before i d high there to =
+      let same : new ≡ old = p.same still in
+      let was : slice_get old d.then ≡ Some true = subst (λ (ms : List Bool). slice_get ms d.then ≡ Some true) same to in
+      subst (λ (ms : List Bool). slice_get ms d.state ≡ Some true) (sym same) (elim (cases_eq i n) [
+        | inl is ↦
+            let one : e ≡ d = one_value (slice_get g.book.edges.items n) e d here
+            (subst (λ (h : ℕ). slice_get g.book.edges.items h ≡ Some d) is there) in
+            subst (λ (z : Edge). slice_get old z.state ≡ Some true) one
+            (p.closed still (subst (λ (z : Edge). slice_get old z.then ≡ Some true) (sym one) was))
+        | inr ne ↦ before i d (omega (arith, high, ne)) there was
+      ])
+
+  -- whoever is marked can finish, whether the edge passes or not
+  pub passed_good : (i : ℕ) (e : Edge) → slice_get g.book.edges.items i ≡ Some e → (old new : List Bool) (passes : Bool)
+      → IsPassed old new e passes → AreFinishing g old → AreFinishing g new
+  passed_good i e here old new true p good = finishing_more i e here old new (p.moved refl) (p.marked refl) good
+  passed_good i e here old new false p good = subst (λ (ms : List Bool). AreFinishing g ms) (sym (p.same refl)) good
+
+  -- no schedule leads from what is not marked to what is
+  module _ (whole : IsWhole g) (marks : List Bool) (good : AreFinishing g marks) (closed : IsClosed g marks) where
+    pub doomed_at : (acts : List Act) (k : ℕ) → slice_get marks k ≡ Some false → (s : Machine) → IsState g k s
+        → AreMoves g.plan.extras g.machine.setup acts → ¬ AreOver (run s acts)
+    doomed_at [] k off s x moves = good.no k off s x
+    doomed_at (a ∷ acts) k off s x moves =
+        let within = slice_get_within marks k false off in
+        let count = good.count in
+        let l = is.explored.left k (omega (arith, within, count, whole)) in
+        let same : l.state ≡ s = same_state laws g.plan g.machine.setup is.begun g.space k l.state s l.keeps x.keeps l.reached x.reached in
+        let tried = l.next a moves.0 in
+        let j = tried.met.number in
+        let to : IsState g j (after s a) = record {
+          keeps = subst (λ z. Keeps g.space j (after z a)) same tried.met.keeps;
+          reached = reached_then laws g.plan g.machine.setup is.begun s a x.reached moves.0;
+        } in
+        doomed_at acts j (off_too j to tried.edge) (after s a) to moves.1
+      where
+        apart : slice_get marks k ≡ Some true → ⊥
+        apart here = cc
+
+        off_too : (j : ℕ) → IsState g j (after s a) → ((j ≡ k) ⊎ HasEdge g.book k j) → slice_get marks j ≡ Some false
+        off_too j to edge = elim edge [
+          | inl e ↦ subst (λ (h : ℕ). slice_get marks h ≡ Some false) (sym e) off
+          | inr e ↦
+              let inside = slice_get_within g.space.keys j to.keeps.key to.keeps.is in
+              let count = good.count in
+              elim (some_mark marks j (omega (arith, inside, count))) [
+                | inr not_so ↦ not_so
+                | inl is_so ↦
+                    let at = closed e.0 e.1 e.2 (subst (λ (h : ℕ). slice_get marks h ≡ Some true) (sym e.4) is_so) in
+                    absurd (apart (subst (λ (h : ℕ). slice_get marks h ≡ Some true) e.3 at))
+              ]
+        ]
+
+    pub doomed_all : (turned : List Bool) → AreTurned marks turned → AreDoomed g turned
+    doomed_all turned t = record {
+      count = t.count ∙ good.count;
+      yes = λ k here s x acts moves. doomed_at acts k (t.each k true here) s x moves;
+      no = λ k here s x. good.yes k (t.each k false here) s x;
+    }
+
+  -- the first states that are marked
+  pub state_of : (k : ℕ) (acts : List Act) → AreMoves g.plan.extras g.machine.setup acts
+      → Keeps g.space k (state_after g.plan g.machine.setup acts)
+      → IsState g k (state_after g.plan g.machine.setup acts)
+  state_of k acts moves keeps = record { keeps = keeps; reached = record { acts = acts; moves = moves; there = refl } }
+
+  sooner : (k : ℕ) (acts others : List Act) → IsWay g k acts → AreMoves g.plan.extras g.machine.setup others
+      → length others < length acts
+      → (j : ℕ) × (j < k) × Keeps g.space j (state_after g.plan g.machine.setup others)
+  sooner k acts others to moves less =
+      let count = to.count in
+      no_sooner laws g.plan g.machine.setup is.begun g.space g.book g.left is.explored is.within
+      k to.origin to.is others moves (omega (arith, less, count))
+
+  -- a mark below the first one that is set
+  off_below : (marks : List Bool) (k j : ℕ) (s : Machine) → length marks ≡ length g.space.keys → IsFirst marks k
+      → j < k → Keeps g.space j s → slice_get marks j ≡ Some false
+  off_below marks k j s count first low keeps =
+      let inside = slice_get_within g.space.keys j keeps.key keeps.is in
+      elim (some_mark marks j (omega (arith, inside, count))) [
+        | inl is_so ↦ absurd (first.first j low is_so)
+        | inr not_so ↦ not_so
+      ]
+
+  pub shortest_end : (marks : List Bool) (k : ℕ) (acts : List Act) → AreEnds g marks → IsFirst marks k
+      → IsWay g k acts → IsShortestToEnd g acts
+  shortest_end marks k acts ends first to = record {
+    moves = to.moves;
+    over = ends.yes k first.here (state_after g.plan g.machine.setup acts) (state_of k acts to.moves to.leads);
+    shortest = λ others moves over.
+        elim (cases_lt (length others) (length acts)) [
+          | inr not_so ↦ omega (arith, not_so)
+          | inl less ↦
+              let before = sooner k acts others to moves less in
+              let t = state_after g.plan g.machine.setup others in
+              absurd (ends.no before.0 (off_below marks k before.0 t ends.count first before.1 before.2) t
+              (state_of before.0 others moves before.2) over)
+        ];
+  }
+
+  pub shortest_doom : (marks : List Bool) (k : ℕ) (acts : List Act) → AreDoomed g marks → IsFirst marks k
+      → IsWay g k acts → IsShortestToDoom g acts
+  shortest_doom marks k acts doomed first to = record {
+    moves = to.moves;
+    doomed = doomed.yes k first.here (state_after g.plan g.machine.setup acts) (state_of k acts to.moves to.leads);
+    shortest = λ others moves lost.
+        elim (cases_lt (length others) (length acts)) [
+          | inr not_so ↦ omega (arith, not_so)
+          | inl less ↦
+              let before = sooner k acts others to moves less in
+              let t = state_after g.plan g.machine.setup others in
+              let can = doomed.no before.0 (off_below marks k before.0 t doomed.count first before.1 before.2) t
+              (state_of before.0 others moves before.2) in
+              absurd (lost can.acts can.moves can.over)
+        ];
+  }
+
+  pub way_to_stuck : (marks : List Bool) (k : ℕ) (acts : List Act) → AreStuck g marks → IsFirst marks k
+      → IsWay g k acts → IsWayToStuck g acts
+  way_to_stuck marks k acts stuck first to = record {
+    moves = to.moves;
+    stuck = stuck.yes k first.here (state_after g.plan g.machine.setup acts) (state_of k acts to.moves to.leads);
+  }
+
+  -- no mark is set, where every state was left
+  off_at : (marks : List Bool) (j : ℕ) (s : Machine) → length marks ≡ length g.space.keys
+      → ((k : ℕ) → slice_get marks k ≡ Some true → ⊥) → Keeps g.space j s → slice_get marks j ≡ Some false
+  off_at marks j s count none keeps =
+      let inside = slice_get_within g.space.keys j keeps.key keeps.is in
+      elim (some_mark marks j (omega (arith, inside, count))) [
+        | inl is_so ↦ absurd (none j is_so)
+        | inr not_so ↦ not_so
+      ]
+
+  pub no_end : (marks : List Bool) → AreEnds g marks → ((k : ℕ) → slice_get marks k ≡ Some true → ⊥) → IsWhole g
+      → (acts : List Act) → AreMoves g.plan.extras g.machine.setup acts
+      → ¬ AreOver (state_after g.plan g.machine.setup acts)
+  no_end marks ends none whole acts moves =
+      let met = whole_met laws g.plan g.machine.setup is.begun g.space g.book g.left is.explored whole acts moves in
+      let t = state_after g.plan g.machine.setup acts in
+      ends.no met.number (off_at marks met.number t ends.count none met.keeps) t (state_of met.number acts moves met.keeps)
+
+  pub no_doom : (marks : List Bool) → AreDoomed g marks → ((k : ℕ) → slice_get marks k ≡ Some true → ⊥) → IsWhole g
+      → NobodyIsDoomed g
+  no_doom marks doomed none whole acts moves =
+      let met = whole_met laws g.plan g.machine.setup is.begun g.space g.book g.left is.explored whole acts moves in
+      let t = state_after g.plan g.machine.setup acts in
+      doomed.no met.number (off_at marks met.number t doomed.count none met.keeps) t (state_of met.number acts moves met.keeps)
+
+-- who is done can finish
+pub finishing : (g : Graph) (marks : List Bool) → AreEnds g marks → AreFinishing g marks
+finishing g marks ends = record {
+  count = ends.count;
+  yes = λ k here s x. record { acts = []; moves = tt; over = ends.yes k here s x };
+  no = ends.no;
+}

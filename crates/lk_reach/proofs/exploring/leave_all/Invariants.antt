@@ -1,0 +1,12 @@
+use Rattle.std.proofs.Common.{◌≡◌, ◌≤◌, length}
+use Rattle.lk_reach.specs.Explored.{IsSuch, IsExplored}
+use Rattle.lk_reach.proofs.exploring.leave_all.Given as goal
+
+-- the states before this one are left
+abbrev pub invariant-loop-state : goal.invariant-loop-state
+invariant-loop-state g l = record {
+  such : IsSuch l.fn.machine.setup l.machine;
+  same : l.machine.setup ≡ l.fn.machine.setup;
+  explored : IsExplored l.plan l.fn.machine.setup l.space l.book l.state;
+  within : l.state ≤ length l.space.keys;
+}

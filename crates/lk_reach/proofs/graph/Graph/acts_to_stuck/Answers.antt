@@ -1,0 +1,9 @@
+use Rattle.lk_reach.proofs.Closed.{Laws}
+use Rattle.lk_reach.proofs.Ending.{way_to_stuck}
+use Rattle.lk_reach.proofs.graph.Graph.acts_to_stuck.Goals as goal
+
+pub returns-in-Some : goal.returns-in-Some
+returns-in-Some c =
+    let laws : Laws = record { runs = c.runs_keep.ensures.run; setup = c.acts_change_little.ensures.setup } in
+    way_to_stuck laws c.args.self.now c.requires.graph c.in_ok-marks.marks.items c.in-Some.state c.in_ok-acts-in-Some.acts.items
+    c.in_ok-marks.ensures c.in-Some.ensures.some c.in_ok-acts-in-Some.ensures

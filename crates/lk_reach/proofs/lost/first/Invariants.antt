@@ -1,0 +1,7 @@
+use Rattle.std.proofs.Common.{◌≡◌, ◌<◌, ℕ, Some, true}
+use Rattle.std.specs.Prelude.{slice_get}
+use Rattle.lk_reach.proofs.lost.first.Given as goal
+
+-- none of the marks so far is set
+abbrev pub invariant-loop-at : goal.invariant-loop-at
+invariant-loop-at l = (j : ℕ) → j < l.«at» → slice_get l.marks.items j ≡ Some true → ⊥

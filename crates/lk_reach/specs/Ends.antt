@@ -1,0 +1,104 @@
+-- How the states of a graph end.
+use Rattle.std.specs.Prelude.{◌≡◌, ◌≢◌, ◌<◌, ◌≤◌, ◌⊎◌, ℕ, Bool, true, false, not, List, length, slice_get, Some}
+use Rattle.lk_abs.specs.declared.events.Act.{Act}
+use Rattle.lk_rows.specs.Machine.{Machine}
+use Rattle.lk_reach.specs.declared.book.Edge.{Edge}
+use Rattle.lk_reach.specs.declared.graph.Graph.{Graph}
+use Rattle.lk_reach.specs.Reach.{AreMoves, AreOver, IsMove, IsReached, after, run, state_after}
+use Rattle.lk_reach.specs.Space.{Keeps}
+
+-- the number is that of this state, which a schedule reaches
+pub record IsState (g : Graph) (k : ℕ) (s : Machine) : Type 0 where
+  pub keeps : Keeps g.space k s
+  pub reached : IsReached g.plan g.machine.setup s
+
+-- each mark says whether everybody is done at the state of its number
+pub record AreEnds (g : Graph) (marks : List Bool) : Type 0 where
+  pub count : length marks ≡ length g.space.keys
+  pub yes : (k : ℕ) → slice_get marks k ≡ Some true → (s : Machine) → IsState g k s → AreOver s
+  pub no : (k : ℕ) → slice_get marks k ≡ Some false → (s : Machine) → IsState g k s → ¬ AreOver s
+
+-- every act leaves the state as it is, and not everybody is done
+pub record IsStuck (g : Graph) (s : Machine) : Type 0 where
+  pub still : (a : Act) → IsMove g.plan.extras g.machine.setup a → after s a ≡ s
+  pub waits : ¬ AreOver s
+
+-- each state that is marked is stuck
+pub record AreStuck (g : Graph) (marks : List Bool) : Type 0 where
+  pub count : length marks ≡ length g.space.keys
+  pub yes : (k : ℕ) → slice_get marks k ≡ Some true → (s : Machine) → IsState g k s → IsStuck g s
+
+-- some schedule leads from the state to one at which everybody is done
+pub record CanFinish (g : Graph) (s : Machine) : Type 0 where
+  pub acts : List Act
+  pub moves : AreMoves g.plan.extras g.machine.setup acts
+  pub over : AreOver (run s acts)
+
+-- no schedule does
+abbrev pub IsDoomed : Graph → Machine → Type 0
+IsDoomed g s = (acts : List Act) → AreMoves g.plan.extras g.machine.setup acts → ¬ AreOver (run s acts)
+
+-- each mark says whether its state is doomed
+pub record AreDoomed (g : Graph) (marks : List Bool) : Type 0 where
+  pub count : length marks ≡ length g.space.keys
+  pub yes : (k : ℕ) → slice_get marks k ≡ Some true → (s : Machine) → IsState g k s → IsDoomed g s
+  pub no : (k : ℕ) → slice_get marks k ≡ Some false → (s : Machine) → IsState g k s → CanFinish g s
+
+-- from each state that is marked some schedule finishes, and at each that is not somebody is not done
+pub record AreFinishing (g : Graph) (marks : List Bool) : Type 0 where
+  pub count : length marks ≡ length g.space.keys
+  pub yes : (k : ℕ) → slice_get marks k ≡ Some true → (s : Machine) → IsState g k s → CanFinish g s
+  pub no : (k : ℕ) → slice_get marks k ≡ Some false → (s : Machine) → IsState g k s → ¬ AreOver s
+
+-- an edge leads to a marked state from marked ones alone
+abbrev pub IsClosed : Graph → List Bool → Type 0
+IsClosed g marks = (i : ℕ) (e : Edge) → slice_get g.book.edges.items i ≡ Some e
+    → slice_get marks e.then ≡ Some true → slice_get marks e.state ≡ Some true
+
+-- one mark is set
+pub record IsMarkedOnly (old new : List Bool) (n : ℕ) : Type 0 where
+  pub count : length new ≡ length old
+  pub off : (k : ℕ) → slice_get new k ≡ Some false → (slice_get old k ≡ Some false) × (k ≢ n)
+  pub on : (k : ℕ) → slice_get new k ≡ Some true → (slice_get old k ≡ Some true) ⊎ (k ≡ n)
+
+-- an edge leads to a marked state, and its own is marked now; or nothing is changed, and it was marked
+-- before, if the edge leads to a marked one
+pub record IsPassed (old new : List Bool) (e : Edge) (passes : Bool) : Type 0 where
+  pub moved : passes ≡ true → slice_get old e.then ≡ Some true
+  pub marked : passes ≡ true → IsMarkedOnly old new e.state
+  pub same : passes ≡ false → new ≡ old
+  pub closed : passes ≡ false → slice_get old e.then ≡ Some true → slice_get old e.state ≡ Some true
+
+-- each mark is turned round
+pub record AreTurned (old new : List Bool) : Type 0 where
+  pub count : length new ≡ length old
+  pub each : (k : ℕ) (mark : Bool) → slice_get new k ≡ Some mark → slice_get old k ≡ Some (not mark)
+
+-- the first mark that is set
+pub record IsFirst (marks : List Bool) (k : ℕ) : Type 0 where
+  pub here : slice_get marks k ≡ Some true
+  pub first : (j : ℕ) → j < k → slice_get marks j ≡ Some true → ⊥
+
+-- everybody is done behind this schedule, and behind no shorter one
+pub record IsShortestToEnd (g : Graph) (acts : List Act) : Type 0 where
+  pub moves : AreMoves g.plan.extras g.machine.setup acts
+  pub over : AreOver (state_after g.plan g.machine.setup acts)
+  pub shortest : (others : List Act) → AreMoves g.plan.extras g.machine.setup others
+      → AreOver (state_after g.plan g.machine.setup others) → length acts ≤ length others
+
+-- no schedule finishes behind this one, and behind each shorter one some does
+pub record IsShortestToDoom (g : Graph) (acts : List Act) : Type 0 where
+  pub moves : AreMoves g.plan.extras g.machine.setup acts
+  pub doomed : IsDoomed g (state_after g.plan g.machine.setup acts)
+  pub shortest : (others : List Act) → AreMoves g.plan.extras g.machine.setup others
+      → IsDoomed g (state_after g.plan g.machine.setup others) → length acts ≤ length others
+
+-- this schedule leads to a stuck state
+pub record IsWayToStuck (g : Graph) (acts : List Act) : Type 0 where
+  pub moves : AreMoves g.plan.extras g.machine.setup acts
+  pub stuck : IsStuck g (state_after g.plan g.machine.setup acts)
+
+-- from every state that a schedule reaches, some schedule finishes
+abbrev pub NobodyIsDoomed : Graph → Type 0
+NobodyIsDoomed g = (acts : List Act) → AreMoves g.plan.extras g.machine.setup acts
+    → CanFinish g (state_after g.plan g.machine.setup acts)
