@@ -1,11 +1,10 @@
 -- The same where waiters are moved aside.
-use Rattle.std.proofs.Common.{◌≡◌, ◌≢◌, ◌⊎◌, inl, inr, ℕ, zero, suc, ◌<◌, ◌≤◌, ◌+◌, Option, Some, None, Bool, true}
-use Rattle.std.proofs.Common.{false, refl, sym, ap, ◌∙◌, subst, arith, List, [], ◌∷◌, length, slice_get}
-use Rattle.std.proofs.lemmas.Bool.{cases_Bool, cases_lt}
+use Rattle.std.proofs.Common.{◌≡◌, ◌≢◌, ◌⊎◌, inl, inr, ℕ, zero, suc, ◌≤◌, ◌+◌, Option, Some, None, Bool, true}
+use Rattle.std.proofs.Common.{false, refl, sym, ap, ◌∙◌, subst, arith, List, [], ◌∷◌, slice_get}
+use Rattle.std.proofs.lemmas.Bool.{cases_Bool}
 use Rattle.std.specs.Prelude.{is_some, ◌&&◌, not}
 use Rattle.lk_abs.specs.History.{LockHistory}
-use Rattle.lk_abs.specs.declared.holder.Manner.{Manner}
-use Rattle.lk_abs.specs.declared.holder.Manner.TheVariants.{Spins, Reads, Writes}
+use Rattle.lk_abs.specs.declared.holder.Manner.TheVariants.{Spins}
 use Rattle.lk_abs.specs.declared.names.Kind.TheVariants.{Rw}
 use Rattle.lk_abs.specs.declared.names.Waiter.{Waiter}
 use Rattle.lk_abs.specs.declared.names.LockName.{LockName}
@@ -17,17 +16,15 @@ use Rattle.lk_rows.specs.Moves.{is_node, node_of, rw_name}
 use Rattle.lk_rows.specs.rows.Spin.{is_free, is_unlocked}
 use Rattle.lk_law.specs.Agree.{LockAgrees, halts}
 use Rattle.lk_law.specs.Cna.{moves_aside, CnaAgrees, part, shown, front_cut}
-use Rattle.lk_law.specs.Families.{may_halt, chooses, is_rw_row}
+use Rattle.lk_law.specs.Families.{may_halt, chooses}
 use Rattle.lk_law.specs.Phase.{Phase, pends, queues, leads}
 use Rattle.lk_law.specs.Phase.Phase.{Idle, Links, Holds}
 use Rattle.lk_law.specs.Places.{snapshot, phase_at, phase_if, phase_on, own_in, stage_on, stage_if}
 use Rattle.lk_law.proofs.common.Worlds.{phase_on-here, stage_on-here}
 use Rattle.lk_law.proofs.rw.Knows.{rw_row_knows}
-use Rattle.lk_law.specs.RwAgree.{RwAgrees}
-use Rattle.lk_law.specs.RwPhase.{RwPhase, biased, reads, is_counted}
-use Rattle.lk_law.specs.SoundWorld.{IsSoundWorld, rw_phases, spin_part}
+use Rattle.lk_law.specs.SoundWorld.{IsSoundWorld, spin_part}
 use Rattle.lk_law.specs.Snapshot.{Snapshot, spins}
-use Rattle.lk_law.specs.SpinWorld.{HasNoneAbove, IsSoundSpinWorld}
+use Rattle.lk_law.specs.SpinWorld.{IsSoundSpinWorld}
 use Rattle.lk_law.specs.World.{World}
 use Rattle.lk_law.proofs.common.Puts.{not-true}
 use Rattle.lk_law.proofs.common.Users.{is_node-own}
@@ -37,10 +34,10 @@ use Rattle.lk_progress.proofs.Owning.{owns}
 use Rattle.lk_progress.specs.Waits.{polls, lock_at, IsTop, IsAtBay}
 use Rattle.lk_progress.specs.Order.{IsTidy, IsRanked, HoldsOutside}
 use Rattle.lk_progress.proofs.Stands.{still_polls, still_V1, still_N1, still_P3, still_G6, still_G7, still_R2, still_R5, still_Wr5}
-use Rattle.lk_progress.proofs.Tops.{newest_of, any_newest, IsAt, busy_at, busy_lock, biased_at}
+use Rattle.lk_progress.proofs.Tops.{IsAt}
 use Rattle.lk_progress.proofs.Polling.{has_cases, owns_busy, pends_busy, leads_busy, links_busy, pends_polls}
-use Rattle.lk_progress.proofs.Polling.{links_polls, comes_polls, comes_spin, plain_lock, biased_polls, spins_is}
-use Rattle.lk_progress.proofs.Polling.{reads_is, unfree, locked_not, uncleared}
+use Rattle.lk_progress.proofs.Polling.{links_polls, comes_polls, comes_spin, plain_lock, spins_is}
+use Rattle.lk_progress.proofs.Polling.{unfree, locked_not, uncleared}
 use Rattle.lk_progress.specs.Aside.{IsFollowedAside, is_alone_row, AtBayWaitForOutside}
 use Rattle.lk_rows.specs.declared.parts.Why.{Why}
 use Rattle.lk_rows.specs.rows.Cna.{is_last}
@@ -49,7 +46,7 @@ use Rattle.lk_law.specs.Stage.{cut_of}
 use Rattle.lk_law.proofs.cna.Parts.{part_out, shown_flag}
 use Rattle.lk_law.proofs.common.Families.{lists_front}
 use Rattle.lk_law.proofs.common.Knows.{row_knows}
-use Rattle.lk_progress.proofs.Climb.{Next}
+use Rattle.lk_progress.proofs.Under.{Next, written, read, over, under, under_phase}
 use Rattle.lk_progress.proofs.TurnRows.{IsTurn, owns_turn, leads_turn, barred_polls, stands, still_choice, turn_holds}
 use Rattle.lk_progress.proofs.TurnRows.{last_is, Turning, still_C1}
 
@@ -83,135 +80,24 @@ module _ (level : LockName → ℕ) (bound : ℕ) (m : World) (hs : LockName →
     ]
   ]
 
-  -- who holds a lock has, on its processor, a newest frame that polls at a higher level; or that is a
-  -- reader in an interrupt, which stands at the same lock
-  over_or : (u : Waiter) (l : LockName) (way : Manner) → m.held u l ≡ Some way
-      → ((t : Waiter) (g : Frame) → IsTop m t g R2 → way ≡ Reads → l ≡ rw_name g.lock.index → Next level m (level l))
-      → Next level m (level l)
-  over_or u l way has same = with_frame (any_newest m u (tidy.shallow u.cpu))
-    where
-      at : (t : Waiter) (g : Frame) → t.cpu ≡ u.cpu → m.frame t ≡ Some g → HasNoneAbove m t → (c : Pc) → g.place ≡ Some c
-          → Next level m (level l)
-      at t g cpu live above c place =
-          let top : IsTop m t g c = record { live = live; above = above; place = place } in
-          let poll = top_polls t g c top in
-          elim (ranked.holds t u g c l way top poll (sym cpu) has) [
-            | inl more ↦
-                inl (record { by = t; frame = g; place = c; top = top; waits = poll; more = more })
-            | inr z ↦ same t g (subst (IsTop m t g) z.0 top) z.1
-                (z.2 ∙ ap (λ (d : Pc). lock_at d g) z.0)
-          ]
+  meets_writer : (u : Waiter) (g : Frame) (d : Pc) → IsTop m u g d → (d ≡ R2) ⊎ (d ≡ R5) → (m.rw g.lock.index).writer ≡ true
+  meets_writer u g d top (inl e) =
+      let t = subst (IsTop m u g) e top in still_R2 m u g (ok.fits u g t.live).after t.place (stands (bay u g R2 t))
+  meets_writer u g d top (inr e) =
+      let t = subst (IsTop m u g) e top in still_R5 m u g (ok.fits u g t.live).after t.place (stands (bay u g R5 t))
 
-      -- the newest frame of the processor has ended: it is the task's, which holds, or there is none
-      placed : (t : Waiter) (g : Frame) → t.cpu ≡ u.cpu → m.frame t ≡ Some g → HasNoneAbove m t → (o : Option Pc) → g.place ≡ o
-          → Next level m (level l)
-      placed t g cpu live above (Some c) e = at t g cpu live above c e
-      placed t g cpu live above None e =
-          elim (cases_lt 0 t.ctx) [
-            | inl lt ↦ let p = tidy.handlers t g live lt in at t g cpu live above p.0 p.1
-            | inr ge ↦ elim (cases_lt t.ctx u.ctx) [
-              | inl up ↦ inr (record {
-                by = u;
-                lock = l;
-                way = way;
-                holds = has;
-                out = λ f lf. absurd (let z = absent up in (let y : None ≡ Some f = sym z ∙ lf in cc y));
-                newest = λ c lt. ap (λ (p : ℕ). m.frame (record { cpu = p; ctx = c })) (sym cpu) ∙ above c (omega (arith, up, lt));
-              })
-              | inr le ↦
-                  let i : t ≡ u = (let x : t.ctx ≡ u.ctx = omega (arith, ge, le) in λ i. record { cpu = cpu i; ctx = x i }) in
-                  inr (record {
-                    by = u;
-                    lock = l;
-                    way = way;
-                    holds = has;
-                    out = λ f lf. (let z : Some g ≡ Some f = sym live ∙ ap m.frame i ∙ lf in
-                        let y : g ≡ f = cc z in ap (λ (h : Frame). h.place) (sym y) ∙ e);
-                    newest = subst (HasNoneAbove m) i above;
-                  })
-            ]
-          ]
-        where
-          absent : t.ctx < u.ctx → m.frame u ≡ None
-          absent lt = ap (λ (p : ℕ). m.frame (record { cpu = p; ctx = u.ctx })) (sym cpu) ∙ above u.ctx lt
+  abbrev On : LockName → Type 0
+  On l = Next level m (level l)
 
-      with_frame : ((c : ℕ) → m.frame (record { cpu = u.cpu; ctx = c }) ≡ None)
-          ⊎ ((t : Waiter) × (d : Frame) × (t.cpu ≡ u.cpu) × (m.frame t ≡ Some d) × HasNoneAbove m t)
-          → Next level m (level l)
-      with_frame (inl none) = inr (record {
-        by = u;
-        lock = l;
-        way = way;
-        holds = has;
-        out = λ f lf. absurd (let z = none u.ctx in (let y : None ≡ Some f = sym z ∙ lf in cc y));
-        newest = λ c lt. none c;
-      })
-      with_frame (inr t) = placed t.0 t.1 t.2 t.3 t.4 t.1.place refl
+  works_on : (u : Waiter) (g : Frame) (d : Pc) (l : LockName) → m.frame u ≡ Some g → g.place ≡ Some d
+      → lock_at d g ≡ l → (IsTop m u g d → On l) → On l
+  works_on = under level bound m hs ok tidy ranked top_polls meets_writer
 
-  -- a writer
-  written : (i : ℕ) → m.kind i ≡ Rw → (m.rw i).writer ≡ true → Next level m (level (rw_name i))
-  written i is h =
-      let u = (ok.rws i is).holds.written h in
-      over_or u.0 (rw_name i) Writes u.1 (λ t g top way. absurd (let z : Writes ≡ Reads = way in cc z))
+  works_in : (u : Waiter) (l : LockName) → s.phase l u ≢ Idle → ((a : IsAt m l u) → IsTop m u a.frame a.place → On l) → On l
+  works_in = under_phase level bound m hs ok tidy ranked top_polls meets_writer
 
-  -- a reader in an interrupt that stands still meets a writer
-  reader : (t : Waiter) (g : Frame) → IsTop m t g R2 → Next level m (level (rw_name g.lock.index))
-  reader t g top =
-      written g.lock.index ((ok.fits t g top.live).rw R2 top.place refl)
-      (still_R2 m t g (ok.fits t g top.live).after top.place (stands (bay t g R2 top)))
-
-  over : (u : Waiter) (l : LockName) (way : Manner) → m.held u l ≡ Some way → Next level m (level l)
-  over u l way has =
-      over_or u l way has (λ t g top r same. subst (λ (k : LockName). Next level m (level k)) (sym same) (reader t g top))
-
-  -- who is at work on a lock is the newest of its processor, or the newest polls at a higher level
-  under : (u : Waiter) (g : Frame) (d : Pc) (l : LockName) → m.frame u ≡ Some g → g.place ≡ Some d
-      → lock_at d g ≡ l → (IsTop m u g d → Next level m (level l)) → Next level m (level l)
-  under u g d l live place lock first =
-      let t = newest_of m u (tidy.shallow u.cpu) g live in
-      elim t.is [
-        | inl same ↦ first (record { live = live; above = subst (HasNoneAbove m) same t.above; place = place })
-        | inr lt ↦
-            let p = tidy.handlers t.by t.frame t.live (omega (arith, lt)) in
-            let top : IsTop m t.by t.frame p.0 = record { live = t.live; above = t.above; place = p.1 } in
-            let poll = top_polls t.by t.frame p.0 top in
-            let ne : u ≢ t.by = (λ e. let z = ap (λ (v : Waiter). v.ctx) e in omega (arith, z, lt)) in
-            elim (ranked.works t.by u t.frame g p.0 d top poll (sym t.cpu) ne live place) [
-              | inl more ↦ inl (record {
-                by = t.by;
-                frame = t.frame;
-                place = p.0;
-                top = top;
-                waits = poll;
-                more = subst (λ (k : LockName). level k < level (lock_at p.0 t.frame)) lock more;
-              })
-              | inr z ↦
-                  let same : level (lock_at p.0 t.frame) ≡ level (rw_name t.frame.lock.index) =
-                  ap (λ (c : Pc). level (lock_at c t.frame)) z.0 in
-                  let le : level l ≤ level (lock_at p.0 t.frame) =
-                  subst (λ (k : LockName). level k ≤ level (lock_at p.0 t.frame)) lock z.1 in
-                  elim (reader t.by t.frame (subst (IsTop m t.by t.frame) z.0 top)) [
-                    | inr out ↦ inr out
-                    | inl r ↦
-                        let more = r.more in
-                        inl (record {
-                          by = r.by;
-                          frame = r.frame;
-                          place = r.place;
-                          top = r.top;
-                          waits = r.waits;
-                          more = omega (arith, more, same, le);
-                        })
-                  ]
-            ]
-      ]
-
-  -- the same by its phase
-  under_phase : (u : Waiter) (l : LockName) → s.phase l u ≢ Idle
-      → ((a : IsAt m l u) → IsTop m u a.frame a.place → Next level m (level l)) → Next level m (level l)
-  under_phase u l busy first =
-      let a = busy_at m l u busy in
-      under u a.frame a.place l a.live a.at (busy_lock m l u busy a) (first a)
+  writes : (i : ℕ) → m.kind i ≡ Rw → (m.rw i).writer ≡ true → On (rw_name i)
+  writes = written level bound m hs ok tidy ranked top_polls meets_writer
 
   cna : (l : LockName) → CnaAgrees (m.word l).tail (s.phase l) s.own s.node s.local s.threshold (s.stage l) s.kept
       (spin_part m.kind hs l).main (spin_part m.kind hs l).second (spin_part m.kind hs l).passes
@@ -270,7 +156,7 @@ module _ (level : LockName → ℕ) (bound : ℕ) (m : World) (hs : LockName →
 
   -- such a head has one that is about to link, or one that comes
   heads : (l : LockName) (u : Waiter) (g : Frame) → Turning m u g → m.frame u ≡ Some g → g.lock ≡ l
-      → s.phase l u ≡ Holds → Next level m (level l)
+      → s.phase l u ≡ Holds → On l
   heads l u g t live lock holds =
       let c = cna l in
       let q = c.queue in
@@ -290,13 +176,13 @@ module _ (level : LockName → ℕ) (bound : ℕ) (m : World) (hs : LockName →
             elim (followed u g t.place live t.at t.alone last) [
               | inl z ↦ absurd (unshut z.0 (last_is g (m.word g.lock) t.held z.1 last) t.shut)
               | inr c ↦
-                  under c.by c.frame c.place l c.live c.at (plain_lock c.place c.frame (comes_spin c.place c.comes) ∙ c.lock ∙ lock)
+                  works_on c.by c.frame c.place l c.live c.at (plain_lock c.place c.frame (comes_spin c.place c.comes) ∙ c.lock ∙ lock)
                   (λ t. absurd (comes_polls c.place c.comes (top_polls c.by c.frame c.place t)))
             ]
         | inr v ↦ elim (follows_cases (part (spin_part m.kind hs l).second (s.phase l) v.0) (q.ends.behind 0 v.0 v.1).0) [
           | inl n ↦
               let o = part_out (spin_part m.kind hs l).second (s.phase l) v.0 (q.members.inside 1 v.0 v.1) in
-              let r : s.phase l v.0 ≡ Links n.0 = sym o.0 ∙ n.1 in under_phase v.0 l (links_busy (s.phase l v.0) n.0 r)
+              let r : s.phase l v.0 ≡ Links n.0 = sym o.0 ∙ n.1 in works_in v.0 l (links_busy (s.phase l v.0) n.0 r)
               (λ a t. absurd (links_polls a.place (is_some a.frame.me) (node_of a.frame.prev) (node_of a.frame.y) n.0
               (sym a.shows ∙ r) (top_polls v.0 a.frame a.place t)))
           | inr w ↦
@@ -313,9 +199,9 @@ module _ (level : LockName → ℕ) (bound : ℕ) (m : World) (hs : LockName →
       unshut a b (inr e) = cc (b, e)
 
   -- who has the lock by its phase
-  owning : (l : LockName) (u : Waiter) → owns (s.phase l u) ≡ true → Next level m (level l)
+  owning : (l : LockName) (u : Waiter) → owns (s.phase l u) ≡ true → On l
   owning l u o =
-      under_phase u l (owns_busy (s.phase l u) o)
+      works_in u l (owns_busy (s.phase l u) o)
       (λ a t.
       let d = owns_turn a.place (is_some a.frame.me) (node_of a.frame.prev) (node_of a.frame.y)
       (ap owns (sym a.shows) ∙ o) (top_polls u a.frame a.place t) (unhalting u a.frame a.place t)
@@ -324,21 +210,21 @@ module _ (level : LockName → ℕ) (bound : ℕ) (m : World) (hs : LockName →
       (a.shows ∙ turn_holds a.place (is_some a.frame.me) (node_of a.frame.prev) (node_of a.frame.y) d))
 
   -- a byte that is taken
-  taken : (l : LockName) → is_unlocked (m.word l).locked ≡ false → Next level m (level l)
+  taken : (l : LockName) → is_unlocked (m.word l).locked ≡ false → On l
   taken l h = by (agrees l).holder refl
     where
-      by : (o : Option Waiter) → (agrees l).holder ≡ o → Next level m (level l)
+      by : (o : Option Waiter) → (agrees l).holder ≡ o → On l
       by None e = absurd (locked_not (m.word l).locked h ((agrees l).hold.taken e))
       by (Some u) e = elim (has_cases (s.phase l u) (spins (m.held u l)) ((agrees l).hold.had u e)) [
         | inl o ↦ owning l u o
-        | inr has ↦ over u l Spins (spins_is (m.held u l) has)
+        | inr has ↦ over level bound m hs ok tidy ranked top_polls meets_writer u l Spins (spins_is (m.held u l) has)
       ]
 
   -- pending that is set
-  pending : (l : LockName) → (m.word l).pending ≡ true → Next level m (level l)
+  pending : (l : LockName) → (m.word l).pending ≡ true → On l
   pending l h =
       let u = (agrees l).pend.someone h in
-      under_phase u.0 l (pends_busy (s.phase l u.0) u.1)
+      works_in u.0 l (pends_busy (s.phase l u.0) u.1)
       (λ a t.
       let d = pends_polls a.place (is_some a.frame.me) (node_of a.frame.prev) (node_of a.frame.y)
       (ap pends (sym a.shows) ∙ u.1) (top_polls u.0 a.frame a.place t) (unhalting u.0 a.frame a.place t) in
@@ -346,24 +232,24 @@ module _ (level : LockName → ℕ) (bound : ℕ) (m : World) (hs : LockName →
       taken l (subst (λ (k : LockName). is_unlocked (m.word k).locked ≡ false) a.lock
       (still_P3 m u.0 a.frame (ok.fits u.0 a.frame at.live).after at.place (stands (bay u.0 a.frame P3 at)))))
 
-  closed : (l : LockName) → is_unlocked (m.word l).locked && not (m.word l).pending ≡ false → Next level m (level l)
+  closed : (l : LockName) → is_unlocked (m.word l).locked && not (m.word l).pending ≡ false → On l
   closed l h = by (is_unlocked (m.word l).locked) refl (m.word l).pending refl
     where
-      by : (a : Bool) → is_unlocked (m.word l).locked ≡ a → (p : Bool) → (m.word l).pending ≡ p → Next level m (level l)
+      by : (a : Bool) → is_unlocked (m.word l).locked ≡ a → (p : Bool) → (m.word l).pending ≡ p → On l
       by false e p q = taken l e
       by true e true q = pending l q
       by true e false q =
           absurd (let z : is_unlocked (m.word l).locked && not (m.word l).pending ≡ true = rw (e, q) refl in cc (z, h))
 
   -- the first of the queue
-  front : (l : LockName) (u : Waiter) → slice_get (spin_part m.kind hs l).main 0 ≡ Some u → Next level m (level l)
+  front : (l : LockName) (u : Waiter) → slice_get (spin_part m.kind hs l).main 0 ≡ Some u → On l
   front l u at_front =
       let q = (cna l).queue in
       let o = part_out (spin_part m.kind hs l).second (s.phase l) u (q.members.inside 0 u at_front) in
       let f = shown_flag (front_cut s.own (s.stage l) (slice_get (spin_part m.kind hs l).main 0)) s.node (s.own u) in
       let lead : leads (s.phase l u) ((m.node (s.own u)).flag) ≡ true =
       (λ i. leads (sym o.0 i) (sym f i)) ∙ q.ends.first u at_front in
-      under_phase u l (leads_busy (s.phase l u) ((m.node (s.own u)).flag) lead)
+      works_in u l (leads_busy (s.phase l u) ((m.node (s.own u)).flag) lead)
       (λ a t.
       let own : s.own u ≡ node_of a.frame.me = ap own_in a.live in
       elim (leads_turn a.place (is_some a.frame.me) (node_of a.frame.prev) (node_of a.frame.y)
@@ -384,7 +270,7 @@ module _ (level : LockName → ℕ) (bound : ℕ) (m : World) (hs : LockName →
       ])
 
   -- somebody waits in one of the queues
-  queued : (l : LockName) (w : Waiter) → queues (s.phase l w) ≡ true → Next level m (level l)
+  queued : (l : LockName) (w : Waiter) → queues (s.phase l w) ≡ true → On l
   queued l w h = elim (get_cases (spin_part m.kind hs l).main 0) [
     | inr u ↦ front l u.0 u.1
     | inl none ↦
@@ -399,57 +285,17 @@ module _ (level : LockName → ℕ) (bound : ℕ) (m : World) (hs : LockName →
       empty [] h i = refl
       empty (u ∷ us) h i = cc h
 
-  tailed : (l : LockName) (n : NodeName) → (m.word l).tail ≡ Some n → Next level m (level l)
+  tailed : (l : LockName) (n : NodeName) → (m.word l).tail ≡ Some n → On l
   tailed l n h = elim (get_cases (spin_part m.kind hs l).main 0) [
     | inl none ↦ absurd (let z = (cna l).queue.ends.no_tail none in cc (z, h))
     | inr u ↦ front l u.0 u.1
   ]
 
-  unfreed : (l : LockName) → is_free (m.word l) ≡ false → Next level m (level l)
+  unfreed : (l : LockName) → is_free (m.word l) ≡ false → On l
   unfreed l h = elim (unfree (m.word l) h) [
     | inl e ↦ taken l e
     | inr r ↦ elim r [ inl e ↦ pending l e | inr t ↦ tailed l t.0 t.1 ]
   ]
-
-  -- reader-writer locks
-  module _ (i : ℕ) (is : m.kind i ≡ Rw) where
-    rws : RwAgrees (m.rw i) (rw_phases m i) (λ u. m.held u (rw_name i)) (λ u. spins (m.held u (Rattle.lk_rows.specs.Moves.wait_name i))) (hs (rw_name i))
-    rws = ok.rws i is
-
-    counted : (r : RwPhase) (h : Option Manner) → is_counted r h ≡ true → (biased r ≡ true) ⊎ (reads h ≡ true)
-    counted r h e = grind (arith, e, cases_Bool (biased r))
-
-    some_of : (us : List Waiter) → 0 < length us → (u : Waiter) × (slice_get us 0 ≡ Some u)
-    some_of [] h = absurd (omega (arith, h))
-    some_of (u ∷ us) h = (u, refl)
-
-    read : 0 < (m.rw i).readers → Next level m (level (rw_name i))
-    read h =
-        let number = rws.readers.number in
-        let u = some_of rws.counted (omega (arith, h, number)) in
-        elim (counted (rw_phases m i u.0) (m.held u.0 (rw_name i)) (rws.readers.each.inside 0 u.0 u.1)) [
-          | inl b ↦
-              let a = biased_at m i u.0 b in
-              under u.0 a.frame a.place (rw_name i) a.live a.at a.lock
-              (λ t. elim (biased_polls a.place a.row (top_polls u.0 a.frame a.place t)) [
-                | inl e ↦
-                    let top : IsTop m u.0 a.frame R2 = subst (IsTop m u.0 a.frame) e t in
-                    written i is (subst (λ (k : ℕ). (m.rw k).writer ≡ true) (index a.place a.frame a.lock)
-                    (still_R2 m u.0 a.frame (ok.fits u.0 a.frame top.live).after top.place (stands (bay u.0 a.frame R2 top))))
-                | inr e ↦
-                    let top : IsTop m u.0 a.frame R5 = subst (IsTop m u.0 a.frame) e t in
-                    written i is (subst (λ (k : ℕ). (m.rw k).writer ≡ true) (index a.place a.frame a.lock)
-                    (still_R5 m u.0 a.frame (ok.fits u.0 a.frame top.live).after top.place (stands (bay u.0 a.frame R5 top))))
-              ])
-          | inr r ↦ over u.0 (rw_name i) Reads (reads_is (m.held u.0 (rw_name i)) r)
-        ]
-      where
-        index : (d : Pc) (g : Frame) → lock_at d g ≡ rw_name i → g.lock.index ≡ i
-        index d g e = by (is_rw_row d) refl
-          where
-            by : (b : Bool) → is_rw_row d ≡ b → g.lock.index ≡ i
-            by true h = let z : rw_name g.lock.index ≡ rw_name i = sym (rw h refl) ∙ e in ap (λ (k : LockName). k.index) z
-            by false h = let z : g.lock ≡ rw_name i = sym (plain_lock d g h) ∙ e in ap (λ (k : LockName). k.index) z
 
   shown_at : (w : Waiter) (f : Frame) (c : Pc) → IsTop m w f c
       → s.phase f.lock w ≡ phase_at c (is_some f.me) (node_of f.prev) (node_of f.y)
@@ -458,7 +304,7 @@ module _ (level : LockName → ℕ) (bound : ℕ) (m : World) (hs : LockName →
 
   -- whoever polls, waits for one at a higher level
   climb : (w : Waiter) (f : Frame) (c : Pc) → IsTop m w f c → polls c ≡ true → may_halt c ≡ false → hands_plainly c ≡ false
-      → Next level m (level (lock_at c f))
+      → On (lock_at c f)
   climb w f V1 top p a k = unfreed f.lock (still_V1 m w f (ok.fits w f top.live).after top.place (stands (bay w f V1 top)))
   climb w f N1 top p a k = unfreed f.lock (still_N1 m w f (ok.fits w f top.live).after top.place (stands (bay w f N1 top)))
   climb w f P3 top p a k = taken f.lock (still_P3 m w f (ok.fits w f top.live).after top.place (stands (bay w f P3 top)))
@@ -468,17 +314,17 @@ module _ (level : LockName → ℕ) (bound : ℕ) (m : World) (hs : LockName →
   climb w f C3 top p a k = owning f.lock w (ap owns (shown_at w f C3 top))
   climb w f C10 top p a k = owning f.lock w (ap owns (shown_at w f C10 top))
   climb w f R2 top p a k =
-      written f.lock.index ((ok.fits w f top.live).rw R2 top.place refl)
-      (still_R2 m w f (ok.fits w f top.live).after top.place (stands (bay w f R2 top)))
+      writes f.lock.index ((ok.fits w f top.live).rw R2 top.place refl)
+      (meets_writer w f R2 top (inl refl))
   climb w f R5 top p a k =
-      written f.lock.index ((ok.fits w f top.live).rw R5 top.place refl)
-      (still_R5 m w f (ok.fits w f top.live).after top.place (stands (bay w f R5 top)))
+      writes f.lock.index ((ok.fits w f top.live).rw R5 top.place refl)
+      (meets_writer w f R5 top (inr refl))
   climb w f Wr5 top p a k =
       let is = (ok.fits w f top.live).rw Wr5 top.place refl in
       let known = (rw_row_knows Wr5 m hs w f ok top.live top.place refl).1 in
       elim (uncleared (m.rw f.lock.index) (still_Wr5 m w f (ok.fits w f top.live).after top.place (stands (bay w f Wr5 top))) known) [
-        | inl e ↦ read f.lock.index is e
-        | inr e ↦ written f.lock.index is e
+        | inl e ↦ read level bound m hs ok tidy ranked top_polls meets_writer f.lock.index is e
+        | inr e ↦ writes f.lock.index is e
       ]
   climb w f _ top p a k = cc (p, a, k)
 
@@ -489,7 +335,7 @@ module _ (level : LockName → ℕ) (bound : ℕ) (m : World) (hs : LockName →
       go (climb w f c top (top_polls w f c top) (unhalting w f c top) (unplain w f c top))
       (λ k g d at more. ends n k g d at more)
     where
-      go : Next level m (level (lock_at c f))
+      go : On (lock_at c f)
           → ((k : Waiter) (g : Frame) (d : Pc) → IsTop m k g d → bound ≤ level (lock_at d g) + n → HoldsOutside m)
           → HoldsOutside m
       go (inr out) on = out

@@ -20,6 +20,7 @@ use Rattle.lk_progress.specs.Ordered.{IsOrdered}
 use Rattle.lk_progress.specs.Potential.{budget, is_pause}
 use Rattle.lk_progress.specs.Runs.{HasRoom, IsFinished, SomebodyMoves}
 use Rattle.lk_progress.proofs.Budget.{acts_lower}
+use Rattle.lk_progress.proofs.Good.{IsAwake}
 use Rattle.lk_progress.specs.Followed.{IsHeadFollowed}
 use Rattle.lk_progress.proofs.Reached.{Reached, start, reached}
 use Rattle.lk_progress.proofs.Runs.{kept_followed, unspoilt, goes_on}
@@ -41,12 +42,12 @@ module _ (rank : ℕ → ℕ) (ranks : ℕ) (setup : Setup) (schedule : ℕ → 
   cpus m r = r.shows.shows.whole.cpus ∙ ap processors r.setup_is
 
   come_to : (n : ℕ) → Reached IsHeadFollowed setup (after n)
-  come_to zero = start false IsHeadFollowed kept_followed setup ok
+  come_to zero = start (IsAwake false) IsHeadFollowed kept_followed setup ok
   come_to (suc n) =
       let r = come_to n in
       let lt : processor_of (schedule n) < length (after n).cpus =
       subst (λ (i : ℕ). processor_of (schedule n) < i) (sym (cpus (after n) r)) (fair.inside n) in
-      reached false IsHeadFollowed kept_followed setup awake plain has_room (schedule n ∷ []) (after n) (lt, tt) r
+      reached (IsAwake false) IsHeadFollowed kept_followed setup (awake, plain) (λ e. has_room) (schedule n ∷ []) (after n) (lt, tt) r
 
   -- what an act does to the budget, if no swap fails
   abbrev Lowers : ℕ → Type 0

@@ -18,10 +18,10 @@ use Rattle.lk_rows.specs.Machine.{Machine, top_of, top_frame, frame_at, word_at}
 use Rattle.lk_rows.specs.Moves.{node_of, waiter_of}
 use Rattle.lk_rows.specs.Row.{Answer, Nothing, Says, looks, Goes, Y, Second}
 use Rattle.lk_rows.specs.rows.Cna.{is_last}
-use Rattle.lk_rows.specs.TopRow.{target, row, QueueWord}
+use Rattle.lk_rows.specs.TopRow.{target, row}
 use Rattle.lk_law.specs.Agree.{halts}
 use Rattle.lk_law.specs.Families.{may_halt}
-use Rattle.lk_law.specs.Leads.{course_in}
+use Rattle.lk_law.specs.Leads.{course_in, stored_in}
 use Rattle.lk_law.specs.Registers.{returns}
 use Rattle.lk_law.specs.Sound.{world, ShowsAll}
 use Rattle.lk_law.specs.Steps.{led, row_in, stores_word}
@@ -38,7 +38,6 @@ use Rattle.lk_abs.specs.declared.events.How.TheVariants as how
 use Rattle.lk_word.specs.declared.spin_word.Fields.{Fields}
 use Rattle.lk_rows.specs.rows.Spin.{held_word}
 use Rattle.lk_rows.specs.rows.Queue.{is_sole, takes_out}
-use Rattle.lk_law.proofs.running.Leads.{row_is_done}
 
 -- the frame of the waiter is about to hand off, and moves nobody
 pub record MovesNobody (m : World) (u : Waiter) (l : LockName) : Type 0 where
@@ -84,8 +83,8 @@ module _ (m : Machine) (hs : LockName → LockHistory) (shows : ShowsAll m hs) (
           none = none;
         }
       where
-        r : (n : Machine) × Put m n (row_in (world m) w f c).0.word × Moves n w f g (row m p).0
-        r = row_moves m p hs shows range f c live at plain (shows.world.fits w f live).after
+        r : (n : Machine) × Put m n (stored_in (world m) w f c (target c f)) × Moves n w f g (row m p).0
+        r = row_moves m p hs shows range f c live at (shows.world.fits w f live).after
 
         now : r.2.now ≡ Some g
         now = elim r.2.turned [
@@ -98,8 +97,8 @@ module _ (m : Machine) (hs : LockName → LockHistory) (shows : ShowsAll m hs) (
     stays u ne =
         r.2.follows.frame u ∙ if-false (same_waiter u w) r.2.now (frame_at r.0 u) (same_waiter-else u w ne) ∙ r.1.frames u
       where
-        r : (n : Machine) × Put m n (row_in (world m) w f c).0.word × Moves n w f g (row m p).0
-        r = row_moves m p hs shows range f c live at plain (shows.world.fits w f live).after
+        r : (n : Machine) × Put m n (stored_in (world m) w f c (target c f)) × Moves n w f g (row m p).0
+        r = row_moves m p hs shows range f c live at (shows.world.fits w f live).after
 
   -- a row of another, or the row C7: the frame still moves nobody
   row_keeps : (u : Waiter) → MovesNobody (world m) u l → (p : ℕ) (c : Pc) → p < length m.cpus → (top_frame m p).place ≡ Some c
@@ -276,10 +275,9 @@ module _ (m : Machine) (hs : LockName → LockHistory) (shows : ShowsAll m hs) (
   sole_empties =
       ap (λ (y : Answer). (word_at y.0 l).tail) r.is
       ∙ ap (λ (y : Fields). y.tail) (z.2.follows.word l ∙ z.1.words l
-      ∙ ap (λ (v : LockName → Fields). v l) (row_is_done (world m) taker own_frame G8 QueueWord).word
       ∙ ap (λ (b : Bool). (stores_word (world m) own_frame.lock (if b then takes_out own_frame how.Sole else looks G9).stores).word l) sole
       ∙ ap (λ (b : Bool). if b then held_word else (world m).word l) (ap (λ (k : LockName). same_lock l k) (sym own) ∙ same_lock-self l))
     where
-      z : (n : Machine) × Put m n (row_in (world m) taker own_frame G8).0.word
+      z : (n : Machine) × Put m n (stored_in (world m) taker own_frame G8 (target G8 own_frame))
           × Moves n taker own_frame (led own_frame (course_in (world m) taker own_frame G8 (target G8 own_frame)).leads) (row m r.cpu).0
-      z = row_moves m r.cpu hs shows r.range own_frame G8 r.live (r.at ∙ ap (λ (d : Pc). Some d) here) refl (shows.world.fits taker own_frame r.live).after
+      z = row_moves m r.cpu hs shows r.range own_frame G8 r.live (r.at ∙ ap (λ (d : Pc). Some d) here) (shows.world.fits taker own_frame r.live).after

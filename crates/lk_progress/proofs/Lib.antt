@@ -2,7 +2,10 @@ pub mod Stands
 pub mod Tops
 pub mod Owning
 pub mod Polling
+pub mod Under
 pub mod Climb
+pub mod HaltingStands
+pub mod ClimbHalting
 pub mod TurnRows
 pub mod ClimbAside
 pub mod Mute
@@ -17,7 +20,15 @@ pub mod AsideFollowed
 pub mod Ranked
 pub mod Moves
 pub mod Rows
+pub mod HaltingRows
+pub mod HaltingLeads
 pub mod Quiet
+pub mod Changed
+pub mod HeadLinked
+pub mod HeadServed
+pub mod HaltEnds
+pub mod Settling
+pub mod Woken
 pub mod Good
 pub mod Measure
 pub mod Still
@@ -36,3 +47,5 @@ pub mod AheadAside
 pub mod Fresh
 pub mod InTurnAside
 pub mod RunsAside
+pub mod RunsHalting
+pub mod HaltingSteps

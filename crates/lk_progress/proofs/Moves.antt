@@ -1,7 +1,7 @@
 -- What a row of a machine does to its words and frames: as the row of its world does, and then the
 -- frame goes on to its next operation, if its own has ended.
 use Rattle.std.proofs.Common.{◌≡◌, ◌≢◌, ◌⊎◌, inl, inr, ℕ, ◌<◌, ◌+◌, Option, Some, None, Bool}
-use Rattle.std.proofs.Common.{true, false, refl, sym, ap, ◌∙◌, subst, arith, List, slice_get}
+use Rattle.std.proofs.Common.{true, false, refl, sym, ap, ◌∙◌, subst, arith, List, [], ◌∷◌, slice_get, zero, suc, get_or, set}
 use Rattle.std.specs.Prelude.{if◌then◌else◌, ◌==◌}
 use Rattle.lk_abs.specs.Names.{same_waiter}
 use Rattle.lk_abs.specs.declared.names.Mode.{Mode}
@@ -13,7 +13,8 @@ use Rattle.lk_rows.specs.declared.parts.Frame.{Frame}
 use Rattle.lk_rows.specs.declared.parts.Node.{Node}
 use Rattle.lk_rows.specs.declared.parts.Pc.{Pc}
 use Rattle.lk_rows.specs.Machine.{Machine, frame_at, word_at, set_top, set_node, pop, top_of, HasTop, rest_node, cpu_at}
-use Rattle.lk_rows.specs.Machine.{handlers_at}
+use Rattle.lk_rows.specs.Machine.{handlers_at, node_at, kicked_at, halted_at, CpuState, no_cpu, set_cpu}
+use Rattle.lk_rows.specs.rows.Pv.{is_set}
 use Rattle.lk_rows.specs.Moves.{program_of, started, settled, settled_at, granted, skipped, waiting}
 use Rattle.lk_rows.specs.Row.{Lead, Goes, Enters, Granted, Freed, Missed, Done, TakesWait, Leaves, Yields, moved, gone}
 use Rattle.lk_rows.specs.Row.{entered, changed_all}
@@ -22,7 +23,7 @@ use Rattle.lk_law.specs.Sound.{world}
 use Rattle.lk_law.specs.Steps.{led}
 use Rattle.lk_law.specs.World.{World}
 use Rattle.lk_core.proofs.Seated.{seated, world-set_top, world-pop, word-set_cpu}
-use Rattle.lk_core.proofs.Worlds.{frame-set_node}
+use Rattle.lk_core.proofs.Worlds.{frame-set_node, kicked-set_node, halted-set_node}
 use Rattle.lk_core.proofs.Same.{top_same, has_top_same, same_set_node, same_set_top, handlers_pop}
 use Rattle.lk_core.proofs.LeadsOut.{done_is, missed_is, left, left_world, left_frames, left_same, left_ready, leave_is}
 use Rattle.lk_core.proofs.Leads.{granted_led}
@@ -33,6 +34,9 @@ pub record Follows (n k : Machine) (w : Waiter) (o : Option Frame) : Type 0 wher
   pub word : (l : LockName) → word_at k l ≡ word_at n l
   pub frame : (u : Waiter) → frame_at k u ≡ (if same_waiter u w then o else frame_at n u)
   pub handlers : (q : ℕ) → handlers_at k q ≡ handlers_at n q
+  pub flags : (x : NodeName) → is_set (node_at k x).flag ≡ true → is_set (node_at n x).flag ≡ true
+  pub kicked : (q : ℕ) → kicked_at k q ≡ kicked_at n q
+  pub halted : (q : ℕ) → halted_at k q ≡ halted_at n q
 
 -- how a frame goes on that has ended an operation, as h: it is popped, or finished, or begins the next
 -- operation
@@ -53,6 +57,9 @@ by_world n k w o e same =
       handlers = same;
       word = λ l. ap (λ (x : World). x.word l) e;
       frame = λ u. ap (λ (x : World). x.frame u) e;
+      flags = λ x h. ap (λ (y : World). is_set (y.node x).flag) (sym e) ∙ h;
+      kicked = λ q. ap (λ (y : World). y.kicked q) e;
+      halted = λ q. ap (λ (y : World). y.halted q) e;
     }
 
 pub settled_is : (n : Machine) (p : ℕ) (h : Frame) → HasTop n p → Settled n p h (settled n p h)
@@ -137,6 +144,51 @@ unfolding set_node
 word-set_node m n x l =
     word-set_cpu m n.cpu (record (cpu_at m n.cpu) { nodes = Rattle.std.specs.Prelude.slice_set (cpu_at m n.cpu).nodes n.index x }) l
 
+-- which flags are set after a store into a node: its own, or one that was
+abbrev IsFlagged : Node → Type 0
+IsFlagged x = is_set x.flag ≡ true
+
+node_list : (xs : List Node) (i j : ℕ) (y : Node) → IsFlagged (get_or (set xs i y) j rest_node)
+    → ((i ≡ j) × IsFlagged y) ⊎ ((i ≢ j) × IsFlagged (get_or xs j rest_node))
+node_list [] i j y h = cc h
+node_list (z ∷ zs) zero zero y h = inl (refl, h)
+node_list (z ∷ zs) zero (suc j) y h = inr (λ e. omega (arith, e), h)
+node_list (z ∷ zs) (suc i) zero y h = inr (λ e. omega (arith, e), h)
+node_list (z ∷ zs) (suc i) (suc j) y h = elim (node_list zs i j y h) [
+  | inl q ↦ inl (ap suc q.0, q.1)
+  | inr q ↦ inr (λ e. q.0 (let z : i ≡ j = omega (arith, e) in z), q.1)
+]
+
+cpu_list : (P : CpuState → Type 0) → (P no_cpu → ⊥) → (xs : List CpuState) (p q : ℕ) (c : CpuState)
+    → P (get_or (set xs p c) q no_cpu) → ((p ≡ q) × P c) ⊎ ((p ≢ q) × P (get_or xs q no_cpu))
+cpu_list P none [] p q c h = absurd (none h)
+cpu_list P none (y ∷ ys) zero zero c h = inl (refl, h)
+cpu_list P none (y ∷ ys) zero (suc q) c h = inr (λ e. omega (arith, e), h)
+cpu_list P none (y ∷ ys) (suc p) zero c h = inr (λ e. omega (arith, e), h)
+cpu_list P none (y ∷ ys) (suc p) (suc q) c h = elim (cpu_list P none ys p q c h) [
+  | inl z ↦ inl (ap suc z.0, z.1)
+  | inr z ↦ inr (λ e. z.0 (let y : p ≡ q = omega (arith, e) in y), z.1)
+]
+
+pub flags-set_node : (m : Machine) (n k : NodeName) (y : Node) → IsFlagged (node_at (set_node m n y) k)
+    → ((k ≡ n) × IsFlagged y) ⊎ ((k ≢ n) × IsFlagged (node_at m k))
+unfolding set_node set_cpu cpu_at node_at
+flags-set_node m n k y h =
+    elim (cpu_list (λ (c : CpuState). IsFlagged (get_or c.nodes k.index rest_node)) (λ z. cc z) m.cpus n.cpu k.cpu
+    (record (cpu_at m n.cpu) { nodes = set (cpu_at m n.cpu).nodes n.index y }) h) [
+      | inr z ↦ inr (λ e. z.0 (ap (λ (i : NodeName). i.cpu) (sym e)), z.1)
+      | inl z ↦ elim (node_list (cpu_at m n.cpu).nodes n.index k.index y z.1) [
+        | inl q ↦ inl (λ i. record { cpu = sym z.0 i; index = sym q.0 i }, q.1)
+        | inr q ↦ inr (
+          λ e. q.0 (ap (λ (i : NodeName). i.index) (sym e)),
+          subst (λ (p : ℕ). IsFlagged (get_or (cpu_at m p).nodes k.index rest_node)) z.0 q.1,
+        )
+      ]
+    ]
+
+flags-reset : (m : Machine) (n k : NodeName) → IsFlagged (node_at (set_node m n rest_node) k) → IsFlagged (node_at m k)
+flags-reset m n k h = elim (flags-set_node m n k rest_node h) [ inl z ↦ (let y = z.1 in cc y) | inr z ↦ z.1 ]
+
 -- the frame goes where its row leads
 pub moved_is : (n : Machine) (p : ℕ) (f : Frame) (c : Pc) → Ready n p f c → (f.lock.wait ≡ true → IsThen f.then)
     → (lead : Lead) → Moves n (top_of n p) f (led f lead) (moved n p f lead)
@@ -158,6 +210,9 @@ moved_is n p f c r inner (Enters (Some a) d) =
         handlers = λ q. y.follows.handlers q ∙ same.handlers q;
         word = λ l. y.follows.word l ∙ word-set_node n a rest_node l;
         frame = λ u. y.follows.frame u ∙ ap (λ (o : Option Frame). if same_waiter u (top_of n p) then y.now else o) (frame-set_node n a rest_node u);
+        flags = λ x h. flags-reset n a x (y.follows.flags x h);
+        kicked = λ q. y.follows.kicked q ∙ kicked-set_node n a rest_node q;
+        halted = λ q. y.follows.halted q ∙ halted-set_node n a rest_node q;
       };
       turned = subst (λ (mode : Mode). Turned mode f g y.now) (ap (λ (s : Rattle.lk_rows.specs.declared.setup.Setup.Setup). s.mode) same.keeps.setup) y.turned;
     }
@@ -188,6 +243,9 @@ moved_is n p f c r inner Leaves =
         frame = λ u. y.follows.frame u
             ∙ ap (λ (o : Option Frame). if same_waiter u (top_of n p) then y.now else o) (left_frames n p f c r u)
             ∙ twice (same_waiter u (top_of n p)) y.now (Some e) (frame_at n u);
+        flags = λ x h. ap (λ (z : World). is_set (z.node x).flag) (sym (left_world n p f c r)) ∙ y.follows.flags x h;
+        kicked = λ q. y.follows.kicked q ∙ ap (λ (z : World). z.kicked q) (left_world n p f c r);
+        halted = λ q. y.follows.halted q ∙ ap (λ (z : World). z.halted q) (left_world n p f c r);
       };
       turned = subst (λ (mode : Mode). Turned mode f (led f Leaves) y.now) (ap (λ (s : Rattle.lk_rows.specs.declared.setup.Setup.Setup). s.mode) same.keeps.setup) y.turned;
     })

@@ -26,10 +26,10 @@ use Rattle.lk_rows.specs.Acts.{next, idle, step_halted}
 use Rattle.lk_law.specs.Agree.{halts}
 use Rattle.lk_law.specs.Cna.{moves_aside}
 use Rattle.lk_law.specs.Families.{may_halt, chooses}
-use Rattle.lk_law.specs.Leads.{course_in}
+use Rattle.lk_law.specs.Leads.{course_in, stored_in}
 use Rattle.lk_law.specs.Sound.{ShowsAll, world, Works}
 use Rattle.lk_law.specs.SoundWorld.{spin_part}
-use Rattle.lk_law.specs.Steps.{led, row_in}
+use Rattle.lk_law.specs.Steps.{led}
 use Rattle.lk_law.proofs.common.Knows.{nobody_halts}
 use Rattle.lk_law.proofs.common.Puts.{not-true, same_waiter-else}
 use Rattle.lk_law.proofs.common.Sames.{same_waiter-self}
@@ -130,7 +130,7 @@ module _ (m : Machine) (hs : LockName → LockHistory) (p : ℕ) (shows : ShowsA
     within : f.«at» < length (program_of m p f)
     within = slice_get_within (program_of m p f) f.«at» works.op works.is
 
-    by_moves : (n : Machine) → Put m n (row_in (world m) w f c).0.word → Moves n w f d (row m p).0
+    by_moves : (n : Machine) → Put m n (stored_in (world m) w f c (target c f)) → Moves n w f d (row m p).0
         → ((row m p).0 ≡ m) ⊎ (potential (row m p).0 < potential m)
         ⊎ IsSpoilt m p
     by_moves n put moves = by moves.turned
@@ -233,7 +233,7 @@ module _ (m : Machine) (hs : LockName → LockHistory) (p : ℕ) (shows : ShowsA
       → ((row m p).0 ≡ m) ⊎ (potential (row m p).0 < potential m)
       ⊎ IsSpoilt m p
   lowers_at c place =
-      let r = row_moves m p hs shows range f c live place (a c place) (shows.world.fits w f live).after in
+      let r = row_moves m p hs shows range f c live place (shows.world.fits w f live).after in
       by_moves c place r.0 r.1 r.2
 
   -- no handler is used up
@@ -243,7 +243,7 @@ module _ (m : Machine) (hs : LockName → LockHistory) (p : ℕ) (shows : ShowsA
       by : (o : Option Pc) → f.place ≡ o → handlers_at (row m p).0 q ≡ handlers_at m q
       by None e = ap (λ (o : Option Pc). handlers_at (row_at m p f o).0 q) e
       by (Some c) e =
-          let r = row_moves m p hs shows range f c live e (a c e) (shows.world.fits w f live).after in
+          let r = row_moves m p hs shows range f c live e (shows.world.fits w f live).after in
           r.2.follows.handlers q ∙ r.1.same.handlers q
 
   pub step_is_row : (next m (act.Step p)).0 ≡ (row m p).0

@@ -1,59 +1,85 @@
 -- A place at which an operation begins shows nothing: what is true of heads that wait for a successor stays
 -- where a frame comes to such a place, or goes from one.
-use Rattle.std.proofs.Common.{◌≡◌, ◌≢◌, ◌⊎◌, inl, inr, Some, None, true, false, refl, sym, ap, ◌∙◌}
+use Rattle.std.proofs.Common.{◌≡◌, ◌≢◌, ◌⊎◌, inl, inr, ℕ, Some, None, true, false, refl, sym, ap, ◌∙◌, arith, Bool}
 use Rattle.lk_abs.specs.declared.names.Mode.{Mode}
 use Rattle.lk_abs.specs.declared.names.Mode.TheVariants.{Virt, Native, Cna, Pv}
 use Rattle.lk_abs.specs.declared.names.Waiter.{Waiter}
 use Rattle.lk_abs.specs.declared.names.LockName.{LockName}
+use Rattle.lk_word.specs.declared.spin_word.NodeName.{NodeName}
 use Rattle.lk_word.specs.declared.spin_word.Fields.{Fields}
+use Rattle.lk_rows.specs.rows.Pv.{is_set}
 use Rattle.lk_rows.specs.declared.setup.Verb.{Verb}
 use Rattle.lk_rows.specs.declared.setup.Verb.TheVariants.{Lock, Try, Unlock, Read, TryRead}
 use Rattle.lk_rows.specs.declared.setup.Verb.TheVariants.{RUnlock, Write, TryWrite, WUnlock}
 use Rattle.lk_rows.specs.declared.parts.Frame.{Frame}
 use Rattle.lk_rows.specs.declared.parts.Pc.{Pc}
-use Rattle.lk_rows.specs.declared.parts.Pc.TheVariants.{G7, N1, N2}
+use Rattle.lk_rows.specs.declared.parts.Flag.{Flag}
+use Rattle.lk_rows.specs.declared.parts.Pc.TheVariants.{G7, N1, N2, W6, E12, E14, K1, K2, U5}
 use Rattle.lk_rows.specs.declared.parts.Why.{Why}
 use Rattle.lk_rows.specs.Moves.{is_node, node_of, first_place}
 use Rattle.lk_law.specs.World.{World}
 use Rattle.lk_law.proofs.common.Cases.{waiter_cases}
 use Rattle.lk_progress.specs.Aside.{IsFollowedAside, is_alone_row}
+use Rattle.lk_progress.proofs.HaltingLeads.{tells}
 use Rattle.lk_progress.specs.Followed.{IsHeadFollowed}
+use Rattle.lk_progress.specs.Halting.{IsHeadServed, IsAwaited, halts_as_head, looks_after}
 use Rattle.lk_progress.specs.Order.{SomebodyComes, is_led_on, is_coming}
 
--- the row is none of a head that waits for its successor, nor one of a waiter that comes or has no node
+-- the row is one of a holder that looks after the head, or of a release that kicks
+abbrev pub is_tending : Pc → Bool
+is_tending K1 = true
+is_tending K2 = true
+is_tending U5 = true
+is_tending _ = false
+
+looks_loud : (k d : Pc) → looks_after k d ≡ true → is_tending d ≡ false → ⊥
+looks_loud k d h t = grind (arith, h, t)
+
+halts_tells : (k : Pc) (x : Flag) → halts_as_head k x ≡ true → tells (Some k) ≡ true
+halts_tells k x h = grind (arith, h)
+
+halts_before : (k : Pc) (x y : Flag) → (is_set x ≡ true → is_set y ≡ true) → halts_as_head k x ≡ true → halts_as_head k y ≡ true
+halts_before W6 x y set h = set h
+halts_before E12 x y set h = refl
+halts_before k x y set h = cc h
+
+-- the row is none of a head that waits for its successor, nor one of a waiter that comes, has no node, or
+-- halts, or looks after one that does
 pub record IsQuietRow (c : Pc) : Type 0 where
   pub led_on : is_led_on c ≡ false
   pub coming : is_coming c ≡ false
   pub alone : (y : Why) → is_alone_row c y ≡ false
   pub unaware : c ≢ G7
   pub noded : (c ≢ N1) × (c ≢ N2)
+  pub served : tells (Some c) ≡ false
+  pub tends : is_tending c ≡ false
 
 -- no operation begins at such a row
 pub first_quiet : (mode : Mode) (v : Verb) → IsQuietRow (first_place mode v)
 first_quiet Virt Unlock =
-    record { led_on = refl; coming = refl; alone = λ y. refl; unaware = λ e. cc e; noded = (λ e. cc e, λ e. cc e) }
+    record { led_on = refl; coming = refl; alone = λ y. refl; unaware = λ e. cc e; noded = (λ e. cc e, λ e. cc e); served = refl; tends = refl }
 first_quiet Native Unlock =
-    record { led_on = refl; coming = refl; alone = λ y. refl; unaware = λ e. cc e; noded = (λ e. cc e, λ e. cc e) }
+    record { led_on = refl; coming = refl; alone = λ y. refl; unaware = λ e. cc e; noded = (λ e. cc e, λ e. cc e); served = refl; tends = refl }
 first_quiet Cna Unlock =
-    record { led_on = refl; coming = refl; alone = λ y. refl; unaware = λ e. cc e; noded = (λ e. cc e, λ e. cc e) }
+    record { led_on = refl; coming = refl; alone = λ y. refl; unaware = λ e. cc e; noded = (λ e. cc e, λ e. cc e); served = refl; tends = refl }
 first_quiet Pv Unlock =
-    record { led_on = refl; coming = refl; alone = λ y. refl; unaware = λ e. cc e; noded = (λ e. cc e, λ e. cc e) }
+    record { led_on = refl; coming = refl; alone = λ y. refl; unaware = λ e. cc e; noded = (λ e. cc e, λ e. cc e); served = refl; tends = refl }
 first_quiet mode Lock =
-    record { led_on = refl; coming = refl; alone = λ y. refl; unaware = λ e. cc e; noded = (λ e. cc e, λ e. cc e) }
+    record { led_on = refl; coming = refl; alone = λ y. refl; unaware = λ e. cc e; noded = (λ e. cc e, λ e. cc e); served = refl; tends = refl }
 first_quiet mode Try =
-    record { led_on = refl; coming = refl; alone = λ y. refl; unaware = λ e. cc e; noded = (λ e. cc e, λ e. cc e) }
+    record { led_on = refl; coming = refl; alone = λ y. refl; unaware = λ e. cc e; noded = (λ e. cc e, λ e. cc e); served = refl; tends = refl }
 first_quiet mode Read =
-    record { led_on = refl; coming = refl; alone = λ y. refl; unaware = λ e. cc e; noded = (λ e. cc e, λ e. cc e) }
+    record { led_on = refl; coming = refl; alone = λ y. refl; unaware = λ e. cc e; noded = (λ e. cc e, λ e. cc e); served = refl; tends = refl }
 first_quiet mode Write =
-    record { led_on = refl; coming = refl; alone = λ y. refl; unaware = λ e. cc e; noded = (λ e. cc e, λ e. cc e) }
+    record { led_on = refl; coming = refl; alone = λ y. refl; unaware = λ e. cc e; noded = (λ e. cc e, λ e. cc e); served = refl; tends = refl }
 first_quiet mode TryRead =
-    record { led_on = refl; coming = refl; alone = λ y. refl; unaware = λ e. cc e; noded = (λ e. cc e, λ e. cc e) }
+    record { led_on = refl; coming = refl; alone = λ y. refl; unaware = λ e. cc e; noded = (λ e. cc e, λ e. cc e); served = refl; tends = refl }
 first_quiet mode TryWrite =
-    record { led_on = refl; coming = refl; alone = λ y. refl; unaware = λ e. cc e; noded = (λ e. cc e, λ e. cc e) }
+    record { led_on = refl; coming = refl; alone = λ y. refl; unaware = λ e. cc e; noded = (λ e. cc e, λ e. cc e); served = refl; tends = refl }
 first_quiet mode RUnlock =
-    record { led_on = refl; coming = refl; alone = λ y. refl; unaware = λ e. cc e; noded = (λ e. cc e, λ e. cc e) }
+    record { led_on = refl; coming = refl; alone = λ y. refl; unaware = λ e. cc e; noded = (λ e. cc e, λ e. cc e); served = refl; tends = refl }
 first_quiet mode WUnlock =
-    record { led_on = refl; coming = refl; alone = λ y. refl; unaware = λ e. cc e; noded = (λ e. cc e, λ e. cc e) }
+    record { led_on = refl; coming = refl; alone = λ y. refl; unaware = λ e. cc e; noded = (λ e. cc e, λ e. cc e); served = refl; tends = refl }
 
 -- a place that shows nothing: none, or that of an operation which begins
 abbrev pub IsQuietFrame : Frame → Type 0
@@ -68,6 +94,12 @@ pub record ChangesQuietly (a b : World) (w : Waiter) : Type 0 where
   pub others : (u : Waiter) → u ≢ w → b.frame u ≡ a.frame u
   pub either : (b.frame w ≡ a.frame w)
       ⊎ (((g : Frame) → b.frame w ≡ Some g → IsQuietFrame g) × ((g : Frame) → a.frame w ≡ Some g → IsQuietFrame g))
+
+-- A frame comes so, and no flag is set and no kick made.
+pub record Comes (a b : World) (w : Waiter) : Type 0 where
+  pub quietly : ChangesQuietly a b w
+  pub flags : (n : NodeName) → is_set (b.node n).flag ≡ true → is_set (a.node n).flag ≡ true
+  pub kicked : (p : ℕ) → b.kicked p ≡ a.kicked p
 
 module _ (a b : World) (w : Waiter) (quietly : ChangesQuietly a b w) where
   -- a frame that shows something was there
@@ -108,6 +140,53 @@ module _ (a b : World) (w : Waiter) (quietly : ChangesQuietly a b w) where
         );
       }
 
+  -- where flags and kicks are as they were, heads that halt are awaited still
+  pub heads_stay_served : ((n : NodeName) → is_set (b.node n).flag ≡ true → is_set (a.node n).flag ≡ true)
+      → ((p : ℕ) → b.kicked p ≡ a.kicked p) → IsHeadServed a → IsHeadServed b
+  heads_stay_served flags kicked inv =
+      record {
+        followed = λ u d lu pk.
+            ap (λ (x : Fields). is_node x.tail (node_of d.me)) (quietly.words d.lock)
+            ∙ inv.followed u d (was u d E14 lu pk (λ q. let z = q.served in cc z)) pk;
+        awaited = λ u d k lu pk h.
+            awaited_on d.lock k u.cpu (inv.awaited u d k
+            (was u d k lu pk (λ q. let z = q.served in let y = halts_tells k (b.node (node_of d.me)).flag h in cc (z, y))) pk
+            (halts_before k (b.node (node_of d.me)).flag (a.node (node_of d.me)).flag (flags (node_of d.me)) h));
+      }
+    where
+      -- who shows something stays
+      stays : (u : Waiter) (d : Frame) (c : Pc) → a.frame u ≡ Some d → d.place ≡ Some c → (IsQuietRow c → ⊥) → b.frame u ≡ Some d
+      stays u d c lu pc loud = elim (waiter_cases u w) [
+        | inl e ↦ elim quietly.either [
+          | inl same ↦ ap b.frame e ∙ same ∙ ap a.frame (sym e) ∙ lu
+          | inr q ↦ absurd (loud (q.1 d (ap a.frame (sym e) ∙ lu) c pc))
+        ]
+        | inr ne ↦ quietly.others u ne ∙ lu
+      ]
+
+      awaited_on : (l : LockName) (k : Pc) (p : ℕ) → IsAwaited a l k p → IsAwaited b l k p
+      awaited_on l k p (inl e) = inl (ap (λ (x : Fields). x.locked) (quietly.words l) ∙ e)
+      awaited_on l k p (inr (inl z)) =
+          inr (inl (record {
+            by = z.by;
+            frame = z.frame;
+            place = z.place;
+            live = stays z.by z.frame z.place z.live z.at (λ q. looks_loud k z.place z.looks q.tends);
+            at = z.at;
+            lock = z.lock;
+            looks = z.looks;
+          }))
+      awaited_on l k p (inr (inr (inl e))) = inr (inr (inl (kicked p ∙ e)))
+      awaited_on l k p (inr (inr (inr z))) =
+          inr (inr (inr (record {
+            by = z.by;
+            frame = z.frame;
+            live = stays z.by z.frame U5 z.live z.at (λ q. let y = q.tends in cc y);
+            at = z.at;
+            lock = z.lock;
+            target = z.target;
+          })))
+
   pub heads_stay_aside : IsFollowedAside a → IsFollowedAside b
   heads_stay_aside inv u d k lu pk lk last =
       elim (inv u d k (was u d k lu pk (λ q. let z = q.alone d.why in cc (z, lk))) pk lk (same_last d last)) [
@@ -126,6 +205,14 @@ module _ (m : World) (quiet : (u : Waiter) (f : Frame) → m.frame u ≡ Some f 
           λ place. (quiet w f live N1 place).noded.0 refl,
           λ place. (quiet w f live N2 place).noded.1 refl,
         );
+      }
+
+  pub rests_served : IsHeadServed m
+  rests_served =
+      record {
+        followed = λ w f live place. absurd (let z = (quiet w f live E14 place).served in cc z);
+        awaited = λ w f c live place h.
+            absurd (let z = (quiet w f live c place).served in let y = halts_tells c (m.node (node_of f.me)).flag h in cc (z, y));
       }
 
   pub rests_aside : IsFollowedAside m

@@ -28,20 +28,19 @@ use Rattle.lk_rows.specs.TopRow.{row, target}
 use Rattle.lk_rows.specs.Acts.{next, idle, step_halted}
 use Rattle.lk_rows.specs.Run.{at_rest, machine_after, first_frame}
 use Rattle.lk_law.specs.Agree.{halts}
-use Rattle.lk_law.specs.Cna.{moves_aside}
-use Rattle.lk_law.specs.Families.{may_halt, is_slow}
+use Rattle.lk_law.specs.Families.{is_slow}
 use Rattle.lk_law.specs.Kicked.{with_event}
-use Rattle.lk_law.specs.Leads.{course_in}
+use Rattle.lk_law.specs.Leads.{course_in, stored_in}
 use Rattle.lk_law.specs.MachineLaws.{AreInRange, ShowsLawful}
 use Rattle.lk_law.specs.Places.{slow_in}
 use Rattle.lk_law.specs.Snapshot.{before}
 use Rattle.lk_law.specs.Sound.{world, ShowsAll, Footing, BelongsTo, Works}
 use Rattle.lk_law.specs.Sound.Footing.{Spinning, Sharing, Waiting, Freeing, Owing}
 use Rattle.lk_law.specs.SoundWorld.{spin_part}
-use Rattle.lk_law.specs.Steps.{led, row_in}
+use Rattle.lk_law.specs.Steps.{led}
 use Rattle.lk_law.specs.World.{World}
 use Rattle.lk_law.proofs.common.Knows.{nobody_halts}
-use Rattle.lk_law.proofs.common.Puts.{if-true, not-true}
+use Rattle.lk_law.proofs.common.Puts.{if-true}
 use Rattle.lk_law.proofs.common.Sames.{same_waiter-self}
 use Rattle.lk_law.proofs.running.Leads.{row_is_done}
 use Rattle.lk_core.proofs.Access.{above_top, frame_within}
@@ -168,7 +167,7 @@ pub record Reached (F : World → Type 0) (setup : Setup) (m : Machine) : Type 0
   pub good : IsGood F m
   pub setup_is : m.setup ≡ setup
 
-module _ (aside : Bool) (F : World → Type 0) (kept : IsKept aside F) (setup : Setup) where
+module _ (S : Mode → Type 0) (F : World → Type 0) (kept : IsKept S F) (setup : Setup) where
   pub start : IsLawfulSetup setup → Reached F setup (at_rest setup)
   start ok =
       record {
@@ -187,46 +186,36 @@ module _ (aside : Bool) (F : World → Type 0) (kept : IsKept aside F) (setup : 
         setup_is = refl;
       }
 
-  pub reached : halts setup.mode ≡ false → moves_aside setup.mode ≡ aside → HasRoom setup
+  pub reached : S setup.mode → (halts setup.mode ≡ false → HasRoom setup)
       → (acts : List Act) (m : Machine) → AreInRange (length m.cpus) acts → Reached F setup m → Reached F setup (machine_after m acts)
-  reached awake family has_room [] m range r = r
-  reached awake family has_room (a ∷ acts) m range r =
+  reached family has_room [] m range r = r
+  reached family has_room (a ∷ acts) m range r =
       let k = (next m a).0 in
       let hs : LockName → LockHistory = (λ l. history_of l r.events) in
       let after : ShowsLawful k (with_event r.events (next m a).1) = acts_keep m r.events a range.0 r.shows in
       let good : IsGood F k =
-      act_good m hs r.shows.shows (ap (λ (s : Setup). halts s.mode) r.setup_is ∙ awake) aside
-      (ap (λ (s : Setup). moves_aside s.mode) r.setup_is ∙ family) F kept r.good a range.0
-      (room m hs r.shows.shows r.good.steady (subst HasRoom (sym r.setup_is) has_room)) in
+      act_good m hs r.shows.shows S (subst (λ (s : Setup). S s.mode) (sym r.setup_is) family) F kept r.good a range.0
+      (λ p lt awake. room m hs r.shows.shows r.good.steady
+      (subst HasRoom (sym r.setup_is) (has_room (ap (λ (s : Setup). halts s.mode) (sym r.setup_is) ∙ awake))) p lt) in
       let same : k.setup ≡ m.setup = setup_kept m a in
       let cpus : length m.cpus ≡ length k.cpus =
       r.shows.shows.whole.cpus ∙ ap (λ (s : Setup). length s.topology.sockets.items) (sym same) ∙ sym after.shows.whole.cpus in
-      reached awake family has_room acts k (subst (λ (i : ℕ). AreInRange i acts) cpus range.1) (record {
+      reached family has_room acts k (subst (λ (i : ℕ). AreInRange i acts) cpus range.1) (record {
         events = with_event r.events (next m a).1;
         shows = after;
         good = good;
         setup_is = same ∙ r.setup_is;
       })
 
-  pub reached_from_rest : (acts : List Act) → IsLawfulSetup setup → halts setup.mode ≡ false
-      → moves_aside setup.mode ≡ aside → HasRoom setup → AreInRange (length setup.topology.sockets.items) acts
+  pub reached_from_rest : (acts : List Act) → IsLawfulSetup setup → S setup.mode
+      → (halts setup.mode ≡ false → HasRoom setup) → AreInRange (length setup.topology.sockets.items) acts
       → Reached F setup (machine_after (at_rest setup) acts)
-  reached_from_rest acts ok awake family has_room range =
-      reached awake family has_room acts (at_rest setup)
+  reached_from_rest acts ok family has_room range =
+      reached family has_room acts (at_rest setup)
       (subst (λ (i : ℕ). AreInRange i acts) (sym (rest_shows setup ok).shows.whole.cpus) range) (start ok)
 
 -- a machine in which nothing changes
-module _ (m : Machine) (hs : LockName → LockHistory) (shows : ShowsAll m hs) (awake : halts m.setup.mode ≡ false)
-    (unpreempted : (p : ℕ) → p < length m.cpus → preempted_at m p ≡ false) where
-  unhalted : (p : ℕ) → halted_at m p ≡ false
-  unhalted p = nobody_halts (world m) (spin_part (world m).kind hs) shows.world.spins awake p
-
-  row_still : (p : ℕ) → p < length m.cpus → (next m (act.Step p)).0 ≡ m → (row m p).0 ≡ m
-  row_still p lt still =
-      sym (ap (λ (b : Bool). (if b then idle m else (if halted_at m p then step_halted m p else row m p)).0) (unpreempted p lt)
-      ∙ ap (λ (b : Bool). (if b then step_halted m p else row m p).0) (unhalted p))
-      ∙ still
-
+module _ (m : Machine) (hs : LockName → LockHistory) (shows : ShowsAll m hs) where
   -- the newest frame of a processor is its top
   pub top_is : (w : Waiter) (f : Frame) (c : Pc) → IsTop (world m) w f c → w ≡ top_of m w.cpu
   top_is w f c top =
@@ -241,23 +230,19 @@ module _ (m : Machine) (hs : LockName → LockHistory) (shows : ShowsAll m hs) (
         ]
       ]
 
-  pub stuck_at : (p : ℕ) (f : Frame) (c : Pc) → p < length m.cpus → frame_at m (top_of m p) ≡ Some f → f.place ≡ Some c
-      → (next m (act.Step p)).0 ≡ m → waits.StandsStill (world m) (top_of m p) f c
-  stuck_at p f c lt live place still = by r.2.turned
+  pub row_stuck : (p : ℕ) (f : Frame) (c : Pc) → p < length m.cpus → frame_at m (top_of m p) ≡ Some f → f.place ≡ Some c
+      → (row m p).0 ≡ m → waits.StandsStill (world m) (top_of m p) f c
+  row_stuck p f c lt live place still = by r.2.turned
     where
-      a : may_halt c ≡ false
-      a = not-true (may_halt c)
-          (λ e. let z = (shows.world.spins.registers (top_of m p) f live).choice.halting c place e in cc (z, awake))
-
-      r : (n : Machine) × Put m n (row_in (world m) (top_of m p) f c).0.word
+      r : (n : Machine) × Put m n (stored_in (world m) (top_of m p) f c (target c f))
           × Moves n (top_of m p) f (led f (course_in (world m) (top_of m p) f c (target c f)).leads) (row m p).0
-      r = row_moves m p hs shows lt f c live place a (shows.world.fits (top_of m p) f live).after
+      r = row_moves m p hs shows lt f c live place (shows.world.fits (top_of m p) f live).after
 
       now : r.2.now ≡ Some f
       now =
           sym (r.2.follows.frame (top_of m p)
           ∙ ap (λ (t : Bool). if t then r.2.now else frame_at r.0 (top_of m p)) (same_waiter-self (top_of m p)))
-          ∙ ap (λ (k : Machine). frame_at k (top_of m p)) (row_still p lt still) ∙ live
+          ∙ ap (λ (k : Machine). frame_at k (top_of m p)) still ∙ live
 
       by : Turned r.0.setup.mode f (led f (course_in (world m) (top_of m p) f c (target c f)).leads) r.2.now
           → waits.StandsStill (world m) (top_of m p) f c
@@ -280,6 +265,16 @@ module _ (m : Machine) (hs : LockName → LockHistory) (shows : ShowsAll m hs) (
               let y : started r.0.setup.mode h v.0 ≡ f = cc z in
               let x : h.«at» ≡ f.«at» = ap (λ (g : Frame). g.«at») y in
               omega (arith, x, more)
+
+  -- where no processor halts a step is a row
+  pub stuck_at : halts m.setup.mode ≡ false → ((p : ℕ) → p < length m.cpus → preempted_at m p ≡ false)
+      → (p : ℕ) (f : Frame) (c : Pc) → p < length m.cpus → frame_at m (top_of m p) ≡ Some f → f.place ≡ Some c
+      → (next m (act.Step p)).0 ≡ m → waits.StandsStill (world m) (top_of m p) f c
+  stuck_at awake unpreempted p f c lt live place still = row_stuck p f c lt live place
+      (sym (ap (λ (b : Bool). (if b then idle m else (if halted_at m p then step_halted m p else row m p)).0) (unpreempted p lt)
+      ∙ ap (λ (b : Bool). (if b then step_halted m p else row m p).0)
+      (nobody_halts (world m) (spin_part (world m).kind hs) shows.world.spins awake p))
+      ∙ still)
 
 -- a processor whose newest frame has no place has finished
 pub finished_by : (m : Machine) (hs : LockName → LockHistory) → ShowsAll m hs → IsSteady (world m) → (p : ℕ) → p < length m.cpus

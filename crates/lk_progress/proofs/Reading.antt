@@ -2,7 +2,7 @@
 use Rattle.std.proofs.Common.{◌≡◌, ◌≢◌, ◌<◌, arith, ◌<◌, inl, inr, ℕ, Option, Some, None, Bool, true, false}
 use Rattle.std.proofs.Common.{refl, sym, ap, ◌∙◌, List, [], arith}
 use Rattle.std.proofs.lemmas.Bool.{cases_Bool}
-use Rattle.std.specs.Prelude.{if◌then◌else◌, is_some, ◌&&◌, not, ◌==◌}
+use Rattle.std.specs.Prelude.{if◌then◌else◌, is_some, ◌&&◌, not, ◌==◌, ◌-◌}
 use Rattle.lk_abs.specs.declared.names.Mode.{Mode}
 use Rattle.lk_abs.specs.declared.names.Mode.TheVariants.{Virt, Native, Cna, Pv}
 use Rattle.lk_abs.specs.declared.names.Waiter.{Waiter}
@@ -24,17 +24,19 @@ use Rattle.lk_rows.specs.Row.{Effect, Lead, Goes, Enters, Granted, Freed, Missed
 use Rattle.lk_core.proofs.Moved.{same_changed_all}
 use Rattle.lk_progress.specs.Ordered.{ReadsAlone}
 use Rattle.lk_rows.specs.declared.parts.Pc.TheVariants.{C2, C3, C4, C5, C6, C7, C8, C9, C10}
+use Rattle.lk_rows.specs.declared.parts.Pc.TheVariants.{H1, H2, W1, W2, W3, W4, W5, W6, W7, E1, E2, E3, E4, E5, E6, E7}
+use Rattle.lk_rows.specs.declared.parts.Pc.TheVariants.{E8, E9, E10, E11, E12, E13, E14, E15, K1, K2, K3, U2, U3, U4, U5}
 use Rattle.lk_rows.specs.declared.parts.Why.{Why}
 use Rattle.lk_rows.specs.declared.parts.Why.TheVariants as why
 use Rattle.std.proofs.Common.{◌∷◌}
-use Rattle.lk_rows.specs.rows.Cna.{search_first, search_on, after_tail, may_stay, is_last}
+use Rattle.lk_rows.specs.rows.Pv.{is_set, is_running, is_halted, is_slow_byte, after_glance, after_given_up, pv_after_next}
+use Rattle.lk_rows.specs.rows.Cna.{is_held, search_first, search_on, after_tail, may_stay, is_last}
 use Rattle.lk_law.specs.Steps.{sight_in}
 use Rattle.lk_rows.specs.rows.Spin.{is_free, is_unlocked, to_queue, after_fast}
 use Rattle.lk_rows.specs.rows.Queue.{is_sole, own_node, after_entry, after_arrival}
 use Rattle.lk_rows.specs.rows.Queue.{after_head, after_flag, after_next, after_link}
 use Rattle.lk_rows.specs.rows.Rw.{is_empty, is_open, is_cleared, frees_wait}
 use Rattle.lk_rows.specs.TopRow.{target}
-use Rattle.lk_law.specs.Families.{may_halt}
 use Rattle.lk_law.specs.Leads.{course_in}
 use Rattle.lk_law.specs.Premises.{IsThen}
 use Rattle.lk_law.specs.Steps.{led}
@@ -120,6 +122,19 @@ calm_next : (f : Frame) (x : Option NodeName) → Calm f (after_next x).leads
 calm_next f None = (refl, refl)
 calm_next f (Some n) = (refl, refl)
 
+calm_look : (f : Frame) (x : Option NodeName) → Calm f (pv_after_next x).leads
+calm_look f None = (refl, refl)
+calm_look f (Some n) = (refl, refl)
+
+calm_given_up : (me : Option NodeName) → tells (Some (after_given_up me)) ≡ false
+calm_given_up None = refl
+calm_given_up (Some n) = refl
+
+calm_glance : (me : Option NodeName) (x : Fields) → tells (Some (after_glance me x)) ≡ false
+calm_glance me x =
+    either_row (is_unlocked x.locked && not x.pending) H2 _ refl
+    (either_row (is_some x.tail && not x.pending) H1 _ refl (calm_given_up me))
+
 calm_unlock : (f : Frame) (mode : Mode) → Calm f (frees_wait mode)
 calm_unlock f Virt = (refl, refl)
 calm_unlock f Native = (refl, refl)
@@ -156,64 +171,100 @@ module _ (m : World) (w : Waiter) (f : Frame) (inner : f.lock.wait ≡ true → 
   calm_tail why.Flush cs = (refl, refl)
   calm_tail why.Promotion cs = (refl, refl)
 
-  calm : (c : Pc) → may_halt c ≡ false → c ≢ R3 → Calm f (lead c)
-  calm F1 a p = either_calm f (is_free x) _ _ (after f inner, refl) (calm_fast m.mode x, refl)
-  calm T1 a p = either_calm f (is_free x) _ _ (refl, refl) (refl, refl)
-  calm T2 a p = either_calm f (is_free x) _ _ (after f inner, refl) (refl, refl)
-  calm U1 a p = (refl, refl)
-  calm V1 a p = (either_row (is_free x) V2 V1 refl refl, refl)
-  calm V2 a p = either_calm f (is_free x) _ _ (after f inner, refl) (refl, refl)
-  calm P0 a p = (calm_queue x, refl)
-  calm P1 a p = (
+  calm : (c : Pc) → c ≢ R3 → Calm f (lead c)
+  calm F1 p = either_calm f (is_free x) _ _ (after f inner, refl) (calm_fast m.mode x, refl)
+  calm T1 p = either_calm f (is_free x) _ _ (refl, refl) (refl, refl)
+  calm T2 p = either_calm f (is_free x) _ _ (after f inner, refl) (refl, refl)
+  calm U1 p = (refl, refl)
+  calm V1 p = (either_row (is_free x) V2 V1 refl refl, refl)
+  calm V2 p = either_calm f (is_free x) _ _ (after f inner, refl) (refl, refl)
+  calm P0 p = (calm_queue x, refl)
+  calm P1 p = (
     either_row x.pending G1 _ refl
         (either_row (is_some x.tail) P2 _ refl (either_row (is_unlocked x.locked) P4 P3 refl refl)),
     refl,
   )
-  calm P2 a p = (refl, refl)
-  calm P3 a p = (either_row (is_unlocked x.locked) P4 P3 refl refl, refl)
-  calm P4 a p = (after f inner, refl)
-  calm G1 a p = (calm_entry m.mode (own_node w.cpu (m.queued w.cpu)), refl)
-  calm G2 a p = (either_row (is_free x) G3 G4 refl refl, refl)
-  calm G3 a p = either_calm f (is_free x) _ _ (after f inner, refl) (refl, refl)
-  calm G4 a p = calm_arrival m.mode f x.tail
-  calm G5 a p = calm_link m.mode f m.turns
-  calm G6 a p = calm_flag f (m.node (node_of f.me)).flag
-  calm G7 a p = (either_row (is_unlocked x.locked && not x.pending) _ G7 (either_row (is_node x.tail (node_of f.me) && not (is_some f.second)) G8 G9 refl refl) refl, refl)
-  calm G8 a p = either_calm f (is_sole f x) _ _ (after f inner, refl) (refl, refl)
-  calm G9 a p = (calm_head m.mode, refl)
-  calm G10 a p = calm_next f (m.node (node_of f.me)).next
-  calm G11 a p = (after f inner, refl)
-  calm N1 a p = (either_row (is_free x) N2 N1 refl refl, refl)
-  calm N2 a p = either_calm f (is_free x) _ _ (after f inner, refl) (refl, refl)
-  calm R1 a p = either_calm f (is_open y) _ _ (refl, refl) (ap (λ (t : Bool). tells (Some (if t then R3 else R2))) not_task, refl)
-  calm R2 a p = either_calm f y.writer _ _ (refl, refl) (refl, refl)
-  calm R3 a p = absurd (p refl)
-  calm R4 a p = (refl, refl)
-  calm R5 a p = either_calm f y.writer _ _ (refl, refl) (calm_unlock f m.mode)
-  calm Wr1 a p = either_calm f (is_empty y) _ _ (refl, refl) (refl, refl)
-  calm Wr2 a p = (either_row (is_empty y) Wr3 Wr4 refl refl, refl)
-  calm Wr3 a p = either_calm f (is_empty y) _ _ (calm_unlock f m.mode) (refl, refl)
-  calm Wr4 a p = (refl, refl)
-  calm Wr5 a p = (either_row (is_cleared y) Wr6 Wr5 refl refl, refl)
-  calm Wr6 a p = either_calm f (is_cleared y) _ _ (calm_unlock f m.mode) (refl, refl)
-  calm Y1 a p = either_calm f (is_open y) _ _ (refl, refl) (refl, refl)
-  calm Y2 a p = either_calm f (is_open y) _ _ (refl, refl) (refl, refl)
-  calm Y3 a p = (refl, refl)
-  calm Y4 a p = either_calm f (is_empty y) _ _ (refl, refl) (refl, refl)
-  calm Y5 a p = either_calm f (is_empty y) _ _ (refl, refl) (refl, refl)
-  calm Z1 a p = (refl, refl)
-  calm Z2 a p = (refl, refl)
-  calm C1 a p = calm_first f.second (m.node (node_of f.me)).next
-  calm C2 a p = calm_on (m.node (node_of f.b)).next
-  calm C3 a p = calm_tail f.why (Rattle.lk_rows.specs.Row.T (m.node (node_of f.second)).second_tail ∷ [])
-  calm C4 a p = (refl, refl)
-  calm C5 a p = (refl, refl)
-  calm C6 a p = (refl, refl)
-  calm C7 a p = (refl, refl)
-  calm C8 a p = (after f inner, refl)
-  calm C9 a p = (refl, refl)
-  calm C10 a p = either_calm f (is_last f (m.word f.lock)) _ _ (refl, refl) (refl, refl)
-  calm _ a p = cc a
+  calm P2 p = (refl, refl)
+  calm P3 p = (either_row (is_unlocked x.locked) P4 P3 refl refl, refl)
+  calm P4 p = (after f inner, refl)
+  calm G1 p = (calm_entry m.mode (own_node w.cpu (m.queued w.cpu)), refl)
+  calm G2 p = (either_row (is_free x) G3 G4 refl refl, refl)
+  calm G3 p = either_calm f (is_free x) _ _ (after f inner, refl) (refl, refl)
+  calm G4 p = calm_arrival m.mode f x.tail
+  calm G5 p = calm_link m.mode f m.turns
+  calm G6 p = calm_flag f (m.node (node_of f.me)).flag
+  calm G7 p = (either_row (is_unlocked x.locked && not x.pending) _ G7 (either_row (is_node x.tail (node_of f.me) && not (is_some f.second)) G8 G9 refl refl) refl, refl)
+  calm G8 p = either_calm f (is_sole f x) _ _ (after f inner, refl) (refl, refl)
+  calm G9 p = (calm_head m.mode, refl)
+  calm G10 p = calm_next f (m.node (node_of f.me)).next
+  calm G11 p = (after f inner, refl)
+  calm N1 p = (either_row (is_free x) N2 N1 refl refl, refl)
+  calm N2 p = either_calm f (is_free x) _ _ (after f inner, refl) (refl, refl)
+  calm R1 p = either_calm f (is_open y) _ _ (refl, refl) (ap (λ (t : Bool). tells (Some (if t then R3 else R2))) not_task, refl)
+  calm R2 p = either_calm f y.writer _ _ (refl, refl) (refl, refl)
+  calm R3 p = absurd (p refl)
+  calm R4 p = (refl, refl)
+  calm R5 p = either_calm f y.writer _ _ (refl, refl) (calm_unlock f m.mode)
+  calm Wr1 p = either_calm f (is_empty y) _ _ (refl, refl) (refl, refl)
+  calm Wr2 p = (either_row (is_empty y) Wr3 Wr4 refl refl, refl)
+  calm Wr3 p = either_calm f (is_empty y) _ _ (calm_unlock f m.mode) (refl, refl)
+  calm Wr4 p = (refl, refl)
+  calm Wr5 p = (either_row (is_cleared y) Wr6 Wr5 refl refl, refl)
+  calm Wr6 p = either_calm f (is_cleared y) _ _ (calm_unlock f m.mode) (refl, refl)
+  calm Y1 p = either_calm f (is_open y) _ _ (refl, refl) (refl, refl)
+  calm Y2 p = either_calm f (is_open y) _ _ (refl, refl) (refl, refl)
+  calm Y3 p = (refl, refl)
+  calm Y4 p = either_calm f (is_empty y) _ _ (refl, refl) (refl, refl)
+  calm Y5 p = either_calm f (is_empty y) _ _ (refl, refl) (refl, refl)
+  calm Z1 p = (refl, refl)
+  calm Z2 p = (refl, refl)
+  calm C1 p = calm_first f.second (m.node (node_of f.me)).next
+  calm C2 p = calm_on (m.node (node_of f.b)).next
+  calm C3 p = calm_tail f.why (Rattle.lk_rows.specs.Row.T (m.node (node_of f.second)).second_tail ∷ [])
+  calm C4 p = (refl, refl)
+  calm C5 p = (refl, refl)
+  calm C6 p = (refl, refl)
+  calm C7 p = (refl, refl)
+  calm C8 p = (after f inner, refl)
+  calm C9 p = (refl, refl)
+  calm C10 p = either_calm f (is_last f (m.word f.lock)) _ _ (refl, refl) (refl, refl)
+  calm H1 p = (calm_glance f.me x, refl)
+  calm H2 p =
+      either_calm f (is_unlocked x.locked) _ _ (after f inner, refl)
+      (either_row f.tailed H1 _ refl (calm_given_up f.me), refl)
+  calm W1 p = (either_row (is_set (m.node (node_of f.me)).flag) E1 W2 refl refl, refl)
+  calm W2 p =
+      either_calm f (is_running (m.node (node_of f.prev)).state) _ _
+      (either_calm f (f.left - 1 == 0) _ _ (refl, refl) (refl, refl)) (refl, refl)
+  calm W3 p = (refl, refl)
+  calm W4 p = either_calm f (is_set (m.node (node_of f.me)).flag) _ _ (refl, refl) (refl, refl)
+  calm W5 p = (either_row (is_halted (m.node (node_of f.me)).state) W6 W7 refl refl, refl)
+  calm W6 p = (refl, refl)
+  calm W7 p = either_calm f (is_halted (m.node (node_of f.me)).state) _ _ (refl, refl) (refl, refl)
+  calm E1 p = (refl, refl)
+  calm E2 p = (refl, refl)
+  calm E3 p = (refl, refl)
+  calm E4 p =
+      either_calm f (is_unlocked x.locked && x.pending) _ _ (refl, refl)
+      (either_calm f (f.left - 1 == 0) _ _ (refl, refl) (refl, refl))
+  calm E5 p = (either_row f.hashed E10 E6 refl refl, refl)
+  calm E6 p = (refl, refl)
+  calm E7 p = either_calm f (is_unlocked x.locked) _ _ (refl, refl) (refl, refl)
+  calm E8 p = (refl, refl)
+  calm E9 p = (refl, refl)
+  calm E10 p = (refl, refl)
+  calm E11 p = (either_row (is_slow_byte x.locked) E12 E2 refl refl, refl)
+  calm E12 p = (refl, refl)
+  calm E13 p = either_calm f (is_last f x) _ _ (after f inner, refl) (refl, refl)
+  calm E14 p = calm_look f (m.node (node_of f.me)).next
+  calm E15 p = (refl, refl)
+  calm K1 p = either_calm f (is_halted (m.node (node_of f.y)).state) _ _ (refl, refl) (after f inner, refl)
+  calm K2 p = (refl, refl)
+  calm K3 p = (after f inner, refl)
+  calm U2 p = either_calm f (is_held x.locked) _ _ (refl, refl) (refl, refl)
+  calm U3 p = (refl, refl)
+  calm U4 p = (refl, refl)
+  calm U5 p = (refl, refl)
 
 led_reads : (f : Frame) (lead : Lead) → takes_reader lead ≡ false → (f.lock.wait ≡ true → f.then ≢ Some R4)
     → (led f lead).lock.wait ≡ true → (led f lead).then ≢ Some R4
@@ -235,10 +286,10 @@ led_reads f (Yields c cs) t old w e =
     old (ap (λ (l : Rattle.lk_abs.specs.declared.names.LockName.LockName). l.wait) (sym s.lock) ∙ w) (sym s.next ∙ e)
 
 pub row_reads_alone : (m : World) (w : Waiter) (f : Frame) (c : Pc) → (f.lock.wait ≡ true → IsThen f.then) → 0 < f.ctx
-    → may_halt c ≡ false → f.place ≡ Some c → ReadsAlone f
+    → f.place ≡ Some c → ReadsAlone f
     → ReadsAlone (led f (course_in m w f c (target c f)).leads)
-row_reads_alone m w f c inner up a place old =
-    let z = calm m w f inner up c a (λ e. old.0 (place ∙ ap Some e)) in (
+row_reads_alone m w f c inner up place old =
+    let z = calm m w f inner up c (λ e. old.0 (place ∙ ap Some e)) in (
       λ e. (let y = ap tells e in let x = z.0 in cc (y, x)),
       led_reads f (course_in m w f c (target c f)).leads z.1 old.1,
     )

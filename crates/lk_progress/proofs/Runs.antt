@@ -27,6 +27,8 @@ use Rattle.lk_law.specs.Cna.{moves_aside}
 use Rattle.lk_law.specs.Families.{may_halt, chooses}
 use Rattle.lk_law.specs.Sound.{world, ShowsAll, Footing, BelongsTo, Works}
 use Rattle.lk_law.specs.Sound.Footing.{Spinning, Sharing, Waiting, Freeing, Owing}
+use Rattle.lk_law.specs.Steps.{row_in}
+use Rattle.lk_law.proofs.common.Knows.{nobody_halts}
 use Rattle.lk_law.proofs.common.Puts.{not-true}
 use Rattle.lk_core.proofs.Access.{above_top, frame_within}
 use Rattle.lk_core.proofs.RowKept.{top_live}
@@ -45,17 +47,22 @@ use Rattle.lk_progress.proofs.Stands.{still_polls}
 use Rattle.lk_progress.proofs.Climb.{no_deadlock}
 use Rattle.lk_progress.specs.Followed.{IsHeadFollowed}
 use Rattle.lk_progress.proofs.Followed.{row_keeps_followed}
-use Rattle.lk_progress.proofs.Good.{IsKept}
+use Rattle.lk_progress.proofs.Changed.{quietly_of}
+use Rattle.lk_progress.proofs.Good.{IsKept, IsAwake}
 use Rattle.lk_progress.proofs.Quiet.{heads_stay, rests_followed}
 use Rattle.lk_progress.proofs.Reached.{Reached, start, reached, reached_from_rest, top_is, stuck_at, finished_by}
 use Rattle.lk_progress.proofs.Ranked.{tidy, ranked, inside}
 
 -- heads that wait for a successor are kept followed
-pub kept_followed : IsKept false IsHeadFollowed
+pub kept_followed : IsKept (IsAwake false) IsHeadFollowed
 kept_followed = record {
   rest = rests_followed;
-  stays = heads_stay;
-  rows = λ c m hs w f ok awake family live at inner room inv. row_keeps_followed c m hs w f ok awake family live at inner room inv;
+  comes = λ a b w came. heads_stay a b w came.quietly;
+  rows = λ c m n hs w f ok family live at inner room changed inv.
+      heads_stay (row_in m w f c).0 n w (quietly_of m n w f c changed)
+      (row_keeps_followed c m hs w f ok family.0 family.1 live at inner (λ e. room e family.0) inv);
+  ends = λ m n hs w f ok family newest live halted roused inv.
+      absurd (let z = nobody_halts m hs ok family.0 w.cpu in cc (z, halted));
 }
 
 -- a machine in which nothing changes is a world that is stuck
@@ -64,7 +71,7 @@ module _ (m : Machine) (hs : LockName → LockHistory) (shows : ShowsAll m hs) (
   pub is_stuck : StandsStill m → IsStuck (world m)
   is_stuck still w f c top =
       let lt = frame_within m w f top.live in
-      let same = top_is m hs shows awake unpreempted w f c top in
+      let same = top_is m hs shows w f c top in
       subst (λ (u : Waiter). waits.StandsStill (world m) u f c) (sym same)
       (stuck_at m hs shows awake unpreempted w.cpu f c lt (ap (frame_at m) (sym same) ∙ top.live) top.place (still w.cpu lt))
 
@@ -155,12 +162,12 @@ module _ (rank : ℕ → ℕ) (size : ℕ) (setup : Setup) (ordered : IsOrdered 
 pub ordered_runs_go_on : OrderedRunsGoOn
 ordered_runs_go_on rank size setup acts ok ordered awake plain has_room range unpreempted still p within =
     finished_at rank size setup ordered awake plain (machine_after (at_rest setup) acts)
-    (reached_from_rest false IsHeadFollowed kept_followed setup acts ok awake plain has_room range) unpreempted still p within
+    (reached_from_rest (IsAwake false) IsHeadFollowed kept_followed setup acts ok (awake, plain) (λ e. has_room) range) unpreempted still p within
 
 pub somebody_moves_on : SomebodyMovesOn
 somebody_moves_on rank size setup acts ok ordered awake plain has_room range unpreempted =
     goes_on rank size setup ordered awake plain (machine_after (at_rest setup) acts)
-    (reached_from_rest false IsHeadFollowed kept_followed setup acts ok awake plain has_room range) unpreempted
+    (reached_from_rest (IsAwake false) IsHeadFollowed kept_followed setup acts ok (awake, plain) (λ e. has_room) range) unpreempted
 
 -- in `native` with spinlocks alone, and with a node for each, no swap fails
 
@@ -235,12 +242,12 @@ module _ (setup : Setup) (ok : IsLawfulSetup setup) (native : setup.mode ≡ Nat
   )
     where
       on : processor_of a < length m.cpus → Reached IsHeadFollowed setup (next m a).0
-      on lt = reached false IsHeadFollowed kept_followed setup awake_in plain_in has_room (a ∷ []) m (lt, tt) r
+      on lt = reached (IsAwake false) IsHeadFollowed kept_followed setup (awake_in, plain_in) (λ e. has_room) (a ∷ []) m (lt, tt) r
 
   native_end : (acts : List Act) (k : ℕ) → HasChanges (at_rest setup) acts k → k ≤ budget (at_rest setup)
   native_end acts k z =
       let rest = rest_shows setup ok in
-      let r : Reached IsHeadFollowed setup (at_rest setup) = start false IsHeadFollowed kept_followed setup ok in
+      let r : Reached IsHeadFollowed setup (at_rest setup) = start (IsAwake false) IsHeadFollowed kept_followed setup ok in
       runs_are_short (at_rest setup) [] acts k rest awake_in plain_in (to_moves acts (at_rest setup) k r z)
 
 pub native_runs_end : NativeRunsEnd

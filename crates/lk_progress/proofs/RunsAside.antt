@@ -24,17 +24,24 @@ use Rattle.lk_progress.specs.Runs.{IsFinished, TurnsOnTheSpot, OrderedRunsGoOnAs
 use Rattle.lk_progress.proofs.ClimbAside.{at_bay_wait_for_outside}
 use Rattle.lk_progress.specs.Aside.{IsFollowedAside}
 use Rattle.lk_progress.proofs.AsideFollowed.{row_keeps_aside}
-use Rattle.lk_progress.proofs.Good.{IsKept}
+use Rattle.lk_law.specs.Steps.{row_in}
+use Rattle.lk_law.proofs.common.Knows.{nobody_halts}
+use Rattle.lk_progress.proofs.Changed.{quietly_of}
+use Rattle.lk_progress.proofs.Good.{IsKept, IsAwake}
 use Rattle.lk_progress.proofs.Quiet.{heads_stay_aside, rests_aside}
 use Rattle.lk_progress.proofs.Reached.{Reached, reached_from_rest, top_is, stuck_at, finished_by}
 use Rattle.lk_progress.proofs.Ranked.{tidy, ranked, inside}
 
 -- heads that choose their successor are kept followed
-kept_aside : IsKept true IsFollowedAside
+kept_aside : IsKept (IsAwake true) IsFollowedAside
 kept_aside = record {
   rest = rests_aside;
-  stays = heads_stay_aside;
-  rows = λ c m hs w f ok awake family live at inner room inv. row_keeps_aside c m hs w f ok awake family live at inner room inv;
+  comes = λ a b w came. heads_stay_aside a b w came.quietly;
+  rows = λ c m n hs w f ok family live at inner room changed inv.
+      heads_stay_aside (row_in m w f c).0 n w (quietly_of m n w f c changed)
+      (row_keeps_aside c m hs w f ok family.0 family.1 live at inner (λ e. room e family.0) inv);
+  ends = λ m n hs w f ok family newest live halted roused inv.
+      absurd (let z = nobody_halts m hs ok family.0 w.cpu in cc (z, halted));
 }
 
 -- a machine in which nothing changes is a world that is stuck
@@ -42,7 +49,7 @@ module _ (m : Machine) (hs : LockName → LockHistory) (shows : ShowsAll m hs) (
   pub is_at_bay : ((p : ℕ) → p < length m.cpus → ((next m (act.Step p)).0 ≡ m) ⊎ TurnsOnTheSpot m p) → IsAtBay (world m)
   is_at_bay still w f c top =
       let lt = frame_within m w f top.live in
-      let same = top_is m hs shows awake unpreempted w f c top in
+      let same = top_is m hs shows w f c top in
       let live : frame_at m (top_of m w.cpu) ≡ Some f = ap (frame_at m) (sym same) ∙ top.live in
       elim (still w.cpu lt) [
         | inl e ↦ inl (subst (λ (u : Waiter). waits.StandsStill (world m) u f c) (sym same)
@@ -63,7 +70,7 @@ ordered_runs_go_on_aside rank size setup acts ok ordered awake plain has_room ra
     m = machine_after (at_rest setup) acts
 
     r : Reached IsFollowedAside setup (machine_after (at_rest setup) acts)
-    r = reached_from_rest true IsFollowedAside kept_aside setup acts ok awake plain has_room range
+    r = reached_from_rest (IsAwake true) IsFollowedAside kept_aside setup acts ok (awake, plain) (λ e. has_room) range
 
     hs : LockName → LockHistory
     hs l = history_of l r.events

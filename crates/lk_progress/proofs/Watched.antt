@@ -29,12 +29,12 @@ use Rattle.lk_rows.specs.Row.{Answer, Lead, Goes, Enters, Granted, Freed, Missed
 use Rattle.lk_rows.specs.TopRow.{target, row}
 use Rattle.lk_law.specs.Agree.{halts, LockAgrees}
 use Rattle.lk_law.specs.Families.{may_halt}
-use Rattle.lk_law.specs.Leads.{course_in}
+use Rattle.lk_law.specs.Leads.{course_in, stored_in}
 use Rattle.lk_law.specs.Phase.{pends, queues}
 use Rattle.lk_law.specs.Places.{snapshot, phase_at, phase_if, phase_on}
 use Rattle.lk_law.specs.Sound.{world, ShowsAll}
 use Rattle.lk_law.specs.SoundWorld.{spin_part, is_rw, is_rw_name}
-use Rattle.lk_law.specs.Steps.{led, row_in}
+use Rattle.lk_law.specs.Steps.{led}
 use Rattle.lk_law.specs.World.{World}
 use Rattle.lk_law.proofs.common.Cases.{waiter_cases}
 use Rattle.lk_law.proofs.common.Families.{lists_none}
@@ -182,8 +182,8 @@ module _ (m : Machine) (hs : LockName → LockHistory) (shows : ShowsAll m hs) (
             ]
       ]
         where
-          r : (n : Machine) × Put m n (row_in (world m) w f c).0.word × Moves n w f d k
-          r = row_moves m p hs shows range f c live place unhalting (shows.world.fits w f live).after
+          r : (n : Machine) × Put m n (stored_in (world m) w f c (target c f)) × Moves n w f d k
+          r = row_moves m p hs shows range f c live place (shows.world.fits w f live).after
 
       -- the waiter that has set pending is the only one
       pub late_over : c ≡ P4 → f.lock ≡ l → NobodyWatches (world k) l

@@ -9,3 +9,4 @@ pub mod Potential
 pub mod Turns
 pub mod InTurn
 pub mod Aside
+pub mod Halting

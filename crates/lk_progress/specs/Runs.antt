@@ -16,6 +16,7 @@ use Rattle.lk_law.specs.MachineLaws.{AreInRange}
 use Rattle.lk_rows.specs.declared.parts.Pc.{Pc}
 use Rattle.lk_law.specs.Sound.{world}
 use Rattle.lk_progress.specs.Waits.{IsBarred}
+use Rattle.lk_progress.specs.Halting.{IsRobbed}
 use Rattle.lk_progress.specs.Ordered.{IsOrdered}
 use Rattle.lk_progress.specs.Potential.{budget, is_pause}
 
@@ -104,3 +105,45 @@ OrderedRunsGoOnAside = (rank : ℕ → ℕ) (size : ℕ) (setup : Setup) (acts :
     ⊎ TurnsOnTheSpot (machine_after (at_rest setup) acts) p)
     → (p : ℕ) → p < length (machine_after (at_rest setup) acts).cpus
     → IsFinished (machine_after (at_rest setup) acts) p
+
+-- The newest frame of the processor is that of a head of `pv` that goes around without halting: another has
+-- stolen its lock, and does not know that the head is in the hash.
+pub record GoesAround (m : Machine) (p : ℕ) : Type 0 where
+  pub place : Pc
+  pub here : (top_frame m p).place ≡ Some place
+  pub robbed : IsRobbed (world m) (top_frame m p) place
+
+-- the next step of the processor leads nowhere: it changes nothing, or is that of such a head
+abbrev pub StepsNowhere : Machine → ℕ → Type 0
+StepsNowhere m p = ((next m (Step p)).0 ≡ m) ⊎ GoesAround m p
+
+-- In an ordered setup of `pv`, after every schedule: where no processor is preempted, and each step leads
+-- nowhere, every processor has finished. A processor may have as many handlers as it likes: who finds no
+-- node steals.
+abbrev pub OrderedRunsGoOnHalting : Type 0
+OrderedRunsGoOnHalting = (rank : ℕ → ℕ) (size : ℕ) (setup : Setup) (acts : List Act)
+    → IsLawfulSetup setup → IsOrdered rank size setup → halts setup.mode ≡ true
+    → AreInRange (length setup.topology.sockets.items) acts
+    → ((p : ℕ) → p < length (machine_after (at_rest setup) acts).cpus
+    → preempted_at (machine_after (at_rest setup) acts) p ≡ false)
+    → ((p : ℕ) → p < length (machine_after (at_rest setup) acts).cpus
+    → StepsNowhere (machine_after (at_rest setup) acts) p)
+    → (p : ℕ) → p < length (machine_after (at_rest setup) acts).cpus
+    → IsFinished (machine_after (at_rest setup) acts) p
+
+-- the next step of some processor changes the machine, and is not that of a head that goes around
+pub record SomebodyLeadsOn (m : Machine) : Type 0 where
+  pub processor : ℕ
+  pub inside : processor < length m.cpus
+  pub leads : StepsNowhere m processor → ⊥
+
+-- The same said outright: every processor has finished, or the next step of some processor leads on.
+abbrev pub SomebodyLeadsOnHalting : Type 0
+SomebodyLeadsOnHalting = (rank : ℕ → ℕ) (size : ℕ) (setup : Setup) (acts : List Act)
+    → IsLawfulSetup setup → IsOrdered rank size setup → halts setup.mode ≡ true
+    → AreInRange (length setup.topology.sockets.items) acts
+    → ((p : ℕ) → p < length (machine_after (at_rest setup) acts).cpus
+    → preempted_at (machine_after (at_rest setup) acts) p ≡ false)
+    → ((p : ℕ) → p < length (machine_after (at_rest setup) acts).cpus
+    → IsFinished (machine_after (at_rest setup) acts) p)
+    ⊎ SomebodyLeadsOn (machine_after (at_rest setup) acts)

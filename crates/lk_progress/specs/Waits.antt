@@ -6,6 +6,7 @@ use Rattle.lk_rows.specs.declared.parts.Frame.{Frame}
 use Rattle.lk_rows.specs.declared.parts.Pc.{Pc}
 use Rattle.lk_rows.specs.declared.parts.Pc.TheVariants.{V1, P3, G6, G7, G10}
 use Rattle.lk_rows.specs.declared.parts.Pc.TheVariants.{N1, C1, C3, C10, H1, E14, W6, E12, R2, R5, Wr5}
+use Rattle.lk_rows.specs.declared.parts.Pc.TheVariants.{E2, E3, E4, E5, E10, E11}
 use Rattle.lk_rows.specs.declared.parts.Why.TheVariants as why
 use Rattle.lk_rows.specs.rows.Cna.{is_last}
 use Rattle.lk_rows.specs.Moves.{node_of, rw_name}
@@ -14,8 +15,9 @@ use Rattle.lk_law.specs.SpinWorld.{HasNoneAbove}
 use Rattle.lk_law.specs.Steps.{row_in}
 use Rattle.lk_law.specs.World.{World}
 
--- the row is a poll: what it meets may leave the frame where it was, or, of a head that chooses its
--- successor, lead it around: C1, C3, C10 and back to C1
+-- the row is a poll: what it meets may leave the frame where it was; or lead it around, of a head that
+-- chooses its successor from C1 by C3 and C10 back to C1, of a head whose lock was stolen from E2 by E3,
+-- E4, E5, E10 and E11 back to E2
 abbrev pub polls : Pc → Bool
 polls V1 = true
 polls P3 = true
@@ -27,6 +29,12 @@ polls C1 = true
 polls C3 = true
 polls C10 = true
 polls H1 = true
+polls E2 = true
+polls E3 = true
+polls E4 = true
+polls E5 = true
+polls E10 = true
+polls E11 = true
 polls W6 = true
 polls E12 = true
 polls E14 = true

@@ -2,6 +2,7 @@
 
 ghost use Rattle.lk_rows.specs.declared.parts.Pc.{Pc};
 ghost use Rattle.lk_progress.specs.Aside.{AtBayWaitForOutside, RowKeepsAside};
+ghost use Rattle.lk_progress.specs.Halting.{AtRestWaitForOutside, RowKeepsServed, EndsKeepServed};
 ghost use Rattle.lk_progress.specs.Order.{NoDeadlock, StuckWaitForOutside};
 ghost use Rattle.lk_progress.specs.Followed.{RowKeepsFollowed};
 ghost use Rattle.lk_progress.specs.Measure.{RowDescends, BeginIsShort};
@@ -11,6 +12,7 @@ ghost use Rattle.lk_progress.specs.Turns.{TakesInTurn, NobodyWatchesAnew};
 ghost use Rattle.lk_progress.specs.InTurn.{FewTakesBefore, FewerUnwatched, FewTakesFromArrival};
 ghost use Rattle.lk_progress.specs.InTurn.{FewTakesAside, FewTakesAsideFromArrival};
 ghost use Rattle.lk_progress.specs.Runs.{OrderedRunsGoOn, OrderedRunsGoOnAside, SomebodyMovesOn, NativeRunsEnd};
+ghost use Rattle.lk_progress.specs.Runs.{OrderedRunsGoOnHalting, SomebodyLeadsOnHalting};
 
 /// In `virt` and `native`, in a sound world in which every processor polls for locks of a higher
 /// level than all that its contexts hold or are at work on, and in which each queue head that waits
@@ -21,19 +23,31 @@ ghost use Rattle.lk_progress.specs.Runs.{OrderedRunsGoOn, OrderedRunsGoOnAside, 
 ///
 /// In `cna` the same is true where a queue head that turns on the spot counts as standing: nobody is
 /// linked behind it, and its secondary queue, if there is one, cannot return.
+///
+/// In `pv` the same is true where a queue head that goes around without halting counts as standing:
+/// another has stolen its lock, and does not know that the head is in the hash. Here no step leads on
+/// a processor that has halted, until a kick of it is remembered.
 pub fn no_deadlock()
     ensures none { NoDeadlock }
     ensures outside { StuckWaitForOutside }
     ensures aside { AtBayWaitForOutside }
+    ensures halting { AtRestWaitForOutside }
 {}
 
 /// In `virt` and `native` every row keeps it that each queue head which waits for its successor has
 /// one, or one is coming, if its processor has a node left where it enters the slow path. So the
 /// lost successor needs a fifth context. In `cna` every row keeps it that such a head has one, or a
 /// secondary queue that may return, or one is coming.
+///
+/// In `pv` every row, and every end of a halt, keeps it that a head which looks for its successor has
+/// one, and that a head which halts is awaited: the byte of its lock is slow, or the holder that
+/// handed off is about to look after it, or a kick of its processor is remembered, or the waiter that
+/// freed this very lock is about to make it. No context needs a node for that.
 pub fn successors_come()
     ensures rows { (c : Pc) → RowKeepsFollowed c }
     ensures aside { (c : Pc) → RowKeepsAside c }
+    ensures halting { (c : Pc) → RowKeepsServed c }
+    ensures halt_ends { EndsKeepServed }
 {}
 
 /// No schedule of an ordered setup of `virt` or `native` comes to a deadlock. In the machine after
@@ -42,10 +56,15 @@ pub fn successors_come()
 /// outright: all have finished, or the next step of some processor changes the machine.
 ///
 /// In `cna` the same is true where a queue head that turns on the spot counts as standing.
+///
+/// In `pv` the same is true where a queue head that goes around counts as standing, for any number of
+/// handlers.
 pub fn ordered_runs_go_on()
     ensures stuck { OrderedRunsGoOn }
     ensures moves { SomebodyMovesOn }
     ensures aside { OrderedRunsGoOnAside }
+    ensures halting { OrderedRunsGoOnHalting }
+    ensures leads { SomebodyLeadsOnHalting }
 {}
 
 /// In `virt` and `native` an operation has at most 22 rows, but for swaps that fail since another
