@@ -48,6 +48,10 @@ TWO = """\
 1 102 d..2. 5 release aa &rq->__lock
 """
 RELEASED = LAWFUL + "0 101 d..2. 20 acquire cc console\n0 101 d..2. 21 acquired cc console\n1 102 d..2. 22 release cc console\n2 103 d..2. 23 acquire cc console\n2 103 d..2. 24 acquired cc console\n"
+# Takes without a release: before releases are told, behind them, and among them.
+WITHOUT = "0 101 d..2. {0} acquire cc x\n0 101 d..2. {0} acquired cc x\n1 102 d..2. {1} acquire cc x\n1 102 d..2. {1} acquired cc x\n"
+LATE, EARLY = WITHOUT.format(1, 2) + LAWFUL, LAWFUL + WITHOUT.format(20, 21)
+AMONG = EARLY + "1 102 d..2. 22 release cc x\n"
 OVERRIDE = LAWFUL + "".join(f"{cpu} {pid} d..2. {at} acquire dd try sched_map-wait-type-override\n" for cpu, pid, at in ((0, 101, 20), (1, 102, 21)))
 FOLDED = LAWFUL + "".join(f"0 101 d..2. {20 + at} {verb}\n" for at, verb in enumerate(["acquire bb try read tasklist_lock"] * 2 + ["release bb tasklist_lock"] * 2))
 MANY = LAWFUL + "".join(f"0 101 d..2. {20 + 2 * lock} acquire {lock + 256:x} try many\n0 101 d..2. {21 + 2 * lock} release {lock + 256:x} many\n" for lock in range(40))
@@ -59,7 +63,12 @@ CASES = (
     ("lawful", LAWFUL, WHOLE, 0, "lawful: 8 events told of 11, of 2 locks (1 reader-writer), in 1 history"),
     ("two holders", TWO.format(3), WHOLE, 8, "breach 8 Beside: the lock at aa, &rq->__lock; its last events:\n  2 task 101 takes\n  3 task 102 takes\n  none of"),
     ("two of one number", TWO.format(2), WHOLE, 8, "  drawn twice: 2; the order"),
+    ("one number twice, lawful", LAWFUL.replace(" 3 ", " 2 "), WHOLE, 0, "\ndrawn twice: 1 number (an interrupt"),
     ("released by another", RELEASED, WHOLE, 0, "released by another task: console"),
+    ("releases told late", LATE, WHOLE, 0, "left out: 2 takes before the first release or behind the last one"),
+    ("releases told no more", EARLY, WHOLE, 0, "left out: 2 takes before the first release or behind the last one"),
+    ("a take among releases, without one", AMONG, WHOLE, 8, "Beside: the lock at cc, x; its last events:\n  20 task 101 takes\n  21 task 102 takes\n"),
+    ("no releases", LAWFUL.replace(" release", " released"), WHOLE, 3, "there is no lock_release"),
     ("a wait override", OVERRIDE, WHOLE, 0, "left out: 2 overrides of wait types"),
     ("folded", FOLDED, WHOLE, 0, "left out: 1 takes by a reader that reads already, folded"),
     ("many locks", MANY, WHOLE, 0, "of 42 locks (1 reader-writer), in 2 histories"),
