@@ -41,9 +41,17 @@ static void yields(void *data) {
     }
 }
 
+/* Others run while this thread has a lock, so that they wait for it. */
+static void lingers(long turn) {
+    if (turn % 16 == 0) {
+        sched_yield();
+    }
+}
+
 static void changes(guarded *g) {
     MUST(g->a == g->b);
     g->a++;
+    lingers(g->a);
     g->b++;
 }
 
@@ -74,6 +82,8 @@ static void read_turn(qlock_cpu *cpu, long turn, unsigned *times) {
     }
     MUST(qlock_wait(cpu, answer, yields, times) == QLOCK_DONE);
     __tsan_acquire(&data[RW]);
+    MUST(data[RW].a == data[RW].b);
+    lingers(turn);
     MUST(data[RW].a == data[RW].b);
     __tsan_release(&data[RW]);
     MUST(qlock_read_unlock(cpu, RW) == QLOCK_DONE);
