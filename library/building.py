@@ -21,6 +21,15 @@ def archives():
     return [library, Path(os.path.realpath(shutil.which("rt"))).parent.parent / "c" / "liblibc_c.a"]
 
 
+def interposer(file, sources=HERE / "interpose", more=()):
+    """Compiles the shared object that puts the mutexes of pthreads over the library, and gives its path. Its heap is its own (heap.c)."""
+    flags = ("-std=c11", "-D_GNU_SOURCE", *WARNS, "-fPIC", "-fvisibility=hidden", "-fexceptions", "-fno-strict-aliasing", "-shared", *more)
+    links = ("-Wl,--wrap=malloc,--wrap=realloc,--wrap=free", "-Wl,--exclude-libs,ALL", "-Wl,-z,defs")
+    words = ["cc", *flags, *links, f"-I{HERE / 'include'}", *sorted(sources.glob("*.c")), *archives(), "-o", file]
+    subprocess.run(words, check=True)
+    return file
+
+
 def compiled(source, program, flags=()):
     """Compiles a program, and gives its path."""
     words = [*COMPILERS[source.suffix], *WARNS, *flags, f"-I{HERE / 'include'}", source, *archives(), "-lpthread", "-o", program]

@@ -13,7 +13,7 @@ FUNCTION = re.compile(r"\bfn\s+(\w+)")
 RECORD = re.compile(r"^(?:pub )?record (\w+)", re.M)
 ROWS = re.compile(r"pub enum Pc \{(.*?)^\}", re.M | re.S)
 ROW = re.compile(r"^\s+(\w+),", re.M)
-LIBRARY = ("library/include/", "library/rust/src/")
+LIBRARY = ("library/include/", "library/interpose/", "library/rust/src/")
 COMMENT = re.compile(r"/\*.*?\*/|//[^\n]*", re.S)
 
 
@@ -36,7 +36,7 @@ class Sources:
         return [path for path in self.files if path.endswith(".md")]
 
     def of_library(self):
-        """The words of the library's headers and of its crate for Rust."""
+        """The words of the library's headers, of its interposer and of its crate for Rust."""
         texts = [(self.top / path).read_text() for path in self.files if path.startswith(LIBRARY)]
         return {word for text in texts for word in re.findall(r"\w+", COMMENT.sub("", text))}
 
