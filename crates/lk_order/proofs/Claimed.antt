@@ -1,13 +1,15 @@
 -- The theorems, of one setup.
-use Rattle.std.proofs.Common.{◌≡◌, ℕ, false}
+use Rattle.std.proofs.Common.{◌≡◌, ℕ, true, false, refl}
 use Rattle.std.specs.Prelude.{slice_index_or}
 use Rattle.lk_abs.specs.declared.names.Kind.TheVariants.{Spin}
-use Rattle.lk_abs.specs.declared.names.Mode.TheVariants.{Native}
+use Rattle.lk_abs.specs.declared.names.Mode.{Mode}
+use Rattle.lk_abs.specs.declared.names.Mode.TheVariants.{Virt, Native, Cna, Pv}
 use Rattle.lk_rows.specs.declared.setup.Setup.{Setup}
 use Rattle.lk_rows.specs.Programs.{IsLawfulSetup}
 use Rattle.lk_law.specs.Agree.{halts}
+use Rattle.lk_law.specs.Cna.{moves_aside}
 use Rattle.lk_progress.specs.Ordered.{IsOrdered}
-use Rattle.lk_progress.specs.Runs.{HasRoom, OrderedRunsGoOnAside, SomebodyMovesOn}
+use Rattle.lk_progress.specs.Runs.{HasRoom, OrderedRunsGoOnAside, SomebodyMovesOn, SomebodyLeadsOnHalting}
 use Rattle.lk_progress.specs.Fair.{FairRunsFinish}
 use Rattle.lk_order.specs.Claims.{NeverDeadlocks, FairSchedulesFinish}
 
@@ -15,8 +17,25 @@ use Rattle.lk_order.specs.Claims.{NeverDeadlocks, FairSchedulesFinish}
 pub never_deadlocks : (setup : Setup) → SomebodyMovesOn → OrderedRunsGoOnAside → IsLawfulSetup setup
     → (rank : ℕ → ℕ) × IsOrdered rank 32 setup → HasRoom setup → halts setup.mode ≡ false → NeverDeadlocks setup
 never_deadlocks setup moves aside lawful ordered room awake = record {
-  moves = λ plain acts range free. moves ordered.0 32 setup acts lawful ordered.1 awake plain room range free;
+  moves = λ off plain acts range free. moves ordered.0 32 setup acts lawful ordered.1 awake plain room range free;
   aside = λ off acts range free still. aside ordered.0 32 setup acts lawful ordered.1 awake off room range free still;
+  halting = λ on. absurd (cc (on, awake));
+}
+
+-- where processors halt nobody is moved aside
+halting_plain : (mode : Mode) → halts mode ≡ true → moves_aside mode ≡ false
+halting_plain Pv e = refl
+halting_plain Virt e = cc e
+halting_plain Native e = cc e
+halting_plain Cna e = cc e
+
+-- nor does one of a setup whose processors may halt
+pub never_deadlocks_halting : (setup : Setup) → SomebodyLeadsOnHalting → IsLawfulSetup setup
+    → (rank : ℕ → ℕ) × IsOrdered rank 32 setup → halts setup.mode ≡ true → NeverDeadlocks setup
+never_deadlocks_halting setup leads lawful ordered on = record {
+  moves = λ off. absurd (cc (on, off));
+  aside = λ off. absurd (let z = halting_plain setup.mode on in cc (z, off));
+  halting = λ here acts range free. leads ordered.0 32 setup acts lawful ordered.1 on range free;
 }
 
 -- every fair schedule of one in `native` with spinlocks finishes

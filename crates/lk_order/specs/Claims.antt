@@ -6,9 +6,10 @@ use Rattle.lk_rows.specs.declared.setup.Setup.{Setup}
 use Rattle.lk_rows.specs.Machine.{Machine, preempted_at}
 use Rattle.lk_rows.specs.Acts.{next}
 use Rattle.lk_rows.specs.Run.{at_rest, machine_after}
+use Rattle.lk_law.specs.Agree.{halts}
 use Rattle.lk_law.specs.Cna.{moves_aside}
 use Rattle.lk_law.specs.MachineLaws.{AreInRange}
-use Rattle.lk_progress.specs.Runs.{IsFinished, SomebodyMoves, TurnsOnTheSpot}
+use Rattle.lk_progress.specs.Runs.{IsFinished, SomebodyMoves, SomebodyLeadsOn, TurnsOnTheSpot}
 use Rattle.lk_progress.specs.Fair.{IsFair, processors, after_first}
 
 -- no processor is preempted
@@ -25,9 +26,11 @@ NobodyLeadsOn m = (p : ℕ) → p < length m.cpus → ((next m (Step p)).0 ≡ m
 
 -- In the machine after any schedule, if no processor is preempted, every processor has finished, or the
 -- next step of some processor leads on. In `cna` it is said turned round: if no step leads on, every
--- processor has finished.
+-- processor has finished. In `pv` a head that goes around, since another has stolen its lock, does not lead
+-- on.
 pub record NeverDeadlocks (setup : Setup) : Type 0 where
-  pub moves : moves_aside setup.mode ≡ false
+  pub moves : halts setup.mode ≡ false
+      → moves_aside setup.mode ≡ false
       → (acts : List Act)
       → AreInRange (processors setup) acts
       → NobodyIsPreempted (machine_after (at_rest setup) acts)
@@ -38,6 +41,11 @@ pub record NeverDeadlocks (setup : Setup) : Type 0 where
       → NobodyIsPreempted (machine_after (at_rest setup) acts)
       → NobodyLeadsOn (machine_after (at_rest setup) acts)
       → AllHaveFinished (machine_after (at_rest setup) acts)
+  pub halting : halts setup.mode ≡ true
+      → (acts : List Act)
+      → AreInRange (processors setup) acts
+      → NobodyIsPreempted (machine_after (at_rest setup) acts)
+      → AllHaveFinished (machine_after (at_rest setup) acts) ⊎ SomebodyLeadsOn (machine_after (at_rest setup) acts)
 
 -- every fair schedule comes to a moment at which every processor has finished
 abbrev pub FairSchedulesFinish : Setup → Type 0

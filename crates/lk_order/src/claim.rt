@@ -1,6 +1,6 @@
 // What the theorems say of a setup whose locks have ranks.
 
-ghost use Rattle.std.specs.Prelude.{◌≡◌, ◌≢◌, ◌⊎◌, ℕ, true, slice_index_or};
+ghost use Rattle.std.specs.Prelude.{◌≡◌, ◌≢◌, ◌⊎◌, ℕ, true, false, slice_index_or};
 ghost use Rattle.lk_abs.specs.declared.names.Kind.TheVariants.{Spin};
 ghost use Rattle.lk_rows.specs.Programs.{IsLawfulSetup};
 ghost use Rattle.lk_law.specs.Agree.{halts};
@@ -21,8 +21,6 @@ pub(crate) enum Claim {
     Finishes,
     /// No schedule deadlocks.
     GoesOn,
-    /// The ranks are in order, and no theorem covers `pv`.
-    Halts,
     /// The ranks are in order, and the processor has more than three handlers, so it may run out of
     /// queue nodes.
     Crowded(u32),
@@ -69,10 +67,24 @@ fn halts(mode: Mode) -> bool
     matches!(mode, Mode::Pv)
 }
 
-// What is known of an ordered setup with room.
+// What is known of an ordered setup whose processors may halt. It needs no room, since who finds no
+// queue node steals.
+fn claim_halting(setup: &Setup) -> Claim
+    requires lawful { IsLawfulSetup setup.now }
+    requires ordered { (rank : ℕ → ℕ) × IsOrdered rank 32 setup.now }
+    requires halts { halts setup.now.mode ≡ true }
+    ensures goes_on { NeverDeadlocks setup.now }
+    ensures only { result ≡ Claim.GoesOn }
+{
+    ordered_runs_go_on();
+    Claim::GoesOn
+}
+
+// What is known of an ordered setup with room, in which no processor halts.
 fn claim_in_order(setup: &Setup) -> Claim
     requires lawful { IsLawfulSetup setup.now }
     requires ordered { (rank : ℕ → ℕ) × IsOrdered rank 32 setup.now }
+    requires awake { halts setup.now.mode ≡ false }
     requires room { HasRoom setup.now }
     ensures goes_on { (result ≡ Claim.GoesOn) ⊎ (result ≡ Claim.Finishes)
         → NeverDeadlocks setup.now }
@@ -80,9 +92,7 @@ fn claim_in_order(setup: &Setup) -> Claim
 {
     ordered_runs_go_on();
     fair_runs_finish();
-    if halts(setup.mode) {
-        Claim::Halts
-    } else if is_bounded(setup) {
+    if is_bounded(setup) {
         Claim::Finishes
     } else {
         Claim::GoesOn
@@ -99,6 +109,9 @@ pub(crate) fn claim_of(setup: &Setup, ranks: &[u32]) -> Claim
 {
     if !check_ranks(setup, ranks) {
         return Claim::Unordered;
+    }
+    if halts(setup.mode) {
+        return claim_halting(setup);
     }
     match crowded(setup) {
         Some(cpu) => Claim::Crowded(cpu),

@@ -95,9 +95,6 @@ pub(crate) fn put_answer(
             println!(rt; "ordered: no schedule deadlocks, and every fair schedule finishes")?;
         }
         Claim::GoesOn => println!(rt; "ordered: no schedule deadlocks")?,
-        Claim::Halts => {
-            println!(rt; "not covered: the locks have ranks, but no theorem covers pv")?;
-        }
         Claim::Crowded(cpu) => {
             println!(rt;
                 "not covered: the locks have ranks, but processor {cpu} has more than 3 handlers"

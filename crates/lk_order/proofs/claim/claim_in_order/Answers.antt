@@ -1,4 +1,4 @@
-use Rattle.std.proofs.Common.{refl, sym}
+use Rattle.std.proofs.Common.{refl}
 use Rattle.lk_order.proofs.Claimed.{never_deadlocks, finishes}
 use Rattle.lk_order.proofs.claim.claim_in_order.Goals as goal
 
@@ -6,7 +6,7 @@ pub returns-then-is_bounded : goal.returns-then-is_bounded
 returns-then-is_bounded c =
     let set = c.args.setup.now in record {
       goes_on = λ made. never_deadlocks set c.ordered_runs_go_on.ensures.moves c.ordered_runs_go_on.ensures.aside c.requires.lawful c.requires.ordered c.requires.room
-          (sym c.if-halts.ensures);
+          c.requires.awake;
       finishes = λ made. finishes set c.fair_runs_finish.ensures.finish c.requires.lawful c.requires.ordered c.requires.room (c.if-is_bounded.ensures.mode refl)
           (c.if-is_bounded.ensures.spins refl);
     }
@@ -14,4 +14,4 @@ returns-then-is_bounded c =
 pub returns-else-is_bounded-clause-goes_on : goal.returns-else-is_bounded-clause-goes_on
 returns-else-is_bounded-clause-goes_on c made =
     never_deadlocks c.args.setup.now c.ordered_runs_go_on.ensures.moves c.ordered_runs_go_on.ensures.aside c.requires.lawful c.requires.ordered c.requires.room
-    (sym c.if-halts.ensures)
+    c.requires.awake
