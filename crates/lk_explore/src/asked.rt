@@ -1,6 +1,6 @@
 // What the program's arguments ask for.
 
-use crate::kinds::kind_named;
+use crate::kinds::{count_named, kind_named};
 use crate::rows::row_named;
 use lk_reach::Extras;
 use lk_rows::Pc;
@@ -17,6 +17,8 @@ pub(crate) enum Goal {
     Row(Pc),
     /// An act that tells an event of this kind.
     Event(usize),
+    /// An act that raises this count.
+    Count(usize),
     /// A state at which every processor is done.
     Finished,
     /// A state that no act leads on from, and at which not every processor is done.
@@ -38,6 +40,9 @@ pub(crate) struct Asked {
     pub quiet: bool,
     /// What is sought.
     pub goal: Goal,
+    /// Whose act, and on which declared lock, if that is asked for.
+    pub cpu: Option<u32>,
+    pub lock: Option<u32>,
 }
 
 // A number behind an option.
@@ -58,6 +63,8 @@ impl Asked {
             },
             quiet: false,
             goal: Goal::Overview,
+            cpu: None,
+            lock: None,
         }
     }
 
@@ -73,6 +80,17 @@ impl Asked {
             _ => return false,
         }
         true
+    }
+
+    // Takes an option that says whose act is sought, or on which lock. Returns `None` if it is none.
+    fn take_place(&mut self, word: &str, value: &str) -> Option<()> {
+        let number = u32::try_from(number_of(value)?).ok()?;
+        match word {
+            "--cpu" => self.cpu = Some(number),
+            "--lock" => self.lock = Some(number),
+            _ => return None,
+        }
+        Some(())
     }
 
     // Takes an option that says how much is explored. Returns `None` if it is none.
@@ -92,9 +110,25 @@ impl Asked {
         match word {
             "--row" => self.goal = Goal::Row(row_named(alloc, value).ok()??),
             "--event" => self.goal = Goal::Event(kind_named(value)?),
+            "--count" => self.goal = Goal::Count(count_named(value)?),
+            "--cpu" | "--lock" => return self.take_place(word, value),
             _ => return self.take_limit(word, value),
         }
         Some(())
+    }
+}
+
+impl Asked {
+    /// Whether what is sought is more than any row or any event: a count, or that of one processor
+    /// or on one lock.
+    pub(crate) fn is_particular(&self) -> bool {
+        matches!(self.goal, Goal::Count(_)) || self.cpu.is_some() || self.lock.is_some()
+    }
+
+    // Whether a processor or a lock is named, and no act is sought.
+    fn is_idle(&self) -> bool {
+        let is_act = matches!(self.goal, Goal::Row(_) | Goal::Event(_) | Goal::Count(_));
+        !is_act && self.is_particular()
     }
 }
 
@@ -106,7 +140,7 @@ pub(crate) fn asked_by(rt: &HostRuntime) -> Option<Asked> {
     let _name = words.next();
     for _ in 0..16 {
         let Some(word) = words.next() else {
-            return Some(asked);
+            return if asked.is_idle() { None } else { Some(asked) };
         };
         if !asked.take_flag(word.as_str()) {
             let value = words.next()?;

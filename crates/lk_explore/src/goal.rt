@@ -3,10 +3,10 @@
 ghost use Rattle.lk_reach.specs.Told.{IsGraph};
 
 use crate::Answer;
-use crate::asked::Goal;
+use crate::asked::{Asked, Goal};
 use crate::lines::Lines;
 use lk_abs::{Act, Memory};
-use lk_reach::Graph;
+use lk_reach::{Deed, Graph, Sought};
 use std::alloc::Global;
 
 // Steps of one processor in a row, which are one line.
@@ -33,7 +33,40 @@ fn lost(alloc: Global, goal: Goal, graph: &Graph) -> Result<Option<Vec<Act>>, Me
     }
 }
 
-// The acts of a shortest schedule to what is sought, if there is one.
+// What an act is to do, if one is sought.
+fn deed_of(goal: Goal) -> Option<Deed> {
+    match goal {
+        Goal::Row(row) => Some(Deed::Row(row)),
+        Goal::Event(kind) => Some(Deed::Event(kind)),
+        Goal::Count(count) => Some(Deed::Count(count)),
+        _ => None,
+    }
+}
+
+// The acts of a shortest schedule to an act that is sought, with this act, unless it makes a row.
+fn schedule_to(
+    alloc: Global,
+    asked: &Asked,
+    deed: Deed,
+    graph: &mut Graph,
+) -> Result<Option<Vec<Act>>, Memory>
+    requires graph { IsGraph graph.old }
+{
+    let sought = Sought {
+        deed,
+        cpu: asked.cpu,
+        lock: asked.lock,
+    };
+    let Some((mut acts, last)) = graph.acts_to_deed(alloc, sought)? else {
+        return Ok(None);
+    };
+    if !matches!(deed, Deed::Row(_)) {
+        acts.push(last).map_err(|_| Memory)?;
+    }
+    Ok(Some(acts))
+}
+
+// The acts of a shortest schedule to what is sought of any processor, if there is one.
 fn schedule(alloc: Global, goal: Goal, graph: &Graph) -> Result<Option<Vec<Act>>, Memory>
     requires graph { IsGraph graph.now }
 {
@@ -42,7 +75,17 @@ fn schedule(alloc: Global, goal: Goal, graph: &Graph) -> Result<Option<Vec<Act>>
         Goal::Event(kind) => graph.acts_to_event(alloc, kind),
         Goal::Finished => graph.acts_to_end(alloc),
         Goal::Stuck | Goal::Doomed => lost(alloc, goal, graph),
-        Goal::Overview => Ok(None),
+        Goal::Overview | Goal::Count(_) => Ok(None),
+    }
+}
+
+// The acts of a shortest schedule to what is sought, if there is one.
+fn acts_to_goal(alloc: Global, asked: &Asked, graph: &mut Graph) -> Result<Option<Vec<Act>>, Memory>
+    requires graph { IsGraph graph.old }
+{
+    match deed_of(asked.goal) {
+        Some(deed) if asked.is_particular() => schedule_to(alloc, asked, deed, graph),
+        _ => schedule(alloc, asked.goal, graph),
     }
 }
 
@@ -101,17 +144,18 @@ fn add_schedule(lines: &mut Lines, acts: &[Act]) {
 pub(crate) fn add_goal(
     alloc: Global,
     lines: &mut Lines,
-    goal: Goal,
-    graph: &Graph,
+    asked: &Asked,
+    graph: &mut Graph,
 ) -> Result<Answer, Memory>
-    requires graph { IsGraph graph.now }
+    requires graph { IsGraph graph.old }
 {
-    match schedule(alloc, goal, graph)? {
+    let is_whole = graph.is_whole();
+    match acts_to_goal(alloc, asked, graph)? {
         Some(acts) => {
             add_schedule(lines, &acts);
             Ok(Answer::Done)
         }
-        None if graph.is_whole() => Ok(Answer::None),
+        None if is_whole => Ok(Answer::None),
         None => Ok(Answer::Limit),
     }
 }

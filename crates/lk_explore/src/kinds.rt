@@ -1,4 +1,4 @@
-// The names of the kinds of events.
+// The names of the kinds of events, and of the counts.
 
 use lk_reach::KINDS;
 
@@ -77,6 +77,32 @@ pub(crate) fn kind_named(name: &str) -> Option<usize> {
     for kind in 0..KINDS {
         if kind_name(kind) == name {
             return Some(kind);
+        }
+    }
+    None
+}
+
+// The name of the count with this number.
+fn count_name(number: usize) -> &'static str {
+    match number {
+        0 => "lock_pending",
+        1 => "lock_slowpath",
+        2 => "lock_use_node2",
+        3 => "lock_use_node3",
+        4 => "lock_use_node4",
+        5 => "lock_no_node",
+        6 => "pv_lock_stealing",
+        7 => "pv_wait_node",
+        8 => "pv_wait_head",
+        _ => "pv_kick_unlock",
+    }
+}
+
+/// The count with this name.
+pub(crate) fn count_named(name: &str) -> Option<usize> {
+    for number in 0..10 {
+        if count_name(number) == name {
+            return Some(number);
         }
     }
     None

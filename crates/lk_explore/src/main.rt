@@ -89,13 +89,13 @@ fn add_answer(
     lines: &mut Lines,
     asked: &Asked,
     locks: &Locks,
-    graph: &Graph,
+    graph: &mut Graph,
 ) -> Result<Answer, Memory>
-    requires graph { IsGraph graph.now }
+    requires graph { IsGraph graph.old }
 {
     match asked.goal {
         Goal::Overview => add_overview(alloc, lines, asked, locks, graph),
-        _ => add_goal(alloc, lines, asked.goal, graph),
+        _ => add_goal(alloc, lines, asked, graph),
     }
 }
 
@@ -110,9 +110,9 @@ fn tell(alloc: Global, rt: &HostRuntime, asked: &Asked, start: Start) -> Result<
         has_spin: start.has_spin,
         has_rw: start.has_rw,
     };
-    let graph = explored(alloc, rt, asked, start)?;
+    let mut graph = explored(alloc, rt, asked, start)?;
     let mut lines = Lines::new(alloc)?;
-    let answer = add_answer(alloc, &mut lines, asked, &locks, &graph)?;
+    let answer = add_answer(alloc, &mut lines, asked, &locks, &mut graph)?;
     lines.put(&mut StdSink::new(rt.stdout()))?;
     Ok(answer)
 }

@@ -8,3 +8,4 @@ pub mod Leading
 pub mod Marks
 pub mod Ending
 pub mod Firsts
+pub mod Finding

@@ -5,3 +5,5 @@ pub mod Explored
 pub mod Told
 pub mod Rows
 pub mod Ends
+pub mod Deeds
+pub mod Seeking

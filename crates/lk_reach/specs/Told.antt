@@ -6,7 +6,7 @@ use Rattle.lk_rows.specs.Acts.{next}
 use Rattle.lk_rows.specs.declared.parts.Pc.{Pc}
 use Rattle.lk_reach.specs.declared.book.Origin.{Origin}
 use Rattle.lk_reach.specs.declared.graph.Graph.{Graph}
-use Rattle.lk_reach.specs.Explored.{AreAllMoves, IsExplored}
+use Rattle.lk_reach.specs.Explored.{AreAllMoves, IsExplored, IsSuch}
 use Rattle.lk_reach.specs.Reach.{AreMoves, IsBegun, IsMove, MakesRow, cpus_of, state_after}
 use Rattle.lk_reach.specs.Kinds.{kind_value}
 use Rattle.lk_reach.specs.Space.{Keeps}
@@ -19,6 +19,7 @@ pub record IsGraph (g : Graph) : Type 0 where
   pub within : g.left ≤ length g.space.keys
   pub cpus : g.cpus ≡ cpus_of g.machine.setup
   pub few : g.cpus ≤ 8
+  pub such : IsSuch g.machine.setup g.machine
 
 -- every state that was met was left by every act
 abbrev pub IsWhole : Graph → Type 0

@@ -7,6 +7,7 @@
 #![tactic(auto)]
 
 mod book;
+mod deeds;
 mod ends;
 mod exploring;
 mod graph;
@@ -16,12 +17,14 @@ mod laws;
 mod lost;
 mod making;
 mod plan;
+mod seeking;
 mod slots;
 mod space;
 mod table;
 mod ways;
 
 pub use book::Seen;
+pub use deeds::{Deed, Sought};
 pub use exploring::{Watch, explore};
 pub use graph::Graph;
 pub use key::MAX_CPUS;

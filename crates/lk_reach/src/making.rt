@@ -12,8 +12,8 @@ use lk_core::act;
 use lk_machine::Machine;
 use lk_rows::Counts;
 
-// Nothing counted.
-fn no_counts() -> Counts
+/// Nothing counted.
+pub(crate) fn no_counts() -> Counts
     ensures { result ≡ rest_counts }
 {
     Counts {

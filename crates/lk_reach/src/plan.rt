@@ -1,6 +1,6 @@
 // The acts that are tried on each state.
 
-ghost use Rattle.std.specs.Prelude.{◌≡◌, ◌<◌, ◌++◌, ◌∷◌, [], IfOk, OnOk, ℕ, length, true};
+ghost use Rattle.std.specs.Prelude.{◌≡◌, ◌<◌, ◌++◌, ◌∷◌, [], IfOk, OnOk, ℕ, length, slice_get, Some, true};
 ghost use Rattle.lk_abs.specs.declared.events.Act.TheVariants as act;
 ghost use Rattle.lk_rows.specs.Acts.{processor_of};
 ghost use Rattle.lk_rows.specs.Machine.{handlers_at};
@@ -84,6 +84,14 @@ impl Plan {
         runs_keep();
         acts_change_little();
         machine.cpus()
+    }
+
+    /// The act of this number.
+    pub(crate) fn act(&self, number: usize) -> Act
+        requires { number < length self.now.acts.items }
+        ensures { slice_get self.now.acts.items number ≡ Some result }
+    {
+        self.acts[number]
     }
 
     /// The acts that are tried.

@@ -27,7 +27,7 @@ impl Graph {
         requires { origin.act < length self.now.plan.acts.items }
         ensures { slice_get self.now.plan.acts.items origin.act ≡ Some result }
     {
-        self.plan.acts[origin.act as usize]
+        self.plan.act(origin.act as usize)
     }
 
     // The state from which a state was first met, and the act.

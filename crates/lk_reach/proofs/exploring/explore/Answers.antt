@@ -54,6 +54,7 @@ returns g c =
         cpus = subst (λ (q : Setup). c.cpus-cpus.result ≡ cpus_of q) back
             (count ∙ (closed.reached_such laws p z begun m start).cpus);
         few = omega (arith, few, count);
+        such = subst (λ (q : Setup). IsSuch q c.leave_all.new.machine) back e.such;
       };
       plan = refl;
       setup = e.setup;

@@ -1,0 +1,94 @@
+-- A shortest schedule to an act that is sought.
+use Rattle.std.proofs.Common.{◌≡◌, ℕ, ◌<◌, List, sym, subst, length, Some, arith, inl, inr, refl}
+use Rattle.std.proofs.lemmas.Option.{slice_get_within}
+use Rattle.std.proofs.lemmas.Bool.{cases_lt}
+use Rattle.std.specs.Prelude.{slice_get}
+use Rattle.lk_abs.specs.declared.events.Act.{Act}
+use Rattle.lk_rows.specs.declared.setup.Setup.{Setup}
+use Rattle.lk_rows.specs.Machine.{Machine}
+use Rattle.lk_reach.specs.declared.deeds.Sought.{Sought}
+use Rattle.lk_reach.specs.declared.graph.Graph.{Graph}
+use Rattle.lk_reach.specs.Deeds.{IsNeverDone, IsShortestToDeed, IsSought}
+use Rattle.lk_reach.specs.Explored.{AreAllMoves, IsExplored, IsStepped, IsSuch}
+use Rattle.lk_reach.specs.Reach.{AreMoves, IsBegun, IsReached, cpus_of, state_after}
+use Rattle.lk_reach.specs.Seeking.{IsFirstDeed, NameCpus, NoneAt}
+use Rattle.lk_reach.specs.Space.{Keeps}
+use Rattle.lk_reach.specs.Told.{IsGraph, IsWay, IsWhole}
+use Rattle.lk_reach.proofs.Closed.{Laws, move_in_range, no_sooner, reached_sound, reached_such, whole_met}
+use Rattle.lk_reach.proofs.Kept.{one_value}
+
+-- another machine of the setup
+pub graph_same : (g : Graph) (m : Machine) → IsSuch g.machine.setup m → IsGraph g → IsGraph (record g { machine = m })
+graph_same g m such is =
+    let back = sym such.setup in
+    record {
+      begun = subst (λ (z : Setup). IsBegun g.plan z) back is.begun;
+      acts = subst (λ (z : Setup). AreAllMoves g.plan.extras z g.plan.acts.items) back is.acts;
+      explored = subst (λ (z : Setup). IsExplored g.plan z g.space g.book g.left) back is.explored;
+      within = is.within;
+      cpus = subst (λ (z : Setup). g.cpus ≡ cpus_of z) back is.cpus;
+      few = is.few;
+      such = subst (λ (z : Setup). IsSuch z m) back such;
+    }
+
+pub way_same : (g : Graph) (m : Machine) → IsSuch g.machine.setup m → (k : ℕ) (acts : List Act)
+    → IsWay (record g { machine = m }) k acts → IsWay g k acts
+way_same g m such k acts w = record {
+  moves = subst (λ (z : Setup). AreMoves g.plan.extras z acts) such.setup w.moves;
+  leads = subst (λ (z : Setup). Keeps g.space k (state_after g.plan z acts)) such.setup w.leads;
+  origin = w.origin;
+  is = w.is;
+  count = w.count;
+}
+
+module _ (laws : Laws) (g : Graph) (is : IsGraph g) where
+  reached : (acts : List Act) → AreMoves g.plan.extras g.machine.setup acts
+      → IsReached g.plan g.machine.setup (state_after g.plan g.machine.setup acts)
+  reached acts moves = record { acts = acts; moves = moves; there = refl }
+
+  such_of : (acts : List Act) → AreMoves g.plan.extras g.machine.setup acts
+      → IsSuch g.machine.setup (state_after g.plan g.machine.setup acts)
+  such_of acts moves = reached_such laws g.plan g.machine.setup is.begun (state_after g.plan g.machine.setup acts) (reached acts moves)
+
+  pub all_stepped : (k : ℕ) → k < length g.space.keys → IsStepped g.machine.setup g.space k
+  all_stepped k low = let good = is.explored.good k low in record {
+    state = good.state;
+    keeps = good.keeps;
+    such = reached_such laws g.plan g.machine.setup is.begun good.state good.reached;
+    sound = reached_sound laws g.plan g.machine.setup is.begun good.state good.reached;
+  }
+
+  pub acts_name_cpus : NameCpus g.machine.setup g.plan.acts.items
+  acts_name_cpus i a at = move_in_range g.plan.extras g.machine.setup a (is.acts.only i a at)
+
+  pub shortest_deed : (sought : Sought) (k i : ℕ) (acts : List Act) (a : Act)
+      → IsFirstDeed g.machine.setup g.space g.plan.acts.items sought k i → slice_get g.plan.acts.items i ≡ Some a
+      → IsWay g k acts → IsShortestToDeed g sought acts a
+  shortest_deed sought k i acts a found doing to =
+      let s = state_after g.plan g.machine.setup acts in
+      let same : found.done.act ≡ a = one_value (slice_get g.plan.acts.items i) found.done.act a found.done.is doing in
+      record {
+        moves = to.moves;
+        move = is.acts.only i a doing;
+        does = subst (λ (b : Act). IsSought sought s b) same (found.done.does s to.leads (such_of acts to.moves));
+        shortest = λ others other moves move does.
+            elim (cases_lt (length others) (length acts)) [
+              | inr not_so ↦ omega (arith, not_so)
+              | inl less ↦
+                  let count = to.count in
+                  let sooner = no_sooner laws g.plan g.machine.setup is.begun g.space g.book g.left is.explored is.within
+                  k to.origin to.is others moves (omega (arith, less, count)) in
+                  let at = is.acts.all other move in
+                  absurd (found.first sooner.0 sooner.1 at.0 other at.1 (state_after g.plan g.machine.setup others) sooner.2
+                  (such_of others moves) does)
+            ];
+      }
+
+  pub never_done : (sought : Sought)
+      → ((k : ℕ) → k < length g.space.keys → NoneAt g.machine.setup g.space g.plan.acts.items sought k) → IsWhole g
+      → IsNeverDone g sought
+  never_done sought none whole acts last moves move does =
+      let met = whole_met laws g.plan g.machine.setup is.begun g.space g.book g.left is.explored whole acts moves in
+      let at = is.acts.all last move in
+      none met.number (slice_get_within g.space.keys met.number met.keeps.key met.keeps.is) at.0 last at.1
+      (state_after g.plan g.machine.setup acts) met.keeps (such_of acts moves) does

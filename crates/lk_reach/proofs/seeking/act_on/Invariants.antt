@@ -1,0 +1,14 @@
+use Rattle.std.proofs.Common.{◌≡◌, ◌<◌, ℕ, Some}
+use Rattle.std.specs.Prelude.{slice_get}
+use Rattle.lk_abs.specs.declared.events.Act.{Act}
+use Rattle.lk_reach.specs.Explored.{IsSuch}
+use Rattle.lk_reach.specs.Seeking.{DoesNotAt}
+use Rattle.lk_reach.proofs.seeking.act_on.Given as goal
+
+-- none of the acts so far does
+abbrev pub invariant-loop-number : goal.invariant-loop-number
+invariant-loop-number l = record {
+  such : IsSuch l.fn.machine.setup l.machine;
+  none : (i : ℕ) (a : Act) → i < l.number → slice_get l.plan.acts.items i ≡ Some a
+      → DoesNotAt l.fn.machine.setup l.space l.state l.sought a;
+}
