@@ -100,13 +100,13 @@ fn run(family: Family, threads: u64, turns: u64) {
 #[test]
 fn four_threads_lose_no_turn() {
     for family in FAMILIES {
-        run(family, 4, 500);
+        run(family, 4, 1000);
     }
 }
 
 #[test]
 fn sixteen_threads_lose_no_turn() {
     for family in FAMILIES {
-        run(family, 16, 50);
+        run(family, 16, 100);
     }
 }
