@@ -1,4 +1,4 @@
-"""Builds the kernels: one with the ring of events, and that one with faults. What is built is kept."""
+"""Builds the kernels: one with lockdep, of Linux as it is; one with the ring of events; and that one with faults. What is built is kept."""
 import hashlib
 import os
 import shutil
@@ -29,6 +29,7 @@ class Kernel(NamedTuple):
     patches: tuple
 
 
+LOCKDEP = Kernel("lockdep", "lockdep", ())
 RING = Kernel("ring", "ring", ("ring.places",))
 FAULTY = Kernel("faulty", "ring", ("ring.places", "faults.places"))
 
@@ -40,7 +41,7 @@ def wanted_of(kernel):
 def key_of(kernel, version):
     """What a kernel is made of, as a digest: where it changes, the kernel is built again."""
     parts = [version, wanted_of(kernel), *((patching.PATCH / name).read_text() for name in kernel.patches)]
-    parts += [(patching.PATCH / name).read_text() for name in patching.ADDED]
+    parts += [(patching.PATCH / name).read_text() for name in patching.ADDED] if kernel.patches else []
     return hashlib.sha256("\n".join(parts).encode()).hexdigest()
 
 
@@ -63,8 +64,10 @@ class Builder:
         return self.linux
 
     def tree(self, kernel):
-        """The patched tree of a kernel, which shares with Linux's by links the files that are not patched."""
+        """The tree of a kernel: Linux's own, or a patched one, which shares with it by links the files that are not patched."""
         linux = self.unpacked()
+        if not kernel.patches:
+            return linux
         tree = self.folder / "linux-ring"
         if not tree.exists():
             begun = self.folder / "linux-ring.begun"

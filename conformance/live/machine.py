@@ -3,9 +3,11 @@ import gzip
 import mmap
 import os
 import select
+import shutil
 import struct
 import subprocess
 import time
+from pathlib import Path
 from typing import NamedTuple
 
 # As in patch/ring.c.
@@ -47,6 +49,16 @@ def archive(files):
     parts += [entry("dev/console", DEVICE, device=(5, 1)), entry("dev/null", DEVICE, device=(1, 3))]
     parts += [entry(path, FILE, content) for path, content in files.items()]
     return gzip.compress(b"".join(parts) + entry("TRAILER!!!", 0), 1)
+
+
+def write_guest(made, init, more):
+    """Writes the archive of a guest beside its kernel: its first script, busybox, the modules, and more files by their paths."""
+    busybox = shutil.which("busybox")
+    if not busybox:
+        raise SystemExit("conformance: busybox is not there, of which the guest is made")
+    files = {"init": init.read_bytes(), "bin/busybox": Path(busybox).read_bytes()}
+    files.update({name: (made / name).read_bytes() for name in ("torture.ko", "locktorture.ko")})
+    (made / "initrd").write_bytes(archive({**files, **more}))
 
 
 def ring_of(memory):

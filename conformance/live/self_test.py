@@ -1,5 +1,5 @@
 """Tries each rule of events.py on a record that needs it: with the rule its history is lawful, and without it has the breach that the rule
-is there for. The judge of tools/judge.py audits, and tools/audits/standing.py strictly too."""
+is there for. The judge of tools/judge.py audits, and tools/audits/standing.py strictly too. Then tries what is asked of a walk of the page."""
 import contextlib
 import sys
 from pathlib import Path
@@ -9,6 +9,7 @@ sys.path[:0] = [str(HERE), str(HERE.parent.parent / "tools")]
 
 import events
 import judge
+import walking
 from audits import standing
 
 LOCK = 0xFFFF888000001000
@@ -113,6 +114,42 @@ CASES = (
 )
 
 
+# What ./qlock says of a walk, of all locks and of the tortured one alone, with their statuses; and what is wrong with the walk.
+WALKED = "lawful: 98765 events told of 123456, of 1234 locks (12 reader-writer), in 39 histories"
+ALONE = "lawful: 4321 events told of 123456, of 1 lock (0 reader-writer), in 1 history"
+REFUSED = "refused: no take and no release is told of a class with torture_"
+WALKS = (
+    (WALKED, 0, ALONE, 0, None),
+    (WALKED.replace("lawful", "breach"), 8, ALONE, 0, "no lawful answer"),
+    (WALKED, 8, ALONE, 0, "no lawful answer"),
+    ("refused: there are no statistics", 3, ALONE, 0, "no lawful answer"),
+    (WALKED.replace(" 98765", " 9876"), 0, ALONE, 0, "less than 10000 events of 100 locks"),
+    (WALKED.replace(" 1234 ", " 12 "), 0, ALONE, 0, "less than 10000 events of 100 locks"),
+    (WALKED, 0, REFUSED, 3, "nothing is told of the lock that was tortured"),
+)
+# What a guest says of the commands of a walk, the seconds of those that ended, and the one that did not.
+STEPS = (
+    (["live: runs", "live: 1.50 begins 0", "live: 3.75 ends 0", "live: 4.00 begins 1", "live: 4.25 ends 1"], ({0: 2.25, 1: 0.25}, None)),
+    (["live: 1.50 begins 0", "live: 3.75 ends 0", "live: 4.00 begins 1", "sh: no such command"], ({0: 2.25}, 1)),
+)
+
+
+def walks_wrong():
+    """What is wrong with the page, as it is walked, and with what is asked of a walk."""
+    for way in walking.ways():
+        if sum("sleep 2" in line for line in way.commands) != 1 or not way.call.startswith("./qlock import lockdep --stat "):
+            yield f"the page's way by {way.name}: {way.commands}, {way.call}"
+    for wrong in walking.WRONG:
+        walking.changed(next(way for way in walking.ways() if way.name == wrong.way), wrong)
+    for line, status, alone, alone_status, wanted in WALKS:
+        found = walking.fault(walking.Told([line], status, 1, 1), walking.Told([alone], alone_status, 1, 1))
+        if found != wanted:
+            yield f"a walk that says {line!r} with {status}, and {alone!r} with {alone_status}: {found}; wanted: {wanted}"
+    for told, wanted in STEPS:
+        if walking.steps(told) != wanted:
+            yield f"the steps {told}: {walking.steps(told)}; wanted: {wanted}"
+
+
 @contextlib.contextmanager
 def instead(name, other):
     rule = getattr(events, name)
@@ -133,5 +170,8 @@ def main():
         if (found, without) != (wanted, wrong):
             failures += 1
             print(f"{name}: {found}, and {without} with another {rule}; wanted: {wanted}, and {wrong}")
-    print(f"{len(CASES)} rules tried, each also without it; {failures} failures")
+    for wrong in walks_wrong():
+        failures += 1
+        print(wrong)
+    print(f"{len(CASES)} rules tried, each also without it, and {len(WALKS) + len(STEPS)} walks; {failures} failures")
     return 1 if failures else 0
