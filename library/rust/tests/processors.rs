@@ -2,6 +2,7 @@
 
 use std::cell::RefCell;
 use std::panic::{AssertUnwindSafe, catch_unwind};
+use std::sync::mpsc::{Sender, channel};
 use std::thread;
 
 use qlock::{Domain, Error, Family, Mutex, MutexGuard};
@@ -151,6 +152,43 @@ fn a_guard_that_is_dropped_last_gives_the_processor_back() {
             ended.join().expect("the processor is back, and the lock is free");
         }
     }
+}
+
+/// Says when it is dropped whether its thread can register.
+struct Asks(Domain, Sender<Option<Error>>);
+
+impl Drop for Asks {
+    fn drop(&mut self) {
+        self.1.send(self.0.register().err()).unwrap();
+    }
+}
+
+thread_local! {
+    static ASKS: RefCell<Option<Asks>> = const { RefCell::new(None) };
+}
+
+// Thread-locals are dropped in an order that std chooses: so one is used first before the thread
+// registers, and one after it. One of the two is dropped behind the registrations.
+#[test]
+fn a_thread_whose_registration_has_ended_gets_no_processor() {
+    let domain = domain(1);
+    let answers = [true, false].map(|is_asked_first| {
+        let (tell, told) = channel();
+        let asks = Asks(domain.clone(), tell);
+        let ended = thread::spawn(move || {
+            let registers = |asks: &Asks| drop(asks.0.register().unwrap());
+            if is_asked_first {
+                ASKS.with(|kept| registers(kept.borrow_mut().insert(asks)));
+            } else {
+                registers(&asks);
+                ASKS.with(|kept| kept.replace(Some(asks)));
+            }
+        });
+        ended.join().unwrap();
+        told.recv().unwrap()
+    });
+    assert!(answers.contains(&Some(Error::ThreadEnds)), "{answers:?}");
+    assert!(beside(|| domain.register().is_ok()));
 }
 
 #[test]
