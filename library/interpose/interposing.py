@@ -1,5 +1,7 @@
 """What the scripts of this folder share: the interposer's build, the environment that sets it before a program, and its counts."""
+import contextlib
 import os
+import signal
 import subprocess
 import sys
 from pathlib import Path
@@ -36,5 +38,11 @@ def over(library, family, words, folder, more=()):
     told = folder / "counts"
     told.unlink(missing_ok=True)
     its_own = {**environment(library, family, told), **dict(more)}
-    run = subprocess.run(words, env=its_own, stdin=subprocess.DEVNULL, capture_output=True, text=True, timeout=3000)
-    return run, counts_in(told)
+    with open(folder / "said", "w+") as out, open(folder / "complained", "w+") as errors:
+        run = subprocess.Popen(words, env=its_own, stdin=subprocess.DEVNULL, stdout=out, stderr=errors, start_new_session=True)
+        run.wait(3000)
+        # A forked child that is stuck would stay.
+        with contextlib.suppress(ProcessLookupError):
+            os.killpg(run.pid, signal.SIGKILL)
+    ended = subprocess.CompletedProcess(words, run.returncode, (folder / "said").read_text(), (folder / "complained").read_text())
+    return ended, counts_in(told)
