@@ -138,7 +138,7 @@ class Build:
 
     def run(self):
         word = "lane" if self.count == 1 else "lanes"
-        say(f"proving and building {len(self.crates)} crates in {self.count} {word}: from nothing it takes about an hour of one processor")
+        say(f"proving and building {len(self.crates)} crates in {self.count} {word}: from nothing it takes some two hours of processor time")
         for old in ROOM.glob("lane*"):
             shutil.rmtree(old, ignore_errors=True)
         lanes = [Lane(number, self.count > 1) for number in range(1, self.count + 1)]

@@ -197,9 +197,9 @@ OPTIONS = (
 WHAT_IS_PROVED = """\
 The first call compiles the program without proving it, in about a
 minute, and keeps it until a source changes. Each run of such a program
-says so in a line on standard error. ./qlock build proves it, in about an
-hour of one processor; from then on every command runs the proved program,
-with no word more. Of steps and explore, the lines are tested,
+says so in a line on standard error. ./qlock build proves it, in 40 minutes
+to an hour on four processors; from then on every command runs the proved
+program, with no word more. Of steps and explore, the lines are tested,
 and of order all answers but ordered; picture, view, find, import and
 orders are tested too, and so is what audit --strict asks. docs/CLAIMS.md
 says what is proved."""
