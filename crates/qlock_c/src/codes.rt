@@ -1,5 +1,5 @@
 // The numbers of answers.
-ghost use Rattle.std.specs.Prelude.{◌≡◌, None};
+ghost use Rattle.std.specs.Prelude.{◌≡◌, ◌≢◌, None};
 ghost use Rattle.lk_port.specs.declared.answer.Answer.TheVariants.{Done};
 
 use lk_port::{Answer, Fault};
@@ -41,7 +41,9 @@ pub(crate) fn code(answer: Answer) -> u32
 }
 
 // The number of a fault.
-pub(crate) fn fault_code(fault: Fault) -> u32 {
+pub(crate) fn fault_code(fault: Fault) -> u32
+    ensures { result ≢ 0 }
+{
     match fault {
         Fault::Range => RANGE,
         Fault::Memory => MEMORY,

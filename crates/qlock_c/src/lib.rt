@@ -1,6 +1,8 @@
 //! The locks of `lk_run` for C. `include/qlock.h` of the library declares these functions, and says
 //! what a caller owes.
 #![tactic(auto)]
+ghost use Rattle.std.specs.Prelude.{◌≡◌, ◌≢◌, ◌⊎◌};
+ghost use Rattle.qlock_c.specs.Opened.{AreEmpty, AreOpen};
 
 mod codes;
 mod handle;
@@ -27,7 +29,11 @@ pub extern "C" fn qlock_open(
     sockets: &[u32],
     threshold: u32,
     cpus: &mut [Processor],
-) -> u32 {
+) -> u32
+    ensures opened { result ≡ 0 → AreOpen family kinds.now sockets.now threshold cpus.new }
+    ensures refused { result ≢ 0 → (cpus.new ≡ cpus.old)
+        ⊎ (AreEmpty cpus.old × AreEmpty cpus.new) }
+{
     open_all(alloc, family, kinds, sockets, threshold, cpus)
 }
 

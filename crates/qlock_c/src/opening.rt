@@ -1,4 +1,10 @@
 // New processors.
+ghost use Rattle.std.specs.Prelude.{◌≡◌, ◌≢◌, ◌≤◌, ◌⊎◌, IfOk, length, map, true};
+ghost use Rattle.lk_domain.specs.declared.domain.Domain.{Domain};
+ghost use Rattle.lk_port.specs.Opened.{ArePortsOf};
+ghost use Rattle.qlock_c.specs.Opened.{AreEmpty, AreHandlesOf, AreOpen};
+ghost use Rattle.qlock_c.specs.Opened.{family_numbered, kind_numbered};
+
 use crate::codes::{IN_USE, MEMORY, NO_FAMILY, RANGE, fault_code};
 use crate::processor::{Processor, put, take};
 use lk_abs::{Kind, List, Memory};
@@ -9,7 +15,9 @@ use std::alloc::Global;
 const PV: u32 = 3;
 
 // The family of a number.
-fn family_of(family: u32) -> Option<Family> {
+fn family_of(family: u32) -> Option<Family>
+    ensures { result ≡ family_numbered family }
+{
     match family {
         0 => Some(Family::Virt),
         1 => Some(Family::Native),
@@ -18,13 +26,20 @@ fn family_of(family: u32) -> Option<Family> {
     }
 }
 
+// The kind of a number.
+fn kind_of(kind: u8) -> Kind
+    ensures { result ≡ kind_numbered kind }
+{
+    if kind == 1 { Kind::Rw } else { Kind::Spin }
+}
+
 // The kinds of the locks.
-fn kinds_of(alloc: Global, kinds: &[u8]) -> Result<List<Kind>, Memory> {
-    let mut all = List::filled(alloc, Kind::Spin, kinds.len())?;
+fn kinds_of(alloc: Global, kinds: &[u8]) -> Result<List<Kind>, Memory>
+    ensures { IfOk result (λ all. all.items ≡ map kind_numbered kinds.now) }
+{
+    let mut all = List::new(alloc, kinds.len())?;
     for i in 0..kinds.len() {
-        if kinds[i] == 1 && i < all.len() {
-            *all.get_mut(i) = Kind::Rw;
-        }
+        all.push(kind_of(kinds[i]));
     }
     Ok(all)
 }
@@ -40,7 +55,9 @@ fn are_kinds(kinds: &[u8]) -> bool {
 }
 
 // Whether no handle is in use.
-fn are_empty(cpus: &[Processor]) -> bool {
+fn are_empty(cpus: &[Processor]) -> bool
+    ensures { result ≡ true → AreEmpty cpus.now }
+{
     for i in 0..cpus.len() {
         if cpus[i].used {
             return false;
@@ -50,7 +67,9 @@ fn are_empty(cpus: &[Processor]) -> bool {
 }
 
 // Empties the handles again.
-fn empty_all(alloc: Global, cpus: &mut [Processor]) {
+fn empty_all(alloc: Global, cpus: &mut [Processor])
+    ensures { AreEmpty cpus.new }
+{
     for i in 0..cpus.len() {
         if let Some(port) = take(alloc, &mut cpus[i]) {
             drop(port);
@@ -58,8 +77,13 @@ fn empty_all(alloc: Global, cpus: &mut [Processor]) {
     }
 }
 
-// Puts the ports into the handles, the last one first. False: there is not enough memory.
-fn put_all(alloc: Global, mut ports: Vec<Port>, cpus: &mut [Processor]) -> bool {
+// Puts the ports of a domain into the handles, the last one first. False: there is not enough memory.
+fn put_all(alloc: Global, mut ports: Vec<Port>, cpus: &mut [Processor]) -> bool
+    requires { length ports.items ≡ length cpus.old }
+    ensures many { length cpus.new ≡ length cpus.old }
+    ensures each { result ≡ true → (domain : Domain)
+        → ArePortsOf domain (length cpus.old) ports.items → AreHandlesOf domain cpus.new }
+{
     for i in 0..cpus.len() {
         let Some(port) = ports.pop() else {
             return false;
@@ -80,7 +104,11 @@ pub(crate) fn open_all(
     sockets: &[u32],
     threshold: u32,
     cpus: &mut [Processor],
-) -> u32 {
+) -> u32
+    ensures opened { result ≡ 0 → AreOpen family kinds.now sockets.now threshold cpus.new }
+    ensures refused { result ≢ 0 → (cpus.new ≡ cpus.old)
+        ⊎ (AreEmpty cpus.old × AreEmpty cpus.new) }
+{
     if family == PV {
         return NO_FAMILY;
     }

@@ -1,5 +1,5 @@
 // A processor, as C has it: a handle, and whether it is full. All zeros is an empty one.
-ghost use Rattle.std.specs.Prelude.{◌≡◌, IfSome, Some};
+ghost use Rattle.std.specs.Prelude.{◌≡◌, IfSome, None, Some};
 ghost use Rattle.qlock_c.specs.Own.{is_full};
 
 use crate::handle::Handle;
@@ -19,7 +19,8 @@ pub struct Processor {
 
 // Takes the port out.
 pub(crate) fn take(alloc: Global, cpu: &mut Processor) -> Option<Box<Port, Global>>
-    ensures { IfSome result (λ port. cpu.old.handle.inner ≡ Some port.value) }
+    ensures had { IfSome result (λ port. cpu.old.handle.inner ≡ Some port.value) }
+    ensures empty { cpu.new.handle.inner ≡ None }
 {
     if !cpu.used {
         return None;

@@ -6,7 +6,7 @@ use Rattle.qlock_c.proofs.write.qlock_write_unlock.Goals as goal
 
 pub returns-in-Some : goal.returns-in-Some
 returns-in-Some c ok p has =
-    let is : Some c.in-Some.port.value ≡ Some p = sym c.in-Some.ensures ∙ has in
+    let is : Some c.in-Some.port.value ≡ Some p = sym c.in-Some.ensures.had ∙ has in
     let same : c.in-Some.port.value ≡ p = cc is in
     let new = c.write_unlock-answer.new.self in
     (new, c.put.ensures, subst (λ (q : Port). HasLeft Z2 c.args.lock q new) (c.deref_mut.ensures.value ∙ same) (c.write_unlock-answer.ensures.left (c.code.ensures ok)))
