@@ -1,12 +1,16 @@
-//! Four threads, a queue and a counter under two locks.
+//! Four threads, a queue and a counter under two locks, in each family whose waiters halt no processor.
 //!
-//! Each turn draws a number under one lock and puts it into the queue under the other.
+//! Each turn draws a number under one lock and puts it into the queue under the other. The counter's
+//! lock ranks above the queue's, so no two threads ever wait for each other.
 #![tactic(auto)]
 
 mod turns;
 
+ghost use Rattle.std.specs.Prelude.{◌≡◌, false};
+ghost use Rattle.lk_law.specs.Agree.{halts};
+
 use lk_abs::{Memory, Mode};
-use lk_lock::Locks;
+use lk_ranks::Ranks;
 use std::io;
 use std::sync::Wait;
 use std::thread::Threads;
@@ -24,15 +28,17 @@ fn is_in_order(queue: &[u64]) -> bool {
     ordered
 }
 
-fn run<R: Threads + Wait + Sync + AllocGlobal>(rt: &R) -> Result<bool, Memory> {
-    let mut locks = Locks::new(rt.alloc(), 4)?;
-    let count = locks.spin(0u64)?;
-    let queue = locks.spin(Vec::with_capacity(rt.alloc(), ROOM)?)?;
-    let mut open = locks.open(Mode::Native)?;
+fn run<R: Threads + Wait + Sync + AllocGlobal>(rt: &R, mode: Mode) -> Result<bool, Memory>
+    requires awake { halts mode ≡ false }
+{
+    let mut ranks = Ranks::new(rt.alloc(), 4)?;
+    let queue = ranks.spin(Vec::with_capacity(rt.alloc(), ROOM)?)?;
+    let count = ranks.spin_above(queue.rank(), 0u64)?;
+    let mut open = ranks.open(mode)?;
     let shop = Shop {
         domain: &open.domain,
-        count: &count,
         queue: &queue,
+        count: &count,
     };
     take_all_turns(rt, &mut open.cpus, &shop);
     let Ok(mut keys) = open.close(rt.alloc()) else {
@@ -42,8 +48,15 @@ fn run<R: Threads + Wait + Sync + AllocGlobal>(rt: &R) -> Result<bool, Memory> {
     Ok(count.into_value(&mut keys) == ROOM as u64 && is_in_order(numbers.as_slice()))
 }
 
+fn run_all<R: Threads + Wait + Sync + AllocGlobal>(rt: &R) -> Result<bool, Memory> {
+    let virt = run(rt, Mode::Virt)?;
+    let native = run(rt, Mode::Native)?;
+    let cna = run(rt, Mode::Cna)?;
+    Ok(virt && native && cna)
+}
+
 fn main(rt: HostRuntime) -> io::Result<()> {
-    match run(&rt) {
+    match run_all(&rt) {
         Ok(ordered) => println!(rt; "all in order: {ordered}"),
         Err(_) => println!(rt; "there is not enough memory"),
     }

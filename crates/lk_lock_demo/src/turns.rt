@@ -1,12 +1,13 @@
-// What each thread does: it draws a number under one lock, and puts it into the queue under the other.
-ghost use Rattle.std.specs.Prelude.{◌≡◌, ◌≢◌, length};
+// What each thread does: it draws a number under one lock, inside the other, under which it puts it into the
+// queue.
+ghost use Rattle.std.specs.Prelude.{◌≡◌, ◌<◌, length};
 ghost use Rattle.lk_abs.specs.declared.names.Kind.TheVariants.{Spin as spinning};
 ghost use Rattle.lk_domain.specs.Ends.{AllRest, Rests};
 ghost use Rattle.lk_lock.specs.Standing.{IsUnder};
 
 use lk_abs::List;
 use lk_domain::{Cpu, Domain};
-use lk_lock::{Held, Spin};
+use lk_ranks::RankedSpin;
 use std::sync::Wait;
 use std::thread;
 use std::thread::Threads;
@@ -14,17 +15,18 @@ use std::thread::Threads;
 // How many numbers each thread draws.
 const TURNS: u32 = 1000;
 
-/// What the threads share: a counter and a queue, each under a lock of its own.
+/// What the threads share: a queue and a counter, each under a lock of its own. The counter's ranks
+/// above the queue's.
 #[derive(Drop)]
 pub struct Shop<'a> {
     pub domain: &'a Domain,
-    pub count: &'a Spin<u64>,
-    pub queue: &'a Spin<Vec<u64>>,
-    ghost counts: { IsUnder domain.now.plan spinning count.now.id.index
-        count.now.cell.table.shared.table_id },
-    ghost queues: { IsUnder domain.now.plan spinning queue.now.id.index
-        queue.now.cell.table.shared.table_id },
-    ghost apart: { count.now.id.index ≢ queue.now.id.index },
+    pub queue: &'a RankedSpin<Vec<u64>>,
+    pub count: &'a RankedSpin<u64>,
+    ghost queues: { IsUnder domain.now.plan spinning queue.now.spin.id.index
+        queue.now.spin.cell.table.shared.table_id },
+    ghost counts: { IsUnder domain.now.plan spinning count.now.spin.id.index
+        count.now.spin.cell.table.shared.table_id },
+    ghost order: { queue.now.spin.id.index < count.now.spin.id.index },
 }
 
 // One number.
@@ -33,8 +35,8 @@ fn take_turn<R: Wait>(rt: &R, cpu: &mut Cpu, shop: &Shop<'_>)
     ensures number { cpu.new.number ≡ cpu.old.number }
     ensures rests { Rests shop.now.domain.now cpu.old.number cpu.new }
 {
-    let mut held = Held::lock(cpu, rt, shop.domain, shop.queue);
-    let number = held.with(shop.count, |count: &mut u64| -> u64 {
+    let mut held = shop.queue.lock(cpu, rt, shop.domain);
+    let number = shop.count.with_inside(&mut held, |count: &mut u64| -> u64 {
         *count = count.wrapping_add(1);
         *count
     });
