@@ -1,6 +1,7 @@
 //! The locks of `lk_run` for C. `include/qlock.h` of the library declares these functions, and says
 //! what a caller owes.
 #![tactic(auto)]
+
 ghost use Rattle.std.specs.Prelude.{◌≡◌, ◌≢◌, ◌⊎◌};
 ghost use Rattle.qlock_c.specs.Opened.{AreEmpty, AreOpen};
 
