@@ -1,8 +1,8 @@
 //! native CPUS ROUNDS
 //!
 //! The native lock of docs/ROWS.md in plain Rust, for a comparison of speed: one lock, and processors that acquire and release it so many
-//! times. A state has what a state of `./qlock explore` has, registers that nobody reads any more too, so there are as many. They are met
-//! level by level. It writes how many there are, how many acts lead from one to another, and how many acts the deepest takes.
+//! times. A state has what a state of `./qlock explore` has, and what nobody reads before it is written is at rest, so there are as many.
+//! They are met level by level. It writes how many there are, how many acts lead from one to another, and how many acts the deepest takes.
 use std::env;
 
 const MOST: usize = 8;
@@ -132,6 +132,20 @@ impl State {
         self.cpus[p].row = next;
     }
 
+    /// Sets at rest what no row reads of a processor before one writes it.
+    fn rest(&mut self, p: usize) {
+        let cpu = &mut self.cpus[p];
+        if cpu.row != G5 {
+            cpu.prev = 0;
+        }
+        if cpu.row != G11 {
+            cpu.y = 0;
+        }
+        if !cpu.has_node {
+            (cpu.flag, cpu.next) = (false, 0);
+        }
+    }
+
     fn hash(&self, cpus: usize) -> u64 {
         let mut hash = self.tail as u64 + 16 * self.locked as u64 + 32 * self.pending as u64;
         for cpu in &self.cpus[..cpus] {
@@ -192,6 +206,7 @@ fn main() {
         for p in 0..cpus {
             let mut state = met.states[left];
             state.step(p, rounds);
+            state.rest(p);
             let then = met.note(state);
             if then as usize == levels.len() {
                 levels.push(levels[left] + 1);

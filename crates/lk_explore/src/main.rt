@@ -7,8 +7,7 @@
 ghost use Rattle.std.specs.Prelude.{◌≡◌, ◌<◌, ◌≤◌, ℕ, List, IfOk, length};
 ghost use Rattle.lk_abs.specs.declared.events.Act.{Act as ActValue};
 ghost use Rattle.lk_reach.specs.Reach.{AreMoves, state_after};
-ghost use Rattle.lk_reach.specs.Space.{Knows};
-ghost use Rattle.lk_reach.specs.Explored.{IsGood, IsStart};
+ghost use Rattle.lk_reach.specs.Explored.{IsGood, IsStart, KnowsLike};
 ghost use Rattle.lk_reach.specs.Told.{IsGraph, IsWhole};
 
 mod asked;
@@ -72,7 +71,8 @@ fn explored(alloc: Global, rt: &HostRuntime, asked: &Asked, start: Start) -> Res
     // If the graph is whole, it knows every state that a schedule reaches from there.
     ensures all { IfOk result (λ graph. IsWhole graph → (acts : List ActValue)
         → AreMoves asked.now.extras start.machine.setup acts
-        → Knows graph.space (state_after start.plan start.machine.setup acts)) }
+        → KnowsLike start.plan start.machine.setup graph.space
+            (state_after start.plan start.machine.setup acts)) }
 
     // Every state that it knows is one that a schedule reaches from there.
     ensures only { IfOk result (λ graph. (k : ℕ) → k < length graph.space.keys

@@ -23,7 +23,10 @@ use Rattle.lk_reach.specs.declared.book.Origin.{Origin}
 use Rattle.lk_reach.specs.declared.plan.Extras.{Extras}
 use Rattle.lk_reach.specs.declared.plan.Plan.{Plan}
 use Rattle.lk_reach.specs.Reach.{bare, after, IsMove, AreMoves, IsBegun, IsReached, cpus_of, start_of, state_after}
-use Rattle.lk_reach.specs.Explored.{IsExplored, IsLeft, IsMet, IsSuch}
+use Rattle.lk_reach.specs.Explored.{IsExplored, IsLeft, IsMet, IsSuch, KeepsLike}
+use Rattle.lk_idle.specs.Alike.{AreAlike, GoesOnAlike}
+use Rattle.lk_idle.proofs.Goes.{alike_goes_on}
+use Rattle.lk_reach.proofs.Likeness.{after_alike}
 use Rattle.lk_reach.specs.Space.{SpaceValue, Keeps}
 use Rattle.lk_reach.proofs.Counts.{counts_are_idle}
 use Rattle.lk_reach.proofs.Kept.{keeps_one, one_value}
@@ -183,11 +186,38 @@ module _ (laws : Laws) (plan : Plan) (setup : Setup) (begun : IsBegun plan setup
       keeps_one v k s t a b (one.setup ∙ sym other.setup) (one.counts ∙ sym other.counts)
       (one.cpus ∙ sym other.cpus)
 
+  -- reached states that are alike go on alike
+  pub reached_alike : (s t : Machine) (a : Act) → IsReached plan setup s → IsReached plan setup t → AreAlike s t
+      → GoesOnAlike s t a
+  reached_alike s t a r q alike = alike_goes_on s t a (reached_sound s r) (reached_sound t q) alike
+
+  -- what a number keeps is like what it keeps one like of
+  pub like_is : (v : SpaceValue) (k : ℕ) (s t : Machine) → Keeps v k s → IsReached plan setup s
+      → KeepsLike plan setup v k t → AreAlike s t
+  like_is v k s t keeps reached like =
+      subst (λ (z : Machine). AreAlike z t) (same_state v k like.state s like.keeps keeps like.reached reached) like.alike
+
+  -- one like another is met where that is
+  met_like : (v : SpaceValue) (b : Book) (n : ℕ) (s t : Machine) → AreAlike s t → IsMet plan setup v b n s
+      → IsMet plan setup v b n t
+  met_like v b n s t alike met = record {
+    number = met.number;
+    like = record {
+      state = met.like.state;
+      keeps = met.like.keeps;
+      reached = met.like.reached;
+      alike = met.like.alike ∙ alike;
+    };
+    origin = met.origin;
+    is = met.is;
+    soon = met.soon;
+  }
+
   -- who was met by so many acts was met by at most more
-  pub met_sooner : (v : SpaceValue) (b : Book) (n most : ℕ) (s : Machine) → n ≤ most → IsMet v b n s → IsMet v b most s
+  pub met_sooner : (v : SpaceValue) (b : Book) (n most : ℕ) (s : Machine) → n ≤ most → IsMet plan setup v b n s → IsMet plan setup v b most s
   met_sooner v b n most s low met = record {
     number = met.number;
-    keeps = met.keeps;
+    like = met.like;
     origin = met.origin;
     is = met.is;
     soon = let soon = met.soon in omega (arith, soon, low);
@@ -198,39 +228,45 @@ module _ (laws : Laws) (plan : Plan) (setup : Setup) (begun : IsBegun plan setup
       (all : (k : ℕ) → k < left → IsLeft plan setup v b k)
       (low : (i : ℕ) (o : Origin) → slice_get b.origins.items i ≡ Some o → o.level < most → i < left) where
     one_more : (n : ℕ) (s : Machine) (a : Act) → n < most → IsReached plan setup s → IsMove plan.extras setup a
-        → IsMet v b n s → IsMet v b (n + 1) (after s a)
+        → IsMet plan setup v b n s → IsMet plan setup v b (n + 1) (after s a)
     one_more n s a room reached move met =
         let soon = met.soon in
         let x = all met.number (low met.number met.origin met.is (omega (arith, soon, room))) in
-        let same : x.state ≡ s = same_state v met.number x.state s x.keeps met.keeps x.reached reached in
+        let alike : AreAlike x.state s = like_is v met.number x.state s x.keeps x.reached met.like in
+        let then = after_alike x.state s alike a (reached_alike x.state s a x.reached reached alike) in
         let origin : x.origin ≡ met.origin = one_value (slice_get b.origins.items met.number) x.origin met.origin x.is met.is in
         let level = ap (λ (o : Origin). o.level) origin in
         met_sooner v b (x.origin.level + 1) (n + 1) (after s a) (omega (arith, level, soon))
-        (subst (λ z. IsMet v b (x.origin.level + 1) (after z a)) same (x.next a move).met)
+        (met_like v b (x.origin.level + 1) (after x.state a) (after s a) then (x.next a move).met)
 
     walk : (acts : List Act) (n : ℕ) (m : Machine) → n + length acts ≤ most → AreMoves plan.extras setup acts
-        → IsReached plan setup (bare m) → IsMet v b n (bare m)
-        → IsMet v b (n + length acts) (bare (machine_after m acts))
+        → IsReached plan setup (bare m) → IsMet plan setup v b n (bare m)
+        → IsMet plan setup v b (n + length acts) (bare (machine_after m acts))
     walk [] n m room moves reached here = met_sooner v b n (n + 0) (bare m) (omega arith) here
     walk (a ∷ acts) n m room moves reached here =
         let e = (counts_are_idle m a).0 in
         let met = one_more n (bare m) a (omega (arith, room)) reached moves.0 here in
         let rest = walk acts (n + 1) (next m a).0 (omega (arith, room)) moves.1
         (subst (IsReached plan setup) e (reached_then (bare m) a reached moves.0))
-        (subst (λ z. IsMet v b (n + 1) z) e met) in
+        (subst (λ z. IsMet plan setup v b (n + 1) z) e met) in
         met_sooner v b (n + 1 + length acts) (n + length (a ∷ acts)) (bare (machine_after (next m a).0 acts))
         (omega arith) rest
 
   pub all_met : (v : SpaceValue) (b : Book) (left : ℕ) → IsExplored plan setup v b left → (acts : List Act)
       → AreMoves plan.extras setup acts
       → ((i : ℕ) (o : Origin) → slice_get b.origins.items i ≡ Some o → o.level < length acts → i < left)
-      → IsMet v b (length acts) (state_after plan setup acts)
+      → IsMet plan setup v b (length acts) (state_after plan setup acts)
   all_met v b left x acts moves low =
       let level = x.first.level in
       met_sooner v b (0 + length acts) (length acts) (state_after plan setup acts) (omega arith)
       (walk v b left (length acts) x.left low acts 0 (start_of plan setup) (omega arith) moves reached_start (record {
         number = 0;
-        keeps = x.first.keeps;
+        like = record {
+          state = bare (start_of plan setup);
+          keeps = x.first.keeps;
+          reached = reached_start;
+          alike = refl;
+        };
         origin = x.first.origin;
         is = x.first.is;
         soon = omega (arith, level);
@@ -239,7 +275,7 @@ module _ (laws : Laws) (plan : Plan) (setup : Setup) (begun : IsBegun plan setup
   -- where every state was left
   pub whole_met : (v : SpaceValue) (b : Book) (left : ℕ) → IsExplored plan setup v b left
       → left ≡ length v.keys → (acts : List Act) → AreMoves plan.extras setup acts
-      → IsMet v b (length acts) (state_after plan setup acts)
+      → IsMet plan setup v b (length acts) (state_after plan setup acts)
   whole_met v b left x whole acts moves =
       let count = x.count in
       all_met v b left x acts moves
@@ -279,12 +315,12 @@ module _ (laws : Laws) (plan : Plan) (setup : Setup) (begun : IsBegun plan setup
   pub no_sooner : (v : SpaceValue) (b : Book) (left : ℕ) → IsExplored plan setup v b left → left ≤ length v.keys
       → (k : ℕ) (o : Origin) → slice_get b.origins.items k ≡ Some o → (acts : List Act)
       → AreMoves plan.extras setup acts → length acts < o.level
-      → (j : ℕ) × (j < k) × Keeps v j (state_after plan setup acts)
+      → (j : ℕ) × (j < k) × KeepsLike plan setup v j (state_after plan setup acts)
   no_sooner v b left x within k o at acts moves short =
       let met = all_met v b left x acts moves (soon_left v b left (length acts) x within
       (λ p here. let near = x.near k o p at here in omega (arith, near, short))) in
       let soon = met.soon in
-      (met.number, before met.number met.origin met.is (omega (arith, soon, short)), met.keeps)
+      (met.number, before met.number met.origin met.is (omega (arith, soon, short)), met.like)
     where
       before : (j : ℕ) (p : Origin) → slice_get b.origins.items j ≡ Some p → p.level < o.level → j < k
       before j p is less =

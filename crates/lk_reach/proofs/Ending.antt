@@ -11,12 +11,14 @@ use Rattle.lk_reach.specs.declared.book.Edge.{Edge}
 use Rattle.lk_reach.specs.declared.graph.Graph.{Graph}
 use Rattle.lk_reach.specs.Ends.{AreDoomed, AreEnds, AreFinishing, AreStuck, AreTurned, CanFinish, IsClosed, IsFirst, IsMarkedOnly, IsPassed}
 use Rattle.lk_reach.specs.Ends.{IsShortestToDoom, IsShortestToEnd, IsState, IsStuck, IsWayToStuck, NobodyIsDoomed}
-use Rattle.lk_reach.specs.Explored.{HasEdge}
-use Rattle.lk_reach.specs.Reach.{AreMoves, AreOver, IsMove, after, run, state_after}
+use Rattle.lk_idle.specs.Alike.{AreAlike}
+use Rattle.lk_reach.specs.Explored.{HasEdge, KeepsLike}
+use Rattle.lk_reach.specs.Reach.{AreMoves, AreOver, IsMove, IsReached, after, run, state_after}
 use Rattle.lk_reach.specs.Space.{Keeps}
 use Rattle.lk_reach.specs.Told.{IsGraph, IsWay, IsWhole}
 use Rattle.lk_reach.proofs.Kept.{one_value}
-use Rattle.lk_reach.proofs.Closed.{Laws, no_sooner, reached_such, reached_then, same_state, whole_met}
+use Rattle.lk_reach.proofs.Closed.{Laws, like_is, no_sooner, reached_alike, reached_such, reached_then, same_state, whole_met}
+use Rattle.lk_reach.proofs.Likeness.{after_alike, over_alike}
 
 -- the marks so far say whether everybody is done
 pub record EndsSo (g : Graph) (marks : List Bool) : Type 0 where
@@ -64,23 +66,53 @@ module _ (laws : Laws) (g : Graph) (is : IsGraph g) where
     ];
   }
 
+  -- the same acts lead from reached states that are alike to states that are
+  run_alike : (acts : List Act) (s t : Machine) → IsReached g.plan g.machine.setup s
+      → IsReached g.plan g.machine.setup t → AreMoves g.plan.extras g.machine.setup acts → AreAlike s t
+      → AreAlike (run s acts) (run t acts)
+  run_alike [] s t r q moves alike = alike
+  run_alike (a ∷ acts) s t r q moves alike =
+      run_alike acts (after s a) (after t a) (reached_then laws g.plan g.machine.setup is.begun s a r moves.0)
+      (reached_then laws g.plan g.machine.setup is.begun t a q moves.0) moves.1
+      (after_alike s t alike a (reached_alike laws g.plan g.machine.setup is.begun s t a r q alike))
+
+  -- so they finish from both
+  can_alike : (s t : Machine) → IsReached g.plan g.machine.setup s → IsReached g.plan g.machine.setup t
+      → AreAlike s t → CanFinish g s → CanFinish g t
+  can_alike s t r q alike can = record {
+    acts = can.acts;
+    moves = can.moves;
+    over = over_alike (run s can.acts) (run t can.acts) (run_alike can.acts s t r q can.moves alike) can.over;
+  }
+
+  -- the state of a number that keeps one like this
+  state_like : (k : ℕ) (s : Machine) (like : KeepsLike g.plan g.machine.setup g.space k s)
+      → IsState g k like.state
+  state_like k s like = record { keeps = like.keeps; reached = like.reached }
+
   -- a state that no edge leaves, and at which not everybody is done
   pub stuck_at : (k : ℕ) → k < g.left → ((i : ℕ) (e : Edge) → slice_get g.book.edges.items i ≡ Some e → e.state ≢ k)
       → (s : Machine) → IsState g k s → ¬ AreOver s → IsStuck g s
   stuck_at k low none s x waits = record { still = still; waits = waits }
     where
-      still : (a : Act) → IsMove g.plan.extras g.machine.setup a → after s a ≡ s
-      still a move =
+      step : (a : Act) → IsMove g.plan.extras g.machine.setup a → AreAlike (after s a) s
+      step a move =
           let l = is.explored.left k low in
           let same : l.state ≡ s = same_state laws g.plan g.machine.setup is.begun g.space k l.state s l.keeps x.keeps l.reached x.reached in
           let tried = l.next a move in
           elim tried.edge [
-            | inl e ↦ same_state laws g.plan g.machine.setup is.begun g.space k (after s a) s
-                (subst (λ z. Keeps g.space k (after z a)) same
-                (subst (λ (h : ℕ). Keeps g.space h (after l.state a)) e tried.met.keeps))
-                x.keeps (reached_then laws g.plan g.machine.setup is.begun s a x.reached move) x.reached
+            | inl e ↦ subst (λ z. AreAlike (after z a) s) same
+                (sym (like_is laws g.plan g.machine.setup is.begun g.space tried.met.number s (after l.state a)
+                (subst (λ (h : ℕ). Keeps g.space h s) (sym e) x.keeps) x.reached tried.met.like))
             | inr e ↦ absurd (none e.0 e.1 e.2 e.3)
           ]
+
+      still : (acts : List Act) → AreMoves g.plan.extras g.machine.setup acts → AreAlike (run s acts) s
+      still [] moves = refl
+      still (a ∷ acts) moves =
+          run_alike acts (after s a) s (reached_then laws g.plan g.machine.setup is.begun s a x.reached moves.0)
+          x.reached moves.1 (step a moves.0)
+          ∙ still acts moves.1
 
   -- an edge to a state from which some schedule finishes
   pub finish_more : (i : ℕ) (e : Edge) → slice_get g.book.edges.items i ≡ Some e
@@ -88,10 +120,11 @@ module _ (laws : Laws) (g : Graph) (is : IsGraph g) where
   finish_more i e here can s x =
       let edge = is.explored.edges i e here in
       let same : edge.state ≡ s = same_state laws g.plan g.machine.setup is.begun g.space e.state edge.state s edge.keeps x.keeps edge.reached x.reached in
-      let rest = can (after s edge.act) (record {
-        keeps = subst (λ z. Keeps g.space e.then (after z edge.act)) same edge.leads;
-        reached = reached_then laws g.plan g.machine.setup is.begun s edge.act x.reached edge.move;
-      }) in
+      let like = edge.leads in
+      let rest = can_alike like.state (after s edge.act) like.reached
+      (reached_then laws g.plan g.machine.setup is.begun s edge.act x.reached edge.move)
+      (subst (λ z. AreAlike like.state (after z edge.act)) same like.alike)
+      (can like.state (state_like e.then (after edge.state edge.act) like)) in
       record { acts = edge.act ∷ rest.acts; moves = (edge.move, rest.moves); over = rest.over }
 
   -- one edge more is passed
@@ -143,17 +176,19 @@ module _ (laws : Laws) (g : Graph) (is : IsGraph g) where
         let same : l.state ≡ s = same_state laws g.plan g.machine.setup is.begun g.space k l.state s l.keeps x.keeps l.reached x.reached in
         let tried = l.next a moves.0 in
         let j = tried.met.number in
-        let to : IsState g j (after s a) = record {
-          keeps = subst (λ z. Keeps g.space j (after z a)) same tried.met.keeps;
-          reached = reached_then laws g.plan g.machine.setup is.begun s a x.reached moves.0;
-        } in
-        doomed_at acts j (off_too j to tried.edge) (after s a) to moves.1
+        let like = tried.met.like in
+        let to = state_like j (after l.state a) like in
+        let there = reached_then laws g.plan g.machine.setup is.begun s a x.reached moves.0 in
+        let alike = subst (λ z. AreAlike like.state (after z a)) same like.alike in
+        λ over. doomed_at acts j (off_too j like.state to tried.edge) like.state to moves.1
+        (over_alike (run (after s a) acts) (run like.state acts)
+        (run_alike acts (after s a) like.state there like.reached moves.1 (sym alike)) over)
       where
         apart : slice_get marks k ≡ Some true → ⊥
         apart here = cc
 
-        off_too : (j : ℕ) → IsState g j (after s a) → ((j ≡ k) ⊎ HasEdge g.book k j) → slice_get marks j ≡ Some false
-        off_too j to edge = elim edge [
+        off_too : (j : ℕ) (t : Machine) → IsState g j t → ((j ≡ k) ⊎ HasEdge g.book k j) → slice_get marks j ≡ Some false
+        off_too j t to edge = elim edge [
           | inl e ↦ subst (λ (h : ℕ). slice_get marks h ≡ Some false) (sym e) off
           | inr e ↦
               let inside = slice_get_within g.space.keys j to.keeps.key to.keeps.is in
@@ -181,7 +216,7 @@ module _ (laws : Laws) (g : Graph) (is : IsGraph g) where
 
   sooner : (k : ℕ) (acts others : List Act) → IsWay g k acts → AreMoves g.plan.extras g.machine.setup others
       → length others < length acts
-      → (j : ℕ) × (j < k) × Keeps g.space j (state_after g.plan g.machine.setup others)
+      → (j : ℕ) × (j < k) × KeepsLike g.plan g.machine.setup g.space j (state_after g.plan g.machine.setup others)
   sooner k acts others to moves less =
       let count = to.count in
       no_sooner laws g.plan g.machine.setup is.begun g.space g.book g.left is.explored is.within
@@ -208,8 +243,9 @@ module _ (laws : Laws) (g : Graph) (is : IsGraph g) where
           | inl less ↦
               let before = sooner k acts others to moves less in
               let t = state_after g.plan g.machine.setup others in
-              absurd (ends.no before.0 (off_below marks k before.0 t ends.count first before.1 before.2) t
-              (state_of before.0 others moves before.2) over)
+              let like = before.2 in
+              absurd (ends.no before.0 (off_below marks k before.0 like.state ends.count first before.1 like.keeps)
+              like.state (state_like before.0 t like) (over_alike t like.state (sym like.alike) over))
         ];
   }
 
@@ -224,8 +260,11 @@ module _ (laws : Laws) (g : Graph) (is : IsGraph g) where
           | inl less ↦
               let before = sooner k acts others to moves less in
               let t = state_after g.plan g.machine.setup others in
-              let can = doomed.no before.0 (off_below marks k before.0 t doomed.count first before.1 before.2) t
-              (state_of before.0 others moves before.2) in
+              let like = before.2 in
+              let can = can_alike like.state t like.reached (record { acts = others; moves = moves; there = refl })
+              like.alike (doomed.no before.0
+              (off_below marks k before.0 like.state doomed.count first before.1 like.keeps)
+              like.state (state_like before.0 t like)) in
               absurd (lost can.acts can.moves can.over)
         ];
   }
@@ -250,17 +289,22 @@ module _ (laws : Laws) (g : Graph) (is : IsGraph g) where
   pub no_end : (marks : List Bool) → AreEnds g marks → ((k : ℕ) → slice_get marks k ≡ Some true → ⊥) → IsWhole g
       → (acts : List Act) → AreMoves g.plan.extras g.machine.setup acts
       → ¬ AreOver (state_after g.plan g.machine.setup acts)
-  no_end marks ends none whole acts moves =
+  no_end marks ends none whole acts moves over =
       let met = whole_met laws g.plan g.machine.setup is.begun g.space g.book g.left is.explored whole acts moves in
       let t = state_after g.plan g.machine.setup acts in
-      ends.no met.number (off_at marks met.number t ends.count none met.keeps) t (state_of met.number acts moves met.keeps)
+      let like = met.like in
+      ends.no met.number (off_at marks met.number like.state ends.count none like.keeps) like.state
+      (state_like met.number t like) (over_alike t like.state (sym like.alike) over)
 
   pub no_doom : (marks : List Bool) → AreDoomed g marks → ((k : ℕ) → slice_get marks k ≡ Some true → ⊥) → IsWhole g
       → NobodyIsDoomed g
   no_doom marks doomed none whole acts moves =
       let met = whole_met laws g.plan g.machine.setup is.begun g.space g.book g.left is.explored whole acts moves in
       let t = state_after g.plan g.machine.setup acts in
-      doomed.no met.number (off_at marks met.number t doomed.count none met.keeps) t (state_of met.number acts moves met.keeps)
+      let like = met.like in
+      can_alike like.state t like.reached (record { acts = acts; moves = moves; there = refl }) like.alike
+      (doomed.no met.number (off_at marks met.number like.state doomed.count none like.keeps) like.state
+      (state_like met.number t like))
 
 -- who is done can finish
 pub finishing : (g : Graph) (marks : List Bool) → AreEnds g marks → AreFinishing g marks

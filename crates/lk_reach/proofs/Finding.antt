@@ -14,7 +14,9 @@ use Rattle.lk_reach.specs.Reach.{AreMoves, IsBegun, IsReached, cpus_of, state_af
 use Rattle.lk_reach.specs.Seeking.{IsFirstDeed, NameCpus, NoneAt}
 use Rattle.lk_reach.specs.Space.{Keeps}
 use Rattle.lk_reach.specs.Told.{IsGraph, IsWay, IsWhole}
-use Rattle.lk_reach.proofs.Closed.{Laws, move_in_range, no_sooner, reached_sound, reached_such, whole_met}
+use Rattle.lk_idle.specs.Alike.{AreAlike}
+use Rattle.lk_reach.proofs.Closed.{Laws, move_in_range, no_sooner, reached_alike, reached_sound, reached_such, whole_met}
+use Rattle.lk_reach.proofs.Likeness.{sought_alike}
 use Rattle.lk_reach.proofs.Kept.{one_value}
 
 -- another machine of the setup
@@ -50,6 +52,12 @@ module _ (laws : Laws) (g : Graph) (is : IsGraph g) where
       → IsSuch g.machine.setup (state_after g.plan g.machine.setup acts)
   such_of acts moves = reached_such laws g.plan g.machine.setup is.begun (state_after g.plan g.machine.setup acts) (reached acts moves)
 
+  -- what an act does on a state, it does on one that is like it
+  sought_like : (sought : Sought) (s t : Machine) → IsReached g.plan g.machine.setup s
+      → IsReached g.plan g.machine.setup t → AreAlike s t → (a : Act) → IsSought sought s a → IsSought sought t a
+  sought_like sought s t r q alike a does =
+      sought_alike s t alike a (reached_alike laws g.plan g.machine.setup is.begun s t a r q alike) sought does
+
   pub all_stepped : (k : ℕ) → k < length g.space.keys → IsStepped g.machine.setup g.space k
   all_stepped k low = let good = is.explored.good k low in record {
     state = good.state;
@@ -79,8 +87,11 @@ module _ (laws : Laws) (g : Graph) (is : IsGraph g) where
                   let sooner = no_sooner laws g.plan g.machine.setup is.begun g.space g.book g.left is.explored is.within
                   k to.origin to.is others moves (omega (arith, less, count)) in
                   let at = is.acts.all other move in
-                  absurd (found.first sooner.0 sooner.1 at.0 other at.1 (state_after g.plan g.machine.setup others) sooner.2
-                  (such_of others moves) does)
+                  let like = sooner.2 in
+                  let t = state_after g.plan g.machine.setup others in
+                  absurd (found.first sooner.0 sooner.1 at.0 other at.1 like.state like.keeps
+                  (reached_such laws g.plan g.machine.setup is.begun like.state like.reached)
+                  (sought_like sought t like.state (reached others moves) like.reached (sym like.alike) other does))
             ];
       }
 
@@ -90,5 +101,8 @@ module _ (laws : Laws) (g : Graph) (is : IsGraph g) where
   never_done sought none whole acts last moves move does =
       let met = whole_met laws g.plan g.machine.setup is.begun g.space g.book g.left is.explored whole acts moves in
       let at = is.acts.all last move in
-      none met.number (slice_get_within g.space.keys met.number met.keeps.key met.keeps.is) at.0 last at.1
-      (state_after g.plan g.machine.setup acts) met.keeps (such_of acts moves) does
+      let like = met.like in
+      let t = state_after g.plan g.machine.setup acts in
+      none met.number (slice_get_within g.space.keys met.number like.keeps.key like.keeps.is) at.0 last at.1
+      like.state like.keeps (reached_such laws g.plan g.machine.setup is.begun like.state like.reached)
+      (sought_like sought t like.state (reached acts moves) like.reached (sym like.alike) last does)

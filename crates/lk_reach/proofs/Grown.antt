@@ -15,7 +15,7 @@ use Rattle.lk_reach.specs.Reach.{after}
 use Rattle.lk_reach.specs.Space.{SpaceValue, Grows, IsFront}
 use Rattle.lk_reach.specs.Explored.{AddsEdge, AddsOrigin, Continues, HasEdge}
 use Rattle.lk_reach.specs.Explored.{IsAct, IsEdge, IsGood, IsLeft, IsMet}
-use Rattle.lk_reach.specs.Explored.{IsOrigin, IsTelling, IsTried}
+use Rattle.lk_reach.specs.Explored.{IsOrigin, IsTelling, IsTried, KeepsLike}
 use Rattle.lk_reach.specs.Explored.{Writes}
 use Rattle.lk_reach.proofs.Kept.{front_at, front_self, keeps_grown}
 
@@ -83,6 +83,15 @@ module _ (plan : Plan) (setup : Setup) where
     reached = x.reached;
   }
 
+  abbrev pub like_grown : (v w : SpaceValue) → Grows v w → (k : ℕ) (s : Machine) → KeepsLike plan setup v k s
+      → KeepsLike plan setup w k s
+  like_grown v w g k s x = record {
+    state = x.state;
+    keeps = keeps_grown v w g k x.state x.keeps;
+    reached = x.reached;
+    alike = x.alike;
+  }
+
   pub edge_grown : (v w : SpaceValue) → Grows v w → (k j : ℕ) → IsEdge plan setup v k j → IsEdge plan setup w k j
   edge_grown v w g k j x = record {
     state = x.state;
@@ -90,7 +99,7 @@ module _ (plan : Plan) (setup : Setup) where
     reached = x.reached;
     act = x.act;
     move = x.move;
-    leads = keeps_grown v w g j (after x.state x.act) x.leads;
+    leads = like_grown v w g j (after x.state x.act) x.leads;
   }
 
   module _ (v w : SpaceValue) (g : Grows v w) (b c : Book) (more : Continues b c) where
@@ -121,16 +130,16 @@ module _ (plan : Plan) (setup : Setup) where
       is = x.is;
     }
 
-    abbrev pub met_grown : (n : ℕ) (s : Machine) → IsMet v b n s → IsMet w c n s
+    abbrev pub met_grown : (n : ℕ) (s : Machine) → IsMet plan setup v b n s → IsMet plan setup w c n s
     met_grown n s x = record {
       number = x.number;
-      keeps = keeps_grown v w g x.number s x.keeps;
+      like = like_grown v w g x.number s x.like;
       origin = x.origin;
       is = front_at b.origins.items c.origins.items more.origins x.number x.origin x.is;
       soon = x.soon;
     }
 
-    pub tried_grown : (k n : ℕ) (s : Machine) (a : Act) → IsTried v b k n s a → IsTried w c k n s a
+    pub tried_grown : (k n : ℕ) (s : Machine) (a : Act) → IsTried plan setup v b k n s a → IsTried plan setup w c k n s a
     tried_grown k n s a x = record {
       met = met_grown n (after s a) x.met;
       edge = elim x.edge [

@@ -9,12 +9,13 @@ use Rattle.lk_rows.specs.Machine.{Machine}
 use Rattle.lk_rows.specs.Run.{machine_after}
 use Rattle.lk_reach.specs.declared.book.Origin.{Origin}
 use Rattle.lk_reach.specs.declared.graph.Graph.{Graph}
-use Rattle.lk_reach.specs.Explored.{IsOrigin, IsTold}
+use Rattle.lk_reach.specs.Explored.{IsOrigin, IsTold, KeepsLike}
 use Rattle.lk_reach.specs.Reach.{AreMoves, IsReached, MakesRow, after, bare, run, start_of, state_after}
 use Rattle.lk_reach.specs.Space.{Keeps}
 use Rattle.lk_reach.specs.Told.{IsBefore, IsGraph, IsNever, IsShortestToEvent, IsShortestToRow, IsWay, IsWhole, Tells}
 use Rattle.lk_rows.specs.declared.parts.Pc.{Pc}
-use Rattle.lk_reach.proofs.Closed.{Laws, all_met, no_sooner, reached_start, reached_such, reached_then, same_state, soon_left, whole_met}
+use Rattle.lk_reach.proofs.Closed.{Laws, all_met, like_is, no_sooner, reached_alike, reached_start, reached_such, reached_then, same_state, soon_left, whole_met}
+use Rattle.lk_reach.proofs.Likeness.{makes_alike}
 use Rattle.lk_reach.proofs.Counts.{counts_are_idle}
 use Rattle.lk_abs.proofs.ByIndex.{get_cases}
 use Rattle.lk_reach.proofs.Kept.{one_value}
@@ -96,6 +97,12 @@ module _ (laws : Laws) (g : Graph) (is : IsGraph g) where
       (reached_such laws g.plan g.machine.setup is.begun (state_after g.plan g.machine.setup acts)
       (record { acts = acts; moves = moves; there = refl })).cpus ∙ sym is.cpus
 
+  -- and so has the state that a number keeps
+  cpus_of_like : (k : ℕ) (s : Machine) (x : KeepsLike g.plan g.machine.setup g.space k s)
+      → length x.state.cpus ≡ g.cpus
+  cpus_of_like k s x =
+      (reached_such laws g.plan g.machine.setup is.begun x.state x.reached).cpus ∙ sym is.cpus
+
   -- the first state at which a step makes the row
   pub shortest_row : (k : ℕ) (row : Pc) (acts : List Act) → IsWay g k acts
       → ((s : Machine) → Keeps g.space k s → length s.cpus ≡ g.cpus → MakesRow s row)
@@ -110,8 +117,10 @@ module _ (laws : Laws) (g : Graph) (is : IsGraph g) where
               let count = to.count in
               let sooner = no_sooner laws g.plan g.machine.setup is.begun g.space g.book g.left is.explored is.within
               k to.origin to.is others moves (omega (arith, less, count)) in
-              absurd (first sooner.0 sooner.1 (state_after g.plan g.machine.setup others) sooner.2
-              (cpus_of_reached others moves) made)
+              let like = sooner.2 in
+              let t = state_after g.plan g.machine.setup others in
+              absurd (first sooner.0 sooner.1 like.state like.keeps (cpus_of_like sooner.0 t like)
+              (makes_alike t like.state (sym like.alike) row made))
           | inr not_so ↦ omega (arith, not_so)
         ];
   }
@@ -121,9 +130,12 @@ module _ (laws : Laws) (g : Graph) (is : IsGraph g) where
       → ((k : ℕ) (s : Machine) → Keeps g.space k s → length s.cpus ≡ g.cpus → ¬ MakesRow s row)
       → (acts : List Act) → AreMoves g.plan.extras g.machine.setup acts
       → ¬ MakesRow (state_after g.plan g.machine.setup acts) row
-  no_row row whole none acts moves =
+  no_row row whole none acts moves made =
       let met = whole_met laws g.plan g.machine.setup is.begun g.space g.book g.left is.explored whole acts moves in
-      none met.number (state_after g.plan g.machine.setup acts) met.keeps (cpus_of_reached acts moves)
+      let like = met.like in
+      let t = state_after g.plan g.machine.setup acts in
+      none met.number like.state like.keeps (cpus_of_like met.number t like)
+      (makes_alike t like.state (sym like.alike) row made)
 
   -- and each state that was met has an origin
   pub way_to : (k : ℕ) (acts : List Act) → k < length g.space.keys → LeadsOn g 0 k acts → IsWay g k acts
@@ -162,10 +174,11 @@ module _ (laws : Laws) (g : Graph) (is : IsGraph g) where
       (λ i o at few. low i o at (omega (arith, few))) in
       let soon = met.soon in
       let l = is.explored.left met.number (low met.number met.origin met.is (omega (arith, soon))) in
-      let same : l.state ≡ s = same_state laws g.plan g.machine.setup is.begun g.space met.number l.state s l.keeps met.keeps
-      l.reached (record { acts = acts; moves = t.moves; there = refl }) in
+      let alike = like_is laws g.plan g.machine.setup is.begun g.space met.number l.state s l.keeps l.reached met.like in
+      let goes = reached_alike laws g.plan g.machine.setup is.begun l.state s a l.reached
+      (record { acts = acts; moves = t.moves; there = refl }) alike in
       let level = ap (λ (q : Origin). q.level) (one_value (slice_get g.book.origins.items met.number) l.origin met.origin l.is met.is) in
-      let told = (l.next a t.move).told t.event (subst (λ (z : Machine). (next z a).1 ≡ Some t.event) (sym same) t.tells) in
+      let told = (l.next a t.move).told t.event (goes.tells ∙ t.tells) in
       let high = told.soon in
       record {
         origin = told.origin;

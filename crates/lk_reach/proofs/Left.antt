@@ -21,6 +21,8 @@ use Rattle.lk_reach.specs.Space.{SpaceValue, Keeps, Grows, IsLoadable}
 use Rattle.lk_reach.specs.Explored.{AreAllMoves, Continues}
 use Rattle.lk_reach.specs.Explored.{IsAct, IsEdge, IsExplored, IsGood, IsHalfLeft, IsLeft}
 use Rattle.lk_reach.specs.Explored.{IsNew, IsOrigin, IsStepped, IsSuch, IsTelling, IsTried}
+use Rattle.lk_reach.specs.Explored.{KeepsLike}
+use Rattle.lk_idle.specs.Alike.{AreAlike}
 use Rattle.lk_reach.specs.Explored.{Writes}
 use Rattle.lk_reach.proofs.Kept.{front_at, front_self, front_then, keeps_grown, keeps_one, one_value}
 use Rattle.lk_reach.proofs.Grown.{continues, edge_cases, edge_grown, edge_there, good_grown, left_grown, origin_cases, origin_grown, telling_grown, tried_grown}
@@ -89,7 +91,11 @@ pub record IsMade (plan : Plan) (setup : Setup) (v w : SpaceValue) (b c : Book) 
   pub event : Option Event
   pub move : IsMove plan.extras setup a
   pub doing : slice_get plan.acts.items number ≡ Some a
-  pub kept : (s : Machine) → Keeps v k s → IsSuch setup s → Keeps w then (after s a)
+  pub there : then < length w.keys
+  pub kept : (s : Machine) → Keeps v k s → IsSuch setup s → (t : Machine) → Keeps w then t → IsSuch setup t
+      → AreAlike t (after s a)
+  pub new : (i : ℕ) → length v.keys ≤ i → i < length w.keys → (s : Machine) → Keeps v k s → IsSuch setup s
+      → Keeps w i (after s a)
   pub told : (s : Machine) → Keeps v k s → IsSuch setup s → event ≡ (next s a).1
   pub one : (i : ℕ) → length v.keys ≤ i → i < length w.keys → i ≡ then
   pub writes : Writes b c k number then event
@@ -180,12 +186,32 @@ module _ (plan : Plan) (setup : Setup) where
     abbrev origin : Origin
     origin = made.writes.origin
 
-    leads : Keeps w made.then (after half.state a)
-    leads = made.kept half.state half.keeps such
+    -- a new number is that of the state itself
+    good : (i : ℕ) → i < length w.keys → IsGood plan setup w i
+    good i low =
+        elim (cases_lt i (length v.keys)) [
+          | inl old ↦ good_grown plan setup v w made.grows i (x.good i old)
+          | inr new ↦ record {
+            state = after half.state a;
+            keeps = made.new i new low half.state half.keeps such;
+            reached = reached_then laws plan setup begun half.state a half.reached made.move;
+          }
+        ]
+
+    leads : KeepsLike plan setup w made.then (after half.state a)
+    leads =
+        let to = good made.then made.there in
+        record {
+          state = to.state;
+          keeps = to.keeps;
+          reached = to.reached;
+          alike = made.kept half.state half.keeps such to.state to.keeps
+              (reached_such laws plan setup begun to.state to.reached);
+        }
 
     -- the new number is the next one
     then_low : made.then < length w.keys
-    then_low = slice_get_within w.keys made.then leads.key leads.is
+    then_low = made.there
 
     count : length c.origins.items ≡ length w.keys
     count =
@@ -259,27 +285,19 @@ module _ (plan : Plan) (setup : Setup) where
         is = front_at b.origins.items c.origins.items more.origins 0 x.first.origin x.first.is;
         level = x.first.level;
       };
-      good = λ i low.
-          elim (cases_lt i (length v.keys)) [
-            | inl old ↦ good_grown plan setup v w made.grows i (x.good i old)
-            | inr new ↦ subst (λ (h : ℕ). IsGood plan setup w h) (sym (made.one i new low)) (record {
-              state = after half.state a;
-              keeps = leads;
-              reached = reached_then laws plan setup begun half.state a half.reached made.move;
-            })
-          ];
+      good = good;
       origins = λ i o here up.
           elim (origin_cases b.origins.items c.origins.items made.then origin made.writes.origins i o here) [
             | inl old ↦ origin_grown plan setup v w made.grows b c more o i (x.origins i o old up)
             | inr new ↦
                 let from = made.writes.next.from in
                 let low = old_low in
-                let at = new.0 in
+                let size = x.count in
                 subst (λ (p : Origin). IsOrigin plan setup w c p i) (sym new.2)
                 (subst (λ (h : ℕ). IsOrigin plan setup w c origin h) (new.1 ∙ sym new.0) (record {
                   made = made_act;
                   low = omega (arith, from, low, new.1);
-                  leads = leads;
+                  leads = made.new made.then (omega (arith, size, new.1)) made.there half.state half.keeps such;
                 }))
           ];
       sorted = λ i j o p here there before.
@@ -334,13 +352,13 @@ module _ (plan : Plan) (setup : Setup) where
       left = λ i low. left_grown plan setup v w made.grows b c more i (x.left i low);
     }
 
-    tried : IsTried w c k (half.origin.level + 1) half.state a
+    tried : IsTried plan setup w c k (half.origin.level + 1) half.state a
     tried =
         let o = has_origin w c k made.then explored_then then_low in
         record {
           met = record {
             number = made.then;
-            keeps = leads;
+            like = leads;
             origin = o.0;
             is = o.1;
             soon = low_level made.then o.0 o.1;
@@ -363,7 +381,7 @@ module _ (plan : Plan) (setup : Setup) where
             | inl e ↦
                 let same : a ≡ d = one_value (slice_get plan.acts.items number) a d made.doing
                 (subst (λ (h : ℕ). slice_get plan.acts.items h ≡ Some d) e here) in
-                subst (λ z. IsTried w c k (half.origin.level + 1) half.state z) same tried
+                subst (λ z. IsTried plan setup w c k (half.origin.level + 1) half.state z) same tried
             | inr ne ↦
                 tried_grown plan setup v w made.grows b c more k (half.origin.level + 1) half.state d
                 (half.next i d (omega (arith, low, ne)) here)

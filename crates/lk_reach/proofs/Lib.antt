@@ -1,6 +1,8 @@
 pub mod Counts
+pub mod Likeness
 pub mod Closed
 pub mod Kept
+pub mod Formed
 pub mod Grown
 pub mod Left
 pub mod Moves

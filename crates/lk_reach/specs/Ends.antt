@@ -4,7 +4,8 @@ use Rattle.lk_abs.specs.declared.events.Act.{Act}
 use Rattle.lk_rows.specs.Machine.{Machine}
 use Rattle.lk_reach.specs.declared.book.Edge.{Edge}
 use Rattle.lk_reach.specs.declared.graph.Graph.{Graph}
-use Rattle.lk_reach.specs.Reach.{AreMoves, AreOver, IsMove, IsReached, after, run, state_after}
+use Rattle.lk_reach.specs.Reach.{AreMoves, AreOver, IsReached, run, state_after}
+use Rattle.lk_idle.specs.Alike.{AreAlike}
 use Rattle.lk_reach.specs.Space.{Keeps}
 
 -- the number is that of this state, which a schedule reaches
@@ -18,9 +19,9 @@ pub record AreEnds (g : Graph) (marks : List Bool) : Type 0 where
   pub yes : (k : ℕ) → slice_get marks k ≡ Some true → (s : Machine) → IsState g k s → AreOver s
   pub no : (k : ℕ) → slice_get marks k ≡ Some false → (s : Machine) → IsState g k s → ¬ AreOver s
 
--- every act leaves the state as it is, and not everybody is done
+-- whatever acts follow, the state stays as it is but for what nobody reads, and not everybody is done
 pub record IsStuck (g : Graph) (s : Machine) : Type 0 where
-  pub still : (a : Act) → IsMove g.plan.extras g.machine.setup a → after s a ≡ s
+  pub still : (acts : List Act) → AreMoves g.plan.extras g.machine.setup acts → AreAlike (run s acts) s
   pub waits : ¬ AreOver s
 
 -- each state that is marked is stuck

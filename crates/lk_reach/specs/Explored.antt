@@ -7,6 +7,7 @@ use Rattle.lk_rows.specs.declared.setup.Setup.{Setup}
 use Rattle.lk_rows.specs.Machine.{Machine, rest_counts}
 use Rattle.lk_rows.specs.Acts.{next}
 use Rattle.lk_law.specs.Sound.{IsSound}
+use Rattle.lk_idle.specs.Alike.{AreAlike}
 use Rattle.lk_reach.specs.declared.book.Book.{Book}
 use Rattle.lk_reach.specs.declared.book.Edge.{Edge}
 use Rattle.lk_reach.specs.declared.book.Origin.{Origin}
@@ -36,14 +37,26 @@ pub record IsGood (plan : Plan) (setup : Setup) (v : SpaceValue) (k : ℕ) : Typ
   pub keeps : Keeps v k state
   pub reached : IsReached plan setup state
 
--- an act leads from the state of the one number to that of the other
+-- the number is that of a state that a schedule reaches, and that differs from this one in what
+-- nobody reads alone
+pub record KeepsLike (plan : Plan) (setup : Setup) (v : SpaceValue) (k : ℕ) (s : Machine) : Type 0 where
+  pub state : Machine
+  pub keeps : Keeps v k state
+  pub reached : IsReached plan setup state
+  pub alike : AreAlike state s
+
+-- such a state is known
+abbrev pub KnowsLike : Plan → Setup → SpaceValue → Machine → Type 0
+KnowsLike plan setup v s = (k : ℕ) × KeepsLike plan setup v k s
+
+-- an act leads from the state of the one number to one like that of the other
 pub record IsEdge (plan : Plan) (setup : Setup) (v : SpaceValue) (k j : ℕ) : Type 0 where
   pub state : Machine
   pub keeps : Keeps v k state
   pub reached : IsReached plan setup state
   pub act : Act
   pub move : IsMove plan.extras setup act
-  pub leads : Keeps v j (after state act)
+  pub leads : KeepsLike plan setup v j (after state act)
 
 -- the act of an origin, made on its state
 pub record IsAct (plan : Plan) (setup : Setup) (v : SpaceValue) (b : Book) (o : Origin) : Type 0 where
@@ -75,10 +88,10 @@ pub record IsTold (b : Book) (kind most : ℕ) : Type 0 where
   pub is : slice_get b.firsts kind ≡ Some (Some origin)
   pub soon : origin.level ≤ most
 
--- the state is known, and met by at most so many acts
-pub record IsMet (v : SpaceValue) (b : Book) (most : ℕ) (s : Machine) : Type 0 where
+-- a state like this one is known, and met by at most so many acts
+pub record IsMet (plan : Plan) (setup : Setup) (v : SpaceValue) (b : Book) (most : ℕ) (s : Machine) : Type 0 where
   pub number : ℕ
-  pub keeps : Keeps v number s
+  pub like : KeepsLike plan setup v number s
   pub origin : Origin
   pub is : slice_get b.origins.items number ≡ Some origin
   pub soon : origin.level ≤ most
@@ -87,9 +100,11 @@ pub record IsMet (v : SpaceValue) (b : Book) (most : ℕ) (s : Machine) : Type 0
 abbrev pub HasEdge : Book → ℕ → ℕ → Type 0
 HasEdge b k j = (i : ℕ) × (e : Edge) × (slice_get b.edges.items i ≡ Some e) × (e.state ≡ k) × (e.then ≡ j)
 
--- what an act on the state of this number leads to is known: the state itself, or that of an edge
-pub record IsTried (v : SpaceValue) (b : Book) (k most : ℕ) (s : Machine) (a : Act) : Type 0 where
-  pub met : IsMet v b most (after s a)
+-- what an act on the state of this number leads to is known: one like the state itself, or like that
+-- of an edge
+pub record IsTried (plan : Plan) (setup : Setup) (v : SpaceValue) (b : Book) (k most : ℕ) (s : Machine) (a : Act)
+    : Type 0 where
+  pub met : IsMet plan setup v b most (after s a)
   pub edge : (met.number ≡ k) ⊎ HasEdge b k met.number
   pub told : (e : Event) → (next s a).1 ≡ Some e → IsTold b (kind_value e.what) most
 
@@ -101,7 +116,7 @@ pub record IsHalfLeft (plan : Plan) (setup : Setup) (v : SpaceValue) (b : Book) 
   pub origin : Origin
   pub is : slice_get b.origins.items k ≡ Some origin
   pub next : (i : ℕ) (a : Act) → i < n → slice_get acts i ≡ Some a
-      → IsTried v b k (origin.level + 1) state a
+      → IsTried plan setup v b k (origin.level + 1) state a
 
 -- and all acts that are explored
 pub record IsLeft (plan : Plan) (setup : Setup) (v : SpaceValue) (b : Book) (k : ℕ) : Type 0 where
@@ -110,7 +125,7 @@ pub record IsLeft (plan : Plan) (setup : Setup) (v : SpaceValue) (b : Book) (k :
   pub reached : IsReached plan setup state
   pub origin : Origin
   pub is : slice_get b.origins.items k ≡ Some origin
-  pub next : (a : Act) → IsMove plan.extras setup a → IsTried v b k (origin.level + 1) state a
+  pub next : (a : Act) → IsMove plan.extras setup a → IsTried plan setup v b k (origin.level + 1) state a
 
 -- the act is one of these
 abbrev pub Among : List Act → Act → Type 0

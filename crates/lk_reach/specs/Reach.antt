@@ -10,6 +10,7 @@ use Rattle.lk_rows.specs.Acts.{next}
 use Rattle.lk_rows.specs.Programs.{IsLawfulSetup, handlers_of}
 use Rattle.lk_rows.specs.Run.{at_rest, machine_after}
 use Rattle.lk_law.specs.MachineLaws.{AreInRange}
+use Rattle.lk_idle.specs.Alike.{AreAlike}
 use Rattle.lk_reach.specs.declared.plan.Extras.{Extras}
 use Rattle.lk_reach.specs.declared.plan.Plan.{Plan}
 
@@ -77,3 +78,11 @@ MakesRow s row = (p : ℕ) × (p < length s.cpus) × (row_of (cpu_at s p) ≡ So
 -- every processor is done
 abbrev pub AreOver : Machine → Type 0
 AreOver s = (p : ℕ) → p < length s.cpus → is_over (cpu_at s p) ≡ true
+
+-- States that are alike make the same rows.
+abbrev pub AlikeMakeRows : Type 0
+AlikeMakeRows = (s t : Machine) → AreAlike s t → (row : Pc) → MakesRow s row → MakesRow t row
+
+-- If one is over, both are.
+abbrev pub AlikeAreOver : Type 0
+AlikeAreOver = (s t : Machine) → AreAlike s t → AreOver s → AreOver t

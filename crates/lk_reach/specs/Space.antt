@@ -1,7 +1,8 @@
 -- The space of the states that were met: what is kept of each, and when that is a state.
-use Rattle.std.specs.Prelude.{◌≡◌, ◌<◌, ◌++◌, ℕ, List, length, slice_get, Some}
-use Rattle.lk_rows.specs.Machine.{Machine, CpuState, cpu_at}
+use Rattle.std.specs.Prelude.{◌≡◌, ◌<◌, ◌⊎◌, ◌++◌, ℕ, List, length, slice_get, Some}
+use Rattle.lk_rows.specs.Machine.{Machine, CpuState, cpu_at, set_cpu}
 use Rattle.lk_machine.specs.Parts.{SharedValue, Holds}
+use Rattle.lk_idle.specs.Alike.{bared_cpu}
 use Rattle.lk_reach.specs.declared.key.Key.{Key}
 
 -- the list goes on as another
@@ -14,11 +15,44 @@ pub record HasShared (items : List SharedValue) (i : ℕ) (m : Machine) : Type 0
   pub is : slice_get items i ≡ Some item
   pub holds : Holds item m
 
--- what was met: parts of processors, what is of no one processor, and a key for each state
+-- What was met: parts of processors, what is of no one processor, and a key for each state; and
+-- parts without what nobody reads, and for each part the number of the one that it is then.
 pub record SpaceValue : Type 0 where
   pub parts : List CpuState
   pub shareds : List SharedValue
   pub keys : List Key
+  pub forms : List CpuState
+  pub classes : List ℕ
+
+-- a part and its form, which differ in what nobody reads alone
+pub record IsFormed (parts forms : List CpuState) (i c : ℕ) : Type 0 where
+  pub part : CpuState
+  pub is_part : slice_get parts i ≡ Some part
+  pub form : CpuState
+  pub is_form : slice_get forms c ≡ Some form
+  pub alike : bared_cpu form ≡ bared_cpu part
+
+-- each part that has a class has that form
+abbrev pub AreFormed : List CpuState → List CpuState → List ℕ → Type 0
+AreFormed parts forms classes = (i c : ℕ) → slice_get classes i ≡ Some c → IsFormed parts forms i c
+
+-- the form is that of the key: the classes of its parts
+pub record IsFormOf (classes : List ℕ) (key form : Key) : Type 0 where
+  pub shared : form.shared ≡ key.shared
+  pub each : (p i : ℕ) → slice_get key.cpus p ≡ Some i
+      → (c : ℕ) × (slice_get form.cpus p ≡ Some c) × (slice_get classes i ≡ Some c)
+
+-- two keys have the same form
+pub record HaveForm (classes : List ℕ) (a b : Key) : Type 0 where
+  pub form : Key
+  pub one : IsFormOf classes a form
+  pub other : IsFormOf classes b form
+
+-- the key of this number is this one, or has the same form
+pub record IsNumberOf (v : SpaceValue) (k : ℕ) (key : Key) : Type 0 where
+  pub item : Key
+  pub is : slice_get v.keys k ≡ Some item
+  pub same : (item ≡ key) ⊎ HaveForm v.classes item key
 
 -- the key keeps the state
 pub record KeyKeeps (parts : List CpuState) (shareds : List SharedValue) (key : Key) (s : Machine) : Type 0 where
@@ -39,6 +73,24 @@ pub record IsLoadable (v : SpaceValue) (k : ℕ) (m : Machine) : Type 0 where
   pub setup : state.setup ≡ m.setup
   pub cpus : length state.cpus ≡ length m.cpus
   pub locks : length state.locks ≡ length m.locks
+
+-- the same parts and states were met
+pub record SameStates (old new : SpaceValue) : Type 0 where
+  pub parts : new.parts ≡ old.parts
+  pub shareds : new.shareds ≡ old.shareds
+  pub keys : new.keys ≡ old.keys
+
+-- one of these parts differs from this one in what nobody reads alone
+pub record HasForm (forms : List CpuState) (n : ℕ) (part : CpuState) : Type 0 where
+  pub form : CpuState
+  pub is : slice_get forms n ≡ Some form
+  pub alike : bared_cpu form ≡ bared_cpu part
+
+-- one processor's part became another, which differs in what nobody reads alone
+pub record Rests (m n : Machine) (p : ℕ) : Type 0 where
+  pub part : CpuState
+  pub only : n ≡ set_cpu m p part
+  pub alike : bared_cpu part ≡ bared_cpu (cpu_at m p)
 
 -- nothing that was met is forgotten
 pub record Grows (old new : SpaceValue) : Type 0 where

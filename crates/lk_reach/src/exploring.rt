@@ -5,8 +5,9 @@ ghost use Rattle.lk_abs.specs.declared.events.Act.{Act as ActValue};
 ghost use Rattle.lk_rows.specs.Acts.{next, processor_of};
 ghost use Rattle.lk_rows.specs.Machine.{Machine as MachineValue};
 ghost use Rattle.lk_reach.specs.Reach.{AreMoves, IsBegun, after, state_after};
-ghost use Rattle.lk_reach.specs.Space.{Grows, Keeps, Knows};
-ghost use Rattle.lk_reach.specs.Explored.{AreAllMoves, IsExplored, IsGood, IsStart, IsStepped, IsSuch};
+ghost use Rattle.lk_idle.specs.Alike.{AreAlike};
+ghost use Rattle.lk_reach.specs.Space.{Grows, Keeps};
+ghost use Rattle.lk_reach.specs.Explored.{AreAllMoves, IsExplored, IsGood, IsStart, IsStepped, IsSuch, KnowsLike};
 ghost use Rattle.lk_reach.specs.Told.{IsGraph, IsWhole};
 
 use crate::book::{Book, Seen};
@@ -37,8 +38,13 @@ fn visit(
     requires such { IsSuch machine.old.setup machine.old }
     requires stepped { IsStepped machine.old.setup space.old state }
     requires range { processor_of doing < length machine.old.cpus }
+    ensures there { IfOk result (λ found. found.0 < length space.new.keys) }
     ensures kept { IfOk result (λ found. (s : MachineValue) → Keeps space.old state s
-        → IsSuch machine.old.setup s → Keeps space.new found.0 (after s doing)) }
+        → IsSuch machine.old.setup s → (t : MachineValue) → Keeps space.new found.0 t
+        → IsSuch machine.old.setup t → AreAlike t (after s doing)) }
+    ensures new { OnOk result ((j : ℕ) → length space.old.keys ≤ j → j < length space.new.keys
+        → (s : MachineValue) → Keeps space.old state s → IsSuch machine.old.setup s
+        → Keeps space.new j (after s doing)) }
     ensures told { IfOk result (λ found. (s : MachineValue) → Keeps space.old state s
         → IsSuch machine.old.setup s → found.1 ≡ (next s doing).1) }
     ensures grows { OnOk result (Grows space.old space.new) }
@@ -130,10 +136,11 @@ pub fn explore<W: Watch>(
     requires few { length machine.cpus ≤ 8 }
     requires start { IsStart plan machine }
 
-    // If the graph is whole, every state that a schedule reaches is known.
+    // If the graph is whole, every state that a schedule reaches is known, or one that differs from
+    // it in dead registers alone.
     ensures all { IfOk result (λ graph. IsWhole graph → (acts : List ActValue)
         → AreMoves plan.extras machine.setup acts
-        → Knows graph.space (state_after plan machine.setup acts)) }
+        → KnowsLike plan machine.setup graph.space (state_after plan machine.setup acts)) }
 
     // Every state that is known is one that a schedule reaches.
     ensures only { IfOk result (λ graph. (k : ℕ) → k < length graph.space.keys
@@ -147,7 +154,7 @@ pub fn explore<W: Watch>(
     let cpus = machine.cpus();
     let mut space = Space::new(alloc)?;
     let mut book = Book::new(alloc)?;
-    space.note(&machine, 0)?;
+    space.note(&mut machine, 0)?;
     let left = leave_all(&mut space, &mut machine, &plan, &mut book, watch)?;
     Ok(Graph {
         space,

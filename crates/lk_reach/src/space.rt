@@ -1,10 +1,13 @@
-// The states that were met.
+// The states that were met. Two that differ in dead registers alone have one number.
 
-ghost use Rattle.std.specs.Prelude.{◌≡◌, ◌≢◌, ◌<◌, ◌≤◌, IfOk, OnOk, IfSome, IfNone, ℕ, Some, length, slice_get, true, false};
+ghost use Rattle.std.specs.Prelude.{◌≡◌, ◌≢◌, ◌<◌, ◌≤◌, ◌++◌, ◌∷◌, [], IfOk, OnOk, IfSome, IfNone, ℕ, Some, length, slice_get, true, false};
 ghost use Rattle.lk_rows.specs.Machine.{Machine as MachineValue, CpuState as CpuValue, cpu_at};
 ghost use Rattle.lk_machine.specs.Parts.{is_over, row_of};
-ghost use Rattle.lk_reach.specs.Space.{Grows, IsLoadable, Keeps, KeyKeeps, SpaceValue};
+ghost use Rattle.lk_idle.specs.Alike.{AreAlike};
+ghost use Rattle.lk_reach.specs.declared.key.Key.{Key as KeyValue};
+ghost use Rattle.lk_reach.specs.Space.{AreFormed, Grows, IsFormOf, IsLoadable, IsNumberOf, Keeps, KeyKeeps, SameStates, SpaceValue};
 
+use crate::forms::form_number;
 use crate::key::{Key, MAX_CPUS};
 use crate::slots::Slots;
 use crate::table::{CpuTable, MOST, SharedTable};
@@ -26,7 +29,12 @@ const PART_BYTES: usize = 1_200;
 pub(crate) struct Space {
     alloc: Global,
     parts: CpuTable,
+    /// Parts with the dead registers of their newest frames at rest.
+    forms: CpuTable,
+    /// For each part the number of its form.
+    classes: Vec<u32>,
     shareds: SharedTable,
+    /// Those of the states that were met first, of all with the same form.
     keys: Vec<Key>,
     slots: Slots,
 }
@@ -38,7 +46,18 @@ impl Model for Space {
       parts = s.parts.items.items;
       shareds = s.shareds.items.items;
       keys = s.keys.items;
+      forms = s.forms.items.items;
+      classes = s.classes.items;
     } };
+
+    ghost invariant = { λ s. AreFormed s.parts.items.items s.forms.items.items s.classes.items };
+}
+
+// Adds a key.
+fn push_key(keys: &mut Vec<Key>, key: Key) -> Result<(), Memory>
+    ensures { OnOk result (keys.new.items ≡ keys.old.items ++ key ∷ []) }
+{
+    keys.push(key).map_err(|_| Memory)
 }
 
 impl Space {
@@ -49,6 +68,8 @@ impl Space {
         Ok(Space {
             alloc,
             parts: CpuTable::new(alloc)?,
+            forms: CpuTable::new(alloc)?,
+            classes: Vec::new(alloc),
             shareds: SharedTable::new(alloc)?,
             keys: Vec::new(alloc),
             slots: Slots::new(alloc)?,
@@ -104,17 +125,89 @@ impl Space {
         Ok(Key { shared, cpus })
     }
 
-    // The number of the state with this key, by its hash, if it is found.
-    fn find(&self, key: &Key, hash: u64) -> Option<u32>
-        ensures { IfSome result (λ k. slice_get self.now.keys k ≡ Some key.now) }
+    // Gives the part of a processor its class, if it is the next part.
+    fn classify(&mut self, machine: &mut Machine, cpu: u32, part: u32) -> Result<(), Memory>
+        requires cpu { cpu < length machine.old.cpus }
+        requires part { slice_get self.old.parts part ≡ Some (cpu_at machine.old cpu) }
+        ensures machine { OnOk result (machine.new ≡ machine.old) }
+        ensures states { SameStates self.old self.new }
+    {
+        if part as usize != self.classes.len() {
+            return Ok(());
+        }
+        let form = form_number(&mut self.forms, self.alloc, machine, cpu)?;
+        self.classes.push(form).map_err(|_| Memory)
+    }
+
+    // Gives each part of a machine with this key its class.
+    fn classify_all(&mut self, machine: &mut Machine, key: &Key) -> Result<(), Memory>
+        requires few { length machine.old.cpus ≤ 8 }
+        requires key { KeyKeeps self.old.parts self.old.shareds key.now machine.old }
+        ensures machine { OnOk result (machine.new ≡ machine.old) }
+        ensures states { OnOk result (SameStates self.old self.new) }
+    {
+        for cpu in 0..machine.cpus() {
+            self.classify(machine, cpu, key.cpus[cpu as usize])?;
+        }
+        Ok(())
+    }
+
+    // The class of the part with this number, if it has one.
+    fn class(&self, part: u32) -> Option<u32>
+        ensures { IfSome result (λ c. slice_get self.now.classes part ≡ Some c) }
+    {
+        match self.classes.get(part as usize) {
+            Some(class) => Some(*class),
+            None => None,
+        }
+    }
+
+    // The form of a key: the classes of its parts, if each has one.
+    fn form_of(&self, key: &Key) -> Option<Key>
+        ensures { IfSome result (λ form. IsFormOf self.now.classes key.now form) }
+    {
+        let mut cpus = key.cpus;
+        for cpu in 0..MAX_CPUS {
+            cpus[cpu] = self.class(cpus[cpu])?;
+        }
+        Some(Key {
+            shared: key.shared,
+            cpus,
+        })
+    }
+
+    // By which hash a state with this key is sought.
+    fn hash_of(&self, key: &Key) -> u64 {
+        match self.form_of(key) {
+            Some(form) => form.number(),
+            None => key.number(),
+        }
+    }
+
+    // Whether the state with this number has this form.
+    fn has_form(&self, number: u32, form: &Key) -> bool
+        ensures { result ≡ true → (item : KeyValue) × (slice_get self.now.keys number ≡ Some item)
+            × IsFormOf self.now.classes item form.now }
+    {
+        let Some(item) = self.keys.get(number as usize) else {
+            return false;
+        };
+        match self.form_of(item) {
+            Some(other) => other.same(form),
+            None => false,
+        }
+    }
+
+    // The number of a state with this form, by its hash, if it is found.
+    fn find(&self, form: &Key, hash: u64) -> Option<u32>
+        ensures { IfSome result (λ k. (item : KeyValue) × (slice_get self.now.keys k ≡ Some item)
+            × IsFormOf self.now.classes item form.now) }
     {
         let mut at = self.slots.home(hash);
         for _ in 0..self.slots.len() {
             let number = self.slots.number(at)?;
-            if let Some(item) = self.keys.get(number as usize) {
-                if item.same(key) {
-                    return Some(number);
-                }
+            if self.has_form(number, form) {
+                return Some(number);
             }
             at = self.slots.behind(at);
         }
@@ -128,51 +221,108 @@ impl Space {
         let mut slots = self.slots.twice(self.alloc)?;
         let mut number = 0u32;
         for key in &self.keys {
-            slots.put(key.number(), number);
+            slots.put(self.hash_of(key), number);
             number = number.wrapping_add(1);
         }
         self.slots = slots;
         Ok(())
     }
 
-    // The number of the state with this key, which it gets if it has none.
-    fn number(&mut self, key: &Key) -> Result<u32, Memory>
+    // Takes room for one more state in the slots.
+    fn make_room(&mut self) -> Result<(), Memory>
+        ensures { self.new ≡ self.old }
+    {
+        if self.slots.are_few(self.keys.len()) {
+            self.grow()
+        } else {
+            Ok(())
+        }
+    }
+
+    // Gives the state with this key the next number.
+    fn push(&mut self, key: &Key, hash: u64) -> Result<u32, Memory>
         ensures found { IfOk result (λ k. slice_get self.new.keys k ≡ Some key.now) }
-        ensures grows { Grows self.old self.new }
+        ensures grows { OnOk result (Grows self.old self.new) }
         ensures parts { self.new.parts ≡ self.old.parts }
         ensures shareds { self.new.shareds ≡ self.old.shareds }
         ensures one { IfOk result (λ k. (j : ℕ) → length self.old.keys ≤ j
             → j < length self.new.keys → j ≡ k) }
     {
-        let hash = key.number();
-        if let Some(number) = self.find(key, hash) {
-            return Ok(number);
-        }
-        let count = self.keys.len();
+        let count = self.len();
         if count >= MOST {
             return Err(Memory);
         }
-        if self.slots.are_few(count) {
-            self.grow()?;
-        }
         let number = count as u32;
-        self.keys.push(*key).map_err(|_| Memory)?;
+        push_key(&mut self.keys, *key)?;
         self.slots.put(hash, number);
         Ok(number)
     }
 
-    /// The number of the state that a machine is, which it gets if it has none. The state `near` is
-    /// one that differs little from it, or any other.
-    pub(crate) fn note(&mut self, machine: &Machine, near: usize) -> Result<u32, Memory>
-        requires few { length machine.now.cpus ≤ 8 }
-        ensures kept { IfOk result (λ k. Keeps self.new k machine.now) }
+    // The same, with room for it.
+    fn add(&mut self, key: &Key, hash: u64) -> Result<u32, Memory>
+        ensures found { IfOk result (λ k. IsNumberOf self.new k key.now) }
+        ensures grows { OnOk result (Grows self.old self.new) }
+        ensures parts { self.new.parts ≡ self.old.parts }
+        ensures shareds { self.new.shareds ≡ self.old.shareds }
+        ensures one { IfOk result (λ k. (j : ℕ) → length self.old.keys ≤ j
+            → j < length self.new.keys → (j ≡ k) × (slice_get self.new.keys j ≡ Some key.now)) }
+    {
+        self.make_room()?;
+        let number = self.push(key, hash)?;
+        Ok(number)
+    }
+
+    // The number of a state whose key has the same form, if one is found.
+    fn sought(&self, key: &Key) -> Option<u32>
+        ensures { IfSome result (λ k. IsNumberOf self.now k key.now) }
+    {
+        let form = self.form_of(key)?;
+        let number = self.find(&form, form.number())?;
+        Some(number)
+    }
+
+    // The number of the state with this key or with one of the same form. It gets one if there is
+    // none.
+    fn number(&mut self, key: &Key) -> Result<u32, Memory>
+        ensures found { IfOk result (λ k. IsNumberOf self.new k key.now) }
+        ensures grows { OnOk result (Grows self.old self.new) }
+        ensures parts { self.new.parts ≡ self.old.parts }
+        ensures shareds { self.new.shareds ≡ self.old.shareds }
+        ensures one { IfOk result (λ k. (j : ℕ) → length self.old.keys ≤ j
+            → j < length self.new.keys → (j ≡ k) × (slice_get self.new.keys j ≡ Some key.now)) }
+    {
+        match self.sought(key) {
+            Some(number) => Ok(number),
+            None => self.add(key, self.hash_of(key)),
+        }
+    }
+
+    // What is always so.
+    fn formed(&self)
+        ensures { AreFormed self.now.parts self.now.forms self.now.classes }
+    {
+        let _ = &self.parts;
+    }
+
+    /// The number of the state that a machine is, or of one that differs in dead registers alone. It
+    /// gets one if there is none. The state `near` is one that differs little from it, or any other.
+    pub(crate) fn note(&mut self, machine: &mut Machine, near: usize) -> Result<u32, Memory>
+        requires few { length machine.old.cpus ≤ 8 }
+        ensures there { IfOk result (λ k. k < length self.new.keys) }
+        ensures alike { IfOk result (λ k. (s : MachineValue) → Keeps self.new k s
+            → s.setup ≡ machine.old.setup → s.counts ≡ machine.old.counts
+            → length s.cpus ≡ length machine.old.cpus → AreAlike s machine.old) }
         ensures grows { OnOk result (Grows self.old self.new) }
         ensures one { IfOk result (λ k. (j : ℕ) → length self.old.keys ≤ j
-            → j < length self.new.keys → j ≡ k) }
+            → j < length self.new.keys → (j ≡ k) × Keeps self.new j machine.old) }
+        ensures machine { OnOk result (machine.new ≡ machine.old) }
     {
         let near = self.near(near);
         let key = self.key_of(machine, near)?;
-        self.number(&key)
+        self.classify_all(machine, &key)?;
+        let number = self.number(&key)?;
+        self.formed();
+        Ok(number)
     }
 
     /// The row that a step of a processor makes at a state, if it makes one.

@@ -1,9 +1,9 @@
-use Rattle.std.proofs.Common.{arith, ◌≡◌, ◌∙◌, refl, sym, subst}
+use Rattle.std.proofs.Common.{arith, ap, ◌≡◌, ◌<◌, ◌≤◌, ◌∙◌, length, refl, sym, subst}
 use Rattle.lk_rows.specs.declared.setup.Setup.{Setup}
 use Rattle.lk_rows.specs.Machine.{Machine}
 use Rattle.lk_reach.specs.Explored.{AreAllMoves, IsExplored, IsSuch}
 use Rattle.lk_reach.specs.Reach.{IsBegun, IsReached, bare, cpus_of, start_of}
-use Rattle.lk_reach.specs.Space.{Keeps}
+use Rattle.lk_reach.specs.Space.{Keeps, Knows}
 use Rattle.lk_reach.proofs.Left as left
 use Rattle.lk_reach.proofs.Closed as closed
 use Rattle.lk_reach.proofs.exploring.explore.Goals as goal
@@ -11,21 +11,27 @@ use Rattle.lk_reach.proofs.exploring.explore.Goals as goal
 pub leave_all-requires : goal.leave_all-requires
 leave_all-requires g c =
     let p = c.args.plan in
-    let z = c.args.machine.setup in
+    let m = c.args.machine in
+    let z = m.setup in
     let laws : closed.Laws = record { runs = c.runs_keep.ensures.run; setup = c.acts_change_little.ensures.setup } in
     let there = c.requires.start.there in
     let v = c.note.new.self in
-    let n = c.in_ok-note.field-0 in
     let none = c.in_ok-space.ensures in
+    let e = c.in_ok-note.ensures in
+    let same : c.note.new.machine ≡ m = e.machine in
+    let such : IsSuch z m = subst (λ (q : Machine). IsSuch z q) (sym there)
+    (closed.reached_such laws p z c.requires.start.begun (bare (start_of p z)) (closed.reached_start laws p z c.requires.start.begun)) in
+    let first : 0 < length v.keys = omega (arith, e.there) in
+    let start : Knows v m = (0, (e.one 0 (omega (arith, none)) first).1) in
     record {
-      few = c.requires.few;
-      begun = c.requires.start.begun;
-      acts = c.requires.start.acts;
-      such = subst (λ (q : Machine). IsSuch z q) (sym there)
-          (closed.reached_such laws p z c.requires.start.begun (bare (start_of p z)) (closed.reached_start laws p z c.requires.start.begun));
-      explored = left.explored_start p z laws c.requires.start.begun v c.in_ok-book.book n c.in_ok-book.ensures
-          (subst (λ (q : Machine). Keeps v n q) there c.in_ok-note.ensures.kept)
-          (λ k low. c.in_ok-note.ensures.one k (omega (arith, none)) low);
+      few = subst (λ (q : Machine). length q.cpus ≤ 8) (sym same) c.requires.few;
+      begun = subst (λ (q : Machine). IsBegun p q.setup) (sym same) c.requires.start.begun;
+      acts = subst (λ (q : Machine). AreAllMoves p.extras q.setup p.acts.items) (sym same) c.requires.start.acts;
+      such = subst (λ (q : Machine). IsSuch q.setup q) (sym same) such;
+      explored = subst (λ (q : Machine). IsExplored p q.setup v c.in_ok-book.book 0) (sym same)
+          (left.explored_start p z laws c.requires.start.begun v c.in_ok-book.book 0 c.in_ok-book.ensures
+          (subst (λ (q : Machine). Keeps v 0 q) there start.1)
+          (λ k low. (e.one k (omega (arith, none)) low).0 ∙ sym (e.one 0 (omega (arith, none)) first).0));
     }
 
 pub returns : goal.returns
@@ -40,22 +46,27 @@ returns g c =
     (closed.reached_start laws p z begun) in
     let few = c.requires.few in
     let count = c.cpus-cpus.ensures in
-    let back = sym e.setup in
+    let same = ap (λ (q : Machine). q.setup) c.in_ok-note.ensures.machine in
+    let explored = subst (λ (q : Setup). IsExplored p q c.leave_all.new.space c.leave_all.new.book c.in_ok-left.left)
+    same e.explored in
+    let such = subst (λ (q : Setup). IsSuch q c.leave_all.new.machine) same e.such in
+    let setup = e.setup ∙ same in
+    let back = sym setup in
     record {
       all = λ whole acts moves.
-          let met = closed.whole_met laws p z begun c.leave_all.new.space c.leave_all.new.book c.in_ok-left.left e.explored whole acts moves in
-          (met.number, met.keeps);
-      only = e.explored.good;
+          let met = closed.whole_met laws p z begun c.leave_all.new.space c.leave_all.new.book c.in_ok-left.left explored whole acts moves in
+          (met.number, met.like);
+      only = explored.good;
       graph = record {
         begun = subst (λ (q : Setup). IsBegun p q) back begun;
         acts = subst (λ (q : Setup). AreAllMoves p.extras q p.acts.items) back c.requires.start.acts;
-        explored = subst (λ (q : Setup). IsExplored p q c.leave_all.new.space c.leave_all.new.book c.in_ok-left.left) back e.explored;
+        explored = subst (λ (q : Setup). IsExplored p q c.leave_all.new.space c.leave_all.new.book c.in_ok-left.left) back explored;
         within = e.within;
         cpus = subst (λ (q : Setup). c.cpus-cpus.result ≡ cpus_of q) back
             (count ∙ (closed.reached_such laws p z begun m start).cpus);
         few = omega (arith, few, count);
-        such = subst (λ (q : Setup). IsSuch q c.leave_all.new.machine) back e.such;
+        such = subst (λ (q : Setup). IsSuch q c.leave_all.new.machine) back such;
       };
       plan = refl;
-      setup = e.setup;
+      setup = setup;
     }

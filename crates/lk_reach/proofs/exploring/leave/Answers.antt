@@ -64,7 +64,10 @@ loop-number-preserved c =
       event = c.in_ok-then.event;
       move = c.requires.acts.only n a at;
       doing = at;
-      kept = λ s has such. e.kept s has (subst (λ (q : Setup). IsSuch q s) (sym inv.same) such);
+      there = e.there;
+      kept = λ s has such t at also. e.kept s has (subst (λ (q : Setup). IsSuch q s) (sym inv.same) such) t at
+          (subst (λ (q : Setup). IsSuch q t) (sym inv.same) also);
+      new = λ j high low s has such. e.new j high low s has (subst (λ (q : Setup). IsSuch q s) (sym inv.same) such);
       told = λ s has such. e.told s has (subst (λ (q : Setup). IsSuch q s) (sym inv.same) such);
       one = e.one;
       writes = c.in_ok-write.ensures;

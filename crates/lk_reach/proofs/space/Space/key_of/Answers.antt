@@ -1,4 +1,6 @@
-use Rattle.std.proofs.Common.{arith, ◌∙◌, ap, Some, length-set}
+use Rattle.std.proofs.Common.{arith, ◌∙◌, ap, Some, length-set, subst}
+use Rattle.lk_reach.specs.Space.{AreFormed, SpaceValue}
+use Rattle.lk_reach.proofs.Formed.{formed_kept}
 use Rattle.lk_reach.proofs.Kept.{numbered_then, front_then}
 use Rattle.lk_reach.proofs.space.Space.key_of.Goals as goal
 
@@ -20,5 +22,26 @@ loop-cpu-preserved c =
           c.number-in-loop-cpu.new.self.items.items inv.parts c.in_ok-cpus.ensures.front;
       shareds = inv.shareds;
       keys = inv.keys;
+      forms = inv.forms;
+      classes = inv.classes;
       room = length-set _ _ _ ∙ room;
     }
+
+pub invariant_of-self-in-loop-cpu : goal.invariant_of-self-in-loop-cpu
+invariant_of-self-in-loop-cpu c =
+    let inv = c.loop-cpu.invariant in
+    let v = c.args.self.now in
+    let formed = subst (λ (u : SpaceValue). AreFormed u.parts u.forms u.classes) c.self.view_is c.self.invariant in
+    formed_kept v c.loop-cpu.self-inside.parts.items.items c.loop-cpu.self-inside.forms.items.items
+    c.loop-cpu.self-inside.classes.items inv.parts inv.forms inv.classes formed
+
+pub invariant_of-self-in_err-cpus : goal.invariant_of-self-in_err-cpus
+invariant_of-self-in_err-cpus c =
+    let inv = c.loop-cpu.invariant in
+    let v = c.args.self.now in
+    let formed = subst (λ (u : SpaceValue). AreFormed u.parts u.forms u.classes) c.self.view_is c.self.invariant in
+    formed_kept v c.number-in-loop-cpu.new.self.items.items c.loop-cpu.self-inside.forms.items.items
+    c.loop-cpu.self-inside.classes.items
+    (front_then v.parts c.loop-cpu.self-inside.parts.items.items c.number-in-loop-cpu.new.self.items.items
+    inv.parts c.in_err-cpus.ensures.front)
+    inv.forms inv.classes formed
