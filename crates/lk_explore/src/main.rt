@@ -72,7 +72,7 @@ fn explored(alloc: Global, rt: &HostRuntime, asked: &Asked, start: Start) -> Res
     ensures all { IfOk result (λ graph. IsWhole graph → (acts : List ActValue)
         → AreMoves asked.now.extras start.machine.setup acts
         → KnowsLike start.plan start.machine.setup graph.space
-            (state_after start.plan start.machine.setup acts)) }
+        (state_after start.plan start.machine.setup acts)) }
 
     // Every state that it knows is one that a schedule reaches from there.
     ensures only { IfOk result (λ graph. (k : ℕ) → k < length graph.space.keys
