@@ -21,7 +21,7 @@ use Rattle.lk_progress.specs.Potential.{budget, is_pause}
 use Rattle.lk_progress.specs.Runs.{HasRoom, IsFinished, SomebodyMoves}
 use Rattle.lk_progress.proofs.Budget.{acts_lower}
 use Rattle.lk_progress.proofs.Good.{IsAwake}
-use Rattle.lk_progress.specs.Followed.{IsHeadFollowed}
+use Rattle.lk_waits.specs.Followed.{IsHeadFollowed}
 use Rattle.lk_progress.proofs.Reached.{Reached, start, reached}
 use Rattle.lk_progress.proofs.Runs.{kept_followed, unspoilt, goes_on}
 

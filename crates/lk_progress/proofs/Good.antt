@@ -39,8 +39,8 @@ use Rattle.lk_core.proofs.Same.{KeepsFrames, has_top_same, tops_push, depth_push
 use Rattle.lk_core.proofs.Seated.{next_of, world-push, world-set_preempted}
 use Rattle.lk_progress.specs.Ordered.{IsSteady, ReadsAlone}
 use Rattle.lk_progress.proofs.Reading.{row_reads_alone}
-use Rattle.lk_progress.proofs.Changed.{Changed, Roused}
-use Rattle.lk_progress.proofs.Quiet.{IsQuietFrame, Comes}
+use Rattle.lk_waits.proofs.Changed.{Changed, Roused}
+use Rattle.lk_waits.proofs.Quiet.{IsQuietFrame, Comes}
 use Rattle.lk_progress.proofs.Moves.{Moves, Settled, settled_is}
 use Rattle.lk_progress.proofs.Rows.{Put, row_moves}
 use Rattle.lk_progress.proofs.Settling.{settled_quiet, settled_same, settled_reads}

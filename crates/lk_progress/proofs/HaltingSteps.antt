@@ -31,16 +31,16 @@ use Rattle.lk_law.specs.Sound.{world, ShowsAll}
 use Rattle.lk_law.specs.Steps.{led}
 use Rattle.lk_law.specs.SoundWorld.{spin_part}
 use Rattle.lk_core.proofs.RowKept.{top_live}
-use Rattle.lk_progress.specs.Halting.{IsHeadServed, goes_around}
+use Rattle.lk_waits.specs.Halting.{IsHeadServed, goes_around}
 use Rattle.lk_progress.specs.Runs.{IsFinished, GoesAround, StepsNowhere, SomebodyLeadsOn, SomebodyLeadsOnHalting}
-use Rattle.lk_progress.specs.Waits as waits
+use Rattle.lk_waits.specs.Waits as waits
 use Rattle.lk_progress.proofs.Good.{IsHalting}
 use Rattle.lk_progress.proofs.Woken.{kicked_runs, sleeping_place}
-use Rattle.lk_progress.proofs.HaltingStands.{looks_on, same_frame, still_looks_at, still_E14}
+use Rattle.lk_waits.proofs.HaltingStands.{looks_on, same_frame, still_looks_at, still_E14}
 use Rattle.lk_progress.proofs.Reached.{Reached, reached_from_rest, row_stuck}
 use Rattle.lk_progress.proofs.Runs.{all_or}
 use Rattle.lk_progress.proofs.RunsHalting.{row_halts, step_is, kept_served, finished_at}
-use Rattle.lk_progress.proofs.Stands.{still_R2, still_R5, still_Wr5}
+use Rattle.lk_waits.proofs.Stands.{still_R2, still_R5, still_Wr5}
 use Rattle.lk_progress.proofs.Still.{set_top_same, stays_same}
 
 bool_same : (a b : Bool) → (a ≡ b) ⊎ (a ≢ b)

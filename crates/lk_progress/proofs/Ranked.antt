@@ -28,9 +28,9 @@ use Rattle.lk_law.specs.SoundWorld.{rw_phase_of, rw_phase_if, rw_phase_at}
 use Rattle.lk_law.specs.Sound.{ShowsAll, Works, Footing, BelongsTo, RwBelongs, world, held_of, held_at}
 use Rattle.lk_law.specs.Sound.{reached, is_over, frees, owes_kick, takes_wait}
 use Rattle.lk_law.specs.Sound.Footing.{Spinning, Sharing, Waiting, Freeing, Owing}
-use Rattle.lk_progress.specs.Waits.{polls, lock_at, IsTop}
-use Rattle.lk_progress.specs.Order.{IsTidy, IsRanked, HoldsInside}
-use Rattle.lk_progress.specs.Ordered.{IsOrdered, IsSteady, level_of, waits_for, only_reads}
+use Rattle.lk_waits.specs.Waits.{polls, lock_at, IsTop}
+use Rattle.lk_waits.specs.Order.{IsTidy, IsRanked, HoldsInside, level_of}
+use Rattle.lk_progress.specs.Ordered.{IsOrdered, IsSteady, waits_for, only_reads}
 use Rattle.lk_rows.specs.declared.parts.Pc.TheVariants.{R2, R3, R4}
 use Rattle.lk_law.specs.Sound.{after_wait}
 

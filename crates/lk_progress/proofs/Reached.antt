@@ -48,14 +48,14 @@ use Rattle.lk_core.proofs.Rest.{frames}
 use Rattle.lk_core.proofs.RowKept.{top_live}
 use Rattle.lk_core.proofs.Runs.{acts_keep, rest_shows}
 use Rattle.lk_core.proofs.Setups.{setup_kept}
-use Rattle.lk_progress.specs.Waits.{IsTop}
-use Rattle.lk_progress.specs.Waits as waits
+use Rattle.lk_waits.specs.Waits.{IsTop}
+use Rattle.lk_waits.specs.Waits as waits
 use Rattle.lk_progress.proofs.Moves.{Moves, Settles, Turned}
 use Rattle.lk_progress.proofs.Rows.{Put, row_moves}
 use Rattle.lk_progress.specs.Ordered.{IsSteady}
 use Rattle.lk_progress.specs.Runs.{HasRoom, IsFinished}
 use Rattle.lk_progress.proofs.Good.{IsGood, IsKept, act_good}
-use Rattle.lk_progress.proofs.Quiet.{IsQuietRow, IsQuietFrame, first_quiet}
+use Rattle.lk_waits.proofs.Quiet.{IsQuietRow, IsQuietFrame, first_quiet}
 
 first_frame_quiet : (mode : Mode) (o : Option Op) → IsQuietFrame (first_frame mode o)
 first_frame_quiet mode None c p = absurd (let z : None ≡ Some c = p in cc z)

@@ -33,9 +33,10 @@ use Rattle.lk_law.proofs.common.Puts.{not-true}
 use Rattle.lk_core.proofs.Access.{above_top, frame_within}
 use Rattle.lk_core.proofs.RowKept.{top_live}
 use Rattle.lk_core.proofs.Runs.{rest_shows}
-use Rattle.lk_progress.specs.Waits.{polls, IsStuck}
-use Rattle.lk_progress.specs.Waits as waits
-use Rattle.lk_progress.specs.Ordered.{IsOrdered, level_of}
+use Rattle.lk_waits.specs.Waits.{polls, IsStuck}
+use Rattle.lk_waits.specs.Waits as waits
+use Rattle.lk_progress.specs.Ordered.{IsOrdered}
+use Rattle.lk_waits.specs.Order.{level_of}
 use Rattle.lk_progress.specs.Runs.{IsFinished, HasRoom, StandsStill, OrderedRunsGoOn, SomebodyMoves, SomebodyMovesOn, HasChanges, NativeRunsEnd}
 use Rattle.lk_progress.specs.Measure.{retries}
 use Rattle.lk_progress.specs.Potential.{IsSpoilt, potential, budget, HasMoves}
@@ -43,13 +44,13 @@ use Rattle.lk_progress.proofs.Budget.{runs_are_short}
 use Rattle.lk_abs.specs.declared.names.Kind.TheVariants.{Spin, Rw}
 use Rattle.std.specs.Prelude.{slice_index_or}
 use Rattle.lk_progress.proofs.Potential.{steps_lower}
-use Rattle.lk_progress.proofs.Stands.{still_polls}
-use Rattle.lk_progress.proofs.Climb.{no_deadlock}
-use Rattle.lk_progress.specs.Followed.{IsHeadFollowed}
-use Rattle.lk_progress.proofs.Followed.{row_keeps_followed}
-use Rattle.lk_progress.proofs.Changed.{quietly_of}
+use Rattle.lk_waits.proofs.Stands.{still_polls}
+use Rattle.lk_waits.proofs.Climb.{no_deadlock}
+use Rattle.lk_waits.specs.Followed.{IsHeadFollowed}
+use Rattle.lk_waits.proofs.Followed.{row_keeps_followed}
+use Rattle.lk_waits.proofs.Changed.{quietly_of}
 use Rattle.lk_progress.proofs.Good.{IsKept, IsAwake}
-use Rattle.lk_progress.proofs.Quiet.{heads_stay, rests_followed}
+use Rattle.lk_waits.proofs.Quiet.{heads_stay, rests_followed}
 use Rattle.lk_progress.proofs.Reached.{Reached, start, reached, reached_from_rest, top_is, stuck_at, finished_by}
 use Rattle.lk_progress.proofs.Ranked.{tidy, ranked, inside}
 

@@ -17,18 +17,19 @@ use Rattle.lk_law.specs.Cna.{moves_aside}
 use Rattle.lk_law.specs.Sound.{world, ShowsAll}
 use Rattle.lk_core.proofs.Access.{above_top, frame_within}
 use Rattle.lk_core.proofs.RowKept.{top_live}
-use Rattle.lk_progress.specs.Waits.{IsAtBay, IsBarred}
-use Rattle.lk_progress.specs.Waits as waits
-use Rattle.lk_progress.specs.Ordered.{IsOrdered, level_of}
+use Rattle.lk_waits.specs.Waits.{IsAtBay, IsBarred}
+use Rattle.lk_waits.specs.Waits as waits
+use Rattle.lk_progress.specs.Ordered.{IsOrdered}
+use Rattle.lk_waits.specs.Order.{level_of}
 use Rattle.lk_progress.specs.Runs.{IsFinished, TurnsOnTheSpot, OrderedRunsGoOnAside}
-use Rattle.lk_progress.proofs.ClimbAside.{at_bay_wait_for_outside}
-use Rattle.lk_progress.specs.Aside.{IsFollowedAside}
-use Rattle.lk_progress.proofs.AsideFollowed.{row_keeps_aside}
+use Rattle.lk_waits.proofs.ClimbAside.{at_bay_wait_for_outside}
+use Rattle.lk_waits.specs.Aside.{IsFollowedAside}
+use Rattle.lk_waits.proofs.AsideFollowed.{row_keeps_aside}
 use Rattle.lk_law.specs.Steps.{row_in}
 use Rattle.lk_law.proofs.common.Knows.{nobody_halts}
-use Rattle.lk_progress.proofs.Changed.{quietly_of}
+use Rattle.lk_waits.proofs.Changed.{quietly_of}
 use Rattle.lk_progress.proofs.Good.{IsKept, IsAwake}
-use Rattle.lk_progress.proofs.Quiet.{heads_stay_aside, rests_aside}
+use Rattle.lk_waits.proofs.Quiet.{heads_stay_aside, rests_aside}
 use Rattle.lk_progress.proofs.Reached.{Reached, reached_from_rest, top_is, stuck_at, finished_by}
 use Rattle.lk_progress.proofs.Ranked.{tidy, ranked, inside}
 

@@ -19,15 +19,16 @@ use Rattle.lk_law.specs.Agree.{halts}
 use Rattle.lk_law.specs.Sound.{world, ShowsAll}
 use Rattle.lk_core.proofs.Access.{above_top, frame_within}
 use Rattle.lk_core.proofs.RowKept.{top_live}
-use Rattle.lk_progress.specs.Halting.{IsHeadServed, IsAtRest, IsRobbed, LeadsNowhere}
-use Rattle.lk_progress.specs.Ordered.{IsOrdered, level_of}
+use Rattle.lk_waits.specs.Halting.{IsHeadServed, IsAtRest, IsRobbed, LeadsNowhere}
+use Rattle.lk_progress.specs.Ordered.{IsOrdered}
+use Rattle.lk_waits.specs.Order.{level_of}
 use Rattle.lk_progress.specs.Runs.{IsFinished, StepsNowhere, OrderedRunsGoOnHalting}
-use Rattle.lk_progress.proofs.ClimbHalting.{at_rest_wait_for_outside}
+use Rattle.lk_waits.proofs.ClimbHalting.{at_rest_wait_for_outside}
 use Rattle.lk_progress.proofs.Good.{IsKept, IsHalting}
 use Rattle.lk_progress.proofs.Woken.{kicked_runs}
-use Rattle.lk_progress.proofs.HaltEnds.{roused_served}
-use Rattle.lk_progress.proofs.HeadServed.{still_served}
-use Rattle.lk_progress.proofs.Quiet.{heads_stay_served, rests_served}
+use Rattle.lk_waits.proofs.HaltEnds.{roused_served}
+use Rattle.lk_waits.proofs.HeadServed.{still_served}
+use Rattle.lk_waits.proofs.Quiet.{heads_stay_served, rests_served}
 use Rattle.lk_progress.proofs.Ranked.{tidy, ranked, inside}
 use Rattle.lk_progress.proofs.Reached.{Reached, reached_from_rest, top_is, row_stuck, finished_by}
 use Rattle.lk_progress.proofs.Rows.{row_moves}

@@ -11,7 +11,7 @@ use Rattle.lk_rows.specs.declared.parts.Pc.TheVariants.{R3}
 use Rattle.lk_rows.specs.Moves.{started, first_place}
 use Rattle.lk_progress.specs.Ordered.{ReadsAlone}
 use Rattle.lk_progress.proofs.Moves.{Settles}
-use Rattle.lk_progress.proofs.Quiet.{IsQuietRow, IsQuietFrame, first_quiet}
+use Rattle.lk_waits.proofs.Quiet.{IsQuietRow, IsQuietFrame, first_quiet}
 
 first_not_R3 : (mode : Mode) (v : Verb) → Some (first_place mode v) ≢ Some R3
 first_not_R3 Virt Unlock e = cc e

@@ -22,8 +22,8 @@ use Rattle.lk_law.specs.Leads.{course_in}
 use Rattle.lk_law.specs.Premises.{IsThen}
 use Rattle.lk_law.specs.Sound.{world}
 use Rattle.lk_law.specs.Steps.{led}
-use Rattle.lk_progress.specs.Waits.{polls}
-use Rattle.lk_progress.proofs.Stands.{off, off_unlock}
+use Rattle.lk_waits.specs.Waits.{polls}
+use Rattle.lk_waits.proofs.Stands.{off, off_unlock}
 
 set_self : {A : Type 0} (xs : List A) (i : ℕ) (x : A) → slice_get xs i ≡ Some x → set xs i x ≡ xs
 set_self [] i x e = refl

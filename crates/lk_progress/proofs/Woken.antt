@@ -25,7 +25,7 @@ use Rattle.lk_core.proofs.RowKept.{top_live}
 use Rattle.lk_core.proofs.Same.{KeepsFrames, same_then, same_set_top, same_set_halted}
 use Rattle.lk_core.proofs.Seated.{seated, world-set_top}
 use Rattle.lk_core.proofs.Worlds.{world-set_halted, world-set_kicked}
-use Rattle.lk_progress.proofs.Changed.{Roused}
+use Rattle.lk_waits.proofs.Changed.{Roused}
 use Rattle.lk_progress.proofs.Ranked.{shallow}
 
 -- the top frame of a processor is its newest

@@ -1,6 +1,3 @@
-pub mod Waits
-pub mod Order
-pub mod Followed
 pub mod Ordered
 pub mod Runs
 pub mod Fair
@@ -8,5 +5,3 @@ pub mod Measure
 pub mod Potential
 pub mod Turns
 pub mod InTurn
-pub mod Aside
-pub mod Halting

@@ -1,9 +1,8 @@
 -- When a setup is ordered, of which the programs alone say so.
-use Rattle.std.specs.Prelude.{◌≡◌, ◌≢◌, ◌⊎◌, ◌<◌, ◌*◌, ◌+◌, ℕ, Some, None, Bool, true, false}
-use Rattle.std.specs.Prelude.{slice_get, if◌then◌else◌}
+use Rattle.std.specs.Prelude.{◌≡◌, ◌≢◌, ◌⊎◌, ◌<◌, ℕ, Some, None, Bool, true, false}
+use Rattle.std.specs.Prelude.{slice_get}
 use Rattle.lk_abs.specs.declared.holder.Manner.{Manner}
 use Rattle.lk_abs.specs.declared.names.Waiter.{Waiter}
-use Rattle.lk_abs.specs.declared.names.LockName.{LockName}
 use Rattle.lk_rows.specs.declared.setup.Op.{Op}
 use Rattle.lk_rows.specs.declared.setup.Verb.{Verb}
 use Rattle.lk_rows.specs.declared.setup.Verb.TheVariants.{Lock, Read, Write, TryRead, RUnlock}
@@ -46,10 +45,6 @@ pub record IsOrdered (rank : ℕ → ℕ) (size : ℕ) (setup : Setup) : Type 0 
       → (rank q.lock < rank o.lock)
       ⊎ ((o.verb ≡ Read) × (q.lock ≡ o.lock)
       × ((j : ℕ) (r : Op) → slice_get (program_at setup p g) j ≡ Some r → r.lock ≡ o.lock → only_reads r.verb ≡ true))
-
--- the level of a lock: that of a wait lock is below that of its reader-writer lock
-abbrev pub level_of : (ℕ → ℕ) → LockName → ℕ
-level_of rank l = rank l.index * 2 + (if l.wait then 0 else 1)
 
 -- The frame takes no wait lock as a reader.
 abbrev pub ReadsAlone : Frame → Type 0

@@ -15,8 +15,8 @@ use Rattle.lk_law.specs.Cna.{moves_aside}
 use Rattle.lk_law.specs.MachineLaws.{AreInRange}
 use Rattle.lk_rows.specs.declared.parts.Pc.{Pc}
 use Rattle.lk_law.specs.Sound.{world}
-use Rattle.lk_progress.specs.Waits.{IsBarred}
-use Rattle.lk_progress.specs.Halting.{IsRobbed}
+use Rattle.lk_waits.specs.Waits.{IsBarred}
+use Rattle.lk_waits.specs.Halting.{IsRobbed}
 use Rattle.lk_progress.specs.Ordered.{IsOrdered}
 use Rattle.lk_progress.specs.Potential.{budget, is_pause}
 

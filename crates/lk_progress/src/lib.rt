@@ -4,6 +4,6 @@
 mod laws;
 
 pub use laws::{
-    fair_runs_finish, no_deadlock, operations_are_short, ordered_runs_go_on, successors_come,
-    takes_are_in_turn, takes_before_are_few,
+    fair_runs_finish, operations_are_short, ordered_runs_go_on, takes_are_in_turn,
+    takes_before_are_few,
 };

@@ -8,7 +8,7 @@ use Rattle.lk_rows.specs.declared.parts.Pc.TheVariants.{F1, V1, P3, G6, G7, G10}
 use Rattle.lk_rows.specs.declared.parts.Pc.TheVariants.{N1, C1, C3, C10, H1, E14, W6, E12, R2, R5, Wr5}
 use Rattle.lk_rows.specs.declared.parts.Pc.TheVariants.{E2, E3, E4, E5, E10, E11}
 use Rattle.lk_domain.specs.Calls.{is_seeking}
-use Rattle.lk_progress.specs.Waits.{lock_at, polls}
+use Rattle.lk_waits.specs.Waits.{lock_at, polls}
 use Rattle.lk_ranks.specs.Order.{is_trying, level, sought_at}
 
 pub sought_is : (c : Pc) (f : Frame) → sought_at c f ≡ lock_at c f

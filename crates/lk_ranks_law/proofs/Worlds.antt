@@ -18,10 +18,10 @@ use Rattle.lk_domain.specs.declared.plan.Plan.{Plan}
 use Rattle.lk_domain.specs.declared.view.View.{View}
 use Rattle.lk_domain.proofs.Stacks.{frame_in-above, frame_in-top}
 use Rattle.lk_domain.proofs.seats.Owners.{Framed, framed}
-use Rattle.lk_progress.specs.Order.{IsRanked, IsTidy}
-use Rattle.lk_progress.specs.Waits.{IsTop, lock_at, polls}
-use Rattle.lk_progress.proofs.Climb.{stuck_wait_for_outside}
-use Rattle.lk_progress.proofs.ClimbAside.{at_bay_wait_for_outside}
+use Rattle.lk_waits.specs.Order.{IsRanked, IsTidy}
+use Rattle.lk_waits.specs.Waits.{IsTop, lock_at, polls}
+use Rattle.lk_waits.proofs.Climb.{stuck_wait_for_outside}
+use Rattle.lk_waits.proofs.ClimbAside.{at_bay_wait_for_outside}
 use Rattle.lk_ranks.specs.Order.{level, sought_at, AreInOrder, HasCalls, IsFor, IsInOrder, Waits}
 use Rattle.lk_ranks_law.specs.Domains.{AllStand, DomainsWaitForOutside, DomainsWaitForOutsideAside}
 use Rattle.lk_ranks_law.proofs.Frames.{IsTopOf, top_of, of_frame, of_older, some_place}

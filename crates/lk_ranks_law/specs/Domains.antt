@@ -8,9 +8,9 @@ use Rattle.lk_domain.specs.Keeps.{Slot}
 use Rattle.lk_domain.specs.Stand.{Stand}
 use Rattle.lk_domain.specs.declared.plan.Plan.{Plan}
 use Rattle.lk_domain.specs.declared.view.View.{View}
-use Rattle.lk_progress.specs.Aside.{IsFollowedAside}
-use Rattle.lk_progress.specs.Order.{HoldsOutside, IsFollowed}
-use Rattle.lk_progress.specs.Waits.{IsAtBay, IsStuck}
+use Rattle.lk_waits.specs.Aside.{IsFollowedAside}
+use Rattle.lk_waits.specs.Order.{HoldsOutside, IsFollowed}
+use Rattle.lk_waits.specs.Waits.{IsAtBay, IsStuck}
 use Rattle.lk_ranks.specs.Order.{AreInOrder, HasCalls}
 
 -- each call of each processor stands at a row: none is over

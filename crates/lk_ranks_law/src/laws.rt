@@ -7,7 +7,7 @@ ghost use Rattle.lk_ranks_law.specs.Domains.{DomainsWaitForOutside, DomainsWaitF
 /// is in no call. That is a critical section of the program, and its to end.
 ///
 /// It is supposed that each queue head which waits for its successor has one, or one is coming, as
-/// `successors_come` of `lk_progress` says of each row. The rule of the table doesn't say it.
+/// `successors_come` of `lk_waits` says of each row. The rule of the table doesn't say it.
 ///
 /// In `cna` the same is true where a queue head that turns on the spot counts as standing.
 pub fn ordered_domains_go_on()

@@ -1,0 +1,207 @@
+-- From which rows a frame comes to where it waits without a node.
+use Rattle.std.proofs.Common.{◌≡◌, inl, inr, ℕ, Option, Some, None, Bool, true, false}
+use Rattle.std.proofs.Common.{refl, ap}
+use Rattle.std.proofs.lemmas.Bool.{cases_Bool}
+use Rattle.std.specs.Prelude.{if◌then◌else◌, is_some, ◌&&◌, not, ◌==◌}
+use Rattle.lk_abs.specs.declared.names.Mode.{Mode}
+use Rattle.lk_abs.specs.declared.names.Mode.TheVariants.{Virt, Native, Cna, Pv}
+use Rattle.lk_abs.specs.declared.names.Waiter.{Waiter}
+use Rattle.lk_word.specs.declared.spin_word.NodeName.{NodeName}
+use Rattle.lk_word.specs.declared.spin_word.Fields.{Fields}
+use Rattle.lk_word.specs.declared.rw_word.RwFields.{RwFields}
+use Rattle.lk_rows.specs.declared.parts.Flag.{Flag}
+use Rattle.lk_rows.specs.declared.parts.Flag.TheVariants as flag
+use Rattle.lk_rows.specs.declared.parts.Frame.{Frame}
+use Rattle.lk_rows.specs.declared.parts.Pc.{Pc}
+use Rattle.lk_rows.specs.declared.parts.Pc.TheVariants.{F1, T1, T2, U1, V1, V2, P0, P1, P2, P3}
+use Rattle.lk_rows.specs.declared.parts.Pc.TheVariants.{P4, G1, G2, G3, G4, G5, G6, G7, G8, G9}
+use Rattle.lk_rows.specs.declared.parts.Pc.TheVariants.{G10, G11, N1, N2}
+use Rattle.lk_rows.specs.declared.parts.Pc.TheVariants.{R1, R2, R3, R4, R5, Wr1, Wr2, Wr3, Wr4}
+use Rattle.lk_rows.specs.declared.parts.Pc.TheVariants.{Wr5, Wr6, Y1, Y2, Y3, Y4, Y5, Z1, Z2}
+use Rattle.lk_rows.specs.declared.parts.Pc.TheVariants.{C1, C2, C3, C4, C5, C6, C7, C8, C9, C10}
+use Rattle.lk_rows.specs.declared.parts.Why.{Why}
+use Rattle.lk_rows.specs.declared.parts.Why.TheVariants as why
+use Rattle.lk_rows.specs.declared.setup.Verb.TheVariants.{Unlock}
+use Rattle.lk_rows.specs.Moves.{is_node, node_of, first_place}
+use Rattle.lk_rows.specs.Row.{Effect, Lead}
+use Rattle.lk_rows.specs.rows.Spin.{is_free, is_unlocked, to_queue, after_fast}
+use Rattle.lk_rows.specs.rows.Queue.{is_sole, after_entry, after_arrival}
+use Rattle.lk_rows.specs.rows.Queue.{after_head, after_flag, after_next, after_link}
+use Rattle.lk_rows.specs.rows.Cna.{Sight, search_first, search_on, may_stay, is_last, after_tail}
+use Rattle.lk_rows.specs.rows.Rw.{is_empty, is_open, is_cleared}
+use Rattle.lk_rows.specs.TopRow.{target}
+use Rattle.lk_law.specs.Families.{may_halt}
+use Rattle.lk_law.specs.Leads.{course_in}
+use Rattle.lk_law.specs.Premises.{IsThen}
+use Rattle.lk_law.specs.Steps.{led, sight_in}
+use Rattle.lk_law.specs.World.{World}
+
+-- a place at which a frame waits without a node
+abbrev pub tells : Option Pc → Bool
+tells (Some N1) = true
+tells (Some N2) = true
+tells _ = false
+
+-- from these rows alone a frame comes to such a place
+abbrev pub nears : Pc → Bool
+nears N1 = true
+nears N2 = true
+nears G1 = true
+nears _ = false
+
+-- the place is none of these
+abbrev pub Mute : Option Pc → Type 0
+Mute o = tells o ≡ false
+
+either_mute : {A : Type 0} (f : Frame) (b : Bool) (x y : Effect A) → Mute (led f x.leads).place
+    → Mute (led f y.leads).place → Mute (led f (if b then x else y).leads).place
+either_mute f true x y h k = h
+either_mute f false x y h k = k
+
+either_row : (b : Bool) (d e : Pc) → Mute (Some d) → Mute (Some e) → Mute (Some (if b then d else e))
+either_row true d e h k = h
+either_row false d e h k = k
+
+pub after : (f : Frame) → (f.lock.wait ≡ true → IsThen f.then) → Mute (if f.lock.wait then f.then else None)
+after f inner =
+    elim (cases_Bool f.lock.wait) [
+      | inl e ↦ rw e (elim (inner e) [ inl q ↦ ap tells q | inr q ↦ ap tells q ])
+      | inr e ↦ rw e refl
+    ]
+
+mute_queue : (x : Fields) → Mute (Some (to_queue x))
+mute_queue x = either_row x.pending G1 _ refl (either_row (is_some x.tail) G1 P1 refl refl)
+
+mute_fast : (mode : Mode) (x : Fields) → Mute (Some (after_fast mode x))
+mute_fast Virt x = refl
+mute_fast Pv x = refl
+mute_fast Native x = either_row (is_unlocked x.locked && x.pending && not (is_some x.tail)) P0 _ refl (mute_queue x)
+mute_fast Cna x = either_row (is_unlocked x.locked && x.pending && not (is_some x.tail)) P0 _ refl (mute_queue x)
+
+pub mute_entry : (mode : Mode) (me : Option NodeName) → is_some me ≡ true → Mute (Some (after_entry mode me))
+mute_entry Virt (Some n) e = refl
+mute_entry Native (Some n) e = refl
+mute_entry Cna (Some n) e = refl
+mute_entry Pv (Some n) e = refl
+mute_entry mode None e = cc e
+
+mute_arrival : (mode : Mode) (f : Frame) (t : Option NodeName) → Mute (led f (after_arrival mode t).leads).place
+mute_arrival Virt f None = refl
+mute_arrival Native f None = refl
+mute_arrival Cna f None = refl
+mute_arrival Pv f None = refl
+mute_arrival Virt f (Some n) = refl
+mute_arrival Native f (Some n) = refl
+mute_arrival Cna f (Some n) = refl
+mute_arrival Pv f (Some n) = refl
+
+mute_flag : (f : Frame) (x : Flag) → Mute (led f (after_flag x).leads).place
+mute_flag f flag.Unset = refl
+mute_flag f flag.Go = refl
+mute_flag f (flag.Second n) = refl
+
+mute_head : (mode : Mode) → Mute (Some (after_head mode))
+mute_head Virt = refl
+mute_head Native = refl
+mute_head Cna = refl
+mute_head Pv = refl
+
+mute_next : (f : Frame) (x : Option NodeName) → Mute (led f (after_next x).leads).place
+mute_next f None = refl
+mute_next f (Some n) = refl
+
+mute_link : (mode : Mode) (f : Frame) (k : ℕ) → Mute (led f (after_link mode k)).place
+mute_link Virt f k = refl
+mute_link Native f k = refl
+mute_link Cna f k = refl
+mute_link Pv f k = refl
+
+mute_unlock : (mode : Mode) → Mute (Some (first_place mode Unlock))
+mute_unlock Virt = refl
+mute_unlock Native = refl
+mute_unlock Cna = refl
+mute_unlock Pv = refl
+
+-- a head that chooses goes on to its own rows
+mute_first : (s : Sight) (f : Frame) (o x : Option NodeName) → Mute (led f (search_first s o x).leads).place
+mute_first s f None None = refl
+mute_first s f (Some m) None = refl
+mute_first s f o (Some n) =
+    either_mute f (may_stay s) _ _ (either_mute f (s.local n) _ _ refl refl) (either_mute f (is_some o) _ _ refl refl)
+
+mute_on : (s : Sight) (f : Frame) (x : Option NodeName) → Mute (led f (search_on s f x).leads).place
+mute_on s f None = either_mute f (is_some f.second) _ _ refl refl
+mute_on s f (Some n) = either_mute f (s.local n) _ _ (either_mute f (is_some f.second) _ _ refl refl) refl
+
+mute_tail : (y : Why) → Mute (Some (after_tail y))
+mute_tail why.Append = refl
+mute_tail why.Flush = refl
+mute_tail why.Promotion = refl
+
+module _ (m : World) (w : Waiter) (f : Frame) (inner : f.lock.wait ≡ true → IsThen f.then) where
+  abbrev x : Fields
+  x = m.word f.lock
+
+  abbrev y : RwFields
+  y = m.rw f.lock.index
+
+  abbrev pub lead : Pc → Lead
+  lead c = (course_in m w f c (target c f)).leads
+
+  -- where the row leads
+  abbrev pub to : Pc → Option Pc
+  to c = (led f (lead c)).place
+
+  pub mute : (c : Pc) → may_halt c ≡ false → nears c ≡ false → Mute (to c)
+  mute F1 a p = either_mute f (is_free x) _ _ (after f inner) (mute_fast m.mode x)
+  mute T1 a p = either_mute f (is_free x) _ _ refl refl
+  mute T2 a p = either_mute f (is_free x) _ _ (after f inner) refl
+  mute U1 a p = refl
+  mute V1 a p = either_row (is_free x) V2 V1 refl refl
+  mute V2 a p = either_mute f (is_free x) _ _ (after f inner) refl
+  mute P0 a p = mute_queue x
+  mute P1 a p =
+      either_row x.pending G1 _ refl
+      (either_row (is_some x.tail) P2 _ refl (either_row (is_unlocked x.locked) P4 P3 refl refl))
+  mute P2 a p = refl
+  mute P3 a p = either_row (is_unlocked x.locked) P4 P3 refl refl
+  mute P4 a p = after f inner
+  mute G2 a p = either_row (is_free x) G3 G4 refl refl
+  mute G3 a p = either_mute f (is_free x) _ _ (after f inner) refl
+  mute G5 a p = mute_link m.mode f m.turns
+  mute G4 a p = mute_arrival m.mode f x.tail
+  mute G6 a p = mute_flag f (m.node (node_of f.me)).flag
+  mute G7 a p = either_row (is_unlocked x.locked && not x.pending) _ G7 (either_row (is_node x.tail (node_of f.me) && not (is_some f.second)) G8 G9 refl refl) refl
+  mute G8 a p = either_mute f (is_sole f x) _ _ (after f inner) refl
+  mute G9 a p = mute_head m.mode
+  mute G10 a p = mute_next f (m.node (node_of f.me)).next
+  mute G11 a p = after f inner
+  mute R1 a p = either_mute f (is_open y) _ _ refl (either_row (f.ctx == 0) R3 R2 refl refl)
+  mute R2 a p = either_mute f y.writer _ _ refl refl
+  mute R3 a p = refl
+  mute R4 a p = refl
+  mute R5 a p = either_mute f y.writer _ _ refl (mute_unlock m.mode)
+  mute Wr1 a p = either_mute f (is_empty y) _ _ refl refl
+  mute Wr2 a p = either_row (is_empty y) Wr3 Wr4 refl refl
+  mute Wr3 a p = either_mute f (is_empty y) _ _ (mute_unlock m.mode) refl
+  mute Wr4 a p = refl
+  mute Wr5 a p = either_row (is_cleared y) Wr6 Wr5 refl refl
+  mute Wr6 a p = either_mute f (is_cleared y) _ _ (mute_unlock m.mode) refl
+  mute Y1 a p = either_mute f (is_open y) _ _ refl refl
+  mute Y2 a p = either_mute f (is_open y) _ _ refl refl
+  mute Y3 a p = refl
+  mute Y4 a p = either_mute f (is_empty y) _ _ refl refl
+  mute Y5 a p = either_mute f (is_empty y) _ _ refl refl
+  mute Z1 a p = refl
+  mute Z2 a p = refl
+  mute C1 a p = mute_first (sight_in m w f) f f.second (m.node (node_of f.me)).next
+  mute C2 a p = mute_on (sight_in m w f) f (m.node (node_of f.b)).next
+  mute C3 a p = mute_tail f.why
+  mute C4 a p = refl
+  mute C5 a p = refl
+  mute C6 a p = refl
+  mute C7 a p = refl
+  mute C8 a p = after f inner
+  mute C9 a p = refl
+  mute C10 a p = either_mute f (is_last f x) _ _ refl refl
+  mute _ a p = cc (a, p)
