@@ -1,7 +1,7 @@
 -- What a seat knows of its processor's locks: the calls that it is in, each with its trail, and the
 -- locks that it holds. And what a row makes of this, by the value that it meets.
 use Rattle.std.specs.Prelude.{◌≡◌, ℕ, ◌+◌, ◌<◌, ◌==◌, ◌&&◌, ◌||◌, not, nat_lt, Bool, true, false, List, []}
-use Rattle.std.specs.Prelude.{◌∷◌, ◌++◌, length, Option, Some, None, if◌then◌else◌}
+use Rattle.std.specs.Prelude.{◌∷◌, ◌++◌, length, Option, Some, None, if◌then◌else◌, is_some}
 use Rattle.lk_abs.specs.Names.{same_lock}
 use Rattle.lk_abs.specs.declared.holder.Manner.{Manner}
 use Rattle.lk_abs.specs.declared.holder.Manner.TheVariants.{Spins, Reads, Writes}
@@ -161,6 +161,11 @@ releases f = begins_release f.place && not (f.lock.wait && not (is_leaving f.pla
 abbrev pub Rests : List Running → Type 0
 Rests [] = Unit {0}
 Rests (r ∷ rs) = (releases r.frame ≡ false) × Rests rs
+
+-- each call stands at a row
+abbrev pub ArePlaced : List Running → Type 0
+ArePlaced [] = Unit {0}
+ArePlaced (r ∷ rs) = (is_some r.frame.place ≡ true) × ArePlaced rs
 
 -- how many calls are in the slow path
 abbrev pub slows : List Running → ℕ

@@ -23,7 +23,8 @@ use Rattle.lk_law.specs.Nodes.{will_link}
 use Rattle.lk_law.specs.Premises.{Uses}
 use Rattle.lk_law.specs.SoundWorld.{IsSoundWorld, is_rw_name}
 use Rattle.lk_law.specs.World.{World}
-use Rattle.lk_domain.specs.Calls.{Calls, no_calls, frame_in, held_in, Stacked, Rests, AreHeld}
+use Rattle.lk_waits.specs.Attended.{IsAttended}
+use Rattle.lk_domain.specs.Calls.{Calls, no_calls, frame_in, held_in, Stacked, ArePlaced, Rests, AreHeld}
 use Rattle.lk_domain.specs.Calls.{AreFresh, Running, told_in, is_inner, lock_name}
 use Rattle.lk_domain.specs.Plans.{cpus_of, locks_of, kind_at, layout_in, IsRunningPlan, turns_of}
 use Rattle.lk_domain.specs.Views.{total, times, numbers, once_below}
@@ -88,7 +89,8 @@ AreTold m rs = (d : ℕ) (f : Frame) (c : Pc) (a : NodeName) (b : Bool) (w : Wai
     → told_in rs d ≡ Some (a, b) → Uses m w a → b ≡ is_inner w.ctx
 
 -- The calls of a seat with the number p: the world's processor is theirs; their contexts are
--- numbered from the oldest, and there are six at most; none waits at a release; each lock is held
+-- numbered from the oldest, and there are six at most; each stands at a row; none waits at a release;
+-- each lock is held
 -- once, in a manner of its kind, and by nobody who waits for it; of the node to come as many words
 -- are reset as the seat knows; a head's count of handoffs is what the seat has read; and what a
 -- mark told it of the node that it will link is true.
@@ -96,6 +98,7 @@ pub record SeatFits (m : World) (p : ℕ) (c : Calls) : Type 0 where
   pub mirrors : Mirrors m p c
   pub stacked : Stacked c.frames
   pub few : length c.frames ≤ 6
+  pub placed : ArePlaced c.frames
   pub rests : Rests c.frames
   pub held : AreHeld m.kind c.holds
   pub fresh : AreFresh c.frames c.holds
@@ -204,6 +207,8 @@ pub record Runs (k : Plan) {S : Type 0} (s : State S View) : Type 0 where
   pub world : World
   pub histories : LockName → LockHistory
   pub sound : IsSoundWorld world histories
+  -- who waits for a successor or a kick waits for somebody
+  pub attended : IsAttended world
   pub of_plan : IsOfPlan k world
   -- the marks of the links
   pub marks : NodeName → Bool

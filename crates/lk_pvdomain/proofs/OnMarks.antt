@@ -3,7 +3,7 @@ use Rattle.std.proofs.Common.{◌≡◌, ◌≢◌, inl, inr, ℕ, ◌<◌, List
 use Rattle.std.proofs.Common.{Option, Some, None, Bool, true, false, eqb, eq-eqb, ne_eqb, refl, sym, ap, ◌∙◌, subst, arith}
 use Rattle.std.proofs.Common.{get_or-set_other, get_or-set_same}
 use Rattle.std.proofs.lemmas.Bool.{cases_eq}
-use Rattle.std.specs.Prelude.{if◌then◌else◌, ◌&&◌, not}
+use Rattle.std.specs.Prelude.{if◌then◌else◌, ◌&&◌, not, is_some}
 use mathlib.Core.Option.{Option as Maybe, some}
 use lib.ListN.{get_elem?}
 use Rattle.atomic_table.specs.Table.{State as Table}
@@ -41,6 +41,7 @@ use Rattle.lk_domain.proofs.Stacks.{frame_in-above}
 use Rattle.lk_domain.proofs.rows.Begun.{same_at, else_at}
 use Rattle.lk_domain.proofs.rows.Grips.{IsOwn, own_row}
 use Rattle.lk_domain.proofs.rows.Halts.{hash_same}
+use Rattle.lk_waits.proofs.Attended.{wake_attended}
 use Rattle.lk_domain.proofs.rows.Kept as rule
 use Rattle.lk_domain.proofs.rows.Lands as lands
 use Rattle.lk_domain.proofs.rows.Kept.{counted_after}
@@ -89,6 +90,11 @@ after_calm : (o : Option Pc) → stands_halting o ≡ true → begins_release (a
 after_calm (Some W6) h = refl
 after_calm (Some E12) h = refl
 after_calm _ h = cc h
+
+after_placed : (o : Option Pc) → stands_halting o ≡ true → is_some (after_halt o) ≡ true
+after_placed (Some W6) h = refl
+after_placed (Some E12) h = refl
+after_placed _ h = cc h
 
 was_seeking : (o : Option Pc) → stands_halting o ≡ true → is_seeking o ≡ true
 was_seeking (Some W6) h = refl
@@ -368,6 +374,7 @@ module _ (k : Plan) {S : Type 0} (s : Table S View) (st : Runs k s) (id : ℕ) (
           mirrors = mirrors';
           stacked = (stacked.0, tt);
           few = omega arith;
+          placed = (after_placed x.frame.place stood, tt);
           rests = (ap (λ b. b && not (gone.lock.wait && not (is_leaving gone.place))) (after_calm x.frame.place stood), tt);
           held = fits.held;
           fresh = (
@@ -394,6 +401,7 @@ module _ (k : Plan) {S : Type 0} (s : Table S View) (st : Runs k s) (id : ℕ) (
         λ j lt. other (hash_at k j) (λ e. omega (arith, e, lt)) in
         rule.keeps k s st id v me p is n' _ st.marks u ws
         (wake_keeps st.world st.histories rules y x.frame st.sound newest live (fits.halted ∙ asleep)).1
+        (wake_attended st.world _ y x.frame st.sound.spins newest live (fits.halted ∙ asleep) on' st.attended)
         (record {
           mode = st.of_plan.mode;
           turns = st.of_plan.turns;

@@ -339,6 +339,7 @@ module _ (k : Plan) {S : Type 0} (s : Table S View) (st : Runs k s) (id : ℕ) (
         mirrors = record { frames = fits₂.mirrors.frames; holds = fits₂.mirrors.holds };
         stacked = fits₂.stacked;
         few = fits₂.few;
+        placed = fits₂.placed;
         rests = fits₂.rests;
         held = fits₂.held;
         fresh = fits₂.fresh;
@@ -360,7 +361,7 @@ module _ (k : Plan) {S : Type 0} (s : Table S View) (st : Runs k s) (id : ℕ) (
       let same : set s.words i (get_or s.words i 0) ≡ s.words = set_self s.words i in
       let u : View = record v { calls = record v.calls { looked = n; spot = o } } in
       subst (λ (ws : List ℕ). Runs k {S = S} (record { words = ws; homes = homes; views = set s.views id u })) (sym same)
-      (rule.keeps k s st id v me p is st.world st.histories st.marks u s.words st.sound st.of_plan st.stored
+      (rule.keeps k s st id v me p is st.world st.histories st.marks u s.words st.sound st.attended st.of_plan st.stored
       (rule.right k s st id v me p is) refl
       (λ z ne. (refl, λ j. refl)) (λ q ne. refl) (λ q d ne f. refl) (λ q d ne f. f.counted) (λ q d ne f. f.told) refl (noted n o)
       (record {

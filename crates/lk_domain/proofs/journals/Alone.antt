@@ -134,7 +134,7 @@ module _ (k : Plan) {S : Type 0} (s : State S View) (st : Runs k s) (id : ℕ) (
       → Runs k {S = S} (record { words = set s.words i x; homes = homes; views = set s.views id w })
   paged_as w who fit i x page seeks homes =
       let far = far_set k s.words i x (let b = page.below in omega (arith, b)) in
-      rule.keeps_as k s st id v me n.0 n.1 st.world st.histories st.marks w (set s.words i x) st.sound st.of_plan
+      rule.keeps_as k s st id v me n.0 n.1 st.world st.histories st.marks w (set s.words i x) st.sound st.attended st.of_plan
       (record {
         long = length-set s.words i x ∙ st.stored.long;
         locks = locks_else k st.world st.world s.words st.stored.locks i x page.apart (same_locks st.world);

@@ -303,13 +303,14 @@ module _ (k : Plan) (slots id : ℕ) (m : Me Slot View) (number : IsNumbered m.0
   pub reads : Stand k (record { words = set s.words j n; homes = s.homes; views = set s.views id u })
   reads =
       record {
-        runs = rule.keeps k s st id m.0 me p number.1 st.world st.histories st.marks u (set s.words j n) st.sound st.of_plan
+        runs = rule.keeps k s st id m.0 me p number.1 st.world st.histories st.marks u (set s.words j n) st.sound st.attended st.of_plan
             (subst (IsStored k st.world st.marks) (sym same_words) st.stored) (rule.right k s st id m.0 me p number.1) (ap (λ (ws : List ℕ). get_or ws 0 0) same_words)
             (λ x ne. (refl, λ i. refl)) (λ q ne. refl) (λ q d ne f. refl) (λ q d ne f. f.counted) (λ q d ne f. f.told) refl
             (record {
               mirrors = record { frames = fits.mirrors.frames; holds = fits.mirrors.holds };
               stacked = fits.stacked;
               few = fits.few;
+              placed = fits.placed;
               rests = fits.rests;
               held = fits.held;
               fresh = fits.fresh;

@@ -57,6 +57,8 @@ use Rattle.lk_domain.proofs.seats.Totals.{drawn}
 use Rattle.lk_domain.proofs.queue.Counts.{queued_is}
 use Rattle.lk_domain.proofs.queue.NodeStores.{node_stored, node_here, node_else, OnNode, met_of, unseen_by, own_by, met_there, row_else, row_others, row_locks, unmarked_by, row_state}
 use Rattle.lk_domain.proofs.rows.Users.{KeepsMarks, IsTrue, bare_me, kept_marks}
+use Rattle.lk_rows.specs.rows.Pv.{is_set}
+use Rattle.lk_waits.proofs.Attended.{attended_stays}
 use Rattle.lk_domain.specs.Calls.{plain}
 
 -- the node to come of a processor
@@ -296,6 +298,15 @@ module _ (k : Plan) {S : Type 0} (s : State S View) (st : Runs k s) (id : ℕ) (
       let here : n.node a ≡ y = node_here st.world a y in
       let away : (b : NodeName) → b ≢ a → n.node b ≡ st.world.node b = λ b ne. node_else st.world a b y ne in
       keeps k s st id v me p is n st.histories st.marks u (set s.words (node_at k a q) 0) sound
+      (attended_stays st.world n (waiter p 0) (record { words = λ j. refl; others = λ x ne. refl; either = inl refl }) refl
+      (λ b h. elim (node_cases b a) [
+        | inl e ↦
+            let back : is_set (n.node a).flag ≡ true = subst (λ (z : NodeName). is_set (n.node z).flag ≡ true) e h in
+            subst (λ (z : NodeName). is_set (st.world.node z).flag ≡ true) (sym e)
+            (reset_flag q (st.world.node a) (ap (λ (z : Node). is_set z.flag) (sym here) ∙ back))
+        | inr off ↦ ap (λ (z : Node). is_set z.flag) (sym (away b off)) ∙ h
+      ])
+      (λ r. refl) st.attended)
       (record {
         mode = st.of_plan.mode;
         turns = st.of_plan.turns;
@@ -330,6 +341,7 @@ module _ (k : Plan) {S : Type 0} (s : State S View) (st : Runs k s) (id : ℕ) (
         mirrors = record { frames = fits.mirrors.frames; holds = fits.mirrors.holds };
         stacked = fits.stacked;
         few = fits.few;
+        placed = fits.placed;
         rests = fits.rests;
         held = fits.held;
         fresh = fits.fresh;
@@ -358,6 +370,12 @@ module _ (k : Plan) {S : Type 0} (s : State S View) (st : Runs k s) (id : ℕ) (
     where
       none_some : {j : ℕ} → None ≡ Some j → ⊥
       none_some e = cc e
+
+      reset_flag : (q : Part) (x : Node) → is_set (reset_part q x).flag ≡ true → is_set x.flag ≡ true
+      reset_flag part.Flag x h = cc h
+      reset_flag part.Next x h = h
+      reset_flag part.SecondTail x h = h
+      reset_flag part.Runs x h = h
 
       reset_state : (q : Part) (x : Node) → (reset_part q x).state ≡ x.state
       reset_state part.Flag x = refl

@@ -20,7 +20,10 @@ use Rattle.lk_rows.specs.declared.setup.Verb.{Verb}
 use Rattle.lk_rows.specs.declared.setup.Verb.TheVariants.{Lock, Try, Unlock, Read, TryRead}
 use Rattle.lk_rows.specs.declared.setup.Verb.TheVariants.{RUnlock, Write, TryWrite, WUnlock}
 use Rattle.lk_rows.specs.Machine.{rest_frame}
-use Rattle.lk_rows.specs.Moves.{node_of}
+use Rattle.lk_rows.specs.Moves.{node_of, first_place}
+use Rattle.lk_rows.specs.declared.parts.Node.{Node}
+use Rattle.lk_rows.specs.rows.Pv.{is_set}
+use Rattle.lk_word.specs.declared.spin_word.Fields.{Fields}
 use Rattle.lk_rows.specs.Programs.{way_before, kind_of}
 use Rattle.lk_law.specs.Agree.{halts}
 use Rattle.lk_law.specs.Families.{may_halt}
@@ -37,11 +40,14 @@ use Rattle.lk_law.specs.SoundWorld.{rw_phase_of, rw_phase_if, rw_phase_at}
 use Rattle.lk_law.specs.Steps.{put_frame, put_held}
 use Rattle.lk_law.specs.World.{World}
 use Rattle.lk_law.proofs.common.Cases.{lock_cases}
-use Rattle.lk_law.proofs.common.Puts.{if-true, if-false, same_lock-else}
+use Rattle.lk_law.proofs.common.Puts.{if-true, if-false, same_lock-else, same_waiter-else}
 use Rattle.lk_law.proofs.common.Sames.{same_lock-self, same_lock-true, same_waiter-self}
 use Rattle.lk_law.proofs.rw.Begins.{begin_keeps, end_keeps}
 use Rattle.lk_law.proofs.running.Holds.{holder_is_one, hold_moves}
 use Rattle.lk_law.proofs.running.SharedHolds.{share_moves, put_here, put_waiters, put_locks}
+use Rattle.lk_waits.specs.Attended.{IsAttended}
+use Rattle.lk_waits.proofs.Attended.{attended_stays}
+use Rattle.lk_waits.proofs.Quiet.{IsQuietRow, IsQuietFrame, first_quiet}
 use Rattle.lk_domain.specs.Calls.{Running, running, Hold, Calls, Stacked, Rests, frame_in, held_in}
 use Rattle.lk_domain.specs.Calls.{holds_in, moved_to, lock_name, begun, begin, MayBegin, AreHeld, releases}
 use Rattle.lk_domain.specs.Calls.{way_in, is_leaving, begins_release}
@@ -79,6 +85,7 @@ pub record Acted (m : World) (p : ℕ) (c : Calls) : Type 0 where
   pub mirrors : Mirrors world p c
   pub same : SameWords m world
   pub others : Elsewhere m world p
+  pub attended : IsAttended m → IsAttended world
 
 pub same_at : (p d e : ℕ) → same_waiter (waiter p d) (waiter p e) ≡ eqb d e
 same_at p d e = ap (λ b. b && eqb d e) (eq-eqb p p refl)
@@ -176,6 +183,41 @@ module _ (m : World) (hs : LockName → LockHistory) (ok : IsSoundWorld m hs)
     (others u ne).1,
   )
 
+  -- a frame of a new call shows nothing
+  begun_quiet : (v : Verb) (l : ℕ) (g : Frame) → begun m.mode d v l ≡ g → IsQuietFrame g
+  begun_quiet v l g is e at =
+      let same : Some (first_place m.mode v) ≡ Some e = ap (λ (x : Frame). x.place) is ∙ at in
+      let row : first_place m.mode v ≡ e = (let q : Some (first_place m.mode v) ≡ Some e = same in cc q) in
+      subst IsQuietRow row (first_quiet m.mode v)
+
+  -- so those that wait are attended as before
+  begun_attended : (n : World) (v : Verb) (l : ℕ) → n.frame ≡ m.frame → SameWords m n → IsAttended m
+      → IsAttended (put_frame (put_frame n (waiter p d) (Some rested)) (waiter p d) (Some (begun m.mode d v l)))
+  begun_attended n v l frames same =
+      let w = waiter p d in
+      let b = put_frame (put_frame n w (Some rested)) w (Some (begun m.mode d v l)) in
+      attended_stays m b w
+      (record {
+        words = λ j. ap (λ (g : LockName → Fields). g j) same.word;
+        others = λ u ne.
+            if-false (same_waiter u w) (Some (begun m.mode d v l)) _ (same_waiter-else u w ne)
+            ∙ (if-false (same_waiter u w) (Some rested) (n.frame u) (same_waiter-else u w ne)
+            ∙ ap (λ (g : Waiter → Option Frame). g u) frames);
+        either = inr (
+          λ g e. begun_quiet v l g (some_is (sym (if-true (same_waiter w w) (Some (begun m.mode d v l)) _ (same_waiter-self w)) ∙ e)),
+          λ g e. absurd (none_some (sym topless ∙ e)),
+        );
+      })
+      same.mode
+      (λ a h. ap (λ (g : NodeName → Node). is_set (g a).flag) (sym same.node) ∙ h)
+      (λ q. ap (λ (g : ℕ → Bool). g q) same.kicked)
+    where
+      some_is : {f g : Frame} → Some f ≡ Some g → f ≡ g
+      some_is e = cc e
+
+      none_some : {f : Frame} → None ≡ Some f → ⊥
+      none_some q = cc q
+
   -- one before which the context holds the lock so
   plainly_begins : (v : Verb) (l : ℕ) → m.kind l ≡ kind_of v
       → held_in c.holds d (lock_name l) ≡ way_before v
@@ -188,6 +230,7 @@ module _ (m : World) (hs : LockName → LockHistory) (ok : IsSoundWorld m hs)
         mirrors = begun_mirrors m v l c.holds refl mirrors.holds;
         same = record { mode = refl; turns = refl; threshold = refl; format = refl; sockets = refl; kind = refl; word = refl; rw = refl; node = refl; queued = refl; entry = refl; halted = refl; kicked = refl };
         others = begun_else m (begun m.mode d v l) (λ u ne. (refl, λ k. refl));
+        attended = begun_attended m v l refl (record { mode = refl; turns = refl; threshold = refl; format = refl; sockets = refl; kind = refl; word = refl; rw = refl; node = refl; queued = refl; entry = refl; halted = refl; kicked = refl });
       }
 
   taking_begins : (v : Verb) (l : ℕ) → m.kind l ≡ kind_of v → way_before v ≡ None → holds_in c.holds l ≡ false
@@ -298,6 +341,7 @@ module _ (m : World) (hs : LockName → LockHistory) (ok : IsSoundWorld m hs)
         same = record { mode = refl; turns = refl; threshold = refl; format = refl; sockets = refl; kind = refl; word = refl; rw = refl; node = refl; queued = refl; entry = refl; halted = refl; kicked = refl };
         others = begun_else n (begun m.mode d Unlock l)
             (λ x ne. (refl, λ j. elsewhere (same_waiter x w) (same_waiter x u) (same_lock j k) (m.held x j) (else_at x p d ne) (else_at x p from.0 ne)));
+        attended = begun_attended n Unlock l refl (record { mode = refl; turns = refl; threshold = refl; format = refl; sockets = refl; kind = refl; word = refl; rw = refl; node = refl; queued = refl; entry = refl; halted = refl; kicked = refl });
       }
     where
       untouched : (a b s : Bool) (x : Option Manner) → s ≡ false
@@ -409,6 +453,7 @@ module _ (m : World) (hs : LockName → LockHistory) (ok : IsSoundWorld m hs)
               λ j. put_waiters n1 w k (Some way) x j (λ q. ne (ap (λ (z : Waiter). z.cpu) q))
                   ∙ put_waiters m u k None x j (λ q. ne (ap (λ (z : Waiter). z.cpu) q)),
             ));
+        attended = begun_attended n v l refl (record { mode = refl; turns = refl; threshold = refl; format = refl; sockets = refl; kind = refl; word = refl; rw = refl; node = refl; queued = refl; entry = refl; halted = refl; kicked = refl });
       }
 
   -- whichever context holds it

@@ -4,7 +4,7 @@ use Rattle.std.proofs.Common.{◌≡◌, ◌≢◌, ◌⊎◌, ⊎_elim, inl, in
 use Rattle.std.proofs.Common.{length, set, get_or, Option, Some, None, Bool, true, false, refl, sym}
 use Rattle.std.proofs.Common.{ap, ◌∙◌, subst, arith}
 use Rattle.std.proofs.lemmas.Bool.{cases_eq}
-use Rattle.std.specs.Prelude.{if◌then◌else◌}
+use Rattle.std.specs.Prelude.{if◌then◌else◌, is_some}
 use mathlib.Core.Option.{Option as Maybe, some, some-injective, some-ne-none}
 use lib.ListN.{get_elem?}
 use Rattle.atomic_table.specs.Table.{State}
@@ -23,7 +23,8 @@ use Rattle.lk_rows.specs.Moves.{node_of}
 use Rattle.lk_law.specs.Agree.{halts}
 use Rattle.lk_law.specs.SoundWorld.{IsSoundWorld}
 use Rattle.lk_law.specs.World.{World}
-use Rattle.lk_domain.specs.Calls.{Mark, Running, Calls, no_calls, Stacked, Rests}
+use Rattle.lk_waits.specs.Attended.{IsAttended}
+use Rattle.lk_domain.specs.Calls.{Mark, Running, Calls, no_calls, Stacked, ArePlaced, Rests}
 use Rattle.lk_domain.specs.Calls.{AreHeld, releases}
 use Rattle.lk_domain.specs.Calls.{frames_after}
 use Rattle.lk_domain.specs.Calls.{acting, begin, is_on}
@@ -100,6 +101,12 @@ pub fewer : (v : Verb) (g : Frame) (t : List Mark) (rs : List Running) (q : Opti
 fewer v g t rs None h = omega arith
 fewer v g t rs (Some c) h = omega arith
 
+-- a call that goes on stands at a row
+pub after_placed : (v : Verb) (g : Frame) (t : List Mark) (rs : List Running) (q : Option Pc)
+    → g.place ≡ q → ArePlaced rs → ArePlaced (frames_after v g t rs q)
+after_placed v g t rs None e h = h
+after_placed v g t rs (Some c) e h = (ap is_some e, h)
+
 pub after_rests : (v : Verb) (g : Frame) (t : List Mark) (rs : List Running) (q : Option Pc)
     → releases g ≡ false → Rests rs → Rests (frames_after v g t rs q)
 after_rests v g t rs None calm h = h
@@ -175,14 +182,14 @@ module _ (k : Plan) {S : Type 0} (s : State S View) (st : Runs k s) (id : ℕ) (
   -- The step of a seat that leaves who it is, but for the values that it has out, and the other
   -- processors' frames and holds and the nodes to come, as they are, keeps the rule.
   pub keeps_as : (n : World) (hs : LockName → LockHistory) (marks : NodeName → Bool) (u : View) (ws : List ℕ)
-      → IsSoundWorld n hs → IsOfPlan k n → IsStored k n marks ws → AreRight n marks → get_or ws 0 0 ≡ roll_of
+      → IsSoundWorld n hs → IsAttended n → IsOfPlan k n → IsStored k n marks ws → AreRight n marks → get_or ws 0 0 ≡ roll_of
       → Elsewhere st.world n p → ((q : ℕ) → q ≢ p → n.queued q ≡ st.world.queued q)
       → KeepsComing st.world n p → KeepsCounts st.world n p → KeepsTold st.world n p → SameWho v.who u.who
       → SeatFits n p u.calls
       → Halting k s st.world n ws id p → Seeks k ws u.calls
       → (homes : List (Maybe S))
       → Runs k {S = S} (record { words = ws; homes = homes; views = set s.views id u })
-  keeps_as n hs marks u ws sound of_plan stored marked roll others queued coming counts tolds who fit beside sought homes =
+  keeps_as n hs marks u ws sound attended of_plan stored marked roll others queued coming counts tolds who fit beside sought homes =
       let views = set s.views id u in
       let number : u.who.number ≡ Some p = who.number ∙ is in
       record {
@@ -190,6 +197,7 @@ module _ (k : Plan) {S : Type 0} (s : State S View) (st : Runs k s) (id : ℕ) (
         world = n;
         histories = hs;
         sound = sound;
+        attended = attended;
         of_plan = of_plan;
         marks = marks;
         stored = stored;
@@ -208,6 +216,7 @@ module _ (k : Plan) {S : Type 0} (s : State S View) (st : Runs k s) (id : ℕ) (
               mirrors = mirrors_else st.world n p q x.calls others ne old.mirrors;
               stacked = old.stacked;
               few = old.few;
+              placed = old.placed;
               rests = old.rests;
               held = subst (λ (kind : ℕ → Kind). AreHeld kind x.calls.holds) (sym (of_plan.kind ∙ sym st.of_plan.kind)) old.held;
               fresh = old.fresh;
@@ -255,15 +264,15 @@ module _ (k : Plan) {S : Type 0} (s : State S View) (st : Runs k s) (id : ℕ) (
 
   -- so does one that leaves who it is
   pub keeps : (n : World) (hs : LockName → LockHistory) (marks : NodeName → Bool) (u : View) (ws : List ℕ)
-      → IsSoundWorld n hs → IsOfPlan k n → IsStored k n marks ws → AreRight n marks → get_or ws 0 0 ≡ roll_of
+      → IsSoundWorld n hs → IsAttended n → IsOfPlan k n → IsStored k n marks ws → AreRight n marks → get_or ws 0 0 ≡ roll_of
       → Elsewhere st.world n p → ((q : ℕ) → q ≢ p → n.queued q ≡ st.world.queued q)
       → KeepsComing st.world n p → KeepsCounts st.world n p → KeepsTold st.world n p → u.who ≡ v.who
       → SeatFits n p u.calls
       → Halting k s st.world n ws id p → Seeks k ws u.calls
       → (homes : List (Maybe S))
       → Runs k {S = S} (record { words = ws; homes = homes; views = set s.views id u })
-  keeps n hs marks u ws sound of_plan stored marked roll others queued coming counts tolds who fit beside sought homes =
-      keeps_as n hs marks u ws sound of_plan stored marked roll others queued coming counts tolds
+  keeps n hs marks u ws sound attended of_plan stored marked roll others queued coming counts tolds who fit beside sought homes =
+      keeps_as n hs marks u ws sound attended of_plan stored marked roll others queued coming counts tolds
       (record {
         plan = ap (λ (x : Who). x.plan) who;
         number = ap (λ (x : Who). x.number) who;

@@ -40,7 +40,7 @@ use Rattle.lk_law.specs.SoundWorld.{RwFits}
 use Rattle.lk_law.specs.Steps.{row_in, led, sight_in}
 use Rattle.lk_law.specs.World.{World}
 use Rattle.lk_law.proofs.common.Puts.{if-true}
-use Rattle.lk_domain.specs.Calls.{terms_of, Mark, mark, Running, running, Calls, Stacked, Rests}
+use Rattle.lk_domain.specs.Calls.{terms_of, Mark, mark, Running, running, Calls, Stacked, ArePlaced, Rests}
 use Rattle.lk_domain.specs.Calls.{StandsOn, Takes, grip_of, after}
 use Rattle.lk_domain.specs.Calls.{AreHeld, AreFresh, Suits, is_seeking, is_leaving, releases, holds_in, waits_in}
 use Rattle.lk_domain.specs.Calls.{frames_after, holds_after, setting, course, row_of, row_on, row_at}
@@ -65,7 +65,7 @@ use Rattle.lk_domain.proofs.rows.Users.{KeepsMarks, marked_after, told_after, Is
 use Rattle.lk_domain.proofs.rows.Poised.{RestsBelow, Poised, poised}
 use Rattle.lk_domain.proofs.rows.Sights.{IsSeen, Sees, SeesWhom, SeesSame, same_course, unseen_cases}
 use Rattle.lk_domain.proofs.rows.Kept as rule
-use Rattle.lk_domain.proofs.rows.Kept.{acting_same, counted_after, unlooked, acting_halted, after_stacked, after_few, fewer, after_rests, KeepsComing, Halting, KeepsCounts, KeepsTold}
+use Rattle.lk_domain.proofs.rows.Kept.{acting_same, counted_after, unlooked, acting_halted, after_stacked, after_few, fewer, after_placed, after_rests, KeepsComing, Halting, KeepsCounts, KeepsTold}
 
 module _ (k : Plan) {S : Type 0} (s : State S View) (st : Runs k s) (id : ℕ) (v : View)
     (me : get_elem? s.views id ≡ some v) (p : ℕ) (is : v.who.number ≡ Some p) where
@@ -378,7 +378,7 @@ module _ (k : Plan) {S : Type 0} (s : State S View) (st : Runs k s) (id : ℕ) (
         let z = at.few in omega arith in
         let below : Rests acts.rest = subst RestsBelow acts.is at.below in
         let same = at.acted.same in
-        rule.keeps k s st id v me p is d.world d.histories marks u ws d.sound
+        rule.keeps k s st id v me p is d.world d.histories marks u ws d.sound (d.attended (at.acted.attended st.attended))
         (record {
           mode = d.mode ∙ (r.mode ∙ same_mode);
           turns = d.turns ∙ (r.turns ∙ (same.turns ∙ st.of_plan.turns));
@@ -407,6 +407,7 @@ module _ (k : Plan) {S : Type 0} (s : State S View) (st : Runs k s) (id : ℕ) (
           mirrors = d.mirrors;
           stacked = after_stacked verb (led f o.leads) (trail y) acts.rest (led f o.leads).place (led_ctx f o.leads ∙ stands.0) stands.1;
           few = after_few verb (led f o.leads) (trail y) acts.rest (led f o.leads).place low;
+          placed = after_placed verb (led f o.leads) (trail y) acts.rest (led f o.leads).place refl (subst ArePlaced acts.is at.placed).1;
           rests = after_rests verb (led f o.leads) (trail y) acts.rest (led f o.leads).place calm below;
           held = subst (λ (kind : ℕ → Kind). AreHeld kind (holds_after (grip_of t o) f.ctx (held_lock t f) (c.taken + 1) c.holds))
               (sym (d.kind ∙ (r.kind ∙ same.kind)))

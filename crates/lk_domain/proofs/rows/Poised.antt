@@ -15,7 +15,7 @@ use Rattle.lk_law.specs.Agree.{halts}
 use Rattle.lk_law.specs.SoundWorld.{IsSoundWorld}
 use Rattle.lk_law.specs.World.{World}
 use Rattle.lk_law.proofs.common.Puts.{if_cases}
-use Rattle.lk_domain.specs.Calls.{Running, running, Hold, Calls, Stacked, Rests}
+use Rattle.lk_domain.specs.Calls.{Running, running, Hold, Calls, Stacked, ArePlaced, Rests}
 use Rattle.lk_domain.specs.Calls.{MayBegin, moved_to, lock_name, begun}
 use Rattle.lk_domain.specs.Calls.{AreHeld, AreFresh, is_seeking}
 use Rattle.lk_domain.specs.Calls.{acting, begin, is_on, Begins, holds_begun}
@@ -35,6 +35,7 @@ pub record Poised (m : World) (p : ℕ) (c : Calls) : Type 0 where
   pub acted : Acted m p c
   pub stacked : Stacked c.frames
   pub few : length c.frames ≤ 6
+  pub placed : ArePlaced c.frames
   pub below : RestsBelow c.frames
   pub held : AreHeld m.kind c.holds
   pub fresh : AreFresh c.frames c.holds
@@ -93,9 +94,11 @@ poised k m hs ok kinds is p c fits v l asks =
         mirrors = fits.mirrors;
         same = record { mode = refl; turns = refl; threshold = refl; format = refl; sockets = refl; kind = refl; word = refl; rw = refl; node = refl; queued = refl; entry = refl; halted = refl; kicked = refl };
         others = λ u ne. (refl, λ j. refl);
+        attended = λ h. h;
       };
       stacked = fits.stacked;
       few = fits.few;
+      placed = fits.placed;
       below = rests_below c.frames fits.rests;
       held = fits.held;
       fresh = fits.fresh;
@@ -106,6 +109,7 @@ poised k m hs ok kinds is p c fits v l asks =
           (begins m hs ok p c (λ on. a.3 (ap halts (sym is) ∙ on)) fits.mirrors fits.stacked fits.held fits.rests v l a.1 (ap (λ (g : ℕ → Kind). g l) kinds ∙ a.2));
       stacked = (refl, fits.stacked);
       few = let x = a.0 in omega arith;
+      placed = (refl, fits.placed);
       below = fits.rests;
       held = begun_held m.kind v (length c.frames) l c.holds a.0 fits.held;
       fresh = begun_fresh k.mode c v l a.1 fits.fresh;

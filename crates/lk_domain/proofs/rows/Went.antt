@@ -1,6 +1,6 @@
 -- A call makes its row, and ends where the row ends it: what becomes of the world for which words and
 -- seats stand.
-use Rattle.std.proofs.Common.{◌≡◌, ℕ, suc, ◌+◌, ◌≤◌, List, [], ◌∷◌, length}
+use Rattle.std.proofs.Common.{◌≡◌, inr, ℕ, suc, ◌+◌, ◌≤◌, List, [], ◌∷◌, length}
 use Rattle.std.proofs.Common.{Option, Some, None, Bool, true, false, eqb, eqb-true, refl, sym}
 use Rattle.std.proofs.Common.{ap, ◌∙◌, subst, arith}
 use Rattle.std.specs.Prelude.{if◌then◌else◌, ◌&&◌, is_some}
@@ -29,11 +29,14 @@ use Rattle.lk_law.specs.SoundWorld.{IsSoundWorld}
 use Rattle.lk_law.specs.Steps.{put_frame, row_in, led, way_led, way_told, told_event, told_on}
 use Rattle.lk_law.specs.World.{World}
 use Rattle.lk_law.proofs.common.EveryRow.{every_row_keeps}
-use Rattle.lk_law.proofs.common.Puts.{if-true, if-false}
+use Rattle.lk_law.proofs.common.Puts.{if-true, if-false, same_waiter-else}
 use Rattle.lk_law.proofs.common.Sames.{same_lock-true, same_waiter-self}
 use Rattle.lk_law.proofs.rw.Begins.{end_keeps}
 use Rattle.lk_law.proofs.running.Leads.{row_is_done}
 use Rattle.lk_law.proofs.running.Tells.{lead_goes_on}
+use Rattle.lk_waits.specs.Attended.{IsAttended}
+use Rattle.lk_waits.proofs.Attended.{attended_stays, row_keeps_attended}
+use Rattle.lk_waits.proofs.Quiet.{placeless_quiet}
 use Rattle.lk_domain.specs.Calls.{Mark, Running, running, Calls, Stacked, frame_in, held_in, free_of}
 use Rattle.lk_domain.specs.Calls.{Grip, Unchanged, Takes, Frees, grip_of, grip_led, grip_told, after}
 use Rattle.lk_domain.specs.Calls.{holds_after, frames_after}
@@ -155,6 +158,7 @@ pub record Went (m n : World) (p : ℕ) (c : Calls) : Type 0 where
   pub halted : world.halted ≡ n.halted
   pub kicked : world.kicked ≡ n.kicked
   pub others : Elsewhere m world p
+  pub attended : IsAttended m → IsAttended world
 
 module _ (m : World) (hs : LockName → LockHistory) (ok : IsSoundWorld m hs)
     (p : ℕ) (c : Calls) (mirrors : Mirrors m p c)
@@ -282,6 +286,32 @@ module _ (m : World) (hs : LockName → LockHistory) (ok : IsSoundWorld m hs)
       end_keeps n hs' w (Some g) None row_sound now (none, fit.bare (ap has_node idle)) tt
       (λ e. absurd (grind (arith, e))) (λ d e. absurd (grind (arith, e)))
 
+  -- those that wait are attended after the row as before it, and after the end of the call
+  row_attended : IsAttended m → IsAttended n
+  row_attended = row_keeps_attended pc m _ w f ok.spins newest.above live place (ok.fits w f live).after
+
+  end_attended : g.place ≡ None → IsAttended n → IsAttended (put_frame n w None)
+  end_attended none =
+      attended_stays n (put_frame n w None) w
+      (record {
+        words = λ j. refl;
+        others = λ u ne. if-false (same_waiter u w) None (n.frame u) (same_waiter-else u w ne);
+        either = inr (
+          λ h e. absurd (none_some (sym (if-true (same_waiter w w) None (n.frame w) (same_waiter-self w)) ∙ e)),
+          λ h e. placeless_quiet h (ap (λ (x : Frame). x.place) (sym (some_is (sym now ∙ e))) ∙ none),
+        );
+      })
+      refl (λ a h. h) (λ q. refl)
+    where
+      now : n.frame w ≡ Some g
+      now = done.frame w ∙ if-true (same_waiter w w) (Some g) (m.frame w) (same_waiter-self w)
+
+      some_is : {a b : Frame} → Some a ≡ Some b → a ≡ b
+      some_is e = cc e
+
+      none_some : {a : Frame} → None ≡ Some a → ⊥
+      none_some e = cc e
+
   -- the call goes where the row leads, or has ended
   pub goes : (t' : List Mark) → Went m n p (after verb f t' rs c x o)
   goes t' = by g.place refl
@@ -307,6 +337,7 @@ module _ (m : World) (hs : LockName → LockHistory) (ok : IsSoundWorld m hs)
         halted = refl;
         kicked = refl;
         others = end_others;
+        attended = λ h. end_attended e (row_attended h);
       }
       by (Some d) e = record {
         world = n;
@@ -327,4 +358,5 @@ module _ (m : World) (hs : LockName → LockHistory) (ok : IsSoundWorld m hs)
         halted = refl;
         kicked = refl;
         others = row_others;
+        attended = row_attended;
       }

@@ -25,6 +25,7 @@ use Rattle.lk_rows.specs.Machine.{rest_word, rest_rw}
 use Rattle.lk_law.specs.Resting.{world_at_rest}
 use Rattle.lk_law.specs.World.{World}
 use Rattle.lk_law.proofs.common.RestWorld.{rest_is_sound}
+use Rattle.lk_waits.proofs.Attended.{attended_at_rest}
 use Rattle.lk_domain.specs.Calls.{no_calls, Running}
 use Rattle.lk_domain.specs.Keeps.{Slot, Keeps, Knows, undrawn}
 use Rattle.lk_domain.specs.Ledgers.{no_ledger, with_share}
@@ -139,6 +140,7 @@ module _ (k : Plan) (ws : List ℕ) (j : Journal) (lawful : IsRunningPlan k) (op
         world = w;
         histories = λ l. no_history;
         sound = rest_is_sound k.format k.mode (turns_of k) k.threshold k.topology.sockets.items (kind_at k) lawful.turns;
+        attended = attended_at_rest w (λ u f live. absurd (none_some live));
         of_plan = record { mode = refl; turns = refl; threshold = refl; format = refl; sockets = refl; kind = refl };
         marks = λ n. false;
         marked = record { says = λ awake a b u uses next. absurd (none_some uses.1); bare = λ on a. refl };
@@ -284,6 +286,7 @@ module _ (k plan : Plan) (slots id : ℕ) (m : Me Slot View) (n : ℕ) (t : Step
           world = ok.world;
           histories = ok.histories;
           sound = ok.sound;
+          attended = ok.attended;
           of_plan = ok.of_plan;
           marks = ok.marks;
           marked = ok.marked;
@@ -303,6 +306,7 @@ module _ (k plan : Plan) (slots id : ℕ) (m : Me Slot View) (n : ℕ) (t : Step
                 mirrors = ok.blank q (λ h y at is. fresh h y q (omega arith) at is);
                 stacked = tt;
                 few = omega arith;
+                placed = tt;
                 rests = tt;
                 held = tt;
                 fresh = tt;

@@ -77,6 +77,7 @@ module _ (k : Plan) (s : State Slot View) (both : Stand k s) (id : ℕ) (v : Vie
           mirrors = record { frames = old.mirrors.frames; holds = λ d m. old.mirrors.holds d m ∙ sym (marks.mark_held l b v.calls.holds d m) };
           stacked = old.stacked;
           few = old.few;
+          placed = old.placed;
           rests = old.rests;
           held = marks.mark_are both.runs.world.kind l b v.calls.holds old.held;
           fresh = marks.mark_fresh l b v.calls.frames v.calls.holds old.fresh;
@@ -91,7 +92,7 @@ module _ (k : Plan) (s : State Slot View) (both : Stand k s) (id : ℕ) (v : Vie
     runs =
         let st = both.runs in
         subst (λ (xs : List ℕ). Runs k {S = Slot} (record { words = xs; homes = homes; views = set s.views id w })) (sym (set-get_or s.words i 0))
-        (rule.keeps_as k s st id v me n.0 n.1 st.world st.histories st.marks w s.words st.sound st.of_plan st.stored
+        (rule.keeps_as k s st id v me n.0 n.1 st.world st.histories st.marks w s.words st.sound st.attended st.of_plan st.stored
         (rule.right k s st id v me n.0 n.1) refl
         (λ u ne. (refl, λ m. refl)) (λ p ne. refl) (λ p d ne f. refl) (λ p d ne f. f.counted) (λ p d ne f. f.told)
         (record { plan = refl; number = refl; ended = refl; dealt = refl }) fits
