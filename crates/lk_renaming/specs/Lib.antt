@@ -1,0 +1,4 @@
+pub mod Renaming
+pub mod Renamed
+pub mod Named
+pub mod Law

@@ -1,0 +1,9 @@
+//! Renamings of processors. Processors are *alike* if they have the same programs and handlers and
+//! stand on the same socket. If a renaming lets only those that are alike change places, a machine
+//! and the same machine renamed go on as one: the renamed act leaves the renamed machine, and tells
+//! the renamed event.
+#![tactic(auto)]
+
+mod laws;
+
+pub use laws::renamed_goes_on;
