@@ -1,5 +1,5 @@
 -- Whether a call of a domain polls without a node; and where none does, who comes to a queue does so with one.
-use Rattle.std.proofs.Common.{◌≡◌, ◌≢◌, ◌⊎◌, inl, inr, ℕ, zero, suc, ◌<◌, ◌≤◌, List, [], ◌∷◌, length, Option, Some, None, Bool}
+use Rattle.std.proofs.Common.{◌≡◌, ◌⊎◌, inl, inr, ℕ, zero, suc, ◌<◌, ◌≤◌, List, [], ◌∷◌, Option, Some, None, Bool}
 use Rattle.std.proofs.Common.{true, false, refl, sym, ap, ◌∙◌, subst, arith}
 use Rattle.std.proofs.lemmas.Bool.{cases_Bool, cases_eq, cases_lt}
 use mathlib.Core.Option.{some, some-injective, some-ne-none}
@@ -9,13 +9,11 @@ use Rattle.lk_abs.specs.declared.names.Waiter.{Waiter}
 use Rattle.lk_abs.specs.declared.names.LockName.{LockName}
 use Rattle.lk_rows.specs.declared.parts.Frame.{Frame}
 use Rattle.lk_rows.specs.declared.parts.Pc.{Pc}
-use Rattle.lk_rows.specs.declared.parts.Pc.TheVariants.{N1, N2}
-use Rattle.lk_law.specs.Agree.{halts}
 use Rattle.lk_law.specs.World.{World}
 use Rattle.lk_waits.specs.Attended.{is_bare, IsDeep}
 use Rattle.lk_waits.specs.Aside.{IsFollowedAside, IsFollowedAsideBy}
 use Rattle.lk_waits.specs.Order.{SomebodyComes, SomebodyComesBy, comes_by, IsFollowed, IsFollowedBy}
-use Rattle.lk_domain.specs.Calls.{Running, Calls, no_calls, frame_in}
+use Rattle.lk_domain.specs.Calls.{Calls, no_calls, frame_in}
 use Rattle.lk_domain.specs.Keeps.{Slot}
 use Rattle.lk_domain.specs.Runs.{Runs, waiter}
 use Rattle.lk_domain.specs.declared.plan.Plan.{Plan}

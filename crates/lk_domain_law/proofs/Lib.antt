@@ -1,6 +1,10 @@
 pub mod Newest
 pub mod Ranks
+pub mod Calm
 pub mod Bare
-pub mod GoesOn
 pub mod Decided
-pub mod Positive
+pub mod GoesOn
+pub mod Leads
+pub mod Circles
+pub mod Quiet
+pub mod Kept

@@ -1,10 +1,8 @@
 -- The newest frame of a processor is the newest call of its seat.
-use Rattle.std.proofs.Common.{◌≡◌, ◌≢◌, inl, inr, ℕ, suc, ◌<◌, ◌≤◌, List, [], ◌∷◌, length, Option, Some, None, Bool}
-use Rattle.std.proofs.Common.{true, false, eqb, eq-eqb, ne_eqb, refl, sym, ap, ◌∙◌, subst, arith}
+use Rattle.std.proofs.Common.{◌≡◌, ◌≢◌, inl, inr, ℕ, ◌<◌, List, [], ◌∷◌, length, Option, Some, None}
+use Rattle.std.proofs.Common.{true, eqb, eq-eqb, ne_eqb, refl, sym, ap, ◌∙◌, subst, arith}
 use Rattle.std.proofs.lemmas.Bool.{cases_eq, cases_lt}
-use Rattle.std.specs.Prelude.{if◌then◌else◌, is_some}
-use mathlib.Core.Option.{some}
-use lib.ListN.{get_elem?}
+use Rattle.std.specs.Prelude.{is_some}
 use Rattle.atomic_table.specs.Table.{State}
 use Rattle.lk_abs.specs.declared.names.Waiter.{Waiter}
 use Rattle.lk_rows.specs.declared.parts.Frame.{Frame}
@@ -12,7 +10,7 @@ use Rattle.lk_rows.specs.declared.parts.Pc.{Pc}
 use Rattle.lk_law.proofs.common.Puts.{if-true, if-false}
 use Rattle.lk_waits.specs.Order.{IsTidy}
 use Rattle.lk_waits.specs.Waits.{IsTop}
-use Rattle.lk_domain.specs.Calls.{Running, Calls, Stacked, ArePlaced, frame_in}
+use Rattle.lk_domain.specs.Calls.{Running, Stacked, ArePlaced, frame_in}
 use Rattle.lk_domain.specs.Runs.{Runs, SeatFits, waiter}
 use Rattle.lk_domain.specs.declared.plan.Plan.{Plan}
 use Rattle.lk_domain.specs.declared.view.View.{View}

@@ -1,2 +1,4 @@
 pub mod InOrder
+pub mod Kept
 pub mod GoingOn
+pub mod Circles

@@ -3,4 +3,4 @@
 
 mod laws;
 
-pub use laws::standing_domains_go_on;
+pub use laws::{no_circle, order_is_kept, standing_domains_go_on};

@@ -1,3 +1,1 @@
 pub mod Ranking
-pub mod Chains
-pub mod Calling

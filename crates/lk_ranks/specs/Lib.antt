@@ -1,3 +1,1 @@
 pub mod Above
-pub mod Order
-pub mod Laws

@@ -5,10 +5,9 @@
 //! waits for. A program that knows its order proves that; one that does not know it asks [`is_above`].
 //! A try never waits, so it asks only that the processor does not hold the lock.
 //!
-//! So no processors wait for each other in a circle: [`no_circle`] says so of every state of a domain.
+//! So a domain goes on whose locks are taken by these calls: `standing_domains_go_on` of `lk_domain_law`.
 #![tactic(auto)]
 
-mod laws;
 mod order;
 mod ranks;
 mod rw;
@@ -16,7 +15,6 @@ mod shared;
 mod showing;
 mod spin;
 
-pub use laws::no_circle;
 pub use order::is_above;
 pub use ranks::Ranks;
 pub use rw::RankedRw;

@@ -1,55 +1,24 @@
--- The law, said outright: whose row leads on is found by a search among the seats.
-use Rattle.std.proofs.Common.{◌≡◌, ◌⊎◌, inl, inr, ℕ, zero, suc, List, [], ◌∷◌, Option, Some, None, Bool}
-use Rattle.std.proofs.Common.{true, false, refl, sym, ap, ◌∙◌, subst, arith}
-use mathlib.Core.Option.{some, some-injective, some-ne-none}
+-- The law: whose row leads on is found by a search among the seats.
+use Rattle.std.proofs.Common.{◌≡◌, ◌⊎◌, inl, inr, ℕ, List, [], ◌∷◌, Option, Some, None}
+use Rattle.std.proofs.Common.{refl, sym, ap, ◌∙◌, subst, arith}
+use mathlib.Core.Option.{some}
 use lib.ListN.{get_elem?}
 use Rattle.atomic_table.specs.Table.{State}
-use Rattle.lk_abs.specs.declared.names.Mode.{Mode}
-use Rattle.lk_abs.specs.declared.names.Mode.TheVariants.{Virt, Native, Cna, Pv}
 use Rattle.lk_abs.specs.declared.names.Waiter.{Waiter}
 use Rattle.lk_rows.specs.declared.parts.Frame.{Frame}
 use Rattle.lk_rows.specs.declared.parts.Pc.{Pc}
-use Rattle.lk_law.specs.Agree.{halts}
-use Rattle.lk_law.specs.Cna.{moves_aside}
-use Rattle.lk_law.specs.Families.{may_halt, chooses}
 use Rattle.lk_law.specs.World.{World}
-use Rattle.lk_law.proofs.common.Puts.{not-true}
-use Rattle.lk_waits.specs.Waits.{IsStuck, StandsStill}
 use Rattle.lk_domain.specs.Calls.{Running, Calls, ArePlaced, frame_in}
 use Rattle.lk_domain.specs.Keeps.{Slot}
 use Rattle.lk_domain.specs.Runs.{Runs, waiter}
 use Rattle.lk_domain.specs.declared.plan.Plan.{Plan}
 use Rattle.lk_domain.specs.declared.view.View.{View}
-use Rattle.lk_domain.proofs.Stacks.{frame_in-top}
-use Rattle.lk_domain_law.specs.GoingOn.{IsAtStop, SomebodyLeadsOn, NobodyCalls, SomebodyGoesOn}
-use Rattle.lk_domain_law.proofs.Decided.{decided}
-use Rattle.lk_domain_law.proofs.GoesOn.{standing_domains_go_on}
-use Rattle.lk_domain_law.proofs.Newest.{some_is, row_of, newest}
-
--- all of a list, or one of it
-record One (vs : List View) (Q : ℕ → View → Type 0) : Type 0 where
-  id : ℕ
-  view_is : View
-  at : get_elem? vs id ≡ some view_is
-  is : Q id view_is
-
-abbrev Each : List View → (ℕ → View → Type 0) → Type 0
-Each vs P = (id : ℕ) (v : View) → get_elem? vs id ≡ some v → P id v
-
-each_or : (vs : List View) (P Q : ℕ → View → Type 0) → ((id : ℕ) (v : View) → get_elem? vs id ≡ some v → P id v ⊎ Q id v)
-    → Each vs P ⊎ One vs Q
-each_or [] P Q h = inl (λ id v at. absurd (some-ne-none v (sym at)))
-each_or (x ∷ xs) P Q h = elim (h 0 x refl) [
-  | inr q ↦ inr (record { id = 0; view_is = x; at = refl; is = q })
-  | inl p ↦ elim (each_or xs (λ id. P (suc id)) (λ id. Q (suc id)) (λ id v at. h (suc id) v at)) [
-    | inr o ↦ inr (record { id = suc o.id; view_is = o.view_is; at = o.at; is = o.is })
-    | inl all ↦ inl (both p all)
-  ]
-]
-  where
-    both : P 0 x → Each xs (λ id. P (suc id)) → Each (x ∷ xs) P
-    both p all zero v at = subst (P 0) (some-injective x v at) p
-    both p all (suc id) v at = all id v at
+use Rattle.lk_domain.proofs.Stacks.{frame_in-above, frame_in-top}
+use Rattle.lk_domain_law.specs.GoingOn.{GoesNowhere, SomebodyIsBare, SomebodyGoesOn, FewCallsGoOn}
+use Rattle.lk_domain_law.proofs.Calm.{Each, each_or}
+use Rattle.lk_domain_law.proofs.Decided.{goes_nowhere}
+use Rattle.lk_domain_law.proofs.GoesOn.{IsAtStop, goes_on}
+use Rattle.lk_domain_law.proofs.Newest.{none_some, some_is, row_of, newest}
 
 nil_cons : {x : Running} {xs : List Running} → [] ≡ x ∷ xs → ⊥
 nil_cons e = cc e
@@ -67,14 +36,14 @@ record Newest (v : View) : Type 0 where
   row : Pc
   place : call.frame.place ≡ Some row
 
-module _ (k : Plan) (s : State Slot View) (st : Runs k s) (awake : halts k.mode ≡ false) (plain : moves_aside k.mode ≡ false) where
+module _ (k : Plan) (s : State Slot View) (st : Runs k s) where
   abbrev m : World
   m = st.world
 
   abbrev Stays : {v : View} → Newest v → Type 0
-  Stays n = StandsStill m (waiter n.number n.call.frame.ctx) n.call.frame n.row
+  Stays n = GoesNowhere k.mode m (waiter n.number n.call.frame.ctx) n.call.frame n.row
 
-  -- a seat is in no call, or stands still, or its next row leads on
+  -- a seat is in no call, or its next row leads nowhere; or it leads on
   abbrev Calm : View → Type 0
   Calm v = (v.calls.frames ≡ []) ⊎ ((n : Newest v) × Stays n)
 
@@ -95,19 +64,14 @@ module _ (k : Plan) (s : State Slot View) (st : Runs k s) (awake : halts k.mode 
           let w : Waiter = waiter p x.frame.ctx in
           let live : m.frame w ≡ Some x.frame = fit.mirrors.frames x.frame.ctx
           ∙ (ap (λ (xs : List Running). frame_in xs x.frame.ctx) e ∙ frame_in-top x rs) in
-          let choice = (st.sound.spins.registers w x.frame live).choice in
-          let still = not-true (may_halt r.0) (λ h. let z = choice.halting r.0 r.1 h in
-          let y : halts m.mode ≡ false = ap halts st.of_plan.mode ∙ awake in cc (z, y)) in
-          let calm = not-true (chooses r.0) (λ h. let z = choice.choice r.0 r.1 h in
-          let y : moves_aside m.mode ≡ false = ap moves_aside st.of_plan.mode ∙ plain in cc (z, y)) in
-          elim (decided m w x.frame (st.sound.fits w x.frame live).after r.0 still calm r.1) [
+          elim (goes_nowhere m st.histories st.sound w x.frame r.0 live r.1 k.mode st.of_plan.mode) [
             | inl stands ↦ inl (inr (n, stands))
             | inr moves ↦ inr (n, moves)
           ]
 
   -- where each seat is calm no newest frame goes anywhere
-  stuck : Each s.views (λ id v. Calm v) → IsStuck m
-  stuck all w f c top =
+  stops : Each s.views (λ id v. Calm v) → IsAtStop k.mode m
+  stops all w f c top =
       let t = newest k s st w f c top in
       elim (all t.seat.id t.seat.view_is t.seat.at) [
         | inl none ↦ absurd (nil_cons (sym none ∙ t.is))
@@ -119,9 +83,9 @@ module _ (k : Plan) (s : State Slot View) (st : Runs k s) (awake : halts k.mode 
             let ctx : n.call.frame.ctx ≡ w.ctx = ap (λ (r : Running). r.frame.ctx) call ∙ sym t.ctx in
             let row : n.row ≡ c = some_is (sym n.place ∙ (ap (λ (y : Frame). y.place) frame ∙ top.place)) in
             let at : waiter n.number n.call.frame.ctx ≡ w = λ j. record { cpu = cpu j; ctx = ctx j } in
-            subst (λ (u : Waiter). StandsStill m u f c) at
-            (subst (λ (d : Pc). StandsStill m (waiter n.number n.call.frame.ctx) f d) row
-            (subst (λ (g : Frame). StandsStill m (waiter n.number n.call.frame.ctx) g n.row) frame z.1))
+            subst (λ (u : Waiter). GoesNowhere k.mode m u f c) at
+            (subst (λ (d : Pc). GoesNowhere k.mode m (waiter n.number n.call.frame.ctx) f d) row
+            (subst (λ (g : Frame). GoesNowhere k.mode m (waiter n.number n.call.frame.ctx) g n.row) frame z.1))
       ]
 
   -- somebody is in a call, or nobody
@@ -133,16 +97,9 @@ module _ (k : Plan) (s : State Slot View) (st : Runs k s) (awake : halts k.mode 
       by [] e = inl e
       by (x ∷ rs) e = inr (x, rs, e)
 
-stop_is : (mode : Mode) (m : World) → halts mode ≡ false → moves_aside mode ≡ false → IsStuck m → IsAtStop mode m
-stop_is Virt m a p h = h
-stop_is Native m a p h = h
-stop_is Cna m a p h = cc p
-stop_is Pv m a p h = cc a
-
 pub somebody_goes_on : SomebodyGoesOn
-somebody_goes_on rank k s st order awake plain =
-    elim (each_or s.views (λ id v. Calm k s st.runs awake plain v) (λ id v. Moves k s st.runs awake plain v)
-    (outcome k s st.runs awake plain)) [
+somebody_goes_on rank k s st order =
+    elim (each_or s.views (λ id v. Calm k s st.runs v) (λ id v. Moves k s st.runs v) (outcome k s st.runs)) [
       | inr o ↦ inl (record {
         seat = o.id;
         view_is = o.view_is;
@@ -157,10 +114,28 @@ somebody_goes_on rank k s st order awake plain =
         leads = o.is.1;
       })
       | inl all ↦ elim (each_or s.views (λ id v. v.calls.frames ≡ [])
-          (λ id v. (x : Running) × (rs : List Running) × (v.calls.frames ≡ x ∷ rs)) (in_call k s st.runs awake plain)) [
+          (λ id v. (x : Running) × (rs : List Running) × (v.calls.frames ≡ x ∷ rs)) (in_call k s st.runs)) [
             | inl none ↦ inr (inl none)
-            | inr o ↦ inr (inr (standing_domains_go_on rank k s st order
-                (stop_is k.mode st.runs.world awake plain (stuck k s st.runs awake plain all))
-                o.id o.view_is o.is.0 o.is.1 o.at o.is.2))
+            | inr o ↦ inr (inr (goes_on rank k s st.runs order (stops k s st.runs all) o.id o.view_is o.is.0 o.is.1 o.at o.is.2))
           ]
     ]
+
+pub few_calls_go_on : FewCallsGoOn
+few_calls_go_on rank k s st order few = elim (somebody_goes_on rank k s st order) [
+  | inl leads ↦ inl leads
+  | inr y ↦ elim y [
+    | inl none ↦ inr (inl none)
+    | inr z ↦ elim z [
+      | inl works ↦ inr (inr works)
+      | inr b ↦ absurd (by b b.view_is.who.number refl)
+    ]
+  ]
+]
+  where
+    by : (b : SomebodyIsBare s) (o : Option ℕ) → b.view_is.who.number ≡ o → ⊥
+    by b None e =
+        none_some (sym (ap (λ (c : Calls). frame_in c.frames b.ctx) (st.runs.silent b.seat b.view_is b.at e)) ∙ b.live)
+    by b (Some p) e =
+        let fit = st.runs.seats b.seat b.view_is p b.at e in
+        none_some (sym (frame_in-above b.view_is.calls.frames b.ctx fit.stacked
+        (let z = few b.seat b.view_is b.at in let y = b.deep in omega (arith, z, y))) ∙ b.live)

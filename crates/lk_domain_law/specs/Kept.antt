@@ -1,0 +1,38 @@
+-- The order of calls is kept, if each call that waits begins above all that its processor holds or waits for.
+use Rattle.std.specs.Prelude.{◌≡◌, ◌<◌, ℕ, Bool, true, false}
+use Rattle.lk_abs.specs.declared.names.Mode.{Mode}
+use Rattle.lk_rows.specs.declared.setup.Verb.{Verb}
+use Rattle.lk_rows.specs.declared.setup.Verb.TheVariants.{Lock, Read, Write}
+use Rattle.lk_law.specs.Leads.{Met}
+use Rattle.lk_domain.specs.Calls.{Calls, Terms, Stacked, AreFresh, begin, row_of, holds_in, waits_in}
+use Rattle.lk_ranks.specs.Above.{IsAbove}
+use Rattle.lk_domain_law.specs.InOrder.{IsInOrder}
+
+-- a call of this verb waits for its lock
+abbrev pub waits_for : Verb → Bool
+waits_for Lock = true
+waits_for Read = true
+waits_for Write = true
+waits_for _ = false
+
+-- the lock ranks above each that the processor holds, and above each on which a call of it is at work
+abbrev pub RanksAbove : (ℕ → ℕ) → ℕ → Calls → Type 0
+RanksAbove rank l c = ((k : ℕ) → holds_in c.holds k ≡ true → rank k < rank l)
+    × ((k : ℕ) → waits_in c.frames k ≡ true → rank k < rank l)
+
+-- Calls in order are so when one more begins: a call that waits, for a lock that ranks above all; a try or a
+-- release, for any.
+abbrev pub BeginsKeepOrder : Type 0
+BeginsKeepOrder = (rank : ℕ → ℕ) (mode : Mode) (c : Calls) (v : Verb) (l : ℕ) → Stacked c.frames
+    → (waits_for v ≡ true → RanksAbove rank l c) → IsInOrder rank c → IsInOrder rank (begin mode c v l)
+
+-- And after each row of the newest call, whatever it meets, and whether it ends the call or not. What is
+-- supposed of the calls is part of the rule of a domain's table.
+abbrev pub RowsKeepOrder : Type 0
+RowsKeepOrder = (rank : ℕ → ℕ) (t : Terms) (p : ℕ) (c : Calls) (x : Met) → Stacked c.frames
+    → AreFresh (row_of t p c x).frames (row_of t p c x).holds
+    → IsInOrder rank c → IsInOrder rank (row_of t p c x)
+
+-- What a call of `lk_ranks` asks that waits is just that, with the number of each lock as its rank.
+abbrev pub RanksAreAsked : Type 0
+RanksAreAsked = (l : ℕ) (c : Calls) → IsAbove l c → RanksAbove (λ (n : ℕ). n) l c
