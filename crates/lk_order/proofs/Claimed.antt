@@ -1,7 +1,5 @@
 -- The theorems, of one setup.
 use Rattle.std.proofs.Common.{◌≡◌, ℕ, true, false, refl}
-use Rattle.std.specs.Prelude.{slice_index_or}
-use Rattle.lk_abs.specs.declared.names.Kind.TheVariants.{Spin}
 use Rattle.lk_abs.specs.declared.names.Mode.{Mode}
 use Rattle.lk_abs.specs.declared.names.Mode.TheVariants.{Virt, Native, Cna, Pv}
 use Rattle.lk_rows.specs.declared.setup.Setup.{Setup}
@@ -38,7 +36,8 @@ never_deadlocks_halting setup leads lawful ordered on = record {
   halting = λ here acts range free. leads ordered.0 32 setup acts lawful ordered.1 on range free;
 }
 
--- every fair schedule of one in `native` with spinlocks finishes
+-- every fair schedule of one in which nobody is moved aside and no processor halts finishes
 pub finishes : (setup : Setup) → FairRunsFinish → IsLawfulSetup setup → (rank : ℕ → ℕ) × IsOrdered rank 32 setup → HasRoom setup
-    → setup.mode ≡ Native → ((i : ℕ) → slice_index_or setup.locks.items i Spin ≡ Spin) → FairSchedulesFinish setup
-finishes setup fair lawful ordered room native spins schedule is_fair = fair ordered.0 32 setup schedule lawful ordered.1 native spins room is_fair
+    → halts setup.mode ≡ false → moves_aside setup.mode ≡ false → FairSchedulesFinish setup
+finishes setup fair lawful ordered room awake plain schedule is_fair =
+    fair ordered.0 32 setup schedule lawful ordered.1 awake plain room is_fair

@@ -1,16 +1,16 @@
 // What the theorems say of a setup whose locks have ranks.
 
-ghost use Rattle.std.specs.Prelude.{◌≡◌, ◌≢◌, ◌⊎◌, ℕ, true, false, slice_index_or};
-ghost use Rattle.lk_abs.specs.declared.names.Kind.TheVariants.{Spin};
+ghost use Rattle.std.specs.Prelude.{◌≡◌, ◌≢◌, ◌⊎◌, ℕ, true, false};
 ghost use Rattle.lk_rows.specs.Programs.{IsLawfulSetup};
 ghost use Rattle.lk_law.specs.Agree.{halts};
+ghost use Rattle.lk_law.specs.Cna.{moves_aside};
 ghost use Rattle.lk_progress.specs.Ordered.{IsOrdered};
 ghost use Rattle.lk_progress.specs.Runs.{HasRoom};
 ghost use Rattle.lk_order.specs.Checked.{rank_in};
 ghost use Rattle.lk_order.specs.Claims.{NeverDeadlocks, FairSchedulesFinish};
 
 use crate::check::{check_ranks, crowded};
-use lk_abs::{Kind, Mode};
+use lk_abs::Mode;
 use lk_progress::{fair_runs_finish, ordered_runs_go_on};
 use lk_rows::Setup;
 
@@ -28,43 +28,18 @@ pub(crate) enum Claim {
     Unordered,
 }
 
-// Whether all locks are spinlocks.
-fn are_spin(setup: &Setup) -> bool
-    ensures { result ≡ true → (i : ℕ) → slice_index_or setup.now.locks.items i Spin ≡ Spin }
-{
-    for at in 0..setup.locks.len() {
-        let kind = setup.locks.get(at);
-        if !is_spin(*kind) {
-            return false;
-        }
-    }
-    true
-}
-
-// Whether the lock is a spinlock.
-fn is_spin(kind: Kind) -> bool
-    ensures { result ≡ true → kind ≡ Spin }
-{
-    matches!(kind, Kind::Spin)
-}
-
-// Whether the setup is of `native`, with spinlocks alone.
-fn is_bounded(setup: &Setup) -> bool
-    ensures mode { result ≡ true → setup.now.mode ≡ Mode.Native }
-    ensures spins { result ≡ true
-        → (i : ℕ) → slice_index_or setup.now.locks.items i Spin ≡ Spin }
-{
-    match setup.mode {
-        Mode::Native => are_spin(setup),
-        _ => false,
-    }
-}
-
 // Whether processors may halt.
 fn halts(mode: Mode) -> bool
     ensures { result ≡ halts mode }
 {
     matches!(mode, Mode::Pv)
+}
+
+// Whether a queue head may move waiters aside.
+fn moves_aside(mode: Mode) -> bool
+    ensures { result ≡ moves_aside mode }
+{
+    matches!(mode, Mode::Cna)
 }
 
 // What is known of an ordered setup whose processors may halt. It needs no room, since who finds no
@@ -92,10 +67,10 @@ fn claim_in_order(setup: &Setup) -> Claim
 {
     ordered_runs_go_on();
     fair_runs_finish();
-    if is_bounded(setup) {
-        Claim::Finishes
-    } else {
+    if moves_aside(setup.mode) {
         Claim::GoesOn
+    } else {
+        Claim::Finishes
     }
 }
 

@@ -1,7 +1,7 @@
--- Every act lowers the budget that changes something, is no pause, and is no swap that fails.
-use Rattle.std.proofs.Common.{◌≡◌, ◌≢◌, ◌⊎◌, inl, inr, ℕ, zero, suc, ◌<◌, ◌≤◌, ◌+◌, ◌-◌, ◌*◌, Option, Some, None, Bool}
-use Rattle.std.proofs.Common.{true, false, refl, sym, ap, ◌∙◌, subst, arith, [], ◌∷◌, length}
-use Rattle.std.proofs.lemmas.Bool.{cases_Bool, cases_lt, cases_eq, or_parts, leb-false}
+-- Every act lowers the price that changes something and is no pause.
+use Rattle.std.proofs.Common.{◌≡◌, ◌≢◌, ◌⊎◌, inl, inr, ℕ, ◌<◌, ◌≤◌, ◌+◌, ◌-◌, ◌*◌, Option, Some, None, Bool}
+use Rattle.std.proofs.Common.{true, false, refl, sym, ap, ◌∙◌, subst, arith, List, [], ◌∷◌, length}
+use Rattle.std.proofs.lemmas.Bool.{cases_Bool, cases_lt, or_parts, leb-false}
 use Rattle.std.specs.Prelude.{if◌then◌else◌, ◌||◌, ◌&&◌, not, nat_le, nat_lt}
 use Rattle.lk_abs.specs.Names.{same_waiter}
 use Rattle.lk_abs.specs.History.{LockHistory, history_of}
@@ -9,6 +9,7 @@ use Rattle.lk_abs.specs.declared.names.Mode.{Mode}
 use Rattle.lk_abs.specs.declared.names.Waiter.{Waiter}
 use Rattle.lk_abs.specs.declared.names.LockName.{LockName}
 use Rattle.lk_abs.specs.declared.events.Act.{Act}
+use Rattle.lk_abs.specs.declared.events.Event.{Event}
 use Rattle.lk_abs.specs.declared.events.Act.TheVariants as act
 use Rattle.lk_rows.specs.declared.setup.Setup.{Setup}
 use Rattle.lk_rows.specs.declared.parts.Frame.{Frame}
@@ -21,6 +22,7 @@ use Rattle.lk_rows.specs.Acts.{next, idle, step_halted, processor_of, is_shut, h
 use Rattle.lk_law.specs.Agree.{halts}
 use Rattle.lk_law.specs.Cna.{moves_aside}
 use Rattle.lk_law.specs.Kicked.{with_event}
+use Rattle.lk_law.specs.MachineLaws.{ShowsLawful}
 use Rattle.lk_law.specs.Sound.{ShowsAll, world}
 use Rattle.lk_law.specs.SoundWorld.{spin_part}
 use Rattle.lk_law.specs.World.{World}
@@ -33,29 +35,15 @@ use Rattle.lk_core.proofs.Runs.{acts_keep}
 use Rattle.lk_core.proofs.Same.{tops_push, depth_push, handlers_push, handlers_push_other, same_set_preempted}
 use Rattle.lk_core.proofs.Seated.{next_of, world-push, world-set_preempted}
 use Rattle.lk_core.proofs.Setups.{setup_kept}
-use Rattle.lk_progress.specs.Measure.{left_of}
+use Rattle.lk_progress.specs.Measure.{left_of, turn_of}
 use Rattle.lk_progress.specs.Potential.{weight_of, sum_below, cpu_weight, pending_weight, budget, is_pause}
-use Rattle.lk_progress.specs.Potential.{IsSpoilt, ActsLower, HasMoves, RunsAreShort}
+use Rattle.lk_progress.specs.Potential.{cpu_turns, turns, cost, price, TurnIsMade, PriceFalls, HasChanges}
+use Rattle.lk_progress.specs.Potential.{ActsLower, RunsAreShort}
 use Rattle.lk_progress.proofs.Measure.{begin_is_short}
 use Rattle.lk_progress.proofs.Moves.{Settles, Settled, settled_is}
-use Rattle.lk_progress.proofs.Potential.{sum_same, steps_lower, row_handlers, step_is_row}
-
--- one of them changes
-sum_more : (n : ℕ) (F G : ℕ → ℕ) (k : ℕ) → k < n → ((i : ℕ) → i ≢ k → G i ≡ F i)
-    → sum_below n G + F k ≡ sum_below n F + G k
-sum_more zero F G k lt same = absurd (omega (arith, lt))
-sum_more (suc n) F G k lt same =
-    elim (cases_eq k n) [
-      | inl e ↦
-          let h = sum_same n F G (λ i low. same i (λ q. (let z = q in omega (arith, z, e, low)))) in
-          let a = ap F e in
-          let b = ap G e in
-          omega (arith, h, a, b)
-      | inr ne ↦
-          let h = sum_more n F G k (let z = ne in grind (arith, z, lt)) same in
-          let e = same n (λ q. ne (sym q)) in
-          omega (arith, h, e)
-    ]
+use Rattle.lk_progress.proofs.Potential.{step_lowers, row_handlers, step_is_row}
+use Rattle.lk_progress.proofs.Sums.{sum_same, sum_more, times_less}
+use Rattle.lk_progress.proofs.Turned.{turns_few}
 
 module _ (m : Machine) (hs : LockName → LockHistory) (shows : ShowsAll m hs) (awake : halts m.setup.mode ≡ false)
     (plain : moves_aside m.setup.mode ≡ false) where
@@ -89,23 +77,31 @@ module _ (m : Machine) (hs : LockName → LockHistory) (shows : ShowsAll m hs) (
 
   -- a step
   step_acts : (p : ℕ) → p < length m.cpus
-      → ((next m (act.Step p)).0 ≡ m) ⊎ (budget (next m (act.Step p)).0 < budget m) ⊎ IsSpoilt m p
+      → ((next m (act.Step p)).0 ≡ m) ⊎ (budget (next m (act.Step p)).0 < budget m) ⊎ TurnIsMade m (next m (act.Step p)).0 p
   step_acts p range = by (preempted_at m p) refl
     where
       by : (b : Bool) → preempted_at m p ≡ b
-          → ((next m (act.Step p)).0 ≡ m) ⊎ (budget (next m (act.Step p)).0 < budget m) ⊎ IsSpoilt m p
+          → ((next m (act.Step p)).0 ≡ m) ⊎ (budget (next m (act.Step p)).0 < budget m) ⊎ TurnIsMade m (next m (act.Step p)).0 p
       by true e = inl (ap (λ (b : Bool). (if b then idle m else (if halted_at m p then step_halted m p else row m p)).0) e)
-      by false e = elim (steps_lower m hs p shows awake plain range e) [
-        | inl same ↦ inl same
-        | inr r ↦ elim r [
-          | inr z ↦ inr (inr z)
-          | inl lt ↦
-              let h = pending_same (next m (act.Step p)).0 (setup_kept m (act.Step p)) (cpus_is (act.Step p) range)
-              (λ q. ap (λ (k : Machine). handlers_at k q) (step_is_row m hs p shows awake plain range e)
-              ∙ row_handlers m hs p shows awake plain range e q) in
-              inr (inl (omega (arith, lt, h)))
-        ]
-      ]
+      by false e =
+          let h = pending_same (next m (act.Step p)).0 (setup_kept m (act.Step p)) (cpus_is (act.Step p) range)
+          (λ q. ap (λ (k : Machine). handlers_at k q) (step_is_row m hs p shows awake plain range e)
+          ∙ row_handlers m hs p shows awake plain range e q) in
+          elim (step_lowers m hs p shows awake plain range e) [
+            | inl same ↦ inl same
+            | inr r ↦ elim r [
+              | inl lt ↦ inr (inl (omega (arith, lt, h)))
+              | inr z ↦
+                  let l = z.left in
+                  inr (inr (record {
+                    place = z.place;
+                    here = z.here;
+                    turn = z.turn;
+                    left = omega (arith, l, h);
+                    fewer = z.fewer;
+                  }))
+            ]
+          ]
 
   -- an interrupt that comes
   module _ (p : ℕ) (range : p < length m.cpus) (low : depth_at m p < 6) (left : handlers_at m p < handlers_of m.setup p) where
@@ -254,9 +250,20 @@ module _ (m : Machine) (hs : LockName → LockHistory) (shows : ShowsAll m hs) (
       let d = pending_same k same.keeps.setup same.keeps.cpus same.handlers in
       omega (arith, a, c, d)
 
+  -- the turns go by the world and the number of processors
+  paused_price : (p : ℕ) (b : Bool) → price (set_preempted m p b) ≡ price m
+  paused_price p b =
+      let cpus = (same_set_preempted m p b).keeps.cpus in
+      ap (λ (x : ℕ). x * cost (length (set_preempted m p b).cpus) + turns (set_preempted m p b)) (paused p b)
+      ∙ ap (λ (y : World). budget m * cost (length (set_preempted m p b).cpus)
+      + sum_below (length (set_preempted m p b).cpus) (λ q. sum_below 6 (λ i. turn_of y (y.frame (record { cpu = q; ctx = i })))))
+      (world-set_preempted m p b)
+      ∙ ap (λ (n : ℕ). budget m * cost n + sum_below n (λ q. cpu_turns m q)) cpus
+
   abbrev Lowered : Act → Type 0
   Lowered a = ((next m a).0 ≡ m) ⊎ (budget (next m a).0 < budget m)
-      ⊎ ((is_pause a ≡ true) × (budget (next m a).0 ≡ budget m)) ⊎ ((p : ℕ) × (a ≡ act.Step p) × IsSpoilt m p)
+      ⊎ ((is_pause a ≡ true) × (budget (next m a).0 ≡ budget m) × (price (next m a).0 ≡ price m))
+      ⊎ ((p : ℕ) × (a ≡ act.Step p) × TurnIsMade m (next m a).0 p)
 
   pub act_lowers : (a : Act) → processor_of a < length m.cpus → Lowered a
   act_lowers (act.Step p) range = elim (step_acts p range) [
@@ -292,6 +299,7 @@ module _ (m : Machine) (hs : LockName → LockHistory) (shows : ShowsAll m hs) (
       by false e = inr (inr (inl (
         refl,
         ap (λ (t : Bool). budget (if t then idle m else (set_preempted m p true, None)).0) e ∙ paused p true,
+        ap (λ (t : Bool). price (if t then idle m else (set_preempted m p true, None)).0) e ∙ paused_price p true,
       )))
   act_lowers (act.Resume p) range = by (preempted_at m p) refl
     where
@@ -300,6 +308,7 @@ module _ (m : Machine) (hs : LockName → LockHistory) (shows : ShowsAll m hs) (
       by true e = inr (inr (inl (
         refl,
         ap (λ (t : Bool). budget (if t then (set_preempted m p false, None) else idle m).0) e ∙ paused p false,
+        ap (λ (t : Bool). price (if t then (set_preempted m p false, None) else idle m).0) e ∙ paused_price p false,
       )))
   act_lowers (act.Nudge p) range = inl (by (preempted_at m p))
     where
@@ -307,38 +316,83 @@ module _ (m : Machine) (hs : LockName → LockHistory) (shows : ShowsAll m hs) (
       by true = refl
       by false = rw (unhalted p) refl
 
+  -- a lower budget pays for all turns that are spoilt
+  budget_pays : (n : Machine) → length n.cpus ≡ length m.cpus → budget n < budget m → price n < price m
+  budget_pays n cpus lt =
+      let few = turns_few n in
+      let product = times_less (cost (length m.cpus)) (budget n) (budget m) lt in
+      let same : budget n * cost (length n.cpus) ≡ budget n * cost (length m.cpus) =
+      ap (λ (i : ℕ). budget n * cost i) cpus in
+      omega (arith, few, product, same, cpus)
+
+  pub falls : (a : Act) → processor_of a < length m.cpus
+      → ((next m a).0 ≡ m) ⊎ (price (next m a).0 < price m) ⊎ ((is_pause a ≡ true) × (price (next m a).0 ≡ price m))
+  falls a range = elim (act_lowers a range) [
+    | inl same ↦ inl same
+    | inr x ↦ elim x [
+      | inl lt ↦ inr (inl (budget_pays (next m a).0 (cpus_is a range) lt))
+      | inr y ↦ elim y [
+        | inl p ↦ inr (inr (p.0, p.2))
+        | inr t ↦
+            let z = t.2 in
+            let few = z.fewer in
+            let same : budget (next m a).0 * cost (length (next m a).0.cpus) ≡ budget m * cost (length m.cpus) =
+            ap (λ (i : ℕ). budget (next m a).0 * cost i) (cpus_is a range) ∙ ap (λ (x : ℕ). x * cost (length m.cpus)) z.left in
+            inr (inl (omega (arith, few, same)))
+      ]
+    ]
+  ]
+
 pub acts_lower : ActsLower
 acts_lower m hs a shows awake plain range = act_lowers m hs shows awake plain a range
 
+pub price_falls : PriceFalls
+price_falls m hs a shows awake plain range = falls m hs shows awake plain a range
+
+-- A number bounds the changes of a run if each act changes nothing, or lowers it, or is a pause that leaves it.
+module _ (I : Machine → Type 0) (size : Machine → ℕ)
+    (keeps : (m : Machine) (a : Act) → I m → processor_of a < length m.cpus → I (next m a).0)
+    (lowers : (m : Machine) (a : Act) → I m → processor_of a < length m.cpus
+    → ((next m a).0 ≡ m) ⊎ (size (next m a).0 < size m) ⊎ ((is_pause a ≡ true) × (size (next m a).0 ≡ size m))) where
+  pub changes_bounded : (m : Machine) (acts : List Act) (k : ℕ) → I m → HasChanges m acts k → k ≤ size m
+  changes_bounded m [] k inv z = let e : k ≡ 0 = z in omega (arith, e)
+  changes_bounded m (a ∷ acts) k inv z =
+      go (lowers m a inv z.0) (λ j h. changes_bounded (next m a).0 acts j (keeps m a inv z.0) h)
+    where
+      go : (((next m a).0 ≡ m) ⊎ (size (next m a).0 < size m) ⊎ ((is_pause a ≡ true) × (size (next m a).0 ≡ size m)))
+          → ((j : ℕ) → HasChanges (next m a).0 acts j → j ≤ size (next m a).0) → k ≤ size m
+      go low rest = elim z.1 [
+        | inl y ↦ (let r = rest k y.1 in elim low [
+          | inl same ↦ (let e = ap size same in omega (arith, r, e))
+          | inr x ↦ elim x [ inl lt ↦ omega (arith, r, lt) | inr e ↦ (let q = e.1 in omega (arith, r, q)) ]
+        ])
+        | inr y ↦ (let r = rest y.0 y.4 in let i = y.1 in elim low [
+          | inl same ↦ absurd (y.2 same)
+          | inr x ↦ elim x [
+            | inl lt ↦ omega (arith, r, lt, i)
+            | inr e ↦ absurd (let q = e.0 in let n = y.3 in cc (q, n))
+          ]
+        ])
+      ]
+
+-- a machine of these families, and its events
+pub record IsShown (m : Machine) : Type 0 where
+  pub events : List Event
+  pub shows : ShowsLawful m events
+  pub awake : halts m.setup.mode ≡ false
+  pub plain : moves_aside m.setup.mode ≡ false
+
 pub runs_are_short : RunsAreShort
-runs_are_short m es [] k shows awake plain z = let e : k ≡ 0 = z in omega (arith, e)
-runs_are_short m es (a ∷ acts) k shows awake plain z =
-    go (acts_lower m (λ l. history_of l es) a shows.shows awake plain z.0)
-    (λ j h. runs_are_short (next m a).0 (with_event es (next m a).1) acts j (acts_keep m es a z.0 shows)
-    (ap (λ (s : Setup). halts s.mode) (setup_kept m a) ∙ awake) (ap (λ (s : Setup). moves_aside s.mode) (setup_kept m a) ∙ plain) h)
+runs_are_short m es acts k shows awake plain z =
+    changes_bounded IsShown price shown_on
+    (λ m a s range. price_falls m (λ l. history_of l s.events) a s.shows.shows s.awake s.plain range)
+    m acts k (record { events = es; shows = shows; awake = awake; plain = plain }) z
   where
-    go : (((next m a).0 ≡ m) ⊎ (budget (next m a).0 < budget m)
-        ⊎ ((is_pause a ≡ true) × (budget (next m a).0 ≡ budget m)) ⊎ ((p : ℕ) × (a ≡ act.Step p) × IsSpoilt m p))
-        → ((j : ℕ) → HasMoves (next m a).0 acts j → j ≤ budget (next m a).0) → k ≤ budget m
-    go low rest = elim z.2 [
-      | inl y ↦ (let r = rest k y.1 in elim low [
-        | inl same ↦ (let e = ap budget same in omega (arith, r, e))
-        | inr x ↦ elim x [
-          | inl lt ↦ omega (arith, r, lt)
-          | inr x ↦ elim x [
-            | inl e ↦ (let q = e.1 in omega (arith, r, q))
-            | inr s ↦ absurd (z.1 s.0 s.1 s.2)
-          ]
-        ]
-      ])
-      | inr y ↦ (let r = rest y.0 y.4 in let i = y.1 in elim low [
-        | inl same ↦ absurd (y.2 same)
-        | inr x ↦ elim x [
-          | inl lt ↦ omega (arith, r, lt, i)
-          | inr x ↦ elim x [
-            | inl e ↦ absurd (let q = e.0 in let n = y.3 in cc (q, n))
-            | inr s ↦ absurd (z.1 s.0 s.1 s.2)
-          ]
-        ]
-      ])
-    ]
+    shown_on : (m : Machine) (a : Act) → IsShown m → processor_of a < length m.cpus → IsShown (next m a).0
+    shown_on m a s range =
+        record {
+          events = with_event s.events (next m a).1;
+          shows = acts_keep m s.events a range s.shows;
+          awake = ap (λ (s : Setup). halts s.mode) (setup_kept m a) ∙ s.awake;
+          plain = ap (λ (s : Setup). moves_aside s.mode) (setup_kept m a) ∙ s.plain;
+        }

@@ -1,10 +1,8 @@
 -- Under a fair schedule everybody finishes.
 use Rattle.std.proofs.Common.{◌≡◌, ◌⊎◌, inl, inr, ℕ, zero, suc, ◌<◌, ◌≤◌, ◌+◌, ◌-◌, Bool, true, false}
 use Rattle.std.proofs.Common.{refl, sym, ap, ◌∙◌, subst, arith, [], ◌∷◌, length}
-use Rattle.std.specs.Prelude.{if◌then◌else◌, None, slice_index_or}
+use Rattle.std.specs.Prelude.{if◌then◌else◌, None}
 use Rattle.lk_abs.specs.History.{history_of}
-use Rattle.lk_abs.specs.declared.names.Kind.TheVariants.{Spin}
-use Rattle.lk_abs.specs.declared.names.Mode.TheVariants.{Native}
 use Rattle.lk_abs.specs.declared.events.Act.{Act}
 use Rattle.lk_abs.specs.declared.events.Act.TheVariants as act
 use Rattle.lk_rows.specs.declared.setup.Setup.{Setup}
@@ -17,26 +15,19 @@ use Rattle.lk_law.specs.Cna.{moves_aside}
 use Rattle.lk_core.proofs.IdleActs.{preempted_now}
 use Rattle.lk_progress.specs.Fair.{after_first, processors, IsRound, IsFair, FairRunsFinish}
 use Rattle.lk_progress.specs.Ordered.{IsOrdered}
-use Rattle.lk_progress.specs.Potential.{budget, is_pause}
+use Rattle.lk_progress.specs.Potential.{price, is_pause}
 use Rattle.lk_progress.specs.Runs.{HasRoom, IsFinished, SomebodyMoves}
-use Rattle.lk_progress.proofs.Budget.{acts_lower}
+use Rattle.lk_progress.proofs.Budget.{price_falls}
 use Rattle.lk_progress.proofs.Good.{IsAwake}
 use Rattle.lk_waits.specs.Followed.{IsHeadFollowed}
 use Rattle.lk_progress.proofs.Reached.{Reached, start, reached}
-use Rattle.lk_progress.proofs.Runs.{kept_followed, unspoilt, goes_on}
+use Rattle.lk_progress.proofs.Runs.{kept_followed, goes_on}
 
 module _ (rank : ℕ → ℕ) (ranks : ℕ) (setup : Setup) (schedule : ℕ → Act) (ok : IsLawfulSetup setup)
-    (ordered : IsOrdered rank ranks setup) (native : setup.mode ≡ Native)
-    (spins : (i : ℕ) → slice_index_or setup.locks.items i Spin ≡ Spin) (has_room : HasRoom setup)
-    (fair : IsFair setup schedule) where
+    (ordered : IsOrdered rank ranks setup) (awake : halts setup.mode ≡ false) (plain : moves_aside setup.mode ≡ false)
+    (has_room : HasRoom setup) (fair : IsFair setup schedule) where
   abbrev after : ℕ → Machine
   after n = after_first setup schedule n
-
-  awake : halts setup.mode ≡ false
-  awake = ap halts native
-
-  plain : moves_aside setup.mode ≡ false
-  plain = ap moves_aside native
 
   cpus : (m : Machine) → Reached IsHeadFollowed setup m → length m.cpus ≡ processors setup
   cpus m r = r.shows.shows.whole.cpus ∙ ap processors r.setup_is
@@ -49,25 +40,16 @@ module _ (rank : ℕ → ℕ) (ranks : ℕ) (setup : Setup) (schedule : ℕ → 
       subst (λ (i : ℕ). processor_of (schedule n) < i) (sym (cpus (after n) r)) (fair.inside n) in
       reached (IsAwake false) IsHeadFollowed kept_followed setup (awake, plain) (λ e. has_room) (schedule n ∷ []) (after n) (lt, tt) r
 
-  -- what an act does to the budget, if no swap fails
+  -- what an act does to the price
   abbrev Lowers : ℕ → Type 0
-  Lowers n = (after (suc n) ≡ after n) ⊎ (budget (after (suc n)) < budget (after n))
-      ⊎ ((is_pause (schedule n) ≡ true) × (budget (after (suc n)) ≡ budget (after n)))
+  Lowers n = (after (suc n) ≡ after n) ⊎ (price (after (suc n)) < price (after n))
+      ⊎ ((is_pause (schedule n) ≡ true) × (price (after (suc n)) ≡ price (after n)))
 
   lowers : (n : ℕ) → Lowers n
-  lowers n = elim (acts_lower (after n) (λ l. history_of l r.events) (schedule n) r.shows.shows
+  lowers n =
+      price_falls (after n) (λ l. history_of l r.events) (schedule n) r.shows.shows
       (ap (λ (s : Setup). halts s.mode) r.setup_is ∙ awake)
-      (ap (λ (s : Setup). moves_aside s.mode) r.setup_is ∙ plain) within) [
-        | inl e ↦ inl e
-        | inr x ↦ elim x [
-          | inl lt ↦ inr (inl lt)
-          | inr y ↦ elim y [
-            | inl p ↦ inr (inr p)
-            | inr s ↦ absurd (unspoilt setup ok native spins has_room (after n) r s.0
-                (subst (λ (a : Act). processor_of a < length (after n).cpus) s.1 within) s.2)
-          ]
-        ]
-      ]
+      (ap (λ (s : Setup). moves_aside s.mode) r.setup_is ∙ plain) within
     where
       r : Reached IsHeadFollowed setup (after n)
       r = come_to n
@@ -75,31 +57,31 @@ module _ (rank : ℕ → ℕ) (ranks : ℕ) (setup : Setup) (schedule : ℕ → 
       within : processor_of (schedule n) < length (after n).cpus
       within = subst (λ (i : ℕ). processor_of (schedule n) < i) (sym (cpus (after n) (come_to n))) (fair.inside n)
 
-  act_lowers : (n : ℕ) → budget (after (suc n)) ≤ budget (after n)
+  act_lowers : (n : ℕ) → price (after (suc n)) ≤ price (after n)
   act_lowers n = elim (lowers n) [
-    | inl e ↦ (let z = ap budget e in omega (arith, z))
+    | inl e ↦ (let z = ap price e in omega (arith, z))
     | inr x ↦ elim x [
       | inl lt ↦ omega (arith, lt)
       | inr p ↦ (let z = p.1 in omega (arith, z))
     ]
   ]
 
-  no_more : (n k : ℕ) → budget (after (n + k)) ≤ budget (after n)
+  no_more : (n k : ℕ) → price (after (n + k)) ≤ price (after n)
   no_more n zero =
       let e : n + 0 ≡ n = omega arith in
-      let z = ap (λ (i : ℕ). budget (after i)) e in
+      let z = ap (λ (i : ℕ). price (after i)) e in
       omega (arith, z)
   no_more n (suc k) =
       let e : n + suc k ≡ suc (n + k) = omega arith in
-      let z = ap (λ (i : ℕ). budget (after i)) e in
+      let z = ap (λ (i : ℕ). price (after i)) e in
       let h = no_more n k in
       let g = act_lowers (n + k) in
       omega (arith, z, h, g)
 
-  never_more : (n k : ℕ) → n ≤ k → budget (after k) ≤ budget (after n)
+  never_more : (n k : ℕ) → n ≤ k → price (after k) ≤ price (after n)
   never_more n k le =
       let e : n + (k - n) ≡ k = omega (arith, le) in
-      subst (λ (i : ℕ). budget (after i) ≤ budget (after n)) e (no_more n (k - n))
+      subst (λ (i : ℕ). price (after i) ≤ price (after n)) e (no_more n (k - n))
 
   module _ (first size : ℕ) (round : IsRound setup schedule first size) where
     -- a pause in a round leaves the machine
@@ -130,31 +112,31 @@ module _ (rank : ℕ → ℕ) (ranks : ℕ) (setup : Setup) (schedule : ℕ → 
     pause_same i lt (act.Interrupt p) e pause = cc pause
     pause_same i lt (act.Nudge p) e pause = cc pause
 
-    -- so far in the round nothing has changed, or the budget is lower
+    -- so far in the round nothing has changed, or the price is lower
     changed : (i : ℕ) → i ≤ size
-        → (after (first + i) ≡ after first) ⊎ (budget (after (first + i)) < budget (after first))
+        → (after (first + i) ≡ after first) ⊎ (price (after (first + i)) < price (after first))
     changed zero le =
         let e : first + 0 ≡ first = omega arith in
         inl (ap (λ (j : ℕ). after j) e)
     changed (suc i) le =
         let e : suc (first + i) ≡ first + suc i = omega arith in
-        subst (λ (j : ℕ). (after j ≡ after first) ⊎ (budget (after j) < budget (after first))) e
+        subst (λ (j : ℕ). (after j ≡ after first) ⊎ (price (after j) < price (after first))) e
         (changed_by i le (changed i (omega (arith, le))))
       where
         changed_by : (i : ℕ) → suc i ≤ size
-            → (after (first + i) ≡ after first) ⊎ (budget (after (first + i)) < budget (after first))
-            → (after (suc (first + i)) ≡ after first) ⊎ (budget (after (suc (first + i))) < budget (after first))
+            → (after (first + i) ≡ after first) ⊎ (price (after (first + i)) < price (after first))
+            → (after (suc (first + i)) ≡ after first) ⊎ (price (after (suc (first + i))) < price (after first))
         changed_by i le (inl same) = elim (lowers (first + i)) [
           | inl e ↦ inl (e ∙ same)
           | inr x ↦ elim x [
-            | inl lt ↦ inr (let z = ap budget same in omega (arith, lt, z))
+            | inl lt ↦ inr (let z = ap price same in omega (arith, lt, z))
             | inr p ↦ inl (pause_same i (omega (arith, le)) (schedule (first + i)) refl p.0 ∙ same)
           ]
         ]
         changed_by i le (inr low) = inr (let z = act_lowers (first + i) in omega (arith, low, z))
 
     -- the step of a processor that leads on lowers it
-    lower_by : SomebodyMoves (after first) → (n : ℕ) × (budget (after n) < budget (after first))
+    lower_by : SomebodyMoves (after first) → (n : ℕ) × (price (after n) < price (after first))
     lower_by s =
         let within : s.processor < processors setup =
         subst (λ (i : ℕ). s.processor < i) (cpus (after first) (come_to first)) s.inside in
@@ -165,7 +147,7 @@ module _ (rank : ℕ → ℕ) (ranks : ℕ) (setup : Setup) (schedule : ℕ → 
         ]
       where
         stepped : (i : ℕ) (s : SomebodyMoves (after first)) → schedule (first + i) ≡ act.Step s.processor
-            → after (first + i) ≡ after first → budget (after (suc (first + i))) < budget (after first)
+            → after (first + i) ≡ after first → price (after (suc (first + i))) < price (after first)
         stepped i s is same =
             let now : after (suc (first + i)) ≡ (next (after first) (act.Step s.processor)).0 =
             ap (λ (b : Act). (next (after (first + i)) b).0) is
@@ -173,7 +155,7 @@ module _ (rank : ℕ → ℕ) (ranks : ℕ) (setup : Setup) (schedule : ℕ → 
             elim (lowers (first + i)) [
               | inl e ↦ absurd (s.moves (sym now ∙ e ∙ same))
               | inr x ↦ elim x [
-                | inl lt ↦ (let z = ap budget same in omega (arith, lt, z))
+                | inl lt ↦ (let z = ap price same in omega (arith, lt, z))
                 | inr p ↦ absurd (let z : is_pause (act.Step s.processor) ≡ true = ap is_pause (sym is) ∙ p.0 in cc z)
               ]
             ]
@@ -181,7 +163,7 @@ module _ (rank : ℕ → ℕ) (ranks : ℕ) (setup : Setup) (schedule : ℕ → 
   abbrev Finishes : Type 0
   Finishes = (n : ℕ) × ((p : ℕ) → p < processors setup → IsFinished (after n) p)
 
-  finishes_from : (b n : ℕ) → budget (after n) < b → Finishes
+  finishes_from : (b n : ℕ) → price (after n) < b → Finishes
   finishes_from zero n lt = absurd (omega (arith, lt))
   finishes_from (suc b) n lt =
       let g = fair.rounds n in
@@ -196,6 +178,6 @@ module _ (rank : ℕ → ℕ) (ranks : ℕ) (setup : Setup) (schedule : ℕ → 
       ]
 
 pub fair_runs_finish : FairRunsFinish
-fair_runs_finish rank ranks setup schedule ok ordered native spins has_room fair =
-    finishes_from rank ranks setup schedule ok ordered native spins has_room fair
-    (suc (budget (at_rest setup))) 0 (omega arith)
+fair_runs_finish rank ranks setup schedule ok ordered awake plain has_room fair =
+    finishes_from rank ranks setup schedule ok ordered awake plain has_room fair
+    (suc (price (at_rest setup))) 0 (omega arith)

@@ -6,6 +6,8 @@ pub mod Settling
 pub mod Woken
 pub mod Good
 pub mod Measure
+pub mod Sums
+pub mod Turned
 pub mod Still
 pub mod Potential
 pub mod Budget

@@ -1,6 +1,6 @@
--- Each row leaves its frame where it was, or leaves it fewer rows.
+-- Each row leaves its frame where it was, or leaves it fewer rows, or leads it on in its turn.
 use Rattle.std.proofs.Common.{◌≡◌, ◌⊎◌, ◌<◌, ◌+◌, ℕ, arith, inl, inr, Option, Some, None, Bool, true, false}
-use Rattle.std.proofs.Common.{refl, ap, []}
+use Rattle.std.proofs.Common.{refl, sym, ap, ◌∙◌, []}
 use Rattle.std.proofs.lemmas.Bool.{cases_Bool}
 use Rattle.std.specs.Prelude.{if◌then◌else◌, is_some, ◌&&◌, not, ◌==◌}
 use Rattle.lk_abs.specs.declared.names.Mode.{Mode}
@@ -20,23 +20,25 @@ use Rattle.lk_rows.specs.declared.parts.Pc.TheVariants.{R1, R2, R3, R4, R5, Wr1,
 use Rattle.lk_rows.specs.declared.parts.Pc.TheVariants.{Wr5, Wr6, Y1, Y2, Y3, Y4, Y5, Z1, Z2, U2}
 use Rattle.lk_rows.specs.declared.setup.Verb.TheVariants.{Unlock}
 use Rattle.lk_rows.specs.Moves.{is_node, node_of, first_place}
-use Rattle.lk_rows.specs.Row.{Effect, Lead, Goes, Granted, Missed, Leaves, Change, gone}
-use Rattle.lk_rows.specs.rows.Spin.{is_free, is_unlocked, to_queue, after_fast, after_pending}
-use Rattle.lk_rows.specs.rows.Queue.{is_sole, own_node, after_entry, after_look, after_arrival}
+use Rattle.lk_rows.specs.Row.{Effect, Lead, Goes, Granted, Missed, Leaves, Change, gone, looks}
+use Rattle.lk_abs.specs.declared.events.How.TheVariants as how
+use Rattle.lk_abs.specs.declared.events.RwHow.TheVariants as rw_how
+use Rattle.lk_rows.specs.rows.Spin.{is_free, is_unlocked, to_queue, after_fast, takes}
+use Rattle.lk_rows.specs.rows.Queue.{takes_out, is_sole, own_node, after_entry, after_arrival}
 use Rattle.lk_rows.specs.rows.Queue.{after_head, after_flag, after_next, after_link}
-use Rattle.lk_rows.specs.rows.Rw.{is_empty, is_open, is_cleared, after_bias, frees_wait}
+use Rattle.lk_rows.specs.rows.Rw.{takes_written, is_empty, is_open, is_cleared, frees_wait}
 use Rattle.lk_rows.specs.TopRow.{target}
 use Rattle.lk_law.specs.Families.{may_halt, chooses}
-use Rattle.lk_law.specs.Leads.{course_in}
+use Rattle.lk_law.specs.Leads.{course_in, stored_in}
 use Rattle.lk_law.specs.Premises.{IsThen}
-use Rattle.lk_law.specs.Steps.{led}
+use Rattle.lk_law.specs.Steps.{led, stores_word, stores_rw}
 use Rattle.lk_law.specs.World.{World}
 use Rattle.lk_law.specs.Agree.{halts}
 use Rattle.lk_law.proofs.common.Puts.{not-true}
 use Rattle.lk_rows.specs.declared.setup.Verb.{Verb}
 use Rattle.lk_rows.specs.declared.setup.Verb.TheVariants.{Lock, Try, Read, TryRead, RUnlock, Write, TryWrite, WUnlock}
 use Rattle.lk_rows.specs.Moves.{started}
-use Rattle.lk_progress.specs.Measure.{rows_left, rows_left_if, is_taking, left_at, left_of, retries, IsBelied, RowDescends, BeginIsShort}
+use Rattle.lk_progress.specs.Measure.{rows_left, rows_left_if, is_taking, left_at, left_of, is_turn, turn_at, turn_if, turn_of, RowDescends, BeginIsShort}
 
 -- what is behind a wait lock on the way to it
 abbrev behind : Frame → ℕ
@@ -166,14 +168,13 @@ module _ (m : World) (w : Waiter) (f : Frame) (inner : f.lock.wait ≡ true → 
   next_on None = inl refl
   next_on (Some n) = inr (omega arith)
 
-  -- each row but those that may poll anew
-  less : (c : Pc) → may_halt c ≡ false → chooses c ≡ false → halts m.mode ≡ false → retries c ≡ false
+  -- each row but those of a turn
+  less : (c : Pc) → may_halt c ≡ false → chooses c ≡ false → halts m.mode ≡ false → is_turn c ≡ false
       → Less c (left_at (Some c) f) (g c)
   less F1 a b h r = either_less F1 (15 + behind f) f (is_free x) _ _ (had F1 f 15 f.me inner (omega arith)) (fast_on m.mode h)
   less T1 a b h r = either_less T1 (2 + behind f) f (is_free x) _ _ (on T1 T2 2 1 refl (omega arith)) (done_less T1 (2 + behind f) (record f { place = None }) refl (omega arith))
   less T2 a b h r = either_less T2 (1 + behind f) f (is_free x) _ _ (had T2 f 1 f.me inner (omega arith)) (done_less T2 (1 + behind f) (record f { place = None }) refl (omega arith))
   less U1 a b h r = done_less U1 (left_at (Some U1) f) (record f { place = None }) refl (omega arith)
-  less V1 a b h r = to_row V1 f (2 + behind f) (is_free x) V2 V1 (on V1 V2 2 1 refl (omega arith)) (inl refl)
   less P0 a b h r = queue_on P0 14 (omega arith)
   less P1 a b h r =
       to_row P1 f (13 + behind f) x.pending G1 _ (on P1 G1 13 11 refl (omega arith))
@@ -194,7 +195,6 @@ module _ (m : World) (w : Waiter) (f : Frame) (inner : f.lock.wait ≡ true → 
   less G9 a b h r = head_on m.mode h
   less G10 a b h r = next_on (m.node (node_of f.me)).next
   less G11 a b h r = had G11 f 1 None inner (omega arith)
-  less N1 a b h r = to_row N1 f (2 + behind f) (is_free x) N2 N1 (on N1 N2 2 1 refl (omega arith)) (inl refl)
   less R1 a b h r = either_less R1 (left_at (Some R1) f) f (is_open y) _ _ (done_less R1 (left_at (Some R1) f) (record f { place = None }) refl (omega arith))
       (to_row R1 f (left_at (Some R1) f) (f.ctx == 0) R3 R2 (rw_on R1 R3 (left_at (Some R1) f) 19 refl refl (omega arith)) (rw_on R1 R2 (left_at (Some R1) f) 1 refl refl (omega arith)))
   less R2 a b h r = either_less R2 (left_at (Some R2) f) f y.writer _ _ (inl refl) (done_less R2 (left_at (Some R2) f) (record f { place = None }) refl (omega arith))
@@ -205,7 +205,6 @@ module _ (m : World) (w : Waiter) (f : Frame) (inner : f.lock.wait ≡ true → 
   less Wr2 a b h r = to_row Wr2 f (left_at (Some Wr2) f) (is_empty y) Wr3 Wr4 (rw_on Wr2 Wr3 (left_at (Some Wr2) f) 5 refl refl (omega arith)) (rw_on Wr2 Wr4 (left_at (Some Wr2) f) 4 refl refl (omega arith))
   less Wr3 a b h r = either_less Wr3 (left_at (Some Wr3) f) f (is_empty y) _ _ (unlock_on Wr3 (left_at (Some Wr3) f) m.mode (omega arith)) (rw_on Wr3 Wr4 (left_at (Some Wr3) f) 4 refl refl (omega arith))
   less Wr4 a b h r = rw_on Wr4 Wr5 (left_at (Some Wr4) f) 3 refl refl (omega arith)
-  less Wr5 a b h r = to_row Wr5 f (left_at (Some Wr5) f) (is_cleared y) Wr6 Wr5 (rw_on Wr5 Wr6 (left_at (Some Wr5) f) 2 refl refl (omega arith)) (inl refl)
   less Y1 a b h r = either_less Y1 (left_at (Some Y1) f) f (is_open y) _ _ (rw_on Y1 Y2 (left_at (Some Y1) f) 2 refl refl (omega arith)) (done_less Y1 (left_at (Some Y1) f) (record f { place = None }) refl (omega arith))
   less Y2 a b h r = either_less Y2 (left_at (Some Y2) f) f (is_open y) _ _ (done_less Y2 (left_at (Some Y2) f) (record f { place = None }) refl (omega arith)) (rw_on Y2 Y3 (left_at (Some Y2) f) 1 refl refl (omega arith))
   less Y3 a b h r = done_less Y3 (left_at (Some Y3) f) (record f { place = None }) refl (omega arith)
@@ -215,34 +214,77 @@ module _ (m : World) (w : Waiter) (f : Frame) (inner : f.lock.wait ≡ true → 
   less Z2 a b h r = done_less Z2 (left_at (Some Z2) f) (record f { place = None }) refl (omega arith)
   less _ a b h r = cc (a, b, r)
 
-  -- and those: they have fewer rows, or another came in between
-  again : (c : Pc) → retries c ≡ true → (left_of (g c) < left_at (Some c) f) ⊎ IsBelied m f c
-  again V2 r = by (is_free x) refl
+  -- A row leaves its frame where it was, or leaves it fewer rows; or it stores nothing, and the end of the turn
+  -- is nearer.
+  abbrev Turn : Pc → Frame → World → Type 0
+  Turn c g s = (g.place ≡ Some c) ⊎ (left_of g < left_at (Some c) f)
+      ⊎ ((s ≡ m) × (left_of g ≡ left_at (Some c) f) × (turn_of m (Some g) < turn_at m f c))
+
+  -- how far a swap is from the end of its turn, by the word that it is going to meet
+  swap : (b c : Bool) → b ≡ c → ◌≡◌ {A = ℕ} (if b then 0 else 2) (if c then 0 else 2)
+  swap b c e = ap (λ (t : Bool). if t then 0 else 2) e
+
+  -- the rows of a turn
+  turn : (c : Pc) → is_turn c ≡ true → Turn c (g c) (stored_in m w f c (target c f))
+  turn V1 r = by (is_free x) refl
     where
-      by : (b : Bool) → is_free x ≡ b → (left_of (led f (if b then Rattle.lk_rows.specs.rows.Spin.takes f Rattle.lk_abs.specs.declared.events.How.TheVariants.Virt else Rattle.lk_rows.specs.Row.looks V1).leads) < 1 + behind f) ⊎ (is_free x ≡ false)
-      by true e = inl (had_lt f 1 f.me inner (omega arith))
-      by false e = inr e
-  again N2 r = by (is_free x) refl
+      by : (b : Bool) → is_free x ≡ b → Turn V1 (gone f (if b then V2 else V1) []) m
+      by true e = inr (inr (refl, refl, let z = swap (is_free x) true e in omega (arith, z)))
+      by false e = inl refl
+  turn V2 r = by (is_free x) refl
     where
-      by : (b : Bool) → is_free x ≡ b → (left_of (led f (if b then Rattle.lk_rows.specs.rows.Queue.takes_out f Rattle.lk_abs.specs.declared.events.How.TheVariants.NoNode else Rattle.lk_rows.specs.Row.looks N1).leads) < 1 + behind f) ⊎ (is_free x ≡ false)
-      by true e = inl (had_lt f 1 None inner (omega arith))
-      by false e = inr e
-  again Wr6 r = by (is_cleared y) refl
+      by : (b : Bool) → is_free x ≡ b
+          → Turn V2 (led f (if b then takes f how.Virt else looks V1).leads)
+          (stores_word m f.lock (if b then takes f how.Virt else looks V1).stores)
+      by true e = inr (inl (had_lt f 2 f.me inner (omega arith)))
+      by false e = inr (inr (refl, refl, let z = swap (is_free x) false e in omega (arith, z)))
+  turn N1 r = by (is_free x) refl
     where
-      by : (b : Bool) → is_cleared y ≡ b → (left_of (led f (if b then Rattle.lk_rows.specs.rows.Rw.takes_written f Rattle.lk_abs.specs.declared.events.RwHow.TheVariants.Queued (frees_wait m.mode) else Rattle.lk_rows.specs.Row.looks Wr5).leads) < left_at (Some Wr6) f) ⊎ (is_cleared y ≡ false)
-      by true e = inl (unlock_lt (left_at (Some Wr6) f) m.mode (omega arith))
-      by false e = inr e
-  again _ r = cc r
+      by : (b : Bool) → is_free x ≡ b → Turn N1 (gone f (if b then N2 else N1) []) m
+      by true e = inr (inr (refl, refl, let z = swap (is_free x) true e in omega (arith, z)))
+      by false e = inl refl
+  turn N2 r = by (is_free x) refl
+    where
+      by : (b : Bool) → is_free x ≡ b
+          → Turn N2 (led f (if b then takes_out f how.NoNode else looks N1).leads)
+          (stores_word m f.lock (if b then takes_out f how.NoNode else looks N1).stores)
+      by true e = inr (inl (had_lt f 2 None inner (omega arith)))
+      by false e = inr (inr (refl, refl, let z = swap (is_free x) false e in omega (arith, z)))
+  turn Wr5 r = by (is_cleared y) refl
+    where
+      by : (b : Bool) → is_cleared y ≡ b → Turn Wr5 (gone f (if b then Wr6 else Wr5) []) m
+      by true e = inr (inr (refl, refl, let z = swap (is_cleared y) true e in omega (arith, z)))
+      by false e = inl refl
+  turn Wr6 r = by (is_cleared y) refl
+    where
+      by : (b : Bool) → is_cleared y ≡ b
+          → Turn Wr6 (led f (if b then takes_written f rw_how.Queued (frees_wait m.mode) else looks Wr5).leads)
+          (stores_rw m f.lock.index (if b then takes_written f rw_how.Queued (frees_wait m.mode) else looks Wr5).stores)
+      by true e = inr (inl (unlock_lt (left_at (Some Wr6) f) m.mode (omega arith)))
+      by false e = inr (inr (refl, refl, let z = swap (is_cleared y) false e in omega (arith, z)))
+  turn _ r = cc r
 
 pub row_descends : (c : Pc) → RowDescends c
 row_descends c m hs w f ok awake plain live at inner =
     let a = not-true (may_halt c) (λ e. let z = (ok.registers w f live).choice.halting c at e in cc (z, awake)) in
     let b = not-true (chooses c) (λ e. let z = (ok.registers w f live).choice.choice c at e in cc (z, plain)) in
     let now : left_of f ≡ left_at (Some c) f = ap (λ (o : Option Pc). left_at o f) at in
-    elim (cases_Bool (retries c)) [
-      | inl r ↦ elim (again m w f inner c r) [
-        | inl lt ↦ inr (inl (omega (arith, lt, now)))
-        | inr z ↦ inr (inr (r, z))
+    let then_is : turn_of m (Some f) ≡ turn_at m f c = ap (λ (o : Option Pc). turn_if m f o) at in
+    elim (cases_Bool (is_turn c)) [
+      | inl r ↦ elim (turn m w f inner c r) [
+        | inl e ↦ inl e
+        | inr z ↦ elim z [
+          | inl lt ↦ inr (inl (omega (arith, lt, now)))
+          | inr t ↦
+              let s = t.1 in
+              let l = t.2 in
+              inr (inr (record {
+                turn = r;
+                stores = t.0;
+                left = s ∙ sym now;
+                nearer = omega (arith, l, then_is);
+              }))
+        ]
       ]
       | inr r ↦ elim (less m w f inner c a b awake r) [
         | inl e ↦ inl e

@@ -13,7 +13,7 @@ use Rattle.lk_rows.specs.declared.parts.Frame.{Frame}
 use Rattle.lk_rows.specs.declared.parts.Node.{Node}
 use Rattle.lk_rows.specs.declared.parts.Pc.{Pc}
 use Rattle.lk_rows.specs.Machine.{Machine, frame_at, word_at, set_top, set_node, pop, top_of, HasTop, rest_node, cpu_at}
-use Rattle.lk_rows.specs.Machine.{handlers_at, node_at, kicked_at, halted_at, CpuState, no_cpu, set_cpu}
+use Rattle.lk_rows.specs.Machine.{rw_at, handlers_at, node_at, kicked_at, halted_at, CpuState, no_cpu, set_cpu}
 use Rattle.lk_rows.specs.rows.Pv.{is_set}
 use Rattle.lk_rows.specs.Moves.{program_of, started, settled, settled_at, granted, skipped, waiting}
 use Rattle.lk_rows.specs.Row.{Lead, Goes, Enters, Granted, Freed, Missed, Done, TakesWait, Leaves, Yields, moved, gone}
@@ -22,7 +22,7 @@ use Rattle.lk_law.specs.Premises.{IsThen}
 use Rattle.lk_law.specs.Sound.{world}
 use Rattle.lk_law.specs.Steps.{led}
 use Rattle.lk_law.specs.World.{World}
-use Rattle.lk_core.proofs.Seated.{seated, world-set_top, world-pop, word-set_cpu}
+use Rattle.lk_core.proofs.Seated.{seated, world-set_top, world-pop, word-set_cpu, rw-set_cpu}
 use Rattle.lk_core.proofs.Worlds.{frame-set_node, kicked-set_node, halted-set_node}
 use Rattle.lk_core.proofs.Same.{top_same, has_top_same, same_set_node, same_set_top, handlers_pop}
 use Rattle.lk_core.proofs.LeadsOut.{done_is, missed_is, left, left_world, left_frames, left_same, left_ready, leave_is}
@@ -32,6 +32,7 @@ use Rattle.lk_core.proofs.Moved.{Ready, same_changed_all}
 -- one frame changes, and no word
 pub record Follows (n k : Machine) (w : Waiter) (o : Option Frame) : Type 0 where
   pub word : (l : LockName) → word_at k l ≡ word_at n l
+  pub rw : (i : ℕ) → rw_at k i ≡ rw_at n i
   pub frame : (u : Waiter) → frame_at k u ≡ (if same_waiter u w then o else frame_at n u)
   pub handlers : (q : ℕ) → handlers_at k q ≡ handlers_at n q
   pub flags : (x : NodeName) → is_set (node_at k x).flag ≡ true → is_set (node_at n x).flag ≡ true
@@ -56,6 +57,7 @@ by_world n k w o e same =
     record {
       handlers = same;
       word = λ l. ap (λ (x : World). x.word l) e;
+      rw = λ i. ap (λ (x : World). x.rw i) e;
       frame = λ u. ap (λ (x : World). x.frame u) e;
       flags = λ x h. ap (λ (y : World). is_set (y.node x).flag) (sym e) ∙ h;
       kicked = λ q. ap (λ (y : World). y.kicked q) e;
@@ -144,6 +146,11 @@ unfolding set_node
 word-set_node m n x l =
     word-set_cpu m n.cpu (record (cpu_at m n.cpu) { nodes = Rattle.std.specs.Prelude.slice_set (cpu_at m n.cpu).nodes n.index x }) l
 
+pub rw-set_node : (m : Machine) (n : NodeName) (x : Node) (i : ℕ) → rw_at (set_node m n x) i ≡ rw_at m i
+unfolding set_node
+rw-set_node m n x i =
+    rw-set_cpu m n.cpu (record (cpu_at m n.cpu) { nodes = Rattle.std.specs.Prelude.slice_set (cpu_at m n.cpu).nodes n.index x }) i
+
 -- which flags are set after a store into a node: its own, or one that was
 abbrev IsFlagged : Node → Type 0
 IsFlagged x = is_set x.flag ≡ true
@@ -209,6 +216,7 @@ moved_is n p f c r inner (Enters (Some a) d) =
       follows = record {
         handlers = λ q. y.follows.handlers q ∙ same.handlers q;
         word = λ l. y.follows.word l ∙ word-set_node n a rest_node l;
+        rw = λ i. y.follows.rw i ∙ rw-set_node n a rest_node i;
         frame = λ u. y.follows.frame u ∙ ap (λ (o : Option Frame). if same_waiter u (top_of n p) then y.now else o) (frame-set_node n a rest_node u);
         flags = λ x h. flags-reset n a x (y.follows.flags x h);
         kicked = λ q. y.follows.kicked q ∙ kicked-set_node n a rest_node q;
@@ -240,6 +248,7 @@ moved_is n p f c r inner Leaves =
       follows = record {
         handlers = λ q. y.follows.handlers q ∙ same.handlers q;
         word = λ l. y.follows.word l ∙ ap (λ (x : World). x.word l) (left_world n p f c r);
+        rw = λ i. y.follows.rw i ∙ ap (λ (x : World). x.rw i) (left_world n p f c r);
         frame = λ u. y.follows.frame u
             ∙ ap (λ (o : Option Frame). if same_waiter u (top_of n p) then y.now else o) (left_frames n p f c r u)
             ∙ twice (same_waiter u (top_of n p)) y.now (Some e) (frame_at n u);

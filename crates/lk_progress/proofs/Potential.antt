@@ -1,19 +1,12 @@
--- A step that leads a frame on lowers the potential.
-use Rattle.std.proofs.Common.{◌≡◌, ◌≢◌, ◌⊎◌, inl, inr, ℕ, zero, suc, ◌<◌, ◌≤◌, ◌+◌, ◌-◌, ◌*◌, Option, Some, None, Bool}
-use Rattle.std.proofs.Common.{false, refl, sym, ap, ◌∙◌, subst, arith, [], ◌∷◌, length}
-use Rattle.std.proofs.lemmas.Bool.{cases_eq}
+-- A step that leads a frame on lowers the potential, or makes a row of a turn.
+use Rattle.std.proofs.Common.{◌≡◌, ◌≢◌, ◌⊎◌, inl, inr, ℕ, ◌<◌, ◌≤◌, ◌+◌, ◌-◌, ◌*◌, Option, Some, None, Bool}
+use Rattle.std.proofs.Common.{true, false, refl, sym, ap, ◌∙◌, subst, arith, length}
 use Rattle.std.proofs.lemmas.Option.{slice_get_within}
 use Rattle.std.specs.Prelude.{if◌then◌else◌}
 use Rattle.lk_abs.specs.History.{LockHistory}
 use Rattle.lk_abs.specs.declared.names.Mode.{Mode}
 use Rattle.lk_abs.specs.declared.names.Waiter.{Waiter}
 use Rattle.lk_abs.specs.declared.names.LockName.{LockName}
-use Rattle.lk_abs.specs.declared.events.Act.{Act}
-use Rattle.lk_abs.specs.History.{history_of}
-use Rattle.lk_law.specs.Kicked.{with_event}
-use Rattle.lk_law.specs.MachineLaws.{ShowsLawful}
-use Rattle.lk_core.proofs.Runs.{acts_keep}
-use Rattle.lk_rows.specs.Acts.{processor_of}
 use Rattle.lk_abs.specs.declared.events.Act.TheVariants as act
 use Rattle.lk_rows.specs.declared.setup.Setup.{Setup}
 use Rattle.lk_rows.specs.declared.parts.Frame.{Frame}
@@ -37,37 +30,28 @@ use Rattle.lk_core.proofs.Moved.{same_changed_all}
 use Rattle.lk_core.proofs.RowKept.{top_live}
 use Rattle.lk_core.proofs.Setups.{setup_kept}
 use Rattle.lk_core.proofs.ActKept.{act_kept}
-use Rattle.lk_progress.specs.Measure.{left_of}
-use Rattle.lk_progress.specs.Potential.{weight_of, sum_below, cpu_weight, potential, StepsLower, IsSpoilt, MovesAreFew}
+use Rattle.lk_progress.specs.Measure.{left_of, is_turn, turn_of, TurnGoesOn}
+use Rattle.lk_progress.specs.Potential.{weight_of, sum_below, cpu_weight, potential, cpu_turns, turns}
 use Rattle.lk_progress.proofs.Measure.{row_descends, begin_is_short}
 use Rattle.lk_progress.proofs.Moves.{Moves, Settles, Turned}
 use Rattle.lk_progress.proofs.Rows.{Put, row_moves}
 use Rattle.lk_progress.proofs.Still.{stays_same}
+use Rattle.lk_progress.proofs.Sums.{total_same, total_less}
+use Rattle.lk_progress.proofs.Turned.{turn_same}
+use Rattle.lk_law.proofs.common.Cases.{waiter_cases}
+use Rattle.lk_law.specs.World.{World}
 
--- sums
+-- the step of a processor, which leads from m to n, is a row of a turn
+pub record Turning (m n : Machine) (p : ℕ) : Type 0 where
+  pub place : Pc
+  pub here : (top_frame m p).place ≡ Some place
+  pub turn : is_turn place ≡ true
+  pub left : potential n ≡ potential m
+  pub fewer : turns n < turns m
 
-pub sum_same : (n : ℕ) (F G : ℕ → ℕ) → ((i : ℕ) → i < n → G i ≡ F i) → sum_below n G ≡ sum_below n F
-sum_same zero F G same = refl
-sum_same (suc n) F G same =
-    let h = sum_same n F G (λ i lt. same i (omega (arith, lt))) in
-    let e = same n (omega arith) in
-    omega (arith, h, e)
-
--- one of them is less, and the others are the same
-pub sum_less : (n : ℕ) (F G : ℕ → ℕ) (k : ℕ) → k < n → G k < F k → ((i : ℕ) → i ≢ k → G i ≡ F i)
-    → sum_below n G < sum_below n F
-sum_less zero F G k lt less same = absurd (omega (arith, lt))
-sum_less (suc n) F G k lt less same =
-    elim (cases_eq k n) [
-      | inl e ↦
-          let h = sum_same n F G (λ i low. same i (λ q. (let z = q in omega (arith, z, e, low)))) in
-          let d : G n < F n = subst (λ (i : ℕ). G i < F i) e less in
-          omega (arith, h, d)
-      | inr ne ↦
-          let h = sum_less n F G k (let z = ne in grind (arith, z, lt)) less same in
-          let e = same n (λ q. ne (sym q)) in
-          omega (arith, h, e)
-    ]
+-- what a step does: nothing, or it lowers the potential, or is such a row
+abbrev pub Lower : Machine → Machine → ℕ → Type 0
+Lower m n p = (n ≡ m) ⊎ (potential n < potential m) ⊎ Turning m n p
 
 -- a lead leaves the position and the program of its frame
 led_at : (f : Frame) (lead : Lead) → ((led f lead).«at» ≡ f.«at») × ((led f lead).program ≡ f.program)
@@ -131,8 +115,7 @@ module _ (m : Machine) (hs : LockName → LockHistory) (p : ℕ) (shows : ShowsA
     within = slice_get_within (program_of m p f) f.«at» works.op works.is
 
     by_moves : (n : Machine) → Put m n (stored_in (world m) w f c (target c f)) → Moves n w f d (row m p).0
-        → ((row m p).0 ≡ m) ⊎ (potential (row m p).0 < potential m)
-        ⊎ IsSpoilt m p
+        → Lower m (row m p).0 p
     by_moves n put moves = by moves.turned
       where
         here : frame_at (row m p).0 w ≡ moves.now
@@ -152,31 +135,30 @@ module _ (m : Machine) (hs : LockName → LockHistory) (p : ℕ) (shows : ShowsA
         same_weight q (Some g) =
             ap (λ (s : Setup). (length (Rattle.lk_rows.specs.Programs.program_at s q g.program) - g.«at») * 23 + left_of g) setup_is
 
+        low : w.ctx < 6
+        low = let top = shows.whole.tops p range in let s = top.some in let k = top.few in omega (arith, s, k)
+
+        weight_there : (u : Waiter) → u ≢ w
+            → weight_of (row m p).0 u.cpu (frame_at (row m p).0 u) ≡ weight_of m u.cpu (frame_at m u)
+        weight_there u ne = same_weight u.cpu (frame_at (row m p).0 u) ∙ ap (weight_of m u.cpu) (there u ne)
+
+        weight_here : weight_of (row m p).0 p (frame_at (row m p).0 w) ≡ weight_of m p moves.now
+        weight_here = same_weight p (frame_at (row m p).0 w) ∙ ap (weight_of m p) here
+
+        weight_before : weight_of m p (frame_at m w) ≡ weight_of m p (Some f)
+        weight_before = ap (weight_of m p) live
+
+        -- the sums of the machine after the row are over as many processors
+        over : (F : ℕ → ℕ) → sum_below (length (row m p).0.cpus) F ≡ sum_below (length m.cpus) F
+        over F = ap (λ (k : ℕ). sum_below k F) cpus_is
+
         lowers : weight_of m p moves.now < weight_of m p (Some f) → potential (row m p).0 < potential m
         lowers less =
-            let P : ℕ → ℕ = λ q. cpu_weight m q in
-            let Q : ℕ → ℕ = λ q. cpu_weight (row m p).0 q in
-            let one : cpu_weight (row m p).0 p < cpu_weight m p =
-            sum_less 6 (λ i. weight_of m p (frame_at m (record { cpu = p; ctx = i })))
-            (λ i. weight_of (row m p).0 p (frame_at (row m p).0 (record { cpu = p; ctx = i }))) w.ctx low
-            at_top (λ i ne. same_weight p (frame_at (row m p).0 (record { cpu = p; ctx = i }))
-            ∙ ap (weight_of m p) (there (record { cpu = p; ctx = i }) (λ e. ne (ap (λ (v : Waiter). v.ctx) e)))) in
-            let all : sum_below (length m.cpus) (λ q. cpu_weight (row m p).0 q) < sum_below (length m.cpus) (λ q. cpu_weight m q) =
-            sum_less (length m.cpus) (λ q. cpu_weight m q) (λ q. cpu_weight (row m p).0 q) p range one
-            (λ q ne. sum_same 6 (λ i. weight_of m q (frame_at m (record { cpu = q; ctx = i })))
-            (λ i. weight_of (row m p).0 q (frame_at (row m p).0 (record { cpu = q; ctx = i })))
-            (λ i lt. same_weight q (frame_at (row m p).0 (record { cpu = q; ctx = i }))
-            ∙ ap (weight_of m q) (there (record { cpu = q; ctx = i }) (λ e. ne (ap (λ (v : Waiter). v.cpu) e))))) in
-            subst (λ (k : ℕ). sum_below k (λ q. cpu_weight (row m p).0 q) < potential m) (sym cpus_is) all
-          where
-            low : (top_of m p).ctx < 6
-            low = let top = shows.whole.tops p range in let s = top.some in let k = top.few in omega (arith, s, k)
-
-            at_top : weight_of (row m p).0 p (frame_at (row m p).0 w) < weight_of m p (frame_at m w)
-            at_top =
-                let x = same_weight p (frame_at (row m p).0 w) ∙ ap (weight_of m p) here in
-                let y = ap (weight_of m p) live in
-                omega (arith, x, y, less)
+            let all = total_less (length m.cpus) (λ u. weight_of m u.cpu (frame_at m u))
+            (λ u. weight_of (row m p).0 u.cpu (frame_at (row m p).0 u)) w range low
+            (let x = weight_here in let y = weight_before in omega (arith, x, y, less)) weight_there in
+            let z = over (λ q. cpu_weight (row m p).0 q) in
+            omega (arith, all, z)
 
         settles : (h : Frame) → h.program ≡ f.program → f.«at» < h.«at» → Settles n.setup.mode h moves.now
             → weight_of m p moves.now < weight_of m p (Some f)
@@ -208,30 +190,64 @@ module _ (m : Machine) (hs : LockName → LockHistory) (p : ℕ) (shows : ShowsA
                 let l = later in
                 omega (arith, z, short, l)
 
-        by : Turned n.setup.mode f d moves.now
-            → ((row m p).0 ≡ m) ⊎ (potential (row m p).0 < potential m)
-            ⊎ IsSpoilt m p
+        by : Turned n.setup.mode f d moves.now → Lower m (row m p).0 p
         by (inl t) = elim (row_descends c (world m) (spin_part (world m).kind hs) w f shows.world.spins awake plain live place (shows.world.fits w f live).after) [
           | inl e ↦ inl (row_same ∙ stays_same m p f (shows.world.fits w f live).after c range live place a b e)
           | inr r ↦ elim r [
             | inl lt ↦ inr (inl (lowers (lower_on lt)))
-            | inr z ↦ inr (inr (record { place = c; here = place; retry = z.0; belied = z.1 }))
+            | inr z ↦ inr (inr (in_turn z))
           ]
         ]
           where
-            lower_on : left_of d < left_of f → weight_of m p moves.now < weight_of m p (Some f)
-            lower_on lt =
+            now_is : weight_of m p moves.now ≡ (length (program_of m p f) - f.«at») * 23 + left_of d
+            now_is =
                 let s = led_at f (course_in (world m) w f c (target c f)).leads in
-                let e : weight_of m p moves.now ≡ weight_of m p (Some d) = ap (weight_of m p) t.0 in
-                let q : length (program_of m p d) - d.«at» ≡ length (program_of m p f) - f.«at» =
-                ap (λ (i : ℕ). length (Rattle.lk_rows.specs.Programs.program_at m.setup p i) - d.«at») s.1
-                ∙ ap (λ (i : ℕ). length (program_of m p f) - i) s.0 in
-                omega (arith, e, q, lt)
+                ap (weight_of m p) t.0
+                ∙ ap (λ (i : ℕ). (length (Rattle.lk_rows.specs.Programs.program_at m.setup p i) - d.«at») * 23 + left_of d) s.1
+                ∙ ap (λ (i : ℕ). (length (program_of m p f) - i) * 23 + left_of d) s.0
+
+            lower_on : left_of d < left_of f → weight_of m p moves.now < weight_of m p (Some f)
+            lower_on lt = let e = now_is in omega (arith, e, lt)
+
+            -- of a row of a turn
+            in_turn : TurnGoesOn (world m) w f c → Turning m (row m p).0 p
+            in_turn z =
+                record {
+                  place = c;
+                  here = place;
+                  turn = z.turn;
+                  left = over (λ q. cpu_weight (row m p).0 q)
+                      ∙ total_same (length m.cpus) (λ u. weight_of m u.cpu (frame_at m u))
+                      (λ u. weight_of (row m p).0 u.cpu (frame_at (row m p).0 u)) weights;
+                  fewer = let all = total_less (length m.cpus) (λ u. turn_of (world m) (frame_at m u))
+                      (λ u. turn_of (world (row m p).0) (frame_at (row m p).0 u)) w range low nearer
+                      (λ u ne. same (frame_at (row m p).0 u) ∙ ap (turn_of (world m)) (there u ne)) in
+                      let o = over (λ q. cpu_turns (row m p).0 q) in
+                      omega (arith, all, o);
+                }
+              where
+                weights : (u : Waiter) → weight_of (row m p).0 u.cpu (frame_at (row m p).0 u) ≡ weight_of m u.cpu (frame_at m u)
+                weights u = elim (waiter_cases u w) [
+                  | inr ne ↦ weight_there u ne
+                  | inl e ↦
+                      subst (λ (v : Waiter). weight_of (row m p).0 v.cpu (frame_at (row m p).0 v) ≡ weight_of m v.cpu (frame_at m v)) (sym e)
+                      (weight_here ∙ now_is ∙ ap (λ (i : ℕ). (length (program_of m p f) - f.«at») * 23 + i) z.left ∙ sym weight_before)
+                ]
+
+                same : (o : Option Frame) → turn_of (world (row m p).0) o ≡ turn_of (world m) o
+                same = turn_same (world (row m p).0) (world m)
+                    (λ l. moves.follows.word l ∙ put.words l ∙ ap (λ (y : World). y.word l) z.stores)
+                    (λ i. moves.follows.rw i ∙ put.rw i ∙ ap (λ (y : World). y.rw i) z.stores)
+
+                nearer : turn_of (world (row m p).0) (frame_at (row m p).0 w) < turn_of (world m) (frame_at m w)
+                nearer =
+                    let x = same (frame_at (row m p).0 w) ∙ ap (turn_of (world m)) (here ∙ t.0) in
+                    let y = ap (turn_of (world m)) live in
+                    let lt = z.nearer in
+                    omega (arith, x, y, lt)
         by (inr t) = inr (inl (lowers (settles t.1.0 t.1.1 t.1.3 t.1.4)))
 
-  lowers_at : (c : Pc) → f.place ≡ Some c
-      → ((row m p).0 ≡ m) ⊎ (potential (row m p).0 < potential m)
-      ⊎ IsSpoilt m p
+  lowers_at : (c : Pc) → f.place ≡ Some c → Lower m (row m p).0 p
   lowers_at c place =
       let r = row_moves m p hs shows range f c live place (shows.world.fits w f live).after in
       by_moves c place r.0 r.1 r.2
@@ -249,37 +265,11 @@ module _ (m : Machine) (hs : LockName → LockHistory) (p : ℕ) (shows : ShowsA
   pub step_is_row : (next m (act.Step p)).0 ≡ (row m p).0
   step_is_row = step_is
 
-  step_lowers : ((next m (act.Step p)).0 ≡ m) ⊎ (potential (next m (act.Step p)).0 < potential m)
-      ⊎ IsSpoilt m p
-  step_lowers =
-      subst (λ (k : Machine). (k ≡ m) ⊎ (potential k < potential m)
-      ⊎ IsSpoilt m p) (sym step_is) (by f.place refl)
+  pub step_lowers : Lower m (next m (act.Step p)).0 p
+  step_lowers = subst (λ (k : Machine). Lower m k p) (sym step_is) (by f.place refl)
     where
-      by : (o : Option Pc) → f.place ≡ o
-          → ((row m p).0 ≡ m) ⊎ (potential (row m p).0 < potential m)
-          ⊎ IsSpoilt m p
+      by : (o : Option Pc) → f.place ≡ o → Lower m (row m p).0 p
       by (Some c) e = lowers_at c e
       by None e =
           let same : (row m p).0 ≡ m = ap (λ (o : Option Pc). (row_at m p f o).0) e in
           inl same
-
-pub steps_lower : StepsLower
-steps_lower m hs p shows awake plain range unpreempted = step_lowers m hs p shows awake plain range unpreempted
-
-pub moves_are_few : MovesAreFew
-moves_are_few m es [] shows awake plain each = omega arith
-moves_are_few m es (a ∷ acts) shows awake plain each =
-    let e = each.0 in
-    let is : a ≡ act.Step e.0 = e.1 in
-    let range : processor_of a < length m.cpus = subst (λ (b : Act). processor_of b < length m.cpus) (sym is) e.2 in
-    let after : ShowsLawful (next m a).0 (with_event es (next m a).1) = acts_keep m es a range shows in
-    let setup = setup_kept m a in
-    let rest = moves_are_few (next m a).0 (with_event es (next m a).1) acts after
-    (ap (λ (s : Setup). halts s.mode) setup ∙ awake) (ap (λ (s : Setup). moves_aside s.mode) setup ∙ plain) each.1 in
-    let less : potential (next m a).0 < potential m =
-    subst (λ (b : Act). potential (next m b).0 < potential m) (sym is)
-    (elim (steps_lower m (λ l. history_of l es) e.0 shows.shows awake plain e.2 e.3) [
-      | inl same ↦ absurd (e.4 (ap (λ (b : Act). (next m b).0) is ∙ same))
-      | inr r ↦ elim r [ inl lt ↦ lt | inr z ↦ absurd (e.5 z) ]
-    ]) in
-    omega (arith, rest, less)

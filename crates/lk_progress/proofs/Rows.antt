@@ -45,13 +45,14 @@ use Rattle.lk_core.proofs.RwMoved.{rw_stored}
 use Rattle.lk_core.proofs.Moved.{Ready, ready_same}
 use Rattle.lk_core.proofs.Worlds.{frame-set_counts, world-set_counts}
 use Rattle.lk_core.proofs.Same.{same_then, same_set_counts}
-use Rattle.lk_progress.proofs.Moves.{Moves, moved_is, flags-set_node}
+use Rattle.lk_progress.proofs.Moves.{Moves, moved_is, flags-set_node, rw-set_node}
 
 -- n is m after a store: it has the frames of m, and the words, flags, kicks and halts of this world
 pub record Put (m n : Machine) (x : World) : Type 0 where
   pub same : KeepsFrames m n
   pub frames : (u : Waiter) → frame_at n u ≡ frame_at m u
   pub words : (l : LockName) → word_at n l ≡ x.word l
+  pub rw : (i : ℕ) → rw_at n i ≡ x.rw i
   pub flags : (k : NodeName) → is_set (node_at n k).flag ≡ true → is_set (x.node k).flag ≡ true
   pub kicked : (q : ℕ) → kicked_at n q ≡ x.kicked q
   pub halted : (q : ℕ) → halted_at n q ≡ x.halted q
@@ -61,6 +62,7 @@ put_by m n x s = record {
   same = s.same;
   frames = s.frames;
   words = λ l. ap (λ (y : World). y.word l) s.world;
+  rw = λ i. ap (λ (y : World). y.rw i) s.world;
   flags = λ k h. ap (λ (y : World). is_set (y.node k).flag) (sym s.world) ∙ h;
   kicked = λ q. ap (λ (y : World). y.kicked q) s.world;
   halted = λ q. ap (λ (y : World). y.halted q) s.world;
@@ -75,13 +77,14 @@ put_counted m n x (c ∷ cs) s =
       same = same_then m n (Rattle.lk_rows.specs.Machine.set_counts n k) s.same (same_set_counts n k);
       frames = λ u. frame-set_counts n k u ∙ s.frames u;
       words = λ l. ap (λ (y : World). y.word l) w ∙ s.words l;
+      rw = λ i. ap (λ (y : World). y.rw i) w ∙ s.rw i;
       flags = λ i h. s.flags i (ap (λ (y : World). is_set (y.node i).flag) (sym w) ∙ h);
       kicked = λ q. ap (λ (y : World). y.kicked q) w ∙ s.kicked q;
       halted = λ q. ap (λ (y : World). y.halted q) w ∙ s.halted q;
     }
 
 put_self : (m : Machine) → Put m m (world m)
-put_self m = record { same = same_self m; frames = λ u. refl; words = λ l. refl; flags = λ k h. h; kicked = λ q. refl; halted = λ q. refl }
+put_self m = record { same = same_self m; frames = λ u. refl; words = λ l. refl; rw = λ i. refl; flags = λ k h. h; kicked = λ q. refl; halted = λ q. refl }
 
 word-set_node : (m : Machine) (n : NodeName) (x : Node) (l : LockName) → word_at (set_node m n x) l ≡ word_at m l
 unfolding set_node
@@ -93,6 +96,7 @@ put_at m n x = record {
   same = same_set_node m n x;
   frames = frame-set_node m n x;
   words = word-set_node m n x;
+  rw = rw-set_node m n x;
   flags = λ k h. elim (flags-set_node m n k x h) [
     | inl z ↦
         ap (λ (y : Node). is_set y.flag) (if-true (same_node k n) x (node_at m k) (subst (λ (i : NodeName). same_node k i ≡ true) z.0 (same_node-self k)))

@@ -15,7 +15,7 @@ use Rattle.lk_rows.specs.declared.setup.Verb.TheVariants.{Lock, Try, Unlock, Rea
 use Rattle.lk_rows.specs.declared.setup.Verb.TheVariants.{RUnlock, Write, TryWrite, WUnlock}
 use Rattle.lk_rows.specs.declared.parts.Frame.{Frame}
 use Rattle.lk_rows.specs.declared.parts.Pc.{Pc}
-use Rattle.lk_rows.specs.declared.parts.Pc.TheVariants.{N2, V2, Wr6}
+use Rattle.lk_rows.specs.declared.parts.Pc.TheVariants.{N1, N2, V1, V2, Wr5, Wr6, T1, T2, U1}
 use Rattle.lk_rows.specs.Machine.{Machine, frame_at, top_of, top_frame}
 use Rattle.lk_rows.specs.Machine.{preempted_at}
 use Rattle.lk_rows.specs.Moves.{program_of}
@@ -24,12 +24,11 @@ use Rattle.lk_rows.specs.Acts.{next, processor_of}
 use Rattle.lk_rows.specs.Run.{at_rest, machine_after}
 use Rattle.lk_law.specs.Agree.{halts}
 use Rattle.lk_law.specs.Cna.{moves_aside}
-use Rattle.lk_law.specs.Families.{may_halt, chooses}
-use Rattle.lk_law.specs.Sound.{world, ShowsAll, Footing, BelongsTo, Works}
+use Rattle.lk_law.specs.Families.{is_rw_row}
+use Rattle.lk_law.specs.Sound.{world, ShowsAll, Footing, BelongsTo, Works, is_lock_row}
 use Rattle.lk_law.specs.Sound.Footing.{Spinning, Sharing, Waiting, Freeing, Owing}
 use Rattle.lk_law.specs.Steps.{row_in}
 use Rattle.lk_law.proofs.common.Knows.{nobody_halts}
-use Rattle.lk_law.proofs.common.Puts.{not-true}
 use Rattle.lk_core.proofs.Access.{above_top, frame_within}
 use Rattle.lk_core.proofs.RowKept.{top_live}
 use Rattle.lk_core.proofs.Runs.{rest_shows}
@@ -37,14 +36,13 @@ use Rattle.lk_waits.specs.Waits.{polls, IsStuck}
 use Rattle.lk_waits.specs.Waits as waits
 use Rattle.lk_progress.specs.Ordered.{IsOrdered}
 use Rattle.lk_waits.specs.Order.{level_of}
-use Rattle.lk_progress.specs.Runs.{IsFinished, HasRoom, StandsStill, OrderedRunsGoOn, SomebodyMoves, SomebodyMovesOn, HasChanges, NativeRunsEnd}
-use Rattle.lk_progress.specs.Measure.{retries}
-use Rattle.lk_progress.specs.Potential.{IsSpoilt, potential, budget, HasMoves}
-use Rattle.lk_progress.proofs.Budget.{runs_are_short}
+use Rattle.lk_progress.specs.Runs.{IsFinished, HasRoom, StandsStill, OrderedRunsGoOn, SomebodyMoves, SomebodyMovesOn, RunsEnd, NativeRunsEnd}
+use Rattle.lk_progress.specs.Measure.{is_turn}
+use Rattle.lk_progress.specs.Potential.{budget, cost, price, is_pause, HasChanges, TurnIsMade}
+use Rattle.lk_progress.proofs.Budget.{acts_lower, price_falls, runs_are_short, changes_bounded}
+use Rattle.lk_progress.proofs.Turned.{rest_turns}
 use Rattle.lk_abs.specs.declared.names.Kind.TheVariants.{Spin, Rw}
 use Rattle.std.specs.Prelude.{slice_index_or}
-use Rattle.lk_progress.proofs.Potential.{steps_lower}
-use Rattle.lk_waits.proofs.Stands.{still_polls}
 use Rattle.lk_waits.proofs.Climb.{no_deadlock}
 use Rattle.lk_waits.specs.Followed.{IsHeadFollowed}
 use Rattle.lk_waits.proofs.Followed.{row_keeps_followed}
@@ -76,29 +74,14 @@ module _ (m : Machine) (hs : LockName → LockHistory) (shows : ShowsAll m hs) (
       subst (λ (u : Waiter). waits.StandsStill (world m) u f c) (sym same)
       (stuck_at m hs shows awake unpreempted w.cpu f c lt (ap (frame_at m) (sym same) ∙ top.live) top.place (still w.cpu lt))
 
-  -- a swap that fails changes the machine
-  spoilt_moves : (p : ℕ) → p < length m.cpus → IsSpoilt m p → (next m (act.Step p)).0 ≢ m
-  spoilt_moves p lt z still =
-      let live = top_live m p hs shows lt in
-      let a = not-true (may_halt z.place)
-      (λ e. let y = (shows.world.spins.registers (top_of m p) (top_frame m p) live).choice.halting z.place z.here e in cc (y, awake)) in
-      let b = not-true (chooses z.place)
-      (λ e. let y = (shows.world.spins.registers (top_of m p) (top_frame m p) live).choice.choice z.place z.here e in cc (y, plain)) in
-      let poll = still_polls (world m) (top_of m p) (top_frame m p) (shows.world.fits (top_of m p) (top_frame m p) live).after
-      z.place a b z.here (stuck_at m hs shows awake unpreempted p (top_frame m p) z.place lt live z.here still) in
-      retries_poll z.place z.retry poll
-    where
-      retries_poll : (c : Pc) → retries c ≡ true → polls c ≡ true → ⊥
-      retries_poll c r p = grind (arith, r, p)
-
   -- a step changes the machine, or it does not
   moving : (p : ℕ) → p < length m.cpus → ((next m (act.Step p)).0 ≡ m) ⊎ ((next m (act.Step p)).0 ≢ m)
-  moving p lt = elim (steps_lower m hs p shows awake plain lt (unpreempted p lt)) [
+  moving p lt = elim (price_falls m hs (act.Step p) shows awake plain lt) [
     | inl e ↦ inl e
-    | inr r ↦ inr (elim r [
-      | inl less ↦ λ e. (let z = ap potential e in omega (arith, z, less))
-      | inr z ↦ spoilt_moves p lt z
-    ])
+    | inr r ↦ elim r [
+      | inl less ↦ inr (λ e. (let z = ap price e in omega (arith, z, less)))
+      | inr z ↦ absurd (let y : is_pause (act.Step p) ≡ true = z.0 in cc y)
+    ]
   ]
 
 -- all, or one of the others
@@ -170,31 +153,55 @@ somebody_moves_on rank size setup acts ok ordered awake plain has_room range unp
     goes_on rank size setup ordered awake plain (machine_after (at_rest setup) acts)
     (reached_from_rest (IsAwake false) IsHeadFollowed kept_followed setup acts ok (awake, plain) (λ e. has_room) range) unpreempted
 
--- in `native` with spinlocks alone, and with a node for each, no swap fails
+-- in `virt` and `native` every run ends
 
-no_loop_in_native : (v : Verb) (f : Frame) → Footing Native v f V2 → ⊥
-no_loop_in_native v f (Spinning a b e) = by v e
+pub runs_end : RunsEnd
+runs_end setup acts k ok awake plain z =
+    let rest = rest_shows setup ok in
+    let le = runs_are_short (at_rest setup) [] acts k rest awake plain z in
+    let none = rest_turns setup ok in
+    let cpus : budget (at_rest setup) * cost (length (at_rest setup).cpus)
+    ≡ budget (at_rest setup) * cost (length setup.topology.sockets.items) =
+    ap (λ (n : ℕ). budget (at_rest setup) * cost n) rest.shows.whole.cpus in
+    omega (arith, le, none, cpus)
+
+-- in `native` with spinlocks alone, and with a node for each, nobody is in a turn
+
+no_footing : (c : Pc) → is_lock_row Native c ≡ false → is_rw_row c ≡ false → c ≢ T1 → c ≢ T2 → c ≢ U1
+    → (v : Verb) (f : Frame) → Footing Native v f c → ⊥
+no_footing c off spin t1 t2 u1 v f (Spinning a b e) = by v e
   where
-    by : (v : Verb) → BelongsTo Native v V2 → ⊥
-    by Lock e = cc e
-    by Try e = elim e [ inl q ↦ cc q | inr q ↦ cc q ]
-    by Unlock e = cc e
+    by : (v : Verb) → BelongsTo Native v c → ⊥
+    by Lock e = cc (e, off)
+    by Try e = elim e [ inl q ↦ t1 q | inr q ↦ t2 q ]
+    by Unlock e = u1 e
     by Read e = e
     by Write e = e
     by TryRead e = e
     by TryWrite e = e
     by RUnlock e = e
     by WUnlock e = e
-no_loop_in_native v f (Sharing a e) = cc a
-no_loop_in_native v f (Waiting a b c d e) = cc e
-no_loop_in_native v f (Freeing a b c d e) = cc c
-no_loop_in_native v f (Owing a e g h) = cc a
+no_footing c off spin t1 t2 u1 v f (Sharing a e) = cc (a, spin)
+no_footing c off spin t1 t2 u1 v f (Waiting a b d g e) = cc (e, off)
+no_footing c off spin t1 t2 u1 v f (Freeing a b d g e) = u1 e
+no_footing c off spin t1 t2 u1 v f (Owing a e g h) = cc a
 
-retries_cases : (c : Pc) → retries c ≡ true → (c ≡ V2) ⊎ (c ≡ N2) ⊎ (c ≡ Wr6)
-retries_cases V2 e = inl refl
-retries_cases N2 e = inr (inl refl)
-retries_cases Wr6 e = inr (inr refl)
-retries_cases _ e = cc e
+no_loop_in_native : (c : Pc) → (c ≡ V1) ⊎ (c ≡ V2) → (v : Verb) (f : Frame) → Footing Native v f c → ⊥
+no_loop_in_native c which v f footing = elim which [
+  | inl e ↦ no_footing V1 refl refl (λ z. cc z) (λ z. cc z) (λ z. cc z) v f (subst (Footing Native v f) e footing)
+  | inr e ↦ no_footing V2 refl refl (λ z. cc z) (λ z. cc z) (λ z. cc z) v f (subst (Footing Native v f) e footing)
+]
+
+-- the rows of turns: of the loop, of a waiter without a node, and of a writer
+turn_cases : (c : Pc) → is_turn c ≡ true
+    → ((c ≡ V1) ⊎ (c ≡ V2)) ⊎ ((c ≡ N1) ⊎ (c ≡ N2)) ⊎ (is_rw_row c ≡ true)
+turn_cases V1 e = inl (inl refl)
+turn_cases V2 e = inl (inr refl)
+turn_cases N1 e = inr (inl (inl refl))
+turn_cases N2 e = inr (inl (inr refl))
+turn_cases Wr5 e = inr (inr refl)
+turn_cases Wr6 e = inr (inr refl)
+turn_cases _ e = cc e
 
 module _ (setup : Setup) (ok : IsLawfulSetup setup) (native : setup.mode ≡ Native)
     (spins : (i : ℕ) → slice_index_or setup.locks.items i Spin ≡ Spin) (has_room : HasRoom setup) where
@@ -204,20 +211,21 @@ module _ (setup : Setup) (ok : IsLawfulSetup setup) (native : setup.mode ≡ Nat
   plain_in : moves_aside setup.mode ≡ false
   plain_in = ap moves_aside native
 
-  pub unspoilt : (m : Machine) → Reached IsHeadFollowed setup m → (p : ℕ) → p < length m.cpus → IsSpoilt m p → ⊥
-  unspoilt m r p range z = elim (retries_cases z.place z.retry) [
-    | inl e ↦
-        let at : (top_frame m p).place ≡ Some V2 = z.here ∙ ap Some e in
-        let works : Works m.setup.mode (program_of m p (top_frame m p)) (top_frame m p) V2 =
-        (shows.fits (top_of m p) (top_frame m p) live).working V2 at in
-        no_loop_in_native works.op.verb (top_frame m p)
-        (subst (λ (mode : Mode). Footing mode works.op.verb (top_frame m p) V2)
+  no_turn : (m n : Machine) → Reached IsHeadFollowed setup m → (p : ℕ) → p < length m.cpus → TurnIsMade m n p → ⊥
+  no_turn m n r p range z = elim (turn_cases z.place z.turn) [
+    | inl which ↦
+        let works : Works m.setup.mode (program_of m p (top_frame m p)) (top_frame m p) z.place =
+        (shows.fits (top_of m p) (top_frame m p) live).working z.place z.here in
+        no_loop_in_native z.place which works.op.verb (top_frame m p)
+        (subst (λ (mode : Mode). Footing mode works.op.verb (top_frame m p) z.place)
         (ap (λ (s : Setup). s.mode) r.setup_is ∙ native) works.stage)
     | inr q ↦ elim q [
-      | inl e ↦ (r.good.followed.noded (top_of m p) (top_frame m p) live).1 (z.here ∙ ap Some e)
+      | inl which ↦
+          let noded = r.good.followed.noded (top_of m p) (top_frame m p) live in
+          elim which [ inl e ↦ noded.0 (z.here ∙ ap Some e) | inr e ↦ noded.1 (z.here ∙ ap Some e) ]
       | inr e ↦
           let kind : slice_index_or m.setup.locks.items (top_frame m p).lock.index Spin ≡ Rw =
-          (shows.world.fits (top_of m p) (top_frame m p) live).rw Wr6 (z.here ∙ ap Some e) refl in
+          (shows.world.fits (top_of m p) (top_frame m p) live).rw z.place z.here e in
           let spin : slice_index_or m.setup.locks.items (top_frame m p).lock.index Spin ≡ Spin =
           ap (λ (s : Setup). slice_index_or s.locks.items (top_frame m p).lock.index Spin) r.setup_is
           ∙ spins (top_frame m p).lock.index in
@@ -231,25 +239,26 @@ module _ (setup : Setup) (ok : IsLawfulSetup setup) (native : setup.mode ≡ Nat
       live : frame_at m (top_of m p) ≡ Some (top_frame m p)
       live = top_live m p (λ l. history_of l r.events) r.shows.shows range
 
-  to_moves : (acts : List Act) (m : Machine) (k : ℕ) → Reached IsHeadFollowed setup m → HasChanges m acts k → HasMoves m acts k
-  to_moves [] m k r z = z
-  to_moves (a ∷ acts) m k r z = (
-    z.0,
-    λ p is spoilt. unspoilt m r p (subst (λ (b : Act). processor_of b < length m.cpus) is z.0) spoilt,
-    elim z.1 [
-      | inl y ↦ inl (y.0, to_moves acts (next m a).0 k (on z.0) y.1)
-      | inr y ↦ inr (y.0, y.1, y.2, y.3, to_moves acts (next m a).0 y.0 (on z.0) y.4)
-    ],
-  )
-    where
-      on : processor_of a < length m.cpus → Reached IsHeadFollowed setup (next m a).0
-      on lt = reached (IsAwake false) IsHeadFollowed kept_followed setup (awake_in, plain_in) (λ e. has_room) (a ∷ []) m (lt, tt) r
+  lowers : (m : Machine) (a : Act) → Reached IsHeadFollowed setup m → processor_of a < length m.cpus
+      → ((next m a).0 ≡ m) ⊎ (budget (next m a).0 < budget m) ⊎ ((is_pause a ≡ true) × (budget (next m a).0 ≡ budget m))
+  lowers m a r range = elim (acts_lower m (λ l. history_of l r.events) a r.shows.shows
+      (ap (λ (s : Setup). halts s.mode) r.setup_is ∙ awake_in)
+      (ap (λ (s : Setup). moves_aside s.mode) r.setup_is ∙ plain_in) range) [
+        | inl e ↦ inl e
+        | inr x ↦ elim x [
+          | inl lt ↦ inr (inl lt)
+          | inr y ↦ elim y [
+            | inl p ↦ inr (inr (p.0, p.1))
+            | inr t ↦ absurd (no_turn m (next m a).0 r t.0 (subst (λ (b : Act). processor_of b < length m.cpus) t.1 range) t.2)
+          ]
+        ]
+      ]
 
   native_end : (acts : List Act) (k : ℕ) → HasChanges (at_rest setup) acts k → k ≤ budget (at_rest setup)
   native_end acts k z =
-      let rest = rest_shows setup ok in
-      let r : Reached IsHeadFollowed setup (at_rest setup) = start (IsAwake false) IsHeadFollowed kept_followed setup ok in
-      runs_are_short (at_rest setup) [] acts k rest awake_in plain_in (to_moves acts (at_rest setup) k r z)
+      changes_bounded (Reached IsHeadFollowed setup) budget
+      (λ m a r range. reached (IsAwake false) IsHeadFollowed kept_followed setup (awake_in, plain_in) (λ e. has_room) (a ∷ []) m (range, tt) r)
+      lowers (at_rest setup) acts k (start (IsAwake false) IsHeadFollowed kept_followed setup ok) z
 
 pub native_runs_end : NativeRunsEnd
 native_runs_end setup acts k ok native spins has_room z = native_end setup ok native spins has_room acts k z

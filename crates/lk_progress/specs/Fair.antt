@@ -1,8 +1,6 @@
 -- Schedules that are fair, and the theorem that everybody finishes under them.
-use Rattle.std.specs.Prelude.{◌≡◌, ◌<◌, ◌≤◌, ◌+◌, ℕ, false, length, slice_index_or}
+use Rattle.std.specs.Prelude.{◌≡◌, ◌<◌, ◌≤◌, ◌+◌, ℕ, false, length}
 use Rattle.std.proofs.Common.{zero, suc}
-use Rattle.lk_abs.specs.declared.names.Kind.TheVariants.{Spin}
-use Rattle.lk_abs.specs.declared.names.Mode.TheVariants.{Native}
 use Rattle.lk_abs.specs.declared.events.Act.{Act}
 use Rattle.lk_abs.specs.declared.events.Act.TheVariants.{Step}
 use Rattle.lk_rows.specs.declared.setup.Setup.{Setup}
@@ -10,6 +8,8 @@ use Rattle.lk_rows.specs.Machine.{Machine, preempted_at}
 use Rattle.lk_rows.specs.Programs.{IsLawfulSetup}
 use Rattle.lk_rows.specs.Acts.{next, processor_of}
 use Rattle.lk_rows.specs.Run.{at_rest}
+use Rattle.lk_law.specs.Agree.{halts}
+use Rattle.lk_law.specs.Cna.{moves_aside}
 use Rattle.lk_progress.specs.Ordered.{IsOrdered}
 use Rattle.lk_progress.specs.Runs.{HasRoom, IsFinished}
 
@@ -36,11 +36,11 @@ pub record IsFair (setup : Setup) (schedule : ℕ → Act) : Type 0 where
   pub inside : (n : ℕ) → processor_of (schedule n) < processors setup
   pub rounds : (n : ℕ) → (first : ℕ) × (size : ℕ) × (n ≤ first) × IsRound setup schedule first size
 
--- In an ordered setup of `native` with spinlocks, where no processor has more than three handlers, every
--- fair schedule comes to a moment at which every processor has finished.
+-- In an ordered setup of `virt` or `native`, where there is room, every fair schedule comes to a moment at which
+-- every processor has finished.
 abbrev pub FairRunsFinish : Type 0
 FairRunsFinish = (rank : ℕ → ℕ) (size : ℕ) (setup : Setup) (schedule : ℕ → Act)
     → IsLawfulSetup setup → IsOrdered rank size setup
-    → setup.mode ≡ Native → ((i : ℕ) → slice_index_or setup.locks.items i Spin ≡ Spin) → HasRoom setup
+    → halts setup.mode ≡ false → moves_aside setup.mode ≡ false → HasRoom setup
     → IsFair setup schedule
     → (n : ℕ) × ((p : ℕ) → p < processors setup → IsFinished (after_first setup schedule n) p)

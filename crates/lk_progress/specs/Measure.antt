@@ -1,5 +1,5 @@
 -- How many rows are left of an operation: a number that every row lowers which leads a frame on, but
--- for three that may have to begin a poll anew.
+-- for the turns of a waiter that polls a word and swaps it.
 use Rattle.std.specs.Prelude.{◌≡◌, ◌⊎◌, ◌<◌, ◌+◌, ℕ, Option, Some, None, Bool, true, false, if◌then◌else◌}
 use Rattle.lk_abs.specs.declared.names.Waiter.{Waiter}
 use Rattle.lk_abs.specs.declared.names.LockName.{LockName}
@@ -17,14 +17,15 @@ use Rattle.lk_rows.specs.rows.Rw.{is_cleared}
 use Rattle.lk_rows.specs.TopRow.{target}
 use Rattle.lk_law.specs.Agree.{halts}
 use Rattle.lk_law.specs.Cna.{moves_aside}
-use Rattle.lk_law.specs.Leads.{course_in}
+use Rattle.lk_law.specs.Leads.{course_in, stored_in}
 use Rattle.lk_law.specs.Premises.{IsThen}
 use Rattle.lk_law.specs.SpinWorld.{IsSoundSpinWorld}
 use Rattle.lk_law.specs.Steps.{led}
 use Rattle.lk_law.specs.World.{World}
 use Rattle.lk_abs.specs.History.{LockHistory}
 
--- how many rows follow at most from this one to the end of its part of an operation
+-- How many rows follow at most from this one to the end of its part of an operation. A poll and the swap
+-- behind it count alike, since the swap may fail and lead back.
 abbrev pub rows_left : Pc → ℕ
 rows_left F1 = 15
 rows_left P0 = 14
@@ -47,9 +48,9 @@ rows_left T1 = 2
 rows_left T2 = 1
 rows_left U1 = 1
 rows_left V1 = 2
-rows_left V2 = 1
+rows_left V2 = 2
 rows_left N1 = 2
-rows_left N2 = 1
+rows_left N2 = 2
 rows_left R1 = 20
 rows_left R2 = 1
 rows_left R3 = 19
@@ -60,7 +61,7 @@ rows_left Wr2 = 6
 rows_left Wr3 = 5
 rows_left Wr4 = 4
 rows_left Wr5 = 3
-rows_left Wr6 = 2
+rows_left Wr6 = 3
 rows_left Y1 = 3
 rows_left Y2 = 2
 rows_left Y3 = 1
@@ -109,28 +110,52 @@ left_at (Some c) f = rows_left c + (if f.lock.wait then (if is_taking c then row
 abbrev pub left_of : Frame → ℕ
 left_of f = left_at f.place f
 
--- The row swaps a word that its frame has looked at before. If it has changed since then, the frame
--- polls anew.
-abbrev pub retries : Pc → Bool
-retries V2 = true
-retries N2 = true
-retries Wr6 = true
-retries _ = false
+-- the row polls a word that is swapped next, or swaps it
+abbrev pub is_turn : Pc → Bool
+is_turn V1 = true
+is_turn V2 = true
+is_turn N1 = true
+is_turn N2 = true
+is_turn Wr5 = true
+is_turn Wr6 = true
+is_turn _ = false
 
--- what another did in between: it took the lock, or queued, or came in as a reader
-abbrev pub IsBelied : World → Frame → Pc → Type 0
-IsBelied m f Wr6 = is_cleared (m.rw f.lock.index) ≡ false
-IsBelied m f c = is_free (m.word f.lock) ≡ false
+-- How far a frame is from the end of its turn. A swap that is going to fail, since another came in between,
+-- is two rows from it: itself, and the poll to which it leads back.
+abbrev pub turn_at : World → Frame → Pc → ℕ
+turn_at m f V1 = 1
+turn_at m f V2 = if is_free (m.word f.lock) then 0 else 2
+turn_at m f N1 = 1
+turn_at m f N2 = if is_free (m.word f.lock) then 0 else 2
+turn_at m f Wr5 = 1
+turn_at m f Wr6 = if is_cleared (m.rw f.lock.index) then 0 else 2
+turn_at m f _ = 0
+
+abbrev pub turn_if : World → Frame → Option Pc → ℕ
+turn_if m f None = 0
+turn_if m f (Some c) = turn_at m f c
+
+abbrev pub turn_of : World → Option Frame → ℕ
+turn_of m None = 0
+turn_of m (Some f) = turn_if m f f.place
+
+-- The row stores nothing, and leads its frame on in its turn: it leaves as many rows as there were, and the
+-- end of the turn is nearer.
+pub record TurnGoesOn (m : World) (w : Waiter) (f : Frame) (c : Pc) : Type 0 where
+  pub turn : is_turn c ≡ true
+  pub stores : stored_in m w f c (target c f) ≡ m
+  pub left : left_of (led f (course_in m w f c (target c f)).leads) ≡ left_of f
+  pub nearer : turn_of m (Some (led f (course_in m w f c (target c f)).leads)) < turn_of m (Some f)
 
 -- Where no processor halts and nobody is moved aside, each row leaves its frame where it was, or
--- leaves it fewer rows than it had; or it polls anew, since another came in between.
+-- leaves it fewer rows than it had, or leads it on in its turn.
 abbrev pub RowDescends : Pc → Type 0
 RowDescends c = (m : World) (hs : LockName → LockHistory) (w : Waiter) (f : Frame)
     → IsSoundSpinWorld m hs → halts m.mode ≡ false → moves_aside m.mode ≡ false
     → m.frame w ≡ Some f → f.place ≡ Some c → (f.lock.wait ≡ true → IsThen f.then)
     → ((led f (course_in m w f c (target c f)).leads).place ≡ Some c)
     ⊎ (left_of (led f (course_in m w f c (target c f)).leads) < left_of f)
-    ⊎ ((retries c ≡ true) × IsBelied m f c)
+    ⊎ TurnGoesOn m w f c
 
 -- An operation begins with at most 22 rows.
 abbrev pub BeginIsShort : Type 0

@@ -1,4 +1,4 @@
--- A number of a machine that every step lowers which leads a frame on.
+-- A number of a machine that every act lowers which changes something, but for pauses.
 use Rattle.std.specs.Prelude.{List, [], ◌∷◌, ◌≡◌, ◌≢◌, ◌⊎◌, ◌<◌, ◌≤◌, ◌+◌, ◌-◌, ◌*◌, ℕ, Option, Some, None, Bool, true, false, length}
 use Rattle.std.proofs.Common.{zero, suc}
 use Rattle.lk_abs.specs.History.{LockHistory}
@@ -13,13 +13,13 @@ use Rattle.lk_rows.specs.Acts.{processor_of}
 use Rattle.lk_law.specs.MachineLaws.{ShowsLawful}
 use Rattle.lk_rows.specs.declared.parts.Frame.{Frame}
 use Rattle.lk_rows.specs.declared.parts.Pc.{Pc}
-use Rattle.lk_rows.specs.Machine.{Machine, frame_at, top_frame, preempted_at}
+use Rattle.lk_rows.specs.Machine.{Machine, frame_at, top_frame}
 use Rattle.lk_rows.specs.Moves.{program_of}
 use Rattle.lk_rows.specs.Acts.{next}
 use Rattle.lk_law.specs.Agree.{halts}
 use Rattle.lk_law.specs.Cna.{moves_aside}
 use Rattle.lk_law.specs.Sound.{ShowsAll, world}
-use Rattle.lk_progress.specs.Measure.{left_of, retries, IsBelied}
+use Rattle.lk_progress.specs.Measure.{left_of, is_turn, turn_of}
 
 -- what is left of a frame: 23 for each operation that has not ended, of which none has more rows
 -- left, and the rows that are left of the one at its position
@@ -49,65 +49,67 @@ pending_weight m p =
 abbrev pub budget : Machine → ℕ
 budget m = potential m + sum_below (length m.cpus) (λ p. pending_weight m p)
 
+-- how far the frames of a processor are from the ends of their turns, and those of all processors
+abbrev pub cpu_turns : Machine → ℕ → ℕ
+cpu_turns m p = sum_below 6 (λ c. turn_of (world m) (frame_at m (record { cpu = p; ctx = c })))
+
+abbrev pub turns : Machine → ℕ
+turns m = sum_below (length m.cpus) (λ p. cpu_turns m p)
+
+-- What one row may cost: itself, and two for each frame whose turn it may spoil by changing a word, of the six
+-- that a processor can have.
+abbrev pub cost : ℕ → ℕ
+cost processors = 12 * processors + 1
+
+-- The price of all that is still to come: the cost of each row that the budget counts, and the turns.
+abbrev pub price : Machine → ℕ
+price m = budget m * cost (length m.cpus) + turns m
+
 -- the act preempts a processor, or resumes it
 abbrev pub is_pause : Act → Bool
 is_pause (Preempt p) = true
 is_pause (Resume p) = true
 is_pause _ = false
 
--- The swap of the newest frame of a processor fails, since another came in between.
-pub record IsSpoilt (m : Machine) (p : ℕ) : Type 0 where
+-- The step of a processor, which leads from m to n, is a row of a turn: the rows that are left are as many as
+-- before, and of the turns fewer.
+pub record TurnIsMade (m n : Machine) (p : ℕ) : Type 0 where
   pub place : Pc
   pub here : (top_frame m p).place ≡ Some place
-  pub retry : retries place ≡ true
-  pub belied : IsBelied (world m) (top_frame m p) place
+  pub turn : is_turn place ≡ true
+  pub left : budget n ≡ budget m
+  pub fewer : turns n < turns m
 
--- In `virt` and `native` a step changes nothing; or it lowers the potential; or its swap failed, since
--- another came in between.
-abbrev pub StepsLower : Type 0
-StepsLower = (m : Machine) (hs : LockName → LockHistory) (p : ℕ)
-    → ShowsAll m hs → halts m.setup.mode ≡ false → moves_aside m.setup.mode ≡ false
-    → p < length m.cpus → preempted_at m p ≡ false
-    → ((next m (Step p)).0 ≡ m)
-    ⊎ (potential (next m (Step p)).0 < potential m)
-    ⊎ IsSpoilt m p
-
--- Each of these acts is a step that changes the machine, of a processor that is not preempted, and none
--- is a swap that fails.
-abbrev pub EachMoves : Machine → List Act → Type 0
-EachMoves m [] = Unit {0}
-EachMoves m (a ∷ acts) =
-    ((p : ℕ) × (a ≡ Step p) × (p < length m.cpus) × (preempted_at m p ≡ false)
-    × ((next m a).0 ≢ m) × (IsSpoilt m p → ⊥))
-    × EachMoves (next m a).0 acts
-
--- In `virt` and `native` there are no more of these than the potential says.
-abbrev pub MovesAreFew : Type 0
-MovesAreFew = (m : Machine) (es : List Event) (acts : List Act) → ShowsLawful m es
-    → halts m.setup.mode ≡ false → moves_aside m.setup.mode ≡ false
-    → EachMoves m acts → length acts ≤ potential m
-
--- In `virt` and `native` every act changes nothing, or lowers the budget; or it is a pause, which leaves
--- the budget; or a swap that fails.
+-- In `virt` and `native` every act changes nothing, or lowers the budget; or it is a pause, which leaves all
+-- as it was; or it is a row of a turn.
 abbrev pub ActsLower : Type 0
 ActsLower = (m : Machine) (hs : LockName → LockHistory) (a : Act)
     → ShowsAll m hs → halts m.setup.mode ≡ false → moves_aside m.setup.mode ≡ false
     → processor_of a < length m.cpus
     → ((next m a).0 ≡ m)
     ⊎ (budget (next m a).0 < budget m)
-    ⊎ ((is_pause a ≡ true) × (budget (next m a).0 ≡ budget m))
-    ⊎ ((p : ℕ) × (a ≡ Step p) × IsSpoilt m p)
+    ⊎ ((is_pause a ≡ true) × (budget (next m a).0 ≡ budget m) × (price (next m a).0 ≡ price m))
+    ⊎ ((p : ℕ) × (a ≡ Step p) × TurnIsMade m (next m a).0 p)
 
--- a run in which so many acts change the machine that are no pauses, and no swap fails
-abbrev pub HasMoves : Machine → List Act → ℕ → Type 0
-HasMoves m [] k = k ≡ 0
-HasMoves m (a ∷ acts) k =
-    (processor_of a < length m.cpus) × ((p : ℕ) → a ≡ Step p → IsSpoilt m p → ⊥)
-    × (((((next m a).0 ≡ m) ⊎ (is_pause a ≡ true)) × HasMoves (next m a).0 acts k)
-    ⊎ ((j : ℕ) × (k ≡ suc j) × ((next m a).0 ≢ m) × (is_pause a ≡ false) × HasMoves (next m a).0 acts j))
+-- So it changes nothing, or lowers the price, or is a pause, which leaves it.
+abbrev pub PriceFalls : Type 0
+PriceFalls = (m : Machine) (hs : LockName → LockHistory) (a : Act)
+    → ShowsAll m hs → halts m.setup.mode ≡ false → moves_aside m.setup.mode ≡ false
+    → processor_of a < length m.cpus
+    → ((next m a).0 ≡ m)
+    ⊎ (price (next m a).0 < price m)
+    ⊎ ((is_pause a ≡ true) × (price (next m a).0 ≡ price m))
 
--- No run has more of them than the budget, whatever interrupts come.
+-- a run in which so many acts change the machine that are no pauses
+abbrev pub HasChanges : Machine → List Act → ℕ → Type 0
+HasChanges m [] k = k ≡ 0
+HasChanges m (a ∷ acts) k =
+    (processor_of a < length m.cpus)
+    × (((((next m a).0 ≡ m) ⊎ (is_pause a ≡ true)) × HasChanges (next m a).0 acts k)
+    ⊎ ((j : ℕ) × (k ≡ suc j) × ((next m a).0 ≢ m) × (is_pause a ≡ false) × HasChanges (next m a).0 acts j))
+
+-- No run has more of them than the price, whatever others do, and whatever interrupts come.
 abbrev pub RunsAreShort : Type 0
 RunsAreShort = (m : Machine) (es : List Event) (acts : List Act) (k : ℕ) → ShowsLawful m es
     → halts m.setup.mode ≡ false → moves_aside m.setup.mode ≡ false
-    → HasMoves m acts k → k ≤ budget m
+    → HasChanges m acts k → k ≤ price m

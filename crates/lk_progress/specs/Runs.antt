@@ -1,6 +1,5 @@
 -- The theorem over schedules: no run of an ordered setup comes to a deadlock.
-use Rattle.std.specs.Prelude.{slice_index_or, ◌≡◌, ◌≢◌, ◌⊎◌, [], ◌∷◌, ◌<◌, ◌≤◌, ℕ, Some, None, true, false, List, length}
-use Rattle.std.proofs.Common.{suc}
+use Rattle.std.specs.Prelude.{slice_index_or, ◌≡◌, ◌≢◌, ◌⊎◌, ◌<◌, ◌≤◌, ◌*◌, ℕ, Some, None, true, false, List, length}
 use Rattle.lk_abs.specs.declared.names.Kind.TheVariants.{Spin}
 use Rattle.lk_abs.specs.declared.names.Mode.TheVariants.{Virt, Native}
 use Rattle.lk_abs.specs.declared.events.Act.{Act}
@@ -8,7 +7,7 @@ use Rattle.lk_abs.specs.declared.events.Act.TheVariants.{Step}
 use Rattle.lk_rows.specs.declared.setup.Setup.{Setup}
 use Rattle.lk_rows.specs.Machine.{Machine, top_frame, depth_at, preempted_at}
 use Rattle.lk_rows.specs.Programs.{IsLawfulSetup, handlers_of}
-use Rattle.lk_rows.specs.Acts.{next, processor_of}
+use Rattle.lk_rows.specs.Acts.{next}
 use Rattle.lk_rows.specs.Run.{at_rest, machine_after}
 use Rattle.lk_law.specs.Agree.{halts}
 use Rattle.lk_law.specs.Cna.{moves_aside}
@@ -18,7 +17,7 @@ use Rattle.lk_law.specs.Sound.{world}
 use Rattle.lk_waits.specs.Waits.{IsBarred}
 use Rattle.lk_waits.specs.Halting.{IsRobbed}
 use Rattle.lk_progress.specs.Ordered.{IsOrdered}
-use Rattle.lk_progress.specs.Potential.{budget, is_pause}
+use Rattle.lk_progress.specs.Potential.{budget, cost, HasChanges}
 
 -- the processor has finished: its task has, and no handler runs
 pub record IsFinished (m : Machine) (p : ℕ) : Type 0 where
@@ -67,17 +66,17 @@ SomebodyMovesOn = (rank : ℕ → ℕ) (size : ℕ) (setup : Setup) (acts : List
     → IsFinished (machine_after (at_rest setup) acts) p)
     ⊎ SomebodyMoves (machine_after (at_rest setup) acts)
 
--- a run in which so many acts change the machine that are no pauses
-abbrev pub HasChanges : Machine → List Act → ℕ → Type 0
-HasChanges m [] k = k ≡ 0
-HasChanges m (a ∷ acts) k =
-    (processor_of a < length m.cpus)
-    × (((((next m a).0 ≡ m) ⊎ (is_pause a ≡ true)) × HasChanges (next m a).0 acts k)
-    ⊎ ((j : ℕ) × (k ≡ suc j) × ((next m a).0 ≢ m) × (is_pause a ≡ false) × HasChanges (next m a).0 acts j))
+-- In `virt` and `native` no run from rest has more changing acts, besides preemptions and resumptions, than the
+-- rows of the budget at rest, times what a row may cost. The handlers may be as many as they like, and so may
+-- the swaps that fail.
+abbrev pub RunsEnd : Type 0
+RunsEnd = (setup : Setup) (acts : List Act) (k : ℕ)
+    → IsLawfulSetup setup → halts setup.mode ≡ false → moves_aside setup.mode ≡ false
+    → HasChanges (at_rest setup) acts k
+    → k ≤ budget (at_rest setup) * cost (length setup.topology.sockets.items)
 
--- In `native`, with spinlocks alone and at most three handlers a processor, no run has more changing
--- acts, besides preemptions and resumptions, than the budget of the machine at rest. So with
--- `SomebodyMovesOn` every fair schedule of an ordered setup finishes.
+-- In `native`, with spinlocks alone and at most three handlers a processor, no swap fails, and a row costs
+-- itself alone.
 abbrev pub NativeRunsEnd : Type 0
 NativeRunsEnd = (setup : Setup) (acts : List Act) (k : ℕ)
     → IsLawfulSetup setup → setup.mode ≡ Native

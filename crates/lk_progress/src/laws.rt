@@ -2,12 +2,12 @@
 
 ghost use Rattle.lk_rows.specs.declared.parts.Pc.{Pc};
 ghost use Rattle.lk_progress.specs.Measure.{RowDescends, BeginIsShort};
-ghost use Rattle.lk_progress.specs.Potential.{StepsLower, MovesAreFew, ActsLower, RunsAreShort};
+ghost use Rattle.lk_progress.specs.Potential.{ActsLower, PriceFalls, RunsAreShort};
 ghost use Rattle.lk_progress.specs.Fair.{FairRunsFinish};
 ghost use Rattle.lk_progress.specs.Turns.{TakesInTurn, NobodyWatchesAnew};
 ghost use Rattle.lk_progress.specs.InTurn.{FewTakesBefore, FewerUnwatched, FewTakesFromArrival};
 ghost use Rattle.lk_progress.specs.InTurn.{FewTakesAside, FewTakesAsideFromArrival};
-ghost use Rattle.lk_progress.specs.Runs.{OrderedRunsGoOn, OrderedRunsGoOnAside, SomebodyMovesOn, NativeRunsEnd};
+ghost use Rattle.lk_progress.specs.Runs.{OrderedRunsGoOn, OrderedRunsGoOnAside, SomebodyMovesOn, RunsEnd, NativeRunsEnd};
 ghost use Rattle.lk_progress.specs.Runs.{OrderedRunsGoOnHalting, SomebodyLeadsOnHalting};
 
 /// No schedule of an ordered setup of `virt` or `native` comes to a deadlock. In the machine after
@@ -27,27 +27,31 @@ pub fn ordered_runs_go_on()
     ensures leads { SomebodyLeadsOnHalting }
 {}
 
-/// In `virt` and `native` an operation has at most 22 rows, but for swaps that fail since another
-/// came in between (V2, N2, Wr6). A step changes nothing, or lowers the potential of the machine, or
-/// is such a swap. An interrupt that comes lowers the budget, which also counts the handlers that are
-/// still to come. So in every run the acts that change something, besides preemptions, resumptions and
-/// such swaps, are no more than the budget says at its beginning. In `native`, with spinlocks alone and
-/// at most three handlers a processor, no swap fails: there every run from rest has at most so many
-/// changing acts.
+/// In `virt` and `native` every run is short, with readers and writers, tries, interrupts, and any number of
+/// handlers. An operation has at most 22 rows, but for turns: a waiter that polls a word and swaps it polls
+/// anew where another came in between. An act changes nothing; or it lowers the budget, which counts the rows
+/// that are left and the handlers that are still to come; or it is a pause, which leaves the budget; or it is
+/// a row of a turn. A turn has at most two rows until somebody changes its word, and then the budget is lower.
+/// So every act that changes something, and is no pause, lowers the price: each row of the budget costs one,
+/// and two for each of the six frames that a processor can have, since it may spoil their turns. No run has
+/// more such acts than the price at its beginning.
+///
+/// In `native`, with spinlocks alone and at most three handlers a processor, nobody is ever in a turn. There
+/// every run from rest has at most as many changing acts as the budget says.
 pub fn operations_are_short()
     ensures rows { (c : Pc) → RowDescends c }
     ensures begin { BeginIsShort }
-    ensures steps { StepsLower }
-    ensures few { MovesAreFew }
     ensures acts { ActsLower }
+    ensures falls { PriceFalls }
     ensures runs { RunsAreShort }
+    ensures ends { RunsEnd }
     ensures native { NativeRunsEnd }
 {}
 
-/// Everybody finishes under a fair schedule. In an ordered setup of `native` with spinlocks alone, where no
-/// processor has more than three handlers: if again and again a round comes in which nobody is preempted
-/// and each processor makes a step, there is a moment at which every processor has finished. What
-/// happens between two rounds does not matter, and interrupts may come at any time.
+/// Everybody finishes under a fair schedule, in an ordered setup of `virt` or `native`. In `native` no processor
+/// may have more than three handlers. If again and again a round comes in which nobody is preempted and
+/// each processor makes a step, there is a moment at which every processor has finished. What happens
+/// between two rounds does not matter, and interrupts may come at any time.
 pub fn fair_runs_finish()
     ensures finish { FairRunsFinish }
 {}
