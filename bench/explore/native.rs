@@ -1,8 +1,10 @@
-//! native CPUS ROUNDS
+//! native CPUS ROUNDS [alike]
 //!
 //! The native lock of docs/ROWS.md in plain Rust, for a comparison of speed: one lock, and processors that acquire and release it so many
 //! times. A state has what a state of `./qlock explore` has, and what nobody reads before it is written is at rest, so there are as many.
 //! They are met level by level. It writes how many there are, how many acts lead from one to another, and how many acts the deepest takes.
+//! With `alike`, states that differ only in the numbers of processors are one, since all processors do the same: each state is kept with
+//! its processors sorted by what they do. Two that do the same may still stand in either order, so there may be a few too many.
 use std::env;
 
 const MOST: usize = 8;
@@ -146,6 +148,39 @@ impl State {
         }
     }
 
+    /// What a processor does by itself: without the names of others, and whether the queue ends at it.
+    fn alone(&self, p: usize) -> [u8; 8] {
+        let cpu = self.cpus[p];
+        let ends = self.tail == p as u8 + 1;
+        let bits = [cpu.has_node, cpu.prev != 0, cpu.y != 0, cpu.flag, cpu.next != 0, ends].map(u8::from);
+        [cpu.row as u8, cpu.at, bits[0], bits[1], bits[2], bits[3], bits[4], bits[5]]
+    }
+
+    /// What the processor of this name does by itself.
+    fn named(&self, name: u8) -> [u8; 8] {
+        if name == 0 { [0; 8] } else { self.alone(name as usize - 1) }
+    }
+
+    /// The state with its processors sorted by what they do, and all names new.
+    fn sorted(&self, cpus: usize) -> State {
+        let mut order: Vec<usize> = (0..cpus).collect();
+        order.sort_by_key(|&p| {
+            let cpu = self.cpus[p];
+            [self.alone(p), self.named(cpu.prev), self.named(cpu.y), self.named(cpu.next)]
+        });
+        let mut names = [0; MOST + 1];
+        for (place, &p) in order.iter().enumerate() {
+            names[p + 1] = place as u8 + 1;
+        }
+        let mut state = State { tail: names[self.tail as usize], ..*self };
+        for (place, &p) in order.iter().enumerate() {
+            let cpu = self.cpus[p];
+            let (prev, y, next) = (names[cpu.prev as usize], names[cpu.y as usize], names[cpu.next as usize]);
+            state.cpus[place] = Cpu { prev, y, next, ..cpu };
+        }
+        state
+    }
+
     fn hash(&self, cpus: usize) -> u64 {
         let mut hash = self.tail as u64 + 16 * self.locked as u64 + 32 * self.pending as u64;
         for cpu in &self.cpus[..cpus] {
@@ -194,8 +229,9 @@ impl Met {
 }
 
 fn main() {
-    let words: Vec<usize> = env::args().skip(1).map(|word| word.parse().expect("a number")).collect();
-    let (cpus, rounds) = (words[0], words[1] as u8);
+    let words: Vec<String> = env::args().skip(1).collect();
+    let number = |at: usize| words[at].parse::<usize>().expect("a number");
+    let (cpus, rounds, alike) = (number(0), number(1) as u8, words.get(2).is_some_and(|word| word == "alike"));
     let rest = Cpu { row: F1, at: 0, has_node: false, prev: 0, y: 0, flag: false, next: 0 };
     let first = State { locked: false, pending: false, tail: 0, cpus: [rest; MOST] };
     let mut met = Met { states: vec![], slots: vec![0; 1024], cpus };
@@ -207,7 +243,7 @@ fn main() {
             let mut state = met.states[left];
             state.step(p, rounds);
             state.rest(p);
-            let then = met.note(state);
+            let then = met.note(if alike { state.sorted(cpus) } else { state });
             if then as usize == levels.len() {
                 levels.push(levels[left] + 1);
             }

@@ -14,7 +14,7 @@ use Rattle.lk_rows.specs.Acts.{stands_halting, handler_frame, awake, interrupted
 use Rattle.lk_renaming.specs.Renaming.{Renaming, IsAmongAlike}
 use Rattle.lk_renaming.specs.Renamed.{renamed, renamed_answer}
 use Rattle.lk_renaming.specs.Named.{HasNames}
-use Rattle.lk_renaming.specs.Law.{RenamedGoesOn}
+use Rattle.lk_renaming.specs.Law.{RenamedGoesOn, RenamedStands}
 use Rattle.lk_renaming.proofs.Effects.{choose}
 use Rattle.lk_renaming.proofs.Writes.{Renames, top-renamed, depth-renamed, preempted-renamed, halted-renamed}
 use Rattle.lk_renaming.proofs.Writes.{kicked-renamed, handlers-renamed, set_top-renamed, set_halted-renamed}
@@ -123,3 +123,11 @@ renamed_goes_on r m (act.Nudge p) is alike names =
     choose (λ x. renamed_answer r x) (preempted_at (renamed r m) (r.to p) || not (halted_at (renamed r m) (r.to p)))
     (preempted_at m p || not (halted_at m p)) _ _ _ _
     (λ i. preempted-renamed r m is p i || not (halted-renamed r m is p i)) refl (nudged-renamed r m is alike p)
+
+pub renamed_stands : RenamedStands
+renamed_stands r m p is = record {
+  place = ap (λ (f : Frame). f.place) (top-renamed r m is p);
+  depth = depth-renamed r m is p;
+  preempted = preempted-renamed r m is p;
+  halted = halted-renamed r m is p;
+}

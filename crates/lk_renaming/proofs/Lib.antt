@@ -11,3 +11,7 @@ mod Leading
 mod Stores
 mod Rows
 pub mod Goes
+mod Later
+mod LaterRows
+mod LaterActs
+mod Runs

@@ -17,6 +17,7 @@ use Rattle.lk_rows.specs.declared.parts.Node.{Node}
 use Rattle.lk_rows.specs.declared.parts.Frame.{Frame}
 use Rattle.lk_rows.specs.Machine.{Machine, CpuState, LockState, cpu_at}
 use Rattle.lk_rows.specs.Row.{Answer}
+use Rattle.lk_rows.specs.Run.{Occurrence}
 use Rattle.lk_renaming.specs.Renaming.{Renaming}
 
 -- names
@@ -129,3 +130,13 @@ renamed_told r (Some e) = Some (renamed_event r e)
 -- the machine after an act, and the event
 abbrev pub renamed_answer : Renaming → Answer → Answer
 renamed_answer r x = (renamed r x.0, renamed_told r x.1)
+
+-- schedules and histories
+
+-- the acts of a schedule
+abbrev pub renamed_acts : Renaming → List Act → List Act
+renamed_acts r acts = map (λ a. renamed_act r a) acts
+
+-- the events of a history, each in the act in which it happened
+abbrev pub renamed_history : Renaming → List Occurrence → List Occurrence
+renamed_history r os = map (λ o. record { act = o.act; event = renamed_event r o.event }) os
