@@ -8,3 +8,4 @@ pub mod Leads
 pub mod Circles
 pub mod Quiet
 pub mod Kept
+pub mod Others

@@ -5,6 +5,8 @@ use Rattle.lk_rows.specs.declared.setup.Verb.{Verb}
 use Rattle.lk_rows.specs.declared.setup.Verb.TheVariants.{Lock, Read, Write}
 use Rattle.lk_law.specs.Leads.{Met}
 use Rattle.lk_domain.specs.Calls.{Calls, Terms, Stacked, AreFresh, begin, row_of, holds_in, waits_in}
+use Rattle.lk_domain.specs.Values.{marked_out}
+use Rattle.lk_pvdomain.specs.PvPlays.{stirred}
 use Rattle.lk_ranks.specs.Above.{IsAbove}
 use Rattle.lk_domain_law.specs.InOrder.{IsInOrder}
 
@@ -32,6 +34,15 @@ abbrev pub RowsKeepOrder : Type 0
 RowsKeepOrder = (rank : ℕ → ℕ) (t : Terms) (p : ℕ) (c : Calls) (x : Met) → Stacked c.frames
     → AreFresh (row_of t p c x).frames (row_of t p c x).holds
     → IsInOrder rank c → IsInOrder rank (row_of t p c x)
+
+-- The other steps that change frames or holds keep it, too: a value goes out with the hold of its lock, or comes
+-- home; and a halt ends, where processors halt.
+abbrev pub ValuesKeepOrder : Type 0
+ValuesKeepOrder = (rank : ℕ → ℕ) (c : Calls) (l : ℕ) (out : Bool) → IsInOrder rank c
+    → IsInOrder rank (record c { holds = marked_out l out c.holds })
+
+abbrev pub HaltsKeepOrder : Type 0
+HaltsKeepOrder = (rank : ℕ → ℕ) (c : Calls) → IsInOrder rank c → IsInOrder rank (record c { frames = stirred c.frames })
 
 -- What a call of `lk_ranks` asks that waits is just that, with the number of each lock as its rank.
 abbrev pub RanksAreAsked : Type 0

@@ -2,7 +2,8 @@
 
 ghost use Rattle.lk_domain_law.specs.Circles.{NoCircle, SomebodyIsFree};
 ghost use Rattle.lk_domain_law.specs.GoingOn.{FewCallsGoOn, SomebodyGoesOn};
-ghost use Rattle.lk_domain_law.specs.Kept.{BeginsKeepOrder, RanksAreAsked, RowsKeepOrder};
+ghost use Rattle.lk_domain_law.specs.Kept.{BeginsKeepOrder, HaltsKeepOrder, RanksAreAsked, RowsKeepOrder};
+ghost use Rattle.lk_domain_law.specs.Kept.{ValuesKeepOrder};
 
 /// A domain whose calls are in order goes on. Whenever its table stands, whatever its processors have
 /// done: some processor's next row leads its call on, or nobody is in a call, or somebody is in its
@@ -19,11 +20,14 @@ pub fn standing_domains_go_on()
 
 /// The calls of a processor are in order from the beginning, when there are none, and stay so: when one
 /// more begins, if it does not wait, or is for a lock that ranks above each which the processor holds
-/// or on which a call of it is at work; and after each row. That is what the calls of `lk_ranks` ask
-/// (`IsAbove`), with the number of each lock as its rank.
+/// or on which a call of it is at work; after each row; where a value goes out or comes home; and where
+/// a halt ends. No other step changes a frame or a hold. What is asked of a call that begins is what
+/// the calls of `lk_ranks` ask (`IsAbove`), with the number of each lock as its rank.
 pub fn order_is_kept()
     ensures begins { BeginsKeepOrder }
     ensures rows { RowsKeepOrder }
+    ensures values { ValuesKeepOrder }
+    ensures halts { HaltsKeepOrder }
     ensures ranks { RanksAreAsked }
 {}
 
