@@ -22,11 +22,11 @@ module _ (r : Renaming) (n : ℕ) (is : IsRenaming n r) where
 
 -- the list of renamed processors
 module _ (r : Renaming) (m : Machine) where
-  cpus_long : (q n : ℕ) → length (renamed_cpus r m q n) ≡ n
+  pub cpus_long : (q n : ℕ) → length (renamed_cpus r m q n) ≡ n
   cpus_long q zero = refl
   cpus_long q (suc n) = ap suc (cpus_long (suc q) n)
 
-  cpus_each : (q n i : ℕ) → i < n
+  pub cpus_each : (q n i : ℕ) → i < n
       → get_or (renamed_cpus r m q n) i no_cpu ≡ renamed_cpu r (cpu_at m (r.back (q + i)))
   cpus_each q zero i low = absurd (omega arith)
   cpus_each q (suc n) zero low =
@@ -40,7 +40,7 @@ module _ (r : Renaming) (m : Machine) (is : IsRenaming (length m.cpus) r) where
   pub cpus-renamed : length (renamed r m).cpus ≡ length m.cpus
   cpus-renamed = cpus_long r m 0 (length m.cpus)
 
-  cpu-back : (q : ℕ) → cpu_at (renamed r m) q ≡ renamed_cpu r (cpu_at m (r.back q))
+  pub cpu-back : (q : ℕ) → cpu_at (renamed r m) q ≡ renamed_cpu r (cpu_at m (r.back q))
   unfolding cpu_at
   cpu-back q =
       elim (cases_lt q (length m.cpus)) [

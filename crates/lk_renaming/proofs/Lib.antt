@@ -15,3 +15,5 @@ mod Later
 mod LaterRows
 mod LaterActs
 mod Runs
+mod Composed
+mod Bared

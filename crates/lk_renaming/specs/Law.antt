@@ -7,7 +7,9 @@ use Rattle.lk_rows.specs.Programs.{IsLawfulSetup}
 use Rattle.lk_rows.specs.Run.{at_rest, machine_after, history}
 use Rattle.lk_rows.specs.Acts.{next, processor_of}
 use Rattle.lk_law.specs.MachineLaws.{AreInRange}
-use Rattle.lk_renaming.specs.Renaming.{Renaming, IsRenaming, IsAmongAlike}
+use Rattle.lk_idle.specs.Alike.{AreAlike}
+use Rattle.lk_renaming.specs.Renaming.{Renaming, IsRenaming, IsAmongAlike, IsFitting, composed}
+use Rattle.lk_renaming.specs.Renaming.{reversed}
 use Rattle.lk_renaming.specs.Renamed.{renamed, renamed_act, renamed_answer, renamed_acts}
 use Rattle.lk_renaming.specs.Renamed.{renamed_history}
 use Rattle.lk_renaming.specs.Named.{HasNames}
@@ -54,3 +56,37 @@ SchedulesRunRenamed =
     → IsRenaming (length setup.topology.sockets.items) r
     → IsAmongAlike setup r
     → RunsRenamed r setup acts
+
+-- renamings together
+
+-- one behind the other fits, and so does the way back of the first
+pub record FitTogether (setup : Setup) (count : ℕ) (r q : Renaming) : Type 0 where
+  pub both : IsFitting setup count (composed q r)
+  pub back : IsFitting setup count (reversed r)
+
+-- So it is with any two that fit.
+abbrev pub RenamingsCompose : Type 0
+RenamingsCompose =
+    (setup : Setup) (count : ℕ) (r q : Renaming)
+    → IsFitting setup count r
+    → IsFitting setup count q
+    → FitTogether setup count r q
+
+-- A machine that is renamed twice is renamed by one behind the other.
+abbrev pub RenamedTwice : Type 0
+RenamedTwice =
+    (q r : Renaming) (m : Machine)
+    → IsRenaming (length m.cpus) r
+    → renamed q (renamed r m) ≡ renamed (composed q r) m
+
+-- The way back leads back.
+abbrev pub RenamedBack : Type 0
+RenamedBack =
+    (r : Renaming) (m : Machine)
+    → IsRenaming (length m.cpus) r
+    → renamed (reversed r) (renamed r m) ≡ m
+
+-- Machines that differ only in what nobody reads do so under new numbers too.
+abbrev pub AlikeStaysAlike : Type 0
+AlikeStaysAlike =
+    (r : Renaming) (m n : Machine) → AreAlike m n → AreAlike (renamed r m) (renamed r n)

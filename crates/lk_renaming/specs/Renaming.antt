@@ -22,3 +22,16 @@ pub record IsAmongAlike (setup : Setup) (r : Renaming) : Type 0 where
   pub sockets : (p : ℕ)
       → slice_index_or setup.topology.sockets.items (r.to p) 0
       ≡ slice_index_or setup.topology.sockets.items p 0
+
+-- a renaming of so many processors of a setup, among those that are alike
+pub record IsFitting (setup : Setup) (count : ℕ) (r : Renaming) : Type 0 where
+  pub is : IsRenaming count r
+  pub alike : IsAmongAlike setup r
+
+-- one renaming behind another: q behind r
+abbrev pub composed : Renaming → Renaming → Renaming
+composed q r = record { to = λ p. q.to (r.to p); back = λ p. r.back (q.back p) }
+
+-- the way back
+abbrev pub reversed : Renaming → Renaming
+reversed r = record { to = r.back; back = r.to }

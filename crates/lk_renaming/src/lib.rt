@@ -6,4 +6,4 @@
 
 mod laws;
 
-pub use laws::{renamed_goes_on, schedules_run_renamed};
+pub use laws::{alike_stays_alike, renamed_goes_on, renamings_compose, schedules_run_renamed};
