@@ -36,8 +36,8 @@ never_deadlocks_halting setup leads lawful ordered on = record {
   halting = λ here acts range free. leads ordered.0 32 setup acts lawful ordered.1 on range free;
 }
 
--- every fair schedule of one in which nobody is moved aside and no processor halts finishes
+-- every fair schedule of one in which no processor halts finishes
 pub finishes : (setup : Setup) → FairRunsFinish → IsLawfulSetup setup → (rank : ℕ → ℕ) × IsOrdered rank 32 setup → HasRoom setup
-    → halts setup.mode ≡ false → moves_aside setup.mode ≡ false → FairSchedulesFinish setup
-finishes setup fair lawful ordered room awake plain schedule is_fair =
-    fair ordered.0 32 setup schedule lawful ordered.1 awake plain room is_fair
+    → halts setup.mode ≡ false → FairSchedulesFinish setup
+finishes setup fair lawful ordered room awake schedule is_fair =
+    fair ordered.0 32 setup schedule lawful ordered.1 awake room is_fair

@@ -9,7 +9,8 @@ use Rattle.lk_rows.specs.Run.{at_rest, machine_after}
 use Rattle.lk_law.specs.Agree.{halts}
 use Rattle.lk_law.specs.Cna.{moves_aside}
 use Rattle.lk_law.specs.MachineLaws.{AreInRange}
-use Rattle.lk_progress.specs.Runs.{IsFinished, SomebodyMoves, SomebodyLeadsOn, TurnsOnTheSpot}
+use Rattle.lk_progress.specs.Runs.{IsFinished, SomebodyMoves, SomebodyLeadsOn}
+use Rattle.lk_progress.specs.Spots.{TurnsOnTheSpot}
 use Rattle.lk_progress.specs.Fair.{IsFair, processors, after_first}
 
 -- no processor is preempted

@@ -3,7 +3,6 @@
 ghost use Rattle.std.specs.Prelude.{◌≡◌, ◌≢◌, ◌⊎◌, ℕ, true, false};
 ghost use Rattle.lk_rows.specs.Programs.{IsLawfulSetup};
 ghost use Rattle.lk_law.specs.Agree.{halts};
-ghost use Rattle.lk_law.specs.Cna.{moves_aside};
 ghost use Rattle.lk_progress.specs.Ordered.{IsOrdered};
 ghost use Rattle.lk_progress.specs.Runs.{HasRoom};
 ghost use Rattle.lk_order.specs.Checked.{rank_in};
@@ -35,13 +34,6 @@ fn halts(mode: Mode) -> bool
     matches!(mode, Mode::Pv)
 }
 
-// Whether a queue head may move waiters aside.
-fn moves_aside(mode: Mode) -> bool
-    ensures { result ≡ moves_aside mode }
-{
-    matches!(mode, Mode::Cna)
-}
-
 // What is known of an ordered setup whose processors may halt. It needs no room, since who finds no
 // queue node steals.
 fn claim_halting(setup: &Setup) -> Claim
@@ -67,11 +59,7 @@ fn claim_in_order(setup: &Setup) -> Claim
 {
     ordered_runs_go_on();
     fair_runs_finish();
-    if moves_aside(setup.mode) {
-        Claim::GoesOn
-    } else {
-        Claim::Finishes
-    }
+    Claim::Finishes
 }
 
 /// What is known of a setup, if its locks have these ranks.

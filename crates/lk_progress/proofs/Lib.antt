@@ -6,11 +6,16 @@ pub mod Settling
 pub mod Woken
 pub mod Good
 pub mod Measure
+pub mod Pigeon
+pub mod Choiceless
+pub mod Choosing
+pub mod Descends
 pub mod Sums
 pub mod Turned
 pub mod Still
 pub mod Potential
 pub mod Budget
+pub mod Spot
 pub mod Reached
 pub mod Runs
 pub mod Fair

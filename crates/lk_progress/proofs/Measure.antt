@@ -1,7 +1,6 @@
 -- Each row leaves its frame where it was, or leaves it fewer rows, or leads it on in its turn.
 use Rattle.std.proofs.Common.{◌≡◌, ◌⊎◌, ◌<◌, ◌+◌, ℕ, arith, inl, inr, Option, Some, None, Bool, true, false}
-use Rattle.std.proofs.Common.{refl, sym, ap, ◌∙◌, []}
-use Rattle.std.proofs.lemmas.Bool.{cases_Bool}
+use Rattle.std.proofs.Common.{refl, ap, []}
 use Rattle.std.specs.Prelude.{if◌then◌else◌, is_some, ◌&&◌, not, ◌==◌}
 use Rattle.lk_abs.specs.declared.names.Mode.{Mode}
 use Rattle.lk_abs.specs.declared.names.Mode.TheVariants.{Virt, Native, Cna, Pv}
@@ -18,8 +17,7 @@ use Rattle.lk_rows.specs.declared.parts.Pc.TheVariants.{P4, G1, G2, G3, G4, G5, 
 use Rattle.lk_rows.specs.declared.parts.Pc.TheVariants.{G10, G11, N1, N2}
 use Rattle.lk_rows.specs.declared.parts.Pc.TheVariants.{R1, R2, R3, R4, R5, Wr1, Wr2, Wr3, Wr4}
 use Rattle.lk_rows.specs.declared.parts.Pc.TheVariants.{Wr5, Wr6, Y1, Y2, Y3, Y4, Y5, Z1, Z2, U2}
-use Rattle.lk_rows.specs.declared.setup.Verb.TheVariants.{Unlock}
-use Rattle.lk_rows.specs.Moves.{is_node, node_of, first_place}
+use Rattle.lk_rows.specs.Moves.{is_node, node_of}
 use Rattle.lk_rows.specs.Row.{Effect, Lead, Goes, Granted, Missed, Leaves, Change, gone, looks}
 use Rattle.lk_abs.specs.declared.events.How.TheVariants as how
 use Rattle.lk_abs.specs.declared.events.RwHow.TheVariants as rw_how
@@ -34,11 +32,7 @@ use Rattle.lk_law.specs.Premises.{IsThen}
 use Rattle.lk_law.specs.Steps.{led, stores_word, stores_rw}
 use Rattle.lk_law.specs.World.{World}
 use Rattle.lk_law.specs.Agree.{halts}
-use Rattle.lk_law.proofs.common.Puts.{not-true}
-use Rattle.lk_rows.specs.declared.setup.Verb.{Verb}
-use Rattle.lk_rows.specs.declared.setup.Verb.TheVariants.{Lock, Try, Read, TryRead, RUnlock, Write, TryWrite, WUnlock}
-use Rattle.lk_rows.specs.Moves.{started}
-use Rattle.lk_progress.specs.Measure.{rows_left, rows_left_if, is_taking, left_at, left_of, is_turn, turn_at, turn_if, turn_of, RowDescends, BeginIsShort}
+use Rattle.lk_progress.specs.Measure.{rows_left, rows_left_if, is_taking, left_at, left_of, is_turn, turn_at, turn_of, goes}
 
 -- what is behind a wait lock on the way to it
 abbrev behind : Frame → ℕ
@@ -59,7 +53,7 @@ to_row : (c : Pc) (f : Frame) (n : ℕ) (b : Bool) (d e : Pc) → Less c n (gone
 to_row c f n true d e h k = h
 to_row c f n false d e h k = k
 
-none_left : (b : Bool) → ◌≡◌ {A = ℕ} (if b then 0 else 0) 0
+pub none_left : (b : Bool) → ◌≡◌ {A = ℕ} (if b then 0 else 0) 0
 none_left true = refl
 none_left false = refl
 
@@ -161,7 +155,7 @@ module _ (m : World) (w : Waiter) (f : Frame) (inner : f.lock.wait ≡ true → 
   head_on : (mode : Mode) → halts mode ≡ false → Less G9 (3 + behind f) (gone f (after_head mode) [])
   head_on Virt a = inr (omega arith)
   head_on Native a = inr (omega arith)
-  head_on Cna a = inr (let z = none_left f.lock.wait in omega (arith, z))
+  head_on Cna a = inr (omega arith)
   head_on Pv a = cc a
 
   next_on : (z : Option NodeName) → Less G10 (2 + behind f) (led f (after_next z).leads)
@@ -169,7 +163,7 @@ module _ (m : World) (w : Waiter) (f : Frame) (inner : f.lock.wait ≡ true → 
   next_on (Some n) = inr (omega arith)
 
   -- each row but those of a turn
-  less : (c : Pc) → may_halt c ≡ false → chooses c ≡ false → halts m.mode ≡ false → is_turn c ≡ false
+  pub less : (c : Pc) → may_halt c ≡ false → chooses c ≡ false → halts m.mode ≡ false → is_turn c ≡ false
       → Less c (left_at (Some c) f) (g c)
   less F1 a b h r = either_less F1 (15 + behind f) f (is_free x) _ _ (had F1 f 15 f.me inner (omega arith)) (fast_on m.mode h)
   less T1 a b h r = either_less T1 (2 + behind f) f (is_free x) _ _ (on T1 T2 2 1 refl (omega arith)) (done_less T1 (2 + behind f) (record f { place = None }) refl (omega arith))
@@ -216,95 +210,51 @@ module _ (m : World) (w : Waiter) (f : Frame) (inner : f.lock.wait ≡ true → 
 
   -- A row leaves its frame where it was, or leaves it fewer rows; or it stores nothing, and the end of the turn
   -- is nearer.
-  abbrev Turn : Pc → Frame → World → Type 0
-  Turn c g s = (g.place ≡ Some c) ⊎ (left_of g < left_at (Some c) f)
-      ⊎ ((s ≡ m) × (left_of g ≡ left_at (Some c) f) × (turn_of m (Some g) < turn_at m f c))
+  abbrev Turn : Pc → Lead → World → Type 0
+  Turn c lead s = ((led f lead).place ≡ Some c) ⊎ (left_of (led f lead) < left_at (Some c) f)
+      ⊎ ((s ≡ m) × (goes lead ≡ true) × (left_of (led f lead) ≡ left_at (Some c) f)
+      × (turn_of m (Some (led f lead)) < turn_at m f c))
 
   -- how far a swap is from the end of its turn, by the word that it is going to meet
   swap : (b c : Bool) → b ≡ c → ◌≡◌ {A = ℕ} (if b then 0 else 2) (if c then 0 else 2)
   swap b c e = ap (λ (t : Bool). if t then 0 else 2) e
 
   -- the rows of a turn
-  turn : (c : Pc) → is_turn c ≡ true → Turn c (g c) (stored_in m w f c (target c f))
-  turn V1 r = by (is_free x) refl
+  pub turn : (c : Pc) → is_turn c ≡ true → chooses c ≡ false → Turn c (course_in m w f c (target c f)).leads (stored_in m w f c (target c f))
+  turn V1 r b = by (is_free x) refl
     where
-      by : (b : Bool) → is_free x ≡ b → Turn V1 (gone f (if b then V2 else V1) []) m
-      by true e = inr (inr (refl, refl, let z = swap (is_free x) true e in omega (arith, z)))
+      by : (b : Bool) → is_free x ≡ b → Turn V1 (Goes (if b then V2 else V1) []) m
+      by true e = inr (inr (refl, refl, refl, let z = swap (is_free x) true e in omega (arith, z)))
       by false e = inl refl
-  turn V2 r = by (is_free x) refl
+  turn V2 r b = by (is_free x) refl
     where
       by : (b : Bool) → is_free x ≡ b
-          → Turn V2 (led f (if b then takes f how.Virt else looks V1).leads)
+          → Turn V2 (if b then takes f how.Virt else looks V1).leads
           (stores_word m f.lock (if b then takes f how.Virt else looks V1).stores)
       by true e = inr (inl (had_lt f 2 f.me inner (omega arith)))
-      by false e = inr (inr (refl, refl, let z = swap (is_free x) false e in omega (arith, z)))
-  turn N1 r = by (is_free x) refl
+      by false e = inr (inr (refl, refl, refl, let z = swap (is_free x) false e in omega (arith, z)))
+  turn N1 r b = by (is_free x) refl
     where
-      by : (b : Bool) → is_free x ≡ b → Turn N1 (gone f (if b then N2 else N1) []) m
-      by true e = inr (inr (refl, refl, let z = swap (is_free x) true e in omega (arith, z)))
+      by : (b : Bool) → is_free x ≡ b → Turn N1 (Goes (if b then N2 else N1) []) m
+      by true e = inr (inr (refl, refl, refl, let z = swap (is_free x) true e in omega (arith, z)))
       by false e = inl refl
-  turn N2 r = by (is_free x) refl
+  turn N2 r b = by (is_free x) refl
     where
       by : (b : Bool) → is_free x ≡ b
-          → Turn N2 (led f (if b then takes_out f how.NoNode else looks N1).leads)
+          → Turn N2 (if b then takes_out f how.NoNode else looks N1).leads
           (stores_word m f.lock (if b then takes_out f how.NoNode else looks N1).stores)
       by true e = inr (inl (had_lt f 2 None inner (omega arith)))
-      by false e = inr (inr (refl, refl, let z = swap (is_free x) false e in omega (arith, z)))
-  turn Wr5 r = by (is_cleared y) refl
+      by false e = inr (inr (refl, refl, refl, let z = swap (is_free x) false e in omega (arith, z)))
+  turn Wr5 r b = by (is_cleared y) refl
     where
-      by : (b : Bool) → is_cleared y ≡ b → Turn Wr5 (gone f (if b then Wr6 else Wr5) []) m
-      by true e = inr (inr (refl, refl, let z = swap (is_cleared y) true e in omega (arith, z)))
+      by : (b : Bool) → is_cleared y ≡ b → Turn Wr5 (Goes (if b then Wr6 else Wr5) []) m
+      by true e = inr (inr (refl, refl, refl, let z = swap (is_cleared y) true e in omega (arith, z)))
       by false e = inl refl
-  turn Wr6 r = by (is_cleared y) refl
+  turn Wr6 r b = by (is_cleared y) refl
     where
       by : (b : Bool) → is_cleared y ≡ b
-          → Turn Wr6 (led f (if b then takes_written f rw_how.Queued (frees_wait m.mode) else looks Wr5).leads)
+          → Turn Wr6 (if b then takes_written f rw_how.Queued (frees_wait m.mode) else looks Wr5).leads
           (stores_rw m f.lock.index (if b then takes_written f rw_how.Queued (frees_wait m.mode) else looks Wr5).stores)
       by true e = inr (inl (unlock_lt (left_at (Some Wr6) f) m.mode (omega arith)))
-      by false e = inr (inr (refl, refl, let z = swap (is_cleared y) false e in omega (arith, z)))
-  turn _ r = cc r
-
-pub row_descends : (c : Pc) → RowDescends c
-row_descends c m hs w f ok awake plain live at inner =
-    let a = not-true (may_halt c) (λ e. let z = (ok.registers w f live).choice.halting c at e in cc (z, awake)) in
-    let b = not-true (chooses c) (λ e. let z = (ok.registers w f live).choice.choice c at e in cc (z, plain)) in
-    let now : left_of f ≡ left_at (Some c) f = ap (λ (o : Option Pc). left_at o f) at in
-    let then_is : turn_of m (Some f) ≡ turn_at m f c = ap (λ (o : Option Pc). turn_if m f o) at in
-    elim (cases_Bool (is_turn c)) [
-      | inl r ↦ elim (turn m w f inner c r) [
-        | inl e ↦ inl e
-        | inr z ↦ elim z [
-          | inl lt ↦ inr (inl (omega (arith, lt, now)))
-          | inr t ↦
-              let s = t.1 in
-              let l = t.2 in
-              inr (inr (record {
-                turn = r;
-                stores = t.0;
-                left = s ∙ sym now;
-                nearer = omega (arith, l, then_is);
-              }))
-        ]
-      ]
-      | inr r ↦ elim (less m w f inner c a b awake r) [
-        | inl e ↦ inl e
-        | inr lt ↦ inr (inl (omega (arith, lt, now)))
-      ]
-    ]
-
-pub begin_is_short : BeginIsShort
-begin_is_short m f o awake = by m.mode o.verb awake
-  where
-    by : (mode : Mode) (v : Verb) → halts mode ≡ false → left_at (Some (first_place mode v)) (started mode f (record { verb = v; lock = o.lock })) < 23
-    by mode Lock a = omega arith
-    by mode Try a = omega arith
-    by Virt Unlock a = omega arith
-    by Native Unlock a = omega arith
-    by Cna Unlock a = omega arith
-    by Pv Unlock a = cc a
-    by mode Read a = omega arith
-    by mode Write a = omega arith
-    by mode TryRead a = omega arith
-    by mode TryWrite a = omega arith
-    by mode RUnlock a = omega arith
-    by mode WUnlock a = omega arith
+      by false e = inr (inr (refl, refl, refl, let z = swap (is_cleared y) false e in omega (arith, z)))
+  turn _ r b = cc (r, b)

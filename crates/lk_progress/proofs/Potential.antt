@@ -11,14 +11,14 @@ use Rattle.lk_abs.specs.declared.events.Act.TheVariants as act
 use Rattle.lk_rows.specs.declared.setup.Setup.{Setup}
 use Rattle.lk_rows.specs.declared.parts.Frame.{Frame}
 use Rattle.lk_rows.specs.declared.parts.Pc.{Pc}
-use Rattle.lk_rows.specs.Machine.{Machine, frame_at, top_of, top_frame, preempted_at, halted_at, handlers_at}
+use Rattle.lk_rows.specs.Machine.{Machine, frame_at, top_of, top_frame, preempted_at, halted_at, handlers_at, node_at, depth_at, HasTop, word_at, rw_at}
 use Rattle.lk_rows.specs.Moves.{program_of, started}
-use Rattle.lk_rows.specs.Row.{Lead, Goes, Enters, Granted, Freed, Missed, Done, TakesWait, Leaves, Yields}
+use Rattle.lk_rows.specs.Row.{Lead, Goes, Enters, Granted, Freed, Missed, Done, TakesWait, Leaves, Yields, moved, gone}
 use Rattle.lk_rows.specs.TopRow.{row, row_at, target}
 use Rattle.lk_rows.specs.Acts.{next, idle, step_halted}
 use Rattle.lk_law.specs.Agree.{halts}
 use Rattle.lk_law.specs.Cna.{moves_aside}
-use Rattle.lk_law.specs.Families.{may_halt, chooses}
+use Rattle.lk_law.specs.Families.{may_halt}
 use Rattle.lk_law.specs.Leads.{course_in, stored_in}
 use Rattle.lk_law.specs.Sound.{ShowsAll, world, Works}
 use Rattle.lk_law.specs.SoundWorld.{spin_part}
@@ -30,13 +30,19 @@ use Rattle.lk_core.proofs.Moved.{same_changed_all}
 use Rattle.lk_core.proofs.RowKept.{top_live}
 use Rattle.lk_core.proofs.Setups.{setup_kept}
 use Rattle.lk_core.proofs.ActKept.{act_kept}
-use Rattle.lk_progress.specs.Measure.{left_of, is_turn, turn_of, TurnGoesOn}
+use Rattle.lk_progress.specs.Measure.{left_in, most_rows, is_turn, turn_of, goes, TurnGoesOn, TurnStays, AreContexts}
+use Rattle.lk_progress.specs.Spots.{TurnsOnTheSpot}
 use Rattle.lk_progress.specs.Potential.{weight_of, sum_below, cpu_weight, potential, cpu_turns, turns}
-use Rattle.lk_progress.proofs.Measure.{row_descends, begin_is_short}
+use Rattle.lk_progress.proofs.Descends.{row_descends, begin_is_short}
 use Rattle.lk_progress.proofs.Moves.{Moves, Settles, Turned}
-use Rattle.lk_progress.proofs.Rows.{Put, row_moves}
+use Rattle.lk_progress.proofs.Rows.{Put, row_moves, row_made}
 use Rattle.lk_progress.proofs.Still.{stays_same}
-use Rattle.lk_progress.proofs.Sums.{total_same, total_less}
+use Rattle.lk_progress.proofs.Sums.{total_same, total_less, times_less}
+use Rattle.std.proofs.lemmas.Bool.{cases_lt}
+use Rattle.lk_word.specs.declared.spin_word.NodeName.{NodeName}
+use Rattle.lk_core.proofs.Access.{above_top, frame_within}
+use Rattle.lk_core.proofs.Same.{has_top_same}
+use Rattle.lk_core.proofs.Seated.{world-set_top}
 use Rattle.lk_progress.proofs.Turned.{turn_same}
 use Rattle.lk_law.proofs.common.Cases.{waiter_cases}
 use Rattle.lk_law.specs.World.{World}
@@ -49,9 +55,19 @@ pub record Turning (m n : Machine) (p : ℕ) : Type 0 where
   pub left : potential n ≡ potential m
   pub fewer : turns n < turns m
 
+-- it is that of a head which turns on the spot, and only its frame changes
+pub record Staying (m n : Machine) (p : ℕ) : Type 0 where
+  pub spot : TurnsOnTheSpot m p
+  pub left : potential n ≡ potential m
+  pub same : turns n ≡ turns m
+  pub words : (l : LockName) → word_at n l ≡ word_at m l
+  pub rw : (i : ℕ) → rw_at n i ≡ rw_at m i
+  pub nodes : (k : NodeName) → node_at n k ≡ node_at m k
+  pub others : (u : Waiter) → u ≢ top_of m p → frame_at n u ≡ frame_at m u
+
 -- what a step does: nothing, or it lowers the potential, or is such a row
 abbrev pub Lower : Machine → Machine → ℕ → Type 0
-Lower m n p = (n ≡ m) ⊎ (potential n < potential m) ⊎ Turning m n p
+Lower m n p = (n ≡ m) ⊎ (potential n < potential m) ⊎ Turning m n p ⊎ Staying m n p
 
 -- a lead leaves the position and the program of its frame
 led_at : (f : Frame) (lead : Lead) → ((led f lead).«at» ≡ f.«at») × ((led f lead).program ≡ f.program)
@@ -65,11 +81,39 @@ led_at f (TakesWait c) = (refl, refl)
 led_at f Leaves = (refl, refl)
 led_at f (Yields c cs) = let s = same_changed_all f cs in (s.position, s.program)
 
-ops_left : (n a b : ℕ) → a < n → a < b → (n - b) * 23 + 23 ≤ (n - a) * 23
-ops_left n a b lt less = omega (arith, lt, less)
+ops_left : (k n a b : ℕ) → a < n → a < b → (n - b) * k + k ≤ (n - a) * k
+ops_left k n a b lt less = times_less k (n - b) (n - a) (omega (arith, lt, less))
+
+-- a frame that goes to another row leaves all nodes
+moved_goes : (n : Machine) (p : ℕ) (f : Frame) → HasTop n p → (lead : Lead) → goes lead ≡ true → (k : NodeName)
+    → node_at (moved n p f lead) k ≡ node_at n k
+moved_goes n p f top (Goes c cs) e k = ap (λ (y : World). y.node k) (world-set_top n p (gone f c cs) top)
+moved_goes n p f top (Enters me c) e k = cc e
+moved_goes n p f top Granted e k = cc e
+moved_goes n p f top Freed e k = cc e
+moved_goes n p f top Missed e k = cc e
+moved_goes n p f top Done e k = cc e
+moved_goes n p f top (TakesWait c) e k = cc e
+moved_goes n p f top Leaves e k = cc e
+moved_goes n p f top (Yields c cs) e k = cc e
+
+-- each frame is one of a processor that is there, and of its six
+pub contexts_of : (m : Machine) (hs : LockName → LockHistory) → ShowsAll m hs → AreContexts (world m)
+contexts_of m hs shows u g e =
+    let lt = frame_within m u g e in
+    let cpus = shows.whole.cpus in
+    let top = shows.whole.tops u.cpu lt in
+    let few = top.few in
+    let some = top.some in (
+      omega (arith, lt, cpus),
+      elim (cases_lt (depth_at m u.cpu - 1) u.ctx) [
+        | inl over ↦ absurd (let z : None ≡ Some g = sym (above_top m u.cpu u.ctx over) ∙ e in cc z)
+        | inr le ↦ omega (arith, le, few, some)
+      ],
+    )
 
 module _ (m : Machine) (hs : LockName → LockHistory) (p : ℕ) (shows : ShowsAll m hs) (awake : halts m.setup.mode ≡ false)
-    (plain : moves_aside m.setup.mode ≡ false) (range : p < length m.cpus) (unpreempted : preempted_at m p ≡ false) where
+    (range : p < length m.cpus) (unpreempted : preempted_at m p ≡ false) where
   abbrev w : Waiter
   w = top_of m p
 
@@ -101,10 +145,6 @@ module _ (m : Machine) (hs : LockName → LockHistory) (p : ℕ) (shows : ShowsA
     a = not-true (may_halt c)
         (λ e. let z = (shows.world.spins.registers w f live).choice.halting c place e in cc (z, awake))
 
-    b : chooses c ≡ false
-    b = not-true (chooses c)
-        (λ e. let z = (shows.world.spins.registers w f live).choice.choice c place e in cc (z, plain))
-
     abbrev d : Frame
     d = led f (course_in (world m) w f c (target c f)).leads
 
@@ -133,7 +173,7 @@ module _ (m : Machine) (hs : LockName → LockHistory) (p : ℕ) (shows : ShowsA
         same_weight : (q : ℕ) (o : Option Frame) → weight_of (row m p).0 q o ≡ weight_of m q o
         same_weight q None = refl
         same_weight q (Some g) =
-            ap (λ (s : Setup). (length (Rattle.lk_rows.specs.Programs.program_at s q g.program) - g.«at») * 23 + left_of g) setup_is
+            ap (λ (s : Setup). (length (Rattle.lk_rows.specs.Programs.program_at s q g.program) - g.«at») * most_rows s.mode + left_in s.mode g) setup_is
 
         low : w.ctx < 6
         low = let top = shows.whole.tops p range in let s = top.some in let k = top.few in omega (arith, s, k)
@@ -165,86 +205,150 @@ module _ (m : Machine) (hs : LockName → LockHistory) (p : ℕ) (shows : ShowsA
         settles h same more s = ends s
           where
             -- what a later position leaves
-            later : (length (program_of m p h) - h.«at») * 23 + 23 ≤ (length (program_of m p f) - f.«at») * 23
+            later : (length (program_of m p h) - h.«at») * most_rows m.setup.mode + most_rows m.setup.mode
+                ≤ (length (program_of m p f) - f.«at») * most_rows m.setup.mode
             later =
-                let q : length (program_of m p h) ≡ length (program_of m p f) =
-                ap (λ (i : ℕ). length (Rattle.lk_rows.specs.Programs.program_at m.setup p i)) same in
-                let z = ops_left (length (program_of m p f)) f.«at» h.«at» within more in
-                omega (arith, q, z)
+                subst (λ (i : ℕ). (i - h.«at») * most_rows m.setup.mode + most_rows m.setup.mode
+                ≤ (length (program_of m p f) - f.«at») * most_rows m.setup.mode)
+                (sym (ap (λ (i : ℕ). length (Rattle.lk_rows.specs.Programs.program_at m.setup p i)) same))
+                (ops_left (most_rows m.setup.mode) (length (program_of m p f)) f.«at» h.«at» within more)
+
+            some : 0 < most_rows m.setup.mode
+            some = by (moves_aside m.setup.mode)
+              where
+                by : (b : Bool) → 0 < (if b then 31 else 23)
+                by true = omega arith
+                by false = omega arith
 
             ends : Settles n.setup.mode h moves.now → weight_of m p moves.now < weight_of m p (Some f)
             ends (inl e) =
                 let z : weight_of m p moves.now ≡ 0 = ap (weight_of m p) e in
                 let l = later in
-                omega (arith, z, l)
+                let s = some in
+                omega (arith, z, l, s)
             ends (inr (inl e)) =
-                let z : weight_of m p moves.now ≡ (length (program_of m p h) - h.«at») * 23 + 0 = ap (weight_of m p) e.0 in
+                let z : weight_of m p moves.now ≡ (length (program_of m p h) - h.«at») * most_rows m.setup.mode
+                + left_in m.setup.mode (record h { place = None }) = ap (weight_of m p) e.0 in
+                let none : left_in m.setup.mode (record h { place = None }) ≡ 0 = nothing (moves_aside m.setup.mode) in
                 let l = later in
-                omega (arith, z, l)
+                let s = some in
+                omega (arith, z, l, s, none)
+              where
+                nothing : (b : Bool) → ◌≡◌ {A = ℕ} (0 + (if b then 0 else 0)) 0
+                nothing true = refl
+                nothing false = refl
             ends (inr (inr v)) =
-                let z : weight_of m p moves.now ≡ (length (program_of m p h) - h.«at») * 23 + left_of (started n.setup.mode h v.0) =
-                ap (weight_of m p) v.1 in
+                let z : weight_of m p moves.now ≡ (length (program_of m p h) - h.«at») * most_rows m.setup.mode
+                + left_in m.setup.mode (started n.setup.mode h v.0) = ap (weight_of m p) v.1 in
                 let mode : n.setup.mode ≡ m.setup.mode = ap (λ (s : Setup). s.mode) put.same.keeps.setup in
-                let short : left_of (started n.setup.mode h v.0) < 23 =
-                subst (λ (x : Mode). left_of (started x h v.0) < 23) (sym mode) (begin_is_short (world m) h v.0 awake) in
+                let short : left_in m.setup.mode (started n.setup.mode h v.0) < most_rows m.setup.mode =
+                subst (λ (x : Mode). left_in m.setup.mode (started x h v.0) < most_rows m.setup.mode) (sym mode) (begin_is_short (world m) h v.0 awake) in
                 let l = later in
                 omega (arith, z, short, l)
 
         by : Turned n.setup.mode f d moves.now → Lower m (row m p).0 p
-        by (inl t) = elim (row_descends c (world m) (spin_part (world m).kind hs) w f shows.world.spins awake plain live place (shows.world.fits w f live).after) [
-          | inl e ↦ inl (row_same ∙ stays_same m p f (shows.world.fits w f live).after c range live place a b e)
+        by (inl t) = elim (row_descends c (world m) (spin_part (world m).kind hs) w f shows.world.spins (contexts_of m hs shows) awake live place (shows.world.fits w f live).after) [
+          | inl e ↦ inl (row_same ∙ stays_same m p f (shows.world.fits w f live).after c range live place a e.1 e.0)
           | inr r ↦ elim r [
-            | inl lt ↦ inr (inl (lowers (lower_on lt)))
-            | inr z ↦ inr (inr (in_turn z))
+            | inl lt ↦ inr (inl (lowers (let e = now_is in omega (arith, e, lt))))
+            | inr r ↦ elim r [
+              | inl z ↦ inr (inr (inl (in_turn z)))
+              | inr z ↦ inr (inr (inr (on_the_spot z)))
+            ]
           ]
         ]
           where
-            now_is : weight_of m p moves.now ≡ (length (program_of m p f) - f.«at») * 23 + left_of d
+            now_is : weight_of m p moves.now ≡ (length (program_of m p f) - f.«at») * most_rows m.setup.mode + left_in m.setup.mode d
             now_is =
                 let s = led_at f (course_in (world m) w f c (target c f)).leads in
                 ap (weight_of m p) t.0
-                ∙ ap (λ (i : ℕ). (length (Rattle.lk_rows.specs.Programs.program_at m.setup p i) - d.«at») * 23 + left_of d) s.1
-                ∙ ap (λ (i : ℕ). (length (program_of m p f) - i) * 23 + left_of d) s.0
+                ∙ ap (λ (i : ℕ). (length (Rattle.lk_rows.specs.Programs.program_at m.setup p i) - d.«at») * most_rows m.setup.mode + left_in m.setup.mode d) s.1
+                ∙ ap (λ (i : ℕ). (length (program_of m p f) - i) * most_rows m.setup.mode + left_in m.setup.mode d) s.0
 
-            lower_on : left_of d < left_of f → weight_of m p moves.now < weight_of m p (Some f)
-            lower_on lt = let e = now_is in omega (arith, e, lt)
+            -- as many rows are left
+            weights : left_in m.setup.mode d ≡ left_in m.setup.mode f
+                → (u : Waiter) → weight_of (row m p).0 u.cpu (frame_at (row m p).0 u) ≡ weight_of m u.cpu (frame_at m u)
+            weights left u = elim (waiter_cases u w) [
+              | inr ne ↦ weight_there u ne
+              | inl e ↦
+                  subst (λ (v : Waiter). weight_of (row m p).0 v.cpu (frame_at (row m p).0 v) ≡ weight_of m v.cpu (frame_at m v)) (sym e)
+                  (weight_here ∙ now_is
+                  ∙ ap (λ (i : ℕ). (length (program_of m p f) - f.«at») * most_rows m.setup.mode + i) left ∙ sym weight_before)
+            ]
 
-            -- of a row of a turn
+            potential_same : left_in m.setup.mode d ≡ left_in m.setup.mode f → potential (row m p).0 ≡ potential m
+            potential_same left =
+                over (λ q. cpu_weight (row m p).0 q)
+                ∙ total_same (length m.cpus) (λ u. weight_of m u.cpu (frame_at m u))
+                (λ u. weight_of (row m p).0 u.cpu (frame_at (row m p).0 u)) (weights left)
+
+            -- nothing is stored, so all else is as it was
+            words_same : stored_in (world m) w f c (target c f) ≡ world m → (l : LockName) → word_at (row m p).0 l ≡ word_at m l
+            words_same stores l = moves.follows.word l ∙ put.words l ∙ ap (λ (y : World). y.word l) stores
+
+            rw_same : stored_in (world m) w f c (target c f) ≡ world m → (i : ℕ) → rw_at (row m p).0 i ≡ rw_at m i
+            rw_same stores i = moves.follows.rw i ∙ put.rw i ∙ ap (λ (y : World). y.rw i) stores
+
+            nodes_same : stored_in (world m) w f c (target c f) ≡ world m
+                → goes (course_in (world m) w f c (target c f)).leads ≡ true
+                → (k : NodeName) → node_at (row m p).0 k ≡ node_at m k
+            nodes_same stores goes_on k =
+                let r = row_made m p hs shows range f c live place in
+                let top : HasTop r.stored p = has_top_same m r.stored p r.put.same (shows.whole.tops p range) in
+                ap (λ (y : Machine). node_at y k) r.is
+                ∙ moved_goes r.stored p f top r.lead (ap goes r.leads ∙ goes_on) k
+                ∙ r.put.nodes (λ k. ap (λ (y : World). y.node k) stores) k
+
+            same : stored_in (world m) w f c (target c f) ≡ world m
+                → goes (course_in (world m) w f c (target c f)).leads ≡ true
+                → (o : Option Frame) → turn_of (world (row m p).0) o ≡ turn_of (world m) o
+            same stores goes_on =
+                turn_same (world (row m p).0) (world m) (words_same stores) (rw_same stores) (nodes_same stores goes_on)
+                (ap (λ (s : Setup). length s.topology.sockets.items) setup_is)
+
             in_turn : TurnGoesOn (world m) w f c → Turning m (row m p).0 p
             in_turn z =
                 record {
                   place = c;
                   here = place;
                   turn = z.turn;
-                  left = over (λ q. cpu_weight (row m p).0 q)
-                      ∙ total_same (length m.cpus) (λ u. weight_of m u.cpu (frame_at m u))
-                      (λ u. weight_of (row m p).0 u.cpu (frame_at (row m p).0 u)) weights;
+                  left = potential_same z.left;
                   fewer = let all = total_less (length m.cpus) (λ u. turn_of (world m) (frame_at m u))
                       (λ u. turn_of (world (row m p).0) (frame_at (row m p).0 u)) w range low nearer
-                      (λ u ne. same (frame_at (row m p).0 u) ∙ ap (turn_of (world m)) (there u ne)) in
+                      (λ u ne. same z.stores z.away (frame_at (row m p).0 u) ∙ ap (turn_of (world m)) (there u ne)) in
                       let o = over (λ q. cpu_turns (row m p).0 q) in
                       omega (arith, all, o);
                 }
               where
-                weights : (u : Waiter) → weight_of (row m p).0 u.cpu (frame_at (row m p).0 u) ≡ weight_of m u.cpu (frame_at m u)
-                weights u = elim (waiter_cases u w) [
-                  | inr ne ↦ weight_there u ne
-                  | inl e ↦
-                      subst (λ (v : Waiter). weight_of (row m p).0 v.cpu (frame_at (row m p).0 v) ≡ weight_of m v.cpu (frame_at m v)) (sym e)
-                      (weight_here ∙ now_is ∙ ap (λ (i : ℕ). (length (program_of m p f) - f.«at») * 23 + i) z.left ∙ sym weight_before)
-                ]
-
-                same : (o : Option Frame) → turn_of (world (row m p).0) o ≡ turn_of (world m) o
-                same = turn_same (world (row m p).0) (world m)
-                    (λ l. moves.follows.word l ∙ put.words l ∙ ap (λ (y : World). y.word l) z.stores)
-                    (λ i. moves.follows.rw i ∙ put.rw i ∙ ap (λ (y : World). y.rw i) z.stores)
-
                 nearer : turn_of (world (row m p).0) (frame_at (row m p).0 w) < turn_of (world m) (frame_at m w)
                 nearer =
-                    let x = same (frame_at (row m p).0 w) ∙ ap (turn_of (world m)) (here ∙ t.0) in
+                    let x = same z.stores z.away (frame_at (row m p).0 w) ∙ ap (turn_of (world m)) (here ∙ t.0) in
                     let y = ap (turn_of (world m)) live in
                     let lt = z.nearer in
                     omega (arith, x, y, lt)
+
+            on_the_spot : TurnStays (world m) w f c → Staying m (row m p).0 p
+            on_the_spot z =
+                record {
+                  spot = record { place = c; here = place; barred = z.barred };
+                  left = potential_same z.left;
+                  same = over (λ q. cpu_turns (row m p).0 q)
+                      ∙ total_same (length m.cpus) (λ u. turn_of (world m) (frame_at m u))
+                      (λ u. turn_of (world (row m p).0) (frame_at (row m p).0 u)) each;
+                  words = words_same z.stores;
+                  rw = rw_same z.stores;
+                  nodes = nodes_same z.stores z.away;
+                  others = there;
+                }
+              where
+                each : (u : Waiter) → turn_of (world (row m p).0) (frame_at (row m p).0 u) ≡ turn_of (world m) (frame_at m u)
+                each u = elim (waiter_cases u w) [
+                  | inr ne ↦ same z.stores z.away (frame_at (row m p).0 u) ∙ ap (turn_of (world m)) (there u ne)
+                  | inl e ↦
+                      subst (λ (v : Waiter). turn_of (world (row m p).0) (frame_at (row m p).0 v) ≡ turn_of (world m) (frame_at m v)) (sym e)
+                      (same z.stores z.away (frame_at (row m p).0 w) ∙ ap (turn_of (world m)) (here ∙ t.0) ∙ z.same
+                      ∙ sym (ap (turn_of (world m)) live))
+                ]
         by (inr t) = inr (inl (lowers (settles t.1.0 t.1.1 t.1.3 t.1.4)))
 
   lowers_at : (c : Pc) → f.place ≡ Some c → Lower m (row m p).0 p

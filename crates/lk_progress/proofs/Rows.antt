@@ -1,6 +1,6 @@
 -- A row of a machine: its store, and how it moves the frame.
 use Rattle.std.proofs.Common.{◌≡◌, inl, inr, ℕ, ◌<◌, Option, Some, None}
-use Rattle.std.proofs.Common.{true, refl, sym, ap, ◌∙◌, subst, arith, List, [], ◌∷◌, length}
+use Rattle.std.proofs.Common.{true, refl, sym, ap, ◌∙◌, subst, arith, List, [], ◌∷◌, length, zero, suc, set, get_or}
 use Rattle.std.proofs.lemmas.Option.{slice_get_within}
 use Rattle.lk_abs.specs.History.{LockHistory}
 use Rattle.lk_abs.specs.declared.names.Waiter.{Waiter}
@@ -13,7 +13,7 @@ use Rattle.lk_rows.specs.declared.parts.Node.{Node}
 use Rattle.lk_rows.specs.declared.parts.Pc.{Pc}
 use Rattle.lk_rows.specs.declared.parts.Pc.TheVariants.{U5}
 use Rattle.lk_rows.specs.Machine.{Machine, frame_at, word_at, set_node, cpu_at, top_of, node_at, queued_at, top_frame, rw_at}
-use Rattle.lk_rows.specs.Machine.{entry_at, halted_at, kicked_at}
+use Rattle.lk_rows.specs.Machine.{entry_at, halted_at, kicked_at, rest_node, CpuState, no_cpu, set_cpu}
 use Rattle.lk_rows.specs.Programs.{kind_of}
 use Rattle.lk_rows.specs.Row.{Lead, moved, counted, event_of}
 use Rattle.lk_rows.specs.rows.Spin.{spin_row}
@@ -54,6 +54,7 @@ pub record Put (m n : Machine) (x : World) : Type 0 where
   pub words : (l : LockName) → word_at n l ≡ x.word l
   pub rw : (i : ℕ) → rw_at n i ≡ x.rw i
   pub flags : (k : NodeName) → is_set (node_at n k).flag ≡ true → is_set (x.node k).flag ≡ true
+  pub nodes : ((k : NodeName) → x.node k ≡ node_at m k) → (k : NodeName) → node_at n k ≡ node_at m k
   pub kicked : (q : ℕ) → kicked_at n q ≡ x.kicked q
   pub halted : (q : ℕ) → halted_at n q ≡ x.halted q
 
@@ -64,6 +65,7 @@ put_by m n x s = record {
   words = λ l. ap (λ (y : World). y.word l) s.world;
   rw = λ i. ap (λ (y : World). y.rw i) s.world;
   flags = λ k h. ap (λ (y : World). is_set (y.node k).flag) (sym s.world) ∙ h;
+  nodes = λ h k. ap (λ (y : World). y.node k) s.world ∙ h k;
   kicked = λ q. ap (λ (y : World). y.kicked q) s.world;
   halted = λ q. ap (λ (y : World). y.halted q) s.world;
 }
@@ -79,17 +81,31 @@ put_counted m n x (c ∷ cs) s =
       words = λ l. ap (λ (y : World). y.word l) w ∙ s.words l;
       rw = λ i. ap (λ (y : World). y.rw i) w ∙ s.rw i;
       flags = λ i h. s.flags i (ap (λ (y : World). is_set (y.node i).flag) (sym w) ∙ h);
+      nodes = λ h k. ap (λ (y : World). y.node k) w ∙ s.nodes h k;
       kicked = λ q. ap (λ (y : World). y.kicked q) w ∙ s.kicked q;
       halted = λ q. ap (λ (y : World). y.halted q) w ∙ s.halted q;
     }
 
 put_self : (m : Machine) → Put m m (world m)
-put_self m = record { same = same_self m; frames = λ u. refl; words = λ l. refl; rw = λ i. refl; flags = λ k h. h; kicked = λ q. refl; halted = λ q. refl }
+put_self m = record { same = same_self m; frames = λ u. refl; words = λ l. refl; rw = λ i. refl; flags = λ k h. h; nodes = λ h k. refl; kicked = λ q. refl; halted = λ q. refl }
 
 word-set_node : (m : Machine) (n : NodeName) (x : Node) (l : LockName) → word_at (set_node m n x) l ≡ word_at m l
 unfolding set_node
 word-set_node m n x l =
     word-set_cpu m n.cpu (record (cpu_at m n.cpu) { nodes = Rattle.std.specs.Prelude.slice_set (cpu_at m n.cpu).nodes n.index x }) l
+
+set_get_self : {A : Type 0} (xs : List A) (i : ℕ) (d : A) → set xs i (get_or xs i d) ≡ xs
+set_get_self [] i d = refl
+set_get_self (y ∷ ys) zero d = refl
+set_get_self (y ∷ ys) (suc i) d = ap (λ zs. y ∷ zs) (set_get_self ys i d)
+
+-- a node that becomes what it is
+set_node_self : (m : Machine) (n : NodeName) → set_node m n (node_at m n) ≡ m
+unfolding set_node set_cpu cpu_at node_at
+set_node_self m n =
+    ap (λ (xs : List Node). record m { cpus = set m.cpus n.cpu (record (cpu_at m n.cpu) { nodes = xs }) })
+    (set_get_self (cpu_at m n.cpu).nodes n.index rest_node)
+    ∙ ap (λ (xs : List CpuState). record m { cpus = xs }) (set_get_self m.cpus n.cpu no_cpu)
 
 put_at : (m : Machine) (n : NodeName) (x : Node) → Put m (set_node m n x) (put_node (world m) n x)
 put_at m n x = record {
@@ -103,6 +119,9 @@ put_at m n x = record {
         ∙ z.1
     | inr z ↦ ap (λ (y : Node). is_set y.flag) (if-false (same_node k n) x (node_at m k) (same_node-else k n z.0)) ∙ z.1
   ];
+  nodes = λ h k. ap (λ (y : Node). node_at (set_node m n y) k)
+      (sym (if-true (same_node n n) x (node_at m n) (same_node-self n)) ∙ h n)
+      ∙ ap (λ (y : Machine). node_at y k) (set_node_self m n);
   kicked = kicked-set_node m n x;
   halted = halted-set_node m n x;
 }

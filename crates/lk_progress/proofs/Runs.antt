@@ -15,7 +15,7 @@ use Rattle.lk_rows.specs.declared.setup.Verb.TheVariants.{Lock, Try, Unlock, Rea
 use Rattle.lk_rows.specs.declared.setup.Verb.TheVariants.{RUnlock, Write, TryWrite, WUnlock}
 use Rattle.lk_rows.specs.declared.parts.Frame.{Frame}
 use Rattle.lk_rows.specs.declared.parts.Pc.{Pc}
-use Rattle.lk_rows.specs.declared.parts.Pc.TheVariants.{N1, N2, V1, V2, Wr5, Wr6, T1, T2, U1}
+use Rattle.lk_rows.specs.declared.parts.Pc.TheVariants.{N1, N2, V1, V2, Wr5, Wr6, T1, T2, U1, C1, C2, C3, C10}
 use Rattle.lk_rows.specs.Machine.{Machine, frame_at, top_of, top_frame}
 use Rattle.lk_rows.specs.Machine.{preempted_at}
 use Rattle.lk_rows.specs.Moves.{program_of}
@@ -24,7 +24,7 @@ use Rattle.lk_rows.specs.Acts.{next, processor_of}
 use Rattle.lk_rows.specs.Run.{at_rest, machine_after}
 use Rattle.lk_law.specs.Agree.{halts}
 use Rattle.lk_law.specs.Cna.{moves_aside}
-use Rattle.lk_law.specs.Families.{is_rw_row}
+use Rattle.lk_law.specs.Families.{is_rw_row, chooses}
 use Rattle.lk_law.specs.Sound.{world, ShowsAll, Footing, BelongsTo, Works, is_lock_row}
 use Rattle.lk_law.specs.Sound.Footing.{Spinning, Sharing, Waiting, Freeing, Owing}
 use Rattle.lk_law.specs.Steps.{row_in}
@@ -38,9 +38,13 @@ use Rattle.lk_progress.specs.Ordered.{IsOrdered}
 use Rattle.lk_waits.specs.Order.{level_of}
 use Rattle.lk_progress.specs.Runs.{IsFinished, HasRoom, StandsStill, OrderedRunsGoOn, SomebodyMoves, SomebodyMovesOn, RunsEnd, NativeRunsEnd}
 use Rattle.lk_progress.specs.Measure.{is_turn}
-use Rattle.lk_progress.specs.Potential.{budget, cost, price, is_pause, HasChanges, TurnIsMade}
+use Rattle.lk_progress.specs.Potential.{budget, cost, price, turns, LeadsNobodyOn, HasChanges, TurnIsMade}
+use Rattle.lk_progress.specs.Spots.{TurnsOnTheSpot}
+use Rattle.lk_law.specs.World.{World}
+use Rattle.lk_waits.specs.Waits.{IsBarred}
 use Rattle.lk_progress.proofs.Budget.{acts_lower, price_falls, runs_are_short, changes_bounded}
 use Rattle.lk_progress.proofs.Turned.{rest_turns}
+use Rattle.lk_progress.proofs.Spot.{spot_or}
 use Rattle.lk_abs.specs.declared.names.Kind.TheVariants.{Spin, Rw}
 use Rattle.std.specs.Prelude.{slice_index_or}
 use Rattle.lk_waits.proofs.Climb.{no_deadlock}
@@ -64,6 +68,21 @@ kept_followed = record {
       absurd (let z = nobody_halts m hs ok family.0 w.cpu in cc (z, halted));
 }
 
+-- a head that turns on the spot chooses its successor
+barred_chooses : (m : World) (f : Frame) (c : Pc) → IsBarred m f c → chooses c ≡ true
+barred_chooses m f C1 b = refl
+barred_chooses m f C3 b = refl
+barred_chooses m f C10 b = refl
+barred_chooses m f _ b = absurd b
+
+-- where nobody is moved aside no head does
+pub no_spot : (m : Machine) (hs : LockName → LockHistory) → ShowsAll m hs → moves_aside m.setup.mode ≡ false → (p : ℕ)
+    → p < length m.cpus → TurnsOnTheSpot m p → ⊥
+no_spot m hs shows plain p lt t =
+    let e = barred_chooses (world m) (top_frame m p) t.place t.barred in
+    let z = (shows.world.spins.registers (top_of m p) (top_frame m p) (top_live m p hs shows lt)).choice.choice t.place t.here e in
+    cc (z, plain)
+
 -- a machine in which nothing changes is a world that is stuck
 module _ (m : Machine) (hs : LockName → LockHistory) (shows : ShowsAll m hs) (awake : halts m.setup.mode ≡ false)
     (plain : moves_aside m.setup.mode ≡ false) (unpreempted : (p : ℕ) → p < length m.cpus → preempted_at m p ≡ false) where
@@ -73,16 +92,6 @@ module _ (m : Machine) (hs : LockName → LockHistory) (shows : ShowsAll m hs) (
       let same = top_is m hs shows w f c top in
       subst (λ (u : Waiter). waits.StandsStill (world m) u f c) (sym same)
       (stuck_at m hs shows awake unpreempted w.cpu f c lt (ap (frame_at m) (sym same) ∙ top.live) top.place (still w.cpu lt))
-
-  -- a step changes the machine, or it does not
-  moving : (p : ℕ) → p < length m.cpus → ((next m (act.Step p)).0 ≡ m) ⊎ ((next m (act.Step p)).0 ≢ m)
-  moving p lt = elim (price_falls m hs (act.Step p) shows awake plain lt) [
-    | inl e ↦ inl e
-    | inr r ↦ elim r [
-      | inl less ↦ inr (λ e. (let z = ap price e in omega (arith, z, less)))
-      | inr z ↦ absurd (let y : is_pause (act.Step p) ≡ true = z.0 in cc y)
-    ]
-  ]
 
 -- all, or one of the others
 pub all_or : (n : ℕ) (P Q : ℕ → Type 0) → ((i : ℕ) → i < n → P i ⊎ Q i)
@@ -96,6 +105,28 @@ all_or (suc n) P Q each = elim (all_or n P Q (λ i lt. each i (omega (arith, lt)
       | inl low ↦ below i low
       | inr ge ↦ subst P (let e : n ≡ i = omega (arith, lt, ge) in e) p
     ])
+  ]
+]
+
+-- the next step of the processor changes the machine, and is not that of a head that turns on the spot
+pub record LeadsOn (m : Machine) (p : ℕ) : Type 0 where
+  pub changes : (next m (act.Step p)).0 ≢ m
+  pub off : TurnsOnTheSpot m p → ⊥
+
+-- where no processor halts a step leads on, or changes nothing, or is that of such a head
+pub leads_on : (m : Machine) (hs : LockName → LockHistory) → ShowsAll m hs → halts m.setup.mode ≡ false → (p : ℕ)
+    → p < length m.cpus → (((next m (act.Step p)).0 ≡ m) ⊎ TurnsOnTheSpot m p) ⊎ LeadsOn m p
+leads_on m hs shows awake p lt = elim (price_falls m hs (act.Step p) shows awake lt) [
+  | inl e ↦ inl (inl e)
+  | inr r ↦ elim r [
+    | inl less ↦ elim (spot_or m p) [
+      | inl t ↦ inl (inr t)
+      | inr off ↦ inr (record { changes = λ e. (let z = ap price e in omega (arith, z, less)); off = off })
+    ]
+    | inr z ↦ elim z.0 [
+      | inl y ↦ cc y
+      | inr y ↦ inl (inr (subst (TurnsOnTheSpot m) (let e : y.0 ≡ p = cc y.1 in e) y.2))
+    ]
   ]
 ]
 
@@ -134,14 +165,24 @@ module _ (rank : ℕ → ℕ) (size : ℕ) (setup : Setup) (ordered : IsOrdered 
           (top_of m p) (top_frame m p) c
           (record { live = live; above = λ d lt. above_top m p d lt; place = e }))
 
-  -- all have finished, or somebody's step changes the machine
-  pub goes_on : ((p : ℕ) → p < length m.cpus → IsFinished m p) ⊎ SomebodyMoves m
-  goes_on =
-      elim (all_or (length m.cpus) (λ p. (next m (act.Step p)).0 ≡ m) (λ p. (next m (act.Step p)).0 ≢ m)
-      (moving m hs r.shows.shows awake_now plain_now unpreempted)) [
-        | inl still ↦ inl (finished_at still)
-        | inr z ↦ inr (record { processor = z.0; inside = z.1; moves = z.2 })
+  -- all have finished, or somebody's step leads on
+  pub leads_from : ((p : ℕ) → p < length m.cpus → IsFinished m p) ⊎ ((p : ℕ) × (p < length m.cpus) × LeadsOn m p)
+  leads_from =
+      elim (all_or (length m.cpus) (λ p. ((next m (act.Step p)).0 ≡ m) ⊎ TurnsOnTheSpot m p) (λ p. LeadsOn m p)
+      (λ p lt. leads_on m hs r.shows.shows awake_now p lt)) [
+        | inl still ↦ inl (finished_at (λ p lt. elim (still p lt) [
+          | inl e ↦ e
+          | inr t ↦ absurd (no_spot m hs r.shows.shows plain_now p lt t)
+        ]))
+        | inr z ↦ inr z
       ]
+
+  -- or changes the machine
+  pub goes_on : ((p : ℕ) → p < length m.cpus → IsFinished m p) ⊎ SomebodyMoves m
+  goes_on = elim leads_from [
+    | inl all ↦ inl all
+    | inr z ↦ inr (record { processor = z.0; inside = z.1; moves = z.2.changes })
+  ]
 
 pub ordered_runs_go_on : OrderedRunsGoOn
 ordered_runs_go_on rank size setup acts ok ordered awake plain has_room range unpreempted still p within =
@@ -153,17 +194,21 @@ somebody_moves_on rank size setup acts ok ordered awake plain has_room range unp
     goes_on rank size setup ordered awake plain (machine_after (at_rest setup) acts)
     (reached_from_rest (IsAwake false) IsHeadFollowed kept_followed setup acts ok (awake, plain) (λ e. has_room) range) unpreempted
 
--- in `virt` and `native` every run ends
+-- every run ends
 
 pub runs_end : RunsEnd
-runs_end setup acts k ok awake plain z =
+runs_end setup acts k ok awake z =
     let rest = rest_shows setup ok in
-    let le = runs_are_short (at_rest setup) [] acts k rest awake plain z in
+    let le = runs_are_short (at_rest setup) [] acts k rest awake z in
     let none = rest_turns setup ok in
-    let cpus : budget (at_rest setup) * cost (length (at_rest setup).cpus)
-    ≡ budget (at_rest setup) * cost (length setup.topology.sockets.items) =
-    ap (λ (n : ℕ). budget (at_rest setup) * cost n) rest.shows.whole.cpus in
-    omega (arith, le, none, cpus)
+    let cpus : budget (at_rest setup) * cost setup.mode (length (at_rest setup).cpus)
+    ≡ budget (at_rest setup) * cost setup.mode (length setup.topology.sockets.items) =
+    ap (λ (n : ℕ). budget (at_rest setup) * cost setup.mode n) rest.shows.whole.cpus in
+    by k (price (at_rest setup)) (budget (at_rest setup) * cost setup.mode (length (at_rest setup).cpus)) (turns (at_rest setup))
+    (budget (at_rest setup) * cost setup.mode (length setup.topology.sockets.items)) le refl none cpus
+  where
+    by : (k p x t y : ℕ) → k ≤ p → p ≡ x + t → t ≡ 0 → x ≡ y → k ≤ y
+    by k p x t y le e none same = omega (arith, le, e, none, same)
 
 -- in `native` with spinlocks alone, and with a node for each, nobody is in a turn
 
@@ -194,13 +239,17 @@ no_loop_in_native c which v f footing = elim which [
 
 -- the rows of turns: of the loop, of a waiter without a node, and of a writer
 turn_cases : (c : Pc) → is_turn c ≡ true
-    → ((c ≡ V1) ⊎ (c ≡ V2)) ⊎ ((c ≡ N1) ⊎ (c ≡ N2)) ⊎ (is_rw_row c ≡ true)
+    → ((c ≡ V1) ⊎ (c ≡ V2)) ⊎ ((c ≡ N1) ⊎ (c ≡ N2)) ⊎ (is_rw_row c ≡ true) ⊎ (chooses c ≡ true)
 turn_cases V1 e = inl (inl refl)
 turn_cases V2 e = inl (inr refl)
 turn_cases N1 e = inr (inl (inl refl))
 turn_cases N2 e = inr (inl (inr refl))
-turn_cases Wr5 e = inr (inr refl)
-turn_cases Wr6 e = inr (inr refl)
+turn_cases Wr5 e = inr (inr (inl refl))
+turn_cases Wr6 e = inr (inr (inl refl))
+turn_cases C1 e = inr (inr (inr refl))
+turn_cases C2 e = inr (inr (inr refl))
+turn_cases C3 e = inr (inr (inr refl))
+turn_cases C10 e = inr (inr (inr refl))
 turn_cases _ e = cc e
 
 module _ (setup : Setup) (ok : IsLawfulSetup setup) (native : setup.mode ≡ Native)
@@ -223,13 +272,19 @@ module _ (setup : Setup) (ok : IsLawfulSetup setup) (native : setup.mode ≡ Nat
       | inl which ↦
           let noded = r.good.followed.noded (top_of m p) (top_frame m p) live in
           elim which [ inl e ↦ noded.0 (z.here ∙ ap Some e) | inr e ↦ noded.1 (z.here ∙ ap Some e) ]
-      | inr e ↦
-          let kind : slice_index_or m.setup.locks.items (top_frame m p).lock.index Spin ≡ Rw =
-          (shows.world.fits (top_of m p) (top_frame m p) live).rw z.place z.here e in
-          let spin : slice_index_or m.setup.locks.items (top_frame m p).lock.index Spin ≡ Spin =
-          ap (λ (s : Setup). slice_index_or s.locks.items (top_frame m p).lock.index Spin) r.setup_is
-          ∙ spins (top_frame m p).lock.index in
-          (let y : Rw ≡ Spin = sym kind ∙ spin in cc y)
+      | inr q ↦ elim q [
+        | inr e ↦
+            let chosen = (shows.world.spins.registers (top_of m p) (top_frame m p) live).choice.choice z.place z.here e in
+            let mode = ap (λ (s : Setup). moves_aside s.mode) r.setup_is ∙ plain_in in
+            cc (chosen, mode)
+        | inl e ↦
+            let kind : slice_index_or m.setup.locks.items (top_frame m p).lock.index Spin ≡ Rw =
+            (shows.world.fits (top_of m p) (top_frame m p) live).rw z.place z.here e in
+            let spin : slice_index_or m.setup.locks.items (top_frame m p).lock.index Spin ≡ Spin =
+            ap (λ (s : Setup). slice_index_or s.locks.items (top_frame m p).lock.index Spin) r.setup_is
+            ∙ spins (top_frame m p).lock.index in
+            (let y : Rw ≡ Spin = sym kind ∙ spin in cc y)
+      ]
     ]
   ]
     where
@@ -240,10 +295,9 @@ module _ (setup : Setup) (ok : IsLawfulSetup setup) (native : setup.mode ≡ Nat
       live = top_live m p (λ l. history_of l r.events) r.shows.shows range
 
   lowers : (m : Machine) (a : Act) → Reached IsHeadFollowed setup m → processor_of a < length m.cpus
-      → ((next m a).0 ≡ m) ⊎ (budget (next m a).0 < budget m) ⊎ ((is_pause a ≡ true) × (budget (next m a).0 ≡ budget m))
+      → ((next m a).0 ≡ m) ⊎ (budget (next m a).0 < budget m) ⊎ (LeadsNobodyOn m a × (budget (next m a).0 ≡ budget m))
   lowers m a r range = elim (acts_lower m (λ l. history_of l r.events) a r.shows.shows
-      (ap (λ (s : Setup). halts s.mode) r.setup_is ∙ awake_in)
-      (ap (λ (s : Setup). moves_aside s.mode) r.setup_is ∙ plain_in) range) [
+      (ap (λ (s : Setup). halts s.mode) r.setup_is ∙ awake_in) range) [
         | inl e ↦ inl e
         | inr x ↦ elim x [
           | inl lt ↦ inr (inl lt)

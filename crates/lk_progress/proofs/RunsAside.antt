@@ -21,7 +21,8 @@ use Rattle.lk_waits.specs.Waits.{IsAtBay, IsBarred}
 use Rattle.lk_waits.specs.Waits as waits
 use Rattle.lk_progress.specs.Ordered.{IsOrdered}
 use Rattle.lk_waits.specs.Order.{level_of}
-use Rattle.lk_progress.specs.Runs.{IsFinished, TurnsOnTheSpot, OrderedRunsGoOnAside}
+use Rattle.lk_progress.specs.Runs.{IsFinished, OrderedRunsGoOnAside}
+use Rattle.lk_progress.specs.Spots.{TurnsOnTheSpot}
 use Rattle.lk_waits.proofs.ClimbAside.{at_bay_wait_for_outside}
 use Rattle.lk_waits.specs.Aside.{IsFollowedAside}
 use Rattle.lk_waits.proofs.AsideFollowed.{row_keeps_aside}
@@ -32,9 +33,10 @@ use Rattle.lk_progress.proofs.Good.{IsKept, IsAwake}
 use Rattle.lk_waits.proofs.Quiet.{heads_stay_aside, rests_aside}
 use Rattle.lk_progress.proofs.Reached.{Reached, reached_from_rest, top_is, stuck_at, finished_by}
 use Rattle.lk_progress.proofs.Ranked.{tidy, ranked, inside}
+use Rattle.lk_progress.proofs.Runs.{LeadsOn, all_or, leads_on}
 
 -- heads that choose their successor are kept followed
-kept_aside : IsKept (IsAwake true) IsFollowedAside
+pub kept_aside : IsKept (IsAwake true) IsFollowedAside
 kept_aside = record {
   rest = rests_aside;
   comes = λ a b w came. heads_stay_aside a b w came.quietly;
@@ -63,41 +65,53 @@ module _ (m : Machine) (hs : LockName → LockHistory) (shows : ShowsAll m hs) (
             inr (subst (λ (d : Pc). IsBarred (world m) f d) place (subst (λ (g : Frame). IsBarred (world m) g t.place) is t.barred))
       ]
 
-pub ordered_runs_go_on_aside : OrderedRunsGoOnAside
-ordered_runs_go_on_aside rank size setup acts ok ordered awake plain has_room range unpreempted still p within =
-    by (top_frame m p).place refl
+-- where each step changes nothing, or is that of a head that turns on the spot, all have finished
+pub finished_aside : (rank : ℕ → ℕ) (size : ℕ) (setup : Setup) → IsOrdered rank size setup → halts setup.mode ≡ false
+    → moves_aside setup.mode ≡ true → (m : Machine) → Reached IsFollowedAside setup m
+    → ((p : ℕ) → p < length m.cpus → preempted_at m p ≡ false)
+    → ((p : ℕ) → p < length m.cpus → ((next m (act.Step p)).0 ≡ m) ⊎ TurnsOnTheSpot m p)
+    → (p : ℕ) → p < length m.cpus → IsFinished m p
+finished_aside rank size setup ordered awake plain m r unpreempted still p within = by (top_frame m p).place refl
   where
-    m : Machine
-    m = machine_after (at_rest setup) acts
-
-    r : Reached IsFollowedAside setup (machine_after (at_rest setup) acts)
-    r = reached_from_rest (IsAwake true) IsFollowedAside kept_aside setup acts ok (awake, plain) (λ e. has_room) range
-
-    hs : LockName → LockHistory
-    hs l = history_of l r.events
-
-    shows : ShowsAll (machine_after (at_rest setup) acts) hs
+    shows : ShowsAll m (λ l. history_of l r.events)
     shows = r.shows.shows
 
-    awake_m : halts (machine_after (at_rest setup) acts).setup.mode ≡ false
+    awake_m : halts m.setup.mode ≡ false
     awake_m = ap (λ (s : Setup). halts s.mode) r.setup_is ∙ awake
 
-    plain_m : moves_aside (machine_after (at_rest setup) acts).setup.mode ≡ true
+    plain_m : moves_aside m.setup.mode ≡ true
     plain_m = ap (λ (s : Setup). moves_aside s.mode) r.setup_is ∙ plain
 
-    live : frame_at (machine_after (at_rest setup) acts) (top_of (machine_after (at_rest setup) acts) p)
-        ≡ Some (top_frame (machine_after (at_rest setup) acts) p)
-    live = top_live (machine_after (at_rest setup) acts) p hs shows within
+    live : frame_at m (top_of m p) ≡ Some (top_frame m p)
+    live = top_live m p (λ l. history_of l r.events) shows within
 
-    by : (o : Option Pc) → (top_frame (machine_after (at_rest setup) acts) p).place ≡ o → IsFinished (machine_after (at_rest setup) acts) p
-    by None e = finished_by (machine_after (at_rest setup) acts) hs shows r.good.steady p within e
+    by : (o : Option Pc) → (top_frame m p).place ≡ o → IsFinished m p
+    by None e = finished_by m (λ l. history_of l r.events) shows r.good.steady p within e
     by (Some c) e =
-        absurd (inside (machine_after (at_rest setup) acts) hs shows r.good.steady
-        (at_bay_wait_for_outside (level_of rank) (size * 2 + 1) (world (machine_after (at_rest setup) acts)) hs shows.world awake_m plain_m
-        (tidy (machine_after (at_rest setup) acts) hs shows r.good.steady)
-        (ranked (machine_after (at_rest setup) acts) hs shows r.good.steady rank size
+        absurd (inside m (λ l. history_of l r.events) shows r.good.steady
+        (at_bay_wait_for_outside (level_of rank) (size * 2 + 1) (world m) (λ l. history_of l r.events) shows.world awake_m plain_m
+        (tidy m (λ l. history_of l r.events) shows r.good.steady)
+        (ranked m (λ l. history_of l r.events) shows r.good.steady rank size
         (subst (IsOrdered rank size) (sym r.setup_is) ordered))
         r.good.followed
-        (is_at_bay (machine_after (at_rest setup) acts) hs shows awake_m unpreempted still)
-        (top_of (machine_after (at_rest setup) acts) p) (top_frame (machine_after (at_rest setup) acts) p) c
-        (record { live = live; above = λ d lt. above_top (machine_after (at_rest setup) acts) p d lt; place = e })))
+        (is_at_bay m (λ l. history_of l r.events) shows awake_m unpreempted still)
+        (top_of m p) (top_frame m p) c
+        (record { live = live; above = λ d lt. above_top m p d lt; place = e })))
+
+-- all have finished, or somebody's step leads on
+pub goes_on_aside : (rank : ℕ → ℕ) (size : ℕ) (setup : Setup) → IsOrdered rank size setup → halts setup.mode ≡ false
+    → moves_aside setup.mode ≡ true → (m : Machine) → Reached IsFollowedAside setup m
+    → ((p : ℕ) → p < length m.cpus → preempted_at m p ≡ false)
+    → ((p : ℕ) → p < length m.cpus → IsFinished m p) ⊎ ((p : ℕ) × (p < length m.cpus) × LeadsOn m p)
+goes_on_aside rank size setup ordered awake plain m r unpreempted =
+    elim (all_or (length m.cpus) (λ p. ((next m (act.Step p)).0 ≡ m) ⊎ TurnsOnTheSpot m p) (λ p. LeadsOn m p)
+    (λ p lt. leads_on m (λ l. history_of l r.events) r.shows.shows (ap (λ (s : Setup). halts s.mode) r.setup_is ∙ awake) p lt)) [
+      | inl still ↦ inl (finished_aside rank size setup ordered awake plain m r unpreempted still)
+      | inr z ↦ inr z
+    ]
+
+pub ordered_runs_go_on_aside : OrderedRunsGoOnAside
+ordered_runs_go_on_aside rank size setup acts ok ordered awake plain has_room range unpreempted still p within =
+    finished_aside rank size setup ordered awake plain (machine_after (at_rest setup) acts)
+    (reached_from_rest (IsAwake true) IsFollowedAside kept_aside setup acts ok (awake, plain) (λ e. has_room) range)
+    unpreempted still p within

@@ -44,9 +44,9 @@ sum_more (suc n) F G k lt same =
           omega (arith, h, e)
     ]
 
--- each is at most 2, or at most 12
-pub six_most : (F : ℕ → ℕ) → ((i : ℕ) → F i ≤ 2) → sum_below 6 F ≤ 12
-six_most F most =
+-- each is at most so many
+pub six_most : (k : ℕ) (F : ℕ → ℕ) → ((i : ℕ) → F i ≤ k) → sum_below 6 F ≤ 6 * k
+six_most k F most =
     let a = most 0 in
     let b = most 1 in
     let c = most 2 in
@@ -55,9 +55,9 @@ six_most F most =
     let f = most 5 in
     omega (arith, a, b, c, d, e, f)
 
-pub twelve_most : (n : ℕ) (F : ℕ → ℕ) → ((i : ℕ) → F i ≤ 12) → sum_below n F ≤ 12 * n
-twelve_most zero F most = omega arith
-twelve_most (suc n) F most = let h = twelve_most n F most in let e = most n in omega (arith, h, e)
+pub sum_most : (n k : ℕ) (F : ℕ → ℕ) → ((i : ℕ) → F i ≤ k) → sum_below n F ≤ n * k
+sum_most zero k F most = omega arith
+sum_most (suc n) k F most = let h = sum_most n k F most in let e = most n in omega (arith, h, e)
 
 -- the sum of a number of each of the six frames of so many processors
 abbrev pub total : ℕ → (Waiter → ℕ) → ℕ

@@ -1,7 +1,7 @@
 -- How far all frames are from the ends of their turns: at most two rows each, and at rest none.
-use Rattle.std.proofs.Common.{◌≡◌, ℕ, zero, suc, ◌≤◌, ◌*◌, Option, Some, None, Bool}
+use Rattle.std.proofs.Common.{◌≡◌, ℕ, zero, suc, ◌+◌, ◌≤◌, ◌*◌, Option, Some, None, Bool}
 use Rattle.std.proofs.Common.{true, false, refl, sym, ap, ◌∙◌, arith, length, slice_get}
-use Rattle.std.specs.Prelude.{if◌then◌else◌}
+use Rattle.std.specs.Prelude.{if◌then◌else◌, is_some, ◌-◌}
 use Rattle.lk_abs.specs.declared.names.Mode.{Mode}
 use Rattle.lk_abs.specs.declared.names.Mode.TheVariants.{Virt, Native, Cna, Pv}
 use Rattle.lk_abs.specs.declared.names.Waiter.{Waiter}
@@ -14,54 +14,130 @@ use Rattle.lk_rows.specs.declared.setup.Verb.{Verb}
 use Rattle.lk_rows.specs.declared.setup.Verb.TheVariants.{Lock, Try, Unlock, Read, TryRead, RUnlock, Write, TryWrite, WUnlock}
 use Rattle.lk_rows.specs.declared.parts.Frame.{Frame}
 use Rattle.lk_rows.specs.declared.parts.Pc.{Pc}
-use Rattle.lk_rows.specs.declared.parts.Pc.TheVariants.{V1, V2, N1, N2, Wr5, Wr6}
+use Rattle.lk_rows.specs.declared.parts.Pc.TheVariants.{V1, V2, N1, N2, Wr5, Wr6, C1, C2, C3, C10}
 use Rattle.lk_rows.specs.Machine.{Machine, frame_at}
 use Rattle.lk_rows.specs.Moves.{first_place}
 use Rattle.lk_rows.specs.Programs.{IsLawfulSetup, program_at}
 use Rattle.lk_rows.specs.Run.{at_rest, first_frame}
 use Rattle.lk_rows.specs.rows.Rw.{is_cleared}
 use Rattle.lk_rows.specs.rows.Spin.{is_free}
-use Rattle.lk_law.specs.Sound.{world}
+use Rattle.lk_abs.specs.History.{LockHistory}
+use Rattle.lk_word.specs.declared.spin_word.NodeName.{NodeName}
+use Rattle.lk_rows.specs.declared.parts.Node.{Node}
+use Rattle.lk_rows.specs.declared.parts.Why.{Why}
+use Rattle.lk_rows.specs.declared.parts.Why.TheVariants as why
+use Rattle.lk_rows.specs.Moves.{node_of}
+use Rattle.lk_rows.specs.rows.Cna.{is_last}
+use Rattle.lk_law.specs.Cna.{moves_aside}
+use Rattle.lk_law.specs.Families.{chooses}
+use Rattle.lk_law.proofs.common.Puts.{not-true}
+use Rattle.lk_law.specs.Sound.{world, ShowsAll}
 use Rattle.lk_law.specs.World.{World}
 use Rattle.lk_core.proofs.Rest.{frames}
-use Rattle.lk_progress.specs.Measure.{turn_at, turn_if, turn_of}
-use Rattle.lk_progress.specs.Potential.{turns, cpu_turns}
-use Rattle.lk_progress.proofs.Sums.{six_most, twelve_most, total, total_same}
+use Rattle.lk_progress.specs.Measure.{turn_at, turn_if, turn_of, look_at, seek_at, swing_at, promotion_at, contexts, is_linked}
+use Rattle.lk_progress.specs.Potential.{turns, cpu_turns, most_turns}
+use Rattle.lk_progress.proofs.Sums.{six_most, sum_most, total, total_same}
 
--- a swap is at most two rows from the end of its turn
+-- a swap is at most two rows from the end of its turn, and a head that looks for its successor three
 swap_few : (b : Bool) → ◌≤◌ (if b then 0 else 2) 2
 swap_few true = omega arith
 swap_few false = omega arith
 
-few_at : (m : World) (f : Frame) (c : Pc) → turn_at m f c ≤ 2
-few_at m f V1 = omega arith
-few_at m f V2 = swap_few (is_free (m.word f.lock))
-few_at m f N1 = omega arith
-few_at m f N2 = swap_few (is_free (m.word f.lock))
-few_at m f Wr5 = omega arith
-few_at m f Wr6 = swap_few (is_cleared (m.rw f.lock.index))
-few_at m f _ = omega arith
+look_few : (a b c : Bool) → look_at a b c ≤ 3
+look_few true b c = omega arith
+look_few false true true = omega arith
+look_few false true false = omega arith
+look_few false false c = omega arith
 
-few_of : (m : World) (o : Option Frame) → turn_of m o ≤ 2
-few_of m None = omega arith
-few_of m (Some f) = by f.place
-  where
-    by : (o : Option Pc) → turn_if m f o ≤ 2
-    by None = omega arith
-    by (Some c) = few_at m f c
+seek_few : (a b : Bool) → seek_at a b ≤ 3
+seek_few true b = omega arith
+seek_few false true = omega arith
+seek_few false false = omega arith
 
-pub turns_few : (m : Machine) → turns m ≤ 12 * length m.cpus
-turns_few m =
-    twelve_most (length m.cpus) (λ p. cpu_turns m p)
-    (λ p. six_most (λ c. turn_of (world m) (frame_at m (record { cpu = p; ctx = c })))
-    (λ c. few_of (world m) (frame_at m (record { cpu = p; ctx = c }))))
+swing_few : (a b : Bool) → swing_at a b ≤ 3
+swing_few true b = omega arith
+swing_few false true = omega arith
+swing_few false false = omega arith
 
--- a turn depends on the words alone
-module _ (a b : World) (words : (l : LockName) → a.word l ≡ b.word l) (rws : (i : ℕ) → a.rw i ≡ b.rw i) where
+promotion_few : (y : Why) (n : ℕ) → n ≤ 3 → promotion_at y n ≤ 3
+promotion_few why.Append n le = omega arith
+promotion_few why.Flush n le = omega arith
+promotion_few why.Promotion n le = le
+
+few_choosing : (m : World) (f : Frame) (c : Pc) → turn_at m f c ≤ contexts m + 3
+few_choosing m f V2 = let z = swap_few (is_free (m.word f.lock)) in omega (arith, z)
+few_choosing m f N2 = let z = swap_few (is_free (m.word f.lock)) in omega (arith, z)
+few_choosing m f Wr6 = let z = swap_few (is_cleared (m.rw f.lock.index)) in omega (arith, z)
+few_choosing m f C1 = let z = look_few (is_linked m f) (is_last f (m.word f.lock)) (is_some f.second) in omega (arith, z)
+few_choosing m f C2 = omega arith
+few_choosing m f C3 =
+    let z = promotion_few f.why (seek_at (is_linked m f) (is_last f (m.word f.lock)))
+    (seek_few (is_linked m f) (is_last f (m.word f.lock))) in
+    omega (arith, z)
+few_choosing m f C10 = let z = swing_few (is_linked m f) (is_last f (m.word f.lock)) in omega (arith, z)
+few_choosing m f _ = omega arith
+
+few_plain : (m : World) (f : Frame) (c : Pc) → chooses c ≡ false → turn_at m f c ≤ 2
+few_plain m f V1 b = omega arith
+few_plain m f V2 b = swap_few (is_free (m.word f.lock))
+few_plain m f N1 b = omega arith
+few_plain m f N2 b = swap_few (is_free (m.word f.lock))
+few_plain m f Wr5 b = omega arith
+few_plain m f Wr6 b = swap_few (is_cleared (m.rw f.lock.index))
+few_plain m f C1 b = cc b
+few_plain m f C2 b = cc b
+few_plain m f C3 b = cc b
+few_plain m f C10 b = cc b
+few_plain m f _ b = omega arith
+
+module _ (m : Machine) (hs : LockName → LockHistory) (shows : ShowsAll m hs) where
+  few_at : (b : Bool) → moves_aside m.setup.mode ≡ b → (u : Waiter) (f : Frame) (c : Pc) → frame_at m u ≡ Some f → f.place ≡ Some c
+      → turn_at (world m) f c ≤ (if b then 6 * length m.cpus + 3 else 2)
+  few_at true e u f c live at =
+      let z = few_choosing (world m) f c in
+      let n = shows.whole.cpus in
+      omega (arith, z, n)
+  few_at false e u f c live at =
+      few_plain (world m) f c (not-true (chooses c)
+      (λ q. let z = (shows.world.spins.registers u f live).choice.choice c at q in cc (z, e)))
+
+  few_of : (u : Waiter) (o : Option Frame) → frame_at m u ≡ o → turn_of (world m) o ≤ most_turns m.setup.mode (length m.cpus)
+  few_of u None e = omega arith
+  few_of u (Some f) e = by f.place refl
+    where
+      by : (o : Option Pc) → f.place ≡ o → turn_if (world m) f o ≤ most_turns m.setup.mode (length m.cpus)
+      by None q = omega arith
+      by (Some c) q = few_at (moves_aside m.setup.mode) refl u f c e q
+
+  pub turns_few : turns m ≤ length m.cpus * (6 * most_turns m.setup.mode (length m.cpus))
+  turns_few =
+      sum_most (length m.cpus) (6 * most_turns m.setup.mode (length m.cpus)) (λ p. cpu_turns m p)
+      (λ p. six_most (most_turns m.setup.mode (length m.cpus)) (λ c. turn_of (world m) (frame_at m (record { cpu = p; ctx = c })))
+      (λ c. few_of (record { cpu = p; ctx = c }) (frame_at m (record { cpu = p; ctx = c })) refl))
+
+-- a turn depends on the words, the nodes, and the number of processors
+module _ (a b : World) (words : (l : LockName) → a.word l ≡ b.word l) (rws : (i : ℕ) → a.rw i ≡ b.rw i)
+    (nodes : (n : NodeName) → a.node n ≡ b.node n) (sockets : length a.sockets ≡ length b.sockets) where
+  linked_same : (f : Frame) → is_linked a f ≡ is_linked b f
+  linked_same f = ap (λ (n : Node). is_some n.next) (nodes (node_of f.me))
+
+  last_same : (f : Frame) → is_last f (a.word f.lock) ≡ is_last f (b.word f.lock)
+  last_same f = ap (is_last f) (words f.lock)
+
   same_at : (f : Frame) (c : Pc) → turn_at a f c ≡ turn_at b f c
   same_at f V2 = ap (λ (x : Fields). if is_free x then 0 else 2) (words f.lock)
   same_at f N2 = ap (λ (x : Fields). if is_free x then 0 else 2) (words f.lock)
   same_at f Wr6 = ap (λ (x : RwFields). if is_cleared x then 0 else 2) (rws f.lock.index)
+  same_at f C1 =
+      ap (λ (t : Bool). look_at t (is_last f (a.word f.lock)) (is_some f.second)) (linked_same f)
+      ∙ ap (λ (t : Bool). look_at (is_linked b f) t (is_some f.second)) (last_same f)
+  same_at f C2 = ap (λ (n : ℕ). 6 * n - f.k) sockets
+  same_at f C3 =
+      ap (λ (t : Bool). promotion_at f.why (seek_at t (is_last f (a.word f.lock)))) (linked_same f)
+      ∙ ap (λ (t : Bool). promotion_at f.why (seek_at (is_linked b f) t)) (last_same f)
+  same_at f C10 =
+      ap (λ (t : Bool). swing_at t (is_last f (a.word f.lock))) (linked_same f)
+      ∙ ap (λ (t : Bool). swing_at (is_linked b f) t) (last_same f)
   same_at f _ = refl
 
   pub turn_same : (o : Option Frame) → turn_of a o ≡ turn_of b o

@@ -9,7 +9,6 @@ use Rattle.lk_rows.specs.Programs.{IsLawfulSetup}
 use Rattle.lk_rows.specs.Acts.{next, processor_of}
 use Rattle.lk_rows.specs.Run.{at_rest}
 use Rattle.lk_law.specs.Agree.{halts}
-use Rattle.lk_law.specs.Cna.{moves_aside}
 use Rattle.lk_progress.specs.Ordered.{IsOrdered}
 use Rattle.lk_progress.specs.Runs.{HasRoom, IsFinished}
 
@@ -36,11 +35,11 @@ pub record IsFair (setup : Setup) (schedule : ℕ → Act) : Type 0 where
   pub inside : (n : ℕ) → processor_of (schedule n) < processors setup
   pub rounds : (n : ℕ) → (first : ℕ) × (size : ℕ) × (n ≤ first) × IsRound setup schedule first size
 
--- In an ordered setup of `virt` or `native`, where there is room, every fair schedule comes to a moment at which
--- every processor has finished.
+-- In an ordered setup of `virt`, `native` or `cna`, where there is room, every fair schedule comes to a moment at
+-- which every processor has finished.
 abbrev pub FairRunsFinish : Type 0
 FairRunsFinish = (rank : ℕ → ℕ) (size : ℕ) (setup : Setup) (schedule : ℕ → Act)
     → IsLawfulSetup setup → IsOrdered rank size setup
-    → halts setup.mode ≡ false → moves_aside setup.mode ≡ false → HasRoom setup
+    → halts setup.mode ≡ false → HasRoom setup
     → IsFair setup schedule
     → (n : ℕ) × ((p : ℕ) → p < processors setup → IsFinished (after_first setup schedule n) p)

@@ -1,6 +1,7 @@
 pub mod Ordered
 pub mod Runs
 pub mod Fair
+pub mod Spots
 pub mod Measure
 pub mod Potential
 pub mod Turns

@@ -1,6 +1,6 @@
 -- How many rows are left of an operation: a number that every row lowers which leads a frame on, but
 -- for the turns of a waiter that polls a word and swaps it.
-use Rattle.std.specs.Prelude.{◌≡◌, ◌⊎◌, ◌<◌, ◌+◌, ℕ, Option, Some, None, Bool, true, false, if◌then◌else◌}
+use Rattle.std.specs.Prelude.{◌≡◌, ◌⊎◌, ◌<◌, ◌+◌, ◌-◌, ◌*◌, is_some, length, ℕ, Option, Some, None, Bool, true, false, if◌then◌else◌}
 use Rattle.lk_abs.specs.declared.names.Waiter.{Waiter}
 use Rattle.lk_abs.specs.declared.names.LockName.{LockName}
 use Rattle.lk_rows.specs.declared.parts.Frame.{Frame}
@@ -18,6 +18,15 @@ use Rattle.lk_rows.specs.TopRow.{target}
 use Rattle.lk_law.specs.Agree.{halts}
 use Rattle.lk_law.specs.Cna.{moves_aside}
 use Rattle.lk_law.specs.Leads.{course_in, stored_in}
+use Rattle.lk_rows.specs.Row.{Lead, Goes}
+use Rattle.lk_law.specs.Families.{chooses}
+use Rattle.lk_waits.specs.Waits.{IsBarred}
+use Rattle.lk_abs.specs.declared.names.Mode.{Mode}
+use Rattle.lk_rows.specs.declared.parts.Why.{Why}
+use Rattle.lk_rows.specs.declared.parts.Why.TheVariants as why
+use Rattle.lk_rows.specs.Moves.{node_of}
+use Rattle.lk_rows.specs.rows.Cna.{is_last}
+use Rattle.lk_rows.specs.declared.parts.Pc.TheVariants.{C1, C2, C3, C4, C5, C6, C7, C8, C9, C10}
 use Rattle.lk_law.specs.Premises.{IsThen}
 use Rattle.lk_law.specs.SpinWorld.{IsSoundSpinWorld}
 use Rattle.lk_law.specs.Steps.{led}
@@ -90,6 +99,16 @@ is_taking G8 = true
 is_taking G9 = true
 is_taking G10 = true
 is_taking G11 = true
+is_taking C1 = true
+is_taking C2 = true
+is_taking C3 = true
+is_taking C4 = true
+is_taking C5 = true
+is_taking C6 = true
+is_taking C7 = true
+is_taking C8 = true
+is_taking C9 = true
+is_taking C10 = true
 is_taking V1 = true
 is_taking V2 = true
 is_taking N1 = true
@@ -110,7 +129,64 @@ left_at (Some c) f = rows_left c + (if f.lock.wait then (if is_taking c then row
 abbrev pub left_of : Frame → ℕ
 left_of f = left_at f.place f
 
--- the row polls a word that is swapped next, or swaps it
+-- Of a head that chooses to whom it hands off, how many rows follow at most to the end of the choice, but for
+-- those in which it turns; and on the way to the choice all of them.
+abbrev pub choice_why : Why → ℕ
+choice_why why.Append = 6
+choice_why why.Flush = 4
+choice_why why.Promotion = 8
+
+abbrev pub choice_at : Pc → Frame → ℕ
+choice_at C1 f = 8
+choice_at C2 f = 7
+choice_at C3 f = choice_why f.why
+choice_at C4 f = 5
+choice_at C5 f = 4
+choice_at C6 f = 3
+choice_at C7 f = 2
+choice_at C8 f = 1
+choice_at C9 f = 3
+choice_at C10 f = 8
+choice_at F1 f = 8
+choice_at P0 f = 8
+choice_at P1 f = 8
+choice_at P2 f = 8
+choice_at G1 f = 8
+choice_at G2 f = 8
+choice_at G3 f = 8
+choice_at G4 f = 8
+choice_at G5 f = 8
+choice_at G6 f = 8
+choice_at G7 f = 8
+choice_at G8 f = 8
+choice_at G9 f = 8
+choice_at R1 f = 8
+choice_at R3 f = 8
+choice_at Wr1 f = 8
+choice_at _ f = 0
+
+abbrev pub choice_if : Option Pc → Frame → ℕ
+choice_if None f = 0
+choice_if (Some c) f = choice_at c f
+
+-- the rows left of a frame in a family, with those of a choice where heads choose
+abbrev pub left_in : Mode → Frame → ℕ
+left_in mode f = left_of f + (if moves_aside mode then choice_if f.place f else 0)
+
+-- more rows than are left of any operation
+abbrev pub most_rows : Mode → ℕ
+most_rows mode = if moves_aside mode then 31 else 23
+
+-- how many contexts there are
+abbrev pub contexts : World → ℕ
+contexts m = 6 * length m.sockets
+
+-- somebody is linked behind the frame's own node
+abbrev pub is_linked : World → Frame → Bool
+is_linked m f = is_some (m.node (node_of f.me)).next
+
+-- The row polls a word that is swapped next, or swaps it; or it is one of a head that looks for its successor, or
+-- goes on to the next waiter behind it.
 abbrev pub is_turn : Pc → Bool
 is_turn V1 = true
 is_turn V2 = true
@@ -118,10 +194,37 @@ is_turn N1 = true
 is_turn N2 = true
 is_turn Wr5 = true
 is_turn Wr6 = true
+is_turn C1 = true
+is_turn C2 = true
+is_turn C3 = true
+is_turn C10 = true
 is_turn _ = false
 
+-- How far a head is from the end of a turn in which it looks for its successor, C10, C1, C3. A head that is
+-- barred turns on the spot, and is as far from it as ever.
+abbrev pub look_at : (linked last second : Bool) → ℕ
+look_at true last second = 0
+look_at false true true = 2
+look_at false _ _ = 3
+
+abbrev pub seek_at : (linked last : Bool) → ℕ
+seek_at true last = 2
+seek_at false true = 1
+seek_at false false = 3
+
+abbrev pub swing_at : (linked last : Bool) → ℕ
+swing_at true last = 1
+swing_at false true = 0
+swing_at false false = 3
+
+-- only a head that looks for the last of the secondary queue for a promotion is in such a turn
+abbrev pub promotion_at : Why → ℕ → ℕ
+promotion_at why.Promotion n = n
+promotion_at _ n = 0
+
 -- How far a frame is from the end of its turn. A swap that is going to fail, since another came in between,
--- is two rows from it: itself, and the poll to which it leads back.
+-- is two rows from it: itself, and the poll to which it leads back. A head that passes over waiters has at most
+-- as many before it as there are contexts.
 abbrev pub turn_at : World → Frame → Pc → ℕ
 turn_at m f V1 = 1
 turn_at m f V2 = if is_free (m.word f.lock) then 0 else 2
@@ -129,6 +232,10 @@ turn_at m f N1 = 1
 turn_at m f N2 = if is_free (m.word f.lock) then 0 else 2
 turn_at m f Wr5 = 1
 turn_at m f Wr6 = if is_cleared (m.rw f.lock.index) then 0 else 2
+turn_at m f C1 = look_at (is_linked m f) (is_last f (m.word f.lock)) (is_some f.second)
+turn_at m f C2 = contexts m - f.k
+turn_at m f C3 = promotion_at f.why (seek_at (is_linked m f) (is_last f (m.word f.lock)))
+turn_at m f C10 = swing_at (is_linked m f) (is_last f (m.word f.lock))
 turn_at m f _ = 0
 
 abbrev pub turn_if : World → Frame → Option Pc → ℕ
@@ -139,25 +246,44 @@ abbrev pub turn_of : World → Option Frame → ℕ
 turn_of m None = 0
 turn_of m (Some f) = turn_if m f f.place
 
+-- the lead takes the frame to another row, and changes nothing else
+abbrev pub goes : Lead → Bool
+goes (Goes c cs) = true
+goes _ = false
+
 -- The row stores nothing, and leads its frame on in its turn: it leaves as many rows as there were, and the
 -- end of the turn is nearer.
 pub record TurnGoesOn (m : World) (w : Waiter) (f : Frame) (c : Pc) : Type 0 where
   pub turn : is_turn c ≡ true
   pub stores : stored_in m w f c (target c f) ≡ m
-  pub left : left_of (led f (course_in m w f c (target c f)).leads) ≡ left_of f
+  pub away : goes (course_in m w f c (target c f)).leads ≡ true
+  pub left : left_in m.mode (led f (course_in m w f c (target c f)).leads) ≡ left_in m.mode f
   pub nearer : turn_of m (Some (led f (course_in m w f c (target c f)).leads)) < turn_of m (Some f)
 
--- Where no processor halts and nobody is moved aside, each row leaves its frame where it was, or
--- leaves it fewer rows than it had, or leads it on in its turn.
+-- The row is that of a head which turns on the spot: it stores nothing, and leaves all numbers as they were.
+pub record TurnStays (m : World) (w : Waiter) (f : Frame) (c : Pc) : Type 0 where
+  pub barred : IsBarred m f c
+  pub stores : stored_in m w f c (target c f) ≡ m
+  pub away : goes (course_in m w f c (target c f)).leads ≡ true
+  pub left : left_in m.mode (led f (course_in m w f c (target c f)).leads) ≡ left_in m.mode f
+  pub same : turn_of m (Some (led f (course_in m w f c (target c f)).leads)) ≡ turn_of m (Some f)
+
+-- each frame is one of a processor that is there, and of its six
+abbrev pub AreContexts : World → Type 0
+AreContexts m = (u : Waiter) (f : Frame) → m.frame u ≡ Some f → (u.cpu < length m.sockets) × (u.ctx < 6)
+
+-- Where no processor halts, each row leaves its frame where it was, or leaves it fewer rows than it had, or leads
+-- it on in its turn; or it is that of a head which turns on the spot.
 abbrev pub RowDescends : Pc → Type 0
 RowDescends c = (m : World) (hs : LockName → LockHistory) (w : Waiter) (f : Frame)
-    → IsSoundSpinWorld m hs → halts m.mode ≡ false → moves_aside m.mode ≡ false
+    → IsSoundSpinWorld m hs → AreContexts m → halts m.mode ≡ false
     → m.frame w ≡ Some f → f.place ≡ Some c → (f.lock.wait ≡ true → IsThen f.then)
-    → ((led f (course_in m w f c (target c f)).leads).place ≡ Some c)
-    ⊎ (left_of (led f (course_in m w f c (target c f)).leads) < left_of f)
+    → (((led f (course_in m w f c (target c f)).leads).place ≡ Some c) × (chooses c ≡ false))
+    ⊎ (left_in m.mode (led f (course_in m w f c (target c f)).leads) < left_in m.mode f)
     ⊎ TurnGoesOn m w f c
+    ⊎ TurnStays m w f c
 
--- An operation begins with at most 22 rows.
+-- An operation begins with at most 22 rows, and 8 where heads choose.
 abbrev pub BeginIsShort : Type 0
 BeginIsShort = (m : World) (f : Frame) (o : Op) → halts m.mode ≡ false
-    → left_of (started m.mode f o) < 23
+    → left_in m.mode (started m.mode f o) < most_rows m.mode

@@ -14,10 +14,10 @@ use Rattle.lk_law.specs.Cna.{moves_aside}
 use Rattle.lk_law.specs.MachineLaws.{AreInRange}
 use Rattle.lk_rows.specs.declared.parts.Pc.{Pc}
 use Rattle.lk_law.specs.Sound.{world}
-use Rattle.lk_waits.specs.Waits.{IsBarred}
 use Rattle.lk_waits.specs.Halting.{IsRobbed}
 use Rattle.lk_progress.specs.Ordered.{IsOrdered}
 use Rattle.lk_progress.specs.Potential.{budget, cost, HasChanges}
+use Rattle.lk_progress.specs.Spots.{TurnsOnTheSpot}
 
 -- the processor has finished: its task has, and no handler runs
 pub record IsFinished (m : Machine) (p : ℕ) : Type 0 where
@@ -66,14 +66,14 @@ SomebodyMovesOn = (rank : ℕ → ℕ) (size : ℕ) (setup : Setup) (acts : List
     → IsFinished (machine_after (at_rest setup) acts) p)
     ⊎ SomebodyMoves (machine_after (at_rest setup) acts)
 
--- In `virt` and `native` no run from rest has more changing acts, besides preemptions and resumptions, than the
--- rows of the budget at rest, times what a row may cost. The handlers may be as many as they like, and so may
--- the swaps that fail.
+-- Where no processor halts, no run from rest has more acts that change the machine and lead somebody on than the rows
+-- of the budget at rest, times what a row may cost. The handlers may be as many as they like, and so may the
+-- swaps that fail.
 abbrev pub RunsEnd : Type 0
 RunsEnd = (setup : Setup) (acts : List Act) (k : ℕ)
-    → IsLawfulSetup setup → halts setup.mode ≡ false → moves_aside setup.mode ≡ false
+    → IsLawfulSetup setup → halts setup.mode ≡ false
     → HasChanges (at_rest setup) acts k
-    → k ≤ budget (at_rest setup) * cost (length setup.topology.sockets.items)
+    → k ≤ budget (at_rest setup) * cost setup.mode (length setup.topology.sockets.items)
 
 -- In `native`, with spinlocks alone and at most three handlers a processor, no swap fails, and a row costs
 -- itself alone.
@@ -82,13 +82,6 @@ NativeRunsEnd = (setup : Setup) (acts : List Act) (k : ℕ)
     → IsLawfulSetup setup → setup.mode ≡ Native
     → ((i : ℕ) → slice_index_or setup.locks.items i Spin ≡ Spin) → HasRoom setup
     → HasChanges (at_rest setup) acts k → k ≤ budget (at_rest setup)
-
--- The newest frame of the processor is that of a head of `cna` which turns on the spot: nobody is linked
--- behind it, and its secondary queue, if there is one, cannot return.
-pub record TurnsOnTheSpot (m : Machine) (p : ℕ) : Type 0 where
-  pub place : Pc
-  pub here : (top_frame m p).place ≡ Some place
-  pub barred : IsBarred (world m) (top_frame m p) place
 
 -- In an ordered setup of `cna`, after every schedule: where no processor is preempted, and each step
 -- changes nothing or is that of a head which turns on the spot, every processor has finished.

@@ -27,14 +27,16 @@ pub fn ordered_runs_go_on()
     ensures leads { SomebodyLeadsOnHalting }
 {}
 
-/// In `virt` and `native` every run is short, with readers and writers, tries, interrupts, and any number of
-/// handlers. An operation has at most 22 rows, but for turns: a waiter that polls a word and swaps it polls
-/// anew where another came in between. An act changes nothing; or it lowers the budget, which counts the rows
-/// that are left and the handlers that are still to come; or it is a pause, which leaves the budget; or it is
-/// a row of a turn. A turn has at most two rows until somebody changes its word, and then the budget is lower.
-/// So every act that changes something, and is no pause, lowers the price: each row of the budget costs one,
-/// and two for each of the six frames that a processor can have, since it may spoil their turns. No run has
-/// more such acts than the price at its beginning.
+/// Where no processor halts every run is short, with readers and writers, tries, interrupts, and any
+/// number of handlers. An operation has at most 22 rows, and 8 more in `cna`, but for turns: a waiter that
+/// polls a word and swaps it polls anew where another came in between; and a head of `cna` looks for its
+/// successor, and walks along the queue. An act changes nothing; or it lowers the budget, which counts the
+/// rows that are left and the handlers that are still to come; or it is a row of a turn; or it leads nobody
+/// on: a pause, or a step of a head of `cna` that turns on the spot. A turn has few rows until somebody
+/// changes what it looks at, and then the budget is lower. So every act that changes something and leads
+/// somebody on lowers the price: each row of the budget costs one, and as much as it may lengthen the turns
+/// of the six frames that each processor can have. No run has more such acts than the price at its
+/// beginning.
 ///
 /// In `native`, with spinlocks alone and at most three handlers a processor, nobody is ever in a turn. There
 /// every run from rest has at most as many changing acts as the budget says.
@@ -48,8 +50,8 @@ pub fn operations_are_short()
     ensures native { NativeRunsEnd }
 {}
 
-/// Everybody finishes under a fair schedule, in an ordered setup of `virt` or `native`. In `native` no processor
-/// may have more than three handlers. If again and again a round comes in which nobody is preempted and
+/// Everybody finishes under a fair schedule, in an ordered setup of `virt`, `native` or `cna`. In the last two
+/// no processor may have more than three handlers. If again and again a round comes in which nobody is preempted and
 /// each processor makes a step, there is a moment at which every processor has finished. What happens
 /// between two rounds does not matter, and interrupts may come at any time.
 pub fn fair_runs_finish()

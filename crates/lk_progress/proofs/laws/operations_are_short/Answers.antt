@@ -1,5 +1,5 @@
 use Rattle.lk_progress.proofs.Budget.{acts_lower, price_falls, runs_are_short}
-use Rattle.lk_progress.proofs.Measure.{row_descends, begin_is_short}
+use Rattle.lk_progress.proofs.Descends.{row_descends, begin_is_short}
 use Rattle.lk_progress.proofs.Runs.{runs_end, native_runs_end}
 use Rattle.lk_progress.proofs.laws.operations_are_short.Goals as goal
 
