@@ -75,7 +75,9 @@ fn add_ends(alloc: Global, lines: &mut Lines, graph: &Graph) -> Result<(), Memor
 }
 
 // The first lines.
-fn add_sizes(lines: &mut Lines, graph: &Graph) {
+fn add_sizes(lines: &mut Lines, graph: &Graph)
+    requires graph { IsGraph graph.now }
+{
     lines.line("states", graph.states() as u64);
     lines.line("edges", graph.edges() as u64);
     lines.line("deepest", u64::from(graph.deepest()));

@@ -23,7 +23,7 @@ use Rattle.lk_reach.specs.declared.book.Origin.{Origin}
 use Rattle.lk_reach.specs.declared.plan.Extras.{Extras}
 use Rattle.lk_reach.specs.declared.plan.Plan.{Plan}
 use Rattle.lk_reach.specs.Reach.{bare, after, IsMove, AreMoves, IsBegun, IsReached, cpus_of, start_of, state_after}
-use Rattle.lk_reach.specs.Explored.{IsExplored, IsLeft, IsMet, IsSuch, KeepsLike}
+use Rattle.lk_reach.specs.Explored.{AreAllMoves, IsExplored, IsLeft, IsMet, IsSuch, KeepsLike}
 use Rattle.lk_idle.specs.Alike.{AreAlike, GoesOnAlike}
 use Rattle.lk_idle.proofs.Goes.{alike_goes_on}
 use Rattle.lk_reach.proofs.Likeness.{after_alike}
@@ -225,7 +225,7 @@ module _ (laws : Laws) (plan : Plan) (setup : Setup) (begun : IsBegun plan setup
 
   -- Each schedule leads to a state that was met by as few acts, if each state that takes fewer was left.
   module _ (v : SpaceValue) (b : Book) (left most : ℕ)
-      (all : (k : ℕ) → k < left → IsLeft plan setup v b k)
+      (moved : AreAllMoves plan.extras setup plan.acts.items) (all : (k : ℕ) → k < left → IsLeft plan setup v b k)
       (low : (i : ℕ) (o : Origin) → slice_get b.origins.items i ≡ Some o → o.level < most → i < left) where
     one_more : (n : ℕ) (s : Machine) (a : Act) → n < most → IsReached plan setup s → IsMove plan.extras setup a
         → IsMet plan setup v b n s → IsMet plan setup v b (n + 1) (after s a)
@@ -236,8 +236,9 @@ module _ (laws : Laws) (plan : Plan) (setup : Setup) (begun : IsBegun plan setup
         let then = after_alike x.state s alike a (reached_alike x.state s a x.reached reached alike) in
         let origin : x.origin ≡ met.origin = one_value (slice_get b.origins.items met.number) x.origin met.origin x.is met.is in
         let level = ap (λ (o : Origin). o.level) origin in
+        let at = moved.all a move in
         met_sooner v b (x.origin.level + 1) (n + 1) (after s a) (omega (arith, level, soon))
-        (met_like v b (x.origin.level + 1) (after x.state a) (after s a) then (x.next a move).met)
+        (met_like v b (x.origin.level + 1) (after x.state a) (after s a) then (x.next at.0 a at.1).met)
 
     walk : (acts : List Act) (n : ℕ) (m : Machine) → n + length acts ≤ most → AreMoves plan.extras setup acts
         → IsReached plan setup (bare m) → IsMet plan setup v b n (bare m)
@@ -259,7 +260,7 @@ module _ (laws : Laws) (plan : Plan) (setup : Setup) (begun : IsBegun plan setup
   all_met v b left x acts moves low =
       let level = x.first.level in
       met_sooner v b (0 + length acts) (length acts) (state_after plan setup acts) (omega arith)
-      (walk v b left (length acts) x.left low acts 0 (start_of plan setup) (omega arith) moves reached_start (record {
+      (walk v b left (length acts) x.acts x.left low acts 0 (start_of plan setup) (omega arith) moves reached_start (record {
         number = 0;
         like = record {
           state = bare (start_of plan setup);

@@ -1,22 +1,22 @@
 -- How the states of a graph end.
-use Rattle.std.proofs.Common.{◌≡◌, ◌≢◌, ◌⊎◌, ℕ, ◌<◌, ◌≤◌, Bool, true, false, ◌||◌, List, [], ◌∷◌, ◌++◌, refl, sym, ◌∙◌, ap, subst, length, Some, arith, inl, inr}
+use Rattle.std.proofs.Common.{◌≡◌, ◌⊎◌, ℕ, ◌<◌, ◌≤◌, Bool, true, false, ◌||◌, List, [], ◌∷◌, ◌++◌, refl, sym, ◌∙◌, ap, subst, length, Some, arith, inl, inr}
 use Rattle.std.proofs.lemmas.Option.{slice_get-get_or, slice_get_within}
 use Rattle.std.proofs.Common.{get_or}
 use Rattle.std.proofs.lemmas.Bool.{cases_eq, cases_lt}
 use Rattle.std.specs.Prelude.{slice_get}
 use Rattle.lk_abs.proofs.ByIndex.{get-append}
 use Rattle.lk_abs.specs.declared.events.Act.{Act}
+use Rattle.lk_abs.specs.declared.events.Act.TheVariants as act
 use Rattle.lk_rows.specs.Machine.{Machine}
-use Rattle.lk_reach.specs.declared.book.Edge.{Edge}
 use Rattle.lk_reach.specs.declared.graph.Graph.{Graph}
-use Rattle.lk_reach.specs.Ends.{AreDoomed, AreEnds, AreFinishing, AreStuck, AreTurned, CanFinish, IsClosed, IsFirst, IsMarkedOnly, IsPassed}
+use Rattle.lk_reach.specs.Ends.{AreDoomed, AreEnds, AreFinishing, AreStuck, AreTurned, CanFinish, IsClosed, IsFirst, IsLed, IsMarkedOnly, IsPassed, LeadsMarked, StaysAt}
 use Rattle.lk_reach.specs.Ends.{IsShortestToDoom, IsShortestToEnd, IsState, IsStuck, IsWayToStuck, NobodyIsDoomed}
 use Rattle.lk_idle.specs.Alike.{AreAlike}
-use Rattle.lk_reach.specs.Explored.{HasEdge, KeepsLike}
+use Rattle.lk_reach.specs.Explored.{KeepsLike, LeadsTo}
 use Rattle.lk_reach.specs.Reach.{AreMoves, AreOver, IsMove, IsReached, after, run, state_after}
 use Rattle.lk_reach.specs.Space.{Keeps}
 use Rattle.lk_reach.specs.Told.{IsGraph, IsWay, IsWhole}
-use Rattle.lk_reach.proofs.Kept.{one_value}
+use Rattle.lk_reach.proofs.Columns.{leads_act, leads_low, leads_one}
 use Rattle.lk_reach.proofs.Closed.{Laws, like_is, no_sooner, reached_alike, reached_such, reached_then, same_state, whole_met}
 use Rattle.lk_reach.proofs.Likeness.{after_alike, over_alike}
 
@@ -90,22 +90,20 @@ module _ (laws : Laws) (g : Graph) (is : IsGraph g) where
       → IsState g k like.state
   state_like k s like = record { keeps = like.keeps; reached = like.reached }
 
-  -- a state that no edge leaves, and at which not everybody is done
-  pub stuck_at : (k : ℕ) → k < g.left → ((i : ℕ) (e : Edge) → slice_get g.book.edges.items i ≡ Some e → e.state ≢ k)
-      → (s : Machine) → IsState g k s → ¬ AreOver s → IsStuck g s
-  stuck_at k low none s x waits = record { still = still; waits = waits }
+  -- a state that no act leads on from, and at which not everybody is done
+  pub stuck_at : (k : ℕ) → k < g.left → StaysAt g.book k → (s : Machine) → IsState g k s → ¬ AreOver s → IsStuck g s
+  stuck_at k low stays s x waits = record { still = still; waits = waits }
     where
       step : (a : Act) → IsMove g.plan.extras g.machine.setup a → AreAlike (after s a) s
       step a move =
           let l = is.explored.left k low in
           let same : l.state ≡ s = same_state laws g.plan g.machine.setup is.begun g.space k l.state s l.keeps x.keeps l.reached x.reached in
-          let tried = l.next a move in
-          elim tried.edge [
-            | inl e ↦ subst (λ z. AreAlike (after z a) s) same
-                (sym (like_is laws g.plan g.machine.setup is.begun g.space tried.met.number s (after l.state a)
-                (subst (λ (h : ℕ). Keeps g.space h s) (sym e) x.keeps) x.reached tried.met.like))
-            | inr e ↦ absurd (none e.0 e.1 e.2 e.3)
-          ]
+          let at = is.explored.acts.all a move in
+          let tried = l.next at.0 a at.1 in
+          let e = stays at.0 tried.met.number tried.then in
+          subst (λ z. AreAlike (after z a) s) same
+          (sym (like_is laws g.plan g.machine.setup is.begun g.space tried.met.number s (after l.state a)
+          (subst (λ (h : ℕ). Keeps g.space h s) (sym e) x.keeps) x.reached tried.met.like))
 
       still : (acts : List Act) → AreMoves g.plan.extras g.machine.setup acts → AreAlike (run s acts) s
       still [] moves = refl
@@ -114,55 +112,69 @@ module _ (laws : Laws) (g : Graph) (is : IsGraph g) where
           x.reached moves.1 (step a moves.0)
           ∙ still acts moves.1
 
-  -- an edge to a state from which some schedule finishes
-  pub finish_more : (i : ℕ) (e : Edge) → slice_get g.book.edges.items i ≡ Some e
-      → ((s : Machine) → IsState g e.then s → CanFinish g s) → (s : Machine) → IsState g e.state s → CanFinish g s
-  finish_more i e here can s x =
-      let edge = is.explored.edges i e here in
-      let same : edge.state ≡ s = same_state laws g.plan g.machine.setup is.begun g.space e.state edge.state s edge.keeps x.keeps edge.reached x.reached in
-      let like = edge.leads in
-      let rest = can_alike like.state (after s edge.act) like.reached
-      (reached_then laws g.plan g.machine.setup is.begun s edge.act x.reached edge.move)
-      (subst (λ z. AreAlike like.state (after z edge.act)) same like.alike)
-      (can like.state (state_like e.then (after edge.state edge.act) like)) in
-      record { acts = edge.act ∷ rest.acts; moves = (edge.move, rest.moves); over = rest.over }
+  -- what an act led to
+  pub led : (k i j : ℕ) → LeadsTo g.book k i j → IsLed g k i j
+  led k i j leads =
+      let acts = g.plan.acts.items in
+      let a = get_or acts i (act.Step 0) in
+      let at = slice_get-get_or acts i (act.Step 0) (leads_act g.book (length acts) g.left k i j is.columns leads) in
+      let l = is.explored.left k (leads_low g.book (length acts) g.left k i j is.columns leads) in
+      let tried = l.next i a at in
+      record {
+        state = l.state;
+        is = record { keeps = l.keeps; reached = l.reached };
+        act = a;
+        doing = at;
+        leads = subst (λ (h : ℕ). KeepsLike g.plan g.machine.setup g.space h (after l.state a))
+            (leads_one g.book k i j tried.met.number leads tried.then) tried.met.like;
+      }
 
-  -- one edge more is passed
-  pub finishing_more : (i : ℕ) (e : Edge) → slice_get g.book.edges.items i ≡ Some e → (old new : List Bool)
-      → slice_get old e.then ≡ Some true → IsMarkedOnly old new e.state → AreFinishing g old → AreFinishing g new
-  finishing_more i e here old new to only good = record {
+  -- an act to a state from which some schedule finishes
+  pub finish_more : (k i j : ℕ) → LeadsTo g.book k i j → ((s : Machine) → IsState g j s → CanFinish g s)
+      → (s : Machine) → IsState g k s → CanFinish g s
+  finish_more k i j leads can s x =
+      let l = led k i j leads in
+      let move = is.explored.acts.only i l.act l.doing in
+      let same : l.state ≡ s = same_state laws g.plan g.machine.setup is.begun g.space k l.state s l.is.keeps x.keeps l.is.reached x.reached in
+      let like = l.leads in
+      let rest = can_alike like.state (after s l.act) like.reached
+      (reached_then laws g.plan g.machine.setup is.begun s l.act x.reached move)
+      (subst (λ z. AreAlike like.state (after z l.act)) same like.alike)
+      (can like.state (state_like j (after l.state l.act) like)) in
+      record { acts = l.act ∷ rest.acts; moves = (move, rest.moves); over = rest.over }
+
+  -- one state more is passed
+  pub finishing_more : (n : ℕ) (old new : List Bool) → LeadsMarked g old n → IsMarkedOnly old new n → AreFinishing g old
+      → AreFinishing g new
+  finishing_more n old new to only good = record {
     count = only.count ∙ good.count;
     yes = λ k marked s x. elim (only.on k marked) [
       | inl before ↦ good.yes k before s x
-      | inr now ↦ finish_more i e here (good.yes e.then to) s (subst (λ (h : ℕ). IsState g h s) now x)
+      | inr now ↦ finish_more n to.act to.then to.leads (good.yes to.then to.marked) s
+          (subst (λ (h : ℕ). IsState g h s) now x)
     ];
     no = λ k off s x. good.no k (only.off k off).0 s x;
   }
 
-  -- and where its state was marked before, the edges from it on are closed, if those behind it are
-  pub closed_more : (n : ℕ) (e : Edge) → slice_get g.book.edges.items n ≡ Some e → (old new : List Bool) (passes : Bool)
-      → passes ≡ false → IsPassed old new e passes
-      → ((i : ℕ) (d : Edge) → n < i → slice_get g.book.edges.items i ≡ Some d → slice_get old d.then ≡ Some true
-      → slice_get old d.state ≡ Some true)
-      → (i : ℕ) (d : Edge) → n ≤ i → slice_get g.book.edges.items i ≡ Some d → slice_get new d.then ≡ Some true
-      → slice_get new d.state ≡ Some true
-  closed_more n e here old new passes still p before i d high there to =
+  -- and where it was marked before, the acts from it on are closed, if those behind it are
+  pub closed_more : (n : ℕ) (old new : List Bool) (passes : Bool) → passes ≡ false → IsPassed g old new n passes
+      → ((k i j : ℕ) → n < k → LeadsTo g.book k i j → slice_get old j ≡ Some true → slice_get old k ≡ Some true)
+      → (k i j : ℕ) → n ≤ k → LeadsTo g.book k i j → slice_get new j ≡ Some true → slice_get new k ≡ Some true
+  closed_more n old new passes still p before k i j high leads to =
       let same : new ≡ old = p.same still in
-      let was : slice_get old d.then ≡ Some true = subst (λ (ms : List Bool). slice_get ms d.then ≡ Some true) same to in
-      subst (λ (ms : List Bool). slice_get ms d.state ≡ Some true) (sym same) (elim (cases_eq i n) [
-        | inl is ↦
-            let one : e ≡ d = one_value (slice_get g.book.edges.items n) e d here
-            (subst (λ (h : ℕ). slice_get g.book.edges.items h ≡ Some d) is there) in
-            subst (λ (z : Edge). slice_get old z.state ≡ Some true) one
-            (p.closed still (subst (λ (z : Edge). slice_get old z.then ≡ Some true) (sym one) was))
-        | inr ne ↦ before i d (omega (arith, high, ne)) there was
+      let was : slice_get old j ≡ Some true = subst (λ (ms : List Bool). slice_get ms j ≡ Some true) same to in
+      subst (λ (ms : List Bool). slice_get ms k ≡ Some true) (sym same) (elim (cases_eq k n) [
+        | inl e ↦
+            subst (λ (h : ℕ). slice_get old h ≡ Some true) (sym e)
+            (p.closed still i j (subst (λ (h : ℕ). LeadsTo g.book h i j) e leads) was)
+        | inr ne ↦ before k i j (omega (arith, high, ne)) leads was
       ])
 
-  -- whoever is marked can finish, whether the edge passes or not
-  pub passed_good : (i : ℕ) (e : Edge) → slice_get g.book.edges.items i ≡ Some e → (old new : List Bool) (passes : Bool)
-      → IsPassed old new e passes → AreFinishing g old → AreFinishing g new
-  passed_good i e here old new true p good = finishing_more i e here old new (p.moved refl) (p.marked refl) good
-  passed_good i e here old new false p good = subst (λ (ms : List Bool). AreFinishing g ms) (sym (p.same refl)) good
+  -- whoever is marked can finish, whether it passes or not
+  pub passed_good : (n : ℕ) (old new : List Bool) (passes : Bool) → IsPassed g old new n passes → AreFinishing g old
+      → AreFinishing g new
+  passed_good n old new true p good = finishing_more n old new (p.moved refl) (p.marked refl) good
+  passed_good n old new false p good = subst (λ (ms : List Bool). AreFinishing g ms) (sym (p.same refl)) good
 
   -- no schedule leads from what is not marked to what is
   module _ (whole : IsWhole g) (marks : List Bool) (good : AreFinishing g marks) (closed : IsClosed g marks) where
@@ -174,32 +186,28 @@ module _ (laws : Laws) (g : Graph) (is : IsGraph g) where
         let count = good.count in
         let l = is.explored.left k (omega (arith, within, count, whole)) in
         let same : l.state ≡ s = same_state laws g.plan g.machine.setup is.begun g.space k l.state s l.keeps x.keeps l.reached x.reached in
-        let tried = l.next a moves.0 in
+        let at = is.explored.acts.all a moves.0 in
+        let tried = l.next at.0 a at.1 in
         let j = tried.met.number in
         let like = tried.met.like in
         let to = state_like j (after l.state a) like in
         let there = reached_then laws g.plan g.machine.setup is.begun s a x.reached moves.0 in
         let alike = subst (λ z. AreAlike like.state (after z a)) same like.alike in
-        λ over. doomed_at acts j (off_too j like.state to tried.edge) like.state to moves.1
+        λ over. doomed_at acts j (off_too at.0 j like.state to tried.then) like.state to moves.1
         (over_alike (run (after s a) acts) (run like.state acts)
         (run_alike acts (after s a) like.state there like.reached moves.1 (sym alike)) over)
       where
         apart : slice_get marks k ≡ Some true → ⊥
         apart here = cc
 
-        off_too : (j : ℕ) (t : Machine) → IsState g j t → ((j ≡ k) ⊎ HasEdge g.book k j) → slice_get marks j ≡ Some false
-        off_too j t to edge = elim edge [
-          | inl e ↦ subst (λ (h : ℕ). slice_get marks h ≡ Some false) (sym e) off
-          | inr e ↦
-              let inside = slice_get_within g.space.keys j to.keeps.key to.keeps.is in
-              let count = good.count in
-              elim (some_mark marks j (omega (arith, inside, count))) [
-                | inr not_so ↦ not_so
-                | inl is_so ↦
-                    let at = closed e.0 e.1 e.2 (subst (λ (h : ℕ). slice_get marks h ≡ Some true) (sym e.4) is_so) in
-                    absurd (apart (subst (λ (h : ℕ). slice_get marks h ≡ Some true) e.3 at))
-              ]
-        ]
+        off_too : (i j : ℕ) (t : Machine) → IsState g j t → LeadsTo g.book k i j → slice_get marks j ≡ Some false
+        off_too i j t to leads =
+            let inside = slice_get_within g.space.keys j to.keeps.key to.keeps.is in
+            let count = good.count in
+            elim (some_mark marks j (omega (arith, inside, count))) [
+              | inr not_so ↦ not_so
+              | inl is_so ↦ absurd (apart (closed k i j leads is_so))
+            ]
 
     pub doomed_all : (turned : List Bool) → AreTurned marks turned → AreDoomed g turned
     doomed_all turned t = record {

@@ -9,7 +9,7 @@ use Rattle.lk_rows.specs.Machine.{Machine}
 use Rattle.lk_reach.specs.declared.deeds.Sought.{Sought}
 use Rattle.lk_reach.specs.declared.graph.Graph.{Graph}
 use Rattle.lk_reach.specs.Deeds.{IsNeverDone, IsShortestToDeed, IsSought}
-use Rattle.lk_reach.specs.Explored.{AreAllMoves, IsExplored, IsStepped, IsSuch}
+use Rattle.lk_reach.specs.Explored.{IsExplored, IsStepped, IsSuch}
 use Rattle.lk_reach.specs.Reach.{AreMoves, IsBegun, IsReached, cpus_of, state_after}
 use Rattle.lk_reach.specs.Seeking.{IsFirstDeed, NameCpus, NoneAt}
 use Rattle.lk_reach.specs.Space.{Keeps}
@@ -25,8 +25,8 @@ graph_same g m such is =
     let back = sym such.setup in
     record {
       begun = subst (λ (z : Setup). IsBegun g.plan z) back is.begun;
-      acts = subst (λ (z : Setup). AreAllMoves g.plan.extras z g.plan.acts.items) back is.acts;
       explored = subst (λ (z : Setup). IsExplored g.plan z g.space g.book g.left) back is.explored;
+      columns = is.columns;
       within = is.within;
       cpus = subst (λ (z : Setup). g.cpus ≡ cpus_of z) back is.cpus;
       few = is.few;
@@ -67,7 +67,7 @@ module _ (laws : Laws) (g : Graph) (is : IsGraph g) where
   }
 
   pub acts_name_cpus : NameCpus g.machine.setup g.plan.acts.items
-  acts_name_cpus i a at = move_in_range g.plan.extras g.machine.setup a (is.acts.only i a at)
+  acts_name_cpus i a at = move_in_range g.plan.extras g.machine.setup a (is.explored.acts.only i a at)
 
   pub shortest_deed : (sought : Sought) (k i : ℕ) (acts : List Act) (a : Act)
       → IsFirstDeed g.machine.setup g.space g.plan.acts.items sought k i → slice_get g.plan.acts.items i ≡ Some a
@@ -77,7 +77,7 @@ module _ (laws : Laws) (g : Graph) (is : IsGraph g) where
       let same : found.done.act ≡ a = one_value (slice_get g.plan.acts.items i) found.done.act a found.done.is doing in
       record {
         moves = to.moves;
-        move = is.acts.only i a doing;
+        move = is.explored.acts.only i a doing;
         does = subst (λ (b : Act). IsSought sought s b) same (found.done.does s to.leads (such_of acts to.moves));
         shortest = λ others other moves move does.
             elim (cases_lt (length others) (length acts)) [
@@ -86,7 +86,7 @@ module _ (laws : Laws) (g : Graph) (is : IsGraph g) where
                   let count = to.count in
                   let sooner = no_sooner laws g.plan g.machine.setup is.begun g.space g.book g.left is.explored is.within
                   k to.origin to.is others moves (omega (arith, less, count)) in
-                  let at = is.acts.all other move in
+                  let at = is.explored.acts.all other move in
                   let like = sooner.2 in
                   let t = state_after g.plan g.machine.setup others in
                   absurd (found.first sooner.0 sooner.1 at.0 other at.1 like.state like.keeps
@@ -100,7 +100,7 @@ module _ (laws : Laws) (g : Graph) (is : IsGraph g) where
       → IsNeverDone g sought
   never_done sought none whole acts last moves move does =
       let met = whole_met laws g.plan g.machine.setup is.begun g.space g.book g.left is.explored whole acts moves in
-      let at = is.acts.all last move in
+      let at = is.explored.acts.all last move in
       let like = met.like in
       let t = state_after g.plan g.machine.setup acts in
       none met.number (slice_get_within g.space.keys met.number like.keeps.key like.keeps.is) at.0 last at.1

@@ -1,41 +1,35 @@
 -- What is written down of an exploration grows, and what is known of it stays so.
-use Rattle.std.proofs.Common.{◌≡◌, ℕ, ◌⊎◌, ◌+◌, List, [], ◌∷◌, sym, ◌∙◌, ap, subst, length, Option, Some, inl, inr}
+use Rattle.std.proofs.Common.{◌≡◌, ℕ, ◌<◌, ◌⊎◌, ◌+◌, List, [], ◌∷◌, sym, subst, length, Option, Some, inl, inr}
 use Rattle.std.specs.Prelude.{slice_get}
 use Rattle.lk_abs.specs.declared.events.Act.{Act}
 use Rattle.lk_rows.specs.declared.setup.Setup.{Setup}
 use Rattle.lk_rows.specs.Machine.{Machine}
 use Rattle.lk_abs.specs.declared.events.Event.{Event}
-use Rattle.lk_abs.proofs.ByIndex.{get-append, get-append_new}
+use Rattle.lk_abs.proofs.ByIndex.{get-append}
 use Rattle.lk_reach.specs.declared.book.Book.{Book}
-use Rattle.lk_reach.specs.declared.book.Edge.{Edge}
 use Rattle.lk_reach.specs.declared.book.Origin.{Origin}
 use Rattle.lk_reach.specs.declared.plan.Plan.{Plan}
 use Rattle.lk_reach.specs.Kinds.{kind_value}
 use Rattle.lk_reach.specs.Reach.{after}
 use Rattle.lk_reach.specs.Space.{SpaceValue, Grows, IsFront}
-use Rattle.lk_reach.specs.Explored.{AddsEdge, AddsOrigin, Continues, HasEdge}
-use Rattle.lk_reach.specs.Explored.{IsAct, IsEdge, IsGood, IsLeft, IsMet}
+use Rattle.lk_reach.specs.Explored.{AddsOrigin, Continues}
+use Rattle.lk_reach.specs.Explored.{IsAct, IsGood, IsLeft, IsMet}
 use Rattle.lk_reach.specs.Explored.{IsOrigin, IsTelling, IsTried, KeepsLike}
 use Rattle.lk_reach.specs.Explored.{Writes}
+use Rattle.lk_reach.proofs.Columns.{leads_grown}
 use Rattle.lk_reach.proofs.Kept.{front_at, front_self, keeps_grown}
 
 -- what a book adds
-pub edge_front : (xs ys : List Edge) (k j : ℕ) → AddsEdge xs ys k j → IsFront xs ys
-edge_front xs ys k j adds = elim adds [
-  | inl same ↦ subst (IsFront xs) (sym same.1) (front_self xs)
-  | inr new ↦ (new.0 ∷ [], new.3)
-]
-
 pub origin_front : (xs ys : List Origin) (j : ℕ) (o : Origin) → AddsOrigin xs ys j o → IsFront xs ys
 origin_front xs ys j o adds = elim adds [
   | inl same ↦ subst (IsFront xs) (sym same.1) (front_self xs)
   | inr new ↦ (o ∷ [], new.1)
 ]
 
-pub continues : (b c : Book) (state act then : ℕ) (event : Option Event) → Writes b c state act then event
-    → Continues b c
-continues b c state act then event w = record {
-  edges = edge_front b.edges.items c.edges.items state then w.edges;
+pub continues : (b c : Book) (state act then : ℕ) (event : Option Event) → act < length b.thens.items
+    → Writes b c state act then event → Continues b c
+continues b c state act then event low w = record {
+  thens = leads_grown b c act then low w.thens;
   origins = origin_front b.origins.items c.origins.items then w.origin w.origins;
   firsts = w.firsts.kept;
 }
@@ -49,30 +43,6 @@ origin_cases xs ys j o adds i p here = elim adds [
     | inl old ↦ inl old
     | inr last ↦ inr (last.0, new.0, last.1)
   ]
-]
-
-pub edge_cases : (xs ys : List Edge) (k j : ℕ) → AddsEdge xs ys k j → (i : ℕ) (e : Edge) → slice_get ys i ≡ Some e
-    → (slice_get xs i ≡ Some e) ⊎ ((e.state ≡ k) × (e.then ≡ j))
-edge_cases xs ys k j adds i e here = elim adds [
-  | inl same ↦ inl (subst (λ (zs : List Edge). slice_get zs i ≡ Some e) same.1 here)
-  | inr new ↦ elim (get-append xs new.0 i e (subst (λ (zs : List Edge). slice_get zs i ≡ Some e) new.3 here)) [
-    | inl old ↦ inl old
-    | inr last ↦ inr (ap (λ (z : Edge). z.state) last.1 ∙ new.1, ap (λ (z : Edge). z.then) last.1 ∙ new.2)
-  ]
-]
-
--- the edge of an act that leads to another number stands there
-pub edge_there : (b c : Book) (k j : ℕ) → AddsEdge b.edges.items c.edges.items k j → (j ≡ k) ⊎ HasEdge c k j
-edge_there b c k j adds = elim adds [
-  | inl same ↦ inl same.0
-  | inr new ↦ inr (
-    length b.edges.items,
-    new.0,
-    subst (λ (zs : List Edge). slice_get zs (length b.edges.items) ≡ Some new.0) (sym new.3)
-        (get-append_new b.edges.items new.0),
-    new.1,
-    new.2,
-  )
 ]
 
 module _ (plan : Plan) (setup : Setup) where
@@ -90,16 +60,6 @@ module _ (plan : Plan) (setup : Setup) where
     keeps = keeps_grown v w g k x.state x.keeps;
     reached = x.reached;
     alike = x.alike;
-  }
-
-  pub edge_grown : (v w : SpaceValue) → Grows v w → (k j : ℕ) → IsEdge plan setup v k j → IsEdge plan setup w k j
-  edge_grown v w g k j x = record {
-    state = x.state;
-    keeps = keeps_grown v w g k x.state x.keeps;
-    reached = x.reached;
-    act = x.act;
-    move = x.move;
-    leads = like_grown v w g j (after x.state x.act) x.leads;
   }
 
   module _ (v w : SpaceValue) (g : Grows v w) (b c : Book) (more : Continues b c) where
@@ -139,13 +99,11 @@ module _ (plan : Plan) (setup : Setup) where
       soon = x.soon;
     }
 
-    pub tried_grown : (k n : ℕ) (s : Machine) (a : Act) → IsTried plan setup v b k n s a → IsTried plan setup w c k n s a
-    tried_grown k n s a x = record {
+    pub tried_grown : (k i n : ℕ) (s : Machine) (a : Act) → IsTried plan setup v b k i n s a
+        → IsTried plan setup w c k i n s a
+    tried_grown k i n s a x = record {
       met = met_grown n (after s a) x.met;
-      edge = elim x.edge [
-        | inl same ↦ inl same
-        | inr e ↦ inr (e.0, e.1, front_at b.edges.items c.edges.items more.edges e.0 e.1 e.2, e.3, e.4)
-      ];
+      then = more.thens k i x.met.number x.then;
       told = λ e tells. let t = x.told e tells in
           record { origin = t.origin; is = more.firsts (kind_value e.what) t.origin t.is; soon = t.soon };
     }
@@ -157,5 +115,5 @@ module _ (plan : Plan) (setup : Setup) where
       reached = x.reached;
       origin = x.origin;
       is = front_at b.origins.items c.origins.items more.origins k x.origin x.is;
-      next = λ a move. tried_grown k (x.origin.level + 1) x.state a (x.next a move);
+      next = λ i a at. tried_grown k i (x.origin.level + 1) x.state a (x.next i a at);
     }

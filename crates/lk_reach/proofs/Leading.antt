@@ -55,7 +55,7 @@ module _ (laws : Laws) (g : Graph) (is : IsGraph g) where
       → LeadsOn g i k (a ∷ acts)
   leads_then i j k a acts up before x =
       let o = origin_of j i a before up in
-      let move = is.acts.only before.origin.act a before.doing in
+      let move = is.explored.acts.only before.origin.act a before.doing in
       let same_act : o.made.act ≡ a = one_value (slice_get g.plan.acts.items before.origin.act) o.made.act a o.made.doing before.doing in
       record {
         moves = (move, x.moves);
@@ -158,7 +158,7 @@ module _ (laws : Laws) (g : Graph) (is : IsGraph g) where
       let same_act : t.made.act ≡ a = one_value (slice_get g.plan.acts.items o.act) t.made.act a t.made.doing doing in
       record {
         moves = to.moves;
-        move = is.acts.only o.act a doing;
+        move = is.explored.acts.only o.act a doing;
         event = t.event;
         tells = subst (λ z. (next s z).1 ≡ Some t.event) same_act (subst (λ (z : Machine). (next z t.made.act).1 ≡ Some t.event) same t.tells);
         is = t.is;
@@ -178,7 +178,8 @@ module _ (laws : Laws) (g : Graph) (is : IsGraph g) where
       let goes = reached_alike laws g.plan g.machine.setup is.begun l.state s a l.reached
       (record { acts = acts; moves = t.moves; there = refl }) alike in
       let level = ap (λ (q : Origin). q.level) (one_value (slice_get g.book.origins.items met.number) l.origin met.origin l.is met.is) in
-      let told = (l.next a t.move).told t.event (goes.tells ∙ t.tells) in
+      let at = is.explored.acts.all a t.move in
+      let told = (l.next at.0 a at.1).told t.event (goes.tells ∙ t.tells) in
       let high = told.soon in
       record {
         origin = told.origin;

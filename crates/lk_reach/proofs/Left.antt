@@ -12,20 +12,20 @@ use Rattle.lk_abs.specs.declared.events.Event.{Event}
 use Rattle.lk_abs.proofs.ByIndex.{get_cases}
 use Rattle.lk_rows.specs.Acts.{next}
 use Rattle.lk_reach.specs.declared.book.Book.{Book}
-use Rattle.lk_reach.specs.declared.book.Edge.{Edge}
 use Rattle.lk_reach.specs.declared.book.Origin.{Origin}
 use Rattle.lk_reach.specs.declared.plan.Plan.{Plan}
 use Rattle.lk_reach.specs.Kinds.{kind_value}
 use Rattle.lk_reach.specs.Reach.{IsBegun, IsMove, after, bare, start_of}
 use Rattle.lk_reach.specs.Space.{SpaceValue, Keeps, Grows, IsLoadable}
 use Rattle.lk_reach.specs.Explored.{AreAllMoves, Continues}
-use Rattle.lk_reach.specs.Explored.{IsAct, IsEdge, IsExplored, IsGood, IsHalfLeft, IsLeft}
+use Rattle.lk_reach.specs.Explored.{AreColumns, IsAct, IsExplored, IsGood, IsHalfLeft, IsLeft}
 use Rattle.lk_reach.specs.Explored.{IsNew, IsOrigin, IsStepped, IsSuch, IsTelling, IsTried}
 use Rattle.lk_reach.specs.Explored.{KeepsLike}
 use Rattle.lk_idle.specs.Alike.{AreAlike}
 use Rattle.lk_reach.specs.Explored.{Writes}
 use Rattle.lk_reach.proofs.Kept.{front_at, front_self, front_then, keeps_grown, keeps_one, one_value}
-use Rattle.lk_reach.proofs.Grown.{continues, edge_cases, edge_grown, edge_there, good_grown, left_grown, origin_cases, origin_grown, telling_grown, tried_grown}
+use Rattle.lk_reach.proofs.Columns.{columns_push, leads_now}
+use Rattle.lk_reach.proofs.Grown.{continues, good_grown, left_grown, origin_cases, origin_grown, telling_grown, tried_grown}
 use Rattle.lk_reach.proofs.Closed.{Laws, reached_sound, reached_start, reached_such, reached_then}
 
 pub grows_self : (v : SpaceValue) → Grows v v
@@ -102,7 +102,7 @@ pub record IsMade (plan : Plan) (setup : Setup) (v w : SpaceValue) (b c : Book) 
 
 module _ (plan : Plan) (setup : Setup) where
   -- what is met has an origin
-  has_origin : (v : SpaceValue) (b : Book) (left k : ℕ) → IsExplored plan setup v b left → k < length v.keys
+  pub has_origin : (v : SpaceValue) (b : Book) (left k : ℕ) → IsExplored plan setup v b left → k < length v.keys
       → (o : Origin) × (slice_get b.origins.items k ≡ Some o)
   has_origin v b left k x low =
       elim (get_cases b.origins.items k) [
@@ -126,23 +126,23 @@ module _ (plan : Plan) (setup : Setup) where
         next = λ i a none. absurd (omega (arith, none));
       }
 
-  pub left_now : (v : SpaceValue) (b : Book) (k n : ℕ) (acts : List Act) → AreAllMoves plan.extras setup acts
-      → length acts ≤ n → IsHalfLeft plan setup v b k acts n → IsLeft plan setup v b k
-  left_now v b k n acts all most x = record {
+  pub left_now : (v : SpaceValue) (b : Book) (k n : ℕ) → length plan.acts.items ≤ n
+      → IsHalfLeft plan setup v b k plan.acts.items n → IsLeft plan setup v b k
+  left_now v b k n most x = record {
     state = x.state;
     keeps = x.keeps;
     reached = x.reached;
     origin = x.origin;
     is = x.is;
-    next = λ a move. let at = all.all a move in
-        let low = slice_get_within acts at.0 a at.1 in
-        x.next at.0 a (omega (arith, low, most)) at.1;
+    next = λ i a at. let low = slice_get_within plan.acts.items i a at in
+        x.next i a (omega (arith, low, most)) at;
   }
 
   -- one more is left
   pub explored_next : (v : SpaceValue) (b : Book) (n : ℕ) → IsExplored plan setup v b n → IsLeft plan setup v b n
       → IsExplored plan setup v b (n + 1)
   explored_next v b n x now = record {
+    acts = x.acts;
     count = x.count;
     first = x.first;
     good = x.good;
@@ -152,7 +152,6 @@ module _ (plan : Plan) (setup : Setup) where
         let before = x.near i o now.origin here now.is in
         let up = x.sorted n (n + 1) now.origin p now.is there (omega arith) in
         omega (arith, before, up);
-    edges = x.edges;
     tellings = x.tellings;
     told_near = λ kind o p here there.
         let before = x.told_near kind o now.origin here now.is in
@@ -176,12 +175,18 @@ module _ (plan : Plan) (setup : Setup) where
 
   module _ (laws : Laws) (begun : IsBegun plan setup) (v w : SpaceValue) (b c : Book) (k number : ℕ) (a : Act)
       (made : IsMade plan setup v w b c k number a) (half : IsHalfLeft plan setup v b k plan.acts.items number)
-      (x : IsExplored plan setup v b k) where
+      (x : IsExplored plan setup v b k) (columns : AreColumns b (length plan.acts.items) k number) where
     such : IsSuch setup half.state
     such = reached_such laws plan setup begun half.state half.reached
 
+    in_columns : number < length b.thens.items
+    in_columns =
+        let low = slice_get_within plan.acts.items number a made.doing in
+        let width = columns.width in
+        omega (arith, low, width)
+
     more : Continues b c
-    more = continues b c k number made.then made.event made.writes
+    more = continues b c k number made.then made.event in_columns made.writes
 
     abbrev origin : Origin
     origin = made.writes.origin
@@ -278,6 +283,7 @@ module _ (plan : Plan) (setup : Setup) where
 
     pub explored_then : IsExplored plan setup w c k
     explored_then = record {
+      acts = x.acts;
       count = count;
       first = record {
         keeps = keeps_grown v w made.grows 0 (bare (start_of plan setup)) x.first.keeps;
@@ -320,20 +326,6 @@ module _ (plan : Plan) (setup : Setup) where
           let e = ap (λ (q : Origin). q.level) (one_value (slice_get c.origins.items k) p half.origin now here_is) in
           let most = low_level i o here in
           omega (arith, most, e);
-      edges = λ i e here.
-          elim (edge_cases b.edges.items c.edges.items k made.then made.writes.edges i e here) [
-            | inl old ↦ edge_grown plan setup v w made.grows e.state e.then (x.edges i e old)
-            | inr new ↦
-                subst (λ (h : ℕ). IsEdge plan setup w h e.then) (sym new.0)
-                (subst (λ (h : ℕ). IsEdge plan setup w k h) (sym new.1) (record {
-                  state = half.state;
-                  keeps = keeps_grown v w made.grows k half.state half.keeps;
-                  reached = half.reached;
-                  act = a;
-                  move = made.move;
-                  leads = leads;
-                }))
-          ];
       tellings = λ kind o here.
           elim (made.writes.firsts.only kind o here) [
             | inl old ↦ telling_grown plan setup v w made.grows b c more o kind (x.tellings kind o old)
@@ -352,7 +344,7 @@ module _ (plan : Plan) (setup : Setup) where
       left = λ i low. left_grown plan setup v w made.grows b c more i (x.left i low);
     }
 
-    tried : IsTried plan setup w c k (half.origin.level + 1) half.state a
+    tried : IsTried plan setup w c k number (half.origin.level + 1) half.state a
     tried =
         let o = has_origin w c k made.then explored_then then_low in
         record {
@@ -363,7 +355,7 @@ module _ (plan : Plan) (setup : Setup) where
             is = o.1;
             soon = low_level made.then o.0 o.1;
           };
-          edge = edge_there b c k made.then made.writes.edges;
+          then = leads_now b c number made.then in_columns made.writes.thens (length plan.acts.items) k columns;
           told = λ e tells.
               let t = made.writes.firsts.told e (made.told half.state half.keeps such ∙ tells) in
               record { origin = t.0; is = t.1; soon = told_level (kind_value e.what) t.0 t.1 };
@@ -381,23 +373,29 @@ module _ (plan : Plan) (setup : Setup) where
             | inl e ↦
                 let same : a ≡ d = one_value (slice_get plan.acts.items number) a d made.doing
                 (subst (λ (h : ℕ). slice_get plan.acts.items h ≡ Some d) e here) in
-                subst (λ z. IsTried plan setup w c k (half.origin.level + 1) half.state z) same tried
+                subst (λ (h : ℕ). IsTried plan setup w c k h (half.origin.level + 1) half.state d) (sym e)
+                (subst (λ z. IsTried plan setup w c k number (half.origin.level + 1) half.state z) same tried)
             | inr ne ↦
-                tried_grown plan setup v w made.grows b c more k (half.origin.level + 1) half.state d
+                tried_grown plan setup v w made.grows b c more k i (half.origin.level + 1) half.state d
                 (half.next i d (omega (arith, low, ne)) here)
           ];
     }
 
+    pub columns_then : AreColumns c (length plan.acts.items) k (number + 1)
+    columns_then = columns_push b c number made.then in_columns made.writes.thens (length plan.acts.items) k columns made.writes.edges
+
   -- nothing is left yet
-  pub explored_start : (laws : Laws) → IsBegun plan setup → (v : SpaceValue) (b : Book) (n : ℕ) → IsNew b
+  pub explored_start : (laws : Laws) → IsBegun plan setup → AreAllMoves plan.extras setup plan.acts.items
+      → (v : SpaceValue) (b : Book) (n : ℕ) → IsNew b (length plan.acts.items)
       → Keeps v n (bare (start_of plan setup)) → ((k : ℕ) → k < length v.keys → k ≡ n)
       → IsExplored plan setup v b 0
-  explored_start laws begun v b n new keeps one =
+  explored_start laws begun acts v b n new keeps one =
       let low = slice_get_within v.keys n keeps.key keeps.is in
       let zero_is : 0 ≡ n = one 0 (omega (arith, low)) in
       let keeps_first : Keeps v 0 (bare (start_of plan setup)) =
       subst (λ (h : ℕ). Keeps v h (bare (start_of plan setup))) (sym zero_is) keeps in
       record {
+        acts = acts;
         count = size low zero_is;
         first = record {
           keeps = keeps_first;
@@ -412,7 +410,6 @@ module _ (plan : Plan) (setup : Setup) where
         sorted = λ i j o p here there before. absurd (alone j p there (omega (arith, before)));
         near = λ i o p here there.
             let e = level_zero i o here in omega (arith, e);
-        edges = λ i e here. absurd (no_edge i e (ap (λ (es : List Edge). slice_get es i) (sym new.edges) ∙ here));
         tellings = λ kind o here. absurd (new.firsts kind o here);
         told_near = λ kind o p here there. absurd (new.firsts kind o here);
         left = λ k none. absurd (omega (arith, none));
@@ -442,6 +439,3 @@ module _ (plan : Plan) (setup : Setup) where
             (ap (λ (os : List Origin). slice_get os 0) new.origins) in
             ap (λ (p : Origin). p.level) same ∙ new.level
       ]
-
-      no_edge : (i : ℕ) (e : Edge) → slice_get [] i ≡ Some e → ⊥
-      no_edge i e here = cc

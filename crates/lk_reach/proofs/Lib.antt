@@ -1,6 +1,8 @@
 pub mod Counts
 pub mod Likeness
 pub mod Closed
+pub mod Columns
+pub mod Deepest
 pub mod Kept
 pub mod Formed
 pub mod Grown

@@ -2,16 +2,33 @@
 use Rattle.std.specs.Prelude.{◌≡◌, ◌≢◌, ◌<◌, ◌≤◌, ◌⊎◌, ℕ, Bool, true, false, not, List, length, slice_get, Some}
 use Rattle.lk_abs.specs.declared.events.Act.{Act}
 use Rattle.lk_rows.specs.Machine.{Machine}
-use Rattle.lk_reach.specs.declared.book.Edge.{Edge}
+use Rattle.lk_reach.specs.declared.book.Book.{Book}
 use Rattle.lk_reach.specs.declared.graph.Graph.{Graph}
-use Rattle.lk_reach.specs.Reach.{AreMoves, AreOver, IsReached, run, state_after}
+use Rattle.lk_reach.specs.Edges.{edges_in}
+use Rattle.lk_reach.specs.Reach.{AreMoves, AreOver, IsReached, after, run, state_after}
 use Rattle.lk_idle.specs.Alike.{AreAlike}
+use Rattle.lk_reach.specs.Explored.{KeepsLike, LeadsTo}
 use Rattle.lk_reach.specs.Space.{Keeps}
 
 -- the number is that of this state, which a schedule reaches
 pub record IsState (g : Graph) (k : ℕ) (s : Machine) : Type 0 where
   pub keeps : Keeps g.space k s
   pub reached : IsReached g.plan g.machine.setup s
+
+-- the act of number i leads from the state of number k to one like that of number j
+pub record IsLed (g : Graph) (k i j : ℕ) : Type 0 where
+  pub state : Machine
+  pub is : IsState g k state
+  pub act : Act
+  pub doing : slice_get g.plan.acts.items i ≡ Some act
+  pub leads : KeepsLike g.plan g.machine.setup g.space j (after state act)
+
+-- So many acts led from the state of a number to that of another one: of the acts that are tried, on the states
+-- that were left. For each of them the number is written down to which it led.
+pub record CountsEdges (g : Graph) (n : ℕ) : Type 0 where
+  pub count : n ≡ edges_in g.book.thens.items
+  pub all : (k i : ℕ) → k < g.left → i < length g.plan.acts.items → (j : ℕ) × LeadsTo g.book k i j
+  pub led : (k i j : ℕ) → LeadsTo g.book k i j → IsLed g k i j
 
 -- each mark says whether everybody is done at the state of its number
 pub record AreEnds (g : Graph) (marks : List Bool) : Type 0 where
@@ -51,10 +68,9 @@ pub record AreFinishing (g : Graph) (marks : List Bool) : Type 0 where
   pub yes : (k : ℕ) → slice_get marks k ≡ Some true → (s : Machine) → IsState g k s → CanFinish g s
   pub no : (k : ℕ) → slice_get marks k ≡ Some false → (s : Machine) → IsState g k s → ¬ AreOver s
 
--- an edge leads to a marked state from marked ones alone
+-- an act leads to a marked state from marked ones alone
 abbrev pub IsClosed : Graph → List Bool → Type 0
-IsClosed g marks = (i : ℕ) (e : Edge) → slice_get g.book.edges.items i ≡ Some e
-    → slice_get marks e.then ≡ Some true → slice_get marks e.state ≡ Some true
+IsClosed g marks = (k i j : ℕ) → LeadsTo g.book k i j → slice_get marks j ≡ Some true → slice_get marks k ≡ Some true
 
 -- one mark is set
 pub record IsMarkedOnly (old new : List Bool) (n : ℕ) : Type 0 where
@@ -62,13 +78,31 @@ pub record IsMarkedOnly (old new : List Bool) (n : ℕ) : Type 0 where
   pub off : (k : ℕ) → slice_get new k ≡ Some false → (slice_get old k ≡ Some false) × (k ≢ n)
   pub on : (k : ℕ) → slice_get new k ≡ Some true → (slice_get old k ≡ Some true) ⊎ (k ≡ n)
 
--- an edge leads to a marked state, and its own is marked now; or nothing is changed, and it was marked
--- before, if the edge leads to a marked one
-pub record IsPassed (old new : List Bool) (e : Edge) (passes : Bool) : Type 0 where
-  pub moved : passes ≡ true → slice_get old e.then ≡ Some true
-  pub marked : passes ≡ true → IsMarkedOnly old new e.state
+-- some act leads from the state to a marked one
+pub record LeadsMarked (g : Graph) (marks : List Bool) (k : ℕ) : Type 0 where
+  pub act : ℕ
+  pub then : ℕ
+  pub leads : LeadsTo g.book k act then
+  pub marked : slice_get marks then ≡ Some true
+
+-- An act leads from the state to a marked one, and it is marked now. Or nothing is changed, and it was marked before
+-- if some act leads to a marked one.
+pub record IsPassed (g : Graph) (old new : List Bool) (k : ℕ) (passes : Bool) : Type 0 where
+  pub moved : passes ≡ true → LeadsMarked g old k
+  pub marked : passes ≡ true → IsMarkedOnly old new k
   pub same : passes ≡ false → new ≡ old
-  pub closed : passes ≡ false → slice_get old e.then ≡ Some true → slice_get old e.state ≡ Some true
+  pub closed : passes ≡ false → (i j : ℕ) → LeadsTo g.book k i j → slice_get old j ≡ Some true
+      → slice_get old k ≡ Some true
+
+-- no act leads on from the state of this number
+abbrev pub StaysAt : Book → ℕ → Type 0
+StaysAt b k = (i j : ℕ) → LeadsTo b k i j → j ≡ k
+
+-- the state is marked, if some act leads on from it
+pub record IsMarkedGoing (b : Book) (old new : List Bool) (n : ℕ) : Type 0 where
+  pub count : length new ≡ length old
+  pub off : (k : ℕ) → slice_get new k ≡ Some false → slice_get old k ≡ Some false
+  pub stays : slice_get new n ≡ Some false → StaysAt b n
 
 -- each mark is turned round
 pub record AreTurned (old new : List Bool) : Type 0 where

@@ -1,6 +1,6 @@
 -- What an exploration knows: which states it has met, by how many acts, and which of them it has left
 -- by every act.
-use Rattle.std.specs.Prelude.{◌≡◌, ◌≢◌, ◌<◌, ◌≤◌, ◌+◌, ◌++◌, ◌∷◌, [], ◌⊎◌, ℕ, List, length, slice_get, Option, Some}
+use Rattle.std.specs.Prelude.{◌≡◌, ◌≢◌, ◌<◌, ◌≤◌, ◌+◌, ◌++◌, ◌∷◌, [], ◌⊎◌, ℕ, List, length, slice_get, slice_index_or, slice_set, Option, Some}
 use Rattle.lk_abs.specs.declared.events.Act.{Act}
 use Rattle.lk_abs.specs.declared.events.Event.{Event}
 use Rattle.lk_rows.specs.declared.setup.Setup.{Setup}
@@ -9,10 +9,10 @@ use Rattle.lk_rows.specs.Acts.{next}
 use Rattle.lk_law.specs.Sound.{IsSound}
 use Rattle.lk_idle.specs.Alike.{AreAlike}
 use Rattle.lk_reach.specs.declared.book.Book.{Book}
-use Rattle.lk_reach.specs.declared.book.Edge.{Edge}
 use Rattle.lk_reach.specs.declared.book.Origin.{Origin}
 use Rattle.lk_reach.specs.declared.plan.Extras.{Extras}
 use Rattle.lk_reach.specs.declared.plan.Plan.{Plan}
+use Rattle.lk_reach.specs.Edges.{edges_in, one_away}
 use Rattle.lk_reach.specs.Kinds.{kind_value}
 use Rattle.lk_reach.specs.Reach.{IsBegun, IsMove, IsReached, after, bare, cpus_of, start_of}
 use Rattle.lk_reach.specs.Space.{IsFront, SpaceValue, Keeps}
@@ -48,15 +48,6 @@ pub record KeepsLike (plan : Plan) (setup : Setup) (v : SpaceValue) (k : ℕ) (s
 -- such a state is known
 abbrev pub KnowsLike : Plan → Setup → SpaceValue → Machine → Type 0
 KnowsLike plan setup v s = (k : ℕ) × KeepsLike plan setup v k s
-
--- an act leads from the state of the one number to one like that of the other
-pub record IsEdge (plan : Plan) (setup : Setup) (v : SpaceValue) (k j : ℕ) : Type 0 where
-  pub state : Machine
-  pub keeps : Keeps v k state
-  pub reached : IsReached plan setup state
-  pub act : Act
-  pub move : IsMove plan.extras setup act
-  pub leads : KeepsLike plan setup v j (after state act)
 
 -- the act of an origin, made on its state
 pub record IsAct (plan : Plan) (setup : Setup) (v : SpaceValue) (b : Book) (o : Origin) : Type 0 where
@@ -96,16 +87,17 @@ pub record IsMet (plan : Plan) (setup : Setup) (v : SpaceValue) (b : Book) (most
   pub is : slice_get b.origins.items number ≡ Some origin
   pub soon : origin.level ≤ most
 
--- the edge stands in the book
-abbrev pub HasEdge : Book → ℕ → ℕ → Type 0
-HasEdge b k j = (i : ℕ) × (e : Edge) × (slice_get b.edges.items i ≡ Some e) × (e.state ≡ k) × (e.then ≡ j)
+-- the act of number i was made on the state of number k, and led to that of number j
+pub record LeadsTo (b : Book) (k i j : ℕ) : Type 0 where
+  pub column : List ℕ
+  pub is : slice_get b.thens.items i ≡ Some column
+  pub then : slice_get column k ≡ Some j
 
--- what an act on the state of this number leads to is known: one like the state itself, or like that
--- of an edge
-pub record IsTried (plan : Plan) (setup : Setup) (v : SpaceValue) (b : Book) (k most : ℕ) (s : Machine) (a : Act)
+-- what the act of number i on the state of number k leads to is known, and its number written down
+pub record IsTried (plan : Plan) (setup : Setup) (v : SpaceValue) (b : Book) (k i most : ℕ) (s : Machine) (a : Act)
     : Type 0 where
   pub met : IsMet plan setup v b most (after s a)
-  pub edge : (met.number ≡ k) ⊎ HasEdge b k met.number
+  pub then : LeadsTo b k i met.number
   pub told : (e : Event) → (next s a).1 ≡ Some e → IsTold b (kind_value e.what) most
 
 -- the first acts of these were tried on the state
@@ -116,7 +108,7 @@ pub record IsHalfLeft (plan : Plan) (setup : Setup) (v : SpaceValue) (b : Book) 
   pub origin : Origin
   pub is : slice_get b.origins.items k ≡ Some origin
   pub next : (i : ℕ) (a : Act) → i < n → slice_get acts i ≡ Some a
-      → IsTried plan setup v b k (origin.level + 1) state a
+      → IsTried plan setup v b k i (origin.level + 1) state a
 
 -- and all acts that are explored
 pub record IsLeft (plan : Plan) (setup : Setup) (v : SpaceValue) (b : Book) (k : ℕ) : Type 0 where
@@ -125,7 +117,8 @@ pub record IsLeft (plan : Plan) (setup : Setup) (v : SpaceValue) (b : Book) (k :
   pub reached : IsReached plan setup state
   pub origin : Origin
   pub is : slice_get b.origins.items k ≡ Some origin
-  pub next : (a : Act) → IsMove plan.extras setup a → IsTried plan setup v b k (origin.level + 1) state a
+  pub next : (i : ℕ) (a : Act) → slice_get plan.acts.items i ≡ Some a
+      → IsTried plan setup v b k i (origin.level + 1) state a
 
 -- the act is one of these
 abbrev pub Among : List Act → Act → Type 0
@@ -155,6 +148,7 @@ pub record HasFirst (plan : Plan) (setup : Setup) (v : SpaceValue) (b : Book) : 
 
 -- The exploration has met these states, written this down of them, and left so many of them.
 pub record IsExplored (plan : Plan) (setup : Setup) (v : SpaceValue) (b : Book) (n : ℕ) : Type 0 where
+  pub acts : AreAllMoves plan.extras setup plan.acts.items
   pub count : length b.origins.items ≡ length v.keys
   pub first : HasFirst plan setup v b
   pub good : (k : ℕ) → k < length v.keys → IsGood plan setup v k
@@ -164,7 +158,6 @@ pub record IsExplored (plan : Plan) (setup : Setup) (v : SpaceValue) (b : Book) 
       → i < j → o.level ≤ p.level
   pub near : (i : ℕ) (o p : Origin) → slice_get b.origins.items i ≡ Some o → slice_get b.origins.items n ≡ Some p
       → o.level ≤ p.level + 1
-  pub edges : (i : ℕ) (e : Edge) → slice_get b.edges.items i ≡ Some e → IsEdge plan setup v e.state e.then
   pub tellings : (kind : ℕ) (o : Origin) → slice_get b.firsts kind ≡ Some (Some o) → IsTelling plan setup v b o kind
   pub told_near : (kind : ℕ) (o p : Origin) → slice_get b.firsts kind ≡ Some (Some o) → slice_get b.origins.items n ≡ Some p
       → o.level ≤ p.level + 1
@@ -172,7 +165,7 @@ pub record IsExplored (plan : Plan) (setup : Setup) (v : SpaceValue) (b : Book) 
 
 -- nothing that was written down is forgotten
 pub record Continues (old new : Book) : Type 0 where
-  pub edges : IsFront old.edges.items new.edges.items
+  pub thens : (k i j : ℕ) → LeadsTo old k i j → LeadsTo new k i j
   pub origins : IsFront old.origins.items new.origins.items
   pub firsts : (kind : ℕ) (o : Origin) → slice_get old.firsts kind ≡ Some (Some o)
       → slice_get new.firsts kind ≡ Some (Some o)
@@ -199,10 +192,22 @@ pub record IsNext (origins : List Origin) (state act : ℕ) (o : Origin) : Type 
   pub by : o.act ≡ act
   pub level : o.level ≡ before.level + 1
 
--- an act that leads to another state is written down
-abbrev pub AddsEdge : List Edge → List Edge → ℕ → ℕ → Type 0
-AddsEdge old new state then = ((then ≡ state) × (new ≡ old))
-    ⊎ ((e : Edge) × (e.state ≡ state) × (e.then ≡ then) × (new ≡ old ++ e ∷ []))
+-- where an act led is written down, behind what stands in its column
+abbrev pub AddsThen : List (List ℕ) → List (List ℕ) → ℕ → ℕ → Type 0
+AddsThen old new act then = new ≡ slice_set old act (slice_index_or old act [] ++ then ∷ [])
+
+-- so many columns without a number
+pub record AreEmpty (columns : List (List ℕ)) (acts : ℕ) : Type 0 where
+  pub width : length columns ≡ acts
+  pub each : (i : ℕ) (column : List ℕ) → slice_get columns i ≡ Some column → column ≡ []
+
+-- Each act has a column, with a number for each state that was left, and the first acts one more. The edges are
+-- counted.
+pub record AreColumns (b : Book) (acts states some : ℕ) : Type 0 where
+  pub width : length b.thens.items ≡ acts
+  pub first : (i : ℕ) (column : List ℕ) → slice_get b.thens.items i ≡ Some column → i < some → length column ≡ states + 1
+  pub others : (i : ℕ) (column : List ℕ) → slice_get b.thens.items i ≡ Some column → some ≤ i → length column ≡ states
+  pub edges : b.edges ≡ edges_in b.thens.items
 
 -- and how the state was met, if it is new
 abbrev pub AddsOrigin : List Origin → List Origin → ℕ → Origin → Type 0
@@ -212,13 +217,14 @@ AddsOrigin old new then o = ((then ≢ length old) × (new ≡ old)) ⊎ ((then 
 pub record Writes (old new : Book) (state act then : ℕ) (event : Option Event) : Type 0 where
   pub origin : Origin
   pub next : IsNext old.origins.items state act origin
-  pub edges : AddsEdge old.edges.items new.edges.items state then
+  pub thens : AddsThen old.thens.items new.thens.items act then
+  pub edges : new.edges ≡ old.edges + one_away then state
   pub origins : AddsOrigin old.origins.items new.origins.items then origin
   pub firsts : AddsFirst old.firsts new.firsts origin event
 
 -- nothing is written down but the first state
-pub record IsNew (b : Book) : Type 0 where
-  pub edges : b.edges.items ≡ []
+pub record IsNew (b : Book) (acts : ℕ) : Type 0 where
+  pub columns : AreColumns b acts 0 0
   pub origin : Origin
   pub origins : b.origins.items ≡ origin ∷ []
   pub level : origin.level ≡ 0

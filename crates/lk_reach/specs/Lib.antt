@@ -1,6 +1,7 @@
 pub mod Reach
 pub mod Space
 pub mod Kinds
+pub mod Edges
 pub mod Explored
 pub mod Told
 pub mod Rows

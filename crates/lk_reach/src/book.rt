@@ -1,10 +1,12 @@
-// What is written down of an exploration beside its states: the acts that lead from one to another,
-// how each was first met, and the events.
+// What is written down of an exploration beside its states: where the acts led, how each state was
+// first met, and the events.
 
-ghost use Rattle.std.specs.Prelude.{◌≡◌, ◌<◌, IfOk, None, OnOk, Some, false, length, slice_get, true};
+ghost use Rattle.std.specs.Prelude.{◌≡◌, ◌<◌, ◌+◌, ◌++◌, ◌∷◌, [], ℕ, IfNone, IfOk, IfSome, None, OnOk, Some, false, length, slice_get, true};
 ghost use Rattle.lk_reach.specs.declared.book.Origin.{Origin as OriginValue};
-ghost use Rattle.lk_reach.specs.Explored.{AddsEdge, AddsFirst, AddsOrigin, IsNew, IsNext, Writes};
+ghost use Rattle.lk_reach.specs.Explored.{AddsFirst, AddsOrigin, AddsThen, AreEmpty, IsNew, IsNext, LeadsTo, Writes};
+ghost use Rattle.lk_reach.specs.Edges.{one_away};
 
+use crate::column::Column;
 use crate::kinds::{KINDS, kind_of};
 use lk_abs::{Event, Memory};
 use std::alloc::Global;
@@ -15,6 +17,11 @@ const MOST_STATES: usize = 4_000_000_000;
 const MOST_ACTS: usize = 60_000;
 
 const MOST_LEVELS: u16 = 60_000;
+
+// What an origin takes, and a number in a column, in bytes.
+const ORIGIN_BYTES: usize = 8;
+
+const NUMBER_BYTES: usize = 4;
 
 /// How far an exploration is.
 #[derive(Clone, Copy)]
@@ -31,13 +38,6 @@ pub struct Seen {
     pub bytes: usize,
 }
 
-/// An act leads from a state to another one.
-#[derive(Clone, Copy)]
-pub(crate) struct Edge {
-    pub state: u32,
-    pub then: u32,
-}
-
 /// How a state was first met, or an event: by which act, after which state.
 #[derive(Clone, Copy)]
 pub(crate) struct Origin {
@@ -50,8 +50,10 @@ pub(crate) struct Origin {
 /// What is written down.
 #[derive(Drop)]
 pub(crate) struct Book {
-    /// Those from a lower state come first.
-    pub edges: Vec<Edge>,
+    /// A column for each act of the plan.
+    pub thens: Vec<Column>,
+    /// How many acts led to another state.
+    pub edges: usize,
     /// For each state. Of that of the first the level alone is used.
     pub origins: Vec<Origin>,
     /// On how many acts each kind of event was met.
@@ -60,14 +62,44 @@ pub(crate) struct Book {
     pub firsts: [Option<Origin>; KINDS],
 }
 
-// Writes down an act that leads to another state.
-fn add_edge(edges: &mut Vec<Edge>, state: u32, then: u32) -> Result<(), Memory>
-    ensures { OnOk result (AddsEdge edges.old.items edges.new.items state then) }
+// Adds a column.
+fn add_column(thens: &mut Vec<Column>, column: Column) -> Result<(), Memory>
+    ensures { OnOk result (thens.new.items ≡ thens.old.items ++ column ∷ []) }
+{
+    thens.push(column).map_err(|_| Memory)
+}
+
+// So many columns of acts that were not made.
+fn no_thens(alloc: Global, acts: usize) -> Result<Vec<Column>, Memory>
+    ensures { IfOk result (λ thens. AreEmpty thens.items acts) }
+{
+    let mut thens = Vec::with_capacity(alloc, acts)?;
+    for _made in 0..acts {
+        add_column(&mut thens, Column::new(alloc))?;
+    }
+    Ok(thens)
+}
+
+// Writes down where an act led.
+fn add_then(thens: &mut Vec<Column>, act: usize, then: u32) -> Result<(), Memory>
+    requires { act < length thens.old.items }
+    ensures { OnOk result (AddsThen thens.old.items thens.new.items act then) }
+{
+    thens[act].push(then)?;
+    Ok(())
+}
+
+// One more edge, if an act led from a state to another one.
+fn with_edge(edges: usize, state: u32, then: u32) -> Result<usize, Memory>
+    ensures { IfOk result (λ more. more ≡ edges + one_away then state) }
 {
     if then == state {
-        return Ok(());
+        return Ok(edges);
     }
-    edges.push(Edge { state, then }).map_err(|_| Memory)
+    match edges.checked_add(1) {
+        Some(more) => Ok(more),
+        None => Err(Memory),
+    }
 }
 
 // Writes down how a state was met, if it is the next one.
@@ -132,10 +164,11 @@ fn origin_of(origins: &[Origin], state: usize, act: usize) -> Result<Origin, Mem
 }
 
 impl Book {
-    /// A book that knows the first state alone.
-    pub(crate) fn new(alloc: Global) -> Result<Book, Memory>
-        ensures { IfOk result (λ book. IsNew book) }
+    /// A book for a plan of so many acts, that knows the first state alone.
+    pub(crate) fn new(alloc: Global, acts: usize) -> Result<Book, Memory>
+        ensures { IfOk result (λ book. IsNew book acts) }
     {
+        let thens = no_thens(alloc, acts)?;
         let mut origins = Vec::new(alloc);
         let first = Origin {
             state: 0,
@@ -144,7 +177,8 @@ impl Book {
         };
         add_origin(&mut origins, 0, first)?;
         Ok(Book {
-            edges: Vec::new(alloc),
+            thens,
+            edges: 0,
             origins,
             events: [0; KINDS],
             firsts: [None; KINDS],
@@ -163,22 +197,33 @@ impl Book {
         then: u32,
         event: Option<Event>,
     ) -> Result<(), Memory>
+        requires { act < length self.old.thens.items }
         ensures { OnOk result (Writes self.old self.new state act then event) }
     {
         let origin = origin_of(&self.origins, state, act)?;
-        add_edge(&mut self.edges, origin.state, then)?;
+        self.edges = with_edge(self.edges, origin.state, then)?;
+        add_then(&mut self.thens, act, then)?;
         add_origin(&mut self.origins, then, origin)?;
         tell(&mut self.firsts, origin, event);
         count(&mut self.events, event);
         Ok(())
     }
 
+    // How much memory the columns take, which are as long as the first, in bytes.
+    fn column_bytes(&self) -> usize {
+        match self.thens.get(0) {
+            Some(column) => column
+                .capacity()
+                .saturating_mul(self.thens.len())
+                .saturating_mul(NUMBER_BYTES),
+            None => 0,
+        }
+    }
+
     // How much memory it takes, in bytes.
     fn bytes(&self) -> usize {
-        self.edges
-            .capacity()
-            .saturating_add(self.origins.capacity())
-            .saturating_mul(8)
+        let origins = self.origins.capacity().saturating_mul(ORIGIN_BYTES);
+        origins.saturating_add(self.column_bytes())
     }
 
     /// How a state was met.
@@ -189,16 +234,29 @@ impl Book {
         self.origins[state]
     }
 
-    /// An edge.
-    pub(crate) fn edge(&self, number: usize) -> Edge
-        requires { number < length self.now.edges.items }
-        ensures { slice_get self.now.edges.items number ≡ Some result }
+    /// How many acts there are.
+    pub(crate) fn acts(&self) -> usize
+        ensures { result ≡ length self.now.thens.items }
     {
-        self.edges[number]
+        self.thens.len()
+    }
+
+    /// To which state an act led on a state, if that was left.
+    pub(crate) fn then(&self, state: usize, act: usize) -> Option<u32>
+        ensures some { IfSome result (λ j. LeadsTo self.now state act j) }
+        ensures none { IfNone result ((j : ℕ) → ¬ LeadsTo self.now state act j) }
+    {
+        match self.thens.get(act) {
+            Some(column) => column.get(state),
+            None => None,
+        }
     }
 
     /// How many acts lead to a state.
-    pub(crate) fn level(&self, state: usize) -> u32 {
+    pub(crate) fn level(&self, state: usize) -> u32
+        ensures { (o : OriginValue) → slice_get self.now.origins.items state ≡ Some o
+            → result ≡ o.level }
+    {
         match self.origins.get(state) {
             Some(origin) => u32::from(origin.level),
             None => 0,
@@ -211,7 +269,7 @@ impl Book {
             states,
             left: state,
             level: self.level(state),
-            edges: self.edges.len(),
+            edges: self.edges,
             bytes: bytes.saturating_add(self.bytes()),
         }
     }

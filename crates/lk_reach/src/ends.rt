@@ -1,49 +1,33 @@
 // How the states of a graph end: finished, stuck or doomed.
 
-ghost use Rattle.std.specs.Prelude.{◌≡◌, ◌≢◌, IfOk, Some, slice_get, true, false};
-ghost use Rattle.lk_reach.specs.Ends.{AreDoomed, AreEnds, AreFinishing, AreStuck, AreTurned, IsClosed, IsMarkedOnly, IsPassed};
+ghost use Rattle.std.specs.Prelude.{◌≡◌, ◌≢◌, ℕ, IfOk, Some, slice_get, true, false};
+ghost use Rattle.lk_reach.specs.Ends.{AreDoomed, AreEnds, AreFinishing, AreStuck, AreTurned, IsClosed, IsMarkedGoing, IsMarkedOnly, IsPassed, LeadsMarked, StaysAt};
+ghost use Rattle.lk_reach.specs.Explored.{LeadsTo};
 ghost use Rattle.lk_reach.specs.Told.{IsGraph, IsWhole};
 
-use crate::book::Edge;
 use crate::graph::{Graph, add_mark};
 use lk_abs::Memory;
 use lk_core::{acts_change_little, runs_keep};
 use std::alloc::Global;
 
 // Marks a state, if there is one with this number.
-fn mark(marks: &mut Vec<bool>, state: u32)
+fn mark(marks: &mut Vec<bool>, state: usize)
     ensures { IsMarkedOnly marks.old.items marks.new.items state }
 {
-    let state = state as usize;
     if state < marks.len() {
         marks[state] = true;
     }
 }
 
 // Whether a state is marked.
-fn is_marked(marks: &Vec<bool>, state: u32) -> bool
+fn is_marked(marks: &Vec<bool>, state: usize) -> bool
     ensures yes { result ≡ true → slice_get marks.now.items state ≡ Some true }
     ensures no { result ≡ false → slice_get marks.now.items state ≢ Some true }
 {
-    match marks.get(state as usize) {
+    match marks.get(state) {
         Some(mark) => *mark,
         None => false,
     }
-}
-
-// Marks the state of an edge, if the edge leads to a marked one. Returns whether it was not marked
-// before.
-fn pass(marks: &mut Vec<bool>, edge: Edge) -> bool
-    ensures { IsPassed marks.old.items marks.new.items edge result }
-{
-    if !is_marked(marks, edge.then) {
-        return false;
-    }
-    if is_marked(marks, edge.state) {
-        return false;
-    }
-    mark(marks, edge.state);
-    true
 }
 
 // Turns each mark round.
@@ -75,6 +59,37 @@ impl Graph {
         Ok(marks)
     }
 
+    // Whether an act led from a state to another one.
+    fn is_edge(&self, state: usize, act: usize) -> bool
+        ensures { result ≡ false → (j : ℕ) → LeadsTo self.now.book state act j → j ≡ state }
+    {
+        match self.book.then(state, act) {
+            Some(then) => then as usize != state,
+            None => false,
+        }
+    }
+
+    // Whether some act led from a state to another one.
+    fn goes_on(&self, state: usize) -> bool
+        ensures { result ≡ false → StaysAt self.now.book state }
+    {
+        for act in 0..self.book.acts() {
+            if self.is_edge(state, act) {
+                return true;
+            }
+        }
+        false
+    }
+
+    // Marks a state, if some act led on from it.
+    fn mark_going(&self, marks: &mut Vec<bool>, state: usize)
+        ensures { IsMarkedGoing self.now.book marks.old.items marks.new.items state }
+    {
+        if self.goes_on(state) {
+            mark(marks, state);
+        }
+    }
+
     /// For each state whether it was seen to be stuck: no act leads on from it, and not every
     /// processor is done there.
     ///
@@ -89,12 +104,52 @@ impl Graph {
         runs_keep();
         acts_change_little();
         let mut marks = self.finished(alloc)?;
-        for at in 0..self.book.edges.len() {
-            let edge = self.book.edge(at);
-            mark(&mut marks, edge.state);
+        for state in 0..self.states() {
+            self.mark_going(&mut marks, state);
         }
         turn(&mut marks);
         Ok(marks)
+    }
+
+    // Whether an act led from a state to a marked one.
+    fn leads_marked(&self, marks: &Vec<bool>, state: usize, act: usize) -> bool
+        ensures yes { result ≡ true → LeadsMarked self.now marks.now.items state }
+        ensures no { result ≡ false → (j : ℕ) → LeadsTo self.now.book state act j
+            → slice_get marks.now.items j ≢ Some true }
+    {
+        match self.book.then(state, act) {
+            Some(then) => is_marked(marks, then as usize),
+            None => false,
+        }
+    }
+
+    // Whether some act led from a state to a marked one.
+    fn leads_some(&self, marks: &Vec<bool>, state: usize) -> bool
+        ensures yes { result ≡ true → LeadsMarked self.now marks.now.items state }
+        ensures no { result ≡ false → (i j : ℕ) → LeadsTo self.now.book state i j
+            → slice_get marks.now.items j ≢ Some true }
+    {
+        for act in 0..self.book.acts() {
+            if self.leads_marked(marks, state, act) {
+                return true;
+            }
+        }
+        false
+    }
+
+    // Marks a state, if some act led from it to a marked one. Returns whether it was not marked
+    // before.
+    fn pass(&self, marks: &mut Vec<bool>, state: usize) -> bool
+        ensures { IsPassed self.now marks.old.items marks.new.items state result }
+    {
+        if is_marked(marks, state) {
+            return false;
+        }
+        if !self.leads_some(marks, state) {
+            return false;
+        }
+        mark(marks, state);
+        true
     }
 
     // Marks each state from which an act leads to a marked one, the higher ones first. Returns
@@ -107,11 +162,10 @@ impl Graph {
     {
         runs_keep();
         acts_change_little();
-        let count = self.book.edges.len();
+        let count = self.states();
         let mut spreads = false;
         for at in 0..count {
-            let edge = self.book.edge(count - 1 - at);
-            let passes = pass(marks, edge);
+            let passes = self.pass(marks, count - 1 - at);
             spreads |= passes;
         }
         spreads

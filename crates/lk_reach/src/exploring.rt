@@ -7,7 +7,7 @@ ghost use Rattle.lk_rows.specs.Machine.{Machine as MachineValue};
 ghost use Rattle.lk_reach.specs.Reach.{AreMoves, IsBegun, after, state_after};
 ghost use Rattle.lk_idle.specs.Alike.{AreAlike};
 ghost use Rattle.lk_reach.specs.Space.{Grows, Keeps};
-ghost use Rattle.lk_reach.specs.Explored.{AreAllMoves, IsExplored, IsGood, IsStart, IsStepped, IsSuch, KnowsLike};
+ghost use Rattle.lk_reach.specs.Explored.{AreColumns, IsExplored, IsGood, IsStart, IsStepped, IsSuch, KnowsLike};
 ghost use Rattle.lk_reach.specs.Told.{IsGraph, IsWhole};
 
 use crate::book::{Book, Seen};
@@ -69,12 +69,14 @@ fn leave(
 ) -> Result<(), Memory>
     requires few { length machine.old.cpus ≤ 8 }
     requires begun { IsBegun plan.now machine.old.setup }
-    requires acts { AreAllMoves plan.now.extras machine.old.setup plan.now.acts.items }
     requires such { IsSuch machine.old.setup machine.old }
     requires there { state < length space.old.keys }
     requires explored { IsExplored plan.now machine.old.setup space.old book.old state }
+    requires columns { AreColumns book.old (length plan.now.acts.items) state 0 }
     ensures explored { OnOk result
         (IsExplored plan.now machine.old.setup space.new book.new (state + 1)) }
+    ensures columns { OnOk result
+        (AreColumns book.new (length plan.now.acts.items) (state + 1) 0) }
     ensures such { OnOk result (IsSuch machine.old.setup machine.new) }
     ensures setup { OnOk result (machine.new.setup ≡ machine.old.setup) }
 {
@@ -99,11 +101,13 @@ fn leave_all<W: Watch>(
 ) -> Result<usize, Memory>
     requires few { length machine.old.cpus ≤ 8 }
     requires begun { IsBegun plan.now machine.old.setup }
-    requires acts { AreAllMoves plan.now.extras machine.old.setup plan.now.acts.items }
     requires such { IsSuch machine.old.setup machine.old }
     requires explored { IsExplored plan.now machine.old.setup space.old book.old 0 }
+    requires columns { AreColumns book.old (length plan.now.acts.items) 0 0 }
     ensures explored { IfOk result
         (λ left. IsExplored plan.now machine.old.setup space.new book.new left) }
+    ensures columns { IfOk result
+        (λ left. AreColumns book.new (length plan.now.acts.items) left 0) }
     ensures within { IfOk result (λ left. left ≤ length space.new.keys) }
     ensures such { OnOk result (IsSuch machine.old.setup machine.new) }
     ensures setup { OnOk result (machine.new.setup ≡ machine.old.setup) }
@@ -153,7 +157,7 @@ pub fn explore<W: Watch>(
     acts_change_little();
     let cpus = machine.cpus();
     let mut space = Space::new(alloc)?;
-    let mut book = Book::new(alloc)?;
+    let mut book = Book::new(alloc, plan.acts().len())?;
     space.note(&mut machine, 0)?;
     let left = leave_all(&mut space, &mut machine, &plan, &mut book, watch)?;
     Ok(Graph {

@@ -5,13 +5,15 @@ ghost use Rattle.lk_rows.specs.Machine.{Machine as MachineValue};
 ghost use Rattle.lk_reach.specs.Reach.{AreOver, MakesRow};
 ghost use Rattle.lk_reach.specs.Rows.{AreMarked, IsMade, IsUnmade};
 ghost use Rattle.lk_reach.specs.Space.{Keeps};
-ghost use Rattle.lk_reach.specs.Told.{IsWhole};
+ghost use Rattle.lk_reach.specs.Ends.{CountsEdges};
+ghost use Rattle.lk_reach.specs.Told.{IsDeepest, IsGraph, IsWhole};
 
 use crate::book::Book;
 use crate::kinds::KINDS;
 use crate::plan::Plan;
 use crate::space::{Space, is_row};
 use lk_abs::Memory;
+use lk_core::{acts_change_little, runs_keep};
 use lk_machine::Machine;
 use lk_rows::Pc;
 use std::alloc::Global;
@@ -46,13 +48,24 @@ impl Graph {
         self.space.len()
     }
 
-    /// How many acts lead from one of them to another.
-    pub fn edges(&self) -> usize {
-        self.book.edges.len()
+    /// How many acts led from one of them to another: of all acts of the plan, on all states that
+    /// were left.
+    pub fn edges(&self) -> usize
+        requires graph { IsGraph self.now }
+        ensures { CountsEdges self.now result }
+    {
+        runs_keep();
+        acts_change_little();
+        self.book.edges
     }
 
     /// The deepest level: how many acts lead to the state that takes most.
-    pub fn deepest(&self) -> u32 {
+    pub fn deepest(&self) -> u32
+        requires graph { IsGraph self.now }
+        ensures { IsDeepest self.now result }
+    {
+        runs_keep();
+        acts_change_little();
         self.book.level(self.states().saturating_sub(1))
     }
 

@@ -9,6 +9,7 @@
 #![tactic(auto)]
 
 mod book;
+mod column;
 mod deeds;
 mod ends;
 mod exploring;

@@ -1,7 +1,7 @@
-use Rattle.std.proofs.Common.{arith, ap, ◌≡◌, ◌<◌, ◌≤◌, ◌∙◌, length, refl, sym, subst}
+use Rattle.std.proofs.Common.{arith, ap, ℕ, ◌≡◌, ◌<◌, ◌≤◌, ◌∙◌, length, refl, sym, subst}
 use Rattle.lk_rows.specs.declared.setup.Setup.{Setup}
 use Rattle.lk_rows.specs.Machine.{Machine}
-use Rattle.lk_reach.specs.Explored.{AreAllMoves, IsExplored, IsSuch}
+use Rattle.lk_reach.specs.Explored.{IsExplored, IsNew, IsSuch}
 use Rattle.lk_reach.specs.Reach.{IsBegun, IsReached, bare, cpus_of, start_of}
 use Rattle.lk_reach.specs.Space.{Keeps, Knows}
 use Rattle.lk_reach.proofs.Left as left
@@ -23,15 +23,17 @@ leave_all-requires g c =
     (closed.reached_such laws p z c.requires.start.begun (bare (start_of p z)) (closed.reached_start laws p z c.requires.start.begun)) in
     let first : 0 < length v.keys = omega (arith, e.there) in
     let start : Knows v m = (0, (e.one 0 (omega (arith, none)) first).1) in
+    let new : IsNew c.in_ok-book.book (length p.acts.items) =
+    subst (λ (n : ℕ). IsNew c.in_ok-book.book n) (ap length c.acts.ensures) c.in_ok-book.ensures in
     record {
       few = subst (λ (q : Machine). length q.cpus ≤ 8) (sym same) c.requires.few;
       begun = subst (λ (q : Machine). IsBegun p q.setup) (sym same) c.requires.start.begun;
-      acts = subst (λ (q : Machine). AreAllMoves p.extras q.setup p.acts.items) (sym same) c.requires.start.acts;
       such = subst (λ (q : Machine). IsSuch q.setup q) (sym same) such;
       explored = subst (λ (q : Machine). IsExplored p q.setup v c.in_ok-book.book 0) (sym same)
-          (left.explored_start p z laws c.requires.start.begun v c.in_ok-book.book 0 c.in_ok-book.ensures
+          (left.explored_start p z laws c.requires.start.begun c.requires.start.acts v c.in_ok-book.book 0 new
           (subst (λ (q : Machine). Keeps v 0 q) there start.1)
           (λ k low. (e.one k (omega (arith, none)) low).0 ∙ sym (e.one 0 (omega (arith, none)) first).0));
+      columns = new.columns;
     }
 
 pub returns : goal.returns
@@ -59,8 +61,8 @@ returns g c =
       only = explored.good;
       graph = record {
         begun = subst (λ (q : Setup). IsBegun p q) back begun;
-        acts = subst (λ (q : Setup). AreAllMoves p.extras q p.acts.items) back c.requires.start.acts;
         explored = subst (λ (q : Setup). IsExplored p q c.leave_all.new.space c.leave_all.new.book c.in_ok-left.left) back explored;
+        columns = e.columns;
         within = e.within;
         cpus = subst (λ (q : Setup). c.cpus-cpus.result ≡ cpus_of q) back
             (count ∙ (closed.reached_such laws p z begun m start).cpus);

@@ -6,6 +6,7 @@ use Rattle.lk_abs.specs.declared.events.Act.TheVariants as act
 use Rattle.lk_rows.specs.declared.setup.Setup.{Setup}
 use Rattle.lk_reach.specs.Explored.{IsSuch, IsStepped}
 use Rattle.lk_reach.proofs.Left as left
+use Rattle.lk_reach.proofs.Columns as columns
 use Rattle.lk_reach.proofs.Closed as closed
 use Rattle.lk_reach.proofs.exploring.leave.Goals as goal
 
@@ -16,6 +17,7 @@ loop-number-init c = record {
   explored = c.requires.explored;
   half = left.half_start c.args.plan.now c.args.machine.now.setup c.args.space.now c.args.book.now c.args.state
       c.args.plan.now.acts.items c.requires.explored c.requires.there;
+  columns = c.requires.columns;
 }
 
 pub visit-requires : goal.visit-requires
@@ -28,7 +30,7 @@ visit-requires c =
     let a = get_or c.acts-acts.result.now n (act.Step 0) in
     let at : slice_get acts n ≡ Some a = subst (λ (xs : List Act). slice_get xs n ≡ Some a) c.acts-acts.ensures
     (slice_get-get_or c.acts-acts.result.now n (act.Step 0) c.loop-number-test.true) in
-    let move = c.requires.acts.only n a at in
+    let move = c.requires.explored.acts.only n a at in
     let low = closed.move_in_range c.args.plan.now.extras z a move in
     let cpus = inv.such.cpus in
     let before = c.requires.such.cpus in
@@ -40,6 +42,13 @@ visit-requires c =
           (left.stepped c.args.plan.now z laws c.requires.begun c.loop-number.space c.loop-number.book c.args.state n acts inv.half);
       range = omega (arith, low, cpus);
     }
+
+pub write-requires : goal.write-requires
+write-requires c =
+    let width = c.loop-number.invariant.columns.width in
+    let test = c.loop-number-test.true in
+    let size = ap length c.acts-acts.ensures in
+    omega (arith, width, test, size)
 
 pub loop-number-preserved : goal.loop-number-preserved
 loop-number-preserved c =
@@ -62,7 +71,7 @@ loop-number-preserved c =
       grows = e.grows;
       then = c.in_ok-then.then;
       event = c.in_ok-then.event;
-      move = c.requires.acts.only n a at;
+      move = c.requires.explored.acts.only n a at;
       doing = at;
       there = e.there;
       kept = λ s has such t at also. e.kept s has (subst (λ (q : Setup). IsSuch q s) (sym inv.same) such) t at
@@ -75,8 +84,9 @@ loop-number-preserved c =
     record {
       such = subst (λ (q : Setup). IsSuch q c.visit.new.machine) inv.same e.such;
       same = e.setup ∙ inv.same;
-      explored = left.explored_then p z laws c.requires.begun v w b d k n a made inv.half inv.explored;
-      half = left.half_then p z laws c.requires.begun v w b d k n a made inv.half inv.explored;
+      explored = left.explored_then p z laws c.requires.begun v w b d k n a made inv.half inv.explored inv.columns;
+      half = left.half_then p z laws c.requires.begun v w b d k n a made inv.half inv.explored inv.columns;
+      columns = left.columns_then p z laws c.requires.begun v w b d k n a made inv.half inv.explored inv.columns;
     }
 
 pub returns : goal.returns
@@ -91,7 +101,8 @@ returns c =
     let end = c.loop-number-test.false in
     record {
       explored = left.explored_next p z v b k inv.explored
-          (left.left_now p z v b k c.loop-number.number p.acts.items c.requires.acts (omega (arith, size, end)) inv.half);
+          (left.left_now p z v b k c.loop-number.number (omega (arith, size, end)) inv.half);
+      columns = columns.columns_next b (length p.acts.items) k c.loop-number.number (omega (arith, size, end)) inv.columns;
       such = inv.such;
       setup = inv.same;
     }

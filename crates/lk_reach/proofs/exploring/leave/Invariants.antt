@@ -1,5 +1,5 @@
-use Rattle.std.proofs.Common.{◌≡◌}
-use Rattle.lk_reach.specs.Explored.{IsSuch, IsExplored, IsHalfLeft}
+use Rattle.std.proofs.Common.{◌≡◌, length}
+use Rattle.lk_reach.specs.Explored.{AreColumns, IsSuch, IsExplored, IsHalfLeft}
 use Rattle.lk_reach.proofs.exploring.leave.Given as goal
 
 -- the acts so far were tried on the state
@@ -9,4 +9,5 @@ invariant-loop-number l = record {
   same : l.machine.setup ≡ l.fn.machine.setup;
   explored : IsExplored l.plan l.fn.machine.setup l.space l.book l.state;
   half : IsHalfLeft l.plan l.fn.machine.setup l.space l.book l.state l.plan.acts.items l.number;
+  columns : AreColumns l.book (length l.plan.acts.items) l.state l.number;
 }

@@ -1,7 +1,7 @@
 use Rattle.std.proofs.Common.{arith, ◌∙◌, ◌+◌, sym, subst}
 use Rattle.std.proofs.lemmas.Option.{slice_get_within}
 use Rattle.lk_rows.specs.declared.setup.Setup.{Setup}
-use Rattle.lk_reach.specs.Explored.{AreAllMoves, IsExplored, IsSuch}
+use Rattle.lk_reach.specs.Explored.{IsExplored, IsSuch}
 use Rattle.lk_reach.specs.Reach.{IsBegun}
 use Rattle.lk_reach.proofs.exploring.leave_all.Goals as goal
 
@@ -19,10 +19,10 @@ leave-requires g c =
     record {
       few = omega (arith, cpus, before, few);
       begun = subst (λ (q : Setup). IsBegun p q) back c.requires.begun;
-      acts = subst (λ (q : Setup). AreAllMoves p.extras q p.acts.items) back c.requires.acts;
       such = subst (λ (q : Setup). IsSuch q c.loop-state.machine) back inv.such;
       there = omega (arith, within, other, len);
       explored = subst (λ (q : Setup). IsExplored p q c.loop-state.space c.loop-state.book c.loop-state.state) back inv.explored;
+      columns = inv.columns;
     }
 
 pub loop-state-preserved : goal.loop-state-preserved
@@ -40,5 +40,6 @@ loop-state-preserved g c =
       such = subst (λ (q : Setup). IsSuch q c.leave.new.machine) inv.same e.such;
       same = e.setup ∙ inv.same;
       explored = explored;
+      columns = e.columns;
       within = omega (arith, low);
     }

@@ -1,5 +1,6 @@
 use Rattle.std.proofs.Common.{◌∙◌, ◌∷◌, [], ◌++◌, List, ap, inl, inr, length, refl, sym}
 use Rattle.lk_reach.specs.declared.book.Origin.{Origin}
+use Rattle.lk_reach.proofs.Columns.{columns_none}
 use Rattle.lk_reach.proofs.Firsts.{none_first}
 use Rattle.lk_reach.proofs.book.Book.new.Goals as goal
 
@@ -10,7 +11,7 @@ pub returns : goal.returns
 returns c =
     let none = c.new-origins.ensures.items in
     record {
-      edges = c.new.ensures.items;
+      columns = columns_none (_) c.args.acts c.in_ok-thens.ensures refl;
       origin = first;
       origins = elim c.in_ok-add_origin.ensures [
         | inl other ↦ absurd (other.0 (sym (ap length none)))
