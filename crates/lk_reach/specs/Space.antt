@@ -36,11 +36,15 @@ pub record IsFormed (parts forms : List CpuState) (i c : ℕ) : Type 0 where
 abbrev pub AreFormed : List CpuState → List CpuState → List ℕ → Type 0
 AreFormed parts forms classes = (i c : ℕ) → slice_get classes i ≡ Some c → IsFormed parts forms i c
 
+-- these parts have these classes
+abbrev pub AreClasses : List ℕ → List ℕ → List ℕ → Type 0
+AreClasses classes parts forms = (p i : ℕ) → slice_get parts p ≡ Some i
+    → (c : ℕ) × (slice_get forms p ≡ Some c) × (slice_get classes i ≡ Some c)
+
 -- the form is that of the key: the classes of its parts
 pub record IsFormOf (classes : List ℕ) (key form : Key) : Type 0 where
   pub shared : form.shared ≡ key.shared
-  pub each : (p i : ℕ) → slice_get key.cpus p ≡ Some i
-      → (c : ℕ) × (slice_get form.cpus p ≡ Some c) × (slice_get classes i ≡ Some c)
+  pub each : AreClasses classes key.cpus form.cpus
 
 -- two keys have the same form
 pub record HaveForm (classes : List ℕ) (a b : Key) : Type 0 where

@@ -1,8 +1,10 @@
 // The key of a state: the numbers of its parts.
 
-ghost use Rattle.std.specs.Prelude.{◌≡◌, ◌<◌, ◌≤◌, true, length, slice_get, Some};
+ghost use Rattle.std.specs.Prelude.{◌≡◌, ◌<◌, Some, slice_get};
 
-use std::hash::{FoldHasher, Hasher};
+// An odd number. Its powers are the weights of the parts in the number of a key, and the upper bits
+// of a product with one of them differ for numbers that differ little.
+const WEIGHT: u64 = 0x9e37_79b9_7f4a_7c15;
 
 /// The most processors of a setup that is explored.
 pub const MAX_CPUS: usize = 8;
@@ -42,36 +44,12 @@ impl Key {
 
     /// A number for a table of keys.
     pub(crate) fn number(&self) -> u64 {
-        let mut hasher = FoldHasher::default();
-        hasher.write_u32(self.shared);
+        let mut weight = WEIGHT;
+        let mut number = u64::from(self.shared).wrapping_mul(weight);
         for part in &self.cpus {
-            hasher.write_u32(*part);
+            weight = weight.wrapping_mul(WEIGHT);
+            number = number.wrapping_add(u64::from(*part).wrapping_mul(weight));
         }
-        hasher.finish()
+        number
     }
-
-    /// Whether the key is the same as another.
-    pub(crate) fn same(&self, other: &Key) -> bool
-        ensures { result ≡ true → self.now ≡ other.now }
-    {
-        if self.shared != other.shared {
-            return false;
-        }
-        same_numbers(&self.cpus, &other.cpus)
-    }
-}
-
-// Whether numbers are the same.
-fn same_numbers(a: &[u32], b: &[u32]) -> bool
-    ensures { result ≡ true → a.now ≡ b.now }
-{
-    if a.len() != b.len() {
-        return false;
-    }
-    for i in 0..a.len() {
-        if a[i] != b[i] {
-            return false;
-        }
-    }
-    true
 }

@@ -48,14 +48,11 @@ impl Slots {
         count.saturating_mul(2) >= self.slots.len()
     }
 
-    /// The slot from which a thing with this hash is sought.
+    /// The slot from which a thing with this hash is sought: the upper half of the hash says where
+    /// it lies between the first slot and the last.
     pub(crate) fn home(&self, hash: u64) -> usize {
         let count = self.slots.len() as u64;
-        if count == 0 {
-            0
-        } else {
-            (hash % count) as usize
-        }
+        ((hash >> 32).wrapping_mul(count) >> 32) as usize
     }
 
     /// The slot behind this one.

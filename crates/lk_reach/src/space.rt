@@ -5,7 +5,7 @@ ghost use Rattle.lk_rows.specs.Machine.{Machine as MachineValue, CpuState as Cpu
 ghost use Rattle.lk_machine.specs.Parts.{is_over, row_of};
 ghost use Rattle.lk_idle.specs.Alike.{AreAlike};
 ghost use Rattle.lk_reach.specs.declared.key.Key.{Key as KeyValue};
-ghost use Rattle.lk_reach.specs.Space.{AreFormed, Grows, IsFormOf, IsLoadable, IsNumberOf, Keeps, KeyKeeps, SameStates, SpaceValue};
+ghost use Rattle.lk_reach.specs.Space.{AreClasses, AreFormed, Grows, IsFormOf, IsLoadable, IsNumberOf, Keeps, KeyKeeps, SameStates, SpaceValue};
 
 use crate::forms::form_number;
 use crate::key::{Key, MAX_CPUS};
@@ -184,16 +184,49 @@ impl Space {
         }
     }
 
+    // Whether a part has this class.
+    fn is_class(&self, part: u32, class: u32) -> bool
+        ensures { result ≡ true → slice_get self.now.classes part ≡ Some class }
+    {
+        match self.classes.get(part as usize) {
+            Some(one) => *one == class,
+            None => false,
+        }
+    }
+
+    // Whether these parts have these classes. Most parts of two keys are apart early, so this is
+    // less than to look up all classes.
+    fn are_classes(&self, parts: &[u32], classes: &[u32]) -> bool
+        ensures { result ≡ true → AreClasses self.now.classes parts.now classes.now }
+    {
+        if parts.len() != classes.len() {
+            return false;
+        }
+        for at in 0..parts.len() {
+            if !self.is_class(parts[at], classes[at]) {
+                return false;
+            }
+        }
+        true
+    }
+
+    // Whether this is the form of a key.
+    fn is_form_of(&self, key: &Key, form: &Key) -> bool
+        ensures { result ≡ true → IsFormOf self.now.classes key.now form.now }
+    {
+        if key.shared != form.shared {
+            return false;
+        }
+        self.are_classes(&key.cpus, &form.cpus)
+    }
+
     // Whether the state with this number has this form.
     fn has_form(&self, number: u32, form: &Key) -> bool
         ensures { result ≡ true → (item : KeyValue) × (slice_get self.now.keys number ≡ Some item)
             × IsFormOf self.now.classes item form.now }
     {
-        let Some(item) = self.keys.get(number as usize) else {
-            return false;
-        };
-        match self.form_of(item) {
-            Some(other) => other.same(form),
+        match self.keys.get(number as usize) {
+            Some(item) => self.is_form_of(item, form),
             None => false,
         }
     }
