@@ -14,6 +14,6 @@ pub mod Goes
 mod Later
 mod LaterRows
 mod LaterActs
-mod Runs
-mod Composed
-mod Bared
+pub mod Runs
+pub mod Composed
+pub mod Bared

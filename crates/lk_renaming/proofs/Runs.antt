@@ -7,7 +7,7 @@ use Rattle.lk_abs.specs.declared.events.Event.{Event}
 use Rattle.lk_rows.specs.declared.setup.Op.{Op}
 use Rattle.lk_rows.specs.declared.setup.Setup.{Setup}
 use Rattle.lk_rows.specs.Machine.{Machine, cpu_at, no_cpu, rest_lock}
-use Rattle.lk_rows.specs.Programs.{program_at}
+use Rattle.lk_rows.specs.Programs.{IsLawfulSetup, program_at}
 use Rattle.lk_rows.specs.Acts.{next, processor_of}
 use Rattle.lk_rows.specs.Row.{Answer}
 use Rattle.lk_rows.specs.Run.{at_rest, rest_cpu, rest_cpus, first_frame, machine_after, history_from, occurs}
@@ -20,7 +20,7 @@ use Rattle.lk_core.proofs.Setups.{setup_kept}
 use Rattle.lk_renaming.specs.Renaming.{Renaming, IsRenaming, IsAmongAlike}
 use Rattle.lk_renaming.specs.Renamed.{renamed, renamed_frame, renamed_cpu, renamed_cpus, renamed_lock}
 use Rattle.lk_renaming.specs.Renamed.{renamed_act, renamed_acts, renamed_answer, renamed_told, renamed_history}
-use Rattle.lk_renaming.specs.Law.{SchedulesRunRenamed}
+use Rattle.lk_renaming.specs.Law.{SchedulesRunRenamed, SchedulesHaveNames}
 use Rattle.lk_renaming.proofs.Cpus.{comes_low}
 use Rattle.lk_renaming.proofs.Goes.{renamed_goes_on}
 use Rattle.lk_renaming.proofs.Later.{AllNamed, CpusNamed, FrameNamed, first_quiet, rest_named}
@@ -119,6 +119,11 @@ module _ (r : Renaming) (setup : Setup) (alike : IsAmongAlike setup r) where
         named = next-named m sound way.named a;
       }
 
+    on_way : (acts : List Act) (m : Machine) → OnTheWay setup m → AreInRange count acts
+        → OnTheWay setup (machine_after m acts)
+    on_way [] m way low = way
+    on_way (a ∷ acts) m way low = on_way acts (next m a).0 (further m way a low.0) low.1
+
     runs : (acts : List Act) (m : Machine) → OnTheWay setup m → AreInRange count acts
         → machine_after (renamed r m) (renamed_acts r acts) ≡ renamed r (machine_after m acts)
     runs [] m way low = refl
@@ -138,16 +143,33 @@ module _ (r : Renaming) (setup : Setup) (alike : IsAmongAlike setup r) where
         ap (λ (x : Answer). occurs n x.1 ++ history_from (suc n) x.0 (renamed_acts r acts)) (one_act m way a)
         ∙ told n (next m a).1 _ _ (tells acts (suc n) (next m a).0 (further m way a low.0) low.1)
 
+at_first : (setup : Setup) → IsLawfulSetup setup → OnTheWay setup (at_rest setup)
+at_first setup ok = record {
+  events = [];
+  shows = rest_shows setup ok;
+  same = refl;
+  named = rest_all setup 0 (length setup.topology.sockets.items);
+}
+
 pub schedules_run_renamed : SchedulesRunRenamed
 schedules_run_renamed r setup acts ok low is alike =
-    let way : OnTheWay setup (at_rest setup) = record {
-      events = [];
-      shows = rest_shows setup ok;
-      same = refl;
-      named = rest_all setup 0 (length setup.topology.sockets.items);
-    } in
+    let way = at_first setup ok in
     let rest = sym (rest-renamed r setup alike is) in
     record {
       state = ap (λ m. machine_after m (renamed_acts r acts)) rest ∙ runs r setup alike is acts (at_rest setup) way low;
       tells = ap (λ m. history_from 1 m (renamed_acts r acts)) rest ∙ tells r setup alike is acts 1 (at_rest setup) way low;
     }
+
+-- nobody gets a new number
+same_numbers : Renaming
+same_numbers = record { to = λ p. p; back = λ p. p }
+
+pub schedules_have_names : SchedulesHaveNames
+unfolding same_numbers
+schedules_have_names setup acts p ok low =
+    let alike : IsAmongAlike setup same_numbers =
+    record { programs = λ q h. refl; handlers = λ q. refl; sockets = λ q. refl } in
+    let is : IsRenaming (length setup.topology.sockets.items) same_numbers =
+    record { undone = λ q. refl; redone = λ q. refl; others = λ q high. refl } in
+    let way = on_way same_numbers setup alike is acts (at_rest setup) (at_first setup ok) low in
+    sound_names (machine_after (at_rest setup) acts) (_, way.shows.shows) way.named p

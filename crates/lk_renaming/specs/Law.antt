@@ -57,6 +57,14 @@ SchedulesRunRenamed =
     → IsAmongAlike setup r
     → RunsRenamed r setup acts
 
+-- On the way of a schedule from rest nobody lacks a name that its row takes.
+abbrev pub SchedulesHaveNames : Type 0
+SchedulesHaveNames =
+    (setup : Setup) (acts : List Act) (p : ℕ)
+    → IsLawfulSetup setup
+    → AreInRange (length setup.topology.sockets.items) acts
+    → HasNames (machine_after (at_rest setup) acts) p
+
 -- renamings together
 
 -- one behind the other fits, and so does the way back of the first

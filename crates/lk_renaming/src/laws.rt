@@ -2,7 +2,7 @@
 
 ghost use Rattle.lk_renaming.specs.Law.{RenamedGoesOn, RenamedStands, SchedulesRunRenamed};
 ghost use Rattle.lk_renaming.specs.Law.{RenamingsCompose, RenamedTwice, RenamedBack};
-ghost use Rattle.lk_renaming.specs.Law.{AlikeStaysAlike};
+ghost use Rattle.lk_renaming.specs.Law.{SchedulesHaveNames, AlikeStaysAlike};
 
 /// Processors that are alike may change their numbers: the renamed act on the renamed machine
 /// leaves the renamed machine, and tells the renamed event. Each processor stands where it stood,
@@ -13,9 +13,10 @@ pub fn renamed_goes_on()
 {}
 
 /// In every lawful setup, the renamed schedule reaches from rest the renamed machine, and its
-/// history is the renamed history.
+/// history is the renamed history. On its way nobody lacks a name that its row takes.
 pub fn schedules_run_renamed()
     ensures run { SchedulesRunRenamed }
+    ensures names { SchedulesHaveNames }
 {}
 
 /// One renaming behind another is a renaming, and the way back is one. A machine that is renamed
