@@ -1,5 +1,5 @@
 -- What contracts say of a call of `lock` that is polled.
-use Rattle.std.specs.Prelude.{◌≡◌, ◌+◌, ◌<◌, Option, Some, None}
+use Rattle.std.specs.Prelude.{◌≡◌, ℕ, ◌+◌, ◌<◌, Option, Some, None}
 use Rattle.lk_rows.specs.declared.setup.Verb.TheVariants.{Lock}
 use Rattle.lk_domain.specs.Calls.{Calls, lock_name}
 use Rattle.lk_domain.specs.Plans.{locks_of}
@@ -10,6 +10,10 @@ use Rattle.lk_run.specs.Phases as phase
 use Rattle.lk_run.specs.Standing.{Outside, waiter}
 use Rattle.lk_run.specs.Resting.{HasNodes, KnowsAt, row_at, frame_at}
 use Rattle.lk_run.specs.declared.waiter.Waiter.{Waiter}
+
+-- the call that began so has met this word by its first row, and is told nothing of polls
+abbrev pub Arrived : Domain → ℕ → ℕ → Start → Cpu → Type 0
+Arrived domain l met s cpu = phase.Arrives domain Lock (lock_name l) met s cpu None
 
 -- the call that began so waits there; told nothing of polls, it is due none
 pub record Waits (domain : Domain) (w : Waiter) (s : Start) (cpu : Cpu) : Type 0 where

@@ -8,7 +8,7 @@ ghost use Rattle.lk_domain.specs.Plans.{locks_of, kind_at};
 ghost use Rattle.lk_domain.specs.Seats.{IsOf, KeepsRest, calls_of};
 ghost use Rattle.lk_domain.specs.Waits.{MayTake};
 ghost use Rattle.lk_run.specs.Phases.{Start, Holds, starting};
-ghost use Rattle.lk_run.specs.Polled.{Waits, TakesOne};
+ghost use Rattle.lk_run.specs.Polled.{Arrived, Waits, TakesOne};
 ghost use Rattle.lk_run.specs.declared.waiter.Waiter.{Waiter};
 
 use crate::call::Call;
@@ -44,10 +44,31 @@ pub fn begin(cpu: &mut Cpu, domain: &Domain, lock: LockId) -> Option<Waiter>
     if met == 0 {
         return None;
     }
+    begin_slowpath(cpu, domain, lock, met)
+}
+
+// From the place to which the first row led that met this word, up to where the call rests. It is out
+// of the way of a call that takes a free lock, which builds no `Call`.
+#[cold]
+#[inline(never)]
+fn begin_slowpath(cpu: &mut Cpu, domain: &Domain, lock: LockId, met: u64) -> Option<Waiter>
+    requires domain { IsOf cpu.old domain.now }
+    requires lock { lock.index < locks_of domain.now.plan }
+    requires begun { (s : Start) × Arrived domain.now lock.index met s cpu.old }
+    ensures rest { KeepsRest cpu.old cpu.new }
+    ensures holds { result ≡ None → (s : Start) → Arrived domain.now lock.index met s cpu.old
+        → Holds domain.now Lock lock.index Spins s cpu.new None }
+    ensures lock { (w : Waiter) → result ≡ Some w → w.lock ≡ lock }
+    ensures waits { (w : Waiter) → result ≡ Some w → (s : Start)
+        → Arrived domain.now lock.index met s cpu.old → Waits domain.now w s cpu.new }
+{
     let call = Call {
         domain,
         verb: Verb::Lock,
-        lock: name,
+        lock: LockName {
+            index: lock.index,
+            wait: false,
+        },
     };
     match call.contend(cpu, met) {
         Some(rest) => Some(Waiter { lock, rest }),

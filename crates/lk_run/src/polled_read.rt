@@ -6,6 +6,7 @@ ghost use Rattle.lk_domain.specs.Plans.{locks_of, kind_at};
 ghost use Rattle.lk_domain.specs.Seats.{IsOf, KeepsRest, calls_of};
 ghost use Rattle.lk_domain.specs.Waits.{MayTake};
 ghost use Rattle.lk_run.specs.Phases.{Start, starting};
+ghost use Rattle.lk_run.specs.PolledRead as polled;
 ghost use Rattle.lk_run.specs.PolledRead.{Waits, Entered};
 ghost use Rattle.lk_run.specs.Reading.{Stands, Turns, Began, Quits, Joins, Watches, Spins, Resting};
 ghost use Rattle.lk_run.specs.Reading.{Fits, InQueue, FitsQueue, Passed};
@@ -43,7 +44,32 @@ pub fn begin_read(cpu: &mut Cpu, domain: &Domain, lock: LockId) -> Option<ReadWa
     if first(cpu, domain, name) {
         return None;
     }
-    let reader = Reader { domain, lock: name };
+    begin_read_slowpath(cpu, domain, lock)
+}
+
+// From the place to which the first row led that found no way in, up to where the call rests. It is
+// out of the way of a call that finds one.
+#[cold]
+#[inline(never)]
+fn begin_read_slowpath(cpu: &mut Cpu, domain: &Domain, lock: LockId) -> Option<ReadWaiter>
+    requires domain { IsOf cpu.old domain.now }
+    requires lock { lock.index < locks_of domain.now.plan }
+    requires begun { (s : Start) × polled.Began domain.now lock.index s cpu.old None }
+    ensures rest { KeepsRest cpu.old cpu.new }
+    ensures entered { result ≡ None → (s : Start)
+        → polled.Began domain.now lock.index s cpu.old None
+        → Entered domain.now lock.index s cpu.new None }
+    ensures lock { (w : ReadWaiter) → result ≡ Some w → w.lock ≡ lock }
+    ensures waits { (w : ReadWaiter) → result ≡ Some w → (s : Start)
+        → polled.Began domain.now lock.index s cpu.old None → Waits domain.now w s cpu.new }
+{
+    let reader = Reader {
+        domain,
+        lock: LockName {
+            index: lock.index,
+            wait: false,
+        },
+    };
     match reader.contend(cpu) {
         Some(place) => Some(ReadWaiter { lock, place }),
         None => None,

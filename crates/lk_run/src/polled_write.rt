@@ -6,6 +6,7 @@ ghost use Rattle.lk_domain.specs.Plans.{locks_of, kind_at};
 ghost use Rattle.lk_domain.specs.Seats.{IsOf, KeepsRest, calls_of};
 ghost use Rattle.lk_domain.specs.Waits.{MayTake};
 ghost use Rattle.lk_run.specs.Phases.{Start, starting};
+ghost use Rattle.lk_run.specs.PolledWrite as polled;
 ghost use Rattle.lk_run.specs.PolledWrite.{Waits, Entered};
 ghost use Rattle.lk_run.specs.Writing.{Stands, Turns, Began, Looks, Watches, Resting};
 ghost use Rattle.lk_run.specs.Writing.{Fits, InQueue, FitsQueue, Passed};
@@ -43,7 +44,32 @@ pub fn begin_write(cpu: &mut Cpu, domain: &Domain, lock: LockId) -> Option<Write
     if first(cpu, domain, name) {
         return None;
     }
-    let writer = Writer { domain, lock: name };
+    begin_write_slowpath(cpu, domain, lock)
+}
+
+// From the place to which the first row led that met somebody, up to where the call rests. It is out
+// of the way of a call that finds nobody.
+#[cold]
+#[inline(never)]
+fn begin_write_slowpath(cpu: &mut Cpu, domain: &Domain, lock: LockId) -> Option<WriteWaiter>
+    requires domain { IsOf cpu.old domain.now }
+    requires lock { lock.index < locks_of domain.now.plan }
+    requires begun { (s : Start) × polled.Began domain.now lock.index s cpu.old None }
+    ensures rest { KeepsRest cpu.old cpu.new }
+    ensures entered { result ≡ None → (s : Start)
+        → polled.Began domain.now lock.index s cpu.old None
+        → Entered domain.now lock.index s cpu.new None }
+    ensures lock { (w : WriteWaiter) → result ≡ Some w → w.lock ≡ lock }
+    ensures waits { (w : WriteWaiter) → result ≡ Some w → (s : Start)
+        → polled.Began domain.now lock.index s cpu.old None → Waits domain.now w s cpu.new }
+{
+    let writer = Writer {
+        domain,
+        lock: LockName {
+            index: lock.index,
+            wait: false,
+        },
+    };
     match writer.contend(cpu) {
         Some(place) => Some(WriteWaiter { lock, place }),
         None => None,
