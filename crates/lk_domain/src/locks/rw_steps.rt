@@ -118,9 +118,8 @@ pub fn join_first(cpu: &mut Cpu, domain: &Domain, verb: Verb, lock: LockName) ->
     met
 }
 
-/// Adds a reader to the word of a reader-writer lock, and returns the word before the step. In a
-/// call of `read_lock` this is the row R1, which is its first, or R4. In a call of `try_read` it
-/// is Y2.
+/// Adds a reader to the word of a reader-writer lock, and returns the word before the step. A call
+/// of `read_lock` makes it as R1, the first of its rows, or as R4; a call of `try_read` as Y2.
 pub fn add_bias(cpu: &mut Cpu, domain: &Domain, verb: Verb, lock: LockName) -> u64
     requires domain { IsOf cpu.old domain.now }
     requires lock { lock.index < locks_of domain.now.plan }
