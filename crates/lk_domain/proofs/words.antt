@@ -4,3 +4,5 @@ pub mod OnWords
 pub mod Numbers
 pub mod LockPlays
 pub mod Onward
+pub mod Uses
+pub mod Goings

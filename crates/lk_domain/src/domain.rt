@@ -1,21 +1,16 @@
 // A domain: one table of words, and what it was made of.
-ghost use Rattle.std.specs.Prelude.{◌≡◌, ◌+◌, ◌*◌, ◌<◌, ◌≤◌, Some, length, slice_get};
+ghost use Rattle.std.specs.Prelude.{◌≡◌, ◌+◌, ◌<◌, Some, slice_get};
 ghost use Rattle.lk_domain.specs.Plans.{cpus_of, locks_of, accounts_of, layout_in, IsRunningPlan};
 ghost use Rattle.lk_domain.specs.Values.{homes_of};
-ghost use Rattle.lk_domain.specs.Words.{words_of, lock_at, word_at, node_at, IsNode};
-ghost use Rattle.lk_domain.specs.NodePlays.{IsFlagNode};
-ghost use Rattle.lk_domain.specs.Words.{name_number, flag_number, marked};
-ghost use Rattle.lk_word.specs.SpinWord.{index_unit, tail_number};
+ghost use Rattle.lk_domain.specs.Words.{words_of};
 
-use crate::part::{Link, Part};
 use crate::plan::Plan;
 use crate::rule::Order;
 use crate::slot::Slot;
 use crate::view::View;
 use atomic_table::Table;
-use lk_abs::{Format, Kind, LockName, Mode};
-use lk_rows::Flag;
-use lk_word::{Layout, MARK, NodeName};
+use lk_abs::{Format, Kind, Mode};
+use lk_word::Layout;
 use std::alloc::Global;
 
 /// Locks that threads acquire, and a ledger that they guard.
@@ -59,10 +54,7 @@ impl Domain {
     pub fn layout(&self) -> Layout
         ensures { result ≡ layout_in self.now.plan }
     {
-        match self.plan.format {
-            Format::One => Layout::Narrow,
-            Format::Two => Layout::Wide,
-        }
+        self.plan.layout()
     }
 
     /// The most handoffs that may pass a moved waiter, in mode `cna`.
@@ -109,82 +101,5 @@ impl Domain {
     {
         prove!(self.plan.balances.len() <= 64);
         self.plan.balances.len() as u32
-    }
-
-    // Where the word of a lock stands, which is no wait lock.
-    pub(crate) fn lock_word(&self, lock: u32) -> usize
-        requires { lock < locks_of self.now.plan }
-        ensures { result ≡ lock_at lock }
-    {
-        prove!(self.plan.locks.len() <= 32);
-        8 + 8 * lock as usize
-    }
-
-    // Where the word of a lock or a wait lock stands.
-    pub(crate) fn word_of(&self, name: LockName) -> usize
-        requires { name.index < locks_of self.now.plan }
-        ensures { result ≡ word_at name }
-    {
-        prove!(self.plan.locks.len() <= 32);
-        let word = self.lock_word(name.index);
-        if name.wait { word + 1 } else { word }
-    }
-
-    // Where a word of a node stands.
-    pub(crate) fn node_of(&self, node: NodeName, part: Part) -> usize
-        requires { IsNode self.now.plan node }
-        ensures { result ≡ node_at self.now.plan node part }
-    {
-        prove!(self.plan.locks.len() <= 32);
-        prove!(self.plan.topology.sockets.len() <= 64);
-        let place = part.index();
-        prove!(place < 4);
-        72 + place + 8 * self.plan.locks.len() + (16 * node.cpu as usize + 4 * node.index as usize)
-    }
-
-    // What a tail's index counts for in a word. What is below it is no part of the tail.
-    pub(crate) fn tail_unit(&self) -> u64
-        ensures { result ≡ index_unit (layout_in self.now.plan) }
-    {
-        lk_word::tail_unit(self.layout())
-    }
-
-    // The number of the word of a free lock with this node as the tail.
-    pub(crate) fn tail_of(&self, node: NodeName) -> u64
-        requires { IsNode self.now.plan node }
-        ensures { result ≡ tail_number (layout_in self.now.plan) (Some node) }
-    {
-        lk_word::tail_number(self.layout(), node)
-    }
-
-    // The number of a flag.
-    pub(crate) fn flag_of(&self, flag: Flag) -> u64
-        requires { IsFlagNode self.now.plan flag }
-        ensures { result ≡ flag_number flag }
-    {
-        match flag {
-            Flag::Unset => 0,
-            Flag::Go => 1,
-            Flag::Second(node) => self.name_of(node),
-        }
-    }
-
-    // The number of a link to a node, with its mark.
-    pub(crate) fn link_of(&self, link: Link) -> u64
-        requires { IsNode self.now.plan link.node }
-        ensures { result ≡ marked link.mark (name_number link.node) }
-    {
-        prove!(self.plan.topology.sockets.len() <= 64);
-        let name = self.name_of(link.node);
-        if link.mark { MARK + name } else { name }
-    }
-
-    // The number of a node.
-    pub(crate) fn name_of(&self, node: NodeName) -> u64
-        requires { IsNode self.now.plan node }
-        ensures { result ≡ name_number node }
-    {
-        prove!(self.plan.topology.sockets.len() <= 64);
-        lk_word::name_number(node)
     }
 }

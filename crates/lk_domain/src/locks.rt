@@ -4,8 +4,8 @@
 //! `node_moves`, and a step of a reader-writer lock's word in `rw_moves`.
 
 mod choice_steps;
-mod moves;
-mod node_moves;
+pub mod moves;
+pub mod node_moves;
 mod queue_steps;
 mod rw_moves;
 mod rw_steps;

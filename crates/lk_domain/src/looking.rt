@@ -15,7 +15,7 @@ impl Domain {
     pub fn is_locked(&self, lock: LockId) -> bool
         requires { lock.index < locks_of self.now.plan }
     {
-        let word = self.table.shared.peek(self.lock_word(lock.index));
+        let word = self.table.shared.peek(self.plan.lock_word(lock.index));
         match self.kind(lock) {
             Kind::Spin => low_byte(word) != 0,
             Kind::Rw => low_byte(word) != 0 || word >= READER,
@@ -31,7 +31,7 @@ impl Domain {
         requires { lock.index < locks_of self.now.plan }
     {
         let shared = &self.table.shared;
-        let word = self.lock_word(lock.index);
+        let word = self.plan.lock_word(lock.index);
         match self.kind(lock) {
             Kind::Spin => shared.peek(word) >= PENDING,
             Kind::Rw => low_byte(shared.peek(word + 1)) != 0,

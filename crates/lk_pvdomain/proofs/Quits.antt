@@ -27,15 +27,15 @@ use Rattle.lk_domain.specs.Views.{IsNumbered}
 use Rattle.lk_domain.specs.Words.{word_at}
 use Rattle.lk_domain.specs.declared.plan.Plan.{Plan}
 use Rattle.lk_domain.specs.declared.view.View.{View}
-use Rattle.lk_domain.proofs.Acting.{is_first_of}
-use Rattle.lk_domain.proofs.words.Onward.{asks_on}
+use Rattle.lk_domain.proofs.Acting.{acting_is}
+use Rattle.lk_domain.proofs.words.Onward.{acts_at, asks_on}
+use Rattle.lk_domain.proofs.words.Uses.{either_frees}
 use Rattle.lk_domain.proofs.words.LockPlays.{MayFree}
 use Rattle.lk_domain.proofs.words.Numbers.{held_packed}
 use Rattle.lk_domain.proofs.words.OnWords.{OnWord, word_stores}
 use Rattle.lk_domain.proofs.queue.Pending.{last_word, last_is, last_test}
 use Rattle.lk_pvdomain.specs.PvPlays.{AtLast}
 use Rattle.lk_pvdomain.specs.PvRows.{quits}
-use Rattle.lk_pvdomain.proofs.plays.WordPlays.{acts_at, either_frees}
 
 quit_on : (c : Pc) (f : Frame) → quits c ≡ true → OnWord (target c f)
 quit_on E13 f h = tt
@@ -45,10 +45,6 @@ quit_on _ f h = cc h
 quit_frees : (c : Pc) → quits c ≡ true → MayFree c → ⊥
 quit_frees E13 h t = either_frees (is_last t.2 (t.0.word t.2.lock)) _ _ (λ e. cc e) (λ e. cc e) t.3
 quit_frees _ h t = cc h
-
-quit_later : (c : Pc) (v : Verb) → quits c ≡ true → is_first_of c v ≡ false
-quit_later E13 v h = refl
-quit_later _ v h = cc h
 
 -- an exchange of the word of a held lock with the own node as its tail for 1 leaves a held lock without one
 quit : (layout : Layout) (mode : Mode) (c : Pc) (f : Frame) (y : Fields) (n : NodeName) → quits c ≡ true
@@ -72,11 +68,11 @@ quit layout mode _ f y n h fits near own = cc h
 module _ (k plan : Plan) (slots id : ℕ) (m : Me Slot View) (number : IsNumbered m.0) (verb : Verb)
     (n : LockName) (i : ℕ) (same : k ≡ plan) (near : n.index < locks_of plan) (at : i ≡ word_at n) where
   pub quit_asks : (own : NodeName) → (own.cpu ≤ 16382) × (own.index ≤ 3) → (last : ℕ)
-      → last ≡ tail_number (layout_in plan) (Some own) + 1 → AtLast own verb n m.0
+      → last ≡ tail_number (layout_in plan) (Some own) + 1 → AtLast own n verb m.0
       → Allows (Stand k) slots id m i (λ x. either (eqb x last) 1 x) (WentBy m)
   quit_asks own small last is h =
       asks_on k plan slots id m number verb n i same near at quits
       (acts_at quits m verb n (record { row = E13; is = refl; stands = h.stands })) (λ c q f. quit_on c f q)
-      (λ may. absurd (quit_frees E13 refl may)) (quit_later E13 verb refl) (λ x. either (eqb x last) 1 x)
+      (λ may. absurd (quit_frees E13 refl may)) (acting_is m.0.calls verb n E13 h.stands m.0.who.plan.mode) (λ x. either (eqb x last) 1 x)
       (λ mode y packs known. ap (λ (t : ℕ). either (eqb (packed (layout_in plan) y) t) 1 (packed (layout_in plan) y)) is
       ∙ quit (layout_in plan) mode E13 h.stands.frame y own refl packs small (ap node_of h.me))

@@ -1,3 +1,2 @@
-pub mod WordPlays
 pub mod StatePlays
 pub mod MarkPlays

@@ -37,12 +37,6 @@ pub record AtTold (kind : Pc → Bool) (told : Pc → State) (node : NodeName) (
   pub at : AtState kind node v
   pub told_is : state ≡ told at.row
 
--- it stands at a row of this kind, of this operation on the lock
-pub record AtWord (kind : Pc → Bool) (verb : Verb) (lock : LockName) (v : View) : Type 0 where
-  pub row : Pc
-  pub is : kind row ≡ true
-  pub stands : StandsOn v.calls verb lock row
-
 -- it stands at a row at which a waiter looks at its flag, and this is its own node
 pub record AtFlag (own : NodeName) (v : View) : Type 0 where
   pub verb : Verb
@@ -60,7 +54,7 @@ pub record AtBehind (own : NodeName) (v : View) : Type 0 where
   pub me : stands.frame.me ≡ Some own
 
 -- it has the lock of this name, and may be the last of its queue
-pub record AtLast (own : NodeName) (verb : Verb) (lock : LockName) (v : View) : Type 0 where
+pub record AtLast (own : NodeName) (lock : LockName) (verb : Verb) (v : View) : Type 0 where
   pub stands : StandsOn v.calls verb lock E13
   pub me : stands.frame.me ≡ Some own
 

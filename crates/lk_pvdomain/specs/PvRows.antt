@@ -5,8 +5,8 @@ use Rattle.lk_rows.specs.declared.parts.State.{State}
 use Rattle.lk_rows.specs.declared.parts.State.TheVariants.{Running, Halted, Hashed}
 use Rattle.lk_rows.specs.declared.parts.Frame.{Frame}
 use Rattle.lk_rows.specs.declared.parts.Pc.{Pc}
-use Rattle.lk_rows.specs.declared.parts.Pc.TheVariants.{W2, W3, W5, W6, W7, E1, E2, E3, E7, E8, E10, E11}
-use Rattle.lk_rows.specs.declared.parts.Pc.TheVariants.{E4, E5, E6, E9, K3, U3, E12, E13, H1, H2, K1, K2, U2, U4, W1, W4}
+use Rattle.lk_rows.specs.declared.parts.Pc.TheVariants.{W2, W3, W5, W6, W7, E1, E2, E10}
+use Rattle.lk_rows.specs.declared.parts.Pc.TheVariants.{E4, E6, E9, K3, U3, E12, E13, H2, K1, U2, W1, W4}
 use Rattle.lk_rows.specs.Moves.{node_of}
 
 -- a look at a state: of the node before, and of the own
@@ -60,42 +60,6 @@ abbrev pub halts_at : Pc → Bool
 halts_at W6 = true
 halts_at E12 = true
 halts_at _ = false
-
--- a look at the word of the lock
-abbrev pub looks_word : Pc → Bool
-looks_word H1 = true
-looks_word E11 = true
-looks_word _ = false
-
--- pending is set
-abbrev pub presses : Pc → Bool
-presses E3 = true
-presses _ = false
-
--- the byte becomes slow, whatever it is
-abbrev pub slows : Pc → Bool
-slows E7 = true
-slows _ = false
-
--- a slow byte becomes held
-abbrev pub wins : Pc → Bool
-wins E8 = true
-wins _ = false
-
--- a held byte becomes slow
-abbrev pub signs : Pc → Bool
-signs K2 = true
-signs _ = false
-
--- a slow byte becomes free
-abbrev pub drops : Pc → Bool
-drops U4 = true
-drops _ = false
-
--- the pending bit is cleared, which the queue head has set
-abbrev pub relents : Pc → Bool
-relents E5 = true
-relents _ = false
 
 -- the last of the queue leaves it, and there is none behind it
 abbrev pub quits : Pc → Bool

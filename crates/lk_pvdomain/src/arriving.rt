@@ -10,10 +10,12 @@ ghost use Rattle.lk_word.specs.declared.spin_word.NodeName.{NodeName as Node};
 
 use crate::call::Queued;
 use crate::met::word_met;
-use crate::{nodes, shared, states, tries, words};
+use crate::{nodes, states, tries, words};
 use crossbeam_utils::Backoff;
-use lk_domain::{Part, Right};
-use lk_rows::{Verb, is_unlocked};
+use lk_abs::LockName;
+use lk_domain::moves::{Arrival, WordUse};
+use lk_domain::{Link, Part, Right, moves, node_moves};
+use lk_rows::is_unlocked;
 use lk_word::{Fields, NodeName, low_byte, without_low_byte};
 use std::sync::Wait;
 
@@ -23,9 +25,9 @@ impl<'a> Queued<'a> {
         requires { Waits self.now G1 Any seat.old }
         ensures { Steps self.now G1 Any H1 Owns seat.old seat.new }
     {
-        nodes::reset(seat, self.domain, Verb::Lock, self.own, Part::Flag);
-        nodes::reset(seat, self.domain, Verb::Lock, self.own, Part::Next);
-        states::enter(seat, self.domain, Verb::Lock, self.own);
+        nodes::reset(seat, self.domain, self.own, Part::Flag);
+        nodes::reset(seat, self.domain, self.own, Part::Next);
+        states::enter(seat, self.domain, self.own);
     }
 
     // From H1. Returns whether it acquired the lock; else it joins the queue.
@@ -75,7 +77,7 @@ impl<'a> Queued<'a> {
         ensures { Steps self.now H1 Owns (after_glance (Some self.now.own) result)
             (Steals (is_some result.tail)) seat.old seat.new }
     {
-        let met = words::look_word(seat, self.domain, Verb::Lock, self.lock);
+        let met = words::go_on(seat, self.domain, self.lock, WordUse::Looks);
         word_met(self.domain, met)
     }
 
@@ -103,9 +105,16 @@ impl<'a> Queued<'a> {
         ensures behind { (prev : Node) → result ≡ Some prev
             → Steps self.now G4 Owns G5 (Follows prev) seat.old seat.new }
     {
-        let mut expected = words::guess(self.domain, self.lock);
+        let domain = self.domain;
+        let lock = LockName {
+            index: self.lock,
+            wait: false,
+        };
+        let mut expected = words::guess(domain, self.lock);
         for _ in rt.forever() {
-            let met = shared::exchange_tail(seat, self.domain, self.lock, expected, self.own);
+            let own = self.own;
+            let arrival = Arrival { expected, own };
+            let met = moves::exchange_tail(seat, &domain.table, &domain.plan, lock, arrival);
             if met == expected {
                 return word_met(self.domain, met).tail;
             }
@@ -114,13 +123,17 @@ impl<'a> Queued<'a> {
         unreachable!()
     }
 
-    // The row G5.
+    // The row G5. No call here is nested in another, so the link has no mark.
     pub(crate) fn link(&self, seat: &mut Right, prev: NodeName)
         requires prev { IsNodeOf self.now prev }
         requires waits { Waits self.now G5 (Follows prev) seat.old }
         ensures { Steps self.now G5 (Follows prev) W1 (Spins prev) seat.old seat.new }
     {
-        nodes::link(seat, self.domain, Verb::Lock, prev, self.own);
+        let own = Link {
+            node: self.own,
+            mark: false,
+        };
+        node_moves::link(seat, &self.domain.table, &self.domain.plan, prev, own);
     }
 }
 

@@ -13,8 +13,8 @@ ghost use Rattle.lk_pvdomain.specs.PvPaths.{At, Ended, Rests, Took, first_of};
 
 use crate::cpu::PvCpu;
 use crate::domain::PvDomain;
-use crate::{freeing, shared, slowpath, tries};
-use lk_domain::{LockId, Right};
+use crate::{freeing, slowpath, tries};
+use lk_domain::{LockId, Right, moves};
 use lk_word::NodeName;
 use std::sync::Wait;
 
@@ -29,7 +29,7 @@ fn fast(seat: &mut Right, domain: &PvDomain, lock: u32) -> bool
     ensures goes { result ≡ false → (own : NodeName) → Rests domain.now own seat.old
         → At domain.now Lock lock own (first_of Lock lock seat.old) G1 Any seat.new }
 {
-    if shared::take_free(seat, domain, lock) == 0 {
+    if moves::take_free(seat, &domain.table, &domain.plan, lock) == 0 {
         return true;
     }
     false
@@ -96,10 +96,10 @@ fn attempt(seat: &mut Right, domain: &PvDomain, lock: u32, own: NodeName) -> boo
     ensures missed { result ≡ false
         → Ended domain.now Try lock own (first_of Try lock seat.old) Unchanged seat.new }
 {
-    if shared::look_once(seat, domain, lock) != 0 {
+    if moves::look_once(seat, &domain.table, &domain.plan, lock) != 0 {
         return false;
     }
-    if shared::take_once(seat, domain, lock) == 0 {
+    if moves::take_once(seat, &domain.table, &domain.plan, lock) == 0 {
         return true;
     }
     false

@@ -1,17 +1,16 @@
 // A domain whose waiters halt: one table of words, and what it was made of.
 ghost use Rattle.std.specs.Prelude.{◌≡◌, ◌<◌, ◌+◌, Some, true};
-ghost use Rattle.lk_word.specs.SpinWord.{index_unit, tail_number};
+ghost use Rattle.lk_word.specs.SpinWord.{tail_number};
 ghost use Rattle.lk_law.specs.Agree.{halts};
 ghost use Rattle.lk_domain.specs.Plans.{IsRunningPlan, cpus_of, layout_in, locks_of, accounts_of, turns_of};
 ghost use Rattle.lk_domain.specs.Values.{homes_of};
-ghost use Rattle.lk_domain.specs.Words.{words_of, lock_at, IsNode, state_at, kick_at, hash_at, places_of};
-ghost use Rattle.lk_domain.specs.Words.{state_number, far_of, node_at, name_number, part_index, pair_number};
+ghost use Rattle.lk_domain.specs.Words.{words_of, IsNode, state_at, kick_at, hash_at, places_of};
+ghost use Rattle.lk_domain.specs.Words.{state_number, far_of, pair_number};
 
 use atomic_table::Table;
-use lk_abs::Format;
-use lk_domain::{Order, Part, Plan, Slot, View};
+use lk_domain::{Order, Plan, Slot, View};
 use lk_rows::State;
-use lk_word::{HELD, Layout, NodeName};
+use lk_word::{HELD, NodeName};
 use std::alloc::Global;
 
 /// Paravirtual locks that threads acquire, and a ledger that lock 0 guards.
@@ -37,16 +36,6 @@ impl PvDomain {
         self.plan.balances.len() as u32
     }
 
-    // How the words of its locks are laid out.
-    pub(crate) fn layout(&self) -> Layout
-        ensures { result ≡ layout_in self.now.plan }
-    {
-        match self.plan.format {
-            Format::One => Layout::Narrow,
-            Format::Two => Layout::Wide,
-        }
-    }
-
     // The spin bound: how many turns a waiter spins before it halts.
     pub(crate) fn turns(&self) -> u32
         ensures { result ≡ turns_of self.now.plan }
@@ -54,56 +43,12 @@ impl PvDomain {
         self.plan.threshold
     }
 
-    // Where the word of a lock stands.
-    pub(crate) fn lock_word(&self, lock: u32) -> usize
-        requires { lock < locks_of self.now.plan }
-        ensures { result ≡ lock_at lock }
-    {
-        prove!(self.plan.locks.len() <= 32);
-        8 + 8 * lock as usize
-    }
-
-    // Where the flag or the link of a node stands.
-    pub(crate) fn node_of(&self, node: NodeName, part: Part) -> usize
-        requires { IsNode self.now.plan node }
-        ensures { result ≡ node_at self.now.plan node part }
-    {
-        prove!(self.plan.locks.len() <= 32);
-        prove!(self.plan.topology.sockets.len() <= 64);
-        let place = index_of(part);
-        72 + place + 8 * self.plan.locks.len() + (16 * node.cpu as usize + 4 * node.index as usize)
-    }
-
-    // What the index of a tail counts for: what is below it is no part of the tail.
-    pub(crate) fn tail_unit(&self) -> u64
-        ensures { result ≡ index_unit (layout_in self.now.plan) }
-    {
-        lk_word::tail_unit(self.layout())
-    }
-
-    // The number of the word of a free lock with this node as the tail.
-    pub(crate) fn tail_of(&self, node: NodeName) -> u64
-        requires { IsNode self.now.plan node }
-        ensures { result ≡ tail_number (layout_in self.now.plan) (Some node) }
-    {
-        lk_word::tail_number(self.layout(), node)
-    }
-
     // The number of the word of a held lock with this node as the tail, and nobody pending.
     pub(crate) fn last_of(&self, node: NodeName) -> u64
         requires { IsNode self.now.plan node }
         ensures { result ≡ tail_number (layout_in self.now.plan) (Some node) + 1 }
     {
-        self.tail_of(node) + HELD
-    }
-
-    // The number of a node.
-    pub(crate) fn name_of(&self, node: NodeName) -> u64
-        requires { IsNode self.now.plan node }
-        ensures { result ≡ name_number node }
-    {
-        prove!(self.plan.topology.sockets.len() <= 64);
-        lk_word::name_number(node)
+        self.plan.tail_of(node) + HELD
     }
 
     // Where the words begin that only this family needs.
@@ -162,18 +107,6 @@ impl PvDomain {
         prove!(self.plan.locks.len() <= 32);
         prove!(self.plan.topology.sockets.len() <= 64);
         self.far() + 4 * self.plan.topology.sockets.len() + place
-    }
-}
-
-// The place of a word among those of a node.
-fn index_of(part: Part) -> usize
-    ensures { (result ≡ part_index part) × (result < 4) }
-{
-    match part {
-        Part::Flag => 0,
-        Part::Next => 1,
-        Part::SecondTail => 2,
-        Part::Runs => 3,
     }
 }
 

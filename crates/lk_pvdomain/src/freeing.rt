@@ -13,7 +13,7 @@ ghost use Rattle.lk_pvdomain.specs.PvPaths.{At, Ended, Start};
 use crate::domain::PvDomain;
 use crate::{hash, kicks, tries, words};
 use lk_domain::Right;
-use lk_rows::Verb;
+use lk_domain::moves::WordUse;
 use lk_word::{HELD, low_byte};
 use std::sync::Wait;
 
@@ -48,6 +48,6 @@ fn wake_next(seat: &mut Right, domain: &PvDomain, lock: u32)
         → Ended domain.now Unlock lock own s Frees seat.new }
 {
     let pair = hash::take_out(seat, domain, lock);
-    words::drop_slow(seat, domain, Verb::Unlock, lock);
+    words::go_on(seat, domain, lock, WordUse::Drops);
     kicks::kick(seat, domain, ((pair - 1) / 128) as u32);
 }

@@ -7,7 +7,8 @@ use crate::met::{is_last, node_met, word_met};
 use crate::{hash, nodes, states, words};
 use crossbeam_utils::Backoff;
 use lk_domain::Right;
-use lk_rows::{State, Verb};
+use lk_domain::moves::WordUse;
+use lk_rows::State;
 use lk_word::NodeName;
 use std::sync::Wait;
 
@@ -17,7 +18,7 @@ impl<'a> Queued<'a> {
         requires { Waits self.now E13 Owns seat.old }
         ensures { Takes self.now E13 Owns seat.old seat.new }
     {
-        let met = words::quit(seat, self.domain, Verb::Lock, self.lock, self.own);
+        let met = words::quit(seat, self.domain, self.lock, self.own);
         if is_last(word_met(self.domain, met), self.own) {
             return;
         }
@@ -54,7 +55,7 @@ impl<'a> Queued<'a> {
         if states::rouse(seat, self.domain, to, State::Hashed) != 1 {
             return;
         }
-        words::sign(seat, self.domain, Verb::Lock, self.lock);
+        words::go_on(seat, self.domain, self.lock, WordUse::Signs);
         hash::put_in(seat, rt, self.domain, self.lock, to);
     }
 }

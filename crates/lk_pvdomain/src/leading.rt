@@ -7,7 +7,8 @@ use crate::call::Queued;
 use crate::{hash, kicks, pacing, states, tries, words};
 use crossbeam_utils::Backoff;
 use lk_domain::Right;
-use lk_rows::{State, Verb};
+use lk_domain::moves::WordUse;
+use lk_rows::State;
 use lk_word::{SLOW, is_free_for_pending, low_byte};
 use std::sync::Wait;
 
@@ -50,11 +51,11 @@ impl<'a> Queued<'a> {
             seat.old seat.new }
     {
         states::store_state(seat, self.domain, self.own, State::Running);
-        words::press(seat, self.domain, Verb::Lock, self.lock);
+        words::go_on(seat, self.domain, self.lock, WordUse::Pends);
         if self.spend_turns(seat, rt) {
             return true;
         }
-        words::relent(seat, self.domain, Verb::Lock, self.lock);
+        words::go_on(seat, self.domain, self.lock, WordUse::Clears);
         if hashed {
             return false;
         }
@@ -93,10 +94,10 @@ impl<'a> Queued<'a> {
             seat.old seat.new }
     {
         hash::put_in(seat, rt, self.domain, self.lock, self.own);
-        if low_byte(words::slow(seat, self.domain, Verb::Lock, self.lock)) != 0 {
+        if low_byte(words::go_on(seat, self.domain, self.lock, WordUse::Slows)) != 0 {
             return false;
         }
-        words::win(seat, self.domain, Verb::Lock, self.lock);
+        words::go_on(seat, self.domain, self.lock, WordUse::Wins);
         hash::take_out(seat, self.domain, self.lock);
         true
     }
@@ -107,7 +108,7 @@ impl<'a> Queued<'a> {
         ensures { Steps self.now E10 (Leads true) E2 (Leads true) seat.old seat.new }
     {
         states::store_state(seat, self.domain, self.own, State::Hashed);
-        if low_byte(words::look_word(seat, self.domain, Verb::Lock, self.lock)) != SLOW {
+        if low_byte(words::go_on(seat, self.domain, self.lock, WordUse::Looks)) != SLOW {
             return;
         }
         kicks::halt(seat, self.domain, self.own.cpu);

@@ -22,7 +22,6 @@ mod pacing;
 mod pages;
 mod plan;
 mod rule;
-mod shared;
 mod slowpath;
 mod states;
 mod tries;

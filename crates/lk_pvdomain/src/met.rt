@@ -19,7 +19,7 @@ pub(crate) fn word_met(domain: &PvDomain, met: u64) -> Fields
     ensures { (word : Fields) → IsPackable (layout_in domain.now.plan) word
         → met ≡ packed (layout_in domain.now.plan) word → result ≡ word }
 {
-    match unpack(domain.layout(), met as u32) {
+    match unpack(domain.plan.layout(), met as u32) {
         Some(word) => word,
         None => unreachable!(),
     }

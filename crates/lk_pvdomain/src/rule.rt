@@ -1,9 +1,8 @@
 // What each kind of step on the table does to a seat.
-ghost use Rattle.lk_domain.specs.NodePlays.{Enters, Hands, Links, Readies, SeesFlag, SeesLink};
-ghost use Rattle.lk_domain.specs.Plays.{Makes, Swaps, WentBy};
+ghost use Rattle.lk_domain.specs.NodePlays.{Enters, Hands, Readies, SeesFlag, SeesLink};
 ghost use Rattle.lk_pvdomain.specs.PvPlays.{SeesState, Halts, Wakes, Stays, Kicks, Fills, SeesHash, Empties, Tries};
 ghost use Rattle.lk_pvdomain.specs.PvPlays.{SparedBy, release_fails, head_fails, steal_fails};
-ghost use Rattle.lk_rows.specs.declared.setup.Verb.TheVariants.{Lock, Try, Unlock};
+ghost use Rattle.lk_rows.specs.declared.setup.Verb.TheVariants.{Lock, Unlock};
 
 use atomic_table::Play;
 use lk_domain::{Slot, View};
@@ -13,13 +12,6 @@ pub struct StateSteps;
 
 impl Play<Slot, View> for StateSteps {
     ghost then = { λ _. SeesState };
-}
-
-// A step on the word of a lock.
-pub struct WordSteps;
-
-impl Play<Slot, View> for WordSteps {
-    ghost then = { λ _. WentBy };
 }
 
 // The processor halts, in a read of its kick word.
@@ -92,46 +84,11 @@ impl Play<Slot, View> for Handovers {
     ghost then = { λ _. Hands };
 }
 
-// A call links its node behind that of its predecessor.
-pub struct Linkings;
-
-impl Play<Slot, View> for Linkings {
-    ghost then = { λ _. Links };
-}
-
-// A word of the node to come is reset.
-pub struct Resets;
-
-impl Play<Slot, View> for Resets {
-    ghost then = { Readies };
-}
-
 // A look at a word of the node to come, which need not be reset where it is 0.
 pub struct ResetLooks;
 
 impl Play<Slot, View> for ResetLooks {
     ghost then = { λ st m. SparedBy (Readies st m) m };
-}
-
-// A step on the word of a lock by a call that takes it.
-pub struct Locks;
-
-impl Play<Slot, View> for Locks {
-    ghost then = { Makes Lock };
-}
-
-// The same by a call that tries it once.
-pub struct TryCalls;
-
-impl Play<Slot, View> for TryCalls {
-    ghost then = { Makes Try };
-}
-
-// An exchange of the whole word, which may be tried again.
-pub struct Exchanges;
-
-impl Play<Slot, View> for Exchanges {
-    ghost then = { Swaps };
 }
 
 // The last private store of a node to come, by which the call enters the slow path.

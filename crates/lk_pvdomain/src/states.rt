@@ -1,6 +1,6 @@
 // The steps of a seat on the states of nodes, each one operation.
 ghost use Rattle.std.specs.Prelude.{◌≡◌, ◌≢◌};
-ghost use Rattle.lk_domain.specs.NodePlays.{AtEntry, Enters};
+ghost use Rattle.lk_domain.specs.NodePlays.{AtEntry, Enters, InCall};
 ghost use Rattle.lk_domain.specs.Views.{IsNumbered};
 ghost use Rattle.lk_domain.specs.Words.{IsNode};
 ghost use Rattle.lk_pvdomain.specs.PvPlays.{AtState, AtTold, SeesState};
@@ -9,7 +9,7 @@ ghost use Rattle.lk_pvdomain.specs.PvRows.{looks_state, stores_own, state_told, 
 use crate::domain::{PvDomain, number_of};
 use crate::rule::{Entries, EntryLooks, StateSteps};
 use lk_domain::Right;
-use lk_rows::{State, Verb};
+use lk_rows::State;
 use lk_word::NodeName;
 
 // Reads a state: the row W2, of the predecessor's node, or W5 or E1, of the own.
@@ -61,11 +61,11 @@ pub(crate) fn rouse(seat: &mut Right, domain: &PvDomain, node: NodeName, state: 
 }
 
 // Reads the state of the node that the call gets next. If it is 0 the call enters the slow path.
-fn look_entry(seat: &mut Right, domain: &PvDomain, _verb: Verb, own: NodeName) -> u64
+fn look_entry(seat: &mut Right, domain: &PvDomain, own: NodeName) -> u64
     requires table { seat.old.table_id ≡ domain.now.table.shared.table_id }
     requires number { IsNumbered seat.old.me.0 }
     requires own { IsNode domain.now.plan own }
-    requires row { AtEntry own _verb seat.old.me.0 }
+    requires row { InCall (AtEntry own) seat.old.me.0 }
     requires ready { seat.old.me.0.calls.ready ≡ 2 }
     ensures same { (seat.new.table_id ≡ seat.old.table_id) × (seat.new.id ≡ seat.old.id) }
     ensures spares { result ≡ 0 → Enters seat.old.me result seat.new.me }
@@ -77,11 +77,11 @@ fn look_entry(seat: &mut Right, domain: &PvDomain, _verb: Verb, own: NodeName) -
 }
 
 // Stores 0 into it, with which the call enters the slow path.
-fn store_entry(seat: &mut Right, domain: &PvDomain, _verb: Verb, own: NodeName) -> u64
+fn store_entry(seat: &mut Right, domain: &PvDomain, own: NodeName) -> u64
     requires table { seat.old.table_id ≡ domain.now.table.shared.table_id }
     requires number { IsNumbered seat.old.me.0 }
     requires own { IsNode domain.now.plan own }
-    requires row { AtEntry own _verb seat.old.me.0 }
+    requires row { InCall (AtEntry own) seat.old.me.0 }
     requires ready { seat.old.me.0.calls.ready ≡ 2 }
     ensures same { (seat.new.table_id ≡ seat.old.table_id) × (seat.new.id ≡ seat.old.id) }
     ensures step { Enters seat.old.me result seat.new.me }
@@ -93,18 +93,18 @@ fn store_entry(seat: &mut Right, domain: &PvDomain, _verb: Verb, own: NodeName) 
 
 // Resets the state of the node that the call gets next, with which the call enters the slow path:
 // the row G1. It stores only if a read does not find it reset.
-pub(crate) fn enter(seat: &mut Right, domain: &PvDomain, verb: Verb, own: NodeName) -> u64
+pub(crate) fn enter(seat: &mut Right, domain: &PvDomain, own: NodeName) -> u64
     requires table { seat.old.table_id ≡ domain.now.table.shared.table_id }
     requires number { IsNumbered seat.old.me.0 }
     requires own { IsNode domain.now.plan own }
-    requires row { AtEntry own verb seat.old.me.0 }
+    requires row { InCall (AtEntry own) seat.old.me.0 }
     requires ready { seat.old.me.0.calls.ready ≡ 2 }
     ensures same { (seat.new.table_id ≡ seat.old.table_id) × (seat.new.id ≡ seat.old.id) }
     ensures step { Enters seat.old.me result seat.new.me }
 {
-    let met = look_entry(seat, domain, verb, own);
+    let met = look_entry(seat, domain, own);
     if met == 0 {
         return met;
     }
-    store_entry(seat, domain, verb, own)
+    store_entry(seat, domain, own)
 }

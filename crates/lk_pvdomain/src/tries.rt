@@ -28,7 +28,7 @@ pub(crate) fn try_release(seat: &mut Right, domain: &PvDomain, lock: u32, expect
     ensures same { (seat.new.table_id ≡ seat.old.table_id) × (seat.new.id ≡ seat.old.id) }
     ensures step { TriedBy release_fails Unlock (lock_name lock) expected seat.old.me result seat.new.me }
 {
-    let word = domain.lock_word(lock);
+    let word = domain.plan.lock_word(lock);
     let met = domain
         .table
         .shared
@@ -46,7 +46,7 @@ fn look_head(seat: &mut Right, domain: &PvDomain, lock: u32) -> u64
     ensures same { (seat.new.table_id ≡ seat.old.table_id) × (seat.new.id ≡ seat.old.id) }
     ensures step { TriedBy head_fails Lock (lock_name lock) 0 seat.old.me result seat.new.me }
 {
-    let word = domain.lock_word(lock);
+    let word = domain.plan.lock_word(lock);
     let met = domain.table.shared.load::<HeadTries>(seat, word);
     met
 }
@@ -62,7 +62,7 @@ pub(crate) fn try_head(seat: &mut Right, domain: &PvDomain, lock: u32, expected:
     ensures same { (seat.new.table_id ≡ seat.old.table_id) × (seat.new.id ≡ seat.old.id) }
     ensures step { TriedBy head_fails Lock (lock_name lock) expected seat.old.me result seat.new.me }
 {
-    let word = domain.lock_word(lock);
+    let word = domain.plan.lock_word(lock);
     let met = domain
         .table
         .shared
@@ -80,7 +80,7 @@ pub(crate) fn try_steal(seat: &mut Right, domain: &PvDomain, lock: u32, expected
     ensures same { (seat.new.table_id ≡ seat.old.table_id) × (seat.new.id ≡ seat.old.id) }
     ensures step { TriedBy steal_fails Lock (lock_name lock) expected seat.old.me result seat.new.me }
 {
-    let word = domain.lock_word(lock);
+    let word = domain.plan.lock_word(lock);
     let met = domain
         .table
         .shared

@@ -14,7 +14,7 @@ use Rattle.lk_domain.specs.declared.notes.Notes.{Notes}
 use Rattle.lk_domain.specs.declared.view.View.{View}
 use Rattle.lk_domain.proofs.turns.Carried as row
 use Rattle.lk_domain.proofs.turns.Noted.{stays}
-use Rattle.lk_domain.proofs.words.Onward.{made_on, arrive_later}
+use Rattle.lk_domain.proofs.words.Onward.{made_on, now_of, arrive_later}
 use Rattle.lk_domain.proofs.turns.Stepped as stepped
 
 -- the seat has its number and what it carries, and the notes are still of its calls
@@ -30,7 +30,7 @@ module _ (v : Verb) (l : LockName) (expected met : ℕ) (m n : Me Slot View) (to
   -- the row was made
   pub made : met ≡ expected → MadeBy v l.index m met n
   made hit =
-      made_on v l met m n (arrives_by v) acts.acts (arrive_later v acts.acts.row acts.acts.is) (told.made hit)
+      made_on v l met m n (now_of (arrives_by v) m v l acts.acts (arrive_later v acts.acts.row acts.acts.is)) (told.made hit)
 
   after : met ≡ expected → Kept notes m n
   after hit =

@@ -1,5 +1,5 @@
 -- What the step calls ask of a call that goes on, on the word of a spinlock or a wait lock.
-use Rattle.std.proofs.Common.{◌≡◌, ℕ, ◌<◌, None, Bool, true, false, refl, sym, ap, ◌∙◌, subst, arith}
+use Rattle.std.proofs.Common.{◌≡◌, ℕ, ◌<◌, Bool, true, false, refl, sym, ap, ◌∙◌, subst}
 use Rattle.std.specs.Prelude.{◌&&◌, not}
 use Rattle.atomic_table.specs.Table.{Me, Allows}
 use Rattle.lk_abs.specs.declared.names.LockName.{LockName}
@@ -11,7 +11,7 @@ use Rattle.lk_rows.specs.declared.setup.Verb.{Verb}
 use Rattle.lk_rows.specs.declared.setup.Verb.TheVariants.{Lock, Read, Write}
 use Rattle.lk_rows.specs.TopRow.{target}
 use Rattle.lk_law.specs.Leads.{Word}
-use Rattle.lk_domain.specs.Calls.{Calls}
+use Rattle.lk_domain.specs.Calls.{Calls, acting}
 use Rattle.lk_domain.specs.Keeps.{AllHome, Slot}
 use Rattle.lk_domain.specs.Ledgers.{is_first}
 use Rattle.lk_domain.specs.Plans.{locks_of, layout_in}
@@ -19,18 +19,19 @@ use Rattle.lk_domain.specs.Plays.{ActsOn, MadeBy, WentBy, rowed}
 use Rattle.lk_domain.specs.Rows.{queues_up, is_patient, is_watch, looks_by, takes_by, frees_by, pends_by}
 use Rattle.lk_domain.specs.Rows.{clears_by, claims_by, arrives_by, soles_by, stakes_by, promotes_by}
 use Rattle.lk_domain.specs.Stand.{Stand}
+use Rattle.lk_domain.specs.Uses.{AtWord}
 use Rattle.lk_domain.specs.Views.{IsNumbered}
 use Rattle.lk_domain.specs.Words.{word_at}
 use Rattle.lk_domain.specs.declared.plan.Plan.{Plan}
 use Rattle.lk_domain.specs.declared.view.View.{View}
-use Rattle.lk_domain.proofs.Acting.{is_first_of, acting_now}
+use Rattle.lk_domain.proofs.Acting.{is_first_of, acting_now, acts_on, begins_on}
 use Rattle.lk_domain.proofs.words.LockPlays as plays
 use Rattle.lk_domain.proofs.words.LockPlays.{MayFree, WritesAt, plays_on}
 use Rattle.lk_domain.proofs.words.OnWords.{OnWord}
 
 -- which rows are no first ones
 
-watch_later : (c : Pc) (v : Verb) → is_watch c ≡ true → is_first_of c v ≡ false
+pub watch_later : (c : Pc) (v : Verb) → is_watch c ≡ true → is_first_of c v ≡ false
 watch_later V1 v h = refl
 watch_later P0 v h = refl
 watch_later P3 v h = refl
@@ -98,15 +99,30 @@ wait_last v n t e h = by (Rattle.std.proofs.Common.eqb n.index 0) n.wait (e ∙ 
     by true true e h = cc h
     by false true e h = cc h
 
+-- the newest call acts by its row
+abbrev pub acts_at : (kind : Pc → Bool) (m : Me Slot View) (verb : Verb) (l : LockName) → AtWord kind verb l m.0 → ActsOn kind m.0 verb l
+acts_at kind m verb l at =
+    record {
+      row = at.row;
+      is = at.is;
+      stands = acts_on m.0.calls verb l at.row at.stands m.0.who.plan.mode;
+      begins = begins_on m.0.calls verb l at.row at.stands m.0.who.plan;
+    }
+
+-- a call that makes another row than its first acts on what it has
+abbrev pub now_of : (kind : Pc → Bool) (m : Me Slot View) (v : Verb) (l : LockName) (acts : ActsOn kind m.0 v l)
+    → is_first_of acts.row v ≡ false → acting m.0.who.plan.mode m.0.calls v l.index ≡ m.0.calls
+now_of kind m v l acts later = acting_now m.0.who.plan.mode m.0.calls v l acts.row acts.stands later
+
 -- what the calls ask, in which the word is named by its place
 module _ (k plan : Plan) (slots id : ℕ) (m : Me Slot View) (number : IsNumbered m.0) (verb : Verb)
     (n : LockName) (i : ℕ) (same : k ≡ plan) (near : n.index < locks_of plan) (at : i ≡ word_at n) where
   pub asks_on : (kind : Pc → Bool) (acts : ActsOn kind m.0 verb n)
       → ((pc : Pc) → kind pc ≡ true → (fr : Frame) → OnWord (target pc fr))
       → (MayFree acts.row → AllHome n m.0)
-      → is_first_of acts.row verb ≡ false → (f : ℕ → ℕ) → WritesAt (layout_in plan) acts.row acts.stands.frame f
+      → acting m.0.who.plan.mode m.0.calls verb n.index ≡ m.0.calls → (f : ℕ → ℕ) → WritesAt (layout_in plan) acts.row acts.stands.frame f
       → Allows (Stand k) slots id m i f (WentBy m)
-  asks_on kind acts on home later f writes =
+  asks_on kind acts on home now f writes =
       let low = subst (λ (x : Plan). n.index < locks_of x) (sym same) near in
       let word = on acts.row acts.is in
       subst (λ (x : ℕ). Allows (Stand k) slots id m x f (WentBy m)) (sym at)
@@ -117,19 +133,18 @@ module _ (k plan : Plan) (slots id : ℕ) (m : Me Slot View) (number : IsNumbere
         tail = plays.y_tail k slots id m number verb n low acts.row acts.stands acts.begins word home s both me;
         word = plays.y_word k slots id m number verb n low acts.row acts.stands acts.begins word home s both me;
         seat = ap (λ (c : Calls). (rowed m.0 c (Word (plays.y k slots id m number verb n low acts.row acts.stands acts.begins word home s both me)), m.1))
-            (acting_now m.0.who.plan.mode m.0.calls verb n acts.row acts.stands later);
+            now;
       }) (subst (λ (x : Plan). WritesAt (layout_in x) acts.row acts.stands.frame f) (sym same) writes))
 
 -- such a step is one of the operation, on the lock
-pub made_on : (v : Verb) (l : LockName) (met : ℕ) (m n : Me Slot View) (kind : Pc → Bool) (acts : ActsOn kind m.0 v l)
-    → is_first_of acts.row v ≡ false → WentBy m met n → MadeBy v l.index m met n
-made_on v l met m n kind acts later made =
+pub made_on : (v : Verb) (l : LockName) (met : ℕ) (m n : Me Slot View) → acting m.0.who.plan.mode m.0.calls v l.index ≡ m.0.calls
+    → WentBy m met n → MadeBy v l.index m met n
+made_on v l met m n now made =
     record {
       found = made.found;
       packs = made.packs;
       tail = made.tail;
       word = made.word;
       seat = made.seat
-          ∙ ap (λ (c : Calls). (rowed m.0 c (Word made.found), m.1))
-          (sym (acting_now m.0.who.plan.mode m.0.calls v l acts.row acts.stands later));
+          ∙ ap (λ (c : Calls). (rowed m.0 c (Word made.found), m.1)) (sym now);
     }

@@ -26,7 +26,7 @@ pub fn cut(cpu: &mut Cpu, domain: &Domain, verb: Verb, node: NodeName) -> u64
     ensures rest { KeepsRest cpu.old cpu.new }
     ensures met { LinkMet cpu.old result cpu.new }
 {
-    node_moves::cut(&mut cpu.seat, domain, verb, node)
+    node_moves::cut(&mut cpu.seat, domain, node)
 }
 
 /// Links the node `next` behind the last node of the secondary queue, which is the row C4 or C9.
@@ -41,7 +41,7 @@ pub fn append(cpu: &mut Cpu, domain: &Domain, verb: Verb, node: NodeName, next: 
     ensures rest { KeepsRest cpu.old cpu.new }
     ensures met { LinkMet cpu.old result cpu.new }
 {
-    node_moves::append(&mut cpu.seat, domain, verb, node, next)
+    node_moves::append(&mut cpu.seat, domain, node, next)
 }
 
 /// Reads or stores the last node of the secondary queue, which stands in the first. If `store` is
@@ -63,8 +63,8 @@ pub fn second_tail(
     ensures met { IfSome store (λ _. NameMet cpu.old result cpu.new) }
 {
     match store {
-        None => node_moves::look_tail(&mut cpu.seat, domain, verb, node),
-        Some(tail) => node_moves::set_tail(&mut cpu.seat, domain, verb, node, tail),
+        None => node_moves::look_tail(&mut cpu.seat, domain, node),
+        Some(tail) => node_moves::set_tail(&mut cpu.seat, domain, node, tail),
     }
 }
 
@@ -77,7 +77,7 @@ pub fn look_next(cpu: &mut Cpu, domain: &Domain, verb: Verb, node: NodeName) -> 
     ensures rest { KeepsRest cpu.old cpu.new }
     ensures seen { LinkSeen cpu.old result cpu.new }
 {
-    node_moves::look_on(&mut cpu.seat, domain, verb, node)
+    node_moves::look_on(&mut cpu.seat, domain, node)
 }
 
 /// Reads the count of handoffs in the own node of the newest call, and returns it. This is no row
@@ -89,7 +89,7 @@ pub fn own_runs(cpu: &mut Cpu, domain: &Domain, verb: Verb, own: NodeName) -> u6
     ensures rest { KeepsRest cpu.old cpu.new }
     ensures seen { RunsSeen cpu.old result cpu.new }
 {
-    node_moves::look_runs(&mut cpu.seat, domain, verb, own)
+    node_moves::look_runs(&mut cpu.seat, domain, own)
 }
 
 /// Stores the count of handoffs into the node of the successor, which is the row C7. The count is
@@ -102,7 +102,7 @@ pub fn store_runs(cpu: &mut Cpu, domain: &Domain, verb: Verb, node: NodeName, ru
     ensures rest { KeepsRest cpu.old cpu.new }
     ensures row { Went (Number result) cpu.old cpu.new }
 {
-    node_moves::set_runs(&mut cpu.seat, domain, verb, node, runs)
+    node_moves::set_runs(&mut cpu.seat, domain, node, runs)
 }
 
 /// Swaps the tail from the own node to `tail`, the last node of the secondary queue, which is the

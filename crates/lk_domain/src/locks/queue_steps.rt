@@ -14,7 +14,7 @@ ghost use Rattle.lk_domain.specs.Seats.{IsOf, KeepsRest, Made, MadeFrom, calls_o
 ghost use Rattle.lk_domain.specs.Words.{IsNode, part_index, has_part, is_last};
 ghost use Rattle.lk_domain.specs.declared.part.Part.TheVariants as part_is;
 
-use super::moves::WordUse;
+use super::moves::{Arrival, WordUse};
 use super::verbs::queues_up;
 use super::{moves, node_moves};
 use crate::cpu::Cpu;
@@ -37,7 +37,7 @@ fn enter(cpu: &mut Cpu, domain: &Domain, verb: Verb, own: NodeName, part: Part)
     ensures row { Went (Number (slows (calls_of cpu.old).frames)) cpu.old cpu.new }
 {
     let lock = cpu.notes.newest();
-    node_moves::enter(&mut cpu.seat, domain, verb, own, part);
+    node_moves::enter(&mut cpu.seat, domain, own, part);
     let after = Standing {
         waits: true,
         slow: true,
@@ -55,7 +55,7 @@ fn reset_other(cpu: &mut Cpu, domain: &Domain, verb: Verb, own: NodeName, part: 
     ensures rest { KeepsRest cpu.old cpu.new }
     ensures reset { view_of cpu.new ≡ readied_by part (view_of cpu.old) }
 {
-    node_moves::reset(&mut cpu.seat, domain, verb, own, part);
+    node_moves::reset(&mut cpu.seat, &domain.table, &domain.plan, own, part);
 }
 
 /// Resets a word of the node that the newest call gets next. Nobody uses what the word held. A
@@ -91,7 +91,7 @@ pub fn enter_bare(cpu: &mut Cpu, domain: &Domain, verb: Verb, lock: LockName)
     ensures row { Went (Number (slows (calls_of cpu.old).frames)) cpu.old cpu.new }
 {
     prove!(domain.plan.locks.len() <= 32);
-    node_moves::enter_bare(&mut cpu.seat, domain, verb, lock);
+    node_moves::enter_bare(&mut cpu.seat, domain, lock);
     let after = Standing {
         waits: true,
         slow: true,
@@ -112,7 +112,7 @@ pub fn link(cpu: &mut Cpu, domain: &Domain, verb: Verb, prev: NodeName, own: Lin
     ensures met { result ≡ 0 }
     ensures row { Went (Named None) cpu.old cpu.new }
 {
-    node_moves::link(&mut cpu.seat, domain, verb, prev, own)
+    node_moves::link(&mut cpu.seat, &domain.table, &domain.plan, prev, own)
 }
 
 /// Reads the flag or the link of the own node of the newest call, which is the row G6, G10 or C1.
@@ -127,8 +127,8 @@ pub fn look_own(cpu: &mut Cpu, domain: &Domain, verb: Verb, own: NodeName, part:
     ensures next { part ≡ part_is.Next → LinkSeen cpu.old result cpu.new }
 {
     match part {
-        Part::Flag => node_moves::look_flag(&mut cpu.seat, domain, verb, own),
-        Part::Next => node_moves::look_next(&mut cpu.seat, domain, verb, own),
+        Part::Flag => node_moves::look_flag(&mut cpu.seat, domain, own),
+        Part::Next => node_moves::look_next(&mut cpu.seat, domain, own),
         Part::SecondTail | Part::Runs => unreachable!(),
     }
 }
@@ -147,7 +147,7 @@ pub fn hand(cpu: &mut Cpu, domain: &Domain, verb: Verb, to: NodeName, flag: Flag
     ensures row { Went (Flagged Unset) cpu.old cpu.new }
 {
     let lock = cpu.notes.newest();
-    let met = node_moves::hand(&mut cpu.seat, domain, verb, to, flag);
+    let met = node_moves::hand(&mut cpu.seat, domain, to, flag);
     let goes_on = queues_up(verb);
     let after = Standing {
         waits: goes_on,
@@ -171,7 +171,8 @@ pub fn exchange_tail(cpu: &mut Cpu, domain: &Domain, lock: LockName, met: u64, o
     ensures stands { result ≢ met → view_of cpu.new ≡ view_of cpu.old }
     ensures word { IsWord domain.now.plan result }
 {
-    moves::exchange_tail(&mut cpu.seat, domain, lock, met, own)
+    let arrival = Arrival { expected: met, own };
+    moves::exchange_tail(&mut cpu.seat, &domain.table, &domain.plan, lock, arrival)
 }
 
 /// Swaps the word of a lock from free, with the own node alone in its queue, to held without a
@@ -185,8 +186,8 @@ pub fn sole_claim(cpu: &mut Cpu, domain: &Domain, verb: Verb, lock: LockName, ow
     ensures step { Made verb lock.index cpu.old result cpu.new }
 {
     prove!(domain.plan.locks.len() <= 32);
-    let alone = domain.tail_of(own);
-    let met = moves::sole_claim(&mut cpu.seat, domain, verb, lock, own);
+    let alone = domain.plan.tail_of(own);
+    let met = moves::sole_claim(&mut cpu.seat, domain, lock, own);
     let goes_on = queues_up(verb);
     let takes = met == alone;
     let after = Standing {
@@ -207,5 +208,11 @@ pub fn set_locked(cpu: &mut Cpu, domain: &Domain, verb: Verb, lock: LockName) ->
     ensures rest { KeepsRest cpu.old cpu.new }
     ensures step { Made verb lock.index cpu.old result cpu.new }
 {
-    moves::go_on(&mut cpu.seat, domain, verb, lock, WordUse::Stakes)
+    moves::go_on(
+        &mut cpu.seat,
+        &domain.table,
+        &domain.plan,
+        lock,
+        WordUse::Stakes,
+    )
 }

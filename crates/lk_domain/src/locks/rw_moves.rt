@@ -50,7 +50,7 @@ fn act<C: RwCalls>(seat: &mut Right, domain: &Domain, lock: u32, how: RwUse) -> 
     ensures same { (seat.new.table_id ≡ seat.old.table_id) × (seat.new.id ≡ seat.old.id) }
     ensures step { SharedBy C.verb lock seat.old.me result seat.new.me }
 {
-    let word = domain.lock_word(lock);
+    let word = domain.plan.lock_word(lock);
     let shared = &domain.table.shared;
     match how {
         RwUse::Watches => shared.load::<RwSteps<C>>(seat, word),

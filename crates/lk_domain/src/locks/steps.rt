@@ -44,8 +44,8 @@ fn seat_looks(seat: &mut Right, domain: &Domain, verb: Verb, lock: LockName) -> 
     ensures step { MadeBy verb lock.index seat.old.me result seat.new.me }
 {
     match verb {
-        Verb::Try => moves::look_once(seat, domain, lock.index),
-        _ => moves::go_on(seat, domain, verb, lock, WordUse::Looks),
+        Verb::Try => moves::look_once(seat, &domain.table, &domain.plan, lock.index),
+        _ => moves::go_on(seat, &domain.table, &domain.plan, lock, WordUse::Looks),
     }
 }
 
@@ -59,9 +59,9 @@ fn seat_takes(seat: &mut Right, domain: &Domain, verb: Verb, lock: LockName) -> 
     ensures step { MadeBy verb lock.index seat.old.me result seat.new.me }
 {
     match verb {
-        Verb::Lock => moves::take_free(seat, domain, lock.index),
-        Verb::Try => moves::take_once(seat, domain, lock.index),
-        _ => moves::go_on(seat, domain, verb, lock, WordUse::Takes),
+        Verb::Lock => moves::take_free(seat, &domain.table, &domain.plan, lock.index),
+        Verb::Try => moves::take_once(seat, &domain.table, &domain.plan, lock.index),
+        _ => moves::go_on(seat, &domain.table, &domain.plan, lock, WordUse::Takes),
     }
 }
 
@@ -167,7 +167,7 @@ pub fn take_first(cpu: &mut Cpu, domain: &Domain, verb: Verb, lock: LockName) ->
     ensures step { Made verb lock.index cpu.old result cpu.new }
 {
     prove!(domain.plan.locks.len() <= 32);
-    let met = moves::take_free(&mut cpu.seat, domain, lock.index);
+    let met = moves::take_free(&mut cpu.seat, &domain.table, &domain.plan, lock.index);
     cpu.notes.first_step(lock.index, met == 0);
     met
 }
@@ -198,7 +198,13 @@ fn free_wait(cpu: &mut Cpu, domain: &Domain, verb: Verb, lock: LockName) -> u64
     ensures step { Made verb lock.index cpu.old result cpu.new }
 {
     prove!(domain.plan.locks.len() <= 32);
-    let met = moves::go_on(&mut cpu.seat, domain, verb, lock, WordUse::Frees);
+    let met = moves::go_on(
+        &mut cpu.seat,
+        &domain.table,
+        &domain.plan,
+        lock,
+        WordUse::Frees,
+    );
     let after = Standing {
         waits: false,
         slow: false,
@@ -233,7 +239,13 @@ pub fn set_pending(cpu: &mut Cpu, domain: &Domain, verb: Verb, lock: LockName) -
     ensures rest { KeepsRest cpu.old cpu.new }
     ensures step { Made verb lock.index cpu.old result cpu.new }
 {
-    moves::go_on(&mut cpu.seat, domain, verb, lock, WordUse::Pends)
+    moves::go_on(
+        &mut cpu.seat,
+        &domain.table,
+        &domain.plan,
+        lock,
+        WordUse::Pends,
+    )
 }
 
 /// Clears the pending bit, which the call has set, and returns the word before the step. This is
@@ -245,7 +257,13 @@ pub fn clear_pending(cpu: &mut Cpu, domain: &Domain, verb: Verb, lock: LockName)
     ensures rest { KeepsRest cpu.old cpu.new }
     ensures step { Made verb lock.index cpu.old result cpu.new }
 {
-    moves::go_on(&mut cpu.seat, domain, verb, lock, WordUse::Clears)
+    moves::go_on(
+        &mut cpu.seat,
+        &domain.table,
+        &domain.plan,
+        lock,
+        WordUse::Clears,
+    )
 }
 
 /// Acquires the free lock and clears the pending bit, which the call has set. Returns the word
@@ -258,7 +276,13 @@ pub fn pending_to_locked(cpu: &mut Cpu, domain: &Domain, verb: Verb, lock: LockN
     ensures step { Made verb lock.index cpu.old result cpu.new }
 {
     prove!(domain.plan.locks.len() <= 32);
-    let met = moves::go_on(&mut cpu.seat, domain, verb, lock, WordUse::Claims);
+    let met = moves::go_on(
+        &mut cpu.seat,
+        &domain.table,
+        &domain.plan,
+        lock,
+        WordUse::Claims,
+    );
     let goes_on = queues_up(verb);
     let after = Standing {
         waits: goes_on,

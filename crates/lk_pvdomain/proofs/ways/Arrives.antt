@@ -22,10 +22,11 @@ use Rattle.lk_law.specs.Families.{is_slow}
 use Rattle.lk_law.specs.Leads.{Met, Word, Number, Named}
 use Rattle.lk_domain.specs.Calls.{Outlook, Unchanged, Mark, Terms, Running, Calls, lock_name, running, begun, begin, acting, is_on, slows, is_inner, MayBegin, holds_begun}
 use Rattle.lk_domain.specs.Keeps.{Slot}
-use Rattle.lk_domain.specs.NodePlays.{AtRow, AtPrev, AtEntry, readied_by}
+use Rattle.lk_domain.specs.NodePlays.{Arrives, AtRow, AtPrev, AtEntry, InCall, readied_by}
 use Rattle.lk_domain.specs.Paths.{Any}
 use Rattle.lk_domain.specs.Plans.{locks_of, turns_of, turns_by, kind_at}
-use Rattle.lk_domain.specs.Plays.{went, rowed, made, WentBy, MadeBy, Acts, ActsAs}
+use Rattle.lk_domain.specs.Plays.{went, rowed, made, WentBy, MadeBy, Acts}
+use Rattle.lk_domain.specs.Rows.{arrives_by}
 use Rattle.lk_domain.specs.declared.part.Part.{Part}
 use Rattle.lk_domain.specs.declared.plan.Plan.{Plan}
 use Rattle.lk_domain.specs.declared.view.View.{View}
@@ -196,13 +197,13 @@ module _ {d : PvDomain} {l : ℕ} {own : NodeName} {s : Start} {c : Pc} {P : Fra
   abbrev pub row_of_it : AtRow c Lock (lock_name l) a.0
   row_of_it = record { stands = stands w; patient = refl; inside = refl; after = λ e. absurd (cc e) }
 
-  pub tail_asks : (kind : Pc → Bool) → kind c ≡ true → w.frame.me ≡ Some own → ActsAs kind a.0 Lock (lock_name l) own
-  tail_asks kind is me = record { acts = record { acts = acts w kind is; inside = refl; after = λ e. absurd (cc e) }; me = me }
+  pub tail_asks : arrives_by Lock c ≡ true → w.frame.me ≡ Some own → InCall (Arrives (lock_name l) own) a.0
+  tail_asks is me = (Lock, record { acts = record { acts = acts w (arrives_by Lock) is; inside = refl; after = λ e. absurd (cc e) }; me = me })
 
 module _ {d : PvDomain} {l : ℕ} {own prev : NodeName} {s : Start} {ta : TableId} {ia : ℕ} {a : Me Slot View}
     (w : AtOn d Lock l own s G5 (Follows own prev) ta ia a) where
-  pub link_asks : AtPrev prev own false Lock a.0
-  link_asks = record { lock = lock_name l; at = row_of_it w; prev = w.has.prev; me = w.has.me; marks = ap is_inner (sym w.ctx) }
+  pub link_asks : InCall (AtPrev prev own false) a.0
+  link_asks = (Lock, record { lock = lock_name l; at = row_of_it w; prev = w.has.prev; me = w.has.me; marks = ap is_inner (sym w.ctx) })
 
 -- no frame of the slow path yet
 none_slow : (v : Verb) (f : Frame) (t : List Mark) (fs : List Running) → fs ≡ running v f t ∷ [] → f.place ≡ Some G1 → slows fs ≡ 0
@@ -210,15 +211,17 @@ none_slow v f t fs e p = ap slows e ∙ ap (λ o. (if is_slow o then 1 else 0) +
 
 module _ {d : PvDomain} {l : ℕ} {own : NodeName} {s : Start} {P : Frame → Type 0} {ta : TableId} {ia : ℕ}
     {a : Me Slot View} (w : AtOn d Lock l own s G1 P ta ia a) where
-  pub entry_asks : AtEntry own Lock a.0
-  entry_asks =
-      record {
-        lock = lock_name l;
-        at = row_of_it w;
-        cpu = w.of.number;
-        index = w.of.index ∙ sym (none_slow Lock w.frame w.trail a.0.calls.frames w.frames w.place);
-        low = w.of.near.index;
-      }
+  pub entry_asks : InCall (AtEntry own) a.0
+  entry_asks = (
+    Lock,
+    record {
+      lock = lock_name l;
+      at = row_of_it w;
+      cpu = w.of.number;
+      index = w.of.index ∙ sym (none_slow Lock w.frame w.trail a.0.calls.frames w.frames w.place);
+      low = w.of.near.index;
+    },
+  )
 
 -- what each does
 module _ {d : PvDomain} {v : Verb} {l : ℕ} {own : NodeName} {s : Start} {ta tb : TableId} {ia ib : ℕ} {a b : Me Slot View}

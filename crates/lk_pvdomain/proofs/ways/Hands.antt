@@ -18,7 +18,7 @@ use Rattle.lk_rows.specs.rows.Cna.{is_held, is_last}
 use Rattle.lk_law.specs.Leads.{Word, Stated, Flagged, Named, Linked}
 use Rattle.lk_domain.specs.Calls.{Outlook, Terms, lock_name}
 use Rattle.lk_domain.specs.Keeps.{Slot}
-use Rattle.lk_domain.specs.NodePlays.{SeesLink}
+use Rattle.lk_domain.specs.NodePlays.{InCall, SeesLink}
 use Rattle.lk_domain.specs.Plays.{went, WentBy}
 use Rattle.lk_domain.specs.Words.{state_number}
 use Rattle.lk_domain.specs.declared.view.View.{View}
@@ -71,8 +71,8 @@ next_node f n e = ap node_of e
 
 -- what each asks, and does
 module _ {d : PvDomain} {v : Verb} {l : ℕ} {own : NodeName} {s : Start} {ta : TableId} {ia : ℕ} {a : Me Slot View} where
-  pub last_asks : AtOn d v l own s E13 (Owns own) ta ia a → AtLast own v (lock_name l) a.0
-  last_asks w = record { stands = stands w; me = w.has }
+  pub last_asks : AtOn d v l own s E13 (Owns own) ta ia a → InCall (AtLast own (lock_name l)) a.0
+  last_asks w = (v, record { stands = stands w; me = w.has })
 
   pub behind_asks : AtOn d v l own s E14 (Owns own) ta ia a → AtBehind own a.0
   behind_asks w = record { verb = v; lock = lock_name l; stands = stands w; me = w.has }

@@ -28,7 +28,10 @@ use Rattle.lk_domain.specs.declared.view.View.{View}
 use Rattle.lk_domain.proofs.Acting.{acting_is, acts_on, begins_on}
 use Rattle.lk_pvdomain.specs.declared.domain.PvDomain.{PvDomain}
 use Rattle.lk_pvdomain.specs.PvPaths.{Start, AtOn, Owns, Leads, Tries}
-use Rattle.lk_pvdomain.specs.PvPlays.{AtWord, AtFill, AtSeek, SeesState, EmptiesAt, woken}
+use Rattle.lk_domain.specs.NodePlays.{InCall}
+use Rattle.lk_domain.specs.Uses.{UsesWord, uses}
+use Rattle.lk_domain.specs.declared.locks.moves.WordUse.{WordUse}
+use Rattle.lk_pvdomain.specs.PvPlays.{AtFill, AtSeek, SeesState, EmptiesAt, woken}
 use Rattle.lk_pvdomain.specs.PvRows.{fills, filled_with, erases}
 use Rattle.lk_pvdomain.proofs.Fails.{low_byte, head_again, head_failed, steal_again, steal_failed}
 use Rattle.lk_pvdomain.proofs.ways.Ways.{Goes, goes, stands, sleeps, asleep, one}
@@ -140,8 +143,8 @@ module _ {t : Terms} {p : ℕ} {z : Outlook} {own : NodeName} (f : Frame) where
 -- what each asks
 module _ {d : PvDomain} {v : Verb} {l : ℕ} {own : NodeName} {s : Start} {c : Pc} {P : Frame → Type 0} {ta : TableId} {ia : ℕ}
     {a : Me Slot View} (w : AtOn d v l own s c P ta ia a) where
-  pub word_asks : (kind : Pc → Bool) → kind c ≡ true → AtWord kind v (lock_name l) a.0
-  word_asks kind is = record { row = c; is = is; stands = stands w }
+  pub word_asks : (how : WordUse) → uses how c ≡ true → InCall (UsesWord how (lock_name l)) a.0
+  word_asks how is = (v, record { row = c; is = is; stands = stands w })
 
   pub fill_asks : (node : NodeName) → fills c ≡ true → filled_with c w.frame ≡ Some node → AtFill node (lock_name l) a.0
   fill_asks node is on = record { verb = v; row = c; is = is; stands = stands w; node_is = on }

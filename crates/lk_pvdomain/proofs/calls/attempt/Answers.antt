@@ -2,6 +2,7 @@ use Rattle.std.proofs.Common.{refl, ap, List}
 use Rattle.lk_domain.specs.Calls.{Running, waits_in}
 use Rattle.lk_domain.specs.Rows.{is_look, is_take}
 use Rattle.lk_rows.specs.declared.setup.Verb.TheVariants.{Try}
+use Rattle.lk_pvdomain.proofs.PvSeating.{table_of}
 use Rattle.lk_pvdomain.proofs.ways.Ways.{numbered}
 use Rattle.lk_pvdomain.proofs.ways.Leads.{acts}
 use Rattle.lk_pvdomain.proofs.ways.Arrives.{first_acts, is_spin, t1_sees, t1_misses, t2_takes, t2_misses}
@@ -12,7 +13,8 @@ look_once-requires c =
     let r = c.requires.rests in
     let low = c.requires.lock in
     record {
-      table = r.of.table_is;
+      table = table_of c.args.domain.now;
+      seat = r.of.table_is;
       lock = low;
       number = (c.args.own.cpu, r.of.number);
       row = first_acts r Try c.args.lock c.args.seat.now.id low is_look refl
@@ -30,7 +32,7 @@ returns-then-look_once-ne0 c =
 pub take_once-requires : goal.take_once-requires
 take_once-requires c =
     let w = t1_sees c.look_once.ensures.same c.requires.rests c.requires.lock c.look_once.ensures.step c.if-look_once-ne0.false in
-    record { table = w.of.table_is; lock = w.low; number = numbered w; row = acts w is_take refl }
+    record { table = table_of c.args.domain.now; seat = w.of.table_is; lock = w.low; number = numbered w; row = acts w is_take refl }
 
 pub returns-then-take_once-eq0 : goal.returns-then-take_once-eq0
 returns-then-take_once-eq0 c =

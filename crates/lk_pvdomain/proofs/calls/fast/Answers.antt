@@ -4,6 +4,7 @@ use Rattle.lk_domain.specs.Rows.{is_take}
 use Rattle.lk_rows.specs.declared.setup.Verb.TheVariants.{Lock}
 use Rattle.lk_domain.specs.Calls.{Running}
 use Rattle.std.proofs.Common.{List}
+use Rattle.lk_pvdomain.proofs.PvSeating.{table_of}
 use Rattle.lk_pvdomain.proofs.ways.Arrives.{first_acts, is_spin, f1_takes, f1_goes}
 use Rattle.lk_pvdomain.proofs.calls.fast.Goals as goal
 
@@ -12,7 +13,8 @@ take_free-requires c =
     let r = c.requires.rests.1 in
     let low = c.requires.lock in
     record {
-      table = r.of.table_is;
+      table = table_of c.args.domain.now;
+      seat = r.of.table_is;
       lock = low;
       number = (c.requires.rests.0.cpu, r.of.number);
       row = first_acts r Lock c.args.lock c.args.seat.now.id low is_take refl

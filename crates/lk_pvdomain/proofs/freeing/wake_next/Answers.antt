@@ -6,7 +6,7 @@ use Rattle.lk_domain.proofs.Outs.{freed_out}
 use Rattle.lk_domain.specs.Plans.{cpus_of}
 use Rattle.lk_domain.specs.Words.{IsNode}
 use Rattle.lk_domain.specs.declared.plan.Plan.{Plan}
-use Rattle.lk_pvdomain.specs.PvRows.{drops}
+use Rattle.lk_domain.specs.declared.locks.moves.WordUse.TheVariants.{Drops}
 use Rattle.lk_pvdomain.proofs.ways.Ways.{numbered}
 use Rattle.lk_pvdomain.proofs.ways.Leads.{word_asks, seek_asks}
 use Rattle.lk_pvdomain.proofs.ways.Frees.{u3_finds, u4_frees, u5_kicks, kick_asks, out_freed, pair_cpu, freed_once}
@@ -17,17 +17,19 @@ take_out-pair-requires c =
     let w = c.requires.at.2 in
     record { table = w.of.table_is; number = numbered w; lock = w.low; plan = w.of.plan; row = seek_asks w refl; fresh = w.fresh }
 
-pub drop_slow-requires : goal.drop_slow-requires
-drop_slow-requires c =
+pub go_on-requires : goal.go_on-requires
+go_on-requires c =
     let v = c.requires.at.2 in
     let w = u3_finds c.take_out-pair.ensures.same v c.take_out-pair.ensures.step in
     record {
       table = w.of.table_is;
       number = numbered w;
       lock = w.low;
-      row = word_asks w drops refl;
-      home = λ e. ap (λ (y : Ledger). y.out) (w.ledger ∙ sym v.ledger) ∙ c.requires.home e;
-      value = ap (λ (hs : List Hold). out_in hs c.args.lock) (w.holds ∙ sym v.holds) ∙ c.requires.value;
+      row = word_asks w Drops refl;
+      home = λ e. record {
+        journal = λ first. ap (λ (y : Ledger). y.out) (w.ledger ∙ sym v.ledger) ∙ c.requires.home first;
+        value = λ plain. ap (λ (hs : List Hold). out_in hs c.args.lock) (w.holds ∙ sym v.holds) ∙ c.requires.value;
+      };
     }
 
 pub kick-requires : goal.kick-requires
@@ -35,7 +37,7 @@ kick-requires c =
     let v = c.requires.at.2 in
     let k = c.take_out-pair.ensures.step in
     let w = u3_finds c.take_out-pair.ensures.same v k in
-    let x = u4_frees c.drop_slow.ensures.same w c.drop_slow.ensures.step in
+    let x = u4_frees c.go_on.ensures.same w c.go_on.ensures.step in
     let few = c.args.domain.now.lawful.locks in
     let low = v.low in
     let near = subst (λ (p : Plan). IsNode p k.node) v.of.plan k.near in
@@ -58,6 +60,6 @@ returns c =
     record {
       freed = λ own s v.
           let w = u3_finds c.take_out-pair.ensures.same v c.take_out-pair.ensures.step in
-          let x = u4_frees c.drop_slow.ensures.same w c.drop_slow.ensures.step in
+          let x = u4_frees c.go_on.ensures.same w c.go_on.ensures.step in
           freed_once x.0 (u5_kicks c.kick.ensures.same c.kick.ensures.step.found x.1 c.kick.ensures.step.seat);
     }

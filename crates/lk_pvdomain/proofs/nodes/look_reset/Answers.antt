@@ -18,8 +18,8 @@ load-met-requires c =
       c.requires.table,
       (let a = c.requires.own.cpu in let b = c.requires.own.index in let e = low c.args.part in omega (arith, c.node_of-word.ensures, d.words, a, b, e)),
       spared k z.slots seat.id seat.me i (Readies (step z.slots i 0 0 none) seat.me)
-          (reset_one k d.plan z.slots seat.id seat.me c.requires.number c.args._verb i d.key c.args.own c.args.part c.node_of-word.ensures
-          c.requires.row c.requires.ready c.requires.plan (step z.slots i 0 0 none) refl),
+          (reset_one k d.plan z.slots seat.id seat.me c.requires.number c.requires.row.0 i d.key c.args.own c.args.part c.node_of-word.ensures
+          c.requires.row.1 c.requires.ready c.requires.plan (step z.slots i 0 0 none) refl),
     )
 
 pub returns-clause-spares : goal.returns-clause-spares

@@ -1,33 +1,35 @@
 use Rattle.std.proofs.Common.{◌≡◌, ◌≢◌, ◌∙◌, sym, ap, subst}
 use Rattle.atomic_table.specs.Table.{Me}
 use Rattle.lk_domain.specs.Keeps.{Slot}
-use Rattle.lk_domain.specs.NodePlays.{AtEntry, readied_by}
+use Rattle.lk_domain.specs.NodePlays.{AtEntry, InCall, readied_by}
 use Rattle.lk_domain.specs.Views.{IsNumbered}
 use Rattle.lk_domain.specs.Words.{part_index}
 use Rattle.lk_domain.specs.declared.part.Part.TheVariants as part_is
 use Rattle.lk_domain.specs.declared.view.View.{View}
+use Rattle.lk_pvdomain.proofs.PvSeating.{table_of}
 use Rattle.lk_pvdomain.proofs.nodes.reset.Goals as goal
 
 pub returns-then-look_reset-eq0-clause-step : goal.returns-then-look_reset-eq0-clause-step
 returns-then-look_reset-eq0-clause-step c = c.look_reset.ensures.spares c.if-look_reset-eq0.true
 
-pub store_reset-requires : goal.store_reset-requires
-store_reset-requires c =
+pub reset-requires : goal.reset-requires
+reset-requires c =
     let r = c.requires in
     let back = sym (c.look_reset.ensures.stays c.if-look_reset-eq0.false) in
     record {
-      table = c.look_reset.ensures.same.0 ∙ r.table;
+      table = table_of c.args.domain.now;
+      seat = c.look_reset.ensures.same.0 ∙ r.table;
       number = subst (λ (m : Me Slot View). IsNumbered m.0) back r.number;
       own = r.own;
-      row = subst (λ (m : Me Slot View). AtEntry c.args.own c.args.verb m.0) back r.row;
+      row = subst (λ (m : Me Slot View). InCall (AtEntry c.args.own) m.0) back r.row;
       ready = subst (λ (m : Me Slot View). c.args.part ≢ part_is.Flag → m.0.calls.ready ≡ part_index c.args.part) back r.ready;
       plan = subst (λ (m : Me Slot View). m.0.who.plan ≡ c.args.domain.now.plan) back r.plan;
     }
 
 pub returns-clause-same : goal.returns-clause-same
-returns-clause-same c = (c.store_reset.ensures.same.0 ∙ c.look_reset.ensures.same.0, c.store_reset.ensures.same.1 ∙ c.look_reset.ensures.same.1)
+returns-clause-same c = (c.reset.ensures.same.0 ∙ c.look_reset.ensures.same.0, c.reset.ensures.same.1 ∙ c.look_reset.ensures.same.1)
 
 pub returns-clause-step : goal.returns-clause-step
 returns-clause-step c =
-    c.store_reset.ensures.step
+    c.reset.ensures.step
     ∙ ap (λ (m : Me Slot View). (readied_by c.args.part m.0, m.1)) (c.look_reset.ensures.stays c.if-look_reset-eq0.false)

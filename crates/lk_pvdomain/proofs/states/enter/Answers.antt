@@ -1,7 +1,7 @@
 use Rattle.std.proofs.Common.{◌≡◌, ◌∙◌, sym, subst}
 use Rattle.atomic_table.specs.Table.{Me}
 use Rattle.lk_domain.specs.Keeps.{Slot}
-use Rattle.lk_domain.specs.NodePlays.{AtEntry, Enters}
+use Rattle.lk_domain.specs.NodePlays.{AtEntry, Enters, InCall}
 use Rattle.lk_domain.specs.Views.{IsNumbered}
 use Rattle.lk_domain.specs.declared.view.View.{View}
 use Rattle.lk_pvdomain.proofs.states.enter.Goals as goal
@@ -17,7 +17,7 @@ store_entry-requires c =
       table = c.look_entry-met.ensures.same.0 ∙ r.table;
       number = subst (λ (m : Me Slot View). IsNumbered m.0) back r.number;
       own = r.own;
-      row = subst (λ (m : Me Slot View). AtEntry c.args.own c.args.verb m.0) back r.row;
+      row = subst (λ (m : Me Slot View). InCall (AtEntry c.args.own) m.0) back r.row;
       ready = subst (λ (m : Me Slot View). m.0.calls.ready ≡ 2) back r.ready;
     }
 

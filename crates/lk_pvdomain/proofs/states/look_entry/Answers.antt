@@ -14,7 +14,7 @@ load-met-requires c =
       (let few = d.lawful.locks in let a = c.requires.own.cpu in let b = c.requires.own.index in omega (arith, c.state_of-word.ensures, d.words, few, a, b)),
       spared d.table.shared.key z.slots seat.id seat.me i (Enters seat.me)
           (enter_asks d.table.shared.key d.plan z.slots seat.id seat.me c.requires.number i d.key d.halting
-          c.args.own c.state_of-word.ensures c.args._verb c.requires.row c.requires.ready),
+          c.args.own c.state_of-word.ensures c.requires.row.0 c.requires.row.1 c.requires.ready),
     )
 
 pub returns-clause-spares : goal.returns-clause-spares

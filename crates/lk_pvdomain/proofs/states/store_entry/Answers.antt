@@ -10,5 +10,5 @@ swap-met-requires c =
       c.requires.table,
       (let few = d.lawful.locks in let a = c.requires.own.cpu in let b = c.requires.own.index in omega (arith, c.state_of-word.ensures, d.words, few, a, b)),
       enter_asks d.table.shared.key d.plan z.slots c.args.seat.now.id c.args.seat.now.me c.requires.number i d.key d.halting
-          c.args.own c.state_of-word.ensures c.args._verb c.requires.row c.requires.ready,
+          c.args.own c.state_of-word.ensures c.requires.row.0 c.requires.row.1 c.requires.ready,
     )

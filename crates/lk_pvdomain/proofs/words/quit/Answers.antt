@@ -9,8 +9,8 @@ compare_exchange-met-requires c =
     let z = d.table.shared.table_id in (
       c.requires.table,
       (let few = d.lawful.locks in let low = c.requires.lock in omega (arith, c.lock_word-word.ensures, d.words, low)),
-      quit_asks d.table.shared.key d.plan z.slots c.args.seat.now.id c.args.seat.now.me c.requires.number c.args._verb
+      quit_asks d.table.shared.key d.plan z.slots c.args.seat.now.id c.args.seat.now.me c.requires.number c.requires.row.0
           (lock_name c.args.lock) c.lock_word-word.result d.key c.requires.lock c.lock_word-word.ensures c.args.own
           (let a = c.requires.own.cpu in let b = c.requires.own.index in let few = d.lawful.cpus in (omega arith, omega arith))
-          c.last_of-last.result c.last_of-last.ensures c.requires.row,
+          c.last_of-last.result c.last_of-last.ensures c.requires.row.1,
     )

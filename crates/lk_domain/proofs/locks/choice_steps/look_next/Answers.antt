@@ -19,3 +19,6 @@ invariant_of-cpu c =
       apart = t.apart;
       carried = row.node_carried (Linked seen.found seen.mark) m n seen.seat cpu.carried;
     }
+
+pub look_on-requires-clause-row : goal.look_on-requires-clause-row
+look_on-requires-clause-row c = (c.args.verb, c.requires.row)

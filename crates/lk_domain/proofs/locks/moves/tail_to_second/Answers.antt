@@ -6,7 +6,7 @@ use Rattle.lk_rows.specs.Moves.{node_of}
 use Rattle.lk_domain.specs.Rows.{promotes_by}
 use Rattle.lk_domain.proofs.turns.Courses.{promote_kind}
 use Rattle.lk_domain.proofs.words.Locks.{word_below}
-use Rattle.lk_domain.proofs.words.Onward.{asks_on, made_on, promote_later}
+use Rattle.lk_domain.proofs.words.Onward.{asks_on, made_on, now_of, promote_later}
 use Rattle.lk_domain.proofs.queue.Pending.{promotes, promote_on, promote_frees}
 use Rattle.lk_domain.proofs.locks.moves.tail_to_second.Goals as goal
 
@@ -27,7 +27,7 @@ compare_exchange-met-requires c =
           d.key c.requires.lock c.word_of-word.ensures (promotes_by v) acts
           (λ pc h fr. promote_on pc fr (promote_kind v pc h).0)
           (λ may. absurd (promote_frees may.0 may.1 may.2 acts.row (promote_kind v acts.row acts.is).0 may.3))
-          (promote_later v acts.row acts.is) (λ n. either (eqb n old) new n)
+          (now_of (promotes_by v) c.args.seat.now.me v c.args.lock acts (promote_later v acts.row acts.is)) (λ n. either (eqb n old) new n)
           (λ mode y packs known. (λ j. either (eqb (packed (layout_in d.plan) y) (c.tail_of-met_own.ensures j + 1)) (c.tail_of-new.ensures j + 1) (packed (layout_in d.plan) y))
           ∙ promotes (layout_in d.plan) mode acts.row acts.stands.frame y c.args.own c.args.tail (promote_kind v acts.row acts.is).0 packs
           (let a = near.cpu in let b = near.index in let few = d.lawful.cpus in (omega arith, omega arith)) (ap node_of at.me) at.t),
@@ -36,4 +36,4 @@ compare_exchange-met-requires c =
 pub returns-clause-step : goal.returns-clause-step
 returns-clause-step c v at =
     let acts = at.acts.acts in
-    made_on v c.args.lock c.compare_exchange-met.result c.args.seat.now.me c.compare_exchange-met.new.seat.me (promotes_by v) acts (promote_later v acts.row acts.is) c.compare_exchange-met.ensures.2
+    made_on v c.args.lock c.compare_exchange-met.result c.args.seat.now.me c.compare_exchange-met.new.seat.me (now_of (promotes_by v) c.args.seat.now.me v c.args.lock acts (promote_later v acts.row acts.is)) c.compare_exchange-met.ensures.2

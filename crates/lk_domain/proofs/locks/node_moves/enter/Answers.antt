@@ -12,5 +12,5 @@ swap-requires c =
     let seat = c.args.seat.now in (
       c.requires.table,
       (let a = c.requires.own.cpu in let b = c.requires.own.index in let e = low c.args.part in omega (arith, c.node_of-word.ensures, d.words, a, b, e)),
-      reset_last k d.plan z.slots seat.id seat.me c.requires.number c.args._verb i d.key c.args.own c.args.part c.node_of-word.ensures c.requires.row c.requires.last c.requires.part c.requires.ready,
+      reset_last k d.plan z.slots seat.id seat.me c.requires.number c.requires.row.0 i d.key c.args.own c.args.part c.node_of-word.ensures c.requires.row.1 c.requires.last c.requires.part c.requires.ready,
     )

@@ -10,6 +10,6 @@ load-requires c =
     let i = c.word_of-word.result in (
       c.requires.table,
       (let few = d.lawful.locks in let below = word_below d.plan c.args.lock c.requires.lock in omega (arith, c.word_of-word.ensures, d.words, below)),
-      bare_look d.table.shared.key d.plan z.slots c.args.seat.now.id c.args.seat.now.me c.requires.number c.args._verb i d.key
-          c.args.lock c.requires.lock c.word_of-word.ensures c.requires.row,
+      bare_look d.table.shared.key d.plan z.slots c.args.seat.now.id c.args.seat.now.me c.requires.number c.requires.row.0 i d.key
+          c.args.lock c.requires.lock c.word_of-word.ensures c.requires.row.1,
     )

@@ -9,6 +9,6 @@ swap-met-requires c =
     let i = c.node_of-word.result in (
       c.requires.table,
       (let a = c.requires.to.cpu in let b = c.requires.to.index in omega (arith, c.node_of-word.ensures, d.words, a, b)),
-      hands_over d.table.shared.key d.plan z.slots c.args.seat.now.id c.args.seat.now.me c.requires.number c.args._verb i d.key
-          c.args.to c.requires.to c.node_of-word.ensures c.args.flag c.requires.row c.flag_of-told.result c.flag_of-told.ensures,
+      hands_over d.table.shared.key d.plan z.slots c.args.seat.now.id c.args.seat.now.me c.requires.number c.requires.row.0 i d.key
+          c.args.to c.requires.to c.node_of-word.ensures c.args.flag c.requires.row.1 c.flag_of-told.result c.flag_of-told.ensures,
     )

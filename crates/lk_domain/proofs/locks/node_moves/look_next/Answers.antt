@@ -9,6 +9,6 @@ load-met-requires c =
     let i = c.node_of-word.result in (
       c.requires.table,
       (let a = c.requires.own.cpu in let b = c.requires.own.index in omega (arith, c.node_of-word.ensures, d.words, a, b)),
-      looks_link d.table.shared.key d.plan z.slots c.args.seat.now.id c.args.seat.now.me c.requires.number c.args._verb i d.key
-          c.args.own c.requires.own c.node_of-word.ensures c.requires.row,
+      looks_link d.table.shared.key d.plan z.slots c.args.seat.now.id c.args.seat.now.me c.requires.number c.requires.row.0 i d.key
+          c.args.own c.requires.own c.node_of-word.ensures c.requires.row.1,
     )

@@ -8,14 +8,15 @@ use Rattle.lk_domain.proofs.locks.node_moves.reset.Goals as goal
 
 pub swap-requires : goal.swap-requires
 swap-requires c =
-    let d = c.args.domain.now in
-    let k = d.table.shared.key in
-    let z = d.table.shared.table_id in
+    let t = c.args.table.now in
+    let k = t.shared.key in
+    let z = t.shared.table_id in
+    let on = c.requires.table in
     let i = c.node_of-word.result in
     let seat = c.args.seat.now in (
-      c.requires.table,
-      (let a = c.requires.own.cpu in let b = c.requires.own.index in let e = low c.args.part in omega (arith, c.node_of-word.ensures, d.words, a, b, e)),
-      reset_one k d.plan z.slots seat.id seat.me c.requires.number c.args._verb i d.key c.args.own c.args.part c.node_of-word.ensures c.requires.row c.requires.ready c.requires.plan
+      c.requires.seat,
+      (let a = c.requires.own.cpu in let b = c.requires.own.index in let e = low c.args.part in omega (arith, c.node_of-word.ensures, on.words, a, b, e)),
+      reset_one k c.args.plan.now z.slots seat.id seat.me c.requires.number c.requires.row.0 i on.key_is c.args.own c.args.part c.node_of-word.ensures c.requires.row.1 c.requires.ready c.requires.plan
           (step z.slots i 0 0 none) refl,
     )
 

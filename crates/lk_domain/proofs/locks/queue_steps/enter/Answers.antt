@@ -45,3 +45,6 @@ invariant_of-cpu c =
       apart = t.apart;
       carried = row.node_carried (Number (slows m.0.calls.frames)) m n told cpu.carried;
     }
+
+pub enter-requires-clause-row : goal.enter-requires-clause-row
+enter-requires-clause-row c = (c.args.verb, c.requires.row)

@@ -28,3 +28,6 @@ invariant_of-cpu c =
       apart = t.apart;
       carried = row.node_carried (Number (slows m.0.calls.frames)) m n told cpu.carried;
     }
+
+pub enter_bare-requires-clause-row : goal.enter_bare-requires-clause-row
+enter_bare-requires-clause-row c = (c.args.verb, c.requires.row)

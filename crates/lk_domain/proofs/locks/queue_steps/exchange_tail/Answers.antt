@@ -1,4 +1,5 @@
 use Rattle.lk_domain.proofs.queue.Swapped.{swapped, made}
+use Rattle.lk_domain.proofs.Seating.{table_of}
 use Rattle.lk_domain.proofs.locks.queue_steps.exchange_tail.Goals as goal
 
 pub returns-clause-step : goal.returns-clause-step
@@ -20,3 +21,6 @@ invariant_of-cpu c =
       apart = t.apart;
       carried = t.carried cpu.carried;
     }
+
+pub exchange_tail-requires-clause-table : goal.exchange_tail-requires-clause-table
+exchange_tail-requires-clause-table c = table_of c.args.domain.now

@@ -42,3 +42,6 @@ invariant_of-cpu c =
       apart = t.apart;
       carried = row.node_carried (Flagged Unset) m n told.1 cpu.carried;
     }
+
+pub hand-met-requires-clause-row : goal.hand-met-requires-clause-row
+hand-met-requires-clause-row c = (c.args.verb, c.requires.row)

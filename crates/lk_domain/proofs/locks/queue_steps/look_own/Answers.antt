@@ -23,3 +23,9 @@ invariant_of-cpu-in-Next c =
       apart = t.apart;
       carried = row.node_carried (Linked seen.found seen.mark) m n seen.seat cpu.carried;
     }
+
+pub look_flag-requires-clause-row : goal.look_flag-requires-clause-row
+look_flag-requires-clause-row c = (c.args.verb, subst (λ (q : Part). LooksAt q c.args.own c.args.verb (view_of c.args.cpu.now)) c.in-Flag.is c.requires.row)
+
+pub look_next-requires-clause-row : goal.look_next-requires-clause-row
+look_next-requires-clause-row c = (c.args.verb, subst (λ (q : Part). LooksAt q c.args.own c.args.verb (view_of c.args.cpu.now)) c.in-Next.is c.requires.row)

@@ -1,4 +1,4 @@
-use Rattle.std.proofs.Common.{arith, sym, ap, ◌∙◌, Some}
+use Rattle.std.proofs.Common.{arith, refl, sym, ap, ◌∙◌, Some}
 use Rattle.lk_word.specs.SpinWord.{tail_number}
 use Rattle.lk_domain.specs.Plans.{layout_in}
 use Rattle.lk_domain.specs.declared.plan.Plan.{Plan}
@@ -15,7 +15,7 @@ step-requires-clause-steps c =
     let n = c.sole_claim-met.new.seat.me in
     let l = c.args.lock in
     let v = c.args.verb in
-    let made = c.sole_claim-met.ensures.step in
+    let made = c.sole_claim-met.ensures.step c.args.verb c.requires.row in
     let near = c.requires.own in
     let acts = c.requires.row in
     let test = sole_met (layout_in m.0.who.plan) acts.acts.acts.stands.frame made.found c.args.own c.sole_claim-met.result c.tail_of-alone.result made.packs
@@ -36,7 +36,7 @@ invariant_of-cpu c =
     let l = c.args.lock in
     let v = c.args.verb in
     let met = c.sole_claim-met.result in
-    let made = c.sole_claim-met.ensures.step in
+    let made = c.sole_claim-met.ensures.step c.args.verb c.requires.row in
     let near = c.requires.own in
     let acts = c.requires.row in
     let test = sole_met (layout_in m.0.who.plan) acts.acts.acts.stands.frame made.found c.args.own met c.tail_of-alone.result made.packs
@@ -49,4 +49,19 @@ invariant_of-cpu c =
           (stepped.noted_sole m.0.calls n.0.calls l.index v _ c.queues_up-goes_on.result c.queues_up-goes_on.ensures t.steps);
       apart = t.apart;
       carried = row.carried v l.index met m n made cpu.carried;
+    }
+
+pub sole_claim-met-requires-clause-row : goal.sole_claim-met-requires-clause-row
+sole_claim-met-requires-clause-row c = (c.args.verb, c.requires.row)
+
+pub returns-clause-step : goal.returns-clause-step
+returns-clause-step c = record { by = c.sole_claim-met.ensures.step c.args.verb c.requires.row }
+
+pub returns-clause-rest : goal.returns-clause-rest
+returns-clause-rest c =
+    let same = c.sole_claim-met.ensures.same in
+    let seat = (c.sole_claim-met.ensures.step c.args.verb c.requires.row).seat in
+    record {
+      same = record { table = same.0; id = same.1; number = refl; who = λ i. (seat i).0.who };
+      slots = λ i. (seat i).1;
     }

@@ -1,5 +1,7 @@
 use Rattle.lk_domain.proofs.turns.Carried as row
 use Rattle.lk_domain.proofs.turns.Stepped as stepped
+use Rattle.lk_domain.proofs.Seating.{table_of}
+use Rattle.lk_domain.proofs.words.Goings.{at_claim}
 use Rattle.lk_domain.proofs.locks.steps.pending_to_locked.Goals as goal
 
 pub step-requires-clause-steps : goal.step-requires-clause-steps
@@ -13,7 +15,7 @@ step-requires-clause-steps c =
       n.0.calls,
       cpu.noted,
       stepped.noted_as m.0.calls n.0.calls l.index v _ c.queues_up-goes_on.result c.queues_up-goes_on.ensures
-          (stepped.claims v l c.go_on-met.result m n c.go_on-met.ensures.step cpu.apart cpu.noted.few c.requires.row).steps,
+          (stepped.claims v l c.go_on-met.result m n (c.go_on-met.ensures.made c.args.verb (at_claim c.args.cpu.now.seat.me.0 c.args.verb c.args.lock c.requires.row)) cpu.apart cpu.noted.few c.requires.row).steps,
     )
 
 pub invariant_of-cpu : goal.invariant_of-cpu
@@ -24,7 +26,7 @@ invariant_of-cpu c =
     let m = cpu.seat.me in
     let n = c.go_on-met.new.seat.me in
     let met = c.go_on-met.result in
-    let made = c.go_on-met.ensures.step in
+    let made = c.go_on-met.ensures.made c.args.verb (at_claim c.args.cpu.now.seat.me.0 c.args.verb c.args.lock c.requires.row) in
     let t = stepped.claims v l met m n made cpu.apart cpu.noted.few c.requires.row in
     record {
       numbered = row.numbered v l.index met m n made cpu.numbered;
@@ -33,3 +35,12 @@ invariant_of-cpu c =
       apart = t.apart;
       carried = row.carried v l.index met m n made cpu.carried;
     }
+
+pub go_on-met-requires-clause-table : goal.go_on-met-requires-clause-table
+go_on-met-requires-clause-table c = table_of c.args.domain.now
+
+pub go_on-met-requires-clause-row : goal.go_on-met-requires-clause-row
+go_on-met-requires-clause-row c = (c.args.verb, at_claim c.args.cpu.now.seat.me.0 c.args.verb c.args.lock c.requires.row)
+
+pub returns-clause-step : goal.returns-clause-step
+returns-clause-step c = record { by = c.go_on-met.ensures.made c.args.verb (at_claim c.args.cpu.now.seat.me.0 c.args.verb c.args.lock c.requires.row) }

@@ -2,6 +2,8 @@ use Rattle.std.proofs.Common.{refl}
 use Rattle.lk_domain.proofs.turns.Carried as row
 use Rattle.lk_domain.proofs.turns.Noted.{stays}
 use Rattle.lk_domain.proofs.turns.Stepped as stepped
+use Rattle.lk_domain.proofs.Seating.{table_of}
+use Rattle.lk_domain.proofs.words.Goings.{at_pend}
 use Rattle.lk_domain.proofs.locks.steps.set_pending.Goals as goal
 
 pub invariant_of-cpu : goal.invariant_of-cpu
@@ -12,7 +14,7 @@ invariant_of-cpu c =
     let m = cpu.seat.me in
     let n = c.go_on.new.seat.me in
     let met = c.go_on.result in
-    let made = c.go_on.ensures.step in
+    let made = c.go_on.ensures.made c.args.verb (at_pend c.args.cpu.now.seat.me.0 c.args.verb c.args.lock c.requires.row) in
     let t = stepped.pends v l met m n made cpu.apart cpu.noted.few c.requires.row in
     record {
       numbered = row.numbered v l.index met m n made cpu.numbered;
@@ -20,3 +22,12 @@ invariant_of-cpu c =
       apart = t.apart;
       carried = row.carried v l.index met m n made cpu.carried;
     }
+
+pub go_on-requires-clause-table : goal.go_on-requires-clause-table
+go_on-requires-clause-table c = table_of c.args.domain.now
+
+pub go_on-requires-clause-row : goal.go_on-requires-clause-row
+go_on-requires-clause-row c = (c.args.verb, at_pend c.args.cpu.now.seat.me.0 c.args.verb c.args.lock c.requires.row)
+
+pub returns-clause-step : goal.returns-clause-step
+returns-clause-step c = record { by = c.go_on.ensures.made c.args.verb (at_pend c.args.cpu.now.seat.me.0 c.args.verb c.args.lock c.requires.row) }

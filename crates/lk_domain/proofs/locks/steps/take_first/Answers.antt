@@ -11,6 +11,7 @@ use Rattle.lk_domain.specs.declared.view.View.{View}
 use Rattle.lk_domain.proofs.Turned.{none_slow}
 use Rattle.lk_domain.proofs.turns.Carried as row
 use Rattle.lk_domain.proofs.turns.Stepped as stepped
+use Rattle.lk_domain.proofs.Seating.{table_of}
 use Rattle.lk_domain.proofs.locks.steps.take_first.Goals as goal
 
 by_lock : (v : Verb) (w : View) (l : LockName) → v ≡ Lock → ActsIn (takes_by v) w v l → ActsIn (takes_by Lock) w Lock l
@@ -60,3 +61,6 @@ invariant_of-cpu c =
       apart = (stepped.takes Lock l met m n made cpu.apart cpu.noted.few row_is).apart;
       carried = row.carried Lock l.index met m n made cpu.carried;
     }
+
+pub take_free-met-requires-clause-table : goal.take_free-met-requires-clause-table
+take_free-met-requires-clause-table c = table_of c.args.domain.now

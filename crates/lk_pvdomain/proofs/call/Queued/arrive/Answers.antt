@@ -2,10 +2,9 @@ use Rattle.std.proofs.Common.{refl, sym, subst, ap, ◌∙◌, IfSome}
 use Rattle.lk_word.specs.SpinWord.{packed, IsPackable}
 use Rattle.lk_word.specs.declared.spin_word.Fields.{Fields}
 use Rattle.lk_domain.specs.Plans.{layout_in}
-use Rattle.lk_domain.specs.Rows.{arrives_by}
 use Rattle.lk_domain.specs.Words.{IsNode}
 use Rattle.lk_domain.specs.declared.plan.Plan.{Plan}
-use Rattle.lk_rows.specs.declared.setup.Verb.TheVariants.{Lock}
+use Rattle.lk_pvdomain.proofs.PvSeating.{table_of}
 use Rattle.lk_pvdomain.proofs.ways.Ways.{numbered}
 use Rattle.lk_pvdomain.proofs.ways.Arrives.{kept, tail_asks, g4_first, g4_behind}
 use Rattle.lk_pvdomain.proofs.call.Queued.arrive.Goals as goal
@@ -13,7 +12,7 @@ use Rattle.lk_pvdomain.proofs.call.Queued.arrive.Goals as goal
 pub exchange_tail-met-requires : goal.exchange_tail-met-requires
 exchange_tail-met-requires g c =
     let w = c.loop.invariant c.requires.0 c.requires.1 in
-    record { table = w.of.table_is; lock = w.low; number = numbered w; own = w.of.near; row = tail_asks w (arrives_by Lock) refl w.has }
+    record { table = table_of c.args.self.now.domain.now; seat = w.of.table_is; lock = w.low; number = numbered w; own = w.of.near; row = tail_asks w refl w.has }
 
 pub word_met-requires : goal.word_met-requires
 word_met-requires g c =

@@ -5,22 +5,22 @@ use Rattle.lk_word.specs.declared.spin_word.Fields.{Fields}
 use Rattle.lk_rows.specs.rows.Pv.{after_glance}
 use Rattle.lk_domain.specs.Plans.{layout_in}
 use Rattle.lk_domain.specs.declared.plan.Plan.{Plan}
-use Rattle.lk_pvdomain.specs.PvRows.{looks_word}
+use Rattle.lk_domain.specs.declared.locks.moves.WordUse.TheVariants.{Looks}
 use Rattle.lk_pvdomain.specs.PvWords.{At, Steals}
 use Rattle.lk_pvdomain.proofs.ways.Ways.{numbered}
 use Rattle.lk_pvdomain.proofs.ways.Leads.{word_asks}
 use Rattle.lk_pvdomain.proofs.ways.Arrives.{h1_looks}
 use Rattle.lk_pvdomain.proofs.call.Queued.glance.Goals as goal
 
-pub look_word-met-requires : goal.look_word-met-requires
-look_word-met-requires c =
+pub go_on-met-requires : goal.go_on-met-requires
+go_on-met-requires c =
     let w = c.requires.1 in
-    record { table = w.of.table_is; number = numbered w; lock = w.low; row = word_asks w looks_word refl }
+    record { table = w.of.table_is; number = numbered w; lock = w.low; row = word_asks w Looks refl; home = λ e. absurd (cc e) }
 
 pub word_met-requires : goal.word_met-requires
 word_met-requires c =
     let w = c.requires.1 in
-    let k = c.look_word-met.ensures.step in
+    let k = c.go_on-met.ensures.step in
     record {
       word = (
         k.found,
@@ -32,8 +32,8 @@ word_met-requires c =
 pub returns : goal.returns
 returns c s w =
     let q = c.args.self.now in
-    let k = c.look_word-met.ensures.step in
+    let k = c.go_on-met.ensures.step in
     let is = c.word_met.ensures k.found (subst (λ (p : Plan). IsPackable (layout_in p) k.found) w.of.plan k.packs)
     (k.word ∙ ap (λ (p : Plan). packed (layout_in p) k.found) w.of.plan) in
-    subst (λ (x : Fields). At q s (after_glance (Some q.own) x) (Steals (is_some x.tail)) c.look_word-met.new.seat)
-    (sym is) (h1_looks c.look_word-met.ensures.same w k)
+    subst (λ (x : Fields). At q s (after_glance (Some q.own) x) (Steals (is_some x.tail)) c.go_on-met.new.seat)
+    (sym is) (h1_looks c.go_on-met.ensures.same w k)

@@ -1,5 +1,5 @@
 use Rattle.std.proofs.Common.{refl}
-use Rattle.lk_pvdomain.specs.PvRows.{signs}
+use Rattle.lk_domain.specs.declared.locks.moves.WordUse.TheVariants.{Signs}
 use Rattle.lk_pvdomain.proofs.ways.Ways.{numbered}
 use Rattle.lk_pvdomain.proofs.ways.Waits.{rouse_asks}
 use Rattle.lk_pvdomain.proofs.ways.Leads.{word_asks, fill_asks}
@@ -20,21 +20,21 @@ pub returns-then-rouse-ne1 : goal.returns-then-rouse-ne1
 returns-then-rouse-ne1 g c s w =
     k1_leaves c.rouse.ensures.same (e15_hands c.hand.ensures.same w c.hand.ensures.step.1) c.rouse.ensures.step c.if-rouse-ne1.true
 
-pub sign-requires : goal.sign-requires
-sign-requires g c =
+pub go_on-requires : goal.go_on-requires
+go_on-requires g c =
     let w = k1_signs c.rouse.ensures.same (e15_hands c.hand.ensures.same c.requires.waits.1 c.hand.ensures.step.1) c.rouse.ensures.step c.if-rouse-ne1.false in
-    record { table = w.of.table_is; number = numbered w; lock = w.low; row = word_asks w signs refl }
+    record { table = w.of.table_is; number = numbered w; lock = w.low; row = word_asks w Signs refl; home = λ e. absurd (cc e) }
 
 pub put_in-requires : goal.put_in-requires
 put_in-requires g c =
-    let w = k2_signs c.sign.ensures.same
+    let w = k2_signs c.go_on.ensures.same
     (k1_signs c.rouse.ensures.same (e15_hands c.hand.ensures.same c.requires.waits.1 c.hand.ensures.step.1) c.rouse.ensures.step c.if-rouse-ne1.false)
-    c.sign.ensures.step in
+    c.go_on.ensures.step in
     record { table = w.of.table_is; number = numbered w; lock = w.low; node = c.requires.to; row = fill_asks w c.args.to refl w.has.next }
 
 pub returns : goal.returns
 returns g c s w =
     k3_leaves c.put_in.ensures.same
-    (k2_signs c.sign.ensures.same
+    (k2_signs c.go_on.ensures.same
     (k1_signs c.rouse.ensures.same (e15_hands c.hand.ensures.same w c.hand.ensures.step.1) c.rouse.ensures.step c.if-rouse-ne1.false)
-    c.sign.ensures.step) c.put_in.ensures.step
+    c.go_on.ensures.step) c.put_in.ensures.step
