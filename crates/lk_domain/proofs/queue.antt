@@ -9,5 +9,6 @@ pub mod NodeAsks
 pub mod ChoicePlays
 pub mod LockSwaps
 pub mod FrontPlays
+pub mod HaltPlays
 pub mod Pending
 pub mod Swapped

@@ -12,6 +12,7 @@ pub mod Stand
 pub mod Rows
 pub mod Plays
 pub mod NodePlays
+pub mod NodeUses
 pub mod Marked
 pub mod Seated
 pub mod Seats

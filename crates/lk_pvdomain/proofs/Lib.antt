@@ -5,7 +5,6 @@ pub mod OnMarks
 pub mod plays
 pub mod PvSwaps
 pub mod Fails
-pub mod PvNodes
 pub mod PvEntries
 pub mod Spared
 pub mod Quits

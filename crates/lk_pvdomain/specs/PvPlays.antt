@@ -8,7 +8,7 @@ use Rattle.lk_word.specs.declared.spin_word.Fields.{Fields}
 use Rattle.lk_word.specs.SpinWord.{packed, IsPackable}
 use Rattle.lk_rows.specs.declared.parts.State.{State}
 use Rattle.lk_rows.specs.declared.parts.Pc.{Pc}
-use Rattle.lk_rows.specs.declared.parts.Pc.TheVariants.{U5, E13, E14, E15}
+use Rattle.lk_rows.specs.declared.parts.Pc.TheVariants.{U5, E13}
 use Rattle.lk_rows.specs.declared.setup.Verb.{Verb}
 use Rattle.lk_rows.specs.Acts.{after_halt}
 use Rattle.lk_rows.specs.Moves.{node_of}
@@ -21,7 +21,7 @@ use Rattle.lk_domain.specs.Keeps.{AllHome}
 use Rattle.lk_domain.specs.Plays.{Goes, made}
 use Rattle.lk_domain.specs.Words.{state_number, pair_number, mark_number, lock_at, places_of, IsNode}
 use Rattle.lk_domain.specs.declared.view.View.{View}
-use Rattle.lk_pvdomain.specs.PvRows.{state_node, halts_at, looks_flag, fills, filled_with, erases}
+use Rattle.lk_pvdomain.specs.PvRows.{state_node, halts_at, fills, filled_with, erases}
 
 -- the newest call stands at a row of this kind, which operates on the state of this node
 pub record AtState (kind : Pc → Bool) (node : NodeName) (v : View) : Type 0 where
@@ -37,33 +37,10 @@ pub record AtTold (kind : Pc → Bool) (told : Pc → State) (node : NodeName) (
   pub at : AtState kind node v
   pub told_is : state ≡ told at.row
 
--- it stands at a row at which a waiter looks at its flag, and this is its own node
-pub record AtFlag (own : NodeName) (v : View) : Type 0 where
-  pub verb : Verb
-  pub lock : LockName
-  pub row : Pc
-  pub is : looks_flag row ≡ true
-  pub stands : StandsOn v.calls verb lock row
-  pub me : stands.frame.me ≡ Some own
-
--- it has the lock, and looks for the one behind it in its own node
-pub record AtBehind (own : NodeName) (v : View) : Type 0 where
-  pub verb : Verb
-  pub lock : LockName
-  pub stands : StandsOn v.calls verb lock E14
-  pub me : stands.frame.me ≡ Some own
-
 -- it has the lock of this name, and may be the last of its queue
 pub record AtLast (own : NodeName) (lock : LockName) (verb : Verb) (v : View) : Type 0 where
   pub stands : StandsOn v.calls verb lock E13
   pub me : stands.frame.me ≡ Some own
-
--- it hands off to the waiter of this node
-pub record AtHand (to : NodeName) (v : View) : Type 0 where
-  pub verb : Verb
-  pub lock : LockName
-  pub stands : StandsOn v.calls verb lock E15
-  pub y : stands.frame.y ≡ Some to
 
 -- it has made the row, and this is the state that it met
 pub record SeesState {S : Type 0} (m : Me S View) (met : ℕ) (n : Me S View) : Type 0 where

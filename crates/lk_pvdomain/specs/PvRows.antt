@@ -6,7 +6,7 @@ use Rattle.lk_rows.specs.declared.parts.State.TheVariants.{Running, Halted, Hash
 use Rattle.lk_rows.specs.declared.parts.Frame.{Frame}
 use Rattle.lk_rows.specs.declared.parts.Pc.{Pc}
 use Rattle.lk_rows.specs.declared.parts.Pc.TheVariants.{W2, W3, W5, W6, W7, E1, E2, E10}
-use Rattle.lk_rows.specs.declared.parts.Pc.TheVariants.{E4, E6, E9, K3, U3, E12, E13, H2, K1, U2, W1, W4}
+use Rattle.lk_rows.specs.declared.parts.Pc.TheVariants.{E4, E6, E9, K3, U3, E12, E13, H2, K1, U2}
 use Rattle.lk_rows.specs.Moves.{node_of}
 
 -- a look at a state: of the node before, and of the own
@@ -78,12 +78,6 @@ tries_head _ = false
 abbrev pub tries_steal : Pc → Bool
 tries_steal H2 = true
 tries_steal _ = false
-
--- a waiter looks at its flag
-abbrev pub looks_flag : Pc → Bool
-looks_flag W1 = true
-looks_flag W4 = true
-looks_flag _ = false
 
 -- the lock is put into the hash, with the own node or with the successor's
 abbrev pub fills : Pc → Bool

@@ -4,11 +4,11 @@ ghost use Rattle.lk_pvdomain.specs.PvWords.{IsNodeOf, Owns, Precedes, Steps, Tak
 
 use crate::call::Queued;
 use crate::met::{is_last, node_met, word_met};
-use crate::{hash, nodes, states, words};
+use crate::{hash, states, words};
 use crossbeam_utils::Backoff;
-use lk_domain::Right;
 use lk_domain::moves::WordUse;
-use lk_rows::State;
+use lk_domain::{Right, node_moves};
+use lk_rows::{Flag, State};
 use lk_word::NodeName;
 use std::sync::Wait;
 
@@ -35,7 +35,7 @@ impl<'a> Queued<'a> {
     {
         let backoff = Backoff::new();
         for _ in rt.forever() {
-            let met = nodes::look_next(seat, self.domain, self.own);
+            let met = node_moves::look_next(seat, &self.domain.table, &self.domain.plan, self.own);
             if let Some(to) = node_met(self.domain, met) {
                 return to;
             }
@@ -51,7 +51,7 @@ impl<'a> Queued<'a> {
         requires waits { Waits self.now E15 (Precedes to) seat.old }
         ensures { Takes self.now E15 (Precedes to) seat.old seat.new }
     {
-        nodes::hand(seat, self.domain, to);
+        node_moves::hand(seat, &self.domain.table, &self.domain.plan, to, Flag::Go);
         if states::rouse(seat, self.domain, to, State::Hashed) != 1 {
             return;
         }

@@ -1,5 +1,5 @@
 // What each kind of step on the table does to a seat.
-ghost use Rattle.lk_domain.specs.NodePlays.{Enters, Hands, Readies, SeesFlag, SeesLink};
+ghost use Rattle.lk_domain.specs.NodePlays.{Enters, Readies};
 ghost use Rattle.lk_pvdomain.specs.PvPlays.{SeesState, Halts, Wakes, Stays, Kicks, Fills, SeesHash, Empties, Tries};
 ghost use Rattle.lk_pvdomain.specs.PvPlays.{SparedBy, release_fails, head_fails, steal_fails};
 ghost use Rattle.lk_rows.specs.declared.setup.Verb.TheVariants.{Lock, Unlock};
@@ -61,27 +61,6 @@ pub struct StealTries;
 
 impl Play<Slot, View> for StealTries {
     ghost then = { Tries steal_fails Lock };
-}
-
-// A waiter reads its flag.
-pub struct FlagLooks;
-
-impl Play<Slot, View> for FlagLooks {
-    ghost then = { λ _. SeesFlag };
-}
-
-// A call reads the link of its node.
-pub struct LinkLooks;
-
-impl Play<Slot, View> for LinkLooks {
-    ghost then = { λ _. SeesLink };
-}
-
-// A queue head hands off.
-pub struct Handovers;
-
-impl Play<Slot, View> for Handovers {
-    ghost then = { λ _. Hands };
 }
 
 // A look at a word of the node to come, which need not be reset where it is 0.

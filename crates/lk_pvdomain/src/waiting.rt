@@ -4,9 +4,9 @@ ghost use Rattle.lk_rows.specs.declared.parts.Pc.TheVariants.{E1, W1, W3, W4, W7
 ghost use Rattle.lk_pvdomain.specs.PvWords.{Follows, IsNodeOf, Owns, Spins, Steps, Waits};
 
 use crate::call::Queued;
-use crate::{kicks, nodes, pacing, states};
+use crate::{kicks, pacing, states};
 use crossbeam_utils::Backoff;
-use lk_domain::Right;
+use lk_domain::{Right, node_moves};
 use lk_rows::State;
 use lk_word::NodeName;
 use std::sync::Wait;
@@ -39,7 +39,7 @@ impl<'a> Queued<'a> {
         let backoff = Backoff::new();
         let mut left = self.domain.turns();
         for _ in rt.forever() {
-            if nodes::look_flag(seat, self.domain, self.own) != 0 {
+            if node_moves::look_flag(seat, &self.domain.table, &self.domain.plan, self.own) != 0 {
                 return true;
             }
             if states::look_state(seat, self.domain, prev) != 0 {
@@ -69,7 +69,7 @@ impl<'a> Queued<'a> {
         requires { Waits self.now W4 (Follows prev) seat.old }
         ensures { Steps self.now W4 (Follows prev) W7 (Follows prev) seat.old seat.new }
     {
-        if nodes::look_flag(seat, self.domain, self.own) != 0 {
+        if node_moves::look_flag(seat, &self.domain.table, &self.domain.plan, self.own) != 0 {
             return;
         }
         if states::look_state(seat, self.domain, self.own) != 1 {

@@ -1,10 +1,10 @@
 //! The steps of a seat on the words of nodes, each one operation.
 ghost use Rattle.std.specs.Prelude.{◌≡◌, ◌≢◌, ◌<◌, true};
-ghost use Rattle.lk_rows.specs.declared.parts.Pc.TheVariants.{G6};
-ghost use Rattle.lk_domain.specs.NodePlays.{AtOwn, AtPrev, AtNext, AtEntry, AtBare, InCall};
-ghost use Rattle.lk_domain.specs.NodePlays.{AtAppend, AtCut, AtTail, AtNewTail, Relinks, Names, AtLink};
+ghost use Rattle.lk_domain.specs.NodePlays.{AtPrev, AtEntry, AtBare, InCall};
+ghost use Rattle.lk_domain.specs.NodePlays.{AtAppend, AtCut, AtTail, AtNewTail, Relinks, Names};
 ghost use Rattle.lk_domain.specs.NodePlays.{AtSkipped, AtOwnRuns, AtRuns, IsFlagNode, Counted, Tells, SeesTail};
 ghost use Rattle.lk_domain.specs.NodePlays.{Enters, Links, Hands, readied_by, SeesFlag, SeesLink};
+ghost use Rattle.lk_domain.specs.NodeUses.{HandsTo, LooksBehind, LooksFlag};
 ghost use Rattle.lk_domain.specs.Plans.{locks_of};
 ghost use Rattle.lk_domain.specs.Seated.{IsTableOf};
 ghost use Rattle.lk_domain.specs.Views.{IsNumbered};
@@ -90,47 +90,52 @@ pub fn link(seat: &mut Right, table: &Words, plan: &Plan, prev: NodeName, own: L
     met
 }
 
-// Polls the own flag.
-pub(crate) fn look_flag(seat: &mut Right, domain: &Domain, own: NodeName) -> u64
-    requires table { seat.old.table_id ≡ domain.now.table.shared.table_id }
+/// Reads the flag of the own node, on which the call waits: the row G6, or W1 and W4 where the processor
+/// may halt. Returns its number.
+pub fn look_flag(seat: &mut Right, table: &Words, plan: &Plan, own: NodeName) -> u64
+    requires table { IsTableOf plan.now table.now.shared.table_id table.now.shared.key }
+    requires seat { seat.old.table_id ≡ table.now.shared.table_id }
     requires number { IsNumbered seat.old.me.0 }
-    requires own { IsNode domain.now.plan own }
-    requires row { InCall (AtOwn G6 own) seat.old.me.0 }
+    requires own { IsNode plan.now own }
+    requires row { InCall (LooksFlag plan.now own) seat.old.me.0 }
     ensures same { (seat.new.table_id ≡ seat.old.table_id) × (seat.new.id ≡ seat.old.id) }
     ensures step { SeesFlag seat.old.me result seat.new.me }
 {
-    let word = domain.plan.node_of(own, Part::Flag);
-    let met = domain.table.shared.load::<FlagLooks>(seat, word);
+    let word = plan.node_of(own, Part::Flag);
+    let met = table.shared.load::<FlagLooks>(seat, word);
     met
 }
 
-// Reads the own link.
-pub(crate) fn look_next(seat: &mut Right, domain: &Domain, own: NodeName) -> u64
-    requires table { seat.old.table_id ≡ domain.now.table.shared.table_id }
+/// Reads the link of the own node: the rows G10 and C1, or E14 where processors halt. Returns its number.
+pub fn look_next(seat: &mut Right, table: &Words, plan: &Plan, own: NodeName) -> u64
+    requires table { IsTableOf plan.now table.now.shared.table_id table.now.shared.key }
+    requires seat { seat.old.table_id ≡ table.now.shared.table_id }
     requires number { IsNumbered seat.old.me.0 }
-    requires own { IsNode domain.now.plan own }
-    requires row { InCall (AtLink own) seat.old.me.0 }
+    requires own { IsNode plan.now own }
+    requires row { InCall (LooksBehind own) seat.old.me.0 }
     ensures same { (seat.new.table_id ≡ seat.old.table_id) × (seat.new.id ≡ seat.old.id) }
     ensures step { SeesLink seat.old.me result seat.new.me }
 {
-    let word = domain.plan.node_of(own, Part::Next);
-    let met = domain.table.shared.load::<LinkLooks>(seat, word);
+    let word = plan.node_of(own, Part::Next);
+    let met = table.shared.load::<LinkLooks>(seat, word);
     met
 }
 
-// Hands off, to a call that polls its flag. The flag is unset: only the queue head stores there.
-pub(crate) fn hand(seat: &mut Right, domain: &Domain, to: NodeName, flag: Flag) -> u64
-    requires table { seat.old.table_id ≡ domain.now.table.shared.table_id }
+/// Hands off, to a call that waits on its flag: the rows G11 and C8, or E15 where processors halt. The
+/// flag is unset: only the queue head stores there. Returns the number of the flag before the step.
+pub fn hand(seat: &mut Right, table: &Words, plan: &Plan, to: NodeName, flag: Flag) -> u64
+    requires table { IsTableOf plan.now table.now.shared.table_id table.now.shared.key }
+    requires seat { seat.old.table_id ≡ table.now.shared.table_id }
     requires number { IsNumbered seat.old.me.0 }
-    requires to { IsNode domain.now.plan to }
-    requires flag { IsFlagNode domain.now.plan flag }
-    requires row { InCall (AtNext to flag) seat.old.me.0 }
+    requires to { IsNode plan.now to }
+    requires flag { IsFlagNode plan.now flag }
+    requires row { InCall (HandsTo to flag) seat.old.me.0 }
     ensures same { (seat.new.table_id ≡ seat.old.table_id) × (seat.new.id ≡ seat.old.id) }
     ensures step { Hands seat.old.me result seat.new.me }
 {
-    let word = domain.plan.node_of(to, Part::Flag);
-    let told = domain.plan.flag_of(flag);
-    let met = domain.table.shared.swap::<Handovers>(seat, word, told);
+    let word = plan.node_of(to, Part::Flag);
+    let told = plan.flag_of(flag);
+    let met = table.shared.swap::<Handovers>(seat, word, told);
     met
 }
 

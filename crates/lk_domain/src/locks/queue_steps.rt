@@ -127,8 +127,8 @@ pub fn look_own(cpu: &mut Cpu, domain: &Domain, verb: Verb, own: NodeName, part:
     ensures next { part ≡ part_is.Next → LinkSeen cpu.old result cpu.new }
 {
     match part {
-        Part::Flag => node_moves::look_flag(&mut cpu.seat, domain, own),
-        Part::Next => node_moves::look_next(&mut cpu.seat, domain, own),
+        Part::Flag => node_moves::look_flag(&mut cpu.seat, &domain.table, &domain.plan, own),
+        Part::Next => node_moves::look_next(&mut cpu.seat, &domain.table, &domain.plan, own),
         Part::SecondTail | Part::Runs => unreachable!(),
     }
 }
@@ -147,7 +147,7 @@ pub fn hand(cpu: &mut Cpu, domain: &Domain, verb: Verb, to: NodeName, flag: Flag
     ensures row { Went (Flagged Unset) cpu.old cpu.new }
 {
     let lock = cpu.notes.newest();
-    let met = node_moves::hand(&mut cpu.seat, domain, to, flag);
+    let met = node_moves::hand(&mut cpu.seat, &domain.table, &domain.plan, to, flag);
     let goes_on = queues_up(verb);
     let after = Standing {
         waits: goes_on,

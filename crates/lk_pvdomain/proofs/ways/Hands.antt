@@ -1,5 +1,5 @@
 -- The rows of a front that has the lock and hands the lead on.
-use Rattle.std.proofs.Common.{◌≡◌, ◌≢◌, ℕ, Option, Some, None, Bool, true, false, refl, sym, ap, ◌∙◌, arith}
+use Rattle.std.proofs.Common.{inr, ◌≡◌, ◌≢◌, ℕ, Option, Some, None, Bool, true, false, refl, sym, ap, ◌∙◌, arith}
 use Rattle.atomic_table.specs.Table.{Me}
 use Rattle.atomic_table.specs.Seated.{TableId}
 use Rattle.std.specs.Prelude.{◌&&◌, not}
@@ -7,7 +7,7 @@ use Rattle.lk_abs.specs.declared.names.LockName.{LockName}
 use Rattle.lk_word.specs.declared.spin_word.NodeName.{NodeName}
 use Rattle.lk_word.specs.declared.spin_word.Fields.{Fields}
 use Rattle.lk_rows.specs.declared.parts.Flag.{Flag}
-use Rattle.lk_rows.specs.declared.parts.Flag.TheVariants.{Unset}
+use Rattle.lk_rows.specs.declared.parts.Flag.TheVariants.{Go, Unset}
 use Rattle.lk_rows.specs.declared.parts.State.{State}
 use Rattle.lk_rows.specs.declared.parts.State.TheVariants as state
 use Rattle.lk_rows.specs.declared.parts.Frame.{Frame}
@@ -19,12 +19,13 @@ use Rattle.lk_law.specs.Leads.{Word, Stated, Flagged, Named, Linked}
 use Rattle.lk_domain.specs.Calls.{Outlook, Terms, lock_name}
 use Rattle.lk_domain.specs.Keeps.{Slot}
 use Rattle.lk_domain.specs.NodePlays.{InCall, SeesLink}
+use Rattle.lk_domain.specs.NodeUses.{HandsTo, LooksBehind}
 use Rattle.lk_domain.specs.Plays.{went, WentBy}
 use Rattle.lk_domain.specs.Words.{state_number}
 use Rattle.lk_domain.specs.declared.view.View.{View}
 use Rattle.lk_pvdomain.specs.declared.domain.PvDomain.{PvDomain}
 use Rattle.lk_pvdomain.specs.PvPaths.{Start, AtOn, TookOn, Owns, Precedes}
-use Rattle.lk_pvdomain.specs.PvPlays.{AtLast, AtBehind, AtHand, SeesState}
+use Rattle.lk_pvdomain.specs.PvPlays.{AtLast, SeesState}
 use Rattle.lk_pvdomain.proofs.ways.Ways.{Goes, Ends, goes, takes, stands}
 
 -- where each leads
@@ -74,11 +75,11 @@ module _ {d : PvDomain} {v : Verb} {l : ℕ} {own : NodeName} {s : Start} {ta : 
   pub last_asks : AtOn d v l own s E13 (Owns own) ta ia a → InCall (AtLast own (lock_name l)) a.0
   last_asks w = (v, record { stands = stands w; me = w.has })
 
-  pub behind_asks : AtOn d v l own s E14 (Owns own) ta ia a → AtBehind own a.0
-  behind_asks w = record { verb = v; lock = lock_name l; stands = stands w; me = w.has }
+  pub behind_asks : AtOn d v l own s E14 (Owns own) ta ia a → InCall (LooksBehind own) a.0
+  behind_asks w = (v, inr (record { lock = lock_name l; stands = stands w; me = w.has }))
 
-  pub hand_asks : {to : NodeName} → AtOn d v l own s E15 (Precedes own to) ta ia a → AtHand to a.0
-  hand_asks w = record { verb = v; lock = lock_name l; stands = stands w; y = w.has.next }
+  pub hand_asks : {to : NodeName} → AtOn d v l own s E15 (Precedes own to) ta ia a → InCall (HandsTo to Go) a.0
+  hand_asks w = (v, inr (refl, record { lock = lock_name l; stands = stands w; y = w.has.next }))
 
 module _ {d : PvDomain} {v : Verb} {l : ℕ} {own : NodeName} {s : Start} {ta tb : TableId} {ia ib : ℕ} {a b : Me Slot View}
     (same : (tb ≡ ta) × (ib ≡ ia)) where

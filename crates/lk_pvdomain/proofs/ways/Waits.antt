@@ -1,5 +1,5 @@
 -- The rows of a waiter that halts.
-use Rattle.std.proofs.Common.{[], ◌∷◌, ◌≡◌, ◌≢◌, ℕ, ◌-◌, ◌≤◌, Some, true, false, eqb, eq-eqb, refl, sym, ap, ◌∙◌, arith}
+use Rattle.std.proofs.Common.{inr, [], ◌∷◌, ◌≡◌, ◌≢◌, ℕ, ◌-◌, ◌≤◌, Some, true, false, eqb, eq-eqb, refl, sym, ap, ◌∙◌, arith}
 use Rattle.std.proofs.lemmas.Bool.{ne_eqb}
 use Rattle.atomic_table.specs.Table.{Me}
 use Rattle.atomic_table.specs.Seated.{TableId}
@@ -16,15 +16,16 @@ use Rattle.lk_rows.specs.Moves.{node_of}
 use Rattle.lk_law.specs.Leads.{Flagged, Stated, Marked}
 use Rattle.lk_domain.specs.Calls.{Outlook, Terms, Running as Call, lock_name}
 use Rattle.lk_domain.specs.Keeps.{Slot}
-use Rattle.lk_domain.specs.NodePlays.{SeesFlag}
+use Rattle.lk_domain.specs.NodePlays.{InCall, SeesFlag}
+use Rattle.lk_domain.specs.NodeUses.{LooksFlag, looks_flag}
 use Rattle.lk_domain.specs.Plays.{went}
 use Rattle.lk_domain.specs.Plans.{turns_of, turns_by}
 use Rattle.lk_domain.specs.declared.view.View.{View}
 use Rattle.lk_domain.specs.Words.{flag_number, state_number}
 use Rattle.lk_pvdomain.specs.declared.domain.PvDomain.{PvDomain}
 use Rattle.lk_pvdomain.specs.PvPaths.{Start, AtOn, Owns, Follows, Spares}
-use Rattle.lk_pvdomain.specs.PvPlays.{AtFlag, AtState, AtTold, AtHalt, SeesState, woken}
-use Rattle.lk_pvdomain.specs.PvRows.{looks_state, stores_own, state_told, rouses, roused_to, looks_flag, state_node, halts_at}
+use Rattle.lk_pvdomain.specs.PvPlays.{AtState, AtTold, AtHalt, SeesState, woken}
+use Rattle.lk_pvdomain.specs.PvRows.{looks_state, stores_own, state_told, rouses, roused_to, state_node, halts_at}
 use Rattle.lk_pvdomain.proofs.ways.Ways.{Goes, goes, stands, sleeps, asleep, one}
 
 -- where each leads
@@ -100,8 +101,8 @@ module _ {t : Terms} {p : ℕ} {z : Outlook} {own prev : NodeName} (f : Frame) w
 -- what each asks
 module _ {d : PvDomain} {v : Verb} {l : ℕ} {own : NodeName} {s : Start} {c : Pc} {P : Frame → Type 0} {ta : TableId} {ia : ℕ}
     {a : Me Slot View} (w : AtOn d v l own s c P ta ia a) where
-  pub flag_asks : looks_flag c ≡ true → w.frame.me ≡ Some own → AtFlag own a.0
-  flag_asks is me = record { verb = v; lock = lock_name l; row = c; is = is; stands = stands w; me = me }
+  pub flag_asks : looks_flag c ≡ true → w.frame.me ≡ Some own → InCall (LooksFlag d.plan own) a.0
+  flag_asks is me = (v, inr (d.halting, record { lock = lock_name l; row = c; is = is; stands = stands w; me = me }))
 
   pub look_asks : (node : NodeName) → looks_state c ≡ true → state_node c w.frame ≡ node → AtState looks_state node a.0
   look_asks node is on = record { verb = v; lock = lock_name l; row = c; is = is; stands = stands w; node_is = on }

@@ -1,14 +1,28 @@
-use Rattle.std.proofs.Common.{arith}
+use Rattle.std.proofs.Common.{arith, ⊎_elim, ℕ, subst, sym, ap, ◌∙◌}
+use Rattle.atomic_table.specs.Table.{Allows}
+use Rattle.lk_domain.specs.NodePlays.{Hands}
+use Rattle.lk_domain.specs.Stand.{Stand}
+use Rattle.lk_domain.specs.Words.{flag_number}
 use Rattle.lk_domain.proofs.queue.FrontPlays.{hands_over}
+use Rattle.lk_domain.proofs.queue.HaltPlays.{hand_asks}
 use Rattle.lk_domain.proofs.locks.node_moves.hand.Goals as goal
 
 pub swap-met-requires : goal.swap-met-requires
 swap-met-requires c =
-    let d = c.args.domain.now in
-    let z = d.table.shared.table_id in
-    let i = c.node_of-word.result in (
-      c.requires.table,
-      (let a = c.requires.to.cpu in let b = c.requires.to.index in omega (arith, c.node_of-word.ensures, d.words, a, b)),
-      hands_over d.table.shared.key d.plan z.slots c.args.seat.now.id c.args.seat.now.me c.requires.number c.requires.row.0 i d.key
-          c.args.to c.requires.to c.node_of-word.ensures c.args.flag c.requires.row.1 c.flag_of-told.result c.flag_of-told.ensures,
+    let t = c.args.table.now in
+    let plan = c.args.plan.now in
+    let z = t.shared.table_id in
+    let on = c.requires.table in
+    let i = c.node_of-word.result in
+    let id = c.args.seat.now.id in
+    let m = c.args.seat.now.me in
+    let v = c.requires.row.0 in
+    let told = c.flag_of-told.result in (
+      c.requires.seat,
+      (let a = c.requires.to.cpu in let b = c.requires.to.index in omega (arith, c.node_of-word.ensures, on.words, a, b)),
+      ⊎_elim
+          (λ h. hands_over t.shared.key plan z.slots id m c.requires.number v i on.key_is
+          c.args.to c.requires.to c.node_of-word.ensures c.args.flag h told c.flag_of-told.ensures)
+          (λ h. subst (λ (x : ℕ). Allows (Stand t.shared.key) z.slots id m i (λ _. x) (Hands m)) (sym (c.flag_of-told.ensures ∙ ap flag_number h.0))
+          (hand_asks t.shared.key plan z.slots id m c.requires.number v i on.key_is c.args.to c.requires.to c.node_of-word.ensures h.1)) c.requires.row.1,
     )

@@ -1,14 +1,21 @@
-use Rattle.std.proofs.Common.{arith}
+use Rattle.std.proofs.Common.{arith, ⊎_elim}
 use Rattle.lk_domain.proofs.queue.NodeAsks.{look_flag}
+use Rattle.lk_domain.proofs.queue.HaltPlays.{flag_asks}
 use Rattle.lk_domain.proofs.locks.node_moves.look_flag.Goals as goal
 
 pub load-met-requires : goal.load-met-requires
 load-met-requires c =
-    let d = c.args.domain.now in
-    let z = d.table.shared.table_id in
-    let i = c.node_of-word.result in (
-      c.requires.table,
-      (let a = c.requires.own.cpu in let b = c.requires.own.index in omega (arith, c.node_of-word.ensures, d.words, a, b)),
-      look_flag d.table.shared.key d.plan z.slots c.args.seat.now.id c.args.seat.now.me c.requires.number c.requires.row.0 i d.key
-          c.args.own c.requires.own c.node_of-word.ensures c.requires.row.1,
+    let t = c.args.table.now in
+    let plan = c.args.plan.now in
+    let z = t.shared.table_id in
+    let on = c.requires.table in
+    let i = c.node_of-word.result in
+    let v = c.requires.row.0 in (
+      c.requires.seat,
+      (let a = c.requires.own.cpu in let b = c.requires.own.index in omega (arith, c.node_of-word.ensures, on.words, a, b)),
+      ⊎_elim
+          (λ h. look_flag t.shared.key plan z.slots c.args.seat.now.id c.args.seat.now.me c.requires.number v i on.key_is
+          c.args.own c.requires.own c.node_of-word.ensures h)
+          (λ h. flag_asks t.shared.key plan z.slots c.args.seat.now.id c.args.seat.now.me c.requires.number v i on.key_is
+          c.args.own c.requires.own c.node_of-word.ensures h.0 h.1) c.requires.row.1,
     )

@@ -1,8 +1,9 @@
-use Rattle.std.proofs.Common.{subst, ℕ, false}
+use Rattle.std.proofs.Common.{inl, subst, ℕ, false}
 use Rattle.std.specs.Prelude.{not}
 use Rattle.lk_rows.specs.declared.parts.Flag.TheVariants.{Unset}
 use Rattle.lk_law.specs.Leads.{Flagged}
 use Rattle.lk_domain.specs.Marked.{Steps}
+use Rattle.lk_domain.proofs.Seating.{table_of}
 use Rattle.lk_domain.proofs.turns.Carried as row
 use Rattle.lk_domain.proofs.turns.Stepped as stepped
 use Rattle.lk_domain.proofs.queue.FrontPlays.{hand_row}
@@ -44,4 +45,7 @@ invariant_of-cpu c =
     }
 
 pub hand-met-requires-clause-row : goal.hand-met-requires-clause-row
-hand-met-requires-clause-row c = (c.args.verb, c.requires.row)
+hand-met-requires-clause-row c = (c.args.verb, inl c.requires.row)
+
+pub hand-met-requires-clause-table : goal.hand-met-requires-clause-table
+hand-met-requires-clause-table c = table_of c.args.domain.now

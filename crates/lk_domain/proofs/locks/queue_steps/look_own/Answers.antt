@@ -1,8 +1,9 @@
-use Rattle.std.proofs.Common.{subst, ◌∙◌}
+use Rattle.std.proofs.Common.{inl, subst, ◌∙◌}
 use Rattle.lk_law.specs.Leads.{Linked}
 use Rattle.lk_domain.specs.NodePlays.{LooksAt}
 use Rattle.lk_domain.specs.Seats.{view_of}
 use Rattle.lk_domain.specs.declared.part.Part.{Part}
+use Rattle.lk_domain.proofs.Seating.{table_of}
 use Rattle.lk_domain.proofs.turns.Carried as row
 use Rattle.lk_domain.proofs.turns.Noted.{stays}
 use Rattle.lk_domain.proofs.turns.Stepped as stepped
@@ -24,8 +25,14 @@ invariant_of-cpu-in-Next c =
       carried = row.node_carried (Linked seen.found seen.mark) m n seen.seat cpu.carried;
     }
 
+pub look_flag-requires-clause-table : goal.look_flag-requires-clause-table
+look_flag-requires-clause-table c = table_of c.args.domain.now
+
 pub look_flag-requires-clause-row : goal.look_flag-requires-clause-row
-look_flag-requires-clause-row c = (c.args.verb, subst (λ (q : Part). LooksAt q c.args.own c.args.verb (view_of c.args.cpu.now)) c.in-Flag.is c.requires.row)
+look_flag-requires-clause-row c = (c.args.verb, inl (subst (λ (q : Part). LooksAt q c.args.own c.args.verb (view_of c.args.cpu.now)) c.in-Flag.is c.requires.row))
+
+pub look_next-requires-clause-table : goal.look_next-requires-clause-table
+look_next-requires-clause-table c = table_of c.args.domain.now
 
 pub look_next-requires-clause-row : goal.look_next-requires-clause-row
-look_next-requires-clause-row c = (c.args.verb, subst (λ (q : Part). LooksAt q c.args.own c.args.verb (view_of c.args.cpu.now)) c.in-Next.is c.requires.row)
+look_next-requires-clause-row c = (c.args.verb, inl (subst (λ (q : Part). LooksAt q c.args.own c.args.verb (view_of c.args.cpu.now)) c.in-Next.is c.requires.row))

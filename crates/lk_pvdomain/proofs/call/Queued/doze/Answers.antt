@@ -2,6 +2,7 @@ use Rattle.std.proofs.Common.{refl, ap, ◌∙◌}
 use Rattle.atomic_table.specs.Table.{Me}
 use Rattle.lk_domain.specs.Keeps.{Slot}
 use Rattle.lk_domain.specs.declared.view.View.{View}
+use Rattle.lk_pvdomain.proofs.PvSeating.{table_of}
 use Rattle.lk_pvdomain.proofs.ways.Ways.{numbered}
 use Rattle.lk_pvdomain.proofs.ways.Waits.{mine, flag_asks, look_asks, halt_asks, w4_set, w4_unset, w5_halted, w5_else, w6_asleep, w6_one, w6_sleeps}
 use Rattle.lk_pvdomain.proofs.call.Queued.doze.Goals as goal
@@ -9,7 +10,7 @@ use Rattle.lk_pvdomain.proofs.call.Queued.doze.Goals as goal
 pub look_flag-requires : goal.look_flag-requires
 look_flag-requires g c =
     let w = c.requires.1 in
-    record { table = w.of.table_is; number = numbered w; own = w.of.near; row = flag_asks w refl w.has.me }
+    record { table = table_of c.args.self.now.domain.now; seat = w.of.table_is; number = numbered w; own = w.of.near; row = flag_asks w refl w.has.me }
 
 pub returns-then-look_flag-ne0 : goal.returns-then-look_flag-ne0
 returns-then-look_flag-ne0 g c s w = w4_set c.look_flag.ensures.same w c.look_flag.ensures.step c.if-look_flag-ne0.true

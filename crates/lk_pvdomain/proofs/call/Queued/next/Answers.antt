@@ -1,6 +1,7 @@
 use Rattle.std.proofs.Common.{sym, subst, ◌∙◌, IfSome}
 use Rattle.lk_domain.specs.Words.{IsNode}
 use Rattle.lk_domain.specs.declared.plan.Plan.{Plan}
+use Rattle.lk_pvdomain.proofs.PvSeating.{table_of}
 use Rattle.lk_pvdomain.proofs.ways.Ways.{numbered}
 use Rattle.lk_pvdomain.proofs.ways.Hands.{behind_asks, e14_waits, e14_sees}
 use Rattle.lk_pvdomain.proofs.call.Queued.next.Goals as goal
@@ -8,7 +9,7 @@ use Rattle.lk_pvdomain.proofs.call.Queued.next.Goals as goal
 pub look_next-met-requires : goal.look_next-met-requires
 look_next-met-requires g c =
     let w = c.loop.invariant c.requires.0 c.requires.1 in
-    record { table = w.of.table_is; number = numbered w; own = w.of.near; row = behind_asks w }
+    record { table = table_of c.args.self.now.domain.now; seat = w.of.table_is; number = numbered w; own = w.of.near; row = behind_asks w }
 
 pub node_met-requires : goal.node_met-requires
 node_met-requires g c =

@@ -1,5 +1,6 @@
 use Rattle.std.proofs.Common.{refl}
 use Rattle.lk_domain.specs.declared.locks.moves.WordUse.TheVariants.{Signs}
+use Rattle.lk_pvdomain.proofs.PvSeating.{table_of}
 use Rattle.lk_pvdomain.proofs.ways.Ways.{numbered}
 use Rattle.lk_pvdomain.proofs.ways.Waits.{rouse_asks}
 use Rattle.lk_pvdomain.proofs.ways.Leads.{word_asks, fill_asks}
@@ -9,7 +10,7 @@ use Rattle.lk_pvdomain.proofs.call.Queued.pass.Goals as goal
 pub hand-requires : goal.hand-requires
 hand-requires g c =
     let w = c.requires.waits.1 in
-    record { table = w.of.table_is; number = numbered w; to = c.requires.to; row = hand_asks w }
+    record { table = table_of c.args.self.now.domain.now; seat = w.of.table_is; number = numbered w; to = c.requires.to; flag = tt; row = hand_asks w }
 
 pub rouse-requires : goal.rouse-requires
 rouse-requires g c =

@@ -1,10 +1,14 @@
 use Rattle.std.proofs.Common.{refl, arith}
+use Rattle.lk_pvdomain.proofs.PvSeating.{table_of}
 use Rattle.lk_pvdomain.proofs.ways.Ways.{numbered}
 use Rattle.lk_pvdomain.proofs.ways.Waits.{before, flag_asks, look_asks, w1_set, w1_unset, w2_stops, w2_last, w2_again}
 use Rattle.lk_pvdomain.proofs.call.Queued.turns.Goals as goal
 
 pub look_flag-requires-clause-table : goal.look_flag-requires-clause-table
-look_flag-requires-clause-table g c =
+look_flag-requires-clause-table g c = table_of c.args.self.now.domain.now
+
+pub look_flag-requires-clause-seat : goal.look_flag-requires-clause-seat
+look_flag-requires-clause-seat g c =
     let w = c.loop.invariant c.requires.waits.0 c.requires.waits.1 in
     w.of.table_is
 

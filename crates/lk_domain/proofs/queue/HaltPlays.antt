@@ -1,4 +1,4 @@
--- What the steps on flags and links ask: a look at the own flag, one at the own link, and the handover.
+-- What the steps on flags and links ask where processors halt: a look at the own flag, one at the own link, and the handover.
 use Rattle.std.proofs.Common.{◌≡◌, ◌≢◌, inl, inr, ℕ, get_or, Option, Some, None, Bool, true, false, IfSome}
 use Rattle.std.proofs.Common.{refl, sym, ap, ◌∙◌, subst, ◌⊎◌, ⊎_elim}
 use Rattle.std.specs.Prelude.{if◌then◌else◌}
@@ -27,6 +27,7 @@ use Rattle.lk_law.proofs.running.Nodes.{halting_link_is_used}
 use Rattle.lk_domain.specs.Calls.{StandsOn, grip_led, Frees}
 use Rattle.lk_domain.specs.Keeps.{Slot}
 use Rattle.lk_domain.specs.NodePlays.{IsFlagNode, SeesFlag, SeesLink, Hands}
+use Rattle.lk_domain.specs.NodeUses.{AtFlag, AtBehind, AtHand, looks_flag}
 use Rattle.lk_domain.specs.Plays.{went}
 use Rattle.lk_domain.specs.Runs.{waiter}
 use Rattle.lk_domain.specs.Stand.{Stand}
@@ -39,8 +40,6 @@ use Rattle.lk_domain.proofs.queue.NodePlays as node
 use Rattle.lk_domain.proofs.queue.NodeStores.{flag_here}
 use Rattle.lk_domain.proofs.queue.OnNodes.{IsUsed}
 use Rattle.lk_domain.proofs.words.LockPlays.{MayFree}
-use Rattle.lk_pvdomain.specs.PvPlays.{AtFlag, AtBehind, AtHand}
-use Rattle.lk_pvdomain.specs.PvRows.{looks_flag}
 
 either_frees : {A : Type 0} (b : Bool) (x y : Effect A) → grip_led x.leads ≢ Frees → grip_led y.leads ≢ Frees
     → grip_led (if b then x else y).leads ≢ Frees
@@ -199,20 +198,20 @@ flag_rows W4 h = inr refl
 flag_rows _ h = cc h
 
 -- what the calls ask, in which the word is named by its place
-module _ (k plan : Plan) (slots id : ℕ) (m : Me Slot View) (number : IsNumbered m.0) (i : ℕ) (same : k ≡ plan)
-    (halting : halts plan.mode ≡ true) (a : NodeName) (near : IsNode plan a) where
-  here : halts k.mode ≡ true
-  here = ap (λ (q : Plan). halts q.mode) same ∙ halting
-
+module _ (k plan : Plan) (slots id : ℕ) (m : Me Slot View) (number : IsNumbered m.0) (v : Verb) (i : ℕ)
+    (same : k ≡ plan) (a : NodeName) (near : IsNode plan a) where
   near' : IsNode k a
   near' = subst (λ (q : Plan). IsNode q a) (sym same) near
 
-  flag_row : (v : Verb) (lock : LockName) (pc : Pc) (acts : StandsOn m.0.calls v lock pc)
+  flag_row : (lock : LockName) (pc : Pc) (acts : StandsOn m.0.calls v lock pc) → halts plan.mode ≡ true
       → acts.frame.me ≡ Some a → (pc ≡ W1) ⊎ (pc ≡ W4) → Allows (Stand k) slots id m (node_at k a part.Flag) (λ n. n) (SeesFlag m)
-  flag_row v lock pc acts own rows =
+  flag_row lock pc acts halting own rows =
       ⊎_elim (λ e. W1_look k slots id m number v lock here (at_row W1 e) a near' own)
       (λ e. W4_look k slots id m number v lock here (at_row W4 e) a near' own) rows
     where
+      here : halts k.mode ≡ true
+      here = ap (λ (q : Plan). halts q.mode) same ∙ halting
+
       at_row : (c : Pc) → pc ≡ c → StandsOn m.0.calls v lock c
       at_row c e = record {
         frame = acts.frame;
@@ -223,17 +222,17 @@ module _ (k plan : Plan) (slots id : ℕ) (m : Me Slot View) (number : IsNumbere
         lock = acts.lock;
       }
 
-  pub flag_asks : i ≡ node_at plan a part.Flag → AtFlag a m.0 → Allows (Stand k) slots id m i (λ n. n) (SeesFlag m)
-  flag_asks at h =
+  pub flag_asks : i ≡ node_at plan a part.Flag → halts plan.mode ≡ true → AtFlag a v m.0 → Allows (Stand k) slots id m i (λ n. n) (SeesFlag m)
+  flag_asks at halting h =
       subst (λ (x : ℕ). Allows (Stand k) slots id m x (λ n. n) (SeesFlag m)) (ap (λ (q : Plan). node_at q a part.Flag) same ∙ sym at)
-      (flag_row h.verb h.lock h.row h.stands h.me (flag_rows h.row h.is))
+      (flag_row h.lock h.row h.stands halting h.me (flag_rows h.row h.is))
 
-  pub behind_asks : i ≡ node_at plan a part.Next → AtBehind a m.0 → Allows (Stand k) slots id m i (λ n. n) (SeesLink m)
+  pub behind_asks : i ≡ node_at plan a part.Next → AtBehind a v m.0 → Allows (Stand k) slots id m i (λ n. n) (SeesLink m)
   behind_asks at h =
       subst (λ (x : ℕ). Allows (Stand k) slots id m x (λ n. n) (SeesLink m)) (ap (λ (q : Plan). node_at q a part.Next) same ∙ sym at)
-      (E14_look k slots id m number h.verb h.lock h.stands a near' h.me)
+      (E14_look k slots id m number v h.lock h.stands a near' h.me)
 
-  pub hand_asks : i ≡ node_at plan a part.Flag → AtHand a m.0 → Allows (Stand k) slots id m i (λ _. 1) (Hands m)
+  pub hand_asks : i ≡ node_at plan a part.Flag → AtHand a v m.0 → Allows (Stand k) slots id m i (λ _. 1) (Hands m)
   hand_asks at h =
       subst (λ (x : ℕ). Allows (Stand k) slots id m x (λ _. 1) (Hands m)) (ap (λ (q : Plan). node_at q a part.Flag) same ∙ sym at)
-      (E15_hand k slots id m number h.verb h.lock h.stands a near' h.y)
+      (E15_hand k slots id m number v h.lock h.stands a near' h.y)
