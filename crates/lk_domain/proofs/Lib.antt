@@ -15,3 +15,4 @@ pub mod Seating
 pub mod Crossing
 pub mod queue
 pub mod rw
+pub mod Mets

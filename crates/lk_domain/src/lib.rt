@@ -12,6 +12,7 @@ mod ledger;
 mod locks;
 mod looking;
 mod making;
+pub mod met;
 mod notes;
 mod part;
 mod place;

@@ -6,4 +6,3 @@ pub mod Hands
 pub mod Arrives
 pub mod Frees
 pub mod Kept
-pub mod Mets

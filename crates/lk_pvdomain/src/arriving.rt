@@ -9,7 +9,6 @@ ghost use Rattle.lk_pvdomain.specs.PvWords.{Steps, Takes, Waits};
 ghost use Rattle.lk_word.specs.declared.spin_word.NodeName.{NodeName as Node};
 
 use crate::call::Queued;
-use crate::met::word_met;
 use crate::{nodes, states, tries, words};
 use crossbeam_utils::Backoff;
 use lk_abs::LockName;
@@ -78,7 +77,7 @@ impl<'a> Queued<'a> {
             (Steals (is_some result.tail)) seat.old seat.new }
     {
         let met = words::go_on(seat, self.domain, self.lock, WordUse::Looks);
-        word_met(self.domain, met)
+        self.domain.plan.word_met(met)
     }
 
     // The row H2. Returns whether it acquired the lock.
@@ -116,7 +115,7 @@ impl<'a> Queued<'a> {
             let arrival = Arrival { expected, own };
             let met = moves::exchange_tail(seat, &domain.table, &domain.plan, lock, arrival);
             if met == expected {
-                return word_met(self.domain, met).tail;
+                return self.domain.plan.word_met(met).tail;
             }
             expected = met;
         }

@@ -3,9 +3,9 @@ ghost use Rattle.lk_rows.specs.declared.parts.Pc.TheVariants.{E13, E14, E15};
 ghost use Rattle.lk_pvdomain.specs.PvWords.{IsNodeOf, Owns, Precedes, Steps, Takes, Waits};
 
 use crate::call::Queued;
-use crate::met::{is_last, node_met, word_met};
 use crate::{hash, states, words};
 use crossbeam_utils::Backoff;
+use lk_domain::met::{is_last, node_met};
 use lk_domain::moves::WordUse;
 use lk_domain::{Right, node_moves};
 use lk_rows::{Flag, State};
@@ -19,7 +19,7 @@ impl<'a> Queued<'a> {
         ensures { Takes self.now E13 Owns seat.old seat.new }
     {
         let met = words::quit(seat, self.domain, self.lock, self.own);
-        if is_last(word_met(self.domain, met), self.own) {
+        if is_last(self.domain.plan.word_met(met), self.own) {
             return;
         }
         let to = self.next(seat, rt);
@@ -36,7 +36,7 @@ impl<'a> Queued<'a> {
         let backoff = Backoff::new();
         for _ in rt.forever() {
             let met = node_moves::look_next(seat, &self.domain.table, &self.domain.plan, self.own);
-            if let Some(to) = node_met(self.domain, met) {
+            if let Some(to) = node_met(met) {
                 return to;
             }
             backoff.snooze();

@@ -16,7 +16,6 @@ mod laws;
 mod leading;
 mod looking;
 mod making;
-mod met;
 mod nodes;
 mod pacing;
 mod pages;

@@ -1,5 +1,5 @@
 -- Where a row may lead, and what the number of a word says.
-use Rattle.std.proofs.Common.{◌≡◌, ◌≢◌, ◌⊎◌, inl, inr, ℕ, ◌-◌, ◌/◌, ◌%◌, ◌<◌, ◌≤◌, Option, IfSome, arith, Some, None, Bool, true, false, eq-eqb, ne_eqb, refl, sym, ap, subst, ◌∙◌, eqb, ◌+◌}
+use Rattle.std.proofs.Common.{◌≡◌, ◌≢◌, ◌⊎◌, inl, inr, ℕ, ◌-◌, ◌/◌, ◌%◌, ◌<◌, ◌≤◌, Option, IfSome, arith, Some, None, Bool, true, false, eq-eqb, ne_eqb, refl, sym, ap, subst, ◌∙◌}
 use Rattle.std.specs.Prelude.{if◌then◌else◌, ◌&&◌, not, is_some}
 use Rattle.lk_abs.specs.declared.names.Mode.{Mode}
 use Rattle.lk_abs.specs.declared.names.Mode.TheVariants.{Virt, Native, Cna, Pv}
@@ -18,9 +18,7 @@ use Rattle.lk_domain.specs.Seats.{IsOf, Made}
 use Rattle.lk_domain.specs.declared.cpu.Cpu.{Cpu}
 use Rattle.lk_domain.specs.declared.domain.Domain.{Domain}
 use Rattle.lk_domain.specs.NodePlays.{IsFlagNode}
-use Rattle.lk_domain.specs.Words.{IsNode, link_number, flag_number, name_number, marked}
-use Rattle.std.proofs.lemmas.Bool.{cases_eq}
-use Rattle.lk_law.proofs.common.Puts.{if-true, if-false}
+use Rattle.lk_domain.specs.Words.{IsNode, flag_number, name_number}
 use Rattle.lk_domain.specs.declared.plan.Plan.{Plan}
 use Rattle.lk_domain.proofs.Ways as seat
 
@@ -110,43 +108,8 @@ not_fast mode y e =
       | inr (inr (inr h)) ↦ (let z : G1 ≡ F1 = sym h ∙ e in cc z)
     ]
 
--- a link but for its mark
-
-pub marked_rest : (b : Bool) (i : ℕ) → i < 4294967296 → marked b i % 4294967296 ≡ i
-marked_rest false i h = omega (arith, h)
-marked_rest true i h =
-    elim (cases_eq i 0) [
-      | inl e ↦ ap (λ n. n % 4294967296) (if-true (eqb i 0) 0 (4294967296 + i) (eq-eqb i 0 e)) ∙ sym e
-      | inr ne ↦ ap (λ n. n % 4294967296) (if-false (eqb i 0) 0 (4294967296 + i) (ne_eqb i 0 ne)) ∙ (let z : (4294967296 + i) % 4294967296 ≡ i = omega (arith, h) in z)
-    ]
-
--- what a link names
-
-pub no_link : (n : ℕ) (x : Option NodeName) → n ≡ link_number x → n < 2 → x ≡ None
-no_link n None e h = refl
-no_link n (Some m) e h = absurd (omega (arith, e, h))
-
-pub some_link : (k : Plan) (n : ℕ) (x : Option NodeName) → IfSome x (IsNode k) → n ≡ link_number x → 2 ≤ n
-    → Some (record { cpu = (n - 2) / 4; index = (n - 2) % 4 }) ≡ x
-some_link k n None node e h = absurd (omega (arith, e, h))
-some_link k n (Some m) node e h =
-    let low = node.index in
-    let c : (n - 2) / 4 ≡ m.cpu = omega (arith, e, h, low) in
-    let i : (n - 2) % 4 ≡ m.index = omega (arith, e, h, low) in
-    λ j. Some (record { cpu = c j; index = i j })
-
-pub small_link : (k : Plan) (n : ℕ) (x : Option NodeName) → IfSome x (IsNode k) → n ≡ link_number x → cpus_of k ≤ 64 → n < 260
-small_link k n None node e h = omega (arith, e)
-small_link k n (Some m) node e h = let a = node.cpu in let b = node.index in omega (arith, e, h, a, b)
-
 pub name_low : (k : Plan) (n : NodeName) → cpus_of k ≤ 64 → IsNode k n → name_number n < 4294967296
 name_low k n few node = let a = node.cpu in let b = node.index in omega (arith, few, a, b)
-
-pub name_is : (k : Plan) (met : ℕ) (mark : Bool) (x : Option NodeName) → IfSome x (IsNode k) → met ≡ marked mark (link_number x)
-    → cpus_of k ≤ 64 → met % 4294967296 ≡ link_number x
-name_is k met mark x node is few =
-    ap (λ n. n % 4294967296) is
-    ∙ marked_rest mark (link_number x) (let s = small_link k (link_number x) x node refl few in omega (arith, s))
 
 pub each_some : {A : Type 0} (P : A → Type 0) (o : Option A) → ((x : A) → o ≡ Some x → P x) → IfSome o P
 each_some P None f = tt

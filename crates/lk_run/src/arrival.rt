@@ -17,7 +17,7 @@ ghost use Rattle.lk_word.specs.declared.spin_word.NodeName.{NodeName};
 
 use crate::call::{Call, Queued};
 use crate::tail::Tail;
-use crate::words::{flag_met, moves_waiters, word_met};
+use crate::words::{flag_met, moves_waiters};
 use lk_domain::{Cpu, Link, Part, steps};
 use lk_rows::Flag;
 use lk_word::NodeName;
@@ -81,7 +81,7 @@ impl<'a> Queued<'a> {
         if met != expected {
             return Tail::Other(met);
         }
-        match word_met(call.domain, met).tail {
+        match call.domain.plan.word_met(met).tail {
             Some(prev) => Tail::Behind(prev),
             None => Tail::First,
         }

@@ -12,7 +12,8 @@ ghost use Rattle.lk_run.specs.Phases.{Knows};
 
 use crate::call::Front;
 use crate::seen::{Behind, Site};
-use crate::words::{is_last, mark_met, node_met, tail_met, word_met};
+use crate::words::{mark_met, tail_met};
+use lk_domain::met::{is_last, node_met};
 use lk_domain::{Cpu, Link, Part, steps};
 use lk_rows::{More, flag_for};
 use lk_word::NodeName;
@@ -37,7 +38,7 @@ impl<'a> Front<'a> {
             domain,
             cpu: cpu.number(),
         };
-        let seen = site.first_seen(runs, self.second, node_met(domain, met), mark);
+        let seen = site.first_seen(runs, self.second, node_met(met), mark);
         Behind { seen, mark }
     }
 
@@ -55,7 +56,7 @@ impl<'a> Front<'a> {
             domain,
             cpu: cpu.number(),
         };
-        site.more_seen(self.second, node_met(domain, met), mark)
+        site.more_seen(self.second, node_met(met), mark)
     }
 
     // The row C3: reads t, the last of [first .. t], in the node of the first. The waiters that the
@@ -157,6 +158,6 @@ impl<'a> Front<'a> {
     {
         let call = self.call;
         let met = steps::tail_to_second(cpu, call.domain, call.lock, self.own, t);
-        is_last(word_met(call.domain, met), self.own)
+        is_last(call.domain.plan.word_met(met), self.own)
     }
 }

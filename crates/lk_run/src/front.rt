@@ -6,7 +6,7 @@ ghost use Rattle.lk_law.specs.Cna.{moves_aside};
 ghost use Rattle.lk_run.specs.Heads.{At, Steps, Looks, Takes, IsNodeOf, Fronts, Precedes};
 
 use crate::call::Front;
-use crate::words::{node_met, word_met};
+use lk_domain::met::node_met;
 use lk_domain::{Cpu, Part, steps};
 use lk_rows::{Flag, Pc, after_look, is_sole};
 use lk_word::NodeName;
@@ -23,7 +23,7 @@ impl<'a> Front<'a> {
         ensures stays { result ≡ G7 → Looks self.now G7 Fronts cpu.old cpu.new }
     {
         let met = steps::look(cpu, self.call.domain, self.call.verb, self.call.lock);
-        let word = word_met(self.call.domain, met);
+        let word = self.call.domain.plan.word_met(met);
         after_look(word, self.own, self.second.is_some())
     }
 
@@ -38,7 +38,7 @@ impl<'a> Front<'a> {
     {
         let call = self.call;
         let met = steps::sole_claim(cpu, call.domain, call.verb, call.lock, self.own);
-        is_sole(word_met(call.domain, met), self.own)
+        is_sole(call.domain.plan.word_met(met), self.own)
     }
 
     // The row G9: (n, *, 0) -> (n, *, 1). Nobody else stores into the locked byte of a free lock
@@ -64,7 +64,7 @@ impl<'a> Front<'a> {
         ensures stays { result ≡ None → Looks self.now G10 Fronts cpu.old cpu.new }
     {
         let met = steps::look_own(cpu, self.call.domain, self.call.verb, self.own, Part::Next);
-        node_met(self.call.domain, met)
+        node_met(met)
     }
 
     // The row G11, which hands off: the flag of the successor, unset -> go. The successor is the

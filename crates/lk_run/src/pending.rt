@@ -6,7 +6,6 @@ ghost use Rattle.lk_domain.specs.Paths.{Any};
 ghost use Rattle.lk_run.specs.Words.{At, Steps, Looks, Takes};
 
 use crate::call::Call;
-use crate::words::word_met;
 use lk_domain::{Cpu, steps};
 use lk_rows::{Pc, after_pending, is_unlocked, to_queue};
 
@@ -19,7 +18,7 @@ impl<'a> Call<'a> {
         ensures goes { Steps self.now P0 Any result Any cpu.old cpu.new }
     {
         let met = steps::look(cpu, self.domain, self.verb, self.lock);
-        to_queue(word_met(self.domain, met))
+        to_queue(self.domain.plan.word_met(met))
     }
 
     // The row P1, and where it leads.
@@ -34,7 +33,7 @@ impl<'a> Call<'a> {
         ensures goes { Steps self.now P1 Any result Any cpu.old cpu.new }
     {
         let met = steps::set_pending(cpu, self.domain, self.verb, self.lock);
-        after_pending(word_met(self.domain, met))
+        after_pending(self.domain.plan.word_met(met))
     }
 
     // The row P2: (n, 1, *) -> (n, 0, *). The bit is this call's own, since it met none when it set
@@ -54,7 +53,7 @@ impl<'a> Call<'a> {
         ensures held { result ≡ false → Looks self.now P3 Any cpu.old cpu.new }
     {
         let met = steps::look(cpu, self.domain, self.verb, self.lock);
-        is_unlocked(word_met(self.domain, met))
+        is_unlocked(self.domain.plan.word_met(met))
     }
 
     // The row P4: (*, 1, 0) -> (*, 0, 1). It takes the lock and clears its own pending bit in one

@@ -34,7 +34,7 @@ ghost use Rattle.lk_run.specs.Words.{At, IsNext};
 use crate::call::{Call, Front, Queued};
 use crate::rest::{Head, Joining, Rest};
 use crate::tail::Tail;
-use crate::words::{moves_waiters, word_met};
+use crate::words::moves_waiters;
 use lk_domain::Cpu;
 use lk_rows::{Flag, Pc, after_fast};
 use lk_word::NodeName;
@@ -46,7 +46,7 @@ impl<'a> Call<'a> {
         requires { Came self.now met cpu.old }
         ensures { Turned self.now met result cpu.old cpu.new }
     {
-        match after_fast(self.domain.mode(), word_met(self.domain, met)) {
+        match after_fast(self.domain.mode(), self.domain.plan.word_met(met)) {
             Pc::V1 => self.spin(cpu),
             Pc::P0 => self.look_on(cpu),
             Pc::P1 => self.pend(cpu),

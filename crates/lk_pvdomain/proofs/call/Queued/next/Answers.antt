@@ -14,26 +14,30 @@ look_next-met-requires g c =
 pub node_met-requires : goal.node_met-requires
 node_met-requires g c =
     let w = c.loop.invariant c.requires.0 c.requires.1 in
+    let d = c.args.self.now.domain.now in
     let k = c.look_next-met.ensures.step in
-    record { link = (k.found, k.mark, subst (λ (p : Plan). IfSome k.found (IsNode p)) w.of.plan k.node, k.word) }
+    record { link = (d.plan, k.found, k.mark, d.lawful, subst (λ (p : Plan). IfSome k.found (IsNode p)) w.of.plan k.node, k.word) }
 
 pub returns-in-Some-node_met-clause-node : goal.returns-in-Some-node_met-clause-node
 returns-in-Some-node_met-clause-node g c =
     let w = c.loop.invariant c.requires.0 c.requires.1 in
+    let d = c.args.self.now.domain.now in
     let k = c.look_next-met.ensures.step in
     let near = subst (λ (p : Plan). IfSome k.found (IsNode p)) w.of.plan k.node in
-    subst (λ o. IfSome o (IsNode c.args.self.now.domain.now.plan)) (sym (c.node_met.ensures k.found k.mark near k.word) ∙ c.in-Some-node_met.is) near
+    subst (λ o. IfSome o (IsNode c.args.self.now.domain.now.plan)) (sym (c.node_met.ensures d.plan k.found k.mark d.lawful near k.word) ∙ c.in-Some-node_met.is) near
 
 pub returns-in-Some-node_met-clause-goes : goal.returns-in-Some-node_met-clause-goes
 returns-in-Some-node_met-clause-goes g c s w =
     let x = c.loop.invariant s w in
+    let d = c.args.self.now.domain.now in
     let k = c.look_next-met.ensures.step in
     let near = subst (λ (p : Plan). IfSome k.found (IsNode p)) x.of.plan k.node in
-    e14_sees c.look_next-met.ensures.same x k (sym (c.node_met.ensures k.found k.mark near k.word) ∙ c.in-Some-node_met.is)
+    e14_sees c.look_next-met.ensures.same x k (sym (c.node_met.ensures d.plan k.found k.mark d.lawful near k.word) ∙ c.in-Some-node_met.is)
 
 pub loop-preserved : goal.loop-preserved
 loop-preserved g c s w =
     let x = c.loop.invariant s w in
+    let d = c.args.self.now.domain.now in
     let k = c.look_next-met.ensures.step in
     let near = subst (λ (p : Plan). IfSome k.found (IsNode p)) x.of.plan k.node in
-    e14_waits c.look_next-met.ensures.same x k (sym (c.node_met.ensures k.found k.mark near k.word) ∙ c.in_default.is)
+    e14_waits c.look_next-met.ensures.same x k (sym (c.node_met.ensures d.plan k.found k.mark d.lawful near k.word) ∙ c.in_default.is)

@@ -56,7 +56,7 @@ node_met-requires c =
     let same : view_of m ≡ counting r (view_of a) = (λ i. (c.own_runs-runs.ensures.seen.by.seat i).0) in
     let seen = (c.look_own-met.ensures.next refl).by in
     let node = subst (λ (k : Plan). IfSome seen.found (IsNode k)) of.plan seen.node in
-    record { link = (seen.found, seen.mark, node, seen.word) }
+    record { link = (d.plan, seen.found, seen.mark, d.lawful, node, seen.word) }
 
 pub first_seen-seen-requires : goal.first_seen-seen-requires
 first_seen-seen-requires c =
@@ -70,7 +70,7 @@ first_seen-seen-requires c =
     let same : view_of m ≡ counting r (view_of a) = (λ i. (c.own_runs-runs.ensures.seen.by.seat i).0) in
     let seen = (c.look_own-met.ensures.next refl).by in
     let node = subst (λ (k : Plan). IfSome seen.found (IsNode k)) of.plan seen.node in
-    let is = c.node_met.ensures seen.found seen.mark node seen.word in
+    let is = c.node_met.ensures d.plan seen.found seen.mark d.lawful node seen.word in
     subst (λ o. IfSome o (IsNode d.plan)) (sym is) node
 
 pub returns : goal.returns
@@ -86,7 +86,7 @@ returns c =
     let same : view_of m ≡ counting r (view_of a) = (λ i. (c.own_runs-runs.ensures.seen.by.seat i).0) in
     let seen = (c.look_own-met.ensures.next refl).by in
     let node = subst (λ (k : Plan). IfSome seen.found (IsNode k)) of.plan seen.node in
-    let is = c.node_met.ensures seen.found seen.mark node seen.word in
+    let is = c.node_met.ensures d.plan seen.found seen.mark d.lawful node seen.word in
     let marked_so : (x : NodeName) → seen.found ≡ Some x → c.mark_met-mark.result ≡ seen.mark = (λ x met.
     c.mark_met-mark.ensures x seen.mark (name_low d.plan x d.lawful.cpus (subst (λ o. IfSome o (IsNode d.plan)) met node)) (seen.word ∙ ap (λ o. marked seen.mark (link_number o)) met)) in
     let sees_it : first_by (sight_by (sees d m b) (Linked seen.found seen.mark)) q.second seen.found ≡ c.first_seen-seen.result =

@@ -32,7 +32,7 @@ node_met-requires c =
     let of = c.requires.waits.at.domain in
     let seen = c.look_next-met.ensures.seen.by in
     let node = subst (λ (k : Plan). IfSome seen.found (IsNode k)) of.plan seen.node in
-    record { link = (seen.found, seen.mark, node, seen.word) }
+    record { link = (d.plan, seen.found, seen.mark, d.lawful, node, seen.word) }
 
 pub more_seen-requires : goal.more_seen-requires
 more_seen-requires c =
@@ -43,7 +43,7 @@ more_seen-requires c =
     let of = c.requires.waits.at.domain in
     let seen = c.look_next-met.ensures.seen.by in
     let node = subst (λ (k : Plan). IfSome seen.found (IsNode k)) of.plan seen.node in
-    let is = c.node_met.ensures seen.found seen.mark node seen.word in
+    let is = c.node_met.ensures d.plan seen.found seen.mark d.lawful node seen.word in
     subst (λ o. IfSome o (IsNode d.plan)) (sym is) node
 
 pub returns : goal.returns
@@ -56,7 +56,7 @@ returns c =
     let rest = c.look_next-met.ensures.rest in
     let seen = c.look_next-met.ensures.seen.by in
     let node = subst (λ (k : Plan). IfSome seen.found (IsNode k)) of.plan seen.node in
-    let is = c.node_met.ensures seen.found seen.mark node seen.word in
+    let is = c.node_met.ensures d.plan seen.found seen.mark d.lawful node seen.word in
     let sees_it : more_by (sight_by (sees d a m) (Linked seen.found seen.mark)) q.second seen.found ≡ c.more_seen.result =
     (λ i. more_by (sight_by (sight_of (terms_of d.plan) (sym c.number.ensures i) (calls_of a).runs) (Linked (sym is i) seen.mark)) q.second (sym is i))
     ∙ (choice.more_marks (sight_of (terms_of d.plan) c.number.result (calls_of a).runs) q.second c.node_met.result seen.mark c.mark_met-mark.result (λ x e.

@@ -1,4 +1,4 @@
--- What the number of a word that a step met says, where processors halt.
+-- What the number of a link that a step met says.
 use Rattle.std.proofs.Common.{◌≡◌, inl, inr, ℕ, ◌+◌, ◌-◌, ◌/◌, ◌%◌, ◌<◌, ◌≤◌, Option, IfSome, arith, Some, None, Bool, true, false, eq-eqb, ne_eqb, refl, sym, ap, ◌∙◌, eqb}
 use Rattle.std.proofs.lemmas.Bool.{cases_eq}
 use Rattle.lk_word.specs.declared.spin_word.NodeName.{NodeName}
