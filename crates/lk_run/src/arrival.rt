@@ -115,7 +115,7 @@ impl<'a> Queued<'a> {
         ensures waits { result ≡ Unset → Looks self.now G6 Owns cpu.old cpu.new }
     {
         let met = steps::look_own(cpu, self.call.domain, self.call.verb, self.own, Part::Flag);
-        flag_met(self.call.domain, met)
+        flag_met(met)
     }
 }
 

@@ -67,7 +67,7 @@ impl<'a> Front<'a> {
         ensures { HasTail self.now first result cpu.old cpu.new }
     {
         let met = steps::second_tail(cpu, self.call.domain, self.call.verb, first, None);
-        tail_met(self.call.domain, met)
+        tail_met(met)
     }
 
     // The row C4: the link of t, none -> a, so that the waiters that the head has passed over stand

@@ -4,10 +4,11 @@ ghost use Rattle.lk_word.specs.declared.spin_word.NodeName.{NodeName as Node};
 ghost use Rattle.lk_law.specs.Cna.{moves_aside};
 ghost use Rattle.lk_rows.specs.declared.parts.Flag.{Flag as FlagOf};
 ghost use Rattle.lk_domain.specs.NodePlays.{IsFlagNode};
+ghost use Rattle.lk_domain.specs.Plans.{IsRunningPlan};
 ghost use Rattle.lk_domain.specs.Words.{IsNode, flag_number, name_number, marked};
+ghost use Rattle.lk_domain.specs.declared.plan.Plan.{Plan};
 
 use lk_abs::Mode;
-use lk_domain::Domain;
 use lk_rows::Flag;
 use lk_word::{MARK, NodeName, node_of_name};
 
@@ -23,10 +24,11 @@ pub(crate) fn mark_met(met: u64) -> bool
 
 // What a flag says: it may name the first of a secondary queue.
 #[inline]
-pub(crate) fn flag_met(domain: &Domain, met: u64) -> Flag
-    requires flag { (flag : FlagOf) × IsFlagNode domain.now.plan flag × (met ≡ flag_number flag) }
-    ensures { (flag : FlagOf) → IsFlagNode domain.now.plan flag → met ≡ flag_number flag
-        → result ≡ flag }
+pub(crate) fn flag_met(met: u64) -> Flag
+    requires flag { (k : Plan) × (flag : FlagOf) × IsRunningPlan k × IsFlagNode k flag
+        × (met ≡ flag_number flag) }
+    ensures { (k : Plan) (flag : FlagOf) → IsRunningPlan k → IsFlagNode k flag
+        → met ≡ flag_number flag → result ≡ flag }
 {
     if met == 0 {
         return Flag::Unset;
@@ -46,9 +48,11 @@ pub(crate) fn moves_waiters(mode: Mode) -> bool
 
 // The node that a word names.
 #[inline]
-pub(crate) fn tail_met(domain: &Domain, met: u64) -> NodeName
-    requires tail { (node : Node) × IsNode domain.now.plan node × (met ≡ name_number node) }
-    ensures { (node : Node) → IsNode domain.now.plan node → met ≡ name_number node → result ≡ node }
+pub(crate) fn tail_met(met: u64) -> NodeName
+    requires tail { (k : Plan) × (node : Node) × IsRunningPlan k × IsNode k node
+        × (met ≡ name_number node) }
+    ensures { (k : Plan) (node : Node) → IsRunningPlan k → IsNode k node
+        → met ≡ name_number node → result ≡ node }
 {
     node_of_name(met)
 }

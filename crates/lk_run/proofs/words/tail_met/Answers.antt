@@ -5,8 +5,8 @@ use Rattle.lk_run.proofs.words.tail_met.Goals as goal
 pub node_of_name-requires-clause-unmarked : goal.node_of_name-requires-clause-unmarked
 node_of_name-requires-clause-unmarked c =
     let tail = c.requires.tail in
-    let small = small_name c.args.domain.now.plan c.args.met tail.0 tail.1 tail.2 c.args.domain.now.lawful.cpus in
+    let small = small_name tail.0 c.args.met tail.1 tail.3 tail.4 tail.2.cpus in
     omega (arith, small)
 
 pub returns : goal.returns
-returns c node near is = c.node_of_name.ensures ∙ node_named c.args.domain.now.plan c.args.met node near is
+returns c k node on near is = c.node_of_name.ensures ∙ node_named k c.args.met node near is

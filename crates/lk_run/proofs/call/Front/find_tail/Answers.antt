@@ -26,8 +26,9 @@ second_tail-met-requires-clause-row c =
 
 pub tail_met-requires : goal.tail_met-requires
 tail_met-requires c =
+    let d = c.args.self.now.call.domain.now in
     let seen = (c.second_tail-met.ensures.seen refl).by in
-    record { tail = (seen.found, subst (λ (k : Plan). IsNode k seen.found) c.requires.waits.domain.plan seen.node, seen.word) }
+    record { tail = (d.plan, seen.found, d.lawful, subst (λ (k : Plan). IsNode k seen.found) c.requires.waits.domain.plan seen.node, seen.word) }
 
 pub returns : goal.returns
 returns c =
@@ -40,7 +41,7 @@ returns c =
     let rest = c.second_tail-met.ensures.rest in
     let seen = (c.second_tail-met.ensures.seen refl).by in
     let node = subst (λ (k : Plan). IsNode k seen.found) at.domain.plan seen.node in
-    let is = sym (c.tail_met.ensures seen.found node seen.word) in
+    let is = sym (c.tail_met.ensures d.plan seen.found d.lawful node seen.word) in
     let step : view_of b ≡ rowed (view_of a) (calls_of a) (Named (Some seen.found)) = (λ i. (seen.seat i).0) in
     let to : (e : Pc) (Q : NodeName → Frame → Type 0) (f : Frame) → Leads d.plan.mode b.number (sees d a b) C3 f (Named (Some seen.found)) e (Q seen.found)
     → Leads d.plan.mode b.number (sees d a b) C3 f (Named (Some seen.found)) e (Q c.tail_met.result) =

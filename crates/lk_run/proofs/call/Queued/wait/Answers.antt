@@ -16,15 +16,16 @@ look_own-met-requires-clause-row c = record { lock = c.args.self.now.call.lock; 
 
 pub flag_met-requires : goal.flag_met-requires
 flag_met-requires c =
+    let d = c.args.self.now.call.domain.now in
     let seen = (c.look_own-met.ensures.flag refl).by in
-    record { flag = (seen.found, subst (λ (k : Plan). IsFlagNode k seen.found) c.requires.domain.plan seen.node, seen.word) }
+    record { flag = (d.plan, seen.found, d.lawful, subst (λ (k : Plan). IsFlagNode k seen.found) c.requires.domain.plan seen.node, seen.word) }
 
 pub returns-clause-node : goal.returns-clause-node
 returns-clause-node c =
     let w = c.args.self.now.call in
     let seen = (c.look_own-met.ensures.flag refl).by in
     let node = subst (λ (k : Plan). IsFlagNode k seen.found) c.requires.domain.plan seen.node in
-    let is = c.flag_met.ensures seen.found node seen.word in
+    let is = c.flag_met.ensures w.domain.now.plan seen.found w.domain.now.lawful node seen.word in
     subst (IsFlagNode w.domain.now.plan) (sym is) node
 
 pub returns-clause-leads : goal.returns-clause-leads
@@ -32,7 +33,7 @@ returns-clause-leads c ne =
     let w = c.args.self.now.call in
     let seen = (c.look_own-met.ensures.flag refl).by in
     let node = subst (λ (k : Plan). IsFlagNode k seen.found) c.requires.domain.plan seen.node in
-    let is = c.flag_met.ensures seen.found node seen.word in
+    let is = c.flag_met.ensures w.domain.now.plan seen.found w.domain.now.lawful node seen.word in
     on.steps_by c.requires.domain c.look_own-met.ensures.rest (Flagged seen.found) (λ i. (seen.seat i).0) G7 (Fronts c.args.self.now.own (node_in c.flag_met.result)) (λ e. cc e)
     (λ f has. subst (λ (x : Flag). Leads w.domain.now.plan.mode c.look_own-met.new.cpu.number (sees w.domain.now c.args.cpu.now c.look_own-met.new.cpu) G6 f (Flagged seen.found) G7 (Fronts c.args.self.now.own (node_in x)))
     (sym is) (row.flag_leads _ _ f c.args.self.now.own has seen.found (λ h. ne (is ∙ h))))
@@ -42,6 +43,6 @@ returns-clause-waits c e =
     let w = c.args.self.now.call in
     let seen = (c.look_own-met.ensures.flag refl).by in
     let node = subst (λ (k : Plan). IsFlagNode k seen.found) c.requires.domain.plan seen.node in
-    let is = c.flag_met.ensures seen.found node seen.word in
+    let is = c.flag_met.ensures w.domain.now.plan seen.found w.domain.now.lawful node seen.word in
     on.looks_by c.requires.domain c.look_own-met.ensures.rest (Flagged seen.found) (λ i. (seen.seat i).0) (Owns c.args.self.now.own)
     (λ f has. row.flag_waits _ _ f c.args.self.now.own has seen.found (sym is ∙ e))
