@@ -9,11 +9,12 @@ ghost use Rattle.lk_domain.specs.Seats.{IsOf, KeepsRest, calls_of};
 ghost use Rattle.lk_domain.specs.Waits.{MayTake};
 ghost use Rattle.lk_run.specs.Phases.{Start, Holds, starting};
 ghost use Rattle.lk_run.specs.Polled.{Arrived, Waits, TakesOne};
+ghost use Rattle.lk_run.specs.declared.waiter.Arrival.{Arrival};
 ghost use Rattle.lk_run.specs.declared.waiter.Waiter.{Waiter};
 
 use crate::call::Call;
 use crate::spin::fast;
-use crate::waiter::Waiter;
+use crate::waiter::{Arrival, Waiter};
 use lk_abs::LockName;
 use lk_domain::{Cpu, Domain, LockId};
 use lk_rows::Verb;
@@ -36,6 +37,29 @@ pub fn begin(cpu: &mut Cpu, domain: &Domain, lock: LockId) -> Option<Waiter>
     ensures waits { (w : Waiter) → result ≡ Some w → (nests : Bool)
         → Waits domain.now w (starting cpu.old nests None) cpu.new }
 {
+    match arrive(cpu, domain, lock) {
+        None => None,
+        Some(arrival) => settle(cpu, domain, lock, arrival),
+    }
+}
+
+/// Makes the first row of a call of `lock`. `None` says that the processor holds the lock. Else the
+/// call goes on by `settle`.
+///
+/// The two are `begin` in parts, for a caller in whose way nothing may stand that a free lock does
+/// not need: a `Waiter` is built by `settle` alone.
+#[inline]
+pub fn arrive(cpu: &mut Cpu, domain: &Domain, lock: LockId) -> Option<Arrival>
+    requires domain { IsOf cpu.old domain.now }
+    requires lock { lock.index < locks_of domain.now.plan }
+    requires kind { kind_at domain.now.plan lock.index ≡ Spin }
+    requires may { MayTake lock.index (calls_of cpu.old) }
+    ensures rest { KeepsRest cpu.old cpu.new }
+    ensures holds { result ≡ None → (nests : Bool)
+        → Holds domain.now Lock lock.index Spins (starting cpu.old nests None) cpu.new None }
+    ensures met { (a : Arrival) → result ≡ Some a → (nests : Bool)
+        → Arrived domain.now lock.index a.met (starting cpu.old nests None) cpu.new }
+{
     let name = LockName {
         index: lock.index,
         wait: false,
@@ -44,23 +68,24 @@ pub fn begin(cpu: &mut Cpu, domain: &Domain, lock: LockId) -> Option<Waiter>
     if met == 0 {
         return None;
     }
-    begin_slowpath(cpu, domain, lock, met)
+    Some(Arrival { met })
 }
 
-// From the place to which the first row led that met this word, up to where the call rests. It is out
-// of the way of a call that takes a free lock, which builds no `Call`.
+/// Goes on with a call of `lock` from where its first row led, up to where it rests. `None` says that
+/// the processor holds the lock.
 #[cold]
 #[inline(never)]
-fn begin_slowpath(cpu: &mut Cpu, domain: &Domain, lock: LockId, met: u64) -> Option<Waiter>
+pub fn settle(cpu: &mut Cpu, domain: &Domain, lock: LockId, arrival: Arrival) -> Option<Waiter>
     requires domain { IsOf cpu.old domain.now }
     requires lock { lock.index < locks_of domain.now.plan }
-    requires begun { (s : Start) × Arrived domain.now lock.index met s cpu.old }
+    requires begun { (s : Start) × Arrived domain.now lock.index arrival.met s cpu.old }
     ensures rest { KeepsRest cpu.old cpu.new }
-    ensures holds { result ≡ None → (s : Start) → Arrived domain.now lock.index met s cpu.old
+    ensures holds { result ≡ None → (s : Start)
+        → Arrived domain.now lock.index arrival.met s cpu.old
         → Holds domain.now Lock lock.index Spins s cpu.new None }
     ensures lock { (w : Waiter) → result ≡ Some w → w.lock ≡ lock }
     ensures waits { (w : Waiter) → result ≡ Some w → (s : Start)
-        → Arrived domain.now lock.index met s cpu.old → Waits domain.now w s cpu.new }
+        → Arrived domain.now lock.index arrival.met s cpu.old → Waits domain.now w s cpu.new }
 {
     let call = Call {
         domain,
@@ -70,7 +95,7 @@ fn begin_slowpath(cpu: &mut Cpu, domain: &Domain, lock: LockId, met: u64) -> Opt
             wait: false,
         },
     };
-    match call.contend(cpu, met) {
+    match call.contend(cpu, arrival.met) {
         Some(rest) => Some(Waiter { lock, rest }),
         None => None,
     }

@@ -11,29 +11,29 @@ use Rattle.lk_run.proofs.Steps.{still_of, rest_both}
 use Rattle.lk_run.proofs.Ways.{none_more}
 use Rattle.lk_run.proofs.polled.begin.Goals as goal
 
-pub returns-then-met-eq0-clause-holds : goal.returns-then-met-eq0-clause-holds
-returns-then-met-eq0-clause-holds c e nests = c.fast-met.ensures.taken c.if-met-eq0.true nests None
+pub returns-in-None-clause-holds : goal.returns-in-None-clause-holds
+returns-in-None-clause-holds c e nests = c.arrive.ensures.holds c.in-None.is nests
 
-pub returns-then-met-eq0-clause-once : goal.returns-then-met-eq0-clause-once
-returns-then-met-eq0-clause-once c = (c.fast-met.ensures.taken c.if-met-eq0.true false None).once
+pub returns-in-None-clause-once : goal.returns-in-None-clause-once
+returns-in-None-clause-once c = (c.arrive.ensures.holds c.in-None.is false).once
 
-pub begin_slowpath-requires-clause-domain : goal.begin_slowpath-requires-clause-domain
-begin_slowpath-requires-clause-domain c = still_of c.args.domain.now c.args.cpu.now c.fast-met.new.cpu c.fast-met.ensures.rest c.requires.domain
+pub settle-requires-clause-domain : goal.settle-requires-clause-domain
+settle-requires-clause-domain c = still_of c.args.domain.now c.args.cpu.now c.arrive.new.cpu c.arrive.ensures.rest c.requires.domain
 
-pub begin_slowpath-requires-clause-begun : goal.begin_slowpath-requires-clause-begun
-begin_slowpath-requires-clause-begun c = (starting c.args.cpu.now true None, c.fast-met.ensures.waits c.if-met-eq0.false true None)
+pub settle-requires-clause-begun : goal.settle-requires-clause-begun
+settle-requires-clause-begun c = (starting c.args.cpu.now true None, c.arrive.ensures.met c.in-Some.arrival c.in-Some.is true)
 
-pub returns-clause-rest : goal.returns-clause-rest
-returns-clause-rest c =
-    rest_both c.args.cpu.now c.fast-met.new.cpu c.begin_slowpath.new.cpu c.fast-met.ensures.rest c.begin_slowpath.ensures.rest
+pub returns-in-Some-clause-rest : goal.returns-in-Some-clause-rest
+returns-in-Some-clause-rest c =
+    rest_both c.args.cpu.now c.arrive.new.cpu c.settle.new.cpu c.arrive.ensures.rest c.settle.ensures.rest
 
-pub returns-clause-holds : goal.returns-clause-holds
-returns-clause-holds c e nests =
-    c.begin_slowpath.ensures.holds e (starting c.args.cpu.now nests None) (c.fast-met.ensures.waits c.if-met-eq0.false nests None)
+pub returns-in-Some-clause-holds : goal.returns-in-Some-clause-holds
+returns-in-Some-clause-holds c e nests =
+    c.settle.ensures.holds e (starting c.args.cpu.now nests None) (c.arrive.ensures.met c.in-Some.arrival c.in-Some.is nests)
 
-pub returns-clause-waits : goal.returns-clause-waits
-returns-clause-waits c w e nests =
-    c.begin_slowpath.ensures.waits w e (starting c.args.cpu.now nests None) (c.fast-met.ensures.waits c.if-met-eq0.false nests None)
+pub returns-in-Some-clause-waits : goal.returns-in-Some-clause-waits
+returns-in-Some-clause-waits c w e nests =
+    c.settle.ensures.waits w e (starting c.args.cpu.now nests None) (c.arrive.ensures.met c.in-Some.arrival c.in-Some.is nests)
 
 -- a call that began with no lock has taken one, or none and waits
 takes : (d : Domain) (l : ℕ) (next : Option Waiter) (old new : Cpu) → (next ≡ None → Holds d Lock l Spins (starting old false None) new None)
@@ -41,9 +41,9 @@ takes : (d : Domain) (l : ℕ) (next : Option Waiter) (old new : Cpu) → (next 
 takes d l None old new holds waits = (holds refl).once
 takes d l (Some w) old new holds waits = (waits w refl).waits.looked.once ∙ sym (none_more (calls_of old).taken)
 
-pub returns-clause-once : goal.returns-clause-once
-returns-clause-once c =
+pub returns-in-Some-clause-once : goal.returns-in-Some-clause-once
+returns-in-Some-clause-once c =
     let s = starting c.args.cpu.now false None in
-    let begun = c.fast-met.ensures.waits c.if-met-eq0.false false None in
-    takes c.args.domain.now c.args.lock.index c.begin_slowpath.result c.args.cpu.now c.begin_slowpath.new.cpu
-    (λ e. c.begin_slowpath.ensures.holds e s begun) (λ w e. c.begin_slowpath.ensures.waits w e s begun)
+    let begun = c.arrive.ensures.met c.in-Some.arrival c.in-Some.is false in
+    takes c.args.domain.now c.args.lock.index c.settle.result c.args.cpu.now c.settle.new.cpu
+    (λ e. c.settle.ensures.holds e s begun) (λ w e. c.settle.ensures.waits w e s begun)

@@ -4,7 +4,7 @@ use Rattle.lk_domain.specs.Calls.{lock_name}
 use Rattle.lk_run.specs.Polled.{Waits}
 use Rattle.lk_run.specs.declared.waiter.Waiter.{Waiter}
 use Rattle.lk_run.proofs.Turning as turn
-use Rattle.lk_run.proofs.polled.begin_slowpath.Goals as goal
+use Rattle.lk_run.proofs.polled.settle.Goals as goal
 
 pub contend-requires : goal.contend-requires
 contend-requires c =
