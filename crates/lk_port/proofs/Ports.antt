@@ -10,6 +10,7 @@ use Rattle.lk_abs.specs.declared.names.Kind.TheVariants.{Spin, Rw}
 use Rattle.lk_abs.specs.declared.names.LockName.{LockName}
 use Rattle.lk_rows.specs.declared.parts.Pc.{Pc}
 use Rattle.lk_rows.specs.declared.setup.Verb.{Verb}
+use Rattle.lk_rows.specs.declared.setup.Verb.TheVariants.{Lock}
 use Rattle.lk_law.proofs.common.Sames.{same_lock-self, same_lock-true}
 use Rattle.lk_domain.specs.Calls.{Mark, Running, Hold, Calls, Takes, Frees, hold, hold_in, holds_in, way_in, waits_in, lock_name, free_of, moved_to}
 use Rattle.lk_domain.specs.Ledgers.{Ledger, turned, opened, closed, is_first}
@@ -27,6 +28,7 @@ use Rattle.lk_domain.proofs.seats.Exclusive.{hold_way}
 use Rattle.lk_run.specs.Entering.{Leaves}
 use Rattle.lk_run.specs.Phases.{Start, Holds, CameIn}
 use Rattle.lk_port.specs.Asking.{Refuses}
+use Rattle.lk_port.specs.Ports.{IsPending}
 use Rattle.lk_port.specs.Standing.{are_home, way_of, AreNoted, IsIdle, Stands}
 use Rattle.lk_port.specs.declared.answer.Answer.{Answer}
 use Rattle.lk_port.specs.declared.pending.Pending.{Pending}
@@ -301,6 +303,17 @@ rests d ws o cpu e h = subst (λ (x : Pending). Stands d ws x cpu) e h
 pub stands : (d : Domain) (ws : List Bool) (o : Pending) (cpu : Cpu) → o ≡ Free → IsIdle d.plan ws (calls_of cpu) (ledger_of cpu)
     → Stands d ws o cpu
 stands d ws o cpu e h = subst (λ (x : Pending). Stands d ws x cpu) (sym e) h
+
+-- a call for a spinlock that began so when it rested, and went on, has its lock, or waits
+pub settled : (d : Domain) (ws : List Bool) (lock : LockId) (old new : Pending) (s : Start) (cpu : Cpu) (has : Bool)
+    → IsIdle d.plan ws s.calls s.ledger → old ≡ Free → kind_at d.plan lock.index ≡ Spin
+    → (has ≡ true → Holds d Lock lock.index Spins s cpu None) → (has ≡ true → new ≡ old) → (has ≡ false → IsPending d lock new s cpu)
+    → Stands d ws new cpu
+settled d ws lock old new s cpu true idle free kind holds same waits =
+    stands d ws new cpu (same refl ∙ free) (held d Lock lock.index s cpu None ws idle (holds refl) kind)
+settled d ws lock old new s cpu false idle free kind holds same waits =
+    let x = waits refl in
+    subst (λ (o : Pending). Stands d ws o cpu) (sym x.1) (s, idle, same_kind d lock x.0.lock x.2 kind, x.3)
 
 -- a new one
 pub dealt : {domain : Domain} {i : ℕ} {cpu : Cpu} → IsDealt domain i cpu

@@ -1,5 +1,5 @@
 -- What the calls of a port have done.
-use Rattle.std.specs.Prelude.{ℕ, Bool, None}
+use Rattle.std.specs.Prelude.{◌≡◌, ℕ, Bool, None}
 use Rattle.lk_abs.specs.declared.holder.Manner.{Manner}
 use Rattle.lk_abs.specs.declared.holder.Manner.TheVariants as manner
 use Rattle.lk_rows.specs.declared.parts.Pc.{Pc}
@@ -7,6 +7,9 @@ use Rattle.lk_rows.specs.declared.setup.Verb.{Verb}
 use Rattle.lk_rows.specs.declared.setup.Verb.TheVariants as verb
 use Rattle.lk_domain.specs.Seats.{calls_of}
 use Rattle.lk_domain.specs.Waits.{Gains, Misses, Drops}
+use Rattle.lk_domain.specs.declared.cpu.Cpu.{Cpu}
+use Rattle.lk_domain.specs.declared.domain.Domain.{Domain}
+use Rattle.lk_domain.specs.declared.domain.LockId.{LockId}
 use Rattle.lk_run.specs.Entering.{Leaves}
 use Rattle.lk_run.specs.Phases.{Holds, CameIn, Start, starting}
 use Rattle.lk_run.specs.Polled as locker
@@ -37,6 +40,10 @@ HasLocked l p q = (nests : Bool)
 abbrev pub HasEntered : Verb → Manner → ℕ → Port → Port → Type 0
 HasEntered v m l p q = (nests : Bool)
     → CameIn (domain_in p) v l m (starting (cpu_in p) nests None) (cpu_in q) None
+
+-- the call for this spinlock that began so waits, and is the one that is pending
+abbrev pub IsPending : Domain → LockId → Pending → Start → Cpu → Type 0
+IsPending d lock pending s cpu = (w : Waiter) × (pending ≡ Spins w) × (w.lock ≡ lock) × locker.Waits d w s cpu
 
 -- and freed
 

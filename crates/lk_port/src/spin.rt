@@ -1,17 +1,22 @@
 // The calls on a spinlock.
-ghost use Rattle.std.specs.Prelude.{◌≡◌, ◌≢◌, None, Some, true, false};
+ghost use Rattle.std.specs.Prelude.{◌≡◌, ◌≢◌, ◌<◌, None, Some, true, false};
 ghost use Rattle.lk_abs.specs.declared.holder.Manner.TheVariants.{Spins};
 ghost use Rattle.lk_abs.specs.declared.names.Kind.TheVariants.{Spin};
-ghost use Rattle.lk_rows.specs.declared.setup.Verb.TheVariants.{Try};
+ghost use Rattle.lk_rows.specs.declared.setup.Verb.TheVariants.{Lock, Try};
+ghost use Rattle.lk_domain.specs.Plans.{locks_of};
+ghost use Rattle.lk_domain.specs.Seats.{IsOf, KeepsRest};
+ghost use Rattle.lk_run.specs.Phases.{Start, Holds};
+ghost use Rattle.lk_run.specs.Polled.{Arrived};
 ghost use Rattle.lk_port.specs.Asking.{MayCall, Refuses};
-ghost use Rattle.lk_port.specs.Ports.{HasTried, HasMissed, HasLocked, HasUnlocked};
+ghost use Rattle.lk_port.specs.Ports.{HasTried, HasMissed, HasLocked, HasUnlocked, IsPending};
 ghost use Rattle.lk_port.specs.declared.answer.Answer.TheVariants.{Done, Busy, Waits};
 
 use crate::answer::Answer;
 use crate::pending::Pending;
 use crate::port::Port;
 use lk_abs::Kind;
-use lk_domain::{Domain, LockId};
+use lk_domain::{Cpu, Domain, LockId};
+use lk_run::Arrival;
 
 impl Port {
     /// Takes a spinlock if it is free and nobody waits for it. It never waits.
@@ -74,12 +79,9 @@ impl Port {
     {
         self.stands();
         let domain: &Domain = &self.domain;
-        match lk_run::begin(&mut self.cpu, domain, lock) {
+        match lk_run::arrive(&mut self.cpu, domain, lock) {
             None => true,
-            Some(waiter) => {
-                self.pending = Pending::Spins(waiter);
-                false
-            }
+            Some(arrival) => settles(&mut self.cpu, domain, lock, arrival, &mut self.pending),
         }
     }
 
@@ -107,5 +109,37 @@ impl Port {
         self.stands();
         let domain: &Domain = &self.domain;
         lk_run::unlock(&mut self.cpu, domain, lock);
+    }
+}
+
+// Goes on with a call that found its lock not free. True: it has it. False: the call waits. It is out
+// of the way of a call that finds its lock free, which builds no `Pending`.
+#[cold]
+#[inline(never)]
+fn settles(
+    cpu: &mut Cpu,
+    domain: &Domain,
+    lock: LockId,
+    arrival: Arrival,
+    pending: &mut Pending,
+) -> bool
+    requires domain { IsOf cpu.old domain.now }
+    requires lock { lock.index < locks_of domain.now.plan }
+    requires begun { (s : Start) × Arrived domain.now lock.index arrival.met s cpu.old }
+    ensures rest { KeepsRest cpu.old cpu.new }
+    ensures holds { result ≡ true → (s : Start)
+        → Arrived domain.now lock.index arrival.met s cpu.old
+        → Holds domain.now Lock lock.index Spins s cpu.new None }
+    ensures same { result ≡ true → pending.new ≡ pending.old }
+    ensures waits { result ≡ false → (s : Start)
+        → Arrived domain.now lock.index arrival.met s cpu.old
+        → IsPending domain.now lock pending.new s cpu.new }
+{
+    match lk_run::settle(cpu, domain, lock, arrival) {
+        None => true,
+        Some(waiter) => {
+            *pending = Pending::Spins(waiter);
+            false
+        }
     }
 }
