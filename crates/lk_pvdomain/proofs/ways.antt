@@ -6,3 +6,4 @@ pub mod Hands
 pub mod Arrives
 pub mod Frees
 pub mod Kept
+pub mod Rested

@@ -3,6 +3,8 @@ pub mod PvRows
 pub mod PvPlays
 pub mod PvSeats
 pub mod PvPaths
+pub mod PvRests
 pub mod PvWords
 pub mod PvCalls
+pub mod PvTurns
 pub mod Laws

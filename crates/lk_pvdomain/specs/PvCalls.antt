@@ -36,6 +36,11 @@ pub record HasTakenBy (v : Verb) (d : PvDomain) (l : ℕ) (old new : PvCpu) : Ty
 abbrev pub HasTaken : PvDomain → ℕ → PvCpu → PvCpu → Type 0
 HasTaken d l old new = HasTakenBy Lock d l old new
 
+-- the same of a call that began so
+pub record HasTakenSince (d : PvDomain) (l : ℕ) (s : Start) (new : PvCpu) : Type 0 where
+  pub took : Took d Lock l (own_node new) s new.seat
+  pub rests : IsResting new.seat.me.0.calls
+
 -- A call of `try_lock` has missed it, and holds what it held.
 pub record HasMissed (d : PvDomain) (l : ℕ) (old new : PvCpu) : Type 0 where
   pub missed : Ended d Try l (own_node old) (first_of Try l old.seat) Unchanged new.seat

@@ -10,8 +10,9 @@ use Rattle.lk_rows.specs.Acts.{stands_halting, after_halt}
 use Rattle.lk_rows.specs.declared.parts.Frame.{Frame}
 use Rattle.lk_rows.specs.declared.parts.Pc.{Pc}
 use Rattle.lk_rows.specs.declared.setup.Verb.{Verb}
+use Rattle.lk_rows.specs.declared.setup.Verb.TheVariants.{Lock}
 use Rattle.lk_law.specs.Leads.{Met}
-use Rattle.lk_domain.specs.Calls.{Terms, Mark, mark, Hold, hold, Grip, Takes, Frees, read_at, sight_of}
+use Rattle.lk_domain.specs.Calls.{Terms, Mark, mark, Running, Hold, hold, Grip, Takes, Frees, read_at, sight_of}
 use Rattle.lk_domain.specs.Calls.{terms_of, begun, lock_name, running, holds_begun, holds_after, taken_after}
 use Rattle.lk_domain.specs.Keeps.{Slot}
 use Rattle.lk_domain.specs.Ledgers.{Ledger, turned}
@@ -21,6 +22,7 @@ use Rattle.lk_domain.specs.Who.{Who}
 use Rattle.lk_domain.specs.Words.{IsNode}
 use Rattle.lk_domain.specs.declared.view.View.{View}
 use Rattle.lk_pvdomain.specs.declared.domain.PvDomain.{PvDomain}
+use Rattle.lk_pvdomain.specs.PvPlays.{woken}
 
 -- The rows of the list lead from the frame a to the frame at the end. Where its processor had halted,
 -- the frame has gone on when the halt ended, which is no row.
@@ -117,6 +119,18 @@ pub record AtOn (d : PvDomain) (v : Verb) (l : ℕ) (own : NodeName) (s : Start)
 
 abbrev pub At : PvDomain → Verb → ℕ → NodeName → Start → Pc → (Frame → Type 0) → Seat Slot View → Type 0
 At d v l own s c P a = AtOn d v l own s c P a.table_id a.id a.me
+
+-- The call, which began so, has halted at the row c. Once its halt ends it stands at the row behind it.
+pub record HaltedOn (d : PvDomain) (v : Verb) (l : ℕ) (own : NodeName) (s : Start) (c e : Pc) (condition : Frame → Type 0)
+    (table : TableId) (id : ℕ) (m : Me Slot View) : Type 0 where
+  pub asleep : m.0.calls.halted ≡ true
+  pub call : Running
+  pub only : m.0.calls.frames ≡ call ∷ []
+  pub place : call.frame.place ≡ Some c
+  pub wakes : AtOn d v l own s e condition table id (woken m.0, m.1)
+
+abbrev pub Halted : PvDomain → ℕ → NodeName → Start → Pc → Pc → (Frame → Type 0) → Seat Slot View → Type 0
+Halted d l own s c e P a = HaltedOn d Lock l own s c e P a.table_id a.id a.me
 
 -- the call that began so is over, and its processor is in none
 pub record IsOver (d : PvDomain) (own : NodeName) (s : Start) (table : TableId) (id : ℕ) (m : Me Slot View) : Type 0 where

@@ -96,10 +96,6 @@ pub record Wakes {S : Type 0} (m : Me S View) (met : ℕ) (n : Me S View) : Type
   pub wakes : met ≢ 0 → n ≡ (woken m.0, m.1)
   pub stays : met ≡ 0 → n ≡ m
 
--- nothing has changed: a look at a word of which nothing is told
-abbrev pub Stays : {S : Type 0} → Me S View → ℕ → Me S View → Type 0
-Stays m met n = n ≡ m
-
 -- A look at a word into which a step would store 0. It is that step where the word is 0, and else the
 -- seat is as it was.
 pub record SparedBy {S : Type 0} (step : ℕ → Me S View → Type 0) (m : Me S View) (met : ℕ) (n : Me S View) : Type 0 where

@@ -1,6 +1,6 @@
 -- What contracts say of a call of `pv_lock` that has found its lock held: where it stands, what its frame
 -- has there, and what a row, or a path of rows, does.
-use Rattle.std.specs.Prelude.{Bool, ℕ}
+use Rattle.std.specs.Prelude.{Bool, ℕ, Option}
 use Rattle.atomic_table.specs.declared.shared.Seat.{Seat}
 use Rattle.lk_word.specs.declared.spin_word.NodeName.{NodeName}
 use Rattle.lk_rows.specs.declared.parts.Frame.{Frame}
@@ -13,7 +13,9 @@ use Rattle.lk_domain.specs.Words.{IsNode}
 use Rattle.lk_domain.specs.declared.view.View.{View}
 use Rattle.lk_pvdomain.specs.PvPaths.{Start, Took}
 use Rattle.lk_pvdomain.specs.PvPaths as path
+use Rattle.lk_pvdomain.specs.PvRests as rest
 use Rattle.lk_pvdomain.specs.declared.call.Queued.{Queued}
+use Rattle.lk_pvdomain.specs.declared.rest.PvRest.{PvRest}
 
 -- the node is one of the domain
 abbrev pub IsNodeOf : Queued → NodeName → Type 0
@@ -75,3 +77,40 @@ Steps q a P b Q old new = (s : Start) → At q s a P old → At q s b Q new
 -- it takes the lock, and the call is over
 abbrev pub Takes : Queued → Pc → (Queued → Frame → Type 0) → Seat Slot View → Seat Slot View → Type 0
 Takes q a P old new = (s : Start) → At q s a P old → Took q.domain.now Lock q.lock q.own s new
+
+-- the call, which began so, has halted at the row c, and goes on at the row e
+abbrev pub Asleep : Queued → Start → Pc → Pc → (Queued → Frame → Type 0) → Seat Slot View → Type 0
+Asleep q s c e P a = path.Halted q.domain.now q.lock q.own s c e (P q) a
+
+-- some call has halted there
+abbrev pub WaitsAsleep : Queued → Pc → Pc → (Queued → Frame → Type 0) → Seat Slot View → Type 0
+WaitsAsleep q c e P a = (s : Start) × Asleep q s c e P a
+
+-- a kick ends the halt, and the halt goes on
+
+abbrev pub Wakes : Queued → Pc → Pc → (Queued → Frame → Type 0) → Seat Slot View → Seat Slot View → Type 0
+Wakes q c e P old new = (s : Start) → Asleep q s c e P old → At q s e P new
+
+abbrev pub Sleeps : Queued → Pc → Pc → (Queued → Frame → Type 0) → Seat Slot View → Seat Slot View → Type 0
+Sleeps q c e P old new = (s : Start) → Asleep q s c e P old → Asleep q s c e P new
+
+-- the call, which began so, rests there, and some call does
+
+abbrev pub Rests : Queued → PvRest → Start → Seat Slot View → Type 0
+Rests q r s a = rest.Rests q.domain.now q.lock q.own r s a
+
+abbrev pub RestsAt : Queued → PvRest → Seat Slot View → Type 0
+RestsAt q r a = (s : Start) × Rests q r s a
+
+-- A turn leads there, from a row, from a halt, and from where the call rests; and turns with what lies
+-- between them lead to the lock.
+
+abbrev pub Turns : Queued → Pc → (Queued → Frame → Type 0) → Option PvRest → Seat Slot View → Seat Slot View → Type 0
+Turns q c P next old new = (s : Start) → At q s c P old → rest.Comes q.domain.now q.lock q.own next s new
+
+abbrev pub TurnsAsleep : Queued → Pc → Pc → (Queued → Frame → Type 0) → Option PvRest → Seat Slot View
+    → Seat Slot View → Type 0
+TurnsAsleep q c e P next old new = (s : Start) → Asleep q s c e P old → rest.Comes q.domain.now q.lock q.own next s new
+
+abbrev pub GoesOn : Queued → PvRest → Option PvRest → Seat Slot View → Seat Slot View → Type 0
+GoesOn q r next old new = (s : Start) → Rests q r s old → rest.Comes q.domain.now q.lock q.own next s new

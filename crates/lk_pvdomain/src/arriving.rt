@@ -1,22 +1,31 @@
-// A call that has found its lock held: it may steal the lock, and else joins the queue. The rows
-// G1, H1, H2, G4 and G5.
-ghost use Rattle.std.specs.Prelude.{◌≡◌, ◌&&◌, not, is_some, true, false, None, Some, IfSome};
+// The rows of a call that has found its lock held, up to its place in the queue: G1, H1, H2, G4 and
+// G5, one step each. The comments show a word as (queue tail, pending, locked).
+ghost use Rattle.std.specs.Prelude.{◌≡◌, ◌&&◌, not, is_some, true, false, Some, ℕ};
 ghost use Rattle.lk_rows.specs.declared.parts.Pc.TheVariants.{E1, G1, G4, G5, H1, H2, W1};
 ghost use Rattle.lk_rows.specs.rows.Pv.{after_glance};
 ghost use Rattle.lk_rows.specs.rows.Spin.{is_unlocked as unlocked};
 ghost use Rattle.lk_pvdomain.specs.PvWords.{Any, Follows, IsNodeOf, Owns, Spins, Steals};
-ghost use Rattle.lk_pvdomain.specs.PvWords.{Steps, Takes, Waits};
+ghost use Rattle.lk_pvdomain.specs.PvWords.{Steps, Takes as Took, Waits};
+ghost use Rattle.lk_pvdomain.specs.declared.exchanges.Swap.TheVariants.{Takes, Fails, Misses};
+ghost use Rattle.lk_pvdomain.specs.declared.exchanges.Tail.TheVariants.{First, Behind, Other};
 ghost use Rattle.lk_word.specs.declared.spin_word.NodeName.{NodeName as Node};
 
 use crate::call::Queued;
+use crate::exchanges::{Swap, Tail};
+use crate::rest::Stealing;
 use crate::{nodes, states, tries, words};
-use crossbeam_utils::Backoff;
 use lk_abs::LockName;
 use lk_domain::moves::{Arrival, WordUse};
 use lk_domain::{Link, Part, Right, moves, node_moves};
 use lk_rows::is_unlocked;
 use lk_word::{Fields, NodeName, low_byte, without_low_byte};
-use std::sync::Wait;
+
+// A word as its number, and what the number says.
+#[derive(Clone, Copy)]
+pub(crate) struct Glance {
+    pub(crate) met: u64,
+    pub(crate) word: Fields,
+}
 
 impl<'a> Queued<'a> {
     // The row G1, with the private stores before it.
@@ -29,97 +38,69 @@ impl<'a> Queued<'a> {
         states::enter(seat, self.domain, self.own);
     }
 
-    // From H1. Returns whether it acquired the lock; else it joins the queue.
-    pub(crate) fn steal<R: Wait>(&self, seat: &mut Right, rt: &R) -> bool
+    // The row H1. Returns the word. It leads to H2 by (*, 0, 0), back to H1 by (n, 0, 1) or a slow
+    // byte with a tail, and else to G4.
+    pub(crate) fn glance(&self, seat: &mut Right) -> Glance
         requires { Waits self.now H1 Owns seat.old }
-        ensures took { result ≡ true → Takes self.now H1 Owns seat.old seat.new }
-        ensures joins { result ≡ false → Steps self.now H1 Owns G4 Owns seat.old seat.new }
-    {
-        let backoff = Backoff::new();
-        for _ in rt.forever() {
-            match self.round(seat, rt) {
-                Some(true) => return true,
-                Some(false) => return false,
-                None => backoff.snooze(),
-            }
-        }
-        unreachable!()
-    }
-
-    // The rows H1 and H2 once. Returns whether it acquired the lock; none if it tries once more.
-    fn round<R: Wait>(&self, seat: &mut Right, rt: &R) -> Option<bool>
-        requires { Waits self.now H1 Owns seat.old }
-        ensures took { result ≡ Some true → Takes self.now H1 Owns seat.old seat.new }
-        ensures joins { result ≡ Some false → Steps self.now H1 Owns G4 Owns seat.old seat.new }
-        ensures again { result ≡ None → Steps self.now H1 Owns H1 Owns seat.old seat.new }
-    {
-        let word = self.glance(seat);
-        if is_open(word) {
-            let tailed = is_queued(word);
-            if self.swap(seat, rt, tailed) {
-                return Some(true);
-            }
-            if tailed {
-                return None;
-            }
-            return Some(false);
-        }
-        if is_passing(word) {
-            return None;
-        }
-        Some(false)
-    }
-
-    // The row H1. Returns the word.
-    fn glance(&self, seat: &mut Right) -> Fields
-        requires { Waits self.now H1 Owns seat.old }
-        ensures { Steps self.now H1 Owns (after_glance (Some self.now.own) result)
-            (Steals (is_some result.tail)) seat.old seat.new }
+        ensures { Steps self.now H1 Owns (after_glance (Some self.now.own) result.word)
+            (Steals (is_some result.word.tail)) seat.old seat.new }
     {
         let met = words::go_on(seat, self.domain, self.lock, WordUse::Looks);
-        self.domain.plan.word_met(met)
+        let word = self.domain.plan.word_met(met);
+        Glance { met, word }
     }
 
-    // The row H2. Returns whether it acquired the lock.
-    fn swap<R: Wait>(&self, seat: &mut Right, rt: &R, tailed: bool) -> bool
-        requires { Waits self.now H2 (Steals tailed) seat.old }
-        ensures took { result ≡ true → Takes self.now H2 (Steals tailed) seat.old seat.new }
-        ensures again { result ≡ false → tailed ≡ true
-            → Steps self.now H2 (Steals tailed) H1 Owns seat.old seat.new }
-        ensures joins { result ≡ false → tailed ≡ false
-            → Steps self.now H2 (Steals tailed) G4 Owns seat.old seat.new }
+    // The row H2, or no row. Nobody holds the lock, so it is this call's, past the queue.
+    //   (n, p, 0) -> (n, p, 1): the tail and the pending bit stay.
+    //   a word whose byte is not free stays: it fails.
+    pub(crate) fn take_past(&self, seat: &mut Right, stealing: Stealing) -> Swap
+        requires { Waits self.now H2 (Steals stealing.tailed) seat.old }
+        ensures takes { result ≡ Takes → Took self.now H2 (Steals stealing.tailed) seat.old
+            seat.new }
+        ensures again { (met : ℕ) → result ≡ Fails met → stealing.tailed ≡ true
+            → Steps self.now H2 (Steals stealing.tailed) H1 Owns seat.old seat.new }
+        ensures joins { (met : ℕ) → result ≡ Fails met → stealing.tailed ≡ false
+            → Steps self.now H2 (Steals stealing.tailed) G4 Owns seat.old seat.new }
+        ensures stays { (met : ℕ) → result ≡ Misses met → Steps self.now H2
+            (Steals stealing.tailed) H2 (Steals stealing.tailed) seat.old seat.new }
     {
-        let seen = without_low_byte(words::guess(self.domain, self.lock));
-        if low_byte(tries::steal(seat, rt, self.domain, self.lock, seen)) == 0 {
-            return true;
+        let expected = without_low_byte(stealing.met);
+        let met = tries::try_steal(seat, self.domain, self.lock, expected);
+        if met == expected {
+            return Swap::Takes;
         }
-        false
+        if low_byte(met) == 0 {
+            return Swap::Misses(met);
+        }
+        Swap::Fails(met)
     }
 
-    // The row G4. Returns the node of its predecessor, if it has one.
-    pub(crate) fn arrive<R: Wait>(&self, seat: &mut Right, rt: &R) -> Option<NodeName>
+    // The row G4: (n, p, l) -> (own, p, l). Where the word is not the expected one, nothing changes,
+    // and it is no row.
+    pub(crate) fn exchange(&self, seat: &mut Right, expected: u64) -> Tail
         requires { Waits self.now G4 Owns seat.old }
-        ensures node { IfSome result (IsNodeOf self.now) }
-        ensures first { result ≡ None → Steps self.now G4 Owns E1 Owns seat.old seat.new }
-        ensures behind { (prev : Node) → result ≡ Some prev
+        ensures node { (prev : Node) → result ≡ Behind prev → IsNodeOf self.now prev }
+        ensures first { result ≡ First → Steps self.now G4 Owns E1 Owns seat.old seat.new }
+        ensures behind { (prev : Node) → result ≡ Behind prev
             → Steps self.now G4 Owns G5 (Follows prev) seat.old seat.new }
+        ensures other { (met : ℕ) → result ≡ Other met
+            → Steps self.now G4 Owns G4 Owns seat.old seat.new }
     {
         let domain = self.domain;
         let lock = LockName {
             index: self.lock,
             wait: false,
         };
-        let mut expected = words::guess(domain, self.lock);
-        for _ in rt.forever() {
-            let own = self.own;
-            let arrival = Arrival { expected, own };
-            let met = moves::exchange_tail(seat, &domain.table, &domain.plan, lock, arrival);
-            if met == expected {
-                return self.domain.plan.word_met(met).tail;
-            }
-            expected = met;
+        let own = self.own;
+        let arrival = Arrival { expected, own };
+        let met = moves::exchange_tail(seat, &domain.table, &domain.plan, lock, arrival);
+        if met != expected {
+            return Tail::Other(met);
         }
-        unreachable!()
+        match domain.plan.word_met(met).tail {
+            Some(prev) => Tail::Behind(prev),
+            None => Tail::First,
+        }
     }
 
     // The row G5. No call here is nested in another, so the link has no mark.
@@ -137,20 +118,20 @@ impl<'a> Queued<'a> {
 }
 
 // Whether a call may steal the lock: the byte is free and nobody pends.
-fn is_open(word: Fields) -> bool
+pub(crate) fn is_open(word: Fields) -> bool
     ensures { result ≡ (unlocked word.locked && not word.pending) }
 {
     is_unlocked(word) && !word.pending
 }
 
 // Whether a call that may not steal reads the word again: there is a queue and nobody pends.
-fn is_passing(word: Fields) -> bool
+pub(crate) fn is_passing(word: Fields) -> bool
     ensures { result ≡ (is_some word.tail && not word.pending) }
 {
     word.tail.is_some() && !word.pending
 }
 
-fn is_queued(word: Fields) -> bool
+pub(crate) fn is_queued(word: Fields) -> bool
     ensures { result ≡ is_some word.tail }
 {
     word.tail.is_some()

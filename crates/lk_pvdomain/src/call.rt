@@ -1,6 +1,5 @@
 // What a call of `pv_lock` that has found its lock held has from the row G1 to its last row. Its
-// rows and its path are methods in the files beside this one. The seat and the runtime are handed
-// to each of them.
+// rows and its path are methods in the files beside this one. The seat is handed to each of them.
 ghost use Rattle.std.specs.Prelude.{◌<◌};
 ghost use Rattle.lk_domain.specs.Plans.{locks_of};
 ghost use Rattle.lk_domain.specs.Words.{IsNode};

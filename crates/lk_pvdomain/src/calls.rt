@@ -9,18 +9,19 @@ ghost use Rattle.lk_domain.specs.Plans.{locks_of};
 ghost use Rattle.lk_domain.specs.Values.{out_in};
 ghost use Rattle.lk_pvdomain.specs.PvSeats.{IsOf, IsSame, calls_of, ledger_of};
 ghost use Rattle.lk_pvdomain.specs.PvCalls.{HasFreed, HasMissed, HasTaken, HasTakenBy, IsResting, without};
-ghost use Rattle.lk_pvdomain.specs.PvPaths.{At, Ended, Rests, Took, first_of};
+ghost use Rattle.lk_pvdomain.specs.PvPaths.{At, Ended, Rests, Start, Took, first_of};
 
+use crate::call::Queued;
 use crate::cpu::PvCpu;
 use crate::domain::PvDomain;
-use crate::{freeing, slowpath, tries};
+use crate::{freeing, tries};
 use lk_domain::{LockId, Right, moves};
 use lk_word::NodeName;
 use std::sync::Wait;
 
 // The row F1. Returns whether it acquired the lock.
 #[inline]
-fn fast(seat: &mut Right, domain: &PvDomain, lock: u32) -> bool
+pub(crate) fn fast(seat: &mut Right, domain: &PvDomain, lock: u32) -> bool
     requires rests { (own : NodeName) × Rests domain.now own seat.old }
     requires lock { lock < locks_of domain.now.plan }
     requires free { holds_in seat.old.me.0.calls.holds lock ≡ false }
@@ -33,6 +34,19 @@ fn fast(seat: &mut Right, domain: &PvDomain, lock: u32) -> bool
         return true;
     }
     false
+}
+
+// From G1, until it holds the lock. It is a function of its own, to keep the code of an uncontended
+// call short. So it builds the value of the call, and `pv_lock` does not.
+#[cold]
+#[inline(never)]
+fn contend<R: Wait>(seat: &mut Right, rt: &R, domain: &PvDomain, lock: u32, own: NodeName)
+    requires at { (s : Start) × At domain.now Lock lock own s G1 Any seat.old }
+    ensures took { (s : Start) → At domain.now Lock lock own s G1 Any seat.old
+        → Took domain.now Lock lock own s seat.new }
+{
+    let call = Queued { domain, lock, own };
+    call.wait_on(seat, rt);
 }
 
 /// Acquires the lock, and returns once the processor holds it. A waiter spins for at most as many
@@ -59,7 +73,7 @@ pub fn pv_lock<R: Wait>(cpu: &mut PvCpu, rt: &R, domain: &PvDomain, lock: LockId
         cpu: cpu.number,
         index: 0,
     };
-    slowpath::contend(&mut cpu.seat, rt, domain, lock.index, own);
+    contend(&mut cpu.seat, rt, domain, lock.index, own);
 }
 
 /// Releases a lock that the processor holds. If the locked byte is slow (Linux's `_Q_SLOW_VAL`), it

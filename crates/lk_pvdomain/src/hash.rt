@@ -1,5 +1,5 @@
 // The steps of a seat on places of the hash, each one operation.
-ghost use Rattle.std.specs.Prelude.{◌≡◌, ◌<◌, None, Some};
+ghost use Rattle.std.specs.Prelude.{◌≡◌, ◌<◌, None, Some, true, false};
 ghost use Rattle.lk_domain.specs.Calls.{lock_name};
 ghost use Rattle.lk_domain.specs.Plans.{locks_of};
 ghost use Rattle.lk_domain.specs.Plays.{Goes};
@@ -13,7 +13,6 @@ use crate::domain::PvDomain;
 use crate::rule::{Erasings, Fillings, PlaceLooks};
 use lk_domain::Right;
 use lk_word::NodeName;
-use std::sync::Wait;
 
 // Puts the lock into the hash at a place, if that is empty: the rows E6, with the own node, and K3,
 // with the successor's.
@@ -42,31 +41,25 @@ pub(crate) fn fill(
     met
 }
 
-// Puts the lock into the hash at the first place that it finds empty.
-pub(crate) fn put_in<R: Wait>(
-    seat: &mut Right,
-    rt: &R,
-    domain: &PvDomain,
-    lock: u32,
-    node: NodeName,
-)
+// Puts the lock into the hash at the first place that it finds empty: the rows E6 and K3. It tries
+// each place once, and returns whether it found one. The places that others free meanwhile it may
+// have passed.
+pub(crate) fn put_in(seat: &mut Right, domain: &PvDomain, lock: u32, node: NodeName) -> bool
     requires table { seat.old.table_id ≡ domain.now.table.shared.table_id }
     requires number { IsNumbered seat.old.me.0 }
     requires lock { lock < locks_of domain.now.plan }
     requires node { IsNode domain.now.plan node }
     requires row { AtFill node (lock_name lock) seat.old.me.0 }
     ensures same { (seat.new.table_id ≡ seat.old.table_id) × (seat.new.id ≡ seat.old.id) }
-    ensures step { Goes (Named None) seat.old.me seat.new.me }
+    ensures fills { result ≡ true → Goes (Named None) seat.old.me seat.new.me }
+    ensures stays { result ≡ false → seat.new.me ≡ seat.old.me }
 {
-    let places = domain.places();
-    let mut place = 0;
-    for _ in rt.forever() {
+    for place in 0..domain.places() {
         if fill(seat, domain, lock, node, place) == 0 {
-            return;
+            return true;
         }
-        place = if place + 1 < places { place + 1 } else { 0 };
     }
-    unreachable!()
+    false
 }
 
 // Looks at the next place for the entry of the lock.

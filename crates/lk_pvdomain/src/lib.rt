@@ -1,5 +1,9 @@
 //! The paravirtual lock for threads. Each thread has a processor of a domain. A waiter spins for a
 //! while, and then halts until it is kicked. This is Linux's `qspinlock_paravirt.h`.
+//!
+//! A call that waits makes turns: rows up to a look that decides nothing, or up to a halt, where it
+//! rests as a plain value. `pv_lock` makes turns until it has the lock. `pv_begin` and `pv_poll`
+//! leave it to the caller when to make them, and how a halted processor sleeps.
 #![tactic(auto)]
 
 mod arriving;
@@ -8,6 +12,7 @@ mod calls;
 mod cpu;
 mod domain;
 mod ending;
+mod exchanges;
 mod freeing;
 mod handing;
 mod hash;
@@ -20,11 +25,14 @@ mod nodes;
 mod pacing;
 mod pages;
 mod plan;
+mod polled;
+mod rest;
 mod rule;
 mod slowpath;
 mod states;
 mod tries;
 mod values;
+mod waiter;
 mod waiting;
 mod words;
 
@@ -35,4 +43,6 @@ pub use ending::{PvBack, PvClosed, pv_close};
 pub use laws::{entries_are_found, fronts_are_kicked};
 pub use pages::{pv_journal_home, pv_journal_out, pv_load, pv_store, pv_version};
 pub use plan::PvPlan;
+pub use polled::{pv_begin, pv_poll};
 pub use values::pv_with_key;
+pub use waiter::{PvTurn, PvWaiter};

@@ -1,10 +1,11 @@
-// A look that is no row of a call: whether a waiter halts. It needs no processor, so that whoever
-// has the domain may look.
+// Looks that are no rows of a call: whether a waiter halts, and whether it was kicked. They need no
+// processor, so that whoever has the domain may look.
 ghost use Rattle.std.specs.Prelude.{◌<◌};
 ghost use Rattle.lk_domain.specs.Plans.{cpus_of};
 
 use crate::domain::PvDomain;
 use lk_word::NodeName;
+use std::sync::Wait;
 
 impl PvDomain {
     /// Whether the waiter of a processor says that it halts, or is about to: one look at the state
@@ -16,5 +17,27 @@ impl PvDomain {
     {
         let node = NodeName { cpu, index: 0 };
         self.table.shared.peek(self.state_of(node)) != 0
+    }
+
+    /// Whether a kick of a processor is remembered: one look at its kick word. Where it is, the next
+    /// turn of a call that has halted there ends the halt.
+    ///
+    /// No clause says what this tells: a test does.
+    pub fn is_kicked(&self, cpu: u32) -> bool
+        requires { cpu < cpus_of self.now.plan }
+    {
+        self.table.shared.peek(self.kick_of(cpu)) != 0
+    }
+
+    /// Parks the thread of a processor on its kick word, unless a kick is remembered. A kick wakes
+    /// it. It may also return without one.
+    ///
+    /// No clause says that it parks, or on which word: a test does.
+    pub fn sleep<R: Wait>(&self, rt: &R, cpu: u32)
+        requires { cpu < cpus_of self.now.plan }
+    {
+        if !self.is_kicked(cpu) {
+            self.table.shared.park(rt, self.kick_of(cpu), 0);
+        }
     }
 }

@@ -1,6 +1,6 @@
 // What each kind of step on the table does to a seat.
 ghost use Rattle.lk_domain.specs.NodePlays.{Enters, Readies};
-ghost use Rattle.lk_pvdomain.specs.PvPlays.{SeesState, Halts, Wakes, Stays, Kicks, Fills, SeesHash, Empties, Tries};
+ghost use Rattle.lk_pvdomain.specs.PvPlays.{SeesState, Halts, Wakes, Kicks, Fills, SeesHash, Empties, Tries};
 ghost use Rattle.lk_pvdomain.specs.PvPlays.{SparedBy, release_fails, head_fails, steal_fails};
 ghost use Rattle.lk_rows.specs.declared.setup.Verb.TheVariants.{Lock, Unlock};
 
@@ -19,13 +19,6 @@ pub struct HaltLooks;
 
 impl Play<Slot, View> for HaltLooks {
     ghost then = { λ _. Halts };
-}
-
-// A read that leaves the seat as it was.
-pub struct Glances;
-
-impl Play<Slot, View> for Glances {
-    ghost then = { λ _. Stays };
 }
 
 // The exchange that takes a kick.

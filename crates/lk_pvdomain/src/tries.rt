@@ -13,7 +13,7 @@ ghost use Rattle.lk_pvdomain.specs.PvRows.{tries_release, tries_head, tries_stea
 use crate::domain::PvDomain;
 use crate::rule::{HeadTries, ReleaseTries, StealTries};
 use lk_domain::Right;
-use lk_word::{HELD, PENDING, is_free_for_pending, low_byte};
+use lk_word::{HELD, PENDING, low_byte};
 use std::sync::Wait;
 
 // Swaps a held word to a free one: the row U2, with which a release begins, or no row.
@@ -38,7 +38,7 @@ pub(crate) fn try_release(seat: &mut Right, domain: &PvDomain, lock: u32, expect
 
 // The queue head reads the word. If the byte is not free, or nobody pends, this is the row E4, and
 // else no row. A read leaves the cache line with the holder, while a failed swap would take it.
-fn look_head(seat: &mut Right, domain: &PvDomain, lock: u32) -> u64
+pub(crate) fn look_head(seat: &mut Right, domain: &PvDomain, lock: u32) -> u64
     requires table { seat.old.table_id ≡ domain.now.table.shared.table_id }
     requires number { IsNumbered seat.old.me.0 }
     requires lock { lock < locks_of domain.now.plan }
@@ -117,69 +117,4 @@ pub(crate) fn release<R: Wait>(
         expected = met;
     }
     unreachable!()
-}
-
-// The row H2: the swap is tried until it is made, or the byte is not free.
-pub(crate) fn steal<R: Wait>(
-    seat: &mut Right,
-    rt: &R,
-    domain: &PvDomain,
-    lock: u32,
-    seen: u64,
-) -> u64
-    requires table { seat.old.table_id ≡ domain.now.table.shared.table_id }
-    requires number { IsNumbered seat.old.me.0 }
-    requires lock { lock < locks_of domain.now.plan }
-    requires seen { seen % 256 ≡ 0 }
-    requires row { Acts tries_steal seat.old.me.0 Lock lock }
-    ensures same { (seat.new.table_id ≡ seat.old.table_id) × (seat.new.id ≡ seat.old.id) }
-    ensures step { MadeBy Lock lock seat.old.me result seat.new.me }
-{
-    let mut expected = seen;
-    for _ in rt.forever() {
-        let met = try_steal(seat, domain, lock, expected);
-        if met == expected || low_byte(met) != 0 {
-            return met;
-        }
-        expected = met;
-    }
-    unreachable!()
-}
-
-// The row E4, after a read of a free word with the pending bit: the swap is tried until it is made,
-// or the byte is not free or nobody pends.
-fn swap_head<R: Wait>(seat: &mut Right, rt: &R, domain: &PvDomain, lock: u32, seen: u64) -> u64
-    requires table { seat.old.table_id ≡ domain.now.table.shared.table_id }
-    requires number { IsNumbered seat.old.me.0 }
-    requires lock { lock < locks_of domain.now.plan }
-    requires seen { seen % 512 ≡ 256 }
-    requires row { Acts tries_head seat.old.me.0 Lock lock }
-    ensures same { (seat.new.table_id ≡ seat.old.table_id) × (seat.new.id ≡ seat.old.id) }
-    ensures step { MadeBy Lock lock seat.old.me result seat.new.me }
-{
-    let mut expected = seen;
-    for _ in rt.forever() {
-        let met = try_head(seat, domain, lock, expected);
-        if met == expected || !is_free_for_pending(met) {
-            return met;
-        }
-        expected = met;
-    }
-    unreachable!()
-}
-
-// The row E4: a read if the queue head may not take the word as it is, and else a swap.
-pub(crate) fn head<R: Wait>(seat: &mut Right, rt: &R, domain: &PvDomain, lock: u32) -> u64
-    requires table { seat.old.table_id ≡ domain.now.table.shared.table_id }
-    requires number { IsNumbered seat.old.me.0 }
-    requires lock { lock < locks_of domain.now.plan }
-    requires row { Acts tries_head seat.old.me.0 Lock lock }
-    ensures same { (seat.new.table_id ≡ seat.old.table_id) × (seat.new.id ≡ seat.old.id) }
-    ensures step { MadeBy Lock lock seat.old.me result seat.new.me }
-{
-    let met = look_head(seat, domain, lock);
-    if !is_free_for_pending(met) {
-        return met;
-    }
-    swap_head(seat, rt, domain, lock, met)
 }

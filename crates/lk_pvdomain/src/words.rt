@@ -16,14 +16,6 @@ use lk_domain::moves::WordUse;
 use lk_domain::{Right, WordSteps, moves};
 use lk_word::NodeName;
 
-// The word as it is just now, of which contracts say nothing: what a swap may expect.
-pub(crate) fn guess(domain: &PvDomain, lock: u32) -> u64
-    requires lock { lock < locks_of domain.now.plan }
-{
-    let word = domain.plan.lock_word(lock);
-    domain.table.shared.peek(word)
-}
-
 // A row on the word, by a call that goes on.
 pub(crate) fn go_on(seat: &mut Right, domain: &PvDomain, lock: u32, how: WordUse) -> u64
     requires table { seat.old.table_id ≡ domain.now.table.shared.table_id }

@@ -35,7 +35,7 @@ use Rattle.lk_domain.proofs.rows.Fresh as fresh
 use Rattle.lk_domain.proofs.rows.Lands as lands
 use Rattle.lk_domain.proofs.rows.Sights.{IsSeen}
 use Rattle.lk_domain.proofs.words.LockPlays.{MayFree, acting_any, acting_sole}
-use Rattle.lk_pvdomain.specs.PvPlays.{Halts, Wakes, Stays, Kicks, woken, AtHalt, AtKick}
+use Rattle.lk_pvdomain.specs.PvPlays.{Halts, Wakes, Kicks, woken, AtHalt, AtKick}
 use Rattle.lk_pvdomain.specs.PvRows.{halts_at}
 use Rattle.lk_pvdomain.proofs.OnMarks as on
 use Rattle.lk_pvdomain.proofs.Unmarked.{halt_off}
@@ -50,11 +50,6 @@ halt_frees : (c : Pc) → halts_at c ≡ true → MayFree c → ⊥
 halt_frees W6 h t = cc t.3
 halt_frees E12 h t = cc t.3
 halt_frees _ h t = cc h
-
--- a look that tells nothing
-pub stays : (k : Plan) (slots id : ℕ) (m : Me Slot View) (i : ℕ) → Allows (Stand k) slots id m i (λ n. n) (Stays m)
-stays k slots id m i s both long me small =
-    (m.0, keeps, tt, stands k s both id m.0 me i (get_or s.words i 0) refl, refl)
 
 -- the row by which the processor halts: a look at its kick word
 pub halt_plays : (k : Plan) (slots id : ℕ) (m : Me Slot View) (number : IsNumbered m.0) (v : Verb) (lock : LockName) (pc : Pc)
@@ -195,9 +190,6 @@ kick_plays k slots id m number v lock halting acts home near s both long me smal
 module _ (k plan : Plan) (slots id : ℕ) (m : Me Slot View) (i : ℕ) (same : k ≡ plan) (halting : halts plan.mode ≡ true) where
   halting_here : halts k.mode ≡ true
   halting_here = ap (λ (q : Plan). halts q.mode) same ∙ halting
-
-  pub glance_asks : Allows (Stand k) slots id m i (λ n. n) (Stays m)
-  glance_asks = stays k slots id m i
 
   module _ (cpu : ℕ) (at : i ≡ kick_at plan cpu) where
     where_is : i ≡ kick_at k cpu

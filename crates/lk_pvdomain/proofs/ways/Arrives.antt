@@ -31,7 +31,8 @@ use Rattle.lk_domain.specs.declared.part.Part.{Part}
 use Rattle.lk_domain.specs.declared.plan.Plan.{Plan}
 use Rattle.lk_domain.specs.declared.view.View.{View}
 use Rattle.lk_pvdomain.specs.declared.domain.PvDomain.{PvDomain}
-use Rattle.lk_pvdomain.specs.PvPaths.{Start, starting, AtOn, RestsOn, TookOn, EndedOn, Owns, Follows, Spares, Steals, still}
+use Rattle.lk_pvdomain.specs.PvPlays.{woken}
+use Rattle.lk_pvdomain.specs.PvPaths.{Start, starting, AtOn, HaltedOn, RestsOn, TookOn, EndedOn, Owns, Follows, Spares, Steals, still}
 use Rattle.lk_domain.proofs.Ways as seat
 use Rattle.lk_word.specs.declared.spin_word.Layout.{Layout}
 use Rattle.lk_word.specs.SpinWord.{packed}
@@ -40,11 +41,11 @@ use Rattle.lk_pvdomain.proofs.ways.Ways.{Goes, Ends, Drops, goes, takes, drops, 
 use Rattle.lk_pvdomain.proofs.ways.Leads.{acts, went_on}
 use Rattle.lk_pvdomain.proofs.ways.Hands.{plain}
 
-un_off : (b : Bool) → not b ≡ false → b ≡ true
+pub un_off : (b : Bool) → not b ≡ false → b ≡ true
 un_off true e = refl
 un_off false e = cc e
 
-un_on : (b : Bool) → not b ≡ true → b ≡ false
+pub un_on : (b : Bool) → not b ≡ true → b ≡ false
 un_on false e = refl
 un_on true e = cc e
 
@@ -230,6 +231,16 @@ module _ {d : PvDomain} {v : Verb} {l : ℕ} {own : NodeName} {s : Start} {ta tb
   pub kept : {c : Pc} {P : Frame → Type 0} → AtOn d v l own s c P ta ia a → b ≡ a → AtOn d v l own s c P tb ib b
   kept {c} {P} w e = subst (λ (m : Me Slot View). AtOn d v l own s c P tb ib m) (sym e)
       (subst (λ (i : ℕ). AtOn d v l own s c P tb i a) (sym same.1) (subst (λ (t : TableId). AtOn d v l own s c P t ia a) (sym same.0) w))
+
+  -- a halt ends, or goes on
+  pub woke : {c e : Pc} {P : Frame → Type 0} → HaltedOn d v l own s c e P ta ia a → b ≡ (woken a.0, a.1) → AtOn d v l own s e P tb ib b
+  woke {c} {e} {P} w is = subst (λ (m : Me Slot View). AtOn d v l own s e P tb ib m) (sym is)
+      (subst (λ (i : ℕ). AtOn d v l own s e P tb i (woken a.0, a.1)) (sym same.1)
+      (subst (λ (t : TableId). AtOn d v l own s e P t ia (woken a.0, a.1)) (sym same.0) w.wakes))
+
+  pub sleeps_on : {c e : Pc} {P : Frame → Type 0} → HaltedOn d v l own s c e P ta ia a → b ≡ a → HaltedOn d v l own s c e P tb ib b
+  sleeps_on {c} {e} {P} w is = subst (λ (m : Me Slot View). HaltedOn d v l own s c e P tb ib m) (sym is)
+      (subst (λ (i : ℕ). HaltedOn d v l own s c e P tb i a) (sym same.1) (subst (λ (t : TableId). HaltedOn d v l own s c e P t ia a) (sym same.0) w))
 
   pub readied : {c : Pc} {P : Frame → Type 0} (q : Part) → AtOn d v l own s c P ta ia a → b ≡ (readied_by q a.0, a.1) → AtOn d v l own s c P tb ib b
   readied {c} {P} q w e =

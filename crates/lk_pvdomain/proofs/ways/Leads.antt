@@ -1,5 +1,5 @@
 -- The rows of a front that halts.
-use Rattle.std.proofs.Common.{◌≡◌, ◌≢◌, ℕ, ◌-◌, ◌≤◌, ◌%◌, Option, Some, None, Bool, true, false, eqb, eq-eqb, refl, sym, ap, ◌∙◌, arith, [], ◌∷◌}
+use Rattle.std.proofs.Common.{◌≡◌, ◌≢◌, ℕ, ◌-◌, ◌≤◌, ◌%◌, Option, Some, None, Bool, true, false, eqb, eq-eqb, refl, sym, ap, ◌∙◌, arith}
 use Rattle.std.proofs.lemmas.Bool.{ne_eqb}
 use Rattle.std.specs.Prelude.{◌&&◌, not}
 use Rattle.atomic_table.specs.Table.{Me}
@@ -19,7 +19,7 @@ use Rattle.lk_rows.specs.declared.setup.Verb.{Verb}
 use Rattle.lk_rows.specs.rows.Pv.{is_slow_byte}
 use Rattle.lk_rows.specs.rows.Spin.{is_unlocked}
 use Rattle.lk_law.specs.Leads.{Met, Word, Stated, Marked, Named}
-use Rattle.lk_domain.specs.Calls.{Outlook, Terms, Running as Call, lock_name, Calls}
+use Rattle.lk_domain.specs.Calls.{Outlook, Terms, lock_name, Calls}
 use Rattle.lk_domain.specs.Keeps.{Slot}
 use Rattle.lk_domain.specs.Plans.{turns_of, turns_by}
 use Rattle.lk_domain.specs.Plays.{went, rowed, made, WentBy, MadeBy, Acts}
@@ -27,14 +27,14 @@ use Rattle.lk_domain.specs.Words.{state_number}
 use Rattle.lk_domain.specs.declared.view.View.{View}
 use Rattle.lk_domain.proofs.Acting.{acting_is, acts_on, begins_on}
 use Rattle.lk_pvdomain.specs.declared.domain.PvDomain.{PvDomain}
-use Rattle.lk_pvdomain.specs.PvPaths.{Start, AtOn, Owns, Leads, Tries}
+use Rattle.lk_pvdomain.specs.PvPaths.{Start, AtOn, HaltedOn, Owns, Leads, Tries}
 use Rattle.lk_domain.specs.NodePlays.{InCall}
 use Rattle.lk_domain.specs.Uses.{UsesWord, uses}
 use Rattle.lk_domain.specs.declared.locks.moves.WordUse.{WordUse}
-use Rattle.lk_pvdomain.specs.PvPlays.{AtFill, AtSeek, SeesState, EmptiesAt, woken}
+use Rattle.lk_pvdomain.specs.PvPlays.{AtFill, AtSeek, SeesState, EmptiesAt}
 use Rattle.lk_pvdomain.specs.PvRows.{fills, filled_with, erases}
 use Rattle.lk_pvdomain.proofs.Fails.{low_byte, head_again, head_failed, steal_again, steal_failed}
-use Rattle.lk_pvdomain.proofs.ways.Ways.{Goes, goes, stands, sleeps, asleep, one}
+use Rattle.lk_pvdomain.proofs.ways.Ways.{Goes, goes, stands, rests}
 
 not_off : (b : Bool) → not b ≡ false → b ≡ true
 not_off true e = refl
@@ -230,14 +230,6 @@ module _ {d : PvDomain} {v : Verb} {l : ℕ} {own : NodeName} {s : Start} {ta tb
       → AtOn d v l own s E2 (Leads own h) tb ib b
   e11_else {h} w k ne = goes w same (Word k.found) k.seat E2 (Leads own h) (E11_else w.frame k.found (slow_missed _ k.found _ k.word ne) w.has)
 
-  module _ {h : Bool} (w : AtOn d v l own s E12 (Leads own h) ta ia a) (k : b ≡ (went a.0 (Marked false), a.1)) where
-    pub e12_asleep : b.0.calls.halted ≡ true
-    e12_asleep = asleep w same k refl refl refl
-
-    pub e12_one : (x : Call) × (b.0.calls.frames ≡ x ∷ [])
-    e12_one = one w same k refl refl refl
-
-    pub e12_sleeps : {tc : TableId} {ic : ℕ} {m : Me Slot View} → (tc ≡ tb) × (ic ≡ ib) → m ≡ (woken b.0, b.1)
-        → AtOn d v l own s E2 (Leads own h) tc ic m
-    e12_sleeps same' wakes =
-        sleeps w same k refl refl refl same' wakes E2 (Leads own h) refl refl (record { me = w.has.me; hashed_is = w.has.hashed_is })
+  pub e12_halts : {h : Bool} → AtOn d v l own s E12 (Leads own h) ta ia a → b ≡ (went a.0 (Marked false), a.1)
+      → HaltedOn d v l own s E12 E2 (Leads own h) tb ib b
+  e12_halts {h} w k = rests w same k refl refl refl E2 (Leads own h) refl refl (record { me = w.has.me; hashed_is = w.has.hashed_is })

@@ -1,5 +1,5 @@
 -- The rows of a waiter that halts.
-use Rattle.std.proofs.Common.{inr, [], ◌∷◌, ◌≡◌, ◌≢◌, ℕ, ◌-◌, ◌≤◌, Some, true, false, eqb, eq-eqb, refl, sym, ap, ◌∙◌, arith}
+use Rattle.std.proofs.Common.{inr, ◌≡◌, ◌≢◌, ℕ, ◌-◌, ◌≤◌, Some, true, false, eqb, eq-eqb, refl, sym, ap, ◌∙◌, arith}
 use Rattle.std.proofs.lemmas.Bool.{ne_eqb}
 use Rattle.atomic_table.specs.Table.{Me}
 use Rattle.atomic_table.specs.Seated.{TableId}
@@ -14,7 +14,7 @@ use Rattle.lk_rows.specs.declared.parts.Pc.TheVariants.{W1, W2, W3, W4, W5, W6, 
 use Rattle.lk_rows.specs.declared.setup.Verb.{Verb}
 use Rattle.lk_rows.specs.Moves.{node_of}
 use Rattle.lk_law.specs.Leads.{Flagged, Stated, Marked}
-use Rattle.lk_domain.specs.Calls.{Outlook, Terms, Running as Call, lock_name}
+use Rattle.lk_domain.specs.Calls.{Outlook, Terms, lock_name}
 use Rattle.lk_domain.specs.Keeps.{Slot}
 use Rattle.lk_domain.specs.NodePlays.{InCall, SeesFlag}
 use Rattle.lk_domain.specs.NodeUses.{LooksFlag, looks_flag}
@@ -23,10 +23,10 @@ use Rattle.lk_domain.specs.Plans.{turns_of, turns_by}
 use Rattle.lk_domain.specs.declared.view.View.{View}
 use Rattle.lk_domain.specs.Words.{flag_number, state_number}
 use Rattle.lk_pvdomain.specs.declared.domain.PvDomain.{PvDomain}
-use Rattle.lk_pvdomain.specs.PvPaths.{Start, AtOn, Owns, Follows, Spares}
-use Rattle.lk_pvdomain.specs.PvPlays.{AtState, AtTold, AtHalt, SeesState, woken}
+use Rattle.lk_pvdomain.specs.PvPaths.{Start, AtOn, HaltedOn, Owns, Follows, Spares}
+use Rattle.lk_pvdomain.specs.PvPlays.{AtState, AtTold, AtHalt, SeesState}
 use Rattle.lk_pvdomain.specs.PvRows.{looks_state, stores_own, state_told, rouses, roused_to, state_node, halts_at}
-use Rattle.lk_pvdomain.proofs.ways.Ways.{Goes, goes, stands, sleeps, asleep, one}
+use Rattle.lk_pvdomain.proofs.ways.Ways.{Goes, goes, stands, rests}
 
 -- where each leads
 module _ {t : Terms} {p : ℕ} {z : Outlook} {own : NodeName} (f : Frame) where
@@ -163,17 +163,8 @@ module _ {d : PvDomain} {v : Verb} {l : ℕ} {own prev : NodeName} {s : Start} {
       → AtOn d v l own s W1 (Spares own prev (turns_of d.plan)) tb ib b
   w7_wakes w k = goes w same (Stated k.found) k.seat W1 (Spares own prev (turns_of d.plan)) (W7_wakes w.frame k.found w.has)
 
-  module _ (w : AtOn d v l own s W6 (Follows own prev) ta ia a) (k : b ≡ (went a.0 (Marked false), a.1)) where
-    pub w6_asleep : b.0.calls.halted ≡ true
-    w6_asleep = asleep w same k refl refl refl
-
-    pub w6_one : (x : Call) × (b.0.calls.frames ≡ x ∷ [])
-    w6_one = one w same k refl refl refl
-
-    pub w6_sleeps : {tc : TableId} {ic : ℕ} {m : Me Slot View} → (tc ≡ tb) × (ic ≡ ib) → m ≡ (woken b.0, b.1)
-        → AtOn d v l own s W7 (Follows own prev) tc ic m
-    w6_sleeps same' wakes =
-        sleeps w same k refl refl refl same' wakes W7 (Follows own prev) refl refl (record { me = w.has.me; prev = w.has.prev })
+  pub w6_halts : AtOn d v l own s W6 (Follows own prev) ta ia a → b ≡ (went a.0 (Marked false), a.1) → HaltedOn d v l own s W6 W7 (Follows own prev) tb ib b
+  w6_halts w k = rests w same k refl refl refl W7 (Follows own prev) refl refl (record { me = w.has.me; prev = w.has.prev })
 
 -- the node of a name that a frame has
 pub before : (f : Frame) (n : NodeName) → f.prev ≡ Some n → node_of f.prev ≡ n

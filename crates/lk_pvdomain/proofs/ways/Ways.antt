@@ -1,5 +1,5 @@
 -- What a step of a seat does to its call, where processors halt.
-use Rattle.std.proofs.Common.{◌≡◌, ℕ, ◌+◌, List, [], ◌∷◌, ◌++◌, Some, None, true, false, sym, ap, ◌∙◌, subst}
+use Rattle.std.proofs.Common.{◌≡◌, ℕ, ◌+◌, List, [], ◌∷◌, ◌++◌, Some, None, true, false, refl, sym, ap, ◌∙◌, subst}
 use Rattle.atomic_table.specs.Table.{Me}
 use Rattle.atomic_table.specs.Seated.{TableId}
 use Rattle.lk_abs.specs.declared.holder.Manner.TheVariants.{Spins}
@@ -22,7 +22,7 @@ use Rattle.lk_domain.specs.Who.{Who}
 use Rattle.lk_domain.specs.declared.view.View.{View}
 use Rattle.lk_domain.proofs.rows.Went.{led_ctx}
 use Rattle.lk_pvdomain.specs.declared.domain.PvDomain.{PvDomain}
-use Rattle.lk_pvdomain.specs.PvPaths.{onward, awoken, Start, IsSeat, AtOn, TookOn, EndedOn, freed}
+use Rattle.lk_pvdomain.specs.PvPaths.{onward, awoken, Start, IsSeat, AtOn, HaltedOn, TookOn, EndedOn, freed}
 use Rattle.lk_pvdomain.specs.PvPlays.{woken, stirred}
 
 -- where a row leads that goes on, and what its frame then is
@@ -301,3 +301,10 @@ module _ {d : PvDomain} {v : Verb} {l : ℕ} {own : NodeName} {s : Start} {c : P
           ctx = ap (λ (f : Frame). f.ctx) still ∙ w.ctx;
           has = subst Q (sym (λ i. record (still i) { place = (ap after_halt put_place ∙ to) i })) has;
         }
+
+  -- and it is asleep until then
+  pub rests : (e : Pc) (Q : Frame → Type 0) → stands_halting (Some c) ≡ true → after_halt (Some c) ≡ Some e
+      → Q (record w.frame { place = Some e }) → HaltedOn d v l own s c e Q tb ib b
+  unfolding one
+  rests e Q at to has =
+      record { asleep = asleep; call = one.0; only = one.1; place = put_place; wakes = sleeps (refl, refl) refl e Q at to has }

@@ -17,8 +17,8 @@ go_on-met-requires c =
     let w = c.requires.1 in
     record { table = w.of.table_is; number = numbered w; lock = w.low; row = word_asks w Looks refl; home = λ e. absurd (cc e) }
 
-pub word_met-requires : goal.word_met-requires
-word_met-requires c =
+pub word_met-word-requires : goal.word_met-word-requires
+word_met-word-requires c =
     let w = c.requires.1 in
     let k = c.go_on-met.ensures.step in
     record {
@@ -33,7 +33,7 @@ pub returns : goal.returns
 returns c s w =
     let q = c.args.self.now in
     let k = c.go_on-met.ensures.step in
-    let is = c.word_met.ensures k.found (subst (λ (p : Plan). IsPackable (layout_in p) k.found) w.of.plan k.packs)
+    let is = c.word_met-word.ensures k.found (subst (λ (p : Plan). IsPackable (layout_in p) k.found) w.of.plan k.packs)
     (k.word ∙ ap (λ (p : Plan). packed (layout_in p) k.found) w.of.plan) in
     subst (λ (x : Fields). At q s (after_glance (Some q.own) x) (Steals (is_some x.tail)) c.go_on-met.new.seat)
     (sym is) (h1_looks c.go_on-met.ensures.same w k)

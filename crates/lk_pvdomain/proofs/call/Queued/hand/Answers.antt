@@ -1,68 +1,10 @@
-use Rattle.std.proofs.Common.{sym, subst, ap, ◌∙◌}
-use Rattle.std.specs.Prelude.{◌&&◌, not}
-use Rattle.lk_word.specs.SpinWord.{packed, IsPackable}
-use Rattle.lk_word.specs.declared.spin_word.Fields.{Fields}
-use Rattle.lk_rows.specs.Moves.{is_node}
-use Rattle.lk_rows.specs.rows.Cna.{is_held}
-use Rattle.lk_domain.specs.Plans.{layout_in}
-use Rattle.lk_domain.specs.declared.plan.Plan.{Plan}
-use Rattle.lk_pvdomain.proofs.ways.Ways.{numbered}
-use Rattle.lk_pvdomain.proofs.ways.Hands.{last_asks, e13_leaves, e13_stays}
 use Rattle.lk_pvdomain.proofs.call.Queued.hand.Goals as goal
 
-pub quit-met-requires : goal.quit-met-requires
-quit-met-requires g c =
-    let w = c.requires.1 in
-    record { table = w.of.table_is; number = numbered w; lock = w.low; own = w.of.near; row = last_asks w }
+pub returns-then-leave_queue : goal.returns-then-leave_queue
+returns-then-leave_queue c s w = c.leave_queue.ensures.last c.if-leave_queue.true s w
 
-pub word_met-requires : goal.word_met-requires
-word_met-requires g c =
-    let w = c.requires.1 in
-    let k = c.quit-met.ensures.step in
-    record {
-      word = (
-        k.found,
-        subst (λ (p : Plan). IsPackable (layout_in p) k.found) w.of.plan k.packs,
-        k.word ∙ ap (λ (p : Plan). packed (layout_in p) k.found) w.of.plan,
-      );
-    }
-
-pub returns-then-is_last : goal.returns-then-is_last
-returns-then-is_last g c s w =
-    let k = c.quit-met.ensures.step in
-    let is = c.word_met.ensures k.found (subst (λ (p : Plan). IsPackable (layout_in p) k.found) w.of.plan k.packs)
-    (k.word ∙ ap (λ (p : Plan). packed (layout_in p) k.found) w.of.plan) in
-    e13_leaves c.quit-met.ensures.same w k
-    (sym (c.is_last.ensures ∙ ap (λ (y : Fields). is_held y.locked && not y.pending && is_node y.tail c.args.self.now.own) is) ∙ c.if-is_last.true)
-
-pub next-to-requires : goal.next-to-requires
-next-to-requires g c =
-    let w = c.requires.1 in
-    let k = c.quit-met.ensures.step in
-    let is = c.word_met.ensures k.found (subst (λ (p : Plan). IsPackable (layout_in p) k.found) w.of.plan k.packs)
-    (k.word ∙ ap (λ (p : Plan). packed (layout_in p) k.found) w.of.plan) in (
-      c.requires.0,
-      e13_stays c.quit-met.ensures.same w k
-          (sym (c.is_last.ensures ∙ ap (λ (y : Fields). is_held y.locked && not y.pending && is_node y.tail c.args.self.now.own) is) ∙ c.if-is_last.false),
-    )
-
-pub pass-requires-clause-waits : goal.pass-requires-clause-waits
-pass-requires-clause-waits g c =
-    let w = c.requires.1 in
-    let k = c.quit-met.ensures.step in
-    let is = c.word_met.ensures k.found (subst (λ (p : Plan). IsPackable (layout_in p) k.found) w.of.plan k.packs)
-    (k.word ∙ ap (λ (p : Plan). packed (layout_in p) k.found) w.of.plan) in (
-      c.requires.0,
-      c.next-to.ensures.goes c.requires.0
-          (e13_stays c.quit-met.ensures.same w k
-          (sym (c.is_last.ensures ∙ ap (λ (y : Fields). is_held y.locked && not y.pending && is_node y.tail c.args.self.now.own) is) ∙ c.if-is_last.false)),
-    )
+pub pass_on-requires : goal.pass_on-requires
+pass_on-requires c = (c.requires.0, c.leave_queue.ensures.others c.if-leave_queue.false c.requires.0 c.requires.1)
 
 pub returns : goal.returns
-returns g c s w =
-    let k = c.quit-met.ensures.step in
-    let is = c.word_met.ensures k.found (subst (λ (p : Plan). IsPackable (layout_in p) k.found) w.of.plan k.packs)
-    (k.word ∙ ap (λ (p : Plan). packed (layout_in p) k.found) w.of.plan) in
-    c.pass.ensures s (c.next-to.ensures.goes s
-    (e13_stays c.quit-met.ensures.same w k
-    (sym (c.is_last.ensures ∙ ap (λ (y : Fields). is_held y.locked && not y.pending && is_node y.tail c.args.self.now.own) is) ∙ c.if-is_last.false)))
+returns c s w = c.pass_on.ensures s (c.leave_queue.ensures.others c.if-leave_queue.false s w)

@@ -1,0 +1,13 @@
+use Rattle.lk_pvdomain.proofs.ways.Arrives.{woke, sleeps_on}
+use Rattle.lk_pvdomain.proofs.call.Queued.wake_as_head.Goals as goal
+
+pub is_woken-requires : goal.is_woken-requires
+is_woken-requires c =
+    let w = c.requires.1 in
+    record { table = w.wakes.of.table_is; number = w.wakes.of.number; cpu = w.wakes.of.near.cpu; one = (w.call, w.only); asleep = w.asleep }
+
+pub returns-clause-kicked : goal.returns-clause-kicked
+returns-clause-kicked c e s w = woke c.is_woken.ensures.same w (c.is_woken.ensures.woken e)
+
+pub returns-clause-sleeps : goal.returns-clause-sleeps
+returns-clause-sleeps c e s w = sleeps_on c.is_woken.ensures.same w (c.is_woken.ensures.stays e)

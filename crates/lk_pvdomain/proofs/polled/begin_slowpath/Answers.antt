@@ -1,0 +1,7 @@
+use Rattle.lk_pvdomain.proofs.polled.begin_slowpath.Goals as goal
+
+pub contend-requires : goal.contend-requires
+contend-requires c = c.requires.at
+
+pub returns : goal.returns
+returns c = record { comes = λ s w. c.contend.ensures s w }

@@ -1,0 +1,112 @@
+// A call of `pv_lock` in turns, for those that may not wait in a loop of ours, or that decide
+// themselves how a halted processor sleeps.
+ghost use Rattle.std.specs.Prelude.{◌≡◌, ◌<◌, false, None, Some};
+ghost use Rattle.lk_rows.specs.declared.parts.Pc.TheVariants.{G1};
+ghost use Rattle.lk_rows.specs.declared.setup.Verb.TheVariants.{Lock};
+ghost use Rattle.lk_domain.specs.Calls.{holds_in};
+ghost use Rattle.lk_domain.specs.Paths.{Any};
+ghost use Rattle.lk_domain.specs.Plans.{locks_of};
+ghost use Rattle.lk_pvdomain.specs.PvCalls.{HasTaken, HasTakenSince, IsResting};
+ghost use Rattle.lk_pvdomain.specs.PvPaths.{At, Start, first_of};
+ghost use Rattle.lk_pvdomain.specs.PvRests.{Comes, is_asleep_at};
+ghost use Rattle.lk_pvdomain.specs.PvSeats.{IsOf, IsSame, calls_of};
+ghost use Rattle.lk_pvdomain.specs.PvTurns.{Waits, has_halted, waiter_at, waiter_in};
+ghost use Rattle.lk_pvdomain.specs.declared.waiter.PvTurn.TheVariants.{Has};
+ghost use Rattle.lk_pvdomain.specs.declared.waiter.PvWaiter.{PvWaiter};
+
+use crate::call::Queued;
+use crate::calls::fast;
+use crate::cpu::PvCpu;
+use crate::domain::PvDomain;
+use crate::rest::PvRest;
+use crate::waiter::{PvTurn, PvWaiter};
+use lk_domain::{LockId, Right};
+use lk_word::NodeName;
+
+// What a turn came to, which leads there.
+fn turn_of(lock: LockId, place: Option<PvRest>) -> PvTurn
+    ensures has { result ≡ Has → place ≡ None }
+    ensures halted { has_halted result ≡ is_asleep_at place }
+    ensures waiter { waiter_in result ≡ waiter_at lock place }
+{
+    match place {
+        None => PvTurn::Has,
+        Some(rest) => {
+            let waiter = PvWaiter { lock, rest };
+            if rest.is_halted() {
+                return PvTurn::Halts(waiter);
+            }
+            PvTurn::Waits(waiter)
+        }
+    }
+}
+
+// From G1. It is out of the way of a call that takes a free lock, which builds no `Queued`.
+#[cold]
+#[inline(never)]
+fn begin_slowpath(seat: &mut Right, domain: &PvDomain, lock: u32, own: NodeName) -> Option<PvRest>
+    requires at { (s : Start) × At domain.now Lock lock own s G1 Any seat.old }
+    ensures comes { (s : Start) → At domain.now Lock lock own s G1 Any seat.old
+        → Comes domain.now lock own result s seat.new }
+{
+    let call = Queued { domain, lock, own };
+    call.contend(seat)
+}
+
+/// Begins a call of `pv_lock`, and makes its first turn. It never waits. What is asked of the
+/// processor is what `pv_lock` asks.
+///
+/// A call that waits or has halted goes on by [`pv_poll`]. One that is not polled to its end keeps
+/// its place: nobody behind it in the queue gets the lock.
+pub fn pv_begin(cpu: &mut PvCpu, domain: &PvDomain, lock: LockId) -> PvTurn
+    requires domain { IsOf cpu.old domain.now }
+    requires lock { lock.index < locks_of domain.now.plan }
+    requires rests { IsResting (calls_of cpu.old) }
+    requires free { holds_in (calls_of cpu.old).holds lock.index ≡ false }
+    ensures same { IsSame cpu.old cpu.new }
+    ensures taken { result ≡ Has → HasTaken domain.now lock.index cpu.old cpu.new }
+    ensures halted { (calls_of cpu.new).halted ≡ has_halted result }
+    ensures lock { (w : PvWaiter) → waiter_in result ≡ Some w → w.lock ≡ lock }
+    ensures waits { (w : PvWaiter) → waiter_in result ≡ Some w
+        → Waits domain.now w (first_of Lock lock.index cpu.old.seat) cpu.new }
+{
+    if fast(&mut cpu.seat, domain, lock.index) {
+        return PvTurn::Has;
+    }
+    let own = NodeName {
+        cpu: cpu.number,
+        index: 0,
+    };
+    let place = begin_slowpath(&mut cpu.seat, domain, lock.index, own);
+    turn_of(lock, place)
+}
+
+/// Makes the next turn of a call that waits or has halted: rows up to its next look that decides
+/// nothing, or up to a halt. It never waits.
+///
+/// Where the processor has halted, the turn first takes the kick, which ends the halt. If there is
+/// none ([`PvDomain::is_kicked`]) nothing changes, and the answer is the same: so who sleeps may be
+/// woken by anything.
+pub fn pv_poll(cpu: &mut PvCpu, domain: &PvDomain, waiter: PvWaiter) -> PvTurn
+    requires domain { IsOf cpu.old domain.now }
+    requires waits { (s : Start) × Waits domain.now waiter s cpu.old }
+    ensures same { IsSame cpu.old cpu.new }
+    ensures taken { result ≡ Has → (s : Start) → Waits domain.now waiter s cpu.old
+        → HasTakenSince domain.now waiter.lock.index s cpu.new }
+    ensures halted { (calls_of cpu.new).halted ≡ has_halted result }
+    ensures lock { (w : PvWaiter) → waiter_in result ≡ Some w → w.lock ≡ waiter.lock }
+    ensures waits { (w : PvWaiter) → waiter_in result ≡ Some w → (s : Start)
+        → Waits domain.now waiter s cpu.old → Waits domain.now w s cpu.new }
+{
+    let own = NodeName {
+        cpu: cpu.number,
+        index: 0,
+    };
+    let call = Queued {
+        domain,
+        lock: waiter.lock.index,
+        own,
+    };
+    let place = call.turn(&mut cpu.seat, waiter.rest);
+    turn_of(waiter.lock, place)
+}
