@@ -1,5 +1,5 @@
 -- The transcript of a trace is accepted.
-use Rattle.std.proofs.Common.{◌≡◌, ◌≤◌, ◌<◌, ◌+◌, ◌-◌, ◌++◌, ◌^◌, true, ℕ, zero, suc, List, [], ◌∷◌, Option, None, Some, length, map, refl, sym, ap, subst, ◌∙◌, append_assoc, append-nil, arith}
+use Rattle.std.proofs.Common.{◌≡◌, ◌≤◌, ◌<◌, ◌+◌, ◌-◌, ◌++◌, ◌^◌, true, ℕ, suc, List, [], ◌∷◌, Option, None, Some, length, map, refl, sym, ap, subst, ◌∙◌, append_assoc, append-nil, arith}
 use Rattle.std.proofs.lemmas.List.{length-append}
 use Rattle.lk_abs.specs.Lawful.{IsLawful}
 use Rattle.lk_abs.specs.declared.events.Act.{Act}
@@ -16,20 +16,18 @@ use Rattle.lk_law.specs.MachineLaws.{ActKeeps, RestShows, RunKeeps, AreInRange}
 use Rattle.lk_text.specs.Feeds.{pieces, line_of}
 use Rattle.lk_forms.specs.Grammar.{Reading, has_go, last_rank, cpus_of}
 use Rattle.lk_forms.specs.SetupLaws.{SetupsAreLawful, ActsComeLast}
-use Rattle.lk_forms.specs.Texts.{lines, closing}
-use Rattle.lk_forms.specs.Trace.{Good, trace, trace_from, reading_after, setup_of, acts_of, bytes_of}
+use Rattle.lk_forms.specs.Texts.{closing}
+use Rattle.lk_forms.specs.Trace.{Good, trace_from, reading_after, setup_of, acts_of, bytes_of}
 use Rattle.lk_text.specs.declared.reader.TheConstants.{MAX_INPUT}
-use Rattle.lk_forms.specs.declared.limits.TheConstants.{MAX_ACTS}
 use Rattle.lk_forms.proofs.Places.{read-before_go}
-use Rattle.lk_stream.specs.Grammar.{Place, first_place, says_from, says_at_end, saying, unless_refused}
+use Rattle.lk_stream.specs.Grammar.{Place, first_place, says_from, says_at_end, unless_refused}
 use Rattle.lk_stream.specs.Grammar.{Good as GoodText}
 use Rattle.lk_stream.specs.Reads.{AllWhole}
 use Rattle.lk_stream.proofs.Pieces.{pieces_at_feed}
 use Rattle.lk_audit_forms.specs.Grammar.{Said, last_act, ending, audit_grammar}
 use Rattle.lk_replay.specs.Transcript.{history_of_run, counts_of_run, lines_of_run, transcript}
-use Rattle.lk_audit_law.specs.Laws.{IsAccepted, TranscriptsAreAccepted}
+use Rattle.lk_audit_law.specs.Laws.{TranscriptsAreAccepted}
 use Rattle.lk_audit_law.proofs.Header.{StandsAt, reading_next, good_step, setup_stays, header_step, walk}
-use Rattle.lk_audit_law.proofs.Histories.{AreTold}
 use Rattle.lk_audit_law.proofs.Runs.{run_lawful, run_told}
 use Rattle.lk_audit_law.proofs.InRange.{IsFine, acts_fine, none_fine}
 use Rattle.lk_audit_law.proofs.Heads.{head_whole}

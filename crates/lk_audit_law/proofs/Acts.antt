@@ -1,11 +1,11 @@
 -- Each act tells an event of the machine's setup.
-use Rattle.std.proofs.Common.{◌≡◌, ◌≤◌, ◌<◌, ◌-◌, ◌&&◌, ◌||◌, ◌⊎◌, ℕ, List, Option, Some, None, Bool, true, false, length, inl, inr, refl, sym, ap, subst, ◌∙◌, arith, slice_get, nat_lt, nat_le, not}
+use Rattle.std.proofs.Common.{◌≡◌, ◌≤◌, ◌<◌, ◌-◌, ◌&&◌, ◌||◌, ◌⊎◌, ℕ, Option, Some, None, Bool, true, false, length, inl, inr, refl, sym, ap, subst, ◌∙◌, arith, slice_get, nat_lt, nat_le, not}
 use Rattle.std.specs.Prelude.{if◌then◌else◌}
 use Rattle.std.proofs.lemmas.Bool.{cases_Bool}
 use Rattle.std.proofs.lemmas.Bool.Decides.{nat_tests}
 use Rattle.lk_abs.specs.History.{LockHistory}
 use Rattle.lk_abs.specs.declared.names.Kind.{Kind}
-use Rattle.lk_abs.specs.declared.names.Kind.TheVariants.{Spin, Rw}
+use Rattle.lk_abs.specs.declared.names.Kind.TheVariants.{Rw}
 use Rattle.lk_abs.specs.declared.names.Waiter.{Waiter}
 use Rattle.lk_abs.specs.declared.names.LockName.{LockName}
 use Rattle.lk_abs.specs.declared.events.Act.{Act}
@@ -13,25 +13,24 @@ use Rattle.lk_abs.specs.declared.events.Act.TheVariants as act
 use Rattle.lk_abs.specs.declared.events.Event.{Event}
 use Rattle.lk_abs.specs.declared.events.What.{What}
 use Rattle.lk_abs.specs.declared.events.What.TheVariants as what
-use Rattle.lk_rows.specs.declared.setup.Setup.{Setup}
 use Rattle.lk_rows.specs.declared.parts.Frame.{Frame}
 use Rattle.lk_rows.specs.declared.parts.Pc.{Pc}
 use Rattle.lk_rows.specs.Machine.{Machine, cpu_at, set_preempted, frame_at, depth_at, preempted_at, halted_at, kicked_at, top_of, top_frame, handlers_at}
 use Rattle.lk_rows.specs.Moves.{rw_name, program_of}
 use Rattle.lk_rows.specs.Programs.{kind_of, handlers_of}
 use Rattle.lk_rows.specs.Row.{Tell, Nothing, Says, Passes, event_of, Answer}
-use Rattle.lk_rows.specs.TopRow.{Target, RwWord, target, row, row_at, row_on}
-use Rattle.lk_rows.specs.Acts.{next, step, step_halted, idle, kicked_awake, nudged, interrupted, is_shut, stands_halting, processor_of}
+use Rattle.lk_rows.specs.TopRow.{target, row, row_at, row_on}
+use Rattle.lk_rows.specs.Acts.{next, step, idle, kicked_awake, nudged, interrupted, is_shut, stands_halting, processor_of}
 use Rattle.lk_law.specs.Families.{is_rw_row}
 use Rattle.lk_law.specs.Places.{post_of}
 use Rattle.lk_law.specs.Pv.{at_halt}
 use Rattle.lk_law.specs.SpinWorld.{HasSleeper}
 use Rattle.lk_law.specs.Sound.{world, Works, ShowsAll}
 use Rattle.lk_forms.specs.Grammar.{cpus_of}
-use Rattle.lk_audit_forms.specs.Ranges.{is_spinning, is_shared, is_either}
+use Rattle.lk_audit_forms.specs.Ranges.{is_spinning}
 use Rattle.lk_audit_forms.proofs.Names.{some_same}
 use Rattle.lk_audit_law.proofs.Tells.{SpinTells, RwTells, TellsOf, tell_on, row_tells}
-use Rattle.lk_audit_law.proofs.Facts.{IsOf, get_below, spin_of, rw_of, pass_of, stage_spins, stage_shares, rw_target, other_target, spin_told, row_event, sleeps_at, cpus_are, live, fit, top, cpu_below, ctx_below, kind_at, target_below}
+use Rattle.lk_audit_law.proofs.Facts.{IsOf, get_below, spin_of, rw_of, pass_of, stage_spins, stage_shares, rw_target, other_target, spin_told, row_event, sleeps_at, live, fit, cpu_below, ctx_below, kind_at, target_below}
 
 -- the event of a row of a spinlock or a wait lock
 event_spin : (m : Machine) (p : ℕ) (f : Frame) (k : Kind) → slice_get m.setup.locks.items f.lock.index ≡ Some k

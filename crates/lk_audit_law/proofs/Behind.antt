@@ -1,34 +1,27 @@
 -- What an auditor makes of the lines behind the header.
-use Rattle.std.proofs.Common.{Bool, true, false, ◌≡◌, ◌≤◌, ◌<◌, ◌+◌, ◌-◌, ◌==◌, ◌++◌, ◌&&◌, ◌^◌, not, ℕ, zero, suc, List, [], ◌∷◌, Option, None, Some, Result, Ok, Err, length, nat_lt, nat_le, is_some, refl, sym, ap, subst, ◌∙◌, arith, append_assoc, append-nil, codes, decimal, if◌then◌else◌}
+use Rattle.std.proofs.Common.{Bool, true, false, ◌≡◌, ◌≤◌, ◌+◌, ◌++◌, ℕ, List, [], ◌∷◌, None, Some, Ok, length, nat_lt, refl, sym, ap, subst, ◌∙◌, arith, append_assoc, append-nil, codes}
 use Rattle.std.proofs.lemmas.Bool.Decides.{nat_tests}
 use Rattle.std.proofs.lemmas.Slice.Eq.{bytes_eq-Decides}
 use Rattle.std.proofs.lemmas.List.{length-append}
-use Rattle.std.specs.Prelude.{⊤}
 use Rattle.std.specs.Str.{bytes_eq}
-use Rattle.std.specs.List.{flat_map}
 use Rattle.lk_abs.specs.declared.events.Event.{Event}
 use Rattle.lk_rows.specs.Run.{Occurrence}
 use Rattle.lk_rows.specs.declared.setup.Setup.{Setup}
-use Rattle.lk_rows.specs.declared.parts.Counts.{Counts}
 use Rattle.lk_text.specs.Feeds.{HasNoFeed, pieces, line_of}
 use Rattle.lk_text.specs.declared.reader.TheConstants.{MAX_INPUT, MAX_LINE}
 use Rattle.lk_forms.specs.Grammar.{Reading, has_go}
-use Rattle.lk_forms.specs.Texts.{event_text, lines, end_text, count_name, count_at, count_text, closing}
-use Rattle.lk_forms.specs.declared.limits.TheConstants.{MAX_ACTS}
-use Rattle.lk_stream.specs.Grammar.{Place, placed, next_place, says_from, unless_refused, Good}
+use Rattle.lk_forms.specs.Texts.{event_text, lines}
+use Rattle.lk_stream.specs.Grammar.{Place, placed, next_place, says_from, unless_refused}
 use Rattle.lk_stream.proofs.Pieces.{pieces_at_feed, line_of_feed}
-use Rattle.lk_audit_forms.specs.Parts.{spaced, parts, plain_number}
+use Rattle.lk_audit_forms.specs.Parts.{spaced}
 use Rattle.lk_audit_forms.specs.EventLines.{event_of_words, event_told}
 use Rattle.lk_audit_forms.specs.Exact.{IsTold}
 use Rattle.lk_audit_forms.specs.Ranges.{checked, read_event}
-use Rattle.lk_audit_forms.specs.Closing.{closing_lines, as_told, open_words, line_told, count_line}
+use Rattle.lk_audit_forms.specs.Closing.{as_told, open_words}
 use Rattle.lk_audit_forms.specs.Grammar.{Said, last_act, said_on, read, audit_grammar}
-use Rattle.lk_audit_forms.specs.declared.answers.Told.TheVariants as told
-use Rattle.lk_audit_forms.proofs.Marks.{lacks, parts_all, decimal_lacks}
-use Rattle.lk_audit_forms.proofs.Numbers.{plain_printed}
 use Rattle.lk_audit_forms.proofs.Events.{printed_is_read}
 use Rattle.lk_audit.proofs.Told.{last_act-push}
-use Rattle.lk_audit_law.proofs.Plain.{IsPlain, both, widen, word, number, event_line, event_line_is, event_plain, no_feed}
+use Rattle.lk_audit_law.proofs.Plain.{IsPlain, event_line, event_line_is, event_plain, no_feed}
 use Rattle.lk_audit_law.proofs.Histories.{AreTold}
 
 -- an auditor at this place takes this text, and then knows this

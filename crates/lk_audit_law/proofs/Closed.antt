@@ -1,20 +1,18 @@
 -- What an auditor makes of the closing lines.
-use Rattle.std.proofs.Common.{Bool, true, false, ◌≡◌, ◌≤◌, ◌<◌, ◌+◌, ◌-◌, ◌==◌, ◌++◌, ◌&&◌, ◌^◌, ℕ, zero, suc, List, [], ◌∷◌, Option, None, Some, Result, Ok, Err, length, nat_lt, nat_le, is_some, refl, sym, ap, subst, ◌∙◌, arith, append_assoc, append-nil, codes, decimal, if◌then◌else◌}
+use Rattle.std.proofs.Common.{true, false, ◌≡◌, ◌≤◌, ◌<◌, ◌+◌, ◌-◌, ◌==◌, ◌++◌, ◌^◌, ℕ, suc, List, [], ◌∷◌, Ok, length, nat_lt, nat_le, refl, sym, ap, subst, ◌∙◌, arith, append_assoc, append-nil, codes, decimal}
 use Rattle.std.proofs.lemmas.Bool.Decides.{nat_tests}
 use Rattle.std.proofs.lemmas.List.{length-append}
-use Rattle.std.specs.Prelude.{⊤}
 use Rattle.std.specs.Str.{bytes_eq}
 use Rattle.std.specs.List.{flat_map}
 use Rattle.lk_rows.specs.Run.{Occurrence}
 use Rattle.lk_machine.specs.Ready.{CountsWithin}
-use Rattle.lk_rows.specs.declared.setup.Setup.{Setup}
 use Rattle.lk_rows.specs.declared.parts.Counts.{Counts}
 use Rattle.lk_text.specs.declared.reader.TheConstants.{MAX_INPUT}
 use Rattle.lk_forms.specs.Grammar.{Reading, has_go}
 use Rattle.lk_forms.specs.Texts.{end_text, count_name, count_at, count_text, closing}
 use Rattle.lk_forms.specs.declared.limits.TheConstants.{MAX_ACTS}
 use Rattle.lk_stream.specs.Grammar.{Place}
-use Rattle.lk_audit_forms.specs.Parts.{spaced, plain_number}
+use Rattle.lk_audit_forms.specs.Parts.{spaced}
 use Rattle.lk_audit_forms.specs.Closing.{closing_lines, open_words, line_told, count_line, count_words}
 use Rattle.lk_audit_forms.specs.Parts.{two_words}
 use Rattle.lk_audit_forms.specs.Grammar.{Said, last_act, said_on, read}

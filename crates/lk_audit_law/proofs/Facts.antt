@@ -1,6 +1,6 @@
 -- What an act of a machine that shows a history tells is of the machine's setup.
-use Rattle.std.proofs.Common.{◌≡◌, ◌≤◌, ◌<◌, ◌-◌, ◌&&◌, ◌⊎◌, ℕ, zero, suc, List, [], ◌∷◌, Option, Some, None, Bool, true, false, length, inl, inr, refl, sym, ap, subst, ◌∙◌, arith, slice_get, nat_lt, not, unwrap_or}
-use Rattle.std.specs.Prelude.{⊤, if◌then◌else◌}
+use Rattle.std.proofs.Common.{◌≡◌, ◌<◌, ◌-◌, ◌⊎◌, ℕ, zero, suc, List, [], ◌∷◌, Option, Some, None, Bool, true, false, length, inl, inr, refl, sym, ap, subst, ◌∙◌, arith, slice_get, nat_lt, unwrap_or}
+use Rattle.std.specs.Prelude.{⊤}
 use Rattle.std.proofs.lemmas.Bool.{cases_Bool}
 use Rattle.std.proofs.lemmas.Bool.Decides.{nat_tests}
 use Rattle.lk_abs.specs.History.{LockHistory, lock_of}
@@ -19,22 +19,20 @@ use Rattle.lk_rows.specs.declared.setup.Verb.TheVariants as verb
 use Rattle.lk_rows.specs.declared.parts.Frame.{Frame}
 use Rattle.lk_rows.specs.declared.parts.Pc.{Pc}
 use Rattle.lk_rows.specs.declared.parts.Pc.TheVariants.{W6, E12, R1, R2, R3, R4, R5, Wr1, Wr2, Wr3, Wr4, Wr5, Wr6, Y1, Y2, Y3, Y4, Y5, Z1, Z2}
-use Rattle.lk_rows.specs.Machine.{Machine, cpu_at, frame_at, depth_at, top_of, top_frame, halted_at, HasTop, HasNode, rest_frame}
-use Rattle.lk_rows.specs.Moves.{node_of, rw_name, program_of}
+use Rattle.lk_rows.specs.Machine.{Machine, cpu_at, frame_at, depth_at, top_of, top_frame, HasTop, rest_frame}
+use Rattle.lk_rows.specs.Moves.{node_of}
 use Rattle.lk_rows.specs.Programs.{kind_of}
-use Rattle.lk_rows.specs.Row.{Tell, Nothing, Says, Passes, event_of}
-use Rattle.lk_rows.specs.TopRow.{Target, SpinWord, QueueWord, Queued, FlagOf, NextOf, ChoiceWord}
-use Rattle.lk_rows.specs.TopRow.{ChoiceFlag, ChoiceNext, SecondTailOf, RunsOf, PvWord, PvFlag}
-use Rattle.lk_rows.specs.TopRow.{PvNext, StateOf, HashEntry, Halted, KickOf, RwWord, target, row_on, row_at}
+use Rattle.lk_rows.specs.Row.{Tell, event_of}
+use Rattle.lk_rows.specs.TopRow.{Target, SpinWord}
+use Rattle.lk_rows.specs.TopRow.{RwWord, target, row_on}
 use Rattle.lk_law.specs.Families.{is_rw_row}
-use Rattle.lk_law.specs.Places.{post_of, post_if}
+use Rattle.lk_law.specs.Places.{post_if}
 use Rattle.lk_law.specs.Pv.{at_halt}
-use Rattle.lk_law.specs.SpinWorld.{HasSleeper}
-use Rattle.lk_law.specs.Sound.{world, BelongsTo, RwBelongs, takes_wait, Footing, Spinning, Sharing, Waiting, Freeing, Owing, Works, Fits, ShowsAll}
+use Rattle.lk_law.specs.Sound.{BelongsTo, RwBelongs, takes_wait, Footing, Spinning, Sharing, Waiting, Freeing, Owing, Fits, ShowsAll}
 use Rattle.lk_forms.specs.Grammar.{cpus_of}
 use Rattle.lk_audit_forms.specs.Exact.{IsWriters}
-use Rattle.lk_audit_forms.specs.Ranges.{is_waiter_of, names_of, is_lock_of, is_spinning, is_shared, is_either, of_kind, fits_lock}
-use Rattle.lk_audit_law.proofs.Tells.{IsSpinTold, IsRwTold, SpinTells, RwTells, TellsOf, tell_on, row_tells}
+use Rattle.lk_audit_forms.specs.Ranges.{is_lock_of, is_spinning, is_shared, is_either, of_kind, fits_lock}
+use Rattle.lk_audit_law.proofs.Tells.{IsSpinTold, IsRwTold, SpinTells, TellsOf, tell_on}
 
 -- the processors that an event names beside its own are there; of a handover nothing is said
 abbrev pub IsNamed : ℕ → What → Type 0

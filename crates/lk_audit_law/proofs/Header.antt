@@ -1,16 +1,15 @@
 -- The header of a trace, read by the grammar of traces and by that of audits.
-use Rattle.std.proofs.Common.{Bool, true, false, ◌≡◌, ◌≤◌, ◌<◌, ◌+◌, ◌++◌, ◌^◌, ◌&&◌, ◌⊎◌, ℕ, List, [], ◌∷◌, Option, None, Some, Result, Ok, Err, length, map, fold, nat_lt, nat_le, inl, inr, refl, sym, ap, subst, ◌∙◌, append_assoc, append-nil, arith, if◌then◌else◌}
+use Rattle.std.proofs.Common.{Bool, true, false, ◌≡◌, ◌+◌, ◌++◌, ◌&&◌, ℕ, List, [], ◌∷◌, Option, None, Some, Result, Ok, Err, length, map, fold, nat_lt, nat_le, inl, inr, refl, sym, ap, subst, ◌∙◌, append_assoc, append-nil, if◌then◌else◌}
 use Rattle.std.proofs.lemmas.Bool.{cases_Bool}
-use Rattle.std.proofs.lemmas.Bool.Decides.{nat_tests}
 use Rattle.std.proofs.lemmas.List.{map-append, length-append}
 use Rattle.std.proofs.lemmas.List.Sums.{fold-append}
 use Rattle.std.specs.Result.{result_unwrap_or, result_err}
 use Rattle.lk_abs.specs.declared.events.Act.{Act}
 use Rattle.lk_rows.specs.declared.setup.Setup.{Setup}
 use Rattle.lk_text.specs.Feeds.{line_of}
-use Rattle.lk_forms.specs.Grammar.{cpus_of, Reading, reading_of, next_reading, nothing_read, scheduled, last_rank, has_go, has_end, ending, refusal_of_line}
+use Rattle.lk_forms.specs.Grammar.{cpus_of, Reading, reading_of, next_reading, nothing_read, scheduled, has_go, has_end, ending, refusal_of_line}
 use Rattle.lk_forms.specs.Grammar.{read as read_trace}
-use Rattle.lk_forms.specs.Trace.{Trace, Good, Refused, refusal, reading_after, setup_of, acts_of, bytes_of, trace_end, unless_refused, trace_from, trace}
+use Rattle.lk_forms.specs.Trace.{Good, Refused, refusal, reading_after, setup_of, acts_of, bytes_of, unless_refused, trace_from}
 use Rattle.lk_text.specs.declared.reader.TheConstants.{MAX_INPUT, MAX_LINE}
 use Rattle.lk_forms.specs.declared.answers.Which.TheVariants.{Line, Input}
 use Rattle.lk_forms.specs.declared.answers.LineRefusal.{LineRefusal}

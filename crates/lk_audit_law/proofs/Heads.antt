@@ -1,5 +1,5 @@
 -- The header of an accepted trace is of whole lines.
-use Rattle.std.proofs.Common.{Bool, true, false, ◌≡◌, ◌≢◌, ◌≤◌, ◌+◌, ◌==◌, ◌++◌, not, ℕ, List, [], ◌∷◌, length, refl, sym, ap, subst, ◌∙◌, arith, if◌then◌else◌}
+use Rattle.std.proofs.Common.{Bool, true, false, ◌≡◌, ◌≢◌, ◌≤◌, ◌+◌, ◌==◌, ◌++◌, ℕ, List, [], ◌∷◌, length, refl, sym, ap, subst, arith, if◌then◌else◌}
 use Rattle.std.proofs.lemmas.Bool.{ne_eqb, eq-eqb}
 use Rattle.std.proofs.lemmas.Bool.Decides.{nat_tests}
 use Rattle.std.specs.Prelude.{⊤}
@@ -7,7 +7,7 @@ use Rattle.std.specs.List.{onto_first}
 use Rattle.lk_abs.specs.declared.events.Act.{Act}
 use Rattle.lk_rows.specs.declared.setup.Setup.{Setup}
 use Rattle.lk_text.specs.Feeds.{HasNoFeed, pieces}
-use Rattle.lk_forms.specs.Grammar.{Reading, last_rank, has_end, ending}
+use Rattle.lk_forms.specs.Grammar.{last_rank, has_end, ending}
 use Rattle.lk_forms.specs.Trace.{Good, Refused, reading_after, setup_of, acts_of, trace_from}
 use Rattle.lk_forms.specs.declared.answers.LineRefusal.TheVariants.{Bad}
 use Rattle.lk_stream.specs.Reads.{AllWhole}

@@ -1,10 +1,10 @@
 -- Each event of a run from rest is one that its line tells an auditor.
-use Rattle.std.proofs.Common.{Bool, true, false, ◌≡◌, ◌≤◌, ◌<◌, ◌+◌, ◌-◌, ◌++◌, ◌&&◌, ◌^◌, ℕ, zero, suc, List, [], ◌∷◌, Option, Some, None, Result, Ok, IfSome, length, nat_lt, nat_le, slice_get, refl, sym, ap, subst, ◌∙◌, arith, append_assoc, append-nil, codes, if◌then◌else◌}
+use Rattle.std.proofs.Common.{true, ◌≡◌, ◌≤◌, ◌<◌, ◌+◌, ◌++◌, ◌^◌, ℕ, zero, suc, List, [], ◌∷◌, Option, Some, None, Ok, length, nat_lt, nat_le, slice_get, refl, sym, ap, subst, ◌∙◌, arith, append_assoc, append-nil}
 use Rattle.std.proofs.lemmas.Bool.Decides.{nat_tests}
 use Rattle.std.proofs.lemmas.List.{length-append}
 use Rattle.std.specs.Prelude.{⊤}
 use Rattle.lk_abs.specs.History.{lock_of, history_of}
-use Rattle.lk_abs.specs.Lawful.{Rules, IsLawful, lawful_moves}
+use Rattle.lk_abs.specs.Lawful.{Rules, IsLawful}
 use Rattle.lk_abs.specs.declared.names.Waiter.{Waiter}
 use Rattle.lk_abs.specs.declared.names.LockName.{LockName}
 use Rattle.lk_abs.specs.declared.events.Act.{Act}
@@ -21,11 +21,9 @@ use Rattle.lk_rows.specs.Rules.{rules_of}
 use Rattle.lk_law.specs.Kicked.{with_event}
 use Rattle.lk_law.specs.MachineLaws.{ShowsLawful, ActKeeps, AreInRange}
 use Rattle.lk_forms.specs.Grammar.{cpus_of}
-use Rattle.lk_forms.specs.Texts.{event_text}
 use Rattle.lk_forms.specs.declared.limits.TheConstants.{MAX_ACTS}
-use Rattle.lk_audit_forms.specs.EventLines.{event_told}
 use Rattle.lk_audit_forms.specs.Exact.{IsShortLock, IsShortWaiter, IsTellable, IsTold}
-use Rattle.lk_audit_forms.specs.Ranges.{is_waiter_of, names_of, is_lock_of, is_in_setup, checked, read_event}
+use Rattle.lk_audit_forms.specs.Ranges.{is_waiter_of, names_of, is_lock_of, checked}
 use Rattle.lk_audit_forms.proofs.Events.{printed_is_read}
 use Rattle.lk_audit_law.specs.Read.{AreRead}
 use Rattle.lk_audit_law.proofs.Facts.{IsOf, IsNamed, IsWritten}

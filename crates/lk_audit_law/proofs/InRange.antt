@@ -1,6 +1,5 @@
 -- The acts of a trace are in range.
-use Rattle.std.proofs.Common.{Bool, true, false, ◌≡◌, ◌≤◌, ◌<◌, ◌+◌, ◌++◌, map, ℕ, zero, suc, List, [], ◌∷◌, Option, None, Some, Result, Ok, Err, length, nat_lt, nat_le, replicate, refl, sym, ap, subst, ◌∙◌, arith, append-nil, if◌then◌else◌}
-use Rattle.std.proofs.lemmas.Bool.Decides.{nat_tests}
+use Rattle.std.proofs.Common.{Bool, true, false, ◌≡◌, ◌≤◌, ◌<◌, ◌+◌, ◌++◌, map, ℕ, zero, suc, List, [], ◌∷◌, Result, Ok, Err, length, replicate, refl, sym, ap, subst, ◌∙◌, arith, if◌then◌else◌}
 use Rattle.std.proofs.lemmas.List.{length-append, length-replicate}
 use Rattle.lk_abs.specs.declared.events.Act.{Act}
 use Rattle.lk_rows.specs.Acts.{processor_of}
@@ -17,7 +16,7 @@ use Rattle.lk_forms.specs.declared.answers.LineRefusal.TheVariants.{Bad}
 use Rattle.lk_forms.specs.declared.answers.Sched.{Sched}
 use Rattle.lk_forms.specs.declared.answers.Sched.TheVariants as sched
 use Rattle.lk_forms.proofs.ScheduleLemmas.{schedule-reads, schedule-within}
-use Rattle.lk_audit_law.proofs.Header.{IsRead, good_step, reading_next, step_gone}
+use Rattle.lk_audit_law.proofs.Header.{good_step, reading_next, step_gone}
 
 -- the acts are those of processors of the setup, and not too many
 pub record IsFine (setup : Setup) (acts : List Act) : Type 0 where

@@ -1,10 +1,9 @@
 -- What is printed for an event is one short line.
-use Rattle.std.proofs.Common.{Bool, true, false, ◌≡◌, ◌≤◌, ◌<◌, ◌+◌, ◌==◌, ◌++◌, ◌^◌, not, ℕ, zero, suc, List, [], ◌∷◌, Option, None, Some, IfSome, length, nat_le, refl, sym, ap, subst, ◌∙◌, arith, append_assoc, codes, decimal, if◌then◌else◌}
+use Rattle.std.proofs.Common.{Bool, true, false, ◌≡◌, ◌≤◌, ◌<◌, ◌+◌, ◌==◌, ◌++◌, ◌^◌, not, ℕ, zero, suc, List, [], ◌∷◌, Option, None, Some, IfSome, length, nat_le, refl, sym, ap, subst, ◌∙◌, arith, append_assoc, codes, decimal}
 use Rattle.std.proofs.lemmas.Bool.{eq-eqb}
 use Rattle.std.proofs.lemmas.Bool.Decides.{nat_tests}
 use Rattle.std.proofs.lemmas.List.{length-append}
 use Rattle.std.proofs.lemmas.List.Folds.{list_all-append}
-use Rattle.std.specs.List.{list_all}
 use Rattle.lk_abs.specs.declared.names.Waiter.{Waiter}
 use Rattle.lk_abs.specs.declared.names.LockName.{LockName}
 use Rattle.lk_abs.specs.declared.events.Event.{Event}
@@ -18,7 +17,7 @@ use Rattle.lk_text.specs.Feeds.{HasNoFeed}
 use Rattle.lk_text.proofs.NumberLemmas.{and_split}
 use Rattle.lk_forms.specs.Texts.{how_text, rw_text, wait_mark, lock_text, waiter_text, owing_text, moved_text, what_text, event_text}
 use Rattle.lk_forms.proofs.TextParts.{moved_more}
-use Rattle.lk_forms.proofs.Decimals.{decimal_small, decimal_short}
+use Rattle.lk_forms.proofs.Decimals.{decimal_short}
 use Rattle.lk_audit_forms.specs.Exact.{IsShortLock, IsShortWaiter, IsTellable, IsTold}
 use Rattle.lk_audit_forms.proofs.Marks.{lacks, decimal_lacks}
 

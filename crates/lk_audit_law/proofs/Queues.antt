@@ -1,5 +1,5 @@
 -- Who stands in a queue has arrived, and there are no more of them than events.
-use Rattle.std.proofs.Common.{Bool, true, false, ◌≡◌, ◌≤◌, ◌<◌, ◌+◌, ◌-◌, ◌++◌, ℕ, zero, suc, List, [], ◌∷◌, Option, Some, None, length, map, replicate, take, drop, min, refl, sym, ap, subst, ◌∙◌, arith, slice_get, length-append, length-drop, if◌then◌else◌}
+use Rattle.std.proofs.Common.{Bool, true, false, ◌≡◌, ◌≤◌, ◌+◌, ◌++◌, ℕ, zero, suc, List, [], ◌∷◌, Some, length, take, drop, refl, sym, ap, subst, arith, slice_get, length-append, length-drop, if◌then◌else◌}
 use Rattle.std.proofs.lemmas.List.{length-take}
 use Rattle.std.specs.Prelude.{⊤}
 use Rattle.lk_abs.specs.History.{LockHistory, no_history, changed, taken, told, told_all, history_of, lock_of, is_on, passed, rejoined}

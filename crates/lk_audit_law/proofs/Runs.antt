@@ -1,5 +1,5 @@
 -- A run from rest is read.
-use Rattle.std.proofs.Common.{◌≡◌, ◌≤◌, ◌+◌, ℕ, List, [], ◌∷◌, length, refl, ◌∙◌, subst, arith}
+use Rattle.std.proofs.Common.{◌≡◌, ◌≤◌, List, [], ◌∷◌, length, refl, ◌∙◌, subst, arith}
 use Rattle.lk_abs.specs.declared.events.Act.{Act}
 use Rattle.lk_rows.specs.Machine.{Machine}
 use Rattle.lk_rows.specs.Acts.{next}

@@ -14,7 +14,7 @@ use Rattle.lk_rows.specs.declared.parts.Frame.{Frame}
 use Rattle.lk_rows.specs.declared.parts.State.{State}
 use Rattle.lk_rows.specs.declared.parts.Pc.{Pc}
 use Rattle.lk_rows.specs.declared.parts.Pc.TheVariants.{F1, T1, T2, U1, V2, P4, G3, G4, G6, G8, G9, G10, G11}
-use Rattle.lk_rows.specs.declared.parts.Pc.TheVariants.{N2, C1, C2, C3, C6, C7, C8, C9, C10, H2, W2, W4, W6, W7}
+use Rattle.lk_rows.specs.declared.parts.Pc.TheVariants.{N2, C1, C2, C3, C7, C8, C9, C10, H2, W2, W4, W6, W7}
 use Rattle.lk_rows.specs.declared.parts.Pc.TheVariants.{E4, E7, E12, E13, E14, E15, K1, U2, U4, U5}
 use Rattle.lk_rows.specs.declared.parts.Pc.TheVariants.{R1, R2, R5, Wr1, Wr3, Wr6, Y1, Y2, Y3, Y4, Y5, Z1, Z2}
 use Rattle.lk_rows.specs.Machine.{Machine, node_at, word_at, entry_at, halted_at, kicked_at, queued_at, rw_at}
@@ -22,7 +22,7 @@ use Rattle.lk_rows.specs.Moves.{node_of, rw_name}
 use Rattle.lk_rows.specs.Row.{Effect, Tell, Nothing, Says, Passes}
 use Rattle.lk_rows.specs.TopRow.{Target, SpinWord, QueueWord, Queued, FlagOf, NextOf, ChoiceWord}
 use Rattle.lk_rows.specs.TopRow.{ChoiceFlag, ChoiceNext, SecondTailOf, RunsOf, PvWord, PvFlag}
-use Rattle.lk_rows.specs.TopRow.{PvNext, StateOf, HashEntry, Halted, KickOf, RwWord, target, sight_at}
+use Rattle.lk_rows.specs.TopRow.{PvNext, StateOf, HashEntry, Halted, KickOf, RwWord, sight_at}
 use Rattle.lk_rows.specs.rows.Spin.{spin_row, is_free, is_unlocked}
 use Rattle.lk_rows.specs.rows.Queue.{queue_row, entry_row, flag_row, next_row, is_sole}
 use Rattle.lk_rows.specs.rows.Cna.{Sight, may_stay, after_none, is_last, is_held, search_row}
