@@ -21,7 +21,7 @@ use Rattle.lk_waits.specs.Waits.{IsAtBay, IsBarred}
 use Rattle.lk_waits.specs.Waits as waits
 use Rattle.lk_progress.specs.Ordered.{IsOrdered}
 use Rattle.lk_waits.specs.Order.{level_of}
-use Rattle.lk_progress.specs.Runs.{IsFinished, OrderedRunsGoOnAside}
+use Rattle.lk_progress.specs.Runs.{IsFinished, OrderedRunsGoOnAside, SomebodyLeadsOnAside}
 use Rattle.lk_progress.specs.Spots.{TurnsOnTheSpot}
 use Rattle.lk_waits.proofs.ClimbAside.{at_bay_wait_for_outside}
 use Rattle.lk_waits.specs.Aside.{IsFollowedAside}
@@ -115,3 +115,11 @@ ordered_runs_go_on_aside rank size setup acts ok ordered awake plain has_room ra
     finished_aside rank size setup ordered awake plain (machine_after (at_rest setup) acts)
     (reached_from_rest (IsAwake true) IsFollowedAside kept_aside setup acts ok (awake, plain) (λ e. has_room) range)
     unpreempted still p within
+
+pub somebody_leads_on_aside : SomebodyLeadsOnAside
+somebody_leads_on_aside rank size setup acts ok ordered awake plain has_room range unpreempted =
+    elim (goes_on_aside rank size setup ordered awake plain (machine_after (at_rest setup) acts)
+    (reached_from_rest (IsAwake true) IsFollowedAside kept_aside setup acts ok (awake, plain) (λ e. has_room) range) unpreempted) [
+      | inl all ↦ inl all
+      | inr z ↦ inr (record { processor = z.0; inside = z.1; moves = z.2.changes; off = z.2.off })
+    ]

@@ -98,6 +98,25 @@ OrderedRunsGoOnAside = (rank : ℕ → ℕ) (size : ℕ) (setup : Setup) (acts :
     → (p : ℕ) → p < length (machine_after (at_rest setup) acts).cpus
     → IsFinished (machine_after (at_rest setup) acts) p
 
+-- the next step of some processor changes the machine, and is not that of a head that turns on the spot
+pub record SomebodyMovesAside (m : Machine) : Type 0 where
+  pub processor : ℕ
+  pub inside : processor < length m.cpus
+  pub moves : (next m (Step processor)).0 ≢ m
+  pub off : TurnsOnTheSpot m processor → ⊥
+
+-- The same said outright: every processor has finished, or the next step of some processor does so.
+abbrev pub SomebodyLeadsOnAside : Type 0
+SomebodyLeadsOnAside = (rank : ℕ → ℕ) (size : ℕ) (setup : Setup) (acts : List Act)
+    → IsLawfulSetup setup → IsOrdered rank size setup
+    → halts setup.mode ≡ false → moves_aside setup.mode ≡ true → HasRoom setup
+    → AreInRange (length setup.topology.sockets.items) acts
+    → ((p : ℕ) → p < length (machine_after (at_rest setup) acts).cpus
+    → preempted_at (machine_after (at_rest setup) acts) p ≡ false)
+    → ((p : ℕ) → p < length (machine_after (at_rest setup) acts).cpus
+    → IsFinished (machine_after (at_rest setup) acts) p)
+    ⊎ SomebodyMovesAside (machine_after (at_rest setup) acts)
+
 -- The newest frame of the processor is that of a head of `pv` that goes around without halting: another has
 -- stolen its lock, and does not know that the head is in the hash.
 pub record GoesAround (m : Machine) (p : ℕ) : Type 0 where

@@ -8,7 +8,7 @@ ghost use Rattle.lk_progress.specs.Turns.{TakesInTurn, NobodyWatchesAnew};
 ghost use Rattle.lk_progress.specs.InTurn.{FewTakesBefore, FewerUnwatched, FewTakesFromArrival};
 ghost use Rattle.lk_progress.specs.InTurn.{FewTakesAside, FewTakesAsideFromArrival};
 ghost use Rattle.lk_progress.specs.Runs.{OrderedRunsGoOn, OrderedRunsGoOnAside, SomebodyMovesOn, RunsEnd, NativeRunsEnd};
-ghost use Rattle.lk_progress.specs.Runs.{OrderedRunsGoOnHalting, SomebodyLeadsOnHalting};
+ghost use Rattle.lk_progress.specs.Runs.{OrderedRunsGoOnHalting, SomebodyLeadsOnAside, SomebodyLeadsOnHalting};
 
 /// No schedule of an ordered setup of `virt` or `native` comes to a deadlock. In the machine after
 /// any schedule, if no processor is preempted and no step of any processor changes anything, every
@@ -23,6 +23,7 @@ pub fn ordered_runs_go_on()
     ensures stuck { OrderedRunsGoOn }
     ensures moves { SomebodyMovesOn }
     ensures aside { OrderedRunsGoOnAside }
+    ensures leads_aside { SomebodyLeadsOnAside }
     ensures halting { OrderedRunsGoOnHalting }
     ensures leads { SomebodyLeadsOnHalting }
 {}
