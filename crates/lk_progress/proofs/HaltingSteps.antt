@@ -43,7 +43,7 @@ use Rattle.lk_progress.proofs.RunsHalting.{row_halts, step_is, kept_served, fini
 use Rattle.lk_waits.proofs.Stands.{still_R2, still_R5, still_Wr5}
 use Rattle.lk_progress.proofs.Still.{set_top_same, stays_same}
 
-bool_same : (a b : Bool) → (a ≡ b) ⊎ (a ≢ b)
+pub bool_same : (a b : Bool) → (a ≡ b) ⊎ (a ≢ b)
 bool_same true true = inl refl
 bool_same false false = inl refl
 bool_same true false = inr (λ e. cc e)
@@ -59,7 +59,7 @@ glance_same me x = by (is_unlocked x.locked && not x.pending) (is_some x.tail &&
     by false false None = inl refl
     by false false (Some n) = inr (λ e. cc e)
 
-held_same : (b : Locked) → (b ≡ Held) ⊎ (b ≢ Held)
+pub held_same : (b : Locked) → (b ≡ Held) ⊎ (b ≢ Held)
 held_same b = elim (cases_Bool (is_held b)) [ inl e ↦ inl (grind (arith, e)) | inr e ↦ inr (λ q. let z = ap is_held q in cc (z, e)) ]
 
 module _ (m : Machine) (hs : LockName → LockHistory) (shows : ShowsAll m hs) (on : halts m.setup.mode ≡ true) (p : ℕ)
@@ -77,7 +77,7 @@ module _ (m : Machine) (hs : LockName → LockHistory) (shows : ShowsAll m hs) (
   Stays c = waits.StandsStill (world m) (top_of m p) f c
 
   -- a poll leaves the machine as it was, or its frame moves
-  polled : (c : Pc) → f.place ≡ Some c → looks_on c ≡ true
+  pub polled : (c : Pc) → f.place ≡ Some c → looks_on c ≡ true
       → ((row_on m p f c (target c f)).0 ≡ m) ⊎ (Stays c → ⊥)
   polled H1 at l = elim (glance_same f.me (word_at m f.lock)) [
     | inr ne ↦ inr (λ still.

@@ -31,3 +31,4 @@ pub mod InTurnAside
 pub mod RunsAside
 pub mod RunsHalting
 pub mod HaltingSteps
+pub mod halting

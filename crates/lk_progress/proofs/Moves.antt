@@ -95,7 +95,7 @@ settled_is n p h top = by (slice_get (program_of n p h) h.«at»)
 abbrev pub Turned : Mode → Frame → Frame → Option Frame → Type 0
 Turned mode f d o = ((o ≡ Some d) × (d.program ≡ f.program) × (d.ctx ≡ f.ctx) × (d.place ≢ None))
     ⊎ ((d.place ≡ None) × ((h : Frame) × (h.program ≡ f.program) × (h.ctx ≡ f.ctx) × (f.«at» < h.«at»)
-    × Settles mode h o))
+    × Settles mode h o × (h.left ≡ f.left)))
 
 pub record Moves (n : Machine) (w : Waiter) (f d : Frame) (k : Machine) : Type 0 where
   pub now : Option Frame
@@ -112,10 +112,10 @@ set_is n p f d top a b c =
     }
 
 settles_is : (n : Machine) (p : ℕ) (f d h : Frame) → HasTop n p → d.place ≡ None → h.program ≡ f.program
-    → h.ctx ≡ f.ctx → f.«at» < h.«at» → Moves n (top_of n p) f d (settled n p h)
-settles_is n p f d h top e a b lt =
+    → h.ctx ≡ f.ctx → f.«at» < h.«at» → h.left ≡ f.left → Moves n (top_of n p) f d (settled n p h)
+settles_is n p f d h top e a b lt left =
     let s = settled_is n p h top in
-    record { now = s.now; follows = s.follows; turned = inr (e, (h, a, b, lt, s.settles)) }
+    record { now = s.now; follows = s.follows; turned = inr (e, (h, a, b, lt, s.settles, left)) }
 
 then_some : (f : Frame) → IsThen f.then → f.then ≢ None
 then_some f (inl e) z = let y = sym e ∙ z in cc y
@@ -139,7 +139,7 @@ granted_moves n p f c r inner =
     by true e = set_is n p f (led f Granted) top refl refl
         (λ z. then_some f (inner e) (ap (λ (b : Bool). if b then f.then else None) (sym e) ∙ z))
     by false e = settles_is n p f (led f Granted) (record f { «at» = f.«at» + 1 }) top
-        (ap (λ (b : Bool). if b then f.then else None) e) refl refl (omega arith)
+        (ap (λ (b : Bool). if b then f.then else None) e) refl refl (omega arith) refl
 
 word-set_node : (m : Machine) (n : NodeName) (x : Node) (l : LockName) → word_at (set_node m n x) l ≡ word_at m l
 unfolding set_node
@@ -227,13 +227,13 @@ moved_is n p f c r inner (Enters (Some a) d) =
 moved_is n p f c r inner Granted = granted_moves n p f c r inner
 moved_is n p f c r inner Freed =
     subst (λ (x : Machine). Moves n (top_of n p) f (led f Freed) x) (sym (done_is n p f r.live))
-    (settles_is n p f (led f Freed) (record f { «at» = f.«at» + 1 }) (r.whole.tops p r.range) refl refl refl (omega arith))
+    (settles_is n p f (led f Freed) (record f { «at» = f.«at» + 1 }) (r.whole.tops p r.range) refl refl refl (omega arith) refl)
 moved_is n p f c r inner Missed =
     subst (λ (x : Machine). Moves n (top_of n p) f (led f Missed) x) (sym (missed_is n p f r.live))
-    (settles_is n p f (led f Missed) (record f { «at» = f.«at» + skipped n p f }) (r.whole.tops p r.range) refl refl refl (omega arith))
+    (settles_is n p f (led f Missed) (record f { «at» = f.«at» + skipped n p f }) (r.whole.tops p r.range) refl refl refl (omega arith) refl)
 moved_is n p f c r inner Done =
     subst (λ (x : Machine). Moves n (top_of n p) f (led f Done) x) (sym (done_is n p f r.live))
-    (settles_is n p f (led f Done) (record f { «at» = f.«at» + 1 }) (r.whole.tops p r.range) refl refl refl (omega arith))
+    (settles_is n p f (led f Done) (record f { «at» = f.«at» + 1 }) (r.whole.tops p r.range) refl refl refl (omega arith) refl)
 moved_is n p f c r inner (TakesWait d) = set_is n p f (waiting f d) (r.whole.tops p r.range) refl refl (λ z. cc z)
 moved_is n p f c r inner Leaves =
     let k : Machine = left n p f in

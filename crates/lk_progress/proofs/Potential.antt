@@ -70,7 +70,7 @@ abbrev pub Lower : Machine → Machine → ℕ → Type 0
 Lower m n p = (n ≡ m) ⊎ (potential n < potential m) ⊎ Turning m n p ⊎ Staying m n p
 
 -- a lead leaves the position and the program of its frame
-led_at : (f : Frame) (lead : Lead) → ((led f lead).«at» ≡ f.«at») × ((led f lead).program ≡ f.program)
+pub led_at : (f : Frame) (lead : Lead) → ((led f lead).«at» ≡ f.«at») × ((led f lead).program ≡ f.program)
 led_at f (Goes c cs) = let s = same_changed_all f cs in (s.position, s.program)
 led_at f (Enters me c) = (refl, refl)
 led_at f Granted = (refl, refl)
@@ -81,11 +81,11 @@ led_at f (TakesWait c) = (refl, refl)
 led_at f Leaves = (refl, refl)
 led_at f (Yields c cs) = let s = same_changed_all f cs in (s.position, s.program)
 
-ops_left : (k n a b : ℕ) → a < n → a < b → (n - b) * k + k ≤ (n - a) * k
+pub ops_left : (k n a b : ℕ) → a < n → a < b → (n - b) * k + k ≤ (n - a) * k
 ops_left k n a b lt less = times_less k (n - b) (n - a) (omega (arith, lt, less))
 
 -- a frame that goes to another row leaves all nodes
-moved_goes : (n : Machine) (p : ℕ) (f : Frame) → HasTop n p → (lead : Lead) → goes lead ≡ true → (k : NodeName)
+pub moved_goes : (n : Machine) (p : ℕ) (f : Frame) → HasTop n p → (lead : Lead) → goes lead ≡ true → (k : NodeName)
     → node_at (moved n p f lead) k ≡ node_at n k
 moved_goes n p f top (Goes c cs) e k = ap (λ (y : World). y.node k) (world-set_top n p (gone f c cs) top)
 moved_goes n p f top (Enters me c) e k = cc e

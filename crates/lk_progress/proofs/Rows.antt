@@ -55,6 +55,8 @@ pub record Put (m n : Machine) (x : World) : Type 0 where
   pub rw : (i : ℕ) → rw_at n i ≡ x.rw i
   pub flags : (k : NodeName) → is_set (node_at n k).flag ≡ true → is_set (x.node k).flag ≡ true
   pub nodes : ((k : NodeName) → x.node k ≡ node_at m k) → (k : NodeName) → node_at n k ≡ node_at m k
+  pub links : ((k : NodeName) → (x.node k).next ≡ (node_at m k).next) → (k : NodeName) → (node_at n k).next ≡ (node_at m k).next
+  pub kept : ((k : NodeName) → (x.node k).flag ≡ (node_at m k).flag) → (k : NodeName) → (node_at n k).flag ≡ (node_at m k).flag
   pub kicked : (q : ℕ) → kicked_at n q ≡ x.kicked q
   pub halted : (q : ℕ) → halted_at n q ≡ x.halted q
 
@@ -66,6 +68,8 @@ put_by m n x s = record {
   rw = λ i. ap (λ (y : World). y.rw i) s.world;
   flags = λ k h. ap (λ (y : World). is_set (y.node k).flag) (sym s.world) ∙ h;
   nodes = λ h k. ap (λ (y : World). y.node k) s.world ∙ h k;
+  links = λ h k. ap (λ (y : World). (y.node k).next) s.world ∙ h k;
+  kept = λ h k. ap (λ (y : World). (y.node k).flag) s.world ∙ h k;
   kicked = λ q. ap (λ (y : World). y.kicked q) s.world;
   halted = λ q. ap (λ (y : World). y.halted q) s.world;
 }
@@ -82,12 +86,14 @@ put_counted m n x (c ∷ cs) s =
       rw = λ i. ap (λ (y : World). y.rw i) w ∙ s.rw i;
       flags = λ i h. s.flags i (ap (λ (y : World). is_set (y.node i).flag) (sym w) ∙ h);
       nodes = λ h k. ap (λ (y : World). y.node k) w ∙ s.nodes h k;
+      links = λ h k. ap (λ (y : World). (y.node k).next) w ∙ s.links h k;
+      kept = λ h k. ap (λ (y : World). (y.node k).flag) w ∙ s.kept h k;
       kicked = λ q. ap (λ (y : World). y.kicked q) w ∙ s.kicked q;
       halted = λ q. ap (λ (y : World). y.halted q) w ∙ s.halted q;
     }
 
 put_self : (m : Machine) → Put m m (world m)
-put_self m = record { same = same_self m; frames = λ u. refl; words = λ l. refl; rw = λ i. refl; flags = λ k h. h; nodes = λ h k. refl; kicked = λ q. refl; halted = λ q. refl }
+put_self m = record { same = same_self m; frames = λ u. refl; words = λ l. refl; rw = λ i. refl; flags = λ k h. h; nodes = λ h k. refl; links = λ h k. refl; kept = λ h k. refl; kicked = λ q. refl; halted = λ q. refl }
 
 word-set_node : (m : Machine) (n : NodeName) (x : Node) (l : LockName) → word_at (set_node m n x) l ≡ word_at m l
 unfolding set_node
@@ -107,6 +113,24 @@ set_node_self m n =
     (set_get_self (cpu_at m n.cpu).nodes n.index rest_node)
     ∙ ap (λ (xs : List CpuState). record m { cpus = xs }) (set_get_self m.cpus n.cpu no_cpu)
 
+-- a list in which one element becomes another that is like it
+pub set_like : {A B : Type 0} (F : A → B) (xs : List A) (d : A) (i j : ℕ) (y : A) → F y ≡ F (get_or xs i d)
+    → F (get_or (set xs i y) j d) ≡ F (get_or xs j d)
+set_like F [] d i j y e = refl
+set_like F (x ∷ xs) d zero zero y e = e
+set_like F (x ∷ xs) d zero (suc j) y e = refl
+set_like F (x ∷ xs) d (suc i) zero y e = refl
+set_like F (x ∷ xs) d (suc i) (suc j) y e = set_like F xs d i j y e
+
+-- a node that becomes one which is like it
+node_like : {A : Type 0} (F : Node → A) (m : Machine) (n k : NodeName) (y : Node) → F y ≡ F (node_at m n)
+    → F (node_at (set_node m n y) k) ≡ F (node_at m k)
+unfolding set_node set_cpu cpu_at node_at
+node_like F m n k y e =
+    set_like (λ (c : CpuState). F (get_or c.nodes k.index rest_node)) m.cpus no_cpu n.cpu k.cpu
+    (record (cpu_at m n.cpu) { nodes = set (cpu_at m n.cpu).nodes n.index y })
+    (set_like F (cpu_at m n.cpu).nodes rest_node n.index k.index y e)
+
 put_at : (m : Machine) (n : NodeName) (x : Node) → Put m (set_node m n x) (put_node (world m) n x)
 put_at m n x = record {
   same = same_set_node m n x;
@@ -122,6 +146,10 @@ put_at m n x = record {
   nodes = λ h k. ap (λ (y : Node). node_at (set_node m n y) k)
       (sym (if-true (same_node n n) x (node_at m n) (same_node-self n)) ∙ h n)
       ∙ ap (λ (y : Machine). node_at y k) (set_node_self m n);
+  links = λ h k. node_like (λ (y : Node). y.next) m n k x
+      (ap (λ (y : Node). y.next) (sym (if-true (same_node n n) x (node_at m n) (same_node-self n))) ∙ h n);
+  kept = λ h k. node_like (λ (y : Node). y.flag) m n k x
+      (ap (λ (y : Node). y.flag) (sym (if-true (same_node n n) x (node_at m n) (same_node-self n))) ∙ h n);
   kicked = kicked-set_node m n x;
   halted = halted-set_node m n x;
 }

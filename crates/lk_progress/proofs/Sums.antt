@@ -84,3 +84,32 @@ pub times_less : (k a b : ℕ) → a < b → a * k + k ≤ b * k
 times_less k a zero lt = absurd (omega (arith, lt))
 times_less k zero (suc b) lt = omega arith
 times_less k (suc a) (suc b) lt = let h = times_less k a b (omega (arith, lt)) in omega (arith, h)
+
+-- none is more
+pub sum_most_of : (n : ℕ) (F G : ℕ → ℕ) → ((i : ℕ) → G i ≤ F i) → sum_below n G ≤ sum_below n F
+sum_most_of zero F G le = omega arith
+sum_most_of (suc n) F G le = let h = sum_most_of n F G le in let e = le n in omega (arith, h, e)
+
+-- one of them is less, and none is more
+pub sum_fall : (n : ℕ) (F G : ℕ → ℕ) (k : ℕ) → k < n → G k < F k → ((i : ℕ) → G i ≤ F i) → sum_below n G < sum_below n F
+sum_fall zero F G k lt less le = absurd (omega (arith, lt))
+sum_fall (suc n) F G k lt less le =
+    elim (cases_eq k n) [
+      | inl e ↦
+          let h = sum_most_of n F G le in
+          let d : G n < F n = subst (λ (i : ℕ). G i < F i) e less in
+          omega (arith, h, d)
+      | inr ne ↦
+          let h = sum_fall n F G k (let z = ne in grind (arith, z, lt)) less le in
+          let e = le n in
+          omega (arith, h, e)
+    ]
+
+pub total_fall : (n : ℕ) (F G : Waiter → ℕ) (w : Waiter) → w.cpu < n → w.ctx < 6 → G w < F w → ((u : Waiter) → G u ≤ F u)
+    → total n G < total n F
+total_fall n F G w within low less le =
+    sum_fall n (λ p. sum_below 6 (λ c. F (record { cpu = p; ctx = c }))) (λ p. sum_below 6 (λ c. G (record { cpu = p; ctx = c })))
+    w.cpu within
+    (sum_fall 6 (λ c. F (record { cpu = w.cpu; ctx = c })) (λ c. G (record { cpu = w.cpu; ctx = c })) w.ctx low less
+    (λ c. le (record { cpu = w.cpu; ctx = c })))
+    (λ p. sum_most_of 6 (λ c. F (record { cpu = p; ctx = c })) (λ c. G (record { cpu = p; ctx = c })) (λ c. le (record { cpu = p; ctx = c })))

@@ -56,7 +56,7 @@ module _ (m : Machine) (hs : LockName → LockHistory) (shows : ShowsAll m hs) (
   abbrev behind : Frame
   behind = record e { place = after_halt e.place }
 
-  on_top : frame_at m v ≡ Some e
+  pub on_top : frame_at m v ≡ Some e
   on_top = top_live m p hs shows range
 
   -- the processor has halted at one of two rows
@@ -66,7 +66,7 @@ module _ (m : Machine) (hs : LockName → LockHistory) (shows : ShowsAll m hs) (
   pub sleeping_place : (c : Pc) × (e.place ≡ Some c) × (stands_halting (Some c) ≡ true)
   sleeping_place = elim sleeps [ inl at ↦ (W6, at, refl) | inr at ↦ (E12, at, refl) ]
 
-  woken_is : world (woken m p) ≡ put_halted (seated m v (Some behind)) p false
+  pub woken_is : world (woken m p) ≡ put_halted (seated m v (Some behind)) p false
   woken_is =
       world-set_halted (set_top m p behind) p false (subst (λ (i : ℕ). p < i) (sym (same_set_top m p behind).keeps.cpus) range)
       ∙ ap (λ (y : World). put_halted y p false) (world-set_top m p behind (shows.whole.tops p range))
@@ -81,7 +81,7 @@ module _ (m : Machine) (hs : LockName → LockHistory) (shows : ShowsAll m hs) (
     here = ap (λ (y : World). y.frame v) woken_is ∙ if-true (same_waiter v v) (Some behind) (frame_at m v) (same_waiter-self v);
   }
 
-  kick_is : world (set_kicked (woken m p) p false) ≡ put_kicked (world (woken m p)) p false
+  pub kick_is : world (set_kicked (woken m p) p false) ≡ put_kicked (world (woken m p)) p false
   kick_is = world-set_kicked (woken m p) p false (subst (λ (i : ℕ). p < i) (sym (woken_keeps m p).keeps.cpus) range)
 
   -- by a kick, which is remembered no more

@@ -1,5 +1,5 @@
 -- Schedules that are fair, and the theorem that everybody finishes under them.
-use Rattle.std.specs.Prelude.{◌≡◌, ◌<◌, ◌≤◌, ◌+◌, ℕ, false, length}
+use Rattle.std.specs.Prelude.{◌≡◌, ◌<◌, ◌≤◌, ◌+◌, ℕ, true, false, length}
 use Rattle.std.proofs.Common.{zero, suc}
 use Rattle.lk_abs.specs.declared.events.Act.{Act}
 use Rattle.lk_abs.specs.declared.events.Act.TheVariants.{Step}
@@ -9,6 +9,7 @@ use Rattle.lk_rows.specs.Programs.{IsLawfulSetup}
 use Rattle.lk_rows.specs.Acts.{next, processor_of}
 use Rattle.lk_rows.specs.Run.{at_rest}
 use Rattle.lk_law.specs.Agree.{halts}
+use Rattle.lk_progress.specs.HaltingPrice.{is_nudge}
 use Rattle.lk_progress.specs.Ordered.{IsOrdered}
 use Rattle.lk_progress.specs.Runs.{HasRoom, IsFinished}
 
@@ -42,4 +43,19 @@ FairRunsFinish = (rank : ℕ → ℕ) (size : ℕ) (setup : Setup) (schedule : �
     → IsLawfulSetup setup → IsOrdered rank size setup
     → halts setup.mode ≡ false → HasRoom setup
     → IsFair setup schedule
+    → (n : ℕ) × ((p : ℕ) → p < processors setup → IsFinished (after_first setup schedule n) p)
+
+-- From some act on no nudge changes anything: only finitely many halts end without a kick, but by interrupts.
+abbrev pub NudgesEnd : Setup → (ℕ → Act) → Type 0
+NudgesEnd setup schedule =
+    (last : ℕ)
+    × ((n : ℕ) → last ≤ n → is_nudge (schedule n) ≡ true → after_first setup schedule (suc n) ≡ after_first setup schedule n)
+
+-- In an ordered setup of `pv`, every fair schedule in which nudges come to an end comes to a moment at which every
+-- processor has finished. A processor may have as many handlers as it likes.
+abbrev pub HaltingFairRunsFinish : Type 0
+HaltingFairRunsFinish = (rank : ℕ → ℕ) (size : ℕ) (setup : Setup) (schedule : ℕ → Act)
+    → IsLawfulSetup setup → IsOrdered rank size setup
+    → halts setup.mode ≡ true
+    → IsFair setup schedule → NudgesEnd setup schedule
     → (n : ℕ) × ((p : ℕ) → p < processors setup → IsFinished (after_first setup schedule n) p)

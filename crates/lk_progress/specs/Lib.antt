@@ -4,5 +4,7 @@ pub mod Fair
 pub mod Spots
 pub mod Measure
 pub mod Potential
+pub mod HaltingMeasure
+pub mod HaltingPrice
 pub mod Turns
 pub mod InTurn

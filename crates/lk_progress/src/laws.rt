@@ -3,7 +3,10 @@
 ghost use Rattle.lk_rows.specs.declared.parts.Pc.{Pc};
 ghost use Rattle.lk_progress.specs.Measure.{RowDescends, BeginIsShort};
 ghost use Rattle.lk_progress.specs.Potential.{ActsLower, PriceFalls, RunsAreShort};
-ghost use Rattle.lk_progress.specs.Fair.{FairRunsFinish};
+ghost use Rattle.lk_progress.specs.HaltingMeasure.{HaltingRowDescends, HaltingBeginIsShort, RowKeepsSpins};
+ghost use Rattle.lk_progress.specs.HaltingPrice.{HaltingActsLower, HaltingPriceFalls};
+ghost use Rattle.lk_progress.specs.HaltingPrice.{HaltingRunsAreShort, HaltingRunsEnd};
+ghost use Rattle.lk_progress.specs.Fair.{FairRunsFinish, HaltingFairRunsFinish};
 ghost use Rattle.lk_progress.specs.Turns.{TakesInTurn, NobodyWatchesAnew};
 ghost use Rattle.lk_progress.specs.InTurn.{FewTakesBefore, FewerUnwatched, FewTakesFromArrival};
 ghost use Rattle.lk_progress.specs.InTurn.{FewTakesAside, FewTakesAsideFromArrival};
@@ -41,6 +44,13 @@ pub fn ordered_runs_go_on()
 ///
 /// In `native`, with spinlocks alone and at most three handlers a processor, nobody is ever in a turn. There
 /// every run from rest has at most as many changing acts as the budget says.
+///
+/// Where processors halt, in `pv`, the same is true of an operation of at most 27 rows, with three more
+/// things that are counted. A turn is as long as the spin bound: a waiter spins before it halts. A kick that is
+/// remembered will end a halt, and so renew a turn: who makes it pays for that. And a nudge ends a halt without a
+/// kick, so each may cost as much as a row of the budget. Who leads nobody on is a head that goes around, since
+/// another has stolen its lock: it leaves the price. So no run from rest has more acts that change something and
+/// lead somebody on than the budget and the nudges, times what a row may cost.
 pub fn operations_are_short()
     ensures rows { (c : Pc) → RowDescends c }
     ensures begin { BeginIsShort }
@@ -49,14 +59,25 @@ pub fn operations_are_short()
     ensures runs { RunsAreShort }
     ensures ends { RunsEnd }
     ensures native { NativeRunsEnd }
+    ensures halting_rows { (c : Pc) → HaltingRowDescends c }
+    ensures halting_begin { HaltingBeginIsShort }
+    ensures halting_spins { (c : Pc) → RowKeepsSpins c }
+    ensures halting_acts { HaltingActsLower }
+    ensures halting_falls { HaltingPriceFalls }
+    ensures halting_runs { HaltingRunsAreShort }
+    ensures halting_ends { HaltingRunsEnd }
 {}
 
 /// Everybody finishes under a fair schedule, in an ordered setup of `virt`, `native` or `cna`. In the last two
 /// no processor may have more than three handlers. If again and again a round comes in which nobody is preempted and
 /// each processor makes a step, there is a moment at which every processor has finished. What happens
 /// between two rounds does not matter, and interrupts may come at any time.
+///
+/// In `pv` the same is true for any number of handlers, if from some moment on no nudge changes anything. A
+/// halted processor makes no step until it is kicked, and its turn in a round counts none the less.
 pub fn fair_runs_finish()
     ensures finish { FairRunsFinish }
+    ensures halting { HaltingFairRunsFinish }
 {}
 
 /// Where no processor halts, while a waiter stands in the queue of a lock, only two may acquire it: the
