@@ -36,6 +36,9 @@ pub(crate) struct Asked {
     pub memory: usize,
     /// What is tried beside steps and interrupts.
     pub extras: Extras,
+    /// Whether one state is kept of those that differ only in the numbers of processors that are
+    /// alike.
+    pub fold: bool,
     /// Whether nothing is said of how far it is.
     pub quiet: bool,
     /// What is sought.
@@ -61,6 +64,7 @@ impl Asked {
                 nudges: false,
                 preempts: false,
             },
+            fold: false,
             quiet: false,
             goal: Goal::Overview,
             cpu: None,
@@ -73,6 +77,7 @@ impl Asked {
         match word {
             "--nudges" => self.extras.nudges = true,
             "--preempt" => self.extras.preempts = true,
+            "--fold" => self.fold = true,
             "--quiet" => self.quiet = true,
             "--finished" => self.goal = Goal::Finished,
             "--stuck" => self.goal = Goal::Stuck,
@@ -125,10 +130,11 @@ impl Asked {
         matches!(self.goal, Goal::Count(_)) || self.cpu.is_some() || self.lock.is_some()
     }
 
-    // Whether a processor or a lock is named, and no act is sought.
+    // Whether a processor or a lock is named, and no act is sought. Where states are folded,
+    // processors that are alike are one, so none is named.
     fn is_idle(&self) -> bool {
         let is_act = matches!(self.goal, Goal::Row(_) | Goal::Event(_) | Goal::Count(_));
-        !is_act && self.is_particular()
+        (!is_act && self.is_particular()) || (self.fold && self.cpu.is_some())
     }
 }
 

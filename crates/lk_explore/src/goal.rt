@@ -52,9 +52,11 @@ fn schedule_to(
 ) -> Result<Option<Vec<Act>>, Memory>
     requires graph { IsGraph graph.old }
 {
+    // Where states are folded no processor is named.
+    let cpu = if graph.folds() { None } else { asked.cpu };
     let sought = Sought {
         deed,
-        cpu: asked.cpu,
+        cpu,
         lock: asked.lock,
     };
     let Some((mut acts, last)) = graph.acts_to_deed(alloc, sought)? else {

@@ -59,6 +59,15 @@ impl Lines {
         self.word("\n");
     }
 
+    /// Appends a line of a word and a number, and says so if states were folded, so that the number
+    /// is that of the folded ones.
+    pub(crate) fn count(&mut self, word: &str, number: u64, folds: bool) {
+        self.word(word);
+        self.word(" ");
+        self.number(number);
+        self.word(if folds { " folded\n" } else { "\n" });
+    }
+
     /// Writes the lines.
     ///
     /// # Errors

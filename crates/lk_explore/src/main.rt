@@ -132,6 +132,13 @@ fn refuse_processors(rt: &HostRuntime, cpus: u32) -> ExitCode {
     ExitCode::from(exit::LIMIT)
 }
 
+// Refuses to fold states behind a schedule, at whose end processors that are alike differ. Returns
+// the exit status.
+fn refuse_fold(rt: &HostRuntime) -> ExitCode {
+    let _ = eprintln!(rt; "limit schedule: states are folded only where there is none");
+    ExitCode::from(exit::LIMIT)
+}
+
 fn main(rt: HostRuntime) -> ExitCode {
     let alloc = rt.alloc();
     let Some(asked) = asked_by(&rt) else {
@@ -139,13 +146,16 @@ fn main(rt: HostRuntime) -> ExitCode {
         return ExitCode::from(exit::USAGE);
     };
     let mut source = StdSource::new(rt.stdin());
-    let start = match start_in(alloc, &mut source, asked.extras) {
+    let start = match start_in(alloc, &mut source, asked.extras, asked.fold) {
         Ok(start) => start,
         Err(fault) => return refuse(&rt, fault),
     };
     let cpus = start.machine.cpus();
     if cpus as usize > MAX_CPUS {
         return refuse_processors(&rt, cpus);
+    }
+    if asked.fold && !start.plan.is_folding() {
+        return refuse_fold(&rt);
     }
     match tell(alloc, &rt, &asked, start) {
         Ok(answer) => end(answer),

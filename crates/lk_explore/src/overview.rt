@@ -47,7 +47,7 @@ fn add_events(lines: &mut Lines, graph: &Graph) {
     for kind in 0..KINDS {
         if events[kind] > 0 {
             lines.word("event ");
-            lines.line(kind_name(kind), events[kind]);
+            lines.count(kind_name(kind), events[kind], graph.folds());
         }
     }
 }
@@ -68,9 +68,10 @@ fn add_ends(alloc: Global, lines: &mut Lines, graph: &Graph) -> Result<(), Memor
     requires graph { IsGraph graph.now }
     requires whole { IsWhole graph.now }
 {
-    lines.line("finished", count(&graph.finished(alloc)?));
-    lines.line("stuck", count(&graph.stuck(alloc)?));
-    lines.line("doomed", count(&graph.doomed(alloc)?));
+    let folds = graph.folds();
+    lines.count("finished", count(&graph.finished(alloc)?), folds);
+    lines.count("stuck", count(&graph.stuck(alloc)?), folds);
+    lines.count("doomed", count(&graph.doomed(alloc)?), folds);
     Ok(())
 }
 
@@ -78,8 +79,8 @@ fn add_ends(alloc: Global, lines: &mut Lines, graph: &Graph) -> Result<(), Memor
 fn add_sizes(lines: &mut Lines, graph: &Graph)
     requires graph { IsGraph graph.now }
 {
-    lines.line("states", graph.states() as u64);
-    lines.line("edges", graph.edges() as u64);
+    lines.count("states", graph.states() as u64, graph.folds());
+    lines.count("edges", graph.edges() as u64, graph.folds());
     lines.line("deepest", u64::from(graph.deepest()));
 }
 

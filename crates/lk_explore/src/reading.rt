@@ -11,7 +11,7 @@ ghost use Rattle.lk_reach.specs.Reach.{cpus_of};
 use lk_abs::{Act, Kind, List, Memory};
 use lk_forms::{Fault, HeaderReader, LineRefusal, Sched, schedule_line};
 use lk_machine::Machine;
-use lk_reach::{Extras, Plan};
+use lk_reach::{Extras, Peers, Plan};
 use lk_replay::read_header;
 use lk_rows::Setup;
 use lk_stream::{ReplayFault, cut, refused};
@@ -63,16 +63,20 @@ fn next_said<S: Source>(
 }
 
 impl Start {
-    // The machine of a setup, at rest.
-    fn resting(alloc: Global, setup: Setup, extras: Extras) -> Result<Start, Memory>
+    // The machine of a setup, at rest. States are folded, if that is asked for.
+    fn resting(alloc: Global, setup: Setup, extras: Extras, fold: bool) -> Result<Start, Memory>
         requires { IsLawfulSetup setup }
         ensures start { IfOk result (λ start. IsStart start.plan start.machine) }
         ensures extras { IfOk result (λ start. start.plan.extras ≡ extras) }
     {
         let has_spin = has_kind(&setup.locks, Kind::Spin);
         let has_rw = has_kind(&setup.locks, Kind::Rw);
+        let peers = Peers::new(&setup);
         let machine = Machine::new(alloc, setup)?;
-        let plan = Plan::new(alloc, &machine, extras)?;
+        let mut plan = Plan::new(alloc, &machine, extras)?;
+        if fold {
+            plan.fold(&machine, peers);
+        }
         Ok(Start {
             machine,
             plan,
@@ -162,7 +166,8 @@ impl Start {
     }
 }
 
-/// Reads a trace. The exploration begins behind its schedule.
+/// Reads a trace. The exploration begins behind its schedule. If there is none, states are folded
+/// where that is asked for.
 ///
 /// # Errors
 ///
@@ -171,6 +176,7 @@ pub(crate) fn start_in<S: Source>(
     alloc: Global,
     source: &mut S,
     extras: Extras,
+    fold: bool,
 ) -> Result<Start, ReplayFault>
     ensures start { IfOk result (λ start. IsStart start.plan start.machine) }
     ensures extras { IfOk result (λ start. start.plan.extras ≡ extras) }
@@ -178,7 +184,7 @@ pub(crate) fn start_in<S: Source>(
     let mut reader = LineReader::new(alloc)?;
     let mut header = HeaderReader::new(alloc)?;
     read_header(&mut header, &mut reader, source)?;
-    let mut start = Start::resting(alloc, header.finish(), extras)?;
+    let mut start = Start::resting(alloc, header.finish(), extras, fold)?;
     start.read_on(&mut reader, source)?;
     Ok(start)
 }

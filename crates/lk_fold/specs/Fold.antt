@@ -8,21 +8,17 @@ use Rattle.lk_rows.specs.declared.parts.Pc.{Pc}
 use Rattle.lk_rows.specs.Machine.{Machine}
 use Rattle.lk_rows.specs.Acts.{next}
 use Rattle.lk_idle.specs.Alike.{AreAlike}
-use Rattle.lk_renaming.specs.Renaming.{Renaming, IsFitting}
+use Rattle.lk_renaming.specs.Renaming.{Renaming}
 use Rattle.lk_renaming.specs.Renamed.{renamed}
 use Rattle.lk_reach.specs.declared.plan.Plan.{Plan}
+use Rattle.lk_reach.specs.Folded.{Fits}
 use Rattle.lk_reach.specs.Kinds.{kind_value}
 use Rattle.lk_reach.specs.Reach.{IsBegun, IsMove, AreMoves, IsReached, MakesRow, AreOver, after}
-use Rattle.lk_reach.specs.Reach.{bare, cpus_of, start_of, state_after}
-
--- a renaming of processors that are alike, under which the machine at which the plan begins stays
-pub record Fits (plan : Plan) (setup : Setup) (r : Renaming) : Type 0 where
-  pub fits : IsFitting setup (cpus_of setup) r
-  pub starts : renamed r (start_of plan setup) ≡ start_of plan setup
+use Rattle.lk_reach.specs.Reach.{bare, start_of, state_after}
 
 -- Some state of the set, which a schedule reaches, is this one but for such a renaming and for
 -- what nobody reads. The set is told by a test of states.
-pub record StandsFor (plan : Plan) (setup : Setup) (known : Machine → Bool) (s : Machine)
+pub record HasStandIn (plan : Plan) (setup : Setup) (known : Machine → Bool) (s : Machine)
     : Type 0 where
   pub state : Machine
   pub is : known state ≡ true
@@ -33,15 +29,15 @@ pub record StandsFor (plan : Plan) (setup : Setup) (known : Machine → Bool) (s
 
 -- one stands for the first state, and for each to which an act leads from one of the set
 pub record Covers (plan : Plan) (setup : Setup) (known : Machine → Bool) : Type 0 where
-  pub start : StandsFor plan setup known (bare (start_of plan setup))
+  pub start : HasStandIn plan setup known (bare (start_of plan setup))
   pub closed : (t : Machine) (a : Act) → known t ≡ true → IsReached plan setup t
-      → IsMove plan.extras setup a → StandsFor plan setup known (after t a)
+      → IsMove plan.extras setup a → HasStandIn plan setup known (after t a)
 
 -- Then one of the set stands for each state that a schedule reaches.
 abbrev pub SmallSpaceIsEnough : Type 0
 SmallSpaceIsEnough = (plan : Plan) (setup : Setup) (known : Machine → Bool) (acts : List Act)
     → IsBegun plan setup → Covers plan setup known → AreMoves plan.extras setup acts
-    → StandsFor plan setup known (state_after plan setup acts)
+    → HasStandIn plan setup known (state_after plan setup acts)
 
 -- an act that is explored tells an event of this kind there
 pub record TellsKind (plan : Plan) (setup : Setup) (t : Machine) (e : Event) : Type 0 where
@@ -64,5 +60,5 @@ pub record TellTheSame (plan : Plan) (setup : Setup) (t s : Machine) : Type 0 wh
 -- So do a state that is reached and the one that stands for it.
 abbrev pub StandInsTell : Type 0
 StandInsTell = (plan : Plan) (setup : Setup) (known : Machine → Bool) (s : Machine)
-    → IsBegun plan setup → IsReached plan setup s → (it : StandsFor plan setup known s)
+    → IsBegun plan setup → IsReached plan setup s → (it : HasStandIn plan setup known s)
     → TellTheSame plan setup it.state s

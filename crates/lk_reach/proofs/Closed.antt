@@ -1,5 +1,5 @@
--- What schedules reach is sound, and of its setup; and states that are closed under acts are all.
-use Rattle.std.proofs.Common.{◌≡◌, ℕ, ◌<◌, ◌≤◌, List, [], ◌∷◌, ◌++◌, refl, sym, ◌∙◌, ap, subst, length, Option, Some, None, arith}
+-- What schedules reach is sound, and of its setup.
+use Rattle.std.proofs.Common.{◌≡◌, ℕ, ◌<◌, List, [], ◌∷◌, ◌++◌, false, true, refl, sym, ◌∙◌, ap, subst, length, Option, Some, None}
 use Rattle.lk_abs.specs.History.{LockHistory}
 use Rattle.lk_abs.specs.declared.names.LockName.{LockName}
 use Rattle.lk_abs.specs.declared.names.Waiter.{Waiter}
@@ -18,23 +18,15 @@ use Rattle.lk_law.specs.World.{World}
 use Rattle.lk_law.specs.Sound.{IsSound, ShowsAll, IsWhole, Fits, world, held_at}
 use Rattle.lk_law.specs.MachineLaws.{AreInRange, RunKeeps}
 use Rattle.lk_law.specs.SoundWorld.{IsSoundWorld}
-use Rattle.lk_reach.specs.declared.book.Book.{Book}
-use Rattle.lk_reach.specs.declared.book.Origin.{Origin}
 use Rattle.lk_reach.specs.declared.plan.Extras.{Extras}
 use Rattle.lk_reach.specs.declared.plan.Plan.{Plan}
-use Rattle.lk_reach.specs.Reach.{bare, after, IsMove, AreMoves, IsBegun, IsReached, cpus_of, start_of, state_after}
-use Rattle.lk_reach.specs.Explored.{AreAllMoves, IsExplored, IsLeft, IsMet, IsSuch, KeepsLike}
+use Rattle.lk_reach.specs.Reach.{bare, after, IsMove, AreMoves, IsBegun, IsReached, cpus_of, run, start_of, state_after}
+use Rattle.lk_reach.specs.Explored.{IsSuch}
 use Rattle.lk_idle.specs.Alike.{AreAlike, GoesOnAlike}
 use Rattle.lk_idle.proofs.Goes.{alike_goes_on}
-use Rattle.lk_reach.proofs.Likeness.{after_alike}
 use Rattle.lk_reach.specs.Space.{SpaceValue, Keeps}
 use Rattle.lk_reach.proofs.Counts.{counts_are_idle}
-use Rattle.lk_reach.proofs.Kept.{keeps_one, one_value}
-use Rattle.std.specs.Prelude.{slice_get}
-use Rattle.std.proofs.Common.{◌+◌, inl, inr}
-use Rattle.std.proofs.lemmas.Bool.{cases_eq, cases_lt}
-use Rattle.std.proofs.lemmas.Option.{slice_get-get_or, slice_get_within}
-use Rattle.lk_abs.proofs.ByIndex.{get_cases}
+use Rattle.lk_reach.proofs.Kept.{keeps_one}
 use Rattle.lk_word.specs.declared.spin_word.NodeName.{NodeName}
 
 -- how a waiter holds a lock has nothing to do with counts
@@ -106,6 +98,10 @@ pub after_append : (xs ys : List Act) (m : Machine)
     → machine_after m (xs ++ ys) ≡ machine_after (machine_after m xs) ys
 after_append [] ys m = refl
 after_append (x ∷ xs) ys m = after_append xs ys (next m x).0
+
+-- false is not true
+pub not_true : false ≡ true → ⊥
+not_true e = cc
 
 -- what is known of all acts and runs
 pub record Laws : Type 0 where
@@ -191,151 +187,10 @@ module _ (laws : Laws) (plan : Plan) (setup : Setup) (begun : IsBegun plan setup
       → GoesOnAlike s t a
   reached_alike s t a r q alike = alike_goes_on s t a (reached_sound s r) (reached_sound t q) alike
 
-  -- what a number keeps is like what it keeps one like of
-  pub like_is : (v : SpaceValue) (k : ℕ) (s t : Machine) → Keeps v k s → IsReached plan setup s
-      → KeepsLike plan setup v k t → AreAlike s t
-  like_is v k s t keeps reached like =
-      subst (λ (z : Machine). AreAlike z t) (same_state v k like.state s like.keeps keeps like.reached reached) like.alike
-
-  -- one like another is met where that is
-  met_like : (v : SpaceValue) (b : Book) (n : ℕ) (s t : Machine) → AreAlike s t → IsMet plan setup v b n s
-      → IsMet plan setup v b n t
-  met_like v b n s t alike met = record {
-    number = met.number;
-    like = record {
-      state = met.like.state;
-      keeps = met.like.keeps;
-      reached = met.like.reached;
-      alike = met.like.alike ∙ alike;
-    };
-    origin = met.origin;
-    is = met.is;
-    soon = met.soon;
-  }
-
-  -- who was met by so many acts was met by at most more
-  pub met_sooner : (v : SpaceValue) (b : Book) (n most : ℕ) (s : Machine) → n ≤ most → IsMet plan setup v b n s → IsMet plan setup v b most s
-  met_sooner v b n most s low met = record {
-    number = met.number;
-    like = met.like;
-    origin = met.origin;
-    is = met.is;
-    soon = let soon = met.soon in omega (arith, soon, low);
-  }
-
-  -- Each schedule leads to a state that was met by as few acts, if each state that takes fewer was left.
-  module _ (v : SpaceValue) (b : Book) (left most : ℕ)
-      (moved : AreAllMoves plan.extras setup plan.acts.items) (all : (k : ℕ) → k < left → IsLeft plan setup v b k)
-      (low : (i : ℕ) (o : Origin) → slice_get b.origins.items i ≡ Some o → o.level < most → i < left) where
-    one_more : (n : ℕ) (s : Machine) (a : Act) → n < most → IsReached plan setup s → IsMove plan.extras setup a
-        → IsMet plan setup v b n s → IsMet plan setup v b (n + 1) (after s a)
-    one_more n s a room reached move met =
-        let soon = met.soon in
-        let x = all met.number (low met.number met.origin met.is (omega (arith, soon, room))) in
-        let alike : AreAlike x.state s = like_is v met.number x.state s x.keeps x.reached met.like in
-        let then = after_alike x.state s alike a (reached_alike x.state s a x.reached reached alike) in
-        let origin : x.origin ≡ met.origin = one_value (slice_get b.origins.items met.number) x.origin met.origin x.is met.is in
-        let level = ap (λ (o : Origin). o.level) origin in
-        let at = moved.all a move in
-        met_sooner v b (x.origin.level + 1) (n + 1) (after s a) (omega (arith, level, soon))
-        (met_like v b (x.origin.level + 1) (after x.state a) (after s a) then (x.next at.0 a at.1).met)
-
-    walk : (acts : List Act) (n : ℕ) (m : Machine) → n + length acts ≤ most → AreMoves plan.extras setup acts
-        → IsReached plan setup (bare m) → IsMet plan setup v b n (bare m)
-        → IsMet plan setup v b (n + length acts) (bare (machine_after m acts))
-    walk [] n m room moves reached here = met_sooner v b n (n + 0) (bare m) (omega arith) here
-    walk (a ∷ acts) n m room moves reached here =
-        let e = (counts_are_idle m a).0 in
-        let met = one_more n (bare m) a (omega (arith, room)) reached moves.0 here in
-        let rest = walk acts (n + 1) (next m a).0 (omega (arith, room)) moves.1
-        (subst (IsReached plan setup) e (reached_then (bare m) a reached moves.0))
-        (subst (λ z. IsMet plan setup v b (n + 1) z) e met) in
-        met_sooner v b (n + 1 + length acts) (n + length (a ∷ acts)) (bare (machine_after (next m a).0 acts))
-        (omega arith) rest
-
-  pub all_met : (v : SpaceValue) (b : Book) (left : ℕ) → IsExplored plan setup v b left → (acts : List Act)
-      → AreMoves plan.extras setup acts
-      → ((i : ℕ) (o : Origin) → slice_get b.origins.items i ≡ Some o → o.level < length acts → i < left)
-      → IsMet plan setup v b (length acts) (state_after plan setup acts)
-  all_met v b left x acts moves low =
-      let level = x.first.level in
-      met_sooner v b (0 + length acts) (length acts) (state_after plan setup acts) (omega arith)
-      (walk v b left (length acts) x.acts x.left low acts 0 (start_of plan setup) (omega arith) moves reached_start (record {
-        number = 0;
-        like = record {
-          state = bare (start_of plan setup);
-          keeps = x.first.keeps;
-          reached = reached_start;
-          alike = refl;
-        };
-        origin = x.first.origin;
-        is = x.first.is;
-        soon = omega (arith, level);
-      }))
-
-  -- where every state was left
-  pub whole_met : (v : SpaceValue) (b : Book) (left : ℕ) → IsExplored plan setup v b left
-      → left ≡ length v.keys → (acts : List Act) → AreMoves plan.extras setup acts
-      → IsMet plan setup v b (length acts) (state_after plan setup acts)
-  whole_met v b left x whole acts moves =
-      let count = x.count in
-      all_met v b left x acts moves
-      (λ i o at soon. let within = slice_get_within b.origins.items i o at in omega (arith, within, count, whole))
-
-  -- who takes fewer acts than the state that is left next was left
-  pub soon_left : (v : SpaceValue) (b : Book) (left most : ℕ) → IsExplored plan setup v b left → left ≤ length v.keys
-      → ((p : Origin) → slice_get b.origins.items left ≡ Some p → most ≤ p.level)
-      → (i : ℕ) (o : Origin) → slice_get b.origins.items i ≡ Some o → o.level < most → i < left
-  soon_left v b left most x within high i o is few =
-      elim (cases_lt i left) [
-        | inl low ↦ low
-        | inr not_so ↦ elim (get_cases b.origins.items left) [
-          | inl none ↦ absurd (past left not_so none)
-          | inr some ↦
-              let up = high some.0 some.1 in
-              elim (cases_eq left i) [
-                | inl e ↦
-                    let same : some.0 ≡ o = one_value (slice_get b.origins.items i) some.0 o
-                    (subst (λ (h : ℕ). slice_get b.origins.items h ≡ Some some.0) e some.1) is in
-                    let level = ap (λ (q : Origin). q.level) same in
-                    absurd (omega (arith, level, up, few))
-                | inr ne ↦
-                    let more = x.sorted left i some.0 o some.1 is (omega (arith, not_so, ne)) in
-                    absurd (omega (arith, more, up, few))
-              ]
-        ]
-      ]
-    where
-      past : (n : ℕ) → n ≤ i → slice_get b.origins.items n ≡ None → ⊥
-      past n high none =
-          let inside = slice_get_within b.origins.items i o is in
-          let e = slice_get-get_or b.origins.items n o (omega (arith, inside, high)) in
-          cc
-
-  -- A schedule that is shorter than the level of a number leads to a state with a lower number.
-  pub no_sooner : (v : SpaceValue) (b : Book) (left : ℕ) → IsExplored plan setup v b left → left ≤ length v.keys
-      → (k : ℕ) (o : Origin) → slice_get b.origins.items k ≡ Some o → (acts : List Act)
-      → AreMoves plan.extras setup acts → length acts < o.level
-      → (j : ℕ) × (j < k) × KeepsLike plan setup v j (state_after plan setup acts)
-  no_sooner v b left x within k o at acts moves short =
-      let met = all_met v b left x acts moves (soon_left v b left (length acts) x within
-      (λ p here. let near = x.near k o p at here in omega (arith, near, short))) in
-      let soon = met.soon in
-      (met.number, before met.number met.origin met.is (omega (arith, soon, short)), met.like)
-    where
-      before : (j : ℕ) (p : Origin) → slice_get b.origins.items j ≡ Some p → p.level < o.level → j < k
-      before j p is less =
-          elim (cases_lt j k) [
-            | inl low ↦ low
-            | inr not_so ↦ elim (cases_eq j k) [
-              | inl e ↦
-                  let same : p ≡ o = one_value (slice_get b.origins.items k) p o
-                  (subst (λ (h : ℕ). slice_get b.origins.items h ≡ Some p) e is) at in
-                  let level = ap (λ (q : Origin). q.level) same in
-                  absurd (omega (arith, level, less))
-              | inr ne ↦ let more = x.sorted k j o p at is (omega (arith, not_so, ne)) in absurd (omega (arith, more, less))
-            ]
-          ]
+-- acts without counts
+pub run_bare : (acts : List Act) (m : Machine) → run (bare m) acts ≡ bare (machine_after m acts)
+run_bare [] m = refl
+run_bare (a ∷ acts) m = ap (λ (s : Machine). run s acts) (counts_are_idle m a).0 ∙ run_bare acts (next m a).0
 
 -- a machine at rest has used no handler
 none_used : (setup : Setup) (q n i : ℕ) → (get_or (rest_cpus setup q n) i no_cpu).handlers ≡ 0

@@ -5,12 +5,14 @@ use Rattle.std.proofs.lemmas.Option.{slice_get_within}
 use Rattle.std.specs.Prelude.{slice_get}
 use Rattle.lk_abs.specs.declared.events.Act.{Act}
 use Rattle.lk_rows.specs.Machine.{Machine}
-use Rattle.lk_idle.specs.Alike.{AreAlike}
 use Rattle.lk_reach.specs.declared.book.Origin.{Origin}
 use Rattle.lk_reach.specs.declared.graph.Graph.{Graph}
 use Rattle.lk_reach.specs.Reach.{AreMoves, state_after}
-use Rattle.lk_reach.specs.Told.{IsBefore, IsDeepest, IsGraph, IsLikeWithin, IsWithin, IsWhole}
-use Rattle.lk_reach.proofs.Closed.{Laws, no_sooner, same_state, whole_met}
+use Rattle.lk_reach.specs.Folded.{StandsFor}
+use Rattle.lk_reach.specs.Path.{IsBefore}
+use Rattle.lk_reach.specs.Told.{IsDeepest, IsGraph, IsLikeWithin, IsWithin, IsWhole}
+use Rattle.lk_reach.proofs.Closed.{Laws, same_state}
+use Rattle.lk_reach.proofs.Known.{no_sooner, whole_met}
 use Rattle.lk_reach.proofs.Kept.{one_value}
 use Rattle.lk_reach.proofs.Leading.{LeadsOn, leads_start, leads_then, way_to}
 use Rattle.lk_reach.proofs.Left.{has_origin}
@@ -29,7 +31,7 @@ module _ (laws : Laws) (g : Graph) (is : IsGraph g) where
             let o = has_origin g.plan g.machine.setup g.space g.book g.left j is.explored there in
             let made = is.explored.origins j o.0 o.1 up in
             let below = made.low in
-            let before : IsBefore g j o.0.state made.made.act =
+            let before : IsBefore g.plan g.book j o.0.state made.made.act =
             record { origin = o.0; is = o.1; from = refl; doing = made.made.doing } in
             from_first most o.0.state k (made.made.act ∷ acts) (omega (arith, below, low)) (omega (arith, below, there))
             (leads_then laws g is o.0.state j k made.made.act acts up before x)
@@ -99,5 +101,6 @@ module _ (laws : Laws) (g : Graph) (is : IsGraph g) where
             acts = near.acts;
             moves = near.way.moves;
             few = near.few;
-            alike = subst (λ (z : Machine). AreAlike z (state_after g.plan g.machine.setup acts)) same x.alike;
+            stands = subst (λ (z : Machine). StandsFor g.plan g.machine.setup z (state_after g.plan g.machine.setup acts))
+                same x.stands;
           }

@@ -12,13 +12,16 @@ use Rattle.lk_reach.specs.declared.graph.Graph.{Graph}
 use Rattle.lk_reach.specs.Ends.{AreDoomed, AreEnds, AreFinishing, AreStuck, AreTurned, CanFinish, IsClosed, IsFirst, IsLed, IsMarkedOnly, IsPassed, LeadsMarked, StaysAt}
 use Rattle.lk_reach.specs.Ends.{IsShortestToDoom, IsShortestToEnd, IsState, IsStuck, IsWayToStuck, NobodyIsDoomed}
 use Rattle.lk_idle.specs.Alike.{AreAlike}
+use Rattle.lk_reach.specs.Folded.{StandsFor}
 use Rattle.lk_reach.specs.Explored.{KeepsLike, LeadsTo}
 use Rattle.lk_reach.specs.Reach.{AreMoves, AreOver, IsMove, IsReached, after, run, state_after}
 use Rattle.lk_reach.specs.Space.{Keeps}
 use Rattle.lk_reach.specs.Told.{IsGraph, IsWay, IsWhole}
 use Rattle.lk_reach.proofs.Columns.{leads_act, leads_low, leads_one}
-use Rattle.lk_reach.proofs.Closed.{Laws, like_is, no_sooner, reached_alike, reached_such, reached_then, same_state, whole_met}
-use Rattle.lk_reach.proofs.Likeness.{after_alike, over_alike}
+use Rattle.lk_reach.proofs.Closed.{Laws, reached_alike, reached_such, reached_then, same_state}
+use Rattle.lk_reach.proofs.Folded.{over_stands, runs_on, stands_back, stands_self, stands_then, steps}
+use Rattle.lk_reach.proofs.Likeness.{after_alike}
+use Rattle.lk_reach.proofs.Known.{no_sooner, whole_met}
 
 -- the marks so far say whether everybody is done
 pub record EndsSo (g : Graph) (marks : List Bool) : Type 0 where
@@ -76,14 +79,18 @@ module _ (laws : Laws) (g : Graph) (is : IsGraph g) where
       (reached_then laws g.plan g.machine.setup is.begun t a q moves.0) moves.1
       (after_alike s t alike a (reached_alike laws g.plan g.machine.setup is.begun s t a r q alike))
 
-  -- so they finish from both
-  can_alike : (s t : Machine) → IsReached g.plan g.machine.setup s → IsReached g.plan g.machine.setup t
-      → AreAlike s t → CanFinish g s → CanFinish g t
-  can_alike s t r q alike can = record {
-    acts = can.acts;
-    moves = can.moves;
-    over = over_alike (run s can.acts) (run t can.acts) (run_alike can.acts s t r q can.moves alike) can.over;
-  }
+  -- some schedule finishes from a state, if one does from a state that stands for it
+  can_stand : (s t : Machine) → IsReached g.plan g.machine.setup s → IsReached g.plan g.machine.setup t
+      → StandsFor g.plan g.machine.setup s t → CanFinish g s → CanFinish g t
+  can_stand s t r q st can =
+      let on = runs_on g.plan g.machine.setup is.begun can.acts t s q r
+      (stands_back g.plan g.machine.setup is.begun s t r st) can.moves in
+      record {
+        acts = on.others;
+        moves = on.moves;
+        over = over_stands g.plan g.machine.setup is.begun (run t on.others) (run s can.acts) on.reached on.came on.stands
+            can.over;
+      }
 
   -- the state of a number that keeps one like this
   state_like : (k : ℕ) (s : Machine) (like : KeepsLike g.plan g.machine.setup g.space k s)
@@ -100,10 +107,7 @@ module _ (laws : Laws) (g : Graph) (is : IsGraph g) where
           let same : l.state ≡ s = same_state laws g.plan g.machine.setup is.begun g.space k l.state s l.keeps x.keeps l.reached x.reached in
           let at = is.explored.acts.all a move in
           let tried = l.next at.0 a at.1 in
-          let e = stays at.0 tried.met.number tried.then in
-          subst (λ z. AreAlike (after z a) s) same
-          (sym (like_is laws g.plan g.machine.setup is.begun g.space tried.met.number s (after l.state a)
-          (subst (λ (h : ℕ). Keeps g.space h s) (sym e) x.keeps) x.reached tried.met.like))
+          subst (λ z. AreAlike (after z a) z) same (sym (tried.stays (stays at.0 tried.met.number tried.then)))
 
       still : (acts : List Act) → AreMoves g.plan.extras g.machine.setup acts → AreAlike (run s acts) s
       still [] moves = refl
@@ -137,9 +141,9 @@ module _ (laws : Laws) (g : Graph) (is : IsGraph g) where
       let move = is.explored.acts.only i l.act l.doing in
       let same : l.state ≡ s = same_state laws g.plan g.machine.setup is.begun g.space k l.state s l.is.keeps x.keeps l.is.reached x.reached in
       let like = l.leads in
-      let rest = can_alike like.state (after s l.act) like.reached
+      let rest = can_stand like.state (after s l.act) like.reached
       (reached_then laws g.plan g.machine.setup is.begun s l.act x.reached move)
-      (subst (λ z. AreAlike like.state (after z l.act)) same like.alike)
+      (subst (λ z. StandsFor g.plan g.machine.setup like.state (after z l.act)) same like.stands)
       (can like.state (state_like j (after l.state l.act) like)) in
       record { acts = l.act ∷ rest.acts; moves = (move, rest.moves); over = rest.over }
 
@@ -179,23 +183,26 @@ module _ (laws : Laws) (g : Graph) (is : IsGraph g) where
   -- no schedule leads from what is not marked to what is
   module _ (whole : IsWhole g) (marks : List Bool) (good : AreFinishing g marks) (closed : IsClosed g marks) where
     pub doomed_at : (acts : List Act) (k : ℕ) → slice_get marks k ≡ Some false → (s : Machine) → IsState g k s
-        → AreMoves g.plan.extras g.machine.setup acts → ¬ AreOver (run s acts)
-    doomed_at [] k off s x moves = good.no k off s x
-    doomed_at (a ∷ acts) k off s x moves =
+        → (u : Machine) → IsReached g.plan g.machine.setup u → StandsFor g.plan g.machine.setup s u
+        → AreMoves g.plan.extras g.machine.setup acts → ¬ AreOver (run u acts)
+    doomed_at [] k off s x u q st moves =
+        λ over. good.no k off s x (over_stands g.plan g.machine.setup is.begun s u x.reached q st over)
+    doomed_at (a ∷ acts) k off s x u q st moves =
+        let step = steps g.plan g.machine.setup is.begun s u x.reached q st a moves.0 in
         let within = slice_get_within marks k false off in
         let count = good.count in
         let l = is.explored.left k (omega (arith, within, count, whole)) in
         let same : l.state ≡ s = same_state laws g.plan g.machine.setup is.begun g.space k l.state s l.keeps x.keeps l.reached x.reached in
-        let at = is.explored.acts.all a moves.0 in
-        let tried = l.next at.0 a at.1 in
+        let at = is.explored.acts.all step.act step.move in
+        let tried = l.next at.0 step.act at.1 in
         let j = tried.met.number in
         let like = tried.met.like in
-        let to = state_like j (after l.state a) like in
-        let there = reached_then laws g.plan g.machine.setup is.begun s a x.reached moves.0 in
-        let alike = subst (λ z. AreAlike like.state (after z a)) same like.alike in
-        λ over. doomed_at acts j (off_too at.0 j like.state to tried.then) like.state to moves.1
-        (over_alike (run (after s a) acts) (run like.state acts)
-        (run_alike acts (after s a) like.state there like.reached moves.1 (sym alike)) over)
+        let to = state_like j (after l.state step.act) like in
+        let stands = subst (λ z. StandsFor g.plan g.machine.setup like.state (after z step.act)) same like.stands in
+        doomed_at acts j (off_too at.0 j like.state to tried.then) like.state to (after u a)
+        (reached_then laws g.plan g.machine.setup is.begun u a q moves.0)
+        (stands_then g.plan g.machine.setup is.begun like.state (after s step.act) (after u a) like.reached stands step.stands)
+        moves.1
       where
         apart : slice_get marks k ≡ Some true → ⊥
         apart here = cc
@@ -212,7 +219,8 @@ module _ (laws : Laws) (g : Graph) (is : IsGraph g) where
     pub doomed_all : (turned : List Bool) → AreTurned marks turned → AreDoomed g turned
     doomed_all turned t = record {
       count = t.count ∙ good.count;
-      yes = λ k here s x acts moves. doomed_at acts k (t.each k true here) s x moves;
+      yes = λ k here s x acts moves. doomed_at acts k (t.each k true here) s x s x.reached
+          (stands_self g.plan g.machine.setup is.begun s x.reached) moves;
       no = λ k here s x. good.yes k (t.each k false here) s x;
     }
 
@@ -253,7 +261,8 @@ module _ (laws : Laws) (g : Graph) (is : IsGraph g) where
               let t = state_after g.plan g.machine.setup others in
               let like = before.2 in
               absurd (ends.no before.0 (off_below marks k before.0 like.state ends.count first before.1 like.keeps)
-              like.state (state_like before.0 t like) (over_alike t like.state (sym like.alike) over))
+              like.state (state_like before.0 t like) (over_stands g.plan g.machine.setup is.begun like.state t like.reached
+              (record { acts = others; moves = moves; there = refl }) like.stands over))
         ];
   }
 
@@ -269,8 +278,8 @@ module _ (laws : Laws) (g : Graph) (is : IsGraph g) where
               let before = sooner k acts others to moves less in
               let t = state_after g.plan g.machine.setup others in
               let like = before.2 in
-              let can = can_alike like.state t like.reached (record { acts = others; moves = moves; there = refl })
-              like.alike (doomed.no before.0
+              let can = can_stand like.state t like.reached (record { acts = others; moves = moves; there = refl })
+              like.stands (doomed.no before.0
               (off_below marks k before.0 like.state doomed.count first before.1 like.keeps)
               like.state (state_like before.0 t like)) in
               absurd (lost can.acts can.moves can.over)
@@ -302,7 +311,8 @@ module _ (laws : Laws) (g : Graph) (is : IsGraph g) where
       let t = state_after g.plan g.machine.setup acts in
       let like = met.like in
       ends.no met.number (off_at marks met.number like.state ends.count none like.keeps) like.state
-      (state_like met.number t like) (over_alike t like.state (sym like.alike) over)
+      (state_like met.number t like) (over_stands g.plan g.machine.setup is.begun like.state t like.reached
+      (record { acts = acts; moves = moves; there = refl }) like.stands over)
 
   pub no_doom : (marks : List Bool) → AreDoomed g marks → ((k : ℕ) → slice_get marks k ≡ Some true → ⊥) → IsWhole g
       → NobodyIsDoomed g
@@ -310,7 +320,7 @@ module _ (laws : Laws) (g : Graph) (is : IsGraph g) where
       let met = whole_met laws g.plan g.machine.setup is.begun g.space g.book g.left is.explored whole acts moves in
       let t = state_after g.plan g.machine.setup acts in
       let like = met.like in
-      can_alike like.state t like.reached (record { acts = acts; moves = moves; there = refl }) like.alike
+      can_stand like.state t like.reached (record { acts = acts; moves = moves; there = refl }) like.stands
       (doomed.no met.number (off_at marks met.number like.state doomed.count none like.keeps) like.state
       (state_like met.number t like))
 

@@ -1,5 +1,5 @@
 -- A shortest schedule to an act that is sought.
-use Rattle.std.proofs.Common.{◌≡◌, ℕ, ◌<◌, List, sym, subst, length, Some, arith, inl, inr, refl}
+use Rattle.std.proofs.Common.{◌≡◌, ℕ, ◌<◌, List, sym, subst, length, Some, None, true, arith, inl, inr, refl}
 use Rattle.std.proofs.lemmas.Option.{slice_get_within}
 use Rattle.std.proofs.lemmas.Bool.{cases_lt}
 use Rattle.std.specs.Prelude.{slice_get}
@@ -14,9 +14,9 @@ use Rattle.lk_reach.specs.Reach.{AreMoves, IsBegun, IsReached, cpus_of, state_af
 use Rattle.lk_reach.specs.Seeking.{IsFirstDeed, NameCpus, NoneAt}
 use Rattle.lk_reach.specs.Space.{Keeps}
 use Rattle.lk_reach.specs.Told.{IsGraph, IsWay, IsWhole}
-use Rattle.lk_idle.specs.Alike.{AreAlike}
-use Rattle.lk_reach.proofs.Closed.{Laws, move_in_range, no_sooner, reached_alike, reached_sound, reached_such, whole_met}
-use Rattle.lk_reach.proofs.Likeness.{sought_alike}
+use Rattle.lk_reach.proofs.Closed.{Laws, move_in_range, reached_sound, reached_such}
+use Rattle.lk_reach.proofs.Folded.{deeds_stand}
+use Rattle.lk_reach.proofs.Known.{no_sooner, whole_met}
 use Rattle.lk_reach.proofs.Kept.{one_value}
 
 -- another machine of the setup
@@ -52,12 +52,6 @@ module _ (laws : Laws) (g : Graph) (is : IsGraph g) where
       → IsSuch g.machine.setup (state_after g.plan g.machine.setup acts)
   such_of acts moves = reached_such laws g.plan g.machine.setup is.begun (state_after g.plan g.machine.setup acts) (reached acts moves)
 
-  -- what an act does on a state, it does on one that is like it
-  sought_like : (sought : Sought) (s t : Machine) → IsReached g.plan g.machine.setup s
-      → IsReached g.plan g.machine.setup t → AreAlike s t → (a : Act) → IsSought sought s a → IsSought sought t a
-  sought_like sought s t r q alike a does =
-      sought_alike s t alike a (reached_alike laws g.plan g.machine.setup is.begun s t a r q alike) sought does
-
   pub all_stepped : (k : ℕ) → k < length g.space.keys → IsStepped g.machine.setup g.space k
   all_stepped k low = let good = is.explored.good k low in record {
     state = good.state;
@@ -69,10 +63,10 @@ module _ (laws : Laws) (g : Graph) (is : IsGraph g) where
   pub acts_name_cpus : NameCpus g.machine.setup g.plan.acts.items
   acts_name_cpus i a at = move_in_range g.plan.extras g.machine.setup a (is.explored.acts.only i a at)
 
-  pub shortest_deed : (sought : Sought) (k i : ℕ) (acts : List Act) (a : Act)
+  pub shortest_deed : (sought : Sought) → (g.plan.folds ≡ true → sought.cpu ≡ None) → (k i : ℕ) (acts : List Act) (a : Act)
       → IsFirstDeed g.machine.setup g.space g.plan.acts.items sought k i → slice_get g.plan.acts.items i ≡ Some a
       → IsWay g k acts → IsShortestToDeed g sought acts a
-  shortest_deed sought k i acts a found doing to =
+  shortest_deed sought any k i acts a found doing to =
       let s = state_after g.plan g.machine.setup acts in
       let same : found.done.act ≡ a = one_value (slice_get g.plan.acts.items i) found.done.act a found.done.is doing in
       record {
@@ -86,23 +80,25 @@ module _ (laws : Laws) (g : Graph) (is : IsGraph g) where
                   let count = to.count in
                   let sooner = no_sooner laws g.plan g.machine.setup is.begun g.space g.book g.left is.explored is.within
                   k to.origin to.is others moves (omega (arith, less, count)) in
-                  let at = is.explored.acts.all other move in
                   let like = sooner.2 in
                   let t = state_after g.plan g.machine.setup others in
-                  absurd (found.first sooner.0 sooner.1 at.0 other at.1 like.state like.keeps
-                  (reached_such laws g.plan g.machine.setup is.begun like.state like.reached)
-                  (sought_like sought t like.state (reached others moves) like.reached (sym like.alike) other does))
+                  let deed = deeds_stand g.plan g.machine.setup is.begun like.state t like.reached (reached others moves)
+                  like.stands sought any other move does in
+                  let at = is.explored.acts.all deed.0 deed.1 in
+                  absurd (found.first sooner.0 sooner.1 at.0 deed.0 at.1 like.state like.keeps
+                  (reached_such laws g.plan g.machine.setup is.begun like.state like.reached) deed.2)
             ];
       }
 
-  pub never_done : (sought : Sought)
+  pub never_done : (sought : Sought) → (g.plan.folds ≡ true → sought.cpu ≡ None)
       → ((k : ℕ) → k < length g.space.keys → NoneAt g.machine.setup g.space g.plan.acts.items sought k) → IsWhole g
       → IsNeverDone g sought
-  never_done sought none whole acts last moves move does =
+  never_done sought any none whole acts last moves move does =
       let met = whole_met laws g.plan g.machine.setup is.begun g.space g.book g.left is.explored whole acts moves in
-      let at = is.explored.acts.all last move in
       let like = met.like in
       let t = state_after g.plan g.machine.setup acts in
-      none met.number (slice_get_within g.space.keys met.number like.keeps.key like.keeps.is) at.0 last at.1
-      like.state like.keeps (reached_such laws g.plan g.machine.setup is.begun like.state like.reached)
-      (sought_like sought t like.state (reached acts moves) like.reached (sym like.alike) last does)
+      let deed = deeds_stand g.plan g.machine.setup is.begun like.state t like.reached (reached acts moves) like.stands
+      sought any last move does in
+      let at = is.explored.acts.all deed.0 deed.1 in
+      none met.number (slice_get_within g.space.keys met.number like.keeps.key like.keeps.is) at.0 deed.0 at.1
+      like.state like.keeps (reached_such laws g.plan g.machine.setup is.begun like.state like.reached) deed.2

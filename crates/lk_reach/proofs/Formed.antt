@@ -4,7 +4,7 @@ use Rattle.std.specs.Prelude.{unwrap_or, if◌then◌else◌}
 use Rattle.std.proofs.lemmas.Bool.{cases_eq}
 use Rattle.std.proofs.lemmas.Option.{slice_get_within, slice_get-get_or}
 use Rattle.std.proofs.lemmas.List.{ext_get_or}
-use Rattle.lk_abs.proofs.ByIndex.{get-append}
+use Rattle.lk_abs.proofs.ByIndex.{get-append, get-append_new}
 use Rattle.lk_rows.specs.declared.parts.Frame.{Frame}
 use Rattle.lk_rows.specs.Machine.{Machine, CpuState, cpu_at, depth_at, frame_at, node_at, no_cpu, rest_frame, rest_node, set_cpu, set_node, set_top, top_frame}
 use Rattle.lk_machine.specs.Parts.{SharedValue}
@@ -16,7 +16,8 @@ use Rattle.lk_idle.proofs.Lists.{get_or_mapped, set_mapped}
 use Rattle.lk_idle.proofs.FreeNodes.{unowned_freed}
 use Rattle.lk_idle.proofs.Goes.{nodes_rested}
 use Rattle.lk_reach.specs.declared.key.Key.{Key}
-use Rattle.lk_reach.specs.Space.{AreFormed, Grows, HasForm, HaveForm, IsFormed, IsFormOf, IsFront, IsNumberOf, Keeps, KeyKeeps, Rests, SameStates, SpaceValue}
+use Rattle.lk_reach.specs.Space.{AreFormed, Folds, Grows, HasForm, HaveForm, IsFoldOf, IsFormed, IsFormOf, IsFront, IsNumberOf}
+use Rattle.lk_reach.specs.Space.{IsSameKind, Keeps, KeyKeeps, Rests, SameStates, SpaceValue}
 use Rattle.lk_reach.proofs.Kept.{front_at, front_self, keeps_one, one_value, set_other, set_same}
 use Rattle.lk_reach.proofs.Likeness.{cpus_bared}
 
@@ -92,6 +93,31 @@ same_grows v w same = record {
   parts = front_same w.parts v.parts same.parts;
   shareds = front_same w.shareds v.shareds same.shareds;
   keys = front_same w.keys v.keys same.keys;
+  folds = front_same w.folds v.folds same.folds;
+}
+
+-- one key more
+pub pushed_last : (xs ys : List Key) (key : Key) (k : ℕ) → ys ≡ xs ++ key ∷ [] → k ≡ length xs → slice_get ys k ≡ Some key
+pushed_last xs ys key k pushed last =
+    subst (λ (n : ℕ). slice_get ys n ≡ Some key) (sym last)
+    (subst (λ (zs : List Key). slice_get zs (length xs) ≡ Some key) (sym pushed) (get-append_new xs key))
+
+pub pushed_grows : (v w : SpaceValue) → w.parts ≡ v.parts → w.shareds ≡ v.shareds → IsFront v.keys w.keys → w.folds ≡ v.folds
+    → Grows v w
+pushed_grows v w parts shareds keys folds = record {
+  parts = front_same w.parts v.parts parts;
+  shareds = front_same w.shareds v.shareds shareds;
+  keys = keys;
+  folds = front_same w.folds v.folds folds;
+}
+
+pub folded_grows : (v w : SpaceValue) (key fold : Key) → w.parts ≡ v.parts → w.shareds ≡ v.shareds
+    → w.keys ≡ v.keys ++ key ∷ [] → w.folds ≡ v.folds ++ fold ∷ [] → Grows v w
+folded_grows v w key fold parts shareds keys folds = record {
+  parts = front_same w.parts v.parts parts;
+  shareds = front_same w.shareds v.shareds shareds;
+  keys = (key ∷ [], keys);
+  folds = (fold ∷ [], folds);
 }
 
 -- no class
@@ -318,16 +344,35 @@ form_alike v a b s t formed have x y setup counts cpus =
 
 -- what the number of a key keeps is like the state of the key
 pub number_alike : (v : SpaceValue) (k : ℕ) (key : Key) (s t : Machine) → AreFormed v.parts v.forms v.classes
-    → IsNumberOf v k key → KeyKeeps v.parts v.shareds key t → Keeps v k s → s.setup ≡ t.setup
-    → s.counts ≡ t.counts → length s.cpus ≡ length t.cpus → AreAlike s t
-number_alike v k key s t formed n here has setup counts cpus =
+    → IsNumberOf v k key → KeyKeeps v.parts v.shareds key t → Keeps v k s → IsSameKind s t → AreAlike s t
+number_alike v k key s t formed n here has kind =
     let item : has.key ≡ n.item = one_value (slice_get v.keys k) has.key n.item has.is n.is in
     elim n.same [
       | inl same ↦ ap (λ (m : Machine). bared m) (keeps_one v k s t has (record {
         key = key;
         is = n.is ∙ ap Some same;
         keeps = here;
-      }) setup counts cpus)
+      }) kind.setup kind.counts kind.cpus)
       | inr have ↦ form_alike v n.item key s t formed have
-          (subst (λ (z : Key). KeyKeeps v.parts v.shareds z s) item has.keeps) here setup counts cpus
+          (subst (λ (z : Key). KeyKeeps v.parts v.shareds z s) item has.keeps) here kind.setup kind.counts kind.cpus
+    ]
+
+-- a key keeps one state
+pub key_one : (parts : List CpuState) (shareds : List SharedValue) (key : Key) (s t : Machine) → KeyKeeps parts shareds key s
+    → KeyKeeps parts shareds key t → IsSameKind s t → s ≡ t
+key_one parts shareds key s t a b kind =
+    let v : SpaceValue = record { parts = parts; shareds = shareds; keys = key ∷ []; folds = []; forms = []; classes = [] } in
+    keeps_one v 0 s t (record { key = key; is = refl; keeps = a }) (record { key = key; is = refl; keeps = b })
+    kind.setup kind.counts kind.cpus
+
+-- the fold that is found is like that of the key
+pub fold_alike : (v : SpaceValue) (k : ℕ) (key : Key) (s t : Machine) → AreFormed v.parts v.forms v.classes
+    → IsFoldOf v k key → KeyKeeps v.parts v.shareds key t → Folds v k s → IsSameKind s t → AreAlike s t
+fold_alike v k key s t formed n here has kind =
+    let item : has.key ≡ n.item = one_value (slice_get v.folds k) has.key n.item has.is n.is in
+    let keeps = subst (λ (z : Key). KeyKeeps v.parts v.shareds z s) item has.keeps in
+    elim n.same [
+      | inl same ↦ ap (λ (m : Machine). bared m) (key_one v.parts v.shareds key s t
+          (subst (λ (z : Key). KeyKeeps v.parts v.shareds z s) same keeps) here kind)
+      | inr have ↦ form_alike v n.item key s t formed have keeps here kind.setup kind.counts kind.cpus
     ]

@@ -59,7 +59,7 @@ module _ (plan : Plan) (setup : Setup) where
     state = x.state;
     keeps = keeps_grown v w g k x.state x.keeps;
     reached = x.reached;
-    alike = x.alike;
+    stands = x.stands;
   }
 
   module _ (v w : SpaceValue) (g : Grows v w) (b c : Book) (more : Continues b c) where
@@ -104,6 +104,7 @@ module _ (plan : Plan) (setup : Setup) where
     tried_grown k i n s a x = record {
       met = met_grown n (after s a) x.met;
       then = more.thens k i x.met.number x.then;
+      stays = x.stays;
       told = λ e tells. let t = x.told e tells in
           record { origin = t.origin; is = more.firsts (kind_value e.what) t.origin t.is; soon = t.soon };
     }

@@ -1,29 +1,30 @@
 -- Schedules, put together from their ends.
-use Rattle.std.proofs.Common.{◌≡◌, ℕ, ◌<◌, ◌+◌, List, [], ◌∷◌, refl, sym, ◌∙◌, ap, subst, ◌++◌, length, Option, Some, arith, inl, inr}
+use Rattle.std.proofs.Common.{◌≡◌, ℕ, ◌<◌, ◌≤◌, ◌+◌, List, [], ◌∷◌, refl, sym, ◌∙◌, ap, subst, ◌++◌, length, Option, Some, arith, inl, inr}
 use Rattle.std.proofs.lemmas.Option.{slice_get_within}
 use Rattle.std.proofs.lemmas.Bool.{cases_lt}
 use Rattle.std.specs.Prelude.{slice_get}
 use Rattle.lk_abs.specs.declared.events.Act.{Act}
+use Rattle.lk_abs.specs.declared.events.Event.{Event}
 use Rattle.lk_rows.specs.Acts.{next}
 use Rattle.lk_rows.specs.Machine.{Machine}
-use Rattle.lk_rows.specs.Run.{machine_after}
+use Rattle.lk_rows.specs.declared.setup.Setup.{Setup}
+use Rattle.lk_reach.specs.declared.book.Book.{Book}
 use Rattle.lk_reach.specs.declared.book.Origin.{Origin}
 use Rattle.lk_reach.specs.declared.graph.Graph.{Graph}
-use Rattle.lk_reach.specs.Explored.{IsOrigin, IsTold, KeepsLike}
-use Rattle.lk_reach.specs.Reach.{AreMoves, IsReached, MakesRow, after, bare, run, start_of, state_after}
-use Rattle.lk_reach.specs.Space.{Keeps}
-use Rattle.lk_reach.specs.Told.{IsBefore, IsGraph, IsNever, IsShortestToEvent, IsShortestToRow, IsWay, IsWhole, Tells}
+use Rattle.lk_reach.specs.declared.plan.Plan.{Plan}
+use Rattle.lk_reach.specs.Explored.{AreColumns, IsExplored, IsOrigin, IsSuch, IsTold, KeepsLike}
+use Rattle.lk_reach.specs.Reach.{AreMoves, IsBegun, IsReached, MakesRow, after, bare, cpus_of, run, start_of, state_after}
+use Rattle.lk_reach.specs.Space.{SpaceValue, Keeps}
+use Rattle.lk_reach.specs.Kinds.{kind_value}
+use Rattle.lk_reach.specs.Path.{AreLow, IsBefore, IsPath}
+use Rattle.lk_reach.specs.Told.{IsGraph, IsNever, IsShortestToEvent, IsShortestToRow, IsWay, IsWhole, Tells}
 use Rattle.lk_rows.specs.declared.parts.Pc.{Pc}
-use Rattle.lk_reach.proofs.Closed.{Laws, all_met, like_is, no_sooner, reached_alike, reached_start, reached_such, reached_then, same_state, soon_left, whole_met}
-use Rattle.lk_reach.proofs.Likeness.{makes_alike}
-use Rattle.lk_reach.proofs.Counts.{counts_are_idle}
+use Rattle.lk_reach.proofs.Closed.{Laws, reached_start, reached_such, reached_then, run_bare, same_state}
+use Rattle.lk_reach.proofs.Folded.{WasTold, laws, makes_stands, steps}
+use Rattle.lk_reach.proofs.Known.{all_met, like_is, no_sooner, soon_left, whole_met}
 use Rattle.lk_abs.proofs.ByIndex.{get_cases}
 use Rattle.lk_reach.proofs.Kept.{one_value}
 use Rattle.lk_reach.proofs.Left.{none_there}
-
-pub run_bare : (acts : List Act) (m : Machine) → run (bare m) acts ≡ bare (machine_after m acts)
-run_bare [] m = refl
-run_bare (a ∷ acts) m = ap (λ (s : Machine). run s acts) (counts_are_idle m a).0 ∙ run_bare acts (next m a).0
 
 -- these acts lead from the state of the one number to that of the other
 pub record LeadsOn (g : Graph) (j k : ℕ) (acts : List Act) : Type 0 where
@@ -39,19 +40,19 @@ leads_start g k = record {
   count = λ o p a b. let e = ap (λ (q : Origin). q.level) (one_value (slice_get g.book.origins.items k) o p a b) in omega (arith, e);
 }
 
+-- each state but the first was met from one with a lower number
+pub are_low : (plan : Plan) (setup : Setup) (v : SpaceValue) (b : Book) (n : ℕ) → IsExplored plan setup v b n → AreLow plan b
+are_low plan setup v b n x k o at up =
+    let is = x.origins k o at up in
+    (is.low, slice_get_within plan.acts.items o.act is.made.act is.made.doing)
+
 module _ (laws : Laws) (g : Graph) (is : IsGraph g) where
-  origin_of : (k j : ℕ) (a : Act) (before : IsBefore g k j a) → 0 < k
+  origin_of : (k j : ℕ) (a : Act) (before : IsBefore g.plan g.book k j a) → 0 < k
       → IsOrigin g.plan g.machine.setup g.space g.book before.origin k
   origin_of k j a before up = is.explored.origins k before.origin before.is up
 
-  pub before_low : (k j : ℕ) (a : Act) → IsBefore g k j a → 0 < k → j < k
-  before_low k j a before up =
-      let low = (origin_of k j a before up).low in
-      let from = before.from in
-      omega (arith, low, from)
-
   -- one act before
-  pub leads_then : (i j k : ℕ) (a : Act) (acts : List Act) → 0 < j → IsBefore g j i a → LeadsOn g j k acts
+  pub leads_then : (i j k : ℕ) (a : Act) (acts : List Act) → 0 < j → IsBefore g.plan g.book j i a → LeadsOn g j k acts
       → LeadsOn g i k (a ∷ acts)
   leads_then i j k a acts up before x =
       let o = origin_of j i a before up in
@@ -72,6 +73,11 @@ module _ (laws : Laws) (g : Graph) (is : IsGraph g) where
             (subst (λ (h : ℕ). slice_get g.book.origins.items h ≡ Some o.made.before) before.from o.made.was) here) in
             omega (arith, rest, level, was);
       }
+
+  -- the acts by which a state was met
+  pub path_leads : (acts : List Act) (i k : ℕ) → IsPath g.plan g.book i k acts → LeadsOn g i k acts
+  path_leads [] i k e = subst (λ (h : ℕ). LeadsOn g i h []) e (leads_start g i)
+  path_leads (a ∷ acts) i k x = leads_then i x.0 k a acts x.2 x.1 (path_leads acts x.0 k x.3)
 
   -- acts from the first state on
   pub way : (k : ℕ) (o : Origin) (acts : List Act) → slice_get g.book.origins.items k ≡ Some o → LeadsOn g 0 k acts
@@ -120,7 +126,8 @@ module _ (laws : Laws) (g : Graph) (is : IsGraph g) where
               let like = sooner.2 in
               let t = state_after g.plan g.machine.setup others in
               absurd (first sooner.0 sooner.1 like.state like.keeps (cpus_of_like sooner.0 t like)
-              (makes_alike t like.state (sym like.alike) row made))
+              (makes_stands g.plan g.machine.setup is.begun like.state t like.reached
+              (record { acts = others; moves = moves; there = refl }) like.stands row made))
           | inr not_so ↦ omega (arith, not_so)
         ];
   }
@@ -135,7 +142,8 @@ module _ (laws : Laws) (g : Graph) (is : IsGraph g) where
       let like = met.like in
       let t = state_after g.plan g.machine.setup acts in
       none met.number like.state like.keeps (cpus_of_like met.number t like)
-      (makes_alike t like.state (sym like.alike) row made)
+      (makes_stands g.plan g.machine.setup is.begun like.state t like.reached
+      (record { acts = acts; moves = moves; there = refl }) like.stands row made)
 
   -- and each state that was met has an origin
   pub way_to : (k : ℕ) (acts : List Act) → k < length g.space.keys → LeadsOn g 0 k acts → IsWay g k acts
@@ -164,6 +172,12 @@ module _ (laws : Laws) (g : Graph) (is : IsGraph g) where
         is = t.is;
       }
 
+  -- an event of the kind that was told of a state that stands for another
+  told_so : (kind most : ℕ) (e : Event) (o : Option Event) → WasTold o e → kind_value e.what ≡ kind
+      → ((x : Event) → o ≡ Some x → IsTold g.book (kind_value x.what) most) → IsTold g.book kind most
+  told_so kind most e o before is told =
+      subst (λ (h : ℕ). IsTold g.book h most) (before.kind ∙ is) (told before.event before.is)
+
   -- an event behind acts that lead to a state that was left
   telling_first : (kind : ℕ) (acts : List Act) (a : Act) → Tells g kind acts a
       → ((i : ℕ) (o : Origin) → slice_get g.book.origins.items i ≡ Some o → o.level < length acts + 1 → i < g.left)
@@ -174,18 +188,15 @@ module _ (laws : Laws) (g : Graph) (is : IsGraph g) where
       (λ i o at few. low i o at (omega (arith, few))) in
       let soon = met.soon in
       let l = is.explored.left met.number (low met.number met.origin met.is (omega (arith, soon))) in
-      let alike = like_is laws g.plan g.machine.setup is.begun g.space met.number l.state s l.keeps l.reached met.like in
-      let goes = reached_alike laws g.plan g.machine.setup is.begun l.state s a l.reached
-      (record { acts = acts; moves = t.moves; there = refl }) alike in
+      let stands = like_is laws g.plan g.machine.setup is.begun g.space met.number l.state s l.keeps l.reached met.like in
+      let step = steps g.plan g.machine.setup is.begun l.state s l.reached
+      (record { acts = acts; moves = t.moves; there = refl }) stands a t.move in
       let level = ap (λ (q : Origin). q.level) (one_value (slice_get g.book.origins.items met.number) l.origin met.origin l.is met.is) in
-      let at = is.explored.acts.all a t.move in
-      let told = (l.next at.0 a at.1).told t.event (goes.tells ∙ t.tells) in
+      let at = is.explored.acts.all step.act step.move in
+      let told = told_so kind (l.origin.level + 1) t.event (next l.state step.act).1 (step.told t.event t.tells) t.is
+      (l.next at.0 step.act at.1).told in
       let high = told.soon in
-      record {
-        origin = told.origin;
-        is = subst (λ (h : ℕ). slice_get g.book.firsts h ≡ Some (Some told.origin)) t.is told.is;
-        soon = omega (arith, high, level, soon);
-      }
+      record { origin = told.origin; is = told.is; soon = omega (arith, high, level, soon) }
 
   pub shortest_event : (kind : ℕ) (o : Origin) (acts : List Act) (a : Act) → slice_get g.book.firsts kind ≡ Some (Some o)
       → IsWay g o.state acts → slice_get g.plan.acts.items o.act ≡ Some a
@@ -222,3 +233,22 @@ module _ (laws : Laws) (g : Graph) (is : IsGraph g) where
       let told = telling_first kind acts a t
       (λ i o at few. let low = slice_get_within g.book.origins.items i o at in omega (arith, low, count, whole)) in
       none told.origin told.is
+
+-- the acts by which the state that is left was met
+pub way_of : (plan : Plan) (m : Machine) (v : SpaceValue) (b : Book) (k : ℕ) (acts : List Act) → IsBegun plan m.setup
+    → IsExplored plan m.setup v b k → AreColumns b (length plan.acts.items) k 0 → length m.cpus ≤ 8 → IsSuch m.setup m
+    → k < length v.keys → IsPath plan b 0 k acts
+    → IsWay (record { space = v; plan = plan; book = b; machine = m; cpus = cpus_of m.setup; left = k }) k acts
+way_of plan m v b k acts begun x columns few such there path =
+    let g : Graph = record { space = v; plan = plan; book = b; machine = m; cpus = cpus_of m.setup; left = k } in
+    let cpus = such.cpus in
+    let is : IsGraph g = record {
+      begun = begun;
+      explored = x;
+      columns = columns;
+      within = omega (arith, there);
+      cpus = refl;
+      few = omega (arith, few, cpus);
+      such = such;
+    } in
+    way_to laws g is k acts there (path_leads laws g is acts 0 k path)

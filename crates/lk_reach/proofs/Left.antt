@@ -1,5 +1,5 @@
 -- What an exploration knows grows.
-use Rattle.std.proofs.Common.{◌≡◌, ℕ, zero, suc, ◌<◌, ◌≤◌, ◌+◌, List, [], ◌∷◌, sym, ◌∙◌, ap, subst, length, Option, Some, None, arith, inl, inr, length-append}
+use Rattle.std.proofs.Common.{◌≡◌, ℕ, zero, suc, ◌<◌, ◌≤◌, ◌+◌, true, List, [], ◌∷◌, sym, ◌∙◌, ap, subst, length, Option, Some, None, arith, inl, inr, length-append}
 use Rattle.std.proofs.lemmas.Bool.{cases_lt, cases_eq}
 use Rattle.std.proofs.lemmas.Option.{slice_get_within}
 use Rattle.std.specs.Prelude.{slice_get}
@@ -15,13 +15,13 @@ use Rattle.lk_reach.specs.declared.book.Book.{Book}
 use Rattle.lk_reach.specs.declared.book.Origin.{Origin}
 use Rattle.lk_reach.specs.declared.plan.Plan.{Plan}
 use Rattle.lk_reach.specs.Kinds.{kind_value}
-use Rattle.lk_reach.specs.Reach.{IsBegun, IsMove, after, bare, start_of}
+use Rattle.lk_reach.specs.Reach.{IsBegun, IsMove, IsReached, after, bare, start_of}
 use Rattle.lk_reach.specs.Space.{SpaceValue, Keeps, Grows, IsLoadable}
 use Rattle.lk_reach.specs.Explored.{AreAllMoves, Continues}
+use Rattle.lk_reach.specs.Folded.{HaveFolds, IsNoted}
 use Rattle.lk_reach.specs.Explored.{AreColumns, IsAct, IsExplored, IsGood, IsHalfLeft, IsLeft}
 use Rattle.lk_reach.specs.Explored.{IsNew, IsOrigin, IsStepped, IsSuch, IsTelling, IsTried}
 use Rattle.lk_reach.specs.Explored.{KeepsLike}
-use Rattle.lk_idle.specs.Alike.{AreAlike}
 use Rattle.lk_reach.specs.Explored.{Writes}
 use Rattle.lk_reach.proofs.Kept.{front_at, front_self, front_then, keeps_grown, keeps_one, one_value}
 use Rattle.lk_reach.proofs.Columns.{columns_push, leads_now}
@@ -29,13 +29,19 @@ use Rattle.lk_reach.proofs.Grown.{continues, good_grown, left_grown, origin_case
 use Rattle.lk_reach.proofs.Closed.{Laws, reached_sound, reached_start, reached_such, reached_then}
 
 pub grows_self : (v : SpaceValue) → Grows v v
-grows_self v = record { parts = front_self v.parts; shareds = front_self v.shareds; keys = front_self v.keys }
+grows_self v = record {
+  parts = front_self v.parts;
+  shareds = front_self v.shareds;
+  keys = front_self v.keys;
+  folds = front_self v.folds;
+}
 
 pub grows_then : (u v w : SpaceValue) → Grows u v → Grows v w → Grows u w
 grows_then u v w a b = record {
   parts = front_then u.parts v.parts w.parts a.parts b.parts;
   shareds = front_then u.shareds v.shareds w.shareds a.shareds b.shareds;
   keys = front_then u.keys v.keys w.keys a.keys b.keys;
+  folds = front_then u.folds v.folds w.folds a.folds b.folds;
 }
 
 pub grows_keys : (v w : SpaceValue) → Grows v w → length v.keys ≤ length w.keys
@@ -86,18 +92,12 @@ loaded_is z v k s t a x b y =
 
 -- an act was made on a state, noted and written down
 pub record IsMade (plan : Plan) (setup : Setup) (v w : SpaceValue) (b c : Book) (k number : ℕ) (a : Act) : Type 0 where
-  pub grows : Grows v w
   pub then : ℕ
   pub event : Option Event
   pub move : IsMove plan.extras setup a
   pub doing : slice_get plan.acts.items number ≡ Some a
-  pub there : then < length w.keys
-  pub kept : (s : Machine) → Keeps v k s → IsSuch setup s → (t : Machine) → Keeps w then t → IsSuch setup t
-      → AreAlike t (after s a)
-  pub new : (i : ℕ) → length v.keys ≤ i → i < length w.keys → (s : Machine) → Keeps v k s → IsSuch setup s
-      → Keeps w i (after s a)
-  pub told : (s : Machine) → Keeps v k s → IsSuch setup s → event ≡ (next s a).1
-  pub one : (i : ℕ) → length v.keys ≤ i → i < length w.keys → i ≡ then
+  pub noted : (s : Machine) → Keeps v k s → IsReached plan setup s → IsNoted plan setup v w k (after s a) then
+  pub told : (s : Machine) → Keeps v k s → IsReached plan setup s → event ≡ (next s a).1
   pub writes : Writes b c k number then event
 
 module _ (plan : Plan) (setup : Setup) where
@@ -162,6 +162,7 @@ module _ (plan : Plan) (setup : Setup) where
           | inl e ↦ subst (λ (h : ℕ). IsLeft plan setup v b h) (sym e) now
           | inr ne ↦ x.left k (omega (arith, low, ne))
         ];
+    folds = x.folds;
   }
 
   pub stepped : (laws : Laws) → IsBegun plan setup → (v : SpaceValue) (b : Book) (k n : ℕ) (acts : List Act)
@@ -176,8 +177,8 @@ module _ (plan : Plan) (setup : Setup) where
   module _ (laws : Laws) (begun : IsBegun plan setup) (v w : SpaceValue) (b c : Book) (k number : ℕ) (a : Act)
       (made : IsMade plan setup v w b c k number a) (half : IsHalfLeft plan setup v b k plan.acts.items number)
       (x : IsExplored plan setup v b k) (columns : AreColumns b (length plan.acts.items) k number) where
-    such : IsSuch setup half.state
-    such = reached_such laws plan setup begun half.state half.reached
+    noted : IsNoted plan setup v w k (after half.state a) made.then
+    noted = made.noted half.state half.keeps half.reached
 
     in_columns : number < length b.thens.items
     in_columns =
@@ -195,39 +196,38 @@ module _ (plan : Plan) (setup : Setup) where
     good : (i : ℕ) → i < length w.keys → IsGood plan setup w i
     good i low =
         elim (cases_lt i (length v.keys)) [
-          | inl old ↦ good_grown plan setup v w made.grows i (x.good i old)
+          | inl old ↦ good_grown plan setup v w noted.grows i (x.good i old)
           | inr new ↦ record {
             state = after half.state a;
-            keeps = made.new i new low half.state half.keeps such;
+            keeps = (noted.one i new low).1;
             reached = reached_then laws plan setup begun half.state a half.reached made.move;
           }
         ]
 
     leads : KeepsLike plan setup w made.then (after half.state a)
     leads =
-        let to = good made.then made.there in
+        let to = good made.then noted.there in
         record {
           state = to.state;
           keeps = to.keeps;
           reached = to.reached;
-          alike = made.kept half.state half.keeps such to.state to.keeps
-              (reached_such laws plan setup begun to.state to.reached);
+          stands = noted.kept to.state to.keeps to.reached;
         }
 
     -- the new number is the next one
     then_low : made.then < length w.keys
-    then_low = made.there
+    then_low = noted.there
 
     count : length c.origins.items ≡ length w.keys
     count =
-        let grown = grows_keys v w made.grows in
+        let grown = grows_keys v w noted.grows in
         let before = x.count in
         elim made.writes.origins [
           | inl same ↦
               let not_next = same.0 in
               let size = ap length same.1 in
               elim (cases_lt (length v.keys) (length w.keys)) [
-                | inl wider ↦ let e = made.one (length v.keys) (omega arith) wider in absurd (not_next (sym e ∙ sym before))
+                | inl wider ↦ let e = (noted.one (length v.keys) (omega arith) wider).0 in absurd (not_next (sym e ∙ sym before))
                 | inr not_so ↦ omega (arith, grown, before, size, not_so)
               ]
           | inr new ↦
@@ -236,7 +236,7 @@ module _ (plan : Plan) (setup : Setup) where
               let low = then_low in
               elim (cases_lt (length v.keys + 1) (length w.keys)) [
                 | inl wider ↦
-                    let e = made.one (length v.keys + 1) (omega arith) wider in
+                    let e = (noted.one (length v.keys + 1) (omega arith) wider).0 in
                     absurd (omega (arith, e, is_next, before))
                 | inr not_so ↦ omega (arith, low, is_next, before, size, not_so)
               ]
@@ -246,7 +246,7 @@ module _ (plan : Plan) (setup : Setup) where
     made_act = record {
       state = half.state;
       keeps = subst (λ (h : ℕ). Keeps w h half.state) (sym made.writes.next.from)
-          (keeps_grown v w made.grows k half.state half.keeps);
+          (keeps_grown v w noted.grows k half.state half.keeps);
       reached = half.reached;
       before = made.writes.next.before;
       was = subst (λ (h : ℕ). slice_get c.origins.items h ≡ Some made.writes.next.before) (sym made.writes.next.from)
@@ -286,7 +286,7 @@ module _ (plan : Plan) (setup : Setup) where
       acts = x.acts;
       count = count;
       first = record {
-        keeps = keeps_grown v w made.grows 0 (bare (start_of plan setup)) x.first.keeps;
+        keeps = keeps_grown v w noted.grows 0 (bare (start_of plan setup)) x.first.keeps;
         origin = x.first.origin;
         is = front_at b.origins.items c.origins.items more.origins 0 x.first.origin x.first.is;
         level = x.first.level;
@@ -294,7 +294,7 @@ module _ (plan : Plan) (setup : Setup) where
       good = good;
       origins = λ i o here up.
           elim (origin_cases b.origins.items c.origins.items made.then origin made.writes.origins i o here) [
-            | inl old ↦ origin_grown plan setup v w made.grows b c more o i (x.origins i o old up)
+            | inl old ↦ origin_grown plan setup v w noted.grows b c more o i (x.origins i o old up)
             | inr new ↦
                 let from = made.writes.next.from in
                 let low = old_low in
@@ -303,7 +303,7 @@ module _ (plan : Plan) (setup : Setup) where
                 (subst (λ (h : ℕ). IsOrigin plan setup w c origin h) (new.1 ∙ sym new.0) (record {
                   made = made_act;
                   low = omega (arith, from, low, new.1);
-                  leads = made.new made.then (omega (arith, size, new.1)) made.there half.state half.keeps such;
+                  leads = (noted.one made.then (omega (arith, size, new.1)) noted.there).1;
                 }))
           ];
       sorted = λ i j o p here there before.
@@ -328,12 +328,12 @@ module _ (plan : Plan) (setup : Setup) where
           omega (arith, most, e);
       tellings = λ kind o here.
           elim (made.writes.firsts.only kind o here) [
-            | inl old ↦ telling_grown plan setup v w made.grows b c more o kind (x.tellings kind o old)
+            | inl old ↦ telling_grown plan setup v w noted.grows b c more o kind (x.tellings kind o old)
             | inr new ↦
                 subst (λ (p : Origin). IsTelling plan setup w c p kind) (sym new.same) (record {
                   made = made_act;
                   event = new.told;
-                  tells = sym (made.told half.state half.keeps such) ∙ new.is;
+                  tells = sym (made.told half.state half.keeps half.reached) ∙ new.is;
                   is = new.right;
                 })
           ];
@@ -341,7 +341,8 @@ module _ (plan : Plan) (setup : Setup) where
           let e = ap (λ (q : Origin). q.level) (one_value (slice_get c.origins.items k) p half.origin now here_is) in
           let most = told_level kind o here in
           omega (arith, most, e);
-      left = λ i low. left_grown plan setup v w made.grows b c more i (x.left i low);
+      left = λ i low. left_grown plan setup v w noted.grows b c more i (x.left i low);
+      folds = noted.folds;
     }
 
     tried : IsTried plan setup w c k number (half.origin.level + 1) half.state a
@@ -355,16 +356,17 @@ module _ (plan : Plan) (setup : Setup) where
             is = o.1;
             soon = low_level made.then o.0 o.1;
           };
+          stays = λ e. noted.stays e half.state half.keeps half.reached;
           then = leads_now b c number made.then in_columns made.writes.thens (length plan.acts.items) k columns;
           told = λ e tells.
-              let t = made.writes.firsts.told e (made.told half.state half.keeps such ∙ tells) in
+              let t = made.writes.firsts.told e (made.told half.state half.keeps half.reached ∙ tells) in
               record { origin = t.0; is = t.1; soon = told_level (kind_value e.what) t.0 t.1 };
         }
 
     pub half_then : IsHalfLeft plan setup w c k plan.acts.items (number + 1)
     half_then = record {
       state = half.state;
-      keeps = keeps_grown v w made.grows k half.state half.keeps;
+      keeps = keeps_grown v w noted.grows k half.state half.keeps;
       reached = half.reached;
       origin = half.origin;
       is = here_is;
@@ -376,7 +378,7 @@ module _ (plan : Plan) (setup : Setup) where
                 subst (λ (h : ℕ). IsTried plan setup w c k h (half.origin.level + 1) half.state d) (sym e)
                 (subst (λ z. IsTried plan setup w c k number (half.origin.level + 1) half.state z) same tried)
             | inr ne ↦
-                tried_grown plan setup v w made.grows b c more k i (half.origin.level + 1) half.state d
+                tried_grown plan setup v w noted.grows b c more k i (half.origin.level + 1) half.state d
                 (half.next i d (omega (arith, low, ne)) here)
           ];
     }
@@ -388,8 +390,8 @@ module _ (plan : Plan) (setup : Setup) where
   pub explored_start : (laws : Laws) → IsBegun plan setup → AreAllMoves plan.extras setup plan.acts.items
       → (v : SpaceValue) (b : Book) (n : ℕ) → IsNew b (length plan.acts.items)
       → Keeps v n (bare (start_of plan setup)) → ((k : ℕ) → k < length v.keys → k ≡ n)
-      → IsExplored plan setup v b 0
-  explored_start laws begun acts v b n new keeps one =
+      → (plan.folds ≡ true → HaveFolds plan setup v) → IsExplored plan setup v b 0
+  explored_start laws begun acts v b n new keeps one folds =
       let low = slice_get_within v.keys n keeps.key keeps.is in
       let zero_is : 0 ≡ n = one 0 (omega (arith, low)) in
       let keeps_first : Keeps v 0 (bare (start_of plan setup)) =
@@ -413,6 +415,7 @@ module _ (plan : Plan) (setup : Setup) where
         tellings = λ kind o here. absurd (new.firsts kind o here);
         told_near = λ kind o p here there. absurd (new.firsts kind o here);
         left = λ k none. absurd (omega (arith, none));
+        folds = folds;
       }
     where
       size : n < length v.keys → 0 ≡ n → length b.origins.items ≡ length v.keys

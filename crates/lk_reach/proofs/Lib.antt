@@ -1,6 +1,8 @@
 pub mod Counts
 pub mod Likeness
 pub mod Closed
+pub mod Folded
+pub mod Known
 pub mod Columns
 pub mod Deepest
 pub mod Kept
@@ -13,3 +15,6 @@ pub mod Marks
 pub mod Ending
 pub mod Firsts
 pub mod Finding
+pub mod Noted
+pub mod Orders
+pub mod Alike

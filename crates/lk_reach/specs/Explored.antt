@@ -1,6 +1,6 @@
 -- What an exploration knows: which states it has met, by how many acts, and which of them it has left
 -- by every act.
-use Rattle.std.specs.Prelude.{◌≡◌, ◌≢◌, ◌<◌, ◌≤◌, ◌+◌, ◌++◌, ◌∷◌, [], ◌⊎◌, ℕ, List, length, slice_get, slice_index_or, slice_set, Option, Some}
+use Rattle.std.specs.Prelude.{◌≡◌, ◌≢◌, ◌<◌, ◌≤◌, ◌+◌, ◌++◌, ◌∷◌, [], ◌⊎◌, ℕ, true, List, length, slice_get, slice_index_or, slice_set, Option, Some}
 use Rattle.lk_abs.specs.declared.events.Act.{Act}
 use Rattle.lk_abs.specs.declared.events.Event.{Event}
 use Rattle.lk_rows.specs.declared.setup.Setup.{Setup}
@@ -13,6 +13,7 @@ use Rattle.lk_reach.specs.declared.book.Origin.{Origin}
 use Rattle.lk_reach.specs.declared.plan.Extras.{Extras}
 use Rattle.lk_reach.specs.declared.plan.Plan.{Plan}
 use Rattle.lk_reach.specs.Edges.{edges_in, one_away}
+use Rattle.lk_reach.specs.Folded.{HaveFolds, StandsFor}
 use Rattle.lk_reach.specs.Kinds.{kind_value}
 use Rattle.lk_reach.specs.Reach.{IsBegun, IsMove, IsReached, after, bare, cpus_of, start_of}
 use Rattle.lk_reach.specs.Space.{IsFront, SpaceValue, Keeps}
@@ -37,13 +38,13 @@ pub record IsGood (plan : Plan) (setup : Setup) (v : SpaceValue) (k : ℕ) : Typ
   pub keeps : Keeps v k state
   pub reached : IsReached plan setup state
 
--- the number is that of a state that a schedule reaches, and that differs from this one in what
--- nobody reads alone
+-- the number is that of a state that a schedule reaches, and that stands for this one: it differs in
+-- what nobody reads alone, or, where states are folded, in the numbers of processors that are alike, too
 pub record KeepsLike (plan : Plan) (setup : Setup) (v : SpaceValue) (k : ℕ) (s : Machine) : Type 0 where
   pub state : Machine
   pub keeps : Keeps v k state
   pub reached : IsReached plan setup state
-  pub alike : AreAlike state s
+  pub stands : StandsFor plan setup state s
 
 -- such a state is known
 abbrev pub KnowsLike : Plan → Setup → SpaceValue → Machine → Type 0
@@ -93,11 +94,13 @@ pub record LeadsTo (b : Book) (k i j : ℕ) : Type 0 where
   pub is : slice_get b.thens.items i ≡ Some column
   pub then : slice_get column k ≡ Some j
 
--- what the act of number i on the state of number k leads to is known, and its number written down
+-- what the act of number i on the state of number k leads to is known, and its number written down; if
+-- that is number k itself, the act changes nothing but what nobody reads
 pub record IsTried (plan : Plan) (setup : Setup) (v : SpaceValue) (b : Book) (k i most : ℕ) (s : Machine) (a : Act)
     : Type 0 where
   pub met : IsMet plan setup v b most (after s a)
   pub then : LeadsTo b k i met.number
+  pub stays : met.number ≡ k → AreAlike s (after s a)
   pub told : (e : Event) → (next s a).1 ≡ Some e → IsTold b (kind_value e.what) most
 
 -- the first acts of these were tried on the state
@@ -162,6 +165,7 @@ pub record IsExplored (plan : Plan) (setup : Setup) (v : SpaceValue) (b : Book) 
   pub told_near : (kind : ℕ) (o p : Origin) → slice_get b.firsts kind ≡ Some (Some o) → slice_get b.origins.items n ≡ Some p
       → o.level ≤ p.level + 1
   pub left : (k : ℕ) → k < n → IsLeft plan setup v b k
+  pub folds : plan.folds ≡ true → HaveFolds plan setup v
 
 -- nothing that was written down is forgotten
 pub record Continues (old new : Book) : Type 0 where

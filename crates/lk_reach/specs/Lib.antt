@@ -1,8 +1,12 @@
+pub mod Peers
+pub mod Order
 pub mod Reach
 pub mod Space
+pub mod Folded
 pub mod Kinds
 pub mod Edges
 pub mod Explored
+pub mod Path
 pub mod Told
 pub mod Rows
 pub mod Ends

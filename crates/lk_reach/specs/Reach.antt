@@ -13,6 +13,7 @@ use Rattle.lk_law.specs.MachineLaws.{AreInRange}
 use Rattle.lk_idle.specs.Alike.{AreAlike}
 use Rattle.lk_reach.specs.declared.plan.Extras.{Extras}
 use Rattle.lk_reach.specs.declared.plan.Plan.{Plan}
+use Rattle.lk_reach.specs.Peers.{AreFirsts}
 
 -- the machine without its counts
 abbrev pub bare : Machine → Machine
@@ -41,10 +42,16 @@ AreMoves extras setup (a ∷ acts) = IsMove extras setup a × AreMoves extras se
 abbrev pub cpus_of : Setup → ℕ
 cpus_of setup = length setup.topology.sockets.items
 
+-- states may be folded: the plan begins at rest, and knows which processors are alike
+pub record MayFold (plan : Plan) (setup : Setup) : Type 0 where
+  pub rest : plan.before.items ≡ []
+  pub peers : AreFirsts setup plan.peers.firsts
+
 -- the setup is lawful, and the acts that come before the exploration name its processors
 pub record IsBegun (plan : Plan) (setup : Setup) : Type 0 where
   pub lawful : IsLawfulSetup setup
   pub range : AreInRange (cpus_of setup) plan.before.items
+  pub folds : plan.folds ≡ true → MayFold plan setup
 
 -- where the exploration begins: behind these acts, from rest
 abbrev pub start_of : Plan → Setup → Machine

@@ -1,5 +1,5 @@
 -- The space of the states that were met: what is kept of each, and when that is a state.
-use Rattle.std.specs.Prelude.{◌≡◌, ◌<◌, ◌⊎◌, ◌++◌, ℕ, List, length, slice_get, Some}
+use Rattle.std.specs.Prelude.{◌≡◌, ◌≢◌, ◌<◌, ◌≤◌, ◌⊎◌, ◌++◌, ◌∷◌, [], ℕ, List, length, slice_get, Some}
 use Rattle.lk_rows.specs.Machine.{Machine, CpuState, cpu_at, set_cpu}
 use Rattle.lk_machine.specs.Parts.{SharedValue, Holds}
 use Rattle.lk_idle.specs.Alike.{bared_cpu}
@@ -15,12 +15,14 @@ pub record HasShared (items : List SharedValue) (i : ℕ) (m : Machine) : Type 0
   pub is : slice_get items i ≡ Some item
   pub holds : Holds item m
 
--- What was met: parts of processors, what is of no one processor, and a key for each state; and
--- parts without what nobody reads, and for each part the number of the one that it is then.
+-- What was met: parts of processors, what is of no one processor, and a key for each state; where
+-- states are folded, for each the key of its fold; and parts without what nobody reads, and for each
+-- part the number of the one that it is then.
 pub record SpaceValue : Type 0 where
   pub parts : List CpuState
   pub shareds : List SharedValue
   pub keys : List Key
+  pub folds : List Key
   pub forms : List CpuState
   pub classes : List ℕ
 
@@ -58,6 +60,12 @@ pub record IsNumberOf (v : SpaceValue) (k : ℕ) (key : Key) : Type 0 where
   pub is : slice_get v.keys k ≡ Some item
   pub same : (item ≡ key) ⊎ HaveForm v.classes item key
 
+-- the key of its fold is this one, or has the same form
+pub record IsFoldOf (v : SpaceValue) (k : ℕ) (key : Key) : Type 0 where
+  pub item : Key
+  pub is : slice_get v.folds k ≡ Some item
+  pub same : (item ≡ key) ⊎ HaveForm v.classes item key
+
 -- the key keeps the state
 pub record KeyKeeps (parts : List CpuState) (shareds : List SharedValue) (key : Key) (s : Machine) : Type 0 where
   pub shared : HasShared shareds key.shared s
@@ -69,6 +77,18 @@ pub record Keeps (v : SpaceValue) (k : ℕ) (s : Machine) : Type 0 where
   pub key : Key
   pub is : slice_get v.keys k ≡ Some key
   pub keeps : KeyKeeps v.parts v.shareds key s
+
+-- the fold of the state of this number
+pub record Folds (v : SpaceValue) (k : ℕ) (s : Machine) : Type 0 where
+  pub key : Key
+  pub is : slice_get v.folds k ≡ Some key
+  pub keeps : KeyKeeps v.parts v.shareds key s
+
+-- they are of one setup, have counted the same, and have as many processors
+pub record IsSameKind (s m : Machine) : Type 0 where
+  pub setup : s.setup ≡ m.setup
+  pub counts : s.counts ≡ m.counts
+  pub cpus : length s.cpus ≡ length m.cpus
 
 -- the number is that of a state to which the machine can be set: it has as many processors and locks
 pub record IsLoadable (v : SpaceValue) (k : ℕ) (m : Machine) : Type 0 where
@@ -83,6 +103,7 @@ pub record SameStates (old new : SpaceValue) : Type 0 where
   pub parts : new.parts ≡ old.parts
   pub shareds : new.shareds ≡ old.shareds
   pub keys : new.keys ≡ old.keys
+  pub folds : new.folds ≡ old.folds
 
 -- one of these parts differs from this one in what nobody reads alone
 pub record HasForm (forms : List CpuState) (n : ℕ) (part : CpuState) : Type 0 where
@@ -101,6 +122,50 @@ pub record Grows (old new : SpaceValue) : Type 0 where
   pub parts : IsFront old.parts new.parts
   pub shareds : IsFront old.shareds new.shareds
   pub keys : IsFront old.keys new.keys
+  pub folds : IsFront old.folds new.folds
+
+-- the same states were met, and maybe more parts
+pub record AddsParts (old new : SpaceValue) : Type 0 where
+  pub grows : Grows old new
+  pub keys : new.keys ≡ old.keys
+  pub folds : new.folds ≡ old.folds
+
+-- the number is that of a state with this key or one of the same form, and each new number is this one
+pub record IsNumbered (old new : SpaceValue) (key : Key) (k : ℕ) : Type 0 where
+  pub found : IsNumberOf new k key
+  pub grows : Grows old new
+  pub parts : new.parts ≡ old.parts
+  pub shareds : new.shareds ≡ old.shareds
+  pub folds : new.folds ≡ old.folds
+  pub one : (j : ℕ) → length old.keys ≤ j → j < length new.keys → (j ≡ k) × (slice_get new.keys j ≡ Some key)
+
+-- one state more has this fold
+pub record AddsFold (old new : SpaceValue) (fold : Key) : Type 0 where
+  pub parts : new.parts ≡ old.parts
+  pub shareds : new.shareds ≡ old.shareds
+  pub keys : new.keys ≡ old.keys
+  pub folds : new.folds ≡ old.folds ++ fold ∷ []
+
+-- one state more has this key, this fold and this number
+pub record IsFolded (old new : SpaceValue) (key fold : Key) (k : ℕ) : Type 0 where
+  pub number : k ≡ length old.keys
+  pub parts : new.parts ≡ old.parts
+  pub shareds : new.shareds ≡ old.shareds
+  pub keys : new.keys ≡ old.keys ++ key ∷ []
+  pub folds : new.folds ≡ old.folds ++ fold ∷ []
+
+-- The number is that of a state other than the one that is left, whose fold is this one or of the same form. Each
+-- new number is this one, and has this key and this fold.
+pub record IsFoldNumbered (old new : SpaceValue) (key fold : Key) (left k : ℕ) : Type 0 where
+  pub found : IsFoldOf new k fold
+  pub there : k < length new.keys
+  pub other : k ≢ left
+  pub grows : Grows old new
+  pub parts : new.parts ≡ old.parts
+  pub shareds : new.shareds ≡ old.shareds
+  pub one : (j : ℕ) → length old.keys ≤ j → j < length new.keys
+      → (j ≡ k) × (slice_get new.keys j ≡ Some key) × (slice_get new.folds j ≡ Some fold)
+  pub count : length new.folds ≡ length new.keys
 
 -- the state is kept
 abbrev pub Knows : SpaceValue → Machine → Type 0

@@ -7,7 +7,7 @@ use Rattle.lk_rows.specs.Machine.{Machine}
 use Rattle.lk_rows.specs.declared.parts.Pc.{Pc}
 use Rattle.lk_reach.specs.declared.book.Origin.{Origin}
 use Rattle.lk_reach.specs.declared.graph.Graph.{Graph}
-use Rattle.lk_idle.specs.Alike.{AreAlike}
+use Rattle.lk_reach.specs.Folded.{StandsFor}
 use Rattle.lk_reach.specs.Explored.{AreColumns, IsExplored, IsSuch, KeepsLike}
 use Rattle.lk_reach.specs.Reach.{AreMoves, IsBegun, IsMove, MakesRow, cpus_of, state_after}
 use Rattle.lk_reach.specs.Kinds.{kind_value}
@@ -27,13 +27,6 @@ pub record IsGraph (g : Graph) : Type 0 where
 abbrev pub IsWhole : Graph → Type 0
 IsWhole g = g.left ≡ length g.space.keys
 
--- the act by which the state of this number was first met, and the state before it
-pub record IsBefore (g : Graph) (k j : ℕ) (a : Act) : Type 0 where
-  pub origin : Origin
-  pub is : slice_get g.book.origins.items k ≡ Some origin
-  pub from : origin.state ≡ j
-  pub doing : slice_get g.plan.acts.items origin.act ≡ Some a
-
 -- these acts lead to the state of this number, and are as many as its level says
 pub record IsWay (g : Graph) (k : ℕ) (acts : List Act) : Type 0 where
   pub moves : AreMoves g.plan.extras g.machine.setup acts
@@ -48,12 +41,12 @@ pub record IsWithin (g : Graph) (most k : ℕ) : Type 0 where
   pub way : IsWay g k acts
   pub few : length acts ≤ most
 
--- and to one that differs from this one in what nobody reads alone
+-- and to one that stands for this one
 pub record IsLikeWithin (g : Graph) (most : ℕ) (s : Machine) : Type 0 where
   pub acts : List Act
   pub moves : AreMoves g.plan.extras g.machine.setup acts
   pub few : length acts ≤ most
-  pub alike : AreAlike (state_after g.plan g.machine.setup acts) s
+  pub stands : StandsFor g.plan g.machine.setup (state_after g.plan g.machine.setup acts) s
 
 -- So many acts are enough for each state that was met, and, where every state was left, for one like each that a
 -- schedule reaches. No schedule of fewer acts leads to the number of the last state: it leads to a lower one.

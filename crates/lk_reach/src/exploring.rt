@@ -1,18 +1,21 @@
 // The exploration.
 
-ghost use Rattle.std.specs.Prelude.{◌≡◌, ◌<◌, ◌≤◌, ◌+◌, ℕ, List, IfOk, OnOk, length};
+ghost use Rattle.std.specs.Prelude.{◌≡◌, ◌<◌, ◌≤◌, ◌+◌, ℕ, List, IfOk, OnOk, length, true};
 ghost use Rattle.lk_abs.specs.declared.events.Act.{Act as ActValue};
-ghost use Rattle.lk_rows.specs.Acts.{next, processor_of};
+ghost use Rattle.lk_rows.specs.Acts.{next};
 ghost use Rattle.lk_rows.specs.Machine.{Machine as MachineValue};
-ghost use Rattle.lk_reach.specs.Reach.{AreMoves, IsBegun, after, state_after};
-ghost use Rattle.lk_idle.specs.Alike.{AreAlike};
-ghost use Rattle.lk_reach.specs.Space.{Grows, Keeps};
-ghost use Rattle.lk_reach.specs.Explored.{AreColumns, IsExplored, IsGood, IsStart, IsStepped, IsSuch, KnowsLike};
+ghost use Rattle.lk_reach.specs.Path.{AreLow, IsPath};
+ghost use Rattle.lk_reach.specs.Reach.{AreMoves, IsBegun, IsMove, IsReached, after, state_after};
+ghost use Rattle.lk_reach.specs.Folded.{IsHere, IsNoted};
+ghost use Rattle.lk_reach.specs.Space.{Folds, Keeps};
+ghost use Rattle.lk_reach.specs.Explored.{AreColumns, IsExplored, IsGood, IsStart, IsSuch, KnowsLike};
 ghost use Rattle.lk_reach.specs.Told.{IsGraph, IsWhole};
 
 use crate::book::{Book, Seen};
+use crate::folding::{Here, note};
 use crate::graph::Graph;
 use crate::making::make;
+use crate::path::path_to;
 use crate::plan::Plan;
 use crate::space::Space;
 use crate::table::MOST;
@@ -27,36 +30,48 @@ pub trait Watch {
     fn goes_on(&mut self, seen: Seen) -> bool;
 }
 
-// Makes an act on a state. Returns the state after it, and the event.
+// Makes an act on the state that is left. Returns the number of the state after it, or of one that
+// stands for that, and the event.
 fn visit(
     space: &mut Space,
     machine: &mut Machine,
-    state: usize,
+    plan: &Plan,
+    here: &Here,
     doing: Act,
 ) -> Result<(u32, Option<Event>), Memory>
     requires few { length machine.old.cpus ≤ 8 }
     requires such { IsSuch machine.old.setup machine.old }
-    requires stepped { IsStepped machine.old.setup space.old state }
-    requires range { processor_of doing < length machine.old.cpus }
-    ensures there { IfOk result (λ found. found.0 < length space.new.keys) }
-    ensures kept { IfOk result (λ found. (s : MachineValue) → Keeps space.old state s
-        → IsSuch machine.old.setup s → (t : MachineValue) → Keeps space.new found.0 t
-        → IsSuch machine.old.setup t → AreAlike t (after s doing)) }
-    ensures new { OnOk result ((j : ℕ) → length space.old.keys ≤ j → j < length space.new.keys
-        → (s : MachineValue) → Keeps space.old state s → IsSuch machine.old.setup s
-        → Keeps space.new j (after s doing)) }
-    ensures told { IfOk result (λ found. (s : MachineValue) → Keeps space.old state s
-        → IsSuch machine.old.setup s → found.1 ≡ (next s doing).1) }
-    ensures grows { OnOk result (Grows space.old space.new) }
-    ensures one { IfOk result (λ found. (j : ℕ) → length space.old.keys ≤ j
-        → j < length space.new.keys → j ≡ found.0) }
+    requires here { IsHere plan.now machine.old.setup space.old here.now }
+    requires moves { IsMove plan.now.extras machine.old.setup doing }
+    ensures noted { IfOk result (λ found. (s : MachineValue) → Keeps space.old here.now.state s
+        → IsReached plan.now machine.old.setup s
+        → IsNoted plan.now machine.old.setup space.old space.new here.now.state
+        (after s doing) found.0) }
+    ensures told { IfOk result (λ found. (s : MachineValue) → Keeps space.old here.now.state s
+        → IsReached plan.now machine.old.setup s → found.1 ≡ (next s doing).1) }
     ensures such { OnOk result (IsSuch machine.old.setup machine.new) }
-    ensures setup { OnOk result (machine.new.setup ≡ machine.old.setup) }
 {
-    space.load(state, machine);
+    space.load(here.state, machine);
     let event = make(machine, doing);
-    let number = space.note(machine, state)?;
+    let number = note(space, machine, plan, here, doing)?;
     Ok((number, event))
+}
+
+// The state that is left next. To fold what is behind it, it takes a schedule to it.
+fn here_at(plan: &Plan, book: &Book, space: &Space, state: usize) -> Result<Here, Memory>
+    requires low { AreLow plan.now book.now }
+    requires there { state < length book.now.origins.items }
+    ensures state { IfOk result (λ here. here.state ≡ state) }
+    ensures way { IfOk result (λ here. plan.now.folds ≡ true
+        → IsPath plan.now book.now 0 state here.way.items) }
+{
+    let alloc = space.memory();
+    let way = if plan.folds {
+        path_to(alloc, plan, book, state)?
+    } else {
+        Vec::new(alloc)
+    };
+    Ok(Here { state, way })
 }
 
 // Makes every act on a state.
@@ -82,9 +97,10 @@ fn leave(
 {
     runs_keep();
     acts_change_little();
+    let here = here_at(plan, book, space, state)?;
     let acts = plan.acts();
     for number in 0..acts.len() {
-        let (then, event) = visit(space, machine, state, acts[number])?;
+        let (then, event) = visit(space, machine, plan, &here, acts[number])?;
         book.write(state, number, then, event)?;
     }
     Ok(())
@@ -125,6 +141,25 @@ fn leave_all<W: Watch>(
     Ok(MOST)
 }
 
+// Notes the state at which the plan begins. Where states are folded it is its own fold.
+fn note_first(space: &mut Space, machine: &mut Machine, plan: &Plan) -> Result<(), Memory>
+    requires few { length machine.old.cpus ≤ 8 }
+    requires keys { length space.old.keys ≡ 0 }
+    requires folds { length space.old.folds ≡ 0 }
+    ensures count { OnOk result (length space.new.keys ≡ 1) }
+    ensures keeps { OnOk result (Keeps space.new 0 machine.old) }
+    ensures folds { OnOk result (plan.now.folds ≡ true → (length space.new.folds ≡ 1)
+        × Folds space.new 0 machine.old) }
+    ensures machine { OnOk result (machine.new ≡ machine.old) }
+{
+    space.note(machine, 0)?;
+    if !plan.folds {
+        return Ok(());
+    }
+    space.fold_first(machine)?;
+    Ok(())
+}
+
 /// Explores the states from the machine on at which the plan begins, level by level, until all are
 /// met or the watcher ends it.
 ///
@@ -141,7 +176,7 @@ pub fn explore<W: Watch>(
     requires start { IsStart plan machine }
 
     // If the graph is whole, every state that a schedule reaches is known, or one that differs from
-    // it in dead registers alone.
+    // it in dead registers alone; and if the plan folds, in the numbers of processors that are alike.
     ensures all { IfOk result (λ graph. IsWhole graph → (acts : List ActValue)
         → AreMoves plan.extras machine.setup acts
         → KnowsLike plan machine.setup graph.space (state_after plan machine.setup acts)) }
@@ -158,7 +193,7 @@ pub fn explore<W: Watch>(
     let cpus = machine.cpus();
     let mut space = Space::new(alloc)?;
     let mut book = Book::new(alloc, plan.acts().len())?;
-    space.note(&mut machine, 0)?;
+    note_first(&mut space, &mut machine, &plan)?;
     let left = leave_all(&mut space, &mut machine, &plan, &mut book, watch)?;
     Ok(Graph {
         space,

@@ -44,8 +44,8 @@ fn owns(own: Option<NodeName>, index: u32) -> bool
     }
 }
 
-// Whether a frame of a processor has its node with this index.
-fn has_owner(machine: &Machine, cpu: u32, index: u32) -> bool
+/// Whether a frame of a processor has its node with this index.
+pub(crate) fn has_owner(machine: &Machine, cpu: u32, index: u32) -> bool
     requires { cpu < length machine.now.cpus }
     ensures { result ≡ false → is_owned (cpu_at machine.now cpu).frames index ≡ false }
 {

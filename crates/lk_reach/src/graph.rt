@@ -41,6 +41,14 @@ impl Graph {
         self.left == self.space.len()
     }
 
+    /// Whether states were folded: one was kept of those that differ only in the numbers of
+    /// processors that are alike.
+    pub fn folds(&self) -> bool
+        ensures { result ≡ self.now.plan.folds }
+    {
+        self.plan.folds
+    }
+
     /// How many states were met.
     pub fn states(&self) -> usize
         ensures { result ≡ length self.now.space.keys }

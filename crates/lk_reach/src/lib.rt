@@ -1,7 +1,8 @@
 //! All schedules of a small setup. An exploration meets every state that some schedule of a machine at
 //! rest reaches, and no other: `explore` claims both. A state is a machine without its counts. States
 //! that differ only in what nobody reads before it is written go on alike (`lk_idle`), so of them one
-//! is kept, and has a number.
+//! is kept, and has a number. A plan may ask to fold states: then one is kept, too, of those that
+//! differ only in the numbers of processors that are alike, which go on alike (`lk_renaming`).
 //!
 //! A state is kept as the numbers of its parts, which stand in tables. A part that is found in a
 //! table was compared with the part that was sought. So what the theorem rests on is that
@@ -13,6 +14,7 @@ mod column;
 mod deeds;
 mod ends;
 mod exploring;
+mod folding;
 mod forms;
 mod graph;
 mod key;
@@ -20,9 +22,13 @@ mod kinds;
 mod laws;
 mod lost;
 mod making;
+mod order;
+mod path;
+mod peers;
 mod plan;
 mod seeking;
 mod slots;
+mod sorting;
 mod space;
 mod table;
 mod ways;
@@ -33,5 +39,6 @@ pub use exploring::{Watch, explore};
 pub use graph::Graph;
 pub use key::MAX_CPUS;
 pub use kinds::KINDS;
-pub use laws::{alike_states_tell, counts_are_idle};
+pub use laws::{alike_states_tell, counts_are_idle, stand_ins_tell};
+pub use peers::Peers;
 pub use plan::{Extras, Plan};

@@ -9,8 +9,10 @@ ghost use Rattle.lk_rows.specs.Run.{at_rest};
 ghost use Rattle.lk_reach.specs.Reach.{cpus_of};
 ghost use Rattle.lk_reach.specs.Space.{IsFront};
 ghost use Rattle.lk_reach.specs.Explored.{Among, AreAllMoves, IsStart, OnlyMoves};
+ghost use Rattle.lk_reach.specs.Peers.{AreFirsts};
 
 use crate::making::make;
+use crate::peers::Peers;
 use lk_abs::{Act, Memory};
 use lk_core::{acts_change_little, runs_keep};
 use lk_machine::Machine;
@@ -33,6 +35,10 @@ pub struct Plan {
     /// The acts that are tried, one after another.
     pub(crate) acts: Vec<Act>,
     pub(crate) extras: Extras,
+    /// Whether states are folded: of those that differ only in the numbers of processors that are
+    /// alike one is kept.
+    pub(crate) folds: bool,
+    pub(crate) peers: Peers,
 }
 
 impl Plan {
@@ -54,10 +60,33 @@ impl Plan {
             before,
             acts,
             extras,
+            folds: false,
+            peers: Peers::none(),
         })
     }
 
-    /// Makes an act on the machine at which the plan begins. From there on it begins behind it.
+    /// Folds states, if the plan begins at rest. Returns whether it does.
+    pub fn fold(&mut self, machine: &Machine, peers: Peers) -> bool
+        requires start { IsStart self.old machine.now }
+        requires peers { AreFirsts machine.now.setup peers.firsts }
+        ensures start { IsStart self.new machine.now }
+        ensures extras { self.new.extras ≡ self.old.extras }
+        ensures folds { self.new.folds ≡ result }
+    {
+        self.peers = peers;
+        self.folds = self.before.is_empty();
+        self.folds
+    }
+
+    /// Whether states are folded.
+    pub fn is_folding(&self) -> bool
+        ensures { result ≡ self.now.folds }
+    {
+        self.folds
+    }
+
+    /// Makes an act on the machine at which the plan begins. From there on it begins behind it, and
+    /// folds nothing.
     ///
     /// # Errors
     ///
@@ -71,6 +100,7 @@ impl Plan {
     {
         runs_keep();
         acts_change_little();
+        self.folds = false;
         add(&mut self.before, doing)?;
         let _ = make(machine, doing);
         Ok(())

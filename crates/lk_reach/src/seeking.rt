@@ -1,6 +1,6 @@
 // A shortest schedule to an act that is sought.
 
-ghost use Rattle.std.specs.Prelude.{◌≡◌, ◌<◌, ◌≤◌, ℕ, IfNone, IfOk, IfSome, length, true, false};
+ghost use Rattle.std.specs.Prelude.{◌≡◌, ◌<◌, ◌≤◌, ℕ, IfNone, IfOk, IfSome, None, length, true, false};
 ghost use Rattle.lk_rows.specs.Acts.{processor_of};
 ghost use Rattle.lk_reach.specs.Deeds.{IsNeverDone, IsShortestToDeed};
 ghost use Rattle.lk_reach.specs.Explored.{IsStepped, IsSuch};
@@ -93,7 +93,8 @@ fn first_deed(
 
 impl Graph {
     /// The acts of a shortest schedule behind which an act does what is sought, and this act, or
-    /// `None` if no act does at a state that was met.
+    /// `None` if no act does at a state that was met. Where states were folded it is an act of any
+    /// processor.
     ///
     /// # Errors
     ///
@@ -104,6 +105,7 @@ impl Graph {
         sought: Sought,
     ) -> Result<Option<(Vec<Act>, Act)>, Memory>
         requires graph { IsGraph self.old }
+        requires any { self.old.plan.folds ≡ true → sought.cpu ≡ None }
         ensures some { IfOk result (λ found. IfSome found
             (λ way. IsShortestToDeed self.old sought way.0.items way.1)) }
         ensures none { IfOk result

@@ -5,7 +5,9 @@ ghost use Rattle.lk_rows.specs.Machine.{Machine as MachineValue, CpuState as Cpu
 ghost use Rattle.lk_machine.specs.Parts.{is_over, row_of};
 ghost use Rattle.lk_idle.specs.Alike.{AreAlike};
 ghost use Rattle.lk_reach.specs.declared.key.Key.{Key as KeyValue};
-ghost use Rattle.lk_reach.specs.Space.{AreClasses, AreFormed, Grows, IsFormOf, IsLoadable, IsNumberOf, Keeps, KeyKeeps, SameStates, SpaceValue};
+ghost use Rattle.lk_reach.specs.Space.{AddsParts, AreClasses, AreFormed, Grows, IsFormOf, IsLoadable, IsNumbered, IsNumberOf, IsSameKind, Keeps, KeyKeeps, SameStates, SpaceValue};
+
+mod folds;
 
 use crate::forms::form_number;
 use crate::key::{Key, MAX_CPUS};
@@ -36,6 +38,9 @@ pub(crate) struct Space {
     shareds: SharedTable,
     /// Those of the states that were met first, of all with the same form.
     keys: Vec<Key>,
+    /// Where states are folded, for each state the key of one that it is under new numbers. States
+    /// are sought by these then.
+    folds: Vec<Key>,
     slots: Slots,
 }
 
@@ -46,6 +51,7 @@ impl Model for Space {
       parts = s.parts.items.items;
       shareds = s.shareds.items.items;
       keys = s.keys.items;
+      folds = s.folds.items;
       forms = s.forms.items.items;
       classes = s.classes.items;
     } };
@@ -63,7 +69,8 @@ fn push_key(keys: &mut Vec<Key>, key: Key) -> Result<(), Memory>
 impl Space {
     /// A space without states.
     pub(crate) fn new(alloc: Global) -> Result<Space, Memory>
-        ensures { IfOk result (λ space. length space.keys ≡ 0) }
+        ensures keys { IfOk result (λ space. length space.keys ≡ 0) }
+        ensures folds { IfOk result (λ space. length space.folds ≡ 0) }
     {
         Ok(Space {
             alloc,
@@ -72,8 +79,14 @@ impl Space {
             classes: Vec::new(alloc),
             shareds: SharedTable::new(alloc)?,
             keys: Vec::new(alloc),
+            folds: Vec::new(alloc),
             slots: Slots::new(alloc)?,
         })
+    }
+
+    /// From where it takes memory.
+    pub(crate) fn memory(&self) -> Global {
+        self.alloc
     }
 
     /// How many states there are.
@@ -114,6 +127,7 @@ impl Space {
         ensures key { IfOk result (λ key. KeyKeeps self.new.parts self.new.shareds key machine.now) }
         ensures grows { OnOk result (Grows self.old self.new) }
         ensures same { OnOk result (self.new.keys ≡ self.old.keys) }
+        ensures folds { OnOk result (self.new.folds ≡ self.old.folds) }
     {
         let shared = self.shareds.number(self.alloc, machine, near.shared)?;
         let mut cpus = near.cpus;
@@ -221,11 +235,11 @@ impl Space {
     }
 
     // Whether the state with this number has this form.
-    fn has_form(&self, number: u32, form: &Key) -> bool
+    fn has_form(&self, number: usize, form: &Key) -> bool
         ensures { result ≡ true → (item : KeyValue) × (slice_get self.now.keys number ≡ Some item)
             × IsFormOf self.now.classes item form.now }
     {
-        match self.keys.get(number as usize) {
+        match self.keys.get(number) {
             Some(item) => self.is_form_of(item, form),
             None => false,
         }
@@ -239,12 +253,21 @@ impl Space {
         let mut at = self.slots.home(hash);
         for _ in 0..self.slots.len() {
             let number = self.slots.number(at)?;
-            if self.has_form(number, form) {
+            if self.has_form(number as usize, form) {
                 return Some(number);
             }
             at = self.slots.behind(at);
         }
         None
+    }
+
+    // By which key each state is sought.
+    fn sought_keys(&self) -> &Vec<Key> {
+        if self.folds.is_empty() {
+            &self.keys
+        } else {
+            &self.folds
+        }
     }
 
     // Gives each state a slot again, of twice as many.
@@ -253,7 +276,7 @@ impl Space {
     {
         let mut slots = self.slots.twice(self.alloc)?;
         let mut number = 0u32;
-        for key in &self.keys {
+        for key in self.sought_keys() {
             slots.put(self.hash_of(key), number);
             number = number.wrapping_add(1);
         }
@@ -274,12 +297,11 @@ impl Space {
 
     // Gives the state with this key the next number.
     fn push(&mut self, key: &Key, hash: u64) -> Result<u32, Memory>
-        ensures found { IfOk result (λ k. slice_get self.new.keys k ≡ Some key.now) }
-        ensures grows { OnOk result (Grows self.old self.new) }
+        ensures number { IfOk result (λ k. k ≡ length self.old.keys) }
+        ensures keys { OnOk result (self.new.keys ≡ self.old.keys ++ key.now ∷ []) }
         ensures parts { self.new.parts ≡ self.old.parts }
         ensures shareds { self.new.shareds ≡ self.old.shareds }
-        ensures one { IfOk result (λ k. (j : ℕ) → length self.old.keys ≤ j
-            → j < length self.new.keys → j ≡ k) }
+        ensures folds { self.new.folds ≡ self.old.folds }
     {
         let count = self.len();
         if count >= MOST {
@@ -293,12 +315,7 @@ impl Space {
 
     // The same, with room for it.
     fn add(&mut self, key: &Key, hash: u64) -> Result<u32, Memory>
-        ensures found { IfOk result (λ k. IsNumberOf self.new k key.now) }
-        ensures grows { OnOk result (Grows self.old self.new) }
-        ensures parts { self.new.parts ≡ self.old.parts }
-        ensures shareds { self.new.shareds ≡ self.old.shareds }
-        ensures one { IfOk result (λ k. (j : ℕ) → length self.old.keys ≤ j
-            → j < length self.new.keys → (j ≡ k) × (slice_get self.new.keys j ≡ Some key.now)) }
+        ensures { IfOk result (λ k. IsNumbered self.old self.new key.now k) }
     {
         self.make_room()?;
         let number = self.push(key, hash)?;
@@ -317,12 +334,7 @@ impl Space {
     // The number of the state with this key or with one of the same form. It gets one if there is
     // none.
     fn number(&mut self, key: &Key) -> Result<u32, Memory>
-        ensures found { IfOk result (λ k. IsNumberOf self.new k key.now) }
-        ensures grows { OnOk result (Grows self.old self.new) }
-        ensures parts { self.new.parts ≡ self.old.parts }
-        ensures shareds { self.new.shareds ≡ self.old.shareds }
-        ensures one { IfOk result (λ k. (j : ℕ) → length self.old.keys ≤ j
-            → j < length self.new.keys → (j ≡ k) × (slice_get self.new.keys j ≡ Some key.now)) }
+        ensures { IfOk result (λ k. IsNumbered self.old self.new key.now k) }
     {
         match self.sought(key) {
             Some(number) => Ok(number),
@@ -337,25 +349,54 @@ impl Space {
         let _ = &self.parts;
     }
 
+    /// The key of what a machine is, each part of which has a class. The state `near` is one that
+    /// differs little from it, or any other.
+    pub(crate) fn key(&mut self, machine: &mut Machine, near: usize) -> Result<Key, Memory>
+        requires few { length machine.old.cpus ≤ 8 }
+        ensures key { IfOk result (λ key. KeyKeeps self.new.parts self.new.shareds key machine.old) }
+        ensures states { OnOk result (AddsParts self.old self.new) }
+        ensures machine { OnOk result (machine.new ≡ machine.old) }
+    {
+        let near = self.near(near);
+        let key = self.key_of(machine, near)?;
+        self.classify_all(machine, &key)?;
+        Ok(key)
+    }
+
     /// The number of the state that a machine is, or of one that differs in dead registers alone. It
     /// gets one if there is none. The state `near` is one that differs little from it, or any other.
     pub(crate) fn note(&mut self, machine: &mut Machine, near: usize) -> Result<u32, Memory>
         requires few { length machine.old.cpus ≤ 8 }
         ensures there { IfOk result (λ k. k < length self.new.keys) }
         ensures alike { IfOk result (λ k. (s : MachineValue) → Keeps self.new k s
-            → s.setup ≡ machine.old.setup → s.counts ≡ machine.old.counts
-            → length s.cpus ≡ length machine.old.cpus → AreAlike s machine.old) }
+            → IsSameKind s machine.old → AreAlike s machine.old) }
         ensures grows { OnOk result (Grows self.old self.new) }
         ensures one { IfOk result (λ k. (j : ℕ) → length self.old.keys ≤ j
             → j < length self.new.keys → (j ≡ k) × Keeps self.new j machine.old) }
+        ensures folds { OnOk result (self.new.folds ≡ self.old.folds) }
         ensures machine { OnOk result (machine.new ≡ machine.old) }
     {
-        let near = self.near(near);
-        let key = self.key_of(machine, near)?;
-        self.classify_all(machine, &key)?;
+        let key = self.key(machine, near)?;
         let number = self.number(&key)?;
         self.formed();
         Ok(number)
+    }
+
+    /// The number of this state, if it is the one with this key, or differs from it in dead registers
+    /// alone.
+    pub(crate) fn like(&self, state: usize, key: &Key) -> Option<u32>
+        ensures same { IfSome result (λ k. k ≡ state) }
+        ensures alike { IfSome result (λ k. (s t : MachineValue) → Keeps self.now state s
+            → KeyKeeps self.now.parts self.now.shareds key.now t → IsSameKind s t → AreAlike s t) }
+    {
+        self.formed();
+        let number = u32::try_from(state).ok()?;
+        let form = self.form_of(key)?;
+        if self.has_form(state, &form) {
+            Some(number)
+        } else {
+            None
+        }
     }
 
     /// The row that a step of a processor makes at a state, if it makes one.
@@ -399,9 +440,10 @@ impl Space {
             .items
             .len()
             .saturating_add(self.shareds.items.len());
-        let keys = self.keys.capacity().saturating_mul(KEY_BYTES);
+        let keys = self.keys.capacity().saturating_add(self.folds.capacity());
         let slots = self.slots.len().saturating_mul(SLOT_BYTES);
-        keys.saturating_add(slots)
+        keys.saturating_mul(KEY_BYTES)
+            .saturating_add(slots)
             .saturating_add(parts.saturating_mul(PART_BYTES))
     }
 }

@@ -4,22 +4,16 @@ ghost use Rattle.std.specs.Prelude.{◌≡◌, ◌≢◌, ◌<◌, ◌∷◌, If
 ghost use Rattle.lk_abs.specs.declared.events.Act.{Act as ActValue};
 ghost use Rattle.lk_reach.specs.declared.book.Origin.{Origin as OriginValue};
 ghost use Rattle.lk_reach.specs.Reach.{AreMoves, MakesRow, state_after};
-ghost use Rattle.lk_reach.specs.Told.{IsBefore, IsGraph, IsNever, IsShortestToEvent, IsShortestToRow, IsWay, IsWhole};
+ghost use Rattle.lk_reach.specs.Told.{IsGraph, IsNever, IsShortestToEvent, IsShortestToRow, IsWay, IsWhole};
 
 use crate::book::Origin;
 use crate::graph::Graph;
+use crate::path::path_to;
 use crate::plan::add;
 use lk_abs::{Act, Memory};
 use lk_core::{acts_change_little, runs_keep};
 use lk_rows::Pc;
 use std::alloc::Global;
-
-// Puts an act before others.
-fn put_first(acts: &mut Vec<Act>, doing: Act) -> Result<(), Memory>
-    ensures { OnOk result (acts.new.items ≡ doing ∷ acts.old.items) }
-{
-    acts.insert(0, doing).map_err(|_| Memory)
-}
 
 impl Graph {
     // The act of an origin, which is one of those that are tried.
@@ -28,17 +22,6 @@ impl Graph {
         ensures { slice_get self.now.plan.acts.items origin.act ≡ Some result }
     {
         self.plan.act(origin.act as usize)
-    }
-
-    // The state from which a state was first met, and the act.
-    fn before(&self, state: usize) -> (usize, Act)
-        requires graph { IsGraph self.now }
-        requires there { state < length self.now.space.keys }
-        requires up { 0 < state }
-        ensures { IsBefore self.now state result.0 result.1 }
-    {
-        let origin = self.book.origin(state);
-        (origin.state as usize, self.act_of(origin))
     }
 
     // How an event of this kind was first met, if one was.
@@ -65,18 +48,7 @@ impl Graph {
         requires there { state < length self.now.space.keys }
         ensures { IfOk result (λ acts. IsWay self.now state acts.items) }
     {
-        runs_keep();
-        acts_change_little();
-        let mut acts = Vec::new(alloc);
-        let mut here = state;
-        for _made in 0..self.states() {
-            if here == 0 {
-                return Ok(acts);
-            }
-            let (before, doing) = self.before(here);
-            put_first(&mut acts, doing)?;
-            here = before;
-        }
+        let acts = path_to(alloc, &self.plan, &self.book, state)?;
         Ok(acts)
     }
 

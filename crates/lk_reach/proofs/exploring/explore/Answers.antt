@@ -1,12 +1,21 @@
-use Rattle.std.proofs.Common.{arith, ap, ℕ, ◌≡◌, ◌<◌, ◌≤◌, ◌∙◌, length, refl, sym, subst}
+use Rattle.std.proofs.Common.{arith, ap, ℕ, ◌≡◌, ◌≤◌, ◌∙◌, length, refl, sym, subst}
 use Rattle.lk_rows.specs.declared.setup.Setup.{Setup}
 use Rattle.lk_rows.specs.Machine.{Machine}
 use Rattle.lk_reach.specs.Explored.{IsExplored, IsNew, IsSuch}
 use Rattle.lk_reach.specs.Reach.{IsBegun, IsReached, bare, cpus_of, start_of}
-use Rattle.lk_reach.specs.Space.{Keeps, Knows}
+use Rattle.lk_reach.specs.Space.{Keeps}
 use Rattle.lk_reach.proofs.Left as left
 use Rattle.lk_reach.proofs.Closed as closed
+use Rattle.lk_reach.proofs.Known as known
+use Rattle.lk_reach.proofs.Noted as noted
 use Rattle.lk_reach.proofs.exploring.explore.Goals as goal
+
+pub note_first-requires : goal.note_first-requires
+note_first-requires g c = record {
+  few = c.requires.few;
+  keys = c.in_ok-space.ensures.keys;
+  folds = c.in_ok-space.ensures.folds;
+}
 
 pub leave_all-requires : goal.leave_all-requires
 leave_all-requires g c =
@@ -14,25 +23,25 @@ leave_all-requires g c =
     let m = c.args.machine in
     let z = m.setup in
     let laws : closed.Laws = record { runs = c.runs_keep.ensures.run; setup = c.acts_change_little.ensures.setup } in
+    let begun = c.requires.start.begun in
     let there = c.requires.start.there in
-    let v = c.note.new.self in
-    let none = c.in_ok-space.ensures in
-    let e = c.in_ok-note.ensures in
-    let same : c.note.new.machine ≡ m = e.machine in
+    let v = c.note_first.new.space in
+    let e = c.in_ok-note_first.ensures in
+    let same : c.note_first.new.machine ≡ m = e.machine in
     let such : IsSuch z m = subst (λ (q : Machine). IsSuch z q) (sym there)
-    (closed.reached_such laws p z c.requires.start.begun (bare (start_of p z)) (closed.reached_start laws p z c.requires.start.begun)) in
-    let first : 0 < length v.keys = omega (arith, e.there) in
-    let start : Knows v m = (0, (e.one 0 (omega (arith, none)) first).1) in
+    (closed.reached_such laws p z begun (bare (start_of p z)) (closed.reached_start laws p z begun)) in
+    let count = e.count in
     let new : IsNew c.in_ok-book.book (length p.acts.items) =
     subst (λ (n : ℕ). IsNew c.in_ok-book.book n) (ap length c.acts.ensures) c.in_ok-book.ensures in
+    let keeps : Keeps v 0 (bare (start_of p z)) = subst (λ (q : Machine). Keeps v 0 q) there e.keeps in
     record {
       few = subst (λ (q : Machine). length q.cpus ≤ 8) (sym same) c.requires.few;
-      begun = subst (λ (q : Machine). IsBegun p q.setup) (sym same) c.requires.start.begun;
+      begun = subst (λ (q : Machine). IsBegun p q.setup) (sym same) begun;
       such = subst (λ (q : Machine). IsSuch q.setup q) (sym same) such;
       explored = subst (λ (q : Machine). IsExplored p q.setup v c.in_ok-book.book 0) (sym same)
-          (left.explored_start p z laws c.requires.start.begun c.requires.start.acts v c.in_ok-book.book 0 new
-          (subst (λ (q : Machine). Keeps v 0 q) there start.1)
-          (λ k low. (e.one k (omega (arith, none)) low).0 ∙ sym (e.one 0 (omega (arith, none)) first).0));
+          (left.explored_start p z laws begun c.requires.start.acts v c.in_ok-book.book 0 new keeps
+          (λ k low. omega (arith, low, count))
+          (λ folds. noted.first_folds p z begun v m there count e.keeps (e.folds folds).0 (e.folds folds).1));
       columns = new.columns;
     }
 
@@ -48,7 +57,7 @@ returns g c =
     (closed.reached_start laws p z begun) in
     let few = c.requires.few in
     let count = c.cpus-cpus.ensures in
-    let same = ap (λ (q : Machine). q.setup) c.in_ok-note.ensures.machine in
+    let same = ap (λ (q : Machine). q.setup) c.in_ok-note_first.ensures.machine in
     let explored = subst (λ (q : Setup). IsExplored p q c.leave_all.new.space c.leave_all.new.book c.in_ok-left.left)
     same e.explored in
     let such = subst (λ (q : Setup). IsSuch q c.leave_all.new.machine) same e.such in
@@ -56,7 +65,7 @@ returns g c =
     let back = sym setup in
     record {
       all = λ whole acts moves.
-          let met = closed.whole_met laws p z begun c.leave_all.new.space c.leave_all.new.book c.in_ok-left.left explored whole acts moves in
+          let met = known.whole_met laws p z begun c.leave_all.new.space c.leave_all.new.book c.in_ok-left.left explored whole acts moves in
           (met.number, met.like);
       only = explored.good;
       graph = record {

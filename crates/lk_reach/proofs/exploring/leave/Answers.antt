@@ -1,24 +1,50 @@
-use Rattle.std.proofs.Common.{arith, ◌≡◌, ◌∙◌, List, get_or, Some, length, ap, refl, sym, subst}
+use Rattle.std.proofs.Common.{arith, ℕ, ◌≡◌, ◌∙◌, List, get_or, Some, length, ap, refl, sym, subst}
 use Rattle.std.specs.Prelude.{slice_get}
 use Rattle.std.proofs.lemmas.Option.{slice_get-get_or}
 use Rattle.lk_abs.specs.declared.events.Act.{Act}
 use Rattle.lk_abs.specs.declared.events.Act.TheVariants as act
 use Rattle.lk_rows.specs.declared.setup.Setup.{Setup}
-use Rattle.lk_reach.specs.Explored.{IsSuch, IsStepped}
+use Rattle.lk_rows.specs.Machine.{Machine}
+use Rattle.lk_reach.specs.Explored.{IsSuch}
+use Rattle.lk_reach.specs.Folded.{IsHere, IsNoted}
+use Rattle.lk_reach.specs.Reach.{IsMove, IsReached, after, state_after}
+use Rattle.lk_reach.specs.Space.{Keeps}
+use Rattle.lk_reach.proofs.Kept.{keeps_grown}
+use Rattle.lk_reach.proofs.Leading as leading
 use Rattle.lk_reach.proofs.Left as left
 use Rattle.lk_reach.proofs.Columns as columns
 use Rattle.lk_reach.proofs.Closed as closed
 use Rattle.lk_reach.proofs.exploring.leave.Goals as goal
 
+pub here_at-requires : goal.here_at-requires
+here_at-requires c =
+    let x = c.requires.explored in
+    let there = c.requires.there in
+    let count = x.count in
+    record {
+      low = leading.are_low c.args.plan.now c.args.machine.now.setup c.args.space.now c.args.book.now c.args.state x;
+      there = omega (arith, there, count);
+    }
+
 pub loop-number-init : goal.loop-number-init
-loop-number-init c = record {
-  such = c.requires.such;
-  same = refl;
-  explored = c.requires.explored;
-  half = left.half_start c.args.plan.now c.args.machine.now.setup c.args.space.now c.args.book.now c.args.state
-      c.args.plan.now.acts.items c.requires.explored c.requires.there;
-  columns = c.requires.columns;
-}
+loop-number-init c =
+    let p = c.args.plan.now in
+    let z = c.args.machine.now.setup in
+    let v = c.args.space.now in
+    let b = c.args.book.now in
+    let k = c.args.state in
+    let e = c.in_ok-here.ensures in
+    record {
+      such = c.requires.such;
+      same = refl;
+      explored = c.requires.explored;
+      half = left.half_start p z v b k p.acts.items c.requires.explored c.requires.there;
+      columns = c.requires.columns;
+      moves = λ folds. (leading.way_of p c.args.machine.now v b k c.in_ok-here.here.way.items c.requires.begun
+          c.requires.explored c.requires.columns c.requires.few c.requires.such c.requires.there (e.way folds)).moves;
+      leads = λ folds. (leading.way_of p c.args.machine.now v b k c.in_ok-here.here.way.items c.requires.begun
+          c.requires.explored c.requires.columns c.requires.few c.requires.such c.requires.there (e.way folds)).leads;
+    }
 
 pub visit-requires : goal.visit-requires
 visit-requires c =
@@ -31,16 +57,31 @@ visit-requires c =
     let at : slice_get acts n ≡ Some a = subst (λ (xs : List Act). slice_get xs n ≡ Some a) c.acts-acts.ensures
     (slice_get-get_or c.acts-acts.result.now n (act.Step 0) c.loop-number-test.true) in
     let move = c.requires.explored.acts.only n a at in
-    let low = closed.move_in_range c.args.plan.now.extras z a move in
+    let p = c.args.plan.now in
+    let v = c.loop-number.space in
+    let half = inv.half in
     let cpus = inv.such.cpus in
     let before = c.requires.such.cpus in
     let few = c.requires.few in
+    let here = c.in_ok-here.here in
+    let back = sym inv.same in
+    let state = c.in_ok-here.ensures.state in
+    let moves = subst (λ (q : Setup). IsMove p.extras q a) back move in
+    let is : IsHere p z v here = record {
+      begun = c.requires.begun;
+      state = half.state;
+      keeps = subst (λ (h : ℕ). Keeps v h half.state) (sym state) half.keeps;
+      reached = half.reached;
+      folds = inv.explored.folds;
+      moves = inv.moves;
+      leads = λ folds. closed.same_state laws p z c.requires.begun v c.args.state half.state (state_after p z here.way.items)
+          half.keeps (inv.leads folds) half.reached (record { acts = here.way.items; moves = inv.moves folds; there = refl });
+    } in
     record {
       few = omega (arith, cpus, before, few);
-      such = subst (λ (q : Setup). IsSuch q c.loop-number.machine) (sym inv.same) inv.such;
-      stepped = subst (λ (q : Setup). IsStepped q c.loop-number.space c.args.state) (sym inv.same)
-          (left.stepped c.args.plan.now z laws c.requires.begun c.loop-number.space c.loop-number.book c.args.state n acts inv.half);
-      range = omega (arith, low, cpus);
+      such = subst (λ (q : Setup). IsSuch q c.loop-number.machine) back inv.such;
+      here = subst (λ (q : Setup). IsHere p q v here) back is;
+      moves = subst (λ (b : Act). IsMove p.extras c.loop-number.machine.setup b) refl moves;
     }
 
 pub write-requires : goal.write-requires
@@ -67,26 +108,33 @@ loop-number-preserved c =
     let a = get_or c.acts-acts.result.now n (act.Step 0) in
     let at : slice_get acts n ≡ Some a = subst (λ (xs : List Act). slice_get xs n ≡ Some a) c.acts-acts.ensures
     (slice_get-get_or c.acts-acts.result.now n (act.Step 0) c.loop-number-test.true) in
+    let state = c.in_ok-here.ensures.state in
+    let noted : (s : Machine) → Keeps v k s → IsReached p z s → IsNoted p z v w k (after s a) c.in_ok-then.then =
+    (λ s has reached.
+    subst (λ (h : ℕ). IsNoted p z v w h (after s a) c.in_ok-then.then) state
+    (subst (λ (q : Setup). IsNoted p q v w c.in_ok-here.here.state (after s a) c.in_ok-then.then) inv.same
+    (e.noted s (subst (λ (h : ℕ). Keeps v h s) (sym state) has) (subst (λ (q : Setup). IsReached p q s) (sym inv.same) reached)))) in
     let made : left.IsMade p z v w b d k n a = record {
-      grows = e.grows;
       then = c.in_ok-then.then;
       event = c.in_ok-then.event;
       move = c.requires.explored.acts.only n a at;
       doing = at;
-      there = e.there;
-      kept = λ s has such t at also. e.kept s has (subst (λ (q : Setup). IsSuch q s) (sym inv.same) such) t at
-          (subst (λ (q : Setup). IsSuch q t) (sym inv.same) also);
-      new = λ j high low s has such. e.new j high low s has (subst (λ (q : Setup). IsSuch q s) (sym inv.same) such);
-      told = λ s has such. e.told s has (subst (λ (q : Setup). IsSuch q s) (sym inv.same) such);
-      one = e.one;
+      noted = noted;
+      told = λ s has reached. e.told s (subst (λ (h : ℕ). Keeps v h s) (sym state) has)
+          (subst (λ (q : Setup). IsReached p q s) (sym inv.same) reached);
       writes = c.in_ok-write.ensures;
     } in
     record {
       such = subst (λ (q : Setup). IsSuch q c.visit.new.machine) inv.same e.such;
-      same = e.setup ∙ inv.same;
+      same = e.such.setup ∙ inv.same;
       explored = left.explored_then p z laws c.requires.begun v w b d k n a made inv.half inv.explored inv.columns;
       half = left.half_then p z laws c.requires.begun v w b d k n a made inv.half inv.explored inv.columns;
       columns = left.columns_then p z laws c.requires.begun v w b d k n a made inv.half inv.explored inv.columns;
+      moves = inv.moves;
+      leads = λ folds.
+          let half = inv.half in
+          keeps_grown v w (noted half.state half.keeps half.reached).grows k (state_after p z c.in_ok-here.here.way.items)
+          (inv.leads folds);
     }
 
 pub returns : goal.returns

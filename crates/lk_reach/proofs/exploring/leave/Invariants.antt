@@ -1,5 +1,7 @@
-use Rattle.std.proofs.Common.{◌≡◌, length}
+use Rattle.std.proofs.Common.{◌≡◌, length, true}
 use Rattle.lk_reach.specs.Explored.{AreColumns, IsSuch, IsExplored, IsHalfLeft}
+use Rattle.lk_reach.specs.Reach.{AreMoves, state_after}
+use Rattle.lk_reach.specs.Space.{Keeps}
 use Rattle.lk_reach.proofs.exploring.leave.Given as goal
 
 -- the acts so far were tried on the state
@@ -10,4 +12,6 @@ invariant-loop-number l = record {
   explored : IsExplored l.plan l.fn.machine.setup l.space l.book l.state;
   half : IsHalfLeft l.plan l.fn.machine.setup l.space l.book l.state l.plan.acts.items l.number;
   columns : AreColumns l.book (length l.plan.acts.items) l.state l.number;
+  moves : l.plan.folds ≡ true → AreMoves l.plan.extras l.fn.machine.setup l.here.way.items;
+  leads : l.plan.folds ≡ true → Keeps l.space l.state (state_after l.plan l.fn.machine.setup l.here.way.items);
 }

@@ -37,7 +37,7 @@ returns-in_ok-acts-in-Some c =
     let such = c.first_deed.ensures.such in
     let m = c.first_deed.new.machine in
     record {
-      some = shortest_deed laws g c.requires.graph c.args.sought c.in-Some.state c.in-Some.number c.in_ok-acts-in-Some.acts.items c.act-last.result
+      some = shortest_deed laws g c.requires.graph c.args.sought c.requires.any c.in-Some.state c.in-Some.number c.in_ok-acts-in-Some.acts.items c.act-last.result
           c.in-Some.ensures.some c.act-last.ensures (way_same g m such c.in-Some.state c.in_ok-acts-in-Some.acts.items c.in_ok-acts-in-Some.ensures);
       none = tt;
       graph = graph_same g m such c.requires.graph;
@@ -49,6 +49,6 @@ returns-in-None c =
     let g = c.args.self.now in
     record {
       some = tt;
-      none = λ whole. never_done laws g c.requires.graph c.args.sought c.in-None.ensures.none whole;
+      none = λ whole. never_done laws g c.requires.graph c.args.sought c.requires.any c.in-None.ensures.none whole;
       graph = graph_same g c.first_deed.new.machine c.first_deed.ensures.such c.requires.graph;
     }

@@ -48,6 +48,7 @@ returns c =
           range = subst (λ (q : Setup). AreInRange (cpus_of q) c.add.new.acts.items) (sym setup)
               (subst (λ (xs : List Act). AreInRange (cpus_of z) xs) (sym pushed)
               (closed.range_push (cpus_of z) p.before.items doing c.requires.start.begun.range c.requires.range));
+          folds = λ yes. absurd (closed.not_true yes);
         };
         acts = subst (λ (q : Setup). AreAllMoves p.extras q p.acts.items) (sym setup) c.requires.start.acts;
         there = subst (λ (q : Setup). n ≡ bare (machine_after (at_rest q) c.add.new.acts.items)) (sym setup) there_new;

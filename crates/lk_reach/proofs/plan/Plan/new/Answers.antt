@@ -4,7 +4,7 @@ use Rattle.lk_law.specs.MachineLaws.{AreInRange}
 use Rattle.lk_rows.specs.Machine.{Machine, handlers_at}
 use Rattle.lk_rows.specs.Run.{at_rest, machine_after}
 use Rattle.lk_reach.specs.Reach.{bare, cpus_of}
-use Rattle.lk_reach.proofs.Closed.{rest_cpus_of, rest_unused}
+use Rattle.lk_reach.proofs.Closed.{not_true, rest_cpus_of, rest_unused}
 use Rattle.lk_reach.proofs.plan.Plan.new.Goals as goal
 
 pub moves-requires : goal.moves-requires
@@ -25,6 +25,7 @@ returns c =
         begun = record {
           lawful = c.requires.lawful;
           range = subst (λ (acts : List Act). AreInRange (cpus_of z) acts) (sym none) tt;
+          folds = λ yes. absurd (not_true yes);
         };
         acts = c.in_ok-acts.ensures;
         there = c.requires.rest ∙ ap (λ (acts : List Act). bare (machine_after (at_rest z) acts)) (sym none);

@@ -22,6 +22,7 @@ loop-cpu-preserved c =
           c.number-in-loop-cpu.new.self.items.items inv.parts c.in_ok-cpus.ensures.front;
       shareds = inv.shareds;
       keys = inv.keys;
+      folds = inv.folds;
       forms = inv.forms;
       classes = inv.classes;
       room = length-set _ _ _ ∙ room;

@@ -4,7 +4,7 @@ use Rattle.lk_rows.specs.Machine.{CpuState}
 use Rattle.lk_machine.specs.Parts.{SharedValue}
 use Rattle.lk_reach.specs.declared.key.Key.{Key}
 use Rattle.lk_reach.specs.Space.{KeyKeeps}
-use Rattle.lk_reach.proofs.Formed.{number_alike, same_grows}
+use Rattle.lk_reach.proofs.Formed.{number_alike}
 use Rattle.lk_reach.proofs.Left.{grows_then}
 use Rattle.lk_reach.proofs.space.Space.note.Goals as goal
 
@@ -12,25 +12,23 @@ pub returns : goal.returns
 returns c =
     let m = c.args.machine.now in
     let u = c.args.self.now in
-    let v = c.key_of.new.self in
-    let w = c.classify_all.new.self in
+    let w = c.key.new.self in
     let z = c.number.new.self in
     let key = c.in_ok-key.key in
     let made = c.in_ok-key.ensures in
-    let formed = c.in_ok-classify_all.ensures in
     let e = c.in_ok-number.ensures in
     let k = c.in_ok-number.number in
     let keeps : KeyKeeps z.parts z.shareds key m =
-    subst (λ (xs : List SharedValue). KeyKeeps z.parts xs key m) (sym (e.shareds ∙ formed.states.shareds))
-    (subst (λ (xs : List CpuState). KeyKeeps xs v.shareds key m) (sym (e.parts ∙ formed.states.parts)) made.key) in
-    let size = ap (λ (ks : List Key). length ks) (formed.states.keys ∙ made.same) in
+    subst (λ (xs : List SharedValue). KeyKeeps z.parts xs key m) (sym e.shareds)
+    (subst (λ (xs : List CpuState). KeyKeeps xs w.shareds key m) (sym e.parts) made.key) in
+    let size = ap (λ (ks : List Key). length ks) made.states.keys in
     record {
       there = slice_get_within z.keys k e.found.item e.found.is;
-      alike = λ s has setup counts cpus.
-          number_alike z k key s m c.formed.ensures e.found keeps has setup counts cpus;
-      grows = grows_then u v z made.grows (grows_then v w z (same_grows v w formed.states) e.grows);
+      alike = λ s has kind. number_alike z k key s m c.formed.ensures e.found keeps has kind;
+      grows = grows_then u w z made.states.grows e.grows;
       one = λ j high low.
           let one = e.one j (omega (arith, high, size)) low in
           (one.0, record { key = key; is = one.1; keeps = keeps });
-      machine = formed.machine;
+      folds = e.folds ∙ made.states.folds;
+      machine = made.machine;
     }

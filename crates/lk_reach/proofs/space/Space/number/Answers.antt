@@ -8,5 +8,6 @@ returns-in-Some c = record {
   grows = grows_self c.args.self.now;
   parts = refl;
   shareds = refl;
+  folds = refl;
   one = λ j high low. absurd (omega (arith, high, low));
 }

@@ -1,0 +1,130 @@
+// The folds of states: each is the state under new numbers of processors that are alike. States with
+// the same fold are one, but for such numbers.
+
+ghost use Rattle.std.specs.Prelude.{◌≡◌, ◌≢◌, ◌<◌, ◌≤◌, IfOk, OnOk, IfSome, ℕ, Some, length, slice_get, true};
+ghost use Rattle.lk_rows.specs.Machine.{Machine as MachineValue};
+ghost use Rattle.lk_idle.specs.Alike.{AreAlike};
+ghost use Rattle.lk_reach.specs.declared.key.Key.{Key as KeyValue};
+ghost use Rattle.lk_reach.specs.Space.{AddsFold, Folds, Grows, IsFolded, IsFoldNumbered, IsFoldOf, IsFormOf, IsSameKind};
+
+use crate::key::Key;
+use crate::space::{Space, push_key};
+use lk_abs::Memory;
+use lk_machine::Machine;
+
+impl Space {
+    // Whether the fold of the state with this number has this form.
+    fn has_fold(&self, number: usize, form: &Key) -> bool
+        ensures { result ≡ true → (item : KeyValue) × (slice_get self.now.folds number ≡ Some item)
+            × IsFormOf self.now.classes item form.now }
+    {
+        match self.folds.get(number) {
+            Some(item) => self.is_form_of(item, form),
+            None => false,
+        }
+    }
+
+    // The number of a state, other than the one that is left, whose fold has this form.
+    fn find_fold(&self, form: &Key, left: usize) -> Option<u32>
+        ensures fold { IfSome result (λ k. (item : KeyValue) × (slice_get self.now.folds k ≡ Some item)
+            × IsFormOf self.now.classes item form.now) }
+        ensures other { IfSome result (λ k. k ≢ left) }
+    {
+        let mut at = self.slots.home(form.number());
+        for _ in 0..self.slots.len() {
+            let number = self.slots.number(at)?;
+            if number as usize != left && self.has_fold(number as usize, form) {
+                return Some(number);
+            }
+            at = self.slots.behind(at);
+        }
+        None
+    }
+
+    // The number of a state, other than the one that is left, whose fold has the form of this key.
+    fn sought_fold(&self, fold: &Key, left: usize) -> Option<u32>
+        ensures fold { IfSome result (λ k. IsFoldOf self.now k fold.now) }
+        ensures other { IfSome result (λ k. k ≢ left) }
+    {
+        let form = self.form_of(fold)?;
+        let number = self.find_fold(&form, left)?;
+        Some(number)
+    }
+
+    // Gives the next state its fold.
+    fn push_fold(&mut self, fold: &Key) -> Result<(), Memory>
+        ensures { OnOk result (AddsFold self.old self.new fold.now) }
+    {
+        push_key(&mut self.folds, *fold)
+    }
+
+    // Gives the state with this key the next number, and its fold.
+    fn add_fold(&mut self, key: &Key, fold: &Key) -> Result<u32, Memory>
+        requires { length self.old.folds ≡ length self.old.keys }
+        ensures { IfOk result (λ k. IsFolded self.old self.new key.now fold.now k) }
+    {
+        self.make_room()?;
+        let number = self.push(key, self.hash_of(fold))?;
+        self.push_fold(fold)?;
+        Ok(number)
+    }
+
+    // The number of a state, other than the one that is left, whose fold has the form of this key. The
+    // key of a state with this fold gets one if there is none.
+    fn number_fold(&mut self, key: &Key, fold: &Key, left: usize) -> Result<u32, Memory>
+        requires left { left < length self.old.keys }
+        requires folds { length self.old.folds ≡ length self.old.keys }
+        ensures { IfOk result (λ k. IsFoldNumbered self.old self.new key.now fold.now left k) }
+    {
+        match self.sought_fold(fold, left) {
+            Some(number) => Ok(number),
+            None => {
+                let number = self.add_fold(key, fold)?;
+                Ok(number)
+            }
+        }
+    }
+
+    /// The number of a state with this key, of which the machine is the fold, or of one whose fold
+    /// differs from this machine in dead registers alone, and that is not the one that is left. It
+    /// gets one if there is none.
+    pub(crate) fn note_fold(
+        &mut self,
+        machine: &mut Machine,
+        key: &Key,
+        left: usize,
+    ) -> Result<u32, Memory>
+        requires few { length machine.old.cpus ≤ 8 }
+        requires left { left < length self.old.keys }
+        requires folds { length self.old.folds ≡ length self.old.keys }
+        ensures there { IfOk result (λ k. k < length self.new.keys) }
+        ensures other { IfOk result (λ k. k ≢ left) }
+        ensures alike { IfOk result (λ k. (s : MachineValue) → Folds self.new k s
+            → IsSameKind s machine.old → AreAlike s machine.old) }
+        ensures grows { OnOk result (Grows self.old self.new) }
+        ensures one { IfOk result (λ k. (j : ℕ) → length self.old.keys ≤ j
+            → j < length self.new.keys → (j ≡ k) × (slice_get self.new.keys j ≡ Some key.now)
+            × Folds self.new j machine.old) }
+        ensures folds { OnOk result (length self.new.folds ≡ length self.new.keys) }
+        ensures machine { OnOk result (machine.new ≡ machine.old) }
+    {
+        let fold = self.key(machine, left)?;
+        let number = self.number_fold(key, &fold, left)?;
+        self.formed();
+        Ok(number)
+    }
+
+    /// Gives the first state a fold, which is the machine.
+    pub(crate) fn fold_first(&mut self, machine: &mut Machine) -> Result<(), Memory>
+        requires few { length machine.old.cpus ≤ 8 }
+        requires none { length self.old.folds ≡ 0 }
+        ensures grows { OnOk result (Grows self.old self.new) }
+        ensures same { OnOk result (self.new.keys ≡ self.old.keys) }
+        ensures folds { OnOk result ((length self.new.folds ≡ 1) × Folds self.new 0 machine.old) }
+        ensures machine { OnOk result (machine.new ≡ machine.old) }
+    {
+        let key = self.key(machine, 0)?;
+        self.push_fold(&key)?;
+        Ok(())
+    }
+}
