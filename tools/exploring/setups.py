@@ -7,6 +7,8 @@ TOP = Path(__file__).resolve().parent.parent.parent
 TABLE = TOP / "docs" / "EXPLORE.md"
 SETUPS = TOP / "examples" / "explore"
 LINE = re.compile(r"^\| (?:(\w+), (\d) processors, each (once|twice)|\[(\w+)\]\([^)]*\)) ((?:\| [\d,]+ ){7})\| ([^|]*) \|$", re.M)
+# The table of folded states: the setup, all states, those that are left, and the edges between these.
+FOLD = re.compile(r"^\| (?:(\w+), (\d) processors, each (once|twice)|\[(\w+)\]\([^)]*\)) \| [\d,]+ \| ([\d,]+) \| ([\d,]+) \|$", re.M)
 TIMES = {"once": 1, "twice": 2}
 
 
@@ -31,6 +33,11 @@ def header(mode, cpus, times):
     lines += ["sockets " + " ".join(str(cpu % 2) for cpu in range(cpus)), "threshold 1"] if mode == "cna" else []
     lines += ["spins 1"] if mode == "pv" else []
     return "\n".join([*lines, "lock 0 spin", *(f"prog {cpu}" + " lock 0 unlock 0" * times for cpu in range(cpus)), "go", ""])
+
+
+def folds():
+    """Of each setup in which two processors are alike, how many states and edges are left where they are folded."""
+    return {example or f"{mode} {cpus} {times}": [int(each.replace(",", "")) for each in counts] for mode, cpus, times, example, *counts in FOLD.findall(TABLE.read_text())}
 
 
 def setups():
