@@ -4,15 +4,23 @@ use Rattle.lk_domain.specs.Calls.{holds_in}
 use Rattle.lk_domain.specs.Values.{out_in}
 use Rattle.lk_guard.specs.Idle.{IsFree}
 use Rattle.lk_pvdomain.specs.PvCalls.{IsResting}
+use Rattle.lk_pvdomain.specs.PvPaths.{Start}
 use Rattle.lk_pvdomain.specs.PvSeats.{IsOf, calls_of, ledger_of}
+use Rattle.lk_pvdomain.specs.PvTurns.{Waits}
 use Rattle.lk_pvdomain.specs.declared.cpu.PvCpu.{PvCpu}
 use Rattle.lk_pvdomain.specs.declared.domain.PvDomain.{PvDomain}
+use Rattle.lk_pvdomain.specs.declared.waiter.PvTurn.{PvTurn}
+use Rattle.lk_pvdomain.specs.declared.waiter.PvTurn.TheVariants.{Has, Waits as Awaits, Halts}
+use Rattle.lk_pvdomain.specs.declared.waiter.PvWaiter.{PvWaiter}
 
 -- it is in no call and does not hold lock 1
 pub record IsReady (domain : PvDomain) (cpu : PvCpu) : Type 0 where
   pub domain_is : IsOf cpu domain
   pub rests : IsResting (calls_of cpu)
   pub free : holds_in (calls_of cpu).holds 1 ≡ false
+
+abbrev pub AllReady : PvDomain → List PvCpu → Type 0
+AllReady domain cpus = (i : ℕ) (d : PvCpu) → i < length cpus → IsReady domain (slice_index_or cpus i d)
 
 -- it is in no call and holds it, with its value home
 pub record HasOne (domain : PvDomain) (cpu : PvCpu) : Type 0 where
@@ -29,3 +37,17 @@ pub record MayWrite (domain : PvDomain) (n : ℕ) (cpu : PvCpu) : Type 0 where
 
 abbrev pub AllMayWrite : PvDomain → ℕ → List PvCpu → Type 0
 AllMayWrite domain n cpus = (i : ℕ) (d : PvCpu) → i < length cpus → MayWrite domain n (slice_index_or cpus i d)
+
+-- a call of it for lock 1, which it did not hold, waits there
+pub record IsWaiting (domain : PvDomain) (w : PvWaiter) (cpu : PvCpu) : Type 0 where
+  pub domain_is : IsOf cpu domain
+  pub lock : w.lock.index ≡ 1
+  pub start : Start
+  pub free : holds_in start.holds 1 ≡ false
+  pub waits : Waits domain w start cpu
+
+-- what a turn of it came to
+abbrev pub StandsAt : PvDomain → PvTurn → PvCpu → Type 0
+StandsAt domain Has cpu = HasOne domain cpu
+StandsAt domain (Awaits w) cpu = IsWaiting domain w cpu
+StandsAt domain (Halts w) cpu = IsWaiting domain w cpu

@@ -18,6 +18,8 @@ mod pv_halts;
 #[cfg(test)]
 mod pv_ledger_calls;
 #[cfg(test)]
+mod pv_polls;
+#[cfg(test)]
 mod pv_region;
 #[cfg(test)]
 mod pv_values;

@@ -1,7 +1,7 @@
 // Processors that halt take one lock in turn, each on a thread of its own, and count while they hold it.
 // Where a kick is lost, or a front halts that nobody will kick, a thread sleeps for ever, and so does the
 // test.
-ghost use Rattle.std.specs.Prelude.{◌≡◌, ◌<◌, IfOk, true, false};
+ghost use Rattle.std.specs.Prelude.{◌≡◌, ◌<◌, IfOk, length, true, false};
 ghost use Rattle.lk_domain.specs.Plans.{cpus_of, locks_of};
 ghost use Rattle.lk_pvdomain.specs.PvSeats.{AreDealt};
 ghost use Rattle.lk_thread_tests.specs.Halting.{HasOne, IsReady};
@@ -18,7 +18,7 @@ use std::thread;
 use std::thread::Threads;
 
 /// The lock that all of them take: not lock 0, under which the ledger is.
-const LOCK: LockId = LockId { index: 1 };
+pub const LOCK: LockId = LockId { index: 1 };
 
 /// How often each of them takes it.
 const TURNS: u32 = 20_000;
@@ -29,6 +29,7 @@ pub fn open(alloc: Global, spins: u32) -> Result<(PvDomain, List<PvCpu>), Memory
     requires few { spins < 65536 }
     ensures locks { IfOk result (λ made. locks_of made.0.plan ≡ 2) }
     ensures cpus { IfOk result (λ made. cpus_of made.0.plan ≡ 4) }
+    ensures many { IfOk result (λ made. length made.1.items ≡ 4) }
     ensures dealt { IfOk result (λ made. AreDealt made.0 made.1.items) }
 {
     let plan = PvPlan {
