@@ -1,7 +1,8 @@
 """The sources of the running locks as they are driven: a copy, in which each row says its name and each operation goes through a gate.
 
 `lk_run` gets one line a row, and nothing else: the first line of the function whose comment says `the row R`. In `lk_domain` the
-operations of locks and nodes go through `gate.rt.in`, and a processor keeps what the gate needs. The driver is a crate of its own."""
+operations of locks and nodes go through `gate.rt.in`, and a processor keeps what the gate needs. `lk_pvdomain` gets both. The driver is a
+crate of its own."""
 import re
 import shutil
 import subprocess
@@ -10,7 +11,7 @@ from pathlib import Path
 
 HERE = Path(__file__).resolve().parent
 TOP = HERE.parent.parent
-BELOW = "lk_abs lk_word lk_text lk_rows lk_law lk_values lk_cell lk_forms lk_domain lk_run"
+BELOW = "lk_abs lk_word lk_text lk_rows lk_law lk_waits lk_values lk_cell lk_forms lk_domain lk_run lk_pvdomain"
 
 # A comment of a function that is a row, up to the function's body, and the one row whose function has no such comment.
 COMMENT = re.compile(r"((?:^ *//.*\n)+)((?: *#\[.*\]\n)*)((?: *(?:pub(?:\(crate\))? )?fn (\w+)(?s:.*?)\n)( *)\{\n)", re.M)
@@ -20,6 +21,21 @@ UNNAMED = {("spin.rt", "unlock"): "U1"}
 # What an operation is to its row, by the rule under which it is made.
 HOW = {"Resets": "Before", "RunsLooks": "Before", "Exchanges": "Joins", "Entries": "Enters", "TailLooks": "Names"}
 OPERATION = re.compile(r"(\bdomain\s*\.table\s*\.shared|\btable\s*\.shared|\bshared)\s*\.(\w+)::<(\w+)(?:<\w+>)?>\(\s*seat,")
+# The same of the paravirtual lock, whose functions get no processor: the files whose functions are rows, and the lines that are rows
+# elsewhere. A halted processor is asked only where a kick is remembered, and a turn made again finds that kick taken.
+PV_HOW = {"ResetLooks": "Before", "EntryLooks": "Spares", "Entries": "Enters", "HaltLooks": "Halts", "Wakings": "Wakes", "StealTries": "Steals",
+          "HeadTries": "Heads", "ReleaseTries": "Releases", "Fillings": "Fills", "PlaceLooks": "Finds(lock)", "Erasings": "Empties(lock)"}
+PV_FILES = "arriving.rt waiting.rt leading.rt handing.rt"
+PV_ROWS = (
+    ("calls.rt", "    if moves::take_free(", "seat", "F1"),
+    ("calls.rt", "    if moves::look_once(", "seat", "T1"),
+    ("calls.rt", "    if moves::take_once(", "seat", "T2"),
+    ("calls.rt", "    let met = tries::try_release(", "&mut cpu.seat", "U2"),
+    ("freeing.rt", "    let pair = hash::take_out(", "seat", "U3"),
+    ("freeing.rt", "    words::go_on(seat, domain, lock, WordUse::Drops);", "seat", "U4"),
+    ("freeing.rt", "    kicks::kick(", "seat", "U5"),
+)
+PV_ASKED = "    if !domain.is_kicked(cpu) {\n        return false;\n    }\n"
 SHARED = re.compile(r"let shared = &((?:domain\.)?table)\.shared;")
 IN_DOMAIN = (
     ("cpu.rt", "    pub(crate) notes: Notes,\n", "    pub(crate) notes: Notes,\n    pub(crate) row: &'static str,\n    pub(crate) made: &'static str,\n"
@@ -74,6 +90,30 @@ def gate_operations(folder):
     return count
 
 
+def gate_pv(folder):
+    """The rows of the paravirtual lock say their names, and its operations go through the gate. How many there are."""
+    for name in PV_FILES.split():
+        def named(found):
+            comment, marks, function, _, indent = found.groups()
+            row = NAMED.search(comment)
+            line = f'{indent}    lk_domain::gate::name(seat, &self.domain.table, "{row[1]}");\n' if row else ""
+            return f"{comment}{marks}{function}{line}"
+        path = folder / name
+        path.write_text(COMMENT.sub(named, path.read_text()))
+    for name, line, seat, row in PV_ROWS:
+        changed(folder / name, line, f'    lk_domain::gate::name({seat}, &domain.table, "{row}");\n{line}')
+    changed(folder / "kicks.rt", PV_ASKED, "")
+    count = 0
+    for path in sorted(folder.glob("*.rt")):
+        def gated(found):
+            return f"lk_domain::gate::at(&domain.table, lk_domain::gate::How::{PV_HOW.get(found[3], 'Row')}).{found[2]}(seat,"
+        text, times = OPERATION.subn(gated, path.read_text())
+        if path.name != "making.rt":
+            path.write_text(text)
+            count += times
+    return count
+
+
 def forget_gate(path):
     """A pattern of a processor names no field of the gate."""
     path.write_text(re.sub(r"(let Cpu \{(?:\s*\w+: _,)*\s*seat,)(\s*\})", r"\1 ..\2", path.read_text()))
@@ -103,8 +143,8 @@ def make_tree(tree, mistakes=()):
         changed(domain / name, old, new)
     forget_gate(domain / "ending.rt")
     for mistake in mistakes:
-        changed(tree / "crates/lk_run/src" / mistake.file, mistake.right, mistake.wrong)
-    return name_rows(tree / "crates/lk_run/src"), gate_operations(domain)
+        changed(tree / "crates" / mistake.crate / "src" / mistake.file, mistake.right, mistake.wrong)
+    return name_rows(tree / "crates/lk_run/src"), gate_operations(domain), gate_pv(tree / "crates/lk_pvdomain/src")
 
 
 def compile_tree(tree, file):

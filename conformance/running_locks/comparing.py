@@ -17,7 +17,10 @@ def setting(lines, word):
 
 def runs_here(lines):
     """Whether a domain can make the acts of the trace."""
-    return setting(lines, "mode") in ("virt", "native", "cna") and int(setting(lines, "cpus") or 1) <= MOST_CPUS
+    if int(setting(lines, "cpus") or 1) > MOST_CPUS:
+        return False
+    # A domain whose waiters halt has spinlocks alone.
+    return setting(lines, "mode") != "pv" or not any(line.split()[:1] == ["lock"] and "rw" in line.split() for line in lines)
 
 
 def acts_of(told):
