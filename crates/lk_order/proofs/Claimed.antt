@@ -8,8 +8,8 @@ use Rattle.lk_law.specs.Agree.{halts}
 use Rattle.lk_law.specs.Cna.{moves_aside}
 use Rattle.lk_progress.specs.Ordered.{IsOrdered}
 use Rattle.lk_progress.specs.Runs.{HasRoom, OrderedRunsGoOnAside, SomebodyMovesOn, SomebodyLeadsOnHalting}
-use Rattle.lk_progress.specs.Fair.{FairRunsFinish}
-use Rattle.lk_order.specs.Claims.{NeverDeadlocks, FairSchedulesFinish}
+use Rattle.lk_progress.specs.Fair.{FairRunsFinish, HaltingFairRunsFinish}
+use Rattle.lk_order.specs.Claims.{CalmSchedulesFinish, NeverDeadlocks, FairSchedulesFinish}
 
 -- no schedule of an ordered setup with room deadlocks
 pub never_deadlocks : (setup : Setup) → SomebodyMovesOn → OrderedRunsGoOnAside → IsLawfulSetup setup
@@ -41,3 +41,8 @@ pub finishes : (setup : Setup) → FairRunsFinish → IsLawfulSetup setup → (r
     → halts setup.mode ≡ false → FairSchedulesFinish setup
 finishes setup fair lawful ordered room awake schedule is_fair =
     fair ordered.0 32 setup schedule lawful ordered.1 awake room is_fair
+
+-- and of one whose processors may halt, every one in which nudges come to an end
+pub finishes_calm : (setup : Setup) → HaltingFairRunsFinish → IsLawfulSetup setup → (rank : ℕ → ℕ) × IsOrdered rank 32 setup
+    → halts setup.mode ≡ true → CalmSchedulesFinish setup
+finishes_calm setup fair lawful ordered on schedule is_fair ends = fair ordered.0 32 setup schedule lawful ordered.1 on is_fair ends

@@ -11,7 +11,7 @@ use Rattle.lk_law.specs.Cna.{moves_aside}
 use Rattle.lk_law.specs.MachineLaws.{AreInRange}
 use Rattle.lk_progress.specs.Runs.{IsFinished, SomebodyMoves, SomebodyLeadsOn}
 use Rattle.lk_progress.specs.Spots.{TurnsOnTheSpot}
-use Rattle.lk_progress.specs.Fair.{IsFair, processors, after_first}
+use Rattle.lk_progress.specs.Fair.{IsFair, NudgesEnd, processors, after_first}
 
 -- no processor is preempted
 abbrev pub NobodyIsPreempted : Machine → Type 0
@@ -52,4 +52,11 @@ pub record NeverDeadlocks (setup : Setup) : Type 0 where
 abbrev pub FairSchedulesFinish : Setup → Type 0
 FairSchedulesFinish setup = (schedule : ℕ → Act)
     → IsFair setup schedule
+    → (n : ℕ) × ((p : ℕ) → p < processors setup → IsFinished (after_first setup schedule n) p)
+
+-- every fair schedule in which nudges come to an end does
+abbrev pub CalmSchedulesFinish : Setup → Type 0
+CalmSchedulesFinish setup = (schedule : ℕ → Act)
+    → IsFair setup schedule
+    → NudgesEnd setup schedule
     → (n : ℕ) × ((p : ℕ) → p < processors setup → IsFinished (after_first setup schedule n) p)

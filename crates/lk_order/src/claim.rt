@@ -6,7 +6,7 @@ ghost use Rattle.lk_law.specs.Agree.{halts};
 ghost use Rattle.lk_progress.specs.Ordered.{IsOrdered};
 ghost use Rattle.lk_progress.specs.Runs.{HasRoom};
 ghost use Rattle.lk_order.specs.Checked.{rank_in};
-ghost use Rattle.lk_order.specs.Claims.{NeverDeadlocks, FairSchedulesFinish};
+ghost use Rattle.lk_order.specs.Claims.{CalmSchedulesFinish, NeverDeadlocks, FairSchedulesFinish};
 
 use crate::check::{check_ranks, crowded};
 use lk_abs::Mode;
@@ -18,8 +18,9 @@ use lk_rows::Setup;
 pub(crate) enum Claim {
     /// No schedule deadlocks, and every fair schedule ends with everybody finished.
     Finishes,
-    /// No schedule deadlocks.
-    GoesOn,
+    /// No schedule deadlocks, and every fair schedule in which nudges come to an end ends with everybody
+    /// finished.
+    FinishesCalm,
     /// The ranks are in order, and the processor has more than three handlers, so it may run out of
     /// queue nodes.
     Crowded(u32),
@@ -41,10 +42,12 @@ fn claim_halting(setup: &Setup) -> Claim
     requires ordered { (rank : ℕ → ℕ) × IsOrdered rank 32 setup.now }
     requires halts { halts setup.now.mode ≡ true }
     ensures goes_on { NeverDeadlocks setup.now }
-    ensures only { result ≡ Claim.GoesOn }
+    ensures finishes { CalmSchedulesFinish setup.now }
+    ensures only { result ≡ Claim.FinishesCalm }
 {
     ordered_runs_go_on();
-    Claim::GoesOn
+    fair_runs_finish();
+    Claim::FinishesCalm
 }
 
 // What is known of an ordered setup with room, in which no processor halts.
@@ -53,9 +56,9 @@ fn claim_in_order(setup: &Setup) -> Claim
     requires ordered { (rank : ℕ → ℕ) × IsOrdered rank 32 setup.now }
     requires awake { halts setup.now.mode ≡ false }
     requires room { HasRoom setup.now }
-    ensures goes_on { (result ≡ Claim.GoesOn) ⊎ (result ≡ Claim.Finishes)
-        → NeverDeadlocks setup.now }
-    ensures finishes { result ≡ Claim.Finishes → FairSchedulesFinish setup.now }
+    ensures goes_on { NeverDeadlocks setup.now }
+    ensures finishes { FairSchedulesFinish setup.now }
+    ensures only { result ≡ Claim.Finishes }
 {
     ordered_runs_go_on();
     fair_runs_finish();
@@ -66,9 +69,10 @@ fn claim_in_order(setup: &Setup) -> Claim
 pub(crate) fn claim_of(setup: &Setup, ranks: &[u32]) -> Claim
     requires { IsLawfulSetup setup.now }
     ensures ordered { result ≢ Claim.Unordered → IsOrdered (rank_in ranks.now) 32 setup.now }
-    ensures goes_on { (result ≡ Claim.GoesOn) ⊎ (result ≡ Claim.Finishes)
+    ensures goes_on { (result ≡ Claim.FinishesCalm) ⊎ (result ≡ Claim.Finishes)
         → NeverDeadlocks setup.now }
     ensures finishes { result ≡ Claim.Finishes → FairSchedulesFinish setup.now }
+    ensures calm { result ≡ Claim.FinishesCalm → CalmSchedulesFinish setup.now }
 {
     if !check_ranks(setup, ranks) {
         return Claim::Unordered;

@@ -31,7 +31,7 @@ fn answer(rt: &HostRuntime) -> Result<u8, ReplayFault> {
         Err(_) => return Err(ReplayFault::WriteFault),
     }
     match claim {
-        Claim::Finishes | Claim::GoesOn => Ok(0),
+        Claim::Finishes | Claim::FinishesCalm => Ok(0),
         _ => Ok(UNORDERED),
     }
 }

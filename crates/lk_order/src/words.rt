@@ -94,7 +94,11 @@ pub(crate) fn put_answer(
         Claim::Finishes => {
             println!(rt; "ordered: no schedule deadlocks, and every fair schedule finishes")?;
         }
-        Claim::GoesOn => println!(rt; "ordered: no schedule deadlocks")?,
+        Claim::FinishesCalm => {
+            println!(rt;
+                "ordered: no schedule deadlocks, and every fair schedule with finitely many nudges finishes"
+            )?;
+        }
         Claim::Crowded(cpu) => {
             println!(rt;
                 "not covered: the locks have ranks, but processor {cpu} has more than 3 handlers"
