@@ -166,7 +166,3 @@ pub record IsFoldNumbered (old new : SpaceValue) (key fold : Key) (left k : ℕ)
   pub one : (j : ℕ) → length old.keys ≤ j → j < length new.keys
       → (j ≡ k) × (slice_get new.keys j ≡ Some key) × (slice_get new.folds j ≡ Some fold)
   pub count : length new.folds ≡ length new.keys
-
--- the state is kept
-abbrev pub Knows : SpaceValue → Machine → Type 0
-Knows v s = (k : ℕ) × Keeps v k s
