@@ -137,7 +137,7 @@ const CASES: [Case; 9] = [
 ];
 
 #[test]
-fn statuses_and_notes(rt: HostRuntime) -> Result<(), Fail> {
+fn each_end_has_its_status_and_note(rt: HostRuntime) -> Result<(), Fail> {
     for (word, input, [read, write], wanted) in CASES {
         let ran = call(&rt, word, input.as_bytes(), [read, write, 0])?;
         ended(&rt, &ran, wanted);
@@ -147,7 +147,7 @@ fn statuses_and_notes(rt: HostRuntime) -> Result<(), Fail> {
 
 // The header of the trace with its transcript is lawful. A release without its take is not.
 #[test]
-fn audits_by_the_program(rt: HostRuntime) -> Result<(), Fail> {
+fn audit_tells_lawful_from_unlawful(rt: HostRuntime) -> Result<(), Fail> {
     let (header, _) = TRACE.split_once("step").ok_or("no schedule")?;
     let lawful = format!(in rt.alloc(); "{header}{TRANSCRIPT}")?;
     let unlawful = format!(in rt.alloc(); "{header}2 0.0 rrelease 0\n")?;
@@ -195,7 +195,7 @@ replay replay
 replay x";
 
 #[test]
-fn words_are_read(rt: HostRuntime) -> Result<(), Fail> {
+fn words_of_no_command_get_the_usage_line(rt: HostRuntime) -> Result<(), Fail> {
     for words in NO_COMMANDS.lines() {
         let ran = call(&rt, words, TRACE.as_bytes(), [0, 0, 0])?;
         ended(&rt, &ran, (2, "", USAGE));
@@ -205,7 +205,7 @@ fn words_are_read(rt: HostRuntime) -> Result<(), Fail> {
 
 // Words that can't be read: one that is no text gets the usage line, and want of memory its own.
 #[test]
-fn words_that_can_not_be_read(rt: HostRuntime) -> Result<(), Fail> {
+fn words_that_can_not_be_read_have_their_notes(rt: HostRuntime) -> Result<(), Fail> {
     let no_text = Err(io::Error::from(ErrorKind::InvalidData));
     let ran = call_with(&rt, no_text, TRACE.as_bytes(), [0, 0, 0], &OpenGate)?;
     ended(&rt, &ran, (2, "", USAGE));
@@ -217,7 +217,7 @@ fn words_that_can_not_be_read(rt: HostRuntime) -> Result<(), Fail> {
 
 // A note that can't be written is left out, and the status stays.
 #[test]
-fn failing_notes(rt: HostRuntime) -> Result<(), Fail> {
+fn failed_note_leaves_the_status(rt: HostRuntime) -> Result<(), Fail> {
     let ran = call(&rt, "replay", b"", [0, 0, 1])?;
     ended(&rt, &ran, (3, "", ""));
     Ok(())

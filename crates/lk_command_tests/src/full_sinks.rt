@@ -29,7 +29,7 @@ impl Sink for Full {
 
 // The replay asks it once, and answers its fault.
 #[test]
-fn a_replay_into_a_full_sink(rt: HostRuntime) -> Result<(), Fail> {
+fn replay_asks_a_full_sink_once(rt: HostRuntime) -> Result<(), Fail> {
     let alloc = rt.alloc();
     let mut source = MemSource::new(alloc, TRACE.as_bytes(), 1, &[])?;
     let mut sink = Full { faults: 0 };
@@ -41,7 +41,7 @@ fn a_replay_into_a_full_sink(rt: HostRuntime) -> Result<(), Fail> {
 
 // So does the program, with its status and its note.
 #[test]
-fn a_sink_that_is_full(rt: HostRuntime) -> Result<(), Fail> {
+fn full_sink_is_a_write_fault(rt: HostRuntime) -> Result<(), Fail> {
     let alloc = rt.alloc();
     let args = args_of(alloc, "replay")?;
     let mut source = MemSource::new(alloc, TRACE.as_bytes(), 1, &[])?;

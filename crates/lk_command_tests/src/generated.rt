@@ -35,7 +35,7 @@ prog 0 lock 1 unlock 1 lock 2 unlock 2 lock 2 unlock 2 ";
 // The same bytes at each run: 25,043 lines. `load` writes the last eleven lines of what `replay`
 // writes for them.
 #[test]
-fn gen_and_load_of_seven(rt: HostRuntime) -> Result<(), Fail> {
+fn gen_and_load_write_the_same_each_time(rt: HostRuntime) -> Result<(), Fail> {
     let trace = written(&rt, "gen 7", b"")?;
     let again = written(&rt, "gen 7", b"")?;
     assert!(rt; trace.bytes() == again.bytes());
@@ -55,7 +55,7 @@ fn gen_and_load_of_seven(rt: HostRuntime) -> Result<(), Fail> {
 
 // The sink, each of whose writes fails in turn: `gen` makes more than one, and `load` makes one.
 #[test]
-fn failing_writes(rt: HostRuntime) -> Result<(), Fail> {
+fn failed_write_ends_gen_and_load(rt: HostRuntime) -> Result<(), Fail> {
     let trace = written(&rt, "gen 7", b"")?;
     for (words, write) in [("gen 7", 1), ("gen 7", 2), ("gen 7", 100), ("load 7", 1)] {
         let ran = call(&rt, words, b"", [0, write, 0])?;

@@ -61,7 +61,7 @@ const CASES: [Case; 12] = [
 ];
 
 #[test]
-fn files_of_one_worker(rt: HostRuntime) -> Result<(), Fail> {
+fn files_of_one_worker_have_their_outcomes(rt: HostRuntime) -> Result<(), Fail> {
     for (file, wanted) in CASES {
         let ran = call(&rt, "ledger", file.as_bytes(), [0, 0, 0])?;
         ended(&rt, &ran, wanted);
@@ -105,7 +105,7 @@ end 3 2
 ";
 
 #[test]
-fn one_outcome_in_each_mode(rt: HostRuntime) -> Result<(), Fail> {
+fn outcome_is_the_same_in_each_mode(rt: HostRuntime) -> Result<(), Fail> {
     for (mode, kind) in FAMILIES {
         let file = format!(in rt.alloc(); "qjobs 1\nmode {mode}\nguard {kind}\n{JOBS}")?;
         let ran = call(&rt, "ledger", file.as_bytes(), [0, 0, 0])?;
@@ -131,7 +131,7 @@ const HEADERS: [&str; 3] = [
 
 // Each worker adds one a thousand times.
 #[test]
-fn a_sum_of_four_workers(rt: HostRuntime) -> Result<(), Fail> {
+fn four_workers_lose_no_job(rt: HostRuntime) -> Result<(), Fail> {
     let alloc = rt.alloc();
     let jobs = FOUR.repeat(alloc, 1_000)?;
     for header in HEADERS {
@@ -149,7 +149,7 @@ fn a_sum_of_four_workers(rt: HostRuntime) -> Result<(), Fail> {
 
 // One job more than a file may have is refused at its line, and nothing is written.
 #[test]
-fn one_job_too_many(rt: HostRuntime) -> Result<(), Fail> {
+fn one_job_too_many_is_refused(rt: HostRuntime) -> Result<(), Fail> {
     let alloc = rt.alloc();
     let jobs = "job 0 sum\n".repeat(alloc, 100_001)?;
     let file = format!(in alloc; "qjobs 1\nmode virt\n{jobs}end\n")?;
@@ -161,7 +161,7 @@ fn one_job_too_many(rt: HostRuntime) -> Result<(), Fail> {
 // A file of 22 bytes is read byte by byte: each of its reads fails in turn, and the one that finds
 // its end; and then its one write. Nothing is written.
 #[test]
-fn failing_calls(rt: HostRuntime) -> Result<(), Fail> {
+fn failed_call_of_a_ledger_writes_nothing(rt: HostRuntime) -> Result<(), Fail> {
     let file = b"qjobs 1\nmode virt\nend\n";
     for read in 1..24 {
         let ran = call(&rt, "ledger", file, [read, 0, 0])?;

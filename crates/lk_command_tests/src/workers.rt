@@ -215,7 +215,7 @@ fn read_beside(
 }
 
 #[test]
-fn readers_beside_writers(rt: HostRuntime) -> Result<(), Fail> {
+fn readers_beside_writers_see_one_sum(rt: HostRuntime) -> Result<(), Fail> {
     for mode in ["virt", "native", "cna"] {
         read_beside(&rt, mode)?;
     }

@@ -158,7 +158,7 @@ fn changes_so(rt: &(impl Abort + AllocGlobal), row: &str) -> Result<(), Fail> {
 }
 
 #[test]
-fn changed_transcripts(rt: HostRuntime) -> Result<(), Fail> {
+fn changed_transcripts_are_judged(rt: HostRuntime) -> Result<(), Fail> {
     for row in CHANGES.lines() {
         changes_so(&rt, row)?;
     }
@@ -186,7 +186,7 @@ fn audit_all(rt: &(impl Abort + AllocGlobal), text: &str) -> Result<(), Fail> {
 }
 
 #[test]
-fn worked_transcripts(rt: HostRuntime) -> Result<(), Fail> {
+fn worked_transcripts_are_lawful(rt: HostRuntime) -> Result<(), Fail> {
     for text in TEXTS {
         audit_all(&rt, text)?;
     }
@@ -195,7 +195,7 @@ fn worked_transcripts(rt: HostRuntime) -> Result<(), Fail> {
 
 // A line that is too long, behind `go`; and a breach before it.
 #[test]
-fn long_lines(rt: HostRuntime) -> Result<(), Fail> {
+fn breach_comes_before_a_line_that_is_too_long(rt: HostRuntime) -> Result<(), Fail> {
     let alloc = rt.alloc();
     let long = "9".repeat(alloc, 4_097)?;
     let input = with_part(alloc, PENDING, "6 0.0 release 0", long.as_str())?;
@@ -211,7 +211,7 @@ fn long_lines(rt: HostRuntime) -> Result<(), Fail> {
 
 // Each read of the text's bytes fails in turn, and that of its end; and then the write.
 #[test]
-fn failing_audits(rt: HostRuntime) -> Result<(), Fail> {
+fn failed_calls_of_an_audit_are_answered(rt: HostRuntime) -> Result<(), Fail> {
     let alloc = rt.alloc();
     for call in 1..332 {
         let (answer, sink) = audited(alloc, PENDING, 1, &[call], &[])?;

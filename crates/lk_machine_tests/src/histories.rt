@@ -12,7 +12,7 @@ use lk_abs::{Format, Kind, Mode, judge_is_exact};
 use std::test::Fail;
 
 #[test]
-fn breaches_of_histories(rt: HostRuntime) -> Result<(), Fail> {
+fn histories_are_judged_as_told(rt: HostRuntime) -> Result<(), Fail> {
     judge_is_exact();
     let table = [
         (Format::One, Mode::Native, Kind::Spin, queue::HISTORIES),

@@ -64,7 +64,7 @@ fn replay_all(rt: &(impl Abort + AllocGlobal), text: &str) -> Result<(), Fail> {
 }
 
 #[test]
-fn worked_traces(rt: HostRuntime) -> Result<(), Fail> {
+fn worked_traces_give_their_transcripts(rt: HostRuntime) -> Result<(), Fail> {
     for text in TEXTS {
         replay_all(&rt, text)?;
     }
@@ -72,7 +72,7 @@ fn worked_traces(rt: HostRuntime) -> Result<(), Fail> {
 }
 
 #[test]
-fn worked_runs(rt: HostRuntime) -> Result<(), Fail> {
+fn worked_runs_give_their_transcripts(rt: HostRuntime) -> Result<(), Fail> {
     for text in [RUNS, EVERY_OUTCOME] {
         let mut parts = text.split("---\n");
         while let Some(run) = parts.next() {
@@ -88,7 +88,7 @@ fn worked_runs(rt: HostRuntime) -> Result<(), Fail> {
 // What a replay answers of the trace of a waiter that takes by the pending bit, the first of its
 // text.
 #[test]
-fn a_summary(rt: HostRuntime) -> Result<(), Fail> {
+fn summary_counts_acts_and_events(rt: HostRuntime) -> Result<(), Fail> {
     let (trace, _) = QUEUE.split_once("---\n").ok_or("no trace")?;
     let (answer, _sink) = replayed(rt.alloc(), trace, 1_000)?;
     let summary = answer?;

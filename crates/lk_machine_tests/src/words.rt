@@ -45,7 +45,7 @@ const WORDS: [(Layout, u32, Option<Fields>); 9] = [
 ];
 
 #[test]
-fn words_of_the_layouts(rt: HostRuntime) {
+fn words_unpack_by_their_layout(rt: HostRuntime) {
     for (layout, word, fields) in WORDS {
         let found = unpack(layout, word);
         assert_eq!(rt; found, fields, "at {word}");
@@ -56,7 +56,7 @@ fn words_of_the_layouts(rt: HostRuntime) {
 }
 
 #[test]
-fn a_word_of_readers(rt: HostRuntime) {
+fn word_of_readers_packs_and_unpacks(rt: HostRuntime) {
     assert!(rt; pack_rw(READ) == 0x500 && unpack_rw(0x500) == Some(READ));
     packing_is_exact();
 }

@@ -122,7 +122,7 @@ impl Write for Once {
 }
 
 #[test]
-fn std_fails_once(rt: HostRuntime) {
+fn error_of_std_is_one_fault(rt: HostRuntime) {
     let mut buf = [0; 4];
     let mut source = StdSource::new(Once { failed: false });
     assert_eq!(rt; source.faults(), 0);

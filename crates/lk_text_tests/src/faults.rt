@@ -44,7 +44,7 @@ fn writes_fail(rt: &(impl Abort + AllocGlobal), text: Text) -> Result<(), Fail> 
 }
 
 #[test]
-fn failing_calls(rt: HostRuntime) -> Result<(), Fail> {
+fn failed_calls_are_answered(rt: HostRuntime) -> Result<(), Fail> {
     for text in [Text::Trace, Text::Run] {
         reads_fail(&rt, text)?;
         writes_fail(&rt, text)?;

@@ -6,7 +6,7 @@ use std::test::Fail;
 
 // The length of the text and its hash are those of the other program's text.
 #[test]
-fn text_of_seven(rt: HostRuntime) -> Result<(), Fail> {
+fn text_of_seed_7_is_that_of_the_other_program(rt: HostRuntime) -> Result<(), Fail> {
     generated_texts_are_good();
     let mut sink = MemSink::new(rt.alloc(), 524_288, &[])?;
     assert!(rt; generate(7, &mut sink).is_ok());

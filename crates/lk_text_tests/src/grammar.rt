@@ -22,7 +22,7 @@ const NUMBERS: &str = "\
 1x = None";
 
 #[test]
-fn numbers(rt: HostRuntime) -> Result<(), Fail> {
+fn numbers_are_read_whole_or_not_at_all(rt: HostRuntime) -> Result<(), Fail> {
     for row in NUMBERS.lines() {
         let (word, wanted) = row.split_once(" = ").ok_or("no answer")?;
         let told = format!(in rt.alloc(); "{:?}", read_number(word.as_bytes()))?;
@@ -63,7 +63,7 @@ fn told_of(alloc: Global, line: &str) -> Result<String, AllocError> {
 }
 
 #[test]
-fn lines_of_a_schedule(rt: HostRuntime) -> Result<(), Fail> {
+fn lines_of_a_schedule_are_read(rt: HostRuntime) -> Result<(), Fail> {
     for row in SCHEDULE.lines() {
         let (line, wanted) = row.split_once(" = ").ok_or("no answer")?;
         assert_eq!(rt; told_of(rt.alloc(), line)?.as_str(), wanted, "in {line}");
@@ -73,7 +73,7 @@ fn lines_of_a_schedule(rt: HostRuntime) -> Result<(), Fail> {
 
 // Behind the last act that there may be, and behind `end`.
 #[test]
-fn lines_at_the_end(rt: HostRuntime) -> Result<(), Fail> {
+fn no_act_comes_behind_the_last(rt: HostRuntime) -> Result<(), Fail> {
     let full = schedule_line(b"int 0", 1, 100_000_000, false);
     let act = schedule_line(b"int 0", 1, 0, true);
     let end = schedule_line(b"end", 1, 0, true);
@@ -134,7 +134,7 @@ fn has_programs(setup: &Setup) -> bool {
 }
 
 #[test]
-fn a_whole_header(rt: HostRuntime) -> Result<(), Fail> {
+fn header_gives_its_setup(rt: HostRuntime) -> Result<(), Fail> {
     let setup = setup_of(rt.alloc(), HEADER)?.ok_or("no go")?;
     assert!(rt; has_rules(&setup) && has_programs(&setup));
     Ok(())
@@ -172,7 +172,7 @@ fn refusal_of(alloc: Global, line: &str) -> Result<String, AllocError> {
 }
 
 #[test]
-fn refused_programs(rt: HostRuntime) -> Result<(), Fail> {
+fn programs_against_the_rules_are_refused(rt: HostRuntime) -> Result<(), Fail> {
     for row in PROGRAMS.lines() {
         let (line, wanted) = row.split_once(" = ").ok_or("no fault")?;
         assert_eq!(rt; refusal_of(rt.alloc(), line)?.as_str(), wanted, "in {line}");

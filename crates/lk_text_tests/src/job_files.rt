@@ -73,7 +73,7 @@ fn told_of(alloc: Global, file: &str) -> Result<String, AllocError> {
 }
 
 #[test]
-fn whole_files(rt: HostRuntime) -> Result<(), Fail> {
+fn files_are_good_or_refused_at_a_line(rt: HostRuntime) -> Result<(), Fail> {
     for row in FILES.lines() {
         let (file, wanted) = row.split_once(" = ").ok_or("no answer")?;
         assert_eq!(rt; told_of(rt.alloc(), file)?.as_str(), wanted, "in {file}");
@@ -116,7 +116,7 @@ fn reader_behind(alloc: Global, lines: &str) -> Option<JobReader> {
 }
 
 #[test]
-fn lines_of_jobs(rt: HostRuntime) -> Result<(), Fail> {
+fn lines_of_jobs_are_read(rt: HostRuntime) -> Result<(), Fail> {
     let before = "qjobs 1\nmode virt\nworkers 2\naccounts 5 0";
     for row in JOBS.lines() {
         let (line, wanted) = row.split_once(" = ").ok_or("no answer")?;
@@ -168,7 +168,7 @@ fn jobs_of(alloc: Global, file: &JobFile, worker: usize) -> Result<String, Alloc
 }
 
 #[test]
-fn a_whole_file(rt: HostRuntime) -> Result<(), Fail> {
+fn file_gives_its_settings_and_jobs(rt: HostRuntime) -> Result<(), Fail> {
     let file = file_of(rt.alloc(), FILE).ok_or("refused")?;
     assert!(rt; has_settings(&file));
     let first = "[Move { from: 0, to: 1, amount: 4 }, Add { account: 2, amount: 7 }]";
@@ -183,7 +183,7 @@ fn a_whole_file(rt: HostRuntime) -> Result<(), Fail> {
 
 // 100,000 jobs are accepted, and one more is not.
 #[test]
-fn the_most_jobs(rt: HostRuntime) -> Result<(), Fail> {
+fn one_job_more_than_100000_is_refused(rt: HostRuntime) -> Result<(), Fail> {
     let mut reader = reader_behind(rt.alloc(), "qjobs 1\nmode virt").ok_or("refused")?;
     for _ in 0..100_000 {
         assert!(rt; reader.line(b"job 0 sum").is_ok());
@@ -198,7 +198,7 @@ fn is_text(line: &LineBuf, text: &str) -> bool {
 }
 
 #[test]
-fn lines_of_an_outcome(rt: HostRuntime) {
+fn outcome_is_written_as_lines(rt: HostRuntime) {
     let entry = |job, reply| Entry {
         worker: 3,
         number: 9,

@@ -48,7 +48,7 @@ fn reads_so(
 }
 
 #[test]
-fn lines_in_any_pieces(rt: HostRuntime) -> Result<(), Fail> {
+fn lines_are_the_same_in_any_pieces(rt: HostRuntime) -> Result<(), Fail> {
     reads_so(&rt, "", 2, "(end)\n(end)\n0")?;
     reads_so(&rt, "\n", 3, "\n(end)\n(end)\n1")?;
     reads_so(&rt, "one", 3, "one\n(end)\n(end)\n1")?;
@@ -69,7 +69,7 @@ fn one_line(alloc: Global, size: usize) -> Result<String, Fail> {
 }
 
 #[test]
-fn the_longest_line(rt: HostRuntime) -> Result<(), Fail> {
+fn line_of_4097_bytes_is_too_long(rt: HostRuntime) -> Result<(), Fail> {
     let long = one_line(rt.alloc(), 4_096)?;
     assert!(rt; long.len() == 4_096 + 8 && long.as_str().ends_with("#\n(end)\n1"));
     let longer = one_line(rt.alloc(), 4_097)?;
@@ -102,7 +102,7 @@ impl Source for Endless {
 }
 
 #[test]
-fn an_endless_source(rt: HostRuntime) -> Result<(), Fail> {
+fn endless_source_is_too_much(rt: HostRuntime) -> Result<(), Fail> {
     let mut line = [b'#'; 4_096];
     line[4_095] = b'\n';
     let mut source = Endless { line, at: 0 };
@@ -119,7 +119,7 @@ fn an_endless_source(rt: HostRuntime) -> Result<(), Fail> {
 }
 
 #[test]
-fn a_failing_read(rt: HostRuntime) -> Result<(), Fail> {
+fn failed_read_stays_a_fault(rt: HostRuntime) -> Result<(), Fail> {
     let mut source = MemSource::new(rt.alloc(), b"ab\ncd\n", 2, &[3])?;
     let found = first_lines(rt.alloc(), &mut source, 3)?;
     assert_eq!(rt; found.as_str(), "ab\n(read fault)\n(read fault)\n1");
@@ -139,7 +139,7 @@ impl Read for Broken {
 }
 
 #[test]
-fn readers_of_std(rt: HostRuntime) -> Result<(), Fail> {
+fn reader_of_std_is_a_source(rt: HostRuntime) -> Result<(), Fail> {
     let mut source = StdSource::new(b"one\ntwo".as_slice());
     let found = first_lines(rt.alloc(), &mut source, 3)?;
     assert_eq!(rt; found.as_str(), "one\ntwo\n(end)\n2");

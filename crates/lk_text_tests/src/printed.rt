@@ -21,7 +21,7 @@ const TASK: Waiter = Waiter { cpu: 0, ctx: 0 };
 const LAST: Waiter = Waiter { cpu: 63, ctx: 5 };
 
 #[test]
-fn lines_of_events(rt: HostRuntime) {
+fn events_are_written_as_lines(rt: HostRuntime) {
     let take = |how| What::Take { lock: LOCK, how };
     let last_take = |how| What::Take {
         lock: LAST_WAIT,
@@ -86,7 +86,7 @@ const COUNTS: Counts = Counts {
 };
 
 #[test]
-fn closing_lines(rt: HostRuntime) -> Result<(), Fail> {
+fn end_and_counts_are_written_as_lines(rt: HostRuntime) -> Result<(), Fail> {
     let mut text = String::new(rt.alloc());
     text.push_str(str::from_utf8(end_line(100_000_000).bytes())?)?;
     for which in 0..10 {

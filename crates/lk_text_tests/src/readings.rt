@@ -56,7 +56,7 @@ fn told(alloc: Global, words: &str) -> Result<String, Fail> {
 }
 
 #[test]
-fn words_are_read_so(rt: HostRuntime) -> Result<(), Fail> {
+fn words_name_a_reading(rt: HostRuntime) -> Result<(), Fail> {
     for row in READINGS.lines() {
         let (words, wanted) = row.split_once(" = ").ok_or("no reading")?;
         let told = told(rt.alloc(), words)?;

@@ -95,7 +95,7 @@ fn refuses_all(rt: &(impl Abort + AllocGlobal), text: Text, rows: &str) -> Resul
 
 // Besides those of the tables a program of 65 operations, and a line of 4,097 bytes.
 #[test]
-fn refused_lines(rt: HostRuntime) -> Result<(), Fail> {
+fn bad_lines_are_refused(rt: HostRuntime) -> Result<(), Fail> {
     refuses_all(&rt, Text::Trace, TRACE_LINES)?;
     refuses_all(&rt, Text::Run, RUN_LINES)?;
     let mut program = String::from_str(rt.alloc(), "prog 0 lock 0")?;
@@ -134,7 +134,7 @@ const CUTS: &str = "\
 77 done";
 
 #[test]
-fn cut_inputs(rt: HostRuntime) -> Result<(), Fail> {
+fn cut_trace_is_refused_where_it_ends(rt: HostRuntime) -> Result<(), Fail> {
     let input = Text::Trace.input();
     for row in CUTS.lines() {
         let (size, cause) = row.split_once(' ').ok_or("no cause")?;
@@ -147,7 +147,7 @@ fn cut_inputs(rt: HostRuntime) -> Result<(), Fail> {
 // A run has no end; and blank lines and comments are accepted everywhere, and a run without
 // processors that have rounds does nothing.
 #[test]
-fn ends_of_runs(rt: HostRuntime) -> Result<(), Fail> {
+fn run_needs_its_end(rt: HostRuntime) -> Result<(), Fail> {
     let input = with_line(rt.alloc(), Text::Run.input(), 10, "# no end")?;
     comes_to(&rt, Text::Run, input.as_str(), "11 NoEnd")?;
     let input = "  qosq\t1\r\n# none\n\ngo\nend\n# over";

@@ -7,7 +7,7 @@ use std::test::Fail;
 
 // The second write fails, and the last one has no room.
 #[test]
-fn a_failing_write(rt: HostRuntime) -> Result<(), Fail> {
+fn failed_write_takes_nothing(rt: HostRuntime) -> Result<(), Fail> {
     let mut sink = MemSink::new(rt.alloc(), 6, &[2])?;
     assert!(rt; put(&mut sink, b"one").is_ok());
     assert!(rt; put(&mut sink, b"two").is_err());
@@ -38,14 +38,14 @@ impl Sink for Full {
 }
 
 #[test]
-fn a_sink_that_takes_nothing(rt: HostRuntime) {
+fn taking_nothing_is_a_fault(rt: HostRuntime) {
     let mut sink = Full { faults: 0 };
     assert!(rt; put(&mut sink, b"one").is_err());
     assert!(rt; sink.faults == 1);
 }
 
 #[test]
-fn writers_of_std(rt: HostRuntime) -> Result<(), Fail> {
+fn writer_of_std_is_a_sink(rt: HostRuntime) -> Result<(), Fail> {
     let mut text = Vec::new(rt.alloc());
     assert!(rt; put(&mut StdSink::new(&mut text), b"one").is_ok());
     assert!(rt; text.as_slice() == b"one".as_slice());
@@ -59,7 +59,7 @@ fn writers_of_std(rt: HostRuntime) -> Result<(), Fail> {
 
 #[test]
 #[tactic(auto, using(lk_text::proofs::Decimal::decimal_short))]
-fn a_line_of_words_and_numbers(rt: HostRuntime) {
+fn line_joins_words_and_numbers(rt: HostRuntime) {
     let mut line = LineBuf::new();
     line.word(b"from ");
     line.number(0);
@@ -71,7 +71,7 @@ fn a_line_of_words_and_numbers(rt: HostRuntime) {
 // What waits in a block is put before a long text. After a write that failed nothing waits.
 #[test]
 #[tactic(auto, using(lk_text::proofs::Decimal::decimal_short))]
-fn a_block_of_output(rt: HostRuntime) -> Result<(), Fail> {
+fn block_is_put_before_a_long_text(rt: HostRuntime) -> Result<(), Fail> {
     let mut sink = MemSink::new(rt.alloc(), 100_000, &[2])?;
     let mut block = Block::new(rt.alloc())?;
     let long = vec![in rt.alloc(); b'#'; 65_536]?;
