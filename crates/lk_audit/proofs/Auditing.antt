@@ -1,11 +1,10 @@
 -- What an auditor shows, with one line more.
-use Rattle.std.proofs.Common.{true, false, ◌≡◌, ◌++◌, ◌+◌, ◌*◌, ℕ, List, [], ◌∷◌, Option, None, Some, Result, Ok, Err, length, refl, sym, ap, subst, ◌∙◌}
+use Rattle.std.proofs.Common.{true, ◌≡◌, ◌++◌, ◌+◌, ◌*◌, ℕ, List, [], ◌∷◌, Option, None, Some, Result, Ok, Err, length, refl, sym, ap, subst, ◌∙◌}
 use Rattle.std.proofs.lemmas.List.{length_push}
-use Rattle.lk_abs.specs.Lawful.{Rules, IsLawful}
+use Rattle.lk_abs.specs.Lawful.{IsLawful}
 use Rattle.lk_abs.specs.Judge.{JudgeState, breach_of, HasTaken}
 use Rattle.lk_abs.specs.declared.events.Event.{Event}
 use Rattle.lk_abs.specs.declared.events.Breach.{Breach}
-use Rattle.lk_rows.specs.Run.{Occurrence}
 use Rattle.lk_rows.specs.declared.setup.Setup.{Setup}
 use Rattle.lk_text.specs.Reader.{lines_given, is_ended, GaveLine, MetEnd}
 use Rattle.lk_text.specs.declared.reader.LineReader.{LineReader}
@@ -13,7 +12,6 @@ use Rattle.lk_forms.specs.declared.answers.Fault.{Fault}
 use Rattle.lk_forms.specs.declared.answers.LineRefusal.TheVariants.{Bad}
 use Rattle.lk_audit_forms.specs.Closing.{line_told}
 use Rattle.lk_audit_forms.specs.Grammar.{Said, last_act, with_told, said_on, read, ending}
-use Rattle.lk_audit_forms.specs.Texts.{name_of}
 use Rattle.lk_audit_forms.specs.declared.answers.Told.{Told}
 use Rattle.lk_audit_forms.specs.declared.answers.Told.TheVariants as told
 use Rattle.lk_audit.specs.Lawful.{events_said, IsLawfulSo, IsBroken}

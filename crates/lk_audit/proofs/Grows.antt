@@ -1,5 +1,5 @@
 -- A text behind the header only adds to its history.
-use Rattle.std.proofs.Common.{Bool, true, false, ◌≡◌, ◌++◌, ◌+◌, ◌^◌, ◌&&◌, nat_lt, nat_le, ℕ, List, [], ◌∷◌, Option, None, Some, Result, Ok, Err, length, fold, refl, sym, ap, subst, ◌∙◌, append_assoc, append-nil, if◌then◌else◌}
+use Rattle.std.proofs.Common.{Bool, true, false, ◌≡◌, ◌++◌, ◌+◌, ◌&&◌, nat_lt, nat_le, ℕ, List, [], ◌∷◌, Option, None, Some, Result, Ok, Err, length, fold, refl, sym, ap, subst, ◌∙◌, append_assoc, append-nil, if◌then◌else◌}
 use Rattle.std.proofs.lemmas.List.{map-append}
 use Rattle.std.specs.Result.{result_unwrap_or}
 use Rattle.lk_abs.specs.Lawful.{Rules, IsLawful}
@@ -12,8 +12,8 @@ use Rattle.lk_text.specs.declared.reader.TheConstants.{MAX_INPUT, MAX_LINE}
 use Rattle.lk_forms.specs.declared.answers.Fault.{Fault}
 use Rattle.lk_forms.specs.declared.answers.Which.TheVariants.{Line, Input}
 use Rattle.lk_forms.specs.declared.answers.LineRefusal.{LineRefusal}
-use Rattle.lk_forms.specs.declared.answers.LineRefusal.TheVariants.{Bad, Limit}
-use Rattle.lk_stream.specs.Grammar.{Place, Saying, Good, Refused, placed, next_place, says_at_end, unless_refused, says_from, place_after}
+use Rattle.lk_forms.specs.declared.answers.LineRefusal.TheVariants.{Limit}
+use Rattle.lk_stream.specs.Grammar.{Place, Saying, Good, Refused, placed, next_place, says_at_end, unless_refused, says_from}
 use Rattle.lk_audit_forms.specs.Closing.{line_told}
 use Rattle.lk_audit_forms.specs.Grammar.{Said, last_act, with_told, said_on, read, ending, audit_grammar}
 use Rattle.lk_audit_forms.specs.declared.answers.Told.{Told}

@@ -1,9 +1,9 @@
 -- A header that lines say is lawful.
-use Rattle.std.proofs.Common.{◌≡◌, ◌++◌, List, ℕ, [], ◌∷◌, Result, Ok, Err, fold, refl, sym, ap, subst, ◌∙◌}
+use Rattle.std.proofs.Common.{◌≡◌, ◌++◌, List, ℕ, [], ◌∷◌, Ok, fold, sym, ap, subst, ◌∙◌}
 use Rattle.std.proofs.lemmas.List.Sums.{fold-append}
 use Rattle.std.specs.Result.{result_unwrap_or}
 use Rattle.lk_rows.specs.Programs.{IsLawfulSetup}
-use Rattle.lk_forms.specs.Grammar.{Reading, nothing_read, read, next_reading, reading_of}
+use Rattle.lk_forms.specs.Grammar.{Reading, nothing_read, read, next_reading}
 use Rattle.lk_forms.proofs.Lawful.{lawful_setup}
 use Rattle.lk_audit.specs.Stands.{IsSaid}
 

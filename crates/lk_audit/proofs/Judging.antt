@@ -1,11 +1,11 @@
 -- What a judge answers of an event, by the events that it has taken.
-use Rattle.std.proofs.Common.{Bool, true, false, ◌≡◌, ◌≤◌, ◌<◌, ◌+◌, ◌*◌, ◌^◌, ◌&&◌, ℕ, zero, suc, List, [], ◌∷◌, ◌++◌, Option, None, Some, length, nat_lt, refl, sym, ap, subst, ◌∙◌, arith, if◌then◌else◌}
+use Rattle.std.proofs.Common.{Bool, true, false, ◌≡◌, ◌<◌, ◌+◌, ◌*◌, ◌^◌, ◌&&◌, ℕ, List, [], ◌∷◌, Option, None, Some, length, nat_lt, refl, sym, ap, subst, ◌∙◌, arith, if◌then◌else◌}
 use Rattle.std.proofs.lemmas.Bool.Decides.{nat_tests}
 use Rattle.std.specs.Option.{option_or}
 use Rattle.lk_abs.specs.Names.{place_of, locks_from}
 use Rattle.lk_abs.specs.History.{LockHistory, history_of, told, lock_of}
 use Rattle.lk_abs.specs.Kicks.{KickState, kicks_of, kicks_told}
-use Rattle.lk_abs.specs.Lawful.{Rules, IsLawful}
+use Rattle.lk_abs.specs.Lawful.{Rules}
 use Rattle.lk_abs.specs.Breaches.{first_breach}
 use Rattle.lk_abs.specs.NoKick.{left_asleep, no_kick, unkicked}
 use Rattle.lk_abs.specs.Remembered.{state_of, IsNamed, IsNamedBy}
@@ -15,7 +15,6 @@ use Rattle.lk_abs.specs.declared.names.Mode.{Mode}
 use Rattle.lk_abs.specs.declared.names.Mode.TheVariants.{Virt, Native, Cna, Pv}
 use Rattle.lk_abs.specs.declared.names.LockName.{LockName}
 use Rattle.lk_abs.specs.declared.events.Event.{Event}
-use Rattle.lk_abs.specs.declared.events.Breach.{Breach}
 use Rattle.lk_abs.specs.declared.events.What.{What}
 use Rattle.lk_abs.specs.declared.events.What.TheVariants as what
 use Rattle.lk_rows.specs.declared.setup.Setup.{Setup}

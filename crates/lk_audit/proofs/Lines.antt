@@ -1,5 +1,5 @@
 -- The answer of an audit that has been judged.
-use Rattle.std.proofs.Common.{◌≡◌, ◌≢◌, ◌⊎◌, ℕ, List, Option, Result, Ok, Err, length, refl, sym, ap, subst, inl, inr}
+use Rattle.std.proofs.Common.{◌≡◌, ℕ, List, Option, Ok, Err, length, refl, subst}
 use Rattle.std.specs.Io.KnownBytes.{Appends, Keeps}
 use Rattle.std.proofs.KnownBytes.{Keeps-refl}
 use Rattle.lk_text.specs.Causes.{Rose}
@@ -8,7 +8,7 @@ use Rattle.lk_stream.specs.Outside.{outside}
 use Rattle.lk_audit_forms.specs.declared.answers.BreachName.{BreachName}
 use Rattle.lk_audit_forms.specs.Grammar.{lawful_text}
 use Rattle.lk_audit_forms.specs.Texts.{name_of, breach_text}
-use Rattle.lk_audit.specs.Outcome.{Outcome, Verdict, Lawful, Unlawful}
+use Rattle.lk_audit.specs.Outcome.{Outcome, Lawful, Unlawful}
 use Rattle.lk_audit.specs.Stands.{JudgedTo}
 use Rattle.lk_audit.specs.declared.answers.AuditFault.{AuditFault}
 use Rattle.lk_audit.specs.declared.answers.AuditFault.TheVariants as fault

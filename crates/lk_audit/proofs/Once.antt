@@ -1,20 +1,19 @@
 -- A text says one thing, and is broken at one line.
-use Rattle.std.proofs.Common.{true, ◌≡◌, ◌++◌, ◌+◌, ◌⊎◌, ℕ, List, [], ◌∷◌, Option, None, Some, Result, Ok, Err, IsOkUnless, IsErrAnd, fold, inl, inr, refl, sym, ap, subst, ◌∙◌, append_assoc}
+use Rattle.std.proofs.Common.{true, ◌≡◌, ◌++◌, ◌+◌, ◌⊎◌, ℕ, List, [], ◌∷◌, Option, Some, Result, Ok, Err, IsOkUnless, IsErrAnd, fold, inl, inr, refl, sym, ap, subst, ◌∙◌}
 use Rattle.std.proofs.lemmas.List.{append_cancel_left}
 use Rattle.std.proofs.lemmas.List.Sums.{fold-append}
 use Rattle.std.specs.Result.{result_unwrap_or}
 use Rattle.lk_abs.specs.declared.events.Event.{Event}
 use Rattle.lk_abs.specs.declared.events.Breach.{Breach}
 use Rattle.lk_text.specs.Causes.{Rose}
-use Rattle.lk_text.specs.Feeds.{pieces}
-use Rattle.lk_forms.specs.Grammar.{Reading, has_go}
+use Rattle.lk_forms.specs.Grammar.{has_go}
 use Rattle.lk_forms.specs.declared.answers.LineRefusal.{LineRefusal}
 use Rattle.lk_forms.specs.declared.answers.LineRefusal.TheVariants.{Bad, Limit}
 use Rattle.lk_stream.specs.Grammar.{Place, Saying, Good, Refused, Says, first_place, next_place, unless_refused, says_from, saying}
 use Rattle.lk_stream.specs.Outside.{Outside}
 use Rattle.lk_audit_forms.specs.Grammar.{Said, audit_grammar}
 use Rattle.lk_audit_forms.specs.Texts.{name_of}
-use Rattle.lk_audit.specs.Lawful.{events_said, IsLawfulSo, breach_behind, IsBroken, BreaksAt, Breaks}
+use Rattle.lk_audit.specs.Lawful.{events_said, IsLawfulSo, breach_behind, BreaksAt, Breaks}
 use Rattle.lk_audit.specs.Outcome.{Outcome, refused_fault}
 use Rattle.lk_audit.specs.declared.answers.AuditFault.{AuditFault}
 use Rattle.lk_audit.specs.declared.answers.AuditFault.TheVariants as fault

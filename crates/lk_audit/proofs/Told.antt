@@ -1,10 +1,10 @@
 -- What one line more tells.
-use Rattle.std.proofs.Common.{Bool, true, false, ◌≡◌, ◌≤◌, ◌<◌, ◌+◌, ◌-◌, ◌==◌, ◌&&◌, ℕ, List, [], ◌∷◌, ◌++◌, Option, None, Some, Result, Ok, Err, length, nat_lt, nat_le, is_some, refl, sym, ap, subst, ◌∙◌, arith, codes, if◌then◌else◌}
+use Rattle.std.proofs.Common.{Bool, true, false, ◌≡◌, ◌<◌, ◌+◌, ◌-◌, ◌==◌, ◌&&◌, ℕ, List, [], ◌∷◌, ◌++◌, Option, None, Some, Result, Ok, Err, nat_lt, nat_le, is_some, refl, sym, subst, arith, codes, if◌then◌else◌}
 use Rattle.std.proofs.lemmas.Bool.Decides.{nat_tests}
 use Rattle.std.proofs.lemmas.List.{map-append}
 use Rattle.std.specs.Str.{bytes_eq}
 use Rattle.lk_abs.specs.declared.events.Event.{Event}
-use Rattle.lk_rows.specs.Run.{Occurrence, events_of}
+use Rattle.lk_rows.specs.Run.{Occurrence}
 use Rattle.lk_rows.specs.declared.setup.Setup.{Setup}
 use Rattle.lk_text.proofs.NumberLemmas.{and_split}
 use Rattle.lk_forms.specs.Texts.{count_name}

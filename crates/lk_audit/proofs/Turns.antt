@@ -1,9 +1,8 @@
 -- What one line more of a text comes to.
-use Rattle.std.proofs.Common.{Bool, true, false, ◌≡◌, ◌≤◌, ◌<◌, ◌+◌, ◌++◌, ◌⊎◌, ◌^◌, ◌&&◌, ℕ, List, [], ◌∷◌, Option, None, Some, Result, Ok, Err, length, inl, inr, refl, sym, ap, subst, ◌∙◌, append_assoc, arith}
+use Rattle.std.proofs.Common.{true, false, ◌≡◌, ◌≤◌, ◌+◌, ◌++◌, ℕ, List, [], ◌∷◌, Option, None, Some, Ok, Err, length, inl, inr, refl, sym, ap, subst, ◌∙◌, append_assoc, arith}
 use Rattle.std.specs.Io.KnownBytes.{IsAtEnd}
 use Rattle.lk_abs.specs.declared.events.Breach.{Breach}
-use Rattle.lk_text.specs.Causes.{Rose}
-use Rattle.lk_text.specs.Feeds.{pieces, line_of}
+use Rattle.lk_text.specs.Feeds.{pieces}
 use Rattle.lk_text.specs.Reader.{unread, lines_given, is_ended, IsFresh, GaveLine, MetEnd, GaveFault}
 use Rattle.lk_text.specs.declared.reader.LineReader.{LineReader}
 use Rattle.lk_text.specs.declared.reader.LineFault.{LineFault}
@@ -13,19 +12,18 @@ use Rattle.lk_forms.specs.Reader.{ReadsOn}
 use Rattle.lk_forms.specs.declared.answers.Fault.{Fault}
 use Rattle.lk_forms.specs.declared.answers.LineRefusal.{LineRefusal}
 use Rattle.lk_forms.specs.declared.answers.LineRefusal.TheVariants.{Bad, Limit, Memory}
-use Rattle.lk_forms.specs.Grammar.{read as read_header, ending as header_ending}
+use Rattle.lk_forms.specs.Grammar.{read as read_header}
 use Rattle.lk_stream.specs.Grammar.{Place, Good, Refused, Says, placed, next_place, says_at_end}
-use Rattle.lk_stream.specs.Reads.{IsCutTo, ReadsTo}
+use Rattle.lk_stream.specs.Reads.{IsCutTo}
 use Rattle.lk_stream.proofs.Cuts.{cut_on, says_line}
 use Rattle.lk_stream.proofs.Places.{next-within}
 use Rattle.lk_stream.proofs.ReadOn.{reads_nothing, reads_end, long_line, long_text, line_refused, line_read}
 use Rattle.lk_abs.proofs.OneMore.{lawful-nil}
 use Rattle.lk_audit_forms.specs.Grammar.{Said, in_header, header_on, read, ending, audit_grammar}
-use Rattle.lk_audit_forms.specs.Texts.{name_of}
-use Rattle.lk_audit.specs.Lawful.{IsLawfulSo, IsBroken, BreaksAt, Breaks}
+use Rattle.lk_audit.specs.Lawful.{IsLawfulSo, IsBroken, Breaks}
 use Rattle.lk_rows.specs.Rules.{rules_of}
 use Rattle.lk_audit.specs.Outcome.{refused_fault}
-use Rattle.lk_audit.specs.Stands.{Stands, StopsRefused, FaultStops, cut_at, end_at}
+use Rattle.lk_audit.specs.Stands.{Stands, StopsRefused, FaultStops, cut_at}
 use Rattle.lk_audit.specs.declared.answers.AuditFault.{AuditFault}
 use Rattle.lk_audit.specs.declared.answers.AuditFault.TheVariants as fault
 

@@ -1,6 +1,6 @@
 -- What each answer of an audit means, by what is seen of its source and its sink before it and
 -- after it.
-use Rattle.std.specs.Prelude.{◌≡◌, ◌⊎◌, ℕ, List, Option, None, Result, Ok, Err, length}
+use Rattle.std.specs.Prelude.{◌≡◌, ℕ, List, Option, Result, Ok, Err, length}
 use Rattle.std.specs.Io.KnownBytes.{Appends, IsAtEnd, Keeps}
 use Rattle.lk_abs.specs.declared.events.Breach.{Breach}
 use Rattle.lk_text.specs.Causes.{Rose}

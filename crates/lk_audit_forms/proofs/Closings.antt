@@ -1,5 +1,5 @@
 -- The closing lines are read exactly as they are printed.
-use Rattle.std.proofs.Common.{Bool, true, false, ◌≡◌, ◌≤◌, ◌<◌, ◌-◌, ◌==◌, ◌++◌, ◌&&◌, ◌^◌, ℕ, suc, List, [], ◌∷◌, Option, None, Some, Result, Ok, Err, nat_lt, nat_le, is_some, refl, sym, ap, ◌∙◌, subst, arith, append_assoc, append-nil, codes, decimal, if◌then◌else◌}
+use Rattle.std.proofs.Common.{Bool, true, false, ◌≡◌, ◌<◌, ◌-◌, ◌==◌, ◌++◌, ◌&&◌, ◌^◌, ℕ, suc, List, [], ◌∷◌, Option, None, Some, Result, Ok, Err, nat_lt, nat_le, is_some, refl, sym, ap, ◌∙◌, arith, append_assoc, append-nil, codes, decimal, if◌then◌else◌}
 use Rattle.std.proofs.lemmas.Bool.Decides.{nat_tests}
 use Rattle.std.proofs.lemmas.Slice.Eq.{bytes_eq-Decides}
 use Rattle.std.specs.Str.{bytes_eq}
@@ -8,16 +8,15 @@ use Rattle.lk_rows.specs.declared.setup.Setup.{Setup}
 use Rattle.lk_forms.specs.declared.limits.TheConstants.{MAX_ACTS}
 use Rattle.lk_forms.specs.declared.answers.Fault.{Fault}
 use Rattle.lk_forms.specs.declared.answers.Fault.TheVariants.{UnknownWord, OutOfRange}
-use Rattle.lk_forms.specs.Texts.{end_text, count_name}
+use Rattle.lk_forms.specs.Texts.{count_name}
 use Rattle.lk_text.proofs.NumberLemmas.{and_split}
-use Rattle.lk_audit_forms.specs.Parts.{spaced, if_some, one_word, two_words, plain_number}
+use Rattle.lk_audit_forms.specs.Parts.{spaced, two_words, plain_number}
 use Rattle.lk_audit_forms.specs.Ranges.{read_event}
 use Rattle.lk_audit_forms.specs.Closing.{closing_lines, end_number, end_args, as_told, open_words, count_words, count_line, line_told}
-use Rattle.lk_audit_forms.specs.ExactClosing.{EndIsRead, EndsAt, EndIsPrinted, count_of_place, CountIsRead, Counts, CountIsPrinted}
-use Rattle.lk_audit_forms.specs.declared.answers.Told.{Told}
+use Rattle.lk_audit_forms.specs.ExactClosing.{EndIsRead, EndsAt, EndIsPrinted, CountIsRead, Counts, CountIsPrinted}
 use Rattle.lk_audit_forms.specs.declared.answers.Told.TheVariants as told
 use Rattle.lk_audit_forms.proofs.Events.{cut_last}
-use Rattle.lk_audit_forms.proofs.Marks.{lacks, behind, parts_all, parts_back, decimal_lacks}
+use Rattle.lk_audit_forms.proofs.Marks.{lacks, parts_all, parts_back, decimal_lacks}
 use Rattle.lk_audit_forms.proofs.Numbers.{plain_printed, plain_read}
 
 -- a word and a number with a space between them, cut apart

@@ -1,11 +1,9 @@
 -- The first part of some bytes, and what more parts say.
-use Rattle.std.proofs.Common.{Bool, true, false, cond, ◌≡◌, ◌≤◌, ◌<◌, ◌+◌, ◌-◌, ◌==◌, not, ℕ, List, [], ◌∷◌, Option, None, Some, length, take, drop, nat_lt, refl, sym, ap, ◌∙◌, arith, length-drop, get_or, if◌then◌else◌}
+use Rattle.std.proofs.Common.{Bool, true, false, cond, ◌≡◌, ◌≤◌, ◌<◌, ◌+◌, ◌-◌, ◌==◌, not, ℕ, List, [], ◌∷◌, None, Some, length, take, drop, nat_lt, refl, sym, ap, ◌∙◌, arith, length-drop}
 use Rattle.std.proofs.lemmas.Bool.Decides.{nat_tests}
 use Rattle.std.proofs.lemmas.List.{take_all}
 use Rattle.std.proofs.lemmas.List.Splits.{slice_split_first}
-use Rattle.std.specs.List.{position, position_or_len, slice_split, onto_first, prefix_len}
-use Rattle.lk_abs.specs.declared.names.Waiter.{Waiter}
-use Rattle.lk_abs.specs.declared.names.LockName.{LockName}
+use Rattle.std.specs.List.{position, position_or_len, onto_first}
 use Rattle.lk_abs.specs.declared.events.What.{What}
 use Rattle.lk_audit_forms.specs.Parts.{parts, if_some, one_word}
 use Rattle.lk_audit_forms.specs.EventLines.{waiter_of_parts, lock_of_parts, no_args, owed_args, owing_args, aside_args, moved_args}

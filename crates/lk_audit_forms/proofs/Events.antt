@@ -1,10 +1,10 @@
 -- The line of an event is read exactly as it is printed.
-use Rattle.std.proofs.Common.{true, ◌≡◌, ◌<◌, ◌^◌, ◌++◌, ℕ, List, [], ◌∷◌, Option, None, Some, refl, sym, ap, ◌∙◌, subst, arith, decimal, codes, append_assoc}
+use Rattle.std.proofs.Common.{true, ◌≡◌, ◌++◌, ℕ, List, [], ◌∷◌, Some, refl, sym, ap, ◌∙◌, subst, arith, decimal, codes, append_assoc}
 use Rattle.lk_abs.specs.declared.names.Waiter.{Waiter}
 use Rattle.lk_abs.specs.declared.events.Event.{Event}
 use Rattle.lk_abs.specs.declared.events.What.{What}
-use Rattle.lk_forms.specs.Texts.{waiter_text, what_text, event_text}
-use Rattle.lk_audit_forms.specs.Parts.{spaced, if_some, plain_number}
+use Rattle.lk_forms.specs.Texts.{waiter_text, event_text}
+use Rattle.lk_audit_forms.specs.Parts.{spaced, plain_number}
 use Rattle.lk_audit_forms.specs.EventLines.{waiter_named, what_named, event_of_words, event_told}
 use Rattle.lk_audit_forms.specs.Exact.{IsTold, PrintedIsRead, ReadIsPrinted}
 use Rattle.lk_audit_forms.proofs.Marks.{all_lack, behind, parts_all, parts_back, decimal_lacks}

@@ -17,7 +17,7 @@ use Rattle.lk_law.proofs.common.Sames.{same_lock-self, same_lock-true}
 use Rattle.lk_domain.specs.Calls.{Hold, hold, held_in, way_in, holds_in, free_of, moved_to, lock_name, is_spun}
 use Rattle.lk_domain.specs.Calls.{Suits, AreHeld, AreFresh, Running, Mark, Grip, Unchanged, Takes, Frees}
 use Rattle.lk_domain.specs.Calls.{holds_after, frames_after, waits_in, is_seeking}
-use Rattle.lk_domain.proofs.Stacks.{and_parts, and_true, moved_lock, held_by, unheld}
+use Rattle.lk_domain.proofs.Stacks.{and_parts, moved_lock, held_by, unheld}
 
 spun_is : (m : Manner) → is_spun m ≡ true → m ≡ Spins
 spun_is Spins h = refl

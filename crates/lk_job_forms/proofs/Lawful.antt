@@ -1,5 +1,5 @@
 -- What lines of a job file say is lawful.
-use Rattle.std.proofs.Common.{◌≡◌, ◌≢◌, ◌≤◌, ◌<◌, ◌+◌, ◌==◌, ℕ, Bool, true, false, List, [], ◌∷◌, ◌++◌, Option, None, Some, Result, Ok, IfOk, length, replicate, refl, sym, ap, ◌∙◌, arith, nat_le, nat_lt, add-zero, length-append, if◌then◌else◌, codes}
+use Rattle.std.proofs.Common.{◌≡◌, ◌≢◌, ◌≤◌, ◌<◌, ◌+◌, ◌==◌, ℕ, List, [], ◌∷◌, ◌++◌, Option, None, Some, Result, Ok, IfOk, length, replicate, refl, sym, ap, ◌∙◌, arith, nat_le, nat_lt, add-zero, length-append, if◌then◌else◌, codes}
 use Rattle.std.specs.Prelude.{All, slice_set}
 use Rattle.std.specs.List.{sum}
 use Rattle.std.specs.Str.{bytes_eq}

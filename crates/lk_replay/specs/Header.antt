@@ -1,6 +1,6 @@
 -- Where the header of a trace stands between two lines, and why there is no replayer. `input` is the text from its beginning and
 -- `left` what the source has left of it; `reads` and `reads_now` are its counts of faults.
-use Rattle.std.specs.Prelude.{◌≡◌, ◌≤◌, ◌+◌, ◌++◌, ℕ, true, false, List, [], ◌∷◌, length, Option, None, Some, Result, Ok, Err, ⊤}
+use Rattle.std.specs.Prelude.{◌≡◌, ◌≤◌, ◌+◌, ◌++◌, ℕ, true, false, List, [], length, Option, None, Some, Result, Ok, Err, ⊤}
 use Rattle.std.specs.Io.KnownBytes.{Consumes}
 use Rattle.lk_text.specs.Causes.{Rose}
 use Rattle.lk_text.specs.Feeds.{pieces}

@@ -1,5 +1,5 @@
 -- What a machine on which acts are told has.
-use Rattle.std.proofs.Common.{◌≡◌, ◌<◌, ◌+◌, ℕ, zero, suc, List, [], sym, ap, refl, ◌∙◌, subst, arith, length, replicate}
+use Rattle.std.proofs.Common.{◌≡◌, ◌<◌, ◌+◌, ℕ, zero, suc, [], sym, ap, refl, ◌∙◌, subst, arith, length, replicate}
 use Rattle.lk_rows.specs.Acts.{next}
 use Rattle.lk_rows.specs.Machine.{Machine}
 use Rattle.lk_rows.specs.Programs.{IsLawfulSetup}

@@ -17,18 +17,18 @@ use Rattle.lk_rows.specs.declared.parts.Pc.TheVariants.{P1, P2, P3}
 use Rattle.lk_rows.specs.declared.parts.Pc.TheVariants.{P4, G1, G4, G7, G8, G9}
 use Rattle.lk_rows.specs.declared.parts.Pc.TheVariants.{C1}
 use Rattle.lk_rows.specs.Moves.{is_node, node_of}
-use Rattle.lk_rows.specs.Row.{Effect, Lead, Goes, Granted, Missed, Leaves, Change}
-use Rattle.lk_rows.specs.rows.Spin.{is_free, is_unlocked, to_queue, after_fast, after_pending}
-use Rattle.lk_rows.specs.rows.Queue.{is_sole, own_node, after_entry, after_look, after_arrival}
-use Rattle.lk_rows.specs.rows.Queue.{after_head, after_flag, after_next, after_link, queue_row}
+use Rattle.lk_rows.specs.Row.{Effect, Goes}
+use Rattle.lk_rows.specs.rows.Spin.{is_unlocked, after_pending}
+use Rattle.lk_rows.specs.rows.Queue.{is_sole}
+use Rattle.lk_rows.specs.rows.Queue.{queue_row}
 use Rattle.lk_rows.specs.TopRow.{target}
 use Rattle.lk_law.specs.Agree.{halts}
 use Rattle.lk_law.specs.Cna.{moves_aside}
 use Rattle.lk_law.specs.Families.{may_halt}
 use Rattle.lk_law.specs.Leads.{stored_in}
-use Rattle.lk_law.specs.Phase.{Phase, pends, queues, watches, stakes, claims}
+use Rattle.lk_law.specs.Phase.{Phase, pends, watches, stakes, claims}
 use Rattle.lk_word.specs.declared.spin_word.Locked.TheVariants.{Free, Held}
-use Rattle.lk_law.specs.Phase.Phase.{Idle, Undoes, Watches, Claims, Stakes, Presses}
+use Rattle.lk_law.specs.Phase.Phase.{Idle}
 use Rattle.lk_law.specs.Places.{snapshot, phase_at, phase_if, phase_on}
 use Rattle.lk_law.specs.Premises.{IsThen, Uses}
 use Rattle.lk_law.specs.SpinWorld.{IsSoundSpinWorld}

@@ -18,7 +18,7 @@ use Rattle.lk_rows.specs.declared.parts.Pc.TheVariants.{R1, R2, R3, R4, R5, Wr1,
 use Rattle.lk_rows.specs.declared.parts.Pc.TheVariants.{Wr5, Wr6, Y1, Y2, Y3, Y4, Y5, Z1, Z2}
 use Rattle.lk_rows.specs.Moves.{node_of}
 use Rattle.lk_rows.specs.Row.{Effect}
-use Rattle.lk_rows.specs.rows.Spin.{is_free, is_unlocked, to_queue, after_fast, after_pending}
+use Rattle.lk_rows.specs.rows.Spin.{is_free}
 use Rattle.lk_rows.specs.rows.Queue.{is_sole}
 use Rattle.lk_rows.specs.rows.Queue.{entry_row, next_row, flag_row}
 use Rattle.lk_rows.specs.rows.Cna.{search_row, second_row, runs_row, handover_row}
@@ -28,7 +28,6 @@ use Rattle.lk_rows.specs.rows.Rw.{rw_row}
 use Rattle.lk_rows.specs.TopRow.{target}
 use Rattle.lk_law.specs.Families.{may_halt}
 use Rattle.lk_law.specs.Leads.{stored_in}
-use Rattle.lk_law.specs.Steps.{led, row_in}
 use Rattle.lk_law.specs.World.{World}
 use Rattle.lk_law.proofs.common.Cases.{lock_cases}
 use Rattle.lk_law.proofs.common.Puts.{if-true, if-false, same_lock-else}

@@ -17,9 +17,8 @@ use Rattle.lk_law.specs.Agree.{halts}
 use Rattle.lk_law.specs.Cna.{moves_aside}
 use Rattle.lk_law.specs.Families.{may_halt, chooses}
 use Rattle.lk_law.specs.Leads.{stored_in}
-use Rattle.lk_law.specs.Phase.{Phase, pends, queues}
-use Rattle.lk_law.specs.Phase.Phase.{Idle, Undoes, Watches, Claims, Stakes, Presses}
-use Rattle.lk_law.specs.Places.{snapshot, phase_at, phase_if, phase_on}
+use Rattle.lk_law.specs.Phase.{Phase}
+use Rattle.lk_law.specs.Places.{phase_at, phase_if}
 use Rattle.lk_law.specs.Premises.{IsThen, Uses}
 use Rattle.lk_law.specs.SpinWorld.{IsSoundSpinWorld}
 use Rattle.lk_law.specs.Steps.{row_in}

@@ -19,18 +19,18 @@ use Rattle.lk_rows.specs.declared.parts.Pc.TheVariants.{P2, P3}
 use Rattle.lk_rows.specs.declared.parts.Pc.TheVariants.{P4, G1, G4, G5, G6, G7, G8, G9}
 use Rattle.lk_rows.specs.declared.parts.Pc.TheVariants.{G10, G11, N1, N2, E1}
 use Rattle.lk_rows.specs.Moves.{is_node, node_of}
-use Rattle.lk_rows.specs.Row.{Effect, Lead, Goes, Granted, Missed, Leaves, Change}
+use Rattle.lk_rows.specs.Row.{Effect}
 use Rattle.lk_rows.specs.rows.Spin.{is_unlocked}
-use Rattle.lk_rows.specs.rows.Queue.{is_sole, own_node, after_entry, after_look, after_arrival}
-use Rattle.lk_rows.specs.rows.Queue.{after_head, after_flag, after_next, after_link, queue_row}
+use Rattle.lk_rows.specs.rows.Queue.{is_sole, own_node, after_look, after_arrival}
+use Rattle.lk_rows.specs.rows.Queue.{after_head, after_flag, after_next}
 use Rattle.lk_rows.specs.TopRow.{target}
 use Rattle.lk_law.specs.Agree.{halts}
 use Rattle.lk_law.specs.Cna.{moves_aside}
 use Rattle.lk_law.specs.Families.{may_halt}
 use Rattle.lk_law.specs.Leads.{stored_in}
-use Rattle.lk_law.specs.Phase.{Phase, pends, queues, watches, stakes, claims}
+use Rattle.lk_law.specs.Phase.{Phase, pends, watches, stakes, claims}
 use Rattle.lk_word.specs.declared.spin_word.Locked.TheVariants.{Free, Held}
-use Rattle.lk_law.specs.Phase.Phase.{Idle, Undoes, Watches, Claims, Stakes, Presses}
+use Rattle.lk_law.specs.Phase.Phase.{Idle}
 use Rattle.lk_law.specs.Places.{snapshot, phase_at, phase_if, phase_on}
 use Rattle.lk_law.specs.Premises.{IsThen}
 use Rattle.lk_law.specs.SpinWorld.{IsSoundSpinWorld}
@@ -42,7 +42,7 @@ use Rattle.lk_law.proofs.common.Sames.{same_waiter-self, same_lock-self}
 use Rattle.lk_law.proofs.common.Worlds.{phase_on-here}
 use Rattle.lk_law.proofs.running.Leads.{row_is_done}
 use Rattle.lk_waits.specs.Order.{SomebodyComesBy, IsFollowedBy, comes_by, is_led_on}
-use Rattle.lk_waits.specs.Followed.{IsHeadFollowed, IsUnaware, RowKeepsFollowed, IsHeadLed, RowKeepsLed}
+use Rattle.lk_waits.specs.Followed.{IsHeadFollowed, IsUnaware, RowKeepsFollowed, RowKeepsLed}
 use Rattle.lk_waits.proofs.Tops.{busy_at}
 use Rattle.lk_waits.proofs.Mute.{tells, Mute, mute, after}
 use Rattle.lk_waits.proofs.Noded as nodeless

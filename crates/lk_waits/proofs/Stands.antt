@@ -21,11 +21,11 @@ use Rattle.lk_rows.specs.declared.parts.Pc.TheVariants.{R1, R2, R3, R4, R5, Wr1,
 use Rattle.lk_rows.specs.declared.parts.Pc.TheVariants.{Wr5, Wr6, Y1, Y2, Y3, Y4, Y5, Z1, Z2, U2}
 use Rattle.lk_rows.specs.declared.setup.Verb.TheVariants.{Unlock}
 use Rattle.lk_rows.specs.Moves.{is_node, node_of, first_place}
-use Rattle.lk_rows.specs.Row.{Effect, Lead, Goes, Granted, Missed, Leaves, Change}
+use Rattle.lk_rows.specs.Row.{Effect}
 use Rattle.lk_rows.specs.rows.Spin.{is_free, is_unlocked, after_fast}
 use Rattle.lk_rows.specs.rows.Queue.{is_sole, own_node, after_entry, after_arrival}
 use Rattle.lk_rows.specs.rows.Queue.{after_head, after_flag, after_next, after_link}
-use Rattle.lk_rows.specs.rows.Rw.{is_empty, is_open, is_cleared, after_bias, frees_wait}
+use Rattle.lk_rows.specs.rows.Rw.{is_empty, is_open, is_cleared, frees_wait}
 use Rattle.lk_rows.specs.TopRow.{target}
 use Rattle.lk_law.specs.Families.{may_halt, chooses}
 use Rattle.lk_law.specs.Leads.{course_in}

@@ -19,17 +19,16 @@ use Rattle.lk_rows.specs.declared.parts.Pc.TheVariants.{G10, G11, N1, N2}
 use Rattle.lk_rows.specs.declared.parts.Pc.TheVariants.{R1, R2, R3, R4, R5, Wr1, Wr2, Wr3, Wr4}
 use Rattle.lk_rows.specs.declared.parts.Pc.TheVariants.{Wr5, Wr6, Y1, Y2, Y3, Y4, Y5, Z1, Z2}
 use Rattle.lk_rows.specs.Moves.{node_of}
-use Rattle.lk_rows.specs.Row.{Effect, Lead, Goes, Granted, Missed, Leaves, Change}
-use Rattle.lk_rows.specs.rows.Spin.{is_free, is_unlocked, to_queue, after_fast, after_pending}
-use Rattle.lk_rows.specs.rows.Queue.{is_sole, own_node, after_entry, after_look, after_arrival}
-use Rattle.lk_rows.specs.rows.Queue.{after_head, after_flag, after_next, after_link, queue_row}
+use Rattle.lk_rows.specs.Row.{Effect}
+use Rattle.lk_rows.specs.rows.Spin.{is_free}
+use Rattle.lk_rows.specs.rows.Queue.{is_sole, own_node, after_entry}
 use Rattle.lk_rows.specs.rows.Queue.{entry_row, next_row, flag_row}
 use Rattle.lk_rows.specs.rows.Rw.{rw_row}
 use Rattle.lk_rows.specs.TopRow.{target}
 use Rattle.lk_law.specs.Agree.{halts}
 use Rattle.lk_law.specs.Families.{may_halt, chooses}
 use Rattle.lk_law.specs.Leads.{course_in, stored_in}
-use Rattle.lk_law.specs.Steps.{led, row_in}
+use Rattle.lk_law.specs.Steps.{led}
 use Rattle.lk_law.specs.World.{World}
 use Rattle.lk_law.proofs.common.Cases.{lock_cases}
 use Rattle.lk_law.proofs.common.Puts.{if-true, if-false, same_lock-else}

@@ -12,7 +12,7 @@ use Rattle.lk_abs.specs.declared.names.LockName.{LockName}
 use Rattle.lk_rows.specs.declared.parts.Frame.{Frame}
 use Rattle.lk_rows.specs.declared.parts.Pc.{Pc}
 use Rattle.lk_rows.specs.declared.parts.Pc.TheVariants.{R2, R5}
-use Rattle.lk_rows.specs.Moves.{is_node, node_of, rw_name}
+use Rattle.lk_rows.specs.Moves.{rw_name}
 use Rattle.lk_law.specs.Families.{is_rw_row}
 use Rattle.lk_law.specs.Phase.Phase.{Idle}
 use Rattle.lk_law.specs.Places.{snapshot}

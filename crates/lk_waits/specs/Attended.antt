@@ -1,5 +1,5 @@
 -- What every row keeps of those that wait, in whichever family: the rule of running locks has it.
-use Rattle.std.specs.Prelude.{◌≡◌, ◌≤◌, ℕ, Some, Bool, true, false}
+use Rattle.std.specs.Prelude.{◌≡◌, ◌≤◌, Some, Bool, true, false}
 use Rattle.lk_abs.specs.History.{LockHistory}
 use Rattle.lk_abs.specs.declared.names.Waiter.{Waiter}
 use Rattle.lk_abs.specs.declared.names.LockName.{LockName}

@@ -17,8 +17,8 @@ use Rattle.lk_abs.specs.declared.names.LockName.{LockName}
 use Rattle.lk_law.proofs.common.Puts.{if-true, if-false}
 use Rattle.lk_domain.specs.Calls.{Mark, Calls, Grip, Unchanged, Takes, Frees, holds_after, holds_in}
 use Rattle.lk_domain.specs.Calls.{lock_name}
-use Rattle.lk_domain.specs.Keeps.{Slot, AtHome, Away, AreWords, IsOpen, IsSight, IsEnded, AreEnded}
-use Rattle.lk_domain.specs.Keeps.{AreLoaded, IsVersion, IsPast, ArePast, Knows, Keeps, undrawn}
+use Rattle.lk_domain.specs.Keeps.{Slot, AtHome, Away, IsOpen, IsSight, AreEnded}
+use Rattle.lk_domain.specs.Keeps.{ArePast, Knows, Keeps, undrawn}
 use Rattle.lk_domain.specs.Keeps.{any_count, sole_count, AllHome}
 use Rattle.lk_domain.specs.Ledgers.{Ledger, Look, Past, turned, opened, closed, listed_look, is_first}
 use Rattle.lk_domain.specs.Plans.{accounts_of}

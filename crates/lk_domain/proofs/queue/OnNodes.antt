@@ -45,7 +45,7 @@ use Rattle.lk_domain.proofs.rows.Begun.{Elsewhere}
 use Rattle.lk_domain.proofs.rows.Grips.{own_row}
 use Rattle.lk_domain.proofs.rows.Kept as rule
 use Rattle.lk_domain.proofs.rows.Lands as lands
-use Rattle.lk_domain.proofs.rows.Kept.{keeps, counted_after, halting_same}
+use Rattle.lk_domain.proofs.rows.Kept.{keeps, halting_same}
 use Rattle.lk_domain.proofs.rows.Halts.{SameMarks, marks_trans, acted_marks, stored_marks, far_set, seeks_same}
 use Rattle.lk_domain.proofs.rows.Sights.{IsSeen, Sees}
 use Rattle.lk_domain.proofs.rows.Poised.{Poised}

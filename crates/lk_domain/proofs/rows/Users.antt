@@ -29,7 +29,7 @@ use Rattle.lk_law.specs.World.{World}
 use Rattle.lk_law.proofs.common.Puts.{if-true, if-false}
 use Rattle.lk_law.proofs.common.Users.{node_is_ones}
 use Rattle.lk_law.proofs.running.Links.{linked_is_used, passed_is_used}
-use Rattle.lk_domain.specs.Calls.{Mark, mark, Running, running, Calls, Stacked, frame_in, told, told_by, told_from}
+use Rattle.lk_domain.specs.Calls.{Mark, mark, Running, Calls, Stacked, frame_in, told, told_by, told_from}
 use Rattle.lk_domain.specs.Calls.{told_in, plain, mark_of, frames_after, acting, begin, begun, is_on, is_inner}
 use Rattle.lk_domain.specs.Runs.{waiter, AreMarked, AreTold}
 use Rattle.lk_domain.proofs.Stacks.{frame_in-above}

@@ -37,7 +37,7 @@ use Rattle.lk_law.proofs.running.Tells.{lead_goes_on}
 use Rattle.lk_waits.specs.Attended.{IsAttended}
 use Rattle.lk_waits.proofs.Attended.{attended_stays, row_keeps_attended}
 use Rattle.lk_waits.proofs.Quiet.{placeless_quiet}
-use Rattle.lk_domain.specs.Calls.{Mark, Running, running, Calls, Stacked, frame_in, held_in, free_of}
+use Rattle.lk_domain.specs.Calls.{Mark, Running, running, Calls, Stacked, frame_in, held_in}
 use Rattle.lk_domain.specs.Calls.{Grip, Unchanged, Takes, Frees, grip_of, grip_led, grip_told, after}
 use Rattle.lk_domain.specs.Calls.{holds_after, frames_after}
 use Rattle.lk_domain.specs.Runs.{waiter, Mirrors}

@@ -1,5 +1,5 @@
 -- What the steps on states ask.
-use Rattle.std.proofs.Common.{◌≡◌, ◌≢◌, ◌⊎◌, inl, inr, ℕ, ◌<◌, get_or, set, Option, Some, None, Bool, true, false}
+use Rattle.std.proofs.Common.{◌≡◌, ◌≢◌, ◌⊎◌, inl, inr, ℕ, get_or, Option, Some, None, Bool, true, false}
 use Rattle.std.proofs.Common.{refl, sym, ap, ◌∙◌, subst, arith, eqb}
 use prog.Atomic.{either}
 use Rattle.std.specs.Prelude.{unwrap_or, if◌then◌else◌, is_some, ◌-◌, ◌==◌}

@@ -1,4 +1,4 @@
-use Rattle.std.proofs.Common.{◌≡◌, ◌≤◌, ◌-◌, ◌^◌, List, ℕ, Option}
+use Rattle.std.proofs.Common.{◌≤◌, ◌-◌, ◌^◌, List, ℕ, Option}
 use Rattle.lk_text.specs.Reader.{looked_at}
 use Rattle.lk_audit.specs.Auditor.{CanGoOn}
 use Rattle.lk_audit.specs.Stands.{StandsBefore}

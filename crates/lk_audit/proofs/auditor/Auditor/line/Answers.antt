@@ -1,5 +1,4 @@
-use Rattle.std.proofs.Common.{◌≡◌, Ok, sym, ap, ◌∙◌}
-use Rattle.lk_audit_forms.specs.Closing.{line_told}
+use Rattle.std.proofs.Common.{sym}
 use Rattle.lk_audit_forms.specs.declared.answers.Told.TheVariants as told
 use Rattle.lk_audit.proofs.Told.{line_tells}
 use Rattle.lk_audit.proofs.Auditing.{read_told, event_line, end_line, count_line}

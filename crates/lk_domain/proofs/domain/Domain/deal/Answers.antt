@@ -5,7 +5,7 @@ use Rattle.lk_domain.specs.Calls.{no_calls, are_calls}
 use Rattle.lk_domain.specs.Keeps.{Slot}
 use Rattle.lk_domain.specs.Marked.{IsNoted}
 use Rattle.lk_domain.specs.Plays.{carried_with, carried_of}
-use Rattle.lk_domain.specs.Views.{dealer, drawer, view}
+use Rattle.lk_domain.specs.Views.{dealer, view}
 use Rattle.lk_domain.specs.declared.view.View.{View}
 use Rattle.lk_domain.proofs.seats.Dealt.{draws, drawn_by}
 use Rattle.lk_domain.proofs.seats.Parted.{splits_at}
