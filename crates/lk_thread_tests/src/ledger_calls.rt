@@ -86,7 +86,7 @@ fn write_and_look(rt: &(impl Abort + AllocGlobal + Wait), mode: Mode) -> Result<
 }
 
 #[test]
-fn words_of_the_ledger(rt: HostRuntime) -> Result<(), Fail> {
+fn ledger_has_what_was_written(rt: HostRuntime) -> Result<(), Fail> {
     write_and_look(&rt, Mode::Virt)?;
     write_and_look(&rt, Mode::Native)?;
     write_and_look(&rt, Mode::Cna)

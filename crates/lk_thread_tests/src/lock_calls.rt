@@ -133,7 +133,7 @@ fn play_all(rt: &(impl Abort + AllocGlobal + Wait), mode: Mode) -> Result<(), Fa
 }
 
 #[test]
-fn calls_on_locks(rt: HostRuntime) -> Result<(), Fail> {
+fn calls_answer_as_the_table_says(rt: HostRuntime) -> Result<(), Fail> {
     play_all(&rt, Mode::Virt)?;
     play_all(&rt, Mode::Native)?;
     play_all(&rt, Mode::Cna)

@@ -68,7 +68,7 @@ fn look<R: Wait>(cpu: &mut PvCpu, rt: &R, domain: &PvDomain) -> (u64, u64, u64)
 }
 
 #[test]
-fn words_of_the_ledger_of_those_that_halt(rt: HostRuntime) -> Result<(), Fail> {
+fn ledger_of_those_that_halt_has_what_was_written(rt: HostRuntime) -> Result<(), Fail> {
     let Ok((region, mut cpus)) = open(rt.alloc()) else {
         return Err("no memory".into());
     };

@@ -100,7 +100,7 @@ fn play_all(rt: &(impl Abort + AllocGlobal + Wait), mode: Mode, kind: Kind) -> R
 }
 
 #[test]
-fn writes_and_reads(rt: HostRuntime) -> Result<(), Fail> {
+fn each_job_has_its_answer(rt: HostRuntime) -> Result<(), Fail> {
     for kind in [Kind::Spin, Kind::Rw] {
         play_all(&rt, Mode::Virt, kind)?;
         play_all(&rt, Mode::Native, kind)?;

@@ -117,7 +117,7 @@ fn play_all(rt: &(impl Abort + AllocGlobal + Wait), mode: Mode) -> Result<(), Fa
 }
 
 #[test]
-fn calls_of_readers_and_writers(rt: HostRuntime) -> Result<(), Fail> {
+fn readers_share_and_a_writer_is_alone(rt: HostRuntime) -> Result<(), Fail> {
     play_all(&rt, Mode::Virt)?;
     play_all(&rt, Mode::Native)?;
     play_all(&rt, Mode::Cna)
