@@ -5,6 +5,7 @@ use Rattle.lk_word.specs.declared.spin_word.NodeName.{NodeName}
 use Rattle.lk_domain.specs.Plans.{cpus_of}
 use Rattle.lk_domain.specs.Words.{IsNode, link_number, marked}
 use Rattle.lk_domain.specs.declared.plan.Plan.{Plan}
+use Rattle.lk_domain.specs.declared.plan.TheConstants.{MOST_CPUS}
 use Rattle.lk_law.proofs.common.Puts.{if-true, if-false}
 
 -- a link but for its mark
@@ -31,12 +32,12 @@ some_link k n (Some m) node e h =
     let i : (n - 2) % 4 ≡ m.index = omega (arith, e, h, low) in
     λ j. Some (record { cpu = c j; index = i j })
 
-pub small_link : (k : Plan) (n : ℕ) (x : Option NodeName) → IfSome x (IsNode k) → n ≡ link_number x → cpus_of k ≤ 64 → n < 260
+pub small_link : (k : Plan) (n : ℕ) (x : Option NodeName) → IfSome x (IsNode k) → n ≡ link_number x → cpus_of k ≤ MOST_CPUS → n < 4098
 small_link k n None node e h = omega (arith, e)
 small_link k n (Some m) node e h = let a = node.cpu in let b = node.index in omega (arith, e, h, a, b)
 
 pub name_is : (k : Plan) (met : ℕ) (mark : Bool) (x : Option NodeName) → IfSome x (IsNode k) → met ≡ marked mark (link_number x)
-    → cpus_of k ≤ 64 → met % 4294967296 ≡ link_number x
+    → cpus_of k ≤ MOST_CPUS → met % 4294967296 ≡ link_number x
 name_is k met mark x node is few =
     ap (λ n. n % 4294967296) is
     ∙ marked_rest mark (link_number x) (let s = small_link k (link_number x) x node refl few in omega (arith, s))

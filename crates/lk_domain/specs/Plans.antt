@@ -10,6 +10,7 @@ use Rattle.lk_word.specs.declared.spin_word.Layout.{Layout}
 use Rattle.lk_rows.specs.Layouts.{layout_of}
 use Rattle.lk_law.specs.Agree.{halts}
 use Rattle.lk_domain.specs.declared.plan.Plan.{Plan}
+use Rattle.lk_domain.specs.declared.plan.TheConstants.{MOST_CPUS, MOST_LOCKS}
 
 -- how many processors, locks and accounts there are
 abbrev pub cpus_of : Plan → ℕ
@@ -49,23 +50,23 @@ turns_of k = turns_by k.mode k.threshold
 -- processors halt all locks are spinlocks, and a waiter spins for one turn at least.
 pub record IsRunningPlan (k : Plan) : Type 0 where
   pub some : 0 < cpus_of k
-  pub cpus : cpus_of k ≤ 64
+  pub cpus : cpus_of k ≤ MOST_CPUS
   pub any : 0 < locks_of k
-  pub locks : locks_of k ≤ 32
+  pub locks : locks_of k ≤ MOST_LOCKS
   pub accounts : accounts_of k ≤ 64
   pub small : sum k.balances.items < full
   pub shares : length k.shares.items ≡ cpus_of k
   pub turns : 0 < turns_of k
   pub spins : halts k.mode ≡ true → (l : ℕ) → kind_at k l ≡ Spin
 
--- A plan of which a domain may be made: from 1 to 64 processors, each with a share, from 1 to 32
--- locks, and at most 64 balances below the limit.
+-- A plan of which a domain may be made: some processors, each with a share, some locks, and no more of
+-- them than a domain may have, and at most 64 balances below the limit.
 pub record IsLawfulPlan (k : Plan) : Type 0 where
   pub awake : halts k.mode ≡ false
   pub some : 0 < cpus_of k
-  pub cpus : cpus_of k ≤ 64
+  pub cpus : cpus_of k ≤ MOST_CPUS
   pub any : 0 < locks_of k
-  pub locks : locks_of k ≤ 32
+  pub locks : locks_of k ≤ MOST_LOCKS
   pub accounts : accounts_of k ≤ 64
   pub small : sum k.balances.items < full
   pub shares : length k.shares.items ≡ cpus_of k

@@ -4,7 +4,7 @@ ghost use Rattle.lk_domain.specs.Plans.{cpus_of, locks_of, accounts_of, layout_i
 ghost use Rattle.lk_domain.specs.Values.{homes_of};
 ghost use Rattle.lk_domain.specs.Words.{words_of};
 
-use crate::plan::Plan;
+use crate::plan::{MOST_LOCKS, Plan};
 use crate::rule::Order;
 use crate::slot::Slot;
 use crate::view::View;
@@ -84,7 +84,7 @@ impl Domain {
     pub fn locks(&self) -> u32
         ensures { result ≡ locks_of self.now.plan }
     {
-        prove!(self.plan.locks.len() <= 32);
+        prove!(self.plan.locks.len() <= MOST_LOCKS);
         self.plan.locks.len() as u32
     }
 

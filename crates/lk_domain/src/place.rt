@@ -7,7 +7,7 @@ ghost use Rattle.lk_domain.specs.Words.{word_at};
 ghost use Rattle.lk_word.specs.SpinWord.{index_unit, tail_number};
 
 use crate::part::{Link, Part};
-use crate::plan::Plan;
+use crate::plan::{MOST_CPUS, MOST_LOCKS, Plan};
 use lk_abs::{Format, LockName};
 use lk_rows::Flag;
 use lk_word::{Layout, MARK, NodeName};
@@ -42,7 +42,7 @@ impl Plan {
         requires lock { lock < locks_of self.now }
         ensures { result ≡ lock_at lock }
     {
-        prove!(self.locks.len() <= 32);
+        prove!(self.locks.len() <= MOST_LOCKS);
         FIRST_LOCK + LOCK_WORDS * lock as usize
     }
 
@@ -53,7 +53,7 @@ impl Plan {
         requires lock { name.index < locks_of self.now }
         ensures { result ≡ word_at name }
     {
-        prove!(self.locks.len() <= 32);
+        prove!(self.locks.len() <= MOST_LOCKS);
         let word = self.lock_word(name.index);
         if name.wait { word + 1 } else { word }
     }
@@ -64,7 +64,7 @@ impl Plan {
         requires { IsRunningPlan self.now }
         ensures { result ≡ 72 + 8 * locks_of self.now }
     {
-        prove!(self.locks.len() <= 32);
+        prove!(self.locks.len() <= MOST_LOCKS);
         FIRST_LOCK + LOCK_WORDS * self.locks.len() + BALANCES
     }
 
@@ -75,8 +75,8 @@ impl Plan {
         requires node { IsNode self.now node }
         ensures { result ≡ node_at self.now node part }
     {
-        prove!(self.locks.len() <= 32);
-        prove!(self.topology.sockets.len() <= 64);
+        prove!(self.locks.len() <= MOST_LOCKS);
+        prove!(self.topology.sockets.len() <= MOST_CPUS);
         let place = part.index();
         prove!(place < 4);
         self.first_node()
@@ -121,7 +121,7 @@ impl Plan {
         requires node { IsNode self.now link.node }
         ensures { result ≡ marked link.mark (name_number link.node) }
     {
-        prove!(self.topology.sockets.len() <= 64);
+        prove!(self.topology.sockets.len() <= MOST_CPUS);
         let name = self.name_of(link.node);
         if link.mark { MARK + name } else { name }
     }
@@ -132,7 +132,7 @@ impl Plan {
         requires node { IsNode self.now node }
         ensures { result ≡ name_number node }
     {
-        prove!(self.topology.sockets.len() <= 64);
+        prove!(self.topology.sockets.len() <= MOST_CPUS);
         lk_word::name_number(node)
     }
 }

@@ -4,6 +4,11 @@ use lk_abs::{Format, Kind, List, Mode, Topology};
 use lk_cell::Key;
 use std::snapshot::Snapshot;
 
+/// The most processors of a domain.
+pub const MOST_CPUS: usize = 1024;
+/// The most locks of a domain.
+pub const MOST_LOCKS: usize = 32;
+
 /// The plan of a domain: what it is made of.
 #[derive(Drop)]
 pub struct Plan {

@@ -19,7 +19,7 @@ ghost use Rattle.lk_domain.specs.Words.{quiet_at};
 use crate::cpu::{Cpu, Right};
 use crate::domain::{Domain, LockId};
 use crate::ledger::steps::Words;
-use crate::plan::Plan;
+use crate::plan::{MOST_CPUS, MOST_LOCKS, Plan};
 use crate::rule::{BringValue, TakeValue};
 use crate::slot::{Slot, Stowed};
 use lk_cell::Key;
@@ -32,8 +32,8 @@ fn copy_home(plan: &Plan, lock: u32, number: u32) -> usize
     ensures home { result ≡ copy_at plan.now lock number }
     ensures near { result < 64 + 32 * cpus_of plan.now }
 {
-    prove!(plan.locks.len() <= 32);
-    prove!(plan.topology.sockets.len() <= 64);
+    prove!(plan.locks.len() <= MOST_LOCKS);
+    prove!(plan.topology.sockets.len() <= MOST_CPUS);
     let before = (1 + number as usize) * plan.locks.len();
     before + lock as usize
 }
@@ -45,8 +45,8 @@ fn quiet_word(plan: &Plan, home: usize) -> usize
     requires near { home < 64 + 32 * cpus_of plan.now }
     ensures { result ≡ quiet_at plan.now home }
 {
-    prove!(plan.locks.len() <= 32);
-    prove!(plan.topology.sockets.len() <= 64);
+    prove!(plan.locks.len() <= MOST_LOCKS);
+    prove!(plan.topology.sockets.len() <= MOST_CPUS);
     8 + 8 * plan.locks.len() + home
 }
 

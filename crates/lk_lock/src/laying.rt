@@ -1,10 +1,12 @@
 // The keys of all cells in the order of a domain's homes: first one of each lock, the key of its own value,
 // and then for one processor after the other those of its copies.
 ghost use Rattle.std.specs.Prelude.{◌≡◌, ◌+◌, ◌≤◌, ◌++◌, IfOk, length, slice_get};
+ghost use Rattle.lk_domain.specs.declared.plan.TheConstants.{MOST_CPUS, MOST_LOCKS};
 ghost use Rattle.lk_lock.specs.Cells.{AllShut, all_behind, behind, firsts, laid};
 
 use lk_abs::{List, Memory};
 use lk_cell::Key;
+use lk_domain::MOST_LOCKS;
 use std::alloc::Global;
 
 // Takes the first key of a lock, if one is left.
@@ -36,10 +38,10 @@ pub(crate) fn laid_out(
     mut keys: List<List<Key>>,
     values: u32,
 ) -> Result<List<Option<Key>>, Memory>
-    requires few { (length keys.items ≤ 32) × (values ≤ 65) }
+    requires few { (length keys.items ≤ MOST_LOCKS) × (values ≤ 1 + MOST_CPUS) }
     ensures { IfOk result (λ all. all.items ≡ laid values keys.items) }
 {
-    let mut all = List::new(alloc, 32 * values as usize)?;
+    let mut all = List::new(alloc, MOST_LOCKS * values as usize)?;
     for _ in 0..values {
         take_firsts(&mut all, &mut keys);
     }

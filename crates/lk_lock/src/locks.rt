@@ -4,13 +4,14 @@ ghost use Rattle.std.specs.Prelude.{replicate};
 ghost use Rattle.lk_abs.specs.declared.names.Kind.TheVariants.{Rw as shared, Spin as spinning};
 ghost use Rattle.lk_domain.specs.Ends.{AllRest};
 ghost use Rattle.lk_domain.specs.Plans.{cpus_of};
+ghost use Rattle.lk_domain.specs.declared.plan.TheConstants.{MOST_CPUS, MOST_LOCKS};
 ghost use Rattle.lk_law.specs.Agree.{halts};
 ghost use Rattle.lk_lock.specs.Cells.{AllShut, EachShut};
 
 use crate::laying::laid_out;
 use lk_abs::{Format, Kind, List, Memory, Mode, Topology};
 use lk_cell::{Any, Key, KeyCell};
-use lk_domain::{Cpu, Domain, LockId, Plan};
+use lk_domain::{Cpu, Domain, LockId, MOST_LOCKS, Plan};
 use std::alloc::Global;
 
 /// A value under a spinlock.
@@ -27,9 +28,6 @@ pub struct Rw<T> {
     pub(crate) cell: KeyCell<T, Any>,
 }
 
-// The most locks of a domain.
-const MOST: usize = 32;
-
 // The most handoffs that may pass a moved waiter, in mode `cna`.
 const THRESHOLD: u32 = 16;
 
@@ -43,10 +41,10 @@ pub struct Locks {
     pub(crate) keys: List<List<Key>>,
     // Whether a lock has copies.
     pub(crate) copied: bool,
-    ghost some: { (0 < threads) × (threads ≤ 64) },
+    ghost some: { (0 < threads) × (threads ≤ MOST_CPUS) },
     ghost many: { length keys.items ≡ length kinds.items },
-    ghost few: { length kinds.items ≤ 32 },
-    ghost rooms: { (kinds.room ≡ 32) × (keys.room ≡ 32) },
+    ghost few: { length kinds.items ≤ MOST_LOCKS },
+    ghost rooms: { (kinds.room ≡ MOST_LOCKS) × (keys.room ≡ MOST_LOCKS) },
     ghost shut: { AllShut keys.items },
 }
 
@@ -61,19 +59,19 @@ impl Locks {
     ghost use Rattle.lk_lock.specs.Made.{AreMade, AreSharedMade, AreSpins, IsAmong, IsPlanFor};
     ghost use Rattle.lk_lock.specs.Made.{Keeps, KeepsShared};
 
-    /// None yet, for so many threads: 1 to 64.
+    /// None yet, for so many threads: 1 to 1,024.
     ///
     /// # Errors
     ///
     /// There is not enough memory.
     pub fn new(alloc: Global, threads: u32) -> Result<Locks, Memory>
-        requires threads { (0 < threads) × (threads ≤ 64) }
+        requires threads { (0 < threads) × (threads ≤ MOST_CPUS) }
         ensures none { IfOk result (λ locks. locks.kinds.items ≡ []) }
         ensures spins { IfOk result AreSpins }
         ensures threads { IfOk result (λ locks. locks.threads ≡ threads) }
     {
-        let kinds = List::new(alloc, MOST)?;
-        let keys = List::new(alloc, MOST)?;
+        let kinds = List::new(alloc, MOST_LOCKS)?;
+        let keys = List::new(alloc, MOST_LOCKS)?;
         Ok(Locks {
             alloc,
             threads,
@@ -92,7 +90,7 @@ impl Locks {
 
     // One more, whose values lie in the cells of these keys.
     pub(crate) fn add(&mut self, kind: Kind, keys: List<Key>) -> LockId
-        requires room { length self.old.kinds.items < 32 }
+        requires room { length self.old.kinds.items < MOST_LOCKS }
         requires shut { EachShut keys.items }
         ensures kinds { self.new.kinds.items ≡ self.old.kinds.items ++ kind ∷ [] }
         ensures keys { self.new.keys.items ≡ self.old.keys.items ++ keys ∷ [] }
@@ -107,7 +105,7 @@ impl Locks {
 
     // How many values a lock has at most.
     fn values(&self) -> u32
-        ensures own { (0 < result) × (result ≤ 65) }
+        ensures own { (0 < result) × (result ≤ 1 + MOST_CPUS) }
         ensures copies { self.now.copied ≡ true → result ≡ 1 + self.now.threads }
     {
         if self.copied { 1 + self.threads } else { 1 }
@@ -119,7 +117,7 @@ impl Locks {
     ///
     /// There is not enough memory. The value is gone.
     pub fn spin<T: Drop>(&mut self, value: T) -> Result<Spin<T>, Memory>
-        requires room { length self.old.kinds.items < 32 }
+        requires room { length self.old.kinds.items < MOST_LOCKS }
         ensures kept { Keeps self.old self.new }
         ensures shared { KeepsShared self.old self.new }
         ensures spins { AreSpins self.old → AreSpins self.new }
@@ -143,7 +141,7 @@ impl Locks {
     ///
     /// There is not enough memory. The value is gone.
     pub fn rw<T: Drop>(&mut self, value: T) -> Result<Rw<T>, Memory>
-        requires room { length self.old.kinds.items < 32 }
+        requires room { length self.old.kinds.items < MOST_LOCKS }
         ensures kept { Keeps self.old self.new }
         ensures shared { KeepsShared self.old self.new }
         ensures threads { self.new.threads ≡ self.old.threads }

@@ -3,6 +3,7 @@ ghost use Rattle.std.specs.Prelude.{◌≡◌, ◌+◌, ◌<◌, ◌≤◌, IfOk
 ghost use Rattle.std.specs.Fn.{FnOnceReturnsAt, FnOnceReturnsAtMut};
 ghost use Rattle.lk_domain.specs.Calls.{holds_in, terms_of};
 ghost use Rattle.lk_domain.specs.Seats.{calls_of};
+ghost use Rattle.lk_domain.specs.declared.plan.TheConstants.{MOST_LOCKS};
 ghost use Rattle.lk_lock.specs.Cells.{AreKeysOf, names_of};
 ghost use Rattle.lk_lock.specs.Made.{IsSharedAmong, Keeps, KeepsShared};
 ghost use Rattle.lk_lock.specs.Standing.{HasRead, HasWritten, IsAsBefore, IsSharedUnder, holds_of};
@@ -55,7 +56,7 @@ impl Locks {
     ///
     /// There is not enough memory.
     pub fn shared<T: Copy + Drop>(&mut self, value: T) -> Result<Shared<T>, Memory>
-        requires room { length self.old.kinds.items < 32 }
+        requires room { length self.old.kinds.items < MOST_LOCKS }
         ensures kept { Keeps self.old self.new }
         ensures shared { KeepsShared self.old self.new }
         ensures threads { self.new.threads ≡ self.old.threads }

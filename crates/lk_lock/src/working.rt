@@ -12,7 +12,7 @@ ghost use Rattle.lk_lock.specs.Standing.{IsHolding, IsReady, IsSharedUnder, hold
 
 use crate::shared::Shared;
 use lk_cell::{Any, Key, KeyCell};
-use lk_domain::{Cpu, Domain, LockId, with_copy, with_key};
+use lk_domain::{Cpu, Domain, LockId, MOST_CPUS, with_copy, with_key};
 
 // Works once on the value of a lock, which is held alone.
 #[inline(always)]
@@ -132,7 +132,7 @@ pub(crate) fn set_copies<T: Copy + Drop>(
     requires held { (before : Cpu) × IsHolding shared.now.id.index Writes before cpu.old }
     ensures { IsStill cpu.old cpu.new }
 {
-    prove!(domain.plan.topology.sockets.len() <= 64);
+    prove!(domain.plan.topology.sockets.len() <= MOST_CPUS);
     for number in 0..domain.plan.topology.sockets.len() as u32 {
         work_on_copy(cpu, domain, shared, number, |copy: &mut T| *copy = value);
     }

@@ -4,13 +4,14 @@ ghost use Rattle.std.specs.Arc.{arc_value};
 ghost use Rattle.lk_law.specs.Agree.{halts};
 ghost use Rattle.lk_domain.specs.Plans.{IsLawfulPlan, cpus_of};
 ghost use Rattle.lk_domain.specs.Seats.{IsDealt};
+ghost use Rattle.lk_domain.specs.declared.plan.TheConstants.{MOST_CPUS, MOST_LOCKS};
 ghost use Rattle.lk_port.specs.Asking.{cpu_in, domain_in};
 ghost use Rattle.lk_port.specs.Opened.{mode_of, AreOpened, ArePortsOf, HasPlan, IsPlanFor};
 
 use crate::pending::Pending;
 use crate::port::Port;
 use lk_abs::{Format, Kind, List, Memory, Mode, Topology};
-use lk_domain::{Cpu, Domain, Plan};
+use lk_domain::{Cpu, Domain, MOST_CPUS, MOST_LOCKS, Plan};
 use std::alloc::Global;
 use std::sync::Arc;
 
@@ -28,7 +29,7 @@ pub enum Family {
 /// Why no ports were opened.
 #[derive(Clone, Copy, Debug, PartialEq, Eq)]
 pub enum Fault {
-    /// There are to be 1 to 64 processors and 1 to 32 locks.
+    /// There are to be 1 to 1,024 processors and 1 to 32 locks.
     Range,
     /// There is not enough memory.
     Memory,
@@ -96,8 +97,8 @@ fn plan_of(
     threshold: u32,
 ) -> Result<Plan, Memory>
     requires awake { halts mode ≡ false }
-    requires cpus { (0 < length sockets.items) × (length sockets.items ≤ 64) }
-    requires locks { (0 < length locks.items) × (length locks.items ≤ 32) }
+    requires cpus { (0 < length sockets.items) × (length sockets.items ≤ MOST_CPUS) }
+    requires locks { (0 < length locks.items) × (length locks.items ≤ MOST_LOCKS) }
     ensures lawful { IfOk result IsLawfulPlan }
     ensures plan { IfOk result (IsPlanFor mode locks.items sockets.items threshold) }
 {
@@ -131,7 +132,7 @@ pub fn open(
 {
     let cpus = sockets.len();
     let count = locks.len();
-    if cpus < 1 || 64 < cpus || count < 1 || 32 < count {
+    if cpus < 1 || MOST_CPUS < cpus || count < 1 || MOST_LOCKS < count {
         return Err(Fault::Range);
     }
     let Ok(plan) = plan_of(alloc, family.mode(), locks, sockets, threshold) else {

@@ -6,15 +6,16 @@ use Rattle.lk_abs.specs.declared.names.Kind.TheVariants.{Spin}
 use Rattle.lk_abs.specs.declared.names.Mode.TheVariants.{Pv}
 use Rattle.lk_domain.specs.Plans.{cpus_of, locks_of, kind_at}
 use Rattle.lk_domain.specs.declared.plan.Plan.{Plan}
+use Rattle.lk_domain.specs.declared.plan.TheConstants.{MOST_CPUS, MOST_LOCKS}
 use Rattle.lk_pvdomain.specs.declared.plan.PvPlan.{PvPlan}
 
--- From 1 to 64 processors, each with a share, from 1 to 32 locks, at most 64 balances below the limit,
--- and from 1 to 65,535 turns before a waiter halts.
+-- Some processors, each with a share, some locks, and no more of them than a domain may have, at most 64
+-- balances below the limit, and from 1 to 65,535 turns before a waiter halts.
 pub record IsLawful (p : PvPlan) : Type 0 where
   pub some : 0 < length p.shares.items
-  pub cpus : length p.shares.items ≤ 64
+  pub cpus : length p.shares.items ≤ MOST_CPUS
   pub any : 0 < p.locks
-  pub locks : p.locks ≤ 32
+  pub locks : p.locks ≤ MOST_LOCKS
   pub accounts : length p.balances.items ≤ 64
   pub small : sum p.balances.items < full
   pub turns : 0 < p.spins

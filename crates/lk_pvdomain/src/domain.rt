@@ -8,7 +8,7 @@ ghost use Rattle.lk_domain.specs.Words.{words_of, IsNode, state_at, kick_at, has
 ghost use Rattle.lk_domain.specs.Words.{state_number, far_of, pair_number};
 
 use atomic_table::Table;
-use lk_domain::{Order, Plan, Slot, View};
+use lk_domain::{MOST_CPUS, MOST_LOCKS, Order, Plan, Slot, View};
 use lk_rows::State;
 use lk_word::{HELD, NodeName};
 use std::alloc::Global;
@@ -55,8 +55,8 @@ impl PvDomain {
     pub(crate) fn far(&self) -> usize
         ensures { result ≡ far_of self.now.plan }
     {
-        prove!(self.plan.locks.len() <= 32);
-        prove!(self.plan.topology.sockets.len() <= 64);
+        prove!(self.plan.locks.len() <= MOST_LOCKS);
+        prove!(self.plan.topology.sockets.len() <= MOST_CPUS);
         72 + 8 * self.plan.locks.len() + 16 * self.plan.topology.sockets.len()
     }
 
@@ -65,8 +65,8 @@ impl PvDomain {
         requires { IsNode self.now.plan node }
         ensures { result ≡ state_at self.now.plan node }
     {
-        prove!(self.plan.locks.len() <= 32);
-        prove!(self.plan.topology.sockets.len() <= 64);
+        prove!(self.plan.locks.len() <= MOST_LOCKS);
+        prove!(self.plan.topology.sockets.len() <= MOST_CPUS);
         self.far() + (4 * node.cpu as usize + node.index as usize)
     }
 
@@ -75,8 +75,8 @@ impl PvDomain {
         requires { cpu < cpus_of self.now.plan }
         ensures { result ≡ kick_at self.now.plan cpu }
     {
-        prove!(self.plan.locks.len() <= 32);
-        prove!(self.plan.topology.sockets.len() <= 64);
+        prove!(self.plan.locks.len() <= MOST_LOCKS);
+        prove!(self.plan.topology.sockets.len() <= MOST_CPUS);
         self.far() + 8 * self.plan.topology.sockets.len() + 8 * cpu as usize
     }
 
@@ -86,8 +86,8 @@ impl PvDomain {
         requires node { IsNode self.now.plan node }
         ensures { result ≡ pair_number lock node }
     {
-        prove!(self.plan.locks.len() <= 32);
-        prove!(self.plan.topology.sockets.len() <= 64);
+        prove!(self.plan.locks.len() <= MOST_LOCKS);
+        prove!(self.plan.topology.sockets.len() <= MOST_CPUS);
         1 + lock as u64 + 32 * (4 * node.cpu as u64 + node.index as u64)
     }
 
@@ -95,7 +95,7 @@ impl PvDomain {
     pub(crate) fn places(&self) -> usize
         ensures { result ≡ places_of self.now.plan }
     {
-        prove!(self.plan.topology.sockets.len() <= 64);
+        prove!(self.plan.topology.sockets.len() <= MOST_CPUS);
         4 * self.plan.topology.sockets.len()
     }
 
@@ -104,8 +104,8 @@ impl PvDomain {
         requires { place < places_of self.now.plan }
         ensures { result ≡ hash_at self.now.plan place }
     {
-        prove!(self.plan.locks.len() <= 32);
-        prove!(self.plan.topology.sockets.len() <= 64);
+        prove!(self.plan.locks.len() <= MOST_LOCKS);
+        prove!(self.plan.topology.sockets.len() <= MOST_CPUS);
         self.far() + 4 * self.plan.topology.sockets.len() + place
     }
 }

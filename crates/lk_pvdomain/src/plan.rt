@@ -17,7 +17,7 @@ pub struct PvPlan {
     pub locks: u32,
     /// The opening balance of each account, at most 64. Their sum is below 2^63.
     pub balances: List<u64>,
-    /// For each of 1 to 64 processors, the most journal entries that it may write.
+    /// For each of 1 to 1,024 processors, the most journal entries that it may write.
     pub shares: List<u32>,
 }
 

@@ -3,6 +3,7 @@ ghost use Rattle.std.specs.Prelude.{◌≡◌, ◌+◌, ◌<◌, ◌≤◌, [], 
 ghost use Rattle.lk_abs.specs.declared.names.Kind.TheVariants.{Rw as shared, Spin as spinning};
 ghost use Rattle.lk_domain.specs.Ends.{AllRest};
 ghost use Rattle.lk_domain.specs.Plans.{cpus_of};
+ghost use Rattle.lk_domain.specs.declared.plan.TheConstants.{MOST_CPUS, MOST_LOCKS};
 ghost use Rattle.lk_law.specs.Agree.{halts};
 ghost use Rattle.lk_lock.specs.Cells.{names_of};
 ghost use Rattle.lk_lock.specs.Made.{AreMade, AreSharedMade, IsAmong, IsPlanFor, IsSharedAmong};
@@ -23,13 +24,13 @@ pub struct Ranks {
 }
 
 impl Ranks {
-    /// None yet, for so many threads: 1 to 64.
+    /// None yet, for so many threads: 1 to 1,024.
     ///
     /// # Errors
     ///
     /// There is not enough memory.
     pub fn new(alloc: Global, threads: u32) -> Result<Ranks, Memory>
-        requires threads { (0 < threads) × (threads ≤ 64) }
+        requires threads { (0 < threads) × (threads ≤ MOST_CPUS) }
         ensures none { IfOk result (λ ranks. ranks.locks.kinds.items ≡ []) }
         ensures threads { IfOk result (λ ranks. ranks.locks.threads ≡ threads) }
     {
@@ -50,7 +51,7 @@ impl Ranks {
     ///
     /// There is not enough memory. The value is gone.
     pub fn spin<T: Drop>(&mut self, value: T) -> Result<RankedSpin<T>, Memory>
-        requires room { length self.old.locks.kinds.items < 32 }
+        requires room { length self.old.locks.kinds.items < MOST_LOCKS }
         ensures kept { Keeps self.old.locks self.new.locks }
         ensures shared { KeepsShared self.old.locks self.new.locks }
         ensures threads { self.new.locks.threads ≡ self.old.locks.threads }
@@ -72,7 +73,7 @@ impl Ranks {
     ///
     /// There is not enough memory. The value is gone.
     pub fn spin_above<T: Drop>(&mut self, other: u32, value: T) -> Result<RankedSpin<T>, Memory>
-        requires room { length self.old.locks.kinds.items < 32 }
+        requires room { length self.old.locks.kinds.items < MOST_LOCKS }
         requires other { other < length self.old.locks.kinds.items }
         ensures above { IfOk result (λ lock. other < lock.spin.id.index) }
         ensures kept { Keeps self.old.locks self.new.locks }
@@ -94,7 +95,7 @@ impl Ranks {
     ///
     /// There is not enough memory. The value is gone.
     pub fn rw<T: Drop>(&mut self, value: T) -> Result<RankedRw<T>, Memory>
-        requires room { length self.old.locks.kinds.items < 32 }
+        requires room { length self.old.locks.kinds.items < MOST_LOCKS }
         ensures kept { Keeps self.old.locks self.new.locks }
         ensures shared { KeepsShared self.old.locks self.new.locks }
         ensures threads { self.new.locks.threads ≡ self.old.locks.threads }
@@ -115,7 +116,7 @@ impl Ranks {
     ///
     /// There is not enough memory. The value is gone.
     pub fn rw_above<T: Drop>(&mut self, other: u32, value: T) -> Result<RankedRw<T>, Memory>
-        requires room { length self.old.locks.kinds.items < 32 }
+        requires room { length self.old.locks.kinds.items < MOST_LOCKS }
         requires other { other < length self.old.locks.kinds.items }
         ensures above { IfOk result (λ lock. other < lock.rw.id.index) }
         ensures kept { Keeps self.old.locks self.new.locks }
@@ -137,7 +138,7 @@ impl Ranks {
     ///
     /// There is not enough memory.
     pub fn shared<T: Copy + Drop>(&mut self, value: T) -> Result<RankedShared<T>, Memory>
-        requires room { length self.old.locks.kinds.items < 32 }
+        requires room { length self.old.locks.kinds.items < MOST_LOCKS }
         ensures kept { Keeps self.old.locks self.new.locks }
         ensures shared { KeepsShared self.old.locks self.new.locks }
         ensures threads { self.new.locks.threads ≡ self.old.locks.threads }

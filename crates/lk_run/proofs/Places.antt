@@ -20,6 +20,7 @@ use Rattle.lk_domain.specs.declared.domain.Domain.{Domain}
 use Rattle.lk_domain.specs.NodePlays.{IsFlagNode}
 use Rattle.lk_domain.specs.Words.{IsNode, flag_number, name_number}
 use Rattle.lk_domain.specs.declared.plan.Plan.{Plan}
+use Rattle.lk_domain.specs.declared.plan.TheConstants.{MOST_CPUS}
 use Rattle.lk_domain.proofs.Ways as seat
 
 -- the word that a step met, by the plan of the domain
@@ -108,7 +109,7 @@ not_fast mode y e =
       | inr (inr (inr h)) ↦ (let z : G1 ≡ F1 = sym h ∙ e in cc z)
     ]
 
-pub name_low : (k : Plan) (n : NodeName) → cpus_of k ≤ 64 → IsNode k n → name_number n < 4294967296
+pub name_low : (k : Plan) (n : NodeName) → cpus_of k ≤ MOST_CPUS → IsNode k n → name_number n < 4294967296
 name_low k n few node = let a = node.cpu in let b = node.index in omega (arith, few, a, b)
 
 pub each_some : {A : Type 0} (P : A → Type 0) (o : Option A) → ((x : A) → o ≡ Some x → P x) → IfSome o P
@@ -154,7 +155,7 @@ second_flag k n (Second m) h e z y =
     let i : (n - 2) % 4 ≡ m.index = omega (arith, e, low) in
     λ j. Second (record { cpu = c j; index = i j })
 
-pub small_flag : (k : Plan) (n : ℕ) (x : Flag) → IsFlagNode k x → n ≡ flag_number x → cpus_of k ≤ 64 → n < 260
+pub small_flag : (k : Plan) (n : ℕ) (x : Flag) → IsFlagNode k x → n ≡ flag_number x → cpus_of k ≤ MOST_CPUS → n < 4098
 small_flag k n Unset h e few = omega (arith, e)
 small_flag k n Go h e few = omega (arith, e)
 small_flag k n (Second m) h e few = let a = h.cpu in let b = h.index in omega (arith, e, few, a, b)
@@ -169,5 +170,5 @@ node_named k n m h e =
     let i : (n - 2) % 4 ≡ m.index = omega (arith, e, low) in
     λ j. record { cpu = c j; index = i j }
 
-pub small_name : (k : Plan) (n : ℕ) (m : NodeName) → IsNode k m → n ≡ name_number m → cpus_of k ≤ 64 → n < 260
+pub small_name : (k : Plan) (n : ℕ) (m : NodeName) → IsNode k m → n ≡ name_number m → cpus_of k ≤ MOST_CPUS → n < 4098
 small_name k n m h e few = let a = h.cpu in let b = h.index in omega (arith, e, few, a, b)

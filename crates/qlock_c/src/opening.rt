@@ -8,6 +8,7 @@ ghost use Rattle.qlock_c.specs.Opened.{family_numbered, kind_numbered};
 use crate::codes::{IN_USE, MEMORY, NO_FAMILY, RANGE, fault_code};
 use crate::processor::{Processor, put, take};
 use lk_abs::{Kind, List, Memory};
+use lk_domain::{MOST_CPUS, MOST_LOCKS};
 use lk_port::{Family, Port, open};
 use std::alloc::Global;
 
@@ -115,7 +116,11 @@ pub(crate) fn open_all(
     let Some(family) = family_of(family) else {
         return RANGE;
     };
-    if sockets.len() > 64 || kinds.len() > 32 || cpus.len() != sockets.len() || !are_kinds(kinds) {
+    if sockets.len() > MOST_CPUS
+        || kinds.len() > MOST_LOCKS
+        || cpus.len() != sockets.len()
+        || !are_kinds(kinds)
+    {
         return RANGE;
     }
     if !are_empty(cpus) {

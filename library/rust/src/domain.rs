@@ -70,7 +70,7 @@ pub struct Builder {
 }
 
 impl Builder {
-    /// So many processors, 1 to 64, all on socket 0. Each thread that locks takes one of them.
+    /// So many processors, 1 to 1,024, all on socket 0. Each thread that locks takes one of them.
     #[must_use]
     pub fn processors(mut self, count: usize) -> Builder {
         self.processors = count;
@@ -78,7 +78,7 @@ impl Builder {
         self
     }
 
-    /// A processor on each of these sockets, 1 to 64 in all. [`Domain::register_on`] takes one of a
+    /// A processor on each of these sockets, 1 to 1,024 in all. [`Domain::register_on`] takes one of a
     /// socket.
     #[must_use]
     pub fn sockets(mut self, sockets: &[u32]) -> Builder {

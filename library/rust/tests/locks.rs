@@ -191,7 +191,7 @@ fn a_lock_whose_guard_was_forgotten_is_not_used_again() {
 #[test]
 fn a_domain_is_refused_where_a_number_is_out_of_range() {
     let one = |processors| Domain::builder(Family::Virt).processors(processors);
-    for asked in [0, 65, usize::MAX] {
+    for asked in [0, 1025, usize::MAX] {
         assert_eq!(one(asked).mutexes(1).open().err(), Some(Error::Processors { asked }));
     }
     assert_eq!(one(1).open().err(), Some(Error::Locks { asked: 0 }));
@@ -199,8 +199,8 @@ fn a_domain_is_refused_where_a_number_is_out_of_range() {
     let asked = usize::MAX;
     assert_eq!(one(1).mutexes(asked).rw_locks(2).open().err(), Some(Error::Locks { asked }));
     assert_eq!(Error::Locks { asked: 0 }.to_string(), "0 locks: a domain has 1 to 32");
-    assert_eq!(Error::Processors { asked: 65 }.to_string(), "65 processors: a domain has 1 to 64");
-    assert!(one(64).mutexes(16).rw_locks(16).open().is_ok());
+    assert_eq!(Error::Processors { asked: 1025 }.to_string(), "1025 processors: a domain has 1 to 1024");
+    assert!(one(1024).mutexes(16).rw_locks(16).open().is_ok());
 }
 
 #[test]

@@ -185,7 +185,7 @@ module _ (k : Plan) {S : Type 0} (s : State S View) (st : Runs k s) (id : ℕ) (
     found_packs =
         let agrees = at.acted.sound.rws l kind_is in
         let cpus = st.lawful.cpus in
-        let few = each_few 384 _ agrees.counted agrees.readers.each
+        let few = each_few 6144 _ agrees.counted agrees.readers.each
         (λ u counted. elim (cases_lt u.ctx 6) [
           | inl low ↦ elim (cases_lt u.cpu (cpus_of k)) [
             | inl near ↦ (low, omega (arith, low, near, cpus))

@@ -17,7 +17,7 @@ ghost use Rattle.lk_values.specs.Guarded.{AreFit};
 
 use crate::cpu::Right;
 use crate::ledger::Journal;
-use crate::plan::Plan;
+use crate::plan::{MOST_LOCKS, Plan};
 use crate::rule::{
     BringJournal, LoadBalance, LoadVersion, Order, StoreBalance, TakeJournal, TakeOver,
 };
@@ -37,7 +37,7 @@ fn balance_word(plan: &Plan, account: u32) -> usize
     requires account { account < accounts_of plan.now }
     ensures { result ≡ balance_at plan.now account }
 {
-    prove!(plan.locks.len() <= 32);
+    prove!(plan.locks.len() <= MOST_LOCKS);
     prove!(plan.balances.len() <= 64);
     8 + 8 * plan.locks.len() + account as usize
 }
@@ -47,7 +47,7 @@ fn first_balance(plan: &Plan) -> usize
     requires { IsRunningPlan plan.now }
     ensures { result ≡ balance_at plan.now 0 }
 {
-    prove!(plan.locks.len() <= 32);
+    prove!(plan.locks.len() <= MOST_LOCKS);
     8 + 8 * plan.locks.len()
 }
 

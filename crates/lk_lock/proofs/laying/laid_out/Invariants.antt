@@ -1,4 +1,5 @@
 use Rattle.std.proofs.Common.{◌≡◌, ◌+◌, ◌*◌, ◌≤◌, ◌++◌, ℕ, length}
+use Rattle.lk_domain.specs.declared.plan.TheConstants.{MOST_LOCKS}
 use Rattle.lk_lock.specs.Cells.{laid}
 use Rattle.lk_lock.proofs.laying.laid_out.Given as goal
 
@@ -7,6 +8,6 @@ abbrev pub invariant-loop : goal.invariant-loop
 invariant-loop l = record {
   keys : (n : ℕ) → l.counter + n ≡ l.values → l.all.items ++ laid n l.keys.items ≡ laid l.values l.fn.keys.items;
   many : length l.keys.items ≡ length l.fn.keys.items;
-  room : l.all.room ≡ 32 * l.values;
-  long : length l.all.items ≤ 32 * l.counter;
+  room : l.all.room ≡ MOST_LOCKS * l.values;
+  long : length l.all.items ≤ MOST_LOCKS * l.counter;
 }
