@@ -22,11 +22,9 @@ use Rattle.lk_domain.specs.Calls.{terms_of, mark, Running, Hold, Calls, are_call
 use Rattle.lk_domain.specs.declared.plan.Plan.{Plan}
 use Rattle.lk_domain.specs.Calls.{moved_to, free_of, lock_name, holds_in}
 use Rattle.lk_domain.specs.Keeps.{Slot}
-use Rattle.lk_domain.specs.Marked.{Marks}
 use Rattle.lk_domain.specs.Plays.{MadeBy}
 use Rattle.lk_domain.specs.Views.{own_number}
 use Rattle.lk_domain.specs.declared.view.View.{View}
-use Rattle.lk_domain.proofs.turns.Marks.{mark_set}
 use Rattle.lk_domain.proofs.Stacks.{and_parts}
 
 -- who gives a lock back that was taken by whichever context holds nothing of it
@@ -152,6 +150,3 @@ module _ (l met : ℕ) (m n : Me Slot View) (made : MadeBy Unlock l m met n)
   other_holds x ne =
       ap (λ (hs : List Hold). holds_in hs x) holds_are
       ∙ (freed_else c l x (moved_to c (lock_name l) old.holds) ne ∙ moved_else c l x old.holds)
-
-  pub held : (ms : List Bool) → l < 32 → Marks ms (holds_in old.holds) → Marks (set ms l false) (holds_in n.0.calls.holds)
-  held ms lt k = mark_set ms (holds_in old.holds) (holds_in n.0.calls.holds) l false lt k none other_holds

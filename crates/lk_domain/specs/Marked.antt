@@ -1,36 +1,48 @@
 -- What a processor notes of its calls and its locks in plain fields.
-use Rattle.std.specs.Prelude.{◌≡◌, ◌≢◌, ℕ, ◌<◌, ◌≤◌, ◌==◌, ◌||◌, Bool, true, false, not, List, [], ◌∷◌, length}
+use Rattle.std.specs.Prelude.{◌≡◌, ◌≢◌, ℕ, ◌+◌, ◌<◌, ◌≤◌, ◌==◌, ◌||◌, Bool, true, false, not, List, [], ◌∷◌, length}
 use Rattle.std.specs.Prelude.{slice_index, slice_index_or, if◌then◌else◌}
 use Rattle.lk_law.specs.Families.{is_slow}
 use Rattle.lk_domain.specs.Calls.{Running, Calls, slows, waits_in, slow_in, holds_in}
 use Rattle.lk_domain.specs.declared.notes.Notes.{Notes}
 use Rattle.lk_domain.specs.declared.notes.Standing.{Standing}
+use Rattle.lk_domain.specs.declared.plan.TheConstants.{MOST_LOCKS}
 
--- the marks are those of the numbers of which f holds: it holds of none above them
-pub record Marks (marks : List Bool) (f : ℕ → Bool) : Type 0 where
-  pub long : length marks ≡ 32
+-- of so many numbers, the marks are those of the numbers of which f holds: it holds of none above them
+pub record Marks (marks : List Bool) (many : ℕ) (f : ℕ → Bool) : Type 0 where
+  pub long : length marks ≡ many
   pub each : (l : ℕ) → slice_index_or marks l false ≡ f l
 
--- the lock for which the call of a context waits
+-- the lock for which the call of a context waits, and whether it does so in the slow path
+
 abbrev pub lock_in : List Running → ℕ → ℕ
 lock_in [] d = 0
 lock_in (r ∷ rs) d = if d == length rs then r.frame.lock.index else lock_in rs d
 
--- the locks for which the calls wait, the oldest first
-pub record AreOrdered (ls : List ℕ) (rs : List Running) : Type 0 where
-  pub locks : (d : ℕ) → d < length rs → slice_index ls d ≡ lock_in rs d
-  pub low : (d : ℕ) → d < length rs → slice_index ls d < 32
+abbrev pub path_in : List Running → ℕ → Bool
+path_in [] d = false
+path_in (r ∷ rs) d = if d == length rs then is_slow r.frame.place else path_in rs d
 
--- the notes are of these calls, of which there are six at most
-pub record IsNoted (n : Notes) (c : Calls) : Type 0 where
+-- these are what the calls wait for, the oldest first, each one of so many locks
+pub record AreOrdered (ls : List ℕ) (ss : List Bool) (many : ℕ) (rs : List Running) : Type 0 where
+  pub locks : (d : ℕ) → d < length rs → slice_index ls d ≡ lock_in rs d
+  pub paths : (d : ℕ) → d < length rs → slice_index_or ss d false ≡ path_in rs d
+  pub among : (d : ℕ) → d < length rs → slice_index ls d < many
+
+-- how many calls there are from the oldest up to the newest one for the lock; 0 where none waits for it
+abbrev pub upto : List Running → ℕ → ℕ
+upto [] l = 0
+upto (r ∷ rs) l = if r.frame.lock.index == l then 1 + length rs else upto rs l
+
+-- the notes are of these calls, of which there are six at most, in a domain of so many locks
+pub record IsNoted (n : Notes) (many : ℕ) (c : Calls) : Type 0 where
   pub deep : n.depth ≡ length c.frames
   pub few : length c.frames ≤ 6
   pub counted : n.queued ≡ slows c.frames
-  pub long : length n.order ≡ 6
-  pub ordered : AreOrdered n.order c.frames
-  pub marked : Marks n.held (holds_in c.holds)
-  pub noted : Marks n.waiting (waits_in c.frames)
-  pub slow : Marks n.slow (slow_in c.frames)
+  pub orders : length n.order ≡ 6
+  pub paths : length n.slow ≡ 6
+  pub ordered : AreOrdered n.order n.slow many c.frames
+  pub most : many ≤ MOST_LOCKS
+  pub marked : Marks n.held.items many (holds_in c.holds)
 
 -- the calls are the others, and the newest is for this lock, where one waits for it
 pub data Behind (l : ℕ) (others : List Running) : List Running → Bool → Bool → Type 0 where
@@ -57,12 +69,23 @@ StepsTo old new l after = Steps old new l after.waits after.slow after.taken
 
 -- the notes are of some calls, and the one for the lock has made a row after which it stands so
 abbrev pub CanStep : Notes → ℕ → Standing → Type 0
-CanStep notes l after = (c d : Calls) × IsNoted notes c × StepsTo c d l after
+CanStep notes l after = (many : ℕ) × (c d : Calls) × IsNoted notes many c × (l < many) × StepsTo c d l after
 
 -- if the notes were of calls, they are of these calls after the row
 abbrev pub HasStepped : Notes → Notes → ℕ → Standing → Type 0
-HasStepped old new l after = (c d : Calls) → IsNoted old c → StepsTo c d l after → IsNoted new d
+HasStepped old new l after = (many : ℕ) (c d : Calls) → IsNoted old many c → l < many → StepsTo c d l after
+    → IsNoted new many d
 
 -- a new call has taken the lock by its first row, or it waits, and not yet in the slow path
 abbrev pub first_standing : Bool → Standing
 first_standing taken = record { waits = not taken; slow = false; taken = taken }
+
+-- the same of a call for a lock for which none waited
+abbrev pub HasBegun : Notes → Notes → ℕ → Bool → Type 0
+HasBegun old new l taken = (many : ℕ) (c d : Calls) → IsNoted old many c → l < many → waits_in c.frames l ≡ false
+    → StepsTo c d l (first_standing taken) → IsNoted new many d
+
+-- the processor has freed a lock, and the notes are as they were but for that
+abbrev pub HasFreed : Notes → Notes → ℕ → Type 0
+HasFreed old new l = (many : ℕ) (c d : Calls) → IsNoted old many c → l < many → d.frames ≡ c.frames
+    → holds_in d.holds l ≡ false → ((x : ℕ) → x ≢ l → holds_in d.holds x ≡ holds_in c.holds x) → IsNoted new many d

@@ -2,6 +2,7 @@
 ghost use Rattle.std.specs.Prelude.{◌≡◌, Some, true, length};
 ghost use Rattle.lk_domain.specs.Calls.{slows, holds_in, waits_in, are_calls};
 ghost use Rattle.lk_domain.specs.Marked.{IsNoted};
+ghost use Rattle.lk_domain.specs.Plans.{locks_of};
 ghost use Rattle.lk_domain.specs.Plays.{carried_of};
 
 use crate::domain::LockId;
@@ -21,7 +22,7 @@ pub struct Cpu {
     /// Its seat. A step of the ledger takes the seat, and leaves a seat of the same processor.
     pub seat: Right,
     ghost numbered: { seat.me.0.who.number ≡ Some number },
-    ghost noted: { IsNoted notes seat.me.0.calls },
+    ghost noted: { IsNoted notes (locks_of seat.me.0.who.plan) seat.me.0.calls },
     ghost apart: { are_calls seat.me.0.calls.frames ≡ true },
     ghost carried: { seat.me.1 ≡ carried_of seat.me.0 },
 }
@@ -32,6 +33,13 @@ impl Cpu {
         ensures { result ≡ self.now.number }
     {
         self.number
+    }
+
+    /// The number of locks of its domain.
+    pub fn locks(&self) -> u32
+        ensures { result ≡ locks_of self.now.seat.me.0.who.plan }
+    {
+        self.notes.locks()
     }
 
     /// The number of its calls that wait for a lock: that of the task, and those of its nested
@@ -54,13 +62,13 @@ impl Cpu {
     pub fn holds(&self, lock: LockId) -> bool
         ensures { result ≡ holds_in self.now.seat.me.0.calls.holds lock.index }
     {
-        lock.index < 32 && self.notes.held[lock.index as usize]
+        self.notes.holds(lock.index)
     }
 
     /// Whether one of its calls waits for the lock. No call waits for a lock that no domain has.
     pub fn waits(&self, lock: LockId) -> bool
         ensures { result ≡ waits_in self.now.seat.me.0.calls.frames lock.index }
     {
-        lock.index < 32 && self.notes.waiting[lock.index as usize]
+        self.notes.waits(lock.index)
     }
 }

@@ -2,8 +2,10 @@
 ghost use Rattle.std.specs.Prelude.{◌≡◌, ◌+◌, ◌<◌, [], ◌∷◌, Some, None, IfOk, false, length, map, slice_set};
 ghost use Rattle.lk_domain.specs.Calls.{no_calls};
 ghost use Rattle.lk_domain.specs.Ledgers.{no_ledger};
-ghost use Rattle.lk_domain.specs.Plans.{IsLawfulPlan, IsRunningPlan, IsSamePlan, cpus_of, room_of};
+ghost use Rattle.lk_domain.specs.Plans.{IsLawfulPlan, IsRunningPlan, IsSamePlan, cpus_of};
+ghost use Rattle.lk_domain.specs.Plans.{locks_of, room_of};
 ghost use Rattle.lk_law.specs.Agree.{halts};
+ghost use Rattle.lk_domain.specs.Marked.{IsNoted};
 ghost use Rattle.lk_domain.specs.Seats.{IsDealt, AreDealt};
 ghost use Rattle.lk_domain.specs.Values.{AreLaid, AreShut, keys_of, lodged};
 ghost use Rattle.lk_domain.specs.declared.slot.Stowed.TheVariants.{Entries};
@@ -157,7 +159,8 @@ impl Domain {
         let count = domain.plan.topology.sockets.len();
         let mut cpus = List::new(alloc, count)?;
         for number in 0..count as u32 {
-            cpus.push(domain.deal(&mut seat, number));
+            let notes = Notes::new(alloc, domain.plan.locks.len())?;
+            cpus.push(domain.deal(&mut seat, number, notes));
         }
         Ok((domain, cpus))
     }
@@ -180,12 +183,13 @@ impl Domain {
         }
     }
 
-    // The processor of the next number.
-    fn deal(&self, seat: &mut Right, number: u32) -> Cpu
+    // The processor of the next number, with what it notes.
+    fn deal(&self, seat: &mut Right, number: u32, notes: Notes) -> Cpu
         requires table { seat.old.table_id ≡ self.now.table.shared.table_id }
         requires low { number < cpus_of self.now.plan }
         requires awake { halts self.now.plan.mode ≡ false }
         requires dealer { seat.old.me.0 ≡ view (dealer self.now.plan number) no_calls no_ledger }
+        requires notes { IsNoted notes (locks_of self.now.plan) no_calls }
         ensures table { seat.new.table_id ≡ seat.old.table_id }
         ensures dealer { seat.new.me.0
             ≡ view (dealer self.now.plan (number + 1)) no_calls no_ledger }
@@ -196,7 +200,7 @@ impl Domain {
         let seat = shared.split_seat::<Deal>(seat);
         Cpu {
             number: number as u32,
-            notes: Notes::new(),
+            notes,
             seat,
         }
     }

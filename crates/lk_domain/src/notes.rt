@@ -1,22 +1,26 @@
 // What a processor notes of its calls and its locks.
-ghost use Rattle.std.specs.Prelude.{◌≡◌, ◌<◌, ◌∷◌, List, length, false};
-ghost use Rattle.std.specs.Prelude.{slice_index_or, slice_set};
+ghost use Rattle.std.specs.Prelude.{◌≡◌, ◌<◌, ◌≤◌, ◌∷◌, ℕ, IfOk, List as Row, length};
 ghost use Rattle.lk_domain.specs.Calls.{Calls, Running, no_calls, holds_in, waits_in, slow_in};
-ghost use Rattle.lk_domain.specs.Marked.{IsNoted, CanStep, HasStepped, first_standing};
+ghost use Rattle.lk_domain.specs.Marked.{AreOrdered, CanStep, HasBegun, HasFreed, HasStepped};
+ghost use Rattle.lk_domain.specs.Marked.{IsNoted, first_standing, upto};
+ghost use Rattle.lk_domain.specs.declared.plan.TheConstants.{MOST_LOCKS};
 
-// What a processor notes of its calls and its locks, where its steps read it.
+use lk_abs::{List, Memory};
+use std::alloc::Global;
+
+// What a processor notes of its calls and its locks, where its steps read it. What waits is noted by
+// the calls, of which there are six at most. What it holds may be any set of the domain's locks, and a
+// call that takes one more asks for no memory, so there is a mark for each lock.
 #[derive(Drop)]
 pub(crate) struct Notes {
     // how many of its calls wait, and how many of these are in the slow path
     pub(crate) depth: u32,
     pub(crate) queued: u32,
-    // for which lock each of them waits, the oldest first
+    // for which lock each of them waits, and whether in the slow path, the oldest first
     pub(crate) order: [u32; 6],
-    // the locks that it holds, those for which its calls wait, and those for which they do so in
-    // the slow path
-    pub(crate) held: [bool; 32],
-    pub(crate) waiting: [bool; 32],
-    pub(crate) slow: [bool; 32],
+    pub(crate) slow: [bool; 6],
+    // of each lock of the domain, whether it holds it
+    pub(crate) held: List<bool>,
 }
 
 // How the call for a lock stands after a row: whether it waits, whether it does so in the slow
@@ -29,24 +33,84 @@ pub(crate) struct Standing {
 }
 
 impl Notes {
-    // Of a processor that has done nothing.
-    pub(crate) fn new() -> Notes
-        ensures { IsNoted result no_calls }
+    // Of a processor that has done nothing, in a domain of so many locks.
+    //
+    // # Errors
+    //
+    // There is not enough memory.
+    pub(crate) fn new(alloc: Global, locks: usize) -> Result<Notes, Memory>
+        requires few { locks ≤ MOST_LOCKS }
+        ensures { IfOk result (λ notes. IsNoted notes locks no_calls) }
     {
-        Notes {
+        Ok(Notes {
             depth: 0,
             queued: 0,
             order: [0; 6],
-            held: [false; 32],
-            waiting: [false; 32],
-            slow: [false; 32],
+            slow: [false; 6],
+            held: List::filled(alloc, false, locks)?,
+        })
+    }
+
+    // How many locks there are.
+    pub(crate) fn locks(&self) -> u32
+        requires some { (many : ℕ) × (c : Calls) × IsNoted self.now many c }
+        ensures { (many : ℕ) (c : Calls) → IsNoted self.now many c → result ≡ many }
+    {
+        self.held.len() as u32
+    }
+
+    // Whether it holds the lock.
+    #[inline]
+    pub(crate) fn holds(&self, lock: u32) -> bool
+        ensures { (many : ℕ) (c : Calls) → IsNoted self.now many c
+            → result ≡ holds_in c.holds lock }
+    {
+        (lock as usize) < self.held.len() && *self.held.get(lock as usize)
+    }
+
+    // How many there are of so many of its calls, from the oldest up to the newest one for the lock;
+    // 0 where none of them waits for it.
+    fn upto(&self, depth: u32, lock: u32) -> u32
+        requires few { depth ≤ 6 }
+        ensures upto { (many : ℕ) (rs : Row Running)
+            → AreOrdered self.now.order self.now.slow many rs → length rs ≡ depth
+            → result ≡ upto rs lock }
+        ensures low { result ≤ depth }
+    {
+        if depth == 0 {
+            return 0;
         }
+        if self.order[depth as usize - 1] == lock {
+            return depth;
+        }
+        self.upto(depth - 1, lock)
+    }
+
+    // Whether a call waits for the lock.
+    #[inline]
+    pub(crate) fn waits(&self, lock: u32) -> bool
+        requires some { (many : ℕ) × (c : Calls) × IsNoted self.now many c }
+        ensures { (many : ℕ) (c : Calls) → IsNoted self.now many c
+            → result ≡ waits_in c.frames lock }
+    {
+        self.upto(self.depth, lock) != 0
+    }
+
+    // Whether a call waits for it in the slow path.
+    #[inline]
+    pub(crate) fn is_slow(&self, lock: u32) -> bool
+        requires some { (many : ℕ) × (c : Calls) × IsNoted self.now many c }
+        ensures { (many : ℕ) (c : Calls) → IsNoted self.now many c
+            → result ≡ slow_in c.frames lock }
+    {
+        let upto = self.upto(self.depth, lock);
+        upto != 0 && self.slow[upto as usize - 1]
     }
 
     // The lock for which the newest call waits.
     pub(crate) fn newest(&self) -> u32
-        requires some { (c : Calls) × IsNoted self.now c × (0 < length c.frames) }
-        ensures { (c : Calls) (r : Running) (rs : List Running) → IsNoted self.now c
+        requires some { (many : ℕ) × (c : Calls) × IsNoted self.now many c × (0 < length c.frames) }
+        ensures { (many : ℕ) (c : Calls) (r : Running) (rs : Row Running) → IsNoted self.now many c
             → c.frames ≡ r ∷ rs → result ≡ r.frame.lock.index }
     {
         self.order[self.depth as usize - 1]
@@ -57,34 +121,31 @@ impl Notes {
     // lock.
     #[inline]
     pub(crate) fn step(&mut self, lock: u32, after: Standing)
-        requires lock { lock < 32 }
         requires steps { CanStep self.old lock after }
         ensures { HasStepped self.old self.new lock after }
     {
         let Standing { waits, slow, taken } = after;
-        let index = lock as usize;
-        if waits && self.waiting[index] && self.slow[index] == slow && !taken {
+        let waited = self.waits(lock);
+        if waits && waited && self.is_slow(lock) == slow && !taken {
             return;
         }
-        if waits | self.waiting[index] {
+        if waits | waited {
             self.step_waiting(lock, after);
         } else if taken {
-            self.held[index] = true;
+            *self.held.get_mut(lock as usize) = true;
         }
     }
 
     // A new call for the lock, for which none waited, has made its first row: it has taken the lock,
-    // or it waits, and not yet in the slow path. Nothing is read where it has the lock: a load there
-    // would wait for the exchange.
+    // or it waits, and not yet in the slow path. Where it has the lock, only the place of the marks is
+    // read: any other load there would wait for the exchange.
     #[inline]
     pub(crate) fn first_step(&mut self, lock: u32, taken: bool)
-        requires lock { lock < 32 }
-        requires fresh { slice_index_or self.old.waiting lock false ≡ false }
         requires steps { CanStep self.old lock (first_standing taken) }
-        ensures { HasStepped self.old self.new lock (first_standing taken) }
+        ensures { HasBegun self.old self.new lock taken }
     {
         if taken {
-            self.held[lock as usize] = true;
+            *self.held.get_mut(lock as usize) = true;
         } else {
             let waits = Standing {
                 waits: true,
@@ -99,18 +160,27 @@ impl Notes {
     #[cold]
     #[inline(never)]
     fn step_waiting(&mut self, lock: u32, after: Standing)
-        requires lock { lock < 32 }
         requires steps { CanStep self.old lock after }
         ensures { HasStepped self.old self.new lock after }
     {
         let Standing { waits, slow, taken } = after;
-        let index = lock as usize;
-        let others = self.depth - u32::from(self.waiting[index]);
-        self.queued = self.queued - u32::from(self.slow[index]) + u32::from(slow);
+        let waited = self.waits(lock);
+        let slowly = self.is_slow(lock);
+        let others = self.depth - u32::from(waited);
+        self.queued = self.queued - u32::from(slowly) + u32::from(slow);
         self.order[others as usize] = lock;
+        self.slow[others as usize] = slow;
         self.depth = others + u32::from(waits);
-        self.waiting[index] = waits;
-        self.slow[index] = slow;
-        self.held[index] = self.held[index] | taken;
+        let held = self.held.get_mut(lock as usize);
+        *held = *held | taken;
+    }
+
+    // The processor has freed a lock.
+    #[inline]
+    pub(crate) fn free(&mut self, lock: u32)
+        requires { (many : ℕ) × (c : Calls) × IsNoted self.old many c × (lock < many) }
+        ensures { HasFreed self.old self.new lock }
+    {
+        *self.held.get_mut(lock as usize) = false;
     }
 }

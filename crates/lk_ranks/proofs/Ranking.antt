@@ -1,6 +1,6 @@
 -- What ranks above all that a processor holds or waits for, before a call and after it.
-use Rattle.std.proofs.Common.{◌≡◌, ℕ, ◌<◌, ◌≤◌, List, [], ◌∷◌, Bool, true, false, sym, ap, ◌∙◌, subst, inl, inr, arith}
-use Rattle.std.proofs.lemmas.Bool.{cases_Bool, ltb-false, ltb-true}
+use Rattle.std.proofs.Common.{◌≡◌, ℕ, ◌<◌, ◌≤◌, List, [], ◌∷◌, Bool, true, false, sym, ap, ◌∙◌, subst, inl, inr, arith, eqb, ne_eqb}
+use Rattle.std.proofs.lemmas.Bool.{cases_Bool, cases_eq, ltb-false, ltb-true}
 use Rattle.std.proofs.Math.ListN.{get_or-eq_default}
 use Rattle.std.proofs.Math.Dec.{ltb}
 use Rattle.std.specs.Prelude.{◌||◌}
@@ -11,10 +11,12 @@ use Rattle.lk_law.proofs.common.Puts.{if-false}
 use Rattle.lk_law.proofs.common.Sames.{same_lock-true}
 use Rattle.lk_domain.specs.Calls.{Calls, Hold, Running, holds_in, waits_in, lock_name}
 use Rattle.lk_domain.specs.Ends.{Rests}
-use Rattle.lk_domain.specs.Marked.{Marks}
+use Rattle.lk_domain.specs.Marked.{AreOrdered, Marks}
+use Rattle.lk_domain.specs.Plans.{locks_of}
 use Rattle.lk_domain.specs.Seats.{calls_of}
 use Rattle.lk_domain.specs.declared.cpu.Cpu.{Cpu}
 use Rattle.lk_domain.specs.declared.domain.Domain.{Domain}
+use Rattle.lk_domain.proofs.turns.Noted.{newest_among, ordered_rest}
 use Rattle.lk_lock.specs.Standing.{IsInside, IsReady, holds_of, out_with}
 use Rattle.lk_ranks.specs.Above.{IsAbove}
 
@@ -75,27 +77,45 @@ above_more low high c up above =
 pub above_rest : (d : Domain) (i rank : ℕ) (cpu : Cpu) → Rests d i cpu → IsAbove rank (calls_of cpu)
 above_rest d i rank cpu rests = above_none rank (calls_of cpu) rests.frames rests.holds
 
--- no number from the rank on, of a lock that a domain may have, is marked
-module _ (rank : ℕ) (marks : List Bool) (f : ℕ → Bool) (is : Marks marks f) where
-  past : (l : ℕ) → 32 ≤ l → f l ≡ false
-  past l high = sym (is.each l) ∙ get_or-eq_default marks false (let long = is.long in omega (arith, long, high))
+-- a call waits for one of so many locks
+waits_low : (ls : List ℕ) (ss : List Bool) (many : ℕ) (rs : List Running) (l : ℕ) → AreOrdered ls ss many rs
+    → waits_in rs l ≡ true → l < many
+waits_low ls ss many [] l are on = cc on
+waits_low ls ss many (r ∷ rs) l are on = elim (cases_eq r.frame.lock.index l) [
+  | inl e ↦ let low = newest_among ls ss many r rs are in omega (arith, e, low)
+  | inr ne ↦ waits_low ls ss many rs l (ordered_rest ls ss many r rs are)
+      (sym (if-false (eqb r.frame.lock.index l) true (waits_in rs l) (ne_eqb r.frame.lock.index l ne)) ∙ on)
+]
 
-  below : ((n : ℕ) → rank ≤ n → n < 32 → f n ≡ false) → (l : ℕ) → f l ≡ true → l < rank
-  below none l on = elim (cases_Bool (ltb l rank)) [
-    | inl low ↦ ltb-true l rank low
-    | inr up ↦ elim (cases_Bool (ltb l 32)) [
-      | inl few ↦ absurd (let z : true ≡ false = sym on ∙ none l (ltb-false l rank up) (ltb-true l 32 few) in cc z)
-      | inr high ↦ absurd (let z : true ≡ false = sym on ∙ past l (ltb-false l 32 high) in cc z)
-    ]
-  ]
+-- and holds one of them
+holds_low : (many : ℕ) (marks : List Bool) (f : ℕ → Bool) (l : ℕ) → Marks marks many f → f l ≡ true → l < many
+holds_low many marks f l is on = elim (cases_Bool (ltb l many)) [
+  | inl low ↦ ltb-true l many low
+  | inr high ↦
+      let past : f l ≡ false = sym (is.each l) ∙ get_or-eq_default marks false (let long = is.long in let up = ltb-false l many high in omega (arith, long, up)) in
+      absurd (let z : true ≡ false = sym on ∙ past in cc z)
+]
+
+-- a number that is marked is below the rank from which on none of so many is
+below : (rank many : ℕ) (f : ℕ → Bool) → ((l : ℕ) → f l ≡ true → l < many)
+    → ((n : ℕ) → rank ≤ n → n < many → f n ≡ false) → (l : ℕ) → f l ≡ true → l < rank
+below rank many f low none l on = elim (cases_Bool (ltb l rank)) [
+  | inl under ↦ ltb-true l rank under
+  | inr up ↦ absurd (let z : true ≡ false = sym on ∙ none l (ltb-false l rank up) (low l on) in cc z)
+]
 
 -- a rank from which on no lock is held, and for none a call waits
-pub above_all : (rank : ℕ) (cpu : Cpu) → ((n : ℕ) → rank ≤ n → n < 32 → holds_in (calls_of cpu).holds n ≡ false)
-    → ((n : ℕ) → rank ≤ n → n < 32 → waits_in (calls_of cpu).frames n ≡ false) → IsAbove rank (calls_of cpu)
-above_all rank cpu unheld unwaited =
+pub above_all : (rank many : ℕ) (cpu : Cpu) → many ≡ locks_of cpu.seat.me.0.who.plan
+    → ((n : ℕ) → rank ≤ n → n < many → holds_in (calls_of cpu).holds n ≡ false)
+    → ((n : ℕ) → rank ≤ n → n < many → waits_in (calls_of cpu).frames n ≡ false) → IsAbove rank (calls_of cpu)
+above_all rank many cpu is unheld unwaited =
     record {
-      holds = below rank cpu.notes.held (holds_in (calls_of cpu).holds) cpu.noted.marked unheld;
-      waits = below rank cpu.notes.waiting (waits_in (calls_of cpu).frames) cpu.noted.noted unwaited;
+      holds = below rank many (holds_in (calls_of cpu).holds)
+          (λ l on. let low = holds_low (locks_of cpu.seat.me.0.who.plan) cpu.notes.held.items (holds_in (calls_of cpu).holds) l cpu.noted.marked on in
+          omega (arith, low, is)) unheld;
+      waits = below rank many (waits_in (calls_of cpu).frames)
+          (λ l on. let low = waits_low cpu.notes.order cpu.notes.slow (locks_of cpu.seat.me.0.who.plan) (calls_of cpu).frames l cpu.noted.ordered on in
+          omega (arith, low, is)) unwaited;
     }
 
 -- a rank that is not above a lock is not above all

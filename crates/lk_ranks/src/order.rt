@@ -5,15 +5,12 @@ ghost use Rattle.lk_ranks.specs.Above.{IsAbove};
 
 use lk_domain::{Cpu, LockId};
 
-// One more than the highest rank of a lock.
-const MOST: u32 = 32;
-
 /// Whether the rank is above that of each lock which the processor holds, and of each for which a
 /// call of it waits. Then it may wait for a lock of this rank.
 pub fn is_above(cpu: &Cpu, rank: u32) -> bool
     ensures asks { IsTrue result ↔ IsAbove rank (calls_of cpu.now) }
 {
-    for number in rank..MOST {
+    for number in rank..cpu.locks() {
         let lock = LockId { index: number };
         if cpu.holds(lock) || cpu.waits(lock) {
             return false;

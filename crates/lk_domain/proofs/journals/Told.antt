@@ -7,7 +7,9 @@ use Rattle.lk_domain.specs.Calls.{Calls, are_calls}
 use Rattle.lk_domain.specs.Keeps.{Slot}
 use Rattle.lk_domain.specs.Ledgers.{Ledger, Out, brought}
 use Rattle.lk_domain.specs.Marked.{IsNoted}
+use Rattle.lk_domain.specs.Plans.{locks_of}
 use Rattle.lk_domain.specs.Plays.{Brings, carried_with, carried_of}
+use Rattle.lk_domain.specs.Who.{Who}
 use Rattle.lk_domain.specs.declared.ledger.journal.Journal.{Journal}
 use Rattle.lk_domain.specs.declared.notes.Notes.{Notes}
 use Rattle.lk_domain.specs.declared.slot.Stowed.TheVariants.{Entries}
@@ -16,8 +18,8 @@ use Rattle.lk_domain.proofs.journals.Grown.{drop_front}
 
 -- while it keeps its calls
 module _ (old new : Calls) (same : new ≡ old) where
-  pub noted : {n : Notes} → IsNoted n old → IsNoted n new
-  noted {n} h = subst (λ (c : Calls). IsNoted n c) (sym same) h
+  pub noted : {n : Notes} (a b : Who) → b ≡ a → IsNoted n (locks_of a.plan) old → IsNoted n (locks_of b.plan) new
+  noted {n} a b who h = subst (λ (w : Who). IsNoted n (locks_of w.plan) new) (sym who) (subst (λ (c : Calls). IsNoted n (locks_of a.plan) c) (sym same) h)
 
   pub apart : are_calls old.frames ≡ true → are_calls new.frames ≡ true
   apart h = ap (λ (c : Calls). are_calls c.frames) same ∙ h

@@ -8,6 +8,7 @@ use Rattle.lk_rows.specs.declared.setup.Verb.{Verb}
 use Rattle.lk_domain.specs.Calls.{are_calls}
 use Rattle.lk_domain.specs.Keeps.{Slot}
 use Rattle.lk_domain.specs.Marked.{IsNoted}
+use Rattle.lk_domain.specs.Plans.{locks_of}
 use Rattle.lk_domain.specs.Plays.{ActsIn, MadeBy, SwappedBy, carried_of}
 use Rattle.lk_domain.specs.Rows.{arrives_by}
 use Rattle.lk_domain.specs.declared.notes.Notes.{Notes}
@@ -20,12 +21,12 @@ use Rattle.lk_domain.proofs.turns.Stepped as stepped
 -- the seat has its number and what it carries, and the notes are still of its calls
 pub record Kept (notes : Notes) (m n : Me Slot View) : Type 0 where
   pub numbered : {p : ℕ} → m.0.who.number ≡ Some p → n.0.who.number ≡ Some p
-  pub noted : IsNoted notes n.0.calls
+  pub noted : IsNoted notes (locks_of n.0.who.plan) n.0.calls
   pub apart : are_calls n.0.calls.frames ≡ true
   pub carried : m.1 ≡ carried_of m.0 → n.1 ≡ carried_of n.0
 
 module _ (v : Verb) (l : LockName) (expected met : ℕ) (m n : Me Slot View) (told : SwappedBy expected m met n)
-    (notes : Notes) (was : IsNoted notes m.0.calls) (calm : are_calls m.0.calls.frames ≡ true)
+    (notes : Notes) (was : IsNoted notes (locks_of m.0.who.plan) m.0.calls) (calm : are_calls m.0.calls.frames ≡ true)
     (acts : ActsIn (arrives_by v) m.0 v l) where
   -- the row was made
   pub made : met ≡ expected → MadeBy v l.index m met n
@@ -37,7 +38,7 @@ module _ (v : Verb) (l : LockName) (expected met : ℕ) (m n : Me Slot View) (to
       let t = stepped.arrives v l met m n (made hit) calm was.few acts in
       record {
         numbered = row.numbered v l.index met m n (made hit);
-        noted = stays notes m.0.calls n.0.calls l.index true was t.steps (t.on refl) t.was;
+        noted = row.noted v l.index met m n (made hit) (stays notes (locks_of m.0.who.plan) m.0.calls n.0.calls l.index true was t.steps (t.on refl) t.was);
         apart = t.apart;
         carried = row.carried v l.index met m n (made hit);
       }
@@ -46,7 +47,7 @@ module _ (v : Verb) (l : LockName) (expected met : ℕ) (m n : Me Slot View) (to
   before same =
       record {
         numbered = λ h. ap (λ (x : Me Slot View). x.0.who.number) same ∙ h;
-        noted = subst (λ (x : Me Slot View). IsNoted notes x.0.calls) (sym same) was;
+        noted = subst (λ (x : Me Slot View). IsNoted notes (locks_of x.0.who.plan) x.0.calls) (sym same) was;
         apart = ap (λ (x : Me Slot View). are_calls x.0.calls.frames) same ∙ calm;
         carried = λ h. ap (λ (x : Me Slot View). x.1) same
             ∙ (h ∙ ap (λ (x : Me Slot View). carried_of x.0) (sym same));

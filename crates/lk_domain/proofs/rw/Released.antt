@@ -11,12 +11,10 @@ use Rattle.lk_domain.specs.Calls.{terms_of, Hold, Calls, are_calls, begin, row_o
 use Rattle.lk_domain.specs.declared.plan.Plan.{Plan}
 use Rattle.lk_domain.specs.Calls.{moved_to, free_of, lock_name, holds_in}
 use Rattle.lk_domain.specs.Keeps.{Slot}
-use Rattle.lk_domain.specs.Marked.{Marks}
 use Rattle.lk_domain.specs.RwPlays.{SharedBy}
 use Rattle.lk_domain.specs.Views.{own_number}
 use Rattle.lk_domain.specs.declared.view.View.{View}
 use Rattle.lk_domain.proofs.Freed.{not_unlocking, released, freed_else, moved_else}
-use Rattle.lk_domain.proofs.turns.Marks.{mark_set}
 
 -- a release is one step
 pub record Ends (old new : Calls) (l : ℕ) : Type 0 where
@@ -61,13 +59,10 @@ module _ (v : Verb) (is : Unshares v) (l met : ℕ) (m n : Me Slot View) (made :
         taken = ap (λ (x : Calls). x.taken) now ∙ e.taken;
       }
 
-  none : holds_in n.0.calls.holds l ≡ false
+  pub none : holds_in n.0.calls.holds l ≡ false
   none = ap (λ (hs : List Hold). holds_in hs l) ended.holds ∙ released c l old.holds
 
-  other_holds : (x : ℕ) → x ≢ l → holds_in n.0.calls.holds x ≡ holds_in old.holds x
+  pub other_holds : (x : ℕ) → x ≢ l → holds_in n.0.calls.holds x ≡ holds_in old.holds x
   other_holds x ne =
       ap (λ (hs : List Hold). holds_in hs x) ended.holds
       ∙ (freed_else c l x (moved_to c (lock_name l) old.holds) ne ∙ moved_else c l x old.holds)
-
-  pub held : (ms : List Bool) → l < 32 → Marks ms (holds_in old.holds) → Marks (set ms l false) (holds_in n.0.calls.holds)
-  held ms lt k = mark_set ms (holds_in old.holds) (holds_in n.0.calls.holds) l false lt k none other_holds

@@ -31,6 +31,7 @@ use Rattle.lk_domain.specs.Calls.{terms_of, sight_of, acting, are_calls}
 use Rattle.lk_domain.specs.Calls.{Outlook, sight_by}
 use Rattle.lk_domain.specs.Keeps.{Slot}
 use Rattle.lk_domain.specs.Marked.{IsNoted, Steps}
+use Rattle.lk_domain.specs.Plans.{locks_of}
 use Rattle.lk_domain.specs.Plays.{ActsIn, carried_of}
 use Rattle.lk_domain.specs.Rows.{looks_by, queues_up as queues}
 use Rattle.lk_domain.specs.RwPlays.{ActsFor, SharedBy, Watches}
@@ -39,6 +40,7 @@ use Rattle.lk_domain.specs.RwRows.{quits_by, quits_on, seizes_at, seizes_on, awa
 use Rattle.lk_domain.specs.RwRows.{leaves_by, watches_by, joins_by, seizes_by, on_shared}
 use Rattle.lk_domain.specs.Views.{own_number}
 use Rattle.lk_domain.specs.declared.notes.Notes.{Notes}
+use Rattle.lk_domain.specs.declared.plan.Plan.{Plan}
 use Rattle.lk_domain.specs.declared.view.View.{View}
 use Rattle.lk_domain.proofs.seats.Places.{carried_same}
 use Rattle.lk_domain.proofs.turns.Courses.{Comes}
@@ -331,16 +333,19 @@ module _ (v : Verb) (l met : ℕ) (m n : Me Slot View) (made : SharedBy v l m me
       (seize b acts).steps
 
   -- waiting is set, or the reader is taken back: nothing is to be noted
-  pub await_noted : (notes : Notes) → IsNoted notes m.0.calls → ActsFor (awaits_by v) m.0 v l → IsNoted notes n.0.calls
-  await_noted notes was acts =
+  pub await_noted : (notes : Notes) (many : ℕ) → IsNoted notes many m.0.calls → ActsFor (awaits_by v) m.0 v l → IsNoted notes many n.0.calls
+  await_noted notes many was acts =
       let t = await acts in
       let plain = await_plain v acts.acts.row acts.acts.is in
-      stays notes m.0.calls n.0.calls l false was t.steps (t.on plain.0) (t.was ∙ plain.1)
+      stays notes many m.0.calls n.0.calls l false was t.steps (t.on plain.0) (t.was ∙ plain.1)
 
   -- what the seat has besides
 
   pub numbered : {q : ℕ} → m.0.who.number ≡ Some q → n.0.who.number ≡ Some q
   numbered h = ap (λ (x : Me Slot View). x.0.who.number) made.seat ∙ h
+
+  pub noted : {notes : Notes} → IsNoted notes (locks_of m.0.who.plan) n.0.calls → IsNoted notes (locks_of n.0.who.plan) n.0.calls
+  noted {notes} h = subst (λ (k : Plan). IsNoted notes (locks_of k) n.0.calls) (sym (ap (λ (x : Me Slot View). x.0.who.plan) made.seat)) h
 
   out_same : n.0.ledger.out ≡ m.0.ledger.out
   out_same =
@@ -358,12 +363,12 @@ quit_plain R3 h = (refl, refl)
 quit_plain _ h = cc h
 
 pub quit_noted : (l met : ℕ) (m n : Me Slot View) (made : SharedBy Read l m met n)
-    → are_calls m.0.calls.frames ≡ true → length m.0.calls.frames ≤ 6 → (notes : Notes)
-    → IsNoted notes m.0.calls → ActsFor (quits_by Read) m.0 Read l → IsNoted notes n.0.calls
-quit_noted l met m n made calm few notes was acts =
+    → are_calls m.0.calls.frames ≡ true → length m.0.calls.frames ≤ 6 → (notes : Notes) (many : ℕ)
+    → IsNoted notes many m.0.calls → ActsFor (quits_by Read) m.0 Read l → IsNoted notes many n.0.calls
+quit_noted l met m n made calm few notes many was acts =
     let t = quit Read l met m n made calm few acts refl in
     let plain = quit_plain acts.acts.row acts.acts.is in
-    stays notes m.0.calls n.0.calls l false was t.steps (t.on plain.0) (t.was ∙ plain.1)
+    stays notes many m.0.calls n.0.calls l false was t.steps (t.on plain.0) (t.was ∙ plain.1)
 
 -- which word a look is at
 

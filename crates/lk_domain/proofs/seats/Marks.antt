@@ -185,15 +185,16 @@ out_apart hs l x a b out home e =
     mark_in (Some y) = y.1
 
 -- and the notes of a processor are still of its calls
-pub mark_noted : (n : Notes) (c : Calls) (l : ℕ) (b : Bool) → IsNoted n c → IsNoted n (record c { holds = marked_out l b c.holds })
-mark_noted n c l b h =
+pub mark_noted : (n : Notes) (many : ℕ) (c : Calls) (l : ℕ) (b : Bool) → IsNoted n many c
+    → IsNoted n many (record c { holds = marked_out l b c.holds })
+mark_noted n many c l b h =
     record {
       deep = h.deep;
       few = h.few;
       counted = h.counted;
-      long = h.long;
+      orders = h.orders;
+      paths = h.paths;
       ordered = h.ordered;
+      most = h.most;
       marked = record { long = h.marked.long; each = λ x. h.marked.each x ∙ sym (mark_holds l b c.holds x) };
-      noted = h.noted;
-      slow = h.slow;
     }

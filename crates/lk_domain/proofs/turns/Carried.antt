@@ -1,12 +1,16 @@
--- A row of a lock leaves a processor's number, and what it carries.
-use Rattle.std.proofs.Common.{◌≡◌, ℕ, Some, ap, ◌∙◌}
+-- A row of a lock leaves a processor's number and plan, and what it carries.
+use Rattle.std.proofs.Common.{◌≡◌, ℕ, Some, sym, ap, ◌∙◌, subst}
 use Rattle.atomic_table.specs.Table.{Me}
 use Rattle.lk_rows.specs.declared.setup.Verb.{Verb}
 use Rattle.lk_law.specs.Leads.{Met, Word}
 use Rattle.lk_domain.specs.Calls.{acting}
 use Rattle.lk_domain.specs.Keeps.{Slot}
+use Rattle.lk_domain.specs.Marked.{IsNoted}
+use Rattle.lk_domain.specs.Plans.{locks_of}
 use Rattle.lk_domain.specs.Plays.{Goes, MadeBy, carried_of}
 use Rattle.lk_domain.specs.Views.{own_number}
+use Rattle.lk_domain.specs.declared.notes.Notes.{Notes}
+use Rattle.lk_domain.specs.declared.plan.Plan.{Plan}
 use Rattle.lk_domain.specs.declared.view.View.{View}
 use Rattle.lk_domain.proofs.seats.Places.{carried_same}
 use Rattle.lk_domain.proofs.rows.Fresh.{turned_purse}
@@ -14,6 +18,9 @@ use Rattle.lk_domain.proofs.rows.Fresh.{turned_purse}
 module _ (v : Verb) (l met : ℕ) (m n : Me Slot View) (made : MadeBy v l m met n) where
   pub numbered : {p : ℕ} → m.0.who.number ≡ Some p → n.0.who.number ≡ Some p
   numbered h = ap (λ (x : Me Slot View). x.0.who.number) made.seat ∙ h
+
+  pub noted : {notes : Notes} → IsNoted notes (locks_of m.0.who.plan) n.0.calls → IsNoted notes (locks_of n.0.who.plan) n.0.calls
+  noted {notes} h = subst (λ (k : Plan). IsNoted notes (locks_of k) n.0.calls) (sym (ap (λ (x : Me Slot View). x.0.who.plan) made.seat)) h
 
   pub out_same : n.0.ledger.out ≡ m.0.ledger.out
   out_same =
@@ -30,6 +37,9 @@ module _ (v : Verb) (l met : ℕ) (m n : Me Slot View) (made : MadeBy v l m met 
 module _ (x : Met) (m n : Me Slot View) (went : Goes x m n) where
   pub node_numbered : {p : ℕ} → m.0.who.number ≡ Some p → n.0.who.number ≡ Some p
   node_numbered h = ap (λ (z : Me Slot View). z.0.who.number) went ∙ h
+
+  pub node_noted : {notes : Notes} → IsNoted notes (locks_of m.0.who.plan) n.0.calls → IsNoted notes (locks_of n.0.who.plan) n.0.calls
+  node_noted {notes} h = subst (λ (k : Plan). IsNoted notes (locks_of k) n.0.calls) (sym (ap (λ (z : Me Slot View). z.0.who.plan) went)) h
 
   node_out : n.0.ledger.out ≡ m.0.ledger.out
   node_out =

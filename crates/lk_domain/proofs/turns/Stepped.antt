@@ -1,5 +1,5 @@
 -- What the step calls do to the calls of their processor.
-use Rattle.std.proofs.Common.{◌≡◌, ◌⊎◌, inl, inr, ℕ, ◌<◌, ◌≤◌, List, ◌∷◌, length, get_or, Some, Bool, true, false, eqb, refl, sym, ap, ◌∙◌, subst}
+use Rattle.std.proofs.Common.{◌≡◌, ◌⊎◌, inl, inr, ℕ, ◌<◌, ◌≤◌, List, ◌∷◌, length, Some, Bool, true, false, eqb, refl, sym, ap, ◌∙◌, subst}
 use Rattle.std.proofs.Common.{◌||◌, Option}
 use Rattle.lk_word.specs.declared.spin_word.NodeName.{NodeName}
 use Rattle.std.specs.Prelude.{◌&&◌, not}
@@ -18,16 +18,15 @@ use Rattle.lk_law.specs.Families.{is_slow}
 use Rattle.lk_law.specs.Leads.{Met, Word, Number, Flagged, Linked}
 use Rattle.lk_law.specs.Premises.{IsThen}
 use Rattle.lk_domain.specs.Calls.{Outlook}
-use Rattle.lk_domain.specs.Calls.{terms_of, Calls, Running, running, slows, StandsOn, are_calls, row_of, acting, sight_of}
+use Rattle.lk_domain.specs.Calls.{terms_of, Calls, Running, running, slow_in, slows, StandsOn, are_calls, row_of, acting, sight_of}
 use Rattle.lk_domain.specs.Keeps.{Slot}
-use Rattle.lk_domain.specs.Marked.{IsNoted, Steps}
+use Rattle.lk_domain.specs.Marked.{Steps}
 use Rattle.lk_domain.specs.NodePlays.{AtRow, Enters, Hands, looks_behind}
 use Rattle.lk_domain.specs.Plays.{ActsIn, MadeBy, Goes}
 use Rattle.lk_domain.specs.Rows.{looks_by, takes_by, frees_by, looks_on, takes_on, take_holds}
 use Rattle.lk_domain.specs.Rows.{pends_by, clears_by, claims_by, arrives_by, soles_by, stakes_by, promotes_by}
 use Rattle.lk_domain.specs.Rows.{queues_up, is_patient}
 use Rattle.lk_domain.specs.Views.{own_number}
-use Rattle.lk_domain.specs.declared.notes.Notes.{Notes}
 use Rattle.lk_domain.specs.declared.view.View.{View}
 use Rattle.lk_domain.proofs.Acting.{acting_is, acts_on, begins_on}
 use Rattle.lk_domain.proofs.turns.Courses as course
@@ -181,25 +180,24 @@ module _ (v : Verb) (l : LockName) (met : ℕ) (m n : Me Slot View) (made : Made
       row_of_kind (soles_by v) acts z.1 G8 z.2 (λ f. tt) _ _ _
       (course.soled mode p acts.acts.stands.frame (queues_up v) (inside (soles_by v) acts) (after (soles_by v) acts) made.found b e)
 
-  module _ (notes : Notes) (was : IsNoted notes m.0.calls) (lt : l.index < 32) where
-    -- with the marks that the processor has, and what it computes
-    pub looks_noted : ActsIn (looks_by v) m.0 v l → (w : Bool) → w ≡ looks_on v (eqb met 0)
-        → Steps m.0.calls n.0.calls l.index w (get_or notes.slow l.index false) false
-    looks_noted acts w e =
-        let t = looks acts in
-        subst (λ (b : Bool). Steps m.0.calls n.0.calls l.index b (get_or notes.slow l.index false) false) (sym e)
-        (subst (λ (b : Bool). Steps m.0.calls n.0.calls l.index (looks_on v (eqb met 0)) b false)
-        (sym (was.slow.each l.index ∙ t.was)) t.steps)
+  -- with what the processor notes and computes
 
-    pub takes_noted : ActsIn (takes_by v) m.0 v l → (w h : Bool) → w ≡ takes_on v (eqb met 0)
-        → h ≡ take_holds v (eqb met 0)
-        → Steps m.0.calls n.0.calls l.index w (get_or notes.slow l.index false && not (eqb met 0)) h
-    takes_noted acts w h e d =
-        let t = takes acts in
-        subst (λ (b : Bool). Steps m.0.calls n.0.calls l.index b (get_or notes.slow l.index false && not (eqb met 0)) h) (sym e)
-        (subst (λ (b : Bool). Steps m.0.calls n.0.calls l.index (takes_on v (eqb met 0)) (get_or notes.slow l.index false && not (eqb met 0)) b) (sym d)
-        (subst (λ (b : Bool). Steps m.0.calls n.0.calls l.index (takes_on v (eqb met 0)) (b && not (eqb met 0)) (take_holds v (eqb met 0)))
-        (sym (was.slow.each l.index ∙ t.was)) t.steps))
+  pub looks_noted : ActsIn (looks_by v) m.0 v l → (w s : Bool) → w ≡ looks_on v (eqb met 0)
+      → s ≡ slow_in m.0.calls.frames l.index → Steps m.0.calls n.0.calls l.index w s false
+  looks_noted acts w s e was =
+      let t = looks acts in
+      subst (λ (b : Bool). Steps m.0.calls n.0.calls l.index b s false) (sym e)
+      (subst (λ (b : Bool). Steps m.0.calls n.0.calls l.index (looks_on v (eqb met 0)) b false) (sym (was ∙ t.was)) t.steps)
+
+  pub takes_noted : ActsIn (takes_by v) m.0 v l → (w h s : Bool) → w ≡ takes_on v (eqb met 0)
+      → h ≡ take_holds v (eqb met 0) → s ≡ slow_in m.0.calls.frames l.index
+      → Steps m.0.calls n.0.calls l.index w (s && not (eqb met 0)) h
+  takes_noted acts w h s e d was =
+      let t = takes acts in
+      subst (λ (b : Bool). Steps m.0.calls n.0.calls l.index b (s && not (eqb met 0)) h) (sym e)
+      (subst (λ (b : Bool). Steps m.0.calls n.0.calls l.index (takes_on v (eqb met 0)) (s && not (eqb met 0)) b) (sym d)
+      (subst (λ (b : Bool). Steps m.0.calls n.0.calls l.index (takes_on v (eqb met 0)) (b && not (eqb met 0)) (take_holds v (eqb met 0)))
+      (sym (was ∙ t.was)) t.steps))
 
 -- the marks of a row that ends a call on a spinlock, and goes on where it took a wait lock
 pub noted_as : (old new : Calls) (l : ℕ) (v : Verb) (slow g : Bool) → g ≡ queues_up v

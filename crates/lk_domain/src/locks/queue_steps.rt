@@ -21,7 +21,6 @@ use crate::cpu::Cpu;
 use crate::domain::Domain;
 use crate::notes::Standing;
 use crate::part::{Link, Part};
-use crate::plan::MOST_LOCKS;
 use lk_abs::LockName;
 use lk_rows::{Flag, Verb};
 use lk_word::NodeName;
@@ -91,7 +90,6 @@ pub fn enter_bare(cpu: &mut Cpu, domain: &Domain, verb: Verb, lock: LockName)
     ensures rest { KeepsRest cpu.old cpu.new }
     ensures row { Went (Number (slows (calls_of cpu.old).frames)) cpu.old cpu.new }
 {
-    prove!(domain.plan.locks.len() <= MOST_LOCKS);
     node_moves::enter_bare(&mut cpu.seat, domain, lock);
     let after = Standing {
         waits: true,
@@ -186,7 +184,6 @@ pub fn sole_claim(cpu: &mut Cpu, domain: &Domain, verb: Verb, lock: LockName, ow
     ensures rest { KeepsRest cpu.old cpu.new }
     ensures step { Made verb lock.index cpu.old result cpu.new }
 {
-    prove!(domain.plan.locks.len() <= MOST_LOCKS);
     let alone = domain.plan.tail_of(own);
     let met = moves::sole_claim(&mut cpu.seat, domain, lock, own);
     let goes_on = queues_up(verb);

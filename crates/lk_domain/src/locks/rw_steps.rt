@@ -18,7 +18,6 @@ use super::rw_moves::{RwUse, act_by};
 use crate::cpu::Cpu;
 use crate::domain::Domain;
 use crate::notes::Standing;
-use crate::plan::MOST_LOCKS;
 use lk_abs::LockName;
 use lk_rows::Verb;
 use lk_word::{has_no_writer, has_only_waiting, lets_readers_in};
@@ -85,7 +84,6 @@ pub(crate) fn watch(cpu: &mut Cpu, domain: &Domain, verb: Verb, lock: u32) -> u6
     ensures rest { KeepsRest cpu.old cpu.new }
     ensures step { MadeShared verb lock cpu.old result cpu.new }
 {
-    prove!(domain.plan.locks.len() <= MOST_LOCKS);
     let alone = cpu.notes.depth == 1;
     let met = act_by(&mut cpu.seat, domain, verb, lock, RwUse::Watches);
     let waits = waits_after_watch(verb, alone, met);
@@ -113,7 +111,6 @@ pub fn join_first(cpu: &mut Cpu, domain: &Domain, verb: Verb, lock: LockName) ->
     ensures rest { KeepsRest cpu.old cpu.new }
     ensures step { MadeShared verb lock.index cpu.old result cpu.new }
 {
-    prove!(domain.plan.locks.len() <= MOST_LOCKS);
     let met = act_by(&mut cpu.seat, domain, Verb::Read, lock.index, RwUse::Joins);
     cpu.notes.first_step(lock.index, lets_readers_in(met));
     met
@@ -130,8 +127,7 @@ pub fn add_bias(cpu: &mut Cpu, domain: &Domain, verb: Verb, lock: LockName) -> u
     ensures rest { KeepsRest cpu.old cpu.new }
     ensures step { MadeShared verb lock.index cpu.old result cpu.new }
 {
-    prove!(domain.plan.locks.len() <= MOST_LOCKS);
-    let waited = cpu.notes.waiting[lock.index as usize];
+    let waited = cpu.notes.waits(lock.index);
     let met = act_by(&mut cpu.seat, domain, verb, lock.index, RwUse::Joins);
     let waits = waits_after_join(verb, waited, met);
     let has = has_after_join(verb, waited, met);
@@ -158,7 +154,6 @@ pub fn seize_first(cpu: &mut Cpu, domain: &Domain, verb: Verb, lock: LockName) -
     ensures rest { KeepsRest cpu.old cpu.new }
     ensures step { MadeShared verb lock.index cpu.old result cpu.new }
 {
-    prove!(domain.plan.locks.len() <= MOST_LOCKS);
     let met = act_by(
         &mut cpu.seat,
         domain,
@@ -182,8 +177,7 @@ pub fn empty_to_writer(cpu: &mut Cpu, domain: &Domain, verb: Verb, lock: LockNam
     ensures rest { KeepsRest cpu.old cpu.new }
     ensures step { MadeShared verb lock.index cpu.old result cpu.new }
 {
-    prove!(domain.plan.locks.len() <= MOST_LOCKS);
-    let waited = cpu.notes.waiting[lock.index as usize];
+    let waited = cpu.notes.waits(lock.index);
     let met = act_by(&mut cpu.seat, domain, verb, lock.index, RwUse::Seizes);
     let waits = waits_after_seize(verb, waited, met);
     let after = Standing {
@@ -214,7 +208,6 @@ fn give_up(cpu: &mut Cpu, domain: &Domain, lock: u32) -> u64
     ensures rest { KeepsRest cpu.old cpu.new }
     ensures step { MadeShared TryRead lock cpu.old result cpu.new }
 {
-    prove!(domain.plan.locks.len() <= MOST_LOCKS);
     let met = act_by(&mut cpu.seat, domain, Verb::TryRead, lock, RwUse::Quits);
     let after = Standing {
         waits: false,
@@ -234,9 +227,8 @@ fn release_as_reader(cpu: &mut Cpu, domain: &Domain, lock: u32) -> u64
     ensures rest { KeepsRest cpu.old cpu.new }
     ensures step { MadeShared RUnlock lock cpu.old result cpu.new }
 {
-    prove!(domain.plan.locks.len() <= MOST_LOCKS);
     let met = act_by(&mut cpu.seat, domain, Verb::RUnlock, lock, RwUse::Quits);
-    cpu.notes.held[lock as usize] = false;
+    cpu.notes.free(lock);
     met
 }
 
@@ -289,7 +281,6 @@ pub fn waiting_to_writer(cpu: &mut Cpu, domain: &Domain, verb: Verb, lock: LockN
     ensures rest { KeepsRest cpu.old cpu.new }
     ensures step { MadeShared verb lock.index cpu.old result cpu.new }
 {
-    prove!(domain.plan.locks.len() <= MOST_LOCKS);
     let met = act_by(
         &mut cpu.seat,
         domain,
@@ -318,7 +309,6 @@ pub fn writer_release(cpu: &mut Cpu, domain: &Domain, verb: Verb, lock: LockName
     ensures rest { KeepsRest cpu.old cpu.new }
     ensures step { MadeShared verb lock.index cpu.old result cpu.new }
 {
-    prove!(domain.plan.locks.len() <= MOST_LOCKS);
     let met = act_by(
         &mut cpu.seat,
         domain,
@@ -326,6 +316,6 @@ pub fn writer_release(cpu: &mut Cpu, domain: &Domain, verb: Verb, lock: LockName
         lock.index,
         RwUse::Leaves,
     );
-    cpu.notes.held[lock.index as usize] = false;
+    cpu.notes.free(lock.index);
     met
 }

@@ -31,7 +31,6 @@ use super::{moves, rw_steps};
 use crate::cpu::{Cpu, Right};
 use crate::domain::Domain;
 use crate::notes::Standing;
-use crate::plan::MOST_LOCKS;
 use lk_abs::LockName;
 use lk_rows::Verb;
 
@@ -95,8 +94,7 @@ fn look_word(cpu: &mut Cpu, domain: &Domain, verb: Verb, lock: LockName) -> u64
     ensures rest { KeepsRest cpu.old cpu.new }
     ensures step { Made verb lock.index cpu.old result cpu.new }
 {
-    prove!(domain.plan.locks.len() <= MOST_LOCKS);
-    let slow = cpu.notes.slow[lock.index as usize];
+    let slow = cpu.notes.is_slow(lock.index);
     let met = seat_looks(&mut cpu.seat, domain, verb, lock);
     let waits = waits_after_look(verb, met);
     let after = Standing {
@@ -141,8 +139,7 @@ pub fn take_free(cpu: &mut Cpu, domain: &Domain, verb: Verb, lock: LockName) -> 
     ensures rest { KeepsRest cpu.old cpu.new }
     ensures step { Made verb lock.index cpu.old result cpu.new }
 {
-    prove!(domain.plan.locks.len() <= MOST_LOCKS);
-    let slow = cpu.notes.slow[lock.index as usize];
+    let slow = cpu.notes.is_slow(lock.index);
     let met = seat_takes(&mut cpu.seat, domain, verb, lock);
     let waits = waits_after_take(verb, met);
     let has = has_after_take(verb, met);
@@ -167,7 +164,6 @@ pub fn take_first(cpu: &mut Cpu, domain: &Domain, verb: Verb, lock: LockName) ->
     ensures rest { KeepsRest cpu.old cpu.new }
     ensures step { Made verb lock.index cpu.old result cpu.new }
 {
-    prove!(domain.plan.locks.len() <= MOST_LOCKS);
     let met = moves::take_free(&mut cpu.seat, &domain.table, &domain.plan, lock.index);
     cpu.notes.first_step(lock.index, met == 0);
     met
@@ -183,9 +179,8 @@ fn free_lock(cpu: &mut Cpu, domain: &Domain, lock: u32) -> u64
     ensures rest { KeepsRest cpu.old cpu.new }
     ensures step { Made Unlock lock cpu.old result cpu.new }
 {
-    prove!(domain.plan.locks.len() <= MOST_LOCKS);
     let met = moves::release(&mut cpu.seat, domain, lock);
-    cpu.notes.held[lock as usize] = false;
+    cpu.notes.free(lock);
     met
 }
 
@@ -198,7 +193,6 @@ fn free_wait(cpu: &mut Cpu, domain: &Domain, verb: Verb, lock: LockName) -> u64
     ensures rest { KeepsRest cpu.old cpu.new }
     ensures step { Made verb lock.index cpu.old result cpu.new }
 {
-    prove!(domain.plan.locks.len() <= MOST_LOCKS);
     let met = moves::go_on(
         &mut cpu.seat,
         &domain.table,
@@ -276,7 +270,6 @@ pub fn pending_to_locked(cpu: &mut Cpu, domain: &Domain, verb: Verb, lock: LockN
     ensures rest { KeepsRest cpu.old cpu.new }
     ensures step { Made verb lock.index cpu.old result cpu.new }
 {
-    prove!(domain.plan.locks.len() <= MOST_LOCKS);
     let met = moves::go_on(
         &mut cpu.seat,
         &domain.table,

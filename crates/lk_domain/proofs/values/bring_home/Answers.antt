@@ -1,6 +1,7 @@
 use Rattle.std.proofs.Common.{ℕ, refl, sym, ap, ◌∙◌, subst, false, arith}
-use Rattle.lk_domain.specs.Calls.{Calls, are_calls}
+use Rattle.lk_domain.specs.Calls.{are_calls}
 use Rattle.lk_domain.specs.Marked.{IsNoted}
+use Rattle.lk_domain.specs.Plans.{locks_of}
 use Rattle.lk_domain.specs.Values.{IsNewestAt, bringing, lock_of}
 use Rattle.lk_domain.specs.declared.view.View.{View}
 use Rattle.lk_domain.proofs.Seating.{table_of, seat_of}
@@ -29,8 +30,8 @@ invariant_of-cpu c =
     let l = lock_of c.args.domain.now.plan c.args.lock.index in
     record {
       numbered = ap (λ (v : View). v.who.number) view ∙ cpu.numbered;
-      noted = subst (λ (x : Calls). IsNoted cpu.notes x) (sym (ap (λ (v : View). v.calls) view))
-          (mark_noted cpu.notes cpu.seat.me.0.calls l false cpu.noted);
+      noted = subst (λ (v : View). IsNoted cpu.notes (locks_of v.who.plan) v.calls) (sym view)
+          (mark_noted cpu.notes (locks_of cpu.seat.me.0.who.plan) cpu.seat.me.0.calls l false cpu.noted);
       apart = ap (λ (v : View). are_calls v.calls.frames) view ∙ cpu.apart;
       carried = c.bring.ensures.carried;
     }

@@ -4,8 +4,10 @@ use Rattle.atomic_table.specs.Table.{step, Me}
 use Rattle.lk_domain.specs.Calls.{no_calls, are_calls}
 use Rattle.lk_domain.specs.Keeps.{Slot}
 use Rattle.lk_domain.specs.Marked.{IsNoted}
+use Rattle.lk_domain.specs.Plans.{locks_of}
 use Rattle.lk_domain.specs.Plays.{carried_with, carried_of}
 use Rattle.lk_domain.specs.Views.{dealer, view}
+use Rattle.lk_domain.specs.declared.plan.Plan.{Plan}
 use Rattle.lk_domain.specs.declared.view.View.{View}
 use Rattle.lk_domain.proofs.seats.Dealt.{draws, drawn_by}
 use Rattle.lk_domain.proofs.seats.Parted.{splits_at}
@@ -42,7 +44,8 @@ invariant_of-result c =
     let few = d.lawful.cpus in
     record {
       numbered = ap (λ (v : View). v.who.number) at ∙ (ap (λ (v : View). Some (Rattle.lk_domain.specs.Views.own_number v.who.number)) t.1 ∙ (let z = t.0 in let y = c.requires.low in ap Some (omega arith)));
-      noted = subst (λ (x : Rattle.lk_domain.specs.Calls.Calls). IsNoted c.new.result x) (sym calls) c.new.ensures;
+      noted = subst (λ (v : View). IsNoted c.args.notes (locks_of v.who.plan) v.calls) (sym at)
+          (subst (λ (k : Plan). IsNoted c.args.notes (locks_of k) no_calls) (sym (ap (λ (v : View). v.who.plan) t.1)) c.requires.notes);
       apart = ap (λ (x : Rattle.lk_domain.specs.Calls.Calls). are_calls x.frames) calls;
       carried = ap (λ (x : Me Slot View). x.1) c.split_seat-seat.ensures.4 ∙ sym (ap carried_of at ∙ ap (λ (v : View). carried_with [] v.ledger.out) t.1);
     }

@@ -3,6 +3,7 @@ use Rattle.lk_law.specs.Leads.{Linked}
 use Rattle.lk_domain.proofs.turns.Carried as row
 use Rattle.lk_domain.proofs.turns.Noted.{stays}
 use Rattle.lk_domain.proofs.turns.Stepped as stepped
+use Rattle.lk_domain.specs.Plans.{locks_of}
 use Rattle.lk_domain.proofs.locks.choice_steps.look_next.Goals as goal
 
 pub invariant_of-cpu : goal.invariant_of-cpu
@@ -15,7 +16,8 @@ invariant_of-cpu c =
     let t = stepped.skipped c.args.verb at.lock m n cpu.apart cpu.noted.few seen.found seen.mark at.at seen.seat in
     record {
       numbered = row.node_numbered (Linked seen.found seen.mark) m n seen.seat cpu.numbered;
-      noted = stays cpu.notes m.0.calls n.0.calls at.lock.index _ cpu.noted t.steps (t.on refl) t.was;
+      noted = row.node_noted (Linked seen.found seen.mark) m n seen.seat
+          (stays cpu.notes (locks_of m.0.who.plan) m.0.calls n.0.calls at.lock.index _ cpu.noted t.steps (t.on refl) t.was);
       apart = t.apart;
       carried = row.node_carried (Linked seen.found seen.mark) m n seen.seat cpu.carried;
     }

@@ -2,6 +2,7 @@ use Rattle.std.proofs.Common.{refl}
 use Rattle.lk_domain.proofs.turns.Carried as row
 use Rattle.lk_domain.proofs.turns.Noted.{stays}
 use Rattle.lk_domain.proofs.turns.Stepped as stepped
+use Rattle.lk_domain.specs.Plans.{locks_of}
 use Rattle.lk_domain.proofs.locks.choice_steps.tail_to_second.Goals as goal
 
 pub returns-clause-rest : goal.returns-clause-rest
@@ -33,7 +34,8 @@ invariant_of-cpu c =
     let t = stepped.promotes v l met m n made cpu.apart cpu.noted.few at.acts in
     record {
       numbered = row.numbered v l.index met m n made cpu.numbered;
-      noted = stays cpu.notes m.0.calls n.0.calls l.index _ cpu.noted t.steps (t.on refl) t.was;
+      noted = row.noted v l.index met m n made
+          (stays cpu.notes (locks_of m.0.who.plan) m.0.calls n.0.calls l.index _ cpu.noted t.steps (t.on refl) t.was);
       apart = t.apart;
       carried = row.carried v l.index met m n made cpu.carried;
     }

@@ -2,18 +2,25 @@ use Rattle.lk_law.specs.Leads.{Number}
 use Rattle.lk_domain.specs.Calls.{slows}
 use Rattle.lk_domain.proofs.turns.Carried as row
 use Rattle.lk_domain.proofs.turns.Stepped as stepped
+use Rattle.lk_domain.specs.Plans.{locks_of}
+use Rattle.lk_domain.proofs.Seating.{low_of}
 use Rattle.lk_domain.proofs.locks.queue_steps.enter_bare.Goals as goal
 
-pub step-requires-clause-steps : goal.step-requires-clause-steps
-step-requires-clause-steps c =
+pub step-requires : goal.step-requires
+step-requires c =
     let cpu = c.args.cpu.now in
     let m = cpu.seat.me in
-    let n = c.enter_bare.new.seat.me in (
-      m.0.calls,
-      n.0.calls,
-      cpu.noted,
-      (stepped.enters c.args.verb c.args.lock m n cpu.apart cpu.noted.few 0 c.requires.row.at c.enter_bare.ensures.step).steps,
-    )
+    let n = c.enter_bare.new.seat.me in
+    record {
+      steps = (
+        locks_of m.0.who.plan,
+        m.0.calls,
+        n.0.calls,
+        cpu.noted,
+        low_of cpu c.args.domain.now c.args.lock.index c.requires.domain c.requires.lock,
+        (stepped.enters c.args.verb c.args.lock m n cpu.apart cpu.noted.few 0 c.requires.row.at c.enter_bare.ensures.step).steps,
+      );
+    }
 
 pub invariant_of-cpu : goal.invariant_of-cpu
 invariant_of-cpu c =
@@ -24,7 +31,8 @@ invariant_of-cpu c =
     let t = stepped.enters c.args.verb c.args.lock m n cpu.apart cpu.noted.few 0 c.requires.row.at told in
     record {
       numbered = row.node_numbered (Number (slows m.0.calls.frames)) m n told cpu.numbered;
-      noted = c.step.ensures m.0.calls n.0.calls cpu.noted t.steps;
+      noted = row.node_noted (Number (slows m.0.calls.frames)) m n told
+          (c.step.ensures (locks_of m.0.who.plan) m.0.calls n.0.calls cpu.noted (low_of cpu c.args.domain.now c.args.lock.index c.requires.domain c.requires.lock) t.steps);
       apart = t.apart;
       carried = row.node_carried (Number (slows m.0.calls.frames)) m n told cpu.carried;
     }

@@ -7,6 +7,7 @@ use Rattle.lk_domain.proofs.Seating.{table_of}
 use Rattle.lk_domain.proofs.turns.Carried as row
 use Rattle.lk_domain.proofs.turns.Noted.{stays}
 use Rattle.lk_domain.proofs.turns.Stepped as stepped
+use Rattle.lk_domain.specs.Plans.{locks_of}
 use Rattle.lk_domain.proofs.locks.queue_steps.look_own.Goals as goal
 
 pub invariant_of-cpu-in-Next : goal.invariant_of-cpu-in-Next
@@ -19,8 +20,9 @@ invariant_of-cpu-in-Next c =
     let t = stepped.behind c.args.verb at.lock m n cpu.apart cpu.noted.few at.row at.is seen.found seen.mark at.at seen.seat in
     record {
       numbered = row.node_numbered (Linked seen.found seen.mark) m n seen.seat cpu.numbered;
-      noted = stays cpu.notes m.0.calls n.0.calls at.lock.index _ cpu.noted t.steps (t.on (stepped.behind_later at.row at.is))
-          (t.was ∙ stepped.behind_slow at.row at.is);
+      noted = row.node_noted (Linked seen.found seen.mark) m n seen.seat
+          (stays cpu.notes (locks_of m.0.who.plan) m.0.calls n.0.calls at.lock.index _ cpu.noted t.steps (t.on (stepped.behind_later at.row at.is))
+          (t.was ∙ stepped.behind_slow at.row at.is));
       apart = t.apart;
       carried = row.node_carried (Linked seen.found seen.mark) m n seen.seat cpu.carried;
     }

@@ -4,6 +4,7 @@ use Rattle.lk_domain.proofs.turns.Noted.{stays}
 use Rattle.lk_domain.proofs.turns.Stepped as stepped
 use Rattle.lk_domain.proofs.Seating.{table_of}
 use Rattle.lk_domain.proofs.words.Goings.{at_stake}
+use Rattle.lk_domain.specs.Plans.{locks_of}
 use Rattle.lk_domain.proofs.locks.queue_steps.set_locked.Goals as goal
 
 pub invariant_of-cpu : goal.invariant_of-cpu
@@ -18,7 +19,8 @@ invariant_of-cpu c =
     let t = stepped.stakes v l met m n made cpu.apart cpu.noted.few c.requires.row in
     record {
       numbered = row.numbered v l.index met m n made cpu.numbered;
-      noted = stays cpu.notes m.0.calls n.0.calls l.index _ cpu.noted t.steps (t.on refl) t.was;
+      noted = row.noted v l.index met m n made
+          (stays cpu.notes (locks_of m.0.who.plan) m.0.calls n.0.calls l.index _ cpu.noted t.steps (t.on refl) t.was);
       apart = t.apart;
       carried = row.carried v l.index met m n made cpu.carried;
     }

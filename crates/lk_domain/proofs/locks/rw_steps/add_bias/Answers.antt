@@ -2,6 +2,8 @@ use Rattle.std.proofs.Common.{arith, ◌<◌}
 use Rattle.lk_domain.specs.Calls.{waits_in}
 use Rattle.lk_domain.specs.RwRows.{joins_at, joins_by}
 use Rattle.lk_domain.proofs.rw.Stepped as stepped
+use Rattle.lk_domain.specs.Plans.{locks_of}
+use Rattle.lk_domain.proofs.Seating.{low_of}
 use Rattle.lk_domain.proofs.locks.rw_steps.add_bias.Goals as goal
 
 pub act_by-met-requires-clause-row : goal.act_by-met-requires-clause-row
@@ -12,8 +14,8 @@ act_by-met-requires-clause-row c =
     let b = waits_in m.0.calls.frames l in
     stepped.acts_as (joins_at b v) (joins_by v) (stepped.join_kind b v) m.0 v l c.requires.row
 
-pub step-requires-clause-steps : goal.step-requires-clause-steps
-step-requires-clause-steps c =
+pub step-requires : goal.step-requires
+step-requires c =
     let cpu = c.args.cpu.now in
     let m = cpu.seat.me in
     let n = c.act_by-met.new.seat.me in
@@ -22,12 +24,16 @@ step-requires-clause-steps c =
     let met = c.act_by-met.result in
     let made = c.act_by-met.ensures.step in
     let b = waits_in m.0.calls.frames l in
-    let lt : l < 32 = (let lock = c.requires.lock in let few = c.args.domain.now.lawful.locks in omega arith) in (
-      m.0.calls,
-      n.0.calls,
-      cpu.noted,
-      stepped.join_noted v l met m n made cpu.apart cpu.noted.few b _ (cpu.noted.noted.each l) c.requires.row c.waits_after_join-waits.result c.has_after_join-has.result c.waits_after_join-waits.ensures c.has_after_join-has.ensures,
-    )
+    record {
+      steps = (
+        locks_of m.0.who.plan,
+        m.0.calls,
+        n.0.calls,
+        cpu.noted,
+        low_of cpu c.args.domain.now c.args.lock.index c.requires.domain c.requires.lock,
+        stepped.join_noted v l met m n made cpu.apart cpu.noted.few b _ (c.waits-waited.ensures (locks_of m.0.who.plan) m.0.calls cpu.noted) c.requires.row c.waits_after_join-waits.result c.has_after_join-has.result c.waits_after_join-waits.ensures c.has_after_join-has.ensures,
+      );
+    }
 
 pub invariant_of-cpu : goal.invariant_of-cpu
 invariant_of-cpu c =
@@ -39,11 +45,16 @@ invariant_of-cpu c =
     let met = c.act_by-met.result in
     let made = c.act_by-met.ensures.step in
     let b = waits_in m.0.calls.frames l in
-    let lt : l < 32 = (let lock = c.requires.lock in let few = c.args.domain.now.lawful.locks in omega arith) in
     record {
       numbered = stepped.numbered v l met m n made cpu.apart cpu.noted.few cpu.numbered;
-      noted = c.step.ensures m.0.calls n.0.calls cpu.noted
-          (stepped.join_noted v l met m n made cpu.apart cpu.noted.few b _ (cpu.noted.noted.each l) c.requires.row c.waits_after_join-waits.result c.has_after_join-has.result c.waits_after_join-waits.ensures c.has_after_join-has.ensures);
+      noted = stepped.noted v l met m n made cpu.apart cpu.noted.few
+          (c.step.ensures (locks_of m.0.who.plan) m.0.calls n.0.calls cpu.noted (low_of cpu c.args.domain.now c.args.lock.index c.requires.domain c.requires.lock)
+          (stepped.join_noted v l met m n made cpu.apart cpu.noted.few b _ (c.waits-waited.ensures (locks_of m.0.who.plan) m.0.calls cpu.noted) c.requires.row c.waits_after_join-waits.result c.has_after_join-has.result c.waits_after_join-waits.ensures c.has_after_join-has.ensures));
       apart = (stepped.join v l met m n made cpu.apart cpu.noted.few b c.requires.row).apart;
       carried = stepped.carried v l met m n made cpu.apart cpu.noted.few cpu.carried;
     }
+
+pub waits-waited-requires : goal.waits-waited-requires
+waits-waited-requires c =
+    let cpu = c.args.cpu.now in
+    record { some = (locks_of cpu.seat.me.0.who.plan, cpu.seat.me.0.calls, cpu.noted) }

@@ -1,18 +1,25 @@
 use Rattle.std.proofs.Common.{refl}
 use Rattle.lk_rows.specs.declared.setup.Verb.TheVariants.{TryRead}
 use Rattle.lk_domain.proofs.rw.Stepped as stepped
+use Rattle.lk_domain.specs.Plans.{locks_of}
+use Rattle.lk_domain.proofs.Seating.{low_of}
 use Rattle.lk_domain.proofs.locks.rw_steps.give_up.Goals as goal
 
-pub step-requires-clause-steps : goal.step-requires-clause-steps
-step-requires-clause-steps c =
+pub step-requires : goal.step-requires
+step-requires c =
     let cpu = c.args.cpu.now in
     let m = cpu.seat.me in
-    let n = c.act_by-met.new.seat.me in (
-      m.0.calls,
-      n.0.calls,
-      cpu.noted,
-      (stepped.quit TryRead c.args.lock c.act_by-met.result m n c.act_by-met.ensures.step cpu.apart cpu.noted.few c.requires.row refl).steps,
-    )
+    let n = c.act_by-met.new.seat.me in
+    record {
+      steps = (
+        locks_of m.0.who.plan,
+        m.0.calls,
+        n.0.calls,
+        cpu.noted,
+        low_of cpu c.args.domain.now c.args.lock c.requires.domain c.requires.lock,
+        (stepped.quit TryRead c.args.lock c.act_by-met.result m n c.act_by-met.ensures.step cpu.apart cpu.noted.few c.requires.row refl).steps,
+      );
+    }
 
 pub invariant_of-cpu : goal.invariant_of-cpu
 invariant_of-cpu c =
@@ -24,7 +31,8 @@ invariant_of-cpu c =
     let t = stepped.quit TryRead c.args.lock met m n made cpu.apart cpu.noted.few c.requires.row refl in
     record {
       numbered = stepped.numbered TryRead c.args.lock met m n made cpu.apart cpu.noted.few cpu.numbered;
-      noted = c.step.ensures m.0.calls n.0.calls cpu.noted t.steps;
+      noted = stepped.noted TryRead c.args.lock met m n made cpu.apart cpu.noted.few
+          (c.step.ensures (locks_of m.0.who.plan) m.0.calls n.0.calls cpu.noted (low_of cpu c.args.domain.now c.args.lock c.requires.domain c.requires.lock) t.steps);
       apart = t.apart;
       carried = stepped.carried TryRead c.args.lock met m n made cpu.apart cpu.noted.few cpu.carried;
     }

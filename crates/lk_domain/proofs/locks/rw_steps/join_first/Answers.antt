@@ -7,6 +7,8 @@ use Rattle.lk_domain.specs.RwPlays.{ActsFor}
 use Rattle.lk_domain.specs.RwRows.{joins_at, joins_by}
 use Rattle.lk_domain.specs.declared.view.View.{View}
 use Rattle.lk_domain.proofs.rw.Stepped as stepped
+use Rattle.lk_domain.specs.Plans.{locks_of}
+use Rattle.lk_domain.proofs.Seating.{low_of}
 use Rattle.lk_domain.proofs.locks.rw_steps.join_first.Goals as goal
 
 by_verb : (b : Bool) (v : Verb) (w : View) (l : ℕ) → v ≡ Read → ActsFor (joins_at b v) w v l → ActsFor (joins_at b Read) w Read l
@@ -20,26 +22,26 @@ act_by-met-requires-clause-row c =
     stepped.acts_as (joins_at b Read) (joins_by Read) (stepped.join_kind b Read) m.0 Read l
     (by_verb b c.args.verb m.0 l c.requires.verb c.requires.row)
 
-pub first_step-requires-clause-fresh : goal.first_step-requires-clause-fresh
-first_step-requires-clause-fresh c =
-    let lt : c.args.lock.index < 32 = (let lock = c.requires.lock in let few = c.args.domain.now.lawful.locks in omega arith) in
-    c.args.cpu.now.noted.noted.each c.args.lock.index ∙ c.requires.fresh
-
-pub first_step-requires-clause-steps : goal.first_step-requires-clause-steps
-first_step-requires-clause-steps c =
+pub first_step-requires : goal.first_step-requires
+first_step-requires c =
     let cpu = c.args.cpu.now in
     let m = cpu.seat.me in
     let n = c.act_by-met.new.seat.me in
     let l = c.args.lock.index in
     let met = c.act_by-met.result in
     let made = c.act_by-met.ensures.step in
-    let b = waits_in m.0.calls.frames l in (
-      m.0.calls,
-      n.0.calls,
-      cpu.noted,
-      stepped.join_noted Read l met m n made cpu.apart cpu.noted.few b false (sym c.requires.fresh)
-          (by_verb b c.args.verb m.0 l c.requires.verb c.requires.row) _ _ (ap not c.lets_readers_in.ensures) c.lets_readers_in.ensures,
-    )
+    let b = waits_in m.0.calls.frames l in
+    record {
+      steps = (
+        locks_of m.0.who.plan,
+        m.0.calls,
+        n.0.calls,
+        cpu.noted,
+        low_of cpu c.args.domain.now c.args.lock.index c.requires.domain c.requires.lock,
+        stepped.join_noted Read l met m n made cpu.apart cpu.noted.few b false (sym c.requires.fresh)
+            (by_verb b c.args.verb m.0 l c.requires.verb c.requires.row) _ _ (ap not c.lets_readers_in.ensures) c.lets_readers_in.ensures,
+      );
+    }
 
 pub invariant_of-cpu : goal.invariant_of-cpu
 invariant_of-cpu c =
@@ -53,8 +55,9 @@ invariant_of-cpu c =
     let row = by_verb b c.args.verb m.0 l c.requires.verb c.requires.row in
     record {
       numbered = stepped.numbered Read l met m n made cpu.apart cpu.noted.few cpu.numbered;
-      noted = c.first_step.ensures m.0.calls n.0.calls cpu.noted
-          (stepped.join_noted Read l met m n made cpu.apart cpu.noted.few b false (sym c.requires.fresh) row _ _ (ap not c.lets_readers_in.ensures) c.lets_readers_in.ensures);
+      noted = stepped.noted Read l met m n made cpu.apart cpu.noted.few
+          (c.first_step.ensures (locks_of m.0.who.plan) m.0.calls n.0.calls cpu.noted (low_of cpu c.args.domain.now c.args.lock.index c.requires.domain c.requires.lock) c.requires.fresh
+          (stepped.join_noted Read l met m n made cpu.apart cpu.noted.few b false (sym c.requires.fresh) row _ _ (ap not c.lets_readers_in.ensures) c.lets_readers_in.ensures));
       apart = (stepped.join Read l met m n made cpu.apart cpu.noted.few b row).apart;
       carried = stepped.carried Read l met m n made cpu.apart cpu.noted.few cpu.carried;
     }

@@ -1,10 +1,11 @@
 use Rattle.std.proofs.Common.{ap, arith, ◌<◌, ◌∙◌}
 use Rattle.lk_rows.specs.declared.setup.Verb.TheVariants.{RUnlock}
 use Rattle.lk_domain.specs.Calls.{are_calls}
-use Rattle.lk_domain.proofs.turns.Noted.{freed_noted}
 use Rattle.lk_domain.proofs.rw.Released as released
 use Rattle.lk_domain.proofs.rw.Released.{reader}
 use Rattle.lk_domain.proofs.rw.Stepped as stepped
+use Rattle.lk_domain.specs.Plans.{locks_of}
+use Rattle.lk_domain.proofs.Seating.{low_of}
 use Rattle.lk_domain.proofs.locks.rw_steps.release_as_reader.Goals as goal
 
 pub invariant_of-cpu : goal.invariant_of-cpu
@@ -15,11 +16,21 @@ invariant_of-cpu c =
     let n = c.act_by-met.new.seat.me in
     let met = c.act_by-met.result in
     let made = c.act_by-met.ensures.step in
-    let lt : l < 32 = (let lock = c.requires.lock in let few = c.args.domain.now.lawful.locks in omega arith) in
     let e = released.ended RUnlock reader l met m n made cpu.apart in
     record {
       numbered = stepped.numbered RUnlock l met m n made cpu.apart cpu.noted.few cpu.numbered;
-      noted = freed_noted cpu.notes m.0.calls n.0.calls _ e.frames (released.held RUnlock reader l met m n made cpu.apart cpu.notes.held lt cpu.noted.marked) cpu.noted;
+      noted = stepped.noted RUnlock l met m n made cpu.apart cpu.noted.few
+          (c.free.ensures (locks_of m.0.who.plan) m.0.calls n.0.calls cpu.noted (low_of cpu c.args.domain.now c.args.lock c.requires.domain c.requires.lock) e.frames
+          (released.none RUnlock reader l met m n made cpu.apart) (released.other_holds RUnlock reader l met m n made cpu.apart));
       apart = ap are_calls e.frames ∙ cpu.apart;
       carried = stepped.carried RUnlock l met m n made cpu.apart cpu.noted.few cpu.carried;
     }
+
+pub free-requires : goal.free-requires
+free-requires c =
+    let cpu = c.args.cpu.now in (
+      locks_of cpu.seat.me.0.who.plan,
+      cpu.seat.me.0.calls,
+      cpu.noted,
+      low_of cpu c.args.domain.now c.args.lock c.requires.domain c.requires.lock,
+    )

@@ -1,6 +1,7 @@
 use Rattle.lk_rows.specs.declared.setup.Verb.TheVariants.{Write}
 use Rattle.lk_domain.specs.RwRows.{awaits_by}
 use Rattle.lk_domain.proofs.rw.Stepped as stepped
+use Rattle.lk_domain.specs.Plans.{locks_of}
 use Rattle.lk_domain.proofs.locks.rw_steps.set_waiting.Goals as goal
 
 pub act_by-requires-clause-row : goal.act_by-requires-clause-row
@@ -18,7 +19,8 @@ invariant_of-cpu c =
     let acts = stepped.as_one awaits_by Write stepped.await_is m.0 c.args.verb l c.requires.row in
     record {
       numbered = stepped.numbered Write l met m n made cpu.apart cpu.noted.few cpu.numbered;
-      noted = stepped.await_noted Write l met m n made cpu.apart cpu.noted.few cpu.notes cpu.noted acts;
+      noted = stepped.noted Write l met m n made cpu.apart cpu.noted.few
+          (stepped.await_noted Write l met m n made cpu.apart cpu.noted.few cpu.notes (locks_of m.0.who.plan) cpu.noted acts);
       apart = (stepped.await Write l met m n made cpu.apart cpu.noted.few acts).apart;
       carried = stepped.carried Write l met m n made cpu.apart cpu.noted.few cpu.carried;
     }

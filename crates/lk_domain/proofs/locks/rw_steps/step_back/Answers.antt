@@ -1,6 +1,7 @@
 use Rattle.std.proofs.Common.{refl}
 use Rattle.lk_rows.specs.declared.setup.Verb.TheVariants.{Read}
 use Rattle.lk_domain.proofs.rw.Stepped as stepped
+use Rattle.lk_domain.specs.Plans.{locks_of}
 use Rattle.lk_domain.proofs.locks.rw_steps.step_back.Goals as goal
 
 pub invariant_of-cpu : goal.invariant_of-cpu
@@ -12,7 +13,8 @@ invariant_of-cpu c =
     let made = c.act_by.ensures.step in
     record {
       numbered = stepped.numbered Read c.args.lock met m n made cpu.apart cpu.noted.few cpu.numbered;
-      noted = stepped.quit_noted c.args.lock met m n made cpu.apart cpu.noted.few cpu.notes cpu.noted c.requires.row;
+      noted = stepped.noted Read c.args.lock met m n made cpu.apart cpu.noted.few
+          (stepped.quit_noted c.args.lock met m n made cpu.apart cpu.noted.few cpu.notes (locks_of m.0.who.plan) cpu.noted c.requires.row);
       apart = (stepped.quit Read c.args.lock met m n made cpu.apart cpu.noted.few c.requires.row refl).apart;
       carried = stepped.carried Read c.args.lock met m n made cpu.apart cpu.noted.few cpu.carried;
     }

@@ -1,6 +1,8 @@
 use Rattle.std.proofs.Common.{ℕ, arith, ◌<◌, ap, eqb, length}
 use Rattle.lk_domain.specs.RwRows.{watches_at, watches_by}
 use Rattle.lk_domain.proofs.rw.Stepped as stepped
+use Rattle.lk_domain.specs.Plans.{locks_of}
+use Rattle.lk_domain.proofs.Seating.{low_of}
 use Rattle.lk_domain.proofs.locks.rw_steps.watch.Goals as goal
 
 pub act_by-met-requires-clause-row : goal.act_by-met-requires-clause-row
@@ -11,8 +13,8 @@ act_by-met-requires-clause-row c =
     let b = eqb (length m.0.calls.frames) 1 in
     stepped.acts_as (watches_at b v) (watches_by v) (stepped.watch_kind b v) m.0 v l c.requires.row
 
-pub step-requires-clause-steps : goal.step-requires-clause-steps
-step-requires-clause-steps c =
+pub step-requires : goal.step-requires
+step-requires c =
     let cpu = c.args.cpu.now in
     let m = cpu.seat.me in
     let n = c.act_by-met.new.seat.me in
@@ -21,12 +23,16 @@ step-requires-clause-steps c =
     let met = c.act_by-met.result in
     let made = c.act_by-met.ensures.step in
     let b = eqb (length m.0.calls.frames) 1 in
-    let lt : l < 32 = (let lock = c.requires.lock in let few = c.args.domain.now.lawful.locks in omega arith) in (
-      m.0.calls,
-      n.0.calls,
-      cpu.noted,
-      stepped.watch_noted v l met m n made cpu.apart cpu.noted.few b _ (ap (λ (d : ℕ). eqb d 1) cpu.noted.deep) c.requires.row c.waits_after_watch-waits.result c.has_after_watch-has.result c.waits_after_watch-waits.ensures c.has_after_watch-has.ensures,
-    )
+    record {
+      steps = (
+        locks_of m.0.who.plan,
+        m.0.calls,
+        n.0.calls,
+        cpu.noted,
+        low_of cpu c.args.domain.now c.args.lock c.requires.domain c.requires.lock,
+        stepped.watch_noted v l met m n made cpu.apart cpu.noted.few b _ (ap (λ (d : ℕ). eqb d 1) cpu.noted.deep) c.requires.row c.waits_after_watch-waits.result c.has_after_watch-has.result c.waits_after_watch-waits.ensures c.has_after_watch-has.ensures,
+      );
+    }
 
 pub invariant_of-cpu : goal.invariant_of-cpu
 invariant_of-cpu c =
@@ -38,11 +44,11 @@ invariant_of-cpu c =
     let met = c.act_by-met.result in
     let made = c.act_by-met.ensures.step in
     let b = eqb (length m.0.calls.frames) 1 in
-    let lt : l < 32 = (let lock = c.requires.lock in let few = c.args.domain.now.lawful.locks in omega arith) in
     record {
       numbered = stepped.numbered v l met m n made cpu.apart cpu.noted.few cpu.numbered;
-      noted = c.step.ensures m.0.calls n.0.calls cpu.noted
-          (stepped.watch_noted v l met m n made cpu.apart cpu.noted.few b _ (ap (λ (d : ℕ). eqb d 1) cpu.noted.deep) c.requires.row c.waits_after_watch-waits.result c.has_after_watch-has.result c.waits_after_watch-waits.ensures c.has_after_watch-has.ensures);
+      noted = stepped.noted v l met m n made cpu.apart cpu.noted.few
+          (c.step.ensures (locks_of m.0.who.plan) m.0.calls n.0.calls cpu.noted (low_of cpu c.args.domain.now c.args.lock c.requires.domain c.requires.lock)
+          (stepped.watch_noted v l met m n made cpu.apart cpu.noted.few b _ (ap (λ (d : ℕ). eqb d 1) cpu.noted.deep) c.requires.row c.waits_after_watch-waits.result c.has_after_watch-has.result c.waits_after_watch-waits.ensures c.has_after_watch-has.ensures));
       apart = (stepped.watch v l met m n made cpu.apart cpu.noted.few b c.requires.row).apart;
       carried = stepped.carried v l met m n made cpu.apart cpu.noted.few cpu.carried;
     }

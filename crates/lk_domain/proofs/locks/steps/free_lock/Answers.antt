@@ -5,7 +5,8 @@ use Rattle.lk_domain.specs.Calls.{are_calls}
 use Rattle.lk_domain.specs.declared.plan.Plan.{Plan}
 use Rattle.lk_domain.proofs.turns.Carried as row
 use Rattle.lk_domain.proofs.Freed as freed
-use Rattle.lk_domain.proofs.turns.Noted.{freed_noted}
+use Rattle.lk_domain.specs.Plans.{locks_of}
+use Rattle.lk_domain.proofs.Seating.{low_of}
 use Rattle.lk_domain.proofs.locks.steps.free_lock.Goals as goal
 
 pub invariant_of-cpu : goal.invariant_of-cpu
@@ -16,12 +17,22 @@ invariant_of-cpu c =
     let n = c.release-met.new.seat.me in
     let met = c.release-met.result in
     let made = c.release-met.ensures.step in
-    let lt : l < 32 = (let lock = c.requires.lock in let few = c.args.domain.now.lawful.locks in omega arith) in
     let awake = ap (λ (k : Plan). halts k.mode) c.requires.domain.plan ∙ c.requires.domain.awake in
     let frames = freed.frames_are l met m n made cpu.apart awake in
     record {
       numbered = row.numbered Unlock l met m n made cpu.numbered;
-      noted = freed_noted cpu.notes m.0.calls n.0.calls _ frames (freed.held l met m n made cpu.apart awake cpu.notes.held lt cpu.noted.marked) cpu.noted;
+      noted = row.noted Unlock l met m n made
+          (c.free.ensures (locks_of m.0.who.plan) m.0.calls n.0.calls cpu.noted (low_of cpu c.args.domain.now c.args.lock c.requires.domain c.requires.lock) frames
+          (freed.none l met m n made cpu.apart awake) (freed.other_holds l met m n made cpu.apart awake));
       apart = ap are_calls frames ∙ cpu.apart;
       carried = row.carried Unlock l met m n made cpu.carried;
     }
+
+pub free-requires : goal.free-requires
+free-requires c =
+    let cpu = c.args.cpu.now in (
+      locks_of cpu.seat.me.0.who.plan,
+      cpu.seat.me.0.calls,
+      cpu.noted,
+      low_of cpu c.args.domain.now c.args.lock c.requires.domain c.requires.lock,
+    )

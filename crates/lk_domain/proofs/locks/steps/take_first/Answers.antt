@@ -1,9 +1,9 @@
-use Rattle.std.proofs.Common.{◌≡◌, ℕ, Bool, false, arith, refl, subst, get_or, ◌<◌, ◌∙◌}
+use Rattle.std.proofs.Common.{◌≡◌, ℕ, Bool, false, arith, refl, subst, ◌<◌, ◌∙◌}
 use Rattle.std.specs.Prelude.{◌&&◌}
 use Rattle.lk_abs.specs.declared.names.LockName.{LockName}
 use Rattle.lk_rows.specs.declared.setup.Verb.TheVariants.{Lock}
 use Rattle.lk_rows.specs.declared.setup.Verb.{Verb}
-use Rattle.lk_domain.specs.Calls.{Calls}
+use Rattle.lk_domain.specs.Calls.{Calls, slow_in}
 use Rattle.lk_domain.specs.Marked.{Steps}
 use Rattle.lk_domain.specs.Plays.{ActsIn}
 use Rattle.lk_domain.specs.Rows.{takes_by}
@@ -11,7 +11,8 @@ use Rattle.lk_domain.specs.declared.view.View.{View}
 use Rattle.lk_domain.proofs.Turned.{none_slow}
 use Rattle.lk_domain.proofs.turns.Carried as row
 use Rattle.lk_domain.proofs.turns.Stepped as stepped
-use Rattle.lk_domain.proofs.Seating.{table_of}
+use Rattle.lk_domain.proofs.Seating.{table_of, low_of}
+use Rattle.lk_domain.specs.Plans.{locks_of}
 use Rattle.lk_domain.proofs.locks.steps.take_first.Goals as goal
 
 by_lock : (v : Verb) (w : View) (l : LockName) → v ≡ Lock → ActsIn (takes_by v) w v l → ActsIn (takes_by Lock) w Lock l
@@ -22,25 +23,24 @@ unslow : (old new : Calls) (l : ℕ) (slow waits taken : Bool) → slow ≡ fals
     → Steps old new l waits false taken
 unslow old new l slow waits taken = subst (λ (b : Bool). Steps old new l waits (b && waits) taken)
 
-pub first_step-requires-clause-fresh : goal.first_step-requires-clause-fresh
-first_step-requires-clause-fresh c =
-    let lt : c.args.lock.index < 32 = (let lock = c.requires.lock in let few = c.args.domain.now.lawful.locks in omega arith) in
-    c.args.cpu.now.noted.noted.each c.args.lock.index ∙ c.requires.fresh
-
-pub first_step-requires-clause-steps : goal.first_step-requires-clause-steps
-first_step-requires-clause-steps c =
+pub first_step-requires : goal.first_step-requires
+first_step-requires c =
     let cpu = c.args.cpu.now in
     let m = cpu.seat.me in
     let n = c.take_free-met.new.seat.me in
     let l = c.args.lock.index in
-    let lt : l < 32 = (let lock = c.requires.lock in let few = c.args.domain.now.lawful.locks in omega arith) in (
-      m.0.calls,
-      n.0.calls,
-      cpu.noted,
-      unslow m.0.calls n.0.calls l (get_or cpu.notes.slow l false) _ _ (cpu.noted.slow.each l ∙ none_slow m.0.calls.frames l c.requires.fresh)
-          (stepped.takes_noted Lock c.args.lock c.take_free-met.result m n c.take_free-met.ensures.step cpu.apart cpu.noted.few
-          cpu.notes cpu.noted lt (by_lock c.args.verb m.0 c.args.lock c.requires.verb c.requires.row) _ _ refl refl),
-    )
+    record {
+      steps = (
+        locks_of m.0.who.plan,
+        m.0.calls,
+        n.0.calls,
+        cpu.noted,
+        low_of cpu c.args.domain.now c.args.lock.index c.requires.domain c.requires.lock,
+        unslow m.0.calls n.0.calls l (slow_in m.0.calls.frames l) _ _ (none_slow m.0.calls.frames l c.requires.fresh)
+            (stepped.takes_noted Lock c.args.lock c.take_free-met.result m n c.take_free-met.ensures.step cpu.apart cpu.noted.few
+            (by_lock c.args.verb m.0 c.args.lock c.requires.verb c.requires.row) _ _ _ refl refl refl),
+      );
+    }
 
 pub invariant_of-cpu : goal.invariant_of-cpu
 invariant_of-cpu c =
@@ -51,13 +51,12 @@ invariant_of-cpu c =
     let met = c.take_free-met.result in
     let made = c.take_free-met.ensures.step in
     let row_is = by_lock c.args.verb m.0 l c.requires.verb c.requires.row in
-    let lt : l.index < 32 = (let lock = c.requires.lock in let few = c.args.domain.now.lawful.locks in omega arith) in
     record {
       numbered = row.numbered Lock l.index met m n made cpu.numbered;
-      noted = c.first_step.ensures m.0.calls n.0.calls cpu.noted
-          (unslow m.0.calls n.0.calls l.index (get_or cpu.notes.slow l.index false) _ _
-          (cpu.noted.slow.each l.index ∙ none_slow m.0.calls.frames l.index c.requires.fresh)
-          (stepped.takes_noted Lock l met m n made cpu.apart cpu.noted.few cpu.notes cpu.noted lt row_is _ _ refl refl));
+      noted = row.noted Lock l.index met m n made
+          (c.first_step.ensures (locks_of m.0.who.plan) m.0.calls n.0.calls cpu.noted (low_of cpu c.args.domain.now c.args.lock.index c.requires.domain c.requires.lock) c.requires.fresh
+          (unslow m.0.calls n.0.calls l.index (slow_in m.0.calls.frames l.index) _ _ (none_slow m.0.calls.frames l.index c.requires.fresh)
+          (stepped.takes_noted Lock l met m n made cpu.apart cpu.noted.few row_is _ _ _ refl refl refl)));
       apart = (stepped.takes Lock l met m n made cpu.apart cpu.noted.few row_is).apart;
       carried = row.carried Lock l.index met m n made cpu.carried;
     }

@@ -1,20 +1,27 @@
 use Rattle.std.proofs.Common.{arith, ◌<◌}
 use Rattle.lk_domain.proofs.turns.Carried as row
 use Rattle.lk_domain.proofs.turns.Stepped as stepped
+use Rattle.lk_domain.specs.Plans.{locks_of}
+use Rattle.lk_domain.proofs.Seating.{low_of}
 use Rattle.lk_domain.proofs.locks.steps.take_free.Goals as goal
 
-pub step-requires-clause-steps : goal.step-requires-clause-steps
-step-requires-clause-steps c =
+pub step-requires : goal.step-requires
+step-requires c =
     let cpu = c.args.cpu.now in
     let m = cpu.seat.me in
     let n = c.seat_takes-met.new.seat.me in
-    let lt : c.args.lock.index < 32 = (let lock = c.requires.lock in let few = c.args.domain.now.lawful.locks in omega arith) in (
-      m.0.calls,
-      n.0.calls,
-      cpu.noted,
-      stepped.takes_noted c.args.verb c.args.lock c.seat_takes-met.result m n c.seat_takes-met.ensures.step cpu.apart cpu.noted.few
-          cpu.notes cpu.noted lt c.requires.row c.waits_after_take-waits.result c.has_after_take-has.result c.waits_after_take-waits.ensures c.has_after_take-has.ensures,
-    )
+    record {
+      steps = (
+        locks_of m.0.who.plan,
+        m.0.calls,
+        n.0.calls,
+        cpu.noted,
+        low_of cpu c.args.domain.now c.args.lock.index c.requires.domain c.requires.lock,
+        stepped.takes_noted c.args.verb c.args.lock c.seat_takes-met.result m n c.seat_takes-met.ensures.step cpu.apart cpu.noted.few
+            c.requires.row c.waits_after_take-waits.result c.has_after_take-has.result c.is_slow-slow.result
+            c.waits_after_take-waits.ensures c.has_after_take-has.ensures (c.is_slow-slow.ensures (locks_of m.0.who.plan) m.0.calls cpu.noted),
+      );
+    }
 
 pub invariant_of-cpu : goal.invariant_of-cpu
 invariant_of-cpu c =
@@ -24,12 +31,17 @@ invariant_of-cpu c =
     let n = c.seat_takes-met.new.seat.me in
     let met = c.seat_takes-met.result in
     let made = c.seat_takes-met.ensures.step in
-    let lt : l.index < 32 = (let lock = c.requires.lock in let few = c.args.domain.now.lawful.locks in omega arith) in
     record {
       numbered = row.numbered c.args.verb l.index met m n made cpu.numbered;
-      noted = c.step.ensures m.0.calls n.0.calls cpu.noted
-          (stepped.takes_noted c.args.verb l met m n made cpu.apart cpu.noted.few cpu.notes cpu.noted lt c.requires.row
-          c.waits_after_take-waits.result c.has_after_take-has.result c.waits_after_take-waits.ensures c.has_after_take-has.ensures);
+      noted = row.noted c.args.verb l.index met m n made
+          (c.step.ensures (locks_of m.0.who.plan) m.0.calls n.0.calls cpu.noted (low_of cpu c.args.domain.now c.args.lock.index c.requires.domain c.requires.lock)
+          (stepped.takes_noted c.args.verb l met m n made cpu.apart cpu.noted.few c.requires.row c.waits_after_take-waits.result c.has_after_take-has.result c.is_slow-slow.result
+          c.waits_after_take-waits.ensures c.has_after_take-has.ensures (c.is_slow-slow.ensures (locks_of m.0.who.plan) m.0.calls cpu.noted)));
       apart = (stepped.takes c.args.verb l met m n made cpu.apart cpu.noted.few c.requires.row).apart;
       carried = row.carried c.args.verb l.index met m n made cpu.carried;
     }
+
+pub is_slow-slow-requires : goal.is_slow-slow-requires
+is_slow-slow-requires c =
+    let cpu = c.args.cpu.now in
+    record { some = (locks_of cpu.seat.me.0.who.plan, cpu.seat.me.0.calls, cpu.noted) }
