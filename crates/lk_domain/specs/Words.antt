@@ -1,6 +1,6 @@
 -- Where the words of a domain stand in its table, and what their numbers say. The words of two locks
 -- stand eight words apart, so that they do not share a line of a cache.
-use Rattle.std.specs.Prelude.{◌≡◌, ◌≢◌, ℕ, ◌+◌, ◌*◌, ◌<◌, List, length, Option, Some, None, not}
+use Rattle.std.specs.Prelude.{◌≡◌, ◌≢◌, ℕ, ◌+◌, ◌-◌, ◌*◌, ◌<◌, List, length, Option, Some, None, not}
 use Rattle.std.specs.Prelude.{slice_index, Bool, true, false, if◌then◌else◌, ◌==◌, ◌&&◌}
 use Rattle.lk_abs.specs.declared.names.LockName.{LockName}
 use Rattle.lk_abs.specs.declared.names.Mode.{Mode}
@@ -14,6 +14,7 @@ use Rattle.lk_rows.specs.declared.parts.State.TheVariants.{Running, Halted, Hash
 use Rattle.lk_law.specs.Agree.{halts}
 use Rattle.lk_law.specs.Cna.{moves_aside}
 use Rattle.lk_domain.specs.Plans.{locks_of, cpus_of, accounts_of}
+use Rattle.lk_domain.specs.Values.{homes_of}
 use Rattle.lk_domain.specs.declared.part.Part.{Part}
 use Rattle.lk_domain.specs.declared.part.Part.TheVariants as part
 use Rattle.lk_domain.specs.declared.plan.Plan.{Plan}
@@ -48,12 +49,6 @@ part_index part.Flag = 0
 part_index part.Next = 1
 part_index part.SecondTail = 2
 part_index part.Runs = 3
-
--- The word by whose load the value of a home goes out and comes home: for homes below 64 that of the
--- balance of this number, whether the ledger has it or not, and from there on a word of a node. No lock's
--- word is on its line. Without a ledger nobody writes the first 64.
-abbrev pub quiet_at : Plan → ℕ → ℕ
-quiet_at k q = balance_at k q
 
 -- Behind the balances, the words of the nodes. There is room for four words of each.
 abbrev pub node_at : Plan → NodeName → Part → ℕ
@@ -93,9 +88,15 @@ hash_at k i = far_of k + 4 * cpus_of k + i
 abbrev pub kick_at : Plan → ℕ → ℕ
 kick_at k p = far_of k + 8 * cpus_of k + 8 * p
 
--- how many words there are
+-- how many words there are: behind these, one for each home of a value
 abbrev pub words_of : Plan → ℕ
-words_of k = 72 + 8 * locks_of k + 32 * cpus_of k
+words_of k = 72 + 8 * locks_of k + 32 * cpus_of k + homes_of k
+
+-- The word by whose load the value of a home goes out and comes home. Each home has its own, since by the
+-- word a step tells which value it was: that of home 0 is the last of all, and before it come the others.
+-- Nobody writes them.
+abbrev pub quiet_at : Plan → ℕ → ℕ
+quiet_at k q = words_of k - (1 + q)
 
 -- the number of a state
 abbrev pub state_number : State → ℕ

@@ -7,7 +7,7 @@ ghost use Rattle.lk_domain.specs.Plans.{locks_of, room_of};
 ghost use Rattle.lk_law.specs.Agree.{halts};
 ghost use Rattle.lk_domain.specs.Marked.{IsNoted};
 ghost use Rattle.lk_domain.specs.Seats.{IsDealt, AreDealt};
-ghost use Rattle.lk_domain.specs.Values.{AreLaid, AreShut, keys_of, lodged};
+ghost use Rattle.lk_domain.specs.Values.{AreLaid, AreShut, homes_of, keys_of, lodged};
 ghost use Rattle.lk_domain.specs.declared.slot.Stowed.TheVariants.{Entries};
 ghost use Rattle.lk_domain.specs.Views.{view, dealer};
 ghost use Rattle.lk_domain.specs.Words.{words_of, IsOpening};
@@ -74,17 +74,21 @@ fn write(words: &mut List<u64>, at: usize, number: u64)
     *words.get_mut(at) = number;
 }
 
-/// The words of a new table.
+/// The words of a new table, with so many homes of values.
 ///
 /// # Errors
 ///
 /// There is not enough memory.
-pub fn opening_words(alloc: Global, plan: &Plan) -> Result<List<u64>, Memory>
-    requires { IsRunningPlan plan.now }
+pub fn opening_words(alloc: Global, plan: &Plan, homes: usize) -> Result<List<u64>, Memory>
+    requires lawful { IsRunningPlan plan.now }
+    requires homes { homes ≡ homes_of plan.now }
     ensures { IfOk result (λ words. IsOpening plan.now words.items) }
 {
     let first = 8 + 8 * plan.locks.len();
-    let mut words = List::filled(alloc, 0, first + 64 + 32 * plan.topology.sockets.len())?;
+    let Some(count) = homes.checked_add(first + 64 + 32 * plan.topology.sockets.len()) else {
+        return Err(Memory);
+    };
+    let mut words = List::filled(alloc, 0, count)?;
     for account in 0..plan.balances.len() {
         write(&mut words, first + account, *plan.balances.get(account));
     }
@@ -174,7 +178,7 @@ impl Domain {
         ensures dealer { IfOk result (λ made. made.1.me.0
             ≡ view (dealer plan 0) no_calls no_ledger) }
     {
-        let words = opening_words(alloc, &plan)?;
+        let words = opening_words(alloc, &plan, keys.len())?;
         let journal = Journal::new(alloc, plan.room())?;
         let slots = opening_slots(alloc, journal, keys)?;
         match Table::new(alloc, words.as_slice(), slots, &plan) {

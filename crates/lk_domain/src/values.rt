@@ -2,7 +2,7 @@
 //! cell, where it lies; or it takes the value out, and brings it home. Where the lock has copies a reader
 //! works on the one for its own processor, where it lies. The calls of all lock families are made of
 //! [`work_at`], [`take`] and [`bring`].
-ghost use Rattle.std.specs.Prelude.{◌≡◌, ◌+◌, ◌*◌, ◌<◌, Some, None};
+ghost use Rattle.std.specs.Prelude.{◌≡◌, ◌+◌, ◌^◌, ◌<◌, Some, None};
 ghost use Rattle.std.specs.Fn.{FnOnceReturnsAtMut, FnOnceTakesAtMut};
 ghost use Rattle.lk_cell.specs.Work.{HasWorked, KeepsFit};
 ghost use Rattle.lk_domain.specs.Plans.{IsRunningPlan, cpus_of, locks_of};
@@ -13,7 +13,7 @@ ghost use Rattle.lk_domain.specs.Seats.{calls_of, ledger_of, view_of};
 ghost use Rattle.lk_domain.specs.declared.slot.Stowed.TheVariants.{CellKey};
 ghost use Rattle.lk_domain.specs.Values.{HasCell, IsClear, IsHomeAt, IsHomeWith, IsKeyOf, IsNewestAt};
 ghost use Rattle.lk_domain.specs.Values.{Key};
-ghost use Rattle.lk_domain.specs.Values.{MayCopy, bringing, copy_at, lock_of, outs_of, taking};
+ghost use Rattle.lk_domain.specs.Values.{MayCopy, bringing, copy_at, homes_of, lock_of, outs_of, taking};
 ghost use Rattle.lk_domain.specs.Words.{quiet_at};
 
 use crate::cpu::{Cpu, Right};
@@ -30,7 +30,6 @@ fn copy_home(plan: &Plan, lock: u32, number: u32) -> usize
     requires lock { lock < locks_of plan.now }
     requires number { number < cpus_of plan.now }
     ensures home { result ≡ copy_at plan.now lock number }
-    ensures near { result < 64 + 32 * cpus_of plan.now }
 {
     prove!(plan.locks.len() <= MOST_LOCKS);
     prove!(plan.topology.sockets.len() <= MOST_CPUS);
@@ -40,14 +39,13 @@ fn copy_home(plan: &Plan, lock: u32, number: u32) -> usize
 
 // The word by whose load the value of a home goes out and comes home.
 #[inline]
-fn quiet_word(plan: &Plan, home: usize) -> usize
-    requires lawful { IsRunningPlan plan.now }
-    requires near { home < 64 + 32 * cpus_of plan.now }
-    ensures { result ≡ quiet_at plan.now home }
+fn quiet_word(table: &Words, plan: &Plan, home: usize) -> usize
+    requires table { IsTableOf plan.now table.now.shared.table_id table.now.shared.key }
+    requires low { home < homes_of plan.now }
+    ensures word { result ≡ quiet_at plan.now home }
+    ensures fits { 1 + home < 2 ^ 64 }
 {
-    prove!(plan.locks.len() <= MOST_LOCKS);
-    prove!(plan.topology.sockets.len() <= MOST_CPUS);
-    8 + 8 * plan.locks.len() + home
+    table.word_count() - 1 - home
 }
 
 /// Takes the value of a home out, which the seat's processor reaches: the key of its cell. No value of
@@ -55,7 +53,6 @@ fn quiet_word(plan: &Plan, home: usize) -> usize
 pub fn take(seat: &mut Right, table: &Words, plan: &Plan, home: usize) -> Key
     requires table { IsTableOf plan.now table.now.shared.table_id table.now.shared.key }
     requires seat { IsSeatOf plan.now table.now.shared.table_id seat.old }
-    requires near { home < 64 + 32 * cpus_of plan.now }
     requires valued { HasCell plan.now home }
     requires held { IsHomeAt plan.now home seat.old.me.0.who.number seat.old.me.0.calls.holds }
     requires journal { seat.old.me.0.ledger.out ≡ None }
@@ -65,7 +62,7 @@ pub fn take(seat: &mut Right, table: &Words, plan: &Plan, home: usize) -> Key
     ensures key { IsKeyOf plan.now home result }
     ensures apart { IsClear plan.now (lock_of plan.now home) seat.old.me.0.who.outs }
 {
-    let word = quiet_word(plan, home);
+    let word = quiet_word(table, plan, home);
     table.shared.load::<TakeValue>(seat, word);
     let place = seat.slot_mut(&table.shared, 1 + home);
     match place.take() {
@@ -79,7 +76,6 @@ pub fn take(seat: &mut Right, table: &Words, plan: &Plan, home: usize) -> Key
 pub fn bring(seat: &mut Right, table: &Words, plan: &Plan, home: usize, key: Key)
     requires table { IsTableOf plan.now table.now.shared.table_id table.now.shared.key }
     requires seat { IsSeatOf plan.now table.now.shared.table_id seat.old }
-    requires near { home < 64 + 32 * cpus_of plan.now }
     requires valued { HasCell plan.now home }
     requires newest { IsNewestAt plan.now (lock_of plan.now home) home seat.old.me.0.who.outs }
     requires journal { seat.old.me.0.ledger.out ≡ None }
@@ -88,7 +84,7 @@ pub fn bring(seat: &mut Right, table: &Words, plan: &Plan, home: usize, key: Key
     ensures view { seat.new.me.0 ≡ bringing (lock_of plan.now home) seat.old.me.0 }
     ensures carried { seat.new.me.1 ≡ carried_of seat.new.me.0 }
 {
-    let word = quiet_word(plan, home);
+    let word = quiet_word(table, plan, home);
     match table
         .shared
         .exchange(seat, 1 + home, Some(Stowed::CellKey(key)))
@@ -128,7 +124,6 @@ pub fn work_at<U, W: FnOnce(&mut Key) -> U>(
 ) -> U
     requires table { IsTableOf plan.now table.now.shared.table_id table.now.shared.key }
     requires seat { IsSeatOf plan.now table.now.shared.table_id seat.old }
-    requires near { home < 64 + 32 * cpus_of plan.now }
     requires valued { HasCell plan.now home }
     requires held { IsHomeAt plan.now home seat.old.me.0.who.number seat.old.me.0.calls.holds }
     requires journal { seat.old.me.0.ledger.out ≡ None }
@@ -138,7 +133,7 @@ pub fn work_at<U, W: FnOnce(&mut Key) -> U>(
     ensures carried { seat.new.me.1 ≡ carried_of seat.new.me.0 }
     ensures done { HasWorked W.FnOnce (IsKeyOf plan.now home) work result }
 {
-    let word = quiet_word(plan, home);
+    let word = quiet_word(table, plan, home);
     table.shared.load::<TakeValue>(seat, word);
     let done = work_in(seat.slot_mut(&table.shared, 1 + home), work);
     table.shared.load::<BringValue>(seat, word);

@@ -75,7 +75,7 @@ impl PvDomain {
         ensures dealer { IfOk result (λ made. made.1.me.0
             ≡ view (dealer plan 0) no_calls no_ledger) }
     {
-        let words = opening_words(alloc, &plan)?;
+        let words = opening_words(alloc, &plan, keys.len())?;
         let journal = Journal::new(alloc, plan.room())?;
         let slots = opening_slots(alloc, journal, keys)?;
         match Table::new(alloc, words.as_slice(), slots, &plan) {

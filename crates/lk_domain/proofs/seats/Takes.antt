@@ -14,14 +14,13 @@ use Rattle.lk_values.specs.Guarded.{Among, IsHome}
 use Rattle.lk_values.proofs.Guards.{holder_finds, taking_keeps, bringing_keeps}
 use Rattle.lk_domain.specs.Calls.{Hold}
 use Rattle.lk_domain.specs.Keeps.{Slot, Keeps, Knows, undrawn}
-use Rattle.lk_domain.specs.Plans.{locks_of}
 use Rattle.lk_domain.specs.Plays.{ValueTakenBy, TakesValue, BringsValue}
 use Rattle.lk_domain.specs.Runs.{Runs, SeatFits}
 use Rattle.lk_domain.specs.Stand.{Stand}
 use Rattle.lk_domain.specs.Values.{Reaches, IsOutAt, IsHomeAt, IsClear, IsNewestAt, FitsUnder, Fits, HasCell, IsKeyOf}
 use Rattle.lk_domain.specs.Values.{Key, id_of, keys_of, homes_of, lock_of, outs_of, taking, bringing, older, marked_out}
 use Rattle.lk_domain.specs.Views.{IsNumbered}
-use Rattle.lk_domain.specs.Words.{version_at, balance_at, quiet_at}
+use Rattle.lk_domain.specs.Words.{version_at, balance_at, quiet_at, words_of}
 use Rattle.lk_domain.specs.declared.plan.Plan.{Plan}
 use Rattle.lk_domain.specs.declared.slot.Stowed.TheVariants.{CellKey}
 use Rattle.lk_domain.specs.declared.view.View.{View}
@@ -243,7 +242,7 @@ takes_value k plan slots id m q i st same mine at word n has home =
       takes (1 + q) found.value,
       found.home,
       takes_stand k s both id m.0 me n q low home',
-      λ a e. let same_q : q ≡ a = (let z = ap locks_of (mine ∙ sym same) in omega (arith, e, z, word, at')) in
+      λ a e. let same_q : q ≡ a = (let z = ap words_of (mine ∙ sym same) in let low = cell_below k q has' in omega (arith, e, z, word, at', low)) in
           subst (λ (c : ℕ). ValueTakenBy (lock_of m.0.who.plan c) c m (taking (lock_of k q) q m.0, (1 + q, found.value) ∷ m.1)) same_q
           (subst (λ (j : Plan). ValueTakenBy (lock_of j q) q m (taking (lock_of k q) q m.0, (1 + q, found.value) ∷ m.1)) (same ∙ sym mine)
           (record {
@@ -276,7 +275,7 @@ brings_value k plan slots id m v xs q i key st same is mine at word n has fits n
       tt,
       brings_stand k s both id v me n q (cell_below k q has') new' (Some (CellKey key)) (key_fits k q key has' fits'),
       λ a y ys e top.
-          let same_q : q ≡ a = (let z = ap locks_of (mine ∙ sym same) in omega (arith, e, z, word, at')) in
+          let same_q : q ≡ a = (let z = ap words_of (mine ∙ sym same) in let low = cell_below k q has' in omega (arith, e, z, word, at', low)) in
           let rest_is : xs ≡ ys = ap Rattle.atomic_table.specs.Table.rest top in
           λ j. (bringing (lock_of ((same ∙ sym mine) j) (same_q j)) v, rest_is j),
     )))

@@ -8,8 +8,11 @@ use Rattle.lk_domain.specs.Words.{quiet_at}
 use Rattle.lk_domain.specs.declared.plan.Plan.{Plan}
 use Rattle.lk_domain.specs.declared.slot.Stowed.TheVariants.{CellKey}
 use Rattle.lk_domain.specs.declared.view.View.{View}
-use Rattle.lk_domain.proofs.seats.Takes.{brings_value}
+use Rattle.lk_domain.proofs.seats.Takes.{brings_value, cell_below}
 use Rattle.lk_domain.proofs.values.bring.Goals as goal
+
+pub quiet_word-word-requires-clause-low : goal.quiet_word-word-requires-clause-low
+quiet_word-word-requires-clause-low c = cell_below c.args.plan.now c.args.home c.requires.valued
 
 pub exchange-requires : goal.exchange-requires
 exchange-requires c =
@@ -43,10 +46,10 @@ load-requires c =
     let is = c.exchange.ensures.3
     ∙ ap (λ (l : List (ℕ × Slot)). let m : Me Slot View = (seat.me.0, (1 + c.args.home, Some (CellKey c.args.key)) ∷ l) in m) under in (
       c.exchange.ensures.0 ∙ at.table_is,
-      (let w = of.words in let a = c.requires.near in let e = c.quiet_word-word.ensures in omega (arith, w, a, e)),
+      (let w = of.words in let e = c.quiet_word-word.ensures.word in omega (arith, w, e)),
       brings_value table.key c.args.plan.now z.slots c.exchange.new.seat.id c.exchange.new.seat.me seat.me.0
           (empty_places new.others) c.args.home i c.args.key (step z.slots i 0 0 none) of.key_is is at.plan_is
-          c.quiet_word-word.ensures refl at.number c.requires.valued c.requires.key new,
+          c.quiet_word-word.ensures.word refl at.number c.requires.valued c.requires.key new,
     )
 
 pub returns-clause-view : goal.returns-clause-view
@@ -60,7 +63,7 @@ returns-clause-view c =
     ∙ ap (λ (xs : List (ℕ × Slot)). let m : Me Slot View = (seat.me.0, (1 + q, Some (CellKey c.args.key)) ∷ xs) in m) under in
     let plan = ap (λ (x : Me Slot View). x.0.who.plan) is ∙ c.requires.seat.plan_is in
     let t = c.load.ensures.2 q (Some (CellKey c.args.key)) (empty_places new.others)
-    (c.quiet_word-word.ensures ∙ ap (λ (k : Plan). quiet_at k q) (sym plan)) (ap (λ (x : Me Slot View). x.1) is) in
+    (c.quiet_word-word.ensures.word ∙ ap (λ (k : Plan). quiet_at k q) (sym plan)) (ap (λ (x : Me Slot View). x.1) is) in
     let view = ap (λ (x : Me Slot View). x.0) t ∙ (λ i. bringing (lock_of (plan i) q) (is i).0) in
     view
 
@@ -75,7 +78,7 @@ returns-clause-carried c =
     ∙ ap (λ (xs : List (ℕ × Slot)). let m : Me Slot View = (seat.me.0, (1 + q, Some (CellKey c.args.key)) ∷ xs) in m) under in
     let plan = ap (λ (x : Me Slot View). x.0.who.plan) is ∙ c.requires.seat.plan_is in
     let t = c.load.ensures.2 q (Some (CellKey c.args.key)) (empty_places new.others)
-    (c.quiet_word-word.ensures ∙ ap (λ (k : Plan). quiet_at k q) (sym plan)) (ap (λ (x : Me Slot View). x.1) is) in
+    (c.quiet_word-word.ensures.word ∙ ap (λ (k : Plan). quiet_at k q) (sym plan)) (ap (λ (x : Me Slot View). x.1) is) in
     let view = ap (λ (x : Me Slot View). x.0) t ∙ (λ i. bringing (lock_of (plan i) q) (is i).0) in
     ap (λ (x : Me Slot View). x.1) t
     ∙ ((λ i. carried_with (ap older (sym new.is) i) (sym c.requires.journal i)) ∙ ap carried_of (sym view))

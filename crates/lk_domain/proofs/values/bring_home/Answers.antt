@@ -15,7 +15,6 @@ bring-requires c =
     record {
       table = table_of d;
       seat = seat_of c.args.cpu.now d c.requires.domain;
-      near = (let a = c.requires.lock in let few = d.lawful.locks in omega (arith, a, few));
       valued = c.requires.valued;
       newest = subst (λ (x : ℕ). IsNewestAt d.plan x c.args.lock.index c.args.cpu.now.seat.me.0.who.outs)
           (sym (own_lock d.plan c.args.lock.index c.requires.lock)) c.requires.newest;

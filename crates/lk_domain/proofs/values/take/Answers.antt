@@ -8,9 +8,12 @@ use Rattle.lk_domain.specs.Words.{quiet_at}
 use Rattle.lk_domain.specs.declared.plan.Plan.{Plan}
 use Rattle.lk_domain.specs.declared.slot.Stowed.TheVariants.{Entries, CellKey}
 use Rattle.lk_domain.specs.declared.view.View.{View}
-use Rattle.lk_domain.proofs.seats.Takes.{takes_value}
+use Rattle.lk_domain.proofs.seats.Takes.{takes_value, cell_below}
 use Rattle.lk_domain.proofs.seats.Worked.{head_is, same_head, same_key}
 use Rattle.lk_domain.proofs.values.take.Goals as goal
+
+pub quiet_word-word-requires-clause-low : goal.quiet_word-word-requires-clause-low
+quiet_word-word-requires-clause-low c = cell_below c.args.plan.now c.args.home c.requires.valued
 
 pub load-requires : goal.load-requires
 load-requires c =
@@ -21,14 +24,14 @@ load-requires c =
     let seat = c.args.seat.now in
     let i = c.quiet_word-word.result in (
       at.table_is,
-      (let w = of.words in let a = c.requires.near in let e = c.quiet_word-word.ensures in omega (arith, w, a, e)),
+      (let w = of.words in let e = c.quiet_word-word.ensures.word in omega (arith, w, e)),
       takes_value table.key c.args.plan.now z.slots seat.id seat.me c.args.home i (step z.slots i 0 0 none) of.key_is
-          at.plan_is c.quiet_word-word.ensures refl at.number c.requires.valued c.requires.held,
+          at.plan_is c.quiet_word-word.ensures.word refl at.number c.requires.valued c.requires.held,
     )
 
 pub slot_mut-place-requires : goal.slot_mut-place-requires
 slot_mut-place-requires c =
-    let t = c.load.ensures.2 c.args.home (c.quiet_word-word.ensures ∙ ap (λ (k : Plan). quiet_at k c.args.home) (sym c.requires.seat.plan_is)) in
+    let t = c.load.ensures.2 c.args.home (c.quiet_word-word.ensures.word ∙ ap (λ (k : Plan). quiet_at k c.args.home) (sym c.requires.seat.plan_is)) in
     let at = ap (λ (x : Me Slot View). x.1) t.seat in (
       c.load.ensures.0 ∙ c.requires.seat.table_is,
       (Some (CellKey t.key), head_is at),
@@ -36,7 +39,7 @@ slot_mut-place-requires c =
 
 pub unreachable-requires : goal.unreachable-requires
 unreachable-requires c =
-    let t = c.load.ensures.2 c.args.home (c.quiet_word-word.ensures ∙ ap (λ (k : Plan). quiet_at k c.args.home) (sym c.requires.seat.plan_is)) in
+    let t = c.load.ensures.2 c.args.home (c.quiet_word-word.ensures.word ∙ ap (λ (k : Plan). quiet_at k c.args.home) (sym c.requires.seat.plan_is)) in
     let lain : c.slot_mut-place.result.now ≡ Some (CellKey t.key) =
     same_head (1 + c.args.home) c.slot_mut-place.ensures.value (ap (λ (x : Me Slot View). x.1) t.seat) in
     let no : Some (Entries c.in-Some-Entries.field-0-0) ≡ Some (CellKey t.key) =
@@ -45,7 +48,7 @@ unreachable-requires c =
 
 pub unreachable-requires-in-None : goal.unreachable-requires-in-None
 unreachable-requires-in-None c =
-    let t = c.load.ensures.2 c.args.home (c.quiet_word-word.ensures ∙ ap (λ (k : Plan). quiet_at k c.args.home) (sym c.requires.seat.plan_is)) in
+    let t = c.load.ensures.2 c.args.home (c.quiet_word-word.ensures.word ∙ ap (λ (k : Plan). quiet_at k c.args.home) (sym c.requires.seat.plan_is)) in
     let lain : c.slot_mut-place.result.now ≡ Some (CellKey t.key) =
     same_head (1 + c.args.home) c.slot_mut-place.ensures.value (ap (λ (x : Me Slot View). x.1) t.seat) in
     let no : None ≡ Some (CellKey t.key) = sym c.in-None.is ∙ (c.take.ensures.value ∙ lain) in
@@ -53,13 +56,13 @@ unreachable-requires-in-None c =
 
 pub returns-clause-view : goal.returns-clause-view
 returns-clause-view c =
-    let t = c.load.ensures.2 c.args.home (c.quiet_word-word.ensures ∙ ap (λ (k : Plan). quiet_at k c.args.home) (sym c.requires.seat.plan_is)) in
+    let t = c.load.ensures.2 c.args.home (c.quiet_word-word.ensures.word ∙ ap (λ (k : Plan). quiet_at k c.args.home) (sym c.requires.seat.plan_is)) in
     ap (λ (x : Me Slot View). x.0) t.seat
     ∙ ap (λ (k : Plan). taking (lock_of k c.args.home) c.args.home c.args.seat.now.me.0) c.requires.seat.plan_is
 
 pub returns-clause-carried : goal.returns-clause-carried
 returns-clause-carried c =
-    let t = c.load.ensures.2 c.args.home (c.quiet_word-word.ensures ∙ ap (λ (k : Plan). quiet_at k c.args.home) (sym c.requires.seat.plan_is)) in
+    let t = c.load.ensures.2 c.args.home (c.quiet_word-word.ensures.word ∙ ap (λ (k : Plan). quiet_at k c.args.home) (sym c.requires.seat.plan_is)) in
     let seat = c.args.seat.now in
     let l = c.args.home in
     let under : rest c.load.new.seat.me.1 ≡ empty_places seat.me.0.who.outs =
@@ -72,7 +75,7 @@ returns-clause-carried c =
 
 pub returns-clause-key : goal.returns-clause-key
 returns-clause-key c =
-    let t = c.load.ensures.2 c.args.home (c.quiet_word-word.ensures ∙ ap (λ (k : Plan). quiet_at k c.args.home) (sym c.requires.seat.plan_is)) in
+    let t = c.load.ensures.2 c.args.home (c.quiet_word-word.ensures.word ∙ ap (λ (k : Plan). quiet_at k c.args.home) (sym c.requires.seat.plan_is)) in
     let lain : c.slot_mut-place.result.now ≡ Some (CellKey t.key) =
     same_head (1 + c.args.home) c.slot_mut-place.ensures.value (ap (λ (x : Me Slot View). x.1) t.seat) in
     let key : c.in-Some-CellKey.key ≡ t.key =
@@ -82,5 +85,5 @@ returns-clause-key c =
 
 pub returns-clause-apart : goal.returns-clause-apart
 returns-clause-apart c =
-    let t = c.load.ensures.2 c.args.home (c.quiet_word-word.ensures ∙ ap (λ (k : Plan). quiet_at k c.args.home) (sym c.requires.seat.plan_is)) in
+    let t = c.load.ensures.2 c.args.home (c.quiet_word-word.ensures.word ∙ ap (λ (k : Plan). quiet_at k c.args.home) (sym c.requires.seat.plan_is)) in
     subst (λ (k : Plan). IsClear k (lock_of k c.args.home) c.args.seat.now.me.0.who.outs) c.requires.seat.plan_is t.apart

@@ -11,7 +11,6 @@ work_at-requires g c =
     record {
       table = table_of d;
       seat = seat_of cpu d c.requires.domain;
-      near = (let a = c.requires.lock in let few = d.lawful.locks in omega (arith, a, few));
       valued = c.requires.valued;
       held = alone_at d.plan c.args.lock.index cpu.seat.me.0 c.requires.lock c.requires.held;
       journal = c.requires.home;
