@@ -59,7 +59,7 @@ enum qlock_family {
 enum qlock_kind { QLOCK_SPIN = 0, QLOCK_RW = 1 };
 
 /* The limits of a domain. */
-enum qlock_limit { QLOCK_MOST_CPUS = 1024, QLOCK_MOST_LOCKS = 32 };
+enum qlock_limit { QLOCK_MOST_CPUS = 1024, QLOCK_MOST_LOCKS = 4096 };
 
 /* What calls answer. Where it is neither DONE nor WAITS nor BUSY, nothing has changed. */
 enum qlock_answer {
@@ -80,7 +80,7 @@ enum qlock_answer {
     QLOCK_NO_FAMILY = 14    /* open: the library does not have this family */
 };
 
-/* Makes a domain: a lock of kind kinds[i] for each i below `locks` (1 to 32), all free, and a processor
+/* Makes a domain: a lock of kind kinds[i] for each i below `locks` (1 to 4096), all free, and a processor
  * on socket sockets[i] for each i below `sockets_count` (1 to 1024), which is put into cpus[i]. `cpus_count`
  * is the same number. All handles must be empty. `threshold` counts for CNA alone: so many handoffs at
  * most pass a waiter that stands aside (0: nobody is moved aside, and waiters are served as they came).

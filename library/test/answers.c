@@ -56,11 +56,11 @@ static void empty_handles(void) {
 }
 
 static void openings(qlock_cpu *c) {
-    static const uint8_t many[33] = {0}, bad[1] = {2};
+    static const uint8_t many[QLOCK_MOST_LOCKS + 1] = {0}, bad[1] = {2};
     IS(qlock_open(QLOCK_PV, kinds, 2, sockets, 2, 10, c, 2), QLOCK_NO_FAMILY);
     IS(qlock_open(4, kinds, 2, sockets, 2, 10, c, 2), QLOCK_RANGE);
     IS(qlock_open(QLOCK_NATIVE, kinds, 0, sockets, 2, 10, c, 2), QLOCK_RANGE);
-    IS(qlock_open(QLOCK_NATIVE, many, 33, sockets, 2, 10, c, 2), QLOCK_RANGE);
+    IS(qlock_open(QLOCK_NATIVE, many, QLOCK_MOST_LOCKS + 1, sockets, 2, 10, c, 2), QLOCK_RANGE);
     IS(qlock_open(QLOCK_NATIVE, kinds, 2, sockets, 0, 10, c, 0), QLOCK_RANGE);
     IS(qlock_open(QLOCK_NATIVE, kinds, 2, sockets, 2, 10, c, 1), QLOCK_RANGE);
     IS(qlock_open(QLOCK_NATIVE, bad, 1, sockets, 2, 10, c, 2), QLOCK_RANGE);

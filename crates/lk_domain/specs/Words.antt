@@ -104,9 +104,9 @@ state_number Running = 0
 state_number Halted = 1
 state_number Hashed = 2
 
--- the number of an entry of the hash: a lock, which is below 32, with a node; 0 is an empty place
+-- the number of an entry of the hash: a lock, which is below 4,096, with a node; 0 is an empty place
 abbrev pub pair_number : ℕ → NodeName → ℕ
-pair_number l n = 1 + l + 32 * (4 * n.cpu + n.index)
+pair_number l n = 1 + l + 4096 * (4 * n.cpu + n.index)
 
 -- the number of a mark
 abbrev pub mark_number : Bool → ℕ

@@ -80,7 +80,7 @@ impl Domain {
         *self.plan.locks.get(lock.index as usize)
     }
 
-    /// The number of its locks, at most 32.
+    /// The number of its locks.
     pub fn locks(&self) -> u32
         ensures { result ≡ locks_of self.now.plan }
     {

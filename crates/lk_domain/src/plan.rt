@@ -7,7 +7,7 @@ use std::snapshot::Snapshot;
 /// The most processors of a domain.
 pub const MOST_CPUS: usize = 1024;
 /// The most locks of a domain.
-pub const MOST_LOCKS: usize = 32;
+pub const MOST_LOCKS: usize = 4096;
 
 /// The plan of a domain: what it is made of.
 #[derive(Drop)]

@@ -31,7 +31,7 @@ pub struct Rw<T> {
 // The most handoffs that may pass a moved waiter, in mode `cna`.
 const THRESHOLD: u32 = 16;
 
-/// Locks to be made, at most 32, and how many threads will take them.
+/// Locks to be made, at most 4,096, and how many threads will take them.
 #[derive(Drop)]
 pub struct Locks {
     pub(crate) alloc: Global,

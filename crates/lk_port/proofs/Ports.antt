@@ -1,7 +1,7 @@
 -- How a processor stands after a call.
 use Rattle.std.proofs.Common.{◌≡◌, ◌≢◌, ℕ, ◌+◌, ◌<◌, List, [], ◌∷◌, ◌++◌, length, replicate, set, Bool, true, false, refl, sym, ap, ◌∙◌, subst, eqb, arith}
 use Rattle.std.specs.Prelude.{if◌then◌else◌, ◌&&◌, ◌||◌, not, None, Some, Option, slice_index_or}
-use Rattle.std.proofs.lemmas.List.{get_or_push, get_or_append_left, length-append, length-set, get_or-set_same, get_or-set_other}
+use Rattle.std.proofs.lemmas.List.{get_or_push, get_or_append_left, length-append, length-replicate, length-set, get_or-set_same, get_or-set_other}
 use Rattle.lk_abs.specs.Names.{same_lock}
 use Rattle.lk_abs.specs.declared.holder.Manner.{Manner}
 use Rattle.lk_abs.specs.declared.holder.Manner.TheVariants.{Spins}
@@ -111,17 +111,17 @@ held_hold (h ∷ hs) l e = by (same_lock h.lock (lock_name l)) e (held_hold hs l
 
 -- the port notes a lock that is taken, and the others as it did
 pub record Notes (k : Plan) (l : ℕ) (m : Manner) (ws vs : List Bool) : Type 0 where
-  pub long : length vs ≡ 32
+  pub long : length vs ≡ locks_of k
   pub is : m ≡ way_of (kind_at k l) (slice_index_or vs l false)
   pub far : (i : ℕ) → i ≢ l → slice_index_or vs i false ≡ slice_index_or ws i false
 
 -- a spinlock needs no note
-pub notes_spin : (k : Plan) (l : ℕ) (ws : List Bool) → length ws ≡ 32 → kind_at k l ≡ Spin → Notes k l Spins ws ws
+pub notes_spin : (k : Plan) (l : ℕ) (ws : List Bool) → length ws ≡ locks_of k → kind_at k l ≡ Spin → Notes k l Spins ws ws
 notes_spin k l ws long is =
     record { long = long; is = sym (ap (λ (x : Kind). way_of x (slice_index_or ws l false)) is); far = λ i ne. refl }
 
 -- a reader-writer lock one
-pub notes_rw : (k : Plan) (l : ℕ) (b : Bool) (ws : List Bool) → length ws ≡ 32 → l < 32 → kind_at k l ≡ Rw
+pub notes_rw : (k : Plan) (l : ℕ) (b : Bool) (ws : List Bool) → length ws ≡ locks_of k → l < locks_of k → kind_at k l ≡ Rw
     → Notes k l (way_of Rw b) ws (set ws l b)
 notes_rw k l b ws long low is =
     record {
@@ -256,16 +256,12 @@ held d v l s b told ws was has kind =
     (notes_spin d.plan l ws was.noted.long kind)
 
 pub came : (d : Domain) (v : Verb) (l : ℕ) (y : Bool) (s : Start) (b : Cpu) (told : Option ℕ) (ws : List Bool)
-    → IsIdle d.plan ws s.calls s.ledger → CameIn d v l (way_of Rw y) s b told → l < 32 → kind_at d.plan l ≡ Rw
+    → IsIdle d.plan ws s.calls s.ledger → CameIn d v l (way_of Rw y) s b told → l < locks_of d.plan → kind_at d.plan l ≡ Rw
     → IsIdle d.plan (set ws l y) (calls_of b) (ledger_of b)
 came d v l y s b told ws was has low kind =
     took d.plan ws (set ws l y) l (calls_of b).taken (way_of Rw y) s.calls (calls_of b) s.ledger (ledger_of b) was has.entered.frames
     (looked_out l (way_of Rw y) s.calls has.upto s.ledger (ledger_of b) has.look) has.entered.holds
     (notes_rw d.plan l y ws was.noted.long low kind)
-
--- a lock of the domain is one of 32
-pub low : (d : Domain) (l : ℕ) → l < locks_of d.plan → l < 32
-low d l lt = omega (arith, lt, d.lawful.locks)
 
 -- the kind is that of the lock
 pub same_kind : (d : Domain) {k : Kind} (a b : LockId) → b ≡ a → kind_at d.plan a.index ≡ k → kind_at d.plan b.index ≡ k
@@ -315,16 +311,16 @@ settled d ws lock old new s cpu false idle free kind holds same waits =
     let x = waits refl in
     subst (λ (o : Pending). Stands d ws o cpu) (sym x.1) (s, idle, same_kind d lock x.0.lock x.2 kind, x.3)
 
--- a new one
-pub dealt : {domain : Domain} {i : ℕ} {cpu : Cpu} → IsDealt domain i cpu
-    → IsIdle domain.plan (replicate 32 false) (calls_of cpu) (ledger_of cpu)
-dealt {domain} {i} {cpu} d =
+-- a new one, of which no lock is noted as a writer's
+pub dealt : {domain : Domain} {i : ℕ} {cpu : Cpu} {ws : List Bool} → ws ≡ replicate (locks_of domain.plan) false
+    → IsDealt domain i cpu → IsIdle domain.plan ws (calls_of cpu) (ledger_of cpu)
+dealt {domain} {i} {cpu} {ws} none d =
     record {
       frames = ap (λ (c : Calls). c.frames) d.calls;
       out = ap (λ (g : Ledger). g.out) d.ledger;
       home = ap (λ (c : Calls). are_home c.holds) d.calls;
       noted = record {
-        long = refl;
+        long = ap (λ (bs : List Bool). length bs) none ∙ length-replicate (locks_of domain.plan) false;
         each = λ l x e. let z : None ≡ Some x = sym (ap (λ (c : Calls). hold_in c.holds l) d.calls) ∙ e in absurd (cc z);
       };
     }

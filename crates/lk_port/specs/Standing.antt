@@ -6,7 +6,7 @@ use Rattle.lk_abs.specs.declared.names.Kind.{Kind}
 use Rattle.lk_abs.specs.declared.names.Kind.TheVariants.{Spin, Rw}
 use Rattle.lk_domain.specs.Calls.{Hold, Calls, hold_in}
 use Rattle.lk_domain.specs.Ledgers.{Ledger}
-use Rattle.lk_domain.specs.Plans.{kind_at}
+use Rattle.lk_domain.specs.Plans.{kind_at, locks_of}
 use Rattle.lk_domain.specs.Seats.{calls_of, ledger_of}
 use Rattle.lk_domain.specs.declared.cpu.Cpu.{Cpu}
 use Rattle.lk_domain.specs.declared.domain.Domain.{Domain}
@@ -31,7 +31,7 @@ way_of Rw true = manner.Writes
 
 -- each lock that is held, is held as the port has noted it
 pub record AreNoted (plan : Plan) (ws : List Bool) (hs : List Hold) : Type 0 where
-  pub long : length ws ≡ 32
+  pub long : length ws ≡ locks_of plan
   pub each : (l : ℕ) (x : Manner × Bool) → hold_in hs l ≡ Some x
       → x.0 ≡ way_of (kind_at plan l) (slice_index_or ws l false)
 

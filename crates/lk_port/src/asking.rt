@@ -45,7 +45,7 @@ impl Port {
         ensures reads { result ≡ false → way self.now lock.index ≡ Some Reads }
     {
         self.stands();
-        self.writes[lock.index as usize]
+        *self.writes.get(lock.index as usize)
     }
 
     /// Whether it holds no lock, and no call of it waits.

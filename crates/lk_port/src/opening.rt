@@ -1,8 +1,8 @@
 // New ports.
-ghost use Rattle.std.specs.Prelude.{◌≡◌, ◌<◌, ◌≤◌, false, ℕ, length, IfOk};
+ghost use Rattle.std.specs.Prelude.{◌≡◌, ◌<◌, ◌≤◌, false, ℕ, length, replicate, IfOk};
 ghost use Rattle.std.specs.Arc.{arc_value};
 ghost use Rattle.lk_law.specs.Agree.{halts};
-ghost use Rattle.lk_domain.specs.Plans.{IsLawfulPlan, cpus_of};
+ghost use Rattle.lk_domain.specs.Plans.{IsLawfulPlan, cpus_of, locks_of};
 ghost use Rattle.lk_domain.specs.Seats.{IsDealt};
 ghost use Rattle.lk_domain.specs.declared.plan.TheConstants.{MOST_CPUS, MOST_LOCKS};
 ghost use Rattle.lk_port.specs.Asking.{cpu_in, domain_in};
@@ -29,7 +29,7 @@ pub enum Family {
 /// Why no ports were opened.
 #[derive(Clone, Copy, Debug, PartialEq, Eq)]
 pub enum Fault {
-    /// There are to be 1 to 1,024 processors and 1 to 32 locks.
+    /// There are to be 1 to 1,024 processors and 1 to 4,096 locks.
     Range,
     /// There is not enough memory.
     Memory,
@@ -49,12 +49,23 @@ impl Family {
     }
 }
 
+// For each lock of the domain, that it is not held as a writer.
+fn unwritten(alloc: Global, domain: &Domain) -> Result<List<bool>, Memory>
+    ensures { IfOk result (λ writes. writes.items ≡ replicate (locks_of domain.now.plan) false) }
+{
+    List::filled(alloc, false, domain.locks() as usize)
+}
+
 // The port of a new processor.
-fn port(domain: &Arc<Domain, Global>, cpu: Cpu) -> Result<Port, Fault>
+fn port(alloc: Global, domain: &Arc<Domain, Global>, cpu: Cpu) -> Result<Port, Fault>
     requires { (i : ℕ) × IsDealt (arc_value domain.now) i cpu }
     ensures domain { IfOk result (λ port. domain_in port ≡ arc_value domain.now) }
     ensures cpu { IfOk result (λ port. (cpu_in port).number ≡ cpu.number) }
 {
+    let inside: &Domain = domain;
+    let Ok(writes) = unwritten(alloc, inside) else {
+        return Err(Fault::Memory);
+    };
     let Ok(domain) = Arc::try_clone(domain) else {
         return Err(Fault::Memory);
     };
@@ -62,7 +73,7 @@ fn port(domain: &Arc<Domain, Global>, cpu: Cpu) -> Result<Port, Fault>
         domain,
         cpu,
         pending: Pending::Free,
-        writes: [false; 32],
+        writes,
     })
 }
 
@@ -80,7 +91,7 @@ fn open_plan(alloc: Global, plan: &Plan) -> Result<Vec<Port>, Fault>
     };
     let mut ports = Vec::new(alloc);
     while cpus.len() > 0 {
-        let port = port(&domain, cpus.pop())?;
+        let port = port(alloc, &domain, cpus.pop())?;
         let Ok(()) = ports.push(port) else {
             return Err(Fault::Memory);
         };

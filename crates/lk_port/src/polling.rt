@@ -58,7 +58,7 @@ impl Port {
         match lk_run::poll_read(&mut self.cpu, domain, waiter) {
             None => {
                 self.pending = Pending::Free;
-                self.writes[waiter.lock.index as usize] = false;
+                *self.writes.get_mut(waiter.lock.index as usize) = false;
                 true
             }
             Some(waiter) => {
@@ -79,7 +79,7 @@ impl Port {
         match lk_run::poll_write(&mut self.cpu, domain, waiter) {
             None => {
                 self.pending = Pending::Free;
-                self.writes[waiter.lock.index as usize] = true;
+                *self.writes.get_mut(waiter.lock.index as usize) = true;
                 true
             }
             Some(waiter) => {

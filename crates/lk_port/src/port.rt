@@ -5,6 +5,7 @@ ghost use Rattle.lk_domain.specs.Seats.{IsOf};
 ghost use Rattle.lk_port.specs.Standing.{Stands};
 
 use crate::pending::Pending;
+use lk_abs::List;
 use lk_domain::{Cpu, Domain};
 use std::alloc::Global;
 use std::sync::Arc;
@@ -16,15 +17,16 @@ pub struct Port {
     pub(crate) cpu: Cpu,
     pub(crate) pending: Pending,
     // of each lock that it holds, whether it holds it as a writer
-    pub(crate) writes: [bool; 32],
+    pub(crate) writes: List<bool>,
     ghost of: { IsOf cpu (arc_value domain) },
-    ghost stands: { ∥ Stands (arc_value domain) writes pending cpu ∥₁ },
+    ghost stands: { ∥ Stands (arc_value domain) writes.items pending cpu ∥₁ },
 }
 
 impl Port {
     // How it stands. A field keeps that as a fact alone, and this takes it out again.
     pub(crate) fn stands(&self)
-        ensures { Stands (arc_value self.now.domain) self.now.writes self.now.pending self.now.cpu }
+        ensures { Stands (arc_value self.now.domain) self.now.writes.items self.now.pending
+            self.now.cpu }
     {}
 
     /// Its number, counted from 0.

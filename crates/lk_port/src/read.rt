@@ -47,7 +47,7 @@ impl Port {
         let domain: &Domain = &self.domain;
         let has = lk_run::try_read(&mut self.cpu, domain, lock);
         if has {
-            self.writes[lock.index as usize] = false;
+            *self.writes.get_mut(lock.index as usize) = false;
         }
         has
     }
@@ -82,7 +82,7 @@ impl Port {
         let domain: &Domain = &self.domain;
         match lk_run::begin_read(&mut self.cpu, domain, lock) {
             None => {
-                self.writes[lock.index as usize] = false;
+                *self.writes.get_mut(lock.index as usize) = false;
                 true
             }
             Some(waiter) => {

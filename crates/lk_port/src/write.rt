@@ -47,7 +47,7 @@ impl Port {
         let domain: &Domain = &self.domain;
         let has = lk_run::try_write(&mut self.cpu, domain, lock);
         if has {
-            self.writes[lock.index as usize] = true;
+            *self.writes.get_mut(lock.index as usize) = true;
         }
         has
     }
@@ -82,7 +82,7 @@ impl Port {
         let domain: &Domain = &self.domain;
         match lk_run::begin_write(&mut self.cpu, domain, lock) {
             None => {
-                self.writes[lock.index as usize] = true;
+                *self.writes.get_mut(lock.index as usize) = true;
                 true
             }
             Some(waiter) => {

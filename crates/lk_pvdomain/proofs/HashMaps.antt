@@ -16,11 +16,12 @@ use Rattle.lk_domain.specs.Plans.{locks_of}
 use Rattle.lk_domain.specs.Runs.{IsHashed}
 use Rattle.lk_domain.specs.Words.{hash_at, pair_number, places_of, words_of, IsNode}
 use Rattle.lk_domain.specs.declared.plan.Plan.{Plan}
+use Rattle.lk_domain.specs.declared.plan.TheConstants.{MOST_LOCKS}
 use Rattle.std.proofs.Common.{◌⊎◌}
 use Rattle.lk_pvdomain.specs.PvPlays.{IsOther}
 
 -- a pair is known by its number
-pub pair_is : (j l : ℕ) (a b : NodeName) → j < 32 → l < 32 → a.index < 4 → b.index < 4
+pub pair_is : (j l : ℕ) (a b : NodeName) → j < MOST_LOCKS → l < MOST_LOCKS → a.index < 4 → b.index < 4
     → pair_number j a ≡ pair_number l b → (j ≡ l) × (a ≡ b)
 pair_is j l a b lt kt low high e =
     let lock : j ≡ l = omega (arith, e, lt, kt) in
@@ -37,7 +38,7 @@ place_is k i j e = omega (arith, e)
 
 module _ (k : Plan) (m n : World) (ws : List ℕ) (i : ℕ) (l : LockName) (a : NodeName) (h : IsHashed k m ws)
     (low : i < places_of k) (long : length ws ≡ words_of k) (near : IsNode k a) (plain : l.wait ≡ false)
-    (lock : l.index < locks_of k) (few : locks_of k ≤ 32) where
+    (lock : l.index < locks_of k) (few : locks_of k ≤ MOST_LOCKS) where
   abbrev j₀ : ℕ
   j₀ = hash_at k i
 
@@ -203,11 +204,11 @@ sought_is_there k m ws l a n h some near passed =
     ]
 
 -- the lock of a pair is known by its number
-pub pair_lock : (j l : ℕ) (a b : NodeName) → j < 32 → l < 32 → pair_number j a ≡ pair_number l b → j ≡ l
+pub pair_lock : (j l : ℕ) (a b : NodeName) → j < MOST_LOCKS → l < MOST_LOCKS → pair_number j a ≡ pair_number l b → j ≡ l
 pair_lock j l a b lt kt e = omega (arith, e, lt, kt)
 
 -- an entry of the lock stands there, or none does
-pub decide : (k : Plan) (w : World) (ws : List ℕ) (i lock : ℕ) → IsHashed k w ws → i < places_of k → lock < locks_of k → locks_of k ≤ 32
+pub decide : (k : Plan) (w : World) (ws : List ℕ) (i lock : ℕ) → IsHashed k w ws → i < places_of k → lock < locks_of k → locks_of k ≤ MOST_LOCKS
     → ((a : NodeName) × IsNode k a × (get_or ws (hash_at k i) 0 ≡ pair_number lock a))
     ⊎ (IsOther lock (get_or ws (hash_at k i) 0) × ((a : NodeName) → IsNode k a → get_or ws (hash_at k i) 0 ≢ pair_number lock a))
 decide k w ws i lock h low near few = elim (h.placed i low) [

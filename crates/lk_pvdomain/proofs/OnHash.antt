@@ -41,6 +41,7 @@ use Rattle.lk_domain.specs.Words.{state_number, mark_number, pair_number, IsNode
 use Rattle.lk_domain.specs.declared.part.Part.{Part}
 use Rattle.lk_domain.specs.declared.part.Part.TheVariants as part
 use Rattle.lk_domain.specs.declared.plan.Plan.{Plan}
+use Rattle.lk_domain.specs.declared.plan.TheConstants.{MOST_LOCKS}
 use Rattle.lk_domain.specs.declared.view.View.{View}
 use Rattle.lk_domain.proofs.queue.LockSwaps.{stands}
 use Rattle.lk_domain.proofs.queue.NodePlays.{acts', asks, calls_are, kept}
@@ -210,7 +211,7 @@ module _ (k : Plan) {S : Type 0} (s : Table S View) (st : Runs k s) (id : ℕ) (
         let apart : lock ≢ x.frame.lock.index = λ same. none_some
         (sym none ∙ (ap st.world.entry (ap lock_name same ∙ sym (plain_is x.frame.lock e.0)) ∙ some.1)) in
         let few = st.lawful.locks in
-        let high : x.frame.lock.index < 32 = (let z = e.1 in omega (arith, z, few)) in
+        let high : x.frame.lock.index < MOST_LOCKS = (let z = e.1 in omega (arith, z, few)) in
         record {
           passed = λ j b lt fit is_pair. elim (cases_eq j i) [
             | inl same ↦ apart (pair_is lock x.frame.lock.index a b (omega (arith, near, few)) high node.index fit.index

@@ -39,6 +39,7 @@ use Rattle.lk_domain.specs.Views.{IsNumbered}
 use Rattle.lk_domain.specs.Words.{version_at, balance_at, places_of, node_at, node_number, state_at, kick_at, hash_at, stored_number}
 use Rattle.lk_domain.specs.Words.{state_number, mark_number, pair_number, IsNode}
 use Rattle.lk_domain.specs.declared.plan.Plan.{Plan}
+use Rattle.lk_domain.specs.declared.plan.TheConstants.{MOST_LOCKS}
 use Rattle.lk_domain.specs.declared.view.View.{View}
 use Rattle.lk_domain.proofs.journals.Purses.{alters, knows_same}
 use Rattle.lk_domain.proofs.queue.LockSwaps.{set_self}
@@ -198,7 +199,7 @@ module _ (k : Plan) {S : Type 0} (s : Table S View) (st : Runs k s) (id : ℕ) (
         let some = sought_entry st.world _ (waiter r x.frame.ctx) x.frame st.sound.spins (ap halts st.of_plan.mode ∙ halting) live h in
         let e = hash.entered x.frame.lock some.0 some.1 in
         let few = st.lawful.locks in
-        let high : x.frame.lock.index < 32 = (let z = e.1 in omega (arith, z, few)) in
+        let high : x.frame.lock.index < MOST_LOCKS = (let z = e.1 in omega (arith, z, few)) in
         let ne : r ≢ p = λ same. off (apart s.views (get_or s.words 0 0) st.once id q v y p me there is (numbered ∙ ap Some same)) in
         let lives : m.frame (waiter r x.frame.ctx) ≡ Some x.frame = (at.acted.others (waiter r x.frame.ctx) ne).0 ∙ live in
         let differ : lock ≢ x.frame.lock.index = λ same. ne (sym (ap (λ (u : Waiter). u.cpu)
@@ -372,7 +373,7 @@ module _ (k : Plan) {S : Type 0} (s : Table S View) (st : Runs k s) (id : ℕ) (
       seeks homes)
 
 -- where the lock has an entry, and none of so many places has it, there is a place left
-more_left : (k : Plan) (w : World) (ws : List ℕ) (l : LockName) (n : ℕ) → IsHashed k w ws → locks_of k ≤ 32
+more_left : (k : Plan) (w : World) (ws : List ℕ) (l : LockName) (n : ℕ) → IsHashed k w ws → locks_of k ≤ MOST_LOCKS
     → (a : NodeName) → w.entry l ≡ Some a
     → ((i : ℕ) (b : NodeName) → i < n → IsNode k b → get_or ws (hash_at k i) 0 ≢ pair_number l.index b) → n < places_of k
 more_left k w ws l n h few a there passed =

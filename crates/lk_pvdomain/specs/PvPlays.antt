@@ -21,6 +21,7 @@ use Rattle.lk_domain.specs.Keeps.{AllHome}
 use Rattle.lk_domain.specs.Plays.{Goes, made}
 use Rattle.lk_domain.specs.Words.{state_number, pair_number, mark_number, lock_at, places_of, IsNode}
 use Rattle.lk_domain.specs.declared.view.View.{View}
+use Rattle.lk_domain.specs.declared.plan.TheConstants.{MOST_LOCKS}
 use Rattle.lk_pvdomain.specs.PvRows.{state_node, halts_at, fills, filled_with, erases}
 
 -- the newest call stands at a row of this kind, which operates on the state of this node
@@ -127,7 +128,7 @@ spotted a v = record v { calls = record v.calls { spot = Some a } }
 
 -- the place is empty, or has another lock's entry
 abbrev pub IsOther : ℕ → ℕ → Type 0
-IsOther lock met = (met ≡ 0) ⊎ ((l : ℕ) × (b : NodeName) × (l < 32) × (l ≢ lock) × (met ≡ pair_number l b))
+IsOther lock met = (met ≡ 0) ⊎ ((l : ℕ) × (b : NodeName) × (l < MOST_LOCKS) × (l ≢ lock) × (met ≡ pair_number l b))
 
 -- and in both cases there is a place left to look at, that of the entry or a next one
 pub record SeesPlace {S : Type 0} (lock : ℕ) (m : Me S View) (met : ℕ) (n : Me S View) : Type 0 where

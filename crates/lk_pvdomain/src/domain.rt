@@ -88,7 +88,7 @@ impl PvDomain {
     {
         prove!(self.plan.locks.len() <= MOST_LOCKS);
         prove!(self.plan.topology.sockets.len() <= MOST_CPUS);
-        1 + lock as u64 + 32 * (4 * node.cpu as u64 + node.index as u64)
+        1 + lock as u64 + MOST_LOCKS as u64 * (4 * node.cpu as u64 + node.index as u64)
     }
 
     // How many places the hash has.

@@ -12,8 +12,8 @@ ghost use Rattle.lk_pvdomain.specs.PvPaths.{At, Ended, Start};
 
 use crate::domain::PvDomain;
 use crate::{hash, kicks, tries, words};
-use lk_domain::Right;
 use lk_domain::moves::WordUse;
+use lk_domain::{MOST_LOCKS, Right};
 use lk_word::{HELD, low_byte};
 use std::sync::Wait;
 
@@ -49,5 +49,5 @@ fn wake_next(seat: &mut Right, domain: &PvDomain, lock: u32)
 {
     let pair = hash::take_out(seat, domain, lock);
     words::go_on(seat, domain, lock, WordUse::Drops);
-    kicks::kick(seat, domain, ((pair - 1) / 128) as u32);
+    kicks::kick(seat, domain, ((pair - 1) / (4 * MOST_LOCKS as u64)) as u32);
 }

@@ -11,8 +11,11 @@ ghost use Rattle.lk_pvdomain.specs.PvPlays.{AtFill, AtSeek, EmptiesAt, Fills, Se
 
 use crate::domain::PvDomain;
 use crate::rule::{Erasings, Fillings, PlaceLooks};
-use lk_domain::Right;
+use lk_domain::{MOST_LOCKS, Right};
 use lk_word::NodeName;
+
+// The number of an entry counts locks up to this.
+const LOCKS: u64 = MOST_LOCKS as u64;
 
 // Puts the lock into the hash at a place, if that is empty: the rows E6, with the own node, and K3,
 // with the successor's.
@@ -92,7 +95,7 @@ pub(crate) fn find(seat: &mut Right, domain: &PvDomain, lock: u32) -> usize
 {
     for place in 0..domain.places() {
         let met = look_place(seat, domain, lock, place);
-        if met != 0 && (met - 1) % 32 == lock as u64 {
+        if met != 0 && (met - 1) % LOCKS == lock as u64 {
             return place;
         }
     }

@@ -13,7 +13,7 @@ pub struct PvPlan {
     pub format: Format,
     /// The spin bound: how many turns a waiter spins before it halts, 1 to 65,535.
     pub spins: u32,
-    /// The number of locks, 1 to 32. All are spinlocks, and lock 0 guards the ledger.
+    /// The number of locks, 1 to 4,096. All are spinlocks, and lock 0 guards the ledger.
     pub locks: u32,
     /// The opening balance of each account, at most 64. Their sum is below 2^63.
     pub balances: List<u64>,

@@ -16,7 +16,7 @@ use lk_abs::{Memory, Mode, Topology};
 use lk_lock::{Locks, Open};
 use std::alloc::Global;
 
-/// Locks to be made, at most 32, each with a rank, and how many threads will take them. A lock ranks
+/// Locks to be made, at most 4,096, each with a rank, and how many threads will take them. A lock ranks
 /// above all that were made before it.
 #[derive(Drop)]
 pub struct Ranks {

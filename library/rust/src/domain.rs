@@ -87,14 +87,15 @@ impl Builder {
         self
     }
 
-    /// So many locks for a [`Mutex`](crate::Mutex) each. A domain has 1 to 32 locks of both kinds.
+    /// So many locks for a [`Mutex`](crate::Mutex) each. A domain has 1 to 4,096 locks of both
+    /// kinds.
     #[must_use]
     pub fn mutexes(mut self, count: usize) -> Builder {
         self.mutexes = count;
         self
     }
 
-    /// So many locks for an [`RwLock`](crate::RwLock) each. A domain has 1 to 32 locks of both
+    /// So many locks for an [`RwLock`](crate::RwLock) each. A domain has 1 to 4,096 locks of both
     /// kinds.
     #[must_use]
     pub fn rw_locks(mut self, count: usize) -> Builder {
@@ -127,7 +128,7 @@ impl Builder {
         let cpus = opened(self.family, &self.kinds(), &self.sockets, self.threshold)?;
         let numbered = cpus.into_iter().zip(&self.sockets).enumerate();
         let seats =
-            numbered.map(|(number, (cpu, &socket))| Seat::new(cpu, number, socket)).collect();
+            numbered.map(|(number, (cpu, &socket))| Seat::new(cpu, number, socket, asked)).collect();
         let (mutexes, locks) = (self.mutexes as u32, asked as u32);
         let pool = Pool {
             seats: (0..self.processors).rev().collect(),

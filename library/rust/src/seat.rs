@@ -8,7 +8,7 @@ use std::thread;
 
 use crate::library::{self, BUSY, Call, Cpu, DONE, HELD, Manner, WAITS};
 
-/// Set while a thread is registered with the processor. The bits below are those of locks.
+/// Set while a thread is registered with the processor. Below it is how many locks the thread has.
 const REGISTERED: u64 = 1 << 63;
 
 /// A waiting call looks so often with a hint to the machine in between. Then it yields at each look.
@@ -19,8 +19,10 @@ const HINTS: u32 = 100;
 #[repr(align(128))]
 pub(crate) struct Seat {
     cpu: UnsafeCell<Cpu>,
-    /// `REGISTERED`, and a bit for each lock that the thread has. That thread alone writes it.
+    /// `REGISTERED`, and the number of locks that the thread has. That thread alone writes it.
     state: AtomicU64,
+    /// A bit for each lock of the domain: whether the thread has it. That thread alone writes them.
+    locks: Box<[AtomicU64]>,
     number: usize,
     pub(crate) socket: u32,
 }
@@ -41,18 +43,25 @@ pub(crate) enum Refused {
 }
 
 impl Seat {
-    pub(crate) fn new(cpu: Cpu, number: usize, socket: u32) -> Seat {
-        Seat { cpu: UnsafeCell::new(cpu), state: AtomicU64::new(0), number, socket }
+    /// Of a domain with so many locks.
+    pub(crate) fn new(cpu: Cpu, number: usize, socket: u32, locks: usize) -> Seat {
+        let locks = (0..locks.div_ceil(64)).map(|_| AtomicU64::new(0)).collect();
+        Seat { cpu: UnsafeCell::new(cpu), state: AtomicU64::new(0), locks, number, socket }
     }
 
     /// Whether its thread has a lock. It may change at once, if that is another thread.
     pub(crate) fn holds(&self, lock: u32) -> bool {
-        self.state.load(Ordering::Relaxed) & bit(lock) != 0
+        self.word(lock).load(Ordering::Relaxed) & bit(lock) != 0
     }
 
     /// Whether its thread has a lock of the domain.
     pub(crate) fn has_locks(&self) -> bool {
         self.state.load(Ordering::Relaxed) & !REGISTERED != 0
+    }
+
+    /// The word with the bit of a lock.
+    fn word(&self, lock: u32) -> &AtomicU64 {
+        &self.locks[lock as usize / 64]
     }
 
     /// Closes the handle. A processor with a lock, whose guard was forgotten, stays in the library.
@@ -103,12 +112,13 @@ impl<'a> Seated<'a> {
     pub(crate) fn free(self, manner: &Manner, lock: u32) -> bool {
         let answer = self.call(manner.frees, lock);
         assert!(answer == DONE, "qlock: lock {lock} was not freed, by code {answer}");
-        self.drops(bit(lock))
+        let word = self.seat.word(lock);
+        word.store(word.load(Ordering::Relaxed) & !bit(lock), Ordering::Relaxed);
+        self.sets(self.state() - 1)
     }
 
     pub(crate) fn register(self) {
-        let state = self.seat.state.load(Ordering::Relaxed);
-        self.seat.state.store(state | REGISTERED, Ordering::Relaxed);
+        self.sets(self.state() | REGISTERED);
     }
 
     pub(crate) fn number(self) -> usize {
@@ -117,14 +127,15 @@ impl<'a> Seated<'a> {
 
     /// Ends the registration. True: the thread has the seat no longer.
     pub(crate) fn leave(self) -> bool {
-        self.drops(REGISTERED)
+        self.sets(self.state() & !REGISTERED)
     }
 
     fn takes(self, answer: u32, lock: u32) -> Result<(), Refused> {
         match answer {
             DONE => {
-                let state = self.seat.state.load(Ordering::Relaxed);
-                self.seat.state.store(state | bit(lock), Ordering::Relaxed);
+                let word = self.seat.word(lock);
+                word.store(word.load(Ordering::Relaxed) | bit(lock), Ordering::Relaxed);
+                self.sets(self.state() + 1);
                 Ok(())
             }
             BUSY => Err(Refused::Busy),
@@ -133,8 +144,12 @@ impl<'a> Seated<'a> {
         }
     }
 
-    fn drops(self, bits: u64) -> bool {
-        let state = self.seat.state.load(Ordering::Relaxed) & !bits;
+    fn state(self) -> u64 {
+        self.seat.state.load(Ordering::Relaxed)
+    }
+
+    /// True: the thread has the seat no longer.
+    fn sets(self, state: u64) -> bool {
         self.seat.state.store(state, Ordering::Relaxed);
         state == 0
     }
@@ -153,5 +168,5 @@ impl<'a> Seated<'a> {
 }
 
 fn bit(lock: u32) -> u64 {
-    1 << lock
+    1 << (lock % 64)
 }

@@ -195,12 +195,26 @@ fn a_domain_is_refused_where_a_number_is_out_of_range() {
         assert_eq!(one(asked).mutexes(1).open().err(), Some(Error::Processors { asked }));
     }
     assert_eq!(one(1).open().err(), Some(Error::Locks { asked: 0 }));
-    assert_eq!(one(1).mutexes(20).rw_locks(13).open().err(), Some(Error::Locks { asked: 33 }));
+    assert_eq!(one(1).mutexes(4000).rw_locks(97).open().err(), Some(Error::Locks { asked: 4097 }));
     let asked = usize::MAX;
     assert_eq!(one(1).mutexes(asked).rw_locks(2).open().err(), Some(Error::Locks { asked }));
-    assert_eq!(Error::Locks { asked: 0 }.to_string(), "0 locks: a domain has 1 to 32");
+    assert_eq!(Error::Locks { asked: 0 }.to_string(), "0 locks: a domain has 1 to 4096");
     assert_eq!(Error::Processors { asked: 1025 }.to_string(), "1025 processors: a domain has 1 to 1024");
     assert!(one(1024).mutexes(16).rw_locks(16).open().is_ok());
+}
+
+#[test]
+fn a_thread_has_any_of_the_locks_of_a_large_domain() {
+    let domain = Domain::builder(Family::Native).processors(2).mutexes(4096).open().unwrap();
+    let locks: Vec<_> = (0..4096).map(|value| Mutex::new(&domain, value).unwrap()).collect();
+    let all: Vec<_> = locks.iter().map(|lock| lock.lock()).collect();
+    assert_eq!(all.iter().map(|value| **value).sum::<usize>(), 4095 * 2048);
+    std::thread::scope(|scope| {
+        let other = scope.spawn(|| locks.iter().all(|lock| lock.try_lock().is_none()));
+        assert!(other.join().unwrap());
+    });
+    drop(all);
+    assert!(locks.iter().all(|lock| lock.try_lock().is_some()));
 }
 
 #[test]

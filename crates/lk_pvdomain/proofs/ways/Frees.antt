@@ -28,6 +28,7 @@ use Rattle.lk_domain.specs.Plans.{locks_of}
 use Rattle.lk_domain.specs.Plays.{went, WentBy, MadeBy}
 use Rattle.lk_domain.specs.Words.{pair_number}
 use Rattle.lk_domain.specs.declared.view.View.{View}
+use Rattle.lk_domain.specs.declared.plan.TheConstants.{MOST_LOCKS}
 use Rattle.lk_pvdomain.specs.declared.domain.PvDomain.{PvDomain}
 use Rattle.lk_pvdomain.specs.PvPaths.{Start, starting, AtOn, RestsOn, EndedOn, Kicks, freed, Took, Ended, first_of}
 use Rattle.lk_pvdomain.specs.PvPlays.{AtKick, EmptiesAt}
@@ -112,7 +113,7 @@ out_freed g l t = by (is_first (lock_name l))
     by false = refl
 
 -- whom a pair names
-pub pair_cpu : (l : ℕ) (n : NodeName) (m : ℕ) → l < 32 → n.index < 4 → m ≡ pair_number l n → (m - 1) / 128 ≡ n.cpu
+pub pair_cpu : (l : ℕ) (n : NodeName) (m : ℕ) → l < MOST_LOCKS → n.index < 4 → m ≡ pair_number l n → (m - 1) / 16384 ≡ n.cpu
 pair_cpu l n m low index e = omega (arith, low, index, e)
 
 -- to free again what is free changes nothing

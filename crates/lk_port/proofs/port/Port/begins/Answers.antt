@@ -16,14 +16,14 @@ invariant_of-self c =
     let d = arc_value me.domain in
     let may = c.requires.may in
     let l = c.args.lock.index in
-    let idle = port.rests d me.writes me.pending me.cpu may.free c.stands.ensures in
+    let idle = port.rests d me.writes.items me.pending me.cpu may.free c.stands.ensures in
     let s = starting me.cpu false None in
     let new = c.arrive.new.cpu in
     let has : Holds d Lock l manner.Spins s new None =
     subst (λ (e : Domain). Holds e Lock l manner.Spins s new None) c.deref-domain.ensures (c.arrive.ensures.holds c.in-None.is false) in
     record {
       of = still_of d me.cpu new c.arrive.ensures.rest me.of;
-      stands = ∣ port.stands d me.writes me.pending new may.free (port.held d Lock l s new None me.writes idle has may.kind) ∣₁;
+      stands = ∣ port.stands d me.writes.items me.pending new may.free (port.held d Lock l s new None me.writes.items idle has may.kind) ∣₁;
     }
 
 pub invariant_of-self-in-Some : goal.invariant_of-self-in-Some
@@ -32,7 +32,7 @@ invariant_of-self-in-Some c =
     let d = arc_value me.domain in
     let may = c.requires.may in
     let lock = c.args.lock in
-    let idle = port.rests d me.writes me.pending me.cpu may.free c.stands.ensures in
+    let idle = port.rests d me.writes.items me.pending me.cpu may.free c.stands.ensures in
     let s = starting me.cpu false None in
     let new = c.settles.new.cpu in
     let o = c.settles.new.pending in
@@ -40,7 +40,7 @@ invariant_of-self-in-Some c =
     let begun = c.arrive.ensures.met c.in-Some.arrival c.in-Some.is false in
     record {
       of = still_of d me.cpu new (rest_both me.cpu c.arrive.new.cpu new c.arrive.ensures.rest c.settles.ensures.rest) me.of;
-      stands = ∣ port.settled d me.writes lock me.pending o s new c.settles.result idle may.free may.kind
+      stands = ∣ port.settled d me.writes.items lock me.pending o s new c.settles.result idle may.free may.kind
           (λ z. subst (λ (e : Domain). Holds e Lock lock.index manner.Spins s new None) is (c.settles.ensures.holds z s begun))
           c.settles.ensures.same
           (λ z. subst (λ (e : Domain). IsPending e lock o s new) is (c.settles.ensures.waits z s begun)) ∣₁;

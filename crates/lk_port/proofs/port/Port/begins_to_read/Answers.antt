@@ -1,4 +1,4 @@
-use Rattle.std.proofs.Common.{None, false, set, subst}
+use Rattle.std.proofs.Common.{None, false, set, subst, arith}
 use Rattle.std.specs.Arc.{arc_value}
 use Rattle.lk_abs.specs.declared.holder.Manner.TheVariants as manner
 use Rattle.lk_rows.specs.declared.setup.Verb.TheVariants.{Read}
@@ -15,15 +15,15 @@ invariant_of-self c =
     let d = arc_value me.domain in
     let may = c.requires.may in
     let l = c.args.lock.index in
-    let idle = port.rests d me.writes me.pending me.cpu may.free c.stands.ensures in
+    let idle = port.rests d me.writes.items me.pending me.cpu may.free c.stands.ensures in
     let s = starting me.cpu false None in
     let new = c.begin_read.new.cpu in
     let has : CameIn d Read l manner.Reads s new None =
     subst (λ (e : Domain). CameIn e Read l manner.Reads s new None) c.deref-domain.ensures (c.begin_read.ensures.entered c.in-None.is false) in
     record {
       of = still_of d me.cpu new c.begin_read.ensures.rest me.of;
-      stands = ∣ port.stands d (set me.writes l false) me.pending new may.free
-          (port.came d Read l false s new None me.writes idle has (port.low d l may.lock) may.kind) ∣₁;
+      stands = ∣ port.stands d (set me.writes.items l false) me.pending new may.free
+          (port.came d Read l false s new None me.writes.items idle has may.lock may.kind) ∣₁;
     }
 
 pub invariant_of-self-in-Some : goal.invariant_of-self-in-Some
@@ -31,7 +31,7 @@ invariant_of-self-in-Some c =
     let me = c.args.self.now in
     let d = arc_value me.domain in
     let may = c.requires.may in
-    let idle = port.rests d me.writes me.pending me.cpu may.free c.stands.ensures in
+    let idle = port.rests d me.writes.items me.pending me.cpu may.free c.stands.ensures in
     let s = starting me.cpu false None in
     let w = c.in-Some.waiter in
     let new = c.begin_read.new.cpu in
@@ -41,3 +41,10 @@ invariant_of-self-in-Some c =
       of = still_of d me.cpu new c.begin_read.ensures.rest me.of;
       stands = ∣ (s, idle, port.same_kind d c.args.lock w.lock (c.begin_read.ensures.lock w c.in-Some.is) may.kind, waits) ∣₁;
     }
+
+pub get_mut-requires : goal.get_mut-requires
+get_mut-requires c =
+    let me = c.args.self.now in
+    let may = c.requires.may in
+    let idle = port.rests (arc_value me.domain) me.writes.items me.pending me.cpu may.free c.stands.ensures in
+    omega (arith, may.lock, idle.noted.long)

@@ -1,4 +1,4 @@
-use Rattle.std.proofs.Common.{None, false, subst, sym}
+use Rattle.std.proofs.Common.{None, false, subst, sym, arith}
 use Rattle.std.specs.Arc.{arc_value}
 use Rattle.lk_abs.specs.declared.holder.Manner.TheVariants as manner
 use Rattle.lk_rows.specs.declared.setup.Verb.TheVariants.{Read}
@@ -18,13 +18,13 @@ invariant_of-self c =
     let d = arc_value me.domain in
     let w = c.args.waiter in
     let same = c.deref-domain.ensures in
-    let was : Stands d me.writes (Reads w) me.cpu = subst (λ (o : Pending). Stands d me.writes o me.cpu) c.requires.waits c.stands.ensures in
+    let was : Stands d me.writes.items (Reads w) me.cpu = subst (λ (o : Pending). Stands d me.writes.items o me.cpu) c.requires.waits c.stands.ensures in
     let waits : Waits c.deref-domain.result.now w was.0 me.cpu = subst (λ (e : Domain). Waits e w was.0 me.cpu) (sym same) was.3 in
     let has : CameIn d Read w.lock.index manner.Reads was.0 c.poll_read.new.cpu None =
     subst (λ (e : Domain). CameIn e Read w.lock.index manner.Reads was.0 c.poll_read.new.cpu None) same (c.poll_read.ensures.entered c.in-None.is was.0 waits) in
     record {
       of = still_of d me.cpu c.poll_read.new.cpu c.poll_read.ensures.rest me.of;
-      stands = ∣ port.came d Read w.lock.index false was.0 c.poll_read.new.cpu None me.writes was.1 has (port.low d w.lock.index was.3.low) was.2 ∣₁;
+      stands = ∣ port.came d Read w.lock.index false was.0 c.poll_read.new.cpu None me.writes.items was.1 has was.3.low was.2 ∣₁;
     }
 
 pub invariant_of-self-in-Some : goal.invariant_of-self-in-Some
@@ -34,7 +34,7 @@ invariant_of-self-in-Some c =
     let w = c.args.waiter in
     let v = c.in-Some.waiter in
     let same = c.deref-domain.ensures in
-    let was : Stands d me.writes (Reads w) me.cpu = subst (λ (o : Pending). Stands d me.writes o me.cpu) c.requires.waits c.stands.ensures in
+    let was : Stands d me.writes.items (Reads w) me.cpu = subst (λ (o : Pending). Stands d me.writes.items o me.cpu) c.requires.waits c.stands.ensures in
     let waits : Waits c.deref-domain.result.now w was.0 me.cpu = subst (λ (e : Domain). Waits e w was.0 me.cpu) (sym same) was.3 in
     let goes : Waits d v was.0 c.poll_read.new.cpu =
     subst (λ (e : Domain). Waits e v was.0 c.poll_read.new.cpu) same (c.poll_read.ensures.waits v c.in-Some.is was.0 waits) in
@@ -42,3 +42,10 @@ invariant_of-self-in-Some c =
       of = still_of d me.cpu c.poll_read.new.cpu c.poll_read.ensures.rest me.of;
       stands = ∣ (was.0, was.1, port.same_kind d w.lock v.lock (c.poll_read.ensures.lock v c.in-Some.is) was.2, goes) ∣₁;
     }
+
+pub get_mut-requires : goal.get_mut-requires
+get_mut-requires c =
+    let me = c.args.self.now in
+    let d = arc_value me.domain in
+    let was : Stands d me.writes.items (Reads c.args.waiter) me.cpu = subst (λ (o : Pending). Stands d me.writes.items o me.cpu) c.requires.waits c.stands.ensures in
+    omega (arith, was.3.low, was.1.noted.long)

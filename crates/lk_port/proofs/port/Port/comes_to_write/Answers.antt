@@ -1,4 +1,4 @@
-use Rattle.std.proofs.Common.{None, true, subst, sym}
+use Rattle.std.proofs.Common.{None, true, subst, sym, arith}
 use Rattle.std.specs.Arc.{arc_value}
 use Rattle.lk_abs.specs.declared.holder.Manner.TheVariants as manner
 use Rattle.lk_rows.specs.declared.setup.Verb.TheVariants.{Write}
@@ -18,13 +18,13 @@ invariant_of-self c =
     let d = arc_value me.domain in
     let w = c.args.waiter in
     let same = c.deref-domain.ensures in
-    let was : Stands d me.writes (Writes w) me.cpu = subst (λ (o : Pending). Stands d me.writes o me.cpu) c.requires.waits c.stands.ensures in
+    let was : Stands d me.writes.items (Writes w) me.cpu = subst (λ (o : Pending). Stands d me.writes.items o me.cpu) c.requires.waits c.stands.ensures in
     let waits : Waits c.deref-domain.result.now w was.0 me.cpu = subst (λ (e : Domain). Waits e w was.0 me.cpu) (sym same) was.3 in
     let has : CameIn d Write w.lock.index manner.Writes was.0 c.poll_write.new.cpu None =
     subst (λ (e : Domain). CameIn e Write w.lock.index manner.Writes was.0 c.poll_write.new.cpu None) same (c.poll_write.ensures.entered c.in-None.is was.0 waits) in
     record {
       of = still_of d me.cpu c.poll_write.new.cpu c.poll_write.ensures.rest me.of;
-      stands = ∣ port.came d Write w.lock.index true was.0 c.poll_write.new.cpu None me.writes was.1 has (port.low d w.lock.index was.3.low) was.2 ∣₁;
+      stands = ∣ port.came d Write w.lock.index true was.0 c.poll_write.new.cpu None me.writes.items was.1 has was.3.low was.2 ∣₁;
     }
 
 pub invariant_of-self-in-Some : goal.invariant_of-self-in-Some
@@ -34,7 +34,7 @@ invariant_of-self-in-Some c =
     let w = c.args.waiter in
     let v = c.in-Some.waiter in
     let same = c.deref-domain.ensures in
-    let was : Stands d me.writes (Writes w) me.cpu = subst (λ (o : Pending). Stands d me.writes o me.cpu) c.requires.waits c.stands.ensures in
+    let was : Stands d me.writes.items (Writes w) me.cpu = subst (λ (o : Pending). Stands d me.writes.items o me.cpu) c.requires.waits c.stands.ensures in
     let waits : Waits c.deref-domain.result.now w was.0 me.cpu = subst (λ (e : Domain). Waits e w was.0 me.cpu) (sym same) was.3 in
     let goes : Waits d v was.0 c.poll_write.new.cpu =
     subst (λ (e : Domain). Waits e v was.0 c.poll_write.new.cpu) same (c.poll_write.ensures.waits v c.in-Some.is was.0 waits) in
@@ -42,3 +42,10 @@ invariant_of-self-in-Some c =
       of = still_of d me.cpu c.poll_write.new.cpu c.poll_write.ensures.rest me.of;
       stands = ∣ (was.0, was.1, port.same_kind d w.lock v.lock (c.poll_write.ensures.lock v c.in-Some.is) was.2, goes) ∣₁;
     }
+
+pub get_mut-requires : goal.get_mut-requires
+get_mut-requires c =
+    let me = c.args.self.now in
+    let d = arc_value me.domain in
+    let was : Stands d me.writes.items (Writes c.args.waiter) me.cpu = subst (λ (o : Pending). Stands d me.writes.items o me.cpu) c.requires.waits c.stands.ensures in
+    omega (arith, was.3.low, was.1.noted.long)

@@ -11,7 +11,7 @@ write_unlock-requires-clause-value c =
     let d = arc_value me.domain in
     let may = c.requires.may in
     let l = c.args.lock.index in
-    let idle = port.rests d me.writes me.pending me.cpu may.free c.stands.ensures in
+    let idle = port.rests d me.writes.items me.pending me.cpu may.free c.stands.ensures in
     port.none_out (calls_of me.cpu).holds l idle.home
 
 pub invariant_of-self : goal.invariant_of-self
@@ -20,9 +20,9 @@ invariant_of-self c =
     let d = arc_value me.domain in
     let may = c.requires.may in
     let l = c.args.lock.index in
-    let idle = port.rests d me.writes me.pending me.cpu may.free c.stands.ensures in
+    let idle = port.rests d me.writes.items me.pending me.cpu may.free c.stands.ensures in
     let new = c.write_unlock.new.cpu in
     record {
       of = still_of d me.cpu new c.write_unlock.ensures.rest me.of;
-      stands = ∣ port.stands d me.writes me.pending new may.free (port.left d l me.cpu new Z2 me.writes idle c.write_unlock.ensures.left) ∣₁;
+      stands = ∣ port.stands d me.writes.items me.pending new may.free (port.left d l me.cpu new Z2 me.writes.items idle c.write_unlock.ensures.left) ∣₁;
     }

@@ -1,4 +1,4 @@
-use Rattle.std.proofs.Common.{true, false}
+use Rattle.std.proofs.Common.{true, false, arith}
 use Rattle.std.specs.Arc.{arc_value}
 use Rattle.lk_domain.specs.Seats.{calls_of, ledger_of}
 use Rattle.lk_port.proofs.Ports as port
@@ -10,8 +10,8 @@ returns-clause-writes c is =
     let d = arc_value me.domain in
     let may = c.requires.may in
     let l = c.args.lock.index in
-    let idle = port.rests d me.writes me.pending me.cpu may.free c.stands.ensures in
-    port.way d.plan me.writes (calls_of me.cpu) (ledger_of me.cpu) l true idle may.kind may.holds is
+    let idle = port.rests d me.writes.items me.pending me.cpu may.free c.stands.ensures in
+    port.way d.plan me.writes.items (calls_of me.cpu) (ledger_of me.cpu) l true idle may.kind may.holds is
 
 pub returns-clause-reads : goal.returns-clause-reads
 returns-clause-reads c is =
@@ -19,5 +19,12 @@ returns-clause-reads c is =
     let d = arc_value me.domain in
     let may = c.requires.may in
     let l = c.args.lock.index in
-    let idle = port.rests d me.writes me.pending me.cpu may.free c.stands.ensures in
-    port.way d.plan me.writes (calls_of me.cpu) (ledger_of me.cpu) l false idle may.kind may.holds is
+    let idle = port.rests d me.writes.items me.pending me.cpu may.free c.stands.ensures in
+    port.way d.plan me.writes.items (calls_of me.cpu) (ledger_of me.cpu) l false idle may.kind may.holds is
+
+pub get-requires : goal.get-requires
+get-requires c =
+    let me = c.args.self.now in
+    let may = c.requires.may in
+    let idle = port.rests (arc_value me.domain) me.writes.items me.pending me.cpu may.free c.stands.ensures in
+    omega (arith, may.lock, idle.noted.long)

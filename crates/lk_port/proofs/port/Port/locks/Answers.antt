@@ -18,11 +18,11 @@ invariant_of-self c =
     let d = arc_value me.domain in
     let w = c.args.waiter in
     let same = c.deref-domain.ensures in
-    let was : Stands d me.writes (Spins w) me.cpu = subst (λ (o : Pending). Stands d me.writes o me.cpu) c.requires.waits c.stands.ensures in
+    let was : Stands d me.writes.items (Spins w) me.cpu = subst (λ (o : Pending). Stands d me.writes.items o me.cpu) c.requires.waits c.stands.ensures in
     let waits : Waits c.deref-domain.result.now w was.0 me.cpu = subst (λ (e : Domain). Waits e w was.0 me.cpu) (sym same) was.3 in
     let has : Holds d Lock w.lock.index manner.Spins was.0 c.poll.new.cpu None =
     subst (λ (e : Domain). Holds e Lock w.lock.index manner.Spins was.0 c.poll.new.cpu None) same (c.poll.ensures.holds c.in-None.is was.0 waits) in
     record {
       of = still_of d me.cpu c.poll.new.cpu c.poll.ensures.rest me.of;
-      stands = ∣ port.held d Lock w.lock.index was.0 c.poll.new.cpu None me.writes was.1 has was.2 ∣₁;
+      stands = ∣ port.held d Lock w.lock.index was.0 c.poll.new.cpu None me.writes.items was.1 has was.2 ∣₁;
     }

@@ -15,13 +15,13 @@ invariant_of-self c =
     let d = arc_value me.domain in
     let may = c.requires.may in
     let l = c.args.lock.index in
-    let idle = port.rests d me.writes me.pending me.cpu may.free c.stands.ensures in
+    let idle = port.rests d me.writes.items me.pending me.cpu may.free c.stands.ensures in
     let has = c.try_lock.result in
     let new = c.try_lock.new.cpu in
     let same = c.deref-domain.ensures in
     record {
       of = still_of d me.cpu new c.try_lock.ensures.rest me.of;
-      stands = ∣ port.stands d me.writes me.pending new may.free (port.tried d l me.cpu new Try has me.writes idle
+      stands = ∣ port.stands d me.writes.items me.pending new may.free (port.tried d l me.cpu new Try has me.writes.items idle
           (subst (λ (e : Domain). has ≡ true → Gains e Try l Spins (calls_of me.cpu) me.cpu new) same c.try_lock.ensures.taken)
           (subst (λ (e : Domain). has ≡ false → Misses e Try l (calls_of me.cpu) me.cpu new) same c.try_lock.ensures.missed)
           may.kind) ∣₁;

@@ -1,4 +1,4 @@
-use Rattle.std.proofs.Common.{set, false, subst}
+use Rattle.std.proofs.Common.{set, false, subst, arith}
 use Rattle.std.specs.Arc.{arc_value}
 use Rattle.lk_abs.specs.declared.holder.Manner.TheVariants as manner
 use Rattle.lk_rows.specs.declared.setup.Verb.TheVariants.{TryRead}
@@ -15,13 +15,20 @@ invariant_of-self c =
     let d = arc_value me.domain in
     let may = c.requires.may in
     let l = c.args.lock.index in
-    let idle = port.rests d me.writes me.pending me.cpu may.free c.stands.ensures in
+    let idle = port.rests d me.writes.items me.pending me.cpu may.free c.stands.ensures in
     let new = c.try_read-has.new.cpu in
     let gains : Gains d TryRead l manner.Reads (calls_of me.cpu) me.cpu new =
     subst (λ (e : Domain). Gains e TryRead l manner.Reads (calls_of me.cpu) me.cpu new) c.deref-domain.ensures (c.try_read-has.ensures.taken c.if-has.true) in
     record {
       of = still_of d me.cpu new c.try_read-has.ensures.rest me.of;
-      stands = ∣ port.stands d (set me.writes l false) me.pending new may.free
-          (port.gained d l me.cpu new TryRead manner.Reads me.writes (set me.writes l false) idle gains
-          (port.notes_rw d.plan l false me.writes idle.noted.long (port.low d l may.lock) may.kind)) ∣₁;
+      stands = ∣ port.stands d (set me.writes.items l false) me.pending new may.free
+          (port.gained d l me.cpu new TryRead manner.Reads me.writes.items (set me.writes.items l false) idle gains
+          (port.notes_rw d.plan l false me.writes.items idle.noted.long may.lock may.kind)) ∣₁;
     }
+
+pub get_mut-requires : goal.get_mut-requires
+get_mut-requires c =
+    let me = c.args.self.now in
+    let may = c.requires.may in
+    let idle = port.rests (arc_value me.domain) me.writes.items me.pending me.cpu may.free c.stands.ensures in
+    omega (arith, may.lock, idle.noted.long)
