@@ -72,7 +72,7 @@ is_last mode part.Runs = true
 
 -- Where processors halt, behind them the words of which that family alone has need: a state for each
 -- node, the places of the hash, four for each processor, and for each processor, on a line of the cache
--- of its own, whether a kick of it is remembered. There is room for them in each family.
+-- of its own, whether a kick of it is remembered. Other families have no room for them.
 abbrev pub far_of : Plan → ℕ
 far_of k = 72 + 8 * locks_of k + 16 * cpus_of k
 
@@ -88,9 +88,13 @@ hash_at k i = far_of k + 4 * cpus_of k + i
 abbrev pub kick_at : Plan → ℕ → ℕ
 kick_at k p = far_of k + 8 * cpus_of k + 8 * p
 
+-- how many these are
+abbrev pub halting_words : Plan → ℕ
+halting_words k = if halts k.mode then 16 * cpus_of k else 0
+
 -- how many words there are: behind these, one for each home of a value
 abbrev pub words_of : Plan → ℕ
-words_of k = 72 + 8 * locks_of k + 32 * cpus_of k + homes_of k
+words_of k = far_of k + halting_words k + homes_of k
 
 -- The word by whose load the value of a home goes out and comes home. Each home has its own, since by the
 -- word a step tells which value it was: that of home 0 is the last of all, and before it come the others.

@@ -10,17 +10,17 @@ ghost use Rattle.lk_domain.specs.Seats.{IsDealt, AreDealt};
 ghost use Rattle.lk_domain.specs.Values.{AreLaid, AreShut, homes_of, keys_of, lodged};
 ghost use Rattle.lk_domain.specs.declared.slot.Stowed.TheVariants.{Entries};
 ghost use Rattle.lk_domain.specs.Views.{view, dealer};
-ghost use Rattle.lk_domain.specs.Words.{words_of, IsOpening};
+ghost use Rattle.lk_domain.specs.Words.{words_of, halting_words, IsOpening};
 
 use crate::cpu::{Cpu, Right};
 use crate::domain::Domain;
 use crate::ledger::Journal;
 use crate::notes::Notes;
-use crate::plan::Plan;
+use crate::plan::{MOST_CPUS, Plan};
 use crate::rule::{Deal, Draw};
 use crate::slot::{Slot, Stowed};
 use atomic_table::{Refused, Table};
-use lk_abs::{List, Memory, Topology};
+use lk_abs::{List, Memory, Mode, Topology};
 use lk_cell::Key;
 use std::alloc::{AllocError, Global};
 use std::snapshot::Snapshot;
@@ -51,6 +51,18 @@ impl Plan {
             shares,
             cells: None,
         })
+    }
+
+    // How many words there are of which the family alone has need whose waiters halt.
+    fn halting_words(&self) -> usize
+        requires { IsRunningPlan self.now }
+        ensures { result ≡ halting_words self.now }
+    {
+        prove!(self.topology.sockets.len() <= MOST_CPUS);
+        match self.mode {
+            Mode::Virt | Mode::Native | Mode::Cna => 0,
+            Mode::Pv => 16 * self.topology.sockets.len(),
+        }
     }
 
     /// The number of entries that all processors together may write.
@@ -85,7 +97,8 @@ pub fn opening_words(alloc: Global, plan: &Plan, homes: usize) -> Result<List<u6
     ensures { IfOk result (λ words. IsOpening plan.now words.items) }
 {
     let first = 8 + 8 * plan.locks.len();
-    let Some(count) = homes.checked_add(first + 64 + 32 * plan.topology.sockets.len()) else {
+    let near = first + 64 + 16 * plan.topology.sockets.len() + plan.halting_words();
+    let Some(count) = homes.checked_add(near) else {
         return Err(Memory);
     };
     let mut words = List::filled(alloc, 0, count)?;

@@ -1,24 +1,30 @@
 -- The places of the hash are a map: filled, where the lock has no entry, and emptied.
-use Rattle.std.proofs.Common.{◌≡◌, ◌≢◌, inl, inr, ℕ, ◌<◌, ◌≤◌, List, set, get_or, length}
-use Rattle.std.proofs.Common.{Some, None, false, sym, ap, ◌∙◌, subst, arith}
+use Rattle.std.proofs.Common.{◌≡◌, ◌≢◌, inl, inr, ℕ, ◌+◌, ◌*◌, ◌<◌, ◌≤◌, List, set, get_or, length}
+use Rattle.std.proofs.Common.{Some, None, Bool, true, false, sym, ap, ◌∙◌, subst, arith}
 use Rattle.std.proofs.Common.{get_or-set_other, get_or-set_same}
 use Rattle.std.proofs.lemmas.Bool.{cases_eq}
 use Rattle.std.specs.Prelude.{if◌then◌else◌}
 use Rattle.lk_abs.specs.Names.{same_lock}
 use Rattle.lk_abs.specs.declared.names.LockName.{LockName}
 use Rattle.lk_word.specs.declared.spin_word.NodeName.{NodeName}
+use Rattle.lk_law.specs.Agree.{halts}
 use Rattle.lk_law.specs.World.{World}
 use Rattle.lk_law.proofs.common.Cases.{lock_cases}
 use Rattle.lk_law.proofs.common.Puts.{if-true, if-false, same_lock-else}
 use Rattle.lk_law.proofs.common.Sames.{same_lock-self}
 use Rattle.lk_domain.specs.Calls.{lock_name}
-use Rattle.lk_domain.specs.Plans.{locks_of}
+use Rattle.lk_domain.specs.Plans.{cpus_of, locks_of}
 use Rattle.lk_domain.specs.Runs.{IsHashed}
-use Rattle.lk_domain.specs.Words.{hash_at, pair_number, places_of, words_of, IsNode}
+use Rattle.lk_domain.specs.Values.{homes_of}
+use Rattle.lk_domain.specs.Words.{far_of, hash_at, pair_number, places_of, words_of, IsNode}
 use Rattle.lk_domain.specs.declared.plan.Plan.{Plan}
 use Rattle.lk_domain.specs.declared.plan.TheConstants.{MOST_LOCKS}
 use Rattle.std.proofs.Common.{◌⊎◌}
 use Rattle.lk_pvdomain.specs.PvPlays.{IsOther}
+
+-- where processors halt, all words have room
+pub far_words : (k : Plan) → halts k.mode ≡ true → words_of k ≡ far_of k + 16 * cpus_of k + homes_of k
+far_words k halting = ap (λ (b : Bool). far_of k + (if b then 16 * cpus_of k else 0) + homes_of k) halting
 
 -- a pair is known by its number
 pub pair_is : (j l : ℕ) (a b : NodeName) → j < MOST_LOCKS → l < MOST_LOCKS → a.index < 4 → b.index < 4
@@ -37,7 +43,7 @@ pub place_is : (k : Plan) (i j : ℕ) → hash_at k i ≡ hash_at k j → i ≡ 
 place_is k i j e = omega (arith, e)
 
 module _ (k : Plan) (m n : World) (ws : List ℕ) (i : ℕ) (l : LockName) (a : NodeName) (h : IsHashed k m ws)
-    (low : i < places_of k) (long : length ws ≡ words_of k) (near : IsNode k a) (plain : l.wait ≡ false)
+    (low : i < places_of k) (long : length ws ≡ far_of k + 16 * cpus_of k + homes_of k) (near : IsNode k a) (plain : l.wait ≡ false)
     (lock : l.index < locks_of k) (few : locks_of k ≤ MOST_LOCKS) where
   abbrev j₀ : ℕ
   j₀ = hash_at k i

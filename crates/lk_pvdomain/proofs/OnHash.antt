@@ -56,7 +56,7 @@ use Rattle.lk_domain.proofs.words.Locks.{SameLocks, locks_else, locks_trans, act
 use Rattle.lk_domain.proofs.words.LockPlays.{MayFree}
 use Rattle.lk_pvdomain.specs.PvPlays.{AtFill, Fills}
 use Rattle.lk_pvdomain.specs.PvRows.{fills, filled_with}
-use Rattle.lk_pvdomain.proofs.HashMaps.{filled, pair_is, plain_is, place_is}
+use Rattle.lk_pvdomain.proofs.HashMaps.{filled, pair_is, plain_is, place_is, far_words}
 use Rattle.lk_domain.proofs.rows.Users.{bare_me}
 use Rattle.lk_pvdomain.proofs.Unmarked.{unseen_links, marks_stay, fill_off}
 
@@ -216,7 +216,7 @@ module _ (k : Plan) {S : Type 0} (s : Table S View) (st : Runs k s) (id : ℕ) (
           passed = λ j b lt fit is_pair. elim (cases_eq j i) [
             | inl same ↦ apart (pair_is lock x.frame.lock.index a b (omega (arith, near, few)) high node.index fit.index
                 (sym (get_or-set_same s.words (hash_at k i) (pair_number lock a) 0
-                (let long = st.stored.long in omega (arith, low, long)))
+                (let long = st.stored.long ∙ far_words k halting in omega (arith, low, long)))
                 ∙ (ap (λ (z : ℕ). get_or ws (hash_at k z) 0) (sym same) ∙ is_pair))).0
             | inr ne ↦ o.passed j b lt fit (sym (other (hash_at k j) (λ q. ne (place_is k j i q))) ∙ is_pair)
           ];
@@ -238,7 +238,7 @@ module _ (k : Plan) {S : Type 0} (s : Table S View) (st : Runs k s) (id : ℕ) (
         → Runs k {S = S} (record { words = ws; homes = homes; views = set s.views id u })
     fill_step with_it u who calls homes =
         let d = lands.row_done k s st id v me p is verb l pc begins acts unseen in
-        let long = st.stored.long in
+        let long = st.stored.long ∙ far_words k halting in
         let halted = d.halted ∙ (ap (λ (x : World). x.halted) is_stored ∙ at.acted.same.halted) in
         let kicked = d.kicked ∙ (ap (λ (x : World). x.kicked) is_stored ∙ at.acted.same.kicked) in
         lands.lands k s st id v me p is verb l pc begins acts unseen (Named None) (sym met_is)
@@ -248,7 +248,7 @@ module _ (k : Plan) {S : Type 0} (s : Table S View) (st : Runs k s) (id : ℕ) (
         st.marks (marks_stay m n st.marks (ap halts (at.acted.same.mode ∙ st.of_plan.mode) ∙ halting) (lands.marked_here k s st id v me p is verb l pc begins acts unseen))
         u who calls ws
         (record {
-          long = length-set s.words (hash_at k i) (pair_number lock a) ∙ long;
+          long = length-set s.words (hash_at k i) (pair_number lock a) ∙ st.stored.long;
           locks = locks_else k st.world n s.words st.stored.locks (hash_at k i) (pair_number lock a) (inr (omega arith)) row_locks;
           nodes = λ b q lt h has. other (node_at k b q) (λ e. node_hash k i b q lt h e)
               ∙ (st.stored.nodes b q lt h has ∙ ap (λ (g : NodeName → Node). stored_number (st.marks b) q (node_number q (g b))) (sym nodes));

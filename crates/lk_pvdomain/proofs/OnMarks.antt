@@ -55,6 +55,7 @@ use Rattle.lk_pvdomain.specs.PvPlays.{stirred, woken}
 use Rattle.lk_pvdomain.proofs.OnStates.{seeks_hash, hash_words}
 use Rattle.lk_domain.proofs.rows.Users.{bare_me}
 use Rattle.lk_pvdomain.proofs.Unmarked.{unseen_links, marks_stay, untold}
+use Rattle.lk_pvdomain.proofs.HashMaps.{far_words}
 
 if_if : {A : Type 0} (b : Bool) (x y z : A) → (if b then x else (if b then y else z)) ≡ (if b then x else z)
 if_if true x y z = refl
@@ -273,7 +274,7 @@ module _ (k : Plan) {S : Type 0} (s : Table S View) (st : Runs k s) (id : ℕ) (
     kick_step u who calls homes =
         let ws : List ℕ = set s.words (kick_at k q) 1 in
         let d = lands.row_done k s st id v me p is verb l U5 asks acts (tt, tt) in
-        let long = st.stored.long in
+        let long = st.stored.long ∙ far_words k halting in
         let other : (j : ℕ) → j ≢ kick_at k q → get_or ws j 0 ≡ get_or s.words j 0 =
         λ j ne. get_or-set_other s.words (kick_at k q) j 1 0 ne in
         let hashes : (j : ℕ) → j < places_of k → get_or ws (hash_at k j) 0 ≡ get_or s.words (hash_at k j) 0 =
@@ -285,7 +286,7 @@ module _ (k : Plan) {S : Type 0} (s : Table S View) (st : Runs k s) (id : ℕ) (
         st.marks (marks_stay m₁ n₁ st.marks (ap halts (at₁.acted.same.mode ∙ st.of_plan.mode) ∙ halting) (lands.marked_here k s st id v me p is verb l U5 asks acts (tt, tt)))
         u who calls ws
         (record {
-          long = length-set s.words (kick_at k q) 1 ∙ long;
+          long = length-set s.words (kick_at k q) 1 ∙ st.stored.long;
           locks = locks_else k st.world n₁ s.words st.stored.locks (kick_at k q) 1 (inr (omega arith)) locks;
           nodes = λ b r lt h has. other (node_at k b r) (λ e. node_kick k q b r lt h e)
               ∙ (st.stored.nodes b r lt h has ∙ ap (λ (g : NodeName → Node). stored_number (st.marks b) r (node_number r (g b))) (sym nodes₁));
@@ -394,7 +395,7 @@ module _ (k : Plan) {S : Type 0} (s : Table S View) (st : Runs k s) (id : ℕ) (
     wake_step u who calls homes =
         let ws : List ℕ = set s.words (kick_at k p) 0 in
         let low : p < cpus_of k = in_plan k s st id v me p is in
-        let long = st.stored.long in
+        let long = st.stored.long ∙ far_words k halting in
         let other : (j : ℕ) → j ≢ kick_at k p → get_or ws j 0 ≡ get_or s.words j 0 =
         λ j ne. get_or-set_other s.words (kick_at k p) j 0 0 ne in
         let hashes : (j : ℕ) → j < places_of k → get_or ws (hash_at k j) 0 ≡ get_or s.words (hash_at k j) 0 =
@@ -411,7 +412,7 @@ module _ (k : Plan) {S : Type 0} (s : Table S View) (st : Runs k s) (id : ℕ) (
           kind = st.of_plan.kind;
         })
         (record {
-          long = length-set s.words (kick_at k p) 0 ∙ long;
+          long = length-set s.words (kick_at k p) 0 ∙ st.stored.long;
           locks = locks_else k st.world n' s.words st.stored.locks (kick_at k p) 0 (inr (omega arith)) (record { word = refl; rw = refl; kind = refl });
           nodes = λ b q lt h has. other (node_at k b q) (λ e. node_kick k p b q lt h e) ∙ st.stored.nodes b q lt h has;
         })

@@ -56,7 +56,7 @@ use Rattle.lk_domain.proofs.words.Locks.{SameLocks, locks_else, locks_trans, act
 use Rattle.lk_domain.proofs.words.LockPlays.{MayFree}
 use Rattle.lk_pvdomain.specs.PvPlays.{AtSeek, Empties, SeesHash, IsOther, passed_on, spotted}
 use Rattle.lk_pvdomain.specs.PvRows.{erases}
-use Rattle.lk_pvdomain.proofs.HashMaps.{emptied, entry_was, plain_is, place_is, decide, pair_lock}
+use Rattle.lk_pvdomain.proofs.HashMaps.{emptied, entry_was, plain_is, place_is, decide, pair_lock, far_words}
 use Rattle.lk_pvdomain.proofs.OnHash.{hash_bare, node_hash, none_some, sought_entry}
 use Rattle.lk_domain.proofs.rows.Users.{bare_me}
 use Rattle.lk_pvdomain.proofs.Unmarked.{unseen_links, marks_stay, erase_off}
@@ -183,7 +183,7 @@ module _ (k : Plan) {S : Type 0} (s : Table S View) (st : Runs k s) (id : ℕ) (
     other j ne = get_or-set_other s.words (hash_at k i) j 0 0 ne
 
     was : st.world.entry l ≡ Some a
-    was = entry_was k st.world n s.words i l a (st.halting halting).hash low st.stored.long node refl near st.lawful.locks full now
+    was = entry_was k st.world n s.words i l a (st.halting halting).hash low (st.stored.long ∙ far_words k halting) node refl near st.lawful.locks full now
 
     pub met_is : met_in m w f (target pc f) ≡ Named (Some a)
     met_is =
@@ -210,7 +210,7 @@ module _ (k : Plan) {S : Type 0} (s : Table S View) (st : Runs k s) (id : ℕ) (
           passed = λ j b lt fit is_pair. elim (cases_eq j i) [
             | inl same ↦
                 let z : get_or ws (hash_at k j) 0 ≡ 0 = ap (λ (c : ℕ). get_or ws (hash_at k c) 0) same
-                ∙ get_or-set_same s.words (hash_at k i) 0 0 (let long = st.stored.long in omega (arith, low, long)) in
+                ∙ get_or-set_same s.words (hash_at k i) 0 0 (let long = st.stored.long ∙ far_words k halting in omega (arith, low, long)) in
                 absurd (omega (arith, z, is_pair))
             | inr off' ↦ o.passed j b lt fit (sym (other (hash_at k j) (λ c. off' (place_is k j i c))) ∙ is_pair)
           ];
@@ -228,7 +228,7 @@ module _ (k : Plan) {S : Type 0} (s : Table S View) (st : Runs k s) (id : ℕ) (
         → Runs k {S = S} (record { words = ws; homes = homes; views = set s.views id u })
     erase_step u who calls homes =
         let d = lands.row_done k s st id v me p is verb l pc begins acts unseen in
-        let long = st.stored.long in
+        let long = st.stored.long ∙ far_words k halting in
         let halted = d.halted ∙ (ap (λ (x : World). x.halted) is_stored ∙ at.acted.same.halted) in
         let kicked = d.kicked ∙ (ap (λ (x : World). x.kicked) is_stored ∙ at.acted.same.kicked) in
         lands.lands k s st id v me p is verb l pc begins acts unseen (Named (Some a)) (sym met_is)
@@ -238,7 +238,7 @@ module _ (k : Plan) {S : Type 0} (s : Table S View) (st : Runs k s) (id : ℕ) (
         st.marks (marks_stay m n st.marks (ap halts (at.acted.same.mode ∙ st.of_plan.mode) ∙ halting) (lands.marked_here k s st id v me p is verb l pc begins acts unseen))
         u who calls ws
         (record {
-          long = length-set s.words (hash_at k i) 0 ∙ long;
+          long = length-set s.words (hash_at k i) 0 ∙ st.stored.long;
           locks = locks_else k st.world n s.words st.stored.locks (hash_at k i) 0 (inr (omega arith)) row_locks;
           nodes = λ b q lt h has. other (node_at k b q) (λ e. node_hash k i b q lt h e)
               ∙ (st.stored.nodes b q lt h has ∙ ap (λ (g : NodeName → Node). stored_number (st.marks b) q (node_number q (g b))) (sym nodes));

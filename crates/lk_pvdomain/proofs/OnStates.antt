@@ -44,6 +44,7 @@ use Rattle.lk_domain.proofs.queue.OnNodes.{IsUsed, to_come, to_come_free, counts
 use Rattle.lk_domain.proofs.rows.Users.{bare_me}
 use Rattle.lk_pvdomain.proofs.Unmarked.{unseen_links, marks_stay}
 use Rattle.lk_law.specs.Agree.{halts}
+use Rattle.lk_pvdomain.proofs.HashMaps.{far_words}
 
 -- the row is on the state of this node
 abbrev pub OnState : Target → NodeName → Type 0
@@ -260,7 +261,7 @@ module _ (k : Plan) {S : Type 0} (s : Table S View) (st : Runs k s) (id : ℕ) (
   state_step i writes safe u who calls homes =
       let ws : List ℕ = set s.words (state_at k a) i in
       let cpu = near.cpu in let low = near.index in
-      let long = st.stored.long in
+      let long = st.stored.long ∙ far_words k halting in
       let other : (j : ℕ) → j ≢ state_at k a → get_or ws j 0 ≡ get_or s.words j 0 =
       λ j ne. get_or-set_other s.words (state_at k a) j i 0 ne in
       let hashes : (j : ℕ) → j < places_of k → get_or ws (hash_at k j) 0 ≡ get_or s.words (hash_at k j) 0 =
@@ -273,7 +274,7 @@ module _ (k : Plan) {S : Type 0} (s : Table S View) (st : Runs k s) (id : ℕ) (
       st.marks (marks_stay m n st.marks (ap halts (at.acted.same.mode ∙ st.of_plan.mode) ∙ halting) (lands.marked_here k s st id v me p is verb l pc asks acts unseen))
       u who calls ws
       (record {
-        long = length-set s.words (state_at k a) i ∙ long;
+        long = length-set s.words (state_at k a) i ∙ st.stored.long;
         locks = locks_else k st.world n s.words st.stored.locks (state_at k a) i (inr (omega arith)) row_locks;
         nodes = λ b q lt h has. other (node_at k b q) (λ e. node_state k a b q lt h e)
             ∙ (st.stored.nodes b q lt h has ∙ ap (stored_number (st.marks b) q) (sym (row_numbers b q)));

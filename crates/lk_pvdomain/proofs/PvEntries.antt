@@ -46,6 +46,7 @@ use Rattle.lk_pvdomain.proofs.OnStates.{node_state, state_place, seeks_hash, has
 use Rattle.lk_pvdomain.proofs.plays.StatePlays.{state_bare}
 use Rattle.lk_pvdomain.proofs.Unmarked.{marks_stay}
 use Rattle.lk_law.specs.Nodes.{IsFree}
+use Rattle.lk_pvdomain.proofs.HashMaps.{far_words}
 
 -- a node has two words that are no state
 two_parts : (mode : Mode) (q : Part) → halts mode ≡ true → has_part mode q ≡ true → part_index q < 2
@@ -111,7 +112,7 @@ module _ (k : Plan) {S : Type 0} (s : Table S View) (st : Runs k s) (id : ℕ) (
   enters_state low ready u who calls homes =
       let ws : List ℕ = set s.words (state_at k a) 0 in
       let cpu : p < cpus_of k = in_plan k s st id v me p is in
-      let long = st.stored.long in
+      let long = st.stored.long ∙ far_words k halting in
       let marks = entry.row_marks k s st id v me p is verb l begins acts in
       let other : (j : ℕ) → j ≢ state_at k a → get_or ws j 0 ≡ get_or s.words j 0 =
       λ j ne. get_or-set_other s.words (state_at k a) j 0 0 ne in
@@ -130,7 +131,7 @@ module _ (k : Plan) {S : Type 0} (s : Table S View) (st : Runs k s) (id : ℕ) (
       (lands.marked_here k s st id v me p is verb l G1 begins acts (tt, tt)))
       u who calls ws
       (record {
-        long = length-set s.words (state_at k a) 0 ∙ long;
+        long = length-set s.words (state_at k a) 0 ∙ st.stored.long;
         locks = locks_else k st.world n s.words st.stored.locks (state_at k a) 0 (inr (omega arith))
             (entry.row_locks k s st id v me p is verb l begins acts);
         nodes = λ b q lt h has. other (node_at k b q) (λ e. node_state k a b q lt h e)

@@ -1,8 +1,9 @@
-use Rattle.std.proofs.Common.{arith, subst}
+use Rattle.std.proofs.Common.{arith, subst, ◌∙◌}
 use Rattle.lk_abs.specs.declared.names.LockName.{LockName}
 use Rattle.lk_domain.specs.Calls.{running}
 use Rattle.lk_pvdomain.specs.PvPlays.{EmptiesAt}
 use Rattle.lk_pvdomain.proofs.OnSeeks.{erase_asks}
+use Rattle.lk_pvdomain.proofs.HashMaps.{far_words}
 use Rattle.lk_pvdomain.proofs.hash.erase.Goals as goal
 
 pub swap-met-requires : goal.swap-met-requires
@@ -11,7 +12,7 @@ swap-met-requires c =
     let z = d.table.shared.table_id in
     let h = c.requires.row in (
       c.requires.table,
-      (let few = d.lawful.locks in let low = c.requires.place in omega (arith, c.place_of-word.ensures, d.words, few, low)),
+      (let few = d.lawful.locks in let low = c.requires.place in omega (arith, c.place_of-word.ensures, d.words ∙ far_words d.plan d.halting, few, low)),
       erase_asks d.table.shared.key d.plan z.slots c.args.seat.now.id c.args.seat.now.me c.requires.number c.place_of-word.result
           d.key d.halting c.args.lock c.requires.lock h c.requires.found.0 c.requires.found.1 c.args.place c.requires.next
           c.place_of-word.ensures,

@@ -1,8 +1,9 @@
-use Rattle.std.proofs.Common.{arith, subst}
+use Rattle.std.proofs.Common.{arith, subst, ◌∙◌}
 use Rattle.lk_abs.specs.declared.names.LockName.{LockName}
 use Rattle.lk_domain.specs.Calls.{running}
 use Rattle.lk_pvdomain.specs.PvPlays.{SeesPlace}
 use Rattle.lk_pvdomain.proofs.OnSeeks.{look_asks}
+use Rattle.lk_pvdomain.proofs.HashMaps.{far_words}
 use Rattle.lk_pvdomain.proofs.hash.look_place.Goals as goal
 
 pub load-met-requires : goal.load-met-requires
@@ -10,7 +11,7 @@ load-met-requires c =
     let d = c.args.domain.now in
     let z = d.table.shared.table_id in (
       c.requires.table,
-      (let few = d.lawful.locks in let low = c.requires.place in omega (arith, c.place_of-word.ensures, d.words, few, low)),
+      (let few = d.lawful.locks in let low = c.requires.place in omega (arith, c.place_of-word.ensures, d.words ∙ far_words d.plan d.halting, few, low)),
       look_asks d.table.shared.key d.plan z.slots c.args.seat.now.id c.args.seat.now.me c.requires.number c.place_of-word.result
           d.key d.halting c.args.lock c.requires.lock c.requires.row c.args.place c.requires.place c.requires.next
           c.place_of-word.ensures,

@@ -1,5 +1,6 @@
-use Rattle.std.proofs.Common.{arith}
+use Rattle.std.proofs.Common.{arith, ◌∙◌}
 use Rattle.lk_pvdomain.proofs.plays.MarkPlays.{halt_asks}
+use Rattle.lk_pvdomain.proofs.HashMaps.{far_words}
 use Rattle.lk_pvdomain.proofs.kicks.halt.Goals as goal
 
 pub load-met-requires : goal.load-met-requires
@@ -7,7 +8,7 @@ load-met-requires c =
     let d = c.args.domain.now in
     let z = d.table.shared.table_id in (
       c.requires.table,
-      (let few = d.lawful.cpus in let low = c.requires.cpu in omega (arith, c.kick_of-word.ensures, d.words, low)),
+      (let few = d.lawful.cpus in let low = c.requires.cpu in omega (arith, c.kick_of-word.ensures, d.words ∙ far_words d.plan d.halting, low)),
       halt_asks d.table.shared.key d.plan z.slots c.args.seat.now.id c.args.seat.now.me c.kick_of-word.result d.key d.halting
           c.args.cpu c.kick_of-word.ensures c.requires.number c.requires.row c.requires.awake,
     )

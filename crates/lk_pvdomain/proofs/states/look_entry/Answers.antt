@@ -1,7 +1,8 @@
-use Rattle.std.proofs.Common.{arith}
+use Rattle.std.proofs.Common.{arith, ◌∙◌}
 use Rattle.lk_domain.specs.NodePlays.{Enters}
 use Rattle.lk_pvdomain.proofs.PvEntries.{enter_asks}
 use Rattle.lk_pvdomain.proofs.Spared.{spared}
+use Rattle.lk_pvdomain.proofs.HashMaps.{far_words}
 use Rattle.lk_pvdomain.proofs.states.look_entry.Goals as goal
 
 pub load-met-requires : goal.load-met-requires
@@ -11,7 +12,7 @@ load-met-requires c =
     let i = c.state_of-word.result in
     let seat = c.args.seat.now in (
       c.requires.table,
-      (let few = d.lawful.locks in let a = c.requires.own.cpu in let b = c.requires.own.index in omega (arith, c.state_of-word.ensures, d.words, few, a, b)),
+      (let few = d.lawful.locks in let a = c.requires.own.cpu in let b = c.requires.own.index in omega (arith, c.state_of-word.ensures, d.words ∙ far_words d.plan d.halting, few, a, b)),
       spared d.table.shared.key z.slots seat.id seat.me i (Enters seat.me)
           (enter_asks d.table.shared.key d.plan z.slots seat.id seat.me c.requires.number i d.key d.halting
           c.args.own c.state_of-word.ensures c.requires.row.0 c.requires.row.1 c.requires.ready),

@@ -1,5 +1,6 @@
-use Rattle.std.proofs.Common.{arith}
+use Rattle.std.proofs.Common.{arith, ◌∙◌}
 use Rattle.lk_pvdomain.proofs.plays.StatePlays.{look_on}
+use Rattle.lk_pvdomain.proofs.HashMaps.{far_words}
 use Rattle.lk_pvdomain.proofs.states.look_state.Goals as goal
 
 pub load-met-requires : goal.load-met-requires
@@ -7,7 +8,7 @@ load-met-requires c =
     let d = c.args.domain.now in
     let z = d.table.shared.table_id in (
       c.requires.table,
-      (let a = c.requires.node.cpu in let b = c.requires.node.index in omega (arith, c.state_of-word.ensures, d.words, a, b)),
+      (let a = c.requires.node.cpu in let b = c.requires.node.index in omega (arith, c.state_of-word.ensures, d.words ∙ far_words d.plan d.halting, a, b)),
       look_on d.table.shared.key d.plan z.slots c.args.seat.now.id c.args.seat.now.me c.requires.number
           c.state_of-word.result d.key d.halting c.args.node c.requires.node c.state_of-word.ensures c.requires.row,
     )

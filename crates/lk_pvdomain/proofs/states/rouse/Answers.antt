@@ -1,6 +1,7 @@
 use Rattle.std.proofs.Common.{arith, ap, ◌∙◌}
 use Rattle.lk_domain.specs.Words.{state_number}
 use Rattle.lk_pvdomain.proofs.plays.StatePlays.{rouse_on}
+use Rattle.lk_pvdomain.proofs.HashMaps.{far_words}
 use Rattle.lk_pvdomain.proofs.states.rouse.Goals as goal
 
 pub compare_exchange-met-requires : goal.compare_exchange-met-requires
@@ -8,7 +9,7 @@ compare_exchange-met-requires c =
     let d = c.args.domain.now in
     let z = d.table.shared.table_id in (
       c.requires.table,
-      (let a = c.requires.node.cpu in let b = c.requires.node.index in omega (arith, c.state_of-word.ensures, d.words, a, b)),
+      (let a = c.requires.node.cpu in let b = c.requires.node.index in omega (arith, c.state_of-word.ensures, d.words ∙ far_words d.plan d.halting, a, b)),
       rouse_on d.table.shared.key d.plan z.slots c.args.seat.now.id c.args.seat.now.me c.requires.number
           c.state_of-word.result d.key d.halting c.args.node c.requires.node c.state_of-word.ensures c.requires.row.at
           c.number_of-number.result (c.number_of-number.ensures ∙ ap state_number c.requires.row.told_is),

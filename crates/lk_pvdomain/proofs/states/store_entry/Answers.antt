@@ -1,5 +1,6 @@
-use Rattle.std.proofs.Common.{arith}
+use Rattle.std.proofs.Common.{arith, ◌∙◌}
 use Rattle.lk_pvdomain.proofs.PvEntries.{enter_asks}
+use Rattle.lk_pvdomain.proofs.HashMaps.{far_words}
 use Rattle.lk_pvdomain.proofs.states.store_entry.Goals as goal
 
 pub swap-met-requires : goal.swap-met-requires
@@ -8,7 +9,7 @@ swap-met-requires c =
     let z = d.table.shared.table_id in
     let i = c.state_of-word.result in (
       c.requires.table,
-      (let few = d.lawful.locks in let a = c.requires.own.cpu in let b = c.requires.own.index in omega (arith, c.state_of-word.ensures, d.words, few, a, b)),
+      (let few = d.lawful.locks in let a = c.requires.own.cpu in let b = c.requires.own.index in omega (arith, c.state_of-word.ensures, d.words ∙ far_words d.plan d.halting, few, a, b)),
       enter_asks d.table.shared.key d.plan z.slots c.args.seat.now.id c.args.seat.now.me c.requires.number i d.key d.halting
           c.args.own c.state_of-word.ensures c.requires.row.0 c.requires.row.1 c.requires.ready,
     )
