@@ -16,6 +16,7 @@ use crate::cpu::{Cpu, Right};
 use crate::domain::Domain;
 use crate::ledger::Journal;
 use crate::notes::Notes;
+use crate::place::HALTING_WORDS;
 use crate::plan::{MOST_CPUS, Plan};
 use crate::rule::{Deal, Draw};
 use crate::slot::{Slot, Stowed};
@@ -61,7 +62,7 @@ impl Plan {
         prove!(self.topology.sockets.len() <= MOST_CPUS);
         match self.mode {
             Mode::Virt | Mode::Native | Mode::Cna => 0,
-            Mode::Pv => 16 * self.topology.sockets.len(),
+            Mode::Pv => HALTING_WORDS * self.topology.sockets.len(),
         }
     }
 
@@ -96,8 +97,8 @@ pub fn opening_words(alloc: Global, plan: &Plan, homes: usize) -> Result<List<u6
     requires homes { homes ≡ homes_of plan.now }
     ensures { IfOk result (λ words. IsOpening plan.now words.items) }
 {
-    let first = 8 + 8 * plan.locks.len();
-    let near = first + 64 + 16 * plan.topology.sockets.len() + plan.halting_words();
+    let first = plan.first_balance();
+    let near = plan.first_state() + plan.halting_words();
     let Some(count) = homes.checked_add(near) else {
         return Err(Memory);
     };

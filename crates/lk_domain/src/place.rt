@@ -2,8 +2,8 @@
 ghost use Rattle.std.specs.Prelude.{◌≡◌, ◌+◌, ◌*◌, ◌<◌, Some};
 ghost use Rattle.lk_domain.specs.NodePlays.{IsFlagNode};
 ghost use Rattle.lk_domain.specs.Plans.{IsRunningPlan, layout_in, locks_of};
-ghost use Rattle.lk_domain.specs.Words.{IsNode, flag_number, lock_at, marked, name_number, node_at};
-ghost use Rattle.lk_domain.specs.Words.{word_at};
+ghost use Rattle.lk_domain.specs.Words.{IsNode, balance_at, far_of, flag_number, lock_at, marked};
+ghost use Rattle.lk_domain.specs.Words.{name_number, node_at, word_at};
 ghost use Rattle.lk_word.specs.SpinWord.{index_unit, tail_number};
 
 use crate::part::{Link, Part};
@@ -22,6 +22,8 @@ pub const BALANCES: usize = 64;
 pub const CPU_WORDS: usize = 16;
 // The words of a node.
 pub const NODE_WORDS: usize = 4;
+// The words of a processor that only the family has whose processors halt.
+pub const HALTING_WORDS: usize = 16;
 
 impl Plan {
     /// How the words of its locks are laid out.
@@ -58,6 +60,16 @@ impl Plan {
         if name.wait { word + 1 } else { word }
     }
 
+    /// Where the balances begin, behind the words of the locks.
+    #[inline]
+    pub fn first_balance(&self) -> usize
+        requires { IsRunningPlan self.now }
+        ensures { result ≡ balance_at self.now 0 }
+    {
+        prove!(self.locks.len() <= MOST_LOCKS);
+        FIRST_LOCK + LOCK_WORDS * self.locks.len()
+    }
+
     /// Where the words of nodes begin.
     #[inline]
     pub fn first_node(&self) -> usize
@@ -65,7 +77,18 @@ impl Plan {
         ensures { result ≡ 72 + 8 * locks_of self.now }
     {
         prove!(self.locks.len() <= MOST_LOCKS);
-        FIRST_LOCK + LOCK_WORDS * self.locks.len() + BALANCES
+        self.first_balance() + BALANCES
+    }
+
+    /// Where the words begin that only the family has whose processors halt, behind those of the nodes.
+    #[inline]
+    pub fn first_state(&self) -> usize
+        requires { IsRunningPlan self.now }
+        ensures { result ≡ far_of self.now }
+    {
+        prove!(self.locks.len() <= MOST_LOCKS);
+        prove!(self.topology.sockets.len() <= MOST_CPUS);
+        self.first_node() + CPU_WORDS * self.topology.sockets.len()
     }
 
     /// Where a word of a node stands.

@@ -5,13 +5,22 @@ ghost use Rattle.lk_law.specs.Agree.{halts};
 ghost use Rattle.lk_domain.specs.Plans.{IsRunningPlan, cpus_of, layout_in, locks_of, accounts_of, turns_of};
 ghost use Rattle.lk_domain.specs.Values.{homes_of};
 ghost use Rattle.lk_domain.specs.Words.{words_of, IsNode, state_at, kick_at, hash_at, places_of};
-ghost use Rattle.lk_domain.specs.Words.{state_number, far_of, pair_number};
+ghost use Rattle.lk_domain.specs.Words.{state_number, pair_number};
 
 use atomic_table::Table;
 use lk_domain::{MOST_CPUS, MOST_LOCKS, Order, Plan, Slot, View};
 use lk_rows::State;
 use lk_word::{HELD, NodeName};
 use std::alloc::Global;
+
+// The nodes of a processor. Each has a word for its state, and there are as many places in the hash.
+const NODES: usize = 4;
+// From one kick word to the next: a line of the cache.
+const KICK_WORDS: usize = 8;
+// What the number of a node counts for in that of a lock and a node: as many as there can be locks.
+pub(crate) const LOCKS: u64 = MOST_LOCKS as u64;
+// And what a processor counts for there, by its nodes.
+pub(crate) const CPU_PAIRS: u64 = NODES as u64 * LOCKS;
 
 /// Paravirtual locks that threads acquire, and a ledger that lock 0 guards.
 #[derive(Drop)]
@@ -51,15 +60,6 @@ impl PvDomain {
         self.plan.tail_of(node) + HELD
     }
 
-    // Where the words begin that only this family needs.
-    pub(crate) fn far(&self) -> usize
-        ensures { result ≡ far_of self.now.plan }
-    {
-        prove!(self.plan.locks.len() <= MOST_LOCKS);
-        prove!(self.plan.topology.sockets.len() <= MOST_CPUS);
-        72 + 8 * self.plan.locks.len() + 16 * self.plan.topology.sockets.len()
-    }
-
     // Where the state of a node stands.
     pub(crate) fn state_of(&self, node: NodeName) -> usize
         requires { IsNode self.now.plan node }
@@ -67,7 +67,7 @@ impl PvDomain {
     {
         prove!(self.plan.locks.len() <= MOST_LOCKS);
         prove!(self.plan.topology.sockets.len() <= MOST_CPUS);
-        self.far() + (4 * node.cpu as usize + node.index as usize)
+        self.plan.first_state() + (NODES * node.cpu as usize + node.index as usize)
     }
 
     // Where the kick word of a processor stands: whether a kick of it is remembered.
@@ -77,7 +77,8 @@ impl PvDomain {
     {
         prove!(self.plan.locks.len() <= MOST_LOCKS);
         prove!(self.plan.topology.sockets.len() <= MOST_CPUS);
-        self.far() + 8 * self.plan.topology.sockets.len() + 8 * cpu as usize
+        let cpus = self.plan.topology.sockets.len();
+        self.plan.first_state() + 2 * NODES * cpus + KICK_WORDS * cpu as usize
     }
 
     // The number of a lock and a node, as the hash has them.
@@ -88,7 +89,7 @@ impl PvDomain {
     {
         prove!(self.plan.locks.len() <= MOST_LOCKS);
         prove!(self.plan.topology.sockets.len() <= MOST_CPUS);
-        1 + lock as u64 + MOST_LOCKS as u64 * (4 * node.cpu as u64 + node.index as u64)
+        1 + lock as u64 + LOCKS * (NODES as u64 * node.cpu as u64 + node.index as u64)
     }
 
     // How many places the hash has.
@@ -96,7 +97,7 @@ impl PvDomain {
         ensures { result ≡ places_of self.now.plan }
     {
         prove!(self.plan.topology.sockets.len() <= MOST_CPUS);
-        4 * self.plan.topology.sockets.len()
+        NODES * self.plan.topology.sockets.len()
     }
 
     // Where a place of the hash stands.
@@ -106,7 +107,7 @@ impl PvDomain {
     {
         prove!(self.plan.locks.len() <= MOST_LOCKS);
         prove!(self.plan.topology.sockets.len() <= MOST_CPUS);
-        self.far() + 4 * self.plan.topology.sockets.len() + place
+        self.plan.first_state() + NODES * self.plan.topology.sockets.len() + place
     }
 }
 

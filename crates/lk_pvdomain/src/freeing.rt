@@ -10,10 +10,10 @@ ghost use Rattle.lk_domain.specs.Values.{out_in};
 ghost use Rattle.lk_pvdomain.specs.PvCalls.{HasTried};
 ghost use Rattle.lk_pvdomain.specs.PvPaths.{At, Ended, Start};
 
-use crate::domain::PvDomain;
+use crate::domain::{CPU_PAIRS, PvDomain};
 use crate::{hash, kicks, tries, words};
+use lk_domain::Right;
 use lk_domain::moves::WordUse;
-use lk_domain::{MOST_LOCKS, Right};
 use lk_word::{HELD, low_byte};
 use std::sync::Wait;
 
@@ -49,5 +49,5 @@ fn wake_next(seat: &mut Right, domain: &PvDomain, lock: u32)
 {
     let pair = hash::take_out(seat, domain, lock);
     words::go_on(seat, domain, lock, WordUse::Drops);
-    kicks::kick(seat, domain, ((pair - 1) / (4 * MOST_LOCKS as u64)) as u32);
+    kicks::kick(seat, domain, ((pair - 1) / CPU_PAIRS) as u32);
 }

@@ -9,13 +9,10 @@ ghost use Rattle.lk_domain.specs.Words.{IsNode, places_of};
 ghost use Rattle.lk_word.specs.declared.spin_word.NodeName.{NodeName as Name};
 ghost use Rattle.lk_pvdomain.specs.PvPlays.{AtFill, AtSeek, EmptiesAt, Fills, SeesPlace, looked_at};
 
-use crate::domain::PvDomain;
+use crate::domain::{LOCKS, PvDomain};
 use crate::rule::{Erasings, Fillings, PlaceLooks};
-use lk_domain::{MOST_LOCKS, Right};
+use lk_domain::Right;
 use lk_word::NodeName;
-
-// The number of an entry counts locks up to this.
-const LOCKS: u64 = MOST_LOCKS as u64;
 
 // Puts the lock into the hash at a place, if that is empty: the rows E6, with the own node, and K3,
 // with the successor's.

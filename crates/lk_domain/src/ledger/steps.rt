@@ -39,16 +39,7 @@ fn balance_word(plan: &Plan, account: u32) -> usize
 {
     prove!(plan.locks.len() <= MOST_LOCKS);
     prove!(plan.balances.len() <= 64);
-    8 + 8 * plan.locks.len() + account as usize
-}
-
-// Where the balances begin.
-fn first_balance(plan: &Plan) -> usize
-    requires { IsRunningPlan plan.now }
-    ensures { result ≡ balance_at plan.now 0 }
-{
-    prove!(plan.locks.len() <= MOST_LOCKS);
-    8 + 8 * plan.locks.len()
+    plan.first_balance() + account as usize
 }
 
 /// The number of accounts of the ledger, at most 64.
@@ -220,7 +211,7 @@ pub fn end(
     ensures keys { AreLaid plan.now keys.new.items }
     ensures balances { balances.new.items ≡ balances_after plan.now.balances.items result.items }
 {
-    let first = first_balance(plan);
+    let first = plan.first_balance();
     let count = plan.balances.len();
     let mut closed = table.close_with(seat);
     read(&closed, first, count, balances);

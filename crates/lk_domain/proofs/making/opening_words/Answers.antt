@@ -8,7 +8,7 @@ loop-account-preserved c =
     let n = c.loop-account.account in
     let len = c.len-account-end.ensures in
     let lt = c.loop-account-test.true in
-    let first = c.len.ensures in
+    let first = c.first_balance-first.ensures in
     subst (IsOpened k (n + 1)) (sym (ap (λ l. l.items) c.write.ensures))
     (opened_more k n _ c.get.result.now c.loop-account.words.items c.requires.lawful c.loop-account.invariant (omega arith) (omega arith)
     (get_is k.balances.items n c.get.result.now c.get.ensures))
