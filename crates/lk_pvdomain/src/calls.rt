@@ -16,7 +16,7 @@ use crate::cpu::PvCpu;
 use crate::domain::PvDomain;
 use crate::{freeing, tries};
 use lk_domain::{LockId, Right, moves};
-use lk_word::NodeName;
+use lk_word::{HELD, NodeName};
 use std::sync::Wait;
 
 // The row F1. Returns whether it acquired the lock.
@@ -94,8 +94,8 @@ pub fn pv_unlock<R: Wait>(cpu: &mut PvCpu, rt: &R, domain: &PvDomain, lock: Lock
     ensures others { (calls_of cpu.new).holds
         ≡ without (lock_name lock.index) (calls_of cpu.old).holds }
 {
-    let met = tries::try_release(&mut cpu.seat, domain, lock.index, 1);
-    if met == 1 {
+    let met = tries::try_release(&mut cpu.seat, domain, lock.index, HELD);
+    if met == HELD {
         return;
     }
     freeing::release(&mut cpu.seat, rt, domain, lock.index, met);

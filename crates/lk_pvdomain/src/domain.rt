@@ -111,13 +111,20 @@ impl PvDomain {
     }
 }
 
+// The numbers of states.
+pub(crate) const RUNNING: u64 = 0;
+
+pub(crate) const HALTED: u64 = 1;
+
+pub(crate) const HASHED: u64 = 2;
+
 // The number of a state.
 pub(crate) fn number_of(state: State) -> u64
     ensures { result ≡ state_number state }
 {
     match state {
-        State::Running => 0,
-        State::Halted => 1,
-        State::Hashed => 2,
+        State::Running => RUNNING,
+        State::Halted => HALTED,
+        State::Hashed => HASHED,
     }
 }

@@ -6,6 +6,7 @@ ghost use Rattle.lk_pvdomain.specs.PvWords.{IsNodeOf, Owns, Precedes, Steps, Tak
 ghost use Rattle.lk_word.specs.declared.spin_word.NodeName.{NodeName as Node};
 
 use crate::call::Queued;
+use crate::domain::HALTED;
 use crate::rest::PvRest;
 use crate::{hash, states, words};
 use lk_domain::met::{is_last, node_met};
@@ -56,7 +57,7 @@ impl<'a> Queued<'a> {
             seat.new }
         ensures runs { result ≡ false → Takes self.now K1 (Precedes to) seat.old seat.new }
     {
-        states::rouse(seat, self.domain, to, State::Hashed) == 1
+        states::rouse(seat, self.domain, to, State::Hashed) == HALTED
     }
 
     // The row K2: (n, p, 1) -> (n, p, slow), so that the release looks into the hash.

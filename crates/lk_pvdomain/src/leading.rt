@@ -8,6 +8,7 @@ ghost use Rattle.lk_pvdomain.specs.PvWords.{Sleeps, Turns, Wakes, WaitsAsleep};
 ghost use Rattle.lk_pvdomain.specs.declared.exchanges.Swap.TheVariants.{Takes, Fails, Misses};
 
 use crate::call::Queued;
+use crate::domain::HASHED;
 use crate::exchanges::Swap;
 use crate::rest::{Leading, PvRest};
 use crate::{hash, kicks, states, tries, words};
@@ -24,7 +25,7 @@ impl<'a> Queued<'a> {
         ensures hashed { result ≡ true → Steps self.now E1 Owns E2 (Leads true) seat.old seat.new }
         ensures other { result ≡ false → Steps self.now E1 Owns E2 (Leads false) seat.old seat.new }
     {
-        states::look_state(seat, self.domain, self.own) == 2
+        states::look_state(seat, self.domain, self.own) == HASHED
     }
 
     // The row E2 stores that it runs.

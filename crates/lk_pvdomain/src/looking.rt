@@ -3,7 +3,7 @@
 ghost use Rattle.std.specs.Prelude.{◌<◌};
 ghost use Rattle.lk_domain.specs.Plans.{cpus_of};
 
-use crate::domain::PvDomain;
+use crate::domain::{PvDomain, RUNNING};
 use lk_word::NodeName;
 use std::sync::Wait;
 
@@ -16,7 +16,7 @@ impl PvDomain {
         requires { cpu < cpus_of self.now.plan }
     {
         let node = NodeName { cpu, index: 0 };
-        self.table.shared.peek(self.state_of(node)) != 0
+        self.table.shared.peek(self.state_of(node)) != RUNNING
     }
 
     /// Whether a kick of a processor is remembered: one look at its kick word. Where it is, the next

@@ -5,6 +5,7 @@ ghost use Rattle.lk_pvdomain.specs.PvWords.{Follows, IsNodeOf, Owns, Spares, Spi
 ghost use Rattle.lk_pvdomain.specs.PvWords.{Sleeps, Waits, WaitsAsleep, Wakes};
 
 use crate::call::Queued;
+use crate::domain::{HALTED, RUNNING};
 use crate::rest::{PvRest, Spinning};
 use crate::{kicks, states};
 use lk_domain::{Right, node_moves};
@@ -34,7 +35,7 @@ impl<'a> Queued<'a> {
         ensures again { result ≡ false → Steps self.now W2 (Spares spinning.prev spinning.left)
             W1 (Spares spinning.prev (spinning.left - 1)) seat.old seat.new }
     {
-        if states::look_state(seat, self.domain, spinning.prev) != 0 {
+        if states::look_state(seat, self.domain, spinning.prev) != RUNNING {
             return true;
         }
         spinning.left <= 1
@@ -69,7 +70,7 @@ impl<'a> Queued<'a> {
         ensures other { result ≡ false → Steps self.now W5 (Follows prev) W7 (Follows prev) seat.old
             seat.new }
     {
-        states::look_state(seat, self.domain, self.own) == 1
+        states::look_state(seat, self.domain, self.own) == HALTED
     }
 
     // The row W6: the processor halts, until it is kicked. There the call rests.

@@ -14,7 +14,7 @@ use crate::domain::PvDomain;
 use lk_abs::LockName;
 use lk_domain::moves::WordUse;
 use lk_domain::{Right, WordSteps, moves};
-use lk_word::NodeName;
+use lk_word::{HELD, NodeName};
 
 // A row on the word, by a call that goes on.
 pub(crate) fn go_on(seat: &mut Right, domain: &PvDomain, lock: u32, how: WordUse) -> u64
@@ -48,6 +48,6 @@ pub(crate) fn quit(seat: &mut Right, domain: &PvDomain, lock: u32, own: NodeName
     let met = domain
         .table
         .shared
-        .compare_exchange::<WordSteps>(seat, word, last, 1);
+        .compare_exchange::<WordSteps>(seat, word, last, HELD);
     met
 }

@@ -68,15 +68,15 @@ invariant_of-cpu g c =
     let k = kept_cpu c.args.cpu.now seat (kept_tried c.args.lock.index 1 c.try_release-met.result c.args.cpu.now.seat.me seat.me c.try_release-met.ensures.step) in
     record { numbered = k.0; carried = k.1 }
 
-pub returns-then-met-eq1-clause-same : goal.returns-then-met-eq1-clause-same
-returns-then-met-eq1-clause-same g c =
-    let e = frees c.requires.domain c.requires.rests c.requires.lock c.try_release-met.ensures.same c.try_release-met.ensures.step c.if-met-eq1.true in
+pub returns-then-met-eq-HELD-clause-same : goal.returns-then-met-eq-HELD-clause-same
+returns-then-met-eq-HELD-clause-same g c =
+    let e = frees c.requires.domain c.requires.rests c.requires.lock c.try_release-met.ensures.same c.try_release-met.ensures.step c.if-met-eq-HELD.true in
     let t = is_let c.args.domain.now c.args.lock.index (own_node c.args.cpu.now) c.args.cpu.now.seat _ e in
     record { table = t.table_was; id = t.id_was; number = refl; who = t.who }
 
-pub returns-then-met-eq1-clause-freed : goal.returns-then-met-eq1-clause-freed
-returns-then-met-eq1-clause-freed g c =
-    let e = frees c.requires.domain c.requires.rests c.requires.lock c.try_release-met.ensures.same c.try_release-met.ensures.step c.if-met-eq1.true in
+pub returns-then-met-eq-HELD-clause-freed : goal.returns-then-met-eq-HELD-clause-freed
+returns-then-met-eq-HELD-clause-freed g c =
+    let e = frees c.requires.domain c.requires.rests c.requires.lock c.try_release-met.ensures.same c.try_release-met.ensures.step c.if-met-eq-HELD.true in
     let t = is_let c.args.domain.now c.args.lock.index (own_node c.args.cpu.now) c.args.cpu.now.seat _ e in
     record {
       ended = e;
@@ -84,15 +84,15 @@ returns-then-met-eq1-clause-freed g c =
       rests = record { frames = t.frames; awake = t.awake; fresh = t.fresh };
     }
 
-pub returns-then-met-eq1-clause-others : goal.returns-then-met-eq1-clause-others
-returns-then-met-eq1-clause-others g c =
+pub returns-then-met-eq-HELD-clause-others : goal.returns-then-met-eq-HELD-clause-others
+returns-then-met-eq-HELD-clause-others g c =
     freed_others c.args.domain.now c.args.lock.index (own_node c.args.cpu.now) c.args.cpu.now.seat _
-    (frees c.requires.domain c.requires.rests c.requires.lock c.try_release-met.ensures.same c.try_release-met.ensures.step c.if-met-eq1.true)
+    (frees c.requires.domain c.requires.rests c.requires.lock c.try_release-met.ensures.same c.try_release-met.ensures.step c.if-met-eq-HELD.true)
 
 pub release-requires : goal.release-requires
 release-requires g c =
     record {
-      other = c.if-met-eq1.false;
+      other = c.if-met-eq-HELD.false;
       tried = (
         own_node c.args.cpu.now,
         first_of Unlock c.args.lock.index c.args.cpu.now.seat,

@@ -10,12 +10,12 @@ look_state-requires c =
     let prev = c.args.spinning.prev in
     record { table = w.of.table_is; number = numbered w; node = c.requires.prev; row = look_asks w prev refl (before w.frame prev w.has.prev) }
 
-pub returns-then-look_state-ne0-clause-stops : goal.returns-then-look_state-ne0-clause-stops
-returns-then-look_state-ne0-clause-stops c e s w = w2_stops c.look_state.ensures.same w c.look_state.ensures.step c.if-look_state-ne0.true
+pub returns-then-look_state-ne-RUNNING-clause-stops : goal.returns-then-look_state-ne-RUNNING-clause-stops
+returns-then-look_state-ne-RUNNING-clause-stops c e s w = w2_stops c.look_state.ensures.same w c.look_state.ensures.step c.if-look_state-ne-RUNNING.true
 
 pub returns-clause-stops : goal.returns-clause-stops
-returns-clause-stops c e s w = w2_last c.look_state.ensures.same w c.look_state.ensures.step c.if-look_state-ne0.false (leb-true c.args.spinning.left 1 e)
+returns-clause-stops c e s w = w2_last c.look_state.ensures.same w c.look_state.ensures.step c.if-look_state-ne-RUNNING.false (leb-true c.args.spinning.left 1 e)
 
 pub returns-clause-again : goal.returns-clause-again
 returns-clause-again c e s w =
-    w2_again c.look_state.ensures.same w c.look_state.ensures.step c.if-look_state-ne0.false (λ z. let more = leb-false c.args.spinning.left 1 e in omega (arith, more, z))
+    w2_again c.look_state.ensures.same w c.look_state.ensures.step c.if-look_state-ne-RUNNING.false (λ z. let more = leb-false c.args.spinning.left 1 e in omega (arith, more, z))
