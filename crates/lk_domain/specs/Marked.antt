@@ -2,7 +2,7 @@
 use Rattle.std.specs.Prelude.{◌≡◌, ◌≢◌, ℕ, ◌+◌, ◌<◌, ◌≤◌, ◌==◌, ◌||◌, Bool, true, false, not, List, [], ◌∷◌, length}
 use Rattle.std.specs.Prelude.{slice_index, slice_index_or, if◌then◌else◌}
 use Rattle.lk_law.specs.Families.{is_slow}
-use Rattle.lk_domain.specs.Calls.{Running, Calls, slows, waits_in, slow_in, holds_in}
+use Rattle.lk_domain.specs.Calls.{Running, Calls, slows, waits_in, holds_in}
 use Rattle.lk_domain.specs.declared.notes.Notes.{Notes}
 use Rattle.lk_domain.specs.declared.notes.Standing.{Standing}
 use Rattle.lk_domain.specs.declared.plan.TheConstants.{MOST_LOCKS}

@@ -1,6 +1,6 @@
 -- The marks that a processor keeps are the locks that it holds.
 use Rattle.std.proofs.Common.{◌≡◌, ◌≢◌, ℕ, ◌<◌, List, get_or, set, Bool}
-use Rattle.std.proofs.Common.{false, refl, sym, ap, ◌∙◌, arith, length-set, get_or-set_other}
+use Rattle.std.proofs.Common.{false, sym, ap, ◌∙◌, arith, length-set, get_or-set_other}
 use Rattle.std.proofs.Common.{get_or-set_same}
 use mathlib.Core.Logic.{dite}
 use native.Mathlib.Decide.{ℕ_discrete}

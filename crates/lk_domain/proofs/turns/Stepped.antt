@@ -1,5 +1,5 @@
 -- What the step calls do to the calls of their processor.
-use Rattle.std.proofs.Common.{◌≡◌, ◌⊎◌, inl, inr, ℕ, ◌<◌, ◌≤◌, List, ◌∷◌, length, Some, Bool, true, false, eqb, refl, sym, ap, ◌∙◌, subst}
+use Rattle.std.proofs.Common.{◌≡◌, ◌⊎◌, inl, inr, ℕ, ◌≤◌, List, ◌∷◌, length, Some, Bool, true, false, eqb, refl, sym, ap, ◌∙◌, subst}
 use Rattle.std.proofs.Common.{◌||◌, Option}
 use Rattle.lk_word.specs.declared.spin_word.NodeName.{NodeName}
 use Rattle.std.specs.Prelude.{◌&&◌, not}

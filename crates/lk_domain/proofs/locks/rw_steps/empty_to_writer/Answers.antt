@@ -1,4 +1,3 @@
-use Rattle.std.proofs.Common.{arith, ◌<◌}
 use Rattle.lk_domain.specs.Calls.{waits_in}
 use Rattle.lk_domain.specs.RwRows.{seizes_at, seizes_by}
 use Rattle.lk_domain.proofs.rw.Stepped as stepped

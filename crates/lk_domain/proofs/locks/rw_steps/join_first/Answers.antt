@@ -1,4 +1,4 @@
-use Rattle.std.proofs.Common.{◌≡◌, ℕ, Bool, false, arith, sym, ap, subst, ◌<◌, ◌∙◌}
+use Rattle.std.proofs.Common.{◌≡◌, ℕ, Bool, false, sym, ap, subst}
 use Rattle.std.specs.Prelude.{not}
 use Rattle.lk_rows.specs.declared.setup.Verb.TheVariants.{Read}
 use Rattle.lk_rows.specs.declared.setup.Verb.{Verb}

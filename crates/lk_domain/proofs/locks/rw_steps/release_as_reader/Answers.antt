@@ -1,4 +1,4 @@
-use Rattle.std.proofs.Common.{ap, arith, ◌<◌, ◌∙◌}
+use Rattle.std.proofs.Common.{ap, ◌∙◌}
 use Rattle.lk_rows.specs.declared.setup.Verb.TheVariants.{RUnlock}
 use Rattle.lk_domain.specs.Calls.{are_calls}
 use Rattle.lk_domain.proofs.rw.Released as released

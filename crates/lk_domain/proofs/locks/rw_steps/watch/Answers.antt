@@ -1,4 +1,4 @@
-use Rattle.std.proofs.Common.{ℕ, arith, ◌<◌, ap, eqb, length}
+use Rattle.std.proofs.Common.{ℕ, ap, eqb, length}
 use Rattle.lk_domain.specs.RwRows.{watches_at, watches_by}
 use Rattle.lk_domain.proofs.rw.Stepped as stepped
 use Rattle.lk_domain.specs.Plans.{locks_of}

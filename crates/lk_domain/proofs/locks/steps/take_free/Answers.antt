@@ -1,4 +1,3 @@
-use Rattle.std.proofs.Common.{arith, ◌<◌}
 use Rattle.lk_domain.proofs.turns.Carried as row
 use Rattle.lk_domain.proofs.turns.Stepped as stepped
 use Rattle.lk_domain.specs.Plans.{locks_of}
