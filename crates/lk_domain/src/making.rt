@@ -129,8 +129,10 @@ pub fn opening_slots(
 {
     let mut slots = Vec::new(alloc);
     slots.push(Some(Stowed::Entries(journal)))?;
+    // The key that is behind all others comes to the front, and so on, so that none has to move again.
+    keys.as_mut_slice().reverse();
     while keys.len() > 0 {
-        slots.push(slot_of(keys.pop_front()))?;
+        slots.push(slot_of(keys.pop()))?;
     }
     Ok(slots)
 }

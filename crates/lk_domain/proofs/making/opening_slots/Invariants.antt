@@ -1,4 +1,4 @@
-use Rattle.std.proofs.Common.{◌≡◌, ◌∷◌, ◌++◌, map, length, Some}
+use Rattle.std.proofs.Common.{◌≡◌, ◌∷◌, ◌++◌, map, reverse, length, Some}
 use Rattle.lk_domain.specs.Values.{lodged}
 use Rattle.lk_domain.specs.declared.slot.Stowed.TheVariants.{Entries}
 use Rattle.lk_domain.proofs.making.opening_slots.Given as goal
@@ -8,4 +8,4 @@ decreases-loop-slots l = length l.keys.items
 
 -- the slots that are there, and those of the keys that are left
 abbrev pub invariant-loop-slots : goal.invariant-loop-slots
-invariant-loop-slots l = l.slots.items ++ map lodged l.keys.items ≡ Some (Entries l.fn.journal) ∷ map lodged l.fn.keys.items
+invariant-loop-slots l = l.slots.items ++ map lodged (reverse l.keys.items) ≡ Some (Entries l.fn.journal) ∷ map lodged l.fn.keys.items
