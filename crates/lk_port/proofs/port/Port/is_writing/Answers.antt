@@ -1,4 +1,5 @@
-use Rattle.std.proofs.Common.{true, false, arith}
+use Rattle.std.proofs.Common.{true, false, arith, ◌∙◌}
+use Rattle.std.proofs.lemmas.Option.{get_or_from_slice_get}
 use Rattle.std.specs.Arc.{arc_value}
 use Rattle.lk_domain.specs.Seats.{calls_of, ledger_of}
 use Rattle.lk_port.proofs.Ports as port
@@ -11,7 +12,8 @@ returns-clause-writes c is =
     let may = c.requires.may in
     let l = c.args.lock.index in
     let idle = port.rests d me.writes.items me.pending me.cpu may.free c.stands.ensures in
-    port.way d.plan me.writes.items (calls_of me.cpu) (ledger_of me.cpu) l true idle may.kind may.holds is
+    let noted = get_or_from_slice_get me.writes.items l c.get.result.now false c.get.ensures ∙ is in
+    port.way d.plan me.writes.items (calls_of me.cpu) (ledger_of me.cpu) l true idle may.kind may.holds noted
 
 pub returns-clause-reads : goal.returns-clause-reads
 returns-clause-reads c is =
@@ -20,7 +22,8 @@ returns-clause-reads c is =
     let may = c.requires.may in
     let l = c.args.lock.index in
     let idle = port.rests d me.writes.items me.pending me.cpu may.free c.stands.ensures in
-    port.way d.plan me.writes.items (calls_of me.cpu) (ledger_of me.cpu) l false idle may.kind may.holds is
+    let noted = get_or_from_slice_get me.writes.items l c.get.result.now false c.get.ensures ∙ is in
+    port.way d.plan me.writes.items (calls_of me.cpu) (ledger_of me.cpu) l false idle may.kind may.holds noted
 
 pub get-requires : goal.get-requires
 get-requires c =
