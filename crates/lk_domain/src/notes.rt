@@ -1,12 +1,17 @@
 // What a processor notes of its calls and its locks.
-ghost use Rattle.std.specs.Prelude.{◌≡◌, ◌<◌, ◌≤◌, ◌∷◌, ℕ, IfOk, List as Row, length};
+ghost use Rattle.std.specs.Prelude.{◌≡◌, ◌<◌, ◌≤◌, ◌+◌, ◌∷◌, ℕ, IfOk, List as Row, length};
+ghost use Rattle.std.specs.Prelude.{replicate, false};
 ghost use Rattle.lk_domain.specs.Calls.{Calls, Running, no_calls, holds_in, waits_in, slow_in};
 ghost use Rattle.lk_domain.specs.Marked.{AreOrdered, CanStep, HasBegun, HasFreed, HasStepped};
 ghost use Rattle.lk_domain.specs.Marked.{IsNoted, first_standing, upto};
+ghost use Rattle.lk_domain.specs.declared.notes.TheConstants.{LINE};
 ghost use Rattle.lk_domain.specs.declared.plan.TheConstants.{MOST_LOCKS};
 
 use lk_abs::{List, Memory};
 use std::alloc::Global;
+
+// The bytes of a line of the cache.
+const LINE: usize = 64;
 
 // What a processor notes of its calls and its locks, where its steps read it. What waits is noted by
 // the calls, of which there are six at most. What it holds may be any set of the domain's locks, and a
@@ -32,6 +37,21 @@ pub(crate) struct Standing {
     pub(crate) taken: bool,
 }
 
+// The marks of a processor that holds no lock, with room for a line of the cache more. A processor
+// stores in its marks where it takes a lock and where it frees one, and the marks of two processors in
+// one line would make each of these stores wait for the other processor.
+fn unheld(alloc: Global, locks: usize) -> Result<List<bool>, Memory>
+    requires few { locks ≤ MOST_LOCKS }
+    ensures { IfOk result (λ held. held
+        ≡ record { items = replicate locks false; room = locks + LINE }) }
+{
+    let mut held = List::new(alloc, locks + LINE)?;
+    for _ in 0..locks {
+        held.push(false);
+    }
+    Ok(held)
+}
+
 impl Notes {
     // Of a processor that has done nothing, in a domain of so many locks.
     //
@@ -47,7 +67,7 @@ impl Notes {
             queued: 0,
             order: [0; 6],
             slow: [false; 6],
-            held: List::filled(alloc, false, locks)?,
+            held: unheld(alloc, locks)?,
         })
     }
 
