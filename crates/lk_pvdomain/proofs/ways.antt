@@ -7,3 +7,4 @@ pub mod Arrives
 pub mod Frees
 pub mod Kept
 pub mod Rested
+pub mod Tried

@@ -8,3 +8,4 @@ pub mod PvWords
 pub mod PvCalls
 pub mod PvTurns
 pub mod Laws
+pub mod PvReleases

@@ -67,6 +67,12 @@ pub record HasTried (d : PvDomain) (l : ℕ) (own : NodeName) (s : Start) (met :
   pub same : (new.table_id ≡ old.table_id) × (new.id ≡ old.id)
   pub tried : TriedBy release_fails Unlock (lock_name l) 1 old.me met new.me
 
+-- and the seat is as it was before that
+pub record IsAsItWas (old new : Seat Slot View) : Type 0 where
+  pub table : new.table_id ≡ old.table_id
+  pub id : new.id ≡ old.id
+  pub me : new.me ≡ old.me
+
 -- the holds but those of this lock
 abbrev pub without : LockName → List Hold → List Hold
 without l [] = []

@@ -7,13 +7,15 @@ ghost use Rattle.lk_domain.specs.Ledgers.{is_first};
 ghost use Rattle.lk_domain.specs.Paths.{Any};
 ghost use Rattle.lk_domain.specs.Plans.{locks_of};
 ghost use Rattle.lk_domain.specs.Values.{out_in};
-ghost use Rattle.lk_pvdomain.specs.PvSeats.{IsOf, IsSame, calls_of, ledger_of};
+ghost use Rattle.lk_pvdomain.specs.PvSeats.{IsOf, IsSame, IsStill, calls_of, ledger_of};
 ghost use Rattle.lk_pvdomain.specs.PvCalls.{HasFreed, HasMissed, HasTaken, HasTakenBy, IsResting, without};
 ghost use Rattle.lk_pvdomain.specs.PvPaths.{At, Ended, Rests, Start, Took, first_of};
+ghost use Rattle.lk_pvdomain.specs.PvReleases.{has_freed, kicked_in, whom};
 
 use crate::call::Queued;
 use crate::cpu::PvCpu;
 use crate::domain::PvDomain;
+use crate::freeing::PvRelease;
 use crate::{freeing, tries};
 use lk_domain::{LockId, Right, moves};
 use lk_word::{HELD, NodeName};
@@ -99,6 +101,32 @@ pub fn pv_unlock<R: Wait>(cpu: &mut PvCpu, rt: &R, domain: &PvDomain, lock: Lock
         return;
     }
     freeing::release(&mut cpu.seat, rt, domain, lock.index, met);
+}
+
+/// Tries to release a lock that the processor holds, without waiting, and returns which processor it
+/// kicked, if any. It kicks whom [`pv_unlock`] would kick. `Still` says that others came to the lock
+/// meanwhile, so that its exchange of the word failed twice: then the processor holds the lock as
+/// before, and the caller tries again. What is asked of the processor is what `pv_unlock` asks.
+#[inline]
+pub fn pv_try_unlock(cpu: &mut PvCpu, domain: &PvDomain, lock: LockId) -> PvRelease
+    requires domain { IsOf cpu.old domain.now }
+    requires lock { lock.index < locks_of domain.now.plan }
+    requires rests { IsResting (calls_of cpu.old) }
+    requires held { holds_in (calls_of cpu.old).holds lock.index ≡ true }
+    requires home { is_first (lock_name lock.index) ≡ true → (ledger_of cpu.old).out ≡ None }
+    requires value { out_in (calls_of cpu.old).holds lock.index ≡ false }
+    ensures same { IsSame cpu.old cpu.new }
+    ensures freed { has_freed result ≡ true → HasFreed domain.now lock.index cpu.old cpu.new }
+    ensures others { has_freed result ≡ true → (calls_of cpu.new).holds
+        ≡ without (lock_name lock.index) (calls_of cpu.old).holds }
+    ensures whom { has_freed result ≡ true → kicked_in (calls_of cpu.new).last ≡ whom result }
+    ensures still { has_freed result ≡ false → IsStill cpu.old cpu.new }
+{
+    let met = tries::try_release(&mut cpu.seat, domain, lock.index, 1);
+    if met == 1 {
+        return PvRelease::Freed;
+    }
+    freeing::try_once(&mut cpu.seat, domain, lock.index, met)
 }
 
 // The rows T1 and T2. Returns whether it acquired the lock.

@@ -1,5 +1,5 @@
 // A release: the rows U2 to U5.
-ghost use Rattle.std.specs.Prelude.{◌≡◌, ◌≢◌, true, false, None};
+ghost use Rattle.std.specs.Prelude.{◌≡◌, ◌≢◌, true, false, None, Some};
 ghost use Rattle.lk_word.specs.declared.spin_word.NodeName.{NodeName};
 ghost use Rattle.lk_rows.specs.declared.parts.Pc.TheVariants.{U3};
 ghost use Rattle.lk_rows.specs.declared.setup.Verb.TheVariants.{Unlock};
@@ -7,8 +7,9 @@ ghost use Rattle.lk_domain.specs.Calls.{Frees, lock_name};
 ghost use Rattle.lk_domain.specs.Ledgers.{is_first};
 ghost use Rattle.lk_domain.specs.Paths.{Any};
 ghost use Rattle.lk_domain.specs.Values.{out_in};
-ghost use Rattle.lk_pvdomain.specs.PvCalls.{HasTried};
+ghost use Rattle.lk_pvdomain.specs.PvCalls.{HasTried, IsAsItWas};
 ghost use Rattle.lk_pvdomain.specs.PvPaths.{At, Ended, Start};
+ghost use Rattle.lk_pvdomain.specs.PvReleases.{has_freed, kicked_in, whom};
 
 use crate::domain::{CPU_PAIRS, PvDomain};
 use crate::{hash, kicks, tries, words};
@@ -16,6 +17,17 @@ use lk_domain::Right;
 use lk_domain::moves::WordUse;
 use lk_word::{HELD, low_byte};
 use std::sync::Wait;
+
+/// What a release comes to that may not wait.
+#[derive(Clone, Copy)]
+pub enum PvRelease {
+    /// The lock is free, and nobody was kicked.
+    Freed,
+    /// The lock is free, and the processor of this number was kicked.
+    Kicked(u32),
+    /// The processor holds the lock as before.
+    Still,
+}
 
 // The row U2 where a first try met another word than that of a lock for which nobody waits, and U3 to
 // U5 where the byte is slow. It is a function of its own, to keep the code of an uncontended release
@@ -38,16 +50,48 @@ pub(crate) fn release<R: Wait>(seat: &mut Right, rt: &R, domain: &PvDomain, lock
     wake_next(seat, domain, lock);
 }
 
+// The same, but that the row U2 is tried once more at most. If another part of the word had changed
+// again, nothing has happened.
+#[cold]
+#[inline(never)]
+pub(crate) fn try_once(seat: &mut Right, domain: &PvDomain, lock: u32, met: u64) -> PvRelease
+    requires other { met ≢ 1 }
+    requires tried { (own : NodeName) × (s : Start) × HasTried domain.now lock own s met seat.old }
+    ensures freed { has_freed result ≡ true → (own : NodeName) (s : Start)
+        → HasTried domain.now lock own s met seat.old
+        → Ended domain.now Unlock lock own s Frees seat.new }
+    ensures still { has_freed result ≡ false → (own : NodeName) (s : Start)
+        → (h : HasTried domain.now lock own s met seat.old) → IsAsItWas h.old seat.new }
+    ensures whom { has_freed result ≡ true → kicked_in seat.new.me.0.calls.last ≡ whom result }
+{
+    if low_byte(met) != HELD {
+        let kicked = wake_next(seat, domain, lock);
+        return PvRelease::Kicked(kicked);
+    }
+    let now = tries::try_release(seat, domain, lock, met);
+    if now == met {
+        return PvRelease::Freed;
+    }
+    if low_byte(now) != HELD {
+        let kicked = wake_next(seat, domain, lock);
+        return PvRelease::Kicked(kicked);
+    }
+    PvRelease::Still
+}
+
 // The rows U3 to U5: it takes the entry out of the hash, frees the lock, and kicks the processor of
-// the node that the entry named.
-fn wake_next(seat: &mut Right, domain: &PvDomain, lock: u32)
+// the node that the entry named. Returns the number of that processor.
+fn wake_next(seat: &mut Right, domain: &PvDomain, lock: u32) -> u32
     requires at { (own : NodeName) × (s : Start) × At domain.now Unlock lock own s U3 Any seat.old }
     requires home { is_first (lock_name lock) ≡ true → seat.old.me.0.ledger.out ≡ None }
     requires value { out_in seat.old.me.0.calls.holds lock ≡ false }
     ensures freed { (own : NodeName) (s : Start) → At domain.now Unlock lock own s U3 Any seat.old
         → Ended domain.now Unlock lock own s Frees seat.new }
+    ensures whom { kicked_in seat.new.me.0.calls.last ≡ Some result }
 {
     let pair = hash::take_out(seat, domain, lock);
     words::go_on(seat, domain, lock, WordUse::Drops);
-    kicks::kick(seat, domain, ((pair - 1) / CPU_PAIRS) as u32);
+    let target = ((pair - 1) / CPU_PAIRS) as u32;
+    kicks::kick(seat, domain, target);
+    target
 }

@@ -36,10 +36,11 @@ mod waiter;
 mod waiting;
 mod words;
 
-pub use calls::{pv_lock, pv_try_lock, pv_unlock};
+pub use calls::{pv_lock, pv_try_lock, pv_try_unlock, pv_unlock};
 pub use cpu::PvCpu;
 pub use domain::PvDomain;
 pub use ending::{PvBack, PvClosed, pv_close};
+pub use freeing::PvRelease;
 pub use laws::{entries_are_found, fronts_are_kicked};
 pub use pages::{pv_journal_home, pv_journal_out, pv_load, pv_store, pv_version};
 pub use plan::PvPlan;

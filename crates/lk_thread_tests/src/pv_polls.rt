@@ -6,7 +6,7 @@ ghost use Rattle.lk_thread_tests.specs.Halting.{AllReady, HasOne, IsReady, IsWai
 
 use crate::pv_calls::{LOCK, give_back, open, take};
 use lk_abs::List;
-use lk_pvdomain::{PvCpu, PvDomain, PvTurn, PvWaiter, pv_begin, pv_poll};
+use lk_pvdomain::{PvCpu, PvDomain, PvRelease, PvTurn, PvWaiter, pv_begin, pv_poll, pv_try_unlock};
 use std::process::Abort;
 use std::sync::Wait;
 use std::sync::atomic::{AtomicU64, Ordering};
@@ -45,7 +45,16 @@ fn polls(cpu: &mut PvCpu, domain: &PvDomain, waiter: PvWaiter) -> PvTurn
     pv_poll(cpu, domain, waiter)
 }
 
-// Whether the second processor halts while the first has the lock, until that frees it.
+// Frees the lock, without waiting.
+fn frees(cpu: &mut PvCpu, domain: &PvDomain) -> PvRelease
+    requires locks { locks_of domain.now.plan ≡ 2 }
+    requires has { HasOne domain.now cpu.old }
+{
+    pv_try_unlock(cpu, domain, LOCK)
+}
+
+// Whether the second processor halts while the first has the lock, until that frees it, and says whom
+// it has kicked.
 fn halts<R: Wait>(rt: &R, domain: &PvDomain, first: &mut PvCpu, second: &mut PvCpu) -> bool
     requires locks { locks_of domain.now.plan ≡ 2 }
     requires first { IsReady domain.now first.old }
@@ -62,8 +71,10 @@ fn halts<R: Wait>(rt: &R, domain: &PvDomain, first: &mut PvCpu, second: &mut PvC
     let PvTurn::Halts(waiter) = polls(second, domain, waiter) else {
         return false;
     };
-    give_back(first, rt, domain);
-    if !domain.is_kicked(number) {
+    let PvRelease::Kicked(kicked) = frees(first, domain) else {
+        return false;
+    };
+    if kicked != number || !domain.is_kicked(number) {
         return false;
     }
     matches!(polls(second, domain, waiter), PvTurn::Has) && !domain.is_kicked(number)

@@ -89,6 +89,10 @@ module _ {d : PvDomain} {own : NodeName} {ta : TableId} {a : Me Slot View} (r : 
     has = tt;
   }
 
+  pub first_trail : first.trail ≡ []
+  unfolding first
+  first_trail = refl
+
   pub first_step : {b : Me Slot View} (x : Met) → b ≡ (made a.0 v l x, a.1) → b ≡ (went met.0 x, met.1)
   first_step x e = e ∙ ap (λ (k : Calls). (rowed a.0 k x, a.1)) (begins_is a.0.who.plan.mode ∙ ap (λ (m : Mode). begin m a.0.calls v l) mode_is)
 

@@ -1,5 +1,5 @@
 -- The rows of a release, where processors halt.
-use Rattle.std.proofs.Common.{inl, inr, ◌≡◌, ◌≢◌, ℕ, ◌<◌, ◌-◌, ◌/◌, ◌%◌, Some, None, Bool, true, false, refl, ap, subst, ◌∙◌, arith, [], ◌∷◌, ◌++◌, List}
+use Rattle.std.proofs.Common.{inl, inr, ◌≡◌, ◌≢◌, ℕ, ◌<◌, ◌-◌, ◌/◌, ◌%◌, Some, None, Bool, true, false, refl, ap, subst, ◌∙◌, arith, [], ◌∷◌, ◌++◌, List, Option}
 use Rattle.std.proofs.Common.{append-nil, eqb, eq-eqb, sym}
 use Rattle.std.proofs.lemmas.Bool.{cases_Bool}
 use Rattle.std.specs.Prelude.{not, ◌&&◌, if◌then◌else◌}
@@ -20,7 +20,7 @@ use Rattle.lk_rows.specs.rows.Cna.{is_held}
 use Rattle.lk_law.specs.Agree.{halts}
 use Rattle.lk_law.specs.Leads.{Word, Named, Marked as MarkedMet}
 use Rattle.lk_law.proofs.common.Puts.{if_cases, if-true, if-false}
-use Rattle.lk_domain.specs.Calls.{Outlook, Terms, Mark, mark, lock_name, Frees, Unchanged, Takes, Hold, holds_in, free_of, moved_to}
+use Rattle.lk_domain.specs.Calls.{Outlook, Terms, terms_of, sight_of, Mark, mark, lock_name, Frees, Unchanged, Takes, Hold, holds_in, free_of, moved_to}
 use Rattle.lk_domain.specs.Keeps.{AllHome, Slot}
 use Rattle.lk_domain.specs.Ledgers.{Ledger, Look, is_first, closed, opened, turned, listed_look}
 use Rattle.lk_domain.specs.Paths.{Any}
@@ -34,11 +34,12 @@ use Rattle.lk_pvdomain.specs.PvPaths.{Start, starting, AtOn, RestsOn, EndedOn, K
 use Rattle.lk_pvdomain.specs.PvPlays.{AtKick, EmptiesAt}
 use Rattle.atomic_table.specs.declared.shared.Seat.{Seat}
 use Rattle.lk_pvdomain.specs.PvCalls.{without}
+use Rattle.lk_pvdomain.specs.PvReleases.{found_at, kicked_from, kicked_in}
 use Rattle.lk_pvdomain.specs.PvRows.{tries_release}
 use Rattle.lk_domain.proofs.Freed.{released}
 use Rattle.lk_pvdomain.proofs.Fails.{release_again, release_failed}
-use Rattle.lk_pvdomain.proofs.ways.Ways.{Goes, Drops, goes, ends, drops, yields, stands}
-use Rattle.lk_pvdomain.proofs.ways.Arrives.{met, first, first_step}
+use Rattle.lk_pvdomain.proofs.ways.Ways.{Goes, Drops, goes, goes_trail, ends, drops, last_is, yields, yields_trail, stands}
+use Rattle.lk_pvdomain.proofs.ways.Arrives.{met, first, first_step, first_trail}
 
 held_off : (b : Bool) → not b ≡ false → b ≡ true
 held_off true e = refl
@@ -67,10 +68,22 @@ module _ {t : Terms} {p : ℕ} {z : Outlook} (f : Frame) where
   U3_finds : (n : NodeName) → Goes t p z U3 f (Named (Some n)) U4 (Kicks n)
   U3_finds n = record { place = refl; grip = refl; lock = refl; wakes = refl; has = refl }
 
+-- a row more of a trail
+kicked_more : (o : Option ℕ) (ks : List Mark) (k : Mark) → kicked_from o (ks ++ k ∷ []) ≡ found_at k.row k.met (kicked_from o ks)
+kicked_more o [] k = refl
+kicked_more o (x ∷ ks) k = kicked_more (found_at x.row x.met o) ks k
+
 module _ {d : PvDomain} {l : ℕ} {own : NodeName} {ta : TableId} {a : Me Slot View} (r : RestsOn d own ta a) (ia : ℕ) (low : l < locks_of d.plan) where
   begun_at : AtOn d Unlock l own (starting Unlock l ta ia a) U2 Any ta ia (met r Unlock l ia low)
   begun_at = subst (λ c. AtOn d Unlock l own (starting Unlock l ta ia a) c Any ta ia (met r Unlock l ia low)) (first_is d.plan.mode d.halting)
       (first r Unlock l ia low)
+
+  -- where it has no row yet
+  begun_trail : begun_at.trail ≡ []
+  unfolding begun_at
+  begun_trail =
+      sym (λ j. (coe 0 j (i. AtOn d Unlock l own (starting Unlock l ta ia a) (first_is d.plan.mode d.halting i) Any ta ia (met r Unlock l ia low))
+      (first r Unlock l ia low)).trail) ∙ first_trail r Unlock l ia low
 
 module _ {d : PvDomain} {l : ℕ} {own : NodeName} {ta tb : TableId} {ia ib : ℕ} {a b : Me Slot View} (same : (tb ≡ ta) × (ib ≡ ia))
     (r : RestsOn d own ta a) (low : l < locks_of d.plan) where
@@ -78,6 +91,15 @@ module _ {d : PvDomain} {l : ℕ} {own : NodeName} {ta tb : TableId} {ia ib : �
   u2_frees k e =
       drops (begun_at r ia low) same (Word k.found) (first_step r Unlock l ia low (Word k.found) k.seat) Frees
       (U2_frees (begun_at r ia low).frame k.found (held_off (is_held k.found.locked) (release_again _ k.found _ k.word e)))
+
+  -- it kicks nobody
+  pub u2_kicks : {n : ℕ} (k : MadeBy Unlock l a n b) → n % 256 ≡ 1 → kicked_in b.0.calls.last ≡ None
+  u2_kicks k e =
+      let w = begun_at r ia low in
+      let z : Outlook = sight_of (terms_of d.plan) own.cpu (met r Unlock l ia low).0.calls.runs in
+      let frees : Drops (terms_of d.plan) own.cpu z U2 w.frame (Word k.found) Frees = U2_frees w.frame k.found (held_off (is_held k.found.locked) (release_again _ k.found _ k.word e)) in
+      ap kicked_in (last_is w same (Word k.found) (first_step r Unlock l ia low (Word k.found) k.seat) frees.place)
+      ∙ (kicked_more None w.trail _ ∙ ap kicked_in (begun_trail r ia low))
 
   pub u2_seeks : {n : ℕ} (k : MadeBy Unlock l a n b) → n % 256 ≢ 1 → AtOn d Unlock l own (starting Unlock l ta ia a) U3 Any tb ib b
   u2_seeks k ne =
@@ -96,6 +118,23 @@ module _ {d : PvDomain} {l : ℕ} {own : NodeName} {s : Start} {ta tb : TableId}
   pub u5_kicks : {node : NodeName} (found : Bool) → AtOn d Unlock l own s U5 (Kicks node) ta ia a → b ≡ (went a.0 (MarkedMet found), a.1)
       → EndedOn d Unlock l own s Frees tb ib b
   u5_kicks found w step = ends w same (MarkedMet found) step Frees refl refl refl refl
+
+-- the processor that is kicked by the rows U3 to U5
+module _ {d : PvDomain} {l : ℕ} {own : NodeName} {s : Start} {t0 t1 t2 t3 : TableId} {i0 i1 i2 i3 : ℕ} {m0 m1 m2 m3 : Me Slot View}
+    (same1 : (t1 ≡ t0) × (i1 ≡ i0)) (same2 : (t2 ≡ t1) × (i2 ≡ i1)) (same3 : (t3 ≡ t2) × (i3 ≡ i2))
+    (v : AtOn d Unlock l own s U3 Any t0 i0 m0) {n : ℕ} (finds : EmptiesAt l m0 n m1) {n' : ℕ} (frees : WentBy m1 n' m2)
+    (found : Bool) (kicks : m3 ≡ (went m2.0 (MarkedMet found), m2.1)) where
+  pub kicked : kicked_in m3.0.calls.last ≡ Some finds.node.cpu
+  unfolding u3_finds u4_frees
+  kicked =
+      let w = u3_finds same1 v finds in
+      let x = u4_frees same2 w frees in
+      ap kicked_in (last_is x.1 same3 (MarkedMet found) kicks refl)
+      ∙ (kicked_more None x.1.trail _
+      ∙ (ap kicked_in (yields_trail w same2 (Word frees.found) frees.seat U5 (Kicks finds.node) refl refl refl refl refl w.has)
+      ∙ (kicked_more None w.trail _
+      ∙ (ap kicked_in (goes_trail v same1 (Named (Some finds.node)) finds.seat U4 (Kicks finds.node) (U3_finds v.frame finds.node))
+      ∙ kicked_more None v.trail _))))
 
 -- what a kick asks
 module _ {d : PvDomain} {l : ℕ} {own node : NodeName} {s : Start} {ta : TableId} {ia : ℕ} {a : Me Slot View}

@@ -123,6 +123,14 @@ module _ {d : PvDomain} {v : Verb} {l : ℕ} {own : NodeName} {s : Start} {c : P
     has = g.has;
   }
 
+  pub goes_trail : (e : Pc) (Q : Frame → Type 0) (g : Goes t own.cpu z c f x e Q) → (goes e Q g).trail ≡ trail
+  unfolding goes
+  goes_trail e Q g = refl
+
+  -- the trail of a call that is over
+  pub last_is : next.place ≡ None → b.0.calls.last ≡ trail
+  last_is place = ap (λ (k : Calls). k.last) calls ∙ ap (λ q. last_after trail a.0.calls.last q) place
+
   -- it takes its lock, and is over
   pub takes : Ends t own.cpu z c f x → TookOn d v l own s tb ib b
   takes e =
@@ -226,6 +234,12 @@ module _ {d : PvDomain} {v : Verb} {l : ℕ} {own : NodeName} {s : Start} {c : P
         ctx = led_ctx f (course t.mode own.cpu z c f x).leads ∙ w.ctx;
         has = has;
       }
+
+  pub yields_trail : (e : Pc) (Q : Frame → Type 0) (place : next.place ≡ Some e) (is : row_grip t.mode own.cpu z c f x ≡ Frees)
+      (at : held_lock (target c f) f ≡ f.lock) (lock : next.lock ≡ f.lock) (wakes : halted_after (target c f) false ≡ false) (has : Q next)
+      → (yields e Q place is at lock wakes has).trail ≡ trail
+  unfolding yields
+  yields_trail e Q place is at lock wakes has = refl
 
 -- a call that stands at a row
 module _ {d : PvDomain} {v : Verb} {l : ℕ} {own : NodeName} {s : Start} {c : Pc} {P : Frame → Type 0} {ta : TableId} {ia : ℕ}

@@ -1,49 +1,15 @@
-use Rattle.std.proofs.Common.{◌≡◌, ◌<◌, ◌∙◌, ℕ, inl, true, false, None, refl, ap, arith}
-use Rattle.atomic_table.specs.declared.shared.Seat.{Seat}
+use Rattle.std.proofs.Common.{◌∙◌, refl, ap}
 use Rattle.lk_rows.specs.declared.setup.Verb.TheVariants.{Unlock}
 use Rattle.lk_law.specs.Agree.{halts}
-use Rattle.lk_domain.specs.Calls.{Frees, holds_in, lock_name}
-use Rattle.lk_domain.specs.Keeps.{Slot}
-use Rattle.lk_domain.specs.Ledgers.{is_first}
-use Rattle.lk_domain.specs.Plans.{locks_of}
-use Rattle.lk_domain.specs.Values.{out_in}
 use Rattle.lk_domain.specs.declared.plan.Plan.{Plan}
-use Rattle.lk_domain.specs.declared.view.View.{View}
-use Rattle.lk_pvdomain.specs.PvCalls.{HasTried, IsResting, own_node}
-use Rattle.lk_pvdomain.specs.PvPaths.{Ended, first_of}
-use Rattle.lk_pvdomain.specs.PvPlays.{TriedBy, release_fails}
+use Rattle.lk_pvdomain.specs.PvCalls.{own_node}
+use Rattle.lk_pvdomain.specs.PvPaths.{first_of}
 use Rattle.lk_pvdomain.specs.PvRows.{tries_release}
-use Rattle.lk_pvdomain.specs.PvSeats.{IsOf, calls_of, ledger_of}
-use Rattle.lk_pvdomain.specs.declared.cpu.PvCpu.{PvCpu}
-use Rattle.lk_pvdomain.specs.declared.domain.PvDomain.{PvDomain}
-use Rattle.lk_pvdomain.proofs.Fails.{tried}
 use Rattle.lk_pvdomain.proofs.ways.Arrives.{first_acts, is_spin}
-use Rattle.lk_pvdomain.proofs.ways.Frees.{first_tries, u2_frees, is_let, freed_none, freed_others}
+use Rattle.lk_pvdomain.proofs.ways.Frees.{first_tries, is_let, freed_none, freed_others}
 use Rattle.lk_pvdomain.proofs.ways.Kept.{rests_of, kept_cpu, kept_tried}
+use Rattle.lk_pvdomain.proofs.ways.Tried.{has_tried, frees}
 use Rattle.lk_pvdomain.proofs.calls.pv_unlock.Goals as goal
-
-module _ {d : PvDomain} {cpu : PvCpu} {l met : ℕ} {b : Seat Slot View} (o : IsOf cpu d) (r : IsResting (calls_of cpu)) (low : l < locks_of d.plan)
-    (same : (b.table_id ≡ cpu.seat.table_id) × (b.id ≡ cpu.seat.id))
-    (t : TriedBy release_fails Unlock (lock_name l) 1 cpu.seat.me met b.me) where
-  -- the first try, where it met another word
-  has_tried : holds_in (calls_of cpu).holds l ≡ true → (is_first (lock_name l) ≡ true → (ledger_of cpu).out ≡ None)
-      → out_in (calls_of cpu).holds l ≡ false → HasTried d l (own_node cpu) (first_of Unlock l cpu.seat) met b
-  has_tried held home value =
-      record {
-        old = cpu.seat;
-        start = refl;
-        rests = rests_of d cpu o r;
-        low = low;
-        held = held;
-        home = home;
-        value = value;
-        same = same;
-        tried = t;
-      }
-
-  -- and where it met the word of a lock for which nobody waits
-  frees : met ≡ 1 → Ended d Unlock l (own_node cpu) (first_of Unlock l cpu.seat) Frees b
-  frees e = u2_frees same (rests_of d cpu o r) low (tried release_fails Unlock l 1 cpu.seat.me met b.me t (inl e)) (omega (arith, e))
 
 pub try_release-met-requires : goal.try_release-met-requires
 try_release-met-requires g c =

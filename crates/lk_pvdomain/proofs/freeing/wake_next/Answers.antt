@@ -1,4 +1,4 @@
-use Rattle.std.proofs.Common.{List, refl, sym, subst, ap, ◌∙◌, ◌<◌, arith}
+use Rattle.std.proofs.Common.{List, Some, refl, sym, subst, ap, ◌∙◌, ◌<◌, arith}
 use Rattle.lk_domain.specs.Calls.{Hold, lock_name}
 use Rattle.lk_domain.specs.Ledgers.{Ledger}
 use Rattle.lk_domain.specs.Values.{out_in}
@@ -9,7 +9,7 @@ use Rattle.lk_domain.specs.declared.plan.Plan.{Plan}
 use Rattle.lk_domain.specs.declared.locks.moves.WordUse.TheVariants.{Drops}
 use Rattle.lk_pvdomain.proofs.ways.Ways.{numbered}
 use Rattle.lk_pvdomain.proofs.ways.Leads.{word_asks, seek_asks}
-use Rattle.lk_pvdomain.proofs.ways.Frees.{u3_finds, u4_frees, u5_kicks, kick_asks, out_freed, pair_cpu, freed_once}
+use Rattle.lk_pvdomain.proofs.ways.Frees.{u3_finds, u4_frees, u5_kicks, kick_asks, out_freed, pair_cpu, freed_once, kicked}
 use Rattle.lk_pvdomain.proofs.freeing.wake_next.Goals as goal
 
 pub take_out-pair-requires : goal.take_out-pair-requires
@@ -62,4 +62,13 @@ returns c =
           let w = u3_finds c.take_out-pair.ensures.same v c.take_out-pair.ensures.step in
           let x = u4_frees c.go_on.ensures.same w c.go_on.ensures.step in
           freed_once x.0 (u5_kicks c.kick.ensures.same c.kick.ensures.step.found x.1 c.kick.ensures.step.seat);
+      whom =
+          let v = c.requires.at.2 in
+          let k = c.take_out-pair.ensures.step in
+          let few = c.args.domain.now.lawful.locks in
+          let low = v.low in
+          let near = subst (λ (p : Plan). IsNode p k.node) v.of.plan k.near in
+          let cpu = pair_cpu c.args.lock k.node c.take_out-pair.result (omega (arith, few, low)) near.index k.word in
+          kicked c.take_out-pair.ensures.same c.go_on.ensures.same c.kick.ensures.same v k c.go_on.ensures.step c.kick.ensures.step.found c.kick.ensures.step.seat
+          ∙ ap (λ n. Some n) (sym cpu);
     }

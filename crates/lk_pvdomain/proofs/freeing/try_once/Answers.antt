@@ -1,0 +1,114 @@
+use Rattle.std.proofs.Common.{◌≡◌, ◌≢◌, ◌∙◌, ◌%◌, List, inl, inr, sym, ap, subst, true, false, None}
+use Rattle.std.proofs.lemmas.Bool.{true≢false}
+use Rattle.atomic_table.specs.Table.{Me}
+use Rattle.lk_rows.specs.declared.setup.Verb.TheVariants.{Unlock}
+use Rattle.lk_law.specs.Agree.{halts}
+use Rattle.lk_domain.specs.Calls.{Hold, lock_name}
+use Rattle.lk_domain.specs.Keeps.{Slot}
+use Rattle.lk_domain.specs.Ledgers.{Ledger, is_first}
+use Rattle.lk_domain.specs.Plays.{Acts}
+use Rattle.lk_domain.specs.Values.{out_in}
+use Rattle.lk_domain.specs.Views.{IsNumbered}
+use Rattle.lk_domain.specs.declared.plan.Plan.{Plan}
+use Rattle.lk_domain.specs.declared.view.View.{View}
+use Rattle.lk_domain.proofs.Outs.{moved_out}
+use Rattle.lk_pvdomain.specs.PvPaths.{first_of}
+use Rattle.lk_pvdomain.specs.PvPlays.{release_fails}
+use Rattle.lk_pvdomain.specs.PvRows.{tries_release}
+use Rattle.lk_pvdomain.proofs.Fails.{tried, release_failed, release_again}
+use Rattle.lk_pvdomain.proofs.ways.Arrives.{first_acts, is_spin}
+use Rattle.lk_pvdomain.proofs.ways.Frees.{first_tries}
+use Rattle.lk_pvdomain.proofs.ways.Tried.{seeks, stays, began, frees_then, kicks_then, seeks_then}
+use Rattle.lk_pvdomain.proofs.freeing.try_once.Goals as goal
+
+pub wake_next-kicked-requires : goal.wake_next-kicked-requires
+wake_next-kicked-requires c =
+    let h = c.requires.tried.2 in
+    let w = seeks h (λ e. c.if-low_byte-ne-HELD.true (c.low_byte.ensures ∙ e)) in
+    record {
+      at = (c.requires.tried.0, first_of Unlock c.args.lock h.old, w);
+      home = λ e. ap (λ (y : Ledger). y.out) w.ledger ∙ h.home e;
+      value = ap (λ (hs : List Hold). out_in hs c.args.lock) w.holds
+          ∙ (moved_out 0 (lock_name c.args.lock) h.old.me.0.calls.holds c.args.lock ∙ h.value);
+    }
+
+pub returns-then-low_byte-ne-HELD : goal.returns-then-low_byte-ne-HELD
+returns-then-low_byte-ne-HELD c =
+    record { still = λ e. absurd (true≢false e); whom = λ e. c.wake_next-kicked.ensures.whom; freed = λ e own s h. began h (c.wake_next-kicked.ensures.freed own (first_of Unlock c.args.lock h.old) (seeks h (λ e. c.if-low_byte-ne-HELD.true (c.low_byte.ensures ∙ e)))) }
+
+pub try_release-now-requires : goal.try_release-now-requires
+try_release-now-requires c =
+    let h = c.requires.tried.2 in
+    let r = h.rests in
+    let old = h.old in
+    let back = sym (stays h c.requires.other (sym c.low_byte.ensures ∙ c.if-low_byte-ne-HELD.false)) in
+    record {
+      table = h.same.0 ∙ r.of.table_is;
+      number = subst (λ (m : Me Slot View). IsNumbered m.0) back (c.requires.tried.0.cpu, r.of.number);
+      lock = h.low;
+      expected = (sym c.low_byte.ensures ∙ c.if-low_byte-ne-HELD.false);
+      row = subst (λ (m : Me Slot View). Acts tries_release m.0 Unlock c.args.lock) back
+          (first_acts r Unlock c.args.lock old.id h.low tries_release
+          (first_tries old.me.0.who.plan.mode (ap (λ (k : Plan). halts k.mode) r.of.plan ∙ c.args.domain.now.halting)) h.held
+          (is_spin r Unlock c.args.lock old.id h.low));
+      home = subst (λ (m : Me Slot View). is_first (lock_name c.args.lock) ≡ true → m.0.ledger.out ≡ None) back h.home;
+      value = subst (λ (m : Me Slot View). out_in m.0.calls.holds c.args.lock ≡ false) back h.value;
+    }
+
+pub returns-then-now-met : goal.returns-then-now-met
+returns-then-now-met c =
+    let e = sym c.low_byte.ensures ∙ c.if-low_byte-ne-HELD.false in
+    let t = c.try_release-now.ensures.step in
+    let now = c.try_release-now.result in
+    let k = tried release_fails Unlock c.args.lock c.args.met c.args.seat.now.me now c.try_release-now.new.seat.me t (inl c.if-now-met.true) in
+    record {
+      whom = λ is. kicks_then c.requires.tried.2 c.requires.other e c.try_release-now.ensures.same k (ap (λ n. n % 256) c.if-now-met.true ∙ e);
+      freed = λ is own s h. began h (frees_then h c.requires.other e c.try_release-now.ensures.same k (ap (λ n. n % 256) c.if-now-met.true ∙ e));
+      still = λ is. absurd (true≢false is);
+    }
+
+pub wake_next-kicked-requires-then-low_byte-ne-HELD-2 : goal.wake_next-kicked-requires-then-low_byte-ne-HELD-2
+wake_next-kicked-requires-then-low_byte-ne-HELD-2 c =
+    let h = c.requires.tried.2 in
+    let ne : c.try_release-now.result % 256 ≢ 1 = λ f. c.if-low_byte-ne-HELD-2.true (c.low_byte-2.ensures ∙ f) in
+    let e = sym c.low_byte.ensures ∙ c.if-low_byte-ne-HELD.false in
+    let t = c.try_release-now.ensures.step in
+    let now = c.try_release-now.result in
+    let k = tried release_fails Unlock c.args.lock c.args.met c.args.seat.now.me now c.try_release-now.new.seat.me t (inr (release_failed _ t.found now t.word ne)) in
+    let w = seeks_then h c.requires.other e c.try_release-now.ensures.same k ne in
+    record {
+      at = (c.requires.tried.0, first_of Unlock c.args.lock h.old, w);
+      home = λ is. ap (λ (y : Ledger). y.out) w.ledger ∙ h.home is;
+      value = ap (λ (hs : List Hold). out_in hs c.args.lock) w.holds
+          ∙ (moved_out 0 (lock_name c.args.lock) h.old.me.0.calls.holds c.args.lock ∙ h.value);
+    }
+
+pub returns-then-low_byte-ne-HELD-2 : goal.returns-then-low_byte-ne-HELD-2
+returns-then-low_byte-ne-HELD-2 c =
+    let ne : c.try_release-now.result % 256 ≢ 1 = λ f. c.if-low_byte-ne-HELD-2.true (c.low_byte-2.ensures ∙ f) in
+    let e = sym c.low_byte.ensures ∙ c.if-low_byte-ne-HELD.false in
+    let t = c.try_release-now.ensures.step in
+    let now = c.try_release-now.result in
+    let k = tried release_fails Unlock c.args.lock c.args.met c.args.seat.now.me now c.try_release-now.new.seat.me t (inr (release_failed _ t.found now t.word ne)) in
+    record {
+      whom = λ is. c.wake_next-kicked-then-low_byte-ne-HELD-2.ensures.whom;
+      freed = λ is own s h. began h
+          (c.wake_next-kicked-then-low_byte-ne-HELD-2.ensures.freed own (first_of Unlock c.args.lock h.old) (seeks_then h c.requires.other e c.try_release-now.ensures.same k ne));
+      still = λ is. absurd (true≢false is);
+    }
+
+pub returns : goal.returns
+returns c =
+    let e = sym c.low_byte.ensures ∙ c.if-low_byte-ne-HELD.false in
+    let t = c.try_release-now.ensures.step in
+    let again = sym c.low_byte-2.ensures ∙ c.if-low_byte-ne-HELD-2.false in
+    let same = c.try_release-now.ensures.same in
+    record {
+      freed = λ is. absurd (true≢false (sym is));
+      whom = λ is. absurd (true≢false (sym is));
+      still = λ is own s h. record {
+        table = same.0 ∙ h.same.0;
+        id = same.1 ∙ h.same.1;
+        me = t.stays c.if-now-met.false (release_again _ t.found c.try_release-now.result t.word again) ∙ stays h c.requires.other e;
+      };
+    }
