@@ -4,9 +4,7 @@ ghost use Rattle.lk_domain.specs.Paths.{AreKept, Passes, is_busy};
 ghost use Rattle.lk_domain.specs.Seats.{IsOf, KeepsRest, calls_of, ledger_of};
 ghost use Rattle.lk_run.specs.Polls.{Rises, GivesWay};
 
-use crossbeam_utils::Backoff;
 use lk_domain::{Cpu, Domain};
-use lk_rows::Pc;
 use std::sync::Wait;
 
 /// An interrupt source: what may run on a processor while a call waits there. Its handler may
@@ -44,26 +42,10 @@ impl Irq for NoIrq {
     fn poll<R: Wait>(&mut self, _cpu: &mut Cpu, _rt: &R, _domain: &Domain) {}
 }
 
-// Between two turns: it polls, and then gives way, so that the one for which the call waits may run.
-pub(crate) fn give_way<I: Irq, R: Wait>(
-    cpu: &mut Cpu,
-    rt: &R,
-    domain: &Domain,
-    irq: &mut I,
-    backoff: &Backoff,
-)
+// Between two turns a call gives way to what interrupts it, by a poll.
+pub(crate) fn give_way<I: Irq, R: Wait>(cpu: &mut Cpu, rt: &R, domain: &Domain, irq: &mut I)
     requires { IsOf cpu.old domain.now }
     ensures { GivesWay I.nests cpu.old (I.polls irq.old) cpu.new (I.polls irq.new) }
 {
     irq.poll(cpu, rt, domain);
-    backoff.snooze();
-}
-
-// A call that has gone on to another row waits for something else, so its pauses begin short again.
-// So they do where the exchange of the tail met another word (G4): another call came, and the next
-// exchange is not to wait for it.
-pub(crate) fn renew(backoff: &Backoff, old: Pc, new: Pc) {
-    if old != new || new == Pc::G4 {
-        backoff.reset();
-    }
 }

@@ -29,8 +29,8 @@ ghost use Rattle.lk_run.specs.Turns.{Begun, Earns};
 ghost use Rattle.lk_run.specs.Waiters.{At, Steps, Looks, Gets};
 
 use crate::call::Reader;
-use crate::irq::{Irq, give_way, renew};
-use crossbeam_utils::Backoff;
+use crate::irq::{Irq, give_way};
+use crate::pacing::Pace;
 use lk_abs::LockName;
 use lk_domain::{Cpu, Domain, LockId, steps};
 use lk_rows::Verb;
@@ -100,13 +100,14 @@ fn read_slowpath<I: Irq, R: Wait>(cpu: &mut Cpu, rt: &R, domain: &Domain, lock: 
     let Some(mut place) = reader.contend(cpu) else {
         return;
     };
-    let backoff = Backoff::new();
+    let mut pace = Pace::new();
     for _ in rt.forever() {
-        give_way(cpu, rt, domain, irq, &backoff);
+        give_way(cpu, rt, domain, irq);
+        pace.pause(place.row());
         match reader.turn(cpu, place) {
             None => return,
             Some(next) => {
-                renew(&backoff, place.row(), next.row());
+                pace.renew(place.row(), next.row());
                 place = next;
             }
         }

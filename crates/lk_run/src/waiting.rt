@@ -5,8 +5,8 @@ ghost use Rattle.lk_run.specs.Turns.{Begun, Earns};
 ghost use Rattle.lk_run.specs.Words.{Has};
 
 use crate::call::Call;
-use crate::irq::{Irq, give_way, renew};
-use crossbeam_utils::Backoff;
+use crate::irq::{Irq, give_way};
+use crate::pacing::Pace;
 use lk_domain::Cpu;
 use std::sync::Wait;
 
@@ -22,13 +22,14 @@ impl<'a> Call<'a> {
         let Some(mut place) = self.contend(cpu, met) else {
             return;
         };
-        let backoff = Backoff::new();
+        let mut pace = Pace::new();
         for _ in rt.forever() {
-            give_way(cpu, rt, self.domain, irq, &backoff);
+            give_way(cpu, rt, self.domain, irq);
+            pace.pause(place.row());
             match self.turn(cpu, place) {
                 None => return,
                 Some(next) => {
-                    renew(&backoff, place.row(), next.row());
+                    pace.renew(place.row(), next.row());
                     place = next;
                 }
             }
