@@ -9,7 +9,7 @@ use std::sync::Wait;
 
 // A waiter that counts its turns backs off once in so many, and polls again at once after the others.
 // It pauses for ever longer at first, and later yields its CPU to a thread that waits for one.
-const TURNS: u32 = 16;
+const TURNS: u32 = 2;
 
 // Between two turns of a call on this processor. It sleeps where the processor has halted. It backs
 // off where the call waits for what another does. Where only an exchange met another word, or a place
