@@ -6,7 +6,6 @@ ghost use Rattle.lk_lock.specs.Cells.{AllShut, all_behind, behind, firsts, laid}
 
 use lk_abs::{List, Memory};
 use lk_cell::Key;
-use lk_domain::MOST_LOCKS;
 use std::alloc::Global;
 
 // Takes the first key of a lock, if one is left.
@@ -41,7 +40,7 @@ pub(crate) fn laid_out(
     requires few { (length keys.items ≤ MOST_LOCKS) × (values ≤ 1 + MOST_CPUS) }
     ensures { IfOk result (λ all. all.items ≡ laid values keys.items) }
 {
-    let mut all = List::new(alloc, MOST_LOCKS * values as usize)?;
+    let mut all = List::new(alloc, values as usize * keys.len())?;
     for _ in 0..values {
         take_firsts(&mut all, &mut keys);
     }

@@ -1,17 +1,28 @@
 use Rattle.std.proofs.Common.{◌≡◌, ℕ, suc, ◌+◌, ◌++◌, Option, length, sym, ap, ◌∙◌, arith, length-append}
 use Rattle.std.proofs.lemmas.List.{append-nil, append_assoc}
+use Rattle.std.proofs.lemmas.Nat.{row_fits}
 use Rattle.lk_abs.specs.ListOf.{ListOf}
 use Rattle.lk_domain.specs.Values.{Key}
 use Rattle.lk_lock.specs.Cells.{all_behind, firsts, laid}
 use Rattle.lk_lock.proofs.Laid.{many_behind, many_firsts}
 use Rattle.lk_lock.proofs.laying.laid_out.Goals as goal
 
+pub take_firsts-requires : goal.take_firsts-requires
+take_firsts-requires c =
+    let inv = c.loop.invariant in
+    let n = length c.args.keys.items in
+    let was = inv.long in
+    let same = inv.many in
+    let room = inv.room in
+    let lt = c.loop-test.true in
+    let fits = row_fits c.loop.counter n c.args.values n lt (omega arith) in
+    omega (arith, was, same, room, fits)
+
 pub loop-preserved : goal.loop-preserved
 loop-preserved c =
     let inv = c.loop.invariant in
     let all = c.loop.all.items in
     let keys = c.loop.keys.items in
-    let few = c.requires.few.0 in
     let was = inv.long in
     let same = inv.many in
     let longer : length c.take_firsts.new.all.items ≡ length all + length keys =
@@ -24,7 +35,7 @@ loop-preserved c =
           ∙ (append_assoc all (firsts keys) (laid n (all_behind keys)) ∙ inv.keys (suc n) (omega (arith, e))));
       many = ap (λ (z : ListOf (ListOf Key)). length z.items) c.take_firsts.ensures.keys ∙ (many_behind keys ∙ same);
       room = ap (λ (z : ListOf (Option Key)). z.room) c.take_firsts.ensures.all ∙ inv.room;
-      long = omega (arith, was, longer, same, few);
+      long = omega (arith, was, longer, same);
     }
 
 pub returns : goal.returns
