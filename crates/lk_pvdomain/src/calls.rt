@@ -104,9 +104,10 @@ pub fn pv_unlock<R: Wait>(cpu: &mut PvCpu, rt: &R, domain: &PvDomain, lock: Lock
 }
 
 /// Tries to release a lock that the processor holds, without waiting, and returns which processor it
-/// kicked, if any. It kicks whom [`pv_unlock`] would kick. `Still` says that others came to the lock
-/// meanwhile, so that its exchange of the word failed twice: then the processor holds the lock as
-/// before, and the caller tries again. What is asked of the processor is what `pv_unlock` asks.
+/// kicked, if any. It kicks whom [`pv_unlock`] would kick, and wakes no thread: [`PvDomain::wake`]
+/// does. `Still` says that others came to the lock meanwhile, so that its exchange of the word failed
+/// twice: then the processor holds the lock as before, and the caller tries again. What is asked of
+/// the processor is what `pv_unlock` asks.
 #[inline]
 pub fn pv_try_unlock(cpu: &mut PvCpu, domain: &PvDomain, lock: LockId) -> PvRelease
     requires domain { IsOf cpu.old domain.now }

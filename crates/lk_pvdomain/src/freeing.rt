@@ -1,11 +1,12 @@
 // A release: the rows U2 to U5.
-ghost use Rattle.std.specs.Prelude.{◌≡◌, ◌≢◌, true, false, None, Some};
+ghost use Rattle.std.specs.Prelude.{◌≡◌, ◌≢◌, ◌<◌, true, false, None, Some};
 ghost use Rattle.lk_word.specs.declared.spin_word.NodeName.{NodeName};
 ghost use Rattle.lk_rows.specs.declared.parts.Pc.TheVariants.{U3};
 ghost use Rattle.lk_rows.specs.declared.setup.Verb.TheVariants.{Unlock};
 ghost use Rattle.lk_domain.specs.Calls.{Frees, lock_name};
 ghost use Rattle.lk_domain.specs.Ledgers.{is_first};
 ghost use Rattle.lk_domain.specs.Paths.{Any};
+ghost use Rattle.lk_domain.specs.Plans.{cpus_of};
 ghost use Rattle.lk_domain.specs.Values.{out_in};
 ghost use Rattle.lk_pvdomain.specs.PvCalls.{HasTried, IsAsItWas};
 ghost use Rattle.lk_pvdomain.specs.PvPaths.{At, Ended, Start};
@@ -23,7 +24,8 @@ use std::sync::Wait;
 pub enum PvRelease {
     /// The lock is free, and nobody was kicked.
     Freed,
-    /// The lock is free, and the processor of this number was kicked.
+    /// The lock is free, and the processor of this number was kicked. If its thread is parked by
+    /// [`PvDomain::sleep`], [`PvDomain::wake`] wakes it.
     Kicked(u32),
     /// The processor holds the lock as before.
     Still,
@@ -65,7 +67,7 @@ pub(crate) fn try_once(seat: &mut Right, domain: &PvDomain, lock: u32, met: u64)
     ensures whom { has_freed result ≡ true → kicked_in seat.new.me.0.calls.last ≡ whom result }
 {
     if low_byte(met) != HELD {
-        let kicked = wake_next(seat, domain, lock);
+        let kicked = kick_next(seat, domain, lock);
         return PvRelease::Kicked(kicked);
     }
     let now = tries::try_release(seat, domain, lock, met);
@@ -73,21 +75,34 @@ pub(crate) fn try_once(seat: &mut Right, domain: &PvDomain, lock: u32, met: u64)
         return PvRelease::Freed;
     }
     if low_byte(now) != HELD {
-        let kicked = wake_next(seat, domain, lock);
+        let kicked = kick_next(seat, domain, lock);
         return PvRelease::Kicked(kicked);
     }
     PvRelease::Still
 }
 
+// The rows U3 to U5, and then it wakes the thread of the processor that was kicked.
+fn wake_next(seat: &mut Right, domain: &PvDomain, lock: u32)
+    requires at { (own : NodeName) × (s : Start) × At domain.now Unlock lock own s U3 Any seat.old }
+    requires home { is_first (lock_name lock) ≡ true → seat.old.me.0.ledger.out ≡ None }
+    requires value { out_in seat.old.me.0.calls.holds lock ≡ false }
+    ensures freed { (own : NodeName) (s : Start) → At domain.now Unlock lock own s U3 Any seat.old
+        → Ended domain.now Unlock lock own s Frees seat.new }
+{
+    let kicked = kick_next(seat, domain, lock);
+    domain.wake(kicked);
+}
+
 // The rows U3 to U5: it takes the entry out of the hash, frees the lock, and kicks the processor of
-// the node that the entry named. Returns the number of that processor.
-fn wake_next(seat: &mut Right, domain: &PvDomain, lock: u32) -> u32
+// the node that the entry named. Returns the number of that processor, and wakes no thread.
+fn kick_next(seat: &mut Right, domain: &PvDomain, lock: u32) -> u32
     requires at { (own : NodeName) × (s : Start) × At domain.now Unlock lock own s U3 Any seat.old }
     requires home { is_first (lock_name lock) ≡ true → seat.old.me.0.ledger.out ≡ None }
     requires value { out_in seat.old.me.0.calls.holds lock ≡ false }
     ensures freed { (own : NodeName) (s : Start) → At domain.now Unlock lock own s U3 Any seat.old
         → Ended domain.now Unlock lock own s Frees seat.new }
     ensures whom { kicked_in seat.new.me.0.calls.last ≡ Some result }
+    ensures low { result < cpus_of domain.now.plan }
 {
     let pair = hash::take_out(seat, domain, lock);
     words::go_on(seat, domain, lock, WordUse::Drops);

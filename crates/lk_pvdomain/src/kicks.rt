@@ -57,8 +57,8 @@ pub(crate) fn is_woken(seat: &mut Right, domain: &PvDomain, cpu: u32) -> bool
     wake(seat, domain, cpu) != 0
 }
 
-// Kicks this processor, which is the row U5, and then wakes a thread that is parked on its kick
-// word. No clause says that it wakes one.
+// Kicks this processor, which is the row U5. It wakes no thread that is parked on its kick word
+// (`PvDomain::wake`).
 pub(crate) fn kick(seat: &mut Right, domain: &PvDomain, target: u32) -> u64
     requires table { seat.old.table_id ≡ domain.now.table.shared.table_id }
     requires number { IsNumbered seat.old.me.0 }
@@ -69,6 +69,5 @@ pub(crate) fn kick(seat: &mut Right, domain: &PvDomain, target: u32) -> u64
 {
     let word = domain.kick_of(target);
     let met = domain.table.shared.swap::<KickStores>(seat, word, 1);
-    domain.table.shared.wake_one(word);
     met
 }

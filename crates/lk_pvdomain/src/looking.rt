@@ -57,8 +57,8 @@ impl PvDomain {
         self.table.shared.peek(self.kick_of(cpu)) != 0
     }
 
-    /// Parks the thread of a processor on its kick word, unless a kick is remembered. A kick wakes
-    /// it. It may also return without one.
+    /// Parks the thread of a processor on its kick word, unless a kick is remembered. `wake` wakes it.
+    /// It may also return without one.
     ///
     /// No clause says that it parks, or on which word: a test does.
     pub fn sleep<R: Wait>(&self, rt: &R, cpu: u32)
@@ -67,5 +67,15 @@ impl PvDomain {
         if !self.is_kicked(cpu) {
             self.table.shared.park(rt, self.kick_of(cpu), 0);
         }
+    }
+
+    /// Wakes the thread of a processor, if it is parked on the kick word. `pv_unlock` does this for
+    /// the one that it kicks.
+    ///
+    /// No clause says that it wakes one: a test does.
+    pub fn wake(&self, cpu: u32)
+        requires { cpu < cpus_of self.now.plan }
+    {
+        self.table.shared.wake_one(self.kick_of(cpu));
     }
 }

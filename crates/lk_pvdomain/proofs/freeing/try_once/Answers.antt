@@ -21,8 +21,8 @@ use Rattle.lk_pvdomain.proofs.ways.Frees.{first_tries}
 use Rattle.lk_pvdomain.proofs.ways.Tried.{seeks, stays, began, frees_then, kicks_then, seeks_then}
 use Rattle.lk_pvdomain.proofs.freeing.try_once.Goals as goal
 
-pub wake_next-kicked-requires : goal.wake_next-kicked-requires
-wake_next-kicked-requires c =
+pub kick_next-kicked-requires : goal.kick_next-kicked-requires
+kick_next-kicked-requires c =
     let h = c.requires.tried.2 in
     let w = seeks h (λ e. c.if-low_byte-ne-HELD.true (c.low_byte.ensures ∙ e)) in
     record {
@@ -34,7 +34,7 @@ wake_next-kicked-requires c =
 
 pub returns-then-low_byte-ne-HELD : goal.returns-then-low_byte-ne-HELD
 returns-then-low_byte-ne-HELD c =
-    record { still = λ e. absurd (true≢false e); whom = λ e. c.wake_next-kicked.ensures.whom; freed = λ e own s h. began h (c.wake_next-kicked.ensures.freed own (first_of Unlock c.args.lock h.old) (seeks h (λ e. c.if-low_byte-ne-HELD.true (c.low_byte.ensures ∙ e)))) }
+    record { still = λ e. absurd (true≢false e); whom = λ e. c.kick_next-kicked.ensures.whom; freed = λ e own s h. began h (c.kick_next-kicked.ensures.freed own (first_of Unlock c.args.lock h.old) (seeks h (λ e. c.if-low_byte-ne-HELD.true (c.low_byte.ensures ∙ e)))) }
 
 pub try_release-now-requires : goal.try_release-now-requires
 try_release-now-requires c =
@@ -67,8 +67,8 @@ returns-then-now-met c =
       still = λ is. absurd (true≢false is);
     }
 
-pub wake_next-kicked-requires-then-low_byte-ne-HELD-2 : goal.wake_next-kicked-requires-then-low_byte-ne-HELD-2
-wake_next-kicked-requires-then-low_byte-ne-HELD-2 c =
+pub kick_next-kicked-requires-then-low_byte-ne-HELD-2 : goal.kick_next-kicked-requires-then-low_byte-ne-HELD-2
+kick_next-kicked-requires-then-low_byte-ne-HELD-2 c =
     let h = c.requires.tried.2 in
     let ne : c.try_release-now.result % 256 ≢ 1 = λ f. c.if-low_byte-ne-HELD-2.true (c.low_byte-2.ensures ∙ f) in
     let e = sym c.low_byte.ensures ∙ c.if-low_byte-ne-HELD.false in
@@ -91,9 +91,9 @@ returns-then-low_byte-ne-HELD-2 c =
     let now = c.try_release-now.result in
     let k = tried release_fails Unlock c.args.lock c.args.met c.args.seat.now.me now c.try_release-now.new.seat.me t (inr (release_failed _ t.found now t.word ne)) in
     record {
-      whom = λ is. c.wake_next-kicked-then-low_byte-ne-HELD-2.ensures.whom;
+      whom = λ is. c.kick_next-kicked-then-low_byte-ne-HELD-2.ensures.whom;
       freed = λ is own s h. began h
-          (c.wake_next-kicked-then-low_byte-ne-HELD-2.ensures.freed own (first_of Unlock c.args.lock h.old) (seeks_then h c.requires.other e c.try_release-now.ensures.same k ne));
+          (c.kick_next-kicked-then-low_byte-ne-HELD-2.ensures.freed own (first_of Unlock c.args.lock h.old) (seeks_then h c.requires.other e c.try_release-now.ensures.same k ne));
       still = λ is. absurd (true≢false is);
     }
 

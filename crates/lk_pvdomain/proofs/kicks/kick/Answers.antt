@@ -12,8 +12,3 @@ swap-met-requires c =
       kick_asks d.table.shared.key d.plan z.slots c.args.seat.now.id c.args.seat.now.me c.kick_of-word.result d.key d.halting
           c.args.target c.kick_of-word.ensures c.requires.number c.requires.target c.requires.row,
     )
-
-pub wake_one-requires : goal.wake_one-requires
-wake_one-requires c =
-    let d = c.args.domain.now in
-    let few = d.lawful.cpus in let low = c.requires.target in omega (arith, c.kick_of-word.ensures, d.words ∙ far_words d.plan d.halting, low)

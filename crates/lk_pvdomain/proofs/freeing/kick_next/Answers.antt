@@ -10,7 +10,7 @@ use Rattle.lk_domain.specs.declared.locks.moves.WordUse.TheVariants.{Drops}
 use Rattle.lk_pvdomain.proofs.ways.Ways.{numbered}
 use Rattle.lk_pvdomain.proofs.ways.Leads.{word_asks, seek_asks}
 use Rattle.lk_pvdomain.proofs.ways.Frees.{u3_finds, u4_frees, u5_kicks, kick_asks, out_freed, pair_cpu, freed_once, kicked}
-use Rattle.lk_pvdomain.proofs.freeing.wake_next.Goals as goal
+use Rattle.lk_pvdomain.proofs.freeing.kick_next.Goals as goal
 
 pub take_out-pair-requires : goal.take_out-pair-requires
 take_out-pair-requires c =
@@ -71,4 +71,12 @@ returns c =
           let cpu = pair_cpu c.args.lock k.node c.take_out-pair.result (omega (arith, few, low)) near.index k.word in
           kicked c.take_out-pair.ensures.same c.go_on.ensures.same c.kick.ensures.same v k c.go_on.ensures.step c.kick.ensures.step.found c.kick.ensures.step.seat
           ∙ ap (λ n. Some n) (sym cpu);
+      low =
+          let v = c.requires.at.2 in
+          let k = c.take_out-pair.ensures.step in
+          let few = c.args.domain.now.lawful.locks in
+          let low = v.low in
+          let near = subst (λ (p : Plan). IsNode p k.node) v.of.plan k.near in
+          let cpu = pair_cpu c.args.lock k.node c.take_out-pair.result (omega (arith, few, low)) near.index k.word in
+          subst (λ n. n < cpus_of c.args.domain.now.plan) (sym cpu) near.cpu;
     }
