@@ -1,5 +1,5 @@
 -- What stands in a list up to a place, one place more each turn of a loop.
-use Rattle.std.proofs.Common.{◌≡◌, ◌≢◌, ◌<◌, ◌≤◌, ◌+◌, ℕ, zero, suc, List, [], ◌∷◌, ◌++◌, Option, Some, None, false, length, length-append, map, take, slice_index_or, slice_set, refl, sym, ap, ◌∙◌, subst, inl, inr, arith, eqb}
+use Rattle.std.proofs.Common.{◌≡◌, ◌≢◌, ◌<◌, ◌≤◌, ◌+◌, ℕ, zero, suc, List, [], ◌∷◌, ◌++◌, Some, length, length-append, map, take, slice_index_or, slice_set, refl, sym, ap, ◌∙◌, subst, inl, inr, arith, eqb}
 use Rattle.std.specs.List.{slice_get}
 use Rattle.std.proofs.lemmas.Bool.{cases_Bool, eqb-true, eq-eqb, true≢false}
 use Rattle.std.proofs.lemmas.Option.{none-some, same_Some}
@@ -7,12 +7,6 @@ use Rattle.lk_abs.proofs.Places.{slice_get-set_same, slice_get-set_other}
 use Rattle.lk_domain.specs.declared.domain.Domain.{Domain}
 use Rattle.lk_port.specs.Opened.{ArePortsOf, IsPortOf}
 use Rattle.lk_port.specs.declared.port.Port.{Port}
-use Rattle.qlock_c.specs.Own.{is_full}
-
--- an empty handle has nothing
-pub none_of : (o : Option Port) → is_full o ≡ false → o ≡ None
-none_of None e = refl
-none_of (Some x) e = absurd (true≢false e)
 
 -- a place with an item is within the list, and an index reads the item
 pub within : {X : Type 0} (xs : List X) (i : ℕ) (x : X) → slice_get xs i ≡ Some x → i < length xs

@@ -53,4 +53,21 @@ impl Handle {
     }
 }
 
+impl Handle {
+    ghost use Rattle.std.specs.Prelude.{true};
+    ghost use Rattle.std.specs.Borrow.{sem};
+    ghost use Rattle.qlock_c.specs.Lending.{LendsPort};
+    ghost use Rattle.qlock_c.specs.Own.{is_full};
+
+    // The port that it has. It stays where it is, so that a call writes nothing into the handle.
+    #[inline]
+    pub(crate) fn port_mut(&mut self) -> &mut Port
+        requires { is_full self.old.inner ≡ true }
+        ensures* writes_back { sem 𝓛 (LendsPort self.entry result) }
+        ensures value { self.old.inner ≡ Some result.now }
+    {
+        unsafe { &mut *self.at.cast::<Port>() }
+    }
+}
+
 unsafe impl Send for Handle {}

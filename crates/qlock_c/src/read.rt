@@ -7,51 +7,50 @@ ghost use Rattle.lk_port.specs.Ports.{HasTried, HasEntered, HasLeft};
 ghost use Rattle.qlock_c.specs.Crossing.{Crosses};
 
 use crate::codes::{CLOSED, code};
-use crate::processor::{Processor, put, take};
+use crate::processor::Processor;
 use lk_domain::LockId;
-use std::alloc::Global;
+use lk_port::Port;
 
 /// Enters a reader-writer lock as a reader, if no writer is in it or waits for it.
 #[unsafe(no_mangle)]
-pub extern "C" fn qlock_try_read(alloc: Global, cpu: &mut Processor, lock: u32) -> u32
+pub extern "C" fn qlock_try_read(cpu: &mut Processor, lock: u32) -> u32
     ensures { result ≡ 0 → Crosses (HasTried TryRead Reads lock) cpu.old cpu.new }
 {
-    match take(alloc, cpu) {
-        None => CLOSED,
-        Some(mut port) => {
-            let answer = port.try_read(LockId { index: lock });
-            put(cpu, port);
-            code(answer)
-        }
+    if !cpu.used {
+        return CLOSED;
     }
+    let port = cpu.handle.port_mut();
+    code(port.try_read(LockId { index: lock }))
 }
 
 /// Begins to enter a reader-writer lock as a reader.
 #[unsafe(no_mangle)]
-pub extern "C" fn qlock_begin_read(alloc: Global, cpu: &mut Processor, lock: u32) -> u32
+pub extern "C" fn qlock_begin_read(cpu: &mut Processor, lock: u32) -> u32
     ensures { result ≡ 0 → Crosses (HasEntered Read Reads lock) cpu.old cpu.new }
 {
-    match take(alloc, cpu) {
-        None => CLOSED,
-        Some(mut port) => {
-            let answer = port.begin_read(LockId { index: lock });
-            put(cpu, port);
-            code(answer)
-        }
+    if !cpu.used {
+        return CLOSED;
     }
+    begins_to_read(cpu.handle.port_mut(), lock)
+}
+
+// What is left of it with the port. It is a function of its own so that the port is a parameter: then
+// the path of a lock that is free saves no register.
+#[inline(never)]
+fn begins_to_read(port: &mut Port, lock: u32) -> u32
+    ensures { result ≡ 0 → HasEntered Read Reads lock port.old port.new }
+{
+    code(port.begin_read(LockId { index: lock }))
 }
 
 /// Leaves a reader-writer lock as a reader.
 #[unsafe(no_mangle)]
-pub extern "C" fn qlock_read_unlock(alloc: Global, cpu: &mut Processor, lock: u32) -> u32
+pub extern "C" fn qlock_read_unlock(cpu: &mut Processor, lock: u32) -> u32
     ensures { result ≡ 0 → Crosses (HasLeft Z1 lock) cpu.old cpu.new }
 {
-    match take(alloc, cpu) {
-        None => CLOSED,
-        Some(mut port) => {
-            let answer = port.read_unlock(LockId { index: lock });
-            put(cpu, port);
-            code(answer)
-        }
+    if !cpu.used {
+        return CLOSED;
     }
+    let port = cpu.handle.port_mut();
+    code(port.read_unlock(LockId { index: lock }))
 }

@@ -7,51 +7,50 @@ ghost use Rattle.lk_port.specs.Ports.{HasTried, HasEntered, HasLeft};
 ghost use Rattle.qlock_c.specs.Crossing.{Crosses};
 
 use crate::codes::{CLOSED, code};
-use crate::processor::{Processor, put, take};
+use crate::processor::Processor;
 use lk_domain::LockId;
-use std::alloc::Global;
+use lk_port::Port;
 
 /// Enters a reader-writer lock as its writer, if nobody is in it and no writer waits for it.
 #[unsafe(no_mangle)]
-pub extern "C" fn qlock_try_write(alloc: Global, cpu: &mut Processor, lock: u32) -> u32
+pub extern "C" fn qlock_try_write(cpu: &mut Processor, lock: u32) -> u32
     ensures { result ≡ 0 → Crosses (HasTried TryWrite Writes lock) cpu.old cpu.new }
 {
-    match take(alloc, cpu) {
-        None => CLOSED,
-        Some(mut port) => {
-            let answer = port.try_write(LockId { index: lock });
-            put(cpu, port);
-            code(answer)
-        }
+    if !cpu.used {
+        return CLOSED;
     }
+    let port = cpu.handle.port_mut();
+    code(port.try_write(LockId { index: lock }))
 }
 
 /// Begins to enter a reader-writer lock as its writer.
 #[unsafe(no_mangle)]
-pub extern "C" fn qlock_begin_write(alloc: Global, cpu: &mut Processor, lock: u32) -> u32
+pub extern "C" fn qlock_begin_write(cpu: &mut Processor, lock: u32) -> u32
     ensures { result ≡ 0 → Crosses (HasEntered Write Writes lock) cpu.old cpu.new }
 {
-    match take(alloc, cpu) {
-        None => CLOSED,
-        Some(mut port) => {
-            let answer = port.begin_write(LockId { index: lock });
-            put(cpu, port);
-            code(answer)
-        }
+    if !cpu.used {
+        return CLOSED;
     }
+    begins_to_write(cpu.handle.port_mut(), lock)
+}
+
+// What is left of it with the port. It is a function of its own so that the port is a parameter: then
+// the path of a lock that is free saves no register.
+#[inline(never)]
+fn begins_to_write(port: &mut Port, lock: u32) -> u32
+    ensures { result ≡ 0 → HasEntered Write Writes lock port.old port.new }
+{
+    code(port.begin_write(LockId { index: lock }))
 }
 
 /// Leaves a reader-writer lock as its writer.
 #[unsafe(no_mangle)]
-pub extern "C" fn qlock_write_unlock(alloc: Global, cpu: &mut Processor, lock: u32) -> u32
+pub extern "C" fn qlock_write_unlock(cpu: &mut Processor, lock: u32) -> u32
     ensures { result ≡ 0 → Crosses (HasLeft Z2 lock) cpu.old cpu.new }
 {
-    match take(alloc, cpu) {
-        None => CLOSED,
-        Some(mut port) => {
-            let answer = port.write_unlock(LockId { index: lock });
-            put(cpu, port);
-            code(answer)
-        }
+    if !cpu.used {
+        return CLOSED;
     }
+    let port = cpu.handle.port_mut();
+    code(port.write_unlock(LockId { index: lock }))
 }

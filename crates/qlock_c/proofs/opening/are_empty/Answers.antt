@@ -1,6 +1,7 @@
 use Rattle.std.proofs.Common.{◌≡◌, ℕ, None, sym, ap, ◌∙◌, arith}
 use Rattle.qlock_c.specs.declared.processor.Processor.{Processor}
-use Rattle.qlock_c.proofs.Opened.{first_more, none_of, read_at, within}
+use Rattle.qlock_c.proofs.Full.{none_of}
+use Rattle.qlock_c.proofs.Opened.{first_more, read_at, within}
 use Rattle.qlock_c.proofs.opening.are_empty.Goals as goal
 
 pub loop-i-init : goal.loop-i-init

@@ -1,13 +1,13 @@
-use Rattle.std.proofs.Common.{◌≡◌, Some, sym, ◌∙◌, subst}
+use Rattle.std.proofs.Common.{◌≡◌, Some, refl, sym, ◌∙◌, subst}
 use Rattle.lk_abs.specs.declared.holder.Manner.TheVariants.{Reads}
 use Rattle.lk_rows.specs.declared.setup.Verb.TheVariants.{Read}
 use Rattle.lk_port.specs.Ports.{HasEntered}
 use Rattle.lk_port.specs.declared.port.Port.{Port}
 use Rattle.qlock_c.proofs.read.qlock_begin_read.Goals as goal
 
-pub returns-in-Some : goal.returns-in-Some
-returns-in-Some c ok p has =
-    let is : Some c.in-Some.port.value ≡ Some p = sym c.in-Some.ensures.had ∙ has in
-    let same : c.in-Some.port.value ≡ p = cc is in
-    let new = c.begin_read-answer.new.self in
-    (new, c.put.ensures, subst (λ (q : Port). HasEntered Read Reads c.args.lock q new) (c.deref_mut.ensures.value ∙ same) (c.begin_read-answer.ensures.entered (c.code.ensures ok)))
+pub returns : goal.returns
+returns c ok p has =
+    let is : Some c.port_mut.result.now ≡ Some p = sym c.port_mut.ensures.value ∙ has in
+    let same : c.port_mut.result.now ≡ p = cc is in
+    let new = c.begins_to_read.new.port in
+    (new, refl, subst (λ (q : Port). HasEntered Read Reads c.args.lock q new) same (c.begins_to_read.ensures ok))

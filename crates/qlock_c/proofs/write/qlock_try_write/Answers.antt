@@ -1,13 +1,13 @@
-use Rattle.std.proofs.Common.{◌≡◌, Some, sym, ◌∙◌, subst}
+use Rattle.std.proofs.Common.{◌≡◌, Some, refl, sym, ◌∙◌, subst}
 use Rattle.lk_abs.specs.declared.holder.Manner.TheVariants.{Writes}
 use Rattle.lk_rows.specs.declared.setup.Verb.TheVariants.{TryWrite}
 use Rattle.lk_port.specs.Ports.{HasTried}
 use Rattle.lk_port.specs.declared.port.Port.{Port}
 use Rattle.qlock_c.proofs.write.qlock_try_write.Goals as goal
 
-pub returns-in-Some : goal.returns-in-Some
-returns-in-Some c ok p has =
-    let is : Some c.in-Some.port.value ≡ Some p = sym c.in-Some.ensures.had ∙ has in
-    let same : c.in-Some.port.value ≡ p = cc is in
-    let new = c.try_write-answer.new.self in
-    (new, c.put.ensures, subst (λ (q : Port). HasTried TryWrite Writes c.args.lock q new) (c.deref_mut.ensures.value ∙ same) (c.try_write-answer.ensures.taken (c.code.ensures ok)))
+pub returns : goal.returns
+returns c ok p has =
+    let is : Some c.port_mut-port.result.now ≡ Some p = sym c.port_mut-port.ensures.value ∙ has in
+    let same : c.port_mut-port.result.now ≡ p = cc is in
+    let new = c.try_write.new.self in
+    (new, refl, subst (λ (q : Port). HasTried TryWrite Writes c.args.lock q new) same (c.try_write.ensures.taken (c.code.ensures ok)))
