@@ -1,5 +1,6 @@
 // The calls on a spinlock.
 ghost use Rattle.std.specs.Prelude.{◌≡◌, ◌≢◌, ◌<◌, None, Some, true, false};
+ghost use Rattle.std.specs.Arc.{arc_value};
 ghost use Rattle.lk_abs.specs.declared.holder.Manner.TheVariants.{Spins};
 ghost use Rattle.lk_abs.specs.declared.names.Kind.TheVariants.{Spin};
 ghost use Rattle.lk_rows.specs.declared.setup.Verb.TheVariants.{Lock, Try};
@@ -17,6 +18,8 @@ use crate::port::Port;
 use lk_abs::Kind;
 use lk_domain::{Cpu, Domain, LockId};
 use lk_run::Arrival;
+use std::alloc::Global;
+use std::sync::Arc;
 
 impl Port {
     /// Takes a spinlock if it is free and nobody waits for it. It never waits.
@@ -81,7 +84,15 @@ impl Port {
         let domain: &Domain = &self.domain;
         match lk_run::arrive(&mut self.cpu, domain, lock) {
             None => true,
-            Some(arrival) => settles(&mut self.cpu, domain, lock, arrival, &mut self.pending),
+            Some(arrival) => {
+                settles(
+                    &mut self.cpu,
+                    &self.domain,
+                    lock,
+                    arrival,
+                    &mut self.pending,
+                )
+            }
         }
     }
 
@@ -113,28 +124,30 @@ impl Port {
 }
 
 // Goes on with a call that found its lock not free. True: it has it. False: the call waits. It is out
-// of the way of a call that finds its lock free, which builds no `Pending`.
+// of the way of a call that finds its lock free, which builds no `Pending`. It gets the share of the
+// domain and not the domain, whose place would have to be kept for it in a register.
 #[cold]
 #[inline(never)]
 fn settles(
     cpu: &mut Cpu,
-    domain: &Domain,
+    domain: &Arc<Domain, Global>,
     lock: LockId,
     arrival: Arrival,
     pending: &mut Pending,
 ) -> bool
-    requires domain { IsOf cpu.old domain.now }
-    requires lock { lock.index < locks_of domain.now.plan }
-    requires begun { (s : Start) × Arrived domain.now lock.index arrival.met s cpu.old }
+    requires domain { IsOf cpu.old (arc_value domain.now) }
+    requires lock { lock.index < locks_of (arc_value domain.now).plan }
+    requires begun { (s : Start) × Arrived (arc_value domain.now) lock.index arrival.met s cpu.old }
     ensures rest { KeepsRest cpu.old cpu.new }
     ensures holds { result ≡ true → (s : Start)
-        → Arrived domain.now lock.index arrival.met s cpu.old
-        → Holds domain.now Lock lock.index Spins s cpu.new None }
+        → Arrived (arc_value domain.now) lock.index arrival.met s cpu.old
+        → Holds (arc_value domain.now) Lock lock.index Spins s cpu.new None }
     ensures same { result ≡ true → pending.new ≡ pending.old }
     ensures waits { result ≡ false → (s : Start)
-        → Arrived domain.now lock.index arrival.met s cpu.old
-        → IsPending domain.now lock pending.new s cpu.new }
+        → Arrived (arc_value domain.now) lock.index arrival.met s cpu.old
+        → IsPending (arc_value domain.now) lock pending.new s cpu.new }
 {
+    let domain: &Domain = domain;
     match lk_run::settle(cpu, domain, lock, arrival) {
         None => true,
         Some(waiter) => {

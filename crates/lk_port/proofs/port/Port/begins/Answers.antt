@@ -1,12 +1,11 @@
-use Rattle.std.proofs.Common.{true, false, None, sym, subst}
+use Rattle.std.proofs.Common.{true, false, None, subst}
 use Rattle.std.specs.Arc.{arc_value}
 use Rattle.lk_abs.specs.declared.holder.Manner.TheVariants as manner
 use Rattle.lk_rows.specs.declared.setup.Verb.TheVariants.{Lock}
-use Rattle.lk_domain.specs.Seats.{IsOf}
 use Rattle.lk_domain.specs.declared.domain.Domain.{Domain}
 use Rattle.lk_run.specs.Phases.{Holds, starting}
+use Rattle.lk_run.specs.Polled.{Arrived}
 use Rattle.lk_run.proofs.Steps.{still_of, rest_both}
-use Rattle.lk_port.specs.Ports.{IsPending}
 use Rattle.lk_port.proofs.Ports as port
 use Rattle.lk_port.proofs.port.Port.begins.Goals as goal
 
@@ -36,25 +35,24 @@ invariant_of-self-in-Some c =
     let s = starting me.cpu false None in
     let new = c.settles.new.cpu in
     let o = c.settles.new.pending in
-    let is = c.deref-domain.ensures in
-    let begun = c.arrive.ensures.met c.in-Some.arrival c.in-Some.is false in
+    let begun = subst (λ (e : Domain). Arrived e lock.index c.in-Some.arrival.met s c.arrive.new.cpu) c.deref-domain.ensures (c.arrive.ensures.met c.in-Some.arrival c.in-Some.is false) in
     record {
       of = still_of d me.cpu new (rest_both me.cpu c.arrive.new.cpu new c.arrive.ensures.rest c.settles.ensures.rest) me.of;
       stands = ∣ port.settled d me.writes.items lock me.pending o s new c.settles.result idle may.free may.kind
-          (λ z. subst (λ (e : Domain). Holds e Lock lock.index manner.Spins s new None) is (c.settles.ensures.holds z s begun))
+          (λ z. c.settles.ensures.holds z s begun)
           c.settles.ensures.same
-          (λ z. subst (λ (e : Domain). IsPending e lock o s new) is (c.settles.ensures.waits z s begun)) ∣₁;
+          (λ z. c.settles.ensures.waits z s begun) ∣₁;
     }
 
 pub settles-requires-clause-domain : goal.settles-requires-clause-domain
 settles-requires-clause-domain c =
     let me = c.args.self.now in
-    subst (λ (e : Domain). IsOf c.arrive.new.cpu e) (sym c.deref-domain.ensures)
-    (still_of (arc_value me.domain) me.cpu c.arrive.new.cpu c.arrive.ensures.rest me.of)
+    still_of (arc_value me.domain) me.cpu c.arrive.new.cpu c.arrive.ensures.rest me.of
 
 pub settles-requires-clause-begun : goal.settles-requires-clause-begun
 settles-requires-clause-begun c =
-    (starting c.args.self.now.cpu true None, c.arrive.ensures.met c.in-Some.arrival c.in-Some.is true)
+    let s = starting c.args.self.now.cpu true None in
+    (s, subst (λ (e : Domain). Arrived e c.args.lock.index c.in-Some.arrival.met s c.arrive.new.cpu) c.deref-domain.ensures (c.arrive.ensures.met c.in-Some.arrival c.in-Some.is true))
 
 pub returns-in-None-clause-taken : goal.returns-in-None-clause-taken
 returns-in-None-clause-taken c ok nests =
@@ -65,8 +63,6 @@ returns-in-None-clause-taken c ok nests =
 
 pub returns-in-Some-clause-taken : goal.returns-in-Some-clause-taken
 returns-in-Some-clause-taken c e nests =
-    let me = c.args.self.now in
-    let l = c.args.lock.index in
-    let s = starting me.cpu nests None in
-    subst (λ (e : Domain). Holds e Lock l manner.Spins s c.settles.new.cpu None) c.deref-domain.ensures
-    (c.settles.ensures.holds e s (c.arrive.ensures.met c.in-Some.arrival c.in-Some.is nests))
+    let s = starting c.args.self.now.cpu nests None in
+    c.settles.ensures.holds e s
+    (subst (λ (e : Domain). Arrived e c.args.lock.index c.in-Some.arrival.met s c.arrive.new.cpu) c.deref-domain.ensures (c.arrive.ensures.met c.in-Some.arrival c.in-Some.is nests))
