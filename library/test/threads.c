@@ -1,7 +1,9 @@
 /* threads THREADS TURNS: THREADS threads take TURNS turns each, in each family: with a spinlock, and in a
  * reader-writer lock, where every fourth turn is a writer's. Two numbers that one of them guards have to be
- * equal whenever somebody looks. Built with -fsanitize=thread it tells a race on them too. */
-#include "qlock.h"
+ * equal whenever somebody looks. Built with -fsanitize=thread it tells a race on them too. In PV, which has
+ * spinlocks alone, a thread sleeps while its processor has halted, or yields and polls, by turns: one that
+ * nobody wakes stops the test, which is then killed. */
+#include "qlock_sleep.h"
 #include <pthread.h>
 #include <sched.h>
 #include <stdio.h>
@@ -13,7 +15,8 @@ typedef struct { char before[64]; long a, b; char behind[64]; } guarded;
 
 static guarded data[2];
 static qlock_cpu cpus[MOST];
-static long turns, writes[MOST];
+static qlock_bed beds[MOST];
+static long turns, writes[MOST], sleeps[MOST];
 
 /* The library is not built for the sanitizer: tell it what the locks order. */
 #if defined(__SANITIZE_THREAD__)
@@ -104,6 +107,63 @@ static void *runs(void *given) {
     return NULL;
 }
 
+/* A turn in which the thread sleeps while its processor has halted; in one of eight it yields in place of that. */
+static void halting_turn(qlock_cpu *cpu, long turn, unsigned *times) {
+    long me = cpu - cpus;
+    uint32_t answer = turn % 3 ? qlock_begin(cpu, SPIN) : qlock_try_lock(cpu, SPIN);
+    if (answer == QLOCK_BUSY) {
+        answer = qlock_begin(cpu, SPIN);
+    }
+    sleeps[me] += answer == QLOCK_HALTS;
+    if (turn % 8 == 0) {
+        MUST(qlock_wait(cpu, answer, yields, times) == QLOCK_DONE);
+    } else {
+        MUST(qlock_sleep_wait(cpu, answer, &beds[me]) == QLOCK_DONE);
+    }
+    __tsan_acquire(&data[SPIN]);
+    changes(&data[SPIN]);
+    __tsan_release(&data[SPIN]);
+    if (turn % 2) {
+        MUST(qlock_wake_unlock(cpu, SPIN, beds) == QLOCK_DONE);
+        return;
+    }
+    uint32_t kicked = 9;
+    MUST(qlock_unlock_kick(cpu, SPIN, &kicked) == QLOCK_DONE);
+    if (kicked != QLOCK_NOBODY) {
+        qlock_wake(&beds[kicked]);
+    }
+}
+
+static void *halts(void *given) {
+    qlock_cpu *cpu = given;
+    unsigned times = 0;
+    for (long turn = 0; turn < turns; turn++) {
+        halting_turn(cpu, turn, &times);
+    }
+    return NULL;
+}
+
+/* Waiters spin for so many turns before they halt. */
+static void halting_runs(long threads, uint32_t spins) {
+    static const uint8_t kinds[1] = {QLOCK_SPIN};
+    uint32_t sockets[MOST] = {0};
+    pthread_t made[MOST];
+    long slept = 0;
+    data[SPIN].a = data[SPIN].b = 0;
+    MUST(qlock_open(QLOCK_PV, kinds, 1, sockets, threads, spins, cpus, threads) == QLOCK_DONE);
+    for (long i = 0; i < threads; i++) {
+        sleeps[i] = 0;
+        MUST(pthread_create(&made[i], NULL, halts, &cpus[i]) == 0);
+    }
+    for (long i = 0; i < threads; i++) {
+        MUST(pthread_join(made[i], NULL) == 0);
+        slept += sleeps[i];
+        MUST(qlock_close(&cpus[i]) == QLOCK_DONE);
+    }
+    MUST(data[SPIN].a == threads * turns && data[SPIN].b == data[SPIN].a);
+    MUST(threads == 1 || spins != 1 || slept != 0);
+}
+
 static void family_runs(uint32_t family, long threads) {
     static const uint8_t kinds[2] = {QLOCK_SPIN, QLOCK_RW};
     uint32_t sockets[MOST] = {0};
@@ -134,6 +194,8 @@ int main(int argc, char **argv) {
     for (uint32_t family = QLOCK_VIRT; family <= QLOCK_CNA; family++) {
         family_runs(family, threads);
     }
-    printf("threads: %ld threads, %ld turns each, in three families\n", threads, turns);
+    halting_runs(threads, 1);
+    halting_runs(threads, 100);
+    printf("threads: %ld threads, %ld turns each, in four families\n", threads, turns);
     return 0;
 }

@@ -31,7 +31,7 @@ def install_library(goal):
     kit = Path(os.path.realpath(shutil.which("rt"))).parent.parent
     copy(proved_path(LIBRARY), goal / "lib" / "libqlock.a")
     copy(kit / "c" / "liblibc_c.a", goal / "lib" / "libqlock_heap.a")
-    for header in ("qlock.h", "qlock.hpp"):
+    for header in ("qlock.h", "qlock.hpp", "qlock_sleep.h"):
         copy(TOP / "library" / "include" / header, goal / "include" / header)
     copy(TOP / "library" / "qlock.3", goal / "share" / "man" / "man3" / "qlock.3")
     told = (TOP / "library" / "qlock.pc.in").read_text().replace("@PREFIX@", str(goal)).replace("@VERSION@", version())

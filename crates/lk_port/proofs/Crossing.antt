@@ -1,4 +1,4 @@
--- A port may go to another thread. Its domain's plan has a `Snapshot`, so that this is not found without
+-- A port may go to another thread, of whatever family. Its domain's plan has a `Snapshot`, so that this is not found without
 -- hints.
 use denote.Param.Send.{IsSend, sendable}
 use Rattle.std.proofs.Crossing.{crosses}
@@ -20,7 +20,13 @@ use Rattle.lk_run.proofs.write_waiter.WriteWaiter.TheSendSync as writer
 use Rattle.lk_port.proofs.pending.Pending.TheSendSync as pending
 use Rattle.lk_domain.specs.contracts.domain.Domain as Domain
 use Rattle.lk_domain.specs.contracts.plan.Plan as Plan
+use Rattle.lk_pvdomain.proofs.PvSeating.{pv_domain_sync}
+use Rattle.lk_pvdomain.proofs.cpu.PvCpu.TheSendSync as pv_cpu
+use Rattle.lk_pvdomain.proofs.waiter.PvWaiter.TheSendSync as pv_waiter
+use Rattle.lk_pvdomain.specs.contracts.domain.PvDomain as PvDomain
+use Rattle.lk_port.specs.contracts.any_port.AnyPort as AnyPort
 use Rattle.lk_port.specs.contracts.port.Port as Port
+use Rattle.lk_port.specs.contracts.pv_port.PvPort as PvPort
 
 pub plan_send : IsSend Plan.the_row
 plan_send = search (sendable, crosses, list.the_send, topology.the_send, format.the_send, mode.the_send, kind.the_send) depth 40
@@ -32,3 +38,25 @@ domain_send =
 pub port_send : IsSend Port.the_row
 port_send =
     search (sendable, crosses, domain_send, domain_sync, cpu.the_send, cpu.the_field_send, waiter.the_send, waiter.the_field_send, reader.the_send, reader.the_field_send, writer.the_send, writer.the_field_send, pending.the_send, pending.the_field_send, option.the_send, option.the_field_send, global.the_send, global.the_sync) depth 40
+
+-- as a field of another type
+pub port_field_send : IsSend Port.the_field.row
+port_field_send =
+    search (sendable, crosses, port_send, domain_send, domain_sync, cpu.the_send, cpu.the_field_send, waiter.the_send, waiter.the_field_send, reader.the_send, reader.the_field_send, writer.the_send, writer.the_field_send, pending.the_send, pending.the_field_send, option.the_send, option.the_field_send, global.the_send, global.the_sync) depth 40
+
+-- and where its family halts
+
+pub pv_domain_send : IsSend PvDomain.the_row
+pv_domain_send =
+    search (sendable, crosses, plan_send, table.the_send, table.the_field_send, stowed.the_send, stowed.the_field_send, option.the_send, option.the_field_send, global.the_send, global.the_sync, order.the_send, order.the_sync) depth 40
+
+pub pv_port_send : IsSend PvPort.the_row
+pv_port_send =
+    search (sendable, crosses, pv_domain_send, pv_domain_sync, pv_cpu.the_send, pv_cpu.the_field_send, pv_waiter.the_send, pv_waiter.the_field_send, list.the_send, option.the_send, option.the_field_send, global.the_send, global.the_sync) depth 40
+
+pub pv_port_field_send : IsSend PvPort.the_field.row
+pv_port_field_send =
+    search (sendable, crosses, pv_port_send, pv_domain_send, pv_domain_sync, pv_cpu.the_send, pv_cpu.the_field_send, pv_waiter.the_send, pv_waiter.the_field_send, list.the_send, option.the_send, option.the_field_send, global.the_send, global.the_sync) depth 40
+
+pub any_send : IsSend AnyPort.the_row
+any_send = search (sendable, crosses, port_field_send, pv_port_field_send, port_send, pv_port_send) depth 40

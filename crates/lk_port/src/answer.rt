@@ -7,6 +7,10 @@ pub enum Answer {
     Done,
     /// A call for the lock waits.
     Waits,
+    /// A call for the lock has halted, until its processor is kicked.
+    Halts,
+    /// Others came to the lock at each try to free it. The processor holds it as before.
+    Again,
     /// The lock was not taken: somebody has it, or was faster.
     Busy,
     /// The domain has no such lock.

@@ -6,16 +6,26 @@
 #![tactic(auto)]
 
 mod answer;
+mod any_entering;
+mod any_port;
 mod asking;
 mod opening;
 mod pending;
 mod polling;
 mod port;
+mod pv_asking;
+mod pv_calls;
+mod pv_opening;
+mod pv_port;
 mod read;
 mod spin;
 mod write;
 
 pub use answer::Answer;
+pub use any_port::AnyPort;
 pub use opening::{Family, Fault, open};
 pub use pending::Pending;
 pub use port::Port;
+pub use pv_calls::Freed;
+pub use pv_opening::open_pv;
+pub use pv_port::PvPort;

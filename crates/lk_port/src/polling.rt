@@ -1,7 +1,7 @@
 // A call that waits goes on.
-ghost use Rattle.std.specs.Prelude.{◌≡◌, true};
+ghost use Rattle.std.specs.Prelude.{◌≡◌, ◌≢◌, true};
 ghost use Rattle.lk_port.specs.Ports.{HasPolled, LocksNow, ReadsNow, WritesNow};
-ghost use Rattle.lk_port.specs.declared.answer.Answer.TheVariants.{Done, Idle};
+ghost use Rattle.lk_port.specs.declared.answer.Answer.TheVariants.{Done, Halts, Idle};
 ghost use Rattle.lk_port.specs.declared.pending.Pending.TheVariants.{Free, Spins, Reads, Writes};
 
 use crate::answer::Answer;
@@ -17,6 +17,7 @@ impl Port {
         ensures domain { self.new.domain ≡ self.old.domain }
         ensures has { result ≡ Done → HasPolled self.old self.new }
         ensures idle { result ≡ Idle → (self.old.pending ≡ Free) × (self.new ≡ self.old) }
+        ensures runs { result ≢ Halts }
     {
         let has = match self.pending {
             Pending::Free => return Answer::Idle,

@@ -2,7 +2,10 @@
 ghost use Rattle.std.specs.Prelude.{◌≡◌, ◌≢◌, None};
 ghost use Rattle.lk_port.specs.declared.answer.Answer.TheVariants.{Done};
 
-use lk_port::{Answer, Fault};
+use lk_port::{Answer, Fault, Freed};
+
+/// No processor was kicked.
+const NOBODY: u32 = u32::MAX;
 
 /// The domain has no such lock.
 const NO_LOCK: u32 = 3;
@@ -19,9 +22,6 @@ pub(crate) const RANGE: u32 = 12;
 /// There is not enough memory.
 pub(crate) const MEMORY: u32 = 13;
 
-/// The family's waiters halt, and no call of this library does.
-pub(crate) const NO_FAMILY: u32 = 14;
-
 // The number of an answer.
 pub(crate) fn code(answer: Answer) -> u32
     ensures { result ≡ 0 → answer ≡ Done }
@@ -37,7 +37,21 @@ pub(crate) fn code(answer: Answer) -> u32
         Answer::WrongManner => 7,
         Answer::Pending => 8,
         Answer::Idle => 9,
+        Answer::Halts => 14,
+        Answer::Again => 15,
     }
+}
+
+// Writes which processor a release has kicked, if it has freed the lock, and gives the code.
+pub(crate) fn freed_code(freed: Freed, kicked: &mut u32) -> u32
+    ensures done { result ≡ 0 → freed.answer ≡ Done }
+    ensures same { result ≢ 0 → kicked.new ≡ kicked.old }
+{
+    let code = code(freed.answer);
+    if code == 0 {
+        *kicked = freed.kicked.unwrap_or(NOBODY);
+    }
+    code
 }
 
 // The number of a fault.

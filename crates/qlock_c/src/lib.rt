@@ -1,5 +1,5 @@
-//! The locks of `lk_run` for C. `include/qlock.h` of the library declares these functions, and says
-//! what a caller owes.
+//! The locks of `lk_run` and `lk_pvdomain` for C. `include/qlock.h` of the library declares these
+//! functions, and says what a caller owes.
 #![tactic(auto)]
 
 ghost use Rattle.std.specs.Prelude.{◌≡◌, ◌≢◌, ◌⊎◌};
@@ -10,6 +10,7 @@ mod handle;
 mod looks;
 mod opening;
 mod processor;
+mod pv_opening;
 mod read;
 mod spin;
 mod write;
@@ -20,8 +21,9 @@ use processor::{Processor, put, take};
 use std::alloc::Global;
 
 /// Makes a domain with a lock for each kind and a processor for each socket, and puts the processors
-/// into the handles, which must be empty. The family is 0 for `virt`, 1 for `native`, 2 for `cna`; 3,
-/// `pv`, is refused by a code of its own. A kind is 0 for a spinlock and 1 for a reader-writer lock.
+/// into the handles, which must be empty. The family is 0 for `virt`, 1 for `native`, 2 for `cna`, and
+/// 3 for `pv`. A kind is 0 for a spinlock and 1 for a reader-writer lock, of which `pv` has none; there
+/// the threshold is the spin bound.
 #[unsafe(no_mangle)]
 pub extern "C" fn qlock_open(
     alloc: Global,

@@ -33,3 +33,13 @@ pub extern "C" fn qlock_is_contended(cpu: &mut Processor, lock: u32, yes: &mut u
     let port = cpu.handle.port_mut();
     told(port.is_contended(LockId { index: lock }), yes)
 }
+
+/// Writes 1 if a kick of the processor is remembered, and 0 if not.
+#[unsafe(no_mangle)]
+pub extern "C" fn qlock_is_kicked(cpu: &mut Processor, yes: &mut u32) -> u32 {
+    if !cpu.used {
+        return CLOSED;
+    }
+    let port = cpu.handle.port_mut();
+    told(Some(port.is_kicked()), yes)
+}

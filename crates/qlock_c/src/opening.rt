@@ -2,14 +2,15 @@
 ghost use Rattle.std.specs.Prelude.{◌≡◌, ◌≢◌, ◌≤◌, ◌⊎◌, IfOk, length, map, true};
 ghost use Rattle.lk_domain.specs.declared.domain.Domain.{Domain};
 ghost use Rattle.lk_port.specs.Opened.{ArePortsOf};
-ghost use Rattle.qlock_c.specs.Opened.{AreEmpty, AreHandlesOf, AreOpen};
+ghost use Rattle.qlock_c.specs.Opened.{AreEmpty, AreHandlesOf, AreOpen, AreRunning};
 ghost use Rattle.qlock_c.specs.Opened.{family_numbered, kind_numbered};
 
-use crate::codes::{IN_USE, MEMORY, NO_FAMILY, RANGE, fault_code};
+use crate::codes::{IN_USE, MEMORY, RANGE, fault_code};
 use crate::processor::{Processor, put, take};
+use crate::pv_opening::open_halting;
 use lk_abs::{Kind, List, Memory};
 use lk_domain::{MOST_CPUS, MOST_LOCKS};
-use lk_port::{Family, Port, open};
+use lk_port::{AnyPort, Family, Port, open};
 use std::alloc::Global;
 
 // The paravirtual family.
@@ -56,7 +57,7 @@ fn are_kinds(kinds: &[u8]) -> bool {
 }
 
 // Whether no handle is in use.
-fn are_empty(cpus: &[Processor]) -> bool
+pub(crate) fn are_empty(cpus: &[Processor]) -> bool
     ensures { result ≡ true → AreEmpty cpus.now }
 {
     for i in 0..cpus.len() {
@@ -68,7 +69,7 @@ fn are_empty(cpus: &[Processor]) -> bool
 }
 
 // Empties the handles again.
-fn empty_all(alloc: Global, cpus: &mut [Processor])
+pub(crate) fn empty_all(alloc: Global, cpus: &mut [Processor])
     ensures { AreEmpty cpus.new }
 {
     for i in 0..cpus.len() {
@@ -89,7 +90,7 @@ fn put_all(alloc: Global, mut ports: Vec<Port>, cpus: &mut [Processor]) -> bool
         let Some(port) = ports.pop() else {
             return false;
         };
-        let Ok(port) = Box::new(alloc, port) else {
+        let Ok(port) = Box::new(alloc, AnyPort::Runs(port)) else {
             return false;
         };
         put(&mut cpus[i], port);
@@ -97,35 +98,21 @@ fn put_all(alloc: Global, mut ports: Vec<Port>, cpus: &mut [Processor]) -> bool
     true
 }
 
-// A new domain, whose processors are put into the handles.
-pub(crate) fn open_all(
+// A new domain of a family whose waiters run, whose processors are put into the handles, all of which are
+// empty.
+fn open_running(
     alloc: Global,
-    family: u32,
+    family: Family,
     kinds: &[u8],
     sockets: &[u32],
     threshold: u32,
     cpus: &mut [Processor],
 ) -> u32
-    ensures opened { result ≡ 0 → AreOpen family kinds.now sockets.now threshold cpus.new }
-    ensures refused { result ≢ 0 → (cpus.new ≡ cpus.old)
-        ⊎ (AreEmpty cpus.old × AreEmpty cpus.new) }
+    requires many { length cpus.old ≡ length sockets.now }
+    requires empty { AreEmpty cpus.old }
+    ensures opened { result ≡ 0 → AreRunning family kinds.now sockets.now threshold cpus.new }
+    ensures refused { result ≢ 0 → AreEmpty cpus.new }
 {
-    if family == PV {
-        return NO_FAMILY;
-    }
-    let Some(family) = family_of(family) else {
-        return RANGE;
-    };
-    if sockets.len() > MOST_CPUS
-        || kinds.len() > MOST_LOCKS
-        || cpus.len() != sockets.len()
-        || !are_kinds(kinds)
-    {
-        return RANGE;
-    }
-    if !are_empty(cpus) {
-        return IN_USE;
-    }
     let Ok(locks) = kinds_of(alloc, kinds) else {
         return MEMORY;
     };
@@ -141,4 +128,36 @@ pub(crate) fn open_all(
     }
     empty_all(alloc, cpus);
     MEMORY
+}
+
+// A new domain, whose processors are put into the handles.
+pub(crate) fn open_all(
+    alloc: Global,
+    family: u32,
+    kinds: &[u8],
+    sockets: &[u32],
+    threshold: u32,
+    cpus: &mut [Processor],
+) -> u32
+    ensures opened { result ≡ 0 → AreOpen family kinds.now sockets.now threshold cpus.new }
+    ensures refused { result ≢ 0 → (cpus.new ≡ cpus.old)
+        ⊎ (AreEmpty cpus.old × AreEmpty cpus.new) }
+{
+    if family > PV {
+        return RANGE;
+    }
+    if sockets.len() > MOST_CPUS
+        || kinds.len() > MOST_LOCKS
+        || cpus.len() != sockets.len()
+        || !are_kinds(kinds)
+    {
+        return RANGE;
+    }
+    if !are_empty(cpus) {
+        return IN_USE;
+    }
+    match family_of(family) {
+        Some(family) => open_running(alloc, family, kinds, sockets, threshold, cpus),
+        None => open_halting(alloc, kinds, threshold, cpus),
+    }
 }

@@ -3,18 +3,18 @@ ghost use Rattle.std.specs.Prelude.{◌≡◌};
 ghost use Rattle.lk_abs.specs.declared.holder.Manner.TheVariants.{Writes};
 ghost use Rattle.lk_rows.specs.declared.parts.Pc.TheVariants.{Z2};
 ghost use Rattle.lk_rows.specs.declared.setup.Verb.TheVariants.{Write, TryWrite};
-ghost use Rattle.lk_port.specs.Ports.{HasTried, HasEntered, HasLeft};
+ghost use Rattle.lk_port.specs.AnyPorts.{Enters, EntersAtOnce, Leaves};
 ghost use Rattle.qlock_c.specs.Crossing.{Crosses};
 
 use crate::codes::{CLOSED, code};
 use crate::processor::Processor;
 use lk_domain::LockId;
-use lk_port::Port;
+use lk_port::AnyPort;
 
 /// Enters a reader-writer lock as its writer, if nobody is in it and no writer waits for it.
 #[unsafe(no_mangle)]
 pub extern "C" fn qlock_try_write(cpu: &mut Processor, lock: u32) -> u32
-    ensures { result ≡ 0 → Crosses (HasTried TryWrite Writes lock) cpu.old cpu.new }
+    ensures { result ≡ 0 → Crosses (EntersAtOnce TryWrite Writes lock) cpu.old cpu.new }
 {
     if !cpu.used {
         return CLOSED;
@@ -26,7 +26,7 @@ pub extern "C" fn qlock_try_write(cpu: &mut Processor, lock: u32) -> u32
 /// Begins to enter a reader-writer lock as its writer.
 #[unsafe(no_mangle)]
 pub extern "C" fn qlock_begin_write(cpu: &mut Processor, lock: u32) -> u32
-    ensures { result ≡ 0 → Crosses (HasEntered Write Writes lock) cpu.old cpu.new }
+    ensures { result ≡ 0 → Crosses (Enters Write Writes lock) cpu.old cpu.new }
 {
     if !cpu.used {
         return CLOSED;
@@ -37,8 +37,8 @@ pub extern "C" fn qlock_begin_write(cpu: &mut Processor, lock: u32) -> u32
 // What is left of it with the port. It is a function of its own so that the port is a parameter: then
 // the path of a lock that is free saves no register.
 #[inline(never)]
-fn begins_to_write(port: &mut Port, lock: u32) -> u32
-    ensures { result ≡ 0 → HasEntered Write Writes lock port.old port.new }
+fn begins_to_write(port: &mut AnyPort, lock: u32) -> u32
+    ensures { result ≡ 0 → Enters Write Writes lock port.old port.new }
 {
     code(port.begin_write(LockId { index: lock }))
 }
@@ -46,7 +46,7 @@ fn begins_to_write(port: &mut Port, lock: u32) -> u32
 /// Leaves a reader-writer lock as its writer.
 #[unsafe(no_mangle)]
 pub extern "C" fn qlock_write_unlock(cpu: &mut Processor, lock: u32) -> u32
-    ensures { result ≡ 0 → Crosses (HasLeft Z2 lock) cpu.old cpu.new }
+    ensures { result ≡ 0 → Crosses (Leaves Z2 lock) cpu.old cpu.new }
 {
     if !cpu.used {
         return CLOSED;

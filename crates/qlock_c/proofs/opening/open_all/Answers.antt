@@ -1,23 +1,12 @@
-use Rattle.std.proofs.Common.{◌≡◌, ℕ, List, length, refl, sym, ap, ◌∙◌, subst}
-use Rattle.lk_abs.specs.ListOf.{ListOf}
-use Rattle.lk_abs.specs.declared.names.Kind.{Kind}
-use Rattle.lk_port.specs.Opened.{ArePortsOf, IsPlanFor, mode_of}
+use Rattle.std.proofs.Common.{sym, ◌∙◌, arith}
+use Rattle.qlock_c.specs.Opened.{halt, run}
+use Rattle.qlock_c.proofs.Opened.{is_pv}
 use Rattle.qlock_c.proofs.opening.open_all.Goals as goal
 
-pub returns-then-put_all-clause-opened : goal.returns-then-put_all-clause-opened
-returns-then-put_all-clause-opened c e =
-    let all = c.in-Ok-open.ensures in
-    let domain = all.domain in
-    let places = ap (λ (l : ListOf ℕ). l.items) c.in-Ok-from_slice.ensures in
-    let m = mode_of c.in-Some.family in
-    let bound = c.args.threshold in
-    let many : length c.in-Ok-from_slice.sockets.items ≡ length c.args.cpus.now = ap length places ∙ sym c.if-cpus-sockets.false in
-    record {
-      family = c.in-Some.family;
-      numbered = sym c.family_of.ensures ∙ c.in-Some.is;
-      domain = domain;
-      plan = subst (λ (ks : List Kind). IsPlanFor m ks c.args.sockets.now bound domain.plan) c.in-Ok.ensures
-          (subst (λ (ps : List ℕ). IsPlanFor m c.in-Ok.locks.items ps bound domain.plan) places all.plan);
-      many = c.put_all.ensures.many ∙ c.if-cpus-sockets.false;
-      each = c.if-put_all.ensures.each refl domain (subst (λ (n : ℕ). ArePortsOf domain n c.in-Ok-open.ports.items) many all.each);
-    }
+pub returns-in-Some-clause-opened : goal.returns-in-Some-clause-opened
+returns-in-Some-clause-opened c e = run c.in-Some.family (sym c.family_of.ensures ∙ c.in-Some.is) (c.open_running.ensures.opened e)
+
+pub returns-in-None-clause-opened : goal.returns-in-None-clause-opened
+returns-in-None-clause-opened c e =
+    halt (is_pv c.args.family (sym c.family_of.ensures ∙ c.in-None.is) (omega (arith, c.if-family-gt-PV.false)))
+    (c.open_halting.ensures.many ∙ c.if-cpus-sockets.false) (c.open_halting.ensures.opened e)

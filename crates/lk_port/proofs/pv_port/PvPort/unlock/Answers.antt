@@ -1,0 +1,12 @@
+use Rattle.lk_abs.specs.declared.names.Kind.TheVariants.{Spin}
+use Rattle.lk_port.specs.declared.answer.Answer.TheVariants.{Again, Done}
+use Rattle.lk_port.proofs.PvPorts as port
+use Rattle.lk_port.proofs.pv_port.PvPort.unlock.Goals as goal
+
+pub returns-in-Some-clause-freed : goal.returns-in-Some-clause-freed
+returns-in-Some-clause-freed c is =
+    absurd (port.refused c.args.self.now Spin c.args.lock.index c.in-Some.answer Done is (c.refuses.ensures.why c.in-Some.answer c.in-Some.is))
+
+pub returns-in-Some-clause-again : goal.returns-in-Some-clause-again
+returns-in-Some-clause-again c is =
+    absurd (port.refused c.args.self.now Spin c.args.lock.index c.in-Some.answer Again is (c.refuses.ensures.why c.in-Some.answer c.in-Some.is))
