@@ -8,11 +8,17 @@
  * A lock is seen from a processor: a spinlock or an rw_lock is a pair of a processor and a number, costs nothing to make, and goes with the
  * processor from thread to thread. What qlock.h asks of a caller, it asks here too. A misuse that C answers by a code is thrown as
  * qlock::error. `unlock` throws as well, and std::unique_lock calls it from a destructor: a lock that is freed twice ends the program.
+ *
+ * In a domain of QLOCK_PV the threads that take a sleeping_spinlock (Linux) sleep while their processors have halted. There each thread
+ * takes one, and none a spinlock, whose `unlock` wakes nobody.
  */
 #ifndef QLOCK_HPP
 #define QLOCK_HPP
 
 #include "qlock.h"
+#ifdef __linux__
+#include "qlock_sleep.h"
+#endif
 
 #include <stdexcept>
 #include <string>
@@ -44,7 +50,7 @@ inline bool has(uint32_t answer) {
     return answer == QLOCK_DONE;
 }
 
-/* One look in 64 lets another thread run. */
+/* One look in 64 lets another thread run, also while the processor has halted. */
 inline void relax(void *data) {
     unsigned &looks = *static_cast<unsigned *>(data);
     if (++looks % 64 == 0) {
@@ -117,7 +123,29 @@ public:
 
 private:
     std::vector<qlock_cpu> cpus_;
+#ifdef __linux__
+    std::vector<qlock_bed> beds_ = std::vector<qlock_bed>(cpus_.size());
+    friend class sleeping_spinlock;
+#endif
 };
+
+#ifdef __linux__
+/* A spinlock, as one processor takes it: its thread sleeps while it has halted, and wakes the one that its release kicks. Lockable. Throws
+ * std::out_of_range. */
+class sleeping_spinlock {
+public:
+    sleeping_spinlock(domain &domain, size_t processor, uint32_t number)
+        : cpu_(&domain[processor]), bed_(&domain.beds_[processor]), beds_(domain.beds_.data()), number_(number) {}
+    void lock() { detail::done(qlock_sleep_lock(cpu_, number_, bed_)); }
+    bool try_lock() { return detail::has(qlock_try_lock(cpu_, number_)); }
+    void unlock() { detail::done(qlock_wake_unlock(cpu_, number_, beds_)); }
+
+private:
+    qlock_cpu *cpu_;
+    qlock_bed *bed_, *beds_;
+    uint32_t number_;
+};
+#endif
 
 }
 

@@ -50,7 +50,8 @@ static void misuses(qlock::domain &domain) {
 }
 
 static void openings() {
-    MUST(thrown([] { qlock::domain none(QLOCK_PV, {QLOCK_SPIN}, {0}); }) == QLOCK_NO_FAMILY);
+    MUST(thrown([] { qlock::domain none(QLOCK_PV, {QLOCK_SPIN, QLOCK_RW}, {0}); }) == QLOCK_RANGE);
+    MUST(thrown([] { qlock::domain none(QLOCK_PV, {QLOCK_SPIN}, {0}, 0); }) == QLOCK_RANGE);
     MUST(thrown([] { qlock::domain none(QLOCK_VIRT, {}, {0}); }) == QLOCK_RANGE);
     MUST(thrown([] { qlock::domain none(QLOCK_VIRT, {QLOCK_SPIN}, {}); }) == QLOCK_RANGE);
 }
@@ -100,6 +101,41 @@ static void family_runs(qlock_family family, size_t threads, long turns) {
     MUST(counts[0] == long(threads) * turns + eighths && counts[1] == eighths && counts[2] == quarters);
 }
 
+/* In a family whose waiters halt, with a spin bound of one turn: threads that sleep until they are kicked. */
+static void halting_turns(qlock::domain &domain, size_t processor, long turns) {
+    qlock::sleeping_spinlock first(domain, processor, FIRST), second(domain, processor, SECOND);
+    for (long turn = 0; turn < turns; turn++) {
+        {
+            std::unique_lock<qlock::sleeping_spinlock> guard(first);
+            counts[0]++;
+        }
+        if (turn % 8 == 0) {
+            std::scoped_lock<qlock::sleeping_spinlock, qlock::sleeping_spinlock> guards(second, first);
+            counts[0]++;
+            counts[1]++;
+        }
+    }
+}
+
+static void halting_runs(size_t threads, long turns) {
+    qlock::domain domain(QLOCK_PV, {QLOCK_SPIN, QLOCK_SPIN}, std::vector<uint32_t>(threads), 1);
+    qlock::rw_lock none(domain[0], FIRST);
+    MUST(thrown([&] { none.lock_shared(); }) == QLOCK_WRONG_KIND);
+    qlock::spinlock plain(domain[0], FIRST);
+    MUST(plain.try_lock() && thrown([&] { plain.lock(); }) == QLOCK_HELD);
+    plain.unlock();
+    counts[0] = counts[1] = 0;
+    std::vector<std::thread> running;
+    for (size_t i = 0; i < threads; i++) {
+        running.emplace_back([&domain, i, turns] { halting_turns(domain, i, turns); });
+    }
+    for (std::thread &thread : running) {
+        thread.join();
+    }
+    long eighths = long(threads) * ((turns + 7) / 8);
+    MUST(counts[0] == long(threads) * turns + eighths && counts[1] == eighths);
+}
+
 int main(int argc, char **argv) {
     long threads = argc > 1 ? std::atol(argv[1]) : 4, turns = argc > 2 ? std::atol(argv[2]) : 20000;
     MUST(3 <= threads && threads <= QLOCK_MOST_CPUS && 0 < turns);
@@ -107,6 +143,7 @@ int main(int argc, char **argv) {
     for (qlock_family family : {QLOCK_VIRT, QLOCK_NATIVE, QLOCK_CNA}) {
         family_runs(family, threads, turns);
     }
-    std::printf("locks: %ld threads, %ld turns each, in three families, by the guards of std\n", threads, turns);
+    halting_runs(threads, turns);
+    std::printf("locks: %ld threads, %ld turns each, in four families, by the guards of std\n", threads, turns);
     return 0;
 }
