@@ -4,7 +4,7 @@ use std::fmt;
 use std::sync::{Arc, Mutex, MutexGuard, PoisonError};
 
 use crate::error::Error;
-use crate::library::{self, CNA, Cpu, DONE, MEMORY, NATIVE, RW, SPIN, VIRT};
+use crate::library::{self, CNA, Cpu, DONE, MEMORY, NATIVE, PV, RW, SPIN, VIRT};
 use crate::processor::{self, Processor};
 use crate::seat::Seat;
 use crate::{MOST_LOCKS, MOST_PROCESSORS};
@@ -14,7 +14,7 @@ use crate::{MOST_LOCKS, MOST_PROCESSORS};
 /// ```
 /// use qlock::{Domain, Family, Mutex};
 ///
-/// for family in [Family::Virt, Family::Native, Family::Cna] {
+/// for family in [Family::Virt, Family::Native, Family::Cna, Family::Pv] {
 ///     let domain = Domain::builder(family).processors(2).mutexes(1).open()?;
 ///     assert_eq!(domain.family(), family);
 /// }
@@ -31,7 +31,16 @@ pub enum Family {
     /// In a queue; the next is the first on the holder's socket, up to the threshold. For threads
     /// that have a processor each, on a machine of several sockets.
     Cna,
+    /// In a queue whose waiters spin for a while, and then sleep until they are kicked; one that has
+    /// just come may take a free lock before them. For more runnable threads than processors. It
+    /// has no reader-writer locks.
+    Pv,
 }
+
+/// For so many turns a waiter spins in [`Family::Pv`] before it sleeps, if it is not said.
+const SPINS: u32 = 1_000;
+/// And so many at most.
+const MOST_SPINS: u32 = 65_535;
 
 impl Family {
     fn code(self) -> u32 {
@@ -39,6 +48,7 @@ impl Family {
             Family::Virt => VIRT,
             Family::Native => NATIVE,
             Family::Cna => CNA,
+            Family::Pv => PV,
         }
     }
 }
@@ -67,6 +77,7 @@ pub struct Builder {
     mutexes: usize,
     rw_locks: usize,
     threshold: u32,
+    spins: Option<u32>,
 }
 
 impl Builder {
@@ -111,12 +122,37 @@ impl Builder {
         self
     }
 
+    /// In [`Family::Pv`] a waiter spins for so many turns, 1 to 65,535, before it sleeps. 1,000, if it
+    /// is not said.
+    ///
+    /// ```
+    /// use qlock::{Domain, Error, Family, Mutex};
+    ///
+    /// let builder = Domain::builder(Family::Pv).processors(4).mutexes(1);
+    /// let domain = builder.clone().spins(1).open()?;
+    /// let count = Mutex::new(&domain, 0)?;
+    /// std::thread::scope(|scope| {
+    ///     for _ in 0..4 {
+    ///         scope.spawn(|| *count.lock() += 1);
+    ///     }
+    /// });
+    /// assert_eq!(count.into_inner(), 4);
+    /// assert_eq!(builder.clone().spins(0).open().err(), Some(Error::Spins { asked: 0 }));
+    /// assert_eq!(builder.rw_locks(1).open().err(), Some(Error::NoRwLocks));
+    /// # Ok::<(), qlock::Error>(())
+    /// ```
+    #[must_use]
+    pub fn spins(mut self, turns: u32) -> Builder {
+        self.spins = Some(turns);
+        self
+    }
+
     /// Makes the domain.
     ///
     /// # Errors
     ///
-    /// [`Error::Processors`] and [`Error::Locks`] where a number is out of range;
-    /// [`Error::Memory`].
+    /// [`Error::Processors`], [`Error::Locks`] and [`Error::Spins`] where a number is out of range;
+    /// [`Error::NoRwLocks`]; [`Error::Memory`].
     pub fn open(&self) -> Result<Domain, Error> {
         if !(1..=MOST_PROCESSORS).contains(&self.processors) {
             return Err(Error::Processors { asked: self.processors });
@@ -125,7 +161,7 @@ impl Builder {
         if !(1..=MOST_LOCKS).contains(&asked) {
             return Err(Error::Locks { asked });
         }
-        let cpus = opened(self.family, &self.kinds(), &self.sockets, self.threshold)?;
+        let cpus = opened(self.family, &self.kinds(), &self.sockets, self.bound()?)?;
         let numbered = cpus.into_iter().zip(&self.sockets).enumerate();
         let seats =
             numbered.map(|(number, (cpu, &socket))| Seat::new(cpu, number, socket, asked)).collect();
@@ -137,6 +173,18 @@ impl Builder {
         };
         let shared = Shared { family: self.family, mutexes, locks, seats, pool: Mutex::new(pool) };
         Ok(Domain { shared: Arc::new(shared) })
+    }
+
+    /// The threshold of the family: what bounds handoffs, or how long a waiter spins.
+    fn bound(&self) -> Result<u32, Error> {
+        if self.family != Family::Pv {
+            return Ok(self.threshold);
+        }
+        if self.rw_locks != 0 {
+            return Err(Error::NoRwLocks);
+        }
+        let asked = self.spins.unwrap_or(SPINS);
+        if (1..=MOST_SPINS).contains(&asked) { Ok(asked) } else { Err(Error::Spins { asked }) }
     }
 
     /// Those of mutexes first.

@@ -8,8 +8,8 @@ use std::fmt;
 /// ```
 /// use qlock::{Domain, Error, Family};
 ///
-/// let refused = Domain::builder(Family::Native).processors(65).mutexes(1).open();
-/// assert_eq!(refused.err(), Some(Error::Processors { asked: 65 }));
+/// let refused = Domain::builder(Family::Native).processors(1_025).mutexes(1).open();
+/// assert_eq!(refused.err(), Some(Error::Processors { asked: 1_025 }));
 /// ```
 #[derive(Clone, Copy, Debug, PartialEq, Eq)]
 #[non_exhaustive]
@@ -24,6 +24,13 @@ pub enum Error {
         /// The number of locks that was asked for, of both kinds together.
         asked: usize,
     },
+    /// A waiter of [`Family::Pv`](crate::Family::Pv) spins for 1 to 65,535 turns.
+    Spins {
+        /// The number of turns that was asked for.
+        asked: u32,
+    },
+    /// [`Family::Pv`](crate::Family::Pv) has no reader-writer locks.
+    NoRwLocks,
     /// There is not enough memory for a domain.
     Memory,
     /// All locks of this kind are in use.
@@ -56,6 +63,10 @@ impl fmt::Display for Error {
             Error::Locks { asked } => {
                 write!(f, "{asked} locks: a domain has 1 to {}", crate::MOST_LOCKS)
             }
+            Error::Spins { asked } => {
+                write!(f, "{asked} turns: a waiter of this family spins for 1 to 65535")
+            }
+            Error::NoRwLocks => f.write_str("this family has no reader-writer locks"),
             Error::Memory => f.write_str("not enough memory for a domain"),
             Error::OutOfLocks { locks } => {
                 write!(f, "the domain has {locks} locks of this kind, and all are in use")

@@ -83,7 +83,7 @@ impl Place {
 
     /// Frees the lock, which the thread has.
     pub(crate) fn free(&self, manner: &Manner, seated: Seated<'_>) {
-        if seated.free(manner, self.number) {
+        if seated.free(manner, self.number, &self.domain.seats) {
             self.domain.give_seat(seated.number());
         }
     }

@@ -4,9 +4,10 @@ use std::cell::UnsafeCell;
 use std::hint;
 use std::marker::PhantomData;
 use std::sync::atomic::{AtomicU64, Ordering};
+use std::sync::{Condvar, Mutex, PoisonError};
 use std::thread;
 
-use crate::library::{self, BUSY, Call, Cpu, DONE, HELD, Manner, WAITS};
+use crate::library::{self, AGAIN, BUSY, Call, Cpu, DONE, HALTS, HELD, Manner, NOBODY, WAITS};
 
 /// Set while a thread is registered with the processor. Below it is how many locks the thread has.
 const REGISTERED: u64 = 1 << 63;
@@ -23,6 +24,8 @@ pub(crate) struct Seat {
     state: AtomicU64,
     /// A bit for each lock of the domain: whether the thread has it. That thread alone writes them.
     locks: Box<[AtomicU64]>,
+    /// Where its thread sleeps that has halted. Who wakes it has kicked it before.
+    bed: (Mutex<()>, Condvar),
     number: usize,
     pub(crate) socket: u32,
 }
@@ -46,7 +49,16 @@ impl Seat {
     /// Of a domain with so many locks.
     pub(crate) fn new(cpu: Cpu, number: usize, socket: u32, locks: usize) -> Seat {
         let locks = (0..locks.div_ceil(64)).map(|_| AtomicU64::new(0)).collect();
-        Seat { cpu: UnsafeCell::new(cpu), state: AtomicU64::new(0), locks, number, socket }
+        let bed = (Mutex::new(()), Condvar::new());
+        Seat { cpu: UnsafeCell::new(cpu), state: AtomicU64::new(0), locks, bed, number, socket }
+    }
+
+    /// Wakes its thread, which was kicked. It looks for the kick while it has the mutex, so the
+    /// wake comes before that look or finds it asleep.
+    pub(crate) fn wake(&self) {
+        let (mutex, sleeps) = &self.bed;
+        drop(mutex.lock().unwrap_or_else(PoisonError::into_inner));
+        sleeps.notify_one();
     }
 
     /// Whether its thread has a lock. It may change at once, if that is another thread.
@@ -88,11 +100,14 @@ impl<'a> Seated<'a> {
     }
 
     /// Acquires a lock. It looks with a hint to the machine first, and then yields at each look.
+    /// Where its processor has halted it sleeps until that is kicked.
     pub(crate) fn acquire(self, manner: &Manner, lock: u32) -> Result<(), Refused> {
         let mut answer = self.call(manner.begins, lock);
         let mut looks = 0;
-        while answer == WAITS {
-            if looks < HINTS {
+        while answer == WAITS || answer == HALTS {
+            if answer == HALTS {
+                self.sleep();
+            } else if looks < HINTS {
                 looks += 1;
                 hint::spin_loop();
             } else {
@@ -103,15 +118,33 @@ impl<'a> Seated<'a> {
         self.takes(answer, lock)
     }
 
+    /// Sleeps until a kick is remembered, or for no reason.
+    fn sleep(self) {
+        let (mutex, sleeps) = &self.seat.bed;
+        let guard = mutex.lock().unwrap_or_else(PoisonError::into_inner);
+        if !self.is_kicked() {
+            drop(sleeps.wait(guard));
+        }
+    }
+
     /// Takes a lock, if nobody is in the way. It never waits.
     pub(crate) fn attempt(self, manner: &Manner, lock: u32) -> Result<(), Refused> {
         self.takes(self.call(manner.tries, lock), lock)
     }
 
-    /// Frees a lock. True: the thread has the seat no longer.
-    pub(crate) fn free(self, manner: &Manner, lock: u32) -> bool {
-        let answer = self.call(manner.frees, lock);
+    /// Frees a lock, and wakes the thread of the seat that this kicks. True: the thread has its own
+    /// seat no longer.
+    pub(crate) fn free(self, manner: &Manner, lock: u32, seats: &[Seat]) -> bool {
+        let mut kicked = NOBODY;
+        let mut answer = AGAIN;
+        while answer == AGAIN {
+            // SAFETY: as in `call`; and the number has its place.
+            answer = unsafe { (manner.frees)(self.seat.cpu.get(), lock, &raw mut kicked) };
+        }
         assert!(answer == DONE, "qlock: lock {lock} was not freed, by code {answer}");
+        if kicked != NOBODY {
+            seats[kicked as usize].wake();
+        }
         let word = self.seat.word(lock);
         word.store(word.load(Ordering::Relaxed) & !bit(lock), Ordering::Relaxed);
         self.sets(self.state() - 1)
@@ -159,6 +192,13 @@ impl<'a> Seated<'a> {
         // until this one returns: none of the crate's code runs in between, unless a signal handler
         // locks (3).
         unsafe { call(self.seat.cpu.get(), lock) }
+    }
+
+    /// Whether a kick of the processor is remembered.
+    fn is_kicked(self) -> bool {
+        let mut yes = 0;
+        // SAFETY: as in `call`; and the answer has its place.
+        unsafe { library::qlock_is_kicked(self.seat.cpu.get(), &raw mut yes) == DONE && yes != 0 }
     }
 
     fn poll(self) -> u32 {

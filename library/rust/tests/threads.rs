@@ -97,6 +97,26 @@ fn run(family: Family, threads: u64, turns: u64) {
     assert_eq!(both.0, counts.written.into_inner());
 }
 
+/// In a family whose waiters halt: threads that sleep until they are kicked.
+fn halting_run(threads: u64, turns: u64, spins: u32) {
+    let builder = Domain::builder(Family::Pv).processors(threads as usize).mutexes(1).spins(spins);
+    let value = Mutex::new(&builder.open().unwrap(), Twins::default()).unwrap();
+    thread::scope(|scope| {
+        for _ in 0..threads {
+            scope.spawn(|| (0..turns).for_each(|turn| value.lock().grow(turn)));
+        }
+    });
+    let value = value.into_inner();
+    assert_eq!((value.0, value.1), (threads * turns, value.0));
+}
+
+#[test]
+fn threads_that_halt_are_woken() {
+    halting_run(4, 1000, 1);
+    halting_run(4, 1000, 100);
+    halting_run(16, 100, 1);
+}
+
 #[test]
 fn four_threads_lose_no_turn() {
     for family in FAMILIES {
