@@ -11,7 +11,7 @@ sys.path.insert(0, str(HERE.parent))
 
 import building
 
-FAMILIES = ("virt", "native", "cna")
+FAMILIES = ("virt", "native", "cna", "pv")
 
 
 def test_of(folder):

@@ -9,7 +9,8 @@
 struct setup setup;
 
 static const char *const families[] = {
-    [QLOCK_VIRT] = "virt", [QLOCK_NATIVE] = "native", [QLOCK_CNA] = "cna"};
+    [QLOCK_VIRT] = "virt", [QLOCK_NATIVE] = "native", [QLOCK_CNA] = "cna",
+    [QLOCK_PV] = "pv"};
 
 /* A family that is not there is no reason to end somebody else's program. */
 static uint32_t family_of(const char *name)
@@ -19,7 +20,7 @@ static uint32_t family_of(const char *name)
     for (uint32_t i = 0; i < sizeof families / sizeof *families; i++)
         if (strcmp(name, families[i]) == 0)
             return i;
-    tell("qlock: QLOCK_FAMILY is \"%.40s\", and there are native, virt and cna: native it is\n",
+    tell("qlock: QLOCK_FAMILY is \"%.40s\", and there are native, virt, cna and pv: native it is\n",
          name);
     return QLOCK_NATIVE;
 }

@@ -14,7 +14,7 @@
 #include "stand_in.h"
 #include "counts.h"
 #include "heap.h"
-#include "qlock.h"
+#include "qlock_sleep.h"
 #include "setup.h"
 #include <errno.h>
 #include <sched.h>
@@ -25,6 +25,7 @@
 #include <time.h>
 #include <unistd.h>
 
+/* The threshold is that of `cna`, and in `pv` for how many turns a waiter spins. */
 enum { NOBODY = -1, BUCKETS = 4096, THRESHOLD = 64 };
 
 /* Looks with a pause, and looks with a yield, before those with a sleep of so many nanoseconds; and how long
@@ -33,6 +34,7 @@ enum { PAUSES = 32, YIELDS = 1024, SLEEP = 50000, LONG = 200000 };
 
 struct seat {
     _Alignas(HEAP_LINE) qlock_cpu cpu;
+    qlock_bed bed; /* where its thread sleeps that has halted */
 };
 
 struct stand_in {
@@ -296,15 +298,28 @@ static int sits_at_last(struct stand_in *s)
     return seat;
 }
 
+/* A rest; in `pv` a sleep until the processor is kicked, where it has halted. */
+static void rests(struct seat *seat, uint32_t answer, unsigned *times)
+{
+    int had = errno;
+    if (answer == QLOCK_HALTS)
+        qlock_sleep(&seat->cpu, &seat->bed);
+    else
+        rest(times);
+    errno = had;
+}
+
 void take(struct stand_in *s)
 {
     unsigned times = 0;
     int seat = sits_at_last(s);
     qlock_cpu *cpu = &s->seats[seat].cpu;
     uint32_t answer = qlock_begin(cpu, 0);
-    if (answer == QLOCK_WAITS)
+    if (answer == QLOCK_WAITS || answer == QLOCK_HALTS)
         count(WAITED);
-    must_be_done("qlock_begin or qlock_poll", qlock_wait(cpu, answer, rest, &times));
+    for (; answer == QLOCK_WAITS || answer == QLOCK_HALTS; answer = qlock_poll(cpu))
+        rests(&s->seats[seat], answer, &times);
+    must_be_done("qlock_begin or qlock_poll", answer);
     comes_to_hold(s, seat);
 }
 
@@ -326,16 +341,20 @@ bool try_take(struct stand_in *s)
     return false;
 }
 
-/* `holder` is read and written under the lock. Behind qlock_unlock the mutex itself is not touched: who
- * takes it next may destroy it, and free its memory, while this thread still leaves its seat. */
+/* `holder` is read and written under the lock. Behind the release the mutex itself is not touched: who
+ * takes it next may destroy it, and free its memory, while this thread still leaves its seat. The memory of
+ * seats stays, so whoever sleeps there can be woken. */
 bool give(struct stand_in *s)
 {
     int seat = atomic_load_explicit(&s->holder, memory_order_relaxed);
     if (seat == NOBODY)
         return false;
     atomic_store_explicit(&s->holder, NOBODY, memory_order_relaxed);
-    must_be_done("qlock_unlock", qlock_unlock(&s->seats[seat].cpu, 0));
+    uint32_t kicked = QLOCK_NOBODY;
+    must_be_done("qlock_unlock_kick", qlock_unlock_kick(&s->seats[seat].cpu, 0, &kicked));
     leaves(s, seat);
+    if (kicked != QLOCK_NOBODY)
+        qlock_wake(&s->seats[kicked].bed);
     return true;
 }
 
