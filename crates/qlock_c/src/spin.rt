@@ -31,8 +31,7 @@ pub extern "C" fn qlock_begin(cpu: &mut Processor, lock: u32) -> u32
     begins(cpu.handle.port_mut(), lock)
 }
 
-// What is left of it with the port. It is a function of its own so that the port is a parameter: then
-// the path of a lock that is free saves no register.
+// What is left of it with the port, which is a parameter here.
 #[inline(never)]
 fn begins(port: &mut AnyPort, lock: u32) -> u32
     ensures { result ≡ 0 → Locks lock port.old port.new }
