@@ -26,6 +26,9 @@ pub(crate) struct Notes {
     pub(crate) slow: [bool; 6],
     // of each lock of the domain, whether it holds it
     pub(crate) held: List<bool>,
+    // A line of the cache that nothing uses. Processors may lie side by side in a list, and what one of
+    // them stores in the fields before this is in no line that another reads.
+    line: [u64; 8],
 }
 
 // How the call for a lock stands after a row: whether it waits, whether it does so in the slow
@@ -68,6 +71,7 @@ impl Notes {
             order: [0; 6],
             slow: [false; 6],
             held: unheld(alloc, locks)?,
+            line: [0; 8],
         })
     }
 
@@ -191,8 +195,9 @@ impl Notes {
         self.order[others as usize] = lock;
         self.slow[others as usize] = slow;
         self.depth = others + u32::from(waits);
-        let held = self.held.get_mut(lock as usize);
-        *held = *held | taken;
+        if taken {
+            *self.held.get_mut(lock as usize) = true;
+        }
     }
 
     // The processor has freed a lock.

@@ -1,11 +1,12 @@
 -- What a processor notes of its calls, after a step of one of them.
-use Rattle.std.proofs.Common.{◌≡◌, ◌≢◌, inl, inr, ℕ, zero, suc, ◌+◌, ◌-◌, ◌<◌, ◌≤◌, List, [], ◌∷◌, length, get_or, set}
-use Rattle.std.proofs.Common.{slice_get, Some, Bool, true, false, eqb, eq-eqb, ne_eqb, refl, sym, ap, ◌∙◌, subst, arith, ◌||◌, length-set}
+use Rattle.std.proofs.Common.{◌≡◌, ◌≢◌, inl, inr, ℕ, ◌+◌, ◌-◌, ◌<◌, ◌≤◌, List, [], ◌∷◌, length, get_or, set}
+use Rattle.std.proofs.Common.{Bool, true, false, eqb, eq-eqb, ne_eqb, refl, sym, ap, ◌∙◌, subst, arith, ◌||◌, length-set}
 use Rattle.std.proofs.Common.{get_or-set_other, get_or-set_same}
 use Rattle.std.proofs.lemmas.Bool.{cases_eq}
 use Rattle.std.specs.Prelude.{not, if◌then◌else◌, ◌&&◌}
 use mir.Syntax.{w32}
 use mir.Val.{Fits, bool_byte}
+use Rattle.lk_abs.specs.ListOf.{ListOf}
 use Rattle.lk_law.specs.Families.{is_slow}
 use Rattle.lk_domain.specs.Calls.{Running, Calls, slows, waits_in, slow_in, holds_in}
 use Rattle.lk_domain.specs.Marked.{Marks, lock_in, path_in, AreOrdered, IsNoted, Behind, nobody, one, Steps, upto}
@@ -21,6 +22,10 @@ byte false = refl
 or_false : (b : Bool) → (b || false) ≡ b
 or_false true = refl
 or_false false = refl
+
+or_true : (b : Bool) → (b || true) ≡ true
+or_true true = refl
+or_true false = refl
 
 -- the newest of these calls, and those below it
 
@@ -136,12 +141,6 @@ slow_none ls ss many rs l n e z h =
     ∙ (sym (ap (λ (b : Bool). not b && get_or ss (n - 1) false) (eq-eqb n 0 z))
     ∙ (ap (λ (m : ℕ). not (eqb m 0) && get_or ss (m - 1) false) e ∙ upto_slow ls ss many rs l h))
 
--- the mark that is read at a place
-pub read_is : (xs : List Bool) (n : ℕ) (x : Bool) → slice_get xs n ≡ Some x → x ≡ get_or xs n false
-read_is [] n x e = cc e
-read_is (y ∷ ys) zero x e = let z : y ≡ x = cc e in sym z
-read_is (y ∷ ys) (suc n) x e = read_is ys n x e
-
 -- the calls below a place that is written
 ordered_below : (ls : List ℕ) (ss : List Bool) (many d l : ℕ) (b : Bool) (rs : List Running) → length rs ≤ d
     → AreOrdered ls ss many rs → AreOrdered (set ls d l) (set ss d b) many rs
@@ -232,16 +231,32 @@ module _ (n : Notes) (many : ℕ) (c d : Calls) (l : ℕ) (waits slow taken : Bo
         slows_low [] = omega arith
         slows_low (r ∷ rs) = let x = bit_low (is_slow r.frame.place) in let y = slows_low rs in omega arith
 
-    pub noted : (o w x y z : ℕ) (a b h : Bool) → h ≡ get_or n.held.items l false → a ≡ waits_in c.frames l
+    -- the marks after it, where it took the lock and where not
+
+    pub marked_taken : taken ≡ true → Marks (set n.held.items l true) many (holds_in d.holds)
+    marked_taken t =
+        mark_set n.held.items many (holds_in c.holds) (holds_in d.holds) l true lt was.marked
+        (s.held ∙ (ap (λ b. holds_in c.holds l || b) t ∙ or_true (holds_in c.holds l))) s.holds
+
+    pub marked_kept : taken ≡ false → Marks n.held.items many (holds_in d.holds)
+    marked_kept t =
+        mark_same n.held.items many (holds_in c.holds) (holds_in d.holds) was.marked
+        (λ x. elim (cases_eq x l) [
+          | inl e ↦ ap (holds_in d.holds) e
+              ∙ (s.held ∙ (ap (λ b. holds_in c.holds l || b) t ∙ (or_false (holds_in c.holds l) ∙ ap (holds_in c.holds) (sym e))))
+          | inr ne ↦ s.holds x ne
+        ])
+
+    pub noted : (o w x y z : ℕ) (a b : Bool) (hs : ListOf Bool) → Marks hs.items many (holds_in d.holds) → a ≡ waits_in c.frames l
         → b ≡ slow_in c.frames l → w ≡ bool_byte a → o ≡ n.depth - w → x ≡ bool_byte waits → y ≡ bool_byte b → z ≡ bool_byte slow
-        → IsNoted (record {
+        → IsNoted (record n {
           depth = o + x;
           queued = n.queued - y + z;
           order = set n.order o l;
           slow = set n.slow o slow;
-          held = record n.held { items = set n.held.items l (h || taken) };
+          held = hs;
         }) many d
-    noted o w x y z a b h had told slowly at is now then_slow now_slow =
+    noted o w x y z a b hs marks told slowly at is now then_slow now_slow =
         let others = others_are o w a told at is in
         let low = s.low in
         let bit : x ≡ (if waits then 1 else 0) = now ∙ byte waits in
@@ -266,8 +281,7 @@ module _ (n : Notes) (many : ℕ) (c d : Calls) (l : ℕ) (waits slow taken : Bo
               (ordered_below n.order n.slow many o l slow s.others (omega arith)
               (others_ordered n.order n.slow many l s.others c.frames s.waited s.slowly s.before was.ordered));
           most = was.most;
-          marked = mark_set n.held.items many (holds_in c.holds) (holds_in d.holds) l (h || taken) lt was.marked
-              (s.held ∙ ap (λ b. b || taken) (sym (was.marked.each l) ∙ sym had)) s.holds;
+          marked = marks;
         }
       where
         at_most : (b : Bool) → (if b then 1 else 0) ≤ 1
@@ -361,10 +375,6 @@ freed_noted n many c d l was lt frames none away =
 same_frames : (l : ℕ) (rest xs : List Running) (b s : Bool) → Behind l rest xs b s → b ≡ false → xs ≡ rest
 same_frames l rest xs b s nobody e = refl
 same_frames l rest xs b s (one r at) e = cc e
-
-or_true : (b : Bool) → (b || true) ≡ true
-or_true true = refl
-or_true false = refl
 
 pub left : (a b : Bool) → (a || b) ≡ false → a ≡ false
 left true b e = e

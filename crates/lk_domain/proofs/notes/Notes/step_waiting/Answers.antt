@@ -34,11 +34,20 @@ bounds-self-others-2 c =
     (a.self.now.depth - c.from.result) c.from.result c.waits-waited.result (c.waits-waited.ensures t.0 t.1 t.3) c.from.ensures refl in
     omega (arith, few, is)
 
-pub returns : goal.returns
-returns c many x y was lt s =
+pub returns-then-taken : goal.returns-then-taken
+returns-then-taken c many x y was lt s =
     let a = c.args in
     noted.noted a.self.now many x y a.lock a.after.waits a.after.slow a.after.taken was s lt
     (a.self.now.depth - c.from.result) c.from.result c.from-4.result c.from-2.result c.from-3.result
-    c.waits-waited.result c.is_slow-slowly.result c.get_mut-held.result.now
-    (noted.read_is a.self.now.held.items a.lock c.get_mut-held.result.now c.get_mut-held.ensures.value)
+    c.waits-waited.result c.is_slow-slowly.result _
+    (noted.marked_taken a.self.now many x y a.lock a.after.waits a.after.slow a.after.taken was s lt c.if-taken.true)
+    (c.waits-waited.ensures many x was) (c.is_slow-slowly.ensures many x was) c.from.ensures refl c.from-4.ensures c.from-2.ensures c.from-3.ensures
+
+pub returns-else-taken : goal.returns-else-taken
+returns-else-taken c many x y was lt s =
+    let a = c.args in
+    noted.noted a.self.now many x y a.lock a.after.waits a.after.slow a.after.taken was s lt
+    (a.self.now.depth - c.from.result) c.from.result c.from-4.result c.from-2.result c.from-3.result
+    c.waits-waited.result c.is_slow-slowly.result _
+    (noted.marked_kept a.self.now many x y a.lock a.after.waits a.after.slow a.after.taken was s lt c.if-taken.false)
     (c.waits-waited.ensures many x was) (c.is_slow-slowly.ensures many x was) c.from.ensures refl c.from-4.ensures c.from-2.ensures c.from-3.ensures
