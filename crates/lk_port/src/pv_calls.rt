@@ -76,9 +76,13 @@ impl PvPort {
         has
     }
 
+    // The calls of this family that may wait stay out of the functions of `AnyPort`: there they would make
+    // those of the other families save their registers.
+
     /// Begins to acquire a lock. `Done` says that the processor holds it, `Waits` that the caller is to
     /// poll until it does, and `Halts` that its next turn comes once the processor is kicked. It never
     /// waits.
+    #[inline(never)]
     pub fn begin(&mut self, lock: LockId) -> Answer
         ensures domain { self.new.domain ≡ self.old.domain }
         ensures taken { result ≡ Done → PvTakes Lock lock.index self.old self.new }
@@ -165,6 +169,7 @@ impl PvPort {
     /// Frees a lock that the processor holds, and says which processor it has kicked. `Again` says that
     /// others came to the lock at each of its tries, so that the processor holds it as before. By the
     /// rows there are always enough tries, but no proof counts them. It never waits.
+    #[inline(never)]
     pub fn unlock(&mut self, lock: LockId) -> Freed
         ensures domain { self.new.domain ≡ self.old.domain }
         ensures freed { result.answer ≡ Done → PvFrees lock.index self.old self.new }
