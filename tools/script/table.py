@@ -154,7 +154,8 @@ COMMANDS = (
         "explore",
         "Explores every schedule of a small trace, behind its own: which rows and events they reach and which none does, whether all can "
         "always finish, and a shortest trace to a row, an event or a state that is stuck. With --fold, states that differ only in the numbers of "
-        "processors that are alike are one. docs/EXPLORE.md has examples.",
+        "processors that are alike are one. With --threads N acts are tried on N threads, and what is written is the same. docs/EXPLORE.md has "
+        "examples.",
         "explore --rest --row P2 examples/transient_pending.qtrace",
         tool="exploring/explore", needs=(EXPLORE,), checks=True, reads="a trace", takes="OPTIONS",
         flags=("--finished", "--stuck", "--doomed", "--rest", "--fold", "--nudges", "--preempt", "--quiet"),

@@ -2,7 +2,7 @@
 
 use crate::kinds::{count_named, kind_named};
 use crate::rows::row_named;
-use lk_reach::Extras;
+use lk_reach::{Extras, MAX_HELPERS};
 use lk_rows::Pc;
 use lk_text::read_number;
 use std::alloc::Global;
@@ -34,6 +34,8 @@ pub(crate) struct Asked {
     pub states: usize,
     /// The most memory, in million bytes.
     pub memory: usize,
+    /// On how many threads acts are tried.
+    pub threads: usize,
     /// What is tried beside steps and interrupts.
     pub extras: Extras,
     /// Whether one state is kept of those that differ only in the numbers of processors that are
@@ -60,6 +62,7 @@ impl Asked {
         Asked {
             states: 20_000_000,
             memory: 4_000,
+            threads: 1,
             extras: Extras {
                 nudges: false,
                 preempts: false,
@@ -98,12 +101,14 @@ impl Asked {
         Some(())
     }
 
-    // Takes an option that says how much is explored. Returns `None` if it is none.
+    // Takes an option that says how much is explored, or on how many threads. Returns `None` if it is
+    // none.
     fn take_limit(&mut self, word: &str, value: &str) -> Option<()> {
         let number = number_of(value)?;
         match word {
             "--states" => self.states = number,
             "--memory" => self.memory = number,
+            "--threads" => self.threads = number,
             _ => return None,
         }
         Some(())
@@ -124,6 +129,15 @@ impl Asked {
 }
 
 impl Asked {
+    /// How many helpers there are: one on each thread, if there is more than one.
+    pub(crate) fn helpers(&self) -> usize {
+        if self.threads > 1 {
+            self.threads.min(MAX_HELPERS)
+        } else {
+            0
+        }
+    }
+
     /// Whether what is sought is more than any row or any event: a count, or that of one processor
     /// or on one lock.
     pub(crate) fn is_particular(&self) -> bool {

@@ -6,8 +6,11 @@
 
 ghost use Rattle.std.specs.Prelude.{◌≡◌, ◌<◌, ◌≤◌, ℕ, List, IfOk, length};
 ghost use Rattle.lk_abs.specs.declared.events.Act.{Act as ActValue};
+ghost use Rattle.lk_rows.specs.Programs.{IsLawfulSetup};
+ghost use Rattle.lk_reach.specs.Copies.{tight_setup};
 ghost use Rattle.lk_reach.specs.Reach.{AreMoves, state_after};
 ghost use Rattle.lk_reach.specs.Explored.{IsGood, IsStart, KnowsLike};
+ghost use Rattle.lk_reach.specs.Helped.{AreFresh};
 ghost use Rattle.lk_reach.specs.Told.{IsGraph, IsWhole};
 
 mod asked;
@@ -23,13 +26,15 @@ use asked::{Asked, Goal, asked_by};
 use goal::add_goal;
 use lines::Lines;
 use lk_abs::Memory;
-use lk_reach::{Graph, MAX_CPUS, explore};
+use lk_reach::{Graph, Helpers, MAX_CPUS, explore};
+use lk_rows::Setup;
 use lk_stream::{ReplayFault, exit};
 use lk_text::{StdSink, StdSource};
 use overview::{Locks, add_overview};
 use reading::{Start, start_in};
 use std::alloc::Global;
 use std::process::ExitCode;
+use std::thread::Threads;
 use watcher::Watcher;
 
 /// What there is to say at the end.
@@ -63,7 +68,14 @@ fn refuse(rt: &HostRuntime, fault: ReplayFault) -> ExitCode {
 }
 
 // Explores every schedule from a start on.
-fn explored(alloc: Global, rt: &HostRuntime, asked: &Asked, start: Start) -> Result<Graph, Memory>
+fn explored<R: Threads + Sync>(
+    alloc: Global,
+    rt: &HostRuntime,
+    asked: &Asked,
+    start: Start,
+    helpers: Helpers<'_, R>,
+) -> Result<Graph, Memory>
+    requires helpers { AreFresh start.machine.setup helpers.list.items }
     requires few { length start.machine.cpus ≤ 8 }
     requires start { IsStart start.plan start.machine }
     requires extras { start.plan.extras ≡ asked.now.extras }
@@ -80,7 +92,7 @@ fn explored(alloc: Global, rt: &HostRuntime, asked: &Asked, start: Start) -> Res
     ensures graph { IfOk result (λ graph. IsGraph graph) }
 {
     let mut watcher = Watcher::new(rt, asked);
-    explore(alloc, start.machine, start.plan, &mut watcher)
+    explore(alloc, start.machine, start.plan, &mut watcher, helpers)
 }
 
 // Appends what was asked for.
@@ -100,7 +112,14 @@ fn add_answer(
 }
 
 // Explores every schedule from a start on, and writes what was asked for.
-fn tell(alloc: Global, rt: &HostRuntime, asked: &Asked, start: Start) -> Result<Answer, ReplayFault>
+fn tell<R: Threads + Sync>(
+    alloc: Global,
+    rt: &HostRuntime,
+    asked: &Asked,
+    start: Start,
+    helpers: Helpers<'_, R>,
+) -> Result<Answer, ReplayFault>
+    requires helpers { AreFresh start.machine.setup helpers.list.items }
     requires few { length start.machine.cpus ≤ 8 }
     requires start { IsStart start.plan start.machine }
     requires extras { start.plan.extras ≡ asked.now.extras }
@@ -110,11 +129,30 @@ fn tell(alloc: Global, rt: &HostRuntime, asked: &Asked, start: Start) -> Result<
         has_spin: start.has_spin,
         has_rw: start.has_rw,
     };
-    let mut graph = explored(alloc, rt, asked, start)?;
+    let mut graph = explored(alloc, rt, asked, start, helpers)?;
     let mut lines = Lines::new(alloc)?;
     let answer = add_answer(alloc, &mut lines, asked, &locks, &mut graph)?;
     lines.put(&mut StdSink::new(rt.stdout()))?;
     Ok(answer)
+}
+
+// The same, with helpers for the setup of the start, which take their threads from a host.
+fn answered<R: Threads + Sync>(
+    host: &R,
+    rt: &HostRuntime,
+    asked: &Asked,
+    start: Start,
+    setup: &Setup,
+) -> Result<Answer, ReplayFault>
+    requires few { length start.machine.cpus ≤ 8 }
+    requires start { IsStart start.plan start.machine }
+    requires extras { start.plan.extras ≡ asked.now.extras }
+    requires setup { start.machine.setup ≡ tight_setup setup.now }
+    requires lawful { IsLawfulSetup setup.now }
+{
+    let alloc = rt.alloc();
+    let helpers = Helpers::new(host, alloc, setup, asked.helpers())?;
+    tell(alloc, rt, asked, start, helpers)
 }
 
 // Says how it ended. Returns the exit status.
@@ -146,8 +184,8 @@ fn main(rt: HostRuntime) -> ExitCode {
         return ExitCode::from(exit::USAGE);
     };
     let mut source = StdSource::new(rt.stdin());
-    let start = match start_in(alloc, &mut source, asked.extras, asked.fold) {
-        Ok(start) => start,
+    let (start, setup) = match start_in(alloc, &mut source, asked.extras, asked.fold) {
+        Ok(read) => read,
         Err(fault) => return refuse(&rt, fault),
     };
     let cpus = start.machine.cpus();
@@ -157,7 +195,7 @@ fn main(rt: HostRuntime) -> ExitCode {
     if asked.fold && !start.plan.is_folding() {
         return refuse_fold(&rt);
     }
-    match tell(alloc, &rt, &asked, start) {
+    match answered(&rt, &rt, &asked, start, &setup) {
         Ok(answer) => end(answer),
         Err(fault) => refuse(&rt, fault),
     }

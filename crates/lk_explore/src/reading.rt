@@ -5,13 +5,14 @@ ghost use Rattle.lk_text.specs.Reader.{looked_at};
 ghost use Rattle.lk_rows.specs.Acts.{processor_of};
 ghost use Rattle.lk_rows.specs.Programs.{IsLawfulSetup};
 ghost use Rattle.lk_forms.specs.Schedule.{IsWithin};
+ghost use Rattle.lk_reach.specs.Copies.{tight_setup};
 ghost use Rattle.lk_reach.specs.Explored.{IsStart};
 ghost use Rattle.lk_reach.specs.Reach.{cpus_of};
 
 use lk_abs::{Act, Kind, List, Memory};
 use lk_forms::{Fault, HeaderReader, LineRefusal, Sched, schedule_line};
 use lk_machine::Machine;
-use lk_reach::{Extras, Peers, Plan};
+use lk_reach::{Extras, Peers, Plan, copy_of};
 use lk_replay::read_header;
 use lk_rows::Setup;
 use lk_stream::{ReplayFault, cut, refused};
@@ -63,16 +64,18 @@ fn next_said<S: Source>(
 }
 
 impl Start {
-    // The machine of a setup, at rest. States are folded, if that is asked for.
-    fn resting(alloc: Global, setup: Setup, extras: Extras, fold: bool) -> Result<Start, Memory>
-        requires { IsLawfulSetup setup }
+    // A machine of a copy of a setup, at rest. States are folded, if that is asked for.
+    fn resting(alloc: Global, setup: &Setup, extras: Extras, fold: bool) -> Result<Start, Memory>
+        requires { IsLawfulSetup setup.now }
         ensures start { IfOk result (λ start. IsStart start.plan start.machine) }
         ensures extras { IfOk result (λ start. start.plan.extras ≡ extras) }
+        ensures setup { IfOk result (λ start. start.machine.setup ≡ tight_setup setup.now) }
     {
         let has_spin = has_kind(&setup.locks, Kind::Spin);
         let has_rw = has_kind(&setup.locks, Kind::Rw);
-        let peers = Peers::new(&setup);
-        let machine = Machine::new(alloc, setup)?;
+        let copy = copy_of(alloc, setup)?;
+        let peers = Peers::new(&copy);
+        let machine = Machine::new(alloc, copy)?;
         let mut plan = Plan::new(alloc, &machine, extras)?;
         if fold {
             plan.fold(&machine, peers);
@@ -93,6 +96,7 @@ impl Start {
         requires range { processor_of act < cpus_of self.old.machine.setup }
         ensures start { OnOk result (IsStart self.new.plan self.new.machine) }
         ensures extras { OnOk result (self.new.plan.extras ≡ self.old.plan.extras) }
+        ensures setup { OnOk result (self.new.machine.setup ≡ self.old.machine.setup) }
     {
         for _made in 0..times {
             self.plan.begin(&mut self.machine, act)?;
@@ -107,6 +111,7 @@ impl Start {
         requires within { IsWithin (cpus_of self.old.machine.setup) self.old.acts said }
         ensures start { OnOk result (IsStart self.new.plan self.new.machine) }
         ensures extras { OnOk result (self.new.plan.extras ≡ self.old.plan.extras) }
+        ensures setup { OnOk result (self.new.machine.setup ≡ self.old.machine.setup) }
     {
         match said {
             Sched::Blank => Ok(()),
@@ -127,6 +132,7 @@ impl Start {
         requires { IsStart self.old.plan self.old.machine }
         ensures start { OnOk result (IsStart self.new.plan self.new.machine) }
         ensures extras { OnOk result (self.new.plan.extras ≡ self.old.plan.extras) }
+        ensures setup { OnOk result (self.new.machine.setup ≡ self.old.machine.setup) }
         ensures looked { result ≡ Ok true → looked_at reader.old < looked_at reader.new }
     {
         let cpus = self.plan.cpus(&self.machine);
@@ -155,6 +161,7 @@ impl Start {
         requires { IsStart self.old.plan self.old.machine }
         ensures start { OnOk result (IsStart self.new.plan self.new.machine) }
         ensures extras { OnOk result (self.new.plan.extras ≡ self.old.plan.extras) }
+        ensures setup { OnOk result (self.new.machine.setup ≡ self.old.machine.setup) }
     {
         'lines: loop {
             match self.turn(reader, source) {
@@ -166,8 +173,8 @@ impl Start {
     }
 }
 
-/// Reads a trace. The exploration begins behind its schedule. If there is none, states are folded
-/// where that is asked for.
+/// Reads a trace. Returns where the exploration begins, which is behind its schedule, and its setup. If
+/// there is no schedule, states are folded where that is asked for.
 ///
 /// # Errors
 ///
@@ -177,14 +184,17 @@ pub(crate) fn start_in<S: Source>(
     source: &mut S,
     extras: Extras,
     fold: bool,
-) -> Result<Start, ReplayFault>
-    ensures start { IfOk result (λ start. IsStart start.plan start.machine) }
-    ensures extras { IfOk result (λ start. start.plan.extras ≡ extras) }
+) -> Result<(Start, Setup), ReplayFault>
+    ensures start { IfOk result (λ read. IsStart read.0.plan read.0.machine) }
+    ensures extras { IfOk result (λ read. read.0.plan.extras ≡ extras) }
+    ensures setup { IfOk result (λ read. read.0.machine.setup ≡ tight_setup read.1) }
+    ensures lawful { IfOk result (λ read. IsLawfulSetup read.1) }
 {
     let mut reader = LineReader::new(alloc)?;
     let mut header = HeaderReader::new(alloc)?;
     read_header(&mut header, &mut reader, source)?;
-    let mut start = Start::resting(alloc, header.finish(), extras, fold)?;
+    let setup = header.finish();
+    let mut start = Start::resting(alloc, &setup, extras, fold)?;
     start.read_on(&mut reader, source)?;
-    Ok(start)
+    Ok((start, setup))
 }

@@ -16,5 +16,7 @@ pub mod Ending
 pub mod Firsts
 pub mod Finding
 pub mod Noted
+pub mod Helped
+pub mod Copied
 pub mod Orders
 pub mod Alike

@@ -12,3 +12,5 @@ pub mod Rows
 pub mod Ends
 pub mod Deeds
 pub mod Seeking
+pub mod Copies
+pub mod Helped

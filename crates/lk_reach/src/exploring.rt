@@ -1,19 +1,23 @@
 // The exploration.
 
-ghost use Rattle.std.specs.Prelude.{◌≡◌, ◌<◌, ◌≤◌, ◌+◌, ℕ, List, IfOk, OnOk, length, true};
+ghost use Rattle.std.specs.Prelude.{◌≡◌, ◌<◌, ◌≤◌, ◌+◌, ℕ, List, IfOk, OnOk, Some, length, slice_get, true};
 ghost use Rattle.lk_abs.specs.declared.events.Act.{Act as ActValue};
 ghost use Rattle.lk_rows.specs.Acts.{next};
 ghost use Rattle.lk_rows.specs.Machine.{Machine as MachineValue};
 ghost use Rattle.lk_reach.specs.Path.{AreLow, IsPath};
 ghost use Rattle.lk_reach.specs.Reach.{AreMoves, IsBegun, IsMove, IsReached, after, state_after};
 ghost use Rattle.lk_reach.specs.Folded.{IsHere, IsNoted};
+ghost use Rattle.lk_reach.specs.Helped.{AreFresh, AreHelpers, IsSettled};
 ghost use Rattle.lk_reach.specs.Space.{Folds, Keeps};
-ghost use Rattle.lk_reach.specs.Explored.{AreColumns, IsExplored, IsGood, IsStart, IsSuch, KnowsLike};
+ghost use Rattle.lk_reach.specs.Explored.{AreColumns, IsExplored, IsGood, IsStart, IsSuch, KnowsLike, OnlyMoves};
 ghost use Rattle.lk_reach.specs.Told.{IsGraph, IsWhole};
 
 use crate::book::{Book, Seen};
+use crate::crew::Crew;
 use crate::folding::{Here, note};
+use crate::found::Then;
 use crate::graph::Graph;
+use crate::helpers::Helpers;
 use crate::making::make;
 use crate::path::path_to;
 use crate::plan::Plan;
@@ -23,6 +27,7 @@ use lk_abs::{Act, Event, Memory};
 use lk_core::{acts_change_little, runs_keep};
 use lk_machine::Machine;
 use std::alloc::Global;
+use std::thread::Threads;
 
 /// Who watches an exploration, and may end it.
 pub trait Watch {
@@ -57,6 +62,60 @@ fn visit(
     Ok((number, event))
 }
 
+// The number of the state to which an act led, or of one that stands for it. It gets one if there is
+// none.
+fn settle(space: &mut Space, then: &Then) -> Result<u32, Memory>
+    ensures { IfOk result (λ k. IsSettled space.old space.new then.now k) }
+{
+    match then {
+        Then::Known(number) => Ok(*number),
+        Then::New(key) => {
+            let number = space.note_key(key)?;
+            Ok(number)
+        }
+    }
+}
+
+// Where an act leads from the state that is left, and what it tells: as a helper found it, and else by
+// making it.
+fn lead<R: Threads + Sync>(
+    space: &mut Space,
+    crew: &mut Crew<'_, R>,
+    plan: &Plan,
+    here: &Here,
+    number: usize,
+) -> Result<(u32, Option<Event>), Memory>
+    requires few { length crew.old.machine.cpus ≤ 8 }
+    requires such { IsSuch crew.old.machine.setup crew.old.machine }
+    requires here { IsHere plan.now crew.old.machine.setup space.old here.now }
+    requires act { number < length plan.now.acts.items }
+    requires moves { OnlyMoves plan.now.extras crew.old.machine.setup plan.now.acts.items }
+    requires helpers { AreHelpers plan.now crew.old.machine.setup space.old
+        crew.old.helpers.list.items }
+    ensures noted { IfOk result (λ found. (s : MachineValue) (a : ActValue)
+        → slice_get plan.now.acts.items number ≡ Some a → Keeps space.old here.now.state s
+        → IsReached plan.now crew.old.machine.setup s
+        → IsNoted plan.now crew.old.machine.setup space.old space.new here.now.state
+        (after s a) found.0) }
+    ensures told { IfOk result (λ found. (s : MachineValue) (a : ActValue)
+        → slice_get plan.now.acts.items number ≡ Some a → Keeps space.old here.now.state s
+        → IsReached plan.now crew.old.machine.setup s → found.1 ≡ (next s a).1) }
+    ensures such { OnOk result (IsSuch crew.old.machine.setup crew.new.machine) }
+    ensures helpers { OnOk result (AreHelpers plan.now crew.old.machine.setup space.new
+        crew.new.helpers.list.items) }
+{
+    match crew.take(plan, here.state, number) {
+        Some(finding) => {
+            let then = settle(space, &finding.then)?;
+            Ok((then, finding.event))
+        }
+        None => {
+            let found = visit(space, &mut crew.machine, plan, here, plan.act(number))?;
+            Ok(found)
+        }
+    }
+}
+
 // The state that is left next. To fold what is behind it, it takes a schedule to it.
 fn here_at(plan: &Plan, book: &Book, space: &Space, state: usize) -> Result<Here, Memory>
     requires low { AreLow plan.now book.now }
@@ -75,32 +134,36 @@ fn here_at(plan: &Plan, book: &Book, space: &Space, state: usize) -> Result<Here
 }
 
 // Makes every act on a state.
-fn leave(
+fn leave<R: Threads + Sync>(
     space: &mut Space,
-    machine: &mut Machine,
+    crew: &mut Crew<'_, R>,
     plan: &Plan,
     state: usize,
     book: &mut Book,
 ) -> Result<(), Memory>
-    requires few { length machine.old.cpus ≤ 8 }
-    requires begun { IsBegun plan.now machine.old.setup }
-    requires such { IsSuch machine.old.setup machine.old }
+    requires few { length crew.old.machine.cpus ≤ 8 }
+    requires begun { IsBegun plan.now crew.old.machine.setup }
+    requires such { IsSuch crew.old.machine.setup crew.old.machine }
+    requires helpers { AreHelpers plan.now crew.old.machine.setup space.old
+        crew.old.helpers.list.items }
     requires there { state < length space.old.keys }
-    requires explored { IsExplored plan.now machine.old.setup space.old book.old state }
+    requires explored { IsExplored plan.now crew.old.machine.setup space.old book.old state }
     requires columns { AreColumns book.old (length plan.now.acts.items) state 0 }
     ensures explored { OnOk result
-        (IsExplored plan.now machine.old.setup space.new book.new (state + 1)) }
+        (IsExplored plan.now crew.old.machine.setup space.new book.new (state + 1)) }
     ensures columns { OnOk result
         (AreColumns book.new (length plan.now.acts.items) (state + 1) 0) }
-    ensures such { OnOk result (IsSuch machine.old.setup machine.new) }
-    ensures setup { OnOk result (machine.new.setup ≡ machine.old.setup) }
+    ensures such { OnOk result (IsSuch crew.old.machine.setup crew.new.machine) }
+    ensures setup { OnOk result (crew.new.machine.setup ≡ crew.old.machine.setup) }
+    ensures helpers { OnOk result (AreHelpers plan.now crew.old.machine.setup space.new
+        crew.new.helpers.list.items) }
 {
     runs_keep();
     acts_change_little();
     let here = here_at(plan, book, space, state)?;
     let acts = plan.acts();
     for number in 0..acts.len() {
-        let (then, event) = visit(space, machine, plan, &here, acts[number])?;
+        let (then, event) = lead(space, crew, plan, &here, number)?;
         book.write(state, number, then, event)?;
     }
     Ok(())
@@ -108,25 +171,27 @@ fn leave(
 
 // Leaves the states, one after another, until all are left or the watcher ends it. Returns how many
 // were left.
-fn leave_all<W: Watch>(
+fn leave_all<W: Watch, R: Threads + Sync>(
     space: &mut Space,
-    machine: &mut Machine,
+    crew: &mut Crew<'_, R>,
     plan: &Plan,
     book: &mut Book,
     watch: &mut W,
 ) -> Result<usize, Memory>
-    requires few { length machine.old.cpus ≤ 8 }
-    requires begun { IsBegun plan.now machine.old.setup }
-    requires such { IsSuch machine.old.setup machine.old }
-    requires explored { IsExplored plan.now machine.old.setup space.old book.old 0 }
+    requires few { length crew.old.machine.cpus ≤ 8 }
+    requires begun { IsBegun plan.now crew.old.machine.setup }
+    requires such { IsSuch crew.old.machine.setup crew.old.machine }
+    requires helpers { AreHelpers plan.now crew.old.machine.setup space.old
+        crew.old.helpers.list.items }
+    requires explored { IsExplored plan.now crew.old.machine.setup space.old book.old 0 }
     requires columns { AreColumns book.old (length plan.now.acts.items) 0 0 }
     ensures explored { IfOk result
-        (λ left. IsExplored plan.now machine.old.setup space.new book.new left) }
+        (λ left. IsExplored plan.now crew.old.machine.setup space.new book.new left) }
     ensures columns { IfOk result
         (λ left. AreColumns book.new (length plan.now.acts.items) left 0) }
     ensures within { IfOk result (λ left. left ≤ length space.new.keys) }
-    ensures such { OnOk result (IsSuch machine.old.setup machine.new) }
-    ensures setup { OnOk result (machine.new.setup ≡ machine.old.setup) }
+    ensures such { OnOk result (IsSuch crew.old.machine.setup crew.new.machine) }
+    ensures setup { OnOk result (crew.new.machine.setup ≡ crew.old.machine.setup) }
 {
     for state in 0..MOST {
         if state == space.len() {
@@ -136,7 +201,8 @@ fn leave_all<W: Watch>(
         if !watch.goes_on(seen) {
             return Ok(state);
         }
-        leave(space, machine, plan, state, book)?;
+        crew.look_ahead(space, plan, state);
+        leave(space, crew, plan, state, book)?;
     }
     Ok(MOST)
 }
@@ -161,19 +227,21 @@ fn note_first(space: &mut Space, machine: &mut Machine, plan: &Plan) -> Result<(
 }
 
 /// Explores the states from the machine on at which the plan begins, level by level, until all are
-/// met or the watcher ends it.
+/// met or the watcher ends it. Helpers try acts ahead; how many there are changes nothing else.
 ///
 /// # Errors
 ///
 /// There is not enough memory, or no room for more states or levels.
-pub fn explore<W: Watch>(
+pub fn explore<W: Watch, R: Threads + Sync>(
     alloc: Global,
     mut machine: Machine,
     plan: Plan,
     watch: &mut W,
+    helpers: Helpers<'_, R>,
 ) -> Result<Graph, Memory>
     requires few { length machine.cpus ≤ 8 }
     requires start { IsStart plan machine }
+    requires helpers { AreFresh machine.setup helpers.list.items }
 
     // If the graph is whole, every state that a schedule reaches is known, or one that differs from
     // it in dead registers alone; and if the plan folds, in the numbers of processors that are alike.
@@ -194,7 +262,9 @@ pub fn explore<W: Watch>(
     let mut space = Space::new(alloc)?;
     let mut book = Book::new(alloc, plan.acts().len())?;
     note_first(&mut space, &mut machine, &plan)?;
-    let left = leave_all(&mut space, &mut machine, &plan, &mut book, watch)?;
+    let mut crew = Crew::new(machine, helpers);
+    let left = leave_all(&mut space, &mut crew, &plan, &mut book, watch)?;
+    let machine = crew.machine();
     Ok(Graph {
         space,
         plan,

@@ -11,12 +11,17 @@
 
 mod book;
 mod column;
+mod copies;
+mod crew;
 mod deeds;
 mod ends;
 mod exploring;
 mod folding;
 mod forms;
+mod found;
 mod graph;
+mod helper;
+mod helpers;
 mod key;
 mod kinds;
 mod laws;
@@ -26,6 +31,7 @@ mod order;
 mod path;
 mod peers;
 mod plan;
+mod recent;
 mod seeking;
 mod slots;
 mod sorting;
@@ -34,9 +40,11 @@ mod table;
 mod ways;
 
 pub use book::Seen;
+pub use copies::copy_of;
 pub use deeds::{Deed, Sought};
 pub use exploring::{Watch, explore};
 pub use graph::Graph;
+pub use helpers::{Helpers, MAX_HELPERS};
 pub use key::MAX_CPUS;
 pub use kinds::KINDS;
 pub use laws::{alike_states_tell, counts_are_idle, stand_ins_tell};

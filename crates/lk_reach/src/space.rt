@@ -8,9 +8,11 @@ ghost use Rattle.lk_reach.specs.declared.key.Key.{Key as KeyValue};
 ghost use Rattle.lk_reach.specs.Space.{AddsParts, AreClasses, AreFormed, Grows, IsFormOf, IsLoadable, IsNumbered, IsNumberOf, IsSameKind, Keeps, KeyKeeps, SameStates, SpaceValue};
 
 mod folds;
+mod looking;
 
 use crate::forms::form_number;
 use crate::key::{Key, MAX_CPUS};
+use crate::recent::Recent;
 use crate::slots::Slots;
 use crate::table::{CpuTable, MOST, SharedTable};
 use lk_abs::Memory;
@@ -42,6 +44,7 @@ pub(crate) struct Space {
     /// are sought by these then.
     folds: Vec<Key>,
     slots: Slots,
+    recent: Recent,
 }
 
 impl Model for Space {
@@ -81,6 +84,7 @@ impl Space {
             keys: Vec::new(alloc),
             folds: Vec::new(alloc),
             slots: Slots::new(alloc)?,
+            recent: Recent::none(alloc),
         })
     }
 
@@ -310,6 +314,7 @@ impl Space {
         let number = count as u32;
         push_key(&mut self.keys, *key)?;
         self.slots.put(hash, number);
+        self.recent.put(hash, number);
         Ok(number)
     }
 

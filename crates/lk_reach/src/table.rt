@@ -68,6 +68,16 @@ impl CpuTable {
         Ok(())
     }
 
+    /// The number of a part, if it was met. The number `likely` is tried first.
+    pub(crate) fn seen(&self, part: &CpuState, likely: u32) -> Option<u32>
+        ensures { IfSome result (λ i. slice_get self.now.items.items i ≡ Some part.now) }
+    {
+        if self.is_at(likely, part) {
+            return Some(likely);
+        }
+        self.find(part, part.number())
+    }
+
     // Gives a part the next number.
     fn add(&mut self, alloc: Global, part: &CpuState, hash: u64) -> Result<u32, Memory>
         ensures found { IfOk result (λ i. slice_get self.new.items.items i ≡ Some part.now) }
@@ -163,6 +173,16 @@ impl SharedTable {
         }
         self.slots = slots;
         Ok(())
+    }
+
+    /// The number of what a machine has, if it was met. The number `likely` is tried first.
+    pub(crate) fn seen(&self, machine: &Machine, likely: u32) -> Option<u32>
+        ensures { IfSome result (λ i. HasShared self.now.items.items i machine.now) }
+    {
+        if self.is_at(likely, machine) {
+            return Some(likely);
+        }
+        self.find(machine, machine.shared_number())
     }
 
     // Gives what a machine has the next number.

@@ -7,4 +7,10 @@ pub resting-requires : goal.resting-requires
 resting-requires g c =
     let left = g.S.Source.left c.args.source.now in
     let first = header_stands c.in_ok-reader.reader (reading c.in_ok-header.header) left c.in_ok-reader.ensures c.in_ok-header.ensures in
-    rw c.finish.ensures (header_lawful left _ (reading c.read_header.new.header) c.read_header.new.reader (c.in_ok-read_header.ensures.stands left first))
+    rw c.finish-setup.ensures (header_lawful left _ (reading c.read_header.new.header) c.read_header.new.reader (c.in_ok-read_header.ensures.stands left first))
+
+pub returns-clause-lawful : goal.returns-clause-lawful
+returns-clause-lawful g c =
+    let left = g.S.Source.left c.args.source.now in
+    let first = header_stands c.in_ok-reader.reader (reading c.in_ok-header.header) left c.in_ok-reader.ensures c.in_ok-header.ensures in
+    rw c.finish-setup.ensures (header_lawful left _ (reading c.read_header.new.header) c.read_header.new.reader (c.in_ok-read_header.ensures.stands left first))

@@ -5,9 +5,10 @@ use Rattle.lk_abs.specs.declared.events.Act.{Act}
 use Rattle.lk_abs.specs.declared.events.Act.TheVariants as act
 use Rattle.lk_rows.specs.declared.setup.Setup.{Setup}
 use Rattle.lk_rows.specs.Machine.{Machine}
-use Rattle.lk_reach.specs.Explored.{IsSuch}
+use Rattle.lk_reach.specs.Explored.{IsSuch, OnlyMoves}
 use Rattle.lk_reach.specs.Folded.{IsHere, IsNoted}
-use Rattle.lk_reach.specs.Reach.{IsMove, IsReached, after, state_after}
+use Rattle.lk_reach.specs.Helped.{AreHelpers}
+use Rattle.lk_reach.specs.Reach.{IsReached, after, state_after}
 use Rattle.lk_reach.specs.Space.{Keeps}
 use Rattle.lk_reach.proofs.Kept.{keeps_grown}
 use Rattle.lk_reach.proofs.Leading as leading
@@ -17,19 +18,19 @@ use Rattle.lk_reach.proofs.Closed as closed
 use Rattle.lk_reach.proofs.exploring.leave.Goals as goal
 
 pub here_at-requires : goal.here_at-requires
-here_at-requires c =
+here_at-requires g c =
     let x = c.requires.explored in
     let there = c.requires.there in
     let count = x.count in
     record {
-      low = leading.are_low c.args.plan.now c.args.machine.now.setup c.args.space.now c.args.book.now c.args.state x;
+      low = leading.are_low c.args.plan.now c.args.crew.now.machine.setup c.args.space.now c.args.book.now c.args.state x;
       there = omega (arith, there, count);
     }
 
 pub loop-number-init : goal.loop-number-init
-loop-number-init c =
+loop-number-init g c =
     let p = c.args.plan.now in
-    let z = c.args.machine.now.setup in
+    let z = c.args.crew.now.machine.setup in
     let v = c.args.space.now in
     let b = c.args.book.now in
     let k = c.args.state in
@@ -40,33 +41,35 @@ loop-number-init c =
       explored = c.requires.explored;
       half = left.half_start p z v b k p.acts.items c.requires.explored c.requires.there;
       columns = c.requires.columns;
-      moves = λ folds. (leading.way_of p c.args.machine.now v b k c.in_ok-here.here.way.items c.requires.begun
+      moves = λ folds. (leading.way_of p c.args.crew.now.machine v b k c.in_ok-here.here.way.items c.requires.begun
           c.requires.explored c.requires.columns c.requires.few c.requires.such c.requires.there (e.way folds)).moves;
-      leads = λ folds. (leading.way_of p c.args.machine.now v b k c.in_ok-here.here.way.items c.requires.begun
+      leads = λ folds. (leading.way_of p c.args.crew.now.machine v b k c.in_ok-here.here.way.items c.requires.begun
           c.requires.explored c.requires.columns c.requires.few c.requires.such c.requires.there (e.way folds)).leads;
+      helpers = c.requires.helpers;
     }
 
-pub visit-requires : goal.visit-requires
-visit-requires c =
+pub lead-requires-clause-few : goal.lead-requires-clause-few
+lead-requires-clause-few g c κs outlives =
+    let cpus = c.loop-number.invariant.such.cpus in
+    let before = c.requires.such.cpus in
+    let few = c.requires.few in
+    omega (arith, cpus, before, few)
+
+pub lead-requires-clause-such : goal.lead-requires-clause-such
+lead-requires-clause-such g c κs outlives =
     let inv = c.loop-number.invariant in
-    let z = c.args.machine.now.setup in
-    let acts = c.args.plan.now.acts.items in
-    let n = c.loop-number.number in
+    subst (λ (q : Setup). IsSuch q c.loop-number.crew.machine) (sym inv.same) inv.such
+
+pub lead-requires-clause-here : goal.lead-requires-clause-here
+lead-requires-clause-here g c κs outlives =
+    let inv = c.loop-number.invariant in
+    let z = c.args.crew.now.machine.setup in
     let laws : closed.Laws = record { runs = c.runs_keep.ensures.run; setup = c.acts_change_little.ensures.setup } in
-    let a = get_or c.acts-acts.result.now n (act.Step 0) in
-    let at : slice_get acts n ≡ Some a = subst (λ (xs : List Act). slice_get xs n ≡ Some a) c.acts-acts.ensures
-    (slice_get-get_or c.acts-acts.result.now n (act.Step 0) c.loop-number-test.true) in
-    let move = c.requires.explored.acts.only n a at in
     let p = c.args.plan.now in
     let v = c.loop-number.space in
     let half = inv.half in
-    let cpus = inv.such.cpus in
-    let before = c.requires.such.cpus in
-    let few = c.requires.few in
     let here = c.in_ok-here.here in
-    let back = sym inv.same in
     let state = c.in_ok-here.ensures.state in
-    let moves = subst (λ (q : Setup). IsMove p.extras q a) back move in
     let is : IsHere p z v here = record {
       begun = c.requires.begun;
       state = half.state;
@@ -77,29 +80,41 @@ visit-requires c =
       leads = λ folds. closed.same_state laws p z c.requires.begun v c.args.state half.state (state_after p z here.way.items)
           half.keeps (inv.leads folds) half.reached (record { acts = here.way.items; moves = inv.moves folds; there = refl });
     } in
-    record {
-      few = omega (arith, cpus, before, few);
-      such = subst (λ (q : Setup). IsSuch q c.loop-number.machine) back inv.such;
-      here = subst (λ (q : Setup). IsHere p q v here) back is;
-      moves = subst (λ (b : Act). IsMove p.extras c.loop-number.machine.setup b) refl moves;
-    }
+    subst (λ (q : Setup). IsHere p q v here) (sym inv.same) is
+
+pub lead-requires-clause-act : goal.lead-requires-clause-act
+lead-requires-clause-act g c κs outlives =
+    let test = c.loop-number-test.true in
+    let size = ap length c.acts-acts.ensures in
+    omega (arith, test, size)
+
+pub lead-requires-clause-moves : goal.lead-requires-clause-moves
+lead-requires-clause-moves g c κs outlives =
+    let p = c.args.plan.now in
+    subst (λ (q : Setup). OnlyMoves p.extras q p.acts.items) (sym c.loop-number.invariant.same) c.requires.explored.acts.only
+
+pub lead-requires-clause-helpers : goal.lead-requires-clause-helpers
+lead-requires-clause-helpers g c κs outlives =
+    let inv = c.loop-number.invariant in
+    subst (λ (q : Setup). AreHelpers c.args.plan.now q c.loop-number.space c.loop-number.crew.helpers.list.items) (sym inv.same)
+    inv.helpers
 
 pub write-requires : goal.write-requires
-write-requires c =
+write-requires g c =
     let width = c.loop-number.invariant.columns.width in
     let test = c.loop-number-test.true in
     let size = ap length c.acts-acts.ensures in
     omega (arith, width, test, size)
 
 pub loop-number-preserved : goal.loop-number-preserved
-loop-number-preserved c =
+loop-number-preserved g c =
     let inv = c.loop-number.invariant in
-    let z = c.args.machine.now.setup in
+    let z = c.args.crew.now.machine.setup in
     let p = c.args.plan.now in
     let acts = c.args.plan.now.acts.items in
     let n = c.loop-number.number in
     let v = c.loop-number.space in
-    let w = c.visit.new.space in
+    let w = c.lead.new.space in
     let b = c.loop-number.book in
     let d = c.write.new.self in
     let k = c.args.state in
@@ -113,19 +128,19 @@ loop-number-preserved c =
     (λ s has reached.
     subst (λ (h : ℕ). IsNoted p z v w h (after s a) c.in_ok-then.then) state
     (subst (λ (q : Setup). IsNoted p q v w c.in_ok-here.here.state (after s a) c.in_ok-then.then) inv.same
-    (e.noted s (subst (λ (h : ℕ). Keeps v h s) (sym state) has) (subst (λ (q : Setup). IsReached p q s) (sym inv.same) reached)))) in
+    (e.noted s a at (subst (λ (h : ℕ). Keeps v h s) (sym state) has) (subst (λ (q : Setup). IsReached p q s) (sym inv.same) reached)))) in
     let made : left.IsMade p z v w b d k n a = record {
       then = c.in_ok-then.then;
       event = c.in_ok-then.event;
       move = c.requires.explored.acts.only n a at;
       doing = at;
       noted = noted;
-      told = λ s has reached. e.told s (subst (λ (h : ℕ). Keeps v h s) (sym state) has)
+      told = λ s has reached. e.told s a at (subst (λ (h : ℕ). Keeps v h s) (sym state) has)
           (subst (λ (q : Setup). IsReached p q s) (sym inv.same) reached);
       writes = c.in_ok-write.ensures;
     } in
     record {
-      such = subst (λ (q : Setup). IsSuch q c.visit.new.machine) inv.same e.such;
+      such = subst (λ (q : Setup). IsSuch q c.lead.new.crew.machine) inv.same e.such;
       same = e.such.setup ∙ inv.same;
       explored = left.explored_then p z laws c.requires.begun v w b d k n a made inv.half inv.explored inv.columns;
       half = left.half_then p z laws c.requires.begun v w b d k n a made inv.half inv.explored inv.columns;
@@ -135,13 +150,14 @@ loop-number-preserved c =
           let half = inv.half in
           keeps_grown v w (noted half.state half.keeps half.reached).grows k (state_after p z c.in_ok-here.here.way.items)
           (inv.leads folds);
+      helpers = subst (λ (q : Setup). AreHelpers p q w c.lead.new.crew.helpers.list.items) inv.same e.helpers;
     }
 
 pub returns : goal.returns
-returns c =
+returns g c =
     let inv = c.loop-number.invariant in
     let p = c.args.plan.now in
-    let z = c.args.machine.now.setup in
+    let z = c.args.crew.now.machine.setup in
     let v = c.loop-number.space in
     let b = c.loop-number.book in
     let k = c.args.state in
@@ -153,4 +169,5 @@ returns c =
       columns = columns.columns_next b (length p.acts.items) k c.loop-number.number (omega (arith, size, end)) inv.columns;
       such = inv.such;
       setup = inv.same;
+      helpers = inv.helpers;
     }

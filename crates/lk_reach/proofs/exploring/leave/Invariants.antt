@@ -1,17 +1,19 @@
 use Rattle.std.proofs.Common.{◌≡◌, length, true}
 use Rattle.lk_reach.specs.Explored.{AreColumns, IsSuch, IsExplored, IsHalfLeft}
+use Rattle.lk_reach.specs.Helped.{AreHelpers}
 use Rattle.lk_reach.specs.Reach.{AreMoves, state_after}
 use Rattle.lk_reach.specs.Space.{Keeps}
 use Rattle.lk_reach.proofs.exploring.leave.Given as goal
 
 -- the acts so far were tried on the state
 abbrev pub invariant-loop-number : goal.invariant-loop-number
-invariant-loop-number l = record {
-  such : IsSuch l.fn.machine.setup l.machine;
-  same : l.machine.setup ≡ l.fn.machine.setup;
-  explored : IsExplored l.plan l.fn.machine.setup l.space l.book l.state;
-  half : IsHalfLeft l.plan l.fn.machine.setup l.space l.book l.state l.plan.acts.items l.number;
+invariant-loop-number g l = record {
+  such : IsSuch l.fn.crew.machine.setup l.crew.machine;
+  same : l.crew.machine.setup ≡ l.fn.crew.machine.setup;
+  explored : IsExplored l.plan l.fn.crew.machine.setup l.space l.book l.state;
+  half : IsHalfLeft l.plan l.fn.crew.machine.setup l.space l.book l.state l.plan.acts.items l.number;
   columns : AreColumns l.book (length l.plan.acts.items) l.state l.number;
-  moves : l.plan.folds ≡ true → AreMoves l.plan.extras l.fn.machine.setup l.here.way.items;
-  leads : l.plan.folds ≡ true → Keeps l.space l.state (state_after l.plan l.fn.machine.setup l.here.way.items);
+  moves : l.plan.folds ≡ true → AreMoves l.plan.extras l.fn.crew.machine.setup l.here.way.items;
+  leads : l.plan.folds ≡ true → Keeps l.space l.state (state_after l.plan l.fn.crew.machine.setup l.here.way.items);
+  helpers : AreHelpers l.plan l.fn.crew.machine.setup l.space l.crew.helpers.list.items;
 }

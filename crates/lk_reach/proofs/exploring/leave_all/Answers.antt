@@ -1,45 +1,100 @@
-use Rattle.std.proofs.Common.{arith, ◌∙◌, ◌+◌, sym, subst}
+use Rattle.std.proofs.Common.{arith, ◌∙◌, ◌+◌, ap, length, sym, subst}
 use Rattle.std.proofs.lemmas.Option.{slice_get_within}
 use Rattle.lk_rows.specs.declared.setup.Setup.{Setup}
+use Rattle.lk_rows.specs.Machine.{Machine}
 use Rattle.lk_reach.specs.Explored.{IsExplored, IsSuch}
+use Rattle.lk_reach.specs.Helped.{AreHelpers, MayLook}
 use Rattle.lk_reach.specs.Reach.{IsBegun}
+use Rattle.lk_reach.specs.Space.{SpaceValue}
 use Rattle.lk_reach.proofs.exploring.leave_all.Goals as goal
 
-pub leave-requires : goal.leave-requires
-leave-requires g c =
+pub look_ahead-requires-clause-may : goal.look_ahead-requires-clause-may
+look_ahead-requires-clause-may g c κs outlives =
     let inv = c.loop-state.invariant in
     let p = c.args.plan.now in
-    let back = sym inv.same in
-    let cpus = inv.such.cpus in
+    let v = c.loop-state.space in
     let before = c.requires.such.cpus in
     let few = c.requires.few in
-    let within = inv.within in
+    let may : MayLook p v c.args.crew.now.machine.setup = record {
+      few = omega (arith, before, few);
+      begun = c.requires.begun;
+      moves = inv.explored.acts.only;
+      good = inv.explored.good;
+    } in
+    subst (λ (q : Setup). MayLook p v q) (sym inv.same) may
+
+pub look_ahead-requires-clause-helpers : goal.look_ahead-requires-clause-helpers
+look_ahead-requires-clause-helpers g c κs outlives =
+    let inv = c.loop-state.invariant in
+    subst (λ (q : Setup). AreHelpers c.args.plan.now q c.loop-state.space c.loop-state.crew.helpers.list.items) (sym inv.same)
+    inv.helpers
+
+pub leave-requires-clause-few : goal.leave-requires-clause-few
+leave-requires-clause-few g c κs outlives =
+    let many = ap (λ (m : Machine). length m.cpus) c.look_ahead.ensures.machine in
+    let cpus = c.loop-state.invariant.such.cpus in
+    let before = c.requires.such.cpus in
+    let few = c.requires.few in
+    omega (arith, many, cpus, before, few)
+
+pub leave-requires-clause-begun : goal.leave-requires-clause-begun
+leave-requires-clause-begun g c κs outlives =
+    let same = ap (λ (m : Machine). m.setup) c.look_ahead.ensures.machine ∙ c.loop-state.invariant.same in
+    subst (λ (q : Setup). IsBegun c.args.plan.now q) (sym same) c.requires.begun
+
+pub leave-requires-clause-such : goal.leave-requires-clause-such
+leave-requires-clause-such g c κs outlives =
+    let inv = c.loop-state.invariant in
+    let e = c.look_ahead.ensures in
+    let n = c.look_ahead.new.self.machine in
+    let same = ap (λ (m : Machine). m.setup) e.machine ∙ inv.same in
+    subst (λ (q : Setup). IsSuch q n) (sym same)
+    (subst (λ (m : Machine). IsSuch c.args.crew.now.machine.setup m) (sym e.machine) inv.such)
+
+pub leave-requires-clause-helpers : goal.leave-requires-clause-helpers
+leave-requires-clause-helpers g c κs outlives =
+    let e = c.look_ahead.ensures in
+    subst (λ (q : Setup). AreHelpers c.args.plan.now q c.look_ahead.new.space c.look_ahead.new.self.helpers.list.items)
+    (sym (ap (λ (m : Machine). m.setup) e.machine)) e.helpers
+
+pub leave-requires-clause-there : goal.leave-requires-clause-there
+leave-requires-clause-there g c κs outlives =
+    let within = c.loop-state.invariant.within in
     let other = c.if-state-len.false in
     let len = c.len.ensures in
-    record {
-      few = omega (arith, cpus, before, few);
-      begun = subst (λ (q : Setup). IsBegun p q) back c.requires.begun;
-      such = subst (λ (q : Setup). IsSuch q c.loop-state.machine) back inv.such;
-      there = omega (arith, within, other, len);
-      explored = subst (λ (q : Setup). IsExplored p q c.loop-state.space c.loop-state.book c.loop-state.state) back inv.explored;
-      columns = inv.columns;
-    }
+    let many = ap (λ (v : SpaceValue). length v.keys) c.look_ahead.ensures.space in
+    omega (arith, within, other, len, many)
+
+pub leave-requires-clause-explored : goal.leave-requires-clause-explored
+leave-requires-clause-explored g c κs outlives =
+    let inv = c.loop-state.invariant in
+    let same = ap (λ (m : Machine). m.setup) c.look_ahead.ensures.machine ∙ inv.same in
+    subst (λ (v : SpaceValue). IsExplored c.args.plan.now c.look_ahead.new.self.machine.setup v c.loop-state.book c.loop-state.state)
+    (sym c.look_ahead.ensures.space)
+    (subst (λ (q : Setup). IsExplored c.args.plan.now q c.loop-state.space c.loop-state.book c.loop-state.state) (sym same)
+    inv.explored)
+
+pub leave-requires-clause-columns : goal.leave-requires-clause-columns
+leave-requires-clause-columns g c κs outlives = c.loop-state.invariant.columns
 
 pub loop-state-preserved : goal.loop-state-preserved
 loop-state-preserved g c =
     let inv = c.loop-state.invariant in
     let p = c.args.plan.now in
+    let ahead = c.look_ahead.ensures in
+    let same = ap (λ (m : Machine). m.setup) ahead.machine ∙ inv.same in
     let e = c.in_ok-leave.ensures in
     let n = c.loop-state.state in
     let w = c.leave.new.space in
     let d = c.leave.new.book in
-    let explored = subst (λ (q : Setup). IsExplored p q w d (n + 1)) inv.same e.explored in
+    let explored = subst (λ (q : Setup). IsExplored p q w d (n + 1)) same e.explored in
     let now = explored.left n (omega arith) in
     let low = slice_get_within w.keys n now.keeps.key now.keeps.is in
     record {
-      such = subst (λ (q : Setup). IsSuch q c.leave.new.machine) inv.same e.such;
-      same = e.setup ∙ inv.same;
+      such = subst (λ (q : Setup). IsSuch q c.leave.new.crew.machine) same e.such;
+      same = e.setup ∙ same;
       explored = explored;
       columns = e.columns;
+      helpers = subst (λ (q : Setup). AreHelpers p q w c.leave.new.crew.helpers.list.items) same e.helpers;
       within = omega (arith, low);
     }

@@ -7,6 +7,7 @@ use Rattle.lk_explore.proofs.reading.Start.read_on.Given as goal
 abbrev pub invariant-lines : goal.invariant-lines
 invariant-lines g l = record {
   start : IsStart l.self.plan l.self.machine;
+  setup : l.self.machine.setup ≡ l.fn.self.machine.setup;
   extras : l.self.plan.extras ≡ l.fn.self.plan.extras;
 }
 

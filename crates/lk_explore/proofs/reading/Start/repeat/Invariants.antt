@@ -8,6 +8,7 @@ use Rattle.lk_explore.proofs.reading.Start.repeat.Given as goal
 abbrev pub invariant-loop-made : goal.invariant-loop-made
 invariant-loop-made l = record {
   start : IsStart l.self.plan l.self.machine;
+  setup : l.self.machine.setup ≡ l.fn.self.machine.setup;
   extras : l.self.plan.extras ≡ l.fn.self.plan.extras;
   range : processor_of l.act < cpus_of l.self.machine.setup;
 }

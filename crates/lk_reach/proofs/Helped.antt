@@ -1,0 +1,213 @@
+-- What helpers find stays so, and gives the numbers that one thread alone would give.
+use Rattle.std.proofs.Common.{arith, ℕ, ◌≡◌, ◌∙◌, ◌<◌, ◌≤◌, ◌++◌, List, [], ◌∷◌, Option, Some, false, length, ap, inl, inr, refl, sym, subst}
+use Rattle.std.proofs.lemmas.List.{append-nil, drop_all, length-replicate, take_all}
+use Rattle.std.specs.Prelude.{IfSome, drop, slice_get, slice_index_or, take}
+use Rattle.std.proofs.lemmas.Option.{slice_get_within, slice_get-get_or}
+use Rattle.lk_abs.specs.declared.events.Act.{Act}
+use Rattle.lk_rows.specs.declared.setup.Setup.{Setup}
+use Rattle.lk_rows.specs.Acts.{next}
+use Rattle.lk_rows.specs.Machine.{Machine, rest_lock}
+use Rattle.lk_rows.specs.Run.{at_rest}
+use Rattle.lk_abs.proofs.ByIndex.{get-append}
+use Rattle.lk_idle.specs.Alike.{AreAlike}
+use Rattle.lk_reach.specs.declared.folding.Here.{Here}
+use Rattle.lk_reach.specs.declared.found.Finding.{Finding}
+use Rattle.lk_reach.specs.declared.found.Then.{Then}
+use Rattle.lk_reach.specs.declared.found.Then.TheVariants as then
+use Rattle.lk_reach.specs.declared.helper.Helper.{Helper}
+use Rattle.lk_reach.specs.declared.key.Key.{Key}
+use Rattle.lk_reach.specs.declared.plan.Plan.{Plan}
+use Rattle.lk_reach.specs.Explored.{IsGood, IsSuch, KeepsLike}
+use Rattle.lk_reach.specs.Folded.{IsHere, IsNoted, StandsFor}
+use Rattle.lk_reach.specs.Helped.{AreFound, AreFresh, AreHelpers, HasLooked, IsFound, IsFresh, IsHelper, IsKeyNoted, IsKnown, IsOneOf}
+use Rattle.lk_reach.specs.Helped.{IsSettled, LeadsThere, MayKeep}
+use Rattle.lk_reach.specs.Reach.{IsBegun, IsMove, IsReached, after}
+use Rattle.lk_reach.specs.Space.{Grows, IsSameKind, Keeps, KeyKeeps, SpaceValue}
+use Rattle.lk_reach.proofs.Closed.{reached_such, reached_then, rest_cpus_of, same_state}
+use Rattle.lk_reach.proofs.Folded.{laws, stands_alike}
+use Rattle.lk_reach.proofs.Grown.{like_grown}
+use Rattle.lk_reach.proofs.Kept.{key_grown, keeps_grown, one_value}
+use Rattle.lk_reach.proofs.Left.{grows_self}
+use Rattle.lk_reach.proofs.Noted.{plain_noted, same_kind}
+
+-- nothing stands in an empty list
+none_there : {A : Type 0} → (i : ℕ) (x : A) → slice_get [] i ≡ Some x → ⊥
+none_there i x e = cc
+
+pub fresh_helpers : (plan : Plan) (setup : Setup) (v : SpaceValue) (hs : List Helper) → AreFresh setup hs
+    → AreHelpers plan setup v hs
+fresh_helpers plan setup v hs x i h at =
+    let y = x i h at in
+    record {
+      such = y.such;
+      found = λ j f is. absurd (none_there j f (subst (λ (fs : List Finding). slice_get fs j ≡ Some f) y.none is));
+    }
+
+-- what was lent whole comes back whole
+pub lent_whole : {A : Type 0} → (xs ys : List A) (n : ℕ) → length ys ≡ length xs → n ≡ length xs
+    → take n (ys ++ drop (length ys) xs) ≡ ys
+lent_whole xs ys n e f =
+    ap (λ zs. take n (ys ++ zs)) (drop_all (length ys) xs (omega (arith, e)))
+    ∙ ap (λ zs. take n zs) (append-nil ys) ∙ take_all n ys (omega (arith, e, f))
+
+-- one more helper
+pub fresh_more : (setup : Setup) (hs : List Helper) (h : Helper) → AreFresh setup hs → IsFresh setup h
+    → AreFresh setup (hs ++ h ∷ [])
+fresh_more setup hs h x new i g at = elim (get-append hs h i g at) [
+  | inl old ↦ x i g old
+  | inr last ↦ subst (λ (z : Helper). IsFresh setup z) (sym last.1) new
+]
+
+-- a machine at rest is one of its setup
+pub rest_such : (setup : Setup) → IsSuch setup (at_rest setup)
+rest_such setup = record {
+  setup = refl;
+  counts = refl;
+  cpus = rest_cpus_of setup;
+  locks = length-replicate (length setup.locks.items) rest_lock;
+}
+
+module _ (plan : Plan) (setup : Setup) where
+  pub none_found : (v : SpaceValue) → AreFound plan setup v []
+  none_found v i f at = absurd (none_there i f at)
+
+  -- one more finding, if there was room
+  pub found_more : (v : SpaceValue) (fs gs : List Finding) (found : Option Finding) → AreFound plan setup v fs
+      → IfSome found (λ f. IsFound plan setup v f) → MayKeep fs gs found → AreFound plan setup v gs
+  found_more v fs gs found x new kept = elim kept [
+    | inl same ↦ subst (AreFound plan setup v) (sym same) x
+    | inr more ↦
+        let it : IsFound plan setup v more.0 = subst (λ (o : Option Finding). IfSome o (λ f. IsFound plan setup v f)) more.1 new in
+        subst (AreFound plan setup v) (sym more.2)
+        (λ i f at. elim (get-append fs more.0 i f at) [
+          | inl old ↦ x i f old
+          | inr last ↦ subst (IsFound plan setup v) (sym last.1) it
+        ])
+  ]
+
+  leads_grown : (v w : SpaceValue) → Grows v w → (left : ℕ) (s m : Machine) (t : Then) → LeadsThere plan setup v left s m t
+      → LeadsThere plan setup w left s m t
+  leads_grown v w g left s m (then.Known k) x = record {
+    like = like_grown plan setup v w g k m x.like;
+    stays = x.stays;
+  }
+  leads_grown v w g left s m (then.New key) x = key_grown v w g key m x
+
+  pub found_grown : (v w : SpaceValue) → Grows v w → (f : Finding) → IsFound plan setup v f → IsFound plan setup w f
+  found_grown v w g f x = record {
+    state = x.state;
+    keeps = keeps_grown v w g f.state x.state x.keeps;
+    reached = x.reached;
+    act = x.act;
+    doing = x.doing;
+    event = x.event;
+    then = leads_grown v w g f.state x.state (after x.state x.act) f.then x.then;
+  }
+
+  pub helpers_grown : (v w : SpaceValue) → Grows v w → (hs : List Helper) → AreHelpers plan setup v hs
+      → AreHelpers plan setup w hs
+  helpers_grown v w g hs x i h at =
+      let y = x i h at in
+      record { such = y.such; found = λ j f is. found_grown v w g f (y.found j f is) }
+
+  pub one_found : (v : SpaceValue) (hs : List Helper) (f : Finding) → AreHelpers plan setup v hs → IsOneOf hs f
+      → IsFound plan setup v f
+  one_found v hs f x one = (x one.at one.helper one.is).found one.place f one.found
+
+  -- where an act leads that was found to lead there
+  module _ (begun : IsBegun plan setup) (v w : SpaceValue) (here : Here) (k : ℕ) (is : IsHere plan setup v here)
+      (plain : plan.folds ≡ false) (s : Machine) (a : Act) (has : Keeps v here.state s) (reached : IsReached plan setup s)
+      (move : IsMove plan.extras setup a) where
+    there : IsReached plan setup (after s a)
+    there = reached_then laws plan setup begun s a reached move
+
+    such : IsSuch setup (after s a)
+    such = reached_such laws plan setup begun (after s a) there
+
+    known_noted : (j : ℕ) → IsKnown plan setup v here.state s (after s a) j → IsNoted plan setup v v here.state (after s a) j
+    known_noted j x = record {
+      there = slice_get_within v.keys j x.like.keeps.key x.like.keeps.is;
+      kept = λ t keeps at.
+          subst (λ (z : Machine). StandsFor plan setup z (after s a))
+          (same_state laws plan setup begun v j x.like.state t x.like.keeps keeps x.like.reached at) x.like.stands;
+      stays = λ e t keeps at.
+          subst (λ (z : Machine). AreAlike z (after s a))
+          (same_state laws plan setup begun v here.state s t has keeps reached at) (x.stays e);
+      grows = grows_self v;
+      one = λ i high low. absurd (omega (arith, high, low));
+      folds = λ yes. is.folds yes;
+    }
+
+    key_noted : (key : Key) → KeyKeeps v.parts v.shareds key (after s a) → IsKeyNoted v w key k
+        → IsNoted plan setup v w here.state (after s a) k
+    key_noted key x e =
+        let keeps = key_grown v w e.grows key (after s a) x in
+        plain_noted plan setup begun v w here.state k (after s a) such plain e.there
+        (λ t at kind. e.alike t (after s a) at keeps kind) e.grows
+        (λ j high low. let one = e.one j high low in (one.0, record { key = key; is = one.1; keeps = keeps }))
+
+    by_then : (t : Then) → LeadsThere plan setup v here.state s (after s a) t → IsSettled v w t k
+        → IsNoted plan setup v w here.state (after s a) k
+    by_then (then.Known j) x e =
+        subst (λ (u : SpaceValue). IsNoted plan setup v u here.state (after s a) k) (sym e.1)
+        (subst (λ (i : ℕ). IsNoted plan setup v v here.state (after s a) i) (sym e.0) (known_noted j x))
+    by_then (then.New key) x e = key_noted key x e
+
+    same_then : (f : Finding) → f.state ≡ here.state → slice_get plan.acts.items f.act ≡ Some a → (x : IsFound plan setup v f)
+        → (x.state ≡ s) × (x.act ≡ a)
+    same_then f left doing x = (
+      same_state laws plan setup begun v here.state x.state s
+          (subst (λ (h : ℕ). Keeps v h x.state) left x.keeps) has x.reached reached,
+      one_value (slice_get plan.acts.items f.act) x.act a x.doing doing,
+    )
+
+    pub found_noted : (f : Finding) → f.state ≡ here.state → slice_get plan.acts.items f.act ≡ Some a
+        → IsFound plan setup v f → IsSettled v w f.then k → IsNoted plan setup v w here.state (after s a) k
+    found_noted f left doing x e =
+        let same = same_then f left doing x in
+        by_then f.then
+        (subst (λ (h : ℕ). LeadsThere plan setup v h s (after s a) f.then) left
+        (subst (λ (z : Machine). LeadsThere plan setup v f.state z (after z a) f.then) same.0
+        (subst (λ (b : Act). LeadsThere plan setup v f.state x.state (after x.state b) f.then) same.1 x.then))) e
+
+    pub found_told : (f : Finding) → f.state ≡ here.state → slice_get plan.acts.items f.act ≡ Some a
+        → IsFound plan setup v f → f.event ≡ (next s a).1
+    found_told f left doing x =
+        let same = same_then f left doing x in
+        x.event ∙ ap (λ (b : Act). (next x.state b).1) same.1 ∙ ap (λ (z : Machine). (next z a).1) same.0
+
+  pub settled_grows : (v w : SpaceValue) (t : Then) (k : ℕ) → IsSettled v w t k → Grows v w
+  settled_grows v w (then.Known j) k e = subst (λ (u : SpaceValue). Grows v u) (sym e.1) (grows_self v)
+  settled_grows v w (then.New key) k e = e.grows
+
+  -- what a helper finds of an act on a state
+  module _ (begun : IsBegun plan setup) (v : SpaceValue) (left : ℕ) (s m : Machine) (has : Keeps v left s)
+      (reached : IsReached plan setup s) (such : IsSuch setup m) where
+    pub is_known : (k : ℕ) → IsGood plan setup v k
+        → ((t : Machine) → Keeps v k t → IsSameKind t m → AreAlike t m) → IsKnown plan setup v left s m k
+    is_known k good alike =
+        let kind : (t : Machine) → IsReached plan setup t → IsSameKind t m =
+        λ t at. same_kind setup t m (reached_such laws plan setup begun t at) such in
+        record {
+          like = record {
+            state = good.state;
+            keeps = good.keeps;
+            reached = good.reached;
+            stands = stands_alike plan setup begun good.state m
+                (alike good.state good.keeps (kind good.state good.reached));
+          };
+          stays = λ e. alike s (subst (λ (h : ℕ). Keeps v h s) (sym e) has) (kind s reached);
+        }
+
+  -- helpers that have looked
+  pub have_looked : (u v : SpaceValue) (old new : List Helper) → AreHelpers plan setup u old → length new ≡ length old
+      → ((i : ℕ) (d : Helper) → i < length old → HasLooked plan v (slice_index_or old i d) (slice_index_or new i d))
+      → AreHelpers plan setup v new
+  have_looked u v old new x count looked i h at =
+      let low = slice_get_within new i h at in
+      let under : i < length old = omega (arith, low, count) in
+      let done = looked i h under in
+      let was = x i (slice_index_or old i h) (slice_get-get_or old i h under) in
+      let now : slice_index_or new i h ≡ h = one_value (slice_get new i) (slice_index_or new i h) h (slice_get-get_or new i h low) at in
+      subst (λ (g : Helper). IsHelper plan setup v g) now
+      (subst (λ (z : Setup). IsHelper plan z v (slice_index_or new i h)) was.such.setup done.helper)

@@ -1,0 +1,11 @@
+use Rattle.std.proofs.Common.{◌≡◌, length, map}
+use Rattle.std.specs.Prelude.{take}
+use Rattle.lk_reach.specs.Copies.{tight}
+use Rattle.lk_reach.proofs.copies.programs.Given as goal
+
+-- so many were copied
+abbrev pub invariant-loop-at : goal.invariant-loop-at
+invariant-loop-at l = record {
+  items : l.copy.items ≡ map tight (take l.at l.list.items);
+  room : l.copy.room ≡ length l.list.items;
+}

@@ -1,0 +1,32 @@
+use Rattle.std.proofs.Common.{◌≡◌, ◌∙◌, List, [], sym, subst}
+use Rattle.lk_rows.specs.declared.setup.Setup.{Setup}
+use Rattle.lk_reach.specs.declared.found.Finding.{Finding}
+use Rattle.lk_reach.specs.Explored.{IsSuch}
+use Rattle.lk_reach.specs.Helped.{AreFound, IsHelper, MayLook}
+use Rattle.lk_reach.proofs.Helped as helped
+use Rattle.lk_reach.proofs.helper.Helper.look.Goals as goal
+
+pub leave-requires-clause-ready : goal.leave-requires-clause-ready
+leave-requires-clause-ready c =
+    let inv = c.loop-state.invariant in
+    let back = sym inv.same in
+    record {
+      may = subst (λ (q : Setup). MayLook c.args.plan.now c.args.space.now q) back c.requires.ready.may;
+      such = subst (λ (q : Setup). IsSuch q c.loop-state.self.machine) back inv.such;
+    }
+
+pub leave-requires-clause-found : goal.leave-requires-clause-found
+leave-requires-clause-found c =
+    let inv = c.loop-state.invariant in
+    subst (λ (q : Setup). AreFound c.args.plan.now q c.args.space.now c.loop-state.self.findings.items) (sym inv.same) inv.found
+
+pub loop-state-preserved : goal.loop-state-preserved
+loop-state-preserved c =
+    let inv = c.loop-state.invariant in
+    let e = c.leave.ensures in
+    let done = subst (λ (q : Setup). IsHelper c.args.plan.now q c.args.space.now c.leave.new.self) inv.same e.helper in
+    record {
+      same = e.setup ∙ inv.same;
+      such = done.such;
+      found = done.found;
+    }

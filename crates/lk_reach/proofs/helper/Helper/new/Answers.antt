@@ -1,0 +1,16 @@
+use Rattle.std.proofs.Common.{◌∙◌, ap, sym, subst}
+use Rattle.lk_rows.specs.declared.setup.Setup.{Setup}
+use Rattle.lk_rows.specs.Machine.{Machine}
+use Rattle.lk_rows.specs.Run.{at_rest}
+use Rattle.lk_reach.specs.Copies.{tight_setup}
+use Rattle.lk_reach.specs.Explored.{IsSuch}
+use Rattle.lk_reach.proofs.Helped as helped
+use Rattle.lk_reach.proofs.helper.Helper.new.Goals as goal
+
+pub returns : goal.returns
+returns c =
+    let z = tight_setup c.args.setup.now in
+    record {
+      such = subst (λ (m : Machine). IsSuch z m) (sym (c.in_ok-machine.ensures ∙ ap at_rest c.in_ok-copy.ensures.copy)) (helped.rest_such z);
+      none = c.new-2.ensures.items;
+    }

@@ -1,0 +1,7 @@
+use Rattle.lk_reach.specs.Copies.{tight_setup}
+use Rattle.lk_reach.specs.Helped.{AreFresh}
+use Rattle.lk_reach.proofs.helpers.Helpers.new.Given as goal
+
+-- so many helpers were made
+abbrev pub invariant-loop-made : goal.invariant-loop-made
+invariant-loop-made g l = AreFresh (tight_setup l.setup) l.list.items

@@ -1,0 +1,102 @@
+-- Helpers: what they find while nobody writes, which stays so when more is met.
+use Rattle.std.specs.Prelude.{◌≡◌, ◌<◌, ◌≤◌, ◌⊎◌, ◌++◌, ◌∷◌, ℕ, List, Option, [], length, slice_get, slice_index_or, Some}
+use Rattle.lk_abs.specs.declared.events.Act.{Act}
+use Rattle.lk_abs.specs.declared.events.Event.{Event}
+use Rattle.lk_rows.specs.declared.setup.Setup.{Setup}
+use Rattle.lk_rows.specs.Acts.{next}
+use Rattle.lk_rows.specs.Machine.{Machine}
+use Rattle.lk_idle.specs.Alike.{AreAlike}
+use Rattle.lk_reach.specs.declared.found.Finding.{Finding}
+use Rattle.lk_reach.specs.declared.found.Then.{Then}
+use Rattle.lk_reach.specs.declared.found.Then.TheVariants as then
+use Rattle.lk_reach.specs.declared.helper.Helper.{Helper}
+use Rattle.lk_reach.specs.declared.key.Key.{Key}
+use Rattle.lk_reach.specs.declared.plan.Plan.{Plan}
+use Rattle.lk_reach.specs.Explored.{IsGood, IsSuch, KeepsLike, OnlyMoves}
+use Rattle.lk_reach.specs.Reach.{IsBegun, IsReached, after}
+use Rattle.lk_reach.specs.Space.{Grows, IsSameKind, Keeps, KeyKeeps, SpaceValue}
+
+-- The state of this number stands for the machine, to which an act led from the state s of number left. If it is
+-- that one, it differs from the machine in what nobody reads alone.
+pub record IsKnown (plan : Plan) (setup : Setup) (v : SpaceValue) (left : ℕ) (s m : Machine) (k : ℕ) : Type 0 where
+  pub like : KeepsLike plan setup v k m
+  pub stays : k ≡ left → AreAlike s m
+
+-- to this the act led
+abbrev pub LeadsThere : Plan → Setup → SpaceValue → ℕ → Machine → Machine → Then → Type 0
+LeadsThere plan setup v left s m (then.Known k) = IsKnown plan setup v left s m k
+LeadsThere plan setup v left s m (then.New key) = KeyKeeps v.parts v.shareds key m
+
+-- what was found is so
+pub record IsFound (plan : Plan) (setup : Setup) (v : SpaceValue) (f : Finding) : Type 0 where
+  pub state : Machine
+  pub keeps : Keeps v f.state state
+  pub reached : IsReached plan setup state
+  pub act : Act
+  pub doing : slice_get plan.acts.items f.act ≡ Some act
+  pub event : f.event ≡ (next state act).1
+  pub then : LeadsThere plan setup v f.state state (after state act) f.then
+
+abbrev pub AreFound : Plan → Setup → SpaceValue → List Finding → Type 0
+AreFound plan setup v fs = (i : ℕ) (f : Finding) → slice_get fs i ≡ Some f → IsFound plan setup v f
+
+-- a helper with a machine of this setup, which found what is so
+pub record IsHelper (plan : Plan) (setup : Setup) (v : SpaceValue) (h : Helper) : Type 0 where
+  pub such : IsSuch setup h.machine
+  pub found : AreFound plan setup v h.findings.items
+
+abbrev pub AreHelpers : Plan → Setup → SpaceValue → List Helper → Type 0
+AreHelpers plan setup v hs = (i : ℕ) (h : Helper) → slice_get hs i ≡ Some h → IsHelper plan setup v h
+
+-- a helper with a machine of this setup, which has found nothing
+pub record IsFresh (setup : Setup) (h : Helper) : Type 0 where
+  pub such : IsSuch setup h.machine
+  pub none : h.findings.items ≡ []
+
+abbrev pub AreFresh : Setup → List Helper → Type 0
+AreFresh setup hs = (i : ℕ) (h : Helper) → slice_get hs i ≡ Some h → IsFresh setup h
+
+-- one of the helpers found it
+pub record IsOneOf (hs : List Helper) (f : Finding) : Type 0 where
+  pub at : ℕ
+  pub helper : Helper
+  pub is : slice_get hs at ≡ Some helper
+  pub place : ℕ
+  pub found : slice_get helper.findings.items place ≡ Some f
+
+-- what was found was kept, if there was room
+abbrev pub MayKeep : List Finding → List Finding → Option Finding → Type 0
+MayKeep old new found = (new ≡ old) ⊎ ((f : Finding) × (found ≡ Some f) × (new ≡ old ++ f ∷ []))
+
+-- acts of the plan may be tried, by a machine of this setup, on all states that were met
+pub record MayLook (plan : Plan) (v : SpaceValue) (setup : Setup) : Type 0 where
+  pub few : length setup.topology.sockets.items ≤ 8
+  pub begun : IsBegun plan setup
+  pub moves : OnlyMoves plan.extras setup plan.acts.items
+  pub good : (k : ℕ) → k < length v.keys → IsGood plan setup v k
+
+-- a helper may try them
+pub record IsReady (plan : Plan) (v : SpaceValue) (h : Helper) : Type 0 where
+  pub may : MayLook plan v h.machine.setup
+  pub such : IsSuch h.machine.setup h.machine
+
+abbrev pub AreReady : Plan → SpaceValue → List Helper → Type 0
+AreReady plan v hs = (i : ℕ) (d : Helper) → i < length hs → IsReady plan v (slice_index_or hs i d)
+
+-- a helper became one that has looked
+pub record HasLooked (plan : Plan) (v : SpaceValue) (old new : Helper) : Type 0 where
+  pub setup : new.machine.setup ≡ old.machine.setup
+  pub helper : IsHelper plan old.machine.setup v new
+
+-- the number is that of a state with this key, or of one that differs from it in what nobody reads alone; each new
+-- number is this one
+pub record IsKeyNoted (old new : SpaceValue) (key : Key) (k : ℕ) : Type 0 where
+  pub there : k < length new.keys
+  pub alike : (s t : Machine) → Keeps new k s → KeyKeeps new.parts new.shareds key t → IsSameKind s t → AreAlike s t
+  pub grows : Grows old new
+  pub one : (j : ℕ) → length old.keys ≤ j → j < length new.keys → (j ≡ k) × (slice_get new.keys j ≡ Some key)
+
+-- the number is that of the state to which the act led, or of one that stands for it: it gets one if there is none
+abbrev pub IsSettled : SpaceValue → SpaceValue → Then → ℕ → Type 0
+IsSettled old new (then.Known j) k = (k ≡ j) × (new ≡ old)
+IsSettled old new (then.New key) k = IsKeyNoted old new key k

@@ -1,0 +1,147 @@
+// Who tries the acts of an exploration: a machine, and helpers that try them ahead of it.
+
+ghost use Rattle.std.specs.Prelude.{◌≡◌, IfSome, Some, false, slice_get};
+ghost use Rattle.lk_reach.specs.Helped.{AreHelpers, IsOneOf, MayLook};
+
+use crate::found::Finding;
+use crate::helper::Helper;
+use crate::helpers::{Helpers, Part, look_at};
+use crate::plan::Plan;
+use crate::space::Space;
+use lk_machine::Machine;
+use std::thread::Threads;
+
+// How many states are tried ahead at most, so that what is found of them stays in the caches of the
+// processors.
+const MOST_AHEAD: usize = 16_384;
+
+// How many at least, since it takes as long as a few of them until all threads have begun.
+const LEAST_AHEAD: usize = 128;
+
+/// Who tries the acts.
+#[derive(Drop)]
+pub(crate) struct Crew<'a, R> {
+    pub machine: Machine,
+    pub helpers: Helpers<'a, R>,
+    /// The acts were tried ahead on states below this one.
+    ahead: usize,
+    /// Which helper found what is taken next, and where it stands.
+    at: usize,
+    next: usize,
+}
+
+impl<'a, R: Threads + Sync> Crew<'a, R> {
+    /// A machine and helpers that have not begun.
+    pub(crate) fn new(machine: Machine, helpers: Helpers<'a, R>) -> Crew<'a, R>
+        ensures machine { result.machine ≡ machine }
+        ensures helpers { result.helpers.list.items ≡ helpers.entry.list.items }
+    {
+        Crew {
+            machine,
+            helpers,
+            ahead: 0,
+            at: 0,
+            next: 0,
+        }
+    }
+
+    /// The machine, at the end.
+    pub(crate) fn machine(self) -> Machine
+        ensures { result ≡ self.entry.machine }
+    {
+        let Crew { machine, .. } = self;
+        machine
+    }
+
+    /// Lets the helpers try the acts on this state and the next ones, if they have not done so, and
+    /// there are enough.
+    pub(crate) fn look_ahead(&mut self, space: &mut Space, plan: &Plan, state: usize)
+        requires may { MayLook plan.now space.old self.old.machine.setup }
+        requires helpers { AreHelpers plan.now self.old.machine.setup space.old
+            self.old.helpers.list.items }
+        ensures helpers { AreHelpers plan.now self.old.machine.setup space.new
+            self.new.helpers.list.items }
+        ensures space { space.new ≡ space.old }
+        ensures machine { self.new.machine ≡ self.old.machine }
+    {
+        if plan.folds || state < self.ahead {
+            return;
+        }
+        let to = space.len().min(state.saturating_add(MOST_AHEAD));
+        if to.saturating_sub(state) < LEAST_AHEAD {
+            return;
+        }
+        space.begin_look();
+        self.ahead = to;
+        self.at = 0;
+        self.next = 0;
+        let rt = self.helpers.rt;
+        let part = Part { from: state, to };
+        look_at(rt, self.helpers.list.as_mut_slice(), space, plan, part);
+    }
+
+    // Goes on to a helper of whose findings some are left, if there is one.
+    fn turn(&mut self)
+        ensures helpers { self.new.helpers.list.items ≡ self.old.helpers.list.items }
+        ensures machine { self.new.machine ≡ self.old.machine }
+    {
+        for _gone in 0..self.helpers.list.len() {
+            let Some(helper) = self.helpers.list.get(self.at) else {
+                return;
+            };
+            if self.next < helper.findings.len() {
+                return;
+            }
+            self.at = self.at.saturating_add(1);
+            self.next = 0;
+        }
+    }
+
+    // What is taken next.
+    fn found(&self) -> Option<Finding>
+        ensures { IfSome result (IsOneOf self.now.helpers.list.items) }
+    {
+        let helper = helper_at(&self.helpers.list, self.at)?;
+        let finding = finding_at(&helper.findings, self.next)?;
+        Some(finding)
+    }
+
+    /// What a helper found of an act on a state, if it did. It is taken once, and in the order of the
+    /// states and of the acts.
+    pub(crate) fn take(&mut self, plan: &Plan, state: usize, act: usize) -> Option<Finding>
+        ensures one { IfSome result (IsOneOf self.old.helpers.list.items) }
+        ensures state { IfSome result (λ f. f.state ≡ state) }
+        ensures act { IfSome result (λ f. f.act ≡ act) }
+        ensures plain { IfSome result (λ f. plan.now.folds ≡ false) }
+        ensures helpers { self.new.helpers.list.items ≡ self.old.helpers.list.items }
+        ensures machine { self.new.machine ≡ self.old.machine }
+    {
+        if plan.folds || state >= self.ahead {
+            return None;
+        }
+        self.turn();
+        let finding = self.found()?;
+        if finding.state as usize != state || finding.act as usize != act {
+            return None;
+        }
+        self.next = self.next.saturating_add(1);
+        Some(finding)
+    }
+}
+
+// The helper at this place.
+fn helper_at(list: &Vec<Helper>, at: usize) -> Option<&Helper>
+    ensures { IfSome result (λ h. slice_get list.now.items at ≡ Some h.now) }
+{
+    list.get(at)
+}
+
+// The finding at this place.
+fn finding_at(findings: &Vec<Finding>, at: usize) -> Option<Finding>
+    ensures { IfSome result (λ f. slice_get findings.now.items at ≡ Some f) }
+{
+    match findings.get(at) {
+        Some(finding) => Some(*finding),
+        None => None,
+    }
+}

@@ -1,0 +1,105 @@
+// What can be said of a machine by those who only look at the states that were met.
+
+ghost use Rattle.std.specs.Prelude.{◌≡◌, ◌<◌, ◌≤◌, IfOk, IfSome, Some, length, slice_get};
+ghost use Rattle.lk_rows.specs.Machine.{Machine as MachineValue};
+ghost use Rattle.lk_idle.specs.Alike.{AreAlike};
+ghost use Rattle.lk_reach.specs.Helped.{IsKeyNoted};
+ghost use Rattle.lk_reach.specs.declared.key.Key.{Key as KeyValue};
+ghost use Rattle.lk_reach.specs.Space.{IsFormOf, IsNumbered, IsSameKind, Keeps, KeyKeeps};
+
+use crate::key::Key;
+use crate::space::Space;
+use lk_abs::Memory;
+use lk_machine::Machine;
+
+impl Space {
+    /// The key of what a machine is, if all its parts were met. The state `near` is one that differs
+    /// little from it, or any other.
+    pub(crate) fn key_seen(&self, machine: &Machine, near: usize) -> Option<Key>
+        requires few { length machine.now.cpus ≤ 8 }
+        ensures { IfSome result
+            (λ key. KeyKeeps self.now.parts self.now.shareds key machine.now) }
+    {
+        let near = self.near(near);
+        let shared = self.shareds.seen(machine, near.shared)?;
+        let mut cpus = near.cpus;
+        for cpu in 0..machine.cpus() {
+            let likely = cpus[cpu as usize];
+            let part = machine.cpu_part(cpu);
+            cpus[cpu as usize] = self.parts.seen(part, likely)?;
+        }
+        Some(Key { shared, cpus })
+    }
+
+    /// The number of the state with this key, or of one that differs from it in dead registers alone,
+    /// if it was met.
+    pub(crate) fn known(&self, key: &Key) -> Option<u32>
+        ensures there { IfSome result (λ k. k < length self.now.keys) }
+        ensures alike { IfSome result (λ k. (s t : MachineValue) → Keeps self.now k s
+            → KeyKeeps self.now.parts self.now.shareds key.now t → IsSameKind s t → AreAlike s t) }
+    {
+        self.formed();
+        let number = self.sought(key)?;
+        Some(number)
+    }
+
+    /// Says that helpers look next: what they do not find is sought among the states alone that are met
+    /// from here on.
+    pub(crate) fn begin_look(&mut self)
+        ensures { self.new ≡ self.old }
+    {
+        match self.recent.renew() {
+            Ok(()) | Err(_) => {}
+        }
+    }
+
+    // The number of a state with this form that was met since helpers looked, if it is found.
+    fn find_recent(&self, form: &Key, hash: u64) -> Option<u32>
+        ensures { IfSome result (λ k. (item : KeyValue) × (slice_get self.now.keys k ≡ Some item)
+            × IsFormOf self.now.classes item form.now) }
+    {
+        let mut at = self.recent.home(hash);
+        for _ in 0..self.recent.len() {
+            let number = self.recent.number(at)?;
+            if self.has_form(number as usize, form) {
+                return Some(number);
+            }
+            at = self.recent.behind(at);
+        }
+        None
+    }
+
+    // The number of the state with this key, which has this form, or of one of the same form that was
+    // met since helpers looked. It gets one if there is none.
+    fn number_recent(&mut self, key: &Key, form: &Key) -> Result<u32, Memory>
+        requires { IsFormOf self.old.classes key.now form.now }
+        ensures { IfOk result (λ k. IsNumbered self.old self.new key.now k) }
+    {
+        let hash = form.number();
+        match self.find_recent(form, hash) {
+            Some(number) => Ok(number),
+            None => self.add(key, hash),
+        }
+    }
+
+    // The number of the state with this key, which helpers did not find, or of one of the same form. It
+    // gets one if there is none.
+    fn number_unseen(&mut self, key: &Key) -> Result<u32, Memory>
+        ensures { IfOk result (λ k. IsNumbered self.old self.new key.now k) }
+    {
+        match self.form_of(key) {
+            Some(form) if self.recent.has_all() => self.number_recent(key, &form),
+            _ => self.number(key),
+        }
+    }
+
+    /// The number of the state with this key, which helpers did not find, or of one that differs from it
+    /// in dead registers alone. It gets one if there is none.
+    pub(crate) fn note_key(&mut self, key: &Key) -> Result<u32, Memory>
+        ensures { IfOk result (λ k. IsKeyNoted self.old self.new key.now k) }
+    {
+        let number = self.number_unseen(key)?;
+        self.formed();
+        Ok(number)
+    }
+}
