@@ -5,7 +5,7 @@ use Rattle.std.proofs.lemmas.Option.{slice_get_within}
 use Rattle.std.specs.Prelude.{slice_get}
 use Rattle.lk_abs.specs.declared.events.Act.{Act}
 use Rattle.lk_rows.specs.Machine.{Machine}
-use Rattle.lk_reach.specs.declared.book.Origin.{Origin}
+use Rattle.lk_reach.specs.declared.origin.Origin.{Origin}
 use Rattle.lk_reach.specs.declared.graph.Graph.{Graph}
 use Rattle.lk_reach.specs.Reach.{AreMoves, state_after}
 use Rattle.lk_reach.specs.Folded.{StandsFor}
@@ -38,7 +38,7 @@ module _ (laws : Laws) (g : Graph) (is : IsGraph g) where
       ]
 
   within : (most k : ℕ) → k < length g.space.keys
-      → ((p : Origin) → slice_get g.book.origins.items k ≡ Some p → p.level ≤ most) → IsWithin g most k
+      → ((p : Origin) → slice_get g.book.origins k ≡ Some p → p.level ≤ most) → IsWithin g most k
   within most k low level =
       let way = from_first k k k [] (omega arith) low (leads_start g k) in
       let to = way_to laws g is k way.0 low way.1 in
@@ -49,7 +49,7 @@ module _ (laws : Laws) (g : Graph) (is : IsGraph g) where
       }
 
   pub deepest_is : (n : ℕ)
-      → ((o : Origin) → slice_get g.book.origins.items (length g.space.keys - 1) ≡ Some o → n ≡ o.level) → IsDeepest g n
+      → ((o : Origin) → slice_get g.book.origins (length g.space.keys - 1) ≡ Some o → n ≡ o.level) → IsDeepest g n
   deepest_is n level = record {
     enough = each;
     all = λ whole acts moves. like whole acts moves;
@@ -66,18 +66,18 @@ module _ (laws : Laws) (g : Graph) (is : IsGraph g) where
       last : ℕ
       last = length g.space.keys - 1
 
-      o : (o : Origin) × (slice_get g.book.origins.items last ≡ Some o)
+      o : (o : Origin) × (slice_get g.book.origins last ≡ Some o)
       o = has_origin g.plan g.machine.setup g.space g.book g.left last is.explored (omega (arith, some))
 
       is_n : n ≡ o.0.level
       is_n = level o.0 o.1
 
-      top : (k : ℕ) → k < length g.space.keys → (p : Origin) → slice_get g.book.origins.items k ≡ Some p → p.level ≤ n
+      top : (k : ℕ) → k < length g.space.keys → (p : Origin) → slice_get g.book.origins k ≡ Some p → p.level ≤ n
       top k low p at =
           elim (cases_eq k last) [
             | inl e ↦
-                let same : p ≡ o.0 = one_value (slice_get g.book.origins.items last) p o.0
-                (subst (λ (h : ℕ). slice_get g.book.origins.items h ≡ Some p) e at) o.1 in
+                let same : p ≡ o.0 = one_value (slice_get g.book.origins last) p o.0
+                (subst (λ (h : ℕ). slice_get g.book.origins h ≡ Some p) e at) o.1 in
                 let level = ap (λ (q : Origin). q.level) same in
                 omega (arith, level, is_n)
             | inr ne ↦

@@ -4,7 +4,7 @@ use Rattle.std.proofs.Common.{◌⊎◌}
 use Rattle.std.proofs.lemmas.Bool.{cases_eq}
 use Rattle.std.specs.Prelude.{slice_get, slice_set}
 use Rattle.lk_abs.specs.declared.events.Event.{Event}
-use Rattle.lk_reach.specs.declared.book.Origin.{Origin}
+use Rattle.lk_reach.specs.declared.origin.Origin.{Origin}
 use Rattle.lk_reach.specs.Explored.{AddsFirst, IsOf}
 use Rattle.lk_reach.specs.Kinds.{kind_value}
 use Rattle.std.proofs.lemmas.Option.{slice_get_within}

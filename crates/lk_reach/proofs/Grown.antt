@@ -7,7 +7,7 @@ use Rattle.lk_rows.specs.Machine.{Machine}
 use Rattle.lk_abs.specs.declared.events.Event.{Event}
 use Rattle.lk_abs.proofs.ByIndex.{get-append}
 use Rattle.lk_reach.specs.declared.book.Book.{Book}
-use Rattle.lk_reach.specs.declared.book.Origin.{Origin}
+use Rattle.lk_reach.specs.declared.origin.Origin.{Origin}
 use Rattle.lk_reach.specs.declared.plan.Plan.{Plan}
 use Rattle.lk_reach.specs.Kinds.{kind_value}
 use Rattle.lk_reach.specs.Reach.{after}
@@ -30,7 +30,7 @@ pub continues : (b c : Book) (state act then : ℕ) (event : Option Event) → a
     → Writes b c state act then event → Continues b c
 continues b c state act then event low w = record {
   thens = leads_grown b c act then low w.thens;
-  origins = origin_front b.origins.items c.origins.items then w.origin w.origins;
+  origins = origin_front b.origins c.origins then w.origin w.origins;
   firsts = w.firsts.kept;
 }
 
@@ -69,7 +69,7 @@ module _ (plan : Plan) (setup : Setup) where
       keeps = keeps_grown v w g o.state x.state x.keeps;
       reached = x.reached;
       before = x.before;
-      was = front_at b.origins.items c.origins.items more.origins o.state x.before x.was;
+      was = front_at b.origins c.origins more.origins o.state x.before x.was;
       level = x.level;
       act = x.act;
       doing = x.doing;
@@ -95,7 +95,7 @@ module _ (plan : Plan) (setup : Setup) where
       number = x.number;
       like = like_grown v w g x.number s x.like;
       origin = x.origin;
-      is = front_at b.origins.items c.origins.items more.origins x.number x.origin x.is;
+      is = front_at b.origins c.origins more.origins x.number x.origin x.is;
       soon = x.soon;
     }
 
@@ -115,6 +115,6 @@ module _ (plan : Plan) (setup : Setup) where
       keeps = keeps_grown v w g k x.state x.keeps;
       reached = x.reached;
       origin = x.origin;
-      is = front_at b.origins.items c.origins.items more.origins k x.origin x.is;
+      is = front_at b.origins c.origins more.origins k x.origin x.is;
       next = λ i a at. tried_grown k i (x.origin.level + 1) x.state a (x.next i a at);
     }

@@ -198,11 +198,9 @@ got xs ys i x e h =
     subst (λ zs. slice_get zs i ≡ Some x) e (slice_get-get_or xs i x h.0 ∙ ap Some (sym (h.1 x)))
 
 -- the key that stands at a number is the key of the state that is kept there
-pub key_there : (v : SpaceValue) (k : ℕ) (s : Machine) (key : Key) (has : Keeps v k s) → key ≡ get_or v.keys k key
+pub key_there : (v : SpaceValue) (k : ℕ) (s : Machine) (key : Key) (has : Keeps v k s) → slice_get v.keys k ≡ Some key
     → has.key ≡ key
-key_there v k s key has at =
-    one_value (slice_get v.keys k) has.key key has.is
-    (slice_get-get_or v.keys k key (slice_get_within v.keys k has.key has.is) ∙ ap Some (sym at))
+key_there v k s key has at = one_value (slice_get v.keys k) has.key key has.is at
 
 -- and its numbers are those of the state's parts
 pub part_there : (v : SpaceValue) (k : ℕ) (s : Machine) (key : Key) (has : Keeps v k s) → has.key ≡ key

@@ -10,7 +10,7 @@ use Rattle.lk_rows.specs.Machine.{Machine}
 use Rattle.lk_rows.specs.Acts.{next}
 use Rattle.lk_rows.specs.Run.{machine_after}
 use Rattle.lk_reach.specs.declared.book.Book.{Book}
-use Rattle.lk_reach.specs.declared.book.Origin.{Origin}
+use Rattle.lk_reach.specs.declared.origin.Origin.{Origin}
 use Rattle.lk_reach.specs.declared.plan.Plan.{Plan}
 use Rattle.lk_reach.specs.Explored.{AreAllMoves, IsExplored, IsLeft, IsMet, KeepsLike}
 use Rattle.lk_reach.specs.Folded.{StandsFor}
@@ -58,7 +58,7 @@ module _ (laws : Laws) (plan : Plan) (setup : Setup) (begun : IsBegun plan setup
   -- Each schedule leads to a state that was met by as few acts, if each state that takes fewer was left.
   module _ (v : SpaceValue) (b : Book) (left most : ℕ)
       (moved : AreAllMoves plan.extras setup plan.acts.items) (all : (k : ℕ) → k < left → IsLeft plan setup v b k)
-      (low : (i : ℕ) (o : Origin) → slice_get b.origins.items i ≡ Some o → o.level < most → i < left) where
+      (low : (i : ℕ) (o : Origin) → slice_get b.origins i ≡ Some o → o.level < most → i < left) where
     one_more : (n : ℕ) (s : Machine) (a : Act) → n < most → IsReached plan setup s → IsMove plan.extras setup a
         → IsMet plan setup v b n s → IsMet plan setup v b (n + 1) (after s a)
     one_more n s a room reached move met =
@@ -66,7 +66,7 @@ module _ (laws : Laws) (plan : Plan) (setup : Setup) (begun : IsBegun plan setup
         let x = all met.number (low met.number met.origin met.is (omega (arith, soon, room))) in
         let stands = like_is v met.number x.state s x.keeps x.reached met.like in
         let step = steps plan setup begun x.state s x.reached reached stands a move in
-        let origin : x.origin ≡ met.origin = one_value (slice_get b.origins.items met.number) x.origin met.origin x.is met.is in
+        let origin : x.origin ≡ met.origin = one_value (slice_get b.origins met.number) x.origin met.origin x.is met.is in
         let level = ap (λ (o : Origin). o.level) origin in
         let at = moved.all step.act step.move in
         met_sooner v b (x.origin.level + 1) (n + 1) (after s a) (omega (arith, level, soon))
@@ -87,7 +87,7 @@ module _ (laws : Laws) (plan : Plan) (setup : Setup) (begun : IsBegun plan setup
 
   pub all_met : (v : SpaceValue) (b : Book) (left : ℕ) → IsExplored plan setup v b left → (acts : List Act)
       → AreMoves plan.extras setup acts
-      → ((i : ℕ) (o : Origin) → slice_get b.origins.items i ≡ Some o → o.level < length acts → i < left)
+      → ((i : ℕ) (o : Origin) → slice_get b.origins i ≡ Some o → o.level < length acts → i < left)
       → IsMet plan setup v b (length acts) (state_after plan setup acts)
   all_met v b left x acts moves low =
       let level = x.first.level in
@@ -113,23 +113,23 @@ module _ (laws : Laws) (plan : Plan) (setup : Setup) (begun : IsBegun plan setup
   whole_met v b left x whole acts moves =
       let count = x.count in
       all_met v b left x acts moves
-      (λ i o at soon. let within = slice_get_within b.origins.items i o at in omega (arith, within, count, whole))
+      (λ i o at soon. let within = slice_get_within b.origins i o at in omega (arith, within, count, whole))
 
   -- who takes fewer acts than the state that is left next was left
   pub soon_left : (v : SpaceValue) (b : Book) (left most : ℕ) → IsExplored plan setup v b left → left ≤ length v.keys
-      → ((p : Origin) → slice_get b.origins.items left ≡ Some p → most ≤ p.level)
-      → (i : ℕ) (o : Origin) → slice_get b.origins.items i ≡ Some o → o.level < most → i < left
+      → ((p : Origin) → slice_get b.origins left ≡ Some p → most ≤ p.level)
+      → (i : ℕ) (o : Origin) → slice_get b.origins i ≡ Some o → o.level < most → i < left
   soon_left v b left most x within high i o is few =
       elim (cases_lt i left) [
         | inl low ↦ low
-        | inr not_so ↦ elim (get_cases b.origins.items left) [
+        | inr not_so ↦ elim (get_cases b.origins left) [
           | inl none ↦ absurd (past left not_so none)
           | inr some ↦
               let up = high some.0 some.1 in
               elim (cases_eq left i) [
                 | inl e ↦
-                    let same : some.0 ≡ o = one_value (slice_get b.origins.items i) some.0 o
-                    (subst (λ (h : ℕ). slice_get b.origins.items h ≡ Some some.0) e some.1) is in
+                    let same : some.0 ≡ o = one_value (slice_get b.origins i) some.0 o
+                    (subst (λ (h : ℕ). slice_get b.origins h ≡ Some some.0) e some.1) is in
                     let level = ap (λ (q : Origin). q.level) same in
                     absurd (omega (arith, level, up, few))
                 | inr ne ↦
@@ -139,15 +139,15 @@ module _ (laws : Laws) (plan : Plan) (setup : Setup) (begun : IsBegun plan setup
         ]
       ]
     where
-      past : (n : ℕ) → n ≤ i → slice_get b.origins.items n ≡ None → ⊥
+      past : (n : ℕ) → n ≤ i → slice_get b.origins n ≡ None → ⊥
       past n high none =
-          let inside = slice_get_within b.origins.items i o is in
-          let e = slice_get-get_or b.origins.items n o (omega (arith, inside, high)) in
+          let inside = slice_get_within b.origins i o is in
+          let e = slice_get-get_or b.origins n o (omega (arith, inside, high)) in
           cc
 
   -- A schedule that is shorter than the level of a number leads to a state with a lower number.
   pub no_sooner : (v : SpaceValue) (b : Book) (left : ℕ) → IsExplored plan setup v b left → left ≤ length v.keys
-      → (k : ℕ) (o : Origin) → slice_get b.origins.items k ≡ Some o → (acts : List Act)
+      → (k : ℕ) (o : Origin) → slice_get b.origins k ≡ Some o → (acts : List Act)
       → AreMoves plan.extras setup acts → length acts < o.level
       → (j : ℕ) × (j < k) × KeepsLike plan setup v j (state_after plan setup acts)
   no_sooner v b left x within k o at acts moves short =
@@ -156,14 +156,14 @@ module _ (laws : Laws) (plan : Plan) (setup : Setup) (begun : IsBegun plan setup
       let soon = met.soon in
       (met.number, before met.number met.origin met.is (omega (arith, soon, short)), met.like)
     where
-      before : (j : ℕ) (p : Origin) → slice_get b.origins.items j ≡ Some p → p.level < o.level → j < k
+      before : (j : ℕ) (p : Origin) → slice_get b.origins j ≡ Some p → p.level < o.level → j < k
       before j p is less =
           elim (cases_lt j k) [
             | inl low ↦ low
             | inr not_so ↦ elim (cases_eq j k) [
               | inl e ↦
-                  let same : p ≡ o = one_value (slice_get b.origins.items k) p o
-                  (subst (λ (h : ℕ). slice_get b.origins.items h ≡ Some p) e is) at in
+                  let same : p ≡ o = one_value (slice_get b.origins k) p o
+                  (subst (λ (h : ℕ). slice_get b.origins h ≡ Some p) e is) at in
                   let level = ap (λ (q : Origin). q.level) same in
                   absurd (omega (arith, level, less))
               | inr ne ↦ let more = x.sorted k j o p at is (omega (arith, not_so, ne)) in absurd (omega (arith, more, less))

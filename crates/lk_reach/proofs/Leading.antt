@@ -9,7 +9,7 @@ use Rattle.lk_rows.specs.Acts.{next}
 use Rattle.lk_rows.specs.Machine.{Machine}
 use Rattle.lk_rows.specs.declared.setup.Setup.{Setup}
 use Rattle.lk_reach.specs.declared.book.Book.{Book}
-use Rattle.lk_reach.specs.declared.book.Origin.{Origin}
+use Rattle.lk_reach.specs.declared.origin.Origin.{Origin}
 use Rattle.lk_reach.specs.declared.graph.Graph.{Graph}
 use Rattle.lk_reach.specs.declared.plan.Plan.{Plan}
 use Rattle.lk_reach.specs.Explored.{AreColumns, IsExplored, IsOrigin, IsSuch, IsTold, KeepsLike}
@@ -30,14 +30,14 @@ use Rattle.lk_reach.proofs.Left.{none_there}
 pub record LeadsOn (g : Graph) (j k : ℕ) (acts : List Act) : Type 0 where
   pub moves : AreMoves g.plan.extras g.machine.setup acts
   pub leads : (s : Machine) → Keeps g.space j s → IsReached g.plan g.machine.setup s → Keeps g.space k (run s acts)
-  pub count : (o p : Origin) → slice_get g.book.origins.items j ≡ Some o → slice_get g.book.origins.items k ≡ Some p
+  pub count : (o p : Origin) → slice_get g.book.origins j ≡ Some o → slice_get g.book.origins k ≡ Some p
       → o.level + length acts ≡ p.level
 
 pub leads_start : (g : Graph) (k : ℕ) → LeadsOn g k k []
 leads_start g k = record {
   moves = tt;
   leads = λ s keeps reached. keeps;
-  count = λ o p a b. let e = ap (λ (q : Origin). q.level) (one_value (slice_get g.book.origins.items k) o p a b) in omega (arith, e);
+  count = λ o p a b. let e = ap (λ (q : Origin). q.level) (one_value (slice_get g.book.origins k) o p a b) in omega (arith, e);
 }
 
 -- each state but the first was met from one with a lower number
@@ -69,8 +69,8 @@ module _ (laws : Laws) (g : Graph) (is : IsGraph g) where
         count = λ p q here there.
             let rest = x.count before.origin q before.is there in
             let level = o.made.level in
-            let was = ap (λ (r : Origin). r.level) (one_value (slice_get g.book.origins.items i) o.made.before p
-            (subst (λ (h : ℕ). slice_get g.book.origins.items h ≡ Some o.made.before) before.from o.made.was) here) in
+            let was = ap (λ (r : Origin). r.level) (one_value (slice_get g.book.origins i) o.made.before p
+            (subst (λ (h : ℕ). slice_get g.book.origins h ≡ Some o.made.before) before.from o.made.was) here) in
             omega (arith, rest, level, was);
       }
 
@@ -80,7 +80,7 @@ module _ (laws : Laws) (g : Graph) (is : IsGraph g) where
   path_leads (a ∷ acts) i k x = leads_then i x.0 k a acts x.2 x.1 (path_leads acts x.0 k x.3)
 
   -- acts from the first state on
-  pub way : (k : ℕ) (o : Origin) (acts : List Act) → slice_get g.book.origins.items k ≡ Some o → LeadsOn g 0 k acts
+  pub way : (k : ℕ) (o : Origin) (acts : List Act) → slice_get g.book.origins k ≡ Some o → LeadsOn g 0 k acts
       → IsWay g k acts
   way k o acts at x =
       let start = reached_start laws g.plan g.machine.setup is.begun in
@@ -148,10 +148,10 @@ module _ (laws : Laws) (g : Graph) (is : IsGraph g) where
   -- and each state that was met has an origin
   pub way_to : (k : ℕ) (acts : List Act) → k < length g.space.keys → LeadsOn g 0 k acts → IsWay g k acts
   way_to k acts low x =
-      elim (get_cases g.book.origins.items k) [
+      elim (get_cases g.book.origins k) [
         | inl none ↦
             let count = is.explored.count in
-            absurd (none_there g.book.origins.items k (omega (arith, low, count)) none)
+            absurd (none_there g.book.origins k (omega (arith, low, count)) none)
         | inr some ↦ way k some.0 acts some.1 x
       ]
 
@@ -180,7 +180,7 @@ module _ (laws : Laws) (g : Graph) (is : IsGraph g) where
 
   -- an event behind acts that lead to a state that was left
   telling_first : (kind : ℕ) (acts : List Act) (a : Act) → Tells g kind acts a
-      → ((i : ℕ) (o : Origin) → slice_get g.book.origins.items i ≡ Some o → o.level < length acts + 1 → i < g.left)
+      → ((i : ℕ) (o : Origin) → slice_get g.book.origins i ≡ Some o → o.level < length acts + 1 → i < g.left)
       → IsTold g.book kind (length acts + 1)
   telling_first kind acts a t low =
       let s = state_after g.plan g.machine.setup acts in
@@ -191,7 +191,7 @@ module _ (laws : Laws) (g : Graph) (is : IsGraph g) where
       let stands = like_is laws g.plan g.machine.setup is.begun g.space met.number l.state s l.keeps l.reached met.like in
       let step = steps g.plan g.machine.setup is.begun l.state s l.reached
       (record { acts = acts; moves = t.moves; there = refl }) stands a t.move in
-      let level = ap (λ (q : Origin). q.level) (one_value (slice_get g.book.origins.items met.number) l.origin met.origin l.is met.is) in
+      let level = ap (λ (q : Origin). q.level) (one_value (slice_get g.book.origins met.number) l.origin met.origin l.is met.is) in
       let at = is.explored.acts.all step.act step.move in
       let told = told_so kind (l.origin.level + 1) t.event (next l.state step.act).1 (step.told t.event t.tells) t.is
       (l.next at.0 step.act at.1).told in
@@ -213,7 +213,7 @@ module _ (laws : Laws) (g : Graph) (is : IsGraph g) where
               let made = (is.explored.tellings kind o here).made in
               let up = made.level in
               let count = to.count in
-              let level = ap (λ (q : Origin). q.level) (one_value (slice_get g.book.origins.items o.state) made.before to.origin made.was to.is) in
+              let level = ap (λ (q : Origin). q.level) (one_value (slice_get g.book.origins o.state) made.before to.origin made.was to.is) in
               let told = telling_first kind others b t (soon_left laws g.plan g.machine.setup is.begun g.space g.book g.left
               (length others + 1) is.explored is.within
               (λ p at. let near = is.explored.told_near kind o p here at in omega (arith, near, up, level, count, less))) in
@@ -231,7 +231,7 @@ module _ (laws : Laws) (g : Graph) (is : IsGraph g) where
   never_told kind whole none acts a t =
       let count = is.explored.count in
       let told = telling_first kind acts a t
-      (λ i o at few. let low = slice_get_within g.book.origins.items i o at in omega (arith, low, count, whole)) in
+      (λ i o at few. let low = slice_get_within g.book.origins i o at in omega (arith, low, count, whole)) in
       none told.origin told.is
 
 -- the acts by which the state that is left was met

@@ -12,7 +12,7 @@ use Rattle.lk_abs.specs.declared.events.Event.{Event}
 use Rattle.lk_abs.proofs.ByIndex.{get_cases}
 use Rattle.lk_rows.specs.Acts.{next}
 use Rattle.lk_reach.specs.declared.book.Book.{Book}
-use Rattle.lk_reach.specs.declared.book.Origin.{Origin}
+use Rattle.lk_reach.specs.declared.origin.Origin.{Origin}
 use Rattle.lk_reach.specs.declared.plan.Plan.{Plan}
 use Rattle.lk_reach.specs.Kinds.{kind_value}
 use Rattle.lk_reach.specs.Reach.{IsBegun, IsMove, IsReached, after, bare, start_of}
@@ -103,12 +103,12 @@ pub record IsMade (plan : Plan) (setup : Setup) (v w : SpaceValue) (b c : Book) 
 module _ (plan : Plan) (setup : Setup) where
   -- what is met has an origin
   pub has_origin : (v : SpaceValue) (b : Book) (left k : ℕ) → IsExplored plan setup v b left → k < length v.keys
-      → (o : Origin) × (slice_get b.origins.items k ≡ Some o)
+      → (o : Origin) × (slice_get b.origins k ≡ Some o)
   has_origin v b left k x low =
-      elim (get_cases b.origins.items k) [
+      elim (get_cases b.origins k) [
         | inl none ↦
             let count = x.count in
-            absurd (none_there b.origins.items k (omega (arith, low, count)) none)
+            absurd (none_there b.origins k (omega (arith, low, count)) none)
         | inr some ↦ some
       ]
 
@@ -218,7 +218,7 @@ module _ (plan : Plan) (setup : Setup) where
     then_low : made.then < length w.keys
     then_low = noted.there
 
-    count : length c.origins.items ≡ length w.keys
+    count : length c.origins ≡ length w.keys
     count =
         let grown = grows_keys v w noted.grows in
         let before = x.count in
@@ -232,7 +232,7 @@ module _ (plan : Plan) (setup : Setup) where
               ]
           | inr new ↦
               let is_next = new.0 in
-              let size = ap length new.1 ∙ length-append b.origins.items (origin ∷ []) in
+              let size = ap length new.1 ∙ length-append b.origins (origin ∷ []) in
               let low = then_low in
               elim (cases_lt (length v.keys + 1) (length w.keys)) [
                 | inl wider ↦
@@ -249,8 +249,8 @@ module _ (plan : Plan) (setup : Setup) where
           (keeps_grown v w noted.grows k half.state half.keeps);
       reached = half.reached;
       before = made.writes.next.before;
-      was = subst (λ (h : ℕ). slice_get c.origins.items h ≡ Some made.writes.next.before) (sym made.writes.next.from)
-          (front_at b.origins.items c.origins.items more.origins k made.writes.next.before made.writes.next.was);
+      was = subst (λ (h : ℕ). slice_get c.origins h ≡ Some made.writes.next.before) (sym made.writes.next.from)
+          (front_at b.origins c.origins more.origins k made.writes.next.before made.writes.next.was);
       level = made.writes.next.level;
       act = a;
       doing = subst (λ (h : ℕ). slice_get plan.acts.items h ≡ Some a) (sym made.writes.next.by) made.doing;
@@ -259,14 +259,14 @@ module _ (plan : Plan) (setup : Setup) where
     -- its level is one more than that of the state that is left
     level : origin.level ≡ half.origin.level + 1
     level = made.writes.next.level ∙ ap (λ (o : Origin). o.level + 1)
-        (one_value (slice_get b.origins.items k) made.writes.next.before half.origin made.writes.next.was half.is)
+        (one_value (slice_get b.origins k) made.writes.next.before half.origin made.writes.next.was half.is)
 
-    old_low : k < length b.origins.items
-    old_low = slice_get_within b.origins.items k half.origin half.is
+    old_low : k < length b.origins
+    old_low = slice_get_within b.origins k half.origin half.is
 
-    low_level : (i : ℕ) (o : Origin) → slice_get c.origins.items i ≡ Some o → o.level ≤ half.origin.level + 1
+    low_level : (i : ℕ) (o : Origin) → slice_get c.origins i ≡ Some o → o.level ≤ half.origin.level + 1
     low_level i o here =
-        elim (origin_cases b.origins.items c.origins.items made.then origin made.writes.origins i o here) [
+        elim (origin_cases b.origins c.origins made.then origin made.writes.origins i o here) [
           | inl old ↦ x.near i o half.origin old half.is
           | inr new ↦ let e = ap (λ (p : Origin). p.level) new.2 in let up = level in omega (arith, e, up)
         ]
@@ -278,8 +278,8 @@ module _ (plan : Plan) (setup : Setup) where
           | inr new ↦ let e = ap (λ (p : Origin). p.level) new.same in let up = level in omega (arith, e, up)
         ]
 
-    here_is : slice_get c.origins.items k ≡ Some half.origin
-    here_is = front_at b.origins.items c.origins.items more.origins k half.origin half.is
+    here_is : slice_get c.origins k ≡ Some half.origin
+    here_is = front_at b.origins c.origins more.origins k half.origin half.is
 
     pub explored_then : IsExplored plan setup w c k
     explored_then = record {
@@ -288,12 +288,12 @@ module _ (plan : Plan) (setup : Setup) where
       first = record {
         keeps = keeps_grown v w noted.grows 0 (bare (start_of plan setup)) x.first.keeps;
         origin = x.first.origin;
-        is = front_at b.origins.items c.origins.items more.origins 0 x.first.origin x.first.is;
+        is = front_at b.origins c.origins more.origins 0 x.first.origin x.first.is;
         level = x.first.level;
       };
       good = good;
       origins = λ i o here up.
-          elim (origin_cases b.origins.items c.origins.items made.then origin made.writes.origins i o here) [
+          elim (origin_cases b.origins c.origins made.then origin made.writes.origins i o here) [
             | inl old ↦ origin_grown plan setup v w noted.grows b c more o i (x.origins i o old up)
             | inr new ↦
                 let from = made.writes.next.from in
@@ -307,12 +307,12 @@ module _ (plan : Plan) (setup : Setup) where
                 }))
           ];
       sorted = λ i j o p here there before.
-          elim (origin_cases b.origins.items c.origins.items made.then origin made.writes.origins j p there) [
+          elim (origin_cases b.origins c.origins made.then origin made.writes.origins j p there) [
             | inl old ↦
-                elim (origin_cases b.origins.items c.origins.items made.then origin made.writes.origins i o here) [
+                elim (origin_cases b.origins c.origins made.then origin made.writes.origins i o here) [
                   | inl first ↦ x.sorted i j o p first old before
                   | inr last ↦
-                      let low = slice_get_within b.origins.items j p old in
+                      let low = slice_get_within b.origins j p old in
                       let at = last.0 in
                       absurd (omega (arith, low, at, before))
                 ]
@@ -323,7 +323,7 @@ module _ (plan : Plan) (setup : Setup) where
                 omega (arith, most, e, up)
           ];
       near = λ i o p here now.
-          let e = ap (λ (q : Origin). q.level) (one_value (slice_get c.origins.items k) p half.origin now here_is) in
+          let e = ap (λ (q : Origin). q.level) (one_value (slice_get c.origins k) p half.origin now here_is) in
           let most = low_level i o here in
           omega (arith, most, e);
       tellings = λ kind o here.
@@ -338,7 +338,7 @@ module _ (plan : Plan) (setup : Setup) where
                 })
           ];
       told_near = λ kind o p here now.
-          let e = ap (λ (q : Origin). q.level) (one_value (slice_get c.origins.items k) p half.origin now here_is) in
+          let e = ap (λ (q : Origin). q.level) (one_value (slice_get c.origins k) p half.origin now here_is) in
           let most = told_level kind o here in
           omega (arith, most, e);
       left = λ i low. left_grown plan setup v w noted.grows b c more i (x.left i low);
@@ -418,7 +418,7 @@ module _ (plan : Plan) (setup : Setup) where
         folds = folds;
       }
     where
-      size : n < length v.keys → 0 ≡ n → length b.origins.items ≡ length v.keys
+      size : n < length v.keys → 0 ≡ n → length b.origins ≡ length v.keys
       size low zero_is =
           let single = ap length new.origins in
           elim (cases_lt 1 (length v.keys)) [
@@ -426,19 +426,19 @@ module _ (plan : Plan) (setup : Setup) where
             | inr not_so ↦ omega (arith, single, low, not_so)
           ]
 
-      alone : (k : ℕ) (o : Origin) → slice_get b.origins.items k ≡ Some o → 0 < k → ⊥
+      alone : (k : ℕ) (o : Origin) → slice_get b.origins k ≡ Some o → 0 < k → ⊥
       alone k o here up =
-          let low = slice_get_within b.origins.items k o here in
+          let low = slice_get_within b.origins k o here in
           let single = ap length new.origins in
           omega (arith, low, single, up)
 
-      level_zero : (i : ℕ) (o : Origin) → slice_get b.origins.items i ≡ Some o → o.level ≡ 0
+      level_zero : (i : ℕ) (o : Origin) → slice_get b.origins i ≡ Some o → o.level ≡ 0
       level_zero i o here = elim (cases_lt 0 i) [
         | inl up ↦ absurd (alone i o here up)
         | inr not_so ↦
             let is : i ≡ 0 = omega (arith, not_so) in
-            let same = one_value (slice_get b.origins.items 0) o new.origin
-            (subst (λ (h : ℕ). slice_get b.origins.items h ≡ Some o) is here)
+            let same = one_value (slice_get b.origins 0) o new.origin
+            (subst (λ (h : ℕ). slice_get b.origins h ≡ Some o) is here)
             (ap (λ (os : List Origin). slice_get os 0) new.origins) in
             ap (λ (p : Origin). p.level) same ∙ new.level
       ]

@@ -6,6 +6,7 @@ pub mod Known
 pub mod Columns
 pub mod Deepest
 pub mod Kept
+pub mod Listed
 pub mod Formed
 pub mod Grown
 pub mod Left

@@ -9,7 +9,7 @@ use Rattle.lk_rows.specs.Acts.{next}
 use Rattle.lk_law.specs.Sound.{IsSound}
 use Rattle.lk_idle.specs.Alike.{AreAlike}
 use Rattle.lk_reach.specs.declared.book.Book.{Book}
-use Rattle.lk_reach.specs.declared.book.Origin.{Origin}
+use Rattle.lk_reach.specs.declared.origin.Origin.{Origin}
 use Rattle.lk_reach.specs.declared.plan.Extras.{Extras}
 use Rattle.lk_reach.specs.declared.plan.Plan.{Plan}
 use Rattle.lk_reach.specs.Edges.{edges_in, one_away}
@@ -56,7 +56,7 @@ pub record IsAct (plan : Plan) (setup : Setup) (v : SpaceValue) (b : Book) (o : 
   pub keeps : Keeps v o.state state
   pub reached : IsReached plan setup state
   pub before : Origin
-  pub was : slice_get b.origins.items o.state ≡ Some before
+  pub was : slice_get b.origins o.state ≡ Some before
   pub level : o.level ≡ before.level + 1
   pub act : Act
   pub doing : slice_get plan.acts.items o.act ≡ Some act
@@ -85,7 +85,7 @@ pub record IsMet (plan : Plan) (setup : Setup) (v : SpaceValue) (b : Book) (most
   pub number : ℕ
   pub like : KeepsLike plan setup v number s
   pub origin : Origin
-  pub is : slice_get b.origins.items number ≡ Some origin
+  pub is : slice_get b.origins number ≡ Some origin
   pub soon : origin.level ≤ most
 
 -- the act of number i was made on the state of number k, and led to that of number j
@@ -109,7 +109,7 @@ pub record IsHalfLeft (plan : Plan) (setup : Setup) (v : SpaceValue) (b : Book) 
   pub keeps : Keeps v k state
   pub reached : IsReached plan setup state
   pub origin : Origin
-  pub is : slice_get b.origins.items k ≡ Some origin
+  pub is : slice_get b.origins k ≡ Some origin
   pub next : (i : ℕ) (a : Act) → i < n → slice_get acts i ≡ Some a
       → IsTried plan setup v b k i (origin.level + 1) state a
 
@@ -119,7 +119,7 @@ pub record IsLeft (plan : Plan) (setup : Setup) (v : SpaceValue) (b : Book) (k :
   pub keeps : Keeps v k state
   pub reached : IsReached plan setup state
   pub origin : Origin
-  pub is : slice_get b.origins.items k ≡ Some origin
+  pub is : slice_get b.origins k ≡ Some origin
   pub next : (i : ℕ) (a : Act) → slice_get plan.acts.items i ≡ Some a
       → IsTried plan setup v b k i (origin.level + 1) state a
 
@@ -146,23 +146,23 @@ pub record IsStart (plan : Plan) (m : Machine) : Type 0 where
 pub record HasFirst (plan : Plan) (setup : Setup) (v : SpaceValue) (b : Book) : Type 0 where
   pub keeps : Keeps v 0 (bare (start_of plan setup))
   pub origin : Origin
-  pub is : slice_get b.origins.items 0 ≡ Some origin
+  pub is : slice_get b.origins 0 ≡ Some origin
   pub level : origin.level ≡ 0
 
 -- The exploration has met these states, written this down of them, and left so many of them.
 pub record IsExplored (plan : Plan) (setup : Setup) (v : SpaceValue) (b : Book) (n : ℕ) : Type 0 where
   pub acts : AreAllMoves plan.extras setup plan.acts.items
-  pub count : length b.origins.items ≡ length v.keys
+  pub count : length b.origins ≡ length v.keys
   pub first : HasFirst plan setup v b
   pub good : (k : ℕ) → k < length v.keys → IsGood plan setup v k
-  pub origins : (k : ℕ) (o : Origin) → slice_get b.origins.items k ≡ Some o → 0 < k → IsOrigin plan setup v b o k
+  pub origins : (k : ℕ) (o : Origin) → slice_get b.origins k ≡ Some o → 0 < k → IsOrigin plan setup v b o k
   -- who needs fewer acts has a lower number, and who was met last needs one more than who is left next
-  pub sorted : (i j : ℕ) (o p : Origin) → slice_get b.origins.items i ≡ Some o → slice_get b.origins.items j ≡ Some p
+  pub sorted : (i j : ℕ) (o p : Origin) → slice_get b.origins i ≡ Some o → slice_get b.origins j ≡ Some p
       → i < j → o.level ≤ p.level
-  pub near : (i : ℕ) (o p : Origin) → slice_get b.origins.items i ≡ Some o → slice_get b.origins.items n ≡ Some p
+  pub near : (i : ℕ) (o p : Origin) → slice_get b.origins i ≡ Some o → slice_get b.origins n ≡ Some p
       → o.level ≤ p.level + 1
   pub tellings : (kind : ℕ) (o : Origin) → slice_get b.firsts kind ≡ Some (Some o) → IsTelling plan setup v b o kind
-  pub told_near : (kind : ℕ) (o p : Origin) → slice_get b.firsts kind ≡ Some (Some o) → slice_get b.origins.items n ≡ Some p
+  pub told_near : (kind : ℕ) (o p : Origin) → slice_get b.firsts kind ≡ Some (Some o) → slice_get b.origins n ≡ Some p
       → o.level ≤ p.level + 1
   pub left : (k : ℕ) → k < n → IsLeft plan setup v b k
   pub folds : plan.folds ≡ true → HaveFolds plan setup v
@@ -170,7 +170,7 @@ pub record IsExplored (plan : Plan) (setup : Setup) (v : SpaceValue) (b : Book) 
 -- nothing that was written down is forgotten
 pub record Continues (old new : Book) : Type 0 where
   pub thens : (k i j : ℕ) → LeadsTo old k i j → LeadsTo new k i j
-  pub origins : IsFront old.origins.items new.origins.items
+  pub origins : IsFront old.origins new.origins
   pub firsts : (kind : ℕ) (o : Origin) → slice_get old.firsts kind ≡ Some (Some o)
       → slice_get new.firsts kind ≡ Some (Some o)
 
@@ -220,16 +220,16 @@ AddsOrigin old new then o = ((then ≢ length old) × (new ≡ old)) ⊎ ((then 
 -- what is written down of an act that led from one state to another
 pub record Writes (old new : Book) (state act then : ℕ) (event : Option Event) : Type 0 where
   pub origin : Origin
-  pub next : IsNext old.origins.items state act origin
+  pub next : IsNext old.origins state act origin
   pub thens : AddsThen old.thens.items new.thens.items act then
   pub edges : new.edges ≡ old.edges + one_away then state
-  pub origins : AddsOrigin old.origins.items new.origins.items then origin
+  pub origins : AddsOrigin old.origins new.origins then origin
   pub firsts : AddsFirst old.firsts new.firsts origin event
 
 -- nothing is written down but the first state
 pub record IsNew (b : Book) (acts : ℕ) : Type 0 where
   pub columns : AreColumns b acts 0 0
   pub origin : Origin
-  pub origins : b.origins.items ≡ origin ∷ []
+  pub origins : b.origins ≡ origin ∷ []
   pub level : origin.level ≡ 0
   pub firsts : (kind : ℕ) (o : Origin) → slice_get b.firsts kind ≡ Some (Some o) → ⊥

@@ -4,6 +4,7 @@ pub mod Reach
 pub mod Space
 pub mod Folded
 pub mod Kinds
+pub mod Numbers
 pub mod Edges
 pub mod Explored
 pub mod Path

@@ -5,7 +5,7 @@ use Rattle.lk_abs.specs.declared.events.Event.{Event}
 use Rattle.lk_rows.specs.Acts.{next}
 use Rattle.lk_rows.specs.Machine.{Machine}
 use Rattle.lk_rows.specs.declared.parts.Pc.{Pc}
-use Rattle.lk_reach.specs.declared.book.Origin.{Origin}
+use Rattle.lk_reach.specs.declared.origin.Origin.{Origin}
 use Rattle.lk_reach.specs.declared.graph.Graph.{Graph}
 use Rattle.lk_reach.specs.Folded.{StandsFor}
 use Rattle.lk_reach.specs.Explored.{AreColumns, IsExplored, IsSuch, KeepsLike}
@@ -32,7 +32,7 @@ pub record IsWay (g : Graph) (k : ℕ) (acts : List Act) : Type 0 where
   pub moves : AreMoves g.plan.extras g.machine.setup acts
   pub leads : Keeps g.space k (state_after g.plan g.machine.setup acts)
   pub origin : Origin
-  pub is : slice_get g.book.origins.items k ≡ Some origin
+  pub is : slice_get g.book.origins k ≡ Some origin
   pub count : length acts ≡ origin.level
 
 -- a schedule of at most so many acts leads to the state of this number

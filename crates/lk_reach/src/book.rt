@@ -2,12 +2,14 @@
 // first met, and the events.
 
 ghost use Rattle.std.specs.Prelude.{◌≡◌, ◌<◌, ◌+◌, ◌++◌, ◌∷◌, [], ℕ, IfNone, IfOk, IfSome, None, OnOk, Some, false, length, slice_get, true};
-ghost use Rattle.lk_reach.specs.declared.book.Origin.{Origin as OriginValue};
+ghost use Rattle.lk_reach.specs.declared.origin.Origin.{Origin as OriginValue};
 ghost use Rattle.lk_reach.specs.Explored.{AddsFirst, AddsOrigin, AddsThen, AreEmpty, IsNew, IsNext, LeadsTo, Writes};
 ghost use Rattle.lk_reach.specs.Edges.{one_away};
 
 use crate::column::Column;
 use crate::kinds::{KINDS, kind_of};
+use crate::origin::Origin;
+use crate::origins::Origins;
 use lk_abs::{Event, Memory};
 use std::alloc::Global;
 
@@ -16,12 +18,7 @@ const MOST_STATES: usize = 4_000_000_000;
 
 const MOST_ACTS: usize = 60_000;
 
-const MOST_LEVELS: u16 = 60_000;
-
-// What an origin takes, and a number in a column, in bytes.
-const ORIGIN_BYTES: usize = 8;
-
-const NUMBER_BYTES: usize = 4;
+const MOST_LEVELS: u32 = 60_000;
 
 /// How far an exploration is.
 #[derive(Clone, Copy)]
@@ -38,15 +35,6 @@ pub struct Seen {
     pub bytes: usize,
 }
 
-/// How a state was first met, or an event: by which act, after which state.
-#[derive(Clone, Copy)]
-pub(crate) struct Origin {
-    pub state: u32,
-    pub act: u16,
-    /// How many acts lead there, with this one.
-    pub level: u16,
-}
-
 /// What is written down.
 #[derive(Drop)]
 pub(crate) struct Book {
@@ -55,7 +43,7 @@ pub(crate) struct Book {
     /// How many acts led to another state.
     pub edges: usize,
     /// For each state. Of that of the first the level alone is used.
-    pub origins: Vec<Origin>,
+    pub origins: Origins,
     /// On how many acts each kind of event was met.
     pub events: [u64; KINDS],
     /// How each kind of event was first met.
@@ -103,13 +91,13 @@ fn with_edge(edges: usize, state: u32, then: u32) -> Result<usize, Memory>
 }
 
 // Writes down how a state was met, if it is the next one.
-fn add_origin(origins: &mut Vec<Origin>, then: u32, origin: Origin) -> Result<(), Memory>
-    ensures { OnOk result (AddsOrigin origins.old.items origins.new.items then origin) }
+fn add_origin(origins: &mut Origins, then: u32, origin: Origin) -> Result<(), Memory>
+    ensures { OnOk result (AddsOrigin origins.old origins.new then origin) }
 {
     if then as usize != origins.len() {
         return Ok(());
     }
-    origins.push(origin).map_err(|_| Memory)
+    origins.push(origin)
 }
 
 // Whether no event of this kind was met so far.
@@ -146,19 +134,19 @@ fn count(events: &mut [u64; KINDS], event: Option<Event>) {
 }
 
 // How what an act on a state leads to was met.
-fn origin_of(origins: &[Origin], state: usize, act: usize) -> Result<Origin, Memory>
+fn origin_of(origins: &Origins, state: usize, act: usize) -> Result<Origin, Memory>
     ensures { IfOk result (λ origin. IsNext origins.now state act origin) }
 {
     if state >= origins.len() || state >= MOST_STATES || act >= MOST_ACTS {
         return Err(Memory);
     }
-    let level = origins[state].level;
+    let level = origins.at(state).level;
     if level >= MOST_LEVELS {
         return Err(Memory);
     }
     Ok(Origin {
         state: state as u32,
-        act: act as u16,
+        act: act as u32,
         level: level + 1,
     })
 }
@@ -169,7 +157,7 @@ impl Book {
         ensures { IfOk result (λ book. IsNew book acts) }
     {
         let thens = no_thens(alloc, acts)?;
-        let mut origins = Vec::new(alloc);
+        let mut origins = Origins::new(alloc);
         let first = Origin {
             state: 0,
             act: 0,
@@ -212,26 +200,22 @@ impl Book {
     // How much memory the columns take, which are as long as the first, in bytes.
     fn column_bytes(&self) -> usize {
         match self.thens.get(0) {
-            Some(column) => column
-                .capacity()
-                .saturating_mul(self.thens.len())
-                .saturating_mul(NUMBER_BYTES),
+            Some(column) => column.bytes().saturating_mul(self.thens.len()),
             None => 0,
         }
     }
 
     // How much memory it takes, in bytes.
     fn bytes(&self) -> usize {
-        let origins = self.origins.capacity().saturating_mul(ORIGIN_BYTES);
-        origins.saturating_add(self.column_bytes())
+        self.origins.bytes().saturating_add(self.column_bytes())
     }
 
     /// How a state was met.
     pub(crate) fn origin(&self, state: usize) -> Origin
-        requires { state < length self.now.origins.items }
-        ensures { slice_get self.now.origins.items state ≡ Some result }
+        requires { state < length self.now.origins }
+        ensures { slice_get self.now.origins state ≡ Some result }
     {
-        self.origins[state]
+        self.origins.at(state)
     }
 
     /// How many acts there are.
@@ -254,11 +238,11 @@ impl Book {
 
     /// How many acts lead to a state.
     pub(crate) fn level(&self, state: usize) -> u32
-        ensures { (o : OriginValue) → slice_get self.now.origins.items state ≡ Some o
+        ensures { (o : OriginValue) → slice_get self.now.origins state ≡ Some o
             → result ≡ o.level }
     {
         match self.origins.get(state) {
-            Some(origin) => u32::from(origin.level),
+            Some(origin) => origin.level,
             None => 0,
         }
     }

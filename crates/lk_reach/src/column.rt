@@ -1,7 +1,10 @@
 // Where an act of a plan led.
 
 ghost use Rattle.std.specs.Prelude.{◌≡◌, ◌++◌, ◌∷◌, [], IfNone, IfSome, List, None, OnOk, Some, ℕ, slice_get};
+ghost use Rattle.lk_reach.specs.Numbers.{listed, number_at};
 
+use crate::numbers::Numbers;
+use crate::table::MOST;
 use lk_abs::Memory;
 use std::alloc::Global;
 use std::marker::Model;
@@ -10,13 +13,14 @@ use std::marker::Model;
 /// led. It stands at the number of the state that was left.
 #[derive(Drop)]
 pub(crate) struct Column {
-    numbers: Vec<u32>,
+    count: usize,
+    numbers: Numbers,
 }
 
 impl Model for Column {
     ghost Value = { List ℕ };
 
-    ghost view = { λ c. c.numbers.items };
+    ghost view = { λ c. listed c.count (λ at. number_at c.numbers at) };
 }
 
 impl Column {
@@ -25,15 +29,26 @@ impl Column {
         ensures { result ≡ [] }
     {
         Column {
-            numbers: Vec::new(alloc),
+            count: 0,
+            numbers: Numbers::new(alloc),
         }
     }
 
     /// Writes down where the act led, on the next state.
+    ///
+    /// # Errors
+    ///
+    /// There is not enough memory, or no room for one more number.
     pub(crate) fn push(&mut self, then: u32) -> Result<(), Memory>
         ensures { OnOk result (self.new ≡ self.old ++ then ∷ []) }
     {
-        self.numbers.push(then).map_err(|_| Memory)
+        let at = self.count;
+        if at >= MOST {
+            return Err(Memory);
+        }
+        self.numbers.put(at, then)?;
+        self.count = at + 1;
+        Ok(())
     }
 
     /// Where the act led on a state, if it was left.
@@ -41,14 +56,15 @@ impl Column {
         ensures some { IfSome result (λ j. slice_get self.now state ≡ Some j) }
         ensures none { IfNone result (slice_get self.now state ≡ None) }
     {
-        match self.numbers.get(state) {
-            Some(then) => Some(*then),
-            None => None,
+        if state < self.count {
+            Some(self.numbers.get(state))
+        } else {
+            None
         }
     }
 
-    /// For how many states there is room.
-    pub(crate) fn capacity(&self) -> usize {
-        self.numbers.capacity()
+    /// How much memory it takes, in bytes.
+    pub(crate) fn bytes(&self) -> usize {
+        self.numbers.bytes()
     }
 }

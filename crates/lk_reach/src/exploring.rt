@@ -119,7 +119,7 @@ fn lead<R: Threads + Sync>(
 // The state that is left next. To fold what is behind it, it takes a schedule to it.
 fn here_at(plan: &Plan, book: &Book, space: &Space, state: usize) -> Result<Here, Memory>
     requires low { AreLow plan.now book.now }
-    requires there { state < length book.now.origins.items }
+    requires there { state < length book.now.origins }
     ensures state { IfOk result (λ here. here.state ≡ state) }
     ensures way { IfOk result (λ here. plan.now.folds ≡ true
         → IsPath plan.now book.now 0 state here.way.items) }

@@ -18,7 +18,7 @@ fn put_first(acts: &mut Vec<Act>, doing: Act) -> Result<(), Memory>
 // The state from which a state was first met, and the act.
 fn before(plan: &Plan, book: &Book, state: usize) -> (usize, Act)
     requires low { AreLow plan.now book.now }
-    requires there { state < length book.now.origins.items }
+    requires there { state < length book.now.origins }
     requires up { 0 < state }
     ensures { IsBefore plan.now book.now state result.0 result.1 }
 {
@@ -38,7 +38,7 @@ pub(crate) fn path_to(
     state: usize,
 ) -> Result<Vec<Act>, Memory>
     requires low { AreLow plan.now book.now }
-    requires there { state < length book.now.origins.items }
+    requires there { state < length book.now.origins }
     ensures { IfOk result (λ acts. IsPath plan.now book.now 0 state acts.items) }
 {
     let mut acts = Vec::new(alloc);

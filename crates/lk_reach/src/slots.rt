@@ -10,32 +10,67 @@ use std::alloc::Global;
 // How many slots a new table has.
 const FIRST_SLOTS: usize = 1024;
 
-/// One more than the number of a thing, or 0 in an empty slot.
+/// In the lower bits of a slot stands one more than the number of a thing, and in the others bits of
+/// its hash. An empty slot is 0.
 #[derive(Drop)]
 pub(crate) struct Slots {
     slots: Vec<u32>,
+    /// The bits of a slot that are for a number.
+    mask: u32,
 }
 
-// So many empty slots.
-fn empty(alloc: Global, count: usize) -> Result<Vec<u32>, Memory> {
-    let mut slots = Vec::with_capacity(alloc, count)?;
-    for _ in 0..count {
-        slots.push(0).map_err(|_| Memory)?;
-    }
-    Ok(slots)
+// Ones up to the highest bit of a count.
+fn mask_for(count: usize) -> u32 {
+    let mut mask = u32::try_from(count).unwrap_or(u32::MAX);
+    mask |= mask >> 1;
+    mask |= mask >> 2;
+    mask |= mask >> 4;
+    mask |= mask >> 8;
+    mask | mask >> 16
+}
+
+// The lower half of a hash.
+fn lower(hash: u64) -> u32 {
+    (hash & 0xffff_ffff) as u32
 }
 
 impl Slots {
-    /// Empty slots.
-    pub(crate) fn new(alloc: Global) -> Result<Slots, Memory> {
-        let slots = empty(alloc, FIRST_SLOTS)?;
-        Ok(Slots { slots })
+    /// No slots.
+    pub(crate) fn none(alloc: Global) -> Slots {
+        Slots {
+            slots: Vec::new(alloc),
+            mask: 0,
+        }
     }
 
-    /// Empty slots, twice as many as these.
-    pub(crate) fn twice(&self, alloc: Global) -> Result<Slots, Memory> {
-        let slots = empty(alloc, self.slots.len().saturating_mul(2))?;
-        Ok(Slots { slots })
+    /// Empty slots.
+    pub(crate) fn new(alloc: Global) -> Result<Slots, Memory> {
+        let mut slots = Slots::none(alloc);
+        slots.add(FIRST_SLOTS)?;
+        Ok(slots)
+    }
+
+    // Adds so many empty slots.
+    fn add(&mut self, count: usize) -> Result<(), Memory> {
+        self.slots.reserve(count)?;
+        for _ in 0..count {
+            self.slots.push(0).map_err(|_| Memory)?;
+        }
+        self.mask = mask_for(self.slots.len());
+        Ok(())
+    }
+
+    /// Empties the slots, and adds a quarter as many.
+    ///
+    /// # Errors
+    ///
+    /// There is not enough memory. The slots are empty then, too.
+    pub(crate) fn widen(&mut self) -> Result<(), Memory> {
+        for at in 0..self.slots.len() {
+            self.slots[at] = 0;
+        }
+        let more = self.slots.len() / 4;
+        self.add(more)
     }
 
     /// How many slots there are.
@@ -43,9 +78,9 @@ impl Slots {
         self.slots.len()
     }
 
-    /// Whether half of the slots would be taken by so many numbers.
+    /// Whether seven of eight slots would be taken by so many numbers.
     pub(crate) fn are_few(&self, count: usize) -> bool {
-        count.saturating_mul(2) >= self.slots.len()
+        count >= self.slots.len() / 8 * 7
     }
 
     /// The slot from which a thing with this hash is sought: the upper half of the hash says where
@@ -64,16 +99,25 @@ impl Slots {
     /// The number in a slot, or `None` if it is empty.
     pub(crate) fn number(&self, at: usize) -> Option<u32> {
         let slot = *self.slots.get(at)?;
-        slot.checked_sub(1)
+        (slot & self.mask).checked_sub(1)
+    }
+
+    /// Whether the number in a slot may be that of a thing with this hash.
+    pub(crate) fn may_be(&self, at: usize, hash: u64) -> bool {
+        match self.slots.get(at) {
+            Some(slot) => (*slot ^ lower(hash)) & !self.mask == 0,
+            None => false,
+        }
     }
 
     /// Puts a number into the first empty slot from the home of its hash on.
     pub(crate) fn put(&mut self, hash: u64, number: u32) {
+        let slot = number.wrapping_add(1) & self.mask | lower(hash) & !self.mask;
         let mut at = self.home(hash);
         for _ in 0..self.slots.len() {
             match self.slots.get(at) {
                 Some(0) => {
-                    self.slots[at] = number.wrapping_add(1);
+                    self.slots[at] = slot;
                     return;
                 }
                 _ => at = self.behind(at),

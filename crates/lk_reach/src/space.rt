@@ -12,6 +12,7 @@ mod looking;
 
 use crate::forms::form_number;
 use crate::key::{Key, MAX_CPUS};
+use crate::keys::Keys;
 use crate::recent::Recent;
 use crate::slots::Slots;
 use crate::table::{CpuTable, MOST, SharedTable};
@@ -20,10 +21,9 @@ use lk_machine::{CpuState, Machine};
 use lk_rows::Pc;
 use std::alloc::Global;
 use std::marker::Model;
+use std::mem;
 
-// What a key and a slot take, and a part, about, in bytes.
-const KEY_BYTES: usize = 36;
-
+// What a slot takes, and a part, about, in bytes.
 const SLOT_BYTES: usize = 4;
 
 const PART_BYTES: usize = 1_200;
@@ -39,10 +39,10 @@ pub(crate) struct Space {
     classes: Vec<u32>,
     shareds: SharedTable,
     /// Those of the states that were met first, of all with the same form.
-    keys: Vec<Key>,
+    keys: Keys,
     /// Where states are folded, for each state the key of one that it is under new numbers. States
     /// are sought by these then.
-    folds: Vec<Key>,
+    folds: Keys,
     slots: Slots,
     recent: Recent,
 }
@@ -53,20 +53,13 @@ impl Model for Space {
     ghost view = { λ s. record {
       parts = s.parts.items.items;
       shareds = s.shareds.items.items;
-      keys = s.keys.items;
-      folds = s.folds.items;
+      keys = s.keys;
+      folds = s.folds;
       forms = s.forms.items.items;
       classes = s.classes.items;
     } };
 
     ghost invariant = { λ s. AreFormed s.parts.items.items s.forms.items.items s.classes.items };
-}
-
-// Adds a key.
-fn push_key(keys: &mut Vec<Key>, key: Key) -> Result<(), Memory>
-    ensures { OnOk result (keys.new.items ≡ keys.old.items ++ key ∷ []) }
-{
-    keys.push(key).map_err(|_| Memory)
 }
 
 impl Space {
@@ -81,8 +74,8 @@ impl Space {
             forms: CpuTable::new(alloc)?,
             classes: Vec::new(alloc),
             shareds: SharedTable::new(alloc)?,
-            keys: Vec::new(alloc),
-            folds: Vec::new(alloc),
+            keys: Keys::new(alloc),
+            folds: Keys::new(alloc),
             slots: Slots::new(alloc)?,
             recent: Recent::none(alloc),
         })
@@ -110,7 +103,7 @@ impl Space {
         ensures cpus { length machine.new.cpus ≡ length machine.old.cpus }
         ensures locks { length machine.new.locks ≡ length machine.old.locks }
     {
-        let key = &self.keys[state];
+        let key = self.keys.at(state);
         machine.put_shared(&self.shareds.items[key.shared()]);
         for cpu in 0..machine.cpus() {
             machine.put_cpu(cpu, &self.parts.items[key.part(cpu)]);
@@ -120,7 +113,7 @@ impl Space {
     // The key of a state that may be met, or the key of none.
     fn near(&self, state: usize) -> Key {
         match self.keys.get(state) {
-            Some(key) => *key,
+            Some(key) => key,
             None => Key::none(),
         }
     }
@@ -244,7 +237,7 @@ impl Space {
             × IsFormOf self.now.classes item form.now }
     {
         match self.keys.get(number) {
-            Some(item) => self.is_form_of(item, form),
+            Some(item) => self.is_form_of(&item, form),
             None => false,
         }
     }
@@ -257,7 +250,7 @@ impl Space {
         let mut at = self.slots.home(hash);
         for _ in 0..self.slots.len() {
             let number = self.slots.number(at)?;
-            if self.has_form(number as usize, form) {
+            if self.slots.may_be(at, hash) && self.has_form(number as usize, form) {
                 return Some(number);
             }
             at = self.slots.behind(at);
@@ -265,25 +258,32 @@ impl Space {
         None
     }
 
-    // By which key each state is sought.
-    fn sought_keys(&self) -> &Vec<Key> {
-        if self.folds.is_empty() {
-            &self.keys
-        } else {
-            &self.folds
+    // By which key the state of this number is sought.
+    fn sought_key(&self, number: usize) -> Key
+        requires { number < length self.now.keys }
+    {
+        match self.folds.get(number) {
+            Some(fold) => fold,
+            None => self.keys.at(number),
         }
     }
 
-    // Gives each state a slot again, of twice as many.
+    // Gives each state one of these slots, which are empty.
+    fn fill(&self, slots: &mut Slots) {
+        let mut number = 0u32;
+        for at in 0..self.len() {
+            slots.put(self.hash_of(&self.sought_key(at)), number);
+            number = number.wrapping_add(1);
+        }
+    }
+
+    // Gives each state a slot again, of more.
     fn grow(&mut self) -> Result<(), Memory>
         ensures { self.new ≡ self.old }
     {
-        let mut slots = self.slots.twice(self.alloc)?;
-        let mut number = 0u32;
-        for key in self.sought_keys() {
-            slots.put(self.hash_of(key), number);
-            number = number.wrapping_add(1);
-        }
+        let mut slots = mem::replace(&mut self.slots, Slots::none(self.alloc));
+        slots.widen()?;
+        self.fill(&mut slots);
         self.slots = slots;
         Ok(())
     }
@@ -312,7 +312,7 @@ impl Space {
             return Err(Memory);
         }
         let number = count as u32;
-        push_key(&mut self.keys, *key)?;
+        self.keys.push(key)?;
         self.slots.put(hash, number);
         self.recent.put(hash, number);
         Ok(number)
@@ -411,7 +411,7 @@ impl Space {
         ensures { (s : MachineValue) → Keeps self.now state s → cpu < length s.cpus
             → result ≡ row_of (cpu_at s cpu) }
     {
-        let key = &self.keys[state];
+        let key = self.keys.at(state);
         let part = self.parts.items.get(key.part(cpu))?;
         part.next_row()
     }
@@ -423,7 +423,7 @@ impl Space {
         ensures { (s : MachineValue) → Keeps self.now state s → cpu < length s.cpus
             → result ≡ is_over (cpu_at s cpu) }
     {
-        let key = &self.keys[state];
+        let key = self.keys.at(state);
         match self.parts.items.get(key.part(cpu)) {
             Some(part) => part.is_over(),
             None => false,
@@ -445,10 +445,9 @@ impl Space {
             .items
             .len()
             .saturating_add(self.shareds.items.len());
-        let keys = self.keys.capacity().saturating_add(self.folds.capacity());
+        let keys = self.keys.bytes().saturating_add(self.folds.bytes());
         let slots = self.slots.len().saturating_mul(SLOT_BYTES);
-        keys.saturating_mul(KEY_BYTES)
-            .saturating_add(slots)
+        keys.saturating_add(slots)
             .saturating_add(parts.saturating_mul(PART_BYTES))
     }
 }

@@ -11,6 +11,15 @@ use std::alloc::Global;
 /// The most numbers of a table, so that each fits a slot.
 pub(crate) const MOST: usize = 4_000_000_000;
 
+// Gives each of these parts one of these slots, which are empty.
+fn fill(slots: &mut Slots, items: &Vec<CpuState>) {
+    let mut number = 0u32;
+    for item in items {
+        slots.put(item.number(), number);
+        number = number.wrapping_add(1);
+    }
+}
+
 /// The parts of processors that were met.
 #[derive(Drop)]
 pub(crate) struct CpuTable {
@@ -46,7 +55,7 @@ impl CpuTable {
         let mut at = self.slots.home(hash);
         for _ in 0..self.slots.len() {
             let number = self.slots.number(at)?;
-            if self.is_at(number, part) {
+            if self.slots.may_be(at, hash) && self.is_at(number, part) {
                 return Some(number);
             }
             at = self.slots.behind(at);
@@ -54,17 +63,12 @@ impl CpuTable {
         None
     }
 
-    // Gives each part a slot again, of twice as many.
-    fn grow(&mut self, alloc: Global) -> Result<(), Memory>
+    // Gives each part a slot again, of more.
+    fn grow(&mut self) -> Result<(), Memory>
         ensures { self.new.items.items ≡ self.old.items.items }
     {
-        let mut slots = self.slots.twice(alloc)?;
-        let mut number = 0u32;
-        for item in &self.items {
-            slots.put(item.number(), number);
-            number = number.wrapping_add(1);
-        }
-        self.slots = slots;
+        self.slots.widen()?;
+        fill(&mut self.slots, &self.items);
         Ok(())
     }
 
@@ -88,7 +92,7 @@ impl CpuTable {
             return Err(Memory);
         }
         if self.slots.are_few(count) {
-            self.grow(alloc)?;
+            self.grow()?;
         }
         let number = count as u32;
         let copy = part.copy(alloc)?;
@@ -115,6 +119,15 @@ impl CpuTable {
             Some(number) => Ok(number),
             None => self.add(alloc, part, hash),
         }
+    }
+}
+
+// Gives each of these parts one of these slots, which are empty.
+fn fill_shared(slots: &mut Slots, items: &Vec<Shared>) {
+    let mut number = 0u32;
+    for item in items {
+        slots.put(item.number(), number);
+        number = number.wrapping_add(1);
     }
 }
 
@@ -153,7 +166,7 @@ impl SharedTable {
         let mut at = self.slots.home(hash);
         for _ in 0..self.slots.len() {
             let number = self.slots.number(at)?;
-            if self.is_at(number, machine) {
+            if self.slots.may_be(at, hash) && self.is_at(number, machine) {
                 return Some(number);
             }
             at = self.slots.behind(at);
@@ -161,17 +174,12 @@ impl SharedTable {
         None
     }
 
-    // Gives each part a slot again, of twice as many.
-    fn grow(&mut self, alloc: Global) -> Result<(), Memory>
+    // Gives each part a slot again, of more.
+    fn grow(&mut self) -> Result<(), Memory>
         ensures { self.new.items.items ≡ self.old.items.items }
     {
-        let mut slots = self.slots.twice(alloc)?;
-        let mut number = 0u32;
-        for item in &self.items {
-            slots.put(item.number(), number);
-            number = number.wrapping_add(1);
-        }
-        self.slots = slots;
+        self.slots.widen()?;
+        fill_shared(&mut self.slots, &self.items);
         Ok(())
     }
 
@@ -195,7 +203,7 @@ impl SharedTable {
             return Err(Memory);
         }
         if self.slots.are_few(count) {
-            self.grow(alloc)?;
+            self.grow()?;
         }
         let number = count as u32;
         let copy = machine.shared(alloc)?;

@@ -2,12 +2,12 @@
 
 ghost use Rattle.std.specs.Prelude.{◌≡◌, ◌≢◌, ◌<◌, ◌∷◌, IfNone, IfOk, IfSome, List, OnOk, Some, length, slice_get};
 ghost use Rattle.lk_abs.specs.declared.events.Act.{Act as ActValue};
-ghost use Rattle.lk_reach.specs.declared.book.Origin.{Origin as OriginValue};
+ghost use Rattle.lk_reach.specs.declared.origin.Origin.{Origin as OriginValue};
 ghost use Rattle.lk_reach.specs.Reach.{AreMoves, MakesRow, state_after};
 ghost use Rattle.lk_reach.specs.Told.{IsGraph, IsNever, IsShortestToEvent, IsShortestToRow, IsWay, IsWhole};
 
-use crate::book::Origin;
 use crate::graph::Graph;
+use crate::origin::Origin;
 use crate::path::path_to;
 use crate::plan::add;
 use lk_abs::{Act, Memory};

@@ -8,7 +8,7 @@ ghost use Rattle.lk_reach.specs.declared.key.Key.{Key as KeyValue};
 ghost use Rattle.lk_reach.specs.Space.{AddsFold, Folds, Grows, IsFolded, IsFoldNumbered, IsFoldOf, IsFormOf, IsSameKind};
 
 use crate::key::Key;
-use crate::space::{Space, push_key};
+use crate::space::Space;
 use lk_abs::Memory;
 use lk_machine::Machine;
 
@@ -19,7 +19,7 @@ impl Space {
             × IsFormOf self.now.classes item form.now }
     {
         match self.folds.get(number) {
-            Some(item) => self.is_form_of(item, form),
+            Some(item) => self.is_form_of(&item, form),
             None => false,
         }
     }
@@ -30,10 +30,14 @@ impl Space {
             × IsFormOf self.now.classes item form.now) }
         ensures other { IfSome result (λ k. k ≢ left) }
     {
-        let mut at = self.slots.home(form.number());
+        let hash = form.number();
+        let mut at = self.slots.home(hash);
         for _ in 0..self.slots.len() {
             let number = self.slots.number(at)?;
-            if number as usize != left && self.has_fold(number as usize, form) {
+            if number as usize != left
+                && self.slots.may_be(at, hash)
+                && self.has_fold(number as usize, form)
+            {
                 return Some(number);
             }
             at = self.slots.behind(at);
@@ -55,7 +59,7 @@ impl Space {
     fn push_fold(&mut self, fold: &Key) -> Result<(), Memory>
         ensures { OnOk result (AddsFold self.old self.new fold.now) }
     {
-        push_key(&mut self.folds, *fold)
+        self.folds.push(fold)
     }
 
     // Gives the state with this key the next number, and its fold.

@@ -1,5 +1,5 @@
 use Rattle.std.proofs.Common.{◌∙◌, ◌∷◌, [], ◌++◌, List, ap, inl, inr, length, refl, sym}
-use Rattle.lk_reach.specs.declared.book.Origin.{Origin}
+use Rattle.lk_reach.specs.declared.origin.Origin.{Origin}
 use Rattle.lk_reach.proofs.Columns.{columns_none}
 use Rattle.lk_reach.proofs.Firsts.{none_first}
 use Rattle.lk_reach.proofs.book.Book.new.Goals as goal
@@ -9,7 +9,7 @@ first = record { state = 0; act = 0; level = 0 }
 
 pub returns : goal.returns
 returns c =
-    let none = c.new-origins.ensures.items in
+    let none = c.new-origins.ensures in
     record {
       columns = columns_none (_) c.args.acts c.in_ok-thens.ensures refl;
       origin = first;

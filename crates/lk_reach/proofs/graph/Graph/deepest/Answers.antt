@@ -11,4 +11,4 @@ returns c =
     let count = c.states.ensures in
     let before = c.saturating_sub.ensures in
     deepest_is laws g c.requires.graph c.level.result
-    (λ o at. c.level.ensures o (subst (λ (h : ℕ). slice_get g.book.origins.items h ≡ Some o) (omega (arith, count, before)) at))
+    (λ o at. c.level.ensures o (subst (λ (h : ℕ). slice_get g.book.origins h ≡ Some o) (omega (arith, count, before)) at))

@@ -1,4 +1,4 @@
-use Rattle.std.proofs.Common.{arith, ◌∙◌, ap, get_or, length}
+use Rattle.std.proofs.Common.{arith, ◌≡◌, ◌∙◌, ap, length, subst, Some}
 use Rattle.std.specs.Prelude.{slice_get}
 use Rattle.std.proofs.lemmas.Bool.{lt-ltb}
 use Rattle.std.proofs.lemmas.Option.{slice_get_within}
@@ -11,9 +11,9 @@ use Rattle.lk_reach.proofs.space.Space.is_over_at.Goals as goal
 pub returns-in-Some : goal.returns-in-Some
 returns-in-Some c = λ s has low.
     let v = c.args.self.now in
-    let key = c.index-key.result.now in
+    let key = c.at-key.result in
     let same = key_there v c.args.state s key has
-    (c.index-key.ensures ∙ ap (λ (u : SpaceValue). get_or u.keys c.args.state key) c.self.view_is) in
+    (subst (λ (u : SpaceValue). slice_get u.keys c.args.state ≡ Some key) c.self.view_is c.at-key.ensures) in
     let there = part_there v c.args.state s key has same c.args.cpu c.part.result low c.part.ensures in
     let here = got c.deref.result.now v.parts c.part.result c.in-Some.part.now
     (c.deref.ensures.value ∙ ap (λ (u : SpaceValue). u.parts) c.self.view_is) c.in-Some.ensures.lookup.3 in
@@ -24,9 +24,9 @@ returns-in-Some c = λ s has low.
 pub returns-in-None : goal.returns-in-None
 returns-in-None c = λ s has low.
     let v = c.args.self.now in
-    let key = c.index-key.result.now in
+    let key = c.at-key.result in
     let same = key_there v c.args.state s key has
-    (c.index-key.ensures ∙ ap (λ (u : SpaceValue). get_or u.keys c.args.state key) c.self.view_is) in
+    (subst (λ (u : SpaceValue). slice_get u.keys c.args.state ≡ Some key) c.self.view_is c.at-key.ensures) in
     let there = part_there v c.args.state s key has same c.args.cpu c.part.result low c.part.ensures in
     let within = slice_get_within v.parts c.part.result (cpu_at s c.args.cpu) there in
     let count = ap length (c.deref.ensures.value ∙ ap (λ (u : SpaceValue). u.parts) c.self.view_is) in

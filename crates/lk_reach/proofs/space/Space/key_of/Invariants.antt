@@ -10,8 +10,8 @@ invariant-loop-cpu l = record {
   each : Numbered l.cpus l.self-inside.parts.items.items l.machine l.cpu;
   parts : IsFront l.fn.self.parts l.self-inside.parts.items.items;
   shareds : IsFront l.fn.self.shareds l.self-inside.shareds.items.items;
-  keys : l.self-inside.keys.items ≡ l.fn.self.keys;
-  folds : l.self-inside.folds.items ≡ l.fn.self.folds;
+  keys : l.self-inside.keys ≡ l.fn.self.keys;
+  folds : l.self-inside.folds ≡ l.fn.self.folds;
   forms : l.self-inside.forms.items.items ≡ l.fn.self.forms;
   classes : l.self-inside.classes.items ≡ l.fn.self.classes;
   room : length l.cpus ≡ 8;

@@ -13,12 +13,12 @@ put_shared-requires c =
     let m = c.args.machine.now in
     let at = c.requires.there in
     let x = c.index.result.now in
-    let same = key_there v c.args.state at.state c.index-key.result.now at.keeps
-    (c.index-key.ensures ∙ ap (λ (u : SpaceValue). get_or u.keys c.args.state c.index-key.result.now) c.self.view_is) in
-    let here = shared_there v c.args.state at.state c.index-key.result.now at.keeps same in
-    let holds = item_there v.shareds c.index-key.result.now.shared at.state x here
+    let same = key_there v c.args.state at.state c.at-key.result at.keeps
+    (subst (λ (u : SpaceValue). slice_get u.keys c.args.state ≡ Some c.at-key.result) c.self.view_is c.at-key.ensures) in
+    let here = shared_there v c.args.state at.state c.at-key.result at.keeps same in
+    let holds = item_there v.shareds c.at-key.result.shared at.state x here
     (c.index.ensures ∙ ap (λ (i : ℕ). get_or c.self.inside.shareds.items.items i x) c.shared.ensures
-    ∙ ap (λ (u : SpaceValue). get_or u.shareds c.index-key.result.now.shared x) c.self.view_is) in
+    ∙ ap (λ (u : SpaceValue). get_or u.shareds c.at-key.result.shared x) c.self.view_is) in
     fitting at.state m x at.setup at.cpus at.locks holds
 
 pub loop-cpu-init : goal.loop-cpu-init
@@ -27,9 +27,9 @@ loop-cpu-init c =
     let m = c.args.machine.now in
     let at = c.requires.there in
     let x = c.index.result.now in
-    let key = c.index-key.result.now in
+    let key = c.at-key.result in
     let same = key_there v c.args.state at.state key at.keeps
-    (c.index-key.ensures ∙ ap (λ (u : SpaceValue). get_or u.keys c.args.state key) c.self.view_is) in
+    (subst (λ (u : SpaceValue). slice_get u.keys c.args.state ≡ Some key) c.self.view_is c.at-key.ensures) in
     let here = shared_there v c.args.state at.state key at.keeps same in
     let is_x : x ≡ get_or v.shareds key.shared x =
     c.index.ensures ∙ ap (λ (i : ℕ). get_or c.self.inside.shareds.items.items i x) c.shared.ensures
@@ -54,9 +54,9 @@ pub index-requires-in-loop-cpu : goal.index-requires-in-loop-cpu
 index-requires-in-loop-cpu c =
     let v = c.args.self.now in
     let at = c.requires.there in
-    let key = c.index-key.result.now in
+    let key = c.at-key.result in
     let same = key_there v c.args.state at.state key at.keeps
-    (c.index-key.ensures ∙ ap (λ (u : SpaceValue). get_or u.keys c.args.state key) c.self.view_is) in
+    (subst (λ (u : SpaceValue). slice_get u.keys c.args.state ≡ Some key) c.self.view_is c.at-key.ensures) in
     let low = c.loop-cpu-test.true in
     let end = c.cpus-cpu-end.ensures in
     let put = ap (λ (k : Machine). length k.cpus) c.put_shared.ensures in
@@ -79,9 +79,9 @@ pub loop-cpu-preserved : goal.loop-cpu-preserved
 loop-cpu-preserved c =
     let v = c.args.self.now in
     let at = c.requires.there in
-    let key = c.index-key.result.now in
+    let key = c.at-key.result in
     let same = key_there v c.args.state at.state key at.keeps
-    (c.index-key.ensures ∙ ap (λ (u : SpaceValue). get_or u.keys c.args.state key) c.self.view_is) in
+    (subst (λ (u : SpaceValue). slice_get u.keys c.args.state ≡ Some key) c.self.view_is c.at-key.ensures) in
     let inv = c.loop-cpu.invariant in
     let m = c.loop-cpu.machine in
     let n = c.loop-cpu.cpu in
@@ -115,17 +115,14 @@ pub returns-clause-keeps : goal.returns-clause-keeps
 returns-clause-keeps c =
     let v = c.args.self.now in
     let at = c.requires.there in
-    let key = c.index-key.result.now in
-    let is_key : key ≡ get_or v.keys c.args.state key =
-    c.index-key.ensures ∙ ap (λ (u : SpaceValue). get_or u.keys c.args.state key) c.self.view_is in
+    let key = c.at-key.result in
     let put = ap (λ (k : Machine). length k.cpus) c.put_shared.ensures in
     let cpus = c.loop-cpu.invariant.cpus in
     let end = c.cpus-cpu-end.ensures in
     let high = c.loop-cpu-test.false in
     record {
       key = key;
-      is = slice_get-get_or v.keys c.args.state key (slice_get_within v.keys c.args.state at.keeps.key at.keeps.is)
-          ∙ ap Some (sym is_key);
+      is = subst (λ (u : SpaceValue). slice_get u.keys c.args.state ≡ Some key) c.self.view_is c.at-key.ensures;
       keeps = record {
         shared = c.loop-cpu.invariant.shared;
         each = all_numbered key.cpus v.parts c.loop-cpu.machine c.loop-cpu.cpu (omega (arith, put, cpus, end, high))

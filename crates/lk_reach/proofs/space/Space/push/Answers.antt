@@ -4,4 +4,4 @@ use Rattle.lk_reach.proofs.space.Space.push.Goals as goal
 
 pub returns-clause-keys : goal.returns-clause-keys
 returns-clause-keys c =
-    c.in_ok-push_key.ensures ∙ ap (λ (u : SpaceValue). u.keys ++ c.args.key.now ∷ []) c.self.view_is
+    c.in_ok-push.ensures ∙ ap (λ (u : SpaceValue). u.keys ++ c.args.key.now ∷ []) c.self.view_is
