@@ -17,6 +17,7 @@ use Rattle.lk_domain.proofs.cpu.Cpu.TheSendSync as cpu
 use Rattle.lk_run.proofs.waiter.Waiter.TheSendSync as waiter
 use Rattle.lk_run.proofs.read_waiter.ReadWaiter.TheSendSync as reader
 use Rattle.lk_run.proofs.write_waiter.WriteWaiter.TheSendSync as writer
+use Rattle.lk_port.proofs.last.Last.TheSendSync as last
 use Rattle.lk_port.proofs.pending.Pending.TheSendSync as pending
 use Rattle.lk_domain.specs.contracts.domain.Domain as Domain
 use Rattle.lk_domain.specs.contracts.plan.Plan as Plan
@@ -37,12 +38,12 @@ domain_send =
 
 pub port_send : IsSend Port.the_row
 port_send =
-    search (sendable, crosses, domain_send, domain_sync, cpu.the_send, cpu.the_field_send, waiter.the_send, waiter.the_field_send, reader.the_send, reader.the_field_send, writer.the_send, writer.the_field_send, pending.the_send, pending.the_field_send, option.the_send, option.the_field_send, global.the_send, global.the_sync) depth 40
+    search (sendable, crosses, domain_send, domain_sync, cpu.the_send, cpu.the_field_send, waiter.the_send, waiter.the_field_send, reader.the_send, reader.the_field_send, writer.the_send, writer.the_field_send, pending.the_send, pending.the_field_send, last.the_send, last.the_field_send, option.the_send, option.the_field_send, global.the_send, global.the_sync) depth 40
 
 -- as a field of another type
 pub port_field_send : IsSend Port.the_field.row
 port_field_send =
-    search (sendable, crosses, port_send, domain_send, domain_sync, cpu.the_send, cpu.the_field_send, waiter.the_send, waiter.the_field_send, reader.the_send, reader.the_field_send, writer.the_send, writer.the_field_send, pending.the_send, pending.the_field_send, option.the_send, option.the_field_send, global.the_send, global.the_sync) depth 40
+    search (sendable, crosses, port_send, domain_send, domain_sync, cpu.the_send, cpu.the_field_send, waiter.the_send, waiter.the_field_send, reader.the_send, reader.the_field_send, writer.the_send, writer.the_field_send, pending.the_send, pending.the_field_send, last.the_send, last.the_field_send, option.the_send, option.the_field_send, global.the_send, global.the_sync) depth 40
 
 -- and where its family halts
 

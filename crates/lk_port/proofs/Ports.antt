@@ -1,6 +1,7 @@
 -- How a processor stands after a call.
 use Rattle.std.proofs.Common.{◌≡◌, ◌≢◌, ℕ, ◌+◌, ◌<◌, List, [], ◌∷◌, ◌++◌, length, replicate, set, Bool, true, false, refl, sym, ap, ◌∙◌, subst, eqb, arith}
 use Rattle.std.specs.Prelude.{if◌then◌else◌, ◌&&◌, ◌||◌, not, None, Some, Option, slice_index_or}
+use Rattle.std.proofs.lemmas.Bool.{eqb-true}
 use Rattle.std.proofs.lemmas.List.{get_or_push, get_or_append_left, length-append, length-replicate, length-set, get_or-set_same, get_or-set_other}
 use Rattle.lk_abs.specs.Names.{same_lock}
 use Rattle.lk_abs.specs.declared.holder.Manner.{Manner}
@@ -29,8 +30,9 @@ use Rattle.lk_run.specs.Entering.{Leaves}
 use Rattle.lk_run.specs.Phases.{Start, Holds, CameIn}
 use Rattle.lk_port.specs.Asking.{Refuses}
 use Rattle.lk_port.specs.Ports.{IsPending}
-use Rattle.lk_port.specs.Standing.{are_home, way_of, AreNoted, IsIdle, Stands}
+use Rattle.lk_port.specs.Standing.{are_home, way_of, AreNoted, IsIdle, IsLast, IsReady, Stands}
 use Rattle.lk_port.specs.declared.answer.Answer.{Answer}
+use Rattle.lk_port.specs.declared.last.Last.TheVariants.{Took, Freed, Other}
 use Rattle.lk_port.specs.declared.pending.Pending.{Pending}
 use Rattle.lk_port.specs.declared.pending.Pending.TheVariants.{Free}
 use Rattle.lk_port.specs.declared.port.Port.{Port}
@@ -233,14 +235,6 @@ module _ (d : Domain) (l : ℕ) (a b : Cpu) where
       (ap (λ (g : Ledger). g.out) leave.ledger ∙ closed_out (ledger_of a) (lock_name l) (calls_of b).last)
       leave.left.holds leave.left.none
 
--- a try of a spinlock has ended
-pub tried : (d : Domain) (l : ℕ) (a b : Cpu) (v : Verb) (r : Bool) (ws : List Bool) → IsIdle d.plan ws (calls_of a) (ledger_of a)
-    → (r ≡ true → Gains d v l Spins (calls_of a) a b) → (r ≡ false → Misses d v l (calls_of a) a b) → kind_at d.plan l ≡ Spin
-    → IsIdle d.plan ws (calls_of b) (ledger_of b)
-tried d l a b v true ws was gains misses kind =
-    gained d l a b v Spins ws ws was (gains refl) (notes_spin d.plan l ws was.noted.long kind)
-tried d l a b v false ws was gains misses kind = missed d l a b v ws was (misses refl)
-
 -- a call that began so, and waited or not, has its lock
 
 looked_out : (l : ℕ) (m : Manner) (c : Calls) (last : List Mark) (old new : Ledger) → HasLooked l m c last old new → new.out ≡ old.out
@@ -266,6 +260,53 @@ came d v l y s b told ws was has low kind =
 -- the kind is that of the lock
 pub same_kind : (d : Domain) {k : Kind} (a b : LockId) → b ≡ a → kind_at d.plan a.index ≡ k → kind_at d.plan b.index ≡ k
 same_kind d {k} a b e kind = subst (λ (x : LockId). kind_at d.plan x.index ≡ k) (sym e) kind
+
+-- what the last call came to: something else, a spinlock that it took, or one that it freed
+
+pub other : {d : Domain} {o : Pending} {cpu : Cpu} → IsLast d o cpu Other
+other {d} {o} {cpu} =
+    record {
+      took = λ lock e. let z : Other ≡ Took lock = e in absurd (cc z);
+      freed = λ lock e. let z : Other ≡ Freed lock = e in absurd (cc z);
+    }
+
+holds_taken : (c l n : ℕ) (m : Manner) (hs : List Hold) → holds_in (hold c (lock_name l) m n ∷ hs) l ≡ true
+holds_taken c l n m hs = ap (λ (b : Bool). if b then true else holds_in hs l) (same_lock-self (lock_name l))
+
+pub has_taken : (d : Domain) {o : Pending} (cpu : Cpu) (lock : LockId) {c n : ℕ} {m : Manner} {hs : List Hold} → o ≡ Free
+    → lock.index < locks_of d.plan → kind_at d.plan lock.index ≡ Spin → (calls_of cpu).holds ≡ hold c (lock_name lock.index) m n ∷ hs
+    → IsLast d o cpu (Took lock)
+has_taken d {o} cpu lock {c} {n} {m} {hs} free low kind holds =
+    let has = ap (λ (xs : List Hold). holds_in xs lock.index) holds ∙ holds_taken c lock.index n m hs in
+    record {
+      took = λ x e.
+          let is : lock ≡ x = cc e in
+          subst (λ (y : LockId). IsReady d o cpu Spin y.index true) is (record { free = free; lock = low; kind = kind; holds = has });
+      freed = λ x e. let z : Took lock ≡ Freed x = e in absurd (cc z);
+    }
+
+pub has_freed : (d : Domain) (o : Pending) (a b : Cpu) (lock : LockId) → IsReady d o a Spin lock.index true → Drops lock.index a b
+    → IsLast d o b (Freed lock)
+has_freed d o a b lock was drop =
+    record {
+      took = λ x e. let z : Freed lock ≡ Took x = e in absurd (cc z);
+      freed = λ x e.
+          let is : lock ≡ x = cc e in
+          subst (λ (y : LockId). IsReady d o b Spin y.index false) is
+          (record { free = was.free; lock = was.lock; kind = was.kind; holds = drop.freed.none });
+    }
+
+-- so a call may begin on that lock
+pub allowed : (d : Domain) (o : Pending) (cpu : Cpu) (k : Kind) (last l : ℕ) (b held : Bool) → IsReady d o cpu Spin last b
+    → eqb last l ≡ true → k ≡ Spin → held ≡ b → IsReady d o cpu k l held
+allowed d o cpu k last l b held was same kind has =
+    let is : last ≡ l = eqb-true last l same in
+    record {
+      free = was.free;
+      lock = subst (λ (n : ℕ). n < locks_of d.plan) is was.lock;
+      kind = ap (λ (n : ℕ). kind_at d.plan n) (sym is) ∙ (was.kind ∙ sym kind);
+      holds = ap (λ (n : ℕ). holds_in (calls_of cpu).holds n) (sym is) ∙ (was.holds ∙ sym has);
+    }
 
 -- a call that is refused with one answer, was refused with it
 pub refused : (p : Port) (k : Kind) (l : ℕ) (a b : Answer) → a ≡ b → Refuses p k l a → Refuses p k l b

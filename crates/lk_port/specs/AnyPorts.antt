@@ -1,5 +1,5 @@
 -- What the calls of a port have done, of whatever family: what its own calls say.
-use Rattle.std.specs.Prelude.{ℕ, Bool, false}
+use Rattle.std.specs.Prelude.{ℕ, Bool, true, false}
 use Rattle.lk_abs.specs.declared.holder.Manner.{Manner}
 use Rattle.lk_abs.specs.declared.holder.Manner.TheVariants.{Spins}
 use Rattle.lk_abs.specs.declared.names.Kind.{Kind}
@@ -17,6 +17,11 @@ use Rattle.lk_port.specs.declared.any_port.AnyPort.TheVariants.{Runs, Halts}
 abbrev pub Refuses : AnyPort → Kind → ℕ → Answer → Type 0
 Refuses (Runs p) k l a = running.Refuses p k l a
 Refuses (Halts p) k l a = PvRefuses p k l a
+
+-- its family's waiters halt
+abbrev pub may_halt : AnyPort → Bool
+may_halt (Runs p) = false
+may_halt (Halts p) = true
 
 -- its processor has halted
 abbrev pub has_halted : AnyPort → Bool

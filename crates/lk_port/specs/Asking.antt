@@ -1,5 +1,5 @@
 -- When a port refuses a call, and when the call may begin.
-use Rattle.std.specs.Prelude.{◌≡◌, ◌≢◌, ℕ, ◌<◌, ◌≤◌, Bool, true, false, Option}
+use Rattle.std.specs.Prelude.{◌≡◌, ◌≢◌, ℕ, ◌≤◌, Bool, true, false, Option}
 use Rattle.std.specs.Arc.{arc_value}
 use Rattle.lk_abs.specs.declared.holder.Manner.{Manner}
 use Rattle.lk_abs.specs.declared.names.Kind.{Kind}
@@ -8,6 +8,7 @@ use Rattle.lk_domain.specs.Plans.{locks_of, kind_at}
 use Rattle.lk_domain.specs.Seats.{calls_of}
 use Rattle.lk_domain.specs.declared.cpu.Cpu.{Cpu}
 use Rattle.lk_domain.specs.declared.domain.Domain.{Domain}
+use Rattle.lk_port.specs.Standing.{IsReady}
 use Rattle.lk_port.specs.declared.answer.Answer.{Answer}
 use Rattle.lk_port.specs.declared.answer.Answer.TheVariants as answer
 use Rattle.lk_port.specs.declared.pending.Pending.TheVariants.{Free}
@@ -39,8 +40,5 @@ Refuses p k l answer.NotHeld = has p l ≡ false
 Refuses p k l _ = ⊥
 
 -- no call waits, and the lock is one of this kind, which the processor holds or not
-pub record MayCall (p : Port) (k : Kind) (l : ℕ) (held : Bool) : Type 0 where
-  pub free : p.pending ≡ Free
-  pub lock : l < locks_of (domain_in p).plan
-  pub kind : kind_at (domain_in p).plan l ≡ k
-  pub holds : has p l ≡ held
+abbrev pub MayCall : Port → Kind → ℕ → Bool → Type 0
+MayCall p k l held = IsReady (domain_in p) p.pending (cpu_in p) k l held

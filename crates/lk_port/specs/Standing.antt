@@ -1,20 +1,23 @@
 -- How a processor stands between two calls of its port.
-use Rattle.std.specs.Prelude.{◌≡◌, ℕ, ◌&&◌, not, Bool, true, false, List, [], ◌∷◌, length, Some, None, slice_index_or}
+use Rattle.std.specs.Prelude.{◌≡◌, ℕ, ◌<◌, ◌&&◌, not, Bool, true, false, List, [], ◌∷◌, length, Some, None, slice_index_or}
 use Rattle.lk_abs.specs.declared.holder.Manner.{Manner}
 use Rattle.lk_abs.specs.declared.holder.Manner.TheVariants as manner
 use Rattle.lk_abs.specs.declared.names.Kind.{Kind}
 use Rattle.lk_abs.specs.declared.names.Kind.TheVariants.{Spin, Rw}
-use Rattle.lk_domain.specs.Calls.{Hold, Calls, hold_in}
+use Rattle.lk_domain.specs.Calls.{Hold, Calls, hold_in, holds_in}
 use Rattle.lk_domain.specs.Ledgers.{Ledger}
 use Rattle.lk_domain.specs.Plans.{kind_at, locks_of}
 use Rattle.lk_domain.specs.Seats.{calls_of, ledger_of}
 use Rattle.lk_domain.specs.declared.cpu.Cpu.{Cpu}
 use Rattle.lk_domain.specs.declared.domain.Domain.{Domain}
+use Rattle.lk_domain.specs.declared.domain.LockId.{LockId}
 use Rattle.lk_domain.specs.declared.plan.Plan.{Plan}
 use Rattle.lk_run.specs.Phases.{Start}
 use Rattle.lk_run.specs.Polled as locker
 use Rattle.lk_run.specs.PolledRead as reader
 use Rattle.lk_run.specs.PolledWrite as writer
+use Rattle.lk_port.specs.declared.last.Last.{Last}
+use Rattle.lk_port.specs.declared.last.Last.TheVariants.{Took, Freed}
 use Rattle.lk_port.specs.declared.pending.Pending.{Pending}
 use Rattle.lk_port.specs.declared.pending.Pending.TheVariants.{Free, Spins, Reads, Writes}
 
@@ -51,3 +54,16 @@ Stands d ws (Reads w) cpu = (s : Start) × IsIdle d.plan ws s.calls s.ledger
     × (kind_at d.plan w.lock.index ≡ Rw) × reader.Waits d w s cpu
 Stands d ws (Writes w) cpu = (s : Start) × IsIdle d.plan ws s.calls s.ledger
     × (kind_at d.plan w.lock.index ≡ Rw) × writer.Waits d w s cpu
+
+-- no call waits, and the lock is one of this kind, which the processor holds or not
+pub record IsReady (d : Domain) (o : Pending) (cpu : Cpu) (k : Kind) (l : ℕ) (held : Bool) : Type 0 where
+  pub free : o ≡ Free
+  pub lock : l < locks_of d.plan
+  pub kind : kind_at d.plan l ≡ k
+  pub holds : holds_in (calls_of cpu).holds l ≡ held
+
+-- What the last call came to is so still: a spinlock that it took is held, and one that it freed is not, and no
+-- call waits.
+pub record IsLast (d : Domain) (o : Pending) (cpu : Cpu) (last : Last) : Type 0 where
+  pub took : (lock : LockId) → last ≡ Took lock → IsReady d o cpu Spin lock.index true
+  pub freed : (lock : LockId) → last ≡ Freed lock → IsReady d o cpu Spin lock.index false

@@ -2,7 +2,7 @@
 ghost use Rattle.std.specs.Prelude.{◌≡◌, ◌≢◌, true, false};
 ghost use Rattle.lk_abs.specs.declared.names.Kind.TheVariants.{Spin};
 ghost use Rattle.lk_port.specs.AnyPorts.{Ends, Frees, Locks, Misses, Refuses, Stays, Tries};
-ghost use Rattle.lk_port.specs.AnyPorts.{has_halted};
+ghost use Rattle.lk_port.specs.AnyPorts.{has_halted, may_halt};
 ghost use Rattle.lk_port.specs.PvPorts.{is_turn};
 ghost use Rattle.lk_port.specs.declared.answer.Answer.TheVariants.{Again, Busy, Done, Halts, Idle, Waits};
 
@@ -38,6 +38,7 @@ impl AnyPort {
     /// Begins to acquire a spinlock. `Done` says that the processor holds it, `Waits` that the caller
     /// is to poll until it does, and `Halts` that its next turn comes once the processor is kicked. It
     /// never waits.
+    #[inline(always)]
     pub fn begin(&mut self, lock: LockId) -> Answer
         ensures taken { result ≡ Done → Locks lock.index self.old self.new }
         ensures halts { result ≡ Halts → has_halted self.new ≡ true }
@@ -53,6 +54,7 @@ impl AnyPort {
 
     /// Frees a spinlock that the processor holds, and says which processor it has kicked. `Again` says
     /// that it could not, as [`PvPort::unlock`] has it.
+    #[inline(always)]
     pub fn unlock(&mut self, lock: LockId) -> Freed
         ensures freed { result.answer ≡ Done → Frees lock.index self.old self.new }
         ensures again { result.answer ≡ Again → Stays self.old self.new }
@@ -80,6 +82,17 @@ impl AnyPort {
         match self {
             AnyPort::Runs(port) => port.poll(),
             AnyPort::Halts(port) => port.poll(),
+        }
+    }
+
+    /// Whether its family's waiters halt.
+    #[inline]
+    pub fn may_halt(&self) -> bool
+        ensures { result ≡ may_halt self.now }
+    {
+        match self {
+            AnyPort::Runs(_) => false,
+            AnyPort::Halts(_) => true,
         }
     }
 

@@ -6,18 +6,41 @@ ghost use Rattle.lk_port.specs.Asking.{MayCall, Refuses, has, way};
 ghost use Rattle.lk_port.specs.declared.answer.Answer.{Answer};
 
 use crate::answer::Answer;
+use crate::last::Last;
 use crate::pending::Pending;
 use crate::port::Port;
 use lk_abs::Kind;
 use lk_domain::{Domain, LockId};
 
 impl Port {
+    // Whether a call may begin on a lock of this kind that the processor holds, or does not, because the
+    // last call took this spinlock, or freed it. A no says nothing.
+    #[inline]
+    fn last_allows(&self, lock: LockId, kind: Kind, held: bool) -> bool
+        ensures { result ≡ true → MayCall self.now kind lock.index held }
+    {
+        match kind {
+            Kind::Rw => false,
+            Kind::Spin => match self.last {
+                Last::Took(last) => held && last.index == lock.index,
+                Last::Freed(last) => !held && last.index == lock.index,
+                Last::Other => false,
+            },
+        }
+    }
+
     // Why no call may begin on a lock of this kind that the processor holds, or does not, if there is
-    // a reason.
+    // a reason. The first test is all that a thread meets that takes one lock and frees it, time after
+    // time: an atomic operation waits until the tests before it are done, and what they load waits for
+    // the atomic operation before.
+    #[inline]
     pub(crate) fn refuses(&self, lock: LockId, kind: Kind, held: bool) -> Option<Answer>
         ensures may { result ≡ None → MayCall self.now kind lock.index held }
         ensures why { (a : Answer) → result ≡ Some a → Refuses self.now kind lock.index a }
     {
+        if self.last_allows(lock, kind, held) {
+            return None;
+        }
         if !matches!(self.pending, Pending::Free) {
             return Some(Answer::Pending);
         }

@@ -9,6 +9,7 @@ mod answer;
 mod any_entering;
 mod any_port;
 mod asking;
+mod last;
 mod opening;
 mod pending;
 mod polling;

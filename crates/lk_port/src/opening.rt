@@ -8,6 +8,7 @@ ghost use Rattle.lk_domain.specs.declared.plan.TheConstants.{MOST_CPUS, MOST_LOC
 ghost use Rattle.lk_port.specs.Asking.{cpu_in, domain_in};
 ghost use Rattle.lk_port.specs.Opened.{mode_of, AreOpened, ArePortsOf, HasPlan, IsPlanFor};
 
+use crate::last::Last;
 use crate::pending::Pending;
 use crate::port::Port;
 use lk_abs::{Format, Kind, List, Memory, Mode, Topology};
@@ -74,6 +75,7 @@ fn port(alloc: Global, domain: &Arc<Domain, Global>, cpu: Cpu) -> Result<Port, F
         cpu,
         pending: Pending::Free,
         writes,
+        last: Last::Other,
     })
 }
 

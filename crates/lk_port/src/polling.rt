@@ -5,6 +5,7 @@ ghost use Rattle.lk_port.specs.declared.answer.Answer.TheVariants.{Done, Halts, 
 ghost use Rattle.lk_port.specs.declared.pending.Pending.TheVariants.{Free, Spins, Reads, Writes};
 
 use crate::answer::Answer;
+use crate::last::Last;
 use crate::pending::Pending;
 use crate::port::Port;
 use lk_domain::Domain;
@@ -35,10 +36,12 @@ impl Port {
         ensures has { result ≡ true → LocksNow waiter self.old self.new }
     {
         self.stands();
+        self.last = Last::Other;
         let domain: &Domain = &self.domain;
         match lk_run::poll(&mut self.cpu, domain, waiter) {
             None => {
                 self.pending = Pending::Free;
+                self.last = Last::Took(waiter.lock);
                 true
             }
             Some(waiter) => {
@@ -55,6 +58,7 @@ impl Port {
         ensures has { result ≡ true → ReadsNow waiter self.old self.new }
     {
         self.stands();
+        self.last = Last::Other;
         let domain: &Domain = &self.domain;
         match lk_run::poll_read(&mut self.cpu, domain, waiter) {
             None => {
@@ -76,6 +80,7 @@ impl Port {
         ensures has { result ≡ true → WritesNow waiter self.old self.new }
     {
         self.stands();
+        self.last = Last::Other;
         let domain: &Domain = &self.domain;
         match lk_run::poll_write(&mut self.cpu, domain, waiter) {
             None => {

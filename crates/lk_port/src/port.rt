@@ -2,8 +2,9 @@
 ghost use Rattle.std.specs.Prelude.{◌≡◌};
 ghost use Rattle.std.specs.Arc.{arc_value};
 ghost use Rattle.lk_domain.specs.Seats.{IsOf};
-ghost use Rattle.lk_port.specs.Standing.{Stands};
+ghost use Rattle.lk_port.specs.Standing.{IsLast, Stands};
 
+use crate::last::Last;
 use crate::pending::Pending;
 use lk_abs::List;
 use lk_domain::{Cpu, Domain};
@@ -18,7 +19,9 @@ pub struct Port {
     pub(crate) pending: Pending,
     // of each lock that it holds, whether it holds it as a writer
     pub(crate) writes: List<bool>,
+    pub(crate) last: Last,
     ghost of: { IsOf cpu (arc_value domain) },
+    ghost lasts: { IsLast (arc_value domain) pending cpu last },
     ghost stands: { ∥ Stands (arc_value domain) writes.items pending cpu ∥₁ },
 }
 

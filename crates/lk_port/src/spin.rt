@@ -13,6 +13,7 @@ ghost use Rattle.lk_port.specs.Ports.{HasTried, HasMissed, HasLocked, HasUnlocke
 ghost use Rattle.lk_port.specs.declared.answer.Answer.TheVariants.{Done, Busy, Waits};
 
 use crate::answer::Answer;
+use crate::last::Last;
 use crate::pending::Pending;
 use crate::port::Port;
 use lk_abs::Kind;
@@ -50,12 +51,18 @@ impl Port {
         ensures missed { result ≡ false → HasMissed Try lock.index self.old self.new }
     {
         self.stands();
+        self.last = Last::Other;
         let domain: &Domain = &self.domain;
-        lk_run::try_lock(&mut self.cpu, domain, lock)
+        let has = lk_run::try_lock(&mut self.cpu, domain, lock);
+        if has {
+            self.last = Last::Took(lock);
+        }
+        has
     }
 
     /// Begins to acquire a spinlock. `Done` says that the processor holds it, `Waits` that the caller
     /// is to poll until it does. It never waits.
+    #[inline(always)]
     pub fn begin(&mut self, lock: LockId) -> Answer
         ensures domain { self.new.domain ≡ self.old.domain }
         ensures taken { result ≡ Done → HasLocked lock.index self.old self.new }
@@ -83,8 +90,12 @@ impl Port {
         self.stands();
         let domain: &Domain = &self.domain;
         match lk_run::arrive(&mut self.cpu, domain, lock) {
-            None => true,
+            None => {
+                self.last = Last::Took(lock);
+                true
+            }
             Some(arrival) => {
+                self.last = Last::Other;
                 settles(
                     &mut self.cpu,
                     &self.domain,
@@ -97,6 +108,7 @@ impl Port {
     }
 
     /// Frees a spinlock that the processor holds.
+    #[inline(always)]
     pub fn unlock(&mut self, lock: LockId) -> Answer
         ensures domain { self.new.domain ≡ self.old.domain }
         ensures freed { result ≡ Done → HasUnlocked lock.index self.old self.new }
@@ -120,6 +132,7 @@ impl Port {
         self.stands();
         let domain: &Domain = &self.domain;
         lk_run::unlock(&mut self.cpu, domain, lock);
+        self.last = Last::Freed(lock);
     }
 }
 

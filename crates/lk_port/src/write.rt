@@ -9,6 +9,7 @@ ghost use Rattle.lk_port.specs.Ports.{HasTried, HasMissed, HasEntered, HasLeft};
 ghost use Rattle.lk_port.specs.declared.answer.Answer.TheVariants.{Done, Busy, Waits, WrongManner};
 
 use crate::answer::Answer;
+use crate::last::Last;
 use crate::pending::Pending;
 use crate::port::Port;
 use lk_abs::Kind;
@@ -44,6 +45,7 @@ impl Port {
         ensures missed { result ≡ false → HasMissed TryWrite lock.index self.old self.new }
     {
         self.stands();
+        self.last = Last::Other;
         let domain: &Domain = &self.domain;
         let has = lk_run::try_write(&mut self.cpu, domain, lock);
         if has {
@@ -79,6 +81,7 @@ impl Port {
         ensures entered { result ≡ true → HasEntered Write Writes lock.index self.old self.new }
     {
         self.stands();
+        self.last = Last::Other;
         let domain: &Domain = &self.domain;
         match lk_run::begin_write(&mut self.cpu, domain, lock) {
             None => {
@@ -120,6 +123,7 @@ impl Port {
         ensures left { HasLeft Z2 lock.index self.old self.new }
     {
         self.stands();
+        self.last = Last::Other;
         let domain: &Domain = &self.domain;
         lk_run::write_unlock(&mut self.cpu, domain, lock);
     }

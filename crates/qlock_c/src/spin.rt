@@ -31,9 +31,20 @@ pub extern "C" fn qlock_begin(cpu: &mut Processor, lock: u32) -> u32
     begins(cpu.handle.port_mut(), lock)
 }
 
-// What is left of it with the port, which is a parameter here.
+// What is left of it with the port, which is a parameter here. A call of the family whose waiters halt is
+// made by another function: one that comes back to this one would make every call save registers.
 #[inline(never)]
 fn begins(port: &mut AnyPort, lock: u32) -> u32
+    ensures { result ≡ 0 → Locks lock port.old port.new }
+{
+    if port.may_halt() {
+        return begins_halting(port, lock);
+    }
+    code(port.begin(LockId { index: lock }))
+}
+
+#[inline(never)]
+fn begins_halting(port: &mut AnyPort, lock: u32) -> u32
     ensures { result ≡ 0 → Locks lock port.old port.new }
 {
     code(port.begin(LockId { index: lock }))
@@ -47,7 +58,25 @@ pub extern "C" fn qlock_unlock(cpu: &mut Processor, lock: u32) -> u32
     if !cpu.used {
         return CLOSED;
     }
-    let port = cpu.handle.port_mut();
+    frees(cpu.handle.port_mut(), lock)
+}
+
+// What is left of it with the port. A release that may kick somebody is made by another function, which
+// has the room for whom: it would be cleared at the head of this one.
+#[inline(never)]
+fn frees(port: &mut AnyPort, lock: u32) -> u32
+    ensures { result ≡ 0 → Frees lock port.old port.new }
+{
+    if port.may_halt() {
+        return frees_halting(port, lock);
+    }
+    code(port.unlock(LockId { index: lock }).answer)
+}
+
+#[inline(never)]
+fn frees_halting(port: &mut AnyPort, lock: u32) -> u32
+    ensures { result ≡ 0 → Frees lock port.old port.new }
+{
     code(port.unlock(LockId { index: lock }).answer)
 }
 

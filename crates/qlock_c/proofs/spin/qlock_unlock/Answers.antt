@@ -5,7 +5,7 @@ use Rattle.qlock_c.proofs.spin.qlock_unlock.Goals as goal
 
 pub returns : goal.returns
 returns c ok p has =
-    let is : Some c.port_mut-port.result.now ≡ Some p = sym c.port_mut-port.ensures.value ∙ has in
-    let same : c.port_mut-port.result.now ≡ p = cc is in
-    let new = c.unlock.new.self in
-    (new, refl, subst (λ (q : AnyPort). Frees c.args.lock q new) same (c.unlock.ensures.freed (c.code.ensures ok)))
+    let is : Some c.port_mut.result.now ≡ Some p = sym c.port_mut.ensures.value ∙ has in
+    let same : c.port_mut.result.now ≡ p = cc is in
+    let new = c.frees.new.port in
+    (new, refl, subst (λ (q : AnyPort). Frees c.args.lock q new) same (c.frees.ensures ok))

@@ -22,6 +22,7 @@ invariant_of-self c =
     subst (λ (e : Domain). Holds e Lock l manner.Spins s new None) c.deref-domain.ensures (c.arrive.ensures.holds c.in-None.is false) in
     record {
       of = still_of d me.cpu new c.arrive.ensures.rest me.of;
+      lasts = port.has_taken d new c.args.lock may.free may.lock may.kind has.taken.holds;
       stands = ∣ port.stands d me.writes.items me.pending new may.free (port.held d Lock l s new None me.writes.items idle has may.kind) ∣₁;
     }
 
@@ -38,6 +39,7 @@ invariant_of-self-in-Some c =
     let begun = subst (λ (e : Domain). Arrived e lock.index c.in-Some.arrival.met s c.arrive.new.cpu) c.deref-domain.ensures (c.arrive.ensures.met c.in-Some.arrival c.in-Some.is false) in
     record {
       of = still_of d me.cpu new (rest_both me.cpu c.arrive.new.cpu new c.arrive.ensures.rest c.settles.ensures.rest) me.of;
+      lasts = port.other;
       stands = ∣ port.settled d me.writes.items lock me.pending o s new c.settles.result idle may.free may.kind
           (λ z. c.settles.ensures.holds z s begun)
           c.settles.ensures.same

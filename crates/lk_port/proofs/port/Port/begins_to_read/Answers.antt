@@ -22,6 +22,7 @@ invariant_of-self c =
     subst (λ (e : Domain). CameIn e Read l manner.Reads s new None) c.deref-domain.ensures (c.begin_read.ensures.entered c.in-None.is false) in
     record {
       of = still_of d me.cpu new c.begin_read.ensures.rest me.of;
+      lasts = port.other;
       stands = ∣ port.stands d (set me.writes.items l false) me.pending new may.free
           (port.came d Read l false s new None me.writes.items idle has may.lock may.kind) ∣₁;
     }
@@ -39,6 +40,7 @@ invariant_of-self-in-Some c =
     subst (λ (e : Domain). Waits e w s new) c.deref-domain.ensures (c.begin_read.ensures.waits w c.in-Some.is false) in
     record {
       of = still_of d me.cpu new c.begin_read.ensures.rest me.of;
+      lasts = port.other;
       stands = ∣ (s, idle, port.same_kind d c.args.lock w.lock (c.begin_read.ensures.lock w c.in-Some.is) may.kind, waits) ∣₁;
     }
 

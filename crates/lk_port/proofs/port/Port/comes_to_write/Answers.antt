@@ -24,6 +24,7 @@ invariant_of-self c =
     subst (λ (e : Domain). CameIn e Write w.lock.index manner.Writes was.0 c.poll_write.new.cpu None) same (c.poll_write.ensures.entered c.in-None.is was.0 waits) in
     record {
       of = still_of d me.cpu c.poll_write.new.cpu c.poll_write.ensures.rest me.of;
+      lasts = port.other;
       stands = ∣ port.came d Write w.lock.index true was.0 c.poll_write.new.cpu None me.writes.items was.1 has was.3.low was.2 ∣₁;
     }
 
@@ -40,6 +41,7 @@ invariant_of-self-in-Some c =
     subst (λ (e : Domain). Waits e v was.0 c.poll_write.new.cpu) same (c.poll_write.ensures.waits v c.in-Some.is was.0 waits) in
     record {
       of = still_of d me.cpu c.poll_write.new.cpu c.poll_write.ensures.rest me.of;
+      lasts = port.other;
       stands = ∣ (was.0, was.1, port.same_kind d w.lock v.lock (c.poll_write.ensures.lock v c.in-Some.is) was.2, goes) ∣₁;
     }
 

@@ -24,5 +24,6 @@ invariant_of-self c =
     let new = c.write_unlock.new.cpu in
     record {
       of = still_of d me.cpu new c.write_unlock.ensures.rest me.of;
+      lasts = port.other;
       stands = ∣ port.stands d me.writes.items me.pending new may.free (port.left d l me.cpu new Z2 me.writes.items idle c.write_unlock.ensures.left) ∣₁;
     }

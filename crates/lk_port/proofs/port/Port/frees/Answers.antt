@@ -23,5 +23,6 @@ invariant_of-self c =
     let new = c.unlock.new.cpu in
     record {
       of = still_of d me.cpu new c.unlock.ensures.rest me.of;
+      lasts = port.has_freed d me.pending me.cpu new c.args.lock may c.unlock.ensures.freed;
       stands = ∣ port.stands d me.writes.items me.pending new may.free (port.dropped d l me.cpu new me.writes.items idle c.unlock.ensures.freed) ∣₁;
     }

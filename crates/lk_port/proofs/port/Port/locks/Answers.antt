@@ -1,4 +1,4 @@
-use Rattle.std.proofs.Common.{None, subst, sym}
+use Rattle.std.proofs.Common.{None, refl, subst, sym}
 use Rattle.std.specs.Arc.{arc_value}
 use Rattle.lk_rows.specs.declared.setup.Verb.TheVariants.{Lock}
 use Rattle.lk_domain.specs.declared.domain.Domain.{Domain}
@@ -24,5 +24,6 @@ invariant_of-self c =
     subst (λ (e : Domain). Holds e Lock w.lock.index manner.Spins was.0 c.poll.new.cpu None) same (c.poll.ensures.holds c.in-None.is was.0 waits) in
     record {
       of = still_of d me.cpu c.poll.new.cpu c.poll.ensures.rest me.of;
+      lasts = port.has_taken d c.poll.new.cpu w.lock refl was.3.low was.2 has.taken.holds;
       stands = ∣ port.held d Lock w.lock.index was.0 c.poll.new.cpu None me.writes.items was.1 has was.2 ∣₁;
     }

@@ -21,6 +21,7 @@ invariant_of-self c =
     subst (λ (e : Domain). Gains e TryRead l manner.Reads (calls_of me.cpu) me.cpu new) c.deref-domain.ensures (c.try_read-has.ensures.taken c.if-has.true) in
     record {
       of = still_of d me.cpu new c.try_read-has.ensures.rest me.of;
+      lasts = port.other;
       stands = ∣ port.stands d (set me.writes.items l false) me.pending new may.free
           (port.gained d l me.cpu new TryRead manner.Reads me.writes.items (set me.writes.items l false) idle gains
           (port.notes_rw d.plan l false me.writes.items idle.noted.long may.lock may.kind)) ∣₁;

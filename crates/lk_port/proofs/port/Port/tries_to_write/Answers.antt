@@ -21,6 +21,7 @@ invariant_of-self c =
     subst (λ (e : Domain). Gains e TryWrite l manner.Writes (calls_of me.cpu) me.cpu new) c.deref-domain.ensures (c.try_write-has.ensures.taken c.if-has.true) in
     record {
       of = still_of d me.cpu new c.try_write-has.ensures.rest me.of;
+      lasts = port.other;
       stands = ∣ port.stands d (set me.writes.items l true) me.pending new may.free
           (port.gained d l me.cpu new TryWrite manner.Writes me.writes.items (set me.writes.items l true) idle gains
           (port.notes_rw d.plan l true me.writes.items idle.noted.long may.lock may.kind)) ∣₁;
