@@ -177,6 +177,9 @@ static inline void qlock_pause(void *unused) {
  * `relax(data)`: a pause, a yield, a sleep, or what your scheduler has. It does not sleep for a kick:
  * qlock_sleep.h has that for threads of Linux, and shows how a scheduler does it. */
 static inline uint32_t qlock_wait(qlock_cpu *cpu, uint32_t answer, void (*relax)(void *), void *data) {
+    if (answer == QLOCK_DONE) {
+        return answer;
+    }
     while (answer == QLOCK_WAITS || answer == QLOCK_HALTS) {
         relax(data);
         answer = qlock_poll(cpu);
