@@ -1,7 +1,8 @@
 -- How the states of a graph end.
 use Rattle.std.specs.Prelude.{◌≡◌, ◌≢◌, ◌<◌, ◌≤◌, ◌⊎◌, ℕ, Bool, true, false, not, List, length, slice_get, Some}
 use Rattle.lk_abs.specs.declared.events.Act.{Act}
-use Rattle.lk_rows.specs.Machine.{Machine}
+use Rattle.lk_rows.specs.Machine.{Machine, CpuState}
+use Rattle.lk_machine.specs.Parts.{is_over}
 use Rattle.lk_reach.specs.declared.book.Book.{Book}
 use Rattle.lk_reach.specs.declared.graph.Graph.{Graph}
 use Rattle.lk_reach.specs.Edges.{edges_in}
@@ -35,6 +36,11 @@ pub record AreEnds (g : Graph) (marks : List Bool) : Type 0 where
   pub count : length marks ≡ length g.space.keys
   pub yes : (k : ℕ) → slice_get marks k ≡ Some true → (s : Machine) → IsState g k s → AreOver s
   pub no : (k : ℕ) → slice_get marks k ≡ Some false → (s : Machine) → IsState g k s → ¬ AreOver s
+
+-- each mark says whether the part of its number is done
+pub record AreOvers (parts : List CpuState) (marks : List Bool) : Type 0 where
+  pub count : length marks ≡ length parts
+  pub each : (i : ℕ) (x : CpuState) → slice_get parts i ≡ Some x → slice_get marks i ≡ Some (is_over x)
 
 -- whatever acts follow, the state stays as it is but for what nobody reads, and not everybody is done
 pub record IsStuck (g : Graph) (s : Machine) : Type 0 where

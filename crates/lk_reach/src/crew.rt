@@ -15,6 +15,9 @@ use std::thread::Threads;
 // processors.
 const MOST_AHEAD: usize = 16_384;
 
+// As few they become where helpers do not find much of what was tried.
+const FEW_AHEAD: usize = 2_048;
+
 // How many at least, since it takes as long as a few of them until all threads have begun.
 const LEAST_AHEAD: usize = 128;
 
@@ -28,6 +31,24 @@ pub(crate) struct Crew<'a, R> {
     /// Which helper found what is taken next, and where it stands.
     at: usize,
     next: usize,
+    /// How many states are tried ahead at most.
+    width: usize,
+    /// How many acts were tried ahead last, and what of it was taken.
+    tried: usize,
+    taken: usize,
+}
+
+// How many states are tried ahead next, after so many of so many acts were found. A helper does not find
+// what leads to a part that nobody had met when it began. So after many of these it is better to begin
+// anew soon.
+fn fitting(width: usize, tried: usize, taken: usize) -> usize {
+    let missed = tried.saturating_sub(taken);
+    let next = if missed > tried / 32 {
+        width / 2
+    } else {
+        width.saturating_mul(2)
+    };
+    next.max(FEW_AHEAD).min(MOST_AHEAD)
 }
 
 impl<'a, R: Threads + Sync> Crew<'a, R> {
@@ -42,6 +63,9 @@ impl<'a, R: Threads + Sync> Crew<'a, R> {
             ahead: 0,
             at: 0,
             next: 0,
+            width: FEW_AHEAD,
+            tried: 0,
+            taken: 0,
         }
     }
 
@@ -67,15 +91,20 @@ impl<'a, R: Threads + Sync> Crew<'a, R> {
         if plan.folds || state < self.ahead {
             return;
         }
-        let to = space.len().min(state.saturating_add(MOST_AHEAD));
-        if to.saturating_sub(state) < LEAST_AHEAD {
+        let width = fitting(self.width, self.tried, self.taken);
+        let to = space.len().min(state.saturating_add(width));
+        let count = to.saturating_sub(state);
+        if count < LEAST_AHEAD {
             return;
         }
-        space.begin_look();
+        let rt = self.helpers.rt;
+        space.begin_look(rt, self.helpers.list.len(), count);
         self.ahead = to;
         self.at = 0;
         self.next = 0;
-        let rt = self.helpers.rt;
+        self.width = width;
+        self.tried = count.saturating_mul(plan.acts().len());
+        self.taken = 0;
         let part = Part { from: state, to };
         look_at(rt, self.helpers.list.as_mut_slice(), space, plan, part);
     }
@@ -125,6 +154,7 @@ impl<'a, R: Threads + Sync> Crew<'a, R> {
             return None;
         }
         self.next = self.next.saturating_add(1);
+        self.taken = self.taken.saturating_add(1);
         Some(finding)
     }
 }

@@ -10,8 +10,8 @@ use lk_abs::Memory;
 use lk_core::{acts_change_little, runs_keep};
 use std::alloc::Global;
 
-// Marks a state, if there is one with this number.
-fn mark(marks: &mut Vec<bool>, state: usize)
+/// Marks a state, or a part of one, if there is one with this number.
+pub(crate) fn mark(marks: &mut Vec<bool>, state: usize)
     ensures { IsMarkedOnly marks.old.items marks.new.items state }
 {
     if state < marks.len() {
@@ -19,8 +19,8 @@ fn mark(marks: &mut Vec<bool>, state: usize)
     }
 }
 
-// Whether a state is marked.
-fn is_marked(marks: &Vec<bool>, state: usize) -> bool
+/// Whether a state, or a part of one, is marked.
+pub(crate) fn is_marked(marks: &Vec<bool>, state: usize) -> bool
     ensures yes { result ≡ true → slice_get marks.now.items state ≡ Some true }
     ensures no { result ≡ false → slice_get marks.now.items state ≢ Some true }
 {
@@ -51,9 +51,10 @@ impl Graph {
     {
         runs_keep();
         acts_change_little();
+        let overs = self.space.overs()?;
         let mut marks = Vec::with_capacity(alloc, self.states())?;
         for state in 0..self.states() {
-            let is_over = self.is_over(state);
+            let is_over = self.space.are_over_at(state, self.cpus, &overs);
             add_mark(&mut marks, is_over)?;
         }
         Ok(marks)

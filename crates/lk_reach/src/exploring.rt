@@ -9,7 +9,7 @@ ghost use Rattle.lk_reach.specs.Reach.{AreMoves, IsBegun, IsMove, IsReached, aft
 ghost use Rattle.lk_reach.specs.Folded.{IsHere, IsNoted};
 ghost use Rattle.lk_reach.specs.Helped.{AreFresh, AreHelpers, IsSettled};
 ghost use Rattle.lk_reach.specs.Space.{Folds, Keeps};
-ghost use Rattle.lk_reach.specs.Explored.{AreColumns, IsExplored, IsGood, IsStart, IsSuch, KnowsLike, OnlyMoves};
+ghost use Rattle.lk_reach.specs.Explored.{AreColumns, IsExplored, IsGood, IsNew, IsStart, IsSuch, KnowsLike, OnlyMoves};
 ghost use Rattle.lk_reach.specs.Told.{IsGraph, IsWhole};
 
 use crate::book::{Book, Seen};
@@ -226,6 +226,29 @@ fn note_first(space: &mut Space, machine: &mut Machine, plan: &Plan) -> Result<(
     Ok(())
 }
 
+// What was met, and what is written down of it.
+#[derive(Drop)]
+struct Met {
+    space: Space,
+    book: Book,
+}
+
+// The state at which the plan begins, and nothing else.
+fn begin(alloc: Global, machine: &mut Machine, plan: &Plan) -> Result<Met, Memory>
+    requires few { length machine.old.cpus ≤ 8 }
+    ensures count { IfOk result (λ met. length met.space.keys ≡ 1) }
+    ensures keeps { IfOk result (λ met. Keeps met.space 0 machine.old) }
+    ensures folds { IfOk result (λ met. plan.now.folds ≡ true → (length met.space.folds ≡ 1)
+        × Folds met.space 0 machine.old) }
+    ensures machine { OnOk result (machine.new ≡ machine.old) }
+    ensures book { IfOk result (λ met. IsNew met.book (length plan.now.acts.items)) }
+{
+    let mut space = Space::new(alloc)?;
+    note_first(&mut space, machine, plan)?;
+    let book = Book::new(alloc, plan.acts().len())?;
+    Ok(Met { space, book })
+}
+
 /// Explores the states from the machine on at which the plan begins, level by level, until all are
 /// met or the watcher ends it. Helpers try acts ahead; how many there are changes nothing else.
 ///
@@ -259,11 +282,10 @@ pub fn explore<W: Watch, R: Threads + Sync>(
     runs_keep();
     acts_change_little();
     let cpus = machine.cpus();
-    let mut space = Space::new(alloc)?;
-    let mut book = Book::new(alloc, plan.acts().len())?;
-    note_first(&mut space, &mut machine, &plan)?;
+    let mut met = begin(alloc, &mut machine, &plan)?;
     let mut crew = Crew::new(machine, helpers);
-    let left = leave_all(&mut space, &mut crew, &plan, &mut book, watch)?;
+    let left = leave_all(&mut met.space, &mut crew, &plan, &mut met.book, watch)?;
+    let Met { space, book } = met;
     let machine = crew.machine();
     Ok(Graph {
         space,

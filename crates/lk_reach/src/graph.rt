@@ -2,8 +2,8 @@
 
 ghost use Rattle.std.specs.Prelude.{◌≡◌, ◌<◌, ◌≤◌, ◌++◌, ◌∷◌, [], ℕ, IfNone, IfOk, OnOk, IfSome, length, true, false};
 ghost use Rattle.lk_rows.specs.Machine.{Machine as MachineValue};
-ghost use Rattle.lk_reach.specs.Reach.{AreOver, MakesRow};
-ghost use Rattle.lk_reach.specs.Rows.{AreMarked, IsMade, IsUnmade};
+ghost use Rattle.lk_reach.specs.Reach.{MakesRow};
+ghost use Rattle.lk_reach.specs.Rows.{AreMarked, AreUsed, IsMade, IsUnmade};
 ghost use Rattle.lk_reach.specs.Space.{Keeps};
 ghost use Rattle.lk_reach.specs.Ends.{CountsEdges};
 ghost use Rattle.lk_reach.specs.Told.{IsDeepest, IsGraph, IsWhole};
@@ -122,16 +122,14 @@ impl Graph {
         None
     }
 
-    /// Whether a step of some processor makes this row at a state that was met.
-    pub fn is_made(&self, row: Pc) -> bool
-        requires few { self.now.cpus ≤ 8 }
+    // Whether a step of some processor makes this row at a state that was met, where the parts are marked
+    // that states have.
+    fn is_made(&self, used: &Vec<bool>, row: Pc) -> bool
+        requires { AreUsed self.now.space self.now.cpus (length self.now.space.keys) used.now.items }
         ensures yes { result ≡ true → IsMade self.now.space self.now.cpus row }
         ensures no { result ≡ false → IsUnmade self.now.space self.now.cpus row }
     {
-        match self.first_with(row) {
-            Some(_) => true,
-            None => false,
-        }
+        self.space.makes_used(used, row)
     }
 
     /// For each of these rows whether a step of some processor makes it at a state that was met.
@@ -145,29 +143,13 @@ impl Graph {
         ensures marks { IfOk result (λ marks. AreMarked self.now.space self.now.cpus
             rows.now marks.items) }
     {
+        let used = self.space.used(self.cpus)?;
         let mut marks = Vec::with_capacity(alloc, rows.len())?;
         for number in 0..rows.len() {
-            let is_made = self.is_made(rows[number]);
+            let is_made = self.is_made(&used, rows[number]);
             add_mark(&mut marks, is_made)?;
         }
         Ok(marks)
-    }
-
-    /// Whether every processor is done at a state.
-    pub fn is_over(&self, state: usize) -> bool
-        requires there { state < length self.now.space.keys }
-        requires few { self.now.cpus ≤ 8 }
-        ensures yes { result ≡ true → (s : MachineValue) → Keeps self.now.space state s
-            → length s.cpus ≡ self.now.cpus → AreOver s }
-        ensures no { result ≡ false → (s : MachineValue) → Keeps self.now.space state s
-            → length s.cpus ≡ self.now.cpus → ¬ AreOver s }
-    {
-        for cpu in 0..self.cpus {
-            if !self.space.is_over_at(state, cpu) {
-                return false;
-            }
-        }
-        true
     }
 }
 

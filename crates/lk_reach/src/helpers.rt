@@ -31,13 +31,13 @@ pub(crate) struct Part {
 }
 
 impl Part {
-    // How many there are.
-    fn len(self) -> usize {
+    /// How many there are.
+    pub(crate) fn len(self) -> usize {
         self.to.saturating_sub(self.from)
     }
 
-    // Those of them that are left for the helper of this number, where each has so many.
-    fn share(self, index: usize, each: usize) -> Part
+    /// Those of them that are left for the helper of this number, where each has so many.
+    pub(crate) fn share(self, index: usize, each: usize) -> Part
         ensures { result.to ≤ self.to }
     {
         let from = self.from.saturating_add(index.saturating_mul(each));

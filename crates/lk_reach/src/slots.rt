@@ -60,7 +60,7 @@ impl Slots {
         Ok(())
     }
 
-    /// Empties the slots, and adds a quarter as many.
+    /// Empties the slots, and adds half as many.
     ///
     /// # Errors
     ///
@@ -69,7 +69,7 @@ impl Slots {
         for at in 0..self.slots.len() {
             self.slots[at] = 0;
         }
-        let more = self.slots.len() / 4;
+        let more = self.slots.len() / 2;
         self.add(more)
     }
 

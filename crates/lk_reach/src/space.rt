@@ -2,13 +2,15 @@
 
 ghost use Rattle.std.specs.Prelude.{◌≡◌, ◌≢◌, ◌<◌, ◌≤◌, ◌++◌, ◌∷◌, [], IfOk, OnOk, IfSome, IfNone, ℕ, Some, length, slice_get, true, false};
 ghost use Rattle.lk_rows.specs.Machine.{Machine as MachineValue, CpuState as CpuValue, cpu_at};
-ghost use Rattle.lk_machine.specs.Parts.{is_over, row_of};
+ghost use Rattle.lk_machine.specs.Parts.{row_of};
 ghost use Rattle.lk_idle.specs.Alike.{AreAlike};
 ghost use Rattle.lk_reach.specs.declared.key.Key.{Key as KeyValue};
 ghost use Rattle.lk_reach.specs.Space.{AddsParts, AreClasses, AreFormed, Grows, IsFormOf, IsLoadable, IsNumbered, IsNumberOf, IsSameKind, Keeps, KeyKeeps, SameStates, SpaceValue};
 
 mod folds;
+mod growing;
 mod looking;
+mod marks;
 
 use crate::forms::form_number;
 use crate::key::{Key, MAX_CPUS};
@@ -336,14 +338,27 @@ impl Space {
         Some(number)
     }
 
+    // The number of the state with this key, which has this form, or of one of the same form. It gets
+    // one if there is none.
+    fn number_formed(&mut self, key: &Key, form: &Key) -> Result<u32, Memory>
+        requires { IsFormOf self.old.classes key.now form.now }
+        ensures { IfOk result (λ k. IsNumbered self.old self.new key.now k) }
+    {
+        let hash = form.number();
+        match self.find(form, hash) {
+            Some(number) => Ok(number),
+            None => self.add(key, hash),
+        }
+    }
+
     // The number of the state with this key or with one of the same form. It gets one if there is
     // none.
     fn number(&mut self, key: &Key) -> Result<u32, Memory>
         ensures { IfOk result (λ k. IsNumbered self.old self.new key.now k) }
     {
-        match self.sought(key) {
-            Some(number) => Ok(number),
-            None => self.add(key, self.hash_of(key)),
+        match self.form_of(key) {
+            Some(form) => self.number_formed(key, &form),
+            None => self.add(key, key.number()),
         }
     }
 
@@ -414,20 +429,6 @@ impl Space {
         let key = self.keys.at(state);
         let part = self.parts.items.get(key.part(cpu))?;
         part.next_row()
-    }
-
-    /// Whether a processor is done at a state.
-    pub(crate) fn is_over_at(&self, state: usize, cpu: u32) -> bool
-        requires there { state < length self.now.keys }
-        requires cpu { cpu < 8 }
-        ensures { (s : MachineValue) → Keeps self.now state s → cpu < length s.cpus
-            → result ≡ is_over (cpu_at s cpu) }
-    {
-        let key = self.keys.at(state);
-        match self.parts.items.get(key.part(cpu)) {
-            Some(part) => part.is_over(),
-            None => false,
-        }
     }
 
     /// Whether some part of a processor that was met makes this row.

@@ -11,6 +11,7 @@ use crate::key::Key;
 use crate::space::Space;
 use lk_abs::Memory;
 use lk_machine::Machine;
+use std::thread::Threads;
 
 impl Space {
     /// The key of what a machine is, if all its parts were met. The state `near` is one that differs
@@ -43,14 +44,18 @@ impl Space {
         Some(number)
     }
 
-    /// Says that helpers look next: what they do not find is sought among the states alone that are met
-    /// from here on.
-    pub(crate) fn begin_look(&mut self)
+    /// Says that helpers look next, on so many threads: what they do not find is sought among the states
+    /// alone that are met from here on, and some `more` of these are awaited.
+    pub(crate) fn begin_look<R: Threads + Sync>(&mut self, rt: &R, threads: usize, more: usize)
         ensures { self.new ≡ self.old }
     {
+        if threads == 0 {
+            return;
+        }
         match self.recent.renew() {
             Ok(()) | Err(_) => {}
         }
+        self.make_room_ahead(rt, threads, more);
     }
 
     // The number of a state with this form that was met since helpers looked, if it is found.
@@ -69,14 +74,26 @@ impl Space {
         None
     }
 
-    // The number of the state with this key, which has this form, or of one of the same form that was
-    // met since helpers looked. It gets one if there is none.
-    fn number_recent(&mut self, key: &Key, form: &Key) -> Result<u32, Memory>
+    // The number of a state with this form that helpers did not find, if it is found.
+    fn find_unseen(&self, form: &Key, hash: u64) -> Option<u32>
+        ensures { IfSome result (λ k. (item : KeyValue) × (slice_get self.now.keys k ≡ Some item)
+            × IsFormOf self.now.classes item form.now) }
+    {
+        if self.recent.has_all() {
+            self.find_recent(form, hash)
+        } else {
+            self.find(form, hash)
+        }
+    }
+
+    // The number of the state with this key, which has this form, or of one of the same form, neither of
+    // which helpers found. It gets one if there is none.
+    fn number_unseen(&mut self, key: &Key, form: &Key) -> Result<u32, Memory>
         requires { IsFormOf self.old.classes key.now form.now }
         ensures { IfOk result (λ k. IsNumbered self.old self.new key.now k) }
     {
         let hash = form.number();
-        match self.find_recent(form, hash) {
+        match self.find_unseen(form, hash) {
             Some(number) => Ok(number),
             None => self.add(key, hash),
         }
@@ -84,12 +101,12 @@ impl Space {
 
     // The number of the state with this key, which helpers did not find, or of one of the same form. It
     // gets one if there is none.
-    fn number_unseen(&mut self, key: &Key) -> Result<u32, Memory>
+    fn number_new(&mut self, key: &Key) -> Result<u32, Memory>
         ensures { IfOk result (λ k. IsNumbered self.old self.new key.now k) }
     {
         match self.form_of(key) {
-            Some(form) if self.recent.has_all() => self.number_recent(key, &form),
-            _ => self.number(key),
+            Some(form) => self.number_unseen(key, &form),
+            None => self.add(key, key.number()),
         }
     }
 
@@ -98,7 +115,7 @@ impl Space {
     pub(crate) fn note_key(&mut self, key: &Key) -> Result<u32, Memory>
         ensures { IfOk result (λ k. IsKeyNoted self.old self.new key.now k) }
     {
-        let number = self.number_unseen(key)?;
+        let number = self.number_new(key)?;
         self.formed();
         Ok(number)
     }

@@ -1,5 +1,5 @@
 use Rattle.std.proofs.Common.{arith}
-use Rattle.lk_reach.proofs.Firsts.{kept_first, new_first}
+use Rattle.lk_reach.proofs.apart.Firsts.{kept_first, new_first}
 use Rattle.lk_reach.proofs.book.tell.Goals as goal
 
 pub returns-then-is_first : goal.returns-then-is_first

@@ -1,7 +1,7 @@
 use Rattle.std.proofs.Common.{◌∙◌, ◌++◌, [], ◌∷◌, map, ap, sym}
 use Rattle.std.specs.Prelude.{take}
 use Rattle.lk_reach.specs.Copies.{tight}
-use Rattle.lk_reach.proofs.Copied.{copied_next}
+use Rattle.lk_reach.proofs.apart.Copied.{copied_next}
 use Rattle.lk_reach.proofs.copies.programs.Goals as goal
 
 pub loop-at-preserved : goal.loop-at-preserved

@@ -1,29 +1,22 @@
-use Rattle.std.proofs.Common.{arith, List, ap, ℕ, ◌≡◌, ◌≤◌, ◌∙◌, length, refl, sym, subst}
+use Rattle.std.proofs.Common.{arith, List, ap, ◌≡◌, ◌≤◌, ◌∙◌, length, refl, sym, subst}
 use Rattle.lk_rows.specs.declared.setup.Setup.{Setup}
 use Rattle.lk_rows.specs.Machine.{Machine}
 use Rattle.lk_reach.specs.declared.helper.Helper.{Helper}
-use Rattle.lk_reach.specs.Explored.{IsExplored, IsNew, IsSuch}
+use Rattle.lk_reach.specs.Explored.{IsExplored, IsSuch}
 use Rattle.lk_reach.specs.Helped.{AreFresh, AreHelpers}
 use Rattle.lk_reach.specs.Reach.{IsBegun, IsReached, bare, cpus_of, start_of}
 use Rattle.lk_reach.specs.Space.{Keeps}
 use Rattle.lk_reach.proofs.Left as left
 use Rattle.lk_reach.proofs.Closed as closed
-use Rattle.lk_reach.proofs.Helped as helped
+use Rattle.lk_reach.proofs.apart.Helped as helped
 use Rattle.lk_reach.proofs.Known as known
-use Rattle.lk_reach.proofs.Noted as noted
+use Rattle.lk_reach.proofs.apart.Noted as noted
 use Rattle.lk_reach.proofs.exploring.explore.Goals as goal
-
-pub note_first-requires : goal.note_first-requires
-note_first-requires g c = record {
-  few = c.requires.few;
-  keys = c.in_ok-space.ensures.keys;
-  folds = c.in_ok-space.ensures.folds;
-}
 
 pub leave_all-requires-clause-few : goal.leave_all-requires-clause-few
 leave_all-requires-clause-few g c κs outlives =
     let m = c.args.machine in
-    let e = c.in_ok-note_first.ensures in
+    let e = c.in_ok-met.ensures in
     let same : c.new-crew.result.machine ≡ m = c.new-crew.ensures.machine ∙ e.machine in
     subst (λ (q : Machine). length q.cpus ≤ 8) (sym same) c.requires.few
 
@@ -31,7 +24,7 @@ pub leave_all-requires-clause-begun : goal.leave_all-requires-clause-begun
 leave_all-requires-clause-begun g c κs outlives =
     let p = c.args.plan in
     let m = c.args.machine in
-    let e = c.in_ok-note_first.ensures in
+    let e = c.in_ok-met.ensures in
     let same : c.new-crew.result.machine ≡ m = c.new-crew.ensures.machine ∙ e.machine in
     subst (λ (q : Machine). IsBegun p q.setup) (sym same) c.requires.start.begun
 
@@ -39,7 +32,7 @@ pub leave_all-requires-clause-such : goal.leave_all-requires-clause-such
 leave_all-requires-clause-such g c κs outlives =
     let p = c.args.plan in
     let m = c.args.machine in
-    let e = c.in_ok-note_first.ensures in
+    let e = c.in_ok-met.ensures in
     let same : c.new-crew.result.machine ≡ m = c.new-crew.ensures.machine ∙ e.machine in
     let z = m.setup in
     let laws : closed.Laws = record { runs = c.runs_keep.ensures.run; setup = c.acts_change_little.ensures.setup } in
@@ -52,39 +45,34 @@ pub leave_all-requires-clause-helpers : goal.leave_all-requires-clause-helpers
 leave_all-requires-clause-helpers g c κs outlives =
     let p = c.args.plan in
     let m = c.args.machine in
-    let e = c.in_ok-note_first.ensures in
+    let e = c.in_ok-met.ensures in
     let same : c.new-crew.result.machine ≡ m = c.new-crew.ensures.machine ∙ e.machine in
     let crew = c.new-crew.result in
-    subst (λ (hs : List Helper). AreHelpers p crew.machine.setup c.note_first.new.space hs) (sym c.new-crew.ensures.helpers)
-    (helped.fresh_helpers p crew.machine.setup c.note_first.new.space c.args.helpers.list.items
+    subst (λ (hs : List Helper). AreHelpers p crew.machine.setup c.in_ok-met.met.space hs) (sym c.new-crew.ensures.helpers)
+    (helped.fresh_helpers p crew.machine.setup c.in_ok-met.met.space c.args.helpers.list.items
     (subst (λ (q : Machine). AreFresh q.setup c.args.helpers.list.items) (sym same) c.requires.helpers))
 
 pub leave_all-requires-clause-explored : goal.leave_all-requires-clause-explored
 leave_all-requires-clause-explored g c κs outlives =
     let p = c.args.plan in
     let m = c.args.machine in
-    let e = c.in_ok-note_first.ensures in
+    let e = c.in_ok-met.ensures in
     let same : c.new-crew.result.machine ≡ m = c.new-crew.ensures.machine ∙ e.machine in
     let z = m.setup in
     let laws : closed.Laws = record { runs = c.runs_keep.ensures.run; setup = c.acts_change_little.ensures.setup } in
     let begun = c.requires.start.begun in
     let there = c.requires.start.there in
-    let v = c.note_first.new.space in
+    let v = c.in_ok-met.met.space in
     let count = e.count in
-    let new : IsNew c.in_ok-book.book (length p.acts.items) =
-    subst (λ (n : ℕ). IsNew c.in_ok-book.book n) (ap length c.acts.ensures) c.in_ok-book.ensures in
+    let new = e.book in
     let keeps : Keeps v 0 (bare (start_of p z)) = subst (λ (q : Machine). Keeps v 0 q) there e.keeps in
-    subst (λ (q : Machine). IsExplored p q.setup v c.in_ok-book.book 0) (sym same)
-    (left.explored_start p z laws begun c.requires.start.acts v c.in_ok-book.book 0 new keeps
+    subst (λ (q : Machine). IsExplored p q.setup v c.in_ok-met.met.book 0) (sym same)
+    (left.explored_start p z laws begun c.requires.start.acts v c.in_ok-met.met.book 0 new keeps
     (λ k low. omega (arith, low, count))
     (λ folds. noted.first_folds p z begun v m there count e.keeps (e.folds folds).0 (e.folds folds).1))
 
 pub leave_all-requires-clause-columns : goal.leave_all-requires-clause-columns
-leave_all-requires-clause-columns g c κs outlives =
-    let p = c.args.plan in
-    let new : IsNew c.in_ok-book.book (length p.acts.items) =
-    subst (λ (n : ℕ). IsNew c.in_ok-book.book n) (ap length c.acts.ensures) c.in_ok-book.ensures in
-    new.columns
+leave_all-requires-clause-columns g c κs outlives = c.in_ok-met.ensures.book.columns
 
 pub returns : goal.returns
 returns g c =
@@ -98,7 +86,7 @@ returns g c =
     (closed.reached_start laws p z begun) in
     let few = c.requires.few in
     let count = c.cpus-cpus.ensures in
-    let same = ap (λ (q : Machine). q.setup) (c.new-crew.ensures.machine ∙ c.in_ok-note_first.ensures.machine) in
+    let same = ap (λ (q : Machine). q.setup) (c.new-crew.ensures.machine ∙ c.in_ok-met.ensures.machine) in
     let last = c.machine-machine.ensures in
     let now = c.machine-machine.result in
     let explored = subst (λ (q : Setup). IsExplored p q c.leave_all.new.space c.leave_all.new.book c.in_ok-left.left)

@@ -1,12 +1,11 @@
 use Rattle.std.proofs.Common.{◌≡◌, ap, List, ℕ, Some, sym, subst}
 use Rattle.std.specs.Prelude.{slice_get}
-use Rattle.lk_abs.specs.declared.events.Act.{Act}
 use Rattle.lk_rows.specs.declared.setup.Setup.{Setup}
 use Rattle.lk_rows.specs.Machine.{Machine}
 use Rattle.lk_reach.specs.declared.helper.Helper.{Helper}
 use Rattle.lk_reach.specs.Helped.{AreHelpers}
 use Rattle.lk_reach.specs.Reach.{IsReached}
-use Rattle.lk_reach.proofs.Helped as helped
+use Rattle.lk_reach.proofs.apart.Helped as helped
 use Rattle.lk_reach.proofs.exploring.lead.Goals as goal
 
 pub returns-in_ok-then-in-Some-clause-noted : goal.returns-in_ok-then-in-Some-clause-noted

@@ -11,7 +11,7 @@ use Rattle.lk_reach.specs.Helped.{AreHelpers}
 use Rattle.lk_reach.specs.Reach.{IsReached, after, state_after}
 use Rattle.lk_reach.specs.Space.{Keeps}
 use Rattle.lk_reach.proofs.Kept.{keeps_grown}
-use Rattle.lk_reach.proofs.Leading as leading
+use Rattle.lk_reach.proofs.apart.Leading as leading
 use Rattle.lk_reach.proofs.Left as left
 use Rattle.lk_reach.proofs.Columns as columns
 use Rattle.lk_reach.proofs.Closed as closed

@@ -15,7 +15,7 @@ use Rattle.lk_reach.specs.Space.{Keeps}
 use Rattle.lk_reach.proofs.Closed as closed
 use Rattle.lk_reach.proofs.Folded as folded
 use Rattle.lk_reach.proofs.Left as left
-use Rattle.lk_reach.proofs.Noted as noted
+use Rattle.lk_reach.proofs.apart.Noted as noted
 use Rattle.lk_reach.proofs.folding.fold.Goals as goal
 
 pub order_for-order-requires : goal.order_for-order-requires

@@ -1,4 +1,4 @@
-use Rattle.lk_reach.proofs.Noted.{plain_noted}
+use Rattle.lk_reach.proofs.apart.Noted.{plain_noted}
 use Rattle.lk_reach.proofs.folding.note.Goals as goal
 
 pub returns-in_ok-number-2-clause-noted : goal.returns-in_ok-number-2-clause-noted

@@ -12,7 +12,7 @@ use Rattle.lk_reach.specs.Reach.{after, bare, run, start_of}
 use Rattle.lk_reach.proofs.Closed as closed
 use Rattle.lk_reach.proofs.Folded as folded
 use Rattle.lk_reach.proofs.Left as left
-use Rattle.lk_reach.proofs.Noted as noted
+use Rattle.lk_reach.proofs.apart.Noted as noted
 use Rattle.lk_reach.proofs.folding.run_renamed.Goals as goal
 
 pub load-requires-clause-there : goal.load-requires-clause-there

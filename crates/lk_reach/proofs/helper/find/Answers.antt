@@ -10,7 +10,7 @@ use Rattle.lk_reach.specs.Reach.{after}
 use Rattle.lk_reach.specs.Space.{Keeps, KeyKeeps}
 use Rattle.lk_reach.proofs.Closed as closed
 use Rattle.lk_reach.proofs.Folded as folded
-use Rattle.lk_reach.proofs.Helped as helped
+use Rattle.lk_reach.proofs.apart.Helped as helped
 use Rattle.lk_reach.proofs.Left as left
 use Rattle.lk_reach.proofs.helper.find.Goals as goal
 

@@ -1,4 +1,4 @@
-use Rattle.std.proofs.Common.{arith, ◌∙◌, ◌+◌, ◌++◌, ◌∷◌, [], ap, get_or, length, length-append}
+use Rattle.std.proofs.Common.{arith, ◌∙◌, ◌+◌, ◌∷◌, [], ap, get_or, length, length-append}
 use Rattle.lk_reach.proofs.Listed.{one_zero}
 use Rattle.lk_reach.proofs.padded.pad.Goals as goal
 

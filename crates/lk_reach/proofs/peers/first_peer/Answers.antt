@@ -1,4 +1,4 @@
-use Rattle.lk_reach.proofs.Alike.{peer_self}
+use Rattle.lk_reach.proofs.apart.Alike.{peer_self}
 use Rattle.lk_reach.proofs.peers.first_peer.Goals as goal
 
 pub returns : goal.returns

@@ -6,7 +6,7 @@ use Rattle.lk_rows.specs.Programs.{handlers_of}
 use Rattle.lk_reach.specs.Reach.{cpus_of}
 use Rattle.lk_reach.specs.Space.{IsFront}
 use Rattle.lk_reach.specs.Explored.{Among, OnlyMoves}
-use Rattle.lk_reach.proofs.Moves.{front_push, only_push, all_push, all_skip}
+use Rattle.lk_reach.proofs.apart.Moves.{front_push, only_push, all_push, all_skip}
 use Rattle.lk_reach.proofs.plan.add_handlers.Goals as goal
 
 pub loop-cpu-preserved : goal.loop-cpu-preserved

@@ -4,7 +4,7 @@ use Rattle.lk_abs.specs.declared.events.Act.TheVariants as act
 use Rattle.lk_reach.specs.Reach.{cpus_of}
 use Rattle.lk_reach.specs.Space.{IsFront}
 use Rattle.lk_reach.specs.Explored.{Among, OnlyMoves}
-use Rattle.lk_reach.proofs.Moves.{front_push, is_asked, only_push, all_push, among_front}
+use Rattle.lk_reach.proofs.apart.Moves.{front_push, is_asked, only_push, all_push, among_front}
 use Rattle.lk_reach.proofs.plan.add_preempts.Goals as goal
 
 pub loop-cpu-preserved : goal.loop-cpu-preserved

@@ -1,5 +1,5 @@
 use Rattle.lk_abs.specs.declared.events.Act.TheVariants as act
-use Rattle.lk_reach.proofs.Moves.{are_all, among_front}
+use Rattle.lk_reach.proofs.apart.Moves.{are_all, among_front}
 use Rattle.lk_reach.proofs.plan.moves.Goals as goal
 
 pub returns : goal.returns

@@ -1,4 +1,4 @@
-use Rattle.std.proofs.Common.{◌≡◌, ◌∙◌, ◌++◌, ◌∷◌, [], ℕ, List, ap, arith}
+use Rattle.std.proofs.Common.{◌∙◌, ◌++◌, ◌∷◌, [], ℕ, List, ap, arith}
 use Rattle.lk_reach.specs.Numbers.{number_at}
 use Rattle.lk_reach.proofs.Listed.{listed_more}
 use Rattle.lk_reach.proofs.column.Column.push.Goals as goal

@@ -6,7 +6,7 @@ use Rattle.lk_reach.specs.declared.helper.Helper.{Helper}
 use Rattle.lk_reach.specs.Explored.{IsSuch}
 use Rattle.lk_reach.specs.Helped.{HasLooked, IsReady, MayLook}
 use Rattle.lk_reach.specs.Space.{SpaceValue}
-use Rattle.lk_reach.proofs.Helped as helped
+use Rattle.lk_reach.proofs.apart.Helped as helped
 use Rattle.lk_reach.proofs.crew.Crew.look_ahead.Goals as goal
 
 pub look_at-requires-clause-ready : goal.look_at-requires-clause-ready

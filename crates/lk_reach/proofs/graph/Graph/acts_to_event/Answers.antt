@@ -3,7 +3,7 @@ use Rattle.std.proofs.lemmas.Option.{slice_get_within}
 use Rattle.lk_abs.specs.declared.events.Act.{Act}
 use Rattle.lk_reach.specs.Told.{IsShortestToEvent}
 use Rattle.lk_reach.proofs.Closed.{Laws}
-use Rattle.lk_reach.proofs.Leading.{never_told, shortest_event}
+use Rattle.lk_reach.proofs.apart.Leading.{never_told, shortest_event}
 use Rattle.lk_reach.proofs.graph.Graph.acts_to_event.Goals as goal
 
 pub acts_to-requires : goal.acts_to-requires

@@ -18,14 +18,14 @@ loop-state-preserved c =
     let g = c.args.self.now in
     let laws : Laws = record { runs = c.runs_keep.ensures.run; setup = c.acts_change_little.ensures.setup } in
     let marks = c.loop-state.marks.items in
-    let mark = c.is_over-is_over.result in
+    let mark = c.are_over_at-is_over.result in
     let pushed = c.in_ok-add_mark.ensures in
     let size : length (marks ++ mark ∷ []) ≡ length marks + 1 = length-append marks (mark ∷ []) in
     record {
       count = ap length pushed ∙ size ∙ ap (λ (k : ℕ). k + 1) inv.count;
       so = ends_more laws g c.requires.graph marks c.add_mark.new.marks.items mark pushed inv.so
-          (λ yes s keeps cpus. c.is_over-is_over.ensures.yes yes s (subst (λ (h : ℕ). Keeps g.space h s) inv.count keeps) cpus)
-          (λ no s keeps cpus. c.is_over-is_over.ensures.no no s (subst (λ (h : ℕ). Keeps g.space h s) inv.count keeps) cpus);
+          (λ yes s keeps cpus. c.are_over_at-is_over.ensures.yes yes s (subst (λ (h : ℕ). Keeps g.space h s) inv.count keeps) cpus)
+          (λ no s keeps cpus. c.are_over_at-is_over.ensures.no no s (subst (λ (h : ℕ). Keeps g.space h s) inv.count keeps) cpus);
     }
 
 pub returns : goal.returns

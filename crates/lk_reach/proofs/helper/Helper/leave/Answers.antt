@@ -2,7 +2,7 @@ use Rattle.std.proofs.Common.{◌∙◌, sym, subst}
 use Rattle.lk_rows.specs.declared.setup.Setup.{Setup}
 use Rattle.lk_reach.specs.Explored.{IsSuch}
 use Rattle.lk_reach.specs.Helped.{IsFound, MayLook}
-use Rattle.lk_reach.proofs.Helped as helped
+use Rattle.lk_reach.proofs.apart.Helped as helped
 use Rattle.lk_reach.specs.declared.found.Finding.{Finding}
 use Rattle.std.specs.Prelude.{IfSome}
 use Rattle.lk_reach.proofs.helper.Helper.leave.Goals as goal

@@ -1,9 +1,7 @@
-use Rattle.std.proofs.Common.{◌≡◌, ◌∙◌, List, [], sym, subst}
+use Rattle.std.proofs.Common.{◌∙◌, sym, subst}
 use Rattle.lk_rows.specs.declared.setup.Setup.{Setup}
-use Rattle.lk_reach.specs.declared.found.Finding.{Finding}
 use Rattle.lk_reach.specs.Explored.{IsSuch}
 use Rattle.lk_reach.specs.Helped.{AreFound, IsHelper, MayLook}
-use Rattle.lk_reach.proofs.Helped as helped
 use Rattle.lk_reach.proofs.helper.Helper.look.Goals as goal
 
 pub leave-requires-clause-ready : goal.leave-requires-clause-ready

@@ -1,10 +1,9 @@
 use Rattle.std.proofs.Common.{◌∙◌, ap, sym, subst}
-use Rattle.lk_rows.specs.declared.setup.Setup.{Setup}
 use Rattle.lk_rows.specs.Machine.{Machine}
 use Rattle.lk_rows.specs.Run.{at_rest}
 use Rattle.lk_reach.specs.Copies.{tight_setup}
 use Rattle.lk_reach.specs.Explored.{IsSuch}
-use Rattle.lk_reach.proofs.Helped as helped
+use Rattle.lk_reach.proofs.apart.Helped as helped
 use Rattle.lk_reach.proofs.helper.Helper.new.Goals as goal
 
 pub returns : goal.returns

@@ -2,7 +2,7 @@ use Rattle.std.proofs.Common.{List, sym, subst}
 use Rattle.lk_reach.specs.declared.helper.Helper.{Helper}
 use Rattle.lk_reach.specs.Copies.{tight_setup}
 use Rattle.lk_reach.specs.Helped.{AreFresh}
-use Rattle.lk_reach.proofs.Helped.{fresh_more}
+use Rattle.lk_reach.proofs.apart.Helped.{fresh_more}
 use Rattle.lk_reach.proofs.helpers.Helpers.new.Goals as goal
 
 pub loop-made-preserved : goal.loop-made-preserved

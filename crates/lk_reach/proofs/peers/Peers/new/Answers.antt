@@ -2,7 +2,7 @@ use Rattle.std.proofs.Common.{ℕ, arith, get_or, inl, inr, length-set, set, sub
 use Rattle.std.proofs.lemmas.Bool.{cases_eq}
 use Rattle.std.proofs.lemmas.List.{get_or-set_other, get_or-set_same}
 use Rattle.lk_reach.specs.Peers.{IsPeer}
-use Rattle.lk_reach.proofs.Alike.{first_all}
+use Rattle.lk_reach.proofs.apart.Alike.{first_all}
 use Rattle.lk_reach.proofs.peers.Peers.new.Goals as goal
 
 pub loop-cpu-preserved : goal.loop-cpu-preserved

@@ -1,6 +1,6 @@
 use Rattle.std.proofs.Common.{arith, inr, refl}
 use Rattle.lk_reach.proofs.Left.{grows_self}
-use Rattle.lk_reach.proofs.space.Space.number_recent.Goals as goal
+use Rattle.lk_reach.proofs.space.Space.number_formed.Goals as goal
 
 pub returns-in-Some : goal.returns-in-Some
 returns-in-Some c =

@@ -1,5 +1,5 @@
 -- What helpers find stays so, and gives the numbers that one thread alone would give.
-use Rattle.std.proofs.Common.{arith, ℕ, ◌≡◌, ◌∙◌, ◌<◌, ◌≤◌, ◌++◌, List, [], ◌∷◌, Option, Some, false, length, ap, inl, inr, refl, sym, subst}
+use Rattle.std.proofs.Common.{arith, ℕ, ◌≡◌, ◌∙◌, ◌<◌, ◌++◌, List, [], ◌∷◌, Option, Some, false, length, ap, inl, inr, refl, sym, subst}
 use Rattle.std.proofs.lemmas.List.{append-nil, drop_all, length-replicate, take_all}
 use Rattle.std.specs.Prelude.{IfSome, drop, slice_get, slice_index_or, take}
 use Rattle.std.proofs.lemmas.Option.{slice_get_within, slice_get-get_or}
@@ -17,7 +17,7 @@ use Rattle.lk_reach.specs.declared.found.Then.TheVariants as then
 use Rattle.lk_reach.specs.declared.helper.Helper.{Helper}
 use Rattle.lk_reach.specs.declared.key.Key.{Key}
 use Rattle.lk_reach.specs.declared.plan.Plan.{Plan}
-use Rattle.lk_reach.specs.Explored.{IsGood, IsSuch, KeepsLike}
+use Rattle.lk_reach.specs.Explored.{IsGood, IsSuch}
 use Rattle.lk_reach.specs.Folded.{IsHere, IsNoted, StandsFor}
 use Rattle.lk_reach.specs.Helped.{AreFound, AreFresh, AreHelpers, HasLooked, IsFound, IsFresh, IsHelper, IsKeyNoted, IsKnown, IsOneOf}
 use Rattle.lk_reach.specs.Helped.{IsSettled, LeadsThere, MayKeep}
@@ -28,7 +28,7 @@ use Rattle.lk_reach.proofs.Folded.{laws, stands_alike}
 use Rattle.lk_reach.proofs.Grown.{like_grown}
 use Rattle.lk_reach.proofs.Kept.{key_grown, keeps_grown, one_value}
 use Rattle.lk_reach.proofs.Left.{grows_self}
-use Rattle.lk_reach.proofs.Noted.{plain_noted, same_kind}
+use Rattle.lk_reach.proofs.apart.Noted.{plain_noted, same_kind}
 
 -- nothing stands in an empty list
 none_there : {A : Type 0} → (i : ℕ) (x : A) → slice_get [] i ≡ Some x → ⊥

@@ -13,7 +13,7 @@ use Rattle.lk_reach.specs.Folded.{Fits}
 use Rattle.lk_reach.specs.Order.{AreOwn, IsPlaced, renaming_of}
 use Rattle.lk_reach.specs.Peers.{AreFirsts, number_of}
 use Rattle.lk_reach.specs.Reach.{IsBegun, cpus_of, start_of}
-use Rattle.lk_reach.proofs.Alike.{number_low, number_past}
+use Rattle.lk_reach.proofs.apart.Alike.{number_low, number_past}
 use Rattle.lk_rows.specs.Run.{at_rest, machine_after}
 use Rattle.lk_abs.specs.declared.events.Act.{Act}
 

@@ -14,7 +14,7 @@ use Rattle.lk_reach.specs.Told.{IsDeepest, IsGraph, IsLikeWithin, IsWithin, IsWh
 use Rattle.lk_reach.proofs.Closed.{Laws, same_state}
 use Rattle.lk_reach.proofs.Known.{no_sooner, whole_met}
 use Rattle.lk_reach.proofs.Kept.{one_value}
-use Rattle.lk_reach.proofs.Leading.{LeadsOn, leads_start, leads_then, way_to}
+use Rattle.lk_reach.proofs.apart.Leading.{LeadsOn, leads_start, leads_then, way_to}
 use Rattle.lk_reach.proofs.Left.{has_origin}
 
 module _ (laws : Laws) (g : Graph) (is : IsGraph g) where

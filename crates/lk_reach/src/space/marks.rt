@@ -1,0 +1,131 @@
+// Marks of parts. A part makes a row or none, and is done or not, whichever state has it. There are far
+// fewer parts than states, and they are far larger than marks.
+
+ghost use Rattle.std.specs.Prelude.{◌≡◌, ◌<◌, ◌≤◌, IfOk, length, replicate, true, false};
+ghost use Rattle.lk_rows.specs.Machine.{Machine as MachineValue};
+ghost use Rattle.lk_reach.specs.Ends.{AreOvers};
+ghost use Rattle.lk_reach.specs.Reach.{AreOver};
+ghost use Rattle.lk_reach.specs.Rows.{AreUsed, AreUsedNow, MakesAt, MakesMarked};
+ghost use Rattle.lk_reach.specs.Space.{Keeps};
+
+use crate::ends::{is_marked, mark};
+use crate::graph::add_mark;
+use crate::key::Key;
+use crate::space::{Space, is_row};
+use lk_abs::Memory;
+use lk_machine::CpuState;
+use lk_rows::Pc;
+use std::alloc::Global;
+
+// For each of these parts a mark that is not set.
+fn unmarked(alloc: Global, parts: &[CpuState]) -> Result<Vec<bool>, Memory>
+    ensures { IfOk result (λ marks. marks.items ≡ replicate (length parts.now) false) }
+{
+    let marks = vec![in alloc; false; parts.len()]?;
+    Ok(marks)
+}
+
+// Marks the parts of a state's first processors.
+fn mark_parts(marks: &mut Vec<bool>, key: &Key, cpus: u32)
+    requires { cpus ≤ 8 }
+    ensures { AreUsedNow key.now marks.old.items marks.new.items cpus }
+{
+    for cpu in 0..cpus {
+        mark(marks, key.part(cpu));
+    }
+}
+
+// Whether a part is marked, and makes this row.
+fn makes_at(parts: &[CpuState], marks: &Vec<bool>, at: usize, row: Pc) -> bool
+    requires { at < length parts.now }
+    ensures yes { result ≡ true → MakesAt parts.now marks.now.items row at }
+    ensures no { result ≡ false → ¬ MakesAt parts.now marks.now.items row at }
+{
+    if !is_marked(marks, at) {
+        return false;
+    }
+    is_row(parts[at].next_row(), row)
+}
+
+// Whether one of the marked parts makes this row.
+fn makes_marked(parts: &[CpuState], marks: &Vec<bool>, row: Pc) -> bool
+    ensures yes { result ≡ true → MakesMarked parts.now marks.now.items row }
+    ensures no { result ≡ false → ¬ MakesMarked parts.now marks.now.items row }
+{
+    for at in 0..parts.len() {
+        if makes_at(parts, marks, at, row) {
+            return true;
+        }
+    }
+    false
+}
+
+// For each of these parts whether it is done.
+fn overs(alloc: Global, parts: &[CpuState]) -> Result<Vec<bool>, Memory>
+    ensures { IfOk result (λ marks. AreOvers parts.now marks.items) }
+{
+    let mut marks = Vec::with_capacity(alloc, parts.len())?;
+    for at in 0..parts.len() {
+        add_mark(&mut marks, parts[at].is_over())?;
+    }
+    Ok(marks)
+}
+
+impl Space {
+    /// For each part of a processor that was met whether it is done.
+    ///
+    /// # Errors
+    ///
+    /// There is not enough memory.
+    pub(crate) fn overs(&self) -> Result<Vec<bool>, Memory>
+        ensures { IfOk result (λ marks. AreOvers self.now.parts marks.items) }
+    {
+        let marks = overs(self.alloc, &self.parts.items)?;
+        Ok(marks)
+    }
+
+    /// Whether the first processors are done at a state, where the parts are marked that are done.
+    pub(crate) fn are_over_at(&self, state: usize, cpus: u32, overs: &Vec<bool>) -> bool
+        requires there { state < length self.now.keys }
+        requires few { cpus ≤ 8 }
+        requires overs { AreOvers self.now.parts overs.now.items }
+        ensures yes { result ≡ true → (s : MachineValue) → Keeps self.now state s
+            → length s.cpus ≡ cpus → AreOver s }
+        ensures no { result ≡ false → (s : MachineValue) → Keeps self.now state s
+            → length s.cpus ≡ cpus → ¬ AreOver s }
+    {
+        let key = self.keys.at(state);
+        for cpu in 0..cpus {
+            if !is_marked(overs, key.part(cpu)) {
+                return false;
+            }
+        }
+        true
+    }
+
+    /// For each part of a processor that was met whether some state has it, as that of one of so many
+    /// processors.
+    ///
+    /// # Errors
+    ///
+    /// There is not enough memory.
+    pub(crate) fn used(&self, cpus: u32) -> Result<Vec<bool>, Memory>
+        requires { cpus ≤ 8 }
+        ensures { IfOk result (λ marks. AreUsed self.now cpus (length self.now.keys) marks.items) }
+    {
+        let mut marks = unmarked(self.alloc, &self.parts.items)?;
+        for state in 0..self.len() {
+            let key = self.keys.at(state);
+            mark_parts(&mut marks, &key, cpus);
+        }
+        Ok(marks)
+    }
+
+    /// Whether one of the marked parts makes this row.
+    pub(crate) fn makes_used(&self, marks: &Vec<bool>, row: Pc) -> bool
+        ensures yes { result ≡ true → MakesMarked self.now.parts marks.now.items row }
+        ensures no { result ≡ false → ¬ MakesMarked self.now.parts marks.now.items row }
+    {
+        makes_marked(&self.parts.items, marks, row)
+    }
+}
