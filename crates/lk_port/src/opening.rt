@@ -72,10 +72,10 @@ fn port(alloc: Global, domain: &Arc<Domain, Global>, cpu: Cpu) -> Result<Port, F
     };
     Ok(Port {
         domain,
-        cpu,
         pending: Pending::Free,
-        writes,
         last: Last::Other,
+        cpu,
+        writes,
     })
 }
 

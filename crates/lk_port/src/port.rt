@@ -15,11 +15,13 @@ use std::sync::Arc;
 #[derive(Drop)]
 pub struct Port {
     pub(crate) domain: Arc<Domain, Global>,
-    pub(crate) cpu: Cpu,
+    // These two stand before the processor, at whose end a line of the cache is unused: ports may lie side
+    // by side, and each call stores here, or each poll.
     pub(crate) pending: Pending,
+    pub(crate) last: Last,
+    pub(crate) cpu: Cpu,
     // of each lock that it holds, whether it holds it as a writer
     pub(crate) writes: List<bool>,
-    pub(crate) last: Last,
     ghost of: { IsOf cpu (arc_value domain) },
     ghost lasts: { IsLast (arc_value domain) pending cpu last },
     ghost stands: { ∥ Stands (arc_value domain) writes.items pending cpu ∥₁ },
