@@ -25,8 +25,9 @@ use std::alloc::Global;
 use std::marker::Model;
 use std::mem;
 
-// What a slot takes, and a part, about, in bytes.
-const SLOT_BYTES: usize = 4;
+// What a state takes in the slots, and a part, about, in bytes. A slot has four, and some two of three
+// are taken. How many there are is no measure, since they are more where helpers look.
+const SLOT_BYTES: usize = 6;
 
 const PART_BYTES: usize = 1_200;
 
@@ -447,7 +448,7 @@ impl Space {
             .len()
             .saturating_add(self.shareds.items.len());
         let keys = self.keys.bytes().saturating_add(self.folds.bytes());
-        let slots = self.slots.len().saturating_mul(SLOT_BYTES);
+        let slots = self.len().saturating_mul(SLOT_BYTES);
         keys.saturating_add(slots)
             .saturating_add(parts.saturating_mul(PART_BYTES))
     }
