@@ -35,33 +35,42 @@ void __wrap_free(void *old) {
     __real_free(old);
 }
 
-int main(void) {
-    static const uint8_t kinds[2] = {QLOCK_SPIN, QLOCK_RW};
-    static const uint32_t sockets[3] = {0, 1, 0};
-    qlock_cpu c[3];
-    for (long n = 0;; n++) {
-        memset(c, 0, sizeof c);
-        blocks = 0;
-        left = n;
-        uint32_t answer = qlock_open(QLOCK_CNA, kinds, 2, sockets, 3, 16, c, 3);
-        left = -1;
-        if (answer == QLOCK_DONE) {
-            for (int i = 0; i < 3; i++) {
-                if (qlock_close(&c[i]) != QLOCK_DONE) {
-                    return 1;
-                }
-            }
-            printf("memory: %ld failing allocations answered, %ld blocks left\n", n, blocks);
-            return n < 3 || blocks != 0;
-        }
-        if (answer != QLOCK_MEMORY || blocks != 0) {
-            printf("memory: allocation %ld: answer %u, %ld blocks left\n", n, answer, blocks);
-            return 1;
-        }
-        for (int i = 0; i < 3; i++) {
-            if (qlock_poll(&c[i]) != QLOCK_CLOSED) {
-                return 1;
-            }
+enum { CPUS = 3, WRONG = -1 };
+
+/* An opening whose allocations fail behind the nth: 1 if none did, 0 if it was answered, or WRONG. */
+static int opens(uint32_t family, long n) {
+    static const uint32_t sockets[CPUS] = {0, 1, 0};
+    const uint8_t kinds[2] = {QLOCK_SPIN, family == QLOCK_PV ? QLOCK_SPIN : QLOCK_RW};
+    qlock_cpu c[CPUS];
+    memset(c, 0, sizeof c);
+    blocks = 0;
+    left = n;
+    uint32_t answer = qlock_open(family, kinds, 2, sockets, CPUS, 16, c, CPUS);
+    left = -1;
+    for (int i = 0; i < CPUS; i++) {
+        uint32_t closed = answer == QLOCK_DONE ? qlock_close(&c[i]) : qlock_poll(&c[i]);
+        if (closed != (answer == QLOCK_DONE ? QLOCK_DONE : QLOCK_CLOSED)) {
+            return WRONG;
         }
     }
+    return blocks != 0 || (answer != QLOCK_DONE && answer != QLOCK_MEMORY) ? WRONG : answer == QLOCK_DONE;
+}
+
+int main(void) {
+    static const uint32_t families[4] = {QLOCK_VIRT, QLOCK_NATIVE, QLOCK_CNA, QLOCK_PV};
+    long answered = 0;
+    for (int f = 0; f < 4; f++) {
+        long n = 0;
+        int opened;
+        while ((opened = opens(families[f], n)) == 0) {
+            n++;
+        }
+        if (opened == WRONG || n < 3) {
+            printf("memory: family %u, allocation %ld: wrong, %ld blocks left\n", families[f], n, blocks);
+            return 1;
+        }
+        answered += n;
+    }
+    printf("memory: %ld failing allocations answered in four families, %ld blocks left\n", answered, blocks);
+    return 0;
 }
