@@ -301,11 +301,12 @@ static int sits_at_last(struct stand_in *s)
 /* A rest; in `pv` a sleep until the processor is kicked, where it has halted. */
 static void rests(struct seat *seat, uint32_t answer, unsigned *times)
 {
-    int had = errno;
-    if (answer == QLOCK_HALTS)
-        qlock_sleep(&seat->cpu, &seat->bed);
-    else
+    if (answer != QLOCK_HALTS) {
         rest(times);
+        return;
+    }
+    int had = errno;
+    qlock_sleep(&seat->cpu, &seat->bed);
     errno = had;
 }
 
