@@ -83,8 +83,8 @@ enum qlock_answer {
                              * answers HALTS again, and changes nothing */
     QLOCK_AGAIN = 15        /* PV, to free: others came to the lock at each of 2,048 tries, and this
                              * processor has it as before: call again. While it has the lock each other
-                             * processor comes once at most, and the queue head twice more, so this answer
-                             * cannot come; but no proof says so */
+                             * processor comes once at most, and the queue head twice more. By that
+                             * count no run answers so; no proof has the count */
 };
 
 /* No processor (qlock_unlock_kick). */
