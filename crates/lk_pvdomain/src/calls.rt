@@ -123,8 +123,8 @@ pub fn pv_try_unlock(cpu: &mut PvCpu, domain: &PvDomain, lock: LockId) -> PvRele
     ensures whom { has_freed result ≡ true → kicked_in (calls_of cpu.new).last ≡ whom result }
     ensures still { has_freed result ≡ false → IsStill cpu.old cpu.new }
 {
-    let met = tries::try_release(&mut cpu.seat, domain, lock.index, 1);
-    if met == 1 {
+    let met = tries::try_release(&mut cpu.seat, domain, lock.index, HELD);
+    if met == HELD {
         return PvRelease::Freed;
     }
     freeing::try_once(&mut cpu.seat, domain, lock.index, met)

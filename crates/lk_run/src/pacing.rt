@@ -32,8 +32,7 @@ impl Pace {
     // wait for it.
     pub(crate) fn pause(&mut self, row: Pc) {
         match row {
-            Pc::V1 => self.backoff.snooze(),
-            Pc::N1 => self.backoff.snooze(),
+            Pc::V1 | Pc::N1 => self.backoff.snooze(),
             Pc::G4 => {}
             _ => self.pause_shortly(),
         }

@@ -43,9 +43,9 @@ invariant_of-cpu c =
     let k = kept_cpu c.args.cpu.now seat (kept_tried c.args.lock.index 1 c.try_release-met.result c.args.cpu.now.seat.me seat.me c.try_release-met.ensures.step) in
     record { numbered = k.0; carried = k.1 }
 
-pub returns-then-met-eq1 : goal.returns-then-met-eq1
-returns-then-met-eq1 c =
-    let e = frees c.requires.domain c.requires.rests c.requires.lock c.try_release-met.ensures.same c.try_release-met.ensures.step c.if-met-eq1.true in
+pub returns-then-met-eq-HELD : goal.returns-then-met-eq-HELD
+returns-then-met-eq-HELD c =
+    let e = frees c.requires.domain c.requires.rests c.requires.lock c.try_release-met.ensures.same c.try_release-met.ensures.step c.if-met-eq-HELD.true in
     let d = c.args.domain.now in
     let l = c.args.lock.index in
     let old = c.args.cpu.now.seat in
@@ -58,12 +58,12 @@ returns-then-met-eq1 c =
         rests = record { frames = t.frames; awake = t.awake; fresh = t.fresh };
       };
       others = λ is. freed_others d l (own_node c.args.cpu.now) old _ e;
-      whom = λ is. kicks_none c.requires.domain c.requires.rests c.requires.lock c.try_release-met.ensures.same c.try_release-met.ensures.step c.if-met-eq1.true;
+      whom = λ is. kicks_none c.requires.domain c.requires.rests c.requires.lock c.try_release-met.ensures.same c.try_release-met.ensures.step c.if-met-eq-HELD.true;
       still = λ is. absurd (true≢false is);
     }
 
 pub try_once-requires : goal.try_once-requires
-try_once-requires c = record { other = c.if-met-eq1.false; tried = ((own_node c.args.cpu.now), (first_of Unlock c.args.lock.index c.args.cpu.now.seat), has_tried c.requires.domain c.requires.rests c.requires.lock c.try_release-met.ensures.same c.try_release-met.ensures.step c.requires.held c.requires.home c.requires.value) }
+try_once-requires c = record { other = c.if-met-eq-HELD.false; tried = ((own_node c.args.cpu.now), (first_of Unlock c.args.lock.index c.args.cpu.now.seat), has_tried c.requires.domain c.requires.rests c.requires.lock c.try_release-met.ensures.same c.try_release-met.ensures.step c.requires.held c.requires.home c.requires.value) }
 
 -- what is kept, whether it has freed the lock or not
 let_or_still : (d : PvDomain) (l : ℕ) (own : NodeName) (old new : Seat Slot View) (b : Bool)
