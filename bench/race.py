@@ -1,5 +1,5 @@
 #!/usr/bin/env python3
-"""race.py [--runs N] [--kind spin|rw] [--crowd | --alignments] [--values] PROGRAM [MODE..]
+"""race.py [--runs N] [--kind spin|rw] [--crowd | --alignments | --against FILE] [--values] PROGRAM [MODE..]
 
 Compares the running locks of these modes (`virt`, `native`, `cna` and `pv`, if none is said) with plain Rust. PROGRAM is a built `lk_race`
 (`rt run` in crates/lk_race leaves it in out/). Beside each mode stands the same lock in plain Rust, over atomic words with every step
@@ -36,8 +36,13 @@ middle, such luck is left; where other work runs beside it, the times are those 
              of 1 KiB, on one, two and four threads. Beside each mode stands the same lock in plain Rust with the value in an
              UnsafeCell, and beside all std's Mutex and the Mutex of Rattle's library, which has std's as its peer. With --alignments too
              one thread does so at each alignment
+--against FILE  in place of these: PROGRAM beside FILE, another build of `lk_race`, such as that of the version before. On two and four
+             threads N times eight runs of each, in turn, and each of the eight begins its stack 16 bytes further on: where a value lies
+             in a line of the cache makes a tenth of a contended turn. On one thread each program is linked at each alignment, as above.
+             Printed are the least and the middle of PROGRAM, those of FILE, and the ratio of the middles. With --values, of values
 """
 import argparse
+import itertools
 import os
 import re
 import resource
@@ -53,6 +58,7 @@ CROWDS = {1: 2000000, 2: 800000, 8: 800000}
 FEW_TURNS = {1: 400000, 2: 80000, 8: 64000}
 ALIGNED_TURNS = 400000
 PADS = range(16, 144, 16)
+PLACES = range(0, 128, 16)
 MODES = ["virt", "native", "cna", "pv"]
 SIZES = {"spin8": "8 bytes", "spin1024": "1 KiB"}
 VALUE_TURNS = {1: 400000, 2: 400000, 4: 400000}
@@ -62,14 +68,15 @@ OF_STD = {"spin": "Mutex", "rw": "RwLock"}
 WORKS = (("bare", 0), ("work", 1))
 
 
-def turn(command, threads, turns, work):
-    """The nanoseconds a turn of one race, and those of processor time."""
+def turn(command, threads, turns, work, place=0):
+    """The nanoseconds a turn of one race, and those of processor time. The stack begins so many bytes further on."""
     mode, kind, *spins = command[1:]
     kind = kind if work else BARE[kind]
     words = [command[0], mode, kind, str(threads), str(turns // threads), *spins]
     processors = sorted(os.sched_getaffinity(0))[:threads]
     before = resource.getrusage(resource.RUSAGE_CHILDREN)
-    told = subprocess.run(words, capture_output=True, text=True, check=True, preexec_fn=lambda: os.sched_setaffinity(0, processors))
+    how = {"env": {**os.environ, "PLACE": "x" * place}, "preexec_fn": lambda: os.sched_setaffinity(0, processors)}
+    told = subprocess.run(words, capture_output=True, text=True, check=True, **how)
     after = resource.getrusage(resource.RUSAGE_CHILDREN)
     if "right" not in told.stdout:
         sys.exit("%s: %s" % (" ".join(words), told.stdout))
@@ -144,20 +151,27 @@ def padded(folder):
     return objects
 
 
-def aligned_programs(program, folder):
-    """This program and the one in plain Rust, each linked with each amount of dead code in front."""
+def linked(program, folder, name):
+    """A program of Rattle, linked with each amount of dead code in front."""
     rt = shutil.which("rt")
     if not rt or not os.path.exists(program + ".o"):
-        sys.exit("race.py: needs rt in PATH, and %s.o, which rt run leaves beside the program" % program)
+        sys.exit("race.py: needs rt in PATH, and %s.o, which rt run and tools/unproved --object leave beside the program" % program)
     libraries = os.path.join(os.path.dirname(os.path.dirname(os.path.realpath(rt))), "c")
-    ours, plains = [], []
+    made = []
     for number, pad in enumerate(padded(folder)):
-        ours.append(os.path.join(folder, "ours%d" % number))
+        made.append(os.path.join(folder, "%s%d" % (name, number)))
         files = [pad, program + ".o", libraries + "/libos_c.a", libraries + "/liblibc_c.a"]
-        subprocess.run(["cc", "-fuse-ld=bfd", *files, "-lm", "-lpthread", "-o", ours[-1]], check=True)
-        plains.append(os.path.join(folder, "plain%d" % number))
-        compile_plain(plains[-1], "-C", "link-arg=-fuse-ld=bfd", "-C", "link-arg=" + pad)
-    return ours, plains
+        subprocess.run(["cc", "-fuse-ld=bfd", *files, "-lm", "-lpthread", "-o", made[-1]], check=True)
+    return made
+
+
+def linked_plain(folder):
+    """The program in plain Rust, linked likewise."""
+    made = []
+    for number, pad in enumerate(padded(folder)):
+        made.append(os.path.join(folder, "plain%d" % number))
+        compile_plain(made[-1], "-C", "link-arg=-fuse-ld=bfd", "-C", "link-arg=" + pad)
+    return made
 
 
 def compile_plain(plain, *flags):
@@ -179,12 +193,40 @@ def race_alignments(kind, modes, programs, runs, works=WORKS):
             print(("%-24s" + "%9.1f" * 6 + "%9.2f") % ("%s, %s, %s" % (kind, name, mode), *figures, figures[1] / figures[4]), flush=True)
 
 
+def race_places(kind, modes, programs, runs, works):
+    """Races of two programs on two and on four threads, at each place of the stack, in turn; prints a line for each race."""
+    for mode in [mode for mode in modes if (mode, kind) != ("pv", "rw")]:
+        for threads, (name, work) in itertools.product((2, 4), works):
+            times = {program: [] for program in programs}
+            for place in [*PLACES] * runs:
+                for program in programs:
+                    took, _used = turn([program, mode, kind], threads, ALIGNED_TURNS, work, place)
+                    times[program].append(took)
+            figures = [figure for took in times.values() for figure in (min(took), statistics.median(took))]
+            title = "%s, %s, %s, %d threads" % (kind, name, mode, threads)
+            print(("%-32s" + "%9.1f" * 4 + "%9.2f") % (title, *figures, figures[1] / figures[3]), flush=True)
+
+
+def race_against(args, modes, kinds, scratch):
+    """The races of two builds of the program, on one thread and on more."""
+    programs = [os.path.abspath(args.program), os.path.abspath(args.against)]
+    builds = [linked(program, scratch, name) for program, name in zip(programs, ("ours", "theirs"))]
+    works = [("work", 1)] if args.values else WORKS
+    print(("%-24s" + "%9s" * 7) % ("race of one thread", "least ns", "middle", "most", "against", "middle", "most", "ratio"))
+    for kind in kinds:
+        race_alignments(kind, modes, builds, args.runs, works)
+    print(("%-32s" + "%9s" * 5) % ("race", "least ns", "middle", "against", "middle", "ratio"))
+    for kind in kinds:
+        race_places(kind, modes, programs, args.runs, works)
+
+
 def main():
     said = argparse.ArgumentParser(usage=__doc__)
     said.add_argument("--runs", type=int, default=9)
     said.add_argument("--kind", choices=list(OF_STD))
     said.add_argument("--crowd", action="store_true")
     said.add_argument("--alignments", action="store_true")
+    said.add_argument("--against")
     said.add_argument("--values", action="store_true")
     said.add_argument("program")
     said.add_argument("modes", nargs="*")
@@ -194,6 +236,8 @@ def main():
         said.error("a mode is one of " + ", ".join(MODES))
     if args.crowd and (args.alignments or args.kind == "rw"):
         said.error("a crowd races for spinlocks, and not at each alignment")
+    if args.against and (args.crowd or args.alignments):
+        said.error("a race against another build has its own threads and alignments")
     if args.values and (args.crowd or args.kind):
         said.error("values have a table of their own")
     with tempfile.TemporaryDirectory() as scratch:
@@ -203,8 +247,11 @@ def main():
 def race_in(scratch, args, modes, kinds):
     """The races that the words ask for, with what is compiled for them in this folder."""
     program = os.path.abspath(args.program)
+    if args.against:
+        race_against(args, modes, SIZES if args.values else kinds, scratch)
+        return
     if args.alignments:
-        programs = aligned_programs(program, scratch)
+        programs = linked(program, scratch, "ours"), linked_plain(scratch)
         print(("%-24s" + "%9s" * 7) % ("race of one thread", "least ns", "middle", "most", "plain", "middle", "most", "ratio"))
         for kind in SIZES if args.values else kinds:
             race_alignments(kind, modes, programs, args.runs, [("work", 1)] if args.values else WORKS)
