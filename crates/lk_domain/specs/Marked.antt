@@ -1,16 +1,28 @@
 -- What a processor notes of its calls and its locks in plain fields.
-use Rattle.std.specs.Prelude.{◌≡◌, ◌≢◌, ℕ, ◌+◌, ◌<◌, ◌≤◌, ◌==◌, ◌||◌, Bool, true, false, not, List, [], ◌∷◌, length}
-use Rattle.std.specs.Prelude.{slice_index, slice_index_or, if◌then◌else◌}
+use Rattle.std.specs.Prelude.{◌≡◌, ◌≢◌, ℕ, ◌+◌, ◌-◌, ◌<◌, ◌≤◌, ◌==◌, ◌||◌, Bool, true, false, not, List, [], ◌∷◌, length, ltb}
+use Rattle.std.specs.Prelude.{slice_index, slice_index_or, slice_set, if◌then◌else◌}
 use Rattle.lk_law.specs.Families.{is_slow}
 use Rattle.lk_domain.specs.Calls.{Running, Calls, slows, waits_in, holds_in}
 use Rattle.lk_domain.specs.declared.notes.Notes.{Notes}
 use Rattle.lk_domain.specs.declared.notes.Standing.{Standing}
-use Rattle.lk_domain.specs.declared.plan.TheConstants.{MOST_LOCKS}
+use Rattle.lk_domain.specs.declared.notes.TheConstants.{NEAR}
 
--- of so many numbers, the marks are those of the numbers of which f holds: it holds of none above them
-pub record Marks (marks : List Bool) (many : ℕ) (f : ℕ → Bool) : Type 0 where
-  pub long : length marks ≡ many
-  pub each : (l : ℕ) → slice_index_or marks l false ≡ f l
+-- Of so many numbers, the marks are those of the numbers of which f holds: the near ones of the first numbers,
+-- and the far ones of those behind them. It holds of no other number.
+pub record Marks (near far : List Bool) (many : ℕ) (f : ℕ → Bool) : Type 0 where
+  pub short : length near ≡ NEAR
+  pub long : many ≤ NEAR + length far
+  pub first : (l : ℕ) → l < NEAR → slice_index_or near l false ≡ f l
+  pub behind : (l : ℕ) → NEAR ≤ l → slice_index_or far (l - NEAR) false ≡ f l
+  pub none : (l : ℕ) → many ≤ l → f l ≡ false
+
+-- the marks with that of one number set so
+
+abbrev pub near_with : List Bool → ℕ → Bool → List Bool
+near_with near l b = if ltb l NEAR then slice_set near l b else near
+
+abbrev pub far_with : List Bool → ℕ → Bool → List Bool
+far_with far l b = if ltb l NEAR then far else slice_set far (l - NEAR) b
 
 -- the lock for which the call of a context waits, and whether it does so in the slow path
 
@@ -41,8 +53,12 @@ pub record IsNoted (n : Notes) (many : ℕ) (c : Calls) : Type 0 where
   pub orders : length n.order ≡ 6
   pub paths : length n.slow ≡ 6
   pub ordered : AreOrdered n.order n.slow many c.frames
-  pub most : many ≤ MOST_LOCKS
-  pub marked : Marks n.held.items many (holds_in c.holds)
+  pub all : n.locks ≡ many
+  pub marked : Marks n.near n.far.items many (holds_in c.holds)
+
+-- the notes with the mark of one lock set so
+abbrev pub with_mark : Notes → ℕ → Bool → Notes
+with_mark n l b = record n { near = near_with n.near l b; far = record n.far { items = far_with n.far.items l b } }
 
 -- the calls are the others, and the newest is for this lock, where one waits for it
 pub data Behind (l : ℕ) (others : List Running) : List Running → Bool → Bool → Type 0 where

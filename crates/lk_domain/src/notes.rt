@@ -1,10 +1,10 @@
 // What a processor notes of its calls and its locks.
 ghost use Rattle.std.specs.Prelude.{◌≡◌, ◌<◌, ◌≤◌, ◌+◌, ◌∷◌, ℕ, IfOk, List as Row, length};
-ghost use Rattle.std.specs.Prelude.{replicate, false};
+ghost use Rattle.std.specs.Prelude.{false, slice_index_or, slice_set};
 ghost use Rattle.lk_domain.specs.Calls.{Calls, Running, no_calls, holds_in, waits_in, slow_in};
 ghost use Rattle.lk_domain.specs.Marked.{AreOrdered, CanStep, HasBegun, HasFreed, HasStepped};
-ghost use Rattle.lk_domain.specs.Marked.{IsNoted, first_standing, upto};
-ghost use Rattle.lk_domain.specs.declared.notes.TheConstants.{LINE};
+ghost use Rattle.lk_domain.specs.Marked.{IsNoted, first_standing, upto, with_mark};
+ghost use Rattle.lk_domain.specs.declared.notes.TheConstants.{NEAR};
 ghost use Rattle.lk_domain.specs.declared.plan.TheConstants.{MOST_LOCKS};
 
 use lk_abs::{List, Memory};
@@ -13,9 +13,13 @@ use std::alloc::Global;
 // The bytes of a line of the cache.
 const LINE: usize = 64;
 
+// How many locks have their marks in the processor itself.
+const NEAR: usize = 32;
+
 // What a processor notes of its calls and its locks, where its steps read it. What waits is noted by
 // the calls, of which there are six at most. What it holds may be any set of the domain's locks, and a
-// call that takes one more asks for no memory, so there is a mark for each lock.
+// call that takes one more asks for no memory, so there is a mark for each lock. Those of the first
+// locks lie in the processor itself, so a step at one of them loads no pointer.
 #[derive(Drop)]
 pub(crate) struct Notes {
     // how many of its calls wait, and how many of these are in the slow path
@@ -24,8 +28,12 @@ pub(crate) struct Notes {
     // for which lock each of them waits, and whether in the slow path, the oldest first
     pub(crate) order: [u32; 6],
     pub(crate) slow: [bool; 6],
-    // of each lock of the domain, whether it holds it
-    pub(crate) held: List<bool>,
+    // of each of the domain's first locks, whether it holds it
+    pub(crate) near: [bool; NEAR],
+    // how many locks the domain has
+    pub(crate) locks: u32,
+    // of each lock behind the first ones, whether it holds it
+    pub(crate) far: List<bool>,
     // A line of the cache that nothing uses. Processors may lie side by side in a list, and what one of
     // them stores in the fields before this is in no line that another reads.
     line: [u64; 8],
@@ -40,19 +48,18 @@ pub(crate) struct Standing {
     pub(crate) taken: bool,
 }
 
-// The marks of a processor that holds no lock, with room for a line of the cache more. A processor
-// stores in its marks where it takes a lock and where it frees one, and the marks of two processors in
-// one line would make each of these stores wait for the other processor.
-fn unheld(alloc: Global, locks: usize) -> Result<List<bool>, Memory>
+// How many marks a processor has behind a pointer, in a domain of so many locks. Where there are any,
+// the last ones are of no lock, and fill a line of the cache. A processor stores in its marks where it
+// takes a lock and where it frees one, and the marks of two processors in one line would make each of
+// these stores wait for the other processor.
+fn far_marks(locks: usize) -> usize
     requires few { locks ≤ MOST_LOCKS }
-    ensures { IfOk result (λ held. held
-        ≡ record { items = replicate locks false; room = locks + LINE }) }
+    ensures enough { locks ≤ NEAR + result }
 {
-    let mut held = List::new(alloc, locks + LINE)?;
-    for _ in 0..locks {
-        held.push(false);
+    if locks <= NEAR {
+        return 0;
     }
-    Ok(held)
+    locks - NEAR + LINE
 }
 
 impl Notes {
@@ -70,17 +77,18 @@ impl Notes {
             queued: 0,
             order: [0; 6],
             slow: [false; 6],
-            held: unheld(alloc, locks)?,
+            near: [false; NEAR],
+            locks: locks as u32,
+            far: List::filled(alloc, false, far_marks(locks))?,
             line: [0; 8],
         })
     }
 
     // How many locks there are.
     pub(crate) fn locks(&self) -> u32
-        requires some { (many : ℕ) × (c : Calls) × IsNoted self.now many c }
         ensures { (many : ℕ) (c : Calls) → IsNoted self.now many c → result ≡ many }
     {
-        self.held.len() as u32
+        self.locks
     }
 
     // Whether it holds the lock.
@@ -89,7 +97,49 @@ impl Notes {
         ensures { (many : ℕ) (c : Calls) → IsNoted self.now many c
             → result ≡ holds_in c.holds lock }
     {
-        (lock as usize) < self.held.len() && *self.held.get(lock as usize)
+        let index = lock as usize;
+        if index < NEAR {
+            return self.near[index];
+        }
+        self.holds_far(index - NEAR)
+    }
+
+    // Whether it holds the lock that is so many behind the first ones. It stays out of the calls that
+    // ask of a lock, which are short.
+    #[cold]
+    #[inline(never)]
+    fn holds_far(&self, past: usize) -> bool
+        ensures { result ≡ slice_index_or self.now.far.items past false }
+    {
+        past < self.far.len() && *self.far.get(past)
+    }
+
+    // Notes whether it holds the lock.
+    #[inline]
+    fn mark(&mut self, lock: u32, held: bool)
+        requires there { lock < NEAR + length self.old.far.items }
+        ensures { self.new ≡ with_mark self.old lock held }
+    {
+        let index = lock as usize;
+        if index < NEAR {
+            self.near[index] = held;
+        } else {
+            self.mark_far(index - NEAR, held);
+        }
+    }
+
+    // Notes whether it holds the lock that is so many behind the first ones.
+    #[cold]
+    #[inline(never)]
+    fn mark_far(&mut self, past: usize, held: bool)
+        requires there { past < length self.old.far.items }
+        ensures { self.new ≡ record self.old {
+          far = record self.old.far {
+            items = slice_set self.old.far.items past held;
+          };
+        } }
+    {
+        *self.far.get_mut(past) = held;
     }
 
     // How many there are of so many of its calls, from the oldest up to the newest one for the lock;
@@ -156,20 +206,20 @@ impl Notes {
         if waits | waited {
             self.step_waiting(lock, after);
         } else if taken {
-            *self.held.get_mut(lock as usize) = true;
+            self.mark(lock, true);
         }
     }
 
     // A new call for the lock, for which none waited, has made its first row: it has taken the lock,
-    // or it waits, and not yet in the slow path. Where it has the lock, only the place of the marks is
-    // read: any other load there would wait for the exchange.
+    // or it waits, and not yet in the slow path. Where it has one of the first locks nothing is read,
+    // and where it has another one only the place of the marks: a load would wait for the exchange.
     #[inline]
     pub(crate) fn first_step(&mut self, lock: u32, taken: bool)
         requires steps { CanStep self.old lock (first_standing taken) }
         ensures { HasBegun self.old self.new lock taken }
     {
         if taken {
-            *self.held.get_mut(lock as usize) = true;
+            self.mark(lock, true);
         } else {
             let waits = Standing {
                 waits: true,
@@ -196,7 +246,7 @@ impl Notes {
         self.slow[others as usize] = slow;
         self.depth = others + u32::from(waits);
         if taken {
-            *self.held.get_mut(lock as usize) = true;
+            self.mark(lock, true);
         }
     }
 
@@ -206,6 +256,6 @@ impl Notes {
         requires { (many : ℕ) × (c : Calls) × IsNoted self.old many c × (lock < many) }
         ensures { HasFreed self.old self.new lock }
     {
-        *self.held.get_mut(lock as usize) = false;
+        self.mark(lock, false);
     }
 }

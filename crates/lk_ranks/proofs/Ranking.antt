@@ -1,7 +1,6 @@
 -- What ranks above all that a processor holds or waits for, before a call and after it.
 use Rattle.std.proofs.Common.{◌≡◌, ℕ, ◌<◌, ◌≤◌, List, [], ◌∷◌, Bool, true, false, sym, ap, ◌∙◌, subst, inl, inr, arith, eqb, ne_eqb}
 use Rattle.std.proofs.lemmas.Bool.{cases_Bool, cases_eq, ltb-false, ltb-true}
-use Rattle.std.proofs.Math.ListN.{get_or-eq_default}
 use Rattle.std.proofs.Math.Dec.{ltb}
 use Rattle.std.specs.Prelude.{◌||◌}
 use Rattle.lk_abs.specs.Names.{same_lock}
@@ -11,7 +10,7 @@ use Rattle.lk_law.proofs.common.Puts.{if-false}
 use Rattle.lk_law.proofs.common.Sames.{same_lock-true}
 use Rattle.lk_domain.specs.Calls.{Calls, Hold, Running, holds_in, waits_in, lock_name}
 use Rattle.lk_domain.specs.Ends.{Rests}
-use Rattle.lk_domain.specs.Marked.{AreOrdered, Marks}
+use Rattle.lk_domain.specs.Marked.{AreOrdered}
 use Rattle.lk_domain.specs.Plans.{locks_of}
 use Rattle.lk_domain.specs.Seats.{calls_of}
 use Rattle.lk_domain.specs.declared.cpu.Cpu.{Cpu}
@@ -88,12 +87,10 @@ waits_low ls ss many (r ∷ rs) l are on = elim (cases_eq r.frame.lock.index l) 
 ]
 
 -- and holds one of them
-holds_low : (many : ℕ) (marks : List Bool) (f : ℕ → Bool) (l : ℕ) → Marks marks many f → f l ≡ true → l < many
-holds_low many marks f l is on = elim (cases_Bool (ltb l many)) [
+holds_low : (many : ℕ) (f : ℕ → Bool) (l : ℕ) → ((n : ℕ) → many ≤ n → f n ≡ false) → f l ≡ true → l < many
+holds_low many f l none on = elim (cases_Bool (ltb l many)) [
   | inl low ↦ ltb-true l many low
-  | inr high ↦
-      let past : f l ≡ false = sym (is.each l) ∙ get_or-eq_default marks false (let long = is.long in let up = ltb-false l many high in omega (arith, long, up)) in
-      absurd (let z : true ≡ false = sym on ∙ past in cc z)
+  | inr high ↦ absurd (let z : true ≡ false = sym on ∙ none l (ltb-false l many high) in cc z)
 ]
 
 -- a number that is marked is below the rank from which on none of so many is
@@ -111,7 +108,7 @@ pub above_all : (rank many : ℕ) (cpu : Cpu) → many ≡ locks_of cpu.seat.me.
 above_all rank many cpu is unheld unwaited =
     record {
       holds = below rank many (holds_in (calls_of cpu).holds)
-          (λ l on. let low = holds_low (locks_of cpu.seat.me.0.who.plan) cpu.notes.held.items (holds_in (calls_of cpu).holds) l cpu.noted.marked on in
+          (λ l on. let low = holds_low (locks_of cpu.seat.me.0.who.plan) (holds_in (calls_of cpu).holds) l cpu.noted.marked.none on in
           omega (arith, low, is)) unheld;
       waits = below rank many (waits_in (calls_of cpu).frames)
           (λ l on. let low = waits_low cpu.notes.order cpu.notes.slow (locks_of cpu.seat.me.0.who.plan) (calls_of cpu).frames l cpu.noted.ordered on in

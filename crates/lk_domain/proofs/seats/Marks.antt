@@ -16,6 +16,7 @@ use Rattle.lk_domain.specs.Marked.{IsNoted}
 use Rattle.lk_domain.specs.Values.{IsReached, IsOutWith, is_sole, lock_of, marked_out}
 use Rattle.lk_domain.specs.declared.notes.Notes.{Notes}
 use Rattle.lk_domain.specs.declared.plan.Plan.{Plan}
+use Rattle.lk_domain.proofs.turns.Marks.{mark_same}
 
 -- a hold with the mark, at the head or further on
 marked_by : Bool → Bool → Hold → List Hold → List Hold → List Hold
@@ -195,6 +196,6 @@ mark_noted n many c l b h =
       orders = h.orders;
       paths = h.paths;
       ordered = h.ordered;
-      most = h.most;
-      marked = record { long = h.marked.long; each = λ x. h.marked.each x ∙ sym (mark_holds l b c.holds x) };
+      all = h.all;
+      marked = mark_same n.near n.far.items many (holds_in c.holds) (holds_in (marked_out l b c.holds)) h.marked (mark_holds l b c.holds);
     }

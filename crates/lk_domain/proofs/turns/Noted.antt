@@ -9,7 +9,7 @@ use mir.Val.{Fits, bool_byte}
 use Rattle.lk_abs.specs.ListOf.{ListOf}
 use Rattle.lk_law.specs.Families.{is_slow}
 use Rattle.lk_domain.specs.Calls.{Running, Calls, slows, waits_in, slow_in, holds_in}
-use Rattle.lk_domain.specs.Marked.{Marks, lock_in, path_in, AreOrdered, IsNoted, Behind, nobody, one, Steps, upto}
+use Rattle.lk_domain.specs.Marked.{Marks, lock_in, path_in, AreOrdered, IsNoted, Behind, nobody, one, Steps, upto, near_with, far_with, with_mark}
 use Rattle.lk_domain.specs.declared.notes.Notes.{Notes}
 use Rattle.lk_law.proofs.common.Puts.{if-true, if-false}
 use Rattle.lk_domain.proofs.turns.Marks.{mark_set, mark_same}
@@ -179,9 +179,6 @@ module _ (n : Notes) (many : ℕ) (c d : Calls) (l : ℕ) (waits slow taken : Bo
   slowly_is = behind_slow l s.others c.frames s.waited s.slowly s.none s.before
 
   module _ (lt : l < many) where
-    pub is_held : l < length n.held.items
-    is_held = let z = was.marked.long in omega (arith, z, lt)
-
     -- how many calls there are beside the one for the lock
     pub others_are : (o w : ℕ) (a : Bool) → a ≡ waits_in c.frames l → w ≡ bool_byte a → o ≡ n.depth - w
         → o ≡ length s.others
@@ -233,30 +230,32 @@ module _ (n : Notes) (many : ℕ) (c d : Calls) (l : ℕ) (waits slow taken : Bo
 
     -- the marks after it, where it took the lock and where not
 
-    pub marked_taken : taken ≡ true → Marks (set n.held.items l true) many (holds_in d.holds)
+    pub marked_taken : taken ≡ true → Marks (near_with n.near l true) (far_with n.far.items l true) many (holds_in d.holds)
     marked_taken t =
-        mark_set n.held.items many (holds_in c.holds) (holds_in d.holds) l true lt was.marked
+        mark_set n.near n.far.items many (holds_in c.holds) (holds_in d.holds) l true lt was.marked
         (s.held ∙ (ap (λ b. holds_in c.holds l || b) t ∙ or_true (holds_in c.holds l))) s.holds
 
-    pub marked_kept : taken ≡ false → Marks n.held.items many (holds_in d.holds)
+    pub marked_kept : taken ≡ false → Marks n.near n.far.items many (holds_in d.holds)
     marked_kept t =
-        mark_same n.held.items many (holds_in c.holds) (holds_in d.holds) was.marked
+        mark_same n.near n.far.items many (holds_in c.holds) (holds_in d.holds) was.marked
         (λ x. elim (cases_eq x l) [
           | inl e ↦ ap (holds_in d.holds) e
               ∙ (s.held ∙ (ap (λ b. holds_in c.holds l || b) t ∙ (or_false (holds_in c.holds l) ∙ ap (holds_in c.holds) (sym e))))
           | inr ne ↦ s.holds x ne
         ])
 
-    pub noted : (o w x y z : ℕ) (a b : Bool) (hs : ListOf Bool) → Marks hs.items many (holds_in d.holds) → a ≡ waits_in c.frames l
+    pub noted : (o w x y z : ℕ) (a b : Bool) (ns : List Bool) (fs : ListOf Bool) → Marks ns fs.items many (holds_in d.holds)
+        → a ≡ waits_in c.frames l
         → b ≡ slow_in c.frames l → w ≡ bool_byte a → o ≡ n.depth - w → x ≡ bool_byte waits → y ≡ bool_byte b → z ≡ bool_byte slow
         → IsNoted (record n {
           depth = o + x;
           queued = n.queued - y + z;
           order = set n.order o l;
           slow = set n.slow o slow;
-          held = hs;
+          near = ns;
+          far = fs;
         }) many d
-    noted o w x y z a b hs marks told slowly at is now then_slow now_slow =
+    noted o w x y z a b ns fs marks told slowly at is now then_slow now_slow =
         let others = others_are o w a told at is in
         let low = s.low in
         let bit : x ≡ (if waits then 1 else 0) = now ∙ byte waits in
@@ -280,7 +279,7 @@ module _ (n : Notes) (many : ℕ) (c d : Calls) (l : ℕ) (waits slow taken : Bo
               ∙ get_or-set_same n.slow o slow false (let z = was.paths in omega arith)) lt
               (ordered_below n.order n.slow many o l slow s.others (omega arith)
               (others_ordered n.order n.slow many l s.others c.frames s.waited s.slowly s.before was.ordered));
-          most = was.most;
+          all = was.all;
           marked = marks;
         }
       where
@@ -335,8 +334,8 @@ module _ (n : Notes) (many : ℕ) (c d : Calls) (l : ℕ) (slow : Bool) (was : I
         paths = was.paths;
         ordered = all_ordered n.order n.slow many l s.others d.frames true slow s.after top.0 (top.1 ∙ slowly_on) top.2
             (others_ordered n.order n.slow many l s.others c.frames s.waited s.slowly s.before was.ordered);
-        most = was.most;
-        marked = mark_same n.held.items many (holds_in c.holds) (holds_in d.holds) was.marked holds_all;
+        all = was.all;
+        marked = mark_same n.near n.far.items many (holds_in c.holds) (holds_in d.holds) was.marked holds_all;
       }
 
 -- so a call that waited and waits, in the slow path or not as before, has nothing to note
@@ -348,10 +347,10 @@ goes_on n many c d l true slow true was s _ on same e = cc e
 goes_on n many c d l false slow taken was s e on same _ = cc e
 
 -- the calls are the same, and other locks are held
-pub same_calls : (n : Notes) (many : ℕ) (c d : Calls) (ms : List Bool) → d.frames ≡ c.frames
-    → Marks ms many (holds_in d.holds) → IsNoted n many c
-    → IsNoted (record n { held = record n.held { items = ms } }) many d
-same_calls n many c d ms frames held h =
+pub same_calls : (n : Notes) (many : ℕ) (c d : Calls) (ns fs : List Bool) → d.frames ≡ c.frames
+    → Marks ns fs many (holds_in d.holds) → IsNoted n many c
+    → IsNoted (record n { near = ns; far = record n.far { items = fs } }) many d
+same_calls n many c d ns fs frames held h =
     record {
       deep = h.deep ∙ ap (λ (xs : List Running). length xs) (sym frames);
       few = subst (λ (xs : List Running). length xs ≤ 6) (sym frames) h.few;
@@ -359,17 +358,17 @@ same_calls n many c d ms frames held h =
       orders = h.orders;
       paths = h.paths;
       ordered = subst (AreOrdered n.order n.slow many) (sym frames) h.ordered;
-      most = h.most;
+      all = h.all;
       marked = held;
     }
 
 -- a lock is freed
 pub freed_noted : (n : Notes) (many : ℕ) (c d : Calls) (l : ℕ) → IsNoted n many c → l < many → d.frames ≡ c.frames
     → holds_in d.holds l ≡ false → ((x : ℕ) → x ≢ l → holds_in d.holds x ≡ holds_in c.holds x)
-    → IsNoted (record n { held = record n.held { items = set n.held.items l false } }) many d
+    → IsNoted (with_mark n l false) many d
 freed_noted n many c d l was lt frames none away =
-    same_calls n many c d (set n.held.items l false) frames
-    (mark_set n.held.items many (holds_in c.holds) (holds_in d.holds) l false lt was.marked none away) was
+    same_calls n many c d (near_with n.near l false) (far_with n.far.items l false) frames
+    (mark_set n.near n.far.items many (holds_in c.holds) (holds_in d.holds) l false lt was.marked none away) was
 
 -- the calls are the same where none for the lock waited and none waits
 same_frames : (l : ℕ) (rest xs : List Running) (b s : Bool) → Behind l rest xs b s → b ≡ false → xs ≡ rest
@@ -394,17 +393,16 @@ module _ (n : Notes) (many : ℕ) (c d : Calls) (l : ℕ) (waits slow taken : Bo
       ∙ sym (same_frames l s.others c.frames s.waited s.slowly s.before
       (sym (waited_is n many c d l waits slow taken was s) ∙ quiet))
 
-  pub taken_noted : taken ≡ true
-      → IsNoted (record n { held = record n.held { items = set n.held.items l true } }) many d
+  pub taken_noted : taken ≡ true → IsNoted (with_mark n l true) many d
   taken_noted e =
-      same_calls n many c d (set n.held.items l true) still
-      (mark_set n.held.items many (holds_in c.holds) (holds_in d.holds) l true lt was.marked
+      same_calls n many c d (near_with n.near l true) (far_with n.far.items l true) still
+      (mark_set n.near n.far.items many (holds_in c.holds) (holds_in d.holds) l true lt was.marked
       (s.held ∙ (ap (λ b. holds_in c.holds l || b) e ∙ or_true (holds_in c.holds l))) s.holds) was
 
   pub untaken_noted : taken ≡ false → IsNoted n many d
   untaken_noted e =
-      same_calls n many c d n.held.items still
-      (mark_same n.held.items many (holds_in c.holds) (holds_in d.holds) was.marked
+      same_calls n many c d n.near n.far.items still
+      (mark_same n.near n.far.items many (holds_in c.holds) (holds_in d.holds) was.marked
       (λ x. elim (cases_eq x l) [
         | inl at ↦ ap (holds_in d.holds) at
             ∙ (s.held ∙ (ap (λ b. holds_in c.holds l || b) e ∙ (or_false (holds_in c.holds l) ∙ ap (holds_in c.holds) (sym at))))

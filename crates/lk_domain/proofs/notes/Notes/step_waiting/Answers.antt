@@ -1,4 +1,6 @@
-use Rattle.std.proofs.Common.{refl, arith, ◌-◌}
+use Rattle.std.proofs.Common.{true, refl, sym, subst, arith, ◌-◌}
+use Rattle.lk_domain.specs.Marked.{IsNoted, near_with, far_with}
+use Rattle.lk_domain.specs.declared.notes.Notes.{Notes}
 use Rattle.lk_domain.proofs.turns.Noted as noted
 use Rattle.lk_domain.proofs.notes.Notes.step_waiting.Goals as goal
 
@@ -37,17 +39,19 @@ bounds-self-others-2 c =
 pub returns-then-taken : goal.returns-then-taken
 returns-then-taken c many x y was lt s =
     let a = c.args in
-    noted.noted a.self.now many x y a.lock a.after.waits a.after.slow a.after.taken was s lt
+    subst (λ (n : Notes). IsNoted n many y) (sym c.mark.ensures)
+    (noted.noted a.self.now many x y a.lock a.after.waits a.after.slow a.after.taken was s lt
     (a.self.now.depth - c.from.result) c.from.result c.from-4.result c.from-2.result c.from-3.result
-    c.waits-waited.result c.is_slow-slowly.result _
+    c.waits-waited.result c.is_slow-slowly.result
+    (near_with a.self.now.near a.lock true) (record a.self.now.far { items = far_with a.self.now.far.items a.lock true })
     (noted.marked_taken a.self.now many x y a.lock a.after.waits a.after.slow a.after.taken was s lt c.if-taken.true)
-    (c.waits-waited.ensures many x was) (c.is_slow-slowly.ensures many x was) c.from.ensures refl c.from-4.ensures c.from-2.ensures c.from-3.ensures
+    (c.waits-waited.ensures many x was) (c.is_slow-slowly.ensures many x was) c.from.ensures refl c.from-4.ensures c.from-2.ensures c.from-3.ensures)
 
 pub returns-else-taken : goal.returns-else-taken
 returns-else-taken c many x y was lt s =
     let a = c.args in
     noted.noted a.self.now many x y a.lock a.after.waits a.after.slow a.after.taken was s lt
     (a.self.now.depth - c.from.result) c.from.result c.from-4.result c.from-2.result c.from-3.result
-    c.waits-waited.result c.is_slow-slowly.result _
+    c.waits-waited.result c.is_slow-slowly.result a.self.now.near a.self.now.far
     (noted.marked_kept a.self.now many x y a.lock a.after.waits a.after.slow a.after.taken was s lt c.if-taken.false)
     (c.waits-waited.ensures many x was) (c.is_slow-slowly.ensures many x was) c.from.ensures refl c.from-4.ensures c.from-2.ensures c.from-3.ensures
