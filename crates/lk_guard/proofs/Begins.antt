@@ -1,5 +1,5 @@
 -- A hold that a call took begins a look.
-use Rattle.std.proofs.Common.{◌≡◌, ℕ, ◌∷◌, length, Option, Bool, true, false, refl, sym, ap, ◌∙◌, subst}
+use Rattle.std.proofs.Common.{◌≡◌, ℕ, ◌<◌, ◌∷◌, length, Option, Bool, true, false, refl, sym, ap, ◌∙◌, subst}
 use Rattle.lk_abs.specs.declared.holder.Manner.{Manner}
 use Rattle.lk_abs.specs.declared.holder.Manner.TheVariants.{Spins}
 use Rattle.lk_rows.specs.declared.setup.Verb.{Verb}
@@ -8,7 +8,9 @@ use Rattle.lk_law.specs.Agree.{halts}
 use Rattle.lk_domain.specs.Calls.{terms_of, begun, hold, lock_name}
 use Rattle.lk_domain.specs.Ledgers.{Ledger, opened}
 use Rattle.lk_domain.specs.Paths.{HasTaken, HasLooked}
-use Rattle.lk_domain.specs.Seats.{calls_of, ledger_of}
+use Rattle.lk_domain.specs.Plans.{cpus_of}
+use Rattle.lk_domain.specs.Seats.{IsOf, IsSame, calls_of, ledger_of}
+use Rattle.lk_domain.specs.Who.{Who}
 use Rattle.lk_domain.specs.declared.cpu.Cpu.{Cpu}
 use Rattle.lk_domain.specs.declared.domain.Domain.{Domain}
 use Rattle.lk_run.specs.Entering.{PathTo}
@@ -17,7 +19,7 @@ use Rattle.lk_run.specs.Polls.{HasStayed, IsPolled}
 use Rattle.lk_run.proofs.Polls.{stays_more}
 use Rattle.lk_guard.specs.Guards.{guard_in}
 use Rattle.lk_guard.specs.Holding.{HasBegun}
-use Rattle.lk_guard.specs.Idle.{IsIdle}
+use Rattle.lk_guard.specs.Idle.{IsIdle, Stays, crew_of}
 
 module _ (d : Domain) (a b : Cpu) (before after : Option ℕ) (idle : IsIdle a) (awake : halts d.plan.mode ≡ false) where
   -- no processor of the domain halts
@@ -81,3 +83,18 @@ module _ (d : Domain) (a b : Cpu) (before after : Option ℕ) (idle : IsIdle a) 
           rises = λ k h. came.polled.rises k (subst (HasStayed k) (sym entered.last) (stays_more k came.upto entered.behind h));
         };
       }
+
+-- a processor that is the same as before, and idle, is one of the domain
+pub stays : (d : Domain) (a b : Cpu) → IsOf a d → IsSame a b → IsIdle b → Stays (crew_of d) a b
+stays d a b of same idle = record {
+  same = λ i. record { table = same.table i; id = same.id i; number = same.number i; who = same.who i };
+  ready = (
+    record {
+      table = same.table ∙ of.table;
+      plan = ap (λ (w : Who). w.plan) same.who ∙ of.plan;
+      low = subst (λ (n : ℕ). n < cpus_of d.plan) (sym same.number) of.low;
+      awake = of.awake;
+    },
+    idle,
+  );
+}

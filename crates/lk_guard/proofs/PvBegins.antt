@@ -9,9 +9,10 @@ use Rattle.lk_domain.specs.Ledgers.{Ledger, new_look, opened}
 use Rattle.lk_domain.specs.Plans.{kind_at}
 use Rattle.lk_guard.specs.Guards.{IsTaken, IsToRead, guard_in, reads_as, reads_by}
 use Rattle.lk_guard.specs.Holding.{Begins}
-use Rattle.lk_guard.specs.Idle.{IsFree}
+use Rattle.lk_guard.specs.Idle.{IsFree, Stays, pv_crew_of}
 use Rattle.lk_pvdomain.specs.PvCalls.{HasTaken}
-use Rattle.lk_pvdomain.specs.PvSeats.{calls_of, view_of}
+use Rattle.lk_pvdomain.proofs.PvSeating.{same_of}
+use Rattle.lk_pvdomain.specs.PvSeats.{IsOf, IsSame, calls_of, view_of}
 use Rattle.lk_pvdomain.specs.declared.cpu.PvCpu.{PvCpu}
 use Rattle.lk_pvdomain.specs.declared.domain.PvDomain.{PvDomain}
 use Rattle.lk_run.specs.Polls.{IsPolled, RisesBy}
@@ -57,3 +58,10 @@ module _ (d : PvDomain) where
       → IsToRead (guard_in d.plan) p (new_look (reads_as (kind_at d.plan 0)) trail)
   taken_to_read p trail t =
       subst (λ (q : Kind). IsTaken (guard_in d.plan) p (reads_by q) (reads_as q) (new_look (reads_as q) trail)) (sym spins) t
+
+-- a processor that is the same as before, and free, is one of the domain
+pub pv_stays : (d : PvDomain) (a b : PvCpu) → IsOf a d → IsSame a b → IsFree b → Stays (pv_crew_of d) a b
+pv_stays d a b of same free = record {
+  same = λ i. record { table = same.table i; id = same.id i; number = same.number i; who = same.who i };
+  ready = (same_of d a b same of, free);
+}

@@ -14,4 +14,4 @@ mod working;
 pub use gate::{Gate, OpenGate};
 pub use pv_region::PvRegion;
 pub use region::Region;
-pub use working::writes;
+pub use working::{Guarded, writes};

@@ -117,7 +117,11 @@ impl Region {
             (ledger_of cpu.old) (ledger_of cpu.new) (I.polls irq.old) (I.polls irq.new) }
     {
         self.hold_to_read(cpu, rt, irq);
-        let seen = self.books().look(&mut cpu.seat, job);
+        let books = Books {
+            table: &self.domain.table,
+            plan: &self.domain.plan,
+        };
+        let seen = books.look(&mut cpu.seat, job);
         self.end_read(cpu);
         seen
     }

@@ -5,12 +5,12 @@ ghost use Rattle.lk_domain.specs.Plans.{locks_of, kind_at};
 ghost use Rattle.lk_domain.specs.Seats.{IsOf, IsSame, ledger_of};
 ghost use Rattle.lk_guard.specs.Guards.{guard_in, reads_as, reads_by, writes_as, writes_by};
 ghost use Rattle.lk_guard.specs.Holding.{IsHolding, HasBegun};
-ghost use Rattle.lk_guard.specs.Idle.{IsIdle};
+ghost use Rattle.lk_guard.specs.Idle.{IsIdle, crew_of};
 
-use crate::books::Books;
-use lk_abs::Kind;
+use crate::working::Guarded;
+use lk_abs::{Job, Kind, Reply};
 use lk_domain::{Cpu, Domain, LockId};
-use lk_run::{Irq, lock, read_lock, read_unlock, unlock, write_lock, write_unlock};
+use lk_run::{Irq, NoIrq, lock, read_lock, read_unlock, unlock, write_lock, write_unlock};
 use std::sync::Wait;
 
 // The lock that guards the ledger.
@@ -42,17 +42,6 @@ impl Region {
     {
         let Region { domain, guard: _ } = self;
         domain
-    }
-
-    // The words of its ledger.
-    pub(crate) fn books(&self) -> Books<'_>
-        ensures table { result.table.now ≡ self.now.domain.table }
-        ensures plan { result.plan.now ≡ self.now.domain.plan }
-    {
-        Books {
-            table: &self.domain.table,
-            plan: &self.domain.plan,
-        }
     }
 
     // Acquires the lock for a read, and so begins a look at the ledger. A spinlock has one holder;
@@ -114,5 +103,25 @@ impl Region {
             Kind::Spin => unlock(cpu, &self.domain, FIRST),
             Kind::Rw => write_unlock(cpu, &self.domain, FIRST),
         }
+    }
+}
+
+impl Guarded for Region {
+    type Cpu = Cpu;
+
+    ghost crew = { λ region. crew_of region.domain };
+
+    fn number(&self, cpu: &Cpu) -> u32 {
+        cpu.number()
+    }
+
+    #[tactic(auto, using(crate::proofs::Begins::stays))]
+    fn write<R: Wait>(&self, cpu: &mut Cpu, rt: &R, number: u32, job: Job) -> Reply {
+        self.write(cpu, rt, &mut NoIrq, number, job)
+    }
+
+    #[tactic(auto, using(crate::proofs::Begins::stays))]
+    fn read<R: Wait>(&self, cpu: &mut Cpu, rt: &R, job: Job) -> (u64, Reply) {
+        self.read(cpu, rt, &mut NoIrq, job)
     }
 }

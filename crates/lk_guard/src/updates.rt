@@ -92,7 +92,11 @@ impl Region {
             number,
             job,
         };
-        let reply = self.books().append(&mut cpu.seat, task);
+        let books = Books {
+            table: &self.domain.table,
+            plan: &self.domain.plan,
+        };
+        let reply = books.append(&mut cpu.seat, task);
         self.end_write(cpu);
         reply
     }

@@ -1,18 +1,17 @@
-// All jobs of a worker.
-ghost use Rattle.std.specs.Prelude.{◌≡◌, ◌<◌, ◌≤◌, ◌+◌, ◌^◌, All, true, false, length};
+// All jobs of a worker, on a region of whichever family.
+ghost use Rattle.std.specs.Prelude.{◌≡◌, ◌<◌, ◌≤◌, ◌+◌, ◌^◌, All, true, false, None, length};
 ghost use Rattle.lk_abs.specs.Jobs.{IsAmong};
 ghost use Rattle.lk_abs.specs.Journal.{is_write};
 ghost use Rattle.lk_domain.specs.Plans.{accounts_of};
-ghost use Rattle.lk_domain.specs.Seats.{IsOf, IsSame, ledger_of};
+ghost use Rattle.lk_guard.specs.Idle.{Crew, Stays};
 ghost use Rattle.lk_guard.specs.Deeds.{HasDone, Worked, writes_in, reads_in};
 ghost use Rattle.lk_guard.specs.Guards.{guard_in};
-ghost use Rattle.lk_guard.specs.Idle.{IsIdle};
+ghost use Rattle.lk_guard.specs.Reads.{HasRead};
+ghost use Rattle.lk_guard.specs.Writes.{HasWritten};
 
 use crate::gate::Gate;
-use crate::region::Region;
-use lk_abs::{Job, List, Seen};
-use lk_domain::Cpu;
-use lk_run::NoIrq;
+use crate::updates::Task;
+use lk_abs::{Job, List, Reply, Seen};
 use std::sync::Wait;
 
 /// Whether a job may change a balance: a `Move` or an `Add` may.
@@ -22,63 +21,116 @@ pub fn writes(job: Job) -> bool
     matches!(job, Job::Move { .. } | Job::Add { .. })
 }
 
-impl Region {
-    // Does one job: writes it, or keeps the record of its read.
-    fn do_one<R: Wait>(&self, cpu: &mut Cpu, rt: &R, reads: &mut List<Seen>, number: u32, job: Job)
-        requires domain { IsOf cpu.old self.now.domain }
-        requires idle { IsIdle cpu.old }
-        requires job { IsAmong (accounts_of self.now.domain.plan) job }
-        requires share { is_write job ≡ true → 1 ≤ (ledger_of cpu.old).share }
-        requires room { is_write job ≡ false → length reads.old.items < reads.old.room }
-        ensures same { IsSame cpu.old cpu.new }
-        ensures idle { IsIdle cpu.new }
-        ensures room { reads.new.room ≡ reads.old.room }
-        ensures done { HasDone (guard_in self.now.domain.plan) cpu.old.number number job
-            (ledger_of cpu.old) (ledger_of cpu.new) reads.old.items reads.new.items }
-    {
-        if writes(job) {
-            self.write(cpu, rt, &mut NoIrq, number, job);
-        } else {
-            let (version, reply) = self.read(cpu, rt, &mut NoIrq, job);
-            reads.push(Seen {
-                worker: cpu.number(),
-                number,
-                version,
-                job,
-                reply,
-            });
-        }
-    }
+/// A domain whose one lock guards its ledger, of whichever family.
+pub trait Guarded {
+    /// A processor of the domain.
+    type Cpu: Drop + Send;
+
+    /// What clauses say of its processors.
+    ghost crew: { Self → Crew Self.Cpu };
+
+    /// The number of a processor.
+    fn number(&self, cpu: &Self::Cpu) -> u32
+        ensures { result ≡ ((crew self.now).being cpu.now).number };
+
+    /// Does a `Move` or an `Add` in a critical section of its own, appends its entry to the
+    /// journal, and returns the reply. `number` is the number of the job, which the entry names.
+    /// The processor must hold nothing, and its share must have room for one more entry. Nothing
+    /// interrupts its wait for the lock. It takes no memory.
+    fn write<R: Wait>(&self, cpu: &mut Self::Cpu, rt: &R, number: u32, job: Job) -> Reply
+        requires ready { (crew self.now).ready cpu.old }
+        requires job { IsAmong (accounts_of (crew self.now).plan) job }
+        requires writes { is_write job ≡ true }
+        requires share { 1 ≤ ((crew self.now).ledger cpu.old).share }
+        ensures stays { Stays (crew self.now) cpu.old cpu.new }
+        ensures written { HasWritten (guard_in (crew self.now).plan)
+            ((crew self.now).being cpu.old).number number job result
+            ((crew self.now).ledger cpu.old) ((crew self.now).ledger cpu.new) None None };
+
+    /// Does a `Sum` or a `Get` in a critical section of its own. Returns the number of entries that
+    /// the journal had then, and the reply. The processor must hold nothing. Nothing interrupts its
+    /// wait for the lock. It takes no memory.
+    fn read<R: Wait>(&self, cpu: &mut Self::Cpu, rt: &R, job: Job) -> (u64, Reply)
+        requires ready { (crew self.now).ready cpu.old }
+        requires job { IsAmong (accounts_of (crew self.now).plan) job }
+        requires reads { is_write job ≡ false }
+        ensures stays { Stays (crew self.now) cpu.old cpu.new }
+        ensures read { HasRead (guard_in (crew self.now).plan)
+            ((crew self.now).being cpu.old).number result.0 job result.1
+            ((crew self.now).ledger cpu.old) ((crew self.now).ledger cpu.new) None None };
 
     /// Does the jobs of one worker in their order, numbered from 1. It calls `before` and `after`
     /// of the gate around each job, and appends a record of each `Sum` and `Get` to `reads`, which
-    /// must have room for them. The processor's share must have room for the entries of the other
-    /// jobs. It takes no memory.
-    pub fn work<G: Gate, R: Wait>(
+    /// must have room for them. The processor must hold nothing, and its share must have room for
+    /// the entries of the other jobs. It takes no memory.
+    final fn work<G: Gate, R: Wait>(
         &self,
-        cpu: &mut Cpu,
+        cpu: &mut Self::Cpu,
         rt: &R,
         jobs: &List<Job>,
         reads: &mut List<Seen>,
         gate: &G,
     )
-        requires domain { IsOf cpu.old self.now.domain }
-        requires idle { IsIdle cpu.old }
-        requires jobs { All (IsAmong (accounts_of self.now.domain.plan)) jobs.now.items }
+        requires ready { (crew self.now).ready cpu.old }
+        requires jobs { All (IsAmong (accounts_of (crew self.now).plan)) jobs.now.items }
         requires few { length jobs.now.items < 2 ^ 32 }
-        requires share { writes_in jobs.now.items ≤ (ledger_of cpu.old).share }
+        requires share { writes_in jobs.now.items ≤ ((crew self.now).ledger cpu.old).share }
         requires room { length reads.old.items + reads_in jobs.now.items ≤ reads.old.room }
-        ensures same { IsSame cpu.old cpu.new }
-        ensures idle { IsIdle cpu.new }
+        ensures stays { Stays (crew self.now) cpu.old cpu.new }
         ensures room { reads.new.room ≡ reads.old.room }
-        ensures worked { Worked (guard_in self.now.domain.plan) cpu.old.number jobs.now.items
-            (ledger_of cpu.old) (ledger_of cpu.new) reads.old.items reads.new.items }
+        ensures worked { Worked (guard_in (crew self.now).plan)
+            ((crew self.now).being cpu.old).number jobs.now.items
+            ((crew self.now).ledger cpu.old) ((crew self.now).ledger cpu.new)
+            reads.old.items reads.new.items }
     {
         for index in 0..jobs.len() {
-            let number = index as u32 + 1;
-            gate.before(cpu.number(), number);
-            self.do_one(cpu, rt, reads, number, *jobs.get(index));
-            gate.after(cpu.number(), number);
+            let task = Task {
+                worker: self.number(cpu),
+                number: index as u32 + 1,
+                job: *jobs.get(index),
+            };
+            gate.before(task.worker, task.number);
+            do_one(self, cpu, rt, reads, task);
+            gate.after(task.worker, task.number);
         }
+    }
+}
+
+// Does one job: writes it, or keeps the record of its read.
+fn do_one<D: Guarded, R: Wait>(
+    region: &D,
+    cpu: &mut D::Cpu,
+    rt: &R,
+    reads: &mut List<Seen>,
+    task: Task,
+)
+    requires ready { (D.crew region.now).ready cpu.old }
+    requires worker { task.worker ≡ ((D.crew region.now).being cpu.old).number }
+    requires job { IsAmong (accounts_of (D.crew region.now).plan) task.job }
+    requires share { is_write task.job ≡ true → 1 ≤ ((D.crew region.now).ledger cpu.old).share }
+    requires room { is_write task.job ≡ false → length reads.old.items < reads.old.room }
+    ensures stays { Stays (D.crew region.now) cpu.old cpu.new }
+    ensures room { reads.new.room ≡ reads.old.room }
+    ensures done { HasDone (guard_in (D.crew region.now).plan)
+        ((D.crew region.now).being cpu.old).number task.number task.job
+        ((D.crew region.now).ledger cpu.old) ((D.crew region.now).ledger cpu.new)
+        reads.old.items reads.new.items }
+{
+    let Task {
+        worker,
+        number,
+        job,
+    } = task;
+    if writes(job) {
+        region.write(cpu, rt, number, job);
+    } else {
+        let (version, reply) = region.read(cpu, rt, job);
+        reads.push(Seen {
+            worker,
+            number,
+            version,
+            job,
+            reply,
+        });
     }
 }

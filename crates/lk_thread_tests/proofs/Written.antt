@@ -7,22 +7,21 @@ use Rattle.lk_domain.specs.Calls.{Calls}
 use Rattle.lk_domain.specs.Ledgers.{Ledger}
 use Rattle.lk_domain.specs.Plans.{share_of}
 use Rattle.lk_guard.specs.Guards.{Guard}
-use Rattle.lk_guard.specs.Idle.{IsFree}
+use Rattle.lk_guard.specs.Idle.{Stays, pv_crew_of}
 use Rattle.lk_guard.specs.Writes.{HasWritten}
-use Rattle.lk_pvdomain.proofs.PvSeating.{same_of}
-use Rattle.lk_pvdomain.specs.PvSeats.{AreDealt, IsDealt, IsSame, ledger_of}
+use Rattle.lk_pvdomain.specs.PvSeats.{AreDealt, IsDealt, ledger_of}
 use Rattle.lk_pvdomain.specs.declared.cpu.PvCpu.{PvCpu}
 use Rattle.lk_pvdomain.specs.declared.domain.PvDomain.{PvDomain}
 use Rattle.lk_thread_tests.specs.Halting.{AllMayWrite, MayWrite}
 
 -- one entry less than before
 pub one_less : (d : PvDomain) (a b : PvCpu) (n left p number : ℕ) (h : Guard) (job : Job) (reply : Reply)
-    → MayWrite d n a → left + 1 ≤ n → IsSame a b → IsFree b
+    → MayWrite d n a → left + 1 ≤ n → Stays (pv_crew_of d) a b
     → HasWritten h p number job reply (ledger_of a) (ledger_of b) None None → MayWrite d left b
-one_less d a b n left p number h job reply may less same free written =
+one_less d a b n left p number h job reply may less stays written =
     record {
-      domain_is = same_of d a b same may.domain_is;
-      free = free;
+      domain_is = stays.ready.0;
+      free = stays.ready.1;
       share = omega (arith, may.share, less, ap (λ (g : Ledger). g.share) written.ledger);
     }
 

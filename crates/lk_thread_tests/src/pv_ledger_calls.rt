@@ -11,6 +11,7 @@ ghost use Rattle.lk_pvdomain.specs.PvSeats.{IsOf, IsSame, calls_of, ledger_of};
 use crate::pv_region::open;
 use lk_abs::{Job, Reply};
 use lk_domain::LockId;
+use lk_guard::Guarded;
 use lk_pvdomain::{
     PvCpu, PvDomain, pv_journal_home, pv_journal_out, pv_load, pv_lock, pv_store, pv_unlock,
     pv_version,

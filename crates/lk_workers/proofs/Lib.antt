@@ -5,4 +5,3 @@ mod Gathered
 mod Outcomes
 mod Starts
 mod PvStarts
-mod Closes

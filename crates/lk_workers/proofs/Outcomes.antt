@@ -1,5 +1,5 @@
 -- All workers together, with the journal at the end of their domain.
-use Rattle.std.proofs.Common.{Bool, false, ◌≡◌, ◌+◌, ◌<◌, ◌≤◌, ℕ, zero, suc, List, [], ◌∷◌, ⊎_elim, length, map, get_or, refl, sym, ap, subst, ◌∙◌, arith, length-append}
+use Rattle.std.proofs.Common.{◌≡◌, ◌+◌, ◌<◌, ◌≤◌, ℕ, zero, suc, List, [], ◌∷◌, ⊎_elim, length, map, get_or, refl, sym, ap, subst, ◌∙◌, arith, length-append}
 use Rattle.std.specs.List.{flat_map, sum_by}
 use Rattle.std.proofs.lemmas.Bool.{cases_lt}
 use Rattle.std.proofs.lemmas.List.{get_or_past, length-map}
@@ -8,7 +8,6 @@ use Rattle.lk_abs.specs.Journal.{Replays, balances_after}
 use Rattle.lk_abs.specs.declared.ledger.Entry.{Entry}
 use Rattle.lk_abs.specs.declared.ledger.Job.{Job}
 use Rattle.lk_abs.specs.declared.ledger.Seen.{Seen}
-use Rattle.lk_abs.specs.declared.names.Kind.TheVariants.{Spin}
 use Rattle.lk_abs.specs.Workload.{Workload, jobs_of, workers_of}
 use Rattle.lk_abs.specs.Outcome.{IsFresh, IsMerge, IsOutcome, IsReadAt, label_of, writes_from}
 use Rattle.lk_domain.specs.Ends.{In, IsFinalOf, past_at}
@@ -16,11 +15,15 @@ use Rattle.lk_domain.specs.Keeps.{AreEnded, IsPast}
 use Rattle.lk_domain.specs.Ledgers.{Ledger, Look, with_share}
 use Rattle.lk_domain.specs.Places.{places}
 use Rattle.lk_domain.specs.declared.plan.Plan.{Plan}
-use Rattle.lk_law.specs.Agree.{halts}
+use Rattle.lk_guard.specs.Idle.{Crew}
 use Rattle.lk_guard.specs.Deeds.{Deed, AreDeeds, Worked, records_of, reads_in, writes_in}
 use Rattle.lk_guard.specs.Guards.{Guard, guard_in}
-use Rattle.lk_workers.specs.Plans.{IsPlanOf}
-use Rattle.lk_workers.specs.UnderLock.{AreLooksOf, UnderLock, guard_for, records_by, terms_in}
+use Rattle.lk_workers.specs.Ended.{IsEnd, balances_in, journal_in, looks_in}
+use Rattle.lk_workers.specs.Plans.{IsFor}
+use Rattle.lk_workers.specs.UnderLock.{AreLooksOf, UnderLock, records_by}
+use Rattle.lk_workers.specs.Workers.{AreThrough, all_records, cpu_of, records_in}
+use Rattle.lk_workers.specs.declared.ended.Ended.{Ended}
+use Rattle.lk_workers.specs.declared.worker.Worker.{Worker}
 use Rattle.lk_workers.proofs.JobCounts.{more_reads}
 use Rattle.lk_workers.proofs.Deeds as deeds
 use Rattle.lk_workers.proofs.Deeds.{placed, looks_by}
@@ -55,19 +58,6 @@ told plan jobs js i g reads worked past =
       ended = subst (AreEnded plan js) looks past.looked;
     }
 
--- the plan is one of which the workload is served: it has its guard and its accounts
-pub record Serves (work : Workload) (plan : Plan) : Type 0 where
-  pub guard : guard_in plan ≡ guard_for work
-  pub balances : plan.balances.items ≡ work.balances
-
--- the guard of the plan is that of the workload
-guard_is : (work : Workload) (plan : Plan) → halts work.mode ≡ false → IsPlanOf work plan → guard_in plan ≡ guard_for work
-guard_is work plan awake of = (λ i. record {
-  terms = record { format = of.format i; mode = of.mode i; threshold = of.threshold i; sockets = of.sockets i };
-  kind = get_or (of.locks i) 0 Spin;
-  opening = of.balances i;
-}) ∙ ap (λ (halting : Bool). record { terms = terms_in halting work; kind = work.guard; opening = work.balances }) (sym awake)
-
 -- some worker, where there is one
 one_of : {W : Type 0} (ws : List W) (i : ℕ) → i < length ws → W
 one_of [] i within = absurd (omega (arith, within))
@@ -78,20 +68,19 @@ get_itself [] i d = refl
 get_itself (w ∷ ws) zero d = refl
 get_itself (w ∷ ws) (suc i) d = get_itself ws i d
 
--- workers of whichever kind, on processors of whichever kind, by what these know and by their records
-module _ {W C : Type 0} (cpu_of : W → C) (ledger_of : C → Ledger) (records_in : W → List Seen) (work : Workload) (plan : Plan)
-    (of : Serves work plan) (js : List Entry) (ws : List W) (many : length ws ≡ workers_of work)
-    (each : (i : ℕ) (d : W) → i < length ws → Told plan js i (jobs_of work i) (ledger_of (cpu_of (get_or ws i d))) (records_in (get_or ws i d))) where
+-- workers of a crew, by what its processors know and by their records
+module _ {C : Type 0} (crew : Crew C) (work : Workload) (of : IsFor work crew.plan) (js : List Entry) (ws : List (Worker C)) (many : length ws ≡ workers_of work)
+    (each : (i : ℕ) (d : Worker C) → i < length ws → Told crew.plan js i (jobs_of work i) (crew.ledger (cpu_of (get_or ws i d))) (records_in (get_or ws i d))) where
   abbrev pub looks_of : C → List Look
-  looks_of c = (ledger_of c).looks
+  looks_of c = (crew.ledger c).looks
 
-  told_at : (i : ℕ) (below : i < workers_of work) → (w : W) × (i < length ws) × Told plan js i (jobs_of work i) (ledger_of (cpu_of (get_or ws i w))) (records_in (get_or ws i w))
+  told_at : (i : ℕ) (below : i < workers_of work) → (w : Worker C) × (i < length ws) × Told crew.plan js i (jobs_of work i) (crew.ledger (cpu_of (get_or ws i w))) (records_in (get_or ws i w))
   told_at i below = let within : i < length ws = omega (arith, below, many) in (one_of ws i within, within, each i (one_of ws i within) within)
 
-  notes : (i : ℕ) (d : W) → i < length ws → Notes records_in (0 + i) (jobs_of work i) (get_or ws i d)
+  notes : (i : ℕ) (d : Worker C) → i < length ws → Notes records_in (0 + i) (jobs_of work i) (get_or ws i d)
   notes i d within =
       let t = each i d within in
-      let h : Guard = guard_in plan in
+      let h : Guard = guard_in crew.plan in
       subst (λ (j : ℕ). Notes records_in j (jobs_of work i) (get_or ws i d)) (let e : i ≡ 0 + i = omega arith in e) (record {
         own = λ r is. deeds.record_worker h i 1 (jobs_of work i) t.start t.done r t.are (subst (In r) t.records is);
         tags = ap (map _) t.records ∙ deeds.tags_are h i 1 (jobs_of work i) t.start t.done t.are;
@@ -102,18 +91,18 @@ module _ {W C : Type 0} (cpu_of : W → C) (ledger_of : C → Ledger) (records_i
   merged none worker = ⊎_elim
       (λ below.
       let t = (told_at worker below).2 in
-      ap (map label_of) (sym (entries_are 0 worker js) ∙ ap (map entry_at) t.own) ∙ deeds.labels_are (guard_in plan) worker 1 (jobs_of work worker) t.start t.done t.are)
+      ap (map label_of) (sym (entries_are 0 worker js) ∙ ap (map entry_at) t.own) ∙ deeds.labels_are (guard_in crew.plan) worker 1 (jobs_of work worker) t.start t.done t.are)
       (λ past.
       ap (map label_of) (sym (entries_are 0 worker js) ∙ ap (map entry_at) (none worker (omega (arith, many, past)))) ∙ ap (writes_from 1) (sym (get_or_past work.jobs worker [] past)))
       (cases_lt worker (workers_of work))
 
   -- a record of a worker has seen what it should
-  fresh_of : (r : Seen) (i : ℕ) (w : W) → i < length ws → get_or ws i w ≡ w → In r (records_in w) → IsFresh js (flat_map records_in ws) r
+  fresh_of : (r : Seen) (i : ℕ) (w : Worker C) → i < length ws → get_or ws i w ≡ w → In r (records_in w) → IsFresh js (flat_map records_in ws) r
   fresh_of r i w within is mine =
-      let h : Guard = guard_in plan in
+      let h : Guard = guard_in crew.plan in
       let jobs = jobs_of work i in
-      let t : Told plan js i jobs (ledger_of (cpu_of w)) (records_in w) =
-      subst (λ (v : W). Told plan js i jobs (ledger_of (cpu_of v)) (records_in v)) is (each i w within) in
+      let t : Told crew.plan js i jobs (crew.ledger (cpu_of w)) (records_in w) =
+      subst (λ (v : Worker C). Told crew.plan js i jobs (crew.ledger (cpu_of v)) (records_in v)) is (each i w within) in
       let here = subst (In r) t.records mine in
       let by : r.worker ≡ i = deeds.record_worker h i 1 jobs t.start t.done r t.are here in
       let place : (k : ℕ) (e : Entry) → _ → e.worker ≡ r.worker → In (k, e) (placed t.done) = λ k e at same.
@@ -126,7 +115,7 @@ module _ {W C : Type 0} (cpu_of : W → C) (ledger_of : C → Ledger) (records_i
             let other = each from.0 w from.1 in
             let theirs : s.worker ≡ from.0 = deeds.record_worker h from.0 1 (jobs_of work from.0) other.start other.done s other.are (subst (In s) other.records (from.2 w)) in
             let one : from.0 ≡ i = sym theirs ∙ (same ∙ by) in
-            let in_w : In s (records_in w) = subst (λ (v : W). In s (records_in v)) (ap (λ (j : ℕ). get_or ws j w) one ∙ is) (from.2 w) in
+            let in_w : In s (records_in w) = subst (λ (v : Worker C). In s (records_in v)) (ap (λ (j : ℕ). get_or ws j w) one ∙ is) (from.2 w) in
             deeds.fresh_record h i 1 jobs t.start t.done r s t.are here (subst (In s) t.records in_w) less;
       }
 
@@ -136,11 +125,11 @@ module _ {W C : Type 0} (cpu_of : W → C) (ledger_of : C → Ledger) (records_i
       let i : ℕ = from.0 in
       let w = one_of ws i from.1 in
       let t = each i w from.1 in
-      subst (λ (bs : List ℕ). IsReadAt bs js r) of.balances (deeds.reads_right plan js i 1 (jobs_of work i) t.start t.done r t.are t.ended (subst (In r) t.records (from.2 w)))
+      subst (λ (bs : List ℕ). IsReadAt bs js r) (ap (λ (h : Guard). h.opening) of.guard) (deeds.reads_right crew.plan js i 1 (jobs_of work i) t.start t.done r t.are t.ended (subst (In r) t.records (from.2 w)))
 
-  pub outcome : (cpus : List C) (closing : List ℕ) → cpus ≡ map cpu_of ws → IsFinalOf ledger_of plan cpus js → closing ≡ balances_after plan.balances.items js → IsOutcome work js (flat_map records_in ws) closing
+  pub outcome : (cpus : List C) (closing : List ℕ) → cpus ≡ map cpu_of ws → IsFinalOf crew.ledger crew.plan cpus js → closing ≡ balances_after crew.plan.balances.items js → IsOutcome work js (flat_map records_in ws) closing
   outcome cpus closing are final sums = record {
-    replays = subst (λ (bs : List ℕ). Replays bs js) of.balances final.replays;
+    replays = subst (λ (bs : List ℕ). Replays bs js) (ap (λ (h : Guard). h.opening) of.guard) final.replays;
     merge = merged (λ q past. final.none q (omega (arith, past, ap length are, length-map ws cpu_of)));
     records = tags_gathered records_in 0 work.jobs ws many notes;
     read_at = all_in (IsReadAt work.balances js) (flat_map records_in ws) read_of;
@@ -148,13 +137,13 @@ module _ {W C : Type 0} (cpu_of : W → C) (ledger_of : C → Ledger) (records_i
         let from = in_flat records_in ws r is in
         let w = one_of ws from.0 from.1 in
         fresh_of r from.0 (get_or ws from.0 w) from.1 (get_itself ws from.0 w) (from.2 w));
-    closing = sums ∙ ap (λ (bs : List ℕ). balances_after bs js) of.balances;
+    closing = sums ∙ ap (λ (bs : List ℕ). balances_after bs js) (ap (λ (h : Guard). h.opening) of.guard);
   }
 
   -- the looks of one worker
-  looks_at : (i : ℕ) (w : W) → i < length ws → AreLooksOf (guard_in plan) i (jobs_of work i) (records_by i (flat_map records_in ws)) (looks_of (cpu_of (get_or ws i w)))
+  looks_at : (i : ℕ) (w : Worker C) → i < length ws → AreLooksOf (guard_in crew.plan) i (jobs_of work i) (records_by i (flat_map records_in ws)) (looks_of (cpu_of (get_or ws i w)))
   looks_at i w within =
-      let h : Guard = guard_in plan in
+      let h : Guard = guard_in crew.plan in
       let jobs = jobs_of work i in
       let t = each i w within in
       let zero_i : 0 + i ≡ i = omega arith in
@@ -172,58 +161,50 @@ module _ {W C : Type 0} (cpu_of : W → C) (ledger_of : C → Ledger) (records_i
         let found = told_at i below in
         let shown : get_or (map looks_of cpus) i [] ≡ looks_of (cpu_of (get_or ws i found.0)) = ap (λ (cs : List C). get_or (map looks_of cs) i []) are ∙ looks_map ws i found.0 found.1 in
         subst (λ (h : Guard). AreLooksOf h i (jobs_of work i) (records_by i (flat_map records_in ws)) (get_or (map looks_of cpus) i [])) of.guard
-        (subst (AreLooksOf (guard_in plan) i (jobs_of work i) (records_by i (flat_map records_in ws))) (sym shown) (looks_at i found.0 found.1));
+        (subst (AreLooksOf (guard_in crew.plan) i (jobs_of work i) (records_by i (flat_map records_in ws))) (sym shown) (looks_at i found.0 found.1));
   }
     where
-      looks_map : (l : List W) (i : ℕ) (d : W) → i < length l → get_or (map looks_of (map cpu_of l)) i [] ≡ looks_of (cpu_of (get_or l i d))
+      looks_map : (l : List (Worker C)) (i : ℕ) (d : Worker C) → i < length l → get_or (map looks_of (map cpu_of l)) i [] ≡ looks_of (cpu_of (get_or l i d))
       looks_map [] i d within = absurd (omega (arith, within))
       looks_map (y ∷ l) zero d within = refl
       looks_map (y ∷ l) (suc i) d within = looks_map l i d (omega (arith, within))
 
 -- each worker has told, after the jobs and the end
-pub all_told : {W C : Type 0} (cpu_of : W → C) (ledger_of : C → Ledger) (records_in : W → List Seen) (plan : Plan) (work : Workload) (js : List Entry)
-    (ws : List W) (cpus : List C) → cpus ≡ map cpu_of ws
-    → ((i : ℕ) (w : W) → i < length ws → Worked (guard_in plan) i (jobs_of work i) (with_share (writes_in (jobs_of work i))) (ledger_of (cpu_of (get_or ws i w))) [] (records_in (get_or ws i w)))
-    → IsFinalOf ledger_of plan cpus js
-    → (i : ℕ) (w : W) → i < length ws → Told plan js i (jobs_of work i) (ledger_of (cpu_of (get_or ws i w))) (records_in (get_or ws i w))
-all_told {C} cpu_of ledger_of records_in plan work js ws cpus are worked final i w within =
+all_told : {C : Type 0} (crew : Crew C) (work : Workload) (js : List Entry) (ws : List (Worker C)) (cpus : List C) → cpus ≡ map cpu_of ws
+    → AreThrough crew work ws → IsFinalOf crew.ledger crew.plan cpus js
+    → (i : ℕ) (w : Worker C) → i < length ws → Told crew.plan js i (jobs_of work i) (crew.ledger (cpu_of (get_or ws i w))) (records_in (get_or ws i w))
+all_told {C} crew work js ws cpus are through final i w within =
     let here : get_or cpus i (cpu_of w) ≡ cpu_of (get_or ws i w) = ap (λ (cs : List C). get_or cs i (cpu_of w)) are ∙ get_or-map cpu_of ws i w in
     let past = final.past i (cpu_of w) (omega (arith, within, ap length are, length-map ws cpu_of)) in
-    told plan (jobs_of work i) js i (ledger_of (cpu_of (get_or ws i w))) (records_in (get_or ws i w)) (worked i w within)
-    (subst (λ (c : C). IsPast plan js (past_at i (ledger_of c))) here past)
+    told crew.plan (jobs_of work i) js i (crew.ledger (cpu_of (get_or ws i w))) (records_in (get_or ws i w)) (through i w within).worked
+    (subst (λ (c : C). IsPast crew.plan js (past_at i (crew.ledger c))) here past)
 
 -- there are as many records as jobs that read
-pub all_count : {W : Type 0} (records_in : W → List Seen) (file : List (List Job)) (ws : List W) → length ws ≡ length file → ((i : ℕ) (w : W) → i < length ws → length (records_in (get_or ws i w)) ≡ reads_in (get_or file i []))
-    → length (flat_map records_in ws) ≡ sum_by reads_in file
-all_count records_in [] [] many each = refl
-all_count records_in [] (w ∷ ws) many each = absurd (omega (arith, many))
-all_count records_in (jobs ∷ file) [] many each = absurd (omega (arith, many))
-all_count records_in (jobs ∷ file) (w ∷ ws) many each =
-    omega (arith, each 0 w (omega arith), all_count records_in file ws (omega (arith, many)) (λ i x within. each (suc i) x (omega (arith, within))), length-append (records_in w) (flat_map records_in ws), more_reads jobs file)
+all_count : {C : Type 0} (file : List (List Job)) (ws : List (Worker C)) → length ws ≡ length file
+    → ((i : ℕ) (w : Worker C) → i < length ws → length (records_in (get_or ws i w)) ≡ reads_in (get_or file i []))
+    → length (all_records ws) ≡ sum_by reads_in file
+all_count [] [] many each = refl
+all_count [] (w ∷ ws) many each = absurd (omega (arith, many))
+all_count (jobs ∷ file) [] many each = absurd (omega (arith, many))
+all_count (jobs ∷ file) (w ∷ ws) many each =
+    omega (arith, each 0 w (omega arith), all_count file ws (omega (arith, many)) (λ i x within. each (suc i) x (omega (arith, within))), length-append (records_in w) (all_records ws), more_reads jobs file)
 
 -- so all records of workers that are through have the room that was taken for them
-pub through_count : {W C : Type 0} (cpu_of : W → C) (ledger_of : C → Ledger) (records_in : W → List Seen) (plan : Plan) (work : Workload) (ws : List W)
-    → length ws ≡ workers_of work
-    → ((i : ℕ) (w : W) → i < length ws → Worked (guard_in plan) i (jobs_of work i) (with_share (writes_in (jobs_of work i))) (ledger_of (cpu_of (get_or ws i w))) [] (records_in (get_or ws i w)))
-    → length (flat_map records_in ws) ≡ sum_by reads_in work.jobs
-through_count cpu_of ledger_of records_in plan work ws many worked = all_count records_in work.jobs ws many (λ i w within.
-    let t = worked i w within in
-    ap length t.records ∙ deeds.records_count (guard_in plan) i 1 (jobs_of work i) (with_share (writes_in (jobs_of work i))) t.deeds t.are)
+pub through_count : {C : Type 0} (crew : Crew C) (work : Workload) (ws : List (Worker C)) → length ws ≡ workers_of work → AreThrough crew work ws
+    → length (all_records ws) ≡ sum_by reads_in work.jobs
+through_count crew work ws many through = all_count work.jobs ws many (λ i w within.
+    let t = (through i w within).worked in
+    ap length t.records ∙ deeds.records_count (guard_in crew.plan) i 1 (jobs_of work i) (with_share (writes_in (jobs_of work i))) t.deeds t.are)
 
--- what comes of the plan j, which is k, once its workers are through and its domain is closed
-pub all_outcome : {W C : Type 0} (cpu_of : W → C) (ledger_of : C → Ledger) (records_in : W → List Seen) (j k : Plan) (work : Workload) (js : List Entry)
-    (ws : List W) (cpus : List C) (rs : List Seen) (closing : List ℕ) → j ≡ k → Serves work k → length ws ≡ workers_of work
-    → ((i : ℕ) (w : W) → i < length ws → Worked (guard_in k) i (jobs_of work i) (with_share (writes_in (jobs_of work i))) (ledger_of (cpu_of (get_or ws i w))) [] (records_in (get_or ws i w)))
-    → cpus ≡ map cpu_of ws → rs ≡ flat_map records_in ws → IsFinalOf ledger_of j cpus js → closing ≡ balances_after j.balances.items js
-    → IsOutcome work js rs closing × UnderLock work rs (map (λ c. (ledger_of c).looks) cpus)
-all_outcome {C} cpu_of ledger_of records_in j k work js ws cpus rs closing same of many worked are reads ends sums =
-    let final = subst (λ (x : Plan). IsFinalOf ledger_of x cpus js) same ends in
-    let closes = sums ∙ ap (λ (x : Plan). balances_after x.balances.items js) same in
-    let each = all_told cpu_of ledger_of records_in k work js ws cpus are worked final in (
-      subst (λ (l : List Seen). IsOutcome work js l closing) (sym reads) (outcome cpu_of ledger_of records_in work k of js ws many each cpus closing are final closes),
-      subst (λ (l : List Seen). UnderLock work l (map (λ (c : C). (ledger_of c).looks) cpus)) (sym reads) (under_lock cpu_of ledger_of records_in work k of js ws many each cpus are),
+-- what comes of a domain that is closed once its workers are through
+pub all_outcome : {C : Type 0} (crew : Crew C) (work : Workload) (ws : List (Worker C)) (cpus : List C) (rs : List Seen) (ended : Ended)
+    → IsFor work crew.plan → length ws ≡ workers_of work → AreThrough crew work ws → cpus ≡ map cpu_of ws → rs ≡ all_records ws → IsEnd crew cpus ended
+    → IsOutcome work (journal_in ended) rs (balances_in ended) × UnderLock work rs (looks_in ended)
+all_outcome crew work ws cpus rs ended of many through are reads end =
+    let js = journal_in ended in
+    let each = all_told crew work js ws cpus are through end.final in (
+      subst (λ (l : List Seen). IsOutcome work js l (balances_in ended)) (sym reads)
+          (outcome crew work of js ws many each cpus (balances_in ended) are end.final end.balances),
+      subst (λ (l : List Seen). UnderLock work l (looks_in ended)) (sym reads)
+          (subst (UnderLock work (all_records ws)) (sym end.looks) (under_lock crew work of js ws many each cpus are)),
     )
-
--- a queued domain serves the workload of which its plan is
-pub serves : (work : Workload) (plan : Plan) → halts work.mode ≡ false → IsPlanOf work plan → Serves work plan
-serves work plan awake of = record { guard = guard_is work plan awake of; balances = of.balances }

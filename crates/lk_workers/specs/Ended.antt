@@ -1,10 +1,15 @@
 -- What is read of the end of a domain, of whichever family.
 use Rattle.std.specs.Prelude.{◌≡◌, ◌≢◌, ℕ, List, map}
+use Rattle.lk_abs.specs.Journal.{balances_after}
 use Rattle.lk_abs.specs.declared.ledger.Entry.{Entry}
-use Rattle.lk_abs.specs.declared.job_file.JobFile.{JobFile}
+use Rattle.lk_abs.specs.declared.names.Kind.{Kind}
+use Rattle.lk_abs.specs.declared.names.Mode.{Mode}
 use Rattle.lk_abs.specs.declared.names.Mode.TheVariants as mode
+use Rattle.lk_domain.specs.Ends.{IsFinalOf}
 use Rattle.lk_domain.specs.Ledgers.{Look}
+use Rattle.lk_domain.specs.Plans.{kind_at}
 use Rattle.lk_domain.specs.Seats.{ledger_of}
+use Rattle.lk_guard.specs.Idle.{Crew}
 use Rattle.lk_pvdomain.specs.PvSeats.{ledger_of as pv_ledger}
 use Rattle.lk_workers.specs.declared.ended.Ended.{Ended}
 use Rattle.lk_workers.specs.declared.ended.Ended.TheVariants.{Queued, Pv}
@@ -23,7 +28,14 @@ abbrev pub looks_in : Ended → List (List Look)
 looks_in (Queued closed) = map (λ cpu. (ledger_of cpu).looks) closed.cpus.value.items
 looks_in (Pv closed) = map (λ cpu. (pv_ledger cpu).looks) closed.cpus.value.items
 
--- it is that of a domain of the file's family, with the file's guard
-abbrev pub IsEndOf : JobFile → Ended → Type 0
-IsEndOf file (Queued closed) = (file.mode ≢ mode.Pv) × (closed.mode ≡ file.mode) × (closed.guard ≡ file.guard)
-IsEndOf file (Pv closed) = file.mode ≡ mode.Pv
+-- it is that of a domain of this mode's family, with this guard
+abbrev pub IsEndOf : Mode → Kind → Ended → Type 0
+IsEndOf m guard (Queued closed) = (m ≢ mode.Pv) × (closed.mode ≡ m) × (closed.guard ≡ guard)
+IsEndOf m guard (Pv closed) = m ≡ mode.Pv
+
+-- it is that of a domain that is closed with these processors
+pub record IsEnd {C : Type 0} (crew : Crew C) (cpus : List C) (ended : Ended) : Type 0 where
+  pub final : IsFinalOf crew.ledger crew.plan cpus (journal_in ended)
+  pub balances : balances_in ended ≡ balances_after crew.plan.balances.items (journal_in ended)
+  pub looks : looks_in ended ≡ map (λ cpu. (crew.ledger cpu).looks) cpus
+  pub of : IsEndOf crew.plan.mode (kind_at crew.plan 0) ended

@@ -1,5 +1,4 @@
 pub mod Plans
 pub mod Workers
 pub mod UnderLock
-pub mod PvWorkers
 pub mod Ended

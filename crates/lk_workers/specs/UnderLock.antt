@@ -1,6 +1,6 @@
 -- Every read and write was made under the lock, as the looks of the processors tell.
-use Rattle.std.specs.Prelude.{◌≡◌, ◌<◌, ◌*◌, ◌==◌, ℕ, Bool, true, false, List, [], Some, All, filter, length, replicate}
-use Rattle.std.specs.Prelude.{is_none, is_some, slice_index_or}
+use Rattle.std.specs.Prelude.{◌≡◌, ◌<◌, ◌*◌, ◌==◌, ℕ, Bool, List, [], Some, All, filter, length, replicate}
+use Rattle.std.specs.Prelude.{if◌then◌else◌, is_none, is_some, slice_index_or}
 use Rattle.std.specs.List.{AllZip}
 use Rattle.lk_abs.specs.declared.ledger.Job.{Job}
 use Rattle.lk_abs.specs.declared.ledger.Seen.{Seen}
@@ -16,19 +16,12 @@ use Rattle.lk_guard.specs.Reads.{Answers}
 -- socket, and the threshold says for how many turns a waiter spins.
 
 abbrev pub terms_in : Bool → Workload → Terms
-terms_in true work =
+terms_in halting work =
     record {
       format = work.format;
       mode = work.mode;
-      threshold = 32768;
-      sockets = replicate (workers_of work) 0;
-    }
-terms_in false work =
-    record {
-      format = work.format;
-      mode = work.mode;
-      threshold = work.threshold;
-      sockets = work.sockets;
+      threshold = if halting then 32768 else work.threshold;
+      sockets = if halting then replicate (workers_of work) 0 else work.sockets;
     }
 
 abbrev pub terms_for : Workload → Terms

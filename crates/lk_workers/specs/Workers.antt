@@ -5,11 +5,10 @@ use Rattle.lk_abs.specs.ListOf.{ListOf}
 use Rattle.lk_abs.specs.declared.ledger.Job.{Job}
 use Rattle.lk_abs.specs.declared.ledger.Seen.{Seen}
 use Rattle.lk_abs.specs.Workload.{Workload, jobs_of}
-use Rattle.lk_domain.specs.Ends.{Rests}
 use Rattle.lk_domain.specs.Ledgers.{with_share}
-use Rattle.lk_domain.specs.Seats.{ledger_of}
-use Rattle.lk_domain.specs.declared.cpu.Cpu.{Cpu}
-use Rattle.lk_domain.specs.declared.domain.Domain.{Domain}
+use Rattle.lk_domain.specs.Plans.{share_of}
+use Rattle.lk_domain.specs.Views.{newcomer}
+use Rattle.lk_guard.specs.Idle.{Crew}
 use Rattle.lk_guard.specs.Deeds.{Worked, reads_in, writes_in}
 use Rattle.lk_guard.specs.Guards.{guard_in}
 use Rattle.lk_workers.specs.declared.worker.Worker.{Worker}
@@ -33,24 +32,37 @@ all_records workers = flat_map records_in workers
 abbrev pub no_records : List Job → ListOf Seen
 no_records jobs = record { items = []; room = reads_in jobs }
 
--- The worker i of the domain before its jobs: its processor may write an entry for each that writes,
--- and its list has room for a record of each that reads.
-pub record IsReady (domain : Domain) (jobs : List Job) (i : ℕ) (worker : Worker Cpu) : Type 0 where
-  pub rests : Rests domain i worker.cpu
-  pub ledger : ledger_of worker.cpu ≡ with_share (writes_in jobs)
+-- what is in the list is so, each by its place
+abbrev pub InOrder : {A : Type 0} → (ℕ → A → Type 0) → List A → Type 0
+InOrder is xs = (i : ℕ) (d : _) → i < length xs → is i (slice_index_or xs i d)
+
+-- the processor i of its domain, which is ready
+pub record Rests {C : Type 0} (crew : Crew C) (i : ℕ) (cpu : C) : Type 0 where
+  pub ready : crew.ready cpu
+  pub number : (crew.being cpu).number ≡ i
+  pub who : (crew.being cpu).who ≡ newcomer crew.plan i
+
+-- a new domain gave it this number, and its share
+pub record IsDealt {C : Type 0} (crew : Crew C) (i : ℕ) (cpu : C) : Type 0 where
+  pub rests : Rests crew i cpu
+  pub ledger : crew.ledger cpu ≡ with_share (share_of crew.plan i)
+
+-- The worker i before its jobs: its processor may write an entry for each that writes, and its list
+-- has room for a record of each that reads.
+pub record IsReady {C : Type 0} (crew : Crew C) (jobs : List Job) (i : ℕ) (worker : Worker C) : Type 0 where
+  pub rests : Rests crew i worker.cpu
+  pub ledger : crew.ledger worker.cpu ≡ with_share (writes_in jobs)
   pub reads : worker.reads ≡ no_records jobs
 
--- the worker i of the domain after its jobs, which it did in order
-pub record IsThrough (domain : Domain) (jobs : List Job) (i : ℕ) (worker : Worker Cpu) : Type 0 where
-  pub rests : Rests domain i worker.cpu
-  pub worked : Worked (guard_in domain.plan) i jobs (with_share (writes_in jobs))
-      (ledger_of worker.cpu) [] worker.reads.items
+-- the worker i after its jobs, which it did in order
+pub record IsThrough {C : Type 0} (crew : Crew C) (jobs : List Job) (i : ℕ) (worker : Worker C) : Type 0 where
+  pub rests : Rests crew i worker.cpu
+  pub worked : Worked (guard_in crew.plan) i jobs (with_share (writes_in jobs))
+      (crew.ledger worker.cpu) [] worker.reads.items
 
 -- each worker is so, in order of their numbers
-abbrev pub AreReady : Domain → Workload → List (Worker Cpu) → Type 0
-AreReady domain work workers = (i : ℕ) (d : Worker Cpu) → i < length workers
-    → IsReady domain (jobs_of work i) i (slice_index_or workers i d)
+abbrev pub AreReady : {C : Type 0} → Crew C → Workload → List (Worker C) → Type 0
+AreReady crew work workers = InOrder (λ i. IsReady crew (jobs_of work i) i) workers
 
-abbrev pub AreThrough : Domain → Workload → List (Worker Cpu) → Type 0
-AreThrough domain work workers = (i : ℕ) (d : Worker Cpu) → i < length workers
-    → IsThrough domain (jobs_of work i) i (slice_index_or workers i d)
+abbrev pub AreThrough : {C : Type 0} → Crew C → Workload → List (Worker C) → Type 0
+AreThrough crew work workers = InOrder (λ i. IsThrough crew (jobs_of work i) i) workers

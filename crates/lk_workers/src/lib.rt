@@ -3,8 +3,8 @@
 
 mod counts;
 mod ended;
+mod host;
 mod making;
-mod pv_worker;
 mod running;
 mod worker;
 

@@ -1,22 +1,18 @@
 // The jobs of a file are run, and the domain is closed.
-ghost use Rattle.std.specs.Prelude.{◌≡◌, ◌+◌, ◌++◌, ◌≤◌, [], IfOk, false, length, map};
+ghost use Rattle.std.specs.Prelude.{◌≡◌, ◌+◌, ◌++◌, ◌≤◌, [], IfOk, length, map};
 ghost use Rattle.lk_abs.specs.Outcome.{IsOutcome};
 ghost use Rattle.lk_abs.specs.Workload.{IsLawful, workload_of};
-ghost use Rattle.lk_abs.specs.declared.names.Mode.TheVariants.{Pv};
-ghost use Rattle.lk_law.specs.Agree.{halts};
 ghost use Rattle.lk_workers.specs.Ended.{IsEndOf, balances_in, journal_in, looks_in};
 ghost use Rattle.lk_workers.specs.UnderLock.{UnderLock};
 ghost use Rattle.lk_workers.specs.Workers.{all_records, cpu_of};
 
 use crate::counts::record_count;
 use crate::ended::Ended;
-use crate::making::{make, make_pv};
-use crate::pv_worker::run_all as run_all_pv;
+use crate::host::Host;
+use crate::making::hire;
 use crate::worker::{Worker, run_all};
 use lk_abs::{JobFile, List, Memory, Mode, Seen};
-use lk_domain::close;
-use lk_guard::Gate;
-use lk_pvdomain::pv_close;
+use lk_guard::{Gate, PvRegion, Region};
 use std::alloc::Global;
 use std::sync::Wait;
 use std::thread::Threads;
@@ -54,62 +50,29 @@ fn gather<C: Drop>(mut workers: List<Worker<C>>, cpus: &mut List<C>, reads: &mut
     }
 }
 
-// The jobs of a file whose waiters spin.
-fn run_queued<G: Gate, R: Threads + Wait + Sync>(
+// The jobs of a file, on a region that is made for it.
+fn run<D: Host, G: Gate, R: Threads + Wait + Sync>(
     rt: &R,
     alloc: Global,
     file: &JobFile,
     gate: &G,
 ) -> Result<Outcome, Memory>
     requires lawful { IsLawful (workload_of file.now) }
-    requires awake { halts file.now.mode ≡ false }
+    requires mode { D.hosts file.now.mode }
     ensures outcome { IfOk result (λ o. IsOutcome (workload_of file.now) (journal_in o.closed)
         o.reads.items (balances_in o.closed)) }
     ensures under_lock { IfOk result
         (λ o. UnderLock (workload_of file.now) o.reads.items (looks_in o.closed)) }
-    ensures end { IfOk result (λ o. IsEndOf file.now o.closed) }
+    ensures end { IfOk result (λ o. IsEndOf file.now.mode file.now.guard o.closed) }
 {
     let mut cpus = List::new(alloc, file.jobs.len())?;
     let mut reads = List::new(alloc, record_count(file))?;
-    let (region, mut workers) = make(alloc, file)?;
+    let (region, dealt) = D::make(alloc, file)?;
+    let mut workers = hire(alloc, dealt, file)?;
     run_all(rt, &region, file, gate, &mut workers);
     gather(workers, &mut cpus, &mut reads);
-    let Ok(closed) = close(alloc, region.into_domain(), cpus) else {
-        return Err(Memory);
-    };
-    Ok(Outcome {
-        closed: Ended::Queued(closed),
-        reads,
-    })
-}
-
-// The jobs of a file whose waiters halt.
-fn run_pv<G: Gate, R: Threads + Wait + Sync>(
-    rt: &R,
-    alloc: Global,
-    file: &JobFile,
-    gate: &G,
-) -> Result<Outcome, Memory>
-    requires lawful { IsLawful (workload_of file.now) }
-    requires mode { file.now.mode ≡ Pv }
-    ensures outcome { IfOk result (λ o. IsOutcome (workload_of file.now) (journal_in o.closed)
-        o.reads.items (balances_in o.closed)) }
-    ensures under_lock { IfOk result
-        (λ o. UnderLock (workload_of file.now) o.reads.items (looks_in o.closed)) }
-    ensures end { IfOk result (λ o. IsEndOf file.now o.closed) }
-{
-    let mut cpus = List::new(alloc, file.jobs.len())?;
-    let mut reads = List::new(alloc, record_count(file))?;
-    let (region, mut workers) = make_pv(alloc, file)?;
-    run_all_pv(rt, &region, file, gate, &mut workers);
-    gather(workers, &mut cpus, &mut reads);
-    let Ok(closed) = pv_close(alloc, region.into_domain(), cpus) else {
-        return Err(Memory);
-    };
-    Ok(Outcome {
-        closed: Ended::Pv(closed),
-        reads,
-    })
+    let closed = region.end(alloc, cpus)?;
+    Ok(Outcome { closed, reads })
 }
 
 /// Does the jobs of a file over one ledger, those of each worker on a thread of its own, and then
@@ -131,10 +94,10 @@ pub fn run_jobs<G: Gate, R: Threads + Wait + Sync>(
         o.reads.items (balances_in o.closed)) }
     ensures under_lock { IfOk result
         (λ o. UnderLock (workload_of file.now) o.reads.items (looks_in o.closed)) }
-    ensures end { IfOk result (λ o. IsEndOf file.now o.closed) }
+    ensures end { IfOk result (λ o. IsEndOf file.now.mode file.now.guard o.closed) }
 {
     match file.mode {
-        Mode::Pv => run_pv(rt, alloc, file, gate),
-        Mode::Virt | Mode::Native | Mode::Cna => run_queued(rt, alloc, file, gate),
+        Mode::Pv => run::<PvRegion, G, R>(rt, alloc, file, gate),
+        Mode::Virt | Mode::Native | Mode::Cna => run::<Region, G, R>(rt, alloc, file, gate),
     }
 }

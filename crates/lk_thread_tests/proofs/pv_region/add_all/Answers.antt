@@ -6,4 +6,4 @@ pub loop-done-preserved : goal.loop-done-preserved
 loop-done-preserved g c =
     let l = c.loop-done in
     one_less c.args.region.now.domain l.cpu c.write.new.cpu (1000 - l.done) (1000 - (l.done + 1)) _ _ _ _ _ l.invariant
-    (omega (arith, c.loop-done-test.true)) c.write.ensures.same c.write.ensures.free c.write.ensures.written
+    (omega (arith, c.loop-done-test.true)) c.write.ensures.stays c.write.ensures.written

@@ -1,12 +1,8 @@
 use Rattle.lk_thread_tests.proofs.Written.{last_may}
 use Rattle.lk_thread_tests.proofs.pv_region.four_writers_lose_no_entry.Goals as goal
 
-pub read-requires-clause-domain : goal.read-requires-clause-domain
-read-requires-clause-domain g c =
-    (last_may c.in-Ok.region.domain 0 c.add_at_once.new.cpus.items c.pop-reader.new.self.items c.pop-reader.result c.add_at_once.ensures.ready
-    c.pop-reader.ensures.items).domain_is
-
-pub read-requires-clause-free : goal.read-requires-clause-free
-read-requires-clause-free g c =
-    (last_may c.in-Ok.region.domain 0 c.add_at_once.new.cpus.items c.pop-reader.new.self.items c.pop-reader.result c.add_at_once.ensures.ready
-    c.pop-reader.ensures.items).free
+pub read-requires-clause-ready : goal.read-requires-clause-ready
+read-requires-clause-ready g c =
+    let may = last_may c.in-Ok.region.domain 0 c.add_at_once.new.cpus.items c.pop-reader.new.self.items c.pop-reader.result
+    c.add_at_once.ensures.ready c.pop-reader.ensures.items in
+    (may.domain_is, may.free)

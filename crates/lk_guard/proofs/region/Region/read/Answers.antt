@@ -3,7 +3,6 @@ use Rattle.lk_domain.specs.Ledgers.{Ledger, new_look}
 use Rattle.lk_domain.specs.Plans.{kind_at}
 use Rattle.lk_domain.specs.Seats.{ledger_of}
 use Rattle.lk_domain.specs.Views.{own_number}
-use Rattle.lk_domain.specs.declared.plan.Plan.{Plan}
 use Rattle.lk_guard.specs.Guards.{guard_in, reads_as}
 use Rattle.lk_guard.specs.Reads.{HasLooked, HasRead}
 use Rattle.lk_guard.proofs.Looks.{out_kept, has_read}
@@ -21,12 +20,8 @@ pub end_read-requires-clause-home : goal.end_read-requires-clause-home
 end_read-requires-clause-home g c =
     let b = c.hold_to_read.new.cpu in
     let begun = c.hold_to_read.ensures.begun in
-    let looked = subst (λ (k : Plan). HasLooked k.balances.items (own_number b.seat.me.0.who.number) c.look-seen.result.0
-    c.args.job c.look-seen.result.1 (ledger_of b) c.look-seen.new.seat.me.0.ledger) c.books.ensures.plan
-    c.look-seen.ensures.looked in
     out_kept (guard_in c.args.self.now.domain.plan) (own_number b.seat.me.0.who.number) c.look-seen.result.0 c.args.job
-    c.look-seen.result.1 (ledger_of c.args.cpu.now) (ledger_of b) c.look-seen.new.seat.me.0.ledger begun.trail begun.ledger
-    looked
+    c.look-seen.result.1 (ledger_of c.args.cpu.now) (ledger_of b) c.look-seen.new.seat.me.0.ledger begun.trail begun.ledger c.look-seen.ensures.looked
     ∙ c.requires.idle.home
 
 pub returns-clause-read : goal.returns-clause-read
@@ -38,11 +33,7 @@ returns-clause-read g c =
     let v = c.look-seen.result.0 in
     let reply = c.look-seen.result.1 in
     let begun = c.hold_to_read.ensures.begun in
-    let looked = subst (λ (k : Plan). HasLooked k.balances.items (own_number b.seat.me.0.who.number) c.look-seen.result.0
-    c.args.job c.look-seen.result.1 (ledger_of b) c.look-seen.new.seat.me.0.ledger) c.books.ensures.plan
-    c.look-seen.ensures.looked in
-    let looks = subst (λ (n : ℕ). HasLooked h.opening n v c.args.job reply (ledger_of b) e) (ap own_number b.numbered)
-    looked in
+    let looks = subst (λ (n : ℕ). HasLooked h.opening n v c.args.job reply (ledger_of b) e) (ap own_number b.numbered) c.look-seen.ensures.looked in
     let done = has_read h b.number v c.args.job reply (ledger_of a) (ledger_of b) e begun.trail begun.ledger looks
     (ledger_of c.end_read.new.cpu) c.end_read.ensures.ledger begun.taken begun.polled in
     subst (λ p. HasRead h p v c.args.job reply (ledger_of a) (ledger_of c.end_read.new.cpu) (g.I.Irq.polls c.args.irq.now)

@@ -1,0 +1,24 @@
+use Rattle.std.proofs.Common.{map, sym, ap, ◌∙◌, subst}
+use Rattle.lk_abs.specs.Journal.{balances_after}
+use Rattle.lk_abs.specs.ListOf.{ListOf}
+use Rattle.lk_pvdomain.specs.PvSeats.{AllRest, IsFinal, ledger_of}
+use Rattle.lk_pvdomain.specs.declared.cpu.PvCpu.{PvCpu}
+use Rattle.lk_pvdomain.specs.declared.domain.PvDomain.{PvDomain}
+use Rattle.lk_workers.proofs.PvStarts.{rest}
+use Rattle.lk_workers.proofs.host.PvRegionHost.end.Goals as goal
+
+pub pv_close-requires-clause-rest : goal.pv_close-requires-clause-rest
+pv_close-requires-clause-rest c =
+    subst (λ (d : PvDomain). AllRest d c.args.cpus.items) (sym c.into_domain.ensures) (rest c.args.self.domain c.args.cpus.items c.requires.rest)
+
+pub returns : goal.returns
+returns c =
+    let same = c.into_domain.ensures in
+    let journal = c.in-Ok.closed.journal.items in
+    let end = c.in-Ok.ensures in
+    record {
+      final = subst (λ (d : PvDomain). IsFinal d.plan c.args.cpus.items journal) same end.ends;
+      balances = end.balances ∙ ap (λ (d : PvDomain). balances_after d.plan.balances.items journal) same;
+      looks = ap (λ (cpus : ListOf PvCpu). map (λ (cpu : PvCpu). (ledger_of cpu).looks) cpus.items) end.cpus;
+      of = c.requires.mode;
+    }
