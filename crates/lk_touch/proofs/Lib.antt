@@ -1,0 +1,4 @@
+pub mod Touching
+pub mod TouchingRows
+pub mod TouchingStores
+pub mod TouchedRows
